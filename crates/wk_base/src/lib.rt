@@ -1,0 +1,36 @@
+//! What every layer of the renderer speaks of: byte strings, lists, titles, and the allowances of a page.
+//!
+//! - `bytes`: a byte string, seen as the list of its bytes
+//! - `list`: a list that keeps its allocator, seen as the list of its items
+//! - `left`: how much a page may use, and how much of it is left
+//! - `title`: namespaces and titles of pages
+//! - `steps`: a counter of turns
+//!
+//! Want of memory is the one failure here, and is always `NoMemory`.
+#![tactic(auto)]
+
+pub mod bytes;
+pub mod left;
+pub mod list;
+pub mod steps;
+pub mod title;
+
+pub use bytes::Bytes;
+pub use left::{Left, Limits};
+pub use list::List;
+use std::alloc::AllocError;
+pub use steps::Steps;
+pub use title::{Namespace, Title};
+
+/// Memory ran out. Nothing else is known of a call that answers this, beside what its contract says.
+#[derive(Clone, Copy, Debug, PartialEq, Eq)]
+pub struct NoMemory;
+
+impl From<AllocError> for NoMemory {
+    fn from(_error: AllocError) -> NoMemory {
+        NoMemory
+    }
+}
+
+#[cfg(test)]
+mod tests;
