@@ -161,8 +161,9 @@ fn is_spelled(mut prefix: &[u8], mut text: &[u8]) -> bool
     while let [first, rest @ ..] = text {
         if !is_doubled(*first, rest) {
             match prefix {
-                [wanted, others @ ..] if wanted.eq_ignore_ascii_case(&as_space(*first)) => prefix =
-                    others,
+                [wanted, others @ ..] if wanted.eq_ignore_ascii_case(&as_space(*first)) => {
+                    prefix = others;
+                }
                 _ => return false,
             }
         }
