@@ -3,10 +3,12 @@
 //! - `shelf`: what a shelf is asked, and what its answers say
 //! - `sink`: what a sink is asked, and what its answers say
 //! - `sorted`: the names of a folder in byte order
+//! - `folder`: a folder of files as the pages of a wiki
 //! - `memory_shelf`, `memory_sink`: the kinds in memory, which tell all that they hold
 //! - `folder_shelf`, `stream_sink`: the adapters over a real folder and a real stream
 #![tactic(auto)]
 
+pub mod folder;
 pub mod folder_shelf;
 pub mod memory_shelf;
 pub mod memory_sink;
@@ -15,6 +17,7 @@ pub mod sink;
 pub mod sorted;
 pub mod stream_sink;
 
+pub use folder::{FolderFault, FolderPage, read_folder};
 pub use folder_shelf::FolderShelf;
 pub use memory_shelf::{MemoryFile, MemoryShelf, can_hold};
 pub use memory_sink::MemorySink;

@@ -1,7 +1,7 @@
 //! The kinds in memory by tables, and each adapter once over the real thing.
 use crate::{
-    FolderShelf, MemoryFile, MemoryShelf, MemorySink, Shelf, ShelfFault, Sink, SinkFailed,
-    StreamSink, can_hold, sorted_names,
+    FolderFault, FolderShelf, MemoryFile, MemoryShelf, MemorySink, Shelf, ShelfFault, Sink,
+    SinkFailed, StreamSink, can_hold, read_folder, sorted_names,
 };
 use std::alloc::{AllocError, Global};
 use std::fs;
@@ -122,5 +122,85 @@ fn a_stream_takes_a_piece_or_counts_a_fault(rt: HostRuntime) -> Result<(), Fail>
     let mut full = StreamSink::new(rt.alloc(), room.as_mut_slice());
     assert_eq!(rt; full.put(b"abcd"), Err(SinkFailed));
     assert_eq!(rt; full.put(b""), Ok(()));
+    Ok(())
+}
+
+fn files_named(alloc: Global, names: &[&str], bytes: &[u8]) -> Result<List<MemoryFile>, NoMemory> {
+    let mut files = List::new(alloc);
+    for name in names {
+        files.push(MemoryFile {
+            folder: Bytes::of(alloc, b"d")?,
+            name: Bytes::of(alloc, name.as_bytes())?,
+            bytes: Bytes::of(alloc, bytes)?,
+        })?;
+    }
+    Ok(files)
+}
+
+/// The titles of a folder's pages in order, or the line of its fault.
+fn told(alloc: Global, shelf: &mut MemoryShelf) -> Result<Vec<u8>, NoMemory> {
+    let mut text = Vec::new(alloc);
+    match read_folder(alloc, shelf, "d") {
+        Ok(pages) => {
+            for page in pages.as_slice() {
+                text.extend_from_slice(page.title.text()?.as_slice())?;
+                text.extend_from_slice(b";")?;
+            }
+        }
+        Err(FolderFault::Source(line)) => text.extend_from_slice(line.as_slice())?,
+        Err(_) => text.extend_from_slice(b"no answer")?,
+    }
+    Ok(text)
+}
+
+#[test]
+fn a_folder_is_a_wiki_or_has_a_first_fault(rt: HostRuntime) -> Result<(), Fail> {
+    let cases: [(&[&str], &str); 14] = [
+        (&[], ""),
+        (&["b.wiki", "A.wiki", "notes.txt", "x.lua.bak"], "A;B;"),
+        (
+            &["template:foo__bar.wiki", "Module:x.lua"],
+            "Module:X;Template:Foo bar;",
+        ),
+        (
+            &["caf%C3%A9.wiki", "Sum%2Ftestcases.lua"],
+            "Sum/testcases;Caf\u{e9};",
+        ),
+        (&["100%.wiki", "50%2.wiki"], "100%;50%2;"),
+        (&["a.wiki", "A.wiki"], "a.wiki: title is taken"),
+        (&["a.lua", "a.wiki"], "a.wiki: title is taken"),
+        (
+            &["A%20b.wiki", "A_b.wiki", "|.wiki"],
+            "A_b.wiki: title is taken",
+        ),
+        (&[".wiki"], ".wiki: not a title"),
+        (&["Talk:.wiki", "A.wiki"], "Talk:.wiki: not a title"),
+        (&["%FF.wiki"], "%FF.wiki: not a title"),
+        (&["a%7Cb.wiki"], "a%7Cb.wiki: not a title"),
+        (&["::x.wiki"], "::x.wiki: not a title"),
+        (&["WIKI", "a.WIKI", "wiki"], ""),
+    ];
+    for (names, expected) in cases {
+        let files = files_named(rt.alloc(), names, b"text")?;
+        assert!(rt; can_hold(files.as_slice()));
+        let mut shelf = MemoryShelf::new(rt.alloc(), files, List::new(rt.alloc()));
+        let text = told(rt.alloc(), &mut shelf)?;
+        assert_eq!(rt; text.as_slice(), expected.as_bytes());
+    }
+    Ok(())
+}
+
+#[test]
+fn a_folder_has_limits_of_bytes(rt: HostRuntime) -> Result<(), Fail> {
+    let bytes = vec![in rt.alloc(); 0u8; 2_097_153]?;
+    let files = files_named(rt.alloc(), &["A.wiki"], &bytes.as_slice()[..2_097_152])?;
+    assert!(rt; can_hold(files.as_slice()));
+    let mut shelf = MemoryShelf::new(rt.alloc(), files, List::new(rt.alloc()));
+    assert_eq!(rt; told(rt.alloc(), &mut shelf)?.as_slice(), b"A;".as_slice());
+    let files = files_named(rt.alloc(), &["B.wiki", "A.wiki"], bytes.as_slice())?;
+    assert!(rt; can_hold(files.as_slice()));
+    let mut shelf = MemoryShelf::new(rt.alloc(), files, List::new(rt.alloc()));
+    let text = told(rt.alloc(), &mut shelf)?;
+    assert_eq!(rt; text.as_slice(), b"A.wiki: too long".as_slice());
     Ok(())
 }
