@@ -1,8 +1,7 @@
 -- What is left never rises, and calls are given back: an induction over events each.
 use Rattle.std.proofs.Common.{◌≡◌, ℕ, zero, suc, ◌+◌, ◌≤◌, List, [], ◌∷◌, Option, Some, None, refl, sym, ap, ◌∙◌, subst, arith}
-use Rattle.wk_base.specs.declared.left.Left.{Left}
 use Rattle.page_run.specs.Run.{Run, Ends, Takes, Counts, Sees, Changes, Calls, Leaves, Uses, Begins, Opens, Asks, Meant}
-use Rattle.page_run.specs.State.{Said, Gives, Exhausts, Reply, State, Event, moment_of}
+use Rattle.page_run.specs.State.{Said, Gives, Exhausts, Reply, Replier, State, Event, moment_of}
 use Rattle.page_run.specs.Perform.{less, used, after_use, with_steps, entered, with_call, back, one_back, counted, with_node, replied, after_said, with_computed, with_reply, size, size_in, to_come, nothing_begins, perform_with, perform_by, perform, NoRise}
 use Rattle.page_run.specs.Charges.{KeepsCalls, GivenBack, NothingRises, CallsComeBack}
 use Rattle.page_run.proofs.Less.{less_some, used_size, used_calls}
@@ -35,11 +34,11 @@ module _ {H Q A O : Type 0} (k : ℕ) where
       said_falls r.said (replied r [] s) go (omega arith) (λ a. h a (replied r [] s) (omega arith))
   computed_falls None q s go le hr h = le
 
-  reply_falls : (b : Q → Left → Option (Reply A)) (rs : List (Reply A)) (q : Q) (s : State H A) (go : A → State H A → Event H Q O) → NoRise b → size s.left + size_in rs ≤ k → ((a : A) (s' : State H A) → to_come s' ≤ k → left_of (go a s') ≤ k) → left_of (with_reply b rs q s go) ≤ k
+  reply_falls : (b : Replier Q A) (rs : List (Reply A)) (q : Q) (s : State H A) (go : A → State H A → Event H Q O) → NoRise b → size s.left + size_in rs ≤ k → ((a : A) (s' : State H A) → to_come s' ≤ k → left_of (go a s') ≤ k) → left_of (with_reply b rs q s go) ≤ k
   reply_falls b [] q s go nr le h = computed_falls (b q s.left) q s go (omega arith) (λ r e. omega (arith, nr q s.left r e)) h
   reply_falls b (r ∷ rs) q s go nr le h = said_falls r.said (replied r rs s) go (omega arith) (λ a. h a (replied r rs s) (omega arith))
 
-module _ {M H T Q A O : Type 0} (meant : Meant M H T Q A O) (b : Q → Left → Option (Reply A)) (nr : NoRise b) where
+module _ {M H T Q A O : Type 0} (meant : Meant M H T Q A O) (b : Replier Q A) (nr : NoRise b) where
   with_falls : (g : Run M H T Q A O → State H A → Event H Q O) (k : ℕ) → ((p : Run M H T Q A O) (s : State H A) → to_come s ≤ k → left_of (g p s) ≤ k) → (p : Run M H T Q A O) (s : State H A) → to_come s ≤ k → left_of (perform_with meant b g p s) ≤ k
   with_falls g k h (Ends o) s le = omega arith
   with_falls g k h (Takes n p) s le = steps_fall k (less n s.left.steps) n s (perform_with meant b g p) refl le (λ r e. with_falls g k h p record s { left = record s.left { steps = r } } (omega arith))
@@ -100,7 +99,7 @@ module _ {H Q A O : Type 0} (n : ℕ) where
       said_back r.said (replied r [] s) go same (λ a. h a (replied r [] s) refl same)
   computed_back None q s go k e h = e
 
-module _ {M H T Q A O : Type 0} (meant : Meant M H T Q A O) (b : Q → Left → Option (Reply A)) (keeps : KeepsCalls b) where
+module _ {M H T Q A O : Type 0} (meant : Meant M H T Q A O) (b : Replier Q A) (keeps : KeepsCalls b) where
   with_back : (g : Run M H T Q A O → State H A → Event H Q O) (n : ℕ) → ((p : Run M H T Q A O) (s : State H A) → s.replies ≡ [] → calls s ≡ n → GivenBack n (g p s)) → (p : Run M H T Q A O) (s : State H A) → s.replies ≡ [] → calls s ≡ n → GivenBack n (perform_with meant b g p s)
   with_back g n h (Ends o) s i e = (e, refl)
   with_back g n h (Takes c p) s i e = steps_back n (less c s.left.steps) s (perform_with meant b g p) e (λ r. with_back g n h p record s { left = record s.left { steps = r } } i e)

@@ -2,7 +2,7 @@
 use Rattle.std.proofs.Common.{◌≡◌, ℕ, zero, suc, ◌+◌, ◌≤◌, Bool, List, [], ◌∷◌, Option, Some, None, refl, sym, ap, ◌∙◌, arith}
 use Rattle.wk_base.specs.declared.left.Left.{Left}
 use Rattle.page_run.specs.Run.{Use, Run, Ends, Takes, Counts, Sees, Changes, Calls, Leaves, Uses, Begins, Opens, Asks, Meant}
-use Rattle.page_run.specs.State.{Said, Gives, Exhausts, Reply, State, all_back, Event, Ended}
+use Rattle.page_run.specs.State.{Said, Gives, Exhausts, Reply, Replier, State, all_back, Event, Ended}
 use Rattle.page_run.specs.Perform.{less, used, after_use, with_steps, after_steps, entered, with_call, after_call, back, one_back, counted, with_node, after_node, replied, after_said, with_computed, with_reply, size, size_in, to_come, nothing_begins, perform_with, perform_by, perform, NoRise}
 use Rattle.page_run.proofs.Less.{less_some, used_size}
 
@@ -35,14 +35,14 @@ module _ {H Q A O : Type 0} where
   computed_agree (Some r) q s go go' h = said_agree r.said (replied r [] s) go go' (h r refl)
   computed_agree None q s go go' h = refl
 
-  reply_agree : (b b' : Q → Left → Option (Reply A)) (rs : List (Reply A)) (q : Q) (s : State H A) (go go' : A → State H A → Event H Q O) (k : ℕ) → NoRise b → (size s.left ≤ k → b q s.left ≡ b' q s.left) → size s.left + size_in rs ≤ k → ((a : A) (s' : State H A) → to_come s' ≤ k → go a s' ≡ go' a s') → with_reply b rs q s go ≡ with_reply b' rs q s go'
+  reply_agree : (b b' : Replier Q A) (rs : List (Reply A)) (q : Q) (s : State H A) (go go' : A → State H A → Event H Q O) (k : ℕ) → NoRise b → (size s.left ≤ k → b q s.left ≡ b' q s.left) → size s.left + size_in rs ≤ k → ((a : A) (s' : State H A) → to_come s' ≤ k → go a s' ≡ go' a s') → with_reply b rs q s go ≡ with_reply b' rs q s go'
   reply_agree b b' [] q s go go' k nr same le h =
       computed_agree (b q s.left) q s go go' (λ x e a. h a (replied x [] s) (omega (arith, nr q s.left x e)))
       ∙ ap (λ o. with_computed o q s go') (same (omega arith))
   reply_agree b b' (x ∷ rs) q s go go' k nr same le h = said_agree x.said (replied x rs s) go go' (λ a. h a (replied x rs s) (omega arith))
 
 module _ {M H T Q A O : Type 0} (meant : Meant M H T Q A O) where
-  agree : (g g' : Run M H T Q A O → State H A → Event H Q O) (b b' : Q → Left → Option (Reply A)) (k : ℕ) → ((p : Run M H T Q A O) (s : State H A) → suc (to_come s) ≤ k → g p s ≡ g' p s) → NoRise b → ((q : Q) (l : Left) → size l ≤ k → b q l ≡ b' q l) → (p : Run M H T Q A O) (s : State H A) → to_come s ≤ k → perform_with meant b g p s ≡ perform_with meant b' g' p s
+  agree : (g g' : Run M H T Q A O → State H A → Event H Q O) (b b' : Replier Q A) (k : ℕ) → ((p : Run M H T Q A O) (s : State H A) → suc (to_come s) ≤ k → g p s ≡ g' p s) → NoRise b → ((q : Q) (l : Left) → size l ≤ k → b q l ≡ b' q l) → (p : Run M H T Q A O) (s : State H A) → to_come s ≤ k → perform_with meant b g p s ≡ perform_with meant b' g' p s
   agree g g' b b' k h nr same (Ends o) s le = refl
   agree g g' b b' k h nr same (Takes n p) s le = after_steps_agree n s (perform_with meant b g p) (perform_with meant b' g' p) (λ r e. agree g g' b b' k h nr same p record s { left = record s.left { steps = r } } (omega arith))
   agree g g' b b' k h nr same (Counts p) s le = agree g g' b b' k h nr same p (counted s) le
@@ -57,7 +57,7 @@ module _ {M H T Q A O : Type 0} (meant : Meant M H T Q A O) where
   agree g g' b b' k h nr same (Asks q f) s le =
       reply_agree b b' s.replies q s (λ a. perform_with meant b g (f a)) (λ a. perform_with meant b' g' (f a)) k nr (same q s.left) le (λ a s' le'. agree g g' b b' k h nr same (f a) s' le')
 
-  enough : (b b' : Q → Left → Option (Reply A)) (k n m : ℕ) → k ≤ n → k ≤ m → NoRise b → ((q : Q) (l : Left) → size l ≤ k → b q l ≡ b' q l) → (p : Run M H T Q A O) (s : State H A) → to_come s ≤ k → perform_by meant b n p s ≡ perform_by meant b' m p s
+  enough : (b b' : Replier Q A) (k n m : ℕ) → k ≤ n → k ≤ m → NoRise b → ((q : Q) (l : Left) → size l ≤ k → b q l ≡ b' q l) → (p : Run M H T Q A O) (s : State H A) → to_come s ≤ k → perform_by meant b n p s ≡ perform_by meant b' m p s
   enough b b' zero zero zero i j nr same p s le = agree nothing_begins nothing_begins b b' 0 (λ p' s' h. absurd (omega arith)) nr same p s le
   enough b b' zero zero (suc m) i j nr same p s le = agree nothing_begins (perform_by meant b' m) b b' 0 (λ p' s' h. absurd (omega arith)) nr same p s le
   enough b b' zero (suc n) zero i j nr same p s le = agree (perform_by meant b n) nothing_begins b b' 0 (λ p' s' h. absurd (omega arith)) nr same p s le
@@ -68,17 +68,17 @@ module _ {M H T Q A O : Type 0} (meant : Meant M H T Q A O) where
       agree (perform_by meant b n) (perform_by meant b' m) b b' (suc k) (λ p' s' h. enough b b' k n m (omega arith) (omega arith) nr (λ q l h'. same q l (omega arith)) p' s' (omega arith)) nr same p s le
 
   -- AGREEMENT: two ways to compute replies that agree wherever at most so much is left
-  pub perform_agree : (b b' : Q → Left → Option (Reply A)) → NoRise b → (p : Run M H T Q A O) (s : State H A) → ((q : Q) (l : Left) → size l ≤ to_come s → b q l ≡ b' q l) → perform meant b p s ≡ perform meant b' p s
+  pub perform_agree : (b b' : Replier Q A) → NoRise b → (p : Run M H T Q A O) (s : State H A) → ((q : Q) (l : Left) → size l ≤ to_come s → b q l ≡ b' q l) → perform meant b p s ≡ perform meant b' p s
   unfolding perform
   perform_agree b b' nr p s same = enough b b' (to_come s) (to_come s) (to_come s) (omega arith) (omega arith) nr same p s (omega arith)
 
   -- so many things at most are as good as any
-  pub perform_is : (b : Q → Left → Option (Reply A)) → NoRise b → (n : ℕ) (p : Run M H T Q A O) (s : State H A) → to_come s ≤ n → perform meant b p s ≡ perform_by meant b n p s
+  pub perform_is : (b : Replier Q A) → NoRise b → (n : ℕ) (p : Run M H T Q A O) (s : State H A) → to_come s ≤ n → perform meant b p s ≡ perform_by meant b n p s
   unfolding perform
   perform_is b nr n p s le = enough b b (to_come s) (to_come s) n (omega arith) le nr (λ q l h. refl) p s (omega arith)
 
   -- THE EVENTS, one step each
-  module _ (b : Q → Left → Option (Reply A)) (nr : NoRise b) where
+  module _ (b : Replier Q A) (nr : NoRise b) where
     pub perform-Ends : (o : O) (s : State H A) → perform meant b (Ends o) s ≡ Ended o (all_back s)
     perform-Ends o s = perform_is b nr (suc (to_come s)) (Ends o) s (omega arith)
 

@@ -1,9 +1,9 @@
 -- The laws of events, from the steps of `perform`.
-use Rattle.std.proofs.Common.{◌≡◌, ℕ, zero, suc, ◌+◌, ◌-◌, ◌<◌, Bool, List, [], Option, refl, sym, ap, ◌∙◌, arith}
+use Rattle.std.proofs.Common.{◌≡◌, ℕ, zero, suc, ◌+◌, ◌-◌, ◌<◌, Bool, List, [], refl, sym, ap, ◌∙◌, arith}
 use Rattle.wk_base.specs.declared.left.Left.{Left}
 use Rattle.page_run.specs.declared.which.Which.TheVariants.{Steps}
 use Rattle.page_run.specs.Run.{TakeBytes, EnterDepth, LeaveDepth, HasTemplate, EnterTemplate, LeaveTemplate, Run, Asks, Meant}
-use Rattle.page_run.specs.State.{Reply, State, Event, Spent}
+use Rattle.page_run.specs.State.{Reply, Replier, State, Event, Spent}
 use Rattle.page_run.specs.Perform.{after_bytes, after_depth, after_template, with_steps, with_call, back, with_node, replied, after_said, with_computed, with_reply, perform, NoRise}
 use Rattle.page_run.specs.Events.{EndsIs, TakesIs, CountsIs, SeesIs, ChangesIs, CallsIs, LeavesIs, BytesAre, DepthIs, TemplatesAre, BeginsIs, OpensIs, GoesOn, AsksIs, over}
 use Rattle.page_run.proofs.Less.{less_of, less_over, test_of_le, test_of_lt}
@@ -19,7 +19,7 @@ back_none : {H A : Type 0} → (n : ℕ) (s : State H A) → n ≡ 0 → back n 
 back_none zero s h = refl
 back_none (suc n) s h = absurd (omega arith)
 
-module _ {M H T Q A O : Type 0} (meant : Meant M H T Q A O) (b : Q → Left → Option (Reply A)) (nr : NoRise b) where
+module _ {M H T Q A O : Type 0} (meant : Meant M H T Q A O) (b : Replier Q A) (nr : NoRise b) where
   pub ends_is : EndsIs meant b
   ends_is o s = perform-Ends meant b nr o s
 

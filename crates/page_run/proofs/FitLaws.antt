@@ -3,9 +3,9 @@ use Rattle.std.proofs.Common.{◌≡◌, ℕ, zero, suc, ◌+◌, ◌-◌, ◌�
 use Rattle.std.specs.Prelude.{max}
 use Rattle.wk_base.specs.declared.left.Left.{Left}
 use Rattle.page_run.specs.Run.{Run, Ends, Takes, Counts, Sees, Changes, Calls, Leaves, Uses, Begins, Opens, Asks, Meant}
-use Rattle.page_run.specs.State.{Tally, no_tally, join, Said, Gives, Exhausts, Reply, Moment, State, Event, Ended, Spent, Asked, moment_of}
+use Rattle.page_run.specs.State.{Tally, no_tally, join, Said, Gives, Exhausts, Reply, Replier, Moment, State, resumed, Event, Ended, Spent, Asked, moment_of}
 use Rattle.page_run.specs.Perform.{less, with_steps, after_steps, entered, with_call, after_call, back, one_back, counted, after_said, with_computed, with_reply, size, nothing_begins, perform_with, perform_by, perform, NoRise}
-use Rattle.page_run.specs.Charges.{ReplyFits, RepliesFit, resumed, Fits, EndFits, MoreIsAsGood, OneCharge}
+use Rattle.page_run.specs.Charges.{ReplyFits, RepliesFit, Fits, EndFits, MoreIsAsGood, OneCharge}
 use Rattle.page_run.proofs.Less.{less_some, less_of}
 use Rattle.page_run.proofs.Enough.{perform-Ends, perform-Takes, perform-Counts, perform-Sees, perform-Changes, perform-Calls, perform-Leaves, perform-Begins, perform-Asks}
 
@@ -114,7 +114,7 @@ module _ {H Q A O : Type 0} where
       if_ends go' (λ s. go' (one_back s)) heap heap record now { calls = now.calls + 1 } now m (suc m) told told (λ o end f. back_fits m heap now told go' o end f) (go (resumed heap record now { calls = now.calls + 1 } m told)) (h record now { calls = now.calls + 1 } m)
 
   -- a reply
-  reply_fits : (q : Q) (x : Reply A) (a : A) (other : Q → Left → Option (Reply A)) (heap : H) (now : Left) (n : ℕ) (told : Tally) (go' : A → State H A → Event H Q O) (o : O) (end : Moment H) → x.said ≡ Gives a → ReplyFits q now x other → Fits (go' a) heap x.left n (join n told x.tally) o end → Fits (λ s. with_reply other s.replies q s go') heap now n told o end
+  reply_fits : (q : Q) (x : Reply A) (a : A) (other : Replier Q A) (heap : H) (now : Left) (n : ℕ) (told : Tally) (go' : A → State H A → Event H Q O) (o : O) (end : Moment H) → x.said ≡ Gives a → ReplyFits q now x other → Fits (go' a) heap x.left n (join n told x.tally) o end → Fits (λ s. with_reply other s.replies q s go') heap now n told o end
   reply_fits q x a other heap now n told go' o end e xf f = record {
     falls = omega (arith, f.falls, xf.falls);
     keeps = omega (arith, f.keeps, xf.keeps);
@@ -136,16 +136,16 @@ module _ {H Q A O : Type 0} where
       rest : (l : Left) (d : ℕ) → l.steps ≡ d + (now.steps - end.left.steps) → end.left.steps ≤ x.left.steps → x.left.steps ≤ now.steps → l.steps ≡ d + (x.left.steps - end.left.steps) + (now.steps - x.left.steps)
       rest l d e h i = omega arith
 
-  saids_fit : (q : Q) (x : Reply A) (y : Said A) (other : Q → Left → Option (Reply A)) (heap : H) (now : Left) (n : ℕ) (told : Tally) (go go' : A → State H A → Event H Q O) → x.said ≡ y → ((a : A) → x.said ≡ Gives a → ReplyFits q now x other) → ((a : A) → IfEnds (go a (resumed heap x.left n (join n told x.tally))) (go' a) heap x.left n (join n told x.tally)) → IfEnds (after_said y (resumed heap x.left n (join n told x.tally)) go) (λ s. with_reply other s.replies q s go') heap now n told
+  saids_fit : (q : Q) (x : Reply A) (y : Said A) (other : Replier Q A) (heap : H) (now : Left) (n : ℕ) (told : Tally) (go go' : A → State H A → Event H Q O) → x.said ≡ y → ((a : A) → x.said ≡ Gives a → ReplyFits q now x other) → ((a : A) → IfEnds (go a (resumed heap x.left n (join n told x.tally))) (go' a) heap x.left n (join n told x.tally)) → IfEnds (after_said y (resumed heap x.left n (join n told x.tally)) go) (λ s. with_reply other s.replies q s go') heap now n told
   saids_fit q x (Gives a) other heap now n told go go' e xf h =
       if_ends (go' a) (λ s. with_reply other s.replies q s go') heap heap x.left now n n (join n told x.tally) told (λ o end f. reply_fits q x a other heap now n told go' o end e (xf a e) f) (go a (resumed heap x.left n (join n told x.tally))) (h a)
   saids_fit q x (Exhausts w) other heap now n told go go' e xf h = tt
 
-  computed_fits : (q : Q) (v : Option (Reply A)) (other : Q → Left → Option (Reply A)) (heap : H) (now : Left) (n : ℕ) (told : Tally) (go go' : A → State H A → Event H Q O) → ((x : Reply A) (a : A) → v ≡ Some x → x.said ≡ Gives a → ReplyFits q now x other) → ((a : A) (now' : Left) (told' : Tally) → IfEnds (go a (resumed heap now' n told')) (go' a) heap now' n told') → IfEnds (with_computed v q (resumed heap now n told) go) (λ s. with_reply other s.replies q s go') heap now n told
+  computed_fits : (q : Q) (v : Option (Reply A)) (other : Replier Q A) (heap : H) (now : Left) (n : ℕ) (told : Tally) (go go' : A → State H A → Event H Q O) → ((x : Reply A) (a : A) → v ≡ Some x → x.said ≡ Gives a → ReplyFits q now x other) → ((a : A) (now' : Left) (told' : Tally) → IfEnds (go a (resumed heap now' n told')) (go' a) heap now' n told') → IfEnds (with_computed v q (resumed heap now n told) go) (λ s. with_reply other s.replies q s go') heap now n told
   computed_fits q (Some x) other heap now n told go go' xf h = saids_fit q x x.said other heap now n told go go' refl (λ a e. xf x a refl e) (λ a. h a x.left (join n told x.tally))
   computed_fits q None other heap now n told go go' xf h = tt
 
-module _ {M H T Q A O : Type 0} (never : M → ⊥) (meant : Meant M H T Q A O) (b other : Q → Left → Option (Reply A)) (nr : NoRise other) (rf : RepliesFit b other) where
+module _ {M H T Q A O : Type 0} (never : M → ⊥) (meant : Meant M H T Q A O) (b other : Replier Q A) (nr : NoRise other) (rf : RepliesFit b other) where
   with_fits : (g : Run M H T Q A O → State H A → Event H Q O) → ((p : Run M H T Q A O) (heap : H) (now : Left) (n : ℕ) (told : Tally) → IfEnds (g p (resumed heap now n told)) (perform meant other p) heap now n told) → (p : Run M H T Q A O) (heap : H) (now : Left) (n : ℕ) (told : Tally) → IfEnds (perform_with meant b g p (resumed heap now n told)) (perform meant other p) heap now n told
   with_fits g h (Ends o) heap now n told = record {
     falls = omega arith;

@@ -1,8 +1,7 @@
 -- A run that waits, and one that is over, under more replies: one induction over events, with the laws of events on the other side.
 use Rattle.std.proofs.Common.{◌≡◌, ℕ, zero, suc, ◌+◌, ◌≤◌, List, [], ◌∷◌, ◌++◌, Option, Some, None, refl, sym, ap, ◌∙◌, subst, arith}
-use Rattle.wk_base.specs.declared.left.Left.{Left}
 use Rattle.page_run.specs.Run.{Run, Ends, Takes, Counts, Sees, Changes, Calls, Leaves, Uses, Begins, Opens, Asks, Meant}
-use Rattle.page_run.specs.State.{Said, Gives, Exhausts, Reply, Moment, State, at, Event, Ended, Spent, Asked}
+use Rattle.page_run.specs.State.{Said, Gives, Exhausts, Reply, Replier, Moment, State, at, Event, Ended, Spent, Asked}
 use Rattle.page_run.specs.Perform.{less, used, after_use, with_steps, entered, with_call, back, counted, with_node, replied, after_said, with_computed, with_reply, nothing_begins, perform_with, perform_by, perform, size, size_in, to_come, wait, given, NoRise}
 use Rattle.page_run.specs.Replies.{WaitingIsAsking, EndStands, SpentStands, ComputedIsGiven, UnansweredWaits, AgreeingIsEnough}
 use Rattle.page_run.proofs.Less.{none_some, less_some, used_size}
@@ -21,15 +20,15 @@ given_none s = ap (λ rs. record s { replies = rs }) (append_none s.replies)
 module _ {M H T Q A O : Type 0} (meant : Meant M H T Q A O) where
   -- what a run comes to, under ways to compute replies and more that are given
   abbrev Later : Type 0
-  Later = (Q → Left → Option (Reply A)) → List (Reply A) → Event H Q O
+  Later = Replier Q A → List (Reply A) → Event H Q O
 
   -- the same, where the run that waits comes to this event
   abbrev Stands : Event H Q O → Later → Type 0
-  Stands (Ended o m) later = (b : Q → Left → Option (Reply A)) → NoRise b → (more : List (Reply A)) → later b more ≡ Ended o m
-  Stands (Spent w m) later = (b : Q → Left → Option (Reply A)) → NoRise b → (more : List (Reply A)) → later b more ≡ Spent w m
-  Stands (Asked q m) later = (f : A → Run M H T Q A O) × ((b : Q → Left → Option (Reply A)) → NoRise b → (more : List (Reply A)) → later b more ≡ perform meant b (Asks q f) (at m more))
+  Stands (Ended o m) later = (b : Replier Q A) → NoRise b → (more : List (Reply A)) → later b more ≡ Ended o m
+  Stands (Spent w m) later = (b : Replier Q A) → NoRise b → (more : List (Reply A)) → later b more ≡ Spent w m
+  Stands (Asked q m) later = (f : A → Run M H T Q A O) × ((b : Replier Q A) → NoRise b → (more : List (Reply A)) → later b more ≡ perform meant b (Asks q f) (at m more))
 
-  by_step : (later later' : Later) → ((b : Q → Left → Option (Reply A)) → NoRise b → (more : List (Reply A)) → later' b more ≡ later b more) → (e : Event H Q O) → Stands e later → Stands e later'
+  by_step : (later later' : Later) → ((b : Replier Q A) → NoRise b → (more : List (Reply A)) → later' b more ≡ later b more) → (e : Event H Q O) → Stands e later → Stands e later'
   by_step later later' same (Ended o m) h = λ b nr more. same b nr more ∙ h b nr more
   by_step later later' same (Spent w m) h = λ b nr more. same b nr more ∙ h b nr more
   by_step later later' same (Asked q m) h = (h.0, λ b nr more. same b nr more ∙ h.1 b nr more)
@@ -101,7 +100,7 @@ module _ {M H T Q A O : Type 0} (meant : Meant M H T Q A O) where
   spent_stands p s w m e = subst (λ x. Stands x (from p s)) e (stands p s)
 
   -- with none given beyond its own
-  first_asks : (p : Run M H T Q A O) (s : State H A) (q : Q) (m : Moment H) (f : A → Run M H T Q A O) (b : Q → Left → Option (Reply A)) → NoRise b → perform meant b p (given [] s) ≡ perform meant b (Asks q f) (at m []) → perform meant b p s ≡ with_computed (b q m.left) q (at m []) (λ a. perform meant b (f a))
+  first_asks : (p : Run M H T Q A O) (s : State H A) (q : Q) (m : Moment H) (f : A → Run M H T Q A O) (b : Replier Q A) → NoRise b → perform meant b p (given [] s) ≡ perform meant b (Asks q f) (at m []) → perform meant b p s ≡ with_computed (b q m.left) q (at m []) (λ a. perform meant b (f a))
   first_asks p s q m f b nr e = ap (perform meant b p) (sym (given_none s)) ∙ e ∙ perform-Asks meant b nr q f (at m [])
 
   pub computed_is_given : ComputedIsGiven meant

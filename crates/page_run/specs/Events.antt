@@ -1,15 +1,14 @@
 -- THE LAWS OF EVENTS: what each event of a run makes of the state, said without a bound on things.
-use Rattle.std.specs.Prelude.{◌≡◌, ℕ, ◌+◌, ◌-◌, ◌<◌, ◌≤◌, max, Bool, true, false, List, [], ◌∷◌, Option, Some, None}
-use Rattle.wk_base.specs.declared.left.Left.{Left}
+use Rattle.std.specs.Prelude.{◌≡◌, ℕ, ◌+◌, ◌-◌, ◌<◌, ◌≤◌, max, Bool, true, false, List, [], ◌∷◌, Some, None}
 use Rattle.page_run.specs.declared.which.Which.{Which}
 use Rattle.page_run.specs.declared.which.Which.TheVariants.{Steps, Calls as AllCalls}
 use Rattle.page_run.specs.Run.{TakeBytes, EnterDepth, LeaveDepth, HasTemplate, EnterTemplate, LeaveTemplate, Run, Ends, Takes, Counts, Sees, Changes, Calls, Leaves, Uses, Begins, Opens, Asks, Meant}
-use Rattle.page_run.specs.State.{join, Gives, Exhausts, Reply, Moment, State, moment, Ended, Spent, Asked}
+use Rattle.page_run.specs.State.{join, Gives, Exhausts, Reply, Replier, Moment, State, moment, Ended, Spent, Asked}
 use Rattle.page_run.specs.Perform.{perform, NoRise}
 
 -- of all things' meanings, and of all ways to compute replies that leave no more than there was
-abbrev pub Always : (M H T Q A O : Type 0) → (Meant M H T Q A O → (Q → Left → Option (Reply A)) → Type 0) → Type 0
-Always M H T Q A O Law = (meant : Meant M H T Q A O) (beyond : Q → Left → Option (Reply A)) → NoRise beyond → Law meant beyond
+abbrev pub Always : (M H T Q A O : Type 0) → (Meant M H T Q A O → Replier Q A → Type 0) → Type 0
+Always M H T Q A O Law = (meant : Meant M H T Q A O) (beyond : Replier Q A) → NoRise beyond → Law meant beyond
 
 -- an end: each call in progress is given back
 abbrev pub over : {H A : Type 0} → State H A → Moment H
@@ -19,7 +18,7 @@ over s = record { heap = s.heap; left = record s.left { calls = s.left.calls + s
 abbrev pub told : {H A : Type 0} → Reply A → List (Reply A) → State H A → State H A
 told r replies s = record { heap = s.heap; left = r.left; in_progress = s.in_progress; tally = join s.in_progress s.tally r.tally; replies = replies }
 
-module _ {M H T Q A O : Type 0} (meant : Meant M H T Q A O) (beyond : Q → Left → Option (Reply A)) where
+module _ {M H T Q A O : Type 0} (meant : Meant M H T Q A O) (beyond : Replier Q A) where
   abbrev pub EndsIs : Type 0
   EndsIs = (o : O) (s : State H A) → perform meant beyond (Ends o) s ≡ Ended o (over s)
 

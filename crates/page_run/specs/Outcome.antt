@@ -32,6 +32,10 @@ give x = λ k. k (Goes x)
 abbrev pub jump : {P J X : Type 0} → J → Act P J X
 jump j = λ k. k (Jumps j)
 
+-- a part, and what follows it however it ends
+abbrev pub catch : {P J K X Y : Type 0} → Act P J X → (Outcome X J → Act P K Y) → Act P K Y
+catch m f = λ k. m (λ o. f o k)
+
 -- a part that never jumps
 abbrev pub plain : {P J X : Type 0} → Plain.Part P X → Act P J X
 plain m = λ k. m (λ x. k (Goes x))

@@ -3,7 +3,7 @@ use Rattle.std.specs.Prelude.{◌≡◌, ℕ, zero, suc, ◌+◌, ◌-◌, ◌�
 use Rattle.wk_base.specs.declared.left.Left.{Left}
 use Rattle.page_run.specs.declared.which.Which.TheVariants.{Steps, Calls as CallsSpent}
 use Rattle.page_run.specs.Run.{Use, TakeBytes, EnterDepth, LeaveDepth, HasTemplate, EnterTemplate, LeaveTemplate, Run, Ends, Takes, Counts, Sees, Changes, Calls, Leaves, Uses, Begins, Opens, Asks, Meant}
-use Rattle.page_run.specs.State.{join, Said, Gives, Exhausts, Reply, State, moment, all_back, Event, Ended, Spent, Asked}
+use Rattle.page_run.specs.State.{join, Said, Gives, Exhausts, Reply, Replier, State, moment, all_back, Event, Ended, Spent, Asked}
 
 -- so many of what is left, if they are there
 abbrev pub covered : Bool → ℕ → ℕ → Option ℕ
@@ -96,7 +96,7 @@ with_computed (Some r) q s go = after_reply r [] s go
 with_computed None q s go = Asked q (moment s)
 
 -- the replies that are given come first, and beyond them those that are computed
-abbrev pub with_reply : {H Q A O : Type 0} → (Q → Left → Option (Reply A)) → List (Reply A) → Q → State H A → (A → State H A → Event H Q O) → Event H Q O
+abbrev pub with_reply : {H Q A O : Type 0} → Replier Q A → List (Reply A) → Q → State H A → (A → State H A → Event H Q O) → Event H Q O
 with_reply beyond [] q s go = with_computed (beyond q s.left) q s go
 with_reply beyond (r ∷ replies) q s go = after_reply r replies s go
 
@@ -115,7 +115,7 @@ to_come s = size s.left + size_in s.replies
 abbrev pub nothing_begins : {M H T Q A O : Type 0} → Run M H T Q A O → State H A → Event H Q O
 nothing_begins p s = Spent Steps (all_back s)
 
-module _ {M H T Q A O : Type 0} (meant : Meant M H T Q A O) (beyond : Q → Left → Option (Reply A)) where
+module _ {M H T Q A O : Type 0} (meant : Meant M H T Q A O) (beyond : Replier Q A) where
   -- the events in turn, where `begins` performs the things that begin
   abbrev pub perform_with : (Run M H T Q A O → State H A → Event H Q O) → Run M H T Q A O → State H A → Event H Q O
   perform_with begins (Ends o) s = Ended o (all_back s)
@@ -140,7 +140,7 @@ module _ {M H T Q A O : Type 0} (meant : Meant M H T Q A O) (beyond : Q → Left
   perform p s = perform_by (to_come s) p s
 
 -- nothing is computed: a run waits at its first question beyond the given replies
-abbrev pub wait : {Q A : Type 0} → Q → Left → Option (Reply A)
+abbrev pub wait : {Q A : Type 0} → Replier Q A
 wait q l = None
 
 -- the state with more replies given, after those that it has
@@ -148,5 +148,5 @@ abbrev pub given : {H A : Type 0} → List (Reply A) → State H A → State H A
 given more s = record s { replies = s.replies ++ more }
 
 -- replies leave no more steps and nodes than there were
-abbrev pub NoRise : {Q A : Type 0} → (Q → Left → Option (Reply A)) → Type 0
+abbrev pub NoRise : {Q A : Type 0} → Replier Q A → Type 0
 NoRise {Q = Q} {A = A} beyond = (q : Q) (l : Left) (r : Reply A) → beyond q l ≡ Some r → size r.left ≤ size l

@@ -1,5 +1,5 @@
 -- What stands at a moment of a run, what it is told in reply, and the events that are seen from outside.
-use Rattle.std.specs.Prelude.{ℕ, ◌+◌, max, Bool, List}
+use Rattle.std.specs.Prelude.{ℕ, ◌+◌, max, Bool, List, [], Option}
 use Rattle.wk_base.specs.declared.left.Left.{Left}
 use Rattle.page_run.specs.declared.which.Which.{Which}
 
@@ -47,6 +47,10 @@ pub record Reply (A : Type 0) : Type 0 where
   pub left : Left
   pub tally : Tally
 
+-- a way to compute replies from what is left, where there is one
+abbrev pub Replier : Type 0 → Type 0 → Type 0
+Replier Q A = Q → Left → Option (Reply A)
+
 -- A MOMENT of a run
 pub record Moment (H : Type 0) : Type 0 where
   pub heap : H
@@ -71,6 +75,10 @@ at m replies = record { heap = m.heap; left = m.left; in_progress = m.in_progres
 -- the start of a run
 abbrev pub start : {H A : Type 0} → H → Left → List (Reply A) → State H A
 start heap left replies = record { heap = heap; left = left; in_progress = 0; tally = no_tally; replies = replies }
+
+-- the middle of a run, with no replies given
+abbrev pub resumed : {H A : Type 0} → H → Left → ℕ → Tally → State H A
+resumed heap l n told = record { heap = heap; left = l; in_progress = n; tally = told; replies = [] }
 
 -- at an end the calls in progress are given back
 abbrev pub all_back : {H A : Type 0} → State H A → Moment H

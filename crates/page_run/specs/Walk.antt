@@ -37,12 +37,10 @@ walk NoLoads w = w
 walk (Load name charge nodes completed inner rest) w = walk rest (walk_load (completed && is_in name w.completed) name charge nodes completed (walk inner) w)
 
 -- THE LAWS OF LOADS
--- A load that completes, of a module whose load completed before, is a repeat: its charge is kept, and nothing inside it is walked.
 abbrev pub RepeatIsKept : Type 0
 RepeatIsKept = (name : List ℕ) (charge nodes : ℕ) (inner rest : Loads) (w : Walked) → is_in name w.completed ≡ true →
     walk (Load name charge nodes true inner rest) w ≡ walk rest record w { kept = w.kept + charge }
 
--- Any other is fresh: the loads inside it come first, then its own nodes, and then its name where it completed.
 abbrev pub OtherIsFresh : Type 0
 OtherIsFresh =
     ((name : List ℕ) (charge nodes : ℕ) (inner rest : Loads) (w : Walked) → is_in name w.completed ≡ false →
@@ -50,7 +48,6 @@ OtherIsFresh =
     × ((name : List ℕ) (charge nodes : ℕ) (inner rest : Loads) (w : Walked) →
     walk (Load name charge nodes false inner rest) w ≡ walk rest record (walk inner w) { begun = (walk inner w).begun + nodes })
 
--- The walk of joined loads is the walk of the second after that of the first.
 abbrev pub WalkOfJoined : Type 0
 WalkOfJoined = (first second : Loads) (w : Walked) → walk (join_loads first second) w ≡ walk second (walk first w)
 
@@ -58,12 +55,10 @@ abbrev pub tally_of : {H Q O : Type 0} → Event H Q O → Tally
 tally_of e = (moment_of e).tally
 
 module _ {M H T Q A O : Type 0} (meant : Meant M H T Q A O) where
-  -- Of loads and invocations a run tells what its replies tell, in their order, and nothing else: none without a reply,
   abbrev pub TellsNone : Type 0
   TellsNone = (p : Run M H T Q A O) (s : State H A) → s.replies ≡ [] →
       ((tally_of (perform meant wait p s)).loads ≡ s.tally.loads) × ((tally_of (perform meant wait p s)).called ≡ s.tally.called)
 
-  -- and with one reply more, those of that reply.
   abbrev pub TellsReply : Type 0
   TellsReply = (p : Run M H T Q A O) (s : State H A) (q : Q) (m : Moment H) → perform meant wait p s ≡ Asked q m → (r : Reply A) →
       ((tally_of (perform meant wait p (given (r ∷ []) s))).loads ≡ join_loads m.tally.loads r.tally.loads)

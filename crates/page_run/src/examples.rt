@@ -32,7 +32,7 @@ pub fn asking()
     ensures { Asking }
 {}
 
-/// A jump out of a function, over what follows.
+/// A jump out of a function that is caught, and one that ends the run.
 #[tactic(auto, using(crate::proofs::ExampleLaws::jumping))]
 pub fn jumping()
     ensures { Jumping }
