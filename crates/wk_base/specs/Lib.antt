@@ -1,2 +1,3 @@
 pub mod Allowances
+pub mod Titles
 pub mod formers
