@@ -5,7 +5,8 @@ use Rattle.std.specs.List.{list_any}
 use Rattle.wk_base.specs.declared.title.Namespace.{Namespace}
 use Rattle.wk_base.specs.declared.title.Title.{Title}
 use Rattle.wk_base.specs.declared.title_read.TitleFault.{TitleFault}
-use Rattle.wk_base.specs.Titles.{cut_at_colon, cut_prefix, open_colon, choose_namespace, named, tidy, trim, title_of, spaced, as_space}
+use Rattle.wk_base.specs.Space.{trim}
+use Rattle.wk_base.specs.Titles.{cut_at_colon, cut_prefix, open_colon, choose_namespace, named, tidy, title_of, spaced, as_space}
 
 -- A byte that is no colon stands for none.
 either : (b : Bool) (c : ℕ) → (c == 58) ≡ false → (cond b 32 c == 58) ≡ false

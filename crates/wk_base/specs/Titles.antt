@@ -1,9 +1,10 @@
--- How a text is read as the title of a page, and how a title is written (MediaWiki, Manual:Page title and
--- Help:Namespaces). Texts are lists of bytes: 32 is the space, 58 `:`, 95 `_`.
-use Rattle.std.specs.Prelude.{ℕ, ◌+◌, Bool, true, false, ◌||◌, ◌&&◌, not, ◌==◌, nat_lt, nat_le, if◌then◌else◌, List, [], ◌∷◌, ◌++◌, map, reverse, find, length, Option, Some, None, option_map, option_and_then, unwrap_or, Result, Ok, Err, codes}
+-- How a title is written, and how a text is read as one (MediaWiki, Manual:Page title and Help:Namespaces).
+-- Texts are lists of bytes: 32 is the space, 58 `:`, 95 `_`.
+use Rattle.std.specs.Prelude.{◌≡◌, ℕ, Bool, false, ◌||◌, ◌&&◌, not, ◌==◌, nat_lt, if◌then◌else◌, List, [], ◌∷◌, ◌++◌, map, find, length, Option, Some, None, option_map, option_and_then, unwrap_or, Result, Ok, Err, codes}
 use Rattle.std.specs.List.{list_any}
 use Rattle.std.specs.Char.{to_ascii_uppercase}
 use Rattle.std.specs.Str.{is_utf8, str_eq_ignore_ascii_case}
+use Rattle.wk_base.specs.Space.{trim_start, trim}
 use Rattle.wk_base.specs.declared.title.Namespace.{Namespace}
 use Rattle.wk_base.specs.declared.title.Namespace.TheVariants.{Main, Talk, User, UserTalk, Project, ProjectTalk, File, FileTalk, MediaWiki, MediaWikiTalk, Template, TemplateTalk, Help, HelpTalk, Category, CategoryTalk, Module, ModuleTalk}
 use Rattle.wk_base.specs.declared.title.Title.{Title}
@@ -40,37 +41,12 @@ with_prefix (c ∷ cs) name = (c ∷ cs) ++ (58 ∷ name)
 unfoldable pub title_text : Title → List ℕ
 title_text title = with_prefix (prefix_of title.ns) title.name
 
--- the namespaces that have a prefix
-unfoldable pub prefixed_namespaces : List Namespace
-prefixed_namespaces =
-    Talk ∷ User ∷ UserTalk ∷ Project ∷ ProjectTalk ∷ File ∷ FileTalk ∷ MediaWiki ∷ MediaWikiTalk
-    ∷ Template ∷ TemplateTalk ∷ Help ∷ HelpTalk ∷ Category ∷ CategoryTalk ∷ Module ∷ ModuleTalk ∷ []
-
--- the namespace whose prefix this is, in any case of its letters
-unfoldable pub namespace_named : List ℕ → Option Namespace
-namespace_named text = find (λ ns. str_eq_ignore_ascii_case text (prefix_of ns)) prefixed_namespaces
-
--- White space is space, tab, line feed, vertical tab, form feed and carriage return.
-abbrev pub is_white : ℕ → Bool
-is_white c = (c == 32) || (nat_le 9 c && nat_le c 13)
-
 -- An underscore stands for a space.
 abbrev pub as_space : ℕ → ℕ
 as_space c = if c == 95 then 32 else c
 
 abbrev pub spaced : List ℕ → List ℕ
 spaced text = map as_space text
-
--- the text without the white space at its start, at its end, and at both
-abbrev pub trim_start : List ℕ → List ℕ
-trim_start [] = []
-trim_start (c ∷ cs) = if is_white c then trim_start cs else c ∷ cs
-
-abbrev pub trim_end : List ℕ → List ℕ
-trim_end text = reverse (trim_start (reverse text))
-
-abbrev pub trim : List ℕ → List ℕ
-trim text = trim_end (trim_start text)
 
 -- whether the text begins with this byte
 abbrev pub begins_with : ℕ → List ℕ → Bool
@@ -86,12 +62,36 @@ squeeze (c ∷ cs) = if (c == 32) && begins_with 32 cs then squeeze cs else c �
 abbrev pub tidy : List ℕ → List ℕ
 tidy text = squeeze (trim text)
 
+-- A colon in front of all is taken off, and leads to the main namespace.
+abbrev pub open_colon : List ℕ → Namespace → Namespace × List ℕ
+open_colon [] default = (default, [])
+open_colon (c ∷ cs) default = if c == 58 then (Main, trim_start cs) else (default, c ∷ cs)
+
 -- what stands before the first colon, and what stands behind it
 abbrev pub cut_at_colon : List ℕ → Option (List ℕ × List ℕ)
 cut_at_colon [] = None
 cut_at_colon (c ∷ cs) = if c == 58 then Some ([], cs) else option_map (λ parts. (c ∷ parts.0, parts.1)) (cut_at_colon cs)
 
--- A byte that no name holds: one of `# < > [ ] { | }`, a control byte, or 127.
+-- the namespaces that have a prefix
+unfoldable pub prefixed_namespaces : List Namespace
+prefixed_namespaces =
+    Talk ∷ User ∷ UserTalk ∷ Project ∷ ProjectTalk ∷ File ∷ FileTalk ∷ MediaWiki ∷ MediaWikiTalk
+    ∷ Template ∷ TemplateTalk ∷ Help ∷ HelpTalk ∷ Category ∷ CategoryTalk ∷ Module ∷ ModuleTalk ∷ []
+
+-- the namespace whose prefix this is, in any case of its letters
+unfoldable pub namespace_named : List ℕ → Option Namespace
+namespace_named text = find (λ ns. str_eq_ignore_ascii_case text (prefix_of ns)) prefixed_namespaces
+
+-- the namespace that the text before the first colon names, with what stands behind the colon
+abbrev pub cut_prefix : List ℕ → Option (Namespace × List ℕ)
+cut_prefix text =
+    option_and_then (λ parts. option_map (λ ns. (ns, parts.1)) (namespace_named (tidy parts.0))) (cut_at_colon text)
+
+-- Where the text names no namespace, the default holds for the whole of it.
+abbrev pub choose_namespace : List ℕ → Namespace → Namespace × List ℕ
+choose_namespace text default = unwrap_or (cut_prefix text) (default, text)
+
+-- A byte that no name holds: one of `# < > [ ] { | }`, a byte below 32, or 127.
 abbrev pub is_forbidden : ℕ → Bool
 is_forbidden c = nat_lt c 32 || (c == 127) || list_any (λ b. c == b) (codes "#<>[]{|}")
 
@@ -99,7 +99,7 @@ is_forbidden c = nat_lt c 32 || (c == 127) || list_any (λ b. c == b) (codes "#<
 abbrev pub is_bad : List ℕ → Bool
 is_bad name = not (is_utf8 name) || begins_with 58 name || list_any is_forbidden name
 
--- A first letter of ASCII is a capital.
+-- A first letter of ASCII becomes a capital.
 abbrev pub capitalised : List ℕ → List ℕ
 capitalised [] = []
 capitalised (c ∷ cs) = to_ascii_uppercase c ∷ cs
@@ -112,23 +112,14 @@ named ns name =
     else if nat_lt 255 (length name) then Err TooLong
     else Ok (record { ns = ns; name = capitalised name })
 
--- the namespace that the text before the first colon names, with what stands behind the colon
-abbrev pub cut_prefix : List ℕ → Option (Namespace × List ℕ)
-cut_prefix text =
-    option_and_then (λ parts. option_map (λ ns. (ns, parts.1)) (namespace_named (tidy parts.0))) (cut_at_colon text)
-
--- Where the text chooses no namespace, the default holds for the whole of it.
-abbrev pub choose_namespace : List ℕ → Namespace → Namespace × List ℕ
-choose_namespace text default = unwrap_or (cut_prefix text) (default, text)
-
--- A colon in front of all leads to the main namespace.
-abbrev pub open_colon : List ℕ → Namespace → Namespace × List ℕ
-open_colon [] default = (default, [])
-open_colon (c ∷ cs) default = if c == 58 then (Main, trim_start cs) else (default, c ∷ cs)
-
--- the title that a text is read as, under a default namespace, or why it is none
+-- The title that a text is read as under a default namespace, or why it is none: underscores are spaces and the ends are
+-- trimmed, a colon in front is taken off, a prefix chooses the namespace, and what is left, tidied, is the name.
 unfoldable pub title_of : List ℕ → Namespace → Result Title TitleFault
 title_of text default =
     let opened = open_colon (trim (spaced text)) default in
     let chosen = choose_namespace opened.1 opened.0 in
     named chosen.0 (tidy chosen.1)
+
+-- Any title that the text is read as is read again from its own text, with the main namespace as default.
+abbrev pub ReadsBack : List ℕ → Namespace → Type 0
+ReadsBack text default = (title : Title) → title_of text default ≡ Ok title → title_of (title_text title) Main ≡ Ok title

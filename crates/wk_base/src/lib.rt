@@ -23,7 +23,7 @@ pub use list::List;
 use std::alloc::AllocError;
 pub use steps::Steps;
 pub use title::{Namespace, Title};
-pub use title_read::TitleFault;
+pub use title_read::{TitleFault, text_reads_back};
 
 /// Memory ran out. Nothing else is known of a call that answers this, beside what its contract says.
 #[derive(Clone, Copy, Debug, PartialEq, Eq)]

@@ -1,10 +1,11 @@
 //! Reading a text as the title of a page (MediaWiki, Manual:Page title).
 //!
 //! An underscore counts as a space throughout, so the functions here say what they do with the `spaced` text.
-ghost use Rattle.std.specs.Prelude.{◌≡◌, ◌⊎◌, ◌==◌, ◌&&◌, ◌<◌, ◌↔◌, IsTrue, List, ℕ, map, find, Ok, Err, Result, option_map, OkIff, IfOk, IfErr};
+ghost use Rattle.std.specs.Prelude.{◌≡◌, ◌⊎◌, ◌==◌, ◌&&◌, option_map, IfOk, IfErr};
 ghost use Rattle.std.specs.List.{list_any};
 ghost use Rattle.std.specs.Str.{is_utf8, str_eq_ignore_ascii_case};
-ghost use Rattle.wk_base.specs.Titles.{title_of, named, open_colon, cut_prefix, namespace_named, cut_at_colon, is_white, is_forbidden, is_bad, as_space, spaced, trim_start, trim_end, trim, begins_with, squeeze, tidy, capitalised, prefixed_namespaces};
+ghost use Rattle.wk_base.specs.Space.{is_white, trim_start, trim_end, trim};
+ghost use Rattle.wk_base.specs.Titles.{ReadsBack, title_of, named, open_colon, cut_prefix, namespace_named, cut_at_colon, is_forbidden, is_bad, as_space, spaced, begins_with, squeeze, tidy, capitalised};
 
 use crate::{Bytes, Namespace, NoMemory, Title};
 use std::alloc::{AllocError, Global};
@@ -48,6 +49,12 @@ impl Title {
         named(ns, tidied(alloc, rest)?)
     }
 }
+
+/// A law on titles, with nothing to run: the text of a title that was read is read as that title, with the main
+/// namespace as default. A title that is made by hand may read otherwise, as the name `Talk:x` in the main namespace does.
+pub fn text_reads_back(text: &[u8], default: Namespace)
+    ensures { ReadsBack text.now default }
+{}
 
 /// The white space at the start is left out.
 fn trim_start(mut text: &[u8]) -> &[u8]
@@ -161,8 +168,9 @@ fn is_spelled(mut prefix: &[u8], mut text: &[u8]) -> bool
     while let [first, rest @ ..] = text {
         if !is_doubled(*first, rest) {
             match prefix {
-                [wanted, others @ ..] if wanted.eq_ignore_ascii_case(&as_space(*first)) => prefix =
-                    others,
+                [wanted, others @ ..] if wanted.eq_ignore_ascii_case(&as_space(*first)) => {
+                    prefix = others;
+                }
                 _ => return false,
             }
         }

@@ -1,5 +1,5 @@
 //! Titles as MediaWiki's rules for them read (Manual:Page title, Help:Namespaces), in this profile.
-use crate::{Namespace, Title, TitleFault};
+use crate::{Namespace, Title, TitleFault, text_reads_back};
 use std::alloc::Global;
 use std::process::Abort;
 use std::test::Fail;
@@ -340,6 +340,9 @@ fn refuse_rows(rt: &impl Abort, alloc: Global, rows: &[&[u8]], fault: TitleFault
 
 #[test]
 fn titles_are_read_and_written(rt: HostRuntime) -> Result<(), Fail> {
+    assert_eq!(rt; Namespace::Main.prefix(), "");
+    assert_eq!(rt; Namespace::UserTalk.prefix(), "User talk");
+    text_reads_back(b"user_talk:x", Namespace::Main);
     read_rows(&rt, rt.alloc(), &SPELLINGS)?;
     read_rows(&rt, rt.alloc(), &PREFIXES)?;
     refuse_rows(&rt, rt.alloc(), &EMPTY, TitleFault::Empty);

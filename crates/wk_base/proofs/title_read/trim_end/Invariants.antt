@@ -1,5 +1,6 @@
 use Rattle.std.proofs.Common.{◌≡◌, length}
-use Rattle.wk_base.specs.Titles.{spaced, trim_end}
+use Rattle.wk_base.specs.Space.{trim_end}
+use Rattle.wk_base.specs.Titles.{spaced}
 use Rattle.wk_base.proofs.title_read.trim_end.Given as goal
 
 abbrev pub invariant-loop-text : goal.invariant-loop-text

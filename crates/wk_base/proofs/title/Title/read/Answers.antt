@@ -1,6 +1,3 @@
-use Rattle.std.proofs.Common.{◌≡◌, Result}
-use Rattle.wk_base.specs.declared.title.Title.{Title}
-use Rattle.wk_base.specs.declared.title_read.TitleFault.{TitleFault}
 use Rattle.wk_base.proofs.TitleReading.{reads, if_ok, if_err}
 use Rattle.wk_base.proofs.title.Title.read.Goals as goal
 
