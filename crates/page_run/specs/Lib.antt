@@ -1,0 +1,11 @@
+pub mod Run
+pub mod Part
+pub mod Outcome
+pub mod State
+pub mod Perform
+pub mod Events
+pub mod Replies
+pub mod Charges
+pub mod Walk
+pub mod Examples
+pub mod Jumps

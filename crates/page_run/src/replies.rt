@@ -1,0 +1,42 @@
+//! What more replies make of a run that waits at a question, and of one that is over.
+ghost use Rattle.page_run.specs.Run.{Meant};
+ghost use Rattle.page_run.specs.Replies.{WaitingIsAsking, EndStands, SpentStands, ComputedIsGiven, UnansweredWaits, AgreeingIsEnough};
+
+/// A run that waits at a question is, whatever replies come, given or computed, one that asks this question at this
+/// moment. So a suspended run and its definition agree without running anything again.
+#[tactic(auto, using(crate::proofs::ReplyLaws::waiting_is_asking))]
+pub fn waiting_is_asking<M, H, T, Q, A, O>()
+    ensures { (meant : Meant M H T Q A O) → WaitingIsAsking meant }
+{}
+
+/// A run that has ended before any question ends so, whatever replies come.
+#[tactic(auto, using(crate::proofs::ReplyLaws::end_stands))]
+pub fn end_stands<M, H, T, Q, A, O>()
+    ensures { (meant : Meant M H T Q A O) → EndStands meant }
+{}
+
+/// A run that is spent before any question is spent so, whatever replies come.
+#[tactic(auto, using(crate::proofs::ReplyLaws::spent_stands))]
+pub fn spent_stands<M, H, T, Q, A, O>()
+    ensures { (meant : Meant M H T Q A O) → SpentStands meant }
+{}
+
+/// A reply that is computed is the same as that reply given in advance. So a run whose replies are computed is the run
+/// that is begun anew for each reply, with those so far in its list.
+#[tactic(auto, using(crate::proofs::ReplyLaws::computed_is_given))]
+pub fn computed_is_given<M, H, T, Q, A, O>()
+    ensures { (meant : Meant M H T Q A O) → ComputedIsGiven meant }
+{}
+
+/// Where no reply can be computed to the question at which a run waits, it waits.
+#[tactic(auto, using(crate::proofs::ReplyLaws::unanswered_waits))]
+pub fn unanswered_waits<M, H, T, Q, A, O>()
+    ensures { (meant : Meant M H T Q A O) → UnansweredWaits meant }
+{}
+
+/// Two ways to compute replies that agree wherever no more steps and nodes are left than at the start are one. This is
+/// what makes runs inside runs well founded: an inner run begins with less.
+#[tactic(auto, using(crate::proofs::ReplyLaws::agreeing_is_enough))]
+pub fn agreeing_is_enough<M, H, T, Q, A, O>()
+    ensures { (meant : Meant M H T Q A O) → AgreeingIsEnough meant }
+{}
