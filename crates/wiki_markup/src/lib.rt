@@ -25,3 +25,6 @@ mod words;
 pub use marked::{Marked, Mode, Node, NodeKind, ShownText, Span};
 pub use reading::markup;
 pub use scan::shown;
+
+#[cfg(test)]
+mod tests;
