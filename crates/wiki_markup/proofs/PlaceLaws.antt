@@ -1,13 +1,14 @@
 -- What a scan by places rests on: readers, searches and pieces, one byte on.
-use Rattle.std.proofs.Common.{◌≡◌, ℕ, suc, zero, ◌+◌, ◌-◌, ◌≤◌, ◌<◌, Bool, true, false, nat_eq, List, [], ◌∷◌, ◌++◌, length, take, drop, get_or, Option, Some, None, cond, refl, sym, ◌∙◌, ap, subst, arith, add-one, append-nil, append_assoc}
-use Rattle.std.proofs.lemmas.Bool.{eqb-true}
-use Rattle.std.proofs.lemmas.List.{drop_more, drop-drop, get_or-drop, length-drop, length-take}
+use Rattle.std.proofs.Common.{◌≡◌, ℕ, suc, zero, ◌+◌, ◌-◌, ◌≤◌, ◌<◌, Bool, true, false, nat_eq, nat_le, ◌&&◌, [], ◌∷◌, ◌++◌, length, take, drop, get_or, Some, None, cond, refl, sym, ◌∙◌, ap, subst, arith, add-one, append-nil, append_assoc}
+use Rattle.std.proofs.lemmas.Bool.{eqb-true, leb-true}
+use Rattle.std.proofs.lemmas.List.{drop_more, drop-drop, get_or-drop, length-drop}
 use Rattle.std.proofs.Math.Seq.{drop-cons}
 use Rattle.wiki_markup.proofs.PassSteps.{drop_all}
 use Rattle.wiki_markup.specs.declared.marked.Mode.{Mode}
+use Rattle.wiki_markup.specs.declared.marked.Mode.TheVariants.{Direct, Transcluded}
 use Rattle.wiki_markup.specs.declared.rules.Taken.{Taken}
 use Rattle.wiki_markup.specs.declared.rules.Taken.TheVariants.{Kept as TakenKept, Plain as TakenPlain, Removed as TakenRemoved}
-use Rattle.wiki_markup.specs.Shown.{Text, Left, or_else, then_on, small, is_blank, behind, past, behind_next, before_next, comment, more_comments, comment_line, attributes, ends_name, after_name, Name, closing, literal_tag, literal, at_place, Given, Plain, left_of, piece_of, Piece, pieces}
+use Rattle.wiki_markup.specs.Shown.{Text, Left, or_else, then_on, small, is_blank, behind, past, behind_next, before_next, comment, more_comments, comment_line, attributes, ends_name, after_name, Name, Nowiki, Pre, closing, literal_tag, literal, at_place, Given, Plain, left_of, piece_of, pieces, self_closed, self_closed_include, included, tag, opening, whole}
 use Rattle.wiki_markup.specs.Places.{given_at, place_of}
 
 -- Where something stands nowhere from a place on, it stands nowhere from a later place on: a search that found
@@ -242,6 +243,29 @@ pub literal_open : (name : Name) (t r : Text) (closed : Bool) → literal_tag na
     behind_next (closing name) r ≡ None → literal name t ≡ Some (Plain r)
 unfolding literal
 literal_open name t r closed e f g = rw (e, f, g) refl
+
+-- Each rule but that on lines of comments begins with a `<`.
+no_begin : (b : ℕ) → (b ≡ 60 → ⊥) → nat_eq 60 (small b) ≡ false
+no_begin b n = differs 60 (small b) (go (nat_le 65 b) (nat_le b 90) refl)
+  where
+    go : (t u : Bool) → nat_le 65 b ≡ t → 60 ≡ cond (t && u) (b + 32) b → ⊥
+    go true true e h = omega (arith, leb-true 65 b e, h)
+    go true false e h = n (sym h)
+    go false u e h = n (sym h)
+
+no_literal : (name : Name) (b : ℕ) (bs : Text) → (b ≡ 60 → ⊥) → literal name (b ∷ bs) ≡ None
+unfolding literal literal_tag behind
+no_literal name b bs n = rw (no_begin b n, literal_tag) refl
+
+plain_byte : (mode : Mode) (part : Bool) (b : ℕ) (bs : Text) → (b ≡ 60 → ⊥) → at_place mode part false (b ∷ bs) bs ≡ Plain bs
+unfolding at_place comment self_closed_include self_closed included tag opening closing whole behind
+plain_byte Direct part b bs n = rw (no_begin b n, no_literal Nowiki b bs n, no_literal Pre b bs n) refl
+plain_byte Transcluded true b bs n = rw (no_begin b n, no_literal Nowiki b bs n, no_literal Pre b bs n) refl
+plain_byte Transcluded false b bs n = rw (no_begin b n, no_literal Nowiki b bs n, no_literal Pre b bs n) refl
+
+pub plain_at : (mode : Mode) (part : Bool) (s : Text) (at : ℕ) → at < length s → (get_or s at 0 ≡ 60 → ⊥) →
+    at_place mode part false (drop at s) (drop (at + 1) s) ≡ Plain (drop (at + 1) s)
+plain_at mode part s at h n = rw (drop_more s at 0 h) (plain_byte mode part (get_or s at 0) (drop (at + 1) s) n)
 
 -- a line of comments
 pub line_begins : (s : Text) (at q p : ℕ) → past is_blank (drop at s) ≡ drop q s → comment (drop q s) ≡ Some (drop p s) →

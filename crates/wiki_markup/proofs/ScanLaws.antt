@@ -1,12 +1,12 @@
 -- The loops of the scan: pieces are put one after the other.
-use Rattle.std.proofs.Common.{◌≡◌, ℕ, suc, zero, ◌+◌, ◌-◌, ◌≤◌, ◌<◌, Bool, true, false, nat_eq, List, [], ◌∷◌, ◌++◌, length, take, drop, get_or, Option, Some, None, cond, refl, sym, ◌∙◌, ap, arith, append-nil, append_assoc, length-append}
+use Rattle.std.proofs.Common.{◌≡◌, ℕ, suc, zero, ◌+◌, ◌-◌, ◌≤◌, ◌<◌, Bool, true, false, nat_eq, List, [], ◌∷◌, ◌++◌, length, drop, get_or, Some, None, refl, sym, ◌∙◌, ap, arith, append-nil, append_assoc, length-append}
 use Rattle.wiki_markup.proofs.PassSteps.{drop_all}
 use Rattle.wiki_markup.proofs.PlaceLaws.{pieces_step}
 use Rattle.wiki_markup.specs.declared.marked.Mode.{Mode}
 use Rattle.wiki_markup.specs.declared.marked.Span.{Span}
 use Rattle.wiki_markup.specs.declared.marked.ShownText.{ShownText}
 use Rattle.wiki_markup.specs.declared.rules.Taken.{Taken}
-use Rattle.wiki_markup.specs.Shown.{Text, Left, behind_next, before_next, opening, closing, Onlyinclude, at_place, piece_of, Piece, KeptPiece, PlainPiece, Cut, pieces, parts, pieces_of, shown_bytes, kept_spans, cut_places, joined_pieces, shown_of}
+use Rattle.wiki_markup.specs.Shown.{Text, behind_next, before_next, opening, closing, Onlyinclude, at_place, piece_of, Piece, KeptPiece, PlainPiece, Cut, pieces, parts, pieces_of, shown_bytes, kept_spans, cut_places, shown_of}
 use Rattle.wiki_markup.specs.Places.{given_at, place_of, put_piece, put_pieces}
 
 put_step : (p : Piece) (ps : List Piece) (w : ShownText) → put_pieces (p ∷ ps) w ≡ put_pieces ps (put_piece p w)

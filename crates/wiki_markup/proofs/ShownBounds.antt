@@ -1,8 +1,7 @@
 -- What is shown has its spans and cuts in order, and no more bytes than its text.
-use Rattle.std.proofs.Common.{◌≡◌, ℕ, suc, zero, ◌+◌, ◌-◌, ◌≤◌, Bool, true, false, nat_eq, ◌&&◌, List, [], ◌∷◌, ◌++◌, length, take, Some, None, cond, arith, length-append}
+use Rattle.std.proofs.Common.{◌≡◌, ℕ, suc, zero, ◌+◌, ◌-◌, ◌≤◌, Bool, true, false, nat_eq, List, [], ◌∷◌, ◌++◌, length, take, Some, None, cond, arith, length-append}
 use Rattle.std.proofs.lemmas.List.{length-take}
 use Rattle.wiki_markup.specs.declared.marked.Mode.{Mode}
-use Rattle.wiki_markup.specs.declared.marked.Mode.TheVariants.{Direct, Transcluded}
 use Rattle.wiki_markup.specs.Shown.{Text, Left, then_on, or_else, behind, past, is_white, small, behind_next, before_next, letters_of, Name, Onlyinclude, opening, closing, Given, Kept, Plain, Removed, Piece, KeptPiece, PlainPiece, Cut, at_place, piece_of, left_of, pieces, parts, has_parts, pieces_of, shown_bytes, kept_spans, cut_places, shown_of}
 use Rattle.wiki_markup.specs.Order.{Ordered, Rising}
 

@@ -1,5 +1,5 @@
 -- A place in a text stands for what is left of the text from there.
-use Rattle.std.specs.Prelude.{◌≡◌, ℕ, zero, ◌≤◌, Bool, false, List, [], ◌∷◌, ◌++◌, ◌+◌, length, drop, Option, Some, None}
+use Rattle.std.specs.Prelude.{◌≡◌, ℕ, false, List, [], ◌∷◌, ◌++◌, ◌+◌, length, drop, Option, Some, None}
 use Rattle.wiki_markup.specs.declared.marked.ShownText.{ShownText}
 use Rattle.wiki_markup.specs.declared.tags.Name.{Name}
 use Rattle.wiki_markup.specs.declared.tags.Name.TheVariants.{Nowiki, Pre}

@@ -132,11 +132,17 @@ fn letters(
     Ok(out)
 }
 
-/// The pairing of a shown text, as nodes in preorder.
+/// The pairing of a shown text: its braces and brackets paired, each node's parts and their `=`, as nodes in preorder.
+///
+/// Any text that `shown` gives can be passed, and any other whose spans and cuts are in order. Only want of memory is an
+/// error. It takes time in proportion to the text, and its stack doesn't grow with what the text nests. The pairing follows
+/// MediaWiki's manual, "Preprocessor ABNF", "Ideal precedence"; docs/RULES.md says where this profile chooses.
 pub fn markup(alloc: Global, text: &ShownText) -> Result<Marked, NoMemory>
     requires spans { Ordered 0 text.now.kept }
     requires cuts { Rising 0 text.now.cuts }
+    // The nodes are the preorder of what is left where the leftmost closing run is rewritten until there is none.
     ensures paired { IfOk result (λ m. m.nodes ≡ marked_of text.now) }
+    // Parts stand in constructs and parameters, and nothing else does; an `=` stands in a later part, once.
     ensures formed { IfOk result (λ m. IsMarked m.nodes) }
     ensures few { IfOk result (λ m. length m.nodes ≤ length text.now.bytes) }
 {

@@ -81,7 +81,8 @@ fn included(text: &[u8], mode: Mode, part: bool, at: usize) -> Option<usize>
     }
 }
 
-/// What the first rule that applies gives at a place. `line` says whether the byte before is a newline.
+/// What the first rule that applies gives at a place. `line` says whether the byte before is a newline. Elsewhere each
+/// rule begins with a `<`.
 #[tactic(auto, unfolding(crate::specs::Shown::at_place))]
 pub fn at_place(
     text: &[u8],
@@ -97,6 +98,9 @@ pub fn at_place(
     ensures ahead { at < place_of result }
     ensures inside { place_of result ≤ length text.now }
 {
+    if !line && text[at] != b'<' {
+        return Taken::Plain(at + 1);
+    }
     if line {
         if let Some(p) = comment_line(text, at) {
             return Taken::Removed(p);

@@ -171,9 +171,12 @@ fn has_parts(text: &[u8], mode: Mode) -> bool
 
 /// What is shown of a page's text: in Direct mode for the page that is rendered, in Transcluded mode for a template.
 ///
-/// Comments are removed, `nowiki` and `pre` are kept as written, and the include tags decide what else is removed.
+/// Comments are removed, `nowiki` and `pre` are kept as written, and the include tags decide what else is removed: see
+/// MediaWiki's manual, "Help:Formatting" and "Help:Templates", and docs/RULES.md for where this profile chooses. Any bytes
+/// can be passed; only want of memory is an error. It takes time in proportion to the text.
 pub fn shown(alloc: Global, text: &[u8], mode: Mode) -> Result<ShownText, NoMemory>
     ensures shown { IfOk result (λ s. s ≡ shown_of mode text.now) }
+    // `markup` takes such a text.
     ensures spans { IfOk result (λ s. Ordered 0 s.kept) }
     ensures cuts { IfOk result (λ s. Rising 0 s.cuts) }
     ensures few { IfOk result (λ s. length s.bytes ≤ length text.now) }

@@ -1,5 +1,5 @@
-use Rattle.std.proofs.Common.{arith, false, length, refl}
-use Rattle.wiki_markup.specs.Shown.{closing, behind, behind_next}
+use Rattle.std.proofs.Common.{arith, length, refl}
+use Rattle.wiki_markup.specs.Shown.{closing, behind}
 use Rattle.wiki_markup.proofs.PlaceLaws.{next_end, closing_back}
 use Rattle.wiki_markup.proofs.literals.last_closing.Goals as goal
 

@@ -1,4 +1,4 @@
-use Rattle.std.proofs.Common.{◌≡◌, ◌∙◌, sym, ap, arith, subst, length, List, ℕ, []}
+use Rattle.std.proofs.Common.{◌≡◌, ◌∙◌, sym, ap, arith, subst, length}
 use Rattle.wiki_markup.specs.declared.marked.ShownText.{ShownText}
 use Rattle.wiki_markup.specs.Shown.{shown_of, pieces_of}
 use Rattle.wiki_markup.specs.Places.{put_pieces}

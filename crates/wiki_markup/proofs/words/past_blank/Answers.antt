@@ -1,4 +1,4 @@
-use Rattle.std.proofs.Common.{◌≡◌, ◌∙◌, sym, arith}
+use Rattle.std.proofs.Common.{◌∙◌, sym, arith}
 use Rattle.wiki_markup.specs.Shown.{is_blank}
 use Rattle.wiki_markup.proofs.PlaceLaws.{past_goes, past_stops, past_all}
 use Rattle.wiki_markup.proofs.words.past_blank.Goals as goal

@@ -1,4 +1,4 @@
-use Rattle.std.proofs.Common.{◌≡◌, ◌∙◌, arith, ap, sym, subst, ℕ}
+use Rattle.std.proofs.Common.{arith}
 use Rattle.wiki_markup.proofs.ScanLaws.{show_more, show_done}
 use Rattle.wiki_markup.proofs.scan.Showing.show_pieces.Goals as goal
 
