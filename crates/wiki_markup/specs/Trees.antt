@@ -1,4 +1,4 @@
--- The tree of a list of items, and its preorder.
+-- The tree of a list of items, and its preorder. MediaWiki's manual, "Preprocessor ABNF", on parts and their names.
 use Rattle.std.specs.Prelude.{ℕ, suc, zero, ◌+◌, Bool, true, false, List, [], ◌∷◌, ◌++◌, cond}
 use Rattle.wiki_markup.specs.declared.cells.Shape.TheVariants.{Double, Triple, Square}
 use Rattle.wiki_markup.specs.declared.marked.Node.{Node}

@@ -1,5 +1,5 @@
 //! The first rule that applies at a place.
-ghost use Rattle.std.specs.Prelude.{◌≡◌, ◌+◌, ◌<◌, ◌≤◌, Option, IfSome, length, drop};
+ghost use Rattle.std.specs.Prelude.{◌≡◌, ◌+◌, ◌<◌, ◌≤◌, false, Option, IfSome, length, drop};
 ghost use Rattle.wiki_markup.specs.Shown.{included as included_lem, self_closed_include as self_closed_include_lem, at_place as at_place_lem};
 ghost use Rattle.wiki_markup.specs.Places.{left_at, given_at, place_of, AreLastEnds};
 
@@ -33,13 +33,12 @@ fn self_closed_include(text: &[u8], at: usize) -> Option<usize>
 }
 
 #[tactic(auto, unfolding(crate::specs::Shown::included))]
-fn included_direct(text: &[u8], part: bool, at: usize) -> Option<usize>
+fn included_direct(text: &[u8], at: usize) -> Option<usize>
     requires { at ≤ length text.now }
-    ensures same { included_lem Mode.Direct part (drop at text.now) ≡ left_at text.now result }
+    ensures same { included_lem Mode.Direct false (drop at text.now) ≡ left_at text.now result }
     ensures ahead { IfSome result (λ p. at < p) }
     ensures inside { IfSome result (λ p. p ≤ length text.now) }
 {
-    let _ = part;
     if let Some(p) = tag(text, at, Name::Noinclude) {
         return Some(p);
     }
@@ -68,7 +67,8 @@ fn included_transcluded(text: &[u8], part: bool, at: usize) -> Option<usize>
     tag(text, at, Name::Onlyinclude)
 }
 
-/// What the rules on include tags remove at a place. `part` says whether the text is a part between `onlyinclude` tags.
+/// What the rules on include tags remove at a place: the place behind it. `part` says whether the text is a part between `onlyinclude` tags.
+#[tactic(auto, unfolding(crate::specs::Shown::included))]
 fn included(text: &[u8], mode: Mode, part: bool, at: usize) -> Option<usize>
     requires { at ≤ length text.now }
     ensures same { included_lem mode part (drop at text.now) ≡ left_at text.now result }
@@ -76,7 +76,7 @@ fn included(text: &[u8], mode: Mode, part: bool, at: usize) -> Option<usize>
     ensures inside { IfSome result (λ p. p ≤ length text.now) }
 {
     match mode {
-        Mode::Direct => included_direct(text, part, at),
+        Mode::Direct => included_direct(text, at),
         Mode::Transcluded => included_transcluded(text, part, at),
     }
 }
