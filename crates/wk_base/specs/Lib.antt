@@ -1,2 +1,4 @@
 pub mod Allowances
+pub mod Space
+pub mod Titles
 pub mod formers

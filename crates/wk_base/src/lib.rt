@@ -4,6 +4,7 @@
 //! - `list`: a list that keeps its allocator, seen as the list of its items
 //! - `left`: how much a page may use, and how much of it is left
 //! - `title`: namespaces and titles of pages
+//! - `title_read`: how a text is read as a title
 //! - `steps`: a counter of turns
 //!
 //! Want of memory is the one failure here, and is always `NoMemory`.
@@ -14,6 +15,7 @@ pub mod left;
 pub mod list;
 pub mod steps;
 pub mod title;
+pub mod title_read;
 
 pub use bytes::Bytes;
 pub use left::{Left, Limits};
@@ -21,6 +23,7 @@ pub use list::List;
 use std::alloc::AllocError;
 pub use steps::Steps;
 pub use title::{Namespace, Title};
+pub use title_read::{TitleFault, text_reads_back};
 
 /// Memory ran out. Nothing else is known of a call that answers this, beside what its contract says.
 #[derive(Clone, Copy, Debug, PartialEq, Eq)]
@@ -34,3 +37,5 @@ impl From<AllocError> for NoMemory {
 
 #[cfg(test)]
 mod tests;
+#[cfg(test)]
+mod title_tests;

@@ -1,0 +1,126 @@
+//! The kinds in memory by tables, and each adapter once over the real thing.
+use crate::{
+    FolderShelf, MemoryFile, MemoryShelf, MemorySink, Shelf, ShelfFault, Sink, SinkFailed,
+    StreamSink, can_hold, sorted_names,
+};
+use std::alloc::{AllocError, Global};
+use std::fs;
+use std::test::Fail;
+use wk_base::{Bytes, List, NoMemory};
+
+fn file(alloc: Global, folder: &str, name: &str, text: &str) -> Result<MemoryFile, NoMemory> {
+    let folder = Bytes::of(alloc, folder.as_bytes())?;
+    let name = Bytes::of(alloc, name.as_bytes())?;
+    let bytes = Bytes::of(alloc, text.as_bytes())?;
+    Ok(MemoryFile {
+        folder,
+        name,
+        bytes,
+    })
+}
+
+fn three_files(alloc: Global) -> Result<List<MemoryFile>, NoMemory> {
+    let mut files = List::new(alloc);
+    files.push(file(alloc, "d", "b", "abcdef")?)?;
+    files.push(file(alloc, "e", "b", "")?)?;
+    files.push(file(alloc, "d", "a\u{e9}", "x")?)?;
+    Ok(files)
+}
+
+fn joined(alloc: Global, names: &[String]) -> Result<String, AllocError> {
+    let mut line = String::new(alloc);
+    for name in names {
+        line.push_str(name.as_str())?;
+        line.push_str("/")?;
+    }
+    Ok(line)
+}
+
+#[test]
+fn a_shelf_in_memory_tells_its_files(rt: HostRuntime) -> Result<(), Fail> {
+    let files = three_files(rt.alloc())?;
+    assert!(rt; can_hold(files.as_slice()));
+    let mut fail = List::new(rt.alloc());
+    fail.push(3u64)?;
+    let mut shelf = MemoryShelf::new(rt.alloc(), files, fail);
+    let names = shelf.list(rt.alloc(), "d")?;
+    assert_eq!(rt;
+        joined(rt.alloc(), names.as_slice())?.as_str(),
+        "b/a\u{e9}/"
+    );
+    let names = sorted_names(rt.alloc(), &mut shelf, "d")?;
+    assert_eq!(rt;
+        joined(rt.alloc(), names.as_slice())?.as_str(),
+        "a\u{e9}/b/"
+    );
+    let bytes = shelf.read(rt.alloc(), "d", "b", 4)?;
+    assert_eq!(rt; bytes.as_slice(), b"abcd".as_slice());
+    let failed = shelf.read(rt.alloc(), "d", "b", 4);
+    assert!(rt; matches!(failed, Err(ShelfFault::Failed)));
+    let absent = shelf.read(rt.alloc(), "d", "c", 4)?;
+    assert_eq!(rt; absent.as_slice().len(), 0);
+    Ok(())
+}
+
+#[test]
+fn a_shelf_in_memory_holds_no_two_files_of_one_name(rt: HostRuntime) -> Result<(), Fail> {
+    let mut files = three_files(rt.alloc())?;
+    files.push(file(rt.alloc(), "e", "b", "twice")?)?;
+    assert!(rt; !can_hold(files.as_slice()));
+    let mut wrong = List::new(rt.alloc());
+    wrong.push(MemoryFile {
+        folder: Bytes::of(rt.alloc(), b"d")?,
+        name: Bytes::of(rt.alloc(), b"\xff")?,
+        bytes: Bytes::of(rt.alloc(), b"")?,
+    })?;
+    assert!(rt; !can_hold(wrong.as_slice()));
+    Ok(())
+}
+
+#[test]
+fn a_sink_in_memory_keeps_what_fits(rt: HostRuntime) -> Result<(), Fail> {
+    let mut fail = List::new(rt.alloc());
+    fail.push(1u64)?;
+    let mut sink = MemorySink::new(rt.alloc(), fail, 5)?;
+    assert_eq!(rt; sink.put(b"abc"), Ok(()));
+    assert_eq!(rt; sink.put(b"d"), Err(SinkFailed));
+    assert_eq!(rt; sink.put(b"def"), Err(SinkFailed));
+    assert_eq!(rt; sink.put(b"de"), Ok(()));
+    assert_eq!(rt; sink.put(b""), Ok(()));
+    assert_eq!(rt; sink.bytes(), b"abcde".as_slice());
+    Ok(())
+}
+
+#[test]
+fn a_folder_is_listed_and_read(rt: HostRuntime) -> Result<(), Fail> {
+    fs::create_dir(&rt, "d")?;
+    fs::write(&rt, "d/B.wiki", "two\n")?;
+    fs::write(&rt, "d/A.wiki", "one")?;
+    let mut shelf = FolderShelf::new(rt.alloc(), rt.clone()?);
+    let names = sorted_names(rt.alloc(), &mut shelf, "d")?;
+    assert_eq!(rt;
+        joined(rt.alloc(), names.as_slice())?.as_str(),
+        "A.wiki/B.wiki/"
+    );
+    let bytes = shelf.read(rt.alloc(), "d", "B.wiki", 3)?;
+    assert_eq!(rt; bytes.as_slice(), b"two".as_slice());
+    let gone = shelf.read(rt.alloc(), "d", "C.wiki", 3);
+    assert!(rt; matches!(gone, Err(ShelfFault::Failed)));
+    let none = shelf.list(rt.alloc(), "e");
+    assert!(rt; matches!(none, Err(ShelfFault::Failed)));
+    Ok(())
+}
+
+#[test]
+fn a_stream_takes_a_piece_or_counts_a_fault(rt: HostRuntime) -> Result<(), Fail> {
+    let mut good = StreamSink::new(rt.alloc(), fs::create(&rt, "written")?);
+    assert_eq!(rt; good.put(b"some "), Ok(()));
+    assert_eq!(rt; good.put(b"text"), Ok(()));
+    let written = fs::read_to_string(&rt, "written")?;
+    assert_eq!(rt; written.as_str(), "some text");
+    let mut room = [0u8; 3];
+    let mut full = StreamSink::new(rt.alloc(), room.as_mut_slice());
+    assert_eq!(rt; full.put(b"abcd"), Err(SinkFailed));
+    assert_eq!(rt; full.put(b""), Ok(()));
+    Ok(())
+}
