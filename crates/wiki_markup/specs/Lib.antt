@@ -1,0 +1,10 @@
+pub mod Shown
+pub mod Items
+pub mod Pairing
+pub mod Trees
+pub mod Work
+pub mod Roles
+pub mod Formed
+pub mod Build
+pub mod Order
+pub mod Places
