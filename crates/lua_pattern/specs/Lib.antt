@@ -1,0 +1,6 @@
+pub mod Letters
+pub mod Texts
+pub mod Lawful
+pub mod Single
+pub mod Way
+pub mod Trail
