@@ -1,3 +1,6 @@
 pub mod Laws
 pub mod Closing
 pub mod Places
+pub mod TrailLemmas
+pub mod StepLemmas
+pub mod Loads

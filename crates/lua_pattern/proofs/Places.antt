@@ -62,7 +62,7 @@ behind a subject v (suc n) R at marks none some =
     ∙ ap (λ k. cond (a.starts (drop k subject)) (or_else (R k marks) (downwards a subject (n + suc v) R at marks)) (downwards a subject (n + suc v) R at marks)) p
     ∙ ap (λ o. cond begins (or_else top o) o) (behind a subject v n R at marks none some)
     ∙ elim begins as (λ b. cond b (or_else top (or_else low (R at marks))) (or_else low (R at marks)) ≡ or_else (cond b (or_else top low) low) (R at marks)) [
-      true ↦ sym (else_assoc top low (R at marks))
+      | true ↦ sym (else_assoc top low (R at marks))
       | false ↦ refl
     ]
 
@@ -91,7 +91,7 @@ most_downwards a law x subject (c ∷ cs) R at marks e =
     ap (λ o. or_else o (R at marks)) (most_downwards a law x subject cs R (at + c.size) marks later)
     ∙ sym (behind_first a subject c cs (run a x cs) R at marks f) in
     elim (fits a x c.code) as (λ v. cond v (or_else (most_first a x cs R (at + c.size) marks) (R at marks)) (R at marks) ≡ downwards a subject (cond v (c.size + run a x cs) 0) R at marks) [
-      true ↦ goes
+      | true ↦ goes
       | false ↦ refl
     ]
 

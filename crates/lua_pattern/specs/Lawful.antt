@@ -27,7 +27,7 @@ pub later_are_points : (bs : List ℕ) → later_points bs ≡ point_symbols (dr
 later_are_points [] = refl
 later_are_points (b ∷ bs) =
     elim (goes_on b) as (λ v. cond v (later_points bs) (point b bs ∷ later_points bs) ≡ point_symbols (drop (cond v (suc (later_bytes bs)) 0) (b ∷ bs))) [
-      true ↦ later_are_points bs
+      | true ↦ later_are_points bs
       | false ↦ refl
     ]
 
@@ -41,13 +41,13 @@ later_start_none : (bs : List ℕ) (k : ℕ) → k < later_bytes bs → point_st
 later_start_none [] k lt = absurd (omega (arith, lt))
 later_start_none (b ∷ bs) zero lt =
     elim (goes_on b) as (λ v. 0 < cond v (suc (later_bytes bs)) 0 → not v ≡ false) [
-      true ↦ λ h. refl
+      | true ↦ λ h. refl
       | false ↦ λ h. absurd (omega (arith, h))
     ] lt
 later_start_none (b ∷ bs) (suc k) lt =
     later_start_none bs k
     (elim (goes_on b) as (λ v. suc k < cond v (suc (later_bytes bs)) 0 → k < later_bytes bs) [
-      true ↦ λ h. omega (arith, h)
+      | true ↦ λ h. omega (arith, h)
       | false ↦ λ h. absurd (omega (arith, h))
     ] lt)
 
@@ -55,7 +55,7 @@ later_end : (bs : List ℕ) → point_starts (drop (later_bytes bs) bs) ≡ true
 later_end [] = refl
 later_end (b ∷ bs) =
     elim (goes_on b) as (λ v. goes_on b ≡ v → point_starts (drop (cond v (suc (later_bytes bs)) 0) (b ∷ bs)) ≡ true) [
-      true ↦ λ h. later_end bs
+      | true ↦ λ h. later_end bs
       | false ↦ λ h. ap not h
     ] refl
 

@@ -4,3 +4,4 @@ pub mod Lawful
 pub mod Single
 pub mod Way
 pub mod Trail
+pub mod Search

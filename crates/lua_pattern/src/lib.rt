@@ -4,6 +4,8 @@
 pub mod alphabet;
 pub mod fits;
 pub mod item;
+pub mod passes;
 pub mod steps;
+pub mod trail;
 
 pub use alphabet::{Alphabet, OneByte, OnePoint};

@@ -32,10 +32,16 @@ pub fn symbol_at<A: Alphabet>(subject: &[u8], at: usize) -> Option<(char, usize)
 
 /// How many bytes the symbols take that fit, from a place on. Each comparison takes one of the tries that are left;
 /// where these do not suffice, no further symbol is looked at.
-pub fn count_run<A: Alphabet>(single: &Single, subject: &[u8], at: usize, left: &mut u64) -> Option<usize>
+pub fn count_run<A: Alphabet>(
+    single: &Single,
+    subject: &[u8],
+    at: usize,
+    left: &mut u64,
+) -> Option<usize>
     ensures value { MatchOption result (left.old < compared A.letters single.now (A.letters.symbols (drop at subject.now))) (λ n. (n ≡ run A.letters single.now (A.letters.symbols (drop at subject.now))) × (compared A.letters single.now (A.letters.symbols (drop at subject.now)) ≤ left.old) × (left.new ≡ left.old - compared A.letters single.now (A.letters.symbols (drop at subject.now)))) }
     ensures places { IfSome result (λ n. (rest : Rest) (marks : List ℕ) → most_first A.letters single.now (A.letters.symbols (drop at subject.now)) rest at marks ≡ downwards A.letters subject.now n rest at marks) }
     ensures short { IfSome result (λ n. n ≤ length subject.now - at) }
+    ensures fewer { left.new ≤ left.old }
     ensures paid { IfSome result (λ n. 0 < n → left.new < left.old) }
 {
     let mut place = at;
@@ -95,7 +101,12 @@ pub fn compare(word: &[u8], text: &[u8]) -> (bool, usize)
 }
 
 /// How many bytes a text takes from a place on that closes each mark, if there is one, and how many symbols are compared.
-pub fn close<A: Alphabet>(begin: char, shut: char, subject: &[u8], at: usize) -> (Option<usize>, usize)
+pub fn close<A: Alphabet>(
+    begin: char,
+    shut: char,
+    subject: &[u8],
+    at: usize,
+) -> (Option<usize>, usize)
     ensures value { MatchOption result.0 ((closing begin shut 0 (A.letters.symbols (drop at subject.now)) ≡ None) × (result.1 ≡ length (A.letters.symbols (drop at subject.now)))) (λ n. closing begin shut 0 (A.letters.symbols (drop at subject.now)) ≡ Some (result.1, n)) }
     ensures short { IfSome result.0 (λ n. n ≤ length subject.now - at) }
 {
