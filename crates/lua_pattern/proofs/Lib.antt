@@ -4,3 +4,5 @@ pub mod Places
 pub mod TrailLemmas
 pub mod StepLemmas
 pub mod Loads
+pub mod Ends
+pub mod Starts

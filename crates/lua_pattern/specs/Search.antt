@@ -5,10 +5,10 @@ use Rattle.lua_pattern.specs.declared.trail.Choice.{Choice}
 use Rattle.lua_pattern.specs.declared.trail.Choice.TheVariants.{Down, Up}
 use Rattle.lua_pattern.specs.declared.passes.Now.{Now}
 use Rattle.lua_pattern.specs.declared.passes.Now.TheVariants.{At, Back, Spent}
--- use Rattle.lua_pattern.specs.declared.search.Tried.{Tried}
--- use Rattle.lua_pattern.specs.declared.search.Tried.TheVariants as tried
--- use Rattle.lua_pattern.specs.declared.search.Met.{Met}
--- use Rattle.lua_pattern.specs.declared.search.Met.TheVariants as met
+use Rattle.lua_pattern.specs.declared.search.Tried.{Tried}
+use Rattle.lua_pattern.specs.declared.search.Tried.TheVariants as tried
+use Rattle.lua_pattern.specs.declared.search.Met.{Met}
+use Rattle.lua_pattern.specs.declared.search.Met.TheVariants as met
 use Rattle.lua_pattern.specs.Letters.{Letters}
 use Rattle.lua_pattern.specs.Way as way
 use Rattle.lua_pattern.specs.Way.{Outcome, Hit, Miss, costs, or_else, tries, Answer, answer_tries}
@@ -29,6 +29,18 @@ Follows a items subject outcome left (At i at) left_now kept =
     (left_now ≤ left) × (outcome ≡ costs (left - left_now) (from_here a items subject (At i at) kept))
 Follows a items subject outcome left Back left_now kept =
     (left_now ≤ left) × (outcome ≡ costs (left - left_now) (from_here a items subject Back kept))
+
+-- what a search at one start says of the outcome: with a match its end and its marks, and how many tries are left
+abbrev pub Gives : Outcome → ℕ → Tried → ℕ → List ℕ → Type 0
+Gives outcome left (tried.Hit end) left_now marks = (left_now ≤ left) × (outcome ≡ Hit end marks (left - left_now))
+Gives outcome left tried.Miss left_now marks = (left_now ≤ left) × (outcome ≡ Miss (left - left_now))
+Gives outcome left tried.Spent left_now marks = left < tries outcome
+
+abbrev pub Meets : Answer → ℕ → Met → ℕ → List ℕ → Type 0
+Meets answer left (met.Hit start end) left_now marks =
+    (left_now ≤ left) × (answer ≡ way.At start end marks (left - left_now))
+Meets answer left met.Nowhere left_now marks = (left_now ≤ left) × (answer ≡ way.Nowhere (left - left_now))
+Meets answer left met.Spent left_now marks = left < answer_tries answer
 
 -- more turns than any item and the rest take without a try
 abbrev pub unit : ℕ → ℕ

@@ -5,6 +5,7 @@ pub mod alphabet;
 pub mod fits;
 pub mod item;
 pub mod passes;
+pub mod search;
 pub mod steps;
 pub mod trail;
 
