@@ -1,7 +1,5 @@
 -- A text that closes each mark, one symbol further on.
-use Rattle.std.proofs.Common.{◌≡◌, ℕ, ◌+◌, Option, Some, None, refl, ap, arith}
-use Rattle.lua_pattern.specs.Letters.{Symbol}
-use Rattle.lua_pattern.specs.Way.{longer}
+use Rattle.std.proofs.Common.{ℕ, ◌+◌, Option, Some, None}
 
 abbrev pub later : ℕ → ℕ → Option (ℕ × ℕ) → Option (ℕ × ℕ)
 later n m None = None

@@ -6,3 +6,8 @@ pub mod StepLemmas
 pub mod Loads
 pub mod Ends
 pub mod Starts
+pub mod Tells
+pub mod Opens
+pub mod Parts
+pub mod Sets
+pub mod Nexts

@@ -1,5 +1,5 @@
 -- The load of a search becomes lighter.
-use Rattle.std.proofs.Common.{◌≡◌, ℕ, zero, suc, ◌+◌, ◌-◌, ◌*◌, ◌<◌, ◌≤◌, ◌∷◌, length, ◌∙◌, ap, arith}
+use Rattle.std.proofs.Common.{◌≡◌, ℕ, zero, suc, ◌+◌, ◌-◌, ◌*◌, ◌<◌, ◌≤◌, ◌∷◌, length, ap, arith}
 use Rattle.std.proofs.Math.Nat.{mul-le-mul_right}
 use Rattle.lua_pattern.specs.declared.passes.Now.{Now}
 use Rattle.lua_pattern.specs.declared.passes.Now.TheVariants.{At}

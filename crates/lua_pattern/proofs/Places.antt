@@ -4,7 +4,7 @@ use Rattle.std.proofs.lemmas.List.{drop-drop}
 use Rattle.lua_pattern.specs.declared.item.Single.{Single}
 use Rattle.lua_pattern.specs.Letters.{Letters, Symbol, IsFirst, IsAlphabet}
 use Rattle.lua_pattern.specs.Single.{fits}
-use Rattle.lua_pattern.specs.Way.{Outcome, Hit, Miss, Rest, costs, or_else, run, most_first}
+use Rattle.lua_pattern.specs.Way.{Outcome, Rest, or_else, run, most_first}
 use Rattle.lua_pattern.specs.Trail.{downwards}
 use Rattle.lua_pattern.proofs.Laws.{else_assoc}
 

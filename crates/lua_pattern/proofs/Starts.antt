@@ -1,5 +1,5 @@
 -- One start after the other.
-use Rattle.std.proofs.Common.{◌≡◌, ℕ, zero, suc, ◌+◌, ◌-◌, ◌<◌, ◌≤◌, List, [], ◌∷◌, refl, sym, ◌∙◌, ap, arith, add_assoc, zero-add}
+use Rattle.std.proofs.Common.{◌≡◌, ℕ, ◌+◌, ◌-◌, ◌<◌, ◌≤◌, List, [], ◌∷◌, refl, sym, ◌∙◌, ap, arith, add_assoc, zero-add}
 use Rattle.lua_pattern.specs.declared.item.Item.{Item}
 use Rattle.lua_pattern.specs.Letters.{Letters, Symbol}
 use Rattle.lua_pattern.specs.Way.{Outcome, Hit, Miss, tries, way, Answer, At, Nowhere, starting, answer_costs, answer_or_else, answer_tries, first_of}

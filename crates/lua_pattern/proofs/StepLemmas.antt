@@ -1,5 +1,5 @@
 -- One step of a search.
-use Rattle.std.proofs.Common.{◌≡◌, ℕ, zero, suc, ◌+◌, ◌-◌, ◌<◌, ◌≤◌, true, cond, List, [], ◌∷◌, length, take, drop, refl, sym, ◌∙◌, ap, subst, arith}
+use Rattle.std.proofs.Common.{◌≡◌, ℕ, ◌+◌, ◌-◌, ◌<◌, ◌≤◌, true, cond, List, [], ◌∷◌, length, take, drop, refl, sym, ◌∙◌, ap, subst, arith}
 use Rattle.std.proofs.Math.Seq.{take-length}
 use Rattle.lua_pattern.specs.declared.item.Single.{Single}
 use Rattle.lua_pattern.specs.declared.item.Item.{Item}
@@ -9,8 +9,8 @@ use Rattle.lua_pattern.specs.declared.passes.Now.{Now}
 use Rattle.lua_pattern.specs.declared.passes.Now.TheVariants.{At, Back, Spent}
 use Rattle.lua_pattern.specs.Letters.{Letters, Symbol}
 use Rattle.lua_pattern.specs.Single.{fits}
-use Rattle.lua_pattern.specs.Way.{Outcome, Miss, Rest, costs, or_else, tries, way, run, compared, most_first, least_first, one, star}
-use Rattle.lua_pattern.specs.Trail.{Kept, tried, chosen, again, one_more, downwards}
+use Rattle.lua_pattern.specs.Way.{Outcome, Miss, Rest, costs, or_else, tries, way, compared, most_first, least_first, one, star}
+use Rattle.lua_pattern.specs.Trail.{Kept, tried, again, one_more, downwards}
 use Rattle.lua_pattern.specs.Search.{from_here, Follows}
 use Rattle.lua_pattern.proofs.Laws.{costs_zero, costs_costs, costs_else, else_assoc, else_miss, tries_costs, tries_else}
 use Rattle.lua_pattern.proofs.Places.{take_down}

@@ -1,5 +1,5 @@
 -- Both alphabets are such.
-use Rattle.std.proofs.Common.{◌≡◌, ℕ, zero, suc, ◌+◌, ◌<◌, ◌≤◌, Bool, true, false, cond, not, List, [], ◌∷◌, length, drop, refl, sym, ◌∙◌, ap, arith}
+use Rattle.std.proofs.Common.{◌≡◌, ℕ, zero, suc, ◌+◌, ◌<◌, ◌≤◌, true, false, cond, not, List, [], ◌∷◌, length, drop, refl, sym, ◌∙◌, ap, arith}
 use Rattle.lua_pattern.specs.Letters.{Symbol, IsFirst, IsAlphabet}
 use Rattle.bstr.specs.Utf8.{decoded, or_replacement}
 use Rattle.lua_pattern.specs.Texts.{point_code, bytes, byte_symbols, points, goes_on, later_bytes, point, later_points, point_symbols, point_starts}

@@ -5,3 +5,6 @@ pub mod Single
 pub mod Way
 pub mod Trail
 pub mod Search
+pub mod Found
+pub mod Read
+pub mod Reads

@@ -1,5 +1,5 @@
 -- The two alphabets: bytes, and the code points of UTF-8.
-use Rattle.std.specs.Prelude.{ℕ, suc, ◌+◌, Bool, true, false, cond, not, ◌&&◌, ◌||◌, ◌==◌, nat_le, List, [], ◌∷◌}
+use Rattle.std.specs.Prelude.{ℕ, suc, Bool, true, cond, not, ◌&&◌, ◌||◌, ◌==◌, nat_le, List, [], ◌∷◌}
 use Rattle.lua_pattern.specs.declared.item.Class.{Class}
 use Rattle.lua_pattern.specs.declared.item.Class.TheVariants as class
 use Rattle.lua_pattern.specs.Letters.{Symbol, Letters}

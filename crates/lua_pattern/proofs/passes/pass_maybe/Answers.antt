@@ -1,4 +1,4 @@
-use Rattle.std.proofs.Common.{◌≡◌, ◌≤◌, ◌+◌, ◌-◌, length}
+use Rattle.std.proofs.Common.{◌+◌, length}
 use Rattle.lua_pattern.proofs.Loads.{maybe_load}
 use Rattle.lua_pattern.proofs.passes.pass_maybe.Goals as goal
 

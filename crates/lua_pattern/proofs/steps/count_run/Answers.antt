@@ -1,4 +1,4 @@
-use Rattle.std.proofs.Common.{◌≡◌, ◌-◌, ℕ, List, false, drop, sym, ◌∙◌}
+use Rattle.std.proofs.Common.{◌≡◌, ◌-◌, false, drop, sym, ◌∙◌}
 use Rattle.lua_pattern.specs.Letters.{Symbol}
 use Rattle.lua_pattern.specs.Single.{fits}
 use Rattle.lua_pattern.specs.Way.{run}

@@ -1,4 +1,4 @@
-use Rattle.std.proofs.Common.{◌≡◌, ◌<◌, false, drop, sym, ◌∙◌, ap, arith}
+use Rattle.std.proofs.Common.{◌<◌, sym, ◌∙◌, ap, arith}
 use Rattle.lua_pattern.proofs.Places.{step_down}
 use Rattle.lua_pattern.proofs.steps.settle.Goals as goal
 
