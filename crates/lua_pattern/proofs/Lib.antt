@@ -11,3 +11,4 @@ pub mod Opens
 pub mod Parts
 pub mod Sets
 pub mod Nexts
+pub mod Inside
