@@ -6,12 +6,13 @@ use Rattle.lua_pattern.specs.declared.item.Item.{Item}
 use Rattle.lua_pattern.specs.declared.item.Item.TheVariants.{One, Star, Plus, Minus, Maybe, Back, Balance, Frontier, Mark, End}
 use Rattle.lua_pattern.specs.Letters.{Letters, Symbol, IsFirst, IsAlphabet}
 use Rattle.lua_pattern.specs.Single.{fits}
-use Rattle.lua_pattern.specs.Way.{Outcome, Hit, Miss, Rest, costs, or_else, one, compared, most_first, star, least_first, maybe, begins, bytes_compared, between_marks, same_again, longer, closing, after_closing, balanced, is_frontier, tested, passed, way}
+use Rattle.lua_pattern.specs.Places.{Repeats, KeepsPlaces}
+use Rattle.lua_pattern.specs.Way.{Answer, At, Nowhere, starting, answer_costs, answer_or_else, first_of, first, Outcome, Hit, Miss, Rest, costs, or_else, one, compared, most_first, star, least_first, maybe, begins, bytes_compared, between_marks, same_again, longer, closing, after_closing, balanced, is_frontier, tested, passed, way}
 
 -- What holds, by P, of each place that a match comes to, and by M of each mark.
 pub record Holds (a : Letters) (subject : List ℕ) (P M : ℕ → Type 0) : Type 0 where
   pub step : (at : ℕ) (c : Symbol) (cs : List Symbol) → P at → a.symbols (drop at subject) ≡ c ∷ cs → P (at + c.size)
-  pub again : (at from to : ℕ) → P at → M from → M to → begins (take (to - from) (drop from subject)) (drop at subject) ≡ true →
+  pub again : (at from to : ℕ) → P at → M from → M to → Repeats subject from to at →
       P (at + length (take (to - from) (drop from subject)))
   pub mark : (at : ℕ) → P at → M at
   pub zero_mark : M 0
@@ -101,7 +102,7 @@ again_holds a subject P M H left right R at marks p m r =
     let word : List ℕ = between_marks subject left right marks in
     costs_holds P M (bytes_compared word (drop at subject)) (cond (begins word (drop at subject)) (R (at + length word) marks) (Miss 0))
     (elim (begins word (drop at subject)) as (λ v. begins word (drop at subject) ≡ v → Holding P M (cond v (R (at + length word) marks) (Miss 0))) [
-      true ↦ λ h. r (at + length word) marks (H.again at (slice_index marks left) (slice_index marks right) p (m left) (m right) h) m
+      | true ↦ λ h. r (at + length word) marks (H.again at (slice_index marks left) (slice_index marks right) p (m left) (m right) h) m
       | false ↦ λ h. tt
     ] refl)
 
@@ -179,3 +180,57 @@ pub way_holds : (a : Letters) → IsAlphabet a → (subject : List ℕ) (P M : �
 way_holds a law subject P M H [] at marks p m = (p, m)
 way_holds a law subject P M H (item ∷ items) at marks p m =
     passed_holds a law subject P M H item (way a items subject) at marks p m (way_holds a law subject P M H items)
+
+-- What holds of a place, and that it is not before another one.
+abbrev pub From : (ℕ → Type 0) → ℕ → ℕ → Type 0
+From P start p = (start ≤ p) × P p
+
+from_holds : (a : Letters) (subject : List ℕ) (P : ℕ → Type 0) → KeepsPlaces a subject P → (start : ℕ) → Holds a subject (From P start) P
+from_holds a subject P K start = record {
+  step = λ at c cs p e. (omega (arith, p.0), K.step at c cs p.1 e);
+  again = λ at from to p mf mt e. (omega (arith, p.0), K.again at from to p.1 mf mt e);
+  mark = λ at p. p.1;
+  zero_mark = K.zero;
+}
+
+abbrev pub AnswerHas : (ℕ → Type 0) → ℕ → Answer → Type 0
+AnswerHas P from (At start end marks n) = (from ≤ start) × (start ≤ end) × P start × P end × AllMarks P marks
+AnswerHas P from (Nowhere n) = Unit {0}
+
+answer_costs_has : (P : ℕ → Type 0) (from n : ℕ) (o : Answer) → AnswerHas P from o → AnswerHas P from (answer_costs n o)
+answer_costs_has P from n (At start end marks m) h = h
+answer_costs_has P from n (Nowhere m) h = tt
+
+answer_else_has : (P : ℕ → Type 0) (from : ℕ) (o q : Answer) → AnswerHas P from o → AnswerHas P from q → AnswerHas P from (answer_or_else o q)
+answer_else_has P from (At start end marks m) q h k = h
+answer_else_has P from (Nowhere m) q h k = answer_costs_has P from m q k
+
+starting_has : (P : ℕ → Type 0) (from start : ℕ) (o : Outcome) → from ≤ start → P start → Holding (From P start) P o → AnswerHas P from (starting start o)
+starting_has P from start (Hit end marks n) le p h = (le, h.0.0, p, h.0.1, h.1)
+starting_has P from start (Miss n) le p h = tt
+
+no_marks : (P : ℕ → Type 0) → P 0 → AllMarks P []
+no_marks P z zero = z
+no_marks P z (suc k) = z
+
+way_has : (a : Letters) → IsAlphabet a → (subject : List ℕ) (P : ℕ → Type 0) → KeepsPlaces a subject P → (items : List Item) (start : ℕ) → P start →
+    Holding (From P start) P (way a items subject start [])
+way_has a law subject P K items start p =
+    way_holds a law subject (From P start) P (from_holds a subject P K start) items start [] (omega arith, p) (no_marks P K.zero)
+
+first_of_has : (a : Letters) → IsAlphabet a → (subject : List ℕ) (P : ℕ → Type 0) → KeepsPlaces a subject P → (items : List Item) (cs : List Symbol) (from start : ℕ) →
+    a.symbols (drop start subject) ≡ cs → from ≤ start → P start → AnswerHas P from (first_of a items subject cs start)
+first_of_has a law subject P K items [] from start e le p =
+    starting_has P from start (way a items subject start []) le p (way_has a law subject P K items start p)
+first_of_has a law subject P K items (c ∷ cs) from start e le p =
+    answer_else_has P from (starting start (way a items subject start [])) (first_of a items subject cs (start + c.size))
+    (starting_has P from start (way a items subject start []) le p (way_has a law subject P K items start p))
+    (first_of_has a law subject P K items cs from (start + c.size) (later a law subject start c cs e) (omega (arith, le)) (K.step start c cs p e))
+
+-- The first match begins, ends and captures at places.
+pub first_has : (a : Letters) → IsAlphabet a → (subject : List ℕ) (P : ℕ → Type 0) → KeepsPlaces a subject P → (anchored : Bool) (items : List Item) (from : ℕ) → P from →
+    AnswerHas P from (first a anchored items subject from)
+first_has a law subject P K true items from p =
+    starting_has P from from (costs 1 (way a items subject from [])) (omega arith) p
+    (costs_holds (From P from) P 1 (way a items subject from []) (way_has a law subject P K items from p))
+first_has a law subject P K false items from p = first_of_has a law subject P K items (a.symbols (drop from subject)) from from refl (omega arith) p

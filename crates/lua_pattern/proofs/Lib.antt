@@ -6,9 +6,10 @@ pub mod StepLemmas
 pub mod Loads
 pub mod Ends
 pub mod Starts
+pub mod Inside
 pub mod Tells
 pub mod Opens
 pub mod Parts
 pub mod Sets
 pub mod Nexts
-pub mod Inside
+pub mod Examples

@@ -5,6 +5,8 @@ pub mod Single
 pub mod Way
 pub mod Trail
 pub mod Search
+pub mod Places
+pub mod Keeps
 pub mod Found
 pub mod Read
 pub mod Reads

@@ -1,6 +1,7 @@
 //! The two alphabets of patterns: bytes, and the code points of UTF-8.
-ghost use Rattle.std.specs.Prelude.{◌≡◌, ◌<◌, ◌≤◌, ◌∷◌, length, drop};
+ghost use Rattle.std.specs.Prelude.{◌≡◌, ℕ, List, ◌<◌, ◌≤◌, ◌∷◌, length, drop, IsUtf8, IsCharBoundary};
 ghost use Rattle.lua_pattern.specs.Letters.{Letters, IsAlphabet};
+ghost use Rattle.lua_pattern.specs.Places.{KeepsPlaces};
 ghost use Rattle.lua_pattern.specs.Texts.{between, bytes, points, is_of, is_among, goes_on, later_bytes};
 
 use crate::item::Class;
@@ -8,8 +9,14 @@ use bstr::decode_lossy;
 use ucd_category::{GeneralCategory, GeneralCategoryGroup};
 
 /// What the symbols of a text are. Its methods are of use to this crate alone.
+///
+/// `is_text` says which bytes are a text, and `is_place` at which bytes of a text its symbols begin and end.
 pub trait Alphabet {
     ghost letters: { Letters };
+
+    ghost is_text: { List ℕ → Type 0 };
+
+    ghost is_place: { List ℕ → ℕ → Type 0 };
 
     /// The first symbol of a text, and how many bytes it takes.
     fn first(text: &[u8]) -> (char, usize)
@@ -25,6 +32,8 @@ pub trait Alphabet {
         ensures { result ≡ letters.has class symbol };
 
     ghost lawful: { IsAlphabet letters };
+
+    ghost keeps: { (subject : List ℕ) → is_text subject → KeepsPlaces letters subject (is_place subject) };
 }
 
 /// Each byte is a symbol; the classes are those of ASCII.
@@ -44,10 +53,17 @@ fn is_between(low: char, high: char, symbol: char) -> bool
 
 impl Alphabet for OneByte {
     ghost use Rattle.lua_pattern.specs.Lawful.{bytes_lawful};
+    ghost use Rattle.lua_pattern.specs.Keeps.{bytes_keep};
 
     ghost letters = { bytes };
 
+    ghost is_text = { λ subject. Unit {0} };
+
+    ghost is_place = { λ subject at. at ≤ length subject };
+
     ghost lawful = { bytes_lawful };
+
+    ghost keeps = { λ subject text. bytes_keep subject };
 
     fn first(text: &[u8]) -> (char, usize) {
         match text {
@@ -127,10 +143,17 @@ fn count_later(text: &[u8]) -> usize
 
 impl Alphabet for OnePoint {
     ghost use Rattle.lua_pattern.specs.Lawful.{points_lawful};
+    ghost use Rattle.lua_pattern.specs.Keeps.{points_keep};
 
     ghost letters = { points };
 
+    ghost is_text = { IsUtf8 };
+
+    ghost is_place = { IsCharBoundary };
+
     ghost lawful = { points_lawful };
+
+    ghost keeps = { points_keep };
 
     #[tactic(auto, using(crate::specs::Lawful::point_cut))]
     fn first(text: &[u8]) -> (char, usize) {

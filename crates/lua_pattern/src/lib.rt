@@ -22,3 +22,6 @@ mod trail;
 pub use alphabet::{Alphabet, OneByte, OnePoint};
 pub use pattern::{Capture, Match, Pattern, Search};
 pub use read::PatternFault;
+
+#[cfg(test)]
+mod tests;

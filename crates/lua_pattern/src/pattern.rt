@@ -2,6 +2,7 @@
 ghost use Rattle.std.specs.Prelude.{◌≡◌, ◌≤◌, length, map, slice_index, IfOk};
 ghost use Rattle.lua_pattern.specs.Way.{first};
 ghost use Rattle.lua_pattern.specs.Found.{searched, kept};
+ghost use Rattle.lua_pattern.specs.Places.{HasPlaces};
 
 use crate::alphabet::Alphabet;
 use crate::item::Item;
@@ -78,7 +79,8 @@ impl<A: Alphabet> Pattern<A> {
         budget: u64,
     ) -> Result<Search, NoMemory>
         requires inside { from ≤ length subject.now }
-        ensures { IfOk result (λ found. searched budget self.now.slots (first A.letters self.now.anchored self.now.items subject.now from) found) }
+        ensures first { IfOk result (λ found. searched budget self.now.slots (first A.letters self.now.anchored self.now.items subject.now from) found) }
+        ensures places { A.is_text subject.now → A.is_place subject.now from → IfOk result (λ found. HasPlaces (A.is_place subject.now) from found) }
     {
         let mut left = budget;
         let mut trail = Trail::new(alloc);
