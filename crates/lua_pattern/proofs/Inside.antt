@@ -1,5 +1,5 @@
 -- Where the places of a match lie.
-use Rattle.std.proofs.Common.{◌≡◌, ℕ, zero, suc, ◌+◌, ◌-◌, ◌<◌, ◌≤◌, Bool, true, false, cond, ◌==◌, Option, Some, None, List, [], ◌∷◌, ◌++◌, length, take, drop, slice_index, refl, sym, ◌∙◌, ap, subst, arith, add_assoc}
+use Rattle.std.proofs.Common.{◌≡◌, ℕ, zero, suc, ◌+◌, ◌-◌, ◌≤◌, Bool, true, false, cond, ◌==◌, Option, Some, None, List, [], ◌∷◌, ◌++◌, length, take, drop, slice_index, refl, sym, ◌∙◌, ap, subst, arith, add_assoc}
 use Rattle.std.proofs.lemmas.List.{drop-drop}
 use Rattle.lua_pattern.specs.declared.item.Single.{Single}
 use Rattle.lua_pattern.specs.declared.item.Item.{Item}

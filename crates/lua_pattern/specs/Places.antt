@@ -1,5 +1,5 @@
 -- Where the places of a match lie.
-use Rattle.std.specs.Prelude.{◌≡◌, ℕ, ◌+◌, ◌-◌, ◌≤◌, Bool, true, List, ◌∷◌, All, length, take, drop}
+use Rattle.std.specs.Prelude.{◌≡◌, ℕ, ◌+◌, ◌-◌, ◌≤◌, true, List, ◌∷◌, All, length, take, drop}
 use Rattle.lua_pattern.specs.declared.pattern.Capture.{Capture}
 use Rattle.lua_pattern.specs.declared.pattern.Capture.TheVariants.{Span, Place}
 use Rattle.lua_pattern.specs.declared.pattern.Search.{Search}

@@ -5,11 +5,12 @@
 //! - `slots`: the marks of the captures
 //! - `pattern`: a pattern, and its first match
 //! - `read`: the reading of a pattern
-//! - `fits`, `steps`, `trail`, `passes`, `search`: the search, without recursion
+//! - `fits`: which symbols a single character fits
+//! - `steps`, `trail`, `passes`, `search`: the search, without recursion
 #![tactic(auto)]
 
 pub mod alphabet;
-mod fits;
+pub mod fits;
 pub mod item;
 mod passes;
 pub mod pattern;

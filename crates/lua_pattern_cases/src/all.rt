@@ -9,11 +9,11 @@ use std::io;
 
 /// What is counted over all pairs of a pattern and a subject.
 #[derive(Drop)]
-pub struct Totals {
-    pub patterns: u64,
-    pub found: u64,
-    pub tries: u64,
-    pub differ: u64,
+pub(crate) struct Totals {
+    pub(crate) patterns: u64,
+    pub(crate) found: u64,
+    pub(crate) tries: u64,
+    pub(crate) differ: u64,
 }
 
 /// The text of a number in a base: `length` digits, each of which is a word.
@@ -123,7 +123,7 @@ fn against_all(
 }
 
 /// Counts over the patterns of so many items or fewer and the subjects of so many bytes or fewer.
-pub fn totals_of(
+pub(crate) fn totals_of(
     alloc: Global,
     items: &[&[u8]],
     most: usize,

@@ -90,7 +90,7 @@ fn show_read<A: Alphabet>(
 }
 
 /// Runs the case of a line, and prints what it gives.
-pub fn run_case(rt: &HostRuntime, line: &str) -> io::Result<()> {
+pub(crate) fn run_case(rt: &HostRuntime, line: &str) -> io::Result<()> {
     let (kind, rest) = line.split_once('\t').unwrap_or(("", ""));
     let (place, rest) = rest.split_once('\t').unwrap_or(("", ""));
     let (pattern, subject) = rest.split_once('\t').unwrap_or(("", ""));

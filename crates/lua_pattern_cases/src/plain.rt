@@ -5,14 +5,14 @@ use lua_pattern::item::{Item, Part, Set, Single};
 use std::alloc::{AllocError, Global};
 
 /// Where a match ends, and the places of the marks that were passed.
-pub type Found = Option<(usize, Vec<usize>)>;
+pub(crate) type Found = Option<(usize, Vec<usize>)>;
 
 /// The items, each of which asks the rest, over the bytes of a subject.
 #[derive(Drop)]
-pub struct Plain<'s> {
-    pub alloc: Global,
-    pub subject: &'s [u8],
-    pub tries: u64,
+pub(crate) struct Plain<'s> {
+    pub(crate) alloc: Global,
+    pub(crate) subject: &'s [u8],
+    pub(crate) tries: u64,
 }
 
 fn is_in_set(set: &Set, symbol: char) -> bool {
@@ -62,7 +62,12 @@ impl<'s> Plain<'s> {
 
     /// The match of the items at a place, behind these marks.
     #[cycle(way)]
-    pub fn way(&mut self, items: &[Item], at: usize, marks: &[usize]) -> Result<Found, AllocError> {
+    pub(crate) fn way(
+        &mut self,
+        items: &[Item],
+        at: usize,
+        marks: &[usize],
+    ) -> Result<Found, AllocError> {
         let [item, rest @ ..] = items else {
             return Ok(Some((at, marks.to_vec(self.alloc)?)));
         };
@@ -97,6 +102,20 @@ impl<'s> Plain<'s> {
                 }
                 self.way(rest, at, marks)
             }
+            other => self.way_of(other, rest, at, marks),
+        }
+    }
+
+    /// The match of an item that is no single character, and of the rest behind it.
+    #[cycle(way)]
+    fn way_of(
+        &mut self,
+        item: &Item,
+        rest: &[Item],
+        at: usize,
+        marks: &[usize],
+    ) -> Result<Found, AllocError> {
+        match item {
             Item::Back(first, last) => {
                 let (from, to) = (mark_at(marks, *first), mark_at(marks, *last));
                 if self.repeats(from, to, at) {
@@ -133,6 +152,7 @@ impl<'s> Plain<'s> {
                     Ok(None)
                 }
             }
+            _ => Ok(None),
         }
     }
 
@@ -218,7 +238,7 @@ impl<'s> Plain<'s> {
 }
 
 /// The first start with a match: where it starts, and what `way` gives there.
-pub fn first(
+pub(crate) fn first(
     plain: &mut Plain,
     anchored: bool,
     items: &[Item],

@@ -9,3 +9,6 @@ decreases-up l = 2 * length l.rest.now + 1
 
 abbrev pub decreases-way : goal.decreases-way
 decreases-way l = 2 * length l.items.now
+
+abbrev pub decreases-way_of : goal.decreases-way_of
+decreases-way_of l = 2 * length l.rest.now + 1
