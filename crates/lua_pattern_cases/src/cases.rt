@@ -5,6 +5,9 @@ use lua_pattern::{Alphabet, Capture, Match, OneByte, OnePoint, Pattern, PatternF
 use std::alloc::{AllocError, Global};
 use std::io;
 
+/// The tries that a case may take.
+const BUDGET: u64 = 10_000_000;
+
 fn digit(byte: u8) -> u8
     ensures { result < 16 }
 {
@@ -52,7 +55,7 @@ fn show_search<A: Alphabet>(
     if subject.len() < from {
         return println!(rt; "no such place");
     }
-    let tries = match pattern.search(rt.alloc(), subject, from, u64::MAX) {
+    let tries = match pattern.search(rt.alloc(), subject, from, BUDGET) {
         Ok(Search::Found(found, tries)) => {
             show_match(rt, &found, tries)?;
             tries
