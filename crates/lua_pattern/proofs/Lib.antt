@@ -1,0 +1,15 @@
+pub mod Laws
+pub mod Closing
+pub mod Places
+pub mod TrailLemmas
+pub mod StepLemmas
+pub mod Loads
+pub mod Ends
+pub mod Starts
+pub mod Inside
+pub mod Tells
+pub mod Opens
+pub mod Parts
+pub mod Sets
+pub mod Nexts
+pub mod Examples

@@ -1,0 +1,28 @@
+-- What a search tells of the first match.
+use Rattle.std.specs.Prelude.{◌≡◌, ℕ, ◌<◌, ◌≤◌, List, map, slice_index}
+use Rattle.lua_pattern.specs.declared.slots.Slot.{Slot}
+use Rattle.lua_pattern.specs.declared.slots.Slot.TheVariants.{Text, Point, Open}
+use Rattle.lua_pattern.specs.declared.pattern.Capture.{Capture}
+use Rattle.lua_pattern.specs.declared.pattern.Capture.TheVariants.{Span, Place}
+use Rattle.lua_pattern.specs.declared.pattern.Match.{Match}
+use Rattle.lua_pattern.specs.declared.pattern.Search.{Search}
+use Rattle.lua_pattern.specs.declared.pattern.Search.TheVariants as search
+use Rattle.lua_pattern.specs.Way.{Answer, At, Nowhere, answer_tries}
+
+-- a capture, by the places of the marks
+abbrev pub kept : List ℕ → Slot → Capture
+kept marks (Text first last) = Span (slice_index marks first) (slice_index marks last)
+kept marks (Open mark) = Place (slice_index marks mark)
+kept marks (Point mark) = Place (slice_index marks mark)
+
+-- the match with its tries
+abbrev pub IsFound : List Slot → Answer → Match → ℕ → Type 0
+IsFound slots (At start end marks n) m tries =
+    (m.start ≡ start) × (m.end ≡ end) × (m.captures ≡ map (kept marks) slots) × (tries ≡ n)
+IsFound slots (Nowhere n) m tries = ⊥
+
+-- It is spent exactly where the tries exceed the budget; else it tells the answer and its tries.
+abbrev pub searched : ℕ → List Slot → Answer → Search → Type 0
+searched budget slots answer (search.Found m n) = (answer_tries answer ≤ budget) × IsFound slots answer m n
+searched budget slots answer (search.NotFound n) = (answer_tries answer ≤ budget) × (answer ≡ Nowhere n)
+searched budget slots answer search.Spent = budget < answer_tries answer

@@ -1,0 +1,12 @@
+pub mod Letters
+pub mod Texts
+pub mod Lawful
+pub mod Single
+pub mod Way
+pub mod Trail
+pub mod Search
+pub mod Places
+pub mod Keeps
+pub mod Found
+pub mod Read
+pub mod Reads

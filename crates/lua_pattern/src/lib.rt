@@ -1,0 +1,28 @@
+//! Lua patterns over bytes and over code points: reading, and the first match with an exact count of tries.
+//!
+//! - `alphabet`: what the symbols of a text are, and which of them a class holds
+//! - `item`: the items of a pattern
+//! - `slots`: the marks of the captures
+//! - `pattern`: a pattern, and its first match
+//! - `read`: the reading of a pattern
+//! - `fits`: which symbols a single character fits
+//! - `steps`, `trail`, `passes`, `search`: the search, without recursion
+#![tactic(auto)]
+
+pub mod alphabet;
+pub mod fits;
+pub mod item;
+mod passes;
+pub mod pattern;
+pub mod read;
+mod search;
+pub mod slots;
+mod steps;
+mod trail;
+
+pub use alphabet::{Alphabet, OneByte, OnePoint};
+pub use pattern::{Capture, Match, Pattern, Search};
+pub use read::PatternFault;
+
+#[cfg(test)]
+mod tests;

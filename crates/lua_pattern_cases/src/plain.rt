@@ -1,0 +1,258 @@
+//! The definition of a match as a plain program: recursion on the items, with no budget. It is for small inputs, and
+//! serves to compare with.
+
+use lua_pattern::item::{Item, Part, Set, Single};
+use std::alloc::{AllocError, Global};
+
+/// Where a match ends, and the places of the marks that were passed.
+pub(crate) type Found = Option<(usize, Vec<usize>)>;
+
+/// The items, each of which asks the rest, over the bytes of a subject.
+#[derive(Drop)]
+pub(crate) struct Plain<'s> {
+    pub(crate) alloc: Global,
+    pub(crate) subject: &'s [u8],
+    pub(crate) tries: u64,
+}
+
+fn is_in_set(set: &Set, symbol: char) -> bool {
+    let mut found = false;
+    for part in set.parts.as_slice() {
+        if let Part::Range(low, high) = *part {
+            found = found || low <= symbol && symbol <= high;
+        }
+    }
+    found != set.negated
+}
+
+fn fits(single: &Single, symbol: char) -> bool {
+    match single {
+        Single::Any => true,
+        Single::Plain(plain) => *plain == symbol,
+        Single::Kind(_, _) => false,
+        Single::Of(set) => is_in_set(set, symbol),
+    }
+}
+
+fn mark_at(marks: &[usize], index: usize) -> usize {
+    match marks.get(index) {
+        Some(mark) => *mark,
+        None => 0,
+    }
+}
+
+impl<'s> Plain<'s> {
+    fn pay(&mut self) {
+        self.tries = self.tries.saturating_add(1);
+    }
+
+    fn symbol(&self, at: usize) -> Option<char> {
+        self.subject.get(at).map(|byte| *byte as char)
+    }
+
+    fn compare(&mut self, single: &Single, at: usize) -> bool {
+        match self.symbol(at) {
+            None => false,
+            Some(symbol) => {
+                self.pay();
+                fits(single, symbol)
+            }
+        }
+    }
+
+    /// The match of the items at a place, behind these marks.
+    #[cycle(way)]
+    pub(crate) fn way(
+        &mut self,
+        items: &[Item],
+        at: usize,
+        marks: &[usize],
+    ) -> Result<Found, AllocError> {
+        let [item, rest @ ..] = items else {
+            return Ok(Some((at, marks.to_vec(self.alloc)?)));
+        };
+        match item {
+            Item::One(single) => {
+                if self.compare(single, at) {
+                    self.way(rest, at.saturating_add(1), marks)
+                } else {
+                    Ok(None)
+                }
+            }
+            Item::Star(single) => {
+                let most = self.run(single, at);
+                self.down(rest, at, most, marks)
+            }
+            Item::Plus(single) => {
+                if self.compare(single, at) {
+                    let low = at.saturating_add(1);
+                    let most = self.run(single, low);
+                    self.down(rest, low, most, marks)
+                } else {
+                    Ok(None)
+                }
+            }
+            Item::Minus(single) => self.up(single, rest, at, marks),
+            Item::Maybe(single) => {
+                if self.compare(single, at) {
+                    let first = self.way(rest, at.saturating_add(1), marks)?;
+                    if first.is_some() {
+                        return Ok(first);
+                    }
+                }
+                self.way(rest, at, marks)
+            }
+            other => self.way_of(other, rest, at, marks),
+        }
+    }
+
+    /// The match of an item that is no single character, and of the rest behind it.
+    #[cycle(way)]
+    fn way_of(
+        &mut self,
+        item: &Item,
+        rest: &[Item],
+        at: usize,
+        marks: &[usize],
+    ) -> Result<Found, AllocError> {
+        match item {
+            Item::Back(first, last) => {
+                let (from, to) = (mark_at(marks, *first), mark_at(marks, *last));
+                if self.repeats(from, to, at) {
+                    self.way(rest, at.saturating_add(to.saturating_sub(from)), marks)
+                } else {
+                    Ok(None)
+                }
+            }
+            Item::Balance(begin, shut) => match self.closed(*begin, *shut, at) {
+                Some(end) => self.way(rest, end, marks),
+                None => Ok(None),
+            },
+            Item::Frontier(set) => {
+                self.pay();
+                let before = if at == 0 { None } else { self.symbol(at - 1) };
+                let here = self.symbol(at).unwrap_or('\0');
+                if !is_in_set(set, before.unwrap_or('\0')) && is_in_set(set, here) {
+                    self.way(rest, at, marks)
+                } else {
+                    Ok(None)
+                }
+            }
+            Item::Mark => {
+                self.pay();
+                let mut more = marks.to_vec(self.alloc)?;
+                more.push(at)?;
+                self.way(rest, at, more.as_slice())
+            }
+            Item::End => {
+                self.pay();
+                if at == self.subject.len() {
+                    self.way(rest, at, marks)
+                } else {
+                    Ok(None)
+                }
+            }
+            _ => Ok(None),
+        }
+    }
+
+    fn run(&mut self, single: &Single, at: usize) -> usize {
+        let mut end = at;
+        for _ in 0..self.subject.len() {
+            if !self.compare(single, end) {
+                return end;
+            }
+            end = end.saturating_add(1);
+        }
+        end
+    }
+
+    #[cycle(way)]
+    fn down(
+        &mut self,
+        rest: &[Item],
+        low: usize,
+        high: usize,
+        marks: &[usize],
+    ) -> Result<Found, AllocError> {
+        for place in (low..high.saturating_add(1)).rev() {
+            let found = self.way(rest, place, marks)?;
+            if found.is_some() {
+                return Ok(found);
+            }
+        }
+        Ok(None)
+    }
+
+    #[cycle(way)]
+    fn up(
+        &mut self,
+        single: &Single,
+        rest: &[Item],
+        at: usize,
+        marks: &[usize],
+    ) -> Result<Found, AllocError> {
+        for place in at..self.subject.len().saturating_add(1) {
+            let found = self.way(rest, place, marks)?;
+            if found.is_some() || !self.compare(single, place) {
+                return Ok(found);
+            }
+        }
+        Ok(None)
+    }
+
+    fn repeats(&mut self, from: usize, to: usize, at: usize) -> bool {
+        for place in from..to {
+            let here = self.symbol(at.saturating_add(place - from));
+            if here.is_none() {
+                return false;
+            }
+            self.pay();
+            if here != self.symbol(place) {
+                return false;
+            }
+        }
+        true
+    }
+
+    fn closed(&mut self, begin: char, shut: char, at: usize) -> Option<usize> {
+        let mut depth: usize = 0;
+        for place in at..self.subject.len() {
+            self.pay();
+            let symbol = self.symbol(place);
+            if place == at {
+                if symbol != Some(begin) {
+                    return None;
+                }
+            } else if symbol == Some(shut) {
+                if depth == 0 {
+                    return Some(place.saturating_add(1));
+                }
+                depth = depth.saturating_sub(1);
+            } else if symbol == Some(begin) {
+                depth = depth.saturating_add(1);
+            }
+        }
+        None
+    }
+}
+
+/// The first start with a match: where it starts, and what `way` gives there.
+pub(crate) fn first(
+    plain: &mut Plain,
+    anchored: bool,
+    items: &[Item],
+) -> Result<Option<(usize, usize, Vec<usize>)>, AllocError> {
+    if anchored {
+        plain.pay();
+    }
+    for start in 0..plain.subject.len().saturating_add(1) {
+        if let Some((end, marks)) = plain.way(items, start, &[])? {
+            return Ok(Some((start, end, marks)));
+        }
+        if anchored {
+            return Ok(None);
+        }
+    }
+    Ok(None)
+}
