@@ -190,17 +190,23 @@ fn a_folder_is_a_wiki_or_has_a_first_fault(rt: HostRuntime) -> Result<(), Fail> 
     Ok(())
 }
 
+fn zeros(alloc: Global, count: usize) -> Result<Vec<u8>, AllocError> {
+    vec![in alloc; 0u8; count]
+}
+
 #[test]
 fn a_folder_has_limits_of_bytes(rt: HostRuntime) -> Result<(), Fail> {
-    let bytes = vec![in rt.alloc(); 0u8; 2_097_153]?;
-    let files = files_named(rt.alloc(), &["A.wiki"], &bytes.as_slice()[..2_097_152])?;
-    assert!(rt; can_hold(files.as_slice()));
-    let mut shelf = MemoryShelf::new(rt.alloc(), files, List::new(rt.alloc()));
-    assert_eq!(rt; told(rt.alloc(), &mut shelf)?.as_slice(), b"A;".as_slice());
-    let files = files_named(rt.alloc(), &["B.wiki", "A.wiki"], bytes.as_slice())?;
-    assert!(rt; can_hold(files.as_slice()));
-    let mut shelf = MemoryShelf::new(rt.alloc(), files, List::new(rt.alloc()));
-    let text = told(rt.alloc(), &mut shelf)?;
-    assert_eq!(rt; text.as_slice(), b"A.wiki: too long".as_slice());
+    let cases: [(&[&str], usize, &str); 2] = [
+        (&["A.wiki"], 2_097_152, "A;"),
+        (&["B.wiki", "A.wiki"], 2_097_153, "A.wiki: too long"),
+    ];
+    for (names, count, expected) in cases {
+        let bytes = zeros(rt.alloc(), count)?;
+        let files = files_named(rt.alloc(), names, bytes.as_slice())?;
+        assert!(rt; can_hold(files.as_slice()));
+        let mut shelf = MemoryShelf::new(rt.alloc(), files, List::new(rt.alloc()));
+        let text = told(rt.alloc(), &mut shelf)?;
+        assert_eq!(rt; text.as_slice(), expected.as_bytes());
+    }
     Ok(())
 }
