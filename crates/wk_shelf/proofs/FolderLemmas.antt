@@ -1,12 +1,11 @@
 -- The first fault of a list, step by step, and the titles of names.
-use Rattle.std.proofs.Common.{◌≡◌, ℕ, ◌+◌, ◌<◌, ◌≤◌, Bool, true, false, ◌||◌, List, [], ◌∷◌, ◌++◌, map, filter, take, drop, length, get_or, zero, suc, add-one, sum_by, refl, sym, ◌∙◌, ap, subst, arith, string_bytes, String, Global}
-use Rattle.std.specs.Prelude.{Option, Some, None, IfSome, if◌then◌else◌, is_some}
+use Rattle.std.proofs.Common.{◌≡◌, ℕ, ◌+◌, ◌<◌, ◌||◌, List, [], ◌∷◌, ◌++◌, take, drop, length, get_or, zero, suc, refl, sym, ◌∙◌, ap, arith}
+use Rattle.std.specs.Prelude.{Option, Some, None}
 use Rattle.std.specs.List.{list_any, filter_map, cons_option}
 use Rattle.std.proofs.lemmas.List.{take_more, drop_more}
-use Rattle.std.proofs.lemmas.List.Elements.{filter_map-append}
 use Rattle.wk_base.specs.declared.title.Title.{Title}
 use Rattle.wk_base.specs.contracts.title.TitlePartialEq.TheImpl as titles
-use Rattle.wk_shelf.specs.Folder.{File, option_or, first_fault, title_fault, title_fault_of, title_of_file, is_title, size_fault, size_fault_after, size_of, page_of, page_titled}
+use Rattle.wk_shelf.specs.Folder.{option_or, first_fault, title_fault, title_fault_of, title_of_file, is_title}
 
 -- ---- the first fault of a list
 

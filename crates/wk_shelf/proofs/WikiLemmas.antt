@@ -1,6 +1,6 @@
 -- From the names of a folder's pages to its wiki.
-use Rattle.std.proofs.Common.{◌≡◌, ℕ, ◌<◌, ◌≤◌, Bool, true, false, cond, List, [], ◌∷◌, map, filter, length, refl, sym, ◌∙◌, ap, subst, arith, string_bytes, String, Global}
-use Rattle.std.specs.Prelude.{Option, Some, None, IfSome, MatchOption, Result, Ok, Err, IfOk, IfErr, if◌then◌else◌, codes}
+use Rattle.std.proofs.Common.{◌≡◌, ℕ, ◌<◌, ◌≤◌, Bool, true, false, cond, List, [], ◌∷◌, map, filter, length, refl, sym, ◌∙◌, ap, arith, string_bytes, String, Global}
+use Rattle.std.specs.Prelude.{Option, Some, None, IfSome, MatchOption, Result, Ok, Err, IfOk, IfErr, codes}
 use Rattle.std.specs.List.{filter_map}
 use Rattle.std.proofs.lemmas.Bool.{lt-ltb, le-ltb}
 use Rattle.std.proofs.lemmas.List.{length-map}
@@ -10,7 +10,6 @@ use Rattle.wk_shelf.specs.Folder.{File, file_at, files_of, is_page, first_fault,
 use Rattle.wk_shelf.specs.FolderFaults.{source_line}
 use Rattle.wk_shelf.specs.declared.folder.FolderFault.{FolderFault}
 use Rattle.wk_shelf.specs.declared.folder.FolderPage.{FolderPage}
-use Rattle.wk_shelf.proofs.ReadLemmas.{named_files}
 
 one_more_passes : {X Y : Type 0} (g : X → Y) (b : Bool) (x : X) (ys : List Y) (xs : List X) → ys ≡ map g xs → cond b (g x ∷ ys) ys ≡ map g (cond b (x ∷ xs) xs)
 one_more_passes g true x ys xs e = ap (λ rest. g x ∷ rest) e

@@ -1,7 +1,7 @@
 -- The files of a shelf, and what a shelf may say of them.
 use Rattle.std.specs.Prelude.{◌≡◌, ℕ, Bool, true, not, ◌&&◌, if◌then◌else◌, List, [], ◌∷◌, take, Option, Some, None, IsPermutation}
 use Rattle.std.specs.Str.{bytes_eq}
-use Rattle.std.specs.List.{list_any, list_all}
+use Rattle.std.specs.List.{list_any}
 
 -- a file: its folder and its name in UTF-8, and its bytes
 pub record Held : Type 0 where

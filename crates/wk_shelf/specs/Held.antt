@@ -1,6 +1,6 @@
 -- Files in memory, as a shelf tells them.
-use Rattle.std.specs.Prelude.{Bool, true, not, ◌&&◌, List, [], ◌∷◌, map}
-use Rattle.std.specs.List.{list_any, list_all}
+use Rattle.std.specs.Prelude.{Bool, true, not, ◌&&◌, List, [], ◌∷◌}
+use Rattle.std.specs.List.{list_any}
 use Rattle.std.specs.Str.{bytes_eq, is_utf8}
 use Rattle.wk_shelf.specs.Files.{Held}
 use Rattle.wk_shelf.specs.declared.memory_shelf.MemoryFile.{MemoryFile}

@@ -1,8 +1,8 @@
 use Rattle.std.proofs.lemmas.List.{length-map}
-use Rattle.std.proofs.Common.{◌≡◌, ◌++◌, arith, Global, map, string_bytes, ap, sym, ◌∙◌, Bool, true, false, None, Some, codes}
+use Rattle.std.proofs.Common.{◌≡◌, arith, Global, string_bytes, ap, sym, ◌∙◌, true, false, None, Some}
 use Rattle.std.specs.List.{list_any}
 use Rattle.wk_base.specs.contracts.title.TitlePartialEq.TheImpl as titles
-use Rattle.wk_shelf.specs.Folder.{first_fault, title_fault, title_of_file}
+use Rattle.wk_shelf.specs.Folder.{title_of_file}
 use Rattle.wk_shelf.specs.FolderFaults.{source_line}
 use Rattle.wk_shelf.specs.declared.folder.FolderFault.TheVariants.{NoMemory}
 use Rattle.wk_shelf.proofs.ReadLemmas.{untitled_fault, taken_fault, Titled-more, name_at, says_due, was_true, was_false}

@@ -1,10 +1,9 @@
-use Rattle.std.proofs.Common.{◌≡◌, ◌<◌, ◌≤◌, [], List, ℕ, map, length, string_bytes, arith, sym, ◌∙◌, subst, rules, Some, None, Err, IfSome, IfOk, IfErr}
-use Rattle.std.specs.Prelude.{Option, MatchOption, codes}
+use Rattle.std.proofs.Common.{◌≡◌, [], List, map, length, string_bytes, arith, ◌∙◌, subst, Some, Err, IfSome, IfOk, IfErr}
+use Rattle.std.specs.Prelude.{Option, codes}
 use Rattle.std.proofs.lemmas.List.{length-map}
 use Rattle.wk_shelf.specs.Files.{Held}
-use Rattle.wk_shelf.specs.Folder.{wiki_of, files_of, first_fault, title_fault, size_fault, file_at, AreRead}
+use Rattle.wk_shelf.specs.Folder.{wiki_of, files_of, first_fault, size_fault, file_at, AreRead}
 use Rattle.wk_shelf.specs.FolderFaults.{source_line}
-use Rattle.wk_shelf.specs.declared.folder.FolderFault.{FolderFault}
 use Rattle.wk_shelf.specs.declared.folder.FolderFault.TheVariants.{NoMemory}
 use Rattle.wk_shelf.proofs.ReadLemmas.{handed_on}
 use Rattle.wk_shelf.proofs.SizeLemmas.{says}

@@ -1,4 +1,4 @@
-use Rattle.std.proofs.Common.{◌≡◌, ◌+◌, ◌≤◌, ◌++◌, [], ◌∷◌, List, ℕ, rules, arith, ap, sym, subst, ◌∙◌, map, length, string_bytes, None, Some, IfSome}
+use Rattle.std.proofs.Common.{◌≡◌, ◌+◌, ◌≤◌, [], List, ℕ, rules, ap, sym, subst, ◌∙◌, length, string_bytes, None, Some, IfSome}
 use Rattle.std.specs.Prelude.{Option}
 use Rattle.wk_shelf.specs.Files.{Held}
 use Rattle.wk_shelf.specs.Folder.{title_of_file, first_fault, size_fault, size_fault_after, file_at, IsRead}

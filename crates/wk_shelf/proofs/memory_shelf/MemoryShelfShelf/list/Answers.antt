@@ -1,4 +1,4 @@
-use Rattle.std.proofs.Common.{◌≡◌, ◌∙◌, ap, List, map, true, sym, subst}
+use Rattle.std.proofs.Common.{◌≡◌, ◌∙◌, ap, List, map, true, subst}
 use Rattle.std.proofs.lemmas.Result.{IfOk-weaker}
 use Rattle.wk_shelf.specs.Files.{Held, names_in}
 use Rattle.wk_shelf.specs.Held.{held_of, are_files}

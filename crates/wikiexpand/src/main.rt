@@ -1,0 +1,52 @@
+//! Renders pages of a folder of wiki files.
+//!
+//! - `command`: the words of the command line
+//! - `answer`: what a title gives on the pages of a folder
+//! - `report`: what a run is to answer
+//! - `put`: putting a report to the two streams
+//! - `wiki_app`: the top call, over any shelf and any two sinks
+#![tactic(auto)]
+
+mod answer;
+mod command;
+mod put;
+mod report;
+mod wiki_app;
+
+use report::Status;
+use std::process::ExitCode;
+use std::{env, io};
+use wiki_app::run;
+use wk_shelf::{FolderShelf, StreamSink};
+
+/// The words after the program's name.
+fn words(rt: &HostRuntime) -> io::Result<Vec<String>> {
+    let mut words = Vec::new(rt.alloc());
+    for word in env::args(rt)?.skip(1) {
+        words.push(word)?;
+    }
+    Ok(words)
+}
+
+fn main(rt: HostRuntime) -> ExitCode {
+    let Ok(words) = words(&rt) else {
+        return ExitCode::from(Status::NoMemory.code());
+    };
+    let Ok(files) = rt.clone() else {
+        return ExitCode::from(Status::NoMemory.code());
+    };
+    let mut shelf = FolderShelf::new(rt.alloc(), files);
+    let mut out = StreamSink::new(rt.alloc(), rt.stdout());
+    let mut err = StreamSink::new(rt.alloc(), rt.stderr());
+    ExitCode::from(run(
+        &rt,
+        rt.alloc(),
+        words.as_slice(),
+        &mut shelf,
+        &mut out,
+        &mut err,
+    ))
+}
+
+#[cfg(test)]
+mod tests;

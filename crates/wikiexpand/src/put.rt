@@ -1,0 +1,35 @@
+//! Putting a report to the two streams.
+ghost use Rattle.std.specs.Prelude.{◌≡◌, ◌≤◌, ◌⊎◌, OnOk, OnErr, is_ok, if◌then◌else◌};
+ghost use Rattle.wk_shelf.specs.Causes.{Rose};
+ghost use Rattle.wk_shelf.specs.Put.{Puts, PutsSome};
+
+use wk_shelf::{Sink, SinkFailed};
+
+/// Puts a piece, if there is anything in it.
+pub fn put_piece<K: Sink>(sink: &mut K, piece: &[u8]) -> Result<(), SinkFailed>
+    ensures ok { OnOk result (Puts (K.contents sink.old) (K.contents sink.new) piece.now) }
+    ensures some { PutsSome (K.contents sink.old) (K.contents sink.new) piece.now }
+    ensures cause { OnErr result (Rose (K.faults sink.old) (K.faults sink.new)) }
+{
+    if piece.is_empty() {
+        return Ok(());
+    }
+    sink.put(piece)
+}
+
+/// Puts what is shown to one sink, then what is told to another.
+pub fn put_both<O: Sink, E: Sink>(
+    out: &mut O,
+    shown: &[u8],
+    err: &mut E,
+    told: &[u8],
+) -> Result<(), SinkFailed>
+    ensures out_ok { OnOk result (Puts (O.contents out.old) (O.contents out.new) shown.now) }
+    ensures err_ok { OnOk result (Puts (E.contents err.old) (E.contents err.new) told.now) }
+    ensures out_some { PutsSome (O.contents out.old) (O.contents out.new) shown.now }
+    ensures err_some { PutsSome (E.contents err.old) (E.contents err.new) told.now }
+    ensures cause { OnErr result (Rose (O.faults out.old) (O.faults out.new) ⊎ Rose (E.faults err.old) (E.faults err.new)) }
+{
+    put_piece(out, shown)?;
+    put_piece(err, told)
+}

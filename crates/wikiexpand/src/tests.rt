@@ -1,0 +1,263 @@
+//! The top call over a shelf and sinks in memory, by tables.
+use crate::wiki_app::run;
+use std::alloc::{AllocError, Global};
+use std::test::Fail;
+use wk_base::{Bytes, List, NoMemory};
+use wk_shelf::{MemoryFile, MemoryShelf, MemorySink, can_hold};
+
+/// A run: the words, the files of the folder `d`, the numbers of the calls of the shelf and of the sinks that fail, and
+/// what is to come of it.
+struct Case<'c> {
+    words: &'c [&'c str],
+    files: &'c [(&'c str, &'c [u8])],
+    shelf_fails: u64,
+    out_fails: u64,
+    err_fails: u64,
+    status: u8,
+    out: &'c [u8],
+    err: &'c [u8],
+}
+
+const NEVER: u64 = 9;
+
+const USAGE: &[u8] = b"usage: wikiexpand expand DIR PAGE [PAGE ...] | expand DIR --all | demo N\n";
+
+fn words_of(alloc: Global, words: &[&str]) -> Result<Vec<String>, AllocError> {
+    let mut all = Vec::new(alloc);
+    for word in words {
+        all.push(String::from_str(alloc, word)?)?;
+    }
+    Ok(all)
+}
+
+fn files_of(alloc: Global, files: &[(&str, &[u8])]) -> Result<List<MemoryFile>, NoMemory> {
+    let mut all = List::new(alloc);
+    for (name, bytes) in files {
+        all.push(MemoryFile {
+            folder: Bytes::of(alloc, b"d")?,
+            name: Bytes::of(alloc, name.as_bytes())?,
+            bytes: Bytes::of(alloc, bytes)?,
+        })?;
+    }
+    Ok(all)
+}
+
+fn one(alloc: Global, number: u64) -> Result<List<u64>, NoMemory> {
+    let mut numbers = List::new(alloc);
+    numbers.push(number)?;
+    Ok(numbers)
+}
+
+const TWO: &[(&str, &[u8])] = &[("P.wiki", b"text\n"), ("Talk:q.wiki", b"")];
+
+const CASES: &[Case<'static>] = &[
+    // No command.
+    Case {
+        words: &[],
+        files: TWO,
+        shelf_fails: 0,
+        out_fails: 0,
+        err_fails: NEVER,
+        status: 2,
+        out: b"",
+        err: USAGE,
+    },
+    Case {
+        words: &["expand", "d"],
+        files: TWO,
+        shelf_fails: 0,
+        out_fails: 0,
+        err_fails: NEVER,
+        status: 2,
+        out: b"",
+        err: USAGE,
+    },
+    Case {
+        words: &["expand", "-d", "P"],
+        files: TWO,
+        shelf_fails: 0,
+        out_fails: 0,
+        err_fails: NEVER,
+        status: 2,
+        out: b"",
+        err: USAGE,
+    },
+    Case {
+        words: &["expand", "d", "a|b"],
+        files: TWO,
+        shelf_fails: 0,
+        out_fails: 0,
+        err_fails: NEVER,
+        status: 2,
+        out: b"",
+        err: USAGE,
+    },
+    Case {
+        words: &["Expand", "d", "P"],
+        files: TWO,
+        shelf_fails: 0,
+        out_fails: 0,
+        err_fails: 0,
+        status: 5,
+        out: b"",
+        err: b"",
+    },
+    // A page, an empty page, and one under another spelling of its title.
+    Case {
+        words: &["expand", "d", "P"],
+        files: TWO,
+        shelf_fails: NEVER,
+        out_fails: NEVER,
+        err_fails: 0,
+        status: 0,
+        out: b"text\n",
+        err: b"",
+    },
+    Case {
+        words: &["expand", "d", "talk: q_"],
+        files: TWO,
+        shelf_fails: NEVER,
+        out_fails: 0,
+        err_fails: 0,
+        status: 0,
+        out: b"",
+        err: b"",
+    },
+    Case {
+        words: &["expand", "-", "P"],
+        files: TWO,
+        shelf_fails: NEVER,
+        out_fails: 0,
+        err_fails: NEVER,
+        status: 1,
+        out: b"",
+        err: b"wikiexpand: no such page: P\n",
+    },
+    Case {
+        words: &["expand", "d", "help talk:q9"],
+        files: TWO,
+        shelf_fails: NEVER,
+        out_fails: 0,
+        err_fails: NEVER,
+        status: 1,
+        out: b"",
+        err: b"wikiexpand: no such page: Help talk:Q9\n",
+    },
+    // Source faults.
+    Case {
+        words: &["expand", "d", "P"],
+        files: &[("a.wiki", b""), ("A.wiki", b"")],
+        shelf_fails: NEVER,
+        out_fails: 0,
+        err_fails: NEVER,
+        status: 3,
+        out: b"",
+        err: b"wikiexpand: source fault: a.wiki: title is taken\n",
+    },
+    Case {
+        words: &["expand", "d", "P"],
+        files: &[("P.wiki", b""), ("[.wiki", b"")],
+        shelf_fails: NEVER,
+        out_fails: 0,
+        err_fails: NEVER,
+        status: 3,
+        out: b"",
+        err: b"wikiexpand: source fault: [.wiki: not a title\n",
+    },
+    // Failing reads and puts.
+    Case {
+        words: &["expand", "d", "P"],
+        files: TWO,
+        shelf_fails: 0,
+        out_fails: 0,
+        err_fails: NEVER,
+        status: 4,
+        out: b"",
+        err: b"wikiexpand: cannot read\n",
+    },
+    Case {
+        words: &["expand", "d", "P"],
+        files: TWO,
+        shelf_fails: 2,
+        out_fails: 0,
+        err_fails: NEVER,
+        status: 4,
+        out: b"",
+        err: b"wikiexpand: cannot read\n",
+    },
+    Case {
+        words: &["expand", "d", "P"],
+        files: TWO,
+        shelf_fails: 2,
+        out_fails: 0,
+        err_fails: 0,
+        status: 5,
+        out: b"",
+        err: b"",
+    },
+    Case {
+        words: &["expand", "d", "P"],
+        files: TWO,
+        shelf_fails: NEVER,
+        out_fails: 0,
+        err_fails: NEVER,
+        status: 5,
+        out: b"",
+        err: b"",
+    },
+    Case {
+        words: &["expand", "d", "Q"],
+        files: TWO,
+        shelf_fails: NEVER,
+        out_fails: NEVER,
+        err_fails: 0,
+        status: 5,
+        out: b"",
+        err: b"",
+    },
+    // What is not built yet.
+    Case {
+        words: &["expand", "d", "P"],
+        files: &[("P.wiki", b"{{T}}")],
+        shelf_fails: NEVER,
+        out_fails: 0,
+        err_fails: NEVER,
+        status: 7,
+        out: b"",
+        err: b"wikiexpand: not built\n",
+    },
+    Case {
+        words: &["expand", "d", "P"],
+        files: &[("Module:M.lua", b"")],
+        shelf_fails: NEVER,
+        out_fails: 0,
+        err_fails: NEVER,
+        status: 7,
+        out: b"",
+        err: b"wikiexpand: not built\n",
+    },
+];
+
+#[test]
+fn each_run_has_its_status_and_its_bytes(rt: HostRuntime) -> Result<(), Fail> {
+    for case in CASES {
+        let words = words_of(rt.alloc(), case.words)?;
+        let files = files_of(rt.alloc(), case.files)?;
+        assert!(rt; can_hold(files.as_slice()));
+        let mut shelf = MemoryShelf::new(rt.alloc(), files, one(rt.alloc(), case.shelf_fails)?);
+        let mut out = MemorySink::new(rt.alloc(), one(rt.alloc(), case.out_fails)?, 100)?;
+        let mut err = MemorySink::new(rt.alloc(), one(rt.alloc(), case.err_fails)?, 100)?;
+        let status = run(
+            &rt,
+            rt.alloc(),
+            words.as_slice(),
+            &mut shelf,
+            &mut out,
+            &mut err,
+        );
+        assert_eq!(rt; status, case.status, "{:?}", case.words);
+        assert_eq!(rt; out.bytes(), case.out, "{:?}", case.words);
+        assert_eq!(rt; err.bytes(), case.err, "{:?}", case.words);
+    }
+    Ok(())
+}
