@@ -1,7 +1,7 @@
 -- The lines of the nodes of a tree, in order of the text: a statement before what is in it, and an expression before its parts.
 -- A node is a statement or an expression. A definition over a whole tree is a fold: each step sees one level, with the lines of
 -- each child in its place.
-use Rattle.std.specs.Prelude.{ℕ, ◌+◌, List, [], ◌∷◌, ◌++◌, map, sum, Option, Some, None}
+use Rattle.std.specs.Prelude.{ℕ, List, [], ◌∷◌, ◌++◌, map, Option, Some, None}
 use Rattle.lua_syntax.specs.declared.Block.{Block}
 use Rattle.lua_syntax.specs.declared.Stat.{Stat}
 use Rattle.lua_syntax.specs.declared.StatKind.{StatKind}
@@ -10,7 +10,7 @@ use Rattle.lua_syntax.specs.declared.Expr.{Expr}
 use Rattle.lua_syntax.specs.declared.ExprKind.{ExprKind}
 use Rattle.lua_syntax.specs.declared.Function.{Function as FunctionNode}
 use Rattle.lua_syntax.specs.declared.Field.{Field}
-use Rattle.lua_syntax.specs.declared.ExprKind.TheOpen.{ExprKind-F, Nil, True, False, Number, Text, Dots, Function, Name, Index, ExprKind::Call, Method, Table, Binary, Unary, Paren, Field-F, Item, Pair, StatKind-F, Assign, StatKind::Call, Do, While, Repeat, If, Count, Each, LocalFunction, Local, Return, Break, Arm-F, Block-F, Expr-F, Function-F, Stat-F}
+use Rattle.lua_syntax.specs.declared.ExprKind.TheOpen.{ExprKind-F, Nil, True, False, Number, Text, Dots, Function, Name, Index, ExprKind::Call, Method, Table, Binary, Unary, Paren, Field-F, Item, Pair, StatKind-F, Assign, StatKind::Call, Do, While, Repeat, If, Count, Each, LocalFunction, Local, Return, Break}
 use Rattle.lua_syntax.specs.declared.ExprKind.TheFolds.{fold-ExprKind, fold-Field, fold-StatKind, fold-Arm, fold-Block, fold-Expr, fold-Function, fold-Stat}
 
 abbrev pub Lines : Type 0

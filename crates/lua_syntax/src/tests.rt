@@ -6,64 +6,83 @@ use std::alloc::Global;
 use std::test::Fail;
 use wk_base::{Bytes, List, NoMemory};
 
-fn node(line: u32, kind: ExprKind) -> Expr {
-    Expr { line, kind }
-}
-
 fn one<T: Drop>(alloc: Global, item: T) -> Result<List<T>, NoMemory> {
     let mut list = List::new(alloc);
     list.push(item)?;
     Ok(list)
 }
 
-// if a then return 2 + f{3} end, with each node on a line of its own
+fn number(line: u32) -> Expr {
+    let kind = ExprKind::Number(3);
+    Expr { line, kind }
+}
+
+fn name(alloc: Global, line: u32) -> Result<Expr, NoMemory> {
+    let kind = ExprKind::Name(Bytes::of(alloc, b"f")?);
+    Ok(Expr { line, kind })
+}
+
+// {3}
+fn table(alloc: Global) -> Result<Expr, NoMemory> {
+    let fields = one(alloc, Field::Item(number(8)))?;
+    let kind = ExprKind::Table(fields);
+    Ok(Expr { line: 7, kind })
+}
+
+// f{3}
+fn call(alloc: Global) -> Result<Expr, Fail> {
+    let called = Box::new(alloc, name(alloc, 6)?)?;
+    let arguments = one(alloc, table(alloc)?)?;
+    let kind = ExprKind::Call(called, arguments);
+    Ok(Expr { line: 5, kind })
+}
+
+// 3 + f{3}
+fn sum(alloc: Global) -> Result<Expr, Fail> {
+    let left = Box::new(alloc, number(4))?;
+    let right = Box::new(alloc, call(alloc)?)?;
+    let kind = ExprKind::Binary(BinaryOp::Add, left, right);
+    Ok(Expr { line: 3, kind })
+}
+
+fn block(alloc: Global, stat: Stat) -> Result<Block, NoMemory> {
+    let stats = one(alloc, stat)?;
+    Ok(Block { stats })
+}
+
+// return 3 + f{3}
+fn back(alloc: Global) -> Result<Stat, Fail> {
+    let kind = StatKind::Return(one(alloc, sum(alloc)?)?);
+    Ok(Stat { line: 2, kind })
+}
+
+// if f then return 3 + f{3} end
 fn branch(alloc: Global) -> Result<Stat, Fail> {
-    let called = node(6, ExprKind::Name(Bytes::of(alloc, b"f")?));
-    let field = Field::Item(node(8, ExprKind::Number(3)));
-    let table = node(7, ExprKind::Table(one(alloc, field)?));
-    let call = ExprKind::Call(Box::new(alloc, called)?, one(alloc, table)?);
-    let two = node(4, ExprKind::Number(2));
-    let sum = ExprKind::Binary(
-        BinaryOp::Add,
-        Box::new(alloc, two)?,
-        Box::new(alloc, node(5, call))?,
-    );
-    let back = Stat {
-        line: 2,
-        kind: StatKind::Return(one(alloc, node(3, sum))?),
+    let test = name(alloc, 1)?;
+    let body = block(alloc, back(alloc)?)?;
+    let arms = one(alloc, Arm { test, body })?;
+    let kind = StatKind::If(arms, None);
+    Ok(Stat { line: 9, kind })
+}
+
+// local function g(...) if f then return 3 + f{3} end end
+fn outer(alloc: Global) -> Result<Stat, Fail> {
+    let body = block(alloc, branch(alloc)?)?;
+    let params = List::new(alloc);
+    let function = Function {
+        params,
+        dots: true,
+        body,
     };
-    let arm = Arm {
-        test: node(1, ExprKind::Name(Bytes::of(alloc, b"a")?)),
-        body: Block {
-            stats: one(alloc, back)?,
-        },
-    };
-    Ok(Stat {
-        line: 9,
-        kind: StatKind::If(one(alloc, arm)?, None),
-    })
+    let kind = StatKind::LocalFunction(Bytes::of(alloc, b"g")?, function);
+    Ok(Stat { line: 10, kind })
 }
 
 #[test]
 fn lines_in_order(rt: HostRuntime) -> Result<(), Fail> {
     let alloc = rt.alloc();
-    let inner = Function {
-        params: List::new(alloc),
-        dots: true,
-        body: Block {
-            stats: one(alloc, branch(alloc)?)?,
-        },
-    };
-    let outer = Stat {
-        line: 10,
-        kind: StatKind::LocalFunction(Bytes::of(alloc, b"g")?, inner),
-    };
-    let chunk = Chunk {
-        body: Block {
-            stats: one(alloc, outer)?,
-        },
-    };
-    let lines = node_lines(alloc, &chunk)?;
+    let body = block(alloc, outer(alloc)?)?;
+    let lines = node_lines(alloc, &Chunk { body })?;
     assert_eq!(rt;
         lines.as_slice(),
         [10, 9, 1, 2, 3, 4, 5, 6, 7, 8].as_slice()
