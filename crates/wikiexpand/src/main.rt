@@ -29,8 +29,13 @@ fn words(rt: &HostRuntime) -> io::Result<Vec<String>> {
 }
 
 fn main(rt: HostRuntime) -> ExitCode {
-    let Ok(words) = words(&rt) else {
-        return ExitCode::from(Status::NoMemory.code());
+    let words = match words(&rt) {
+        Ok(words) => words,
+        Err(error) if error.kind() == io::ErrorKind::OutOfMemory => {
+            return ExitCode::from(Status::NoMemory.code());
+        }
+        // A word that is no text makes no command, as no words at all.
+        Err(_) => Vec::new(rt.alloc()),
     };
     let Ok(files) = rt.clone() else {
         return ExitCode::from(Status::NoMemory.code());

@@ -1,0 +1,51 @@
+#!/usr/bin/env python3
+"""Times the program on generated folders of plain pages.
+
+  bench/folder.py crates/wikiexpand/out/wikiexpand [FOLDER]
+
+Two folders are made below FOLDER (or a temporary one): 2,000 pages of 10 KiB, and 100,000 pages of 100 bytes, the most that a
+folder may hold. For each: the best wall time of some runs that print one page, and the most memory of a run.
+"""
+import os
+import shutil
+import subprocess
+import sys
+import tempfile
+import time
+
+
+def make(folder, count, size):
+    os.makedirs(folder)
+    line = b"A line of plain text without marks.\n"
+    text = (line * (size // len(line) + 1))[:size]
+    for number in range(count):
+        with open(os.path.join(folder, f"Page {number}.wiki"), "wb") as page:
+            page.write(text)
+    return text
+
+
+def run(program, folder, text):
+    began = time.perf_counter()
+    running = subprocess.Popen([program, "expand", folder, "page_7"], stdout=subprocess.PIPE)
+    printed = running.stdout.read()
+    _, status, used = os.wait4(running.pid, 0)
+    took = time.perf_counter() - began
+    if status != 0 or printed != text:
+        sys.exit(f"{program} ended with {status} and {len(printed)} bytes")
+    return took, used.ru_maxrss / 1024
+
+
+def main():
+    program = os.path.abspath(sys.argv[1])
+    base = sys.argv[2] if len(sys.argv) > 2 else tempfile.mkdtemp()
+    print(f"{'folder':32} {'seconds':>8} {'MiB':>6}")
+    for name, count, size in (("2,000 pages of 10 KiB", 2000, 10240), ("100,000 pages of 100 bytes", 100000, 100)):
+        folder = os.path.join(base, str(count))
+        text = make(folder, count, size)
+        runs = [run(program, folder, text) for _ in range(3)]
+        print(f"{name:32} {min(r[0] for r in runs):8.2f} {max(r[1] for r in runs):6.0f}")
+        shutil.rmtree(folder)
+
+
+if __name__ == "__main__":
+    main()
