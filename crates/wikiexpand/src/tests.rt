@@ -1,9 +1,11 @@
 //! The top call over a shelf and sinks in memory, by tables.
+ghost use Rattle.std.specs.Prelude.{None};
+
 use crate::wiki_app::run;
 use std::alloc::{AllocError, Global};
 use std::test::Fail;
 use wk_base::{Bytes, List, NoMemory};
-use wk_shelf::{MemoryFile, MemoryShelf, MemorySink, can_hold};
+use wk_shelf::{MemoryFile, MemoryShelf, MemorySink, Shelf, ShelfFault, can_hold};
 
 /// A run: the words, the files of the folder `d`, the numbers of the calls of the shelf and of the sinks that fail, and
 /// what is to come of it.
@@ -258,6 +260,107 @@ fn each_run_has_its_status_and_its_bytes(rt: HostRuntime) -> Result<(), Fail> {
         assert_eq!(rt; status, case.status, "{:?}", case.words);
         assert_eq!(rt; out.bytes(), case.out, "{:?}", case.words);
         assert_eq!(rt; err.bytes(), case.err, "{:?}", case.words);
+    }
+    Ok(())
+}
+
+/// A folder of many empty pages, of which no content is told.
+#[derive(Drop)]
+struct Crowd {
+    pages: u32,
+}
+
+impl Shelf for Crowd {
+    ghost files = { λ _. None };
+
+    ghost faults = { λ _. 0 };
+
+    fn list(&mut self, alloc: Global, _folder: &str) -> Result<Vec<String>, ShelfFault> {
+        let mut names = Vec::new(alloc);
+        for page in 0..self.pages {
+            let Ok(name) = format!(in alloc; "{page}.wiki") else {
+                return Err(ShelfFault::NoMemory);
+            };
+            let Ok(()) = names.push(name) else {
+                return Err(ShelfFault::NoMemory);
+            };
+        }
+        Ok(names)
+    }
+
+    fn read(
+        &mut self,
+        alloc: Global,
+        _folder: &str,
+        _name: &str,
+        _most: usize,
+    ) -> Result<Bytes, ShelfFault> {
+        Ok(Bytes::of_vec(Vec::new(alloc)))
+    }
+}
+
+#[test]
+fn a_folder_has_a_most_number_of_pages(rt: HostRuntime) -> Result<(), Fail> {
+    let cases: [(u32, u8, &[u8]); 2] = [
+        (100_000, 1, b"wikiexpand: no such page: P\n"),
+        (100_001, 3, b"wikiexpand: source fault: too many files\n"),
+    ];
+    for (pages, expected, told) in cases {
+        let words = words_of(rt.alloc(), &["expand", "d", "P"])?;
+        let mut out = MemorySink::new(rt.alloc(), List::new(rt.alloc()), 0)?;
+        let mut err = MemorySink::new(rt.alloc(), List::new(rt.alloc()), 100)?;
+        let status = run(
+            &rt,
+            rt.alloc(),
+            words.as_slice(),
+            &mut Crowd { pages },
+            &mut out,
+            &mut err,
+        );
+        assert_eq!(rt; status, expected);
+        assert_eq!(rt; err.bytes(), told);
+    }
+    Ok(())
+}
+
+/// As many full pages as the number says, up to `Z`.
+fn full_pages(alloc: Global, count: usize, size: usize) -> Result<List<MemoryFile>, NoMemory> {
+    let mut files = List::new(alloc);
+    for first in b"0123456789ABCDEFGHIJKLMNOPQRSTUVWXYZ".iter().take(count) {
+        let mut name = Bytes::of(alloc, &[*first])?.into_vec();
+        name.extend_from_slice(b".wiki")?;
+        files.push(MemoryFile {
+            folder: Bytes::of(alloc, b"d")?,
+            name: Bytes::of_vec(name),
+            bytes: Bytes::of_vec(vec![in alloc; b'x'; size]?),
+        })?;
+    }
+    Ok(files)
+}
+
+#[test]
+fn a_folder_has_a_most_number_of_bytes(rt: HostRuntime) -> Result<(), Fail> {
+    let cases: [(usize, u8, &[u8]); 2] = [
+        (32, 1, b"wikiexpand: no such page: P9\n"),
+        (33, 3, b"wikiexpand: source fault: too many bytes\n"),
+    ];
+    for (count, expected, told) in cases {
+        let words = words_of(rt.alloc(), &["expand", "d", "P9"])?;
+        let files = full_pages(rt.alloc(), count, 2_097_152)?;
+        assert!(rt; can_hold(files.as_slice()));
+        let mut shelf = MemoryShelf::new(rt.alloc(), files, List::new(rt.alloc()));
+        let mut out = MemorySink::new(rt.alloc(), List::new(rt.alloc()), 0)?;
+        let mut err = MemorySink::new(rt.alloc(), List::new(rt.alloc()), 100)?;
+        let status = run(
+            &rt,
+            rt.alloc(),
+            words.as_slice(),
+            &mut shelf,
+            &mut out,
+            &mut err,
+        );
+        assert_eq!(rt; status, expected);
+        assert_eq!(rt; err.bytes(), told);
     }
     Ok(())
 }
