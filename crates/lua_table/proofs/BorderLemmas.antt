@@ -1,5 +1,5 @@
 -- The least border of a sequence after one place of it has changed.
-use Rattle.std.proofs.Common.{◌≡◌, ◌≢◌, ◌∙◌, sym, Bool, true, false, true≢false, List, [], ◌∷◌, Option, Some, ℤ, pos, refl, ap, subst, ℕ, zero, suc, ◌+◌, ◌<◌, ◌≤◌, ◌⊎◌, inl, inr, arith}
+use Rattle.std.proofs.Common.{◌≡◌, ◌≢◌, ◌∙◌, sym, Bool, true, false, true≢false, List, [], Option, Some, ℤ, pos, refl, ap, ℕ, zero, suc, ◌+◌, ◌<◌, ◌≤◌, ◌⊎◌, inl, inr, arith}
 use Rattle.std.specs.Cmp.{IsEquivalence}
 use Rattle.lua_table.proofs.FrontLemmas.{not_true, number_apart}
 use Rattle.lua_table.proofs.SetLemmas.{value_at-other, value_at-same, HasKeys-empty, HasKeys-set}

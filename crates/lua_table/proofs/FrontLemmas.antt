@@ -1,5 +1,5 @@
 -- Entries whose keys are the numbers from 1 on, in front of others.
-use Rattle.std.proofs.Common.{◌≡◌, ◌≢◌, Bool, true, false, sym, ◌∙◌, cond, List, [], ◌∷◌, ◌++◌, Option, Some, None, refl, ap, rules, arith, ℕ, ℤ, pos, zero, suc, ◌+◌, ◌<◌, ◌≤◌, length, drop, slice_get, set, subst, add-one, position, get_or, is_some}
+use Rattle.std.proofs.Common.{◌≡◌, ◌≢◌, Bool, true, false, sym, ◌∙◌, cond, List, [], ◌∷◌, ◌++◌, Option, Some, None, refl, ap, arith, ℕ, ℤ, pos, zero, suc, ◌+◌, ◌<◌, ◌≤◌, length, drop, slice_get, set, subst, add-one, position, get_or, is_some}
 use Rattle.std.proofs.lemmas.List.Quantifiers.{position-Some}
 use Rattle.std.specs.Cmp.{IsEquivalence}
 use Rattle.std.specs.Map.{lookup, keys_of}

@@ -1,6 +1,5 @@
 -- A set, as a change of the list of entries.
-use Rattle.std.proofs.Common.{◌≡◌, ◌≢◌, Bool, true, false, not, ◌&&◌, sym, ◌∙◌, cond, List, [], ◌∷◌, ◌++◌, Option, Some, None, refl, ap, is_some, unwrap_or, rules, arith, ℕ, subst}
-use Rattle.std.proofs.lemmas.Map.Keys.{IsDistinct-head, IsDistinct-tail, IsDistinct-cons, IsDistinct-push}
+use Rattle.std.proofs.Common.{◌≡◌, ◌≢◌, Bool, true, false, not, ◌&&◌, sym, ◌∙◌, cond, List, [], ◌∷◌, Some, None, refl, ap, is_some, unwrap_or, subst}
 use Rattle.std.specs.Cmp.{IsEquivalence}
 use Rattle.std.specs.List.{AllByRecursion, IsDistinct}
 use Rattle.std.specs.Map.{lookup, keys_of}

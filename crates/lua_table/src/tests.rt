@@ -179,7 +179,11 @@ fn entries_keep_the_order_of_first_insertion(rt: HostRuntime) {
     ];
     sets(&rt, &mut table, &rows);
     walks(&rt, &table, &[(n(1), Some((l(b'x'), l(b'c'), 1)))]);
-    sets(&rt, &mut table, &[(n(2), l(b'e'), false, 3), (n(9), NIL, false, 3)]);
+    sets(
+        &rt,
+        &mut table,
+        &[(n(2), l(b'e'), false, 3), (n(9), NIL, false, 3)],
+    );
     let walk = [
         (NIL, Some((n(1), l(b'a'), 0))),
         (n(1), Some((n(2), l(b'e'), 0))),
@@ -238,7 +242,11 @@ fn a_walk_may_clear_what_it_comes_to(rt: HostRuntime) {
         at = n(number);
         assert_eq!(rt; table.set(at, NIL), Ok(false));
     }
-    walks(&rt, &table, &[(at, Some((NIL, NIL, 0))), (NIL, Some((NIL, NIL, 100)))]);
+    walks(
+        &rt,
+        &table,
+        &[(at, Some((NIL, NIL, 0))), (NIL, Some((NIL, NIL, 100)))],
+    );
 }
 
 #[test]

@@ -1,4 +1,4 @@
-use Rattle.std.proofs.Common.{◌≡◌, ◌∙◌, ◌+◌, arith, refl, sym}
+use Rattle.std.proofs.Common.{◌∙◌, ◌+◌, arith, refl}
 use Rattle.lua_table.proofs.FrontLemmas.{after-here, after-past, past_from}
 use Rattle.lua_table.proofs.entries.Entries.after.Goals as goal
 

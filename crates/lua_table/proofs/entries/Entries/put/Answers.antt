@@ -1,4 +1,4 @@
-use Rattle.std.proofs.Common.{◌≡◌, ◌<◌, ◌≤◌, ◌+◌, ◌∙◌, ℕ, pos, false, length, arith, refl, sym, ap}
+use Rattle.std.proofs.Common.{◌+◌, ◌∙◌, pos, arith, refl, sym, ap}
 use Rattle.lua_table.proofs.FrontLemmas.{insert-here, past_from, put-front, put-rest, absent-past, absent-empty}
 use Rattle.lua_table.proofs.entries.Entries.put.Goals as goal
 use Rattle.lua_table.proofs.entries.Entries.put.Goals.{in-Ok, in-Err, in-Ok-insert, in-Err-insert}
