@@ -118,6 +118,7 @@ impl<V: Slot> Table<V> {
         ensures frozen { (result ≡ Err SetFault.Frozen) ↔ (self.old.frozen ≡ true) }
         ensures not_a_key { (result ≡ Err SetFault.NotAKey) ↔ ((self.old.frozen ≡ false) × (key ≡ V.nil_value)) }
         ensures memory { result ≡ Err SetFault.NoMemory → is_there V.eq V.nil_value self.old.entries key ≡ false }
+        ensures clearing { result ≡ Err SetFault.NoMemory → V.eq value V.nil_value ≡ false }
     {
         if self.frozen {
             return Err(SetFault::Frozen);
