@@ -1,0 +1,3 @@
+pub mod BorderLemmas
+pub mod FrontLemmas
+pub mod SetLemmas
