@@ -1,4 +1,5 @@
--- The functions of a tree, seen one level at a time: those of a part from those of its children.
+-- The functions of a tree, seen one level at a time: those of a part from those of its children. A proof that meets such a part
+-- lists `levels`, whose equations name each variant as the code has it.
 use Rattle.std.proofs.Common.{◌≡◌, ◌∙◌, refl, sym, ap, List, [], ◌∷◌, ◌++◌, map, Option, Some, None}
 use Rattle.std.proofs.lemmas.List.{map-append, append_assoc, append-nil}
 use Rattle.std.specs.Prelude.{ℤ}
@@ -19,16 +20,16 @@ use Rattle.lua_syntax.specs.declared.Block.{Block}
 use Rattle.lua_syntax.specs.declared.Expr.{Expr}
 use Rattle.lua_syntax.specs.declared.Function.{Function as FunctionNode}
 use Rattle.lua_syntax.specs.declared.Stat.{Stat}
-use Rattle.lua_syntax.specs.declared.ExprKind.TheOpen.{ExprKind-F, Nil, True, False, Number, Text, Dots, Function, Name, Index, ExprKind::Call, Method, Table, Binary, Unary, Paren, Field-F, Item, Pair, StatKind-F, Assign, StatKind::Call, Do, While, Repeat, If, Count, Each, LocalFunction, Local, Return, Break, Arm-F, Block-F, Expr-F, Function-F, Stat-F}
-use Rattle.lua_syntax.specs.declared.ExprKind.TheViews.{out-ExprKind, roll-ExprKind, roll-out-ExprKind, out-Field, roll-Field, roll-out-Field, out-StatKind, roll-StatKind, roll-out-StatKind, out-Arm, roll-Arm, roll-out-Arm, out-Block, roll-Block, roll-out-Block, out-Expr, roll-Expr, roll-out-Expr, out-Function, roll-Function, roll-out-Function, out-Stat, roll-Stat, roll-out-Stat}
-use Rattle.lua_syntax.specs.declared.ExprKind.TheFolds.{map-ExprKind, para-ExprKind, para-roll-ExprKind, map-Field, para-Field, para-roll-Field, map-StatKind, para-StatKind, para-roll-StatKind, map-Arm, para-Arm, para-roll-Arm, map-Block, para-Block, para-roll-Block, map-Expr, para-Expr, para-roll-Expr, map-Function, para-Function, para-roll-Function, map-Stat, para-Stat, para-roll-Stat}
-use Rattle.lua_syntax.specs.Functions.{Functions, With, joined, of_option, functions_of, kind_step, kind_functions, field_step, field_functions, stat_kind_step, stat_kind_functions, arm_step, arm_functions, block_step, block_functions, expr_step, expr_functions, function_step, function_functions, stat_step, stat_functions}
-
+use Rattle.lua_syntax.specs.declared.ExprKind.TheOpen.{ExprKind-F, Nil, True, False, Number, Text, Dots, Function, Name, Index, ExprKind::Call, Method, Table, Binary, Unary, Paren, Field-F, Item, Pair, StatKind-F, Assign, StatKind::Call, Do, While, Repeat, If, Count, Each, LocalFunction, Local, Return, Break}
+use Rattle.lua_syntax.specs.declared.ExprKind.TheViews.{out-ExprKind, roll-out-ExprKind, out-Field, roll-out-Field, out-StatKind, roll-out-StatKind, out-Arm, roll-out-Arm, out-Block, roll-out-Block, out-Expr, roll-out-Expr, out-Function, roll-out-Function, out-Stat, roll-out-Stat}
+use Rattle.lua_syntax.specs.declared.ExprKind.TheFolds.{map-ExprKind, para-roll-ExprKind, map-Field, para-roll-Field, map-StatKind, para-roll-StatKind, para-roll-Arm, para-roll-Block, para-roll-Expr, para-roll-Function, para-roll-Stat}
+use Rattle.lua_syntax.specs.Functions.{Functions, With, joined, functions_of, kind_step, kind_functions, field_step, field_functions, stat_kind_step, stat_kind_functions, arm_step, arm_functions, block_step, block_functions, expr_step, expr_functions, function_step, function_functions, stat_step, stat_functions}
 
 abbrev pub optional : {A : Type 0} → (A → Functions) → Option A → Functions
 optional f None = []
 optional f (Some x) = f x
 
+-- What one level says.
 abbrev pub kind_level : ExprKind-F ExprKind Field StatKind Arm Block Expr FunctionNode Stat → Functions
 kind_level Nil = []
 kind_level True = []
@@ -64,6 +65,7 @@ stat_kind_level (Local names values) = functions_of expr_functions values
 stat_kind_level (Return values) = functions_of expr_functions values
 stat_kind_level Break = []
 
+-- A step of the definition, with each child beside the functions in it, says what the level says.
 pub list_level : {A : Type 0} (f : A → Functions) (xs : List A) → joined (map (λ x. (x, f x)) xs) ≡ functions_of f xs
 list_level f [] = refl
 list_level f (x ∷ xs) = ap (λ fs. f x ++ fs) (list_level f xs)
@@ -108,6 +110,7 @@ stat_kind_levels (Local names values) = list_level expr_functions values
 stat_kind_levels (Return values) = list_level expr_functions values
 stat_kind_levels Break = refl
 
+-- The definition, opened at the top of a tree.
 pub kind_opens : (x : ExprKind) → kind_functions x ≡ kind_level (out-ExprKind x)
 unfolding kind_functions field_functions stat_kind_functions arm_functions block_functions expr_functions function_functions stat_functions
 kind_opens x = ap kind_functions (sym (roll-out-ExprKind x)) ∙ para-roll-ExprKind Functions Functions Functions Functions Functions Functions Functions Functions kind_step field_step stat_kind_step arm_step block_step expr_step function_step stat_step (out-ExprKind x) ∙ kind_levels (out-ExprKind x)
@@ -140,6 +143,7 @@ pub stat_opens : (x : Stat) → stat_functions x ≡ stat_kind_functions (out-St
 unfolding kind_functions field_functions stat_kind_functions arm_functions block_functions expr_functions function_functions stat_functions
 stat_opens x = ap stat_functions (sym (roll-out-Stat x)) ∙ para-roll-Stat Functions Functions Functions Functions Functions Functions Functions Functions kind_step field_step stat_kind_step arm_step block_step expr_step function_step stat_step (out-Stat x)
 
+-- The levels, variant by variant.
 pub kind-Nil : kind_functions NilV ≡ []
 kind-Nil = kind_opens NilV ∙ ap kind_level outs-Nil
 

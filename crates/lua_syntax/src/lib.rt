@@ -163,4 +163,6 @@ pub enum UnaryOp {
 }
 
 #[cfg(test)]
+mod function_tests;
+#[cfg(test)]
 mod tests;
