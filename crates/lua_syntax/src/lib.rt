@@ -2,6 +2,7 @@
 //!
 //! - this file: the types of the tree
 //! - `fault`: the faults
+//! - `functions`: a tree's functions
 //! - `nodes`: the lines of a tree's nodes
 //!
 //! What the grammar writes shorter is one form here. `a.b` is an index with a text as its key; `{x = e}` is a pair with a
@@ -13,9 +14,11 @@
 #![tactic(auto)]
 
 pub mod fault;
+pub mod functions;
 pub mod nodes;
 
 pub use fault::{FaultAt, SyntaxFault};
+pub use functions::nested_functions;
 pub use nodes::node_lines;
 use wk_base::{Bytes, List};
 
@@ -159,5 +162,7 @@ pub enum UnaryOp {
     Minus,
 }
 
+#[cfg(test)]
+mod function_tests;
 #[cfg(test)]
 mod tests;

@@ -6,7 +6,7 @@ use std::alloc::Global;
 use std::test::Fail;
 use wk_base::{Bytes, List, NoMemory};
 
-fn one<T: Drop>(alloc: Global, item: T) -> Result<List<T>, NoMemory> {
+pub fn one<T: Drop>(alloc: Global, item: T) -> Result<List<T>, NoMemory> {
     let mut list = List::new(alloc);
     list.push(item)?;
     Ok(list)
@@ -17,7 +17,7 @@ fn number(line: u32) -> Expr {
     Expr { line, kind }
 }
 
-fn name(alloc: Global, line: u32) -> Result<Expr, NoMemory> {
+pub fn name(alloc: Global, line: u32) -> Result<Expr, NoMemory> {
     let kind = ExprKind::Name(Bytes::of(alloc, b"f")?);
     Ok(Expr { line, kind })
 }
@@ -45,7 +45,7 @@ fn sum(alloc: Global) -> Result<Expr, Fail> {
     Ok(Expr { line: 3, kind })
 }
 
-fn block(alloc: Global, stat: Stat) -> Result<Block, NoMemory> {
+pub fn block(alloc: Global, stat: Stat) -> Result<Block, NoMemory> {
     let stats = one(alloc, stat)?;
     Ok(Block { stats })
 }
