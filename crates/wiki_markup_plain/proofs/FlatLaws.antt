@@ -1,15 +1,14 @@
 -- Rewriting flat lists is rewriting the lists of the definition.
-use Rattle.std.proofs.Common.{◌≡◌, ℕ, suc, zero, ◌+◌, ◌-◌, nat_le, Bool, true, false, List, [], ◌∷◌, Option, Some, None, option_map, cond, refl, sym, ◌∙◌, ap, arith}
+use Rattle.std.proofs.Common.{◌≡◌, ℕ, suc, zero, ◌-◌, nat_le, Bool, true, false, List, [], ◌∷◌, Option, Some, None, option_map, cond, refl, ◌∙◌, ap}
 use Rattle.wiki_markup.specs.declared.cells.Pair.{Pair as DefinedPair}
 use Rattle.wiki_markup.specs.declared.cells.Pair.TheVariants.{Brace as DefinedBrace, Bracket as DefinedBracket}
 use Rattle.wiki_markup.specs.declared.cells.Shape.{Shape as DefinedShape}
-use Rattle.wiki_markup.specs.declared.cells.Shape.TheVariants.{Double as DefinedDouble, Triple as DefinedTriple, Square as DefinedSquare}
-use Rattle.wiki_markup.specs.Items.{Leaf, Opening as OpeningLeaf, Closing as ClosingLeaf, Split as SplitLeaf, Assign as AssignLeaf, Byte as ByteLeaf, Items, none, one, paired}
+use Rattle.wiki_markup.specs.declared.cells.Shape.TheVariants.{Double as DefinedDouble, Triple as DefinedTriple}
+use Rattle.wiki_markup.specs.Items.{Opening as OpeningLeaf, Closing as ClosingLeaf, Split as SplitLeaf, Assign as AssignLeaf, Byte as ByteLeaf, Items, none, one, paired}
 use Rattle.wiki_markup.specs.Pairing as defined
 use Rattle.wiki_markup.specs.Pairing.{Item as Before, Single, Node, onto}
-use Rattle.wiki_markup_plain.specs.declared.items.Pair.{Pair}
 use Rattle.wiki_markup_plain.specs.declared.items.Shape.{Shape}
-use Rattle.wiki_markup_plain.specs.declared.items.Shape.TheVariants.{Double, Triple, Square}
+use Rattle.wiki_markup_plain.specs.declared.items.Shape.TheVariants.{Double, Triple}
 use Rattle.wiki_markup_plain.specs.declared.items.Item.{Item}
 use Rattle.wiki_markup_plain.specs.declared.items.Item.TheVariants.{Opening, Closing, Split, Assign, Byte, Begin, End}
 use Rattle.wiki_markup_plain.specs.declared.rewriting.Run.{Run}

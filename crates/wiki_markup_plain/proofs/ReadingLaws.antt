@@ -1,5 +1,5 @@
 -- Letters and items, as they are read.
-use Rattle.std.proofs.Common.{◌≡◌, ℕ, suc, zero, ◌+◌, ◌-◌, ◌≤◌, ◌<◌, Bool, not, List, [], ◌∷◌, ◌++◌, length, drop, get_or, cond, add-one, append_assoc, refl, sym, ◌∙◌, ap, arith}
+use Rattle.std.proofs.Common.{◌≡◌, ℕ, suc, zero, ◌+◌, ◌≤◌, ◌<◌, Bool, not, List, [], ◌∷◌, ◌++◌, length, drop, get_or, cond, add-one, append_assoc, refl, sym, ◌∙◌, ap, arith}
 use Rattle.std.proofs.Math.Seq.{drop-cons}
 use Rattle.wiki_markup.specs.declared.marked.Span.{Span}
 use Rattle.wiki_markup.specs.declared.cells.Mark.{Mark as DefinedMark}
@@ -35,7 +35,7 @@ pub letter_more : (all out new : List Letter) (x : Letter) (kept : List Span) (c
     all ≡ out ++ letters_from kept cuts at (drop at bs) → all ≡ new ++ letters_from kept cuts (at + 1) (drop (at + 1) bs)
 letter_more all out new x kept cuts bs at b m j h is e f g n i =
     let made : x ≡ letter kept cuts at b = e ∙ ap (λ (k : DefinedMark). record { byte = b; mark = k; joins = j }) f
-        ∙ ap (λ (k : Bool). record { byte = b; mark = cond (is_kept kept at) DefinedPlain (mark_of b); joins = k }) g in
+    ∙ ap (λ (k : Bool). record { byte = b; mark = cond (is_kept kept at) DefinedPlain (mark_of b); joins = k }) g in
     i ∙ ap (λ l. out ++ l) (letters_here kept cuts at bs h ∙ ap (λ y. y ∷ letters_from kept cuts (at + 1) (drop (at + 1) bs)) (ap (letter kept cuts at) (sym is) ∙ sym made))
     ∙ sym (append_assoc out (x ∷ []) (letters_from kept cuts (at + 1) (drop (at + 1) bs)))
     ∙ ap (λ l. l ++ letters_from kept cuts (at + 1) (drop (at + 1) bs)) (sym n)

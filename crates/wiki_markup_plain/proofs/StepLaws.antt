@@ -4,7 +4,7 @@ use Rattle.wiki_markup.specs.declared.cells.Shape.{Shape as DefinedShape}
 use Rattle.wiki_markup.specs.declared.cells.Shape.TheVariants.{Double as DefinedDouble, Triple as DefinedTriple, Square as DefinedSquare}
 use Rattle.wiki_markup.specs.declared.cells.Cell.{Cell}
 use Rattle.wiki_markup.specs.declared.cells.Cell.TheVariants.{Byte as ByteCell, Begin as BeginCell, End as EndCell, Inner}
-use Rattle.wiki_markup.specs.Items.{Leaf, Opening as OpeningLeaf, Closing as ClosingLeaf, Split as SplitLeaf, Assign as AssignLeaf, Byte as ByteLeaf, Items, none, one, paired}
+use Rattle.wiki_markup.specs.Items.{Opening as OpeningLeaf, Closing as ClosingLeaf, Split as SplitLeaf, Assign as AssignLeaf, Byte as ByteLeaf, Items, none, one, paired}
 use Rattle.wiki_markup.specs.Pairing.{opening_byte as defined_opening_byte, closing_byte as defined_closing_byte}
 use Rattle.wiki_markup.specs.declared.cells.Place.{Place as Where}
 use Rattle.wiki_markup.specs.declared.cells.Place.TheVariants.{Outside as DefinedOutside, FirstPart as DefinedFirstPart, LaterPart as DefinedLaterPart, BehindEquals as DefinedBehindEquals}
@@ -15,7 +15,7 @@ use Rattle.wiki_markup.specs.Build.{Built, build, build_back, finished, start}
 use Rattle.wiki_markup.proofs.RoleLaws.{roles_of_cells}
 use Rattle.wiki_markup.proofs.BuildLaws.{built_start}
 use Rattle.wiki_markup_plain.specs.declared.items.Item.{Item}
-use Rattle.wiki_markup_plain.specs.declared.items.Item.TheVariants.{Begin as BeginItem, End as EndItem}
+use Rattle.wiki_markup_plain.specs.declared.items.Item.TheVariants.{End as EndItem}
 use Rattle.wiki_markup_plain.specs.declared.items.Shape.TheVariants.{Double, Triple, Square}
 use Rattle.wiki_markup_plain.specs.declared.steps.Place.{Place}
 use Rattle.wiki_markup_plain.specs.declared.steps.Place.TheVariants.{Outside, FirstPart, LaterPart, BehindEquals}
@@ -24,7 +24,7 @@ use Rattle.wiki_markup_plain.specs.declared.steps.Step.TheVariants.{Byte, Bar, E
 use Rattle.wiki_markup_plain.specs.declared.steps.Writer.{Writer}
 use Rattle.wiki_markup_plain.specs.Flat.{pair_for, flat, opening_byte, closing_byte}
 use Rattle.wiki_markup_plain.specs.Steps.{bytes, write_all, begun}
-use Rattle.wiki_markup_plain.specs.Building.{build_step, build_all}
+use Rattle.wiki_markup_plain.specs.Building.{build_all}
 use Rattle.wiki_markup_plain.proofs.FlatLaws.{opening_is, closing_is}
 
 abbrev where_of : Place → Where

@@ -1,5 +1,5 @@
 -- One turn of a loop that counts.
-use Rattle.std.proofs.Common.{◌≡◌, ℕ, suc, zero, ◌+◌, ◌-◌, ◌<◌, ◌≤◌, List, [], ◌∷◌, Option, Some, None, refl, sym, ◌∙◌, ap, arith}
+use Rattle.std.proofs.Common.{◌≡◌, ℕ, suc, zero, ◌+◌, ◌-◌, ◌<◌, ◌≤◌, List, ◌∷◌, Option, Some, None, refl, ap, arith}
 use Rattle.wiki_markup_plain.specs.declared.items.Item.{Item}
 use Rattle.wiki_markup_plain.specs.declared.steps.Step.{Step}
 use Rattle.wiki_markup_plain.specs.declared.steps.Step.TheVariants.{Byte}

@@ -22,7 +22,7 @@ pub whole : (s : ShownText) (first last : List Item) (most : ℕ) (steps : List 
     steps ≡ (write_all last begun).steps → nodes ≡ finished (build_all steps start) → nodes ≡ marked_of s
 whole s first last most steps nodes f m l t n =
     let rewritten : last ≡ flat (settled (items_of s)) [] =
-        l ∙ ap (λ k. rewritten_times k first) m ∙ ap (rewritten_times (closing_marks (items_of s))) f ∙ rewritten_times_is (closing_marks (items_of s)) (items_of s) in
+    l ∙ ap (λ k. rewritten_times k first) m ∙ ap (rewritten_times (closing_marks (items_of s))) f ∙ rewritten_times_is (closing_marks (items_of s)) (items_of s) in
     n ∙ ap (λ x. finished (build_all x start)) t
     ∙ ap (λ (x : List Item). finished (build_all (write_all x begun).steps start)) rewritten
     ∙ built_is (settled (items_of s))

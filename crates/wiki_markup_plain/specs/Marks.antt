@@ -1,5 +1,5 @@
 -- The marks of the code, as the definition has them, and what items say of their size.
-use Rattle.std.specs.Prelude.{ℕ, suc, zero, Bool, nat_eq, ◌||◌, List}
+use Rattle.std.specs.Prelude.{ℕ, suc, Bool, nat_eq, ◌||◌, List}
 use Rattle.wiki_markup.specs.declared.marked.Span.{Span}
 use Rattle.wiki_markup.specs.declared.cells.Pair.{Pair as DefinedPair}
 use Rattle.wiki_markup.specs.declared.cells.Pair.TheVariants.{Brace as DefinedBrace, Bracket as DefinedBracket}
@@ -9,7 +9,7 @@ use Rattle.wiki_markup.specs.Items.{some_of}
 use Rattle.wiki_markup_plain.specs.declared.items.Pair.{Pair}
 use Rattle.wiki_markup_plain.specs.declared.items.Pair.TheVariants.{Brace, Bracket}
 use Rattle.wiki_markup_plain.specs.declared.items.Item.{Item}
-use Rattle.wiki_markup_plain.specs.declared.items.Item.TheVariants.{Opening, Closing, Split, Assign, Byte, Begin, End}
+use Rattle.wiki_markup_plain.specs.declared.items.Item.TheVariants.{Opening, Closing}
 use Rattle.wiki_markup_plain.specs.declared.marks.Mark.{Mark}
 use Rattle.wiki_markup_plain.specs.declared.marks.Mark.TheVariants.{Open, Close, Bar, Equal, Plain}
 

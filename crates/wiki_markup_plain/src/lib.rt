@@ -25,3 +25,6 @@ mod stack;
 mod steps;
 
 pub use plain::plain_markup;
+
+#[cfg(test)]
+mod tests;

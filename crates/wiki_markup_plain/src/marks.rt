@@ -82,22 +82,14 @@ pub fn mark_of(b: u8) -> Mark
     Mark::Plain
 }
 
-fn same_pair(a: Pair, b: Pair) -> bool
-    ensures { result ≡ same_mark_lem (mark_meant (Mark.Open a)) (mark_meant (Mark.Open b)) }
-{
-    match (a, b) {
-        (Pair::Brace, Pair::Brace) => true,
-        (Pair::Bracket, Pair::Bracket) => true,
-        _ => false,
-    }
-}
-
 pub fn same_mark(a: Mark, b: Mark) -> bool
     ensures { result ≡ same_mark_lem (mark_meant a) (mark_meant b) }
 {
     match (a, b) {
-        (Mark::Open(p), Mark::Open(q)) => same_pair(p, q),
-        (Mark::Close(p), Mark::Close(q)) => same_pair(p, q),
+        (Mark::Open(Pair::Brace), Mark::Open(Pair::Brace)) => true,
+        (Mark::Open(Pair::Bracket), Mark::Open(Pair::Bracket)) => true,
+        (Mark::Close(Pair::Brace), Mark::Close(Pair::Brace)) => true,
+        (Mark::Close(Pair::Bracket), Mark::Close(Pair::Bracket)) => true,
         _ => false,
     }
 }

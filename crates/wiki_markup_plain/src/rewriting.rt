@@ -93,7 +93,13 @@ fn waiting_here(depth: usize, item: Item) -> Option<Run>
         return None;
     }
     match item {
-        Item::Opening(pair, count) => { if count >= 2 { Some(Run { pair, count }) } else { None } }
+        Item::Opening(pair, count) => {
+            if count >= 2 {
+                Some(Run { pair, count })
+            } else {
+                None
+            }
+        }
         _ => None,
     }
 }
@@ -108,13 +114,13 @@ fn find_leftmost(alloc: Global, items: &Stack<Item>) -> Result<Option<Leftmost>,
     let mut before = Stack::new(alloc);
     let mut depth = 0;
     while let Some(item) = after.pop() {
+        prove!(depth < room);
         if let Some(run) = closing_here(depth, item) {
             return Ok(Some(Leftmost { run, before, after }));
         }
         before.push(item)?;
         depth = depth_right(depth, item);
     }
-    let _ = room;
     Ok(None)
 }
 
@@ -128,6 +134,7 @@ fn find_nearest(alloc: Global, items: &Stack<Item>) -> Result<Option<Nearest>, N
     let mut between = Stack::new(alloc);
     let mut depth = 0;
     while let Some(item) = before.pop() {
+        prove!(depth < room);
         if let Some(run) = waiting_here(depth, item) {
             return Ok(Some(Nearest {
                 run,
@@ -138,7 +145,6 @@ fn find_nearest(alloc: Global, items: &Stack<Item>) -> Result<Option<Nearest>, N
         between.push(item)?;
         depth = depth_left(depth, item);
     }
-    let _ = room;
     Ok(None)
 }
 
@@ -276,7 +282,10 @@ fn closed_up(alloc: Global, found: Leftmost) -> Result<Stack<Item>, NoMemory>
             Ok(after)
         }
         Some(m) => {
-            let Met { taken, before: front } = m;
+            let Met {
+                taken,
+                before: front,
+            } = m;
             put_closing_rest(&mut after, run.pair, run.count.saturating_sub(taken))?;
             pour(front, &mut after)?;
             Ok(after)

@@ -1,4 +1,4 @@
-use Rattle.std.proofs.Common.{◌≡◌, ◌+◌, ◌-◌, ◌≤◌, [], length, drop}
+use Rattle.std.proofs.Common.{◌≡◌, ◌+◌, ◌-◌, ◌≤◌, [], drop}
 use Rattle.wiki_markup.specs.Items.{items_from}
 use Rattle.wiki_markup.specs.Pairing.{closing_marks}
 use Rattle.wiki_markup_plain.specs.Flat.{flat, pour}

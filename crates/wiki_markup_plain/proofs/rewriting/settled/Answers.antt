@@ -1,4 +1,4 @@
-use Rattle.std.proofs.Common.{◌≡◌, ◌-◌, sym, ◌∙◌, arith}
+use Rattle.std.proofs.Common.{◌-◌, sym, ◌∙◌, arith}
 use Rattle.wiki_markup_plain.proofs.Turns.{turn_more, turn_last, turn_none}
 use Rattle.wiki_markup_plain.proofs.rewriting.settled.Goals as goal
 
