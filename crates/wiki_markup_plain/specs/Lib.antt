@@ -1,0 +1,4 @@
+pub mod Flat
+pub mod Marks
+pub mod Steps
+pub mod Building
