@@ -15,7 +15,7 @@ use wk_base::NoMemory;
 ///
 /// The text is read as a list of items. The leftmost closing run in it is rewritten until there is none, each time in a new
 /// list. Then runs that wait become text, each `|` and `=` is settled, and the nodes are put together. It takes time in
-/// proportion to the square of the text or more; its stack doesn't grow with what the text nests. MediaWiki's manual,
+/// proportion to the square of the text, and its stack doesn't grow with what the text nests. MediaWiki's manual,
 /// "Preprocessor ABNF", "Ideal precedence".
 pub fn plain_markup(alloc: Global, text: &ShownText) -> Result<Marked, NoMemory>
     ensures paired { IfOk result (λ m. m.nodes ≡ marked_of text.now) }
