@@ -1,10 +1,12 @@
 //! The top call over a shelf and sinks in memory, by tables.
-ghost use Rattle.std.specs.Prelude.{None};
+ghost use Rattle.std.specs.Prelude.{◌≡◌, None};
 
 use crate::wiki_app::run;
 use std::alloc::{AllocError, Global};
+use std::marker::Brand;
+use std::sync::ledger::{Blank, Ledger};
 use std::test::Fail;
-use wk_base::{Bytes, List, NoMemory};
+use wk_base::{Bytes, List, NoMemory, Steps};
 use wk_shelf::{MemoryFile, MemoryShelf, MemorySink, Shelf, ShelfFault, can_hold};
 
 /// A run: the words, the files of the folder `d`, the numbers of the calls of the shelf and of the sinks that fail, and
@@ -363,4 +365,20 @@ fn a_folder_has_a_most_number_of_bytes(rt: HostRuntime) -> Result<(), Fail> {
         assert_eq!(rt; err.bytes(), told);
     }
     Ok(())
+}
+
+fn two_turns<L: Ledger>(blank: Blank)
+    requires name { blank.name ≡ L.name }
+    requires parts { blank.parts ≡ L.parts }
+    requires one { blank.parts ≡ 1 }
+{
+    let mut turns = Steps::<L>::open(blank);
+    turns.tick();
+    turns.tick();
+}
+
+/// The counter takes no bytes and can't be read: what it counts is proved.
+#[test]
+fn a_counter_of_turns_is_opened() {
+    two_turns::<Brand>(Blank::new(1));
 }
