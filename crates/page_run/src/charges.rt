@@ -1,5 +1,4 @@
-//! What is left of the allowances, and what a run that ends by itself needs of them. Kept data rests on the last three laws:
-//! a data load that completed once need not run again.
+//! What is left of the allowances, and what a run that ends by itself needs of them. Kept data rests on the last three laws.
 ghost use Rattle.page_run.specs.Run.{Meant};
 ghost use Rattle.page_run.specs.Charges.{NothingRises, CallsComeBack, EndFits, MoreIsAsGood, OneCharge};
 
@@ -9,16 +8,15 @@ pub fn nothing_rises<M, H, T, Q, A, O>()
     ensures { (meant : Meant M H T Q A O) → NothingRises meant }
 {}
 
-/// The calls left and those in progress are together what they were at first. At an end none is in progress: all are
-/// given back, also where the run is spent.
+/// Calls left and in progress are together what they were at first; at an end all are given back, also where the run is
+/// spent.
 #[tactic(auto, using(crate::proofs::ChargeLaws::calls_come_back))]
 pub fn calls_come_back<M, H, T, Q, A, O>()
     ensures { (meant : Meant M H T Q A O) → CallsComeBack meant }
 {}
 
 /// A run that uses no allowance of expansions and ends by itself ends alike, at the same charge, from whatever covers its
-/// charge in steps and its height in calls, whether that is more or less than it had: where its replies do so too, as
-/// inner data loads do.
+/// charge in steps and its height in calls, where its replies do so too, as inner data loads do.
 pub fn end_fits<M, H, T, Q, A, O>()
     ensures { (meant : Meant M H T Q A O) → EndFits meant }
 {}
@@ -29,8 +27,7 @@ pub fn more_is_as_good<M, H, T, Q, A, O>()
     ensures { (meant : Meant M H T Q A O) → MoreIsAsGood meant }
 {}
 
-/// Such a run has one outcome, one charge and one height. With fewer steps than the charge, or fewer calls than the height, it
-/// does not end by itself.
+/// Such a run has one outcome, one charge and one height; with fewer steps or calls than these it does not end by itself.
 #[tactic(auto, using(crate::proofs::FitLaws::one_charge))]
 pub fn one_charge<M, H, T, Q, A, O>()
     ensures { (meant : Meant M H T Q A O) → OneCharge meant }

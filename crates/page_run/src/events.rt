@@ -1,21 +1,19 @@
-//! What each event makes of the state of a run. Together these laws are all that is to be known of how a run is performed:
-//! none of them speaks of a bound on the things that begin.
+//! What each event makes of the state of a run. No law speaks of a bound on the things that begin.
 ghost use Rattle.page_run.specs.Events.{Always, EndsIs, TakesIs, CountsIs, SeesIs, ChangesIs, CallsIs, LeavesIs, BytesAre, DepthIs, TemplatesAre, BeginsIs, OpensIs, AsksIs};
 
-/// The end of a run: its outcome stands, and every call in progress is given back.
+/// The end: its outcome stands, and every call is given back.
 #[tactic(auto, using(crate::proofs::EventLaws::ends_is))]
 pub fn ending<M, H, T, Q, A, O>()
     ensures { Always M H T Q A O (λ meant beyond. EndsIs meant beyond) }
 {}
 
-/// A charge of steps: where so many are left, they are taken; elsewhere the run is spent, no step stays, and every
-/// call in progress is given back.
+/// A charge of steps is taken where it is covered; else the run is spent, no step stays, and every call is given back.
 #[tactic(auto, using(crate::proofs::EventLaws::takes_is))]
 pub fn taking<M, H, T, Q, A, O>()
     ensures { Always M H T Q A O (λ meant beyond. TakesIs meant beyond) }
 {}
 
-/// A node of a syntax tree that begins raises the tally's nodes by one, and nothing else.
+/// A node of a syntax tree raises the tally's nodes by one, and nothing else.
 #[tactic(auto, using(crate::proofs::EventLaws::counts_is))]
 pub fn counting<M, H, T, Q, A, O>()
     ensures { Always M H T Q A O (λ meant beyond. CountsIs meant beyond) }
@@ -33,8 +31,8 @@ pub fn changing<M, H, T, Q, A, O>()
     ensures { Always M H T Q A O (λ meant beyond. ChangesIs meant beyond) }
 {}
 
-/// A function that is entered takes one of the calls left, and the height is raised to the number in progress.
-/// Where no call is left, the run is spent, and every call in progress is given back.
+/// A function that is entered takes a call, and raises the height to the number in progress. Where no call is left, the run
+/// is spent, and every call is given back.
 #[tactic(auto, using(crate::proofs::EventLaws::calls_is))]
 pub fn calling<M, H, T, Q, A, O>()
     ensures { Always M H T Q A O (λ meant beyond. CallsIs meant beyond) }
@@ -46,15 +44,15 @@ pub fn leaving<M, H, T, Q, A, O>()
     ensures { Always M H T Q A O (λ meant beyond. LeavesIs meant beyond) }
 {}
 
-/// Bytes of a result are taken where so many are left; elsewhere none stay. The run is told which, and goes on
+/// Bytes are taken where they are covered; else none stay. The run is told which, and goes on
 /// (MediaWiki, Manual: Template limits, "post-expand include size").
 #[tactic(auto, using(crate::proofs::EventLaws::bytes_are))]
 pub fn using_bytes<M, H, T, Q, A, O>()
     ensures { Always M H T Q A O (λ meant beyond. BytesAre meant beyond) }
 {}
 
-/// A construct or parameter enters a level and leaves it again. Where none is left, nothing changes, the run is told
-/// so, and goes on (MediaWiki, Manual: $wgMaxPPExpandDepth).
+/// A construct or parameter enters a level and leaves it. Where none is left, nothing changes, the run is told so, and goes
+/// on (MediaWiki, Manual: $wgMaxPPExpandDepth).
 pub fn using_depth<M, H, T, Q, A, O>()
     ensures { Always M H T Q A O (λ meant beyond. DepthIs meant beyond) }
 {}
@@ -65,21 +63,21 @@ pub fn using_templates<M, H, T, Q, A, O>()
     ensures { Always M H T Q A O (λ meant beyond. TemplatesAre meant beyond) }
 {}
 
-/// A thing that begins takes one step, and what it means goes on from there; where no step is left, the run is spent.
+/// A thing that begins takes one step, and its meaning follows; where none is left, the run is spent.
 #[tactic(auto, using(crate::proofs::EventLaws::begins_is))]
 pub fn beginning<M, H, T, Q, A, O>()
     ensures { Always M H T Q A O (λ meant beyond. BeginsIs meant beyond) }
 {}
 
-/// A thing that is opened takes one node, and what it means goes on from there; where no node is left, the run goes on
-/// without it (MediaWiki, Manual: $wgMaxPPNodeCount).
+/// A thing that is opened takes one node, and its meaning follows; where none is left, the run goes on without it
+/// (MediaWiki, Manual: $wgMaxPPNodeCount).
 #[tactic(auto, using(crate::proofs::EventLaws::opens_is))]
 pub fn opening<M, H, T, Q, A, O>()
     ensures { Always M H T Q A O (λ meant beyond. OpensIs meant beyond) }
 {}
 
-/// A question is answered by the next reply that is given; where none is, by the one that is computed from what is
-/// left; where none can be, the run waits. A reply that exhausts an allowance spends the run.
+/// A question is answered by the next given reply, else by the computed one; else the run waits. A reply that exhausts an
+/// allowance spends the run.
 #[tactic(auto, using(crate::proofs::EventLaws::asks_is))]
 pub fn asking<M, H, T, Q, A, O>()
     ensures { Always M H T Q A O (λ meant beyond. AsksIs meant beyond) }

@@ -2,21 +2,21 @@
 ghost use Rattle.page_run.specs.Run.{Meant};
 ghost use Rattle.page_run.specs.Walk.{RepeatIsKept, OtherIsFresh, WalkOfJoined, TellsNone, TellsReply};
 
-/// A load that completes, of a module whose load completed before, is a repeat: its charge is kept, and what is inside it is
-/// passed over.
+/// A completed load of a module whose load completed before is a repeat: its charge is kept, and what is inside it passed
+/// over.
 #[tactic(auto, using(crate::proofs::LoadLaws::repeat_is_kept))]
 pub fn repeat_is_kept()
     ensures { RepeatIsKept }
 {}
 
-/// Every other load is fresh: the loads inside it are walked, then its own nodes count, and then its module's name, where it
-/// completed.
+/// Every other load is fresh: the loads inside it are walked, then its nodes count, and then, where it completed, its
+/// module's name.
 #[tactic(auto, using(crate::proofs::LoadLaws::other_is_fresh))]
 pub fn other_is_fresh()
     ensures { OtherIsFresh }
 {}
 
-/// The walk of joined loads is the walk of the second after the walk of the first.
+/// The walk of joined loads is the second walk after the first.
 #[tactic(auto, using(crate::proofs::LoadLaws::walk_of_joined))]
 pub fn walk_of_joined()
     ensures { WalkOfJoined }
@@ -28,8 +28,7 @@ pub fn tells_none<M, H, T, Q, A, O>()
     ensures { (meant : Meant M H T Q A O) → TellsNone meant }
 {}
 
-/// With one reply more, a run that waited tells of the loads and invocations of that reply after those so far, and of no
-/// others.
+/// With one reply more, a run that waited tells of that reply's loads and invocations after those so far, and of no others.
 #[tactic(auto, using(crate::proofs::LoadLaws::tells_reply))]
 pub fn tells_reply<M, H, T, Q, A, O>()
     ensures { (meant : Meant M H T Q A O) → TellsReply meant }

@@ -2,8 +2,8 @@
 ghost use Rattle.page_run.specs.Run.{Meant};
 ghost use Rattle.page_run.specs.Replies.{WaitingIsAsking, EndStands, SpentStands, ComputedIsGiven, UnansweredWaits, AgreeingIsEnough};
 
-/// A run that waits at a question is, whatever replies come, given or computed, one that asks this question at this
-/// moment. So a suspended run and its definition agree without running anything again.
+/// A run that waits at a question is, whatever replies come, one that asks this question at this moment: a suspended run
+/// and its definition agree.
 #[tactic(auto, using(crate::proofs::ReplyLaws::waiting_is_asking))]
 pub fn waiting_is_asking<M, H, T, Q, A, O>()
     ensures { (meant : Meant M H T Q A O) → WaitingIsAsking meant }
@@ -21,8 +21,8 @@ pub fn spent_stands<M, H, T, Q, A, O>()
     ensures { (meant : Meant M H T Q A O) → SpentStands meant }
 {}
 
-/// A reply that is computed is the same as that reply given in advance. So a run whose replies are computed is the run
-/// that is begun anew for each reply, with those so far in its list.
+/// A computed reply is that reply given in advance: a run with computed replies is the run begun anew for each, with those
+/// so far in its list.
 #[tactic(auto, using(crate::proofs::ReplyLaws::computed_is_given))]
 pub fn computed_is_given<M, H, T, Q, A, O>()
     ensures { (meant : Meant M H T Q A O) → ComputedIsGiven meant }
@@ -34,8 +34,8 @@ pub fn unanswered_waits<M, H, T, Q, A, O>()
     ensures { (meant : Meant M H T Q A O) → UnansweredWaits meant }
 {}
 
-/// Two ways to compute replies that agree wherever no more steps and nodes are left than at the start are one. This is
-/// what makes runs inside runs well founded: an inner run begins with less.
+/// Ways to compute replies that agree wherever no more steps and nodes are left than at the start are one: an inner run
+/// begins with less.
 #[tactic(auto, using(crate::proofs::ReplyLaws::agreeing_is_enough))]
 pub fn agreeing_is_enough<M, H, T, Q, A, O>()
     ensures { (meant : Meant M H T Q A O) → AgreeingIsEnough meant }
