@@ -1,4 +1,4 @@
--- THE LAWS OF CHARGES: what is left of the allowances, and what a run that ends by itself needs of them.
+-- THE LAWS OF CHARGES.
 use Rattle.std.specs.Prelude.{◌≡◌, ℕ, ◌+◌, ◌-◌, ◌≤◌, [], Some}
 use Rattle.wk_base.specs.declared.left.Left.{Left}
 use Rattle.page_run.specs.Run.{Run, Meant}

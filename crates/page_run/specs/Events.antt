@@ -1,4 +1,4 @@
--- THE LAWS OF EVENTS: what each event of a run makes of the state, said without a bound on things.
+-- THE LAWS OF EVENTS, said without a bound on things.
 use Rattle.std.specs.Prelude.{◌≡◌, ℕ, ◌+◌, ◌-◌, ◌<◌, ◌≤◌, max, Bool, true, false, List, [], ◌∷◌, Some, None}
 use Rattle.page_run.specs.declared.which.Which.{Which}
 use Rattle.page_run.specs.declared.which.Which.TheVariants.{Steps, Calls as AllCalls}

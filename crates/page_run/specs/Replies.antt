@@ -1,4 +1,4 @@
--- THE LAWS OF REPLIES: what a run that waits, or is over, comes to with more of them.
+-- THE LAWS OF REPLIES.
 use Rattle.std.specs.Prelude.{◌≡◌, ◌≤◌, List, [], ◌∷◌, Some, None}
 use Rattle.wk_base.specs.declared.left.Left.{Left}
 use Rattle.page_run.specs.declared.which.Which.{Which}

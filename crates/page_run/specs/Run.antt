@@ -1,4 +1,4 @@
--- A RUN is the events that it makes, one after another: of Lua code, and of the expansion of a page alike.
+-- A RUN is the events that it makes, one after another.
 --   M  who may use the allowances of expansions: empty for a run of Lua, which may not
 --   H  the heap that the run sees and changes
 --   T  the things that begin: what is no smaller part of the text that runs, as a loop's next turn or a function's body
@@ -28,7 +28,7 @@ pub data Run (M H T Q A O : Type 0) : Type 0 where
   Calls : (rest : Run M H T Q A O) → Run M H T Q A O
   -- the function entered last is left
   Leaves : (rest : Run M H T Q A O) → Run M H T Q A O
-  -- it uses an allowance of expansions, and is told whether there was enough
+  -- it uses an allowance of expansions
   Uses : (may : M) (what : Use) (rest : Bool → Run M H T Q A O) → Run M H T Q A O
   -- a thing begins, at one step; where none is left, the run is spent
   Begins : (thing : T) (rest : O → Run M H T Q A O) → Run M H T Q A O
