@@ -1,0 +1,4 @@
+//! The heap of Lua.
+#![tactic(auto)]
+
+pub mod builtin;
