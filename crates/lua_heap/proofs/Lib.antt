@@ -1,0 +1,2 @@
+pub mod Try
+pub mod Values

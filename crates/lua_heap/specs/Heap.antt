@@ -2,6 +2,7 @@
 -- A cell holds the value of one variable that functions share (manual 2.6). What a function holds is a parameter X:
 -- the meaning of Lua has a function's text with its environment there, the store a function's code with its cells.
 use Rattle.std.specs.Prelude.{◌≡◌, ℕ, Bool, true, false, List, [], ◌∷◌, ◌++◌, length, Option, Some, None, slice_get, slice_set, slice_index_or, IsTrue}
+use Rattle.std.specs.Option.{option_map}
 use Rattle.lua_table.specs.Entries.{Contents}
 use Rattle.lua_heap.specs.Value.{Value, Nil}
 use Rattle.lua_heap.specs.Table.{empty_table, set}
@@ -52,16 +53,12 @@ pub data Obj (X : Type 0) : Type 0 where
   ClosureObj : Closed X → Obj X
   MarkupObj : MarkupNode → Obj X
 
-abbrev pub option_of : {A B : Type 0} → (A → B) → Option A → Option B
-option_of f None = None
-option_of f (Some x) = Some (f x)
-
 -- the object of that name, if there is one
 abbrev pub look : {X : Type 0} → Heap X → Ref → Option (Obj X)
-look h (tab n) = option_of TableObj (slice_get h.tables n)
-look h (cel n) = option_of CellObj (slice_get h.cells n)
-look h (clo n) = option_of ClosureObj (slice_get h.closures n)
-look h (mar n) = option_of MarkupObj (slice_get h.markup n)
+look h (tab n) = option_map TableObj (slice_get h.tables n)
+look h (cel n) = option_map CellObj (slice_get h.cells n)
+look h (clo n) = option_map ClosureObj (slice_get h.closures n)
+look h (mar n) = option_map MarkupObj (slice_get h.markup n)
 
 -- the heap with one more object
 abbrev pub add : {X : Type 0} → Heap X → Obj X → Heap X

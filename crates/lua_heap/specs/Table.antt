@@ -1,5 +1,6 @@
 -- TABLES OF VALUES (manual 2.2, 2.5.5, 2.5.7 and 5.1): the tables of `lua_table`, at the values of Lua.
 use Rattle.std.specs.Prelude.{◌≡◌, ◌≢◌, ℕ, zero, suc, ◌+◌, pos, min, Bool, false, if◌then◌else◌, List, [], length, Option, Some, None, ◌≤◌}
+use Rattle.std.specs.Option.{option_map}
 use Rattle.lua_table.specs.Entries.{Contents, value_at, is_there, set_at, after_key, first_held, Stop, IsBorder, HasKeys}
 use Rattle.lua_heap.specs.Value.{Value, Nil, Number, same, is_nil}
 
@@ -34,13 +35,9 @@ ValueStop = Stop same Nil
 abbrev pub first_entry : Entries → ValueStop
 first_entry es = first_held same Nil es
 
-abbrev pub stop_behind : Option Entries → Option ValueStop
-stop_behind None = None
-stop_behind (Some es) = Some (first_entry es)
-
 -- what `next` gives for a key, and for nil; None where the key never was set
 abbrev pub next : Entries → Value → Option ValueStop
-next es key = if is_nil key then Some (first_entry es) else stop_behind (behind_key es key)
+next es key = if is_nil key then Some (first_entry es) else option_map first_entry (behind_key es key)
 
 -- each key is there once, and none is nil
 abbrev pub HasValueKeys : Entries → Type 0
