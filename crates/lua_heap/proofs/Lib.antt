@@ -1,2 +1,6 @@
 pub mod Try
 pub mod Values
+pub mod Places
+pub mod LookLaws
+pub mod Names
+pub mod Carried

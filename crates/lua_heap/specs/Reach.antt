@@ -5,6 +5,7 @@ use Rattle.std.specs.List.{AllByRecursion, Contains, flat_map}
 use Rattle.lua_table.specs.Entries.{Contents}
 use Rattle.lua_heap.specs.Value.{Value, Nil, Truth, Number, Text, Table, Closure, Builtin, Markup}
 use Rattle.lua_heap.specs.Table.{Entries}
+use Rattle.lua_heap.specs.Related.{Map}
 use Rattle.lua_heap.specs.Heap.{Closed, Function, Iterator, MarkupChild, ChildText, ChildNode, MarkupNode, Heap, Ref, tab, cel, clo, mar, Obj, TableObj, CellObj, ClosureObj, MarkupObj, look, is_shared, IsShared}
 
 -- WHAT IS NAMED
@@ -122,3 +123,16 @@ module _ {X : Type 0} (names : X → List Ref) where
   -- each read-only table names read-only tables alone
   abbrev pub IsDeep : Heap X → Type 0
   IsDeep s = (r : Ref) (a : Obj X) → look s r ≡ Some a → IsShared a → AllIn (shared_at s) (obj_names names a)
+
+-- what R says of a function hangs on the names of its content alone
+abbrev pub LooksAtNames : {X Y : Type 0} → (Map → X → Y → Type 0) → (Y → List Ref) → Type 0
+LooksAtNames {X} {Y} R names = (m n : Map) (S : Set) → ((q r : Ref) → m.to q ≡ Some r → IsTrue (S r) → n.to q ≡ Some r)
+    → (a : X) (b : Y) → R m a b → AllIn S (names b) → R n a b
+
+-- each name of a content that stands for another one stands for something
+abbrev pub NamesStand : {X Y : Type 0} → (Map → X → Y → Type 0) → (Y → List Ref) → Type 0
+NamesStand {X} {Y} R names = (m : Map) (S : Set) → ((q r : Ref) → m.to q ≡ Some r → IsTrue (S r)) → (a : X) (b : Y) → R m a b → AllIn S (names b)
+
+-- a content stands for itself where its names do
+abbrev pub StandsForItself : {X : Type 0} → (Map → X → X → Type 0) → (X → List Ref) → Type 0
+StandsForItself {X} R names = (m : Map) (S : Set) → ((r : Ref) → IsTrue (S r) → m.to r ≡ Some r) → (a : X) → AllIn S (names a) → R m a a
