@@ -4,3 +4,5 @@ pub mod Places
 pub mod LookLaws
 pub mod Names
 pub mod Carried
+pub mod Entries
+pub mod Steps
