@@ -6,3 +6,5 @@ pub mod Names
 pub mod Carried
 pub mod Entries
 pub mod Steps
+pub mod Stood
+pub mod Changes
