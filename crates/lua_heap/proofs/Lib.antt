@@ -8,3 +8,6 @@ pub mod Entries
 pub mod Steps
 pub mod Stood
 pub mod Changes
+pub mod Sets
+pub mod Frames
+pub mod Reached

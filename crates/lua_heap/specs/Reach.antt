@@ -83,6 +83,26 @@ without_shared S s r = if shared_at s r then false else S r
 abbrev pub with_new : {X : Type 0} → Set → Heap X → Heap X → Set
 with_new S s t r = S r || (is_none (look s r) && is_some (look t r))
 
+-- the objects of the second heap that stand for something
+abbrev pub image : Map → Set
+image m r = is_some (m.from r)
+
+-- each name of the set to itself
+abbrev pub itself : Set → Map
+itself S = record { to = λ q. if S q then Some q else None; from = λ q. if S q then Some q else None }
+
+-- the map cut down to what stands in the set
+abbrev pub kept_in : Set → Option Ref → Option Ref
+kept_in S None = None
+kept_in S (Some r) = if S r then Some r else None
+
+abbrev pub cut : Set → Map → Map
+cut S m = record { to = λ q. kept_in S (m.to q); from = λ r. if S r then m.from r else None }
+
+-- two sets meet in read-only tables alone
+abbrev pub MeetShared : {X : Type 0} → Heap X → Set → Set → Type 0
+MeetShared s S T = (r : Ref) → IsTrue (S r) → IsTrue (T r) → IsTrue (shared_at s r)
+
 -- from s to t nothing outside of the set changes, and no read-only table; nothing goes away
 pub record Frame {X : Type 0} (S : Set) (s t : Heap X) : Type 0 where
   pub lives : (r : Ref) (b : Obj X) → look s r ≡ Some b → (c : Obj X) × (look t r ≡ Some c)
