@@ -1,0 +1,49 @@
+-- THE LIBRARY (manual 5): what each function does with its arguments, and with the levels of an error at its entry.
+-- A function that is not built yet stands in no environment.
+use Rattle.std.specs.Prelude.{ℕ, List, [], Option, Some, None}
+use Rattle.page_run.specs.Outcome.{◌>>=◌, ◌>>◌, give}
+use Rattle.lua_heap.specs.Value.{Value}
+use Rattle.lua_heap.specs.Heap.{Heap}
+use Rattle.lua_heap.specs.Library.{Library, BasicAssert, BasicError, BasicGetMetatable, BasicSetMetatable, BasicIpairs, BasicPairs, BasicNext, BasicPcall, BasicXpcall, BasicRawEqual, BasicRawGet, BasicRawSet, BasicSelect, BasicToNumber, BasicToString, BasicType, BasicUnpack, ArgsIndex, IpairsStep, library_at}
+use Rattle.lua_meaning.specs.Environment.{Function, Levels}
+use Rattle.lua_meaning.specs.Acts.{Act, see_heap}
+use Rattle.lua_meaning.specs.Arguments.{Plain, plain_act}
+use Rattle.lua_meaning.specs.Basic.{assert, error, get_metatable, set_metatable, raw_equal, raw_get, raw_set_, select, to_number, type_, unpack, next}
+use Rattle.lua_meaning.specs.Frames.{args_index}
+use Rattle.lua_meaning.specs.Protocol.{pcall, xpcall, to_string, pairs, ipairs, ipairs_step}
+
+-- a function that calls back nobody
+abbrev pub plain : Library → List Value → Heap Function → Option Plain
+plain BasicAssert args h = Some (assert args h)
+plain BasicError args h = Some (error args h)
+plain BasicGetMetatable args h = Some (get_metatable args h)
+plain BasicSetMetatable args h = Some (set_metatable args h)
+plain BasicNext args h = Some (next args h)
+plain BasicRawEqual args h = Some (raw_equal args h)
+plain BasicRawGet args h = Some (raw_get args h)
+plain BasicRawSet args h = Some (raw_set_ args h)
+plain BasicSelect args h = Some (select args h)
+plain BasicToNumber args h = Some (to_number args h)
+plain BasicType args h = Some (type_ args h)
+plain BasicUnpack args h = Some (unpack args h)
+plain ArgsIndex args h = Some (args_index args h)
+plain _ args h = None
+
+abbrev pub plain_or_none : Option Plain → Levels → Act (List Value)
+plain_or_none (Some p) callers = plain_act p callers
+plain_or_none None callers = give []
+
+abbrev pub library : Library → List Value → Levels → Act (List Value)
+library BasicPcall args callers = pcall args
+library BasicXpcall args callers = xpcall args
+library BasicToString args callers = to_string args callers
+library BasicPairs args callers = pairs args callers
+library BasicIpairs args callers = ipairs args callers
+library IpairsStep args callers = ipairs_step args callers
+library which args callers = do
+  h ← see_heap
+  plain_or_none (plain which args h) callers
+
+abbrev pub library_of : Option Library → List Value → Levels → Act (List Value)
+library_of (Some which) args callers = library which args callers
+library_of None args callers = give []

@@ -1,0 +1,59 @@
+-- WHAT EACH THING MEANS that begins. A function entered, and a turn of a loop, are counted like the nodes of the tree.
+use Rattle.std.specs.Prelude.{ℕ, true, false, Bool, List, [], length, drop, if◌then◌else◌}
+use Rattle.page_run.specs.Outcome.{Outcome, Goes, Jumps, ◌>>=◌, ◌>>◌, give, jump, catch, count, in_call}
+use Rattle.lua_syntax.specs.declared.Block.{Block}
+use Rattle.lua_syntax.specs.declared.ExprKind.TheViews.{out-Function}
+use Rattle.lua_heap.specs.Value.{Value}
+use Rattle.lua_heap.specs.Library.{library_at}
+use Rattle.lua_meaning.specs.Environment.{Bytes, Env, Function, Levels}
+use Rattle.lua_meaning.specs.Acts.{Act, Jump, Returned, Thing, WhileTurn, RepeatTurn, CountTurn, EachTurn, Body, LibraryBody, ChunkBody, IndexLink, SetLink, CallLink, declare}
+use Rattle.lua_meaning.specs.Calls.{call}
+use Rattle.lua_meaning.specs.Index.{index_link, set_link}
+use Rattle.lua_meaning.specs.Loops.{while_turn, repeat_turn, count_turn, each_turn}
+use Rattle.lua_meaning.specs.Meaning.{function_means, block_means, expr_part, block_part}
+use Rattle.lua_meaning.specs.Libraries.{library_of}
+
+-- FUNCTIONS (manual 2.5.9). The arguments beyond the parameters are the values of `...`, if the function has it.
+abbrev pub dots_of : Function → List Value → List Value
+dots_of f args = if (out-Function f.node).dots then drop (length (out-Function f.node).params) args else []
+
+abbrev pub body_env : Function → List Value → Levels → Env
+body_env f args callers = record { names = f.names; dots = dots_of f args; source = f.source; callers = callers }
+
+-- a body gives the values of its `return`, and none where it comes to its end
+abbrev pub after_body : Outcome Env Jump → Act (List Value)
+after_body (Goes env) = give []
+after_body (Jumps (Returned vs)) = give vs
+after_body (Jumps j) = jump j
+
+abbrev pub body : Function → List Value → Levels → Act (List Value)
+body f args callers = in_call (do
+  count
+  env ← declare (out-Function f.node).params args (body_env f args callers)
+  catch (function_means f.node env) after_body)
+
+abbrev pub library_body : ℕ → List Value → Levels → Act (List Value)
+library_body which args callers = in_call (do
+  count
+  library_of (library_at which) args callers)
+
+-- the text of a module is a function without parameters (2.4.1)
+abbrev pub chunk_env : Bytes → Env
+chunk_env source = record { names = []; dots = []; source = source; callers = [] }
+
+abbrev pub chunk_body : Bytes → Block → Act (List Value)
+chunk_body source b = in_call (do
+  count
+  catch (block_means b (chunk_env source)) after_body)
+
+abbrev pub meant : Thing → Act (List Value)
+meant (WhileTurn test body env) = while_turn (expr_part test) (block_part body) env
+meant (RepeatTurn body test env) = repeat_turn (block_part body) (expr_part test) env
+meant (CountTurn name index limit step body env) = count_turn name index limit step (block_part body) env
+meant (EachTurn names f state results body line env) = each_turn names f state results (block_part body) line env
+meant (Body f args callers) = body f args callers
+meant (LibraryBody which args callers) = library_body which args callers
+meant (ChunkBody source b) = chunk_body source b
+meant (IndexLink object h key ls) = index_link object h key ls
+meant (SetLink object h key value ls) = set_link object h key value ls
+meant (CallLink h args ls) = call h args ls

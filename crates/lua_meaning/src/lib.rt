@@ -1,0 +1,4 @@
+//! The meaning of Lua.
+#![tactic(auto)]
+
+fn nothing() {}
