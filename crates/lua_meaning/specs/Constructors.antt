@@ -5,7 +5,7 @@ use Rattle.lua_heap.specs.Value.{Value, Number, Table}
 use Rattle.lua_meaning.specs.Environment.{Env, Levels, levels}
 use Rattle.lua_meaning.specs.Acts.{Act, node, one, make_table}
 use Rattle.lua_meaning.specs.Index.{raw_set}
-use Rattle.lua_meaning.specs.Tree.{Expression, FieldPart, ItemOf, PairOf}
+use Rattle.lua_meaning.specs.Tree.{Expression, FieldMeaning, ItemOf, PairOf}
 
 -- values at the places from n on
 abbrev pub set_items : ℕ → ℕ → List Value → Levels → Act (Unit {0})
@@ -17,29 +17,29 @@ set_items t n (v ∷ vs) ls = do
 -- an item of which one value counts, at place n
 abbrev pub set_item : ℕ → ℕ → Expression → Levels → Env → Act (Unit {0})
 set_item t n e ls env = do
-  v ← one (e.values env)
+  v ← one (e env)
   raw_set t (Number (pos n)) v ls
 
 -- the last item, with all its values
 abbrev pub set_last : ℕ → ℕ → Expression → Levels → Env → Act (Unit {0})
 set_last t n e ls env = do
-  vs ← e.values env
+  vs ← e env
   set_items t n vs ls
 
 abbrev pub set_pair : ℕ → Expression → Expression → Levels → Env → Act (Unit {0})
 set_pair t key e ls env = do
-  k ← one (key.values env)
-  v ← one (e.values env)
+  k ← one (key env)
+  v ← one (e env)
   raw_set t k v ls
 
 -- fields, of which the next item has place n
-abbrev pub set_fields : ℕ → ℕ → List FieldPart → Levels → Env → Act (Unit {0})
+abbrev pub set_fields : ℕ → ℕ → List FieldMeaning → Levels → Env → Act (Unit {0})
 set_fields t n [] ls env = give tt
-set_fields t n ((tree, ItemOf e) ∷ []) ls env = set_last t n e ls env
-set_fields t n ((tree, ItemOf e) ∷ more) ls env = set_item t n e ls env >> set_fields t (n + 1) more ls env
-set_fields t n ((tree, PairOf key e) ∷ more) ls env = set_pair t key e ls env >> set_fields t n more ls env
+set_fields t n (ItemOf e ∷ []) ls env = set_last t n e ls env
+set_fields t n (ItemOf e ∷ more) ls env = set_item t n e ls env >> set_fields t (n + 1) more ls env
+set_fields t n (PairOf key e ∷ more) ls env = set_pair t key e ls env >> set_fields t n more ls env
 
-abbrev pub constructor_ : List FieldPart → ℕ → Env → Act (List Value)
+abbrev pub constructor_ : List FieldMeaning → ℕ → Expression
 constructor_ fields line env = do
   node
   t ← make_table

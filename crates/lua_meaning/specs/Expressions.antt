@@ -5,6 +5,7 @@ use Rattle.lua_syntax.specs.declared.BinaryOp.{BinaryOp}
 use Rattle.lua_syntax.specs.declared.BinaryOp.TheVariants as op
 use Rattle.lua_syntax.specs.declared.UnaryOp.{UnaryOp}
 use Rattle.lua_syntax.specs.declared.UnaryOp.TheVariants as sign
+use Rattle.lua_syntax.specs.declared.Function.{Function as FunctionNode}
 use Rattle.lua_heap.specs.Value.{Value, Nil, Truth, Text, Table, is_true}
 use Rattle.lua_meaning.specs.Environment.{Bytes, Env, Levels, cell_of, levels}
 use Rattle.lua_meaning.specs.Values.{first}
@@ -12,28 +13,28 @@ use Rattle.lua_meaning.specs.Acts.{Act, node, choose, one, read_cell, make_closu
 use Rattle.lua_meaning.specs.Calls.{call}
 use Rattle.lua_meaning.specs.Index.{index}
 use Rattle.lua_meaning.specs.Operators.{operate, minus, length_of}
-use Rattle.lua_meaning.specs.Tree.{Expression, ExprPart, FunctionPart, Target, Local, Global, Entry, NoTarget}
+use Rattle.lua_meaning.specs.Tree.{Expression, Targeted, Target, Local, Global, Entry}
 
 -- the one value of an expression; of a list the first, and nil where there is none
-abbrev pub value : ExprPart → Env → Act Value
-value e env = one (e.1.values env)
+abbrev pub value : Expression → Env → Act Value
+value e env = one (e env)
 
 -- LISTS (2.5): the values before, and those of the list. The last expression gives all its values, each other one gives one.
-abbrev pub values : List ExprPart → Env → List Value → Act (List Value)
+abbrev pub values : List Expression → Env → List Value → Act (List Value)
 values [] env before = give before
 values (e ∷ []) env before = do
-  vs ← e.1.values env
+  vs ← e env
   give (before ++ vs)
 values (e ∷ more) env before = do
   v ← value e env
   values more env (before ++ v ∷ [])
 
 -- CONSTANTS
-abbrev pub constant : Value → Env → Act (List Value)
+abbrev pub constant : Value → Expression
 constant v env = node >> give (v ∷ [])
 
 -- `...` costs a step more for each of its values
-abbrev pub dots : Env → Act (List Value)
+abbrev pub dots : Expression
 dots env = do
   node
   tick (length env.dots)
@@ -46,13 +47,13 @@ variable None name ls = do
   s ← see
   index (Table s.globals) (Text name) ls
 
-abbrev pub name : Bytes → ℕ → Env → Act (List Value)
+abbrev pub name : Bytes → ℕ → Expression
 name x line env = do
   node
   v ← variable (cell_of env.names x) x (levels env line)
   give (v ∷ [])
 
-abbrev pub indexed : ExprPart → ExprPart → ℕ → Env → Act (List Value)
+abbrev pub indexed : Expression → Expression → ℕ → Expression
 indexed of key line env = do
   node
   t ← value of env
@@ -61,17 +62,17 @@ indexed of key line env = do
   give (v ∷ [])
 
 -- FUNCTIONS (2.5.9): each time a new closure, with the names that are seen here
-abbrev pub closure : FunctionPart → Env → Act Value
-closure f env = make_closure (record { node = f.0; names = env.names; source = env.source })
+abbrev pub closure : FunctionNode → Env → Act Value
+closure f env = make_closure (record { node = f; names = env.names; source = env.source })
 
-abbrev pub function : FunctionPart → Env → Act (List Value)
+abbrev pub function : FunctionNode → Expression
 function f env = do
   node
   v ← closure f env
   give (v ∷ [])
 
 -- CALLS (2.5.8)
-abbrev pub called : ExprPart → List ExprPart → ℕ → Env → Act (List Value)
+abbrev pub called : Expression → List Expression → ℕ → Expression
 called f args line env = do
   node
   g ← value f env
@@ -79,7 +80,7 @@ called f args line env = do
   call g vs (levels env line)
 
 -- `of:name(args)` evaluates `of` once, looks the function up, and gives it that object first
-abbrev pub method : ExprPart → Bytes → List ExprPart → ℕ → Env → Act (List Value)
+abbrev pub method : Expression → Bytes → List Expression → ℕ → Expression
 method of x args line env = do
   node
   object ← value of env
@@ -88,20 +89,20 @@ method of x args line env = do
   call f vs (levels env line)
 
 -- in parentheses an expression has one value
-abbrev pub paren : ExprPart → Env → Act (List Value)
+abbrev pub paren : Expression → Expression
 paren e env = do
   node
   v ← value e env
   give (v ∷ [])
 
 -- OPERATORS. `and` and `or` give an operand, and evaluate the second only where the first does not decide (2.5.3).
-abbrev pub unless_decided : Bool → Value → ExprPart → Env → Act (List Value)
+abbrev pub unless_decided : Bool → Value → Expression → Expression
 unless_decided true v other env = give (v ∷ [])
 unless_decided false v other env = do
   w ← value other env
   give (w ∷ [])
 
-abbrev pub binary : BinaryOp → ExprPart → ExprPart → ℕ → Env → Act (List Value)
+abbrev pub binary : BinaryOp → Expression → Expression → ℕ → Expression
 binary op.Or a b line env = do
   node
   v ← value a env
@@ -122,7 +123,7 @@ apply sign.Not v ls = give (Truth (not (is_true v)))
 apply sign.Len v ls = length_of v ls
 apply sign.Minus v ls = minus v ls
 
-abbrev pub unary : UnaryOp → ExprPart → ℕ → Env → Act (List Value)
+abbrev pub unary : UnaryOp → Expression → ℕ → Expression
 unary o a line env = do
   node
   v ← value a env
@@ -134,7 +135,7 @@ abbrev pub name_target : Option ℕ → Bytes → Levels → Target
 name_target (Some cell) x ls = Local cell
 name_target None x ls = Global x ls
 
-abbrev pub index_target : ExprPart → ExprPart → ℕ → Env → Act Target
+abbrev pub index_target : Expression → Expression → ℕ → Targeted
 index_target of key line env = do
   node
   t ← value of env

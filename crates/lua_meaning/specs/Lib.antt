@@ -21,3 +21,6 @@ pub mod Libraries
 pub mod Home
 pub mod Meant
 pub mod Start
+pub mod Trees
+pub mod Trial
+pub mod Examples

@@ -9,7 +9,7 @@ use Rattle.lua_meaning.specs.Acts.{Act, Jump, Broke, WhileTurn, RepeatTurn, Coun
 use Rattle.lua_meaning.specs.Messages.{fail, no_initial_value, no_limit, no_step}
 use Rattle.lua_meaning.specs.Calls.{call}
 use Rattle.lua_meaning.specs.Expressions.{value, values}
-use Rattle.lua_meaning.specs.Tree.{Statement, ExprPart, BlockPart}
+use Rattle.lua_meaning.specs.Tree.{Expression, Statement, ExprPart, BlockPart}
 
 -- what follows a turn's body: the next turn, nothing after a `break`, and any other jump goes on
 abbrev pub then_next : {X : Type 0} → Act (List Value) → Outcome X Jump → Act (List Value)
@@ -20,7 +20,7 @@ then_next next (Jumps j) = jump j
 -- `while`
 abbrev pub while_from : ExprPart → BlockPart → Env → Act (List Value)
 while_from test body env = do
-  v ← value test env
+  v ← value test.1 env
   choose (is_true v) (begin (WhileTurn test.0 body.0 env)) (give [])
 
 abbrev pub while_ : ExprPart → BlockPart → Statement
@@ -47,7 +47,7 @@ repeat_ body test env = do
 abbrev pub body_and_test : BlockPart → ExprPart → Env → Act Value
 body_and_test body test env = do
   inner ← body.1 env
-  value test inner
+  value test.1 inner
 
 abbrev pub until : Act (List Value) → Outcome Value Jump → Act (List Value)
 until next (Goes v) = choose (is_true v) (give []) next
@@ -75,11 +75,11 @@ abbrev pub count_next : Bytes → ℤ → ℤ → ℤ → BlockPart → Env → 
 count_next name index limit step body env =
   choose (fits (index +ℤ step)) (count_from name (index +ℤ step) limit step body env) (give [])
 
-abbrev pub step_value : Option ExprPart → Env → Act Value
+abbrev pub step_value : Option Expression → Env → Act Value
 step_value None env = give (Number (pos 1))
 step_value (Some e) env = value e env
 
-abbrev pub count_ : Bytes → ExprPart → ExprPart → Option ExprPart → BlockPart → ℕ → Statement
+abbrev pub count_ : Bytes → Expression → Expression → Option Expression → BlockPart → ℕ → Statement
 count_ name from to by body line env = do
   node
   a ← value from env
@@ -103,7 +103,7 @@ each_from names f state before body line env = do
   vs ← call f (state ∷ before ∷ []) (levels env line)
   choose (is_nil (first vs)) (give []) (begin (EachTurn names f state vs body.0 line env))
 
-abbrev pub each_ : List Bytes → List ExprPart → BlockPart → ℕ → Statement
+abbrev pub each_ : List Bytes → List Expression → BlockPart → ℕ → Statement
 each_ names right body line env = do
   node
   vs ← values right env []

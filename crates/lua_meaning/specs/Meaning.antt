@@ -1,101 +1,121 @@
--- THE MEANING OF THE TREE (manual 2.4 and 2.5): one line for each form. The forms are explained in `Expressions`, `Constructors`,
--- `Statements` and `Loops`. A definition over a whole tree is a fold: each line has the parts of its form, each beside its
--- own meaning.
-use Rattle.std.specs.Prelude.{ℕ, true, false, List, [], ◌∷◌, Option, Some, None}
-use Rattle.lua_syntax.specs.declared.Block.{Block}
-use Rattle.lua_syntax.specs.declared.Stat.{Stat}
-use Rattle.lua_syntax.specs.declared.StatKind.{StatKind}
-use Rattle.lua_syntax.specs.declared.Arm.{Arm}
+-- THE MEANING OF THE TREE (manual 2.4 and 2.5): one line for each form, by recursion. The forms are explained in `Expressions`,
+-- `Constructors`, `Statements` and `Loops`; each gets the meanings of its parts, and its line.
+--
+-- How to read the patterns: an expression that is a part of another stands there as its line and its kind, as `l e`. `p` and `q`
+-- are places of boxes in memory, and `n` the shape of a list: they mean nothing here.
+use Rattle.std.specs.Prelude.{ℕ, Bool, true, false, List, [], ◌∷◌, Option, Some, None}
+use Rattle.lua_syntax.specs.declared.Block.{Block, Block'}
+use Rattle.lua_syntax.specs.declared.StatKind.{StatKind, Assign', Call', Do, While', Repeat', If', Count', Each', LocalFunction, Local', Return', Break}
+use Rattle.lua_syntax.specs.declared.Arm.{Arm, Arm'}
 use Rattle.lua_syntax.specs.declared.Expr.{Expr}
-use Rattle.lua_syntax.specs.declared.ExprKind.{ExprKind}
-use Rattle.lua_syntax.specs.declared.Function.{Function as FunctionNode}
-use Rattle.lua_syntax.specs.declared.Field.{Field}
-use Rattle.lua_syntax.specs.declared.ExprKind.TheOpen.{ExprKind-F, Nil, True, False, Number, Text, Dots, Function, Name, Index, ExprKind::Call, Method, Table, Binary, Unary, Paren, Field-F, Item, Pair, StatKind-F, Assign, StatKind::Call, Do, While, Repeat, If, Count, Each, LocalFunction, Local, Return, Break, Arm-F, Block-F, Expr-F, Function-F, Stat-F}
-use Rattle.lua_syntax.specs.declared.ExprKind.TheFolds.{para-Block, para-Expr, para-Function}
+use Rattle.lua_syntax.specs.declared.ExprKind.{ExprKind, Nil, True, False, Number, Text, Dots, Function, Name, Index', Call' as CallOf, Method', Table', Binary', Unary', Paren'}
+use Rattle.lua_syntax.specs.declared.Function.{Function as FunctionNode, Function'}
+use Rattle.lua_syntax.specs.declared.Field.{Field, Item', Pair'}
+use Rattle.lua_syntax.specs.declared.ExprKind.TheBlock.{Row_of-Expr, end_of-Expr, more_of-Expr, Row_of-Stat, end_of-Stat, more_of-Stat, Row_of-Arm, end_of-Arm, more_of-Arm, Row_of-Field, end_of-Field, more_of-Field, Held-StatKind-If-1, Held-StatKind-Count-3, StatKind-If-1-None' as NoElse, StatKind-If-1-Some' as Else, StatKind-Count-3-None' as NoStep, StatKind-Count-3-Some' as Step}
 use Rattle.page_run.specs.Outcome.{give}
 use Rattle.lua_heap.specs.Value.{Value, Nil as NilValue, Truth, Number as NumberValue, Text as TextValue}
-use Rattle.lua_meaning.specs.Environment.{Env, cell_of, levels}
-use Rattle.lua_meaning.specs.Acts.{Act}
-use Rattle.lua_meaning.specs.Tree.{Expression, Statement, Branch, FieldMeaning, ItemOf, PairOf, Target, NoTarget, KindPart, FieldPart, StatKindPart, ArmPart, BlockPart, ExprPart, FunctionPart, StatPart}
+use Rattle.lua_meaning.specs.Environment.{Bytes, Env, cell_of, levels}
+use Rattle.lua_meaning.specs.Tree.{Expression, Targeted, Statement, Branch, FieldMeaning, ItemOf, PairOf, NoTarget, ExprPart, BlockPart}
 use Rattle.lua_meaning.specs.Expressions.{constant, dots, name, indexed, function, called, method, paren, binary, unary, name_target, index_target}
 use Rattle.lua_meaning.specs.Constructors.{constructor_}
 use Rattle.lua_meaning.specs.Statements.{in_order, do_, assign, local, local_function, call_statement, if_, return, break}
 use Rattle.lua_meaning.specs.Loops.{while_, repeat_, count_, each_}
 
--- EXPRESSIONS, on their line
-abbrev pub values_of : ExprKind-F KindPart FieldPart StatKindPart ArmPart BlockPart ExprPart FunctionPart StatPart → ℕ → Env → Act (List Value)
-values_of Nil line = constant NilValue
-values_of True line = constant (Truth true)
-values_of False line = constant (Truth false)
-values_of (Number n) line = constant (NumberValue n)
-values_of (Text t) line = constant (TextValue t)
-values_of Dots line = dots
-values_of (Function f) line = function f
-values_of (Name x) line = name x line
-values_of (Index of key) line = indexed of.value key.value line
-values_of (ExprKind::Call f args) line = called f.value args line
-values_of (Method of x args) line = method of.value x args line
-values_of (Table fields) line = constructor_ fields line
-values_of (Binary o a b) line = binary o a.value b.value line
-values_of (Unary o a) line = unary o a.value line
-values_of (Paren a) line = paren a.value
+abbrev pub on_line : ℕ → ExprKind → Expr
+on_line line kind = record { line = line; kind = kind }
 
-abbrev pub target_of : ExprKind-F KindPart FieldPart StatKindPart ArmPart BlockPart ExprPart FunctionPart StatPart → ℕ → Env → Act Target
-target_of (Name x) line env = give (name_target (cell_of env.names x) x (levels env line))
-target_of (Index of key) line env = index_target of.value key.value line env
-target_of _ line env = give NoTarget
+-- EXPRESSIONS
+abbrev mutual
+  pub expression : ℕ → ExprKind → Expression
+  expression line Nil = constant NilValue
+  expression line True = constant (Truth true)
+  expression line False = constant (Truth false)
+  expression line (Number z) = constant (NumberValue z)
+  expression line (Text t) = constant (TextValue t)
+  expression line Dots = dots
+  expression line (Function f) = function f
+  expression line (Name x) = name x line
+  expression line (Index' p l of q k key) = indexed (expression l of) (expression k key) line
+  expression line (CallOf p l f n args) = called (expression l f) (expressions args) line
+  expression line (Method' p l of x n args) = method (expression l of) x (expressions args) line
+  expression line (Table' n fields) = constructor_ (fields_of fields) line
+  expression line (Binary' o p l a q k b) = binary o (expression l a) (expression k b) line
+  expression line (Unary' o p l a) = unary o (expression l a) line
+  expression line (Paren' p l a) = paren (expression l a)
 
-abbrev pub kind_step : ExprKind-F KindPart FieldPart StatKindPart ArmPart BlockPart ExprPart FunctionPart StatPart → ℕ → Expression
-kind_step k line = record { values = values_of k line; target = target_of k line }
+  pub expressions : {m : _} → Row_of-Expr m → List Expression
+  expressions end_of-Expr = []
+  expressions (more_of-Expr l e more) = expression l e ∷ expressions more
 
-abbrev pub field_step : Field-F KindPart FieldPart StatKindPart ArmPart BlockPart ExprPart FunctionPart StatPart → FieldMeaning
-field_step (Item e) = ItemOf e.1
-field_step (Pair key e) = PairOf key.1 e.1
+  pub fields_of : {m : _} → Row_of-Field m → List FieldMeaning
+  fields_of end_of-Field = []
+  fields_of (more_of-Field f more) = field f ∷ fields_of more
 
--- STATEMENTS, on their line
-abbrev pub stat_kind_step : StatKind-F KindPart FieldPart StatKindPart ArmPart BlockPart ExprPart FunctionPart StatPart → ℕ → Statement
-stat_kind_step (Assign left right) line = assign left right
-stat_kind_step (StatKind::Call e) line = call_statement e
-stat_kind_step (Do body) line = do_ body
-stat_kind_step (While test body) line = while_ test body
-stat_kind_step (Repeat body test) line = repeat_ body test
-stat_kind_step (If arms other) line = if_ arms other
-stat_kind_step (Count x from to by body) line = count_ x from to by body line
-stat_kind_step (Each names right body) line = each_ names right body line
-stat_kind_step (LocalFunction x f) line = local_function x f
-stat_kind_step (Local names right) line = local names right
-stat_kind_step (Return right) line = return right
-stat_kind_step Break line = break
+  pub field : Field → FieldMeaning
+  field (Item' l e) = ItemOf (expression l e)
+  field (Pair' k key l e) = PairOf (expression k key) (expression l e)
 
-abbrev pub arm_step : Arm-F KindPart FieldPart StatKindPart ArmPart BlockPart ExprPart FunctionPart StatPart → Branch
-arm_step a = record { test = a.test.1; body = a.body.1 }
+-- TARGETS: a target is a name or an index
+abbrev pub target : ℕ → ExprKind → Targeted
+target line (Name x) env = give (name_target (cell_of env.names x) x (levels env line))
+target line (Index' p l of q k key) env = index_target (expression l of) (expression k key) line env
+target line _ env = give NoTarget
 
-abbrev pub block_step : Block-F KindPart FieldPart StatKindPart ArmPart BlockPart ExprPart FunctionPart StatPart → Statement
-block_step b = in_order b.stats
+abbrev pub targets_of : {m : _} → Row_of-Expr m → List Targeted
+targets_of end_of-Expr = []
+targets_of (more_of-Expr l e more) = target l e ∷ targets_of more
 
-abbrev pub expr_step : Expr-F KindPart FieldPart StatKindPart ArmPart BlockPart ExprPart FunctionPart StatPart → Expression
-expr_step e = e.kind.1 e.line
+-- STATEMENTS
+abbrev mutual
+  pub statement : ℕ → StatKind → Statement
+  statement line (Assign' n left m right) = assign (targets_of left) (expressions right)
+  statement line (Call' l e) = call_statement (expression l e)
+  statement line (Do b) = do_ (block b)
+  statement line (While' l e b) = while_ (on_line l e, expression l e) (b, block b)
+  statement line (Repeat' b l e) = repeat_ (b, block b) (on_line l e, expression l e)
+  statement line (If' n arms other) = if_ (branches_of arms) (else_of other)
+  statement line (Count' x l from k to by b) = count_ x (expression l from) (expression k to) (step_of by) (b, block b) line
+  statement line (Each' names n right b) = each_ names (expressions right) (b, block b) line
+  statement line (LocalFunction x f) = local_function x f
+  statement line (Local' names n right) = local names (expressions right)
+  statement line (Return' n right) = return (expressions right)
+  statement line Break = break
 
--- the body of a function
-abbrev pub function_step : Function-F KindPart FieldPart StatKindPart ArmPart BlockPart ExprPart FunctionPart StatPart → Statement
-function_step f = f.body.1
+  pub block : Block → Statement
+  block (Block' n stats) = in_order (statements stats)
 
-abbrev pub stat_step : Stat-F KindPart FieldPart StatKindPart ArmPart BlockPart ExprPart FunctionPart StatPart → Statement
-stat_step s = s.kind.1 s.line
+  pub statements : {m : _} → Row_of-Stat m → List Statement
+  statements end_of-Stat = []
+  statements (more_of-Stat l s more) = statement l s ∷ statements more
 
--- THE WHOLE
-abbrev pub expr_means : Expr → Expression
-expr_means = para-Expr (ℕ → Expression) FieldMeaning (ℕ → Statement) Branch Statement Expression Statement Statement kind_step field_step stat_kind_step arm_step block_step expr_step function_step stat_step
+  pub branches_of : {m : _} → Row_of-Arm m → List Branch
+  branches_of end_of-Arm = []
+  branches_of (more_of-Arm a more) = branch a ∷ branches_of more
 
-abbrev pub block_means : Block → Statement
-block_means = para-Block (ℕ → Expression) FieldMeaning (ℕ → Statement) Branch Statement Expression Statement Statement kind_step field_step stat_kind_step arm_step block_step expr_step function_step stat_step
+  pub branch : Arm → Branch
+  branch (Arm' l test b) = record { test = expression l test; body = block b }
 
-abbrev pub function_means : FunctionNode → Statement
-function_means = para-Function (ℕ → Expression) FieldMeaning (ℕ → Statement) Branch Statement Expression Statement Statement kind_step field_step stat_kind_step arm_step block_step expr_step function_step stat_step
+  pub else_of : Held-StatKind-If-1 → Option Statement
+  else_of NoElse = None
+  else_of (Else b) = Some (block b)
+
+  pub step_of : Held-StatKind-Count-3 → Option Expression
+  step_of NoStep = None
+  step_of (Step l e) = Some (expression l e)
+
+-- FUNCTIONS: their parameters, whether these end with `...`, and their bodies
+abbrev pub params_of : FunctionNode → List Bytes
+params_of (Function' params vararg b) = params
+
+abbrev pub has_dots : FunctionNode → Bool
+has_dots (Function' params vararg b) = vararg
+
+abbrev pub body_of : FunctionNode → Statement
+body_of (Function' params vararg b) = block b
 
 -- a part of the tree beside its meaning
 abbrev pub expr_part : Expr → ExprPart
-expr_part e = (e, expr_means e)
+expr_part e = (e, expression e.line e.kind)
 
 abbrev pub block_part : Block → BlockPart
-block_part b = (b, block_means b)
+block_part b = (b, block b)

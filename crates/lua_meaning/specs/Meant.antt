@@ -2,7 +2,6 @@
 use Rattle.std.specs.Prelude.{ℕ, true, false, Bool, List, [], length, drop, if◌then◌else◌}
 use Rattle.page_run.specs.Outcome.{Outcome, Goes, Jumps, ◌>>=◌, ◌>>◌, give, jump, catch, count, in_call}
 use Rattle.lua_syntax.specs.declared.Block.{Block}
-use Rattle.lua_syntax.specs.declared.ExprKind.TheViews.{out-Function}
 use Rattle.lua_heap.specs.Value.{Value}
 use Rattle.lua_heap.specs.Library.{library_at}
 use Rattle.lua_meaning.specs.Environment.{Bytes, Env, Function, Levels}
@@ -10,12 +9,12 @@ use Rattle.lua_meaning.specs.Acts.{Act, Jump, Returned, Thing, WhileTurn, Repeat
 use Rattle.lua_meaning.specs.Calls.{call}
 use Rattle.lua_meaning.specs.Index.{index_link, set_link}
 use Rattle.lua_meaning.specs.Loops.{while_turn, repeat_turn, count_turn, each_turn}
-use Rattle.lua_meaning.specs.Meaning.{function_means, block_means, expr_part, block_part}
+use Rattle.lua_meaning.specs.Meaning.{params_of, has_dots, body_of, block, expr_part, block_part}
 use Rattle.lua_meaning.specs.Libraries.{library_of}
 
 -- FUNCTIONS (manual 2.5.9). The arguments beyond the parameters are the values of `...`, if the function has it.
 abbrev pub dots_of : Function → List Value → List Value
-dots_of f args = if (out-Function f.node).dots then drop (length (out-Function f.node).params) args else []
+dots_of f args = if has_dots f.node then drop (length (params_of f.node)) args else []
 
 abbrev pub body_env : Function → List Value → Levels → Env
 body_env f args callers = record { names = f.names; dots = dots_of f args; source = f.source; callers = callers }
@@ -29,8 +28,8 @@ after_body (Jumps j) = jump j
 abbrev pub body : Function → List Value → Levels → Act (List Value)
 body f args callers = in_call (do
   count
-  env ← declare (out-Function f.node).params args (body_env f args callers)
-  catch (function_means f.node env) after_body)
+  env ← declare (params_of f.node) args (body_env f args callers)
+  catch (body_of f.node env) after_body)
 
 abbrev pub library_body : ℕ → List Value → Levels → Act (List Value)
 library_body which args callers = in_call (do
@@ -44,7 +43,7 @@ chunk_env source = record { names = []; dots = []; source = source; callers = []
 abbrev pub chunk_body : Bytes → Block → Act (List Value)
 chunk_body source b = in_call (do
   count
-  catch (block_means b (chunk_env source)) after_body)
+  catch (block b (chunk_env source)) after_body)
 
 abbrev pub meant : Thing → Act (List Value)
 meant (WhileTurn test body env) = while_turn (expr_part test) (block_part body) env

@@ -1,6 +1,7 @@
 -- STATEMENTS (manual 2.4). Each begins with its node, and gives the environment of the statements after it: that of `local`
 -- has more names, every other one leaves it as it was. What stands in a block of its own is not seen after it.
 use Rattle.std.specs.Prelude.{ℕ, List, [], ◌∷◌, ◌++◌, reverse, Option, Some, None}
+use Rattle.lua_syntax.specs.declared.Function.{Function as FunctionNode}
 use Rattle.page_run.specs.Outcome.{◌>>=◌, ◌>>◌, give, jump, see}
 use Rattle.lua_heap.specs.Value.{Value, Nil, Text, Table, is_true}
 use Rattle.lua_meaning.specs.Environment.{Bytes, Env, with_name}
@@ -8,13 +9,13 @@ use Rattle.lua_meaning.specs.Values.{first, rest}
 use Rattle.lua_meaning.specs.Acts.{Act, Returned, Broke, node, choose, one, make_cell, write_cell, declare}
 use Rattle.lua_meaning.specs.Index.{set_index}
 use Rattle.lua_meaning.specs.Expressions.{value, values, closure}
-use Rattle.lua_meaning.specs.Tree.{Statement, Branch, Target, Local, Global, Entry, NoTarget, ExprPart, BlockPart, ArmPart, FunctionPart, StatPart}
+use Rattle.lua_meaning.specs.Tree.{Expression, Targeted, Statement, Branch, Target, Local, Global, Entry, NoTarget}
 
 -- BLOCKS (2.4.1): one after another, each in the environment that the one before gives
-abbrev pub in_order : List StatPart → Statement
+abbrev pub in_order : List Statement → Statement
 in_order [] env = give env
 in_order (s ∷ more) env = do
-  after ← s.1 env
+  after ← s env
   in_order more after
 
 -- a block, with what it declares forgotten
@@ -23,16 +24,16 @@ within body env = do
   body env
   give env
 
-abbrev pub do_ : BlockPart → Statement
+abbrev pub do_ : Statement → Statement
 do_ body env = do
   node
-  within body.1 env
+  within body env
 
 -- ASSIGNMENT (2.4.3): the tables and keys of the targets, then the values, and then each target from the last to the first
-abbrev pub targets : List ExprPart → Env → List Target → Act (List Target)
+abbrev pub targets : List Targeted → Env → List Target → Act (List Target)
 targets [] env before = give before
 targets (e ∷ more) env before = do
-  t ← e.1.target env
+  t ← e env
   targets more env (before ++ t ∷ [])
 
 -- each target with its value
@@ -52,7 +53,7 @@ abbrev pub assign_each : List (Target × Value) → Act (Unit {0})
 assign_each [] = give tt
 assign_each (p ∷ ps) = assign_one p.0 p.1 >> assign_each ps
 
-abbrev pub assign : List ExprPart → List ExprPart → Statement
+abbrev pub assign : List Targeted → List Expression → Statement
 assign left right env = do
   node
   ts ← targets left env []
@@ -61,14 +62,14 @@ assign left right env = do
   give env
 
 -- LOCAL VARIABLES (2.4.7): they are seen from the next statement on
-abbrev pub local : List Bytes → List ExprPart → Statement
+abbrev pub local : List Bytes → List Expression → Statement
 local names right env = do
   node
   vs ← values right env []
   declare names vs env
 
 -- the name of a local function is seen in its body (2.5.9)
-abbrev pub local_function : Bytes → FunctionPart → Statement
+abbrev pub local_function : Bytes → FunctionNode → Statement
 local_function name f env = do
   node
   cell ← make_cell Nil
@@ -77,30 +78,30 @@ local_function name f env = do
   give (with_name name cell env)
 
 -- CALLS as statements (2.4.6): their values are dropped
-abbrev pub call_statement : ExprPart → Statement
+abbrev pub call_statement : Expression → Statement
 call_statement e env = do
   node
-  e.1.values env
+  e env
   give env
 
 -- CONDITIONS (2.4.4): the first branch whose test is true, else the last block, if there is one
-abbrev pub otherwise : Option BlockPart → Statement
+abbrev pub otherwise : Option Statement → Statement
 otherwise None env = give env
-otherwise (Some body) env = within body.1 env
+otherwise (Some body) env = within body env
 
-abbrev pub branches : List ArmPart → Option BlockPart → Statement
+abbrev pub branches : List Branch → Option Statement → Statement
 branches [] other env = otherwise other env
 branches (arm ∷ more) other env = do
-  v ← one (arm.1.test.values env)
-  choose (is_true v) (within arm.1.body env) (branches more other env)
+  v ← one (arm.test env)
+  choose (is_true v) (within arm.body env) (branches more other env)
 
-abbrev pub if_ : List ArmPart → Option BlockPart → Statement
+abbrev pub if_ : List Branch → Option Statement → Statement
 if_ arms other env = do
   node
   branches arms other env
 
 -- JUMPS (2.4.4)
-abbrev pub return : List ExprPart → Statement
+abbrev pub return : List Expression → Statement
 return right env = do
   node
   vs ← values right env []

@@ -1,14 +1,7 @@
--- WHAT EACH PART OF THE TREE MEANS, level by level: an expression gives values, a statement gives the environment that the
--- statements after it have.
+-- WHAT PARTS OF THE TREE MEAN: the kinds of their meanings (manual 2.3 to 2.5).
 use Rattle.std.specs.Prelude.{ℕ, List, Option}
 use Rattle.lua_syntax.specs.declared.Block.{Block}
-use Rattle.lua_syntax.specs.declared.Stat.{Stat}
-use Rattle.lua_syntax.specs.declared.StatKind.{StatKind}
-use Rattle.lua_syntax.specs.declared.Arm.{Arm}
 use Rattle.lua_syntax.specs.declared.Expr.{Expr}
-use Rattle.lua_syntax.specs.declared.ExprKind.{ExprKind}
-use Rattle.lua_syntax.specs.declared.Function.{Function as FunctionNode}
-use Rattle.lua_syntax.specs.declared.Field.{Field}
 use Rattle.lua_heap.specs.Value.{Value}
 use Rattle.lua_meaning.specs.Environment.{Bytes, Env, Levels}
 use Rattle.lua_meaning.specs.Acts.{Act}
@@ -21,10 +14,13 @@ pub data Target : Type 0 where
   Entry : (of key : Value) (levels : Levels) → Target
   NoTarget : Target
 
--- what an expression means, and what it means as a target
-pub record Expression : Type 0 where
-  pub values : Env → Act (List Value)
-  pub target : Env → Act Target
+-- WHAT A PART OF THE TREE MEANS: an expression gives values, a target is found, and a statement gives the environment that the
+-- statements after it have.
+abbrev pub Expression : Type 0
+Expression = Env → Act (List Value)
+
+abbrev pub Targeted : Type 0
+Targeted = Env → Act Target
 
 abbrev pub Statement : Type 0
 Statement = Env → Act Env
@@ -39,27 +35,9 @@ pub record Branch : Type 0 where
   pub test : Expression
   pub body : Statement
 
--- A PART OF THE TREE beside its meaning. Of an expression or statement without its line, the meaning waits for the line.
-abbrev pub KindPart : Type 0
-KindPart = ExprKind × (ℕ → Expression)
-
-abbrev pub FieldPart : Type 0
-FieldPart = Field × FieldMeaning
-
-abbrev pub StatKindPart : Type 0
-StatKindPart = StatKind × (ℕ → Statement)
-
-abbrev pub ArmPart : Type 0
-ArmPart = Arm × Branch
-
-abbrev pub BlockPart : Type 0
-BlockPart = Block × Statement
-
+-- A part of the tree beside its meaning, for loops, whose next turn names the part.
 abbrev pub ExprPart : Type 0
 ExprPart = Expr × Expression
 
-abbrev pub FunctionPart : Type 0
-FunctionPart = FunctionNode × Statement
-
-abbrev pub StatPart : Type 0
-StatPart = Stat × Statement
+abbrev pub BlockPart : Type 0
+BlockPart = Block × Statement
