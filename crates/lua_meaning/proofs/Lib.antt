@@ -1,1 +1,4 @@
-pub mod ExampleLaws
+pub mod ExampleChargesLaws
+pub mod ExampleValuesLaws
+pub mod ExampleStatementsLaws
+pub mod ExampleFunctionsLaws

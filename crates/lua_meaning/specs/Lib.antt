@@ -23,4 +23,7 @@ pub mod Meant
 pub mod Start
 pub mod Trees
 pub mod Trial
-pub mod Examples
+pub mod ExampleCharges
+pub mod ExampleValues
+pub mod ExampleStatements
+pub mod ExampleFunctions

@@ -29,9 +29,9 @@ job name = record { module_ = module_title name; function = codes "f"; scene = s
 abbrev pub one_module : ℕ → Block → Modules
 one_module size body title = Some (record { size = size; chunk = Ok (record { body = body }) })
 
--- so many steps, and many calls
-abbrev pub allowance : ℕ → Left
-allowance steps = record { steps = steps; nodes = 0; bytes = 0; calls = 200; depth = 0; templates = 0 }
+-- so many steps and nested calls
+abbrev pub allowance : ℕ → ℕ → Left
+allowance steps calls = record { steps = steps; nodes = 0; bytes = 0; calls = calls; depth = 0; templates = 0 }
 
 -- what is seen of a run: how it ends, and the steps that are left
 pub data Seen : Type 0 where
@@ -46,6 +46,16 @@ seen (Ended (Jumps (Raised (Text t))) m) = Fails t m.left.steps
 seen (Spent w m) = Spends w m.left.steps
 seen _ = Else
 
--- the function `f` of a module of this name, with so many bytes of text, is invoked with so many steps
+-- the function `f` of a module of this name, with so many bytes of text, is invoked with so many steps and calls
+abbrev pub invoked_with : ℕ → Bytes → ℕ → Block → ℕ → Seen
+invoked_with calls name size body steps = seen (lua (one_module size body) (Invoke (job name)) page (allowance steps calls) [])
+
+-- with the calls of a page
 abbrev pub invoked : Bytes → ℕ → Block → ℕ → Seen
-invoked name size body steps = seen (lua (one_module size body) (Invoke (job name)) page (allowance steps) [])
+invoked name size body steps = invoked_with 20000 name size body steps
+
+-- with any steps left
+abbrev pub ended : Seen → Seen
+ended (Gives t steps) = Gives t 0
+ended (Fails t steps) = Fails t 0
+ended s = s

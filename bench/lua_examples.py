@@ -1,0 +1,120 @@
+#!/usr/bin/env python3
+"""Writes the worked examples of `lua_meaning`: its files specs/Examples*.antt and proofs/Examples*.antt.
+
+    lua_examples.py            writes the files, next to this checkout's crates
+    lua_examples.py --check    runs each example of which Lua 5.1 has the same result in `lua5.1`, and says where it differs
+
+An example is a module whose function `f` is invoked. The files hold its text, its tree (by lua_trees.py), and what comes.
+"""
+import pathlib
+import subprocess
+import sys
+
+from lua_trees import tree
+
+CRATE = pathlib.Path(__file__).resolve().parent.parent / "crates" / "lua_meaning"
+from lua_chunks import FILES  # noqa: E402
+
+HEAD = """-- {subject}
+use Rattle.std.specs.Prelude.{{◌≡◌, ℕ, pos, true, false, List, [], ◌∷◌, Some, None, codes}}
+use Rattle.std.specs.declared.alloc.Global.{{Global}}
+use Rattle.lua_syntax.specs.declared.Block.{{Block}}
+use Rattle.lua_syntax.specs.declared.BinaryOp.TheVariants as op
+use Rattle.lua_syntax.specs.declared.UnaryOp.TheVariants as sign
+use Rattle.lua_syntax.specs.declared.ExprKind.TheVariants.{{Nil, True, False, Number, Text, Dots, Function as FunctionExpr, Name, Table}}
+use Rattle.lua_syntax.specs.declared.Field.TheVariants.{{Item, Pair}}
+use Rattle.lua_syntax.specs.declared.StatKind.TheVariants.{{Assign, Call as StatCall, Do, While, Repeat, If, Count, Each, LocalFunction, Local, Return, Break}}
+use Rattle.page_run.specs.declared.which.Which.TheVariants.{{Steps, Calls}}
+use Rattle.lua_meaning.specs.Trees.{{expr, stat, block, arm, function, index, call, method, binary, unary, paren}}
+use Rattle.lua_meaning.specs.Trial.{{Gives, Fails, Spends, Seen, invoked, invoked_with, ended}}
+
+module _ (g : Global) where
+"""
+
+PROOF_HEAD = """-- {subject} They compute.
+use Rattle.std.proofs.Common.{{refl}}
+use Rattle.std.specs.declared.alloc.Global.{{Global}}
+use Rattle.lua_syntax.specs.declared.ExprKind.TheViews as views
+use Rattle.lua_syntax.specs.declared.ExprKind.TheBlock as rows
+use Rattle.page_run.specs.Perform.{{perform}}
+use Rattle.wk_base.specs.Titles.{{title_text, prefix_of}}
+use Rattle.std.specs.Fmt.{{digits}}
+use Rattle.lua_number.specs.Numerals.{{decimal_of, numeral_of, trimmed, digits_of_base, read_number_of, read_in_base_of}}
+use Rattle.lua_meaning.specs.{module}.{{{names}}}
+"""
+
+UNFOLDING = "unfolding perform digits title_text prefix_of decimal_of numeral_of trimmed digits_of_base read_number_of read_in_base_of views.roll-Block views.roll-Arm views.roll-Function denote.Hole.Carrier.roll denote.Hole.Carrier.hidden rows.hidden-the_row-Stat-3"
+
+
+def codes(text):
+    escaped = text.replace("\\", "\\\\").replace('"', '\\"').replace("\n", "\\n")
+    return f'(codes "{escaped}")' if text else "[]"
+
+
+def comment(text):
+    return "\n".join("  --     " + line for line in text.split("\n"))
+
+
+def spec(example):
+    name, module, text, said, steps, seen = (example[k] for k in ("name", "module", "text", "said", "steps", "seen"))
+    title = name.replace("_", " ").title().replace(" ", "")
+    body = f"  -- {said}\n{comment(text)}\n  abbrev pub {name} : Block\n  {name} = {tree(text)}\n\n"
+    size = len(text.encode())
+    claims = []
+    for step, end in zip(steps, seen):
+        kind, *rest = end
+        shown = f"{kind} {rest[0]} {rest[1]}" if kind == "Spends" else f"{kind} {codes(rest[0])}" + (f" {rest[1]}" if len(rest) > 1 else "")
+        with_calls = f"_with {example['calls']}" if example["calls"] else ""
+        call = f"invoked{with_calls} {codes(module)} {size} {name} {step}"
+        claims.append(f"{call} ≡ {shown}" if kind == "Spends" or len(rest) > 1 else f"ended ({call}) ≡ {shown} 0")
+    claim = claims[0] if len(claims) == 1 else " × ".join(f"({c})" for c in claims)
+    return body + f"  abbrev pub {title} : Type 0\n  {title} = {claim}\n", title, len(claims)
+
+
+def write(module, subject, examples):
+    specs, proofs, titles = [], [], []
+    for example in examples:
+        text, title, count = spec(example)
+        specs.append(text)
+        titles.append(title)
+        proof = "refl" if count == 1 else "(" + ", ".join(["refl"] * count) + ")"
+        proofs.append(f"\npub {example['name']} : (g : Global) → {title} g\n{UNFOLDING}\n{example['name']} g = {proof}\n")
+    (CRATE / "specs" / f"{module}.antt").write_text(HEAD.format(subject=subject) + "\n".join(specs))
+    (CRATE / "proofs" / f"{module}Laws.antt").write_text(
+        PROOF_HEAD.format(subject=subject, module=module, names=", ".join(titles)) + "".join(proofs))
+
+
+HARNESS = """
+local text, name = ...
+local function run()
+  local chunk, fault = loadstring(text, '=Module:' .. name)
+  if not chunk then error(fault, 0) end
+  local module = chunk()
+  local values, out = {n = 0}, ''
+  local function keep(...) values = {n = select('#', ...), ...} end
+  keep(module.f({}))
+  for i = 1, values.n do out = out .. tostring(values[i]) end
+  return out
+end
+local ok, out = pcall(run)
+io.write(ok and 'Gives ' or 'Fails ', tostring(out))
+"""
+
+
+def check(example):
+    if example.get("profile"):
+        return
+    done = subprocess.run(["lua5.1", "-", example["text"], example["module"]], input=HARNESS, capture_output=True, text=True)
+    kind, text = example["seen"][0][:2]
+    wanted = f"{kind} {text}".replace("Fails Lua error: ", "Fails ")
+    if done.stdout != wanted:
+        print(f"{example['name']}: {wanted!r} here, {done.stdout!r} in lua5.1 {done.stderr}")
+
+
+if __name__ == "__main__":
+    for module, subject, examples in FILES:
+        for example in examples:
+            if "--check" in sys.argv:
+                check(example)
+        if "--check" not in sys.argv:
+            write(module, subject, examples)
