@@ -1,3 +1,4 @@
+pub mod MeaningLaws
 pub mod ExampleChargesLaws
 pub mod ExampleValuesLaws
 pub mod ExampleStatementsLaws

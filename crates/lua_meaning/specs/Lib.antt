@@ -21,6 +21,7 @@ pub mod Libraries
 pub mod Home
 pub mod Meant
 pub mod Start
+pub mod Laws
 pub mod Trees
 pub mod Trial
 pub mod ExampleCharges

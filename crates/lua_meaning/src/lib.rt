@@ -1,4 +1,4 @@
 //! The meaning of Lua.
 #![tactic(auto)]
 
-fn nothing() {}
+pub mod laws;

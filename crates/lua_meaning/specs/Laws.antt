@@ -1,0 +1,82 @@
+-- LAWS OF THE MEANING, which the functions of this crate ensure.
+use Rattle.std.specs.Prelude.{◌≡◌, ℕ, ◌+◌, List, []}
+use Rattle.wk_base.specs.declared.title.Title.{Title}
+use Rattle.wk_base.specs.declared.left.Left.{Left}
+use Rattle.lua_syntax.specs.declared.ExprKind.{ExprKind, Name, Index'}
+use Rattle.lua_syntax.specs.declared.StatKind.{StatKind}
+use Rattle.page_run.specs.Run.{Takes, Counts, Calls}
+use Rattle.page_run.specs.Outcome.{Outcome, Goes}
+use Rattle.page_run.specs.State.{Replier, Moment, Ended, start}
+use Rattle.page_run.specs.Perform.{perform, NoRise}
+use Rattle.page_run.specs.Events.{BeginsIs}
+use Rattle.page_run.specs.Charges.{KeepsCalls, RepliesFit, GivenBack}
+use Rattle.lua_heap.specs.Value.{Value}
+use Rattle.lua_meaning.specs.Environment.{Env, Levels, cell_of, levels}
+use Rattle.lua_meaning.specs.Questions.{Ask, Answer}
+use Rattle.lua_meaning.specs.Values.{first, rest, second}
+use Rattle.lua_meaning.specs.Acts.{LuaRun, Jump, State, Thing, WhileTurn, RepeatTurn, CountTurn, EachTurn, Body, LibraryBody, ChunkBody, IndexLink, SetLink, CallLink}
+use Rattle.lua_meaning.specs.Tree.{Target}
+use Rattle.lua_meaning.specs.Expressions.{name_target}
+use Rattle.lua_meaning.specs.Meaning.{expression, target, statement}
+use Rattle.lua_meaning.specs.Protocol.{calling, pcall, xpcall, tried, to_string_by, pairs_by, ipairs_by, Pending, PcallWaits, XpcallWaits, HandlerWaits, ToStringWaits, PairsWaits, resumes}
+use Rattle.lua_meaning.specs.Meant.{meant}
+use Rattle.lua_meaning.specs.Home.{home}
+use Rattle.lua_meaning.specs.Start.{Modules, Work, whole}
+
+-- A THING that begins takes a step and does what it means, or the run is spent; no bound on the number of things is seen.
+abbrev pub ThingsUnfold : Type 0
+ThingsUnfold = (beyond : Replier Ask Answer) → NoRise beyond → BeginsIs meant beyond
+
+-- A NODE that begins takes a step, and is counted.
+abbrev pub IsNode : LuaRun → Type 0
+IsNode p = (more : LuaRun) × (p ≡ Takes 1 (Counts more))
+
+abbrev pub ExpressionsAreNodes : Type 0
+ExpressionsAreNodes = (line : ℕ) (e : ExprKind) (env : Env) (k : Outcome (List Value) Jump → LuaRun) → IsNode (expression line e env k)
+
+abbrev pub StatementsAreNodes : Type 0
+StatementsAreNodes = (line : ℕ) (s : StatKind) (env : Env) (k : Outcome Env Jump → LuaRun) → IsNode (statement line s env k)
+
+-- A name as a target is none: it costs nothing.
+abbrev pub TargetNamesAreNone : Type 0
+TargetNamesAreNone = (line : ℕ) (x : List ℕ) (env : Env) (k : Outcome Target Jump → LuaRun) →
+    target line (Name x) env k ≡ k (Goes (name_target (cell_of env.names x) x (levels env line)))
+
+-- A TURN of a loop is counted when it begins, and a function is counted once it is entered.
+abbrev pub IsTurn : Thing → Type 0
+IsTurn (WhileTurn test body env) = Unit {0}
+IsTurn (RepeatTurn body test env) = Unit {0}
+IsTurn (CountTurn name index limit step body env) = Unit {0}
+IsTurn (EachTurn names iterator state results body line env) = Unit {0}
+IsTurn _ = ⊥
+
+abbrev pub IsEntry : Thing → Type 0
+IsEntry (Body function arguments callers) = Unit {0}
+IsEntry (LibraryBody which arguments callers) = Unit {0}
+IsEntry (ChunkBody source body) = Unit {0}
+IsEntry _ = ⊥
+
+abbrev pub TurnsAreCounted : Type 0
+TurnsAreCounted = (t : Thing) → IsTurn t → (k : Outcome (List Value) Jump → LuaRun) → (more : LuaRun) × (meant t k ≡ Counts more)
+
+abbrev pub EntriesAreCounted : Type 0
+EntriesAreCounted = (t : Thing) → IsEntry t → (k : Outcome (List Value) Jump → LuaRun) → (more : LuaRun) × (meant t k ≡ Calls (Counts more))
+
+-- CALLS in progress are given back at each end of a run; at a question what is left and what is in progress are together what there was.
+abbrev pub CallsAreGivenBack : Type 0
+CallsAreGivenBack = (modules : Modules) (work : Work) (page : Title) (beyond : Replier Ask Answer) → KeepsCalls beyond → (left : Left) →
+    GivenBack left.calls (perform meant beyond (whole modules work) (start (home page) left []))
+
+-- MORE steps and calls change neither the end of a run nor its charge, where the replies fit what is left.
+abbrev pub MoreChangesNothing : Type 0
+MoreChangesNothing = (modules : Modules) (work : Work) (page : Title) (beyond : Replier Ask Answer) → NoRise beyond → RepliesFit beyond beyond →
+    (left : Left) (o : Outcome (List Value) Jump) (end : Moment State) →
+    perform meant beyond (whole modules work) (start (home page) left []) ≡ Ended o end → (a b : ℕ) →
+    perform meant beyond (whole modules work) (start (home page) record left { steps = left.steps + a; calls = left.calls + b } [])
+    ≡ Ended o (record { heap = end.heap; left = record left { steps = end.left.steps + a; calls = left.calls + b }; in_progress = 0; tally = end.tally })
+
+-- WHAT WAITS for the outcome of a call is what the table of the protocol says.
+abbrev pub WaitsAreNamed : Type 0
+WaitsAreNamed = (callers : Levels) (v h : Value) (args : List Value) (k : Outcome (List Value) Jump → LuaRun) →
+    (pcall args k ≡ calling (first args) (rest args) (resumes PcallWaits callers) k)
+    × (xpcall args k ≡ calling (first args) [] (resumes (XpcallWaits (second args)) callers) k)

@@ -1,0 +1,48 @@
+//! The laws of the meaning: `specs/Laws.antt` says them.
+ghost use Rattle.lua_meaning.specs.Laws.{ThingsUnfold, ExpressionsAreNodes, StatementsAreNodes, TargetNamesAreNone, TurnsAreCounted, EntriesAreCounted, CallsAreGivenBack, MoreChangesNothing, WaitsAreNamed};
+
+/// A thing that begins takes one step and does what it means; where no step is left, the run is spent. This is the meaning of
+/// loops, of functions and of chains of handlers, said without a bound on their number.
+#[tactic(auto, using(crate::proofs::MeaningLaws::things_unfold))]
+pub fn things_unfold()
+    ensures { ThingsUnfold }
+{}
+
+/// Each expression and each statement takes one step when it begins, and is counted.
+#[tactic(auto, using(crate::proofs::MeaningLaws::expressions_are_nodes, crate::proofs::MeaningLaws::statements_are_nodes))]
+pub fn nodes_are_counted()
+    ensures expressions { ExpressionsAreNodes }
+    ensures statements { StatementsAreNodes }
+{}
+
+/// A name on the left of an assignment takes no step, and is not counted.
+#[tactic(auto, using(crate::proofs::MeaningLaws::target_names_are_none))]
+pub fn target_names_are_none()
+    ensures { TargetNamesAreNone }
+{}
+
+/// Each turn of a loop is counted when it begins, and each function once it is entered.
+#[tactic(auto, using(crate::proofs::MeaningLaws::turns_are_counted, crate::proofs::MeaningLaws::entries_are_counted))]
+pub fn turns_and_entries_are_counted()
+    ensures turns { TurnsAreCounted }
+    ensures entries { EntriesAreCounted }
+{}
+
+/// At each end of a run its calls in progress are given back. At a question the calls that are left and those in progress
+/// are together what there was.
+#[tactic(auto, using(crate::proofs::MeaningLaws::calls_are_given_back))]
+pub fn calls_are_given_back()
+    ensures { CallsAreGivenBack }
+{}
+
+/// A run that ends by itself ends alike, and for the same charge, with more steps and calls.
+#[tactic(auto, using(crate::proofs::MeaningLaws::more_changes_nothing))]
+pub fn more_changes_nothing()
+    ensures { MoreChangesNothing }
+{}
+
+/// What waits for the outcome of a call is what the table of names says that a machine keeps.
+#[tactic(auto, using(crate::proofs::MeaningLaws::waits_are_named))]
+pub fn waits_are_named()
+    ensures { WaitsAreNamed }
+{}
