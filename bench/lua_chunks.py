@@ -2,12 +2,13 @@
 it is given, and what is seen at those. `profile` marks what Lua 5.1 does otherwise."""
 
 
-def chunk(name, said, text, gives=None, fails=None, module="X", steps=6000, seen=None, profile=False, calls=None):
+def chunk(name, said, text, gives=None, fails=None, module="X", steps=6000, seen=None, profile=False, calls=None, args=None, how="invoked", fault=None):
     if seen is None:
         seen = [("Gives", gives) if gives is not None else ("Fails", fails)]
     if not isinstance(steps, list):
         steps = [steps]
-    return dict(name=name, said=said, text=text, module=module, steps=steps, seen=seen, profile=profile, calls=calls)
+    return dict(name=name, said=said, text=text, module=module, steps=steps, seen=seen, profile=profile, calls=calls,
+                args=args, how=how, fault=fault)
 
 
 def body(name, said, text, gives=None, fails=None, **more):
@@ -20,6 +21,11 @@ CHARGES = [
     chunk("start", "1,083 for the start, the text and the chunk. Then `f` fails after 7 steps more, with a message of 40 bytes.",
           "return {f=function() return mw.loadData('Module:D').x end}", module="M", steps=[1083 + 7 + 40, 1083 + 7 + 39],
           seen=[("Fails", "Lua error: Module:M:1: attempt to index a nil value", 0), ("Spends", "Steps", 0)], profile=True),
+    chunk("data_start", "The load of a data module: 1,000 for the start, 14 for the text, and 17 for what it does.",
+          "return {x='v'}", module="D", how="loaded", steps=[1031, 1030], seen=[("Loads", 0), ("Spends", "Steps", 0)], profile=True),
+    chunk("arguments", "Arguments cost 4 each, and the bytes of their names and values. A name that is a place is a number.",
+          "return {f=function(frame) local a=frame.args return a[1]..a['1']..a.k..#a end}", module="G", args=[("1", "x"), ("k", "v")],
+          gives="xxv1", profile=True),
     chunk("counter", "A global variable lives as long as its invocation: in each one the counter gives 1.",
           "n=0 local p={} function p.f() n=n+1 return n end return p", "1", module="C"),
     chunk("holds_itself", "A table holds itself.",
@@ -47,6 +53,14 @@ CHARGES = [
     chunk("no_function", "The module has no function of that name.", "return {g=function() end}",
           fails='Script error: The function "f" does not exist.', module="C", profile=True),
     chunk("no_table", "The module gives no table.", "return 1", fails="Script error: The module returned no table.", profile=True),
+    chunk("data_no_table", "A data module must give a table.", "return 1", fails="data module returned no table", how="loaded", profile=True),
+    chunk("data_error", "The message of an error in a data module stands alone.", "error('x')", fails="Module:DE:1: x", module="DE", how="loaded", profile=True),
+    chunk("faulty", "A text that is no chunk fails where it would begin.", "local p = {}\nfunction p.f()\n  return 1 + end\nreturn p",
+          fails="Lua error: Module:Y:3: unexpected token", module="Y", fault=(5, 3), profile=True),
+    chunk("unfinished", "The numbers of the faults are those of the lexis and of the grammar.", 'return "',
+          fails="Lua error: Module:U:1: unfinished string", module="U", fault=(1, 1), profile=True),
+    chunk("too_large", "A numeral beyond 64 bits is a fault.", "return 9223372036854775808",
+          fails="Lua error: Module:B:1: numeral is not a whole number in range", module="B", fault=(6, 1), profile=True),
     chunk("table_error", "An error that is no string has no message.", "return {f=function() error({}) end}",
           fails="Lua error: the error is a table value", module="Z", profile=True),
     chunk("written_out", "The text of a failure is written without marks of HTML.", "return {f=function() error('a<b>&c', 0) end}",

@@ -10,10 +10,10 @@ import pathlib
 import subprocess
 import sys
 
-from lua_trees import tree
+from lua_chunks import FILES
+from lua_trees import rows, tree
 
 CRATE = pathlib.Path(__file__).resolve().parent.parent / "crates" / "lua_meaning"
-from lua_chunks import FILES  # noqa: E402
 
 HEAD = """-- {subject}
 use Rattle.std.specs.Prelude.{{◌≡◌, ℕ, pos, true, false, List, [], ◌∷◌, Some, None, codes}}
@@ -26,7 +26,7 @@ use Rattle.lua_syntax.specs.declared.Field.TheVariants.{{Item, Pair}}
 use Rattle.lua_syntax.specs.declared.StatKind.TheVariants.{{Assign, Call as StatCall, Do, While, Repeat, If, Count, Each, LocalFunction, Local, Return, Break}}
 use Rattle.page_run.specs.declared.which.Which.TheVariants.{{Steps, Calls}}
 use Rattle.lua_meaning.specs.Trees.{{expr, stat, block, arm, function, index, call, method, binary, unary, paren}}
-use Rattle.lua_meaning.specs.Trial.{{Gives, Fails, Spends, Seen, invoked, invoked_with, ended}}
+use Rattle.lua_meaning.specs.Trial.{{Gives, Fails, Spends, Loads, ended, arg, invoked, invoked_with, invoked_on, loaded, faulted}}
 
 module _ (g : Global) where
 """
@@ -55,20 +55,38 @@ def comment(text):
     return "\n".join("  --     " + line for line in text.split("\n"))
 
 
+def shown(end):
+    kind, *rest = end
+    if kind in ("Spends", "Loads"):
+        return " ".join(map(str, [kind, *rest]))
+    return f"{kind} {codes(rest[0])} {rest[1] if len(rest) > 1 else 0}"
+
+
+def called(example, step):
+    title, size, name = codes(example["module"]), len(example["text"].encode()), example["name"]
+    if example["fault"]:
+        kind, line = example["fault"]
+        return f"faulted {title} {size} {kind} {line} {step}"
+    if example["args"]:
+        args = rows(f"arg {codes(k)} {codes(v)}" for k, v in example["args"])
+        return f"invoked_on {args} 20000 {title} {size} {name} {step}"
+    if example["calls"]:
+        return f"invoked_with {example['calls']} {title} {size} {name} {step}"
+    return f"{example['how']} {title} {size} {name} {step}"
+
+
 def spec(example):
-    name, module, text, said, steps, seen = (example[k] for k in ("name", "module", "text", "said", "steps", "seen"))
+    name = example["name"]
     title = name.replace("_", " ").title().replace(" ", "")
-    body = f"  -- {said}\n{comment(text)}\n  abbrev pub {name} : Block\n  {name} = {tree(text)}\n\n"
-    size = len(text.encode())
     claims = []
-    for step, end in zip(steps, seen):
-        kind, *rest = end
-        shown = f"{kind} {rest[0]} {rest[1]}" if kind == "Spends" else f"{kind} {codes(rest[0])}" + (f" {rest[1]}" if len(rest) > 1 else "")
-        with_calls = f"_with {example['calls']}" if example["calls"] else ""
-        call = f"invoked{with_calls} {codes(module)} {size} {name} {step}"
-        claims.append(f"{call} ≡ {shown}" if kind == "Spends" or len(rest) > 1 else f"ended ({call}) ≡ {shown} 0")
+    for step, end in zip(example["steps"], example["seen"]):
+        exact = end[0] in ("Spends", "Loads") or len(end) > 2
+        call = called(example, step)
+        claims.append(f"{call} ≡ {shown(end)}" if exact else f"ended ({call}) ≡ {shown(end)}")
     claim = claims[0] if len(claims) == 1 else " × ".join(f"({c})" for c in claims)
-    return body + f"  abbrev pub {title} : Type 0\n  {title} = {claim}\n", title, len(claims)
+    head = f"  -- {example['said']}\n{comment(example['text'])}\n"
+    term = "" if example["fault"] else f"  abbrev pub {name} : Block\n  {name} = {tree(example['text'])}\n\n"
+    return head + term + f"  abbrev pub {title} : Type 0\n  {title} = {claim}\n", title, len(claims)
 
 
 def write(module, subject, examples):
@@ -78,10 +96,14 @@ def write(module, subject, examples):
         specs.append(text)
         titles.append(title)
         proof = "refl" if count == 1 else "(" + ", ".join(["refl"] * count) + ")"
-        proofs.append(f"\npub {example['name']} : (g : Global) → {title} g\n{UNFOLDING}\n{example['name']} g = {proof}\n")
+        proofs.append(f"\n{example['name']} : (g : Global) → {title} g\n{UNFOLDING}\n{example['name']} g = {proof}\n")
+    every = "All" + module.removeprefix("Example")
+    specs.append(f"  -- ALL OF THEM\n  abbrev pub {every} : Type 0\n  {every} =\n      " + "\n      × ".join(titles) + "\n")
+    proofs.append(f"\npub {every.lower()[:3]}_{every.lower()[3:]} : (g : Global) → {every} g\n{every.lower()[:3]}_{every.lower()[3:]} g = ("
+                  + ", ".join(f"{example['name']} g" for example in examples) + ")\n")
     (CRATE / "specs" / f"{module}.antt").write_text(HEAD.format(subject=subject) + "\n".join(specs))
     (CRATE / "proofs" / f"{module}Laws.antt").write_text(
-        PROOF_HEAD.format(subject=subject, module=module, names=", ".join(titles)) + "".join(proofs))
+        PROOF_HEAD.format(subject=subject, module=module, names=", ".join(titles + [every])) + "".join(proofs))
 
 
 HARNESS = """
@@ -102,7 +124,7 @@ io.write(ok and 'Gives ' or 'Fails ', tostring(out))
 
 
 def check(example):
-    if example.get("profile"):
+    if example["profile"]:
         return
     done = subprocess.run(["lua5.1", "-", example["text"], example["module"]], input=HARNESS, capture_output=True, text=True)
     kind, text = example["seen"][0][:2]
@@ -113,8 +135,8 @@ def check(example):
 
 if __name__ == "__main__":
     for module, subject, examples in FILES:
-        for example in examples:
-            if "--check" in sys.argv:
+        if "--check" in sys.argv:
+            for example in examples:
                 check(example)
-        if "--check" not in sys.argv:
+        else:
             write(module, subject, examples)

@@ -7,80 +7,83 @@ use Rattle.page_run.specs.Perform.{perform}
 use Rattle.wk_base.specs.Titles.{title_text, prefix_of}
 use Rattle.std.specs.Fmt.{digits}
 use Rattle.lua_number.specs.Numerals.{decimal_of, numeral_of, trimmed, digits_of_base, read_number_of, read_in_base_of}
-use Rattle.lua_meaning.specs.ExampleFunctions.{Counters, WhileCells, Protected, ValuesAsErrors, Places, Failing, BadArguments, ErrorHandlers, FailingHandlers, IndexChain, NewIndex, ArithmeticHandlers, EqualHandlers, CallHandlers, ToText, ProtectedMetatables, GlobalHandlers, RawEquality, TailValues}
+use Rattle.lua_meaning.specs.ExampleFunctions.{Counters, WhileCells, Protected, ValuesAsErrors, Places, Failing, BadArguments, ErrorHandlers, FailingHandlers, IndexChain, NewIndex, ArithmeticHandlers, EqualHandlers, CallHandlers, ToText, ProtectedMetatables, GlobalHandlers, RawEquality, TailValues, AllFunctions}
 
-pub counters : (g : Global) → Counters g
+counters : (g : Global) → Counters g
 unfolding perform digits title_text prefix_of decimal_of numeral_of trimmed digits_of_base read_number_of read_in_base_of views.roll-Block views.roll-Arm views.roll-Function denote.Hole.Carrier.roll denote.Hole.Carrier.hidden rows.hidden-the_row-Stat-3
 counters g = refl
 
-pub while_cells : (g : Global) → WhileCells g
+while_cells : (g : Global) → WhileCells g
 unfolding perform digits title_text prefix_of decimal_of numeral_of trimmed digits_of_base read_number_of read_in_base_of views.roll-Block views.roll-Arm views.roll-Function denote.Hole.Carrier.roll denote.Hole.Carrier.hidden rows.hidden-the_row-Stat-3
 while_cells g = refl
 
-pub protected : (g : Global) → Protected g
+protected : (g : Global) → Protected g
 unfolding perform digits title_text prefix_of decimal_of numeral_of trimmed digits_of_base read_number_of read_in_base_of views.roll-Block views.roll-Arm views.roll-Function denote.Hole.Carrier.roll denote.Hole.Carrier.hidden rows.hidden-the_row-Stat-3
 protected g = refl
 
-pub values_as_errors : (g : Global) → ValuesAsErrors g
+values_as_errors : (g : Global) → ValuesAsErrors g
 unfolding perform digits title_text prefix_of decimal_of numeral_of trimmed digits_of_base read_number_of read_in_base_of views.roll-Block views.roll-Arm views.roll-Function denote.Hole.Carrier.roll denote.Hole.Carrier.hidden rows.hidden-the_row-Stat-3
 values_as_errors g = refl
 
-pub places : (g : Global) → Places g
+places : (g : Global) → Places g
 unfolding perform digits title_text prefix_of decimal_of numeral_of trimmed digits_of_base read_number_of read_in_base_of views.roll-Block views.roll-Arm views.roll-Function denote.Hole.Carrier.roll denote.Hole.Carrier.hidden rows.hidden-the_row-Stat-3
 places g = refl
 
-pub failing : (g : Global) → Failing g
+failing : (g : Global) → Failing g
 unfolding perform digits title_text prefix_of decimal_of numeral_of trimmed digits_of_base read_number_of read_in_base_of views.roll-Block views.roll-Arm views.roll-Function denote.Hole.Carrier.roll denote.Hole.Carrier.hidden rows.hidden-the_row-Stat-3
 failing g = refl
 
-pub bad_arguments : (g : Global) → BadArguments g
+bad_arguments : (g : Global) → BadArguments g
 unfolding perform digits title_text prefix_of decimal_of numeral_of trimmed digits_of_base read_number_of read_in_base_of views.roll-Block views.roll-Arm views.roll-Function denote.Hole.Carrier.roll denote.Hole.Carrier.hidden rows.hidden-the_row-Stat-3
 bad_arguments g = refl
 
-pub error_handlers : (g : Global) → ErrorHandlers g
+error_handlers : (g : Global) → ErrorHandlers g
 unfolding perform digits title_text prefix_of decimal_of numeral_of trimmed digits_of_base read_number_of read_in_base_of views.roll-Block views.roll-Arm views.roll-Function denote.Hole.Carrier.roll denote.Hole.Carrier.hidden rows.hidden-the_row-Stat-3
 error_handlers g = refl
 
-pub failing_handlers : (g : Global) → FailingHandlers g
+failing_handlers : (g : Global) → FailingHandlers g
 unfolding perform digits title_text prefix_of decimal_of numeral_of trimmed digits_of_base read_number_of read_in_base_of views.roll-Block views.roll-Arm views.roll-Function denote.Hole.Carrier.roll denote.Hole.Carrier.hidden rows.hidden-the_row-Stat-3
 failing_handlers g = refl
 
-pub index_chain : (g : Global) → IndexChain g
+index_chain : (g : Global) → IndexChain g
 unfolding perform digits title_text prefix_of decimal_of numeral_of trimmed digits_of_base read_number_of read_in_base_of views.roll-Block views.roll-Arm views.roll-Function denote.Hole.Carrier.roll denote.Hole.Carrier.hidden rows.hidden-the_row-Stat-3
 index_chain g = refl
 
-pub new_index : (g : Global) → NewIndex g
+new_index : (g : Global) → NewIndex g
 unfolding perform digits title_text prefix_of decimal_of numeral_of trimmed digits_of_base read_number_of read_in_base_of views.roll-Block views.roll-Arm views.roll-Function denote.Hole.Carrier.roll denote.Hole.Carrier.hidden rows.hidden-the_row-Stat-3
 new_index g = refl
 
-pub arithmetic_handlers : (g : Global) → ArithmeticHandlers g
+arithmetic_handlers : (g : Global) → ArithmeticHandlers g
 unfolding perform digits title_text prefix_of decimal_of numeral_of trimmed digits_of_base read_number_of read_in_base_of views.roll-Block views.roll-Arm views.roll-Function denote.Hole.Carrier.roll denote.Hole.Carrier.hidden rows.hidden-the_row-Stat-3
 arithmetic_handlers g = refl
 
-pub equal_handlers : (g : Global) → EqualHandlers g
+equal_handlers : (g : Global) → EqualHandlers g
 unfolding perform digits title_text prefix_of decimal_of numeral_of trimmed digits_of_base read_number_of read_in_base_of views.roll-Block views.roll-Arm views.roll-Function denote.Hole.Carrier.roll denote.Hole.Carrier.hidden rows.hidden-the_row-Stat-3
 equal_handlers g = refl
 
-pub call_handlers : (g : Global) → CallHandlers g
+call_handlers : (g : Global) → CallHandlers g
 unfolding perform digits title_text prefix_of decimal_of numeral_of trimmed digits_of_base read_number_of read_in_base_of views.roll-Block views.roll-Arm views.roll-Function denote.Hole.Carrier.roll denote.Hole.Carrier.hidden rows.hidden-the_row-Stat-3
 call_handlers g = refl
 
-pub to_text : (g : Global) → ToText g
+to_text : (g : Global) → ToText g
 unfolding perform digits title_text prefix_of decimal_of numeral_of trimmed digits_of_base read_number_of read_in_base_of views.roll-Block views.roll-Arm views.roll-Function denote.Hole.Carrier.roll denote.Hole.Carrier.hidden rows.hidden-the_row-Stat-3
 to_text g = refl
 
-pub protected_metatables : (g : Global) → ProtectedMetatables g
+protected_metatables : (g : Global) → ProtectedMetatables g
 unfolding perform digits title_text prefix_of decimal_of numeral_of trimmed digits_of_base read_number_of read_in_base_of views.roll-Block views.roll-Arm views.roll-Function denote.Hole.Carrier.roll denote.Hole.Carrier.hidden rows.hidden-the_row-Stat-3
 protected_metatables g = refl
 
-pub global_handlers : (g : Global) → GlobalHandlers g
+global_handlers : (g : Global) → GlobalHandlers g
 unfolding perform digits title_text prefix_of decimal_of numeral_of trimmed digits_of_base read_number_of read_in_base_of views.roll-Block views.roll-Arm views.roll-Function denote.Hole.Carrier.roll denote.Hole.Carrier.hidden rows.hidden-the_row-Stat-3
 global_handlers g = refl
 
-pub raw_equality : (g : Global) → RawEquality g
+raw_equality : (g : Global) → RawEquality g
 unfolding perform digits title_text prefix_of decimal_of numeral_of trimmed digits_of_base read_number_of read_in_base_of views.roll-Block views.roll-Arm views.roll-Function denote.Hole.Carrier.roll denote.Hole.Carrier.hidden rows.hidden-the_row-Stat-3
 raw_equality g = refl
 
-pub tail_values : (g : Global) → TailValues g
+tail_values : (g : Global) → TailValues g
 unfolding perform digits title_text prefix_of decimal_of numeral_of trimmed digits_of_base read_number_of read_in_base_of views.roll-Block views.roll-Arm views.roll-Function denote.Hole.Carrier.roll denote.Hole.Carrier.hidden rows.hidden-the_row-Stat-3
 tail_values g = refl
+
+pub all_functions : (g : Global) → AllFunctions g
+all_functions g = (counters g, while_cells g, protected g, values_as_errors g, places g, failing g, bad_arguments g, error_handlers g, failing_handlers g, index_chain g, new_index g, arithmetic_handlers g, equal_handlers g, call_handlers g, to_text g, protected_metatables g, global_handlers g, raw_equality g, tail_values g)

@@ -7,84 +7,87 @@ use Rattle.page_run.specs.Perform.{perform}
 use Rattle.wk_base.specs.Titles.{title_text, prefix_of}
 use Rattle.std.specs.Fmt.{digits}
 use Rattle.lua_number.specs.Numerals.{decimal_of, numeral_of, trimmed, digits_of_base, read_number_of, read_in_base_of}
-use Rattle.lua_meaning.specs.ExampleStatements.{Swap, KeysFirst, LastFirst, MoreTargets, Shadowed, LocalFunctions, GlobalFunctions, Branches, WhileLoop, RepeatLoop, RepeatBreak, Counting, CountingToTheEnd, StepOfZero, Generic, OwnIterator, Cleared, ReturnFromLoops, Constructors, Methods}
+use Rattle.lua_meaning.specs.ExampleStatements.{Swap, KeysFirst, LastFirst, MoreTargets, Shadowed, LocalFunctions, GlobalFunctions, Branches, WhileLoop, RepeatLoop, RepeatBreak, Counting, CountingToTheEnd, StepOfZero, Generic, OwnIterator, Cleared, ReturnFromLoops, Constructors, Methods, AllStatements}
 
-pub swap : (g : Global) → Swap g
+swap : (g : Global) → Swap g
 unfolding perform digits title_text prefix_of decimal_of numeral_of trimmed digits_of_base read_number_of read_in_base_of views.roll-Block views.roll-Arm views.roll-Function denote.Hole.Carrier.roll denote.Hole.Carrier.hidden rows.hidden-the_row-Stat-3
 swap g = refl
 
-pub keys_first : (g : Global) → KeysFirst g
+keys_first : (g : Global) → KeysFirst g
 unfolding perform digits title_text prefix_of decimal_of numeral_of trimmed digits_of_base read_number_of read_in_base_of views.roll-Block views.roll-Arm views.roll-Function denote.Hole.Carrier.roll denote.Hole.Carrier.hidden rows.hidden-the_row-Stat-3
 keys_first g = refl
 
-pub last_first : (g : Global) → LastFirst g
+last_first : (g : Global) → LastFirst g
 unfolding perform digits title_text prefix_of decimal_of numeral_of trimmed digits_of_base read_number_of read_in_base_of views.roll-Block views.roll-Arm views.roll-Function denote.Hole.Carrier.roll denote.Hole.Carrier.hidden rows.hidden-the_row-Stat-3
 last_first g = refl
 
-pub more_targets : (g : Global) → MoreTargets g
+more_targets : (g : Global) → MoreTargets g
 unfolding perform digits title_text prefix_of decimal_of numeral_of trimmed digits_of_base read_number_of read_in_base_of views.roll-Block views.roll-Arm views.roll-Function denote.Hole.Carrier.roll denote.Hole.Carrier.hidden rows.hidden-the_row-Stat-3
 more_targets g = refl
 
-pub shadowed : (g : Global) → Shadowed g
+shadowed : (g : Global) → Shadowed g
 unfolding perform digits title_text prefix_of decimal_of numeral_of trimmed digits_of_base read_number_of read_in_base_of views.roll-Block views.roll-Arm views.roll-Function denote.Hole.Carrier.roll denote.Hole.Carrier.hidden rows.hidden-the_row-Stat-3
 shadowed g = refl
 
-pub local_functions : (g : Global) → LocalFunctions g
+local_functions : (g : Global) → LocalFunctions g
 unfolding perform digits title_text prefix_of decimal_of numeral_of trimmed digits_of_base read_number_of read_in_base_of views.roll-Block views.roll-Arm views.roll-Function denote.Hole.Carrier.roll denote.Hole.Carrier.hidden rows.hidden-the_row-Stat-3
 local_functions g = refl
 
-pub global_functions : (g : Global) → GlobalFunctions g
+global_functions : (g : Global) → GlobalFunctions g
 unfolding perform digits title_text prefix_of decimal_of numeral_of trimmed digits_of_base read_number_of read_in_base_of views.roll-Block views.roll-Arm views.roll-Function denote.Hole.Carrier.roll denote.Hole.Carrier.hidden rows.hidden-the_row-Stat-3
 global_functions g = refl
 
-pub branches : (g : Global) → Branches g
+branches : (g : Global) → Branches g
 unfolding perform digits title_text prefix_of decimal_of numeral_of trimmed digits_of_base read_number_of read_in_base_of views.roll-Block views.roll-Arm views.roll-Function denote.Hole.Carrier.roll denote.Hole.Carrier.hidden rows.hidden-the_row-Stat-3
 branches g = refl
 
-pub while_loop : (g : Global) → WhileLoop g
+while_loop : (g : Global) → WhileLoop g
 unfolding perform digits title_text prefix_of decimal_of numeral_of trimmed digits_of_base read_number_of read_in_base_of views.roll-Block views.roll-Arm views.roll-Function denote.Hole.Carrier.roll denote.Hole.Carrier.hidden rows.hidden-the_row-Stat-3
 while_loop g = refl
 
-pub repeat_loop : (g : Global) → RepeatLoop g
+repeat_loop : (g : Global) → RepeatLoop g
 unfolding perform digits title_text prefix_of decimal_of numeral_of trimmed digits_of_base read_number_of read_in_base_of views.roll-Block views.roll-Arm views.roll-Function denote.Hole.Carrier.roll denote.Hole.Carrier.hidden rows.hidden-the_row-Stat-3
 repeat_loop g = refl
 
-pub repeat_break : (g : Global) → RepeatBreak g
+repeat_break : (g : Global) → RepeatBreak g
 unfolding perform digits title_text prefix_of decimal_of numeral_of trimmed digits_of_base read_number_of read_in_base_of views.roll-Block views.roll-Arm views.roll-Function denote.Hole.Carrier.roll denote.Hole.Carrier.hidden rows.hidden-the_row-Stat-3
 repeat_break g = refl
 
-pub counting : (g : Global) → Counting g
+counting : (g : Global) → Counting g
 unfolding perform digits title_text prefix_of decimal_of numeral_of trimmed digits_of_base read_number_of read_in_base_of views.roll-Block views.roll-Arm views.roll-Function denote.Hole.Carrier.roll denote.Hole.Carrier.hidden rows.hidden-the_row-Stat-3
 counting g = refl
 
-pub counting_to_the_end : (g : Global) → CountingToTheEnd g
+counting_to_the_end : (g : Global) → CountingToTheEnd g
 unfolding perform digits title_text prefix_of decimal_of numeral_of trimmed digits_of_base read_number_of read_in_base_of views.roll-Block views.roll-Arm views.roll-Function denote.Hole.Carrier.roll denote.Hole.Carrier.hidden rows.hidden-the_row-Stat-3
 counting_to_the_end g = refl
 
-pub step_of_zero : (g : Global) → StepOfZero g
+step_of_zero : (g : Global) → StepOfZero g
 unfolding perform digits title_text prefix_of decimal_of numeral_of trimmed digits_of_base read_number_of read_in_base_of views.roll-Block views.roll-Arm views.roll-Function denote.Hole.Carrier.roll denote.Hole.Carrier.hidden rows.hidden-the_row-Stat-3
 step_of_zero g = refl
 
-pub generic : (g : Global) → Generic g
+generic : (g : Global) → Generic g
 unfolding perform digits title_text prefix_of decimal_of numeral_of trimmed digits_of_base read_number_of read_in_base_of views.roll-Block views.roll-Arm views.roll-Function denote.Hole.Carrier.roll denote.Hole.Carrier.hidden rows.hidden-the_row-Stat-3
 generic g = refl
 
-pub own_iterator : (g : Global) → OwnIterator g
+own_iterator : (g : Global) → OwnIterator g
 unfolding perform digits title_text prefix_of decimal_of numeral_of trimmed digits_of_base read_number_of read_in_base_of views.roll-Block views.roll-Arm views.roll-Function denote.Hole.Carrier.roll denote.Hole.Carrier.hidden rows.hidden-the_row-Stat-3
 own_iterator g = refl
 
-pub cleared : (g : Global) → Cleared g
+cleared : (g : Global) → Cleared g
 unfolding perform digits title_text prefix_of decimal_of numeral_of trimmed digits_of_base read_number_of read_in_base_of views.roll-Block views.roll-Arm views.roll-Function denote.Hole.Carrier.roll denote.Hole.Carrier.hidden rows.hidden-the_row-Stat-3
 cleared g = refl
 
-pub return_from_loops : (g : Global) → ReturnFromLoops g
+return_from_loops : (g : Global) → ReturnFromLoops g
 unfolding perform digits title_text prefix_of decimal_of numeral_of trimmed digits_of_base read_number_of read_in_base_of views.roll-Block views.roll-Arm views.roll-Function denote.Hole.Carrier.roll denote.Hole.Carrier.hidden rows.hidden-the_row-Stat-3
 return_from_loops g = refl
 
-pub constructors : (g : Global) → Constructors g
+constructors : (g : Global) → Constructors g
 unfolding perform digits title_text prefix_of decimal_of numeral_of trimmed digits_of_base read_number_of read_in_base_of views.roll-Block views.roll-Arm views.roll-Function denote.Hole.Carrier.roll denote.Hole.Carrier.hidden rows.hidden-the_row-Stat-3
 constructors g = refl
 
-pub methods : (g : Global) → Methods g
+methods : (g : Global) → Methods g
 unfolding perform digits title_text prefix_of decimal_of numeral_of trimmed digits_of_base read_number_of read_in_base_of views.roll-Block views.roll-Arm views.roll-Function denote.Hole.Carrier.roll denote.Hole.Carrier.hidden rows.hidden-the_row-Stat-3
 methods g = refl
+
+pub all_statements : (g : Global) → AllStatements g
+all_statements g = (swap g, keys_first g, last_first g, more_targets g, shadowed g, local_functions g, global_functions g, branches g, while_loop g, repeat_loop g, repeat_break g, counting g, counting_to_the_end g, step_of_zero g, generic g, own_iterator g, cleared g, return_from_loops g, constructors g, methods g)

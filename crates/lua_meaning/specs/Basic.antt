@@ -1,5 +1,6 @@
 -- BASIC FUNCTIONS that call back nobody (manual 5.1).
 use Rattle.std.specs.Prelude.{ℕ, zero, suc, ◌+◌, ◌-◌, ℤ, pos, negsuc, ◌+ℤ◌, ◌-ℤ◌, Bool, true, false, ◌&&◌, ◌||◌, not, List, [], ◌∷◌, ◌++◌, length, drop, Option, Some, None, Ok, Err, if◌then◌else◌, nat_le, nat_lt, int_lt, int_le, bytes_eq, codes}
+use Rattle.std.specs.Ordering.{int_eq}
 use Rattle.lua_table.specs.Entries.{Stop}
 use Rattle.lua_number.specs.Numerals.{read_number_of, read_in_base_of}
 use Rattle.lua_heap.specs.Value.{Value, Nil, Truth, Number, Text, Table, same, is_true, is_nil}
@@ -69,8 +70,8 @@ with_entry t key value h =
     else if is_nil key then fails h nil_key
     else costs (entry_charge (table_at h t).entries key value) (set_in h t key value) (Table t ∷ [])
 
-abbrev pub raw_set_ : List Value → Heap Function → Plain
-raw_set_ args h = checked h (a_table 1 (codes "rawset") args) (λ t. with_entry t (second args) (third args) h)
+abbrev pub raw_set : List Value → Heap Function → Plain
+raw_set args h = checked h (a_table 1 (codes "rawset") args) (λ t. with_entry t (second args) (third args) h)
 
 -- `select(n, ...)`: '#' asks how many there are; a place counts from the front, a negative one from the end
 abbrev pub no_such_place : Heap Function → Plain
@@ -90,7 +91,7 @@ select args h =
     if is_count (first args) then gives h (Number (pos (length (rest args))) ∷ [])
     else checked h (a_number 1 (codes "select") args) (λ n. from_place n (rest args) h)
 
--- `tonumber(v, base)`
+-- `tonumber(v, base)`: without a base, or in base 10, any value may be asked; in another base a text
 abbrev pub number_or_nil : Option ℤ → Value
 number_or_nil (Some n) = Number n
 number_or_nil None = Nil
@@ -98,19 +99,21 @@ number_or_nil None = Nil
 abbrev pub no_such_base : Heap Function → Plain
 no_such_base h = fails h (bad_argument 2 (codes "tonumber") (codes "out of range"))
 
-abbrev pub in_base : Bytes → ℤ → Heap Function → Plain
-in_base text (pos base) h = if nat_le 2 base && nat_le base 36 then gives h (number_or_nil (read_in_base_of text base) ∷ []) else no_such_base h
-in_base text (negsuc n) h = no_such_base h
+abbrev pub digits_in : Bytes → ℤ → Heap Function → Plain
+digits_in text (pos base) h = if nat_le 2 base && nat_le base 36 then gives h (number_or_nil (read_in_base_of text base) ∷ []) else no_such_base h
+digits_in text (negsuc n) h = no_such_base h
+
+abbrev pub in_base : List Value → ℤ → Heap Function → Plain
+in_base args base h =
+    if int_eq base (pos 10) then gives h (number_or_nil (number_in (first args)) ∷ [])
+    else checked h (a_text 1 (codes "tonumber") args) (λ text. digits_in text base h)
 
 abbrev pub to_number : List Value → Heap Function → Plain
-to_number args h =
-    if is_nil (second args) then gives h (number_or_nil (number_in (first args)) ∷ [])
-    else checked h (a_number 2 (codes "tonumber") (rest args)) (λ base.
-      checked h (a_text 1 (codes "tonumber") args) (λ text. in_base text base h))
+to_number args h = checked h (number_or (pos 10) 2 (codes "tonumber") (rest args)) (λ base. in_base args base h)
 
 -- `type(v)`
-abbrev pub type_ : List Value → Heap Function → Plain
-type_ args h = gives h (Text (kind_of (first args)) ∷ [])
+abbrev pub kind : List Value → Heap Function → Plain
+kind args h = gives h (Text (kind_of (first args)) ∷ [])
 
 -- `unpack(t, i, j)`: each entry that is read costs a step
 abbrev pub how_many : ℤ → ℕ

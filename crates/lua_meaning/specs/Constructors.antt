@@ -39,8 +39,8 @@ set_fields t n (ItemOf e ∷ []) ls env = set_last t n e ls env
 set_fields t n (ItemOf e ∷ more) ls env = set_item t n e ls env >> set_fields t (n + 1) more ls env
 set_fields t n (PairOf key e ∷ more) ls env = set_pair t key e ls env >> set_fields t n more ls env
 
-abbrev pub constructor_ : List FieldMeaning → ℕ → Expression
-constructor_ fields line env = do
+abbrev pub table_constructor : List FieldMeaning → ℕ → Expression
+table_constructor fields line env = do
   node
   t ← make_table
   set_fields t 1 fields (levels env line) env

@@ -9,7 +9,7 @@ use Rattle.lua_syntax.specs.declared.Field.TheVariants.{Item, Pair}
 use Rattle.lua_syntax.specs.declared.StatKind.TheVariants.{Assign, Call as StatCall, Do, While, Repeat, If, Count, Each, LocalFunction, Local, Return, Break}
 use Rattle.page_run.specs.declared.which.Which.TheVariants.{Steps, Calls}
 use Rattle.lua_meaning.specs.Trees.{expr, stat, block, arm, function, index, call, method, binary, unary, paren}
-use Rattle.lua_meaning.specs.Trial.{Gives, Fails, Spends, Seen, invoked, invoked_with, ended}
+use Rattle.lua_meaning.specs.Trial.{Gives, Fails, Spends, Loads, ended, arg, invoked, invoked_with, invoked_on, loaded, faulted}
 
 module _ (g : Global) where
   -- 1,000 for the start, 36 for the text, and 29 for what it does.
@@ -27,6 +27,22 @@ module _ (g : Global) where
 
   abbrev pub Start : Type 0
   Start = (invoked (codes "M") 58 start 1130 ≡ Fails (codes "Lua error: Module:M:1: attempt to index a nil value") 0) × (invoked (codes "M") 58 start 1129 ≡ Spends Steps 0)
+
+  -- The load of a data module: 1,000 for the start, 14 for the text, and 17 for what it does.
+  --     return {x='v'}
+  abbrev pub data_start : Block
+  data_start = block (stat 1 (Return (expr 1 (Table (Pair (expr 1 (Text (codes "x"))) (expr 1 (Text (codes "v"))) ∷ [])) ∷ [])) ∷ [])
+
+  abbrev pub DataStart : Type 0
+  DataStart = (loaded (codes "D") 14 data_start 1031 ≡ Loads 0) × (loaded (codes "D") 14 data_start 1030 ≡ Spends Steps 0)
+
+  -- Arguments cost 4 each, and the bytes of their names and values. A name that is a place is a number.
+  --     return {f=function(frame) local a=frame.args return a[1]..a['1']..a.k..#a end}
+  abbrev pub arguments : Block
+  arguments = block (stat 1 (Return (expr 1 (Table (Pair (expr 1 (Text (codes "f"))) (expr 1 (FunctionExpr (function ((codes "frame") ∷ []) false (block (stat 1 (Local ((codes "a") ∷ []) (index g 1 (expr 1 (Name (codes "frame"))) (expr 1 (Text (codes "args"))) ∷ [])) ∷ stat 1 (Return (binary g 1 op.Concat (index g 1 (expr 1 (Name (codes "a"))) (expr 1 (Number (pos 1)))) (binary g 1 op.Concat (index g 1 (expr 1 (Name (codes "a"))) (expr 1 (Text (codes "1")))) (binary g 1 op.Concat (index g 1 (expr 1 (Name (codes "a"))) (expr 1 (Text (codes "k")))) (unary g 1 sign.Len (expr 1 (Name (codes "a")))))) ∷ [])) ∷ []))))) ∷ [])) ∷ [])) ∷ [])
+
+  abbrev pub Arguments : Type 0
+  Arguments = ended (invoked_on (arg (codes "1") (codes "x") ∷ arg (codes "k") (codes "v") ∷ []) 20000 (codes "G") 78 arguments 6000) ≡ Gives (codes "xxv1") 0
 
   -- A global variable lives as long as its invocation: in each one the counter gives 1.
   --     n=0 local p={} function p.f() n=n+1 return n end return p
@@ -127,6 +143,40 @@ module _ (g : Global) where
   abbrev pub NoTable : Type 0
   NoTable = ended (invoked (codes "X") 8 no_table 6000) ≡ Fails (codes "Script error: The module returned no table.") 0
 
+  -- A data module must give a table.
+  --     return 1
+  abbrev pub data_no_table : Block
+  data_no_table = block (stat 1 (Return (expr 1 (Number (pos 1)) ∷ [])) ∷ [])
+
+  abbrev pub DataNoTable : Type 0
+  DataNoTable = ended (loaded (codes "X") 8 data_no_table 6000) ≡ Fails (codes "data module returned no table") 0
+
+  -- The message of an error in a data module stands alone.
+  --     error('x')
+  abbrev pub data_error : Block
+  data_error = block (stat 1 (StatCall (call g 1 (expr 1 (Name (codes "error"))) (expr 1 (Text (codes "x")) ∷ []))) ∷ [])
+
+  abbrev pub DataError : Type 0
+  DataError = ended (loaded (codes "DE") 10 data_error 6000) ≡ Fails (codes "Module:DE:1: x") 0
+
+  -- A text that is no chunk fails where it would begin.
+  --     local p = {}
+  --     function p.f()
+  --       return 1 + end
+  --     return p
+  abbrev pub Faulty : Type 0
+  Faulty = ended (faulted (codes "Y") 53 5 3 6000) ≡ Fails (codes "Lua error: Module:Y:3: unexpected token") 0
+
+  -- The numbers of the faults are those of the lexis and of the grammar.
+  --     return "
+  abbrev pub Unfinished : Type 0
+  Unfinished = ended (faulted (codes "U") 8 1 1 6000) ≡ Fails (codes "Lua error: Module:U:1: unfinished string") 0
+
+  -- A numeral beyond 64 bits is a fault.
+  --     return 9223372036854775808
+  abbrev pub TooLarge : Type 0
+  TooLarge = ended (faulted (codes "B") 26 6 1 6000) ≡ Fails (codes "Lua error: Module:B:1: numeral is not a whole number in range") 0
+
   -- An error that is no string has no message.
   --     return {f=function() error({}) end}
   abbrev pub table_error : Block
@@ -142,3 +192,30 @@ module _ (g : Global) where
 
   abbrev pub WrittenOut : Type 0
   WrittenOut = ended (invoked (codes "X") 44 written_out 6000) ≡ Fails (codes "Lua error: a&lt;b&gt;&amp;c") 0
+
+  -- ALL OF THEM
+  abbrev pub AllCharges : Type 0
+  AllCharges =
+      Smallest
+      × Start
+      × DataStart
+      × Arguments
+      × Counter
+      × HoldsItself
+      × CatchesAll
+      × Nests
+      × Joins
+      × NoMarkup
+      × Cells
+      × Handlers
+      × OutOfRange
+      × SecondLevel
+      × NoFunction
+      × NoTable
+      × DataNoTable
+      × DataError
+      × Faulty
+      × Unfinished
+      × TooLarge
+      × TableError
+      × WrittenOut

@@ -9,7 +9,7 @@ use Rattle.lua_syntax.specs.declared.Field.TheVariants.{Item, Pair}
 use Rattle.lua_syntax.specs.declared.StatKind.TheVariants.{Assign, Call as StatCall, Do, While, Repeat, If, Count, Each, LocalFunction, Local, Return, Break}
 use Rattle.page_run.specs.declared.which.Which.TheVariants.{Steps, Calls}
 use Rattle.lua_meaning.specs.Trees.{expr, stat, block, arm, function, index, call, method, binary, unary, paren}
-use Rattle.lua_meaning.specs.Trial.{Gives, Fails, Spends, Seen, invoked, invoked_with, ended}
+use Rattle.lua_meaning.specs.Trial.{Gives, Fails, Spends, Loads, ended, arg, invoked, invoked_with, invoked_on, loaded, faulted}
 
 module _ (g : Global) where
   -- Closures share the variables around them.
@@ -249,3 +249,26 @@ module _ (g : Global) where
 
   abbrev pub TailValues : Type 0
   TailValues = ended (invoked (codes "X") 110 tail_values 6000) ≡ Gives (codes "xy") 0
+
+  -- ALL OF THEM
+  abbrev pub AllFunctions : Type 0
+  AllFunctions =
+      Counters
+      × WhileCells
+      × Protected
+      × ValuesAsErrors
+      × Places
+      × Failing
+      × BadArguments
+      × ErrorHandlers
+      × FailingHandlers
+      × IndexChain
+      × NewIndex
+      × ArithmeticHandlers
+      × EqualHandlers
+      × CallHandlers
+      × ToText
+      × ProtectedMetatables
+      × GlobalHandlers
+      × RawEquality
+      × TailValues

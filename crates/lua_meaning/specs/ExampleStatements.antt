@@ -9,7 +9,7 @@ use Rattle.lua_syntax.specs.declared.Field.TheVariants.{Item, Pair}
 use Rattle.lua_syntax.specs.declared.StatKind.TheVariants.{Assign, Call as StatCall, Do, While, Repeat, If, Count, Each, LocalFunction, Local, Return, Break}
 use Rattle.page_run.specs.declared.which.Which.TheVariants.{Steps, Calls}
 use Rattle.lua_meaning.specs.Trees.{expr, stat, block, arm, function, index, call, method, binary, unary, paren}
-use Rattle.lua_meaning.specs.Trial.{Gives, Fails, Spends, Seen, invoked, invoked_with, ended}
+use Rattle.lua_meaning.specs.Trial.{Gives, Fails, Spends, Loads, ended, arg, invoked, invoked_with, invoked_on, loaded, faulted}
 
 module _ (g : Global) where
   -- The right sides are evaluated before any target is assigned.
@@ -259,3 +259,27 @@ module _ (g : Global) where
 
   abbrev pub Methods : Type 0
   Methods = ended (invoked (codes "X") 147 methods 6000) ≡ Gives (codes "7") 0
+
+  -- ALL OF THEM
+  abbrev pub AllStatements : Type 0
+  AllStatements =
+      Swap
+      × KeysFirst
+      × LastFirst
+      × MoreTargets
+      × Shadowed
+      × LocalFunctions
+      × GlobalFunctions
+      × Branches
+      × WhileLoop
+      × RepeatLoop
+      × RepeatBreak
+      × Counting
+      × CountingToTheEnd
+      × StepOfZero
+      × Generic
+      × OwnIterator
+      × Cleared
+      × ReturnFromLoops
+      × Constructors
+      × Methods

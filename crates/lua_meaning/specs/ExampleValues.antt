@@ -9,7 +9,7 @@ use Rattle.lua_syntax.specs.declared.Field.TheVariants.{Item, Pair}
 use Rattle.lua_syntax.specs.declared.StatKind.TheVariants.{Assign, Call as StatCall, Do, While, Repeat, If, Count, Each, LocalFunction, Local, Return, Break}
 use Rattle.page_run.specs.declared.which.Which.TheVariants.{Steps, Calls}
 use Rattle.lua_meaning.specs.Trees.{expr, stat, block, arm, function, index, call, method, binary, unary, paren}
-use Rattle.lua_meaning.specs.Trial.{Gives, Fails, Spends, Seen, invoked, invoked_with, ended}
+use Rattle.lua_meaning.specs.Trial.{Gives, Fails, Spends, Loads, ended, arg, invoked, invoked_with, invoked_on, loaded, faulted}
 
 module _ (g : Global) where
   -- Constants, and their texts.
@@ -211,3 +211,26 @@ module _ (g : Global) where
 
   abbrev pub Assertions : Type 0
   Assertions = ended (invoked (codes "X") 125 assertions 6000) ≡ Gives (codes "1noassertion failed!") 0
+
+  -- ALL OF THEM
+  abbrev pub AllValues : Type 0
+  AllValues =
+      Constants
+      × Adjusted
+      × Parentheses
+      × ManyArguments
+      × Varargs
+      × NoValues
+      × AndOr
+      × Precedence
+      × Remainders
+      × TextsInArithmetic
+      × Order
+      × Equality
+      × Lengths
+      × LeastBorder
+      × Types
+      × ToNumbers
+      × Selecting
+      × Unpacking
+      × Assertions

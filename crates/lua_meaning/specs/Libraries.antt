@@ -8,7 +8,7 @@ use Rattle.lua_heap.specs.Library.{Library, BasicAssert, BasicError, BasicGetMet
 use Rattle.lua_meaning.specs.Environment.{Function, Levels}
 use Rattle.lua_meaning.specs.Acts.{Act, see_heap}
 use Rattle.lua_meaning.specs.Arguments.{Plain, plain_act}
-use Rattle.lua_meaning.specs.Basic.{assert, error, get_metatable, set_metatable, raw_equal, raw_get, raw_set_, select, to_number, type_, unpack, next}
+use Rattle.lua_meaning.specs.Basic.{assert, error, get_metatable, set_metatable, raw_equal, raw_get, raw_set, select, to_number, kind, unpack, next}
 use Rattle.lua_meaning.specs.Frames.{args_index}
 use Rattle.lua_meaning.specs.Protocol.{pcall, xpcall, to_string, pairs, ipairs, ipairs_step}
 
@@ -21,10 +21,10 @@ plain BasicSetMetatable args h = Some (set_metatable args h)
 plain BasicNext args h = Some (next args h)
 plain BasicRawEqual args h = Some (raw_equal args h)
 plain BasicRawGet args h = Some (raw_get args h)
-plain BasicRawSet args h = Some (raw_set_ args h)
+plain BasicRawSet args h = Some (raw_set args h)
 plain BasicSelect args h = Some (select args h)
 plain BasicToNumber args h = Some (to_number args h)
-plain BasicType args h = Some (type_ args h)
+plain BasicType args h = Some (kind args h)
 plain BasicUnpack args h = Some (unpack args h)
 plain ArgsIndex args h = Some (args_index args h)
 plain _ args h = None

@@ -23,8 +23,8 @@ while_from test body env = do
   v ← value test.1 env
   choose (is_true v) (begin (WhileTurn test.0 body.0 env)) (give [])
 
-abbrev pub while_ : ExprPart → BlockPart → Statement
-while_ test body env = do
+abbrev pub while_loop : ExprPart → BlockPart → Statement
+while_loop test body env = do
   node
   while_from test body env
   give env
@@ -38,8 +38,8 @@ while_turn test body env = do
 abbrev pub repeat_from : BlockPart → ExprPart → Env → Act (List Value)
 repeat_from body test env = begin (RepeatTurn body.0 test.0 env)
 
-abbrev pub repeat_ : BlockPart → ExprPart → Statement
-repeat_ body test env = do
+abbrev pub repeat_loop : BlockPart → ExprPart → Statement
+repeat_loop body test env = do
   node
   repeat_from body test env
   give env
@@ -79,8 +79,8 @@ abbrev pub step_value : Option Expression → Env → Act Value
 step_value None env = give (Number (pos 1))
 step_value (Some e) env = value e env
 
-abbrev pub count_ : Bytes → Expression → Expression → Option Expression → BlockPart → ℕ → Statement
-count_ name from to by body line env = do
+abbrev pub counting_loop : Bytes → Expression → Expression → Option Expression → BlockPart → ℕ → Statement
+counting_loop name from to by body line env = do
   node
   a ← value from env
   b ← value to env
@@ -103,8 +103,8 @@ each_from names f state before body line env = do
   vs ← call f (state ∷ before ∷ []) (levels env line)
   choose (is_nil (first vs)) (give []) (begin (EachTurn names f state vs body.0 line env))
 
-abbrev pub each_ : List Bytes → List Expression → BlockPart → ℕ → Statement
-each_ names right body line env = do
+abbrev pub generic_loop : List Bytes → List Expression → BlockPart → ℕ → Statement
+generic_loop names right body line env = do
   node
   vs ← values right env []
   each_from names (first vs) (second vs) (third vs) body line env

@@ -17,9 +17,9 @@ use Rattle.lua_heap.specs.Value.{Value, Nil as NilValue, Truth, Number as Number
 use Rattle.lua_meaning.specs.Environment.{Bytes, Env, cell_of, levels}
 use Rattle.lua_meaning.specs.Tree.{Expression, Targeted, Statement, Branch, FieldMeaning, ItemOf, PairOf, NoTarget, ExprPart, BlockPart}
 use Rattle.lua_meaning.specs.Expressions.{constant, dots, name, indexed, function, called, method, paren, binary, unary, name_target, index_target}
-use Rattle.lua_meaning.specs.Constructors.{constructor_}
-use Rattle.lua_meaning.specs.Statements.{in_order, do_, assign, local, local_function, call_statement, if_, return, break}
-use Rattle.lua_meaning.specs.Loops.{while_, repeat_, count_, each_}
+use Rattle.lua_meaning.specs.Constructors.{table_constructor}
+use Rattle.lua_meaning.specs.Statements.{in_order, do_block, assign, local, local_function, call_statement, conditional, return, break}
+use Rattle.lua_meaning.specs.Loops.{while_loop, repeat_loop, counting_loop, generic_loop}
 
 abbrev pub on_line : ℕ → ExprKind → Expr
 on_line line kind = record { line = line; kind = kind }
@@ -38,7 +38,7 @@ abbrev mutual
   expression line (Index' p l of q k key) = indexed (expression l of) (expression k key) line
   expression line (CallOf p l f n args) = called (expression l f) (expressions args) line
   expression line (Method' p l of x n args) = method (expression l of) x (expressions args) line
-  expression line (Table' n fields) = constructor_ (fields_of fields) line
+  expression line (Table' n fields) = table_constructor (fields_of fields) line
   expression line (Binary' o p l a q k b) = binary o (expression l a) (expression k b) line
   expression line (Unary' o p l a) = unary o (expression l a) line
   expression line (Paren' p l a) = paren (expression l a)
@@ -70,12 +70,12 @@ abbrev mutual
   pub statement : ℕ → StatKind → Statement
   statement line (Assign' n left m right) = assign (targets_of left) (expressions right)
   statement line (Call' l e) = call_statement (expression l e)
-  statement line (Do b) = do_ (block b)
-  statement line (While' l e b) = while_ (on_line l e, expression l e) (b, block b)
-  statement line (Repeat' b l e) = repeat_ (b, block b) (on_line l e, expression l e)
-  statement line (If' n arms other) = if_ (branches_of arms) (else_of other)
-  statement line (Count' x l from k to by b) = count_ x (expression l from) (expression k to) (step_of by) (b, block b) line
-  statement line (Each' names n right b) = each_ names (expressions right) (b, block b) line
+  statement line (Do b) = do_block (block b)
+  statement line (While' l e b) = while_loop (on_line l e, expression l e) (b, block b)
+  statement line (Repeat' b l e) = repeat_loop (b, block b) (on_line l e, expression l e)
+  statement line (If' n arms other) = conditional (branches_of arms) (else_of other)
+  statement line (Count' x l from k to by b) = counting_loop x (expression l from) (expression k to) (step_of by) (b, block b) line
+  statement line (Each' names n right b) = generic_loop names (expressions right) (b, block b) line
   statement line (LocalFunction x f) = local_function x f
   statement line (Local' names n right) = local names (expressions right)
   statement line (Return' n right) = return (expressions right)

@@ -24,8 +24,8 @@ within body env = do
   body env
   give env
 
-abbrev pub do_ : Statement → Statement
-do_ body env = do
+abbrev pub do_block : Statement → Statement
+do_block body env = do
   node
   within body env
 
@@ -95,8 +95,8 @@ branches (arm ∷ more) other env = do
   v ← one (arm.test env)
   choose (is_true v) (within arm.body env) (branches more other env)
 
-abbrev pub if_ : List Branch → Option Statement → Statement
-if_ arms other env = do
+abbrev pub conditional : List Branch → Option Statement → Statement
+conditional arms other env = do
   node
   branches arms other env
 

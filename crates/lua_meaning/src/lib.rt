@@ -1,4 +1,5 @@
 //! The meaning of Lua.
 #![tactic(auto)]
 
+pub mod examples;
 pub mod laws;
