@@ -15,6 +15,10 @@ def body(name, said, text, gives=None, fails=None, **more):
     return chunk(name, said, "return {f=function(...)\n" + text + "\nend}", gives, fails, **more)
 
 
+# 1,000; the arguments; the text; the chunk; then `f` entered, the `local`, the nodes of the `return` with a link and a function
+# entered among them, three texts that `..` gives, and the answer
+ARGUMENTS = 1000 + 2 * (4 + 1 + 1) + 78 + (1 + 1 + 1 + 8 + 1 + 1 + 8 + 4) + 1 + 4 + 17 + (2 + 3 + 4) + 4
+
 CHARGES = [
     chunk("smallest", "1,000 for the start, 36 for the text, and 29 for what it does.",
           "return {f=function() return 'a' end}", module="A", steps=[1065, 1064], seen=[("Gives", "a", 0), ("Spends", "Steps", 0)]),
@@ -25,7 +29,7 @@ CHARGES = [
           "return {x='v'}", module="D", how="loaded", steps=[1031, 1030], seen=[("Loads", 0), ("Spends", "Steps", 0)], profile=True),
     chunk("arguments", "Arguments cost 4 each, and the bytes of their names and values. A name that is a place is a number.",
           "return {f=function(frame) local a=frame.args return a[1]..a['1']..a.k..#a end}", module="G", args=[("1", "x"), ("k", "v")],
-          gives="xxv1", profile=True),
+          steps=[ARGUMENTS, ARGUMENTS - 1], seen=[("Gives", "xxv1", 0), ("Spends", "Steps", 0)], profile=True),
     chunk("counter", "A global variable lives as long as its invocation: in each one the counter gives 1.",
           "n=0 local p={} function p.f() n=n+1 return n end return p", "1", module="C"),
     chunk("holds_itself", "A table holds itself.",

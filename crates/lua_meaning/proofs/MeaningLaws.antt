@@ -1,9 +1,9 @@
 -- The laws of the meaning: mostly they compute, form by form.
-use Rattle.std.proofs.Common.{◌≡◌, refl, subst, arith, ℕ, ◌+◌, List, [], Option, Some, None}
+use Rattle.std.proofs.Common.{◌≡◌, refl, subst, arith, ℕ, ◌+◌, List, []}
 use Rattle.lua_syntax.specs.declared.BinaryOp.{BinaryOp}
 use Rattle.lua_syntax.specs.declared.BinaryOp.TheVariants as op
-use Rattle.lua_syntax.specs.declared.StatKind.{StatKind, Assign', Call', Do, While', Repeat', If', Count', Each', LocalFunction, Local', Return', Break}
-use Rattle.lua_syntax.specs.declared.ExprKind.{ExprKind, Nil, True, False, Number, Text, Dots, Function, Name, Index', Call' as CallOf, Method', Table', Binary', Unary', Paren'}
+use Rattle.lua_syntax.specs.declared.StatKind.{Assign', Call', Do, While', Repeat', If', Count', Each', LocalFunction, Local', Return', Break}
+use Rattle.lua_syntax.specs.declared.ExprKind.{Nil, True, False, Number, Text, Dots, Function, Name, Index', Call' as CallOf, Method', Table', Binary', Unary', Paren'}
 use Rattle.page_run.specs.Outcome.{Outcome}
 use Rattle.page_run.specs.State.{start}
 use Rattle.page_run.specs.Perform.{perform}
@@ -13,7 +13,7 @@ use Rattle.page_run.proofs.ChargeLaws.{calls_come_back}
 use Rattle.page_run.proofs.FitLaws.{more_is_as_good}
 use Rattle.lua_heap.specs.Value.{Value}
 use Rattle.lua_meaning.specs.Environment.{Env}
-use Rattle.lua_meaning.specs.Acts.{LuaRun, Jump, Thing, WhileTurn, RepeatTurn, CountTurn, EachTurn, Body, LibraryBody, ChunkBody, IndexLink, SetLink, CallLink}
+use Rattle.lua_meaning.specs.Acts.{LuaRun, Jump, WhileTurn, RepeatTurn, CountTurn, EachTurn, Body, LibraryBody, ChunkBody, IndexLink, SetLink, CallLink}
 use Rattle.lua_meaning.specs.Tree.{Expression}
 use Rattle.lua_meaning.specs.Expressions.{binary}
 use Rattle.lua_meaning.specs.Meant.{meant}

@@ -1,14 +1,14 @@
 -- A RUN OF LUA, and what parts of it are written with.
 -- Each line of a `do` block is one step. `x ← part` names the value that a part gives; a line without a name is done for its effect.
 -- Where a part jumps, by an error, a `return` or a `break`, the lines after it are passed over.
-use Rattle.std.specs.Prelude.{ℕ, ◌+◌, ℤ, Bool, true, false, List, [], ◌∷◌, ◌++◌, length, Option}
+use Rattle.std.specs.Prelude.{ℕ, ℤ, Bool, true, false, List, [], ◌∷◌}
 use Rattle.wk_base.specs.declared.title.Title.{Title}
 use Rattle.lua_syntax.specs.declared.Expr.{Expr}
 use Rattle.lua_syntax.specs.declared.Block.{Block}
-use Rattle.page_run.specs.Run.{Run, Sees}
-use Rattle.page_run.specs.Outcome.{Outcome, Goes, Jumps, Act as ActOf, ◌>>=◌, ◌>>◌, give, jump, catch, tick, count, see, change, begin}
-use Rattle.lua_heap.specs.Value.{Value, Nil, Closure as ClosureValue, Table as TableValue}
-use Rattle.lua_heap.specs.Heap.{Heap, Closed, Function as FunctionClosed, cell_at, set_cell_in, new_table, new_cell, new_closure}
+use Rattle.page_run.specs.Run.{Run}
+use Rattle.page_run.specs.Outcome.{Outcome, Act as ActOf, ◌>>=◌, ◌>>◌, give, jump, tick, count, see, change}
+use Rattle.lua_heap.specs.Value.{Value, Closure as ClosureValue}
+use Rattle.lua_heap.specs.Heap.{Heap, Function as FunctionClosed, cell_at, set_cell_in, new_table, new_cell, new_closure}
 use Rattle.lua_meaning.specs.Environment.{Bytes, Env, Function, Levels, with_name}
 use Rattle.lua_meaning.specs.Questions.{Scene, Ask, Answer}
 use Rattle.lua_meaning.specs.Values.{first, rest}

@@ -1,9 +1,9 @@
 -- THE ARGUMENTS OF FUNCTIONS OF THE LIBRARY, and what functions give that call back nobody (manual 5).
 -- Where a string is wanted a number's digits are taken; where a number is wanted a string that reads as one is. An absent
 -- argument is the same as nil, but for the message that says what was got.
-use Rattle.std.specs.Prelude.{ℕ, ℤ, pos, Bool, List, [], ◌∷◌, Option, Some, None, Result, Ok, Err, codes}
-use Rattle.page_run.specs.Outcome.{◌>>=◌, ◌>>◌, give, tick}
-use Rattle.lua_heap.specs.Value.{Value, Nil, Text, Table, is_nil}
+use Rattle.std.specs.Prelude.{ℕ, ℤ, pos, List, [], ◌∷◌, Option, Some, None, Result, Ok, Err, codes}
+use Rattle.page_run.specs.Outcome.{◌>>◌, give, tick}
+use Rattle.lua_heap.specs.Value.{Value, Nil, Text, Table}
 use Rattle.lua_heap.specs.Heap.{Heap}
 use Rattle.lua_meaning.specs.Environment.{Bytes, Function, Levels}
 use Rattle.lua_meaning.specs.Values.{first, number_in, text_in}

@@ -1,16 +1,15 @@
 -- BASIC FUNCTIONS that call back nobody (manual 5.1).
-use Rattle.std.specs.Prelude.{ℕ, zero, suc, ◌+◌, ◌-◌, ℤ, pos, negsuc, ◌+ℤ◌, ◌-ℤ◌, Bool, true, false, ◌&&◌, ◌||◌, not, List, [], ◌∷◌, ◌++◌, length, drop, Option, Some, None, Ok, Err, if◌then◌else◌, nat_le, nat_lt, int_lt, int_le, bytes_eq, codes}
+use Rattle.std.specs.Prelude.{ℕ, zero, suc, ◌-◌, ℤ, pos, negsuc, ◌+ℤ◌, ◌-ℤ◌, Bool, false, ◌&&◌, ◌||◌, List, [], ◌∷◌, length, drop, Option, Some, None, Ok, Err, if◌then◌else◌, nat_le, nat_lt, bytes_eq, codes}
 use Rattle.std.specs.Ordering.{int_eq}
-use Rattle.lua_table.specs.Entries.{Stop}
-use Rattle.lua_number.specs.Numerals.{read_number_of, read_in_base_of}
+use Rattle.lua_number.specs.Numerals.{read_in_base_of}
 use Rattle.lua_heap.specs.Value.{Value, Nil, Truth, Number, Text, Table, same, is_true, is_nil}
 use Rattle.lua_heap.specs.Table.{Entries, get, has, behind_key, first_entry, border}
 use Rattle.lua_heap.specs.Heap.{Heap, table_at, set_in, set_meta_in}
 use Rattle.lua_meaning.specs.Environment.{Bytes, Function}
-use Rattle.lua_meaning.specs.Values.{kind_of, first, rest, second, third, text_in, number_in}
+use Rattle.lua_meaning.specs.Values.{kind_of, first, rest, second, third, number_in}
 use Rattle.lua_meaning.specs.Messages.{bad_argument, expected, nil_key, read_only}
 use Rattle.lua_meaning.specs.Metatables.{metatable, field, handler}
-use Rattle.lua_meaning.specs.Arguments.{Plain, Gives, Fails, gives, costs, fails, Checked, checked, a_table, a_number, number_or, a_text}
+use Rattle.lua_meaning.specs.Arguments.{Plain, Fails, gives, costs, fails, Checked, checked, a_table, a_number, number_or, a_text}
 
 -- `assert(v, m)` gives all its arguments, or raises m, without a place
 abbrev pub message_or : Value → Bytes → Value
@@ -132,7 +131,7 @@ unpack args h =
     checked h (a_table 1 (codes "unpack") args) (λ t.
     checked h (number_or (pos 1) 2 (codes "unpack") (rest args)) (λ i.
     checked h (number_or (pos (border (table_at h t).entries)) 3 (codes "unpack") (rest (rest args))) (λ j.
-      costs (count_between i j) h (entries_from (count_between i j) i (table_at h t).entries))))
+    costs (count_between i j) h (entries_from (count_between i j) i (table_at h t).entries))))
 
 -- `next(t, k)`: the first entry behind k that is not cleared; each cleared one that it passes costs a step
 abbrev pub key_and_value : Value → Value → List Value

@@ -1,8 +1,8 @@
 -- CALLS (manual 2.5.8 and 2.8, "call").
 -- A function that is called is a thing that begins: here it is named, with the levels that an error at its entry has.
-use Rattle.std.specs.Prelude.{ℕ, List, [], ◌∷◌, Option, Some, None, codes}
-use Rattle.page_run.specs.Outcome.{◌>>=◌, ◌>>◌, give, begin}
-use Rattle.lua_heap.specs.Value.{Value, Nil, Truth, Number, Text, Table, Closure, Builtin, Markup}
+use Rattle.std.specs.Prelude.{List, ◌∷◌, Option, Some, None, codes}
+use Rattle.page_run.specs.Outcome.{◌>>=◌, begin}
+use Rattle.lua_heap.specs.Value.{Value, Nil, Table, Closure, Builtin}
 use Rattle.lua_heap.specs.Heap.{Closed, Function as FunctionClosed, Iterator, closure_at}
 use Rattle.lua_meaning.specs.Environment.{Levels, Function}
 use Rattle.lua_meaning.specs.Acts.{Act, Body, LibraryBody, CallLink, see_heap}

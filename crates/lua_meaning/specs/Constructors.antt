@@ -1,5 +1,5 @@
 -- TABLE CONSTRUCTORS (manual 2.5.7). The fields are set in the order in which they are written, without metamethods.
-use Rattle.std.specs.Prelude.{ℕ, suc, ◌+◌, pos, List, [], ◌∷◌}
+use Rattle.std.specs.Prelude.{ℕ, ◌+◌, pos, List, [], ◌∷◌}
 use Rattle.page_run.specs.Outcome.{◌>>=◌, ◌>>◌, give}
 use Rattle.lua_heap.specs.Value.{Value, Number, Table}
 use Rattle.lua_meaning.specs.Environment.{Env, Levels, levels}

@@ -1,5 +1,5 @@
 -- NAMES, FUNCTIONS AND PLACES OF THE TEXT (manual 2.3, 2.5.9, 2.6).
-use Rattle.std.specs.Prelude.{ℕ, List, [], ◌∷◌, ◌++◌, Option, Some, None, if◌then◌else◌, bytes_eq, codes}
+use Rattle.std.specs.Prelude.{ℕ, List, [], ◌∷◌, Option, Some, None, if◌then◌else◌, bytes_eq}
 use Rattle.lua_syntax.specs.declared.Function.{Function as FunctionNode}
 use Rattle.lua_heap.specs.Value.{Value}
 

@@ -1,14 +1,14 @@
 -- EXAMPLES of charges, and of how runs end.
-use Rattle.std.specs.Prelude.{◌≡◌, ℕ, pos, true, false, List, [], ◌∷◌, Some, None, codes}
+use Rattle.std.specs.Prelude.{◌≡◌, pos, false, [], ◌∷◌, None, codes}
 use Rattle.std.specs.declared.alloc.Global.{Global}
 use Rattle.lua_syntax.specs.declared.Block.{Block}
 use Rattle.lua_syntax.specs.declared.BinaryOp.TheVariants as op
 use Rattle.lua_syntax.specs.declared.UnaryOp.TheVariants as sign
-use Rattle.lua_syntax.specs.declared.ExprKind.TheVariants.{Nil, True, False, Number, Text, Dots, Function as FunctionExpr, Name, Table}
-use Rattle.lua_syntax.specs.declared.Field.TheVariants.{Item, Pair}
-use Rattle.lua_syntax.specs.declared.StatKind.TheVariants.{Assign, Call as StatCall, Do, While, Repeat, If, Count, Each, LocalFunction, Local, Return, Break}
+use Rattle.lua_syntax.specs.declared.ExprKind.TheVariants.{True, False, Number, Text, Function as FunctionExpr, Name, Table}
+use Rattle.lua_syntax.specs.declared.Field.TheVariants.{Pair}
+use Rattle.lua_syntax.specs.declared.StatKind.TheVariants.{Assign, Call as StatCall, While, If, Count, LocalFunction, Local, Return}
 use Rattle.page_run.specs.declared.which.Which.TheVariants.{Steps, Calls}
-use Rattle.lua_meaning.specs.Trees.{expr, stat, block, arm, function, index, call, method, binary, unary, paren}
+use Rattle.lua_meaning.specs.Trees.{expr, stat, block, arm, function, index, call, binary, unary}
 use Rattle.lua_meaning.specs.Trial.{Gives, Fails, Spends, Loads, ended, arg, invoked, invoked_with, invoked_on, loaded, faulted}
 
 module _ (g : Global) where
@@ -42,7 +42,7 @@ module _ (g : Global) where
   arguments = block (stat 1 (Return (expr 1 (Table (Pair (expr 1 (Text (codes "f"))) (expr 1 (FunctionExpr (function ((codes "frame") ∷ []) false (block (stat 1 (Local ((codes "a") ∷ []) (index g 1 (expr 1 (Name (codes "frame"))) (expr 1 (Text (codes "args"))) ∷ [])) ∷ stat 1 (Return (binary g 1 op.Concat (index g 1 (expr 1 (Name (codes "a"))) (expr 1 (Number (pos 1)))) (binary g 1 op.Concat (index g 1 (expr 1 (Name (codes "a"))) (expr 1 (Text (codes "1")))) (binary g 1 op.Concat (index g 1 (expr 1 (Name (codes "a"))) (expr 1 (Text (codes "k")))) (unary g 1 sign.Len (expr 1 (Name (codes "a")))))) ∷ [])) ∷ []))))) ∷ [])) ∷ [])) ∷ [])
 
   abbrev pub Arguments : Type 0
-  Arguments = ended (invoked_on (arg (codes "1") (codes "x") ∷ arg (codes "k") (codes "v") ∷ []) 20000 (codes "G") 78 arguments 6000) ≡ Gives (codes "xxv1") 0
+  Arguments = (invoked_on (arg (codes "1") (codes "x") ∷ arg (codes "k") (codes "v") ∷ []) 20000 (codes "G") 78 arguments 1150 ≡ Gives (codes "xxv1") 0) × (invoked_on (arg (codes "1") (codes "x") ∷ arg (codes "k") (codes "v") ∷ []) 20000 (codes "G") 78 arguments 1149 ≡ Spends Steps 0)
 
   -- A global variable lives as long as its invocation: in each one the counter gives 1.
   --     n=0 local p={} function p.f() n=n+1 return n end return p

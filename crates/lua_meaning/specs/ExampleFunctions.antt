@@ -1,15 +1,14 @@
 -- EXAMPLES of functions, errors and handlers.
-use Rattle.std.specs.Prelude.{◌≡◌, ℕ, pos, true, false, List, [], ◌∷◌, Some, None, codes}
+use Rattle.std.specs.Prelude.{◌≡◌, pos, true, false, [], ◌∷◌, None, codes}
 use Rattle.std.specs.declared.alloc.Global.{Global}
 use Rattle.lua_syntax.specs.declared.Block.{Block}
 use Rattle.lua_syntax.specs.declared.BinaryOp.TheVariants as op
 use Rattle.lua_syntax.specs.declared.UnaryOp.TheVariants as sign
-use Rattle.lua_syntax.specs.declared.ExprKind.TheVariants.{Nil, True, False, Number, Text, Dots, Function as FunctionExpr, Name, Table}
+use Rattle.lua_syntax.specs.declared.ExprKind.TheVariants.{Nil, True, Number, Text, Dots, Function as FunctionExpr, Name, Table}
 use Rattle.lua_syntax.specs.declared.Field.TheVariants.{Item, Pair}
-use Rattle.lua_syntax.specs.declared.StatKind.TheVariants.{Assign, Call as StatCall, Do, While, Repeat, If, Count, Each, LocalFunction, Local, Return, Break}
-use Rattle.page_run.specs.declared.which.Which.TheVariants.{Steps, Calls}
-use Rattle.lua_meaning.specs.Trees.{expr, stat, block, arm, function, index, call, method, binary, unary, paren}
-use Rattle.lua_meaning.specs.Trial.{Gives, Fails, Spends, Loads, ended, arg, invoked, invoked_with, invoked_on, loaded, faulted}
+use Rattle.lua_syntax.specs.declared.StatKind.TheVariants.{Assign, Call as StatCall, While, If, LocalFunction, Local, Return}
+use Rattle.lua_meaning.specs.Trees.{expr, stat, block, arm, function, index, call, binary, unary}
+use Rattle.lua_meaning.specs.Trial.{Gives, ended, invoked}
 
 module _ (g : Global) where
   -- Closures share the variables around them.

@@ -1,15 +1,14 @@
 -- EXAMPLES of statements, loops and constructors.
-use Rattle.std.specs.Prelude.{◌≡◌, ℕ, pos, true, false, List, [], ◌∷◌, Some, None, codes}
+use Rattle.std.specs.Prelude.{◌≡◌, pos, true, false, [], ◌∷◌, Some, None, codes}
 use Rattle.std.specs.declared.alloc.Global.{Global}
 use Rattle.lua_syntax.specs.declared.Block.{Block}
 use Rattle.lua_syntax.specs.declared.BinaryOp.TheVariants as op
 use Rattle.lua_syntax.specs.declared.UnaryOp.TheVariants as sign
-use Rattle.lua_syntax.specs.declared.ExprKind.TheVariants.{Nil, True, False, Number, Text, Dots, Function as FunctionExpr, Name, Table}
+use Rattle.lua_syntax.specs.declared.ExprKind.TheVariants.{Nil, True, Number, Text, Function as FunctionExpr, Name, Table}
 use Rattle.lua_syntax.specs.declared.Field.TheVariants.{Item, Pair}
-use Rattle.lua_syntax.specs.declared.StatKind.TheVariants.{Assign, Call as StatCall, Do, While, Repeat, If, Count, Each, LocalFunction, Local, Return, Break}
-use Rattle.page_run.specs.declared.which.Which.TheVariants.{Steps, Calls}
-use Rattle.lua_meaning.specs.Trees.{expr, stat, block, arm, function, index, call, method, binary, unary, paren}
-use Rattle.lua_meaning.specs.Trial.{Gives, Fails, Spends, Loads, ended, arg, invoked, invoked_with, invoked_on, loaded, faulted}
+use Rattle.lua_syntax.specs.declared.StatKind.TheVariants.{Assign, Do, While, Repeat, If, Count, Each, LocalFunction, Local, Return, Break}
+use Rattle.lua_meaning.specs.Trees.{expr, stat, block, arm, function, index, call, method, binary, unary}
+use Rattle.lua_meaning.specs.Trial.{Gives, Fails, ended, invoked}
 
 module _ (g : Global) where
   -- The right sides are evaluated before any target is assigned.

@@ -1,15 +1,14 @@
 -- EXPRESSIONS (manual 2.5). Each begins with its node; operands are evaluated from left to right.
-use Rattle.std.specs.Prelude.{ℕ, ℤ, true, false, not, List, [], ◌∷◌, ◌++◌, length, Option, Some, None, Bool}
+use Rattle.std.specs.Prelude.{ℕ, true, false, not, List, [], ◌∷◌, ◌++◌, length, Option, Some, None, Bool}
 use Rattle.page_run.specs.Outcome.{◌>>=◌, ◌>>◌, give, tick, see}
 use Rattle.lua_syntax.specs.declared.BinaryOp.{BinaryOp}
 use Rattle.lua_syntax.specs.declared.BinaryOp.TheVariants as op
 use Rattle.lua_syntax.specs.declared.UnaryOp.{UnaryOp}
 use Rattle.lua_syntax.specs.declared.UnaryOp.TheVariants as sign
 use Rattle.lua_syntax.specs.declared.Function.{Function as FunctionNode}
-use Rattle.lua_heap.specs.Value.{Value, Nil, Truth, Text, Table, is_true}
+use Rattle.lua_heap.specs.Value.{Value, Truth, Text, Table, is_true}
 use Rattle.lua_meaning.specs.Environment.{Bytes, Env, Levels, cell_of, levels}
-use Rattle.lua_meaning.specs.Values.{first}
-use Rattle.lua_meaning.specs.Acts.{Act, node, choose, one, read_cell, make_closure}
+use Rattle.lua_meaning.specs.Acts.{Act, node, one, read_cell, make_closure}
 use Rattle.lua_meaning.specs.Calls.{call}
 use Rattle.lua_meaning.specs.Index.{index}
 use Rattle.lua_meaning.specs.Operators.{operate, minus, length_of}

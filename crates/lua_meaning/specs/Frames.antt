@@ -1,5 +1,5 @@
 -- FRAMES (Scribunto, Frame object): the tables by which an invoked function sees its arguments.
-use Rattle.std.specs.Prelude.{ℕ, zero, suc, ◌+◌, pos, Bool, true, false, ◌&&◌, not, List, [], ◌∷◌, length, if◌then◌else◌, nat_le, nat_lt, slice_index, ◌==◌, codes}
+use Rattle.std.specs.Prelude.{ℕ, ◌+◌, pos, Bool, false, ◌&&◌, not, List, [], ◌∷◌, length, if◌then◌else◌, nat_le, nat_lt, slice_index, ◌==◌, codes}
 use Rattle.std.specs.List.{list_all}
 use Rattle.std.specs.Str.Parse.{digits_value}
 use Rattle.lua_heap.specs.Value.{Value, Nil, Truth, Number, Text, Table, Builtin}
@@ -53,10 +53,10 @@ with_table h es meta = add h (TableObj (record { entries = es; meta = meta; froz
 abbrev pub make_frame_at : ℕ → Scene → ℕ → Heap Function → Heap Function
 make_frame_at n scene number h =
     with_table (with_table (with_table (with_table h
-      (arg_entries scene.args []) (Table (n + 1)))
-      args_meta Nil)
-      (frame_entries n) (Table (n + 3)))
-      (frame_meta number) Nil
+    (arg_entries scene.args []) (Table (n + 1)))
+    args_meta Nil)
+    (frame_entries n) (Table (n + 3)))
+    (frame_meta number) Nil
 
 -- the heap with the frame of a scene, which has this number in its run
 abbrev pub make_frame : Scene → ℕ → Heap Function → Heap Function

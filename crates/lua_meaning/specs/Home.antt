@@ -1,6 +1,6 @@
 -- A FRESH ENVIRONMENT (manual 5; Scribunto, "Lua environment"): the heap with which each run begins, and nothing else in it.
 -- The names stand in the order in which `next` goes through them. What is not built yet is absent.
-use Rattle.std.specs.Prelude.{ℕ, List, [], ◌∷◌, codes}
+use Rattle.std.specs.Prelude.{[], ◌∷◌, codes}
 use Rattle.wk_base.specs.declared.title.Title.{Title}
 use Rattle.lua_heap.specs.Value.{Value, Nil, Text, Table, Builtin}
 use Rattle.lua_heap.specs.Table.{Entries}

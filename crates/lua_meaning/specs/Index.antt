@@ -1,11 +1,11 @@
 -- INDEXING, AND ASSIGNMENT TO AN INDEX (manual 2.3 and 2.8, "index" and "newindex").
-use Rattle.std.specs.Prelude.{ℕ, Bool, true, false, not, ◌||◌, ◌&&◌, List, [], ◌∷◌, codes}
+use Rattle.std.specs.Prelude.{ℕ, ◌||◌, List, [], ◌∷◌, codes}
 use Rattle.page_run.specs.Outcome.{◌>>=◌, ◌>>◌, give, tick, see, begin}
-use Rattle.lua_heap.specs.Value.{Value, Nil, Truth, Number, Text, Table, Closure, Builtin, Markup, is_nil}
+use Rattle.lua_heap.specs.Value.{Value, Nil, Text, Table, Markup, is_nil}
 use Rattle.lua_heap.specs.Table.{get, has}
 use Rattle.lua_heap.specs.Heap.{Heap, table_at, set_in}
 use Rattle.lua_meaning.specs.Environment.{Levels, Function}
-use Rattle.lua_meaning.specs.Values.{first, is_function}
+use Rattle.lua_meaning.specs.Values.{is_function}
 use Rattle.lua_meaning.specs.Acts.{Act, IndexLink, SetLink, choose, one, see_heap, change_heap}
 use Rattle.lua_meaning.specs.Messages.{fail, cannot_index, nil_key, read_only}
 use Rattle.lua_meaning.specs.Metatables.{handler}
@@ -20,8 +20,8 @@ abbrev pub index_table : ℕ → Value → Levels → Act Value
 index_table t key ls = do
   h ← see_heap
   choose (is_nil (get (table_at h t).entries key))
-    (index_by (handler h (Table t) (codes "__index")) (Table t) key ls)
-    (give (get (table_at h t).entries key))
+      (index_by (handler h (Table t) (codes "__index")) (Table t) key ls)
+      (give (get (table_at h t).entries key))
 
 -- A string is indexed in the table of the functions for strings. The fields of an object of mw.html are its methods, none so far.
 abbrev pub index : Value → Value → Levels → Act Value
@@ -35,7 +35,7 @@ index v key ls = fail ls (cannot_index v)
 -- what a link means: a handler that is a function is called with the object and the key, another one is indexed in turn
 abbrev pub index_link : Value → Value → Value → Levels → Act (List Value)
 index_link object h key ls =
-  choose (is_function h)
+    choose (is_function h)
     (call h (object ∷ key ∷ []) ls)
     (do
       v ← index h key ls
@@ -44,7 +44,7 @@ index_link object h key ls =
 -- WRITING without handlers: a table that is read-only refuses, and so does the key nil; a new entry costs 4 steps.
 abbrev pub put_entry : Heap Function → ℕ → Value → Value → Act (Unit {0})
 put_entry h t key value =
-  choose (has (table_at h t).entries key || is_nil value)
+    choose (has (table_at h t).entries key || is_nil value)
     (change_heap (set_in h t key value))
     (tick 4 >> change_heap (set_in h t key value))
 
@@ -52,8 +52,8 @@ abbrev pub raw_set : ℕ → Value → Value → Levels → Act (Unit {0})
 raw_set t key value ls = do
   h ← see_heap
   choose (table_at h t).frozen
-    (fail ls read_only)
-    (choose (is_nil key) (fail ls nil_key) (put_entry h t key value))
+      (fail ls read_only)
+      (choose (is_nil key) (fail ls nil_key) (put_entry h t key value))
 
 -- WRITING. Where the key is absent and there is a handler, that one is asked.
 abbrev pub set_by : Value → ℕ → Value → Value → Levels → Act (Unit {0})
@@ -64,12 +64,12 @@ abbrev pub set_index : Value → Value → Value → Levels → Act (Unit {0})
 set_index (Table t) key value ls = do
   h ← see_heap
   choose (is_nil (get (table_at h t).entries key))
-    (set_by (handler h (Table t) (codes "__newindex")) t key value ls)
-    (raw_set t key value ls)
+      (set_by (handler h (Table t) (codes "__newindex")) t key value ls)
+      (raw_set t key value ls)
 set_index v key value ls = fail ls (cannot_index v)
 
 abbrev pub set_link : Value → Value → Value → Value → Levels → Act (List Value)
 set_link object h key value ls =
-  choose (is_function h)
+    choose (is_function h)
     (call h (object ∷ key ∷ value ∷ []) ls >> give [])
     (set_index h key value ls >> give [])

@@ -2,7 +2,7 @@
 use Rattle.std.specs.Prelude.{◌≡◌, ℕ, ◌+◌, List, []}
 use Rattle.wk_base.specs.declared.title.Title.{Title}
 use Rattle.wk_base.specs.declared.left.Left.{Left}
-use Rattle.lua_syntax.specs.declared.ExprKind.{ExprKind, Name, Index'}
+use Rattle.lua_syntax.specs.declared.ExprKind.{ExprKind, Name}
 use Rattle.lua_syntax.specs.declared.StatKind.{StatKind}
 use Rattle.page_run.specs.Run.{Takes, Counts, Calls}
 use Rattle.page_run.specs.Outcome.{Outcome, Goes}
@@ -14,11 +14,11 @@ use Rattle.lua_heap.specs.Value.{Value}
 use Rattle.lua_meaning.specs.Environment.{Env, Levels, cell_of, levels}
 use Rattle.lua_meaning.specs.Questions.{Ask, Answer}
 use Rattle.lua_meaning.specs.Values.{first, rest, second}
-use Rattle.lua_meaning.specs.Acts.{LuaRun, Jump, State, Thing, WhileTurn, RepeatTurn, CountTurn, EachTurn, Body, LibraryBody, ChunkBody, IndexLink, SetLink, CallLink}
+use Rattle.lua_meaning.specs.Acts.{LuaRun, Jump, State, Thing, WhileTurn, RepeatTurn, CountTurn, EachTurn, Body, LibraryBody, ChunkBody}
 use Rattle.lua_meaning.specs.Tree.{Target}
 use Rattle.lua_meaning.specs.Expressions.{name_target}
 use Rattle.lua_meaning.specs.Meaning.{expression, target, statement}
-use Rattle.lua_meaning.specs.Protocol.{calling, pcall, xpcall, tried, to_string_by, pairs_by, ipairs_by, Pending, PcallWaits, XpcallWaits, HandlerWaits, ToStringWaits, PairsWaits, resumes}
+use Rattle.lua_meaning.specs.Protocol.{calling, pcall, xpcall, PcallWaits, XpcallWaits, resumes}
 use Rattle.lua_meaning.specs.Meant.{meant}
 use Rattle.lua_meaning.specs.Home.{home}
 use Rattle.lua_meaning.specs.Start.{Modules, Work, whole}

@@ -1,10 +1,10 @@
 -- THE LIBRARY (manual 5): what each function does with its arguments, and with the levels of an error at its entry.
 -- A function that is not built yet stands in no environment.
-use Rattle.std.specs.Prelude.{ℕ, List, [], Option, Some, None}
-use Rattle.page_run.specs.Outcome.{◌>>=◌, ◌>>◌, give}
+use Rattle.std.specs.Prelude.{List, [], Option, Some, None}
+use Rattle.page_run.specs.Outcome.{◌>>=◌, give}
 use Rattle.lua_heap.specs.Value.{Value}
 use Rattle.lua_heap.specs.Heap.{Heap}
-use Rattle.lua_heap.specs.Library.{Library, BasicAssert, BasicError, BasicGetMetatable, BasicSetMetatable, BasicIpairs, BasicPairs, BasicNext, BasicPcall, BasicXpcall, BasicRawEqual, BasicRawGet, BasicRawSet, BasicSelect, BasicToNumber, BasicToString, BasicType, BasicUnpack, ArgsIndex, IpairsStep, library_at}
+use Rattle.lua_heap.specs.Library.{Library, BasicAssert, BasicError, BasicGetMetatable, BasicSetMetatable, BasicIpairs, BasicPairs, BasicNext, BasicPcall, BasicXpcall, BasicRawEqual, BasicRawGet, BasicRawSet, BasicSelect, BasicToNumber, BasicToString, BasicType, BasicUnpack, ArgsIndex, IpairsStep}
 use Rattle.lua_meaning.specs.Environment.{Function, Levels}
 use Rattle.lua_meaning.specs.Acts.{Act, see_heap}
 use Rattle.lua_meaning.specs.Arguments.{Plain, plain_act}

@@ -1,5 +1,5 @@
 -- LOOPS (manual 2.4.4 and 2.4.5). A turn is a thing that begins once its test is passed; it has fresh local variables.
-use Rattle.std.specs.Prelude.{ℕ, ℤ, pos, ◌+ℤ◌, Bool, true, false, List, [], ◌∷◌, Option, Some, None, if◌then◌else◌, int_lt, int_le}
+use Rattle.std.specs.Prelude.{ℕ, ℤ, pos, ◌+ℤ◌, Bool, List, [], ◌∷◌, Option, Some, None, if◌then◌else◌, int_lt, int_le}
 use Rattle.page_run.specs.Outcome.{Outcome, Goes, Jumps, ◌>>=◌, ◌>>◌, give, jump, catch, count, begin}
 use Rattle.lua_number.specs.Whole.{fits}
 use Rattle.lua_heap.specs.Value.{Value, Number, is_true, is_nil}
@@ -69,11 +69,11 @@ is_within index limit step = if int_lt (pos 0) step then int_le index limit else
 
 abbrev pub count_from : Bytes → ℤ → ℤ → ℤ → BlockPart → Env → Act (List Value)
 count_from name index limit step body env =
-  choose (is_within index limit step) (begin (CountTurn name index limit step body.0 env)) (give [])
+    choose (is_within index limit step) (begin (CountTurn name index limit step body.0 env)) (give [])
 
 abbrev pub count_next : Bytes → ℤ → ℤ → ℤ → BlockPart → Env → Act (List Value)
 count_next name index limit step body env =
-  choose (fits (index +ℤ step)) (count_from name (index +ℤ step) limit step body env) (give [])
+    choose (fits (index +ℤ step)) (count_from name (index +ℤ step) limit step body env) (give [])
 
 abbrev pub step_value : Option Expression → Env → Act Value
 step_value None env = give (Number (pos 1))

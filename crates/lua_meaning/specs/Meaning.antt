@@ -13,8 +13,8 @@ use Rattle.lua_syntax.specs.declared.Function.{Function as FunctionNode, Functio
 use Rattle.lua_syntax.specs.declared.Field.{Field, Item', Pair'}
 use Rattle.lua_syntax.specs.declared.ExprKind.TheBlock.{Row_of-Expr, end_of-Expr, more_of-Expr, Row_of-Stat, end_of-Stat, more_of-Stat, Row_of-Arm, end_of-Arm, more_of-Arm, Row_of-Field, end_of-Field, more_of-Field, Held-StatKind-If-1, Held-StatKind-Count-3, StatKind-If-1-None' as NoElse, StatKind-If-1-Some' as Else, StatKind-Count-3-None' as NoStep, StatKind-Count-3-Some' as Step}
 use Rattle.page_run.specs.Outcome.{give}
-use Rattle.lua_heap.specs.Value.{Value, Nil as NilValue, Truth, Number as NumberValue, Text as TextValue}
-use Rattle.lua_meaning.specs.Environment.{Bytes, Env, cell_of, levels}
+use Rattle.lua_heap.specs.Value.{Nil as NilValue, Truth, Number as NumberValue, Text as TextValue}
+use Rattle.lua_meaning.specs.Environment.{Bytes, cell_of, levels}
 use Rattle.lua_meaning.specs.Tree.{Expression, Targeted, Statement, Branch, FieldMeaning, ItemOf, PairOf, NoTarget, ExprPart, BlockPart}
 use Rattle.lua_meaning.specs.Expressions.{constant, dots, name, indexed, function, called, method, paren, binary, unary, name_target, index_target}
 use Rattle.lua_meaning.specs.Constructors.{table_constructor}

@@ -1,8 +1,8 @@
 -- ERRORS AND THEIR MESSAGES (manual 2.7, and 5.1 under `error`). The texts are a profile: the manual fixes none.
 -- A message that is a string gets the place of its level in front, and costs as many steps as the whole has bytes.
-use Rattle.std.specs.Prelude.{ℕ, zero, suc, ◌+◌, ℤ, pos, negsuc, Bool, List, [], ◌∷◌, ◌++◌, length, Option, Some, None, if◌then◌else◌, slice_get, bytes_eq, codes}
+use Rattle.std.specs.Prelude.{ℕ, zero, suc, ℤ, pos, negsuc, List, [], ◌∷◌, ◌++◌, length, Option, Some, None, if◌then◌else◌, slice_get, bytes_eq, codes}
 use Rattle.std.specs.Prelude.{decimal}
-use Rattle.page_run.specs.Outcome.{◌>>=◌, ◌>>◌, give, tick}
+use Rattle.page_run.specs.Outcome.{◌>>◌, tick}
 use Rattle.lua_number.specs.declared.arithmetic.NumberFault.{NumberFault}
 use Rattle.lua_number.specs.declared.arithmetic.NumberFault.TheVariants.{OutOfRange, NotWhole, ByZero}
 use Rattle.lua_heap.specs.Value.{Value, Text}

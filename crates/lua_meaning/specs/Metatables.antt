@@ -1,6 +1,6 @@
 -- HANDLERS (manual 2.8): the fields of metatables by which tables change what operators, indexing and calls do.
 -- Only tables have metatables. A handler is looked up without metamethods, and nil is none.
-use Rattle.std.specs.Prelude.{List, Bool, if◌then◌else◌, codes}
+use Rattle.std.specs.Prelude.{if◌then◌else◌}
 use Rattle.lua_heap.specs.Value.{Value, Nil, Table, Text, is_nil, same}
 use Rattle.lua_heap.specs.Table.{get}
 use Rattle.lua_heap.specs.Heap.{Heap, table_at}

@@ -1,11 +1,11 @@
 -- OPERATORS ON VALUES (manual 2.5.1 to 2.5.5, and 2.8), with the levels of the operator's node.
-use Rattle.std.specs.Prelude.{ℕ, min, ℤ, pos, Bool, true, false, not, List, [], ◌∷◌, ◌++◌, length, Option, Some, None, Result, Ok, Err, is_some, if◌then◌else◌, int_lt, int_le, nat_lt, ◌==◌, codes}
+use Rattle.std.specs.Prelude.{min, ℤ, pos, Bool, true, false, not, [], ◌∷◌, ◌++◌, length, Option, Some, None, Result, Ok, Err, if◌then◌else◌, int_lt, int_le, nat_lt, ◌==◌, codes}
 use Rattle.page_run.specs.Outcome.{◌>>=◌, ◌>>◌, give, tick}
 use Rattle.lua_syntax.specs.declared.BinaryOp.{BinaryOp}
 use Rattle.lua_syntax.specs.declared.BinaryOp.TheVariants as op
 use Rattle.lua_number.specs.declared.arithmetic.NumberFault.{NumberFault}
 use Rattle.lua_number.specs.Whole.{sum_of, difference_of, product_of, quotient_of, remainder_of, power_of, negative_of}
-use Rattle.lua_heap.specs.Value.{Value, Nil, Truth, Number, Text, Table, Closure, Builtin, Markup, same, is_true, is_nil}
+use Rattle.lua_heap.specs.Value.{Value, Nil, Truth, Number, Text, Table, same, is_true}
 use Rattle.lua_heap.specs.Table.{border}
 use Rattle.lua_heap.specs.Heap.{table_at}
 use Rattle.lua_meaning.specs.Environment.{Bytes, Levels}

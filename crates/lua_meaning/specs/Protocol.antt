@@ -1,12 +1,12 @@
 -- FUNCTIONS OF THE LIBRARY THAT CALL BACK (manual 5.1). Such a function calls a function, and waits for its outcome. What it then
 -- does is a definition of its own, and has a name in the table at the end of this file: a machine that runs Lua keeps this name.
 -- A function of the library calls from no place of the text, so the levels of what it calls are empty.
-use Rattle.std.specs.Prelude.{ℕ, ◌+◌, ℤ, pos, ◌+ℤ◌, Bool, true, false, List, [], ◌∷◌, length, Option, Some, None, if◌then◌else◌, codes}
+use Rattle.std.specs.Prelude.{ℤ, pos, ◌+ℤ◌, true, false, List, [], ◌∷◌, length, Option, Some, None, codes}
 use Rattle.std.specs.Prelude.{Ok, Err}
 use Rattle.std.specs.Fmt.{signed_decimal}
-use Rattle.page_run.specs.Outcome.{Outcome, Goes, Jumps, ◌>>=◌, ◌>>◌, give, jump, catch, tick, see}
+use Rattle.page_run.specs.Outcome.{Outcome, Goes, Jumps, ◌>>=◌, ◌>>◌, give, jump, catch, tick}
 use Rattle.lua_number.specs.Whole.{fits}
-use Rattle.lua_heap.specs.Value.{Value, Nil, Truth, Number, Text, Table, Closure, Builtin, Markup, is_nil}
+use Rattle.lua_heap.specs.Value.{Value, Nil, Truth, Number, Text, Table, Builtin}
 use Rattle.lua_heap.specs.Table.{get}
 use Rattle.lua_heap.specs.Heap.{table_at}
 use Rattle.lua_heap.specs.Library.{BasicNext, IpairsStep, number_of}
@@ -127,8 +127,8 @@ ipairs_step args callers = do
   n ← argument callers (a_number 2 (codes "ipairs") (rest args))
   h ← see_heap
   choose (fits (n +ℤ pos 1))
-    (place_and_value (n +ℤ pos 1) (get (table_at h t).entries (Number (n +ℤ pos 1))))
-    (give (Nil ∷ []))
+      (place_and_value (n +ℤ pos 1) (get (table_at h t).entries (Number (n +ℤ pos 1))))
+      (give (Nil ∷ []))
 
 -- THE TABLE of what waits
 pub data Pending : Type 0 where

@@ -1,5 +1,5 @@
 -- FRAMES, AND WHAT A RUN ASKS FROM OUTSIDE (Scribunto, Frame object and mw.loadData).
-use Rattle.std.specs.Prelude.{ℕ, List}
+use Rattle.std.specs.Prelude.{List}
 use Rattle.wk_base.specs.declared.title.Title.{Title}
 use Rattle.lua_heap.specs.Graph.{Graph}
 use Rattle.lua_meaning.specs.Environment.{Bytes}

@@ -1,24 +1,24 @@
 -- A WHOLE RUN (Scribunto, "Invoking modules" and mw.loadData): its start with its charges, and its end.
-use Rattle.std.specs.Prelude.{ℕ, zero, suc, ◌+◌, Bool, true, false, List, [], ◌∷◌, ◌++◌, length, Option, Some, None, Result, Ok, Err, flat_map, if◌then◌else◌, ◌==◌, ◌-◌, slice_index_or, codes}
+use Rattle.std.specs.Prelude.{ℕ, ◌+◌, List, [], ◌∷◌, ◌++◌, length, Option, Some, None, Result, Ok, Err, flat_map, if◌then◌else◌, ◌==◌, ◌-◌, slice_index_or, codes}
 use Rattle.wk_base.specs.declared.title.Title.{Title}
 use Rattle.wk_base.specs.declared.left.Left.{Left}
 use Rattle.wk_base.specs.Titles.{title_text}
 use Rattle.lua_syntax.specs.declared.Chunk.{Chunk}
 use Rattle.lua_syntax.specs.declared.fault.FaultAt.{FaultAt}
 use Rattle.page_run.specs.Run.{Ends}
-use Rattle.page_run.specs.Outcome.{Outcome, Goes, Jumps, ◌>>=◌, ◌>>◌, give, jump, catch, tick, see, change, begin}
+use Rattle.page_run.specs.Outcome.{Outcome, Goes, Jumps, ◌>>=◌, ◌>>◌, give, tick, see, change, begin}
 use Rattle.page_run.specs.State.{Reply, Event, start}
 use Rattle.page_run.specs.Perform.{perform, wait}
-use Rattle.lua_heap.specs.Value.{Value, Nil, Truth, Number, Text, Table}
+use Rattle.lua_heap.specs.Value.{Value, Nil, Text, Table}
 use Rattle.lua_meaning.specs.Environment.{Bytes}
-use Rattle.lua_meaning.specs.Questions.{Arg, Scene, Job, Ask, Answer}
+use Rattle.lua_meaning.specs.Questions.{Arg, Job, Ask, Answer}
 use Rattle.lua_meaning.specs.Values.{kind_of, first, text_in, is_function}
-use Rattle.lua_meaning.specs.Acts.{Act, LuaRun, Jump, Raised, State, Frame, Unmade, ChunkBody, raise, choose, see_heap}
+use Rattle.lua_meaning.specs.Acts.{Act, LuaRun, Jump, Raised, State, Unmade, ChunkBody, raise, choose, see_heap}
 use Rattle.lua_meaning.specs.Messages.{place_text}
 use Rattle.lua_meaning.specs.Metatables.{handler}
 use Rattle.lua_meaning.specs.Calls.{call}
 use Rattle.lua_meaning.specs.Index.{index}
-use Rattle.lua_meaning.specs.Protocol.{Waits, text_of, string_or_fail}
+use Rattle.lua_meaning.specs.Protocol.{text_of, string_or_fail}
 use Rattle.lua_meaning.specs.Frames.{make_frame, frame_table}
 use Rattle.lua_meaning.specs.Home.{home}
 use Rattle.lua_meaning.specs.Meant.{meant}
@@ -41,7 +41,6 @@ pub data End : Type 0 where
   Done : (text : Bytes) → End
   DoneData : (value : Value) → End
   Failed : (text : Bytes) → End
-
 
 -- THE TEXTS of a chunk's faults, which are numbered from 1
 abbrev pub fault_texts : List Bytes
@@ -118,7 +117,7 @@ error_text v = shown_error (text_in v) v
 -- with the frame
 abbrev pub invoke_function : Bytes → Value → Value → Act End
 invoke_function name f frame =
-  choose (is_function f)
+    choose (is_function f)
     (do
       vs ← call f (frame ∷ []) []
       answer vs)

@@ -1,6 +1,6 @@
 -- STATEMENTS (manual 2.4). Each begins with its node, and gives the environment of the statements after it: that of `local`
 -- has more names, every other one leaves it as it was. What stands in a block of its own is not seen after it.
-use Rattle.std.specs.Prelude.{ℕ, List, [], ◌∷◌, ◌++◌, reverse, Option, Some, None}
+use Rattle.std.specs.Prelude.{List, [], ◌∷◌, ◌++◌, reverse, Option, Some, None}
 use Rattle.lua_syntax.specs.declared.Function.{Function as FunctionNode}
 use Rattle.page_run.specs.Outcome.{◌>>=◌, ◌>>◌, give, jump, see}
 use Rattle.lua_heap.specs.Value.{Value, Nil, Text, Table, is_true}
@@ -8,7 +8,7 @@ use Rattle.lua_meaning.specs.Environment.{Bytes, Env, with_name}
 use Rattle.lua_meaning.specs.Values.{first, rest}
 use Rattle.lua_meaning.specs.Acts.{Act, Returned, Broke, node, choose, one, make_cell, write_cell, declare}
 use Rattle.lua_meaning.specs.Index.{set_index}
-use Rattle.lua_meaning.specs.Expressions.{value, values, closure}
+use Rattle.lua_meaning.specs.Expressions.{values, closure}
 use Rattle.lua_meaning.specs.Tree.{Expression, Targeted, Statement, Branch, Target, Local, Global, Entry, NoTarget}
 
 -- BLOCKS (2.4.1): one after another, each in the environment that the one before gives

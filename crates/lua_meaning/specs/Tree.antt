@@ -1,5 +1,5 @@
 -- WHAT PARTS OF THE TREE MEAN: the kinds of their meanings (manual 2.3 to 2.5).
-use Rattle.std.specs.Prelude.{ℕ, List, Option}
+use Rattle.std.specs.Prelude.{ℕ, List}
 use Rattle.lua_syntax.specs.declared.Block.{Block}
 use Rattle.lua_syntax.specs.declared.Expr.{Expr}
 use Rattle.lua_heap.specs.Value.{Value}

@@ -1,5 +1,5 @@
 -- WORDS FOR TREES, by which the worked examples write theirs. `g` is the allocator of the boxes, and says nothing of their meaning.
-use Rattle.std.specs.Prelude.{ℕ, Bool, List, Option, Box}
+use Rattle.std.specs.Prelude.{ℕ, Bool, List, Box}
 use denote.RawPtr.{null_ptr}
 use Rattle.std.specs.declared.alloc.Global.{Global}
 use Rattle.lua_syntax.specs.declared.BinaryOp.{BinaryOp}

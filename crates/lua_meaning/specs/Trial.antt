@@ -5,14 +5,13 @@ use Rattle.wk_base.specs.declared.title.Namespace.TheVariants.{Main, Module as M
 use Rattle.wk_base.specs.declared.left.Left.{Left}
 use Rattle.page_run.specs.declared.which.Which.{Which}
 use Rattle.page_run.specs.Outcome.{Outcome, Goes, Jumps}
-use Rattle.page_run.specs.State.{Event, Ended, Spent, Asked}
+use Rattle.page_run.specs.State.{Event, Ended, Spent}
 use Rattle.lua_syntax.specs.declared.Block.{Block}
-use Rattle.lua_syntax.specs.declared.Chunk.{Chunk}
 use Rattle.lua_heap.specs.Value.{Value, Text, Table}
 use Rattle.lua_meaning.specs.Environment.{Bytes}
-use Rattle.lua_meaning.specs.Questions.{Arg, Scene, Job, Ask, Answer}
+use Rattle.lua_meaning.specs.Questions.{Arg, Scene, Job, Ask}
 use Rattle.lua_meaning.specs.Acts.{State, Jump, Raised}
-use Rattle.lua_meaning.specs.Start.{Module, Modules, Invoke, DataOf, lua}
+use Rattle.lua_meaning.specs.Start.{Modules, Invoke, DataOf, lua}
 
 abbrev pub module_title : Bytes → Title
 module_title name = record { ns = ModuleSpace; name = name }
