@@ -169,6 +169,8 @@ FUNCTIONS = [
          "local log=''\nlocal store={}\nlocal a=setmetatable({old=1},{__newindex=function(t,k,v) log=log..k rawset(t,k,v) end})\nlocal b=setmetatable({},{__newindex=store})\na.old=2 a.new=3 a.new=4 b.k=5\nreturn log,a.old,a.new,tostring(rawget(b,'k')),store.k", "new24nil5"),
     body("arithmetic_handlers", "The first operand's handler, or else the second's.",
          "local m={__add=function(a,b) return 'add' end,__concat=function(a,b) return type(a)..type(b) end,__unm=function(a,b) return tostring(a==b) end}\nlocal t=setmetatable({},m)\nreturn t+1,1+t,t..'x','x'..t,-t", "addaddtablestringstringtabletrue"),
+    body("first_handler", "Where both operands have a handler, the first one's is asked.",
+         "local function made(name) return setmetatable({},{__add=function() return name end,__concat=function() return name end}) end\nlocal a,b = made('a'),made('b')\nreturn a+b,b+a,a..b", "aba"),
     body("equal_handlers", "`__eq` is asked for two tables that have the same handler.",
          "local eq=function() return 1 end\nlocal a=setmetatable({},{__eq=eq})\nlocal b=setmetatable({},{__eq=eq})\nlocal c=setmetatable({},{__eq=function() return 1 end})\nreturn tostring(a==b),tostring(a~=b),tostring(a==c),tostring(a==1)", "truefalsefalsefalse"),
     body("call_handlers", "A table with `__call` is called with itself first.",

@@ -167,6 +167,18 @@ module _ (g : Global) where
   abbrev pub ArithmeticHandlers : Type 0
   ArithmeticHandlers = ended (invoked (codes "X") 231 arithmetic_handlers 6000) ≡ Gives (codes "addaddtablestringstringtabletrue") 0
 
+  -- Where both operands have a handler, the first one's is asked.
+  --     return {f=function(...)
+  --     local function made(name) return setmetatable({},{__add=function() return name end,__concat=function() return name end}) end
+  --     local a,b = made('a'),made('b')
+  --     return a+b,b+a,a..b
+  --     end}
+  abbrev pub first_handler : Block
+  first_handler = block (stat 1 (Return (expr 1 (Table (Pair (expr 1 (Text (codes "f"))) (expr 1 (FunctionExpr (function ([]) true (block (stat 2 (LocalFunction (codes "made") (function ((codes "name") ∷ []) false (block (stat 2 (Return (call g 2 (expr 2 (Name (codes "setmetatable"))) (expr 2 (Table ([])) ∷ expr 2 (Table (Pair (expr 2 (Text (codes "__add"))) (expr 2 (FunctionExpr (function ([]) false (block (stat 2 (Return (expr 2 (Name (codes "name")) ∷ [])) ∷ []))))) ∷ Pair (expr 2 (Text (codes "__concat"))) (expr 2 (FunctionExpr (function ([]) false (block (stat 2 (Return (expr 2 (Name (codes "name")) ∷ [])) ∷ []))))) ∷ [])) ∷ []) ∷ [])) ∷ [])))) ∷ stat 3 (Local ((codes "a") ∷ (codes "b") ∷ []) (call g 3 (expr 3 (Name (codes "made"))) (expr 3 (Text (codes "a")) ∷ []) ∷ call g 3 (expr 3 (Name (codes "made"))) (expr 3 (Text (codes "b")) ∷ []) ∷ [])) ∷ stat 4 (Return (binary g 4 op.Add (expr 4 (Name (codes "a"))) (expr 4 (Name (codes "b"))) ∷ binary g 4 op.Add (expr 4 (Name (codes "b"))) (expr 4 (Name (codes "a"))) ∷ binary g 4 op.Concat (expr 4 (Name (codes "a"))) (expr 4 (Name (codes "b"))) ∷ [])) ∷ []))))) ∷ [])) ∷ [])) ∷ [])
+
+  abbrev pub FirstHandler : Type 0
+  FirstHandler = ended (invoked (codes "X") 205 first_handler 6000) ≡ Gives (codes "aba") 0
+
   -- `__eq` is asked for two tables that have the same handler.
   --     return {f=function(...)
   --     local eq=function() return 1 end
@@ -264,6 +276,7 @@ module _ (g : Global) where
       × IndexChain
       × NewIndex
       × ArithmeticHandlers
+      × FirstHandler
       × EqualHandlers
       × CallHandlers
       × ToText
