@@ -1,0 +1,19 @@
+//! Each law and each list of examples is called once.
+use crate::{examples, laws};
+use std::test::Fail;
+
+#[test]
+fn laws_are_called(_rt: HostRuntime) -> Result<(), Fail> {
+    laws::things_unfold();
+    laws::nodes_are_counted();
+    laws::target_names_are_none();
+    laws::turns_and_entries_are_counted();
+    laws::calls_are_given_back();
+    laws::more_changes_nothing();
+    laws::waits_are_named();
+    examples::charges();
+    examples::values();
+    examples::statements();
+    examples::functions();
+    Ok(())
+}
