@@ -30,6 +30,8 @@ CHARGES = [
     chunk("arguments", "Arguments cost 4 each, and the bytes of their names and values. A name that is a place is a number.",
           "return {f=function(frame) local a=frame.args return a[1]..a['1']..a.k..#a end}", module="G", args=[("1", "x"), ("k", "v")],
           steps=[ARGUMENTS, ARGUMENTS - 1], seen=[("Gives", "xxv1", 0), ("Spends", "Steps", 0)], profile=True),
+    chunk("nodes", "Counted are two functions entered, seven nodes, and three turns of the loop.",
+          "return {f=function() for i=1,3 do end end}", how="counted", seen=[("Counts", 2 + 7 + 3)], profile=True),
     chunk("counter", "A global variable lives as long as its invocation: in each one the counter gives 1.",
           "n=0 local p={} function p.f() n=n+1 return n end return p", "1", module="C"),
     chunk("holds_itself", "A table holds itself.",

@@ -26,7 +26,7 @@ use Rattle.lua_syntax.specs.declared.Field.TheVariants.{{Item, Pair}}
 use Rattle.lua_syntax.specs.declared.StatKind.TheVariants.{{Assign, Call as StatCall, Do, While, Repeat, If, Count, Each, LocalFunction, Local, Return, Break}}
 use Rattle.page_run.specs.declared.which.Which.TheVariants.{{Steps, Calls}}
 use Rattle.lua_meaning.specs.Trees.{{expr, stat, block, arm, function, index, call, method, binary, unary, paren}}
-use Rattle.lua_meaning.specs.Trial.{{Gives, Fails, Spends, Loads, ended, arg, invoked, invoked_with, invoked_on, loaded, faulted}}
+use Rattle.lua_meaning.specs.Trial.{{Gives, Fails, Spends, Loads, ended, arg, invoked, invoked_with, invoked_on, loaded, faulted, counted}}
 
 module _ (g : Global) where
 """
@@ -57,6 +57,8 @@ def comment(text):
 
 def shown(end):
     kind, *rest = end
+    if kind == "Counts":
+        return str(rest[0])
     if kind in ("Spends", "Loads"):
         return " ".join(map(str, [kind, *rest]))
     return f"{kind} {codes(rest[0])} {rest[1] if len(rest) > 1 else 0}"
@@ -80,7 +82,7 @@ def spec(example):
     title = name.replace("_", " ").title().replace(" ", "")
     claims = []
     for step, end in zip(example["steps"], example["seen"]):
-        exact = end[0] in ("Spends", "Loads") or len(end) > 2
+        exact = end[0] in ("Spends", "Loads", "Counts") or len(end) > 2
         call = called(example, step)
         claims.append(f"{call} ≡ {shown(end)}" if exact else f"ended ({call}) ≡ {shown(end)}")
     claim = claims[0] if len(claims) == 1 else " × ".join(f"({c})" for c in claims)

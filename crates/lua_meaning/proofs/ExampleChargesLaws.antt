@@ -7,7 +7,7 @@ use Rattle.page_run.specs.Perform.{perform}
 use Rattle.wk_base.specs.Titles.{title_text, prefix_of}
 use Rattle.std.specs.Fmt.{digits}
 use Rattle.lua_number.specs.Numerals.{decimal_of, numeral_of, trimmed, digits_of_base, read_number_of, read_in_base_of}
-use Rattle.lua_meaning.specs.ExampleCharges.{Smallest, Start, DataStart, Arguments, Counter, HoldsItself, CatchesAll, Nests, Joins, NoMarkup, Cells, Handlers, OutOfRange, SecondLevel, NoFunction, NoTable, DataNoTable, DataError, Faulty, Unfinished, TooLarge, TableError, WrittenOut, AllCharges}
+use Rattle.lua_meaning.specs.ExampleCharges.{Smallest, Start, DataStart, Arguments, Nodes, Counter, HoldsItself, CatchesAll, Nests, Joins, NoMarkup, Cells, Handlers, OutOfRange, SecondLevel, NoFunction, NoTable, DataNoTable, DataError, Faulty, Unfinished, TooLarge, TableError, WrittenOut, AllCharges}
 
 smallest : (g : Global) → Smallest g
 unfolding perform digits title_text prefix_of decimal_of numeral_of trimmed digits_of_base read_number_of read_in_base_of views.roll-Block views.roll-Arm views.roll-Function denote.Hole.Carrier.roll denote.Hole.Carrier.hidden rows.hidden-the_row-Stat-3
@@ -24,6 +24,10 @@ data_start g = (refl, refl)
 arguments : (g : Global) → Arguments g
 unfolding perform digits title_text prefix_of decimal_of numeral_of trimmed digits_of_base read_number_of read_in_base_of views.roll-Block views.roll-Arm views.roll-Function denote.Hole.Carrier.roll denote.Hole.Carrier.hidden rows.hidden-the_row-Stat-3
 arguments g = (refl, refl)
+
+nodes : (g : Global) → Nodes g
+unfolding perform digits title_text prefix_of decimal_of numeral_of trimmed digits_of_base read_number_of read_in_base_of views.roll-Block views.roll-Arm views.roll-Function denote.Hole.Carrier.roll denote.Hole.Carrier.hidden rows.hidden-the_row-Stat-3
+nodes g = refl
 
 counter : (g : Global) → Counter g
 unfolding perform digits title_text prefix_of decimal_of numeral_of trimmed digits_of_base read_number_of read_in_base_of views.roll-Block views.roll-Arm views.roll-Function denote.Hole.Carrier.roll denote.Hole.Carrier.hidden rows.hidden-the_row-Stat-3
@@ -102,4 +106,4 @@ unfolding perform digits title_text prefix_of decimal_of numeral_of trimmed digi
 written_out g = refl
 
 pub all_charges : (g : Global) → AllCharges g
-all_charges g = (smallest g, start g, data_start g, arguments g, counter g, holds_itself g, catches_all g, nests g, joins g, no_markup g, cells g, handlers g, out_of_range g, second_level g, no_function g, no_table g, data_no_table g, data_error g, faulty g, unfinished g, too_large g, table_error g, written_out g)
+all_charges g = (smallest g, start g, data_start g, arguments g, nodes g, counter g, holds_itself g, catches_all g, nests g, joins g, no_markup g, cells g, handlers g, out_of_range g, second_level g, no_function g, no_table g, data_no_table g, data_error g, faulty g, unfinished g, too_large g, table_error g, written_out g)

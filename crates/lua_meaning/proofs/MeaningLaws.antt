@@ -12,17 +12,18 @@ use Rattle.page_run.proofs.EventLaws.{begins_is}
 use Rattle.page_run.proofs.ChargeLaws.{calls_come_back}
 use Rattle.page_run.proofs.FitLaws.{more_is_as_good}
 use Rattle.lua_heap.specs.Value.{Value}
+use Rattle.lua_heap.specs.Value as value
 use Rattle.lua_meaning.specs.Environment.{Env}
 use Rattle.lua_meaning.specs.Acts.{LuaRun, Jump, WhileTurn, RepeatTurn, CountTurn, EachTurn, Body, LibraryBody, ChunkBody, IndexLink, SetLink, CallLink}
 use Rattle.lua_meaning.specs.Tree.{Expression}
 use Rattle.lua_meaning.specs.Expressions.{binary}
 use Rattle.lua_meaning.specs.Meant.{meant}
 use Rattle.lua_meaning.specs.Home.{home}
-use Rattle.lua_meaning.specs.Start.{whole}
-use Rattle.lua_meaning.specs.Laws.{ThingsUnfold, IsNode, ExpressionsAreNodes, StatementsAreNodes, TargetNamesAreNone, TurnsAreCounted, EntriesAreCounted, CallsAreGivenBack, MoreChangesNothing, WaitsAreNamed}
+use Rattle.lua_meaning.specs.Start.{whole, Done, DoneData, Failed}
+use Rattle.lua_meaning.specs.Laws.{ThingsUnfold, IsNode, ExpressionsAreNodes, StatementsAreNodes, TargetNamesAreNone, TurnsAreCounted, EntriesAreCounted, CallsAreGivenBack, MoreChangesNothing, EndsAreTold, WaitsAreNamed}
 
 pub things_unfold : ThingsUnfold
-things_unfold beyond no_rise = begins_is meant beyond no_rise
+things_unfold world beyond no_rise = begins_is (meant world) beyond no_rise
 
 binary-node : (o : BinaryOp) (a b : Expression) (line : ℕ) (env : Env) (k : Outcome (List Value) Jump → LuaRun) → IsNode (binary o a b line env k)
 binary-node op.Or a b line env k = (_, refl)
@@ -76,36 +77,48 @@ pub target_names_are_none : TargetNamesAreNone
 target_names_are_none line x env k = refl
 
 pub turns_are_counted : TurnsAreCounted
-turns_are_counted (WhileTurn test body env) turn k = (_, refl)
-turns_are_counted (RepeatTurn body test env) turn k = (_, refl)
-turns_are_counted (CountTurn name index limit step body env) turn k = (_, refl)
-turns_are_counted (EachTurn names iterator state results body line env) turn k = (_, refl)
-turns_are_counted (Body f args callers) turn k = absurd turn
-turns_are_counted (LibraryBody which args callers) turn k = absurd turn
-turns_are_counted (ChunkBody source b) turn k = absurd turn
-turns_are_counted (IndexLink object h key ls) turn k = absurd turn
-turns_are_counted (SetLink object h key value ls) turn k = absurd turn
-turns_are_counted (CallLink h args ls) turn k = absurd turn
+turns_are_counted world (WhileTurn test body env) turn k = (_, refl)
+turns_are_counted world (RepeatTurn body test env) turn k = (_, refl)
+turns_are_counted world (CountTurn name index limit step body env) turn k = (_, refl)
+turns_are_counted world (EachTurn names iterator state results body line env) turn k = (_, refl)
+turns_are_counted world (Body f args callers) turn k = absurd turn
+turns_are_counted world (LibraryBody which args callers) turn k = absurd turn
+turns_are_counted world (ChunkBody source b) turn k = absurd turn
+turns_are_counted world (IndexLink object h key ls) turn k = absurd turn
+turns_are_counted world (SetLink object h key value ls) turn k = absurd turn
+turns_are_counted world (CallLink h args ls) turn k = absurd turn
 
 pub entries_are_counted : EntriesAreCounted
-entries_are_counted (WhileTurn test body env) entry k = absurd entry
-entries_are_counted (RepeatTurn body test env) entry k = absurd entry
-entries_are_counted (CountTurn name index limit step body env) entry k = absurd entry
-entries_are_counted (EachTurn names iterator state results body line env) entry k = absurd entry
-entries_are_counted (Body f args callers) entry k = (_, refl)
-entries_are_counted (LibraryBody which args callers) entry k = (_, refl)
-entries_are_counted (ChunkBody source b) entry k = (_, refl)
-entries_are_counted (IndexLink object h key ls) entry k = absurd entry
-entries_are_counted (SetLink object h key value ls) entry k = absurd entry
-entries_are_counted (CallLink h args ls) entry k = absurd entry
+entries_are_counted world (WhileTurn test body env) entry k = absurd entry
+entries_are_counted world (RepeatTurn body test env) entry k = absurd entry
+entries_are_counted world (CountTurn name index limit step body env) entry k = absurd entry
+entries_are_counted world (EachTurn names iterator state results body line env) entry k = absurd entry
+entries_are_counted world (Body f args callers) entry k = (_, refl)
+entries_are_counted world (LibraryBody which args callers) entry k = (_, refl)
+entries_are_counted world (ChunkBody source b) entry k = (_, refl)
+entries_are_counted world (IndexLink object h key ls) entry k = absurd entry
+entries_are_counted world (SetLink object h key value ls) entry k = absurd entry
+entries_are_counted world (CallLink h args ls) entry k = absurd entry
 
 pub calls_are_given_back : CallsAreGivenBack
-calls_are_given_back modules work page beyond keeps left =
+calls_are_given_back world work beyond keeps left =
     let same : left.calls + 0 ≡ left.calls = omega arith in
-    subst (λ n. GivenBack n (perform meant beyond (whole modules work) (start (home page) left []))) same (calls_come_back meant beyond keeps (whole modules work) (start (home page) left []) refl)
+    subst (λ n. GivenBack n (perform (meant world) beyond (whole world work) (start home left []))) same (calls_come_back (meant world) beyond keeps (whole world work) (start home left []) refl)
 
 pub more_changes_nothing : MoreChangesNothing
-more_changes_nothing modules work page beyond no_rise fit left o end ended a b = more_is_as_good meant (λ no_. no_) beyond no_rise fit (whole modules work) (home page) left o end ended a b
+more_changes_nothing world work beyond no_rise fit left o end ended a b = more_is_as_good (meant world) (λ no_. no_) beyond no_rise fit (whole world work) home left o end ended a b
+
+pub ends_are_told : EndsAreTold
+ends_are_told (Done t) end = refl
+ends_are_told (DoneData value.Nil) end = absurd end
+ends_are_told (DoneData (value.Truth b)) end = absurd end
+ends_are_told (DoneData (value.Number n)) end = absurd end
+ends_are_told (DoneData (value.Text t)) end = absurd end
+ends_are_told (DoneData (value.Table t)) end = refl
+ends_are_told (DoneData (value.Closure c)) end = absurd end
+ends_are_told (DoneData (value.Builtin b)) end = absurd end
+ends_are_told (DoneData (value.Markup m)) end = absurd end
+ends_are_told (Failed t) end = refl
 
 pub waits_are_named : WaitsAreNamed
 waits_are_named callers v h args k = (refl, refl)

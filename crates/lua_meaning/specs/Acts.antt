@@ -2,7 +2,6 @@
 -- Each line of a `do` block is one step. `x ← part` names the value that a part gives; a line without a name is done for its effect.
 -- Where a part jumps, by an error, a `return` or a `break`, the lines after it are passed over.
 use Rattle.std.specs.Prelude.{ℕ, ℤ, Bool, true, false, List, [], ◌∷◌}
-use Rattle.wk_base.specs.declared.title.Title.{Title}
 use Rattle.lua_syntax.specs.declared.Expr.{Expr}
 use Rattle.lua_syntax.specs.declared.Block.{Block}
 use Rattle.page_run.specs.Run.{Run}
@@ -31,11 +30,9 @@ pub record Frame : Type 0 where
   pub table : Value
   pub parent : Parent
 
--- THE STATE that a run sees and changes: the title of the page that is expanded; the heap; the tables of the global variables, of
--- the functions for strings, and of the modules that were loaded, by their numbers in it; and the frames, in the order in
--- which they were made
+-- THE STATE that a run sees and changes: the heap; the tables of the global variables, of the functions for strings, and of the
+-- modules that were loaded, by their numbers in it; and the frames, in the order in which they were made
 pub record State : Type 0 where
-  pub page : Title
   pub heap : Heap Function
   pub globals : ℕ
   pub strings : ℕ

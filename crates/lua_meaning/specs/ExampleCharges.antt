@@ -9,7 +9,7 @@ use Rattle.lua_syntax.specs.declared.Field.TheVariants.{Pair}
 use Rattle.lua_syntax.specs.declared.StatKind.TheVariants.{Assign, Call as StatCall, While, If, Count, LocalFunction, Local, Return}
 use Rattle.page_run.specs.declared.which.Which.TheVariants.{Steps, Calls}
 use Rattle.lua_meaning.specs.Trees.{expr, stat, block, arm, function, index, call, binary, unary}
-use Rattle.lua_meaning.specs.Trial.{Gives, Fails, Spends, Loads, ended, arg, invoked, invoked_with, invoked_on, loaded, faulted}
+use Rattle.lua_meaning.specs.Trial.{Gives, Fails, Spends, Loads, ended, arg, invoked, invoked_with, invoked_on, loaded, faulted, counted}
 
 module _ (g : Global) where
   -- 1,000 for the start, 36 for the text, and 29 for what it does.
@@ -43,6 +43,14 @@ module _ (g : Global) where
 
   abbrev pub Arguments : Type 0
   Arguments = (invoked_on (arg (codes "1") (codes "x") ∷ arg (codes "k") (codes "v") ∷ []) 20000 (codes "G") 78 arguments 1150 ≡ Gives (codes "xxv1") 0) × (invoked_on (arg (codes "1") (codes "x") ∷ arg (codes "k") (codes "v") ∷ []) 20000 (codes "G") 78 arguments 1149 ≡ Spends Steps 0)
+
+  -- Counted are two functions entered, seven nodes, and three turns of the loop.
+  --     return {f=function() for i=1,3 do end end}
+  abbrev pub nodes : Block
+  nodes = block (stat 1 (Return (expr 1 (Table (Pair (expr 1 (Text (codes "f"))) (expr 1 (FunctionExpr (function ([]) false (block (stat 1 (Count (codes "i") (expr 1 (Number (pos 1))) (expr 1 (Number (pos 3))) None (block ([]))) ∷ []))))) ∷ [])) ∷ [])) ∷ [])
+
+  abbrev pub Nodes : Type 0
+  Nodes = counted (codes "X") 42 nodes 6000 ≡ 12
 
   -- A global variable lives as long as its invocation: in each one the counter gives 1.
   --     n=0 local p={} function p.f() n=n+1 return n end return p
@@ -200,6 +208,7 @@ module _ (g : Global) where
       × Start
       × DataStart
       × Arguments
+      × Nodes
       × Counter
       × HoldsItself
       × CatchesAll

@@ -1,7 +1,6 @@
 -- A FRESH ENVIRONMENT (manual 5; Scribunto, "Lua environment"): the heap with which each run begins, and nothing else in it.
 -- The names stand in the order in which `next` goes through them. What is not built yet is absent.
 use Rattle.std.specs.Prelude.{[], ◌∷◌, codes}
-use Rattle.wk_base.specs.declared.title.Title.{Title}
 use Rattle.lua_heap.specs.Value.{Value, Nil, Text, Table, Builtin}
 use Rattle.lua_heap.specs.Table.{Entries}
 use Rattle.lua_heap.specs.Heap.{Heap, empty}
@@ -46,6 +45,6 @@ strings = []
 abbrev pub home_heap : Heap Function
 home_heap = with_table (with_table (with_table empty globals Nil) strings Nil) [] Nil
 
--- the state with which a run begins, on a page
-abbrev pub home : Title → State
-home page = record { page = page; heap = home_heap; globals = 0; strings = 1; loaded = 2; frames = [] }
+-- the state with which a run begins
+abbrev pub home : State
+home = record { heap = home_heap; globals = 0; strings = 1; loaded = 2; frames = [] }

@@ -1,6 +1,5 @@
 -- LAWS OF THE MEANING, which the functions of this crate ensure.
 use Rattle.std.specs.Prelude.{◌≡◌, ℕ, ◌+◌, List, []}
-use Rattle.wk_base.specs.declared.title.Title.{Title}
 use Rattle.wk_base.specs.declared.left.Left.{Left}
 use Rattle.lua_syntax.specs.declared.ExprKind.{ExprKind, Name}
 use Rattle.lua_syntax.specs.declared.StatKind.{StatKind}
@@ -10,7 +9,7 @@ use Rattle.page_run.specs.State.{Replier, Moment, Ended, start}
 use Rattle.page_run.specs.Perform.{perform, NoRise}
 use Rattle.page_run.specs.Events.{BeginsIs}
 use Rattle.page_run.specs.Charges.{KeepsCalls, RepliesFit, GivenBack}
-use Rattle.lua_heap.specs.Value.{Value}
+use Rattle.lua_heap.specs.Value.{Value, Table}
 use Rattle.lua_meaning.specs.Environment.{Env, Levels, cell_of, levels}
 use Rattle.lua_meaning.specs.Questions.{Ask, Answer}
 use Rattle.lua_meaning.specs.Values.{first, rest, second}
@@ -21,11 +20,12 @@ use Rattle.lua_meaning.specs.Meaning.{expression, target, statement}
 use Rattle.lua_meaning.specs.Protocol.{calling, pcall, xpcall, PcallWaits, XpcallWaits, resumes}
 use Rattle.lua_meaning.specs.Meant.{meant}
 use Rattle.lua_meaning.specs.Home.{home}
-use Rattle.lua_meaning.specs.Start.{Modules, Work, whole}
+use Rattle.lua_meaning.specs.World.{World}
+use Rattle.lua_meaning.specs.Start.{Work, End, DoneData, whole, ended, end_of}
 
 -- A THING that begins takes a step and does what it means, or the run is spent; no bound on the number of things is seen.
 abbrev pub ThingsUnfold : Type 0
-ThingsUnfold = (beyond : Replier Ask Answer) → NoRise beyond → BeginsIs meant beyond
+ThingsUnfold = (world : World) (beyond : Replier Ask Answer) → NoRise beyond → BeginsIs (meant world) beyond
 
 -- A NODE that begins takes a step, and is counted.
 abbrev pub IsNode : LuaRun → Type 0
@@ -57,23 +57,32 @@ IsEntry (ChunkBody source body) = Unit {0}
 IsEntry _ = ⊥
 
 abbrev pub TurnsAreCounted : Type 0
-TurnsAreCounted = (t : Thing) → IsTurn t → (k : Outcome (List Value) Jump → LuaRun) → (more : LuaRun) × (meant t k ≡ Counts more)
+TurnsAreCounted = (world : World) (t : Thing) → IsTurn t → (k : Outcome (List Value) Jump → LuaRun) → (more : LuaRun) × (meant world t k ≡ Counts more)
 
 abbrev pub EntriesAreCounted : Type 0
-EntriesAreCounted = (t : Thing) → IsEntry t → (k : Outcome (List Value) Jump → LuaRun) → (more : LuaRun) × (meant t k ≡ Calls (Counts more))
+EntriesAreCounted = (world : World) (t : Thing) → IsEntry t → (k : Outcome (List Value) Jump → LuaRun) → (more : LuaRun) × (meant world t k ≡ Calls (Counts more))
 
 -- CALLS in progress are given back at each end of a run; at a question what is left and what is in progress are together what there was.
 abbrev pub CallsAreGivenBack : Type 0
-CallsAreGivenBack = (modules : Modules) (work : Work) (page : Title) (beyond : Replier Ask Answer) → KeepsCalls beyond → (left : Left) →
-    GivenBack left.calls (perform meant beyond (whole modules work) (start (home page) left []))
+CallsAreGivenBack = (world : World) (work : Work) (beyond : Replier Ask Answer) → KeepsCalls beyond → (left : Left) →
+    GivenBack left.calls (perform (meant world) beyond (whole world work) (start home left []))
 
 -- MORE steps and calls change neither the end of a run nor its charge, where the replies fit what is left.
 abbrev pub MoreChangesNothing : Type 0
-MoreChangesNothing = (modules : Modules) (work : Work) (page : Title) (beyond : Replier Ask Answer) → NoRise beyond → RepliesFit beyond beyond →
+MoreChangesNothing = (world : World) (work : Work) (beyond : Replier Ask Answer) → NoRise beyond → RepliesFit beyond beyond →
     (left : Left) (o : Outcome (List Value) Jump) (end : Moment State) →
-    perform meant beyond (whole modules work) (start (home page) left []) ≡ Ended o end → (a b : ℕ) →
-    perform meant beyond (whole modules work) (start (home page) record left { steps = left.steps + a; calls = left.calls + b } [])
+    perform (meant world) beyond (whole world work) (start home left []) ≡ Ended o end → (a b : ℕ) →
+    perform (meant world) beyond (whole world work) (start home record left { steps = left.steps + a; calls = left.calls + b } [])
     ≡ Ended o (record { heap = end.heap; left = record left { steps = end.left.steps + a; calls = left.calls + b }; in_progress = 0; tally = end.tally })
+
+-- THE END of a run is told by its outcome: a data module gives a table.
+abbrev pub IsEnd : End → Type 0
+IsEnd (DoneData (Table t)) = Unit {0}
+IsEnd (DoneData v) = ⊥
+IsEnd e = Unit {0}
+
+abbrev pub EndsAreTold : Type 0
+EndsAreTold = (e : End) → IsEnd e → end_of (ended e) ≡ e
 
 -- WHAT WAITS for the outcome of a call is what the table of the protocol says.
 abbrev pub WaitsAreNamed : Type 0

@@ -1,4 +1,5 @@
 pub mod Environment
+pub mod World
 pub mod Questions
 pub mod Values
 pub mod Acts

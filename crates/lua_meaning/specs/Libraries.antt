@@ -5,6 +5,7 @@ use Rattle.page_run.specs.Outcome.{◌>>=◌, give}
 use Rattle.lua_heap.specs.Value.{Value}
 use Rattle.lua_heap.specs.Heap.{Heap}
 use Rattle.lua_heap.specs.Library.{Library, BasicAssert, BasicError, BasicGetMetatable, BasicSetMetatable, BasicIpairs, BasicPairs, BasicNext, BasicPcall, BasicXpcall, BasicRawEqual, BasicRawGet, BasicRawSet, BasicSelect, BasicToNumber, BasicToString, BasicType, BasicUnpack, ArgsIndex, IpairsStep}
+use Rattle.lua_meaning.specs.World.{World}
 use Rattle.lua_meaning.specs.Environment.{Function, Levels}
 use Rattle.lua_meaning.specs.Acts.{Act, see_heap}
 use Rattle.lua_meaning.specs.Arguments.{Plain, plain_act}
@@ -13,37 +14,37 @@ use Rattle.lua_meaning.specs.Frames.{args_index}
 use Rattle.lua_meaning.specs.Protocol.{pcall, xpcall, to_string, pairs, ipairs, ipairs_step}
 
 -- a function that calls back nobody
-abbrev pub plain : Library → List Value → Heap Function → Option Plain
-plain BasicAssert args h = Some (assert args h)
-plain BasicError args h = Some (error args h)
-plain BasicGetMetatable args h = Some (get_metatable args h)
-plain BasicSetMetatable args h = Some (set_metatable args h)
-plain BasicNext args h = Some (next args h)
-plain BasicRawEqual args h = Some (raw_equal args h)
-plain BasicRawGet args h = Some (raw_get args h)
-plain BasicRawSet args h = Some (raw_set args h)
-plain BasicSelect args h = Some (select args h)
-plain BasicToNumber args h = Some (to_number args h)
-plain BasicType args h = Some (kind args h)
-plain BasicUnpack args h = Some (unpack args h)
-plain ArgsIndex args h = Some (args_index args h)
-plain _ args h = None
+abbrev pub plain : World → Library → List Value → Heap Function → Option Plain
+plain world BasicAssert args h = Some (assert args h)
+plain world BasicError args h = Some (error args h)
+plain world BasicGetMetatable args h = Some (get_metatable args h)
+plain world BasicSetMetatable args h = Some (set_metatable args h)
+plain world BasicNext args h = Some (next args h)
+plain world BasicRawEqual args h = Some (raw_equal args h)
+plain world BasicRawGet args h = Some (raw_get args h)
+plain world BasicRawSet args h = Some (raw_set args h)
+plain world BasicSelect args h = Some (select args h)
+plain world BasicToNumber args h = Some (to_number args h)
+plain world BasicType args h = Some (kind args h)
+plain world BasicUnpack args h = Some (unpack args h)
+plain world ArgsIndex args h = Some (args_index args h)
+plain world _ args h = None
 
 abbrev pub plain_or_none : Option Plain → Levels → Act (List Value)
 plain_or_none (Some p) callers = plain_act p callers
 plain_or_none None callers = give []
 
-abbrev pub library : Library → List Value → Levels → Act (List Value)
-library BasicPcall args callers = pcall args
-library BasicXpcall args callers = xpcall args
-library BasicToString args callers = to_string args callers
-library BasicPairs args callers = pairs args callers
-library BasicIpairs args callers = ipairs args callers
-library IpairsStep args callers = ipairs_step args callers
-library which args callers = do
+abbrev pub library : World → Library → List Value → Levels → Act (List Value)
+library world BasicPcall args callers = pcall args
+library world BasicXpcall args callers = xpcall args
+library world BasicToString args callers = to_string args callers
+library world BasicPairs args callers = pairs args callers
+library world BasicIpairs args callers = ipairs args callers
+library world IpairsStep args callers = ipairs_step args callers
+library world which args callers = do
   h ← see_heap
-  plain_or_none (plain which args h) callers
+  plain_or_none (plain world which args h) callers
 
-abbrev pub library_of : Option Library → List Value → Levels → Act (List Value)
-library_of (Some which) args callers = library which args callers
-library_of None args callers = give []
+abbrev pub library_of : World → Option Library → List Value → Levels → Act (List Value)
+library_of world (Some which) args callers = library world which args callers
+library_of world None args callers = give []

@@ -4,6 +4,7 @@ use Rattle.page_run.specs.Outcome.{Outcome, Goes, Jumps, ◌>>=◌, ◌>>◌, gi
 use Rattle.lua_syntax.specs.declared.Block.{Block}
 use Rattle.lua_heap.specs.Value.{Value}
 use Rattle.lua_heap.specs.Library.{library_at}
+use Rattle.lua_meaning.specs.World.{World}
 use Rattle.lua_meaning.specs.Environment.{Bytes, Env, Function, Levels}
 use Rattle.lua_meaning.specs.Acts.{Act, Jump, Returned, Thing, WhileTurn, RepeatTurn, CountTurn, EachTurn, Body, LibraryBody, ChunkBody, IndexLink, SetLink, CallLink, declare}
 use Rattle.lua_meaning.specs.Calls.{call}
@@ -31,10 +32,10 @@ body f args callers = in_call (do
   env ← declare (params_of f.node) args (body_env f args callers)
   catch (body_of f.node env) after_body)
 
-abbrev pub library_body : ℕ → List Value → Levels → Act (List Value)
-library_body which args callers = in_call (do
+abbrev pub library_body : World → ℕ → List Value → Levels → Act (List Value)
+library_body world which args callers = in_call (do
   count
-  library_of (library_at which) args callers)
+  library_of world (library_at which) args callers)
 
 -- the text of a module is a function without parameters (2.4.1)
 abbrev pub chunk_env : Bytes → Env
@@ -45,14 +46,14 @@ chunk_body source b = in_call (do
   count
   catch (block b (chunk_env source)) after_body)
 
-abbrev pub meant : Thing → Act (List Value)
-meant (WhileTurn test body env) = while_turn (expr_part test) (block_part body) env
-meant (RepeatTurn body test env) = repeat_turn (block_part body) (expr_part test) env
-meant (CountTurn name index limit step body env) = count_turn name index limit step (block_part body) env
-meant (EachTurn names f state results body line env) = each_turn names f state results (block_part body) line env
-meant (Body f args callers) = body f args callers
-meant (LibraryBody which args callers) = library_body which args callers
-meant (ChunkBody source b) = chunk_body source b
-meant (IndexLink object h key ls) = index_link object h key ls
-meant (SetLink object h key value ls) = set_link object h key value ls
-meant (CallLink h args ls) = call h args ls
+abbrev pub meant : World → Thing → Act (List Value)
+meant world (WhileTurn test body env) = while_turn (expr_part test) (block_part body) env
+meant world (RepeatTurn body test env) = repeat_turn (block_part body) (expr_part test) env
+meant world (CountTurn name index limit step body env) = count_turn name index limit step (block_part body) env
+meant world (EachTurn names f state results body line env) = each_turn names f state results (block_part body) line env
+meant world (Body f args callers) = body f args callers
+meant world (LibraryBody which args callers) = library_body world which args callers
+meant world (ChunkBody source b) = chunk_body source b
+meant world (IndexLink object h key ls) = index_link object h key ls
+meant world (SetLink object h key value ls) = set_link object h key value ls
+meant world (CallLink h args ls) = call h args ls

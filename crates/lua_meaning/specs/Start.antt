@@ -11,6 +11,7 @@ use Rattle.page_run.specs.State.{Reply, Event, start}
 use Rattle.page_run.specs.Perform.{perform, wait}
 use Rattle.lua_heap.specs.Value.{Value, Nil, Text, Table}
 use Rattle.lua_meaning.specs.Environment.{Bytes}
+use Rattle.lua_meaning.specs.World.{Module, World}
 use Rattle.lua_meaning.specs.Questions.{Arg, Job, Ask, Answer}
 use Rattle.lua_meaning.specs.Values.{kind_of, first, text_in, is_function}
 use Rattle.lua_meaning.specs.Acts.{Act, LuaRun, Jump, Raised, State, Unmade, ChunkBody, raise, choose, see_heap}
@@ -22,14 +23,6 @@ use Rattle.lua_meaning.specs.Protocol.{text_of, string_or_fail}
 use Rattle.lua_meaning.specs.Frames.{make_frame, frame_table}
 use Rattle.lua_meaning.specs.Home.{home}
 use Rattle.lua_meaning.specs.Meant.{meant}
-
--- MODULES: of each title that is held, the length of its text, and its tree or its first fault
-pub record Module : Type 0 where
-  pub size : ℕ
-  pub chunk : Result Chunk FaultAt
-
-abbrev pub Modules : Type 0
-Modules = Title → Option Module
 
 -- the work of a run: an `#invoke`, or the load of a data module
 pub data Work : Type 0 where
@@ -129,12 +122,12 @@ invoke_in name (Table t) frame = do
   invoke_function name f frame
 invoke_in name v frame = give (Failed (codes "Script error: The module returned no table."))
 
-abbrev pub invoke : Modules → Job → Act End
-invoke modules job = do
+abbrev pub invoke : World → Job → Act End
+invoke world job = do
   tick 1000
   tick (args_charge job.scene.args)
   frame ← begin_frame job
-  vs ← run_chunk job.module_ (modules job.module_)
+  vs ← run_chunk job.module_ (world.modules job.module_)
   invoke_in job.function (first vs) frame
 
 -- A DATA MODULE: its first value must be a table
@@ -142,10 +135,10 @@ abbrev pub data_value : Value → End
 data_value (Table t) = DoneData (Table t)
 data_value v = Failed (codes "data module returned no table")
 
-abbrev pub load_data : Modules → Title → Act End
-load_data modules title = do
+abbrev pub load_data : World → Title → Act End
+load_data world title = do
   tick 1000
-  vs ← run_chunk title (modules title)
+  vs ← run_chunk title (world.modules title)
   give (data_value (first vs))
 
 -- the outcome of a run: a text or a value that it gives, or the text of a failure that it raises
@@ -165,10 +158,17 @@ data_ended (Goes e) = ended e
 data_ended (Jumps (Raised v)) = ended (Failed (error_text v))
 data_ended (Jumps j) = Jumps j
 
-abbrev pub whole : Modules → Work → LuaRun
-whole modules (Invoke job) = invoke modules job (λ o. Ends (invoke_ended o))
-whole modules (DataOf title) = load_data modules title (λ o. Ends (data_ended o))
+abbrev pub whole : World → Work → LuaRun
+whole world (Invoke job) = invoke world job (λ o. Ends (invoke_ended o))
+whole world (DataOf title) = load_data world title (λ o. Ends (data_ended o))
+
+-- the end that an outcome tells
+abbrev pub end_of : Outcome (List Value) Jump → End
+end_of (Goes (Text t ∷ [])) = Done t
+end_of (Goes vs) = DoneData (first vs)
+end_of (Jumps (Raised (Text t))) = Failed t
+end_of (Jumps j) = Failed []
 
 -- THE MEANING OF ONE RUN: the event that is seen, after these replies
-abbrev pub lua : Modules → Work → Title → Left → List (Reply Answer) → Event State Ask (Outcome (List Value) Jump)
-lua modules work page left replies = perform meant wait (whole modules work) (start (home page) left replies)
+abbrev pub lua : World → Work → Left → List (Reply Answer) → Event State Ask (Outcome (List Value) Jump)
+lua world work left replies = perform (meant world) wait (whole world work) (start home left replies)

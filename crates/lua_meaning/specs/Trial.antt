@@ -5,13 +5,14 @@ use Rattle.wk_base.specs.declared.title.Namespace.TheVariants.{Main, Module as M
 use Rattle.wk_base.specs.declared.left.Left.{Left}
 use Rattle.page_run.specs.declared.which.Which.{Which}
 use Rattle.page_run.specs.Outcome.{Outcome, Goes, Jumps}
-use Rattle.page_run.specs.State.{Event, Ended, Spent}
+use Rattle.page_run.specs.State.{Event, Ended, Spent, moment_of}
 use Rattle.lua_syntax.specs.declared.Block.{Block}
 use Rattle.lua_heap.specs.Value.{Value, Text, Table}
 use Rattle.lua_meaning.specs.Environment.{Bytes}
 use Rattle.lua_meaning.specs.Questions.{Arg, Scene, Job, Ask}
 use Rattle.lua_meaning.specs.Acts.{State, Jump, Raised}
-use Rattle.lua_meaning.specs.Start.{Modules, Invoke, DataOf, lua}
+use Rattle.lua_meaning.specs.World.{Modules, World}
+use Rattle.lua_meaning.specs.Start.{Invoke, DataOf, lua}
 
 abbrev pub module_title : Bytes → Title
 module_title name = record { ns = ModuleSpace; name = name }
@@ -34,6 +35,9 @@ one_module size body title = Some (record { size = size; chunk = Ok (record { bo
 -- a text that is no chunk, with the number of its fault and the line
 abbrev pub no_chunk : ℕ → ℕ → ℕ → Modules
 no_chunk size kind line title = Some (record { size = size; chunk = Err (record { kind = kind; line = line }) })
+
+abbrev pub in_world : Modules → World
+in_world modules = record { page = page; modules = modules }
 
 -- so many steps and nested calls
 abbrev pub allowance : ℕ → ℕ → Left
@@ -62,7 +66,7 @@ ended s = s
 
 -- the function `f` of a module is invoked: the arguments, the calls, the module's name, the size of its text, its tree, and the steps
 abbrev pub invoked_on : List Arg → ℕ → Bytes → ℕ → Block → ℕ → Seen
-invoked_on args calls name size body steps = seen (lua (one_module size body) (Invoke (job name args)) page (allowance steps calls) [])
+invoked_on args calls name size body steps = seen (lua (in_world (one_module size body)) (Invoke (job name args)) (allowance steps calls) [])
 
 -- without arguments
 abbrev pub invoked_with : ℕ → Bytes → ℕ → Block → ℕ → Seen
@@ -74,8 +78,12 @@ invoked name size body steps = invoked_with 20000 name size body steps
 
 -- a module is loaded as data
 abbrev pub loaded : Bytes → ℕ → Block → ℕ → Seen
-loaded name size body steps = seen (lua (one_module size body) (DataOf (module_title name)) page (allowance steps 20000) [])
+loaded name size body steps = seen (lua (in_world (one_module size body)) (DataOf (module_title name)) (allowance steps 20000) [])
 
 -- a text is invoked that is no chunk
 abbrev pub faulted : Bytes → ℕ → ℕ → ℕ → ℕ → Seen
-faulted name size kind line steps = seen (lua (no_chunk size kind line) (Invoke (job name [])) page (allowance steps 20000) [])
+faulted name size kind line steps = seen (lua (in_world (no_chunk size kind line)) (Invoke (job name [])) (allowance steps 20000) [])
+
+-- the nodes, turns of loops and functions entered that were counted, with enough of all
+abbrev pub counted : Bytes → ℕ → Block → ℕ → ℕ
+counted name size body steps = (moment_of (lua (in_world (one_module size body)) (Invoke (job name [])) (allowance steps 20000) [])).tally.nodes

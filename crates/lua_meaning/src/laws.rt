@@ -1,9 +1,8 @@
 //! The laws of the meaning: `specs/Laws.antt` says them.
-ghost use Rattle.lua_meaning.specs.Laws.{ThingsUnfold, ExpressionsAreNodes, StatementsAreNodes, TargetNamesAreNone, TurnsAreCounted, EntriesAreCounted, CallsAreGivenBack, MoreChangesNothing, WaitsAreNamed};
+ghost use Rattle.lua_meaning.specs.Laws.{ThingsUnfold, ExpressionsAreNodes, StatementsAreNodes, TargetNamesAreNone, TurnsAreCounted, EntriesAreCounted, CallsAreGivenBack, MoreChangesNothing, EndsAreTold, WaitsAreNamed};
 
 /// A thing that begins takes one step and does what it means; where no step is left, the run is spent. This is the meaning of
 /// loops, of functions and of chains of handlers, said without a bound on their number.
-#[tactic(auto, using(crate::proofs::MeaningLaws::things_unfold))]
 pub fn things_unfold()
     ensures { ThingsUnfold }
 {}
@@ -30,13 +29,11 @@ pub fn turns_and_entries_are_counted()
 
 /// At each end of a run its calls in progress are given back. At a question the calls that are left and those in progress
 /// are together what there was.
-#[tactic(auto, using(crate::proofs::MeaningLaws::calls_are_given_back))]
 pub fn calls_are_given_back()
     ensures { CallsAreGivenBack }
 {}
 
 /// A run that ends by itself ends alike, and for the same charge, with more steps and calls.
-#[tactic(auto, using(crate::proofs::MeaningLaws::more_changes_nothing))]
 pub fn more_changes_nothing()
     ensures { MoreChangesNothing }
 {}
@@ -45,4 +42,10 @@ pub fn more_changes_nothing()
 #[tactic(auto, using(crate::proofs::MeaningLaws::waits_are_named))]
 pub fn waits_are_named()
     ensures { WaitsAreNamed }
+{}
+
+/// The end of a run is told by its outcome: the text of an invocation, the table of a data module, or the text of a failure.
+#[tactic(auto, using(crate::proofs::MeaningLaws::ends_are_told))]
+pub fn ends_are_told()
+    ensures { EndsAreTold }
 {}

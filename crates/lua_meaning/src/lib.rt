@@ -26,6 +26,5 @@
 
 pub mod examples;
 pub mod laws;
-
 #[cfg(test)]
 mod tests;
