@@ -73,6 +73,42 @@ CHARGES = [
           fails="Lua error: a&lt;b&gt;&amp;c", profile=True),
 ]
 
+def cost(name, said, text, parts, answer="", profile=False):
+    """What `f` does costs these parts. Before it 1,000, the text, 25 for the chunk, and 1 for `f` entered; then its answer."""
+    whole = "return {f=function(...)\n" + text + "\nend}"
+    steps = 1000 + len(whole) + 25 + 1 + sum(parts) + len(answer)
+    return chunk(name, said, whole, steps=[steps, steps - 1], seen=[("Gives", answer, 0), ("Spends", "Steps", 0)], profile=profile)
+
+
+COSTS = [
+    cost("nothing", "A function that does nothing.", "", []),
+    cost("dots_cost", "`...` costs a step more for each value: here it has one, the frame.", "return ...", [1, 1 + 1], "table", profile=True),
+    cost("while_costs", "`while`: three tests, and two turns.", "local i=0 while i<2 do i=i+1 end", [2, 1, 3 * 3, 2 * (1 + 4)]),
+    cost("repeat_costs", "`repeat`: two turns, each with its test.", "local i=0 repeat i=i+1 until i>=2", [2, 1, 2 * (1 + 4 + 3)]),
+    cost("for_costs", "A counting loop: its numbers, and a step for each turn.", "for i=1,2 do end", [1 + 2, 2]),
+    cost("each_costs", "A generic loop: the function is entered three times, and there are two turns.", "for k in next,{1,2} do end",
+         [1, 1, 9 + 2 * (1 + 4), 3 + 2]),
+    cost("cleared_costs", "`next` passes a cleared entry; a key that is cleared is no new entry.", "local t={1,2} t[1]=nil return next(t)",
+         [1 + 9 + 2 * (1 + 4), 1 + 3 + 1, 1 + 3, 1 + 1], "22"),
+    cost("joins_cost", "`..` costs the length of what it gives.", "return 'ab'..'c'", [1 + 3, 3], "abc"),
+    cost("order_costs", "The order of two texts costs the length of the shorter one.", "return 'abc'<'abde'", [1 + 3, 3], "true"),
+    cost("equality_is_free", "Their equality costs nothing.", "return 'abc'=='abc'", [1 + 3], "true"),
+    cost("text_costs", "`tostring` costs the length of the text.", "return tostring('abc')", [1 + 3, 1 + 3], "abc"),
+    cost("unpack_costs", "`unpack` costs a step for each entry.", "return unpack({1,2})", [1 + 2, 9 + 2 * (1 + 4), 1 + 2], "12"),
+    cost("link_costs", "A link to a table costs a step.", "return setmetatable({},{__index={x=1}}).x",
+         [1, 2, 2, 9, 9 + 1 + 9 + 1 + 1 + 4 + 4, 1, 1], "1"),
+    cost("call_link_costs", "A link to a function costs a step, and the function's entry another.",
+         "return setmetatable({},{__call=function() return 1 end})()", [1, 1, 2, 9, 9 + 1 + 9 + 4, 1, 1 + 1 + 2], "1"),
+    cost("message_costs", "A message costs its length with its place.", "return pcall(function() error('m') end)",
+         [1 + 2 + 9, 1 + 1, 1 + 3 + 1, len("Module:X:2: m")], "falseModule:X:2: m"),
+    cost("method_costs", "A method's name costs nothing.", "local o={m=function(s) return 1 end} return o:m()", [1 + 9 + 1 + 9 + 4, 1 + 2, 1 + 2], "1"),
+    cost("local_function_costs", "A local function is a statement, and a closure.", "local function g() end g()", [1 + 8, 1 + 2 + 1]),
+    cost("global_costs", "A global variable that is new is a new entry, and a name as a target costs nothing.", "x=1 x=2", [2 + 4, 2]),
+    cost("choices_cost", "What is not evaluated costs nothing.", "return nil and error() or 'a'", [1 + 2 + 1 + 1], "a"),
+    cost("branches_cost", "Of a condition the tests that are made.", "if nil then elseif 1 then elseif 2 then end", [1 + 2]),
+    cost("targets_cost", "Targets that are indices are nodes; nil makes no entry.", "local t={} t.a,t.b=1", [1 + 9, 1 + 2 * 3 + 1, 4]),
+]
+
 VALUES = [
     body("constants", "Constants, and their texts.", "return nil, true, false, 12, 'a b', 0x1F", "niltruefalse12a b31"),
     body("adjusted", "Lists are adjusted: a call gives all its values only as the last of a list.",
@@ -190,6 +226,7 @@ FUNCTIONS = [
 
 FILES = [
     ("ExampleCharges", "EXAMPLES of charges, and of how runs end.", CHARGES),
+    ("ExampleCosts", "EXAMPLES of single charges, worked out by hand.", COSTS),
     ("ExampleValues", "EXAMPLES of values, lists and operators.", VALUES),
     ("ExampleStatements", "EXAMPLES of statements, loops and constructors.", STATEMENTS),
     ("ExampleFunctions", "EXAMPLES of functions, errors and handlers.", FUNCTIONS),

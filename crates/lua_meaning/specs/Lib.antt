@@ -26,6 +26,7 @@ pub mod Laws
 pub mod Trees
 pub mod Trial
 pub mod ExampleCharges
+pub mod ExampleCosts
 pub mod ExampleValues
 pub mod ExampleStatements
 pub mod ExampleFunctions

@@ -2,13 +2,19 @@
 //! their texts; `g` is the allocator of the tree's boxes. Where Lua 5.1 does the same, the results are those of Lua 5.1.
 ghost use Rattle.std.specs.declared.alloc.Global.{Global};
 ghost use Rattle.lua_meaning.specs.ExampleCharges.{AllCharges};
+ghost use Rattle.lua_meaning.specs.ExampleCosts.{AllCosts};
 ghost use Rattle.lua_meaning.specs.ExampleValues.{AllValues};
 ghost use Rattle.lua_meaning.specs.ExampleStatements.{AllStatements};
 ghost use Rattle.lua_meaning.specs.ExampleFunctions.{AllFunctions};
 
-/// Charges, worked out by hand, and the ends of runs.
+/// Charges of whole runs, worked out by hand, and how runs end.
 pub fn charges()
     ensures { (g : Global) → AllCharges g }
+{}
+
+/// Single charges, worked out by hand.
+pub fn costs()
+    ensures { (g : Global) → AllCosts g }
 {}
 
 /// Values, lists and operators.

@@ -13,6 +13,7 @@ fn laws_are_called(_rt: HostRuntime) -> Result<(), Fail> {
     laws::waits_are_named();
     laws::ends_are_told();
     examples::charges();
+    examples::costs();
     examples::values();
     examples::statements();
     examples::functions();
