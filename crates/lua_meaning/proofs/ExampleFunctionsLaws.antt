@@ -7,7 +7,7 @@ use Rattle.page_run.specs.Perform.{perform}
 use Rattle.wk_base.specs.Titles.{title_text, prefix_of}
 use Rattle.std.specs.Fmt.{digits}
 use Rattle.lua_number.specs.Numerals.{decimal_of, numeral_of, trimmed, digits_of_base, read_number_of, read_in_base_of}
-use Rattle.lua_meaning.specs.ExampleFunctions.{Counters, WhileCells, Protected, ValuesAsErrors, Places, Failing, BadArguments, ErrorHandlers, FailingHandlers, IndexChain, NewIndex, ArithmeticHandlers, FirstHandler, EqualHandlers, CallHandlers, ToText, ProtectedMetatables, GlobalHandlers, RawEquality, TailValues, AllFunctions}
+use Rattle.lua_meaning.specs.ExampleFunctions.{Counters, WhileCells, Protected, ValuesAsErrors, Places, Failing, BadArguments, ErrorHandlers, FailingHandlers, IndexChain, NewIndex, ArithmeticHandlers, FirstHandler, EqualHandlers, CallHandlers, ToText, NoText, MethodsOfStrings, ProtectedMetatables, GlobalHandlers, RawEquality, TailValues, AllFunctions}
 
 counters : (g : Global) → Counters g
 unfolding perform digits title_text prefix_of decimal_of numeral_of trimmed digits_of_base read_number_of read_in_base_of views.roll-Block views.roll-Arm views.roll-Function denote.Hole.Carrier.roll denote.Hole.Carrier.hidden rows.hidden-the_row-Stat-3
@@ -73,6 +73,14 @@ to_text : (g : Global) → ToText g
 unfolding perform digits title_text prefix_of decimal_of numeral_of trimmed digits_of_base read_number_of read_in_base_of views.roll-Block views.roll-Arm views.roll-Function denote.Hole.Carrier.roll denote.Hole.Carrier.hidden rows.hidden-the_row-Stat-3
 to_text g = refl
 
+no_text : (g : Global) → NoText g
+unfolding perform digits title_text prefix_of decimal_of numeral_of trimmed digits_of_base read_number_of read_in_base_of views.roll-Block views.roll-Arm views.roll-Function denote.Hole.Carrier.roll denote.Hole.Carrier.hidden rows.hidden-the_row-Stat-3
+no_text g = refl
+
+methods_of_strings : (g : Global) → MethodsOfStrings g
+unfolding perform digits title_text prefix_of decimal_of numeral_of trimmed digits_of_base read_number_of read_in_base_of views.roll-Block views.roll-Arm views.roll-Function denote.Hole.Carrier.roll denote.Hole.Carrier.hidden rows.hidden-the_row-Stat-3
+methods_of_strings g = refl
+
 protected_metatables : (g : Global) → ProtectedMetatables g
 unfolding perform digits title_text prefix_of decimal_of numeral_of trimmed digits_of_base read_number_of read_in_base_of views.roll-Block views.roll-Arm views.roll-Function denote.Hole.Carrier.roll denote.Hole.Carrier.hidden rows.hidden-the_row-Stat-3
 protected_metatables g = refl
@@ -90,4 +98,4 @@ unfolding perform digits title_text prefix_of decimal_of numeral_of trimmed digi
 tail_values g = refl
 
 pub all_functions : (g : Global) → AllFunctions g
-all_functions g = (counters g, while_cells g, protected g, values_as_errors g, places g, failing g, bad_arguments g, error_handlers g, failing_handlers g, index_chain g, new_index g, arithmetic_handlers g, first_handler g, equal_handlers g, call_handlers g, to_text g, protected_metatables g, global_handlers g, raw_equality g, tail_values g)
+all_functions g = (counters g, while_cells g, protected g, values_as_errors g, places g, failing g, bad_arguments g, error_handlers g, failing_handlers g, index_chain g, new_index g, arithmetic_handlers g, first_handler g, equal_handlers g, call_handlers g, to_text g, no_text g, methods_of_strings g, protected_metatables g, global_handlers g, raw_equality g, tail_values g)

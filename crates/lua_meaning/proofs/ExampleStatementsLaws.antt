@@ -7,7 +7,7 @@ use Rattle.page_run.specs.Perform.{perform}
 use Rattle.wk_base.specs.Titles.{title_text, prefix_of}
 use Rattle.std.specs.Fmt.{digits}
 use Rattle.lua_number.specs.Numerals.{decimal_of, numeral_of, trimmed, digits_of_base, read_number_of, read_in_base_of}
-use Rattle.lua_meaning.specs.ExampleStatements.{Swap, KeysFirst, LastFirst, MoreTargets, Shadowed, LocalFunctions, GlobalFunctions, Branches, WhileLoop, RepeatLoop, RepeatBreak, Counting, CountingToTheEnd, StepOfZero, Generic, OwnIterator, Cleared, ReturnFromLoops, Constructors, Methods, AllStatements}
+use Rattle.lua_meaning.specs.ExampleStatements.{Swap, KeysFirst, LastFirst, MoreTargets, Shadowed, LocalFunctions, GlobalFunctions, Branches, WhileLoop, RepeatLoop, RepeatBreak, Counting, CountingToTheEnd, StepOfZero, Generic, OwnIterator, Cleared, LoopMessages, WalkHandlers, LastPlace, ReturnFromLoops, Constructors, Methods, AllStatements}
 
 swap : (g : Global) → Swap g
 unfolding perform digits title_text prefix_of decimal_of numeral_of trimmed digits_of_base read_number_of read_in_base_of views.roll-Block views.roll-Arm views.roll-Function denote.Hole.Carrier.roll denote.Hole.Carrier.hidden rows.hidden-the_row-Stat-3
@@ -77,6 +77,18 @@ cleared : (g : Global) → Cleared g
 unfolding perform digits title_text prefix_of decimal_of numeral_of trimmed digits_of_base read_number_of read_in_base_of views.roll-Block views.roll-Arm views.roll-Function denote.Hole.Carrier.roll denote.Hole.Carrier.hidden rows.hidden-the_row-Stat-3
 cleared g = refl
 
+loop_messages : (g : Global) → LoopMessages g
+unfolding perform digits title_text prefix_of decimal_of numeral_of trimmed digits_of_base read_number_of read_in_base_of views.roll-Block views.roll-Arm views.roll-Function denote.Hole.Carrier.roll denote.Hole.Carrier.hidden rows.hidden-the_row-Stat-3
+loop_messages g = refl
+
+walk_handlers : (g : Global) → WalkHandlers g
+unfolding perform digits title_text prefix_of decimal_of numeral_of trimmed digits_of_base read_number_of read_in_base_of views.roll-Block views.roll-Arm views.roll-Function denote.Hole.Carrier.roll denote.Hole.Carrier.hidden rows.hidden-the_row-Stat-3
+walk_handlers g = refl
+
+last_place : (g : Global) → LastPlace g
+unfolding perform digits title_text prefix_of decimal_of numeral_of trimmed digits_of_base read_number_of read_in_base_of views.roll-Block views.roll-Arm views.roll-Function denote.Hole.Carrier.roll denote.Hole.Carrier.hidden rows.hidden-the_row-Stat-3
+last_place g = refl
+
 return_from_loops : (g : Global) → ReturnFromLoops g
 unfolding perform digits title_text prefix_of decimal_of numeral_of trimmed digits_of_base read_number_of read_in_base_of views.roll-Block views.roll-Arm views.roll-Function denote.Hole.Carrier.roll denote.Hole.Carrier.hidden rows.hidden-the_row-Stat-3
 return_from_loops g = refl
@@ -90,4 +102,4 @@ unfolding perform digits title_text prefix_of decimal_of numeral_of trimmed digi
 methods g = refl
 
 pub all_statements : (g : Global) → AllStatements g
-all_statements g = (swap g, keys_first g, last_first g, more_targets g, shadowed g, local_functions g, global_functions g, branches g, while_loop g, repeat_loop g, repeat_break g, counting g, counting_to_the_end g, step_of_zero g, generic g, own_iterator g, cleared g, return_from_loops g, constructors g, methods g)
+all_statements g = (swap g, keys_first g, last_first g, more_targets g, shadowed g, local_functions g, global_functions g, branches g, while_loop g, repeat_loop g, repeat_break g, counting g, counting_to_the_end g, step_of_zero g, generic g, own_iterator g, cleared g, loop_messages g, walk_handlers g, last_place g, return_from_loops g, constructors g, methods g)

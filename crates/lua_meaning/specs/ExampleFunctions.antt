@@ -7,7 +7,7 @@ use Rattle.lua_syntax.specs.declared.UnaryOp.TheVariants as sign
 use Rattle.lua_syntax.specs.declared.ExprKind.TheVariants.{Nil, True, Number, Text, Dots, Function as FunctionExpr, Name, Table}
 use Rattle.lua_syntax.specs.declared.Field.TheVariants.{Item, Pair}
 use Rattle.lua_syntax.specs.declared.StatKind.TheVariants.{Assign, Call as StatCall, While, If, LocalFunction, Local, Return}
-use Rattle.lua_meaning.specs.Trees.{expr, stat, block, arm, function, index, call, binary, unary}
+use Rattle.lua_meaning.specs.Trees.{expr, stat, block, arm, function, index, call, method, binary, unary, paren}
 use Rattle.lua_meaning.specs.Trial.{Gives, ended, invoked}
 
 module _ (g : Global) where
@@ -215,6 +215,29 @@ module _ (g : Global) where
   abbrev pub ToText : Type 0
   ToText = ended (invoked (codes "X") 118 to_text 6000) ≡ Gives (codes "T!T") 0
 
+  -- What `__tostring` gives must be a string.
+  --     return {f=function(...)
+  --     local t=setmetatable({},{__tostring=function() return {} end})
+  --     local ok,e = pcall(tostring,t)
+  --     return e..';',select(2,pcall(function() return tostring(t) end))
+  --     end}
+  abbrev pub no_text : Block
+  no_text = block (stat 1 (Return (expr 1 (Table (Pair (expr 1 (Text (codes "f"))) (expr 1 (FunctionExpr (function ([]) true (block (stat 2 (Local ((codes "t") ∷ []) (call g 2 (expr 2 (Name (codes "setmetatable"))) (expr 2 (Table ([])) ∷ expr 2 (Table (Pair (expr 2 (Text (codes "__tostring"))) (expr 2 (FunctionExpr (function ([]) false (block (stat 2 (Return (expr 2 (Table ([])) ∷ [])) ∷ []))))) ∷ [])) ∷ []) ∷ [])) ∷ stat 3 (Local ((codes "ok") ∷ (codes "e") ∷ []) (call g 3 (expr 3 (Name (codes "pcall"))) (expr 3 (Name (codes "tostring")) ∷ expr 3 (Name (codes "t")) ∷ []) ∷ [])) ∷ stat 4 (Return (binary g 4 op.Concat (expr 4 (Name (codes "e"))) (expr 4 (Text (codes ";"))) ∷ call g 4 (expr 4 (Name (codes "select"))) (expr 4 (Number (pos 2)) ∷ call g 4 (expr 4 (Name (codes "pcall"))) (expr 4 (FunctionExpr (function ([]) false (block (stat 4 (Return (call g 4 (expr 4 (Name (codes "tostring"))) (expr 4 (Name (codes "t")) ∷ []) ∷ [])) ∷ [])))) ∷ []) ∷ []) ∷ [])) ∷ []))))) ∷ [])) ∷ [])) ∷ [])
+
+  abbrev pub NoText : Type 0
+  NoText = ended (invoked (codes "X") 187 no_text 6000) ≡ Gives (codes "'tostring' must return a string;Module:X:4: 'tostring' must return a string") 0
+
+  -- A string is indexed in the table `string`.
+  --     return {f=function(...)
+  --     string.twice=function(s) return s..s end
+  --     return ('ab'):twice(),tostring(('x').none)
+  --     end}
+  abbrev pub methods_of_strings : Block
+  methods_of_strings = block (stat 1 (Return (expr 1 (Table (Pair (expr 1 (Text (codes "f"))) (expr 1 (FunctionExpr (function ([]) true (block (stat 2 (Assign (index g 2 (expr 2 (Name (codes "string"))) (expr 2 (Text (codes "twice"))) ∷ []) (expr 2 (FunctionExpr (function ((codes "s") ∷ []) false (block (stat 2 (Return (binary g 2 op.Concat (expr 2 (Name (codes "s"))) (expr 2 (Name (codes "s"))) ∷ [])) ∷ [])))) ∷ [])) ∷ stat 3 (Return (method g 3 (paren g 3 (expr 3 (Text (codes "ab")))) (codes "twice") ([]) ∷ call g 3 (expr 3 (Name (codes "tostring"))) (index g 3 (paren g 3 (expr 3 (Text (codes "x")))) (expr 3 (Text (codes "none"))) ∷ []) ∷ [])) ∷ []))))) ∷ [])) ∷ [])) ∷ [])
+
+  abbrev pub MethodsOfStrings : Type 0
+  MethodsOfStrings = ended (invoked (codes "X") 112 methods_of_strings 6000) ≡ Gives (codes "ababnil") 0
+
   -- A metatable may be protected.
   --     return {f=function(...)
   --     local t=setmetatable({},{__metatable='no'})
@@ -280,6 +303,8 @@ module _ (g : Global) where
       × EqualHandlers
       × CallHandlers
       × ToText
+      × NoText
+      × MethodsOfStrings
       × ProtectedMetatables
       × GlobalHandlers
       × RawEquality

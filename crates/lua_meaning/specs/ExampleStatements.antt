@@ -224,6 +224,42 @@ module _ (g : Global) where
   abbrev pub Cleared : Type 0
   Cleared = ended (invoked (codes "X") 142 cleared 6000) ≡ Gives (codes "a1c3nil") 0
 
+  -- Messages of loops.
+  --     return {f=function(...)
+  --     local function e(f) local ok,v = pcall(f) return v..';' end
+  --     return e(function() for i={},1 do end end),e(function() for i=1,'x' do end end),e(function() for i=1,2,{} do end end),e(function() for x in nil do end end)
+  --     end}
+  abbrev pub loop_messages : Block
+  loop_messages = block (stat 1 (Return (expr 1 (Table (Pair (expr 1 (Text (codes "f"))) (expr 1 (FunctionExpr (function ([]) true (block (stat 2 (LocalFunction (codes "e") (function ((codes "f") ∷ []) false (block (stat 2 (Local ((codes "ok") ∷ (codes "v") ∷ []) (call g 2 (expr 2 (Name (codes "pcall"))) (expr 2 (Name (codes "f")) ∷ []) ∷ [])) ∷ stat 2 (Return (binary g 2 op.Concat (expr 2 (Name (codes "v"))) (expr 2 (Text (codes ";"))) ∷ [])) ∷ [])))) ∷ stat 3 (Return (call g 3 (expr 3 (Name (codes "e"))) (expr 3 (FunctionExpr (function ([]) false (block (stat 3 (Count (codes "i") (expr 3 (Table ([]))) (expr 3 (Number (pos 1))) None (block ([]))) ∷ [])))) ∷ []) ∷ call g 3 (expr 3 (Name (codes "e"))) (expr 3 (FunctionExpr (function ([]) false (block (stat 3 (Count (codes "i") (expr 3 (Number (pos 1))) (expr 3 (Text (codes "x"))) None (block ([]))) ∷ [])))) ∷ []) ∷ call g 3 (expr 3 (Name (codes "e"))) (expr 3 (FunctionExpr (function ([]) false (block (stat 3 (Count (codes "i") (expr 3 (Number (pos 1))) (expr 3 (Number (pos 2))) (Some (expr 3 (Table ([])))) (block ([]))) ∷ [])))) ∷ []) ∷ call g 3 (expr 3 (Name (codes "e"))) (expr 3 (FunctionExpr (function ([]) false (block (stat 3 (Each ((codes "x") ∷ []) (expr 3 Nil ∷ []) (block ([]))) ∷ [])))) ∷ []) ∷ [])) ∷ []))))) ∷ [])) ∷ [])) ∷ [])
+
+  abbrev pub LoopMessages : Type 0
+  LoopMessages = ended (invoked (codes "X") 244 loop_messages 6000) ≡ Gives (codes "Module:X:3: 'for' initial value must be a number;Module:X:3: 'for' limit must be a number;Module:X:3: 'for' step must be a number;Module:X:3: attempt to call a nil value;") 0
+
+  -- `pairs` and `ipairs` ask `__pairs` and `__ipairs`.
+  --     return {f=function(...)
+  --     local t=setmetatable({},{__pairs=function(t) return next,{k='v'} end,__ipairs=function() return function(s,i) if i<2 then return i+1,i end end,nil,0 end})
+  --     local s=''
+  --     for k,v in pairs(t) do s=s..k..v end
+  --     for i,v in ipairs(t) do s=s..i..v end
+  --     return s
+  --     end}
+  abbrev pub walk_handlers : Block
+  walk_handlers = block (stat 1 (Return (expr 1 (Table (Pair (expr 1 (Text (codes "f"))) (expr 1 (FunctionExpr (function ([]) true (block (stat 2 (Local ((codes "t") ∷ []) (call g 2 (expr 2 (Name (codes "setmetatable"))) (expr 2 (Table ([])) ∷ expr 2 (Table (Pair (expr 2 (Text (codes "__pairs"))) (expr 2 (FunctionExpr (function ((codes "t") ∷ []) false (block (stat 2 (Return (expr 2 (Name (codes "next")) ∷ expr 2 (Table (Pair (expr 2 (Text (codes "k"))) (expr 2 (Text (codes "v"))) ∷ [])) ∷ [])) ∷ []))))) ∷ Pair (expr 2 (Text (codes "__ipairs"))) (expr 2 (FunctionExpr (function ([]) false (block (stat 2 (Return (expr 2 (FunctionExpr (function ((codes "s") ∷ (codes "i") ∷ []) false (block (stat 2 (If (arm (binary g 2 op.Lt (expr 2 (Name (codes "i"))) (expr 2 (Number (pos 2)))) (block (stat 2 (Return (binary g 2 op.Add (expr 2 (Name (codes "i"))) (expr 2 (Number (pos 1))) ∷ expr 2 (Name (codes "i")) ∷ [])) ∷ [])) ∷ []) None) ∷ [])))) ∷ expr 2 Nil ∷ expr 2 (Number (pos 0)) ∷ [])) ∷ []))))) ∷ [])) ∷ []) ∷ [])) ∷ stat 3 (Local ((codes "s") ∷ []) (expr 3 (Text []) ∷ [])) ∷ stat 4 (Each ((codes "k") ∷ (codes "v") ∷ []) (call g 4 (expr 4 (Name (codes "pairs"))) (expr 4 (Name (codes "t")) ∷ []) ∷ []) (block (stat 4 (Assign (expr 4 (Name (codes "s")) ∷ []) (binary g 4 op.Concat (expr 4 (Name (codes "s"))) (binary g 4 op.Concat (expr 4 (Name (codes "k"))) (expr 4 (Name (codes "v")))) ∷ [])) ∷ []))) ∷ stat 5 (Each ((codes "i") ∷ (codes "v") ∷ []) (call g 5 (expr 5 (Name (codes "ipairs"))) (expr 5 (Name (codes "t")) ∷ []) ∷ []) (block (stat 5 (Assign (expr 5 (Name (codes "s")) ∷ []) (binary g 5 op.Concat (expr 5 (Name (codes "s"))) (binary g 5 op.Concat (expr 5 (Name (codes "i"))) (expr 5 (Name (codes "v")))) ∷ [])) ∷ []))) ∷ stat 6 (Return (expr 6 (Name (codes "s")) ∷ [])) ∷ []))))) ∷ [])) ∷ [])) ∷ [])
+
+  abbrev pub WalkHandlers : Type 0
+  WalkHandlers = ended (invoked (codes "X") 278 walk_handlers 6000) ≡ Gives (codes "kv1021") 0
+
+  -- After the last number `ipairs` gives nil.
+  --     return {f=function(...)
+  --     local step=ipairs({})
+  --     return tostring(step({},9223372036854775807))
+  --     end}
+  abbrev pub last_place : Block
+  last_place = block (stat 1 (Return (expr 1 (Table (Pair (expr 1 (Text (codes "f"))) (expr 1 (FunctionExpr (function ([]) true (block (stat 2 (Local ((codes "step") ∷ []) (call g 2 (expr 2 (Name (codes "ipairs"))) (expr 2 (Table ([])) ∷ []) ∷ [])) ∷ stat 3 (Return (call g 3 (expr 3 (Name (codes "tostring"))) (call g 3 (expr 3 (Name (codes "step"))) (expr 3 (Table ([])) ∷ expr 3 (Number (pos 9223372036854775807)) ∷ []) ∷ []) ∷ [])) ∷ []))))) ∷ [])) ∷ [])) ∷ [])
+
+  abbrev pub LastPlace : Type 0
+  LastPlace = ended (invoked (codes "X") 96 last_place 6000) ≡ Gives (codes "nil") 0
+
   -- A `return` leaves all loops.
   --     return {f=function(...)
   --     for i=1,3 do for j=1,3 do if i*j==4 then return i..j end end end
@@ -279,6 +315,9 @@ module _ (g : Global) where
       × Generic
       × OwnIterator
       × Cleared
+      × LoopMessages
+      × WalkHandlers
+      × LastPlace
       × ReturnFromLoops
       × Constructors
       × Methods
