@@ -11,3 +11,4 @@ pub mod Changes
 pub mod Sets
 pub mod Frames
 pub mod Reached
+pub mod Joins
