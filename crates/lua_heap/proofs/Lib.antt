@@ -12,3 +12,4 @@ pub mod Sets
 pub mod Frames
 pub mod Reached
 pub mod Joins
+pub mod Puts
