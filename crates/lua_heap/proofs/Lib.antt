@@ -13,3 +13,4 @@ pub mod Frames
 pub mod Reached
 pub mod Joins
 pub mod Puts
+pub mod Borders
