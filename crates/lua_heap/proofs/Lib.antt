@@ -14,3 +14,4 @@ pub mod Reached
 pub mod Joins
 pub mod Puts
 pub mod Borders
+pub mod Walked

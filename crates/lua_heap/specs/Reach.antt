@@ -118,6 +118,10 @@ module _ {X : Type 0} (names : X → List Ref) where
   pub record IsClosed (S : Set) (s : Heap X) : Type 0 where
     pub there : (r : Ref) → IsTrue (S r) → (a : Obj X) × (look s r ≡ Some a) × AllIn S (obj_names names a)
 
+  -- whatever an object of the heap names is there
+  abbrev pub IsWhole : Heap X → Type 0
+  IsWhole s = IsClosed (is_there s) s
+
   -- WHAT IS REACHED from the roots, through read-only tables too: it is in every closed set that has the roots.
   abbrev pub IsReached : Heap X → List Ref → Ref → Type 0
   IsReached s roots r = (S : Set) → IsClosed S s → AllIn S roots → IsTrue (S r)
