@@ -15,3 +15,4 @@ pub mod Joins
 pub mod Puts
 pub mod Borders
 pub mod Walked
+pub mod Found

@@ -11,35 +11,35 @@ use Rattle.lua_heap.proofs.Sets.{or-left, or-right, or-back, true-or-false, shar
 use Rattle.lua_heap.proofs.Reached.{leads-reached, leads-owned}
 
 -- IN A LIST
-abbrev is_one : Ref → Ref → Bool
+abbrev pub is_one : Ref → Ref → Bool
 is_one p q = elim (same_ref p q) [ inl e ↦ true | inr d ↦ false ]
 
-one-same : (p : Ref) → IsTrue (is_one p p)
+pub one-same : (p : Ref) → IsTrue (is_one p p)
 one-same p = go (same_ref p p)
   where
     go : (c : (p ≡ p) ⊎ (p ≢ p)) → IsTrue (elim c [ inl e ↦ true | inr d ↦ false ])
     go (inl e) = refl
     go (inr d) = absurd (d refl)
 
-one-back : (p q : Ref) → IsTrue (is_one p q) → p ≡ q
+pub one-back : (p q : Ref) → IsTrue (is_one p q) → p ≡ q
 one-back p q h = go (same_ref p q) h
   where
     go : (c : (p ≡ q) ⊎ (p ≢ q)) → IsTrue (elim c [ inl e ↦ true | inr d ↦ false ]) → p ≡ q
     go (inl e) h = e
     go (inr d) h = cc
 
-abbrev is_in : List Ref → Ref → Bool
+abbrev pub is_in : List Ref → Ref → Bool
 is_in [] q = false
 is_in (p ∷ ps) q = is_one p q || is_in ps q
 
-in-contains : (ps : List Ref) (q : Ref) → IsTrue (is_in ps q) → Contains ps q
+pub in-contains : (ps : List Ref) (q : Ref) → IsTrue (is_in ps q) → Contains ps q
 in-contains [] q h = cc
 in-contains (p ∷ ps) q h = elim (or-back (is_one p q) (is_in ps q) h) [
   | inl e ↦ (0, omega arith, one-back p q e)
   | inr e ↦ let c = in-contains ps q e in (suc c.0, (let b : c.0 < length ps = c.1 in omega (arith, b)), c.2)
 ]
 
-contains-in : (ps : List Ref) (q : Ref) → Contains ps q → IsTrue (is_in ps q)
+pub contains-in : (ps : List Ref) (q : Ref) → Contains ps q → IsTrue (is_in ps q)
 contains-in ps q c = go ps c.0 c.1 c.2
   where
     go : (ps : List Ref) (k : ℕ) → k < length ps → slice_index_or ps k q ≡ q → IsTrue (is_in ps q)
@@ -58,7 +58,7 @@ in-right : (ps qs : List Ref) (q : Ref) → IsTrue (is_in qs q) → IsTrue (is_i
 in-right [] qs q h = h
 in-right (p ∷ ps) qs q h = or-right (is_one p q) _ (in-right ps qs q h)
 
-all-in : (ps : List Ref) → AllIn (is_in ps) ps
+pub all-in : (ps : List Ref) → AllIn (is_in ps) ps
 all-in ps = go ps (λ q h. h)
   where
     go : (qs : List Ref) → ((q : Ref) → IsTrue (is_in qs q) → IsTrue (is_in ps q)) → AllIn (is_in ps) qs
@@ -66,7 +66,7 @@ all-in ps = go ps (λ q h. h)
     go (q ∷ qs) f = (f q (or-left (is_one q q) (is_in qs q) (one-same q)), go qs (λ r h. f r (or-right (is_one q r) (is_in qs r) h)))
 
 -- ALL NAMES OF A HEAP
-abbrev numbered : {A : Type 0} → (ℕ → Ref) → List A → List Ref
+abbrev pub numbered : {A : Type 0} → (ℕ → Ref) → List A → List Ref
 numbered f [] = []
 numbered f (x ∷ xs) = f 0 ∷ numbered (λ n. f (suc n)) xs
 
@@ -75,10 +75,10 @@ numbered-in f [] n x e = cc
 numbered-in f (y ∷ xs) zero x e = or-left (is_one (f 0) (f 0)) _ (one-same (f 0))
 numbered-in f (y ∷ xs) (suc n) x e = or-right (is_one (f 0) (f (suc n))) _ (numbered-in (λ n. f (suc n)) xs n x e)
 
-abbrev all_refs : {X : Type 0} → Heap X → List Ref
+abbrev pub all_refs : {X : Type 0} → Heap X → List Ref
 all_refs h = numbered tab h.tables ++ (numbered cel h.cells ++ (numbered clo h.closures ++ numbered mar h.markup))
 
-in-all : {X : Type 0} (h : Heap X) (r : Ref) (a : Obj X) → look h r ≡ Some a → IsTrue (is_in (all_refs h) r)
+pub in-all : {X : Type 0} (h : Heap X) (r : Ref) (a : Obj X) → look h r ≡ Some a → IsTrue (is_in (all_refs h) r)
 in-all h (tab n) a e = let b = of-some_back _ (slice_get h.tables n) a e in in-left (numbered tab h.tables) _ (tab n) (numbered-in tab h.tables n b.0 b.1)
 in-all h (cel n) a e = let b = of-some_back _ (slice_get h.cells n) a e in
     in-right (numbered tab h.tables) _ (cel n) (in-left (numbered cel h.cells) _ (cel n) (numbered-in cel h.cells n b.0 b.1))
@@ -89,15 +89,15 @@ in-all h (mar n) a e = let b = of-some_back _ (slice_get h.markup n) a e in
 
 -- WAYS that go through the given names alone
 module _ (edge : Ref → Ref → Bool) where
-  abbrev way : List Ref → Ref → Ref → Bool
+  abbrev pub way : List Ref → Ref → Ref → Bool
   way [] a b = is_one a b || edge a b
   way (v ∷ vs) a b = way vs a b || (way vs a v && way vs v b)
 
-  and-split : (a b : Bool) → IsTrue (a && b) → IsTrue a × IsTrue b
+  pub and-split : (a b : Bool) → IsTrue (a && b) → IsTrue a × IsTrue b
   and-split true b h = (refl, h)
   and-split false b h = cc
 
-  and-both : (a b : Bool) → IsTrue a → IsTrue b → IsTrue (a && b)
+  pub and-both : (a b : Bool) → IsTrue a → IsTrue b → IsTrue (a && b)
   and-both true b g h = h
   and-both false b g h = cc
 
@@ -105,7 +105,7 @@ module _ (edge : Ref → Ref → Bool) where
   way-edge [] a b h = or-right (is_one a b) (edge a b) h
   way-edge (v ∷ vs) a b h = or-left (way vs a b) _ (way-edge vs a b h)
 
-  way-same : (vs : List Ref) (a : Ref) → IsTrue (way vs a a)
+  pub way-same : (vs : List Ref) (a : Ref) → IsTrue (way vs a a)
   way-same [] a = or-left (is_one a a) (edge a a) (one-same a)
   way-same (v ∷ vs) a = or-left (way vs a a) _ (way-same vs a)
 
@@ -137,7 +137,7 @@ module _ (edge : Ref → Ref → Bool) where
       through x y = or-right (way ws a b) _ (and-both (way ws a w) (way ws w b) x y)
 
   -- whatever is kept by each edge is kept by a way
-  way-keeps : (P : Ref → Type 0) → ((a b : Ref) → P a → IsTrue (edge a b) → P b) → (vs : List Ref) (a b : Ref) → P a → IsTrue (way vs a b) → P b
+  pub way-keeps : (P : Ref → Type 0) → ((a b : Ref) → P a → IsTrue (edge a b) → P b) → (vs : List Ref) (a b : Ref) → P a → IsTrue (way vs a b) → P b
   way-keeps P f [] a b p h = elim (or-back (is_one a b) (edge a b) h) [ inl e ↦ subst P (one-back a b e) p | inr e ↦ f a b p e ]
   way-keeps P f (v ∷ vs) a b p h = elim (or-back (way vs a b) _ h) [
     | inl e ↦ way-keeps P f vs a b p e
@@ -145,25 +145,25 @@ module _ (edge : Ref → Ref → Bool) where
   ]
 
   -- what ways lead to from the roots
-  abbrev found : List Ref → List Ref → Ref → Bool
+  abbrev pub found : List Ref → List Ref → Ref → Bool
   found vs [] r = false
   found vs (q ∷ qs) r = way vs q r || found vs qs r
 
-  found-root : (vs roots : List Ref) (q r : Ref) → IsTrue (is_in roots q) → IsTrue (way vs q r) → IsTrue (found vs roots r)
+  pub found-root : (vs roots : List Ref) (q r : Ref) → IsTrue (is_in roots q) → IsTrue (way vs q r) → IsTrue (found vs roots r)
   found-root vs [] q r i h = cc
   found-root vs (p ∷ ps) q r i h = elim (or-back (is_one p q) (is_in ps q) i) [
     | inl e ↦ or-left (way vs p r) _ (subst (λ x. IsTrue (way vs x r)) (sym (one-back p q e)) h)
     | inr e ↦ or-right (way vs p r) _ (found-root vs ps q r e h)
   ]
 
-  found-back : (vs roots : List Ref) (r : Ref) → IsTrue (found vs roots r) → (q : Ref) × IsTrue (is_in roots q) × IsTrue (way vs q r)
+  pub found-back : (vs roots : List Ref) (r : Ref) → IsTrue (found vs roots r) → (q : Ref) × IsTrue (is_in roots q) × IsTrue (way vs q r)
   found-back vs [] r h = cc
   found-back vs (p ∷ ps) r h = elim (or-back (way vs p r) _ h) [
     | inl e ↦ (p, or-left (is_one p p) _ (one-same p), e)
     | inr e ↦ let b = found-back vs ps r e in (b.0, or-right (is_one p b.0) _ b.1, b.2)
   ]
 
-  found-step : (vs roots : List Ref) (q r : Ref) → IsTrue (is_in vs q) → IsTrue (found vs roots q) → IsTrue (edge q r) → IsTrue (found vs roots r)
+  pub found-step : (vs roots : List Ref) (q r : Ref) → IsTrue (is_in vs q) → IsTrue (found vs roots q) → IsTrue (edge q r) → IsTrue (found vs roots r)
   found-step vs roots q r i h e =
       let b = found-back vs roots q h in
       found-root vs roots b.0 r b.1 (way-joined vs q b.0 r i b.2 (way-edge vs q r e))
