@@ -16,3 +16,5 @@ pub mod Puts
 pub mod Borders
 pub mod Walked
 pub mod Found
+pub mod ObjectLaws
+pub mod StandingLaws

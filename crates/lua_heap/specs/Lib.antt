@@ -5,3 +5,6 @@ pub mod Related
 pub mod Reach
 pub mod Graph
 pub mod Library
+pub mod ValueLaws
+pub mod ObjectLaws
+pub mod StandingLaws

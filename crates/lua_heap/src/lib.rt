@@ -2,3 +2,6 @@
 #![tactic(auto)]
 
 pub mod builtin;
+pub mod content;
+pub mod objects;
+pub mod standing;
