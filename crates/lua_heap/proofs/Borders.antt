@@ -7,7 +7,7 @@ use Rattle.lua_heap.specs.Value.{Value, Nil, Truth, Number, Text, Table, Closure
 use Rattle.lua_heap.specs.Table.{Entries, get, has, border, border_from, IsLeast}
 use Rattle.lua_heap.proofs.Values.{same-true, same-alike}
 
-is-nil : (v : Value) → is_nil v ≡ true → v ≡ Nil
+pub is-nil : (v : Value) → is_nil v ≡ true → v ≡ Nil
 is-nil Nil e = refl
 is-nil (Truth b) e = cc
 is-nil (Number b) e = cc
