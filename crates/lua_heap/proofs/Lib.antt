@@ -23,3 +23,4 @@ pub mod SetLaws
 pub mod FrameLaws
 pub mod ReachLaws
 pub mod GraphLaws
+pub mod LibraryLaws

@@ -13,3 +13,4 @@ pub mod ReachLaws
 pub mod FrameLaws
 pub mod GraphLaws
 pub mod Library
+pub mod LibraryLaws
