@@ -24,3 +24,4 @@ pub mod FrameLaws
 pub mod ReachLaws
 pub mod GraphLaws
 pub mod LibraryLaws
+pub mod ExampleLaws

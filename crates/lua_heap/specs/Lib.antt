@@ -14,3 +14,4 @@ pub mod FrameLaws
 pub mod GraphLaws
 pub mod Library
 pub mod LibraryLaws
+pub mod Examples

@@ -5,6 +5,7 @@ pub mod builtin;
 pub mod closed_sets;
 pub mod content;
 pub mod equality;
+pub mod examples;
 pub mod framing;
 pub mod graphs;
 pub mod library;
