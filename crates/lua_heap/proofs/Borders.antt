@@ -1,11 +1,10 @@
 -- `border` is the least border, and the only one.
-use Rattle.std.proofs.Common.{◌≡◌, ◌≢◌, ℕ, zero, suc, ◌+◌, ◌<◌, ◌≤◌, ℤ, pos, min, Bool, true, false, cond, if◌then◌else◌, List, [], ◌∷◌, length, Option, Some, None, is_some, unwrap_or, refl, sym, ◌∙◌, ap, subst, inl, inr, ◌⊎◌, arith}
+use Rattle.std.proofs.Common.{◌≡◌, ◌≢◌, ℕ, zero, suc, ◌+◌, ◌<◌, ◌≤◌, pos, min, Bool, true, false, cond, if◌then◌else◌, [], ◌∷◌, length, Option, Some, None, is_some, unwrap_or, refl, sym, ◌∙◌, ap, subst, inl, inr, ◌⊎◌, arith}
 use Rattle.std.specs.Map.{lookup}
 use Rattle.std.proofs.Math.Nat.{min-eq_left, min-eq_right, min-le_right}
-use Rattle.lua_table.specs.Entries.{IsLeastBorder, IsBorder}
 use Rattle.lua_heap.specs.Value.{Value, Nil, Truth, Number, Text, Table, Closure, Builtin, Markup, same, is_nil}
 use Rattle.lua_heap.specs.Table.{Entries, get, has, border, border_from, IsLeast}
-use Rattle.lua_heap.proofs.Values.{same-true, same-alike}
+use Rattle.lua_heap.proofs.Values.{same-true}
 
 pub is-nil : (v : Value) → is_nil v ≡ true → v ≡ Nil
 is-nil Nil e = refl
@@ -73,7 +72,7 @@ few_numbers (suc n) es f =
     let l : length (without (Number (pos (suc n))) es) < length es = without-less (Number (pos (suc n))) es (f (suc n) (omega arith) (omega arith)) in
     let r : n ≤ length (without (Number (pos (suc n))) es) =
     few_numbers n (without (Number (pos (suc n))) es) (λ k low high.
-        without-other (Number (pos (suc n))) (Number (pos k)) es (number-apart k (suc n) (omega (arith, high))) ∙ f k low (omega (arith, high))) in
+    without-other (Number (pos (suc n))) (Number (pos k)) es (number-apart k (suc n) (omega (arith, high))) ∙ f k low (omega (arith, high))) in
     omega (arith, l, r)
 
 has-value : (es : Entries) (k : Value) → get es k ≢ Nil → has es k ≡ true
@@ -139,7 +138,7 @@ all_taken es r f e h = go (is_nil (get es (Number (pos (r + 1))))) refl
     go true g = is-nil _ g
     go false g =
         let few : r + 1 ≤ length es = few_numbers (r + 1) es (λ k low high.
-            has-value es (Number (pos k)) (elim (one_more k r high) [ inl x ↦ f k low x | inr x ↦ subst (λ (y : ℕ). get es (Number (pos y)) ≢ Nil) (sym x) (not-nil _ g) ])) in
+        has-value es (Number (pos k)) (elim (one_more k r high) [ inl x ↦ f k low x | inr x ↦ subst (λ (y : ℕ). get es (Number (pos y)) ≢ Nil) (sym x) (not-nil _ g) ])) in
         let w : r ≡ length es = whole in
         absurd (omega (arith, few, w))
 

@@ -1,10 +1,9 @@
 -- The changes of one object, and new objects, done to two heaps at once.
-use Rattle.std.proofs.Common.{◌≡◌, ℕ, Bool, true, false, Some, refl, sym, ◌∙◌, ap, subst}
-use Rattle.lua_table.specs.Entries.{Contents}
-use Rattle.lua_heap.specs.Value.{Value, Nil, Table, Closure, Markup}
+use Rattle.std.proofs.Common.{◌≡◌, ℕ, false, Some, refl, sym, ◌∙◌, subst}
+use Rattle.lua_heap.specs.Value.{Value, Table, Closure, Markup}
 use Rattle.lua_heap.specs.Table.{empty_table}
-use Rattle.lua_heap.specs.Heap.{Closed, MarkupNode, Heap, Ref, tab, cel, clo, mar, Obj, TableObj, CellObj, ClosureObj, MarkupObj, look, add, fresh, put, table_at, with_entry, set_in, set_meta_in, set_cell_in, set_markup_in, new_table, new_cell, new_closure, new_markup, is_shared}
-use Rattle.lua_heap.specs.Related.{Map, Grows, GrowsWith, none, Same, nil, table, closure, markup, SameTable, SameClosed, SameNode, tables, cells, closures, nodes, SameObj, of_table, of_cell, of_markup, Stands, Moved}
+use Rattle.lua_heap.specs.Heap.{Closed, MarkupNode, Heap, Ref, tab, cel, mar, Obj, TableObj, CellObj, ClosureObj, MarkupObj, look, fresh, table_at, with_entry, set_in, set_meta_in, set_cell_in, set_markup_in, new_table, new_cell, new_closure, new_markup, is_shared}
+use Rattle.lua_heap.specs.Related.{Map, GrowsWith, none, Same, nil, table, closure, markup, SameClosed, SameNode, tables, cells, closures, nodes, of_table, of_cell, of_markup, Stands, Moved}
 use Rattle.lua_heap.proofs.Places.{some_back}
 use Rattle.lua_heap.proofs.Entries.{set-related}
 use Rattle.lua_heap.proofs.Steps.{moved-put, moved-add, extend, extend-at, one_to_one}

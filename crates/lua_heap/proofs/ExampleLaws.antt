@@ -1,12 +1,12 @@
 -- The small heaps compute; and what is reached in them is shown by a set, or step by step.
-use Rattle.std.proofs.Common.{◌≡◌, ℕ, zero, suc, pos, Bool, true, false, List, [], ◌∷◌, Option, Some, None, IsTrue, refl, sym, ◌∙◌, ap, subst, arith, ◌<◌}
-use Rattle.std.specs.List.{AllByRecursion, Contains}
+use Rattle.std.proofs.Common.{◌≡◌, zero, suc, true, false, [], ◌∷◌, Some, IsTrue, refl, subst, arith}
 use Rattle.lua_table.specs.Entries.{Contents}
-use Rattle.lua_heap.specs.Value.{Value, Nil, Number, Text, Table}
-use Rattle.lua_heap.specs.Heap.{Heap, Ref, tab, cel, clo, mar, Obj, TableObj, look, table_at, is_shared}
-use Rattle.lua_heap.specs.Related.{Map, none, more, nil, text, table, Stands, SameTable, SameObj, tables}
-use Rattle.lua_heap.specs.Reach.{Set, AllIn, obj_names, shared_at, with_shared, Leads, root, step, IsOwnSet, Own, OwnLeads, own_root}
-use Rattle.lua_heap.specs.Examples.{Cells, names, a, through, forwards, backwards, crossed, SameCells, ValuesDiffer, KeysKeepTheirPlace, NextPassesCleared, BordersAreLeast, ItselfInItself, CellIsShared, ReachedButNotOwned, MarkupIsNamed, RingIsShifted, StandsCrossed}
+use Rattle.lua_heap.specs.Value.{Value, Table}
+use Rattle.lua_heap.specs.Heap.{Ref, tab, cel, clo, mar, Obj, TableObj, look, table_at, is_shared}
+use Rattle.lua_heap.specs.Related.{Map, none, more, nil, text, table, SameTable, SameObj, tables}
+use Rattle.lua_heap.specs.Reach.{Set, AllIn, obj_names, with_shared, root, step, IsOwnSet, own_root}
+use Rattle.lua_heap.specs.Examples.{Cells, names, a, through, forwards, backwards, crossed, SameCells, ValuesDiffer, KeysKeepTheirPlace, NextPassesCleared, BordersAreLeast, ItselfInItself, CellIsShared, ReachedButNotOwned, MarkupIsNamed, RingIsShifted, StandsCrossed, CellsAreContents}
+use Rattle.lua_heap.proofs.Carried.{cells-carried, cells-image, cells-itself}
 use Rattle.lua_heap.proofs.Places.{some_back}
 use Rattle.lua_heap.proofs.Reached.{leads-reached, leads-owned}
 
@@ -88,3 +88,10 @@ stands_crossed = record { forth = crossed-twice; back = λ q r e. crossed-twice 
     at (cel n) r e = cc
     at (clo n) r e = cc
     at (mar n) r e = cc
+
+pub cells_are_contents : CellsAreContents
+cells_are_contents = (
+  (λ m n S f xs ys e i. cells-carried m n S f xs ys e i),
+  (λ m S f xs ys e. cells-image m S f xs ys e),
+  (λ m S f xs i. cells-itself m S f xs i),
+)

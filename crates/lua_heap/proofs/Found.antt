@@ -1,13 +1,12 @@
 -- What is reached is what steps lead to; what is owned is what steps lead to that enter no read-only table; and each
 -- object is owned or is not, so what isn't owned is outside of some own set.
-use Rattle.std.proofs.Common.{◌≡◌, Bool, true, false, List, [], ◌∷◌, Option, Some, None, IsTrue, is_some, refl, sym, ◌∙◌, ap, subst, inl, inr, ◌⊎◌, ◌||◌, ◌&&◌, not, if◌then◌else◌}
-use Rattle.std.specs.List.{AllByRecursion, Contains}
-use Rattle.lua_heap.specs.Heap.{Heap, Ref, Obj, look, is_shared}
+use Rattle.std.proofs.Common.{◌≡◌, Bool, true, false, List, [], ◌∷◌, Option, Some, None, IsTrue, refl, sym, ◌∙◌, subst, inl, inr, ◌||◌, ◌&&◌, not, if◌then◌else◌}
+use Rattle.lua_heap.specs.Heap.{Heap, Ref, Obj, look}
 use Rattle.lua_heap.specs.Reach.{Set, AllIn, obj_names, is_there, shared_at, with_shared, Frame, IsClosed, IsWhole, IsReached, Leads, root, step, IsOwnSet, Own, OwnLeads, own_root, own_step}
-use Rattle.lua_heap.proofs.Places.{clash, some_back, some-is, is-some}
+use Rattle.lua_heap.proofs.Places.{some_back, is-some}
 use Rattle.lua_heap.proofs.Names.{all-at, all-map}
 use Rattle.lua_heap.proofs.Sets.{or-left, or-right, or-back, true-or-false, shared-look}
-use Rattle.lua_heap.proofs.Walked.{is_one, is_in, one-same, one-back, in-contains, contains-in, all-in, all_refs, in-all, and-split, and-both, way-same, way-keeps, found, found-root, found-back, found-step}
+use Rattle.lua_heap.proofs.Walked.{is_one, is_in, one-back, in-contains, all-in, all_refs, in-all, and-split, and-both, way-same, way-keeps, found, found-root, found-back, found-step}
 
 module _ {X : Type 0} (names : X → List Ref) (s : Heap X) where
   abbrev names_of : Option (Obj X) → List Ref

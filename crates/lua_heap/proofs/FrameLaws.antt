@@ -1,6 +1,7 @@
 -- Frames, as the contracts say it.
 use Rattle.lua_heap.specs.Related.{Map}
-use Rattle.lua_heap.specs.FrameLaws.{LaterIsFrame, LaterStaysInside, FramesCompose, WiderFrames, FrameOfOwn, NeighbourStays, NeighbourIsClosed, NeighboursStayApart, SharedStays, DeepStays}
+use Rattle.lua_heap.specs.FrameLaws.{LaterIsFrame, LaterStaysInside, NewIsAdded, FramesCompose, WiderFrames, FrameOfOwn, NeighbourStays, NeighbourIsClosed, NeighboursStayApart, SharedStays, DeepStays}
+use Rattle.lua_heap.proofs.Sets.{with-old, with-made, with-back}
 use Rattle.lua_heap.proofs.Frames.{frame-later, inside-later, frame-then, frame-wider, frame-own, neighbour, neighbour-closed, apart-new, shared-stays, deep-stays}
 
 module _ {X Y : Type 0} (R : Map → X → Y → Type 0) where
@@ -11,6 +12,9 @@ module _ {X Y : Type 0} (R : Map → X → Y → Type 0) where
   later_stays_inside S m n h i s t inside l st = inside-later R S m n h i s t inside l st
 
 module _ {X : Type 0} where
+  pub new_is_added : NewIsAdded X
+  new_is_added S s t r = ((λ h. with-old S s t r h), (λ b e f. with-made S s t r b e f), (λ h. with-back S s t r h))
+
   pub frames_compose : FramesCompose X
   frames_compose S s t u f g = frame-then S s t u f g
 

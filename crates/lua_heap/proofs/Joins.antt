@@ -1,15 +1,14 @@
 -- A graph joins a heap: its tables stand behind those of the heap, and in the store where they stood.
-use Rattle.std.proofs.Common.{◌≡◌, ℕ, zero, suc, ◌+◌, ◌<◌, Bool, true, false, List, [], ◌∷◌, ◌++◌, length, Option, Some, None, IsTrue, refl, sym, ◌∙◌, ap, subst, inl, inr, ◌⊎◌, arith, slice_get, map, ◌||◌}
+use Rattle.std.proofs.Common.{◌≡◌, ℕ, ◌+◌, Bool, true, false, length, Option, Some, None, IsTrue, refl, sym, ◌∙◌, ap, subst, inl, inr, ◌⊎◌, arith, slice_get, map}
 use Rattle.std.proofs.lemmas.Option.{slice_get_within}
 use Rattle.std.specs.Option.{option_map}
-use Rattle.lua_table.specs.Entries.{Contents}
-use Rattle.lua_heap.specs.Value.{Value, Nil, Table}
+use Rattle.lua_heap.specs.Value.{Value, Table}
 use Rattle.lua_heap.specs.Table.{Entries}
-use Rattle.lua_heap.specs.Heap.{Heap, Ref, tab, cel, clo, mar, Obj, TableObj, CellObj, ClosureObj, MarkupObj, look}
-use Rattle.lua_heap.specs.Related.{Map, Grows, GrowsWith, Same, nil, truth, number, text, table, closure, builtin, markup, Each, none, more, SameEntry, SameEntries, SameObj, tables, cells, closures, nodes, Stands}
-use Rattle.lua_heap.specs.Reach.{Set, union}
-use Rattle.lua_heap.specs.Graph.{Graph, node_table, graph_tables, graph_heap, NoFunctions, shift, shift_entries, join, joined_root, IsKept, IsJoined}
-use Rattle.lua_heap.proofs.Places.{part, part-some, part-add, part-below, get-part, get-first, get-map, clash, some_back, of-some, of-some_back, of-none}
+use Rattle.lua_heap.specs.Heap.{Heap, Ref, tab, cel, clo, mar, Obj, TableObj, look}
+use Rattle.lua_heap.specs.Related.{Map, GrowsWith, Same, nil, truth, number, text, table, closure, builtin, markup, none, more, SameEntries, SameObj, tables, Stands}
+use Rattle.lua_heap.specs.Reach.{Set}
+use Rattle.lua_heap.specs.Graph.{Graph, node_table, graph_tables, graph_heap, NoFunctions, shift, shift_entries, join, IsKept, IsJoined}
+use Rattle.lua_heap.proofs.Places.{part, part-some, part-add, part-below, get-part, get-first, get-map, clash, of-some_back}
 use Rattle.lua_heap.proofs.Carried.{obj-grows}
 use Rattle.lua_heap.proofs.Sets.{or-left, or-right}
 

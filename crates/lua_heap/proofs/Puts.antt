@@ -1,20 +1,18 @@
 -- A graph stands in the heap that took in its tables; read-only tables that were taken in are kept.
 use Rattle.std.proofs.Common.{◌≡◌, ℕ, zero, suc, ◌+◌, ◌<◌, ◌≤◌, Bool, true, false, List, [], ◌∷◌, ◌++◌, length, Option, Some, None, IsTrue, refl, sym, ◌∙◌, ap, subst, inl, inr, ◌⊎◌, arith, slice_get, map, is_some}
-use Rattle.std.proofs.lemmas.Option.{slice_get_within, slice_get_past}
+use Rattle.std.proofs.lemmas.Option.{slice_get_past}
 use Rattle.std.specs.Option.{option_map}
 use Rattle.std.specs.List.{AllByRecursion, flat_map}
-use Rattle.lua_table.specs.Entries.{Contents}
 use Rattle.lua_heap.specs.Value.{Value, Nil, Truth, Number, Text, Table, Closure, Builtin, Markup}
 use Rattle.lua_heap.specs.Table.{Entries}
-use Rattle.lua_heap.specs.Heap.{Heap, Ref, tab, cel, clo, mar, Obj, TableObj, look, is_shared, IsShared}
-use Rattle.lua_heap.specs.Related.{Map, Same, nil, truth, number, text, table, Each, none, more, SameEntry, SameEntries, SameObj, tables, Stands}
-use Rattle.lua_heap.specs.Reach.{Set, AllIn, value_names, entry_names, table_names, obj_names, nowhere, is_there, shared_at, image, with_new, Frame, IsDeep}
+use Rattle.lua_heap.specs.Heap.{Heap, Ref, tab, cel, clo, mar, Obj, TableObj, look, IsShared}
+use Rattle.lua_heap.specs.Related.{Map, Same, nil, truth, number, text, table, none, more, SameEntries, SameObj, tables, Stands}
+use Rattle.lua_heap.specs.Reach.{Set, AllIn, value_names, entry_names, obj_names, is_there, shared_at, image, with_new, Frame, IsDeep}
 use Rattle.lua_heap.specs.Graph.{Graph, node_table, graph_tables, graph_heap, NoFunctions, IsKey, IsItem, IsDatum, IsGraph, shift, shift_entries, join, joined_root, IsPut, IsKept}
-use Rattle.lua_heap.proofs.Places.{part, part-some, part-add, clash, some_back, some-is, is-some, of-some, of-some_back, of-none, get-first, get-part, get-map}
+use Rattle.lua_heap.proofs.Places.{part, part-some, part-add, clash, some_back, some-is, is-some, of-some_back, of-none, get-first, get-part, get-map}
 use Rattle.lua_heap.proofs.Names.{all-map, all-join}
-use Rattle.lua_heap.proofs.Joins.{joined_tables, graph_table, graph_back, look-joined, look-first}
+use Rattle.lua_heap.proofs.Joins.{graph_table, graph_back, look-joined, look-first}
 use Rattle.lua_heap.proofs.Sets.{stands-frame, shared-is, shared-back, image-at, image-back, with-false}
-use Rattle.lua_heap.proofs.Frames.{shared-stays}
 
 abbrev pick : Option Entries → Ref → Option Ref
 pick None r = None

@@ -1,11 +1,10 @@
 -- What is reached, and what is owned.
-use Rattle.std.proofs.Common.{◌≡◌, Bool, true, false, List, Option, Some, None, IsTrue, refl, sym, ◌∙◌, ap, subst, inl, inr, ◌⊎◌, ◌||◌, if◌then◌else◌}
-use Rattle.std.specs.List.{AllByRecursion}
-use Rattle.lua_heap.specs.Heap.{Heap, Ref, Obj, look, is_shared, IsShared}
+use Rattle.std.proofs.Common.{◌≡◌, Bool, true, false, List, IsTrue, refl, sym, ◌∙◌, subst, inl, inr, ◌||◌, if◌then◌else◌}
+use Rattle.lua_heap.specs.Heap.{Heap, Ref}
 use Rattle.lua_heap.specs.Reach.{Set, AllIn, obj_names, shared_at, with_shared, without_shared, IsClosed, IsReached, Leads, root, step, IsOwnSet, Own, OwnLeads, own_root, own_step, IsDeep}
-use Rattle.lua_heap.proofs.Places.{clash, some_back}
+use Rattle.lua_heap.proofs.Places.{some_back}
 use Rattle.lua_heap.proofs.Names.{all-map, all-at}
-use Rattle.lua_heap.proofs.Sets.{or-left, or-right, or-back, true-or-false, shared-is, shared-back, shared-look}
+use Rattle.lua_heap.proofs.Sets.{or-left, or-right, or-back, shared-back, shared-look}
 
 module _ {X : Type 0} (names : X → List Ref) where
   -- what steps lead to is reached

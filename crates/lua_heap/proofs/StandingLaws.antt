@@ -1,6 +1,6 @@
 -- What stands for an object, as the contracts say it.
-use Rattle.std.proofs.Common.{Option, Some, None}
-use Rattle.lua_heap.specs.Value.{Value, Nil, same}
+use Rattle.std.proofs.Common.{Option}
+use Rattle.lua_heap.specs.Value.{Nil, same}
 use Rattle.lua_heap.specs.Table.{ValueStop}
 use Rattle.lua_heap.specs.Related.{Map, SameOption, neither, both, Same}
 use Rattle.lua_heap.specs.StandingLaws.{TableStands, CellStands, ClosureStands, MarkupStands, StandsOneToOne, ObjectsGrow, SameIsSame, GetStands, HasStands, SetStands, SameStop, NextStands, BorderStands}

@@ -1,7 +1,7 @@
 -- WHAT A STEP DOES TO TWO HEAPS AT ONCE: nothing, a replaced object, an added object, or one step and then another.
-use Rattle.std.proofs.Common.{◌≡◌, ◌≢◌, Bool, true, false, Option, Some, None, refl, sym, ◌∙◌, ap, subst, inl, inr, ◌⊎◌}
+use Rattle.std.proofs.Common.{◌≡◌, ◌≢◌, false, Option, Some, None, refl, sym, ◌∙◌, ap, subst, inl, inr, ◌⊎◌}
 use Rattle.lua_heap.specs.Heap.{Heap, Ref, Obj, look, add, fresh, put, is_shared, IsShared}
-use Rattle.lua_heap.specs.Related.{Map, Grows, GrowsWith, SameObj, tables, cells, closures, nodes, Stands, Later, Fits, of_table, of_cell, of_closure, of_markup, KeepsPrivate, Moved}
+use Rattle.lua_heap.specs.Related.{Map, GrowsWith, SameObj, tables, cells, closures, nodes, Stands, Later, Fits, of_table, of_cell, of_closure, of_markup, KeepsPrivate, Moved}
 use Rattle.lua_heap.proofs.Places.{clash, some_back, gone}
 use Rattle.lua_heap.proofs.LookLaws.{look-old, look-new, look-fresh, look-put, look-put_other, look-fits, look-back, same_ref}
 use Rattle.lua_heap.proofs.Carried.{obj-grows}

@@ -1,7 +1,7 @@
 -- The laws of values and borders, as their contracts say them.
-use Rattle.std.proofs.Common.{◌≡◌, true, refl, ap}
+use Rattle.std.proofs.Common.{ap}
 use Rattle.std.specs.Cmp.{IsEquivalence}
-use Rattle.lua_heap.specs.Value.{Value, Nil, same, is_nil}
+use Rattle.lua_heap.specs.Value.{same, is_nil}
 use Rattle.lua_heap.specs.ValueLaws.{SameDecides, NilDecides, BorderIsLeast, BorderIsOnly}
 use Rattle.lua_heap.proofs.Values.{same_decides, same_equiv}
 use Rattle.lua_heap.proofs.Borders.{is-nil, border_is_least, border_is_only}

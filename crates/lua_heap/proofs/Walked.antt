@@ -1,14 +1,11 @@
 -- What is reached can be told: a search over the objects of a heap finds it. So it is the same as what steps lead to.
-use Rattle.std.proofs.Common.{◌≡◌, ◌≢◌, ℕ, zero, suc, ◌<◌, Bool, true, false, List, [], ◌∷◌, ◌++◌, length, map, Option, Some, None, IsTrue, is_some, refl, sym, ◌∙◌, ap, subst, inl, inr, ◌⊎◌, arith, ◌||◌, ◌&&◌, not, slice_get, slice_index_or}
-use Rattle.std.specs.Option.{option_map}
-use Rattle.std.specs.List.{AllByRecursion, Contains}
-use Rattle.lua_heap.specs.Heap.{Heap, Ref, tab, cel, clo, mar, Obj, look, is_shared}
-use Rattle.lua_heap.specs.Reach.{Set, AllIn, obj_names, is_there, shared_at, with_shared, Frame, IsClosed, IsWhole, IsReached, Leads, root, step, IsOwnSet, Own, OwnLeads, own_root, own_step}
-use Rattle.lua_heap.proofs.Places.{clash, some_back, some-is, is-some, of-some_back}
+use Rattle.std.proofs.Common.{◌≡◌, ◌≢◌, ℕ, zero, suc, ◌<◌, Bool, true, false, List, [], ◌∷◌, ◌++◌, length, Some, IsTrue, refl, sym, subst, inl, inr, ◌⊎◌, arith, ◌||◌, ◌&&◌, slice_get, slice_index_or}
+use Rattle.std.specs.List.{Contains}
+use Rattle.lua_heap.specs.Heap.{Heap, Ref, tab, cel, clo, mar, Obj, look}
+use Rattle.lua_heap.specs.Reach.{AllIn}
+use Rattle.lua_heap.proofs.Places.{of-some_back}
 use Rattle.lua_heap.proofs.LookLaws.{same_ref}
-use Rattle.lua_heap.proofs.Names.{all-at, all-any}
-use Rattle.lua_heap.proofs.Sets.{or-left, or-right, or-back, true-or-false, shared-look}
-use Rattle.lua_heap.proofs.Reached.{leads-reached, leads-owned}
+use Rattle.lua_heap.proofs.Sets.{or-left, or-right, or-back}
 
 -- IN A LIST
 abbrev pub is_one : Ref → Ref → Bool

@@ -1,12 +1,11 @@
 -- SMALL HEAPS, with what is true of them worked out by hand. A function holds the list of its cells.
-use Rattle.std.specs.Prelude.{◌≡◌, ℕ, zero, suc, pos, Bool, true, false, List, [], ◌∷◌, map, Option, Some, None, IsTrue}
-use Rattle.lua_table.specs.Entries.{Contents}
-use Rattle.lua_heap.specs.Value.{Value, Nil, Truth, Number, Text, Table, Closure, Builtin, Markup, same}
+use Rattle.std.specs.Prelude.{◌≡◌, ℕ, zero, suc, pos, true, false, List, [], ◌∷◌, map, Option, Some, None}
+use Rattle.lua_heap.specs.Value.{Value, Nil, Truth, Number, Text, Table, Closure, Builtin, same}
 use Rattle.lua_heap.specs.Table.{Entries, get, has, set, next, border}
-use Rattle.lua_heap.specs.Heap.{Closed, Function, Iterator, MarkupStyle, Item, StyleText, ChildText, ChildNode, MarkupNode, Heap, empty, Ref, tab, cel, clo, mar, Obj, TableObj, CellObj, look, put, table_at, cell_at, closure_at, markup_at, set_in, set_meta_in, freeze_in, set_cell_in, set_markup_in, new_table, new_cell, new_closure, new_markup}
-use Rattle.lua_heap.specs.Related.{Map, Stands}
-use Rattle.lua_heap.specs.Reach.{Set, obj_names, IsReached, Own}
-use Rattle.lua_heap.specs.Graph.{Graph, IsGraph, join, joined_root}
+use Rattle.lua_heap.specs.Heap.{Function, Iterator, ChildText, ChildNode, MarkupNode, Heap, empty, Ref, tab, cel, mar, TableObj, CellObj, look, put, table_at, cell_at, closure_at, markup_at, set_in, set_meta_in, freeze_in, set_cell_in, set_markup_in, new_table, new_cell, new_closure, new_markup}
+use Rattle.lua_heap.specs.Related.{Map, Each, SameCell, Stands}
+use Rattle.lua_heap.specs.Reach.{obj_names, IsReached, Own, LooksAtNames, NamesStand, StandsForItself}
+use Rattle.lua_heap.specs.Graph.{Graph, join, joined_root}
 
 abbrev pub Cells : Type 0
 Cells = List ℕ
@@ -130,7 +129,11 @@ crossed (tab (suc zero)) = Some (tab 0)
 crossed _ = None
 
 abbrev pub SameCells : Map → Cells → Cells → Type 0
-SameCells m as_ bs = as_ ≡ bs
+SameCells m xs ys = Each (SameCell m) xs ys
 
 abbrev pub StandsCrossed : Type 0
 StandsCrossed = Stands SameCells (record { to = crossed; from = crossed }) forwards backwards
+
+-- WHAT SOME LAWS ASK of contents is true of lists of cells
+abbrev pub CellsAreContents : Type 0
+CellsAreContents = LooksAtNames SameCells names × NamesStand SameCells names × StandsForItself SameCells names

@@ -1,8 +1,8 @@
 -- FRAMES: what a call leaves as it was
-use Rattle.std.specs.Prelude.{◌≡◌, List, Option, Some, IsTrue}
+use Rattle.std.specs.Prelude.{◌≡◌, ◌⊎◌, List, Some, None, IsTrue}
 use Rattle.lua_heap.specs.Heap.{Heap, Ref, Obj, look}
 use Rattle.lua_heap.specs.Related.{Map, Stands, Later}
-use Rattle.lua_heap.specs.Reach.{Set, shared_at, with_shared, with_new, MeetShared, Frame, FreezesNone, IsClosed, IsDeep}
+use Rattle.lua_heap.specs.Reach.{Set, is_there, shared_at, with_shared, with_new, MeetShared, Frame, FreezesNone, IsClosed, IsDeep}
 
 module _ {X Y : Type 0} (R : Map → X → Y → Type 0) where
   -- a call that keeps to what stands keeps to each set that has the image, and what stands then is in that set or new
@@ -14,6 +14,12 @@ module _ {X Y : Type 0} (R : Map → X → Y → Type 0) where
       → Later m n h i s t → Stands R n i t → (q r : Ref) → n.to q ≡ Some r → IsTrue (with_new S s t r)
 
 module _ (X : Type 0) where
+  -- a set with what is new has the set, and what is new, and nothing else
+  abbrev pub NewIsAdded : Type 0
+  NewIsAdded = (S : Set) (s t : Heap X) (r : Ref) → (IsTrue (S r) → IsTrue (with_new S s t r))
+      × ((b : Obj X) → look s r ≡ None → look t r ≡ Some b → IsTrue (with_new S s t r))
+      × (IsTrue (with_new S s t r) → IsTrue (S r) ⊎ ((look s r ≡ None) × IsTrue (is_there t r)))
+
   abbrev pub FramesCompose : Type 0
   FramesCompose = (S : Set) (s t u : Heap X) → Frame S s t → Frame (with_new S s t) t u → Frame S s u
 

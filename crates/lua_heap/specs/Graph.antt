@@ -1,9 +1,9 @@
 -- GRAPHS OF DATA: tables that hold truth values, numbers, texts and each other (Scribunto, mw.loadData). The tables are
 -- numbered from 0 within the graph; a heap takes them in as new tables behind its own.
-use Rattle.std.specs.Prelude.{◌≡◌, ℕ, ◌+◌, ◌<◌, Bool, true, false, List, [], ◌++◌, length, map, Some, None, IsTrue, is_some}
+use Rattle.std.specs.Prelude.{◌≡◌, ℕ, ◌+◌, ◌<◌, Bool, true, false, List, ◌++◌, length, map, Some, None, IsTrue, is_some}
 use Rattle.std.specs.List.{AllByRecursion}
 use Rattle.lua_table.specs.Entries.{Contents}
-use Rattle.lua_heap.specs.Value.{Value, Nil, Truth, Number, Text, Table, Closure, Builtin, Markup}
+use Rattle.lua_heap.specs.Value.{Value, Nil, Truth, Number, Text, Table}
 use Rattle.lua_heap.specs.Table.{Entries, HasValueKeys}
 use Rattle.lua_heap.specs.Heap.{Heap, Ref, Obj, look, empty, IsShared}
 use Rattle.lua_heap.specs.Related.{Map, Grows, Same, Stands}

@@ -1,5 +1,5 @@
 -- GRAPHS that are put into a heap, kept there, and joined with another one
-use Rattle.std.specs.Prelude.{◌≡◌, Bool, true, List, Option, Some, IsTrue}
+use Rattle.std.specs.Prelude.{◌≡◌, Bool, true, List, Some, IsTrue}
 use Rattle.lua_heap.specs.Value.{Value}
 use Rattle.lua_heap.specs.Heap.{Heap, Ref, Obj, look}
 use Rattle.lua_heap.specs.Related.{Map, GrowsWith, Stands}

@@ -1,5 +1,5 @@
 -- THE LAWS OF NUMBERS: each function of the library has one, no two share one, and the constants are these numbers.
-use Rattle.std.specs.Prelude.{◌≡◌, ℕ, Option, Some}
+use Rattle.std.specs.Prelude.{◌≡◌, Some}
 use Rattle.lua_heap.specs.Library.{Library, library_at, number_of, BasicAssert, BasicError, BasicGetMetatable, BasicSetMetatable, BasicIpairs, BasicPairs, BasicNext, BasicPcall, BasicXpcall, BasicRawEqual, BasicRawGet, BasicRawSet, BasicSelect, BasicToNumber, BasicToString, BasicType, BasicUnpack, BasicRequire, StringByte, StringChar, StringFind, StringMatch, StringGmatch, StringGsub, StringFormat, StringLen, StringLower, StringUpper, StringRep, StringReverse, StringSub, TableConcat, TableInsert, TableMaxn, TableRemove, TableSort, MathAbs, MathCeil, MathFloor, MathFmod, MathMax, MathMin, MathPow, MwClone, MwLog, MwGetCurrentTitle, MwLoadData, MwGetCurrentFrame, UstringChar, UstringCodepoint, UstringGcodepoint, UstringByteOffset, UstringFind, UstringMatch, UstringGmatch, UstringGsub, UstringLen, UstringSub, UstringIsUtf8, UstringToNfc, UstringToNfd, UstringToNfkc, UstringToNfkd, TextTrim, TextSplit, TextGsplit, TextEncode, TextDecode, TextListToText, TextNowiki, TextTag, TextTruncate, HtmlCreate, HtmlNode, HtmlWikitext, HtmlNewline, HtmlAttr, HtmlAddClass, HtmlCss, HtmlCssText, HtmlTag, HtmlDone, HtmlAllDone, HtmlGetAttr, FrameGetParent, FrameExpandTemplate, FramePreprocess, FrameGetArgument, FrameArgumentPairs, FrameNewChild, FrameGetTitle, FrameExtensionTag, ArgsIndex, ArgumentExpand, StrictIndex, StrictNewIndex, IpairsStep, GmatchStep, UstringGmatchStep, GcodepointStep, GsplitStep}
 use Rattle.lua_heap.specs.declared.builtin.TheConstants.{BASIC_ASSERT, BASIC_ERROR, BASIC_GET_METATABLE, BASIC_SET_METATABLE, BASIC_IPAIRS, BASIC_PAIRS, BASIC_NEXT, BASIC_PCALL, BASIC_XPCALL, BASIC_RAW_EQUAL, BASIC_RAW_GET, BASIC_RAW_SET, BASIC_SELECT, BASIC_TO_NUMBER, BASIC_TO_STRING, BASIC_TYPE, BASIC_UNPACK, BASIC_REQUIRE, STRING_BYTE, STRING_CHAR, STRING_FIND, STRING_MATCH, STRING_GMATCH, STRING_GSUB, STRING_FORMAT, STRING_LEN, STRING_LOWER, STRING_UPPER, STRING_REP, STRING_REVERSE, STRING_SUB, TABLE_CONCAT, TABLE_INSERT, TABLE_MAXN, TABLE_REMOVE, TABLE_SORT, MATH_ABS, MATH_CEIL, MATH_FLOOR, MATH_FMOD, MATH_MAX, MATH_MIN, MATH_POW, MW_CLONE, MW_LOG, MW_GET_CURRENT_TITLE, MW_LOAD_DATA, MW_GET_CURRENT_FRAME, USTRING_CHAR, USTRING_CODEPOINT, USTRING_GCODEPOINT, USTRING_BYTE_OFFSET, USTRING_FIND, USTRING_MATCH, USTRING_GMATCH, USTRING_GSUB, USTRING_LEN, USTRING_SUB, USTRING_IS_UTF8, USTRING_TO_NFC, USTRING_TO_NFD, USTRING_TO_NFKC, USTRING_TO_NFKD, TEXT_TRIM, TEXT_SPLIT, TEXT_GSPLIT, TEXT_ENCODE, TEXT_DECODE, TEXT_LIST_TO_TEXT, TEXT_NOWIKI, TEXT_TAG, TEXT_TRUNCATE, HTML_CREATE, HTML_NODE, HTML_WIKITEXT, HTML_NEWLINE, HTML_ATTR, HTML_ADD_CLASS, HTML_CSS, HTML_CSS_TEXT, HTML_TAG, HTML_DONE, HTML_ALL_DONE, HTML_GET_ATTR, FRAME_GET_PARENT, FRAME_EXPAND_TEMPLATE, FRAME_PREPROCESS, FRAME_GET_ARGUMENT, FRAME_ARGUMENT_PAIRS, FRAME_NEW_CHILD, FRAME_GET_TITLE, FRAME_EXTENSION_TAG, ARGS_INDEX, ARGUMENT_EXPAND, STRICT_INDEX, STRICT_NEW_INDEX, IPAIRS_STEP, GMATCH_STEP, USTRING_GMATCH_STEP, GCODEPOINT_STEP, GSPLIT_STEP}
 

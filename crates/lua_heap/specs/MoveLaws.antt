@@ -1,6 +1,6 @@
 -- WHAT MAY BE DONE TO TWO HEAPS AT ONCE, one of which stands in the other: nothing, an object put or added, a change of
 -- one object, a new object, and one step after another.
-use Rattle.std.specs.Prelude.{◌≡◌, ℕ, Option, Some, None, false}
+use Rattle.std.specs.Prelude.{◌≡◌, ℕ, Some, None, false}
 use Rattle.lua_heap.specs.Value.{Value, Table, Closure, Markup}
 use Rattle.lua_heap.specs.Heap.{Closed, MarkupNode, Heap, Ref, tab, cel, mar, Obj, look, add, fresh, put, table_at, set_in, set_meta_in, set_cell_in, set_markup_in, new_table, new_cell, new_closure, new_markup, is_shared}
 use Rattle.lua_heap.specs.Related.{Map, GrowsWith, Fits, Same, SameClosed, SameNode, SameObj, Stands, Later, Moved}

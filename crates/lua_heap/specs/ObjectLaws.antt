@@ -1,5 +1,5 @@
 -- THE LAWS OF OBJECTS: what is added or put is found, and nothing else changes.
-use Rattle.std.specs.Prelude.{◌≡◌, ◌≢◌, ◌⊎◌, ℕ, Option, Some, None}
+use Rattle.std.specs.Prelude.{◌≡◌, ◌≢◌, ◌⊎◌, Some, None}
 use Rattle.lua_heap.specs.Heap.{Heap, Ref, Obj, look, add, fresh, put}
 use Rattle.lua_heap.specs.Related.{Fits}
 

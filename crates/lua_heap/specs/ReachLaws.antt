@@ -1,5 +1,5 @@
 -- WHAT IS REACHED AND WHAT IS OWNED, in two ways each: as what is in every set of a kind, and as what steps lead to.
-use Rattle.std.specs.Prelude.{◌≡◌, false, List, Option, Some, IsTrue}
+use Rattle.std.specs.Prelude.{◌≡◌, false, List, Some}
 use Rattle.lua_heap.specs.Heap.{Heap, Ref, Obj, look}
 use Rattle.lua_heap.specs.Reach.{Set, AllIn, is_there, shared_at, with_shared, without_shared, Frame, IsClosed, IsWhole, IsReached, Leads, IsOwnSet, Own, OwnLeads, IsDeep}
 

@@ -1,5 +1,5 @@
 -- CLOSED SETS AND WHAT STANDS
-use Rattle.std.specs.Prelude.{◌≡◌, List, Option, Some, IsTrue}
+use Rattle.std.specs.Prelude.{◌≡◌, List, Some, IsTrue}
 use Rattle.lua_heap.specs.Value.{Value}
 use Rattle.lua_heap.specs.Heap.{Heap, Ref, look}
 use Rattle.lua_heap.specs.Related.{Map, Each, Same, Stands}

@@ -1,9 +1,8 @@
 -- WHAT STANDS FOR A TABLE, A CELL, A CLOSURE, A MARKUP OBJECT; and what the calls on tables give on both sides.
-use Rattle.std.specs.Prelude.{◌≡◌, ℕ, Option, Some, None}
-use Rattle.lua_table.specs.Entries.{Contents}
-use Rattle.lua_heap.specs.Value.{Value, Nil, same}
+use Rattle.std.specs.Prelude.{◌≡◌, ℕ, Some}
+use Rattle.lua_heap.specs.Value.{Value, same}
 use Rattle.lua_heap.specs.Table.{Entries, get, has, set, next, border, ValueStop}
-use Rattle.lua_heap.specs.Heap.{Closed, MarkupNode, Heap, Ref, tab, cel, clo, mar, Obj, TableObj, CellObj, MarkupObj, look, table_at, cell_at, closure_at, markup_at}
+use Rattle.lua_heap.specs.Heap.{Closed, Heap, tab, cel, clo, mar, Obj, TableObj, CellObj, MarkupObj, look, table_at, cell_at, closure_at, markup_at}
 use Rattle.lua_heap.specs.Related.{Map, Grows, GrowsWith, SameOption, OneToOne, Same, SameEntries, SameTable, SameClosed, SameNode, SameObj, Stands}
 
 module _ {X Y : Type 0} (R : Map → X → Y → Type 0) where

@@ -1,5 +1,5 @@
 //! Small heaps are what they should be: `Examples` has them, worked out by hand.
-ghost use Rattle.lua_heap.specs.Examples.{ValuesDiffer, KeysKeepTheirPlace, NextPassesCleared, BordersAreLeast, ItselfInItself, CellIsShared, ReachedButNotOwned, MarkupIsNamed, RingIsShifted, StandsCrossed};
+ghost use Rattle.lua_heap.specs.Examples.{ValuesDiffer, KeysKeepTheirPlace, NextPassesCleared, BordersAreLeast, ItselfInItself, CellIsShared, ReachedButNotOwned, MarkupIsNamed, RingIsShifted, StandsCrossed, CellsAreContents};
 
 /// Which values are the same: a text is its bytes.
 #[tactic(auto, using(crate::proofs::ExampleLaws::values_differ))]
@@ -59,4 +59,10 @@ pub fn ring_is_shifted()
 #[tactic(auto, using(crate::proofs::ExampleLaws::stands_crossed))]
 pub fn stands_crossed()
     ensures { StandsCrossed }
+{}
+
+/// Lists of cells are contents: what some laws ask of contents is true of them.
+#[tactic(auto, using(crate::proofs::ExampleLaws::cells_are_contents))]
+pub fn cells_are_contents()
+    ensures { CellsAreContents }
 {}

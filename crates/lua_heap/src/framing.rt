@@ -1,5 +1,5 @@
 //! Frames: what a call leaves as it was.
-ghost use Rattle.lua_heap.specs.FrameLaws.{LaterIsFrame, LaterStaysInside, FramesCompose, WiderFrames, FrameOfOwn, NeighbourStays, NeighbourIsClosed, NeighboursStayApart, SharedStays, DeepStays};
+ghost use Rattle.lua_heap.specs.FrameLaws.{LaterIsFrame, LaterStaysInside, NewIsAdded, FramesCompose, WiderFrames, FrameOfOwn, NeighbourStays, NeighbourIsClosed, NeighboursStayApart, SharedStays, DeepStays};
 
 use crate::content::Content;
 
@@ -12,6 +12,12 @@ pub fn later_is_frame<X: Content<Y>, Y>()
 #[tactic(auto, using(crate::proofs::FrameLaws::later_stays_inside))]
 pub fn later_stays_inside<X: Content<Y>, Y>()
     ensures { LaterStaysInside X.stands_for }
+{}
+
+/// A set with what is new has the set, what is new, and nothing else.
+#[tactic(auto, using(crate::proofs::FrameLaws::new_is_added))]
+pub fn new_is_added<X>()
+    ensures { NewIsAdded X }
 {}
 
 /// One call after another keeps to the set of the first, where the second keeps to that set and what is new.
