@@ -2,7 +2,7 @@
 -- object is owned or is not, so what isn't owned is outside of some own set.
 use Rattle.std.proofs.Common.{◌≡◌, Bool, true, false, List, [], ◌∷◌, Option, Some, None, IsTrue, refl, sym, ◌∙◌, subst, inl, inr, ◌||◌, ◌&&◌, not, if◌then◌else◌}
 use Rattle.lua_heap.specs.Heap.{Heap, Ref, Obj, look}
-use Rattle.lua_heap.specs.Reach.{Set, AllIn, obj_names, is_there, shared_at, with_shared, Frame, IsClosed, IsWhole, IsReached, Leads, root, step, IsOwnSet, Own, OwnLeads, own_root, own_step}
+use Rattle.lua_heap.specs.Reach.{Set, AllIn, obj_names, shared_at, with_shared, Frame, IsClosed, IsReached, Leads, root, step, IsOwnSet, Own, OwnLeads, own_root, own_step}
 use Rattle.lua_heap.proofs.Places.{some_back, is-some}
 use Rattle.lua_heap.proofs.Names.{all-at, all-map}
 use Rattle.lua_heap.proofs.Sets.{or-left, or-right, or-back, true-or-false, shared-look}
@@ -26,29 +26,29 @@ module _ {X : Type 0} (names : X → List Ref) (s : Heap X) where
       go None e h = cc
       go (Some a) e h = (a, e, h)
 
-  -- what is named is there, in a whole heap
-  named-there : IsWhole names s → (q r : Ref) → IsTrue (is_there s q) → IsTrue (edge q r) → IsTrue (is_there s r)
-  named-there whole q r t h =
+  -- what a member of a closed set names is in the set
+  named-in : (U : Set) → IsClosed names U s → (q r : Ref) → IsTrue (U q) → IsTrue (edge q r) → IsTrue (U r)
+  named-in U c q r t h =
       let b = edge-back q r h in
-      let v = whole.there q t in
-      all-at (λ x. IsTrue (is_there s x)) (obj_names names b.0) r (subst (λ o. AllIn (is_there s) (obj_names names o)) (some_back (sym v.1 ∙ b.1)) v.2) (in-contains _ r b.2)
+      let v = c.there q t in
+      all-at (λ x. IsTrue (U x)) (obj_names names b.0) r (subst (λ o. AllIn U (obj_names names o)) (some_back (sym v.1 ∙ b.1)) v.2) (in-contains _ r b.2)
 
   -- REACHED
   abbrev reach : List Ref → Set
   reach roots r = found edge (all_refs s) roots r
 
-  reach-there : IsWhole names s → (roots : List Ref) → AllIn (is_there s) roots → (r : Ref) → IsTrue (reach roots r) → IsTrue (is_there s r)
-  reach-there whole roots i r h =
+  reach-in : (U : Set) → IsClosed names U s → (roots : List Ref) → AllIn U roots → (r : Ref) → IsTrue (reach roots r) → IsTrue (U r)
+  reach-in U c roots i r h =
       let b = found-back edge (all_refs s) roots r h in
-      way-keeps edge (λ x. IsTrue (is_there s x)) (named-there whole) (all_refs s) b.0 r (all-at (λ x. IsTrue (is_there s x)) roots b.0 i (in-contains roots b.0 b.1)) b.2
+      way-keeps edge (λ x. IsTrue (U x)) (named-in U c) (all_refs s) b.0 r (all-at (λ x. IsTrue (U x)) roots b.0 i (in-contains roots b.0 b.1)) b.2
 
   reach-roots : (roots : List Ref) → AllIn (reach roots) roots
   reach-roots roots = all-map (λ q. IsTrue (is_in roots q)) (λ q. IsTrue (reach roots q)) (λ q h. found-root edge (all_refs s) roots q q h (way-same edge (all_refs s) q)) roots (all-in roots)
 
-  reach-closed : IsWhole names s → (roots : List Ref) → AllIn (is_there s) roots → IsClosed names (reach roots) s
-  reach-closed whole roots i = record {
+  reach-closed : (U : Set) → IsClosed names U s → (roots : List Ref) → AllIn U roots → IsClosed names (reach roots) s
+  reach-closed U c roots i = record {
     there = λ r h.
-        let a = is-some (look s r) (reach-there whole roots i r h) in (
+        let a = c.there r (reach-in U c roots i r h) in (
           a.0,
           a.1,
           all-map (λ q. IsTrue (is_in (obj_names names a.0) q)) (λ q. IsTrue (reach roots q)) (λ q g. found-step edge (all_refs s) roots r q (in-all s r a.0 a.1) h (edge-at r q a.0 a.1 g)) (obj_names names a.0) (all-in (obj_names names a.0)),
@@ -60,8 +60,8 @@ module _ {X : Type 0} (names : X → List Ref) (s : Heap X) where
       let b = found-back edge (all_refs s) roots r h in
       way-keeps edge (Leads names s roots) (λ q x l e. let c = edge-back q x e in step q x c.0 l c.1 (in-contains _ x c.2)) (all_refs s) b.0 r (root b.0 (in-contains roots b.0 b.1)) b.2
 
-  pub reached-leads : IsWhole names s → (roots : List Ref) → AllIn (is_there s) roots → (r : Ref) → IsReached names s roots r → Leads names s roots r
-  reached-leads whole roots i r h = reach-leads roots r (h (reach roots) (reach-closed whole roots i) (reach-roots roots))
+  pub reached-leads : (roots : List Ref) (U : Set) → IsClosed names U s → AllIn U roots → (r : Ref) → IsReached names s roots r → Leads names s roots r
+  reached-leads roots U c i r h = reach-leads roots r (h (reach roots) (reach-closed U c roots i) (reach-roots roots))
 
   -- OWNED
   abbrev own_edge : Ref → Ref → Bool
@@ -112,12 +112,25 @@ module _ {X : Type 0} (names : X → List Ref) (s : Heap X) where
   abbrev owned : List Ref → Set
   owned roots r = found own_edge (all_refs s) (plain_of roots) r
 
-  owned-there : IsWhole names s → (roots : List Ref) → AllIn (is_there s) roots → (r : Ref) → IsTrue (owned roots r) → IsTrue (is_there s r) × (shared_at s r ≡ false)
-  owned-there whole roots i r h =
+  in-own : (T : Set) (r : Ref) → IsTrue (with_shared T s r) → shared_at s r ≡ false → IsTrue (T r)
+  in-own T r h n = elim (or-back (T r) (shared_at s r) h) [ inl y ↦ y | inr y ↦ go (shared_at s r) y n ]
+    where
+      go : (b : Bool) → IsTrue b → b ≡ false → IsTrue (T r)
+      go b e f = cc
+
+  -- what a member of an own set names, but for read-only tables, is in the set
+  named-own : (T : Set) → IsOwnSet names T s → (q r : Ref) → IsTrue (T q) → IsTrue (own_edge q r) → IsTrue (T r)
+  named-own T c q r t h =
+      let e = own-edge_back q r h in
+      let b = edge-back q r e.0 in
+      let v = c.there q t in
+      in-own T r (all-at (λ x. IsTrue (with_shared T s x)) (obj_names names b.0) r (subst (λ o. AllIn (with_shared T s) (obj_names names o)) (some_back (sym v.1 ∙ b.1)) v.3) (in-contains _ r b.2)) e.1
+
+  owned-in : (T : Set) → IsOwnSet names T s → (roots : List Ref) → AllIn (with_shared T s) roots → (r : Ref) → IsTrue (owned roots r) → IsTrue (T r)
+  owned-in T c roots i r h =
       let b = found-back own_edge (all_refs s) (plain_of roots) r h in
       let p = plain-back roots b.0 b.1 in
-      way-keeps own_edge (λ x. IsTrue (is_there s x) × (shared_at s x ≡ false)) (λ q x t e. let c = own-edge_back q x e in (named-there whole q x t.0 c.0, c.1)) (all_refs s) b.0 r
-      (all-at (λ x. IsTrue (is_there s x)) roots b.0 i (in-contains roots b.0 p.0), p.1) b.2
+      way-keeps own_edge (λ x. IsTrue (T x)) (named-own T c) (all_refs s) b.0 r (in-own T b.0 (all-at (λ x. IsTrue (with_shared T s x)) roots b.0 i (in-contains roots b.0 p.0)) p.1) b.2
 
   owned-roots : (roots : List Ref) → AllIn (with_shared (owned roots) s) roots
   owned-roots roots = all-map (λ q. IsTrue (is_in roots q)) (λ q. IsTrue (with_shared (owned roots) s q)) at roots (all-in roots)
@@ -128,14 +141,13 @@ module _ {X : Type 0} (names : X → List Ref) (s : Heap X) where
         | inr n ↦ or-left (owned roots q) _ (found-root own_edge (all_refs s) (plain_of roots) q q (plain-in roots q h n) (way-same own_edge (all_refs s) q))
       ]
 
-  owned-set : IsWhole names s → (roots : List Ref) → AllIn (is_there s) roots → IsOwnSet names (owned roots) s
-  owned-set whole roots i = record {
+  owned-set : (T : Set) → IsOwnSet names T s → (roots : List Ref) → AllIn (with_shared T s) roots → IsOwnSet names (owned roots) s
+  owned-set T c roots i = record {
     there = λ r h.
-        let t = owned-there whole roots i r h in
-        let a = is-some (look s r) t.0 in (
+        let a = c.there r (owned-in T c roots i r h) in (
           a.0,
           a.1,
-          sym (shared-look s r a.0 a.1) ∙ t.1,
+          a.2,
           all-map (λ q. IsTrue (is_in (obj_names names a.0) q)) (λ q. IsTrue (with_shared (owned roots) s q)) (at r h a.0 a.1) (obj_names names a.0) (all-in (obj_names names a.0)),
         );
   }
@@ -153,13 +165,13 @@ module _ {X : Type 0} (names : X → List Ref) (s : Heap X) where
       way-keeps own_edge (OwnLeads names s roots) (λ q x l e. let d = own-edge_back q x e in let c = edge-back q x d.0 in own_step q x c.0 l c.1 (in-contains _ x c.2) d.1) (all_refs s) b.0 r
       (own_root b.0 (in-contains roots b.0 p.0) p.1) b.2
 
-  pub owned-leads : IsWhole names s → (roots : List Ref) → AllIn (is_there s) roots → (r : Ref) → Own names s roots r → OwnLeads names s roots r
-  owned-leads whole roots i r h = owned-leads_ roots r (h (owned roots) (owned-set whole roots i) (owned-roots roots))
+  pub owned-leads : (roots : List Ref) (T : Set) → IsOwnSet names T s → AllIn (with_shared T s) roots → (r : Ref) → Own names s roots r → OwnLeads names s roots r
+  owned-leads roots T c i r h = owned-leads_ roots r (h (owned roots) (owned-set T c roots i) (owned-roots roots))
 
   -- WHAT ISN'T OWNED is as it was, after whatever is as it was outside of each own set with the roots
-  pub unowned : IsWhole names s → (roots : List Ref) → AllIn (is_there s) roots → (t : Heap X) → ((T : Set) → IsOwnSet names T s → AllIn (with_shared T s) roots → Frame T s t)
+  pub unowned : (roots : List Ref) (T : Set) → IsOwnSet names T s → AllIn (with_shared T s) roots → (t : Heap X) → ((S : Set) → IsOwnSet names S s → AllIn (with_shared S s) roots → Frame S s t)
       → (r : Ref) (b : Obj X) → look s r ≡ Some b → (OwnLeads names s roots r → ⊥) → look t r ≡ Some b
-  unowned whole roots i t f r b e n = elim (true-or-false (owned roots r)) [
+  unowned roots T c i t f r b e n = elim (true-or-false (owned roots r)) [
     | inl h ↦ absurd (n (owned-leads_ roots r h))
-    | inr h ↦ (f (owned roots) (owned-set whole roots i) (owned-roots roots)).others r b e h
+    | inr h ↦ (f (owned roots) (owned-set T c roots i) (owned-roots roots)).others r b e h
   ]

@@ -8,13 +8,13 @@ module _ {X : Type 0} where
   led_is_reached names s roots r l = leads-reached names s roots r l
 
   pub reached_is_led : ReachedIsLed X
-  reached_is_led names s whole roots i r h = reached-leads names s whole roots i r h
+  reached_is_led names s roots S c i r h = reached-leads names s roots S c i r h
 
   pub own_led_is_owned : OwnLedIsOwned X
   own_led_is_owned names s roots r l = leads-owned names s roots r l
 
   pub owned_is_led : OwnedIsLed X
-  owned_is_led names s whole roots i r h = owned-leads names s whole roots i r h
+  owned_is_led names s roots S c i r h = owned-leads names s roots S c i r h
 
   pub owned_is_reached : OwnedIsReached X
   owned_is_reached names s roots r o = owned-reached names s roots r o
@@ -32,4 +32,4 @@ module _ {X : Type 0} where
   closed_sets_own names S s c = own-closed names S s c
 
   pub unowned_stays : UnownedStays X
-  unowned_stays names s whole roots i t f r b e n = unowned names s whole roots i t f r b e n
+  unowned_stays names s roots S c i t f r b e n = unowned names s roots S c i t f r b e n

@@ -4,24 +4,25 @@ use Rattle.lua_heap.specs.Heap.{Heap, Ref, Obj, look}
 use Rattle.lua_heap.specs.Reach.{Set, AllIn, is_there, shared_at, with_shared, without_shared, Frame, IsClosed, IsWhole, IsReached, Leads, IsOwnSet, Own, OwnLeads, IsDeep}
 
 module _ (X : Type 0) where
+  -- where there is a closed set with the roots, or an own set with them, the two ways say the same
   abbrev pub LedIsReached : Type 0
   LedIsReached = (names : X → List Ref) (s : Heap X) (roots : List Ref) (r : Ref) → Leads names s roots r → IsReached names s roots r
 
   abbrev pub ReachedIsLed : Type 0
-  ReachedIsLed = (names : X → List Ref) (s : Heap X) → IsWhole names s → (roots : List Ref) → AllIn (is_there s) roots → (r : Ref) → IsReached names s roots r → Leads names s roots r
+  ReachedIsLed = (names : X → List Ref) (s : Heap X) (roots : List Ref) (S : Set) → IsClosed names S s → AllIn S roots → (r : Ref) → IsReached names s roots r → Leads names s roots r
 
   abbrev pub OwnLedIsOwned : Type 0
   OwnLedIsOwned = (names : X → List Ref) (s : Heap X) (roots : List Ref) (r : Ref) → OwnLeads names s roots r → Own names s roots r
 
   abbrev pub OwnedIsLed : Type 0
-  OwnedIsLed = (names : X → List Ref) (s : Heap X) → IsWhole names s → (roots : List Ref) → AllIn (is_there s) roots → (r : Ref) → Own names s roots r → OwnLeads names s roots r
+  OwnedIsLed = (names : X → List Ref) (s : Heap X) (roots : List Ref) (S : Set) → IsOwnSet names S s → AllIn (with_shared S s) roots → (r : Ref) → Own names s roots r → OwnLeads names s roots r
 
   -- what is owned is reached, and is no read-only table
   abbrev pub OwnedIsReached : Type 0
   OwnedIsReached = (names : X → List Ref) (s : Heap X) (roots : List Ref) (r : Ref) → Own names s roots r → IsReached names s roots r
 
   abbrev pub OwnedIsNotShared : Type 0
-  OwnedIsNotShared = (names : X → List Ref) (s : Heap X) (roots : List Ref) (r : Ref) → Own names s roots r → (S : Set) → IsClosed names S s → AllIn S roots → shared_at s r ≡ false
+  OwnedIsNotShared = (names : X → List Ref) (s : Heap X) (roots : List Ref) (r : Ref) → Own names s roots r → (S : Set) → IsOwnSet names S s → AllIn (with_shared S s) roots → shared_at s r ≡ false
 
   -- where read-only tables name only such, whatever else is reached is owned
   abbrev pub ReachedIsOwned : Type 0
@@ -36,6 +37,6 @@ module _ (X : Type 0) where
 
   -- WHAT ISN'T OWNED IS AS IT WAS, after a call that keeps to each own set with its roots
   abbrev pub UnownedStays : Type 0
-  UnownedStays = (names : X → List Ref) (s : Heap X) → IsWhole names s → (roots : List Ref) → AllIn (is_there s) roots → (t : Heap X)
+  UnownedStays = (names : X → List Ref) (s : Heap X) (roots : List Ref) (S : Set) → IsOwnSet names S s → AllIn (with_shared S s) roots → (t : Heap X)
       → ((T : Set) → IsOwnSet names T s → AllIn (with_shared T s) roots → Frame T s t)
       → (r : Ref) (b : Obj X) → look s r ≡ Some b → (OwnLeads names s roots r → ⊥) → look t r ≡ Some b

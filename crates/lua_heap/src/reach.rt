@@ -7,7 +7,7 @@ pub fn led_is_reached<X>()
     ensures { LedIsReached X }
 {}
 
-/// Whatever is reached steps lead to, in a heap in which all that is named is there.
+/// Whatever is reached steps lead to, where there is a closed set with the roots.
 #[tactic(auto, using(crate::proofs::ReachLaws::reached_is_led))]
 pub fn reached_is_led<X>()
     ensures { ReachedIsLed X }
@@ -19,7 +19,7 @@ pub fn own_led_is_owned<X>()
     ensures { OwnLedIsOwned X }
 {}
 
-/// Whatever is owned such steps lead to, in a heap in which all that is named is there.
+/// Whatever is owned such steps lead to, where there is an own set with the roots.
 #[tactic(auto, using(crate::proofs::ReachLaws::owned_is_led))]
 pub fn owned_is_led<X>()
     ensures { OwnedIsLed X }
