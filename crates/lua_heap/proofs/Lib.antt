@@ -25,3 +25,4 @@ pub mod ReachLaws
 pub mod GraphLaws
 pub mod LibraryLaws
 pub mod ExampleLaws
+pub mod Wholes

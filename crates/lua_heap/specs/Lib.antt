@@ -15,3 +15,4 @@ pub mod GraphLaws
 pub mod Library
 pub mod LibraryLaws
 pub mod Examples
+pub mod WholeLaws

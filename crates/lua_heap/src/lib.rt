@@ -20,6 +20,7 @@
 //! - `moves`: what may be done to two heaps at once (`MoveLaws`)
 //! - `closed_sets`: closed sets and what stands (`SetLaws`)
 //! - `reach`: what is reached and what is owned (`ReachLaws`)
+//! - `whole`: heaps in which whatever is named is there (`WholeLaws`)
 //! - `framing`: what a call leaves as it was (`FrameLaws`)
 //! - `graphs`: graphs that are put, kept and joined (`GraphLaws`)
 //! - `examples`: the small heaps are what `Examples` says
@@ -40,6 +41,7 @@ pub mod moves;
 pub mod objects;
 pub mod reach;
 pub mod standing;
+pub mod whole;
 
 pub use content::Content;
 

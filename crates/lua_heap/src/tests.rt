@@ -117,6 +117,18 @@ fn laws_of_reach_are_called(_rt: HostRuntime) -> Result<(), Fail> {
 }
 
 #[test]
+fn laws_of_whole_are_called(_rt: HostRuntime) -> Result<(), Fail> {
+    whole::empty_is_whole::<u64>();
+    whole::add_keeps_whole::<u64>();
+    whole::put_keeps_whole::<u64>();
+    whole::set_keeps_whole::<u64>();
+    whole::set_meta_keeps_whole::<u64>();
+    whole::freeze_keeps_whole::<u64>();
+    whole::set_cell_keeps_whole::<u64>();
+    Ok(())
+}
+
+#[test]
 fn laws_of_framing_are_called(_rt: HostRuntime) -> Result<(), Fail> {
     framing::later_is_frame::<u64, u64>();
     framing::later_stays_inside::<u64, u64>();
