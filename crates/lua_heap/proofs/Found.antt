@@ -3,9 +3,9 @@
 use Rattle.std.proofs.Common.{◌≡◌, Bool, true, false, List, [], ◌∷◌, Option, Some, None, IsTrue, refl, sym, ◌∙◌, subst, inl, inr, ◌||◌, ◌&&◌, not, if◌then◌else◌}
 use Rattle.lua_heap.specs.Heap.{Heap, Ref, Obj, look}
 use Rattle.lua_heap.specs.Reach.{Set, AllIn, obj_names, shared_at, with_shared, Frame, IsClosed, IsReached, Leads, root, step, IsOwnSet, Own, OwnLeads, own_root, own_step}
-use Rattle.lua_heap.proofs.Places.{some_back, is-some}
+use Rattle.lua_heap.proofs.Places.{some_back}
 use Rattle.lua_heap.proofs.Names.{all-at, all-map}
-use Rattle.lua_heap.proofs.Sets.{or-left, or-right, or-back, true-or-false, shared-look}
+use Rattle.lua_heap.proofs.Sets.{or-left, or-right, or-back, true-or-false}
 use Rattle.lua_heap.proofs.Walked.{is_one, is_in, one-back, in-contains, all-in, all_refs, in-all, and-split, and-both, way-same, way-keeps, found, found-root, found-back, found-step}
 
 module _ {X : Type 0} (names : X → List Ref) (s : Heap X) where

@@ -1,12 +1,11 @@
 -- Whole heaps stay whole.
-use Rattle.std.proofs.Common.{◌≡◌, ◌≢◌, ℕ, Bool, true, false, cond, List, [], ◌∷◌, ◌++◌, Option, Some, None, IsTrue, is_some, refl, sym, ◌∙◌, ap, subst, inl, inr, ◌⊎◌}
-use Rattle.std.specs.List.{AllByRecursion, flat_map}
-use Rattle.lua_table.specs.Entries.{Contents}
+use Rattle.std.proofs.Common.{◌≡◌, ℕ, Bool, true, false, cond, List, [], ◌∷◌, ◌++◌, Some, IsTrue, is_some, sym, ◌∙◌, ap, subst, inl, inr}
+use Rattle.std.specs.List.{flat_map}
 use Rattle.lua_heap.specs.Value.{Value, Nil, same}
 use Rattle.lua_heap.specs.Table.{Entries, set}
-use Rattle.lua_heap.specs.Heap.{Heap, Ref, tab, cel, clo, mar, Obj, TableObj, CellObj, look, add, put, fresh, empty, table_at, cell_at, with_entry, set_in, set_meta_in, freeze_in, set_cell_in}
+use Rattle.lua_heap.specs.Heap.{Heap, Ref, tab, cel, clo, mar, Obj, TableObj, CellObj, look, add, put, empty, table_at, with_entry}
 use Rattle.lua_heap.specs.Related.{Fits, of_table, of_cell}
-use Rattle.lua_heap.specs.Reach.{Set, AllIn, value_names, entry_names, table_names, obj_names, is_there, IsClosed, IsWhole}
+use Rattle.lua_heap.specs.Reach.{Set, AllIn, value_names, entry_names, table_names, obj_names, is_there, IsWhole}
 use Rattle.lua_heap.specs.WholeLaws.{EmptyIsWhole, AddKeepsWhole, PutKeepsWhole, SetKeepsWhole, SetMetaKeepsWhole, FreezeKeepsWhole, SetCellKeepsWhole}
 use Rattle.lua_heap.proofs.Places.{some_back, some-is, is-some}
 use Rattle.lua_heap.proofs.Names.{all-split, all-join, all-map}

@@ -1,7 +1,7 @@
 -- WHAT IS REACHED AND WHAT IS OWNED, in two ways each: as what is in every set of a kind, and as what steps lead to.
 use Rattle.std.specs.Prelude.{◌≡◌, false, List, Some}
 use Rattle.lua_heap.specs.Heap.{Heap, Ref, Obj, look}
-use Rattle.lua_heap.specs.Reach.{Set, AllIn, is_there, shared_at, with_shared, without_shared, Frame, IsClosed, IsWhole, IsReached, Leads, IsOwnSet, Own, OwnLeads, IsDeep}
+use Rattle.lua_heap.specs.Reach.{Set, AllIn, shared_at, with_shared, without_shared, Frame, IsClosed, IsReached, Leads, IsOwnSet, Own, OwnLeads, IsDeep}
 
 module _ (X : Type 0) where
   -- where there is a closed set with the roots, or an own set with them, the two ways say the same

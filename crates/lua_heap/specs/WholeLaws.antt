@@ -1,9 +1,9 @@
 -- WHOLE HEAPS: whatever is named is there. They stay so by changes and additions that name only what is there.
-use Rattle.std.specs.Prelude.{◌≡◌, ℕ, List, Option, Some, IsTrue}
+use Rattle.std.specs.Prelude.{◌≡◌, ℕ, List, Some, IsTrue}
 use Rattle.lua_heap.specs.Value.{Value}
-use Rattle.lua_heap.specs.Heap.{Heap, Ref, tab, cel, Obj, look, add, put, empty, set_in, set_meta_in, freeze_in, set_cell_in, new_table}
+use Rattle.lua_heap.specs.Heap.{Heap, Ref, tab, cel, Obj, look, add, put, empty, set_in, set_meta_in, freeze_in, set_cell_in}
 use Rattle.lua_heap.specs.Related.{Fits}
-use Rattle.lua_heap.specs.Reach.{AllIn, value_names, obj_names, is_there, IsClosed, IsWhole}
+use Rattle.lua_heap.specs.Reach.{AllIn, value_names, obj_names, is_there, IsWhole}
 
 module _ (X : Type 0) where
   abbrev pub EmptyIsWhole : Type 0

@@ -4,7 +4,7 @@ ghost use Rattle.lua_heap.specs.Heap.{cel};
 
 use crate::{
     Content, builtin, closed_sets, equality, examples, framing, graphs, library, moves, objects,
-    reach, standing,
+    reach, standing, whole,
 };
 use std::test::Fail;
 
