@@ -1,13 +1,12 @@
 -- What stands for a thing under one map stands for it under another that agrees on the names in the thing.
 -- And whatever stands for a thing names only what stands for something.
-use Rattle.std.proofs.Common.{◌≡◌, ℕ, Bool, true, List, [], ◌∷◌, ◌++◌, map, Option, Some, None, IsTrue, refl}
-use Rattle.std.specs.List.{AllByRecursion, flat_map}
+use Rattle.std.proofs.Common.{◌≡◌, ℕ, true, List, [], ◌∷◌, map, Option, Some, None, IsTrue, refl}
+use Rattle.std.specs.List.{flat_map}
 use Rattle.lua_table.specs.Entries.{Contents}
 use Rattle.lua_heap.specs.Value.{Value, Nil, Truth, Number, Text, Table, Closure, Builtin, Markup}
-use Rattle.lua_heap.specs.Table.{Entries}
-use Rattle.lua_heap.specs.Heap.{Closed, Function, Iterator, MarkupChild, ChildText, ChildNode, MarkupNode, Ref, tab, cel, clo, mar, Obj, TableObj, CellObj, ClosureObj, MarkupObj}
-use Rattle.lua_heap.specs.Related.{Map, Grows, Each, none, more, SameOption, neither, both, Same, nil, truth, number, text, table, closure, builtin, markup, SameCell, SameNodeId, SameEntry, SameEntries, SameTable, SameClosed, functions, iterators, SameChild, child_text, child_node, SameNode, SameObj, tables, cells, closures, nodes, GrowsWith}
-use Rattle.lua_heap.specs.Reach.{Set, AllIn, value_names, entry_names, table_names, closed_names, child_names, parent_names, node_names, obj_names, LooksAtNames, NamesStand, StandsForItself}
+use Rattle.lua_heap.specs.Heap.{Function, Iterator, MarkupChild, ChildText, ChildNode, MarkupNode, Ref, cel, Obj, TableObj, CellObj, ClosureObj, MarkupObj}
+use Rattle.lua_heap.specs.Related.{Map, Grows, Each, none, more, SameOption, neither, both, Same, nil, truth, number, text, table, closure, builtin, markup, SameCell, SameNodeId, SameEntry, SameTable, functions, iterators, SameChild, child_text, child_node, SameNode, SameObj, tables, cells, closures, nodes, GrowsWith}
+use Rattle.lua_heap.specs.Reach.{Set, AllIn, value_names, entry_names, table_names, child_names, parent_names, node_names, obj_names, LooksAtNames, NamesStand, StandsForItself}
 use Rattle.lua_heap.proofs.Names.{all-split, all-join, all-any}
 
 pub each-map : {A B : Type 0} (R Q : A → B → Type 0) (xs : List A) (ys : List B) → ((x : A) (y : B) → R x y → Q x y) → Each R xs ys → Each Q xs ys
@@ -57,7 +56,7 @@ module _ (m n : Map) (S : Set) (f : (q r : Ref) → m.to q ≡ Some r → IsTrue
         frozen = t.frozen;
       }
 
-  cells-carried : (cs ds : List ℕ) → Each (SameCell m) cs ds → AllIn S (map cel ds) → Each (SameCell n) cs ds
+  pub cells-carried : (cs ds : List ℕ) → Each (SameCell m) cs ds → AllIn S (map cel ds) → Each (SameCell n) cs ds
   cells-carried _ _ none i = none
   cells-carried _ _ (more c d cs ds e rest) i = more c d cs ds (f _ _ e i.0) (cells-carried cs ds rest i.1)
 
@@ -134,7 +133,7 @@ module _ (m : Map) (S : Set) (f : (q r : Ref) → m.to q ≡ Some r → IsTrue (
   entry-image : (a b : Value × Value) → SameEntry m a b → AllIn S (entry_names b)
   entry-image a b e = all-join (λ r. IsTrue (S r)) (value_names b.0) (value_names b.1) (value-image _ _ e.key) (value-image _ _ e.value)
 
-  cells-image : (cs ds : List ℕ) → Each (SameCell m) cs ds → AllIn S (map cel ds)
+  pub cells-image : (cs ds : List ℕ) → Each (SameCell m) cs ds → AllIn S (map cel ds)
   cells-image _ _ none = tt
   cells-image _ _ (more c d cs ds e rest) = (f _ _ e, cells-image cs ds rest)
 
@@ -175,7 +174,7 @@ module _ (m : Map) (S : Set) (f : (r : Ref) → IsTrue (S r) → m.to r ≡ Some
       let p = all-split (λ r. IsTrue (S r)) (value_names e.0) (value_names e.1) i in
       record { key = value-itself e.0 p.0; value = value-itself e.1 p.1 }
 
-  cells-itself : (cs : List ℕ) → AllIn S (map cel cs) → Each (SameCell m) cs cs
+  pub cells-itself : (cs : List ℕ) → AllIn S (map cel cs) → Each (SameCell m) cs cs
   cells-itself [] i = none
   cells-itself (c ∷ cs) i = more c c cs cs (f _ i.0) (cells-itself cs i.1)
 

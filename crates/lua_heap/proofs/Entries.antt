@@ -1,10 +1,10 @@
 -- Tables that hold the same under a relation of their values: equal keys are found at the same places.
-use Rattle.std.proofs.Common.{◌≡◌, ℕ, zero, suc, ◌+◌, pos, min, Bool, true, false, if◌then◌else◌, List, [], ◌∷◌, length, Option, Some, None, unwrap_or, is_some, refl, sym, ◌∙◌, ap, subst}
+use Rattle.std.proofs.Common.{◌≡◌, ℕ, zero, suc, ◌+◌, pos, min, Bool, true, false, if◌then◌else◌, List, length, Option, Some, unwrap_or, is_some, refl, ◌∙◌, ap, subst}
 use Rattle.std.specs.Option.{option_map}
 use Rattle.std.specs.Map.{lookup}
 use Rattle.lua_table.specs.Entries.{value_at, is_there, set_at, after_key, first_held, Stop}
 use Rattle.lua_heap.specs.Value.{Value, Nil, Number, Table, Closure, Markup, same, is_nil}
-use Rattle.lua_heap.specs.Table.{Entries, get, has, set, behind_key, first_entry, next, border, border_from, ValueStop}
+use Rattle.lua_heap.specs.Table.{Entries, get, has, set, first_entry, next, border, border_from}
 use Rattle.lua_heap.specs.Heap.{Ref, tab, clo, mar}
 use Rattle.lua_heap.specs.Related.{Map, Each, none, more, SameOption, neither, both, SamePair, OneToOne, Same, nil, truth, number, text, table, closure, builtin, markup, SameEntries}
 use Rattle.lua_heap.proofs.Values.{same-true, same-alike, both_ways}
@@ -114,11 +114,11 @@ same-back m _ _ _ o (markup a b e) (markup c b' f) = ap Markup (one (o _ _ _ e f
 pub same-related : (m : Map) → OneToOne m → (a b c d : Value) → Same m a c → Same m b d → same a b ≡ same c d
 same-related m o a b c d p q = both_ways (same a b) (same c d)
     (λ e.
-      let k : c ≡ d = same-one m b c d (subst (λ v. Same m v c) (same-true a b e) p) q in
-      subst (λ v. same c v ≡ true) k (same-alike c))
+    let k : c ≡ d = same-one m b c d (subst (λ v. Same m v c) (same-true a b e) p) q in
+    subst (λ v. same c v ≡ true) k (same-alike c))
     (λ e.
-      let k : a ≡ b = same-back m a b d o (subst (λ v. Same m a v) (same-true c d e) p) q in
-      subst (λ v. same a v ≡ true) k (same-alike a))
+    let k : a ≡ b = same-back m a b d o (subst (λ v. Same m a v) (same-true c d e) p) q in
+    subst (λ v. same a v ≡ true) k (same-alike a))
 
 pub nil-related : (m : Map) (v w : Value) → Same m v w → is_nil v ≡ is_nil w
 nil-related m _ _ nil = refl

@@ -1,12 +1,11 @@
 -- Frames: what a call leaves as it was. They compose; neighbours that meet in read-only tables alone don't notice each other.
-use Rattle.std.proofs.Common.{◌≡◌, Bool, true, false, List, Option, Some, None, IsTrue, refl, sym, ◌∙◌, ap, subst, inl, inr, ◌⊎◌, ◌||◌}
-use Rattle.std.specs.List.{AllByRecursion}
+use Rattle.std.proofs.Common.{◌≡◌, Bool, true, false, List, Some, IsTrue, refl, sym, ◌∙◌, subst, inl, inr}
 use Rattle.lua_heap.specs.Heap.{Heap, Ref, Obj, look, is_shared, IsShared}
 use Rattle.lua_heap.specs.Related.{Map, Stands, Later}
-use Rattle.lua_heap.specs.Reach.{Set, AllIn, obj_names, shared_at, with_shared, with_new, MeetShared, Frame, FreezesNone, IsClosed, IsOwnSet, IsDeep}
+use Rattle.lua_heap.specs.Reach.{Set, obj_names, shared_at, with_shared, with_new, MeetShared, Frame, FreezesNone, IsClosed, IsDeep}
 use Rattle.lua_heap.proofs.Places.{clash, some_back}
 use Rattle.lua_heap.proofs.Names.{all-map}
-use Rattle.lua_heap.proofs.Sets.{or-left, or-right, or-back, or-false, or-both_false, true-or-false, with-old, with-made, with-back, with-false, shared-is, shared-back, shared-look}
+use Rattle.lua_heap.proofs.Sets.{or-both_false, true-or-false, with-old, with-made, with-back, with-false, shared-is, shared-back, shared-look}
 
 apart : {A : Type 0} (b : Bool) → IsTrue b → b ≡ false → A
 apart b e f = cc

@@ -1,6 +1,6 @@
-pub mod Try
 pub mod Values
 pub mod Places
+pub mod Borders
 pub mod LookLaws
 pub mod Names
 pub mod Carried
@@ -11,3 +11,18 @@ pub mod Changes
 pub mod Sets
 pub mod Frames
 pub mod Reached
+pub mod Walked
+pub mod Found
+pub mod Joins
+pub mod Puts
+pub mod ValueLaws
+pub mod ObjectLaws
+pub mod StandingLaws
+pub mod MoveLaws
+pub mod SetLaws
+pub mod FrameLaws
+pub mod ReachLaws
+pub mod GraphLaws
+pub mod LibraryLaws
+pub mod ExampleLaws
+pub mod Wholes

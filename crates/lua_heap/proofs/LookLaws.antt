@@ -1,5 +1,5 @@
 -- The laws of `look`, `add` and `put`, by cases on the kind. Nothing above counts kinds again.
-use Rattle.std.proofs.Common.{◌≡◌, ◌≢◌, ℕ, zero, suc, List, [], ◌∷◌, ◌++◌, length, Option, Some, None, slice_get, slice_set, refl, ◌∙◌, ap, subst, inl, inr, ◌⊎◌}
+use Rattle.std.proofs.Common.{◌≡◌, ◌≢◌, ℕ, zero, suc, List, [], ◌∷◌, ◌++◌, length, Some, None, slice_get, slice_set, refl, ◌∙◌, ap, subst, inl, inr, ◌⊎◌}
 use Rattle.std.specs.Option.{option_map}
 use Rattle.lua_heap.specs.Heap.{Heap, Ref, tab, cel, clo, mar, Obj, TableObj, CellObj, ClosureObj, MarkupObj, look, add, fresh, put}
 use Rattle.lua_heap.specs.Related.{Fits, of_table, of_cell, of_closure, of_markup}

@@ -1,11 +1,10 @@
 -- What is reached, and what is owned.
-use Rattle.std.proofs.Common.{◌≡◌, Bool, true, false, List, Option, Some, None, IsTrue, refl, sym, ◌∙◌, ap, subst, inl, inr, ◌⊎◌, ◌||◌, if◌then◌else◌}
-use Rattle.std.specs.List.{AllByRecursion}
-use Rattle.lua_heap.specs.Heap.{Heap, Ref, Obj, look, is_shared, IsShared}
+use Rattle.std.proofs.Common.{◌≡◌, Bool, true, false, List, IsTrue, refl, sym, ◌∙◌, subst, inl, inr, ◌||◌, if◌then◌else◌}
+use Rattle.lua_heap.specs.Heap.{Heap, Ref}
 use Rattle.lua_heap.specs.Reach.{Set, AllIn, obj_names, shared_at, with_shared, without_shared, IsClosed, IsReached, Leads, root, step, IsOwnSet, Own, OwnLeads, own_root, own_step, IsDeep}
-use Rattle.lua_heap.proofs.Places.{clash, some_back}
+use Rattle.lua_heap.proofs.Places.{some_back}
 use Rattle.lua_heap.proofs.Names.{all-map, all-at}
-use Rattle.lua_heap.proofs.Sets.{or-left, or-right, or-back, true-or-false, shared-is, shared-back, shared-look}
+use Rattle.lua_heap.proofs.Sets.{or-left, or-right, or-back, shared-back, shared-look}
 
 module _ {X : Type 0} (names : X → List Ref) where
   -- what steps lead to is reached
@@ -69,7 +68,7 @@ module _ {X : Type 0} (names : X → List Ref) where
         );
   }
 
-  -- What is owned is reached; and it is no read-only table, where there is a closed set with the roots.
+  -- What is owned is reached; and it is no read-only table, where there is an own set with the roots.
   own-in : (s : Heap X) (roots : List Ref) (r : Ref) → Own names s roots r → (S : Set) → IsClosed names S s → AllIn S roots → IsTrue (S r) × (shared_at s r ≡ false)
   own-in s roots r o S c v =
       without-back S s r (o (without_shared S s) (own-closed S s c) (all-map (λ q. IsTrue (S q)) (λ q. IsTrue (with_shared (without_shared S s) s q)) (without-at S s) roots v))
@@ -77,8 +76,8 @@ module _ {X : Type 0} (names : X → List Ref) where
   pub owned-reached : (s : Heap X) (roots : List Ref) (r : Ref) → Own names s roots r → IsReached names s roots r
   owned-reached s roots r o S c v = (own-in s roots r o S c v).0
 
-  pub owned-plain : (s : Heap X) (roots : List Ref) (r : Ref) → Own names s roots r → (S : Set) → IsClosed names S s → AllIn S roots → shared_at s r ≡ false
-  owned-plain s roots r o S c v = (own-in s roots r o S c v).1
+  pub owned-plain : (s : Heap X) (roots : List Ref) (r : Ref) → Own names s roots r → (T : Set) → IsOwnSet names T s → AllIn (with_shared T s) roots → shared_at s r ≡ false
+  owned-plain s roots r o T c v = let t = c.there r (o T c v) in shared-look s r t.0 t.1 ∙ t.2
 
   -- Where read-only tables name only such, what is reached is owned or a read-only table.
   pub reached-owned : (s : Heap X) (roots : List Ref) (r : Ref) → IsDeep names s → IsReached names s roots r → shared_at s r ≡ false → Own names s roots r

@@ -1,13 +1,12 @@
 -- The image of a map is a closed set; a closed set is a heap that stands in itself; a map may be cut down to a closed
 -- set; and what stands in a heap looks at the image alone.
-use Rattle.std.proofs.Common.{◌≡◌, ℕ, Bool, true, false, List, [], ◌∷◌, Option, Some, None, IsTrue, refl, sym, ◌∙◌, ap, subst, if◌then◌else◌, inl, inr, ◌⊎◌, ◌||◌, ◌&&◌, is_some, is_none}
-use Rattle.std.specs.List.{AllByRecursion}
+use Rattle.std.proofs.Common.{◌≡◌, Bool, true, false, List, Option, Some, None, IsTrue, refl, sym, ◌∙◌, ap, subst, if◌then◌else◌, inl, inr, ◌⊎◌, ◌||◌, ◌&&◌, is_some, is_none}
 use Rattle.lua_heap.specs.Value.{Value}
 use Rattle.lua_heap.specs.Heap.{Heap, Ref, Obj, look, is_shared, IsShared}
-use Rattle.lua_heap.specs.Related.{Map, Each, Same, SameObj, Stands, Later}
-use Rattle.lua_heap.specs.Reach.{Set, AllIn, values_names, obj_names, is_there, shared_object, shared_at, with_shared, with_new, Frame, image, itself, kept_in, cut, IsClosed, LooksAtNames, NamesStand, StandsForItself}
-use Rattle.lua_heap.proofs.Places.{clash, some_back, some-is, is-some}
-use Rattle.lua_heap.proofs.Carried.{obj-carried, obj-image, obj-itself, values-carried, value-carried}
+use Rattle.lua_heap.specs.Related.{Map, Each, Same, Stands}
+use Rattle.lua_heap.specs.Reach.{Set, AllIn, values_names, obj_names, is_there, shared_object, shared_at, with_new, image, itself, kept_in, cut, IsClosed, LooksAtNames, NamesStand, StandsForItself}
+use Rattle.lua_heap.proofs.Places.{some_back, some-is, is-some}
+use Rattle.lua_heap.proofs.Carried.{obj-carried, obj-image, obj-itself, values-carried}
 
 -- EACH NAME TO ITSELF
 pub itself-at : (S : Set) (q : Ref) → IsTrue (S q) → (itself S).to q ≡ Some q

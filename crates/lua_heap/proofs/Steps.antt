@@ -1,7 +1,7 @@
 -- WHAT A STEP DOES TO TWO HEAPS AT ONCE: nothing, a replaced object, an added object, or one step and then another.
-use Rattle.std.proofs.Common.{◌≡◌, ◌≢◌, Bool, true, false, Option, Some, None, refl, sym, ◌∙◌, ap, subst, inl, inr, ◌⊎◌}
+use Rattle.std.proofs.Common.{◌≡◌, ◌≢◌, false, Option, Some, None, refl, sym, ◌∙◌, ap, subst, inl, inr, ◌⊎◌}
 use Rattle.lua_heap.specs.Heap.{Heap, Ref, Obj, look, add, fresh, put, is_shared, IsShared}
-use Rattle.lua_heap.specs.Related.{Map, Grows, GrowsWith, SameObj, tables, cells, closures, nodes, Stands, Later, Fits, of_table, of_cell, of_closure, of_markup, KeepsPrivate, Moved}
+use Rattle.lua_heap.specs.Related.{Map, GrowsWith, SameObj, tables, cells, closures, nodes, Stands, Later, Fits, of_table, of_cell, of_closure, of_markup, KeepsPrivate, Moved}
 use Rattle.lua_heap.proofs.Places.{clash, some_back, gone}
 use Rattle.lua_heap.proofs.LookLaws.{look-old, look-new, look-fresh, look-put, look-put_other, look-fits, look-back, same_ref}
 use Rattle.lua_heap.proofs.Carried.{obj-grows}
@@ -40,7 +40,7 @@ extend-at m q r = pair-at m.to q r
 not_shared : {X : Type 0} {A : Type 0} (o : Obj X) → is_shared o ≡ false → IsShared o → A
 not_shared o e f = cc
 
-module _ {X Y : Type 0} (R : Map → X → Y → Type 0) (up : GrowsWith R) where
+module _ {X Y : Type 0} (R : Map → X → Y → Type 0) where
   -- two names that stand at one name are one
   pub one_to_one : (m : Map) (h : Heap X) (s : Heap Y) → Stands R m h s → (p q r : Ref) → m.to p ≡ Some r → m.to q ≡ Some r → p ≡ q
   one_to_one m h s st p q r e f = some_back (sym (st.forth p r e) ∙ st.forth q r f)
@@ -184,6 +184,42 @@ module _ {X Y : Type 0} (R : Map → X → Y → Type 0) (up : GrowsWith R) wher
     },
   )
 
+  pub private-put : (m : Map) (h : Heap X) (q r : Ref) (o : Obj X) → m.to q ≡ Some r → KeepsPrivate m h (put h q o)
+  private-put m h q r o e x a k f = look-put_other h q x o (λ z. clash (ap m.to z ∙ e) f) ∙ k
+
+  pub private-add : (m : Map) (h : Heap X) (o : Obj X) → KeepsPrivate m h (add h o)
+  private-add m h o x a k f = look-old h o x a k
+
+  pub private-then : (m n : Map) (h i j : Heap X) (s t : Heap Y) → Later m n h i s t → KeepsPrivate m h i → KeepsPrivate n i j → KeepsPrivate m h j
+  private-then m n h i j s t l a b x o k f = b x o (a x o k f) (go (n.to x) refl)
+    where
+      go : (z : Option Ref) → n.to x ≡ z → n.to x ≡ None
+      go None e = e
+      go (Some r) e = elim (l.news x r e) [ inl g ↦ clash g f | inr g ↦ clash k g.0 ]
+
+  -- the same four steps, with all that they keep
+  pub moved-same : (m : Map) (h : Heap X) (s : Heap Y) → Stands R m h s → Moved R m m h h s s
+  moved-same m h s st = record { later = later-same m h s; stands = st; private = λ q a e f. e }
+
+  pub moved-put : (m : Map) (h : Heap X) (s : Heap Y) (q r : Ref) (o : Obj X) (p : Obj Y) → Stands R m h s → m.to q ≡ Some r → Fits q o → SameObj R m o p
+      → is_shared p ≡ false → ((b : Obj Y) → look s r ≡ Some b → is_shared b ≡ false) → Moved R m m h (put h q o) s (put s r p)
+  moved-put m h s q r o p st e f so plain open_ =
+      let b = later-put m h s q r o p st e f so plain open_ in
+      record { later = b.0; stands = b.1; private = private-put m h q r o e }
+
+  pub moved-then : (m n o : Map) (h i j : Heap X) (s t u : Heap Y) → Moved R m n h i s t → Moved R n o i j t u → Moved R m o h j s u
+  moved-then m n o h i j s t u a b = record {
+    later = later-then m n o h i j s t u a.later b.later;
+    stands = b.stands;
+    private = private-then m n h i j s t a.later a.private b.private;
+  }
+
+  pub moved-add_first : (m : Map) (h : Heap X) (s : Heap Y) (o : Obj X) → Stands R m h s → Moved R m m h (add h o) s s
+  moved-add_first m h s o st =
+      let b = later-add_first m h s o st in
+      record { later = b.0; stands = b.1; private = private-add m h o }
+
+module _ {X Y : Type 0} (R : Map → X → Y → Type 0) (up : GrowsWith R) where
   -- an added object
   pub later-add : (m : Map) (h : Heap X) (s : Heap Y) (o : Obj X) (p : Obj Y) → Stands R m h s → SameObj R m o p → is_shared p ≡ false
       → Later m (extend m (fresh h o) (fresh s p)) h (add h o) s (add s p) × Stands R (extend m (fresh h o) (fresh s p)) (add h o) (add s p)
@@ -242,43 +278,8 @@ module _ {X Y : Type 0} (R : Map → X → Y → Type 0) (up : GrowsWith R) wher
       not_image : (x z : Ref) → m.to x ≡ Some z → z ≡ r → ⊥
       not_image x z f e = let v = st.holds x z f in clash (subst (λ w. look s w ≡ Some v.1) e v.3) (look-fresh s p)
 
-  pub private-put : (m : Map) (h : Heap X) (q r : Ref) (o : Obj X) → m.to q ≡ Some r → KeepsPrivate m h (put h q o)
-  private-put m h q r o e x a k f = look-put_other h q x o (λ z. clash (ap m.to z ∙ e) f) ∙ k
-
-  pub private-add : (m : Map) (h : Heap X) (o : Obj X) → KeepsPrivate m h (add h o)
-  private-add m h o x a k f = look-old h o x a k
-
-  pub private-then : (m n : Map) (h i j : Heap X) (s t : Heap Y) → Later m n h i s t → KeepsPrivate m h i → KeepsPrivate n i j → KeepsPrivate m h j
-  private-then m n h i j s t l a b x o k f = b x o (a x o k f) (go (n.to x) refl)
-    where
-      go : (z : Option Ref) → n.to x ≡ z → n.to x ≡ None
-      go None e = e
-      go (Some r) e = elim (l.news x r e) [ inl g ↦ clash g f | inr g ↦ clash k g.0 ]
-
-  -- the same four steps, with all that they keep
-  pub moved-same : (m : Map) (h : Heap X) (s : Heap Y) → Stands R m h s → Moved R m m h h s s
-  moved-same m h s st = record { later = later-same m h s; stands = st; private = λ q a e f. e }
-
-  pub moved-put : (m : Map) (h : Heap X) (s : Heap Y) (q r : Ref) (o : Obj X) (p : Obj Y) → Stands R m h s → m.to q ≡ Some r → Fits q o → SameObj R m o p
-      → is_shared p ≡ false → ((b : Obj Y) → look s r ≡ Some b → is_shared b ≡ false) → Moved R m m h (put h q o) s (put s r p)
-  moved-put m h s q r o p st e f so plain open_ =
-      let b = later-put m h s q r o p st e f so plain open_ in
-      record { later = b.0; stands = b.1; private = private-put m h q r o e }
-
   pub moved-add : (m : Map) (h : Heap X) (s : Heap Y) (o : Obj X) (p : Obj Y) → Stands R m h s → SameObj R m o p → is_shared p ≡ false
       → Moved R m (extend m (fresh h o) (fresh s p)) h (add h o) s (add s p)
   moved-add m h s o p st so plain =
       let b = later-add m h s o p st so plain in
-      record { later = b.0; stands = b.1; private = private-add m h o }
-
-  pub moved-then : (m n o : Map) (h i j : Heap X) (s t u : Heap Y) → Moved R m n h i s t → Moved R n o i j t u → Moved R m o h j s u
-  moved-then m n o h i j s t u a b = record {
-    later = later-then m n o h i j s t u a.later b.later;
-    stands = b.stands;
-    private = private-then m n h i j s t a.later a.private b.private;
-  }
-
-  pub moved-add_first : (m : Map) (h : Heap X) (s : Heap Y) (o : Obj X) → Stands R m h s → Moved R m m h (add h o) s s
-  moved-add_first m h s o st =
-      let b = later-add_first m h s o st in
-      record { later = b.0; stands = b.1; private = private-add m h o }
+      record { later = b.0; stands = b.1; private = private-add R m h o }

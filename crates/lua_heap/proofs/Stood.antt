@@ -1,12 +1,12 @@
 -- What stands for a table, a cell, a closure, a markup object.
-use Rattle.std.proofs.Common.{◌≡◌, ℕ, Option, Some, None, refl, sym, ◌∙◌, ap, subst, slice_get}
+use Rattle.std.proofs.Common.{◌≡◌, ℕ, Some, refl, sym, ◌∙◌, ap, subst, slice_get}
 use Rattle.std.proofs.lemmas.Option.{get_or_from_slice_get}
 use Rattle.lua_table.specs.Entries.{Contents}
 use Rattle.lua_heap.specs.Value.{Value, Nil}
 use Rattle.lua_heap.specs.Table.{empty_table}
 use Rattle.lua_heap.specs.Heap.{Closed, MarkupNode, no_markup, Heap, tab, cel, clo, mar, Obj, TableObj, CellObj, ClosureObj, MarkupObj, look, table_at, cell_at, closure_at, markup_at}
-use Rattle.lua_heap.specs.Related.{Map, SameOption, neither, both, Same, SameTable, SameClosed, SameNode, SameObj, tables, cells, closures, nodes, Stands}
-use Rattle.lua_heap.proofs.Places.{of-some_back, some_back}
+use Rattle.lua_heap.specs.Related.{Map, Same, SameTable, SameClosed, SameNode, SameObj, tables, cells, closures, nodes, Stands}
+use Rattle.lua_heap.proofs.Places.{of-some_back}
 
 -- the readers tell the object that is there
 pub look-table : {X : Type 0} (h : Heap X) (a : ℕ) (o : Obj X) → look h (tab a) ≡ Some o → TableObj (table_at h a) ≡ o

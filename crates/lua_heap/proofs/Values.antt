@@ -1,5 +1,5 @@
 -- `same` decides whether two values are equal.
-use Rattle.std.proofs.Common.{◌≡◌, Bool, true, false, true≢false, refl, sym, ◌∙◌, ap, subst, eqb}
+use Rattle.std.proofs.Common.{◌≡◌, Bool, true, false, refl, sym, ap, subst}
 use Rattle.std.specs.Bool.{Decides}
 use Rattle.std.specs.Cmp.{IsEquivalence, booleans_Decides}
 use Rattle.std.proofs.lemmas.Bool.Decides.{Decides-int_eq, Decides-eqb}

@@ -1,7 +1,7 @@
 -- THE HEAP: tables, cells, closures and markup objects, each kind numbered from 0 in the order in which they are made.
 -- A cell holds the value of one variable that functions share (manual 2.6). What a function holds is a parameter X:
 -- the meaning of Lua has a function's text with its environment there, the store a function's code with its cells.
-use Rattle.std.specs.Prelude.{◌≡◌, ℕ, Bool, true, false, List, [], ◌∷◌, ◌++◌, length, Option, Some, None, slice_get, slice_set, slice_index_or, IsTrue}
+use Rattle.std.specs.Prelude.{ℕ, Bool, true, false, List, [], ◌∷◌, ◌++◌, length, Option, None, slice_get, slice_set, slice_index_or, IsTrue}
 use Rattle.std.specs.Option.{option_map}
 use Rattle.lua_table.specs.Entries.{Contents}
 use Rattle.lua_heap.specs.Value.{Value, Nil}

@@ -1,5 +1,5 @@
 -- THE FUNCTIONS OF THE LIBRARY, by name, and the numbers by which values hold them: the place in this list.
-use Rattle.std.specs.Prelude.{◌≡◌, ℕ, List, [], ◌∷◌, Option, Some, slice_get}
+use Rattle.std.specs.Prelude.{ℕ, List, [], ◌∷◌, Option, slice_get}
 
 pub data Library : Type 0 where
   -- The basic functions (manual 5.1).

@@ -1,10 +1,9 @@
 -- SETS OF OBJECTS OF A HEAP: what objects name, closed sets, what is reached, and what is owned.
 -- `names` gives the objects that a function's content names.
-use Rattle.std.specs.Prelude.{◌≡◌, ℕ, Bool, true, false, List, [], ◌∷◌, ◌++◌, map, Option, Some, None, IsTrue, if◌then◌else◌, ◌||◌, ◌&&◌, is_some, is_none}
+use Rattle.std.specs.Prelude.{◌≡◌, ℕ, Bool, false, List, [], ◌∷◌, ◌++◌, map, Option, Some, None, IsTrue, if◌then◌else◌, ◌||◌, ◌&&◌, is_some, is_none}
 use Rattle.std.specs.List.{AllByRecursion, Contains, flat_map}
 use Rattle.lua_table.specs.Entries.{Contents}
-use Rattle.lua_heap.specs.Value.{Value, Nil, Truth, Number, Text, Table, Closure, Builtin, Markup}
-use Rattle.lua_heap.specs.Table.{Entries}
+use Rattle.lua_heap.specs.Value.{Value, Table, Closure, Markup}
 use Rattle.lua_heap.specs.Related.{Map}
 use Rattle.lua_heap.specs.Heap.{Closed, Function, Iterator, MarkupChild, ChildText, ChildNode, MarkupNode, Heap, Ref, tab, cel, clo, mar, Obj, TableObj, CellObj, ClosureObj, MarkupObj, look, is_shared, IsShared}
 
@@ -117,6 +116,10 @@ module _ {X : Type 0} (names : X → List Ref) where
   -- a set of objects of the heap that holds whatever its objects name
   pub record IsClosed (S : Set) (s : Heap X) : Type 0 where
     pub there : (r : Ref) → IsTrue (S r) → (a : Obj X) × (look s r ≡ Some a) × AllIn S (obj_names names a)
+
+  -- whatever an object of the heap names is there
+  abbrev pub IsWhole : Heap X → Type 0
+  IsWhole s = IsClosed (is_there s) s
 
   -- WHAT IS REACHED from the roots, through read-only tables too: it is in every closed set that has the roots.
   abbrev pub IsReached : Heap X → List Ref → Ref → Type 0

@@ -1,5 +1,5 @@
 -- TABLES OF VALUES (manual 2.2, 2.5.5, 2.5.7 and 5.1): the tables of `lua_table`, at the values of Lua.
-use Rattle.std.specs.Prelude.{◌≡◌, ◌≢◌, ℕ, zero, suc, ◌+◌, pos, min, Bool, false, if◌then◌else◌, List, [], length, Option, Some, None, ◌≤◌}
+use Rattle.std.specs.Prelude.{ℕ, zero, suc, ◌+◌, pos, min, Bool, false, if◌then◌else◌, List, [], length, Option, Some, ◌≤◌}
 use Rattle.std.specs.Option.{option_map}
 use Rattle.lua_table.specs.Entries.{Contents, value_at, is_there, set_at, after_key, first_held, Stop, IsBorder, HasKeys}
 use Rattle.lua_heap.specs.Value.{Value, Nil, Number, same, is_nil}

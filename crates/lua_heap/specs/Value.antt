@@ -1,5 +1,5 @@
 -- THE VALUES OF LUA (manual 2.2). A text is its bytes. An object is known by its number in the heap, a function of the library by its own number.
-use Rattle.std.specs.Prelude.{◌≡◌, ◌↔◌, ℕ, ℤ, Bool, true, false, List, Option, Some, None}
+use Rattle.std.specs.Prelude.{ℕ, ℤ, Bool, true, false, List, Option, Some, None}
 use Rattle.std.specs.Prelude.{eqb, bytes_eq}
 use Rattle.std.specs.Ordering.{int_eq}
 use Rattle.std.proofs.Math.Bool.{beq}
