@@ -1,0 +1,4 @@
+pub mod Whole
+pub mod ValueLaws
+pub mod Seen
+pub mod Parts

@@ -1,0 +1,17 @@
+//! The store of one page: all texts, tables, cells, functions and markup objects that its Lua code makes.
+//!
+//! - `ids`: the names of what stands in a store
+//! - `value`: the values of Lua
+//! - `closure`, `markup`: closures and objects of `mw.html`
+#![tactic(auto)]
+
+pub mod closure;
+pub mod ids;
+pub mod markup;
+pub mod value;
+
+pub use closure::{Closure, ProtoId};
+pub use ids::{CellId, ClosureId, MarkupId, TableId, TextId};
+pub use lua_heap::builtin;
+pub use markup::{MarkupChild, MarkupNode, MarkupStyle, TextPair};
+pub use value::Value;
