@@ -1,3 +1,4 @@
 pub mod Lists
 pub mod EntryMaps
 pub mod Equal
+pub mod Later

@@ -98,13 +98,17 @@ pub record IsNodeOf (s : Held) (n : MarkupNode) : Type 0 where
   pub styles : AllByRecursion (IsStyleOf s) n.styles
   pub children : AllByRecursion (IsChildOf s) n.children
 
+-- whatever is kept names only what the store has
+pub record AreOf (s : Held) (p : Parts) : Type 0 where
+  pub tables : AllByRecursion (IsContentsOf s) p.tables
+  pub cells : AllByRecursion (IsOf s) p.cells
+  pub closures : AllByRecursion (IsContentOf s) p.closures
+  pub markup : AllByRecursion (IsNodeOf s) p.markup
+
 -- no text is kept twice, and whatever is kept names only what is there
 pub record IsWhole (p : Parts) : Type 0 where
   pub distinct : IsDistinct bytes_eq p.texts
-  pub tables : AllByRecursion (IsContentsOf (held p)) p.tables
-  pub cells : AllByRecursion (IsOf (held p)) p.cells
-  pub closures : AllByRecursion (IsContentOf (held p)) p.closures
-  pub markup : AllByRecursion (IsNodeOf (held p)) p.markup
+  pub own : AreOf (held p) p
 
 -- the texts with one more, where it is not among them
 abbrev pub with_text : List (List ℕ) → List ℕ → List (List ℕ)
