@@ -2,3 +2,4 @@ pub mod Lists
 pub mod EntryMaps
 pub mod Equal
 pub mod Later
+pub mod TextLemmas

@@ -1,4 +1,6 @@
 pub mod Whole
 pub mod ValueLaws
 pub mod Seen
+pub mod Envs
 pub mod Parts
+pub mod Texts

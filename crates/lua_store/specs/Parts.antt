@@ -14,6 +14,7 @@ use Rattle.lua_store.specs.declared.markup.MarkupStyle.TheVariants.{Item, Text a
 use Rattle.lua_store.specs.declared.markup.MarkupChild.{MarkupChild}
 use Rattle.lua_store.specs.declared.markup.MarkupChild.TheVariants.{Text as ChildText, Node as ChildNode}
 use Rattle.lua_store.specs.declared.markup.MarkupNode.{MarkupNode}
+use Rattle.lua_store.specs.Envs.{envs_of}
 use Rattle.lua_store.specs.Seen.{Proc, Held, text_at, seen_table, seen, seen_closure, seen_node}
 
 pub record Parts : Type 0 where
@@ -32,7 +33,7 @@ held p = record {
     closures = map (seen_closure p.texts) p.closures;
     markup = map (seen_node p.texts) p.markup;
   };
-  envs = map (λ c. c.env) p.closures;
+  envs = envs_of p.closures;
 }
 
 -- ids of a store

@@ -2,12 +2,14 @@
 //!
 //! - `ids`: the names of what stands in a store
 //! - `value`: the values of Lua
+//! - `texts`: byte strings, each kept once
 //! - `closure`, `markup`: closures and objects of `mw.html`
 #![tactic(auto)]
 
 pub mod closure;
 pub mod ids;
 pub mod markup;
+mod texts;
 pub mod value;
 
 pub use closure::{Closure, ProtoId};
