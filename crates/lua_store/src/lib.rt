@@ -3,10 +3,12 @@
 //! - `ids`: the names of what stands in a store
 //! - `value`: the values of Lua
 //! - `texts`: byte strings, each kept once
-//! - `closure`, `markup`: closures and objects of `mw.html`
+//! - `closure`, `markup`: closures, and objects of `mw.html`
+//! - `closures`: the closures of a store, with the numbers of their invocations
 #![tactic(auto)]
 
 pub mod closure;
+mod closures;
 pub mod ids;
 pub mod markup;
 mod texts;
