@@ -3,3 +3,4 @@ pub mod EntryMaps
 pub mod Equal
 pub mod Later
 pub mod TextLemmas
+pub mod Changes

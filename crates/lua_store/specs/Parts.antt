@@ -1,12 +1,13 @@
 -- WHAT A STORE KEEPS: texts, and objects whose values name a text by its place among the texts.
-use Rattle.std.specs.Prelude.{◌≡◌, ℕ, ◌<◌, ◌≤◌, Bool, List, [], ◌∷◌, ◌++◌, map, length, if◌then◌else◌, Option, Some, None}
+use Rattle.std.specs.Prelude.{◌≡◌, ℕ, ◌<◌, ◌≤◌, Bool, false, List, [], ◌∷◌, ◌++◌, map, length, if◌then◌else◌, Option, Some, None, slice_index_or}
 use Rattle.std.specs.List.{list_any, AllByRecursion, IsDistinct}
 use Rattle.std.specs.Str.{bytes_eq}
-use Rattle.lua_table.specs.Entries.{Contents}
+use Rattle.lua_table.specs.Entries.{Contents, set_at}
 use Rattle.lua_table.specs.declared.table.Step.{Step}
 use Rattle.lua_heap.specs.Heap.{Heap}
 use Rattle.lua_store.specs.declared.value.Value.{Value}
 use Rattle.lua_store.specs.declared.value.Value.TheVariants.{Nil, Bool as Truth, Number, Text, Table, Closure as ClosureValue, Builtin, Markup}
+use Rattle.lua_store.specs.contracts.value.ValuePartialEq.TheImpl.{ghosts}
 use Rattle.lua_store.specs.declared.closure.Closure.{Closure}
 use Rattle.lua_store.specs.declared.markup.TextPair.{TextPair}
 use Rattle.lua_store.specs.declared.markup.MarkupStyle.{MarkupStyle}
@@ -110,6 +111,17 @@ pub record AreOf (s : Held) (p : Parts) : Type 0 where
 pub record IsWhole (p : Parts) : Type 0 where
   pub distinct : IsDistinct bytes_eq p.texts
   pub own : AreOf (held p) p
+
+-- a table without entries
+abbrev pub no_contents : Contents Value
+no_contents = record { entries = []; meta = Nil; frozen = false }
+
+abbrev pub table_in : List (Contents Value) → ℕ → Contents Value
+table_in tables id = slice_index_or tables id no_contents
+
+-- a table after a set
+abbrev pub with_entry : Contents Value → Value → Value → Contents Value
+with_entry t key value = record t { entries = set_at ghosts.eq Nil t.entries key value }
 
 -- the texts with one more, where it is not among them
 abbrev pub with_text : List (List ℕ) → List ℕ → List (List ℕ)
