@@ -196,3 +196,7 @@ module _ (p : Parts) (w : IsWhole p) where
           → Became p (record p { texts = cond b p.texts (p.texts ++ bytes ∷ []) }) (record (held p) { texts = cond b p.texts (p.texts ++ bytes ∷ []) })
       by true h = record { whole = w; shown = refl; later = later-itself (held p) }
       by false h = added_text bytes h
+
+pub whole-nothing : IsWhole (record { texts = []; tables = []; cells = []; closures = []; markup = [] })
+unfolding IsDistinct
+whole-nothing = record { distinct = tt; own = record { tables = tt; cells = tt; closures = tt; markup = tt } }

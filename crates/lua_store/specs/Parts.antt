@@ -4,7 +4,7 @@ use Rattle.std.specs.List.{list_any, AllByRecursion, IsDistinct}
 use Rattle.std.specs.Str.{bytes_eq}
 use Rattle.lua_table.specs.Entries.{Contents, set_at}
 use Rattle.lua_table.specs.declared.table.Step.{Step}
-use Rattle.lua_heap.specs.Heap.{Heap}
+use Rattle.lua_heap.specs.Heap.{Heap, empty}
 use Rattle.lua_store.specs.declared.value.Value.{Value}
 use Rattle.lua_store.specs.declared.value.Value.TheVariants.{Nil, Bool as Truth, Number, Text, Table, Closure as ClosureValue, Builtin, Markup}
 use Rattle.lua_store.specs.contracts.value.ValuePartialEq.TheImpl.{ghosts}
@@ -139,3 +139,7 @@ pub record IsLater (old new : Held) : Type 0 where
   pub cells : length old.heap.cells ≤ length new.heap.cells
   pub closures : length old.heap.closures ≤ length new.heap.closures
   pub markup : length old.heap.markup ≤ length new.heap.markup
+
+-- a store with nothing in it
+abbrev pub nothing : Held
+nothing = record { texts = []; heap = empty; envs = [] }

@@ -2,6 +2,7 @@
 //!
 //! - `ids`: the names of what stands in a store
 //! - `value`: the values of Lua
+//! - `store`: the store and its calls
 //! - `texts`: byte strings, each kept once
 //! - `closure`, `markup`: closures, and objects of `mw.html`
 //! - `closures`: the closures of a store, with the numbers of their invocations
@@ -11,6 +12,7 @@ pub mod closure;
 mod closures;
 pub mod ids;
 pub mod markup;
+pub mod store;
 mod texts;
 pub mod value;
 
@@ -18,4 +20,5 @@ pub use closure::{Closure, ProtoId};
 pub use ids::{CellId, ClosureId, MarkupId, TableId, TextId};
 pub use lua_heap::builtin;
 pub use markup::{MarkupChild, MarkupNode, MarkupStyle, TextPair};
+pub use store::Store;
 pub use value::Value;
