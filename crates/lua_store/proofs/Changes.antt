@@ -2,13 +2,15 @@
 use Rattle.std.proofs.Common.{◌≡◌, ℕ, ◌<◌, ◌≤◌, Bool, true, false, true≢false, cond, List, [], ◌∷◌, ◌++◌, length, map, refl, sym, ap, ◌∙◌, arith, subst, slice_set, slice_index_or}
 use Rattle.std.proofs.lemmas.Bool.{or_parts}
 use Rattle.std.proofs.lemmas.Slice.Eq.{bytes_eq-Decides}
-use Rattle.std.proofs.lemmas.List.{length-append, length-set, map-append, map-set}
+use Rattle.std.proofs.lemmas.List.{length-append, length-set, length-map, map-append, map-set}
 use Rattle.std.proofs.Math.ListN.{get_or-map}
 use Rattle.std.specs.List.{IsDistinct, AllByRecursion, list_any}
+use Rattle.std.specs.Prelude.{Result, Ok, Err, OnOk, OnErr}
 use Rattle.std.specs.Str.{bytes_eq}
-use Rattle.lua_table.specs.Entries.{Contents, set_at}
+use Rattle.lua_table.specs.Entries.{Contents, set_at, is_there}
 use Rattle.lua_heap.specs.Value as heap
-use Rattle.lua_heap.specs.Value.{same}
+use Rattle.lua_heap.specs.Value.{same, is_nil}
+use Rattle.lua_heap.specs.Table.{has}
 use Rattle.lua_heap.specs.Heap.{Heap, MarkupNode as HeapNode, Closed, new_table, Obj, TableObj, tab, put, table_at, with_entry as entry_set, set_in, set_meta_in, freeze_in, new_cell, set_cell_in, new_closure, new_markup, set_markup_in}
 use Rattle.lua_store.specs.declared.value.Value.{Value}
 use Rattle.lua_store.specs.declared.value.Value.TheVariants.{Nil}
@@ -17,9 +19,9 @@ use Rattle.lua_store.specs.declared.closure.Closure.{Closure}
 use Rattle.lua_store.specs.declared.markup.MarkupNode.{MarkupNode}
 use Rattle.lua_store.specs.Envs.{envs_of}
 use Rattle.lua_store.specs.Seen.{Proc, Held, text_at, seen, seen_entry, seen_table, seen_closure, seen_node}
-use Rattle.lua_store.specs.Parts.{Parts, held, IsOf, IsEntryOf, IsContentsOf, IsContentOf, IsNodeOf, AreOf, IsWhole, no_contents, table_in, with_entry, with_text, IsLonger, IsLater}
+use Rattle.lua_store.specs.Parts.{Parts, held, IsTableOf, IsCellOf, IsClosureOf, IsMarkupOf, IsOf, IsEntryOf, IsContentsOf, IsContentOf, IsNodeOf, AreOf, IsWhole, no_contents, table_in, with_entry, with_text, IsLonger, IsLater}
 use Rattle.lua_store.proofs.Lists.{all-at, all-set, all-push, all-to, map-alike}
-use Rattle.lua_store.proofs.EntryMaps.{set_at-seen, set_at-holds}
+use Rattle.lua_store.proofs.EntryMaps.{set_at-seen, set_at-holds, is_there-seen}
 use Rattle.lua_store.proofs.Equal.{eq-seen}
 use Rattle.lua_store.proofs.Later.{longer-itself, longer-push, later-itself, are_of-later, contents_of-later, table-later, content_of-later, closure-later, of-later, seen-later, node_of-later, node-later}
 
@@ -200,3 +202,40 @@ module _ (p : Parts) (w : IsWhole p) where
 pub whole-nothing : IsWhole (record { texts = []; tables = []; cells = []; closures = []; markup = [] })
 unfolding IsDistinct
 whole-nothing = record { distinct = tt; own = record { tables = tt; cells = tt; closures = tt; markup = tt } }
+
+-- an id of the store is a place in what is kept
+pub table_place : (p : Parts) (s : Held) → held p ≡ s → (id : ℕ) → IsTableOf s id → id < length p.tables
+table_place p s shown id h = let e = length-map p.tables (seen_table p.texts) in let f = ap (λ (t : Held). length t.heap.tables) shown in omega (arith, e, f, h)
+
+pub cell_place : (p : Parts) (s : Held) → held p ≡ s → (id : ℕ) → IsCellOf s id → id < length p.cells
+cell_place p s shown id h = let e = length-map p.cells (seen p.texts) in let f = ap (λ (t : Held). length t.heap.cells) shown in omega (arith, e, f, h)
+
+pub closure_place : (p : Parts) (s : Held) → held p ≡ s → (id : ℕ) → IsClosureOf s id → id < length p.closures
+closure_place p s shown id h = let e = length-map p.closures (seen_closure p.texts) in let f = ap (λ (t : Held). length t.heap.closures) shown in omega (arith, e, f, h)
+
+pub markup_place : (p : Parts) (s : Held) → held p ≡ s → (id : ℕ) → IsMarkupOf s id → id < length p.markup
+markup_place p s shown id h = let e = length-map p.markup (seen_node p.texts) in let f = ap (λ (t : Held). length t.heap.markup) shown in omega (arith, e, f, h)
+
+-- A set that may be refused
+pub on_ok : {R F : Type 0} {A B : Type 0} (r : Result R F) → OnOk r A → (A → B) → OnOk r B
+on_ok (Ok x) a f = f a
+on_ok (Err e) a f = tt
+
+pub of_both : {R F : Type 0} {A : Type 0} (r : Result R F) → OnOk r A → OnErr r A → A
+of_both (Ok x) a b = a
+of_both (Err e) a b = b
+
+pub on_err : {R F : Type 0} {A B : Type 0} (r : Result R F) → OnErr r A → (A → B) → OnErr r B
+on_err (Ok x) a f = tt
+on_err (Err e) a f = f a
+
+-- what is seen of a key's entry, and of nil
+pub nil-seen : (texts : List (List ℕ)) (v : Value) → is_nil (seen texts v) ≡ ghosts.eq v Nil
+nil-seen texts Nil = refl
+nil-seen texts _ = refl
+
+pub has-seen : (p : Parts) → IsWhole p → (id : ℕ) (key : Value) → id < length p.tables → IsOf (held p) key
+    → has (table_at (held p).heap id).entries (seen p.texts key) ≡ is_there ghosts.eq Nil (table_in p.tables id).entries key
+has-seen p w id key h k =
+    ap (λ (t : Contents heap.Value). has t.entries (seen p.texts key)) (table_in-seen p w id)
+    ∙ is_there-seen ghosts.eq same (seen p.texts) (IsOf (held p)) (eq-seen (held p) w.distinct) Nil tt (table_in p.tables id).entries key (table_in-of p w id h).entries k

@@ -2,8 +2,10 @@
 //!
 //! - `ids`: the names of what stands in a store
 //! - `value`: the values of Lua
-//! - `store`: the store and its calls
+//! - `store`: the store, and its calls on texts, cells, closures and markup objects
+//! - `tables`: its calls on tables
 //! - `texts`: byte strings, each kept once
+//! - `vectors`: additions to a vector
 //! - `closure`, `markup`: closures, and objects of `mw.html`
 //! - `closures`: the closures of a store, with the numbers of their invocations
 #![tactic(auto)]
@@ -13,12 +15,15 @@ mod closures;
 pub mod ids;
 pub mod markup;
 pub mod store;
+mod tables;
 mod texts;
 pub mod value;
+mod vectors;
 
 pub use closure::{Closure, ProtoId};
 pub use ids::{CellId, ClosureId, MarkupId, TableId, TextId};
 pub use lua_heap::builtin;
+pub use lua_table::{NoSuchKey, SetFault, Step, Table};
 pub use markup::{MarkupChild, MarkupNode, MarkupStyle, TextPair};
 pub use store::Store;
 pub use value::Value;

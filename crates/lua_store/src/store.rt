@@ -10,6 +10,7 @@ use crate::ids::{CellId, TableId, TextId};
 use crate::markup::MarkupNode;
 use crate::texts::Texts;
 use crate::value::Value;
+use crate::vectors::push;
 use bumpalo::Bump;
 use lua_table::Table;
 use std::alloc::Global;
@@ -83,11 +84,7 @@ impl<'b> Store<'b> {
         ensures later { IsLater self.old self.new }
         ensures err { OnErr result (self.new ≡ self.old) }
     {
-        let at = self.cells.len();
-        match self.cells.push(value) {
-            Ok(_) => Ok(CellId::of_place(at)),
-            Err(_) => Err(NoMemory),
-        }
+        Ok(CellId::of_place(push(&mut self.cells, value)?))
     }
 
     /// The value of a cell.

@@ -1,0 +1,118 @@
+//! The calls of a store on its tables.
+ghost use Rattle.std.specs.Prelude.{◌≡◌, ◌<◌, ◌↔◌, ◌&&◌, not, true, false, length, slice_set, IfOk, OnOk, OnErr, MatchResult};
+ghost use Rattle.lua_table.specs.Entries.{value_at, is_there};
+ghost use Rattle.lua_heap.specs.Heap as heap;
+ghost use Rattle.lua_heap.specs.Heap.{table_at, set_in, set_meta_in, freeze_in};
+ghost use Rattle.lua_heap.specs.Table as entries;
+ghost use Rattle.lua_heap.specs.Table.{has};
+ghost use Rattle.lua_heap.specs.Value as kind;
+ghost use Rattle.lua_heap.specs.Value.{is_nil};
+ghost use Rattle.lua_store.specs.contracts.value.ValuePartialEq.TheImpl.{ghosts};
+ghost use Rattle.lua_store.specs.declared.value.Value.TheVariants as own;
+ghost use Rattle.lua_store.specs.Seen.{seen, seen_table};
+ghost use Rattle.lua_store.specs.Parts.{table_in, with_entry, IsTableOf, IsOf, IsContentsOf, IsLater};
+
+use crate::ids::TableId;
+use crate::store::Store;
+use crate::value::Value;
+use crate::vectors::push;
+use lua_table::{SetFault, Table};
+use wk_base::NoMemory;
+
+impl<'b> Store<'b> {
+    /// A new table: empty, without a metatable, and it can be written.
+    pub fn new_table(&mut self) -> Result<TableId, NoMemory>
+        ensures of { IfOk result (IsTableOf self.new) }
+        ensures id { IfOk result (λ id. id ≡ (heap.new_table self.old.heap).1) }
+        ensures made { OnOk result (self.new ≡ record self.old { heap = (heap.new_table self.old.heap).0 }) }
+        ensures later { IsLater self.old self.new }
+        ensures err { OnErr result (self.new ≡ self.old) }
+    {
+        let table = Table::new(self.alloc);
+        Ok(TableId::of_place(push(&mut self.tables, table)?))
+    }
+
+    /// A table as it is kept, whose texts are names of this store.
+    pub fn table(&self, id: TableId) -> &Table<Value>
+        requires { IsTableOf self.now id }
+        ensures of { IsContentsOf self.now result.now }
+        ensures table { seen_table self.now.texts result.now ≡ table_at self.now.heap id }
+    {
+        &self.tables[id.place()]
+    }
+
+    /// Sets a key of a table as `rawset` does, and tells whether that made a new entry. A refusal changes nothing.
+    ///
+    /// A key that is there is set without memory, and so is any key to nil.
+    pub fn set(&mut self, id: TableId, key: Value, value: Value) -> Result<bool, SetFault>
+        requires table { IsTableOf self.old id }
+        requires key { IsOf self.old key }
+        requires value { IsOf self.old value }
+        ensures ok { OnOk result (self.new ≡ record self.old { heap = set_in self.old.heap id (seen self.old.texts key) (seen self.old.texts value) }) }
+        ensures made { IfOk result (λ made. made ≡ (not (has (table_at self.old.heap id).entries (seen self.old.texts key)) && not (is_nil (seen self.old.texts value)))) }
+        ensures later { IsLater self.old self.new }
+        ensures err { OnErr result (self.new ≡ self.old) }
+        ensures frozen { (result ≡ Err SetFault.Frozen) ↔ ((table_at self.old.heap id).frozen ≡ true) }
+        ensures not_a_key { (result ≡ Err SetFault.NotAKey) ↔ (((table_at self.old.heap id).frozen ≡ false) × (seen self.old.texts key ≡ kind.Nil)) }
+        ensures memory { result ≡ Err SetFault.NoMemory → has (table_at self.old.heap id).entries (seen self.old.texts key) ≡ false }
+        ensures clearing { result ≡ Err SetFault.NoMemory → is_nil (seen self.old.texts value) ≡ false }
+    {
+        set_entry(&mut self.tables, id.place(), key, value)
+    }
+
+    /// Gives a table a metatable, or none by nil. The table must not be read-only.
+    pub fn set_meta(&mut self, id: TableId, meta: Value)
+        requires table { IsTableOf self.old id }
+        requires meta { IsOf self.old meta }
+        requires writable { (table_at self.old.heap id).frozen ≡ false }
+        ensures set { self.new ≡ record self.old { heap = set_meta_in self.old.heap id (seen self.old.texts meta) } }
+        ensures later { IsLater self.old self.new }
+    {
+        set_meta_of(&mut self.tables, id.place(), meta);
+    }
+
+    /// Makes a table read-only for good.
+    pub fn freeze(&mut self, id: TableId)
+        requires { IsTableOf self.old id }
+        ensures frozen { self.new ≡ record self.old { heap = freeze_in self.old.heap id } }
+        ensures later { IsLater self.old self.new }
+    {
+        freeze_table(&mut self.tables, id.place());
+    }
+}
+
+/// Sets a key of the table at a place.
+fn set_entry(
+    tables: &mut Vec<Table<Value>>,
+    at: usize,
+    key: Value,
+    value: Value,
+) -> Result<bool, SetFault>
+    requires { at < length tables.old.items }
+    ensures ok { OnOk result (tables.new.items ≡ slice_set tables.old.items at (with_entry (table_in tables.old.items at) key value)) }
+    ensures made { IfOk result (λ made. made ≡ (not (is_there ghosts.eq own.Nil (table_in tables.old.items at).entries key) && not (ghosts.eq value own.Nil))) }
+    ensures err { OnErr result (tables.new.items ≡ tables.old.items) }
+    ensures frozen { (result ≡ Err SetFault.Frozen) ↔ ((table_in tables.old.items at).frozen ≡ true) }
+    ensures not_a_key { (result ≡ Err SetFault.NotAKey) ↔ (((table_in tables.old.items at).frozen ≡ false) × (key ≡ own.Nil)) }
+    ensures memory { result ≡ Err SetFault.NoMemory → is_there ghosts.eq own.Nil (table_in tables.old.items at).entries key ≡ false }
+    ensures clearing { result ≡ Err SetFault.NoMemory → ghosts.eq value own.Nil ≡ false }
+{
+    tables[at].set(key, value)
+}
+
+/// Gives the table at a place a metatable.
+fn set_meta_of(tables: &mut Vec<Table<Value>>, at: usize, meta: Value)
+    requires within { at < length tables.old.items }
+    requires writable { (table_in tables.old.items at).frozen ≡ false }
+    ensures { tables.new.items ≡ slice_set tables.old.items at (record (table_in tables.old.items at) { meta = meta }) }
+{
+    tables[at].set_meta(meta);
+}
+
+/// Makes the table at a place read-only.
+fn freeze_table(tables: &mut Vec<Table<Value>>, at: usize)
+    requires { at < length tables.old.items }
+    ensures { tables.new.items ≡ slice_set tables.old.items at (record (table_in tables.old.items at) { frozen = true }) }
+{
+    tables[at].freeze();
+}
