@@ -1,5 +1,7 @@
 -- WHAT EACH CALL MAKES OF A STORE: of what is kept, and of what is seen.
-use Rattle.std.proofs.Common.{◌≡◌, ℕ, ◌<◌, ◌≤◌, Bool, true, false, true≢false, cond, List, [], ◌∷◌, ◌++◌, length, map, refl, sym, ap, ◌∙◌, arith, subst, slice_set, slice_index_or}
+use Rattle.std.proofs.Common.{◌≡◌, ℕ, ◌<◌, ◌≤◌, Bool, true, false, true≢false, cond, List, [], ◌∷◌, ◌++◌, length, map, refl, sym, ap, ◌∙◌, arith, subst, slice_get, slice_set, slice_index_or, Some}
+use Rattle.std.specs.Option.{option_map}
+use Rattle.std.proofs.lemmas.Option.{slice_get-map, get_or_from_slice_get}
 use Rattle.std.proofs.lemmas.Bool.{or_parts}
 use Rattle.std.proofs.lemmas.Slice.Eq.{bytes_eq-Decides}
 use Rattle.std.proofs.lemmas.List.{length-append, length-set, length-map, map-append, map-set}
@@ -11,7 +13,7 @@ use Rattle.lua_table.specs.Entries.{Contents, set_at, is_there}
 use Rattle.lua_heap.specs.Value as heap
 use Rattle.lua_heap.specs.Value.{same, is_nil}
 use Rattle.lua_heap.specs.Table.{has}
-use Rattle.lua_heap.specs.Heap.{Heap, MarkupNode as HeapNode, Closed, new_table, Obj, TableObj, tab, put, table_at, with_entry as entry_set, set_in, set_meta_in, freeze_in, new_cell, set_cell_in, new_closure, new_markup, set_markup_in}
+use Rattle.lua_heap.specs.Heap.{Heap, MarkupNode as HeapNode, Closed, new_table, Obj, TableObj, tab, put, table_at, with_entry as entry_set, set_in, set_meta_in, freeze_in, new_cell, set_cell_in, new_closure, new_markup, set_markup_in, markup_at, no_markup}
 use Rattle.lua_store.specs.declared.value.Value.{Value}
 use Rattle.lua_store.specs.declared.value.Value.TheVariants.{Nil}
 use Rattle.lua_store.specs.contracts.value.ValuePartialEq.TheImpl.{ghosts}
@@ -239,3 +241,7 @@ pub has-seen : (p : Parts) → IsWhole p → (id : ℕ) (key : Value) → id < l
 has-seen p w id key h k =
     ap (λ (t : Contents heap.Value). has t.entries (seen p.texts key)) (table_in-seen p w id)
     ∙ is_there-seen ghosts.eq same (seen p.texts) (IsOf (held p)) (eq-seen (held p) w.distinct) Nil tt (table_in p.tables id).entries key (table_in-of p w id h).entries k
+
+-- the markup object at a place
+pub markup-seen : (p : Parts) (id : ℕ) (n : MarkupNode) → slice_get p.markup id ≡ Some n → seen_node p.texts n ≡ markup_at (held p).heap id
+markup-seen p id n h = sym (get_or_from_slice_get (map (seen_node p.texts) p.markup) id (seen_node p.texts n) no_markup (slice_get-map (seen_node p.texts) p.markup id ∙ ap (option_map (seen_node p.texts)) h))

@@ -1,5 +1,5 @@
 -- Facts of each element of a list, as one element is read, written or added.
-use Rattle.std.proofs.Common.{◌≡◌, ℕ, zero, suc, ◌<◌, List, [], ◌∷◌, ◌++◌, length, map, refl, ap, arith, slice_set, slice_index_or, ◌∙◌}
+use Rattle.std.proofs.Common.{◌≡◌, ℕ, zero, suc, ◌<◌, List, [], ◌∷◌, ◌++◌, length, map, refl, ap, arith, slice_get, slice_set, slice_index_or, Some, subst, ◌∙◌}
 use Rattle.std.specs.List.{AllByRecursion}
 
 module _ {X : Type 0} (P : X → Type 0) where
@@ -25,3 +25,8 @@ module _ {X : Type 0} (P : X → Type 0) where
   pub map-alike : {Y : Type 0} (f g : X → Y) → ((x : X) → P x → f x ≡ g x) → (xs : List X) → AllByRecursion P xs → map f xs ≡ map g xs
   map-alike f g step [] all = refl
   map-alike f g step (x ∷ xs) all = ap (λ y. y ∷ map f xs) (step x all.0) ∙ ap (λ ys. g x ∷ ys) (map-alike f g step xs all.1)
+
+  pub all-get : (xs : List X) (i : ℕ) (x : X) → AllByRecursion P xs → slice_get xs i ≡ Some x → P x
+  all-get [] i x all e = cc
+  all-get (y ∷ xs) zero x all e = let is : y ≡ x = cc in subst P is all.0
+  all-get (y ∷ xs) (suc i) x all e = all-get xs i x all.1 e

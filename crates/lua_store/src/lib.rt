@@ -5,7 +5,7 @@
 //! - `store`: the store, and its calls on texts, cells, closures and markup objects
 //! - `tables`: its calls on tables
 //! - `texts`: byte strings, each kept once
-//! - `vectors`: additions to a vector
+//! - `vectors`: changes of a vector
 //! - `closure`, `markup`: closures, and objects of `mw.html`
 //! - `closures`: the closures of a store, with the numbers of their invocations
 #![tactic(auto)]

@@ -1,21 +1,23 @@
 //! The store of one page.
-ghost use Rattle.std.specs.Prelude.{◌≡◌, ◌++◌, ◌∷◌, [], IfOk, OnOk, OnErr};
+ghost use Rattle.std.specs.Prelude.{◌≡◌, ◌++◌, ◌∷◌, [], Some, slice_get, IfOk, OnOk, OnErr};
 ghost use Rattle.lua_heap.specs.Heap as heap;
-ghost use Rattle.lua_heap.specs.Heap.{cell_at};
-ghost use Rattle.lua_store.specs.Seen.{text_at, seen};
-ghost use Rattle.lua_store.specs.Parts.{nothing, with_text, IsTextOf, IsTableOf, IsCellOf, IsOf, IsLater};
+ghost use Rattle.lua_heap.specs.Heap.{cell_at, closure_at, markup_at, set_cell_in, set_markup_in};
+ghost use Rattle.lua_store.specs.Envs.{is_among};
+ghost use Rattle.lua_store.specs.Seen.{text_at, seen, closed_of, seen_closure, seen_node};
+ghost use Rattle.lua_store.specs.Parts.{nothing, with_text, IsTextOf, IsCellOf, IsClosureOf, IsMarkupOf, IsOf, AreCellsOf, IsContentOf, IsNodeOf, IsLater};
 
 use crate::closures::Closures;
-use crate::ids::{CellId, TableId, TextId};
+use crate::closure::{Closure, ProtoId};
+use crate::ids::{CellId, ClosureId, MarkupId, TextId};
 use crate::markup::MarkupNode;
 use crate::texts::Texts;
 use crate::value::Value;
-use crate::vectors::push;
+use crate::vectors::{push, replace};
 use bumpalo::Bump;
 use lua_table::Table;
 use std::alloc::Global;
 use std::marker::Model;
-use wk_base::NoMemory;
+use wk_base::{List, NoMemory};
 
 /// All that the Lua code of one page makes. It is given up whole, whatever names what in it.
 ///
@@ -94,5 +96,89 @@ impl<'b> Store<'b> {
         ensures value { seen self.now.texts result ≡ cell_at self.now.heap id }
     {
         self.cells[id.place()]
+    }
+
+    /// Gives a cell another value.
+    pub fn set_cell(&mut self, id: CellId, value: Value)
+        requires cell { IsCellOf self.old id }
+        requires value { IsOf self.old value }
+        ensures set { self.new ≡ record self.old { heap = set_cell_in self.old.heap id (seen self.old.texts value) } }
+        ensures later { IsLater self.old self.new }
+    {
+        let at = id.place();
+        self.cells[at] = value;
+    }
+
+    /// A new closure, or a new iterator where the title is the empty text, made in the invocation with that number.
+    pub fn new_closure(
+        &mut self,
+        proto: ProtoId,
+        env: u32,
+        cells: List<CellId>,
+    ) -> Result<ClosureId, NoMemory>
+        requires title { IsTextOf self.old proto.title }
+        requires cells { AreCellsOf self.old cells }
+        ensures of { IfOk result (IsClosureOf self.new) }
+        ensures id { IfOk result (λ id. id ≡ (heap.new_closure self.old.heap (closed_of (text_at self.old.texts proto.title) proto.index cells)).1) }
+        ensures made { OnOk result (self.new ≡ record {
+            texts = self.old.texts;
+            heap = (heap.new_closure self.old.heap (closed_of (text_at self.old.texts proto.title) proto.index cells)).0;
+            envs = self.old.envs ++ env ∷ [];
+        }) }
+        ensures later { IsLater self.old self.new }
+        ensures err { OnErr result (self.new ≡ self.old) }
+    {
+        let closure = Closure { proto, env, cells };
+        Ok(ClosureId::of_place(self.closures.push(closure)?))
+    }
+
+    /// A closure.
+    pub fn closure(&self, id: ClosureId) -> &Closure
+        requires { IsClosureOf self.now id }
+        ensures of { IsContentOf self.now result.now }
+        ensures closure { closure_at self.now.heap id ≡ Some (seen_closure self.now.texts result.now) }
+        ensures env { slice_get self.now.envs id ≡ Some result.now.env }
+    {
+        self.closures.at(id.place())
+    }
+
+    /// Whether a closure of the store was made in the invocation with that number.
+    pub fn has_env(&self, env: u32) -> bool
+        ensures { result ≡ is_among env self.now.envs }
+    {
+        self.closures.has_env(env)
+    }
+
+    /// A new markup object.
+    pub fn new_markup(&mut self, node: MarkupNode) -> Result<MarkupId, NoMemory>
+        requires { IsNodeOf self.old node }
+        ensures of { IfOk result (IsMarkupOf self.new) }
+        ensures id { IfOk result (λ id. id ≡ (heap.new_markup self.old.heap (seen_node self.old.texts node)).1) }
+        ensures made { OnOk result (self.new ≡ record self.old { heap = (heap.new_markup self.old.heap (seen_node self.old.texts node)).0 }) }
+        ensures later { IsLater self.old self.new }
+        ensures err { OnErr result (self.new ≡ self.old) }
+    {
+        Ok(MarkupId::of_place(push(&mut self.markup, node)?))
+    }
+
+    /// A markup object.
+    pub fn markup(&self, id: MarkupId) -> &MarkupNode
+        requires { IsMarkupOf self.now id }
+        ensures of { IsNodeOf self.now result.now }
+        ensures node { seen_node self.now.texts result.now ≡ markup_at self.now.heap id }
+    {
+        &self.markup[id.place()]
+    }
+
+    /// Puts a node in the place of a markup object, and gives back what was there.
+    pub fn swap_markup(&mut self, id: MarkupId, node: MarkupNode) -> MarkupNode
+        requires id { IsMarkupOf self.old id }
+        requires node { IsNodeOf self.old node }
+        ensures of { IsNodeOf self.new result }
+        ensures was { seen_node self.old.texts result ≡ markup_at self.old.heap id }
+        ensures set { self.new ≡ record self.old { heap = set_markup_in self.old.heap id (seen_node self.old.texts node) } }
+        ensures later { IsLater self.old self.new }
+    {
+        replace(&mut self.markup, id.place(), node)
     }
 }

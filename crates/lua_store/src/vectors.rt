@@ -1,5 +1,5 @@
-//! Additions to a vector.
-ghost use Rattle.std.specs.Prelude.{◌≡◌, ◌++◌, ◌∷◌, [], length, IfOk, OnErr};
+//! Changes of a vector.
+ghost use Rattle.std.specs.Prelude.{◌≡◌, ◌++◌, ◌∷◌, ◌<◌, [], Some, length, slice_get, slice_set, IfOk, OnErr};
 
 use wk_base::NoMemory;
 
@@ -13,4 +13,13 @@ pub fn push<T: Drop>(items: &mut Vec<T>, item: T) -> Result<usize, NoMemory>
         Ok(_) => Ok(at),
         Err(_) => Err(NoMemory),
     }
+}
+
+/// Puts an item at a place, and gives back the one that was there.
+pub fn replace<T: Drop>(items: &mut Vec<T>, at: usize, item: T) -> T
+    requires { at < length items.old.items }
+    ensures was { slice_get items.old.items at ≡ Some result }
+    ensures set { items.new.items ≡ slice_set items.old.items at item }
+{
+    std::mem::replace(&mut items[at], item)
 }
