@@ -243,5 +243,5 @@ has-seen p w id key h k =
     ∙ is_there-seen ghosts.eq same (seen p.texts) (IsOf (held p)) (eq-seen (held p) w.distinct) Nil tt (table_in p.tables id).entries key (table_in-of p w id h).entries k
 
 -- the markup object at a place
-pub markup-seen : (p : Parts) (id : ℕ) (n : MarkupNode) → slice_get p.markup id ≡ Some n → seen_node p.texts n ≡ markup_at (held p).heap id
-markup-seen p id n h = sym (get_or_from_slice_get (map (seen_node p.texts) p.markup) id (seen_node p.texts n) no_markup (slice_get-map (seen_node p.texts) p.markup id ∙ ap (option_map (seen_node p.texts)) h))
+pub markup-seen : (p : Parts) → IsWhole p → (id : ℕ) (n : MarkupNode) → slice_get p.markup id ≡ Some n → seen_node p.texts n ≡ markup_at (held p).heap id
+markup-seen p w id n h = sym (get_or_from_slice_get (map (seen_node p.texts) p.markup) id (seen_node p.texts n) no_markup (slice_get-map (seen_node p.texts) p.markup id ∙ ap (option_map (seen_node p.texts)) h))

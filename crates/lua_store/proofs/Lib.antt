@@ -4,3 +4,4 @@ pub mod Equal
 pub mod Later
 pub mod TextLemmas
 pub mod Changes
+pub mod Walks

@@ -1,7 +1,8 @@
 //! The store of one page.
-ghost use Rattle.std.specs.Prelude.{◌≡◌, ◌++◌, ◌∷◌, [], Some, slice_get, IfOk, OnOk, OnErr};
+ghost use Rattle.std.specs.Prelude.{◌≡◌, ◌++◌, ◌∷◌, [], ℕ, Some, slice_get, IfOk, OnOk, OnErr};
 ghost use Rattle.lua_heap.specs.Heap as heap;
 ghost use Rattle.lua_heap.specs.Heap.{cell_at, closure_at, markup_at, set_cell_in, set_markup_in};
+ghost use Rattle.lua_heap.specs.Value.{same};
 ghost use Rattle.lua_store.specs.Envs.{is_among};
 ghost use Rattle.lua_store.specs.Seen.{text_at, seen, closed_of, seen_closure, seen_node};
 ghost use Rattle.lua_store.specs.Parts.{nothing, with_text, IsTextOf, IsCellOf, IsClosureOf, IsMarkupOf, IsOf, AreCellsOf, IsContentOf, IsNodeOf, IsLater};
@@ -62,6 +63,7 @@ impl<'b> Store<'b> {
     pub fn text(&mut self, bytes: &[u8]) -> Result<TextId, NoMemory>
         ensures of { IfOk result (IsTextOf self.new) }
         ensures there { IfOk result (λ id. text_at self.new.texts id ≡ bytes.now) }
+        ensures one { IfOk result (λ id. (other : ℕ) → IsTextOf self.new other → text_at self.new.texts other ≡ bytes.now → other ≡ id) }
         ensures kept { OnOk result (self.new ≡ record self.old { texts = with_text self.old.texts bytes.now }) }
         ensures later { IsLater self.old self.new }
         ensures err { OnErr result (self.new ≡ self.old) }
@@ -75,6 +77,16 @@ impl<'b> Store<'b> {
         ensures { result.now ≡ text_at self.now.texts id }
     {
         self.texts.bytes(id.place())
+    }
+
+    /// Whether two values are the same one, as `rawequal` tells it. It looks at names alone.
+    pub fn is_same(&self, a: Value, b: Value) -> bool
+        requires a { IsOf self.now a }
+        requires b { IsOf self.now b }
+        ensures { result ≡ same (seen self.now.texts a) (seen self.now.texts b) }
+    {
+        let _opened = &self.cells;
+        a == b
     }
 
     /// A new cell with a value.

@@ -1,22 +1,22 @@
 //! The calls of a store on its tables.
-ghost use Rattle.std.specs.Prelude.{◌≡◌, ◌<◌, ◌↔◌, ◌&&◌, not, true, false, length, slice_set, IfOk, OnOk, OnErr, MatchResult};
+ghost use Rattle.std.specs.Prelude.{◌≡◌, ◌<◌, ◌↔◌, ◌&&◌, ℕ, pos, not, true, false, length, slice_set, IfOk, OnOk, OnErr};
 ghost use Rattle.lua_table.specs.Entries.{value_at, is_there};
 ghost use Rattle.lua_heap.specs.Heap as heap;
 ghost use Rattle.lua_heap.specs.Heap.{table_at, set_in, set_meta_in, freeze_in};
 ghost use Rattle.lua_heap.specs.Table as entries;
-ghost use Rattle.lua_heap.specs.Table.{has};
+ghost use Rattle.lua_heap.specs.Table.{has, IsLeast};
 ghost use Rattle.lua_heap.specs.Value as kind;
 ghost use Rattle.lua_heap.specs.Value.{is_nil};
 ghost use Rattle.lua_store.specs.contracts.value.ValuePartialEq.TheImpl.{ghosts};
 ghost use Rattle.lua_store.specs.declared.value.Value.TheVariants as own;
-ghost use Rattle.lua_store.specs.Seen.{seen, seen_table};
+ghost use Rattle.lua_store.specs.Seen.{seen, seen_table, seen_next};
 ghost use Rattle.lua_store.specs.Parts.{table_in, with_entry, IsTableOf, IsOf, IsContentsOf, IsLater};
 
 use crate::ids::TableId;
 use crate::store::Store;
 use crate::value::Value;
 use crate::vectors::push;
-use lua_table::{SetFault, Table};
+use lua_table::{NoSuchKey, SetFault, Step, Table};
 use wk_base::NoMemory;
 
 impl<'b> Store<'b> {
@@ -39,6 +39,51 @@ impl<'b> Store<'b> {
         ensures table { seen_table self.now.texts result.now ≡ table_at self.now.heap id }
     {
         &self.tables[id.place()]
+    }
+
+    /// The value of a key of a table as `rawget` gives it: nil where the key is not there.
+    pub fn get(&self, id: TableId, key: Value) -> Value
+        requires table { IsTableOf self.now id }
+        requires key { IsOf self.now key }
+        ensures of { IsOf self.now result }
+        ensures value { seen self.now.texts result ≡ entries.get (table_at self.now.heap id).entries (seen self.now.texts key) }
+    {
+        self.tables[id.place()].get(&key)
+    }
+
+    /// Where a walk over a table comes to from a key, or from nil: the next entry that is not cleared, or nil at the end.
+    pub fn next(&self, id: TableId, key: Value) -> Result<Step<Value>, NoSuchKey>
+        requires table { IsTableOf self.now id }
+        requires key { IsOf self.now key }
+        ensures of { IfOk result (λ step. IsOf self.now step.key × IsOf self.now step.value) }
+        ensures next { seen_next self.now.texts result ≡ entries.next (table_at self.now.heap id).entries (seen self.now.texts key) }
+    {
+        self.tables[id.place()].next(&key)
+    }
+
+    /// The least border of a table, which is what `#` gives.
+    pub fn border(&self, id: TableId) -> i64
+        requires { IsTableOf self.now id }
+        ensures { (n : ℕ) × (result ≡ pos n) × IsLeast (table_at self.now.heap id).entries n }
+    {
+        self.tables[id.place()].border()
+    }
+
+    /// The metatable of a table, or nil.
+    pub fn meta(&self, id: TableId) -> Value
+        requires { IsTableOf self.now id }
+        ensures of { IsOf self.now result }
+        ensures meta { seen self.now.texts result ≡ (table_at self.now.heap id).meta }
+    {
+        self.tables[id.place()].meta()
+    }
+
+    /// Whether a table is read-only.
+    pub fn is_frozen(&self, id: TableId) -> bool
+        requires { IsTableOf self.now id }
+        ensures { result ≡ (table_at self.now.heap id).frozen }
+    {
+        self.tables[id.place()].is_frozen()
     }
 
     /// Sets a key of a table as `rawset` does, and tells whether that made a new entry. A refusal changes nothing.

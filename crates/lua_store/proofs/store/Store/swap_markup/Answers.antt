@@ -16,7 +16,7 @@ returns-clause-set c =
     rw (← c.self.view_is, c.replace.ensures.set, c.place.ensures) (put_markup _ c.self.invariant c.args.id c.args.node of).shown
 
 pub returns-clause-was : goal.returns-clause-was
-returns-clause-was c = rw (← c.self.view_is) (markup-seen _ c.args.id c.replace.result (rw c.place.ensures at c.replace.ensures.was))
+returns-clause-was c = rw (← c.self.view_is) (markup-seen _ c.self.invariant c.args.id c.replace.result (rw c.place.ensures at c.replace.ensures.was))
 
 pub returns-clause-of : goal.returns-clause-of
 returns-clause-of c =
