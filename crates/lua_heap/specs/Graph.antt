@@ -6,8 +6,8 @@ use Rattle.lua_table.specs.Entries.{Contents}
 use Rattle.lua_heap.specs.Value.{Value, Nil, Truth, Number, Text, Table, Closure, Builtin, Markup}
 use Rattle.lua_heap.specs.Table.{Entries, HasValueKeys}
 use Rattle.lua_heap.specs.Heap.{Heap, Ref, Obj, look, empty, IsShared}
-use Rattle.lua_heap.specs.Related.{Map, Same, Stands}
-use Rattle.lua_heap.specs.Reach.{Set, nowhere, is_there, Frame}
+use Rattle.lua_heap.specs.Related.{Map, Grows, Same, Stands}
+use Rattle.lua_heap.specs.Reach.{Set, nowhere, union, is_there, Frame}
 
 -- the entries of each table
 abbrev pub Graph : Type 0
@@ -19,9 +19,13 @@ node_table frozen es = record { entries = es; meta = Nil; frozen = frozen }
 abbrev pub graph_tables : Bool → Graph → List (Contents Value)
 graph_tables frozen g = map (node_table frozen) g
 
--- a graph as a heap with nothing else in it
-abbrev pub graph_heap : {X : Type 0} → Bool → Graph → Heap X
+-- a graph as a heap with nothing else in it, which can hold no function
+abbrev pub graph_heap : Bool → Graph → Heap ⊥
 graph_heap frozen g = record empty { tables = graph_tables frozen g }
+
+-- what relates the contents of its functions, which it doesn't have
+abbrev pub NoFunctions : {X : Type 0} → Map → ⊥ → X → Type 0
+NoFunctions m a b = ⊥
 
 -- keys are truth values, numbers or texts; values are those or tables of the graph
 abbrev pub IsKey : Value → Type 0
@@ -59,19 +63,29 @@ abbrev pub joined_root : {X : Type 0} → Heap X → Value
 joined_root h = Table (length h.tables)
 
 -- all of the graph stands in t in new tables, and nothing that was in s changed
-pub record IsPut {X : Type 0} (R : Map → X → X → Type 0) (frozen : Bool) (g : Graph) (value : Value) (s t : Heap X) : Type 0 where
+pub record IsPut {X : Type 0} (frozen : Bool) (g : Graph) (value : Value) (s t : Heap X) : Type 0 where
   pub names : Map
-  pub stands : Stands R names (graph_heap frozen g) t
-  pub whole : (q : Ref) → IsTrue (is_there (graph_heap {X = X} frozen g) q) → IsTrue (is_some (names.to q))
+  pub stands : Stands NoFunctions names (graph_heap frozen g) t
+  pub whole : (q : Ref) → IsTrue (is_there (graph_heap frozen g) q) → IsTrue (is_some (names.to q))
   pub root_at : Same names (Table 0) value
   pub made : (q r : Ref) → names.to q ≡ Some r → look s r ≡ None
   pub frame : Frame nowhere s t
 
 -- K is a set of read-only tables of the heap, none of them in S, in which the graph stands with its root at that value
-pub record IsKept {X : Type 0} (R : Map → X → X → Type 0) (K S : Set) (g : Graph) (value : Value) (s : Heap X) : Type 0 where
+pub record IsKept {X : Type 0} (K S : Set) (g : Graph) (value : Value) (s : Heap X) : Type 0 where
   pub names : Map
-  pub stands : Stands R names (graph_heap true g) s
+  pub stands : Stands NoFunctions names (graph_heap true g) s
   pub root_at : Same names (Table 0) value
   pub inside : (q r : Ref) → names.to q ≡ Some r → IsTrue (K r)
   pub shared : (r : Ref) → IsTrue (K r) → (b : Obj X) × (look s r ≡ Some b) × IsShared b
   pub apart : (r : Ref) → IsTrue (K r) → S r ≡ false
+
+-- m says how h stands in s, and now the graph stands there too, joined with h, under a larger map
+pub record IsJoined {X Y : Type 0} (R : Map → X → Y → Type 0) (m : Map) (S K : Set) (frozen : Bool) (g : Graph) (value : Value) (h : Heap X) (s : Heap Y) : Type 0 where
+  pub names : Map
+  pub grows : Grows m names
+  pub stands : Stands R names (join frozen g h) s
+  pub root_at : Same names (joined_root h) value
+  pub inside : (q r : Ref) → names.to q ≡ Some r → IsTrue (union S K r)
+  pub old : (q : Ref) (a : Obj X) → look h q ≡ Some a → look (join frozen g h) q ≡ Some a
+  pub private : (q : Ref) (a : Obj X) → look h q ≡ Some a → m.to q ≡ None → names.to q ≡ None

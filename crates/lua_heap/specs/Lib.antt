@@ -4,4 +4,13 @@ pub mod Heap
 pub mod Related
 pub mod Reach
 pub mod Graph
+pub mod ValueLaws
+pub mod ObjectLaws
+pub mod StandingLaws
+pub mod MoveLaws
+pub mod SetLaws
+pub mod ReachLaws
+pub mod FrameLaws
+pub mod GraphLaws
 pub mod Library
+pub mod LibraryLaws

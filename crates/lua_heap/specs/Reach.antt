@@ -5,6 +5,7 @@ use Rattle.std.specs.List.{AllByRecursion, Contains, flat_map}
 use Rattle.lua_table.specs.Entries.{Contents}
 use Rattle.lua_heap.specs.Value.{Value, Nil, Truth, Number, Text, Table, Closure, Builtin, Markup}
 use Rattle.lua_heap.specs.Table.{Entries}
+use Rattle.lua_heap.specs.Related.{Map}
 use Rattle.lua_heap.specs.Heap.{Closed, Function, Iterator, MarkupChild, ChildText, ChildNode, MarkupNode, Heap, Ref, tab, cel, clo, mar, Obj, TableObj, CellObj, ClosureObj, MarkupObj, look, is_shared, IsShared}
 
 -- WHAT IS NAMED
@@ -82,6 +83,26 @@ without_shared S s r = if shared_at s r then false else S r
 abbrev pub with_new : {X : Type 0} → Set → Heap X → Heap X → Set
 with_new S s t r = S r || (is_none (look s r) && is_some (look t r))
 
+-- the objects of the second heap that stand for something
+abbrev pub image : Map → Set
+image m r = is_some (m.from r)
+
+-- each name of the set to itself
+abbrev pub itself : Set → Map
+itself S = record { to = λ q. if S q then Some q else None; from = λ q. if S q then Some q else None }
+
+-- the map cut down to what stands in the set
+abbrev pub kept_in : Set → Option Ref → Option Ref
+kept_in S None = None
+kept_in S (Some r) = if S r then Some r else None
+
+abbrev pub cut : Set → Map → Map
+cut S m = record { to = λ q. kept_in S (m.to q); from = λ r. if S r then m.from r else None }
+
+-- two sets meet in read-only tables alone
+abbrev pub MeetShared : {X : Type 0} → Heap X → Set → Set → Type 0
+MeetShared s S T = (r : Ref) → IsTrue (S r) → IsTrue (T r) → IsTrue (shared_at s r)
+
 -- from s to t nothing outside of the set changes, and no read-only table; nothing goes away
 pub record Frame {X : Type 0} (S : Set) (s t : Heap X) : Type 0 where
   pub lives : (r : Ref) (b : Obj X) → look s r ≡ Some b → (c : Obj X) × (look t r ≡ Some c)
@@ -96,6 +117,10 @@ module _ {X : Type 0} (names : X → List Ref) where
   -- a set of objects of the heap that holds whatever its objects name
   pub record IsClosed (S : Set) (s : Heap X) : Type 0 where
     pub there : (r : Ref) → IsTrue (S r) → (a : Obj X) × (look s r ≡ Some a) × AllIn S (obj_names names a)
+
+  -- whatever an object of the heap names is there
+  abbrev pub IsWhole : Heap X → Type 0
+  IsWhole s = IsClosed (is_there s) s
 
   -- WHAT IS REACHED from the roots, through read-only tables too: it is in every closed set that has the roots.
   abbrev pub IsReached : Heap X → List Ref → Ref → Type 0
@@ -122,3 +147,16 @@ module _ {X : Type 0} (names : X → List Ref) where
   -- each read-only table names read-only tables alone
   abbrev pub IsDeep : Heap X → Type 0
   IsDeep s = (r : Ref) (a : Obj X) → look s r ≡ Some a → IsShared a → AllIn (shared_at s) (obj_names names a)
+
+-- what R says of a function hangs on the names of its content alone
+abbrev pub LooksAtNames : {X Y : Type 0} → (Map → X → Y → Type 0) → (Y → List Ref) → Type 0
+LooksAtNames {X} {Y} R names = (m n : Map) (S : Set) → ((q r : Ref) → m.to q ≡ Some r → IsTrue (S r) → n.to q ≡ Some r)
+    → (a : X) (b : Y) → R m a b → AllIn S (names b) → R n a b
+
+-- each name of a content that stands for another one stands for something
+abbrev pub NamesStand : {X Y : Type 0} → (Map → X → Y → Type 0) → (Y → List Ref) → Type 0
+NamesStand {X} {Y} R names = (m : Map) (S : Set) → ((q r : Ref) → m.to q ≡ Some r → IsTrue (S r)) → (a : X) (b : Y) → R m a b → AllIn S (names b)
+
+-- a content stands for itself where its names do
+abbrev pub StandsForItself : {X : Type 0} → (Map → X → X → Type 0) → (X → List Ref) → Type 0
+StandsForItself {X} R names = (m : Map) (S : Set) → ((r : Ref) → IsTrue (S r) → m.to r ≡ Some r) → (a : X) → AllIn S (names a) → R m a a

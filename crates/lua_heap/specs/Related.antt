@@ -3,6 +3,7 @@
 use Rattle.std.specs.Prelude.{◌≡◌, ◌⊎◌, ℕ, ℤ, Bool, false, List, [], ◌∷◌, Option, Some, None}
 use Rattle.lua_table.specs.Entries.{Contents}
 use Rattle.lua_heap.specs.Value.{Value, Nil, Truth, Number, Text, Table, Closure, Builtin, Markup}
+use Rattle.lua_heap.specs.Table.{Entries}
 use Rattle.lua_heap.specs.Heap.{Closed, Function, Iterator, MarkupStyle, MarkupChild, ChildText, ChildNode, MarkupNode, Heap, Ref, tab, cel, clo, mar, Obj, TableObj, CellObj, ClosureObj, MarkupObj, look, is_shared, IsShared}
 
 -- which name of the second heap stands for a name of the first, and back; None outside of the domain and the image
@@ -19,6 +20,19 @@ pub data Each {A B : Type 0} (R : A → B → Type 0) : List A → List B → Ty
   none : Each R [] []
   more : (x : A) (y : B) (xs : List A) (ys : List B) → R x y → Each R xs ys → Each R (x ∷ xs) (y ∷ ys)
 
+-- two options are related: neither holds a value, or both hold related ones
+pub data SameOption {A B : Type 0} (R : A → B → Type 0) : Option A → Option B → Type 0 where
+  neither : SameOption R None None
+  both : (x : A) (y : B) → R x y → SameOption R (Some x) (Some y)
+
+pub record SamePair {A B : Type 0} (R : A → B → Type 0) (a : A × A) (b : B × B) : Type 0 where
+  pub key : R a.0 b.0
+  pub value : R a.1 b.1
+
+-- no two names go to one
+abbrev pub OneToOne : Map → Type 0
+OneToOne m = (p q r : Ref) → m.to p ≡ Some r → m.to q ≡ Some r → p ≡ q
+
 -- the second value stands for the first
 pub data Same (m : Map) : Value → Value → Type 0 where
   nil : Same m Nil Nil
@@ -33,12 +47,17 @@ pub data Same (m : Map) : Value → Value → Type 0 where
 abbrev pub SameCell : Map → ℕ → ℕ → Type 0
 SameCell m a b = m.to (cel a) ≡ Some (cel b)
 
-pub record SameEntry (m : Map) (a b : Value × Value) : Type 0 where
-  pub key : Same m a.0 b.0
-  pub value : Same m a.1 b.1
+abbrev pub SameNodeId : Map → ℕ → ℕ → Type 0
+SameNodeId m a b = m.to (mar a) ≡ Some (mar b)
+
+abbrev pub SameEntry : Map → Value × Value → Value × Value → Type 0
+SameEntry m a b = SamePair (Same m) a b
+
+abbrev pub SameEntries : Map → Entries → Entries → Type 0
+SameEntries m es fs = Each (SameEntry m) es fs
 
 pub record SameTable (m : Map) (a b : Contents Value) : Type 0 where
-  pub entries : Each (SameEntry m) a.entries b.entries
+  pub entries : SameEntries m a.entries b.entries
   pub meta : Same m a.meta b.meta
   pub frozen : a.frozen ≡ b.frozen
 
@@ -46,18 +65,14 @@ pub data SameClosed {X Y : Type 0} (R : Map → X → Y → Type 0) (m : Map) : 
   functions : (a : X) (b : Y) → R m a b → SameClosed R m (Function a) (Function b)
   iterators : (step : ℕ) (as_ bs : List ℕ) → Each (SameCell m) as_ bs → SameClosed R m (Iterator step as_) (Iterator step bs)
 
-pub data SameParent (m : Map) : Option ℕ → Option ℕ → Type 0 where
-  at_root : SameParent m None None
-  below : (a b : ℕ) → m.to (mar a) ≡ Some (mar b) → SameParent m (Some a) (Some b)
-
 pub data SameChild (m : Map) : MarkupChild → MarkupChild → Type 0 where
   child_text : (bytes : List ℕ) → SameChild m (ChildText bytes) (ChildText bytes)
-  child_node : (a b : ℕ) → m.to (mar a) ≡ Some (mar b) → SameChild m (ChildNode a) (ChildNode b)
+  child_node : (a b : ℕ) → SameNodeId m a b → SameChild m (ChildNode a) (ChildNode b)
 
 pub record SameNode (m : Map) (a b : MarkupNode) : Type 0 where
   pub name : a.name ≡ b.name
   pub closed : a.closed ≡ b.closed
-  pub parent : SameParent m a.parent b.parent
+  pub parent : SameOption (SameNodeId m) a.parent b.parent
   pub attrs : a.attrs ≡ b.attrs
   pub styles : a.styles ≡ b.styles
   pub children : Each (SameChild m) a.children b.children
@@ -75,6 +90,10 @@ pub data SameObj {X Y : Type 0} (R : Map → X → Y → Type 0) (m : Map) : Obj
   cells : (a b : Value) → Same m a b → SameObj R m (CellObj a) (CellObj b)
   closures : (a : Closed X) (b : Closed Y) → SameClosed R m a b → SameObj R m (ClosureObj a) (ClosureObj b)
   nodes : (a b : MarkupNode) → SameNode m a b → SameObj R m (MarkupObj a) (MarkupObj b)
+
+-- what R says stays true when the map grows
+abbrev pub GrowsWith : {X Y : Type 0} → (Map → X → Y → Type 0) → Type 0
+GrowsWith {X} {Y} R = (m n : Map) (a : X) (b : Y) → Grows m n → R m a b → R n a b
 
 -- EACH OBJECT OF THE DOMAIN STANDS IN THE SECOND HEAP, with all that its contents name. The map is one to one.
 pub record Stands {X Y : Type 0} (R : Map → X → Y → Type 0) (m : Map) (h : Heap X) (s : Heap Y) : Type 0 where

@@ -1,0 +1,6 @@
+-- The law, at the types of the function.
+use Rattle.lua_heap.proofs.MoveLaws.{set_meta_moves}
+use Rattle.lua_heap.proofs.moves.set_meta_moves.Goals as goal
+
+pub returns : goal.returns
+returns g c = set_meta_moves g.X.Content.stands_for
