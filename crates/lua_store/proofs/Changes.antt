@@ -1,7 +1,7 @@
 -- WHAT EACH CALL MAKES OF A STORE: of what is kept, and of what is seen.
 use Rattle.std.proofs.Common.{◌≡◌, ℕ, ◌<◌, ◌≤◌, Bool, true, false, true≢false, cond, List, [], ◌∷◌, ◌++◌, length, map, refl, sym, ap, ◌∙◌, arith, subst, slice_get, slice_set, slice_index_or, Some}
 use Rattle.std.specs.Option.{option_map}
-use Rattle.std.proofs.lemmas.Option.{slice_get-map, get_or_from_slice_get}
+use Rattle.std.proofs.lemmas.Option.{slice_get-map, get_or_from_slice_get, slice_get_within}
 use Rattle.std.proofs.lemmas.Bool.{or_parts}
 use Rattle.std.proofs.lemmas.Slice.Eq.{bytes_eq-Decides}
 use Rattle.std.proofs.lemmas.List.{length-append, length-set, length-map, map-append, map-set}
@@ -24,7 +24,7 @@ use Rattle.lua_store.specs.Seen.{Proc, Held, text_at, seen, seen_entry, seen_tab
 use Rattle.lua_store.specs.Parts.{Parts, held, IsTableOf, IsCellOf, IsClosureOf, IsMarkupOf, IsOf, IsEntryOf, IsContentsOf, IsContentOf, IsNodeOf, AreOf, IsWhole, no_contents, table_in, with_entry, with_text, IsLonger, IsLater}
 use Rattle.lua_store.proofs.Lists.{all-at, all-set, all-push, all-to, map-alike}
 use Rattle.lua_store.proofs.EntryMaps.{set_at-seen, set_at-holds, is_there-seen}
-use Rattle.lua_store.proofs.Equal.{eq-seen}
+use Rattle.lua_store.proofs.Equal.{eq-seen, one_place}
 use Rattle.lua_store.proofs.Later.{longer-itself, longer-push, later-itself, are_of-later, contents_of-later, table-later, content_of-later, closure-later, of-later, seen-later, node_of-later, node-later}
 
 -- what is kept is whole afterwards, and shows what the definitions of the heap say
@@ -245,3 +245,8 @@ has-seen p w id key h k =
 -- the markup object at a place
 pub markup-seen : (p : Parts) → IsWhole p → (id : ℕ) (n : MarkupNode) → slice_get p.markup id ≡ Some n → seen_node p.texts n ≡ markup_at (held p).heap id
 markup-seen p w id n h = sym (get_or_from_slice_get (map (seen_node p.texts) p.markup) id (seen_node p.texts n) no_markup (slice_get-map (seen_node p.texts) p.markup id ∙ ap (option_map (seen_node p.texts)) h))
+
+-- a text that is found at one place is at no other
+pub one_text : (p : Parts) → IsWhole p → (bytes : List ℕ) (other id : ℕ) → other < length p.texts → text_at p.texts other ≡ bytes → slice_get p.texts id ≡ Some bytes → other ≡ id
+one_text p w bytes other id h is there =
+    one_place p.texts other id w.distinct h (slice_get_within p.texts id bytes there) (is ∙ sym (get_or_from_slice_get p.texts id bytes [] there))

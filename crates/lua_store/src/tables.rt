@@ -1,10 +1,12 @@
 //! The calls of a store on its tables.
-ghost use Rattle.std.specs.Prelude.{◌≡◌, ◌<◌, ◌↔◌, ◌&&◌, ℕ, pos, not, true, false, length, slice_set, IfOk, OnOk, OnErr};
+ghost use Rattle.std.specs.Prelude.{◌≡◌, ◌<◌, ◌↔◌, ◌&&◌, pos, not, true, false, length, slice_set, IfOk, OnOk, OnErr};
+ghost use Rattle.std.specs.List.{IsDistinct};
+ghost use Rattle.std.specs.Str.{bytes_eq};
 ghost use Rattle.lua_table.specs.Entries.{value_at, is_there};
 ghost use Rattle.lua_heap.specs.Heap as heap;
 ghost use Rattle.lua_heap.specs.Heap.{table_at, set_in, set_meta_in, freeze_in};
 ghost use Rattle.lua_heap.specs.Table as entries;
-ghost use Rattle.lua_heap.specs.Table.{has, IsLeast};
+ghost use Rattle.lua_heap.specs.Table.{has};
 ghost use Rattle.lua_heap.specs.Value as kind;
 ghost use Rattle.lua_heap.specs.Value.{is_nil};
 ghost use Rattle.lua_store.specs.contracts.value.ValuePartialEq.TheImpl.{ghosts};
@@ -35,6 +37,7 @@ impl<'b> Store<'b> {
     /// A table as it is kept, whose texts are names of this store.
     pub fn table(&self, id: TableId) -> &Table<Value>
         requires { IsTableOf self.now id }
+        ensures once { IsDistinct bytes_eq self.now.texts }
         ensures of { IsContentsOf self.now result.now }
         ensures table { seen_table self.now.texts result.now ≡ table_at self.now.heap id }
     {
@@ -48,7 +51,7 @@ impl<'b> Store<'b> {
         ensures of { IsOf self.now result }
         ensures value { seen self.now.texts result ≡ entries.get (table_at self.now.heap id).entries (seen self.now.texts key) }
     {
-        self.tables[id.place()].get(&key)
+        self.table(id).get(&key)
     }
 
     /// Where a walk over a table comes to from a key, or from nil: the next entry that is not cleared, or nil at the end.
@@ -58,15 +61,15 @@ impl<'b> Store<'b> {
         ensures of { IfOk result (λ step. IsOf self.now step.key × IsOf self.now step.value) }
         ensures next { seen_next self.now.texts result ≡ entries.next (table_at self.now.heap id).entries (seen self.now.texts key) }
     {
-        self.tables[id.place()].next(&key)
+        self.table(id).next(&key)
     }
 
     /// The least border of a table, which is what `#` gives.
     pub fn border(&self, id: TableId) -> i64
         requires { IsTableOf self.now id }
-        ensures { (n : ℕ) × (result ≡ pos n) × IsLeast (table_at self.now.heap id).entries n }
+        ensures { result ≡ pos (entries.border (table_at self.now.heap id).entries) }
     {
-        self.tables[id.place()].border()
+        self.table(id).border()
     }
 
     /// The metatable of a table, or nil.
@@ -75,7 +78,7 @@ impl<'b> Store<'b> {
         ensures of { IsOf self.now result }
         ensures meta { seen self.now.texts result ≡ (table_at self.now.heap id).meta }
     {
-        self.tables[id.place()].meta()
+        self.table(id).meta()
     }
 
     /// Whether a table is read-only.
@@ -83,7 +86,7 @@ impl<'b> Store<'b> {
         requires { IsTableOf self.now id }
         ensures { result ≡ (table_at self.now.heap id).frozen }
     {
-        self.tables[id.place()].is_frozen()
+        self.table(id).is_frozen()
     }
 
     /// Sets a key of a table as `rawset` does, and tells whether that made a new entry. A refusal changes nothing.
