@@ -16,6 +16,8 @@ pub mod ids;
 pub mod markup;
 pub mod store;
 mod tables;
+#[cfg(test)]
+mod tests;
 mod texts;
 pub mod value;
 mod vectors;

@@ -1,0 +1,152 @@
+use crate::{MarkupNode, ProtoId, SetFault, Store, TableId, TextId, Value, builtin};
+use bumpalo::Bump;
+use std::alloc::Global;
+use std::process::Abort;
+use wk_base::{List, NoMemory};
+
+/// Makes a table that is its own key, value and metatable, and reads it.
+fn hold_itself(rt: &impl Abort, store: &mut Store) -> Result<(), NoMemory> {
+    let id = store.new_table()?;
+    let itself = Value::Table(id);
+    assert_eq!(rt; store.set(id, itself, itself), Ok(true));
+    if !store.is_frozen(id) {
+        store.set_meta(id, itself);
+    }
+    assert_eq!(rt; store.get(id, itself), itself);
+    assert_eq!(rt; store.meta(id), itself);
+    assert_eq!(rt; store.border(id), 0);
+    walk(rt, store, id, Value::Nil, itself, itself);
+    walk(rt, store, id, itself, Value::Nil, Value::Nil);
+    assert!(rt; store.next(id, Value::Bool(true)).is_err());
+    store.freeze(id);
+    assert!(rt; store.is_frozen(id));
+    assert_eq!(rt; store.set(id, itself, Value::Nil), Err(SetFault::Frozen));
+    assert_eq!(rt; store.table(id).get(&itself), itself);
+    Ok(())
+}
+
+/// Tries that a walk comes from one key to an entry.
+fn walk(rt: &impl Abort, store: &Store, id: TableId, from: Value, key: Value, value: Value)
+    requires table { IsTableOf store.now id }
+    requires from { IsOf store.now from }
+{
+    match store.next(id, from) {
+        Ok(step) => {
+            assert_eq!(rt; step.key, key);
+            assert_eq!(rt; step.value, value);
+            assert_eq!(rt; step.passed, 0);
+        }
+        Err(_) => assert!(rt; false),
+    }
+}
+
+ghost use Rattle.lua_store.specs.Parts.{IsTableOf, IsOf};
+
+/// Makes texts, and tries that equal bytes have one name.
+fn name_texts(rt: &impl Abort, store: &mut Store) -> Result<(), NoMemory> {
+    let empty = store.text(b"")?;
+    let first = store.text(b"ab")?;
+    let second = store.text(b"a")?;
+    assert!(rt; store.text(b"ab")? == first);
+    assert!(rt; store.text(b"")? == empty);
+    assert!(rt; first != second);
+    assert_eq!(rt; store.bytes(first), b"ab".as_slice());
+    assert!(rt; store.is_same(Value::Text(first), Value::Text(first)));
+    assert!(rt; !store.is_same(Value::Text(first), Value::Text(second)));
+    assert!(rt; !store.is_same(Value::Number(0), Value::Bool(false)));
+    Ok(())
+}
+
+/// Keeps a value in a cell.
+fn keep_in_cell(rt: &impl Abort, store: &mut Store) -> Result<(), NoMemory> {
+    let cell = store.new_cell(Value::Number(1))?;
+    let other = store.new_cell(Value::Nil)?;
+    assert_eq!(rt; store.cell(cell), Value::Number(1));
+    store.set_cell(cell, Value::Builtin(builtin::BASIC_NEXT));
+    assert_eq!(rt; store.cell(cell), Value::Builtin(6));
+    assert_eq!(rt; store.cell(other), Value::Nil);
+    Ok(())
+}
+
+/// Makes closures of two invocations.
+fn make_closures(rt: &impl Abort, store: &mut Store, alloc: Global) -> Result<(), NoMemory> {
+    let title = store.text(b"Module:A")?;
+    assert!(rt; !store.has_env(7));
+    let proto = ProtoId { title, index: 3 };
+    let first = store.new_closure(proto, 7, List::new(alloc))?;
+    let second = store.new_closure(proto, 9, List::new(alloc))?;
+    assert!(rt; first != second);
+    assert_eq!(rt; store.closure(first).env, 7);
+    assert_eq!(rt; store.closure(second).proto, proto);
+    assert!(rt; store.has_env(7) && store.has_env(9) && !store.has_env(8));
+    Ok(())
+}
+
+fn node(alloc: Global, name: TextId) -> MarkupNode
+    ensures name { result.name ≡ name }
+    ensures parent { result.parent ≡ None }
+    ensures attrs { result.attrs ≡ [] }
+    ensures styles { result.styles ≡ [] }
+    ensures children { result.children ≡ [] }
+{
+    MarkupNode {
+        name,
+        closed: false,
+        parent: None,
+        attrs: List::new(alloc),
+        styles: List::new(alloc),
+        children: List::new(alloc),
+    }
+}
+
+ghost use Rattle.std.specs.Prelude.{◌≡◌, None, []};
+
+/// Puts one markup object in the place of another.
+fn swap_nodes(rt: &impl Abort, store: &mut Store, alloc: Global) -> Result<(), NoMemory> {
+    let div = store.text(b"div")?;
+    let span = store.text(b"span")?;
+    let id = store.new_markup(node(alloc, div))?;
+    assert!(rt; store.markup(id).name == div);
+    let old = store.swap_markup(id, node(alloc, span));
+    assert!(rt; old.name == div);
+    assert!(rt; store.markup(id).name == span);
+    Ok(())
+}
+
+/// Makes so many texts twice. The second time each has the name that it has.
+fn count_texts(rt: &impl Abort, store: &mut Store, count: u64) -> Result<(), NoMemory> {
+    for n in 0..count {
+        let id = store.text(&n.to_le_bytes())?;
+        assert_eq!(rt; id.place() as u64, n);
+    }
+    for n in 0..count {
+        let id = store.text(&n.to_le_bytes())?;
+        assert_eq!(rt; id.place() as u64, n);
+        assert_eq!(rt; store.bytes(id), n.to_le_bytes().as_slice());
+    }
+    Ok(())
+}
+
+#[test]
+fn a_table_that_holds_itself_is_given_up_with_its_store(rt: HostRuntime) {
+    let arena = Bump::new(rt.alloc());
+    let mut store = Store::new(rt.alloc(), &arena);
+    assert!(rt; hold_itself(&rt, &mut store).is_ok());
+}
+
+#[test]
+fn each_call_is_made(rt: HostRuntime) {
+    let arena = Bump::new(rt.alloc());
+    let mut store = Store::new(rt.alloc(), &arena);
+    assert!(rt; name_texts(&rt, &mut store).is_ok());
+    assert!(rt; keep_in_cell(&rt, &mut store).is_ok());
+    assert!(rt; make_closures(&rt, &mut store, rt.alloc()).is_ok());
+    assert!(rt; swap_nodes(&rt, &mut store, rt.alloc()).is_ok());
+}
+
+#[test]
+fn a_million_texts_have_one_name_each(rt: HostRuntime) {
+    let arena = Bump::new(rt.alloc());
+    let mut store = Store::new(rt.alloc(), &arena);
+    assert!(rt; count_texts(&rt, &mut store, 1_000_000).is_ok());
+}
