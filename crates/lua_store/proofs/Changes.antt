@@ -110,8 +110,8 @@ module _ (p : Parts) (w : IsWhole p) where
       changed_table id (with_entry (table_in p.tables id) key value) (entry_set (table_at (held p).heap id) (seen p.texts key) (seen p.texts value))
       (record { entries = set_at-holds ghosts.eq same (seen p.texts) (IsOf (held p)) (eq-seen (held p) w.distinct) Nil tt (table_in p.tables id).entries key value of.entries k v; meta = of.meta })
       (ap (λ es. let t : Contents heap.Value = record { entries = es; meta = seen p.texts (table_in p.tables id).meta; frozen = (table_in p.tables id).frozen } in t)
-        (set_at-seen ghosts.eq same (seen p.texts) (IsOf (held p)) (eq-seen (held p) w.distinct) Nil tt (table_in p.tables id).entries key value of.entries k v)
-        ∙ ap (λ t. entry_set t (seen p.texts key) (seen p.texts value)) (sym (table_in-seen id)))
+      (set_at-seen ghosts.eq same (seen p.texts) (IsOf (held p)) (eq-seen (held p) w.distinct) Nil tt (table_in p.tables id).entries key value of.entries k v)
+      ∙ ap (λ t. entry_set t (seen p.texts key) (seen p.texts value)) (sym (table_in-seen id)))
 
   pub set_meta_table : (id : ℕ) (meta : Value) → id < length p.tables → IsOf (held p) meta
       → Became p (record p { tables = slice_set p.tables id (record (table_in p.tables id) { meta = meta }) }) (record (held p) { heap = set_meta_in (held p).heap id (seen p.texts meta) })
@@ -153,7 +153,7 @@ module _ (p : Parts) (w : IsWhole p) where
       let later = closures-later (held p) ((held p).heap.closures ++ seen_closure p.texts c ∷ []) ((held p).envs ++ c.env ∷ []) (more (held p).heap.closures (seen_closure p.texts c)) in
       became p (record p { closures = p.closures ++ c ∷ [] }) (record { texts = p.texts; heap = (new_closure (held p).heap (seen_closure p.texts c)).0; envs = (held p).envs ++ c.env ∷ [] }) w w.distinct
       (ap (λ cs. let s : Held = record { texts = p.texts; heap = record (held p).heap { closures = cs }; envs = envs_of (p.closures ++ c ∷ []) } in s) (map-append (seen_closure p.texts) p.closures (c ∷ []))
-        ∙ ap (λ es. let s : Held = record { texts = p.texts; heap = (new_closure (held p).heap (seen_closure p.texts c)).0; envs = es } in s) (map-append (λ (c : Closure). c.env) p.closures (c ∷ [])))
+      ∙ ap (λ es. let s : Held = record { texts = p.texts; heap = (new_closure (held p).heap (seen_closure p.texts c)).0; envs = es } in s) (map-append (λ (c : Closure). c.env) p.closures (c ∷ [])))
       later
       (λ own. record { tables = own.tables; cells = own.cells; closures = all-push (IsContentOf _) p.closures c own.closures (content_of-later (held p) _ later c of); markup = own.markup })
 
@@ -186,10 +186,10 @@ module _ (p : Parts) (w : IsWhole p) where
       let later : IsLater (held p) s = record { texts = longer-push p.texts bytes; tables = omega arith; cells = omega arith; closures = omega arith; markup = omega arith } in
       became p (record p { texts = texts }) s w (distinct-push p.texts bytes w.distinct new)
       (let a = map-alike (IsContentsOf (held p)) (seen_table texts) (seen_table p.texts) (table-later (held p) s later) p.tables w.own.tables in
-        let b = map-alike (IsOf (held p)) (seen texts) (seen p.texts) (seen-later (held p) s later) p.cells w.own.cells in
-        let c = map-alike (IsContentOf (held p)) (seen_closure texts) (seen_closure p.texts) (closure-later (held p) s later) p.closures w.own.closures in
-        let d = map-alike (IsNodeOf (held p)) (seen_node texts) (seen_node p.texts) (node-later (held p) s later) p.markup w.own.markup in
-        rw (a, b, c, d) refl)
+      let b = map-alike (IsOf (held p)) (seen texts) (seen p.texts) (seen-later (held p) s later) p.cells w.own.cells in
+      let c = map-alike (IsContentOf (held p)) (seen_closure texts) (seen_closure p.texts) (closure-later (held p) s later) p.closures w.own.closures in
+      let d = map-alike (IsNodeOf (held p)) (seen_node texts) (seen_node p.texts) (node-later (held p) s later) p.markup w.own.markup in
+      rw (a, b, c, d) refl)
       later
       (λ own. record { tables = own.tables; cells = own.cells; closures = own.closures; markup = own.markup })
 

@@ -38,18 +38,19 @@ module _ (s : Held) (once : IsDistinct bytes_eq s.texts) where
   first : (es : List (Value × Value)) (a : Step Value) → AllByRecursion (IsEntryOf s) es → Shows ghosts.eq Nil (first_held ghosts.eq Nil es) a
       → (seen_step s.texts a ≡ first_entry (map (seen_entry s.texts) es)) × IsOf s a.key × IsOf s a.value
   first es a all h =
-      let holds = first_held-holds ghosts.eq same (seen s.texts) (IsOf s) (eq-seen s once) Nil tt es all in
-      (shown (first_held ghosts.eq Nil es) a h ∙ sym (first_held-seen ghosts.eq same (seen s.texts) (IsOf s) (eq-seen s once) Nil tt es all),
+      let holds = first_held-holds ghosts.eq same (seen s.texts) (IsOf s) (eq-seen s once) Nil tt es all in (
+        shown (first_held ghosts.eq Nil es) a h ∙ sym (first_held-seen ghosts.eq same (seen s.texts) (IsOf s) (eq-seen s once) Nil tt es all),
         subst (IsOf s) (sym h.0) holds.0,
-        subst (IsOf s) (sym h.1) holds.1)
+        subst (IsOf s) (sym h.1) holds.1,
+      )
 
   -- what `next` of a table says of its answer
   abbrev pub IsNext : List (Value × Value) → Value → Result (Step Value) NoSuchKey → Type 0
   IsNext es key r =
       (key ≡ Nil → MatchResult r (λ a. Shows ghosts.eq Nil (first_held ghosts.eq Nil es) a) (λ _. ⊥))
       × (key ≢ Nil → MatchResult r
-          (λ a. MatchOption (after_key ghosts.eq Nil es key) ⊥ (λ rest. Shows ghosts.eq Nil (first_held ghosts.eq Nil rest) a))
-          (λ _. after_key ghosts.eq Nil es key ≡ None))
+      (λ a. MatchOption (after_key ghosts.eq Nil es key) ⊥ (λ rest. Shows ghosts.eq Nil (first_held ghosts.eq Nil rest) a))
+      (λ _. after_key ghosts.eq Nil es key ≡ None))
 
   abbrev pub IsSeenNext : List (Value × Value) → Value → Result (Step Value) NoSuchKey → Type 0
   IsSeenNext es key r = (seen_next s.texts r ≡ next (map (seen_entry s.texts) es) (seen s.texts key)) × IfOk r (λ a. IsOf s a.key × IsOf s a.value)
@@ -80,9 +81,11 @@ module _ (s : Held) (once : IsDistinct bytes_eq s.texts) where
           let f = at_first r (is.0 (nil_or_not s.texts key true e)) in
           (f.0 ∙ ap (λ b. cond b (Some (first_entry (map (seen_entry s.texts) es))) (option_map first_entry (behind_key (map (seen_entry s.texts) es) (seen s.texts key)))) (sym e), f.1)
       by false e =
-          let f = past (after_key ghosts.eq Nil es key) refl r (is.1 (nil_or_not s.texts key false e)) in
-          (f.0 ∙ ap (λ o. option_map first_entry o) (sym behind)
-            ∙ ap (λ b. cond b (Some (first_entry (map (seen_entry s.texts) es))) (option_map first_entry (behind_key (map (seen_entry s.texts) es) (seen s.texts key)))) (sym e), f.1)
+          let f = past (after_key ghosts.eq Nil es key) refl r (is.1 (nil_or_not s.texts key false e)) in (
+            f.0 ∙ ap (λ o. option_map first_entry o) (sym behind)
+                ∙ ap (λ b. cond b (Some (first_entry (map (seen_entry s.texts) es))) (option_map first_entry (behind_key (map (seen_entry s.texts) es) (seen s.texts key)))) (sym e),
+            f.1,
+          )
 
   pub get-seen : (es : List (Value × Value)) (key : Value) → AllByRecursion (IsEntryOf s) es → IsOf s key
       → seen s.texts (value_at ghosts.eq Nil es key) ≡ value_at same heap.Nil (map (seen_entry s.texts) es) (seen s.texts key)

@@ -7,8 +7,8 @@ ghost use Rattle.lua_store.specs.Envs.{is_among};
 ghost use Rattle.lua_store.specs.Seen.{text_at, seen, closed_of, seen_closure, seen_node};
 ghost use Rattle.lua_store.specs.Parts.{nothing, with_text, IsTextOf, IsCellOf, IsClosureOf, IsMarkupOf, IsOf, AreCellsOf, IsContentOf, IsNodeOf, IsLater};
 
-use crate::closures::Closures;
 use crate::closure::{Closure, ProtoId};
+use crate::closures::Closures;
 use crate::ids::{CellId, ClosureId, MarkupId, TextId};
 use crate::markup::MarkupNode;
 use crate::texts::Texts;
@@ -133,9 +133,9 @@ impl<'b> Store<'b> {
         ensures of { IfOk result (IsClosureOf self.new) }
         ensures id { IfOk result (λ id. id ≡ (heap.new_closure self.old.heap (closed_of (text_at self.old.texts proto.title) proto.index cells)).1) }
         ensures made { OnOk result (self.new ≡ record {
-            texts = self.old.texts;
-            heap = (heap.new_closure self.old.heap (closed_of (text_at self.old.texts proto.title) proto.index cells)).0;
-            envs = self.old.envs ++ env ∷ [];
+          texts = self.old.texts;
+          heap = (heap.new_closure self.old.heap (closed_of (text_at self.old.texts proto.title) proto.index cells)).0;
+          envs = self.old.envs ++ env ∷ [];
         }) }
         ensures later { IsLater self.old self.new }
         ensures err { OnErr result (self.new ≡ self.old) }

@@ -4,38 +4,57 @@ use std::alloc::Global;
 use std::process::Abort;
 use wk_base::{List, NoMemory};
 
-/// Makes a table that is its own key, value and metatable, and reads it.
-fn hold_itself(rt: &impl Abort, store: &mut Store) -> Result<(), NoMemory> {
+/// Makes a table its own metatable.
+fn set_itself(store: &mut Store, id: TableId)
+    requires { IsTableOf store.old id }
+    ensures { IsTableOf store.new id }
+{
+    if !store.is_frozen(id) {
+        store.set_meta(id, Value::Table(id));
+    }
+}
+
+/// Makes a table that is its own key, value and metatable.
+fn hold_itself(rt: &impl Abort, store: &mut Store) -> Result<TableId, NoMemory>
+    ensures { IfOk result (IsTableOf store.new) }
+{
     let id = store.new_table()?;
     let itself = Value::Table(id);
     assert_eq!(rt; store.set(id, itself, itself), Ok(true));
-    if !store.is_frozen(id) {
-        store.set_meta(id, itself);
-    }
-    assert_eq!(rt; store.get(id, itself), itself);
-    assert_eq!(rt; store.meta(id), itself);
-    assert_eq!(rt; store.border(id), 0);
-    walk(rt, store, id, Value::Nil, itself, itself);
-    walk(rt, store, id, itself, Value::Nil, Value::Nil);
-    assert!(rt; store.next(id, Value::Bool(true)).is_err());
-    store.freeze(id);
-    assert!(rt; store.is_frozen(id));
-    assert_eq!(rt; store.set(id, itself, Value::Nil), Err(SetFault::Frozen));
-    assert_eq!(rt; store.table(id).get(&itself), itself);
-    Ok(())
+    set_itself(store, id);
+    Ok(id)
 }
 
-/// Tries that a walk comes from one key to an entry.
-fn walk(rt: &impl Abort, store: &Store, id: TableId, from: Value, key: Value, value: Value)
+/// Reads such a table.
+fn read_itself(rt: &impl Abort, store: &Store, id: TableId)
+    requires { IsTableOf store.now id }
+{
+    let itself = Value::Table(id);
+    assert!(rt; store.get(id, itself) == itself);
+    assert!(rt; store.table(id).get(&itself) == itself);
+    assert!(rt; store.meta(id) == itself);
+    assert!(rt; store.border(id) == 0);
+    walk(rt, store, id, Value::Nil, itself);
+    walk(rt, store, id, itself, Value::Nil);
+    assert!(rt; store.next(id, Value::Bool(true)).is_err());
+}
+
+/// Makes a table read-only.
+fn freeze(rt: &impl Abort, store: &mut Store, id: TableId)
+    requires { IsTableOf store.old id }
+{
+    store.freeze(id);
+    assert!(rt; store.is_frozen(id));
+    assert!(rt; store.set(id, Value::Nil, Value::Nil) == Err(SetFault::Frozen));
+}
+
+/// Tries that a walk comes from one key to another, which is its own value.
+fn walk(rt: &impl Abort, store: &Store, id: TableId, from: Value, to: Value)
     requires table { IsTableOf store.now id }
     requires from { IsOf store.now from }
 {
     match store.next(id, from) {
-        Ok(step) => {
-            assert_eq!(rt; step.key, key);
-            assert_eq!(rt; step.value, value);
-            assert_eq!(rt; step.passed, 0);
-        }
+        Ok(step) => assert!(rt; step.key == to && step.value == to && step.passed == 0),
         Err(_) => assert!(rt; false),
     }
 }
@@ -50,7 +69,7 @@ fn name_texts(rt: &impl Abort, store: &mut Store) -> Result<(), NoMemory> {
     assert!(rt; store.text(b"ab")? == first);
     assert!(rt; store.text(b"")? == empty);
     assert!(rt; first != second);
-    assert_eq!(rt; store.bytes(first), b"ab".as_slice());
+    assert!(rt; store.bytes(first) == b"ab".as_slice());
     assert!(rt; store.is_same(Value::Text(first), Value::Text(first)));
     assert!(rt; !store.is_same(Value::Text(first), Value::Text(second)));
     assert!(rt; !store.is_same(Value::Number(0), Value::Bool(false)));
@@ -61,10 +80,10 @@ fn name_texts(rt: &impl Abort, store: &mut Store) -> Result<(), NoMemory> {
 fn keep_in_cell(rt: &impl Abort, store: &mut Store) -> Result<(), NoMemory> {
     let cell = store.new_cell(Value::Number(1))?;
     let other = store.new_cell(Value::Nil)?;
-    assert_eq!(rt; store.cell(cell), Value::Number(1));
+    assert!(rt; store.cell(cell) == Value::Number(1));
     store.set_cell(cell, Value::Builtin(builtin::BASIC_NEXT));
-    assert_eq!(rt; store.cell(cell), Value::Builtin(6));
-    assert_eq!(rt; store.cell(other), Value::Nil);
+    assert!(rt; store.cell(cell) == Value::Builtin(6));
+    assert!(rt; store.cell(other) == Value::Nil);
     Ok(())
 }
 
@@ -76,9 +95,9 @@ fn make_closures(rt: &impl Abort, store: &mut Store, alloc: Global) -> Result<()
     let first = store.new_closure(proto, 7, List::new(alloc))?;
     let second = store.new_closure(proto, 9, List::new(alloc))?;
     assert!(rt; first != second);
-    assert_eq!(rt; store.closure(first).env, 7);
-    assert_eq!(rt; store.closure(second).proto, proto);
-    assert!(rt; store.has_env(7) && store.has_env(9) && !store.has_env(8));
+    assert!(rt; store.closure(first).env == 7);
+    assert!(rt; store.closure(second).proto == proto);
+    assert!(rt; store.has_env(7) & store.has_env(9) & !store.has_env(8));
     Ok(())
 }
 
@@ -99,7 +118,7 @@ fn node(alloc: Global, name: TextId) -> MarkupNode
     }
 }
 
-ghost use Rattle.std.specs.Prelude.{◌≡◌, None, []};
+ghost use Rattle.std.specs.Prelude.{◌≡◌, IfOk, None, []};
 
 /// Puts one markup object in the place of another.
 fn swap_nodes(rt: &impl Abort, store: &mut Store, alloc: Global) -> Result<(), NoMemory> {
@@ -117,12 +136,12 @@ fn swap_nodes(rt: &impl Abort, store: &mut Store, alloc: Global) -> Result<(), N
 fn count_texts(rt: &impl Abort, store: &mut Store, count: u64) -> Result<(), NoMemory> {
     for n in 0..count {
         let id = store.text(&n.to_le_bytes())?;
-        assert_eq!(rt; id.place() as u64, n);
+        assert!(rt; id.place() as u64 == n);
     }
     for n in 0..count {
         let id = store.text(&n.to_le_bytes())?;
-        assert_eq!(rt; id.place() as u64, n);
-        assert_eq!(rt; store.bytes(id), n.to_le_bytes().as_slice());
+        assert!(rt; id.place() as u64 == n);
+        assert!(rt; store.bytes(id) == n.to_le_bytes().as_slice());
     }
     Ok(())
 }
@@ -131,7 +150,13 @@ fn count_texts(rt: &impl Abort, store: &mut Store, count: u64) -> Result<(), NoM
 fn a_table_that_holds_itself_is_given_up_with_its_store(rt: HostRuntime) {
     let arena = Bump::new(rt.alloc());
     let mut store = Store::new(rt.alloc(), &arena);
-    assert!(rt; hold_itself(&rt, &mut store).is_ok());
+    match hold_itself(&rt, &mut store) {
+        Ok(id) => {
+            read_itself(&rt, &store, id);
+            freeze(&rt, &mut store, id);
+        }
+        Err(_) => assert!(rt; false),
+    }
 }
 
 #[test]
