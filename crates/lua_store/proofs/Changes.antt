@@ -14,6 +14,11 @@ use Rattle.lua_heap.specs.Value as heap
 use Rattle.lua_heap.specs.Value.{same, is_nil}
 use Rattle.lua_heap.specs.Table.{has}
 use Rattle.lua_heap.specs.Heap.{Heap, MarkupNode as HeapNode, Closed, new_table, Obj, TableObj, tab, put, table_at, with_entry as entry_set, set_in, set_meta_in, freeze_in, new_cell, set_cell_in, new_closure, new_markup, set_markup_in, markup_at, no_markup}
+use Rattle.lua_store.specs.declared.ids.TextId.{TextId}
+use Rattle.lua_store.specs.declared.ids.TableId.{TableId}
+use Rattle.lua_store.specs.declared.ids.CellId.{CellId}
+use Rattle.lua_store.specs.declared.ids.ClosureId.{ClosureId}
+use Rattle.lua_store.specs.declared.ids.MarkupId.{MarkupId}
 use Rattle.lua_store.specs.declared.value.Value.{Value}
 use Rattle.lua_store.specs.declared.value.Value.TheVariants.{Nil}
 use Rattle.lua_store.specs.contracts.value.ValuePartialEq.TheImpl.{ghosts}
@@ -206,16 +211,16 @@ unfolding IsDistinct
 whole-nothing = record { distinct = tt; own = record { tables = tt; cells = tt; closures = tt; markup = tt } }
 
 -- an id of the store is a place in what is kept
-pub table_place : (p : Parts) (s : Held) → held p ≡ s → (id : ℕ) → IsTableOf s id → id < length p.tables
+pub table_place : (p : Parts) (s : Held) → held p ≡ s → (id : TableId) → IsTableOf s id → id.at < length p.tables
 table_place p s shown id h = let e = length-map p.tables (seen_table p.texts) in let f = ap (λ (t : Held). length t.heap.tables) shown in omega (arith, e, f, h)
 
-pub cell_place : (p : Parts) (s : Held) → held p ≡ s → (id : ℕ) → IsCellOf s id → id < length p.cells
+pub cell_place : (p : Parts) (s : Held) → held p ≡ s → (id : CellId) → IsCellOf s id → id.at < length p.cells
 cell_place p s shown id h = let e = length-map p.cells (seen p.texts) in let f = ap (λ (t : Held). length t.heap.cells) shown in omega (arith, e, f, h)
 
-pub closure_place : (p : Parts) (s : Held) → held p ≡ s → (id : ℕ) → IsClosureOf s id → id < length p.closures
+pub closure_place : (p : Parts) (s : Held) → held p ≡ s → (id : ClosureId) → IsClosureOf s id → id.at < length p.closures
 closure_place p s shown id h = let e = length-map p.closures (seen_closure p.texts) in let f = ap (λ (t : Held). length t.heap.closures) shown in omega (arith, e, f, h)
 
-pub markup_place : (p : Parts) (s : Held) → held p ≡ s → (id : ℕ) → IsMarkupOf s id → id < length p.markup
+pub markup_place : (p : Parts) (s : Held) → held p ≡ s → (id : MarkupId) → IsMarkupOf s id → id.at < length p.markup
 markup_place p s shown id h = let e = length-map p.markup (seen_node p.texts) in let f = ap (λ (t : Held). length t.heap.markup) shown in omega (arith, e, f, h)
 
 -- A set that may be refused
@@ -247,6 +252,7 @@ pub markup-seen : (p : Parts) → IsWhole p → (id : ℕ) (n : MarkupNode) → 
 markup-seen p w id n h = sym (get_or_from_slice_get (map (seen_node p.texts) p.markup) id (seen_node p.texts n) no_markup (slice_get-map (seen_node p.texts) p.markup id ∙ ap (option_map (seen_node p.texts)) h))
 
 -- a text that is found at one place is at no other
-pub one_text : (p : Parts) → IsWhole p → (bytes : List ℕ) (other id : ℕ) → other < length p.texts → text_at p.texts other ≡ bytes → slice_get p.texts id ≡ Some bytes → other ≡ id
+pub one_text : (p : Parts) → IsWhole p → (bytes : List ℕ) (other id : TextId) → other.at < length p.texts → text_at p.texts other.at ≡ bytes → slice_get p.texts id.at ≡ Some bytes → other ≡ id
 one_text p w bytes other id h is there =
-    one_place p.texts other id w.distinct h (slice_get_within p.texts id bytes there) (is ∙ sym (get_or_from_slice_get p.texts id bytes [] there))
+    let e = one_place p.texts other.at id.at w.distinct h (slice_get_within p.texts id.at bytes there) (is ∙ sym (get_or_from_slice_get p.texts id.at bytes [] there)) in
+    ap (λ n. let x : TextId = record { at = n } in x) e

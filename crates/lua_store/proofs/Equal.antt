@@ -28,11 +28,11 @@ pub seen-one : (s : Held) (a b : Value) → IsDistinct bytes_eq s.texts → IsOf
 seen-one s Nil Nil d h k e = refl
 seen-one s (Truth a) (Truth b) d h k e = ap Truth cc
 seen-one s (Number a) (Number b) d h k e = ap Number cc
-seen-one s (Text a) (Text b) d h k e = ap Text (one_place s.texts a b d h k cc)
-seen-one s (Table a) (Table b) d h k e = ap Table cc
-seen-one s (Closure a) (Closure b) d h k e = ap Closure cc
+seen-one s (Text a) (Text b) d h k e = ap (λ n. Text (record { at = n })) (one_place s.texts a.at b.at d h k cc)
+seen-one s (Table a) (Table b) d h k e = let is : a.at ≡ b.at = cc in ap (λ n. Table (record { at = n })) is
+seen-one s (Closure a) (Closure b) d h k e = let is : a.at ≡ b.at = cc in ap (λ n. Closure (record { at = n })) is
 seen-one s (Builtin a) (Builtin b) d h k e = ap Builtin cc
-seen-one s (Markup a) (Markup b) d h k e = ap Markup cc
+seen-one s (Markup a) (Markup b) d h k e = let is : a.at ≡ b.at = cc in ap (λ n. Markup (record { at = n })) is
 seen-one s _ _ d h k e = cc
 
 same_value-alike : (a : Value) → ghosts.eq a a ≡ true
@@ -40,11 +40,11 @@ same_value-alike Nil = refl
 same_value-alike (Truth true) = refl
 same_value-alike (Truth false) = refl
 same_value-alike (Number n) = (Decides-int_eq n n).1 refl
-same_value-alike (Text id) = (Decides-eqb id id).1 refl
-same_value-alike (Table id) = (Decides-eqb id id).1 refl
-same_value-alike (Closure id) = (Decides-eqb id id).1 refl
+same_value-alike (Text id) = (Decides-eqb id.at id.at).1 refl
+same_value-alike (Table id) = (Decides-eqb id.at id.at).1 refl
+same_value-alike (Closure id) = (Decides-eqb id.at id.at).1 refl
 same_value-alike (Builtin id) = (Decides-eqb id id).1 refl
-same_value-alike (Markup id) = (Decides-eqb id id).1 refl
+same_value-alike (Markup id) = (Decides-eqb id.at id.at).1 refl
 
 pub eq-seen : (s : Held) → IsDistinct bytes_eq s.texts → (a b : Value) → IsOf s a → IsOf s b → ghosts.eq a b ≡ same (seen s.texts a) (seen s.texts b)
 eq-seen s d a b h k = both_ways (ghosts.eq a b) (same (seen s.texts a) (seen s.texts b))

@@ -6,6 +6,9 @@ use Rattle.lua_table.specs.Entries.{Contents}
 use Rattle.lua_heap.specs.Value as heap
 use Rattle.lua_heap.specs.Value.{Value as HeapValue}
 use Rattle.lua_heap.specs.Heap as objects
+use Rattle.std.specs.Option.{option_map}
+use Rattle.lua_store.specs.declared.ids.TextId.{TextId}
+use Rattle.lua_store.specs.declared.ids.MarkupId.{MarkupId}
 use Rattle.lua_store.specs.declared.value.Value.{Value}
 use Rattle.lua_store.specs.declared.value.Value.TheVariants.{Nil, Bool as Truth, Number, Text, Table, Closure as ClosureValue, Builtin, Markup}
 use Rattle.lua_store.specs.declared.closure.Closure.{Closure}
@@ -15,7 +18,7 @@ use Rattle.lua_store.specs.declared.markup.MarkupStyle.TheVariants.{Item, Text a
 use Rattle.lua_store.specs.declared.markup.MarkupChild.{MarkupChild}
 use Rattle.lua_store.specs.declared.markup.MarkupChild.TheVariants.{Text as ChildText, Node as ChildNode}
 use Rattle.lua_store.specs.declared.markup.MarkupNode.{MarkupNode}
-use Rattle.lua_store.specs.Seen.{Held, text_at, seen, seen_entry, seen_table, seen_closure, closed_of, seen_pair, seen_style, seen_child, seen_node}
+use Rattle.lua_store.specs.Seen.{Held, text_at, seen, seen_entry, seen_table, seen_closure, places_of, closed_of, seen_pair, seen_style, seen_child, seen_node}
 use Rattle.lua_store.specs.Parts.{Parts, held, IsOf, IsTextOf, IsCellOf, IsEntryOf, IsContentsOf, IsContentOf, IsPairOf, IsStyleOf, IsChildOf, IsParentOf, IsNodeOf, AreOf, IsLonger, IsLater}
 use Rattle.lua_store.proofs.Lists.{all-to, map-alike}
 
@@ -51,7 +54,7 @@ later-then s t u l m = record {
 module _ (s t : Held) (l : IsLater s t) where
   -- what is of the earlier store is of the later one
 
-  pub text_of-later : (id : ℕ) → IsTextOf s id → IsTextOf t id
+  pub text_of-later : (id : TextId) → IsTextOf s id → IsTextOf t id
   text_of-later id h = omega (arith, h, l.texts.length_)
 
   pub of-later : (v : Value) → IsOf s v → IsOf t v
@@ -84,7 +87,7 @@ module _ (s t : Held) (l : IsLater s t) where
   child_of-later (ChildText id) h = text_of-later id h
   child_of-later (ChildNode id) h = omega (arith, h, l.markup)
 
-  parent_of-later : (p : Option ℕ) → IsParentOf s p → IsParentOf t p
+  parent_of-later : (p : Option MarkupId) → IsParentOf s p → IsParentOf t p
   parent_of-later None h = tt
   parent_of-later (Some id) h = omega (arith, h, l.markup)
 
@@ -107,14 +110,14 @@ module _ (s t : Held) (l : IsLater s t) where
 
   -- and is seen as it was
 
-  pub text-later : (id : ℕ) → IsTextOf s id → text_at t.texts id ≡ text_at s.texts id
-  text-later id h = l.texts.same id h
+  pub text-later : (id : TextId) → IsTextOf s id → text_at t.texts id.at ≡ text_at s.texts id.at
+  text-later id h = l.texts.same id.at h
 
   pub seen-later : (v : Value) → IsOf s v → seen t.texts v ≡ seen s.texts v
   seen-later Nil h = refl
   seen-later (Truth b) h = refl
   seen-later (Number n) h = refl
-  seen-later (Text id) h = ap heap.Text (l.texts.same id h)
+  seen-later (Text id) h = ap heap.Text (l.texts.same id.at h)
   seen-later (Table id) h = refl
   seen-later (ClosureValue id) h = refl
   seen-later (Builtin which) h = refl
@@ -130,14 +133,14 @@ module _ (s t : Held) (l : IsLater s t) where
       ∙ ap (λ v. let x : Contents HeapValue = record { entries = map (seen_entry s.texts) c.entries; meta = v; frozen = c.frozen } in x) (seen-later c.meta h.meta)
 
   pub closure-later : (c : Closure) → IsContentOf s c → seen_closure t.texts c ≡ seen_closure s.texts c
-  closure-later c h = ap (λ title. closed_of title c.proto.index c.cells) (text-later c.proto.title h.title)
+  closure-later c h = ap (λ title. closed_of title c.proto.index (places_of c.cells)) (text-later c.proto.title h.title)
 
   pair-later : (p : TextPair) → IsPairOf s p → seen_pair t.texts p ≡ seen_pair s.texts p
-  pair-later p h = ap (λ (k : List ℕ). let x : List ℕ × List ℕ = (k, text_at t.texts p.value) in x) (text-later p.name h.0)
-      ∙ ap (λ (v : List ℕ). let x : List ℕ × List ℕ = (text_at s.texts p.name, v) in x) (text-later p.value h.1)
+  pair-later p h = ap (λ (k : List ℕ). let x : List ℕ × List ℕ = (k, text_at t.texts p.value.at) in x) (text-later p.name h.0)
+      ∙ ap (λ (v : List ℕ). let x : List ℕ × List ℕ = (text_at s.texts p.name.at, v) in x) (text-later p.value h.1)
 
   style-later : (p : MarkupStyle) → IsStyleOf s p → seen_style t.texts p ≡ seen_style s.texts p
-  style-later (Item p) h = ap (λ k. objects.Item k (text_at t.texts p.value)) (text-later p.name h.0) ∙ ap (λ v. objects.Item (text_at s.texts p.name) v) (text-later p.value h.1)
+  style-later (Item p) h = ap (λ k. objects.Item k (text_at t.texts p.value.at)) (text-later p.name h.0) ∙ ap (λ v. objects.Item (text_at s.texts p.name.at) v) (text-later p.value h.1)
   style-later (StyleText id) h = ap objects.StyleText (text-later id h)
 
   child-later : (p : MarkupChild) → IsChildOf s p → seen_child t.texts p ≡ seen_child s.texts p
@@ -153,6 +156,6 @@ module _ (s t : Held) (l : IsLater s t) where
     where
       all_four : {name name' : List ℕ} {attrs attrs' : List (List ℕ × List ℕ)} {styles styles' : List objects.MarkupStyle} {children children' : List objects.MarkupChild}
           → name ≡ name' → attrs ≡ attrs' → styles ≡ styles' → children ≡ children'
-          → (let x : objects.MarkupNode = record { name = name; closed = n.closed; parent = n.parent; attrs = attrs; styles = styles; children = children } in x)
-          ≡ record { name = name'; closed = n.closed; parent = n.parent; attrs = attrs'; styles = styles'; children = children' }
+          → (let x : objects.MarkupNode = record { name = name; closed = n.closed; parent = option_map (λ id. id.at) n.parent; attrs = attrs; styles = styles; children = children } in x)
+          ≡ record { name = name'; closed = n.closed; parent = option_map (λ id. id.at) n.parent; attrs = attrs'; styles = styles'; children = children' }
       all_four a b c d = rw (a, b, c, d) refl

@@ -5,6 +5,11 @@ use Rattle.std.specs.Str.{bytes_eq}
 use Rattle.lua_table.specs.Entries.{Contents, set_at}
 use Rattle.lua_table.specs.declared.table.Step.{Step}
 use Rattle.lua_heap.specs.Heap.{Heap, empty}
+use Rattle.lua_store.specs.declared.ids.TextId.{TextId}
+use Rattle.lua_store.specs.declared.ids.TableId.{TableId}
+use Rattle.lua_store.specs.declared.ids.CellId.{CellId}
+use Rattle.lua_store.specs.declared.ids.ClosureId.{ClosureId}
+use Rattle.lua_store.specs.declared.ids.MarkupId.{MarkupId}
 use Rattle.lua_store.specs.declared.value.Value.{Value}
 use Rattle.lua_store.specs.declared.value.Value.TheVariants.{Nil, Bool as Truth, Number, Text, Table, Closure as ClosureValue, Builtin, Markup}
 use Rattle.lua_store.specs.contracts.value.ValuePartialEq.TheImpl.{ghosts}
@@ -38,20 +43,20 @@ held p = record {
 }
 
 -- ids of a store
-abbrev pub IsTextOf : Held → ℕ → Type 0
-IsTextOf s id = id < length s.texts
+abbrev pub IsTextOf : Held → TextId → Type 0
+IsTextOf s id = id.at < length s.texts
 
-abbrev pub IsTableOf : Held → ℕ → Type 0
-IsTableOf s id = id < length s.heap.tables
+abbrev pub IsTableOf : Held → TableId → Type 0
+IsTableOf s id = id.at < length s.heap.tables
 
-abbrev pub IsCellOf : Held → ℕ → Type 0
-IsCellOf s id = id < length s.heap.cells
+abbrev pub IsCellOf : Held → CellId → Type 0
+IsCellOf s id = id.at < length s.heap.cells
 
-abbrev pub IsClosureOf : Held → ℕ → Type 0
-IsClosureOf s id = id < length s.heap.closures
+abbrev pub IsClosureOf : Held → ClosureId → Type 0
+IsClosureOf s id = id.at < length s.heap.closures
 
-abbrev pub IsMarkupOf : Held → ℕ → Type 0
-IsMarkupOf s id = id < length s.heap.markup
+abbrev pub IsMarkupOf : Held → MarkupId → Type 0
+IsMarkupOf s id = id.at < length s.heap.markup
 
 -- values, and what else holds ids, that name only what the store has
 abbrev pub IsOf : Held → Value → Type 0
@@ -71,7 +76,7 @@ pub record IsContentsOf (s : Held) (t : Contents Value) : Type 0 where
   pub entries : AllByRecursion (IsEntryOf s) t.entries
   pub meta : IsOf s t.meta
 
-abbrev pub AreCellsOf : Held → List ℕ → Type 0
+abbrev pub AreCellsOf : Held → List CellId → Type 0
 AreCellsOf s cells = AllByRecursion (IsCellOf s) cells
 
 pub record IsContentOf (s : Held) (c : Closure) : Type 0 where
@@ -89,7 +94,7 @@ abbrev pub IsChildOf : Held → MarkupChild → Type 0
 IsChildOf s (ChildText id) = IsTextOf s id
 IsChildOf s (ChildNode id) = IsMarkupOf s id
 
-abbrev pub IsParentOf : Held → Option ℕ → Type 0
+abbrev pub IsParentOf : Held → Option MarkupId → Type 0
 IsParentOf s None = Unit {0}
 IsParentOf s (Some id) = IsMarkupOf s id
 

@@ -1,10 +1,11 @@
 //! The store of one page.
-ghost use Rattle.std.specs.Prelude.{◌≡◌, ◌++◌, ◌∷◌, [], ℕ, Some, slice_get, IfOk, OnOk, OnErr};
+ghost use Rattle.std.specs.Prelude.{◌≡◌, ◌++◌, ◌∷◌, [], Some, slice_get, IfOk, OnOk, OnErr};
 ghost use Rattle.lua_heap.specs.Heap as heap;
 ghost use Rattle.lua_heap.specs.Heap.{cell_at, closure_at, markup_at, set_cell_in, set_markup_in};
 ghost use Rattle.lua_heap.specs.Value.{same};
+ghost use Rattle.lua_store.specs.declared.ids.TextId.{TextId};
 ghost use Rattle.lua_store.specs.Envs.{is_among};
-ghost use Rattle.lua_store.specs.Seen.{text_at, seen, closed_of, seen_closure, seen_node};
+ghost use Rattle.lua_store.specs.Seen.{text_at, seen, places_of, closed_of, seen_closure, seen_node};
 ghost use Rattle.lua_store.specs.Parts.{nothing, with_text, IsTextOf, IsCellOf, IsClosureOf, IsMarkupOf, IsOf, AreCellsOf, IsContentOf, IsNodeOf, IsLater};
 
 use crate::closure::{Closure, ProtoId};
@@ -62,8 +63,8 @@ impl<'b> Store<'b> {
     /// The one name of the text with these bytes, which is made where it is not there.
     pub fn text(&mut self, bytes: &[u8]) -> Result<TextId, NoMemory>
         ensures of { IfOk result (IsTextOf self.new) }
-        ensures there { IfOk result (λ id. text_at self.new.texts id ≡ bytes.now) }
-        ensures one { IfOk result (λ id. (other : ℕ) → IsTextOf self.new other → text_at self.new.texts other ≡ bytes.now → other ≡ id) }
+        ensures there { IfOk result (λ id. text_at self.new.texts id.at ≡ bytes.now) }
+        ensures one { IfOk result (λ id. (other : TextId) → IsTextOf self.new other → text_at self.new.texts other.at ≡ bytes.now → other ≡ id) }
         ensures kept { OnOk result (self.new ≡ record self.old { texts = with_text self.old.texts bytes.now }) }
         ensures later { IsLater self.old self.new }
         ensures err { OnErr result (self.new ≡ self.old) }
@@ -74,7 +75,7 @@ impl<'b> Store<'b> {
     /// The bytes of a text.
     pub fn bytes(&self, id: TextId) -> &'b [u8]
         requires { IsTextOf self.now id }
-        ensures { result.now ≡ text_at self.now.texts id }
+        ensures { result.now ≡ text_at self.now.texts id.at }
     {
         self.texts.bytes(id.place())
     }
@@ -93,7 +94,7 @@ impl<'b> Store<'b> {
     pub fn new_cell(&mut self, value: Value) -> Result<CellId, NoMemory>
         requires { IsOf self.old value }
         ensures of { IfOk result (IsCellOf self.new) }
-        ensures id { IfOk result (λ id. id ≡ (heap.new_cell self.old.heap (seen self.old.texts value)).1) }
+        ensures id { IfOk result (λ id. id.at ≡ (heap.new_cell self.old.heap (seen self.old.texts value)).1) }
         ensures made { OnOk result (self.new ≡ record self.old { heap = (heap.new_cell self.old.heap (seen self.old.texts value)).0 }) }
         ensures later { IsLater self.old self.new }
         ensures err { OnErr result (self.new ≡ self.old) }
@@ -105,7 +106,7 @@ impl<'b> Store<'b> {
     pub fn cell(&self, id: CellId) -> Value
         requires { IsCellOf self.now id }
         ensures of { IsOf self.now result }
-        ensures value { seen self.now.texts result ≡ cell_at self.now.heap id }
+        ensures value { seen self.now.texts result ≡ cell_at self.now.heap id.at }
     {
         self.cells[id.place()]
     }
@@ -114,7 +115,7 @@ impl<'b> Store<'b> {
     pub fn set_cell(&mut self, id: CellId, value: Value)
         requires cell { IsCellOf self.old id }
         requires value { IsOf self.old value }
-        ensures set { self.new ≡ record self.old { heap = set_cell_in self.old.heap id (seen self.old.texts value) } }
+        ensures set { self.new ≡ record self.old { heap = set_cell_in self.old.heap id.at (seen self.old.texts value) } }
         ensures later { IsLater self.old self.new }
     {
         let at = id.place();
@@ -131,10 +132,10 @@ impl<'b> Store<'b> {
         requires title { IsTextOf self.old proto.title }
         requires cells { AreCellsOf self.old cells }
         ensures of { IfOk result (IsClosureOf self.new) }
-        ensures id { IfOk result (λ id. id ≡ (heap.new_closure self.old.heap (closed_of (text_at self.old.texts proto.title) proto.index cells)).1) }
+        ensures id { IfOk result (λ id. id.at ≡ (heap.new_closure self.old.heap (closed_of (text_at self.old.texts proto.title.at) proto.index (places_of cells))).1) }
         ensures made { OnOk result (self.new ≡ record {
           texts = self.old.texts;
-          heap = (heap.new_closure self.old.heap (closed_of (text_at self.old.texts proto.title) proto.index cells)).0;
+          heap = (heap.new_closure self.old.heap (closed_of (text_at self.old.texts proto.title.at) proto.index (places_of cells))).0;
           envs = self.old.envs ++ env ∷ [];
         }) }
         ensures later { IsLater self.old self.new }
@@ -148,8 +149,8 @@ impl<'b> Store<'b> {
     pub fn closure(&self, id: ClosureId) -> &Closure
         requires { IsClosureOf self.now id }
         ensures of { IsContentOf self.now result.now }
-        ensures closure { closure_at self.now.heap id ≡ Some (seen_closure self.now.texts result.now) }
-        ensures env { slice_get self.now.envs id ≡ Some result.now.env }
+        ensures closure { closure_at self.now.heap id.at ≡ Some (seen_closure self.now.texts result.now) }
+        ensures env { slice_get self.now.envs id.at ≡ Some result.now.env }
     {
         self.closures.at(id.place())
     }
@@ -165,7 +166,7 @@ impl<'b> Store<'b> {
     pub fn new_markup(&mut self, node: MarkupNode) -> Result<MarkupId, NoMemory>
         requires { IsNodeOf self.old node }
         ensures of { IfOk result (IsMarkupOf self.new) }
-        ensures id { IfOk result (λ id. id ≡ (heap.new_markup self.old.heap (seen_node self.old.texts node)).1) }
+        ensures id { IfOk result (λ id. id.at ≡ (heap.new_markup self.old.heap (seen_node self.old.texts node)).1) }
         ensures made { OnOk result (self.new ≡ record self.old { heap = (heap.new_markup self.old.heap (seen_node self.old.texts node)).0 }) }
         ensures later { IsLater self.old self.new }
         ensures err { OnErr result (self.new ≡ self.old) }
@@ -177,7 +178,7 @@ impl<'b> Store<'b> {
     pub fn markup(&self, id: MarkupId) -> &MarkupNode
         requires { IsMarkupOf self.now id }
         ensures of { IsNodeOf self.now result.now }
-        ensures node { seen_node self.now.texts result.now ≡ markup_at self.now.heap id }
+        ensures node { seen_node self.now.texts result.now ≡ markup_at self.now.heap id.at }
     {
         &self.markup[id.place()]
     }
@@ -187,8 +188,8 @@ impl<'b> Store<'b> {
         requires id { IsMarkupOf self.old id }
         requires node { IsNodeOf self.old node }
         ensures of { IsNodeOf self.new result }
-        ensures was { seen_node self.old.texts result ≡ markup_at self.old.heap id }
-        ensures set { self.new ≡ record self.old { heap = set_markup_in self.old.heap id (seen_node self.old.texts node) } }
+        ensures was { seen_node self.old.texts result ≡ markup_at self.old.heap id.at }
+        ensures set { self.new ≡ record self.old { heap = set_markup_in self.old.heap id.at (seen_node self.old.texts node) } }
         ensures later { IsLater self.old self.new }
     {
         replace(&mut self.markup, id.place(), node)

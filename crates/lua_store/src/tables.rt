@@ -25,7 +25,7 @@ impl<'b> Store<'b> {
     /// A new table: empty, without a metatable, and it can be written.
     pub fn new_table(&mut self) -> Result<TableId, NoMemory>
         ensures of { IfOk result (IsTableOf self.new) }
-        ensures id { IfOk result (λ id. id ≡ (heap.new_table self.old.heap).1) }
+        ensures id { IfOk result (λ id. id.at ≡ (heap.new_table self.old.heap).1) }
         ensures made { OnOk result (self.new ≡ record self.old { heap = (heap.new_table self.old.heap).0 }) }
         ensures later { IsLater self.old self.new }
         ensures err { OnErr result (self.new ≡ self.old) }
@@ -39,7 +39,7 @@ impl<'b> Store<'b> {
         requires { IsTableOf self.now id }
         ensures once { IsDistinct bytes_eq self.now.texts }
         ensures of { IsContentsOf self.now result.now }
-        ensures table { seen_table self.now.texts result.now ≡ table_at self.now.heap id }
+        ensures table { seen_table self.now.texts result.now ≡ table_at self.now.heap id.at }
     {
         &self.tables[id.place()]
     }
@@ -49,7 +49,7 @@ impl<'b> Store<'b> {
         requires table { IsTableOf self.now id }
         requires key { IsOf self.now key }
         ensures of { IsOf self.now result }
-        ensures value { seen self.now.texts result ≡ entries.get (table_at self.now.heap id).entries (seen self.now.texts key) }
+        ensures value { seen self.now.texts result ≡ entries.get (table_at self.now.heap id.at).entries (seen self.now.texts key) }
     {
         self.table(id).get(&key)
     }
@@ -59,7 +59,7 @@ impl<'b> Store<'b> {
         requires table { IsTableOf self.now id }
         requires key { IsOf self.now key }
         ensures of { IfOk result (λ step. IsOf self.now step.key × IsOf self.now step.value) }
-        ensures next { seen_next self.now.texts result ≡ entries.next (table_at self.now.heap id).entries (seen self.now.texts key) }
+        ensures next { seen_next self.now.texts result ≡ entries.next (table_at self.now.heap id.at).entries (seen self.now.texts key) }
     {
         self.table(id).next(&key)
     }
@@ -67,7 +67,7 @@ impl<'b> Store<'b> {
     /// The least border of a table, which is what `#` gives.
     pub fn border(&self, id: TableId) -> i64
         requires { IsTableOf self.now id }
-        ensures { result ≡ pos (entries.border (table_at self.now.heap id).entries) }
+        ensures { result ≡ pos (entries.border (table_at self.now.heap id.at).entries) }
     {
         self.table(id).border()
     }
@@ -76,7 +76,7 @@ impl<'b> Store<'b> {
     pub fn meta(&self, id: TableId) -> Value
         requires { IsTableOf self.now id }
         ensures of { IsOf self.now result }
-        ensures meta { seen self.now.texts result ≡ (table_at self.now.heap id).meta }
+        ensures meta { seen self.now.texts result ≡ (table_at self.now.heap id.at).meta }
     {
         self.table(id).meta()
     }
@@ -84,7 +84,7 @@ impl<'b> Store<'b> {
     /// Whether a table is read-only.
     pub fn is_frozen(&self, id: TableId) -> bool
         requires { IsTableOf self.now id }
-        ensures { result ≡ (table_at self.now.heap id).frozen }
+        ensures { result ≡ (table_at self.now.heap id.at).frozen }
     {
         self.table(id).is_frozen()
     }
@@ -96,13 +96,13 @@ impl<'b> Store<'b> {
         requires table { IsTableOf self.old id }
         requires key { IsOf self.old key }
         requires value { IsOf self.old value }
-        ensures ok { OnOk result (self.new ≡ record self.old { heap = set_in self.old.heap id (seen self.old.texts key) (seen self.old.texts value) }) }
-        ensures made { IfOk result (λ made. made ≡ (not (has (table_at self.old.heap id).entries (seen self.old.texts key)) && not (is_nil (seen self.old.texts value)))) }
+        ensures ok { OnOk result (self.new ≡ record self.old { heap = set_in self.old.heap id.at (seen self.old.texts key) (seen self.old.texts value) }) }
+        ensures made { IfOk result (λ made. made ≡ (not (has (table_at self.old.heap id.at).entries (seen self.old.texts key)) && not (is_nil (seen self.old.texts value)))) }
         ensures later { IsLater self.old self.new }
         ensures err { OnErr result (self.new ≡ self.old) }
-        ensures frozen { (result ≡ Err SetFault.Frozen) ↔ ((table_at self.old.heap id).frozen ≡ true) }
-        ensures not_a_key { (result ≡ Err SetFault.NotAKey) ↔ (((table_at self.old.heap id).frozen ≡ false) × (seen self.old.texts key ≡ kind.Nil)) }
-        ensures memory { result ≡ Err SetFault.NoMemory → has (table_at self.old.heap id).entries (seen self.old.texts key) ≡ false }
+        ensures frozen { (result ≡ Err SetFault.Frozen) ↔ ((table_at self.old.heap id.at).frozen ≡ true) }
+        ensures not_a_key { (result ≡ Err SetFault.NotAKey) ↔ (((table_at self.old.heap id.at).frozen ≡ false) × (seen self.old.texts key ≡ kind.Nil)) }
+        ensures memory { result ≡ Err SetFault.NoMemory → has (table_at self.old.heap id.at).entries (seen self.old.texts key) ≡ false }
         ensures clearing { result ≡ Err SetFault.NoMemory → is_nil (seen self.old.texts value) ≡ false }
     {
         set_entry(&mut self.tables, id.place(), key, value)
@@ -112,8 +112,8 @@ impl<'b> Store<'b> {
     pub fn set_meta(&mut self, id: TableId, meta: Value)
         requires table { IsTableOf self.old id }
         requires meta { IsOf self.old meta }
-        requires writable { (table_at self.old.heap id).frozen ≡ false }
-        ensures set { self.new ≡ record self.old { heap = set_meta_in self.old.heap id (seen self.old.texts meta) } }
+        requires writable { (table_at self.old.heap id.at).frozen ≡ false }
+        ensures set { self.new ≡ record self.old { heap = set_meta_in self.old.heap id.at (seen self.old.texts meta) } }
         ensures later { IsLater self.old self.new }
     {
         set_meta_of(&mut self.tables, id.place(), meta);
@@ -122,7 +122,7 @@ impl<'b> Store<'b> {
     /// Makes a table read-only for good.
     pub fn freeze(&mut self, id: TableId)
         requires { IsTableOf self.old id }
-        ensures frozen { self.new ≡ record self.old { heap = freeze_in self.old.heap id } }
+        ensures frozen { self.new ≡ record self.old { heap = freeze_in self.old.heap id.at } }
         ensures later { IsLater self.old self.new }
     {
         freeze_table(&mut self.tables, id.place());
