@@ -11,10 +11,11 @@ use std::io;
 use std::io::Read;
 
 /// What is to be done, and how often.
+#[derive(Clone, Copy)]
 struct Work {
     walks: bool,
     kind: Kind,
-    count: u64,
+    count: i64,
 }
 
 #[derive(Clone, Copy)]
@@ -30,11 +31,13 @@ fn after<'t>(text: &'t [u8], word: &[u8]) -> Option<&'t [u8]> {
     text.strip_prefix(word)
 }
 
-fn number(text: &[u8]) -> u64 {
-    let mut value = 0u64;
+fn number(text: &[u8]) -> i64 {
+    let mut value = 0i64;
     for byte in text.iter().copied() {
         if byte.is_ascii_digit() {
-            value = value.saturating_mul(10).saturating_add(u64::from(byte - b'0'));
+            value = value
+                .saturating_mul(10)
+                .saturating_add(i64::from(byte - b'0'));
         }
     }
     value
@@ -68,15 +71,15 @@ fn read_work(text: &[u8]) -> Option<Work> {
 }
 
 /// The key of the entry with that number, from 0 on.
-fn key(kind: Kind, n: u64) -> i64 {
+fn key(kind: Kind, n: i64) -> i64 {
     match kind {
-        Kind::Dense => (n as i64).wrapping_add(1),
-        _ => (n as i64).wrapping_neg().wrapping_sub(1),
+        Kind::Dense => n.wrapping_add(1),
+        _ => n.wrapping_neg().wrapping_sub(1),
     }
 }
 
 /// Gives the table so many entries; how many were set.
-fn fill(store: &mut Store, id: TableId, kind: Kind, count: u64) -> u64
+fn fill(store: &mut Store, id: TableId, kind: Kind, count: i64) -> i64
     requires { IsTableOf store.old id }
     ensures { IsTableOf store.new id }
 {
@@ -90,7 +93,7 @@ fn fill(store: &mut Store, id: TableId, kind: Kind, count: u64) -> u64
 }
 
 /// Walks over the table; how many entries there are.
-fn walk(store: &Store, id: TableId, most: u64) -> u64
+fn walk(store: &Store, id: TableId, most: i64) -> i64
     requires { IsTableOf store.now id }
 {
     let mut key = Value::Nil;
@@ -107,7 +110,7 @@ fn walk(store: &Store, id: TableId, most: u64) -> u64
 }
 
 /// Makes so many texts; how many were made.
-fn name_texts(store: &mut Store, count: u64) -> u64 {
+fn name_texts(store: &mut Store, count: i64) -> i64 {
     for n in 0..count {
         if store.text(&n.to_le_bytes()).is_err() {
             return n;
@@ -116,7 +119,7 @@ fn name_texts(store: &mut Store, count: u64) -> u64 {
     count
 }
 
-fn perform(store: &mut Store, work: &Work) -> u64 {
+fn perform(store: &mut Store, work: &Work) -> i64 {
     if let Kind::Texts = work.kind {
         return name_texts(store, work.count);
     }
