@@ -3,13 +3,14 @@
 
   bench/tables.py crates/table_bench/out/table_bench
 
-Seconds of processor time and the greatest memory of a run, of each the best of some rounds, less those of a run without work.
+Seconds of processor time, less those of a run without work, and the greatest memory of a run for each entry or text. Of each
+the best of some rounds counts, so that other work on the machine disturbs little.
 """
 import os
 import subprocess
 import sys
 
-ROUNDS = 5
+ROUNDS = 3
 WORKS = [("dense", 5_000_000), ("walk dense", 5_000_000), ("hashed", 2_000_000), ("walk hashed", 2_000_000), ("texts", 1_000_000)]
 
 
@@ -32,11 +33,11 @@ def best(program, work, count):
 
 def main():
     program = sys.argv[1]
-    start, blank = best(program, "dense", 0)
+    start, _ = best(program, "dense", 0)
     print(f"{'work':12} {'how many':>10} {'seconds':>8} {'bytes each':>11}")
     for work, count in WORKS:
         seconds, memory = best(program, work, count)
-        print(f"{work:12} {count:10,} {seconds - start:8.2f} {(memory - blank) / count:11.1f}")
+        print(f"{work:12} {count:10,} {seconds - start:8.2f} {memory / count:11.1f}")
 
 
 main()

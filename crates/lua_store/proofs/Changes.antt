@@ -1,19 +1,19 @@
 -- WHAT EACH CALL MAKES OF A STORE: of what is kept, and of what is seen.
-use Rattle.std.proofs.Common.{◌≡◌, ℕ, ◌<◌, ◌≤◌, Bool, true, false, true≢false, cond, List, [], ◌∷◌, ◌++◌, length, map, refl, sym, ap, ◌∙◌, arith, subst, slice_get, slice_set, slice_index_or, Some}
+use Rattle.std.proofs.Common.{◌≡◌, ℕ, ◌<◌, ◌≤◌, Bool, true, false, true≢false, cond, List, [], ◌∷◌, ◌++◌, length, map, refl, sym, ap, ◌∙◌, arith, subst, slice_get, slice_set, Some}
 use Rattle.std.specs.Option.{option_map}
 use Rattle.std.proofs.lemmas.Option.{slice_get-map, get_or_from_slice_get, slice_get_within}
 use Rattle.std.proofs.lemmas.Bool.{or_parts}
 use Rattle.std.proofs.lemmas.Slice.Eq.{bytes_eq-Decides}
 use Rattle.std.proofs.lemmas.List.{length-append, length-set, length-map, map-append, map-set}
 use Rattle.std.proofs.Math.ListN.{get_or-map}
-use Rattle.std.specs.List.{IsDistinct, AllByRecursion, list_any}
+use Rattle.std.specs.List.{IsDistinct, list_any}
 use Rattle.std.specs.Prelude.{Result, Ok, Err, OnOk, OnErr}
 use Rattle.std.specs.Str.{bytes_eq}
-use Rattle.lua_table.specs.Entries.{Contents, set_at, is_there}
+use Rattle.lua_table.specs.Entries.{Contents, is_there}
 use Rattle.lua_heap.specs.Value as heap
 use Rattle.lua_heap.specs.Value.{same, is_nil}
 use Rattle.lua_heap.specs.Table.{has}
-use Rattle.lua_heap.specs.Heap.{Heap, MarkupNode as HeapNode, Closed, new_table, Obj, TableObj, tab, put, table_at, with_entry as entry_set, set_in, set_meta_in, freeze_in, new_cell, set_cell_in, new_closure, new_markup, set_markup_in, markup_at, no_markup}
+use Rattle.lua_heap.specs.Heap.{MarkupNode as HeapNode, Closed, new_table, TableObj, tab, put, table_at, with_entry as entry_set, set_in, set_meta_in, freeze_in, new_cell, set_cell_in, new_closure, new_markup, set_markup_in, markup_at, no_markup}
 use Rattle.lua_store.specs.declared.ids.TextId.{TextId}
 use Rattle.lua_store.specs.declared.ids.TableId.{TableId}
 use Rattle.lua_store.specs.declared.ids.CellId.{CellId}
@@ -25,9 +25,9 @@ use Rattle.lua_store.specs.contracts.value.ValuePartialEq.TheImpl.{ghosts}
 use Rattle.lua_store.specs.declared.closure.Closure.{Closure}
 use Rattle.lua_store.specs.declared.markup.MarkupNode.{MarkupNode}
 use Rattle.lua_store.specs.Envs.{envs_of}
-use Rattle.lua_store.specs.Seen.{Proc, Held, text_at, seen, seen_entry, seen_table, seen_closure, seen_node}
-use Rattle.lua_store.specs.Parts.{Parts, held, IsTableOf, IsCellOf, IsClosureOf, IsMarkupOf, IsOf, IsEntryOf, IsContentsOf, IsContentOf, IsNodeOf, AreOf, IsWhole, no_contents, table_in, with_entry, with_text, IsLonger, IsLater}
-use Rattle.lua_store.proofs.Lists.{all-at, all-set, all-push, all-to, map-alike}
+use Rattle.lua_store.specs.Seen.{Proc, Held, text_at, seen, seen_table, seen_closure, seen_node}
+use Rattle.lua_store.specs.Parts.{Parts, held, IsTableOf, IsCellOf, IsClosureOf, IsMarkupOf, IsOf, IsContentsOf, IsContentOf, IsNodeOf, AreOf, IsWhole, no_contents, table_in, with_entry, with_text, IsLater}
+use Rattle.lua_store.proofs.Lists.{all-at, all-set, all-push, map-alike}
 use Rattle.lua_store.proofs.EntryMaps.{set_at-seen, set_at-holds, is_there-seen}
 use Rattle.lua_store.proofs.Equal.{eq-seen, one_place}
 use Rattle.lua_store.proofs.Later.{longer-itself, longer-push, later-itself, are_of-later, contents_of-later, table-later, content_of-later, closure-later, of-later, seen-later, node_of-later, node-later}

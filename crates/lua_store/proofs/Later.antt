@@ -1,5 +1,5 @@
 -- What a store has, a later one has too, and sees alike.
-use Rattle.std.proofs.Common.{◌≡◌, ℕ, ◌<◌, ◌≤◌, List, [], ◌∷◌, ◌++◌, length, Option, Some, None, refl, sym, ap, ◌∙◌, arith, map}
+use Rattle.std.proofs.Common.{◌≡◌, ℕ, List, [], ◌∷◌, ◌++◌, Option, Some, None, refl, ap, ◌∙◌, arith, map}
 use Rattle.std.proofs.Math.ListN.{get_or-append}
 use Rattle.std.proofs.lemmas.List.{length-append}
 use Rattle.lua_table.specs.Entries.{Contents}
@@ -19,7 +19,7 @@ use Rattle.lua_store.specs.declared.markup.MarkupChild.{MarkupChild}
 use Rattle.lua_store.specs.declared.markup.MarkupChild.TheVariants.{Text as ChildText, Node as ChildNode}
 use Rattle.lua_store.specs.declared.markup.MarkupNode.{MarkupNode}
 use Rattle.lua_store.specs.Seen.{Held, text_at, seen, seen_entry, seen_table, seen_closure, places_of, closed_of, seen_pair, seen_style, seen_child, seen_node}
-use Rattle.lua_store.specs.Parts.{Parts, held, IsOf, IsTextOf, IsCellOf, IsEntryOf, IsContentsOf, IsContentOf, IsPairOf, IsStyleOf, IsChildOf, IsParentOf, IsNodeOf, AreOf, IsLonger, IsLater}
+use Rattle.lua_store.specs.Parts.{Parts, IsOf, IsTextOf, IsCellOf, IsEntryOf, IsContentsOf, IsContentOf, IsPairOf, IsStyleOf, IsChildOf, IsParentOf, IsNodeOf, AreOf, IsLonger, IsLater}
 use Rattle.lua_store.proofs.Lists.{all-to, map-alike}
 
 -- IsLonger and IsLater go from any store to itself, and compose

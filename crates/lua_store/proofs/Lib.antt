@@ -5,3 +5,4 @@ pub mod Later
 pub mod TextLemmas
 pub mod Changes
 pub mod Walks
+pub mod There

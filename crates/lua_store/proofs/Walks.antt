@@ -1,15 +1,15 @@
 -- Where a walk by `next` stops, as it is kept and as it is seen; and the border.
-use Rattle.std.proofs.Common.{◌≡◌, ◌≢◌, ℕ, ◌<◌, ◌≤◌, ◌+◌, pos, Bool, true, false, true≢false, cond, List, [], ◌∷◌, length, map, refl, sym, ap, ◌∙◌, subst, Option, Some, None}
+use Rattle.std.proofs.Common.{◌≡◌, ◌≢◌, ℕ, ◌≤◌, ◌+◌, pos, Bool, true, false, true≢false, cond, List, map, refl, sym, ap, ◌∙◌, subst, Option, Some, None}
 use Rattle.std.specs.Prelude.{Result, Ok, Err, IfOk, MatchResult, MatchOption}
 use Rattle.std.specs.List.{AllByRecursion, IsDistinct}
 use Rattle.std.specs.Str.{bytes_eq}
 use Rattle.std.specs.Option.{option_map}
-use Rattle.lua_table.specs.Entries.{Contents, value_at, after_key, first_held, Stop, Shows, IsBorder, IsLeastBorder}
+use Rattle.lua_table.specs.Entries.{Contents, value_at, after_key, first_held, Stop, Shows, IsBorder}
 use Rattle.lua_table.specs.declared.table.Step.{Step}
 use Rattle.lua_table.specs.declared.table.NoSuchKey.{NoSuchKey}
 use Rattle.lua_heap.specs.Value as heap
 use Rattle.lua_heap.specs.Value.{same, is_nil}
-use Rattle.lua_heap.specs.Table.{ValueStop, next, first_entry, behind_key, border}
+use Rattle.lua_heap.specs.Table.{next, first_entry, behind_key, border}
 use Rattle.lua_heap.proofs.Borders.{border_is_only}
 use Rattle.lua_store.specs.declared.value.Value.{Value}
 use Rattle.lua_store.specs.declared.value.Value.TheVariants.{Nil, Number}

@@ -4,3 +4,4 @@ pub mod Seen
 pub mod Envs
 pub mod Parts
 pub mod Texts
+pub mod Laws

@@ -1,10 +1,9 @@
 -- WHAT A STORE KEEPS: texts, and objects whose values name a text by its place among the texts.
-use Rattle.std.specs.Prelude.{◌≡◌, ℕ, ◌<◌, ◌≤◌, Bool, false, List, [], ◌∷◌, ◌++◌, map, length, if◌then◌else◌, Option, Some, None, slice_index_or}
+use Rattle.std.specs.Prelude.{◌≡◌, ℕ, ◌<◌, ◌≤◌, false, List, [], ◌∷◌, ◌++◌, map, length, if◌then◌else◌, Option, Some, None, slice_index_or}
 use Rattle.std.specs.List.{list_any, AllByRecursion, IsDistinct}
 use Rattle.std.specs.Str.{bytes_eq}
 use Rattle.lua_table.specs.Entries.{Contents, set_at}
-use Rattle.lua_table.specs.declared.table.Step.{Step}
-use Rattle.lua_heap.specs.Heap.{Heap, empty}
+use Rattle.lua_heap.specs.Heap.{empty}
 use Rattle.lua_store.specs.declared.ids.TextId.{TextId}
 use Rattle.lua_store.specs.declared.ids.TableId.{TableId}
 use Rattle.lua_store.specs.declared.ids.CellId.{CellId}
@@ -21,7 +20,7 @@ use Rattle.lua_store.specs.declared.markup.MarkupChild.{MarkupChild}
 use Rattle.lua_store.specs.declared.markup.MarkupChild.TheVariants.{Text as ChildText, Node as ChildNode}
 use Rattle.lua_store.specs.declared.markup.MarkupNode.{MarkupNode}
 use Rattle.lua_store.specs.Envs.{envs_of}
-use Rattle.lua_store.specs.Seen.{Proc, Held, text_at, seen_table, seen, seen_closure, seen_node}
+use Rattle.lua_store.specs.Seen.{Held, text_at, seen_table, seen, seen_closure, seen_node}
 
 pub record Parts : Type 0 where
   pub texts : List (List ℕ)

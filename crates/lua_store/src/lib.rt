@@ -2,6 +2,7 @@
 //!
 //! - `ids`: the names of what stands in a store
 //! - `value`: the values of Lua
+//! - `laws`: what is true of all stores
 //! - `store`: the store, and its calls on texts, cells, closures and markup objects
 //! - `tables`: its calls on tables
 //! - `texts`: byte strings, each kept once
@@ -13,6 +14,7 @@
 pub mod closure;
 mod closures;
 pub mod ids;
+pub mod laws;
 pub mod markup;
 pub mod store;
 mod tables;

@@ -1,4 +1,4 @@
-use Rattle.std.proofs.Common.{rules, sym}
+use Rattle.std.proofs.Common.{sym}
 use Rattle.lua_store.proofs.TextLemmas.{find_same, text_there, with_text-there}
 use Rattle.lua_store.proofs.texts.find.Goals as goal
 

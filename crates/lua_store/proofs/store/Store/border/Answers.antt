@@ -1,6 +1,4 @@
-use Rattle.std.proofs.Common.{rules, ◌≡◌, ◌∙◌, ◌<◌, ap, subst, arith, ℕ, pos}
-use Rattle.lua_heap.specs.Table.{border}
-use Rattle.lua_heap.specs.Heap.{table_at}
+use Rattle.std.proofs.Common.{rules, ◌∙◌, ◌<◌, ap, arith, pos}
 use Rattle.lua_store.proofs.Walks.{border-at}
 use Rattle.lua_store.proofs.store.Store.border.Goals as goal
 

@@ -1,5 +1,5 @@
-use Rattle.std.proofs.Common.{◌≡◌, sym, subst, ap, ◌∙◌}
-use Rattle.lua_store.specs.Parts.{IsOf, IsWhole}
+use Rattle.std.proofs.Common.{sym, subst}
+use Rattle.lua_store.specs.Parts.{IsOf}
 use Rattle.lua_store.proofs.Changes.{set_table, table_place, on_ok, on_err, of_both, has-seen, nil-seen}
 use Rattle.lua_store.proofs.store.Store.set.Goals as goal
 

@@ -1,4 +1,3 @@
-use Rattle.std.proofs.Common.{ap, ◌∙◌}
 use Rattle.std.proofs.lemmas.Option.{slice_get_within, get_or_from_slice_get}
 use Rattle.lua_store.proofs.Changes.{with_one_text, one_text}
 use Rattle.lua_store.proofs.store.Store.text.Goals as goal
