@@ -80,7 +80,7 @@ impl<'b> Store<'b> {
         self.texts.bytes(id.place())
     }
 
-    /// Whether two values are the same one, as `rawequal` tells it. It looks at names alone.
+    /// Whether two values are the same one, as `rawequal` tells it (manual 5.1). It looks at names alone.
     pub fn is_same(&self, a: Value, b: Value) -> bool
         requires a { IsOf self.now a }
         requires b { IsOf self.now b }
@@ -90,7 +90,7 @@ impl<'b> Store<'b> {
         a == b
     }
 
-    /// A new cell with a value.
+    /// A new cell with a value, for one variable that functions share (manual 2.6).
     pub fn new_cell(&mut self, value: Value) -> Result<CellId, NoMemory>
         requires { IsOf self.old value }
         ensures of { IfOk result (IsCellOf self.new) }
@@ -162,7 +162,7 @@ impl<'b> Store<'b> {
         self.closures.has_env(env)
     }
 
-    /// A new markup object.
+    /// A new markup object (Scribunto, HTML library).
     pub fn new_markup(&mut self, node: MarkupNode) -> Result<MarkupId, NoMemory>
         requires { IsNodeOf self.old node }
         ensures of { IfOk result (IsMarkupOf self.new) }

@@ -44,7 +44,7 @@ impl<'b> Store<'b> {
         &self.tables[id.place()]
     }
 
-    /// The value of a key of a table as `rawget` gives it: nil where the key is not there.
+    /// The value of a key of a table as `rawget` gives it (manual 5.1): nil where the key is not there.
     pub fn get(&self, id: TableId, key: Value) -> Value
         requires table { IsTableOf self.now id }
         requires key { IsOf self.now key }
@@ -54,7 +54,8 @@ impl<'b> Store<'b> {
         self.table(id).get(&key)
     }
 
-    /// Where a walk over a table comes to from a key, or from nil: the next entry that is not cleared, or nil at the end.
+    /// Where a walk over a table comes to from a key, or from nil: the next entry that is not cleared, or nil at the end
+    /// (`next`, manual 5.1). A key that never was set is `NoSuchKey`.
     pub fn next(&self, id: TableId, key: Value) -> Result<Step<Value>, NoSuchKey>
         requires table { IsTableOf self.now id }
         requires key { IsOf self.now key }
@@ -64,7 +65,7 @@ impl<'b> Store<'b> {
         self.table(id).next(&key)
     }
 
-    /// The least border of a table, which is what `#` gives.
+    /// The least border of a table, which is what `#` gives (manual 2.5.5).
     pub fn border(&self, id: TableId) -> i64
         requires { IsTableOf self.now id }
         ensures { result ≡ pos (entries.border (table_at self.now.heap id.at).entries) }
@@ -89,7 +90,8 @@ impl<'b> Store<'b> {
         self.table(id).is_frozen()
     }
 
-    /// Sets a key of a table as `rawset` does, and tells whether that made a new entry. A refusal changes nothing.
+    /// Sets a key of a table as `rawset` does (manual 5.1), and tells whether that made a new entry. A refusal changes nothing:
+    /// `Frozen` where the table is read-only, else `NotAKey` where the key is nil, else `NoMemory`.
     ///
     /// A key that is there is set without memory, and so is any key to nil.
     pub fn set(&mut self, id: TableId, key: Value, value: Value) -> Result<bool, SetFault>
@@ -108,7 +110,7 @@ impl<'b> Store<'b> {
         set_entry(&mut self.tables, id.place(), key, value)
     }
 
-    /// Gives a table a metatable, or none by nil. The table must not be read-only.
+    /// Gives a table a metatable, or none by nil (manual 2.8). The table must not be read-only.
     pub fn set_meta(&mut self, id: TableId, meta: Value)
         requires table { IsTableOf self.old id }
         requires meta { IsOf self.old meta }
