@@ -1,4 +1,4 @@
-use crate::{MarkupNode, ProtoId, SetFault, Store, TableId, TextId, Value, builtin};
+use crate::{MarkupNode, ProtoId, SetFault, Store, TableId, TextId, Value, builtin, laws};
 use bumpalo::Bump;
 use std::alloc::Global;
 use std::process::Abort;
@@ -159,6 +159,18 @@ fn a_table_that_holds_itself_is_given_up_with_its_store(rt: HostRuntime) {
     }
 }
 
+/// States each law.
+fn state_laws(store: &Store) {
+    laws::values_stay();
+    laws::tables_stay();
+    laws::closures_stay();
+    laws::nodes_stay();
+    laws::later_goes_on();
+    laws::seen_once();
+    laws::texts_are_once(store);
+    laws::names_what_is_there(store);
+}
+
 #[test]
 fn each_call_is_made(rt: HostRuntime) {
     let arena = Bump::new(rt.alloc());
@@ -167,6 +179,7 @@ fn each_call_is_made(rt: HostRuntime) {
     assert!(rt; keep_in_cell(&rt, &mut store).is_ok());
     assert!(rt; make_closures(&rt, &mut store, rt.alloc()).is_ok());
     assert!(rt; swap_nodes(&rt, &mut store, rt.alloc()).is_ok());
+    state_laws(&store);
 }
 
 #[test]
