@@ -1,0 +1,190 @@
+use crate::{MarkupNode, ProtoId, SetFault, Store, TableId, TextId, Value, builtin, laws};
+use bumpalo::Bump;
+use std::alloc::Global;
+use std::process::Abort;
+use wk_base::{List, NoMemory};
+
+/// Makes a table its own metatable.
+fn set_itself(store: &mut Store, id: TableId)
+    requires { IsTableOf store.old id }
+    ensures { IsTableOf store.new id }
+{
+    if !store.is_frozen(id) {
+        store.set_meta(id, Value::Table(id));
+    }
+}
+
+/// Makes a table that is its own key, value and metatable.
+fn hold_itself(rt: &impl Abort, store: &mut Store) -> Result<TableId, NoMemory>
+    ensures { IfOk result (IsTableOf store.new) }
+{
+    let id = store.new_table()?;
+    let itself = Value::Table(id);
+    assert_eq!(rt; store.set(id, itself, itself), Ok(true));
+    set_itself(store, id);
+    Ok(id)
+}
+
+/// Reads such a table.
+fn read_itself(rt: &impl Abort, store: &Store, id: TableId)
+    requires { IsTableOf store.now id }
+{
+    let itself = Value::Table(id);
+    assert!(rt; store.get(id, itself) == itself);
+    assert!(rt; store.table(id).get(&itself) == itself);
+    assert!(rt; store.meta(id) == itself);
+    assert!(rt; store.border(id) == 0);
+    walk(rt, store, id, Value::Nil, itself);
+    walk(rt, store, id, itself, Value::Nil);
+    assert!(rt; store.next(id, Value::Bool(true)).is_err());
+}
+
+/// Makes a table read-only.
+fn freeze(rt: &impl Abort, store: &mut Store, id: TableId)
+    requires { IsTableOf store.old id }
+{
+    store.freeze(id);
+    assert!(rt; store.is_frozen(id));
+    assert!(rt; store.set(id, Value::Nil, Value::Nil) == Err(SetFault::Frozen));
+}
+
+/// Tries that a walk comes from one key to another, which is its own value.
+fn walk(rt: &impl Abort, store: &Store, id: TableId, from: Value, to: Value)
+    requires table { IsTableOf store.now id }
+    requires from { IsOf store.now from }
+{
+    match store.next(id, from) {
+        Ok(step) => assert!(rt; step.key == to && step.value == to && step.passed == 0),
+        Err(_) => assert!(rt; false),
+    }
+}
+
+ghost use Rattle.lua_store.specs.Parts.{IsTableOf, IsOf};
+
+/// Makes texts, and tries that equal bytes have one name.
+fn name_texts(rt: &impl Abort, store: &mut Store) -> Result<(), NoMemory> {
+    let empty = store.text(b"")?;
+    let first = store.text(b"ab")?;
+    let second = store.text(b"a")?;
+    assert!(rt; store.text(b"ab")? == first);
+    assert!(rt; store.text(b"")? == empty);
+    assert!(rt; first != second);
+    assert!(rt; store.bytes(first) == b"ab".as_slice());
+    assert!(rt; store.is_same(Value::Text(first), Value::Text(first)));
+    assert!(rt; !store.is_same(Value::Text(first), Value::Text(second)));
+    assert!(rt; !store.is_same(Value::Number(0), Value::Bool(false)));
+    Ok(())
+}
+
+/// Keeps a value in a cell.
+fn keep_in_cell(rt: &impl Abort, store: &mut Store) -> Result<(), NoMemory> {
+    let cell = store.new_cell(Value::Number(1))?;
+    let other = store.new_cell(Value::Nil)?;
+    assert!(rt; store.cell(cell) == Value::Number(1));
+    store.set_cell(cell, Value::Builtin(builtin::BASIC_NEXT));
+    assert!(rt; store.cell(cell) == Value::Builtin(6));
+    assert!(rt; store.cell(other) == Value::Nil);
+    Ok(())
+}
+
+/// Makes closures of two invocations.
+fn make_closures(rt: &impl Abort, store: &mut Store, alloc: Global) -> Result<(), NoMemory> {
+    let title = store.text(b"Module:A")?;
+    assert!(rt; !store.has_env(7));
+    let proto = ProtoId { title, index: 3 };
+    let first = store.new_closure(proto, 7, List::new(alloc))?;
+    let second = store.new_closure(proto, 9, List::new(alloc))?;
+    assert!(rt; first != second);
+    assert!(rt; store.closure(first).env == 7);
+    assert!(rt; store.closure(second).proto == proto);
+    assert!(rt; store.has_env(7) & store.has_env(9) & !store.has_env(8));
+    Ok(())
+}
+
+fn node(alloc: Global, name: TextId) -> MarkupNode
+    ensures name { result.name ≡ name }
+    ensures parent { result.parent ≡ None }
+    ensures attrs { result.attrs ≡ [] }
+    ensures styles { result.styles ≡ [] }
+    ensures children { result.children ≡ [] }
+{
+    MarkupNode {
+        name,
+        closed: false,
+        parent: None,
+        attrs: List::new(alloc),
+        styles: List::new(alloc),
+        children: List::new(alloc),
+    }
+}
+
+ghost use Rattle.std.specs.Prelude.{◌≡◌, IfOk, None, []};
+
+/// Puts one markup object in the place of another.
+fn swap_nodes(rt: &impl Abort, store: &mut Store, alloc: Global) -> Result<(), NoMemory> {
+    let div = store.text(b"div")?;
+    let span = store.text(b"span")?;
+    let id = store.new_markup(node(alloc, div))?;
+    assert!(rt; store.markup(id).name == div);
+    let old = store.swap_markup(id, node(alloc, span));
+    assert!(rt; old.name == div);
+    assert!(rt; store.markup(id).name == span);
+    Ok(())
+}
+
+/// Makes so many texts twice. The second time each has the name that it has.
+fn count_texts(rt: &impl Abort, store: &mut Store, count: u64) -> Result<(), NoMemory> {
+    for n in 0..count {
+        let id = store.text(&n.to_le_bytes())?;
+        assert!(rt; id.place() as u64 == n);
+    }
+    for n in 0..count {
+        let id = store.text(&n.to_le_bytes())?;
+        assert!(rt; id.place() as u64 == n);
+        assert!(rt; store.bytes(id) == n.to_le_bytes().as_slice());
+    }
+    Ok(())
+}
+
+#[test]
+fn a_table_that_holds_itself_is_given_up_with_its_store(rt: HostRuntime) {
+    let arena = Bump::new(rt.alloc());
+    let mut store = Store::new(rt.alloc(), &arena);
+    match hold_itself(&rt, &mut store) {
+        Ok(id) => {
+            read_itself(&rt, &store, id);
+            freeze(&rt, &mut store, id);
+        }
+        Err(_) => assert!(rt; false),
+    }
+}
+
+/// States each law.
+fn state_laws(store: &Store) {
+    laws::values_stay();
+    laws::tables_stay();
+    laws::closures_stay();
+    laws::nodes_stay();
+    laws::later_goes_on();
+    laws::seen_once();
+    laws::texts_are_once(store);
+    laws::names_what_is_there(store);
+}
+
+#[test]
+fn each_call_is_made(rt: HostRuntime) {
+    let arena = Bump::new(rt.alloc());
+    let mut store = Store::new(rt.alloc(), &arena);
+    assert!(rt; name_texts(&rt, &mut store).is_ok());
+    assert!(rt; keep_in_cell(&rt, &mut store).is_ok());
+    assert!(rt; make_closures(&rt, &mut store, rt.alloc()).is_ok());
+    assert!(rt; swap_nodes(&rt, &mut store, rt.alloc()).is_ok());
+    state_laws(&store);
+}
+
+#[test]
+fn a_million_texts_have_one_name_each(rt: HostRuntime) {
+    let arena = Bump::new(rt.alloc());
+    let mut store = Store::new(rt.alloc(), &arena);
+    assert!(rt; count_texts(&rt, &mut store, 1_000_000).is_ok());
+}

@@ -1,0 +1,148 @@
+//! Fills and walks a table of a store, or makes texts, and prints how many entries or texts there were. Standard input says
+//! what: `dense`, `hashed` or `texts`, with `walk` before the first two for a full walk afterwards, and then how many.
+//! `bench/tables.py` times it.
+#![tactic(auto)]
+
+ghost use Rattle.lua_store.specs.Parts.{IsTableOf};
+
+use bumpalo::Bump;
+use lua_store::{Store, TableId, Value};
+use std::io;
+use std::io::Read;
+
+/// What is to be done, and how often.
+#[derive(Clone, Copy)]
+struct Work {
+    walks: bool,
+    kind: Kind,
+    count: i64,
+}
+
+#[derive(Clone, Copy)]
+enum Kind {
+    /// The keys 1, 2, 3 and so on.
+    Dense,
+    /// Keys below zero.
+    Hashed,
+    Texts,
+}
+
+fn after<'t>(text: &'t [u8], word: &[u8]) -> Option<&'t [u8]> {
+    text.strip_prefix(word)
+}
+
+fn number(text: &[u8]) -> i64 {
+    let mut value = 0i64;
+    for byte in text.iter().copied() {
+        if byte.is_ascii_digit() {
+            value = value
+                .saturating_mul(10)
+                .saturating_add(i64::from(byte - b'0'));
+        }
+    }
+    value
+}
+
+fn read_work(text: &[u8]) -> Option<Work> {
+    let (walks, text) = match after(text, b"walk ") {
+        Some(rest) => (true, rest),
+        None => (false, text),
+    };
+    if let Some(rest) = after(text, b"dense ") {
+        return Some(Work {
+            walks,
+            kind: Kind::Dense,
+            count: number(rest),
+        });
+    }
+    if let Some(rest) = after(text, b"hashed ") {
+        return Some(Work {
+            walks,
+            kind: Kind::Hashed,
+            count: number(rest),
+        });
+    }
+    let rest = after(text, b"texts ")?;
+    Some(Work {
+        walks,
+        kind: Kind::Texts,
+        count: number(rest),
+    })
+}
+
+/// The key of the entry with that number, from 0 on.
+fn key(kind: Kind, n: i64) -> i64 {
+    match kind {
+        Kind::Dense => n.wrapping_add(1),
+        _ => n.wrapping_neg().wrapping_sub(1),
+    }
+}
+
+/// Gives the table so many entries; how many were set.
+fn fill(store: &mut Store, id: TableId, kind: Kind, count: i64) -> i64
+    requires { IsTableOf store.old id }
+    ensures { IsTableOf store.new id }
+{
+    for n in 0..count {
+        let number = Value::Number(key(kind, n));
+        if store.set(id, number, number).is_err() {
+            return n;
+        }
+    }
+    count
+}
+
+/// Walks over the table; how many entries there are.
+fn walk(store: &Store, id: TableId, most: i64) -> i64
+    requires { IsTableOf store.now id }
+{
+    let mut key = Value::Nil;
+    for n in 0..most {
+        key = match store.next(id, key) {
+            Ok(step) => step.key,
+            Err(_) => return n,
+        };
+        if key == Value::Nil {
+            return n;
+        }
+    }
+    most
+}
+
+/// Makes so many texts; how many were made.
+fn name_texts(store: &mut Store, count: i64) -> i64 {
+    for n in 0..count {
+        if store.text(&n.to_le_bytes()).is_err() {
+            return n;
+        }
+    }
+    count
+}
+
+fn perform(store: &mut Store, work: &Work) -> i64 {
+    if let Kind::Texts = work.kind {
+        return name_texts(store, work.count);
+    }
+    let Ok(id) = store.new_table() else {
+        return 0;
+    };
+    let filled = fill(store, id, work.kind, work.count);
+    if !work.walks {
+        return filled;
+    }
+    walk(store, id, work.count.saturating_add(1))
+}
+
+fn main(rt: HostRuntime) -> io::Result<()> {
+    let mut text = Vec::new(rt.alloc());
+    rt.stdin().read_to_end(&mut text)?;
+    let arena = Bump::new(rt.alloc());
+    let mut store = Store::new(rt.alloc(), &arena);
+    match read_work(&text) {
+        Some(work) => {
+            let count = perform(&mut store, &work);
+            println!(rt; "{count}")
+        }
+        None => println!(rt; "no such work"),
+    }
+}
