@@ -38,19 +38,19 @@ Reads ts (Either r s) t b n f i j = Reads ts r t b n f i j ⊎ Reads ts s t b n 
 pub opens : {S : Type 0} (ts : List Token) (r : Rest S) (b n f m : ℕ) → n ≤ m → (t : S) × (j : ℕ) × (n ≤ j) × Reads ts r t b n f m j
 opens ts (Done s) b n f m le = (s, m, le, (refl, refl))
 opens ts (Word w r) b n f m le =
-  let o = opens ts r b n f (suc m) (omega (arith, le)) in
-  (o.0, o.1, o.2, (suc m, ((λ lt. absurd (omega (arith, le, lt))), refl), o.3))
+    let o = opens ts r b n f (suc m) (omega (arith, le)) in
+    (o.0, o.1, o.2, (suc m, ((λ lt. absurd (omega (arith, le, lt))), refl), o.3))
 opens ts (Named w r) b n f m le =
-  let o = opens ts (r []) b n f (suc m) (omega (arith, le)) in
-  (o.0, o.1, o.2, ([], suc m, ((λ lt. absurd (omega (arith, le, lt))), refl), o.3))
+    let o = opens ts (r []) b n f (suc m) (omega (arith, le)) in
+    (o.0, o.1, o.2, ([], suc m, ((λ lt. absurd (omega (arith, le, lt))), refl), o.3))
 opens ts (Here X K r) b n f m le =
-  let k = K.open' b n f m le in
-  let o = opens ts (r k.0) b n f k.1 k.2 in
-  (o.0, o.1, o.2, (k.0, k.1, k.3, o.3))
+    let k = K.open' b n f m le in
+    let o = opens ts (r k.0) b n f k.1 k.2 in
+    (o.0, o.1, o.2, (k.0, k.1, k.3, o.3))
 opens ts (Under X K r) b n f m le =
-  let k = K.open' (suc b) n f m le in
-  let o = opens ts (r k.0) b n f k.1 k.2 in
-  (o.0, o.1, o.2, (k.0, k.1, k.3, o.3))
+    let k = K.open' (suc b) n f m le in
+    let o = opens ts (r k.0) b n f k.1 k.2 in
+    (o.0, o.1, o.2, (k.0, k.1, k.3, o.3))
 opens ts (Either r s) b n f m le = let o = opens ts r b n f m le in (o.0, o.1, o.2, inl o.3)
 
 -- Where what is left ends well, what stands before it has ended well.
@@ -64,7 +64,7 @@ follows_word ts goes stop w r e t b n f m j x st lt = let P : Sort → Type 0 = 
 pub follows_done : {S : Type 0} (ts : List Token) (goes stop : Sort → Bool) (s : S) → ((x : Sort) → goes x ≡ false → stop x ≡ false) → Follows ts goes stop (Done s)
 unfolding Follows
 follows_done ts goes stop s h t b n f m j x st lt =
-  let P : ℕ → Type 0 = λ y. y < n → goes (sort_at ts y) ≡ false in h (sort_at ts m) (subst P (sym x.1) st lt)
+    let P : ℕ → Type 0 = λ y. y < n → goes (sort_at ts y) ≡ false in h (sort_at ts m) (subst P (sym x.1) st lt)
 
 pub follows_either : {S : Type 0} (ts : List Token) (goes stop : Sort → Bool) (r s : Rest S) → Follows ts goes stop r → Follows ts goes stop s → Follows ts goes stop (Either r s)
 unfolding Follows
@@ -83,23 +83,25 @@ pub record Left (S : Type 0) (ts : List Token) (L : S → Lang) (goes : Sort →
 
 -- A word that is there.
 pub word_step : {S : Type 0} {ts : List Token} {L : S → Lang} {goes : Sort → Bool} {i m h : ℕ} {w : Sort} {r : Rest S} →
-  Left S ts L goes i (Word w r) m h → sort_at ts m ≡ w → Left S ts L goes i r (m + 1) h
+    Left S ts L goes i (Word w r) m h → sort_at ts m ≡ w → Left S ts L goes i r (m + 1) h
 word_step {S} {ts} {L} {goes} {i} {m} {h} {w} {r} s e = record {
   ordered = omega (arith, s.ordered);
   down = λ t b n f j lt l st.
-    let d = s.down t b n f j (omega (arith, lt)) l st in
-    (subst (λ (y : ℕ). Reads ts r t b n f y j) (d.0.1.1 ∙ sym (add-one m)) d.0.2, d.1);
-  up = λ t b n f j fits x. s.up t b n f j fits (m + 1, ((λ lt. e), add-one m), x)
+      let d = s.down t b n f j (omega (arith, lt)) l st in
+      (subst (λ (y : ℕ). Reads ts r t b n f y j) (d.0.1.1 ∙ sym (add-one m)) d.0.2, d.1);
+  up = λ t b n f j fits x. s.up t b n f j fits (m + 1, ((λ lt. e), add-one m), x);
 }
 
 -- Another token is there.
 pub word_fails : {S : Type 0} {ts : List Token} {L : S → Lang} {goes : Sort → Bool} {a i m h : ℕ} {w : Sort} {r : Rest S} →
-  Left S ts L goes i (Word w r) m h → Below h a → m < length ts → sort_at ts m ≢ w → Broke S ts L goes a i 5 m
+    Left S ts L goes i (Word w r) m h → Below h a → m < length ts → sort_at ts m ≢ w → Broke S ts L goes a i 5 m
 word_fails {S} {ts} {L} {goes} {a} {i} {m} {h} {w} {r} s fits inside ne = record {
-  inside = inside; ordered = s.ordered; number = (omega arith, omega arith);
+  inside = inside;
+  ordered = s.ordered;
+  number = (omega arith, omega arith);
   reach = reach;
-  dead = λ x b n j le lt l st. ne ((s.down x b n 5 j lt l st).0.1.0 lt)
-  }
+  dead = λ x b n j le lt l st. ne ((s.down x b n 5 j lt l st).0.1.0 lt);
+}
   where
     reach : (n f : ℕ) → Before m 5 n f → (x : S) × (j : ℕ) × (n ≤ j) × L x a n f i j
     reach n f (inl e) = let o = opens ts (Word w r) a n f m (omega (arith, e)) in (o.0, o.1, o.2, s.up o.0 a n f o.1 (λ y. fits) o.3)
@@ -107,24 +109,28 @@ word_fails {S} {ts} {L} {goes} {a} {i} {m} {h} {w} {r} s fits inside ne = record
 
 -- A name, or a string, that is there.
 pub named_step : {S : Type 0} {ts : List Token} {L : S → Lang} {goes : Sort → Bool} {i m h : ℕ} {w : Sort} {r : List ℕ → Rest S} →
-  Left S ts L goes i (Named w r) m h → sort_at ts m ≡ w → Left S ts L goes i (r (bytes_of (tok_at ts m))) (m + 1) h
+    Left S ts L goes i (Named w r) m h → sort_at ts m ≡ w → Left S ts L goes i (r (bytes_of (tok_at ts m))) (m + 1) h
 named_step {S} {ts} {L} {goes} {i} {m} {h} {w} {r} s e = record {
   ordered = omega (arith, s.ordered);
   down = λ t b n f j lt l st.
-    let d = s.down t b n f j (omega (arith, lt)) l st in
-    let same : d.0.0 ≡ bytes_of (tok_at ts m) = sym (d.0.2.0 (omega (arith, lt))).1 in
-    (subst (λ (y : ℕ). Reads ts (r (bytes_of (tok_at ts m))) t b n f y j) (d.0.2.1 ∙ sym (add-one m))
-      (subst (λ (x : List ℕ). Reads ts (r x) t b n f d.0.1 j) same d.0.3), d.1);
-  up = λ t b n f j fits x. s.up t b n f j fits (bytes_of (tok_at ts m), m + 1, ((λ lt. (e, refl)), add-one m), x)
+      let d = s.down t b n f j (omega (arith, lt)) l st in
+      let same : d.0.0 ≡ bytes_of (tok_at ts m) = sym (d.0.2.0 (omega (arith, lt))).1 in (
+        subst (λ (y : ℕ). Reads ts (r (bytes_of (tok_at ts m))) t b n f y j) (d.0.2.1 ∙ sym (add-one m))
+            (subst (λ (x : List ℕ). Reads ts (r x) t b n f d.0.1 j) same d.0.3),
+        d.1,
+      );
+  up = λ t b n f j fits x. s.up t b n f j fits (bytes_of (tok_at ts m), m + 1, ((λ lt. (e, refl)), add-one m), x);
 }
 
 pub named_fails : {S : Type 0} {ts : List Token} {L : S → Lang} {goes : Sort → Bool} {a i m h : ℕ} {w : Sort} {r : List ℕ → Rest S} →
-  Left S ts L goes i (Named w r) m h → Below h a → m < length ts → sort_at ts m ≢ w → Broke S ts L goes a i 5 m
+    Left S ts L goes i (Named w r) m h → Below h a → m < length ts → sort_at ts m ≢ w → Broke S ts L goes a i 5 m
 named_fails {S} {ts} {L} {goes} {a} {i} {m} {h} {w} {r} s fits inside ne = record {
-  inside = inside; ordered = s.ordered; number = (omega arith, omega arith);
+  inside = inside;
+  ordered = s.ordered;
+  number = (omega arith, omega arith);
   reach = reach;
-  dead = λ x b n j le lt l st. ne ((s.down x b n 5 j lt l st).0.2.0 lt).0
-  }
+  dead = λ x b n j le lt l st. ne ((s.down x b n 5 j lt l st).0.2.0 lt).0;
+}
   where
     reach : (n f : ℕ) → Before m 5 n f → (x : S) × (j : ℕ) × (n ≤ j) × L x a n f i j
     reach n f (inl e) = let o = opens ts (Named w r) a n f m (omega (arith, e)) in (o.0, o.1, o.2, s.up o.0 a n f o.1 (λ y. fits) o.3)
@@ -132,70 +138,78 @@ named_fails {S} {ts} {L} {goes} {a} {i} {m} {h} {w} {r} s fits inside ne = recor
 
 -- A piece that is there, on the same level or under the node.
 pub here_step : {S X : Type 0} {ts : List Token} {L : S → Lang} {goes : Sort → Bool} {a i m q h k : ℕ} {K : Kind X} {r : X → Rest S} {e : X} →
-  Left S ts L goes i (Here X K r) m h → Stood X ts K.lang K.goes a m e q k → ((x : X) → Follows ts goes K.goes (r x)) → Left S ts L goes i (r e) q (max h k)
+    Left S ts L goes i (Here X K r) m h → Stood X ts K.lang K.goes a m e q k → ((x : X) → Follows ts goes K.goes (r x)) → Left S ts L goes i (r e) q (max h k)
 unfolding Follows
 here_step {S} {X} {ts} {L} {goes} {a} {i} {m} {q} {h} {k} {K} {r} {e} s w fol = record {
   ordered = le_trans s.ordered w.ordered;
   down = λ t b n f j lt l st.
-    let d = s.down t b n f j (lt_of_le_of_lt w.ordered lt) l st in
-    let o = w.only d.0.0 b n f d.0.1 lt d.0.2 (fol d.0.0 t b n f d.0.1 j d.0.3 st) in
-    (subst (λ (y : ℕ). Reads ts (r e) t b n f y j) o.1 (subst (λ (x : X). Reads ts (r x) t b n f d.0.1 j) o.0 d.0.3), λ x. both b (d.1 x) (o.2 x));
-  up = λ t b n f j fits x. s.up t b n f j (λ y. first b (fits y)) (e, q, w.stands b n f (λ y. second b (fits y)), x)
-  }
+      let d = s.down t b n f j (lt_of_le_of_lt w.ordered lt) l st in
+      let o = w.only d.0.0 b n f d.0.1 lt d.0.2 (fol d.0.0 t b n f d.0.1 j d.0.3 st) in
+      (subst (λ (y : ℕ). Reads ts (r e) t b n f y j) o.1 (subst (λ (x : X). Reads ts (r x) t b n f d.0.1 j) o.0 d.0.3), λ x. both b (d.1 x) (o.2 x));
+  up = λ t b n f j fits x. s.up t b n f j (λ y. first b (fits y)) (e, q, w.stands b n f (λ y. second b (fits y)), x);
+}
   where
     both : (b : ℕ) → h ≤ 201 - b → k ≤ 201 - b → max h k ≤ 201 - b
     both b x y = omega arith
+
     first : (b : ℕ) → max h k ≤ 201 - b → h ≤ 201 - b
     first b x = omega arith
+
     second : (b : ℕ) → max h k ≤ 201 - b → k ≤ 201 - b
     second b x = omega arith
 
 pub under_step : {S X : Type 0} {ts : List Token} {L : S → Lang} {goes : Sort → Bool} {a i m q h k : ℕ} {K : Kind X} {r : X → Rest S} {e : X} →
-  Left S ts L goes i (Under X K r) m h → 1 ≤ h → Stood X ts K.lang K.goes a m e q k → ((x : X) → Follows ts goes K.goes (r x)) → Left S ts L goes i (r e) q (max h (1 + k))
+    Left S ts L goes i (Under X K r) m h → 1 ≤ h → Stood X ts K.lang K.goes a m e q k → ((x : X) → Follows ts goes K.goes (r x)) → Left S ts L goes i (r e) q (max h (1 + k))
 unfolding Follows
 under_step {S} {X} {ts} {L} {goes} {a} {i} {m} {q} {h} {k} {K} {r} {e} s pos w fol = record {
   ordered = le_trans s.ordered w.ordered;
   down = λ t b n f j lt l st.
-    let d = s.down t b n f j (lt_of_le_of_lt w.ordered lt) l st in
-    let o = w.only d.0.0 (suc b) n f d.0.1 lt d.0.2 (fol d.0.0 t b n f d.0.1 j d.0.3 st) in
-    (subst (λ (y : ℕ). Reads ts (r e) t b n f y j) o.1 (subst (λ (x : X). Reads ts (r x) t b n f d.0.1 j) o.0 d.0.3), λ x. both b (d.1 x) (o.2 x));
-  up = λ t b n f j fits x. s.up t b n f j (λ y. first b (fits y)) (e, q, w.stands (suc b) n f (λ y. second b (fits y)), x)
-  }
+      let d = s.down t b n f j (lt_of_le_of_lt w.ordered lt) l st in
+      let o = w.only d.0.0 (suc b) n f d.0.1 lt d.0.2 (fol d.0.0 t b n f d.0.1 j d.0.3 st) in
+      (subst (λ (y : ℕ). Reads ts (r e) t b n f y j) o.1 (subst (λ (x : X). Reads ts (r x) t b n f d.0.1 j) o.0 d.0.3), λ x. both b (d.1 x) (o.2 x));
+  up = λ t b n f j fits x. s.up t b n f j (λ y. first b (fits y)) (e, q, w.stands (suc b) n f (λ y. second b (fits y)), x);
+}
   where
     both : (b : ℕ) → h ≤ 201 - b → k ≤ 201 - suc b → max h (1 + k) ≤ 201 - b
     both b x y = omega (arith, pos)
+
     first : (b : ℕ) → max h (1 + k) ≤ 201 - b → h ≤ 201 - b
     first b x = omega arith
+
     second : (b : ℕ) → max h (1 + k) ≤ 201 - b → k ≤ 201 - suc b
     second b x = omega arith
 
 -- A piece that is broken.
 pub here_fails : {S X : Type 0} {ts : List Token} {L : S → Lang} {goes : Sort → Bool} {a i m h k p : ℕ} {K : Kind X} {r : X → Rest S} →
-  Left S ts L goes i (Here X K r) m h → Below h a → Broke X ts K.lang K.goes a m k p → ((x : X) → Follows ts goes K.goes (r x)) → Broke S ts L goes a i k p
+    Left S ts L goes i (Here X K r) m h → Below h a → Broke X ts K.lang K.goes a m k p → ((x : X) → Follows ts goes K.goes (r x)) → Broke S ts L goes a i k p
 unfolding Follows
 here_fails {S} {X} {ts} {L} {goes} {a} {i} {m} {h} {k} {p} {K} {r} s fits w fol = record {
-  inside = w.inside; ordered = le_trans s.ordered w.ordered; number = w.number;
+  inside = w.inside;
+  ordered = le_trans s.ordered w.ordered;
+  number = w.number;
   reach = λ n f x.
-    let y = w.reach n f x in
-    let o = opens ts (r y.0) a n f y.1 y.2 in
-    (o.0, o.1, o.2, s.up o.0 a n f o.1 (λ z. fits) (y.0, y.1, y.3, o.3));
+      let y = w.reach n f x in
+      let o = opens ts (r y.0) a n f y.1 y.2 in
+      (o.0, o.1, o.2, s.up o.0 a n f o.1 (λ z. fits) (y.0, y.1, y.3, o.3));
   dead = λ t b n j le lt l st.
-    let d = s.down t b n k j (lt_of_le_of_lt w.ordered lt) l st in
-    w.dead d.0.0 b n d.0.1 le lt d.0.2 (fol d.0.0 t b n k d.0.1 j d.0.3 st)
+      let d = s.down t b n k j (lt_of_le_of_lt w.ordered lt) l st in
+      w.dead d.0.0 b n d.0.1 le lt d.0.2 (fol d.0.0 t b n k d.0.1 j d.0.3 st);
 }
 
 pub under_fails : {S X : Type 0} {ts : List Token} {L : S → Lang} {goes : Sort → Bool} {a i m h k p : ℕ} {K : Kind X} {r : X → Rest S} →
-  Left S ts L goes i (Under X K r) m h → Below h a → Broke X ts K.lang K.goes (suc a) m k p → ((x : X) → Follows ts goes K.goes (r x)) → Broke S ts L goes a i k p
+    Left S ts L goes i (Under X K r) m h → Below h a → Broke X ts K.lang K.goes (suc a) m k p → ((x : X) → Follows ts goes K.goes (r x)) → Broke S ts L goes a i k p
 unfolding Follows
 under_fails {S} {X} {ts} {L} {goes} {a} {i} {m} {h} {k} {p} {K} {r} s fits w fol = record {
-  inside = w.inside; ordered = le_trans s.ordered w.ordered; number = w.number;
+  inside = w.inside;
+  ordered = le_trans s.ordered w.ordered;
+  number = w.number;
   reach = λ n f x.
-    let y = w.reach n f x in
-    let o = opens ts (r y.0) a n f y.1 y.2 in
-    (o.0, o.1, o.2, s.up o.0 a n f o.1 (λ z. fits) (y.0, y.1, y.3, o.3));
+      let y = w.reach n f x in
+      let o = opens ts (r y.0) a n f y.1 y.2 in
+      (o.0, o.1, o.2, s.up o.0 a n f o.1 (λ z. fits) (y.0, y.1, y.3, o.3));
   dead = λ t b n j le lt l st.
-    let d = s.down t b n k j (lt_of_le_of_lt w.ordered lt) l st in
-    w.dead d.0.0 (suc b) n d.0.1 (suc-le-suc le) lt d.0.2 (fol d.0.0 t b n k d.0.1 j d.0.3 st)
+      let d = s.down t b n k j (lt_of_le_of_lt w.ordered lt) l st in
+      w.dead d.0.0 (suc b) n d.0.1 (suc-le-suc le) lt d.0.2 (fol d.0.0 t b n k d.0.1 j d.0.3 st);
 }
 
 -- One of two ways, where the other is closed.
@@ -203,24 +217,24 @@ abbrev pub Closed : {S : Type 0} → List Token → (Sort → Bool) → ℕ → 
 Closed {S} ts goes m r = (s : S) (b n f j : ℕ) → m < n → Reads ts r s b n f m j → Stops ts goes n j → ⊥
 
 pub first_way : {S : Type 0} {ts : List Token} {L : S → Lang} {goes : Sort → Bool} {i m h : ℕ} {r s : Rest S} →
-  Left S ts L goes i (Either r s) m h → Closed ts goes m s → Left S ts L goes i r m h
+    Left S ts L goes i (Either r s) m h → Closed ts goes m s → Left S ts L goes i r m h
 first_way {S} {ts} {L} {goes} {i} {m} {h} {r} {s} l shut = record {
   ordered = l.ordered;
   down = λ t b n f j lt x st. let d = l.down t b n f j lt x st in (pick t b n f j lt st d.0, d.1);
-  up = λ t b n f j fits x. l.up t b n f j fits (inl x)
-  }
+  up = λ t b n f j fits x. l.up t b n f j fits (inl x);
+}
   where
     pick : (t : S) (b n f j : ℕ) → m < n → Stops ts goes n j → Reads ts r t b n f m j ⊎ Reads ts s t b n f m j → Reads ts r t b n f m j
     pick t b n f j lt st (inl x) = x
     pick t b n f j lt st (inr x) = absurd (shut t b n f j lt x st)
 
 pub second_way : {S : Type 0} {ts : List Token} {L : S → Lang} {goes : Sort → Bool} {i m h : ℕ} {r s : Rest S} →
-  Left S ts L goes i (Either r s) m h → Closed ts goes m r → Left S ts L goes i s m h
+    Left S ts L goes i (Either r s) m h → Closed ts goes m r → Left S ts L goes i s m h
 second_way {S} {ts} {L} {goes} {i} {m} {h} {r} {s} l shut = record {
   ordered = l.ordered;
   down = λ t b n f j lt x st. let d = l.down t b n f j lt x st in (pick t b n f j lt st d.0, d.1);
-  up = λ t b n f j fits x. l.up t b n f j fits (inr x)
-  }
+  up = λ t b n f j fits x. l.up t b n f j fits (inr x);
+}
   where
     pick : (t : S) (b n f j : ℕ) → m < n → Stops ts goes n j → Reads ts r t b n f m j ⊎ Reads ts s t b n f m j → Reads ts s t b n f m j
     pick t b n f j lt st (inl x) = absurd (shut t b n f j lt x st)
@@ -232,16 +246,18 @@ word_closed ts goes m w r ne s b n f j lt x st = ne (x.1.0 lt)
 
 pub done_closed : {S : Type 0} (ts : List Token) (goes : Sort → Bool) (m : ℕ) (s : S) → goes (sort_at ts m) ≡ true → Closed ts goes m (Done s)
 done_closed ts goes m s e t b n f j lt x st =
-  let P : ℕ → Type 0 = λ y. y < n → goes (sort_at ts y) ≡ false in
-  true≢false (sym e ∙ subst P (sym x.1) st lt)
+    let P : ℕ → Type 0 = λ y. y < n → goes (sort_at ts y) ≡ false in
+    true≢false (sym e ∙ subst P (sym x.1) st lt)
 
 -- All of it has been read.
 pub all_read : {S : Type 0} {ts : List Token} {L : S → Lang} {goes : Sort → Bool} {a i m h : ℕ} {e : S} →
-  Left S ts L goes i (Done e) m h → m < length ts → Below h a → Stood S ts L goes a i e m h
+    Left S ts L goes i (Done e) m h → m < length ts → Below h a → Stood S ts L goes a i e m h
 all_read {S} {ts} {L} {goes} {a} {i} {m} {h} {e} s inside fits = record {
-  inside = inside; ordered = s.ordered; height = fits;
+  inside = inside;
+  ordered = s.ordered;
+  height = fits;
   stands = λ b n f x. s.up e b n f m x (refl, refl);
-  only = λ t b n f j lt l st. let d = s.down t b n f j lt l st in (d.0.0, sym d.0.1, d.1)
+  only = λ t b n f j lt l st. let d = s.down t b n f j lt l st in (d.0.0, sym d.0.1, d.1);
 }
 
 -- The node of a tree counts as soon as its first token is given.
@@ -250,27 +266,31 @@ HasNode S ts L i = (x : S) (b n j : ℕ) → i < n → L x b n 7 i j → b ≤ 2
 
 -- The node of a tree, of which the first token has been read, is too deep.
 pub too_deep : {S : Type 0} {ts : List Token} {L : S → Lang} {goes : Sort → Bool} {a i h : ℕ} {r : Rest S} →
-  Left S ts L goes i r (i + 1) h → HasNode S ts L i → CanOpen S L → i < length ts → 200 < a → Broke S ts L goes a i 7 i
+    Left S ts L goes i r (i + 1) h → HasNode S ts L i → CanOpen S L → i < length ts → 200 < a → Broke S ts L goes a i 7 i
 too_deep {S} {ts} {L} {goes} {a} {i} {h} {r} s noded can inside over = record {
-  inside = inside; ordered = le_refl i; number = (omega arith, omega arith);
+  inside = inside;
+  ordered = le_refl i;
+  number = (omega arith, omega arith);
   reach = reach;
-  dead = λ x b n j le lt l st. let y = noded x b n j lt l in omega (arith, y, le, over)
-  }
+  dead = λ x b n j le lt l st. let y = noded x b n j lt l in omega (arith, y, le, over);
+}
   where
     reach : (n f : ℕ) → Before i 7 n f → (x : S) × (j : ℕ) × (n ≤ j) × L x a n f i j
     reach n f (inl e) = can a n f i (omega (arith, e))
     reach n f (inr x) =
-      let o = opens ts r a n f (i + 1) (omega (arith, x.0)) in
-      (o.0, o.1, o.2, s.up o.0 a n f o.1 (λ y. absurd (omega (arith, y, x.2))) o.3)
+        let o = opens ts r a n f (i + 1) (omega (arith, x.0)) in
+        (o.0, o.1, o.2, s.up o.0 a n f o.1 (λ y. absurd (omega (arith, y, x.2))) o.3)
 
 -- No tree of this kind begins here.
 pub unexpected : {S : Type 0} {ts : List Token} {L : S → Lang} {goes : Sort → Bool} {a i : ℕ} →
-  ((x : S) (b n f j : ℕ) → i < n → L x b n f i j → Stops ts goes n j → ⊥) → CanOpen S L → i < length ts → Broke S ts L goes a i 5 i
+    ((x : S) (b n f j : ℕ) → i < n → L x b n f i j → Stops ts goes n j → ⊥) → CanOpen S L → i < length ts → Broke S ts L goes a i 5 i
 unexpected {S} {ts} {L} {goes} {a} {i} none can inside = record {
-  inside = inside; ordered = le_refl i; number = (omega arith, omega arith);
+  inside = inside;
+  ordered = le_refl i;
+  number = (omega arith, omega arith);
   reach = reach;
-  dead = λ x b n j le lt l st. none x b n 5 j lt l st
-  }
+  dead = λ x b n j le lt l st. none x b n 5 j lt l st;
+}
   where
     reach : (n f : ℕ) → Before i 5 n f → (x : S) × (j : ℕ) × (n ≤ j) × L x a n f i j
     reach n f (inl e) = can a n f i (omega (arith, e))
