@@ -3,6 +3,10 @@
 
 pub mod answer;
 pub mod around;
+pub mod blocks;
 pub mod exprs;
 pub mod make;
+pub mod operators;
+pub mod prefixes;
+pub mod tables;
 pub mod tokens;
