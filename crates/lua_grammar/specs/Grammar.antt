@@ -3,7 +3,7 @@
 -- A place is the number of a token, from 0. A tree stands from i to j where the tokens from place i up to place j, j itself left
 -- out, spell it. Only the first `given` tokens are there: a place from `given` on is open, and whatever is asked of it holds. So
 -- the same cases say what a whole text is, where all of its tokens are given, and how a text may begin, where fewer are.
-use Rattle.std.specs.Prelude.{◌≡◌, ◌≢◌, ℕ, pred, suc, ◌<◌, ◌≤◌, ◌⊎◌, Bool, true, false, List, [], ◌∷◌, length, ℤ, Option, Some, nat_lt, cond, codes}
+use Rattle.std.specs.Prelude.{◌≡◌, ◌≢◌, ℕ, pred, suc, ◌<◌, ◌≤◌, ◌⊎◌, Bool, true, false, List, [], ◌∷◌, length, ℤ, Option, Some, None, nat_lt, cond, codes}
 use Rattle.lua_syntax.specs.declared.BinaryOp.{BinaryOp}
 use Rattle.lua_syntax.specs.declared.BinaryOp.TheVariants.{Or as OrOp, And as AndOp, Lt, Gt, Le, Ge, Ne, Eq, Concat, Add, Sub, Mul, Div, Mod, Pow}
 use Rattle.lua_syntax.specs.declared.UnaryOp.{UnaryOp}
@@ -72,9 +72,15 @@ text g s bytes i j = At g i (λ t. (sort_of t ≡ s) × (bytes_of t ≡ bytes)) 
 abbrev pub node : Given → Around → ℕ → Span
 node g w line i j = (line ≡ (token g i).line) × Free g 7 i (w.above ≤ 200) × (i ≡ j)
 
--- A numeral with this value, where one is asked for.
+-- The value is this one, if there is one.
+abbrev pub Agrees : Option ℤ → ℤ → Type 0
+Agrees None v = Unit {0}
+Agrees (Some u) v = v ≡ u
+
+-- A numeral with this value; where none is asked for it may have none.
 abbrev pub valued : Given → ℤ → Span
-valued g v i j = Is g i Number × Free g 6 i (read_numeral_of (bytes_of (token g i)) ≡ Some v) × (j ≡ suc i)
+valued g v i j =
+  At g i (λ t. (sort_of t ≡ Number) × Agrees (read_numeral_of (bytes_of t)) v) × Free g 6 i (read_numeral_of (bytes_of (token g i)) ≡ Some v) × (j ≡ suc i)
 
 -- A word that stands only where this holds, or fault k is there.
 abbrev pub word_if : Given → Sort → ℕ → Type 0 → Span
@@ -84,9 +90,20 @@ word_if g s k P i j = Is g i s × Free g k i P × (j ≡ suc i)
 abbrev pub opens : Given → Span
 opens g i j = Is g i LeftParen × Free g 9 i ((token g i).line ≡ (token g (pred i)).end_line) × (j ≡ suc i)
 
--- A `(` behind a prefix expression always goes on with it: where the expression ends, none stands. At level 10 it goes on.
+-- What goes on with a prefix expression.
+abbrev pub suffix_goes : Sort → Bool
+suffix_goes LeftParen = true
+suffix_goes Dot = true
+suffix_goes LeftBracket = true
+suffix_goes Colon = true
+suffix_goes LeftBrace = true
+suffix_goes Text = true
+suffix_goes s = false
+
+-- A token that can go on with a prefix expression always does, a `(` too: where the expression ends, none stands. At level 10 it
+-- goes on.
 abbrev pub ends : Given → ℕ → Span
-ends g l i j = (l ≤ 9 → At g i (λ t. sort_of t ≢ LeftParen)) × (i ≡ j)
+ends g l i j = (l ≤ 9 → At g i (λ t. suffix_goes (sort_of t) ≡ false)) × (i ≡ j)
 
 -- a separator of fields
 abbrev pub separator : Given → Span

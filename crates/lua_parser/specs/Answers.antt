@@ -13,12 +13,12 @@ use Rattle.lua_grammar.specs.declared.Sort.TheVariants.{Name, Number, Text, Eof,
 use Rattle.lua_grammar.specs.declared.Around.{Around}
 use Rattle.lua_grammar.specs.Tokens.{sort_at, tok_at}
 use Rattle.lua_grammar.specs.Tree.{Exp, Exps, Fields, Fun, Block, Arms, Stat, NilE, TrueE, FalseE, NumberE, TextE, DotsE, FunctionE, NameE, IndexE, CallE, MethodE, TableE, BinaryE, UnaryE, ParenE, NoField, Item, Pair}
-use Rattle.lua_grammar.specs.Grammar.{given_of, Spells, SpellsArgs, SpellsName, SpellsMethod, SpellsFun, SpellsDot, ◌⨟◌, ◌∣◌, word, node, text, ends, IsPrefix, mark_of, Names, MoreNames, Params}
+use Rattle.lua_grammar.specs.Grammar.{given_of, Spells, SpellsArgs, SpellsName, SpellsMethod, SpellsFun, SpellsDot, ◌⨟◌, ◌∣◌, word, node, text, ends, IsPrefix, suffix_goes, mark_of, Names, MoreNames, Params}
 use Rattle.lua_grammar.specs.View.{expr_view, exprs_view, fields_view, field_view, function_view, block_view, stats_view, arm_view, arms_view, stat_view}
 use Rattle.lua_parser.specs.declared.answer.Fault.{Fault}
 use Rattle.lua_parser.specs.declared.answer.Fault.TheVariants.{At, NoMemory}
 use Rattle.lua_parser.specs.declared.answer.Parsed.{Parsed}
-use Rattle.lua_parser.specs.Parsing.{Lang, Stops, Below, Stood, Broke, high, exp_lang, prefix_lang, args_lang, all_lang, fields_lang, fun_lang, block_lang, arms_lang, more_arms_lang, stat_lang, nothing, suffix_goes, goes_on, exps_goes, names_goes, fields_goes, stat_goes, block_goes, goes_after, arms_goes, ExpStood, operand_lang, OperandStood, PrefixStood}
+use Rattle.lua_parser.specs.Parsing.{Lang, Stops, Below, Stood, Broke, high, exp_lang, prefix_lang, args_lang, all_lang, fields_lang, fun_lang, block_lang, arms_lang, more_arms_lang, stat_lang, nothing, goes_on, exps_goes, names_goes, fields_goes, stat_goes, block_goes, goes_after, arms_goes, ExpStood, operand_lang, OperandStood, PrefixStood}
 
 abbrev pub Failed : (ℕ → ℕ → Type 0) → Fault → Type 0
 Failed P NoMemory = Unit {0}

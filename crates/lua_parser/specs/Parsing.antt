@@ -7,7 +7,7 @@ use Rattle.lua_grammar.specs.declared.Sort.TheVariants.{Name, Number, Text, Eof,
 use Rattle.lua_grammar.specs.declared.Around.{Around}
 use Rattle.lua_grammar.specs.Tokens.{sort_at, tok_at}
 use Rattle.lua_grammar.specs.Tree.{Exp, Exps, Fields, Fun, Block, Arms, Stat, NilE, TrueE, FalseE, NumberE, TextE, DotsE, FunctionE, NameE, IndexE, CallE, MethodE, TableE, BinaryE, UnaryE, ParenE}
-use Rattle.lua_grammar.specs.Grammar.{given_of, Spells, SpellsArgs, SpellsAll, MoreExps, SpellsFields, SpellsFun, SpellsBlock, SpellsArms, MoreArms, SpellsStat, IsPrefix, mark_of, level, left_level}
+use Rattle.lua_grammar.specs.Grammar.{given_of, Spells, SpellsArgs, SpellsAll, MoreExps, SpellsFields, SpellsFun, SpellsBlock, SpellsArms, MoreArms, SpellsStat, IsPrefix, suffix_goes, mark_of, level, left_level}
 
 -- A kind of tree, by where one may stand: how many nodes are above it, how many tokens are given, the fault that it is free of,
 -- and the places from and to.
@@ -92,23 +92,8 @@ stat_lang ts w x b n f = SpellsStat (given_of ts n f) (high w b) x
 abbrev pub nothing : Sort → Bool
 nothing s = false
 
--- a prefix expression
-abbrev pub suffix_goes : Sort → Bool
-suffix_goes LeftParen = true
-suffix_goes Dot = true
-suffix_goes LeftBracket = true
-suffix_goes Colon = true
-suffix_goes LeftBrace = true
-suffix_goes Text = true
-suffix_goes s = false
-
--- An expression that binds at least so tightly. (A `(` does so only behind a prefix expression, and there the grammar says it.)
+-- An expression that binds at least so tightly. (What goes on with a prefix expression, the grammar says itself.)
 abbrev pub goes_on : ℕ → Sort → Bool
-goes_on l Dot = true
-goes_on l LeftBracket = true
-goes_on l Colon = true
-goes_on l LeftBrace = true
-goes_on l Text = true
 goes_on l Or = nat_le l 1
 goes_on l And = nat_le l 2
 goes_on l Less = nat_le l 3
@@ -179,20 +164,15 @@ pub record ExpStood (ts : List Token) (w : Around) (l i : ℕ) (e : Exp) (q h : 
   pub stood : Stood Exp ts (exp_lang ts w l) (goes_on l) w.above i e q h
   pub grows : i < q
   pub some_node : 1 ≤ h
-  pub stopped : (op : BinaryOp) → sort_at ts q ≡ mark_of op → level op < l
+  pub stopped : goes_on l (sort_at ts q) ≡ false
 
 abbrev pub IsOperand : Exp → Type 0
 IsOperand (BinaryE l op a b) = ⊥
 IsOperand e = Unit {0}
 
--- Where an operand ends nothing goes on with it. (What goes on with a unary one binds at least at 7.)
+-- Where a unary operand ends nothing goes on with what is inside it.
 abbrev pub Closes : List Token → ℕ → Exp → ℕ → Type 0
 Closes ts n (UnaryE l op e) j = Stops ts (goes_on 7) n j
-Closes ts n (NameE l x) j = Stops ts suffix_goes n j
-Closes ts n (IndexE l x y) j = Stops ts suffix_goes n j
-Closes ts n (CallE l x y) j = Stops ts suffix_goes n j
-Closes ts n (MethodE l x y z) j = Stops ts suffix_goes n j
-Closes ts n (ParenE l x) j = Stops ts suffix_goes n j
 Closes ts n e j = Unit {0}
 
 -- An expression that is no binary one, at some level that is asked of it.

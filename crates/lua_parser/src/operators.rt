@@ -1,7 +1,6 @@
 //! Operators, how tightly they bind, and which tokens go on with a tree.
 ghost use Rattle.std.specs.Prelude.{◌≡◌, ◌≢◌, MatchOption};
-ghost use Rattle.lua_grammar.specs.Grammar.{mark_of, level, right_level, sign_of};
-ghost use Rattle.lua_parser.specs.Parsing.{suffix_goes};
+ghost use Rattle.lua_grammar.specs.Grammar.{mark_of, level, right_level, sign_of, suffix_goes};
 
 use lua_grammar::Sort;
 use lua_syntax::{BinaryOp, UnaryOp};
