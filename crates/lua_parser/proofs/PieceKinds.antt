@@ -21,7 +21,7 @@ pub exp_opens : (ts : List Token) (w : Around) (l : ℕ) → CanOpen Exp (exp_la
 exp_opens ts w l b n f m le = (NameE (tok_at ts m).line [], suc m, omega (arith, le), open_name ts w n f b l m le)
 
 pub operand_opens : (ts : List Token) (w : Around) → CanOpen Exp (operand_lang ts w)
-operand_opens ts w b n f m le = (NameE (tok_at ts m).line [], suc m, omega (arith, le), (tt, 7, omega arith, open_name ts w n f b 7 m le, λ lt. absurd (omega (arith, le, lt))))
+operand_opens ts w b n f m le = (NameE (tok_at ts m).line [], suc m, omega (arith, le), (tt, 7, omega arith, open_name ts w n f b 7 m le, tt))
 
 pub prefix_opens : (ts : List Token) (w : Around) → CanOpen Exp (prefix_lang ts w)
 prefix_opens ts w b n f m le = (NameE (tok_at ts m).line [], suc m, omega (arith, le), (tt, open_name ts w n f b 10 m le))
