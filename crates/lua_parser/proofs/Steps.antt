@@ -295,3 +295,55 @@ unexpected {S} {ts} {L} {goes} {a} {i} none can inside = record {
     reach : (n f : ℕ) → Before i 5 n f → (x : S) × (j : ℕ) × (n ≤ j) × L x a n f i j
     reach n f (inl e) = can a n f i (omega (arith, e))
     reach n f (inr x) = absurd (omega (arith, x.1, x.2))
+
+-- ---- a piece seen by its own pieces
+
+abbrev pub bind : {X S : Type 0} → Rest X → (X → Rest S) → Rest S
+bind (Done x) r = r x
+bind (Word w q) r = Word w (bind q r)
+bind (Named w q) r = Named w (λ x. bind (q x) r)
+bind (Here Y K q) r = Here Y K (λ y. bind (q y) r)
+bind (Under Y K q) r = Under Y K (λ y. bind (q y) r)
+bind (Either p q) r = Either (bind p r) (bind q r)
+
+abbrev Both : {X S : Type 0} → List Token → Rest X → (X → Rest S) → S → ℕ → ℕ → ℕ → ℕ → ℕ → Type 0
+Both {X} ts q r s b n f i j = (x : X) × (m : ℕ) × Reads ts q x b n f i m × Reads ts (r x) s b n f m j
+
+bound : {X S : Type 0} (ts : List Token) (q : Rest X) (r : X → Rest S) (s : S) (b n f i m j : ℕ) (x : X) → Reads ts q x b n f i m → Reads ts (r x) s b n f m j → Reads ts (bind q r) s b n f i j
+bound ts (Done y) r s b n f i m j x d e = subst (λ (z : ℕ). Reads ts (r y) s b n f z j) (sym d.1) (subst (λ z. Reads ts (r z) s b n f m j) d.0 e)
+bound ts (Word w q) r s b n f i m j x d e = (d.0, d.1, bound ts q r s b n f d.0 m j x d.2 e)
+bound ts (Named w q) r s b n f i m j x d e = (d.0, d.1, d.2, bound ts (q d.0) r s b n f d.1 m j x d.3 e)
+bound ts (Here Y K q) r s b n f i m j x d e = (d.0, d.1, d.2, bound ts (q d.0) r s b n f d.1 m j x d.3 e)
+bound ts (Under Y K q) r s b n f i m j x d e = (d.0, d.1, d.2, bound ts (q d.0) r s b n f d.1 m j x d.3 e)
+bound ts (Either p q) r s b n f i m j x (inl d) e = inl (bound ts p r s b n f i m j x d e)
+bound ts (Either p q) r s b n f i m j x (inr d) e = inr (bound ts q r s b n f i m j x d e)
+
+unbound : {X S : Type 0} (ts : List Token) (q : Rest X) (r : X → Rest S) (s : S) (b n f i j : ℕ) → Reads ts (bind q r) s b n f i j → Both ts q r s b n f i j
+unbound ts (Done y) r s b n f i j d = (y, i, (refl, refl), d)
+unbound ts (Word w q) r s b n f i j d = let z = unbound ts q r s b n f d.0 j d.2 in (z.0, z.1, (d.0, d.1, z.2), z.3)
+unbound ts (Named w q) r s b n f i j d = let z = unbound ts (q d.0) r s b n f d.1 j d.3 in (z.0, z.1, (d.0, d.1, d.2, z.2), z.3)
+unbound ts (Here Y K q) r s b n f i j d = let z = unbound ts (q d.0) r s b n f d.1 j d.3 in (z.0, z.1, (d.0, d.1, d.2, z.2), z.3)
+unbound ts (Under Y K q) r s b n f i j d = let z = unbound ts (q d.0) r s b n f d.1 j d.3 in (z.0, z.1, (d.0, d.1, d.2, z.2), z.3)
+unbound ts (Either p q) r s b n f i j (inl d) = let z = unbound ts p r s b n f i j d in (z.0, z.1, inl z.2, z.3)
+unbound ts (Either p q) r s b n f i j (inr d) = let z = unbound ts q r s b n f i j d in (z.0, z.1, inr z.2, z.3)
+
+pub inline : {S X : Type 0} {ts : List Token} {L : S → Lang} {goes : Sort → Bool} {i m h : ℕ} {K : Kind X} {r : X → Rest S} {q : Rest X} →
+  Left S ts L goes i (Here X K r) m h → Left X ts K.lang K.goes m q m 0 → ((x : X) → Follows ts goes K.goes (r x)) → Left S ts L goes i (bind q r) m h
+unfolding Follows
+inline {S} {X} {ts} {L} {goes} {i} {m} {h} {K} {r} {q} s t fol = record {
+  ordered = s.ordered;
+  down = λ y b n f j lt l st.
+    let d = s.down y b n f j lt l st in
+    (bound ts q r y b n f m d.0.1 j d.0.0 (t.down d.0.0 b n f d.0.1 lt d.0.2 (fol d.0.0 y b n f d.0.1 j d.0.3 st)).0 d.0.3, d.1);
+  up = λ y b n f j fits x.
+    let z = unbound ts q r y b n f m j x in
+    s.up y b n f j fits (z.0, z.1, t.up z.0 b n f z.1 (λ e. omega arith) z.2, z.3)
+}
+
+-- Nothing has been read.
+pub start : {S : Type 0} (ts : List Token) (K : Kind S) (i : ℕ) → Left S ts K.lang K.goes i (Here S K (λ x. Done x)) i 0
+start ts K i = record {
+  ordered = le_refl i;
+  down = λ s b n f j lt l st. ((s, j, l, (refl, refl)), λ e. omega arith);
+  up = λ s b n f j fits x. subst (λ (y : ℕ). K.lang s b n f i y) x.3.1 (subst (λ y. K.lang y b n f i x.1) (sym x.3.0) x.2)
+}
