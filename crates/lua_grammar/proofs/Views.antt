@@ -1,5 +1,5 @@
 -- Plain trees, one level at a time: that of a part from those of its children. A proof that makes such a part lists `views`.
-use Rattle.std.proofs.Common.{◌≡◌, ◌∙◌, ℕ, refl, sym, ap, List, [], ◌∷◌, ◌++◌, map, Option, Some, None, Bool}
+use Rattle.std.proofs.Common.{◌≡◌, ◌∙◌, ℕ, refl, sym, ap, List, [], ◌∷◌, ◌++◌, map, Option, Some, None, Bool, ◌⊎◌, inl, inr, subst}
 use Rattle.std.specs.Prelude.{ℤ}
 use Rattle.std.specs.declared.alloc.Global.{Global}
 use Rattle.std.specs.declared.boxed.Box.{Box}
@@ -180,5 +180,16 @@ function_made params dots body = fold-roll-Function (ℕ → Exp) (Fields → Fi
 pub arm_made : (test : Expr) (body : BlockNode) (rest : Arms) → arm_view (roll-Arm (record { test = test; body = body })) rest ≡ Arm (expr_view test) (block_view body) rest
 unfolding kind_view field_view stat_kind_view arm_view block_view expr_view function_view stat_view
 arm_made test body rest = ap (λ y. y rest) (fold-roll-Arm (ℕ → Exp) (Fields → Fields) (ℕ → Stat) (Arms → Arms) Block Exp Fun Stat kind_step field_step stat_step (λ a rest. Arm a.test a.body rest) (λ b. stats_of b.stats) (λ e. e.kind e.line) (λ f. Lambda f.params f.dots f.body) (λ s. s.kind s.line) (record { test = test; body = body }))
+
+-- A field is an item or a pair, whatever stands behind it.
+abbrev pub FieldIs : (Fields → Fields) → Type 0
+FieldIs f = ((e : Exp) × ((rest : Fields) → f rest ≡ Item e rest)) ⊎ ((k : Exp) × (e : Exp) × ((rest : Fields) → f rest ≡ Pair k e rest))
+
+pub field_is : (f : Field) → FieldIs (field_view f)
+field_is f = subst FieldIs (sym (field_opens f)) (go (out-Field f))
+  where
+    go : (l : Field-F ExprKind Field StatKind ArmNode BlockNode Expr FunctionNode StatNode) → FieldIs (field_step (map-Field ExprKind Field StatKind ArmNode BlockNode Expr FunctionNode StatNode (ℕ → Exp) (Fields → Fields) (ℕ → Stat) (Arms → Arms) Block Exp Fun Stat kind_view field_view stat_kind_view arm_view block_view expr_view function_view stat_view l))
+    go (ItemField e) = inl (expr_view e, λ rest. refl)
+    go (PairField k e) = inr (expr_view k, expr_view e, λ rest. refl)
 
 pub ruleset views = (arm_opens, block_opens, expr_opens, function_opens, stat_opens, kind-Nil, kind-True, kind-False, kind-Dots, kind-Number, kind-Text, kind-Name, kind-Function, kind-Index, kind-Call, kind-Method, kind-Table, kind-Binary, kind-Unary, kind-Paren, field-Item, field-Pair, stat-Assign, stat-Call, stat-Do, stat-While, stat-Repeat, stat-If, stat-IfElse, stat-Count, stat-CountBy, stat-Each, stat-LocalFunction, stat-Local, stat-Return, stat-Break)

@@ -1,5 +1,5 @@
 -- Names, parentheses, lists of expressions and arguments.
-use Rattle.std.proofs.Common.{◌≡◌, ◌≢◌, ℕ, zero, suc, pred, [], ◌∷◌, ◌++◌, ◌-◌, ◌+◌, ◌<◌, ◌≤◌, ◌⊎◌, max, Bool, true, false, cond, nat_lt, nat_le, List, length, refl, sym, ap, subst, ◌∙◌, inl, inr, le_trans, le_refl, lt_of_le_of_lt, lt-suc_self, arith, true≢false, add-one}
+use Rattle.std.proofs.Common.{◌≡◌, ◌≢◌, ℕ, zero, suc, pred, [], ◌∷◌, ◌++◌, ◌-◌, ◌+◌, ◌<◌, ◌≤◌, ◌⊎◌, max, Bool, true, false, cond, nat_lt, nat_le, List, length, refl, sym, ap, subst, ◌∙◌, inl, inr, le_trans, le_refl, lt_of_le_of_lt, lt-suc_self, arith, true≢false, add-one, eq-or-lt_of_le}
 use Rattle.lua_lexer.specs.declared.token.Token.{Token}
 use Rattle.lua_syntax.specs.declared.Expr.{Expr}
 use Rattle.lua_grammar.specs.declared.Sort.{Sort}
@@ -14,7 +14,7 @@ use Rattle.lua_parser.specs.Answers.{Grown, primary_lang, IsPrimary, name_lang}
 use Rattle.lua_parser.proofs.Steps.{CanOpen, Kind, Rest, Done, Word, Named, Here, Under, Either, Reads, Left, HasNode, Follows, follows_word, follows_done, follows_either, here_step, here_fails, word_step, first_way, second_way, word_closed, done_closed, inline, start, Closed}
 use Rattle.lua_parser.proofs.PieceKinds.{open_name, name_kind, exp_kind, args_kind, all_kind, args_opens, name_opens}
 use Rattle.lua_parser.proofs.Climb.{First, first}
-use Rattle.lua_parser.proofs.Suffixes.{primary_prefix, IsArgs, args_begin}
+use Rattle.lua_parser.proofs.Suffixes.{primary_prefix, IsArgs, args_begin, args_can}
 use Rattle.lua_parser.proofs.Operands.{class, class_exp, prefix_class, prefix_node, operand_class, tight}
 use Rattle.lua_parser.proofs.Atoms.{room_of, fits_of, unary_class}
 
@@ -335,3 +335,79 @@ alone_stood ts w i e q h sort grows g = record {
 
 
 
+pub alone_fails : (ts : List Token) (w : Around) (i k p : ℕ) → sort_at ts i ≡ LeftBrace → Broke Exp ts (operand_lang ts w) nothing w.above i k p → Broke Exps ts (args_lang ts w) nothing w.above i k p
+unfolding SpellsArgs
+alone_fails ts w i k p sort g = record {
+  inside = g.inside; ordered = g.ordered; number = g.number;
+  reach = reach;
+  dead = λ x b n j ab lt s st. go x b n j ab lt s
+  }
+  where
+    table : (n f j : ℕ) (x : Exp) → i < n → n ≤ j → operand_lang ts w x w.above n f i j → (z : Exps) × (y : ℕ) × (n ≤ y) × args_lang ts w z w.above n f i y
+    table n f j x lt le o = pick x (ap class (sym sort) ∙ operand_class ts w n f w.above o.1 x i j lt o.0 o.3) o.0 o.3
+      where
+        pick : (y : Exp) → 8 ≡ class_exp y → IsOperand y → Spells (given_of ts n f) (high w w.above) o.1 y i j → (z : Exps) × (u : ℕ) × (n ≤ u) × args_lang ts w z w.above n f i u
+        pick (TableE line u) c oy d = (MoreExp (TableE line u) NoExp, j, le, inr (i, (tt, refl), tight ts w n f w.above o.1 (TableE line u) i j tt o.2 (λ v. omega (arith, v)) (λ v. omega (arith, v)) (λ v. omega (arith, v)) d))
+        pick (UnaryE line op u) c oy d = absurd (omega (arith, c, (unary_class op).0))
+        pick (BinaryE line op u v) c oy d = elim oy [ ]
+        pick _ c oy d = absurd (omega (arith, c))
+    reach : (n f : ℕ) → Before p k n f → (x : Exps) × (j : ℕ) × (n ≤ j) × args_lang ts w x w.above n f i j
+    reach n f (inl e) = here (eq-or-lt_of_le g.ordered)
+      where
+        here : (i ≡ p) ⊎ (i < p) → (x : Exps) × (j : ℕ) × (n ≤ j) × args_lang ts w x w.above n f i j
+        here (inl q) = args_opens ts w w.above n f i (omega (arith, e, q))
+        here (inr q) = let r = g.reach n f (inl e) in table n f r.1 r.0 (omega (arith, e, q)) r.2 r.3
+    reach n f (inr e) = let r = g.reach n f (inr e) in table n f r.1 r.0 (omega (arith, e.0, g.ordered)) r.2 r.3
+    no_open : (n : ℕ) → i < n → (i < n → sort_at ts i ≡ LeftParen) → ⊥
+    no_open n lt h = let z : LeftParen ≡ LeftBrace = sym (h lt) ∙ sort in cc
+    go : (x : Exps) (b n j : ℕ) → w.above ≤ b → p < n → SpellsArgs (given_of ts n k) (high w b) x i j → ⊥
+    go NoExp b n j ab lt d = no_open n (lt_of_le_of_lt g.ordered lt) d.1.0
+    go (MoreExp y ys) b n j ab lt d = elim d [
+        inl z ↦ no_open n (lt_of_le_of_lt g.ordered lt) z.1.0
+      | inr z ↦ one y ys z.1.0 (subst (λ (u : ℕ). Spells (given_of ts n k) (high w b) 9 y u j) (sym z.1.1) z.2)
+      ]
+      where
+        one : (v : Exp) (vs : Exps) → IsAlone v vs → Spells (given_of ts n k) (high w b) 9 v i j → ⊥
+        one (TextE line u) NoExp a s = g.dead (TextE line u) b n j ab lt (tt, 9, le_refl 9, s, tt) (λ z. refl)
+        one (TableE line u) NoExp a s = g.dead (TableE line u) b n j ab lt (tt, 9, le_refl 9, s, tt) (λ z. refl)
+        one _ _ a s = elim a [ ]
+
+pub text_deep : (ts : List Token) (w : Around) (i : ℕ) → i < length ts → sort_at ts i ≡ Text → 200 < w.above → Broke Exps ts (args_lang ts w) nothing w.above i 7 i
+unfolding SpellsArgs Spells IsArgs
+text_deep ts w i inside sort over = record {
+  inside = inside; ordered = le_refl i; number = (omega arith, omega arith);
+  reach = reach;
+  dead = λ x b n j ab lt s st. go x b n j ab lt s
+  }
+  where
+    reach : (n f : ℕ) → Before i 7 n f → (x : Exps) × (j : ℕ) × (n ≤ j) × args_lang ts w x w.above n f i j
+    reach n f (inl e) = args_opens ts w w.above n f i (omega (arith, e))
+    reach n f (inr e) =
+      let Q : ℕ → Type 0 = λ v. (x : Exps) × (j : ℕ) × (v ≤ j) × args_lang ts w x w.above v f i j in
+      subst Q (sym e.0) (args_can ts w i w.above f (inr (inl sort)) e.2)
+    no_open : (n : ℕ) → i < n → (i < n → sort_at ts i ≡ LeftParen) → ⊥
+    no_open n lt h = let z : LeftParen ≡ Text = sym (h lt) ∙ sort in cc
+    go : (x : Exps) (b n j : ℕ) → w.above ≤ b → i < n → SpellsArgs (given_of ts n 7) (high w b) x i j → ⊥
+    go NoExp b n j ab lt d = no_open n lt d.1.0
+    go (MoreExp (TextE line u) ys) b n j ab lt d = elim d [
+        inl z ↦ no_open n lt z.1.0
+      | inr z ↦
+          let P : ℕ → Type 0 = λ v. 7 ≡ 7 → v < n → b ≤ 200 in
+          let r : b ≤ 200 = subst P (sym z.1.1) z.2.1.1 refl lt in omega (arith, r, ab, over)
+      ]
+    go (MoreExp (TableE line u) ys) b n j ab lt d = elim d [
+        inl z ↦ no_open n lt z.1.0
+      | inr z ↦
+          let P : ℕ → Type 0 = λ v. 7 ≡ 7 → v < n → b ≤ 200 in
+          let r : b ≤ 200 = subst P (sym z.1.1) z.2.1.1 refl lt in omega (arith, r, ab, over)
+      ]
+    go (MoreExp _ ys) b n j ab lt d = elim d [ inl z ↦ no_open n lt z.1.0 | inr z ↦ z.1.0 ]
+
+pub no_args : (ts : List Token) (w : Around) (i : ℕ) → sort_at ts i ≢ LeftParen → sort_at ts i ≢ Text → sort_at ts i ≢ LeftBrace → (x : Exps) (b n f j : ℕ) → i < n → args_lang ts w x b n f i j → Stops ts nothing n j → ⊥
+unfolding IsArgs
+no_args ts w i e1 e2 e3 x b n f j lt s st = go (args_begin ts w n f b x i j lt s)
+  where
+    go : IsArgs (sort_at ts i) → ⊥
+    go (inl e) = e1 e
+    go (inr (inl e)) = e2 e
+    go (inr (inr e)) = e3 e

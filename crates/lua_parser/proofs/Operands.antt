@@ -110,26 +110,26 @@ prefix_node ts w n b l (MethodE line t z y) i j lt p s =
   le_trans (raised_above n s.0 b) (prefix_node ts w n (raised n s.0 b) 10 t i s.0 lt s.2 (subst (λ (v : Around). Spells (given_of ts n 7) v 10 t i s.0) (before_high ts w n 7 s.0 b) s.1))
 prefix_node ts w n b l _ i j lt p s = elim p [ ]
 
-pub operand_node : (ts : List Token) (w : Around) (i : ℕ) → HasNode Exp ts (operand_lang ts w) i
+pub node_of : (ts : List Token) (w : Around) (n b : ℕ) (i j : ℕ) → i < n → (y : Exp) → IsOperand y → (v : ℕ) → Spells (given_of ts n 7) (high w b) v y i j → b ≤ 200
 unfolding Spells
-operand_node ts w i x b n j lt s = go x s.0 s.1 s.3
-  where
-    go : (y : Exp) → IsOperand y → (v : ℕ) → Spells (given_of ts n 7) (high w b) v y i j → b ≤ 200
-    go (NilE line) o v d = d.1.1 refl lt
-    go (TrueE line) o v d = d.1.1 refl lt
-    go (FalseE line) o v d = d.1.1 refl lt
-    go (NumberE line z) o v d = d.1.1 refl lt
-    go (TextE line z) o v d = d.1.1 refl lt
-    go (DotsE line) o v d = d.1.1 refl lt
-    go (FunctionE line z) o v d = d.1.1 refl lt
-    go (TableE line z) o v d = d.1.1 refl lt
-    go (UnaryE line op z) o v d = d.1.1.1 refl lt
-    go (BinaryE line op t r) o v d = elim o [ ]
-    go (NameE line y) o v d = prefix_node ts w n b v (NameE line y) i j lt tt d
-    go (ParenE line y) o v d = prefix_node ts w n b v (ParenE line y) i j lt tt d
-    go (IndexE line t y) o v d = prefix_node ts w n b v (IndexE line t y) i j lt tt d
-    go (CallE line t y) o v d = prefix_node ts w n b v (CallE line t y) i j lt tt d
-    go (MethodE line t z y) o v d = prefix_node ts w n b v (MethodE line t z y) i j lt tt d
+node_of ts w n b i j lt (NilE line) o v d = d.1.1 refl lt
+node_of ts w n b i j lt (TrueE line) o v d = d.1.1 refl lt
+node_of ts w n b i j lt (FalseE line) o v d = d.1.1 refl lt
+node_of ts w n b i j lt (NumberE line z) o v d = d.1.1 refl lt
+node_of ts w n b i j lt (TextE line z) o v d = d.1.1 refl lt
+node_of ts w n b i j lt (DotsE line) o v d = d.1.1 refl lt
+node_of ts w n b i j lt (FunctionE line z) o v d = d.1.1 refl lt
+node_of ts w n b i j lt (TableE line z) o v d = d.1.1 refl lt
+node_of ts w n b i j lt (UnaryE line op z) o v d = d.1.1.1 refl lt
+node_of ts w n b i j lt (BinaryE line op t r) o v d = elim o [ ]
+node_of ts w n b i j lt (NameE line y) o v d = prefix_node ts w n b v (NameE line y) i j lt tt d
+node_of ts w n b i j lt (ParenE line y) o v d = prefix_node ts w n b v (ParenE line y) i j lt tt d
+node_of ts w n b i j lt (IndexE line t y) o v d = prefix_node ts w n b v (IndexE line t y) i j lt tt d
+node_of ts w n b i j lt (CallE line t y) o v d = prefix_node ts w n b v (CallE line t y) i j lt tt d
+node_of ts w n b i j lt (MethodE line t z y) o v d = prefix_node ts w n b v (MethodE line t z y) i j lt tt d
+
+pub operand_node : (ts : List Token) (w : Around) (i : ℕ) → HasNode Exp ts (operand_lang ts w) i
+operand_node ts w i x b n j lt s = node_of ts w n b i j lt x s.0 s.1 s.3
 
 -- ---- an operand that stands
 

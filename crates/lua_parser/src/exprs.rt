@@ -39,7 +39,7 @@ pub(crate) fn exp(
     let mut left = first.tree;
     let mut end = first.end;
     let mut height = first.height;
-    loop {
+    'climb: loop {
         let Some(op) = op_of(sort_at(toks, end)) else {
             let tree = left;
             return Ok(Parsed { tree, end, height });

@@ -37,7 +37,7 @@ pub(crate) fn prefix(
     let mut left = first.tree;
     let mut end = first.end;
     let mut height = first.height;
-    loop {
+    'chain: loop {
         if !is_suffix(sort_at(toks, end)) {
             let tree = left;
             return Ok(Parsed { tree, end, height });
@@ -262,7 +262,7 @@ pub(crate) fn exprs(
     let mut tree = List::new(alloc);
     let mut at = i;
     let mut height = 0;
-    loop {
+    'list: loop {
         let next = exp(alloc, toks, at, 1, around)?;
         tree.push(next.tree)?;
         height = next.height.max(height);

@@ -10,8 +10,7 @@ use crate::answer::{Fault, Parsed, bad};
 use crate::around::under;
 use crate::exprs::exp;
 use crate::make;
-use crate::prefixes::key_name;
-use crate::tokens::{line_at, sort_at};
+use crate::tokens::{copy_at, line_at, sort_at};
 use lua_grammar::{Around, Sort};
 use lua_lexer::Token;
 use lua_syntax::{Expr, Field};
@@ -63,7 +62,7 @@ fn fields(
     let mut tree = List::new(alloc);
     let mut end = i;
     let mut height = 0;
-    loop {
+    'fields: loop {
         if let Sort::RightBrace = sort_at(toks, end) {
             return Ok(Parsed { tree, end, height });
         }
@@ -103,12 +102,15 @@ fn field(alloc: Global, toks: &[Token], i: usize, around: Around) -> Result<Pars
         }
         Sort::Name => match sort_at(toks, i + 1) {
             Sort::Assign => {
-                let key = key_name(alloc, toks, i, around)?;
+                if around.above > 200 {
+                    return bad(7, i);
+                }
+                let key = make::text(line_at(toks, i), copy_at(alloc, toks, i)?);
                 let value = exp(alloc, toks, i + 2, 1, around)?;
                 Ok(Parsed {
-                    tree: make::pair(key.tree, value.tree),
+                    tree: make::pair(key, value.tree),
                     end: value.end,
-                    height: value.height.max(key.height),
+                    height: value.height.max(1),
                 })
             }
             _ => item(alloc, toks, i, around),
