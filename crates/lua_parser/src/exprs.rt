@@ -148,10 +148,13 @@ fn literal(alloc: Global, toks: &[Token], i: usize, around: Around) -> Result<Pa
             one_token(make::number(line, value), i, around)
         }
         Sort::Dots => {
-            if around.above <= 200 && !around.dotted {
-                return bad(10, i);
+            if around.dotted {
+                return one_token(make::dots(line), i, around);
             }
-            one_token(make::dots(line), i, around)
+            if around.above > 200 {
+                return bad(7, i);
+            }
+            bad(10, i)
         }
         _ => bad(5, i),
     }
