@@ -144,3 +144,72 @@ text_same ts i line bytes e le be q = q ∙ ap (λ (z : ℕ). TextE z bytes) le 
 
 pub name_same : (ts : List Token) (i line : ℕ) (bytes : List ℕ) (e : Exp) → line ≡ (tok_at ts i).line → bytes ≡ bytes_of (tok_at ts i) → e ≡ NameE line bytes → e ≡ NameE (tok_at ts i).line (bytes_of (tok_at ts i))
 name_same ts i line bytes e le be q = q ∙ ap (λ (z : ℕ). NameE z bytes) le ∙ ap (λ (z : List ℕ). NameE (tok_at ts i).line z) be
+
+-- ---- expressions
+
+pub operand_fault : (ts : List Token) (w : Around) (l i : ℕ) (f : Fault) → l ≤ 7 → Failed (Broke Exp ts (operand_lang ts w) nothing w.above i) f → Failed (Broke Exp ts (exp_lang ts w l) (goes_on l) w.above i) f
+operand_fault ts w l i NoMemory le x = tt
+operand_fault ts w l i (At f) le x = operand_breaks ts w l i f.kind f.place le x
+
+pub finish_read : (ts : List Token) (w : Around) (l i : ℕ) (e : Exp) (m h : ℕ) (s : Sort) → l ≤ 7 → Climbs ts w l i e m h → s ≡ sort_at ts m → ((op : BinaryOp) → s ≢ mark_of op) → ExpStood ts w l i e m h
+finish_read ts w l i e m h s le cl r ne = finish ts w l i e m h le cl (let P : Sort → Type 0 = λ z. goes_on l z ≡ false in subst P r (not_op-stops l s ne))
+
+pub low_read : (ts : List Token) (w : Around) (l i : ℕ) (e : Exp) (m h k : ℕ) (s : Sort) (op : BinaryOp) → l ≤ 7 → Climbs ts w l i e m h → s ≡ sort_at ts m → s ≡ mark_of op → k ≡ level op → k < l → ExpStood ts w l i e m h
+low_read ts w l i e m h k s op le cl r is ke lt =
+  finish ts w l i e m h le cl (let P : Sort → Type 0 = λ z. goes_on l z ≡ false in subst P (sym is ∙ r) (goes-not l op (subst (λ (y : ℕ). y < l) ke lt)))
+
+pub least_read : (l k : ℕ) (op : BinaryOp) → k ≡ level op → l ≤ k → l ≤ level op
+least_read l k op e le = subst (λ (y : ℕ). l ≤ y) e le
+
+pub deep_read : (ts : List Token) (w : Around) (l i : ℕ) (e : Exp) (m h k : ℕ) (s : Sort) (op : BinaryOp) → l ≤ 7 → Climbs ts w l i e m h → s ≡ sort_at ts m → s ≡ mark_of op → k ≡ level op → l ≤ k → 200 < w.above + h →
+  Broke Exp ts (exp_lang ts w l) (goes_on l) w.above i 7 m
+deep_read ts w l i e m h k s op le cl r is ke lk over = deep ts w l i e op m h le cl (sym r ∙ is) (least_read l k op ke lk) over
+
+pub right_fault : (ts : List Token) (w v : Around) (l i : ℕ) (e : Exp) (m h k r : ℕ) (s : Sort) (op : BinaryOp) (f : Fault) → l ≤ 7 → Climbs ts w l i e m h → s ≡ sort_at ts m → s ≡ mark_of op → k ≡ level op → l ≤ k → w.above + h ≤ 200 →
+  r ≡ right_level op → v ≡ under w → Failed (Broke Exp ts (exp_lang ts v r) (goes_on r) v.above (m + 1)) f → Failed (Broke Exp ts (exp_lang ts w l) (goes_on l) w.above i) f
+right_fault ts w v l i e m h k r s op NoMemory le cl q is ke lk room re ve x = tt
+right_fault ts w v l i e m h k r s op (At f) le cl q is ke lk room re ve x =
+  let P : Around → ℕ → ℕ → Type 0 = λ u y z. Broke Exp ts (exp_lang ts u y) (goes_on y) u.above z f.kind f.place in
+  let Q : Around → Type 0 = λ u. P u r (m + 1) in
+  right_breaks ts w l i e op m h f.kind f.place le cl (sym q ∙ is) (least_read l k op ke lk) room
+    (subst (λ (z : ℕ). P (under w) (right_level op) z) (add-one m) (subst (λ (y : ℕ). P (under w) y (m + 1)) re (subst Q ve x)))
+
+pub more_read : (ts : List Token) (w v : Around) (l i : ℕ) (e right x : Exp) (m h k r q j line : ℕ) (s : Sort) (op : BinaryOp) → l ≤ 7 → Climbs ts w l i e m h → s ≡ sort_at ts m → s ≡ mark_of op → k ≡ level op → l ≤ k → w.above + h ≤ 200 →
+  r ≡ right_level op → v ≡ under w → ExpStood ts v r (m + 1) right q j → line ≡ (tok_at ts m).line → x ≡ BinaryE line op e right → Climbs ts w l i x q (1 + max h j)
+more_read ts w v l i e right x m h k r q j line s op le cl s' is ke lk room re ve g ln xe =
+  let P : Around → ℕ → ℕ → Type 0 = λ u y z. ExpStood ts u y z right q j in
+  let Q : Around → Type 0 = λ u. P u r (m + 1) in
+  subst (λ (y : Exp). Climbs ts w l i y q (1 + max h j)) (sym xe)
+    (more ts w l i e right op line m q h j le cl (sym s' ∙ is) (least_read l k op ke lk) ln room
+      (subst (λ (z : ℕ). P (under w) (right_level op) z) (add-one m) (subst (λ (y : ℕ). P (under w) y (m + 1)) re (subst Q ve g))))
+
+-- ---- operands with parts
+
+pub prefix_answer : (ts : List Token) (w : Around) (i : ℕ) (r : Result (Parsed Expr) Fault) → class (sort_at ts i) ≡ 12 → PrefixAnswer ts w i r → OperandAnswer ts w i r
+prefix_answer ts w i (Ok p) c x = prefix_operand ts w i (expr_view p.tree) p.end p.height c x
+prefix_answer ts w i (Err NoMemory) c x = tt
+prefix_answer ts w i (Err (At f)) c x = prefix_operand_fails ts w i f.kind f.place c x
+
+-- One more node above.
+pub exp_under : (ts : List Token) (w v : Around) (l i : ℕ) (e : Exp) (q h : ℕ) → v ≡ under w → ExpStood ts v l i e q h → ExpStood ts (under w) l i e q h
+exp_under ts w v l i e q h ve g = let P : Around → Type 0 = λ u. ExpStood ts u l i e q h in subst P ve g
+
+pub unary_fault : (ts : List Token) (w v : Around) (i : ℕ) (op : UnaryOp) (f : Fault) → sort_at ts i ≡ sign_of op → w.above ≤ 200 → v ≡ under w → Failed (Broke Exp ts (exp_lang ts v 7) (goes_on 7) v.above (i + 1)) f →
+  Failed (Broke Exp ts (operand_lang ts w) nothing w.above i) f
+unary_fault ts w v i op NoMemory is room ve x = tt
+unary_fault ts w v i op (At f) is room ve x =
+  let P : Around → Type 0 = λ u. Broke Exp ts (exp_lang ts u 7) (goes_on 7) u.above (i + 1) f.kind f.place in
+  under_fails {K = closed_kind ts w} {r = λ e. Done (UnaryE (tok_at ts i).line op e)} (unary_starts ts w i op is) (fits_of w.above room) (closed_fails ts (under w) (i + 1) f.kind f.place (subst P ve x)) (λ e. follows_nothing ts nothing (Done (UnaryE (tok_at ts i).line op e)))
+
+height_one : (k : ℕ) → max 1 (1 + k) ≡ 1 + k
+height_one k = omega arith
+
+pub unary_read : (ts : List Token) (w v : Around) (i : ℕ) (op : UnaryOp) (e x : Exp) (q h line : ℕ) → sort_at ts i ≡ sign_of op → w.above ≤ 200 → v ≡ under w → ExpStood ts v 7 (i + 1) e q h → line ≡ (tok_at ts i).line →
+  x ≡ UnaryE line op e → OperandStood ts w i x q (1 + h)
+unary_read ts w v i op e x q h line is room ve g ln xe =
+  let u : ExpStood ts (under w) 7 (i + 1) e q h = exp_under ts w v 7 (i + 1) e q h ve g in
+  let l : Left Exp ts (operand_lang ts w) nothing i (Done (UnaryE (tok_at ts i).line op e)) q (max 1 (1 + h)) =
+    under_step {K = closed_kind ts w} {r = λ z. Done (UnaryE (tok_at ts i).line op z)} (unary_starts ts w i op is) (omega arith) (closed_stood ts (under w) (i + 1) e q h u) (λ z. follows_nothing ts nothing (Done (UnaryE (tok_at ts i).line op z))) in
+  let hh : Below (max 1 (1 + h)) w.above = omega (arith, u.stood.height, room, u.some_node) in
+  let st : OperandStood ts w i (UnaryE (tok_at ts i).line op e) q (max 1 (1 + h)) = operand_stood ts w i (UnaryE (tok_at ts i).line op e) q (max 1 (1 + h)) (all_read l u.stood.inside hh) (omega (arith, u.grows)) (omega arith) in
+  subst (λ (z : ℕ). OperandStood ts w i x q z) (height_one h) (subst (λ (z : Exp). OperandStood ts w i z q (max 1 (1 + h))) (ap (λ (z : ℕ). UnaryE z op e) (sym ln) ∙ sym xe) st)

@@ -3,6 +3,8 @@ use Rattle.lua_grammar.specs.View.{expr_view}
 use Rattle.lua_parser.proofs.Climb.{Climbs}
 use Rattle.lua_parser.proofs.Suffixes.{Chain}
 use Rattle.lua_parser.proofs.Lists.{Listed}
+use Rattle.lua_parser.proofs.FieldLemmas.{Fielded}
+use Rattle.lua_parser.specs.Parsing.{Below}
 use Rattle.lua_parser.proofs.+parser.Given as goal
 
 abbrev pub decreases-blocks::block : goal.decreases-blocks::block
@@ -61,3 +63,15 @@ invariant-prefixes::prefix-chain l = Chain l.toks l.around l.i (expr_view l.left
 
 abbrev pub decreases-prefixes::prefix-chain : goal.decreases-prefixes::prefix-chain
 decreases-prefixes::prefix-chain l = length l.toks - l.end
+
+abbrev pub invariant-prefixes::exprs-list : goal.invariant-prefixes::exprs-list
+invariant-prefixes::exprs-list l = (l.at < length l.toks) × (l.i ≤ l.at) × Below l.height l.around.above × Listed l.toks l.around l.i l.tree l.at l.height
+
+abbrev pub decreases-prefixes::exprs-list : goal.decreases-prefixes::exprs-list
+decreases-prefixes::exprs-list l = length l.toks - l.at
+
+abbrev pub invariant-tables::fields-fields : goal.invariant-tables::fields-fields
+invariant-tables::fields-fields l = (l.end < length l.toks) × (l.i ≤ l.end) × Below l.height l.around.above × Fielded l.toks l.around l.i l.tree l.end l.height
+
+abbrev pub decreases-tables::fields-fields : goal.decreases-tables::fields-fields
+decreases-tables::fields-fields l = length l.toks - l.end
