@@ -4,24 +4,26 @@ use Rattle.std.specs.Prelude.{ℤ, Result, Ok, Err}
 use Rattle.lua_lexer.specs.declared.token.Token.{Token}
 use Rattle.lua_syntax.specs.declared.Expr.{Expr}
 use Rattle.lua_grammar.specs.declared.Sort.{Sort}
-use Rattle.lua_grammar.specs.declared.Sort.TheVariants.{Eof, Name, Number, Text, Function, LeftParen, RightParen, LeftBrace, RightBrace, LeftBracket, RightBracket, Colon, Dot, Comma, Assign}
+use Rattle.lua_grammar.specs.declared.Sort.TheVariants.{Eof, Name, Number, Text, Function, LeftParen, RightParen, LeftBrace, RightBrace, LeftBracket, RightBracket, Colon, Dot, Comma, Semicolon, Assign}
 use Rattle.lua_grammar.specs.declared.Around.{Around}
 use Rattle.lua_grammar.specs.Tokens.{sort_at, tok_at, sort_of, bytes_of}
-use Rattle.lua_grammar.specs.View.{expr_view, exprs_view}
+use Rattle.lua_syntax.specs.declared.Field.{Field}
+use Rattle.lua_grammar.specs.View.{expr_view, exprs_view, fields_view}
 use Rattle.lua_grammar.specs.Tree.{Exp, Exps, Fields, Fun, FunctionE, NameE, IndexE, CallE, MethodE, TableE, ParenE, NoExp, MoreExp}
 use Rattle.lua_grammar.specs.Grammar.{given_of, under, suffix_goes}
 use Rattle.lua_parser.specs.declared.answer.Fault.{Fault}
 use Rattle.lua_parser.specs.declared.answer.Fault.TheVariants.{At, NoMemory}
 use Rattle.lua_parser.specs.declared.answer.Parsed.{Parsed}
 use Rattle.lua_parser.specs.Parsing.{Lang, Stops, Below, Stood, Before, Broke, Ended, high, exp_lang, prefix_lang, args_lang, all_lang, fields_lang, nothing, goes_on, exps_goes, fields_goes, operand_lang, OperandStood, PrefixStood, ExpStood}
-use Rattle.lua_parser.specs.Answers.{Failed, Grown, Answer, primary_lang, suffix_lang, name_lang, body_lang}
-use Rattle.lua_parser.proofs.Steps.{Kind, Rest, Done, Word, Named, Here, Under, Either, Reads, Left, Follows, all_read, too_deep, unexpected, under_step, under_fails, here_step, here_fails, word_step, word_fails, named_step, named_fails, follows_word, follows_done, follows_nothing, first_way, second_way, word_closed}
+use Rattle.lua_parser.specs.Answers.{Failed, Grown, Answer, primary_lang, suffix_lang, name_lang, body_lang, field_lang, field_goes, one_field}
+use Rattle.lua_parser.proofs.Steps.{Kind, Rest, Done, Word, Named, Here, Under, Either, Reads, Left, Follows, all_read, too_deep, unexpected, under_step, under_fails, here_step, here_fails, word_step, word_fails, named_step, named_fails, follows_word, follows_done, follows_nothing, first_way, second_way, word_closed, start}
 use Rattle.lua_parser.proofs.PieceKinds.{exp_kind, args_kind, all_kind, name_kind, fields_kind, body_kind}
 use Rattle.lua_parser.proofs.Operands.{operand_stood}
 use Rattle.lua_parser.proofs.Atoms.{table_rest, table_starts, function_rest, function_starts, fits_of}
-use Rattle.lua_parser.proofs.Suffixes.{IsArgs, Chain, chain_begins, primary_fails, chain_ends, chain_goes_on, chain_fails, chain_deep, dot_rest, bracket_rest, colon_rest, call_rest, dot_starts, bracket_starts, colon_starts, call_starts, suffix_can}
-use Rattle.lua_parser.proofs.Lists.{name_starts, paren_starts, open_rest, open_starts, all_closed, Listed}
-use Rattle.lua_parser.proofs.Exits.{more_after, right_paren_not_eof, right_brace_not_eof, right_bracket_not_eof, name_not_eof, name_same, exp_under}
+use Rattle.lua_parser.proofs.Suffixes.{IsArgs, Chain, chain_begins, primary_fails, chain_ends, chain_goes_on, chain_fails, chain_deep, dot_rest, bracket_rest, colon_rest, call_rest, dot_starts, bracket_starts, colon_starts, call_starts, suffix_can, suffix_room}
+use Rattle.lua_parser.proofs.Lists.{name_starts, paren_starts, primary_node, open_rest, open_starts, all_closed, Listed, listed_fails, listed_end, listed_more}
+use Rattle.lua_parser.proofs.FieldLemmas.{Fielded, IsSeparator, fielded_fails, fielded_more, fielded_last, fielded_end}
+use Rattle.lua_parser.proofs.Exits.{more_after, comma_not_eof, right_paren_not_eof, right_brace_not_eof, right_bracket_not_eof, name_not_eof, name_same, exp_under}
 
 high_one : (k : ℕ) → max 1 (1 + k) ≡ 1 + k
 high_one k = omega arith
@@ -229,3 +231,101 @@ call_read ts w v left i es x q h line goes n1 n2 n3 room ve g ln xe =
     (under_done {K = args_kind ts w} {f = λ z. CallE (tok_at ts i).line left z} (call_starts ts w left i (is_args (sort_at ts i) goes n1 n2 n3)) room g'.stood
       (λ z. follows_nothing ts nothing (Done (CallE (tok_at ts i).line left z))))
 }
+
+-- ---- the loop over suffixes
+
+pub primary_fault : (ts : List Token) (w : Around) (i : ℕ) (f : Fault) → Failed (Broke Exp ts (primary_lang ts w) nothing w.above i) f → Failed (Broke Exp ts (prefix_lang ts w) suffix_goes w.above i) f
+primary_fault ts w i NoMemory x = tt
+primary_fault ts w i (At f) x = primary_fails ts w i f.kind f.place x
+
+pub chain_end_read : (ts : List Token) (w : Around) (i : ℕ) (e : Exp) (m h : ℕ) (s : Sort) (b : Bool) → Chain ts w i e m h → s ≡ sort_at ts m → b ≡ suffix_goes s → b ≡ false → PrefixStood ts w i e m h
+chain_end_read ts w i e m h s b cl r be no_more = chain_ends ts w i e m h cl (ap suffix_goes (sym r) ∙ sym be ∙ no_more)
+
+pub goes_read : (ts : List Token) (m : ℕ) (s : Sort) (b : Bool) → s ≡ sort_at ts m → b ≡ suffix_goes s → b ≡ true → suffix_goes (sort_at ts m) ≡ true
+goes_read ts m s b r be go_on = ap suffix_goes (sym r) ∙ sym be ∙ go_on
+
+pub chain_deep_read : (ts : List Token) (w : Around) (i : ℕ) (e : Exp) (m h : ℕ) (s : Sort) (b : Bool) → Chain ts w i e m h → s ≡ sort_at ts m → b ≡ suffix_goes s → b ≡ true → 200 < w.above + h → Broke Exp ts (prefix_lang ts w) suffix_goes w.above i 7 m
+chain_deep_read ts w i e m h s b cl r be go_on over =
+  let g = goes_read ts m s b r be go_on in chain_deep ts w i e m h cl g over (λ f hi. suffix_can ts w e m w.above f g hi)
+
+pub chain_fault_read : (ts : List Token) (w : Around) (i : ℕ) (e : Exp) (m h : ℕ) (s : Sort) (b : Bool) (f : Fault) → Chain ts w i e m h → s ≡ sort_at ts m → b ≡ suffix_goes s → b ≡ true → w.above + h ≤ 200 →
+  Failed (Broke Exp ts (suffix_lang ts w e) nothing w.above m) f → Failed (Broke Exp ts (prefix_lang ts w) suffix_goes w.above i) f
+chain_fault_read ts w i e m h s b NoMemory cl r be go_on room x = tt
+chain_fault_read ts w i e m h s b (At f) cl r be go_on room x = chain_fails ts w i e m h f.kind f.place cl (goes_read ts m s b r be go_on) room x
+
+-- A tree with a node has a level.
+pub some_height : {X : Type 0} {ts : List Token} {L : X → Lang} {goes : Sort → Bool} {a i q : ℕ} {e : X} (h : ℕ) → ((x : X) (b n j : ℕ) → i < n → L x b n 7 i j → b ≤ 200) → Grown X ts L goes a i e q h → 1 ≤ h
+some_height {X} {ts} {L} {goes} {a} {i} {q} {e} zero noded g =
+  let r : 500 ≤ 200 = noded e 500 (suc q) q (omega (arith, g.grows)) (g.stood.stands 500 (suc q) 7 (λ y. omega arith)) in absurd (omega (arith, r))
+some_height (suc h) noded g = omega arith
+
+pub chain_begin_read : (ts : List Token) (w : Around) (i : ℕ) (e : Exp) (q h : ℕ) → Grown Exp ts (primary_lang ts w) nothing w.above i e q h → Chain ts w i e q h
+chain_begin_read ts w i e q h g = chain_begins ts w i e q h (some_height h (primary_node ts w i) g) g
+
+pub chain_more_read : (ts : List Token) (w : Around) (i : ℕ) (left e : Exp) (m q h k : ℕ) (s : Sort) (b : Bool) → Chain ts w i left m h → s ≡ sort_at ts m → b ≡ suffix_goes s → b ≡ true → w.above + h ≤ 200 →
+  Grown Exp ts (suffix_lang ts w left) nothing w.above m e q k → Chain ts w i e q (max k (1 + h))
+chain_more_read ts w i left e m q h k s b cl r be go_on room g =
+  chain_goes_on ts w i left e m q h k cl (goes_read ts m s b r be go_on) room (some_height k (λ x c n j lt l. suffix_room ts w n c left x m j lt l) g) g
+
+-- ---- lists
+
+pub exps_fault : (ts : List Token) (w : Around) (i : ℕ) (xs : List Expr) (m h : ℕ) (f : Fault) → Listed ts w i xs m h → Below h w.above → Failed (Broke Exp ts (exp_lang ts w 1) (goes_on 1) w.above m) f →
+  Failed (Broke Exps ts (all_lang ts w) exps_goes w.above i) f
+exps_fault ts w i xs m h NoMemory l fits x = tt
+exps_fault ts w i xs m h (At f) l fits x = listed_fails ts w i xs m h f.kind f.place l fits x
+
+swap_max : (h k : ℕ) → max h k ≡ max k h
+swap_max h k = omega arith
+
+pub exps_end_read : (ts : List Token) (w : Around) (i : ℕ) (xs ys : List Expr) (m h : ℕ) (x : Expr) (q k j : ℕ) → Listed ts w i xs m h → i ≤ m → Below h w.above → ExpStood ts w 1 m (expr_view x) q k → sort_at ts q ≢ Comma → ys ≡ xs ++ x ∷ [] → j ≡ max k h →
+  Grown Exps ts (all_lang ts w) exps_goes w.above i (exprs_view ys) q j
+exps_end_read ts w i xs ys m h x q k j l im fits g ne ye je =
+  let hh : Below (max h k) w.above = omega (arith, fits, g.stood.height) in
+  let st : Stood Exps ts (all_lang ts w) exps_goes w.above i (exprs_view (xs ++ x ∷ [])) q (max h k) = all_read (listed_end ts w i xs m h x q k l g ne) g.stood.inside hh in
+  record {
+    grows = omega (arith, im, g.grows);
+    stood = subst (λ (z : ℕ). Stood Exps ts (all_lang ts w) exps_goes w.above i (exprs_view ys) q z) (swap_max h k ∙ sym je)
+      (subst (λ (z : List Expr). Stood Exps ts (all_lang ts w) exps_goes w.above i (exprs_view z) q (max h k)) (sym ye) st)
+  }
+
+pub exps_more_read : (ts : List Token) (w : Around) (i : ℕ) (xs ys : List Expr) (m h : ℕ) (x : Expr) (q k j : ℕ) → Ended ts → Listed ts w i xs m h → i ≤ m → Below h w.above → ExpStood ts w 1 m (expr_view x) q k → sort_at ts q ≡ Comma → ys ≡ xs ++ x ∷ [] → j ≡ max k h →
+  (q + 1 < length ts) × (i ≤ q + 1) × Below j w.above × Listed ts w i ys (q + 1) j
+exps_more_read ts w i xs ys m h x q k j ended l im fits g is ye je =
+  let hh : Below (max h k) w.above = omega (arith, fits, g.stood.height) in
+  (more_after ts q Comma ended g.stood.inside is comma_not_eof, omega (arith, im, g.grows), subst (λ (z : ℕ). Below z w.above) (swap_max h k ∙ sym je) hh,
+    subst (λ (z : ℕ). Listed ts w i ys (q + 1) z) (swap_max h k ∙ sym je) (subst (λ (z : List Expr). Listed ts w i z (q + 1) (max h k)) (sym ye) (listed_more ts w i xs m h x q k l g is)))
+
+pub list_begins : (ts : List Token) (w : Around) (i : ℕ) → i < length ts → (i < length ts) × (i ≤ i) × Below 0 w.above × Listed ts w i [] i 0
+list_begins ts w i inside = (inside, le_refl i, omega arith, start ts (all_kind ts w) i)
+
+pub fields_begin : (ts : List Token) (w : Around) (i : ℕ) → i < length ts → (i < length ts) × (i ≤ i) × Below 0 w.above × Fielded ts w i [] i 0
+fields_begin ts w i inside = (inside, le_refl i, omega arith, start ts (fields_kind ts w) i)
+
+pub fields_fault : (ts : List Token) (w : Around) (i : ℕ) (xs : List Field) (m h : ℕ) (f : Fault) → Fielded ts w i xs m h → Below h w.above → sort_at ts m ≢ RightBrace → Failed (Broke Fields ts (field_lang ts w) field_goes w.above m) f →
+  Failed (Broke Fields ts (fields_lang ts w) fields_goes w.above i) f
+fields_fault ts w i xs m h NoMemory l fits ne x = tt
+fields_fault ts w i xs m h (At f) l fits ne x = fielded_fails ts w i xs m h f.kind f.place l fits ne x
+
+pub fields_end_read : (ts : List Token) (w : Around) (i : ℕ) (xs : List Field) (m h : ℕ) → m < length ts → i ≤ m → Below h w.above → Fielded ts w i xs m h → sort_at ts m ≡ RightBrace → Stood Fields ts (fields_lang ts w) fields_goes w.above i (fields_view xs) m h
+fields_end_read ts w i xs m h inside im fits l e = all_read (fielded_end ts w i xs m h l e) inside fits
+
+pub fields_last_read : (ts : List Token) (w : Around) (i : ℕ) (xs ys : List Field) (m h : ℕ) (x : Field) (q k j : ℕ) → Below h w.above → Fielded ts w i xs m h → sort_at ts m ≢ RightBrace → Grown Fields ts (field_lang ts w) field_goes w.above m (one_field x) q k →
+  sort_at ts q ≢ Comma → sort_at ts q ≢ Semicolon → ys ≡ xs ++ x ∷ [] → j ≡ max k h → Stood Fields ts (fields_lang ts w) fields_goes w.above i (fields_view ys) q j
+fields_last_read ts w i xs ys m h x q k j fits l ne g n1 n2 ye je =
+  let hh : Below (max h k) w.above = omega (arith, fits, g.stood.height) in
+  subst (λ (z : ℕ). Stood Fields ts (fields_lang ts w) fields_goes w.above i (fields_view ys) q z) (swap_max h k ∙ sym je)
+    (subst (λ (z : List Field). Stood Fields ts (fields_lang ts w) fields_goes w.above i (fields_view z) q (max h k)) (sym ye) (all_read (fielded_last ts w i xs m h x q k l ne g n1 n2) g.stood.inside hh))
+
+pub fields_more_read : (ts : List Token) (w : Around) (i : ℕ) (xs ys : List Field) (m h : ℕ) (x : Field) (q k j : ℕ) → Ended ts → i ≤ m → Below h w.above → Fielded ts w i xs m h → sort_at ts m ≢ RightBrace → Grown Fields ts (field_lang ts w) field_goes w.above m (one_field x) q k →
+  IsSeparator (sort_at ts q) → ys ≡ xs ++ x ∷ [] → j ≡ max k h → (q + 1 < length ts) × (i ≤ q + 1) × Below j w.above × Fielded ts w i ys (q + 1) j
+fields_more_read ts w i xs ys m h x q k j ended im fits l ne g sep ye je =
+  let hh : Below (max h k) w.above = omega (arith, fits, g.stood.height) in
+  let inside : q + 1 < length ts = behind sep in
+  (inside, omega (arith, im, g.grows), subst (λ (z : ℕ). Below z w.above) (swap_max h k ∙ sym je) hh,
+    subst (λ (z : ℕ). Fielded ts w i ys (q + 1) z) (swap_max h k ∙ sym je) (subst (λ (z : List Field). Fielded ts w i z (q + 1) (max h k)) (sym ye) (fielded_more ts w i xs m h x q k l ne g inside sep)))
+  where
+    semicolon_not_eof : Semicolon ≢ Eof
+    semicolon_not_eof e = cc
+    behind : IsSeparator (sort_at ts q) → q + 1 < length ts
+    behind (inl e) = more_after ts q Comma ended g.stood.inside e comma_not_eof
+    behind (inr e) = more_after ts q Semicolon ended g.stood.inside e semicolon_not_eof
