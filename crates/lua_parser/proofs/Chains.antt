@@ -57,13 +57,13 @@ IsOn t e = ⊥
 
 unfoldable pub Tail : List Token → Around → ℕ → ℕ → ℕ → ℕ → Exp → Span
 Tail ts w n f b l (BinaryE line op a c) o j =
-  (l ≤ level op) × (node (given_of ts n f) (high w b) line ⨟ word (given_of ts n f) (mark_of op) ⨟ Spells (given_of ts n f) (high w (suc b)) (right_level op) c) o j
+    (l ≤ level op) × (node (given_of ts n f) (high w b) line ⨟ word (given_of ts n f) (mark_of op) ⨟ Spells (given_of ts n f) (high w (suc b)) (right_level op) c) o j
 Tail ts w n f b l (IndexE line t k) o j =
-  IsPrefix t × (node (given_of ts n f) (high w b) line ⨟ (SpellsDot (given_of ts n f) (high w (suc b)) k ∣ (word (given_of ts n f) LeftBracket ⨟ Spells (given_of ts n f) (high w (suc b)) 1 k ⨟ word (given_of ts n f) RightBracket)) ⨟ ends (given_of ts n f) l) o j
+    IsPrefix t × (node (given_of ts n f) (high w b) line ⨟ (SpellsDot (given_of ts n f) (high w (suc b)) k ∣ (word (given_of ts n f) LeftBracket ⨟ Spells (given_of ts n f) (high w (suc b)) 1 k ⨟ word (given_of ts n f) RightBracket)) ⨟ ends (given_of ts n f) l) o j
 Tail ts w n f b l (CallE line t es) o j =
-  IsPrefix t × (node (given_of ts n f) (high w b) line ⨟ SpellsArgs (given_of ts n f) (high w (suc b)) es ⨟ ends (given_of ts n f) l) o j
+    IsPrefix t × (node (given_of ts n f) (high w b) line ⨟ SpellsArgs (given_of ts n f) (high w (suc b)) es ⨟ ends (given_of ts n f) l) o j
 Tail ts w n f b l (MethodE line t x es) o j =
-  IsPrefix t × (node (given_of ts n f) (high w b) line ⨟ word (given_of ts n f) Colon ⨟ text (given_of ts n f) Name x ⨟ SpellsArgs (given_of ts n f) (high w (suc b)) es ⨟ ends (given_of ts n f) l) o j
+    IsPrefix t × (node (given_of ts n f) (high w b) line ⨟ word (given_of ts n f) Colon ⨟ text (given_of ts n f) Name x ⨟ SpellsArgs (given_of ts n f) (high w (suc b)) es ⨟ ends (given_of ts n f) l) o j
 Tail ts w n f b l e o j = ⊥
 
 -- x, below b nodes and at level l, ends at j; what is at its left end is y, below c nodes, at level k, and ends at m.
@@ -72,13 +72,13 @@ Same b l x j c k y m = (b ≡ c) × (l ≡ k) × (x ≡ y) × (j ≡ m)
 
 unfoldable pub Spine : List Token → Around → ℕ → ℕ → ℕ → ℕ → Exp → ℕ → ℕ → ℕ → Exp → ℕ → Type 0
 Spine ts w n f b l (BinaryE line op t r) j c k y m =
-  Same b l (BinaryE line op t r) j c k y m ⊎ ((o : ℕ) × Spine ts w n f (raised n o b) (left_level op) t o c k y m × Tail ts w n f b l (BinaryE line op t r) o j)
+    Same b l (BinaryE line op t r) j c k y m ⊎ ((o : ℕ) × Spine ts w n f (raised n o b) (left_level op) t o c k y m × Tail ts w n f b l (BinaryE line op t r) o j)
 Spine ts w n f b l (IndexE line t r) j c k y m =
-  Same b l (IndexE line t r) j c k y m ⊎ ((o : ℕ) × Spine ts w n f (raised n o b) 10 t o c k y m × Tail ts w n f b l (IndexE line t r) o j)
+    Same b l (IndexE line t r) j c k y m ⊎ ((o : ℕ) × Spine ts w n f (raised n o b) 10 t o c k y m × Tail ts w n f b l (IndexE line t r) o j)
 Spine ts w n f b l (CallE line t r) j c k y m =
-  Same b l (CallE line t r) j c k y m ⊎ ((o : ℕ) × Spine ts w n f (raised n o b) 10 t o c k y m × Tail ts w n f b l (CallE line t r) o j)
+    Same b l (CallE line t r) j c k y m ⊎ ((o : ℕ) × Spine ts w n f (raised n o b) 10 t o c k y m × Tail ts w n f b l (CallE line t r) o j)
 Spine ts w n f b l (MethodE line t x r) j c k y m =
-  Same b l (MethodE line t x r) j c k y m ⊎ ((o : ℕ) × Spine ts w n f (raised n o b) 10 t o c k y m × Tail ts w n f b l (MethodE line t x r) o j)
+    Same b l (MethodE line t x r) j c k y m ⊎ ((o : ℕ) × Spine ts w n f (raised n o b) 10 t o c k y m × Tail ts w n f b l (MethodE line t x r) o j)
 Spine ts w n f b l x j c k y m = Same b l x j c k y m
 
 pub spine_end : (ts : List Token) (w : Around) (n f b l : ℕ) (x : Exp) (j : ℕ) → Spine ts w n f b l x j b l x j
@@ -171,33 +171,52 @@ Further ts w n f b l x j c k y m = Same b l x j c k y m ⊎ Next ts w n f b l x 
 
 -- The way up goes through x, whose left end is t.
 abbrev step_up : (ts : List Token) (w : Around) (n f b l : ℕ) (x t : Exp) (j c k : ℕ) (y : Exp) (m o : ℕ) → IsOn t x → l ≤ head_level x → (l ≡ 10 → head_level x ≡ 10) →
-  Tail ts w n f b l x o j → ((c' k' : ℕ) (y' : Exp) (m' : ℕ) → Spine ts w n f (raised n o b) (head_level x) t o c' k' y' m' → Spine ts w n f b l x j c' k' y' m') →
-  Further ts w n f (raised n o b) (head_level x) t o c k y m → Next ts w n f b l x j c k y m
+    Tail ts w n f b l x o j → ((c' k' : ℕ) (y' : Exp) (m' : ℕ) → Spine ts w n f (raised n o b) (head_level x) t o c' k' y' m' → Spine ts w n f b l x j c' k' y' m') →
+    Further ts w n f (raised n o b) (head_level x) t o c k y m → Next ts w n f b l x j c k y m
 step_up ts w n f b l x t j c k y m o is least ten tail lift (inl s) = record {
-  whole = x; on = subst (λ (z : Exp). IsOn z x) s.2 is; above = b; below = le_refl b; at_level = l; least = le_refl l;
-  raises = subst (λ (z : ℕ). raised n z b ≡ c) s.3 s.0; head = s.1; ten = λ e. e; end = j;
-  tail = subst (λ (z : ℕ). Tail ts w n f b l x z j) s.3 tail; spine = spine_end ts w n f b l x j
+  whole = x;
+  on = subst (λ (z : Exp). IsOn z x) s.2 is;
+  above = b;
+  below = le_refl b;
+  at_level = l;
+  least = le_refl l;
+  raises = subst (λ (z : ℕ). raised n z b ≡ c) s.3 s.0;
+  head = s.1;
+  ten = λ e. e;
+  end = j;
+  tail = subst (λ (z : ℕ). Tail ts w n f b l x z j) s.3 tail;
+  spine = spine_end ts w n f b l x j;
 }
 step_up ts w n f b l x t j c k y m o is least ten tail lift (inr s) = record {
-  whole = s.whole; on = s.on; above = s.above; below = le_trans (raised_above n o b) s.below; at_level = s.at_level; least = le_trans least s.least;
-  raises = s.raises; head = s.head; ten = λ e. s.ten (ten e); end = s.end; tail = s.tail; spine = lift s.above s.at_level s.whole s.end s.spine
+  whole = s.whole;
+  on = s.on;
+  above = s.above;
+  below = le_trans (raised_above n o b) s.below;
+  at_level = s.at_level;
+  least = le_trans least s.least;
+  raises = s.raises;
+  head = s.head;
+  ten = λ e. s.ten (ten e);
+  end = s.end;
+  tail = s.tail;
+  spine = lift s.above s.at_level s.whole s.end s.spine;
 }
 
 pub next : (ts : List Token) (w : Around) (n f b l : ℕ) (x : Exp) (j c k : ℕ) (y : Exp) (m : ℕ) → l ≤ 10 → Spine ts w n f b l x j c k y m → Further ts w n f b l x j c k y m
 unfolding Spine Tail
 next ts w n f b l (BinaryE line op t r) j c k y m le (inl s) = inl s
 next ts w n f b l (BinaryE line op t r) j c k y m le (inr s) =
-  inr (step_up ts w n f b l (BinaryE line op t r) t j c k y m s.0 refl (le_trans s.2.0 (level-left op)) (λ e. absurd (omega (arith, e, s.2.0, level-low op))) s.2 (λ c' k' y' m' z. inr (s.0, z, s.2))
+    inr (step_up ts w n f b l (BinaryE line op t r) t j c k y m s.0 refl (le_trans s.2.0 (level-left op)) (λ e. absurd (omega (arith, e, s.2.0, level-low op))) s.2 (λ c' k' y' m' z. inr (s.0, z, s.2))
     (next ts w n f (raised n s.0 b) (left_level op) t s.0 c k y m (omega (arith, left-low op)) s.1))
 next ts w n f b l (IndexE line t r) j c k y m le (inl s) = inl s
 next ts w n f b l (IndexE line t r) j c k y m le (inr s) =
-  inr (step_up ts w n f b l (IndexE line t r) t j c k y m s.0 refl le (λ e. refl) s.2 (λ c' k' y' m' z. inr (s.0, z, s.2)) (next ts w n f (raised n s.0 b) 10 t s.0 c k y m (le_refl 10) s.1))
+    inr (step_up ts w n f b l (IndexE line t r) t j c k y m s.0 refl le (λ e. refl) s.2 (λ c' k' y' m' z. inr (s.0, z, s.2)) (next ts w n f (raised n s.0 b) 10 t s.0 c k y m (le_refl 10) s.1))
 next ts w n f b l (CallE line t r) j c k y m le (inl s) = inl s
 next ts w n f b l (CallE line t r) j c k y m le (inr s) =
-  inr (step_up ts w n f b l (CallE line t r) t j c k y m s.0 refl le (λ e. refl) s.2 (λ c' k' y' m' z. inr (s.0, z, s.2)) (next ts w n f (raised n s.0 b) 10 t s.0 c k y m (le_refl 10) s.1))
+    inr (step_up ts w n f b l (CallE line t r) t j c k y m s.0 refl le (λ e. refl) s.2 (λ c' k' y' m' z. inr (s.0, z, s.2)) (next ts w n f (raised n s.0 b) 10 t s.0 c k y m (le_refl 10) s.1))
 next ts w n f b l (MethodE line t x r) j c k y m le (inl s) = inl s
 next ts w n f b l (MethodE line t x r) j c k y m le (inr s) =
-  inr (step_up ts w n f b l (MethodE line t x r) t j c k y m s.0 refl le (λ e. refl) s.2 (λ c' k' y' m' z. inr (s.0, z, s.2)) (next ts w n f (raised n s.0 b) 10 t s.0 c k y m (le_refl 10) s.1))
+    inr (step_up ts w n f b l (MethodE line t x r) t j c k y m s.0 refl le (λ e. refl) s.2 (λ c' k' y' m' z. inr (s.0, z, s.2)) (next ts w n f (raised n s.0 b) 10 t s.0 c k y m (le_refl 10) s.1))
 next ts w n f b l (NilE line) j c k y m le s = inl s
 next ts w n f b l (TrueE line) j c k y m le s = inl s
 next ts w n f b l (FalseE line) j c k y m le s = inl s

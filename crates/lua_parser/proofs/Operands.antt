@@ -103,11 +103,11 @@ unfolding Spells
 prefix_node ts w n b l (NameE line y) i j lt p s = s.1.1 refl lt
 prefix_node ts w n b l (ParenE line y) i j lt p s = s.1.1 refl lt
 prefix_node ts w n b l (IndexE line t y) i j lt p s =
-  le_trans (raised_above n s.0 b) (prefix_node ts w n (raised n s.0 b) 10 t i s.0 lt s.2 (subst (λ (v : Around). Spells (given_of ts n 7) v 10 t i s.0) (before_high ts w n 7 s.0 b) s.1))
+    le_trans (raised_above n s.0 b) (prefix_node ts w n (raised n s.0 b) 10 t i s.0 lt s.2 (subst (λ (v : Around). Spells (given_of ts n 7) v 10 t i s.0) (before_high ts w n 7 s.0 b) s.1))
 prefix_node ts w n b l (CallE line t y) i j lt p s =
-  le_trans (raised_above n s.0 b) (prefix_node ts w n (raised n s.0 b) 10 t i s.0 lt s.2 (subst (λ (v : Around). Spells (given_of ts n 7) v 10 t i s.0) (before_high ts w n 7 s.0 b) s.1))
+    le_trans (raised_above n s.0 b) (prefix_node ts w n (raised n s.0 b) 10 t i s.0 lt s.2 (subst (λ (v : Around). Spells (given_of ts n 7) v 10 t i s.0) (before_high ts w n 7 s.0 b) s.1))
 prefix_node ts w n b l (MethodE line t z y) i j lt p s =
-  le_trans (raised_above n s.0 b) (prefix_node ts w n (raised n s.0 b) 10 t i s.0 lt s.2 (subst (λ (v : Around). Spells (given_of ts n 7) v 10 t i s.0) (before_high ts w n 7 s.0 b) s.1))
+    le_trans (raised_above n s.0 b) (prefix_node ts w n (raised n s.0 b) 10 t i s.0 lt s.2 (subst (λ (v : Around). Spells (given_of ts n 7) v 10 t i s.0) (before_high ts w n 7 s.0 b) s.1))
 prefix_node ts w n b l _ i j lt p s = elim p [ ]
 
 pub node_of : (ts : List Token) (w : Around) (n b : ℕ) (i j : ℕ) → i < n → (y : Exp) → IsOperand y → (v : ℕ) → Spells (given_of ts n 7) (high w b) v y i j → b ≤ 200
@@ -134,7 +134,7 @@ operand_node ts w i x b n j lt s = node_of ts w n b i j lt x s.0 s.1 s.3
 -- ---- an operand that stands
 
 pub tight : (ts : List Token) (w : Around) (n f b v : ℕ) (e : Exp) (i q : ℕ) → IsOperand e → v ≤ 9 → (class_exp e ≡ 9 → ⊥) → (class_exp e ≡ 10 → ⊥) → (class_exp e ≡ 11 → ⊥) →
-  Spells (given_of ts n f) (high w b) v e i q → Spells (given_of ts n f) (high w b) 9 e i q
+    Spells (given_of ts n f) (high w b) v e i q → Spells (given_of ts n f) (high w b) 9 e i q
 unfolding Spells
 tight ts w n f b v (UnaryE line NotOp e) i q o nine x y z s = absurd (x refl)
 tight ts w n f b v (UnaryE line Len e) i q o nine x y z s = absurd (y refl)
@@ -145,28 +145,32 @@ tight ts w n f b v (ParenE line e) i q o nine x y z s = (s.0, s.1, (s.2.0, s.2.1
 tight ts w n f b v (IndexE line t e) i q o nine x y z s = (s.0, s.1, s.2, (s.3.0, s.3.1, (s.3.2.0, s.3.2.1, ((λ u. s.3.2.2.0 nine), s.3.2.2.1))))
 tight ts w n f b v (CallE line t es) i q o nine x y z s = (s.0, s.1, s.2, (s.3.0, s.3.1, (s.3.2.0, s.3.2.1, ((λ u. s.3.2.2.0 nine), s.3.2.2.1))))
 tight ts w n f b v (MethodE line t k es) i q o nine x y z s =
-  (s.0, s.1, s.2, (s.3.0, s.3.1, (s.3.2.0, s.3.2.1, (s.3.2.2.0, s.3.2.2.1, (s.3.2.2.2.0, s.3.2.2.2.1, ((λ u. s.3.2.2.2.2.0 nine), s.3.2.2.2.2.1))))))
+    (s.0, s.1, s.2, (s.3.0, s.3.1, (s.3.2.0, s.3.2.1, (s.3.2.2.0, s.3.2.2.1, (s.3.2.2.2.0, s.3.2.2.2.1, ((λ u. s.3.2.2.2.2.0 nine), s.3.2.2.2.2.1))))))
 tight ts w n f b v _ i q o nine x y z s = s
 
 pub operand_stood : (ts : List Token) (w : Around) (i : ℕ) (e : Exp) (q h : ℕ) → Stood Exp ts (operand_lang ts w) nothing w.above i e q h → i < q → 1 ≤ h → OperandStood ts w i e q h
 unfolding Stands
 operand_stood ts w i e q h s grows some = record {
-  stood = s; grows = grows; some_node = some;
+  stood = s;
+  grows = grows;
+  some_node = some;
   done = λ b n f x. let r = s.stands b n f x in operand_level ts w n f b r.1 7 e i q r.0 (le_refl 7) r.2 r.3;
-  tied = λ op m b n f x. let r = s.stands b n f x in by_level op m b n f r.0 r.1 r.2 r.3
-  }
+  tied = λ op m b n f x. let r = s.stands b n f x in by_level op m b n f r.0 r.1 r.2 r.3;
+}
   where
     seven : (op : BinaryOp) → sort_at ts q ≡ mark_of op → (line : ℕ) (u : UnaryOp) (x : Exp) → e ≡ UnaryE line u x → left_level op ≤ 7
     seven op m line u x same =
-      let r = s.stands w.above (suc q) 5 (λ y. s.height) in
-      let c : Closes ts (suc q) (UnaryE line u x) q = subst (λ (z : Exp). Closes ts (suc q) z q) same r.4 in
-      let P : Sort → Type 0 = λ z. goes_on 7 z ≡ false in
-      left-seven op (subst P m (c (lt-suc_self q)))
+        let r = s.stands w.above (suc q) 5 (λ y. s.height) in
+        let c : Closes ts (suc q) (UnaryE line u x) q = subst (λ (z : Exp). Closes ts (suc q) z q) same r.4 in
+        let P : Sort → Type 0 = λ z. goes_on 7 z ≡ false in
+        left-seven op (subst P m (c (lt-suc_self q)))
+
     by_level : (op : BinaryOp) → sort_at ts q ≡ mark_of op → (b n f : ℕ) → IsOperand e → (v : ℕ) → v ≤ 9 → Spells (given_of ts n f) (high w b) v e i q → Spells (given_of ts n f) (high w b) (left_level op) e i q
     by_level op m b n f o v nine d = go e refl o d
       where
         down : (x : Exp) → IsOperand x → Spells (given_of ts n f) (high w b) 9 x i q → Spells (given_of ts n f) (high w b) (left_level op) x i q
         down x ox z = looser ts w n f b (left_level op) 9 x i q (left-low op) (le_refl 9) z
+
         go : (x : Exp) → e ≡ x → IsOperand x → Spells (given_of ts n f) (high w b) v x i q → Spells (given_of ts n f) (high w b) (left_level op) x i q
         go (UnaryE line u x) same ox z = operand_level ts w n f b v (left_level op) (UnaryE line u x) i q tt (seven op m line u x same) nine z
         go (BinaryE line u x y) same ox z = elim ox [ ]
@@ -193,7 +197,7 @@ to_ten ts w n f b v (ParenE line e) i j p s = (s.0, s.1, (s.2.0, s.2.1, (s.2.2.0
 to_ten ts w n f b v (IndexE line t e) i j p s = (s.0, s.1, s.2, (s.3.0, s.3.1, (s.3.2.0, s.3.2.1, ((λ u. absurd (omega (arith, u))), s.3.2.2.1))))
 to_ten ts w n f b v (CallE line t es) i j p s = (s.0, s.1, s.2, (s.3.0, s.3.1, (s.3.2.0, s.3.2.1, ((λ u. absurd (omega (arith, u))), s.3.2.2.1))))
 to_ten ts w n f b v (MethodE line t k es) i j p s =
-  (s.0, s.1, s.2, (s.3.0, s.3.1, (s.3.2.0, s.3.2.1, (s.3.2.2.0, s.3.2.2.1, (s.3.2.2.2.0, s.3.2.2.2.1, ((λ u. absurd (omega (arith, u))), s.3.2.2.2.2.1))))))
+    (s.0, s.1, s.2, (s.3.0, s.3.1, (s.3.2.0, s.3.2.1, (s.3.2.2.0, s.3.2.2.1, (s.3.2.2.2.0, s.3.2.2.2.1, ((λ u. absurd (omega (arith, u))), s.3.2.2.2.2.1))))))
 to_ten ts w n f b v _ i j p s = elim p [ ]
 
 pub from_ten : (ts : List Token) (w : Around) (n f b v : ℕ) (e : Exp) (i j : ℕ) → IsPrefix e → Stops ts suffix_goes n j → Spells (given_of ts n f) (high w b) 10 e i j → Spells (given_of ts n f) (high w b) v e i j
@@ -203,7 +207,7 @@ from_ten ts w n f b v (ParenE line e) i j p st s = (s.0, s.1, (s.2.0, s.2.1, (s.
 from_ten ts w n f b v (IndexE line t e) i j p st s = (s.0, s.1, s.2, (s.3.0, s.3.1, (s.3.2.0, s.3.2.1, ((λ u. subst (λ (z : ℕ). Stops ts suffix_goes n z) (sym s.3.2.2.1) st), s.3.2.2.1))))
 from_ten ts w n f b v (CallE line t es) i j p st s = (s.0, s.1, s.2, (s.3.0, s.3.1, (s.3.2.0, s.3.2.1, ((λ u. subst (λ (z : ℕ). Stops ts suffix_goes n z) (sym s.3.2.2.1) st), s.3.2.2.1))))
 from_ten ts w n f b v (MethodE line t k es) i j p st s =
-  (s.0, s.1, s.2, (s.3.0, s.3.1, (s.3.2.0, s.3.2.1, (s.3.2.2.0, s.3.2.2.1, (s.3.2.2.2.0, s.3.2.2.2.1, ((λ u. subst (λ (z : ℕ). Stops ts suffix_goes n z) (sym s.3.2.2.2.2.1) st), s.3.2.2.2.2.1))))))
+    (s.0, s.1, s.2, (s.3.0, s.3.1, (s.3.2.0, s.3.2.1, (s.3.2.2.0, s.3.2.2.1, (s.3.2.2.2.0, s.3.2.2.2.1, ((λ u. subst (λ (z : ℕ). Stops ts suffix_goes n z) (sym s.3.2.2.2.2.1) st), s.3.2.2.2.2.1))))))
 from_ten ts w n f b v _ i j p st s = elim p [ ]
 
 pub prefix_is_operand : (e : Exp) → IsPrefix e → IsOperand e
@@ -216,22 +220,26 @@ prefix_closes ts n j _ p = tt
 
 pub prefix_operand : (ts : List Token) (w : Around) (i : ℕ) (e : Exp) (q h : ℕ) → class (sort_at ts i) ≡ 12 → PrefixStood ts w i e q h → OperandStood ts w i e q h
 prefix_operand ts w i e q h c g = operand_stood ts w i e q h (record {
-    inside = g.stood.inside; ordered = g.stood.ordered; height = g.stood.height;
-    stands = λ b n f x.
+  inside = g.stood.inside;
+  ordered = g.stood.ordered;
+  height = g.stood.height;
+  stands = λ b n f x.
       let r = g.stood.stands b n f x in
       (prefix_is_operand e r.0, 9, le_refl 9, from_ten ts w n f b 9 e i q r.0 (λ lt. g.stopped) r.1, prefix_closes ts n q e r.0);
-    only = λ x b n f j lt s st.
+  only = λ x b n f j lt s st.
       let p = prefix_of_class x s.0 (sym (operand_class ts w n f b s.1 x i j (omega (arith, lt, g.grows)) s.0 s.3) ∙ c) in
-      g.stood.only x b n f j lt (p, to_ten ts w n f b s.1 x i j p s.3) (λ y. no_suffix ts w n f b s.1 i j x s.2 y p s.3)
-  }) g.grows g.some_node
+      g.stood.only x b n f j lt (p, to_ten ts w n f b s.1 x i j p s.3) (λ y. no_suffix ts w n f b s.1 i j x s.2 y p s.3);
+}) g.grows g.some_node
 
 pub prefix_operand_fails : (ts : List Token) (w : Around) (i k p : ℕ) → class (sort_at ts i) ≡ 12 → Broke Exp ts (prefix_lang ts w) suffix_goes w.above i k p → Broke Exp ts (operand_lang ts w) nothing w.above i k p
 prefix_operand_fails ts w i k p c g = record {
-  inside = g.inside; ordered = g.ordered; number = g.number;
+  inside = g.inside;
+  ordered = g.ordered;
+  number = g.number;
   reach = λ n f x.
-    let r = g.reach n f x in
-    (r.0, r.1, r.2, (prefix_is_operand r.0 r.3.0, 9, le_refl 9, from_ten ts w n f w.above 9 r.0 i r.1 r.3.0 (λ lt. absurd (omega (arith, lt, r.2))) r.3.1, prefix_closes ts n r.1 r.0 r.3.0));
+      let r = g.reach n f x in
+      (r.0, r.1, r.2, (prefix_is_operand r.0 r.3.0, 9, le_refl 9, from_ten ts w n f w.above 9 r.0 i r.1 r.3.0 (λ lt. absurd (omega (arith, lt, r.2))) r.3.1, prefix_closes ts n r.1 r.0 r.3.0));
   dead = λ x b n j ab lt s st.
-    let pr = prefix_of_class x s.0 (sym (operand_class ts w n k b s.1 x i j (lt_of_le_of_lt g.ordered lt) s.0 s.3) ∙ c) in
-    g.dead x b n j ab lt (pr, to_ten ts w n k b s.1 x i j pr s.3) (λ y. no_suffix ts w n k b s.1 i j x s.2 y pr s.3)
+      let pr = prefix_of_class x s.0 (sym (operand_class ts w n k b s.1 x i j (lt_of_le_of_lt g.ordered lt) s.0 s.3) ∙ c) in
+      g.dead x b n j ab lt (pr, to_ten ts w n k b s.1 x i j pr s.3) (λ y. no_suffix ts w n k b s.1 i j x s.2 y pr s.3);
 }

@@ -328,16 +328,16 @@ unbound ts (Either p q) r s b n f i j (inl d) = let z = unbound ts p r s b n f i
 unbound ts (Either p q) r s b n f i j (inr d) = let z = unbound ts q r s b n f i j d in (z.0, z.1, inr z.2, z.3)
 
 pub inline : {S X : Type 0} {ts : List Token} {L : S → Lang} {goes : Sort → Bool} {i m h : ℕ} {K : Kind X} {r : X → Rest S} {q : Rest X} →
-  Left S ts L goes i (Here X K r) m h → Left X ts K.lang K.goes m q m 0 → ((x : X) → Follows ts goes K.goes (r x)) → Left S ts L goes i (bind q r) m h
+    Left S ts L goes i (Here X K r) m h → Left X ts K.lang K.goes m q m 0 → ((x : X) → Follows ts goes K.goes (r x)) → Left S ts L goes i (bind q r) m h
 unfolding Follows
 inline {S} {X} {ts} {L} {goes} {i} {m} {h} {K} {r} {q} s t fol = record {
   ordered = s.ordered;
   down = λ y b n f j lt l st.
-    let d = s.down y b n f j lt l st in
-    (bound ts q r y b n f m d.0.1 j d.0.0 (t.down d.0.0 b n f d.0.1 lt d.0.2 (fol d.0.0 y b n f d.0.1 j d.0.3 st)).0 d.0.3, d.1);
+      let d = s.down y b n f j lt l st in
+      (bound ts q r y b n f m d.0.1 j d.0.0 (t.down d.0.0 b n f d.0.1 lt d.0.2 (fol d.0.0 y b n f d.0.1 j d.0.3 st)).0 d.0.3, d.1);
   up = λ y b n f j fits x.
-    let z = unbound ts q r y b n f m j x in
-    s.up y b n f j fits (z.0, z.1, t.up z.0 b n f z.1 (λ e. omega arith) z.2, z.3)
+      let z = unbound ts q r y b n f m j x in
+      s.up y b n f j fits (z.0, z.1, t.up z.0 b n f z.1 (λ e. omega arith) z.2, z.3);
 }
 
 -- Nothing has been read.
@@ -345,5 +345,5 @@ pub start : {S : Type 0} (ts : List Token) (K : Kind S) (i : ℕ) → Left S ts 
 start ts K i = record {
   ordered = le_refl i;
   down = λ s b n f j lt l st. ((s, j, l, (refl, refl)), λ e. omega arith);
-  up = λ s b n f j fits x. subst (λ (y : ℕ). K.lang s b n f i y) x.3.1 (subst (λ y. K.lang y b n f i x.1) (sym x.3.0) x.2)
+  up = λ s b n f j fits x. subst (λ (y : ℕ). K.lang s b n f i y) x.3.1 (subst (λ y. K.lang y b n f i x.1) (sym x.3.0) x.2);
 }

@@ -7,6 +7,7 @@ pub mod blocks;
 pub mod exprs;
 pub mod make;
 pub mod operators;
+pub mod params;
 pub mod prefixes;
 pub mod tables;
 pub mod tokens;

@@ -102,6 +102,7 @@ fn suffix(
 ) -> Result<Parsed<Expr>, Fault>
     requires ended { Ended toks.now }
     requires inside { i < length toks.now }
+    requires begun { 1 ≤ i }
     requires goes { suffix_goes (sort_at toks.now i) ≡ true }
     requires high { around.above ≤ 200 }
     ensures { Answer toks.now expr_view (suffix_lang toks.now around (expr_view left)) nothing around.above i result }
