@@ -1,5 +1,5 @@
 -- What each function of the parser answers: a tree that stands, or where it is broken. Want of memory says nothing.
-use Rattle.std.specs.Prelude.{◌≡◌, ◌≢◌, ℕ, suc, ◌<◌, ◌≤◌, ◌⊎◌, ◌+◌, [], ◌∷◌, Bool, true, false, if◌then◌else◌, List, Result, Ok, Err}
+use Rattle.std.specs.Prelude.{◌≡◌, ◌≢◌, ℕ, suc, ◌<◌, ◌≤◌, ◌⊎◌, ◌+◌, [], ◌∷◌, Bool, true, false, if◌then◌else◌, List, Result, Ok, Err, codes}
 use Rattle.lua_syntax.specs.declared.BinaryOp.{BinaryOp}
 use Rattle.lua_syntax.specs.declared.Expr.{Expr}
 use Rattle.lua_syntax.specs.declared.Function.{Function as FunctionNode}
@@ -125,6 +125,11 @@ body_lang true ts w x b n f = SpellsMethod (given_of ts n f) (high w b) x
 
 abbrev pub names_lang : List Token → List (List ℕ) → Lang
 names_lang ts x b n f = Names (given_of ts n f) x
+
+-- the names of a function's parameters, or of a method's
+abbrev pub self_first : Bool → List (List ℕ) → List (List ℕ)
+self_first false ns = ns
+self_first true ns = codes "self" ∷ ns
 
 abbrev pub Parameters : Type 0
 Parameters = List (List ℕ) × Bool

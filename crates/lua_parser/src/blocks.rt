@@ -8,6 +8,7 @@ use crate::answer::{Fault, Parsed, bad};
 use crate::around::in_function;
 use crate::exprs::exp;
 use crate::make;
+use crate::params::{params, with_self};
 use crate::tokens::sort_at;
 use lua_grammar::{Around, Sort};
 use lua_lexer::Token;
@@ -28,10 +29,24 @@ pub(crate) fn body(
     requires high { around.above ≤ 201 }
     ensures { Answer toks.now function_view (body_lang method toks.now around) nothing around.above i result }
 {
-    match block(alloc, toks, i, around) {
-        Ok(_) => Err(Fault::NoMemory),
-        Err(_) => Err(Fault::NoMemory),
-    }
+    let Sort::LeftParen = sort_at(toks, i) else {
+        return bad(5, i);
+    };
+    let list = params(alloc, toks, i + 1)?;
+    let Sort::RightParen = sort_at(toks, list.end) else {
+        return bad(5, list.end);
+    };
+    let dots = list.tree.dots;
+    let inner = block(alloc, toks, list.end + 1, in_function(dots, around))?;
+    let Sort::End = sort_at(toks, inner.end) else {
+        return bad(5, inner.end);
+    };
+    let names = with_self(alloc, method, list.tree.names)?;
+    Ok(Parsed {
+        tree: make::body_of(names, dots, inner.tree),
+        end: inner.end + 1,
+        height: inner.height,
+    })
 }
 
 #[cycle(parser)]

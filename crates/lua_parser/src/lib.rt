@@ -8,6 +8,9 @@ pub mod exprs;
 pub mod make;
 pub mod operators;
 pub mod params;
+pub mod parser;
 pub mod prefixes;
 pub mod tables;
 pub mod tokens;
+
+pub use parser::parse;

@@ -1,8 +1,9 @@
 //! Parameters of functions (manual 2.5.9).
-ghost use Rattle.std.specs.Prelude.{◌≡◌, ◌<◌, ◌≤◌, ◌+◌, length};
+ghost use Rattle.std.specs.Prelude.{◌≡◌, ◌<◌, ◌≤◌, ◌+◌, length, IfOk, IfErr};
+ghost use Rattle.lua_parser.specs.declared.answer.Fault.TheVariants.{NoMemory};
 ghost use Rattle.lua_grammar.specs.Tokens.{sort_at, tok_at};
 ghost use Rattle.lua_parser.specs.Parsing.{Ended};
-ghost use Rattle.lua_parser.specs.Answers.{MaybeEmpty, params_lang, params_goes};
+ghost use Rattle.lua_parser.specs.Answers.{self_first, MaybeEmpty, params_lang, params_goes};
 ghost use Rattle.lua_parser.specs.Parameters.{params_view};
 
 use crate::answer::{Fault, Parsed, bad};
@@ -20,7 +21,11 @@ pub struct ParameterList {
 }
 
 // Parameters, up to their `)`.
-pub(crate) fn params(alloc: Global, toks: &[Token], i: usize) -> Result<Parsed<ParameterList>, Fault>
+pub(crate) fn params(
+    alloc: Global,
+    toks: &[Token],
+    i: usize,
+) -> Result<Parsed<ParameterList>, Fault>
     requires ended { Ended toks.now }
     requires inside { i < length toks.now }
     ensures { (a : _) → MaybeEmpty toks.now params_view (params_lang toks.now) params_goes a i result }
@@ -54,4 +59,21 @@ fn ended(names: List<Bytes>, dots: bool, end: usize) -> Parsed<ParameterList>
         end,
         height: 0,
     }
+}
+
+// A method has `self` before its parameters.
+pub(crate) fn with_self(
+    alloc: Global,
+    method: bool,
+    names: List<Bytes>,
+) -> Result<List<Bytes>, Fault>
+    ensures ok { IfOk result (λ ns. ns ≡ self_first method names) }
+    ensures err { IfErr result (λ e. e ≡ NoMemory) }
+{
+    if !method {
+        return Ok(names);
+    }
+    let mut all = names.into_vec();
+    all.insert(0, Bytes::of(alloc, b"self")?)?;
+    Ok(List::of_vec(all))
 }

@@ -10,6 +10,7 @@ use Rattle.lua_parser.proofs.PieceKinds.{args_opens}
 use Rattle.lua_parser.proofs.Exits.{more_after, is_sort, isn't, operand_fault, finish_read, low_read, deep_read, right_fault, more_read, prefix_answer, unary_fault, unary_read, name_not_eof, left_paren_not_eof, right_paren_not_eof, left_brace_not_eof, left_bracket_not_eof, right_bracket_not_eof, colon_not_eof, dot_not_eof, assign_not_eof, function_not_eof, sign_not_eof}
 use Rattle.lua_parser.proofs.MoreExits.{lambda_fault, lambda_read, table_fault, table_unclosed, table_read, name_read, paren_fault, paren_unclosed, paren_read, dot_fault, dot_read, bracket_fault, bracket_unclosed, bracket_read, colon_no_name, colon_fault, colon_read, call_fault, call_read, primary_fault, chain_begin_read, chain_end_read, chain_deep_read, chain_fault_read, chain_more_read, exps_fault, exps_end_read, exps_more_read, list_begins, fields_begin, fields_fault, fields_end_read, fields_last_read, fields_more_read}
 use Rattle.lua_parser.proofs.ArgExits.{empty_args, args_fault, args_unclosed, args_read, alone_answer, alone_fault, text_stood, before_it, bracket_key_fault, bracket_key_unclosed, bracket_key_alone, bracket_value_fault, bracket_value_read, key_value_fault, key_value_read, item_fault, item_read, under_low, seven_low, less_room, climbs_high, chain_high, prefix_class_of, same_line, other_line, two_more, is_separator}
+use Rattle.lua_parser.proofs.ParamExits.{body_no_open, body_params_fault, body_no_close, body_block_fault, body_no_end, body_read, function_high}
 use Rattle.lua_parser.proofs.+parser.Goals as goal
 
 -- expressions
@@ -308,3 +309,38 @@ tables::field-returns-in_err-value-in-Assign-sort_at t c =
 
 pub tables::field-returns-in_ok-value-in-Assign-sort_at : goal.tables::field-returns-in_ok-value-in-Assign-sort_at
 tables::field-returns-in_ok-value-in-Assign-sort_at t c = key_value_read _ c.args.around _ _ _ _ _ _ _ _ _ (is_sort _ _ _ _ c.sort_at.ensures c.in-Name.is) (is_sort _ _ _ _ c.sort_at-in-Name.ensures c.in-Assign-sort_at.is) (more_after _ _ _ c.requires.ended c.requires.inside (is_sort _ _ _ _ c.sort_at.ensures c.in-Name.is) name_not_eof) c.if-around-gt200.false c.in_ok-value-in-Assign-sort_at.ensures c.max-in-Assign-sort_at.ensures c.line_at.ensures c.in_ok-copy_at-in-Assign-sort_at.ensures c.text-key.ensures (c.pair-in-Assign-sort_at.ensures _)
+
+pub blocks::body-returns-in_default : goal.blocks::body-returns-in_default
+blocks::body-returns-in_default t c = rw c.bad.ensures (body_no_open c.args.method _ c.args.around _ c.requires.inside (isn't _ _ _ _ c.sort_at.ensures c.in_default.not-LeftParen))
+
+pub blocks::body-params-requires-clause-inside : goal.blocks::body-params-requires-clause-inside
+blocks::body-params-requires-clause-inside t c = more_after _ _ _ c.requires.ended c.requires.inside (is_sort _ _ _ _ c.sort_at.ensures c.in-LeftParen.is) left_paren_not_eof
+
+pub blocks::body-returns-in_err-list : goal.blocks::body-returns-in_err-list
+blocks::body-returns-in_err-list t c =
+    let p = err_from_is_err_and c.from_residual.result c.from_residual.ensures.1 in
+    rw (p.1, p.2) (body_params_fault c.args.method _ c.args.around _ _ (is_sort _ _ _ _ c.sort_at.ensures c.in-LeftParen.is) (c.in_err-list.ensures c.args.around.above))
+
+pub blocks::body-returns-in_default-sort_at : goal.blocks::body-returns-in_default-sort_at
+blocks::body-returns-in_default-sort_at t c = rw c.bad-in_default-sort_at.ensures (body_no_close c.args.method _ c.args.around _ _ _ _ (is_sort _ _ _ _ c.sort_at.ensures c.in-LeftParen.is) (c.in_ok-list.ensures c.args.around.above) (isn't _ _ _ _ c.sort_at-2.ensures c.in_default-sort_at.not-RightParen))
+
+pub blocks::body-block-requires : goal.blocks::body-block-requires
+blocks::body-block-requires t c = (omega (arith, c.decreases, c.requires.inside, (c.in_ok-list.ensures c.args.around.above).ordered, (c.in_ok-list.ensures c.args.around.above).inside), (c.requires.ended, (more_after _ _ _ c.requires.ended (c.in_ok-list.ensures c.args.around.above).inside (is_sort _ _ _ _ c.sort_at-2.ensures c.in-RightParen.is) right_paren_not_eof, function_high c.args.around _ _ c.in_function.ensures c.requires.high)))
+
+pub blocks::body-returns-in_err-inner : goal.blocks::body-returns-in_err-inner
+blocks::body-returns-in_err-inner t c =
+    let p = err_from_is_err_and c.from_residual-in_err-inner.result c.from_residual-in_err-inner.ensures.1 in
+    rw (p.1, p.2) (body_block_fault c.args.method _ c.args.around _ _ _ _ _ _ (is_sort _ _ _ _ c.sort_at.ensures c.in-LeftParen.is) (c.in_ok-list.ensures c.args.around.above) (is_sort _ _ _ _ c.sort_at-2.ensures c.in-RightParen.is) c.in_function.ensures c.in_err-inner.ensures)
+
+pub blocks::body-returns-in_default-sort_at-2 : goal.blocks::body-returns-in_default-sort_at-2
+blocks::body-returns-in_default-sort_at-2 t c = rw c.bad-in_default-sort_at-2.ensures (body_no_end c.args.method _ c.args.around _ _ _ _ _ _ _ _ (is_sort _ _ _ _ c.sort_at.ensures c.in-LeftParen.is) (c.in_ok-list.ensures c.args.around.above) (is_sort _ _ _ _ c.sort_at-2.ensures c.in-RightParen.is) c.in_function.ensures c.in_ok-inner.ensures (isn't _ _ _ _ c.sort_at-3.ensures c.in_default-sort_at-2.not-End))
+
+pub blocks::body-returns : goal.blocks::body-returns
+blocks::body-returns t c = body_read c.args.method _ c.args.around _ _ _ _ _ _ _ _ _ _ c.requires.ended (is_sort _ _ _ _ c.sort_at.ensures c.in-LeftParen.is) c.in_ok-list.ensures (is_sort _ _ _ _ c.sort_at-2.ensures c.in-RightParen.is) c.in_function.ensures c.in_ok-inner.ensures (is_sort _ _ _ _ c.sort_at-3.ensures c.in-End.is) c.in_ok-names.ensures.ok c.body_of.ensures
+
+pub blocks::body-sort_at-requires-2 : goal.blocks::body-sort_at-requires-2
+blocks::body-sort_at-requires-2 t c = (c.in_ok-list.ensures 0).inside
+
+pub blocks::body-overflow_add-list : goal.blocks::body-overflow_add-list
+blocks::body-overflow_add-list t c =
+  let within : c.in_ok-list.list.end < length c.args.toks.now = (c.in_ok-list.ensures 0).inside in search rules
