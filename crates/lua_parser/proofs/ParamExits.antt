@@ -79,9 +79,9 @@ blocked : (m : Bool) (ts : List Token) (w v : Around) (i : ℕ) (p : Parameters)
 blocked m ts w v i p q h b r k e g c ve x =
     here_step {r = λ b. Word End (Done (body_tree m p b))} (closed m ts w i p q h e g c) (inner_at ts w v p.1 (q + 1) b r k ve x) (λ b. follows_word ts nothing block_goes End (Done (body_tree m p b)) refl)
 
-pub body_no_end : (m : Bool) (ts : List Token) (w v : Around) (i : ℕ) (p : Parameters) (q h : ℕ) (b : Block) (r k : ℕ) → sort_at ts i ≡ LeftParen → Stood Parameters ts (params_lang ts) params_goes w.above (i + 1) p q h → sort_at ts q ≡ RightParen → v ≡ in_function p.1 w →
+pub fun_no_end : (m : Bool) (ts : List Token) (w v : Around) (i : ℕ) (p : Parameters) (q h : ℕ) (b : Block) (r k : ℕ) → sort_at ts i ≡ LeftParen → Stood Parameters ts (params_lang ts) params_goes w.above (i + 1) p q h → sort_at ts q ≡ RightParen → v ≡ in_function p.1 w →
     Stood Block ts (block_lang ts v) block_goes v.above (q + 1) b r k → sort_at ts r ≢ End → Broke Fun ts (body_lang m ts w) nothing w.above i 5 r
-body_no_end m ts w v i p q h b r k e g c ve x ne =
+fun_no_end m ts w v i p q h b r k e g c ve x ne =
     word_fails {r = Done (body_tree m p b)} (blocked m ts w v i p q h b r k e g c ve x) (omega (arith, g.height, (inner_at ts w v p.1 (q + 1) b r k ve x).height)) x.inside ne
 
 end_not_eof : End ≢ Eof

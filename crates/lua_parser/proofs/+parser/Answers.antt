@@ -10,7 +10,7 @@ use Rattle.lua_parser.proofs.PieceKinds.{args_opens}
 use Rattle.lua_parser.proofs.Exits.{more_after, is_sort, isn't, operand_fault, finish_read, low_read, deep_read, right_fault, more_read, prefix_answer, unary_fault, unary_read, name_not_eof, left_paren_not_eof, right_paren_not_eof, left_brace_not_eof, left_bracket_not_eof, right_bracket_not_eof, colon_not_eof, dot_not_eof, assign_not_eof, function_not_eof, sign_not_eof}
 use Rattle.lua_parser.proofs.MoreExits.{lambda_fault, lambda_read, table_fault, table_unclosed, table_read, name_read, paren_fault, paren_unclosed, paren_read, dot_fault, dot_read, bracket_fault, bracket_unclosed, bracket_read, colon_no_name, colon_fault, colon_read, call_fault, call_read, primary_fault, chain_begin_read, chain_end_read, chain_deep_read, chain_fault_read, chain_more_read, exps_fault, exps_end_read, exps_more_read, list_begins, fields_begin, fields_fault, fields_end_read, fields_last_read, fields_more_read}
 use Rattle.lua_parser.proofs.ArgExits.{empty_args, args_fault, args_unclosed, args_read, alone_answer, alone_fault, text_stood, before_it, bracket_key_fault, bracket_key_unclosed, bracket_key_alone, bracket_value_fault, bracket_value_read, key_value_fault, key_value_read, item_fault, item_read, under_low, seven_low, less_room, climbs_high, chain_high, prefix_class_of, same_line, other_line, two_more, is_separator}
-use Rattle.lua_parser.proofs.ParamExits.{body_no_open, body_params_fault, body_no_close, body_block_fault, body_no_end, body_read, function_high}
+use Rattle.lua_parser.proofs.ParamExits.{body_no_open, body_params_fault, body_no_close, body_block_fault, fun_no_end, body_read, function_high}
 use Rattle.lua_parser.proofs.+parser.Goals as goal
 
 -- expressions
@@ -333,7 +333,7 @@ blocks::body-returns-in_err-inner t c =
     rw (p.1, p.2) (body_block_fault c.args.method _ c.args.around _ _ _ _ _ _ (is_sort _ _ _ _ c.sort_at.ensures c.in-LeftParen.is) (c.in_ok-list.ensures c.args.around.above) (is_sort _ _ _ _ c.sort_at-2.ensures c.in-RightParen.is) c.in_function.ensures c.in_err-inner.ensures)
 
 pub blocks::body-returns-in_default-sort_at-2 : goal.blocks::body-returns-in_default-sort_at-2
-blocks::body-returns-in_default-sort_at-2 t c = rw c.bad-in_default-sort_at-2.ensures (body_no_end c.args.method _ c.args.around _ _ _ _ _ _ _ _ (is_sort _ _ _ _ c.sort_at.ensures c.in-LeftParen.is) (c.in_ok-list.ensures c.args.around.above) (is_sort _ _ _ _ c.sort_at-2.ensures c.in-RightParen.is) c.in_function.ensures c.in_ok-inner.ensures (isn't _ _ _ _ c.sort_at-3.ensures c.in_default-sort_at-2.not-End))
+blocks::body-returns-in_default-sort_at-2 t c = rw c.bad-in_default-sort_at-2.ensures (fun_no_end c.args.method _ c.args.around _ _ _ _ _ _ _ _ (is_sort _ _ _ _ c.sort_at.ensures c.in-LeftParen.is) (c.in_ok-list.ensures c.args.around.above) (is_sort _ _ _ _ c.sort_at-2.ensures c.in-RightParen.is) c.in_function.ensures c.in_ok-inner.ensures (isn't _ _ _ _ c.sort_at-3.ensures c.in_default-sort_at-2.not-End))
 
 pub blocks::body-returns : goal.blocks::body-returns
 blocks::body-returns t c = body_read c.args.method _ c.args.around _ _ _ _ _ _ _ _ _ _ c.requires.ended (is_sort _ _ _ _ c.sort_at.ensures c.in-LeftParen.is) c.in_ok-list.ensures (is_sort _ _ _ _ c.sort_at-2.ensures c.in-RightParen.is) c.in_function.ensures c.in_ok-inner.ensures (is_sort _ _ _ _ c.sort_at-3.ensures c.in-End.is) c.in_ok-names.ensures.ok c.body_of.ensures
