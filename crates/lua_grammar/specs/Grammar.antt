@@ -80,7 +80,7 @@ Agrees (Some u) v = v ≡ u
 -- A numeral with this value; where none is asked for it may have none.
 abbrev pub valued : Given → ℤ → Span
 valued g v i j =
-  At g i (λ t. (sort_of t ≡ Number) × Agrees (read_numeral_of (bytes_of t)) v) × Free g 6 i (read_numeral_of (bytes_of (token g i)) ≡ Some v) × (j ≡ suc i)
+    At g i (λ t. (sort_of t ≡ Number) × Agrees (read_numeral_of (bytes_of t)) v) × Free g 6 i (read_numeral_of (bytes_of (token g i)) ≡ Some v) × (j ≡ suc i)
 
 -- A word that stands only where this holds, or fault k is there.
 abbrev pub word_if : Given → Sort → ℕ → Type 0 → Span
@@ -264,7 +264,7 @@ IsPath g w es = where' ⊥
 -- Name {'.' Name} ':' Name
 abbrev pub IsMethodPath : Given → Around → Exps → Span
 IsMethodPath g w (MoreExp (IndexE line t k) NoExp) i j =
-  (m : ℕ) × SpellsPath g (before g m w) t i m × (node g w line ⨟ word g Colon ⨟ SpellsName g (under w) k) m j
+    (m : ℕ) × SpellsPath g (before g m w) t i m × (node g w line ⨟ word g Colon ⨟ SpellsName g (under w) k) m j
 IsMethodPath g w es i j = ⊥
 
 -- Each function below says how a tree of its kind stands from one place to another.
@@ -281,25 +281,25 @@ unfoldable mutual
   Spells g w l (TableE line fs) i j = (node g w line ⨟ word g LeftBrace ⨟ SpellsFields g (under w) fs ⨟ word g RightBrace) i j
   Spells g w l (UnaryE line op e) i j = (l ≤ 7) × (node g w line ⨟ word g (sign_of op) ⨟ Spells g (under w) 7 e) i j
   Spells g w l (BinaryE line op a b) i j =
-    (m : ℕ) × Spells g (before g m w) (left_level op) a i m
-    × (l ≤ level op) × (node g w line ⨟ word g (mark_of op) ⨟ Spells g (under w) (right_level op) b) m j
+      (m : ℕ) × Spells g (before g m w) (left_level op) a i m
+      × (l ≤ level op) × (node g w line ⨟ word g (mark_of op) ⨟ Spells g (under w) (right_level op) b) m j
   -- prefixexp
   Spells g w l (NameE line n) i j = (node g w line ⨟ text g Name n ⨟ ends g l) i j
   Spells g w l (ParenE line e) i j = (node g w line ⨟ word g LeftParen ⨟ Spells g (under w) 1 e ⨟ word g RightParen ⨟ ends g l) i j
   Spells g w l (IndexE line t k) i j =
-    (m : ℕ) × Spells g (before g m w) 10 t i m
-    × IsPrefix t × (node g w line ⨟ (SpellsDot g (under w) k ∣ (word g LeftBracket ⨟ Spells g (under w) 1 k ⨟ word g RightBracket)) ⨟ ends g l) m j
+      (m : ℕ) × Spells g (before g m w) 10 t i m
+      × IsPrefix t × (node g w line ⨟ (SpellsDot g (under w) k ∣ (word g LeftBracket ⨟ Spells g (under w) 1 k ⨟ word g RightBracket)) ⨟ ends g l) m j
   Spells g w l (CallE line f es) i j =
-    (m : ℕ) × Spells g (before g m w) 10 f i m × IsPrefix f × (node g w line ⨟ SpellsArgs g (under w) es ⨟ ends g l) m j
+      (m : ℕ) × Spells g (before g m w) 10 f i m × IsPrefix f × (node g w line ⨟ SpellsArgs g (under w) es ⨟ ends g l) m j
   Spells g w l (MethodE line o n es) i j =
-    (m : ℕ) × Spells g (before g m w) 10 o i m
-    × IsPrefix o × (node g w line ⨟ word g Colon ⨟ text g Name n ⨟ SpellsArgs g (under w) es ⨟ ends g l) m j
+      (m : ℕ) × Spells g (before g m w) 10 o i m
+      × IsPrefix o × (node g w line ⨟ word g Colon ⨟ text g Name n ⨟ SpellsArgs g (under w) es ⨟ ends g l) m j
 
   -- args ::= '(' [explist] ')' | tableconstructor | String
   pub SpellsArgs : Given → Around → Exps → Span
   SpellsArgs g w NoExp i j = (opens g ⨟ word g RightParen) i j
   SpellsArgs g w (MoreExp e es) i j =
-    ((opens g ⨟ Spells g w 1 e ⨟ MoreExps g w es ⨟ word g RightParen) ∣ (where' (IsAlone e es) ⨟ Spells g w 9 e)) i j
+      ((opens g ⨟ Spells g w 1 e ⨟ MoreExps g w es ⨟ word g RightParen) ∣ (where' (IsAlone e es) ⨟ Spells g w 9 e)) i j
 
   -- explist
   pub SpellsAll : Given → Around → Exps → Span
@@ -316,31 +316,31 @@ unfoldable mutual
   SpellsFields g w NoField i j = i ≡ j
   SpellsFields g w (Item e fs) i j = (Spells g w 1 e ⨟ (where' (NoneLeft fs) ∣ (separator g ⨟ SpellsFields g w fs))) i j
   SpellsFields g w (Pair k e fs) i j =
-    ((SpellsName g w k ∣ (word g LeftBracket ⨟ Spells g w 1 k ⨟ word g RightBracket))
+      ((SpellsName g w k ∣ (word g LeftBracket ⨟ Spells g w 1 k ⨟ word g RightBracket))
       ⨟ word g Assign ⨟ Spells g w 1 e ⨟ (where' (NoneLeft fs) ∣ (separator g ⨟ SpellsFields g w fs))) i j
 
   -- funcbody
   pub SpellsFun : Given → Around → Fun → Span
   SpellsFun g w (Lambda ps dots b) i j =
-    (word g LeftParen ⨟ Params g ps dots ⨟ word g RightParen ⨟ SpellsBlock g (in_function dots w) b ⨟ word g End) i j
+      (word g LeftParen ⨟ Params g ps dots ⨟ word g RightParen ⨟ SpellsBlock g (in_function dots w) b ⨟ word g End) i j
 
   -- funcbody after a ':', with `self` before its parameters
   pub SpellsMethod : Given → Around → Fun → Span
   SpellsMethod g w (Lambda [] dots b) i j = ⊥
   SpellsMethod g w (Lambda (p ∷ ps) dots b) i j =
-    (where' (p ≡ codes "self") ⨟ word g LeftParen ⨟ Params g ps dots ⨟ word g RightParen ⨟ SpellsBlock g (in_function dots w) b ⨟ word g End) i j
+      (where' (p ≡ codes "self") ⨟ word g LeftParen ⨟ Params g ps dots ⨟ word g RightParen ⨟ SpellsBlock g (in_function dots w) b ⨟ word g End) i j
 
   -- function funcname funcbody, which is an assignment of one function
   pub SpellsNamed : Given → Around → Exps → Exps → Span
   SpellsNamed g w ts (MoreExp (FunctionE line f) NoExp) i j =
-    (node g w line ⨟ word g Function ⨟ ((IsPath g w ts ⨟ SpellsFun g (under w) f) ∣ (IsMethodPath g w ts ⨟ SpellsMethod g (under w) f))) i j
+      (node g w line ⨟ word g Function ⨟ ((IsPath g w ts ⨟ SpellsFun g (under w) f) ∣ (IsMethodPath g w ts ⨟ SpellsMethod g (under w) f))) i j
   SpellsNamed g w ts es i j = ⊥
 
   -- {stat [';']} [laststat [';']]
   pub SpellsBlock : Given → Around → Block → Span
   SpellsBlock g w NoStat i j = i ≡ j
   SpellsBlock g w (MoreStat s b) i j =
-    (SpellsStat g w s ⨟ where' (IsLast s → IsEmpty b) ⨟ (none ∣ word g Semicolon) ⨟ SpellsBlock g w b) i j
+      (SpellsStat g w s ⨟ where' (IsLast s → IsEmpty b) ⨟ (none ∣ word g Semicolon) ⨟ SpellsBlock g w b) i j
 
   -- exp then block {elseif exp then block}
   pub SpellsArms : Given → Around → Arms → Span
@@ -354,26 +354,26 @@ unfoldable mutual
   -- stat and laststat
   pub SpellsStat : Given → Around → Stat → Span
   SpellsStat g w (AssignS line ts es) i j =
-    (node g w line ⨟ ((where' (AreVars ts) ⨟ SpellsAll g (under w) ts ⨟ word g Assign ⨟ SpellsAll g (under w) es) ∣ SpellsNamed g (under w) ts es)) i j
+      (node g w line ⨟ ((where' (AreVars ts) ⨟ SpellsAll g (under w) ts ⨟ word g Assign ⨟ SpellsAll g (under w) es) ∣ SpellsNamed g (under w) ts es)) i j
   SpellsStat g w (CallS line e) i j = IsCall e × (node g w line ⨟ Spells g (under w) 9 e) i j
   SpellsStat g w (DoS line b) i j = (node g w line ⨟ word g Do ⨟ SpellsBlock g (under w) b ⨟ word g End) i j
   SpellsStat g w (WhileS line e b) i j =
-    (node g w line ⨟ word g While ⨟ Spells g (under w) 1 e ⨟ word g Do ⨟ SpellsBlock g (in_loop w) b ⨟ word g End) i j
+      (node g w line ⨟ word g While ⨟ Spells g (under w) 1 e ⨟ word g Do ⨟ SpellsBlock g (in_loop w) b ⨟ word g End) i j
   SpellsStat g w (RepeatS line b e) i j = (node g w line ⨟ word g Repeat ⨟ SpellsBlock g (in_loop w) b ⨟ word g Until ⨟ Spells g (under w) 1 e) i j
   SpellsStat g w (IfS line arms) i j = (node g w line ⨟ word g If ⨟ SpellsArms g (under w) arms ⨟ word g End) i j
   SpellsStat g w (IfElseS line arms b) i j =
-    (node g w line ⨟ word g If ⨟ SpellsArms g (under w) arms ⨟ word g Else ⨟ SpellsBlock g (under w) b ⨟ word g End) i j
+      (node g w line ⨟ word g If ⨟ SpellsArms g (under w) arms ⨟ word g Else ⨟ SpellsBlock g (under w) b ⨟ word g End) i j
   SpellsStat g w (CountS line n a b c) i j =
-    (node g w line ⨟ word g For ⨟ text g Name n ⨟ word g Assign ⨟ Spells g (under w) 1 a ⨟ word g Comma ⨟ Spells g (under w) 1 b
+      (node g w line ⨟ word g For ⨟ text g Name n ⨟ word g Assign ⨟ Spells g (under w) 1 a ⨟ word g Comma ⨟ Spells g (under w) 1 b
       ⨟ word g Do ⨟ SpellsBlock g (in_loop w) c ⨟ word g End) i j
   SpellsStat g w (CountByS line n a b by c) i j =
-    (node g w line ⨟ word g For ⨟ text g Name n ⨟ word g Assign ⨟ Spells g (under w) 1 a ⨟ word g Comma ⨟ Spells g (under w) 1 b
+      (node g w line ⨟ word g For ⨟ text g Name n ⨟ word g Assign ⨟ Spells g (under w) 1 a ⨟ word g Comma ⨟ Spells g (under w) 1 b
       ⨟ word g Comma ⨟ Spells g (under w) 1 by ⨟ word g Do ⨟ SpellsBlock g (in_loop w) c ⨟ word g End) i j
   SpellsStat g w (EachS line ns es b) i j =
-    (node g w line ⨟ word g For ⨟ Names g ns ⨟ word g In ⨟ SpellsAll g (under w) es ⨟ word g Do ⨟ SpellsBlock g (in_loop w) b ⨟ word g End) i j
+      (node g w line ⨟ word g For ⨟ Names g ns ⨟ word g In ⨟ SpellsAll g (under w) es ⨟ word g Do ⨟ SpellsBlock g (in_loop w) b ⨟ word g End) i j
   SpellsStat g w (LocalFunctionS line n f) i j = (node g w line ⨟ word g Local ⨟ word g Function ⨟ text g Name n ⨟ SpellsFun g (under w) f) i j
   SpellsStat g w (LocalS line ns es) i j =
-    (node g w line ⨟ word g Local ⨟ Names g ns ⨟ (where' (HasNone es) ∣ (word g Assign ⨟ SpellsAll g (under w) es))) i j
+      (node g w line ⨟ word g Local ⨟ Names g ns ⨟ (where' (HasNone es) ∣ (word g Assign ⨟ SpellsAll g (under w) es))) i j
   SpellsStat g w (ReturnS line es) i j = (node g w line ⨟ word g Return ⨟ (where' (HasNone es) ∣ SpellsAll g (under w) es)) i j
   SpellsStat g w (BreakS line) i j = (node g w line ⨟ word_if g Break 8 (w.looped ≡ true)) i j
 
