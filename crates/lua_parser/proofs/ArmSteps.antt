@@ -75,8 +75,8 @@ arm_split {ts} {w} {i} {xs} {m} {h} r = same_rest (arm_rest ts w xs) r.left (λ 
     up s b n f j x =
         let t = x.3.2 in
         elim t.3 [
-          inl y ↦ (Arm x.0 t.0 NoArm, t.1, (x.1, x.2, (x.3.0, x.3.1, (t.1, t.2, refl))), y)
-        | inr y ↦ let z = y.2 in (Arm x.0 t.0 z.0, z.1, (x.1, x.2, (x.3.0, x.3.1, (t.1, t.2, more_of ts n f (high w b) z.0 t.1 y.0 z.1 y.1 z.2))), z.3)
+          | inl y ↦ (Arm x.0 t.0 NoArm, t.1, (x.1, x.2, (x.3.0, x.3.1, (t.1, t.2, refl))), y)
+          | inr y ↦ let z = y.2 in (Arm x.0 t.0 z.0, z.1, (x.1, x.2, (x.3.0, x.3.1, (t.1, t.2, more_of ts n f (high w b) z.0 t.1 y.0 z.1 y.1 z.2))), z.3)
         ]
 
 pub arm_test_fault : {ts : List Token} {w : Around} {i : ℕ} {xs : List ArmNode} {m h : ℕ} (f : Fault) → ArmsRead ts w i xs m h → Failed (Broke Exp ts (exp_lang ts w 1) (goes_on 1) w.above m) f → Failed (Broke Arms ts (arms_lang ts w) arms_goes w.above i) f
@@ -112,8 +112,8 @@ pub arm_more : {ts : List Token} {w : Around} {i : ℕ} {xs : List ArmNode} {m h
 arm_more {ts} {w} {i} {xs} {m} {h} {q} {g} {p} {d} {x} {k} a new l ended r s e t last view is high = record {
   left = subst (λ (y : ℕ). Left Arms ts (arms_lang ts w) arms_goes i (Here Arms (arms_kind ts w) (λ a. Done (add_arms new a))) (p + 1) y) (sym high)
       (same_rest (Here Arms (arms_kind ts w) (λ a. Done (add_arms new a))) (word_step (second_way (arm_read r s e t) (done_closed ts arms_goes p (add_arms xs (Arm x k NoArm)) (ap arms_goes last))) last)
-          (λ s b n f j lt st z. (z.0, z.1, z.2, (z.3.0 ∙ sym (same z.0), z.3.1)))
-          (λ s b n f j z. (z.0, z.1, z.2, (z.3.0 ∙ same z.0, z.3.1))));
+      (λ s b n f j lt st z. (z.0, z.1, z.2, (z.3.0 ∙ sym (same z.0), z.3.1)))
+      (λ s b n f j z. (z.0, z.1, z.2, (z.3.0 ∙ same z.0, z.3.1))));
   inside = behind_word ts p Elseif ended t.inside last refl;
   fits = omega (arith, high, r.fits, s.stood.height, t.height);
 }
@@ -125,7 +125,7 @@ pub arm_last : {ts : List Token} {w : Around} {i : ℕ} {xs : List ArmNode} {m h
     Stood Block ts (block_lang ts w) block_goes w.above (q + 1) k p d → sort_at ts p ≢ Elseif → ((rest : Arms) → arm_view a rest ≡ Arm x k rest) → new ≡ xs ++ a ∷ [] → l ≡ max (max h g) d → Grown Arms ts (arms_lang ts w) arms_goes w.above i (arms_view new) p l
 arm_last {ts} {w} {i} {xs} {m} {h} {q} {g} {p} {d} {x} {k} a new l le r s e t ne view is high =
     subst (λ (y : Arms). Grown Arms ts (arms_lang ts w) arms_goes w.above i y p l) (sym same)
-        (whole w.above l (first_way (arm_read r s e t) (word_closed ts arms_goes p Elseif (Here Arms (arms_kind ts w) (λ a. Done (add_arms xs (Arm x k a)))) ne)) t.inside (omega (arith, le, s.grows, t.ordered)) (sym high) (omega (arith, r.fits, s.stood.height, t.height)))
+    (whole w.above l (first_way (arm_read r s e t) (word_closed ts arms_goes p Elseif (Here Arms (arms_kind ts w) (λ a. Done (add_arms xs (Arm x k a)))) ne)) t.inside (omega (arith, le, s.grows, t.ordered)) (sym high) (omega (arith, r.fits, s.stood.height, t.height)))
   where
     same : arms_view new ≡ add_arms xs (Arm x k NoArm)
     same = all_arms new ∙ ap (λ (y : List ArmNode). add_arms y NoArm) is ∙ add_one_arm xs a NoArm ∙ ap (add_arms xs) (view NoArm)

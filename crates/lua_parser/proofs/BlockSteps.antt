@@ -156,11 +156,15 @@ stat_split {ts} {w} {i} {xs} {m} {h} r goes = same_rest (stat_rest ts w xs (sort
     down (MoreStat x k) s b n f j p lt st d e =
         let y = stat_begins ts n f (high w b) x m d.0 d.1 lt in
         let t = d.2.2 in
-        let rest = behind (ends_with (sort_at ts m) x) x k s b n f t.0 p j refl y d.2.1.0 t.2 e.0 e.1 in
-        (x, d.2.0, subst (λ (z : ℕ). SpellsStat (given_of ts n f) (high w b) x m z) d.2.1.1 d.1, elim t.1 [
-            inl z ↦ inr (subst (λ (v : ℕ). Reads ts (behind_stat ts w xs x (ends_with (sort_at ts m) x)) s b n f v j) (sym z) rest)
-          | inr z ↦ inl (t.0, z, rest)
-          ])
+        let rest = behind (ends_with (sort_at ts m) x) x k s b n f t.0 p j refl y d.2.1.0 t.2 e.0 e.1 in (
+          x,
+          d.2.0,
+          subst (λ (z : ℕ). SpellsStat (given_of ts n f) (high w b) x m z) d.2.1.1 d.1,
+          elim t.1 [
+            | inl z ↦ inr (subst (λ (v : ℕ). Reads ts (behind_stat ts w xs x (ends_with (sort_at ts m) x)) s b n f v j) (sym z) rest)
+            | inr z ↦ inl (t.0, z, rest)
+          ],
+        )
 
     ahead : (c : Bool) (x : Stat) (s : Block) (b n f q o j : ℕ) → ends_with (sort_at ts m) x ≡ c → SpellsStat (given_of ts n f) (high w b) x m q → (q ≡ o) ⊎ word (given_of ts n f) Semicolon q o → Reads ts (behind_stat ts w xs x c) s b n f o j →
         Reads ts (block_rest ts w xs) s b n f m j
@@ -169,9 +173,9 @@ stat_split {ts} {w} {i} {xs} {m} {h} r goes = same_rest (stat_rest ts w xs (sort
 
     up : (s : Block) (b n f j : ℕ) → Reads ts (stat_rest ts w xs (sort_at ts m)) s b n f m j → Reads ts (block_rest ts w xs) s b n f m j
     up s b n f j x = elim x.3 [
-        inl y ↦ ahead (ends_with (sort_at ts m) x.0) x.0 s b n f x.1 y.0 j refl x.2 (inr y.1) y.2
+      | inl y ↦ ahead (ends_with (sort_at ts m) x.0) x.0 s b n f x.1 y.0 j refl x.2 (inr y.1) y.2
       | inr y ↦ ahead (ends_with (sort_at ts m) x.0) x.0 s b n f x.1 x.1 j refl x.2 (inl refl) y
-      ]
+    ]
 
 -- ---- what follows a statement
 
@@ -251,8 +255,8 @@ pub block_more : {ts : List Token} {w : Around} {i : ℕ} {xs : List StatNode} {
 block_more {ts} {w} {i} {xs} {m} {h} {q} {g} x new p l r goes s b inside open' is high' = record {
   left = subst (λ (y : ℕ). Left Block ts (block_lang ts w) block_goes i (block_rest ts w new) p y) (sym high')
       (same_rest (block_rest ts w new) (subst (λ (c : Bool). Left Block ts (block_lang ts w) block_goes i (behind_stat ts w xs (stat_view x) c) p (max h g)) open' (stat_read p r goes s b))
-          (λ s b n f j lt st z. (z.0, z.1, z.2, (z.3.0 ∙ sym (same z.0), z.3.1)))
-          (λ s b n f j z. (z.0, z.1, z.2, (z.3.0 ∙ same z.0, z.3.1))));
+      (λ s b n f j lt st z. (z.0, z.1, z.2, (z.3.0 ∙ sym (same z.0), z.3.1)))
+      (λ s b n f j z. (z.0, z.1, z.2, (z.3.0 ∙ same z.0, z.3.1))));
   inside = inside;
   fits = omega (arith, high', r.fits, s.stood.height);
 }
@@ -265,8 +269,8 @@ pub block_last_stat : {ts : List Token} {w : Around} {i : ℕ} {xs : List StatNo
     Stood Block ts (block_lang ts w) block_goes w.above i (stats_view new) p l
 block_last_stat {ts} {w} {i} {xs} {m} {h} {q} {g} x new p l r goes s b inside last is high' =
     subst (λ (y : Block). Stood Block ts (block_lang ts w) block_goes w.above i y p l) (sym same)
-        (subst (λ (y : ℕ). Stood Block ts (block_lang ts w) block_goes w.above i (add_stats xs (MoreStat (stat_view x) NoStat)) p y) (sym high')
-            (all_read (subst (λ (c : Bool). Left Block ts (block_lang ts w) block_goes i (behind_stat ts w xs (stat_view x) c) p (max h g)) last (stat_read p r goes s b)) inside (omega (arith, r.fits, s.stood.height))))
+    (subst (λ (y : ℕ). Stood Block ts (block_lang ts w) block_goes w.above i (add_stats xs (MoreStat (stat_view x) NoStat)) p y) (sym high')
+    (all_read (subst (λ (c : Bool). Left Block ts (block_lang ts w) block_goes i (behind_stat ts w xs (stat_view x) c) p (max h g)) last (stat_read p r goes s b)) inside (omega (arith, r.fits, s.stood.height))))
   where
     same : stats_view new ≡ add_stats xs (MoreStat (stat_view x) NoStat)
     same = all_stats new ∙ ap (λ (y : List StatNode). add_stats y NoStat) is ∙ add_one_stat xs x NoStat

@@ -125,7 +125,7 @@ pub count_stands : {ts : List Token} {w : Around} {goes : Sort → Bool} {i p h 
     Grown Block ts (do_lang ts (in_loop w)) nothing (suc w.above) p k q d → Grown Stat ts (stat_lang ts w) goes w.above i (CountS (tok_at ts i).line (first_name ts i) x y k) q (1 + max (max h g) d)
 count_stands {ts} {w} {goes} {i} {p} {h} {g} {q} {d} {x} {y} {k} c ne t =
     whole w.above (1 + max (max h g) d) (under_step {K = do_kind ts (in_loop w)} {r = λ k. Done (CountS (tok_at ts i).line (first_name ts i) x y k)} (count_plain c ne) (omega arith) t.stood (λ k. follows_nothing ts goes _))
-        t.stood.inside (omega (arith, c.grows, t.grows)) (omega arith) (omega (arith, c.room, c.fits.0, c.fits.1, t.stood.height))
+    t.stood.inside (omega (arith, c.grows, t.grows)) (omega arith) (omega (arith, c.room, c.fits.0, c.fits.1, t.stood.height))
 
 pub count_comma : {ts : List Token} {w : Around} {goes : Sort → Bool} {i p h g : ℕ} {x y : Exp} → CountRead ts w goes i x y p h g → sort_at ts p ≡ Comma →
     Left Stat ts (stat_lang ts w) goes i (Under Exp (exp_kind ts w 1) (λ by. loop_rest ts w (CountByS (tok_at ts i).line (first_name ts i) x y by))) (p + 1) (max (max 1 (1 + h)) (1 + g))
@@ -138,13 +138,13 @@ pub count_by_fault : {ts : List Token} {w : Around} {goes : Sort → Bool} {i p 
     Failed (Broke Exp ts (exp_lang ts (under w) 1) (goes_on 1) (suc w.above) (p + 1)) f → Failed (Broke Stat ts (stat_lang ts w) goes w.above i) f
 count_by_fault {ts} {w} {goes} {i} {p} {h} {g} {x} {y} f c e t =
     under_fault {K = exp_kind ts w 1} {r = λ by. loop_rest ts w (CountByS (tok_at ts i).line (first_name ts i) x y by)} w.above (count_comma c e) (omega (arith, c.room, c.fits.0, c.fits.1)) f t
-        (λ z. follows_do ts goes (goes_on 1) (in_loop w) (λ k. Done (CountByS (tok_at ts i).line (first_name ts i) x y z k)) refl)
+    (λ z. follows_do ts goes (goes_on 1) (in_loop w) (λ k. Done (CountByS (tok_at ts i).line (first_name ts i) x y z k)) refl)
 
 pub count_step : {ts : List Token} {w : Around} {goes : Sort → Bool} {i p h g q d : ℕ} {x y z : Exp} → CountRead ts w goes i x y p h g → sort_at ts p ≡ Comma → ExpStood ts (under w) 1 (p + 1) z q d →
     Left Stat ts (stat_lang ts w) goes i (loop_rest ts w (CountByS (tok_at ts i).line (first_name ts i) x y z)) q (max (max (max 1 (1 + h)) (1 + g)) (1 + d))
 count_step {ts} {w} {goes} {i} {p} {h} {g} {q} {d} {x} {y} {z} c e t =
     under_step {K = exp_kind ts w 1} {r = λ by. loop_rest ts w (CountByS (tok_at ts i).line (first_name ts i) x y by)} (count_comma c e) (omega arith) t.stood
-        (λ z. follows_do ts goes (goes_on 1) (in_loop w) (λ k. Done (CountByS (tok_at ts i).line (first_name ts i) x y z k)) refl)
+    (λ z. follows_do ts goes (goes_on 1) (in_loop w) (λ k. Done (CountByS (tok_at ts i).line (first_name ts i) x y z k)) refl)
 
 pub step_body_fault : {ts : List Token} {w : Around} {goes : Sort → Bool} {i p h g q d : ℕ} {x y z : Exp} (f : Fault) → CountRead ts w goes i x y p h g → sort_at ts p ≡ Comma → ExpStood ts (under w) 1 (p + 1) z q d →
     Failed (Broke Block ts (do_lang ts (in_loop w)) nothing (suc w.above) q) f → Failed (Broke Stat ts (stat_lang ts w) goes w.above i) f
@@ -155,7 +155,7 @@ pub step_stands : {ts : List Token} {w : Around} {goes : Sort → Bool} {i p h g
     Grown Block ts (do_lang ts (in_loop w)) nothing (suc w.above) q k r l → Grown Stat ts (stat_lang ts w) goes w.above i (CountByS (tok_at ts i).line (first_name ts i) x y z k) r (1 + max (max (max h g) d) l)
 step_stands {ts} {w} {goes} {i} {p} {h} {g} {q} {d} {r} {l} {x} {y} {z} {k} c e t u =
     whole w.above (1 + max (max (max h g) d) l) (under_step {K = do_kind ts (in_loop w)} {r = λ k. Done (CountByS (tok_at ts i).line (first_name ts i) x y z k)} (count_step c e t) (omega arith) u.stood (λ k. follows_nothing ts goes _))
-        u.stood.inside (omega (arith, c.grows, t.grows, u.grows)) (omega arith) (omega (arith, c.room, c.fits.0, c.fits.1, t.stood.height, u.stood.height))
+    u.stood.inside (omega (arith, c.grows, t.grows, u.grows)) (omega arith) (omega (arith, c.room, c.fits.0, c.fits.1, t.stood.height, u.stood.height))
 
 -- ---- for names in exps
 
@@ -187,7 +187,7 @@ pub each_named : (ts : List Token) (w : Around) (goes : Sort → Bool) (i : ℕ)
 each_named ts w goes i {q} {ms} {xs} room here name ne e s = record {
   left =
       subst (λ (y : List (List ℕ)). Left Stat ts (stat_lang ts w) goes i (each_rest ts w (tok_at ts i).line y) q 1) (sym e)
-          (here_step {K = more_names_kind ts} {r = each_list ts w i} (each_first ts w goes i here name ne) s (λ xs. follows_word ts goes names_goes In _ refl));
+      (here_step {K = more_names_kind ts} {r = each_list ts w i} (each_first ts w goes i here name ne) s (λ xs. follows_word ts goes names_goes In _ refl));
   inside = s.inside;
   grows = omega (arith, s.ordered);
   room = room;
@@ -216,4 +216,4 @@ pub each_stands : {ts : List Token} {w : Around} {goes : Sort → Bool} {i q p h
     Grown Stat ts (stat_lang ts w) goes w.above i (EachS (tok_at ts i).line xs es k) r (1 + max h l)
 each_stands {ts} {w} {goes} {i} {q} {p} {h} {r} {l} {xs} {es} {k} o e x t =
     whole w.above (1 + max h l) (under_step {K = do_kind ts (in_loop w)} {r = λ k. Done (EachS (tok_at ts i).line xs es k)} (each_values o e x) (omega arith) t.stood (λ k. follows_nothing ts goes _))
-        t.stood.inside (omega (arith, o.grows, x.grows, t.grows)) (omega arith) (omega (arith, o.room, x.stood.height, t.stood.height))
+    t.stood.inside (omega (arith, o.grows, x.grows, t.grows)) (omega arith) (omega (arith, o.room, x.stood.height, t.stood.height))

@@ -76,7 +76,7 @@ pub local_fun_stands : (ts : List Token) (w : Around) (goes : Sort → Bool) (i 
     Grown Fun ts (body_lang false ts (under w)) nothing (suc w.above) (i + 3) v q h → Grown Stat ts (stat_lang ts w) goes w.above i (LocalFunctionS (tok_at ts i).line (bytes_of (tok_at ts (i + 2))) v) q (1 + h)
 local_fun_stands ts w goes i {q} {h} {v} room here next name s =
     whole w.above (1 + h) (under_step {K = body_kind false ts w} {r = λ v. Done (LocalFunctionS (tok_at ts i).line (bytes_of (tok_at ts (i + 2))) v)} (local_fun_body ts w goes i here next name) (omega arith) s.stood (λ v. follows_nothing ts goes _))
-        s.stood.inside (omega (arith, s.grows)) (omega arith) (omega (arith, room, s.stood.height))
+    s.stood.inside (omega (arith, s.grows)) (omega arith) (omega (arith, room, s.stood.height))
 
 -- ---- local names
 
@@ -126,7 +126,7 @@ pub local_names_stand : (ts : List Token) (w : Around) (i : ℕ) {q : ℕ} {ms x
     Grown Stat ts (stat_lang ts w) (goes_after (sort_at ts i)) w.above i (LocalS (tok_at ts i).line xs NoExp) q 1
 local_names_stand ts w i {q} {ms} {xs} room here plain name e s ne =
     subst (λ (y : List (List ℕ)). Grown Stat ts (stat_lang ts w) (goes_after (sort_at ts i)) w.above i (LocalS (tok_at ts i).line y NoExp) q 1) (sym e)
-        (whole w.above 1 (first_way (local_named ts w i here plain name s) (word_closed ts (goes_after (sort_at ts i)) q Assign (Under Exps (all_kind ts w) (λ es. Done (LocalS (tok_at ts i).line (bytes_of (tok_at ts (i + 1)) ∷ ms) es))) ne)) s.inside (omega (arith, s.ordered)) (omega arith) (omega (arith, room)))
+    (whole w.above 1 (first_way (local_named ts w i here plain name s) (word_closed ts (goes_after (sort_at ts i)) q Assign (Under Exps (all_kind ts w) (λ es. Done (LocalS (tok_at ts i).line (bytes_of (tok_at ts (i + 1)) ∷ ms) es))) ne)) s.inside (omega (arith, s.ordered)) (omega arith) (omega (arith, room)))
 
 pub local_values : (ts : List Token) (w : Around) (i : ℕ) {q : ℕ} {ms : List (List ℕ)} → sort_at ts i ≡ Local → sort_at ts (i + 1) ≢ Function → sort_at ts (i + 1) ≡ Name →
     Stood (List (List ℕ)) ts (more_names_lang ts) names_goes 0 (i + 1 + 1) ms q 0 → sort_at ts q ≡ Assign →
@@ -139,13 +139,13 @@ pub local_values_fault : (ts : List Token) (w : Around) (i : ℕ) (f : Fault) {q
     Failed (Broke Exps ts (all_lang ts (under w)) exps_goes (suc w.above) (q + 1)) f → Failed (Broke Stat ts (stat_lang ts w) (goes_after (sort_at ts i)) w.above i) f
 local_values_fault ts w i f {q} {ms} room here plain name s a x =
     under_fault {K = all_kind ts w} {r = λ es. Done (LocalS (tok_at ts i).line (bytes_of (tok_at ts (i + 1)) ∷ ms) es)} w.above (local_values ts w i here plain name s a) (omega (arith, room)) f x
-        (λ y. follows_done ts (goes_after (sort_at ts i)) exps_goes _ (λ t e. stat_exps t (local_ends ts i here t e)))
+    (λ y. follows_done ts (goes_after (sort_at ts i)) exps_goes _ (λ t e. stat_exps t (local_ends ts i here t e)))
 
 pub local_stands : (ts : List Token) (w : Around) (i : ℕ) {q p h : ℕ} {ms xs : List (List ℕ)} {es : Exps} → w.above ≤ 200 → sort_at ts i ≡ Local → sort_at ts (i + 1) ≢ Function → sort_at ts (i + 1) ≡ Name →
     xs ≡ bytes_of (tok_at ts (i + 1)) ∷ ms → Stood (List (List ℕ)) ts (more_names_lang ts) names_goes 0 (i + 1 + 1) ms q 0 → sort_at ts q ≡ Assign →
     Grown Exps ts (all_lang ts (under w)) exps_goes (suc w.above) (q + 1) es p h → Grown Stat ts (stat_lang ts w) (goes_after (sort_at ts i)) w.above i (LocalS (tok_at ts i).line xs es) p (1 + h)
 local_stands ts w i {q} {p} {h} {ms} {xs} {es} room here plain name e s a x =
     subst (λ (y : List (List ℕ)). Grown Stat ts (stat_lang ts w) (goes_after (sort_at ts i)) w.above i (LocalS (tok_at ts i).line y es) p (1 + h)) (sym e)
-        (whole w.above (1 + h) (under_step {K = all_kind ts w} {r = λ es. Done (LocalS (tok_at ts i).line (bytes_of (tok_at ts (i + 1)) ∷ ms) es)} (local_values ts w i here plain name s a) (omega arith) x.stood
-            (λ y. follows_done ts (goes_after (sort_at ts i)) exps_goes _ (λ t e. stat_exps t (local_ends ts i here t e))))
-            x.stood.inside (omega (arith, s.ordered, x.grows)) (omega arith) (omega (arith, room, x.stood.height)))
+    (whole w.above (1 + h) (under_step {K = all_kind ts w} {r = λ es. Done (LocalS (tok_at ts i).line (bytes_of (tok_at ts (i + 1)) ∷ ms) es)} (local_values ts w i here plain name s a) (omega arith) x.stood
+    (λ y. follows_done ts (goes_after (sort_at ts i)) exps_goes _ (λ t e. stat_exps t (local_ends ts i here t e))))
+    x.stood.inside (omega (arith, s.ordered, x.grows)) (omega arith) (omega (arith, room, x.stood.height)))

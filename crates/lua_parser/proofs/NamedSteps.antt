@@ -52,33 +52,32 @@ no_method ts n f w p p2 ps i j d = absurd d
 pub named_split : (ts : List Token) (w : Around) (i : ℕ) → sort_at ts i ≡ Function → (s : Stat) (b n f j : ℕ) → i < n → SpellsStat (given_of ts n f) (high w b) s i j → Starts s Function → (f ≡ 7 → suc b ≤ 200) × Reads ts (named_rest ts w (tok_at ts i).line) s b n f (suc i) j
 unfolding SpellsStat SpellsNamed
 named_split ts w i here (AssignS l (MoreExp p NoExp) (MoreExp (FunctionE l2 v) NoExp)) b n f j lt d x = elim d.2 [
-    inl y ↦ let at : i ≡ y.0 = d.1.2 ∙ y.1.1 in absurd (no_target ts n f (high w (suc b)) (MoreExp p NoExp) y.0 y.2.0 y.1.0 y.2.1 (subst (λ (z : ℕ). z < n) at lt) (ap (λ (z : ℕ). sort_at ts z) (sym at) ∙ here))
+  | inl y ↦ let at : i ≡ y.0 = d.1.2 ∙ y.1.1 in absurd (no_target ts n f (high w (suc b)) (MoreExp p NoExp) y.0 y.2.0 y.1.0 y.2.1 (subst (λ (z : ℕ). z < n) at lt) (ap (λ (z : ℕ). sort_at ts z) (sym at) ∙ here))
   | inr y ↦
       let at : suc i ≡ y.2.0 = ap suc (d.1.2 ∙ y.1.2) ∙ sym y.2.1.1 in
       let line2 : l2 ≡ (tok_at ts i).line = y.1.0 ∙ ap (λ (z : ℕ). (tok_at ts z).line) (sym d.1.2) in
       let same : AssignS l (MoreExp p NoExp) (MoreExp (FunctionE l2 v) NoExp) ≡ named (tok_at ts i).line p v =
-          ap (λ (z : ℕ). AssignS z (MoreExp p NoExp) (MoreExp (FunctionE l2 v) NoExp)) d.1.0 ∙ ap (λ (z : ℕ). AssignS (tok_at ts i).line (MoreExp p NoExp) (MoreExp (FunctionE z v) NoExp)) line2 in
-      (
+      ap (λ (z : ℕ). AssignS z (MoreExp p NoExp) (MoreExp (FunctionE l2 v) NoExp)) d.1.0 ∙ ap (λ (z : ℕ). AssignS (tok_at ts i).line (MoreExp p NoExp) (MoreExp (FunctionE z v) NoExp)) line2 in (
         (λ e. y.1.1 e (subst (λ (z : ℕ). z < n) d.1.2 lt)),
         subst (λ (z : ℕ). Reads ts (named_rest ts w (tok_at ts i).line) (AssignS l (MoreExp p NoExp) (MoreExp (FunctionE l2 v) NoExp)) b n f z j) (sym at)
             (elim y.2.2 [
-                inl z ↦ ((p, false), z.0, z.1, (v, j, z.2, (same, refl)))
+              | inl z ↦ ((p, false), z.0, z.1, (v, j, z.2, (same, refl)))
               | inr z ↦ ((p, true), z.0, z.1, (v, j, z.2, (same, refl)))
-              ])
+            ]),
       )
-  ]
+]
 named_split ts w i here (AssignS l NoExp (MoreExp (FunctionE l2 v) NoExp)) b n f j lt d x = elim d.2 [
-    inl y ↦ let at : i ≡ y.0 = d.1.2 ∙ y.1.1 in absurd (no_target ts n f (high w (suc b)) NoExp y.0 y.2.0 y.1.0 y.2.1 (subst (λ (z : ℕ). z < n) at lt) (ap (λ (z : ℕ). sort_at ts z) (sym at) ∙ here))
+  | inl y ↦ let at : i ≡ y.0 = d.1.2 ∙ y.1.1 in absurd (no_target ts n f (high w (suc b)) NoExp y.0 y.2.0 y.1.0 y.2.1 (subst (λ (z : ℕ). z < n) at lt) (ap (λ (z : ℕ). sort_at ts z) (sym at) ∙ here))
   | inr y ↦ elim y.2.2 [ inl z ↦ absurd z.1.0 | inr z ↦ absurd z.1 ]
-  ]
+]
 named_split ts w i here (AssignS l (MoreExp p (MoreExp p2 ps)) (MoreExp (FunctionE l2 v) NoExp)) b n f j lt d x = elim d.2 [
-    inl y ↦ let at : i ≡ y.0 = d.1.2 ∙ y.1.1 in absurd (no_target ts n f (high w (suc b)) (MoreExp p (MoreExp p2 ps)) y.0 y.2.0 y.1.0 y.2.1 (subst (λ (z : ℕ). z < n) at lt) (ap (λ (z : ℕ). sort_at ts z) (sym at) ∙ here))
+  | inl y ↦ let at : i ≡ y.0 = d.1.2 ∙ y.1.1 in absurd (no_target ts n f (high w (suc b)) (MoreExp p (MoreExp p2 ps)) y.0 y.2.0 y.1.0 y.2.1 (subst (λ (z : ℕ). z < n) at lt) (ap (λ (z : ℕ). sort_at ts z) (sym at) ∙ here))
   | inr y ↦ elim y.2.2 [ inl z ↦ absurd z.1.0 | inr z ↦ absurd (no_method ts n f (high w (suc b)) p p2 ps y.2.0 z.0 z.1) ]
-  ]
+]
 named_split ts w i here (AssignS l xs es) b n f j lt d x = elim d.2 [
-    inl y ↦ let at : i ≡ y.0 = d.1.2 ∙ y.1.1 in absurd (no_target ts n f (high w (suc b)) xs y.0 y.2.0 y.1.0 y.2.1 (subst (λ (z : ℕ). z < n) at lt) (ap (λ (z : ℕ). sort_at ts z) (sym at) ∙ here))
+  | inl y ↦ let at : i ≡ y.0 = d.1.2 ∙ y.1.1 in absurd (no_target ts n f (high w (suc b)) xs y.0 y.2.0 y.1.0 y.2.1 (subst (λ (z : ℕ). z < n) at lt) (ap (λ (z : ℕ). sort_at ts z) (sym at) ∙ here))
   | inr y ↦ absurd y
-  ]
+]
 named_split ts w i here s b n f j lt d x = absurd x
 
 pub named_starts : (ts : List Token) (w : Around) (goes : Sort → Bool) (i : ℕ) → sort_at ts i ≡ Function → Left Stat ts (stat_lang ts w) goes i (named_rest ts w (tok_at ts i).line) (i + 1) 2
@@ -91,8 +90,8 @@ named_starts ts w goes i here = record {
   up = λ s b n f j fits x.
       let v = x.3 in
       subst (λ (z : Stat). SpellsStat (given_of ts n f) (high w b) z i j) (sym v.3.0)
-          (subst (λ (z : ℕ). SpellsStat (given_of ts n f) (high w b) (named (tok_at ts i).line x.0.0 v.0) i z) v.3.1
-              (i, (refl, (λ e lt. top b (fits e)), refl), inr (i, (refl, (λ e lt. high' b (fits e)), refl), (i + 1, ((λ lt. here), add-one i), either b n f x.0.0 x.0.1 v.0 x.1 v.1 x.2 v.2))));
+      (subst (λ (z : ℕ). SpellsStat (given_of ts n f) (high w b) (named (tok_at ts i).line x.0.0 v.0) i z) v.3.1
+      (i, (refl, (λ e lt. top b (fits e)), refl), inr (i, (refl, (λ e lt. high' b (fits e)), refl), (i + 1, ((λ lt. here), add-one i), either b n f x.0.0 x.0.1 v.0 x.1 v.1 x.2 v.2))));
 }
   where
     low : (b : ℕ) → suc b ≤ 200 → 2 ≤ 201 - b
@@ -196,7 +195,7 @@ pub named_stands : (ts : List Token) (w : Around) (goes : Sort → Bool) (i : �
     Grown Fun ts (body_lang p.1 ts w) nothing (suc (suc w.above)) q v r g → Grown Stat ts (stat_lang ts w) goes w.above i (named (tok_at ts i).line p.0 v) r (1 + max h (1 + g))
 named_stands ts w goes i {q} {h} {r} {g} {p} {v} room here s x =
     whole w.above (1 + max h (1 + g)) (under_step {K = deeper_kind p.1 ts w} {r = λ v. Done (named (tok_at ts i).line p.0 v)} (named_head ts w goes i here s) (omega arith) (deeper_stood p.1 ts w (suc w.above) q x.stood) (λ v. follows_nothing ts goes _))
-        x.stood.inside (omega (arith, s.grows, x.grows)) (deeper_max g (max 2 (1 + h)) (omega arith) ∙ total) (subst (λ (y : ℕ). y ≤ 201 - w.above) (sym (deeper_max g (max 2 (1 + h)) (omega arith))) fits)
+    x.stood.inside (omega (arith, s.grows, x.grows)) (deeper_max g (max 2 (1 + h)) (omega arith) ∙ total) (subst (λ (y : ℕ). y ≤ 201 - w.above) (sym (deeper_max g (max 2 (1 + h)) (omega arith))) fits)
   where
     total : max (max 2 (1 + h)) (2 + g) ≡ 1 + max h (1 + g)
     total = omega arith

@@ -139,10 +139,13 @@ path_deep ts w i t m h p inside some fits over mk = record {
 
     reach : (n f : ℕ) → Before m 7 n f → (x : Head) × (j : ℕ) × (n ≤ j) × head_lang ts w x w.above n f i j
     reach n f (inl e) = ((t, false), m, omega (arith, e), p.up [] false w.above n f m (λ z. bare) refl)
-    reach n f (inr x) =
-        ((index_by t (dot_suffix ts m), mark_of' (sort_at ts m)), suc (suc m), omega (arith, x.0),
-          p.up (dot_suffix ts m ∷ []) (mark_of' (sort_at ts m)) w.above n f (suc (suc m)) (λ z. absurd (omega (arith, z, x.2)))
-              (one_suffix ts w w.above n f m mk (λ z. absurd (omega (arith, z, x.2))) (λ z. absurd (omega (arith, z, x.2))) (λ z. absurd (omega (arith, z, x.0)))))
+    reach n f (inr x) = (
+      (index_by t (dot_suffix ts m), mark_of' (sort_at ts m)),
+      suc (suc m),
+      omega (arith, x.0),
+      p.up (dot_suffix ts m ∷ []) (mark_of' (sort_at ts m)) w.above n f (suc (suc m)) (λ z. absurd (omega (arith, z, x.2)))
+          (one_suffix ts w w.above n f m mk (λ z. absurd (omega (arith, z, x.2))) (λ z. absurd (omega (arith, z, x.2))) (λ z. absurd (omega (arith, z, x.0)))),
+    )
 
 -- No name is behind the mark.
 pub path_unnamed : (ts : List Token) (w : Around) (i : ℕ) (t : Exp) (m h : ℕ) → PathRead ts w i t m h → m + 1 < length ts → 1 ≤ h → w.above + h ≤ 200 → IsMark (sort_at ts m) → sort_at ts (m + 1) ≢ Name → Broke Head ts (head_lang ts w) head_goes w.above i 5 (m + 1)
@@ -167,10 +170,13 @@ path_unnamed ts w i t m h p inside some room mk ne = record {
         go false = omega (arith, room)
 
     reach : (n f : ℕ) → Before (m + 1) 5 n f → (x : Head) × (j : ℕ) × (n ≤ j) × head_lang ts w x w.above n f i j
-    reach n f (inl e) =
-        ((index_by t (dot_suffix ts m), mark_of' (sort_at ts m)), suc (suc m), omega (arith, e),
-          p.up (dot_suffix ts m ∷ []) (mark_of' (sort_at ts m)) w.above n f (suc (suc m)) (λ z. fit n)
-              (one_suffix ts w w.above n f m mk (λ z. omega (arith, room)) (λ z lt. absurd (omega (arith, e, lt))) (λ lt. absurd (omega (arith, e, lt)))))
+    reach n f (inl e) = (
+      (index_by t (dot_suffix ts m), mark_of' (sort_at ts m)),
+      suc (suc m),
+      omega (arith, e),
+      p.up (dot_suffix ts m ∷ []) (mark_of' (sort_at ts m)) w.above n f (suc (suc m)) (λ z. fit n)
+          (one_suffix ts w w.above n f m mk (λ z. omega (arith, room)) (λ z lt. absurd (omega (arith, e, lt))) (λ lt. absurd (omega (arith, e, lt)))),
+    )
     reach n f (inr x) = absurd (omega (arith, x.1, x.2))
 
 -- The last name is one of a method.
@@ -204,18 +210,17 @@ path_method ts w i t m h ended p inside some room colon name = record {
     top b x = omega (arith, x, some)
 
     put : (b n f : ℕ) → (f ≡ 7 → 1 + h ≤ 201 - b) → Suffixes ts w b n f true (dot_suffix ts m ∷ []) m (m + 2)
-    put b n f x =
-        (
-          record {
-            line = refl;
-            room = λ f7 lt. let y = top b (x f7) in omega (arith, y);
-            sort = λ lt. colon;
-            name_line = ap (λ (y : ℕ). (tok_at ts y).line) (add-one m);
-            name_room = λ f7 lt. top b (x f7);
-            name = λ lt. (subst (λ (y : ℕ). sort_at ts y ≡ Name) (add-one m) name, ap (λ (y : ℕ). bytes_of (tok_at ts y)) (sym (add-one m)));
-          },
-          at
-        )
+    put b n f x = (
+      record {
+        line = refl;
+        room = λ f7 lt. let y = top b (x f7) in omega (arith, y);
+        sort = λ lt. colon;
+        name_line = ap (λ (y : ℕ). (tok_at ts y).line) (add-one m);
+        name_room = λ f7 lt. top b (x f7);
+        name = λ lt. (subst (λ (y : ℕ). sort_at ts y ≡ Name) (add-one m) name, ap (λ (y : ℕ). bytes_of (tok_at ts y)) (sym (add-one m)));
+      },
+      at,
+    )
 
     fit : (b n : ℕ) (s : Suffix) → m < n → h ≤ 201 - (outer n m (s ∷ []) + b) → 1 + h ≤ 201 - b
     fit b n s lt x = go (nat_lt m n) (lt-ltb m n lt) x
@@ -287,8 +292,8 @@ pub state_method : {ts : List Token} {w : Around} {i m h : ℕ} {t : Exp} (new :
     Grown Head ts (head_lang ts w) head_goes w.above i (new, b) (m + 2) (h + 1)
 state_method {ts} {w} {i} {m} {h} {t} new b ended p room yes' here name e =
     subst (λ (y : Bool). Grown Head ts (head_lang ts w) head_goes w.above i (new, y) (m + 2) (h + 1)) (sym yes')
-        (subst (λ (y : Exp). Grown Head ts (head_lang ts w) head_goes w.above i (y, true) (m + 2) (h + 1)) (sym e)
-            (subst (λ (y : ℕ). Grown Head ts (head_lang ts w) head_goes w.above i (index_by t (dot_suffix ts m), true) (m + 2) y) high' (path_method ts w i t m h ended p.read p.inside p.some room (here ∙ ap head_mark yes') name)))
+    (subst (λ (y : Exp). Grown Head ts (head_lang ts w) head_goes w.above i (y, true) (m + 2) (h + 1)) (sym e)
+    (subst (λ (y : ℕ). Grown Head ts (head_lang ts w) head_goes w.above i (index_by t (dot_suffix ts m), true) (m + 2) y) high' (path_method ts w i t m h ended p.read p.inside p.some room (here ∙ ap head_mark yes') name)))
   where
     high' : 1 + h ≡ h + 1
     high' = omega arith

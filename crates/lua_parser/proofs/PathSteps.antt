@@ -73,14 +73,15 @@ pub path_down : (ts : List Token) (w : Around) (n f b c : ℕ) (mark : Bool) (x 
 unfolding SpellsPath
 path_down ts w n f b c mark (NameE line x) r i m j e d rest put =
     let at : m ≡ suc i = d.2.1 ∙ ap suc (sym d.1.2) in
-    let here : c ≡ outer n (suc i) r + b = e ∙ ap (λ (y : ℕ). outer n y r + b) at in
-    (
+    let here : c ≡ outer n (suc i) r + b = e ∙ ap (λ (y : ℕ). outer n y r + b) at in (
       r,
       record {
-        line = line; name = x; whole = refl;
+        line = line;
+        name = x;
+        whole = refl;
         stands = subst (λ (y : ℕ). SpellsPath (given_of ts n f) (high w y) (NameE line x) i (suc i)) here (subst (λ (y : ℕ). SpellsPath (given_of ts n f) (high w c) (NameE line x) i y) at d);
       },
-      subst (λ (y : ℕ). Suffixes ts w b n f mark r y j) at rest
+      subst (λ (y : ℕ). Suffixes ts w b n f mark r y j) at rest,
     )
 path_down ts w n f b c mark (IndexE line t (TextE kl nm)) r i m j e d rest put =
     let o = d.0 in
@@ -100,17 +101,17 @@ path_down ts w n f b c mark (IndexE line t (TextE kl nm)) r i m j e d rest put =
       name = λ lt. let z = k.2.2.0 (subst (λ (y : ℕ). y < n) (sym p2) lt) in (subst (λ (y : ℕ). sort_at ts y ≡ Name) p2 z.0, subst (λ (y : ℕ). bytes_of (tok_at ts y) ≡ nm) p2 z.1);
     } in
     path_down ts w n f b (cond (nat_lt o n) (suc c) c) mark t (s ∷ r) i o j
-        (ap (λ (y : ℕ). cond (nat_lt o n) (suc y) y) c2 ∙ outer_more n o b s r)
-        (subst (λ (y : Around). SpellsPath (given_of ts n f) y t i o) (before_is ts w n f o c) d.1)
-        (put s r o (subst (λ (y : ℕ). Suffixes ts w b n f mark r y j) p3 rest) st)
-        put
+    (ap (λ (y : ℕ). cond (nat_lt o n) (suc y) y) c2 ∙ outer_more n o b s r)
+    (subst (λ (y : Around). SpellsPath (given_of ts n f) y t i o) (before_is ts w n f o c) d.1)
+    (put s r o (subst (λ (y : ℕ). Suffixes ts w b n f mark r y j) p3 rest) st)
+    put
 path_down ts w n f b c mark (IndexE line t k) r i m j e d rest put = absurd d.2.2.0
 path_down ts w n f b c mark x r i m j e d rest put = absurd d
 
 pub under_it : (ts : List Token) (w : Around) (n f b : ℕ) (x : Exp) (s : Suffix) (r : List Suffix) (i m : ℕ) → SpellsPath (given_of ts n f) (high w (outer n m (s ∷ r) + b)) x i m → SpellsPath (given_of ts n f) (before (given_of ts n f) m (high w (outer n (suc (suc m)) r + b))) x i m
 under_it ts w n f b x s r i m d =
     subst (λ (y : Around). SpellsPath (given_of ts n f) y x i m) (sym (before_is ts w n f m (outer n (suc (suc m)) r + b)))
-        (subst (λ (y : ℕ). SpellsPath (given_of ts n f) (high w y) x i m) (sym (outer_more n m b s r)) d)
+    (subst (λ (y : ℕ). SpellsPath (given_of ts n f) (high w y) x i m) (sym (outer_more n m b s r)) d)
 
 pub longer : (ts : List Token) (w : Around) (n f b : ℕ) (x : Exp) (s : Suffix) (r : List Suffix) (i m : ℕ) → SpellsPath (given_of ts n f) (high w (outer n m (s ∷ r) + b)) x i m → Stands2 ts w (outer n (suc (suc m)) r + b) n f Dot s m →
     SpellsPath (given_of ts n f) (high w (outer n (suc (suc m)) r + b)) (index_by x s) i (suc (suc m))
@@ -141,9 +142,9 @@ method_down ts w n f b (IndexE line t (TextE kl nm)) i j d =
       name = λ lt. let z = k.2.2.0 (subst (λ (y : ℕ). y < n) (sym p2) lt) in (subst (λ (y : ℕ). sort_at ts y ≡ Name) p2 z.0, subst (λ (y : ℕ). bytes_of (tok_at ts y) ≡ nm) p2 z.1);
     } in
     path_down ts w n f b (cond (nat_lt o n) (suc b) b) true t (s ∷ []) i o j (subst (λ (y : ℕ). cond (nat_lt o n) (suc y) y ≡ outer n o (s ∷ []) + b) z (outer_more n o b s []))
-        (subst (λ (y : Around). SpellsPath (given_of ts n f) y t i o) (before_is ts w n f o b) d.1)
-        (st, sym p3)
-        (λ s r o y z. method_put ts w n f b s r o j y z)
+    (subst (λ (y : Around). SpellsPath (given_of ts n f) y t i o) (before_is ts w n f o b) d.1)
+    (st, sym p3)
+    (λ s r o y z. method_put ts w n f b s r o j y z)
 method_down ts w n f b (IndexE line t k) i j d = absurd d.2.2.2.0
 method_down ts w n f b x i j d = absurd d
 
@@ -175,8 +176,8 @@ path_start ts w i here = record {
   up = λ r mark b n f j fits s.
       let at : i + 1 ≡ suc i = add-one i in
       path_up ts w n f b (NameE (tok_at ts i).line (bytes_of (tok_at ts i))) r i (suc i) j mark
-          (i, (refl, (λ e lt. top (outer n (suc i) r + b) (subst (λ (y : ℕ). 1 ≤ 201 - (outer n y r + b)) at (fits e))), refl), ((λ lt. (here, refl)), refl))
-          (subst (λ (y : ℕ). Suffixes ts w b n f mark r y j) at s);
+      (i, (refl, (λ e lt. top (outer n (suc i) r + b) (subst (λ (y : ℕ). 1 ≤ 201 - (outer n y r + b)) at (fits e))), refl), ((λ lt. (here, refl)), refl))
+      (subst (λ (y : ℕ). Suffixes ts w b n f mark r y j) at s);
 }
   where
     low : (b : ℕ) → b ≤ 200 → 1 ≤ 201 - b
@@ -197,12 +198,11 @@ path_start ts w i here = record {
         let d = root.stands in
         let given : i < n = omega (arith, lt) in
         let z = d.2.0 (subst (λ (v : ℕ). v < n) d.1.2 given) in
-        let name : root.name ≡ bytes_of (tok_at ts i) = sym z.1 ∙ ap (λ (v : ℕ). bytes_of (tok_at ts v)) (sym d.1.2) in
-        (
+        let name : root.name ≡ bytes_of (tok_at ts i) = sym z.1 ∙ ap (λ (v : ℕ). bytes_of (tok_at ts v)) (sym d.1.2) in (
           y.0,
           root.whole ∙ ap (λ (v : ℕ). grow (NameE v root.name) y.0) d.1.0 ∙ ap (λ (v : List ℕ). grow (NameE (tok_at ts i).line v) y.0) name,
           subst (λ (v : ℕ). Suffixes ts w b n f mark y.0 v j) at y.2,
-          λ e. subst (λ (v : ℕ). 1 ≤ 201 - (outer n v y.0 + b)) at (low (outer n (suc i) y.0 + b) (d.1.1 e given))
+          λ e. subst (λ (v : ℕ). 1 ≤ 201 - (outer n v y.0 + b)) at (low (outer n (suc i) y.0 + b) (d.1.1 e given)),
         )
 
 -- ---- one more index
@@ -215,10 +215,9 @@ pub suffix_is : (ts : List Token) (w : Around) (c n f : ℕ) (mark : Sort) (s : 
 suffix_is ts w c n f mark s m lt d =
     let at : suc m ≡ m + 1 = sym (add-one m) in
     let l2 : s.name_line ≡ (tok_at ts (m + 1)).line = d.name_line ∙ ap (λ (y : ℕ). (tok_at ts y).line) at in
-    let nm : s.name ≡ bytes_of (tok_at ts (m + 1)) = sym (d.name lt).1 ∙ ap (λ (y : ℕ). bytes_of (tok_at ts y)) at in
-    (
+    let nm : s.name ≡ bytes_of (tok_at ts (m + 1)) = sym (d.name lt).1 ∙ ap (λ (y : ℕ). bytes_of (tok_at ts y)) at in (
       ap (λ (y : ℕ). record { line = y; name_line = s.name_line; name = s.name }) d.line ∙ ap (λ (y : ℕ). record { line = (tok_at ts m).line; name_line = y; name = s.name }) l2 ∙ ap (λ (y : List ℕ). record { line = (tok_at ts m).line; name_line = (tok_at ts (m + 1)).line; name = y }) nm,
-      λ e. d.name_room e lt
+      λ e. d.name_room e lt,
     )
 
 pub path_more : (ts : List Token) (w : Around) (i : ℕ) (t : Exp) (m h : ℕ) → PathRead ts w i t m h → sort_at ts m ≡ Dot → sort_at ts (m + 1) ≡ Name → PathRead ts w i (index_by t (dot_suffix ts m)) (m + 2) (max (1 + h) 2)

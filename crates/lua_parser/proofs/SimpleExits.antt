@@ -94,7 +94,7 @@ simple_deep ts w goes i o inside over = stat_deep ts w goes i (λ f le lt. some 
         built f lt (NameE (tok_at ts i).line (bytes_of (tok_at ts i))) (suc i) (le_refl (suc i)) tt (i, (refl, (λ e y. absurd (omega (arith, e, lt))), refl), (suc i, ((λ y. (here, refl)), refl), ((λ l y. absurd (omega (arith, l))), refl)))
     some f le lt LeftParen here z =
         built f lt (ParenE (tok_at ts i).line (NameE (tok_at ts (suc i)).line [])) (suc (suc (suc i))) (omega arith) tt
-            (i, (refl, (λ e y. absurd (omega (arith, e, lt))), refl), (suc i, ((λ y. here), refl), (suc (suc i), open_name ts w (suc i) f (suc (suc w.above)) 1 (suc i) (le_refl (suc i)), (suc (suc (suc i)), ((λ y. absurd (omega (arith, y))), refl), ((λ l y. absurd (omega (arith, l))), refl)))))
+        (i, (refl, (λ e y. absurd (omega (arith, e, lt))), refl), (suc i, ((λ y. here), refl), (suc (suc i), open_name ts w (suc i) f (suc (suc w.above)) 1 (suc i) (le_refl (suc i)), (suc (suc (suc i)), ((λ y. absurd (omega (arith, y))), refl), ((λ l y. absurd (omega (arith, l))), refl)))))
     some f le lt s here z = absurd z
 
 -- ---- the first prefix expression
@@ -110,9 +110,9 @@ simple_not ts w goes i {q} {h} {x} room o s c v =
 pub simple_call : (ts : List Token) (w : Around) (goes : Sort → Bool) (i : ℕ) {q h : ℕ} {x : Exp} → w.above ≤ 200 → Opening (sort_at ts i) → PrefixStood ts (under w) i x q h → IsCall x → Grown Stat ts (stat_lang ts w) goes w.above i (CallS (tok_at ts i).line x) q (1 + h)
 simple_call ts w goes i {q} {h} {x} room o s c =
     whole w.above (1 + h)
-        (subst (λ (r : Rest Stat). Left Stat ts (stat_lang ts w) goes i r q (max 1 (1 + h))) (call_rest ts w (tok_at ts i).line x c)
-            (under_step {K = chosen_kind simples ts w} {r = behind_simple ts w (tok_at ts i).line} (simple_starts ts w goes i o) (omega arith) (chosen_stood simples {w = under w} (is_simple_call x c) s) (λ e. follows_nothing ts goes _)))
-        s.stood.inside (s.grows) (omega arith) (omega (arith, room, s.stood.height))
+    (subst (λ (r : Rest Stat). Left Stat ts (stat_lang ts w) goes i r q (max 1 (1 + h))) (call_rest ts w (tok_at ts i).line x c)
+    (under_step {K = chosen_kind simples ts w} {r = behind_simple ts w (tok_at ts i).line} (simple_starts ts w goes i o) (omega arith) (chosen_stood simples {w = under w} (is_simple_call x c) s) (λ e. follows_nothing ts goes _)))
+    s.stood.inside (s.grows) (omega arith) (omega (arith, room, s.stood.height))
 
 -- ---- assignments
 
@@ -129,9 +129,9 @@ pub targets_first : (ts : List Token) (w : Around) (goes : Sort → Bool) (i : �
 targets_first ts w goes i {q} {h} x old new room o s v empty is = record {
   left =
       subst (λ (y : List Expr). Left Stat ts (stat_lang ts w) goes i (targets_rest ts w (tok_at ts i).line y) q (1 + h)) (sym (is ∙ ap (λ (y : List Expr). y ++ x ∷ []) empty))
-          (subst (λ (y : ℕ). Left Stat ts (stat_lang ts w) goes i (first_target ts w (tok_at ts i).line (expr_view x)) q y) same
-              (subst (λ (r : Rest Stat). Left Stat ts (stat_lang ts w) goes i r q (max 1 (1 + h))) (var_rest ts w (tok_at ts i).line (expr_view x) v)
-                  (under_step {K = chosen_kind simples ts w} {r = behind_simple ts w (tok_at ts i).line} (simple_starts ts w goes i o) (omega arith) (chosen_stood simples {w = under w} (is_simple_var (expr_view x) v) s) (λ e. follows_nothing ts goes _))));
+      (subst (λ (y : ℕ). Left Stat ts (stat_lang ts w) goes i (first_target ts w (tok_at ts i).line (expr_view x)) q y) same
+      (subst (λ (r : Rest Stat). Left Stat ts (stat_lang ts w) goes i r q (max 1 (1 + h))) (var_rest ts w (tok_at ts i).line (expr_view x) v)
+      (under_step {K = chosen_kind simples ts w} {r = behind_simple ts w (tok_at ts i).line} (simple_starts ts w goes i o) (omega arith) (chosen_stood simples {w = under w} (is_simple_var (expr_view x) v) s) (λ e. follows_nothing ts goes _))));
   inside = s.stood.inside;
   grows = s.grows;
   room = room;
@@ -167,9 +167,9 @@ pub target_more : {ts : List Token} {w : Around} {goes : Sort → Bool} {i m h q
 target_more {ts} {w} {goes} {i} {m} {h} {q} {g} {ys} x new k r c s v is high' = record {
   left =
       subst (λ (y : ℕ). Left Stat ts (stat_lang ts w) goes i (targets_rest ts w (tok_at ts i).line new) q y) (sym high')
-          (same_rest (targets_rest ts w (tok_at ts i).line new) read
-              (λ s b n f j lt st z. (z.0, z.1, z.2, subst (λ (y : Exps). Reads ts (values_rest ts w (tok_at ts i).line y) s b n f z.1 j) (sym (same z.0)) z.3))
-              (λ s b n f j z. (z.0, z.1, z.2, subst (λ (y : Exps). Reads ts (values_rest ts w (tok_at ts i).line y) s b n f z.1 j) (same z.0) z.3)));
+      (same_rest (targets_rest ts w (tok_at ts i).line new) read
+      (λ s b n f j lt st z. (z.0, z.1, z.2, subst (λ (y : Exps). Reads ts (values_rest ts w (tok_at ts i).line y) s b n f z.1 j) (sym (same z.0)) z.3))
+      (λ s b n f j z. (z.0, z.1, z.2, subst (λ (y : Exps). Reads ts (values_rest ts w (tok_at ts i).line y) s b n f z.1 j) (same z.0) z.3)));
   inside = s.stood.inside;
   grows = omega (arith, r.grows, s.grows);
   room = r.room;
@@ -205,5 +205,5 @@ pub assign_stands : {ts : List Token} {w : Around} {i m h q g : ℕ} {ys : List 
     Grown Stat ts (stat_lang ts w) (goes_after (sort_at ts i)) w.above i (AssignS (tok_at ts i).line (exprs_view ys) es) q (max h (1 + g))
 assign_stands {ts} {w} {i} {m} {h} {q} {g} {ys} {es} o r a x =
     subst (λ (y : Exps). Grown Stat ts (stat_lang ts w) (goes_after (sort_at ts i)) w.above i (AssignS (tok_at ts i).line y es) q (max h (1 + g))) (sym (all_exps ys))
-        (whole w.above (max h (1 + g)) (under_step {K = all_kind ts w} {r = λ es. Done (AssignS (tok_at ts i).line (add_exps ys NoExp) es)} (target_assign r a) r.some_node x.stood (λ es. follows_done ts (goes_after (sort_at ts i)) exps_goes _ (opening_ends (sort_at ts i) o)))
-            x.stood.inside (omega (arith, r.grows, x.grows)) refl (omega (arith, r.fits, r.room, x.stood.height)))
+    (whole w.above (max h (1 + g)) (under_step {K = all_kind ts w} {r = λ es. Done (AssignS (tok_at ts i).line (add_exps ys NoExp) es)} (target_assign r a) r.some_node x.stood (λ es. follows_done ts (goes_after (sort_at ts i)) exps_goes _ (opening_ends (sort_at ts i) o)))
+    x.stood.inside (omega (arith, r.grows, x.grows)) refl (omega (arith, r.fits, r.room, x.stood.height)))

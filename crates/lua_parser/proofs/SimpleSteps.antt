@@ -78,21 +78,20 @@ before_open ts n f j w le = ap (λ (c : Bool). cond c (under w) w) (le-ltb j n l
 pub may_index : (ts : List Token) (w : Around) (n f b : ℕ) (x : Exp) (i j : ℕ) → n ≤ j → IsPrefix x → Spells (given_of ts n f) (high w b) 10 x i j →
     Spells (given_of ts n f) (high w b) 9 (IndexE (tok_at ts j).line x (TextE (tok_at ts (suc j)).line [])) i (suc (suc j))
 unfolding Spells
-may_index ts w n f b x i j le p d =
+may_index ts w n f b x i j le p d = (
+  j,
+  subst (λ (y : Around). Spells (given_of ts n f) y 10 x i j) (sym (before_open ts n f j (high w b) le)) d,
+  p,
+  (
+    j,
+    (refl, (λ e lt. absurd (omega (arith, le, lt))), refl),
     (
-      j,
-      subst (λ (y : Around). Spells (given_of ts n f) y 10 x i j) (sym (before_open ts n f j (high w b) le)) d,
-      p,
-      (
-        j,
-        (refl, (λ e lt. absurd (omega (arith, le, lt))), refl),
-        (
-          suc (suc j),
-          inl (suc j, ((λ lt. absurd (omega (arith, le, lt))), refl), (suc j, (refl, (λ e lt. absurd (omega (arith, le, lt))), refl), ((λ lt. absurd (omega (arith, le, lt))), refl))),
-          ((λ l lt. absurd (omega (arith, le, lt))), refl)
-        )
-      )
-    )
+      suc (suc j),
+      inl (suc j, ((λ lt. absurd (omega (arith, le, lt))), refl), (suc j, (refl, (λ e lt. absurd (omega (arith, le, lt))), refl), ((λ lt. absurd (omega (arith, le, lt))), refl))),
+      ((λ l lt. absurd (omega (arith, le, lt))), refl),
+    ),
+  ),
+)
 
 pub chosen_stood : (c : Choice) {ts : List Token} {w : Around} {i q h : ℕ} {x : Exp} → c.is x → PrefixStood ts w i x q h → Stood Exp ts (chosen_lang c ts w) nothing w.above i x q h
 chosen_stood c {ts} {w} {i} {q} {h} {x} y s = record {
@@ -278,23 +277,23 @@ simple_starts ts w goes i o = record {
 
     down : (s : Stat) (b n f j : ℕ) → i < n → SpellsStat (given_of ts n f) (high w b) s i j → Simple s → Reads ts (simple_rest ts w (tok_at ts i).line) s b n f i j
     down (AssignS l NoExp es) b n f j lt d z = elim d.2 [
-        inl y ↦ absurd y.2.1
+      | inl y ↦ absurd y.2.1
       | inr y ↦ absurd (subst Opening (ap (λ (v : ℕ). sort_at ts v) d.1.2 ∙ named_word ts n f (high w (suc b)) NoExp es d.0 j y (subst (λ (v : ℕ). v < n) d.1.2 lt)) o)
-      ]
+    ]
     down (AssignS l (MoreExp e xs) es) b n f j lt d z = elim d.2 [
-        inl y ↦
+      | inl y ↦
           let x = y.2.1 in
           let q = var_prefix e y.1.0.0 in
           let at : i ≡ y.0 = d.1.2 ∙ y.1.1 in
           let sp : Spells (given_of ts n f) (high w (suc b)) 1 e i x.0 = subst (λ (v : ℕ). Spells (given_of ts n f) (high w (suc b)) 1 e v x.0) (sym at) x.1 in
-          let same : AssignS l (MoreExp e xs) es ≡ AssignS (tok_at ts i).line (MoreExp e xs) es = ap (λ (v : ℕ). AssignS v (MoreExp e xs) es) (d.1.0) in
-          (
-            e, x.0,
+          let same : AssignS l (MoreExp e xs) es ≡ AssignS (tok_at ts i).line (MoreExp e xs) es = ap (λ (v : ℕ). AssignS v (MoreExp e xs) es) (d.1.0) in (
+            e,
+            x.0,
             (var_simple e y.1.0.0, relevel ts n f (high w (suc b)) 1 9 e i x.0 q sp (prefix_ends ts n f (high w (suc b)) 1 e i x.0 (omega arith) q sp)),
-            var_reads ts w (tok_at ts i).line e (AssignS l (MoreExp e xs) es) b n f x.0 j y.1.0.0 (xs, y.2.0, (y.1.0.1, x.2), (y.2.2.0, y.2.2.1, (es, j, y.2.2.2, (same, refl))))
+            var_reads ts w (tok_at ts i).line e (AssignS l (MoreExp e xs) es) b n f x.0 j y.1.0.0 (xs, y.2.0, (y.1.0.1, x.2), (y.2.2.0, y.2.2.1, (es, j, y.2.2.2, (same, refl)))),
           )
       | inr y ↦ absurd (subst Opening (ap (λ (v : ℕ). sort_at ts v) d.1.2 ∙ named_word ts n f (high w (suc b)) (MoreExp e xs) es d.0 j y (subst (λ (v : ℕ). v < n) d.1.2 lt)) o)
-      ]
+    ]
     down (CallS l e) b n f j lt d z =
         let sp : Spells (given_of ts n f) (high w (suc b)) 9 e i j = subst (λ (v : ℕ). Spells (given_of ts n f) (high w (suc b)) 9 e v j) (sym d.1.1.2) d.1.2 in
         (e, j, (call_simple e d.0, sp), call_reads ts w (tok_at ts i).line e (CallS l e) b n f j j d.0 (ap (λ (v : ℕ). CallS v e) d.1.1.0, refl))
@@ -307,7 +306,7 @@ simple_starts ts w goes i o = record {
         let q = var_prefix e v in
         let one = relevel ts n f (high w (suc b)) 9 1 e i p q sp (prefix_ends ts n f (high w (suc b)) 9 e i p (le_refl 9) q sp) in
         let at : SpellsStat (given_of ts n f) (high w b) (AssignS (tok_at ts i).line (MoreExp e r.0) es.0) i es.1 =
-            (i, (refl, (λ y lt. top b (fits y)), refl), inl (i, ((v, r.2.0), refl), (r.1, (p, one, r.2.1), (t.0, t.1, es.2)))) in
+        (i, (refl, (λ y lt. top b (fits y)), refl), inl (i, ((v, r.2.0), refl), (r.1, (p, one, r.2.1), (t.0, t.1, es.2)))) in
         subst (λ (y : Stat). SpellsStat (given_of ts n f) (high w b) y i j) (sym es.3.0) (subst (λ (y : ℕ). SpellsStat (given_of ts n f) (high w b) (AssignS (tok_at ts i).line (MoreExp e r.0) es.0) i y) es.3.1 at)
 
     called : (e : Exp) (s : Stat) (b n f j p : ℕ) → IsCall e → (f ≡ 7 → 1 ≤ 201 - b) → Spells (given_of ts n f) (high w (suc b)) 9 e i p → (s ≡ CallS (tok_at ts i).line e) × (p ≡ j) → SpellsStat (given_of ts n f) (high w b) s i j

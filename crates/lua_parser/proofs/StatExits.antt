@@ -177,16 +177,16 @@ pub repeat_test_fault : (ts : List Token) (w : Around) {u v : Around} (i : ℕ) 
     u ≡ under w → Failed (Broke Exp ts (exp_lang ts u 1) (goes_on 1) u.above (p + 1)) f → Failed (Broke Stat ts (stat_lang ts w) (goes_after (sort_at ts i)) w.above i) f
 repeat_test_fault ts w {u} {v} i {p} {g} {k} f here room o t d e x =
     under_fault {K = exp_kind ts w 1} {r = λ e. Done (RepeatS (tok_at ts i).line k e)} w.above (word_step (repeat_body ts w (goes_after (sort_at ts i)) i here o t) d) (omega (arith, room, (block_stood {v = in_loop w} o t).height)) f (exp_failed ts u (under w) 1 (p + 1) f e x)
-        (λ y. follows_done ts (goes_after (sort_at ts i)) (goes_on 1) _ (repeat_ends ts i here))
+    (λ y. follows_done ts (goes_after (sort_at ts i)) (goes_on 1) _ (repeat_ends ts i here))
 
 pub repeat_stands : (ts : List Token) (w : Around) {u v : Around} (i : ℕ) {p g q h : ℕ} {k : Block} {x : Exp} → sort_at ts i ≡ Repeat → w.above ≤ 200 →
     v ≡ in_loop w → Stood Block ts (block_lang ts v) block_goes v.above (i + 1) k p g → sort_at ts p ≡ Until →
     u ≡ under w → ExpStood ts u 1 (p + 1) x q h → Grown Stat ts (stat_lang ts w) (goes_after (sort_at ts i)) w.above i (RepeatS (tok_at ts i).line k x) q (1 + max g h)
 repeat_stands ts w {u} {v} i {p} {g} {q} {h} {k} {x} here room o t d e s =
     whole w.above (1 + max g h)
-        (under_step {K = exp_kind ts w 1} {r = λ e. Done (RepeatS (tok_at ts i).line k e)} (word_step (repeat_body ts w (goes_after (sort_at ts i)) i here o t) d) (omega arith) (exp_stood {v = under w} e s).stood
-            (λ y. follows_done ts (goes_after (sort_at ts i)) (goes_on 1) _ (repeat_ends ts i here)))
-        s.stood.inside (omega (arith, t.ordered, s.grows)) (omega arith) (omega (arith, room, (exp_stood {v = under w} e s).stood.height, (block_stood {v = in_loop w} o t).height))
+    (under_step {K = exp_kind ts w 1} {r = λ e. Done (RepeatS (tok_at ts i).line k e)} (word_step (repeat_body ts w (goes_after (sort_at ts i)) i here o t) d) (omega arith) (exp_stood {v = under w} e s).stood
+    (λ y. follows_done ts (goes_after (sort_at ts i)) (goes_on 1) _ (repeat_ends ts i here)))
+    s.stood.inside (omega (arith, t.ordered, s.grows)) (omega arith) (omega (arith, room, (exp_stood {v = under w} e s).stood.height, (block_stood {v = in_loop w} o t).height))
 
 -- ---- break
 
@@ -257,4 +257,4 @@ pub return_stands : (ts : List Token) (w : Around) {u : Around} (i : ℕ) {q h :
     Grown Stat ts (stat_lang ts w) (goes_after (sort_at ts i)) w.above i (ReturnS (tok_at ts i).line x) q (1 + h)
 return_stands ts w {u} i {q} {h} {x} here room goes e s =
     whole w.above (1 + h) (under_step {K = all_kind ts w} {r = λ es. Done (ReturnS (tok_at ts i).line es)} (return_some ts w i here goes) (omega arith) (all_stood {v = under w} e s).stood (λ y. follows_done ts (goes_after (sort_at ts i)) exps_goes _ (return_ends ts i here)))
-        s.stood.inside (omega (arith, s.grows)) (omega arith) (omega (arith, room, (all_stood {v = under w} e s).stood.height))
+    s.stood.inside (omega (arith, s.grows)) (omega arith) (omega (arith, room, (all_stood {v = under w} e s).stood.height))

@@ -49,12 +49,12 @@ local_starts ts w goes i here = begun ts w goes i Local (local_rest ts w (tok_at
 
     up : (s : Stat) (b n f j : ℕ) → Headed ts w Local (tok_at ts i).line (local_rest ts w (tok_at ts i).line) s b n f i j → SpellsStat (given_of ts n f) (high w b) s i j
     up s b n f j h = elim h.2.2 [
-        inl y ↦ let t = y.2 in is_stat ts w b n f i t.3.1 j (LocalFunctionS (tok_at ts i).line t.0 t.3.0) s t.3.3 (h.0, h.1, (h.2.0, h.2.1, (y.0, y.1, (t.1, t.2, t.3.2))))
+      | inl y ↦ let t = y.2 in is_stat ts w b n f i t.3.1 j (LocalFunctionS (tok_at ts i).line t.0 t.3.0) s t.3.3 (h.0, h.1, (h.2.0, h.2.1, (y.0, y.1, (t.1, t.2, t.3.2))))
       | inr y ↦ let t = y.3 in elim t.3 [
-          inl z ↦ is_stat ts w b n f i t.1 j (LocalS (tok_at ts i).line (y.0 ∷ t.0) NoExp) s z (h.0, h.1, (h.2.0, h.2.1, (t.1, (y.1, y.2, t.2), inl (tt, refl))))
+        | inl z ↦ is_stat ts w b n f i t.1 j (LocalS (tok_at ts i).line (y.0 ∷ t.0) NoExp) s z (h.0, h.1, (h.2.0, h.2.1, (t.1, (y.1, y.2, t.2), inl (tt, refl))))
         | inr z ↦ is_stat ts w b n f i z.2.1 j (LocalS (tok_at ts i).line (y.0 ∷ t.0) z.2.0) s z.2.3 (h.0, h.1, (h.2.0, h.2.1, (t.1, (y.1, y.2, t.2), inr (z.0, z.1, z.2.2))))
-        ]
       ]
+    ]
 
 -- for
 abbrev pub loop_rest : List Token → Around → (Block → Stat) → Rest Stat
@@ -108,13 +108,13 @@ for_starts ts w goes i here = begun ts w goes i For (for_rest ts w (tok_at ts i)
     up s b n f j h =
         let y = h.2.2 in
         elim y.3 [
-          inl u ↦ let a = u.2 in let c = a.3.2 in elim c.3 [
-              inl k ↦ is_stat ts w b n f i k.1 j (CountS (tok_at ts i).line y.0 a.0 c.0 k.0) s k.3 (h.0, h.1, (h.2.0, h.2.1, (y.1, y.2, (u.0, u.1, (a.1, a.2, (a.3.0, a.3.1, (c.1, c.2, k.2)))))))
+          | inl u ↦ let a = u.2 in let c = a.3.2 in elim c.3 [
+            | inl k ↦ is_stat ts w b n f i k.1 j (CountS (tok_at ts i).line y.0 a.0 c.0 k.0) s k.3 (h.0, h.1, (h.2.0, h.2.1, (y.1, y.2, (u.0, u.1, (a.1, a.2, (a.3.0, a.3.1, (c.1, c.2, k.2)))))))
             | inr v ↦ let e = v.2 in let k = e.3 in
                 is_stat ts w b n f i k.1 j (CountByS (tok_at ts i).line y.0 a.0 c.0 e.0 k.0) s k.3 (h.0, h.1, (h.2.0, h.2.1, (y.1, y.2, (u.0, u.1, (a.1, a.2, (a.3.0, a.3.1, (c.1, c.2, (v.0, v.1, (e.1, e.2, k.2)))))))))
-            ]
-        | inr u ↦ let e = u.3.2 in let k = e.3 in
-            is_stat ts w b n f i k.1 j (EachS (tok_at ts i).line (y.0 ∷ u.0) e.0 k.0) s k.3 (h.0, h.1, (h.2.0, h.2.1, (u.1, (y.1, y.2, u.2), (u.3.0, u.3.1, (e.1, e.2, k.2)))))
+          ]
+          | inr u ↦ let e = u.3.2 in let k = e.3 in
+              is_stat ts w b n f i k.1 j (EachS (tok_at ts i).line (y.0 ∷ u.0) e.0 k.0) s k.3 (h.0, h.1, (h.2.0, h.2.1, (u.1, (y.1, y.2, u.2), (u.3.0, u.3.1, (e.1, e.2, k.2)))))
         ]
 
 -- if
@@ -144,7 +144,7 @@ if_starts ts w goes i here = begun ts w goes i If (if_rest ts w (tok_at ts i).li
     up s b n f j h =
         let y = h.2.2 in
         elim y.3 [
-          inl u ↦ is_stat ts w b n f i u.0 j (IfS (tok_at ts i).line y.0) s u.2 (h.0, h.1, (h.2.0, h.2.1, (y.1, y.2, u.1)))
-        | inr u ↦ let k = u.2 in let r = k.3 in
-            is_stat ts w b n f i r.0 j (IfElseS (tok_at ts i).line y.0 k.0) s r.2 (h.0, h.1, (h.2.0, h.2.1, (y.1, y.2, (u.0, u.1, (k.1, k.2, r.1)))))
+          | inl u ↦ is_stat ts w b n f i u.0 j (IfS (tok_at ts i).line y.0) s u.2 (h.0, h.1, (h.2.0, h.2.1, (y.1, y.2, u.1)))
+          | inr u ↦ let k = u.2 in let r = k.3 in
+              is_stat ts w b n f i r.0 j (IfElseS (tok_at ts i).line y.0 k.0) s r.2 (h.0, h.1, (h.2.0, h.2.1, (y.1, y.2, (u.0, u.1, (k.1, k.2, r.1)))))
         ]

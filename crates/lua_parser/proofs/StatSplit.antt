@@ -122,9 +122,9 @@ return_starts ts w goes i here = begun ts w goes i Return (return_rest ts w (tok
 
     up : (s : Stat) (b n f j : ℕ) → Headed ts w Return (tok_at ts i).line (return_rest ts w (tok_at ts i).line) s b n f i j → SpellsStat (given_of ts n f) (high w b) s i j
     up s b n f j h = elim h.2.2 [
-        inl y ↦ is_stat ts w b n f i h.2.0 j (ReturnS (tok_at ts i).line NoExp) s y (h.0, h.1, (h.2.0, h.2.1, inl (tt, refl)))
+      | inl y ↦ is_stat ts w b n f i h.2.0 j (ReturnS (tok_at ts i).line NoExp) s y (h.0, h.1, (h.2.0, h.2.1, inl (tt, refl)))
       | inr y ↦ is_stat ts w b n f i y.1 j (ReturnS (tok_at ts i).line y.0) s y.3 (h.0, h.1, (h.2.0, h.2.1, inr y.2))
-      ]
+    ]
 
 -- break, in a loop
 pub break_starts : (ts : List Token) (w : Around) (goes : Sort → Bool) (i : ℕ) → w.looped ≡ true → sort_at ts i ≡ Break → Left Stat ts (stat_lang ts w) goes i (Done (BreakS (tok_at ts i).line)) (i + 1) 1

@@ -64,12 +64,7 @@ pub(crate) fn if_stat(
 
 // Conditions, each with its block, and with `elseif` between them.
 #[cycle(parser)]
-fn arms(
-    alloc: Global,
-    toks: &[Token],
-    i: usize,
-    around: Around,
-) -> Result<Parsed<List<Arm>>, Fault>
+fn arms(alloc: Global, toks: &[Token], i: usize, around: Around) -> Result<Parsed<List<Arm>>, Fault>
     requires ended { Ended toks.now }
     requires inside { i < length toks.now }
     requires high { around.above ≤ 201 }

@@ -60,12 +60,7 @@ pub(crate) fn named_function(
 }
 
 // Names with a `.` between them, and maybe a `:` and one more.
-fn path(
-    alloc: Global,
-    toks: &[Token],
-    i: usize,
-    around: Around,
-) -> Result<Parsed<Named>, Fault>
+fn path(alloc: Global, toks: &[Token], i: usize, around: Around) -> Result<Parsed<Named>, Fault>
     requires ended { Ended toks.now }
     requires inside { i < length toks.now }
     requires room { around.above ≤ 200 }

@@ -94,12 +94,7 @@ fn count_loop(
 }
 
 #[cycle(parser)]
-fn each_loop(
-    alloc: Global,
-    toks: &[Token],
-    i: usize,
-    around: Around,
-) -> Result<Parsed<Stat>, Fault>
+fn each_loop(alloc: Global, toks: &[Token], i: usize, around: Around) -> Result<Parsed<Stat>, Fault>
     requires ended { Ended toks.now }
     requires inside { i + 1 < length toks.now }
     requires begins { sort_at toks.now i ≡ For }

@@ -13,11 +13,7 @@ use std::alloc::Global;
 use wk_base::{Bytes, List};
 
 // The name at i, and more names with commas between them.
-pub(crate) fn names(
-    alloc: Global,
-    toks: &[Token],
-    i: usize,
-) -> Result<Parsed<List<Bytes>>, Fault>
+pub(crate) fn names(alloc: Global, toks: &[Token], i: usize) -> Result<Parsed<List<Bytes>>, Fault>
     requires ended { Ended toks.now }
     requires inside { i < length toks.now }
     requires begins { sort_at toks.now i ≡ Name }

@@ -6,8 +6,8 @@ ghost use Rattle.lua_parser.specs.Parsing.{Ended};
 ghost use Rattle.lua_parser.specs.Answers.{StatAnswer};
 
 use crate::answer::{Fault, Parsed, bad};
-use crate::assignments::simple;
 use crate::around::{in_loop, under};
+use crate::assignments::simple;
 use crate::blocks::block;
 use crate::conditions::if_stat;
 use crate::exprs::exp;
@@ -51,12 +51,7 @@ pub(crate) fn statement(
 }
 
 #[cycle(parser)]
-fn do_block(
-    alloc: Global,
-    toks: &[Token],
-    i: usize,
-    around: Around,
-) -> Result<Parsed<Stat>, Fault>
+fn do_block(alloc: Global, toks: &[Token], i: usize, around: Around) -> Result<Parsed<Stat>, Fault>
     requires ended { Ended toks.now }
     requires inside { i < length toks.now }
     requires begins { sort_at toks.now i ≡ Do }

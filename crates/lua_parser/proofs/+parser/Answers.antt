@@ -357,7 +357,7 @@ blocks::body-sort_at-requires-2 t c = (c.in_ok-list.ensures 0).inside
 
 pub blocks::body-overflow_add-list : goal.blocks::body-overflow_add-list
 blocks::body-overflow_add-list t c =
-  let within : c.in_ok-list.list.end < length c.args.toks.now = (c.in_ok-list.ensures 0).inside in search rules
+    let within : c.in_ok-list.list.end < length c.args.toks.now = (c.in_ok-list.ensures 0).inside in search rules
 
 -- statements
 pub stats::do_block-returns-then-around-gt200 : goal.stats::do_block-returns-then-around-gt200

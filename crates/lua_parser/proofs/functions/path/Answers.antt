@@ -34,9 +34,9 @@ line_at-requires-in-marks c = key_inside _ c.requires.ended c.marks.invariant (r
 pub returns-then-method : goal.returns-then-method
 returns-then-method c =
     state_method _ _ c.requires.ended c.marks.invariant c.if-around-height-gt200.false c.if-method.true (read_is c.sort_at-in-marks.ensures c.in-Some.ensures) (read_is c.sort_at-in-marks-2.ensures c.in-Name-sort_at.is)
-        (index_is _ _ c.in_ok-path.ensures.ok c.text-key.ensures c.line_at-in-marks-2.ensures c.line_at-in-marks.ensures c.in_ok-bytes.ensures)
+    (index_is _ _ c.in_ok-path.ensures.ok c.text-key.ensures c.line_at-in-marks-2.ensures c.line_at-in-marks.ensures c.in_ok-bytes.ensures)
 
 pub marks-preserved : goal.marks-preserved
 marks-preserved c =
     state_more _ _ _ _ _ _ _ _ c.requires.ended c.marks.invariant c.if-around-height-gt200.false c.if-method.false (read_is c.sort_at-in-marks.ensures c.in-Some.ensures) (read_is c.sort_at-in-marks-2.ensures c.in-Name-sort_at.is)
-        (index_is _ _ c.in_ok-path.ensures.ok c.text-key.ensures c.line_at-in-marks-2.ensures c.line_at-in-marks.ensures c.in_ok-bytes.ensures)
+    (index_is _ _ c.in_ok-path.ensures.ok c.text-key.ensures c.line_at-in-marks-2.ensures c.line_at-in-marks.ensures c.in_ok-bytes.ensures)

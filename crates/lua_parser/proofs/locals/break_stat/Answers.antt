@@ -1,4 +1,3 @@
-
 use Rattle.lua_parser.proofs.StatExits.{break_stands, break_outside, break_deep, off, on}
 use Rattle.lua_parser.proofs.locals.break_stat.Goals as goal
 
