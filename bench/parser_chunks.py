@@ -104,7 +104,7 @@ CHUNKS = [
     "a.end = 1", "a:end()", "a.and()", "x = a.nil", "x = {and = 1}", "local end", "for end in x do end", "and = 1", "x = 1 +", "x = + 1", "x = 1 + + 2",
     "x = 1 * / 2", "x = 1 .. .. 2", "x = 1 = 2", "x = not", "x = #", "x = -", "x = a b", "x = a 'b' c", "x = 1 'a'", "x = 'a' 'b'", "x = 'a' {1}",
     "x = 'a'.b", "x = 'a':b()", "x = {}.a", "x = {}[1]", "x = 1.x", "x = nil.a", "x = ...[1]", "x = function() end()", "x = function() end.a",
-    "x = a not b", "x = a # b", "x = a and", "x = and a", "x = a ~ = b", "x = a ... b", "x = ....", "x = 1 < > 2", "x = a <", "x = a => b", "x = a or or b",
+    "x = a not b", "x = a # b", "x = a and", "x = and a", "x = a ~ = b", "x = a ... b", "x = ....", "x = 1 < > 2", "x = a <", "x = a >= > b", "x = a or or b",
     "goto x", "::x::", "x += 1", "x = a // b", "x = a != b", "x = a ? b", "local x <const> = 1", "\n\nx = = 1", "x = 1\n\ny", "f(\n\n", "x = {\n1\n2\n}",
     "if x\nthen\nelse\nelse\nend", "return 1\n\n;\n\n;", "function f()\n\nend\nend", "x = [=", "x = a[[b]", "x = [ [a]]",
     # Fault 6: a numeral without a value
@@ -210,5 +210,5 @@ return p
 '''
 
 # Pieces of which all short texts are tried.
-PIECES = ["x ", "= ", "( ", ") ", "\n", "f() ", ". ", "... ", "1 ", "end ", "function ", "do ", "break ", "return ", ", ", "{ ", "} ", "; ", "- ", "0.5 ", "'a' ", "while x do "]
+PIECES = ["x ", "= ", "(", ") ", "\n", "f{} ", ".y ", "... ", "0.5 ", "end ", "function() ", "break ", "return ", ", ", "- ", "while x do "]
 LENGTH = 4

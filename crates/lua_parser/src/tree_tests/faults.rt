@@ -281,7 +281,7 @@ x = a ... b => fault 5 line 1
 x = .... => fault 5 line 1
 x = 1 < > 2 => fault 5 line 1
 x = a < => fault 5 line 1
-x = a => b => fault 5 line 1
+x = a >= > b => fault 5 line 1
 x = a or or b => fault 5 line 1
 goto x => fault 5 line 1
 ::x:: => fault 5 line 1
