@@ -25,7 +25,7 @@ function p.f%d(frame, ...)
       while i < 10 do i = (i + 1) * 2 - 1 end
     end
   end
-  return table.concat(out, ', '), function(x) return x.y[i](x, ...) end
+  return table.concat(out, ', '), function(x, ...) return x.y[i](x, ...) end
 end
 """
 
