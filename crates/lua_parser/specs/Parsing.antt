@@ -150,9 +150,10 @@ abbrev pub goes_after : Sort → Sort → Bool
 goes_after Return s = last_goes s
 goes_after first s = stat_goes s
 
+-- the arms of an `if`: one more of them, or a statement of the last one
 abbrev pub arms_goes : Sort → Bool
 arms_goes Elseif = true
-arms_goes s = false
+arms_goes s = block_goes s
 
 -- ---- expressions
 

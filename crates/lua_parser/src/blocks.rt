@@ -3,17 +3,20 @@ ghost use Rattle.std.specs.Prelude.{◌≡◌, ◌<◌, ◌≤◌, ◌+◌, leng
 ghost use Rattle.lua_grammar.specs.View.{function_view};
 ghost use Rattle.lua_parser.specs.Parsing.{Ended, nothing};
 ghost use Rattle.lua_parser.specs.Answers.{Answer, BlockAnswer, body_lang};
+ghost use Rattle.lua_parser.specs.StatAnswers.{Behind};
 
 use crate::answer::{Fault, Parsed, bad};
 use crate::around::in_function;
-use crate::exprs::exp;
+use crate::ends::{closes, goes_on_block};
 use crate::make;
 use crate::params::{params, with_self};
+use crate::stats::statement;
 use crate::tokens::sort_at;
 use lua_grammar::{Around, Sort};
 use lua_lexer::Token;
 use lua_syntax::{Block, Function};
 use std::alloc::Global;
+use wk_base::List;
 
 // The parameters and the body of a function, or of a method, which has `self` before its parameters.
 #[cycle(parser)]
@@ -49,6 +52,7 @@ pub(crate) fn body(
     })
 }
 
+// Statements, up to one that ends the block or a word that ends it.
 #[cycle(parser)]
 pub(crate) fn block(
     alloc: Global,
@@ -61,8 +65,35 @@ pub(crate) fn block(
     requires high { around.above ≤ 201 }
     ensures { BlockAnswer toks.now around i result }
 {
-    match exp(alloc, toks, i, 1, around) {
-        Ok(_) => Err(Fault::NoMemory),
-        Err(_) => Err(Fault::NoMemory),
+    let mut tree = List::new(alloc);
+    let mut end = i;
+    let mut height = 0;
+    'stats: loop {
+        let first = sort_at(toks, end);
+        if !goes_on_block(first) {
+            let tree = make::block_of(tree);
+            return Ok(Parsed { tree, end, height });
+        }
+        let stat = statement(alloc, toks, end, around)?;
+        height = height.max(stat.height);
+        tree.push(stat.tree)?;
+        end = behind(toks, stat.end);
+        if closes(first) {
+            let tree = make::block_of(tree);
+            return Ok(Parsed { tree, end, height });
+        }
+    }
+}
+
+// The place behind the `;` at q, if there is one.
+fn behind(toks: &[Token], q: usize) -> usize
+    requires ended { Ended toks.now }
+    requires inside { q < length toks.now }
+    ensures place { Behind toks.now q result }
+    ensures within { result < length toks.now }
+{
+    match sort_at(toks, q) {
+        Sort::Semicolon => q + 1,
+        _ => q,
     }
 }

@@ -5,6 +5,11 @@ use Rattle.lua_parser.proofs.Suffixes.{Chain}
 use Rattle.lua_parser.proofs.Lists.{Listed}
 use Rattle.lua_parser.proofs.FieldLemmas.{Fielded}
 use Rattle.lua_parser.specs.Parsing.{Below}
+use Rattle.lua_parser.proofs.ArmSteps.{ArmsRead}
+use Rattle.lua_grammar.specs.Tokens.{sort_at}
+use Rattle.lua_parser.specs.Parsing.{goes_after}
+use Rattle.lua_parser.proofs.BlockSteps.{BlockRead}
+use Rattle.lua_parser.proofs.SimpleExits.{TargetsRead}
 use Rattle.lua_parser.proofs.+parser.Given as goal
 
 abbrev pub decreases-blocks::block : goal.decreases-blocks::block
@@ -75,3 +80,74 @@ invariant-tables::fields-fields l = (l.end < length l.toks) × (l.i ≤ l.end) �
 
 abbrev pub decreases-tables::fields-fields : goal.decreases-tables::fields-fields
 decreases-tables::fields-fields l = length l.toks - l.end
+
+-- statements
+
+abbrev pub decreases-stats::statement : goal.decreases-stats::statement
+decreases-stats::statement l = 32 * (length l.toks.now - l.i) + 29
+
+abbrev pub decreases-stats::do_block : goal.decreases-stats::do_block
+decreases-stats::do_block l = 32 * (length l.toks.now - l.i) + 27
+
+abbrev pub decreases-stats::while_loop : goal.decreases-stats::while_loop
+decreases-stats::while_loop l = 32 * (length l.toks.now - l.i) + 27
+
+abbrev pub decreases-stats::repeat_loop : goal.decreases-stats::repeat_loop
+decreases-stats::repeat_loop l = 32 * (length l.toks.now - l.i) + 27
+
+abbrev pub decreases-locals::return_stat : goal.decreases-locals::return_stat
+decreases-locals::return_stat l = 32 * (length l.toks.now - l.i) + 27
+
+abbrev pub decreases-locals::local : goal.decreases-locals::local
+decreases-locals::local l = 32 * (length l.toks.now - l.i) + 28
+
+abbrev pub decreases-locals::local_function : goal.decreases-locals::local_function
+decreases-locals::local_function l = 32 * (length l.toks.now - l.i) + 27
+
+abbrev pub decreases-locals::local_names : goal.decreases-locals::local_names
+decreases-locals::local_names l = 32 * (length l.toks.now - l.i) + 27
+
+abbrev pub decreases-loops::for_loop : goal.decreases-loops::for_loop
+decreases-loops::for_loop l = 32 * (length l.toks.now - l.i) + 27
+
+abbrev pub decreases-loops::count_loop : goal.decreases-loops::count_loop
+decreases-loops::count_loop l = 32 * (length l.toks.now - l.i) + 26
+
+abbrev pub decreases-loops::each_loop : goal.decreases-loops::each_loop
+decreases-loops::each_loop l = 32 * (length l.toks.now - l.i) + 26
+
+abbrev pub decreases-loops::loop_body : goal.decreases-loops::loop_body
+decreases-loops::loop_body l = 32 * (length l.toks.now - l.i) + 28
+
+abbrev pub decreases-conditions::if_stat : goal.decreases-conditions::if_stat
+decreases-conditions::if_stat l = 32 * (length l.toks.now - l.i) + 27
+
+abbrev pub decreases-conditions::arms : goal.decreases-conditions::arms
+decreases-conditions::arms l = 32 * (length l.toks.now - l.i) + 26
+
+abbrev pub invariant-conditions::arms-arms : goal.invariant-conditions::arms-arms
+invariant-conditions::arms-arms l = (l.i ≤ l.at) × ArmsRead l.toks l.around l.i l.tree l.at l.height
+
+abbrev pub decreases-conditions::arms-arms : goal.decreases-conditions::arms-arms
+decreases-conditions::arms-arms l = length l.toks - l.at
+
+abbrev pub decreases-assignments::simple : goal.decreases-assignments::simple
+decreases-assignments::simple l = 32 * (length l.toks.now - l.i) + 27
+
+abbrev pub decreases-assignments::assignment : goal.decreases-assignments::assignment
+decreases-assignments::assignment l = 32 * (length l.toks.now - l.i) + 26
+
+abbrev pub decreases-functions::named_function : goal.decreases-functions::named_function
+decreases-functions::named_function l = 32 * (length l.toks.now - l.i) + 27
+
+abbrev pub invariant-blocks::block-stats : goal.invariant-blocks::block-stats
+invariant-blocks::block-stats l = BlockRead l.toks l.around l.i l.tree l.end l.height
+
+abbrev pub decreases-blocks::block-stats : goal.decreases-blocks::block-stats
+decreases-blocks::block-stats l = length l.toks - l.end
+
+abbrev pub invariant-assignments::assignment-targets : goal.invariant-assignments::assignment-targets
+invariant-assignments::assignment-targets l = TargetsRead l.toks l.fn.around (goes_after (sort_at l.toks l.i)) l.i l.tree l.end l.height
+
+abbrev pub decreases-assignments::assignment-targets : goal.decreases-assignments::assignment-targets
+decreases-assignments::assignment-targets l = length l.toks - l.end
