@@ -22,3 +22,6 @@ pub mod tables;
 pub mod tokens;
 
 pub use parser::parse;
+
+#[cfg(test)]
+mod tests;
