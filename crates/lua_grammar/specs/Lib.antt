@@ -1,0 +1,4 @@
+pub mod Tokens
+pub mod Tree
+pub mod View
+pub mod Grammar

@@ -1,0 +1,73 @@
+//! The grammar of Lua (manual 8) as definitions: which tokens spell a chunk, and the first fault of those that spell none.
+//!
+//! - `specs/Tokens.antt`: the sorts of tokens
+//! - `specs/Tree.antt`: chunks as plain trees
+//! - `specs/View.antt`: the plain tree for which a tree of `lua_syntax` stands
+//! - `specs/Grammar.antt`: what spells a tree, case by case, and the faults
+#![tactic(auto)]
+
+/// What a token is to the grammar. `Other` is for bytes that are no keyword or mark of Lua.
+#[derive(Clone, Copy, Debug, PartialEq, Eq)]
+pub enum Sort {
+    Name,
+    Number,
+    Text,
+    Eof,
+    And,
+    Break,
+    Do,
+    Else,
+    Elseif,
+    End,
+    False,
+    For,
+    Function,
+    If,
+    In,
+    Local,
+    Nil,
+    Not,
+    Or,
+    Repeat,
+    Return,
+    Then,
+    True,
+    Until,
+    While,
+    Plus,
+    Minus,
+    Star,
+    Slash,
+    Percent,
+    Caret,
+    Hash,
+    EqEq,
+    NotEq,
+    LessEq,
+    MoreEq,
+    Less,
+    More,
+    Assign,
+    LeftParen,
+    RightParen,
+    LeftBrace,
+    RightBrace,
+    LeftBracket,
+    RightBracket,
+    Semicolon,
+    Colon,
+    Comma,
+    Dot,
+    DotDot,
+    Dots,
+    Other,
+}
+
+/// Where a tree stands: how many nodes are above it, whether in a loop of its function, and whether in a function
+/// whose parameters end with `...`.
+#[derive(Clone, Copy, Debug)]
+pub struct Around {
+    pub above: u32,
+    pub looped: bool,
+    pub dotted: bool,
+}

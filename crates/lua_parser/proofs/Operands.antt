@@ -1,0 +1,245 @@
+-- Operands, by their first token.
+use Rattle.std.proofs.Common.{◌≡◌, ◌≢◌, ℕ, zero, suc, [], ◌-◌, ◌+◌, ◌<◌, ◌≤◌, ◌⊎◌, max, Bool, true, false, cond, nat_lt, nat_le, List, length, refl, sym, ap, subst, ◌∙◌, inl, inr, le_trans, le_refl, lt_of_le_of_lt, lt-suc_self, arith, true≢false, add-one, Option, Some, None}
+use Rattle.std.specs.Prelude.{ℤ}
+use Rattle.lua_lexer.specs.declared.token.Token.{Token}
+use Rattle.lua_number.specs.Numerals.{read_numeral_of}
+use Rattle.lua_syntax.specs.declared.BinaryOp.{BinaryOp}
+use Rattle.lua_syntax.specs.declared.UnaryOp.{UnaryOp}
+use Rattle.lua_syntax.specs.declared.UnaryOp.TheVariants.{Not as NotOp, Len, Minus as MinusOp}
+use Rattle.lua_grammar.specs.declared.Sort.{Sort}
+use Rattle.lua_grammar.specs.declared.Sort.TheVariants.{Name, Number, Text, Nil, True, False, Dots, Function, Not, Hash, Minus, LeftParen, LeftBrace, RightBrace}
+use Rattle.lua_grammar.specs.declared.Around.{Around}
+use Rattle.lua_grammar.specs.Tokens.{sort_at, tok_at, sort_of, bytes_of}
+use Rattle.lua_grammar.specs.Tree.{Exp, Exps, Fields, Fun, NilE, TrueE, FalseE, NumberE, TextE, DotsE, FunctionE, NameE, IndexE, CallE, MethodE, TableE, BinaryE, UnaryE, ParenE}
+use Rattle.lua_grammar.specs.Grammar.{Given, given_of, Span, ◌⨟◌, ◌∣◌, word, text, node, ends, before, under, Is, Agrees, Spells, SpellsFun, SpellsFields, IsPrefix, sign_of, mark_of, left_level, suffix_goes}
+use Rattle.lua_parser.specs.Parsing.{Lang, Stops, Below, Stood, Before, Broke, high, exp_lang, prefix_lang, fields_lang, nothing, goes_on, Stands, IsOperand, Closes, operand_lang, OperandStood, PrefixStood, ExpStood}
+use Rattle.lua_parser.specs.Answers.{body_lang, Grown}
+use Rattle.lua_parser.proofs.Steps.{CanOpen, Kind, Rest, Done, Word, Here, Under, Reads, Left, HasNode}
+use Rattle.lua_parser.proofs.PieceKinds.{open_name, operand_opens, exp_kind, fields_kind, body_kind}
+use Rattle.lua_parser.proofs.Levels.{left-seven}
+use Rattle.lua_parser.proofs.Chains.{raised, before_high, raised_above, left-low}
+use Rattle.lua_parser.proofs.Climb.{operand_level, looser, no_suffix}
+
+-- ---- first tokens
+
+-- Which operands a token begins, as a number.
+abbrev pub class : Sort → ℕ
+class Nil = 1
+class True = 2
+class False = 3
+class Number = 4
+class Text = 5
+class Dots = 6
+class Function = 7
+class LeftBrace = 8
+class Not = 9
+class Hash = 10
+class Minus = 11
+class Name = 12
+class LeftParen = 12
+class s = 0
+
+abbrev pub class_exp : Exp → ℕ
+class_exp (NilE line) = 1
+class_exp (TrueE line) = 2
+class_exp (FalseE line) = 3
+class_exp (NumberE line v) = 4
+class_exp (TextE line v) = 5
+class_exp (DotsE line) = 6
+class_exp (FunctionE line v) = 7
+class_exp (TableE line v) = 8
+class_exp (UnaryE line op v) = class (sign_of op)
+class_exp e = 12
+
+abbrev begins : (ts : List Token) (n i m : ℕ) (s : Sort) (c : ℕ) → class s ≡ c → i ≡ m → i < n → (m < n → sort_at ts m ≡ s) → class (sort_at ts i) ≡ c
+begins ts n i m s c e im lt h = let P : ℕ → Type 0 = λ y. y < n → sort_at ts y ≡ s in ap class (subst P (sym im) h lt) ∙ e
+
+pub prefix_class : (ts : List Token) (w : Around) (n f b l : ℕ) (x : Exp) (i j : ℕ) → i < n → IsPrefix x → Spells (given_of ts n f) (high w b) l x i j → class (sort_at ts i) ≡ 12
+unfolding Spells
+prefix_class ts w n f b l (NameE line y) i j lt p s = begins ts n i s.0 Name 12 refl s.1.2 lt (λ z. (s.2.1.0 z).0)
+prefix_class ts w n f b l (ParenE line y) i j lt p s = begins ts n i s.0 LeftParen 12 refl s.1.2 lt s.2.1.0
+prefix_class ts w n f b l (IndexE line t y) i j lt p s = prefix_class ts w n f (raised n s.0 b) 10 t i s.0 lt s.2 (subst (λ (v : Around). Spells (given_of ts n f) v 10 t i s.0) (before_high ts w n f s.0 b) s.1)
+prefix_class ts w n f b l (CallE line t y) i j lt p s = prefix_class ts w n f (raised n s.0 b) 10 t i s.0 lt s.2 (subst (λ (v : Around). Spells (given_of ts n f) v 10 t i s.0) (before_high ts w n f s.0 b) s.1)
+prefix_class ts w n f b l (MethodE line t z y) i j lt p s = prefix_class ts w n f (raised n s.0 b) 10 t i s.0 lt s.2 (subst (λ (v : Around). Spells (given_of ts n f) v 10 t i s.0) (before_high ts w n f s.0 b) s.1)
+prefix_class ts w n f b l _ i j lt p s = elim p [ ]
+
+pub operand_class : (ts : List Token) (w : Around) (n f b l : ℕ) (x : Exp) (i j : ℕ) → i < n → IsOperand x → Spells (given_of ts n f) (high w b) l x i j → class (sort_at ts i) ≡ class_exp x
+unfolding Spells
+operand_class ts w n f b l (NilE line) i j lt o s = begins ts n i s.0 Nil 1 refl s.1.2 lt s.2.0
+operand_class ts w n f b l (TrueE line) i j lt o s = begins ts n i s.0 True 2 refl s.1.2 lt s.2.0
+operand_class ts w n f b l (FalseE line) i j lt o s = begins ts n i s.0 False 3 refl s.1.2 lt s.2.0
+operand_class ts w n f b l (NumberE line v) i j lt o s = begins ts n i s.0 Number 4 refl s.1.2 lt (λ z. (s.2.0 z).0)
+operand_class ts w n f b l (TextE line v) i j lt o s = begins ts n i s.0 Text 5 refl s.1.2 lt (λ z. (s.2.0 z).0)
+operand_class ts w n f b l (DotsE line) i j lt o s = begins ts n i s.0 Dots 6 refl s.1.2 lt s.2.0
+operand_class ts w n f b l (FunctionE line v) i j lt o s = begins ts n i s.0 Function 7 refl s.1.2 lt s.2.1.0
+operand_class ts w n f b l (TableE line v) i j lt o s = begins ts n i s.0 LeftBrace 8 refl s.1.2 lt s.2.1.0
+operand_class ts w n f b l (UnaryE line op v) i j lt o s = begins ts n i s.1.0 (sign_of op) (class (sign_of op)) refl s.1.1.2 lt s.1.2.1.0
+operand_class ts w n f b l (BinaryE line op t r) i j lt o s = elim o [ ]
+operand_class ts w n f b l (NameE line y) i j lt o s = prefix_class ts w n f b l (NameE line y) i j lt tt s
+operand_class ts w n f b l (ParenE line y) i j lt o s = prefix_class ts w n f b l (ParenE line y) i j lt tt s
+operand_class ts w n f b l (IndexE line t y) i j lt o s = prefix_class ts w n f b l (IndexE line t y) i j lt tt s
+operand_class ts w n f b l (CallE line t y) i j lt o s = prefix_class ts w n f b l (CallE line t y) i j lt tt s
+operand_class ts w n f b l (MethodE line t z y) i j lt o s = prefix_class ts w n f b l (MethodE line t z y) i j lt tt s
+
+pub prefix_of_class : (x : Exp) → IsOperand x → class_exp x ≡ 12 → IsPrefix x
+prefix_of_class (NilE line) o e = absurd (omega (arith, e))
+prefix_of_class (TrueE line) o e = absurd (omega (arith, e))
+prefix_of_class (FalseE line) o e = absurd (omega (arith, e))
+prefix_of_class (NumberE line v) o e = absurd (omega (arith, e))
+prefix_of_class (TextE line v) o e = absurd (omega (arith, e))
+prefix_of_class (DotsE line) o e = absurd (omega (arith, e))
+prefix_of_class (FunctionE line v) o e = absurd (omega (arith, e))
+prefix_of_class (TableE line v) o e = absurd (omega (arith, e))
+prefix_of_class (UnaryE line NotOp v) o e = absurd (omega (arith, e))
+prefix_of_class (UnaryE line Len v) o e = absurd (omega (arith, e))
+prefix_of_class (UnaryE line MinusOp v) o e = absurd (omega (arith, e))
+prefix_of_class (BinaryE line op t r) o e = elim o [ ]
+prefix_of_class _ o e = tt
+
+-- ---- nodes
+
+pub prefix_node : (ts : List Token) (w : Around) (n b l : ℕ) (x : Exp) (i j : ℕ) → i < n → IsPrefix x → Spells (given_of ts n 7) (high w b) l x i j → b ≤ 200
+unfolding Spells
+prefix_node ts w n b l (NameE line y) i j lt p s = s.1.1 refl lt
+prefix_node ts w n b l (ParenE line y) i j lt p s = s.1.1 refl lt
+prefix_node ts w n b l (IndexE line t y) i j lt p s =
+    le_trans (raised_above n s.0 b) (prefix_node ts w n (raised n s.0 b) 10 t i s.0 lt s.2 (subst (λ (v : Around). Spells (given_of ts n 7) v 10 t i s.0) (before_high ts w n 7 s.0 b) s.1))
+prefix_node ts w n b l (CallE line t y) i j lt p s =
+    le_trans (raised_above n s.0 b) (prefix_node ts w n (raised n s.0 b) 10 t i s.0 lt s.2 (subst (λ (v : Around). Spells (given_of ts n 7) v 10 t i s.0) (before_high ts w n 7 s.0 b) s.1))
+prefix_node ts w n b l (MethodE line t z y) i j lt p s =
+    le_trans (raised_above n s.0 b) (prefix_node ts w n (raised n s.0 b) 10 t i s.0 lt s.2 (subst (λ (v : Around). Spells (given_of ts n 7) v 10 t i s.0) (before_high ts w n 7 s.0 b) s.1))
+prefix_node ts w n b l _ i j lt p s = elim p [ ]
+
+pub node_of : (ts : List Token) (w : Around) (n b : ℕ) (i j : ℕ) → i < n → (y : Exp) → IsOperand y → (v : ℕ) → Spells (given_of ts n 7) (high w b) v y i j → b ≤ 200
+unfolding Spells
+node_of ts w n b i j lt (NilE line) o v d = d.1.1 refl lt
+node_of ts w n b i j lt (TrueE line) o v d = d.1.1 refl lt
+node_of ts w n b i j lt (FalseE line) o v d = d.1.1 refl lt
+node_of ts w n b i j lt (NumberE line z) o v d = d.1.1 refl lt
+node_of ts w n b i j lt (TextE line z) o v d = d.1.1 refl lt
+node_of ts w n b i j lt (DotsE line) o v d = d.1.1 refl lt
+node_of ts w n b i j lt (FunctionE line z) o v d = d.1.1 refl lt
+node_of ts w n b i j lt (TableE line z) o v d = d.1.1 refl lt
+node_of ts w n b i j lt (UnaryE line op z) o v d = d.1.1.1 refl lt
+node_of ts w n b i j lt (BinaryE line op t r) o v d = elim o [ ]
+node_of ts w n b i j lt (NameE line y) o v d = prefix_node ts w n b v (NameE line y) i j lt tt d
+node_of ts w n b i j lt (ParenE line y) o v d = prefix_node ts w n b v (ParenE line y) i j lt tt d
+node_of ts w n b i j lt (IndexE line t y) o v d = prefix_node ts w n b v (IndexE line t y) i j lt tt d
+node_of ts w n b i j lt (CallE line t y) o v d = prefix_node ts w n b v (CallE line t y) i j lt tt d
+node_of ts w n b i j lt (MethodE line t z y) o v d = prefix_node ts w n b v (MethodE line t z y) i j lt tt d
+
+pub operand_node : (ts : List Token) (w : Around) (i : ℕ) → HasNode Exp ts (operand_lang ts w) i
+operand_node ts w i x b n j lt s = node_of ts w n b i j lt x s.0 s.1 s.3
+
+-- ---- an operand that stands
+
+pub tight : (ts : List Token) (w : Around) (n f b v : ℕ) (e : Exp) (i q : ℕ) → IsOperand e → v ≤ 9 → (class_exp e ≡ 9 → ⊥) → (class_exp e ≡ 10 → ⊥) → (class_exp e ≡ 11 → ⊥) →
+    Spells (given_of ts n f) (high w b) v e i q → Spells (given_of ts n f) (high w b) 9 e i q
+unfolding Spells
+tight ts w n f b v (UnaryE line NotOp e) i q o nine x y z s = absurd (x refl)
+tight ts w n f b v (UnaryE line Len e) i q o nine x y z s = absurd (y refl)
+tight ts w n f b v (UnaryE line MinusOp e) i q o nine x y z s = absurd (z refl)
+tight ts w n f b v (BinaryE line op t r) i q o nine x y z s = elim o [ ]
+tight ts w n f b v (NameE line y') i q o nine x y z s = (s.0, s.1, (s.2.0, s.2.1, ((λ u. s.2.2.0 nine), s.2.2.1)))
+tight ts w n f b v (ParenE line e) i q o nine x y z s = (s.0, s.1, (s.2.0, s.2.1, (s.2.2.0, s.2.2.1, (s.2.2.2.0, s.2.2.2.1, ((λ u. s.2.2.2.2.0 nine), s.2.2.2.2.1)))))
+tight ts w n f b v (IndexE line t e) i q o nine x y z s = (s.0, s.1, s.2, (s.3.0, s.3.1, (s.3.2.0, s.3.2.1, ((λ u. s.3.2.2.0 nine), s.3.2.2.1))))
+tight ts w n f b v (CallE line t es) i q o nine x y z s = (s.0, s.1, s.2, (s.3.0, s.3.1, (s.3.2.0, s.3.2.1, ((λ u. s.3.2.2.0 nine), s.3.2.2.1))))
+tight ts w n f b v (MethodE line t k es) i q o nine x y z s =
+    (s.0, s.1, s.2, (s.3.0, s.3.1, (s.3.2.0, s.3.2.1, (s.3.2.2.0, s.3.2.2.1, (s.3.2.2.2.0, s.3.2.2.2.1, ((λ u. s.3.2.2.2.2.0 nine), s.3.2.2.2.2.1))))))
+tight ts w n f b v _ i q o nine x y z s = s
+
+pub operand_stood : (ts : List Token) (w : Around) (i : ℕ) (e : Exp) (q h : ℕ) → Stood Exp ts (operand_lang ts w) nothing w.above i e q h → i < q → 1 ≤ h → OperandStood ts w i e q h
+unfolding Stands
+operand_stood ts w i e q h s grows some = record {
+  stood = s;
+  grows = grows;
+  some_node = some;
+  done = λ b n f x. let r = s.stands b n f x in operand_level ts w n f b r.1 7 e i q r.0 (le_refl 7) r.2 r.3;
+  tied = λ op m b n f x. let r = s.stands b n f x in by_level op m b n f r.0 r.1 r.2 r.3;
+}
+  where
+    seven : (op : BinaryOp) → sort_at ts q ≡ mark_of op → (line : ℕ) (u : UnaryOp) (x : Exp) → e ≡ UnaryE line u x → left_level op ≤ 7
+    seven op m line u x same =
+        let r = s.stands w.above (suc q) 5 (λ y. s.height) in
+        let c : Closes ts (suc q) (UnaryE line u x) q = subst (λ (z : Exp). Closes ts (suc q) z q) same r.4 in
+        let P : Sort → Type 0 = λ z. goes_on 7 z ≡ false in
+        left-seven op (subst P m (c (lt-suc_self q)))
+
+    by_level : (op : BinaryOp) → sort_at ts q ≡ mark_of op → (b n f : ℕ) → IsOperand e → (v : ℕ) → v ≤ 9 → Spells (given_of ts n f) (high w b) v e i q → Spells (given_of ts n f) (high w b) (left_level op) e i q
+    by_level op m b n f o v nine d = go e refl o d
+      where
+        down : (x : Exp) → IsOperand x → Spells (given_of ts n f) (high w b) 9 x i q → Spells (given_of ts n f) (high w b) (left_level op) x i q
+        down x ox z = looser ts w n f b (left_level op) 9 x i q (left-low op) (le_refl 9) z
+
+        go : (x : Exp) → e ≡ x → IsOperand x → Spells (given_of ts n f) (high w b) v x i q → Spells (given_of ts n f) (high w b) (left_level op) x i q
+        go (UnaryE line u x) same ox z = operand_level ts w n f b v (left_level op) (UnaryE line u x) i q tt (seven op m line u x same) nine z
+        go (BinaryE line u x y) same ox z = elim ox [ ]
+        go (NilE line) same ox z = down (NilE line) tt (tight ts w n f b v (NilE line) i q tt nine (λ k. omega (arith, k)) (λ k. omega (arith, k)) (λ k. omega (arith, k)) z)
+        go (TrueE line) same ox z = down (TrueE line) tt (tight ts w n f b v (TrueE line) i q tt nine (λ k. omega (arith, k)) (λ k. omega (arith, k)) (λ k. omega (arith, k)) z)
+        go (FalseE line) same ox z = down (FalseE line) tt (tight ts w n f b v (FalseE line) i q tt nine (λ k. omega (arith, k)) (λ k. omega (arith, k)) (λ k. omega (arith, k)) z)
+        go (NumberE line x) same ox z = down (NumberE line x) tt (tight ts w n f b v (NumberE line x) i q tt nine (λ k. omega (arith, k)) (λ k. omega (arith, k)) (λ k. omega (arith, k)) z)
+        go (TextE line x) same ox z = down (TextE line x) tt (tight ts w n f b v (TextE line x) i q tt nine (λ k. omega (arith, k)) (λ k. omega (arith, k)) (λ k. omega (arith, k)) z)
+        go (DotsE line) same ox z = down (DotsE line) tt (tight ts w n f b v (DotsE line) i q tt nine (λ k. omega (arith, k)) (λ k. omega (arith, k)) (λ k. omega (arith, k)) z)
+        go (FunctionE line x) same ox z = down (FunctionE line x) tt (tight ts w n f b v (FunctionE line x) i q tt nine (λ k. omega (arith, k)) (λ k. omega (arith, k)) (λ k. omega (arith, k)) z)
+        go (TableE line x) same ox z = down (TableE line x) tt (tight ts w n f b v (TableE line x) i q tt nine (λ k. omega (arith, k)) (λ k. omega (arith, k)) (λ k. omega (arith, k)) z)
+        go (NameE line x) same ox z = down (NameE line x) tt (tight ts w n f b v (NameE line x) i q tt nine (λ k. omega (arith, k)) (λ k. omega (arith, k)) (λ k. omega (arith, k)) z)
+        go (ParenE line x) same ox z = down (ParenE line x) tt (tight ts w n f b v (ParenE line x) i q tt nine (λ k. omega (arith, k)) (λ k. omega (arith, k)) (λ k. omega (arith, k)) z)
+        go (IndexE line x y) same ox z = down (IndexE line x y) tt (tight ts w n f b v (IndexE line x y) i q tt nine (λ k. omega (arith, k)) (λ k. omega (arith, k)) (λ k. omega (arith, k)) z)
+        go (CallE line x y) same ox z = down (CallE line x y) tt (tight ts w n f b v (CallE line x y) i q tt nine (λ k. omega (arith, k)) (λ k. omega (arith, k)) (λ k. omega (arith, k)) z)
+        go (MethodE line x y y') same ox z = down (MethodE line x y y') tt (tight ts w n f b v (MethodE line x y y') i q tt nine (λ k. omega (arith, k)) (λ k. omega (arith, k)) (λ k. omega (arith, k)) z)
+
+-- ---- prefix expressions as operands
+
+pub to_ten : (ts : List Token) (w : Around) (n f b v : ℕ) (e : Exp) (i j : ℕ) → IsPrefix e → Spells (given_of ts n f) (high w b) v e i j → Spells (given_of ts n f) (high w b) 10 e i j
+unfolding Spells
+to_ten ts w n f b v (NameE line y) i j p s = (s.0, s.1, (s.2.0, s.2.1, ((λ u. absurd (omega (arith, u))), s.2.2.1)))
+to_ten ts w n f b v (ParenE line e) i j p s = (s.0, s.1, (s.2.0, s.2.1, (s.2.2.0, s.2.2.1, (s.2.2.2.0, s.2.2.2.1, ((λ u. absurd (omega (arith, u))), s.2.2.2.2.1)))))
+to_ten ts w n f b v (IndexE line t e) i j p s = (s.0, s.1, s.2, (s.3.0, s.3.1, (s.3.2.0, s.3.2.1, ((λ u. absurd (omega (arith, u))), s.3.2.2.1))))
+to_ten ts w n f b v (CallE line t es) i j p s = (s.0, s.1, s.2, (s.3.0, s.3.1, (s.3.2.0, s.3.2.1, ((λ u. absurd (omega (arith, u))), s.3.2.2.1))))
+to_ten ts w n f b v (MethodE line t k es) i j p s =
+    (s.0, s.1, s.2, (s.3.0, s.3.1, (s.3.2.0, s.3.2.1, (s.3.2.2.0, s.3.2.2.1, (s.3.2.2.2.0, s.3.2.2.2.1, ((λ u. absurd (omega (arith, u))), s.3.2.2.2.2.1))))))
+to_ten ts w n f b v _ i j p s = elim p [ ]
+
+pub from_ten : (ts : List Token) (w : Around) (n f b v : ℕ) (e : Exp) (i j : ℕ) → IsPrefix e → Stops ts suffix_goes n j → Spells (given_of ts n f) (high w b) 10 e i j → Spells (given_of ts n f) (high w b) v e i j
+unfolding Spells
+from_ten ts w n f b v (NameE line y) i j p st s = (s.0, s.1, (s.2.0, s.2.1, ((λ u. subst (λ (z : ℕ). Stops ts suffix_goes n z) (sym s.2.2.1) st), s.2.2.1)))
+from_ten ts w n f b v (ParenE line e) i j p st s = (s.0, s.1, (s.2.0, s.2.1, (s.2.2.0, s.2.2.1, (s.2.2.2.0, s.2.2.2.1, ((λ u. subst (λ (z : ℕ). Stops ts suffix_goes n z) (sym s.2.2.2.2.1) st), s.2.2.2.2.1)))))
+from_ten ts w n f b v (IndexE line t e) i j p st s = (s.0, s.1, s.2, (s.3.0, s.3.1, (s.3.2.0, s.3.2.1, ((λ u. subst (λ (z : ℕ). Stops ts suffix_goes n z) (sym s.3.2.2.1) st), s.3.2.2.1))))
+from_ten ts w n f b v (CallE line t es) i j p st s = (s.0, s.1, s.2, (s.3.0, s.3.1, (s.3.2.0, s.3.2.1, ((λ u. subst (λ (z : ℕ). Stops ts suffix_goes n z) (sym s.3.2.2.1) st), s.3.2.2.1))))
+from_ten ts w n f b v (MethodE line t k es) i j p st s =
+    (s.0, s.1, s.2, (s.3.0, s.3.1, (s.3.2.0, s.3.2.1, (s.3.2.2.0, s.3.2.2.1, (s.3.2.2.2.0, s.3.2.2.2.1, ((λ u. subst (λ (z : ℕ). Stops ts suffix_goes n z) (sym s.3.2.2.2.2.1) st), s.3.2.2.2.2.1))))))
+from_ten ts w n f b v _ i j p st s = elim p [ ]
+
+pub prefix_is_operand : (e : Exp) → IsPrefix e → IsOperand e
+prefix_is_operand (BinaryE line op t r) p = elim p [ ]
+prefix_is_operand _ p = tt
+
+pub prefix_closes : (ts : List Token) (n j : ℕ) (e : Exp) → IsPrefix e → Closes ts n e j
+prefix_closes ts n j (UnaryE line op e) p = elim p [ ]
+prefix_closes ts n j _ p = tt
+
+pub prefix_operand : (ts : List Token) (w : Around) (i : ℕ) (e : Exp) (q h : ℕ) → class (sort_at ts i) ≡ 12 → PrefixStood ts w i e q h → OperandStood ts w i e q h
+prefix_operand ts w i e q h c g = operand_stood ts w i e q h (record {
+  inside = g.stood.inside;
+  ordered = g.stood.ordered;
+  height = g.stood.height;
+  stands = λ b n f x.
+      let r = g.stood.stands b n f x in
+      (prefix_is_operand e r.0, 9, le_refl 9, from_ten ts w n f b 9 e i q r.0 (λ lt. g.stopped) r.1, prefix_closes ts n q e r.0);
+  only = λ x b n f j lt s st.
+      let p = prefix_of_class x s.0 (sym (operand_class ts w n f b s.1 x i j (omega (arith, lt, g.grows)) s.0 s.3) ∙ c) in
+      g.stood.only x b n f j lt (p, to_ten ts w n f b s.1 x i j p s.3) (λ y. no_suffix ts w n f b s.1 i j x s.2 y p s.3);
+}) g.grows g.some_node
+
+pub prefix_operand_fails : (ts : List Token) (w : Around) (i k p : ℕ) → class (sort_at ts i) ≡ 12 → Broke Exp ts (prefix_lang ts w) suffix_goes w.above i k p → Broke Exp ts (operand_lang ts w) nothing w.above i k p
+prefix_operand_fails ts w i k p c g = record {
+  inside = g.inside;
+  ordered = g.ordered;
+  number = g.number;
+  reach = λ n f x.
+      let r = g.reach n f x in
+      (r.0, r.1, r.2, (prefix_is_operand r.0 r.3.0, 9, le_refl 9, from_ten ts w n f w.above 9 r.0 i r.1 r.3.0 (λ lt. absurd (omega (arith, lt, r.2))) r.3.1, prefix_closes ts n r.1 r.0 r.3.0));
+  dead = λ x b n j ab lt s st.
+      let pr = prefix_of_class x s.0 (sym (operand_class ts w n k b s.1 x i j (lt_of_le_of_lt g.ordered lt) s.0 s.3) ∙ c) in
+      g.dead x b n j ab lt (pr, to_ten ts w n k b s.1 x i j pr s.3) (λ y. no_suffix ts w n k b s.1 i j x s.2 y pr s.3);
+}

@@ -1,0 +1,131 @@
+-- The kinds of pieces of which Lua's trees are made.
+use Rattle.std.proofs.Common.{◌≡◌, ◌≢◌, ℕ, zero, suc, [], ◌-◌, ◌+◌, ◌<◌, ◌≤◌, ◌⊎◌, max, Bool, true, false, List, length, ◌∷◌, codes, refl, sym, ap, subst, ◌∙◌, inl, inr, le_refl, lt-suc_self, arith, true≢false}
+use Rattle.lua_lexer.specs.declared.token.Token.{Token}
+use Rattle.lua_grammar.specs.declared.Sort.{Sort}
+use Rattle.lua_grammar.specs.declared.Sort.TheVariants.{Name, Break, Assign}
+use Rattle.lua_grammar.specs.declared.Around.{Around}
+use Rattle.lua_grammar.specs.Tokens.{sort_at, tok_at, bytes_of}
+use Rattle.lua_grammar.specs.Tree.{Exp, Exps, Fields, Fun, Block, Arms, Stat, NameE, TextE, NoExp, MoreExp, NoField, Item, Lambda, NoStat, NoArm, Arm, BreakS}
+use Rattle.lua_grammar.specs.Grammar.{given_of, word, text, word_if, suffix_goes, Spells, SpellsArgs, SpellsAll, MoreExps, SpellsFields, SpellsFun, SpellsMethod, SpellsBlock, SpellsArms, MoreArms, SpellsStat}
+use Rattle.lua_parser.specs.Parsing.{Lang, Stops, Below, Stood, Before, Broke, high, exp_lang, prefix_lang, args_lang, all_lang, more_lang, fields_lang, fun_lang, block_lang, arms_lang, more_arms_lang, stat_lang, nothing, goes_on, exps_goes, names_goes, fields_goes, stat_goes, block_goes, goes_after, arms_goes, operand_lang}
+use Rattle.lua_parser.specs.Answers.{name_lang, names_lang, params_lang, Parameters, params_goes, body_lang, field_lang, field_goes}
+use Rattle.lua_parser.proofs.Steps.{CanOpen, Kind}
+
+-- A name that is yet to come.
+pub open_name : (ts : List Token) (w : Around) (n f b l i : ℕ) → n ≤ i → Spells (given_of ts n f) (high w b) l (NameE (tok_at ts i).line []) i (suc i)
+unfolding Spells
+open_name ts w n f b l i le =
+    (i, (refl, (λ e lt. absurd (omega (arith, le, lt))), refl), (suc i, ((λ lt. absurd (omega (arith, le, lt))), refl), ((λ e lt. absurd (omega (arith, le, lt))), refl)))
+
+pub exp_opens : (ts : List Token) (w : Around) (l : ℕ) → CanOpen Exp (exp_lang ts w l)
+exp_opens ts w l b n f m le = (NameE (tok_at ts m).line [], suc m, omega (arith, le), open_name ts w n f b l m le)
+
+pub operand_opens : (ts : List Token) (w : Around) → CanOpen Exp (operand_lang ts w)
+operand_opens ts w b n f m le = (NameE (tok_at ts m).line [], suc m, omega (arith, le), (tt, 7, omega arith, open_name ts w n f b 7 m le, tt))
+
+pub prefix_opens : (ts : List Token) (w : Around) → CanOpen Exp (prefix_lang ts w)
+prefix_opens ts w b n f m le = (NameE (tok_at ts m).line [], suc m, omega (arith, le), (tt, open_name ts w n f b 10 m le))
+
+pub block_opens : (ts : List Token) (w : Around) → CanOpen Block (block_lang ts w)
+unfolding SpellsBlock
+block_opens ts w b n f m le = (NoStat, m, le, refl)
+
+pub all_opens : (ts : List Token) (w : Around) → CanOpen Exps (all_lang ts w)
+unfolding SpellsAll
+all_opens ts w b n f m le = (MoreExp (NameE (tok_at ts m).line []) NoExp, suc m, omega (arith, le), (suc m, open_name ts w n f b 1 m le, refl))
+
+pub more_opens : (ts : List Token) (w : Around) → CanOpen Exps (more_lang ts w)
+unfolding MoreExps
+more_opens ts w b n f m le = (NoExp, m, le, refl)
+
+pub args_opens : (ts : List Token) (w : Around) → CanOpen Exps (args_lang ts w)
+unfolding SpellsArgs
+args_opens ts w b n f m le = (NoExp, suc (suc m), omega (arith, le), (suc m, ((λ lt. absurd (omega (arith, le, lt))), (λ e lt. absurd (omega (arith, le, lt))), refl), ((λ lt. absurd (omega (arith, le, lt))), refl)))
+
+pub fields_opens : (ts : List Token) (w : Around) → CanOpen Fields (fields_lang ts w)
+unfolding SpellsFields
+fields_opens ts w b n f m le = (NoField, m, le, refl)
+
+pub field_opens : (ts : List Token) (w : Around) → CanOpen Fields (field_lang ts w)
+field_opens ts w b n f m le = (Item (NameE (tok_at ts m).line []) NoField, suc m, omega (arith, le), open_name ts w n f b 1 m le)
+
+pub name_opens : (ts : List Token) (w : Around) → CanOpen Exp (name_lang ts w)
+name_opens ts w b n f m le = (TextE (tok_at ts m).line [], suc m, omega (arith, le), (m, (refl, (λ e lt. absurd (omega (arith, le, lt))), refl), ((λ lt. absurd (omega (arith, le, lt))), refl)))
+
+pub names_opens : (ts : List Token) → CanOpen (List (List ℕ)) (names_lang ts)
+names_opens ts b n f m le = (single, suc m, omega (arith, le), (suc m, ((λ lt. absurd (omega (arith, le, lt))), refl), refl))
+  where
+    single : List (List ℕ)
+    single = [] ∷ []
+
+pub params_opens : (ts : List Token) → CanOpen Parameters (params_lang ts)
+params_opens ts b n f m le = (([], false), m, le, refl)
+
+pub body_opens : (m : Bool) (ts : List Token) (w : Around) → CanOpen Fun (body_lang m ts w)
+unfolding SpellsFun
+body_opens false ts w b n f m le =
+    (Lambda [] false NoStat, suc (suc (suc m)), omega (arith, le), (suc m, ((λ lt. absurd (omega (arith, le, lt))), refl), (suc m, refl, (suc (suc m), ((λ lt. absurd (omega (arith, le, lt))), refl), (suc (suc m), refl, ((λ lt. absurd (omega (arith, le, lt))), refl))))))
+body_opens true ts w b n f m le =
+    (Lambda self false NoStat, suc (suc (suc m)), omega (arith, le), (m, (refl, refl), (suc m, ((λ lt. absurd (omega (arith, le, lt))), refl), (suc m, refl, (suc (suc m), ((λ lt. absurd (omega (arith, le, lt))), refl), (suc (suc m), refl, ((λ lt. absurd (omega (arith, le, lt))), refl)))))))
+  where
+    self : List (List ℕ)
+    self = codes "self" ∷ []
+
+pub more_arms_opens : (ts : List Token) (w : Around) → CanOpen Arms (more_arms_lang ts w)
+unfolding MoreArms
+more_arms_opens ts w b n f m le = (NoArm, m, le, refl)
+
+pub arms_opens : (ts : List Token) (w : Around) → CanOpen Arms (arms_lang ts w)
+unfolding SpellsArms
+arms_opens ts w b n f m le =
+    (Arm (NameE (tok_at ts m).line []) NoStat NoArm, suc (suc m), omega (arith, le), (suc m, open_name ts w n f b 1 m le, (suc (suc m), ((λ lt. absurd (omega (arith, le, lt))), refl), (suc (suc m), refl, refl))))
+
+pub stat_opens : (ts : List Token) (w : Around) → CanOpen Stat (stat_lang ts w)
+unfolding SpellsStat
+stat_opens ts w b n f m le =
+    (BreakS (tok_at ts m).line, suc m, omega (arith, le), (m, (refl, (λ e lt. absurd (omega (arith, le, lt))), refl), ((λ lt. absurd (omega (arith, le, lt))), (λ e lt. absurd (omega (arith, le, lt))), refl)))
+
+abbrev pub exp_kind : List Token → Around → ℕ → Kind Exp
+exp_kind ts w l = record { lang = exp_lang ts w l; goes = goes_on l; open' = exp_opens ts w l }
+
+abbrev pub prefix_kind : List Token → Around → Kind Exp
+prefix_kind ts w = record { lang = prefix_lang ts w; goes = suffix_goes; open' = prefix_opens ts w }
+
+abbrev pub args_kind : List Token → Around → Kind Exps
+args_kind ts w = record { lang = args_lang ts w; goes = nothing; open' = args_opens ts w }
+
+abbrev pub all_kind : List Token → Around → Kind Exps
+all_kind ts w = record { lang = all_lang ts w; goes = exps_goes; open' = all_opens ts w }
+
+abbrev pub more_kind : List Token → Around → Kind Exps
+more_kind ts w = record { lang = more_lang ts w; goes = exps_goes; open' = more_opens ts w }
+
+abbrev pub fields_kind : List Token → Around → Kind Fields
+fields_kind ts w = record { lang = fields_lang ts w; goes = fields_goes; open' = fields_opens ts w }
+
+abbrev pub field_kind : List Token → Around → Kind Fields
+field_kind ts w = record { lang = field_lang ts w; goes = field_goes; open' = field_opens ts w }
+
+abbrev pub name_kind : List Token → Around → Kind Exp
+name_kind ts w = record { lang = name_lang ts w; goes = nothing; open' = name_opens ts w }
+
+abbrev pub names_kind : List Token → Kind (List (List ℕ))
+names_kind ts = record { lang = names_lang ts; goes = names_goes; open' = names_opens ts }
+
+abbrev pub params_kind : List Token → Kind Parameters
+params_kind ts = record { lang = params_lang ts; goes = params_goes; open' = params_opens ts }
+
+abbrev pub body_kind : Bool → List Token → Around → Kind Fun
+body_kind m ts w = record { lang = body_lang m ts w; goes = nothing; open' = body_opens m ts w }
+
+abbrev pub block_kind : List Token → Around → Kind Block
+block_kind ts w = record { lang = block_lang ts w; goes = block_goes; open' = block_opens ts w }
+
+abbrev pub more_arms_kind : List Token → Around → Kind Arms
+more_arms_kind ts w = record { lang = more_arms_lang ts w; goes = arms_goes; open' = more_arms_opens ts w }
+
+abbrev pub arms_kind : List Token → Around → Kind Arms
+arms_kind ts w = record { lang = arms_lang ts w; goes = arms_goes; open' = arms_opens ts w }
+
+abbrev pub stat_kind : List Token → Around → Sort → Kind Stat
+stat_kind ts w first = record { lang = stat_lang ts w; goes = goes_after first; open' = stat_opens ts w }

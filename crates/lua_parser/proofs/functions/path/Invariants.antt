@@ -1,0 +1,10 @@
+use Rattle.std.proofs.Common.{◌≡◌, ◌<◌, length, ℕ, ◌+◌, ◌-◌}
+use Rattle.lua_grammar.specs.View.{expr_view}
+use Rattle.lua_parser.proofs.PathExits.{PathState}
+use Rattle.lua_parser.proofs.functions.path.Given as goal
+
+abbrev pub invariant-marks : goal.invariant-marks
+invariant-marks l = PathState l.toks l.around l.i (expr_view l.path) l.end l.height
+
+abbrev pub decreases-marks : goal.decreases-marks
+decreases-marks l = length l.toks - l.end

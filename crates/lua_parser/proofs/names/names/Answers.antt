@@ -1,0 +1,34 @@
+use Rattle.std.proofs.Common.{◌≡◌, ◌<◌, length, ℕ, refl}
+use Rattle.lua_grammar.specs.declared.Sort.TheVariants.{Comma, Name}
+use Rattle.lua_parser.proofs.StatBegins.{behind_word}
+use Rattle.lua_parser.proofs.StatExits.{read_is, read_not}
+use Rattle.lua_parser.proofs.NameLists.{names_first, names_next, names_done, names_fail}
+use Rattle.lua_parser.proofs.names.names.Goals as goal
+
+pub names-init : goal.names-init
+names-init c = names_first _ _ _ _ _ c.requires.ended c.requires.inside c.requires.begins c.in_ok-first.ensures c.new-tree.ensures c.in_ok-push.ensures.ok
+
+pub returns-in_default : goal.returns-in_default
+returns-in_default c =
+    let r = c.names.invariant in
+    (r.0, r.1, names_done _ _ _ _ r.2 r.3 (read_not c.sort_at.ensures c.in_default.not-Comma))
+
+pub sort_at-requires-in-names : goal.sort_at-requires-in-names
+sort_at-requires-in-names c =
+    let r = c.names.invariant in
+    behind_word _ _ Comma c.requires.ended r.3 (read_is c.sort_at.ensures c.in-Comma.is) refl
+
+pub returns-in_default-sort_at : goal.returns-in_default-sort_at
+returns-in_default-sort_at c =
+    let r = c.names.invariant in
+    rw c.bad.ensures (names_fail _ _ _ _ c.requires.ended r.2 r.3 (read_is c.sort_at.ensures c.in-Comma.is) (read_not c.sort_at-in-names.ensures c.in_default-sort_at.not-Name))
+
+pub copy_at-requires-in-names : goal.copy_at-requires-in-names
+copy_at-requires-in-names c =
+    let r = c.names.invariant in
+    behind_word _ _ Comma c.requires.ended r.3 (read_is c.sort_at.ensures c.in-Comma.is) refl
+
+pub names-preserved : goal.names-preserved
+names-preserved c =
+    let r = c.names.invariant in
+    names_next _ _ _ _ _ _ c.requires.ended r (read_is c.sort_at.ensures c.in-Comma.is) (read_is c.sort_at-in-names.ensures c.in-Name.is) c.in_ok-next.ensures c.in_ok-push-2.ensures.ok

@@ -1,0 +1,9 @@
+use Rattle.std.proofs.Common.{◌≡◌, ◌<◌, length, ℕ, ◌+◌, ◌-◌}
+use Rattle.lua_parser.proofs.NameLists.{NamesRead}
+use Rattle.lua_parser.proofs.names.names.Given as goal
+
+abbrev pub invariant-names : goal.invariant-names
+invariant-names l = NamesRead l.toks l.i l.tree l.end
+
+abbrev pub decreases-names : goal.decreases-names
+decreases-names l = length l.toks - l.end
