@@ -1,0 +1,83 @@
+#!/usr/bin/env python3
+"""Times the lexing and the parsing of long Lua texts.
+
+  bench/parser.py crates/parser_bench/out/parser_bench
+
+For each text: its bytes, the seconds of processor time of its lexing alone and of its parsing (which lexes it first), and how much
+longer the parsing takes. Of each the best of some rounds counts, so that other work on the machine disturbs little. What the
+program takes to start is timed on an empty text and taken off.
+"""
+import os
+import subprocess
+import sys
+
+ROUNDS, START_ROUNDS, LARGE = 7, 40, 1 << 21
+FUNCTION = """
+-- The %d-th of many functions.
+function p.f%d(frame, ...)
+  local args, out = frame.args, { [1] = 'one', two = "two" }
+  for i, value in ipairs(args) do
+    if value ~= '' and i %% 2 == 0 or #out > %d then
+      out[#out + 1] = '[[' .. value:gsub('^%%s+', ""):lower() .. ']]'
+    elseif not args[i + 1] then
+      break
+    else
+      while i < 10 do i = (i + 1) * 2 - 1 end
+    end
+  end
+  return table.concat(out, ', '), function(x) return x.y[i](x, ...) end
+end
+"""
+
+
+def module(size):
+    text, number = ["local p = {}\n"], 0
+    length = len(text[0])
+    while length < size:
+        text.append(FUNCTION % (number, number, number))
+        length += len(text[-1])
+        number += 1
+    return "".join(text + ["return p\n"])
+
+
+TEXTS = {
+    "a module, 128 KiB": module(LARGE >> 4),
+    "a module, 2 MiB": module(LARGE),
+    "20,000 statements": "x = 1\n" * 20000,
+    "200,000 statements": "x = 1\n" * 200000,
+    "20,000 fields": "return {" + "x = 1, " * 20000 + "}",
+    "200,000 fields": "return {" + "x = 1, " * 200000 + "}",
+    "200,000 arguments": "f(1" + ", 1" * 199999 + ")",
+    "200,000 deep": "x = " + "(" * 200000,
+    "200,000 operators": "x = 1" + " + 1" * 200000,
+}
+
+
+def seconds(program, page):
+    running = subprocess.Popen([program], stdin=subprocess.PIPE, stdout=subprocess.PIPE)
+    running.stdin.write(page)
+    running.stdin.close()
+    said = running.stdout.read().decode().strip()
+    _, status, used = os.wait4(running.pid, 0)
+    running.returncode = status
+    if status != 0:
+        sys.exit(f"{program} ended with {status}")
+    return used.ru_utime + used.ru_stime, said
+
+
+def best(program, page, rounds):
+    return min(seconds(program, page) for _ in range(rounds))
+
+
+def main():
+    program = sys.argv[1]
+    start, _ = best(program, b"", START_ROUNDS)
+    print(f"{'text':20} {'bytes':>8} {'lexing':>8} {'parsing':>8}")
+    for name, text in TEXTS.items():
+        lexing, _ = best(program, ("lex\n" + text).encode(), ROUNDS)
+        parsing, said = best(program, ("parse\n" + text).encode(), ROUNDS)
+        lexing, parsing = lexing - start, parsing - start
+        print(f"{name:20} {len(text):8} {lexing:7.3f}s {parsing:7.3f}s {parsing / lexing:6.2f}x  {said}")
+
+
+main()
