@@ -1,2 +1,4 @@
+pub mod ItemLemmas
+pub mod NumberLemmas
 pub mod PutLemmas
 pub mod RunLemmas

@@ -1,3 +1,4 @@
 pub mod Command
+pub mod Items
 pub mod Outcome
 pub mod Report

@@ -1,6 +1,7 @@
 //! Renders pages of a folder of wiki files.
 //!
-//! - `command`: the words of the command line
+//! - `items`: the words of the command line as texts, some of them given for an option
+//! - `command`: the command that the words are
 //! - `answer`: what a title gives on the pages of a folder
 //! - `report`: what a run is to answer
 //! - `put`: putting a report to the two streams
@@ -9,6 +10,7 @@
 
 mod answer;
 mod command;
+mod items;
 mod put;
 mod report;
 mod wiki_app;

@@ -26,7 +26,7 @@ fn prepare<S: Shelf>(
     command: &Command<'_>,
     shelf: &mut S,
 ) -> Result<Report, ShelfFault>
-    ensures report { IfOk result (λ report. IfSome (S.files shelf.old) (λ held. report ≡ report_of (record { folder = command.now.folder.now; page = command.now.page }) (wiki_of (files_of command.now.folder.now held)))) }
+    ensures report { IfOk result (λ report. IfSome (S.files shelf.old) (λ held. report ≡ report_of (record { folder = command.now.folder.now; page = command.now.page; limits = command.now.limits }) (wiki_of (files_of command.now.folder.now held)))) }
     ensures work { IfOk result (λ report. IsWork report.status) }
     ensures cause { result ≡ Err ShelfFault.Failed → Rose (S.faults shelf.old) (S.faults shelf.new) }
 {
