@@ -7,8 +7,7 @@ braces pair is taken from `markup_reference.py`.
   expand_reference.py check FILE      runs the cases of a table and tells each whose output differs
   expand_reference.py page DIR PAGE   prints the text of a page of a folder
 
-FILE is a table of cases, or a source file that holds one between r#\" and \"#. The form of a table is told in
-crates/wikiexpand/src/cases.rt.
+FILE is crates/wikiexpand/src/cases.rt, which tells the form of a table, or a table of that form by itself.
 """
 import os
 import re
@@ -241,13 +240,13 @@ def unescaped(text):
     return re.sub(rb"\\(?:(n|t|r|\\|x[0-9a-f]{2})|\(([0-9]+):([^)]*)\))", byte, text)
 
 
-def cases_of(table):
-    """for each case: its line's number, its words behind the verb, its files, and its output"""
-    words, files = [b"d", b"P"], {}
+def each_case(table):
+    """for each case: its line's number, its words, its files, and its output"""
+    words, files = [b"expand", b"d", b"P"], {}
     for number, line in enumerate(table.split(b"\n"), 1):
         if line.startswith(b">"):
             yield number, words, files, unescaped(line[1:])
-            words = [b"d", b"P"]
+            words = [b"expand", b"d", b"P"]
         elif line.startswith(b"$"):
             words = line[1:].split(b" ")
         elif not line:
@@ -267,18 +266,18 @@ def run_case(words, files):
             size = int(number if given else words.pop(0))
         else:
             values.append(name + given + number)
-    return Wiki(files, title_of(values[1], ""), Left(nodes, size)).text()
+    return Wiki(files, title_of(values[2], ""), Left(nodes, size)).text()
 
 
 def table_in(path):
     text = open(path, "rb").read()
-    found = re.search(rb'r#"\n(.*?)"#', text, re.DOTALL)
+    found = re.search(rb'const TABLE: &str = r#"\n(.*?)"#', text, re.DOTALL)
     return found.group(1) if found else text
 
 
 def check(path):
     count = wrong = 0
-    for number, words, files, wanted in cases_of(table_in(path)):
+    for number, words, files, wanted in each_case(table_in(path)):
         count += 1
         got = run_case(words, files)
         if got != wanted:

@@ -1,5 +1,5 @@
 -- What a run leaves where a read failed.
-use Rattle.std.proofs.Common.{◌≡◌, ℕ, false, List, [], ◌∷◌, inr, refl, sym, append-nil}
+use Rattle.std.proofs.Common.{ℕ, List, inr, refl, sym, append-nil}
 use Rattle.std.specs.Prelude.{Option, Some, None, IfSome}
 use Rattle.wk_shelf.specs.Put.{PutsSome}
 use Rattle.wikiexpand.specs.Report.{read_line}

@@ -1,5 +1,5 @@
 -- The words of a command line: texts, some of them given for an option.
-use Rattle.std.specs.Prelude.{ℕ, Bool, true, false, ◌==◌, if◌then◌else◌, List, [], ◌∷◌, map, Option, Some, None, option_map, codes}
+use Rattle.std.specs.Prelude.{ℕ, Bool, false, ◌==◌, if◌then◌else◌, List, [], ◌∷◌, Option, Some, None, option_map, codes}
 use Rattle.std.specs.List.{list_any, cons_option, before_first, after_first}
 use Rattle.std.specs.Str.{bytes_eq}
 use Rattle.wikiexpand.specs.declared.items.Allowance.{Allowance}

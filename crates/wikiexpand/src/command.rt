@@ -1,5 +1,6 @@
 //! The words of the command line.
-ghost use Rattle.std.specs.Prelude.{◌≡◌, ◌∷◌, [], true, false, Some, MatchOption, IfOk, IfSome, IsOk, IsSome, map, string_bytes, option_map};
+ghost use Rattle.std.specs.Prelude.{◌≡◌, ◌≤◌, ◌∷◌, [], true, false, Some, MatchOption, IfOk, IfSome, IsOk, IsSome, map, string_bytes, option_map};
+ghost use Rattle.wk_base.specs.Allowances.{IsCountable};
 ghost use Rattle.wikiexpand.specs.Command.{number_within, same_option, texts_for, setting, nodes_of, bytes_of, limits_with, default_limits, command_from, command_of, begins_command};
 
 use crate::items::{Allowance, Item, items_of};
@@ -31,7 +32,8 @@ const MOST_BYTES: u64 = 16_000_000;
 
 /// The number that digits write, with a plus before them or none, where it is at most `bound`.
 fn number_within(bound: u64, text: &str) -> Option<u64>
-    ensures { result ≡ number_within bound text.now }
+    ensures number { result ≡ number_within bound text.now }
+    ensures at_most { IfSome result (λ number. number ≤ bound) }
 {
     match text.parse::<u64>() {
         Ok(number) => (number <= bound).then_some(number),
@@ -69,7 +71,9 @@ fn next_text<'i, 'w>(
 
 /// The number that is given for an allowance, or else `unsaid`. None where there are two numbers, or one above the bound.
 fn setting(allowance: Allowance, bound: u64, unsaid: u64, items: &[Item<'_>]) -> Option<u64>
-    ensures { result ≡ setting bound unsaid (texts_for (Some allowance) items.now) }
+    requires { unsaid ≤ bound }
+    ensures setting { result ≡ setting bound unsaid (texts_for (Some allowance) items.now) }
+    ensures at_most { IfSome result (λ number. number ≤ bound) }
 {
     let Some((text, rest)) = next_text(Some(allowance), items) else {
         return Some(unsaid);
@@ -82,7 +86,8 @@ fn setting(allowance: Allowance, bound: u64, unsaid: u64, items: &[Item<'_>]) ->
 
 /// How much a page may use.
 fn limits_of(items: &[Item<'_>]) -> Option<Limits>
-    ensures { result ≡ limits_with (nodes_of items.now) (bytes_of items.now) }
+    ensures limits { result ≡ limits_with (nodes_of items.now) (bytes_of items.now) }
+    ensures countable { IfSome result IsCountable }
 {
     let nodes = setting(Allowance::Nodes, MOST_NODES, DEFAULT_LIMITS.nodes, items)?;
     let bytes = setting(Allowance::Bytes, MOST_BYTES, DEFAULT_LIMITS.bytes, items)?;
@@ -95,7 +100,8 @@ fn limits_of(items: &[Item<'_>]) -> Option<Limits>
 
 /// The command of the items, if they are one.
 fn command_from<'w>(alloc: Global, items: &[Item<'w>]) -> Result<Option<Command<'w>>, NoMemory>
-    ensures { IfOk result (λ command. option_map (λ c. record { folder = c.folder.now; page = c.page; limits = c.limits }) command ≡ command_from items.now) }
+    ensures command { IfOk result (λ command. option_map (λ c. record { folder = c.folder.now; page = c.page; limits = c.limits }) command ≡ command_from items.now) }
+    ensures countable { IfOk result (λ command. IfSome command (λ c. IsCountable c.limits)) }
 {
     let Some((folder, rest)) = next_text(None, items) else {
         return Ok(None);
@@ -124,6 +130,7 @@ fn command_from<'w>(alloc: Global, items: &[Item<'w>]) -> Result<Option<Command<
 #[tactic(auto, unfolding(crate::specs::Command::command_of))]
 pub fn read_command<'w>(alloc: Global, words: &'w [String]) -> Result<Option<Command<'w>>, NoMemory>
     ensures command { IfOk result (λ command. option_map (λ c. record { folder = c.folder.now; page = c.page; limits = c.limits }) command ≡ command_of (map string_bytes words.now)) }
+    ensures countable { IfOk result (λ command. IfSome command (λ c. IsCountable c.limits)) }
     ensures some { IfOk result (λ command. IfSome command (λ _. IsSome (command_of (map string_bytes words.now)))) }
     ensures begins { IfOk result (λ command. IfSome command (λ _. begins_command (map string_bytes words.now) ≡ true)) }
     ensures other_word { begins_command (map string_bytes words.now) ≡ false → IsOk result }
