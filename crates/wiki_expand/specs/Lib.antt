@@ -1,0 +1,6 @@
+pub mod Texts
+pub mod Kind
+pub mod Places
+pub mod Expand
+pub mod Told
+pub mod Examples
