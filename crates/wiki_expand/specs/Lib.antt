@@ -4,3 +4,5 @@ pub mod Places
 pub mod Expand
 pub mod Told
 pub mod Examples
+pub mod Forests
+pub mod Pages

@@ -14,12 +14,16 @@ planted Construct inside rest = node Construct inside rest
 planted Parameter inside rest = node Parameter inside rest
 planted Part inside rest = node Part inside rest
 
+-- how many of the nodes behind one stand in it
+abbrev pub reach : ℕ → Node → ℕ
+reach at x = x.end - (at + 1)
+
 -- of at most n nodes, the first of them at this place
 unfoldable pub trees_by : ℕ → ℕ → List Node → Trees
 trees_by n at [] = done
 trees_by zero at (x ∷ xs) = done
 trees_by (suc n) at (x ∷ xs) =
-    planted x.kind (trees_by n (at + 1) (take (x.end - (at + 1)) xs)) (trees_by n x.end (drop (x.end - (at + 1)) xs))
+    planted x.kind (trees_by n (at + 1) (take (reach at x) xs)) (trees_by n (at + 1 + reach at x) (drop (reach at x) xs))
 
 -- THE TREES of nodes in preorder, the first of them at this place
 unfoldable pub trees_at : ℕ → List Node → Trees

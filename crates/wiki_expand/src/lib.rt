@@ -2,4 +2,6 @@
 //! Help:Extension:ParserFunctions).
 #![tactic(auto)]
 
-pub mod texts;
+mod forest;
+pub mod pages;
+mod stack;

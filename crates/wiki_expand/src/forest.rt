@@ -1,0 +1,117 @@
+//! Trees side by side, as a stretch of the nodes that they are read from.
+ghost use Rattle.std.specs.Prelude.{◌≡◌, ◌+◌, ◌-◌, ◌<◌, ◌≤◌, min, max, slice_get, MatchOption, None, Some, IfOk};
+ghost use Rattle.std.specs.Option.{option_copied};
+ghost use Rattle.wiki_markup.specs.Trees.{done};
+ghost use Rattle.wiki_expand.specs.Places.{trees_at, part_in, others_in, value_in};
+ghost use Rattle.wiki_expand.specs.Forests.{nodes_in, trees_in, size, Splits, Falls, option_trees, option_size};
+
+use std::rc::Rc;
+use wiki_markup::{Marked, Node, NodeKind};
+use wk_base::{Bytes, NoMemory};
+
+/// The nodes of a page that is held, or of a text of its own.
+#[derive(Drop)]
+pub enum Nodes<'w> {
+    Held(&'w [Node]),
+    Own(Rc<Marked>),
+}
+
+/// The trees of the nodes from `at` up to, but not including, `end`.
+#[derive(Drop)]
+pub struct Forest<'w> {
+    nodes: Nodes<'w>,
+    at: usize,
+    end: usize,
+}
+
+/// The first tree of a forest, with what stands in it, and the trees behind it.
+#[derive(Drop)]
+pub enum Split<'f, 'w> {
+    Nothing,
+    Text(&'f Bytes, Forest<'w>),
+    Equals(Forest<'w>),
+    Construct(Forest<'w>, Forest<'w>),
+    Parameter(Forest<'w>, Forest<'w>),
+    Part(Forest<'w>, Forest<'w>),
+}
+
+impl<'w> Nodes<'w> {
+    fn as_slice(&self) -> &[Node]
+        ensures { result.now ≡ nodes_in self.now }
+    {
+        match self {
+            Nodes::Held(nodes) => nodes,
+            Nodes::Own(marked) => marked.as_ref().nodes.as_slice(),
+        }
+    }
+
+    fn copy(&self) -> Result<Nodes<'w>, NoMemory>
+        ensures { IfOk result (λ copy. nodes_in copy ≡ nodes_in self.now) }
+    {
+        match self {
+            Nodes::Held(nodes) => Ok(Nodes::Held(nodes)),
+            Nodes::Own(marked) => match marked.clone() {
+                Ok(marked) => Ok(Nodes::Own(marked)),
+                Err(_) => Err(NoMemory),
+            },
+        }
+    }
+}
+
+/// The place `end`, or the nearest one from `first` to `last`.
+fn clamped(end: usize, first: usize, last: usize) -> usize
+    ensures { result ≡ min (max end first) last }
+{
+    end.max(first).min(last)
+}
+
+impl<'w> Forest<'w> {
+    /// All trees of some nodes.
+    pub fn all(nodes: Nodes<'w>) -> Forest<'w>
+        ensures trees { trees_in result ≡ trees_at 0 (nodes_in nodes.entry) }
+    {
+        let end = nodes.as_slice().len();
+        Forest { nodes, at: 0, end }
+    }
+
+    /// The trees of the nodes from `at` up to `end`.
+    fn part(&self, at: usize, end: usize) -> Result<Forest<'w>, NoMemory>
+        ensures nodes { IfOk result (λ f. nodes_in f.nodes ≡ nodes_in self.now.nodes) }
+        ensures at { IfOk result (λ f. f.at ≡ at) }
+        ensures end { IfOk result (λ f. f.end ≡ end) }
+    {
+        let nodes = self.nodes.copy()?;
+        Ok(Forest { nodes, at, end })
+    }
+
+    fn first(&self) -> Option<&Node>
+        ensures { option_copied result ≡ slice_get (nodes_in self.now.nodes) self.now.at }
+    {
+        self.nodes.as_slice().get(self.at)
+    }
+
+    /// The first tree, and what stands in it and behind it.
+    pub fn split(&self) -> Result<Split<'_, 'w>, NoMemory>
+        ensures splits { IfOk result (λ s. Splits s (trees_in self.now)) }
+        ensures falls { IfOk result (λ s. Falls s (size self.now)) }
+    {
+        if self.at >= self.end {
+            return Ok(Split::Nothing);
+        }
+        match self.first() {
+            None => Ok(Split::Nothing),
+            Some(node) => {
+                let cut = clamped(node.end, self.at + 1, self.end);
+                let inside = self.part(self.at + 1, cut)?;
+                let rest = self.part(cut, self.end)?;
+                match &node.kind {
+                    NodeKind::Text(bytes) => Ok(Split::Text(bytes, rest)),
+                    NodeKind::Equals => Ok(Split::Equals(rest)),
+                    NodeKind::Construct => Ok(Split::Construct(inside, rest)),
+                    NodeKind::Parameter => Ok(Split::Parameter(inside, rest)),
+                    NodeKind::Part => Ok(Split::Part(inside, rest)),
+                }
+            }
+        }
+    }
+}
