@@ -1,15 +1,12 @@
 -- THE EXPANSION of a text as its events (MediaWiki, Help:Templates, Help:Extension:ParserFunctions; Extension:Scribunto, "#invoke").
 -- A construct or a parameter is not entered where it stands: it is opened, at one node, and `meant` says what then stands for it.
-use Rattle.std.specs.Prelude.{ℕ, ◌+◌, Bool, true, false, cond, ◌||◌, ◌==◌, List, [], ◌∷◌, ◌++◌, length, codes, decimal, bytes_eq, Option, Some, None, Result, Ok, Err}
+use Rattle.std.specs.Prelude.{ℕ, ◌+◌, Bool, true, false, cond, ◌||◌, ◌==◌, List, [], ◌∷◌, ◌++◌, length, codes, decimal, bytes_eq, Option, Some, None}
 use Rattle.std.specs.List.{list_any}
 use Rattle.wk_base.specs.Space.{trim}
-use Rattle.wk_base.specs.Titles.{title_of}
 use Rattle.wk_base.specs.declared.title.Namespace.{Namespace}
 use Rattle.wk_base.specs.declared.title.Namespace.TheVariants.{Module}
 use Rattle.wk_base.specs.declared.title.Title.{Title}
-use Rattle.wk_base.specs.declared.title_read.TitleFault.{TitleFault}
 use Rattle.wk_base.specs.contracts.title.TitlePartialEq.TheImpl as titles
-use Rattle.wk_base.specs.contracts.title.NamespacePartialEq.TheImpl as namespaces
 use Rattle.wiki_markup.specs.declared.marked.NodeKind.{NodeKind}
 use Rattle.wiki_markup.specs.declared.marked.NodeKind.TheVariants.{Construct, Parameter}
 use Rattle.wiki_markup.specs.Trees.{Trees, done, text, equals, node}
@@ -19,7 +16,7 @@ use Rattle.mw_frame.specs.declared.scene.Job.{Job}
 use Rattle.page_run.specs.Run.{Use, TakeBytes, EnterDepth, LeaveDepth, HasTemplate, EnterTemplate, LeaveTemplate, Run}
 use Rattle.page_run.specs.Part.{Part, ◌>>=◌, give, try_use, open_or, ask}
 use Rattle.wiki_expand.specs.Texts.{node_text, size_text, depth_text, loop_text, missing_text, no_function_text, no_module_text, are_equal}
-use Rattle.wiki_expand.specs.Kind.{Kind, Written, Word, If, IfEq, Switch, Invoke, Include, kind_of}
+use Rattle.wiki_expand.specs.Kind.{Kind, Written, Word, If, IfEq, Switch, Invoke, Include, title_named, kind_of}
 use Rattle.wiki_expand.specs.Places.{part_in, first_in, others_in, no_part, name_in, value_in}
 
 -- WHERE a text is expanded: the pages that can be included, as they are read for it, and the page that is expanded
@@ -233,9 +230,9 @@ if_held true None title = None
 if_held false page title = None
 
 -- the page of namespace Module that a text names
-abbrev pub module_titled : Setting → Result Title TitleFault → Option Title
-module_titled w (Ok title) = if_held (is_module title.ns) (w.included title) title
-module_titled w (Err fault) = None
+abbrev pub module_titled : Setting → Option Title → Option Title
+module_titled w (Some title) = if_held (is_module title.ns) (w.included title) title
+module_titled w None = None
 
 abbrev pub job_of : Title → List ℕ → List Arg → Scene → Job
 job_of title function args sc = record {
@@ -255,7 +252,7 @@ invoke_with w name None rest sc = give no_function_text
 invoke_with w name (Some part) rest sc = do
   function ← expand part sc
   args ← arguments rest sc none_given
-  invocation (module_titled w (title_of name Module)) name (trim function) args sc
+  invocation (module_titled w (title_named name Module)) name (trim function) args sc
 
 abbrev pub invoke : Setting → List ℕ → Trees → Scene → Doing (List ℕ)
 invoke w name parts sc = invoke_with w name (part_in parts) (others_in parts) sc

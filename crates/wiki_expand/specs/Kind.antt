@@ -3,7 +3,8 @@
 use Rattle.std.specs.Prelude.{ℕ, Bool, ◌&&◌, if◌then◌else◌, List, [], ◌∷◌, ◌++◌, length, take, drop, codes, bytes_eq, unwrap_or, Option, Some, None, Result, Ok, Err}
 use Rattle.std.specs.Str.{str_eq_ignore_ascii_case}
 use Rattle.wk_base.specs.Space.{trim}
-use Rattle.wk_base.specs.Titles.{prefix_of, title_text, title_of, cut_at_colon}
+use Rattle.wk_base.specs.Titles.{prefix_of, title_text, title_of}
+use Rattle.wk_base.specs.declared.title.Namespace.{Namespace}
 use Rattle.wk_base.specs.declared.title.Namespace.TheVariants.{Template}
 use Rattle.wk_base.specs.declared.title.Title.{Title}
 use Rattle.wk_base.specs.declared.title_read.TitleFault.{TitleFault}
@@ -20,6 +21,14 @@ pub data Kind : Type 0 where
   Invoke : (name : List ℕ) → Kind
   -- a template, or another page that is included
   Include : (title : Title) → Kind
+
+-- the title that a text is read as, if it is one
+abbrev pub if_title : Result Title TitleFault → Option Title
+if_title (Ok title) = Some title
+if_title (Err fault) = None
+
+unfoldable pub title_named : List ℕ → Namespace → Option Title
+title_named text default = if_title (title_of text default)
 
 -- what stands behind a prefix, in any case of its letters
 unfoldable pub behind : List ℕ → List ℕ → Option (List ℕ)
@@ -40,31 +49,27 @@ word_of page text =
     else if bytes_eq text (codes "NAMESPACE") then Some (prefix_of page.ns)
     else None
 
--- 3. The parser function that the text before the first colon names, in any case.
-unfoldable pub function_of : List ℕ → List ℕ → Option Kind
-function_of name argument =
-    if str_eq_ignore_ascii_case name (codes "#if") then Some (If argument)
-    else if str_eq_ignore_ascii_case name (codes "#ifeq") then Some (IfEq argument)
-    else if str_eq_ignore_ascii_case name (codes "#switch") then Some (Switch argument)
-    else if str_eq_ignore_ascii_case name (codes "#invoke") then Some (Invoke argument)
-    else None
+-- 3. A parser function: its name and a colon in front, in any case.
+abbrev pub named : Option (List ℕ) → (List ℕ → Kind) → Kind → Kind
+named (Some argument) function other = function argument
+named None function other = other
 
-abbrev pub function_at : Option (List ℕ × List ℕ) → Option Kind
-function_at None = None
-function_at (Some parts) = function_of parts.0 parts.1
+-- 4. The title of a template, or of a page in another namespace.
+abbrev pub titled : Option Title → Kind
+titled (Some title) = Include title
+titled None = Written
 
--- 4. The title of a template.
-abbrev pub titled : Result Title TitleFault → Kind
-titled (Ok title) = Include title
-titled (Err fault) = Written
-
-abbrev pub function_or_title : Option Kind → List ℕ → Kind
-function_or_title (Some kind) text = kind
-function_or_title None text = titled (title_of text Template)
+unfoldable pub function_or_title : List ℕ → Kind
+function_or_title text =
+    named (behind (codes "#if:") text) If
+    (named (behind (codes "#ifeq:") text) IfEq
+    (named (behind (codes "#switch:") text) Switch
+    (named (behind (codes "#invoke:") text) Invoke
+    (titled (title_named text Template)))))
 
 abbrev pub word_or_other : Option (List ℕ) → List ℕ → Kind
 word_or_other (Some word) text = Word word
-word_or_other None text = function_or_title (function_at (cut_at_colon text)) text
+word_or_other None text = function_or_title text
 
 -- `alone`: the construct has one part
 abbrev pub plain_kind : Bool → Title → List ℕ → Kind

@@ -6,3 +6,4 @@ pub mod Told
 pub mod Examples
 pub mod Forests
 pub mod Pages
+pub mod Kinds

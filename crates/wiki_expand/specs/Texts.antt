@@ -1,7 +1,6 @@
 -- The texts that stand where an expansion is refused, and the equality of two texts. Their wording is this program's own.
-use Rattle.std.specs.Prelude.{ℕ, ◌-◌, Bool, ◌||◌, ◌&&◌, ◌==◌, not, nat_le, nat_lt, if◌then◌else◌, List, [], ◌∷◌, ◌++◌, length, flat_map, codes, bytes_eq, Option, Some, None}
+use Rattle.std.specs.Prelude.{ℕ, ◌+◌, ◌*◌, ◌-◌, Bool, true, false, ◌||◌, ◌&&◌, ◌==◌, not, nat_le, nat_lt, if◌then◌else◌, List, [], ◌∷◌, ◌++◌, length, flat_map, codes, bytes_eq, Option, Some, None}
 use Rattle.std.specs.List.{list_all}
-use Rattle.std.specs.Str.Parse.{digits_value}
 use Rattle.wk_base.specs.declared.title.Title.{Title}
 use Rattle.wk_base.specs.Titles.{title_text}
 
@@ -44,11 +43,7 @@ no_function_text = error_text (codes "Script error: You must specify a function 
 unfoldable pub no_module_text : List ℕ → List ℕ
 no_module_text name = error_text (codes "Script error: No such module \"" ++ name ++ codes "\".")
 
--- A number of `#ifeq` and `#switch`: 1 to 18 digits, behind a sign or none. Zero has no sign.
-pub record Number : Type 0 where
-  pub negative : Bool
-  pub size : ℕ
-
+-- A number of `#ifeq` and `#switch`, as its sign and its size: 1 to 18 digits, behind a sign or none. Zero has no sign.
 abbrev pub is_digit : ℕ → Bool
 is_digit c = nat_le 48 c && nat_le c 57
 
@@ -60,25 +55,29 @@ behind_sign [] = []
 behind_sign (c ∷ cs) = if c == 43 || c == 45 then cs else c ∷ cs
 
 abbrev pub is_minus : List ℕ → Bool
-is_minus [] = Bool.false
+is_minus [] = false
 is_minus (c ∷ cs) = c == 45
 
-abbrev pub signed : Bool → ℕ → Number
-signed minus n = record { negative = minus && not (n == 0); size = n }
+-- the number of digits behind others that make n
+abbrev pub size_after : ℕ → List ℕ → ℕ
+size_after n [] = n
+size_after n (c ∷ cs) = size_after (n * 10 + (c - 48)) cs
 
-unfoldable pub number_of : List ℕ → Option Number
+abbrev pub signed : Bool → ℕ → Bool × ℕ
+signed minus size = (minus && not (size == 0), size)
+
+unfoldable pub number_of : List ℕ → Option (Bool × ℕ)
 number_of text =
-    let digits = behind_sign text in
-    if is_short digits && list_all is_digit digits then Some (signed (is_minus text) (digits_value 10 digits)) else None
+    if is_short (behind_sign text) && list_all is_digit (behind_sign text) then Some (signed (is_minus text) (size_after 0 (behind_sign text))) else None
 
 abbrev pub same_bool : Bool → Bool → Bool
-same_bool Bool.true b = b
-same_bool Bool.false b = not b
+same_bool true b = b
+same_bool false b = not b
 
-abbrev pub same_number : Option Number → Option Number → Bool
-same_number (Some m) (Some n) = same_bool m.negative n.negative && (m.size == n.size)
-same_number (Some m) None = Bool.false
-same_number None n = Bool.false
+abbrev pub same_number : Option (Bool × ℕ) → Option (Bool × ℕ) → Bool
+same_number (Some m) (Some n) = same_bool m.0 n.0 && (m.1 == n.1)
+same_number (Some m) None = false
+same_number None n = false
 
 -- The equality of `#ifeq` and `#switch`: the same bytes, or two texts that are numbers and equal as numbers
 -- (MediaWiki, Help:Extension:ParserFunctions, "#ifeq").

@@ -2,6 +2,10 @@
 //! Help:Extension:ParserFunctions).
 #![tactic(auto)]
 
+mod equality;
 mod forest;
+mod kind;
 pub mod pages;
+mod space;
 mod stack;
+mod texts;
