@@ -7,3 +7,4 @@ pub mod Examples
 pub mod Forests
 pub mod Pages
 pub mod Kinds
+pub mod Entries

@@ -2,6 +2,7 @@
 //! Help:Extension:ParserFunctions).
 #![tactic(auto)]
 
+mod arguments;
 mod equality;
 mod forest;
 mod kind;
