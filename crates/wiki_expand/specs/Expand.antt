@@ -17,7 +17,7 @@ use Rattle.page_run.specs.Run.{Use, TakeBytes, EnterDepth, LeaveDepth, HasTempla
 use Rattle.page_run.specs.Part.{Part, ◌>>=◌, give, try_use, open_or, ask}
 use Rattle.wiki_expand.specs.Texts.{node_text, size_text, depth_text, loop_text, missing_text, no_function_text, no_module_text, are_equal}
 use Rattle.wiki_expand.specs.Kind.{Kind, Written, Word, If, IfEq, Switch, Invoke, Include, title_named, kind_of}
-use Rattle.wiki_expand.specs.Places.{part_in, first_in, others_in, no_part, name_in, value_in}
+use Rattle.wiki_expand.specs.Places.{parts_in, part_in, first_in, others_in, no_part, name_in, value_in}
 
 -- WHERE a text is expanded: the pages that can be included, as they are read for it, and the page that is expanded
 pub record Setting : Type 0 where
@@ -26,8 +26,8 @@ pub record Setting : Type 0 where
 
 -- what is opened: the parts of a construct or of a parameter, in the scene where it stands
 pub data Thing : Type 0 where
-  AConstruct : (parts : Trees) (scene : Scene) → Thing
-  AParameter : (parts : Trees) (scene : Scene) → Thing
+  AConstruct : (parts : List Trees) (scene : Scene) → Thing
+  AParameter : (parts : List Trees) (scene : Scene) → Thing
 
 -- A run of an expansion: it may use its allowances, has no heap, asks for what invocations give, and comes to a text.
 abbrev pub Page : Type 0
@@ -65,9 +65,9 @@ sized m = do
 -- ---- texts
 
 abbrev pub opened : NodeKind → Trees → Scene → Doing (List ℕ)
-opened Construct parts sc = open_or tt node_text (AConstruct parts sc)
-opened Parameter parts sc = open_or tt node_text (AParameter parts sc)
-opened _ parts sc = give []
+opened Construct inside sc = open_or tt node_text (AConstruct (parts_in inside) sc)
+opened Parameter inside sc = open_or tt node_text (AParameter (parts_in inside) sc)
+opened _ inside sc = give []
 
 -- behind the text so far, that of some trees in turn; an `=` is text
 abbrev pub onward : Trees → Scene → List ℕ → Doing (List ℕ)
@@ -92,11 +92,11 @@ branch (Some part) sc = expand part sc
 branch None sc = give []
 
 -- behind the text so far, parts in turn, each behind a `|`
-abbrev pub all_parts : Trees → Scene → List ℕ → Doing (List ℕ)
-all_parts (node kind part rest) sc out = do
+abbrev pub all_parts : List Trees → Scene → List ℕ → Doing (List ℕ)
+all_parts (part ∷ rest) sc out = do
   out ← onward part sc (out ++ 124 ∷ [])
   all_parts rest sc out
-all_parts _ sc out = give out
+all_parts [] sc out = give out
 
 -- ---- arguments
 
@@ -125,11 +125,11 @@ argument (Some value) part sc g = do
   give (record { args = put (trim name) (trim x) g.args; number = g.number })
 
 -- from left to right
-abbrev pub arguments : Trees → Scene → Given → Doing (List Arg)
-arguments (node kind part rest) sc g = do
+abbrev pub arguments : List Trees → Scene → Given → Doing (List Arg)
+arguments (part ∷ rest) sc g = do
   g ← argument (value_in part) part sc g
   arguments rest sc g
-arguments _ sc g = give g.args
+arguments [] sc g = give g.args
 
 abbrev pub none_given : Given
 none_given = record { args = []; number = 1 }
@@ -142,7 +142,7 @@ value_or (Some value) name default sc = give value
 value_or None name (Some default) sc = expand default sc
 value_or None name None sc = give (codes "{{{" ++ name ++ codes "}}}")
 
-abbrev pub parameter : Trees → Scene → Doing (List ℕ)
+abbrev pub parameter : List Trees → Scene → Doing (List ℕ)
 parameter parts sc = do
   name ← expand (first_in parts) sc
   value_or (found (trim name) sc.args) name (part_in (others_in parts)) sc
@@ -196,11 +196,11 @@ abbrev pub after_turn : Turn → (Looking → Doing (List ℕ)) → Doing (List 
 after_turn (Decided x) go = give x
 after_turn (Next s) go = go s
 
-abbrev pub switch : List ℕ → Trees → Scene → Looking → Doing (List ℕ)
-switch x (node kind part rest) sc s = do
+abbrev pub switch : List ℕ → List Trees → Scene → Looking → Doing (List ℕ)
+switch x (part ∷ rest) sc s = do
   t ← turn (value_in part) x part (no_part rest) sc s
   after_turn t (switch x rest sc)
-switch x _ sc s = trimmed (branch s.default sc)
+switch x [] sc s = trimmed (branch s.default sc)
 
 abbrev pub nothing_seen : Looking
 nothing_seen = record { met = false; waits = false; default = None }
@@ -210,10 +210,10 @@ nothing_seen = record { met = false; waits = false; default = None }
 abbrev pub is_empty : List ℕ → Bool
 is_empty test = length test == 0
 
-abbrev pub if_else : List ℕ → Trees → Scene → Doing (List ℕ)
+abbrev pub if_else : List ℕ → List Trees → Scene → Doing (List ℕ)
 if_else test parts sc = trimmed (branch (part_in (cond (is_empty test) (others_in parts) parts)) sc)
 
-abbrev pub if_equal : List ℕ → Trees → Scene → Doing (List ℕ)
+abbrev pub if_equal : List ℕ → List Trees → Scene → Doing (List ℕ)
 if_equal left parts sc = do
   right ← branch (part_in parts) sc
   trimmed (branch (part_in (cond (are_equal left (trim right)) (others_in parts) (others_in (others_in parts)))) sc)
@@ -247,15 +247,12 @@ abbrev pub invocation : Option Title → List ℕ → List ℕ → List Arg → 
 invocation (Some title) name function args sc = ask (job_of title function args sc)
 invocation None name function args sc = give (no_module_text name)
 
-abbrev pub invoke_with : Setting → List ℕ → Option Trees → Trees → Scene → Doing (List ℕ)
-invoke_with w name None rest sc = give no_function_text
-invoke_with w name (Some part) rest sc = do
+abbrev pub invoke : Setting → List ℕ → List Trees → Scene → Doing (List ℕ)
+invoke w name [] sc = give no_function_text
+invoke w name (part ∷ rest) sc = do
   function ← expand part sc
   args ← arguments rest sc none_given
   invocation (module_titled w (title_named name Module)) name (trim function) args sc
-
-abbrev pub invoke : Setting → List ℕ → Trees → Scene → Doing (List ℕ)
-invoke w name parts sc = invoke_with w name (part_in parts) (others_in parts) sc
 
 -- ---- templates
 
@@ -274,7 +271,7 @@ body trees title args sc = unless_looped title sc (do
       (give depth_text))
 
 -- both tests come before the arguments
-abbrev pub template : Option Trees → Title → Trees → Scene → Doing (List ℕ)
+abbrev pub template : Option Trees → Title → List Trees → Scene → Doing (List ℕ)
 template None title parts sc = give (missing_text title)
 template (Some trees) title parts sc = unless_looped title sc (do
   enough ← try_use tt HasTemplate
@@ -285,7 +282,7 @@ template (Some trees) title parts sc = unless_looped title sc (do
 -- ---- constructs
 
 -- `first` is the first part, expanded
-abbrev pub by_kind : Setting → Kind → List ℕ → Trees → Scene → Doing (List ℕ)
+abbrev pub by_kind : Setting → Kind → List ℕ → List Trees → Scene → Doing (List ℕ)
 by_kind w Written first parts sc = do
   out ← all_parts parts sc (codes "{{" ++ first)
   give (out ++ codes "}}")
@@ -296,7 +293,7 @@ by_kind w (Switch value) first parts sc = switch (trim value) parts sc nothing_s
 by_kind w (Invoke name) first parts sc = invoke w (trim name) parts sc
 by_kind w (Include title) first parts sc = template (w.included title) title parts sc
 
-abbrev pub construct : Setting → Trees → Scene → Doing (List ℕ)
+abbrev pub construct : Setting → List Trees → Scene → Doing (List ℕ)
 construct w parts sc = do
   first ← expand (first_in parts) sc
   by_kind w (kind_of (no_part (others_in parts)) w.page (trim first)) first (others_in parts) sc

@@ -3,7 +3,7 @@ use Rattle.std.specs.Prelude.{◌≡◌, ℕ, ◌+◌, ◌-◌, ◌<◌, ◌≤�
 use Rattle.wiki_markup.specs.declared.marked.Node.{Node}
 use Rattle.wiki_markup.specs.declared.marked.NodeKind.TheVariants.{Construct as ConstructKind, Parameter as ParameterKind, Part as PartKind}
 use Rattle.wiki_markup.specs.Trees.{Trees, done, text, equals, node}
-use Rattle.wiki_expand.specs.Places.{trees_at, part_in, others_in}
+use Rattle.wiki_expand.specs.Places.{trees_at, parts_in}
 use Rattle.wiki_expand.specs.declared.forest.Nodes.{Nodes}
 use Rattle.wiki_expand.specs.declared.forest.Nodes.TheVariants.{Held, Own}
 use Rattle.wiki_expand.specs.declared.forest.Forest.{Forest}
@@ -43,6 +43,10 @@ Falls (Equals rest) n = size rest < n
 Falls (Construct inside rest) n = size inside + size rest < n
 Falls (Parameter inside rest) n = size inside + size rest < n
 Falls (Part inside rest) n = size inside + size rest < n
+
+-- what stands in the parts that it is
+abbrev pub parts : Forest → List Trees
+parts f = parts_in (trees_in f)
 
 abbrev pub option_trees : Option Forest → Option Trees
 option_trees (Some f) = Some (trees_in f)

@@ -33,29 +33,29 @@ trees_at at nodes = trees_by (length nodes) at nodes
 abbrev pub ReadBack : Type 0
 ReadBack = (nodes : List Node) (marked : IsMarked nodes) → trees_at 0 nodes ≡ marked.0
 
--- what stands in the first of some parts, and the parts behind it
-abbrev pub part_in : Trees → Option Trees
-part_in (node kind inside rest) = Some inside
-part_in _ = None
+-- what stands in each part of a construct or parameter
+abbrev pub parts_in : Trees → List Trees
+parts_in (node kind inside rest) = inside ∷ parts_in rest
+parts_in _ = []
 
-abbrev pub inside_first : Option Trees → Trees
-inside_first (Some part) = part
-inside_first None = done
+-- the first part, if there is one
+abbrev pub part_in : List Trees → Option Trees
+part_in [] = None
+part_in (part ∷ others) = Some part
 
-abbrev pub first_in : Trees → Trees
-first_in parts = inside_first (part_in parts)
+-- the first part, empty where there is none
+abbrev pub first_in : List Trees → Trees
+first_in [] = done
+first_in (part ∷ others) = part
 
-abbrev pub others_in : Trees → Trees
-others_in (node kind inside rest) = rest
-others_in _ = done
+-- the parts behind the first
+abbrev pub others_in : List Trees → List Trees
+others_in [] = []
+others_in (part ∷ others) = others
 
-abbrev pub is_none : Option Trees → Bool
-is_none None = true
-is_none (Some part) = false
-
--- whether no part is there
-abbrev pub no_part : Trees → Bool
-no_part parts = is_none (part_in parts)
+abbrev pub no_part : List Trees → Bool
+no_part [] = true
+no_part (part ∷ others) = false
 
 -- A part that has an `=` is valued: its name stands before the first one, and its value behind it.
 abbrev pub name_in : Trees → Trees

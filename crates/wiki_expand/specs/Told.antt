@@ -10,15 +10,15 @@ use Rattle.page_run.specs.State.{Reply, Event, Ended, Spent, Asked, start}
 use Rattle.page_run.specs.Perform.{perform, wait}
 use Rattle.wiki_expand.specs.Expand.{Setting, Page, expand, body, meant}
 
--- AN EXPANSION that is a run of its own: of trees in a scene, or of an included page in a scene that has its title and
--- arguments, and the chain of the text that includes it
+-- AN EXPANSION that is a run of its own: of trees in a scene; or of a page that is included, with the arguments of the scene,
+-- from a text with its chain
 pub data Work : Type 0 where
   Reading : (trees : Trees) (scene : Scene) → Work
-  Including : (trees : Trees) (scene : Scene) → Work
+  Including : (trees : Trees) (title : Title) (scene : Scene) → Work
 
 abbrev pub expansion : Work → Page
 expansion (Reading trees sc) = expand trees sc Ends
-expansion (Including trees sc) = body trees sc.title sc.args sc Ends
+expansion (Including trees title sc) = body trees title sc.args sc Ends
 
 -- the next event, after these replies
 unfoldable pub told : Setting → Work → Left → List (Reply (List ℕ)) → Event (Unit {0}) Job (List ℕ)

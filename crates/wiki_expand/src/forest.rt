@@ -2,7 +2,7 @@
 ghost use Rattle.std.specs.Prelude.{◌≡◌, ◌+◌, ◌-◌, ◌<◌, ◌≤◌, min, max, slice_get, MatchOption, None, Some, IfOk};
 ghost use Rattle.std.specs.Option.{option_copied};
 ghost use Rattle.wiki_markup.specs.Trees.{done};
-ghost use Rattle.wiki_expand.specs.Places.{trees_at, part_in, others_in, value_in};
+ghost use Rattle.wiki_expand.specs.Places.{trees_at, value_in};
 ghost use Rattle.wiki_expand.specs.Forests.{nodes_in, trees_in, size, Splits, Falls, option_trees, option_size};
 
 use std::rc::Rc;
