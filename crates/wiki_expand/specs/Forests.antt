@@ -3,10 +3,12 @@ use Rattle.std.specs.Prelude.{◌≡◌, ℕ, ◌+◌, ◌-◌, ◌<◌, ◌≤�
 use Rattle.wiki_markup.specs.declared.marked.Node.{Node}
 use Rattle.wiki_markup.specs.declared.marked.NodeKind.TheVariants.{Construct as ConstructKind, Parameter as ParameterKind, Part as PartKind}
 use Rattle.wiki_markup.specs.Trees.{Trees, done, text, equals, node}
-use Rattle.wiki_expand.specs.Places.{trees_at, parts_in}
+use Rattle.wiki_expand.specs.Places.{trees_at, parts_in, value_in}
 use Rattle.wiki_expand.specs.declared.forest.Nodes.{Nodes}
 use Rattle.wiki_expand.specs.declared.forest.Nodes.TheVariants.{Held, Own}
 use Rattle.wiki_expand.specs.declared.forest.Forest.{Forest}
+use Rattle.wiki_expand.specs.declared.forest.Past.{Past}
+use Rattle.wiki_expand.specs.declared.forest.Past.TheVariants.{Nothing as NoneLeft, Equals as AtEquals, Next as Further}
 use Rattle.wiki_expand.specs.declared.forest.Split.{Split}
 use Rattle.wiki_expand.specs.declared.forest.Split.TheVariants.{Nothing, Text, Equals, Construct, Parameter, Part}
 
@@ -55,3 +57,14 @@ option_trees None = None
 abbrev pub option_size : Option Forest → ℕ
 option_size (Some f) = size f
 option_size None = 0
+
+-- what a step of the search for the first `=` tells of the value
+abbrev pub GoesPast : Past → Trees → Type 0
+GoesPast NoneLeft t = value_in t ≡ None
+GoesPast (AtEquals value) t = value_in t ≡ Some (trees_in value)
+GoesPast (Further next) t = value_in t ≡ value_in (trees_in next)
+
+abbrev pub PastFalls : Past → ℕ → Type 0
+PastFalls NoneLeft n = Unit {0}
+PastFalls (AtEquals value) n = size value < n
+PastFalls (Further next) n = size next < n

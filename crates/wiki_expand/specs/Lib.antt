@@ -8,3 +8,5 @@ pub mod Forests
 pub mod Pages
 pub mod Kinds
 pub mod Entries
+pub mod Points
+pub mod Weights

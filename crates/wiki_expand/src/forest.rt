@@ -1,9 +1,9 @@
 //! Trees side by side, as a stretch of the nodes that they are read from.
-ghost use Rattle.std.specs.Prelude.{◌≡◌, ◌+◌, ◌-◌, ◌<◌, ◌≤◌, min, max, slice_get, MatchOption, None, Some, IfOk};
+ghost use Rattle.std.specs.Prelude.{◌≡◌, ◌+◌, ◌-◌, ◌<◌, ◌≤◌, [], ◌∷◌, min, max, slice_get, MatchOption, None, Some, IfOk, IfSome};
 ghost use Rattle.std.specs.Option.{option_copied};
 ghost use Rattle.wiki_markup.specs.Trees.{done};
 ghost use Rattle.wiki_expand.specs.Places.{trees_at, value_in};
-ghost use Rattle.wiki_expand.specs.Forests.{nodes_in, trees_in, size, Splits, Falls, option_trees, option_size};
+ghost use Rattle.wiki_expand.specs.Forests.{nodes_in, trees_in, size, parts, Splits, Falls, option_trees, option_size, GoesPast, PastFalls};
 
 use std::rc::Rc;
 use wiki_markup::{Marked, Node, NodeKind};
@@ -33,6 +33,14 @@ pub enum Split<'f, 'w> {
     Construct(Forest<'w>, Forest<'w>),
     Parameter(Forest<'w>, Forest<'w>),
     Part(Forest<'w>, Forest<'w>),
+}
+
+/// What a step of the search for the first `=` finds.
+#[derive(Drop)]
+enum Past<'w> {
+    Nothing,
+    Equals(Forest<'w>),
+    Next(Forest<'w>),
 }
 
 impl<'w> Nodes<'w> {
@@ -111,6 +119,60 @@ impl<'w> Forest<'w> {
                     NodeKind::Parameter => Ok(Split::Parameter(inside, rest)),
                     NodeKind::Part => Ok(Split::Part(inside, rest)),
                 }
+            }
+        }
+    }
+
+    /// What stands in the first of some parts, and the parts behind it.
+    pub fn take_part(&self) -> Result<Option<(Forest<'w>, Forest<'w>)>, NoMemory>
+        ensures parts { IfOk result (λ taken. MatchOption taken (parts self.now ≡ []) (λ p. parts self.now ≡ trees_in p.0 ∷ parts p.1)) }
+        ensures falls { IfOk result (λ taken. IfSome taken (λ p. size p.0 + size p.1 < size self.now)) }
+    {
+        match self.split()? {
+            Split::Construct(inside, rest) => Ok(Some((inside, rest))),
+            Split::Parameter(inside, rest) => Ok(Some((inside, rest))),
+            Split::Part(inside, rest) => Ok(Some((inside, rest))),
+            Split::Nothing => Ok(None),
+            Split::Text(_, _) => Ok(None),
+            Split::Equals(_) => Ok(None),
+        }
+    }
+
+    /// The same trees.
+    fn copy(&self) -> Result<Forest<'w>, NoMemory>
+        ensures trees { IfOk result (λ f. trees_in f ≡ trees_in self.now) }
+        ensures size { IfOk result (λ f. size f ≡ size self.now) }
+    {
+        let copy = self.part(self.at, self.end)?;
+        Ok(copy)
+    }
+
+    /// The first `=` found, or the trees to go on with.
+    fn past_first(&self) -> Result<Past<'w>, NoMemory>
+        ensures value { IfOk result (λ past. GoesPast past (trees_in self.now)) }
+        ensures size { IfOk result (λ past. PastFalls past (size self.now)) }
+    {
+        match self.split()? {
+            Split::Nothing => Ok(Past::Nothing),
+            Split::Equals(value) => Ok(Past::Equals(value)),
+            Split::Text(_, next) => Ok(Past::Next(next)),
+            Split::Construct(_, next) => Ok(Past::Next(next)),
+            Split::Parameter(_, next) => Ok(Past::Next(next)),
+            Split::Part(_, next) => Ok(Past::Next(next)),
+        }
+    }
+
+    /// The trees behind the first `=`, if there is one.
+    pub fn value(&self) -> Result<Option<Forest<'w>>, NoMemory>
+        ensures value { IfOk result (λ value. option_trees value ≡ value_in (trees_in self.now)) }
+        ensures size { IfOk result (λ value. option_size value ≤ size self.now) }
+    {
+        let mut rest = self.copy()?;
+        loop {
+            match rest.past_first()? {
+                Past::Nothing => return Ok(None),
+                Past::Equals(value) => return Ok(Some(value)),
+                Past::Next(next) => rest = next,
             }
         }
     }

@@ -2,9 +2,11 @@
 //! Help:Extension:ParserFunctions).
 #![tactic(auto)]
 
+mod allowances;
 mod arguments;
 mod equality;
 mod forest;
+mod frame;
 mod kind;
 pub mod pages;
 mod space;
