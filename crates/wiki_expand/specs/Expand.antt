@@ -1,6 +1,6 @@
 -- THE EXPANSION of a text as its events (MediaWiki, Help:Templates, Help:Extension:ParserFunctions; Extension:Scribunto, "#invoke").
 -- A construct or a parameter is not entered where it stands: it is opened, at one node, and `meant` says what then stands for it.
-use Rattle.std.specs.Prelude.{ℕ, ◌+◌, Bool, true, false, cond, ◌||◌, ◌==◌, List, [], ◌∷◌, ◌++◌, length, codes, decimal, bytes_eq, Option, Some, None}
+use Rattle.std.specs.Prelude.{ℕ, ◌+◌, Bool, true, false, cond, ◌||◌, List, [], ◌∷◌, ◌++◌, length, codes, decimal, bytes_eq, Option, Some, None}
 use Rattle.std.specs.List.{list_any}
 use Rattle.wk_base.specs.Space.{trim}
 use Rattle.wk_base.specs.declared.title.Namespace.{Namespace}
@@ -86,11 +86,6 @@ trimmed m = do
   x ← m
   give (trim x)
 
--- a part that may be missing: it is empty then
-abbrev pub branch : Option Trees → Scene → Doing (List ℕ)
-branch (Some part) sc = expand part sc
-branch None sc = give []
-
 -- behind the text so far, parts in turn, each behind a `|`
 abbrev pub all_parts : List Trees → Scene → List ℕ → Doing (List ℕ)
 all_parts (part ∷ rest) sc out = do
@@ -154,7 +149,7 @@ parameter parts sc = do
 pub record Looking : Type 0 where
   pub met : Bool
   pub waits : Bool
-  pub default : Option Trees
+  pub default : Trees
 
 -- a part decides, or the next one is looked at
 pub data Turn : Type 0 where
@@ -173,7 +168,7 @@ decided m = do
 abbrev pub by_name : List ℕ → List ℕ → Trees → Scene → Looking → Doing Turn
 by_name x name value sc s =
     choice (are_equal x name) (decided (trimmed (expand value sc)))
-        (give (Next (record { met = false; waits = false; default = cond (s.waits || is_default name) (Some value) s.default })))
+        (give (Next (record { met = false; waits = false; default = cond (s.waits || is_default name) value s.default })))
 
 abbrev pub valued : List ℕ → Trees → Trees → Scene → Looking → Doing Turn
 valued x part value sc s = do
@@ -200,23 +195,28 @@ abbrev pub switch : List ℕ → List Trees → Scene → Looking → Doing (Lis
 switch x (part ∷ rest) sc s = do
   t ← turn (value_in part) x part (no_part rest) sc s
   after_turn t (switch x rest sc)
-switch x [] sc s = trimmed (branch s.default sc)
+switch x [] sc s = trimmed (expand s.default sc)
 
 abbrev pub nothing_seen : Looking
-nothing_seen = record { met = false; waits = false; default = None }
+nothing_seen = record { met = false; waits = false; default = done }
 
 -- ---- `#if` and `#ifeq`
 
-abbrev pub is_empty : List ℕ → Bool
-is_empty test = length test == 0
+abbrev pub is_text : List ℕ → Bool
+is_text [] = false
+is_text (c ∷ cs) = true
+
+-- the first branch, or the second; one that is missing is empty
+abbrev pub either : Bool → List Trees → Scene → Doing (List ℕ)
+either first branches sc = trimmed (expand (first_in (cond first branches (others_in branches))) sc)
 
 abbrev pub if_else : List ℕ → List Trees → Scene → Doing (List ℕ)
-if_else test parts sc = trimmed (branch (part_in (cond (is_empty test) (others_in parts) parts)) sc)
+if_else test parts sc = either (is_text test) parts sc
 
 abbrev pub if_equal : List ℕ → List Trees → Scene → Doing (List ℕ)
 if_equal left parts sc = do
-  right ← branch (part_in parts) sc
-  trimmed (branch (part_in (cond (are_equal left (trim right)) (others_in parts) (others_in (others_in parts)))) sc)
+  right ← expand (first_in parts) sc
+  either (are_equal left (trim right)) (others_in parts) sc
 
 -- ---- `#invoke`
 

@@ -9,13 +9,14 @@ use Rattle.mw_frame.specs.declared.scene.Arg.{Arg}
 use Rattle.mw_frame.specs.declared.scene.Scene.{Scene}
 use Rattle.mw_frame.specs.declared.scene.Job.{Job}
 use Rattle.page_run.specs.Run.{Run, TakeBytes, LeaveDepth, LeaveTemplate, Ends, Uses}
+use Rattle.page_run.specs.Part.{open_or}
 use Rattle.page_run.specs.State.{Tally, Reply, State}
 use Rattle.page_run.specs.Perform.{perform, wait}
-use Rattle.wiki_expand.specs.Texts.{size_text, are_equal}
+use Rattle.wiki_expand.specs.Texts.{node_text, size_text, are_equal}
 use Rattle.wiki_expand.specs.Kind.{kind_of, title_named}
-use Rattle.wiki_expand.specs.Places.{part_in, first_in, others_in, no_part, name_in}
-use Rattle.wiki_expand.specs.Expand.{Setting, Page, Given, Looking, onward, expand, all_parts, put, found, arguments, value_or, trimmed, branch, by_name, valueless, after_turn, switch, module_titled, invocation, body, by_kind, meant}
-use Rattle.wiki_expand.specs.Forests.{trees_in, parts, option_trees}
+use Rattle.wiki_expand.specs.Places.{part_in, no_part, name_in}
+use Rattle.wiki_expand.specs.Expand.{Setting, Thing, Page, Doing, Given, Looking, onward, expand, all_parts, put, found, arguments, value_or, either, by_name, valueless, after_turn, switch, module_titled, invocation, body, by_kind, meant}
+use Rattle.wiki_expand.specs.Forests.{trees_in, parts}
 use Rattle.wiki_expand.specs.declared.frame.Inner.{Inner}
 use Rattle.wiki_expand.specs.declared.frame.Walk.{Walk}
 use Rattle.wiki_expand.specs.declared.frame.Seen.{Seen}
@@ -26,6 +27,8 @@ use Rattle.wiki_expand.specs.declared.frame.Frame.{Frame}
 use Rattle.wiki_expand.specs.declared.frame.Frame.TheVariants.{Walk as Walking, Level, Trim, Parameter, First, Written, Compare, Case, Valueless, Function, Unnamed, Name, Value, Body}
 use Rattle.wiki_expand.specs.declared.frame.Focus.{Focus}
 use Rattle.wiki_expand.specs.declared.frame.Focus.TheVariants.{Walk as Goes, Text as Hands}
+use Rattle.wiki_expand.specs.declared.frame.Entry.{Entry}
+use Rattle.wiki_expand.specs.declared.frame.Entry.TheVariants.{NoNode, NoLevel, Entered}
 use Rattle.wiki_expand.specs.declared.frame.Progress.{Progress}
 use Rattle.wiki_expand.specs.declared.frame.Progress.TheVariants.{On, Deeper, Asks, Ended}
 
@@ -37,7 +40,7 @@ abbrev pub ahead : Walk → Trees
 ahead s = cond s.named (name_in (trees_in s.rest)) (trees_in s.rest)
 
 abbrev pub seen_in : Seen → Looking
-seen_in s = record { met = s.met; waits = s.waits; default = option_trees s.default }
+seen_in s = record { met = s.met; waits = s.waits; default = trees_in s.default }
 
 -- what arguments are handed to
 abbrev pub finish : Setting → Purpose → Scene → (List ℕ → Page) → List Arg → Page
@@ -66,7 +69,7 @@ frame w Trim k sc x = k sc (trim x)
 frame w (Parameter rest) k sc x = value_or (found (trim x) sc.args) x (part_in (parts rest)) sc (k sc)
 frame w (First rest) k sc x = by_kind w (kind_of (no_part (parts rest)) w.page (trim x)) x (parts rest) sc (k sc)
 frame w (Written rest) k sc x = all_parts (parts rest) sc x (λ out. k sc (out ++ codes "}}"))
-frame w (Compare left rest) k sc x = trimmed (branch (part_in (cond (are_equal left.items (trim x)) (parts rest) (others_in (parts rest)))) sc) (k sc)
+frame w (Compare left rest) k sc x = either (are_equal left.items (trim x)) (parts rest) sc (k sc)
 frame w (Case s value) k sc x = by_name s.value.items (trim x) (trees_in value) sc (seen_in s.seen) (λ t. after_turn t (switch s.value.items (parts s.rest) sc) (k sc))
 frame w (Valueless s) k sc x = after_turn (valueless s.value.items (trim x) (no_part (parts s.rest)) (seen_in s.seen)) (switch s.value.items (parts s.rest) sc) (k sc)
 frame w (Function name rest) k sc x = arguments (parts rest) sc (record { args = []; number = 1 }) (λ args. invocation (module_titled w (title_named name Module)) name (trim x) args sc (k sc))
@@ -101,3 +104,21 @@ Goes_to w p l (On f) fs sc l' = Leads w p l (point w f fs sc) l'
 Goes_to w p l (Deeper f) fs sc l' = Leads w p l (point w f fs sc) l'
 Goes_to w p l (Asks job) fs sc l' = Leads w p l (Run.Asks job (plug w fs sc)) l'
 Goes_to w p l (Ended x) fs sc l' = Leads w p l (Ends x.items) l'
+
+-- ---- opening
+
+-- a construct or parameter ends with this text
+abbrev pub leaving : (List ℕ → Page) → List ℕ → Page
+leaving k x = Uses tt LeaveDepth (λ _. Uses tt (TakeBytes (length x)) (λ enough. k (cond enough x size_text)))
+
+-- what comes of opening a thing whose text is made by `m`: the text in its place, or its first part is expanded
+abbrev pub Opens_to : Setting → Thing → Doing (List ℕ) → (List ℕ → Page) → Left → Entry → Left → Type 0
+Opens_to w t m k l (NoNode x) l' = Leads w (open_or tt node_text t k) l (k x.items) l'
+Opens_to w t m k l (NoLevel x) l' = Leads w (open_or tt node_text t k) l (k x.items) l'
+Opens_to w t m k l Entered l' = Leads w (open_or tt node_text t k) l (m (leaving k)) l'
+
+-- what it takes
+abbrev pub Takes_of : Left → Entry → Left → Type 0
+Takes_of l (NoNode x) l' = l' ≡ l
+Takes_of l (NoLevel x) l' = (l'.nodes + 1 ≡ l.nodes) × (l' ≡ record l { nodes = l'.nodes; bytes = l'.bytes })
+Takes_of l Entered l' = (l'.nodes + 1 ≡ l.nodes) × (l'.depth + 1 ≡ l.depth) × (l' ≡ record l { nodes = l'.nodes; depth = l'.depth })

@@ -1,7 +1,7 @@
 -- What a stack has in progress, and why an expander comes to an end.
 use Rattle.std.specs.Prelude.{◌≡◌, ℕ, ◌+◌, ◌*◌, ◌<◌, ◌≤◌, List, [], ◌∷◌}
 use Rattle.wk_base.specs.declared.left.Left.{Left}
-use Rattle.wiki_expand.specs.Forests.{size, option_size}
+use Rattle.wiki_expand.specs.Forests.{size}
 use Rattle.wiki_expand.specs.declared.frame.Frame.{Frame}
 use Rattle.wiki_expand.specs.declared.frame.Frame.TheVariants.{Walk as Walking, Level, Trim, Parameter, First, Written, Compare, Case, Valueless, Function, Unnamed, Name, Value, Body}
 use Rattle.wiki_expand.specs.declared.frame.Focus.{Focus}
@@ -54,8 +54,8 @@ weight (Parameter rest) = 16 * size rest + 8
 weight (First rest) = 16 * size rest + 16
 weight (Written rest) = 16 * size rest + 8
 weight (Compare left rest) = 16 * size rest + 8
-weight (Case s value) = 16 * size s.rest + 8 * size value + 8 * option_size s.seen.default + 16
-weight (Valueless s) = 16 * size s.rest + 8 * option_size s.seen.default + 16
+weight (Case s value) = 16 * size s.rest + 8 * size value + 8 * size s.seen.default + 16
+weight (Valueless s) = 16 * size s.rest + 8 * size s.seen.default + 16
 weight (Function name rest) = 16 * size rest + 16
 weight (Unnamed c) = 16 * size c.rest + 16
 weight (Name c value) = 16 * size c.rest + 8 * size value + 24
@@ -78,3 +78,7 @@ Falls n allowance (On f) fs l = (point_weight f fs < n) × (allowed l fs ≤ all
 Falls n allowance (Deeper f) fs l = allowed l fs < allowance
 Falls n allowance (Asks job) fs l = allowed l fs < allowance
 Falls n allowance (Ended x) fs l = allowed l fs ≤ allowance
+
+-- frames that are put on a stack: no construct or body begins, and at most so many chances come
+abbrev pub Calm : ℕ → List Frame → List Frame → Type 0
+Calm n old new = (levels new ≡ levels old) × (bodies new ≡ bodies old) × (chances new ≤ chances old + n)

@@ -1,8 +1,8 @@
 //! Trees side by side, as a stretch of the nodes that they are read from.
-ghost use Rattle.std.specs.Prelude.{◌≡◌, ◌+◌, ◌-◌, ◌<◌, ◌≤◌, [], ◌∷◌, min, max, slice_get, MatchOption, None, Some, IfOk, IfSome};
+ghost use Rattle.std.specs.Prelude.{◌≡◌, ◌+◌, ◌-◌, ◌<◌, ◌≤◌, [], ◌∷◌, cond, min, max, slice_get, MatchOption, None, Some, IfOk, IfSome};
 ghost use Rattle.std.specs.Option.{option_copied};
 ghost use Rattle.wiki_markup.specs.Trees.{done};
-ghost use Rattle.wiki_expand.specs.Places.{trees_at, value_in};
+ghost use Rattle.wiki_expand.specs.Places.{trees_at, part_in, first_in, others_in, no_part, value_in};
 ghost use Rattle.wiki_expand.specs.Forests.{nodes_in, trees_in, size, parts, Splits, Falls, option_trees, option_size, GoesPast, PastFalls};
 
 use std::rc::Rc;
@@ -138,8 +138,67 @@ impl<'w> Forest<'w> {
         }
     }
 
+    /// No trees.
+    pub fn none(&self) -> Result<Forest<'w>, NoMemory>
+        ensures trees { IfOk result (λ f. trees_in f ≡ done) }
+        ensures size { IfOk result (λ f. size f ≡ 0) }
+    {
+        let none = self.part(self.end, self.end)?;
+        Ok(none)
+    }
+
+    /// What stands in the first of some parts, and the parts behind it; nothing where there is no part.
+    pub fn head(&self) -> Result<(Forest<'w>, Forest<'w>), NoMemory>
+        ensures first { IfOk result (λ p. trees_in p.0 ≡ first_in (parts self.now)) }
+        ensures others { IfOk result (λ p. parts p.1 ≡ others_in (parts self.now)) }
+        ensures size { IfOk result (λ p. size p.0 + size p.1 ≤ size self.now) }
+    {
+        match self.take_part()? {
+            Some((first, others)) => Ok((first, others)),
+            None => {
+                let first = self.none()?;
+                let others = self.none()?;
+                Ok((first, others))
+            }
+        }
+    }
+
+    /// These parts, or those behind the first.
+    pub fn either(&self, all: bool) -> Result<Forest<'w>, NoMemory>
+        ensures parts { IfOk result (λ f. parts f ≡ cond all (parts self.now) (others_in (parts self.now))) }
+        ensures size { IfOk result (λ f. size f ≤ size self.now) }
+    {
+        if all {
+            let same = self.copy()?;
+            return Ok(same);
+        }
+        let (_, others) = self.head()?;
+        Ok(others)
+    }
+
+    /// What stands in the first part, if there is one.
+    pub fn first_part(&self) -> Result<Option<Forest<'w>>, NoMemory>
+        ensures part { IfOk result (λ part. option_trees part ≡ part_in (parts self.now)) }
+        ensures size { IfOk result (λ part. option_size part ≤ size self.now) }
+    {
+        match self.take_part()? {
+            Some((part, _)) => Ok(Some(part)),
+            None => Ok(None),
+        }
+    }
+
+    /// Whether no part is there.
+    pub fn is_over(&self) -> Result<bool, NoMemory>
+        ensures { IfOk result (λ over. over ≡ no_part (parts self.now)) }
+    {
+        match self.take_part()? {
+            Some(_) => Ok(false),
+            None => Ok(true),
+        }
+    }
+
     /// The same trees.
-    fn copy(&self) -> Result<Forest<'w>, NoMemory>
+    pub fn copy(&self) -> Result<Forest<'w>, NoMemory>
         ensures trees { IfOk result (λ f. trees_in f ≡ trees_in self.now) }
         ensures size { IfOk result (λ f. size f ≡ size self.now) }
     {

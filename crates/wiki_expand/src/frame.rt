@@ -29,8 +29,8 @@ pub struct Seen<'w> {
     pub met: bool,
     /// A valueless `#default` waits for a value.
     pub waits: bool,
-    /// The default so far.
-    pub default: Option<Forest<'w>>,
+    /// The default so far, empty where none was set.
+    pub default: Forest<'w>,
 }
 
 /// A `#switch` behind some part: its value, and the parts to come.
@@ -108,4 +108,12 @@ pub enum Progress<'w> {
     Asks(Job),
     /// It has come to its text.
     Ended(Vec<u8>),
+}
+
+/// What comes of opening a construct or a parameter: the text in its place, or it is entered.
+#[derive(Drop)]
+pub enum Entry {
+    NoNode(Vec<u8>),
+    NoLevel(Vec<u8>),
+    Entered,
 }
