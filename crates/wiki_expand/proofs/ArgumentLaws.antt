@@ -1,7 +1,8 @@
 -- Arguments in a map.
-use Rattle.std.proofs.Common.{◌≡◌, ◌≢◌, ℕ, Bool, true, false, cond, ◌==◌, List, [], ◌∷◌, ◌++◌, map, Option, Some, None, refl, sym, subst, ap, ◌∙◌, bytes_eq, true≢false, arith}
-use Rattle.std.specs.Cmp.Lexicographic.{pointwise}
+use Rattle.std.proofs.Common.{◌≡◌, ◌≢◌, ◌<◌, ◌≤◌, ℕ, zero, suc, length, take, get_or, ◌+◌, Bool, true, false, cond, ◌==◌, List, [], ◌∷◌, ◌++◌, map, Option, Some, None, refl, sym, subst, ap, ◌∙◌, bytes_eq, true≢false, arith}
+use Rattle.std.specs.Cmp.Lexicographic.{pointwise, same_text}
 use Rattle.std.specs.Map.{lookup}
+use Rattle.std.specs.List.{slice_get}
 use Rattle.indexmap.specs.IndexMap.{insert_entry}
 use Rattle.mw_frame.specs.declared.scene.Arg.{Arg}
 use Rattle.mw_frame.specs.Scenes.{Lacks, NamesDiffer}
@@ -51,3 +52,31 @@ differ_put name value (a ∷ args) d = differ_by (bytes_eq name a.name) name val
 absent_by : (b : Bool) (value : List ℕ) (a new : Arg) (args more : List Arg) → b ≡ false → more ≡ args ++ new ∷ [] → cond b (record { name = a.name; value = value } ∷ args) (a ∷ more) ≡ a ∷ args ++ new ∷ []
 absent_by true value a new args more h e = absurd cc
 absent_by false value a new args more h e = ap (λ t. a ∷ t) e
+
+lacks_at : (x : List ℕ) (args : List Arg) (i : ℕ) (d : Arg) → i < length args → Lacks x args → bytes_eq (get_or args i d).name x ≡ false
+lacks_at x [] i d h l = absurd (omega arith)
+lacks_at x (a ∷ args) zero d h l = differs (bytes_eq a.name x) refl
+  where
+    differs : (b : Bool) → bytes_eq a.name x ≡ b → bytes_eq a.name x ≡ false
+    differs true e = absurd (l.0 (sym (same_text a.name x (sym e))))
+    differs false e = e
+lacks_at x (a ∷ args) (suc i) d h l = lacks_at x args i d (omega arith) l.1
+
+-- an argument of a list whose names differ comes behind those before it
+pub put_next : (args : List Arg) (i : ℕ) (d : Arg) → i < length args → NamesDiffer args → put (get_or args i d).name (get_or args i d).value (take i args) ≡ take i args ++ get_or args i d ∷ []
+put_next [] i d h n = absurd (omega arith)
+put_next (a ∷ args) zero d h n = refl
+put_next (a ∷ args) (suc i) d h n =
+    ap (λ b. cond b (record { name = a.name; value = (get_or args i d).value } ∷ take i args) (a ∷ put (get_or args i d).name (get_or args i d).value (take i args))) (lacks_at a.name args i d (omega arith) n.0)
+    ∙ ap (λ t. a ∷ t) (put_next args i d (omega arith) n.1)
+
+get_suc : {A : Type 0} (xs : List A) (i : ℕ) (x : A) → slice_get xs i ≡ Some x → take (suc i) xs ≡ take i xs ++ x ∷ []
+get_suc [] zero x e = absurd cc
+get_suc [] (suc i) x e = absurd cc
+get_suc (y ∷ ys) zero x e = cc
+get_suc (y ∷ ys) (suc i) x e = ap (λ t. y ∷ t) (get_suc ys i x e)
+
+pub take_get : {A : Type 0} (xs : List A) (i : ℕ) (x : A) → slice_get xs i ≡ Some x → take (i + 1) xs ≡ take i xs ++ x ∷ []
+take_get xs i x e =
+    let s : i + 1 ≡ suc i = omega arith in
+    ap (λ n. take n xs) s ∙ get_suc xs i x e

@@ -12,7 +12,7 @@ use Rattle.wiki_expand.specs.Expand.{Setting, Page, Thing, Doing, deeper, sized,
 use Rattle.wiki_expand.specs.Points.{Leads, Goes_to, state, point, leaving}
 use Rattle.wiki_expand.specs.declared.frame.Frame.{Frame}
 use Rattle.wiki_expand.specs.declared.frame.Progress.{Progress}
-use Rattle.wiki_expand.specs.declared.frame.Progress.TheVariants.{On, Deeper, Asks, Ended}
+use Rattle.wiki_expand.specs.declared.frame.Progress.TheVariants.{On, Deeper, Asks}
 
 -- no event
 pub stays : (w : Setting) (p q : Page) (l : Left) → p ≡ q → Leads w p l q l
@@ -29,7 +29,6 @@ pub goes_on : (w : Setting) (p q : Page) (l l1 l2 : Left) (r : Progress) (fs : L
 goes_on w p q l l1 l2 (On f) fs sc a b = record { runs = λ t more. a.runs t more ∙ b.runs t more }
 goes_on w p q l l1 l2 (Deeper f) fs sc a b = record { runs = λ t more. a.runs t more ∙ b.runs t more }
 goes_on w p q l l1 l2 (Asks job) fs sc a b = record { runs = λ t more. a.runs t more ∙ b.runs t more }
-goes_on w p q l l1 l2 (Ended x) fs sc a b = record { runs = λ t more. a.runs t more ∙ b.runs t more }
 
 at : (w : Setting) (p : Page) (l l' : Left) → l ≡ l' → Leads w p l p l'
 at w p l l' e = record { runs = λ t more. ap (λ m. perform (meant w) wait p (state m t more)) e }

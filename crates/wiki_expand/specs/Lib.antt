@@ -10,3 +10,4 @@ pub mod Kinds
 pub mod Entries
 pub mod Points
 pub mod Weights
+pub mod Asked

@@ -30,7 +30,7 @@ use Rattle.wiki_expand.specs.declared.frame.Focus.TheVariants.{Walk as Goes, Tex
 use Rattle.wiki_expand.specs.declared.frame.Entry.{Entry}
 use Rattle.wiki_expand.specs.declared.frame.Entry.TheVariants.{NoNode, NoLevel, Entered}
 use Rattle.wiki_expand.specs.declared.frame.Progress.{Progress}
-use Rattle.wiki_expand.specs.declared.frame.Progress.TheVariants.{On, Deeper, Asks, Ended}
+use Rattle.wiki_expand.specs.declared.frame.Progress.TheVariants.{On, Deeper, Asks}
 
 abbrev pub scene_in : Inner → Scene
 scene_in s = record { title = s.title; args = s.args; chain = s.chain }
@@ -50,6 +50,9 @@ finish w (ForPage title page) sc k args = body (trees_in page) title args sc k
 -- the parts to come, with these arguments so far
 abbrev pub calling : Setting → Call → Given → Scene → (List ℕ → Page) → Page
 calling w c g sc k = arguments (parts c.rest) sc g (finish w c.purpose sc k)
+
+abbrev pub given_in : Call → Given
+given_in c = record { args = c.args; number = c.number }
 
 abbrev pub unnamed : Call → List ℕ → Given
 unnamed c x = record { args = put (decimal c.number) x c.args; number = c.number + 1 }
@@ -103,7 +106,6 @@ abbrev pub Goes_to : Setting → Page → Left → Progress → List Frame → S
 Goes_to w p l (On f) fs sc l' = Leads w p l (point w f fs sc) l'
 Goes_to w p l (Deeper f) fs sc l' = Leads w p l (point w f fs sc) l'
 Goes_to w p l (Asks job) fs sc l' = Leads w p l (Run.Asks job (plug w fs sc)) l'
-Goes_to w p l (Ended x) fs sc l' = Leads w p l (Ends x.items) l'
 
 -- ---- opening
 

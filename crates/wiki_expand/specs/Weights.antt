@@ -7,7 +7,7 @@ use Rattle.wiki_expand.specs.declared.frame.Frame.TheVariants.{Walk as Walking, 
 use Rattle.wiki_expand.specs.declared.frame.Focus.{Focus}
 use Rattle.wiki_expand.specs.declared.frame.Focus.TheVariants.{Walk as Goes, Text as Hands}
 use Rattle.wiki_expand.specs.declared.frame.Progress.{Progress}
-use Rattle.wiki_expand.specs.declared.frame.Progress.TheVariants.{On, Deeper, Asks, Ended}
+use Rattle.wiki_expand.specs.declared.frame.Progress.TheVariants.{On, Deeper, Asks}
 
 abbrev pub sum_of : (Frame → ℕ) → List Frame → ℕ
 sum_of f [] = 0
@@ -77,7 +77,6 @@ abbrev pub Falls : ℕ → ℕ → Progress → List Frame → Left → Type 0
 Falls n allowance (On f) fs l = (point_weight f fs < n) × (allowed l fs ≤ allowance)
 Falls n allowance (Deeper f) fs l = allowed l fs < allowance
 Falls n allowance (Asks job) fs l = allowed l fs < allowance
-Falls n allowance (Ended x) fs l = allowed l fs ≤ allowance
 
 -- frames that are put on a stack: no construct or body begins, and at most so many chances come
 abbrev pub Calm : ℕ → List Frame → List Frame → Type 0

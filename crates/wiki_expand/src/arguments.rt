@@ -1,5 +1,5 @@
 //! The arguments of a frame, found by name.
-ghost use Rattle.std.specs.Prelude.{◌≡◌, [], option_map, IfOk, OnOk};
+ghost use Rattle.std.specs.Prelude.{◌≡◌, ◌<◌, [], Some, length, slice_get, option_map, IfOk, OnOk};
 ghost use Rattle.mw_frame.specs.Scenes.{NamesDiffer};
 ghost use Rattle.wiki_expand.specs.Expand.{put, found};
 ghost use Rattle.wiki_expand.specs.Entries.{args_in};
@@ -56,12 +56,54 @@ impl Arguments {
         self.held.get(name)
     }
 
-    /// No two have one name.
-    pub fn names_differ(&self)
-        ensures { NamesDiffer self.now }
+    /// A copy, in order.
+    pub fn list(&self, alloc: Global) -> Result<List<Arg>, NoMemory>
+        ensures args { IfOk result (λ args. args ≡ self.now) }
+        ensures names { IfOk result (λ args. NamesDiffer args) }
     {
-        let _ = &self.held;
+        let args = copied(alloc, &self.held)?;
+        Ok(args)
     }
+
+    /// The arguments of a list, no two of one name.
+    pub fn of_list(alloc: Global, list: &[Arg]) -> Result<Arguments, NoMemory>
+        requires { NamesDiffer list.now }
+        ensures { IfOk result (λ args. args ≡ list.now) }
+    {
+        let mut args = Arguments::new(alloc);
+        for arg in list {
+            let Arg { name, value } = arg.copy()?;
+            args.put(name, value)?;
+        }
+        Ok(args)
+    }
+}
+
+/// A copy of the entry at a place.
+fn arg_at(held: &IndexMap<Bytes, Bytes>, at: usize) -> Result<Arg, NoMemory>
+    requires { at < length held.now.entries }
+    ensures { IfOk result (λ arg. slice_get (args_in held.now.entries) at ≡ Some arg) }
+{
+    match held.get_index(at) {
+        Some((name, value)) => {
+            let name = name.copy()?;
+            let value = value.copy()?;
+            Ok(Arg { name, value })
+        }
+        None => unreachable!(),
+    }
+}
+
+/// The entries of a map, as arguments.
+fn copied(alloc: Global, held: &IndexMap<Bytes, Bytes>) -> Result<List<Arg>, NoMemory>
+    ensures { IfOk result (λ args. args ≡ args_in held.now.entries) }
+{
+    let mut args = List::new(alloc);
+    for at in 0..held.len() {
+        let arg = arg_at(held, at)?;
+        args.push(arg)?;
+    }
+    Ok(args)
 }
 
 /// An entry of that name has the value: in its place where one is there, and else at the end.

@@ -106,6 +106,15 @@ pub enum Progress<'w> {
     Deeper(Focus<'w>),
     /// It waits for what an invocation gives.
     Asks(Job),
+}
+
+/// Where steps pause.
+#[derive(Drop)]
+pub enum Pause<'w> {
+    /// A node was taken or a body begun.
+    Deeper(Focus<'w>),
+    /// It waits for what an invocation gives.
+    Asks(Job),
     /// It has come to its text.
     Ended(Vec<u8>),
 }

@@ -4,12 +4,14 @@
 
 mod allowances;
 mod arguments;
+mod calls;
 mod equality;
 mod forest;
 mod frame;
 mod functions;
 mod kind;
 pub mod pages;
+mod resume;
 mod space;
 mod stack;
 mod texts;

@@ -1,9 +1,10 @@
 //! A list of which the nearest item is at hand.
-ghost use Rattle.std.specs.Prelude.{◌≡◌, [], ◌∷◌, OnOk, MatchOption};
+ghost use Rattle.std.specs.Prelude.{◌≡◌, [], ◌∷◌, IfOk, OnOk, MatchOption};
+ghost use Rattle.std.specs.List.{list_any};
 
 use std::alloc::Global;
 use std::marker::Model;
-use wk_base::NoMemory;
+use wk_base::{List, NoMemory, Title};
 
 /// A list whose first item is the last that was put on it.
 #[derive(Drop)]
@@ -47,4 +48,56 @@ impl<T: Drop> Stack<T> {
             Err(_) => Err(NoMemory),
         }
     }
+}
+
+impl<T: PartialEq> Stack<T> {
+    /// Whether an item is there.
+    pub fn contains(&self, item: &T) -> bool
+        ensures { result ≡ list_any (T.eq item.now) self.now }
+    {
+        is_among(item, self.items.as_slice())
+    }
+}
+
+fn is_among<T: PartialEq>(item: &T, items: &[T]) -> bool
+    ensures { result ≡ list_any (T.eq item.now) items.now }
+{
+    for held in items {
+        if *item == *held {
+            return true;
+        }
+    }
+    false
+}
+
+impl Stack<Title> {
+    /// A copy, the nearest first.
+    pub fn list(&self, alloc: Global) -> Result<List<Title>, NoMemory>
+        ensures { IfOk result (λ titles. titles ≡ self.now) }
+    {
+        let mut titles = copies(alloc, self.items.as_slice())?;
+        titles.reverse();
+        Ok(List::of_vec(titles))
+    }
+
+    /// The titles of a list, the nearest first.
+    pub fn of_list(list: List<Title>) -> Stack<Title>
+        ensures { result ≡ list }
+    {
+        let mut items = list.into_vec();
+        items.reverse();
+        Stack { items }
+    }
+}
+
+/// Copies of titles.
+fn copies(alloc: Global, titles: &[Title]) -> Result<Vec<Title>, NoMemory>
+    ensures { IfOk result (λ made. made.items ≡ titles.now) }
+{
+    let mut made = List::new(alloc);
+    for title in titles {
+        let copy = title.copy()?;
+        made.push(copy)?;
+    }
+    Ok(made.into_vec())
 }

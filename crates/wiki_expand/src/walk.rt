@@ -8,6 +8,8 @@ ghost use Rattle.wiki_expand.specs.Places.{name_in};
 ghost use Rattle.wiki_expand.specs.Expand.{Setting, Thing, AConstruct, AParameter, Page, Doing, expand, onward, sized as sized_part, deeper, construct, parameter, meant};
 ghost use Rattle.wiki_expand.specs.Forests.{trees_in, parts, size};
 ghost use Rattle.wiki_expand.specs.Points.{Leads, Opens_to, Takes_of, Goes_to, plug, point, ahead, leaving};
+ghost use Rattle.wiki_expand.specs.Pages.{Pages};
+ghost use Rattle.wiki_expand.specs.Asked.{AsksHeld, AsksNamed};
 ghost use Rattle.wiki_expand.specs.Weights.{levels, bodies, chances, allowed, weights, Falls};
 
 use crate::allowances::{enter_level, take_bytes, take_node};
@@ -89,6 +91,8 @@ fn open_construct<'w>(
     ensures templates { OnOk result (left.new.templates + bodies stack.new ≡ left.old.templates + bodies stack.old) }
     ensures used { OnOk result ((left.new.steps ≡ left.old.steps) × (left.new.calls ≡ left.old.calls)) }
     ensures falls { IfOk result (λ r. Falls (3 + weights stack.old) (allowed left.old stack.old) r stack.new left.new) }
+    ensures held { IfOk result (λ r. (pages : Pages) → AsksHeld pages r) }
+    ensures names { IfOk result (λ r. AsksNamed r) }
 {
     match enter(alloc, left)? {
         Entry::NoNode(text) => Ok(Progress::On(Focus::Text(text))),
@@ -114,6 +118,8 @@ fn open_parameter<'w>(
     ensures templates { OnOk result (left.new.templates + bodies stack.new ≡ left.old.templates + bodies stack.old) }
     ensures used { OnOk result ((left.new.steps ≡ left.old.steps) × (left.new.calls ≡ left.old.calls)) }
     ensures falls { IfOk result (λ r. Falls (3 + weights stack.old) (allowed left.old stack.old) r stack.new left.new) }
+    ensures held { IfOk result (λ r. (pages : Pages) → AsksHeld pages r) }
+    ensures names { IfOk result (λ r. AsksNamed r) }
 {
     match enter(alloc, left)? {
         Entry::NoNode(text) => Ok(Progress::On(Focus::Text(text))),
@@ -139,6 +145,8 @@ pub fn walk_on<'w>(
     ensures templates { OnOk result (left.new.templates + bodies stack.new ≡ left.old.templates + bodies stack.old) }
     ensures used { OnOk result ((left.new.steps ≡ left.old.steps) × (left.new.calls ≡ left.old.calls)) }
     ensures falls { IfOk result (λ r. Falls (8 * size walk.entry.rest + 4 + weights stack.old) (allowed left.old stack.old) r stack.new left.new) }
+    ensures held { IfOk result (λ r. (pages : Pages) → AsksHeld pages r) }
+    ensures names { IfOk result (λ r. AsksNamed r) }
 {
     let Walk { rest, named, out } = walk;
     let mut out = out;
