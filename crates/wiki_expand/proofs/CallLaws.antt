@@ -6,10 +6,11 @@ use Rattle.wiki_markup.specs.Trees.{Trees}
 use Rattle.mw_frame.specs.declared.scene.Arg.{Arg}
 use Rattle.mw_frame.specs.declared.scene.Scene.{Scene}
 use Rattle.page_run.specs.Run.{HasTemplate, EnterTemplate, LeaveTemplate, Uses}
+use Rattle.page_run.specs.Part.{give}
 use Rattle.page_run.specs.Perform.{perform, wait}
 use Rattle.wiki_expand.specs.Texts.{depth_text}
 use Rattle.wiki_expand.specs.Places.{value_in}
-use Rattle.wiki_expand.specs.Expand.{Setting, Page, Doing, choice, giving_back, give, expand, onward, argument, arguments, none_given, is_in, body, template, meant}
+use Rattle.wiki_expand.specs.Expand.{Setting, Page, Doing, choice, giving_back, expand, onward, argument, arguments, none_given, invocation, is_in, body, template, meant}
 use Rattle.wiki_expand.specs.Forests.{trees_in, parts}
 use Rattle.wiki_expand.specs.Points.{ahead, plug, finish, given_in, state, Leads}
 use Rattle.wiki_expand.specs.declared.frame.Walk.{Walk}
@@ -53,3 +54,14 @@ template_depth w o t title ps sc k l x e n z d =
 
 pub template_begins : (w : Setting) (o : Option Trees) (t : Trees) (title : Title) (ps : List Trees) (sc : Scene) (k : List ℕ → Page) (l : Left) → Some t ≡ o → is_in title sc.chain ≡ false → 0 < l.templates → Leads w (template o title ps sc k) l (arguments ps sc none_given (λ args. body t title args sc k)) l
 template_begins w o t title ps sc k l e n z = leads_on w _ _ _ l l l (stays w _ _ l (held o t title ps sc k e n)) (body_there w _ l z)
+
+pub template_starts : (w : Setting) (o : Option Trees) (t : Trees) (title : Title) (ps : List Trees) (sc : Scene) (k : List ℕ → Page) (l : Left) (none : List Arg) → none ≡ [] → Some t ≡ o → is_in title sc.chain ≡ false → 0 < l.templates
+    → Leads w (template o title ps sc k) l (arguments ps sc (record { args = none; number = 1 }) (λ args. body t title args sc k)) l
+template_starts w o t title ps sc k l none i e n z =
+    leads_on w _ _ _ l l l (template_begins w o t title ps sc k l e n z) (stays w _ _ l (ap (λ given. arguments ps sc (record { args = given; number = 1 }) (λ args. body t title args sc k)) (sym i)))
+
+pub function_starts : (w : Setting) (m : Option Title) (name : List ℕ) (ps : List Trees) (sc : Scene) (k : List ℕ → Page) (none : List Arg) (f x : List ℕ) → none ≡ [] → f ≡ x
+    → arguments ps sc (record { args = []; number = 1 }) (λ args. invocation m name x args sc k) ≡ arguments ps sc (record { args = none; number = 1 }) (λ args. invocation m name f args sc k)
+function_starts w m name ps sc k none f x i e =
+    ap (λ given. arguments ps sc (record { args = given; number = 1 }) (λ args. invocation m name x args sc k)) (sym i)
+    ∙ ap (λ y. arguments ps sc (record { args = none; number = 1 }) (λ args. invocation m name y args sc k)) (sym e)

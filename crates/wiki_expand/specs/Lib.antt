@@ -11,3 +11,4 @@ pub mod Entries
 pub mod Points
 pub mod Weights
 pub mod Asked
+pub mod Standing

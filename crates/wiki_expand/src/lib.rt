@@ -6,6 +6,7 @@ mod allowances;
 mod arguments;
 mod calls;
 mod equality;
+pub mod expander;
 mod forest;
 mod frame;
 mod functions;
