@@ -112,10 +112,15 @@ At e work first given left = AtIf (setting_of e) (doing_point e.doing (setting_o
 abbrev pub Waits : Expander → Work → Left → List (Reply (List ℕ)) → Type 0
 Waits e work first given = (r : Reply (List ℕ)) (x : List ℕ) → r.said ≡ Gives x → AtPoint (setting_of e) (plug (setting_of e) e.stack (scene_in e.scene) x) work first (given ++ r ∷ []) r.left
 
--- a move is the definition's
+-- a move is the definition's: the text that the run comes to, or the invocation that it asks for, after which it waits
+abbrev pub MoveAt : Move → Setting → List Frame → Scene → Work → Left → List (Reply (List ℕ)) → Left → Type 0
+MoveAt (Came text) w fs sc work first given left = Comes (told w work first given) text left
+MoveAt (Invokes job) w fs sc work first given left =
+    Asks (told w work first given) job left
+    × ((r : Reply (List ℕ)) (x : List ℕ) → r.said ≡ Gives x → AtPoint w (plug w fs sc x) work first (given ++ r ∷ []) r.left)
+
 abbrev pub IsMove : Move → Expander → Work → Left → List (Reply (List ℕ)) → Left → Type 0
-IsMove (Came text) e work first given left = Comes (told (setting_of e) work first given) text left
-IsMove (Invokes job) e work first given left = Asks (told (setting_of e) work first given) job left × Waits e work first given
+IsMove m e work first given left = MoveAt m (setting_of e) e.stack (scene_in e.scene) work first given left
 
 -- an invocation's module is held, and no two arguments of its frames have one name
 abbrev pub MoveHeld : Pages → Move → Type 0
@@ -127,9 +132,12 @@ MoveNamed (Came text) = Unit {0}
 MoveNamed (Invokes job) = HaveNames job
 
 -- after a move: it is over and nothing is in progress, or it waits
+abbrev pub AfterIs : Move → Doing → List Frame → Type 0
+AfterIs (Came text) d fs = (levels fs ≡ 0) × (bodies fs ≡ 0)
+AfterIs (Invokes job) d fs = waiting d
+
 abbrev pub IsAfter : Move → Expander → Type 0
-IsAfter (Came text) e = (depth_in e ≡ 0) × (templates_in e ≡ 0)
-IsAfter (Invokes job) e = IsWaiting e
+IsAfter m e = AfterIs m e.doing e.stack
 
 -- a question takes what is allowed
 abbrev pub MoveFalls : Move → ℕ → ℕ → Type 0
@@ -157,3 +165,11 @@ abbrev pub PauseHeld : Pages → Pause → Type 0
 PauseHeld pages (PausesDeeper f) = Unit {0}
 PauseHeld pages (PausesAsking job) = HasModule pages job × HaveNames job
 PauseHeld pages (PausesEnded x) = Unit {0}
+
+abbrev pub LeadsIf : Setting → Option Page → Left → Page → Left → Type 0
+LeadsIf w (Some p) l q l' = Leads w p l q l'
+LeadsIf w None l q l' = ⊥
+
+abbrev pub IsDoing : Move → Doing → Type 0
+IsDoing (Came text) d = Unit {0}
+IsDoing (Invokes job) d = waiting d

@@ -12,7 +12,7 @@ ghost use Rattle.wiki_expand.specs.Weights.{levels, bodies, allowed, weights, po
 ghost use Rattle.wiki_expand.specs.Asked.{AsksHeld, AsksNamed};
 ghost use Rattle.wiki_expand.specs.Told.{Work};
 ghost use Rattle.wiki_expand.specs.Forests.{trees_in};
-ghost use Rattle.wiki_expand.specs.Standing.{doing_point, work_from, work_page, IsHeldSource, Moves, Pauses, PauseFalls, PauseHeld, At, Waits, IsMove, MoveHeld, MoveNamed, MoveFalls, IsReady, IsWaiting, IsAfter, setting_of, work_of, depth_in, templates_in, allowed_in};
+ghost use Rattle.wiki_expand.specs.Standing.{ready, LeadsIf, IsDoing, doing_point, work_from, work_page, IsHeldSource, Moves, Pauses, PauseFalls, PauseHeld, At, Waits, IsMove, MoveHeld, MoveNamed, MoveFalls, IsReady, IsWaiting, IsAfter, setting_of, work_of, depth_in, templates_in, allowed_in};
 
 use crate::arguments::Arguments;
 use crate::forest::{Forest, Nodes};
@@ -198,6 +198,42 @@ fn begin<'w>(
     }
 }
 
+/// Where an expander goes on.
+fn begin_focus<'w>(
+    alloc: Global,
+    left: &mut Left,
+    stack: &mut Stack<Frame<'w>>,
+    scene: &mut Inner,
+    doing: Doing<'w>,
+) -> Result<Focus<'w>, NoMemory>
+    requires { ready doing }
+    ensures leads { IfOk result (λ f. (w : Setting) → LeadsIf w (doing_point doing.entry w stack.old (scene_in scene.old)) left.old (point w f stack.new (scene_in scene.new)) left.new) }
+    ensures depth { OnOk result (left.new.depth + levels stack.new ≡ left.old.depth + levels stack.old) }
+    ensures templates { OnOk result (left.new.templates + bodies stack.new ≡ left.old.templates + bodies stack.old) }
+    ensures used { OnOk result ((left.new.steps ≡ left.old.steps) × (left.new.calls ≡ left.old.calls)) }
+    ensures falls { OnOk result (allowed left.new stack.new ≤ allowed left.old stack.old) }
+{
+    match doing {
+        Doing::Ready(focus) => Ok(focus),
+        Doing::Begins(title, trees, args) => {
+            let focus = begin_body(alloc, left, stack, scene, trees, title, args)?;
+            Ok(focus)
+        }
+        Doing::Waiting => unreachable!(),
+        Doing::Over => unreachable!(),
+    }
+}
+
+/// What an expander does after a move.
+fn doing_after<'w>(next: &Move) -> Doing<'w>
+    ensures { IsDoing next.now result }
+{
+    match next {
+        Move::Text(_) => Doing::Over,
+        Move::Invoke(_) => Doing::Waiting,
+    }
+}
+
 impl<'w> Expander<'w> {
     /// The beginning of an expansion, with nothing in progress.
     ///
@@ -254,19 +290,7 @@ impl<'w> Expander<'w> {
         ensures falls { IfOk result (λ m. MoveFalls m (allowed_in left.old self.old) (allowed_in left.new self.new)) }
     {
         let doing = replace(&mut self.doing, Doing::Over);
-        let focus = match doing {
-            Doing::Ready(focus) => focus,
-            Doing::Begins(title, trees, args) => begin_body(
-                self.alloc,
-                left,
-                &mut self.stack,
-                &mut self.scene,
-                trees,
-                title,
-                args,
-            )?,
-            _ => unreachable!(),
-        };
+        let focus = begin_focus(self.alloc, left, &mut self.stack, &mut self.scene, doing)?;
         let next = next_move(
             self.alloc,
             self.pages,
@@ -276,10 +300,7 @@ impl<'w> Expander<'w> {
             &mut self.scene,
             focus,
         )?;
-        match &next {
-            Move::Text(_) => {}
-            Move::Invoke(_) => self.doing = Doing::Waiting,
-        }
+        self.doing = doing_after(&next);
         Ok(next)
     }
 
