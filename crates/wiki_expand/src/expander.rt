@@ -187,6 +187,7 @@ fn begin<'w>(
     args: &[Arg],
 ) -> Result<Doing<'w>, NoMemory>
     requires { NamesDiffer args.now }
+    ensures ready { IfOk result (λ d. ready d) }
     ensures begins { IfOk result (λ d. (w : Setting) (fs : List Waiting) (sc : SceneValue) → sc.args ≡ args.now → doing_point d w fs sc ≡ Some (work_page (work_from (trees_in trees.entry) template sc) (plug w fs sc))) }
 {
     match template {
