@@ -4,11 +4,11 @@
   bench/expansion.py crates/wikiexpand/out/wikiexpand [FOLDER]
 
 A folder of 1,000 pages is made below FOLDER (or a temporary one). Each page is an infobox of 30 parameters, of which 20 are
-given, some text, and a box of links; the templates have nested #if and #switch. These are timed, of each the best wall time of some
-rounds:
+given, some text, and a box of links; the templates have nested #if and #switch. Of each of these, the least processor time of
+some rounds is told (the program has one thread, so on an idle machine that is the time it takes):
 
 - a run that prints a page of plain text of the same folder: reading the folder, cutting and pairing its pages, and starting;
-- a run for each of 100 pages, as a user calls the program, the run above included;
+- a run for each of 20 pages, as a user calls the program, the run above included;
 - one run on a page that transcludes all 1,000, less the time of the plain page: pages and bytes per second in one process;
 - pages of 1,000,000 constructs;
 - a template of many parameters, called with as many arguments.
@@ -20,7 +20,6 @@ import shutil
 import subprocess
 import sys
 import tempfile
-import time
 
 ROUNDS, PAGES = 5, 1000
 PARAMETERS = [f"field{number}" for number in range(1, 31)]
@@ -74,13 +73,14 @@ def make(folder):
 
 
 def seconds(program, folder, page, wanted, options=()):
-    """the wall time of a run, whose output is to be as wanted"""
-    began = time.perf_counter()
-    done = subprocess.run([program, "expand", *options, folder, page], stdout=subprocess.PIPE, check=False)
-    took = time.perf_counter() - began
-    if done.returncode != 0 or done.stdout != wanted:
-        sys.exit(f"{page}: {program} ended with {done.returncode} and {len(done.stdout)} bytes, not {len(wanted)}")
-    return took
+    """the processor time of a run, whose output is to be as wanted"""
+    running = subprocess.Popen([program, "expand", *options, folder, page], stdout=subprocess.PIPE)
+    printed = running.stdout.read()
+    _, status, used = os.wait4(running.pid, 0)
+    running.returncode = status
+    if status != 0 or printed != wanted:
+        sys.exit(f"{page}: {program} ended with {status} and {len(printed)} bytes, not {len(wanted)}")
+    return used.ru_utime + used.ru_stime
 
 
 def best(program, folder, page, wanted, options=()):
@@ -97,10 +97,8 @@ def main():
     plain = best(program, folder, "Plain", b"plain text")
     print(f"a page of plain text, of {PAGES + 6} pages with {read} bytes: {plain:.3f} s")
 
-    began = time.perf_counter()
-    for number in range(0, PAGES, PAGES // 100):
-        seconds(program, folder, f"Page {number}", texts[number])
-    took = (time.perf_counter() - began) / 100
+    numbers = range(0, PAGES, PAGES // 20)
+    took = sum(seconds(program, folder, f"Page {number}", texts[number]) for number in numbers) / len(numbers)
     print(f"a run for each page, whole folder read each time: {took:.3f} s a run")
 
     whole = b"".join(texts)
@@ -125,7 +123,7 @@ def main():
 
 
 def timed(program, folder, files, wanted):
-    """the best wall time of a folder's page P"""
+    """the least time of a folder's page P"""
     os.makedirs(folder)
     for title, text in files.items():
         with open(os.path.join(folder, title + ".wiki"), "w", encoding="utf-8") as page:
