@@ -41,8 +41,8 @@ pub body_begins : (w : Setting) (t : Trees) (title : Title) (args : List Arg) (s
     → sc' ≡ record { title = title; args = args; chain = title ∷ sc.chain } → gs ≡ Body sc.title sc.args ∷ fs → Leads w (body t title args sc (plug w fs sc)) l (onward (ahead s) sc' s.out.items (plug w gs sc')) l'
 body_begins w t title args sc sc' fs gs l l' s n z i h c g =
     leads_on w _ _ _ l l l' (stays w _ _ l (second (is_in title sc.chain) _ _ (plug w fs sc) n))
-        (leads_on w _ _ _ l l' l' (body_entered w _ l l' z i)
-            (stays w _ _ l' (sym (h sc' (plug w gs sc') ∙ ap (λ hs. expand t sc' (plug w hs sc')) g ∙ ap (λ b. expand t b (plug w (Body sc.title sc.args ∷ fs) b)) c))))
+    (leads_on w _ _ _ l l' l' (body_entered w _ l l' z i)
+    (stays w _ _ l' (sym (h sc' (plug w gs sc') ∙ ap (λ hs. expand t sc' (plug w hs sc')) g ∙ ap (λ b. expand t b (plug w (Body sc.title sc.args ∷ fs) b)) c))))
 
 held : (o : Option Trees) (t : Trees) (title : Title) (ps : List Trees) (sc : Scene) (k : List ℕ → Page) → Some t ≡ o → is_in title sc.chain ≡ false
     → template o title ps sc k ≡ Uses tt HasTemplate (λ b. choice b (λ j. arguments ps sc none_given (λ args. body t title args sc j)) (give depth_text) k)

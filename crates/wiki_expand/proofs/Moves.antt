@@ -95,7 +95,7 @@ pub no_level_to : (w : Setting) (t : Thing) (m : Doing (List ℕ)) (k : List ℕ
     → Leads w (Uses tt (TakeBytes (length x)) (λ enough. k (cond enough x size_text))) l2 (k y) l3 → Leads w (open_or tt node_text t k) l (k y) l3
 no_level_to w t m k l l1 l2 l3 x y e n i d j q s =
     leads_on w _ _ _ l l1 l3 (opened w t k l l1 n i)
-        (leads_on w _ _ _ l1 l1 l3 (thing_is w t m k l1 e)
-            (leads_on w _ _ _ l1 l1 l3 (level_none w _ l1 d)
-                (leads_on w _ _ _ l1 l2 l3 (at w (Uses tt (TakeBytes (length depth_text)) (λ enough. k (cond enough depth_text size_text))) l1 l2 (sym j))
-                    (leads_on w _ _ _ l2 l2 l3 (stays w _ _ l2 (ap (λ z. Uses tt (TakeBytes (length z)) (λ enough. k (cond enough z size_text))) (sym q))) s))))
+    (leads_on w _ _ _ l1 l1 l3 (thing_is w t m k l1 e)
+    (leads_on w _ _ _ l1 l1 l3 (level_none w _ l1 d)
+    (leads_on w _ _ _ l1 l2 l3 (at w (Uses tt (TakeBytes (length depth_text)) (λ enough. k (cond enough depth_text size_text))) l1 l2 (sym j))
+    (leads_on w _ _ _ l2 l2 l3 (stays w _ _ l2 (ap (λ z. Uses tt (TakeBytes (length z)) (λ enough. k (cond enough z size_text))) (sym q))) s))))

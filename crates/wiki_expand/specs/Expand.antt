@@ -168,7 +168,7 @@ decided m = do
 abbrev pub by_name : List ℕ → List ℕ → Trees → Scene → Looking → Doing Turn
 by_name x name value sc s =
     choice (are_equal x name) (decided (trimmed (expand value sc)))
-        (give (Next (record { met = false; waits = false; default = cond (s.waits || is_default name) value s.default })))
+    (give (Next (record { met = false; waits = false; default = cond (s.waits || is_default name) value s.default })))
 
 abbrev pub valued : List ℕ → Trees → Trees → Scene → Looking → Doing Turn
 valued x part value sc s = do
@@ -179,7 +179,7 @@ valued x part value sc s = do
 abbrev pub valueless : List ℕ → List ℕ → Bool → Looking → Turn
 valueless x name last s =
     cond last (cond (s.waits || is_default name) (Next s) (Decided name))
-        (Next (record { met = s.met || are_equal x name; waits = s.waits || is_default name; default = s.default }))
+    (Next (record { met = s.met || are_equal x name; waits = s.waits || is_default name; default = s.default }))
 
 abbrev pub turn : Option Trees → List ℕ → Trees → Bool → Scene → Looking → Doing Turn
 turn (Some value) x part last sc s = choice s.met (decided (trimmed (expand value sc))) (valued x part value sc s)

@@ -150,7 +150,6 @@ abbrev pub Moves : Setting → Page → Left → Move → List Frame → Scene �
 Moves w p l (Came x) fs sc l' = Leads w p l (Ends x) l' × (fs ≡ [])
 Moves w p l (Invokes job) fs sc l' = Leads w p l (Run.Asks job (plug w fs sc)) l'
 
-
 abbrev pub Pauses : Setting → Page → Left → Pause → List Frame → Scene → Left → Type 0
 Pauses w p l (PausesDeeper f) fs sc l' = Leads w p l (point w f fs sc) l'
 Pauses w p l (PausesAsking job) fs sc l' = Leads w p l (Run.Asks job (plug w fs sc)) l'

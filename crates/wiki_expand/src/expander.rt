@@ -15,10 +15,10 @@ ghost use Rattle.wiki_expand.specs.Forests.{trees_in};
 ghost use Rattle.wiki_expand.specs.Standing.{ready, LeadsIf, IsDoing, doing_point, work_from, work_page, IsHeldSource, Moves, Pauses, PauseFalls, PauseHeld, At, Waits, IsMove, MoveHeld, MoveNamed, MoveFalls, IsReady, IsWaiting, IsAfter, setting_of, work_of, depth_in, templates_in, allowed_in};
 
 use crate::arguments::Arguments;
+use crate::calls::begin_body;
 use crate::forest::{Forest, Nodes};
 use crate::frame::{Focus, Frame, Inner, Pause, Progress};
 use crate::pages::PageMap;
-use crate::calls::begin_body;
 use crate::resume::resume;
 use crate::stack::Stack;
 use crate::walk::{walk, walk_on};

@@ -140,12 +140,32 @@ fn next_case<'w>(state: Switch<'w>, value: Forest<'w>, set: bool) -> Switch<'w>
     ensures seen { seen_in result.seen ≡ record { met = false; waits = false; default = cond set (trees_in value.entry) (trees_in state.entry.seen.default) } }
     ensures default { size result.seen.default ≤ size value.entry + size state.entry.seen.default }
 {
-    let Switch { value: text, rest, seen } = state;
+    let Switch {
+        value: text,
+        rest,
+        seen,
+    } = state;
     let Seen { default, .. } = seen;
     if set {
-        return Switch { value: text, rest, seen: Seen { met: false, waits: false, default: value } };
+        return Switch {
+            value: text,
+            rest,
+            seen: Seen {
+                met: false,
+                waits: false,
+                default: value,
+            },
+        };
     }
-    Switch { value: text, rest, seen: Seen { met: false, waits: false, default } }
+    Switch {
+        value: text,
+        rest,
+        seen: Seen {
+            met: false,
+            waits: false,
+            default,
+        },
+    }
 }
 
 /// The name of a valued part is there.
@@ -195,7 +215,11 @@ pub fn valueless<'w>(
     }
     let met = seen.met || are_equal(&value, name);
     let Seen { default, .. } = seen;
-    let seen = Seen { met, waits, default };
+    let seen = Seen {
+        met,
+        waits,
+        default,
+    };
     let focus = switch(alloc, stack, Switch { value, rest, seen })?;
     Ok(focus)
 }
@@ -219,7 +243,11 @@ pub fn written<'w>(
         Some((part, rest)) => {
             append(&mut out, b"|")?;
             stack.push(Frame::Written(rest))?;
-            Ok(Focus::Walk(Walk { rest: part, named: false, out }))
+            Ok(Focus::Walk(Walk {
+                rest: part,
+                named: false,
+                out,
+            }))
         }
     }
 }

@@ -71,7 +71,11 @@ fn unsubstituted(text: &[u8]) -> &[u8]
 
 /// The title that a text is read as, if it is one.
 #[tactic(auto, unfolding(crate::specs::Kind::title_named))]
-pub fn title_named(alloc: Global, text: &[u8], default: Namespace) -> Result<Option<Title>, NoMemory>
+pub fn title_named(
+    alloc: Global,
+    text: &[u8],
+    default: Namespace,
+) -> Result<Option<Title>, NoMemory>
     ensures { IfOk result (λ title. title ≡ title_at text.now default) }
 {
     match Title::read(alloc, text, default) {

@@ -35,3 +35,6 @@ mod walk;
 
 pub use expander::{Expander, Move, Source};
 pub use pages::PageMap;
+
+#[cfg(test)]
+mod tests;

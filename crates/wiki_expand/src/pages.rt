@@ -49,12 +49,7 @@ impl PageMap {
     }
 
     /// A page that isn't held yet is held.
-    pub fn add(
-        &mut self,
-        title: Title,
-        direct: Marked,
-        transcluded: Marked,
-    ) -> Result<(), NoMemory>
+    pub fn add(&mut self, title: Title, direct: Marked, transcluded: Marked) -> Result<(), NoMemory>
         requires fresh { held self.old title ≡ None }
         requires direct { IsMarked direct.nodes }
         requires transcluded { IsMarked transcluded.nodes }

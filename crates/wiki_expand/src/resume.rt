@@ -15,10 +15,10 @@ ghost use Rattle.wiki_expand.specs.Asked.{AsksHeld, AsksNamed};
 
 use crate::arguments::Arguments;
 use crate::calls::{function, invoke, name, template, unnamed, value};
+use crate::equality::are_equal;
 use crate::forest::Forest;
 use crate::frame::{Focus, Frame, Inner, Progress, Seen, Switch, Walk};
 use crate::functions::{case, either, if_equal, is_text, switch, valueless, written};
-use crate::equality::are_equal;
 use crate::kind::{Kind, kind_of};
 use crate::pages::PageMap;
 use crate::space::{trim, trimmed};

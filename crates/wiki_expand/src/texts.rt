@@ -48,10 +48,7 @@ pub fn node_text(alloc: Global) -> Result<Vec<u8>, NoMemory>
 pub fn size_text(alloc: Global) -> Result<Vec<u8>, NoMemory>
     ensures { IfOk result (λ made. made.items ≡ size_text) }
 {
-    copied(
-        alloc,
-        b"<span class=\"error\">Include size exceeded</span>",
-    )
+    copied(alloc, b"<span class=\"error\">Include size exceeded</span>")
 }
 
 /// No level of depth or of templates is left.

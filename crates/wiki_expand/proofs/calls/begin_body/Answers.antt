@@ -13,6 +13,6 @@ returns-then-not-enter_body-clause-leads c = λ w.
 pub returns-clause-leads : goal.returns-clause-leads
 returns-clause-leads c = λ w.
     body_begins w (trees_in c.args.trees) c.args.title c.args.args (scene_in c.args.scene.now) (record { title = c.replace-caller.new.dest; args = c.replace-given.new.dest; chain = c.push.new.self }) c.args.stack.now c.push-2.new.self c.args.left.now c.enter_body.new.left c.walk.result
-        (sym c.contains.ensures ∙ c.if-contains.false) c.if-not-enter_body.ensures.enough c.if-not-enter_body.ensures.entered c.walk.ensures.starts
-        (λ i. record { title = c.replace-caller.ensures.after i; args = c.replace-given.ensures.after i; chain = (c.in_ok-push.ensures ∙ ap (λ t. t ∷ c.args.scene.now.chain) c.in_ok-link.ensures) i })
-        (c.in_ok-push-2.ensures ∙ (λ i. Body (c.replace-caller.ensures.value i) (c.replace-given.ensures.value i) ∷ c.args.stack.now))
+    (sym c.contains.ensures ∙ c.if-contains.false) c.if-not-enter_body.ensures.enough c.if-not-enter_body.ensures.entered c.walk.ensures.starts
+    (λ i. record { title = c.replace-caller.ensures.after i; args = c.replace-given.ensures.after i; chain = (c.in_ok-push.ensures ∙ ap (λ t. t ∷ c.args.scene.now.chain) c.in_ok-link.ensures) i })
+    (c.in_ok-push-2.ensures ∙ (λ i. Body (c.replace-caller.ensures.value i) (c.replace-given.ensures.value i) ∷ c.args.stack.now))

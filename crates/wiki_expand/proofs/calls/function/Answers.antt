@@ -13,5 +13,5 @@ use Rattle.wiki_expand.proofs.calls.function.Goals as goal
 pub returns-clause-goes : goal.returns-clause-goes
 returns-clause-goes c = λ page.
     goes_on (setting_in c.args.pages.now page) _ _ c.args.left.now c.args.left.now c.arguments.new.left c.in_ok-progress.progress c.arguments.new.stack _
-        (stays (setting_in c.args.pages.now page) _ _ c.args.left.now (function_starts (setting_in c.args.pages.now page) (module_titled (setting_in c.args.pages.now page) (title_named c.args.name Module)) c.args.name (parts c.args.rest) (scene_in c.args.scene.now) (plug (setting_in c.args.pages.now page) c.args.stack.now (scene_in c.args.scene.now)) c.new.result c.of_vec.result (trim c.args.text.now) c.new.ensures (c.of_vec.ensures ∙ c.in_ok-function.ensures)))
-        (c.in_ok-progress.ensures.goes page)
+    (stays (setting_in c.args.pages.now page) _ _ c.args.left.now (function_starts (setting_in c.args.pages.now page) (module_titled (setting_in c.args.pages.now page) (title_named c.args.name Module)) c.args.name (parts c.args.rest) (scene_in c.args.scene.now) (plug (setting_in c.args.pages.now page) c.args.stack.now (scene_in c.args.scene.now)) c.new.result c.of_vec.result (trim c.args.text.now) c.new.ensures (c.of_vec.ensures ∙ c.in_ok-function.ensures)))
+    (c.in_ok-progress.ensures.goes page)

@@ -24,6 +24,8 @@ returns-in-Asks-clause-moves c =
 
 pub returns-in-Ended-clause-moves : goal.returns-in-Ended-clause-moves
 returns-in-Ended-clause-moves c =
-    let end : Leads (setting_in c.args.pages.now c.args.page.now) (point (setting_in c.args.pages.now c.args.page.now) c.loop-next.focus c.loop-next.stack (scene_in c.loop-next.scene)) c.loop-next.left (Ends c.in-Ended.text.items) c.run.new.left × (c.run.new.stack ≡ []) = rw c.in-Ended.is at c.in_ok-next.ensures.goes in
-    (leads_on (setting_in c.args.pages.now c.args.page.now) _ _ _ c.args.left.now c.loop-next.left c.run.new.left c.loop-next.invariant.leads
-        (leads_on (setting_in c.args.pages.now c.args.page.now) _ _ _ c.loop-next.left c.run.new.left c.run.new.left end.0 (stays (setting_in c.args.pages.now c.args.page.now) _ _ c.run.new.left (ap Ends (sym c.of_vec.ensures)))), end.1)
+    let end : Leads (setting_in c.args.pages.now c.args.page.now) (point (setting_in c.args.pages.now c.args.page.now) c.loop-next.focus c.loop-next.stack (scene_in c.loop-next.scene)) c.loop-next.left (Ends c.in-Ended.text.items) c.run.new.left × (c.run.new.stack ≡ []) = rw c.in-Ended.is at c.in_ok-next.ensures.goes in (
+      leads_on (setting_in c.args.pages.now c.args.page.now) _ _ _ c.args.left.now c.loop-next.left c.run.new.left c.loop-next.invariant.leads
+          (leads_on (setting_in c.args.pages.now c.args.page.now) _ _ _ c.loop-next.left c.run.new.left c.run.new.left end.0 (stays (setting_in c.args.pages.now c.args.page.now) _ _ c.run.new.left (ap Ends (sym c.of_vec.ensures)))),
+      end.1,
+    )

@@ -15,5 +15,5 @@ returns-in-Function-clause-goes c =
 pub returns-clause-goes : goal.returns-clause-goes
 returns-clause-goes c =
     rw c.in-Body.is (leads_on (setting_in c.args.pages.now c.args.page.now) _ _ _ c.args.left.now c.leave_body.new.left c.leave_body.new.left
-        (body_left (setting_in c.args.pages.now c.args.page.now) _ c.args.left.now c.leave_body.new.left c.leave_body.ensures.left)
-        (stays (setting_in c.args.pages.now c.args.page.now) _ _ c.leave_body.new.left (ap (λ b. plug (setting_in c.args.pages.now c.args.page.now) c.args.stack.now b c.args.text.items) (sym c.leave_body.ensures.scene))))
+    (body_left (setting_in c.args.pages.now c.args.page.now) _ c.args.left.now c.leave_body.new.left c.leave_body.ensures.left)
+    (stays (setting_in c.args.pages.now c.args.page.now) _ _ c.leave_body.new.left (ap (λ b. plug (setting_in c.args.pages.now c.args.page.now) c.args.stack.now b c.args.text.items) (sym c.leave_body.ensures.scene))))
