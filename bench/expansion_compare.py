@@ -92,4 +92,6 @@ def main():
 if __name__ == "__main__":
     sys.setrecursionlimit(1000000)
     threading.stack_size(1 << 29)
-    threading.Thread(target=main).start()
+    worker = threading.Thread(target=main)
+    worker.start()
+    worker.join()
