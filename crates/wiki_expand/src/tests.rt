@@ -92,5 +92,6 @@ fn worked_pages_hold(_rt: HostRuntime) -> Result<(), Fail> {
     examples::invocations();
     examples::limits();
     laws::trees_read_back();
+    laws::pages_read_back();
     Ok(())
 }
