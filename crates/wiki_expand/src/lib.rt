@@ -11,6 +11,7 @@
 //! - `kind`, `equality`, `texts`, `space`: plain functions of texts
 //! - `arguments`, `forest`, `stack`, `allowances`: what the others stand on
 //! - `examples`: worked pages
+//! - `laws`: what holds of the definitions
 //!
 //! The definitions stand in `specs/`: `Expand` is the expansion as its events, `Told` what it comes to, `Standing` what an
 //! expander at a point of a run is.
@@ -26,6 +27,7 @@ mod forest;
 mod frame;
 mod functions;
 mod kind;
+pub mod laws;
 pub mod pages;
 mod resume;
 mod space;

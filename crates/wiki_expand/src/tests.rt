@@ -2,7 +2,7 @@
 ghost use Rattle.std.specs.Prelude.{◌≡◌, IfOk};
 ghost use Rattle.wiki_markup.specs.Formed.{IsMarked};
 
-use crate::{Expander, Move, PageMap, Source, examples};
+use crate::{Expander, Move, PageMap, Source, examples, laws};
 use mw_frame::Scene;
 use std::alloc::Global;
 use std::test::Fail;
@@ -91,5 +91,7 @@ fn worked_pages_hold(_rt: HostRuntime) -> Result<(), Fail> {
     examples::words();
     examples::invocations();
     examples::limits();
+    laws::trees_read_back();
+    laws::pages_read_back();
     Ok(())
 }
