@@ -32,6 +32,5 @@ pub use parser::parse;
 
 #[cfg(test)]
 mod tests;
-
 #[cfg(test)]
 mod tree_tests;

@@ -28,6 +28,7 @@ held_last pages title e n = lookup_last (titles.ghosts.eq title) pages title e n
 pub added_back : (pages : Pages) (title : Title) (e : Entry) (direct transcluded : ShownText) → held pages title ≡ None
     → e.direct.nodes ≡ marked_of direct → e.transcluded.nodes ≡ marked_of transcluded
     → (direct_in (pages ++ (title, e) ∷ []) title ≡ Some (pairing direct)) × (included_in (pages ++ (title, e) ∷ []) title ≡ Some (pairing transcluded))
-added_back pages title e direct transcluded n d t =
-    ( ap (option_map direct_of) (held_last pages title e n) ∙ ap (λ ns. Some (trees_at 0 ns)) d ∙ ap (λ ts. Some ts) (pairing_back direct)
-    , ap (option_map included_of) (held_last pages title e n) ∙ ap (λ ns. Some (trees_at 0 ns)) t ∙ ap (λ ts. Some ts) (pairing_back transcluded))
+added_back pages title e direct transcluded n d t = (
+  ap (option_map direct_of) (held_last pages title e n) ∙ ap (λ ns. Some (trees_at 0 ns)) d ∙ ap (λ ts. Some ts) (pairing_back direct),
+  ap (option_map included_of) (held_last pages title e n) ∙ ap (λ ns. Some (trees_at 0 ns)) t ∙ ap (λ ts. Some ts) (pairing_back transcluded),
+)

@@ -81,7 +81,7 @@ read_laid (equals rest) at l =
     ∙ ap equals (leaf_at at (preorder (at + 1) rest) ∙ read_laid rest (at + 1) l)
 read_laid (node kind inside rest) at l =
     node_by kind inside rest at (count inside) (preorder (at + 1) inside) (preorder (at + 1 + count inside) rest) (sym (count_is inside (at + 1)))
-        (read_laid inside (at + 1) l.1) (read_laid rest (at + 1 + count inside) l.2)
+    (read_laid inside (at + 1) l.1) (read_laid rest (at + 1 + count inside) l.2)
     ∙ node_read kind inside rest l.0
 
 -- trees of a page's form are such trees
