@@ -2,8 +2,8 @@
 ghost use Rattle.std.specs.Prelude.{◌≡◌, ◌<◌, ◌≤◌, ◌+◌, length};
 ghost use Rattle.lua_grammar.specs.View.{function_view};
 ghost use Rattle.lua_parser.specs.Parsing.{Ended, nothing};
-ghost use Rattle.lua_parser.specs.StatAnswers.{Behind};
 ghost use Rattle.lua_parser.specs.Answers.{Answer, BlockAnswer, body_lang};
+ghost use Rattle.lua_parser.specs.StatAnswers.{Behind};
 
 use crate::answer::{Fault, Parsed, bad};
 use crate::around::in_function;

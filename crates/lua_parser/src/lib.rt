@@ -1,4 +1,11 @@
 //! The parser of Lua (manual 8): the chunk that a text spells, or the first fault.
+//!
+//! - `parser`: `parse`, over the tokens of a text
+//! - `blocks`, `stats`, `loops`, `conditions`, `locals`, `assignments`, `functions`: statements
+//! - `exprs`, `prefixes`, `tables`: expressions
+//! - `params`, `names`, `operators`, `ends`: lists of names, operators, and what ends a block
+//! - `make`: a node is made, with the plain tree for which it stands
+//! - `tokens`, `around`, `answer`: a look at a token, what stands around a node, and what a function of the parser answers
 #![tactic(auto)]
 
 pub mod answer;
@@ -23,5 +30,7 @@ pub mod tokens;
 
 pub use parser::parse;
 
+#[cfg(test)]
+mod tests;
 #[cfg(test)]
 mod tree_tests;

@@ -1,115 +1,83 @@
--- The least border of a sequence after one place of it has changed.
-use Rattle.std.proofs.Common.{◌≡◌, ◌≢◌, ◌∙◌, sym, Bool, true, false, true≢false, List, [], Option, Some, ℤ, pos, refl, ap, ℕ, zero, suc, ◌+◌, ◌<◌, ◌≤◌, ◌⊎◌, inl, inr, arith}
+-- The run of numbers that are keys, with the marks of those that are cleared, and the least border that they tell.
+use Rattle.std.proofs.Common.{◌≡◌, ◌≢◌, ◌∙◌, sym, Bool, true, false, true≢false, List, [], Option, Some, None, ℤ, pos, refl, ap, ℕ, zero, suc, ◌+◌, ◌<◌, ◌≤◌, ◌⊎◌, inl, inr, arith, length, is_some, unwrap_or, get_or, add-one}
 use Rattle.std.specs.Cmp.{IsEquivalence}
-use Rattle.lua_table.proofs.FrontLemmas.{not_true, number_apart}
-use Rattle.lua_table.proofs.SetLemmas.{value_at-other, value_at-same, HasKeys-empty, HasKeys-set}
-use Rattle.lua_table.specs.Entries.{IsLeastBorder, IsRunOf, IsBorder, IsRun, HasKeys, value_at, set_at}
+use Rattle.std.specs.Map.{lookup}
+use Rattle.lua_table.proofs.FrontLemmas.{not_true}
+use Rattle.lua_table.proofs.SetLemmas.{value_at-other, value_at-same, lookup-other, HasKeys-empty, HasKeys-set}
+use Rattle.lua_table.specs.Entries.{IsBorder, HasKeys, value_at, set_at}
+use Rattle.lua_table.specs.Holes.{IsTold, IsToldBut}
 
--- two numbers are the same or not
-split : (k n : ℕ) → (k ≡ n) ⊎ (k ≡ n → ⊥)
-split zero zero = inl refl
-split zero (suc n) = inr (λ e. omega arith)
-split (suc k) zero = inr (λ e. omega arith)
-split (suc k) (suc n) = elim (split k n) [ inl e ↦ inl (ap suc e) | inr d ↦ inr (λ e. d (omega arith)) ]
-
-near_or_far : (k b : ℕ) → (k ≤ b) ⊎ (b < k)
+pub near_or_far : (k b : ℕ) → (k ≤ b) ⊎ (b < k)
 near_or_far zero b = inl (omega arith)
 near_or_far (suc k) zero = inr (omega arith)
 near_or_far (suc k) (suc b) = elim (near_or_far k b) [ inl e ↦ inl (omega arith) | inr e ↦ inr (omega arith) ]
 
-module _ {V : Type 0} (nil : V) (old new : ℕ → V) where
-  -- where nothing has changed
-  pub border-unmoved : (b : ℕ) → ((k : ℕ) → 0 < k → new k ≡ old k) → IsLeastBorder nil old b → IsLeastBorder nil new b
-  border-unmoved b agree is = record {
-    below = λ k low high h. is.below k low high (sym (agree k low) ∙ h);
-    above = λ fits. agree (b + 1) (omega arith) ∙ is.above fits;
-  }
-
-  module _ (n b : ℕ) (agree : (k : ℕ) → 0 < k → (k ≡ n → ⊥) → new k ≡ old k) (is : IsLeastBorder nil old b) where
-    -- a place below the border is cleared
-    pub border-lowered : (m : ℕ) → n ≡ m + 1 → n ≤ b → new n ≡ nil → IsLeastBorder nil new m
-    border-lowered m next within cleared = record {
-      below = λ k low high h. is.below k low (omega arith) (sym (agree k low (λ e. omega arith)) ∙ h);
-      above = λ fits. let same : m + 1 ≡ n = sym next in rw same cleared;
-    }
-
-    -- a place after the next one is changed, or the next one stays nil
-    pub border-beyond : b < n → (n ≡ b + 1 → new n ≡ nil) → IsLeastBorder nil new b
-    border-beyond beyond stays = record {
-      below = λ k low high h. is.below k low high (sym (agree k low (λ e. omega arith)) ∙ h);
-      above = λ fits. elim (split (b + 1) n) [ inl e ↦ rw e (stays (sym e)) | inr d ↦ agree (b + 1) (omega arith) d ∙ is.above fits ];
-    }
-
-    -- a place below the border keeps a value
-    pub border-kept : n ≤ b → new n ≢ nil → IsLeastBorder nil new b
-    border-kept within held = record {
-      below = λ k low high h. elim (split k n) [ inl e ↦ held (sym (ap new e) ∙ h) | inr d ↦ is.below k low high (sym (agree k low d) ∙ h) ];
-      above = λ fits. agree (b + 1) (omega arith) (λ e. omega arith) ∙ is.above fits;
-    }
-
-    -- the next place has got a value, and those after it are reached with it
-    pub border-raised : (to : ℕ) → n ≡ b + 1 → new n ≢ nil → IsRunOf nil old n to → IsLeastBorder nil new to
-    border-raised to next held run = record {
-      below = λ k low high h. elim (split k n) [ inl e ↦ held (sym (ap new e) ∙ h) | inr d ↦ reached k low high d (sym (agree k low d) ∙ h) ];
-      above = λ fits. agree (to + 1) (omega arith) (λ e. let onward : n ≤ to = run.onward in omega arith) ∙ run.ends fits;
-    }
-      where
-        reached : (k : ℕ) → 0 < k → k ≤ to → (k ≡ n → ⊥) → old k ≢ nil
-        reached k low high d = elim (near_or_far k b) [ inl near ↦ is.below k low near | inr far ↦ run.held k (omega arith) high ]
-
 -- a table without entries
-pub empty-table : {V : Type 0} (eq : V → V → Bool) (nil : V) (number : ℤ → V) (es : List (V × V)) → es ≡ []
-    → (0 ≤ 9223372036854775807) × IsBorder eq nil number es 0 × HasKeys eq nil es
-empty-table eq nil number es none =
-    rw none (omega arith, record { below = λ k low high. absurd (omega arith); above = λ fits. refl }, HasKeys-empty eq nil)
+pub empty-table : {V : Type 0} (eq : V → V → Bool) (nil : V) (number : ℤ → V) (es : List (V × V)) (marks : List Bool) → es ≡ []
+    → IsTold eq nil number es marks 0 × HasKeys eq nil es
+empty-table eq nil number es marks none =
+    rw none (record { most = omega arith; fits = omega arith; right = λ k low. absurd (omega arith); ends = λ fits. refl }, HasKeys-empty eq nil)
 
-module _ {V : Type 0} (eq : V → V → Bool) (nil : V) (number : ℤ → V) (same : (a b : V) → eq a b ≡ true → a ≡ b)
-    (es : List (V × V)) (key value : V) (b : ℕ) (is : IsBorder eq nil number es b) where
-  -- a key that is no number from 1 on
-  pub set-unmoved : ((n : ℕ) → 0 < n → key ≢ number (pos n)) → IsBorder eq nil number (set_at eq nil es key value) b
-  set-unmoved absent =
-      border-unmoved nil (λ k. value_at eq nil es (number (pos k))) (λ k. value_at eq nil (set_at eq nil es key value) (number (pos k))) b
-      (λ k low. value_at-other eq nil same es key value (number (pos k)) (not_true _ (λ h. absent k low (sym (same (number (pos k)) key h))))) is
+nothing-there : {V : Type 0} (found : Option V) (nil : V) → is_some found ≡ false → unwrap_or found nil ≡ nil
+nothing-there None nil h = refl
+nothing-there (Some v) nil h = cc
 
-  -- the number n
-  module _ (laws : IsEquivalence eq) (whole : V → Option ℤ) (back : (n : ℤ) → whole (number n) ≡ Some n) (n : ℕ) (named : key ≡ number (pos n)) where
-    agree : (k : ℕ) → 0 < k → (k ≡ n → ⊥) → value_at eq nil (set_at eq nil es key value) (number (pos k)) ≡ value_at eq nil es (number (pos k))
-    agree k low differ =
-        value_at-other eq nil same es key value (number (pos k)) (ap (eq (number (pos k))) named ∙ number_apart eq number same whole back k n differ)
+module _ {V : Type 0} (eq : V → V → Bool) (nil : V) (number : ℤ → V) (es : List (V × V)) (marks : List Bool) (run : ℕ) (told : IsTold eq nil number es marks run) where
+  module _ (laws : IsEquivalence eq) (same : (a b : V) → eq a b ≡ true → a ≡ b) where
+    held : (n : ℕ) → ((k : ℕ) → k < n → get_or marks k false ≡ false) → n ≤ run → (k : ℕ) → 0 < k → k ≤ n → value_at eq nil es (number (pos k)) ≢ nil
+    held n before within zero low high h = absurd (omega arith)
+    held n before within (suc k) low high h =
+        let here : eq (value_at eq nil es (number (pos (k + 1)))) nil ≡ false = sym (told.right k (omega arith)) ∙ before k (omega arith) in
+        let is : value_at eq nil es (number (pos (k + 1))) ≡ nil = ap (λ m. value_at eq nil es (number (pos m))) (add-one k) ∙ h in
+        true≢false (sym (laws.refl nil) ∙ ap (λ v. eq v nil) (sym is) ∙ here)
 
-    here : value_at eq nil (set_at eq nil es key value) (number (pos n)) ≡ value
-    here = ap (λ k. value_at eq nil (set_at eq nil es key value) k) (sym named) ∙ value_at-same eq nil laws.refl same es key value
+    -- the first mark is the border
+    pub border-marked : (place : ℕ) → place < run → get_or marks place false ≡ true → ((k : ℕ) → k < place → get_or marks k false ≡ false) → IsBorder eq nil number es place
+    border-marked place within marked before = record {
+      below = held place before (omega arith);
+      above = λ _. same (value_at eq nil es (number (pos (place + 1)))) nil (sym (told.right place within) ∙ marked);
+    }
 
-    not_nil : false ≡ eq value nil → value_at eq nil (set_at eq nil es key value) (number (pos n)) ≢ nil
-    not_nil held h = true≢false (sym (laws.refl nil) ∙ ap (λ v. eq v nil) (sym h ∙ here) ∙ sym held)
+    -- where the run has no mark, its end is
+    pub border-end : ((k : ℕ) → k < run → get_or marks k false ≡ false) → IsBorder eq nil number es run
+    border-end before = record {
+      below = held run before (omega arith);
+      above = λ fits. nothing-there (lookup (eq (number (pos (run + 1)))) es) nil (told.ends fits);
+    }
 
-    pub set-lowered : (m : ℕ) → n ≡ m + 1 → n ≤ b → true ≡ eq value nil → IsBorder eq nil number (set_at eq nil es key value) m
-    set-lowered m next within cleared =
-        border-lowered nil (λ k. value_at eq nil es (number (pos k))) (λ k. value_at eq nil (set_at eq nil es key value) (number (pos k))) n b agree is
-        m next within (here ∙ same value nil (sym cleared))
+-- a set, with the mark of its key
+module _ {V : Type 0} (eq : V → V → Bool) (nil : V) (number : ℤ → V) (laws : IsEquivalence eq) (same : (a b : V) → eq a b ≡ true → a ≡ b)
+    (es : List (V × V)) (key value : V) where
+  pub told-set : (marks after : List Bool) (run : ℕ) (cleared : Bool) → IsToldBut eq nil number key es marks run → cleared ≡ eq value nil → length after ≡ length marks
+      → ((k : ℕ) → k < run → key ≡ number (pos (k + 1)) → get_or after k false ≡ cleared)
+      → ((k : ℕ) → key ≢ number (pos (k + 1)) → get_or after k false ≡ get_or marks k false)
+      → IsTold eq nil number (set_at eq nil es key value) after run
+  told-set marks after run cleared told is long here others =
+      let fits : run ≤ length marks = told.fits in
+      record {
+        most = told.most;
+        fits = omega arith;
+        right = λ k low. by k low (eq (number (pos (k + 1))) key) refl;
+        ends = λ fits.
+            let apart : eq (number (pos (run + 1))) key ≡ false = not_true _ (λ h. told.other fits (sym (same (number (pos (run + 1))) key h))) in
+            ap is_some (lookup-other eq nil same es key value (number (pos (run + 1))) apart) ∙ told.ends fits;
+      }
+    where
+      by : (k : ℕ) → k < run → (b : Bool) → eq (number (pos (k + 1))) key ≡ b → get_or after k false ≡ eq (value_at eq nil (set_at eq nil es key value) (number (pos (k + 1)))) nil
+      by k low true h =
+          let named : key ≡ number (pos (k + 1)) = sym (same (number (pos (k + 1))) key h) in
+          here k low named ∙ is
+          ∙ ap (λ v. eq v nil) (sym (value_at-same eq nil laws.refl same es key value) ∙ ap (λ n. value_at eq nil (set_at eq nil es key value) n) named)
+      by k low false h =
+          let other : key ≢ number (pos (k + 1)) = λ e. true≢false (sym (laws.refl key) ∙ ap (λ n. eq n key) e ∙ h) in
+          others k other ∙ told.right k low other
+          ∙ ap (λ v. eq v nil) (sym (value_at-other eq nil same es key value (number (pos (k + 1))) h))
 
-    pub set-left : b < n → true ≡ eq value nil → IsBorder eq nil number (set_at eq nil es key value) b
-    set-left beyond cleared =
-        border-beyond nil (λ k. value_at eq nil es (number (pos k))) (λ k. value_at eq nil (set_at eq nil es key value) (number (pos k))) n b agree is
-        beyond (λ next. here ∙ same value nil (sym cleared))
-
-    pub set-apart : (n ≡ b + 1 → ⊥) → false ≡ eq value nil → IsBorder eq nil number (set_at eq nil es key value) b
-    set-apart differ held =
-        elim (near_or_far n b) [
-          | inl within ↦ border-kept nil (λ k. value_at eq nil es (number (pos k))) (λ k. value_at eq nil (set_at eq nil es key value) (number (pos k))) n b agree is
-              within (not_nil held)
-          | inr beyond ↦ border-beyond nil (λ k. value_at eq nil es (number (pos k))) (λ k. value_at eq nil (set_at eq nil es key value) (number (pos k))) n b agree is
-              beyond (λ next. absurd (differ next))
-        ]
-
-    pub set-raised : (to : ℕ) → n ≡ b + 1 → false ≡ eq value nil → IsRun eq nil number es n to → IsBorder eq nil number (set_at eq nil es key value) to
-    set-raised to next held run =
-        border-raised nil (λ k. value_at eq nil es (number (pos k))) (λ k. value_at eq nil (set_at eq nil es key value) (number (pos k))) n b agree is
-        to next (not_nil held) run
-
--- what is true of a table stays so after a set
-pub table-set : {V : Type 0} (eq : V → V → Bool) (nil : V) (number : ℤ → V) → IsEquivalence eq → (es : List (V × V)) (key value : V) (b : ℕ) (new : List (V × V))
-    → new ≡ set_at eq nil es key value → b ≤ 9223372036854775807 → IsBorder eq nil number (set_at eq nil es key value) b → key ≢ nil → HasKeys eq nil es
-    → (b ≤ 9223372036854775807) × IsBorder eq nil number new b × HasKeys eq nil new
-table-set eq nil number laws es key value b new is most after named has =
-    rw is (most, after, HasKeys-set eq nil laws es key value named has)
+  -- what is true of a table stays so after a set
+  pub table-set : (marks after : List Bool) (run : ℕ) (cleared : Bool) (new : List (V × V)) → new ≡ set_at eq nil es key value → key ≢ nil → HasKeys eq nil es
+      → IsToldBut eq nil number key es marks run → cleared ≡ eq value nil → length after ≡ length marks
+      → ((k : ℕ) → k < run → key ≡ number (pos (k + 1)) → get_or after k false ≡ cleared)
+      → ((k : ℕ) → key ≢ number (pos (k + 1)) → get_or after k false ≡ get_or marks k false)
+      → IsTold eq nil number new after run × HasKeys eq nil new
+  table-set marks after run cleared new stored named has told is long here others =
+      rw stored (told-set marks after run cleared told is long here others, HasKeys-set eq nil laws es key value named has)

@@ -1,3 +1,4 @@
 pub mod BorderLemmas
 pub mod FrontLemmas
 pub mod SetLemmas
+mod TreeLemmas

@@ -37,7 +37,7 @@ module _ {V : Type 0} (eq : V → V → Bool) (nil : V) where
   set_at-skipped es key value false cleared at is h = sym (set_at-nothing es key value (sym at) (sym is ∙ h))
 
   -- what a set leaves at another key
-  lookup-other : (same : (a b : V) → eq a b ≡ true → a ≡ b) (es : List (V × V)) (key value k : V) → eq k key ≡ false
+  pub lookup-other : (same : (a b : V) → eq a b ≡ true → a ≡ b) (es : List (V × V)) (key value k : V) → eq k key ≡ false
       → lookup (eq k) (set_at eq nil es key value) ≡ lookup (eq k) es
   lookup-other same [] key value k other = by (eq value nil)
     where

@@ -59,12 +59,3 @@ pub record IsLeastBorder {V : Type 0} (nil : V) (value : ℕ → V) (n : ℕ) : 
 -- n is the least border of a table, where `number` gives the keys
 abbrev pub IsBorder : {V : Type 0} → (V → V → Bool) → V → (ℤ → V) → List (V × V) → ℕ → Type 0
 IsBorder eq nil number es n = IsLeastBorder nil (λ k. value_at eq nil es (number (pos k))) n
-
--- each number after `from` up to `to` has a value, and the next one has none
-pub record IsRunOf {V : Type 0} (nil : V) (value : ℕ → V) (from to : ℕ) : Type 0 where
-  pub onward : from ≤ to
-  pub held : (k : ℕ) → from < k → k ≤ to → value k ≢ nil
-  pub ends : to < 9223372036854775807 → value (to + 1) ≡ nil
-
-abbrev pub IsRun : {V : Type 0} → (V → V → Bool) → V → (ℤ → V) → List (V × V) → ℕ → ℕ → Type 0
-IsRun eq nil number es from to = IsRunOf nil (λ k. value_at eq nil es (number (pos k))) from to

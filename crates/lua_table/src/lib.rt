@@ -2,11 +2,13 @@
 //!
 //! - `table`: a table, its calls and their refusals
 //! - `entries`: the list of its entries, of which the keys 1, 2, 3 and so on may stand in an array
+//! - `holes`: which of the keys 1, 2, 3 and so on are cleared, and the first of them
 #![tactic(auto)]
 
 ghost use Rattle.std.specs.Prelude.{◌≡◌, ◌↔◌, ℤ, Option, Some, None, IsTrue, true};
 
 mod entries;
+mod holes;
 pub mod table;
 #[cfg(test)]
 mod tests;
@@ -14,6 +16,8 @@ mod tests;
 // A crate can name a table in a contract only if the types of its fields are exported.
 #[doc(hidden)]
 pub use entries::Entries;
+#[doc(hidden)]
+pub use holes::Holes;
 use std::hash::Hash;
 pub use table::{NoSuchKey, SetFault, Step, Table};
 

@@ -1,9 +1,10 @@
 //! A table, its calls and their refusals.
-ghost use Rattle.std.specs.Prelude.{◌≡◌, ◌≢◌, ◌↔◌, ◌+◌, ◌&&◌, ◌<◌, ◌≤◌, ℕ, pos, [], not, true, false, IfSome, IfNone, IfOk, OnOk, OnErr, MatchOption, MatchResult, None};
-ghost use Rattle.lua_table.specs.Entries.{Contents, value_at, is_there, set_at, after_key, first_held, IsBorder, IsRun, Shows, HasKeys};
+ghost use Rattle.std.specs.Prelude.{◌≡◌, ◌≢◌, ◌↔◌, ◌+◌, ◌&&◌, ◌<◌, ◌≤◌, ℕ, pos, [], length, not, true, false, IfSome, IfNone, IfOk, OnOk, OnErr, MatchOption, MatchResult, None};
+ghost use Rattle.lua_table.specs.Entries.{Contents, value_at, is_there, set_at, after_key, first_held, IsBorder, Shows, HasKeys};
+ghost use Rattle.lua_table.specs.Holes.{marked, IsTold, IsToldBut, IsRun};
 
-use crate::{Entries, Slot};
-use std::alloc::Global;
+use crate::{Entries, Holes, Slot};
+use std::alloc::{AllocError, Global};
 use std::marker::Model;
 
 /// The greatest whole number, so the greatest border.
@@ -39,20 +40,23 @@ pub struct Step<V> {
 #[derive(Drop)]
 pub struct Table<V: Slot> {
     entries: Entries<V>,
-    border: u64,
+    /// The numbers from 1 up to this one are keys, cleared or not, and the next one is none.
+    run: u64,
+    /// Which of them are cleared: the place of the number n is n - 1.
+    holes: Holes,
     meta: V,
     frozen: bool,
 }
 
 impl<V: Slot> Model for Table<V> {
-    ghost use Rattle.std.specs.Prelude.{◌≤◌};
-    ghost use Rattle.lua_table.specs.Entries.{Contents, IsBorder, HasKeys};
+    ghost use Rattle.lua_table.specs.Entries.{Contents, HasKeys};
+    ghost use Rattle.lua_table.specs.Holes.{IsTold};
 
     ghost Value = { Contents V };
 
     ghost view = { λ t. record { entries = t.entries; meta = t.meta; frozen = t.frozen } };
 
-    ghost invariant = { λ t. (t.border ≤ 9223372036854775807) × IsBorder V.eq V.nil_value V.number_of t.entries t.border × HasKeys V.eq V.nil_value t.entries };
+    ghost invariant = { λ t. IsTold V.eq V.nil_value V.number_of t.entries t.holes t.run × HasKeys V.eq V.nil_value t.entries };
 }
 
 impl<V: Slot> Table<V> {
@@ -62,7 +66,8 @@ impl<V: Slot> Table<V> {
     {
         Table {
             entries: Entries::new(alloc),
-            border: 0,
+            run: 0,
+            holes: Holes::new(alloc),
             meta: V::nil(),
             frozen: false,
         }
@@ -131,10 +136,14 @@ impl<V: Slot> Table<V> {
         if !there & cleared {
             return Ok(false);
         }
-        let border = border_after(&self.entries, self.border, &key, &value);
+        let run = match run_with(&self.entries, &mut self.holes, self.run, &key) {
+            Ok(run) => run,
+            Err(_) => return Err(SetFault::NoMemory),
+        };
         match self.entries.put(key, value) {
             Ok(_) => {
-                self.border = border;
+                mark_key(&mut self.holes, run, &key, cleared);
+                self.run = run;
                 Ok(!there)
             }
             Err(_) => Err(SetFault::NoMemory),
@@ -168,30 +177,36 @@ impl<V: Slot> Table<V> {
     pub fn border(&self) -> i64
         ensures { (n : ℕ) × (result ≡ pos n) × IsBorder V.eq V.nil_value V.number_of self.now.entries n }
     {
-        self.border as i64
+        match self.holes.first() {
+            Some(place) => {
+                if (place as u64) < self.run {
+                    place as i64
+                } else {
+                    self.run as i64
+                }
+            }
+            None => self.run as i64,
+        }
     }
 }
 
-/// The least border once `key` has been given the value, where `border` is the one before.
-fn border_after<V: Slot>(entries: &Entries<V>, border: u64, key: &V, value: &V) -> u64
-    requires most { border ≤ 9223372036854775807 }
-    requires before { IsBorder V.eq V.nil_value V.number_of entries.now border }
-    ensures most { result ≤ 9223372036854775807 }
-    ensures after { IsBorder V.eq V.nil_value V.number_of (set_at V.eq V.nil_value entries.now key.now value.now) result }
+/// How far the numbers are keys without a gap once `key` is one, where `run` is how far they are before.
+///
+/// The marks of those that are passed are set, but not the mark of `key`.
+fn run_with<V: Slot>(
+    entries: &Entries<V>,
+    holes: &mut Holes,
+    run: u64,
+    key: &V,
+) -> Result<u64, AllocError>
+    requires { IsTold V.eq V.nil_value V.number_of entries.now holes.old run }
+    ensures ok { IfOk result (λ to. IsToldBut V.eq V.nil_value V.number_of key.now entries.now holes.new to) }
+    ensures still { IsTold V.eq V.nil_value V.number_of entries.now holes.new run }
+    ensures absent { OnErr result (is_there V.eq V.nil_value entries.now key.now ≡ false) }
 {
     match place_of(key) {
-        None => border,
-        Some(n) => {
-            if value.is_nil() {
-                if n <= border { n - 1 } else { border }
-            } else {
-                if n == border + 1 {
-                    run_from(entries, n)
-                } else {
-                    border
-                }
-            }
-        }
+        Some(n) if n == run + 1 => run_from(entries, holes, n),
+        _ => Ok(run),
     }
 }
 
@@ -206,26 +221,37 @@ fn place_of<V: Slot>(key: &V) -> Option<u64>
     }
 }
 
-/// How far the numbers after `from` have values without a gap.
-fn run_from<V: Slot>(entries: &Entries<V>, from: u64) -> u64
-    requires { from ≤ 9223372036854775807 }
-    ensures most { result ≤ 9223372036854775807 }
-    ensures run { IsRun V.eq V.nil_value V.number_of entries.now from result }
+/// How far the numbers after `from` are keys without a gap. The marks of those that are passed are set.
+fn run_from<V: Slot>(entries: &Entries<V>, holes: &mut Holes, from: u64) -> Result<u64, AllocError>
+    requires some { 0 < from }
+    requires most { from ≤ 9223372036854775807 }
+    requires fits { from ≤ length holes.old + 1 }
+    ensures same { (k : ℕ) → k + 1 < from → marked holes.new k ≡ marked holes.old k }
+    ensures longer { length holes.old ≤ length holes.new }
+    ensures run { IfOk result (λ to. IsRun V.eq V.nil_value V.number_of entries.now holes.new from to) }
 {
+    holes.make_room(from as usize - 1)?;
     for n in from..MOST {
-        if value_at_number(entries, n + 1).is_nil() {
-            return n;
+        match entries.get(&V::number(n as i64 + 1)) {
+            None => return Ok(n),
+            Some(value) => {
+                holes.make_room(n as usize)?;
+                holes.put(n as usize, value.is_nil());
+            }
         }
     }
-    MOST
+    Ok(MOST)
 }
 
-fn value_at_number<V: Slot>(entries: &Entries<V>, n: u64) -> V
-    requires { n ≤ 9223372036854775807 }
-    ensures { result ≡ value_at V.eq V.nil_value entries.now (V.number_of (pos n)) }
+/// Gives a key that is a number up to `run` its mark.
+fn mark_key<V: Slot>(holes: &mut Holes, run: u64, key: &V, cleared: bool)
+    requires { run ≤ length holes.old }
+    ensures longer { length holes.new ≡ length holes.old }
+    ensures here { (k : ℕ) → k < run → key.now ≡ V.number_of (pos (k + 1)) → marked holes.new k ≡ cleared }
+    ensures others { (k : ℕ) → key.now ≢ V.number_of (pos (k + 1)) → marked holes.new k ≡ marked holes.old k }
 {
-    match entries.get(&V::number(n as i64)) {
-        Some(value) => value,
-        None => V::nil(),
+    match place_of(key) {
+        Some(n) if n <= run => holes.put(n as usize - 1, cleared),
+        _ => {}
     }
 }

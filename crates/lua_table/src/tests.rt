@@ -290,3 +290,43 @@ fn seeded_calls_agree_with_a_plain_list(rt: HostRuntime) -> Result<(), Fail> {
     }
     Ok(())
 }
+
+/// The key that a step of the test below sets: first 1 to 60, then 100 down to 62, then one of these 39, then any up to 100,
+/// of which the first four are the likeliest.
+fn key_of_step(step: u64, seed: u64) -> Word {
+    let pick = (seed >> 33) % 100;
+    let place = if step < 60 {
+        step
+    } else if step < 99 {
+        158 - step
+    } else if step < 120 {
+        61 + pick % 39
+    } else if (seed >> 20) % 2 == 0 {
+        pick % 4
+    } else {
+        pick
+    };
+    n(place as i64 + 1)
+}
+
+#[test]
+fn keys_are_cleared_and_filled_below_a_long_run(rt: HostRuntime) -> Result<(), Fail> {
+    let mut table = Table::new(rt.alloc());
+    let mut entries = Vec::new(rt.alloc());
+    let mut seed = 19931001u64;
+    for step in 0..900u64 {
+        seed = seed
+            .wrapping_mul(6364136223846793005)
+            .wrapping_add(1442695040888963407);
+        let key = key_of_step(step, seed);
+        let value = if step >= 99 && (step < 120 || (seed >> 50) % 2 == 0) {
+            NIL
+        } else {
+            n(step as i64)
+        };
+        let made = plain_set(&mut entries, key, value)?;
+        assert_eq!(rt; table.set(key, value), Ok(made));
+        agrees(&rt, &table, &entries, key);
+    }
+    Ok(())
+}

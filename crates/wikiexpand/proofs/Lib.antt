@@ -1,2 +1,5 @@
+pub mod ItemLemmas
+pub mod NumberLemmas
+pub mod PageLemmas
 pub mod PutLemmas
 pub mod RunLemmas

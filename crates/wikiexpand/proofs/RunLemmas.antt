@@ -1,8 +1,7 @@
--- What a run leaves where a read failed, and what other words are.
-use Rattle.std.proofs.Common.{◌≡◌, ℕ, false, List, [], ◌∷◌, inr, refl, sym, append-nil}
+-- What a run leaves where a read failed.
+use Rattle.std.proofs.Common.{ℕ, List, inr, refl, sym, append-nil}
 use Rattle.std.specs.Prelude.{Option, Some, None, IfSome}
 use Rattle.wk_shelf.specs.Put.{PutsSome}
-use Rattle.wikiexpand.specs.Command.{command_of, begins_command}
 use Rattle.wikiexpand.specs.Report.{read_line}
 use Rattle.wikiexpand.specs.Outcome.{Begins}
 use Rattle.wikiexpand.specs.declared.report.Report.{Report}
@@ -19,11 +18,3 @@ begins_with_read_line (Some report) failed out err_old err_new h some = record {
   out_begins = nothing out report.out;
   err_begins = inr (h, some);
 }
-
--- words that begin with another word are no command
-pub other_word_is_none : (words : List (List ℕ)) → begins_command words ≡ false → command_of words ≡ None
-other_word_is_none [] h = refl
-other_word_is_none (a ∷ []) h = refl
-other_word_is_none (a ∷ b ∷ []) h = refl
-other_word_is_none (a ∷ b ∷ c ∷ []) h = rw h refl
-other_word_is_none (a ∷ b ∷ c ∷ d ∷ ds) h = refl

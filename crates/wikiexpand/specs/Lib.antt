@@ -1,3 +1,5 @@
 pub mod Command
+pub mod Items
 pub mod Outcome
+pub mod Page
 pub mod Report

@@ -1,15 +1,13 @@
 -- What a run is to answer and to write.
-use Rattle.std.specs.Prelude.{ℕ, Bool, true, false, not, ◌&&◌, ◌||◌, ◌==◌, if◌then◌else◌, List, [], ◌∷◌, ◌++◌, find, Option, Some, None, option_map, Result, Ok, Err, codes}
-use Rattle.std.specs.List.{list_all}
+use Rattle.std.specs.Prelude.{ℕ, if◌then◌else◌, List, [], ◌∷◌, ◌++◌, Option, Some, None, option_map, Result, Ok, Err, codes}
+use Rattle.wk_base.specs.declared.left.Limits.{Limits}
 use Rattle.wk_base.specs.declared.title.Title.{Title}
-use Rattle.wk_base.specs.declared.title.Namespace.{Namespace}
-use Rattle.wk_base.specs.declared.title.Namespace.TheVariants.{Module}
-use Rattle.wk_base.specs.contracts.title.TitlePartialEq.TheImpl as titles
 use Rattle.wk_base.specs.Titles.{title_text}
 use Rattle.wk_shelf.specs.declared.folder.FolderPage.{FolderPage}
 use Rattle.wk_shelf.specs.Files.{Held}
 use Rattle.wk_shelf.specs.Folder.{files_of, wiki_of}
 use Rattle.wikiexpand.specs.Command.{Command, command_of}
+use Rattle.wikiexpand.specs.Page.{has_module, page_map, text_of}
 use Rattle.wikiexpand.specs.declared.report.Status.{Status}
 use Rattle.wikiexpand.specs.declared.report.Status.TheVariants.{Done, NotHeld, Usage, SourceFault, ReadFault, WriteFault, NoMemory, NotBuilt}
 use Rattle.wikiexpand.specs.declared.report.Report.{Report}
@@ -36,35 +34,17 @@ usage_line = codes "usage: wikiexpand expand DIR PAGE [PAGE ...] | expand DIR --
 abbrev pub read_line : List ℕ
 read_line = codes "wikiexpand: cannot read" ++ 10 ∷ []
 
--- ---- the wiki that can be rendered so far
-
--- a byte that stands for itself on every page
-abbrev pub is_plain : ℕ → Bool
-is_plain c = not (((c == 60) || (c == 91)) || (((c == 93) || (c == 123)) || (c == 125)))
-
-abbrev pub is_module : Namespace → Bool
-is_module Module = true
-is_module _ = false
-
--- a page that holds no module, and none of `< [ ] { }`
-abbrev pub is_plain_page : FolderPage → Bool
-is_plain_page page = not (is_module page.title.ns) && list_all is_plain page.bytes
-
--- the text of the page of a title
-abbrev pub text_at : Title → List FolderPage → Option (List ℕ)
-text_at title pages = option_map (λ page. page.bytes) (find (λ page. titles.ghosts.eq title page.title) pages)
-
 -- ---- the answer
 
 abbrev pub page_report : Title → Option (List ℕ) → Report
 page_report title None = record { status = NotHeld; out = []; err = line (codes "no such page: " ++ title_text title) }
 page_report title (Some text) = record { status = Done; out = text; err = [] }
 
--- what a title gives on the pages of a wiki
-abbrev pub wiki_report : Title → List FolderPage → Report
-wiki_report title pages =
-    if list_all is_plain_page pages then page_report title (text_at title pages)
-    else record { status = NotBuilt; out = []; err = line (codes "not built") }
+-- what a title gives on the pages of a wiki: its text; modules don't run yet
+abbrev pub wiki_report : Limits → Title → List FolderPage → Report
+wiki_report limits title pages =
+    if has_module pages then record { status = NotBuilt; out = []; err = line (codes "not built") }
+    else page_report title (text_of (page_map pages) limits title)
 
 abbrev pub fault_report : List ℕ → Report
 fault_report fault = record { status = SourceFault; out = []; err = line (codes "source fault: " ++ fault) }
@@ -72,7 +52,7 @@ fault_report fault = record { status = SourceFault; out = []; err = line (codes 
 -- what a command gives on a wiki, or on a folder with a source fault
 abbrev pub report_of : Command → Result (List FolderPage) (List ℕ) → Report
 report_of command (Err fault) = fault_report fault
-report_of command (Ok pages) = wiki_report command.page pages
+report_of command (Ok pages) = wiki_report command.limits command.page pages
 
 abbrev pub usage_report : Report
 usage_report = record { status = Usage; out = []; err = usage_line }

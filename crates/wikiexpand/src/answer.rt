@@ -1,22 +1,16 @@
 //! What a title gives on the pages of a folder.
-ghost use Rattle.std.specs.Prelude.{◌≡◌, ◌++◌, [], ◌&&◌, not, find, option_map, IfOk};
-ghost use Rattle.std.specs.List.{list_all};
-ghost use Rattle.std.specs.Option.{option_copied};
-ghost use Rattle.wk_base.specs.contracts.title.TitlePartialEq.TheImpl as titles;
-ghost use Rattle.wikiexpand.specs.Report.{line, is_plain, is_module, is_plain_page, page_report, wiki_report, fault_report};
+ghost use Rattle.std.specs.Prelude.{◌≡◌, ◌++◌, [], false, IfOk};
+ghost use Rattle.wk_base.specs.Allowances.{IsCountable};
+ghost use Rattle.wikiexpand.specs.Page.{is_module, has_module, holds_module, text_of};
+ghost use Rattle.wikiexpand.specs.Report.{line, page_report, wiki_report, fault_report};
 ghost use Rattle.wikiexpand.specs.Outcome.{IsWork};
 
+use crate::pages::{page_map, text_of};
 use crate::report::{Report, Status};
 use std::alloc::Global;
-use wk_base::{Bytes, Namespace, NoMemory, Title};
+use wiki_expand::PageMap;
+use wk_base::{Bytes, Limits, Namespace, NoMemory, Title};
 use wk_shelf::FolderPage;
-
-/// Whether a byte stands for itself on every page.
-fn is_plain(byte: u8) -> bool
-    ensures { result ≡ is_plain byte }
-{
-    !((byte == b'<' || byte == b'[') || ((byte == b']' || byte == b'{') || byte == b'}'))
-}
 
 fn is_module(ns: Namespace) -> bool
     ensures { result ≡ is_module ns }
@@ -27,40 +21,15 @@ fn is_module(ns: Namespace) -> bool
     }
 }
 
-fn are_plain(bytes: &[u8]) -> bool
-    ensures { result ≡ list_all is_plain bytes.now }
-{
-    bytes.iter().all(|byte| is_plain(*byte))
-}
-
-/// Whether a page holds no module, and plain bytes alone.
-fn is_plain_page(page: &FolderPage) -> bool
-    ensures { result ≡ is_plain_page page.now }
-{
-    !is_module(page.title.ns) && are_plain(page.bytes.as_slice())
-}
-
-fn are_plain_pages(pages: &[FolderPage]) -> bool
-    ensures { result ≡ list_all is_plain_page pages.now }
+fn has_module(pages: &[FolderPage]) -> bool
+    ensures { result ≡ has_module pages.now }
 {
     for page in pages {
-        if !is_plain_page(page) {
-            return false;
+        if is_module(page.title.ns) {
+            return true;
         }
     }
-    true
-}
-
-/// The page of a title.
-fn page_titled<'p>(pages: &'p [FolderPage], title: &Title) -> Option<&'p FolderPage>
-    ensures { option_copied result ≡ find (λ page. titles.ghosts.eq title.now page.title) pages.now }
-{
-    for page in pages {
-        if *title == page.title {
-            return Some(page);
-        }
-    }
-    None
+    false
 }
 
 /// A line on standard error: the program's name, then what it says of what.
@@ -93,25 +62,48 @@ pub fn fault_report(alloc: Global, fault: &[u8]) -> Result<Report, NoMemory>
     refusal(alloc, Status::SourceFault, b"source fault: ", fault)
 }
 
-/// What a title gives on these pages: the page's text, that no page has the title, or that a page needs what isn't built.
-pub fn wiki_report(alloc: Global, title: &Title, pages: &[FolderPage]) -> Result<Report, NoMemory>
-    ensures report { IfOk result (λ report. report ≡ wiki_report title.now pages.now) }
+/// What a title gives on these pages, none of which is a module: the page's text, or that no page has the title.
+#[tactic(auto, using(crate::proofs::PageLemmas::unheld))]
+fn page_report(
+    alloc: Global,
+    limits: &Limits,
+    title: &Title,
+    map: &PageMap,
+) -> Result<Report, NoMemory>
+    requires countable { IsCountable limits.now }
+    requires no_module { holds_module map.now ≡ false }
+    ensures report { IfOk result (λ report. report ≡ page_report title.now (text_of map.now limits.now title.now)) }
     ensures work { IfOk result (λ report. IsWork report.status) }
 {
-    if !are_plain_pages(pages) {
-        return refusal(alloc, Status::NotBuilt, b"not built", b"");
-    }
-    match page_titled(pages, title) {
-        Some(page) => Ok(Report {
-            status: Status::Done,
-            out: page.bytes.copy()?,
-            err: Bytes::of_vec(Vec::new(alloc)),
-        }),
-        None => refusal(
+    if !map.holds(title) {
+        return refusal(
             alloc,
             Status::NotHeld,
             b"no such page: ",
             title.text()?.as_slice(),
-        ),
+        );
     }
+    Ok(Report {
+        status: Status::Done,
+        out: text_of(alloc, map, limits, title)?,
+        err: Bytes::of_vec(Vec::new(alloc)),
+    })
+}
+
+/// What a title gives on the pages of a wiki: that a module is not built, or what it gives on them by title.
+pub fn wiki_report(
+    alloc: Global,
+    limits: &Limits,
+    title: &Title,
+    pages: &[FolderPage],
+) -> Result<Report, NoMemory>
+    requires countable { IsCountable limits.now }
+    ensures report { IfOk result (λ report. report ≡ wiki_report limits.now title.now pages.now) }
+    ensures work { IfOk result (λ report. IsWork report.status) }
+{
+    if has_module(pages) {
+        return refusal(alloc, Status::NotBuilt, b"not built", b"");
+    }
+    let map = page_map(alloc, pages)?;
+    page_report(alloc, limits, title, &map)
 }

@@ -1,7 +1,9 @@
 //! Renders pages of a folder of wiki files.
 //!
-//! - `command`: the words of the command line
+//! - `items`: the words of the command line as texts, some of them given for an option
+//! - `command`: the command that the words are
 //! - `answer`: what a title gives on the pages of a folder
+//! - `pages`: the pages of a folder, paired, and the text of one of them
 //! - `report`: what a run is to answer
 //! - `put`: putting a report to the two streams
 //! - `wiki_app`: the top call, over any shelf and any two sinks
@@ -9,6 +11,8 @@
 
 mod answer;
 mod command;
+mod items;
+mod pages;
 mod put;
 mod report;
 mod wiki_app;
@@ -53,5 +57,9 @@ fn main(rt: HostRuntime) -> ExitCode {
     ))
 }
 
+#[cfg(test)]
+mod case_tests;
+#[cfg(test)]
+mod cases;
 #[cfg(test)]
 mod tests;

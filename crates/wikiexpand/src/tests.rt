@@ -219,20 +219,20 @@ const CASES: &[Case<'static>] = &[
         out: b"",
         err: b"",
     },
-    // What is not built yet.
+    // What is not built yet, on any page, but only on a folder without faults.
     Case {
         words: &["expand", "d", "P"],
-        files: &[("P.wiki", b"{{T}}")],
+        files: &[("Module:M.lua", b""), ("[.wiki", b"")],
         shelf_fails: NEVER,
         out_fails: 0,
         err_fails: NEVER,
-        status: 7,
+        status: 3,
         out: b"",
-        err: b"wikiexpand: not built\n",
+        err: b"wikiexpand: source fault: [.wiki: not a title\n",
     },
     Case {
-        words: &["expand", "d", "P"],
-        files: &[("Module:M.lua", b"")],
+        words: &["expand", "d", "Q"],
+        files: &[("Module:M.lua", b""), ("P.wiki", b"{{T}}")],
         shelf_fails: NEVER,
         out_fails: 0,
         err_fails: NEVER,

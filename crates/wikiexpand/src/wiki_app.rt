@@ -1,5 +1,6 @@
 //! The top call: what the program does with its words, over any shelf and any two sinks.
 ghost use Rattle.std.specs.Prelude.{◌≡◌, ◌⊎◌, true, false, None, Err, IfOk, IfSome, IsSome, map, string_bytes, is_ok, if◌then◌else◌};
+ghost use Rattle.wk_base.specs.Allowances.{IsCountable};
 ghost use Rattle.wk_shelf.specs.Causes.{Rose};
 ghost use Rattle.wk_shelf.specs.Put.{Puts, PutsSome};
 ghost use Rattle.wk_shelf.specs.Folder.{files_of, wiki_of};
@@ -26,12 +27,13 @@ fn prepare<S: Shelf>(
     command: &Command<'_>,
     shelf: &mut S,
 ) -> Result<Report, ShelfFault>
-    ensures report { IfOk result (λ report. IfSome (S.files shelf.old) (λ held. report ≡ report_of (record { folder = command.now.folder.now; page = command.now.page }) (wiki_of (files_of command.now.folder.now held)))) }
+    requires countable { IsCountable command.now.limits }
+    ensures report { IfOk result (λ report. IfSome (S.files shelf.old) (λ held. report ≡ report_of (record { folder = command.now.folder.now; page = command.now.page; limits = command.now.limits }) (wiki_of (files_of command.now.folder.now held)))) }
     ensures work { IfOk result (λ report. IsWork report.status) }
     ensures cause { result ≡ Err ShelfFault.Failed → Rose (S.faults shelf.old) (S.faults shelf.new) }
 {
     let report = match read_folder(alloc, shelf, command.folder) {
-        Ok(pages) => wiki_report(alloc, &command.page, pages.as_slice()),
+        Ok(pages) => wiki_report(alloc, &command.limits, &command.page, pages.as_slice()),
         Err(FolderFault::Source(fault)) => fault_report(alloc, fault.as_slice()),
         Err(FolderFault::Read) => return Err(ShelfFault::Failed),
         Err(FolderFault::NoMemory) => return Err(ShelfFault::NoMemory),

@@ -4,9 +4,10 @@ use Rattle.lua_parser.proofs.Climb.{Climbs}
 use Rattle.lua_parser.proofs.Suffixes.{Chain}
 use Rattle.lua_parser.proofs.Lists.{Listed}
 use Rattle.lua_parser.proofs.FieldLemmas.{Fielded}
-use Rattle.lua_parser.specs.Parsing.{Below, goes_after}
+use Rattle.lua_parser.specs.Parsing.{Below}
 use Rattle.lua_parser.proofs.ArmSteps.{ArmsRead}
 use Rattle.lua_grammar.specs.Tokens.{sort_at}
+use Rattle.lua_parser.specs.Parsing.{goes_after}
 use Rattle.lua_parser.proofs.BlockSteps.{BlockRead}
 use Rattle.lua_parser.proofs.SimpleExits.{TargetsRead}
 use Rattle.lua_parser.proofs.+parser.Given as goal
@@ -81,6 +82,7 @@ abbrev pub decreases-tables::fields-fields : goal.decreases-tables::fields-field
 decreases-tables::fields-fields l = length l.toks - l.end
 
 -- statements
+
 abbrev pub decreases-stats::statement : goal.decreases-stats::statement
 decreases-stats::statement l = 32 * (length l.toks.now - l.i) + 29
 

@@ -1,0 +1,97 @@
+#!/usr/bin/env python3
+"""Compares the built program with `expand_reference.py`, which follows the same rules by itself.
+
+  bench/expansion_compare.py PROGRAM table              the cases of crates/wikiexpand/src/cases.rt, as folders on disk
+  bench/expansion_compare.py PROGRAM random COUNT SEED  that many folders of random pages
+
+PROGRAM is crates/wikiexpand/out/wikiexpand. Each difference is printed with the folder's pages.
+"""
+import os
+import random
+import shutil
+import subprocess
+import sys
+import tempfile
+import threading
+
+import expand_reference as reference
+
+NAMES = ["T", "U", "V", "W"]
+HEADS = ["T", "U", "V", "W", "Nope", ":P", "#if:", "#ifeq:", "#switch:", "#IF:x", "#switch:1", "safesubst:T", "subst:U", "!", "=",
+         "PAGENAME", "NAMESPACE", "a<b", "", " T ", "talk:q"]
+WORDS = ["a", "b", " ", "\n", "1", "01", "+1", "n", "x", "#default", "==", "[[a|b]]", "[", "]]", "{", "}", "<!-- c -->", "<nowiki>{{T}}</nowiki>",
+         "<noinclude>", "</noinclude>", "<includeonly>", "</includeonly>", "<onlyinclude>", "</onlyinclude>", "{{{1|}}}", "{{{n}}}", "|", "="]
+
+
+def text(pick, depth):
+    """some words, constructs and parameters"""
+    return "".join(thing(pick, depth) for _ in range(pick.randrange(4)))
+
+
+def part(pick, depth):
+    name = pick.choice(["", "", "", "n=", "1=", " n = ", "#default=", "a=", "x=", text(pick, depth - 1) + "="])
+    return name + text(pick, depth - 1)
+
+
+def thing(pick, depth):
+    kind = pick.randrange(10)
+    if depth <= 0 or kind < 4:
+        return pick.choice(WORDS)
+    parts = "".join("|" + part(pick, depth) for _ in range(pick.randrange(5)))
+    if kind < 6:
+        return "{{{" + pick.choice(["1", "2", "n", "a", " n ", "", text(pick, depth - 1)]) + parts + "}}}"
+    head = pick.choice(HEADS) if pick.randrange(6) else text(pick, depth - 1)
+    return "{{" + head + (text(pick, depth - 1) if head.endswith(":") else "") + parts + "}}"
+
+
+def random_folder(pick):
+    files = {b"P": text(pick, 4) + thing(pick, 4) + thing(pick, 4)}
+    for name in NAMES:
+        if pick.randrange(5):
+            files[b"Template:" + name.encode()] = text(pick, 3) + thing(pick, 3)
+    words = [b"expand", b"d", b"P"]
+    if pick.randrange(4) == 0:
+        words.append(b"--nodes=%d" % pick.randrange(30))
+    if pick.randrange(4) == 0:
+        words.append(b"--bytes=%d" % pick.randrange(200))
+    return words, {name: text.encode() for name, text in files.items()}
+
+
+def printed(program, words, files):
+    folder = tempfile.mkdtemp()
+    for name, page in files.items():
+        with open(os.path.join(folder.encode(), name + b".wiki"), "wb") as file:
+            file.write(page)
+    words = [folder.encode() if word == b"d" else word for word in words]
+    done = subprocess.run([program.encode(), *words], stdout=subprocess.PIPE, stderr=subprocess.PIPE, check=False)
+    shutil.rmtree(folder)
+    return (done.returncode, done.stdout, done.stderr)
+
+
+def main():
+    program = os.path.abspath(sys.argv[1])
+    if sys.argv[2] == "table":
+        table = os.path.join(os.path.dirname(os.path.abspath(__file__)), "../crates/wikiexpand/src/cases.rt")
+        cases = [(words, dict(files), wanted) for _, words, files, wanted in reference.each_case(reference.table_in(table))]
+    else:
+        pick = random.Random(int(sys.argv[4]))
+        cases = [(*random_folder(pick), None) for _ in range(int(sys.argv[3]))]
+    wrong = 0
+    for words, files, wanted in cases:
+        if wanted is None:
+            wanted = reference.run_case(words, files)
+        got = printed(program, words, files)
+        if got != (0, wanted, b""):
+            wrong += 1
+            print(f"{words}\n{files}\n  wanted {wanted[:500]!r}\n  got    {got}")
+    print(f"{len(cases)} cases, {wrong} differ")
+    sys.stdout.flush()
+    os._exit(1 if wrong else 0)
+
+
+if __name__ == "__main__":
+    sys.setrecursionlimit(1000000)
+    threading.stack_size(1 << 29)
+    worker = threading.Thread(target=main)
+    worker.start()
+    worker.join()

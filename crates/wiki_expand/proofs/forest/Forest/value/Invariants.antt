@@ -1,0 +1,13 @@
+use Rattle.std.proofs.Common.{◌≡◌, ◌≤◌}
+use Rattle.wiki_expand.specs.Places.{value_in}
+use Rattle.wiki_expand.specs.Forests.{trees_in, size}
+use Rattle.wiki_expand.proofs.forest.Forest.value.Given as goal
+
+abbrev pub invariant-loop-rest : goal.invariant-loop-rest
+invariant-loop-rest l = record {
+  value : value_in (trees_in l.rest) ≡ value_in (trees_in l.self);
+  size : size l.rest ≤ size l.self;
+}
+
+abbrev pub decreases-loop-rest : goal.decreases-loop-rest
+decreases-loop-rest l = size l.rest

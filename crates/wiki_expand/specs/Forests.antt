@@ -1,0 +1,70 @@
+-- What a forest of the code stands for.
+use Rattle.std.specs.Prelude.{◌≡◌, ℕ, ◌+◌, ◌-◌, ◌<◌, ◌≤◌, List, take, drop, Option, Some, None}
+use Rattle.wiki_markup.specs.declared.marked.Node.{Node}
+use Rattle.wiki_markup.specs.declared.marked.NodeKind.TheVariants.{Construct as ConstructKind, Parameter as ParameterKind, Part as PartKind}
+use Rattle.wiki_markup.specs.Trees.{Trees, done, text, equals, node}
+use Rattle.wiki_expand.specs.Places.{trees_at, parts_in, value_in}
+use Rattle.wiki_expand.specs.declared.forest.Nodes.{Nodes}
+use Rattle.wiki_expand.specs.declared.forest.Nodes.TheVariants.{Held, Own}
+use Rattle.wiki_expand.specs.declared.forest.Forest.{Forest}
+use Rattle.wiki_expand.specs.declared.forest.Past.{Past}
+use Rattle.wiki_expand.specs.declared.forest.Past.TheVariants.{Nothing as NoneLeft, Equals as AtEquals, Next as Further}
+use Rattle.wiki_expand.specs.declared.forest.Split.{Split}
+use Rattle.wiki_expand.specs.declared.forest.Split.TheVariants.{Nothing, Text, Equals, Construct, Parameter, Part}
+
+abbrev pub nodes_in : Nodes → List Node
+nodes_in (Held nodes) = nodes.now
+nodes_in (Own nodes) = nodes.value.nodes
+
+-- the nodes from a place up to another
+abbrev pub between : ℕ → ℕ → List Node → List Node
+between at end nodes = take (end - at) (drop at nodes)
+
+-- THE TREES that a forest stands for
+unfoldable pub trees_in : Forest → Trees
+trees_in f = trees_at f.at (between f.at f.end (nodes_in f.nodes))
+
+-- how many nodes it has at most
+abbrev pub size : Forest → ℕ
+size f = f.end - f.at
+
+-- its first tree, with what stands in it, and the trees behind it
+abbrev pub Splits : Split → Trees → Type 0
+Splits Nothing t = t ≡ done
+Splits (Text bytes rest) t = t ≡ text bytes.now (trees_in rest)
+Splits (Equals rest) t = t ≡ equals (trees_in rest)
+Splits (Construct inside rest) t = t ≡ node ConstructKind (trees_in inside) (trees_in rest)
+Splits (Parameter inside rest) t = t ≡ node ParameterKind (trees_in inside) (trees_in rest)
+Splits (Part inside rest) t = t ≡ node PartKind (trees_in inside) (trees_in rest)
+
+-- each time there are fewer
+abbrev pub Falls : Split → ℕ → Type 0
+Falls Nothing n = Unit {0}
+Falls (Text bytes rest) n = size rest < n
+Falls (Equals rest) n = size rest < n
+Falls (Construct inside rest) n = size inside + size rest < n
+Falls (Parameter inside rest) n = size inside + size rest < n
+Falls (Part inside rest) n = size inside + size rest < n
+
+-- what stands in the parts that it is
+abbrev pub parts : Forest → List Trees
+parts f = parts_in (trees_in f)
+
+abbrev pub option_trees : Option Forest → Option Trees
+option_trees (Some f) = Some (trees_in f)
+option_trees None = None
+
+abbrev pub option_size : Option Forest → ℕ
+option_size (Some f) = size f
+option_size None = 0
+
+-- what a step of the search for the first `=` tells of the value
+abbrev pub GoesPast : Past → Trees → Type 0
+GoesPast NoneLeft t = value_in t ≡ None
+GoesPast (AtEquals value) t = value_in t ≡ Some (trees_in value)
+GoesPast (Further next) t = value_in t ≡ value_in (trees_in next)
+
+abbrev pub PastFalls : Past → ℕ → Type 0
+PastFalls NoneLeft n = Unit {0}
+PastFalls (AtEquals value) n = size value < n
+PastFalls (Further next) n = size next < n

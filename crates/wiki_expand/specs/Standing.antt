@@ -1,0 +1,174 @@
+-- An expander at a point of a run.
+use Rattle.std.specs.Prelude.{◌≡◌, ℕ, ◌+◌, ◌*◌, ◌<◌, ◌≤◌, List, [], ◌∷◌, ◌++◌, Option, Some, None, IsSome, option_map}
+use Rattle.wk_base.specs.declared.left.Left.{Left}
+use Rattle.wk_base.specs.declared.title.Title.{Title}
+use Rattle.mw_frame.specs.declared.scene.Scene.{Scene}
+use Rattle.mw_frame.specs.declared.scene.Job.{Job}
+use Rattle.mw_frame.specs.Scenes.{HaveNames}
+use Rattle.wiki_markup.specs.Trees.{Trees}
+use Rattle.page_run.specs.Run.{Run, Ends}
+use Rattle.page_run.specs.State.{Tally, Gives, Reply}
+use Rattle.page_run.specs.Perform.{perform, wait}
+use Rattle.wiki_expand.specs.Places.{trees_at}
+use Rattle.wiki_expand.specs.Expand.{Setting, Page, expand, body, meant}
+use Rattle.wiki_expand.specs.Told.{Work, Reading, Including, told, Comes, Asks}
+use Rattle.wiki_expand.specs.Pages.{Pages, held, direct_in, included_in, setting_in}
+use Rattle.wiki_expand.specs.Forests.{trees_in}
+use Rattle.wiki_expand.specs.Points.{plug, point, scene_in, state, Leads}
+use Rattle.wiki_expand.specs.Weights.{levels, bodies, chances, allowed}
+use Rattle.wiki_expand.specs.Asked.{HasModule}
+use Rattle.wiki_expand.specs.declared.frame.Frame.{Frame}
+use Rattle.wiki_expand.specs.declared.frame.Focus.{Focus}
+use Rattle.wiki_expand.specs.declared.frame.Pause.{Pause}
+use Rattle.wiki_expand.specs.declared.frame.Pause.TheVariants.{Deeper as PausesDeeper, Asks as PausesAsking, Ended as PausesEnded}
+use Rattle.wiki_expand.specs.declared.expander.Source.{Source}
+use Rattle.wiki_expand.specs.declared.expander.Source.TheVariants.{Page as OfPage, Template as OfTemplate, Text as OfText}
+use Rattle.wiki_expand.specs.declared.expander.Move.{Move}
+use Rattle.wiki_expand.specs.declared.expander.Move.TheVariants.{Text as Came, Invoke as Invokes}
+use Rattle.wiki_expand.specs.declared.expander.Doing.{Doing}
+use Rattle.wiki_expand.specs.declared.expander.Doing.TheVariants.{Ready, Begins, Waiting, Over}
+use Rattle.wiki_expand.specs.declared.expander.Expander.{Expander}
+
+-- the work of a source, where its title is held
+abbrev pub reading : Scene → Trees → Work
+reading sc trees = Reading trees sc
+
+abbrev pub including : Title → Scene → Trees → Work
+including title sc trees = Including trees title sc
+
+abbrev pub work_of : Pages → Source → Scene → Option Work
+work_of pages (OfPage title) sc = option_map (reading sc) (direct_in pages title)
+work_of pages (OfTemplate title) sc = option_map (including title sc) (included_in pages title)
+work_of pages (OfText text) sc = Some (Reading (trees_at 0 text.nodes) sc)
+
+abbrev pub work_from : Trees → Option Title → Scene → Work
+work_from trees None sc = Reading trees sc
+work_from trees (Some title) sc = Including trees title sc
+
+abbrev pub work_page : Work → (List ℕ → Page) → Page
+work_page (Reading trees sc) k = expand trees sc k
+work_page (Including trees title sc) k = body trees title sc.args sc k
+
+-- its title is held
+abbrev pub IsHeldSource : Pages → Source → Type 0
+IsHeldSource pages (OfPage title) = IsSome (held pages title)
+IsHeldSource pages (OfTemplate title) = IsSome (held pages title)
+IsHeldSource pages (OfText text) = Unit {0}
+
+-- where an expander expands
+abbrev pub setting_of : Expander → Setting
+setting_of e = setting_in e.pages.now e.page
+
+-- constructs and parameters in progress, bodies in progress, and what the nodes and the constructs in progress allow
+abbrev pub depth_in : Expander → ℕ
+depth_in e = levels e.stack
+
+abbrev pub templates_in : Expander → ℕ
+templates_in e = bodies e.stack
+
+abbrev pub allowed_in : Left → Expander → ℕ
+allowed_in left e = allowed left e.stack
+
+-- it goes on, it waits for an answer, or it is over
+abbrev pub ready : Doing → Type 0
+ready (Ready f) = Unit {0}
+ready (Begins title trees args) = Unit {0}
+ready Waiting = ⊥
+ready Over = ⊥
+
+abbrev pub waiting : Doing → Type 0
+waiting (Ready f) = ⊥
+waiting (Begins title trees args) = ⊥
+waiting Waiting = Unit {0}
+waiting Over = ⊥
+
+abbrev pub IsReady : Expander → Type 0
+IsReady e = ready e.doing
+
+abbrev pub IsWaiting : Expander → Type 0
+IsWaiting e = waiting e.doing
+
+-- the run of a work stands here after these replies, whatever replies follow
+pub record AtPoint (w : Setting) (p : Page) (work : Work) (first : Left) (given : List (Reply (List ℕ))) (left : Left) : Type 0 where
+  pub tally : Tally
+  pub goes_on : (more : List (Reply (List ℕ))) → perform (meant w) wait p (state left tally more) ≡ told w work first (given ++ more)
+
+-- where it goes on
+abbrev pub doing_point : Doing → Setting → List Frame → Scene → Option Page
+doing_point (Ready f) w fs sc = Some (point w f fs sc)
+doing_point (Begins title trees args) w fs sc = Some (body (trees_in trees) title args sc (plug w fs sc))
+doing_point Waiting w fs sc = None
+doing_point Over w fs sc = None
+
+abbrev pub AtIf : Setting → Option Page → Work → Left → List (Reply (List ℕ)) → Left → Type 0
+AtIf w (Some p) work first given left = AtPoint w p work first given left
+AtIf w None work first given left = ⊥
+
+-- AN EXPANDER STANDS AT THE POINT of a work's run, from these first allowances and after these replies, with so much left.
+abbrev pub At : Expander → Work → Left → List (Reply (List ℕ)) → Left → Type 0
+At e work first given left = AtIf (setting_of e) (doing_point e.doing (setting_of e) e.stack (scene_in e.scene)) work first given left
+
+-- IT WAITS for a reply to the next question.
+abbrev pub Waits : Expander → Work → Left → List (Reply (List ℕ)) → Type 0
+Waits e work first given = (r : Reply (List ℕ)) (x : List ℕ) → r.said ≡ Gives x → AtPoint (setting_of e) (plug (setting_of e) e.stack (scene_in e.scene) x) work first (given ++ r ∷ []) r.left
+
+-- a move is the definition's: the text that the run comes to, or the invocation that it asks for, after which it waits
+abbrev pub MoveAt : Move → Setting → List Frame → Scene → Work → Left → List (Reply (List ℕ)) → Left → Type 0
+MoveAt (Came text) w fs sc work first given left = Comes (told w work first given) text left
+MoveAt (Invokes job) w fs sc work first given left =
+    Asks (told w work first given) job left
+    × ((r : Reply (List ℕ)) (x : List ℕ) → r.said ≡ Gives x → AtPoint w (plug w fs sc x) work first (given ++ r ∷ []) r.left)
+
+abbrev pub IsMove : Move → Expander → Work → Left → List (Reply (List ℕ)) → Left → Type 0
+IsMove m e work first given left = MoveAt m (setting_of e) e.stack (scene_in e.scene) work first given left
+
+-- an invocation's module is held, and no two arguments of its frames have one name
+abbrev pub MoveHeld : Pages → Move → Type 0
+MoveHeld pages (Came text) = Unit {0}
+MoveHeld pages (Invokes job) = HasModule pages job
+
+abbrev pub MoveNamed : Move → Type 0
+MoveNamed (Came text) = Unit {0}
+MoveNamed (Invokes job) = HaveNames job
+
+-- after a move: it is over and nothing is in progress, or it waits
+abbrev pub AfterIs : Move → Doing → List Frame → Type 0
+AfterIs (Came text) d fs = (levels fs ≡ 0) × (bodies fs ≡ 0)
+AfterIs (Invokes job) d fs = waiting d
+
+abbrev pub IsAfter : Move → Expander → Type 0
+IsAfter m e = AfterIs m e.doing e.stack
+
+-- a question takes what is allowed
+abbrev pub MoveFalls : Move → ℕ → ℕ → Type 0
+MoveFalls (Came text) before after = after ≤ before
+MoveFalls (Invokes job) before after = after < before
+
+-- ---- steps up to a pause
+
+abbrev pub Moves : Setting → Page → Left → Move → List Frame → Scene → Left → Type 0
+Moves w p l (Came x) fs sc l' = Leads w p l (Ends x) l' × (fs ≡ [])
+Moves w p l (Invokes job) fs sc l' = Leads w p l (Run.Asks job (plug w fs sc)) l'
+
+abbrev pub Pauses : Setting → Page → Left → Pause → List Frame → Scene → Left → Type 0
+Pauses w p l (PausesDeeper f) fs sc l' = Leads w p l (point w f fs sc) l'
+Pauses w p l (PausesAsking job) fs sc l' = Leads w p l (Run.Asks job (plug w fs sc)) l'
+Pauses w p l (PausesEnded x) fs sc l' = Leads w p l (Ends x.items) l' × (fs ≡ [])
+
+abbrev pub PauseFalls : ℕ → Pause → List Frame → Left → Type 0
+PauseFalls n (PausesDeeper f) fs l = allowed l fs < n
+PauseFalls n (PausesAsking job) fs l = allowed l fs < n
+PauseFalls n (PausesEnded x) fs l = allowed l fs ≤ n
+
+abbrev pub PauseHeld : Pages → Pause → Type 0
+PauseHeld pages (PausesDeeper f) = Unit {0}
+PauseHeld pages (PausesAsking job) = HasModule pages job × HaveNames job
+PauseHeld pages (PausesEnded x) = Unit {0}
+
+abbrev pub LeadsIf : Setting → Option Page → Left → Page → Left → Type 0
+LeadsIf w (Some p) l q l' = Leads w p l q l'
+LeadsIf w None l q l' = ⊥
+
+abbrev pub IsDoing : Move → Doing → Type 0
+IsDoing (Came text) d = Unit {0}
+IsDoing (Invokes job) d = waiting d

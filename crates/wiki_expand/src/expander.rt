@@ -1,0 +1,323 @@
+//! The expander: it goes on up to the text, or up to an invocation.
+ghost use Rattle.std.specs.Prelude.{◌≡◌, ◌+◌, ◌*◌, ◌<◌, ◌≤◌, ◌^◌, ◌∷◌, ◌++◌, [], ℕ, List, IsSome, IfSome, Some, IfOk, OnOk};
+ghost use Rattle.mw_frame.specs.Scenes.{NamesDiffer};
+ghost use Rattle.mw_frame.specs.declared.scene.Scene.{Scene as SceneValue};
+ghost use Rattle.wiki_expand.specs.declared.frame.Frame.{Frame as Waiting};
+ghost use Rattle.wiki_expand.specs.Expand.{Setting};
+ghost use Rattle.wk_base.specs.declared.left.Left.{Left as LeftOver};
+ghost use Rattle.page_run.specs.State.{Reply, Gives};
+ghost use Rattle.wiki_expand.specs.Pages.{setting_in, direct_in};
+ghost use Rattle.wiki_expand.specs.Points.{plug, point, scene_in, Goes_to};
+ghost use Rattle.wiki_expand.specs.Weights.{levels, bodies, allowed, weights, point_weight, Falls};
+ghost use Rattle.wiki_expand.specs.Asked.{AsksHeld, AsksNamed};
+ghost use Rattle.wiki_expand.specs.Told.{Work};
+ghost use Rattle.wiki_expand.specs.Forests.{trees_in};
+ghost use Rattle.wiki_expand.specs.Standing.{ready, LeadsIf, IsDoing, doing_point, work_from, work_page, IsHeldSource, Moves, Pauses, PauseFalls, PauseHeld, At, Waits, IsMove, MoveHeld, MoveNamed, MoveFalls, IsReady, IsWaiting, IsAfter, setting_of, work_of, depth_in, templates_in, allowed_in};
+
+use crate::arguments::Arguments;
+use crate::calls::begin_body;
+use crate::forest::{Forest, Nodes};
+use crate::frame::{Focus, Frame, Inner, Pause, Progress};
+use crate::pages::PageMap;
+use crate::resume::resume;
+use crate::stack::Stack;
+use crate::walk::{walk, walk_on};
+use mw_frame::{Arg, Job, Scene};
+use std::alloc::Global;
+use std::mem::replace;
+use std::rc::Rc;
+use wiki_markup::Marked;
+use wk_base::{Bytes, Left, NoMemory, Title};
+
+/// What is expanded: the text of a page, the text of a page as it is included, or a text of its own.
+#[derive(Drop)]
+pub enum Source {
+    Page(Title),
+    Template(Title),
+    Text(Marked),
+}
+
+/// What an expander comes to: its text, or an invocation whose text it needs.
+#[derive(Drop)]
+pub enum Move {
+    Text(Bytes),
+    Invoke(Job),
+}
+
+/// What an expander does.
+#[derive(Drop)]
+pub enum Doing<'w> {
+    /// It goes on here.
+    Ready(Focus<'w>),
+    /// The body of this page begins, with these arguments.
+    Begins(Title, Forest<'w>, Arguments),
+    /// It waits for the text of an invocation.
+    Waiting,
+    /// It has come to its text.
+    Over,
+}
+
+/// The expansion of a text, which stops at each invocation (MediaWiki, Help:Templates).
+#[derive(Drop)]
+pub struct Expander<'w> {
+    alloc: Global,
+    pages: &'w PageMap,
+    page: Title,
+    scene: Inner,
+    stack: Stack<Frame<'w>>,
+    doing: Doing<'w>,
+}
+
+/// Goes on up to the next pause.
+fn run<'w>(
+    alloc: Global,
+    pages: &'w PageMap,
+    page: &Title,
+    left: &mut Left,
+    stack: &mut Stack<Frame<'w>>,
+    scene: &mut Inner,
+    focus: Focus<'w>,
+) -> Result<Pause<'w>, NoMemory>
+    requires depth { left.old.depth + levels stack.old < 2 ^ 64 }
+    requires templates { left.old.templates + bodies stack.old < 2 ^ 64 }
+    ensures goes { IfOk result (λ r. Pauses (setting_in pages.now page.now) (point (setting_in pages.now page.now) focus.entry stack.old (scene_in scene.old)) left.old r stack.new (scene_in scene.new) left.new) }
+    ensures depth { OnOk result (left.new.depth + levels stack.new ≡ left.old.depth + levels stack.old) }
+    ensures templates { OnOk result (left.new.templates + bodies stack.new ≡ left.old.templates + bodies stack.old) }
+    ensures used { OnOk result ((left.new.steps ≡ left.old.steps) × (left.new.calls ≡ left.old.calls)) }
+    ensures falls { IfOk result (λ r. PauseFalls (allowed left.old stack.old) r stack.new left.new) }
+    ensures held { IfOk result (λ r. PauseHeld pages.now r) }
+{
+    let mut focus = focus;
+    loop {
+        match focus {
+            Focus::Walk(walk) => match walk_on(alloc, left, stack, walk)? {
+                Progress::On(next) => {
+                    focus = next;
+                    continue;
+                }
+                Progress::Deeper(next) => return Ok(Pause::Deeper(next)),
+                Progress::Asks(job) => return Ok(Pause::Asks(job)),
+            },
+            Focus::Text(text) => match stack.pop() {
+                None => return Ok(Pause::Ended(text)),
+                Some(top) => {
+                    match resume(alloc, pages, page, left, stack, scene, top, text)? {
+                        Progress::On(next) => {
+                            focus = next;
+                            continue;
+                        }
+                        Progress::Deeper(next) => return Ok(Pause::Deeper(next)),
+                        Progress::Asks(job) => return Ok(Pause::Asks(job)),
+                    }
+                }
+            },
+        }
+    }
+}
+
+/// What ends a run of steps: the text, or an invocation.
+fn next_move<'w>(
+    alloc: Global,
+    pages: &'w PageMap,
+    page: &Title,
+    left: &mut Left,
+    stack: &mut Stack<Frame<'w>>,
+    scene: &mut Inner,
+    focus: Focus<'w>,
+) -> Result<Move, NoMemory>
+    requires depth { left.old.depth + levels stack.old < 2 ^ 64 }
+    requires templates { left.old.templates + bodies stack.old < 2 ^ 64 }
+    ensures moves { IfOk result (λ m. Moves (setting_in pages.now page.now) (point (setting_in pages.now page.now) focus.entry stack.old (scene_in scene.old)) left.old m stack.new (scene_in scene.new) left.new) }
+    ensures depth { OnOk result (left.new.depth + levels stack.new ≡ left.old.depth + levels stack.old) }
+    ensures templates { OnOk result (left.new.templates + bodies stack.new ≡ left.old.templates + bodies stack.old) }
+    ensures used { OnOk result ((left.new.steps ≡ left.old.steps) × (left.new.calls ≡ left.old.calls)) }
+    ensures falls { IfOk result (λ m. MoveFalls m (allowed left.old stack.old) (allowed left.new stack.new)) }
+    ensures held { IfOk result (λ m. MoveHeld pages.now m) }
+    ensures names { IfOk result (λ m. MoveNamed m) }
+{
+    let mut focus = focus;
+    loop {
+        match run(alloc, pages, page, left, stack, scene, focus)? {
+            Pause::Deeper(next) => {
+                focus = next;
+                continue;
+            }
+            Pause::Asks(job) => return Ok(Move::Invoke(job)),
+            Pause::Ended(text) => return Ok(Move::Text(Bytes::of_vec(text))),
+        }
+    }
+}
+
+/// The trees of a source, and the title of a template.
+fn read_source<'w>(
+    alloc: Global,
+    pages: &'w PageMap,
+    source: Source,
+) -> Result<(Forest<'w>, Option<Title>), NoMemory>
+    requires { IsHeldSource pages.now source }
+    ensures { IfOk result (λ r. (sc : SceneValue) → work_of pages.now source sc ≡ Some (work_from (trees_in r.0) r.1 sc)) }
+{
+    match source {
+        Source::Page(title) => match pages.get(&title) {
+            None => unreachable!(),
+            Some(entry) => {
+                let nodes = Nodes::Held(entry.direct.nodes.as_slice());
+                Ok((Forest::all(nodes), None))
+            }
+        },
+        Source::Template(title) => match pages.get(&title) {
+            None => unreachable!(),
+            Some(entry) => {
+                let nodes = Nodes::Held(entry.transcluded.nodes.as_slice());
+                Ok((Forest::all(nodes), Some(title)))
+            }
+        },
+        Source::Text(text) => match Rc::new(alloc, text) {
+            Ok(text) => Ok((Forest::all(Nodes::Own(text)), None)),
+            Err(_) => Err(NoMemory),
+        },
+    }
+}
+
+/// The beginning of a source.
+fn begin<'w>(
+    alloc: Global,
+    trees: Forest<'w>,
+    template: Option<Title>,
+    args: &[Arg],
+) -> Result<Doing<'w>, NoMemory>
+    requires { NamesDiffer args.now }
+    ensures ready { IfOk result (λ d. ready d) }
+    ensures begins { IfOk result (λ d. (w : Setting) (fs : List Waiting) (sc : SceneValue) → sc.args ≡ args.now → doing_point d w fs sc ≡ Some (work_page (work_from (trees_in trees.entry) template sc) (plug w fs sc))) }
+{
+    match template {
+        None => Ok(Doing::Ready(Focus::Walk(walk(alloc, trees)))),
+        Some(title) => {
+            let args = Arguments::of_list(alloc, args)?;
+            Ok(Doing::Begins(title, trees, args))
+        }
+    }
+}
+
+/// Where an expander goes on.
+fn begin_focus<'w>(
+    alloc: Global,
+    left: &mut Left,
+    stack: &mut Stack<Frame<'w>>,
+    scene: &mut Inner,
+    doing: Doing<'w>,
+) -> Result<Focus<'w>, NoMemory>
+    requires { ready doing }
+    ensures leads { IfOk result (λ f. (w : Setting) → LeadsIf w (doing_point doing.entry w stack.old (scene_in scene.old)) left.old (point w f stack.new (scene_in scene.new)) left.new) }
+    ensures depth { OnOk result (left.new.depth + levels stack.new ≡ left.old.depth + levels stack.old) }
+    ensures templates { OnOk result (left.new.templates + bodies stack.new ≡ left.old.templates + bodies stack.old) }
+    ensures used { OnOk result ((left.new.steps ≡ left.old.steps) × (left.new.calls ≡ left.old.calls)) }
+    ensures falls { OnOk result (allowed left.new stack.new ≤ allowed left.old stack.old) }
+{
+    match doing {
+        Doing::Ready(focus) => Ok(focus),
+        Doing::Begins(title, trees, args) => {
+            let focus = begin_body(alloc, left, stack, scene, trees, title, args)?;
+            Ok(focus)
+        }
+        Doing::Waiting => unreachable!(),
+        Doing::Over => unreachable!(),
+    }
+}
+
+/// What an expander does after a move.
+fn doing_after<'w>(next: &Move) -> Doing<'w>
+    ensures { IsDoing next.now result }
+{
+    match next {
+        Move::Text(_) => Doing::Over,
+        Move::Invoke(_) => Doing::Waiting,
+    }
+}
+
+impl<'w> Expander<'w> {
+    /// The beginning of an expansion, with nothing in progress.
+    ///
+    /// `page` is the title of the page that is expanded. A page and a text of its own are expanded in the scene. The body of
+    /// a template is expanded in a frame of its own, with the arguments of the scene, whose chain is that of the text that
+    /// includes it.
+    pub fn start(
+        alloc: Global,
+        pages: &'w PageMap,
+        page: &Title,
+        source: Source,
+        scene: Scene,
+    ) -> Result<Expander<'w>, NoMemory>
+        requires names { NamesDiffer scene.args }
+        requires held { IsHeldSource pages.now source }
+        ensures at { IfOk result (λ e. IfSome (work_of pages.now source scene) (λ work. (l : LeftOver) → At e work l [] l)) }
+        ensures setting { IfOk result (λ e. setting_of e ≡ setting_in pages.now page.now) }
+        ensures ready { IfOk result (λ e. IsReady e) }
+        ensures rests { IfOk result (λ e. (depth_in e ≡ 0) × (templates_in e ≡ 0)) }
+    {
+        let (trees, template) = read_source(alloc, pages, source)?;
+        let Scene { title, args, chain } = scene;
+        let doing = begin(alloc, trees, template, args.as_slice())?;
+        let args = Arguments::of_list(alloc, args.as_slice())?;
+        Ok(Expander {
+            alloc,
+            pages,
+            page: page.copy()?,
+            scene: Inner {
+                title,
+                args,
+                chain: Stack::of_list(chain),
+            },
+            stack: Stack::new(alloc),
+            doing,
+        })
+    }
+
+    /// Goes on up to the text, or up to an invocation whose text it needs.
+    ///
+    /// `left` is what is left of the page's allowances. It may be called after `start` and after `answer`.
+    pub fn go(&mut self, left: &mut Left) -> Result<Move, NoMemory>
+        requires ready { IsReady self.old }
+        requires depth { left.old.depth + depth_in self.old < 2 ^ 64 }
+        requires templates { left.old.templates + templates_in self.old < 2 ^ 64 }
+        ensures goes { IfOk result (λ m. (work : Work) (first : LeftOver) (given : List (Reply (List ℕ))) → At self.old work first given left.old → IsMove m self.new work first given left.new) }
+        ensures held { IfOk result (λ m. MoveHeld self.old.pages.now m) }
+        ensures names { IfOk result (λ m. MoveNamed m) }
+        ensures setting { OnOk result (setting_of self.new ≡ setting_of self.old) }
+        ensures depth { OnOk result (left.new.depth + depth_in self.new ≡ left.old.depth + depth_in self.old) }
+        ensures templates { OnOk result (left.new.templates + templates_in self.new ≡ left.old.templates + templates_in self.old) }
+        ensures after { IfOk result (λ m. IsAfter m self.new) }
+        ensures used { OnOk result ((left.new.steps ≡ left.old.steps) × (left.new.calls ≡ left.old.calls)) }
+        ensures falls { IfOk result (λ m. MoveFalls m (allowed_in left.old self.old) (allowed_in left.new self.new)) }
+    {
+        let doing = replace(&mut self.doing, Doing::Over);
+        let focus = begin_focus(self.alloc, left, &mut self.stack, &mut self.scene, doing)?;
+        let next = next_move(
+            self.alloc,
+            self.pages,
+            &self.page,
+            left,
+            &mut self.stack,
+            &mut self.scene,
+            focus,
+        )?;
+        self.doing = doing_after(&next);
+        Ok(next)
+    }
+
+    /// Goes on with the text of the invocation that it waits for.
+    pub fn answer(&mut self, left: &mut Left, text: Bytes) -> Result<(), NoMemory>
+        requires waiting { IsWaiting self.old }
+        ensures at { OnOk result ((work : Work) (first : LeftOver) (given : List (Reply (List ℕ))) (r : Reply (List ℕ)) → Waits self.old work first given → r.said ≡ Gives text → r.left ≡ left.old → At self.new work first (given ++ r ∷ []) left.new) }
+        ensures left { left.new ≡ left.old }
+        ensures setting { OnOk result (setting_of self.new ≡ setting_of self.old) }
+        ensures ready { OnOk result (IsReady self.new) }
+        ensures depth { OnOk result (depth_in self.new ≡ depth_in self.old) }
+        ensures templates { OnOk result (templates_in self.new ≡ templates_in self.old) }
+        ensures falls { OnOk result (allowed_in left.new self.new ≡ allowed_in left.old self.old) }
+    {
+        let _ = left;
+        self.doing = Doing::Ready(Focus::Text(text.into_vec()));
+        Ok(())
+    }
+}

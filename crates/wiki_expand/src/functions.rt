@@ -1,0 +1,253 @@
+//! The parser functions `#if`, `#ifeq` and `#switch`, and constructs that stand as they are written.
+ghost use Rattle.std.specs.Prelude.{◌≡◌, ◌+◌, ◌*◌, ◌<◌, ◌≤◌, ◌∷◌, ◌++◌, false, cond, codes, IfOk, OnOk};
+ghost use Rattle.mw_frame.specs.declared.scene.Scene.{Scene};
+ghost use Rattle.wk_base.specs.Space.{trim};
+ghost use Rattle.wiki_expand.specs.Expand.{Setting, expand, trimmed, either as either_of, is_text as is_text_of, if_equal as if_equal_of, is_default as is_default_of, by_name, after_turn, valueless as valueless_of, switch as switch_of, all_parts};
+ghost use Rattle.wiki_expand.specs.Places.{no_part};
+ghost use Rattle.wiki_expand.specs.Forests.{trees_in, parts, size};
+ghost use Rattle.wiki_expand.specs.Points.{plug, point, seen_in};
+ghost use Rattle.wiki_expand.specs.Weights.{weights, point_weight, Calm};
+
+use crate::equality::are_equal;
+use crate::forest::Forest;
+use crate::frame::{Focus, Frame, Seen, Switch, Walk};
+use crate::space::{trim, trimmed};
+use crate::stack::Stack;
+use crate::texts::append;
+use crate::walk::{walk, walk_name};
+use std::alloc::Global;
+use wk_base::NoMemory;
+
+/// A part whose ends are trimmed.
+fn trimmed_part<'w>(
+    alloc: Global,
+    stack: &mut Stack<Frame<'w>>,
+    part: Forest<'w>,
+) -> Result<Focus<'w>, NoMemory>
+    ensures same { IfOk result (λ f. (w : Setting) (sc : Scene) → trimmed (expand (trees_in part.entry) sc) (plug w stack.old sc) ≡ point w f stack.new sc) }
+    ensures calm { OnOk result (Calm 0 stack.old stack.new) }
+    ensures light { IfOk result (λ f. point_weight f stack.new ≤ 8 * size part.entry + 5 + weights stack.old) }
+{
+    stack.push(Frame::Trim)?;
+    Ok(Focus::Walk(walk(alloc, part)))
+}
+
+/// The first branch, or the second.
+pub fn either<'w>(
+    alloc: Global,
+    stack: &mut Stack<Frame<'w>>,
+    first: bool,
+    branches: Forest<'w>,
+) -> Result<Focus<'w>, NoMemory>
+    ensures same { IfOk result (λ f. (w : Setting) (sc : Scene) → either_of first (parts branches.entry) sc (plug w stack.old sc) ≡ point w f stack.new sc) }
+    ensures calm { OnOk result (Calm 0 stack.old stack.new) }
+    ensures light { IfOk result (λ f. point_weight f stack.new ≤ 8 * size branches.entry + 5 + weights stack.old) }
+{
+    let chosen = branches.either(first)?;
+    let (part, _) = chosen.head()?;
+    let focus = trimmed_part(alloc, stack, part)?;
+    Ok(focus)
+}
+
+/// Whether a text isn't empty.
+pub fn is_text(text: &[u8]) -> bool
+    ensures { result ≡ is_text_of text.now }
+{
+    match text {
+        [] => false,
+        _ => true,
+    }
+}
+
+/// `#ifeq` expands its right side first.
+pub fn if_equal<'w>(
+    alloc: Global,
+    stack: &mut Stack<Frame<'w>>,
+    left: Vec<u8>,
+    rest: Forest<'w>,
+) -> Result<Focus<'w>, NoMemory>
+    ensures same { IfOk result (λ f. (w : Setting) (sc : Scene) → if_equal_of left.items (parts rest.entry) sc (plug w stack.old sc) ≡ point w f stack.new sc) }
+    ensures calm { OnOk result (Calm 0 stack.old stack.new) }
+    ensures light { IfOk result (λ f. point_weight f stack.new ≤ 16 * size rest.entry + 12 + weights stack.old) }
+{
+    let (right, branches) = rest.head()?;
+    stack.push(Frame::Compare(left, branches))?;
+    Ok(Focus::Walk(walk(alloc, right)))
+}
+
+/// A `#switch` looks at its next part.
+pub fn switch<'w>(
+    alloc: Global,
+    stack: &mut Stack<Frame<'w>>,
+    state: Switch<'w>,
+) -> Result<Focus<'w>, NoMemory>
+    ensures same { IfOk result (λ f. (w : Setting) (sc : Scene) → switch_of state.entry.value.items (parts state.entry.rest) sc (seen_in state.entry.seen) (plug w stack.old sc) ≡ point w f stack.new sc) }
+    ensures calm { OnOk result (Calm 0 stack.old stack.new) }
+    ensures light { IfOk result (λ f. point_weight f stack.new < 16 * size state.entry.rest + 8 * size state.entry.seen.default + 16 + weights stack.old) }
+{
+    let Switch { value, rest, seen } = state;
+    match rest.take_part()? {
+        None => {
+            let Seen { default, .. } = seen;
+            let focus = trimmed_part(alloc, stack, default)?;
+            Ok(focus)
+        }
+        Some((part, rest)) => {
+            let focus = look_at(alloc, stack, Switch { value, rest, seen }, part)?;
+            Ok(focus)
+        }
+    }
+}
+
+/// A `#switch` looks at a part.
+fn look_at<'w>(
+    alloc: Global,
+    stack: &mut Stack<Frame<'w>>,
+    state: Switch<'w>,
+    part: Forest<'w>,
+) -> Result<Focus<'w>, NoMemory>
+    ensures same { IfOk result (λ f. (w : Setting) (sc : Scene) → switch_of state.entry.value.items (trees_in part.entry ∷ parts state.entry.rest) sc (seen_in state.entry.seen) (plug w stack.old sc) ≡ point w f stack.new sc) }
+    ensures calm { OnOk result (Calm 0 stack.old stack.new) }
+    ensures light { IfOk result (λ f. point_weight f stack.new ≤ 16 * size state.entry.rest + 16 * size part.entry + 8 * size state.entry.seen.default + 20 + weights stack.old) }
+{
+    match part.value()? {
+        None => {
+            stack.push(Frame::Valueless(state))?;
+            Ok(Focus::Walk(walk(alloc, part)))
+        }
+        Some(value) => {
+            if state.seen.met {
+                let focus = trimmed_part(alloc, stack, value)?;
+                return Ok(focus);
+            }
+            stack.push(Frame::Case(state, value))?;
+            Ok(Focus::Walk(walk_name(alloc, part)))
+        }
+    }
+}
+
+fn is_default(name: &[u8]) -> bool
+    ensures { result ≡ is_default_of name.now }
+{
+    name == b"#default".as_slice()
+}
+
+/// A `#switch` goes on, with a default that may be new.
+fn next_case<'w>(state: Switch<'w>, value: Forest<'w>, set: bool) -> Switch<'w>
+    ensures value { result.value.items ≡ state.entry.value.items }
+    ensures rest { parts result.rest ≡ parts state.entry.rest }
+    ensures size { size result.rest ≡ size state.entry.rest }
+    ensures seen { seen_in result.seen ≡ record { met = false; waits = false; default = cond set (trees_in value.entry) (trees_in state.entry.seen.default) } }
+    ensures default { size result.seen.default ≤ size value.entry + size state.entry.seen.default }
+{
+    let Switch {
+        value: text,
+        rest,
+        seen,
+    } = state;
+    let Seen { default, .. } = seen;
+    if set {
+        return Switch {
+            value: text,
+            rest,
+            seen: Seen {
+                met: false,
+                waits: false,
+                default: value,
+            },
+        };
+    }
+    Switch {
+        value: text,
+        rest,
+        seen: Seen {
+            met: false,
+            waits: false,
+            default,
+        },
+    }
+}
+
+/// The name of a valued part is there.
+pub fn case<'w>(
+    alloc: Global,
+    stack: &mut Stack<Frame<'w>>,
+    state: Switch<'w>,
+    value: Forest<'w>,
+    text: &[u8],
+) -> Result<Focus<'w>, NoMemory>
+    ensures same { IfOk result (λ f. (w : Setting) (sc : Scene) → by_name state.entry.value.items (trim text.now) (trees_in value.entry) sc (seen_in state.entry.seen) (λ t. after_turn t (switch_of state.entry.value.items (parts state.entry.rest) sc) (plug w stack.old sc)) ≡ point w f stack.new sc) }
+    ensures calm { OnOk result (Calm 0 stack.old stack.new) }
+    ensures light { IfOk result (λ f. point_weight f stack.new < 16 * size state.entry.rest + 8 * size value.entry + 8 * size state.entry.seen.default + 16 + weights stack.old) }
+{
+    let name = trim(text);
+    if are_equal(&state.value, name) {
+        let focus = trimmed_part(alloc, stack, value)?;
+        return Ok(focus);
+    }
+    let set = state.seen.waits || is_default(name);
+    let state = next_case(state, value, set);
+    let focus = switch(alloc, stack, state)?;
+    Ok(focus)
+}
+
+/// The text of a valueless part is there.
+pub fn valueless<'w>(
+    alloc: Global,
+    stack: &mut Stack<Frame<'w>>,
+    state: Switch<'w>,
+    text: &[u8],
+) -> Result<Focus<'w>, NoMemory>
+    ensures same { IfOk result (λ f. (w : Setting) (sc : Scene) → after_turn (valueless_of state.entry.value.items (trim text.now) (no_part (parts state.entry.rest)) (seen_in state.entry.seen)) (switch_of state.entry.value.items (parts state.entry.rest) sc) (plug w stack.old sc) ≡ point w f stack.new sc) }
+    ensures calm { OnOk result (Calm 0 stack.old stack.new) }
+    ensures light { IfOk result (λ f. point_weight f stack.new < 16 * size state.entry.rest + 8 * size state.entry.seen.default + 16 + weights stack.old) }
+{
+    let name = trim(text);
+    let waits = state.seen.waits || is_default(name);
+    let Switch { value, rest, seen } = state;
+    if rest.is_over()? {
+        if waits {
+            let focus = switch(alloc, stack, Switch { value, rest, seen })?;
+            return Ok(focus);
+        }
+        let text = trimmed(alloc, text)?;
+        return Ok(Focus::Text(text));
+    }
+    let met = seen.met || are_equal(&value, name);
+    let Seen { default, .. } = seen;
+    let seen = Seen {
+        met,
+        waits,
+        default,
+    };
+    let focus = switch(alloc, stack, Switch { value, rest, seen })?;
+    Ok(focus)
+}
+
+/// The next part of a construct that stands as it is written.
+pub fn written<'w>(
+    stack: &mut Stack<Frame<'w>>,
+    rest: Forest<'w>,
+    out: Vec<u8>,
+) -> Result<Focus<'w>, NoMemory>
+    ensures same { IfOk result (λ f. (w : Setting) (sc : Scene) → all_parts (parts rest.entry) sc out.items (λ text. plug w stack.old sc (text ++ codes "}}")) ≡ point w f stack.new sc) }
+    ensures calm { OnOk result (Calm 0 stack.old stack.new) }
+    ensures light { IfOk result (λ f. point_weight f stack.new < 16 * size rest.entry + 8 + weights stack.old) }
+{
+    let mut out = out;
+    match rest.take_part()? {
+        None => {
+            append(&mut out, b"}}")?;
+            Ok(Focus::Text(out))
+        }
+        Some((part, rest)) => {
+            append(&mut out, b"|")?;
+            stack.push(Frame::Written(rest))?;
+            Ok(Focus::Walk(Walk {
+                rest: part,
+                named: false,
+                out,
+            }))
+        }
+    }
+}
