@@ -5,7 +5,7 @@ use Rattle.lua_lexer.specs.declared.token.Token.{Token}
 use Rattle.lua_lexer.specs.declared.token.TokenKind.{TokenKind}
 use Rattle.lua_lexer.specs.declared.token.TokenKind.TheVariants.{Name, Mark, End}
 use Rattle.lua_grammar.specs.Tokens.{mark_sort, tok_at}
-use Rattle.lua_grammar.specs.Tree.{Exp, NameE, CallE, NoExp, Stat, CallS, Block, NoStat, MoreStat}
+use Rattle.lua_syntax.specs.Tree.{Exp, NameE, CallE, NoExp, Stat, CallS, Block, NoStat, MoreStat}
 use Rattle.lua_grammar.specs.Grammar.{given_of, Spells, SpellsBlock, SpellsStat, SpellsArgs, SpellsChunk, IsChunk, outside, under}
 
 abbrev tok : TokenKind → ℕ → Token

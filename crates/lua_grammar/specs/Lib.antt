@@ -1,4 +1,2 @@
 pub mod Tokens
-pub mod Tree
-pub mod View
 pub mod Grammar

@@ -1,8 +1,7 @@
 //! The grammar of Lua (manual 8) as definitions: which tokens spell a chunk, and the first fault of those that spell none.
+//! A chunk is a plain tree of `lua_syntax`.
 //!
 //! - `specs/Tokens.antt`: the sorts of tokens
-//! - `specs/Tree.antt`: chunks as plain trees
-//! - `specs/View.antt`: the plain tree for which a tree of `lua_syntax` stands
 //! - `specs/Grammar.antt`: what spells a tree, case by case, and the faults
 #![tactic(auto)]
 

@@ -8,8 +8,8 @@ use Rattle.lua_grammar.specs.declared.Sort.{Sort}
 use Rattle.lua_grammar.specs.declared.Sort.TheVariants.{Eof, Name, Text, LeftParen, RightParen, LeftBrace, LeftBracket, RightBracket, Comma, Semicolon, Assign}
 use Rattle.lua_grammar.specs.declared.Around.{Around}
 use Rattle.lua_grammar.specs.Tokens.{sort_at, tok_at, bytes_of}
-use Rattle.lua_grammar.specs.View.{expr_view, exprs_view, field_view}
-use Rattle.lua_grammar.specs.Tree.{Exp, Exps, Fields, TextE, NoExp, MoreExp, NoField, Item, Pair}
+use Rattle.lua_syntax.specs.View.{expr_view, exprs_view, field_view}
+use Rattle.lua_syntax.specs.Tree.{Exp, Exps, Fields, TextE, NoExp, MoreExp, NoField, Item, Pair}
 use Rattle.lua_parser.specs.declared.answer.Fault.{Fault}
 use Rattle.lua_parser.specs.declared.answer.Fault.TheVariants.{At, NoMemory}
 use Rattle.lua_parser.specs.declared.answer.Parsed.{Parsed}

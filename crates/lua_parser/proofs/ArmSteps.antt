@@ -6,9 +6,9 @@ use Rattle.lua_grammar.specs.declared.Sort.{Sort}
 use Rattle.lua_grammar.specs.declared.Sort.TheVariants.{Else, Elseif, End, If, Then}
 use Rattle.lua_grammar.specs.declared.Around.{Around}
 use Rattle.lua_grammar.specs.Tokens.{sort_at, tok_at}
-use Rattle.lua_grammar.specs.Tree.{Exp, Block, Arms, Stat, IfS, IfElseS, Arm, NoArm}
+use Rattle.lua_syntax.specs.Tree.{Exp, Block, Arms, Stat, IfS, IfElseS, Arm, NoArm}
 use Rattle.lua_grammar.specs.Grammar.{given_of, under, word, SpellsArms, MoreArms}
-use Rattle.lua_grammar.specs.View.{arm_view, arms_view}
+use Rattle.lua_syntax.specs.View.{arm_view, arms_view}
 use Rattle.lua_parser.specs.declared.answer.Fault.{Fault}
 use Rattle.lua_parser.specs.declared.answer.Fault.TheVariants.{At, NoMemory}
 use Rattle.lua_parser.specs.Parsing.{Stops, Below, Stood, Broke, Ended, high, stat_lang, block_lang, exp_lang, arms_lang, goes_on, block_goes, arms_goes, ExpStood}

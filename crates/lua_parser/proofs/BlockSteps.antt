@@ -6,9 +6,9 @@ use Rattle.lua_grammar.specs.declared.Sort.{Sort}
 use Rattle.lua_grammar.specs.declared.Sort.TheVariants.{Name, Break, Do, Else, Elseif, End, Eof, For, Function, If, Local, Repeat, Return, Until, While, LeftParen, Semicolon}
 use Rattle.lua_grammar.specs.declared.Around.{Around}
 use Rattle.lua_grammar.specs.Tokens.{sort_at, tok_at}
-use Rattle.lua_grammar.specs.Tree.{Exp, Block, Stat, NoStat, MoreStat, AssignS, CallS, DoS, WhileS, RepeatS, IfS, IfElseS, CountS, CountByS, EachS, LocalFunctionS, LocalS, ReturnS, BreakS}
+use Rattle.lua_syntax.specs.Tree.{Exp, Block, Stat, NoStat, MoreStat, AssignS, CallS, DoS, WhileS, RepeatS, IfS, IfElseS, CountS, CountByS, EachS, LocalFunctionS, LocalS, ReturnS, BreakS}
 use Rattle.lua_grammar.specs.Grammar.{given_of, word, SpellsBlock, SpellsStat, IsLast, IsEmpty}
-use Rattle.lua_grammar.specs.View.{stat_view, stats_view}
+use Rattle.lua_syntax.specs.View.{stat_view, stats_view}
 use Rattle.lua_parser.specs.declared.answer.Fault.{Fault}
 use Rattle.lua_parser.specs.declared.answer.Fault.TheVariants.{At, NoMemory}
 use Rattle.lua_parser.specs.Parsing.{Stops, Below, Stood, Broke, Ended, high, stat_lang, block_lang, block_goes, stat_goes, last_goes, goes_after}

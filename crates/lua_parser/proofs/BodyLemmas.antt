@@ -6,7 +6,7 @@ use Rattle.lua_grammar.specs.declared.Sort.{Sort}
 use Rattle.lua_grammar.specs.declared.Sort.TheVariants.{Eof, Name, LeftParen, RightParen, Comma, Dots, End}
 use Rattle.lua_grammar.specs.declared.Around.{Around}
 use Rattle.lua_grammar.specs.Tokens.{sort_at, tok_at, bytes_of}
-use Rattle.lua_grammar.specs.Tree.{Fun, Block, Lambda, NoStat}
+use Rattle.lua_syntax.specs.Tree.{Fun, Block, Lambda, NoStat}
 use Rattle.lua_grammar.specs.Grammar.{given_of, word, text, in_function, Names, MoreNames, Params, SpellsFun, SpellsMethod, SpellsBlock}
 use Rattle.lua_parser.specs.Parsing.{Lang, Stops, Below, Stood, Before, Broke, block_lang, block_goes, nothing}
 use Rattle.lua_parser.specs.Answers.{Parameters, params_lang, params_goes, body_lang, Grown}

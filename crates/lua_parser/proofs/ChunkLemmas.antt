@@ -4,7 +4,7 @@ use Rattle.lua_lexer.specs.declared.token.Token.{Token}
 use Rattle.lua_grammar.specs.declared.Sort.{Sort}
 use Rattle.lua_grammar.specs.declared.Sort.TheVariants.{Eof}
 use Rattle.lua_grammar.specs.Tokens.{sort_at, tok_at}
-use Rattle.lua_grammar.specs.Tree.{Block}
+use Rattle.lua_syntax.specs.Tree.{Block}
 use Rattle.lua_grammar.specs.Grammar.{given_of, SpellsBlock, SpellsChunk, IsChunk, Begins, FirstFault, outside}
 use Rattle.std.specs.Prelude.{Result, Ok, Err}
 use Rattle.lua_parser.specs.declared.answer.Fault.{Fault}

@@ -11,8 +11,8 @@ use Rattle.lua_grammar.specs.declared.Sort.{Sort}
 use Rattle.lua_grammar.specs.declared.Sort.TheVariants.{Eof, Name, Number, Text, Nil, True, False, Dots, Function, Not, Hash, Minus, LeftParen, RightParen, LeftBrace, RightBrace, LeftBracket, RightBracket, Colon, Dot, Comma, Assign}
 use Rattle.lua_grammar.specs.declared.Around.{Around}
 use Rattle.lua_grammar.specs.Tokens.{sort_at, tok_at, sort_of, bytes_of}
-use Rattle.lua_grammar.specs.View.{expr_view, exprs_view}
-use Rattle.lua_grammar.specs.Tree.{Exp, Exps, NilE, TrueE, FalseE, NumberE, TextE, DotsE, FunctionE, NameE, IndexE, CallE, MethodE, TableE, BinaryE, UnaryE, ParenE, NoExp, MoreExp}
+use Rattle.lua_syntax.specs.View.{expr_view, exprs_view}
+use Rattle.lua_syntax.specs.Tree.{Exp, Exps, NilE, TrueE, FalseE, NumberE, TextE, DotsE, FunctionE, NameE, IndexE, CallE, MethodE, TableE, BinaryE, UnaryE, ParenE, NoExp, MoreExp}
 use Rattle.lua_grammar.specs.Grammar.{given_of, mark_of, level, right_level, left_level, sign_of, under, suffix_goes}
 use Rattle.lua_parser.specs.declared.answer.Fault.{Fault}
 use Rattle.lua_parser.specs.declared.answer.Fault.TheVariants.{At, NoMemory}

@@ -6,10 +6,10 @@ use Rattle.lua_grammar.specs.declared.Sort.{Sort}
 use Rattle.lua_grammar.specs.declared.Sort.TheVariants.{Name, LeftBracket, RightBracket, RightBrace, Assign, Comma, Semicolon}
 use Rattle.lua_grammar.specs.declared.Around.{Around}
 use Rattle.lua_grammar.specs.Tokens.{sort_at, tok_at, sort_of, bytes_of}
-use Rattle.lua_grammar.specs.View.{field_view, fields_view}
-use Rattle.lua_grammar.specs.Tree.{Exp, Fields, NameE, TextE, NoField, Item, Pair}
+use Rattle.lua_syntax.specs.View.{field_view, fields_view}
+use Rattle.lua_syntax.specs.Tree.{Exp, Fields, NameE, TextE, NoField, Item, Pair}
 use Rattle.lua_grammar.specs.Grammar.{Given, given_of, Span, ◌⨟◌, ◌∣◌, word, text, node, separator, where', NoneLeft, Spells, SpellsFields, SpellsName, suffix_goes}
-use Rattle.lua_grammar.proofs.Views.{FieldIs, field_is}
+use Rattle.lua_syntax.proofs.Views.{FieldIs, field_is}
 use Rattle.lua_parser.specs.Parsing.{Lang, Stops, Below, Stood, Before, Broke, high, exp_lang, fields_lang, nothing, goes_on, fields_goes, ExpStood, OperandStood}
 use Rattle.lua_parser.specs.Answers.{Grown, name_lang, field_lang, field_goes, one_field, IsItem}
 use Rattle.std.proofs.lemmas.Bool.{cases_lt}

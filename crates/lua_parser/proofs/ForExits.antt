@@ -5,7 +5,7 @@ use Rattle.lua_grammar.specs.declared.Sort.{Sort}
 use Rattle.lua_grammar.specs.declared.Sort.TheVariants.{Name, Do, End, For, In, Assign, Comma}
 use Rattle.lua_grammar.specs.declared.Around.{Around}
 use Rattle.lua_grammar.specs.Tokens.{sort_at, tok_at, bytes_of}
-use Rattle.lua_grammar.specs.Tree.{Exp, Exps, Block, Stat, CountS, CountByS, EachS}
+use Rattle.lua_syntax.specs.Tree.{Exp, Exps, Block, Stat, CountS, CountByS, EachS}
 use Rattle.lua_grammar.specs.Grammar.{given_of, under, in_loop, MoreNames}
 use Rattle.lua_parser.specs.declared.answer.Fault.{Fault}
 use Rattle.lua_parser.specs.declared.answer.Fault.TheVariants.{At, NoMemory}

@@ -6,8 +6,8 @@ use Rattle.lua_grammar.specs.declared.Sort.{Sort}
 use Rattle.lua_grammar.specs.declared.Sort.TheVariants.{Name, LeftBracket, RightBracket, Colon, LeftParen, RightParen, Text, LeftBrace, Dot, Comma}
 use Rattle.lua_grammar.specs.declared.Around.{Around}
 use Rattle.lua_grammar.specs.Tokens.{sort_at, tok_at, sort_of, bytes_of}
-use Rattle.lua_grammar.specs.View.{expr_view, exprs_view}
-use Rattle.lua_grammar.specs.Tree.{Exp, Exps, NilE, TrueE, FalseE, NumberE, TextE, DotsE, FunctionE, NameE, IndexE, CallE, MethodE, TableE, BinaryE, UnaryE, ParenE, NoExp, MoreExp}
+use Rattle.lua_syntax.specs.View.{expr_view, exprs_view}
+use Rattle.lua_syntax.specs.Tree.{Exp, Exps, NilE, TrueE, FalseE, NumberE, TextE, DotsE, FunctionE, NameE, IndexE, CallE, MethodE, TableE, BinaryE, UnaryE, ParenE, NoExp, MoreExp}
 use Rattle.lua_grammar.specs.Grammar.{Given, given_of, Span, ◌⨟◌, ◌∣◌, word, text, node, ends, before, under, where', Is, Spells, SpellsArgs, SpellsAll, MoreExps, SpellsName, IsPrefix, IsAlone, suffix_goes}
 use Rattle.lua_parser.specs.Parsing.{Lang, Stops, Below, Stood, Before, Broke, high, exp_lang, args_lang, all_lang, nothing, goes_on, exps_goes, Stands, IsOperand, Closes, operand_lang, OperandStood, ExpStood}
 use Rattle.lua_parser.specs.Answers.{Grown, primary_lang, IsPrimary, name_lang}

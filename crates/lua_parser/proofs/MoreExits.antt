@@ -8,8 +8,8 @@ use Rattle.lua_grammar.specs.declared.Sort.TheVariants.{Eof, Name, Number, Text,
 use Rattle.lua_grammar.specs.declared.Around.{Around}
 use Rattle.lua_grammar.specs.Tokens.{sort_at, tok_at, sort_of, bytes_of}
 use Rattle.lua_syntax.specs.declared.Field.{Field}
-use Rattle.lua_grammar.specs.View.{expr_view, exprs_view, fields_view}
-use Rattle.lua_grammar.specs.Tree.{Exp, Exps, Fields, Fun, FunctionE, NameE, IndexE, CallE, MethodE, TableE, ParenE, NoExp, MoreExp}
+use Rattle.lua_syntax.specs.View.{expr_view, exprs_view, fields_view}
+use Rattle.lua_syntax.specs.Tree.{Exp, Exps, Fields, Fun, FunctionE, NameE, IndexE, CallE, MethodE, TableE, ParenE, NoExp, MoreExp}
 use Rattle.lua_grammar.specs.Grammar.{given_of, under, suffix_goes}
 use Rattle.lua_parser.specs.declared.answer.Fault.{Fault}
 use Rattle.lua_parser.specs.declared.answer.Fault.TheVariants.{At, NoMemory}

@@ -4,7 +4,7 @@ use Rattle.lua_lexer.specs.declared.token.Token.{Token}
 use Rattle.lua_grammar.specs.declared.Sort.{Sort}
 use Rattle.lua_grammar.specs.declared.Sort.TheVariants.{Name, Comma, Do, End}
 use Rattle.lua_grammar.specs.declared.Around.{Around}
-use Rattle.lua_grammar.specs.Tree.{Block, NoStat}
+use Rattle.lua_syntax.specs.Tree.{Block, NoStat}
 use Rattle.lua_grammar.specs.Tokens.{sort_at, tok_at, bytes_of}
 use Rattle.lua_grammar.specs.Grammar.{given_of, MoreNames, ◌⨟◌, word, SpellsBlock}
 use Rattle.lua_parser.specs.Parsing.{Lang, Stops, Below, Stood, Before, Broke, names_goes, Ended, nothing, high, block_goes}

@@ -5,10 +5,10 @@ use Rattle.lua_grammar.specs.declared.Sort.{Sort}
 use Rattle.lua_grammar.specs.declared.Sort.TheVariants.{Function, LeftParen, Dot, Colon}
 use Rattle.lua_grammar.specs.declared.Around.{Around}
 use Rattle.lua_grammar.specs.Tokens.{sort_at, tok_at}
-use Rattle.lua_grammar.specs.Tree.{Exp, Exps, IndexE, Fun, Lambda, Stat, FunctionE, NoExp, MoreExp, AssignS}
+use Rattle.lua_syntax.specs.Tree.{Exp, Exps, IndexE, Fun, Lambda, Stat, FunctionE, NoExp, MoreExp, AssignS}
 use Rattle.lua_grammar.specs.Grammar.{given_of, under, SpellsAll, SpellsStat, SpellsNamed, SpellsFun, SpellsMethod, AreVars, IsMethodPath}
 use Rattle.lua_syntax.specs.declared.Expr.{Expr}
-use Rattle.lua_grammar.specs.View.{expr_view, exprs_view}
+use Rattle.lua_syntax.specs.View.{expr_view, exprs_view}
 use Rattle.lua_parser.specs.declared.answer.Fault.{Fault}
 use Rattle.lua_parser.specs.declared.answer.Fault.TheVariants.{At, NoMemory}
 use Rattle.lua_parser.specs.Parsing.{Lang, Stops, Below, Stood, Before, Broke, Ended, high, stat_lang, nothing}

@@ -10,7 +10,7 @@ use Rattle.lua_grammar.specs.declared.Sort.{Sort}
 use Rattle.lua_grammar.specs.declared.Sort.TheVariants.{Name, Number, Text, Nil, True, False, Dots, Function, Not, Hash, Minus, LeftParen, LeftBrace, RightBrace}
 use Rattle.lua_grammar.specs.declared.Around.{Around}
 use Rattle.lua_grammar.specs.Tokens.{sort_at, tok_at, sort_of, bytes_of}
-use Rattle.lua_grammar.specs.Tree.{Exp, Exps, Fields, Fun, NilE, TrueE, FalseE, NumberE, TextE, DotsE, FunctionE, NameE, IndexE, CallE, MethodE, TableE, BinaryE, UnaryE, ParenE}
+use Rattle.lua_syntax.specs.Tree.{Exp, Exps, Fields, Fun, NilE, TrueE, FalseE, NumberE, TextE, DotsE, FunctionE, NameE, IndexE, CallE, MethodE, TableE, BinaryE, UnaryE, ParenE}
 use Rattle.lua_grammar.specs.Grammar.{Given, given_of, Span, ◌⨟◌, ◌∣◌, word, text, node, ends, before, under, Is, Agrees, Spells, SpellsFun, SpellsFields, IsPrefix, sign_of, mark_of, left_level, suffix_goes}
 use Rattle.lua_parser.specs.Parsing.{Lang, Stops, Below, Stood, Before, Broke, high, exp_lang, prefix_lang, fields_lang, nothing, goes_on, Stands, IsOperand, Closes, operand_lang, OperandStood, PrefixStood, ExpStood}
 use Rattle.lua_parser.specs.Answers.{body_lang, Grown}

@@ -7,7 +7,7 @@ use Rattle.lua_grammar.specs.Tokens.{sort_at, tok_at, bytes_of}
 use Rattle.lua_parser.specs.declared.answer.Parsed.{Parsed}
 use Rattle.lua_parser.specs.declared.params.ParameterList.{ParameterList}
 use Rattle.lua_grammar.specs.declared.Around.{Around}
-use Rattle.lua_grammar.specs.Tree.{Fun, Block, Lambda}
+use Rattle.lua_syntax.specs.Tree.{Fun, Block, Lambda}
 use Rattle.lua_grammar.specs.Grammar.{in_function}
 use Rattle.lua_parser.specs.declared.answer.Fault.{Fault}
 use Rattle.lua_parser.specs.declared.answer.Fault.TheVariants.{At, NoMemory}

@@ -6,7 +6,7 @@ use Rattle.lua_grammar.specs.declared.Sort.{Sort}
 use Rattle.lua_grammar.specs.declared.Sort.TheVariants.{Name, Dot, Colon}
 use Rattle.lua_grammar.specs.declared.Around.{Around}
 use Rattle.lua_grammar.specs.Tokens.{sort_at, tok_at, bytes_of}
-use Rattle.lua_grammar.specs.Tree.{Exp, NameE, IndexE, TextE}
+use Rattle.lua_syntax.specs.Tree.{Exp, NameE, IndexE, TextE}
 use Rattle.lua_grammar.specs.Grammar.{given_of, SpellsPath}
 use Rattle.lua_parser.specs.Parsing.{Lang, Stops, Below, Stood, Before, Broke, Ended, high}
 use Rattle.lua_parser.specs.Answers.{Grown}

@@ -5,7 +5,7 @@ use Rattle.lua_grammar.specs.declared.Sort.{Sort}
 use Rattle.lua_grammar.specs.declared.Sort.TheVariants.{Name, Dot, Colon}
 use Rattle.lua_grammar.specs.declared.Around.{Around}
 use Rattle.lua_grammar.specs.Tokens.{sort_at, tok_at, bytes_of}
-use Rattle.lua_grammar.specs.Tree.{Exp, Exps, NilE, TrueE, FalseE, NumberE, TextE, DotsE, FunctionE, NameE, IndexE, CallE, MethodE, TableE, BinaryE, UnaryE, ParenE, NoExp, MoreExp}
+use Rattle.lua_syntax.specs.Tree.{Exp, Exps, NilE, TrueE, FalseE, NumberE, TextE, DotsE, FunctionE, NameE, IndexE, CallE, MethodE, TableE, BinaryE, UnaryE, ParenE, NoExp, MoreExp}
 use Rattle.lua_grammar.specs.Grammar.{Given, given_of, under, before, node, word, text, ◌⨟◌, SpellsPath, IsMethodPath, SpellsDot, SpellsName}
 use Rattle.lua_parser.specs.Parsing.{Lang, Stops, Below, Stood, Before, Broke, Ended, high}
 use Rattle.lua_parser.specs.StatAnswers.{Head, head_lang, head_goes}

@@ -6,9 +6,9 @@ use Rattle.lua_grammar.specs.declared.Sort.{Sort}
 use Rattle.lua_grammar.specs.declared.Sort.TheVariants.{Name, Assign, Comma, LeftParen}
 use Rattle.lua_grammar.specs.declared.Around.{Around}
 use Rattle.lua_grammar.specs.Tokens.{sort_at, tok_at, bytes_of}
-use Rattle.lua_grammar.specs.Tree.{Exp, Exps, Stat, NameE, IndexE, CallE, MethodE, ParenE, TextE, NoExp, MoreExp, AssignS, CallS}
+use Rattle.lua_syntax.specs.Tree.{Exp, Exps, Stat, NameE, IndexE, CallE, MethodE, ParenE, TextE, NoExp, MoreExp, AssignS, CallS}
 use Rattle.lua_grammar.specs.Grammar.{given_of, under, suffix_goes, Spells, IsPrefix, IsVar, IsCall}
-use Rattle.lua_grammar.specs.View.{expr_view, exprs_view}
+use Rattle.lua_syntax.specs.View.{expr_view, exprs_view}
 use Rattle.lua_parser.specs.declared.answer.Fault.{Fault}
 use Rattle.lua_parser.specs.declared.answer.Fault.TheVariants.{At, NoMemory}
 use Rattle.lua_parser.specs.Parsing.{Lang, Stops, Below, Stood, Before, Broke, Ended, high, stat_lang, prefix_lang, all_lang, exps_goes, stat_goes, goes_after, nothing, PrefixStood}

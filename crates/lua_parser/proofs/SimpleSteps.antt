@@ -7,9 +7,9 @@ use Rattle.lua_grammar.specs.declared.Sort.{Sort}
 use Rattle.lua_grammar.specs.declared.Sort.TheVariants.{Name, Function, Assign, Comma, LeftParen}
 use Rattle.lua_grammar.specs.declared.Around.{Around}
 use Rattle.lua_grammar.specs.Tokens.{sort_at, tok_at}
-use Rattle.lua_grammar.specs.Tree.{Exp, Exps, Stat, NameE, IndexE, CallE, MethodE, ParenE, TextE, NoExp, MoreExp, FunctionE, AssignS, CallS}
+use Rattle.lua_syntax.specs.Tree.{Exp, Exps, Stat, NameE, IndexE, CallE, MethodE, ParenE, TextE, NoExp, MoreExp, FunctionE, AssignS, CallS}
 use Rattle.lua_grammar.specs.Grammar.{Given, given_of, under, before, ends, suffix_goes, Spells, SpellsAll, SpellsNamed, MoreExps, SpellsStat, IsPrefix, IsVar, IsCall, AreVars, ◌⨟◌, ◌∣◌, word, where'}
-use Rattle.lua_grammar.specs.View.{expr_view, exprs_view}
+use Rattle.lua_syntax.specs.View.{expr_view, exprs_view}
 use Rattle.lua_parser.specs.declared.answer.Fault.{Fault}
 use Rattle.lua_parser.specs.declared.answer.Fault.TheVariants.{At, NoMemory}
 use Rattle.lua_parser.specs.Parsing.{Lang, Stops, Below, Stood, Before, Broke, Ended, high, stat_lang, prefix_lang, all_lang, exps_goes, stat_goes, goes_after, nothing, PrefixStood}

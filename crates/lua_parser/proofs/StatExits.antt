@@ -5,7 +5,7 @@ use Rattle.lua_grammar.specs.declared.Sort.{Sort}
 use Rattle.lua_grammar.specs.declared.Sort.TheVariants.{Name, Break, Do, Else, Elseif, End, Eof, For, Function, If, In, Local, Repeat, Return, Then, Until, While, Assign, Comma, Semicolon}
 use Rattle.lua_grammar.specs.declared.Around.{Around}
 use Rattle.lua_grammar.specs.Tokens.{sort_at, tok_at}
-use Rattle.lua_grammar.specs.Tree.{Exp, Exps, Fun, Block, Arms, Stat, NoExp, MoreExp, DoS, WhileS, RepeatS, ReturnS, BreakS}
+use Rattle.lua_syntax.specs.Tree.{Exp, Exps, Fun, Block, Arms, Stat, NoExp, MoreExp, DoS, WhileS, RepeatS, ReturnS, BreakS}
 use Rattle.lua_grammar.specs.Grammar.{given_of, under, in_loop, SpellsStat}
 use Rattle.lua_parser.specs.declared.answer.Fault.{Fault}
 use Rattle.lua_parser.specs.declared.answer.Fault.TheVariants.{At, NoMemory}

@@ -5,7 +5,7 @@ use Rattle.lua_grammar.specs.declared.Sort.{Sort}
 use Rattle.lua_grammar.specs.declared.Sort.TheVariants.{Name, Do, Else, End, For, Function, If, In, Local, Assign, Comma}
 use Rattle.lua_grammar.specs.declared.Around.{Around}
 use Rattle.lua_grammar.specs.Tokens.{sort_at, tok_at}
-use Rattle.lua_grammar.specs.Tree.{Exp, Exps, Fun, Block, Arms, Stat, NoExp, MoreExp, IfS, IfElseS, CountS, CountByS, EachS, LocalFunctionS, LocalS}
+use Rattle.lua_syntax.specs.Tree.{Exp, Exps, Fun, Block, Arms, Stat, NoExp, MoreExp, IfS, IfElseS, CountS, CountByS, EachS, LocalFunctionS, LocalS}
 use Rattle.lua_grammar.specs.Grammar.{given_of, node, word, ◌⨟◌, in_loop, Spells, SpellsAll, SpellsArms, SpellsBlock, SpellsStat, HasNone}
 use Rattle.lua_parser.specs.Parsing.{high, stat_lang}
 use Rattle.lua_parser.proofs.Steps.{Rest, Done, Word, Named, Here, Under, Either, Reads, Left}

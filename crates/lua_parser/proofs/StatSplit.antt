@@ -5,7 +5,7 @@ use Rattle.lua_grammar.specs.declared.Sort.{Sort}
 use Rattle.lua_grammar.specs.declared.Sort.TheVariants.{Name, Break, Do, Else, Elseif, End, For, Function, If, In, Local, Repeat, Return, Then, Until, While, Assign, Comma}
 use Rattle.lua_grammar.specs.declared.Around.{Around}
 use Rattle.lua_grammar.specs.Tokens.{sort_at, tok_at}
-use Rattle.lua_grammar.specs.Tree.{Exp, Exps, Fun, Block, Arms, Stat, NoExp, MoreExp, DoS, WhileS, RepeatS, IfS, IfElseS, CountS, CountByS, EachS, LocalFunctionS, LocalS, ReturnS, BreakS}
+use Rattle.lua_syntax.specs.Tree.{Exp, Exps, Fun, Block, Arms, Stat, NoExp, MoreExp, DoS, WhileS, RepeatS, IfS, IfElseS, CountS, CountByS, EachS, LocalFunctionS, LocalS, ReturnS, BreakS}
 use Rattle.lua_grammar.specs.Grammar.{given_of, node, word, ◌⨟◌, in_loop, Spells, SpellsAll, SpellsBlock, SpellsStat, HasNone}
 use Rattle.lua_parser.specs.Parsing.{Stops, Below, Stood, Before, Broke, high, stat_lang}
 use Rattle.lua_parser.proofs.Steps.{Rest, Done, Word, Named, Here, Under, Either, Reads, Left, Kind, CanOpen, HasNode}

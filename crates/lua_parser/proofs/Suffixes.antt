@@ -6,7 +6,7 @@ use Rattle.lua_grammar.specs.declared.Sort.{Sort}
 use Rattle.lua_grammar.specs.declared.Sort.TheVariants.{Name, LeftBracket, RightBracket, Colon, LeftParen, RightParen, Text, LeftBrace, Dot}
 use Rattle.lua_grammar.specs.declared.Around.{Around}
 use Rattle.lua_grammar.specs.Tokens.{sort_at, tok_at, sort_of, bytes_of}
-use Rattle.lua_grammar.specs.Tree.{NoField, Exp, Exps, NilE, TrueE, FalseE, NumberE, TextE, DotsE, FunctionE, NameE, IndexE, CallE, MethodE, TableE, BinaryE, UnaryE, ParenE, NoExp, MoreExp}
+use Rattle.lua_syntax.specs.Tree.{NoField, Exp, Exps, NilE, TrueE, FalseE, NumberE, TextE, DotsE, FunctionE, NameE, IndexE, CallE, MethodE, TableE, BinaryE, UnaryE, ParenE, NoExp, MoreExp}
 use Rattle.lua_grammar.specs.Grammar.{Given, given_of, Span, ◌⨟◌, ◌∣◌, word, text, node, ends, before, under, where', Is, Spells, SpellsArgs, SpellsFields, SpellsDot, SpellsName, IsPrefix, IsAlone, mark_of, level, left_level, right_level, suffix_goes}
 use Rattle.lua_parser.specs.Parsing.{Lang, Stops, args_lang, Below, Stood, Before, Broke, high, exp_lang, prefix_lang, nothing, goes_on, Stands, IsOperand, Closes, operand_lang, OperandStood, PrefixStood}
 use Rattle.lua_parser.specs.Answers.{Grown, primary_lang, suffix_lang, IsPrimary, name_lang}

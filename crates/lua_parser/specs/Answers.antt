@@ -12,9 +12,9 @@ use Rattle.lua_grammar.specs.declared.Sort.{Sort}
 use Rattle.lua_grammar.specs.declared.Sort.TheVariants.{Name, Number, Text, Eof, And, Break, Do, Else, Elseif, End, False, For, Function, If, In, Local, Nil, Not, Or, Repeat, Return, Then, True, Until, While, Plus, Minus, Star, Slash, Percent, Caret, Hash, EqEq, NotEq, LessEq, MoreEq, Less, More, Assign, LeftParen, RightParen, LeftBrace, RightBrace, LeftBracket, RightBracket, Semicolon, Colon, Comma, Dot, DotDot, Dots}
 use Rattle.lua_grammar.specs.declared.Around.{Around}
 use Rattle.lua_grammar.specs.Tokens.{sort_at, tok_at}
-use Rattle.lua_grammar.specs.Tree.{Exp, Exps, Fields, Fun, Block, Arms, Stat, NilE, TrueE, FalseE, NumberE, TextE, DotsE, FunctionE, NameE, IndexE, CallE, MethodE, TableE, BinaryE, UnaryE, ParenE, NoField, Item, Pair}
+use Rattle.lua_syntax.specs.Tree.{Exp, Exps, Fields, Fun, Block, Arms, Stat, NilE, TrueE, FalseE, NumberE, TextE, DotsE, FunctionE, NameE, IndexE, CallE, MethodE, TableE, BinaryE, UnaryE, ParenE, NoField, Item, Pair}
 use Rattle.lua_grammar.specs.Grammar.{given_of, Spells, SpellsArgs, SpellsName, SpellsMethod, SpellsFun, SpellsDot, ◌⨟◌, ◌∣◌, word, node, text, ends, IsPrefix, suffix_goes, mark_of, Names, MoreNames, Params}
-use Rattle.lua_grammar.specs.View.{expr_view, exprs_view, fields_view, field_view, function_view, block_view, stats_view, arm_view, arms_view, stat_view}
+use Rattle.lua_syntax.specs.View.{expr_view, exprs_view, fields_view, field_view, function_view, block_view, stats_view, arm_view, arms_view, stat_view}
 use Rattle.lua_parser.specs.declared.answer.Fault.{Fault}
 use Rattle.lua_parser.specs.declared.answer.Fault.TheVariants.{At, NoMemory}
 use Rattle.lua_parser.specs.declared.answer.Parsed.{Parsed}

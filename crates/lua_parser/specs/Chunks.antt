@@ -7,9 +7,9 @@ use Rattle.lua_syntax.specs.declared.fault.SyntaxFault.TheVariants.{At as AtLine
 use Rattle.lua_lexer.specs.declared.token.Token.{Token}
 use Rattle.lua_lexer.specs.Lexis.{Lexes, FirstFault as FirstLexFault}
 use Rattle.lua_grammar.specs.Tokens.{tok_at}
-use Rattle.lua_grammar.specs.Tree.{Block}
+use Rattle.lua_syntax.specs.Tree.{Block}
 use Rattle.lua_grammar.specs.Grammar.{IsChunk, FirstFault}
-use Rattle.lua_grammar.specs.View.{block_view, chunk_view}
+use Rattle.lua_syntax.specs.View.{block_view, chunk_view}
 use Rattle.lua_parser.specs.declared.answer.Fault.{Fault}
 use Rattle.lua_parser.specs.declared.answer.Fault.TheVariants.{At, NoMemory}
 

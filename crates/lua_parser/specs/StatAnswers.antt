@@ -6,9 +6,9 @@ use Rattle.lua_grammar.specs.Grammar.{given_of, MoreNames, ◌⨟◌, word, Spel
 use Rattle.lua_grammar.specs.declared.Sort.TheVariants.{Do, End, Return, Break, Semicolon, Name, LeftParen, Dot, Colon}
 use Rattle.lua_grammar.specs.declared.Sort.{Sort}
 use Rattle.lua_grammar.specs.declared.Around.{Around}
-use Rattle.lua_grammar.specs.Tree.{Block, Exp, NameE, IndexE, CallE, MethodE, NoExp, MoreExp}
+use Rattle.lua_syntax.specs.Tree.{Block, Exp, NameE, IndexE, CallE, MethodE, NoExp, MoreExp}
 use Rattle.lua_parser.specs.declared.functions.Named.{Named}
-use Rattle.lua_grammar.specs.View.{expr_view}
+use Rattle.lua_syntax.specs.View.{expr_view}
 use Rattle.lua_parser.specs.declared.answer.Fault.{Fault}
 use Rattle.lua_parser.specs.declared.answer.Parsed.{Parsed}
 use Rattle.lua_parser.specs.Parsing.{Lang, Stood, Broke, names_goes, high}

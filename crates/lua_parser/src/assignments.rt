@@ -2,7 +2,7 @@
 ghost use Rattle.std.specs.Prelude.{◌≡◌, ◌<◌, ◌≤◌, length};
 ghost use Rattle.lua_grammar.specs.Tokens.{sort_at};
 ghost use Rattle.lua_grammar.specs.Grammar.{under, IsVar};
-ghost use Rattle.lua_grammar.specs.View.{expr_view};
+ghost use Rattle.lua_syntax.specs.View.{expr_view};
 ghost use Rattle.lua_parser.specs.Parsing.{Ended, PrefixStood};
 ghost use Rattle.lua_parser.specs.Answers.{StatAnswer};
 ghost use Rattle.lua_parser.specs.StatAnswers.{Opening, is_call, is_var};
@@ -98,7 +98,7 @@ fn assignment(
     }
 }
 
-#[tactic(auto, using(lua_grammar::proofs::Views::views))]
+#[tactic(auto, using(lua_syntax::proofs::Views::views))]
 fn is_call(tree: &Expr) -> bool
     ensures { result ≡ is_call (expr_view tree.now) }
 {
@@ -121,7 +121,7 @@ fn is_call(tree: &Expr) -> bool
     }
 }
 
-#[tactic(auto, using(lua_grammar::proofs::Views::views))]
+#[tactic(auto, using(lua_syntax::proofs::Views::views))]
 fn is_var(tree: &Expr) -> bool
     ensures { result ≡ is_var (expr_view tree.now) }
 {

@@ -1,6 +1,6 @@
 //! Bodies of functions (manual 2.5.9), and blocks (manual 2.4).
 ghost use Rattle.std.specs.Prelude.{◌≡◌, ◌<◌, ◌≤◌, ◌+◌, length};
-ghost use Rattle.lua_grammar.specs.View.{function_view};
+ghost use Rattle.lua_syntax.specs.View.{function_view};
 ghost use Rattle.lua_parser.specs.Parsing.{Ended, nothing};
 ghost use Rattle.lua_parser.specs.Answers.{Answer, BlockAnswer, body_lang};
 ghost use Rattle.lua_parser.specs.StatAnswers.{Behind};

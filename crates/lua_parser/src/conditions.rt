@@ -1,7 +1,7 @@
 //! `if` (manual 2.4.4).
 ghost use Rattle.std.specs.Prelude.{◌≡◌, ◌<◌, ◌≤◌, length};
 ghost use Rattle.lua_grammar.specs.Tokens.{sort_at};
-ghost use Rattle.lua_grammar.specs.View.{arms_view};
+ghost use Rattle.lua_syntax.specs.View.{arms_view};
 ghost use Rattle.lua_grammar.specs.declared.Sort.TheVariants.{If};
 ghost use Rattle.lua_parser.specs.Parsing.{Ended, arms_goes, arms_lang};
 ghost use Rattle.lua_parser.specs.Answers.{Answer, StatAnswer};

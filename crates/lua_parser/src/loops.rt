@@ -1,7 +1,7 @@
 //! `for` (manual 2.4.5).
 ghost use Rattle.std.specs.Prelude.{◌≡◌, ◌≢◌, ◌<◌, ◌≤◌, ◌+◌, length};
 ghost use Rattle.lua_grammar.specs.Tokens.{sort_at};
-ghost use Rattle.lua_grammar.specs.View.{block_view};
+ghost use Rattle.lua_syntax.specs.View.{block_view};
 ghost use Rattle.lua_grammar.specs.declared.Sort.TheVariants.{Assign, For, Name};
 ghost use Rattle.lua_parser.specs.Parsing.{Ended, nothing};
 ghost use Rattle.lua_parser.specs.Answers.{Answer, StatAnswer};

@@ -1,15 +1,15 @@
 //! Nodes, by the plain trees for which they stand.
 ghost use Rattle.std.specs.Prelude.{◌≡◌, IfOk, IfErr};
 ghost use Rattle.lua_parser.specs.declared.answer.Fault.TheVariants.{NoMemory};
-ghost use Rattle.lua_grammar.specs.Tree.{NilE, TrueE, FalseE, NumberE, TextE, DotsE, FunctionE, NameE, IndexE, CallE, MethodE, TableE, BinaryE, UnaryE, ParenE, Item, Pair, NoField, Lambda, Arm as OneArm, AssignS, CallS, DoS, WhileS, RepeatS, IfS, IfElseS, CountS, CountByS, EachS, LocalFunctionS, LocalS, ReturnS, BreakS};
-ghost use Rattle.lua_grammar.specs.View.{expr_view, exprs_view, fields_view, field_view, function_view, block_view, stats_view, arm_view, arms_view, stat_view};
+ghost use Rattle.lua_syntax.specs.Tree.{NilE, TrueE, FalseE, NumberE, TextE, DotsE, FunctionE, NameE, IndexE, CallE, MethodE, TableE, BinaryE, UnaryE, ParenE, Item, Pair, NoField, Lambda, Arm as OneArm, AssignS, CallS, DoS, WhileS, RepeatS, IfS, IfElseS, CountS, CountByS, EachS, LocalFunctionS, LocalS, ReturnS, BreakS};
+ghost use Rattle.lua_syntax.specs.View.{expr_view, exprs_view, fields_view, field_view, function_view, block_view, stats_view, arm_view, arms_view, stat_view};
 
 use crate::answer::Fault;
 use lua_syntax::{Arm, BinaryOp, Block, Expr, ExprKind, Field, Function, Stat, StatKind, UnaryOp};
 use std::alloc::Global;
 use wk_base::{Bytes, List};
 
-#[tactic(auto, using(lua_grammar::proofs::Views::views))]
+#[tactic(auto, using(lua_syntax::proofs::Views::views))]
 pub(crate) fn nil(line: u32) -> Expr
     ensures { expr_view result ≡ NilE line }
 {
@@ -17,7 +17,7 @@ pub(crate) fn nil(line: u32) -> Expr
     Expr { line, kind }
 }
 
-#[tactic(auto, using(lua_grammar::proofs::Views::views))]
+#[tactic(auto, using(lua_syntax::proofs::Views::views))]
 pub(crate) fn true_value(line: u32) -> Expr
     ensures { expr_view result ≡ TrueE line }
 {
@@ -25,7 +25,7 @@ pub(crate) fn true_value(line: u32) -> Expr
     Expr { line, kind }
 }
 
-#[tactic(auto, using(lua_grammar::proofs::Views::views))]
+#[tactic(auto, using(lua_syntax::proofs::Views::views))]
 pub(crate) fn false_value(line: u32) -> Expr
     ensures { expr_view result ≡ FalseE line }
 {
@@ -33,7 +33,7 @@ pub(crate) fn false_value(line: u32) -> Expr
     Expr { line, kind }
 }
 
-#[tactic(auto, using(lua_grammar::proofs::Views::views))]
+#[tactic(auto, using(lua_syntax::proofs::Views::views))]
 pub(crate) fn dots(line: u32) -> Expr
     ensures { expr_view result ≡ DotsE line }
 {
@@ -41,7 +41,7 @@ pub(crate) fn dots(line: u32) -> Expr
     Expr { line, kind }
 }
 
-#[tactic(auto, using(lua_grammar::proofs::Views::views))]
+#[tactic(auto, using(lua_syntax::proofs::Views::views))]
 pub(crate) fn number(line: u32, n: i64) -> Expr
     ensures { expr_view result ≡ NumberE line n }
 {
@@ -49,7 +49,7 @@ pub(crate) fn number(line: u32, n: i64) -> Expr
     Expr { line, kind }
 }
 
-#[tactic(auto, using(lua_grammar::proofs::Views::views))]
+#[tactic(auto, using(lua_syntax::proofs::Views::views))]
 pub(crate) fn text(line: u32, bytes: Bytes) -> Expr
     ensures { expr_view result ≡ TextE line bytes }
 {
@@ -57,7 +57,7 @@ pub(crate) fn text(line: u32, bytes: Bytes) -> Expr
     Expr { line, kind }
 }
 
-#[tactic(auto, using(lua_grammar::proofs::Views::views))]
+#[tactic(auto, using(lua_syntax::proofs::Views::views))]
 pub(crate) fn name(line: u32, bytes: Bytes) -> Expr
     ensures { expr_view result ≡ NameE line bytes }
 {
@@ -65,7 +65,7 @@ pub(crate) fn name(line: u32, bytes: Bytes) -> Expr
     Expr { line, kind }
 }
 
-#[tactic(auto, using(lua_grammar::proofs::Views::views))]
+#[tactic(auto, using(lua_syntax::proofs::Views::views))]
 pub(crate) fn function(line: u32, body: Function) -> Expr
     ensures { expr_view result ≡ FunctionE line (function_view body) }
 {
@@ -73,7 +73,7 @@ pub(crate) fn function(line: u32, body: Function) -> Expr
     Expr { line, kind }
 }
 
-#[tactic(auto, using(lua_grammar::proofs::Views::views))]
+#[tactic(auto, using(lua_syntax::proofs::Views::views))]
 pub(crate) fn table(line: u32, fields: List<Field>) -> Expr
     ensures { expr_view result ≡ TableE line (fields_view fields) }
 {
@@ -81,7 +81,7 @@ pub(crate) fn table(line: u32, fields: List<Field>) -> Expr
     Expr { line, kind }
 }
 
-#[tactic(auto, using(lua_grammar::proofs::Views::views))]
+#[tactic(auto, using(lua_syntax::proofs::Views::views))]
 pub(crate) fn paren(alloc: Global, line: u32, inner: Expr) -> Result<Expr, Fault>
     ensures ok { IfOk result (λ e. expr_view e ≡ ParenE line (expr_view inner)) }
     ensures err { IfErr result (λ e. e ≡ NoMemory) }
@@ -91,7 +91,7 @@ pub(crate) fn paren(alloc: Global, line: u32, inner: Expr) -> Result<Expr, Fault
     Ok(Expr { line, kind })
 }
 
-#[tactic(auto, using(lua_grammar::proofs::Views::views))]
+#[tactic(auto, using(lua_syntax::proofs::Views::views))]
 pub(crate) fn unary(alloc: Global, line: u32, op: UnaryOp, inner: Expr) -> Result<Expr, Fault>
     ensures ok { IfOk result (λ e. expr_view e ≡ UnaryE line op (expr_view inner)) }
     ensures err { IfErr result (λ e. e ≡ NoMemory) }
@@ -101,7 +101,7 @@ pub(crate) fn unary(alloc: Global, line: u32, op: UnaryOp, inner: Expr) -> Resul
     Ok(Expr { line, kind })
 }
 
-#[tactic(auto, using(lua_grammar::proofs::Views::views))]
+#[tactic(auto, using(lua_syntax::proofs::Views::views))]
 pub(crate) fn binary(
     alloc: Global,
     line: u32,
@@ -118,7 +118,7 @@ pub(crate) fn binary(
     Ok(Expr { line, kind })
 }
 
-#[tactic(auto, using(lua_grammar::proofs::Views::views))]
+#[tactic(auto, using(lua_syntax::proofs::Views::views))]
 pub(crate) fn index(alloc: Global, line: u32, of: Expr, key: Expr) -> Result<Expr, Fault>
     ensures ok { IfOk result (λ e. expr_view e ≡ IndexE line (expr_view of) (expr_view key)) }
     ensures err { IfErr result (λ e. e ≡ NoMemory) }
@@ -129,7 +129,7 @@ pub(crate) fn index(alloc: Global, line: u32, of: Expr, key: Expr) -> Result<Exp
     Ok(Expr { line, kind })
 }
 
-#[tactic(auto, using(lua_grammar::proofs::Views::views))]
+#[tactic(auto, using(lua_syntax::proofs::Views::views))]
 pub(crate) fn call(alloc: Global, line: u32, called: Expr, args: List<Expr>) -> Result<Expr, Fault>
     ensures ok { IfOk result (λ e. expr_view e ≡ CallE line (expr_view called) (exprs_view args)) }
     ensures err { IfErr result (λ e. e ≡ NoMemory) }
@@ -139,7 +139,7 @@ pub(crate) fn call(alloc: Global, line: u32, called: Expr, args: List<Expr>) -> 
     Ok(Expr { line, kind })
 }
 
-#[tactic(auto, using(lua_grammar::proofs::Views::views))]
+#[tactic(auto, using(lua_syntax::proofs::Views::views))]
 pub(crate) fn method(
     alloc: Global,
     line: u32,
@@ -155,42 +155,42 @@ pub(crate) fn method(
     Ok(Expr { line, kind })
 }
 
-#[tactic(auto, using(lua_grammar::proofs::Views::views))]
+#[tactic(auto, using(lua_syntax::proofs::Views::views))]
 pub(crate) fn item(value: Expr) -> Field
     ensures { (rest : _) → field_view result rest ≡ Item (expr_view value) rest }
 {
     Field::Item(value)
 }
 
-#[tactic(auto, using(lua_grammar::proofs::Views::views))]
+#[tactic(auto, using(lua_syntax::proofs::Views::views))]
 pub(crate) fn pair(key: Expr, value: Expr) -> Field
     ensures { (rest : _) → field_view result rest ≡ Pair (expr_view key) (expr_view value) rest }
 {
     Field::Pair(key, value)
 }
 
-#[tactic(auto, using(lua_grammar::proofs::Views::views))]
+#[tactic(auto, using(lua_syntax::proofs::Views::views))]
 pub(crate) fn body_of(params: List<Bytes>, dots: bool, body: Block) -> Function
     ensures { function_view result ≡ Lambda params dots (block_view body) }
 {
     Function { params, dots, body }
 }
 
-#[tactic(auto, using(lua_grammar::proofs::Views::views))]
+#[tactic(auto, using(lua_syntax::proofs::Views::views))]
 pub(crate) fn arm(test: Expr, body: Block) -> Arm
     ensures { (rest : _) → arm_view result rest ≡ OneArm (expr_view test) (block_view body) rest }
 {
     Arm { test, body }
 }
 
-#[tactic(auto, using(lua_grammar::proofs::Views::views))]
+#[tactic(auto, using(lua_syntax::proofs::Views::views))]
 pub(crate) fn block_of(stats: List<Stat>) -> Block
     ensures { block_view result ≡ stats_view stats }
 {
     Block { stats }
 }
 
-#[tactic(auto, using(lua_grammar::proofs::Views::views))]
+#[tactic(auto, using(lua_syntax::proofs::Views::views))]
 pub(crate) fn assign(line: u32, targets: List<Expr>, values: List<Expr>) -> Stat
     ensures { stat_view result ≡ AssignS line (exprs_view targets) (exprs_view values) }
 {
@@ -198,7 +198,7 @@ pub(crate) fn assign(line: u32, targets: List<Expr>, values: List<Expr>) -> Stat
     Stat { line, kind }
 }
 
-#[tactic(auto, using(lua_grammar::proofs::Views::views))]
+#[tactic(auto, using(lua_syntax::proofs::Views::views))]
 pub(crate) fn call_stat(line: u32, call: Expr) -> Stat
     ensures { stat_view result ≡ CallS line (expr_view call) }
 {
@@ -206,7 +206,7 @@ pub(crate) fn call_stat(line: u32, call: Expr) -> Stat
     Stat { line, kind }
 }
 
-#[tactic(auto, using(lua_grammar::proofs::Views::views))]
+#[tactic(auto, using(lua_syntax::proofs::Views::views))]
 pub(crate) fn do_block(line: u32, body: Block) -> Stat
     ensures { stat_view result ≡ DoS line (block_view body) }
 {
@@ -214,7 +214,7 @@ pub(crate) fn do_block(line: u32, body: Block) -> Stat
     Stat { line, kind }
 }
 
-#[tactic(auto, using(lua_grammar::proofs::Views::views))]
+#[tactic(auto, using(lua_syntax::proofs::Views::views))]
 pub(crate) fn while_loop(line: u32, test: Expr, body: Block) -> Stat
     ensures { stat_view result ≡ WhileS line (expr_view test) (block_view body) }
 {
@@ -222,7 +222,7 @@ pub(crate) fn while_loop(line: u32, test: Expr, body: Block) -> Stat
     Stat { line, kind }
 }
 
-#[tactic(auto, using(lua_grammar::proofs::Views::views))]
+#[tactic(auto, using(lua_syntax::proofs::Views::views))]
 pub(crate) fn repeat_loop(line: u32, body: Block, test: Expr) -> Stat
     ensures { stat_view result ≡ RepeatS line (block_view body) (expr_view test) }
 {
@@ -230,7 +230,7 @@ pub(crate) fn repeat_loop(line: u32, body: Block, test: Expr) -> Stat
     Stat { line, kind }
 }
 
-#[tactic(auto, using(lua_grammar::proofs::Views::views))]
+#[tactic(auto, using(lua_syntax::proofs::Views::views))]
 pub(crate) fn if_stat(line: u32, arms: List<Arm>) -> Stat
     ensures { stat_view result ≡ IfS line (arms_view arms) }
 {
@@ -238,7 +238,7 @@ pub(crate) fn if_stat(line: u32, arms: List<Arm>) -> Stat
     Stat { line, kind }
 }
 
-#[tactic(auto, using(lua_grammar::proofs::Views::views))]
+#[tactic(auto, using(lua_syntax::proofs::Views::views))]
 pub(crate) fn if_else(line: u32, arms: List<Arm>, other: Block) -> Stat
     ensures { stat_view result ≡ IfElseS line (arms_view arms) (block_view other) }
 {
@@ -246,7 +246,7 @@ pub(crate) fn if_else(line: u32, arms: List<Arm>, other: Block) -> Stat
     Stat { line, kind }
 }
 
-#[tactic(auto, using(lua_grammar::proofs::Views::views))]
+#[tactic(auto, using(lua_syntax::proofs::Views::views))]
 pub(crate) fn count(line: u32, name: Bytes, from: Expr, to: Expr, body: Block) -> Stat
     ensures { stat_view result ≡ CountS line name (expr_view from) (expr_view to) (block_view body) }
 {
@@ -254,7 +254,7 @@ pub(crate) fn count(line: u32, name: Bytes, from: Expr, to: Expr, body: Block) -
     Stat { line, kind }
 }
 
-#[tactic(auto, using(lua_grammar::proofs::Views::views))]
+#[tactic(auto, using(lua_syntax::proofs::Views::views))]
 pub(crate) fn count_by(line: u32, name: Bytes, from: Expr, to: Expr, by: Expr, body: Block) -> Stat
     ensures { stat_view result ≡ CountByS line name (expr_view from) (expr_view to) (expr_view by) (block_view body) }
 {
@@ -262,7 +262,7 @@ pub(crate) fn count_by(line: u32, name: Bytes, from: Expr, to: Expr, by: Expr, b
     Stat { line, kind }
 }
 
-#[tactic(auto, using(lua_grammar::proofs::Views::views))]
+#[tactic(auto, using(lua_syntax::proofs::Views::views))]
 pub(crate) fn each(line: u32, names: List<Bytes>, values: List<Expr>, body: Block) -> Stat
     ensures { stat_view result ≡ EachS line names (exprs_view values) (block_view body) }
 {
@@ -270,7 +270,7 @@ pub(crate) fn each(line: u32, names: List<Bytes>, values: List<Expr>, body: Bloc
     Stat { line, kind }
 }
 
-#[tactic(auto, using(lua_grammar::proofs::Views::views))]
+#[tactic(auto, using(lua_syntax::proofs::Views::views))]
 pub(crate) fn local_function(line: u32, name: Bytes, body: Function) -> Stat
     ensures { stat_view result ≡ LocalFunctionS line name (function_view body) }
 {
@@ -278,7 +278,7 @@ pub(crate) fn local_function(line: u32, name: Bytes, body: Function) -> Stat
     Stat { line, kind }
 }
 
-#[tactic(auto, using(lua_grammar::proofs::Views::views))]
+#[tactic(auto, using(lua_syntax::proofs::Views::views))]
 pub(crate) fn local(line: u32, names: List<Bytes>, values: List<Expr>) -> Stat
     ensures { stat_view result ≡ LocalS line names (exprs_view values) }
 {
@@ -286,7 +286,7 @@ pub(crate) fn local(line: u32, names: List<Bytes>, values: List<Expr>) -> Stat
     Stat { line, kind }
 }
 
-#[tactic(auto, using(lua_grammar::proofs::Views::views))]
+#[tactic(auto, using(lua_syntax::proofs::Views::views))]
 pub(crate) fn return_stat(line: u32, values: List<Expr>) -> Stat
     ensures { stat_view result ≡ ReturnS line (exprs_view values) }
 {
@@ -294,7 +294,7 @@ pub(crate) fn return_stat(line: u32, values: List<Expr>) -> Stat
     Stat { line, kind }
 }
 
-#[tactic(auto, using(lua_grammar::proofs::Views::views))]
+#[tactic(auto, using(lua_syntax::proofs::Views::views))]
 pub(crate) fn break_stat(line: u32) -> Stat
     ensures { stat_view result ≡ BreakS line }
 {

@@ -2,7 +2,7 @@
 ghost use Rattle.std.specs.Prelude.{◌≡◌, ◌<◌, ◌≤◌, ◌+◌, length, true};
 ghost use Rattle.lua_grammar.specs.Tokens.{sort_at, tok_at};
 ghost use Rattle.lua_grammar.specs.Grammar.{under, suffix_goes};
-ghost use Rattle.lua_grammar.specs.View.{expr_view, exprs_view};
+ghost use Rattle.lua_syntax.specs.View.{expr_view, exprs_view};
 ghost use Rattle.lua_grammar.specs.declared.Sort.TheVariants.{Dot, LeftBracket, Colon};
 ghost use Rattle.lua_parser.specs.Parsing.{Ended, nothing, exps_goes, all_lang, args_lang};
 ghost use Rattle.lua_parser.specs.Answers.{Alone, Answer, PrefixAnswer, primary_lang, suffix_lang, name_lang};

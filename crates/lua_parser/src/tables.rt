@@ -1,7 +1,7 @@
 //! Table constructors (manual 2.5.7).
 ghost use Rattle.std.specs.Prelude.{◌≡◌, ◌≢◌, ◌<◌, ◌≤◌, ◌+◌, length};
 ghost use Rattle.lua_grammar.specs.Tokens.{sort_at, tok_at};
-ghost use Rattle.lua_grammar.specs.View.{fields_view};
+ghost use Rattle.lua_syntax.specs.View.{fields_view};
 ghost use Rattle.lua_grammar.specs.declared.Sort.TheVariants.{LeftBrace, LeftBracket};
 ghost use Rattle.lua_parser.specs.Parsing.{Ended, fields_lang, fields_goes};
 ghost use Rattle.lua_parser.specs.Answers.{Answer, IsItem, MaybeEmpty, OperandAnswer, field_lang, field_goes, one_field};

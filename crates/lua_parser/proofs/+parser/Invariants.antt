@@ -1,5 +1,5 @@
 use Rattle.std.proofs.Common.{◌≡◌, ◌<◌, ◌≤◌, ◌+◌, length, ℕ, ◌-◌, ◌*◌}
-use Rattle.lua_grammar.specs.View.{expr_view}
+use Rattle.lua_syntax.specs.View.{expr_view}
 use Rattle.lua_parser.proofs.Climb.{Climbs}
 use Rattle.lua_parser.proofs.Suffixes.{Chain}
 use Rattle.lua_parser.proofs.Lists.{Listed}

@@ -1,5 +1,5 @@
 use Rattle.std.proofs.Common.{◌≡◌, ◌<◌, length, ℕ, ◌+◌, ◌-◌}
-use Rattle.lua_grammar.specs.View.{expr_view}
+use Rattle.lua_syntax.specs.View.{expr_view}
 use Rattle.lua_parser.proofs.PathExits.{PathState}
 use Rattle.lua_parser.proofs.functions.path.Given as goal
 

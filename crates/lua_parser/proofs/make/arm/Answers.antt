@@ -1,4 +1,4 @@
-use Rattle.lua_grammar.proofs.Views.{arm_made}
+use Rattle.lua_syntax.proofs.Views.{arm_made}
 use Rattle.lua_parser.proofs.make.arm.Goals as goal
 
 pub returns : goal.returns

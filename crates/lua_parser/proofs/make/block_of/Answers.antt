@@ -1,4 +1,4 @@
-use Rattle.lua_grammar.proofs.Views.{block_made}
+use Rattle.lua_syntax.proofs.Views.{block_made}
 use Rattle.lua_parser.proofs.make.block_of.Goals as goal
 
 pub returns : goal.returns

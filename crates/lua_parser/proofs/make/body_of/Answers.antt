@@ -1,4 +1,4 @@
-use Rattle.lua_grammar.proofs.Views.{function_made}
+use Rattle.lua_syntax.proofs.Views.{function_made}
 use Rattle.lua_parser.proofs.make.body_of.Goals as goal
 
 pub returns : goal.returns

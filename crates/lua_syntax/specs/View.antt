@@ -11,7 +11,7 @@ use Rattle.lua_syntax.specs.declared.Field.{Field}
 use Rattle.lua_syntax.specs.declared.Chunk.{Chunk}
 use Rattle.lua_syntax.specs.declared.ExprKind.TheOpen.{ExprKind-F, Nil, True, False, Number, Text, Dots, Function, Name, Index, ExprKind::Call, Method, Table, Binary, Unary, Paren, Field-F, Item as ItemField, Pair as PairField, StatKind-F, Assign, StatKind::Call, Do, While, Repeat, If, Count, Each, LocalFunction, Local, Return, Break, Arm-F, Block-F, Expr-F, Function-F, Stat-F}
 use Rattle.lua_syntax.specs.declared.ExprKind.TheFolds.{fold-ExprKind, fold-Field, fold-StatKind, fold-Arm, fold-Block, fold-Expr, fold-Function, fold-Stat}
-use Rattle.lua_grammar.specs.Tree.{Exp, Exps, Fields, Fun, Block, Arms, Stat, NilE, TrueE, FalseE, NumberE, TextE, DotsE, FunctionE, NameE, IndexE, CallE, MethodE, TableE, BinaryE, UnaryE, ParenE, NoExp, MoreExp, NoField, Item, Pair, Lambda, NoStat, MoreStat, NoArm, Arm, AssignS, CallS, DoS, WhileS, RepeatS, IfS, IfElseS, CountS, CountByS, EachS, LocalFunctionS, LocalS, ReturnS, BreakS}
+use Rattle.lua_syntax.specs.Tree.{Exp, Exps, Fields, Fun, Block, Arms, Stat, NilE, TrueE, FalseE, NumberE, TextE, DotsE, FunctionE, NameE, IndexE, CallE, MethodE, TableE, BinaryE, UnaryE, ParenE, NoExp, MoreExp, NoField, Item, Pair, Lambda, NoStat, MoreStat, NoArm, Arm, AssignS, CallS, DoS, WhileS, RepeatS, IfS, IfElseS, CountS, CountByS, EachS, LocalFunctionS, LocalS, ReturnS, BreakS}
 
 abbrev pub exps_of : List Exp → Exps
 exps_of [] = NoExp

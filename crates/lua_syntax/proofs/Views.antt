@@ -21,8 +21,8 @@ use Rattle.lua_syntax.specs.declared.Stat.{Stat as StatNode}
 use Rattle.lua_syntax.specs.declared.ExprKind.TheOpen.{ExprKind-F, Nil, True, False, Number, Text, Dots, Function, Name, Index, ExprKind::Call, Method, Table, Binary, Unary, Paren, Field-F, Item as ItemField, Pair as PairField, StatKind-F, Assign, StatKind::Call, Do, While, Repeat, If, Count, Each, LocalFunction, Local, Return, Break}
 use Rattle.lua_syntax.specs.declared.ExprKind.TheViews.{roll-Arm, roll-Block, roll-Function, out-ExprKind, roll-out-ExprKind, out-Field, roll-out-Field, out-StatKind, roll-out-StatKind, out-Arm, roll-out-Arm, out-Block, roll-out-Block, out-Expr, roll-out-Expr, out-Function, roll-out-Function, out-Stat, roll-out-Stat}
 use Rattle.lua_syntax.specs.declared.ExprKind.TheFolds.{map-ExprKind, fold-roll-ExprKind, map-Field, fold-roll-Field, map-StatKind, fold-roll-StatKind, fold-roll-Arm, fold-roll-Block, fold-roll-Expr, fold-roll-Function, fold-roll-Stat}
-use Rattle.lua_grammar.specs.Tree.{Exp, Exps, Fields, Fun, Block, Arms, Stat, NilE, TrueE, FalseE, NumberE, TextE, DotsE, FunctionE, NameE, IndexE, CallE, MethodE, TableE, BinaryE, UnaryE, ParenE, NoExp, MoreExp, NoField, Item, Pair, Lambda, NoStat, MoreStat, NoArm, Arm, AssignS, CallS, DoS, WhileS, RepeatS, IfS, IfElseS, CountS, CountByS, EachS, LocalFunctionS, LocalS, ReturnS, BreakS}
-use Rattle.lua_grammar.specs.View.{exps_of, fields_of, arms_of, stats_of, kind_step, field_step, stat_step, kind_view, field_view, stat_kind_view, arm_view, block_view, expr_view, function_view, stat_view, exprs_view, fields_view, arms_view, stats_view}
+use Rattle.lua_syntax.specs.Tree.{Exp, Exps, Fields, Fun, Block, Arms, Stat, NilE, TrueE, FalseE, NumberE, TextE, DotsE, FunctionE, NameE, IndexE, CallE, MethodE, TableE, BinaryE, UnaryE, ParenE, NoExp, MoreExp, NoField, Item, Pair, Lambda, NoStat, MoreStat, NoArm, Arm, AssignS, CallS, DoS, WhileS, RepeatS, IfS, IfElseS, CountS, CountByS, EachS, LocalFunctionS, LocalS, ReturnS, BreakS}
+use Rattle.lua_syntax.specs.View.{exps_of, fields_of, arms_of, stats_of, kind_step, field_step, stat_step, kind_view, field_view, stat_kind_view, arm_view, block_view, expr_view, function_view, stat_view, exprs_view, fields_view, arms_view, stats_view}
 
 pub exprs_level : (es : List Expr) → exps_of (map expr_view es) ≡ exprs_view es
 exprs_level [] = refl
