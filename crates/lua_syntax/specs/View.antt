@@ -30,8 +30,12 @@ abbrev pub stats_of : List Stat → Block
 stats_of [] = NoStat
 stats_of (s ∷ ss) = MoreStat s (stats_of ss)
 
--- One level of each type. The kind of an expression or statement wants the line of its node.
-abbrev pub kind_step : ExprKind-F (ℕ → Exp) (Fields → Fields) (ℕ → Stat) (Arms → Arms) Block Exp Fun Stat → ℕ → Exp
+-- One level of a type of the tree, with each child's plain tree in its place. The kind of an expression or statement wants the
+-- line of its node; a field and an arm want what comes after them.
+abbrev pub Level : (Type 0 → Type 0 → Type 0 → Type 0 → Type 0 → Type 0 → Type 0 → Type 0 → Type 0) → Type 0
+Level F = F (ℕ → Exp) (Fields → Fields) (ℕ → Stat) (Arms → Arms) Block Exp Fun Stat
+
+abbrev pub kind_step : Level ExprKind-F → ℕ → Exp
 kind_step Nil line = NilE line
 kind_step True line = TrueE line
 kind_step False line = FalseE line
@@ -48,11 +52,11 @@ kind_step (Binary op a b) line = BinaryE line op a.value b.value
 kind_step (Unary op a) line = UnaryE line op a.value
 kind_step (Paren a) line = ParenE line a.value
 
-abbrev pub field_step : Field-F (ℕ → Exp) (Fields → Fields) (ℕ → Stat) (Arms → Arms) Block Exp Fun Stat → Fields → Fields
+abbrev pub field_step : Level Field-F → Fields → Fields
 field_step (ItemField e) rest = Item e rest
 field_step (PairField k v) rest = Pair k v rest
 
-abbrev pub stat_step : StatKind-F (ℕ → Exp) (Fields → Fields) (ℕ → Stat) (Arms → Arms) Block Exp Fun Stat → ℕ → Stat
+abbrev pub stat_step : Level StatKind-F → ℕ → Stat
 stat_step (Assign targets values) line = AssignS line (exps_of targets) (exps_of values)
 stat_step (StatKind::Call e) line = CallS line e
 stat_step (Do b) line = DoS line b
@@ -68,29 +72,33 @@ stat_step (Local names values) line = LocalS line names (exps_of values)
 stat_step (Return values) line = ReturnS line (exps_of values)
 stat_step Break line = BreakS line
 
+-- A fold, with the step of each type.
+abbrev pub with_steps : {X P : Type 0} → ((Level ExprKind-F → ℕ → Exp) → (Level Field-F → Fields → Fields) → (Level StatKind-F → ℕ → Stat) → (Level Arm-F → Arms → Arms) → (Level Block-F → Block) → (Level Expr-F → Exp) → (Level Function-F → Fun) → (Level Stat-F → Stat) → X → P) → X → P
+with_steps fold = fold kind_step field_step stat_step (λ a rest. Arm a.test a.body rest) (λ b. stats_of b.stats) (λ e. e.kind e.line) (λ f. Lambda f.params f.dots f.body) (λ s. s.kind s.line)
+
 unfoldable pub kind_view : ExprKind → ℕ → Exp
-kind_view = fold-ExprKind (ℕ → Exp) (Fields → Fields) (ℕ → Stat) (Arms → Arms) Block Exp Fun Stat kind_step field_step stat_step (λ a rest. Arm a.test a.body rest) (λ b. stats_of b.stats) (λ e. e.kind e.line) (λ f. Lambda f.params f.dots f.body) (λ s. s.kind s.line)
+kind_view = with_steps (fold-ExprKind _ _ _ _ _ _ _ _)
 
 unfoldable pub field_view : Field → Fields → Fields
-field_view = fold-Field (ℕ → Exp) (Fields → Fields) (ℕ → Stat) (Arms → Arms) Block Exp Fun Stat kind_step field_step stat_step (λ a rest. Arm a.test a.body rest) (λ b. stats_of b.stats) (λ e. e.kind e.line) (λ f. Lambda f.params f.dots f.body) (λ s. s.kind s.line)
+field_view = with_steps (fold-Field _ _ _ _ _ _ _ _)
 
 unfoldable pub stat_kind_view : StatKind → ℕ → Stat
-stat_kind_view = fold-StatKind (ℕ → Exp) (Fields → Fields) (ℕ → Stat) (Arms → Arms) Block Exp Fun Stat kind_step field_step stat_step (λ a rest. Arm a.test a.body rest) (λ b. stats_of b.stats) (λ e. e.kind e.line) (λ f. Lambda f.params f.dots f.body) (λ s. s.kind s.line)
+stat_kind_view = with_steps (fold-StatKind _ _ _ _ _ _ _ _)
 
 unfoldable pub arm_view : ArmNode → Arms → Arms
-arm_view = fold-Arm (ℕ → Exp) (Fields → Fields) (ℕ → Stat) (Arms → Arms) Block Exp Fun Stat kind_step field_step stat_step (λ a rest. Arm a.test a.body rest) (λ b. stats_of b.stats) (λ e. e.kind e.line) (λ f. Lambda f.params f.dots f.body) (λ s. s.kind s.line)
+arm_view = with_steps (fold-Arm _ _ _ _ _ _ _ _)
 
 unfoldable pub block_view : BlockNode → Block
-block_view = fold-Block (ℕ → Exp) (Fields → Fields) (ℕ → Stat) (Arms → Arms) Block Exp Fun Stat kind_step field_step stat_step (λ a rest. Arm a.test a.body rest) (λ b. stats_of b.stats) (λ e. e.kind e.line) (λ f. Lambda f.params f.dots f.body) (λ s. s.kind s.line)
+block_view = with_steps (fold-Block _ _ _ _ _ _ _ _)
 
 unfoldable pub expr_view : Expr → Exp
-expr_view = fold-Expr (ℕ → Exp) (Fields → Fields) (ℕ → Stat) (Arms → Arms) Block Exp Fun Stat kind_step field_step stat_step (λ a rest. Arm a.test a.body rest) (λ b. stats_of b.stats) (λ e. e.kind e.line) (λ f. Lambda f.params f.dots f.body) (λ s. s.kind s.line)
+expr_view = with_steps (fold-Expr _ _ _ _ _ _ _ _)
 
 unfoldable pub function_view : FunctionNode → Fun
-function_view = fold-Function (ℕ → Exp) (Fields → Fields) (ℕ → Stat) (Arms → Arms) Block Exp Fun Stat kind_step field_step stat_step (λ a rest. Arm a.test a.body rest) (λ b. stats_of b.stats) (λ e. e.kind e.line) (λ f. Lambda f.params f.dots f.body) (λ s. s.kind s.line)
+function_view = with_steps (fold-Function _ _ _ _ _ _ _ _)
 
 unfoldable pub stat_view : StatNode → Stat
-stat_view = fold-Stat (ℕ → Exp) (Fields → Fields) (ℕ → Stat) (Arms → Arms) Block Exp Fun Stat kind_step field_step stat_step (λ a rest. Arm a.test a.body rest) (λ b. stats_of b.stats) (λ e. e.kind e.line) (λ f. Lambda f.params f.dots f.body) (λ s. s.kind s.line)
+stat_view = with_steps (fold-Stat _ _ _ _ _ _ _ _)
 
 -- Lists of trees.
 abbrev pub exprs_view : List Expr → Exps
