@@ -18,11 +18,11 @@ use Rattle.lua_syntax.specs.declared.Block.{Block as BlockNode}
 use Rattle.lua_syntax.specs.declared.Expr.{Expr}
 use Rattle.lua_syntax.specs.declared.Function.{Function as FunctionNode}
 use Rattle.lua_syntax.specs.declared.Stat.{Stat as StatNode}
-use Rattle.lua_syntax.specs.declared.ExprKind.TheOpen.{ExprKind-F, Nil, True, False, Number, Text, Dots, Function, Name, Index, ExprKind::Call, Method, Table, Binary, Unary, Paren, Field-F, Item as ItemField, Pair as PairField, StatKind-F, Arm-F, Block-F, Expr-F, Function-F, Stat-F, Assign, StatKind::Call, Do, While, Repeat, If, Count, Each, LocalFunction, Local, Return, Break}
+use Rattle.lua_syntax.specs.declared.ExprKind.TheOpen.{ExprKind-F, Nil, True, False, Number, Text, Dots, Function, Name, Index, ExprKind::Call, Method, Table, Binary, Unary, Paren, Field-F, Item as ItemField, Pair as PairField, StatKind-F, Assign, StatKind::Call, Do, While, Repeat, If, Count, Each, LocalFunction, Local, Return, Break}
 use Rattle.lua_syntax.specs.declared.ExprKind.TheViews.{roll-Arm, roll-Block, roll-Function, out-ExprKind, roll-out-ExprKind, out-Field, roll-out-Field, out-StatKind, roll-out-StatKind, out-Arm, roll-out-Arm, out-Block, roll-out-Block, out-Expr, roll-out-Expr, out-Function, roll-out-Function, out-Stat, roll-out-Stat}
 use Rattle.lua_syntax.specs.declared.ExprKind.TheFolds.{map-ExprKind, fold_out-ExprKind, map-Field, fold_out-Field, map-StatKind, fold_out-StatKind, fold_out-Arm, fold_out-Block, fold_out-Expr, fold_out-Function, fold_out-Stat, fold-roll-Arm, fold-roll-Block, fold-roll-Function}
 use Rattle.lua_syntax.specs.Tree.{Exp, Exps, Fields, Fun, Block, Arms, Stat, NilE, TrueE, FalseE, NumberE, TextE, DotsE, FunctionE, NameE, IndexE, CallE, MethodE, TableE, BinaryE, UnaryE, ParenE, NoExp, MoreExp, NoField, Item, Pair, Lambda, NoStat, MoreStat, NoArm, Arm, AssignS, CallS, DoS, WhileS, RepeatS, IfS, IfElseS, CountS, CountByS, EachS, LocalFunctionS, LocalS, ReturnS, BreakS}
-use Rattle.lua_syntax.specs.View.{Level, exps_of, fields_of, arms_of, stats_of, kind_step, field_step, stat_step, kind_view, field_view, stat_kind_view, arm_view, block_view, expr_view, function_view, stat_view, exprs_view, fields_view, arms_view, stats_view}
+use Rattle.lua_syntax.specs.View.{exps_of, fields_of, arms_of, stats_of, kind_step, field_step, stat_step, kind_view, field_view, stat_kind_view, arm_view, block_view, expr_view, function_view, stat_view, exprs_view, fields_view, arms_view, stats_view}
 
 pub exprs_level : (es : List Expr) → exps_of (map expr_view es) ≡ exprs_view es
 exprs_level [] = refl
@@ -40,11 +40,11 @@ pub stats_level : (ss : List StatNode) → stats_of (map stat_view ss) ≡ stats
 stats_level [] = refl
 stats_level (s ∷ ss) = ap (λ x. MoreStat (stat_view s) x) (stats_level ss)
 
--- One level of a type of the tree, with the children as they are; and with their plain trees.
+-- One level of a type of the tree, and its plain tree from those of its children.
 abbrev Open : (Type 0 → Type 0 → Type 0 → Type 0 → Type 0 → Type 0 → Type 0 → Type 0 → Type 0) → Type 0
 Open F = F ExprKind Field StatKind ArmNode BlockNode Expr FunctionNode StatNode
 
-abbrev with_views : {X P : Type 0} → ((ExprKind → ℕ → Exp) → (Field → Fields → Fields) → (StatKind → ℕ → Stat) → (ArmNode → Arms → Arms) → (BlockNode → Block) → (Expr → Exp) → (FunctionNode → Fun) → (StatNode → Stat) → X → P) → X → P
+abbrev with_views : {R : Type 0} → ((ExprKind → ℕ → Exp) → (Field → Fields → Fields) → (StatKind → ℕ → Stat) → (ArmNode → Arms → Arms) → (BlockNode → Block) → (Expr → Exp) → (FunctionNode → Fun) → (StatNode → Stat) → R) → R
 with_views map' = map' kind_view field_view stat_kind_view arm_view block_view expr_view function_view stat_view
 
 abbrev pub kind_in : Open ExprKind-F → ℕ → Exp
@@ -56,41 +56,37 @@ field_in l = field_step (with_views (map-Field _ _ _ _ _ _ _ _ _ _ _ _ _ _ _ _) 
 abbrev pub stat_in : Open StatKind-F → ℕ → Stat
 stat_in l = stat_step (with_views (map-StatKind _ _ _ _ _ _ _ _ _ _ _ _ _ _ _ _) l)
 
--- A law of folds, at the steps of the view.
-abbrev with_steps_of : {R : (Level ExprKind-F → ℕ → Exp) → (Level Field-F → Fields → Fields) → (Level StatKind-F → ℕ → Stat) → (Level Arm-F → Arms → Arms) → (Level Block-F → Block) → (Level Expr-F → Exp) → (Level Function-F → Fun) → (Level Stat-F → Stat) → Type 0} → ((k : Level ExprKind-F → ℕ → Exp) (f : Level Field-F → Fields → Fields) (s : Level StatKind-F → ℕ → Stat) (a : Level Arm-F → Arms → Arms) (b : Level Block-F → Block) (e : Level Expr-F → Exp) (g : Level Function-F → Fun) (t : Level Stat-F → Stat) → R k f s a b e g t) → R kind_step field_step stat_step (λ a rest. Arm a.test a.body rest) (λ b. stats_of b.stats) (λ e. e.kind e.line) (λ f. Lambda f.params f.dots f.body) (λ s. s.kind s.line)
-with_steps_of law = law kind_step field_step stat_step (λ a rest. Arm a.test a.body rest) (λ b. stats_of b.stats) (λ e. e.kind e.line) (λ f. Lambda f.params f.dots f.body) (λ s. s.kind s.line)
-
 pub kind_opens : (x : ExprKind) → kind_view x ≡ kind_in (out-ExprKind x)
 unfolding kind_view field_view stat_kind_view arm_view block_view expr_view function_view stat_view
-kind_opens = with_steps_of (fold_out-ExprKind _ _ _ _ _ _ _ _)
+kind_opens = fold_out-ExprKind _ _ _ _ _ _ _ _ _ _ _ _ _ _ _ _
 
 pub field_opens : (x : Field) → field_view x ≡ field_in (out-Field x)
 unfolding kind_view field_view stat_kind_view arm_view block_view expr_view function_view stat_view
-field_opens = with_steps_of (fold_out-Field _ _ _ _ _ _ _ _)
+field_opens = fold_out-Field _ _ _ _ _ _ _ _ _ _ _ _ _ _ _ _
 
 pub stat_kind_opens : (x : StatKind) → stat_kind_view x ≡ stat_in (out-StatKind x)
 unfolding kind_view field_view stat_kind_view arm_view block_view expr_view function_view stat_view
-stat_kind_opens = with_steps_of (fold_out-StatKind _ _ _ _ _ _ _ _)
+stat_kind_opens = fold_out-StatKind _ _ _ _ _ _ _ _ _ _ _ _ _ _ _ _
 
 pub arm_opens : (x : ArmNode) → arm_view x ≡ (λ rest. Arm (expr_view (out-Arm x).test) (block_view (out-Arm x).body) rest)
 unfolding kind_view field_view stat_kind_view arm_view block_view expr_view function_view stat_view
-arm_opens = with_steps_of (fold_out-Arm _ _ _ _ _ _ _ _)
+arm_opens = fold_out-Arm _ _ _ _ _ _ _ _ _ _ _ _ _ _ _ _
 
 pub block_map : (x : BlockNode) → block_view x ≡ stats_of (map stat_view (out-Block x).stats)
 unfolding kind_view field_view stat_kind_view arm_view block_view expr_view function_view stat_view
-block_map = with_steps_of (fold_out-Block _ _ _ _ _ _ _ _)
+block_map = fold_out-Block _ _ _ _ _ _ _ _ _ _ _ _ _ _ _ _
 
 pub expr_opens : (x : Expr) → expr_view x ≡ kind_view x.kind x.line
 unfolding kind_view field_view stat_kind_view arm_view block_view expr_view function_view stat_view
-expr_opens = with_steps_of (fold_out-Expr _ _ _ _ _ _ _ _)
+expr_opens = fold_out-Expr _ _ _ _ _ _ _ _ _ _ _ _ _ _ _ _
 
 pub function_opens : (x : FunctionNode) → function_view x ≡ Lambda (out-Function x).params (out-Function x).dots (block_view (out-Function x).body)
 unfolding kind_view field_view stat_kind_view arm_view block_view expr_view function_view stat_view
-function_opens = with_steps_of (fold_out-Function _ _ _ _ _ _ _ _)
+function_opens = fold_out-Function _ _ _ _ _ _ _ _ _ _ _ _ _ _ _ _
 
 pub stat_opens : (x : StatNode) → stat_view x ≡ stat_kind_view x.kind x.line
 unfolding kind_view field_view stat_kind_view arm_view block_view expr_view function_view stat_view
-stat_opens = with_steps_of (fold_out-Stat _ _ _ _ _ _ _ _)
+stat_opens = fold_out-Stat _ _ _ _ _ _ _ _ _ _ _ _ _ _ _ _
 
 pub block_opens : (x : BlockNode) → block_view x ≡ stats_view (out-Block x).stats
 block_opens x = block_map x ∙ stats_level (out-Block x).stats
@@ -201,15 +197,15 @@ stat-Break = stat_at BreakV outs-Break
 -- Parts as they are made.
 pub block_made : (ss : List StatNode) → block_view (roll-Block (record { stats = ss })) ≡ stats_view ss
 unfolding kind_view field_view stat_kind_view arm_view block_view expr_view function_view stat_view
-block_made ss = with_steps_of (fold-roll-Block _ _ _ _ _ _ _ _) (record { stats = ss }) ∙ stats_level ss
+block_made ss = fold-roll-Block _ _ _ _ _ _ _ _ _ _ _ _ _ _ _ _ (record { stats = ss }) ∙ stats_level ss
 
 pub function_made : (params : List Bytes) (dots : Bool) (body : BlockNode) → function_view (roll-Function (record { params = params; dots = dots; body = body })) ≡ Lambda params dots (block_view body)
 unfolding kind_view field_view stat_kind_view arm_view block_view expr_view function_view stat_view
-function_made params dots body = with_steps_of (fold-roll-Function _ _ _ _ _ _ _ _) (record { params = params; dots = dots; body = body })
+function_made params dots body = fold-roll-Function _ _ _ _ _ _ _ _ _ _ _ _ _ _ _ _ (record { params = params; dots = dots; body = body })
 
 pub arm_made : (test : Expr) (body : BlockNode) (rest : Arms) → arm_view (roll-Arm (record { test = test; body = body })) rest ≡ Arm (expr_view test) (block_view body) rest
 unfolding kind_view field_view stat_kind_view arm_view block_view expr_view function_view stat_view
-arm_made test body rest = ap (λ y. y rest) (with_steps_of (fold-roll-Arm _ _ _ _ _ _ _ _) (record { test = test; body = body }))
+arm_made test body rest = ap {A = Arms → Arms} (λ y. y rest) (fold-roll-Arm _ _ _ _ _ _ _ _ _ _ _ _ _ _ _ _ (record { test = test; body = body }))
 
 -- A field is an item or a pair, whatever stands behind it.
 abbrev pub FieldIs : (Fields → Fields) → Type 0

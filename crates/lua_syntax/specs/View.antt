@@ -73,7 +73,7 @@ stat_step (Return values) line = ReturnS line (exps_of values)
 stat_step Break line = BreakS line
 
 -- A fold, with the step of each type.
-abbrev pub with_steps : {X P : Type 0} → ((Level ExprKind-F → ℕ → Exp) → (Level Field-F → Fields → Fields) → (Level StatKind-F → ℕ → Stat) → (Level Arm-F → Arms → Arms) → (Level Block-F → Block) → (Level Expr-F → Exp) → (Level Function-F → Fun) → (Level Stat-F → Stat) → X → P) → X → P
+abbrev pub with_steps : {R : Type 0} → ((Level ExprKind-F → ℕ → Exp) → (Level Field-F → Fields → Fields) → (Level StatKind-F → ℕ → Stat) → (Level Arm-F → Arms → Arms) → (Level Block-F → Block) → (Level Expr-F → Exp) → (Level Function-F → Fun) → (Level Stat-F → Stat) → R) → R
 with_steps fold = fold kind_step field_step stat_step (λ a rest. Arm a.test a.body rest) (λ b. stats_of b.stats) (λ e. e.kind e.line) (λ f. Lambda f.params f.dots f.body) (λ s. s.kind s.line)
 
 unfoldable pub kind_view : ExprKind → ℕ → Exp
