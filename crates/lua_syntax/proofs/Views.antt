@@ -1,5 +1,6 @@
 -- Plain trees, one level at a time: that of a part from those of its children. A proof that makes such a part lists `views`.
 use Rattle.std.proofs.Common.{◌≡◌, ◌∙◌, ℕ, refl, sym, ap, List, [], ◌∷◌, ◌++◌, map, Option, Some, None, Bool, ◌⊎◌, inl, inr, subst}
+use Rattle.std.proofs.lemmas.List.{map-append, append_assoc, append-nil}
 use Rattle.std.specs.Prelude.{ℤ}
 use Rattle.std.specs.declared.alloc.Global.{Global}
 use Rattle.std.specs.declared.boxed.Box.{Box}
@@ -18,10 +19,10 @@ use Rattle.lua_syntax.specs.declared.Block.{Block as BlockNode}
 use Rattle.lua_syntax.specs.declared.Expr.{Expr}
 use Rattle.lua_syntax.specs.declared.Function.{Function as FunctionNode}
 use Rattle.lua_syntax.specs.declared.Stat.{Stat as StatNode}
-use Rattle.lua_syntax.specs.declared.ExprKind.TheOpen.{ExprKind-F, Nil, True, False, Number, Text, Dots, Function, Name, Index, ExprKind::Call, Method, Table, Binary, Unary, Paren, Field-F, Item as ItemField, Pair as PairField, StatKind-F, Assign, StatKind::Call, Do, While, Repeat, If, Count, Each, LocalFunction, Local, Return, Break}
-use Rattle.lua_syntax.specs.declared.ExprKind.TheViews.{roll-Arm, roll-Block, roll-Function, out-ExprKind, roll-out-ExprKind, out-Field, roll-out-Field, out-StatKind, roll-out-StatKind, out-Arm, roll-out-Arm, out-Block, roll-out-Block, out-Expr, roll-out-Expr, out-Function, roll-out-Function, out-Stat, roll-out-Stat}
+use Rattle.lua_syntax.specs.declared.ExprKind.TheOpen.{ExprKind-F, Field-F, Item as ItemField, Pair as PairField, StatKind-F}
+use Rattle.lua_syntax.specs.declared.ExprKind.TheViews.{roll-Arm, roll-Block, roll-Function, out-ExprKind, out-Field, out-StatKind, out-Arm, out-Block, out-Function}
 use Rattle.lua_syntax.specs.declared.ExprKind.TheFolds.{map-ExprKind, fold_out-ExprKind, map-Field, fold_out-Field, map-StatKind, fold_out-StatKind, fold_out-Arm, fold_out-Block, fold_out-Expr, fold_out-Function, fold_out-Stat, fold-roll-Arm, fold-roll-Block, fold-roll-Function}
-use Rattle.lua_syntax.specs.Tree.{Exp, Exps, Fields, Fun, Block, Arms, Stat, NilE, TrueE, FalseE, NumberE, TextE, DotsE, FunctionE, NameE, IndexE, CallE, MethodE, TableE, BinaryE, UnaryE, ParenE, NoExp, MoreExp, NoField, Item, Pair, Lambda, NoStat, MoreStat, NoArm, Arm, AssignS, CallS, DoS, WhileS, RepeatS, IfS, IfElseS, CountS, CountByS, EachS, LocalFunctionS, LocalS, ReturnS, BreakS}
+use Rattle.lua_syntax.specs.Tree.{Exp, Fields, Fun, Block, Arms, Stat, NilE, TrueE, FalseE, NumberE, TextE, DotsE, FunctionE, NameE, IndexE, CallE, MethodE, TableE, BinaryE, UnaryE, ParenE, MoreExp, Item, Pair, Lambda, MoreStat, Arm, AssignS, CallS, DoS, WhileS, RepeatS, IfS, IfElseS, CountS, CountByS, EachS, LocalFunctionS, LocalS, ReturnS, BreakS}
 use Rattle.lua_syntax.specs.View.{exps_of, fields_of, arms_of, stats_of, kind_step, field_step, stat_step, kind_view, field_view, stat_kind_view, arm_view, block_view, expr_view, function_view, stat_view, exprs_view, fields_view, arms_view, stats_view}
 
 pub exprs_level : (es : List Expr) → exps_of (map expr_view es) ≡ exprs_view es
@@ -219,3 +220,6 @@ field_is f = subst FieldIs (sym (field_opens f)) (go (out-Field f))
     go (PairField k e) = inr (expr_view k, expr_view e, λ rest. refl)
 
 pub ruleset views = (arm_opens, block_opens, expr_opens, function_opens, stat_opens, kind-Nil, kind-True, kind-False, kind-Dots, kind-Number, kind-Text, kind-Name, kind-Function, kind-Index, kind-Call, kind-Method, kind-Table, kind-Binary, kind-Unary, kind-Paren, field-Item, field-Pair, stat-Assign, stat-Call, stat-Do, stat-While, stat-Repeat, stat-If, stat-IfElse, stat-Count, stat-CountBy, stat-Each, stat-LocalFunction, stat-Local, stat-Return, stat-Break)
+
+-- The same, for what goes over a tree and appends to a list.
+pub ruleset gathered = (views, map-append, append_assoc, append-nil)

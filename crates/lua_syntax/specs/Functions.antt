@@ -1,116 +1,60 @@
--- The functions of a tree, in the order in which they begin in the text, so that an outer function comes before those inside it.
--- A function is what a `function .. end` writes, in an expression or in a `local function` (manual 2.5.9); the text as a whole,
--- which is a function too, is not among them. A definition over a whole tree goes level by level: each step sees one level, with
--- each child beside the functions in it.
-use Rattle.std.specs.Prelude.{List, [], ◌∷◌, ◌++◌, Option, Some, None}
-use Rattle.lua_syntax.specs.declared.Block.{Block}
-use Rattle.lua_syntax.specs.declared.Stat.{Stat}
-use Rattle.lua_syntax.specs.declared.StatKind.{StatKind}
-use Rattle.lua_syntax.specs.declared.Arm.{Arm}
-use Rattle.lua_syntax.specs.declared.Expr.{Expr}
-use Rattle.lua_syntax.specs.declared.ExprKind.{ExprKind}
-use Rattle.lua_syntax.specs.declared.Function.{Function as FunctionNode}
-use Rattle.lua_syntax.specs.declared.Field.{Field}
-use Rattle.lua_syntax.specs.declared.ExprKind.TheOpen.{ExprKind-F, Nil, True, False, Number, Text, Dots, Function, Name, Index, ExprKind::Call, Method, Table, Binary, Unary, Paren, Field-F, Item, Pair, StatKind-F, Assign, StatKind::Call, Do, While, Repeat, If, Count, Each, LocalFunction, Local, Return, Break, Arm-F, Block-F, Expr-F, Function-F, Stat-F}
-use Rattle.lua_syntax.specs.declared.ExprKind.TheFolds.{para-ExprKind, para-Field, para-StatKind, para-Arm, para-Block, para-Expr, para-Function, para-Stat}
+-- The functions of a plain tree, in the order in which they begin in the text, so that an outer function comes before those inside
+-- it. A function is what a `function .. end` writes, in an expression or in a `local function` (manual 2.5.9); the text as a whole,
+-- which is a function too, is not among them.
+use Rattle.std.specs.Prelude.{List, [], ◌∷◌, ◌++◌}
+use Rattle.lua_syntax.specs.Tree.{Exp, Exps, Fields, Fun, Block, Arms, Stat, NilE, TrueE, FalseE, NumberE, TextE, DotsE, FunctionE, NameE, IndexE, CallE, MethodE, TableE, BinaryE, UnaryE, ParenE, NoExp, MoreExp, NoField, Item, Pair, Lambda, NoStat, MoreStat, NoArm, Arm, AssignS, CallS, DoS, WhileS, RepeatS, IfS, IfElseS, CountS, CountByS, EachS, LocalFunctionS, LocalS, ReturnS, BreakS}
 
-abbrev pub Functions : Type 0
-Functions = List FunctionNode
+abbrev mutual
+  pub expr_functions : Exp → List Fun
+  expr_functions (NilE line) = []
+  expr_functions (TrueE line) = []
+  expr_functions (FalseE line) = []
+  expr_functions (NumberE line n) = []
+  expr_functions (TextE line text) = []
+  expr_functions (DotsE line) = []
+  expr_functions (FunctionE line f) = f ∷ inner_functions f
+  expr_functions (NameE line name) = []
+  expr_functions (IndexE line of at) = expr_functions of ++ expr_functions at
+  expr_functions (CallE line f args) = expr_functions f ++ exprs_functions args
+  expr_functions (MethodE line of name args) = expr_functions of ++ exprs_functions args
+  expr_functions (TableE line fields) = fields_functions fields
+  expr_functions (BinaryE line op a b) = expr_functions a ++ expr_functions b
+  expr_functions (UnaryE line op a) = expr_functions a
+  expr_functions (ParenE line a) = expr_functions a
 
--- A child beside the functions in it.
-abbrev pub With : Type 0 → Type 0
-With A = A × Functions
+  pub exprs_functions : Exps → List Fun
+  exprs_functions NoExp = []
+  exprs_functions (MoreExp e rest) = expr_functions e ++ exprs_functions rest
 
-abbrev pub inside : {A : Type 0} → With A → Functions
-inside (child, fs) = fs
+  pub fields_functions : Fields → List Fun
+  fields_functions NoField = []
+  fields_functions (Item e rest) = expr_functions e ++ fields_functions rest
+  fields_functions (Pair k v rest) = expr_functions k ++ (expr_functions v ++ fields_functions rest)
 
--- A function, and then those inside it.
-abbrev pub outer_first : With FunctionNode → Functions
-outer_first (f, fs) = f ∷ fs
+  -- the functions inside a function
+  pub inner_functions : Fun → List Fun
+  inner_functions (Lambda params dots body) = block_functions body
 
-abbrev pub joined : {A : Type 0} → List (With A) → Functions
-joined [] = []
-joined (child ∷ rest) = inside child ++ joined rest
+  pub block_functions : Block → List Fun
+  block_functions NoStat = []
+  block_functions (MoreStat s rest) = stat_functions s ++ block_functions rest
 
-abbrev pub of_option : {A : Type 0} → Option (With A) → Functions
-of_option None = []
-of_option (Some child) = inside child
+  pub arms_functions : Arms → List Fun
+  arms_functions NoArm = []
+  arms_functions (Arm test body rest) = expr_functions test ++ (block_functions body ++ arms_functions rest)
 
-abbrev pub kind_step : ExprKind-F (With ExprKind) (With Field) (With StatKind) (With Arm) (With Block) (With Expr) (With FunctionNode) (With Stat) → Functions
-kind_step Nil = []
-kind_step True = []
-kind_step False = []
-kind_step (Number n) = []
-kind_step (Text t) = []
-kind_step Dots = []
-kind_step (Function f) = outer_first f
-kind_step (Name n) = []
-kind_step (Index of at) = inside of.value ++ inside at.value
-kind_step (ExprKind::Call f args) = inside f.value ++ joined args
-kind_step (Method of name args) = inside of.value ++ joined args
-kind_step (Table fields) = joined fields
-kind_step (Binary op a b) = inside a.value ++ inside b.value
-kind_step (Unary op a) = inside a.value
-kind_step (Paren a) = inside a.value
-
-abbrev pub field_step : Field-F (With ExprKind) (With Field) (With StatKind) (With Arm) (With Block) (With Expr) (With FunctionNode) (With Stat) → Functions
-field_step (Item e) = inside e
-field_step (Pair k v) = inside k ++ inside v
-
-abbrev pub stat_kind_step : StatKind-F (With ExprKind) (With Field) (With StatKind) (With Arm) (With Block) (With Expr) (With FunctionNode) (With Stat) → Functions
-stat_kind_step (Assign targets values) = joined targets ++ joined values
-stat_kind_step (StatKind::Call e) = inside e
-stat_kind_step (Do b) = inside b
-stat_kind_step (While e b) = inside e ++ inside b
-stat_kind_step (Repeat b e) = inside b ++ inside e
-stat_kind_step (If arms other) = joined arms ++ of_option other
-stat_kind_step (Count name from to by body) = inside from ++ (inside to ++ (of_option by ++ inside body))
-stat_kind_step (Each names values body) = joined values ++ inside body
-stat_kind_step (LocalFunction name f) = outer_first f
-stat_kind_step (Local names values) = joined values
-stat_kind_step (Return values) = joined values
-stat_kind_step Break = []
-
-abbrev pub arm_step : Arm-F (With ExprKind) (With Field) (With StatKind) (With Arm) (With Block) (With Expr) (With FunctionNode) (With Stat) → Functions
-arm_step a = inside a.test ++ inside a.body
-
-abbrev pub block_step : Block-F (With ExprKind) (With Field) (With StatKind) (With Arm) (With Block) (With Expr) (With FunctionNode) (With Stat) → Functions
-block_step b = joined b.stats
-
-abbrev pub expr_step : Expr-F (With ExprKind) (With Field) (With StatKind) (With Arm) (With Block) (With Expr) (With FunctionNode) (With Stat) → Functions
-expr_step e = inside e.kind
-
-abbrev pub function_step : Function-F (With ExprKind) (With Field) (With StatKind) (With Arm) (With Block) (With Expr) (With FunctionNode) (With Stat) → Functions
-function_step f = inside f.body
-
-abbrev pub stat_step : Stat-F (With ExprKind) (With Field) (With StatKind) (With Arm) (With Block) (With Expr) (With FunctionNode) (With Stat) → Functions
-stat_step s = inside s.kind
-
-unfoldable pub kind_functions : ExprKind → Functions
-kind_functions = para-ExprKind Functions Functions Functions Functions Functions Functions Functions Functions kind_step field_step stat_kind_step arm_step block_step expr_step function_step stat_step
-
-unfoldable pub field_functions : Field → Functions
-field_functions = para-Field Functions Functions Functions Functions Functions Functions Functions Functions kind_step field_step stat_kind_step arm_step block_step expr_step function_step stat_step
-
-unfoldable pub stat_kind_functions : StatKind → Functions
-stat_kind_functions = para-StatKind Functions Functions Functions Functions Functions Functions Functions Functions kind_step field_step stat_kind_step arm_step block_step expr_step function_step stat_step
-
-unfoldable pub arm_functions : Arm → Functions
-arm_functions = para-Arm Functions Functions Functions Functions Functions Functions Functions Functions kind_step field_step stat_kind_step arm_step block_step expr_step function_step stat_step
-
-unfoldable pub block_functions : Block → Functions
-block_functions = para-Block Functions Functions Functions Functions Functions Functions Functions Functions kind_step field_step stat_kind_step arm_step block_step expr_step function_step stat_step
-
-unfoldable pub expr_functions : Expr → Functions
-expr_functions = para-Expr Functions Functions Functions Functions Functions Functions Functions Functions kind_step field_step stat_kind_step arm_step block_step expr_step function_step stat_step
-
--- The functions inside a function, without itself.
-unfoldable pub function_functions : FunctionNode → Functions
-function_functions = para-Function Functions Functions Functions Functions Functions Functions Functions Functions kind_step field_step stat_kind_step arm_step block_step expr_step function_step stat_step
-
-unfoldable pub stat_functions : Stat → Functions
-stat_functions = para-Stat Functions Functions Functions Functions Functions Functions Functions Functions kind_step field_step stat_kind_step arm_step block_step expr_step function_step stat_step
-
-abbrev pub functions_of : {A : Type 0} → (A → Functions) → List A → Functions
-functions_of f [] = []
-functions_of f (x ∷ xs) = f x ++ functions_of f xs
+  pub stat_functions : Stat → List Fun
+  stat_functions (AssignS line targets values) = exprs_functions targets ++ exprs_functions values
+  stat_functions (CallS line e) = expr_functions e
+  stat_functions (DoS line body) = block_functions body
+  stat_functions (WhileS line test body) = expr_functions test ++ block_functions body
+  stat_functions (RepeatS line body test) = block_functions body ++ expr_functions test
+  stat_functions (IfS line arms) = arms_functions arms
+  stat_functions (IfElseS line arms other) = arms_functions arms ++ block_functions other
+  stat_functions (CountS line name from to body) = expr_functions from ++ (expr_functions to ++ block_functions body)
+  stat_functions (CountByS line name from to by body) = expr_functions from ++ (expr_functions to ++ (expr_functions by ++ block_functions body))
+  stat_functions (EachS line names values body) = exprs_functions values ++ block_functions body
+  stat_functions (LocalFunctionS line name f) = f ∷ inner_functions f
+  stat_functions (LocalS line names values) = exprs_functions values
+  stat_functions (ReturnS line values) = exprs_functions values
+  stat_functions (BreakS line) = []

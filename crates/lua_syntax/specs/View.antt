@@ -1,5 +1,5 @@
 -- The plain tree for which a tree of `lua_syntax` stands: variant for variant, with each child's plain tree in its place.
-use Rattle.std.specs.Prelude.{ℕ, List, [], ◌∷◌, Option, Some, None}
+use Rattle.std.specs.Prelude.{ℕ, List, [], ◌∷◌, Some, None}
 use Rattle.lua_syntax.specs.declared.Block.{Block as BlockNode}
 use Rattle.lua_syntax.specs.declared.Stat.{Stat as StatNode}
 use Rattle.lua_syntax.specs.declared.StatKind.{StatKind}

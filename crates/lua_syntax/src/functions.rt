@@ -1,10 +1,12 @@
 //! The functions of a tree, in the order in which they begin in the text (manual 2.5.9).
 //!
 //! These functions go down the tree by recursion, so they are for trees of a bounded height, as a parser makes them.
-#![tactic(auto, using(crate::proofs::Levels::levels))]
+#![tactic(auto, using(crate::proofs::Views::gathered))]
 
-ghost use Rattle.std.specs.Prelude.{◌≡◌, ◌++◌, ◌∷◌, map, IfOk, OnOk};
-ghost use Rattle.lua_syntax.specs.Functions.{expr_functions, kind_functions, block_functions, stat_functions, stat_kind_functions, arm_functions, field_functions, function_functions, functions_of};
+ghost use Rattle.std.specs.Prelude.{◌≡◌, ◌++◌, ◌∷◌, map, ℕ, IfOk, OnOk};
+ghost use Rattle.lua_syntax.specs.Functions.{expr_functions, exprs_functions, fields_functions, inner_functions, block_functions, arms_functions, stat_functions};
+ghost use Rattle.lua_syntax.specs.View.{kind_view, expr_view, exprs_view, field_view, fields_view, function_view, block_view, arm_view, arms_view, stats_view, stat_view, stat_kind_view, chunk_view};
+ghost use Rattle.lua_syntax.specs.Tree.{Fields as PlainFields, Arms as PlainArms};
 
 use crate::{Arm, Block, Chunk, Expr, ExprKind, Field, Function, Stat, StatKind};
 use std::alloc::Global;
@@ -13,7 +15,7 @@ use wk_base::{List, NoMemory};
 /// The functions of a chunk, in the order in which they begin in the text: an outer function before those inside it. The
 /// chunk itself, which Lua runs as a function too, is not among them. The place in this list numbers a function.
 pub fn nested_functions<'t>(alloc: Global, chunk: &'t Chunk) -> Result<List<&'t Function>, NoMemory>
-    ensures { IfOk result (λ fs. map (λ f. f.now) fs ≡ block_functions chunk.now.body) }
+    ensures { IfOk result (λ fs. map (λ f. function_view f.now) fs ≡ block_functions (chunk_view chunk.now)) }
 {
     let mut out = List::new(alloc);
     block(&chunk.body, &mut out)?;
@@ -22,14 +24,15 @@ pub fn nested_functions<'t>(alloc: Global, chunk: &'t Chunk) -> Result<List<&'t 
 
 #[cycle(functions)]
 fn expr<'t>(e: &'t Expr, out: &mut List<&'t Function>) -> Result<(), NoMemory>
-    ensures { OnOk result (map (λ f. f.now) out.new ≡ map (λ f. f.now) out.old ++ expr_functions e.now) }
+    ensures { OnOk result (map (λ f. function_view f.now) out.new ≡ map (λ f. function_view f.now) out.old ++ expr_functions (expr_view e.now)) }
 {
     kind(&e.kind, out)
 }
 
+// Whatever the line of its expression.
 #[cycle(functions)]
 fn kind<'t>(k: &'t ExprKind, out: &mut List<&'t Function>) -> Result<(), NoMemory>
-    ensures { OnOk result (map (λ f. f.now) out.new ≡ map (λ f. f.now) out.old ++ kind_functions k.now) }
+    ensures { OnOk result ((line : ℕ) → map (λ f. function_view f.now) out.new ≡ map (λ f. function_view f.now) out.old ++ expr_functions (kind_view k.now line)) }
 {
     match k {
         ExprKind::Nil
@@ -64,7 +67,7 @@ fn kind<'t>(k: &'t ExprKind, out: &mut List<&'t Function>) -> Result<(), NoMemor
 
 #[cycle(functions)]
 fn exprs<'t>(list: &'t [Expr], out: &mut List<&'t Function>) -> Result<(), NoMemory>
-    ensures { OnOk result (map (λ f. f.now) out.new ≡ map (λ f. f.now) out.old ++ functions_of expr_functions list.now) }
+    ensures { OnOk result (map (λ f. function_view f.now) out.new ≡ map (λ f. function_view f.now) out.old ++ exprs_functions (exprs_view list.now)) }
 {
     for e in list {
         expr(e, out)?;
@@ -72,9 +75,10 @@ fn exprs<'t>(list: &'t [Expr], out: &mut List<&'t Function>) -> Result<(), NoMem
     Ok(())
 }
 
+// With whatever fields come after it.
 #[cycle(functions)]
 fn field<'t>(f: &'t Field, out: &mut List<&'t Function>) -> Result<(), NoMemory>
-    ensures { OnOk result (map (λ f. f.now) out.new ≡ map (λ f. f.now) out.old ++ field_functions f.now) }
+    ensures { OnOk result ((rest : PlainFields) → map (λ f. function_view f.now) out.new ++ fields_functions rest ≡ map (λ f. function_view f.now) out.old ++ fields_functions (field_view f.now rest)) }
 {
     match f {
         Field::Item(e) => expr(e, out),
@@ -87,7 +91,7 @@ fn field<'t>(f: &'t Field, out: &mut List<&'t Function>) -> Result<(), NoMemory>
 
 #[cycle(functions)]
 fn fields<'t>(list: &'t [Field], out: &mut List<&'t Function>) -> Result<(), NoMemory>
-    ensures { OnOk result (map (λ f. f.now) out.new ≡ map (λ f. f.now) out.old ++ functions_of field_functions list.now) }
+    ensures { OnOk result (map (λ f. function_view f.now) out.new ≡ map (λ f. function_view f.now) out.old ++ fields_functions (fields_view list.now)) }
 {
     for f in list {
         field(f, out)?;
@@ -97,7 +101,7 @@ fn fields<'t>(list: &'t [Field], out: &mut List<&'t Function>) -> Result<(), NoM
 
 #[cycle(functions)]
 fn function<'t>(f: &'t Function, out: &mut List<&'t Function>) -> Result<(), NoMemory>
-    ensures { OnOk result (map (λ f. f.now) out.new ≡ map (λ f. f.now) out.old ++ (f.now ∷ function_functions f.now)) }
+    ensures { OnOk result (map (λ f. function_view f.now) out.new ≡ map (λ f. function_view f.now) out.old ++ (function_view f.now ∷ inner_functions (function_view f.now))) }
 {
     out.push(f)?;
     block(&f.body, out)
@@ -105,14 +109,14 @@ fn function<'t>(f: &'t Function, out: &mut List<&'t Function>) -> Result<(), NoM
 
 #[cycle(functions)]
 fn block<'t>(b: &'t Block, out: &mut List<&'t Function>) -> Result<(), NoMemory>
-    ensures { OnOk result (map (λ f. f.now) out.new ≡ map (λ f. f.now) out.old ++ block_functions b.now) }
+    ensures { OnOk result (map (λ f. function_view f.now) out.new ≡ map (λ f. function_view f.now) out.old ++ block_functions (block_view b.now)) }
 {
     stats(b.stats.as_slice(), out)
 }
 
 #[cycle(functions)]
 fn stats<'t>(list: &'t [Stat], out: &mut List<&'t Function>) -> Result<(), NoMemory>
-    ensures { OnOk result (map (λ f. f.now) out.new ≡ map (λ f. f.now) out.old ++ functions_of stat_functions list.now) }
+    ensures { OnOk result (map (λ f. function_view f.now) out.new ≡ map (λ f. function_view f.now) out.old ++ block_functions (stats_view list.now)) }
 {
     for s in list {
         stat(s, out)?;
@@ -122,14 +126,15 @@ fn stats<'t>(list: &'t [Stat], out: &mut List<&'t Function>) -> Result<(), NoMem
 
 #[cycle(functions)]
 fn stat<'t>(s: &'t Stat, out: &mut List<&'t Function>) -> Result<(), NoMemory>
-    ensures { OnOk result (map (λ f. f.now) out.new ≡ map (λ f. f.now) out.old ++ stat_functions s.now) }
+    ensures { OnOk result (map (λ f. function_view f.now) out.new ≡ map (λ f. function_view f.now) out.old ++ stat_functions (stat_view s.now)) }
 {
     stat_kind(&s.kind, out)
 }
 
+// Whatever the line of its statement.
 #[cycle(functions)]
 fn stat_kind<'t>(s: &'t StatKind, out: &mut List<&'t Function>) -> Result<(), NoMemory>
-    ensures { OnOk result (map (λ f. f.now) out.new ≡ map (λ f. f.now) out.old ++ stat_kind_functions s.now) }
+    ensures { OnOk result ((line : ℕ) → map (λ f. function_view f.now) out.new ≡ map (λ f. function_view f.now) out.old ++ stat_functions (stat_kind_view s.now line)) }
 {
     match s {
         StatKind::Assign(targets, values) => {
@@ -173,9 +178,10 @@ fn stat_kind<'t>(s: &'t StatKind, out: &mut List<&'t Function>) -> Result<(), No
     }
 }
 
+// With whatever arms come after it.
 #[cycle(functions)]
 fn arm<'t>(a: &'t Arm, out: &mut List<&'t Function>) -> Result<(), NoMemory>
-    ensures { OnOk result (map (λ f. f.now) out.new ≡ map (λ f. f.now) out.old ++ arm_functions a.now) }
+    ensures { OnOk result ((rest : PlainArms) → map (λ f. function_view f.now) out.new ++ arms_functions rest ≡ map (λ f. function_view f.now) out.old ++ arms_functions (arm_view a.now rest)) }
 {
     expr(&a.test, out)?;
     block(&a.body, out)
@@ -183,7 +189,7 @@ fn arm<'t>(a: &'t Arm, out: &mut List<&'t Function>) -> Result<(), NoMemory>
 
 #[cycle(functions)]
 fn arms<'t>(list: &'t [Arm], out: &mut List<&'t Function>) -> Result<(), NoMemory>
-    ensures { OnOk result (map (λ f. f.now) out.new ≡ map (λ f. f.now) out.old ++ functions_of arm_functions list.now) }
+    ensures { OnOk result (map (λ f. function_view f.now) out.new ≡ map (λ f. function_view f.now) out.old ++ arms_functions (arms_view list.now)) }
 {
     for a in list {
         arm(a, out)?;
