@@ -2,7 +2,8 @@
 """Writes the worked examples of `lua_meaning`: its files specs/Examples*.antt and proofs/Examples*.antt.
 
     lua_examples.py            writes the files, next to this checkout's crates
-    lua_examples.py --check    runs each example of which Lua 5.1 has the same result in `lua5.1`, and says where it differs
+    lua_examples.py --check    runs each example of which Lua 5.1 has the same result in `lua5.1`, reads each text by
+                               lua_reference.py, and says where a result, a tree or a fault differs
 
 An example is a module whose function `f` is invoked. The files hold its text, its tree (by lua_trees.py), and what comes.
 """
@@ -11,6 +12,7 @@ import subprocess
 import sys
 
 from lua_chunks import FILES
+from lua_reference import answer, other_tree
 from lua_trees import rows, tree
 
 CRATE = pathlib.Path(__file__).resolve().parent.parent / "crates" / "lua_meaning"
@@ -119,6 +121,13 @@ io.write(ok and 'Gives ' or 'Fails ', tostring(out))
 """
 
 
+def check_tree(example):
+    read, fault = answer(example["text"]), example["fault"]
+    wanted = f"fault {fault[0]} line {fault[1]}" if fault else other_tree(example["text"])
+    if read != wanted:
+        print(f"{example['name']}: {wanted} here, {read} in lua_reference.py")
+
+
 def check(example):
     if example["profile"]:
         return
@@ -133,6 +142,7 @@ if __name__ == "__main__":
     for module, subject, examples in FILES:
         if "--check" in sys.argv:
             for example in examples:
+                check_tree(example)
                 check(example)
         else:
             write(module, subject, examples)
