@@ -2,7 +2,8 @@
 """Writes the worked examples of `lua_meaning`: its files specs/Examples*.antt and proofs/Examples*.antt.
 
     lua_examples.py            writes the files, next to this checkout's crates
-    lua_examples.py --check    runs each example of which Lua 5.1 has the same result in `lua5.1`, and says where it differs
+    lua_examples.py --check    runs each example of which Lua 5.1 has the same result in `lua5.1`, reads each text by
+                               lua_reference.py, and says where a result, a tree or a fault differs
 
 An example is a module whose function `f` is invoked. The files hold its text, its tree (by lua_trees.py), and what comes.
 """
@@ -11,31 +12,26 @@ import subprocess
 import sys
 
 from lua_chunks import FILES
+from lua_reference import answer, other_tree
 from lua_trees import rows, tree
 
 CRATE = pathlib.Path(__file__).resolve().parent.parent / "crates" / "lua_meaning"
 
 HEAD = """-- {subject}
-use Rattle.std.specs.Prelude.{{◌≡◌, ℕ, pos, true, false, List, [], ◌∷◌, Some, None, codes}}
-use Rattle.std.specs.declared.alloc.Global.{{Global}}
-use Rattle.lua_syntax.specs.declared.Block.{{Block}}
+use Rattle.std.specs.Prelude.{{◌≡◌, pos, true, false, [], ◌∷◌, codes}}
 use Rattle.lua_syntax.specs.declared.BinaryOp.TheVariants as op
 use Rattle.lua_syntax.specs.declared.UnaryOp.TheVariants as sign
-use Rattle.lua_syntax.specs.declared.ExprKind.TheVariants.{{Nil, True, False, Number, Text, Dots, Function as FunctionExpr, Name, Table}}
-use Rattle.lua_syntax.specs.declared.Field.TheVariants.{{Item, Pair}}
-use Rattle.lua_syntax.specs.declared.StatKind.TheVariants.{{Assign, Call as StatCall, Do, While, Repeat, If, Count, Each, LocalFunction, Local, Return, Break}}
+use Rattle.lua_syntax.specs.Tree.{{NilE, TrueE, FalseE, NumberE, TextE, DotsE, FunctionE, NameE, IndexE, CallE, MethodE, TableE, BinaryE, UnaryE, ParenE}}
+use Rattle.lua_syntax.specs.Tree.{{NoExp, NoField, Item, Pair, Lambda, Block, NoStat, Arm}}
+use Rattle.lua_syntax.specs.Tree.{{AssignS, CallS, DoS, WhileS, RepeatS, IfS, IfElseS, CountS, CountByS, EachS, LocalFunctionS, LocalS, ReturnS, BreakS}}
+use Rattle.lua_syntax.specs.View.{{exps_of, fields_of, arms_of, stats_of}}
 use Rattle.page_run.specs.declared.which.Which.TheVariants.{{Steps, Calls}}
-use Rattle.lua_meaning.specs.Trees.{{expr, stat, block, arm, function, index, call, method, binary, unary, paren}}
 use Rattle.lua_meaning.specs.Trial.{{Gives, Fails, Spends, Loads, ended, arg, invoked, invoked_with, invoked_on, loaded, faulted, counted}}
 
-module _ (g : Global) where
 """
 
 PROOF_HEAD = """-- {subject} They compute.
 use Rattle.std.proofs.Common.{{refl}}
-use Rattle.std.specs.declared.alloc.Global.{{Global}}
-use Rattle.lua_syntax.specs.declared.ExprKind.TheViews as views
-use Rattle.lua_syntax.specs.declared.ExprKind.TheBlock as rows
 use Rattle.page_run.specs.Perform.{{perform}}
 use Rattle.wk_base.specs.Titles.{{title_text, prefix_of}}
 use Rattle.std.specs.Fmt.{{digits}}
@@ -43,7 +39,7 @@ use Rattle.lua_number.specs.Numerals.{{decimal_of, numeral_of, trimmed, digits_o
 use Rattle.lua_meaning.specs.{module}.{{{names}}}
 """
 
-UNFOLDING = "unfolding perform digits title_text prefix_of decimal_of numeral_of trimmed digits_of_base read_number_of read_in_base_of views.roll-Block views.roll-Arm views.roll-Function denote.Hole.Carrier.roll denote.Hole.Carrier.hidden rows.hidden-the_row-Stat-3"
+UNFOLDING = "unfolding perform digits title_text prefix_of decimal_of numeral_of trimmed digits_of_base read_number_of read_in_base_of"
 
 
 def codes(text):
@@ -52,7 +48,7 @@ def codes(text):
 
 
 def comment(text):
-    return "\n".join("  --     " + line for line in text.split("\n"))
+    return "\n".join(("--     " + line).rstrip() for line in text.split("\n"))
 
 
 def shown(end):
@@ -86,9 +82,9 @@ def spec(example):
         call = called(example, step)
         claims.append(f"{call} ≡ {shown(end)}" if exact else f"ended ({call}) ≡ {shown(end)}")
     claim = claims[0] if len(claims) == 1 else " × ".join(f"({c})" for c in claims)
-    head = f"  -- {example['said']}\n{comment(example['text'])}\n"
-    term = "" if example["fault"] else f"  abbrev pub {name} : Block\n  {name} = {tree(example['text'])}\n\n"
-    return head + term + f"  abbrev pub {title} : Type 0\n  {title} = {claim}\n", title, len(claims)
+    head = f"-- {example['said']}\n{comment(example['text'])}\n"
+    term = "" if example["fault"] else f"abbrev pub {name} : Block\n{name} = {tree(example['text'])}\n\n"
+    return head + term + f"abbrev pub {title} : Type 0\n{title} = {claim}\n", title, len(claims)
 
 
 def write(module, subject, examples):
@@ -98,11 +94,11 @@ def write(module, subject, examples):
         specs.append(text)
         titles.append(title)
         proof = "refl" if count == 1 else "(" + ", ".join(["refl"] * count) + ")"
-        proofs.append(f"\n{example['name']} : (g : Global) → {title} g\n{UNFOLDING}\n{example['name']} g = {proof}\n")
+        proofs.append(f"\n{example['name']} : {title}\n{UNFOLDING}\n{example['name']} = {proof}\n")
     every = "All" + module.removeprefix("Example")
-    specs.append(f"  -- ALL OF THEM\n  abbrev pub {every} : Type 0\n  {every} =\n      " + "\n      × ".join(titles) + "\n")
-    proofs.append(f"\npub {every.lower()[:3]}_{every.lower()[3:]} : (g : Global) → {every} g\n{every.lower()[:3]}_{every.lower()[3:]} g = ("
-                  + ", ".join(f"{example['name']} g" for example in examples) + ")\n")
+    specs.append(f"-- ALL OF THEM\nabbrev pub {every} : Type 0\n{every} =\n    " + "\n    × ".join(titles) + "\n")
+    proofs.append(f"\npub {every.lower()[:3]}_{every.lower()[3:]} : {every}\n{every.lower()[:3]}_{every.lower()[3:]} = ("
+                  + ", ".join(example["name"] for example in examples) + ")\n")
     (CRATE / "specs" / f"{module}.antt").write_text(HEAD.format(subject=subject) + "\n".join(specs))
     (CRATE / "proofs" / f"{module}Laws.antt").write_text(
         PROOF_HEAD.format(subject=subject, module=module, names=", ".join(titles + [every])) + "".join(proofs))
@@ -125,6 +121,13 @@ io.write(ok and 'Gives ' or 'Fails ', tostring(out))
 """
 
 
+def check_tree(example):
+    read, fault = answer(example["text"]), example["fault"]
+    wanted = f"fault {fault[0]} line {fault[1]}" if fault else other_tree(example["text"])
+    if read != wanted:
+        print(f"{example['name']}: {wanted} here, {read} in lua_reference.py")
+
+
 def check(example):
     if example["profile"]:
         return
@@ -139,6 +142,7 @@ if __name__ == "__main__":
     for module, subject, examples in FILES:
         if "--check" in sys.argv:
             for example in examples:
+                check_tree(example)
                 check(example)
         else:
             write(module, subject, examples)

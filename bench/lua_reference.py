@@ -579,81 +579,59 @@ def plain(term):
     return re.sub(r"\\(.)", lambda m: {"n": "\n", "t": "\t"}.get(m.group(1), m.group(1)), term[1][1:-1], flags=re.S)
 
 
-def turned(term):
-    """A term of `lua_trees.py` as an S-expression."""
-    if len(term) == 1 and isinstance(term[0], list):
-        return turned(term[0])
-    if term[0] == "block":
-        return many(term[1])
-    if term[0] in ("stat", "expr"):
-        return turned_kind(term[1], term[2] if isinstance(term[2], list) else [term[2]])
-    if term[0] == "arm":
-        return f"({turned(term[1])} {turned(term[2])})"
-    if term[0] == "function":
-        names = [plain(name) for name in listed(term[1])] + ["..."] * (term[2] == "true")
-        return f"({' '.join(names)}) {turned(term[3])}"
-    if term[0] == "Pair":
-        return f"(pair {turned(term[1])} {turned(term[2])})"
-    if term[0] == "Item":
-        return turned(term[1])
-    head, line = term[0], term[2]
-    if head == "paren":
-        return f"(paren@{line} {turned(term[3])})"
-    if head == "index":
-        return f"(index@{line} {turned(term[3])} {turned(term[4])})"
-    if head == "method":
-        return f"(method@{line} {turned(term[3])} {plain(term[4])} {many(term[5])})"
-    if head == "call":
-        return f"(call@{line} {turned(term[3])} {many(term[4])})"
-    if head == "unary":
-        return f"(unary@{line} {OPS[term[3].split('.')[1]]} {turned(term[4])})"
-    assert head == "binary", term
-    return f"(binary@{line} {OPS[term[3].split('.')[1]]} {turned(term[4])} {turned(term[5])})"
-
-
-def many(term):
-    return "(" + " ".join(turned(item) for item in listed(term)) + ")"
-
-
 def names_of(term):
     return "(" + " ".join(plain(item) for item in listed(term)) + ")"
 
 
-def turned_kind(line, term):
-    head, at, rest = term[0], f"@{line}", term[1:]
-    if head in ("Nil", "True", "False", "Dots", "Break"):
-        return f"({head.lower()}{at})"
-    if head == "Number":
+def turned(term):
+    """A term of `lua_trees.py` as an S-expression."""
+    term = term if isinstance(term, list) else [term]
+    if len(term) == 1 and isinstance(term[0], list):
+        return turned(term[0])
+    head, rest = term[0], term[1:]
+    if head in ("NoExp", "NoField", "NoStat"):
+        return "()"
+    if head in ("exps_of", "fields_of", "arms_of", "stats_of"):
+        return "(" + " ".join(turned(item) for item in listed(rest[0])) + ")"
+    if head == "Arm":
+        return f"({turned(rest[0])} {turned(rest[1])})"
+    if head == "Lambda":
+        names = [plain(name) for name in listed(rest[0])] + ["..."] * (rest[1] == "true")
+        return f"({' '.join(names)}) {turned(rest[2])}"
+    if head == "Pair":
+        return f"(pair {turned(rest[0])} {turned(rest[1])})"
+    if head == "Item":
+        return turned(rest[0])
+    return turned_node(head, f"@{rest[0]}", rest[1:])
+
+
+def turned_node(head, at, rest):
+    word = head[:-1].lower()
+    if head in ("NilE", "TrueE", "FalseE", "DotsE", "BreakS"):
+        return f"({word}{at})"
+    if head == "NumberE":
         return f"(number{at} {rest[0][1]})"
-    if head == "Text":
+    if head == "TextE":
         return f"(text{at} {string(plain(rest))})"
-    if head == "Name":
+    if head == "NameE":
         return f"(name{at} {plain(rest)})"
-    if head == "FunctionExpr":
-        return f"(function{at} {turned(rest)})"
-    if head == "Table":
-        return f"(table{at} {many(rest[0])})"
-    if head == "Assign":
-        return f"(assign{at} {many(rest[0])} {many(rest[1])})"
-    if head == "StatCall":
-        return f"(call{at} {turned(rest)})"
-    if head == "Do":
-        return f"(do{at} {turned(rest)})"
-    if head in ("While", "Repeat"):
-        return f"({head.lower()}{at} {turned(rest[0])} {turned(rest[1])})"
-    if head == "If":
-        return f"(if{at} {many(rest[0])} {'none' if rest[1] == 'None' else turned(rest[1][1])})"
-    if head == "Count":
-        step = "none" if rest[3] == "None" else turned(rest[3][1])
-        return f"(count{at} {plain(rest[0])} {turned(rest[1])} {turned(rest[2])} {step} {turned(rest[4])})"
-    if head == "Each":
-        return f"(each{at} {names_of(rest[0])} {many(rest[1])} {turned(rest[2])})"
-    if head == "LocalFunction":
+    if head in ("UnaryE", "BinaryE"):
+        return f"({word}{at} {OPS[rest[0].split('.')[1]]} {' '.join(map(turned, rest[1:]))})"
+    if head == "MethodE":
+        return f"(method{at} {turned(rest[0])} {plain(rest[1])} {turned(rest[2])})"
+    if head == "IfS":
+        return f"(if{at} {turned(rest[0])} none)"
+    if head == "IfElseS":
+        return f"(if{at} {turned(rest[0])} {turned(rest[1])})"
+    if head == "CountS":
+        return f"(count{at} {plain(rest[0])} {turned(rest[1])} {turned(rest[2])} none {turned(rest[3])})"
+    if head == "CountByS":
+        return f"(count{at} {plain(rest[0])} {' '.join(map(turned, rest[1:]))})"
+    if head in ("LocalS", "EachS"):
+        return f"({word}{at} {names_of(rest[0])} {' '.join(map(turned, rest[1:]))})"
+    if head == "LocalFunctionS":
         return f"(localfunction{at} {plain(rest[0])} {turned(rest[1])})"
-    if head == "Local":
-        return f"(local{at} {names_of(rest[0])} {many(rest[1])})"
-    assert head == "Return", term
-    return f"(return{at} {many(rest[0])})"
+    return f"({word}{at} {' '.join(map(turned, rest))})"
 
 
 def other_tree(text):

@@ -1,10 +1,11 @@
 #!/usr/bin/env python3
-"""Prints the tree of a Lua chunk as a term of a specification, for the worked examples of `lua_meaning`.
+"""Prints the plain tree of a Lua chunk as a term of a specification, for the worked examples of `lua_meaning`.
 
     lua_trees.py [FILE]    reads a chunk from FILE or standard input, and prints the term of its block
 
-It reads enough of Lua 5.1 for small chunks: no long strings, and escapes \\n, \\t, \\\\, \\" and \\' alone. The term uses the
-words of `lua_meaning/specs/Trees.antt`; `g` stands for the allocator of the boxes.
+It reads enough of Lua 5.1 for small chunks: no long strings, and escapes \\n, \\t, \\\\, \\" and \\' alone. The term is written
+with the constructors of `lua_syntax/specs/Tree.antt`; a list of trees is written as a list, with the word of
+`lua_syntax/specs/View.antt` for it. A list that is too long for a line has a line for each of its trees.
 """
 import re
 import sys
@@ -24,6 +25,7 @@ BINARY = {
     "^": (10, 9, "Pow"),
 }
 UNARY = {"not": "Not", "#": "Len", "-": "Minus"}
+WIDTH = 130
 
 
 def tokens(text):
@@ -49,7 +51,27 @@ def string(text):
 
 
 def rows(items):
-    return "(" + " ∷ ".join(list(items) + ["[]"]) + ")"
+    items = list(items)
+    return "(" + " ∷ ".join(items + ["[]"]) + ")" if items else "[]"
+
+
+def name_list(names):
+    return rows(f'codes "{name}"' for name in names)
+
+
+def trees(word, empty, items):
+    """A list of trees: on one line if it is short, else with a line for each of them. One tree that has lines stays where it is."""
+    if not items:
+        return empty
+    line = f"({word} {rows(items)})"
+    if len(line) <= WIDTH or len(items) == 1 and "\n" in line:
+        return line
+    lines = "\n∷ ".join(items + ["[]"])
+    return f"({word} (\n{lines}))".replace("\n", "\n    ")
+
+
+def exps(items):
+    return trees("exps_of", "NoExp", items)
 
 
 class Parser:
@@ -91,96 +113,96 @@ class Parser:
             self.taken(";")
             if last:
                 break
-        return f"block {rows(stats)}"
+        return trees("stats_of", "NoStat", stats)
 
     def stat(self):
         line = self.peek()[2]
-        return f"stat {line} ({self.stat_kind(line)})"
-
-    def stat_kind(self, line):
         if self.taken("do"):
             body = self.block()
             self.take("end")
-            return f"Do ({body})"
+            return f"DoS {line} {body}"
         if self.taken("while"):
             test = self.expr()
             self.take("do")
             body = self.block()
             self.take("end")
-            return f"While ({test}) ({body})"
+            return f"WhileS {line} ({test}) {body}"
         if self.taken("repeat"):
             body = self.block()
             self.take("until")
-            return f"Repeat ({body}) ({self.expr()})"
+            return f"RepeatS {line} {body} ({self.expr()})"
         if self.taken("if"):
-            return self.if_()
+            return self.if_(line)
         if self.taken("for"):
-            return self.for_()
+            return self.for_(line)
         if self.taken("function"):
             return self.function_stat(line)
         if self.taken("local"):
             if self.taken("function"):
                 name = self.name()
-                return f"LocalFunction {string(name)} ({self.function()})"
+                return f"LocalFunctionS {line} {string(name)} {self.function()}"
             names = self.names()
             values = self.exprs() if self.taken("=") else []
-            return f"Local {rows(map(string, names))} {rows(values)}"
+            return f"LocalS {line} {name_list(names)} {exps(values)}"
         if self.taken("return"):
             ends = self.sees("end", "else", "elseif", "until", ";") or self.peek()[0] == "end"
-            return f"Return {rows([] if ends else self.exprs())}"
+            return f"ReturnS {line} {exps([] if ends else self.exprs())}"
         if self.taken("break"):
-            return "Break"
+            return f"BreakS {line}"
         target = self.prefix()
         if not self.sees("=", ","):
-            return f"StatCall ({target})"
+            return f"CallS {line} ({target})"
         targets = [target]
         while self.taken(","):
             targets.append(self.prefix())
         self.take("=")
-        return f"Assign {rows(targets)} {rows(self.exprs())}"
+        return f"AssignS {line} {exps(targets)} {exps(self.exprs())}"
 
-    def if_(self):
-        arms, other = [], "None"
+    def if_(self, line):
+        arms = []
         while True:
             test = self.expr()
             self.take("then")
-            arms.append(f"arm ({test}) ({self.block()})")
+            arms.append(f"Arm ({test}) {self.block()}")
             if not self.taken("elseif"):
                 break
+        term = f"IfS {line} {trees('arms_of', 'NoArm', arms)}"
         if self.taken("else"):
-            other = f"(Some ({self.block()}))"
+            term = f"IfElseS {line} {trees('arms_of', 'NoArm', arms)} {self.block()}"
         self.take("end")
-        return f"If {rows(arms)} {other}"
+        return term
 
-    def for_(self):
+    def for_(self, line):
         names = self.names()
         if len(names) == 1 and self.taken("="):
             first = self.expr()
             self.take(",")
             last = self.expr()
-            step = f"(Some ({self.expr()}))" if self.taken(",") else "None"
+            step = self.expr() if self.taken(",") else None
             self.take("do")
             body = self.block()
             self.take("end")
-            return f"Count {string(names[0])} ({first}) ({last}) {step} ({body})"
+            if step is None:
+                return f"CountS {line} {string(names[0])} ({first}) ({last}) {body}"
+            return f"CountByS {line} {string(names[0])} ({first}) ({last}) ({step}) {body}"
         self.take("in")
         values = self.exprs()
         self.take("do")
         body = self.block()
         self.take("end")
-        return f"Each {rows(map(string, names))} {rows(values)} ({body})"
+        return f"EachS {line} {name_list(names)} {exps(values)} {body}"
 
     def function_stat(self, line):
         at = self.peek()[2]
-        target, method = f"expr {at} (Name {string(self.name())})", False
+        target, method = f"NameE {at} {string(self.name())}", False
         while self.sees(".", ":"):
             _, mark, dot = self.take()
             at = self.peek()[2]
-            target = f"index g {dot} ({target}) (expr {at} (Text {string(self.name())}))"
+            target = f"IndexE {dot} ({target}) (TextE {at} {string(self.name())})"
             if mark == ":":
                 method = True
                 break
-        return f"Assign {rows([target])} {rows([f'expr {line} (FunctionExpr ({self.function(method)}))'])}"
+        return f"AssignS {line} {exps([target])} {exps([f'FunctionE {line} {self.function(method)}'])}"
 
     def function(self, method=False):
         self.take("(")
@@ -193,7 +215,7 @@ class Parser:
             self.taken(",")
         body = self.block()
         self.take("end")
-        return f"function {rows(map(string, params))} {dots} ({body})"
+        return f"(Lambda {name_list(params)} {dots} {body})"
 
     def names(self):
         found = [self.name()]
@@ -212,7 +234,7 @@ class Parser:
         _, word, line = self.peek()
         if self.sees(*UNARY):
             self.take()
-            left = f"unary g {line} sign.{UNARY[word]} ({self.expr(8)})"
+            left = f"UnaryE {line} sign.{UNARY[word]} ({self.expr(8)})"
         else:
             left = self.simple()
         while True:
@@ -221,21 +243,21 @@ class Parser:
                 return left
             self.take()
             right = self.expr(BINARY[word][1])
-            left = f"binary g {line} op.{BINARY[word][2]} ({left}) ({right})"
+            left = f"BinaryE {line} op.{BINARY[word][2]} ({left}) ({right})"
 
     def simple(self):
         kind, word, line = self.peek()
         if kind == "number":
             self.take()
             value = int(word, 16) if word[:2].lower() == "0x" else int(float(word)) if "e" in word else int(word)
-            return f"expr {line} (Number (pos {value}))"
+            return f"NumberE {line} (pos {value})"
         if kind == "text":
             return self.text()
-        for mark, name in (("nil", "Nil"), ("true", "True"), ("false", "False"), ("...", "Dots")):
+        for mark, name in (("nil", "NilE"), ("true", "TrueE"), ("false", "FalseE"), ("...", "DotsE")):
             if self.taken(mark):
-                return f"expr {line} {name}"
+                return f"{name} {line}"
         if self.taken("function"):
-            return f"expr {line} (FunctionExpr ({self.function()}))"
+            return f"FunctionE {line} {self.function()}"
         if self.sees("{"):
             return self.table()
         return self.prefix()
@@ -243,7 +265,7 @@ class Parser:
     def text(self):
         _, word, line = self.take()
         plain = re.sub(r"\\(.)", lambda m: {"n": "\n", "t": "\t"}.get(m.group(1), m.group(1)), word[1:-1], flags=re.S)
-        return f"expr {line} (Text {string(plain)})"
+        return f"TextE {line} {string(plain)}"
 
     def table(self):
         _, _, line = self.take("{")
@@ -256,35 +278,35 @@ class Parser:
                 fields.append(f"Pair ({key}) ({self.expr()})")
             elif self.peek()[0] == "name" and self.tokens[self.at + 1][1] == "=":
                 at = self.peek()[2]
-                key = f"expr {at} (Text {string(self.name())})"
+                key = f"TextE {at} {string(self.name())}"
                 self.take("=")
                 fields.append(f"Pair ({key}) ({self.expr()})")
             else:
                 fields.append(f"Item ({self.expr()})")
             if not self.taken(","):
                 self.taken(";")
-        return f"expr {line} (Table {rows(fields)})"
+        return f"TableE {line} {trees('fields_of', 'NoField', fields)}"
 
     def prefix(self):
         kind, word, line = self.peek()
         if self.taken("("):
-            e = f"paren g {line} ({self.expr()})"
+            e = f"ParenE {line} ({self.expr()})"
             self.take(")")
         else:
-            e = f"expr {line} (Name {string(self.name())})"
+            e = f"NameE {line} {string(self.name())}"
         while True:
             kind, word, line = self.peek()
             if self.taken("."):
                 at = self.peek()[2]
-                e = f"index g {line} ({e}) (expr {at} (Text {string(self.name())}))"
+                e = f"IndexE {line} ({e}) (TextE {at} {string(self.name())})"
             elif self.taken("["):
-                e = f"index g {line} ({e}) ({self.expr()})"
+                e = f"IndexE {line} ({e}) ({self.expr()})"
                 self.take("]")
             elif self.taken(":"):
                 name = self.name()
-                e = f"method g {line} ({e}) {string(name)} {rows(self.args())}"
+                e = f"MethodE {line} ({e}) {string(name)} {exps(self.args())}"
             elif self.sees("(", "{") or kind == "text":
-                e = f"call g {line} ({e}) {rows(self.args())}"
+                e = f"CallE {line} ({e}) {exps(self.args())}"
             else:
                 return e
 
@@ -304,7 +326,7 @@ def tree(text):
     term = parser.block()
     if parser.peek()[0] != "end":
         raise SyntaxError(f"line {parser.peek()[2]}: the end wanted, {parser.peek()[1]!r} found")
-    return term
+    return term[1:-1] if term.startswith("(") else term
 
 
 if __name__ == "__main__":

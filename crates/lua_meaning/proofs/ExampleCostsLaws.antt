@@ -1,97 +1,94 @@
 -- EXAMPLES of single charges, worked out by hand. They compute.
 use Rattle.std.proofs.Common.{refl}
-use Rattle.std.specs.declared.alloc.Global.{Global}
-use Rattle.lua_syntax.specs.declared.ExprKind.TheViews as views
-use Rattle.lua_syntax.specs.declared.ExprKind.TheBlock as rows
 use Rattle.page_run.specs.Perform.{perform}
 use Rattle.wk_base.specs.Titles.{title_text, prefix_of}
 use Rattle.std.specs.Fmt.{digits}
 use Rattle.lua_number.specs.Numerals.{decimal_of, numeral_of, trimmed, digits_of_base, read_number_of, read_in_base_of}
 use Rattle.lua_meaning.specs.ExampleCosts.{Nothing, DotsCost, WhileCosts, RepeatCosts, ForCosts, EachCosts, ClearedCosts, JoinsCost, OrderCosts, EqualityIsFree, TextCosts, UnpackCosts, LinkCosts, CallLinkCosts, MessageCosts, MethodCosts, LocalFunctionCosts, GlobalCosts, ChoicesCost, BranchesCost, TargetsCost, AllCosts}
 
-nothing : (g : Global) → Nothing g
-unfolding perform digits title_text prefix_of decimal_of numeral_of trimmed digits_of_base read_number_of read_in_base_of views.roll-Block views.roll-Arm views.roll-Function denote.Hole.Carrier.roll denote.Hole.Carrier.hidden rows.hidden-the_row-Stat-3
-nothing g = (refl, refl)
+nothing : Nothing
+unfolding perform digits title_text prefix_of decimal_of numeral_of trimmed digits_of_base read_number_of read_in_base_of
+nothing = (refl, refl)
 
-dots_cost : (g : Global) → DotsCost g
-unfolding perform digits title_text prefix_of decimal_of numeral_of trimmed digits_of_base read_number_of read_in_base_of views.roll-Block views.roll-Arm views.roll-Function denote.Hole.Carrier.roll denote.Hole.Carrier.hidden rows.hidden-the_row-Stat-3
-dots_cost g = (refl, refl)
+dots_cost : DotsCost
+unfolding perform digits title_text prefix_of decimal_of numeral_of trimmed digits_of_base read_number_of read_in_base_of
+dots_cost = (refl, refl)
 
-while_costs : (g : Global) → WhileCosts g
-unfolding perform digits title_text prefix_of decimal_of numeral_of trimmed digits_of_base read_number_of read_in_base_of views.roll-Block views.roll-Arm views.roll-Function denote.Hole.Carrier.roll denote.Hole.Carrier.hidden rows.hidden-the_row-Stat-3
-while_costs g = (refl, refl)
+while_costs : WhileCosts
+unfolding perform digits title_text prefix_of decimal_of numeral_of trimmed digits_of_base read_number_of read_in_base_of
+while_costs = (refl, refl)
 
-repeat_costs : (g : Global) → RepeatCosts g
-unfolding perform digits title_text prefix_of decimal_of numeral_of trimmed digits_of_base read_number_of read_in_base_of views.roll-Block views.roll-Arm views.roll-Function denote.Hole.Carrier.roll denote.Hole.Carrier.hidden rows.hidden-the_row-Stat-3
-repeat_costs g = (refl, refl)
+repeat_costs : RepeatCosts
+unfolding perform digits title_text prefix_of decimal_of numeral_of trimmed digits_of_base read_number_of read_in_base_of
+repeat_costs = (refl, refl)
 
-for_costs : (g : Global) → ForCosts g
-unfolding perform digits title_text prefix_of decimal_of numeral_of trimmed digits_of_base read_number_of read_in_base_of views.roll-Block views.roll-Arm views.roll-Function denote.Hole.Carrier.roll denote.Hole.Carrier.hidden rows.hidden-the_row-Stat-3
-for_costs g = (refl, refl)
+for_costs : ForCosts
+unfolding perform digits title_text prefix_of decimal_of numeral_of trimmed digits_of_base read_number_of read_in_base_of
+for_costs = (refl, refl)
 
-each_costs : (g : Global) → EachCosts g
-unfolding perform digits title_text prefix_of decimal_of numeral_of trimmed digits_of_base read_number_of read_in_base_of views.roll-Block views.roll-Arm views.roll-Function denote.Hole.Carrier.roll denote.Hole.Carrier.hidden rows.hidden-the_row-Stat-3
-each_costs g = (refl, refl)
+each_costs : EachCosts
+unfolding perform digits title_text prefix_of decimal_of numeral_of trimmed digits_of_base read_number_of read_in_base_of
+each_costs = (refl, refl)
 
-cleared_costs : (g : Global) → ClearedCosts g
-unfolding perform digits title_text prefix_of decimal_of numeral_of trimmed digits_of_base read_number_of read_in_base_of views.roll-Block views.roll-Arm views.roll-Function denote.Hole.Carrier.roll denote.Hole.Carrier.hidden rows.hidden-the_row-Stat-3
-cleared_costs g = (refl, refl)
+cleared_costs : ClearedCosts
+unfolding perform digits title_text prefix_of decimal_of numeral_of trimmed digits_of_base read_number_of read_in_base_of
+cleared_costs = (refl, refl)
 
-joins_cost : (g : Global) → JoinsCost g
-unfolding perform digits title_text prefix_of decimal_of numeral_of trimmed digits_of_base read_number_of read_in_base_of views.roll-Block views.roll-Arm views.roll-Function denote.Hole.Carrier.roll denote.Hole.Carrier.hidden rows.hidden-the_row-Stat-3
-joins_cost g = (refl, refl)
+joins_cost : JoinsCost
+unfolding perform digits title_text prefix_of decimal_of numeral_of trimmed digits_of_base read_number_of read_in_base_of
+joins_cost = (refl, refl)
 
-order_costs : (g : Global) → OrderCosts g
-unfolding perform digits title_text prefix_of decimal_of numeral_of trimmed digits_of_base read_number_of read_in_base_of views.roll-Block views.roll-Arm views.roll-Function denote.Hole.Carrier.roll denote.Hole.Carrier.hidden rows.hidden-the_row-Stat-3
-order_costs g = (refl, refl)
+order_costs : OrderCosts
+unfolding perform digits title_text prefix_of decimal_of numeral_of trimmed digits_of_base read_number_of read_in_base_of
+order_costs = (refl, refl)
 
-equality_is_free : (g : Global) → EqualityIsFree g
-unfolding perform digits title_text prefix_of decimal_of numeral_of trimmed digits_of_base read_number_of read_in_base_of views.roll-Block views.roll-Arm views.roll-Function denote.Hole.Carrier.roll denote.Hole.Carrier.hidden rows.hidden-the_row-Stat-3
-equality_is_free g = (refl, refl)
+equality_is_free : EqualityIsFree
+unfolding perform digits title_text prefix_of decimal_of numeral_of trimmed digits_of_base read_number_of read_in_base_of
+equality_is_free = (refl, refl)
 
-text_costs : (g : Global) → TextCosts g
-unfolding perform digits title_text prefix_of decimal_of numeral_of trimmed digits_of_base read_number_of read_in_base_of views.roll-Block views.roll-Arm views.roll-Function denote.Hole.Carrier.roll denote.Hole.Carrier.hidden rows.hidden-the_row-Stat-3
-text_costs g = (refl, refl)
+text_costs : TextCosts
+unfolding perform digits title_text prefix_of decimal_of numeral_of trimmed digits_of_base read_number_of read_in_base_of
+text_costs = (refl, refl)
 
-unpack_costs : (g : Global) → UnpackCosts g
-unfolding perform digits title_text prefix_of decimal_of numeral_of trimmed digits_of_base read_number_of read_in_base_of views.roll-Block views.roll-Arm views.roll-Function denote.Hole.Carrier.roll denote.Hole.Carrier.hidden rows.hidden-the_row-Stat-3
-unpack_costs g = (refl, refl)
+unpack_costs : UnpackCosts
+unfolding perform digits title_text prefix_of decimal_of numeral_of trimmed digits_of_base read_number_of read_in_base_of
+unpack_costs = (refl, refl)
 
-link_costs : (g : Global) → LinkCosts g
-unfolding perform digits title_text prefix_of decimal_of numeral_of trimmed digits_of_base read_number_of read_in_base_of views.roll-Block views.roll-Arm views.roll-Function denote.Hole.Carrier.roll denote.Hole.Carrier.hidden rows.hidden-the_row-Stat-3
-link_costs g = (refl, refl)
+link_costs : LinkCosts
+unfolding perform digits title_text prefix_of decimal_of numeral_of trimmed digits_of_base read_number_of read_in_base_of
+link_costs = (refl, refl)
 
-call_link_costs : (g : Global) → CallLinkCosts g
-unfolding perform digits title_text prefix_of decimal_of numeral_of trimmed digits_of_base read_number_of read_in_base_of views.roll-Block views.roll-Arm views.roll-Function denote.Hole.Carrier.roll denote.Hole.Carrier.hidden rows.hidden-the_row-Stat-3
-call_link_costs g = (refl, refl)
+call_link_costs : CallLinkCosts
+unfolding perform digits title_text prefix_of decimal_of numeral_of trimmed digits_of_base read_number_of read_in_base_of
+call_link_costs = (refl, refl)
 
-message_costs : (g : Global) → MessageCosts g
-unfolding perform digits title_text prefix_of decimal_of numeral_of trimmed digits_of_base read_number_of read_in_base_of views.roll-Block views.roll-Arm views.roll-Function denote.Hole.Carrier.roll denote.Hole.Carrier.hidden rows.hidden-the_row-Stat-3
-message_costs g = (refl, refl)
+message_costs : MessageCosts
+unfolding perform digits title_text prefix_of decimal_of numeral_of trimmed digits_of_base read_number_of read_in_base_of
+message_costs = (refl, refl)
 
-method_costs : (g : Global) → MethodCosts g
-unfolding perform digits title_text prefix_of decimal_of numeral_of trimmed digits_of_base read_number_of read_in_base_of views.roll-Block views.roll-Arm views.roll-Function denote.Hole.Carrier.roll denote.Hole.Carrier.hidden rows.hidden-the_row-Stat-3
-method_costs g = (refl, refl)
+method_costs : MethodCosts
+unfolding perform digits title_text prefix_of decimal_of numeral_of trimmed digits_of_base read_number_of read_in_base_of
+method_costs = (refl, refl)
 
-local_function_costs : (g : Global) → LocalFunctionCosts g
-unfolding perform digits title_text prefix_of decimal_of numeral_of trimmed digits_of_base read_number_of read_in_base_of views.roll-Block views.roll-Arm views.roll-Function denote.Hole.Carrier.roll denote.Hole.Carrier.hidden rows.hidden-the_row-Stat-3
-local_function_costs g = (refl, refl)
+local_function_costs : LocalFunctionCosts
+unfolding perform digits title_text prefix_of decimal_of numeral_of trimmed digits_of_base read_number_of read_in_base_of
+local_function_costs = (refl, refl)
 
-global_costs : (g : Global) → GlobalCosts g
-unfolding perform digits title_text prefix_of decimal_of numeral_of trimmed digits_of_base read_number_of read_in_base_of views.roll-Block views.roll-Arm views.roll-Function denote.Hole.Carrier.roll denote.Hole.Carrier.hidden rows.hidden-the_row-Stat-3
-global_costs g = (refl, refl)
+global_costs : GlobalCosts
+unfolding perform digits title_text prefix_of decimal_of numeral_of trimmed digits_of_base read_number_of read_in_base_of
+global_costs = (refl, refl)
 
-choices_cost : (g : Global) → ChoicesCost g
-unfolding perform digits title_text prefix_of decimal_of numeral_of trimmed digits_of_base read_number_of read_in_base_of views.roll-Block views.roll-Arm views.roll-Function denote.Hole.Carrier.roll denote.Hole.Carrier.hidden rows.hidden-the_row-Stat-3
-choices_cost g = (refl, refl)
+choices_cost : ChoicesCost
+unfolding perform digits title_text prefix_of decimal_of numeral_of trimmed digits_of_base read_number_of read_in_base_of
+choices_cost = (refl, refl)
 
-branches_cost : (g : Global) → BranchesCost g
-unfolding perform digits title_text prefix_of decimal_of numeral_of trimmed digits_of_base read_number_of read_in_base_of views.roll-Block views.roll-Arm views.roll-Function denote.Hole.Carrier.roll denote.Hole.Carrier.hidden rows.hidden-the_row-Stat-3
-branches_cost g = (refl, refl)
+branches_cost : BranchesCost
+unfolding perform digits title_text prefix_of decimal_of numeral_of trimmed digits_of_base read_number_of read_in_base_of
+branches_cost = (refl, refl)
 
-targets_cost : (g : Global) → TargetsCost g
-unfolding perform digits title_text prefix_of decimal_of numeral_of trimmed digits_of_base read_number_of read_in_base_of views.roll-Block views.roll-Arm views.roll-Function denote.Hole.Carrier.roll denote.Hole.Carrier.hidden rows.hidden-the_row-Stat-3
-targets_cost g = (refl, refl)
+targets_cost : TargetsCost
+unfolding perform digits title_text prefix_of decimal_of numeral_of trimmed digits_of_base read_number_of read_in_base_of
+targets_cost = (refl, refl)
 
-pub all_costs : (g : Global) → AllCosts g
-all_costs g = (nothing g, dots_cost g, while_costs g, repeat_costs g, for_costs g, each_costs g, cleared_costs g, joins_cost g, order_costs g, equality_is_free g, text_costs g, unpack_costs g, link_costs g, call_link_costs g, message_costs g, method_costs g, local_function_costs g, global_costs g, choices_cost g, branches_cost g, targets_cost g)
+pub all_costs : AllCosts
+all_costs = (nothing, dots_cost, while_costs, repeat_costs, for_costs, each_costs, cleared_costs, joins_cost, order_costs, equality_is_free, text_costs, unpack_costs, link_costs, call_link_costs, message_costs, method_costs, local_function_costs, global_costs, choices_cost, branches_cost, targets_cost)

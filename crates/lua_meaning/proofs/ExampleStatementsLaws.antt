@@ -1,105 +1,102 @@
 -- EXAMPLES of statements, loops and constructors. They compute.
 use Rattle.std.proofs.Common.{refl}
-use Rattle.std.specs.declared.alloc.Global.{Global}
-use Rattle.lua_syntax.specs.declared.ExprKind.TheViews as views
-use Rattle.lua_syntax.specs.declared.ExprKind.TheBlock as rows
 use Rattle.page_run.specs.Perform.{perform}
 use Rattle.wk_base.specs.Titles.{title_text, prefix_of}
 use Rattle.std.specs.Fmt.{digits}
 use Rattle.lua_number.specs.Numerals.{decimal_of, numeral_of, trimmed, digits_of_base, read_number_of, read_in_base_of}
 use Rattle.lua_meaning.specs.ExampleStatements.{Swap, KeysFirst, LastFirst, MoreTargets, Shadowed, LocalFunctions, GlobalFunctions, Branches, WhileLoop, RepeatLoop, RepeatBreak, Counting, CountingToTheEnd, StepOfZero, Generic, OwnIterator, Cleared, LoopMessages, WalkHandlers, LastPlace, ReturnFromLoops, Constructors, Methods, AllStatements}
 
-swap : (g : Global) → Swap g
-unfolding perform digits title_text prefix_of decimal_of numeral_of trimmed digits_of_base read_number_of read_in_base_of views.roll-Block views.roll-Arm views.roll-Function denote.Hole.Carrier.roll denote.Hole.Carrier.hidden rows.hidden-the_row-Stat-3
-swap g = refl
+swap : Swap
+unfolding perform digits title_text prefix_of decimal_of numeral_of trimmed digits_of_base read_number_of read_in_base_of
+swap = refl
 
-keys_first : (g : Global) → KeysFirst g
-unfolding perform digits title_text prefix_of decimal_of numeral_of trimmed digits_of_base read_number_of read_in_base_of views.roll-Block views.roll-Arm views.roll-Function denote.Hole.Carrier.roll denote.Hole.Carrier.hidden rows.hidden-the_row-Stat-3
-keys_first g = refl
+keys_first : KeysFirst
+unfolding perform digits title_text prefix_of decimal_of numeral_of trimmed digits_of_base read_number_of read_in_base_of
+keys_first = refl
 
-last_first : (g : Global) → LastFirst g
-unfolding perform digits title_text prefix_of decimal_of numeral_of trimmed digits_of_base read_number_of read_in_base_of views.roll-Block views.roll-Arm views.roll-Function denote.Hole.Carrier.roll denote.Hole.Carrier.hidden rows.hidden-the_row-Stat-3
-last_first g = refl
+last_first : LastFirst
+unfolding perform digits title_text prefix_of decimal_of numeral_of trimmed digits_of_base read_number_of read_in_base_of
+last_first = refl
 
-more_targets : (g : Global) → MoreTargets g
-unfolding perform digits title_text prefix_of decimal_of numeral_of trimmed digits_of_base read_number_of read_in_base_of views.roll-Block views.roll-Arm views.roll-Function denote.Hole.Carrier.roll denote.Hole.Carrier.hidden rows.hidden-the_row-Stat-3
-more_targets g = refl
+more_targets : MoreTargets
+unfolding perform digits title_text prefix_of decimal_of numeral_of trimmed digits_of_base read_number_of read_in_base_of
+more_targets = refl
 
-shadowed : (g : Global) → Shadowed g
-unfolding perform digits title_text prefix_of decimal_of numeral_of trimmed digits_of_base read_number_of read_in_base_of views.roll-Block views.roll-Arm views.roll-Function denote.Hole.Carrier.roll denote.Hole.Carrier.hidden rows.hidden-the_row-Stat-3
-shadowed g = refl
+shadowed : Shadowed
+unfolding perform digits title_text prefix_of decimal_of numeral_of trimmed digits_of_base read_number_of read_in_base_of
+shadowed = refl
 
-local_functions : (g : Global) → LocalFunctions g
-unfolding perform digits title_text prefix_of decimal_of numeral_of trimmed digits_of_base read_number_of read_in_base_of views.roll-Block views.roll-Arm views.roll-Function denote.Hole.Carrier.roll denote.Hole.Carrier.hidden rows.hidden-the_row-Stat-3
-local_functions g = refl
+local_functions : LocalFunctions
+unfolding perform digits title_text prefix_of decimal_of numeral_of trimmed digits_of_base read_number_of read_in_base_of
+local_functions = refl
 
-global_functions : (g : Global) → GlobalFunctions g
-unfolding perform digits title_text prefix_of decimal_of numeral_of trimmed digits_of_base read_number_of read_in_base_of views.roll-Block views.roll-Arm views.roll-Function denote.Hole.Carrier.roll denote.Hole.Carrier.hidden rows.hidden-the_row-Stat-3
-global_functions g = refl
+global_functions : GlobalFunctions
+unfolding perform digits title_text prefix_of decimal_of numeral_of trimmed digits_of_base read_number_of read_in_base_of
+global_functions = refl
 
-branches : (g : Global) → Branches g
-unfolding perform digits title_text prefix_of decimal_of numeral_of trimmed digits_of_base read_number_of read_in_base_of views.roll-Block views.roll-Arm views.roll-Function denote.Hole.Carrier.roll denote.Hole.Carrier.hidden rows.hidden-the_row-Stat-3
-branches g = refl
+branches : Branches
+unfolding perform digits title_text prefix_of decimal_of numeral_of trimmed digits_of_base read_number_of read_in_base_of
+branches = refl
 
-while_loop : (g : Global) → WhileLoop g
-unfolding perform digits title_text prefix_of decimal_of numeral_of trimmed digits_of_base read_number_of read_in_base_of views.roll-Block views.roll-Arm views.roll-Function denote.Hole.Carrier.roll denote.Hole.Carrier.hidden rows.hidden-the_row-Stat-3
-while_loop g = refl
+while_loop : WhileLoop
+unfolding perform digits title_text prefix_of decimal_of numeral_of trimmed digits_of_base read_number_of read_in_base_of
+while_loop = refl
 
-repeat_loop : (g : Global) → RepeatLoop g
-unfolding perform digits title_text prefix_of decimal_of numeral_of trimmed digits_of_base read_number_of read_in_base_of views.roll-Block views.roll-Arm views.roll-Function denote.Hole.Carrier.roll denote.Hole.Carrier.hidden rows.hidden-the_row-Stat-3
-repeat_loop g = refl
+repeat_loop : RepeatLoop
+unfolding perform digits title_text prefix_of decimal_of numeral_of trimmed digits_of_base read_number_of read_in_base_of
+repeat_loop = refl
 
-repeat_break : (g : Global) → RepeatBreak g
-unfolding perform digits title_text prefix_of decimal_of numeral_of trimmed digits_of_base read_number_of read_in_base_of views.roll-Block views.roll-Arm views.roll-Function denote.Hole.Carrier.roll denote.Hole.Carrier.hidden rows.hidden-the_row-Stat-3
-repeat_break g = refl
+repeat_break : RepeatBreak
+unfolding perform digits title_text prefix_of decimal_of numeral_of trimmed digits_of_base read_number_of read_in_base_of
+repeat_break = refl
 
-counting : (g : Global) → Counting g
-unfolding perform digits title_text prefix_of decimal_of numeral_of trimmed digits_of_base read_number_of read_in_base_of views.roll-Block views.roll-Arm views.roll-Function denote.Hole.Carrier.roll denote.Hole.Carrier.hidden rows.hidden-the_row-Stat-3
-counting g = refl
+counting : Counting
+unfolding perform digits title_text prefix_of decimal_of numeral_of trimmed digits_of_base read_number_of read_in_base_of
+counting = refl
 
-counting_to_the_end : (g : Global) → CountingToTheEnd g
-unfolding perform digits title_text prefix_of decimal_of numeral_of trimmed digits_of_base read_number_of read_in_base_of views.roll-Block views.roll-Arm views.roll-Function denote.Hole.Carrier.roll denote.Hole.Carrier.hidden rows.hidden-the_row-Stat-3
-counting_to_the_end g = refl
+counting_to_the_end : CountingToTheEnd
+unfolding perform digits title_text prefix_of decimal_of numeral_of trimmed digits_of_base read_number_of read_in_base_of
+counting_to_the_end = refl
 
-step_of_zero : (g : Global) → StepOfZero g
-unfolding perform digits title_text prefix_of decimal_of numeral_of trimmed digits_of_base read_number_of read_in_base_of views.roll-Block views.roll-Arm views.roll-Function denote.Hole.Carrier.roll denote.Hole.Carrier.hidden rows.hidden-the_row-Stat-3
-step_of_zero g = refl
+step_of_zero : StepOfZero
+unfolding perform digits title_text prefix_of decimal_of numeral_of trimmed digits_of_base read_number_of read_in_base_of
+step_of_zero = refl
 
-generic : (g : Global) → Generic g
-unfolding perform digits title_text prefix_of decimal_of numeral_of trimmed digits_of_base read_number_of read_in_base_of views.roll-Block views.roll-Arm views.roll-Function denote.Hole.Carrier.roll denote.Hole.Carrier.hidden rows.hidden-the_row-Stat-3
-generic g = refl
+generic : Generic
+unfolding perform digits title_text prefix_of decimal_of numeral_of trimmed digits_of_base read_number_of read_in_base_of
+generic = refl
 
-own_iterator : (g : Global) → OwnIterator g
-unfolding perform digits title_text prefix_of decimal_of numeral_of trimmed digits_of_base read_number_of read_in_base_of views.roll-Block views.roll-Arm views.roll-Function denote.Hole.Carrier.roll denote.Hole.Carrier.hidden rows.hidden-the_row-Stat-3
-own_iterator g = refl
+own_iterator : OwnIterator
+unfolding perform digits title_text prefix_of decimal_of numeral_of trimmed digits_of_base read_number_of read_in_base_of
+own_iterator = refl
 
-cleared : (g : Global) → Cleared g
-unfolding perform digits title_text prefix_of decimal_of numeral_of trimmed digits_of_base read_number_of read_in_base_of views.roll-Block views.roll-Arm views.roll-Function denote.Hole.Carrier.roll denote.Hole.Carrier.hidden rows.hidden-the_row-Stat-3
-cleared g = refl
+cleared : Cleared
+unfolding perform digits title_text prefix_of decimal_of numeral_of trimmed digits_of_base read_number_of read_in_base_of
+cleared = refl
 
-loop_messages : (g : Global) → LoopMessages g
-unfolding perform digits title_text prefix_of decimal_of numeral_of trimmed digits_of_base read_number_of read_in_base_of views.roll-Block views.roll-Arm views.roll-Function denote.Hole.Carrier.roll denote.Hole.Carrier.hidden rows.hidden-the_row-Stat-3
-loop_messages g = refl
+loop_messages : LoopMessages
+unfolding perform digits title_text prefix_of decimal_of numeral_of trimmed digits_of_base read_number_of read_in_base_of
+loop_messages = refl
 
-walk_handlers : (g : Global) → WalkHandlers g
-unfolding perform digits title_text prefix_of decimal_of numeral_of trimmed digits_of_base read_number_of read_in_base_of views.roll-Block views.roll-Arm views.roll-Function denote.Hole.Carrier.roll denote.Hole.Carrier.hidden rows.hidden-the_row-Stat-3
-walk_handlers g = refl
+walk_handlers : WalkHandlers
+unfolding perform digits title_text prefix_of decimal_of numeral_of trimmed digits_of_base read_number_of read_in_base_of
+walk_handlers = refl
 
-last_place : (g : Global) → LastPlace g
-unfolding perform digits title_text prefix_of decimal_of numeral_of trimmed digits_of_base read_number_of read_in_base_of views.roll-Block views.roll-Arm views.roll-Function denote.Hole.Carrier.roll denote.Hole.Carrier.hidden rows.hidden-the_row-Stat-3
-last_place g = refl
+last_place : LastPlace
+unfolding perform digits title_text prefix_of decimal_of numeral_of trimmed digits_of_base read_number_of read_in_base_of
+last_place = refl
 
-return_from_loops : (g : Global) → ReturnFromLoops g
-unfolding perform digits title_text prefix_of decimal_of numeral_of trimmed digits_of_base read_number_of read_in_base_of views.roll-Block views.roll-Arm views.roll-Function denote.Hole.Carrier.roll denote.Hole.Carrier.hidden rows.hidden-the_row-Stat-3
-return_from_loops g = refl
+return_from_loops : ReturnFromLoops
+unfolding perform digits title_text prefix_of decimal_of numeral_of trimmed digits_of_base read_number_of read_in_base_of
+return_from_loops = refl
 
-constructors : (g : Global) → Constructors g
-unfolding perform digits title_text prefix_of decimal_of numeral_of trimmed digits_of_base read_number_of read_in_base_of views.roll-Block views.roll-Arm views.roll-Function denote.Hole.Carrier.roll denote.Hole.Carrier.hidden rows.hidden-the_row-Stat-3
-constructors g = refl
+constructors : Constructors
+unfolding perform digits title_text prefix_of decimal_of numeral_of trimmed digits_of_base read_number_of read_in_base_of
+constructors = refl
 
-methods : (g : Global) → Methods g
-unfolding perform digits title_text prefix_of decimal_of numeral_of trimmed digits_of_base read_number_of read_in_base_of views.roll-Block views.roll-Arm views.roll-Function denote.Hole.Carrier.roll denote.Hole.Carrier.hidden rows.hidden-the_row-Stat-3
-methods g = refl
+methods : Methods
+unfolding perform digits title_text prefix_of decimal_of numeral_of trimmed digits_of_base read_number_of read_in_base_of
+methods = refl
 
-pub all_statements : (g : Global) → AllStatements g
-all_statements g = (swap g, keys_first g, last_first g, more_targets g, shadowed g, local_functions g, global_functions g, branches g, while_loop g, repeat_loop g, repeat_break g, counting g, counting_to_the_end g, step_of_zero g, generic g, own_iterator g, cleared g, loop_messages g, walk_handlers g, last_place g, return_from_loops g, constructors g, methods g)
+pub all_statements : AllStatements
+all_statements = (swap, keys_first, last_first, more_targets, shadowed, local_functions, global_functions, branches, while_loop, repeat_loop, repeat_break, counting, counting_to_the_end, step_of_zero, generic, own_iterator, cleared, loop_messages, walk_handlers, last_place, return_from_loops, constructors, methods)

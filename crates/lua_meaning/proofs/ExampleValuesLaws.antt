@@ -1,89 +1,86 @@
 -- EXAMPLES of values, lists and operators. They compute.
 use Rattle.std.proofs.Common.{refl}
-use Rattle.std.specs.declared.alloc.Global.{Global}
-use Rattle.lua_syntax.specs.declared.ExprKind.TheViews as views
-use Rattle.lua_syntax.specs.declared.ExprKind.TheBlock as rows
 use Rattle.page_run.specs.Perform.{perform}
 use Rattle.wk_base.specs.Titles.{title_text, prefix_of}
 use Rattle.std.specs.Fmt.{digits}
 use Rattle.lua_number.specs.Numerals.{decimal_of, numeral_of, trimmed, digits_of_base, read_number_of, read_in_base_of}
 use Rattle.lua_meaning.specs.ExampleValues.{Constants, Adjusted, Parentheses, ManyArguments, Varargs, NoValues, AndOr, Precedence, Remainders, TextsInArithmetic, Order, Equality, Lengths, LeastBorder, Types, ToNumbers, Selecting, Unpacking, Assertions, AllValues}
 
-constants : (g : Global) → Constants g
-unfolding perform digits title_text prefix_of decimal_of numeral_of trimmed digits_of_base read_number_of read_in_base_of views.roll-Block views.roll-Arm views.roll-Function denote.Hole.Carrier.roll denote.Hole.Carrier.hidden rows.hidden-the_row-Stat-3
-constants g = refl
+constants : Constants
+unfolding perform digits title_text prefix_of decimal_of numeral_of trimmed digits_of_base read_number_of read_in_base_of
+constants = refl
 
-adjusted : (g : Global) → Adjusted g
-unfolding perform digits title_text prefix_of decimal_of numeral_of trimmed digits_of_base read_number_of read_in_base_of views.roll-Block views.roll-Arm views.roll-Function denote.Hole.Carrier.roll denote.Hole.Carrier.hidden rows.hidden-the_row-Stat-3
-adjusted g = refl
+adjusted : Adjusted
+unfolding perform digits title_text prefix_of decimal_of numeral_of trimmed digits_of_base read_number_of read_in_base_of
+adjusted = refl
 
-parentheses : (g : Global) → Parentheses g
-unfolding perform digits title_text prefix_of decimal_of numeral_of trimmed digits_of_base read_number_of read_in_base_of views.roll-Block views.roll-Arm views.roll-Function denote.Hole.Carrier.roll denote.Hole.Carrier.hidden rows.hidden-the_row-Stat-3
-parentheses g = refl
+parentheses : Parentheses
+unfolding perform digits title_text prefix_of decimal_of numeral_of trimmed digits_of_base read_number_of read_in_base_of
+parentheses = refl
 
-many_arguments : (g : Global) → ManyArguments g
-unfolding perform digits title_text prefix_of decimal_of numeral_of trimmed digits_of_base read_number_of read_in_base_of views.roll-Block views.roll-Arm views.roll-Function denote.Hole.Carrier.roll denote.Hole.Carrier.hidden rows.hidden-the_row-Stat-3
-many_arguments g = refl
+many_arguments : ManyArguments
+unfolding perform digits title_text prefix_of decimal_of numeral_of trimmed digits_of_base read_number_of read_in_base_of
+many_arguments = refl
 
-varargs : (g : Global) → Varargs g
-unfolding perform digits title_text prefix_of decimal_of numeral_of trimmed digits_of_base read_number_of read_in_base_of views.roll-Block views.roll-Arm views.roll-Function denote.Hole.Carrier.roll denote.Hole.Carrier.hidden rows.hidden-the_row-Stat-3
-varargs g = refl
+varargs : Varargs
+unfolding perform digits title_text prefix_of decimal_of numeral_of trimmed digits_of_base read_number_of read_in_base_of
+varargs = refl
 
-no_values : (g : Global) → NoValues g
-unfolding perform digits title_text prefix_of decimal_of numeral_of trimmed digits_of_base read_number_of read_in_base_of views.roll-Block views.roll-Arm views.roll-Function denote.Hole.Carrier.roll denote.Hole.Carrier.hidden rows.hidden-the_row-Stat-3
-no_values g = refl
+no_values : NoValues
+unfolding perform digits title_text prefix_of decimal_of numeral_of trimmed digits_of_base read_number_of read_in_base_of
+no_values = refl
 
-and_or : (g : Global) → AndOr g
-unfolding perform digits title_text prefix_of decimal_of numeral_of trimmed digits_of_base read_number_of read_in_base_of views.roll-Block views.roll-Arm views.roll-Function denote.Hole.Carrier.roll denote.Hole.Carrier.hidden rows.hidden-the_row-Stat-3
-and_or g = refl
+and_or : AndOr
+unfolding perform digits title_text prefix_of decimal_of numeral_of trimmed digits_of_base read_number_of read_in_base_of
+and_or = refl
 
-precedence : (g : Global) → Precedence g
-unfolding perform digits title_text prefix_of decimal_of numeral_of trimmed digits_of_base read_number_of read_in_base_of views.roll-Block views.roll-Arm views.roll-Function denote.Hole.Carrier.roll denote.Hole.Carrier.hidden rows.hidden-the_row-Stat-3
-precedence g = refl
+precedence : Precedence
+unfolding perform digits title_text prefix_of decimal_of numeral_of trimmed digits_of_base read_number_of read_in_base_of
+precedence = refl
 
-remainders : (g : Global) → Remainders g
-unfolding perform digits title_text prefix_of decimal_of numeral_of trimmed digits_of_base read_number_of read_in_base_of views.roll-Block views.roll-Arm views.roll-Function denote.Hole.Carrier.roll denote.Hole.Carrier.hidden rows.hidden-the_row-Stat-3
-remainders g = refl
+remainders : Remainders
+unfolding perform digits title_text prefix_of decimal_of numeral_of trimmed digits_of_base read_number_of read_in_base_of
+remainders = refl
 
-texts_in_arithmetic : (g : Global) → TextsInArithmetic g
-unfolding perform digits title_text prefix_of decimal_of numeral_of trimmed digits_of_base read_number_of read_in_base_of views.roll-Block views.roll-Arm views.roll-Function denote.Hole.Carrier.roll denote.Hole.Carrier.hidden rows.hidden-the_row-Stat-3
-texts_in_arithmetic g = refl
+texts_in_arithmetic : TextsInArithmetic
+unfolding perform digits title_text prefix_of decimal_of numeral_of trimmed digits_of_base read_number_of read_in_base_of
+texts_in_arithmetic = refl
 
-order : (g : Global) → Order g
-unfolding perform digits title_text prefix_of decimal_of numeral_of trimmed digits_of_base read_number_of read_in_base_of views.roll-Block views.roll-Arm views.roll-Function denote.Hole.Carrier.roll denote.Hole.Carrier.hidden rows.hidden-the_row-Stat-3
-order g = refl
+order : Order
+unfolding perform digits title_text prefix_of decimal_of numeral_of trimmed digits_of_base read_number_of read_in_base_of
+order = refl
 
-equality : (g : Global) → Equality g
-unfolding perform digits title_text prefix_of decimal_of numeral_of trimmed digits_of_base read_number_of read_in_base_of views.roll-Block views.roll-Arm views.roll-Function denote.Hole.Carrier.roll denote.Hole.Carrier.hidden rows.hidden-the_row-Stat-3
-equality g = refl
+equality : Equality
+unfolding perform digits title_text prefix_of decimal_of numeral_of trimmed digits_of_base read_number_of read_in_base_of
+equality = refl
 
-lengths : (g : Global) → Lengths g
-unfolding perform digits title_text prefix_of decimal_of numeral_of trimmed digits_of_base read_number_of read_in_base_of views.roll-Block views.roll-Arm views.roll-Function denote.Hole.Carrier.roll denote.Hole.Carrier.hidden rows.hidden-the_row-Stat-3
-lengths g = refl
+lengths : Lengths
+unfolding perform digits title_text prefix_of decimal_of numeral_of trimmed digits_of_base read_number_of read_in_base_of
+lengths = refl
 
-least_border : (g : Global) → LeastBorder g
-unfolding perform digits title_text prefix_of decimal_of numeral_of trimmed digits_of_base read_number_of read_in_base_of views.roll-Block views.roll-Arm views.roll-Function denote.Hole.Carrier.roll denote.Hole.Carrier.hidden rows.hidden-the_row-Stat-3
-least_border g = refl
+least_border : LeastBorder
+unfolding perform digits title_text prefix_of decimal_of numeral_of trimmed digits_of_base read_number_of read_in_base_of
+least_border = refl
 
-types : (g : Global) → Types g
-unfolding perform digits title_text prefix_of decimal_of numeral_of trimmed digits_of_base read_number_of read_in_base_of views.roll-Block views.roll-Arm views.roll-Function denote.Hole.Carrier.roll denote.Hole.Carrier.hidden rows.hidden-the_row-Stat-3
-types g = refl
+types : Types
+unfolding perform digits title_text prefix_of decimal_of numeral_of trimmed digits_of_base read_number_of read_in_base_of
+types = refl
 
-to_numbers : (g : Global) → ToNumbers g
-unfolding perform digits title_text prefix_of decimal_of numeral_of trimmed digits_of_base read_number_of read_in_base_of views.roll-Block views.roll-Arm views.roll-Function denote.Hole.Carrier.roll denote.Hole.Carrier.hidden rows.hidden-the_row-Stat-3
-to_numbers g = refl
+to_numbers : ToNumbers
+unfolding perform digits title_text prefix_of decimal_of numeral_of trimmed digits_of_base read_number_of read_in_base_of
+to_numbers = refl
 
-selecting : (g : Global) → Selecting g
-unfolding perform digits title_text prefix_of decimal_of numeral_of trimmed digits_of_base read_number_of read_in_base_of views.roll-Block views.roll-Arm views.roll-Function denote.Hole.Carrier.roll denote.Hole.Carrier.hidden rows.hidden-the_row-Stat-3
-selecting g = refl
+selecting : Selecting
+unfolding perform digits title_text prefix_of decimal_of numeral_of trimmed digits_of_base read_number_of read_in_base_of
+selecting = refl
 
-unpacking : (g : Global) → Unpacking g
-unfolding perform digits title_text prefix_of decimal_of numeral_of trimmed digits_of_base read_number_of read_in_base_of views.roll-Block views.roll-Arm views.roll-Function denote.Hole.Carrier.roll denote.Hole.Carrier.hidden rows.hidden-the_row-Stat-3
-unpacking g = refl
+unpacking : Unpacking
+unfolding perform digits title_text prefix_of decimal_of numeral_of trimmed digits_of_base read_number_of read_in_base_of
+unpacking = refl
 
-assertions : (g : Global) → Assertions g
-unfolding perform digits title_text prefix_of decimal_of numeral_of trimmed digits_of_base read_number_of read_in_base_of views.roll-Block views.roll-Arm views.roll-Function denote.Hole.Carrier.roll denote.Hole.Carrier.hidden rows.hidden-the_row-Stat-3
-assertions g = refl
+assertions : Assertions
+unfolding perform digits title_text prefix_of decimal_of numeral_of trimmed digits_of_base read_number_of read_in_base_of
+assertions = refl
 
-pub all_values : (g : Global) → AllValues g
-all_values g = (constants g, adjusted g, parentheses g, many_arguments g, varargs g, no_values g, and_or g, precedence g, remainders g, texts_in_arithmetic g, order g, equality g, lengths g, least_border g, types g, to_numbers g, selecting g, unpacking g, assertions g)
+pub all_values : AllValues
+all_values = (constants, adjusted, parentheses, many_arguments, varargs, no_values, and_or, precedence, remainders, texts_in_arithmetic, order, equality, lengths, least_border, types, to_numbers, selecting, unpacking, assertions)

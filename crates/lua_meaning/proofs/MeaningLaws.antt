@@ -2,8 +2,8 @@
 use Rattle.std.proofs.Common.{◌≡◌, refl, subst, arith, ℕ, ◌+◌, List, []}
 use Rattle.lua_syntax.specs.declared.BinaryOp.{BinaryOp}
 use Rattle.lua_syntax.specs.declared.BinaryOp.TheVariants as op
-use Rattle.lua_syntax.specs.declared.StatKind.{Assign', Call', Do, While', Repeat', If', Count', Each', LocalFunction, Local', Return', Break}
-use Rattle.lua_syntax.specs.declared.ExprKind.{Nil, True, False, Number, Text, Dots, Function, Name, Index', Call' as CallOf, Method', Table', Binary', Unary', Paren'}
+use Rattle.lua_syntax.specs.Tree.{NilE, TrueE, FalseE, NumberE, TextE, DotsE, FunctionE, NameE, IndexE, CallE, MethodE, TableE, BinaryE, UnaryE, ParenE}
+use Rattle.lua_syntax.specs.Tree.{AssignS, CallS, DoS, WhileS, RepeatS, IfS, IfElseS, CountS, CountByS, EachS, LocalFunctionS, LocalS, ReturnS, BreakS}
 use Rattle.page_run.specs.Outcome.{Outcome}
 use Rattle.page_run.specs.State.{start}
 use Rattle.page_run.specs.Perform.{perform}
@@ -43,35 +43,37 @@ binary-node op.Mod a b line env k = (_, refl)
 binary-node op.Pow a b line env k = (_, refl)
 
 pub expressions_are_nodes : ExpressionsAreNodes
-expressions_are_nodes line Nil env k = (_, refl)
-expressions_are_nodes line True env k = (_, refl)
-expressions_are_nodes line False env k = (_, refl)
-expressions_are_nodes line (Number z) env k = (_, refl)
-expressions_are_nodes line (Text t) env k = (_, refl)
-expressions_are_nodes line Dots env k = (_, refl)
-expressions_are_nodes line (Function f) env k = (_, refl)
-expressions_are_nodes line (Name x) env k = (_, refl)
-expressions_are_nodes line (Index' p l of q m key) env k = (_, refl)
-expressions_are_nodes line (CallOf p l f n args) env k = (_, refl)
-expressions_are_nodes line (Method' p l of x n args) env k = (_, refl)
-expressions_are_nodes line (Table' n fields) env k = (_, refl)
-expressions_are_nodes line (Binary' o p l a q m b) env k = binary-node o _ _ line env k
-expressions_are_nodes line (Unary' o p l a) env k = (_, refl)
-expressions_are_nodes line (Paren' p l a) env k = (_, refl)
+expressions_are_nodes (NilE line) env k = (_, refl)
+expressions_are_nodes (TrueE line) env k = (_, refl)
+expressions_are_nodes (FalseE line) env k = (_, refl)
+expressions_are_nodes (NumberE line z) env k = (_, refl)
+expressions_are_nodes (TextE line t) env k = (_, refl)
+expressions_are_nodes (DotsE line) env k = (_, refl)
+expressions_are_nodes (FunctionE line f) env k = (_, refl)
+expressions_are_nodes (NameE line x) env k = (_, refl)
+expressions_are_nodes (IndexE line of key) env k = (_, refl)
+expressions_are_nodes (CallE line f args) env k = (_, refl)
+expressions_are_nodes (MethodE line of x args) env k = (_, refl)
+expressions_are_nodes (TableE line fields) env k = (_, refl)
+expressions_are_nodes (BinaryE line o a b) env k = binary-node o _ _ line env k
+expressions_are_nodes (UnaryE line o a) env k = (_, refl)
+expressions_are_nodes (ParenE line a) env k = (_, refl)
 
 pub statements_are_nodes : StatementsAreNodes
-statements_are_nodes line (Assign' n left m right) env k = (_, refl)
-statements_are_nodes line (Call' l e) env k = (_, refl)
-statements_are_nodes line (Do b) env k = (_, refl)
-statements_are_nodes line (While' l e b) env k = (_, refl)
-statements_are_nodes line (Repeat' b l e) env k = (_, refl)
-statements_are_nodes line (If' n arms other) env k = (_, refl)
-statements_are_nodes line (Count' x l from m to by b) env k = (_, refl)
-statements_are_nodes line (Each' names n right b) env k = (_, refl)
-statements_are_nodes line (LocalFunction x f) env k = (_, refl)
-statements_are_nodes line (Local' names n right) env k = (_, refl)
-statements_are_nodes line (Return' n right) env k = (_, refl)
-statements_are_nodes line Break env k = (_, refl)
+statements_are_nodes (AssignS line left right) env k = (_, refl)
+statements_are_nodes (CallS line e) env k = (_, refl)
+statements_are_nodes (DoS line b) env k = (_, refl)
+statements_are_nodes (WhileS line test b) env k = (_, refl)
+statements_are_nodes (RepeatS line b test) env k = (_, refl)
+statements_are_nodes (IfS line arms) env k = (_, refl)
+statements_are_nodes (IfElseS line arms other) env k = (_, refl)
+statements_are_nodes (CountS line x from to b) env k = (_, refl)
+statements_are_nodes (CountByS line x from to by b) env k = (_, refl)
+statements_are_nodes (EachS line names right b) env k = (_, refl)
+statements_are_nodes (LocalFunctionS line x f) env k = (_, refl)
+statements_are_nodes (LocalS line names right) env k = (_, refl)
+statements_are_nodes (ReturnS line right) env k = (_, refl)
+statements_are_nodes (BreakS line) env k = (_, refl)
 
 pub target_names_are_none : TargetNamesAreNone
 target_names_are_none line x env k = refl

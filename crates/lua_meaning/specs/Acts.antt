@@ -2,8 +2,7 @@
 -- Each line of a `do` block is one step. `x ← part` names the value that a part gives; a line without a name is done for its effect.
 -- Where a part jumps, by an error, a `return` or a `break`, the lines after it are passed over.
 use Rattle.std.specs.Prelude.{ℕ, ℤ, Bool, true, false, List, [], ◌∷◌}
-use Rattle.lua_syntax.specs.declared.Expr.{Expr}
-use Rattle.lua_syntax.specs.declared.Block.{Block}
+use Rattle.lua_syntax.specs.Tree.{Exp, Block}
 use Rattle.page_run.specs.Run.{Run}
 use Rattle.page_run.specs.Outcome.{Outcome, Act as ActOf, ◌>>=◌, ◌>>◌, give, jump, tick, count, see, change}
 use Rattle.lua_heap.specs.Value.{Value, Closure as ClosureValue}
@@ -42,8 +41,8 @@ pub record State : Type 0 where
 -- THINGS: what is no smaller part of the text that runs. Each costs a step to begin.
 pub data Thing : Type 0 where
   -- another turn of a loop (manual 2.4.4 and 2.4.5)
-  WhileTurn : (test : Expr) (body : Block) (env : Env) → Thing
-  RepeatTurn : (body : Block) (test : Expr) (env : Env) → Thing
+  WhileTurn : (test : Exp) (body : Block) (env : Env) → Thing
+  RepeatTurn : (body : Block) (test : Exp) (env : Env) → Thing
   CountTurn : (name : Bytes) (index limit step : ℤ) (body : Block) (env : Env) → Thing
   EachTurn : (names : List Bytes) (iterator state : Value) (results : List Value) (body : Block) (line : ℕ) (env : Env) → Thing
   -- a function of Lua is entered, or one of the library (manual 2.5.8)

@@ -1,6 +1,6 @@
 -- NAMES, FUNCTIONS AND PLACES OF THE TEXT (manual 2.3, 2.5.9, 2.6).
 use Rattle.std.specs.Prelude.{ℕ, List, [], ◌∷◌, Option, Some, None, if◌then◌else◌, bytes_eq}
-use Rattle.lua_syntax.specs.declared.Function.{Function as FunctionNode}
+use Rattle.lua_syntax.specs.Tree.{Fun}
 use Rattle.lua_heap.specs.Value.{Value}
 
 abbrev pub Bytes : Type 0
@@ -28,7 +28,7 @@ Levels = List Place
 
 -- A FUNCTION of Lua: its node in the tree, the names that are seen where it stands, and the title of its module (manual 2.5.9, 2.6).
 pub record Function : Type 0 where
-  pub node : FunctionNode
+  pub node : Fun
   pub names : Names
   pub source : Bytes
 

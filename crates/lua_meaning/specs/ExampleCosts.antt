@@ -1,247 +1,303 @@
 -- EXAMPLES of single charges, worked out by hand.
-use Rattle.std.specs.Prelude.{◌≡◌, pos, true, false, [], ◌∷◌, None, codes}
-use Rattle.std.specs.declared.alloc.Global.{Global}
-use Rattle.lua_syntax.specs.declared.Block.{Block}
+use Rattle.std.specs.Prelude.{◌≡◌, pos, true, false, [], ◌∷◌, codes}
 use Rattle.lua_syntax.specs.declared.BinaryOp.TheVariants as op
-use Rattle.lua_syntax.specs.declared.ExprKind.TheVariants.{Nil, Number, Text, Dots, Function as FunctionExpr, Name, Table}
-use Rattle.lua_syntax.specs.declared.Field.TheVariants.{Item, Pair}
-use Rattle.lua_syntax.specs.declared.StatKind.TheVariants.{Assign, Call as StatCall, While, Repeat, If, Count, Each, LocalFunction, Local, Return}
+use Rattle.lua_syntax.specs.Tree.{NilE, NumberE, TextE, DotsE, FunctionE, NameE, IndexE, CallE, MethodE, TableE, BinaryE}
+use Rattle.lua_syntax.specs.Tree.{NoExp, NoField, Item, Pair, Lambda, Block, NoStat, Arm}
+use Rattle.lua_syntax.specs.Tree.{AssignS, CallS, WhileS, RepeatS, IfS, CountS, EachS, LocalFunctionS, LocalS, ReturnS}
+use Rattle.lua_syntax.specs.View.{exps_of, fields_of, arms_of, stats_of}
 use Rattle.page_run.specs.declared.which.Which.TheVariants.{Steps}
-use Rattle.lua_meaning.specs.Trees.{expr, stat, block, arm, function, index, call, method, binary}
 use Rattle.lua_meaning.specs.Trial.{Gives, Spends, invoked}
 
-module _ (g : Global) where
-  -- A function that does nothing.
-  --     return {f=function(...)
-  --
-  --     end}
-  abbrev pub nothing : Block
-  nothing = block (stat 1 (Return (expr 1 (Table (Pair (expr 1 (Text (codes "f"))) (expr 1 (FunctionExpr (function ([]) true (block ([]))))) ∷ [])) ∷ [])) ∷ [])
+-- A function that does nothing.
+--     return {f=function(...)
+--
+--     end}
+abbrev pub nothing : Block
+nothing = stats_of (
+    ReturnS 1 (exps_of (TableE 1 (fields_of (Pair (TextE 1 (codes "f")) (FunctionE 1 (Lambda [] true NoStat)) ∷ [])) ∷ []))
+    ∷ [])
 
-  abbrev pub Nothing : Type 0
-  Nothing = (invoked (codes "X") 29 nothing 1055 ≡ Gives [] 0) × (invoked (codes "X") 29 nothing 1054 ≡ Spends Steps 0)
+abbrev pub Nothing : Type 0
+Nothing = (invoked (codes "X") 29 nothing 1055 ≡ Gives [] 0) × (invoked (codes "X") 29 nothing 1054 ≡ Spends Steps 0)
 
-  -- `...` costs a step more for each value: here it has one, the frame.
-  --     return {f=function(...)
-  --     return ...
-  --     end}
-  abbrev pub dots_cost : Block
-  dots_cost = block (stat 1 (Return (expr 1 (Table (Pair (expr 1 (Text (codes "f"))) (expr 1 (FunctionExpr (function ([]) true (block (stat 2 (Return (expr 2 Dots ∷ [])) ∷ []))))) ∷ [])) ∷ [])) ∷ [])
+-- `...` costs a step more for each value: here it has one, the frame.
+--     return {f=function(...)
+--     return ...
+--     end}
+abbrev pub dots_cost : Block
+dots_cost = stats_of (ReturnS 1 (exps_of (
+    TableE 1 (fields_of (Pair (TextE 1 (codes "f")) (FunctionE 1 (Lambda [] true (stats_of (ReturnS 2 (exps_of (DotsE 2 ∷ [])) ∷ [])))) ∷ []))
+    ∷ [])) ∷ [])
 
-  abbrev pub DotsCost : Type 0
-  DotsCost = (invoked (codes "X") 39 dots_cost 1073 ≡ Gives (codes "table") 0) × (invoked (codes "X") 39 dots_cost 1072 ≡ Spends Steps 0)
+abbrev pub DotsCost : Type 0
+DotsCost = (invoked (codes "X") 39 dots_cost 1073 ≡ Gives (codes "table") 0) × (invoked (codes "X") 39 dots_cost 1072 ≡ Spends Steps 0)
 
-  -- `while`: three tests, and two turns.
-  --     return {f=function(...)
-  --     local i=0 while i<2 do i=i+1 end
-  --     end}
-  abbrev pub while_costs : Block
-  while_costs = block (stat 1 (Return (expr 1 (Table (Pair (expr 1 (Text (codes "f"))) (expr 1 (FunctionExpr (function ([]) true (block (stat 2 (Local ((codes "i") ∷ []) (expr 2 (Number (pos 0)) ∷ [])) ∷ stat 2 (While (binary g 2 op.Lt (expr 2 (Name (codes "i"))) (expr 2 (Number (pos 2)))) (block (stat 2 (Assign (expr 2 (Name (codes "i")) ∷ []) (binary g 2 op.Add (expr 2 (Name (codes "i"))) (expr 2 (Number (pos 1))) ∷ [])) ∷ []))) ∷ []))))) ∷ [])) ∷ [])) ∷ [])
+-- `while`: three tests, and two turns.
+--     return {f=function(...)
+--     local i=0 while i<2 do i=i+1 end
+--     end}
+abbrev pub while_costs : Block
+while_costs = stats_of (ReturnS 1 (exps_of (TableE 1 (fields_of (Pair (TextE 1 (codes "f")) (FunctionE 1 (Lambda [] true (stats_of (
+    LocalS 2 (codes "i" ∷ []) (exps_of (NumberE 2 (pos 0) ∷ []))
+    ∷ WhileS 2 (BinaryE 2 op.Lt (NameE 2 (codes "i")) (NumberE 2 (pos 2))) (stats_of (
+    AssignS 2 (exps_of (NameE 2 (codes "i") ∷ [])) (exps_of (BinaryE 2 op.Add (NameE 2 (codes "i")) (NumberE 2 (pos 1)) ∷ []))
+    ∷ []))
+    ∷ [])))) ∷ [])) ∷ [])) ∷ [])
 
-  abbrev pub WhileCosts : Type 0
-  WhileCosts = (invoked (codes "X") 61 while_costs 1109 ≡ Gives [] 0) × (invoked (codes "X") 61 while_costs 1108 ≡ Spends Steps 0)
+abbrev pub WhileCosts : Type 0
+WhileCosts = (invoked (codes "X") 61 while_costs 1109 ≡ Gives [] 0) × (invoked (codes "X") 61 while_costs 1108 ≡ Spends Steps 0)
 
-  -- `repeat`: two turns, each with its test.
-  --     return {f=function(...)
-  --     local i=0 repeat i=i+1 until i>=2
-  --     end}
-  abbrev pub repeat_costs : Block
-  repeat_costs = block (stat 1 (Return (expr 1 (Table (Pair (expr 1 (Text (codes "f"))) (expr 1 (FunctionExpr (function ([]) true (block (stat 2 (Local ((codes "i") ∷ []) (expr 2 (Number (pos 0)) ∷ [])) ∷ stat 2 (Repeat (block (stat 2 (Assign (expr 2 (Name (codes "i")) ∷ []) (binary g 2 op.Add (expr 2 (Name (codes "i"))) (expr 2 (Number (pos 1))) ∷ [])) ∷ [])) (binary g 2 op.Ge (expr 2 (Name (codes "i"))) (expr 2 (Number (pos 2))))) ∷ []))))) ∷ [])) ∷ [])) ∷ [])
+-- `repeat`: two turns, each with its test.
+--     return {f=function(...)
+--     local i=0 repeat i=i+1 until i>=2
+--     end}
+abbrev pub repeat_costs : Block
+repeat_costs = stats_of (ReturnS 1 (exps_of (TableE 1 (fields_of (Pair (TextE 1 (codes "f")) (FunctionE 1 (Lambda [] true (stats_of (
+    LocalS 2 (codes "i" ∷ []) (exps_of (NumberE 2 (pos 0) ∷ []))
+    ∷ RepeatS 2 (stats_of (
+    AssignS 2 (exps_of (NameE 2 (codes "i") ∷ [])) (exps_of (BinaryE 2 op.Add (NameE 2 (codes "i")) (NumberE 2 (pos 1)) ∷ []))
+    ∷ [])) (BinaryE 2 op.Ge (NameE 2 (codes "i")) (NumberE 2 (pos 2)))
+    ∷ [])))) ∷ [])) ∷ [])) ∷ [])
 
-  abbrev pub RepeatCosts : Type 0
-  RepeatCosts = (invoked (codes "X") 62 repeat_costs 1107 ≡ Gives [] 0) × (invoked (codes "X") 62 repeat_costs 1106 ≡ Spends Steps 0)
+abbrev pub RepeatCosts : Type 0
+RepeatCosts = (invoked (codes "X") 62 repeat_costs 1107 ≡ Gives [] 0) × (invoked (codes "X") 62 repeat_costs 1106 ≡ Spends Steps 0)
 
-  -- A counting loop: its numbers, and a step for each turn.
-  --     return {f=function(...)
-  --     for i=1,2 do end
-  --     end}
-  abbrev pub for_costs : Block
-  for_costs = block (stat 1 (Return (expr 1 (Table (Pair (expr 1 (Text (codes "f"))) (expr 1 (FunctionExpr (function ([]) true (block (stat 2 (Count (codes "i") (expr 2 (Number (pos 1))) (expr 2 (Number (pos 2))) None (block ([]))) ∷ []))))) ∷ [])) ∷ [])) ∷ [])
+-- A counting loop: its numbers, and a step for each turn.
+--     return {f=function(...)
+--     for i=1,2 do end
+--     end}
+abbrev pub for_costs : Block
+for_costs = stats_of (ReturnS 1 (exps_of (TableE 1 (fields_of (
+    Pair (TextE 1 (codes "f")) (FunctionE 1 (Lambda [] true (stats_of (CountS 2 (codes "i") (NumberE 2 (pos 1)) (NumberE 2 (pos 2)) NoStat ∷ []))))
+    ∷ [])) ∷ [])) ∷ [])
 
-  abbrev pub ForCosts : Type 0
-  ForCosts = (invoked (codes "X") 45 for_costs 1076 ≡ Gives [] 0) × (invoked (codes "X") 45 for_costs 1075 ≡ Spends Steps 0)
+abbrev pub ForCosts : Type 0
+ForCosts = (invoked (codes "X") 45 for_costs 1076 ≡ Gives [] 0) × (invoked (codes "X") 45 for_costs 1075 ≡ Spends Steps 0)
 
-  -- A generic loop: the function is entered three times, and there are two turns.
-  --     return {f=function(...)
-  --     for k in next,{1,2} do end
-  --     end}
-  abbrev pub each_costs : Block
-  each_costs = block (stat 1 (Return (expr 1 (Table (Pair (expr 1 (Text (codes "f"))) (expr 1 (FunctionExpr (function ([]) true (block (stat 2 (Each ((codes "k") ∷ []) (expr 2 (Name (codes "next")) ∷ expr 2 (Table (Item (expr 2 (Number (pos 1))) ∷ Item (expr 2 (Number (pos 2))) ∷ [])) ∷ []) (block ([]))) ∷ []))))) ∷ [])) ∷ [])) ∷ [])
+-- A generic loop: the function is entered three times, and there are two turns.
+--     return {f=function(...)
+--     for k in next,{1,2} do end
+--     end}
+abbrev pub each_costs : Block
+each_costs = stats_of (ReturnS 1 (exps_of (TableE 1 (fields_of (Pair (TextE 1 (codes "f")) (FunctionE 1 (Lambda [] true (stats_of (
+    EachS 2 (codes "k" ∷ []) (exps_of (NameE 2 (codes "next") ∷ TableE 2 (fields_of (Item (NumberE 2 (pos 1)) ∷ Item (NumberE 2 (pos 2)) ∷ [])) ∷ [])) NoStat
+    ∷ [])))) ∷ [])) ∷ [])) ∷ [])
 
-  abbrev pub EachCosts : Type 0
-  EachCosts = (invoked (codes "X") 55 each_costs 1107 ≡ Gives [] 0) × (invoked (codes "X") 55 each_costs 1106 ≡ Spends Steps 0)
+abbrev pub EachCosts : Type 0
+EachCosts = (invoked (codes "X") 55 each_costs 1107 ≡ Gives [] 0) × (invoked (codes "X") 55 each_costs 1106 ≡ Spends Steps 0)
 
-  -- `next` passes a cleared entry; a key that is cleared is no new entry.
-  --     return {f=function(...)
-  --     local t={1,2} t[1]=nil return next(t)
-  --     end}
-  abbrev pub cleared_costs : Block
-  cleared_costs = block (stat 1 (Return (expr 1 (Table (Pair (expr 1 (Text (codes "f"))) (expr 1 (FunctionExpr (function ([]) true (block (stat 2 (Local ((codes "t") ∷ []) (expr 2 (Table (Item (expr 2 (Number (pos 1))) ∷ Item (expr 2 (Number (pos 2))) ∷ [])) ∷ [])) ∷ stat 2 (Assign (index g 2 (expr 2 (Name (codes "t"))) (expr 2 (Number (pos 1))) ∷ []) (expr 2 Nil ∷ [])) ∷ stat 2 (Return (call g 2 (expr 2 (Name (codes "next"))) (expr 2 (Name (codes "t")) ∷ []) ∷ [])) ∷ []))))) ∷ [])) ∷ [])) ∷ [])
+-- `next` passes a cleared entry; a key that is cleared is no new entry.
+--     return {f=function(...)
+--     local t={1,2} t[1]=nil return next(t)
+--     end}
+abbrev pub cleared_costs : Block
+cleared_costs = stats_of (ReturnS 1 (exps_of (TableE 1 (fields_of (Pair (TextE 1 (codes "f")) (FunctionE 1 (Lambda [] true (stats_of (
+    LocalS 2 (codes "t" ∷ []) (exps_of (TableE 2 (fields_of (Item (NumberE 2 (pos 1)) ∷ Item (NumberE 2 (pos 2)) ∷ [])) ∷ []))
+    ∷ AssignS 2 (exps_of (IndexE 2 (NameE 2 (codes "t")) (NumberE 2 (pos 1)) ∷ [])) (exps_of (NilE 2 ∷ []))
+    ∷ ReturnS 2 (exps_of (CallE 2 (NameE 2 (codes "next")) (exps_of (NameE 2 (codes "t") ∷ [])) ∷ []))
+    ∷ [])))) ∷ [])) ∷ [])) ∷ [])
 
-  abbrev pub ClearedCosts : Type 0
-  ClearedCosts = (invoked (codes "X") 66 cleared_costs 1125 ≡ Gives (codes "22") 0) × (invoked (codes "X") 66 cleared_costs 1124 ≡ Spends Steps 0)
+abbrev pub ClearedCosts : Type 0
+ClearedCosts = (invoked (codes "X") 66 cleared_costs 1125 ≡ Gives (codes "22") 0) × (invoked (codes "X") 66 cleared_costs 1124 ≡ Spends Steps 0)
 
-  -- `..` costs the length of what it gives.
-  --     return {f=function(...)
-  --     return 'ab'..'c'
-  --     end}
-  abbrev pub joins_cost : Block
-  joins_cost = block (stat 1 (Return (expr 1 (Table (Pair (expr 1 (Text (codes "f"))) (expr 1 (FunctionExpr (function ([]) true (block (stat 2 (Return (binary g 2 op.Concat (expr 2 (Text (codes "ab"))) (expr 2 (Text (codes "c"))) ∷ [])) ∷ []))))) ∷ [])) ∷ [])) ∷ [])
+-- `..` costs the length of what it gives.
+--     return {f=function(...)
+--     return 'ab'..'c'
+--     end}
+abbrev pub joins_cost : Block
+joins_cost = stats_of (ReturnS 1 (exps_of (TableE 1 (fields_of (
+    Pair (TextE 1 (codes "f")) (FunctionE 1 (Lambda [] true (stats_of (ReturnS 2 (exps_of (BinaryE 2 op.Concat (TextE 2 (codes "ab")) (TextE 2 (codes "c")) ∷ [])) ∷ []))))
+    ∷ [])) ∷ [])) ∷ [])
 
-  abbrev pub JoinsCost : Type 0
-  JoinsCost = (invoked (codes "X") 45 joins_cost 1081 ≡ Gives (codes "abc") 0) × (invoked (codes "X") 45 joins_cost 1080 ≡ Spends Steps 0)
+abbrev pub JoinsCost : Type 0
+JoinsCost = (invoked (codes "X") 45 joins_cost 1081 ≡ Gives (codes "abc") 0) × (invoked (codes "X") 45 joins_cost 1080 ≡ Spends Steps 0)
 
-  -- The order of two texts costs the length of the shorter one.
-  --     return {f=function(...)
-  --     return 'abc'<'abde'
-  --     end}
-  abbrev pub order_costs : Block
-  order_costs = block (stat 1 (Return (expr 1 (Table (Pair (expr 1 (Text (codes "f"))) (expr 1 (FunctionExpr (function ([]) true (block (stat 2 (Return (binary g 2 op.Lt (expr 2 (Text (codes "abc"))) (expr 2 (Text (codes "abde"))) ∷ [])) ∷ []))))) ∷ [])) ∷ [])) ∷ [])
+-- The order of two texts costs the length of the shorter one.
+--     return {f=function(...)
+--     return 'abc'<'abde'
+--     end}
+abbrev pub order_costs : Block
+order_costs = stats_of (ReturnS 1 (exps_of (TableE 1 (fields_of (
+    Pair (TextE 1 (codes "f")) (FunctionE 1 (Lambda [] true (stats_of (ReturnS 2 (exps_of (BinaryE 2 op.Lt (TextE 2 (codes "abc")) (TextE 2 (codes "abde")) ∷ [])) ∷ []))))
+    ∷ [])) ∷ [])) ∷ [])
 
-  abbrev pub OrderCosts : Type 0
-  OrderCosts = (invoked (codes "X") 48 order_costs 1085 ≡ Gives (codes "true") 0) × (invoked (codes "X") 48 order_costs 1084 ≡ Spends Steps 0)
+abbrev pub OrderCosts : Type 0
+OrderCosts = (invoked (codes "X") 48 order_costs 1085 ≡ Gives (codes "true") 0) × (invoked (codes "X") 48 order_costs 1084 ≡ Spends Steps 0)
 
-  -- Their equality costs nothing.
-  --     return {f=function(...)
-  --     return 'abc'=='abc'
-  --     end}
-  abbrev pub equality_is_free : Block
-  equality_is_free = block (stat 1 (Return (expr 1 (Table (Pair (expr 1 (Text (codes "f"))) (expr 1 (FunctionExpr (function ([]) true (block (stat 2 (Return (binary g 2 op.Eq (expr 2 (Text (codes "abc"))) (expr 2 (Text (codes "abc"))) ∷ [])) ∷ []))))) ∷ [])) ∷ [])) ∷ [])
+-- Their equality costs nothing.
+--     return {f=function(...)
+--     return 'abc'=='abc'
+--     end}
+abbrev pub equality_is_free : Block
+equality_is_free = stats_of (ReturnS 1 (exps_of (TableE 1 (fields_of (
+    Pair (TextE 1 (codes "f")) (FunctionE 1 (Lambda [] true (stats_of (ReturnS 2 (exps_of (BinaryE 2 op.Eq (TextE 2 (codes "abc")) (TextE 2 (codes "abc")) ∷ [])) ∷ []))))
+    ∷ [])) ∷ [])) ∷ [])
 
-  abbrev pub EqualityIsFree : Type 0
-  EqualityIsFree = (invoked (codes "X") 48 equality_is_free 1082 ≡ Gives (codes "true") 0) × (invoked (codes "X") 48 equality_is_free 1081 ≡ Spends Steps 0)
+abbrev pub EqualityIsFree : Type 0
+EqualityIsFree = (invoked (codes "X") 48 equality_is_free 1082 ≡ Gives (codes "true") 0) × (invoked (codes "X") 48 equality_is_free 1081 ≡ Spends Steps 0)
 
-  -- `tostring` costs the length of the text.
-  --     return {f=function(...)
-  --     return tostring('abc')
-  --     end}
-  abbrev pub text_costs : Block
-  text_costs = block (stat 1 (Return (expr 1 (Table (Pair (expr 1 (Text (codes "f"))) (expr 1 (FunctionExpr (function ([]) true (block (stat 2 (Return (call g 2 (expr 2 (Name (codes "tostring"))) (expr 2 (Text (codes "abc")) ∷ []) ∷ [])) ∷ []))))) ∷ [])) ∷ [])) ∷ [])
+-- `tostring` costs the length of the text.
+--     return {f=function(...)
+--     return tostring('abc')
+--     end}
+abbrev pub text_costs : Block
+text_costs = stats_of (ReturnS 1 (exps_of (TableE 1 (fields_of (
+    Pair (TextE 1 (codes "f")) (FunctionE 1 (Lambda [] true (stats_of (ReturnS 2 (exps_of (CallE 2 (NameE 2 (codes "tostring")) (exps_of (TextE 2 (codes "abc") ∷ [])) ∷ [])) ∷ []))))
+    ∷ [])) ∷ [])) ∷ [])
 
-  abbrev pub TextCosts : Type 0
-  TextCosts = (invoked (codes "X") 51 text_costs 1088 ≡ Gives (codes "abc") 0) × (invoked (codes "X") 51 text_costs 1087 ≡ Spends Steps 0)
+abbrev pub TextCosts : Type 0
+TextCosts = (invoked (codes "X") 51 text_costs 1088 ≡ Gives (codes "abc") 0) × (invoked (codes "X") 51 text_costs 1087 ≡ Spends Steps 0)
 
-  -- `unpack` costs a step for each entry.
-  --     return {f=function(...)
-  --     return unpack({1,2})
-  --     end}
-  abbrev pub unpack_costs : Block
-  unpack_costs = block (stat 1 (Return (expr 1 (Table (Pair (expr 1 (Text (codes "f"))) (expr 1 (FunctionExpr (function ([]) true (block (stat 2 (Return (call g 2 (expr 2 (Name (codes "unpack"))) (expr 2 (Table (Item (expr 2 (Number (pos 1))) ∷ Item (expr 2 (Number (pos 2))) ∷ [])) ∷ []) ∷ [])) ∷ []))))) ∷ [])) ∷ [])) ∷ [])
+-- `unpack` costs a step for each entry.
+--     return {f=function(...)
+--     return unpack({1,2})
+--     end}
+abbrev pub unpack_costs : Block
+unpack_costs = stats_of (ReturnS 1 (exps_of (TableE 1 (fields_of (Pair (TextE 1 (codes "f")) (FunctionE 1 (Lambda [] true (stats_of (ReturnS 2 (exps_of (
+    CallE 2 (NameE 2 (codes "unpack")) (exps_of (TableE 2 (fields_of (Item (NumberE 2 (pos 1)) ∷ Item (NumberE 2 (pos 2)) ∷ [])) ∷ []))
+    ∷ [])) ∷ [])))) ∷ [])) ∷ [])) ∷ [])
 
-  abbrev pub UnpackCosts : Type 0
-  UnpackCosts = (invoked (codes "X") 49 unpack_costs 1102 ≡ Gives (codes "12") 0) × (invoked (codes "X") 49 unpack_costs 1101 ≡ Spends Steps 0)
+abbrev pub UnpackCosts : Type 0
+UnpackCosts = (invoked (codes "X") 49 unpack_costs 1102 ≡ Gives (codes "12") 0) × (invoked (codes "X") 49 unpack_costs 1101 ≡ Spends Steps 0)
 
-  -- A link to a table costs a step.
-  --     return {f=function(...)
-  --     return setmetatable({},{__index={x=1}}).x
-  --     end}
-  abbrev pub link_costs : Block
-  link_costs = block (stat 1 (Return (expr 1 (Table (Pair (expr 1 (Text (codes "f"))) (expr 1 (FunctionExpr (function ([]) true (block (stat 2 (Return (index g 2 (call g 2 (expr 2 (Name (codes "setmetatable"))) (expr 2 (Table ([])) ∷ expr 2 (Table (Pair (expr 2 (Text (codes "__index"))) (expr 2 (Table (Pair (expr 2 (Text (codes "x"))) (expr 2 (Number (pos 1))) ∷ []))) ∷ [])) ∷ [])) (expr 2 (Text (codes "x"))) ∷ [])) ∷ []))))) ∷ [])) ∷ [])) ∷ [])
+-- A link to a table costs a step.
+--     return {f=function(...)
+--     return setmetatable({},{__index={x=1}}).x
+--     end}
+abbrev pub link_costs : Block
+link_costs = stats_of (ReturnS 1 (exps_of (TableE 1 (fields_of (Pair (TextE 1 (codes "f")) (FunctionE 1 (Lambda [] true (stats_of (ReturnS 2 (exps_of (IndexE 2 (CallE 2 (NameE 2 (codes "setmetatable")) (exps_of (
+    TableE 2 NoField
+    ∷ TableE 2 (fields_of (Pair (TextE 2 (codes "__index")) (TableE 2 (fields_of (Pair (TextE 2 (codes "x")) (NumberE 2 (pos 1)) ∷ []))) ∷ []))
+    ∷ []))) (TextE 2 (codes "x")) ∷ [])) ∷ [])))) ∷ [])) ∷ [])) ∷ [])
 
-  abbrev pub LinkCosts : Type 0
-  LinkCosts = (invoked (codes "X") 70 link_costs 1142 ≡ Gives (codes "1") 0) × (invoked (codes "X") 70 link_costs 1141 ≡ Spends Steps 0)
+abbrev pub LinkCosts : Type 0
+LinkCosts = (invoked (codes "X") 70 link_costs 1142 ≡ Gives (codes "1") 0) × (invoked (codes "X") 70 link_costs 1141 ≡ Spends Steps 0)
 
-  -- A link to a function costs a step, and the function's entry another.
-  --     return {f=function(...)
-  --     return setmetatable({},{__call=function() return 1 end})()
-  --     end}
-  abbrev pub call_link_costs : Block
-  call_link_costs = block (stat 1 (Return (expr 1 (Table (Pair (expr 1 (Text (codes "f"))) (expr 1 (FunctionExpr (function ([]) true (block (stat 2 (Return (call g 2 (call g 2 (expr 2 (Name (codes "setmetatable"))) (expr 2 (Table ([])) ∷ expr 2 (Table (Pair (expr 2 (Text (codes "__call"))) (expr 2 (FunctionExpr (function ([]) false (block (stat 2 (Return (expr 2 (Number (pos 1)) ∷ [])) ∷ []))))) ∷ [])) ∷ [])) ([]) ∷ [])) ∷ []))))) ∷ [])) ∷ [])) ∷ [])
+-- A link to a function costs a step, and the function's entry another.
+--     return {f=function(...)
+--     return setmetatable({},{__call=function() return 1 end})()
+--     end}
+abbrev pub call_link_costs : Block
+call_link_costs = stats_of (ReturnS 1 (exps_of (TableE 1 (fields_of (Pair (TextE 1 (codes "f")) (FunctionE 1 (Lambda [] true (stats_of (ReturnS 2 (exps_of (CallE 2 (CallE 2 (NameE 2 (codes "setmetatable")) (exps_of (
+    TableE 2 NoField
+    ∷ TableE 2 (fields_of (
+    Pair (TextE 2 (codes "__call")) (FunctionE 2 (Lambda [] false (stats_of (ReturnS 2 (exps_of (NumberE 2 (pos 1) ∷ [])) ∷ []))))
+    ∷ []))
+    ∷ []))) NoExp ∷ [])) ∷ [])))) ∷ [])) ∷ [])) ∷ [])
 
-  abbrev pub CallLinkCosts : Type 0
-  CallLinkCosts = (invoked (codes "X") 87 call_link_costs 1155 ≡ Gives (codes "1") 0) × (invoked (codes "X") 87 call_link_costs 1154 ≡ Spends Steps 0)
+abbrev pub CallLinkCosts : Type 0
+CallLinkCosts = (invoked (codes "X") 87 call_link_costs 1155 ≡ Gives (codes "1") 0) × (invoked (codes "X") 87 call_link_costs 1154 ≡ Spends Steps 0)
 
-  -- A message costs its length with its place.
-  --     return {f=function(...)
-  --     return pcall(function() error('m') end)
-  --     end}
-  abbrev pub message_costs : Block
-  message_costs = block (stat 1 (Return (expr 1 (Table (Pair (expr 1 (Text (codes "f"))) (expr 1 (FunctionExpr (function ([]) true (block (stat 2 (Return (call g 2 (expr 2 (Name (codes "pcall"))) (expr 2 (FunctionExpr (function ([]) false (block (stat 2 (StatCall (call g 2 (expr 2 (Name (codes "error"))) (expr 2 (Text (codes "m")) ∷ []))) ∷ [])))) ∷ []) ∷ [])) ∷ []))))) ∷ [])) ∷ [])) ∷ [])
+-- A message costs its length with its place.
+--     return {f=function(...)
+--     return pcall(function() error('m') end)
+--     end}
+abbrev pub message_costs : Block
+message_costs = stats_of (ReturnS 1 (exps_of (TableE 1 (fields_of (Pair (TextE 1 (codes "f")) (FunctionE 1 (Lambda [] true (stats_of (ReturnS 2 (exps_of (CallE 2 (NameE 2 (codes "pcall")) (exps_of (
+    FunctionE 2 (Lambda [] false (stats_of (CallS 2 (CallE 2 (NameE 2 (codes "error")) (exps_of (TextE 2 (codes "m") ∷ []))) ∷ [])))
+    ∷ [])) ∷ [])) ∷ [])))) ∷ [])) ∷ [])) ∷ [])
 
-  abbrev pub MessageCosts : Type 0
-  MessageCosts = (invoked (codes "X") 68 message_costs 1144 ≡ Gives (codes "falseModule:X:2: m") 0) × (invoked (codes "X") 68 message_costs 1143 ≡ Spends Steps 0)
+abbrev pub MessageCosts : Type 0
+MessageCosts = (invoked (codes "X") 68 message_costs 1144 ≡ Gives (codes "falseModule:X:2: m") 0) × (invoked (codes "X") 68 message_costs 1143 ≡ Spends Steps 0)
 
-  -- A method's name costs nothing.
-  --     return {f=function(...)
-  --     local o={m=function(s) return 1 end} return o:m()
-  --     end}
-  abbrev pub method_costs : Block
-  method_costs = block (stat 1 (Return (expr 1 (Table (Pair (expr 1 (Text (codes "f"))) (expr 1 (FunctionExpr (function ([]) true (block (stat 2 (Local ((codes "o") ∷ []) (expr 2 (Table (Pair (expr 2 (Text (codes "m"))) (expr 2 (FunctionExpr (function ((codes "s") ∷ []) false (block (stat 2 (Return (expr 2 (Number (pos 1)) ∷ [])) ∷ []))))) ∷ [])) ∷ [])) ∷ stat 2 (Return (method g 2 (expr 2 (Name (codes "o"))) (codes "m") ([]) ∷ [])) ∷ []))))) ∷ [])) ∷ [])) ∷ [])
+-- A method's name costs nothing.
+--     return {f=function(...)
+--     local o={m=function(s) return 1 end} return o:m()
+--     end}
+abbrev pub method_costs : Block
+method_costs = stats_of (ReturnS 1 (exps_of (TableE 1 (fields_of (Pair (TextE 1 (codes "f")) (FunctionE 1 (Lambda [] true (stats_of (
+    LocalS 2 (codes "o" ∷ []) (exps_of (TableE 2 (fields_of (
+    Pair (TextE 2 (codes "m")) (FunctionE 2 (Lambda (codes "s" ∷ []) false (stats_of (ReturnS 2 (exps_of (NumberE 2 (pos 1) ∷ [])) ∷ []))))
+    ∷ [])) ∷ []))
+    ∷ ReturnS 2 (exps_of (MethodE 2 (NameE 2 (codes "o")) (codes "m") NoExp ∷ []))
+    ∷ [])))) ∷ [])) ∷ [])) ∷ [])
 
-  abbrev pub MethodCosts : Type 0
-  MethodCosts = (invoked (codes "X") 78 method_costs 1135 ≡ Gives (codes "1") 0) × (invoked (codes "X") 78 method_costs 1134 ≡ Spends Steps 0)
+abbrev pub MethodCosts : Type 0
+MethodCosts = (invoked (codes "X") 78 method_costs 1135 ≡ Gives (codes "1") 0) × (invoked (codes "X") 78 method_costs 1134 ≡ Spends Steps 0)
 
-  -- A local function is a statement, and a closure.
-  --     return {f=function(...)
-  --     local function g() end g()
-  --     end}
-  abbrev pub local_function_costs : Block
-  local_function_costs = block (stat 1 (Return (expr 1 (Table (Pair (expr 1 (Text (codes "f"))) (expr 1 (FunctionExpr (function ([]) true (block (stat 2 (LocalFunction (codes "g") (function ([]) false (block ([])))) ∷ stat 2 (StatCall (call g 2 (expr 2 (Name (codes "g"))) ([]))) ∷ []))))) ∷ [])) ∷ [])) ∷ [])
+-- A local function is a statement, and a closure.
+--     return {f=function(...)
+--     local function g() end g()
+--     end}
+abbrev pub local_function_costs : Block
+local_function_costs = stats_of (ReturnS 1 (exps_of (TableE 1 (fields_of (
+    Pair (TextE 1 (codes "f")) (FunctionE 1 (Lambda [] true (stats_of (LocalFunctionS 2 (codes "g") (Lambda [] false NoStat) ∷ CallS 2 (CallE 2 (NameE 2 (codes "g")) NoExp) ∷ []))))
+    ∷ [])) ∷ [])) ∷ [])
 
-  abbrev pub LocalFunctionCosts : Type 0
-  LocalFunctionCosts = (invoked (codes "X") 55 local_function_costs 1094 ≡ Gives [] 0) × (invoked (codes "X") 55 local_function_costs 1093 ≡ Spends Steps 0)
+abbrev pub LocalFunctionCosts : Type 0
+LocalFunctionCosts = (invoked (codes "X") 55 local_function_costs 1094 ≡ Gives [] 0) × (invoked (codes "X") 55 local_function_costs 1093 ≡ Spends Steps 0)
 
-  -- A global variable that is new is a new entry, and a name as a target costs nothing.
-  --     return {f=function(...)
-  --     x=1 x=2
-  --     end}
-  abbrev pub global_costs : Block
-  global_costs = block (stat 1 (Return (expr 1 (Table (Pair (expr 1 (Text (codes "f"))) (expr 1 (FunctionExpr (function ([]) true (block (stat 2 (Assign (expr 2 (Name (codes "x")) ∷ []) (expr 2 (Number (pos 1)) ∷ [])) ∷ stat 2 (Assign (expr 2 (Name (codes "x")) ∷ []) (expr 2 (Number (pos 2)) ∷ [])) ∷ []))))) ∷ [])) ∷ [])) ∷ [])
+-- A global variable that is new is a new entry, and a name as a target costs nothing.
+--     return {f=function(...)
+--     x=1 x=2
+--     end}
+abbrev pub global_costs : Block
+global_costs = stats_of (ReturnS 1 (exps_of (TableE 1 (fields_of (Pair (TextE 1 (codes "f")) (FunctionE 1 (Lambda [] true (stats_of (
+    AssignS 2 (exps_of (NameE 2 (codes "x") ∷ [])) (exps_of (NumberE 2 (pos 1) ∷ []))
+    ∷ AssignS 2 (exps_of (NameE 2 (codes "x") ∷ [])) (exps_of (NumberE 2 (pos 2) ∷ []))
+    ∷ [])))) ∷ [])) ∷ [])) ∷ [])
 
-  abbrev pub GlobalCosts : Type 0
-  GlobalCosts = (invoked (codes "X") 36 global_costs 1070 ≡ Gives [] 0) × (invoked (codes "X") 36 global_costs 1069 ≡ Spends Steps 0)
+abbrev pub GlobalCosts : Type 0
+GlobalCosts = (invoked (codes "X") 36 global_costs 1070 ≡ Gives [] 0) × (invoked (codes "X") 36 global_costs 1069 ≡ Spends Steps 0)
 
-  -- What is not evaluated costs nothing.
-  --     return {f=function(...)
-  --     return nil and error() or 'a'
-  --     end}
-  abbrev pub choices_cost : Block
-  choices_cost = block (stat 1 (Return (expr 1 (Table (Pair (expr 1 (Text (codes "f"))) (expr 1 (FunctionExpr (function ([]) true (block (stat 2 (Return (binary g 2 op.Or (binary g 2 op.And (expr 2 Nil) (call g 2 (expr 2 (Name (codes "error"))) ([]))) (expr 2 (Text (codes "a"))) ∷ [])) ∷ []))))) ∷ [])) ∷ [])) ∷ [])
+-- What is not evaluated costs nothing.
+--     return {f=function(...)
+--     return nil and error() or 'a'
+--     end}
+abbrev pub choices_cost : Block
+choices_cost = stats_of (ReturnS 1 (exps_of (TableE 1 (fields_of (Pair (TextE 1 (codes "f")) (FunctionE 1 (Lambda [] true (stats_of (
+    ReturnS 2 (exps_of (BinaryE 2 op.Or (BinaryE 2 op.And (NilE 2) (CallE 2 (NameE 2 (codes "error")) NoExp)) (TextE 2 (codes "a")) ∷ []))
+    ∷ [])))) ∷ [])) ∷ [])) ∷ [])
 
-  abbrev pub ChoicesCost : Type 0
-  ChoicesCost = (invoked (codes "X") 58 choices_cost 1090 ≡ Gives (codes "a") 0) × (invoked (codes "X") 58 choices_cost 1089 ≡ Spends Steps 0)
+abbrev pub ChoicesCost : Type 0
+ChoicesCost = (invoked (codes "X") 58 choices_cost 1090 ≡ Gives (codes "a") 0) × (invoked (codes "X") 58 choices_cost 1089 ≡ Spends Steps 0)
 
-  -- Of a condition the tests that are made.
-  --     return {f=function(...)
-  --     if nil then elseif 1 then elseif 2 then end
-  --     end}
-  abbrev pub branches_cost : Block
-  branches_cost = block (stat 1 (Return (expr 1 (Table (Pair (expr 1 (Text (codes "f"))) (expr 1 (FunctionExpr (function ([]) true (block (stat 2 (If (arm (expr 2 Nil) (block ([])) ∷ arm (expr 2 (Number (pos 1))) (block ([])) ∷ arm (expr 2 (Number (pos 2))) (block ([])) ∷ []) None) ∷ []))))) ∷ [])) ∷ [])) ∷ [])
+-- Of a condition the tests that are made.
+--     return {f=function(...)
+--     if nil then elseif 1 then elseif 2 then end
+--     end}
+abbrev pub branches_cost : Block
+branches_cost = stats_of (ReturnS 1 (exps_of (TableE 1 (fields_of (
+    Pair (TextE 1 (codes "f")) (FunctionE 1 (Lambda [] true (stats_of (IfS 2 (arms_of (Arm (NilE 2) NoStat ∷ Arm (NumberE 2 (pos 1)) NoStat ∷ Arm (NumberE 2 (pos 2)) NoStat ∷ [])) ∷ []))))
+    ∷ [])) ∷ [])) ∷ [])
 
-  abbrev pub BranchesCost : Type 0
-  BranchesCost = (invoked (codes "X") 72 branches_cost 1101 ≡ Gives [] 0) × (invoked (codes "X") 72 branches_cost 1100 ≡ Spends Steps 0)
+abbrev pub BranchesCost : Type 0
+BranchesCost = (invoked (codes "X") 72 branches_cost 1101 ≡ Gives [] 0) × (invoked (codes "X") 72 branches_cost 1100 ≡ Spends Steps 0)
 
-  -- Targets that are indices are nodes; nil makes no entry.
-  --     return {f=function(...)
-  --     local t={} t.a,t.b=1
-  --     end}
-  abbrev pub targets_cost : Block
-  targets_cost = block (stat 1 (Return (expr 1 (Table (Pair (expr 1 (Text (codes "f"))) (expr 1 (FunctionExpr (function ([]) true (block (stat 2 (Local ((codes "t") ∷ []) (expr 2 (Table ([])) ∷ [])) ∷ stat 2 (Assign (index g 2 (expr 2 (Name (codes "t"))) (expr 2 (Text (codes "a"))) ∷ index g 2 (expr 2 (Name (codes "t"))) (expr 2 (Text (codes "b"))) ∷ []) (expr 2 (Number (pos 1)) ∷ [])) ∷ []))))) ∷ [])) ∷ [])) ∷ [])
+-- Targets that are indices are nodes; nil makes no entry.
+--     return {f=function(...)
+--     local t={} t.a,t.b=1
+--     end}
+abbrev pub targets_cost : Block
+targets_cost = stats_of (ReturnS 1 (exps_of (TableE 1 (fields_of (Pair (TextE 1 (codes "f")) (FunctionE 1 (Lambda [] true (stats_of (
+    LocalS 2 (codes "t" ∷ []) (exps_of (TableE 2 NoField ∷ []))
+    ∷ AssignS 2 (exps_of (IndexE 2 (NameE 2 (codes "t")) (TextE 2 (codes "a")) ∷ IndexE 2 (NameE 2 (codes "t")) (TextE 2 (codes "b")) ∷ [])) (exps_of (NumberE 2 (pos 1) ∷ []))
+    ∷ [])))) ∷ [])) ∷ [])) ∷ [])
 
-  abbrev pub TargetsCost : Type 0
-  TargetsCost = (invoked (codes "X") 49 targets_cost 1097 ≡ Gives [] 0) × (invoked (codes "X") 49 targets_cost 1096 ≡ Spends Steps 0)
+abbrev pub TargetsCost : Type 0
+TargetsCost = (invoked (codes "X") 49 targets_cost 1097 ≡ Gives [] 0) × (invoked (codes "X") 49 targets_cost 1096 ≡ Spends Steps 0)
 
-  -- ALL OF THEM
-  abbrev pub AllCosts : Type 0
-  AllCosts =
-      Nothing
-      × DotsCost
-      × WhileCosts
-      × RepeatCosts
-      × ForCosts
-      × EachCosts
-      × ClearedCosts
-      × JoinsCost
-      × OrderCosts
-      × EqualityIsFree
-      × TextCosts
-      × UnpackCosts
-      × LinkCosts
-      × CallLinkCosts
-      × MessageCosts
-      × MethodCosts
-      × LocalFunctionCosts
-      × GlobalCosts
-      × ChoicesCost
-      × BranchesCost
-      × TargetsCost
+-- ALL OF THEM
+abbrev pub AllCosts : Type 0
+AllCosts =
+    Nothing
+    × DotsCost
+    × WhileCosts
+    × RepeatCosts
+    × ForCosts
+    × EachCosts
+    × ClearedCosts
+    × JoinsCost
+    × OrderCosts
+    × EqualityIsFree
+    × TextCosts
+    × UnpackCosts
+    × LinkCosts
+    × CallLinkCosts
+    × MessageCosts
+    × MethodCosts
+    × LocalFunctionCosts
+    × GlobalCosts
+    × ChoicesCost
+    × BranchesCost
+    × TargetsCost

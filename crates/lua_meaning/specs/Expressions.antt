@@ -5,7 +5,7 @@ use Rattle.lua_syntax.specs.declared.BinaryOp.{BinaryOp}
 use Rattle.lua_syntax.specs.declared.BinaryOp.TheVariants as op
 use Rattle.lua_syntax.specs.declared.UnaryOp.{UnaryOp}
 use Rattle.lua_syntax.specs.declared.UnaryOp.TheVariants as sign
-use Rattle.lua_syntax.specs.declared.Function.{Function as FunctionNode}
+use Rattle.lua_syntax.specs.Tree.{Fun}
 use Rattle.lua_heap.specs.Value.{Value, Truth, Text, Table, is_true}
 use Rattle.lua_meaning.specs.Environment.{Bytes, Env, Levels, cell_of, levels}
 use Rattle.lua_meaning.specs.Acts.{Act, node, one, read_cell, make_closure}
@@ -61,10 +61,10 @@ indexed of key line env = do
   give (v ∷ [])
 
 -- FUNCTIONS (2.5.9): each time a new closure, with the names that are seen here
-abbrev pub closure : FunctionNode → Env → Act Value
+abbrev pub closure : Fun → Env → Act Value
 closure f env = make_closure (record { node = f; names = env.names; source = env.source })
 
-abbrev pub function : FunctionNode → Expression
+abbrev pub function : Fun → Expression
 function f env = do
   node
   v ← closure f env

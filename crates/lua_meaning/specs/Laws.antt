@@ -1,8 +1,7 @@
 -- LAWS OF THE MEANING, which the functions of this crate ensure.
 use Rattle.std.specs.Prelude.{◌≡◌, ℕ, ◌+◌, List, []}
 use Rattle.wk_base.specs.declared.left.Left.{Left}
-use Rattle.lua_syntax.specs.declared.ExprKind.{ExprKind, Name}
-use Rattle.lua_syntax.specs.declared.StatKind.{StatKind}
+use Rattle.lua_syntax.specs.Tree.{Exp, Stat, NameE}
 use Rattle.page_run.specs.Run.{Takes, Counts, Calls}
 use Rattle.page_run.specs.Outcome.{Outcome, Goes}
 use Rattle.page_run.specs.State.{Replier, Moment, Ended, start}
@@ -32,15 +31,15 @@ abbrev pub IsNode : LuaRun → Type 0
 IsNode p = (more : LuaRun) × (p ≡ Takes 1 (Counts more))
 
 abbrev pub ExpressionsAreNodes : Type 0
-ExpressionsAreNodes = (line : ℕ) (e : ExprKind) (env : Env) (k : Outcome (List Value) Jump → LuaRun) → IsNode (expression line e env k)
+ExpressionsAreNodes = (e : Exp) (env : Env) (k : Outcome (List Value) Jump → LuaRun) → IsNode (expression e env k)
 
 abbrev pub StatementsAreNodes : Type 0
-StatementsAreNodes = (line : ℕ) (s : StatKind) (env : Env) (k : Outcome Env Jump → LuaRun) → IsNode (statement line s env k)
+StatementsAreNodes = (s : Stat) (env : Env) (k : Outcome Env Jump → LuaRun) → IsNode (statement s env k)
 
 -- A name as a target is none: it costs nothing.
 abbrev pub TargetNamesAreNone : Type 0
 TargetNamesAreNone = (line : ℕ) (x : List ℕ) (env : Env) (k : Outcome Target Jump → LuaRun) →
-    target line (Name x) env k ≡ k (Goes (name_target (cell_of env.names x) x (levels env line)))
+    target (NameE line x) env k ≡ k (Goes (name_target (cell_of env.names x) x (levels env line)))
 
 -- A TURN of a loop is counted when it begins, and a function is counted once it is entered.
 abbrev pub IsTurn : Thing → Type 0

@@ -23,7 +23,6 @@ pub mod Home
 pub mod Meant
 pub mod Start
 pub mod Laws
-pub mod Trees
 pub mod Trial
 pub mod ExampleCharges
 pub mod ExampleCosts

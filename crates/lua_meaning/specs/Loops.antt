@@ -9,7 +9,7 @@ use Rattle.lua_meaning.specs.Acts.{Act, Jump, Broke, WhileTurn, RepeatTurn, Coun
 use Rattle.lua_meaning.specs.Messages.{fail, no_initial_value, no_limit, no_step}
 use Rattle.lua_meaning.specs.Calls.{call}
 use Rattle.lua_meaning.specs.Expressions.{value, values}
-use Rattle.lua_meaning.specs.Tree.{Expression, Statement, ExprPart, BlockPart}
+use Rattle.lua_meaning.specs.Tree.{Expression, Statement, ExpPart, BlockPart}
 
 -- what follows a turn's body: the next turn, nothing after a `break`, and any other jump goes on
 abbrev pub then_next : {X : Type 0} → Act (List Value) → Outcome X Jump → Act (List Value)
@@ -18,33 +18,33 @@ then_next next (Jumps Broke) = give []
 then_next next (Jumps j) = jump j
 
 -- `while`
-abbrev pub while_from : ExprPart → BlockPart → Env → Act (List Value)
+abbrev pub while_from : ExpPart → BlockPart → Env → Act (List Value)
 while_from test body env = do
   v ← value test.1 env
   choose (is_true v) (begin (WhileTurn test.0 body.0 env)) (give [])
 
-abbrev pub while_loop : ExprPart → BlockPart → Statement
+abbrev pub while_loop : ExpPart → BlockPart → Statement
 while_loop test body env = do
   node
   while_from test body env
   give env
 
-abbrev pub while_turn : ExprPart → BlockPart → Env → Act (List Value)
+abbrev pub while_turn : ExpPart → BlockPart → Env → Act (List Value)
 while_turn test body env = do
   count
   catch (body.1 env) (then_next (while_from test body env))
 
 -- `repeat`, whose test sees the local variables of the body
-abbrev pub repeat_from : BlockPart → ExprPart → Env → Act (List Value)
+abbrev pub repeat_from : BlockPart → ExpPart → Env → Act (List Value)
 repeat_from body test env = begin (RepeatTurn body.0 test.0 env)
 
-abbrev pub repeat_loop : BlockPart → ExprPart → Statement
+abbrev pub repeat_loop : BlockPart → ExpPart → Statement
 repeat_loop body test env = do
   node
   repeat_from body test env
   give env
 
-abbrev pub body_and_test : BlockPart → ExprPart → Env → Act Value
+abbrev pub body_and_test : BlockPart → ExpPart → Env → Act Value
 body_and_test body test env = do
   inner ← body.1 env
   value test.1 inner
@@ -54,7 +54,7 @@ until next (Goes v) = choose (is_true v) (give []) next
 until next (Jumps Broke) = give []
 until next (Jumps j) = jump j
 
-abbrev pub repeat_turn : BlockPart → ExprPart → Env → Act (List Value)
+abbrev pub repeat_turn : BlockPart → ExpPart → Env → Act (List Value)
 repeat_turn body test env = do
   count
   catch (body_and_test body test env) (until (repeat_from body test env))

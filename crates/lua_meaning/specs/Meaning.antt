@@ -1,121 +1,95 @@
--- THE MEANING OF THE TREE (manual 2.4 and 2.5): one line for each form, by recursion. The forms are explained in `Expressions`,
--- `Constructors`, `Statements` and `Loops`; each gets the meanings of its parts, and its line.
---
--- How to read the patterns: an expression that is a part of another stands there as its line and its kind, as `l e`. `p` and `q`
--- are places of boxes in memory, and `n` the shape of a list: they mean nothing here.
-use Rattle.std.specs.Prelude.{ℕ, Bool, true, false, List, [], ◌∷◌, Option, Some, None}
-use Rattle.lua_syntax.specs.declared.Block.{Block, Block'}
-use Rattle.lua_syntax.specs.declared.StatKind.{StatKind, Assign', Call', Do, While', Repeat', If', Count', Each', LocalFunction, Local', Return', Break}
-use Rattle.lua_syntax.specs.declared.Arm.{Arm, Arm'}
-use Rattle.lua_syntax.specs.declared.Expr.{Expr}
-use Rattle.lua_syntax.specs.declared.ExprKind.{ExprKind, Nil, True, False, Number, Text, Dots, Function, Name, Index', Call' as CallOf, Method', Table', Binary', Unary', Paren'}
-use Rattle.lua_syntax.specs.declared.Function.{Function as FunctionNode, Function'}
-use Rattle.lua_syntax.specs.declared.Field.{Field, Item', Pair'}
-use Rattle.lua_syntax.specs.declared.ExprKind.TheBlock.{Row_of-Expr, end_of-Expr, more_of-Expr, Row_of-Stat, end_of-Stat, more_of-Stat, Row_of-Arm, end_of-Arm, more_of-Arm, Row_of-Field, end_of-Field, more_of-Field, Held-StatKind-If-1, Held-StatKind-Count-3, StatKind-If-1-None' as NoElse, StatKind-If-1-Some' as Else, StatKind-Count-3-None' as NoStep, StatKind-Count-3-Some' as Step}
+-- THE MEANING OF THE TREE (manual 2.4 and 2.5): one line for each form, by recursion on the plain tree of a chunk. The forms are
+-- explained in `Expressions`, `Constructors`, `Statements` and `Loops`; each gets the meanings of its parts, and its line.
+use Rattle.std.specs.Prelude.{Bool, true, false, List, [], ◌∷◌, Some, None}
+use Rattle.lua_syntax.specs.Tree.{Exp, NilE, TrueE, FalseE, NumberE, TextE, DotsE, FunctionE, NameE, IndexE, CallE, MethodE, TableE, BinaryE, UnaryE, ParenE}
+use Rattle.lua_syntax.specs.Tree.{Exps, NoExp, MoreExp, Fields, NoField, Item, Pair, Fun, Lambda, Block, NoStat, MoreStat, Arms, NoArm, Arm}
+use Rattle.lua_syntax.specs.Tree.{Stat, AssignS, CallS, DoS, WhileS, RepeatS, IfS, IfElseS, CountS, CountByS, EachS, LocalFunctionS, LocalS, ReturnS, BreakS}
 use Rattle.page_run.specs.Outcome.{give}
-use Rattle.lua_heap.specs.Value.{Nil as NilValue, Truth, Number as NumberValue, Text as TextValue}
+use Rattle.lua_heap.specs.Value.{Nil, Truth, Number, Text}
 use Rattle.lua_meaning.specs.Environment.{Bytes, cell_of, levels}
-use Rattle.lua_meaning.specs.Tree.{Expression, Targeted, Statement, Branch, FieldMeaning, ItemOf, PairOf, NoTarget, ExprPart, BlockPart}
+use Rattle.lua_meaning.specs.Tree.{Expression, Targeted, Statement, Branch, FieldMeaning, ItemOf, PairOf, NoTarget, ExpPart, BlockPart}
 use Rattle.lua_meaning.specs.Expressions.{constant, dots, name, indexed, function, called, method, paren, binary, unary, name_target, index_target}
 use Rattle.lua_meaning.specs.Constructors.{table_constructor}
-use Rattle.lua_meaning.specs.Statements.{in_order, do_block, assign, local, local_function, call_statement, conditional, return, break}
+use Rattle.lua_meaning.specs.Statements.{in_order, at_end, do_block, assign, local, local_function, call_statement, conditional, return, break}
 use Rattle.lua_meaning.specs.Loops.{while_loop, repeat_loop, counting_loop, generic_loop}
-
-abbrev pub on_line : ℕ → ExprKind → Expr
-on_line line kind = record { line = line; kind = kind }
 
 -- EXPRESSIONS
 abbrev mutual
-  pub expression : ℕ → ExprKind → Expression
-  expression line Nil = constant NilValue
-  expression line True = constant (Truth true)
-  expression line False = constant (Truth false)
-  expression line (Number z) = constant (NumberValue z)
-  expression line (Text t) = constant (TextValue t)
-  expression line Dots = dots
-  expression line (Function f) = function f
-  expression line (Name x) = name x line
-  expression line (Index' p l of q k key) = indexed (expression l of) (expression k key) line
-  expression line (CallOf p l f n args) = called (expression l f) (expressions args) line
-  expression line (Method' p l of x n args) = method (expression l of) x (expressions args) line
-  expression line (Table' n fields) = table_constructor (fields_of fields) line
-  expression line (Binary' o p l a q k b) = binary o (expression l a) (expression k b) line
-  expression line (Unary' o p l a) = unary o (expression l a) line
-  expression line (Paren' p l a) = paren (expression l a)
+  pub expression : Exp → Expression
+  expression (NilE line) = constant Nil
+  expression (TrueE line) = constant (Truth true)
+  expression (FalseE line) = constant (Truth false)
+  expression (NumberE line z) = constant (Number z)
+  expression (TextE line t) = constant (Text t)
+  expression (DotsE line) = dots
+  expression (FunctionE line f) = function f
+  expression (NameE line x) = name x line
+  expression (IndexE line of key) = indexed (expression of) (expression key) line
+  expression (CallE line f args) = called (expression f) (expressions args) line
+  expression (MethodE line of x args) = method (expression of) x (expressions args) line
+  expression (TableE line fields) = table_constructor (fields_of fields) line
+  expression (BinaryE line o a b) = binary o (expression a) (expression b) line
+  expression (UnaryE line o a) = unary o (expression a) line
+  expression (ParenE line a) = paren (expression a)
 
-  pub expressions : {m : _} → Row_of-Expr m → List Expression
-  expressions end_of-Expr = []
-  expressions (more_of-Expr l e more) = expression l e ∷ expressions more
+  pub expressions : Exps → List Expression
+  expressions NoExp = []
+  expressions (MoreExp e more) = expression e ∷ expressions more
 
-  pub fields_of : {m : _} → Row_of-Field m → List FieldMeaning
-  fields_of end_of-Field = []
-  fields_of (more_of-Field f more) = field f ∷ fields_of more
-
-  pub field : Field → FieldMeaning
-  field (Item' l e) = ItemOf (expression l e)
-  field (Pair' k key l e) = PairOf (expression k key) (expression l e)
+  pub fields_of : Fields → List FieldMeaning
+  fields_of NoField = []
+  fields_of (Item e more) = ItemOf (expression e) ∷ fields_of more
+  fields_of (Pair key e more) = PairOf (expression key) (expression e) ∷ fields_of more
 
 -- TARGETS: a target is a name or an index
-abbrev pub target : ℕ → ExprKind → Targeted
-target line (Name x) env = give (name_target (cell_of env.names x) x (levels env line))
-target line (Index' p l of q k key) env = index_target (expression l of) (expression k key) line env
-target line _ env = give NoTarget
+abbrev pub target : Exp → Targeted
+target (NameE line x) env = give (name_target (cell_of env.names x) x (levels env line))
+target (IndexE line of key) env = index_target (expression of) (expression key) line env
+target _ env = give NoTarget
 
-abbrev pub targets_of : {m : _} → Row_of-Expr m → List Targeted
-targets_of end_of-Expr = []
-targets_of (more_of-Expr l e more) = target l e ∷ targets_of more
+abbrev pub targets_of : Exps → List Targeted
+targets_of NoExp = []
+targets_of (MoreExp e more) = target e ∷ targets_of more
 
 -- STATEMENTS
 abbrev mutual
-  pub statement : ℕ → StatKind → Statement
-  statement line (Assign' n left m right) = assign (targets_of left) (expressions right)
-  statement line (Call' l e) = call_statement (expression l e)
-  statement line (Do b) = do_block (block b)
-  statement line (While' l e b) = while_loop (on_line l e, expression l e) (b, block b)
-  statement line (Repeat' b l e) = repeat_loop (b, block b) (on_line l e, expression l e)
-  statement line (If' n arms other) = conditional (branches_of arms) (else_of other)
-  statement line (Count' x l from k to by b) = counting_loop x (expression l from) (expression k to) (step_of by) (b, block b) line
-  statement line (Each' names n right b) = generic_loop names (expressions right) (b, block b) line
-  statement line (LocalFunction x f) = local_function x f
-  statement line (Local' names n right) = local names (expressions right)
-  statement line (Return' n right) = return (expressions right)
-  statement line Break = break
+  pub statement : Stat → Statement
+  statement (AssignS line left right) = assign (targets_of left) (expressions right)
+  statement (CallS line e) = call_statement (expression e)
+  statement (DoS line b) = do_block (block b)
+  statement (WhileS line test b) = while_loop (test, expression test) (b, block b)
+  statement (RepeatS line b test) = repeat_loop (b, block b) (test, expression test)
+  statement (IfS line arms) = conditional (branches_of arms) None
+  statement (IfElseS line arms other) = conditional (branches_of arms) (Some (block other))
+  statement (CountS line x from to b) = counting_loop x (expression from) (expression to) None (b, block b) line
+  statement (CountByS line x from to by b) = counting_loop x (expression from) (expression to) (Some (expression by)) (b, block b) line
+  statement (EachS line names right b) = generic_loop names (expressions right) (b, block b) line
+  statement (LocalFunctionS line x f) = local_function x f
+  statement (LocalS line names right) = local names (expressions right)
+  statement (ReturnS line right) = return (expressions right)
+  statement (BreakS line) = break
 
   pub block : Block → Statement
-  block (Block' n stats) = in_order (statements stats)
+  block NoStat = at_end
+  block (MoreStat s more) = in_order (statement s) (block more)
 
-  pub statements : {m : _} → Row_of-Stat m → List Statement
-  statements end_of-Stat = []
-  statements (more_of-Stat l s more) = statement l s ∷ statements more
-
-  pub branches_of : {m : _} → Row_of-Arm m → List Branch
-  branches_of end_of-Arm = []
-  branches_of (more_of-Arm a more) = branch a ∷ branches_of more
-
-  pub branch : Arm → Branch
-  branch (Arm' l test b) = record { test = expression l test; body = block b }
-
-  pub else_of : Held-StatKind-If-1 → Option Statement
-  else_of NoElse = None
-  else_of (Else b) = Some (block b)
-
-  pub step_of : Held-StatKind-Count-3 → Option Expression
-  step_of NoStep = None
-  step_of (Step l e) = Some (expression l e)
+  pub branches_of : Arms → List Branch
+  branches_of NoArm = []
+  branches_of (Arm test b more) = record { test = expression test; body = block b } ∷ branches_of more
 
 -- FUNCTIONS: their parameters, whether these end with `...`, and their bodies
-abbrev pub params_of : FunctionNode → List Bytes
-params_of (Function' params vararg b) = params
+abbrev pub params_of : Fun → List Bytes
+params_of (Lambda params vararg b) = params
 
-abbrev pub has_dots : FunctionNode → Bool
-has_dots (Function' params vararg b) = vararg
+abbrev pub has_dots : Fun → Bool
+has_dots (Lambda params vararg b) = vararg
 
-abbrev pub body_of : FunctionNode → Statement
-body_of (Function' params vararg b) = block b
+abbrev pub body_of : Fun → Statement
+body_of (Lambda params vararg b) = block b
 
 -- a part of the tree beside its meaning
-abbrev pub expr_part : Expr → ExprPart
-expr_part e = (e, expression e.line e.kind)
+abbrev pub exp_part : Exp → ExpPart
+exp_part e = (e, expression e)
 
 abbrev pub block_part : Block → BlockPart
 block_part b = (b, block b)

@@ -1,7 +1,7 @@
 -- WHAT EACH THING MEANS that begins. A function entered, and a turn of a loop, are counted like the nodes of the tree.
 use Rattle.std.specs.Prelude.{ℕ, List, [], length, drop, if◌then◌else◌}
 use Rattle.page_run.specs.Outcome.{Outcome, Goes, Jumps, ◌>>=◌, ◌>>◌, give, jump, catch, count, in_call}
-use Rattle.lua_syntax.specs.declared.Block.{Block}
+use Rattle.lua_syntax.specs.Tree.{Block}
 use Rattle.lua_heap.specs.Value.{Value}
 use Rattle.lua_heap.specs.Library.{library_at}
 use Rattle.lua_meaning.specs.World.{World}
@@ -10,7 +10,7 @@ use Rattle.lua_meaning.specs.Acts.{Act, Jump, Returned, Thing, WhileTurn, Repeat
 use Rattle.lua_meaning.specs.Calls.{call}
 use Rattle.lua_meaning.specs.Index.{index_link, set_link}
 use Rattle.lua_meaning.specs.Loops.{while_turn, repeat_turn, count_turn, each_turn}
-use Rattle.lua_meaning.specs.Meaning.{params_of, has_dots, body_of, block, expr_part, block_part}
+use Rattle.lua_meaning.specs.Meaning.{params_of, has_dots, body_of, block, exp_part, block_part}
 use Rattle.lua_meaning.specs.Libraries.{library_of}
 
 -- FUNCTIONS (manual 2.5.9). The arguments beyond the parameters are the values of `...`, if the function has it.
@@ -47,8 +47,8 @@ chunk_body source b = in_call (do
   catch (block b (chunk_env source)) after_body)
 
 abbrev pub meant : World → Thing → Act (List Value)
-meant world (WhileTurn test body env) = while_turn (expr_part test) (block_part body) env
-meant world (RepeatTurn body test env) = repeat_turn (block_part body) (expr_part test) env
+meant world (WhileTurn test body env) = while_turn (exp_part test) (block_part body) env
+meant world (RepeatTurn body test env) = repeat_turn (block_part body) (exp_part test) env
 meant world (CountTurn name index limit step body env) = count_turn name index limit step (block_part body) env
 meant world (EachTurn names f state results body line env) = each_turn names f state results (block_part body) line env
 meant world (Body f args callers) = body f args callers

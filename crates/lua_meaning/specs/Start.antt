@@ -3,8 +3,8 @@ use Rattle.std.specs.Prelude.{ℕ, ◌+◌, List, [], ◌∷◌, ◌++◌, lengt
 use Rattle.wk_base.specs.declared.title.Title.{Title}
 use Rattle.wk_base.specs.declared.left.Left.{Left}
 use Rattle.wk_base.specs.Titles.{title_text}
-use Rattle.lua_syntax.specs.declared.Chunk.{Chunk}
 use Rattle.lua_syntax.specs.declared.fault.FaultAt.{FaultAt}
+use Rattle.lua_syntax.specs.Tree.{Block}
 use Rattle.page_run.specs.Run.{Ends}
 use Rattle.page_run.specs.Outcome.{Outcome, Goes, Jumps, ◌>>=◌, ◌>>◌, give, tick, see, change, begin}
 use Rattle.page_run.specs.State.{Reply, Event, start}
@@ -46,8 +46,8 @@ abbrev pub fault_text : ℕ → Bytes
 fault_text kind = slice_index_or fault_texts (kind - 1) []
 
 -- THE TEXT OF A MODULE RUNS: it costs its length; a fault of its text is raised where it would begin
-abbrev pub begin_chunk : Title → Result Chunk FaultAt → Act (List Value)
-begin_chunk title (Ok c) = begin (ChunkBody (title_text title) c.body)
+abbrev pub begin_chunk : Title → Result Block FaultAt → Act (List Value)
+begin_chunk title (Ok b) = begin (ChunkBody (title_text title) b)
 begin_chunk title (Err fault) = raise (Text (place_text (record { source = title_text title; line = fault.line }) ++ fault_text fault.kind))
 
 abbrev pub run_chunk : Title → Option Module → Act (List Value)

@@ -1,7 +1,7 @@
 -- STATEMENTS (manual 2.4). Each begins with its node, and gives the environment of the statements after it: that of `local`
 -- has more names, every other one leaves it as it was. What stands in a block of its own is not seen after it.
 use Rattle.std.specs.Prelude.{List, [], ◌∷◌, ◌++◌, reverse, Option, Some, None}
-use Rattle.lua_syntax.specs.declared.Function.{Function as FunctionNode}
+use Rattle.lua_syntax.specs.Tree.{Fun}
 use Rattle.page_run.specs.Outcome.{◌>>=◌, ◌>>◌, give, jump, see}
 use Rattle.lua_heap.specs.Value.{Value, Nil, Text, Table, is_true}
 use Rattle.lua_meaning.specs.Environment.{Bytes, Env, with_name}
@@ -11,12 +11,15 @@ use Rattle.lua_meaning.specs.Index.{set_index}
 use Rattle.lua_meaning.specs.Expressions.{values, closure}
 use Rattle.lua_meaning.specs.Tree.{Expression, Targeted, Statement, Branch, Target, Local, Global, Entry, NoTarget}
 
--- BLOCKS (2.4.1): one after another, each in the environment that the one before gives
-abbrev pub in_order : List Statement → Statement
-in_order [] env = give env
-in_order (s ∷ more) env = do
+-- BLOCKS (2.4.1): a statement, and those that follow it in the environment that it gives
+abbrev pub in_order : Statement → Statement → Statement
+in_order s more env = do
   after ← s env
-  in_order more after
+  more after
+
+-- where a block ends
+abbrev pub at_end : Statement
+at_end env = give env
 
 -- a block, with what it declares forgotten
 abbrev pub within : Statement → Statement
@@ -69,7 +72,7 @@ local names right env = do
   declare names vs env
 
 -- the name of a local function is seen in its body (2.5.9)
-abbrev pub local_function : Bytes → FunctionNode → Statement
+abbrev pub local_function : Bytes → Fun → Statement
 local_function name f env = do
   node
   cell ← make_cell Nil

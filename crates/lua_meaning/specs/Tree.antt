@@ -1,7 +1,6 @@
 -- WHAT PARTS OF THE TREE MEAN: the kinds of their meanings (manual 2.3 to 2.5).
 use Rattle.std.specs.Prelude.{ℕ, List}
-use Rattle.lua_syntax.specs.declared.Block.{Block}
-use Rattle.lua_syntax.specs.declared.Expr.{Expr}
+use Rattle.lua_syntax.specs.Tree.{Exp, Block}
 use Rattle.lua_heap.specs.Value.{Value}
 use Rattle.lua_meaning.specs.Environment.{Bytes, Env, Levels}
 use Rattle.lua_meaning.specs.Acts.{Act}
@@ -36,8 +35,8 @@ pub record Branch : Type 0 where
   pub body : Statement
 
 -- A part of the tree beside its meaning, for loops, whose next turn names the part.
-abbrev pub ExprPart : Type 0
-ExprPart = Expr × Expression
+abbrev pub ExpPart : Type 0
+ExpPart = Exp × Expression
 
 abbrev pub BlockPart : Type 0
 BlockPart = Block × Statement

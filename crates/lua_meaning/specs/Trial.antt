@@ -6,7 +6,7 @@ use Rattle.wk_base.specs.declared.left.Left.{Left}
 use Rattle.page_run.specs.declared.which.Which.{Which}
 use Rattle.page_run.specs.Outcome.{Outcome, Goes, Jumps}
 use Rattle.page_run.specs.State.{Event, Ended, Spent, moment_of}
-use Rattle.lua_syntax.specs.declared.Block.{Block}
+use Rattle.lua_syntax.specs.Tree.{Block}
 use Rattle.lua_heap.specs.Value.{Value, Text, Table}
 use Rattle.lua_meaning.specs.Environment.{Bytes}
 use Rattle.lua_meaning.specs.Questions.{Arg, Scene, Job, Ask}
@@ -30,7 +30,7 @@ abbrev pub job : Bytes → List Arg → Job
 job name args = record { module_ = module_title name; function = codes "f"; scene = scene (module_title name) args; parent = scene page [] }
 
 abbrev pub one_module : ℕ → Block → Modules
-one_module size body title = Some (record { size = size; chunk = Ok (record { body = body }) })
+one_module size body title = Some (record { size = size; chunk = Ok body })
 
 -- a text that is no chunk, with the number of its fault and the line
 abbrev pub no_chunk : ℕ → ℕ → ℕ → Modules

@@ -1,6 +1,5 @@
 //! Worked examples: small modules, and what comes of their function `f`. The files `specs/Example*.antt` have them, with
-//! their texts; `g` is the allocator of the tree's boxes. Where Lua 5.1 does the same, the results are those of Lua 5.1.
-ghost use Rattle.std.specs.declared.alloc.Global.{Global};
+//! their texts and trees. Where Lua 5.1 does the same, the results are those of Lua 5.1.
 ghost use Rattle.lua_meaning.specs.ExampleCharges.{AllCharges};
 ghost use Rattle.lua_meaning.specs.ExampleCosts.{AllCosts};
 ghost use Rattle.lua_meaning.specs.ExampleValues.{AllValues};
@@ -9,25 +8,25 @@ ghost use Rattle.lua_meaning.specs.ExampleFunctions.{AllFunctions};
 
 /// Charges of whole runs, worked out by hand, and how runs end.
 pub fn charges()
-    ensures { (g : Global) → AllCharges g }
+    ensures { AllCharges }
 {}
 
 /// Single charges, worked out by hand.
 pub fn costs()
-    ensures { (g : Global) → AllCosts g }
+    ensures { AllCosts }
 {}
 
 /// Values, lists and operators.
 pub fn values()
-    ensures { (g : Global) → AllValues g }
+    ensures { AllValues }
 {}
 
 /// Statements, loops and constructors.
 pub fn statements()
-    ensures { (g : Global) → AllStatements g }
+    ensures { AllStatements }
 {}
 
 /// Functions, errors and handlers.
 pub fn functions()
-    ensures { (g : Global) → AllFunctions g }
+    ensures { AllFunctions }
 {}

@@ -13,7 +13,7 @@
 //! - `Arguments`, `Basic`, `Protocol`, `Libraries`: functions of the library
 //! - `Frames`, `Home`, `Start`: the frame, the fresh environment, and a whole run from its start to its end
 //! - `Laws`, and the worked examples `ExampleCharges`, `ExampleValues`, `ExampleStatements`, `ExampleFunctions`, which are
-//!   written with `Trees` and `Trial`
+//!   written with `Trial`
 //!
 //! In a `do` block each line is one step: `x ← part` names the value that a part gives. Where a part jumps (an error, a
 //! `return`, a `break`), the lines after it are passed over, up to what catches the jump.
