@@ -16,6 +16,7 @@ pub mod conditions;
 pub mod ends;
 pub mod exprs;
 pub mod functions;
+pub mod laws;
 pub mod locals;
 pub mod loops;
 pub mod make;

@@ -1,0 +1,5 @@
+use Rattle.lua_parser.proofs.laws.spelled_once.Goals as goal
+use Rattle.lua_parser.proofs.SpelledRest.{alike}
+
+pub returns : goal.returns
+returns c = ?
