@@ -99,7 +99,7 @@ climbed ts w l le7 ends (suc d) e m fuel lt sides x y b c j k f g o p o9 p9 dx s
     go (inr u) (inr v) again = further (op_of ts w b l x j f o e m lt o9 u) (op_of ts w c l y k g p e m lt p9 v) again
 
 -- An expression, where its first operand is unique.
-pub exp_once : (ts : List Token) (w : Around) (l i : ℕ) → l ≤ 7 → EndsText ts → i < length ts → Unique 1 Exp ts (operand_lang ts w) nothing i → RightSides ts w (suc i) → Unique 1 Exp ts (exp_lang ts w l) (goes_on l) i
+pub exp_once : (ts : List Token) (w : Around) (l i : ℕ) → l ≤ 7 → EndsText ts → i < length ts → Unique 1 Exp ts (operand_lang ts w) nothing i → RightSides ts w (i + 1) → Unique 1 Exp ts (exp_lang ts w l) (goes_on l) i
 exp_once ts w l i le7 ends lt operand sides = record { same = λ x y b c j k dx sx dy sy. go x y b c j k sx sy (first ts w (length ts) 6 b l x i j (omega (arith, le7)) dx) (first ts w (length ts) 6 c l y i k (omega (arith, le7)) dy) }
   where
     go : (x y : Exp) (b c j k : ℕ) → Stops ts (goes_on l) (length ts) j → Stops ts (goes_on l) (length ts) k → First ts w (length ts) 6 b l x i j → First ts w (length ts) 6 c l y i k → (x ≡ y) × (j ≡ k) × (1 + i ≤ j) × (j < length ts)
@@ -160,7 +160,7 @@ chained ts w (suc d) e m fuel lt more x y b c j k f g dx sx dy sy =
     go (inr u) (inr v) again = further (on_of ts w b x j f e m u) (on_of ts w c y k g e m v) again
 
 -- A prefix expression, where its left end is unique.
-pub prefix_once : (ts : List Token) (w : Around) (i : ℕ) → Unique 1 Exp ts (primary_lang ts w) nothing i → Suffixes ts w (suc i) → Unique 1 Exp ts (prefix_lang ts w) suffix_goes i
+pub prefix_once : (ts : List Token) (w : Around) (i : ℕ) → Unique 1 Exp ts (primary_lang ts w) nothing i → Suffixes ts w (i + 1) → Unique 1 Exp ts (prefix_lang ts w) suffix_goes i
 prefix_once ts w i primary more = record { same = λ x y b c j k dx sx dy sy. go x y b c j k sx sy (root_of ts w (length ts) 6 b x i j dx.0 dx.1) (root_of ts w (length ts) 6 c y i k dy.0 dy.1) }
   where
     go : (x y : Exp) (b c j k : ℕ) → Stops ts suffix_goes (length ts) j → Stops ts suffix_goes (length ts) k → Root ts w (length ts) 6 b x i j → Root ts w (length ts) 6 c y i k → (x ≡ y) × (j ≡ k) × (1 + i ≤ j) × (j < length ts)

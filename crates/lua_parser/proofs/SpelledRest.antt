@@ -39,11 +39,14 @@ pub record Unique (d : ℕ) (X : Type 0) (ts : List Token) (L : X → Lang) (goe
 pub relax : {X : Type 0} {ts : List Token} {L : X → Lang} {goes : Sort → Bool} {i : ℕ} → Unique 1 X ts L goes i → Unique 0 X ts L goes i
 relax {X} {ts} {L} {goes} {i} u = record { same = λ x y b c j k dx sx dy sy. let o = u.same x y b c j k dx sx dy sy in (o.0, o.1, omega (arith, o.2), o.3) }
 
+-- Two sorts that a test tells apart.
+pub other : (f : Sort → Bool) (s w : Sort) → f s ≡ false → f w ≡ true → s ≢ w
+other f s w no' yes' e = true≢false (sym yes' ∙ ap f (sym e) ∙ no')
+
 -- Only one of two ways is open from place p on.
-abbrev pub Apart : {S : Type 0} → List Token → (Sort → Bool) → ℕ → Rest S → Rest S → Type 0
-Apart {S} ts goes p r s =
-    (m : ℕ) → p ≤ m → m < length ts → (x y : S) (b c j k : ℕ) → Reads ts r x b (length ts) 6 m j → Stops ts goes (length ts) j →
-    Reads ts s y c (length ts) 6 m k → Stops ts goes (length ts) k → ⊥
+pub record Apart (S : Type 0) (ts : List Token) (goes : Sort → Bool) (p : ℕ) (r s : Rest S) : Type 0 where
+  pub shut : (m : ℕ) → p ≤ m → m < length ts → (x y : S) (b c j k : ℕ) → Reads ts r x b (length ts) 6 m j → Stops ts goes (length ts) j →
+      Reads ts s y c (length ts) 6 m k → Stops ts goes (length ts) k → ⊥
 
 -- Each piece of what is left is unique from place p on.
 abbrev pub Sound : {S : Type 0} → List Token → (Sort → Bool) → ℕ → Rest S → Type 0
@@ -54,7 +57,7 @@ Sound ts goes p (Here X K r) =
     (stop : Sort → Bool) × ((m : ℕ) → p ≤ m → m < length ts → Unique 0 X ts K.lang stop m) × ((x : X) → Follows ts goes stop (r x)) × ((x : X) → Sound ts goes p (r x))
 Sound ts goes p (Under X K r) =
     (stop : Sort → Bool) × ((m : ℕ) → p ≤ m → m < length ts → Unique 0 X ts K.lang stop m) × ((x : X) → Follows ts goes stop (r x)) × ((x : X) → Sound ts goes p (r x))
-Sound ts goes p (Either r s) = Apart ts goes p r s × Sound ts goes p r × Sound ts goes p s
+Sound {S} ts goes p (Either r s) = Apart S ts goes p r s × Sound ts goes p r × Sound ts goes p s
 
 -- Then what is left is unique.
 pub alike : {S : Type 0} (ts : List Token) (goes : Sort → Bool) (p : ℕ) (r : Rest S) → EndsText ts → Sound ts goes p r → (m : ℕ) → p ≤ m → m < length ts → (x y : S) (b c j k : ℕ) →
@@ -84,20 +87,22 @@ alike ts goes p (Under X K r) ends sound m lo lt x y b c j k dx sx dy sy =
     let z = alike ts goes p (r dx.0) ends (sound.3 dx.0) dx.1 (omega (arith, lo, o.2)) o.3 x y b c j k dx.3 sx (subst (λ (v : ℕ). Reads ts (r dx.0) y c (length ts) 6 v k) (sym o.1) right) sy in
     (z.0, z.1, omega (arith, o.2, z.2), z.3)
 alike ts goes p (Either r s) ends sound m lo lt x y b c j k (inl dx) sx (inl dy) sy = alike ts goes p r ends sound.1 m lo lt x y b c j k dx sx dy sy
-alike ts goes p (Either r s) ends sound m lo lt x y b c j k (inl dx) sx (inr dy) sy = absurd (sound.0 m lo lt x y b c j k dx sx dy sy)
-alike ts goes p (Either r s) ends sound m lo lt x y b c j k (inr dx) sx (inl dy) sy = absurd (sound.0 m lo lt y x c b k j dy sy dx sx)
+alike ts goes p (Either r s) ends sound m lo lt x y b c j k (inl dx) sx (inr dy) sy = absurd (sound.0.shut m lo lt x y b c j k dx sx dy sy)
+alike ts goes p (Either r s) ends sound m lo lt x y b c j k (inr dx) sx (inl dy) sy = absurd (sound.0.shut m lo lt y x c b k j dy sy dx sx)
 alike ts goes p (Either r s) ends sound m lo lt x y b c j k (inr dx) sx (inr dy) sy = alike ts goes p s ends sound.2 m lo lt x y b c j k dx sx dy sy
 
 -- ---- two ways
 
-pub words_apart : {S : Type 0} (ts : List Token) (goes : Sort → Bool) (p : ℕ) (w v : Sort) (r s : Rest S) → w ≢ v → Apart ts goes p (Word w r) (Word v s)
-words_apart ts goes p w v r s ne m lo lt x y b c j k dx sx dy sy = ne (sym (dx.1.0 lt) ∙ dy.1.0 lt)
+pub words_apart : {S : Type 0} {ts : List Token} {goes : Sort → Bool} {p : ℕ} {w v : Sort} {r s : Rest S} → w ≢ v → Apart S ts goes p (Word w r) (Word v s)
+words_apart ne = record { shut = λ m lo lt x y b c j k dx sx dy sy. ne (sym (dx.1.0 lt) ∙ dy.1.0 lt) }
 
 -- A word with which the tree would go on.
-pub done_apart : {S : Type 0} (ts : List Token) (goes : Sort → Bool) (p : ℕ) (e : S) (w : Sort) (s : Rest S) → goes w ≡ true → Apart ts goes p (Done e) (Word w s)
-done_apart ts goes p e w s h m lo lt x y b c j k dx sx dy sy =
-    let P : ℕ → Type 0 = λ v. v < length ts → goes (sort_at ts v) ≡ false in
-    true≢false (sym h ∙ ap goes (sym (dy.1.0 lt)) ∙ subst P (sym dx.1) sx lt)
+pub done_apart : {S : Type 0} {ts : List Token} {goes : Sort → Bool} {p : ℕ} {e : S} {w : Sort} {s : Rest S} → goes w ≡ true → Apart S ts goes p (Done e) (Word w s)
+done_apart {S} {ts} {goes} {p} {e} {w} {s} h = record {
+  shut = λ m lo lt x y b c j k dx sx dy sy.
+      let P : ℕ → Type 0 = λ v. v < length ts → goes (sort_at ts v) ≡ false in
+      true≢false (sym h ∙ ap goes (sym (dy.1.0 lt)) ∙ subst P (sym dx.1) sx lt);
+}
 
 -- ---- whole trees
 
@@ -109,9 +114,17 @@ from_left {S} {ts} {L} {goes} {i} {m} {h} {r} ends left lt grows sound = record 
       (z.0, z.1, omega (arith, grows, z.2), z.3);
 }
 
+pub from_reads : {S : Type 0} {ts : List Token} {L : S → Lang} {goes : Sort → Bool} {i m : ℕ} (r : Rest S) → EndsText ts → ((x : S) (b j : ℕ) → L x b (length ts) 6 i j → Reads ts r x b (length ts) 6 m j) → m < length ts → i < m → Sound ts goes m r →
+    Unique 1 S ts L goes i
+from_reads {S} {ts} {L} {goes} {i} {m} r ends reads lt grows sound = record {
+  same = λ x y b c j k dx sx dy sy.
+      let z = alike ts goes m r ends sound m (le_refl m) lt x y b c j k (reads x b j dx) sx (reads y c k dy) sy in
+      (z.0, z.1, omega (arith, grows, z.2), z.3);
+}
+
 -- A first piece that has a token, and what is left behind it.
 pub from_here : {S X : Type 0} {ts : List Token} {L : S → Lang} {goes : Sort → Bool} {i h : ℕ} {K : Kind X} {r : X → Rest S} (stop : Sort → Bool) → EndsText ts → Left S ts L goes i (Here X K r) i h → i < length ts →
-    Unique 1 X ts K.lang stop i → ((x : X) → Follows ts goes stop (r x)) → ((x : X) → Sound ts goes (suc i) (r x)) → Unique 1 S ts L goes i
+    Unique 1 X ts K.lang stop i → ((x : X) → Follows ts goes stop (r x)) → ((x : X) → Sound ts goes (i + 1) (r x)) → Unique 1 S ts L goes i
 unfolding Follows
 from_here {S} {X} {ts} {L} {goes} {i} {h} {K} {r} stop ends left lt first fol sound = record {
   same = λ x y b c j k dx sx dy sy.
@@ -119,12 +132,12 @@ from_here {S} {X} {ts} {L} {goes} {i} {h} {K} {r} stop ends left lt first fol so
       let d = (left.down y c (length ts) 6 k lt dy sy).0 in
       let o = first.same a.0 d.0 b c a.1 d.1 a.2 (fol a.0 x b (length ts) 6 a.1 j a.3 sx) d.2 (fol d.0 y c (length ts) 6 d.1 k d.3 sy) in
       let right = subst (λ (v : X). Reads ts (r v) y c (length ts) 6 d.1 k) (sym o.0) d.3 in
-      let z = alike ts goes (suc i) (r a.0) ends (sound a.0) a.1 (omega (arith, o.2)) o.3 x y b c j k a.3 sx (subst (λ (v : ℕ). Reads ts (r a.0) y c (length ts) 6 v k) (sym o.1) right) sy in
+      let z = alike ts goes (i + 1) (r a.0) ends (sound a.0) a.1 (omega (arith, o.2)) o.3 x y b c j k a.3 sx (subst (λ (v : ℕ). Reads ts (r a.0) y c (length ts) 6 v k) (sym o.1) right) sy in
       (z.0, z.1, omega (arith, o.2, z.2), z.3);
 }
 
 pub from_under : {S X : Type 0} {ts : List Token} {L : S → Lang} {goes : Sort → Bool} {i h : ℕ} {K : Kind X} {r : X → Rest S} (stop : Sort → Bool) → EndsText ts → Left S ts L goes i (Under X K r) i h → i < length ts →
-    Unique 1 X ts K.lang stop i → ((x : X) → Follows ts goes stop (r x)) → ((x : X) → Sound ts goes (suc i) (r x)) → Unique 1 S ts L goes i
+    Unique 1 X ts K.lang stop i → ((x : X) → Follows ts goes stop (r x)) → ((x : X) → Sound ts goes (i + 1) (r x)) → Unique 1 S ts L goes i
 unfolding Follows
 from_under {S} {X} {ts} {L} {goes} {i} {h} {K} {r} stop ends left lt first fol sound = record {
   same = λ x y b c j k dx sx dy sy.
@@ -132,18 +145,18 @@ from_under {S} {X} {ts} {L} {goes} {i} {h} {K} {r} stop ends left lt first fol s
       let d = (left.down y c (length ts) 6 k lt dy sy).0 in
       let o = first.same a.0 d.0 (suc b) (suc c) a.1 d.1 a.2 (fol a.0 x b (length ts) 6 a.1 j a.3 sx) d.2 (fol d.0 y c (length ts) 6 d.1 k d.3 sy) in
       let right = subst (λ (v : X). Reads ts (r v) y c (length ts) 6 d.1 k) (sym o.0) d.3 in
-      let z = alike ts goes (suc i) (r a.0) ends (sound a.0) a.1 (omega (arith, o.2)) o.3 x y b c j k a.3 sx (subst (λ (v : ℕ). Reads ts (r a.0) y c (length ts) 6 v k) (sym o.1) right) sy in
+      let z = alike ts goes (i + 1) (r a.0) ends (sound a.0) a.1 (omega (arith, o.2)) o.3 x y b c j k a.3 sx (subst (λ (v : ℕ). Reads ts (r a.0) y c (length ts) 6 v k) (sym o.1) right) sy in
       (z.0, z.1, omega (arith, o.2, z.2), z.3);
 }
 
 -- A first word, and what is left behind it.
-pub from_word : {S : Type 0} {ts : List Token} {L : S → Lang} {goes : Sort → Bool} {i h : ℕ} {w : Sort} {r : Rest S} → EndsText ts → Left S ts L goes i (Word w r) i h → i < length ts → inner w ≡ true → Sound ts goes (suc i) r → Unique 1 S ts L goes i
+pub from_word : {S : Type 0} {ts : List Token} {L : S → Lang} {goes : Sort → Bool} {i h : ℕ} {w : Sort} {r : Rest S} → EndsText ts → Left S ts L goes i (Word w r) i h → i < length ts → inner w ≡ true → Sound ts goes (i + 1) r → Unique 1 S ts L goes i
 from_word {S} {ts} {L} {goes} {i} {h} {w} {r} ends left lt more sound = record {
   same = λ x y b c j k dx sx dy sy.
       let a = (left.down x b (length ts) 6 j lt dx sx).0 in
       let d = (left.down y c (length ts) 6 k lt dy sy).0 in
       let inside = next_token ts i w ends lt (a.1.0 lt) more in
-      let z = alike ts goes (suc i) r ends sound (suc i) (le_refl (suc i)) (omega (arith, inside)) x y b c j k
+      let z = alike ts goes (i + 1) r ends sound (suc i) (omega arith) (omega (arith, inside)) x y b c j k
       (subst (λ (v : ℕ). Reads ts r x b (length ts) 6 v j) a.1.1 a.2) sx (subst (λ (v : ℕ). Reads ts r y c (length ts) 6 v k) d.1.1 d.2) sy in
       (z.0, z.1, omega (arith, z.2), z.3);
 }
