@@ -1,5 +1,6 @@
 use Rattle.lua_parser.proofs.laws.spelled_once.Goals as goal
-use Rattle.lua_parser.proofs.SpelledExps.{all_once}
+use Rattle.lua_parser.proofs.SpelledFields.{fields_once}
+use Rattle.lua_parser.proofs.SpelledBodies.{names_once}
 
 pub returns : goal.returns
 returns c = ?
