@@ -161,11 +161,11 @@ from_word {S} {ts} {L} {goes} {i} {h} {w} {r} ends left lt more sound = record {
       (z.0, z.1, omega (arith, z.2), z.3);
 }
 
--- Nothing is left.
-pub from_done : {S : Type 0} {ts : List Token} {L : S → Lang} {goes : Sort → Bool} {i h : ℕ} {e : S} → EndsText ts → Left S ts L goes i (Done e) i h → i < length ts → Unique 0 S ts L goes i
-from_done {S} {ts} {L} {goes} {i} {h} {e} ends left lt = record {
+-- What is left where nothing has been read, which may be nothing.
+pub from_start : {S : Type 0} {ts : List Token} {L : S → Lang} {goes : Sort → Bool} {i h : ℕ} {r : Rest S} (p : ℕ) → EndsText ts → Left S ts L goes i r i h → p ≤ i → i < length ts → Sound ts goes p r → Unique 0 S ts L goes i
+from_start {S} {ts} {L} {goes} {i} {h} {r} p ends left lo lt sound = record {
   same = λ x y b c j k dx sx dy sy.
-      let z = alike ts goes i (Done e) ends tt i (le_refl i) lt x y b c j k (left.down x b (length ts) 6 j lt dx sx).0 sx (left.down y c (length ts) 6 k lt dy sy).0 sy in
+      let z = alike ts goes p r ends sound i lo lt x y b c j k (left.down x b (length ts) 6 j lt dx sx).0 sx (left.down y c (length ts) 6 k lt dy sy).0 sy in
       (z.0, z.1, omega (arith, z.2), z.3);
 }
 
