@@ -21,18 +21,9 @@ use Rattle.lua_parser.proofs.Operands.{class, class_exp, operand_class, prefix_o
 use Rattle.lua_parser.proofs.Atoms.{unary_class, nil_starts, true_starts, false_starts, text_starts, unary_starts, table_starts, function_starts, closed_kind}
 use Rattle.lua_parser.proofs.Lists.{name_starts, paren_starts, no_primary, key_starts, no_key, exp_class, list_starts, open_rest, all_closed, no_args}
 use Rattle.lua_parser.proofs.StatBegins.{inner}
-use Rattle.lua_parser.proofs.SpelledRest.{EndsText, next_token, Unique, relax, other, Apart, done_apart, from_left, from_reads, from_here, from_under, Sure}
+use Rattle.lua_parser.proofs.SpelledRest.{EndsText, next_token, Unique, relax, other, Apart, done_apart, from_left, from_reads, from_here, from_under, from_token, Sure}
 
 -- ---- operands
-
--- A tree that its first token alone tells.
-one_token : {ts : List Token} {L : Exp → Lang} {i : ℕ} (e : Exp) → i + 1 < length ts → ((x : Exp) (b j : ℕ) → L x b (length ts) 6 i j → (x ≡ e) × (j ≡ suc i)) → Unique 1 Exp ts L nothing i
-one_token {ts} {L} {i} e inside is = record {
-  same = λ x y b c j k dx sx dy sy.
-      let u = is x b j dx in
-      let v = is y c k dy in
-      (u.0 ∙ sym v.0, u.1 ∙ sym v.1, omega (arith, u.1), omega (arith, u.1, inside));
-}
 
 dots_is : (ts : List Token) (w : Around) (i : ℕ) → i < length ts → sort_at ts i ≡ Dots → (x : Exp) (b j : ℕ) → operand_lang ts w x b (length ts) 6 i j → (x ≡ DotsE (tok_at ts i).line) × (j ≡ suc i)
 unfolding Spells
@@ -103,7 +94,7 @@ operand_once ts w i ends lt s prefix = go (sort_at ts i) refl
     go False e = from_left ends (false_starts ts w i e) (next False e refl) (omega arith) tt
     go Text e = from_left ends (text_starts ts w i e) (next Text e refl) (omega arith) tt
     go Number e = number_once ts w i ends lt e
-    go Dots e = one_token (DotsE (tok_at ts i).line) (next Dots e refl) (dots_is ts w i lt e)
+    go Dots e = from_token (DotsE (tok_at ts i).line) (next Dots e refl) (dots_is ts w i lt e)
     go Function e = from_left ends (function_starts ts w i e) (next Function e refl) (omega arith) (nothing, s.body false w, (λ x. follows_nothing ts nothing _), λ x. tt)
     go LeftBrace e = from_left ends (table_starts ts w i e) (next LeftBrace e refl) (omega arith) (fields_goes, s.fields w, (λ x. follows_word ts nothing fields_goes RightBrace _ refl), λ x. (refl, tt))
     go Not e = unary_once ts w i NotOp ends (next Not e refl) e s

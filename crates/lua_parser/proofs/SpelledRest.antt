@@ -169,6 +169,15 @@ from_start {S} {ts} {L} {goes} {i} {h} {r} p ends left lo lt sound = record {
       (z.0, z.1, omega (arith, z.2), z.3);
 }
 
+-- A tree that its first token alone tells.
+pub from_token : {X : Type 0} {ts : List Token} {L : X → Lang} {goes : Sort → Bool} {i : ℕ} (e : X) → i + 1 < length ts → ((x : X) (b j : ℕ) → L x b (length ts) 6 i j → (x ≡ e) × (j ≡ suc i)) → Unique 1 X ts L goes i
+from_token {X} {ts} {L} {goes} {i} e inside is = record {
+  same = λ x y b c j k dx sx dy sy.
+      let u = is x b j dx in
+      let v = is y c k dy in
+      (u.0 ∙ sym v.0, u.1 ∙ sym v.1, omega (arith, u.1), omega (arith, u.1, inside));
+}
+
 -- ---- all kinds of trees
 
 -- From place p on each kind of tree is unique.
