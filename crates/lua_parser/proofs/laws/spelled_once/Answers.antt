@@ -1,7 +1,5 @@
 use Rattle.lua_parser.proofs.laws.spelled_once.Goals as goal
-use Rattle.lua_parser.proofs.SpelledFields.{fields_once}
-use Rattle.lua_parser.proofs.SpelledBodies.{names_once}
-use Rattle.lua_parser.proofs.SpelledStats.{stat_once}
+use Rattle.lua_parser.proofs.SpelledOnce.{spelled_once}
 
 pub returns : goal.returns
-returns c = ?
+returns c = spelled_once
