@@ -1,15 +1,14 @@
 -- Blocks and the arms of `if` are unique.
-use Rattle.std.proofs.Common.{◌≡◌, ℕ, suc, [], ◌+◌, ◌<◌, ◌≤◌, ◌⊎◌, Bool, true, false, List, length, refl, sym, ap, subst, ◌∙◌, inl, inr, arith, true≢false}
+use Rattle.std.proofs.Common.{◌≡◌, ℕ, [], ◌+◌, ◌<◌, Bool, true, false, List, length, refl, sym, ◌∙◌, arith, true≢false}
 use Rattle.lua_lexer.specs.declared.token.Token.{Token}
 use Rattle.lua_grammar.specs.declared.Sort.{Sort}
-use Rattle.lua_grammar.specs.declared.Sort.TheVariants.{Elseif, Semicolon, Then}
+use Rattle.lua_grammar.specs.declared.Sort.TheVariants.{Semicolon, Then}
 use Rattle.lua_grammar.specs.declared.Around.{Around}
-use Rattle.lua_grammar.specs.Tokens.{sort_at, tok_at}
+use Rattle.lua_grammar.specs.Tokens.{sort_at}
 use Rattle.lua_syntax.specs.Tree.{Exp, Block, Arms, Stat, NoStat, MoreStat}
-use Rattle.lua_grammar.specs.Grammar.{given_of, SpellsBlock}
-use Rattle.lua_parser.specs.Parsing.{Stops, high, exp_lang, block_lang, arms_lang, stat_lang, goes_on, block_goes, arms_goes, goes_after}
-use Rattle.lua_parser.proofs.Steps.{Rest, Done, Word, Here, Either, Reads, Left, Follows, follows_word, follows_done}
-use Rattle.lua_parser.proofs.PieceKinds.{block_kind, arms_kind}
+use Rattle.lua_grammar.specs.Grammar.{SpellsBlock}
+use Rattle.lua_parser.specs.Parsing.{high, exp_lang, block_lang, arms_lang, stat_lang, goes_on, block_goes, arms_goes, goes_after}
+use Rattle.lua_parser.proofs.Steps.{Word, follows_word, follows_done}
 use Rattle.lua_parser.proofs.StatBegins.{stat_begins}
 use Rattle.lua_parser.proofs.BlockSteps.{stat_word, ends_with, behind_stat, stat_end, stat_follows, behind_closed, block_start, stat_split}
 use Rattle.lua_parser.proofs.ArmSteps.{arm_split, arms_start, arm_follows}

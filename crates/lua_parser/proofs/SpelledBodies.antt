@@ -1,22 +1,21 @@
 -- Names, parameters, bodies of functions and the names of functions are unique.
-use Rattle.std.proofs.Common.{◌≡◌, ◌≢◌, ℕ, zero, suc, [], ◌∷◌, ◌+◌, ◌<◌, ◌≤◌, ◌⊎◌, Bool, true, false, List, length, refl, sym, ap, subst, ◌∙◌, inl, inr, le_trans, le_refl, arith, true≢false, add-one}
+use Rattle.std.proofs.Common.{◌≡◌, ◌≢◌, ℕ, zero, suc, [], ◌∷◌, ◌+◌, ◌<◌, ◌≤◌, ◌⊎◌, Bool, true, false, List, length, refl, sym, ap, subst, ◌∙◌, inl, inr, le_refl, arith, true≢false}
 use Rattle.lua_lexer.specs.declared.token.Token.{Token}
 use Rattle.lua_grammar.specs.declared.Sort.{Sort}
-use Rattle.lua_grammar.specs.declared.Sort.TheVariants.{Name, LeftParen, RightParen, Comma, Dots, Dot, Colon, End}
+use Rattle.lua_grammar.specs.declared.Sort.TheVariants.{Name, RightParen, Comma, Dots, Dot, Colon, End}
 use Rattle.lua_grammar.specs.declared.Around.{Around}
 use Rattle.lua_grammar.specs.Tokens.{sort_at, tok_at, bytes_of}
-use Rattle.lua_syntax.specs.Tree.{Exp, Fun, Block, NameE}
-use Rattle.lua_grammar.specs.Grammar.{given_of, in_function, SpellsPath}
-use Rattle.lua_parser.specs.Parsing.{Stops, high, nothing, names_goes, block_goes, block_lang}
+use Rattle.lua_syntax.specs.Tree.{Exp, Fun, NameE}
+use Rattle.lua_grammar.specs.Grammar.{in_function, SpellsPath}
+use Rattle.lua_parser.specs.Parsing.{Stops, nothing, names_goes, block_goes}
 use Rattle.lua_parser.specs.Answers.{Parameters, params_lang, params_goes, body_lang}
 use Rattle.lua_parser.specs.StatAnswers.{more_names_lang, Head, head_lang, head_goes}
-use Rattle.lua_parser.proofs.Steps.{Rest, Done, Word, Named, Here, Either, Reads, Left, Follows, word_step, named_step, first_way, second_way, Closed, word_closed, done_closed, follows_word, follows_done}
-use Rattle.lua_parser.proofs.PieceKinds.{params_kind, block_kind}
+use Rattle.lua_parser.proofs.Steps.{Rest, Done, Word, Named, Here, Either, Reads, Left, word_step, named_step, first_way, second_way, Closed, word_closed, done_closed, follows_word, follows_done}
 use Rattle.lua_parser.proofs.NameLists.{start, more_names_kind, names_split}
 use Rattle.lua_parser.proofs.BodyLemmas.{some_lang, some_kind, some_starts, with_name, params_begin, body_starts}
-use Rattle.lua_parser.proofs.PathSteps.{Suffix, Suffixes, Stands2, Root, outer, grow, path_down, method_down, suffix_is, dot_suffix}
+use Rattle.lua_parser.proofs.PathSteps.{Suffix, Suffixes, Stands2, Root, outer, grow, path_down, method_down, suffix_is}
 use Rattle.lua_parser.proofs.StatBegins.{inner}
-use Rattle.lua_parser.proofs.SpelledRest.{EndsText, next_token, Unique, relax, other, Apart, done_apart, from_left, from_here, from_word, from_start, Sure}
+use Rattle.lua_parser.proofs.SpelledRest.{EndsText, next_token, Unique, relax, other, done_apart, from_left, from_word, from_start, Sure}
 
 -- ---- names behind a comma
 
@@ -111,9 +110,12 @@ params_once ts p i ends s lo lt = go (sort_at ts i) refl
 
 pub body_once : (method : Bool) (ts : List Token) (w : Around) (i : ℕ) → EndsText ts → i < length ts → Sure ts (i + 1) → Unique 1 Fun ts (body_lang method ts w) nothing i
 body_once method ts w i ends lt s =
-    from_word ends (body_starts method ts w i) lt refl
-    (params_goes, (λ m lo l. params_once ts (i + 1) m ends s lo l), (λ p. follows_word ts nothing params_goes RightParen _ refl),
-    λ p. (refl, (block_goes, s.block (in_function p.1 w), (λ k. follows_word ts nothing block_goes End _ refl), λ k. (refl, tt))))
+    from_word ends (body_starts method ts w i) lt refl (
+      params_goes,
+      (λ m lo l. params_once ts (i + 1) m ends s lo l),
+      (λ p. follows_word ts nothing params_goes RightParen _ refl),
+      λ p. (refl, (block_goes, s.block (in_function p.1 w), (λ k. follows_word ts nothing block_goes End _ refl), λ k. (refl, tt))),
+    )
 
 -- ---- the names of functions
 

@@ -1,5 +1,5 @@
 -- Operands, suffixes, arguments and lists are unique where what they are made of is unique behind their first token.
-use Rattle.std.proofs.Common.{◌≡◌, ◌≢◌, ℕ, suc, pred, ◌+◌, ◌<◌, ◌≤◌, ◌⊎◌, Bool, true, false, List, length, refl, sym, ap, subst, ◌∙◌, inl, inr, le_trans, le_refl, arith, true≢false, add-one, Option, Some, None}
+use Rattle.std.proofs.Common.{◌≡◌, ◌≢◌, ℕ, suc, ◌+◌, ◌<◌, ◌≤◌, ◌⊎◌, Bool, true, false, List, length, refl, sym, ap, subst, ◌∙◌, inl, inr, le_refl, arith, true≢false, add-one, Some}
 use Rattle.std.specs.Prelude.{ℤ}
 use Rattle.lua_lexer.specs.declared.token.Token.{Token}
 use Rattle.lua_number.specs.Numerals.{read_numeral_of}
@@ -9,17 +9,17 @@ use Rattle.lua_grammar.specs.declared.Sort.{Sort}
 use Rattle.lua_grammar.specs.declared.Sort.TheVariants.{Name, Number, Text, Nil, True, False, Dots, Function, Not, Hash, Minus, LeftParen, RightParen, LeftBrace, RightBrace, LeftBracket, RightBracket, Colon, Comma, Dot}
 use Rattle.lua_grammar.specs.declared.Around.{Around}
 use Rattle.lua_grammar.specs.Tokens.{sort_at, tok_at, bytes_of}
-use Rattle.lua_syntax.specs.Tree.{Exp, Exps, Fields, Fun, NilE, TrueE, FalseE, NumberE, TextE, DotsE, FunctionE, NameE, IndexE, CallE, MethodE, TableE, BinaryE, UnaryE, ParenE, NoExp, MoreExp}
+use Rattle.lua_syntax.specs.Tree.{Exp, Exps, NumberE, TextE, DotsE, TableE, BinaryE, UnaryE, NoExp, MoreExp}
 use Rattle.lua_grammar.specs.Grammar.{given_of, ◌⨟◌, where', word, Spells, SpellsArgs, SpellsAll, IsPrefix, IsAlone, sign_of, suffix_goes}
-use Rattle.lua_parser.specs.Parsing.{Lang, Stops, high, exp_lang, prefix_lang, args_lang, all_lang, operand_lang, nothing, goes_on, exps_goes, fields_goes, IsOperand}
+use Rattle.lua_parser.specs.Parsing.{Stops, high, exp_lang, prefix_lang, args_lang, all_lang, operand_lang, nothing, goes_on, exps_goes, fields_goes, IsOperand}
 use Rattle.lua_parser.specs.Answers.{primary_lang, suffix_lang, name_lang}
-use Rattle.lua_parser.proofs.Steps.{Rest, Done, Word, Named, Here, Under, Either, Reads, Left, Follows, follows_word, follows_done, follows_either, follows_nothing}
-use Rattle.lua_parser.proofs.PieceKinds.{exp_kind, all_kind, args_kind, name_kind}
+use Rattle.lua_parser.proofs.Steps.{Done, Word, Here, Reads, follows_word, follows_done, follows_either, follows_nothing}
+use Rattle.lua_parser.proofs.PieceKinds.{all_kind}
 use Rattle.lua_parser.proofs.Climb.{no_suffix}
 use Rattle.lua_parser.proofs.Suffixes.{IsArgs, suffix_split, dot_starts, bracket_starts, colon_starts, call_starts}
-use Rattle.lua_parser.proofs.Operands.{class, class_exp, operand_class, prefix_of_class, to_ten}
+use Rattle.lua_parser.proofs.Operands.{class, operand_class, prefix_of_class, to_ten}
 use Rattle.lua_parser.proofs.Atoms.{unary_class, nil_starts, true_starts, false_starts, text_starts, unary_starts, table_starts, function_starts, closed_kind}
-use Rattle.lua_parser.proofs.Lists.{name_starts, paren_starts, no_primary, key_starts, no_key, exp_class, list_starts, open_rest, all_closed, no_args}
+use Rattle.lua_parser.proofs.Lists.{name_starts, paren_starts, no_primary, key_starts, no_key, exp_class, list_starts, open_rest, all_closed}
 use Rattle.lua_parser.proofs.StatBegins.{inner}
 use Rattle.lua_parser.proofs.SpelledRest.{EndsText, next_token, Unique, relax, other, Apart, done_apart, from_left, from_reads, from_here, from_under, from_token, Sure}
 

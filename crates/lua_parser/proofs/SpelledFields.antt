@@ -1,16 +1,16 @@
 -- Fields of table constructors are unique where expressions are.
-use Rattle.std.proofs.Common.{◌≡◌, ◌≢◌, ℕ, suc, ◌+◌, ◌<◌, ◌≤◌, ◌⊎◌, Bool, true, false, List, length, refl, sym, ap, subst, ◌∙◌, inl, inr, le_trans, le_refl, arith, true≢false, add-one}
+use Rattle.std.proofs.Common.{◌≡◌, ◌≢◌, ℕ, suc, ◌+◌, ◌<◌, ◌≤◌, Bool, true, false, List, length, refl, sym, ap, subst, ◌∙◌, inl, inr, arith, true≢false, add-one}
 use Rattle.lua_lexer.specs.declared.token.Token.{Token}
 use Rattle.lua_grammar.specs.declared.Sort.{Sort}
-use Rattle.lua_grammar.specs.declared.Sort.TheVariants.{Name, LeftBracket, RightBracket, RightBrace, Assign, Comma, Semicolon}
+use Rattle.lua_grammar.specs.declared.Sort.TheVariants.{Name, LeftBracket, RightBracket, RightBrace, Assign}
 use Rattle.lua_grammar.specs.declared.Around.{Around}
-use Rattle.lua_grammar.specs.Tokens.{sort_at, tok_at}
-use Rattle.lua_syntax.specs.Tree.{Exp, Fields, NameE, TextE, NoField, Item, Pair}
-use Rattle.lua_grammar.specs.Grammar.{given_of, Spells, SpellsFields}
+use Rattle.lua_grammar.specs.Tokens.{sort_at}
+use Rattle.lua_syntax.specs.Tree.{Exp, Fields, TextE, NoField, Item, Pair}
+use Rattle.lua_grammar.specs.Grammar.{SpellsFields}
 use Rattle.lua_parser.specs.Parsing.{Stops, high, exp_lang, fields_lang, nothing, goes_on, fields_goes}
 use Rattle.lua_parser.specs.Answers.{field_lang, field_goes, IsItem}
-use Rattle.lua_parser.proofs.Steps.{Rest, Done, Word, Here, Either, Reads, Follows, follows_word, follows_done, follows_nothing}
-use Rattle.lua_parser.proofs.PieceKinds.{exp_kind, fields_kind}
+use Rattle.lua_parser.proofs.Steps.{Rest, Done, Here, Either, Follows, follows_word, follows_done, follows_nothing}
+use Rattle.lua_parser.proofs.PieceKinds.{fields_kind}
 use Rattle.lua_parser.proofs.Operands.{class}
 use Rattle.lua_parser.proofs.Lists.{exp_class}
 use Rattle.lua_parser.proofs.FieldLemmas.{bracket_field_starts, key_field_starts, fields_start, separator_lang, separator_kind, join, IsSeparator}

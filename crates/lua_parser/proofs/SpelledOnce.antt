@@ -1,15 +1,14 @@
 -- A list of tokens, and so a text, spells one chunk at most.
-use Rattle.std.proofs.Common.{◌≡◌, ℕ, zero, suc, pred, ◌+◌, ◌<◌, ◌≤◌, ◌⊎◌, Bool, true, false, List, length, refl, sym, ap, subst, ◌∙◌, inl, inr, le_refl, arith, eq-or-lt_of_le}
+use Rattle.std.proofs.Common.{◌≡◌, ℕ, zero, suc, pred, ◌+◌, ◌<◌, ◌≤◌, ◌⊎◌, List, length, sym, ap, subst, inl, inr, le_refl, arith, eq-or-lt_of_le}
 use Rattle.lua_lexer.specs.declared.token.Token.{Token}
 use Rattle.lua_lexer.specs.Lexis.{Lexes}
 use Rattle.lua_lexer.proofs.Lists.{one_list}
-use Rattle.lua_grammar.specs.declared.Sort.{Sort}
 use Rattle.lua_grammar.specs.declared.Sort.TheVariants.{Eof}
 use Rattle.lua_grammar.specs.declared.Around.{Around}
-use Rattle.lua_grammar.specs.Tokens.{sort_at, tok_at}
-use Rattle.lua_syntax.specs.Tree.{Exp, Exps, Fields, Fun, Block, Arms, Stat}
+use Rattle.lua_grammar.specs.Tokens.{sort_at}
+use Rattle.lua_syntax.specs.Tree.{Exp, Exps, Fields, Fun, Block, Arms}
 use Rattle.lua_grammar.specs.Grammar.{given_of, suffix_goes, outside, SpellsChunk, IsChunk}
-use Rattle.lua_parser.specs.Parsing.{Lang, Stops, nothing, goes_on, exps_goes, names_goes, fields_goes, block_goes, arms_goes, goes_after, exp_lang, all_lang, args_lang, fields_lang, block_lang, arms_lang, stat_lang, prefix_lang, operand_lang}
+use Rattle.lua_parser.specs.Parsing.{Stops, nothing, goes_on, exps_goes, names_goes, fields_goes, block_goes, arms_goes, exp_lang, all_lang, args_lang, fields_lang, block_lang, arms_lang, prefix_lang, operand_lang}
 use Rattle.lua_parser.specs.Answers.{suffix_lang, body_lang, params_goes, Parameters}
 use Rattle.lua_parser.specs.StatAnswers.{more_names_lang}
 use Rattle.lua_parser.proofs.SimpleSteps.{more_vars_lang}
@@ -112,7 +111,7 @@ pub spelled_once : (ts : List Token) (b c : Block) → IsChunk ts b → IsChunk 
 unfolding IsChunk
 spelled_once ts b c x y = one_chunk ts b c (x 6) (y 6)
 
-pub spelled_once_by_text : (text : List ℕ) (ts us : List Token) (b c : Block) → Lexes text ts → Lexes text us → IsChunk ts b → IsChunk us c → b ≡ c
-spelled_once_by_text text ts us b c h k x y =
+pub text_spelled_once : (text : List ℕ) (ts us : List Token) (b c : Block) → Lexes text ts → Lexes text us → IsChunk ts b → IsChunk us c → b ≡ c
+text_spelled_once text ts us b c h k x y =
     let same : us ≡ ts = sym (one_list text h.0 k.0 0 1 ts us h.1 k.1) in
     spelled_once ts b c x (subst (λ (v : List Token). IsChunk v c) same y)

@@ -1,18 +1,17 @@
 -- Statements are unique where what they are made of is unique behind their first token.
-use Rattle.std.proofs.Common.{◌≡◌, ◌≢◌, ℕ, suc, [], ◌∷◌, ◌+◌, ◌<◌, ◌≤◌, ◌⊎◌, Bool, true, false, List, length, refl, sym, ap, subst, ◌∙◌, inl, inr, le_trans, le_refl, arith, true≢false, add-one}
+use Rattle.std.proofs.Common.{◌≡◌, ◌≢◌, ℕ, suc, ◌∷◌, ◌+◌, ◌<◌, ◌≤◌, Bool, true, false, List, length, refl, sym, ap, subst, ◌∙◌, inl, inr, le_refl, arith, true≢false}
 use Rattle.lua_lexer.specs.declared.token.Token.{Token}
 use Rattle.lua_grammar.specs.declared.Sort.{Sort}
-use Rattle.lua_grammar.specs.declared.Sort.TheVariants.{Name, Break, Do, Else, Elseif, End, For, Function, If, In, Local, Repeat, Return, Then, Until, While, Assign, Comma, LeftParen, Semicolon}
+use Rattle.lua_grammar.specs.declared.Sort.TheVariants.{Name, Break, Do, End, For, Function, If, In, Local, Repeat, Return, Until, While, Assign, Comma, LeftParen}
 use Rattle.lua_grammar.specs.declared.Around.{Around}
 use Rattle.lua_grammar.specs.Tokens.{sort_at, tok_at}
-use Rattle.lua_syntax.specs.Tree.{Exp, Exps, Fun, Block, Arms, Stat, NameE, IndexE, NoExp, MoreExp, NoStat, MoreStat, NoArm, IfS, CountS, CountByS, EachS, LocalS, ReturnS, BreakS}
-use Rattle.lua_grammar.specs.Grammar.{given_of, in_loop, Spells, MoreExps, SpellsBlock, SpellsStat, AreVars, suffix_goes}
-use Rattle.lua_parser.specs.Parsing.{Stops, high, exp_lang, prefix_lang, all_lang, block_lang, arms_lang, stat_lang, nothing, goes_on, exps_goes, names_goes, stat_goes, last_goes, block_goes, arms_goes, goes_after}
-use Rattle.lua_parser.specs.Answers.{body_lang}
-use Rattle.lua_parser.specs.StatAnswers.{Head, head_goes, Opening, do_lang}
-use Rattle.lua_parser.proofs.Steps.{Rest, Done, Word, Named, Here, Under, Either, Reads, Left, Follows, follows_word, follows_done, follows_either, follows_nothing}
-use Rattle.lua_parser.proofs.PieceKinds.{exp_kind, all_kind, block_kind, arms_kind}
-use Rattle.lua_parser.proofs.NameLists.{more_names_kind, do_kind, do_left, follows_do}
+use Rattle.lua_syntax.specs.Tree.{Exp, Exps, Fun, Block, Stat, NameE, IndexE, NoExp, MoreExp, CountS, CountByS, EachS, LocalS, ReturnS, BreakS}
+use Rattle.lua_grammar.specs.Grammar.{given_of, in_loop, MoreExps, SpellsStat, suffix_goes}
+use Rattle.lua_parser.specs.Parsing.{Stops, high, prefix_lang, stat_lang, nothing, goes_on, exps_goes, names_goes, stat_goes, last_goes, block_goes, arms_goes, goes_after}
+use Rattle.lua_parser.specs.StatAnswers.{head_goes, Opening, do_lang}
+use Rattle.lua_parser.proofs.Steps.{Rest, Done, Word, Named, Here, Under, Either, Reads, follows_word, follows_done, follows_either, follows_nothing}
+use Rattle.lua_parser.proofs.PieceKinds.{exp_kind, all_kind}
+use Rattle.lua_parser.proofs.NameLists.{more_names_kind, do_left, follows_do}
 use Rattle.lua_parser.proofs.StatBegins.{Starts, stat_begins, all_begins, var_prefix}
 use Rattle.lua_parser.proofs.StatSplit.{do_starts, while_starts, repeat_starts, return_starts, return_rest}
 use Rattle.lua_parser.proofs.StatForms.{local_starts, local_rest, for_starts, for_rest, count_rest, each_rest, loop_rest, last_rest, if_starts, if_rest}
@@ -23,7 +22,7 @@ use Rattle.lua_parser.proofs.ArmSteps.{if_follows}
 use Rattle.lua_parser.proofs.BlockSteps.{begins_stat, stat_starts}
 use Rattle.lua_parser.proofs.SimpleSteps.{Choice, simples, targets, chosen_lang, chosen_kind, relevel, prefix_ends, more_vars_lang, more_vars_kind, behind_simple, simple_starts}
 use Rattle.lua_parser.proofs.NamedSteps.{named_starts, named_rest, body_follows, deeper_lang}
-use Rattle.lua_parser.proofs.SpelledRest.{EndsText, next_token, Unique, relax, other, Apart, Sound, alike, words_apart, done_apart, from_left, from_here, from_under, from_word, from_token, Sure}
+use Rattle.lua_parser.proofs.SpelledRest.{EndsText, next_token, Unique, relax, Apart, Sound, alike, words_apart, done_apart, from_left, from_under, from_word, from_token, Sure}
 use Rattle.lua_parser.proofs.SpelledBodies.{head_once}
 
 -- ---- targets
