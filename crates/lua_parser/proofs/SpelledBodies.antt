@@ -15,7 +15,7 @@ use Rattle.lua_parser.proofs.NameLists.{start, more_names_kind, names_split}
 use Rattle.lua_parser.proofs.BodyLemmas.{some_lang, some_kind, some_starts, with_name, params_begin, body_starts}
 use Rattle.lua_parser.proofs.PathSteps.{Suffix, Suffixes, Stands2, Root, outer, grow, path_down, method_down, suffix_is}
 use Rattle.lua_parser.proofs.StatBegins.{inner}
-use Rattle.lua_parser.proofs.SpelledRest.{EndsText, next_token, Unique, relax, other, done_apart, from_left, from_word, from_start, Sure}
+use Rattle.lua_parser.proofs.SpelledRest.{EndsText, next_token, Unique, relax, other, is_name, done_apart, from_left, from_word, from_start, Sure}
 
 -- ---- names behind a comma
 
@@ -37,17 +37,13 @@ names_once ts i ends lt s = go (sort_at ts i) refl
     go Comma e =
         relax (from_left ends (word_step (second_way begun (done_closed ts names_goes i [] (ap names_goes e))) e) (next_token ts i Comma ends lt e refl) (omega arith)
         (refl, λ x. (names_goes, s.names, (λ xs. follows_done ts names_goes names_goes _ (λ v z. z)), λ xs. tt)))
-    go v e = from_start i ends (first_way begun (word_closed ts names_goes i Comma (names_behind ts) (other is_comma (sort_at ts i) Comma (ap is_comma e) refl))) (le_refl i) lt tt
+    go v e = from_start i ends (first_way begun (word_closed ts names_goes i Comma (names_behind ts) (other is_comma e refl refl))) (le_refl i) lt tt
 
 -- ---- parameters
 
 abbrev is_dots : Sort → Bool
 is_dots Dots = true
 is_dots s = false
-
-abbrev is_name : Sort → Bool
-is_name Name = true
-is_name s = false
 
 abbrev is_closing : Sort → Bool
 is_closing RightParen = true
@@ -63,9 +59,6 @@ named_shut ts i ne s b n f j lt x st = ne (x.2.0 lt).0
 pub some_once : (ts : List Token) (i : ℕ) → EndsText ts → i < length ts → Sure ts (i + 1) → Unique 1 Parameters ts (some_lang ts) params_goes i
 some_once ts i ends lt s = go (sort_at ts i) refl
   where
-    dots : Rest Parameters
-    dots = Word Dots (Done ([], true))
-
     none : sort_at ts i ≢ Dots → sort_at ts i ≢ Name → Unique 1 Parameters ts (some_lang ts) params_goes i
     none a c = record { same = λ x y b d j k dx sx dy sy. absurd (begins ((some_starts ts i).down x b (length ts) 6 j lt dx sx).0) }
       where
@@ -74,12 +67,12 @@ some_once ts i ends lt s = go (sort_at ts i) refl
         begins (inr z) = c (z.2.0 lt).0
 
     go : (v : Sort) → sort_at ts i ≡ v → Unique 1 Parameters ts (some_lang ts) params_goes i
-    go Dots e = from_left ends (word_step {r = Done ([], true)} (first_way (some_starts ts i) (named_shut ts i (other is_name (sort_at ts i) Name (ap is_name e) refl))) e) (next_token ts i Dots ends lt e refl) (omega arith) tt
+    go Dots e = from_left ends (word_step {r = Done ([], true)} (first_way (some_starts ts i) (named_shut ts i (other is_name e refl refl))) e) (next_token ts i Dots ends lt e refl) (omega arith) tt
     go Name e =
-        from_left ends (named_step {r = behind_name ts} (second_way (some_starts ts i) (word_closed ts params_goes i Dots (Done ([], true)) (other is_dots (sort_at ts i) Dots (ap is_dots e) refl))) e)
+        from_left ends (named_step {r = behind_name ts} (second_way (some_starts ts i) (word_closed ts params_goes i Dots (Done ([], true)) (other is_dots e refl refl))) e)
         (next_token ts i Name ends lt e refl) (omega arith)
         (done_apart refl, tt, (refl, (params_goes, s.some, (λ p. follows_done ts params_goes params_goes _ (λ v z. z)), λ p. tt)))
-    go v e = none (other is_dots (sort_at ts i) Dots (ap is_dots e) refl) (other is_name (sort_at ts i) Name (ap is_name e) refl)
+    go v e = none (other is_dots e refl refl) (other is_name e refl refl)
 
 abbrev no_names : Parameters
 no_names = ([], false)
@@ -106,7 +99,7 @@ params_once ts p i ends s lo lt = go (sort_at ts i) refl
           let v = no_params ts i lt e y c k dy in
           (u.0 ∙ sym v.0, sym u.1 ∙ v.1, omega (arith, u.1), omega (arith, u.1, lt));
     }
-    go v e = some (other is_closing (sort_at ts i) RightParen (ap is_closing e) refl)
+    go v e = some (other is_closing e refl refl)
 
 pub body_once : (method : Bool) (ts : List Token) (w : Around) (i : ℕ) → EndsText ts → i < length ts → Sure ts (i + 1) → Unique 1 Fun ts (body_lang method ts w) nothing i
 body_once method ts w i ends lt s =
@@ -180,11 +173,11 @@ suffixes_once ts w ends (suc d) m fuel lt r q mark mark2 b c j k dx sx dy sy =
         (u.1 ∙ ap (λ (y : Suffix). y ∷ []) (a ∙ sym e) ∙ sym v.1, u.2 ∙ sym v.2, sym u.4 ∙ v.4, omega (arith, u.4), omega (arith, u.4, lt2))
 
 -- A first name with suffixes behind it.
-abbrev Named' : List Token → Around → ℕ → Exp → Bool → ℕ → ℕ → Type 0
-Named' ts w i x mark b j =
+abbrev NamedPath : List Token → Around → ℕ → Exp → Bool → ℕ → ℕ → Type 0
+NamedPath ts w i x mark b j =
     (sort_at ts i ≡ Name) × ((q : List Suffix) × (x ≡ grow (NameE (tok_at ts i).line (bytes_of (tok_at ts i))) q) × Suffixes ts w b (length ts) 6 mark q (suc i) j)
 
-head_split : (ts : List Token) (w : Around) (i : ℕ) → i < length ts → (x : Exp) (mark : Bool) (b j : ℕ) → head_lang ts w (x, mark) b (length ts) 6 i j → Named' ts w i x mark b j
+head_split : (ts : List Token) (w : Around) (i : ℕ) → i < length ts → (x : Exp) (mark : Bool) (b j : ℕ) → head_lang ts w (x, mark) b (length ts) 6 i j → NamedPath ts w i x mark b j
 unfolding SpellsPath
 head_split ts w i lt x mark b j d = from (split mark d)
   where
@@ -195,7 +188,7 @@ head_split ts w i lt x mark b j d = from (split mark d)
     split false l = path_down ts w (length ts) 6 b b false x [] i j j (omega arith) l refl (λ s r o y z. (z, y))
     split true l = method_down ts w (length ts) 6 b x i j l
 
-    from : Whole → Named' ts w i x mark b j
+    from : Whole → NamedPath ts w i x mark b j
     from y =
         let root = y.1 in
         let s = root.stands in
@@ -208,7 +201,7 @@ head_split ts w i lt x mark b j d = from (split mark d)
 pub head_once : (ts : List Token) (w : Around) (i : ℕ) → EndsText ts → i < length ts → Unique 1 Head ts (head_lang ts w) head_goes i
 head_once ts w i ends lt = record { same = λ x y b c j k dx sx dy sy. go x.0 y.0 x.1 y.1 b c j k sx sy (head_split ts w i lt x.0 x.1 b j dx) (head_split ts w i lt y.0 y.1 c k dy) }
   where
-    go : (x y : Exp) (mark mark2 : Bool) (b c j k : ℕ) → Stops ts head_goes (length ts) j → Stops ts head_goes (length ts) k → Named' ts w i x mark b j → Named' ts w i y mark2 c k → (◌≡◌ {A = Head} (x, mark) (y, mark2)) × (j ≡ k) × (1 + i ≤ j) × (j < length ts)
+    go : (x y : Exp) (mark mark2 : Bool) (b c j k : ℕ) → Stops ts head_goes (length ts) j → Stops ts head_goes (length ts) k → NamedPath ts w i x mark b j → NamedPath ts w i y mark2 c k → (◌≡◌ {A = Head} (x, mark) (y, mark2)) × (j ≡ k) × (1 + i ≤ j) × (j < length ts)
     go x y mark mark2 b c j k sx sy u v =
         let inside = next_token ts i Name ends lt u.0 refl in
         let z = suffixes_once ts w ends (length ts) (suc i) (omega arith) (omega (arith, inside)) u.1.0 v.1.0 mark mark2 b c j k u.1.2 sx v.1.2 sy in

@@ -21,7 +21,7 @@ use Rattle.lua_parser.proofs.Operands.{class, operand_class, prefix_of_class, to
 use Rattle.lua_parser.proofs.Atoms.{unary_class, nil_starts, true_starts, false_starts, text_starts, unary_starts, table_starts, function_starts, closed_kind}
 use Rattle.lua_parser.proofs.Lists.{name_starts, paren_starts, no_primary, key_starts, no_key, exp_class, list_starts, open_rest, all_closed}
 use Rattle.lua_parser.proofs.StatBegins.{inner}
-use Rattle.lua_parser.proofs.SpelledRest.{EndsText, next_token, Unique, relax, other, Apart, done_apart, from_left, from_reads, from_here, from_under, from_token, Sure}
+use Rattle.lua_parser.proofs.SpelledRest.{EndsText, next_token, Unique, relax, other, is_name, Apart, done_apart, from_left, from_reads, from_here, from_under, from_token, Sure}
 
 -- ---- operands
 
@@ -106,10 +106,6 @@ operand_once ts w i ends lt s prefix = go (sort_at ts i) refl
 
 -- ---- prefix expressions
 
-abbrev is_name : Sort → Bool
-is_name Name = true
-is_name s = false
-
 abbrev is_paren : Sort → Bool
 is_paren LeftParen = true
 is_paren s = false
@@ -125,7 +121,7 @@ primary_once ts w i ends lt s = go (sort_at ts i) refl
     go LeftParen e =
         from_left ends (paren_starts ts w i e) (next_token ts i LeftParen ends lt e refl) (omega arith)
         (goes_on 1, s.exp w 1 (omega arith), (λ x. follows_word ts nothing (goes_on 1) RightParen _ refl), λ x. (refl, tt))
-    go v e = none (other is_name (sort_at ts i) Name (ap is_name e) refl) (other is_paren (sort_at ts i) LeftParen (ap is_paren e) refl)
+    go v e = none (other is_name e refl refl) (other is_paren e refl refl)
 
 -- A name that is a text.
 pub key_once : (ts : List Token) (w : Around) (i : ℕ) → EndsText ts → i < length ts → Unique 1 Exp ts (name_lang ts w) nothing i
@@ -136,7 +132,7 @@ key_once ts w i ends lt = go (sort_at ts i) refl
 
     go : (v : Sort) → sort_at ts i ≡ v → Unique 1 Exp ts (name_lang ts w) nothing i
     go Name e = from_left ends (key_starts ts w i e) (next_token ts i Name ends lt e refl) (omega arith) tt
-    go v e = none (other is_name (sort_at ts i) Name (ap is_name e) refl)
+    go v e = none (other is_name e refl refl)
 
 -- What an index, a call or a method begins with.
 suffix_begins : (ts : List Token) (w : Around) (left : Exp) (i : ℕ) → i < length ts → (x : Exp) (b j : ℕ) → suffix_lang ts w left x b (length ts) 6 i j → suffix_goes (sort_at ts i) ≡ true
@@ -231,7 +227,7 @@ args_once ts w i ends lt s operand = go (sort_at ts i) refl
   where
     go : (v : Sort) → sort_at ts i ≡ v → Unique 1 Exps ts (args_lang ts w) nothing i
     go LeftParen e = open_once ts w i ends lt e s
-    go v e = alone_once ts w i lt (other is_paren (sort_at ts i) LeftParen (ap is_paren e) refl) operand
+    go v e = alone_once ts w i lt (other is_paren e refl refl) operand
 
 -- ---- lists of expressions
 

@@ -15,7 +15,7 @@ use Rattle.lua_parser.proofs.Operands.{class}
 use Rattle.lua_parser.proofs.Lists.{exp_class}
 use Rattle.lua_parser.proofs.FieldLemmas.{bracket_field_starts, key_field_starts, fields_start, separator_lang, separator_kind, join, IsSeparator}
 use Rattle.lua_parser.proofs.StatBegins.{inner}
-use Rattle.lua_parser.proofs.SpelledRest.{EndsText, next_token, Unique, relax, other, Apart, from_left, from_here, Sure}
+use Rattle.lua_parser.proofs.SpelledRest.{EndsText, next_token, Unique, relax, other, is_name, Apart, from_left, from_here, Sure}
 
 -- ---- one field
 
@@ -56,10 +56,6 @@ abbrev is_bracket : Sort → Bool
 is_bracket LeftBracket = true
 is_bracket s = false
 
-abbrev is_name : Sort → Bool
-is_name Name = true
-is_name s = false
-
 abbrev is_assign : Sort → Bool
 is_assign Assign = true
 is_assign s = false
@@ -76,8 +72,8 @@ name_field_once ts w i ends lt e s exp = go (sort_at ts (i + 1)) refl
         let two : i + 1 + 1 < length ts = next_token ts (i + 1) Assign ends inside a refl in
         from_left ends (key_field_starts ts (high w 0) i e a inside (omega arith)) (omega (arith, two)) (omega arith)
         (goes_on 1, (λ m lo lt. s.exp w 1 (omega arith) m (omega (arith, lo)) lt), (λ x. follows_done ts field_goes (goes_on 1) _ field_stop), λ x. tt)
-    go v a = item_once ts w i ends lt (other is_bracket (sort_at ts i) LeftBracket (ap is_bracket e) refl)
-        (λ n z. other is_assign (sort_at ts (i + 1)) Assign (ap is_assign a) refl (ap (λ (y : ℕ). sort_at ts y) (add-one i) ∙ z)) exp
+    go v a = item_once ts w i ends lt (other is_bracket e refl refl)
+        (λ n z. other is_assign a refl refl (ap (λ (y : ℕ). sort_at ts y) (add-one i) ∙ z)) exp
 
 -- Any other.
 field_at : (ts : List Token) (w : Around) (i : ℕ) → EndsText ts → i < length ts → Sure ts (i + 1) → Unique 1 Exp ts (exp_lang ts w 1) (goes_on 1) i → Unique 1 Fields ts (field_lang ts w) field_goes i
@@ -88,7 +84,7 @@ field_at ts w i ends lt s exp = go (sort_at ts i) refl
         from_left ends (bracket_field_starts ts w i e) (next_token ts i LeftBracket ends lt e refl) (omega arith)
         (goes_on 1, s.exp w 1 (omega arith), (λ k. follows_word ts field_goes (goes_on 1) RightBracket _ refl), λ k. (refl, (refl, (goes_on 1, s.exp w 1 (omega arith), (λ x. follows_done ts field_goes (goes_on 1) _ field_stop), λ x. tt))))
     go Name e = name_field_once ts w i ends lt e s exp
-    go v e = item_once ts w i ends lt (other is_bracket (sort_at ts i) LeftBracket (ap is_bracket e) refl) (λ n. absurd (other is_name (sort_at ts i) Name (ap is_name e) refl n)) exp
+    go v e = item_once ts w i ends lt (other is_bracket e refl refl) (λ n. absurd (other is_name e refl refl n)) exp
 
 -- ---- fields
 
@@ -164,4 +160,4 @@ fields_once ts w i ends lt s exp = go (sort_at ts i) refl
           let q = no_fields ts w i lt e y c k dy in
           (p.0 ∙ sym q.0, sym p.1 ∙ q.1, omega (arith, p.1), omega (arith, p.1, lt));
     }
-    go v e = some (other is_brace (sort_at ts i) RightBrace (ap is_brace e) refl)
+    go v e = some (other is_brace e refl refl)

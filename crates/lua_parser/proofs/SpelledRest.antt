@@ -6,7 +6,7 @@
 use Rattle.std.proofs.Common.{◌≡◌, ◌≢◌, ℕ, suc, pred, ◌+◌, ◌<◌, ◌≤◌, ◌⊎◌, Bool, true, false, List, length, sym, ap, subst, ◌∙◌, inl, inr, le_refl, arith, true≢false, eq-or-lt_of_le}
 use Rattle.lua_lexer.specs.declared.token.Token.{Token}
 use Rattle.lua_grammar.specs.declared.Sort.{Sort}
-use Rattle.lua_grammar.specs.declared.Sort.TheVariants.{Eof}
+use Rattle.lua_grammar.specs.declared.Sort.TheVariants.{Eof, Name}
 use Rattle.lua_grammar.specs.declared.Around.{Around}
 use Rattle.lua_grammar.specs.Tokens.{sort_at}
 use Rattle.lua_syntax.specs.Tree.{Exp, Exps, Fields, Fun, Block, Arms}
@@ -40,8 +40,12 @@ pub relax : {X : Type 0} {ts : List Token} {L : X → Lang} {goes : Sort → Boo
 relax {X} {ts} {L} {goes} {i} u = record { same = λ x y b c j k dx sx dy sy. let o = u.same x y b c j k dx sx dy sy in (o.0, o.1, omega (arith, o.2), o.3) }
 
 -- Two sorts that a test tells apart.
-pub other : (f : Sort → Bool) (s w : Sort) → f s ≡ false → f w ≡ true → s ≢ w
-other f s w no' yes' e = true≢false (sym yes' ∙ ap f (sym e) ∙ no')
+pub other : (f : Sort → Bool) {s v w : Sort} → s ≡ v → f v ≡ false → f w ≡ true → s ≢ w
+other f here no' yes' e = true≢false (sym yes' ∙ ap f (sym e ∙ here) ∙ no')
+
+abbrev pub is_name : Sort → Bool
+is_name Name = true
+is_name s = false
 
 -- Only one of two ways is open from place p on.
 pub record Apart (S : Type 0) (ts : List Token) (goes : Sort → Bool) (p : ℕ) (r s : Rest S) : Type 0 where
