@@ -189,7 +189,7 @@ open_reads ts w i lt e (MoreExp y ys) b j d = elim d [
     no_alone _ z = z.1.0
 
 open_once : (ts : List Token) (w : Around) (i : ℕ) → EndsText ts → i < length ts → sort_at ts i ≡ LeftParen → Sure ts (i + 1) → Unique 1 Exps ts (args_lang ts w) nothing i
-open_once ts w i ends lt e s = from_reads (open_rest ts w) ends (open_reads ts w i inside e) inside (omega arith) (apart, (refl, tt), (exps_goes, s.all w, (λ es. follows_word ts nothing exps_goes RightParen _ refl), λ es. (refl, tt)))
+open_once ts w i ends lt e s = from_reads (open_rest ts w) ends (λ x b j d st. open_reads ts w i inside e x b j d) inside (omega arith) (apart, (refl, tt), (exps_goes, s.all w, (λ es. follows_word ts nothing exps_goes RightParen _ refl), λ es. (refl, tt)))
   where
     inside : i + 1 < length ts
     inside = next_token ts i LeftParen ends lt e refl

@@ -63,10 +63,23 @@ Sound ts goes p (Under X K r) =
     (stop : Sort → Bool) × ((m : ℕ) → p ≤ m → m < length ts → Unique 0 X ts K.lang stop m) × ((x : X) → Follows ts goes stop (r x)) × ((x : X) → Sound ts goes p (r x))
 Sound {S} ts goes p (Either r s) = Apart S ts goes p r s × Sound ts goes p r × Sound ts goes p s
 
+-- A piece and what is left behind it.
+abbrev Parts : {S X : Type 0} → List Token → (X → Lang) → (X → Rest S) → S → ℕ → ℕ → ℕ → ℕ → Type 0
+Parts {S} {X} ts L r s b a i j = (e : X) × (q : ℕ) × L e a (length ts) 6 i q × Reads ts (r e) s b (length ts) 6 q j
+
+-- The piece of one tree is that of the other.
+shared : {S X : Type 0} {ts : List Token} {L : X → Lang} {stop : Sort → Bool} {d m : ℕ} (goes : Sort → Bool) (r : X → Rest S) → Unique d X ts L stop m → ((e : X) → Follows ts goes stop (r e)) →
+    (x y : S) (b c a1 a2 j k : ℕ) (u : Parts ts L r x b a1 m j) → Stops ts goes (length ts) j → Parts ts L r y c a2 m k → Stops ts goes (length ts) k →
+    (d + m ≤ u.1) × (u.1 < length ts) × Reads ts (r u.0) y c (length ts) 6 u.1 k
+unfolding Follows
+shared {S} {X} {ts} {L} {stop} {d} {m} goes r unique fol x y b c a1 a2 j k u sx v sy =
+    let o = unique.same u.0 v.0 a1 a2 u.1 v.1 u.2 (fol u.0 x b (length ts) 6 u.1 j u.3 sx) v.2 (fol v.0 y c (length ts) 6 v.1 k v.3 sy) in
+    let right = subst (λ (e : X). Reads ts (r e) y c (length ts) 6 v.1 k) (sym o.0) v.3 in
+    (o.2, o.3, subst (λ (q : ℕ). Reads ts (r u.0) y c (length ts) 6 q k) (sym o.1) right)
+
 -- Then what is left is unique.
 pub alike : {S : Type 0} (ts : List Token) (goes : Sort → Bool) (p : ℕ) (r : Rest S) → EndsText ts → Sound ts goes p r → (m : ℕ) → p ≤ m → m < length ts → (x y : S) (b c j k : ℕ) →
     Reads ts r x b (length ts) 6 m j → Stops ts goes (length ts) j → Reads ts r y c (length ts) 6 m k → Stops ts goes (length ts) k → (x ≡ y) × (j ≡ k) × (m ≤ j) × (j < length ts)
-unfolding Follows
 alike ts goes p (Done s) ends sound m lo lt x y b c j k dx sx dy sy = (dx.0 ∙ sym dy.0, sym dx.1 ∙ dy.1, omega (arith, dx.1), omega (arith, dx.1, lt))
 alike ts goes p (Word w r) ends sound m lo lt x y b c j k dx sx dy sy =
     let inside = next_token ts m w ends lt (dx.1.0 lt) sound.0 in
@@ -81,15 +94,13 @@ alike ts goes p (Named w r) ends sound m lo lt x y b c j k dx sx dy sy =
     (subst (λ (v : ℕ). Reads ts (r dx.0) x b (length ts) 6 v j) dx.2.1 dx.3) sx (subst (λ (v : ℕ). Reads ts (r dx.0) y c (length ts) 6 v k) dy.2.1 right) sy in
     (z.0, z.1, omega (arith, z.2), z.3)
 alike ts goes p (Here X K r) ends sound m lo lt x y b c j k dx sx dy sy =
-    let o = (sound.1 m lo lt).same dx.0 dy.0 b c dx.1 dy.1 dx.2 (sound.2 dx.0 x b (length ts) 6 dx.1 j dx.3 sx) dy.2 (sound.2 dy.0 y c (length ts) 6 dy.1 k dy.3 sy) in
-    let right = subst (λ (v : X). Reads ts (r v) y c (length ts) 6 dy.1 k) (sym o.0) dy.3 in
-    let z = alike ts goes p (r dx.0) ends (sound.3 dx.0) dx.1 (omega (arith, lo, o.2)) o.3 x y b c j k dx.3 sx (subst (λ (v : ℕ). Reads ts (r dx.0) y c (length ts) 6 v k) (sym o.1) right) sy in
-    (z.0, z.1, omega (arith, o.2, z.2), z.3)
+    let o = shared goes r (sound.1 m lo lt) sound.2 x y b c b c j k dx sx dy sy in
+    let z = alike ts goes p (r dx.0) ends (sound.3 dx.0) dx.1 (omega (arith, lo, o.0)) o.1 x y b c j k dx.3 sx o.2 sy in
+    (z.0, z.1, omega (arith, o.0, z.2), z.3)
 alike ts goes p (Under X K r) ends sound m lo lt x y b c j k dx sx dy sy =
-    let o = (sound.1 m lo lt).same dx.0 dy.0 (suc b) (suc c) dx.1 dy.1 dx.2 (sound.2 dx.0 x b (length ts) 6 dx.1 j dx.3 sx) dy.2 (sound.2 dy.0 y c (length ts) 6 dy.1 k dy.3 sy) in
-    let right = subst (λ (v : X). Reads ts (r v) y c (length ts) 6 dy.1 k) (sym o.0) dy.3 in
-    let z = alike ts goes p (r dx.0) ends (sound.3 dx.0) dx.1 (omega (arith, lo, o.2)) o.3 x y b c j k dx.3 sx (subst (λ (v : ℕ). Reads ts (r dx.0) y c (length ts) 6 v k) (sym o.1) right) sy in
-    (z.0, z.1, omega (arith, o.2, z.2), z.3)
+    let o = shared goes r (sound.1 m lo lt) sound.2 x y b c (suc b) (suc c) j k dx sx dy sy in
+    let z = alike ts goes p (r dx.0) ends (sound.3 dx.0) dx.1 (omega (arith, lo, o.0)) o.1 x y b c j k dx.3 sx o.2 sy in
+    (z.0, z.1, omega (arith, o.0, z.2), z.3)
 alike ts goes p (Either r s) ends sound m lo lt x y b c j k (inl dx) sx (inl dy) sy = alike ts goes p r ends sound.1 m lo lt x y b c j k dx sx dy sy
 alike ts goes p (Either r s) ends sound m lo lt x y b c j k (inl dx) sx (inr dy) sy = absurd (sound.0.shut m lo lt x y b c j k dx sx dy sy)
 alike ts goes p (Either r s) ends sound m lo lt x y b c j k (inr dx) sx (inl dy) sy = absurd (sound.0.shut m lo lt y x c b k j dy sy dx sx)
@@ -110,47 +121,37 @@ done_apart {S} {ts} {goes} {p} {e} {w} {s} h = record {
 
 -- ---- whole trees
 
--- What is left behind the first token.
-pub from_left : {S : Type 0} {ts : List Token} {L : S → Lang} {goes : Sort → Bool} {i m h : ℕ} {r : Rest S} → EndsText ts → Left S ts L goes i r m h → m < length ts → i < m → Sound ts goes m r → Unique 1 S ts L goes i
-from_left {S} {ts} {L} {goes} {i} {m} {h} {r} ends left lt grows sound = record {
-  same = λ x y b c j k dx sx dy sy.
-      let z = alike ts goes m r ends sound m (le_refl m) lt x y b c j k (left.down x b (length ts) 6 j lt dx sx).0 sx (left.down y c (length ts) 6 k lt dy sy).0 sy in
-      (z.0, z.1, omega (arith, grows, z.2), z.3);
-}
-
-pub from_reads : {S : Type 0} {ts : List Token} {L : S → Lang} {goes : Sort → Bool} {i m : ℕ} (r : Rest S) → EndsText ts → ((x : S) (b j : ℕ) → L x b (length ts) 6 i j → Reads ts r x b (length ts) 6 m j) → m < length ts → i < m → Sound ts goes m r →
+-- What is left behind the first token, or tokens.
+pub from_reads : {S : Type 0} {ts : List Token} {L : S → Lang} {goes : Sort → Bool} {i m : ℕ} (r : Rest S) → EndsText ts → ((x : S) (b j : ℕ) → L x b (length ts) 6 i j → Stops ts goes (length ts) j → Reads ts r x b (length ts) 6 m j) → m < length ts → i < m → Sound ts goes m r →
     Unique 1 S ts L goes i
 from_reads {S} {ts} {L} {goes} {i} {m} r ends reads lt grows sound = record {
   same = λ x y b c j k dx sx dy sy.
-      let z = alike ts goes m r ends sound m (le_refl m) lt x y b c j k (reads x b j dx) sx (reads y c k dy) sy in
+      let z = alike ts goes m r ends sound m (le_refl m) lt x y b c j k (reads x b j dx sx) sx (reads y c k dy sy) sy in
       (z.0, z.1, omega (arith, grows, z.2), z.3);
 }
+
+pub from_left : {S : Type 0} {ts : List Token} {L : S → Lang} {goes : Sort → Bool} {i m h : ℕ} {r : Rest S} → EndsText ts → Left S ts L goes i r m h → m < length ts → i < m → Sound ts goes m r → Unique 1 S ts L goes i
+from_left {S} {ts} {L} {goes} {i} {m} {h} {r} ends left lt grows sound = from_reads r ends (λ x b j d st. (left.down x b (length ts) 6 j lt d st).0) lt grows sound
 
 -- A first piece that has a token, and what is left behind it.
 pub from_here : {S X : Type 0} {ts : List Token} {L : S → Lang} {goes : Sort → Bool} {i h : ℕ} {K : Kind X} {r : X → Rest S} (stop : Sort → Bool) → EndsText ts → Left S ts L goes i (Here X K r) i h → i < length ts →
     Unique 1 X ts K.lang stop i → ((x : X) → Follows ts goes stop (r x)) → ((x : X) → Sound ts goes (i + 1) (r x)) → Unique 1 S ts L goes i
-unfolding Follows
 from_here {S} {X} {ts} {L} {goes} {i} {h} {K} {r} stop ends left lt first fol sound = record {
   same = λ x y b c j k dx sx dy sy.
       let a = (left.down x b (length ts) 6 j lt dx sx).0 in
-      let d = (left.down y c (length ts) 6 k lt dy sy).0 in
-      let o = first.same a.0 d.0 b c a.1 d.1 a.2 (fol a.0 x b (length ts) 6 a.1 j a.3 sx) d.2 (fol d.0 y c (length ts) 6 d.1 k d.3 sy) in
-      let right = subst (λ (v : X). Reads ts (r v) y c (length ts) 6 d.1 k) (sym o.0) d.3 in
-      let z = alike ts goes (i + 1) (r a.0) ends (sound a.0) a.1 (omega (arith, o.2)) o.3 x y b c j k a.3 sx (subst (λ (v : ℕ). Reads ts (r a.0) y c (length ts) 6 v k) (sym o.1) right) sy in
-      (z.0, z.1, omega (arith, o.2, z.2), z.3);
+      let o = shared goes r first fol x y b c b c j k a sx (left.down y c (length ts) 6 k lt dy sy).0 sy in
+      let z = alike ts goes (i + 1) (r a.0) ends (sound a.0) a.1 (omega (arith, o.0)) o.1 x y b c j k a.3 sx o.2 sy in
+      (z.0, z.1, omega (arith, o.0, z.2), z.3);
 }
 
 pub from_under : {S X : Type 0} {ts : List Token} {L : S → Lang} {goes : Sort → Bool} {i h : ℕ} {K : Kind X} {r : X → Rest S} (stop : Sort → Bool) → EndsText ts → Left S ts L goes i (Under X K r) i h → i < length ts →
     Unique 1 X ts K.lang stop i → ((x : X) → Follows ts goes stop (r x)) → ((x : X) → Sound ts goes (i + 1) (r x)) → Unique 1 S ts L goes i
-unfolding Follows
 from_under {S} {X} {ts} {L} {goes} {i} {h} {K} {r} stop ends left lt first fol sound = record {
   same = λ x y b c j k dx sx dy sy.
       let a = (left.down x b (length ts) 6 j lt dx sx).0 in
-      let d = (left.down y c (length ts) 6 k lt dy sy).0 in
-      let o = first.same a.0 d.0 (suc b) (suc c) a.1 d.1 a.2 (fol a.0 x b (length ts) 6 a.1 j a.3 sx) d.2 (fol d.0 y c (length ts) 6 d.1 k d.3 sy) in
-      let right = subst (λ (v : X). Reads ts (r v) y c (length ts) 6 d.1 k) (sym o.0) d.3 in
-      let z = alike ts goes (i + 1) (r a.0) ends (sound a.0) a.1 (omega (arith, o.2)) o.3 x y b c j k a.3 sx (subst (λ (v : ℕ). Reads ts (r a.0) y c (length ts) 6 v k) (sym o.1) right) sy in
-      (z.0, z.1, omega (arith, o.2, z.2), z.3);
+      let o = shared goes r first fol x y b c (suc b) (suc c) j k a sx (left.down y c (length ts) 6 k lt dy sy).0 sy in
+      let z = alike ts goes (i + 1) (r a.0) ends (sound a.0) a.1 (omega (arith, o.0)) o.1 x y b c j k a.3 sx o.2 sy in
+      (z.0, z.1, omega (arith, o.0, z.2), z.3);
 }
 
 -- A first word, and what is left behind it.
