@@ -4,6 +4,7 @@
 //! - `blocks`, `stats`, `loops`, `conditions`, `locals`, `assignments`, `functions`: statements
 //! - `exprs`, `prefixes`, `tables`: expressions
 //! - `params`, `names`, `operators`, `ends`: lists of names, operators, and what ends a block
+//! - `laws`: what the grammar alone says of chunks
 //! - `make`: a node is made, with the plain tree for which it stands
 //! - `tokens`, `around`, `answer`: a look at a token, what stands around a node, and what a function of the parser answers
 #![tactic(auto)]
@@ -16,6 +17,7 @@ pub mod conditions;
 pub mod ends;
 pub mod exprs;
 pub mod functions;
+pub mod laws;
 pub mod locals;
 pub mod loops;
 pub mod make;
