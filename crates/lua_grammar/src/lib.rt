@@ -3,6 +3,7 @@
 //!
 //! - `specs/Tokens.antt`: the sorts of tokens
 //! - `specs/Grammar.antt`: what spells a tree, case by case, and the faults
+//! - `specs/Facts.antt`: what holds of the tree of every chunk, with no word of tokens
 #![tactic(auto)]
 
 /// What a token is to the grammar. `Other` is for bytes that are no keyword or mark of Lua.
