@@ -1,12 +1,12 @@
 -- A text that is a chunk, to try the definitions: f()
-use Rattle.std.proofs.Common.{◌≡◌, ◌≢◌, ℕ, suc, ◌<◌, ◌≤◌, List, [], ◌∷◌, length, refl, inl, inr, lit≤, arith}
+use Rattle.std.proofs.Common.{ℕ, suc, List, [], ◌∷◌, refl, inl, lit≤, arith}
 use Rattle.std.specs.Prelude.{codes}
 use Rattle.lua_lexer.specs.declared.token.Token.{Token}
 use Rattle.lua_lexer.specs.declared.token.TokenKind.{TokenKind}
 use Rattle.lua_lexer.specs.declared.token.TokenKind.TheVariants.{Name, Mark, End}
 use Rattle.lua_grammar.specs.Tokens.{mark_sort, tok_at}
-use Rattle.lua_syntax.specs.Tree.{Exp, NameE, CallE, NoExp, Stat, CallS, Block, NoStat, MoreStat}
-use Rattle.lua_grammar.specs.Grammar.{given_of, Spells, SpellsBlock, SpellsStat, SpellsArgs, SpellsChunk, IsChunk, outside, under}
+use Rattle.lua_syntax.specs.Tree.{NameE, CallE, NoExp, CallS, Block, NoStat, MoreStat}
+use Rattle.lua_grammar.specs.Grammar.{given_of, Spells, SpellsChunk, IsChunk, outside, under}
 
 abbrev tok : TokenKind → ℕ → Token
 tok kind place = record { kind = kind; start = place; end = suc place; line = 1; end_line = 1 }

@@ -1,3 +1,5 @@
 pub mod Tokens
 pub mod Grammar
 pub mod Facts
+pub mod Heights
+pub mod FactLaws

@@ -3,8 +3,13 @@
 //!
 //! - `specs/Tokens.antt`: the sorts of tokens
 //! - `specs/Grammar.antt`: what spells a tree, case by case, and the faults
-//! - `specs/Facts.antt`: what holds of the tree of every chunk, with no word of tokens
+//! - `specs/Facts.antt`: what holds of the tree of every chunk, said of the tree alone
+//! - `specs/Heights.antt`: the levels of nodes of a tree
+//!
+//! - `laws`: functions with an empty body, whose contracts are laws about these definitions (`specs/FactLaws.antt`)
 #![tactic(auto)]
+
+pub mod laws;
 
 /// What a token is to the grammar. `Other` is for bytes that are no keyword or mark of Lua.
 #[derive(Clone, Copy, Debug, PartialEq, Eq)]
