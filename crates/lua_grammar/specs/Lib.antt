@@ -3,3 +3,4 @@ pub mod Grammar
 pub mod Facts
 pub mod Heights
 pub mod FactLaws
+pub mod Examples

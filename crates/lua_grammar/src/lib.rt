@@ -6,9 +6,13 @@
 //! - `specs/Facts.antt`: what holds of the tree of every chunk, said of the tree alone
 //! - `specs/Heights.antt`: the levels of nodes of a tree
 //!
-//! - `laws`: functions with an empty body, whose contracts are laws about these definitions (`specs/FactLaws.antt`)
+//! Functions with an empty body, whose contracts are statements about these definitions:
+//!
+//! - `laws`: what holds of every chunk (`specs/FactLaws.antt`)
+//! - `examples`: small texts with their trees (`specs/Examples.antt`)
 #![tactic(auto)]
 
+pub mod examples;
 pub mod laws;
 
 /// What a token is to the grammar. `Other` is for bytes that are no keyword or mark of Lua.
