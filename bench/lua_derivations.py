@@ -544,7 +544,7 @@ def tokens_term(tokens):
 
 
 def heading(text):
-    return [("-- " + line).rstrip() for line in text.split("\n")]
+    return ["-- " + line for line in text.split("\n")] if text else ["-- the empty text"]
 
 
 class Example:
@@ -647,7 +647,7 @@ def write(folder, groups):
         cited += [f"{example.name}_{part.name}" for example in examples for part in example.parts]
         every = f"pub {one.lower()}_chunks : {one}Chunks\n{one.lower()}_chunks = ({', '.join(name for name, _ in chunks)})\n"
         uses = PROOFS_USE + "Rattle.lua_grammar.specs.Examples " + " ".join(cited)
-        put(folder, f"proofs/Example{group}.antt", f"-- Worked examples: {about}.", uses, "\n".join([""] + [example.proofs() for example in examples] + [every]))
+        put(folder, f"proofs/Example{group}.antt", f"-- Worked examples: {about}. A number is the place where a piece ends.", uses, "\n".join([""] + [example.proofs() for example in examples] + [every]))
     put(folder, "specs/Examples.antt", "-- WORKED EXAMPLES: chunks with their tokens and their plain trees, in parts.", SPECS_USE, "\n".join(specs))
 
 

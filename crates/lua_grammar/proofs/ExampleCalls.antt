@@ -1,4 +1,4 @@
--- Worked examples: indexes, calls, methods and tables (manual 2.3, 2.5.7 and 2.5.8). `bench/lua_derivations.py` writes this file.
+-- Worked examples: indexes, calls, methods and tables (manual 2.3, 2.5.7 and 2.5.8). A number is the place where a piece ends. `bench/lua_derivations.py` writes this file.
 use Rattle.std.proofs.Common.{inl, inr, refl, lit≤}
 use Rattle.lua_number.specs.Numerals.{read_numeral_of, numeral_of, decimal_of}
 use Rattle.lua_grammar.specs.Tokens.{mark_sort, word_sort, tok_at}
@@ -6,7 +6,7 @@ use Rattle.lua_grammar.specs.Grammar.{IsChunk, SpellsChunk, Spells, SpellsPath, 
 use Rattle.lua_grammar.proofs.Pieces.{here, word, text, number, ended, goes_on, allowed, comma, semicolon, last, not_last}
 use Rattle.lua_grammar.specs.Examples.{CallChunks, nothing_tokens, nothing_tree, call_tokens, call_tree, sugar_tokens, sugar_tree, methods_tokens, methods_tree, places_tokens, places_tree, fields_tokens, fields_tree, lines_tokens, lines_tree, call_1, sugar_1, sugar_2, sugar_3, methods_1, methods_2, methods_3, methods_4, methods_5, places_1, places_2, places_3, places_4, fields_1, fields_2, fields_3, fields_4, fields_5, lines_1, lines_2, lines_3, lines_4}
 
---
+-- the empty text
 pub nothing : IsChunk nothing_tokens nothing_tree
 unfolding IsChunk SpellsChunk Spells SpellsPath mark_sort word_sort tok_at read_numeral_of numeral_of decimal_of
 nothing k = (0, refl, word)

@@ -1,4 +1,4 @@
--- Worked examples: functions, parameters and local names (manual 2.4.7, 2.5.9). `bench/lua_derivations.py` writes this file.
+-- Worked examples: functions, parameters and local names (manual 2.4.7, 2.5.9). A number is the place where a piece ends. `bench/lua_derivations.py` writes this file.
 use Rattle.std.proofs.Common.{true, false, inl, inr, refl}
 use Rattle.lua_number.specs.Numerals.{read_numeral_of, numeral_of, decimal_of}
 use Rattle.lua_grammar.specs.Tokens.{mark_sort, word_sort, tok_at}

@@ -167,7 +167,7 @@ OperatorChunks = IsChunk sums_and_products_tokens sums_and_products_tree
 
 -- CALLS: indexes, calls, methods and tables (manual 2.3, 2.5.7 and 2.5.8)
 
---
+-- the empty text
 abbrev pub nothing_tokens : List Token
 nothing_tokens =
     on 1 End 0 0 ∷ []

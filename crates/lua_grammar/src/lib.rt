@@ -9,7 +9,7 @@
 //! Functions with an empty body, whose contracts are statements about these definitions:
 //!
 //! - `laws`: what holds of every chunk (`specs/FactLaws.antt`)
-//! - `examples`: small texts with their trees (`specs/Examples.antt`)
+//! - `examples`: small texts with their trees (`specs/Examples.antt`), and trees that no text spells (`specs/Misfits.antt`)
 #![tactic(auto)]
 
 pub mod examples;
