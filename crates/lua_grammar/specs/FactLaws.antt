@@ -8,12 +8,12 @@ use Rattle.lua_grammar.specs.Facts.{FitsChunk, FitsExp, FitsExps, FitsFields, Fi
 use Rattle.lua_grammar.specs.Heights.{exp_height, exps_height, fields_height, fun_height, block_height, arms_height, stat_height}
 
 -- What is spelled as a chunk fits as one.
-abbrev pub ChunksFit : Type 0
-ChunksFit = (tokens : List Token) (b : Block) → IsChunk tokens b → FitsChunk b
+abbrev pub ChunkFits : Type 0
+ChunkFits = (tokens : List Token) (b : Block) → IsChunk tokens b → FitsChunk b
 
 -- It has at most 201 levels of nodes.
-abbrev pub ChunksAreLow : Type 0
-ChunksAreLow = (tokens : List Token) (b : Block) → IsChunk tokens b → block_height b ≤ 201
+abbrev pub ChunkIsLow : Type 0
+ChunkIsLow = (tokens : List Token) (b : Block) → IsChunk tokens b → block_height b ≤ 201
 
 -- A tree that fits somewhere has at most 201 levels with the nodes above it. Where it may be empty, no more than 201 are above it.
 abbrev pub IsLow : Around → ℕ → Type 0

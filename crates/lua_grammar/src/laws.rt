@@ -1,16 +1,16 @@
 //! What holds of the plain tree of every chunk, whatever its tokens: laws about the definitions (`FactLaws`).
-ghost use Rattle.lua_grammar.specs.FactLaws.{ChunksAreLow, ChunksFit, NodesAreShallow, TreesAreLow};
+ghost use Rattle.lua_grammar.specs.FactLaws.{ChunkFits, ChunkIsLow, NodesAreShallow, TreesAreLow};
 
 /// A tree that tokens spell as a chunk fits as one.
-#[tactic(auto, using(crate::proofs::FactLaws::chunks_fit))]
-pub fn chunks_fit()
-    ensures { ChunksFit }
+#[tactic(auto, using(crate::proofs::FactLaws::chunk_fits))]
+pub fn chunk_fits()
+    ensures { ChunkFits }
 {}
 
 /// It has at most 201 levels of nodes.
-#[tactic(auto, using(crate::proofs::FactLaws::chunks_are_low))]
-pub fn chunks_are_low()
-    ensures { ChunksAreLow }
+#[tactic(auto, using(crate::proofs::FactLaws::chunk_is_low))]
+pub fn chunk_is_low()
+    ensures { ChunkIsLow }
 {}
 
 /// A tree that fits somewhere has at most 201 levels with the nodes above it.
