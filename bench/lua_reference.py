@@ -35,8 +35,10 @@ class Fault(Exception):
 
 
 class Token:
-    def __init__(self, kind, word, line, last):
-        self.kind, self.word, self.line, self.last = kind, word, line, last
+    """A token from place `start` up to `end`, on the lines `line` to `last`."""
+
+    def __init__(self, kind, word, start, end, line, last):
+        self.kind, self.word, self.start, self.end, self.line, self.last = kind, word, start, end, line, last
 
 
 # Lexis. A text is a str of characters up to 255, one for each byte.
@@ -125,9 +127,9 @@ def tokens(text):
             if word is None:
                 raise Fault(4, line)
             kind, at, last = "mark", at + len(word), line
-        found.append(Token(kind, word, line, last))
+        found.append(Token(kind, word, begin, at, line, last))
         line = last
-    return found + [Token("end", "", line, line)]
+    return found + [Token("end", "", at, at, line, line)]
 
 
 def value(word):

@@ -3,7 +3,7 @@
 -- A place is the number of a token, from 0. A tree stands from i to j where the tokens from place i up to place j, j itself left
 -- out, spell it. Only the first `given` tokens are there: a place from `given` on is open, and whatever is asked of it holds. So
 -- the same cases say what a whole text is, where all of its tokens are given, and how a text may begin, where fewer are.
-use Rattle.std.specs.Prelude.{◌≡◌, ◌≢◌, ℕ, pred, suc, ◌<◌, ◌≤◌, ◌⊎◌, Bool, true, false, List, [], ◌∷◌, length, ℤ, Option, Some, None, nat_lt, cond, codes}
+use Rattle.std.specs.Prelude.{◌≡◌, ℕ, pred, suc, ◌<◌, ◌≤◌, ◌⊎◌, Bool, true, false, List, [], ◌∷◌, length, ℤ, Option, Some, None, nat_lt, cond, codes}
 use Rattle.lua_syntax.specs.declared.BinaryOp.{BinaryOp}
 use Rattle.lua_syntax.specs.declared.BinaryOp.TheVariants.{Or as OrOp, And as AndOp, Lt, Gt, Le, Ge, Ne, Eq, Concat, Add, Sub, Mul, Div, Mod, Pow}
 use Rattle.lua_syntax.specs.declared.UnaryOp.{UnaryOp}

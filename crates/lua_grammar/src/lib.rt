@@ -3,7 +3,17 @@
 //!
 //! - `specs/Tokens.antt`: the sorts of tokens
 //! - `specs/Grammar.antt`: what spells a tree, case by case, and the faults
+//! - `specs/Facts.antt`: what holds of the tree of every chunk, said of the tree alone
+//! - `specs/Heights.antt`: the levels of nodes of a tree
+//!
+//! Functions with an empty body, whose contracts are statements about these definitions:
+//!
+//! - `laws`: what holds of every chunk (`specs/FactLaws.antt`)
+//! - `examples`: small texts with their trees (`specs/Examples.antt`), and trees that no text spells (`specs/Misfits.antt`)
 #![tactic(auto)]
+
+pub mod examples;
+pub mod laws;
 
 /// What a token is to the grammar. `Other` is for bytes that are no keyword or mark of Lua.
 #[derive(Clone, Copy, Debug, PartialEq, Eq)]
