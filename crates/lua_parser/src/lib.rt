@@ -4,6 +4,7 @@
 //! - `blocks`, `stats`, `loops`, `conditions`, `locals`, `assignments`, `functions`: statements
 //! - `exprs`, `prefixes`, `tables`: expressions
 //! - `params`, `names`, `operators`, `ends`: lists of names, operators, and what ends a block
+//! - `short_lists`: lists that mostly have one item
 //! - `make`: a node is made, with the plain tree for which it stands
 //! - `tokens`, `around`, `answer`: a look at a token, what stands around a node, and what a function of the parser answers
 #![tactic(auto)]
@@ -24,6 +25,7 @@ pub mod operators;
 pub mod params;
 pub mod parser;
 pub mod prefixes;
+pub mod short_lists;
 pub mod stats;
 pub mod tables;
 pub mod tokens;

@@ -163,7 +163,7 @@ tables::item-returns t c = item_read _ c.args.around _ _ _ _ _ c.requires.no_bra
 
 pub prefixes::exprs-returns-in_err-next : goal.prefixes::exprs-returns-in_err-next
 prefixes::exprs-returns-in_err-next t c =
-    let p = err_from_is_err_and c.from_residual.result c.from_residual.ensures.1 in
+    let p = err_from_is_err_and c.from_residual-in_err-next.result c.from_residual-in_err-next.ensures.1 in
     rw (p.1, p.2) (exps_fault _ c.args.around _ _ _ _ _ c.list.invariant.3 c.list.invariant.2 c.in_err-next.ensures)
 
 pub prefixes::exprs-returns-in_default : goal.prefixes::exprs-returns-in_default
@@ -764,7 +764,7 @@ loops::count_loop-returns t c =
     rw (c.count-tree.ensures, c.line_at.ensures, c.in_ok-name.ensures, c.max-all-2.ensures, c.max-two.ensures) (count_stands r (read_not c.sort_at-2.ensures c.in_default-sort_at.not-Comma) (do_stood c.in_loop-looped.ensures c.in_ok-body-2.ensures))
 
 pub blocks::block-stats-init : goal.blocks::block-stats-init
-blocks::block-stats-init t c = rw c.new-tree.ensures (block_start _ c.args.around _ c.requires.inside)
+blocks::block-stats-init t c = rw c.in_ok-tree.ensures (block_start _ c.args.around _ c.requires.inside)
 
 pub blocks::block-returns-then-not-goes_on_block : goal.blocks::block-returns-then-not-goes_on_block
 blocks::block-returns-then-not-goes_on_block t c =
@@ -777,7 +777,7 @@ blocks::block-statement-requires t c =
 
 pub blocks::block-returns-in_err-stat : goal.blocks::block-returns-in_err-stat
 blocks::block-returns-in_err-stat t c =
-    let p = err_from_is_err_and c.from_residual.result c.from_residual.ensures.1 in
+    let p = err_from_is_err_and c.from_residual-in_err-stat.result c.from_residual-in_err-stat.ensures.1 in
     rw (p.1, p.2) (stat_fault _ c.stats.invariant (ap block_goes (sym c.sort_at-first.ensures) ∙ sym c.goes_on_block.ensures ∙ c.if-not-goes_on_block.false) c.in_err-stat.ensures)
 
 pub blocks::block-returns-then-closes : goal.blocks::block-returns-then-closes
@@ -817,7 +817,7 @@ assignments::simple-assignment-requires t c =
     (omega (arith, c.decreases), (c.requires.ended, (c.requires.inside, (c.requires.begins, (c.if-around-gt200.false, (prefix_stood c.under.ensures c.in_ok-first.ensures, var_is _ (sym c.is_var.ensures ∙ c.if-not-is_var.false)))))))
 
 pub assignments::assignment-targets-init : goal.assignments::assignment-targets-init
-assignments::assignment-targets-init t c = targets_first _ c.args.around _ _ _ _ _ c.requires.room c.requires.begins c.requires.read c.requires.var c.new-tree.ensures c.in_ok-push.ensures.ok
+assignments::assignment-targets-init t c = targets_first _ c.args.around _ _ _ _ _ c.requires.room c.requires.begins c.requires.read c.requires.var c.in_ok-tree.ensures c.in_ok-push.ensures.ok
 
 pub assignments::assignment-exprs-requires : goal.assignments::assignment-exprs-requires
 assignments::assignment-exprs-requires t c =
