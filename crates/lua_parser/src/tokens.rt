@@ -39,6 +39,7 @@ fn word_sort(word: &[u8]) -> Sort
 }
 
 // The other marks (manual 2.1).
+#[inline(always)]
 #[tactic(auto, unfolding(lua_grammar::specs::Tokens::mark_sort))]
 fn mark_sort(mark: &[u8]) -> Sort
     ensures { result ≡ mark_sort mark.now }
@@ -75,6 +76,7 @@ fn mark_sort(mark: &[u8]) -> Sort
 }
 
 /// What a token is to the grammar.
+#[inline(always)]
 pub fn sort_of(token: &Token) -> Sort
     ensures { result ≡ sort_of token.now }
 {
@@ -101,6 +103,7 @@ fn bytes_of(kind: &TokenKind) -> &[u8]
     }
 }
 
+#[inline(always)]
 pub(crate) fn token_at(toks: &[Token], i: usize) -> &Token
     requires { i < length toks.now }
     ensures { result.now ≡ tok_at toks.now i }
@@ -108,6 +111,7 @@ pub(crate) fn token_at(toks: &[Token], i: usize) -> &Token
     &toks[i]
 }
 
+#[inline(always)]
 pub(crate) fn sort_at(toks: &[Token], i: usize) -> Sort
     requires { i < length toks.now }
     ensures { result ≡ sort_at toks.now i }

@@ -637,7 +637,7 @@ conditions::if_stat-returns-in-End t c =
 
 pub conditions::arms-returns-in_err-test : goal.conditions::arms-returns-in_err-test
 conditions::arms-returns-in_err-test t c =
-    let p = err_from_is_err_and c.from_residual.result c.from_residual.ensures.1 in
+    let p = err_from_is_err_and c.from_residual-in_err-test.result c.from_residual-in_err-test.ensures.1 in
     rw (p.1, p.2) (arm_test_fault _ c.arms.invariant.1 c.in_err-test.ensures)
 
 pub conditions::arms-returns-in_default : goal.conditions::arms-returns-in_default
