@@ -11,12 +11,12 @@ use crate::answer::{Fault, Parsed, bad};
 use crate::around::under;
 use crate::make;
 use crate::prefixes::{exprs, prefix};
+use crate::short_lists::short_list;
 use crate::tokens::{line_at, sort_at};
 use lua_grammar::{Around, Sort};
 use lua_lexer::Token;
 use lua_syntax::{Expr, ExprKind, Stat};
 use std::alloc::Global;
-use wk_base::List;
 
 // What begins with a prefix expression.
 #[cycle(parser)]
@@ -68,7 +68,7 @@ fn assignment(
     ensures { StatAnswer toks.now around i result }
 {
     let inner = under(around);
-    let mut tree = List::new(alloc);
+    let mut tree = short_list(alloc)?;
     tree.push(first.tree)?;
     let mut end = first.end;
     let mut height = 1 + first.height;

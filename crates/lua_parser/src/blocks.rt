@@ -10,13 +10,13 @@ use crate::around::in_function;
 use crate::ends::{closes, goes_on_block};
 use crate::make;
 use crate::params::{params, with_self};
+use crate::short_lists::short_list;
 use crate::stats::statement;
 use crate::tokens::sort_at;
 use lua_grammar::{Around, Sort};
 use lua_lexer::Token;
 use lua_syntax::{Block, Function};
 use std::alloc::Global;
-use wk_base::List;
 
 // The parameters and the body of a function, or of a method, which has `self` before its parameters.
 #[cycle(parser)]
@@ -65,7 +65,7 @@ pub(crate) fn block(
     requires high { around.above ≤ 201 }
     ensures { BlockAnswer toks.now around i result }
 {
-    let mut tree = List::new(alloc);
+    let mut tree = short_list(alloc)?;
     let mut end = i;
     let mut height = 0;
     'stats: loop {

@@ -11,6 +11,7 @@ use crate::around::under;
 use crate::blocks::block;
 use crate::exprs::exp;
 use crate::make;
+use crate::short_lists::short_list;
 use crate::tokens::{line_at, sort_at};
 use lua_grammar::{Around, Sort};
 use lua_lexer::Token;
@@ -70,7 +71,7 @@ fn arms(alloc: Global, toks: &[Token], i: usize, around: Around) -> Result<Parse
     requires high { around.above ≤ 201 }
     ensures { Answer toks.now arms_view (arms_lang toks.now around) arms_goes around.above i result }
 {
-    let mut tree = List::new(alloc);
+    let mut tree = short_list(alloc)?;
     let mut at = i;
     let mut height = 0;
     'arms: loop {

@@ -11,6 +11,7 @@ use crate::answer::{Fault, Parsed, bad};
 use crate::around::under;
 use crate::blocks::body;
 use crate::make;
+use crate::short_lists::short_list;
 use crate::tokens::{copy_at, line_at, sort_at};
 use lua_grammar::{Around, Sort};
 use lua_lexer::Token;
@@ -113,7 +114,7 @@ fn single(alloc: Global, value: Expr) -> Result<List<Expr>, Fault>
     ensures ok { IfOk result (λ l. l ≡ value ∷ []) }
     ensures err { IfErr result (λ e. e ≡ NoMemory) }
 {
-    let mut list = List::new(alloc);
+    let mut list = short_list(alloc)?;
     list.push(value)?;
     Ok(list)
 }

@@ -4,9 +4,10 @@
 //! - `blocks`, `stats`, `loops`, `conditions`, `locals`, `assignments`, `functions`: statements
 //! - `exprs`, `prefixes`, `tables`: expressions
 //! - `params`, `names`, `operators`, `ends`: lists of names, operators, and what ends a block
-//! - `laws`: what the grammar alone says of chunks
+//! - `short_lists`: lists that mostly have one item
 //! - `make`: a node is made, with the plain tree for which it stands
 //! - `tokens`, `around`, `answer`: a look at a token, what stands around a node, and what a function of the parser answers
+//! - `laws`: what the grammar alone says of chunks
 #![tactic(auto)]
 
 pub mod answer;
@@ -26,6 +27,7 @@ pub mod operators;
 pub mod params;
 pub mod parser;
 pub mod prefixes;
+pub mod short_lists;
 pub mod stats;
 pub mod tables;
 pub mod tokens;

@@ -6,6 +6,7 @@ ghost use Rattle.lua_parser.specs.Parsing.{Ended};
 ghost use Rattle.lua_parser.specs.StatAnswers.{NamesAnswer};
 
 use crate::answer::{Fault, Parsed, bad};
+use crate::short_lists::short_list;
 use crate::tokens::{copy_at, sort_at};
 use lua_grammar::Sort;
 use lua_lexer::Token;
@@ -19,7 +20,7 @@ pub(crate) fn names(alloc: Global, toks: &[Token], i: usize) -> Result<Parsed<Li
     requires begins { sort_at toks.now i ≡ Name }
     ensures { NamesAnswer toks.now i result }
 {
-    let mut tree = List::new(alloc);
+    let mut tree = short_list(alloc)?;
     let first = copy_at(alloc, toks, i)?;
     tree.push(first)?;
     let mut end = i + 1;

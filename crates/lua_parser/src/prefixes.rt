@@ -12,6 +12,7 @@ use crate::around::under;
 use crate::exprs::exp;
 use crate::make;
 use crate::operators::is_suffix;
+use crate::short_lists::short_list;
 use crate::tables::table;
 use crate::tokens::{copy_at, end_line_at, line_at, sort_at};
 use lua_grammar::{Around, Sort};
@@ -238,7 +239,7 @@ fn arguments(
 fn alone(alloc: Global, arg: Parsed<Expr>) -> Result<Parsed<List<Expr>>, Fault>
     ensures { Alone arg result }
 {
-    let mut tree = List::new(alloc);
+    let mut tree = short_list(alloc)?;
     tree.push(arg.tree)?;
     Ok(Parsed {
         tree,
@@ -260,7 +261,7 @@ pub(crate) fn exprs(
     requires high { around.above ≤ 201 }
     ensures { Answer toks.now exprs_view (all_lang toks.now around) exps_goes around.above i result }
 {
-    let mut tree = List::new(alloc);
+    let mut tree = short_list(alloc)?;
     let mut at = i;
     let mut height = 0;
     'list: loop {

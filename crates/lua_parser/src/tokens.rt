@@ -1,184 +1,82 @@
 //! Tokens by their places, and their sorts.
 ghost use Rattle.std.specs.Prelude.{◌≡◌, ◌<◌, length, IfOk};
-ghost use Rattle.lua_grammar.specs.Tokens.{same, look_up, early_words, middle_words, late_words, word_sort, operators, comparisons, brackets, points, mark_sort, sort_of, sort_at, tok_at, bytes_of, kind_bytes};
+ghost use Rattle.lua_grammar.specs.Tokens.{word_sort, mark_sort, sort_of, sort_at, tok_at, bytes_of, kind_bytes};
 
 use lua_grammar::Sort;
 use lua_lexer::{Token, TokenKind};
 use std::alloc::Global;
 use wk_base::{Bytes, NoMemory};
 
-fn same(word: &[u8], other: &[u8]) -> bool
-    ensures { result ≡ same word.now other.now }
-{
-    word == other
-}
-
-fn early_word(word: &[u8], otherwise: Sort) -> Sort
-    ensures { result ≡ look_up word.now early_words otherwise }
-{
-    if same(word, b"and") {
-        Sort::And
-    } else if same(word, b"break") {
-        Sort::Break
-    } else if same(word, b"do") {
-        Sort::Do
-    } else if same(word, b"else") {
-        Sort::Else
-    } else if same(word, b"elseif") {
-        Sort::Elseif
-    } else if same(word, b"end") {
-        Sort::End
-    } else if same(word, b"false") {
-        Sort::False
-    } else {
-        otherwise
-    }
-}
-
-fn middle_word(word: &[u8], otherwise: Sort) -> Sort
-    ensures { result ≡ look_up word.now middle_words otherwise }
-{
-    if same(word, b"for") {
-        Sort::For
-    } else if same(word, b"function") {
-        Sort::Function
-    } else if same(word, b"if") {
-        Sort::If
-    } else if same(word, b"in") {
-        Sort::In
-    } else if same(word, b"local") {
-        Sort::Local
-    } else if same(word, b"nil") {
-        Sort::Nil
-    } else if same(word, b"not") {
-        Sort::Not
-    } else {
-        otherwise
-    }
-}
-
-fn late_word(word: &[u8], otherwise: Sort) -> Sort
-    ensures { result ≡ look_up word.now late_words otherwise }
-{
-    if same(word, b"or") {
-        Sort::Or
-    } else if same(word, b"repeat") {
-        Sort::Repeat
-    } else if same(word, b"return") {
-        Sort::Return
-    } else if same(word, b"then") {
-        Sort::Then
-    } else if same(word, b"true") {
-        Sort::True
-    } else if same(word, b"until") {
-        Sort::Until
-    } else if same(word, b"while") {
-        Sort::While
-    } else {
-        otherwise
-    }
-}
-
+// The keywords (manual 2.1).
+#[tactic(auto, unfolding(lua_grammar::specs::Tokens::word_sort))]
 fn word_sort(word: &[u8]) -> Sort
     ensures { result ≡ word_sort word.now }
 {
-    early_word(word, middle_word(word, late_word(word, Sort::Other)))
-}
-
-fn operator(mark: &[u8], otherwise: Sort) -> Sort
-    ensures { result ≡ look_up mark.now operators otherwise }
-{
-    if same(mark, b"+") {
-        Sort::Plus
-    } else if same(mark, b"-") {
-        Sort::Minus
-    } else if same(mark, b"*") {
-        Sort::Star
-    } else if same(mark, b"/") {
-        Sort::Slash
-    } else if same(mark, b"%") {
-        Sort::Percent
-    } else if same(mark, b"^") {
-        Sort::Caret
-    } else if same(mark, b"#") {
-        Sort::Hash
-    } else {
-        otherwise
+    match word {
+        b"and" => Sort::And,
+        b"break" => Sort::Break,
+        b"do" => Sort::Do,
+        b"else" => Sort::Else,
+        b"elseif" => Sort::Elseif,
+        b"end" => Sort::End,
+        b"false" => Sort::False,
+        b"for" => Sort::For,
+        b"function" => Sort::Function,
+        b"if" => Sort::If,
+        b"in" => Sort::In,
+        b"local" => Sort::Local,
+        b"nil" => Sort::Nil,
+        b"not" => Sort::Not,
+        b"or" => Sort::Or,
+        b"repeat" => Sort::Repeat,
+        b"return" => Sort::Return,
+        b"then" => Sort::Then,
+        b"true" => Sort::True,
+        b"until" => Sort::Until,
+        b"while" => Sort::While,
+        _ => Sort::Other,
     }
 }
 
-fn comparison(mark: &[u8], otherwise: Sort) -> Sort
-    ensures { result ≡ look_up mark.now comparisons otherwise }
-{
-    if same(mark, b"==") {
-        Sort::EqEq
-    } else if same(mark, b"~=") {
-        Sort::NotEq
-    } else if same(mark, b"<=") {
-        Sort::LessEq
-    } else if same(mark, b">=") {
-        Sort::MoreEq
-    } else if same(mark, b"<") {
-        Sort::Less
-    } else if same(mark, b">") {
-        Sort::More
-    } else if same(mark, b"=") {
-        Sort::Assign
-    } else {
-        otherwise
-    }
-}
-
-fn bracket(mark: &[u8], otherwise: Sort) -> Sort
-    ensures { result ≡ look_up mark.now brackets otherwise }
-{
-    if same(mark, b"(") {
-        Sort::LeftParen
-    } else if same(mark, b")") {
-        Sort::RightParen
-    } else if same(mark, b"{") {
-        Sort::LeftBrace
-    } else if same(mark, b"}") {
-        Sort::RightBrace
-    } else if same(mark, b"[") {
-        Sort::LeftBracket
-    } else if same(mark, b"]") {
-        Sort::RightBracket
-    } else {
-        otherwise
-    }
-}
-
-fn point(mark: &[u8], otherwise: Sort) -> Sort
-    ensures { result ≡ look_up mark.now points otherwise }
-{
-    if same(mark, b";") {
-        Sort::Semicolon
-    } else if same(mark, b":") {
-        Sort::Colon
-    } else if same(mark, b",") {
-        Sort::Comma
-    } else if same(mark, b".") {
-        Sort::Dot
-    } else if same(mark, b"..") {
-        Sort::DotDot
-    } else if same(mark, b"...") {
-        Sort::Dots
-    } else {
-        otherwise
-    }
-}
-
+// The other marks (manual 2.1).
+#[inline(always)]
+#[tactic(auto, unfolding(lua_grammar::specs::Tokens::mark_sort))]
 fn mark_sort(mark: &[u8]) -> Sort
     ensures { result ≡ mark_sort mark.now }
 {
-    bracket(
-        mark,
-        point(mark, comparison(mark, operator(mark, Sort::Other))),
-    )
+    match mark {
+        b"+" => Sort::Plus,
+        b"-" => Sort::Minus,
+        b"*" => Sort::Star,
+        b"/" => Sort::Slash,
+        b"%" => Sort::Percent,
+        b"^" => Sort::Caret,
+        b"#" => Sort::Hash,
+        b"==" => Sort::EqEq,
+        b"~=" => Sort::NotEq,
+        b"<=" => Sort::LessEq,
+        b">=" => Sort::MoreEq,
+        b"<" => Sort::Less,
+        b">" => Sort::More,
+        b"=" => Sort::Assign,
+        b"(" => Sort::LeftParen,
+        b")" => Sort::RightParen,
+        b"{" => Sort::LeftBrace,
+        b"}" => Sort::RightBrace,
+        b"[" => Sort::LeftBracket,
+        b"]" => Sort::RightBracket,
+        b";" => Sort::Semicolon,
+        b":" => Sort::Colon,
+        b"," => Sort::Comma,
+        b"." => Sort::Dot,
+        b".." => Sort::DotDot,
+        b"..." => Sort::Dots,
+        _ => Sort::Other,
+    }
 }
 
 /// What a token is to the grammar.
+#[inline(always)]
 pub fn sort_of(token: &Token) -> Sort
     ensures { result ≡ sort_of token.now }
 {
@@ -205,6 +103,7 @@ fn bytes_of(kind: &TokenKind) -> &[u8]
     }
 }
 
+#[inline(always)]
 pub(crate) fn token_at(toks: &[Token], i: usize) -> &Token
     requires { i < length toks.now }
     ensures { result.now ≡ tok_at toks.now i }
@@ -212,6 +111,7 @@ pub(crate) fn token_at(toks: &[Token], i: usize) -> &Token
     &toks[i]
 }
 
+#[inline(always)]
 pub(crate) fn sort_at(toks: &[Token], i: usize) -> Sort
     requires { i < length toks.now }
     ensures { result ≡ sort_at toks.now i }

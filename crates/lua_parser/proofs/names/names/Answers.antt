@@ -1,12 +1,12 @@
-use Rattle.std.proofs.Common.{◌≡◌, ◌<◌, length, ℕ, refl}
-use Rattle.lua_grammar.specs.declared.Sort.TheVariants.{Comma, Name}
+use Rattle.std.proofs.Common.{refl}
+use Rattle.lua_grammar.specs.declared.Sort.TheVariants.{Comma}
 use Rattle.lua_parser.proofs.StatBegins.{behind_word}
 use Rattle.lua_parser.proofs.StatExits.{read_is, read_not}
 use Rattle.lua_parser.proofs.NameLists.{names_first, names_next, names_done, names_fail}
 use Rattle.lua_parser.proofs.names.names.Goals as goal
 
 pub names-init : goal.names-init
-names-init c = names_first _ _ _ _ _ c.requires.ended c.requires.inside c.requires.begins c.in_ok-first.ensures c.new-tree.ensures c.in_ok-push.ensures.ok
+names-init c = names_first _ _ _ _ _ c.requires.ended c.requires.inside c.requires.begins c.in_ok-first.ensures c.in_ok-tree.ensures c.in_ok-push.ensures.ok
 
 pub returns-in_default : goal.returns-in_default
 returns-in_default c =

@@ -1,7 +1,41 @@
-use Rattle.std.proofs.Common.{refl}
+use Rattle.std.specs.Prelude.{codes}
+use Rattle.std.proofs.Common.{rules, arith, refl}
+use Rattle.std.proofs.lemmas.Slice.Eq.{text_from_reads}
 use Rattle.lua_grammar.specs.Tokens.{word_sort}
 use Rattle.lua_parser.proofs.tokens.word_sort.Goals as goal
 
-pub returns : goal.returns
+pub returns-in-break : goal.returns-in-break
 unfolding word_sort
-returns c = rw (c.early_word.ensures, c.middle_word.ensures, c.late_word.ensures) refl
+returns-in-break c = rw (text_from_reads c.args.word.now (codes "break") (omega arith) (search rules)) refl
+
+pub returns-in-false : goal.returns-in-false
+unfolding word_sort
+returns-in-false c = rw (text_from_reads c.args.word.now (codes "false") (omega arith) (search rules)) refl
+
+pub returns-in-local : goal.returns-in-local
+unfolding word_sort
+returns-in-local c = rw (text_from_reads c.args.word.now (codes "local") (omega arith) (search rules)) refl
+
+pub returns-in-until : goal.returns-in-until
+unfolding word_sort
+returns-in-until c = rw (text_from_reads c.args.word.now (codes "until") (omega arith) (search rules)) refl
+
+pub returns-in-while : goal.returns-in-while
+unfolding word_sort
+returns-in-while c = rw (text_from_reads c.args.word.now (codes "while") (omega arith) (search rules)) refl
+
+pub returns-in-elseif : goal.returns-in-elseif
+unfolding word_sort
+returns-in-elseif c = rw (text_from_reads c.args.word.now (codes "elseif") (omega arith) (search rules)) refl
+
+pub returns-in-repeat : goal.returns-in-repeat
+unfolding word_sort
+returns-in-repeat c = rw (text_from_reads c.args.word.now (codes "repeat") (omega arith) (search rules)) refl
+
+pub returns-in-return : goal.returns-in-return
+unfolding word_sort
+returns-in-return c = rw (text_from_reads c.args.word.now (codes "return") (omega arith) (search rules)) refl
+
+pub returns-in-function : goal.returns-in-function
+unfolding word_sort
+returns-in-function c = rw (text_from_reads c.args.word.now (codes "function") (omega arith) (search rules)) refl
