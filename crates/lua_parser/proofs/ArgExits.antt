@@ -1,22 +1,21 @@
 -- The lemmas as the exits of the code want them: for arguments and fields.
-use Rattle.std.proofs.Common.{◌≡◌, ◌≢◌, ℕ, zero, suc, pred, [], ◌∷◌, ◌++◌, ◌-◌, ◌+◌, ◌<◌, ◌≤◌, ◌⊎◌, max, Bool, true, false, List, length, refl, sym, ap, subst, ◌∙◌, inl, inr, le_trans, le_refl, lt_of_le_of_lt, lt-suc_self, arith, true≢false, add-one}
+use Rattle.std.proofs.Common.{◌≡◌, ◌≢◌, ℕ, pred, ◌-◌, ◌+◌, ◌<◌, ◌≤◌, ◌⊎◌, max, false, List, length, refl, sym, ap, subst, ◌∙◌, inl, inr, arith}
 use Rattle.std.specs.Prelude.{Result, Ok, Err}
 use Rattle.lua_lexer.specs.declared.token.Token.{Token}
 use Rattle.lua_syntax.specs.declared.Expr.{Expr}
-use Rattle.lua_syntax.specs.declared.Field.{Field}
 use Rattle.lua_grammar.specs.declared.Sort.{Sort}
 use Rattle.lua_grammar.specs.declared.Sort.TheVariants.{Eof, Name, Text, LeftParen, RightParen, LeftBrace, LeftBracket, RightBracket, Comma, Semicolon, Assign}
 use Rattle.lua_grammar.specs.declared.Around.{Around}
 use Rattle.lua_grammar.specs.Tokens.{sort_at, tok_at, bytes_of}
-use Rattle.lua_syntax.specs.View.{expr_view, exprs_view, field_view}
-use Rattle.lua_syntax.specs.Tree.{Exp, Exps, Fields, TextE, NoExp, MoreExp, NoField, Item, Pair}
+use Rattle.lua_syntax.specs.View.{expr_view, exprs_view}
+use Rattle.lua_syntax.specs.Tree.{Exp, Exps, Fields, TextE, NoExp, NoField, Item, Pair}
 use Rattle.lua_parser.specs.declared.answer.Fault.{Fault}
 use Rattle.lua_parser.specs.declared.answer.Fault.TheVariants.{At, NoMemory}
 use Rattle.lua_parser.specs.declared.answer.Parsed.{Parsed}
-use Rattle.lua_parser.specs.Parsing.{Lang, Stops, Below, Stood, Before, Broke, Ended, exp_lang, args_lang, all_lang, nothing, goes_on, exps_goes, operand_lang, OperandStood, ExpStood}
-use Rattle.lua_parser.specs.Answers.{Failed, Grown, Answer, Alone, OperandAnswer, field_lang, field_goes, one_field, IsItem}
-use Rattle.lua_parser.proofs.Steps.{Kind, Rest, Done, Word, Here, Either, Left, Follows, all_read, unexpected, here_step, here_fails, word_step, word_fails, follows_word, follows_done, first_way, second_way, word_closed}
-use Rattle.lua_parser.proofs.PieceKinds.{exp_kind, all_kind, args_opens}
+use Rattle.lua_parser.specs.Parsing.{Below, Stood, Broke, Ended, exp_lang, args_lang, all_lang, nothing, goes_on, exps_goes, operand_lang, OperandStood, ExpStood}
+use Rattle.lua_parser.specs.Answers.{Failed, Grown, Answer, Alone, field_lang, field_goes, IsItem}
+use Rattle.lua_parser.proofs.Steps.{Done, Word, Here, Left, all_read, here_step, here_fails, word_step, word_fails, follows_word, follows_done, first_way, second_way, word_closed}
+use Rattle.lua_parser.proofs.PieceKinds.{exp_kind, all_kind}
 use Rattle.lua_syntax.specs.declared.BinaryOp.{BinaryOp}
 use Rattle.lua_grammar.specs.Grammar.{under, right_level}
 use Rattle.lua_parser.proofs.Levels.{right-low}
@@ -24,9 +23,9 @@ use Rattle.lua_parser.proofs.Climb.{Climbs}
 use Rattle.lua_parser.proofs.Suffixes.{Chain}
 use Rattle.lua_parser.proofs.Operands.{class, operand_stood}
 use Rattle.lua_parser.proofs.Atoms.{text_starts, fits_of}
-use Rattle.lua_parser.proofs.Lists.{open_rest, open_starts, open_apart, all_closed, alone_stood, alone_fails, text_deep, no_args}
-use Rattle.lua_parser.proofs.FieldLemmas.{IsSeparator, bracket_field_starts, key_field_starts, key_deep, item_stood, item_fails}
-use Rattle.lua_parser.proofs.Exits.{more_after, right_paren_not_eof, right_bracket_not_eof, text_not_eof, text_same}
+use Rattle.lua_parser.proofs.Lists.{open_starts, all_closed, alone_stood, alone_fails}
+use Rattle.lua_parser.proofs.FieldLemmas.{IsSeparator, bracket_field_starts, key_field_starts, item_stood, item_fails}
+use Rattle.lua_parser.proofs.Exits.{more_after, right_paren_not_eof, text_not_eof, text_same}
 
 -- ---- arguments
 

@@ -1,5 +1,5 @@
 -- The arms of `if`, and its exits.
-use Rattle.std.proofs.Common.{◌≡◌, ◌≢◌, ℕ, zero, suc, [], ◌∷◌, ◌++◌, ◌-◌, ◌+◌, ◌<◌, ◌≤◌, ◌⊎◌, max, Bool, true, false, List, length, refl, sym, ap, subst, ◌∙◌, inl, inr, arith, true≢false, add-one, le_refl}
+use Rattle.std.proofs.Common.{◌≡◌, ◌≢◌, ℕ, suc, [], ◌∷◌, ◌++◌, ◌-◌, ◌+◌, ◌<◌, ◌≤◌, max, Bool, false, List, length, refl, sym, ap, subst, ◌∙◌, inl, inr, arith}
 use Rattle.lua_lexer.specs.declared.token.Token.{Token}
 use Rattle.lua_syntax.specs.declared.Arm.{Arm as ArmNode}
 use Rattle.lua_grammar.specs.declared.Sort.{Sort}
@@ -10,15 +10,14 @@ use Rattle.lua_syntax.specs.Tree.{Exp, Block, Arms, Stat, IfS, IfElseS, Arm, NoA
 use Rattle.lua_grammar.specs.Grammar.{given_of, under, word, SpellsArms, MoreArms}
 use Rattle.lua_syntax.specs.View.{arm_view, arms_view}
 use Rattle.lua_parser.specs.declared.answer.Fault.{Fault}
-use Rattle.lua_parser.specs.declared.answer.Fault.TheVariants.{At, NoMemory}
-use Rattle.lua_parser.specs.Parsing.{Stops, Below, Stood, Broke, Ended, high, stat_lang, block_lang, exp_lang, arms_lang, goes_on, block_goes, arms_goes, ExpStood}
+use Rattle.lua_parser.specs.Parsing.{Stood, Broke, Ended, high, stat_lang, block_lang, exp_lang, arms_lang, goes_on, block_goes, arms_goes, ExpStood}
 use Rattle.lua_parser.specs.Answers.{Failed, Grown}
-use Rattle.lua_parser.proofs.Steps.{Rest, Done, Word, Here, Under, Either, Reads, Left, Kind, Follows, Closed, word_step, word_fails, here_step, under_step, first_way, second_way, word_closed, done_closed, follows_word, follows_done, follows_either}
+use Rattle.lua_parser.proofs.Steps.{Rest, Done, Word, Here, Under, Either, Reads, Left, Follows, word_step, word_fails, here_step, under_step, first_way, second_way, word_closed, done_closed, follows_word, follows_done, follows_either}
 use Rattle.lua_parser.proofs.PieceKinds.{exp_kind, block_kind, arms_kind}
 use Rattle.lua_parser.proofs.StatBegins.{behind_word}
 use Rattle.lua_parser.proofs.StatExits.{whole, under_fault}
 use Rattle.lua_parser.proofs.NameLists.{same_rest, start}
-use Rattle.lua_parser.proofs.StatForms.{else_rest, if_rest, if_starts}
+use Rattle.lua_parser.proofs.StatForms.{else_rest, if_starts}
 use Rattle.lua_parser.proofs.FormExits.{here_fault}
 
 -- these arms, and then more

@@ -1,22 +1,21 @@
 -- The statements of a block.
-use Rattle.std.proofs.Common.{◌≡◌, ◌≢◌, ℕ, zero, suc, [], ◌∷◌, ◌++◌, ◌-◌, ◌+◌, ◌<◌, ◌≤◌, ◌⊎◌, max, Bool, true, false, List, length, refl, sym, ap, subst, ◌∙◌, inl, inr, arith, true≢false, add-one, le_refl}
+use Rattle.std.proofs.Common.{◌≡◌, ◌≢◌, ℕ, [], ◌∷◌, ◌++◌, ◌-◌, ◌<◌, ◌≤◌, ◌⊎◌, max, Bool, true, false, List, length, refl, sym, ap, subst, ◌∙◌, inl, inr, arith, true≢false}
 use Rattle.lua_lexer.specs.declared.token.Token.{Token}
 use Rattle.lua_syntax.specs.declared.Stat.{Stat as StatNode}
 use Rattle.lua_grammar.specs.declared.Sort.{Sort}
 use Rattle.lua_grammar.specs.declared.Sort.TheVariants.{Name, Break, Do, Else, Elseif, End, Eof, For, Function, If, Local, Repeat, Return, Until, While, LeftParen, Semicolon}
 use Rattle.lua_grammar.specs.declared.Around.{Around}
-use Rattle.lua_grammar.specs.Tokens.{sort_at, tok_at}
-use Rattle.lua_syntax.specs.Tree.{Exp, Block, Stat, NoStat, MoreStat, AssignS, CallS, DoS, WhileS, RepeatS, IfS, IfElseS, CountS, CountByS, EachS, LocalFunctionS, LocalS, ReturnS, BreakS}
+use Rattle.lua_grammar.specs.Tokens.{sort_at}
+use Rattle.lua_syntax.specs.Tree.{Block, Stat, NoStat, MoreStat, AssignS, CallS, DoS, WhileS, RepeatS, IfS, IfElseS, CountS, CountByS, EachS, LocalFunctionS, LocalS, ReturnS, BreakS}
 use Rattle.lua_grammar.specs.Grammar.{given_of, word, SpellsBlock, SpellsStat, IsLast, IsEmpty}
 use Rattle.lua_syntax.specs.View.{stat_view, stats_view}
 use Rattle.lua_parser.specs.declared.answer.Fault.{Fault}
-use Rattle.lua_parser.specs.declared.answer.Fault.TheVariants.{At, NoMemory}
-use Rattle.lua_parser.specs.Parsing.{Stops, Below, Stood, Broke, Ended, high, stat_lang, block_lang, block_goes, stat_goes, last_goes, goes_after}
+use Rattle.lua_parser.specs.Parsing.{Stops, Stood, Broke, high, stat_lang, block_lang, block_goes, stat_goes, last_goes, goes_after}
 use Rattle.lua_parser.specs.Answers.{Failed, Grown}
 use Rattle.lua_parser.specs.StatAnswers.{Behind, closing, Opening}
-use Rattle.lua_parser.proofs.Steps.{Rest, Done, Word, Here, Under, Either, Reads, Left, Kind, Follows, Closed, word_step, here_step, first_way, second_way, word_closed, done_closed, all_read, follows_word, follows_done, follows_either, unexpected}
+use Rattle.lua_parser.proofs.Steps.{Rest, Done, Word, Here, Either, Reads, Left, Follows, Closed, word_step, here_step, first_way, second_way, word_closed, done_closed, all_read, follows_word, follows_either, unexpected}
 use Rattle.lua_parser.proofs.PieceKinds.{block_kind, stat_kind, stat_opens}
-use Rattle.lua_parser.proofs.StatBegins.{Starts, Beginning, stat_begins, behind_word}
+use Rattle.lua_parser.proofs.StatBegins.{Starts, Beginning, stat_begins}
 use Rattle.lua_parser.proofs.NameLists.{same_rest, start, at_place}
 use Rattle.lua_parser.proofs.FormExits.{here_fault}
 

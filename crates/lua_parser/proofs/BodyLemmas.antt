@@ -1,17 +1,17 @@
 -- Parameters and bodies of functions.
-use Rattle.std.proofs.Common.{◌≡◌, ◌≢◌, ℕ, zero, suc, pred, [], ◌∷◌, ◌++◌, ◌-◌, ◌+◌, ◌<◌, ◌≤◌, ◌⊎◌, max, Bool, true, false, List, length, refl, sym, ap, subst, ◌∙◌, inl, inr, le_trans, le_refl, lt_of_le_of_lt, lt-suc_self, arith, true≢false, add-one, append_assoc, append-nil}
+use Rattle.std.proofs.Common.{◌≡◌, ◌≢◌, ℕ, suc, [], ◌∷◌, ◌++◌, ◌+◌, ◌<◌, Bool, true, false, List, length, refl, sym, ap, subst, ◌∙◌, inl, inr, le_refl, arith, true≢false}
 use Rattle.std.specs.Prelude.{codes}
 use Rattle.lua_lexer.specs.declared.token.Token.{Token}
 use Rattle.lua_grammar.specs.declared.Sort.{Sort}
-use Rattle.lua_grammar.specs.declared.Sort.TheVariants.{Eof, Name, LeftParen, RightParen, Comma, Dots, End}
+use Rattle.lua_grammar.specs.declared.Sort.TheVariants.{Name, LeftParen, RightParen, Comma, Dots, End}
 use Rattle.lua_grammar.specs.declared.Around.{Around}
 use Rattle.lua_grammar.specs.Tokens.{sort_at, tok_at, bytes_of}
-use Rattle.lua_syntax.specs.Tree.{Fun, Block, Lambda, NoStat}
-use Rattle.lua_grammar.specs.Grammar.{given_of, word, text, in_function, Names, MoreNames, Params, SpellsFun, SpellsMethod, SpellsBlock}
-use Rattle.lua_parser.specs.Parsing.{Lang, Stops, Below, Stood, Before, Broke, block_lang, block_goes, nothing}
-use Rattle.lua_parser.specs.Answers.{Parameters, params_lang, params_goes, body_lang, Grown}
-use Rattle.lua_parser.proofs.Steps.{CanOpen, Kind, Rest, Done, Word, Named, Here, Either, Reads, Left, Follows, follows_word, follows_done, here_step, word_step, word_fails, named_step, first_way, second_way, word_closed, done_closed, Closed, inline, all_read}
-use Rattle.lua_parser.proofs.PieceKinds.{params_kind, params_opens, block_kind}
+use Rattle.lua_syntax.specs.Tree.{Fun, Block, Lambda}
+use Rattle.lua_grammar.specs.Grammar.{given_of, word, text, in_function, Params, SpellsFun, SpellsMethod}
+use Rattle.lua_parser.specs.Parsing.{Lang, Stops, Below, Stood, Broke, nothing}
+use Rattle.lua_parser.specs.Answers.{Parameters, params_lang, params_goes, body_lang}
+use Rattle.lua_parser.proofs.Steps.{CanOpen, Kind, Rest, Done, Word, Named, Here, Either, Reads, Left, follows_done, word_step, word_fails, named_step, first_way, second_way, word_closed, done_closed, Closed, inline, all_read}
+use Rattle.lua_parser.proofs.PieceKinds.{params_kind, block_kind}
 
 -- Parameters, of which there is one at least.
 abbrev pub some_lang : List Token → Parameters → Lang

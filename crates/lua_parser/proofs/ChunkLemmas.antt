@@ -1,17 +1,17 @@
 -- From a block to the whole text.
-use Rattle.std.proofs.Common.{◌≡◌, ◌≢◌, ℕ, zero, suc, [], ◌∷◌, ◌++◌, ◌-◌, ◌+◌, ◌<◌, ◌≤◌, ◌⊎◌, Bool, true, false, List, length, refl, sym, ap, subst, ◌∙◌, inl, inr, le_refl, lt-suc_self, arith}
+use Rattle.std.proofs.Common.{◌≡◌, ◌≢◌, ℕ, suc, ◌<◌, ◌≤◌, false, List, length, refl, sym, subst, inl, inr, le_refl, lt-suc_self, arith}
 use Rattle.lua_lexer.specs.declared.token.Token.{Token}
 use Rattle.lua_grammar.specs.declared.Sort.{Sort}
 use Rattle.lua_grammar.specs.declared.Sort.TheVariants.{Eof}
-use Rattle.lua_grammar.specs.Tokens.{sort_at, tok_at}
+use Rattle.lua_grammar.specs.Tokens.{sort_at}
 use Rattle.lua_syntax.specs.Tree.{Block}
 use Rattle.lua_grammar.specs.Grammar.{given_of, SpellsBlock, SpellsChunk, IsChunk, Begins, FirstFault, outside}
-use Rattle.std.specs.Prelude.{Result, Ok, Err}
+use Rattle.std.specs.Prelude.{Err}
 use Rattle.lua_parser.specs.declared.answer.Fault.{Fault}
 use Rattle.lua_parser.specs.declared.answer.Fault.TheVariants.{At, NoMemory}
 use Rattle.lua_parser.specs.Answers.{Failed}
 use Rattle.lua_parser.specs.Chunks.{ChunkAnswer}
-use Rattle.lua_parser.specs.Parsing.{Stops, Below, Stood, Before, Broke, Ended, block_lang, block_goes}
+use Rattle.lua_parser.specs.Parsing.{Stops, Stood, Broke, Ended, block_lang, block_goes}
 
 abbrev ended_stops : (ts : List Token) (n j : ℕ) → (j < n → sort_at ts j ≡ Eof) → Stops ts block_goes n j
 ended_stops ts n j e lt = let P : Sort → Type 0 = λ s. block_goes s ≡ false in subst P (sym (e lt)) refl

@@ -1,17 +1,17 @@
 -- The loop over binary operators.
-use Rattle.std.proofs.Common.{◌≡◌, ◌≢◌, ℕ, zero, suc, [], ◌-◌, ◌+◌, ◌<◌, ◌≤◌, ◌⊎◌, max, Bool, true, false, cond, nat_lt, nat_le, List, length, refl, sym, ap, subst, ◌∙◌, inl, inr, le_trans, le_refl, lt_of_le_of_lt, lt-suc_self, arith, true≢false, add-one}
+use Rattle.std.proofs.Common.{◌≡◌, ℕ, suc, [], ◌-◌, ◌+◌, ◌<◌, ◌≤◌, ◌⊎◌, max, true, false, List, length, refl, sym, ap, subst, ◌∙◌, inl, inr, le_trans, le_refl, lt-suc_self, arith, true≢false}
 use Rattle.lua_lexer.specs.declared.token.Token.{Token}
 use Rattle.lua_syntax.specs.declared.BinaryOp.{BinaryOp}
 use Rattle.lua_grammar.specs.declared.Sort.{Sort}
-use Rattle.lua_grammar.specs.declared.Sort.TheVariants.{Name, LeftBracket, RightBracket, Colon, LeftParen, Text, LeftBrace, Dot}
+use Rattle.lua_grammar.specs.declared.Sort.TheVariants.{LeftBracket, Colon, LeftParen, Text, LeftBrace, Dot}
 use Rattle.lua_grammar.specs.declared.Around.{Around}
-use Rattle.lua_grammar.specs.Tokens.{sort_at, tok_at, sort_of}
-use Rattle.lua_syntax.specs.Tree.{Exp, Exps, NilE, TrueE, FalseE, NumberE, TextE, DotsE, FunctionE, NameE, IndexE, CallE, MethodE, TableE, BinaryE, UnaryE, ParenE, NoExp, MoreExp}
-use Rattle.lua_grammar.specs.Grammar.{Given, given_of, Span, ◌⨟◌, ◌∣◌, word, text, node, ends, before, under, where', Is, Spells, SpellsArgs, SpellsDot, IsPrefix, IsAlone, mark_of, level, left_level, right_level, suffix_goes}
-use Rattle.lua_parser.specs.Parsing.{Lang, Stops, Below, Stood, Before, Broke, high, exp_lang, nothing, goes_on, Stands, IsOperand, Closes, operand_lang, OperandStood, ExpStood}
+use Rattle.lua_grammar.specs.Tokens.{sort_at, tok_at}
+use Rattle.lua_syntax.specs.Tree.{Exp, Exps, TextE, NameE, IndexE, CallE, MethodE, TableE, BinaryE, UnaryE, ParenE, NoExp, MoreExp}
+use Rattle.lua_grammar.specs.Grammar.{given_of, ◌⨟◌, before, under, where', Spells, SpellsArgs, IsPrefix, IsAlone, mark_of, level, left_level, right_level, suffix_goes}
+use Rattle.lua_parser.specs.Parsing.{Stops, Below, Before, Broke, high, exp_lang, nothing, goes_on, Stands, IsOperand, Closes, operand_lang, OperandStood, ExpStood}
 use Rattle.lua_parser.proofs.PieceKinds.{open_name}
-use Rattle.lua_parser.proofs.Levels.{same_mark, goes, goes-not, goes-mono, mark-no_suffix, right-least, after-right, right-after, stops-low, low-left, left-seven}
-use Rattle.lua_parser.proofs.Chains.{raised, before_high, raised_above, raised_most, raised_given, head_level, IsOn, Tail, Same, Spine, spine_end, level-left, left-low, level-low, Next, next}
+use Rattle.lua_parser.proofs.Levels.{same_mark, goes, goes-not, goes-mono, right-least, after-right, right-after, stops-low, low-left}
+use Rattle.lua_parser.proofs.Chains.{raised, before_high, raised_above, raised_most, raised_given, head_level, IsOn, Tail, Same, Spine, spine_end, left-low, level-low, Next, next}
 
 -- ---- the operand at the left end
 

@@ -1,14 +1,14 @@
 -- The tokens of a text end with the end, and no other is one.
-use Rattle.std.proofs.Common.{◌≡◌, ◌≢◌, ℕ, zero, suc, pred, [], ◌∷◌, ◌++◌, ◌-◌, ◌+◌, ◌<◌, ◌≤◌, ◌⊎◌, Bool, true, false, List, length, refl, sym, ap, subst, ◌∙◌, inl, inr, le_refl, lt-suc_self, arith, take, drop, suc-le-suc}
+use Rattle.std.proofs.Common.{◌≡◌, ◌≢◌, ℕ, zero, suc, pred, [], ◌∷◌, ◌++◌, ◌+◌, ◌<◌, Bool, true, false, List, length, refl, sym, ap, subst, arith, take, drop}
 use Rattle.std.specs.Prelude.{Option, Some, None, Result, Ok, Err, if◌then◌else◌, ◌==◌, ◌&&◌}
 use Rattle.std.specs.List.{prefix_len}
 use Rattle.lua_lexer.specs.declared.token.Token.{Token}
 use Rattle.lua_lexer.specs.declared.token.TokenKind.{TokenKind}
 use Rattle.lua_lexer.specs.declared.token.TokenKind.TheVariants.{Name as NameToken, Word, Mark, Number as NumberToken, Text as TextToken, End as EndToken}
 use Rattle.lua_lexer.specs.declared.token.Piece.{Piece}
-use Rattle.lua_lexer.specs.Lexis.{Lexes, Spells, tokens_of, end_token, line_behind, piece_of, Body, Closed, Open, at, is_space, is_letter, is_numeral, is_quote, opens_long, is_keyword, word_kind, string_of, long_piece, long_string, long_comment, comment_of, mark_of, mark_size, token_piece, before_closing, string_body, equals_behind, skipped, is_name_byte, numeral_size}
+use Rattle.lua_lexer.specs.Lexis.{Lexes, Spells, tokens_of, line_behind, piece_of, Body, Closed, Open, at, is_space, is_letter, is_numeral, is_quote, opens_long, is_keyword, word_kind, string_of, long_piece, long_string, long_comment, comment_of, mark_of, mark_size, token_piece, before_closing, string_body, equals_behind, skipped, is_name_byte, numeral_size}
 use Rattle.lua_grammar.specs.declared.Sort.{Sort}
-use Rattle.lua_grammar.specs.declared.Sort.TheVariants.{Name, Number, Text, Eof, And, Break, Do, Else, Elseif, End, False, For, Function, If, In, Local, Nil, Not, Or, Repeat, Return, Then, True, Until, While, Plus, Minus, Star, Slash, Percent, Caret, Hash, EqEq, NotEq, LessEq, MoreEq, Less, More, Assign, LeftParen, RightParen, LeftBrace, RightBrace, LeftBracket, RightBracket, Semicolon, Colon, Comma, Dot, DotDot, Dots, Other}
+use Rattle.lua_grammar.specs.declared.Sort.TheVariants.{Eof, Other}
 use Rattle.lua_grammar.specs.Tokens.{sort_of, sort_at, tok_at, kind_sort, word_sort, mark_sort, look_up, same, Entry, early_words, middle_words, late_words, operators, comparisons, brackets, points}
 use Rattle.lua_parser.specs.Parsing.{Ended}
 

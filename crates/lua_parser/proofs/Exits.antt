@@ -1,31 +1,29 @@
 -- The lemmas as the exits of the code want them: for expressions.
-use Rattle.std.proofs.Common.{◌≡◌, ◌≢◌, ℕ, zero, suc, pred, [], ◌∷◌, ◌++◌, ◌-◌, ◌+◌, ◌<◌, ◌≤◌, ◌⊎◌, max, Bool, true, false, List, length, refl, sym, ap, subst, ◌∙◌, inl, inr, le_trans, le_refl, lt_of_le_of_lt, lt-suc_self, arith, true≢false, add-one, eq-or-lt_of_le, Option, Some, None}
-use Rattle.std.specs.Prelude.{ℤ, Result, Ok, Err}
+use Rattle.std.proofs.Common.{◌≡◌, ◌≢◌, ℕ, suc, pred, ◌+◌, ◌<◌, ◌≤◌, ◌⊎◌, max, false, List, length, refl, sym, ap, subst, ◌∙◌, inl, inr, arith, true≢false, add-one, eq-or-lt_of_le}
+use Rattle.std.specs.Prelude.{Result, Ok, Err}
 use Rattle.lua_lexer.specs.declared.token.Token.{Token}
 use Rattle.lua_syntax.specs.declared.Expr.{Expr}
 use Rattle.lua_syntax.specs.declared.BinaryOp.{BinaryOp}
 use Rattle.lua_syntax.specs.declared.UnaryOp.{UnaryOp}
 use Rattle.lua_syntax.specs.declared.UnaryOp.TheVariants.{Not as NotOp, Len, Minus as MinusOp}
-use Rattle.lua_number.specs.Numerals.{read_numeral_of}
 use Rattle.lua_grammar.specs.declared.Sort.{Sort}
 use Rattle.lua_grammar.specs.declared.Sort.TheVariants.{Eof, Name, Number, Text, Nil, True, False, Dots, Function, Not, Hash, Minus, LeftParen, RightParen, LeftBrace, RightBrace, LeftBracket, RightBracket, Colon, Dot, Comma, Assign}
 use Rattle.lua_grammar.specs.declared.Around.{Around}
-use Rattle.lua_grammar.specs.Tokens.{sort_at, tok_at, sort_of, bytes_of}
-use Rattle.lua_syntax.specs.View.{expr_view, exprs_view}
-use Rattle.lua_syntax.specs.Tree.{Exp, Exps, NilE, TrueE, FalseE, NumberE, TextE, DotsE, FunctionE, NameE, IndexE, CallE, MethodE, TableE, BinaryE, UnaryE, ParenE, NoExp, MoreExp}
-use Rattle.lua_grammar.specs.Grammar.{given_of, mark_of, level, right_level, left_level, sign_of, under, suffix_goes}
+use Rattle.lua_grammar.specs.Tokens.{sort_at, tok_at, bytes_of}
+use Rattle.lua_syntax.specs.View.{expr_view}
+use Rattle.lua_syntax.specs.Tree.{Exp, TextE, NameE, BinaryE, UnaryE}
+use Rattle.lua_grammar.specs.Grammar.{mark_of, level, right_level, sign_of, under}
 use Rattle.lua_parser.specs.declared.answer.Fault.{Fault}
 use Rattle.lua_parser.specs.declared.answer.Fault.TheVariants.{At, NoMemory}
 use Rattle.lua_parser.specs.declared.answer.Parsed.{Parsed}
-use Rattle.lua_parser.specs.Parsing.{Lang, Stops, Below, Stood, Before, Broke, Ended, high, exp_lang, prefix_lang, args_lang, all_lang, fields_lang, nothing, goes_on, exps_goes, Stands, IsOperand, operand_lang, OperandStood, PrefixStood, ExpStood}
-use Rattle.lua_parser.specs.Answers.{Failed, Grown, Answer, ExpAnswer, OperandAnswer, PrefixAnswer, OneToken, Alone, primary_lang, suffix_lang, name_lang, has_parts, body_lang}
-use Rattle.lua_parser.proofs.Steps.{Kind, Rest, Done, Word, Named, Here, Under, Either, Reads, Left, Follows, all_read, too_deep, unexpected, under_step, under_fails, here_step, here_fails, word_step, word_fails, named_step, named_fails, follows_word, follows_done, follows_nothing, first_way, second_way, word_closed}
-use Rattle.lua_parser.proofs.PieceKinds.{operand_opens, name_opens, exp_kind, args_kind, all_kind, name_kind, fields_kind, body_kind}
-use Rattle.lua_parser.proofs.Levels.{not_op-stops, goes-not, right-low, mark-not_eof}
-use Rattle.lua_parser.proofs.Climb.{Climbs, begin, finish, more, deep, right_breaks, operand_breaks}
-use Rattle.lua_parser.proofs.Operands.{class, operand_node, operand_stood, prefix_operand, prefix_operand_fails}
-use Rattle.lua_parser.proofs.Atoms.{operand_deep, operand_unexpected, left_can, dots_starts, dots_can, dots_outside, number_starts, number_invalid, nil_starts, true_starts, false_starts, text_starts, closed_kind, closed_stood, closed_fails, unary_rest, unary_starts, table_rest, table_starts, function_rest, function_starts, fits_of}
-use Rattle.lua_parser.proofs.Lists.{key_starts, key_node, no_key}
+use Rattle.lua_parser.specs.Parsing.{Below, Stood, Broke, Ended, exp_lang, nothing, goes_on, operand_lang, OperandStood, ExpStood}
+use Rattle.lua_parser.specs.Answers.{Failed, Grown, OperandAnswer, PrefixAnswer, OneToken, name_lang, has_parts}
+use Rattle.lua_parser.proofs.Steps.{Done, Left, all_read, under_step, under_fails, follows_nothing}
+use Rattle.lua_parser.proofs.Levels.{not_op-stops, goes-not}
+use Rattle.lua_parser.proofs.Climb.{Climbs, finish, more, deep, right_breaks, operand_breaks}
+use Rattle.lua_parser.proofs.Operands.{class, operand_stood, prefix_operand, prefix_operand_fails}
+use Rattle.lua_parser.proofs.Atoms.{operand_deep, operand_unexpected, left_can, closed_kind, closed_stood, closed_fails, unary_starts, fits_of}
+use Rattle.lua_parser.proofs.Lists.{key_starts}
 
 -- A token that isn't the end has another behind it.
 pub more_after : (ts : List Token) (i : ℕ) (s : Sort) → Ended ts → i < length ts → sort_at ts i ≡ s → s ≢ Eof → i + 1 < length ts

@@ -1,20 +1,20 @@
 -- Fields of table constructors.
-use Rattle.std.proofs.Common.{◌≡◌, ◌≢◌, ℕ, zero, suc, pred, [], ◌∷◌, ◌++◌, ◌-◌, ◌+◌, ◌<◌, ◌≤◌, ◌⊎◌, max, Bool, true, false, cond, nat_lt, nat_le, List, length, refl, sym, ap, subst, ◌∙◌, inl, inr, le_trans, le_refl, lt_of_le_of_lt, lt-suc_self, arith, true≢false, add-one, eq-or-lt_of_le}
+use Rattle.std.proofs.Common.{◌≡◌, ◌≢◌, ℕ, suc, [], ◌∷◌, ◌++◌, ◌-◌, ◌+◌, ◌<◌, ◌≤◌, ◌⊎◌, max, true, false, List, length, refl, sym, ap, subst, ◌∙◌, inl, inr, le_trans, le_refl, lt_of_le_of_lt, arith, true≢false, add-one}
 use Rattle.lua_lexer.specs.declared.token.Token.{Token}
 use Rattle.lua_syntax.specs.declared.Field.{Field}
 use Rattle.lua_grammar.specs.declared.Sort.{Sort}
 use Rattle.lua_grammar.specs.declared.Sort.TheVariants.{Name, LeftBracket, RightBracket, RightBrace, Assign, Comma, Semicolon}
 use Rattle.lua_grammar.specs.declared.Around.{Around}
-use Rattle.lua_grammar.specs.Tokens.{sort_at, tok_at, sort_of, bytes_of}
+use Rattle.lua_grammar.specs.Tokens.{sort_at, tok_at, bytes_of}
 use Rattle.lua_syntax.specs.View.{field_view, fields_view}
 use Rattle.lua_syntax.specs.Tree.{Exp, Fields, NameE, TextE, NoField, Item, Pair}
-use Rattle.lua_grammar.specs.Grammar.{Given, given_of, Span, ◌⨟◌, ◌∣◌, word, text, node, separator, where', NoneLeft, Spells, SpellsFields, SpellsName, suffix_goes}
+use Rattle.lua_grammar.specs.Grammar.{given_of, ◌⨟◌, text, node, separator, NoneLeft, Spells, SpellsFields, SpellsName, suffix_goes}
 use Rattle.lua_syntax.proofs.Views.{FieldIs, field_is}
-use Rattle.lua_parser.specs.Parsing.{Lang, Stops, Below, Stood, Before, Broke, high, exp_lang, fields_lang, nothing, goes_on, fields_goes, ExpStood, OperandStood}
-use Rattle.lua_parser.specs.Answers.{Grown, name_lang, field_lang, field_goes, one_field, IsItem}
+use Rattle.lua_parser.specs.Parsing.{Lang, Stops, Below, Stood, Before, Broke, high, exp_lang, fields_lang, nothing, goes_on, fields_goes, ExpStood}
+use Rattle.lua_parser.specs.Answers.{Grown, field_lang, field_goes, one_field, IsItem}
 use Rattle.std.proofs.lemmas.Bool.{cases_lt}
-use Rattle.lua_parser.proofs.Steps.{CanOpen, Kind, Rest, Done, Word, Named, Here, Under, Either, Reads, Left, HasNode, Follows, follows_word, follows_done, follows_either, follows_nothing, here_step, here_fails, word_step, first_way, second_way, done_closed, inline, Closed, all_read}
-use Rattle.lua_parser.proofs.PieceKinds.{open_name, exp_kind, fields_kind, field_kind, field_opens}
+use Rattle.lua_parser.proofs.Steps.{CanOpen, Kind, Rest, Done, Word, Here, Either, Reads, Left, HasNode, Follows, follows_done, follows_nothing, here_step, here_fails, first_way, second_way, done_closed, inline, Closed, all_read}
+use Rattle.lua_parser.proofs.PieceKinds.{exp_kind, fields_kind, field_kind, field_opens}
 use Rattle.lua_parser.proofs.Climb.{First, first, begin, finish}
 use Rattle.lua_parser.proofs.Suffixes.{chain_begins, chain_ends}
 use Rattle.lua_parser.proofs.Operands.{class, node_of, prefix_operand}

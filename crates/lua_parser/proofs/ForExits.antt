@@ -1,5 +1,5 @@
 -- The exits of `for`, and of `do` block `end`.
-use Rattle.std.proofs.Common.{◌≡◌, ◌≢◌, ℕ, zero, suc, [], ◌∷◌, ◌++◌, ◌-◌, ◌+◌, ◌<◌, ◌≤◌, ◌⊎◌, max, Bool, true, false, List, length, refl, sym, ap, subst, ◌∙◌, inl, inr, arith, true≢false, add-one, le_refl}
+use Rattle.std.proofs.Common.{◌≡◌, ◌≢◌, ℕ, suc, [], ◌∷◌, ◌-◌, ◌+◌, ◌<◌, ◌≤◌, max, Bool, List, length, refl, sym, ap, subst, ◌∙◌, arith}
 use Rattle.lua_lexer.specs.declared.token.Token.{Token}
 use Rattle.lua_grammar.specs.declared.Sort.{Sort}
 use Rattle.lua_grammar.specs.declared.Sort.TheVariants.{Name, Do, End, For, In, Assign, Comma}
@@ -8,16 +8,15 @@ use Rattle.lua_grammar.specs.Tokens.{sort_at, tok_at, bytes_of}
 use Rattle.lua_syntax.specs.Tree.{Exp, Exps, Block, Stat, CountS, CountByS, EachS}
 use Rattle.lua_grammar.specs.Grammar.{given_of, under, in_loop, MoreNames}
 use Rattle.lua_parser.specs.declared.answer.Fault.{Fault}
-use Rattle.lua_parser.specs.declared.answer.Fault.TheVariants.{At, NoMemory}
-use Rattle.lua_parser.specs.Parsing.{Lang, Stops, Below, Stood, Before, Broke, Ended, stat_lang, block_lang, exp_lang, all_lang, goes_on, exps_goes, names_goes, block_goes, ExpStood, nothing}
+use Rattle.lua_parser.specs.Parsing.{Stood, Broke, Ended, stat_lang, block_lang, exp_lang, all_lang, goes_on, exps_goes, names_goes, block_goes, ExpStood, nothing}
 use Rattle.lua_parser.specs.Answers.{Failed, Grown}
 use Rattle.lua_parser.specs.StatAnswers.{more_names_lang, do_lang}
-use Rattle.lua_parser.proofs.Steps.{Rest, Done, Word, Named, Here, Under, Either, Reads, Left, Kind, Follows, Closed, word_step, word_fails, named_step, named_fails, here_step, here_fails, under_step, under_fails, first_way, second_way, word_closed, done_closed, all_read, follows_word, follows_done, follows_either, follows_nothing}
+use Rattle.lua_parser.proofs.Steps.{Rest, Done, Word, Here, Under, Reads, Left, Follows, Closed, word_step, word_fails, named_step, named_fails, here_step, under_step, first_way, second_way, word_closed, follows_word, follows_either, follows_nothing}
 use Rattle.lua_parser.proofs.PieceKinds.{exp_kind, all_kind, block_kind}
 use Rattle.lua_parser.proofs.StatBegins.{behind_word}
 use Rattle.lua_parser.proofs.StatExits.{whole, under_fault}
-use Rattle.lua_parser.proofs.NameLists.{at_place, more_names_kind, names_anywhere, names_broken, do_kind, follows_do, do_rest, do_left}
-use Rattle.lua_parser.proofs.StatForms.{loop_rest, last_rest, to_rest, count_rest, each_rest, behind_name, for_starts}
+use Rattle.lua_parser.proofs.NameLists.{at_place, more_names_kind, do_kind, follows_do, do_left}
+use Rattle.lua_parser.proofs.StatForms.{loop_rest, last_rest, to_rest, each_rest, behind_name, for_starts}
 use Rattle.lua_parser.proofs.FormExits.{here_fault, names_failed}
 
 -- ---- do block end

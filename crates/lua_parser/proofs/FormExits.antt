@@ -1,23 +1,23 @@
 -- The exits of `local`, `for` and `if`.
-use Rattle.std.proofs.Common.{◌≡◌, ◌≢◌, ℕ, zero, suc, [], ◌∷◌, ◌++◌, ◌-◌, ◌+◌, ◌<◌, ◌≤◌, ◌⊎◌, max, Bool, true, false, List, length, refl, sym, ap, subst, ◌∙◌, inl, inr, arith, true≢false, add-one, le_refl}
+use Rattle.std.proofs.Common.{◌≡◌, ◌≢◌, ℕ, suc, ◌∷◌, ◌-◌, ◌+◌, ◌<◌, ◌≤◌, max, Bool, false, List, length, refl, sym, ap, subst, ◌∙◌, arith}
 use Rattle.lua_lexer.specs.declared.token.Token.{Token}
 use Rattle.lua_grammar.specs.declared.Sort.{Sort}
-use Rattle.lua_grammar.specs.declared.Sort.TheVariants.{Name, Do, Else, End, For, Function, If, In, Local, Assign, Comma, Elseif, Then}
+use Rattle.lua_grammar.specs.declared.Sort.TheVariants.{Name, Function, Local, Assign, Comma}
 use Rattle.lua_grammar.specs.declared.Around.{Around}
 use Rattle.lua_grammar.specs.Tokens.{sort_at, tok_at, bytes_of}
-use Rattle.lua_syntax.specs.Tree.{Exp, Exps, Fun, Block, Arms, Stat, NoExp, MoreExp, IfS, IfElseS, CountS, CountByS, EachS, LocalFunctionS, LocalS, Arm, NoArm}
-use Rattle.lua_grammar.specs.Grammar.{given_of, under, in_loop, MoreNames}
+use Rattle.lua_syntax.specs.Tree.{Exps, Fun, Block, Stat, NoExp, LocalFunctionS, LocalS}
+use Rattle.lua_grammar.specs.Grammar.{under}
 use Rattle.lua_parser.specs.declared.answer.Fault.{Fault}
 use Rattle.lua_parser.specs.declared.answer.Fault.TheVariants.{At, NoMemory}
-use Rattle.lua_parser.specs.Parsing.{Lang, Stops, Below, Stood, Before, Broke, Ended, stat_lang, block_lang, exp_lang, all_lang, arms_lang, goes_on, exps_goes, stat_goes, names_goes, block_goes, goes_after, arms_goes, ExpStood, nothing}
+use Rattle.lua_parser.specs.Parsing.{Lang, Stood, Broke, Ended, stat_lang, all_lang, exps_goes, stat_goes, names_goes, goes_after, nothing}
 use Rattle.lua_parser.specs.Answers.{Failed, Grown, body_lang}
 use Rattle.lua_parser.specs.StatAnswers.{more_names_lang, do_lang}
-use Rattle.lua_parser.proofs.Steps.{Rest, Done, Word, Named, Here, Under, Either, Reads, Left, Kind, Follows, Closed, word_step, word_fails, named_step, named_fails, here_step, here_fails, under_step, under_fails, first_way, second_way, word_closed, done_closed, all_read, follows_word, follows_done, follows_either, follows_nothing}
-use Rattle.lua_parser.proofs.PieceKinds.{exp_kind, all_kind, block_kind, body_kind, arms_kind}
+use Rattle.lua_parser.proofs.Steps.{Rest, Done, Named, Here, Under, Left, Kind, Follows, Closed, word_step, named_step, named_fails, here_step, here_fails, under_step, first_way, second_way, word_closed, done_closed, follows_word, follows_done, follows_either, follows_nothing}
+use Rattle.lua_parser.proofs.PieceKinds.{all_kind, body_kind}
 use Rattle.lua_parser.proofs.StatBegins.{behind_word}
 use Rattle.lua_parser.proofs.StatExits.{whole, under_fault}
-use Rattle.lua_parser.proofs.NameLists.{at_place, more_names_kind, names_anywhere, names_broken, do_kind, follows_do}
-use Rattle.lua_parser.proofs.StatForms.{local_function_rest, local_names_rest, local_values_rest, local_starts, loop_rest, last_rest, to_rest, count_rest, each_rest, behind_name, for_starts, else_rest, if_rest, if_starts}
+use Rattle.lua_parser.proofs.NameLists.{at_place, more_names_kind, names_broken}
+use Rattle.lua_parser.proofs.StatForms.{local_names_rest, local_values_rest, local_starts}
 
 pub here_fault : {S X : Type 0} {ts : List Token} {L : S → Lang} {goes : Sort → Bool} {i m h : ℕ} {K : Kind X} {r : X → Rest S} (a : ℕ) →
     Left S ts L goes i (Here X K r) m h → h ≤ 201 - a → (f : Fault) → Failed (Broke X ts K.lang K.goes a m) f → ((x : X) → Follows ts goes K.goes (r x)) → Failed (Broke S ts L goes a i) f

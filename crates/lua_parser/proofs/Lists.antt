@@ -1,21 +1,21 @@
 -- Names, parentheses, lists of expressions and arguments.
-use Rattle.std.proofs.Common.{◌≡◌, ◌≢◌, ℕ, zero, suc, pred, [], ◌∷◌, ◌++◌, ◌-◌, ◌+◌, ◌<◌, ◌≤◌, ◌⊎◌, max, Bool, true, false, cond, nat_lt, nat_le, List, length, refl, sym, ap, subst, ◌∙◌, inl, inr, le_trans, le_refl, lt_of_le_of_lt, lt-suc_self, arith, true≢false, add-one, eq-or-lt_of_le}
+use Rattle.std.proofs.Common.{◌≡◌, ◌≢◌, ℕ, suc, pred, [], ◌∷◌, ◌++◌, ◌+◌, ◌<◌, ◌≤◌, ◌⊎◌, max, true, false, List, length, refl, sym, ap, subst, ◌∙◌, inl, inr, le_refl, lt_of_le_of_lt, arith, add-one, eq-or-lt_of_le}
 use Rattle.lua_lexer.specs.declared.token.Token.{Token}
 use Rattle.lua_syntax.specs.declared.Expr.{Expr}
 use Rattle.lua_grammar.specs.declared.Sort.{Sort}
-use Rattle.lua_grammar.specs.declared.Sort.TheVariants.{Name, LeftBracket, RightBracket, Colon, LeftParen, RightParen, Text, LeftBrace, Dot, Comma}
+use Rattle.lua_grammar.specs.declared.Sort.TheVariants.{Name, LeftParen, RightParen, Text, LeftBrace, Comma}
 use Rattle.lua_grammar.specs.declared.Around.{Around}
-use Rattle.lua_grammar.specs.Tokens.{sort_at, tok_at, sort_of, bytes_of}
+use Rattle.lua_grammar.specs.Tokens.{sort_at, tok_at, bytes_of}
 use Rattle.lua_syntax.specs.View.{expr_view, exprs_view}
-use Rattle.lua_syntax.specs.Tree.{Exp, Exps, NilE, TrueE, FalseE, NumberE, TextE, DotsE, FunctionE, NameE, IndexE, CallE, MethodE, TableE, BinaryE, UnaryE, ParenE, NoExp, MoreExp}
-use Rattle.lua_grammar.specs.Grammar.{Given, given_of, Span, ◌⨟◌, ◌∣◌, word, text, node, ends, before, under, where', Is, Spells, SpellsArgs, SpellsAll, MoreExps, SpellsName, IsPrefix, IsAlone, suffix_goes}
-use Rattle.lua_parser.specs.Parsing.{Lang, Stops, Below, Stood, Before, Broke, high, exp_lang, args_lang, all_lang, nothing, goes_on, exps_goes, Stands, IsOperand, Closes, operand_lang, OperandStood, ExpStood}
+use Rattle.lua_syntax.specs.Tree.{Exp, Exps, TextE, DotsE, FunctionE, NameE, TableE, BinaryE, UnaryE, ParenE, NoExp, MoreExp}
+use Rattle.lua_grammar.specs.Grammar.{given_of, ◌⨟◌, word, where', Spells, SpellsArgs, SpellsAll, MoreExps, IsAlone}
+use Rattle.lua_parser.specs.Parsing.{Stops, Below, Stood, Before, Broke, high, exp_lang, args_lang, all_lang, nothing, goes_on, exps_goes, IsOperand, operand_lang, ExpStood}
 use Rattle.lua_parser.specs.Answers.{Grown, primary_lang, IsPrimary, name_lang}
-use Rattle.lua_parser.proofs.Steps.{CanOpen, Kind, Rest, Done, Word, Named, Here, Under, Either, Reads, Left, HasNode, Follows, follows_word, follows_done, follows_either, here_step, here_fails, word_step, first_way, second_way, word_closed, done_closed, inline, start, Closed}
-use Rattle.lua_parser.proofs.PieceKinds.{open_name, name_kind, exp_kind, args_kind, all_kind, args_opens, name_opens}
+use Rattle.lua_parser.proofs.Steps.{CanOpen, Rest, Done, Word, Here, Under, Either, Reads, Left, HasNode, follows_word, follows_done, follows_either, here_step, here_fails, word_step, first_way, second_way, word_closed, done_closed, inline, Closed}
+use Rattle.lua_parser.proofs.PieceKinds.{open_name, exp_kind, all_kind, args_opens}
 use Rattle.lua_parser.proofs.Climb.{First, first}
 use Rattle.lua_parser.proofs.Suffixes.{primary_prefix, IsArgs, args_begin, args_can}
-use Rattle.lua_parser.proofs.Operands.{class, class_exp, prefix_class, prefix_node, operand_class, tight}
+use Rattle.lua_parser.proofs.Operands.{class, class_exp, prefix_node, operand_class, tight}
 use Rattle.lua_parser.proofs.Atoms.{room_of, fits_of, unary_class}
 
 -- ---- names and parentheses

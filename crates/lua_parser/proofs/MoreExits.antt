@@ -1,27 +1,25 @@
 -- The lemmas as the exits of the code want them: for functions, tables, prefix expressions and lists.
-use Rattle.std.proofs.Common.{◌≡◌, ◌≢◌, ℕ, zero, suc, pred, [], ◌∷◌, ◌++◌, ◌-◌, ◌+◌, ◌<◌, ◌≤◌, ◌⊎◌, max, Bool, true, false, List, length, refl, sym, ap, subst, ◌∙◌, inl, inr, le_trans, le_refl, lt_of_le_of_lt, lt-suc_self, arith, true≢false, add-one, eq-or-lt_of_le, Option, Some, None}
-use Rattle.std.specs.Prelude.{ℤ, Result, Ok, Err}
+use Rattle.std.proofs.Common.{◌≡◌, ◌≢◌, ℕ, zero, suc, [], ◌∷◌, ◌++◌, ◌+◌, ◌<◌, ◌≤◌, max, Bool, true, false, List, length, refl, sym, ap, subst, ◌∙◌, inl, inr, le_refl, arith, true≢false}
 use Rattle.lua_lexer.specs.declared.token.Token.{Token}
 use Rattle.lua_syntax.specs.declared.Expr.{Expr}
 use Rattle.lua_grammar.specs.declared.Sort.{Sort}
-use Rattle.lua_grammar.specs.declared.Sort.TheVariants.{Eof, Name, Number, Text, Function, LeftParen, RightParen, LeftBrace, RightBrace, LeftBracket, RightBracket, Colon, Dot, Comma, Semicolon, Assign}
+use Rattle.lua_grammar.specs.declared.Sort.TheVariants.{Eof, Name, Text, Function, LeftParen, RightParen, LeftBrace, RightBrace, LeftBracket, RightBracket, Colon, Dot, Comma, Semicolon}
 use Rattle.lua_grammar.specs.declared.Around.{Around}
-use Rattle.lua_grammar.specs.Tokens.{sort_at, tok_at, sort_of, bytes_of}
+use Rattle.lua_grammar.specs.Tokens.{sort_at, tok_at, bytes_of}
 use Rattle.lua_syntax.specs.declared.Field.{Field}
 use Rattle.lua_syntax.specs.View.{expr_view, exprs_view, fields_view}
-use Rattle.lua_syntax.specs.Tree.{Exp, Exps, Fields, Fun, FunctionE, NameE, IndexE, CallE, MethodE, TableE, ParenE, NoExp, MoreExp}
-use Rattle.lua_grammar.specs.Grammar.{given_of, under, suffix_goes}
+use Rattle.lua_syntax.specs.Tree.{Exp, Exps, Fields, Fun, FunctionE, NameE, IndexE, CallE, MethodE, TableE, ParenE}
+use Rattle.lua_grammar.specs.Grammar.{under, suffix_goes}
 use Rattle.lua_parser.specs.declared.answer.Fault.{Fault}
 use Rattle.lua_parser.specs.declared.answer.Fault.TheVariants.{At, NoMemory}
-use Rattle.lua_parser.specs.declared.answer.Parsed.{Parsed}
-use Rattle.lua_parser.specs.Parsing.{Lang, Stops, Below, Stood, Before, Broke, Ended, high, exp_lang, prefix_lang, args_lang, all_lang, fields_lang, nothing, goes_on, exps_goes, fields_goes, operand_lang, OperandStood, PrefixStood, ExpStood}
-use Rattle.lua_parser.specs.Answers.{Failed, Grown, Answer, primary_lang, suffix_lang, name_lang, body_lang, field_lang, field_goes, one_field}
-use Rattle.lua_parser.proofs.Steps.{Kind, Rest, Done, Word, Named, Here, Under, Either, Reads, Left, Follows, all_read, too_deep, unexpected, under_step, under_fails, here_step, here_fails, word_step, word_fails, named_step, named_fails, follows_word, follows_done, follows_nothing, first_way, second_way, word_closed, start}
+use Rattle.lua_parser.specs.Parsing.{Lang, Below, Stood, Broke, Ended, exp_lang, prefix_lang, args_lang, all_lang, fields_lang, nothing, goes_on, exps_goes, fields_goes, operand_lang, OperandStood, PrefixStood, ExpStood}
+use Rattle.lua_parser.specs.Answers.{Failed, Grown, primary_lang, suffix_lang, name_lang, body_lang, field_lang, field_goes, one_field}
+use Rattle.lua_parser.proofs.Steps.{Kind, Done, Word, Under, Left, Follows, all_read, under_step, under_fails, word_step, word_fails, named_step, named_fails, follows_word, follows_nothing, start}
 use Rattle.lua_parser.proofs.PieceKinds.{exp_kind, args_kind, all_kind, name_kind, fields_kind, body_kind}
 use Rattle.lua_parser.proofs.Operands.{operand_stood}
-use Rattle.lua_parser.proofs.Atoms.{table_rest, table_starts, function_rest, function_starts, fits_of}
-use Rattle.lua_parser.proofs.Suffixes.{IsArgs, Chain, chain_begins, primary_fails, chain_ends, chain_goes_on, chain_fails, chain_deep, dot_rest, bracket_rest, colon_rest, call_rest, dot_starts, bracket_starts, colon_starts, call_starts, suffix_can, suffix_room}
-use Rattle.lua_parser.proofs.Lists.{name_starts, paren_starts, primary_node, open_rest, open_starts, all_closed, Listed, listed_fails, listed_end, listed_more}
+use Rattle.lua_parser.proofs.Atoms.{table_starts, function_starts, fits_of}
+use Rattle.lua_parser.proofs.Suffixes.{IsArgs, Chain, chain_begins, primary_fails, chain_ends, chain_goes_on, chain_fails, chain_deep, dot_starts, bracket_starts, colon_starts, call_starts, suffix_can, suffix_room}
+use Rattle.lua_parser.proofs.Lists.{name_starts, paren_starts, primary_node, Listed, listed_fails, listed_end, listed_more}
 use Rattle.lua_parser.proofs.FieldLemmas.{Fielded, IsSeparator, fielded_fails, fielded_more, fielded_last, fielded_end}
 use Rattle.lua_parser.proofs.Exits.{more_after, comma_not_eof, right_paren_not_eof, right_brace_not_eof, right_bracket_not_eof, name_not_eof, name_same, exp_under}
 

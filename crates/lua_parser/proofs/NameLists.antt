@@ -1,15 +1,15 @@
 -- Names behind one another, and loops over pieces.
-use Rattle.std.proofs.Common.{◌≡◌, ◌≢◌, ℕ, zero, suc, [], ◌∷◌, ◌++◌, ◌-◌, ◌+◌, ◌<◌, ◌≤◌, ◌⊎◌, max, Bool, true, false, List, length, refl, sym, ap, subst, ◌∙◌, inl, inr, arith, true≢false, add-one, le_refl, append_assoc, append-nil}
+use Rattle.std.proofs.Common.{◌≡◌, ◌≢◌, ℕ, suc, [], ◌∷◌, ◌++◌, ◌-◌, ◌+◌, ◌<◌, ◌≤◌, Bool, false, List, length, refl, sym, ap, subst, ◌∙◌, inl, inr, arith, le_refl, append_assoc, append-nil}
 use Rattle.lua_lexer.specs.declared.token.Token.{Token}
 use Rattle.lua_grammar.specs.declared.Sort.{Sort}
 use Rattle.lua_grammar.specs.declared.Sort.TheVariants.{Name, Comma, Do, End}
 use Rattle.lua_grammar.specs.declared.Around.{Around}
 use Rattle.lua_syntax.specs.Tree.{Block, NoStat}
 use Rattle.lua_grammar.specs.Tokens.{sort_at, tok_at, bytes_of}
-use Rattle.lua_grammar.specs.Grammar.{given_of, MoreNames, ◌⨟◌, word, SpellsBlock}
-use Rattle.lua_parser.specs.Parsing.{Lang, Stops, Below, Stood, Before, Broke, names_goes, Ended, nothing, high, block_goes}
+use Rattle.lua_grammar.specs.Grammar.{given_of, MoreNames, SpellsBlock}
+use Rattle.lua_parser.specs.Parsing.{Lang, Stops, Stood, Broke, names_goes, Ended, nothing}
 use Rattle.lua_parser.specs.StatAnswers.{more_names_lang, do_lang}
-use Rattle.lua_parser.proofs.Steps.{Rest, Done, Word, Named, Here, Under, Either, Reads, Left, Kind, CanOpen, word_step, named_step, named_fails, word_fails, first_way, second_way, word_closed, done_closed, all_read, Follows, follows_word}
+use Rattle.lua_parser.proofs.Steps.{Rest, Done, Word, Named, Here, Under, Either, Reads, Left, Kind, CanOpen, word_step, named_step, named_fails, first_way, second_way, word_closed, done_closed, all_read, Follows}
 use Rattle.lua_parser.proofs.PieceKinds.{block_kind}
 use Rattle.lua_parser.proofs.StatBegins.{behind_word}
 

@@ -1,8 +1,8 @@
 -- Functions with a name.
-use Rattle.std.proofs.Common.{◌≡◌, ◌≢◌, ℕ, zero, suc, [], ◌∷◌, ◌-◌, ◌+◌, ◌<◌, ◌≤◌, ◌⊎◌, max, Bool, true, false, List, length, refl, sym, ap, subst, ◌∙◌, inl, inr, arith, true≢false, add-one, le_refl}
+use Rattle.std.proofs.Common.{◌≡◌, ℕ, zero, suc, [], ◌∷◌, ◌-◌, ◌+◌, ◌<◌, ◌≤◌, ◌⊎◌, max, Bool, true, false, List, length, refl, sym, ap, subst, ◌∙◌, inl, inr, arith, add-one, le_refl}
 use Rattle.lua_lexer.specs.declared.token.Token.{Token}
 use Rattle.lua_grammar.specs.declared.Sort.{Sort}
-use Rattle.lua_grammar.specs.declared.Sort.TheVariants.{Function, LeftParen, Dot, Colon}
+use Rattle.lua_grammar.specs.declared.Sort.TheVariants.{Function, LeftParen}
 use Rattle.lua_grammar.specs.declared.Around.{Around}
 use Rattle.lua_grammar.specs.Tokens.{sort_at, tok_at}
 use Rattle.lua_syntax.specs.Tree.{Exp, Exps, IndexE, Fun, Lambda, Stat, FunctionE, NoExp, MoreExp, AssignS}
@@ -11,12 +11,12 @@ use Rattle.lua_syntax.specs.declared.Expr.{Expr}
 use Rattle.lua_syntax.specs.View.{expr_view, exprs_view}
 use Rattle.lua_parser.specs.declared.answer.Fault.{Fault}
 use Rattle.lua_parser.specs.declared.answer.Fault.TheVariants.{At, NoMemory}
-use Rattle.lua_parser.specs.Parsing.{Lang, Stops, Below, Stood, Before, Broke, Ended, high, stat_lang, nothing}
+use Rattle.lua_parser.specs.Parsing.{Lang, Stood, Before, Broke, high, stat_lang, nothing}
 use Rattle.lua_parser.specs.Answers.{Failed, Grown, body_lang}
 use Rattle.lua_parser.specs.StatAnswers.{Head, head_lang, head_goes, Opening}
-use Rattle.lua_parser.proofs.Steps.{Rest, Done, Word, Under, Reads, Left, Kind, CanOpen, Follows, opens, under_step, follows_nothing}
+use Rattle.lua_parser.proofs.Steps.{Rest, Done, Under, Reads, Left, Kind, Follows, opens, under_step, follows_nothing}
 use Rattle.lua_parser.proofs.PieceKinds.{body_opens, stat_opens}
-use Rattle.lua_parser.proofs.StatBegins.{Starts, stat_begins, stat_node, prefix_begins, var_prefix, behind_word}
+use Rattle.lua_parser.proofs.StatBegins.{Starts, stat_begins, prefix_begins, var_prefix}
 use Rattle.lua_parser.proofs.StatExits.{whole, under_fault}
 use Rattle.lua_parser.proofs.PathExits.{head_opens}
 

@@ -1,21 +1,17 @@
 -- Operands, by their first token.
-use Rattle.std.proofs.Common.{◌≡◌, ◌≢◌, ℕ, zero, suc, [], ◌-◌, ◌+◌, ◌<◌, ◌≤◌, ◌⊎◌, max, Bool, true, false, cond, nat_lt, nat_le, List, length, refl, sym, ap, subst, ◌∙◌, inl, inr, le_trans, le_refl, lt_of_le_of_lt, lt-suc_self, arith, true≢false, add-one, Option, Some, None}
-use Rattle.std.specs.Prelude.{ℤ}
+use Rattle.std.proofs.Common.{◌≡◌, ℕ, suc, ◌<◌, ◌≤◌, false, List, refl, sym, ap, subst, ◌∙◌, le_trans, le_refl, lt_of_le_of_lt, lt-suc_self, arith}
 use Rattle.lua_lexer.specs.declared.token.Token.{Token}
-use Rattle.lua_number.specs.Numerals.{read_numeral_of}
 use Rattle.lua_syntax.specs.declared.BinaryOp.{BinaryOp}
 use Rattle.lua_syntax.specs.declared.UnaryOp.{UnaryOp}
 use Rattle.lua_syntax.specs.declared.UnaryOp.TheVariants.{Not as NotOp, Len, Minus as MinusOp}
 use Rattle.lua_grammar.specs.declared.Sort.{Sort}
-use Rattle.lua_grammar.specs.declared.Sort.TheVariants.{Name, Number, Text, Nil, True, False, Dots, Function, Not, Hash, Minus, LeftParen, LeftBrace, RightBrace}
+use Rattle.lua_grammar.specs.declared.Sort.TheVariants.{Name, Number, Text, Nil, True, False, Dots, Function, Not, Hash, Minus, LeftParen, LeftBrace}
 use Rattle.lua_grammar.specs.declared.Around.{Around}
-use Rattle.lua_grammar.specs.Tokens.{sort_at, tok_at, sort_of, bytes_of}
-use Rattle.lua_syntax.specs.Tree.{Exp, Exps, Fields, Fun, NilE, TrueE, FalseE, NumberE, TextE, DotsE, FunctionE, NameE, IndexE, CallE, MethodE, TableE, BinaryE, UnaryE, ParenE}
-use Rattle.lua_grammar.specs.Grammar.{Given, given_of, Span, ◌⨟◌, ◌∣◌, word, text, node, ends, before, under, Is, Agrees, Spells, SpellsFun, SpellsFields, IsPrefix, sign_of, mark_of, left_level, suffix_goes}
-use Rattle.lua_parser.specs.Parsing.{Lang, Stops, Below, Stood, Before, Broke, high, exp_lang, prefix_lang, fields_lang, nothing, goes_on, Stands, IsOperand, Closes, operand_lang, OperandStood, PrefixStood, ExpStood}
-use Rattle.lua_parser.specs.Answers.{body_lang, Grown}
-use Rattle.lua_parser.proofs.Steps.{CanOpen, Kind, Rest, Done, Word, Here, Under, Reads, Left, HasNode}
-use Rattle.lua_parser.proofs.PieceKinds.{open_name, operand_opens, exp_kind, fields_kind, body_kind}
+use Rattle.lua_grammar.specs.Tokens.{sort_at}
+use Rattle.lua_syntax.specs.Tree.{Exp, NilE, TrueE, FalseE, NumberE, TextE, DotsE, FunctionE, NameE, IndexE, CallE, MethodE, TableE, BinaryE, UnaryE, ParenE}
+use Rattle.lua_grammar.specs.Grammar.{given_of, Spells, IsPrefix, sign_of, mark_of, left_level, suffix_goes}
+use Rattle.lua_parser.specs.Parsing.{Stops, Stood, Broke, high, prefix_lang, nothing, goes_on, Stands, IsOperand, Closes, operand_lang, OperandStood, PrefixStood}
+use Rattle.lua_parser.proofs.Steps.{HasNode}
 use Rattle.lua_parser.proofs.Levels.{left-seven}
 use Rattle.lua_parser.proofs.Chains.{raised, before_high, raised_above, left-low}
 use Rattle.lua_parser.proofs.Climb.{operand_level, looser, no_suffix}

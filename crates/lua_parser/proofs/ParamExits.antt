@@ -1,7 +1,6 @@
 -- The lemmas as the exits of the code want them: for parameters.
-use Rattle.std.proofs.Common.{◌≡◌, ◌≢◌, ℕ, zero, suc, [], ◌∷◌, ◌++◌, ◌+◌, ◌<◌, ◌≤◌, ◌-◌, max, Bool, true, false, List, length, refl, sym, ap, subst, ◌∙◌, arith}
+use Rattle.std.proofs.Common.{◌≡◌, ◌≢◌, ℕ, [], ◌∷◌, ◌++◌, ◌+◌, ◌<◌, ◌≤◌, ◌-◌, max, Bool, true, false, List, length, refl, sym, ap, subst, ◌∙◌, arith}
 use Rattle.lua_lexer.specs.declared.token.Token.{Token}
-use Rattle.lua_grammar.specs.declared.Sort.{Sort}
 use Rattle.lua_grammar.specs.declared.Sort.TheVariants.{Eof, Name, Comma, Dots, LeftParen, RightParen, End}
 use Rattle.lua_grammar.specs.Tokens.{sort_at, tok_at, bytes_of}
 use Rattle.lua_parser.specs.declared.answer.Parsed.{Parsed}
@@ -12,7 +11,7 @@ use Rattle.lua_grammar.specs.Grammar.{in_function}
 use Rattle.lua_parser.specs.declared.answer.Fault.{Fault}
 use Rattle.lua_parser.specs.declared.answer.Fault.TheVariants.{At, NoMemory}
 use Rattle.lua_parser.specs.Parsing.{Stood, Broke, Below, Ended, nothing, block_lang, block_goes}
-use Rattle.lua_parser.proofs.Steps.{Rest, Done, Word, Here, Left, here_step, here_fails, word_step, word_fails, follows_word, all_read}
+use Rattle.lua_parser.proofs.Steps.{Done, Word, Here, Left, here_step, here_fails, word_step, word_fails, follows_word, all_read}
 use Rattle.lua_parser.proofs.PieceKinds.{params_kind, block_kind}
 use Rattle.lua_parser.specs.Answers.{params_lang, params_goes, Parameters, Failed, Grown, body_lang, self_first}
 use Rattle.lua_parser.specs.Parameters.{params_view}

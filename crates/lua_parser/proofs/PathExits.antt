@@ -1,14 +1,13 @@
 -- The exits of the name of a function.
-use Rattle.std.proofs.Common.{◌≡◌, ◌≢◌, ℕ, zero, suc, [], ◌∷◌, ◌-◌, ◌+◌, ◌<◌, ◌≤◌, ◌⊎◌, max, Bool, true, false, cond, nat_lt, List, length, refl, sym, ap, subst, ◌∙◌, inl, inr, arith, true≢false, add-one, le_refl, le_trans, lt-ltb}
-use Rattle.std.proofs.lemmas.Bool.{le-ltb}
+use Rattle.std.proofs.Common.{◌≡◌, ◌≢◌, ℕ, suc, [], ◌∷◌, ◌-◌, ◌+◌, ◌<◌, ◌≤◌, max, Bool, true, false, cond, nat_lt, List, length, refl, sym, ap, subst, ◌∙◌, inl, inr, arith, true≢false, add-one, le_refl, lt-ltb}
 use Rattle.lua_lexer.specs.declared.token.Token.{Token}
 use Rattle.lua_grammar.specs.declared.Sort.{Sort}
 use Rattle.lua_grammar.specs.declared.Sort.TheVariants.{Name, Dot, Colon}
 use Rattle.lua_grammar.specs.declared.Around.{Around}
 use Rattle.lua_grammar.specs.Tokens.{sort_at, tok_at, bytes_of}
 use Rattle.lua_syntax.specs.Tree.{Exp, NameE, IndexE, TextE}
-use Rattle.lua_grammar.specs.Grammar.{given_of, SpellsPath}
-use Rattle.lua_parser.specs.Parsing.{Lang, Stops, Below, Stood, Before, Broke, Ended, high}
+use Rattle.lua_grammar.specs.Grammar.{SpellsPath}
+use Rattle.lua_parser.specs.Parsing.{Stops, Below, Before, Broke, Ended}
 use Rattle.lua_parser.specs.Answers.{Grown}
 use Rattle.lua_parser.specs.StatAnswers.{Head, head_lang, head_goes, head_mark}
 use Rattle.lua_parser.proofs.Steps.{CanOpen}

@@ -1,14 +1,14 @@
 -- The names of functions: a name, and indexes by names behind it, of which the last may be a method.
-use Rattle.std.proofs.Common.{◌≡◌, ◌≢◌, ℕ, zero, suc, [], ◌∷◌, ◌-◌, ◌+◌, ◌<◌, ◌≤◌, ◌⊎◌, max, Bool, true, false, cond, nat_lt, List, length, refl, sym, ap, subst, ◌∙◌, inl, inr, arith, true≢false, add-one, le_refl, le_trans, lt-ltb}
+use Rattle.std.proofs.Common.{◌≡◌, ℕ, suc, [], ◌∷◌, ◌-◌, ◌+◌, ◌<◌, ◌≤◌, max, Bool, true, false, cond, nat_lt, List, refl, sym, ap, subst, ◌∙◌, arith, true≢false, add-one, lt-ltb}
 use Rattle.lua_lexer.specs.declared.token.Token.{Token}
 use Rattle.lua_grammar.specs.declared.Sort.{Sort}
 use Rattle.lua_grammar.specs.declared.Sort.TheVariants.{Name, Dot, Colon}
 use Rattle.lua_grammar.specs.declared.Around.{Around}
 use Rattle.lua_grammar.specs.Tokens.{sort_at, tok_at, bytes_of}
-use Rattle.lua_syntax.specs.Tree.{Exp, Exps, NilE, TrueE, FalseE, NumberE, TextE, DotsE, FunctionE, NameE, IndexE, CallE, MethodE, TableE, BinaryE, UnaryE, ParenE, NoExp, MoreExp}
-use Rattle.lua_grammar.specs.Grammar.{Given, given_of, under, before, node, word, text, ◌⨟◌, SpellsPath, IsMethodPath, SpellsDot, SpellsName}
-use Rattle.lua_parser.specs.Parsing.{Lang, Stops, Below, Stood, Before, Broke, Ended, high}
-use Rattle.lua_parser.specs.StatAnswers.{Head, head_lang, head_goes}
+use Rattle.lua_syntax.specs.Tree.{Exp, TextE, NameE, IndexE, NoExp, MoreExp}
+use Rattle.lua_grammar.specs.Grammar.{given_of, under, before, SpellsPath, IsMethodPath}
+use Rattle.lua_parser.specs.Parsing.{Stops, Below, high}
+use Rattle.lua_parser.specs.StatAnswers.{head_lang, head_goes}
 
 -- An index by a name: its line, the line of the name, and the name.
 pub record Suffix : Type 0 where

@@ -1,13 +1,12 @@
 -- The kinds of pieces of which Lua's trees are made.
-use Rattle.std.proofs.Common.{◌≡◌, ◌≢◌, ℕ, zero, suc, [], ◌-◌, ◌+◌, ◌<◌, ◌≤◌, ◌⊎◌, max, Bool, true, false, List, length, ◌∷◌, codes, refl, sym, ap, subst, ◌∙◌, inl, inr, le_refl, lt-suc_self, arith, true≢false}
+use Rattle.std.proofs.Common.{ℕ, suc, [], ◌≤◌, Bool, true, false, List, ◌∷◌, codes, refl, arith}
 use Rattle.lua_lexer.specs.declared.token.Token.{Token}
 use Rattle.lua_grammar.specs.declared.Sort.{Sort}
-use Rattle.lua_grammar.specs.declared.Sort.TheVariants.{Name, Break, Assign}
 use Rattle.lua_grammar.specs.declared.Around.{Around}
-use Rattle.lua_grammar.specs.Tokens.{sort_at, tok_at, bytes_of}
+use Rattle.lua_grammar.specs.Tokens.{tok_at}
 use Rattle.lua_syntax.specs.Tree.{Exp, Exps, Fields, Fun, Block, Arms, Stat, NameE, TextE, NoExp, MoreExp, NoField, Item, Lambda, NoStat, NoArm, Arm, BreakS}
-use Rattle.lua_grammar.specs.Grammar.{given_of, word, text, word_if, suffix_goes, Spells, SpellsArgs, SpellsAll, MoreExps, SpellsFields, SpellsFun, SpellsMethod, SpellsBlock, SpellsArms, MoreArms, SpellsStat}
-use Rattle.lua_parser.specs.Parsing.{Lang, Stops, Below, Stood, Before, Broke, high, exp_lang, prefix_lang, args_lang, all_lang, more_lang, fields_lang, fun_lang, block_lang, arms_lang, more_arms_lang, stat_lang, nothing, goes_on, exps_goes, names_goes, fields_goes, stat_goes, block_goes, goes_after, arms_goes, operand_lang}
+use Rattle.lua_grammar.specs.Grammar.{given_of, suffix_goes, Spells, SpellsArgs, SpellsAll, MoreExps, SpellsFields, SpellsFun, SpellsBlock, SpellsArms, MoreArms, SpellsStat}
+use Rattle.lua_parser.specs.Parsing.{high, exp_lang, prefix_lang, args_lang, all_lang, more_lang, fields_lang, block_lang, arms_lang, more_arms_lang, stat_lang, nothing, goes_on, exps_goes, names_goes, fields_goes, block_goes, goes_after, arms_goes, operand_lang}
 use Rattle.lua_parser.specs.Answers.{name_lang, names_lang, params_lang, Parameters, params_goes, body_lang, field_lang, field_goes}
 use Rattle.lua_parser.proofs.Steps.{CanOpen, Kind}
 

@@ -1,5 +1,5 @@
 -- The exits of assignments and calls.
-use Rattle.std.proofs.Common.{◌≡◌, ◌≢◌, ℕ, zero, suc, [], ◌∷◌, ◌++◌, ◌-◌, ◌+◌, ◌<◌, ◌≤◌, ◌⊎◌, max, Bool, true, false, List, length, refl, sym, ap, subst, ◌∙◌, inl, inr, arith, true≢false, add-one, le_refl}
+use Rattle.std.proofs.Common.{◌≡◌, ◌≢◌, ℕ, suc, [], ◌∷◌, ◌++◌, ◌-◌, ◌+◌, ◌<◌, ◌≤◌, max, Bool, true, false, List, length, refl, sym, ap, subst, ◌∙◌, arith, true≢false, le_refl}
 use Rattle.lua_lexer.specs.declared.token.Token.{Token}
 use Rattle.lua_syntax.specs.declared.Expr.{Expr}
 use Rattle.lua_grammar.specs.declared.Sort.{Sort}
@@ -10,17 +10,15 @@ use Rattle.lua_syntax.specs.Tree.{Exp, Exps, Stat, NameE, IndexE, CallE, MethodE
 use Rattle.lua_grammar.specs.Grammar.{given_of, under, suffix_goes, Spells, IsPrefix, IsVar, IsCall}
 use Rattle.lua_syntax.specs.View.{expr_view, exprs_view}
 use Rattle.lua_parser.specs.declared.answer.Fault.{Fault}
-use Rattle.lua_parser.specs.declared.answer.Fault.TheVariants.{At, NoMemory}
-use Rattle.lua_parser.specs.Parsing.{Lang, Stops, Below, Stood, Before, Broke, Ended, high, stat_lang, prefix_lang, all_lang, exps_goes, stat_goes, goes_after, nothing, PrefixStood}
+use Rattle.lua_parser.specs.Parsing.{Broke, high, stat_lang, prefix_lang, all_lang, exps_goes, goes_after, PrefixStood}
 use Rattle.lua_parser.specs.Answers.{Failed, Grown}
 use Rattle.lua_parser.specs.StatAnswers.{Opening, IsSimple, is_call, is_var}
-use Rattle.lua_parser.proofs.Steps.{Rest, Done, Word, Here, Under, Either, Reads, Left, Kind, Follows, Closed, opens, word_step, word_fails, under_step, under_fails, first_way, second_way, word_closed, done_closed, follows_word, follows_done, follows_either, follows_nothing}
+use Rattle.lua_parser.proofs.Steps.{Rest, Done, Under, Reads, Left, opens, word_step, word_fails, under_step, under_fails, first_way, second_way, word_closed, follows_done, follows_nothing}
 use Rattle.lua_parser.proofs.PieceKinds.{all_kind, open_name}
-use Rattle.lua_parser.proofs.StatBegins.{behind_word}
 use Rattle.lua_parser.proofs.StatExits.{whole, under_fault, stat_deep}
 use Rattle.lua_parser.proofs.NameLists.{same_rest}
 use Rattle.lua_parser.proofs.FormExits.{stat_exps}
-use Rattle.lua_parser.proofs.SimpleSteps.{simples, targets, chosen_kind, chosen_stood, chosen_failed, chosen_lang, not_chosen, may_index, more_vars_kind, values_rest, first_target, add_exps, add_one_exp, all_exps, targets_rest, next_target, target_rest, target_split, behind_simple, simple_rest, simple_starts}
+use Rattle.lua_parser.proofs.SimpleSteps.{simples, targets, chosen_kind, chosen_stood, chosen_failed, not_chosen, may_index, more_vars_kind, values_rest, first_target, add_exps, add_one_exp, all_exps, targets_rest, next_target, target_split, behind_simple, simple_starts}
 
 pub prefix_stood : {ts : List Token} {u v : Around} {m q h : ℕ} {x : Exp} → u ≡ v → PrefixStood ts u m x q h → PrefixStood ts v m x q h
 prefix_stood {ts} {u} {v} {m} {q} {h} {x} e s = subst (λ (y : Around). PrefixStood ts y m x q h) e s

@@ -1,5 +1,5 @@
 -- Assignments and calls, which both begin with a prefix expression.
-use Rattle.std.proofs.Common.{◌≡◌, ◌≢◌, ℕ, zero, suc, [], ◌∷◌, ◌++◌, ◌-◌, ◌+◌, ◌<◌, ◌≤◌, ◌⊎◌, max, Bool, true, false, cond, nat_lt, List, length, refl, sym, ap, subst, ◌∙◌, inl, inr, arith, true≢false, add-one, le_refl, le_trans}
+use Rattle.std.proofs.Common.{◌≡◌, ℕ, suc, [], ◌∷◌, ◌++◌, ◌-◌, ◌<◌, ◌≤◌, Bool, false, cond, List, refl, sym, ap, subst, ◌∙◌, inl, inr, arith, le_refl}
 use Rattle.std.proofs.lemmas.Bool.{le-ltb}
 use Rattle.lua_lexer.specs.declared.token.Token.{Token}
 use Rattle.lua_syntax.specs.declared.Expr.{Expr}
@@ -8,17 +8,16 @@ use Rattle.lua_grammar.specs.declared.Sort.TheVariants.{Name, Function, Assign, 
 use Rattle.lua_grammar.specs.declared.Around.{Around}
 use Rattle.lua_grammar.specs.Tokens.{sort_at, tok_at}
 use Rattle.lua_syntax.specs.Tree.{Exp, Exps, Stat, NameE, IndexE, CallE, MethodE, ParenE, TextE, NoExp, MoreExp, FunctionE, AssignS, CallS}
-use Rattle.lua_grammar.specs.Grammar.{Given, given_of, under, before, ends, suffix_goes, Spells, SpellsAll, SpellsNamed, MoreExps, SpellsStat, IsPrefix, IsVar, IsCall, AreVars, ◌⨟◌, ◌∣◌, word, where'}
+use Rattle.lua_grammar.specs.Grammar.{given_of, under, before, ends, suffix_goes, Spells, SpellsAll, SpellsNamed, MoreExps, SpellsStat, IsPrefix, IsVar, IsCall, AreVars}
 use Rattle.lua_syntax.specs.View.{expr_view, exprs_view}
 use Rattle.lua_parser.specs.declared.answer.Fault.{Fault}
 use Rattle.lua_parser.specs.declared.answer.Fault.TheVariants.{At, NoMemory}
-use Rattle.lua_parser.specs.Parsing.{Lang, Stops, Below, Stood, Before, Broke, Ended, high, stat_lang, prefix_lang, all_lang, exps_goes, stat_goes, goes_after, nothing, PrefixStood}
-use Rattle.lua_parser.specs.Answers.{Failed, Grown}
+use Rattle.lua_parser.specs.Parsing.{Lang, Stood, Before, Broke, high, stat_lang, prefix_lang, nothing, PrefixStood}
+use Rattle.lua_parser.specs.Answers.{Failed}
 use Rattle.lua_parser.specs.StatAnswers.{Opening, IsSimple}
-use Rattle.lua_parser.proofs.Steps.{Rest, Done, Word, Here, Under, Either, Reads, Left, Kind, CanOpen, Follows, Closed, word_step, word_fails, under_step, first_way, second_way, word_closed, done_closed, follows_word, follows_done, follows_either, follows_nothing}
-use Rattle.lua_parser.proofs.PieceKinds.{all_kind, stat_opens, open_name}
-use Rattle.lua_parser.proofs.StatBegins.{Starts, stat_begins, stat_node, at_start, var_prefix, call_prefix, behind_word}
-use Rattle.lua_parser.proofs.StatExits.{whole, under_fault, stat_deep}
+use Rattle.lua_parser.proofs.Steps.{Rest, Done, Word, Under, Either, Reads, Left, Kind, CanOpen}
+use Rattle.lua_parser.proofs.PieceKinds.{all_kind, open_name}
+use Rattle.lua_parser.proofs.StatBegins.{Starts, stat_begins, stat_node, at_start, var_prefix}
 use Rattle.lua_parser.proofs.NameLists.{same_rest}
 
 -- ---- levels of prefix expressions

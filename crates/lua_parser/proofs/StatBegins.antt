@@ -1,14 +1,14 @@
 -- With which tokens expressions and statements begin.
-use Rattle.std.proofs.Common.{◌≡◌, ◌≢◌, ℕ, zero, suc, pred, ◌-◌, ◌+◌, ◌<◌, ◌≤◌, ◌⊎◌, Bool, true, false, List, length, refl, sym, ap, subst, ◌∙◌, inl, inr, arith, true≢false, eq-or-lt_of_le}
+use Rattle.std.proofs.Common.{◌≡◌, ◌≢◌, ℕ, suc, pred, ◌+◌, ◌<◌, ◌⊎◌, Bool, true, false, List, length, refl, sym, ap, subst, ◌∙◌, inl, inr, arith, true≢false, eq-or-lt_of_le}
 use Rattle.lua_lexer.specs.declared.token.Token.{Token}
 use Rattle.lua_syntax.specs.declared.UnaryOp.TheVariants.{Not as NotOp, Len, Minus as MinusOp}
 use Rattle.lua_grammar.specs.declared.Sort.{Sort}
-use Rattle.lua_grammar.specs.declared.Sort.TheVariants.{Name, Number, Text, Eof, Break, Do, Else, Elseif, End, False, For, Function, If, Local, Nil, Not, Repeat, Return, True, Until, While, Minus, Hash, LeftParen, LeftBrace, Semicolon, Dots, Assign}
+use Rattle.lua_grammar.specs.declared.Sort.TheVariants.{Name, Number, Text, Eof, Break, Do, False, For, Function, If, Local, Nil, Not, Repeat, Return, True, While, Minus, Hash, LeftParen, LeftBrace, Dots, Assign}
 use Rattle.lua_grammar.specs.declared.Around.{Around}
-use Rattle.lua_grammar.specs.Tokens.{sort_at, tok_at}
-use Rattle.lua_syntax.specs.Tree.{Exp, Exps, Fields, Fun, Block, Arms, Stat, NilE, TrueE, FalseE, NumberE, TextE, DotsE, FunctionE, NameE, IndexE, CallE, MethodE, TableE, BinaryE, UnaryE, ParenE, NoExp, MoreExp, Lambda, NoStat, MoreStat, NoArm, Arm, AssignS, CallS, DoS, WhileS, RepeatS, IfS, IfElseS, CountS, CountByS, EachS, LocalFunctionS, LocalS, ReturnS, BreakS}
-use Rattle.lua_grammar.specs.Grammar.{given_of, Spells, SpellsAll, SpellsNamed, SpellsStat, SpellsBlock, AreVars, IsVar, IsCall, IsPrefix, before, under, left_level, sign_of, ◌⨟◌, ◌∣◌, where', word}
-use Rattle.lua_parser.specs.Parsing.{Ended, last_goes, stat_lang, high, Stops, block_goes}
+use Rattle.lua_grammar.specs.Tokens.{sort_at}
+use Rattle.lua_syntax.specs.Tree.{Exp, Exps, Stat, NilE, TrueE, FalseE, NumberE, TextE, DotsE, FunctionE, NameE, IndexE, CallE, MethodE, TableE, BinaryE, UnaryE, ParenE, NoExp, MoreExp, AssignS, CallS, DoS, WhileS, RepeatS, IfS, IfElseS, CountS, CountByS, EachS, LocalFunctionS, LocalS, ReturnS, BreakS}
+use Rattle.lua_grammar.specs.Grammar.{given_of, Spells, SpellsAll, SpellsNamed, SpellsStat, AreVars, IsVar, IsCall, IsPrefix, before, under, left_level, ◌⨟◌, where', word}
+use Rattle.lua_parser.specs.Parsing.{Ended, last_goes, stat_lang}
 use Rattle.lua_parser.specs.StatAnswers.{Opening}
 use Rattle.lua_parser.proofs.Steps.{HasNode}
 

@@ -1,20 +1,20 @@
 -- The exits of statements: a chain of steps each.
-use Rattle.std.proofs.Common.{◌≡◌, ◌≢◌, ℕ, zero, suc, [], ◌-◌, ◌+◌, ◌<◌, ◌≤◌, ◌⊎◌, max, Bool, true, false, not, List, length, refl, sym, ap, subst, ◌∙◌, inl, inr, arith, true≢false, add-one, le_refl}
+use Rattle.std.proofs.Common.{◌≡◌, ◌≢◌, ℕ, suc, ◌-◌, ◌+◌, ◌<◌, ◌≤◌, max, Bool, true, false, not, List, length, refl, sym, ap, subst, ◌∙◌, inl, inr, arith, true≢false, le_refl}
 use Rattle.lua_lexer.specs.declared.token.Token.{Token}
 use Rattle.lua_grammar.specs.declared.Sort.{Sort}
-use Rattle.lua_grammar.specs.declared.Sort.TheVariants.{Name, Break, Do, Else, Elseif, End, Eof, For, Function, If, In, Local, Repeat, Return, Then, Until, While, Assign, Comma, Semicolon}
+use Rattle.lua_grammar.specs.declared.Sort.TheVariants.{Break, Do, Else, Elseif, End, Eof, Repeat, Return, Until, While, Assign, Comma, Semicolon}
 use Rattle.lua_grammar.specs.declared.Around.{Around}
 use Rattle.lua_grammar.specs.Tokens.{sort_at, tok_at}
-use Rattle.lua_syntax.specs.Tree.{Exp, Exps, Fun, Block, Arms, Stat, NoExp, MoreExp, DoS, WhileS, RepeatS, ReturnS, BreakS}
+use Rattle.lua_syntax.specs.Tree.{Exp, Exps, Block, Stat, NoExp, DoS, WhileS, RepeatS, ReturnS, BreakS}
 use Rattle.lua_grammar.specs.Grammar.{given_of, under, in_loop, SpellsStat}
 use Rattle.lua_parser.specs.declared.answer.Fault.{Fault}
 use Rattle.lua_parser.specs.declared.answer.Fault.TheVariants.{At, NoMemory}
-use Rattle.lua_parser.specs.Parsing.{Lang, Stops, Below, Stood, Before, Broke, Ended, high, stat_lang, block_lang, exp_lang, all_lang, goes_on, exps_goes, stat_goes, block_goes, last_goes, goes_after, ExpStood}
+use Rattle.lua_parser.specs.Parsing.{Lang, Stood, Before, Broke, Ended, high, stat_lang, block_lang, exp_lang, all_lang, goes_on, exps_goes, stat_goes, block_goes, last_goes, goes_after, ExpStood}
 use Rattle.lua_parser.specs.Answers.{Failed, Grown}
-use Rattle.lua_parser.proofs.Steps.{Rest, Done, Word, Named, Here, Under, Either, Reads, Left, Kind, Follows, Closed, word_step, word_fails, under_step, under_fails, first_way, second_way, done_closed, all_read, too_deep, follows_word, follows_done}
+use Rattle.lua_parser.proofs.Steps.{Rest, Done, Word, Under, Left, Kind, Follows, Closed, word_step, word_fails, under_step, under_fails, first_way, second_way, done_closed, all_read, too_deep, follows_word, follows_done}
 use Rattle.lua_parser.proofs.PieceKinds.{exp_kind, all_kind, block_kind, stat_opens}
 use Rattle.lua_parser.proofs.StatBegins.{stat_begins, stat_node, all_begins, behind_word, Starts}
-use Rattle.lua_parser.proofs.StatSplit.{do_rest, do_starts, while_rest, while_starts, repeat_rest, repeat_starts, return_rest, return_starts, break_starts}
+use Rattle.lua_parser.proofs.StatSplit.{do_starts, while_starts, repeat_starts, return_starts, break_starts}
 
 -- ---- what a called function answers, where the nodes above are known
 

@@ -1,14 +1,14 @@
 -- What is left of `local`, `for` and `if` after their first word.
-use Rattle.std.proofs.Common.{◌≡◌, ◌≢◌, ℕ, zero, suc, [], ◌∷◌, ◌-◌, ◌+◌, ◌<◌, ◌≤◌, ◌⊎◌, max, Bool, true, false, List, length, refl, sym, ap, subst, ◌∙◌, inl, inr, arith, true≢false, add-one, le_refl}
+use Rattle.std.proofs.Common.{◌≡◌, ℕ, [], ◌∷◌, ◌+◌, Bool, false, List, refl, ap, inl, inr}
 use Rattle.lua_lexer.specs.declared.token.Token.{Token}
 use Rattle.lua_grammar.specs.declared.Sort.{Sort}
-use Rattle.lua_grammar.specs.declared.Sort.TheVariants.{Name, Do, Else, End, For, Function, If, In, Local, Assign, Comma}
+use Rattle.lua_grammar.specs.declared.Sort.TheVariants.{Name, Else, End, For, Function, If, In, Local, Assign, Comma}
 use Rattle.lua_grammar.specs.declared.Around.{Around}
 use Rattle.lua_grammar.specs.Tokens.{sort_at, tok_at}
 use Rattle.lua_syntax.specs.Tree.{Exp, Exps, Fun, Block, Arms, Stat, NoExp, MoreExp, IfS, IfElseS, CountS, CountByS, EachS, LocalFunctionS, LocalS}
-use Rattle.lua_grammar.specs.Grammar.{given_of, node, word, ◌⨟◌, in_loop, Spells, SpellsAll, SpellsArms, SpellsBlock, SpellsStat, HasNone}
+use Rattle.lua_grammar.specs.Grammar.{given_of, in_loop, SpellsAll, SpellsStat}
 use Rattle.lua_parser.specs.Parsing.{high, stat_lang}
-use Rattle.lua_parser.proofs.Steps.{Rest, Done, Word, Named, Here, Under, Either, Reads, Left}
+use Rattle.lua_parser.proofs.Steps.{Rest, Done, Word, Named, Here, Under, Either, Left}
 use Rattle.lua_parser.proofs.PieceKinds.{exp_kind, all_kind, block_kind, body_kind, arms_kind}
 use Rattle.lua_parser.proofs.StatBegins.{Starts}
 use Rattle.lua_parser.proofs.StatSplit.{Headed, begun, is_stat}

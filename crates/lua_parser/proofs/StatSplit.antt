@@ -1,16 +1,16 @@
 -- What is left of each statement after its first word.
-use Rattle.std.proofs.Common.{◌≡◌, ◌≢◌, ℕ, zero, suc, [], ◌-◌, ◌+◌, ◌<◌, ◌≤◌, ◌⊎◌, max, Bool, true, false, List, length, refl, sym, ap, subst, ◌∙◌, inl, inr, arith, true≢false, add-one, le_refl}
+use Rattle.std.proofs.Common.{◌≡◌, ℕ, suc, ◌-◌, ◌+◌, ◌≤◌, Bool, true, List, refl, sym, ap, subst, ◌∙◌, inl, inr, arith, add-one}
 use Rattle.lua_lexer.specs.declared.token.Token.{Token}
 use Rattle.lua_grammar.specs.declared.Sort.{Sort}
-use Rattle.lua_grammar.specs.declared.Sort.TheVariants.{Name, Break, Do, Else, Elseif, End, For, Function, If, In, Local, Repeat, Return, Then, Until, While, Assign, Comma}
+use Rattle.lua_grammar.specs.declared.Sort.TheVariants.{Break, Do, End, Repeat, Return, Until, While}
 use Rattle.lua_grammar.specs.declared.Around.{Around}
 use Rattle.lua_grammar.specs.Tokens.{sort_at, tok_at}
-use Rattle.lua_syntax.specs.Tree.{Exp, Exps, Fun, Block, Arms, Stat, NoExp, MoreExp, DoS, WhileS, RepeatS, IfS, IfElseS, CountS, CountByS, EachS, LocalFunctionS, LocalS, ReturnS, BreakS}
-use Rattle.lua_grammar.specs.Grammar.{given_of, node, word, ◌⨟◌, in_loop, Spells, SpellsAll, SpellsBlock, SpellsStat, HasNone}
-use Rattle.lua_parser.specs.Parsing.{Stops, Below, Stood, Before, Broke, high, stat_lang}
-use Rattle.lua_parser.proofs.Steps.{Rest, Done, Word, Named, Here, Under, Either, Reads, Left, Kind, CanOpen, HasNode}
-use Rattle.lua_parser.proofs.PieceKinds.{exp_kind, all_kind, block_kind, stat_opens}
-use Rattle.lua_parser.proofs.StatBegins.{Starts, stat_begins, stat_node}
+use Rattle.lua_syntax.specs.Tree.{Exp, Exps, Block, Stat, NoExp, MoreExp, DoS, WhileS, RepeatS, ReturnS, BreakS}
+use Rattle.lua_grammar.specs.Grammar.{given_of, node, word, ◌⨟◌, in_loop, SpellsAll, SpellsStat}
+use Rattle.lua_parser.specs.Parsing.{high, stat_lang}
+use Rattle.lua_parser.proofs.Steps.{Rest, Done, Word, Under, Either, Reads, Left}
+use Rattle.lua_parser.proofs.PieceKinds.{exp_kind, all_kind, block_kind}
+use Rattle.lua_parser.proofs.StatBegins.{Starts, stat_begins}
 
 -- A node, its word, and what is left behind it.
 abbrev pub Headed : List Token → Around → Sort → ℕ → Rest Stat → Stat → ℕ → ℕ → ℕ → ℕ → ℕ → Type 0

@@ -1,6 +1,6 @@
 -- From one piece of a text to the next: what is left of a tree after its first pieces have been read. What is left is a value of
 -- `Rest`, a list of pieces that ends in the tree, so one lemma for each kind of piece serves all sequences of the grammar.
-use Rattle.std.proofs.Common.{◌≡◌, ◌≢◌, ℕ, zero, suc, [], ◌-◌, ◌+◌, ◌<◌, ◌≤◌, ◌⊎◌, max, Bool, true, false, List, length, refl, sym, ap, subst, ◌∙◌, inl, inr, le_trans, lt_of_le_of_lt, le_refl, lt-suc_self, suc-le-suc, arith, true≢false, add-one}
+use Rattle.std.proofs.Common.{◌≡◌, ◌≢◌, ℕ, suc, [], ◌-◌, ◌+◌, ◌<◌, ◌≤◌, ◌⊎◌, max, Bool, true, false, List, length, refl, sym, subst, ◌∙◌, inl, inr, le_trans, lt_of_le_of_lt, le_refl, suc-le-suc, arith, true≢false, add-one}
 use Rattle.lua_lexer.specs.declared.token.Token.{Token}
 use Rattle.lua_grammar.specs.declared.Sort.{Sort}
 use Rattle.lua_grammar.specs.Tokens.{sort_at, tok_at, bytes_of}

@@ -1,17 +1,16 @@
 -- The loop over what goes on with a prefix expression.
-use Rattle.std.proofs.Common.{◌≡◌, ◌≢◌, ℕ, zero, suc, [], ◌-◌, ◌+◌, ◌<◌, ◌≤◌, ◌⊎◌, max, Bool, true, false, cond, nat_lt, nat_le, List, length, refl, sym, ap, subst, ◌∙◌, inl, inr, le_trans, le_refl, lt_of_le_of_lt, lt-suc_self, arith, true≢false, add-one}
+use Rattle.std.proofs.Common.{◌≡◌, ℕ, suc, ◌-◌, ◌+◌, ◌<◌, ◌≤◌, ◌⊎◌, max, true, false, List, length, refl, sym, ap, subst, ◌∙◌, inl, inr, le_trans, le_refl, lt_of_le_of_lt, arith, true≢false, add-one}
 use Rattle.lua_lexer.specs.declared.token.Token.{Token}
-use Rattle.lua_syntax.specs.declared.BinaryOp.{BinaryOp}
 use Rattle.lua_grammar.specs.declared.Sort.{Sort}
-use Rattle.lua_grammar.specs.declared.Sort.TheVariants.{Name, LeftBracket, RightBracket, Colon, LeftParen, RightParen, Text, LeftBrace, Dot}
+use Rattle.lua_grammar.specs.declared.Sort.TheVariants.{Name, LeftBracket, RightBracket, Colon, LeftParen, Text, LeftBrace, Dot}
 use Rattle.lua_grammar.specs.declared.Around.{Around}
-use Rattle.lua_grammar.specs.Tokens.{sort_at, tok_at, sort_of, bytes_of}
-use Rattle.lua_syntax.specs.Tree.{NoField, Exp, Exps, NilE, TrueE, FalseE, NumberE, TextE, DotsE, FunctionE, NameE, IndexE, CallE, MethodE, TableE, BinaryE, UnaryE, ParenE, NoExp, MoreExp}
-use Rattle.lua_grammar.specs.Grammar.{Given, given_of, Span, ◌⨟◌, ◌∣◌, word, text, node, ends, before, under, where', Is, Spells, SpellsArgs, SpellsFields, SpellsDot, SpellsName, IsPrefix, IsAlone, mark_of, level, left_level, right_level, suffix_goes}
-use Rattle.lua_parser.specs.Parsing.{Lang, Stops, args_lang, Below, Stood, Before, Broke, high, exp_lang, prefix_lang, nothing, goes_on, Stands, IsOperand, Closes, operand_lang, OperandStood, PrefixStood}
+use Rattle.lua_grammar.specs.Tokens.{sort_at, tok_at, bytes_of}
+use Rattle.lua_syntax.specs.Tree.{NoField, Exp, Exps, TextE, NameE, IndexE, CallE, MethodE, TableE, BinaryE, ParenE, NoExp, MoreExp}
+use Rattle.lua_grammar.specs.Grammar.{given_of, text, before, Spells, SpellsArgs, SpellsFields, SpellsDot, IsPrefix, suffix_goes}
+use Rattle.lua_parser.specs.Parsing.{Stops, args_lang, Below, Before, Broke, high, prefix_lang, nothing, PrefixStood}
 use Rattle.lua_parser.specs.Answers.{Grown, primary_lang, suffix_lang, IsPrimary, name_lang}
-use Rattle.lua_parser.proofs.Steps.{Rest, Done, Word, Named, Here, Under, Either, Reads, Left, opens}
-use Rattle.lua_parser.proofs.PieceKinds.{open_name, name_kind, exp_kind, args_kind}
+use Rattle.lua_parser.proofs.Steps.{Rest, Done, Word, Named, Under, Reads, Left, opens}
+use Rattle.lua_parser.proofs.PieceKinds.{name_kind, exp_kind, args_kind}
 use Rattle.lua_parser.proofs.Chains.{raised, before_high, raised_above, raised_most, raised_given, head_level, IsOn, Tail, Same, Spine, spine_end, left-low, Next, next}
 use Rattle.lua_parser.proofs.Climb.{tail_suffix}
 

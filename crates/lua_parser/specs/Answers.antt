@@ -1,24 +1,21 @@
 -- What each function of the parser answers: a tree that stands, or where it is broken. Want of memory says nothing.
-use Rattle.std.specs.Prelude.{◌≡◌, ◌≢◌, ℕ, suc, ◌<◌, ◌≤◌, ◌⊎◌, ◌+◌, [], ◌∷◌, Bool, true, false, if◌then◌else◌, List, Result, Ok, Err, codes}
-use Rattle.lua_syntax.specs.declared.BinaryOp.{BinaryOp}
+use Rattle.std.specs.Prelude.{◌≡◌, ◌≢◌, ℕ, suc, ◌<◌, ◌≤◌, ◌+◌, [], ◌∷◌, Bool, true, false, List, Result, Ok, Err, codes}
 use Rattle.lua_syntax.specs.declared.Expr.{Expr}
-use Rattle.lua_syntax.specs.declared.Function.{Function as FunctionNode}
 use Rattle.lua_syntax.specs.declared.Block.{Block as BlockNode}
 use Rattle.lua_syntax.specs.declared.Stat.{Stat as StatNode}
 use Rattle.lua_syntax.specs.declared.Field.{Field}
-use Rattle.lua_syntax.specs.declared.Arm.{Arm as ArmNode}
 use Rattle.lua_lexer.specs.declared.token.Token.{Token}
 use Rattle.lua_grammar.specs.declared.Sort.{Sort}
-use Rattle.lua_grammar.specs.declared.Sort.TheVariants.{Name, Number, Text, Eof, And, Break, Do, Else, Elseif, End, False, For, Function, If, In, Local, Nil, Not, Or, Repeat, Return, Then, True, Until, While, Plus, Minus, Star, Slash, Percent, Caret, Hash, EqEq, NotEq, LessEq, MoreEq, Less, More, Assign, LeftParen, RightParen, LeftBrace, RightBrace, LeftBracket, RightBracket, Semicolon, Colon, Comma, Dot, DotDot, Dots}
+use Rattle.lua_grammar.specs.declared.Sort.TheVariants.{Name, Function, Not, Minus, Hash, Assign, LeftParen, RightParen, LeftBrace, LeftBracket, RightBracket, Colon}
 use Rattle.lua_grammar.specs.declared.Around.{Around}
-use Rattle.lua_grammar.specs.Tokens.{sort_at, tok_at}
-use Rattle.lua_syntax.specs.Tree.{Exp, Exps, Fields, Fun, Block, Arms, Stat, NilE, TrueE, FalseE, NumberE, TextE, DotsE, FunctionE, NameE, IndexE, CallE, MethodE, TableE, BinaryE, UnaryE, ParenE, NoField, Item, Pair}
-use Rattle.lua_grammar.specs.Grammar.{given_of, Spells, SpellsArgs, SpellsName, SpellsMethod, SpellsFun, SpellsDot, ◌⨟◌, ◌∣◌, word, node, text, ends, IsPrefix, suffix_goes, mark_of, Names, MoreNames, Params}
-use Rattle.lua_syntax.specs.View.{expr_view, exprs_view, fields_view, field_view, function_view, block_view, stats_view, arm_view, arms_view, stat_view}
+use Rattle.lua_grammar.specs.Tokens.{sort_at}
+use Rattle.lua_syntax.specs.Tree.{Exp, Fields, Fun, NameE, IndexE, CallE, MethodE, ParenE, NoField, Item, Pair}
+use Rattle.lua_grammar.specs.Grammar.{given_of, Spells, SpellsArgs, SpellsName, SpellsMethod, SpellsFun, SpellsDot, ◌⨟◌, ◌∣◌, word, node, text, ends, suffix_goes, Names, Params}
+use Rattle.lua_syntax.specs.View.{expr_view, field_view, block_view, stat_view}
 use Rattle.lua_parser.specs.declared.answer.Fault.{Fault}
 use Rattle.lua_parser.specs.declared.answer.Fault.TheVariants.{At, NoMemory}
 use Rattle.lua_parser.specs.declared.answer.Parsed.{Parsed}
-use Rattle.lua_parser.specs.Parsing.{Lang, Stops, Below, Stood, Broke, high, exp_lang, prefix_lang, args_lang, all_lang, fields_lang, fun_lang, block_lang, arms_lang, more_arms_lang, stat_lang, nothing, goes_on, exps_goes, names_goes, fields_goes, stat_goes, block_goes, goes_after, arms_goes, ExpStood, operand_lang, OperandStood, PrefixStood}
+use Rattle.lua_parser.specs.Parsing.{Lang, Stood, Broke, high, exp_lang, prefix_lang, block_lang, stat_lang, nothing, goes_on, block_goes, goes_after, ExpStood, operand_lang, OperandStood, PrefixStood}
 
 abbrev pub Failed : (ℕ → ℕ → Type 0) → Fault → Type 0
 Failed P NoMemory = Unit {0}

@@ -1,5 +1,5 @@
 -- What `parse` answers.
-use Rattle.std.specs.Prelude.{◌≡◌, ℕ, ◌<◌, ◌⊎◌, List, length, Result, Ok, Err}
+use Rattle.std.specs.Prelude.{◌≡◌, ℕ, ◌⊎◌, List, Result, Ok, Err}
 use Rattle.lua_syntax.specs.declared.Chunk.{Chunk}
 use Rattle.lua_syntax.specs.declared.Block.{Block as BlockNode}
 use Rattle.lua_syntax.specs.declared.fault.SyntaxFault.{SyntaxFault}

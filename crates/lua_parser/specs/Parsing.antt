@@ -1,13 +1,13 @@
 -- What the functions of the parser promise one another.
-use Rattle.std.specs.Prelude.{◌≡◌, ◌≢◌, ℕ, suc, pred, ◌-◌, ◌<◌, ◌≤◌, ◌⊎◌, Bool, true, false, List, length, nat_le}
+use Rattle.std.specs.Prelude.{◌≡◌, ℕ, suc, pred, ◌-◌, ◌<◌, ◌≤◌, ◌⊎◌, Bool, true, false, List, length, nat_le}
 use Rattle.lua_syntax.specs.declared.BinaryOp.{BinaryOp}
 use Rattle.lua_lexer.specs.declared.token.Token.{Token}
 use Rattle.lua_grammar.specs.declared.Sort.{Sort}
-use Rattle.lua_grammar.specs.declared.Sort.TheVariants.{Name, Number, Text, Eof, And, Break, Do, Else, Elseif, End, False, For, Function, If, In, Local, Nil, Not, Or, Repeat, Return, Then, True, Until, While, Plus, Minus, Star, Slash, Percent, Caret, Hash, EqEq, NotEq, LessEq, MoreEq, Less, More, Assign, LeftParen, RightParen, LeftBrace, RightBrace, LeftBracket, RightBracket, Semicolon, Colon, Comma, Dot, DotDot, Dots}
+use Rattle.lua_grammar.specs.declared.Sort.TheVariants.{Eof, And, Else, Elseif, End, Or, Return, Until, Plus, Minus, Star, Slash, Percent, Caret, EqEq, NotEq, LessEq, MoreEq, Less, More, Assign, RightBrace, Semicolon, Comma, DotDot}
 use Rattle.lua_grammar.specs.declared.Around.{Around}
-use Rattle.lua_grammar.specs.Tokens.{sort_at, tok_at}
-use Rattle.lua_syntax.specs.Tree.{Exp, Exps, Fields, Fun, Block, Arms, Stat, NilE, TrueE, FalseE, NumberE, TextE, DotsE, FunctionE, NameE, IndexE, CallE, MethodE, TableE, BinaryE, UnaryE, ParenE}
-use Rattle.lua_grammar.specs.Grammar.{given_of, Spells, SpellsArgs, SpellsAll, MoreExps, SpellsFields, SpellsFun, SpellsBlock, SpellsArms, MoreArms, SpellsStat, IsPrefix, suffix_goes, mark_of, level, left_level}
+use Rattle.lua_grammar.specs.Tokens.{sort_at}
+use Rattle.lua_syntax.specs.Tree.{Exp, Exps, Fields, Fun, Block, Arms, Stat, BinaryE, UnaryE}
+use Rattle.lua_grammar.specs.Grammar.{given_of, Spells, SpellsArgs, SpellsAll, MoreExps, SpellsFields, SpellsFun, SpellsBlock, SpellsArms, MoreArms, SpellsStat, IsPrefix, suffix_goes, mark_of, left_level}
 
 -- A kind of tree, by where one may stand: how many nodes are above it, how many tokens are given, the fault that it is free of,
 -- and the places from and to.

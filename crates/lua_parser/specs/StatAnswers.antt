@@ -1,5 +1,5 @@
 -- What the functions for parts of statements answer.
-use Rattle.std.specs.Prelude.{◌≡◌, ◌≢◌, ◌⊎◌, true, false, ℕ, suc, ◌+◌, ◌∷◌, Bool, List, Result, Ok, Err}
+use Rattle.std.specs.Prelude.{◌≡◌, ◌≢◌, ◌⊎◌, true, false, ℕ, ◌+◌, ◌∷◌, Bool, List, Result, Ok, Err}
 use Rattle.lua_lexer.specs.declared.token.Token.{Token}
 use Rattle.lua_grammar.specs.Tokens.{tok_at, sort_at, bytes_of}
 use Rattle.lua_grammar.specs.Grammar.{given_of, MoreNames, ◌⨟◌, word, SpellsBlock, SpellsPath, IsMethodPath}

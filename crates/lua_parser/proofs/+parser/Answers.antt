@@ -1,4 +1,4 @@
-use Rattle.std.proofs.Common.{rules, arith, ◌≡◌, ◌<◌, ◌≤◌, ◌+◌, length, ℕ, List, sym, ap, subst, ◌∙◌, refl, inl, inr, false, true}
+use Rattle.std.proofs.Common.{rules, arith, ◌<◌, length, sym, ap, ◌∙◌, refl, inl, inr}
 use Rattle.std.proofs.lemmas.Result.{err_from_is_err_and}
 use Rattle.lua_parser.proofs.Steps.{unexpected, too_deep}
 use Rattle.lua_parser.proofs.Levels.{mark-not_eof}
@@ -8,10 +8,10 @@ use Rattle.lua_parser.proofs.Lists.{name_starts, paren_starts, primary_node, pri
 use Rattle.lua_parser.proofs.FieldLemmas.{key_deep}
 use Rattle.lua_parser.proofs.PieceKinds.{args_opens}
 use Rattle.lua_parser.proofs.Exits.{more_after, is_sort, isn't, operand_fault, finish_read, low_read, deep_read, right_fault, more_read, prefix_answer, unary_fault, unary_read, name_not_eof, left_paren_not_eof, right_paren_not_eof, left_brace_not_eof, left_bracket_not_eof, right_bracket_not_eof, colon_not_eof, dot_not_eof, assign_not_eof, function_not_eof, sign_not_eof}
-use Rattle.lua_parser.proofs.MoreExits.{lambda_fault, lambda_read, table_fault, table_unclosed, table_read, name_read, paren_fault, paren_unclosed, paren_read, dot_fault, dot_read, bracket_fault, bracket_unclosed, bracket_read, colon_no_name, colon_fault, colon_read, call_fault, call_read, primary_fault, chain_begin_read, chain_end_read, chain_deep_read, chain_fault_read, chain_more_read, exps_fault, exps_end_read, exps_more_read, list_begins, fields_begin, fields_fault, fields_end_read, fields_last_read, fields_more_read}
-use Rattle.lua_parser.proofs.ArgExits.{empty_args, args_fault, args_unclosed, args_read, alone_answer, alone_fault, text_stood, before_it, bracket_key_fault, bracket_key_unclosed, bracket_key_alone, bracket_value_fault, bracket_value_read, key_value_fault, key_value_read, item_fault, item_read, under_low, seven_low, less_room, climbs_high, chain_high, prefix_class_of, same_line, other_line, two_more, is_separator}
+use Rattle.lua_parser.proofs.MoreExits.{lambda_fault, lambda_read, table_fault, table_unclosed, table_read, name_read, paren_fault, paren_unclosed, paren_read, dot_fault, dot_read, bracket_fault, bracket_unclosed, bracket_read, colon_no_name, colon_fault, colon_read, call_fault, primary_fault, chain_begin_read, chain_end_read, chain_deep_read, chain_fault_read, chain_more_read, exps_fault, exps_end_read, exps_more_read, fields_fault, fields_end_read, fields_last_read, fields_more_read}
+use Rattle.lua_parser.proofs.ArgExits.{empty_args, args_fault, args_unclosed, args_read, alone_answer, alone_fault, text_stood, bracket_key_fault, bracket_key_unclosed, bracket_key_alone, bracket_value_fault, bracket_value_read, key_value_fault, key_value_read, item_fault, item_read, under_low, seven_low, less_room, climbs_high, chain_high, prefix_class_of, same_line, other_line, two_more, is_separator}
 use Rattle.lua_parser.proofs.ParamExits.{body_no_open, body_params_fault, body_no_close, body_block_fault, fun_no_end, body_read, function_high}
-use Rattle.lua_grammar.specs.declared.Sort.TheVariants.{Do, While, Repeat, Return, Until, Local, Name, Assign, Function, For, In, Comma, Elseif, Then, If, Else, End}
+use Rattle.lua_grammar.specs.declared.Sort.TheVariants.{Do, While, Repeat, Return, Until, Local, Name, Assign, Function, For, In, Comma, Then, If, Else}
 use Rattle.lua_parser.specs.Parsing.{last_goes, block_goes}
 use Rattle.lua_parser.proofs.StatBegins.{behind_word}
 use Rattle.lua_parser.proofs.StatSplit.{do_starts, while_starts, repeat_starts, return_starts}
@@ -19,8 +19,7 @@ use Rattle.lua_parser.proofs.StatExits.{read_is, read_not, under_fits, in_loop_f
 use Rattle.lua_parser.proofs.StatForms.{local_starts, for_starts, if_starts}
 use Rattle.lua_parser.proofs.FormExits.{fun_stood, fun_failed, local_fun_unnamed, third_inside, local_fun_fault, local_fun_stands, local_unnamed, local_names_fault, local_names_stand, local_values_fault, local_stands, do_stood, do_failed}
 use Rattle.lua_parser.proofs.ForExits.{loop_no_do, loop_fault, loop_no_end, loop_stands, for_unnamed, count_from_fault, count_no_comma, count_to_fault, count_to, count_body_fault, count_stands, count_by_fault, step_body_fault, step_stands, each_names_fault, each_named, each_no_in, each_values_fault, each_body_fault, each_stands}
-use Rattle.lua_parser.proofs.ArmSteps.{arms_start, arm_test_fault, arm_no_then, arm_body_fault, arm_more, arm_last, arms_stood, arms_failed, if_fault, if_stands, if_no_end, else_fault, else_no_end, else_stands}
-use Rattle.lua_grammar.specs.Grammar.{under}
+use Rattle.lua_parser.proofs.ArmSteps.{arm_test_fault, arm_no_then, arm_body_fault, arm_more, arm_last, arms_stood, arms_failed, if_fault, if_stands, if_no_end, else_fault, else_no_end, else_stands}
 use Rattle.lua_parser.specs.StatAnswers.{closing}
 use Rattle.lua_parser.proofs.BlockSteps.{block_start, stat_fault, block_more, block_last_stat, block_done, default_stat, no_stat}
 use Rattle.lua_parser.proofs.SimpleExits.{prefix_stood, prefix_failed, call_is, call_not, var_is, var_not, simple_deep, simple_fault, simple_not, simple_call, targets_first, target_none, target_fault, target_not, target_more, values_fault, assign_stands}

@@ -1,4 +1,4 @@
-use Rattle.std.proofs.Common.{◌≡◌, ◌<◌, ◌≤◌, ◌+◌, length, ℕ, ◌-◌, ◌*◌}
+use Rattle.std.proofs.Common.{◌<◌, ◌≤◌, ◌+◌, length, ◌-◌, ◌*◌}
 use Rattle.lua_syntax.specs.View.{expr_view}
 use Rattle.lua_parser.proofs.Climb.{Climbs}
 use Rattle.lua_parser.proofs.Suffixes.{Chain}

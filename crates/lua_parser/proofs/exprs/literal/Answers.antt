@@ -1,12 +1,12 @@
 use mir.Val.{SFits}
 use mir.Syntax.{w64}
 use Rattle.std.specs.Prelude.{ℤ}
-use Rattle.std.proofs.Common.{rules, refl, sym, ◌∙◌, ap, ◌≡◌, ℕ, Some}
+use Rattle.std.proofs.Common.{rules, sym, ◌∙◌, ap, ◌≡◌, ℕ, Some}
 use Rattle.std.proofs.lemmas.Int.{to_z-of_z}
 use Rattle.lua_number.specs.Numerals.{read_numeral_of}
 use Rattle.lua_grammar.specs.Tokens.{bytes_of, tok_at}
 use Rattle.lua_syntax.specs.View.{expr_view}
-use Rattle.lua_syntax.specs.Tree.{NilE, TrueE, FalseE, DotsE, NumberE}
+use Rattle.lua_syntax.specs.Tree.{NumberE}
 use Rattle.lua_parser.proofs.Exits.{is_sort, one_token_read, literal_unexpected, text_same, nil_not_eof, true_not_eof, false_not_eof, text_not_eof, number_not_eof, dots_not_eof}
 use Rattle.lua_parser.proofs.Atoms.{operand_deep, dots_starts, dots_can, dots_outside, number_starts, number_invalid, nil_starts, true_starts, false_starts, text_starts}
 use Rattle.lua_parser.proofs.exprs.literal.Goals as goal

@@ -1,5 +1,5 @@
-use Rattle.std.proofs.Common.{◌≡◌, ◌<◌, length, ℕ, refl}
-use Rattle.lua_grammar.specs.declared.Sort.TheVariants.{Comma, Name}
+use Rattle.std.proofs.Common.{refl}
+use Rattle.lua_grammar.specs.declared.Sort.TheVariants.{Comma}
 use Rattle.lua_parser.proofs.StatBegins.{behind_word}
 use Rattle.lua_parser.proofs.StatExits.{read_is, read_not}
 use Rattle.lua_parser.proofs.NameLists.{names_first, names_next, names_done, names_fail}

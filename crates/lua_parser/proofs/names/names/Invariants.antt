@@ -1,4 +1,4 @@
-use Rattle.std.proofs.Common.{◌≡◌, ◌<◌, length, ℕ, ◌+◌, ◌-◌}
+use Rattle.std.proofs.Common.{length, ◌-◌}
 use Rattle.lua_parser.proofs.NameLists.{NamesRead}
 use Rattle.lua_parser.proofs.names.names.Given as goal
 

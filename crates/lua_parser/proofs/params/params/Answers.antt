@@ -1,6 +1,5 @@
-use Rattle.std.proofs.Common.{refl, sym, ◌∙◌, ap}
 use Rattle.lua_parser.proofs.Exits.{more_after, is_sort, isn't, name_not_eof}
-use Rattle.lua_parser.proofs.BodyLemmas.{params_begin, params_dots, params_last, params_none, params_unexpected}
+use Rattle.lua_parser.proofs.BodyLemmas.{params_begin, params_dots, params_last, params_unexpected}
 use Rattle.lua_parser.proofs.ParamExits.{list_made, dots_not_end, params_more_read}
 use Rattle.lua_parser.proofs.params.params.Goals as goal
 

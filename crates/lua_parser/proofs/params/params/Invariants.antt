@@ -1,4 +1,4 @@
-use Rattle.std.proofs.Common.{◌≡◌, ◌<◌, ◌≤◌, ◌+◌, length, ℕ, ◌-◌, ◌*◌}
+use Rattle.std.proofs.Common.{◌<◌, length, ◌-◌}
 use Rattle.lua_parser.proofs.BodyLemmas.{Params_so_far}
 use Rattle.lua_parser.proofs.params.params.Given as goal
 

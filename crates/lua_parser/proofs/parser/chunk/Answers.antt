@@ -1,4 +1,3 @@
-use Rattle.std.proofs.Common.{arith, sym, ◌∙◌, refl}
 use Rattle.std.proofs.lemmas.Result.{err_from_is_err_and}
 use Rattle.lua_parser.proofs.Exits.{is_sort, isn't}
 use Rattle.lua_parser.proofs.ChunkLemmas.{some_token, block_fault, chunk_is, chunk_only, chunk_unended, unended_no_chunk}

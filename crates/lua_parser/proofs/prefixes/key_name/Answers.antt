@@ -1,4 +1,3 @@
-use Rattle.std.proofs.Common.{refl}
 use Rattle.lua_parser.proofs.Steps.{unexpected, too_deep}
 use Rattle.lua_parser.proofs.PieceKinds.{name_opens}
 use Rattle.lua_parser.proofs.Lists.{key_starts, key_node, no_key}
