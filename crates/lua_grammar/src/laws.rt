@@ -1,5 +1,7 @@
-//! What holds of the plain tree of every chunk, whatever its tokens: laws about the definitions (`FactLaws`).
+//! What holds of the plain tree of every chunk, whatever its tokens (`FactLaws`), and of the first fault of a list of tokens
+//! (`FaultLaws`): laws about the definitions.
 ghost use Rattle.lua_grammar.specs.FactLaws.{ChunkFits, ChunkIsLow, NodesAreShallow, TreesAreLow};
+ghost use Rattle.lua_grammar.specs.FaultLaws.{FaultOrChunk, FewerBegin, OneFault};
 
 /// A tree that tokens spell as a chunk fits as one.
 #[tactic(auto, using(crate::proofs::FactLaws::chunk_fits))]
@@ -23,4 +25,22 @@ pub fn trees_are_low()
 #[tactic(auto, using(crate::proofs::FactLaws::nodes_are_shallow))]
 pub fn nodes_are_shallow()
     ensures { NodesAreShallow }
+{}
+
+/// What begins a chunk with so many tokens does so with fewer.
+#[tactic(auto, using(crate::proofs::FaultLaws::fewer_begin))]
+pub fn fewer_begin()
+    ensures { FewerBegin }
+{}
+
+/// A list of tokens has one first fault at most.
+#[tactic(auto, using(crate::proofs::FaultLaws::one_fault))]
+pub fn one_fault()
+    ensures { OneFault }
+{}
+
+/// A list of tokens that has a first fault spells no chunk.
+#[tactic(auto, using(crate::proofs::FaultLaws::fault_or_chunk))]
+pub fn fault_or_chunk()
+    ensures { FaultOrChunk }
 {}

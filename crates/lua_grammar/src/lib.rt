@@ -8,7 +8,7 @@
 //!
 //! Functions with an empty body, whose contracts are statements about these definitions:
 //!
-//! - `laws`: what holds of every chunk (`specs/FactLaws.antt`)
+//! - `laws`: what holds of every chunk (`specs/FactLaws.antt`), and of the first fault (`specs/FaultLaws.antt`)
 //! - `examples`: small texts with their trees (`specs/Examples.antt`), and trees that no text spells (`specs/Misfits.antt`)
 #![tactic(auto)]
 
