@@ -7,7 +7,7 @@
 //! - `short_lists`: lists that mostly have one item
 //! - `make`: a node is made, with the plain tree for which it stands
 //! - `tokens`, `around`, `answer`: a look at a token, what stands around a node, and what a function of the parser answers
-//! - `laws`: what the grammar alone says of chunks
+//! - `laws`: what the definitions alone say of chunks and faults
 #![tactic(auto)]
 
 pub mod answer;
