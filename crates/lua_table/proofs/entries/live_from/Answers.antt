@@ -1,13 +1,13 @@
 use Rattle.std.proofs.Common.{rules, arith, ap, ◌++◌}
 use Rattle.std.proofs.lemmas.List.{drop_all}
-use Rattle.lua_table.specs.Entries.{first_held}
+use Rattle.lua_table.specs.Entries.{first_live}
 use Rattle.lua_table.specs.Front.{numbered}
-use Rattle.lua_table.proofs.FrontLemmas.{held_number, passed_number}
-use Rattle.lua_table.proofs.entries.held_from.Goals as goal
+use Rattle.lua_table.proofs.FrontLemmas.{live_number, passed_number}
+use Rattle.lua_table.proofs.entries.live_from.Goals as goal
 
 pub returns-then-not-is_nil : goal.returns-then-not-is_nil
 returns-then-not-is_nil g c =
-    let here = held_number g.V.PartialEq.eq g.V.Slot.nil_value g.V.Slot.number_of c.args.front.now c.args.rest.now.entries c.loop-at.at c.item_at-value.result c.item_at-value.ensures c.if-not-is_nil.ensures.test in
+    let here = live_number g.V.PartialEq.eq g.V.Slot.nil_value g.V.Slot.number_of c.args.front.now c.args.rest.now.entries c.loop-at.at c.item_at-value.result c.item_at-value.ensures c.if-not-is_nil.ensures.test in
     grind (arith, rules, here, c.loop-at.invariant)
 
 pub loop-at-preserved : goal.loop-at-preserved
@@ -18,5 +18,5 @@ loop-at-preserved g c =
 pub returns : goal.returns
 returns g c =
     let all = drop_all c.loop-at.at c.args.front.now c.loop-at-test.false in
-    let here = ap (λ vs. first_held g.V.PartialEq.eq g.V.Slot.nil_value (numbered g.V.Slot.number_of c.loop-at.at vs ++ c.args.rest.now.entries)) all in
-    grind (arith, rules, here, c.loop-at.invariant, c.held_in-step.ensures.shows)
+    let here = ap (λ vs. first_live g.V.PartialEq.eq g.V.Slot.nil_value (numbered g.V.Slot.number_of c.loop-at.at vs ++ c.args.rest.now.entries)) all in
+    grind (arith, rules, here, c.loop-at.invariant, c.live_in-step.ensures.shows)

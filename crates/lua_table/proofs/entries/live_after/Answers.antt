@@ -1,11 +1,11 @@
 use Rattle.std.proofs.Common.{sym}
 use Rattle.lua_table.proofs.FrontLemmas.{after-found, after-absent}
-use Rattle.lua_table.proofs.entries.held_after.Goals as goal
+use Rattle.lua_table.proofs.entries.live_after.Goals as goal
 
-pub returns-in-Some-clause-held : goal.returns-in-Some-clause-held
-returns-in-Some-clause-held g c =
+pub returns-in-Some-clause-live : goal.returns-in-Some-clause-live
+returns-in-Some-clause-live g c =
     let found = after-found g.V.PartialEq.eq g.V.Slot.nil_value c.args.key.now c.args.rest.now.entries c.in-Some.at (sym c.in-Some.ensures.index) in
-    rw found c.held_in.ensures.shows
+    rw found c.live_in.ensures.shows
 
 pub returns-in-None-clause-absent : goal.returns-in-None-clause-absent
 returns-in-None-clause-absent g c =
