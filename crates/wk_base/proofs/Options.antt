@@ -1,5 +1,5 @@
 -- What equal options say of what is in them.
-use Rattle.std.proofs.Common.{◌≡◌, Option, Some, None}
+use Rattle.std.proofs.Common.{◌≡◌, Some, None}
 
 -- Two full options that are equal hold the same.
 pub some_same : {A : Type 0} (x y : A) → Some x ≡ Some y → x ≡ y
