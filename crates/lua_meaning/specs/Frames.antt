@@ -5,7 +5,7 @@ use Rattle.std.specs.Str.Parse.{digits_value}
 use Rattle.lua_heap.specs.Value.{Value, Nil, Truth, Number, Text, Table, Builtin}
 use Rattle.lua_heap.specs.Table.{Entries, get, set}
 use Rattle.lua_heap.specs.Heap.{Heap, TableObj, add, table_at}
-use Rattle.lua_heap.specs.Library.{ArgsIndex, number_of}
+use Rattle.lua_heap.specs.declared.library.Library.TheVariants.{ArgsIndex}
 use Rattle.lua_meaning.specs.Environment.{Bytes, Function}
 use Rattle.lua_meaning.specs.Questions.{Arg, Scene}
 use Rattle.lua_meaning.specs.Values.{second}
@@ -35,7 +35,7 @@ args_index args h = checked h (a_table 1 (codes "args") args) (λ t. by_key h t 
 
 -- the four tables of a frame, where so many tables are there already: its arguments and their metatable, the frame and its metatable
 abbrev pub args_meta : Entries
-args_meta = (Text (codes "__metatable"), Truth false) ∷ (Text (codes "__index"), Builtin (number_of ArgsIndex)) ∷ []
+args_meta = (Text (codes "__metatable"), Truth false) ∷ (Text (codes "__index"), Builtin ArgsIndex) ∷ []
 
 abbrev pub frame_meta : ℕ → Entries
 frame_meta number = (Number (pos 1), Number (pos number)) ∷ (Text (codes "__metatable"), Truth false) ∷ []

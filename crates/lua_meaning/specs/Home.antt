@@ -4,13 +4,14 @@ use Rattle.std.specs.Prelude.{[], ◌∷◌, codes}
 use Rattle.lua_heap.specs.Value.{Value, Nil, Text, Table, Builtin}
 use Rattle.lua_heap.specs.Table.{Entries}
 use Rattle.lua_heap.specs.Heap.{Heap, empty}
-use Rattle.lua_heap.specs.Library.{Library, BasicAssert, BasicError, BasicGetMetatable, BasicSetMetatable, BasicIpairs, BasicPairs, BasicNext, BasicPcall, BasicXpcall, BasicRawEqual, BasicRawGet, BasicRawSet, BasicSelect, BasicToNumber, BasicToString, BasicType, BasicUnpack, number_of}
+use Rattle.lua_heap.specs.declared.library.Library.{Library}
+use Rattle.lua_heap.specs.declared.library.Library.TheVariants.{BasicAssert, BasicError, BasicGetMetatable, BasicSetMetatable, BasicIpairs, BasicPairs, BasicNext, BasicPcall, BasicXpcall, BasicRawEqual, BasicRawGet, BasicRawSet, BasicSelect, BasicToNumber, BasicToString, BasicType, BasicUnpack}
 use Rattle.lua_meaning.specs.Environment.{Bytes, Function}
 use Rattle.lua_meaning.specs.Acts.{State}
 use Rattle.lua_meaning.specs.Frames.{with_table}
 
 abbrev pub named : Bytes → Library → Value × Value
-named name f = (Text name, Builtin (number_of f))
+named name f = (Text name, Builtin f)
 
 -- the global variables: table 0
 abbrev pub globals : Entries

@@ -4,7 +4,8 @@ use Rattle.std.specs.Prelude.{List, [], Option, Some, None}
 use Rattle.page_run.specs.Outcome.{◌>>=◌, give}
 use Rattle.lua_heap.specs.Value.{Value}
 use Rattle.lua_heap.specs.Heap.{Heap}
-use Rattle.lua_heap.specs.Library.{Library, BasicAssert, BasicError, BasicGetMetatable, BasicSetMetatable, BasicIpairs, BasicPairs, BasicNext, BasicPcall, BasicXpcall, BasicRawEqual, BasicRawGet, BasicRawSet, BasicSelect, BasicToNumber, BasicToString, BasicType, BasicUnpack, ArgsIndex, IpairsStep}
+use Rattle.lua_heap.specs.declared.library.Library.{Library}
+use Rattle.lua_heap.specs.declared.library.Library.TheVariants.{BasicAssert, BasicError, BasicGetMetatable, BasicSetMetatable, BasicIpairs, BasicPairs, BasicNext, BasicPcall, BasicXpcall, BasicRawEqual, BasicRawGet, BasicRawSet, BasicSelect, BasicToNumber, BasicToString, BasicType, BasicUnpack, ArgsIndex, IpairsStep}
 use Rattle.lua_meaning.specs.World.{World}
 use Rattle.lua_meaning.specs.Environment.{Function, Levels}
 use Rattle.lua_meaning.specs.Acts.{Act, see_heap}
@@ -44,7 +45,3 @@ library world IpairsStep args callers = ipairs_step args callers
 library world which args callers = do
   h ← see_heap
   plain_or_none (plain world which args h) callers
-
-abbrev pub library_of : World → Option Library → List Value → Levels → Act (List Value)
-library_of world (Some which) args callers = library world which args callers
-library_of world None args callers = give []

@@ -9,7 +9,7 @@ use Rattle.lua_number.specs.Whole.{fits}
 use Rattle.lua_heap.specs.Value.{Value, Nil, Truth, Number, Text, Table, Builtin}
 use Rattle.lua_heap.specs.Table.{get}
 use Rattle.lua_heap.specs.Heap.{table_at}
-use Rattle.lua_heap.specs.Library.{BasicNext, IpairsStep, number_of}
+use Rattle.lua_heap.specs.declared.library.Library.TheVariants.{BasicNext, IpairsStep}
 use Rattle.lua_meaning.specs.Environment.{Bytes, Levels}
 use Rattle.lua_meaning.specs.Values.{kind_of, first, rest, second, third, text_in}
 use Rattle.lua_meaning.specs.Acts.{Act, Jump, Raised, choose, see_heap}
@@ -97,7 +97,7 @@ three_of vs = give (first vs ∷ second vs ∷ third vs ∷ [])
 abbrev pub pairs_by : Value → List Value → Levels → Act (List Value)
 pairs_by Nil args callers = do
   t ← argument callers (a_table 1 (codes "pairs") args)
-  give (Builtin (number_of BasicNext) ∷ Table t ∷ Nil ∷ [])
+  give (Builtin BasicNext ∷ Table t ∷ Nil ∷ [])
 pairs_by h args callers = calling h (first args ∷ []) (for_values three_of)
 
 abbrev pub pairs : List Value → Levels → Act (List Value)
@@ -108,7 +108,7 @@ pairs args callers = do
 abbrev pub ipairs_by : Value → List Value → Levels → Act (List Value)
 ipairs_by Nil args callers = do
   t ← argument callers (a_table 1 (codes "ipairs") args)
-  give (Builtin (number_of IpairsStep) ∷ Table t ∷ Number (pos 0) ∷ [])
+  give (Builtin IpairsStep ∷ Table t ∷ Number (pos 0) ∷ [])
 ipairs_by h args callers = calling h (first args ∷ []) (for_values three_of)
 
 abbrev pub ipairs : List Value → Levels → Act (List Value)
