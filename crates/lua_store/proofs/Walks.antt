@@ -4,20 +4,20 @@ use Rattle.std.specs.Prelude.{Result, Ok, Err, IfOk, MatchResult, MatchOption}
 use Rattle.std.specs.List.{AllByRecursion, IsDistinct}
 use Rattle.std.specs.Str.{bytes_eq}
 use Rattle.std.specs.Option.{option_map}
-use Rattle.lua_table.specs.Entries.{Contents, value_at, after_key, first_live, Stop, Shows, IsBorder}
+use Rattle.lua_table.specs.Entries.{Contents, value_at, is_there, after_key, first_live, Stop, Shows, IsBorder}
 use Rattle.lua_table.specs.declared.table.Step.{Step}
 use Rattle.lua_table.specs.declared.table.NoSuchKey.{NoSuchKey}
 use Rattle.lua_heap.specs.Value as heap
 use Rattle.lua_heap.specs.Value.{same, is_nil}
-use Rattle.lua_heap.specs.Table.{next, first_entry, behind_key, border}
+use Rattle.lua_heap.specs.Table.{has, next, first_entry, behind_key, border}
 use Rattle.lua_heap.proofs.Borders.{border_is_only}
 use Rattle.lua_store.specs.declared.value.Value.{Value}
 use Rattle.lua_store.specs.declared.value.Value.TheVariants.{Nil, Number}
 use Rattle.lua_store.specs.contracts.value.ValuePartialEq.TheImpl.{ghosts}
 use Rattle.lua_store.specs.ValueLaws.{same_value}
-use Rattle.lua_store.specs.Seen.{Held, seen, seen_entry, seen_table, seen_step, seen_next}
+use Rattle.lua_store.specs.Seen.{StoreView, seen, seen_entry, seen_table, seen_step, seen_next}
 use Rattle.lua_store.specs.Parts.{IsOf, IsEntryOf, IsContentsOf}
-use Rattle.lua_store.proofs.EntryMaps.{found, value_at-seen, after_key-seen, after_key-holds, first_live-seen, first_live-holds, stop}
+use Rattle.lua_store.proofs.EntryMaps.{found, value_at-seen, is_there-seen, after_key-seen, after_key-holds, first_live-seen, first_live-holds, stop}
 use Rattle.lua_store.proofs.Equal.{eq-seen}
 use Rattle.lua_store.proofs.Changes.{nil-seen}
 
@@ -30,7 +30,7 @@ nil_or_not : (texts : List (List ℕ)) (v : Value) (b : Bool) → is_nil (seen t
 nil_or_not texts v true e = same_value v Nil (sym (nil-seen texts v) ∙ e)
 nil_or_not texts v false e = λ is. true≢false (sym (ap (λ x. is_nil (seen texts x)) is) ∙ e)
 
-module _ (s : Held) (once : IsDistinct bytes_eq s.texts) where
+module _ (s : StoreView) (once : IsDistinct bytes_eq s.texts) where
   shown : (st : Stop ghosts.eq Nil) (a : Step Value) → Shows ghosts.eq Nil st a
       → seen_step s.texts a ≡ stop ghosts.eq same (seen s.texts) (IsOf s) (eq-seen s once) Nil tt st
   shown st a h = rw (h.0, h.1, h.2) refl
@@ -104,6 +104,11 @@ module _ (s : Held) (once : IsDistinct bytes_eq s.texts) where
 
   pub got-of : (t : Contents Value) (key : Value) → IsContentsOf s t → IsOf s (value_at ghosts.eq Nil t.entries key)
   got-of t key of = found ghosts.eq same (seen s.texts) (IsOf s) (eq-seen s once) t.entries key of.entries Nil tt
+
+  pub has-at : (t : Contents Value) (u : Contents heap.Value) (key : Value) (b : Bool) → IsContentsOf s t → seen_table s.texts t ≡ u → IsOf s key → b ≡ is_there ghosts.eq Nil t.entries key
+      → b ≡ has u.entries (seen s.texts key)
+  has-at t u key b of is k e =
+      e ∙ sym (is_there-seen ghosts.eq same (seen s.texts) (IsOf s) (eq-seen s once) Nil tt t.entries key of.entries k) ∙ ap (λ (x : Contents heap.Value). has x.entries (seen s.texts key)) is
 
   pub next-at : (t : Contents Value) (u : Contents heap.Value) (key : Value) (r : Result (Step Value) NoSuchKey) → IsContentsOf s t → seen_table s.texts t ≡ u → IsOf s key → IsNext t.entries key r
       → (seen_next s.texts r ≡ next u.entries (seen s.texts key)) × IfOk r (λ a. IsOf s a.key × IsOf s a.value)
