@@ -7,7 +7,7 @@ use Rattle.lua_pattern.specs.declared.item.Item.TheVariants.{One, Star, Plus, Mi
 use Rattle.lua_pattern.specs.Letters.{Letters, Symbol, IsFirst, IsAlphabet}
 use Rattle.lua_pattern.specs.Single.{fits}
 use Rattle.lua_pattern.specs.Places.{Repeats, KeepsPlaces}
-use Rattle.lua_pattern.specs.Way.{Answer, At, Nowhere, starting, answer_costs, answer_or_else, first_of, first, Outcome, Hit, Miss, Rest, costs, or_else, one, compared, most_first, star, least_first, maybe, begins, bytes_compared, between_marks, same_again, longer, closing, after_closing, balanced, is_frontier, tested, passed, way}
+use Rattle.lua_pattern.specs.Way.{Answer, At, Nowhere, starting, answer_costs, answer_or_else, first_of, first, Outcome, Hit, Miss, Rest, costs, or_else, one, comparisons, most_first, star, least_first, maybe, begins, bytes_compared, between_marks, same_again, longer, closing, after_closing, balanced, is_frontier, test_way, item_way, way}
 
 -- What holds, by P, of each place that a match comes to, and by M of each mark.
 pub record Holds (a : Letters) (subject : List ℕ) (P M : ℕ → Type 0) : Type 0 where
@@ -45,7 +45,7 @@ cond_holds : (P M : ℕ → Type 0) (b : Bool) (o p : Outcome) → Holding P M o
 cond_holds P M true o p h k = h
 cond_holds P M false o p h k = k
 
-tested_holds : (P M : ℕ → Type 0) (b : Bool) (R : Rest) (at : ℕ) (marks : List ℕ) → Holding P M (R at marks) → Holding P M (tested b R at marks)
+tested_holds : (P M : ℕ → Type 0) (b : Bool) (R : Rest) (at : ℕ) (marks : List ℕ) → Holding P M (R at marks) → Holding P M (test_way b R at marks)
 tested_holds P M b R at marks h = costs_holds P M 1 (cond b (R at marks) (Miss 0)) (cond_holds P M b (R at marks) (Miss 0) h tt)
 
 -- the symbols behind the first one
@@ -75,7 +75,7 @@ star_holds : (a : Letters) → IsAlphabet a → (subject : List ℕ) (P M : ℕ 
     P at → AllMarks M marks → RestHolds P M R → Holding P M (star a x (a.symbols (drop at subject)) R at marks)
 star_holds a law subject P M H x R at marks p m r =
     let cs : List Symbol = a.symbols (drop at subject) in
-    costs_holds P M (compared a x cs) (most_first a x cs R at marks) (most_holds a law subject P M H x cs R at marks refl p m r)
+    costs_holds P M (comparisons a x cs) (most_first a x cs R at marks) (most_holds a law subject P M H x cs R at marks refl p m r)
 
 least_holds : (a : Letters) → IsAlphabet a → (subject : List ℕ) (P M : ℕ → Type 0) → Holds a subject P M → (x : Single) (cs : List Symbol) (R : Rest) (at : ℕ) (marks : List ℕ) →
     a.symbols (drop at subject) ≡ cs → P at → AllMarks M marks → RestHolds P M R → Holding P M (least_first a x cs R at marks)
@@ -159,7 +159,7 @@ balanced_holds a law subject P M H x y (c ∷ cs) R at marks e p m r =
     (closing_ends a law subject P M H x y 0 cs (at + c.size) (later a law subject at c cs e) (H.step at c cs p e)) m r) tt)
 
 passed_holds : (a : Letters) → IsAlphabet a → (subject : List ℕ) (P M : ℕ → Type 0) → Holds a subject P M → (item : Item) (R : Rest) (at : ℕ) (marks : List ℕ) →
-    P at → AllMarks M marks → RestHolds P M R → Holding P M (passed a item subject R at marks)
+    P at → AllMarks M marks → RestHolds P M R → Holding P M (item_way a item subject R at marks)
 passed_holds a law subject P M H (One x) R at marks p m r = one_holds a subject P M H x (a.symbols (drop at subject)) R at marks refl p m r
 passed_holds a law subject P M H (Star x) R at marks p m r = star_holds a law subject P M H x R at marks p m r
 passed_holds a law subject P M H (Plus x) R at marks p m r =
@@ -234,3 +234,19 @@ first_has a law subject P K true items from p =
     starting_has P from from (costs 1 (way a items subject from [])) (omega arith) p
     (costs_holds (From P from) P 1 (way a items subject from []) (way_has a law subject P K items from p))
 first_has a law subject P K false items from p = first_of_has a law subject P K items (a.symbols (drop from subject)) from from refl (omega arith) p
+
+every_place : (a : Letters) (subject : List ℕ) → KeepsPlaces a subject (λ at. Unit {0})
+every_place a subject = record { step = λ at c cs p e. tt; again = λ at from to p mf mt e. tt; zero = tt }
+
+abbrev pub IsBehind : ℕ → Answer → Type 0
+IsBehind from (At start end marks n) = (from ≤ start) × (start ≤ end)
+IsBehind from (Nowhere n) = Unit {0}
+
+behind_of : (from : ℕ) (o : Answer) → AnswerHas (λ at. Unit {0}) from o → IsBehind from o
+behind_of from (At start end marks n) h = (h.0, h.1)
+behind_of from (Nowhere n) h = tt
+
+-- The first match does not begin before the place from which the search goes, nor end before it begins.
+pub first_behind : (a : Letters) → IsAlphabet a → (anchored : Bool) (items : List Item) (subject : List ℕ) (from : ℕ) → IsBehind from (first a anchored items subject from)
+first_behind a law anchored items subject from =
+    behind_of from (first a anchored items subject from) (first_has a law subject (λ at. Unit {0}) (every_place a subject) anchored items from tt)

@@ -13,3 +13,5 @@ pub mod Parts
 pub mod Sets
 pub mod Nexts
 pub mod Examples
+pub mod Tables
+pub mod Codes

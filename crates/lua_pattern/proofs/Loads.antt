@@ -4,7 +4,7 @@ use Rattle.std.proofs.Math.Nat.{mul-le-mul_right}
 use Rattle.lua_pattern.specs.declared.passes.Now.{Now}
 use Rattle.lua_pattern.specs.declared.passes.Now.TheVariants.{At}
 use Rattle.lua_pattern.specs.declared.trail.Choice.TheVariants.{Down}
-use Rattle.lua_pattern.specs.Trail.{Kept}
+use Rattle.lua_pattern.specs.Trail.{TrailState}
 use Rattle.lua_pattern.specs.Search.{Lighter, load, weight, heavy, unit, price}
 
 -- A try pays for a unit at each place of the subject, and one more.
@@ -26,42 +26,42 @@ pays count size (suc n) left middle ns le lt =
     let p : suc n * unit count + unit count ≤ price count size = price_pays count size (suc n) ns in
     omega (arith, s, p)
 
-pub star_load : (count size next at k n left middle : ℕ) (now : Now) (kept kept_now : Kept) → n ≤ size - at → middle ≤ left → (0 < n → middle < left) → k ≡ n →
-    weight count now + heavy count kept_now.choices ≤ 2 * (count - next) + 1 + k * unit count + heavy count kept.choices →
-    Lighter count size next kept left now middle kept_now
-star_load count size next at k n left middle now kept kept_now ns le lt ek h =
+pub star_load : (count size next at k n left middle : ℕ) (now : Now) (state state_now : TrailState) → n ≤ size - at → middle ≤ left → (0 < n → middle < left) → k ≡ n →
+    weight count now + heavy count state_now.choices ≤ 2 * (count - next) + 1 + k * unit count + heavy count state.choices →
+    Lighter count size next state left now middle state_now
+star_load count size next at k n left middle now state state_now ns le lt ek h =
     let p : n * unit count + middle * price count size ≤ left * price count size = pays count size n left middle (omega (arith, ns)) le lt in
     let q : k * unit count ≡ n * unit count = ap (λ m. m * unit count) ek in
     omega (arith, h, p, q)
 
-pub plus_load : (count size next left middle : ℕ) (now : Now) (left_now : ℕ) (kept kept_now : Kept) → middle ≤ left →
-    Lighter count size next kept middle now left_now kept_now → Lighter count size next kept left now left_now kept_now
-plus_load count size next left middle now left_now kept kept_now le h =
+pub plus_load : (count size next left middle : ℕ) (now : Now) (left_now : ℕ) (state state_now : TrailState) → middle ≤ left →
+    Lighter count size next state middle now left_now state_now → Lighter count size next state left now left_now state_now
+plus_load count size next left middle now left_now state state_now le h =
     let g : middle * price count size ≤ left * price count size = mul-le-mul_right (price count size) le in
     omega (arith, h, g)
 
-pub one_more_load : (count size index left middle : ℕ) (now : Now) (left_now : ℕ) (kept kept_now : Kept) → 1 ≤ left → middle ≡ left - 1 →
-    Lighter count size (index + 1) kept middle now left_now kept_now →
-    load count size now left_now kept_now < 1 + heavy count kept.choices + left * price count size
-one_more_load count size index left middle now left_now kept kept_now le em h =
+pub one_more_load : (count size index left middle : ℕ) (now : Now) (left_now : ℕ) (state state_now : TrailState) → 1 ≤ left → middle ≡ left - 1 →
+    Lighter count size (index + 1) state middle now left_now state_now →
+    load count size now left_now state_now < 1 + heavy count state.choices + left * price count size
+one_more_load count size index left middle now left_now state state_now le em h =
     let more : middle + 1 ≤ left = omega (arith, le, em) in
     let s : (middle + 1) * price count size ≤ left * price count size = mul-le-mul_right (price count size) more in
     let p : 0 * unit count + unit count ≤ price count size = price_pays count size 0 (omega arith) in
     omega (arith, h, s, p)
 
-pub descend_load : (count item low high place : ℕ) (kept kept_now : Kept) → low < place → place ≤ high →
-    kept_now ≡ record { choices = Down item low (place - 1) (length kept.marks) ∷ kept.choices; marks = kept.marks } →
-    weight count (At item place) + heavy count kept_now.choices ≤ 2 * (count - item) + 1 + (high - low) * unit count + heavy count kept.choices
-descend_load count item low high place kept kept_now lt le ek =
-    let b : heavy count kept_now.choices ≡ (place - 1 - low + 1) * unit count + heavy count kept.choices = ap (λ k. heavy count k.choices) ek in
+pub descend_load : (count item low high place : ℕ) (state state_now : TrailState) → low < place → place ≤ high →
+    state_now ≡ record { choices = Down item low (place - 1) (length state.marks) ∷ state.choices; marks = state.marks } →
+    weight count (At item place) + heavy count state_now.choices ≤ 2 * (count - item) + 1 + (high - low) * unit count + heavy count state.choices
+descend_load count item low high place state state_now lt le ek =
+    let b : heavy count state_now.choices ≡ (place - 1 - low + 1) * unit count + heavy count state.choices = ap (λ k. heavy count k.choices) ek in
     let s : (place - 1 - low + 1) * unit count ≤ (high - low) * unit count = mul-le-mul_right (unit count) (omega (arith, lt, le)) in
     omega (arith, b, s)
 
-pub maybe_load : (count size next at place left middle : ℕ) (kept kept_now : Kept) → 1 ≤ left → middle ≡ left - 1 →
-    kept_now ≡ record { choices = Down next at at (length kept.marks) ∷ kept.choices; marks = kept.marks } →
-    Lighter count size next kept left (At next place) middle kept_now
-maybe_load count size next at place left middle kept kept_now le em ek =
-    let b : heavy count kept_now.choices ≡ (at - at + 1) * unit count + heavy count kept.choices = ap (λ k. heavy count k.choices) ek in
+pub maybe_load : (count size next at place left middle : ℕ) (state state_now : TrailState) → 1 ≤ left → middle ≡ left - 1 →
+    state_now ≡ record { choices = Down next at at (length state.marks) ∷ state.choices; marks = state.marks } →
+    Lighter count size next state left (At next place) middle state_now
+maybe_load count size next at place left middle state state_now le em ek =
+    let b : heavy count state_now.choices ≡ (at - at + 1) * unit count + heavy count state.choices = ap (λ k. heavy count k.choices) ek in
     let u : (at - at + 1) * unit count ≡ 1 * unit count = ap (λ k. k * unit count) (omega arith) in
     let more : middle + 1 ≤ left = omega (arith, le, em) in
     let s : (middle + 1) * price count size ≤ left * price count size = mul-le-mul_right (price count size) more in

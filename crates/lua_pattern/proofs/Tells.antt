@@ -9,23 +9,23 @@ use Rattle.lua_pattern.proofs.Inside.{AllMarks, AnswerHas}
 use Rattle.lua_pattern.specs.declared.slots.Slot.{Slot}
 use Rattle.lua_pattern.specs.declared.pattern.Match.{Match}
 use Rattle.lua_pattern.specs.Way.{Answer, At, Nowhere, answer_tries}
-use Rattle.lua_pattern.specs.Found.{kept, IsFound}
+use Rattle.lua_pattern.specs.Found.{capture_of, IsFound}
 
 pub hit_tells : (slots : List Slot) (answer : Answer) (m : Match) (budget left start end : ℕ) (marks : List ℕ) →
-    answer ≡ At start end marks (budget - left) → m.start ≡ start → m.end ≡ end → m.captures ≡ map (kept marks) slots →
+    answer ≡ At start end marks (budget - left) → m.start ≡ start → m.end ≡ end → m.captures ≡ map (capture_of marks) slots →
     (answer_tries answer ≤ budget) × IsFound slots answer m (budget - left)
 hit_tells slots answer m budget left start end marks e es ee ec =
     let P : Answer → Type 0 = λ a. (answer_tries a ≤ budget) × IsFound slots a m (budget - left) in
     subst P (sym e) (omega arith, (es, ee, ec, refl))
 
 -- Captures stand at places, where the marks do.
-kept_at : (P : ℕ → Type 0) (marks : List ℕ) → AllMarks P marks → (slot : Slot) → IsCaptureAt P (kept marks slot)
+kept_at : (P : ℕ → Type 0) (marks : List ℕ) → AllMarks P marks → (slot : Slot) → IsCaptureAt P (capture_of marks slot)
 kept_at P marks h (slot.Text from to) = (h from, h to)
 kept_at P marks h (slot.Open mark) = h mark
 kept_at P marks h (slot.Point mark) = h mark
 
-captures_at : (P : ℕ → Type 0) (marks : List ℕ) → AllMarks P marks → (slots : List Slot) (k : ℕ) (d : Capture) → k < length (map (kept marks) slots) →
-    IsCaptureAt P (slice_index_or (map (kept marks) slots) k d)
+captures_at : (P : ℕ → Type 0) (marks : List ℕ) → AllMarks P marks → (slots : List Slot) (k : ℕ) (d : Capture) → k < length (map (capture_of marks) slots) →
+    IsCaptureAt P (slice_index_or (map (capture_of marks) slots) k d)
 captures_at P marks h [] k d lt = absurd (omega (arith, lt))
 captures_at P marks h (s ∷ ss) zero d lt = kept_at P marks h s
 captures_at P marks h (s ∷ ss) (suc k) d lt = captures_at P marks h ss k d (omega (arith, lt))

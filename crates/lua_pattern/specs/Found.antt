@@ -10,19 +10,19 @@ use Rattle.lua_pattern.specs.declared.pattern.Search.TheVariants as search
 use Rattle.lua_pattern.specs.Way.{Answer, At, Nowhere, answer_tries}
 
 -- a capture, by the places of the marks
-abbrev pub kept : List ℕ → Slot → Capture
-kept marks (Text first last) = Span (slice_index marks first) (slice_index marks last)
-kept marks (Open mark) = Place (slice_index marks mark)
-kept marks (Point mark) = Place (slice_index marks mark)
+abbrev pub capture_of : List ℕ → Slot → Capture
+capture_of marks (Text first last) = Span (slice_index marks first) (slice_index marks last)
+capture_of marks (Open mark) = Place (slice_index marks mark)
+capture_of marks (Point mark) = Place (slice_index marks mark)
 
 -- the match with its tries
 abbrev pub IsFound : List Slot → Answer → Match → ℕ → Type 0
 IsFound slots (At start end marks n) m tries =
-    (m.start ≡ start) × (m.end ≡ end) × (m.captures ≡ map (kept marks) slots) × (tries ≡ n)
+    (m.start ≡ start) × (m.end ≡ end) × (m.captures ≡ map (capture_of marks) slots) × (tries ≡ n)
 IsFound slots (Nowhere n) m tries = ⊥
 
 -- It is spent exactly where the tries exceed the budget; else it tells the answer and its tries.
-abbrev pub searched : ℕ → List Slot → Answer → Search → Type 0
-searched budget slots answer (search.Found m n) = (answer_tries answer ≤ budget) × IsFound slots answer m n
-searched budget slots answer (search.NotFound n) = (answer_tries answer ≤ budget) × (answer ≡ Nowhere n)
-searched budget slots answer search.Spent = budget < answer_tries answer
+abbrev pub IsSearch : ℕ → List Slot → Answer → Search → Type 0
+IsSearch budget slots answer (search.Found m n) = (answer_tries answer ≤ budget) × IsFound slots answer m n
+IsSearch budget slots answer (search.NotFound n) = (answer_tries answer ≤ budget) × (answer ≡ Nowhere n)
+IsSearch budget slots answer search.Spent = budget < answer_tries answer

@@ -1,7 +1,10 @@
 pub mod Letters
 pub mod Texts
 pub mod Lawful
+pub mod Sets
 pub mod Single
+pub mod ByteTables
+pub mod Prepared
 pub mod Way
 pub mod Trail
 pub mod Search
@@ -10,3 +13,5 @@ pub mod Keeps
 pub mod Found
 pub mod Read
 pub mod Reads
+pub mod Sizes
+pub mod SetTexts

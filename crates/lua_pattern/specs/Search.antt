@@ -13,22 +13,22 @@ use Rattle.lua_pattern.specs.Letters.{Letters}
 use Rattle.lua_pattern.specs.Way as way
 use Rattle.lua_pattern.specs.Way.{Outcome, Hit, Miss, costs, or_else, tries, Answer, answer_tries}
 use Rattle.lua_pattern.specs.Trail as trail
-use Rattle.lua_pattern.specs.Trail.{Kept}
+use Rattle.lua_pattern.specs.Trail.{TrailState}
 
 -- The present way, and where it fails the choices.
-abbrev pub from_here : Letters → List Item → List ℕ → Now → Kept → Outcome
-from_here a items subject (At i at) kept =
-    or_else (way.way a (drop i items) subject at kept.marks) (trail.tried a items subject kept.choices kept.marks)
-from_here a items subject Back kept = trail.tried a items subject kept.choices kept.marks
-from_here a items subject Spent kept = Miss 0
+abbrev pub from_here : Letters → List Item → List ℕ → Now → TrailState → Outcome
+from_here a items subject (At i at) state =
+    or_else (way.way a (drop i items) subject at state.marks) (trail.tried a items subject state.choices state.marks)
+from_here a items subject Back state = trail.tried a items subject state.choices state.marks
+from_here a items subject Spent state = Miss 0
 
 -- From tries that are left, an outcome's search has come to where it stands, with fewer left; or it needs more.
-abbrev pub Follows : Letters → List Item → List ℕ → Outcome → ℕ → Now → ℕ → Kept → Type 0
-Follows a items subject outcome left Spent left_now kept = left < tries outcome
-Follows a items subject outcome left (At i at) left_now kept =
-    (left_now ≤ left) × (outcome ≡ costs (left - left_now) (from_here a items subject (At i at) kept))
-Follows a items subject outcome left Back left_now kept =
-    (left_now ≤ left) × (outcome ≡ costs (left - left_now) (from_here a items subject Back kept))
+abbrev pub Follows : Letters → List Item → List ℕ → Outcome → ℕ → Now → ℕ → TrailState → Type 0
+Follows a items subject outcome left Spent left_now state = left < tries outcome
+Follows a items subject outcome left (At i at) left_now state =
+    (left_now ≤ left) × (outcome ≡ costs (left - left_now) (from_here a items subject (At i at) state))
+Follows a items subject outcome left Back left_now state =
+    (left_now ≤ left) × (outcome ≡ costs (left - left_now) (from_here a items subject Back state))
 
 -- what a search at one start says of the outcome: with a match its end and its marks, and how many tries are left
 abbrev pub Gives : Outcome → ℕ → Tried → ℕ → List ℕ → Type 0
@@ -61,10 +61,10 @@ unfoldable pub price : ℕ → ℕ → ℕ
 price count size = (size + 1) * unit count
 
 -- what bounds the turns that are left
-abbrev pub load : ℕ → ℕ → Now → ℕ → Kept → ℕ
-load count size now left kept = weight count now + heavy count kept.choices + left * price count size
+abbrev pub load : ℕ → ℕ → Now → ℕ → TrailState → ℕ
+load count size now left state = weight count now + heavy count state.choices + left * price count size
 
 -- A turn at the item before the next one makes the load lighter.
-abbrev pub Lighter : ℕ → ℕ → ℕ → Kept → ℕ → Now → ℕ → Kept → Type 0
-Lighter count size next kept left now left_now kept_now =
-    load count size now left_now kept_now < 2 * (count - next) + 3 + heavy count kept.choices + left * price count size
+abbrev pub Lighter : ℕ → ℕ → ℕ → TrailState → ℕ → Now → ℕ → TrailState → Type 0
+Lighter count size next state left now left_now state_now =
+    load count size now left_now state_now < 2 * (count - next) + 3 + heavy count state.choices + left * price count size

@@ -9,7 +9,7 @@ use Rattle.lua_pattern.specs.Letters.{Letters, Symbol}
 use Rattle.lua_pattern.specs.Single.{fits}
 use Rattle.lua_pattern.specs.Way.{Outcome, Miss, Rest, costs, or_else, least_first, way}
 
-pub record Kept : Type 0 where
+pub record TrailState : Type 0 where
   pub choices : List Choice
   pub marks : List ℕ
 

@@ -5,7 +5,8 @@ use Rattle.lua_pattern.specs.declared.item.Set.{Set}
 use Rattle.lua_pattern.specs.declared.item.Item.{Item}
 use Rattle.lua_pattern.specs.declared.item.Item.TheVariants.{One, Star, Plus, Minus, Maybe, Back, Balance, Frontier, Mark, End}
 use Rattle.lua_pattern.specs.Letters.{Symbol, Letters}
-use Rattle.lua_pattern.specs.Single.{fits, in_set}
+use Rattle.lua_pattern.specs.Single.{fits}
+use Rattle.lua_pattern.specs.Sets.{in_set}
 
 -- A match ends at a place and has the places of the marks that were passed. With it or without, a number of tries.
 pub data Outcome : Type 0 where
@@ -41,9 +42,9 @@ run a x [] = 0
 run a x (c ∷ cs) = cond (fits a x c.code) (c.size + run a x cs) 0
 
 -- the comparisons that find this, the failing one included
-abbrev pub compared : Letters → Single → List Symbol → ℕ
-compared a x [] = 0
-compared a x (c ∷ cs) = suc (cond (fits a x c.code) (compared a x cs) 0)
+abbrev pub comparisons : Letters → Single → List Symbol → ℕ
+comparisons a x [] = 0
+comparisons a x (c ∷ cs) = suc (cond (fits a x c.code) (comparisons a x cs) 0)
 
 -- the rest behind as many symbols as fit, or behind one fewer, and so on
 abbrev pub most_first : Letters → Single → List Symbol → Rest → ℕ → List ℕ → Outcome
@@ -53,7 +54,7 @@ most_first a x (c ∷ cs) rest at marks =
 
 -- `*`: first all is compared that fits
 abbrev pub star : Letters → Single → List Symbol → Rest → ℕ → List ℕ → Outcome
-star a x cs rest at marks = costs (compared a x cs) (most_first a x cs rest at marks)
+star a x cs rest at marks = costs (comparisons a x cs) (most_first a x cs rest at marks)
 
 -- `-`: the rest here, or behind one symbol that fits, and so on
 abbrev pub least_first : Letters → Single → List Symbol → Rest → ℕ → List ℕ → Outcome
@@ -129,28 +130,28 @@ is_frontier a set subject at =
     not (in_set a set (code_before a subject at)) && in_set a set (first_code (a.symbols (drop at subject)))
 
 -- one test, and the rest where it holds
-abbrev pub tested : Bool → Rest → ℕ → List ℕ → Outcome
-tested b rest at marks = costs 1 (cond b (rest at marks) (Miss 0))
+abbrev pub test_way : Bool → Rest → ℕ → List ℕ → Outcome
+test_way b rest at marks = costs 1 (cond b (rest at marks) (Miss 0))
 
 -- what an item and the rest give
-abbrev pub passed : Letters → Item → List ℕ → Rest → ℕ → List ℕ → Outcome
-passed a (One x) subject rest at marks = one a x (a.symbols (drop at subject)) rest at marks
-passed a (Star x) subject rest at marks = star a x (a.symbols (drop at subject)) rest at marks
-passed a (Plus x) subject rest at marks =
+abbrev pub item_way : Letters → Item → List ℕ → Rest → ℕ → List ℕ → Outcome
+item_way a (One x) subject rest at marks = one a x (a.symbols (drop at subject)) rest at marks
+item_way a (Star x) subject rest at marks = star a x (a.symbols (drop at subject)) rest at marks
+item_way a (Plus x) subject rest at marks =
     one a x (a.symbols (drop at subject)) (λ p. star a x (a.symbols (drop p subject)) rest p) at marks
-passed a (Minus x) subject rest at marks = least_first a x (a.symbols (drop at subject)) rest at marks
-passed a (Maybe x) subject rest at marks = maybe a x (a.symbols (drop at subject)) rest at marks
-passed a (Back left right) subject rest at marks =
+item_way a (Minus x) subject rest at marks = least_first a x (a.symbols (drop at subject)) rest at marks
+item_way a (Maybe x) subject rest at marks = maybe a x (a.symbols (drop at subject)) rest at marks
+item_way a (Back left right) subject rest at marks =
     same_again (between_marks subject left right marks) (drop at subject) rest at marks
-passed a (Balance x y) subject rest at marks = balanced x y (a.symbols (drop at subject)) rest at marks
-passed a (Frontier set) subject rest at marks = tested (is_frontier a set subject at) rest at marks
-passed a Mark subject rest at marks = costs 1 (rest at (marks ++ at ∷ []))
-passed a End subject rest at marks = tested (at == length subject) rest at marks
+item_way a (Balance x y) subject rest at marks = balanced x y (a.symbols (drop at subject)) rest at marks
+item_way a (Frontier set) subject rest at marks = test_way (is_frontier a set subject at) rest at marks
+item_way a Mark subject rest at marks = costs 1 (rest at (marks ++ at ∷ []))
+item_way a End subject rest at marks = test_way (at == length subject) rest at marks
 
 -- The first match of the items at a place, and the tries.
 abbrev pub way : Letters → List Item → List ℕ → ℕ → List ℕ → Outcome
 way a [] subject at marks = Hit at marks 0
-way a (item ∷ items) subject at marks = passed a item subject (way a items subject) at marks
+way a (item ∷ items) subject at marks = item_way a item subject (way a items subject) at marks
 
 -- What a search gives: where the match starts is said too.
 pub data Answer : Type 0 where

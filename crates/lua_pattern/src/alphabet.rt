@@ -1,5 +1,5 @@
 //! The two alphabets of patterns: bytes, and the code points of UTF-8.
-ghost use Rattle.std.specs.Prelude.{◌≡◌, ℕ, List, ◌<◌, ◌≤◌, ◌∷◌, length, drop, IsUtf8, IsCharBoundary};
+ghost use Rattle.std.specs.Prelude.{◌≡◌, ℕ, List, true, ◌<◌, ◌≤◌, ◌∷◌, length, drop, IsUtf8, IsCharBoundary};
 ghost use Rattle.lua_pattern.specs.Letters.{Letters, IsAlphabet};
 ghost use Rattle.lua_pattern.specs.Places.{KeepsPlaces};
 ghost use Rattle.lua_pattern.specs.Texts.{between, bytes, points, is_of, is_among, goes_on, later_bytes};
@@ -30,6 +30,10 @@ pub trait Alphabet {
     /// Whether a class holds a symbol.
     fn is_in(class: Class, symbol: char) -> bool
         ensures { result ≡ letters.has class symbol };
+
+    /// Whether the symbols are the bytes.
+    fn are_bytes() -> bool
+        ensures { result ≡ true → letters ≡ bytes };
 
     ghost lawful: { IsAlphabet letters };
 
@@ -102,6 +106,10 @@ impl Alphabet for OneByte {
             }
             Class::Zero => symbol == '\0',
         }
+    }
+
+    fn are_bytes() -> bool {
+        true
     }
 }
 
@@ -192,5 +200,9 @@ impl Alphabet for OnePoint {
             }
             Class::Zero => symbol == '\0',
         }
+    }
+
+    fn are_bytes() -> bool {
+        false
     }
 }

@@ -1,10 +1,11 @@
 //! Which symbols a single character fits.
 ghost use Rattle.std.specs.Prelude.{◌≡◌};
 ghost use Rattle.lua_pattern.specs.Texts.{between};
-ghost use Rattle.lua_pattern.specs.Single.{in_part, in_any, in_set, turned, fits};
+ghost use Rattle.lua_pattern.specs.Sets.{in_part, in_any, turned};
+ghost use Rattle.lua_pattern.specs.Single.{fits};
 
 use crate::alphabet::Alphabet;
-use crate::item::{Part, Set, Single};
+use crate::item::{Part, Single};
 
 fn is_between(low: char, high: char, symbol: char) -> bool
     ensures { result ≡ between low high symbol }
@@ -12,7 +13,7 @@ fn is_between(low: char, high: char, symbol: char) -> bool
     low <= symbol && symbol <= high
 }
 
-fn turn(negated: bool, holds: bool) -> bool
+pub fn turn(negated: bool, holds: bool) -> bool
     ensures { result ≡ turned negated holds }
 {
     negated != holds
@@ -27,7 +28,7 @@ fn is_in_part<A: Alphabet>(symbol: char, part: Part) -> bool
     }
 }
 
-fn is_in_any<A: Alphabet>(parts: &[Part], symbol: char) -> bool
+pub fn is_in_any<A: Alphabet>(parts: &[Part], symbol: char) -> bool
     ensures { result ≡ in_any A.letters parts.now symbol }
 {
     let mut left = parts;
@@ -40,12 +41,6 @@ fn is_in_any<A: Alphabet>(parts: &[Part], symbol: char) -> bool
     false
 }
 
-pub fn is_in_set<A: Alphabet>(set: &Set, symbol: char) -> bool
-    ensures { result ≡ in_set A.letters set.now symbol }
-{
-    turn(set.negated, is_in_any::<A>(set.parts.as_slice(), symbol))
-}
-
 /// Whether a single character fits a symbol.
 pub fn fit<A: Alphabet>(single: &Single, symbol: char) -> bool
     ensures { result ≡ fits A.letters single.now symbol }
@@ -54,6 +49,6 @@ pub fn fit<A: Alphabet>(single: &Single, symbol: char) -> bool
         Single::Any => true,
         Single::Plain(plain) => *plain == symbol,
         Single::Kind(class, negated) => turn(*negated, A::is_in(*class, symbol)),
-        Single::Of(set) => is_in_set::<A>(set, symbol),
+        Single::Of(set) => set.has::<A>(symbol),
     }
 }

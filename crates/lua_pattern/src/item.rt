@@ -1,5 +1,6 @@
 //! The items of a pattern (Lua 5.1 manual, section 5.4.1, "Patterns").
 
+use crate::prepared::PreparedSet;
 use wk_base::List;
 
 /// What a letter behind `%` stands for. A capital letter stands for the complement.
@@ -34,7 +35,7 @@ pub enum Part {
     Kind(Class, bool),
 }
 
-/// `[..]`, or with `negated` `[^..]`.
+/// `[..]`, or with `negated` `[^..]`, as it is written.
 #[derive(Drop, Debug)]
 pub struct Set {
     pub negated: bool,
@@ -49,7 +50,7 @@ pub enum Single {
     Plain(char),
     /// A class, which may be complemented.
     Kind(Class, bool),
-    Of(Set),
+    Of(PreparedSet),
 }
 
 /// What a pattern is a sequence of.
@@ -69,7 +70,7 @@ pub enum Item {
     /// `%bxy`
     Balance(char, char),
     /// `%f`
-    Frontier(Set),
+    Frontier(PreparedSet),
     /// A place that a capture keeps: a `(`, a `)` or a `()`.
     Mark,
     /// `$`

@@ -2,6 +2,8 @@
 //!
 //! - `alphabet`: what the symbols of a text are, and which of them a class holds
 //! - `item`: the items of a pattern
+//! - `byte_table`: a bit for each byte
+//! - `prepared`: sets whose tests cost a bounded time
 //! - `slots`: the marks of the captures
 //! - `pattern`: a pattern, and its first match
 //! - `read`: the reading of a pattern
@@ -10,10 +12,12 @@
 #![tactic(auto)]
 
 pub mod alphabet;
+mod byte_table;
 pub mod fits;
 pub mod item;
 mod passes;
 pub mod pattern;
+pub mod prepared;
 pub mod read;
 mod search;
 pub mod slots;
@@ -22,7 +26,9 @@ mod trail;
 
 pub use alphabet::{Alphabet, OneByte, OnePoint};
 pub use pattern::{Capture, Match, Pattern, Search};
-pub use read::PatternFault;
+pub use prepared::PreparedSet;
+pub use read::{PatternFault, read_set};
+pub use steps::{symbol_at, text_from};
 
 #[cfg(test)]
 mod tests;

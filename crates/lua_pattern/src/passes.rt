@@ -1,6 +1,6 @@
 //! One turn of a search: an item is passed, or a choice is taken up again.
 ghost use Rattle.std.specs.Prelude.{◌≡◌, ℕ, ◌+◌, ◌-◌, ◌*◌, ◌<◌, ◌≤◌, ◌∷◌, length, drop, slice_index, true, false, IfOk, MatchOption, []};
-ghost use Rattle.lua_pattern.specs.Way.{one, star, least_first, maybe, same_again, balanced, tested, passed, between_marks, way, or_else};
+ghost use Rattle.lua_pattern.specs.Way.{one, star, least_first, maybe, same_again, balanced, test_way, item_way, between_marks, way, or_else};
 ghost use Rattle.lua_pattern.specs.Trail.{tried, chosen, one_more, downwards};
 ghost use Rattle.lua_pattern.specs.Search.{from_here, Follows, Lighter, load, heavy, weight, unit, price};
 
@@ -225,7 +225,7 @@ fn pass_test<A: Alphabet>(
     left: &mut u64,
     trail: &Trail,
 ) -> Now
-    ensures follows { Follows A.letters items.now subject.now (or_else (tested holds (way A.letters (drop next items.now) subject.now) at trail.now.marks) (tried A.letters items.now subject.now trail.now.choices trail.now.marks)) left.old result left.new trail.now }
+    ensures follows { Follows A.letters items.now subject.now (or_else (test_way holds (way A.letters (drop next items.now) subject.now) at trail.now.marks) (tried A.letters items.now subject.now trail.now.choices trail.now.marks)) left.old result left.new trail.now }
     ensures lighter { Lighter (length items.now) (length subject.now) next trail.now left.old result left.new trail.now }
 {
     if !spend(left, 1) {
@@ -246,7 +246,7 @@ fn pass_mark<A: Alphabet>(
     left: &mut u64,
     trail: &mut Trail,
 ) -> Result<Now, NoMemory>
-    ensures follows { IfOk result (λ now. Follows A.letters items.now subject.now (or_else (passed A.letters Item.Mark subject.now (way A.letters (drop next items.now) subject.now) at trail.old.marks) (tried A.letters items.now subject.now trail.old.choices trail.old.marks)) left.old now left.new trail.new) }
+    ensures follows { IfOk result (λ now. Follows A.letters items.now subject.now (or_else (item_way A.letters Item.Mark subject.now (way A.letters (drop next items.now) subject.now) at trail.old.marks) (tried A.letters items.now subject.now trail.old.choices trail.old.marks)) left.old now left.new trail.new) }
     ensures lighter { IfOk result (λ now. Lighter (length items.now) (length subject.now) next trail.old left.old now left.new trail.new) }
 {
     if !spend(left, 1) {

@@ -1,7 +1,7 @@
 //! A pattern, and its first match.
 ghost use Rattle.std.specs.Prelude.{◌≡◌, ◌≤◌, length, map, slice_index, IfOk};
 ghost use Rattle.lua_pattern.specs.Way.{first};
-ghost use Rattle.lua_pattern.specs.Found.{searched, kept};
+ghost use Rattle.lua_pattern.specs.Found.{IsSearch, capture_of};
 ghost use Rattle.lua_pattern.specs.Places.{HasPlaces};
 
 use crate::alphabet::Alphabet;
@@ -51,7 +51,7 @@ pub enum Search {
 
 /// The captures, by the places of the marks.
 fn captured(alloc: Global, slots: &[Slot], marks: &[usize]) -> Result<List<Capture>, NoMemory>
-    ensures { IfOk result (λ v. v ≡ map (kept marks.now) slots.now) }
+    ensures { IfOk result (λ v. v ≡ map (capture_of marks.now) slots.now) }
 {
     let mut captures = List::new(alloc);
     for slot in slots {
@@ -79,7 +79,7 @@ impl<A: Alphabet> Pattern<A> {
         budget: u64,
     ) -> Result<Search, NoMemory>
         requires inside { from ≤ length subject.now }
-        ensures first { IfOk result (λ found. searched budget self.now.slots (first A.letters self.now.anchored self.now.items subject.now from) found) }
+        ensures first { IfOk result (λ found. IsSearch budget self.now.slots (first A.letters self.now.anchored self.now.items subject.now from) found) }
         ensures places { A.is_text subject.now → A.is_place subject.now from → IfOk result (λ found. HasPlaces (A.is_place subject.now) from found) }
     {
         let mut left = budget;

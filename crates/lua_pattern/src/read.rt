@@ -1,13 +1,15 @@
 //! The reading of a pattern.
-ghost use Rattle.std.specs.Prelude.{◌≡◌, [], ◌∷◌, ◌++◌, slice_set, ◌≤◌, ◌<◌, ◌+◌, length, slice_index, slice_get, IfSome, Some, None, ℕ, MatchOption, MatchResult, IfOk, IfErr, OnOk};
+ghost use Rattle.std.specs.Prelude.{◌≡◌, [], ◌∷◌, ◌++◌, slice_set, ◌≤◌, ◌<◌, ◌+◌, length, slice_index, slice_get, IfSome, Some, None, ℕ, MatchOption, MatchResult, IfOk, IfErr, OnOk, Ok, Err};
 ghost use Rattle.lua_pattern.specs.Read.{class_of, escaped, single_of, part_of, Cut, Took, set_body, Unclosed, Closed, Stops, Goes, last_open, after_turn, is_turned, begun, with_item, repetition, after_repetition, repeated, next, frontier, balance, back, after_escape, point_or_open, shut, marked, single_item, read_of, read_unanchored, read_from, codes, Fine, plain, set_item};
 ghost use Rattle.lua_pattern.specs.declared.read.Reading.{Reading as ReadingNow};
 ghost use Rattle.lua_pattern.specs.Texts.{between};
+ghost use Rattle.lua_pattern.specs.SetTexts.{only_item, set_of, IsSetFault};
 ghost use Rattle.lua_pattern.specs.Reads.{IsFault, IsReadFault, IsOpenAt, IsBackTo};
 
 use crate::alphabet::Alphabet;
 use crate::item::{Class, Item, Part, Set, Single};
 use crate::pattern::Pattern;
+use crate::prepared::PreparedSet;
 use crate::slots::{Slot, Slots};
 use crate::steps::symbol_at;
 use std::alloc::Global;
@@ -145,12 +147,15 @@ fn behind_turn(text: &[char]) -> (bool, &[char])
 }
 
 /// A set behind its `[`, and the text after it.
-fn read_set(alloc: Global, text: &[char]) -> Result<Option<(Set, &[char])>, NoMemory>
+fn read_set_body(alloc: Global, text: &[char]) -> Result<Option<(PreparedSet, &[char])>, NoMemory>
     ensures { IfOk result (λ found. MatchOption found (set_body (after_turn text.now) ≡ Unclosed) (λ p. (set_body (after_turn text.now) ≡ Closed p.0.parts p.1.now) × (p.0.negated ≡ is_turned text.now) × (length p.1.now < length text.now))) }
 {
     let (negated, body) = behind_turn(text);
     match read_parts(alloc, body)? {
-        Some((parts, rest)) => Ok(Some((Set { negated, parts }, rest))),
+        Some((parts, rest)) => {
+            let set = PreparedSet::new(alloc, Set { negated, parts })?;
+            Ok(Some((set, rest)))
+        }
         None => Ok(None),
     }
 }
@@ -221,7 +226,7 @@ fn read_frontier(alloc: Global, text: &[char]) -> Result<(Item, &[char]), Patter
     if symbol != '[' {
         return Err(PatternFault::At(3));
     }
-    match read_set(alloc, rest) {
+    match read_set_body(alloc, rest) {
         Err(_) => Err(PatternFault::NoMemory),
         Ok(None) => Err(PatternFault::At(2)),
         Ok(Some((set, after))) => Ok((Item::Frontier(set), after)),
@@ -234,7 +239,7 @@ fn read_set_item(alloc: Global, text: &[char]) -> Result<(Item, &[char]), Patter
     ensures step { (r : ReadingNow) → MatchResult result (λ p. set_item (is_turned text.now) (set_body (after_turn text.now)) r ≡ Goes p.1.now (with_item p.0 r)) (λ e. IsFault (set_item (is_turned text.now) (set_body (after_turn text.now)) r) e) }
     ensures short { IfOk result (λ p. length p.1.now < length text.now) }
 {
-    match read_set(alloc, text) {
+    match read_set_body(alloc, text) {
         Err(_) => Err(PatternFault::NoMemory),
         Ok(None) => Err(PatternFault::At(2)),
         Ok(Some((set, after))) => Ok(repeat(Single::Of(set), after)),
@@ -503,5 +508,53 @@ impl<A: Alphabet> Pattern<A> {
             Err(_) => Err(PatternFault::NoMemory),
             Ok(symbols) => read_items::<A>(alloc, false, symbols.as_slice()),
         }
+    }
+}
+
+/// The set of a pattern that is one set and nothing else.
+fn only_set<A: Alphabet>(pattern: Pattern<A>) -> Option<PreparedSet>
+    ensures { MatchOption result (only_item pattern.items ≡ Err 2) (λ set. only_item pattern.items ≡ Ok set) }
+{
+    let mut items = pattern.items.into_vec();
+    if items.len() != 1 {
+        return None;
+    }
+    match items.pop() {
+        Some(Item::One(Single::Of(set))) => Some(set),
+        _ => None,
+    }
+}
+
+/// Reads what stands between `[` and `]` in a pattern of one set, as `mw.text.trim` takes it. Where the text closes the
+/// set before its end, the fault is 2.
+pub fn read_set<A: Alphabet>(alloc: Global, bytes: &[u8]) -> Result<PreparedSet, PatternFault>
+    ensures { MatchResult result (λ set. set_of (codes A.letters bytes.now) ≡ Ok set) (λ e. IsSetFault (set_of (codes A.letters bytes.now)) e) }
+{
+    let Ok(symbols) = bracketed::<A>(alloc, bytes) else {
+        return Err(PatternFault::NoMemory);
+    };
+    match read_items::<A>(alloc, false, symbols.as_slice()) {
+        Err(fault) => Err(fault),
+        Ok(pattern) => only_set(pattern).ok_or(PatternFault::At(2)),
+    }
+}
+
+/// The symbols of a text between `[` and `]`.
+fn bracketed<A: Alphabet>(alloc: Global, bytes: &[u8]) -> Result<Vec<char>, NoMemory>
+    ensures { IfOk result (λ v. v.items ≡ 91 ∷ codes A.letters bytes.now ++ 93 ∷ []) }
+{
+    let inside = symbols_of::<A>(alloc, bytes)?;
+    let mut symbols = Vec::new(alloc);
+    match symbols.push('[') {
+        Ok(_) => {}
+        Err(_) => return Err(NoMemory),
+    }
+    match symbols.extend_from_slice(inside.as_slice()) {
+        Ok(_) => {}
+        Err(_) => return Err(NoMemory),
+    }
+    match symbols.push(']') {
+        Ok(_) => Ok(symbols),
+        Err(_) => Err(NoMemory),
     }
 }

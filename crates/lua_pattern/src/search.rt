@@ -1,7 +1,7 @@
 //! The search: a stack of choices, and a budget of tries.
 ghost use Rattle.std.specs.Prelude.{◌≡◌, ◌-◌, ◌≤◌, [], length, drop, IfOk};
 ghost use Rattle.lua_pattern.specs.Way.{way, costs, starting, first_of, first};
-ghost use Rattle.lua_pattern.specs.Trail.{Kept};
+ghost use Rattle.lua_pattern.specs.Trail.{TrailState};
 ghost use Rattle.lua_pattern.specs.Search.{Gives, Meets};
 
 use crate::alphabet::Alphabet;

@@ -1,11 +1,12 @@
 //! The comparisons of one item.
 ghost use Rattle.std.specs.Prelude.{◌≡◌, ℕ, List, ◌+◌, ◌-◌, ◌<◌, ◌≤◌, ◌∷◌, [], length, drop, Some, None, IfSome, MatchOption, true};
-ghost use Rattle.lua_pattern.specs.Way.{Rest, run, compared, most_first, begins, bytes_compared, first_code, code_before, is_frontier, closing};
+ghost use Rattle.lua_pattern.specs.Way.{Rest, run, comparisons, most_first, begins, bytes_compared, first_code, code_before, is_frontier, closing};
 ghost use Rattle.lua_pattern.specs.Trail.{downwards};
 
 use crate::alphabet::Alphabet;
-use crate::fits::{fit, is_in_set};
-use crate::item::{Set, Single};
+use crate::fits::fit;
+use crate::item::Single;
+use crate::prepared::PreparedSet;
 
 /// The text from a place on.
 pub fn text_from(subject: &[u8], at: usize) -> &[u8]
@@ -38,7 +39,7 @@ pub fn count_run<A: Alphabet>(
     at: usize,
     left: &mut u64,
 ) -> Option<usize>
-    ensures value { MatchOption result (left.old < compared A.letters single.now (A.letters.symbols (drop at subject.now))) (λ n. (n ≡ run A.letters single.now (A.letters.symbols (drop at subject.now))) × (compared A.letters single.now (A.letters.symbols (drop at subject.now)) ≤ left.old) × (left.new ≡ left.old - compared A.letters single.now (A.letters.symbols (drop at subject.now)))) }
+    ensures value { MatchOption result (left.old < comparisons A.letters single.now (A.letters.symbols (drop at subject.now))) (λ n. (n ≡ run A.letters single.now (A.letters.symbols (drop at subject.now))) × (comparisons A.letters single.now (A.letters.symbols (drop at subject.now)) ≤ left.old) × (left.new ≡ left.old - comparisons A.letters single.now (A.letters.symbols (drop at subject.now)))) }
     ensures places { IfSome result (λ n. (rest : Rest) (marks : List ℕ) → most_first A.letters single.now (A.letters.symbols (drop at subject.now)) rest at marks ≡ downwards A.letters subject.now n rest at marks) }
     ensures short { IfSome result (λ n. n ≤ length subject.now - at) }
     ensures fewer { left.new ≤ left.old }
@@ -155,9 +156,8 @@ fn symbol_before<A: Alphabet>(subject: &[u8], at: usize) -> char
 }
 
 /// Whether a place is the first of a set behind one that is not in it.
-pub fn is_at_frontier<A: Alphabet>(set: &Set, subject: &[u8], at: usize) -> bool
+pub fn is_at_frontier<A: Alphabet>(set: &PreparedSet, subject: &[u8], at: usize) -> bool
     ensures { result ≡ is_frontier A.letters set.now subject.now at }
 {
-    !is_in_set::<A>(set, symbol_before::<A>(subject, at))
-        && is_in_set::<A>(set, symbol_or_zero::<A>(subject, at))
+    !set.has::<A>(symbol_before::<A>(subject, at)) && set.has::<A>(symbol_or_zero::<A>(subject, at))
 }

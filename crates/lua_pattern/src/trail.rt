@@ -1,6 +1,6 @@
 //! What a search goes back to: the choices that are left, and the marks that were passed.
 ghost use Rattle.std.specs.Prelude.{◌≡◌, ◌∷◌, ◌++◌, [], ℕ, List, IfOk, OnOk, MatchOption, take, length, slice_index};
-ghost use Rattle.lua_pattern.specs.Trail.{Kept, tried, marks_of};
+ghost use Rattle.lua_pattern.specs.Trail.{TrailState, tried, marks_of};
 
 use std::alloc::Global;
 use std::marker::Model;
@@ -25,10 +25,10 @@ pub struct Trail {
 impl Model for Trail {
     ghost use Rattle.std.specs.Prelude.{reverse, length};
     ghost use Rattle.std.specs.Coded.{codes};
-    ghost use Rattle.lua_pattern.specs.Trail.{Kept, Ordered};
+    ghost use Rattle.lua_pattern.specs.Trail.{TrailState, Ordered};
     ghost use Rattle.lua_pattern.specs.contracts.trail.Choice as choice;
 
-    ghost Value = { Kept };
+    ghost Value = { TrailState };
 
     ghost coded = { Prim.hlevel (codes, choice.the_row.coded) };
 

@@ -1,7 +1,8 @@
 //! The definition of a match as a plain program: recursion on the items, with no budget. It is for small inputs, and
 //! serves to compare with.
 
-use lua_pattern::item::{Item, Part, Set, Single};
+use lua_pattern::PreparedSet;
+use lua_pattern::item::{Item, Part, Single};
 use std::alloc::{AllocError, Global};
 
 /// Where a match ends, and the places of the marks that were passed.
@@ -15,7 +16,8 @@ pub(crate) struct Plain<'s> {
     pub(crate) tries: u64,
 }
 
-fn is_in_set(set: &Set, symbol: char) -> bool {
+fn is_in_set(prepared: &PreparedSet, symbol: char) -> bool {
+    let set = prepared.set();
     let mut found = false;
     for part in set.parts.as_slice() {
         if let Part::Range(low, high) = *part {

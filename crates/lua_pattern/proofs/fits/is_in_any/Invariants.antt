@@ -1,5 +1,5 @@
 use Rattle.std.proofs.Common.{◌≡◌, length}
-use Rattle.lua_pattern.specs.Single.{in_any}
+use Rattle.lua_pattern.specs.Sets.{in_any}
 use Rattle.lua_pattern.proofs.fits.is_in_any.Given as goal
 
 abbrev pub invariant-loop-left : goal.invariant-loop-left

@@ -1,5 +1,5 @@
 use Rattle.std.proofs.Common.{◌≡◌, ◌+◌, ◌-◌, ◌<◌, ◌≤◌, drop, length}
-use Rattle.lua_pattern.specs.Way.{run, compared}
+use Rattle.lua_pattern.specs.Way.{run, comparisons}
 use Rattle.lua_pattern.proofs.steps.count_run.Given as goal
 
 abbrev pub invariant-symbols : goal.invariant-symbols
@@ -7,7 +7,7 @@ invariant-symbols g l =
     let a = g.A.Alphabet.letters in
     record {
       ran : (l.place - l.at) + run a l.single (a.symbols (drop l.place l.subject)) ≡ run a l.single (a.symbols (drop l.at l.subject));
-      compares : (l.initial.left - l.left) + compared a l.single (a.symbols (drop l.place l.subject)) ≡ compared a l.single (a.symbols (drop l.at l.subject));
+      compares : (l.initial.left - l.left) + comparisons a l.single (a.symbols (drop l.place l.subject)) ≡ comparisons a l.single (a.symbols (drop l.at l.subject));
       fewer : l.left ≤ l.initial.left;
       forward : l.at ≤ l.place;
       inside : l.place - l.at ≤ length l.subject - l.at;

@@ -1,0 +1,60 @@
+#!/usr/bin/env python3
+"""Times searches with sets of very many parts against a search with a set of one part, on the same subject.
+
+  bench/attack_patterns.py crates/lua_pattern_cases/out/lua_pattern_cases
+
+Each search looks for a run of the set up to the end of a subject that has none, so it makes twice as many tries as the
+subject has symbols, and one more. Seconds of processor time of the search alone: those of a run that reads the pattern and
+searches an empty subject are taken off, and told beside. Of each the best of some rounds counts.
+"""
+import os
+import subprocess
+import sys
+
+ROUNDS = 3
+PARTS = 200_000
+SYMBOLS = 1_000_000
+CLASSES = "%d%c%p%u%x%z"
+
+
+def used(program, line):
+    running = subprocess.Popen([program], stdin=subprocess.PIPE, stdout=subprocess.PIPE)
+    running.stdin.write(line)
+    running.stdin.close()
+    answer = running.stdout.read().decode().strip()
+    _, status, usage = os.wait4(running.pid, 0)
+    running.returncode = status
+    if status != 0 or not answer.startswith("none, "):
+        sys.exit(f"{program} ended with {status} and {answer!r} at a line of {len(line)} bytes")
+    return usage.ru_utime + usage.ru_stime
+
+
+def best(program, kind, pattern, subject):
+    line = f"{kind}\t0\t{pattern}\t{subject}\n".encode()
+    return min(used(program, line) for _ in range(ROUNDS))
+
+
+def searches():
+    """Alphabet, what the set is made of, the set's text, and the symbol of the subject, which is not in it."""
+    yield "bytes", "one part", "b", "a"
+    yield "bytes", "plain bytes", "b" * PARTS, "a"
+    yield "bytes", "ranges", "c-z" * (PARTS // 2) + "A-Z" * (PARTS // 2), "a"
+    yield "bytes", "classes", CLASSES * (PARTS // 6), "g"
+    yield "points", "one part", "b", "a"
+    yield "points", "plain letters", "b" * PARTS, "a"
+    yield "points", "letters apart", "".join(chr(0x10000 + 2 * k) for k in range(PARTS)), "a"
+    yield "points", "classes", CLASSES * (PARTS // 6), "g"
+
+
+def main():
+    program = sys.argv[1]
+    once = {}
+    print(f"{'alphabet':8} {'set':14} {'reading':>8} {'search':>8} {'times':>6}")
+    for kind, name, text, symbol in searches():
+        reading = best(program, kind, f"[{text}]*$", "")
+        search = best(program, kind, f"[{text}]*$", symbol * SYMBOLS) - best(program, kind, "^b", symbol * SYMBOLS) - reading
+        once.setdefault(kind, search)
+        print(f"{kind:8} {name:14} {reading:8.3f} {search:8.3f} {search / once[kind]:6.2f}")
+
+
+main()
