@@ -26,7 +26,7 @@ use Rattle.lua_syntax.specs.Tree.{{NoExp, NoField, Item, Pair, Lambda, Block, No
 use Rattle.lua_syntax.specs.Tree.{{AssignS, CallS, DoS, WhileS, RepeatS, IfS, IfElseS, CountS, CountByS, EachS, LocalFunctionS, LocalS, ReturnS, BreakS}}
 use Rattle.lua_syntax.specs.View.{{exps_of, fields_of, arms_of, stats_of}}
 use Rattle.page_run.specs.declared.which.Which.TheVariants.{{Steps, Calls}}
-use Rattle.lua_meaning.specs.Trial.{{Gives, Fails, Spends, Loads, ended, arg, invoked, invoked_with, invoked_on, loaded, faulted, counted}}
+use Rattle.lua_meaning.specs.Trial.{{Gives, Fails, Spends, Loads, without_steps, arg, invoked, invoked_with, invoked_on, loaded, faulted, counted}}
 
 """
 
@@ -80,7 +80,7 @@ def spec(example):
     for step, end in zip(example["steps"], example["seen"]):
         exact = end[0] in ("Spends", "Loads", "Counts") or len(end) > 2
         call = called(example, step)
-        claims.append(f"{call} ≡ {shown(end)}" if exact else f"ended ({call}) ≡ {shown(end)}")
+        claims.append(f"{call} ≡ {shown(end)}" if exact else f"without_steps ({call}) ≡ {shown(end)}")
     claim = claims[0] if len(claims) == 1 else " × ".join(f"({c})" for c in claims)
     head = f"-- {example['said']}\n{comment(example['text'])}\n"
     term = "" if example["fault"] else f"abbrev pub {name} : Block\n{name} = {tree(example['text'])}\n\n"

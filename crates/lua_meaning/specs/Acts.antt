@@ -7,7 +7,7 @@ use Rattle.page_run.specs.Run.{Run}
 use Rattle.page_run.specs.Outcome.{Outcome, Act as ActOf, ◌>>=◌, ◌>>◌, give, jump, tick, count, see, change}
 use Rattle.lua_heap.specs.Value.{Value, Closure as ClosureValue}
 use Rattle.lua_heap.specs.Heap.{Heap, Function as FunctionClosed, cell_at, set_cell_in, new_table, new_cell, new_closure}
-use Rattle.lua_meaning.specs.Environment.{Bytes, Env, Function, Levels, with_name}
+use Rattle.lua_meaning.specs.Scope.{Bytes, Scope, Function, Levels, with_name}
 use Rattle.lua_meaning.specs.Questions.{Scene, Ask, Answer}
 use Rattle.lua_meaning.specs.Values.{first, rest}
 
@@ -41,10 +41,10 @@ pub record State : Type 0 where
 -- THINGS: what is no smaller part of the text that runs. Each costs a step to begin.
 pub data Thing : Type 0 where
   -- another turn of a loop (manual 2.4.4 and 2.4.5)
-  WhileTurn : (test : Exp) (body : Block) (env : Env) → Thing
-  RepeatTurn : (body : Block) (test : Exp) (env : Env) → Thing
-  CountTurn : (name : Bytes) (index limit step : ℤ) (body : Block) (env : Env) → Thing
-  EachTurn : (names : List Bytes) (iterator state : Value) (results : List Value) (body : Block) (line : ℕ) (env : Env) → Thing
+  WhileTurn : (test : Exp) (body : Block) (scope : Scope) → Thing
+  RepeatTurn : (body : Block) (test : Exp) (scope : Scope) → Thing
+  CountTurn : (name : Bytes) (index limit step : ℤ) (body : Block) (scope : Scope) → Thing
+  EachTurn : (names : List Bytes) (iterator state : Value) (results : List Value) (body : Block) (line : ℕ) (scope : Scope) → Thing
   -- a function of Lua is entered, or one of the library (manual 2.5.8)
   Body : (function : Function) (arguments : List Value) (callers : Levels) → Thing
   LibraryBody : (which : ℕ) (arguments : List Value) (callers : Levels) → Thing
@@ -125,8 +125,8 @@ make_closure f = do
   give (ClosureValue (new_closure h (FunctionClosed f)).1)
 
 -- new local variables, each with a cell of its own (manual 2.4.7)
-abbrev pub declare : List Bytes → List Value → Env → Act Env
-declare [] vs env = give env
-declare (name ∷ names) vs env = do
+abbrev pub declare : List Bytes → List Value → Scope → Act Scope
+declare [] vs scope = give scope
+declare (name ∷ names) vs scope = do
   cell ← make_cell (first vs)
-  declare names (rest vs) (with_name name cell env)
+  declare names (rest vs) (with_name name cell scope)

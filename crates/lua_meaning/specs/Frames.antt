@@ -6,10 +6,10 @@ use Rattle.lua_heap.specs.Value.{Value, Nil, Truth, Number, Text, Table, Builtin
 use Rattle.lua_heap.specs.Table.{Entries, get, set}
 use Rattle.lua_heap.specs.Heap.{Heap, TableObj, add, table_at}
 use Rattle.lua_heap.specs.Library.{ArgsIndex, number_of}
-use Rattle.lua_meaning.specs.Environment.{Bytes, Function}
+use Rattle.lua_meaning.specs.Scope.{Bytes, Function}
 use Rattle.lua_meaning.specs.Questions.{Arg, Scene}
 use Rattle.lua_meaning.specs.Values.{second}
-use Rattle.lua_meaning.specs.Arguments.{Plain, gives, checked, a_table}
+use Rattle.lua_meaning.specs.Arguments.{Plain, gives, with_argument, a_table}
 
 -- THE KEY of an argument's name: a decimal from 1 on without a leading zero, of at most 18 digits, is a number
 abbrev pub is_digit : ℕ → Bool
@@ -26,12 +26,12 @@ arg_entries [] es = es
 arg_entries (a ∷ more) es = arg_entries more (set es (arg_key a.name) (Text a.value))
 
 -- `args[k]` where k is absent: a text that names a place gives the entry of that number
-abbrev pub by_key : Heap Function → ℕ → Value → Plain
+abbrev pub by_key : {X : Type 0} → Heap X → ℕ → Value → Plain X
 by_key h t (Text name) = if is_place name then gives h (get (table_at h t).entries (arg_key name) ∷ []) else gives h (Nil ∷ [])
 by_key h t v = gives h (Nil ∷ [])
 
-abbrev pub args_index : List Value → Heap Function → Plain
-args_index args h = checked h (a_table 1 (codes "args") args) (λ t. by_key h t (second args))
+abbrev pub args_index : {X : Type 0} → List Value → Heap X → Plain X
+args_index args h = with_argument h (a_table 1 (codes "args") args) (λ t. by_key h t (second args))
 
 -- the four tables of a frame, where so many tables are there already: its arguments and their metatable, the frame and its metatable
 abbrev pub args_meta : Entries

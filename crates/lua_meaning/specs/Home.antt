@@ -5,35 +5,35 @@ use Rattle.lua_heap.specs.Value.{Value, Nil, Text, Table, Builtin}
 use Rattle.lua_heap.specs.Table.{Entries}
 use Rattle.lua_heap.specs.Heap.{Heap, empty}
 use Rattle.lua_heap.specs.Library.{Library, BasicAssert, BasicError, BasicGetMetatable, BasicSetMetatable, BasicIpairs, BasicPairs, BasicNext, BasicPcall, BasicXpcall, BasicRawEqual, BasicRawGet, BasicRawSet, BasicSelect, BasicToNumber, BasicToString, BasicType, BasicUnpack, number_of}
-use Rattle.lua_meaning.specs.Environment.{Bytes, Function}
+use Rattle.lua_meaning.specs.Scope.{Bytes, Function}
 use Rattle.lua_meaning.specs.Acts.{State}
 use Rattle.lua_meaning.specs.Frames.{with_table}
 
-abbrev pub named : Bytes → Library → Value × Value
-named name f = (Text name, Builtin (number_of f))
+abbrev pub function_entry : Bytes → Library → Value × Value
+function_entry name f = (Text name, Builtin (number_of f))
 
 -- the global variables: table 0
 abbrev pub globals : Entries
 globals =
     (Text (codes "_G"), Table 0)
     ∷ (Text (codes "_VERSION"), Text (codes "Lua 5.1"))
-    ∷ named (codes "assert") BasicAssert
-    ∷ named (codes "error") BasicError
-    ∷ named (codes "getmetatable") BasicGetMetatable
-    ∷ named (codes "setmetatable") BasicSetMetatable
-    ∷ named (codes "ipairs") BasicIpairs
-    ∷ named (codes "pairs") BasicPairs
-    ∷ named (codes "next") BasicNext
-    ∷ named (codes "pcall") BasicPcall
-    ∷ named (codes "xpcall") BasicXpcall
-    ∷ named (codes "rawequal") BasicRawEqual
-    ∷ named (codes "rawget") BasicRawGet
-    ∷ named (codes "rawset") BasicRawSet
-    ∷ named (codes "select") BasicSelect
-    ∷ named (codes "tonumber") BasicToNumber
-    ∷ named (codes "tostring") BasicToString
-    ∷ named (codes "type") BasicType
-    ∷ named (codes "unpack") BasicUnpack
+    ∷ function_entry (codes "assert") BasicAssert
+    ∷ function_entry (codes "error") BasicError
+    ∷ function_entry (codes "getmetatable") BasicGetMetatable
+    ∷ function_entry (codes "setmetatable") BasicSetMetatable
+    ∷ function_entry (codes "ipairs") BasicIpairs
+    ∷ function_entry (codes "pairs") BasicPairs
+    ∷ function_entry (codes "next") BasicNext
+    ∷ function_entry (codes "pcall") BasicPcall
+    ∷ function_entry (codes "xpcall") BasicXpcall
+    ∷ function_entry (codes "rawequal") BasicRawEqual
+    ∷ function_entry (codes "rawget") BasicRawGet
+    ∷ function_entry (codes "rawset") BasicRawSet
+    ∷ function_entry (codes "select") BasicSelect
+    ∷ function_entry (codes "tonumber") BasicToNumber
+    ∷ function_entry (codes "tostring") BasicToString
+    ∷ function_entry (codes "type") BasicType
+    ∷ function_entry (codes "unpack") BasicUnpack
     ∷ (Text (codes "string"), Table 1)
     ∷ []
 

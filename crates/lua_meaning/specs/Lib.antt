@@ -1,4 +1,4 @@
-pub mod Environment
+pub mod Scope
 pub mod World
 pub mod Questions
 pub mod Values
@@ -8,7 +8,7 @@ pub mod Metatables
 pub mod Calls
 pub mod Index
 pub mod Operators
-pub mod Tree
+pub mod Parts
 pub mod Expressions
 pub mod Constructors
 pub mod Statements
@@ -20,7 +20,7 @@ pub mod Protocol
 pub mod Frames
 pub mod Libraries
 pub mod Home
-pub mod Meant
+pub mod Things
 pub mod Start
 pub mod Laws
 pub mod Trial

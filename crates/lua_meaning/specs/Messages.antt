@@ -6,7 +6,7 @@ use Rattle.page_run.specs.Outcome.{◌>>◌, tick}
 use Rattle.lua_number.specs.declared.arithmetic.NumberFault.{NumberFault}
 use Rattle.lua_number.specs.declared.arithmetic.NumberFault.TheVariants.{OutOfRange, NotWhole, ByZero}
 use Rattle.lua_heap.specs.Value.{Value, Text}
-use Rattle.lua_meaning.specs.Environment.{Bytes, Place, Levels}
+use Rattle.lua_meaning.specs.Scope.{Bytes, Place, Levels}
 use Rattle.lua_meaning.specs.Values.{kind_of}
 use Rattle.lua_meaning.specs.Acts.{Act, raise}
 
@@ -71,6 +71,12 @@ nil_key = codes "table index is nil"
 
 abbrev pub read_only : Bytes
 read_only = codes "table from mw.loadData is read-only"
+
+abbrev pub not_built : Bytes
+not_built = codes "this function is not built"
+
+abbrev pub no_target : Bytes
+no_target = codes "cannot assign to this expression"
 
 abbrev pub no_initial_value : Bytes
 no_initial_value = codes "'for' initial value must be a number"

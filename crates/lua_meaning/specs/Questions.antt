@@ -2,7 +2,7 @@
 use Rattle.std.specs.Prelude.{List}
 use Rattle.wk_base.specs.declared.title.Title.{Title}
 use Rattle.lua_heap.specs.Graph.{Graph}
-use Rattle.lua_meaning.specs.Environment.{Bytes}
+use Rattle.lua_meaning.specs.Scope.{Bytes}
 
 -- an argument of a template or of an invocation
 pub record Arg : Type 0 where

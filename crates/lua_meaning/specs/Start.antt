@@ -9,8 +9,8 @@ use Rattle.page_run.specs.Run.{Ends}
 use Rattle.page_run.specs.Outcome.{Outcome, Goes, Jumps, ◌>>=◌, ◌>>◌, give, tick, see, change, begin}
 use Rattle.page_run.specs.State.{Reply, Event, start}
 use Rattle.page_run.specs.Perform.{perform, wait}
-use Rattle.lua_heap.specs.Value.{Value, Nil, Text, Table}
-use Rattle.lua_meaning.specs.Environment.{Bytes}
+use Rattle.lua_heap.specs.Value.{Value, Nil, Text, Table, is_nil}
+use Rattle.lua_meaning.specs.Scope.{Bytes}
 use Rattle.lua_meaning.specs.World.{Module, World}
 use Rattle.lua_meaning.specs.Questions.{Arg, Job, Ask, Answer}
 use Rattle.lua_meaning.specs.Values.{kind_of, first, text_in, is_function}
@@ -22,7 +22,7 @@ use Rattle.lua_meaning.specs.Index.{index}
 use Rattle.lua_meaning.specs.Protocol.{text_of, string_or_fail}
 use Rattle.lua_meaning.specs.Frames.{make_frame, frame_table}
 use Rattle.lua_meaning.specs.Home.{home}
-use Rattle.lua_meaning.specs.Meant.{meant}
+use Rattle.lua_meaning.specs.Things.{meaning_of}
 
 -- the work of a run: an `#invoke`, or the load of a data module
 pub data Work : Type 0 where
@@ -69,10 +69,9 @@ begin_frame job = do
 
 -- THE ANSWER: each value's text, as `tostring` gives it and without its charge, one after another; the whole costs its length
 abbrev pub text_by : Value → Value → Act Bytes
-text_by Nil v = give (text_of v)
-text_by h v = do
+text_by h v = choose (is_nil h) (give (text_of v)) (do
   vs ← call h (v ∷ []) []
-  string_or_fail [] (text_in (first vs))
+  string_or_fail [] (text_in (first vs)))
 
 abbrev pub answer_text : Value → Act Bytes
 answer_text v = do
@@ -91,13 +90,7 @@ answer vs = do
   tick (length t)
   give (Done t)
 
--- FAILURES: of an invocation the text is written without marks of HTML
-abbrev pub escaped_byte : ℕ → Bytes
-escaped_byte c = if c == 38 then codes "&amp;" else if c == 60 then codes "&lt;" else if c == 62 then codes "&gt;" else c ∷ []
-
-abbrev pub escaped : Bytes → Bytes
-escaped text = flat_map escaped_byte text
-
+-- FAILURES
 -- an error that nothing caught
 abbrev pub shown_error : Option Bytes → Value → Bytes
 shown_error (Some t) v = t
@@ -141,26 +134,34 @@ load_data world title = do
   vs ← run_chunk title (world.modules title)
   give (data_value (first vs))
 
--- the outcome of a run: a text or a value that it gives, or the text of a failure that it raises
-abbrev pub ended : End → Outcome (List Value) Jump
-ended (Done t) = Goes (Text t ∷ [])
-ended (DoneData v) = Goes (v ∷ [])
-ended (Failed t) = Jumps (Raised (Text t))
+-- HOW A RUN ENDS. The failure of an invocation is to stand in a page, so its text is written without marks of HTML: here, and
+-- nowhere else. That of a data module becomes the value of an error.
+abbrev pub escape_byte : ℕ → Bytes
+escape_byte c = if c == 38 then codes "&amp;" else if c == 60 then codes "&lt;" else if c == 62 then codes "&gt;" else c ∷ []
 
-abbrev pub invoke_ended : Outcome End Jump → Outcome (List Value) Jump
-invoke_ended (Goes (Failed t)) = ended (Failed (escaped t))
-invoke_ended (Goes e) = ended e
-invoke_ended (Jumps (Raised v)) = ended (Failed (escaped (codes "Lua error: " ++ error_text v)))
-invoke_ended (Jumps j) = Jumps j
+abbrev pub in_html : End → End
+in_html (Failed t) = Failed (flat_map escape_byte t)
+in_html e = e
 
-abbrev pub data_ended : Outcome End Jump → Outcome (List Value) Jump
-data_ended (Goes e) = ended e
-data_ended (Jumps (Raised v)) = ended (Failed (error_text v))
-data_ended (Jumps j) = Jumps j
+-- an end as an outcome: a text or a value that is given, or the text of a failure that is raised
+abbrev pub outcome_of : End → Outcome (List Value) Jump
+outcome_of (Done t) = Goes (Text t ∷ [])
+outcome_of (DoneData v) = Goes (v ∷ [])
+outcome_of (Failed t) = Jumps (Raised (Text t))
 
-abbrev pub whole : World → Work → LuaRun
-whole world (Invoke job) = invoke world job (λ o. Ends (invoke_ended o))
-whole world (DataOf title) = load_data world title (λ o. Ends (data_ended o))
+abbrev pub invoke_outcome : Outcome End Jump → Outcome (List Value) Jump
+invoke_outcome (Goes e) = outcome_of (in_html e)
+invoke_outcome (Jumps (Raised v)) = outcome_of (in_html (Failed (codes "Lua error: " ++ error_text v)))
+invoke_outcome (Jumps j) = Jumps j
+
+abbrev pub data_outcome : Outcome End Jump → Outcome (List Value) Jump
+data_outcome (Goes e) = outcome_of e
+data_outcome (Jumps (Raised v)) = outcome_of (Failed (error_text v))
+data_outcome (Jumps j) = Jumps j
+
+abbrev pub run_of : World → Work → LuaRun
+run_of world (Invoke job) = invoke world job (λ o. Ends (invoke_outcome o))
+run_of world (DataOf title) = load_data world title (λ o. Ends (data_outcome o))
 
 -- the end that an outcome tells
 abbrev pub end_of : Outcome (List Value) Jump → End
@@ -171,4 +172,4 @@ end_of (Jumps j) = Failed []
 
 -- THE MEANING OF ONE RUN: the event that is seen, after these replies
 abbrev pub lua : World → Work → Left → List (Reply Answer) → Event State Ask (Outcome (List Value) Jump)
-lua world work left replies = perform (meant world) wait (whole world work) (start home left replies)
+lua world work left replies = perform (meaning_of world) wait (run_of world work) (start home left replies)

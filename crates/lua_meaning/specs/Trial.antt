@@ -8,7 +8,7 @@ use Rattle.page_run.specs.Outcome.{Outcome, Goes, Jumps}
 use Rattle.page_run.specs.State.{Event, Ended, Spent, moment_of}
 use Rattle.lua_syntax.specs.Tree.{Block}
 use Rattle.lua_heap.specs.Value.{Value, Text, Table}
-use Rattle.lua_meaning.specs.Environment.{Bytes}
+use Rattle.lua_meaning.specs.Scope.{Bytes}
 use Rattle.lua_meaning.specs.Questions.{Arg, Scene, Job, Ask}
 use Rattle.lua_meaning.specs.Acts.{State, Jump, Raised}
 use Rattle.lua_meaning.specs.World.{Modules, World}
@@ -59,10 +59,10 @@ seen (Spent w m) = Spends w m.left.steps
 seen _ = Else
 
 -- with any steps left
-abbrev pub ended : Seen → Seen
-ended (Gives t steps) = Gives t 0
-ended (Fails t steps) = Fails t 0
-ended s = s
+abbrev pub without_steps : Seen → Seen
+without_steps (Gives t steps) = Gives t 0
+without_steps (Fails t steps) = Fails t 0
+without_steps s = s
 
 -- the function `f` of a module is invoked: the arguments, the calls, the module's name, the size of its text, its tree, and the steps
 abbrev pub invoked_on : List Arg → ℕ → Bytes → ℕ → Block → ℕ → Seen
