@@ -8,6 +8,7 @@ use Rattle.page_run.specs.Outcome.{Outcome, Act as ActOf, ◌>>=◌, ◌>>◌, g
 use Rattle.lua_heap.specs.Value.{Value, Closure as ClosureValue}
 use Rattle.lua_heap.specs.Heap.{Heap, Function as FunctionClosed, cell_at, set_cell_in, new_table, new_cell, new_closure}
 use Rattle.lua_meaning.specs.Scope.{Bytes, Scope, Function, Levels, with_name}
+use Rattle.lua_meaning.specs.Titled.{ByTitle}
 use Rattle.lua_meaning.specs.Questions.{Scene, Ask, Answer}
 use Rattle.lua_meaning.specs.Values.{first, rest}
 
@@ -17,25 +18,34 @@ pub data Jump : Type 0 where
   Broke : Jump
   Raised : (value : Value) → Jump
 
--- the parent of a frame: there is none; it has not been asked for yet; or it is the frame of that number
+-- A FRAME of the run (Scribunto, Frame object): its scene, which never changes, its table, and its parent
 pub data Parent : Type 0 where
+  -- there is none
   Nobody : Parent
+  -- it has not been asked for yet
   Unmade : (scene : Scene) → Parent
+  -- it is the frame of that number
   Made : (number : ℕ) → Parent
 
--- a frame of the run (Scribunto, Frame object), and its table
 pub record Frame : Type 0 where
   pub scene : Scene
   pub table : Value
   pub parent : Parent
 
--- THE STATE that a run sees and changes: the heap; the tables of the global variables, of the functions for strings, and of the
--- modules that were loaded, by their numbers in it; and the frames, in the order in which they were made
+-- A MODULE that was required: it is being run, or it gave its value (`require`)
+pub data Progress : Type 0 where
+  Running : Progress
+  Finished : (value : Value) → Progress
+
+-- THE STATE that a run sees and changes: the heap; the tables of the global variables and of the functions for strings, by their
+-- numbers in it; by title the modules that were required, and the tables of the data modules that were loaded; and the frames,
+-- in the order in which they were made
 pub record State : Type 0 where
   pub heap : Heap Function
   pub globals : ℕ
   pub strings : ℕ
-  pub loaded : ℕ
+  pub modules : ByTitle Progress
+  pub data_ : ByTitle Value
   pub frames : List Frame
 
 -- THINGS: what is no smaller part of the text that runs. Each costs a step to begin.

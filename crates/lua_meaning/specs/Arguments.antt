@@ -1,7 +1,7 @@
 -- THE ARGUMENTS OF FUNCTIONS OF THE LIBRARY, and what functions give that call back nobody (manual 5).
 -- Where a string is wanted a number's digits are taken; where a number is wanted a string that reads as one is. An absent
 -- argument is the same as nil, but for the message that says what was got.
-use Rattle.std.specs.Prelude.{ℕ, ℤ, pos, List, [], ◌∷◌, Option, Some, None, Result, Ok, Err, codes}
+use Rattle.std.specs.Prelude.{ℕ, ◌+◌, ℤ, pos, List, [], ◌∷◌, length, Option, Some, None, Result, Ok, Err, codes}
 use Rattle.page_run.specs.Outcome.{◌>>◌, give, tick}
 use Rattle.lua_heap.specs.Value.{Value, Nil, Text, Table}
 use Rattle.lua_heap.specs.Heap.{Heap}
@@ -31,6 +31,10 @@ plain_act p callers = do
   change_heap p.heap
   end_act p.end callers
 
+-- the answer of a function that has taken so many steps before it
+abbrev pub with_charge : {X : Type 0} → ℕ → Plain X → Plain X
+with_charge n p = record p { charge = n + p.charge }
+
 -- these values, for nothing
 abbrev pub gives : {X : Type 0} → Heap X → List Value → Plain X
 gives h vs = record { charge = 0; heap = h; end = Gives vs }
@@ -38,8 +42,18 @@ gives h vs = record { charge = 0; heap = h; end = Gives vs }
 abbrev pub costs : {X : Type 0} → ℕ → Heap X → List Value → Plain X
 costs n h vs = record { charge = n; heap = h; end = Gives vs }
 
+-- a text that is made: it costs its bytes
+abbrev pub gives_text : {X : Type 0} → Heap X → Bytes → Plain X
+gives_text h text = costs (length text) h (Text text ∷ [])
+
 abbrev pub fails : {X : Type 0} → Heap X → Bytes → Plain X
 fails h message = record { charge = 0; heap = h; end = Fails (Text message) (pos 1) }
+
+-- the bytes of the arguments that are strings
+abbrev pub text_charge : List Value → ℕ
+text_charge [] = 0
+text_charge (Text t ∷ vs) = length t + text_charge vs
+text_charge (v ∷ vs) = text_charge vs
 
 -- AN ARGUMENT, or the message that says why it is none. `given` are the arguments from number n on.
 abbrev pub Argument : Type 0 → Type 0
@@ -52,6 +66,10 @@ with_argument h (Err message) f = fails h message
 abbrev pub a_table : ℕ → Bytes → List Value → Argument ℕ
 a_table n function (Table t ∷ vs) = Ok t
 a_table n function given = Err (bad_argument n function (expected (codes "table") given))
+
+abbrev pub some_value : {X : Type 0} → Bytes → Option X → Argument X
+some_value message (Some x) = Ok x
+some_value message None = Err message
 
 abbrev pub some_number : ℕ → Bytes → List Value → Option ℤ → Argument ℤ
 some_number n function given (Some z) = Ok z

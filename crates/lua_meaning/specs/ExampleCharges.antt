@@ -7,7 +7,11 @@ use Rattle.lua_syntax.specs.Tree.{NoExp, NoField, Item, Pair, Lambda, Block, NoS
 use Rattle.lua_syntax.specs.Tree.{AssignS, CallS, DoS, WhileS, RepeatS, IfS, IfElseS, CountS, CountByS, EachS, LocalFunctionS, LocalS, ReturnS, BreakS}
 use Rattle.lua_syntax.specs.View.{exps_of, fields_of, arms_of, stats_of}
 use Rattle.page_run.specs.declared.which.Which.TheVariants.{Steps, Calls}
-use Rattle.lua_meaning.specs.Trial.{Gives, Fails, Spends, Loads, without_steps, arg, invoked, invoked_with, invoked_on, loaded, faulted, counted}
+use Rattle.wk_base.specs.declared.title.Namespace.TheVariants.{Main}
+use Rattle.lua_meaning.specs.Questions.{Template, Preprocess, Data}
+use Rattle.lua_heap.specs.Value.{Nil, Truth, Number, Text, Table}
+use Rattle.lua_meaning.specs.Questions.{Expanded, NoPage, Loaded, LoadFailed}
+use Rattle.lua_meaning.specs.Trial.{Gives, Fails, Spends, Loads, Asks, without_steps, arg, invoked, invoked_with, invoked_on, loaded, faulted, counted, held, template_title, module_title, own_scene, parent_scene, reply, spent, asked}
 
 -- 1,000 for the start, 36 for the text, and 29 for what it does.
 --     return {f=function() return 'a' end}
@@ -19,7 +23,7 @@ smallest = stats_of (ReturnS 1 (exps_of (TableE 1 (fields_of (
 abbrev pub Smallest : Type 0
 Smallest = (invoked (codes "A") 36 smallest 1065 ≡ Gives (codes "a") 0) × (invoked (codes "A") 36 smallest 1064 ≡ Spends Steps 0)
 
--- 1,083 for the start, the text and the chunk. Then `f` fails after 7 steps more, with a message of 40 bytes.
+-- 1,083 for the start, the text and the chunk; then `f` asks after 9 steps more. The load takes 1,031, and 2 are left to read the field and to answer.
 --     return {f=function() return mw.loadData('Module:D').x end}
 abbrev pub start : Block
 start = stats_of (ReturnS 1 (exps_of (TableE 1 (fields_of (Pair (TextE 1 (codes "f")) (FunctionE 1 (Lambda [] false (stats_of (ReturnS 1 (exps_of (
@@ -27,7 +31,7 @@ start = stats_of (ReturnS 1 (exps_of (TableE 1 (fields_of (Pair (TextE 1 (codes 
     ∷ [])) ∷ [])))) ∷ [])) ∷ [])) ∷ [])
 
 abbrev pub Start : Type 0
-Start = (invoked (codes "M") 58 start 1130 ≡ Fails (codes "Lua error: Module:M:1: attempt to index a nil value") 0) × (invoked (codes "M") 58 start 1129 ≡ Spends Steps 0)
+Start = (asked (held (codes "M") 58 start ∷ []) [] (codes "M") 2125 [] ≡ Asks (Data (module_title (codes "D"))) 1033) × (asked (held (codes "M") 58 start ∷ []) [] (codes "M") 2125 (reply (Loaded (((Text (codes "x"), Text (codes "v")) ∷ []) ∷ [])) 2 ∷ []) ≡ Gives (codes "v") 0) × (asked (held (codes "M") 58 start ∷ []) [] (codes "M") 2124 (reply (Loaded (((Text (codes "x"), Text (codes "v")) ∷ []) ∷ [])) 1 ∷ []) ≡ Spends Steps 0) × (asked (held (codes "M") 58 start ∷ []) [] (codes "M") 1092 [] ≡ Asks (Data (module_title (codes "D"))) 0) × (asked (held (codes "M") 58 start ∷ []) [] (codes "M") 1091 [] ≡ Spends Steps 0)
 
 -- The load of a data module: 1,000 for the start, 14 for the text, and 17 for what it does.
 --     return {x='v'}

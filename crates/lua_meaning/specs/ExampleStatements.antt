@@ -7,7 +7,11 @@ use Rattle.lua_syntax.specs.Tree.{NoExp, NoField, Item, Pair, Lambda, Block, NoS
 use Rattle.lua_syntax.specs.Tree.{AssignS, CallS, DoS, WhileS, RepeatS, IfS, IfElseS, CountS, CountByS, EachS, LocalFunctionS, LocalS, ReturnS, BreakS}
 use Rattle.lua_syntax.specs.View.{exps_of, fields_of, arms_of, stats_of}
 use Rattle.page_run.specs.declared.which.Which.TheVariants.{Steps, Calls}
-use Rattle.lua_meaning.specs.Trial.{Gives, Fails, Spends, Loads, without_steps, arg, invoked, invoked_with, invoked_on, loaded, faulted, counted}
+use Rattle.wk_base.specs.declared.title.Namespace.TheVariants.{Main}
+use Rattle.lua_meaning.specs.Questions.{Template, Preprocess, Data}
+use Rattle.lua_heap.specs.Value.{Nil, Truth, Number, Text, Table}
+use Rattle.lua_meaning.specs.Questions.{Expanded, NoPage, Loaded, LoadFailed}
+use Rattle.lua_meaning.specs.Trial.{Gives, Fails, Spends, Loads, Asks, without_steps, arg, invoked, invoked_with, invoked_on, loaded, faulted, counted, held, template_title, module_title, own_scene, parent_scene, reply, spent, asked}
 
 -- The right sides are evaluated before any target is assigned.
 --     return {f=function(...)

@@ -1,16 +1,13 @@
 -- A FRESH ENVIRONMENT (manual 5; Scribunto, "Lua environment"): the heap with which each run begins, and nothing else in it.
 -- The names stand in the order in which `next` goes through them. What is not built yet is absent.
 use Rattle.std.specs.Prelude.{[], ◌∷◌, codes}
-use Rattle.lua_heap.specs.Value.{Value, Nil, Text, Table, Builtin}
+use Rattle.lua_heap.specs.Value.{Nil, Text, Table}
 use Rattle.lua_heap.specs.Table.{Entries}
 use Rattle.lua_heap.specs.Heap.{Heap, empty}
-use Rattle.lua_heap.specs.Library.{Library, BasicAssert, BasicError, BasicGetMetatable, BasicSetMetatable, BasicIpairs, BasicPairs, BasicNext, BasicPcall, BasicXpcall, BasicRawEqual, BasicRawGet, BasicRawSet, BasicSelect, BasicToNumber, BasicToString, BasicType, BasicUnpack, number_of}
-use Rattle.lua_meaning.specs.Scope.{Bytes, Function}
+use Rattle.lua_heap.specs.Library.{BasicAssert, BasicError, BasicGetMetatable, BasicSetMetatable, BasicIpairs, BasicPairs, BasicNext, BasicPcall, BasicXpcall, BasicRawEqual, BasicRawGet, BasicRawSet, BasicSelect, BasicToNumber, BasicToString, BasicType, BasicUnpack, BasicRequire, MwLog, MwGetCurrentTitle, MwLoadData, MwGetCurrentFrame}
+use Rattle.lua_meaning.specs.Scope.{Function}
 use Rattle.lua_meaning.specs.Acts.{State}
-use Rattle.lua_meaning.specs.Frames.{with_table}
-
-abbrev pub function_entry : Bytes → Library → Value × Value
-function_entry name f = (Text name, Builtin (number_of f))
+use Rattle.lua_meaning.specs.Frames.{function_entry, with_table}
 
 -- the global variables: table 0
 abbrev pub globals : Entries
@@ -34,17 +31,31 @@ globals =
     ∷ function_entry (codes "tostring") BasicToString
     ∷ function_entry (codes "type") BasicType
     ∷ function_entry (codes "unpack") BasicUnpack
+    ∷ function_entry (codes "require") BasicRequire
     ∷ (Text (codes "string"), Table 1)
+    ∷ (Text (codes "mw"), Table 2)
     ∷ []
 
 -- the functions for strings: table 1
 abbrev pub strings : Entries
 strings = []
 
--- the modules that were loaded: table 2
+-- `mw`: table 2
+abbrev pub mw : Entries
+mw =
+    function_entry (codes "log") MwLog
+    ∷ (Text (codes "title"), Table 3)
+    ∷ function_entry (codes "loadData") MwLoadData
+    ∷ function_entry (codes "getCurrentFrame") MwGetCurrentFrame
+    ∷ []
+
+-- `mw.title`: table 3
+abbrev pub mw_title : Entries
+mw_title = function_entry (codes "getCurrentTitle") MwGetCurrentTitle ∷ []
+
 abbrev pub home_heap : Heap Function
-home_heap = with_table (with_table (with_table empty globals Nil) strings Nil) [] Nil
+home_heap = with_table (with_table (with_table (with_table empty globals Nil) strings Nil) mw Nil) mw_title Nil
 
 -- the state with which a run begins
 abbrev pub home : State
-home = record { heap = home_heap; globals = 0; strings = 1; loaded = 2; frames = [] }
+home = record { heap = home_heap; globals = 0; strings = 1; modules = []; data_ = []; frames = [] }

@@ -16,7 +16,9 @@ use Rattle.lua_meaning.specs.Acts.{LuaRun, Jump, State, Thing, WhileTurn, Repeat
 use Rattle.lua_meaning.specs.Parts.{Target}
 use Rattle.lua_meaning.specs.Expressions.{name_target}
 use Rattle.lua_meaning.specs.Meaning.{expression, target, statement}
-use Rattle.lua_meaning.specs.Protocol.{calling, pcall, xpcall, PcallWaits, XpcallWaits, resumes}
+use Rattle.lua_meaning.specs.Waiting.{calling}
+use Rattle.lua_meaning.specs.CallBacks.{pcall, xpcall}
+use Rattle.lua_meaning.specs.Pending.{PcallWaits, XpcallWaits, resumes}
 use Rattle.lua_meaning.specs.Things.{meaning_of}
 use Rattle.lua_meaning.specs.Home.{home}
 use Rattle.lua_meaning.specs.World.{World}

@@ -1,4 +1,5 @@
 pub mod Scope
+pub mod Titled
 pub mod World
 pub mod Questions
 pub mod Values
@@ -16,8 +17,14 @@ pub mod Loops
 pub mod Meaning
 pub mod Arguments
 pub mod Basic
-pub mod Protocol
 pub mod Frames
+pub mod Tag
+pub mod FrameMethods
+pub mod Mw
+pub mod Waiting
+pub mod CallBacks
+pub mod Modules
+pub mod Pending
 pub mod Libraries
 pub mod Home
 pub mod Things

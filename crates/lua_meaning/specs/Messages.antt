@@ -87,6 +87,34 @@ no_limit = codes "'for' limit must be a number"
 abbrev pub no_step : Bytes
 no_step = codes "'for' step must be a number"
 
+-- frames, modules and data modules; `text` is what the call was given
+abbrev pub bad_template_arguments : Bytes
+bad_template_arguments = codes "bad template arguments"
+
+abbrev pub invalid_title : Bytes → Bytes
+invalid_title text = codes "invalid title '" ++ text ++ codes "'"
+
+abbrev pub no_template : Bytes → Bytes
+no_template text = codes "template '" ++ text ++ codes "' does not exist"
+
+abbrev pub no_module : Bytes → Bytes
+no_module text = codes "module '" ++ text ++ codes "' not found"
+
+abbrev pub loop_in_require : Bytes → Bytes
+loop_in_require text = codes "loop in require of '" ++ text ++ codes "'"
+
+abbrev pub no_data_module : Bytes → Bytes
+no_data_module text = codes "data module '" ++ text ++ codes "' not found"
+
+abbrev pub undeclared_variable : Bytes → Bytes
+undeclared_variable name = codes "variable '" ++ name ++ codes "' is not declared"
+
+abbrev pub undeclared_target : Bytes → Bytes
+undeclared_target name = codes "assign to undeclared variable '" ++ name ++ codes "'"
+
+abbrev pub wrong_answer : Bytes
+wrong_answer = codes "the answer does not belong to the question"
+
 -- argument n of a function of the library, which wanted another kind, took no such number, or got nothing
 abbrev pub bad_argument : ℕ → Bytes → Bytes → Bytes
 bad_argument n function why = codes "bad argument #" ++ decimal n ++ codes " to '" ++ function ++ codes "' (" ++ why ++ codes ")"

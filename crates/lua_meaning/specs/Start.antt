@@ -1,12 +1,10 @@
 -- A WHOLE RUN (Scribunto, "Invoking modules" and mw.loadData): its start with its charges, and its end.
-use Rattle.std.specs.Prelude.{ℕ, ◌+◌, List, [], ◌∷◌, ◌++◌, length, Option, Some, None, Result, Ok, Err, flat_map, if◌then◌else◌, ◌==◌, ◌-◌, slice_index_or, codes}
+use Rattle.std.specs.Prelude.{ℕ, List, [], ◌∷◌, ◌++◌, length, Option, Some, None, flat_map, if◌then◌else◌, ◌==◌, codes}
 use Rattle.wk_base.specs.declared.title.Title.{Title}
 use Rattle.wk_base.specs.declared.left.Left.{Left}
 use Rattle.wk_base.specs.Titles.{title_text}
-use Rattle.lua_syntax.specs.declared.fault.FaultAt.{FaultAt}
-use Rattle.lua_syntax.specs.Tree.{Block}
 use Rattle.page_run.specs.Run.{Ends}
-use Rattle.page_run.specs.Outcome.{Outcome, Goes, Jumps, ◌>>=◌, ◌>>◌, give, tick, see, change, begin}
+use Rattle.page_run.specs.Outcome.{Outcome, Goes, Jumps, ◌>>=◌, ◌>>◌, give, tick, see, change}
 use Rattle.page_run.specs.State.{Reply, Event, start}
 use Rattle.page_run.specs.Perform.{perform, wait}
 use Rattle.lua_heap.specs.Value.{Value, Nil, Text, Table, is_nil}
@@ -14,13 +12,14 @@ use Rattle.lua_meaning.specs.Scope.{Bytes}
 use Rattle.lua_meaning.specs.World.{Module, World}
 use Rattle.lua_meaning.specs.Questions.{Arg, Job, Ask, Answer}
 use Rattle.lua_meaning.specs.Values.{kind_of, first, text_in, is_function}
-use Rattle.lua_meaning.specs.Acts.{Act, LuaRun, Jump, Raised, State, Unmade, ChunkBody, raise, choose, see_heap}
-use Rattle.lua_meaning.specs.Messages.{place_text}
+use Rattle.lua_meaning.specs.Acts.{Act, LuaRun, Jump, Raised, State, Unmade, choose, one, see_heap}
+use Rattle.lua_meaning.specs.Messages.{fail, no_data_module}
 use Rattle.lua_meaning.specs.Metatables.{handler}
 use Rattle.lua_meaning.specs.Calls.{call}
 use Rattle.lua_meaning.specs.Index.{index}
-use Rattle.lua_meaning.specs.Protocol.{text_of, string_or_fail}
-use Rattle.lua_meaning.specs.Frames.{make_frame, frame_table}
+use Rattle.lua_meaning.specs.CallBacks.{text_of, string_or_fail}
+use Rattle.lua_meaning.specs.Frames.{args_charge, make_frame, frame_table, new_frame}
+use Rattle.lua_meaning.specs.Modules.{run_chunk, require_module}
 use Rattle.lua_meaning.specs.Home.{home}
 use Rattle.lua_meaning.specs.Things.{meaning_of}
 
@@ -35,36 +34,11 @@ pub data End : Type 0 where
   DoneData : (value : Value) → End
   Failed : (text : Bytes) → End
 
--- THE TEXTS of a chunk's faults, which are numbered from 1
-abbrev pub fault_texts : List Bytes
-fault_texts =
-    codes "unfinished string" ∷ codes "unfinished long bracket" ∷ codes "escape out of range" ∷ codes "unexpected byte"
-    ∷ codes "unexpected token" ∷ codes "numeral is not a whole number in range" ∷ codes "nested too deeply"
-    ∷ codes "break outside a loop" ∷ codes "call on a new line" ∷ codes "... outside a vararg function" ∷ []
-
-abbrev pub fault_text : ℕ → Bytes
-fault_text kind = slice_index_or fault_texts (kind - 1) []
-
--- THE TEXT OF A MODULE RUNS: it costs its length; a fault of its text is raised where it would begin
-abbrev pub begin_chunk : Title → Result Block FaultAt → Act (List Value)
-begin_chunk title (Ok b) = begin (ChunkBody (title_text title) b)
-begin_chunk title (Err fault) = raise (Text (place_text (record { source = title_text title; line = fault.line }) ++ fault_text fault.kind))
-
-abbrev pub run_chunk : Title → Option Module → Act (List Value)
-run_chunk title None = raise Nil
-run_chunk title (Some m) = do
-  tick m.size
-  begin_chunk title m.chunk
-
--- THE START costs 1,000 steps, and for each argument 4 and the bytes of its name and value
-abbrev pub args_charge : List Arg → ℕ
-args_charge [] = 0
-args_charge (a ∷ more) = 4 + length a.name + length a.value + args_charge more
-
+-- THE FRAME of an invocation, which has number 0
 abbrev pub begin_frame : Job → Act Value
 begin_frame job = do
   s ← see
-  change (record s { heap = make_frame job.scene 0 s.heap; frames = record { scene = job.scene; table = frame_table s.heap; parent = Unmade job.parent } ∷ [] })
+  change (record s { heap = make_frame job.scene 0 s.heap; frames = new_frame s.heap job.scene (Unmade job.parent) ∷ [] })
   give (frame_table s.heap)
 
 -- THE ANSWER: each value's text, as `tostring` gives it and without its charge, one after another; the whole costs its length
@@ -99,8 +73,9 @@ shown_error None v = codes "the error is a " ++ kind_of v ++ codes " value"
 abbrev pub error_text : Value → Bytes
 error_text v = shown_error (text_in v) v
 
--- AN INVOCATION: the module's first value must be a table, and its value at the function's name a function, which is called
--- with the frame
+-- AN INVOCATION costs 1,000 steps, and for each argument 4 and the bytes of its name and value. The module runs as `require` would
+-- run it; its value must be a table, no object of mw.html, and the value there at the function's name a function, which is called
+-- with the frame.
 abbrev pub invoke_function : Bytes → Value → Value → Act End
 invoke_function name f frame =
     choose (is_function f)
@@ -120,18 +95,23 @@ invoke world job = do
   tick 1000
   tick (args_charge job.scene.args)
   frame ← begin_frame job
-  vs ← run_chunk job.module_ (world.modules job.module_)
-  invoke_in job.function (first vs) frame
+  module_ ← one (require_module world (title_text job.module_) job.module_ [])
+  invoke_in job.function module_ frame
 
--- A DATA MODULE: its first value must be a table
+-- THE RUN OF A DATA MODULE costs 1,000 steps, has no frame, and must give a table. What that may hold is tested when it is taken out
+-- of the heap.
 abbrev pub data_value : Value → End
 data_value (Table t) = DoneData (Table t)
 data_value v = Failed (codes "data module returned no table")
 
-abbrev pub load_data : World → Title → Act End
-load_data world title = do
+abbrev pub run_data_module : Title → Option Module → Act (List Value)
+run_data_module title (Some m) = run_chunk title m
+run_data_module title None = fail [] (no_data_module (title_text title))
+
+abbrev pub run_data : World → Title → Act End
+run_data world title = do
   tick 1000
-  vs ← run_chunk title (world.modules title)
+  vs ← run_data_module title (world.modules title)
   give (data_value (first vs))
 
 -- HOW A RUN ENDS. The failure of an invocation is to stand in a page, so its text is written without marks of HTML: here, and
@@ -161,7 +141,7 @@ data_outcome (Jumps j) = Jumps j
 
 abbrev pub run_of : World → Work → LuaRun
 run_of world (Invoke job) = invoke world job (λ o. Ends (invoke_outcome o))
-run_of world (DataOf title) = load_data world title (λ o. Ends (data_outcome o))
+run_of world (DataOf title) = run_data world title (λ o. Ends (data_outcome o))
 
 -- the end that an outcome tells
 abbrev pub end_of : Outcome (List Value) Jump → End

@@ -1,6 +1,5 @@
--- FUNCTIONS OF THE LIBRARY THAT CALL BACK (manual 5.1). Such a function calls a function, and waits for its outcome. What it then
--- does is a definition of its own, and has a name in the table at the end of this file: a machine that runs Lua keeps this name.
--- A function of the library calls from no place of the text, so the levels of what it calls are empty.
+-- BASIC FUNCTIONS THAT CALL BACK (manual 5.1). Such a function calls a function, and waits for its outcome. What it then does is a
+-- definition of its own, which has a name in the table of `Waits`.
 use Rattle.std.specs.Prelude.{ℤ, pos, ◌+ℤ◌, true, false, List, [], ◌∷◌, length, Option, Some, None, codes}
 use Rattle.std.specs.Prelude.{Ok, Err}
 use Rattle.std.specs.Fmt.{signed_decimal}
@@ -15,25 +14,8 @@ use Rattle.lua_meaning.specs.Values.{kind_of, first, rest, second, third, text_i
 use Rattle.lua_meaning.specs.Acts.{Act, Jump, Raised, choose, see_heap}
 use Rattle.lua_meaning.specs.Messages.{fail}
 use Rattle.lua_meaning.specs.Metatables.{handler}
-use Rattle.lua_meaning.specs.Calls.{call}
-use Rattle.lua_meaning.specs.Arguments.{Argument, a_table, a_number}
-
-abbrev pub Waits : Type 0
-Waits = Outcome (List Value) Jump → Act (List Value)
-
--- a call, and what waits for its outcome
-abbrev pub calling : Value → List Value → Waits → Act (List Value)
-calling f args waits = catch (call f args []) waits
-
--- what waits for values alone: an error goes on
-abbrev pub for_values : (List Value → Act (List Value)) → Waits
-for_values f (Goes vs) = f vs
-for_values f (Jumps j) = jump j
-
--- a checked argument, or its message at level 1
-abbrev pub argument : {X : Type 0} → Levels → Argument X → Act X
-argument callers (Ok x) = give x
-argument callers (Err message) = fail callers message
+use Rattle.lua_meaning.specs.Arguments.{a_table, a_number}
+use Rattle.lua_meaning.specs.Waiting.{Waits, calling, for_values, argument, text_value}
 
 -- PROTECTED CALLS: `pcall(f, ...)`
 abbrev pub pcall_answer : Waits
@@ -70,10 +52,6 @@ text_of v = kind_of v
 abbrev pub string_or_fail : Levels → Option Bytes → Act Bytes
 string_or_fail callers (Some t) = give t
 string_or_fail callers None = fail callers (codes "'tostring' must return a string")
-
--- the text costs as many steps as it has bytes
-abbrev pub text_value : Bytes → Act (List Value)
-text_value t = tick (length t) >> give (Text t ∷ [])
 
 -- what `__tostring` gave
 abbrev pub string_given : Levels → List Value → Act (List Value)
@@ -126,19 +104,3 @@ ipairs_step args callers = do
   choose (fits (n +ℤ pos 1))
       (place_and_value (n +ℤ pos 1) (get (table_at h t).entries (Number (n +ℤ pos 1))))
       (give (Nil ∷ []))
-
--- THE TABLE of what waits
-pub data Pending : Type 0 where
-  PcallWaits : Pending
-  XpcallWaits : (handler : Value) → Pending
-  HandlerWaits : Pending
-  ToStringWaits : Pending
-  PairsWaits : Pending
-
--- what it does with an outcome, where the function that waits has these levels
-abbrev pub resumes : Pending → Levels → Waits
-resumes PcallWaits callers = pcall_answer
-resumes (XpcallWaits h) callers = xpcall_answer h
-resumes HandlerWaits callers = handler_answer
-resumes ToStringWaits callers = for_values (string_given callers)
-resumes PairsWaits callers = for_values three_of
