@@ -14,13 +14,13 @@ each-map R Q xs ys f none = none
 each-map R Q xs ys f (more x y xs' ys' r rest) = more x y xs' ys' (f x y r) (each-map R Q xs' ys' f rest)
 
 -- related lists whose second elements have all their names in a set
-each-in : {A B : Type 0} (R Q : A → B → Type 0) (names : B → List Ref) (S : Set) → ((x : A) (y : B) → R x y → AllIn S (names y) → Q x y) → (xs : List A) (ys : List B) → Each R xs ys → AllIn S (flat_map names ys) → Each Q xs ys
+pub each-in : {A B : Type 0} (R Q : A → B → Type 0) (names : B → List Ref) (S : Set) → ((x : A) (y : B) → R x y → AllIn S (names y) → Q x y) → (xs : List A) (ys : List B) → Each R xs ys → AllIn S (flat_map names ys) → Each Q xs ys
 each-in R Q names S f _ _ none i = none
 each-in R Q names S f _ _ (more x y xs ys r rest) i =
     let p = all-split (λ r. IsTrue (S r)) (names y) (flat_map names ys) i in
     more x y xs ys (f x y r p.0) (each-in R Q names S f xs ys rest p.1)
 
-each-names : {A B : Type 0} (R : A → B → Type 0) (names : B → List Ref) (S : Set) → ((x : A) (y : B) → R x y → AllIn S (names y)) → (xs : List A) (ys : List B) → Each R xs ys → AllIn S (flat_map names ys)
+pub each-names : {A B : Type 0} (R : A → B → Type 0) (names : B → List Ref) (S : Set) → ((x : A) (y : B) → R x y → AllIn S (names y)) → (xs : List A) (ys : List B) → Each R xs ys → AllIn S (flat_map names ys)
 each-names R names S f _ _ none = tt
 each-names R names S f _ _ (more x y xs ys r rest) = all-join (λ r. IsTrue (S r)) (names y) (flat_map names ys) (f x y r) (each-names R names S f xs ys rest)
 

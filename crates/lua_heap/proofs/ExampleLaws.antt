@@ -11,7 +11,7 @@ use Rattle.lua_heap.proofs.Places.{some_back}
 use Rattle.lua_heap.proofs.Reached.{leads-reached, leads-owned}
 
 pub values_differ : ValuesDiffer
-values_differ = (refl, refl, refl, refl, refl, refl)
+values_differ = (refl, refl, refl, refl, refl, refl, refl)
 
 pub keys_keep_their_place : KeysKeepTheirPlace
 keys_keep_their_place = (refl, refl, refl, refl)

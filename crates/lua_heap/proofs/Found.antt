@@ -107,7 +107,7 @@ module _ {X : Type 0} (names : X → List Ref) (s : Heap X) where
   not-true false h = refl
 
   own-edge_back : (q r : Ref) → IsTrue (own_edge q r) → IsTrue (edge q r) × (shared_at s r ≡ false)
-  own-edge_back q r h = let c = and-split own_edge (edge q r) _ h in (c.0, not-back (shared_at s r) c.1)
+  own-edge_back q r h = let c = and-split (edge q r) _ h in (c.0, not-back (shared_at s r) c.1)
 
   abbrev owned : List Ref → Set
   owned roots r = found own_edge (all_refs s) (plain_of roots) r
@@ -155,7 +155,7 @@ module _ {X : Type 0} (names : X → List Ref) (s : Heap X) where
       at : (r : Ref) → IsTrue (owned roots r) → (a : Obj X) → look s r ≡ Some a → (q : Ref) → IsTrue (is_in (obj_names names a) q) → IsTrue (with_shared (owned roots) s q)
       at r h a e q g = elim (true-or-false (shared_at s q)) [
         | inl y ↦ or-right (owned roots q) _ y
-        | inr n ↦ or-left (owned roots q) _ (found-step own_edge (all_refs s) (plain_of roots) r q (in-all s r a e) h (and-both own_edge (edge r q) _ (edge-at r q a e g) (not-true (shared_at s q) n)))
+        | inr n ↦ or-left (owned roots q) _ (found-step own_edge (all_refs s) (plain_of roots) r q (in-all s r a e) h (and-both (edge r q) _ (edge-at r q a e g) (not-true (shared_at s q) n)))
       ]
 
   owned-leads_ : (roots : List Ref) (r : Ref) → IsTrue (owned roots r) → OwnLeads names s roots r
@@ -167,6 +167,10 @@ module _ {X : Type 0} (names : X → List Ref) (s : Heap X) where
 
   pub owned-leads : (roots : List Ref) (T : Set) → IsOwnSet names T s → AllIn (with_shared T s) roots → (r : Ref) → Own names s roots r → OwnLeads names s roots r
   owned-leads roots T c i r h = owned-leads_ roots r (h (owned roots) (owned-set T c roots i) (owned-roots roots))
+
+  -- the owned objects as a set, which is the least own set with the roots
+  pub owned-set_is : (roots : List Ref) (T : Set) → IsOwnSet names T s → AllIn (with_shared T s) roots → (U : Set) × IsOwnSet names U s × AllIn (with_shared U s) roots × ((r : Ref) → IsTrue (U r) → OwnLeads names s roots r)
+  owned-set_is roots T c i = (owned roots, owned-set T c roots i, owned-roots roots, owned-leads_ roots)
 
   -- WHAT ISN'T OWNED is as it was, after whatever is as it was outside of each own set with the roots
   pub unowned : (roots : List Ref) (T : Set) → IsOwnSet names T s → AllIn (with_shared T s) roots → (t : Heap X) → ((S : Set) → IsOwnSet names S s → AllIn (with_shared S s) roots → Frame S s t)

@@ -1,5 +1,5 @@
 -- A graph joins a heap: its tables stand behind those of the heap, and in the store where they stood.
-use Rattle.std.proofs.Common.{◌≡◌, ℕ, ◌+◌, Bool, true, false, length, Option, Some, None, IsTrue, refl, sym, ◌∙◌, ap, subst, inl, inr, ◌⊎◌, arith, slice_get, map}
+use Rattle.std.proofs.Common.{◌≡◌, ℕ, ◌+◌, ◌<◌, Bool, true, false, length, Option, Some, None, IsTrue, refl, sym, ◌∙◌, ap, subst, inl, inr, ◌⊎◌, arith, slice_get, map}
 use Rattle.std.proofs.lemmas.Option.{slice_get_within}
 use Rattle.std.specs.Option.{option_map}
 use Rattle.lua_heap.specs.Value.{Value, Table}
@@ -26,6 +26,9 @@ graph_back frozen g j o e =
     let b = of-some_back TableObj (slice_get (graph_tables frozen g) j) o e in
     let c = of-some_back (node_table frozen) (slice_get g j) b.0 (sym (get-map (node_table frozen) g j) ∙ b.1) in
     (c.0, c.1, sym b.2 ∙ ap TableObj (sym c.2))
+
+graph_within : (frozen : Bool) (g : Graph) (j : ℕ) (o : Obj ⊥) → look (graph_heap frozen g) (tab j) ≡ Some o → j < length g
+graph_within frozen g j o e = let b = graph_back frozen g j o e in slice_get_within g j b.0 b.1
 
 -- only tables stand for something of a graph
 pub only_tables : (frozen : Bool) (g : Graph) (q : Ref) (o : Obj ⊥) → look (graph_heap frozen g) q ≡ Some o → (j : ℕ) × (q ≡ tab j)
@@ -188,6 +191,10 @@ joined R up m S K g value h s st in_ k =
       inside = λ q r e. elim (both-back R up m k.names true g h s st k.stands apart q r e) [
         | inl f ↦ or-left (S r) (K r) (in_ q r f)
         | inr f ↦ or-right (S r) (K r) (k.inside (tab f.0) r f.2)
+      ];
+      news = λ q r e. elim (both-back R up m k.names true g h s st k.stands apart q r e) [
+        | inl f ↦ inl f
+        | inr f ↦ inr (f.0, graph_within true g f.0 (k.stands.holds (tab f.0) r f.2).0 (k.stands.holds (tab f.0) r f.2).2, f.1, k.inside (tab f.0) r f.2)
       ];
       old = look-first true g h;
       private = both-private R up m k.names true g h s st k.stands apart;

@@ -23,6 +23,5 @@ pub mod SetLaws
 pub mod FrameLaws
 pub mod ReachLaws
 pub mod GraphLaws
-pub mod LibraryLaws
 pub mod ExampleLaws
 pub mod Wholes

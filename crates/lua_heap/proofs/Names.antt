@@ -10,6 +10,11 @@ pub all-join : {A : Type 0} (P : A → Type 0) (xs ys : List A) → AllByRecursi
 all-join P [] ys a b = b
 all-join P (x ∷ xs) ys a b = (a.0, all-join P xs ys a.1 b)
 
+-- two facts about the elements of one list
+pub all-both : {A : Type 0} (P Q : A → Type 0) (xs : List A) → AllByRecursion P xs → AllByRecursion Q xs → AllByRecursion (λ x. P x × Q x) xs
+all-both P Q [] a b = tt
+all-both P Q (x ∷ xs) a b = ((a.0, b.0), all-both P Q xs a.1 b.1)
+
 pub all-map : {A : Type 0} (P Q : A → Type 0) → ((x : A) → P x → Q x) → (xs : List A) → AllByRecursion P xs → AllByRecursion Q xs
 all-map P Q f [] a = tt
 all-map P Q f (x ∷ xs) a = (f x a.0, all-map P Q f xs a.1)

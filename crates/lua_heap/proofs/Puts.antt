@@ -128,7 +128,7 @@ module _ {X : Type 0} (frozen : Bool) (g : Graph) (s : Heap X) where
   put w = record {
     names = graph_names g (length s.tables);
     stands = put-stands w.data_;
-    whole = whole_;
+    complete = complete_;
     root_at = let x = get-there g 0 w.rooted in
         table 0 (length s.tables) (pick-some (slice_get g 0) (tab (length s.tables + 0)) x.0 x.1 ∙ ap (λ (n : ℕ). Some (tab n)) (omega arith));
     made = made_;
@@ -139,14 +139,14 @@ module _ {X : Type 0} (frozen : Bool) (g : Graph) (s : Heap X) where
     };
   }
     where
-      whole_ : (q : Ref) → IsTrue (is_there (graph_heap frozen g) q) → IsTrue (is_some (graph_to g (length s.tables) q))
-      whole_ (tab j) e =
+      complete_ : (q : Ref) → IsTrue (is_there (graph_heap frozen g) q) → IsTrue (is_some (graph_to g (length s.tables) q))
+      complete_ (tab j) e =
           let a = is-some (look (graph_heap frozen g) (tab j)) e in
           let b = graph_back frozen g j a.0 a.1 in
           some-is _ _ (pick-some (slice_get g j) (tab (length s.tables + j)) b.0 b.1)
-      whole_ (cel j) e = cc
-      whole_ (clo j) e = cc
-      whole_ (mar j) e = cc
+      complete_ (cel j) e = cc
+      complete_ (clo j) e = cc
+      complete_ (mar j) e = cc
 
       made_ : (q r : Ref) → graph_to g (length s.tables) q ≡ Some r → look s r ≡ None
       made_ (cel j) r e = cc

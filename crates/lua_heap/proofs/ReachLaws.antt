@@ -1,7 +1,7 @@
 -- What is reached and what is owned, as the contracts say it.
-use Rattle.lua_heap.specs.ReachLaws.{LedIsReached, ReachedIsLed, OwnLedIsOwned, OwnedIsLed, OwnedIsReached, OwnedIsNotShared, ReachedIsOwned, OwnSetsClose, ClosedSetsOwn, UnownedStays}
+use Rattle.lua_heap.specs.ReachLaws.{LedIsReached, ReachedIsLed, OwnLedIsOwned, OwnedIsLed, OwnIsASet, OwnedIsReached, OwnedIsNotShared, ReachedIsOwned, OwnSetsClose, ClosedSetsOwn, UnownedStays}
 use Rattle.lua_heap.proofs.Reached.{leads-reached, leads-owned, owned-reached, owned-plain, reached-owned, closed-own, own-closed}
-use Rattle.lua_heap.proofs.Found.{reached-leads, owned-leads, unowned}
+use Rattle.lua_heap.proofs.Found.{reached-leads, owned-leads, owned-set_is, unowned}
 
 module _ {X : Type 0} where
   pub led_is_reached : LedIsReached X
@@ -15,6 +15,9 @@ module _ {X : Type 0} where
 
   pub owned_is_led : OwnedIsLed X
   owned_is_led names s roots S c i r h = owned-leads names s roots S c i r h
+
+  pub own_is_a_set : OwnIsASet X
+  own_is_a_set names s roots S c i = let u = owned-set_is names s roots S c i in (u.0, u.1, u.2, λ r h. leads-owned names s roots r (u.3 r h))
 
   pub owned_is_reached : OwnedIsReached X
   owned_is_reached names s roots r o = owned-reached names s roots r o

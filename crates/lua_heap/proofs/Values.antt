@@ -4,6 +4,8 @@ use Rattle.std.specs.Bool.{Decides}
 use Rattle.std.specs.Cmp.{IsEquivalence, booleans_Decides}
 use Rattle.std.proofs.lemmas.Bool.Decides.{Decides-int_eq, Decides-eqb}
 use Rattle.std.proofs.lemmas.Slice.Eq.{bytes_eq-Decides}
+use denote.Enum.Bare.{same_true, true_same}
+use Rattle.lua_heap.specs.contracts.library.Library.{the_type}
 use Rattle.lua_heap.specs.Value.{Value, Nil, Truth, Number, Text, Table, Closure, Builtin, Markup, same}
 
 pub same-alike : (v : Value) → same v v ≡ true
@@ -13,7 +15,7 @@ same-alike (Number n) = (Decides-int_eq n n).1 refl
 same-alike (Text bytes) = (bytes_eq-Decides bytes bytes).1 refl
 same-alike (Table t) = (Decides-eqb t t).1 refl
 same-alike (Closure t) = (Decides-eqb t t).1 refl
-same-alike (Builtin t) = (Decides-eqb t t).1 refl
+same-alike (Builtin t) = true_same the_type t t refl
 same-alike (Markup t) = (Decides-eqb t t).1 refl
 
 pub same-true : (v w : Value) → same v w ≡ true → v ≡ w
@@ -23,7 +25,7 @@ same-true (Number a) (Number b) e = ap Number ((Decides-int_eq a b).0 e)
 same-true (Text a) (Text b) e = ap Text ((bytes_eq-Decides a b).0 e)
 same-true (Table a) (Table b) e = ap Table ((Decides-eqb a b).0 e)
 same-true (Closure a) (Closure b) e = ap Closure ((Decides-eqb a b).0 e)
-same-true (Builtin a) (Builtin b) e = ap Builtin ((Decides-eqb a b).0 e)
+same-true (Builtin a) (Builtin b) e = ap Builtin (same_true the_type tt a b e)
 same-true (Markup a) (Markup b) e = ap Markup ((Decides-eqb a b).0 e)
 same-true Nil (Truth b) e = cc
 same-true Nil (Number b) e = cc

@@ -84,19 +84,19 @@ in-all h (clo n) a e = let b = of-some_back _ (slice_get h.closures n) a e in
 in-all h (mar n) a e = let b = of-some_back _ (slice_get h.markup n) a e in
     in-right (numbered tab h.tables) _ (mar n) (in-right (numbered cel h.cells) _ (mar n) (in-right (numbered clo h.closures) _ (mar n) (numbered-in mar h.markup n b.0 b.1)))
 
+pub and-split : (a b : Bool) → IsTrue (a && b) → IsTrue a × IsTrue b
+and-split true b h = (refl, h)
+and-split false b h = cc
+
+pub and-both : (a b : Bool) → IsTrue a → IsTrue b → IsTrue (a && b)
+and-both true b g h = h
+and-both false b g h = cc
+
 -- WAYS that go through the given names alone
 module _ (edge : Ref → Ref → Bool) where
   abbrev pub way : List Ref → Ref → Ref → Bool
   way [] a b = is_one a b || edge a b
   way (v ∷ vs) a b = way vs a b || (way vs a v && way vs v b)
-
-  pub and-split : (a b : Bool) → IsTrue (a && b) → IsTrue a × IsTrue b
-  and-split true b h = (refl, h)
-  and-split false b h = cc
-
-  pub and-both : (a b : Bool) → IsTrue a → IsTrue b → IsTrue (a && b)
-  and-both true b g h = h
-  and-both false b g h = cc
 
   way-edge : (vs : List Ref) (a b : Ref) → IsTrue (edge a b) → IsTrue (way vs a b)
   way-edge [] a b h = or-right (is_one a b) (edge a b) h

@@ -1,5 +1,6 @@
 -- SMALL HEAPS, with what is true of them worked out by hand. A function holds the list of its cells.
 use Rattle.std.specs.Prelude.{◌≡◌, ℕ, zero, suc, pos, true, false, List, [], ◌∷◌, map, Option, Some, None}
+use Rattle.lua_heap.specs.declared.library.Library.TheVariants.{BasicNext, BasicPcall, GsplitStep}
 use Rattle.lua_heap.specs.Value.{Value, Nil, Truth, Number, Text, Table, Closure, Builtin, same}
 use Rattle.lua_heap.specs.Table.{Entries, get, has, set, next, border}
 use Rattle.lua_heap.specs.Heap.{Function, Iterator, ChildText, ChildNode, MarkupNode, Heap, empty, Ref, tab, cel, mar, TableObj, CellObj, look, put, table_at, cell_at, closure_at, markup_at, set_in, set_meta_in, freeze_in, set_cell_in, set_markup_in, new_table, new_cell, new_closure, new_markup}
@@ -34,7 +35,8 @@ ValuesDiffer = (same (Text (97 ∷ 98 ∷ [])) (Text (97 ∷ 98 ∷ [])) ≡ tru
     × (same a b ≡ false)
     × (same one (Text (49 ∷ [])) ≡ false)
     × (same (Table 0) (Closure 0) ≡ false)
-    × (same (Builtin 4) (Builtin 5) ≡ false)
+    × (same (Builtin BasicNext) (Builtin BasicNext) ≡ true)
+    × (same (Builtin BasicNext) (Builtin BasicPcall) ≡ false)
     × (same Nil (Truth false) ≡ false)
 
 -- TABLES: a, b and c are set in this order; then b is cleared, and set again
@@ -72,12 +74,12 @@ ItselfInItself = (table_at looped 0 ≡ record { entries = (Table 0, Table 0) �
 
 -- A CELL THAT TWO FUNCTIONS SHARE, and an iterator whose state it is too
 abbrev pub shared_cell : Heap Cells
-shared_cell = (new_closure (new_closure (new_closure (new_cell empty one).0 (Function (0 ∷ []))).0 (Function (0 ∷ []))).0 (Iterator 7 (0 ∷ []))).0
+shared_cell = (new_closure (new_closure (new_closure (new_cell empty one).0 (Function (0 ∷ []))).0 (Function (0 ∷ []))).0 (Iterator GsplitStep (0 ∷ []))).0
 
 abbrev pub CellIsShared : Type 0
 CellIsShared = (closure_at shared_cell 0 ≡ closure_at shared_cell 1)
     × (cell_at (set_cell_in shared_cell 0 two) 0 ≡ two)
-    × (closure_at (set_cell_in shared_cell 0 two) 2 ≡ Some (Iterator 7 (0 ∷ [])))
+    × (closure_at (set_cell_in shared_cell 0 two) 2 ≡ Some (Iterator GsplitStep (0 ∷ [])))
     × ((new_closure shared_cell (Function [])).1 ≡ 3)
     × (cell_at shared_cell 1 ≡ Nil)
 

@@ -1,11 +1,11 @@
 -- GRAPHS OF DATA: tables that hold truth values, numbers, texts and each other (Scribunto, mw.loadData). The tables are
 -- numbered from 0 within the graph; a heap takes them in as new tables behind its own.
-use Rattle.std.specs.Prelude.{◌≡◌, ℕ, ◌+◌, ◌<◌, Bool, true, false, List, ◌++◌, length, map, Some, None, IsTrue, is_some}
+use Rattle.std.specs.Prelude.{◌≡◌, ◌⊎◌, ℕ, ◌+◌, ◌<◌, Bool, true, false, List, ◌++◌, length, map, Some, None, IsTrue, is_some}
 use Rattle.std.specs.List.{AllByRecursion}
 use Rattle.lua_table.specs.Entries.{Contents}
 use Rattle.lua_heap.specs.Value.{Value, Nil, Truth, Number, Text, Table}
 use Rattle.lua_heap.specs.Table.{Entries, HasValueKeys}
-use Rattle.lua_heap.specs.Heap.{Heap, Ref, Obj, look, empty, IsShared}
+use Rattle.lua_heap.specs.Heap.{Heap, Ref, tab, Obj, look, empty, IsShared}
 use Rattle.lua_heap.specs.Related.{Map, Grows, Same, Stands}
 use Rattle.lua_heap.specs.Reach.{Set, nowhere, union, is_there, Frame}
 
@@ -66,7 +66,7 @@ joined_root h = Table (length h.tables)
 pub record IsPut {X : Type 0} (frozen : Bool) (g : Graph) (value : Value) (s t : Heap X) : Type 0 where
   pub names : Map
   pub stands : Stands NoFunctions names (graph_heap frozen g) t
-  pub whole : (q : Ref) → IsTrue (is_there (graph_heap frozen g) q) → IsTrue (is_some (names.to q))
+  pub complete : (q : Ref) → IsTrue (is_there (graph_heap frozen g) q) → IsTrue (is_some (names.to q))
   pub root_at : Same names (Table 0) value
   pub made : (q r : Ref) → names.to q ≡ Some r → look s r ≡ None
   pub frame : Frame nowhere s t
@@ -80,12 +80,14 @@ pub record IsKept {X : Type 0} (K S : Set) (g : Graph) (value : Value) (s : Heap
   pub shared : (r : Ref) → IsTrue (K r) → (b : Obj X) × (look s r ≡ Some b) × IsShared b
   pub apart : (r : Ref) → IsTrue (K r) → S r ≡ false
 
--- m says how h stands in s, and now the graph stands there too, joined with h, under a larger map
+-- m says how h stands in s, and now the graph stands there too, joined with h, under a larger map: what is new in it are
+-- the tables of the graph, which stand in K
 pub record IsJoined {X Y : Type 0} (R : Map → X → Y → Type 0) (m : Map) (S K : Set) (frozen : Bool) (g : Graph) (value : Value) (h : Heap X) (s : Heap Y) : Type 0 where
   pub names : Map
   pub grows : Grows m names
   pub stands : Stands R names (join frozen g h) s
   pub root_at : Same names (joined_root h) value
   pub inside : (q r : Ref) → names.to q ≡ Some r → IsTrue (union S K r)
+  pub news : (q r : Ref) → names.to q ≡ Some r → (m.to q ≡ Some r) ⊎ ((n : ℕ) × (n < length g) × (q ≡ tab (length h.tables + n)) × IsTrue (K r))
   pub old : (q : Ref) (a : Obj X) → look h q ≡ Some a → look (join frozen g h) q ≡ Some a
   pub private : (q : Ref) (a : Obj X) → look h q ≡ Some a → m.to q ≡ None → names.to q ≡ None

@@ -4,14 +4,15 @@
 use Rattle.std.specs.Prelude.{ℕ, Bool, true, false, List, [], ◌∷◌, ◌++◌, length, Option, None, slice_get, slice_set, slice_index_or, IsTrue}
 use Rattle.std.specs.Option.{option_map}
 use Rattle.lua_table.specs.Entries.{Contents}
+use Rattle.lua_heap.specs.declared.library.Library.{Library}
 use Rattle.lua_heap.specs.Value.{Value, Nil}
 use Rattle.lua_heap.specs.Table.{empty_table, set}
 
--- A closure is a function of Lua, or an iterator that the library made: the number of the library function that makes
--- its steps, and the cells in which its state is (string.gmatch, mw.ustring.gmatch, mw.ustring.gcodepoint, mw.text.gsplit).
+-- A closure is a function of Lua, or an iterator that the library made: the function of the library that makes its
+-- steps, and the cells in which its state is (string.gmatch, mw.ustring.gmatch, mw.ustring.gcodepoint, mw.text.gsplit).
 pub data Closed (X : Type 0) : Type 0 where
   Function : (content : X) → Closed X
-  Iterator : (step : ℕ) (cells : List ℕ) → Closed X
+  Iterator : (step : Library) (cells : List ℕ) → Closed X
 
 -- A style of a markup object: one property with its value, or a text of styles (mw.html, css and cssText).
 pub data MarkupStyle : Type 0 where

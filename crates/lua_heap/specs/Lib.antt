@@ -3,6 +3,7 @@ pub mod Table
 pub mod Heap
 pub mod Related
 pub mod Reach
+pub mod Proc
 pub mod Graph
 pub mod ValueLaws
 pub mod ObjectLaws
@@ -12,7 +13,5 @@ pub mod SetLaws
 pub mod ReachLaws
 pub mod FrameLaws
 pub mod GraphLaws
-pub mod Library
-pub mod LibraryLaws
 pub mod Examples
 pub mod WholeLaws

@@ -1,5 +1,5 @@
 -- WHAT IS REACHED AND WHAT IS OWNED, in two ways each: as what is in every set of a kind, and as what steps lead to.
-use Rattle.std.specs.Prelude.{◌≡◌, false, List, Some}
+use Rattle.std.specs.Prelude.{◌≡◌, false, List, Some, IsTrue}
 use Rattle.lua_heap.specs.Heap.{Heap, Ref, Obj, look}
 use Rattle.lua_heap.specs.Reach.{Set, AllIn, shared_at, with_shared, without_shared, Frame, IsClosed, IsReached, Leads, IsOwnSet, Own, OwnLeads, IsDeep}
 
@@ -16,6 +16,11 @@ module _ (X : Type 0) where
 
   abbrev pub OwnedIsLed : Type 0
   OwnedIsLed = (names : X → List Ref) (s : Heap X) (roots : List Ref) (S : Set) → IsOwnSet names S s → AllIn (with_shared S s) roots → (r : Ref) → Own names s roots r → OwnLeads names s roots r
+
+  -- what is owned is a set that can be tested, the least own set with the roots
+  abbrev pub OwnIsASet : Type 0
+  OwnIsASet = (names : X → List Ref) (s : Heap X) (roots : List Ref) (S : Set) → IsOwnSet names S s → AllIn (with_shared S s) roots
+      → (T : Set) × IsOwnSet names T s × AllIn (with_shared T s) roots × ((r : Ref) → IsTrue (T r) → Own names s roots r)
 
   -- what is owned is reached, and is no read-only table
   abbrev pub OwnedIsReached : Type 0

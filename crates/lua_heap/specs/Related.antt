@@ -2,6 +2,7 @@
 -- of data, or a set of objects of the second one; the second is a store. R relates what their functions hold.
 use Rattle.std.specs.Prelude.{◌≡◌, ◌⊎◌, ℕ, ℤ, Bool, List, [], ◌∷◌, Option, Some, None}
 use Rattle.lua_table.specs.Entries.{Contents}
+use Rattle.lua_heap.specs.declared.library.Library.{Library}
 use Rattle.lua_heap.specs.Value.{Value, Nil, Truth, Number, Text, Table, Closure, Builtin, Markup}
 use Rattle.lua_heap.specs.Table.{Entries}
 use Rattle.lua_heap.specs.Heap.{Closed, Function, Iterator, MarkupChild, ChildText, ChildNode, MarkupNode, Heap, Ref, tab, cel, clo, mar, Obj, TableObj, CellObj, ClosureObj, MarkupObj, look, IsShared}
@@ -41,7 +42,7 @@ pub data Same (m : Map) : Value → Value → Type 0 where
   text : (bytes : List ℕ) → Same m (Text bytes) (Text bytes)
   table : (a b : ℕ) → m.to (tab a) ≡ Some (tab b) → Same m (Table a) (Table b)
   closure : (a b : ℕ) → m.to (clo a) ≡ Some (clo b) → Same m (Closure a) (Closure b)
-  builtin : (which : ℕ) → Same m (Builtin which) (Builtin which)
+  builtin : (which : Library) → Same m (Builtin which) (Builtin which)
   markup : (a b : ℕ) → m.to (mar a) ≡ Some (mar b) → Same m (Markup a) (Markup b)
 
 abbrev pub SameCell : Map → ℕ → ℕ → Type 0
@@ -63,7 +64,7 @@ pub record SameTable (m : Map) (a b : Contents Value) : Type 0 where
 
 pub data SameClosed {X Y : Type 0} (R : Map → X → Y → Type 0) (m : Map) : Closed X → Closed Y → Type 0 where
   functions : (a : X) (b : Y) → R m a b → SameClosed R m (Function a) (Function b)
-  iterators : (step : ℕ) (as_ bs : List ℕ) → Each (SameCell m) as_ bs → SameClosed R m (Iterator step as_) (Iterator step bs)
+  iterators : (step : Library) (as_ bs : List ℕ) → Each (SameCell m) as_ bs → SameClosed R m (Iterator step as_) (Iterator step bs)
 
 pub data SameChild (m : Map) : MarkupChild → MarkupChild → Type 0 where
   child_text : (bytes : List ℕ) → SameChild m (ChildText bytes) (ChildText bytes)

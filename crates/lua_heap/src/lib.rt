@@ -1,12 +1,14 @@
-//! The heap of Lua, and what two heaps have to do with one another: definitions, with their laws. Nothing here is executed.
+//! The heap of Lua, and what two heaps have to do with one another: definitions, with their laws. But for `Library`, the
+//! names of the library's functions, nothing here is executed.
 //!
 //! One type, `Heap X`, is the heap of the meaning of Lua, a graph of plain data, and what is seen of the store of a page.
 //! They differ in what a function holds, which is the parameter `X`. The definitions stand in `specs/`, in this order:
 //!
-//! - `Value`, `Table`, `Library`: values, tables of values, and the numbers of the library's functions
+//! - `Value`, `Table`: values, and tables of values
 //! - `Heap`: tables, cells, closures and markup objects; names of objects; what is read, changed and added
 //! - `Related`: how the objects of one heap stand in another, and what a call may do to both
 //! - `Reach`: sets of objects, what is reached, what is owned, and what a call leaves as it was
+//! - `Proc`: what a function holds where its text is kept elsewhere
 //! - `Graph`: graphs of plain data, put into a heap
 //! - `Examples`: small heaps, with what is true of them
 //!
@@ -14,7 +16,6 @@
 //! name is in brackets:
 //!
 //! - `equality`: values that are the same, and borders (`ValueLaws`)
-//! - `library`: each function of the library has a number of its own (`LibraryLaws`)
 //! - `objects`: what is added or put is found, and nothing else changes (`ObjectLaws`)
 //! - `standing`: what stands for an object, and what calls on tables give on both sides (`StandingLaws`)
 //! - `moves`: what may be done to two heaps at once (`MoveLaws`)
@@ -25,11 +26,10 @@
 //! - `graphs`: graphs that are put, kept and joined (`GraphLaws`)
 //! - `examples`: the small heaps are what `Examples` says
 //!
-//! `builtin` has the numbers of the library's functions for code, and `content` the trait by which laws speak of what
-//! functions hold.
+//! `library` has the names of the library's functions, for code and definitions, and `content` the trait by which laws speak
+//! of what functions hold.
 #![tactic(auto)]
 
-pub mod builtin;
 pub mod closed_sets;
 pub mod content;
 pub mod equality;
@@ -44,6 +44,7 @@ pub mod standing;
 pub mod whole;
 
 pub use content::Content;
+pub use library::Library;
 
 #[cfg(test)]
 mod tests;

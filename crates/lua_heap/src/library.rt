@@ -1,80 +1,122 @@
-//! The numbers of the functions of the library: each has one, no two share one, and the constants of `builtin` are these.
-ghost use Rattle.lua_heap.specs.LibraryLaws.{NumbersReadBack, NumbersDiffer, BasicNumbers, StringNumbers, TableNumbers, MathNumbers, MwNumbers, UstringNumbers, TextNumbers, HtmlNumbers, FrameNumbers, HandlerNumbers, StepNumbers};
+//! The functions of the library, by name.
 
-/// A number that belongs to a function leads back to it.
-#[tactic(auto, using(crate::proofs::LibraryLaws::read_back))]
-pub fn numbers_read_back()
-    ensures { NumbersReadBack }
-{}
-
-/// Two functions with one number are one.
-#[tactic(auto, using(crate::proofs::LibraryLaws::differ))]
-pub fn numbers_differ()
-    ensures { NumbersDiffer }
-{}
-
-/// The constants of the basic functions.
-#[tactic(auto, using(crate::proofs::LibraryLaws::basic_numbers))]
-pub fn basic_numbers()
-    ensures { BasicNumbers }
-{}
-
-/// The constants of `string`.
-#[tactic(auto, using(crate::proofs::LibraryLaws::string_numbers))]
-pub fn string_numbers()
-    ensures { StringNumbers }
-{}
-
-/// The constants of `table`.
-#[tactic(auto, using(crate::proofs::LibraryLaws::table_numbers))]
-pub fn table_numbers()
-    ensures { TableNumbers }
-{}
-
-/// The constants of `math`.
-#[tactic(auto, using(crate::proofs::LibraryLaws::math_numbers))]
-pub fn math_numbers()
-    ensures { MathNumbers }
-{}
-
-/// The constants of `mw`.
-#[tactic(auto, using(crate::proofs::LibraryLaws::mw_numbers))]
-pub fn mw_numbers()
-    ensures { MwNumbers }
-{}
-
-/// The constants of `mw.ustring`.
-#[tactic(auto, using(crate::proofs::LibraryLaws::ustring_numbers))]
-pub fn ustring_numbers()
-    ensures { UstringNumbers }
-{}
-
-/// The constants of `mw.text`.
-#[tactic(auto, using(crate::proofs::LibraryLaws::text_numbers))]
-pub fn text_numbers()
-    ensures { TextNumbers }
-{}
-
-/// The constants of `mw.html`.
-#[tactic(auto, using(crate::proofs::LibraryLaws::html_numbers))]
-pub fn html_numbers()
-    ensures { HtmlNumbers }
-{}
-
-/// The constants of a frame's methods.
-#[tactic(auto, using(crate::proofs::LibraryLaws::frame_numbers))]
-pub fn frame_numbers()
-    ensures { FrameNumbers }
-{}
-
-/// The constants of the handlers.
-#[tactic(auto, using(crate::proofs::LibraryLaws::handler_numbers))]
-pub fn handler_numbers()
-    ensures { HandlerNumbers }
-{}
-
-/// The constants of the steps of iterators.
-#[tactic(auto, using(crate::proofs::LibraryLaws::step_numbers))]
-pub fn step_numbers()
-    ensures { StepNumbers }
-{}
+/// A function of the library (manual 5; Scribunto, Lua reference manual), by its name.
+///
+/// Besides the functions that a fresh environment has, these are the methods of frames and of `mw.html`, and the handlers
+/// and steps to which no name of the environment leads. What each does is said where Lua's meaning is.
+#[derive(Clone, Copy, Debug, PartialEq, Eq, Hash)]
+pub enum Library {
+    // The basic functions (manual 5.1).
+    BasicAssert,
+    BasicError,
+    BasicGetMetatable,
+    BasicSetMetatable,
+    BasicIpairs,
+    BasicPairs,
+    BasicNext,
+    BasicPcall,
+    BasicXpcall,
+    BasicRawEqual,
+    BasicRawGet,
+    BasicRawSet,
+    BasicSelect,
+    BasicToNumber,
+    BasicToString,
+    BasicType,
+    BasicUnpack,
+    BasicRequire,
+    // `string` (manual 5.4).
+    StringByte,
+    StringChar,
+    StringFind,
+    StringMatch,
+    StringGmatch,
+    StringGsub,
+    StringFormat,
+    StringLen,
+    StringLower,
+    StringUpper,
+    StringRep,
+    StringReverse,
+    StringSub,
+    // `table` (manual 5.5).
+    TableConcat,
+    TableInsert,
+    TableMaxn,
+    TableRemove,
+    TableSort,
+    // `math` (manual 5.6).
+    MathAbs,
+    MathCeil,
+    MathFloor,
+    MathFmod,
+    MathMax,
+    MathMin,
+    MathPow,
+    // `mw` (Scribunto, mw library); `getCurrentTitle` is that of `mw.title`.
+    MwClone,
+    MwLog,
+    MwGetCurrentTitle,
+    MwLoadData,
+    MwGetCurrentFrame,
+    // `mw.ustring` (Scribunto, Ustring library).
+    UstringChar,
+    UstringCodepoint,
+    UstringGcodepoint,
+    UstringByteOffset,
+    UstringFind,
+    UstringMatch,
+    UstringGmatch,
+    UstringGsub,
+    UstringLen,
+    UstringSub,
+    UstringIsUtf8,
+    UstringToNfc,
+    UstringToNfd,
+    UstringToNfkc,
+    UstringToNfkd,
+    // `mw.text` (Scribunto, Text library).
+    TextTrim,
+    TextSplit,
+    TextGsplit,
+    TextEncode,
+    TextDecode,
+    TextListToText,
+    TextNowiki,
+    TextTag,
+    TextTruncate,
+    // `mw.html`: `create`, and the methods of its objects (Scribunto, HTML library).
+    HtmlCreate,
+    HtmlNode,
+    HtmlWikitext,
+    HtmlNewline,
+    HtmlAttr,
+    HtmlAddClass,
+    HtmlCss,
+    HtmlCssText,
+    HtmlTag,
+    HtmlDone,
+    HtmlAllDone,
+    HtmlGetAttr,
+    // The methods of a frame (Scribunto, Frame object).
+    FrameGetParent,
+    FrameExpandTemplate,
+    FramePreprocess,
+    FrameGetArgument,
+    FrameArgumentPairs,
+    FrameNewChild,
+    FrameGetTitle,
+    FrameExtensionTag,
+    // Handlers that metatables and other tables hold: `__index` of a frame's `args`, `expand` of what `getArgument` gives,
+    // `__index` and `__newindex` that `require('strict')` sets.
+    ArgsIndex,
+    ArgumentExpand,
+    StrictIndex,
+    StrictNewIndex,
+    // Steps of iterators; that of `pairs` is `next`.
+    IpairsStep,
+    GmatchStep,
+    UstringGmatchStep,
+    GcodepointStep,
+    GsplitStep,
+}

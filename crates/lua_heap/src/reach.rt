@@ -1,5 +1,5 @@
 //! What is reached and what is owned.
-ghost use Rattle.lua_heap.specs.ReachLaws.{LedIsReached, ReachedIsLed, OwnLedIsOwned, OwnedIsLed, OwnedIsReached, OwnedIsNotShared, ReachedIsOwned, OwnSetsClose, ClosedSetsOwn, UnownedStays};
+ghost use Rattle.lua_heap.specs.ReachLaws.{LedIsReached, ReachedIsLed, OwnLedIsOwned, OwnedIsLed, OwnIsASet, OwnedIsReached, OwnedIsNotShared, ReachedIsOwned, OwnSetsClose, ClosedSetsOwn, UnownedStays};
 
 /// What steps from object to object lead to is reached.
 #[tactic(auto, using(crate::proofs::ReachLaws::led_is_reached))]
@@ -23,6 +23,12 @@ pub fn own_led_is_owned<X>()
 #[tactic(auto, using(crate::proofs::ReachLaws::owned_is_led))]
 pub fn owned_is_led<X>()
     ensures { OwnedIsLed X }
+{}
+
+/// What is owned is a set that can be tested, the least own set with the roots.
+#[tactic(auto, using(crate::proofs::ReachLaws::own_is_a_set))]
+pub fn own_is_a_set<X>()
+    ensures { OwnIsASet X }
 {}
 
 /// What is owned is reached.

@@ -3,8 +3,8 @@ ghost use Rattle.std.specs.Prelude.{◌≡◌, Some, [], ◌∷◌};
 ghost use Rattle.lua_heap.specs.Heap.{cel};
 
 use crate::{
-    Content, builtin, closed_sets, equality, examples, framing, graphs, library, moves, objects,
-    reach, standing, whole,
+    Content, Library, closed_sets, equality, examples, framing, graphs, moves, objects, reach,
+    standing, whole,
 };
 use std::test::Fail;
 
@@ -21,24 +21,6 @@ fn laws_of_equality_are_called(_rt: HostRuntime) -> Result<(), Fail> {
     equality::nil_decides();
     equality::border_is_least();
     equality::border_is_only();
-    Ok(())
-}
-
-#[test]
-fn laws_of_library_are_called(_rt: HostRuntime) -> Result<(), Fail> {
-    library::numbers_read_back();
-    library::numbers_differ();
-    library::basic_numbers();
-    library::string_numbers();
-    library::table_numbers();
-    library::math_numbers();
-    library::mw_numbers();
-    library::ustring_numbers();
-    library::text_numbers();
-    library::html_numbers();
-    library::frame_numbers();
-    library::handler_numbers();
-    library::step_numbers();
     Ok(())
 }
 
@@ -107,6 +89,7 @@ fn laws_of_reach_are_called(_rt: HostRuntime) -> Result<(), Fail> {
     reach::reached_is_led::<u64>();
     reach::own_led_is_owned::<u64>();
     reach::owned_is_led::<u64>();
+    reach::own_is_a_set::<u64>();
     reach::owned_is_reached::<u64>();
     reach::owned_is_not_shared::<u64>();
     reach::reached_is_owned::<u64>();
@@ -172,9 +155,8 @@ fn laws_of_examples_are_called(_rt: HostRuntime) -> Result<(), Fail> {
 }
 
 #[test]
-fn first_and_last_number(rt: HostRuntime) -> Result<(), Fail> {
-    assert!(rt; builtin::BASIC_ASSERT == 0);
-    assert!(rt; builtin::STRING_BYTE == builtin::BASIC_REQUIRE + 1);
-    assert!(rt; builtin::GSPLIT_STEP == 100);
+fn functions_of_the_library_differ(rt: HostRuntime) -> Result<(), Fail> {
+    assert!(rt; Library::BasicAssert == Library::BasicAssert);
+    assert!(rt; Library::BasicAssert != Library::GsplitStep);
     Ok(())
 }

@@ -5,6 +5,7 @@ use Rattle.std.specs.Prelude.{ℕ, ℤ, Bool, true, false, List, [], ◌∷◌}
 use Rattle.lua_syntax.specs.Tree.{Exp, Block}
 use Rattle.page_run.specs.Run.{Run}
 use Rattle.page_run.specs.Outcome.{Outcome, Act as ActOf, ◌>>=◌, ◌>>◌, give, jump, tick, count, see, change}
+use Rattle.lua_heap.specs.declared.library.Library.{Library}
 use Rattle.lua_heap.specs.Value.{Value, Closure as ClosureValue}
 use Rattle.lua_heap.specs.Heap.{Heap, Function as FunctionClosed, cell_at, set_cell_in, new_table, new_cell, new_closure}
 use Rattle.lua_meaning.specs.Scope.{Bytes, Scope, Function, Levels, with_name}
@@ -57,7 +58,7 @@ pub data Thing : Type 0 where
   EachTurn : (names : List Bytes) (iterator state : Value) (results : List Value) (body : Block) (line : ℕ) (scope : Scope) → Thing
   -- a function of Lua is entered, or one of the library (manual 2.5.8)
   Body : (function : Function) (arguments : List Value) (callers : Levels) → Thing
-  LibraryBody : (which : ℕ) (arguments : List Value) (callers : Levels) → Thing
+  LibraryBody : (which : Library) (arguments : List Value) (callers : Levels) → Thing
   -- the text of a module is entered (manual 2.4.1)
   ChunkBody : (source : Bytes) (body : Block) → Thing
   -- from an object to its handler for an index, an assignment to an index or a call (manual 2.8)

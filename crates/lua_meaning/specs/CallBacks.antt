@@ -8,7 +8,7 @@ use Rattle.lua_number.specs.Whole.{fits}
 use Rattle.lua_heap.specs.Value.{Value, Nil, Truth, Number, Text, Table, Builtin, is_nil}
 use Rattle.lua_heap.specs.Table.{get}
 use Rattle.lua_heap.specs.Heap.{table_at}
-use Rattle.lua_heap.specs.Library.{BasicNext, IpairsStep, number_of}
+use Rattle.lua_heap.specs.declared.library.Library.TheVariants.{BasicNext, IpairsStep}
 use Rattle.lua_meaning.specs.Scope.{Bytes, Levels}
 use Rattle.lua_meaning.specs.Values.{kind_of, first, rest, second, third, text_in}
 use Rattle.lua_meaning.specs.Acts.{Act, Jump, Raised, choose, see_heap}
@@ -74,7 +74,7 @@ three_of vs = give (first vs ∷ second vs ∷ third vs ∷ [])
 abbrev pub pairs_by : Value → List Value → Levels → Act (List Value)
 pairs_by h args callers = choose (is_nil h) (do
   t ← argument callers (a_table 1 (codes "pairs") args)
-  give (Builtin (number_of BasicNext) ∷ Table t ∷ Nil ∷ [])) (calling h (first args ∷ []) (for_values three_of))
+  give (Builtin BasicNext ∷ Table t ∷ Nil ∷ [])) (calling h (first args ∷ []) (for_values three_of))
 
 abbrev pub pairs : List Value → Levels → Act (List Value)
 pairs args callers = do
@@ -84,7 +84,7 @@ pairs args callers = do
 abbrev pub ipairs_by : Value → List Value → Levels → Act (List Value)
 ipairs_by h args callers = choose (is_nil h) (do
   t ← argument callers (a_table 1 (codes "ipairs") args)
-  give (Builtin (number_of IpairsStep) ∷ Table t ∷ Number (pos 0) ∷ [])) (calling h (first args ∷ []) (for_values three_of))
+  give (Builtin IpairsStep ∷ Table t ∷ Number (pos 0) ∷ [])) (calling h (first args ∷ []) (for_values three_of))
 
 abbrev pub ipairs : List Value → Levels → Act (List Value)
 ipairs args callers = do

@@ -9,7 +9,7 @@ use Rattle.wk_base.specs.Titles.{title_text, title_of}
 use Rattle.lua_heap.specs.Value.{Value, Nil, Truth, Number, Text, Table, is_nil}
 use Rattle.lua_heap.specs.Table.{Entries}
 use Rattle.lua_heap.specs.Heap.{Heap, table_at}
-use Rattle.lua_heap.specs.Library.{ArgumentExpand}
+use Rattle.lua_heap.specs.declared.library.Library.TheVariants.{ArgumentExpand}
 use Rattle.lua_meaning.specs.Scope.{Bytes}
 use Rattle.lua_meaning.specs.Questions.{Arg, Scene, Ask, Template, Preprocess, Asked, TemplateAsked, TextAsked}
 use Rattle.lua_meaning.specs.Values.{first, rest, second, text_in}

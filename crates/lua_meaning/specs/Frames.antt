@@ -5,7 +5,8 @@ use Rattle.std.specs.Str.Parse.{digits_value}
 use Rattle.lua_heap.specs.Value.{Value, Nil, Truth, Number, Text, Table, Builtin}
 use Rattle.lua_heap.specs.Table.{Entries, get, set}
 use Rattle.lua_heap.specs.Heap.{Heap, TableObj, add, table_at}
-use Rattle.lua_heap.specs.Library.{Library, ArgsIndex, FrameGetParent, FrameExpandTemplate, FramePreprocess, FrameGetArgument, FrameArgumentPairs, FrameNewChild, FrameGetTitle, FrameExtensionTag, number_of}
+use Rattle.lua_heap.specs.declared.library.Library.{Library}
+use Rattle.lua_heap.specs.declared.library.Library.TheVariants.{ArgsIndex, FrameGetParent, FrameExpandTemplate, FramePreprocess, FrameGetArgument, FrameArgumentPairs, FrameNewChild, FrameGetTitle, FrameExtensionTag}
 use Rattle.lua_meaning.specs.Scope.{Bytes}
 use Rattle.lua_meaning.specs.Questions.{Arg, Scene}
 use Rattle.lua_meaning.specs.Values.{second}
@@ -64,7 +65,7 @@ argument_expand args h = with_argument h (a_table 1 (codes "expand") args) (λ t
 -- THE FOUR TABLES OF A FRAME, where so many tables are there already: its arguments and their metatable, the frame and its metatable,
 -- which has the frame's number
 abbrev pub function_entry : Bytes → Library → Value × Value
-function_entry name f = (Text name, Builtin (number_of f))
+function_entry name f = (Text name, Builtin f)
 
 abbrev pub args_meta : Entries
 args_meta = (Text (codes "__metatable"), Truth false) ∷ function_entry (codes "__index") ArgsIndex ∷ []

@@ -3,7 +3,8 @@ use Rattle.std.specs.Prelude.{List, [], ◌∷◌, Option, Some, None}
 use Rattle.page_run.specs.Outcome.{◌>>=◌, ◌>>◌, tick, see, change}
 use Rattle.lua_heap.specs.Value.{Value}
 use Rattle.lua_heap.specs.Heap.{Heap}
-use Rattle.lua_heap.specs.Library.{Library, BasicAssert, BasicError, BasicGetMetatable, BasicSetMetatable, BasicIpairs, BasicPairs, BasicNext, BasicPcall, BasicXpcall, BasicRawEqual, BasicRawGet, BasicRawSet, BasicSelect, BasicToNumber, BasicToString, BasicType, BasicUnpack, BasicRequire, StringByte, StringChar, StringFind, StringMatch, StringGmatch, StringGsub, StringFormat, StringLen, StringLower, StringUpper, StringRep, StringReverse, StringSub, TableConcat, TableInsert, TableMaxn, TableRemove, TableSort, MathAbs, MathCeil, MathFloor, MathFmod, MathMax, MathMin, MathPow, MwClone, MwLog, MwGetCurrentTitle, MwLoadData, MwGetCurrentFrame, UstringChar, UstringCodepoint, UstringGcodepoint, UstringByteOffset, UstringFind, UstringMatch, UstringGmatch, UstringGsub, UstringLen, UstringSub, UstringIsUtf8, UstringToNfc, UstringToNfd, UstringToNfkc, UstringToNfkd, TextTrim, TextSplit, TextGsplit, TextEncode, TextDecode, TextListToText, TextNowiki, TextTag, TextTruncate, HtmlCreate, HtmlNode, HtmlWikitext, HtmlNewline, HtmlAttr, HtmlAddClass, HtmlCss, HtmlCssText, HtmlTag, HtmlDone, HtmlAllDone, HtmlGetAttr, FrameGetParent, FrameExpandTemplate, FramePreprocess, FrameGetArgument, FrameArgumentPairs, FrameNewChild, FrameGetTitle, FrameExtensionTag, ArgsIndex, ArgumentExpand, StrictIndex, StrictNewIndex, IpairsStep, GmatchStep, UstringGmatchStep, GcodepointStep, GsplitStep}
+use Rattle.lua_heap.specs.declared.library.Library.{Library}
+use Rattle.lua_heap.specs.declared.library.Library.TheVariants.{BasicAssert, BasicError, BasicGetMetatable, BasicSetMetatable, BasicIpairs, BasicPairs, BasicNext, BasicPcall, BasicXpcall, BasicRawEqual, BasicRawGet, BasicRawSet, BasicSelect, BasicToNumber, BasicToString, BasicType, BasicUnpack, BasicRequire, StringByte, StringChar, StringFind, StringMatch, StringGmatch, StringGsub, StringFormat, StringLen, StringLower, StringUpper, StringRep, StringReverse, StringSub, TableConcat, TableInsert, TableMaxn, TableRemove, TableSort, MathAbs, MathCeil, MathFloor, MathFmod, MathMax, MathMin, MathPow, MwClone, MwLog, MwGetCurrentTitle, MwLoadData, MwGetCurrentFrame, UstringChar, UstringCodepoint, UstringGcodepoint, UstringByteOffset, UstringFind, UstringMatch, UstringGmatch, UstringGsub, UstringLen, UstringSub, UstringIsUtf8, UstringToNfc, UstringToNfd, UstringToNfkc, UstringToNfkd, TextTrim, TextSplit, TextGsplit, TextEncode, TextDecode, TextListToText, TextNowiki, TextTag, TextTruncate, HtmlCreate, HtmlNode, HtmlWikitext, HtmlNewline, HtmlAttr, HtmlAddClass, HtmlCss, HtmlCssText, HtmlTag, HtmlDone, HtmlAllDone, HtmlGetAttr, FrameGetParent, FrameExpandTemplate, FramePreprocess, FrameGetArgument, FrameArgumentPairs, FrameNewChild, FrameGetTitle, FrameExtensionTag, ArgsIndex, ArgumentExpand, StrictIndex, StrictNewIndex, IpairsStep, GmatchStep, UstringGmatchStep, GcodepointStep, GsplitStep}
 use Rattle.lua_meaning.specs.World.{World}
 use Rattle.lua_meaning.specs.Scope.{Function, Levels}
 use Rattle.lua_meaning.specs.Acts.{Act, Frame}
@@ -172,7 +173,3 @@ abbrev pub library : World → Library → List Value → Levels → Act (List V
 library world which args callers = do
   s ← see
   do_form world (form world which args s.heap s.frames) args callers
-
-abbrev pub library_of : World → Option Library → List Value → Levels → Act (List Value)
-library_of world (Some which) args callers = library world which args callers
-library_of world None args callers = fail callers not_built

@@ -10,7 +10,7 @@ use Rattle.page_run.specs.Outcome.{Outcome, Goes, Jumps, ◌>>=◌, ◌>>◌, gi
 use Rattle.lua_heap.specs.Value.{Value, Nil, Truth, Text, Table, is_nil}
 use Rattle.lua_heap.specs.Table.{Entries}
 use Rattle.lua_heap.specs.Heap.{Heap, set_meta_in}
-use Rattle.lua_heap.specs.Library.{StrictIndex, StrictNewIndex}
+use Rattle.lua_heap.specs.declared.library.Library.TheVariants.{StrictIndex, StrictNewIndex}
 use Rattle.lua_meaning.specs.Scope.{Bytes, Levels}
 use Rattle.lua_meaning.specs.World.{Module, World}
 use Rattle.lua_meaning.specs.Titled.{ByTitle, item_of, with_item, without_item}

@@ -3,7 +3,6 @@ use Rattle.std.specs.Prelude.{ℕ, List, [], length, drop, if◌then◌else◌}
 use Rattle.page_run.specs.Outcome.{Outcome, Goes, Jumps, ◌>>=◌, ◌>>◌, give, jump, catch, count, in_call}
 use Rattle.lua_syntax.specs.Tree.{Block}
 use Rattle.lua_heap.specs.Value.{Value}
-use Rattle.lua_heap.specs.Library.{library_at}
 use Rattle.lua_meaning.specs.World.{World}
 use Rattle.lua_meaning.specs.Scope.{Bytes, Scope, Function, Levels}
 use Rattle.lua_meaning.specs.Acts.{Act, Jump, Returned, Thing, WhileTurn, RepeatTurn, CountTurn, EachTurn, Body, LibraryBody, ChunkBody, IndexLink, SetLink, CallLink, declare}
@@ -11,7 +10,8 @@ use Rattle.lua_meaning.specs.Calls.{call}
 use Rattle.lua_meaning.specs.Index.{index_link, set_link}
 use Rattle.lua_meaning.specs.Loops.{while_turn, repeat_turn, count_turn, each_turn}
 use Rattle.lua_meaning.specs.Meaning.{params_of, has_dots, body_of, block, exp_part, block_part}
-use Rattle.lua_meaning.specs.Libraries.{library_of}
+use Rattle.lua_heap.specs.declared.library.Library.{Library}
+use Rattle.lua_meaning.specs.Libraries.{library}
 
 -- FUNCTIONS (manual 2.5.9). The arguments beyond the parameters are the values of `...`, if the function has it.
 abbrev pub dots_of : Function → List Value → List Value
@@ -32,10 +32,10 @@ enter_function f args callers = in_call (do
   scope ← declare (params_of f.node) args (body_scope f args callers)
   catch (body_of f.node scope) after_body)
 
-abbrev pub enter_library : World → ℕ → List Value → Levels → Act (List Value)
+abbrev pub enter_library : World → Library → List Value → Levels → Act (List Value)
 enter_library world which args callers = in_call (do
   count
-  library_of world (library_at which) args callers)
+  library world which args callers)
 
 -- the text of a module is a function without parameters (2.4.1)
 abbrev pub chunk_scope : Bytes → Scope

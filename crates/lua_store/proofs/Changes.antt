@@ -25,7 +25,8 @@ use Rattle.lua_store.specs.contracts.value.ValuePartialEq.TheImpl.{ghosts}
 use Rattle.lua_store.specs.declared.closure.Closure.{Closure}
 use Rattle.lua_store.specs.declared.markup.MarkupNode.{MarkupNode}
 use Rattle.lua_store.specs.Envs.{envs_of}
-use Rattle.lua_store.specs.Seen.{Proc, Held, text_at, seen, seen_table, seen_closure, seen_node}
+use Rattle.lua_heap.specs.Proc.{Proc}
+use Rattle.lua_store.specs.Seen.{Held, text_at, seen, seen_table, seen_closure, seen_node}
 use Rattle.lua_store.specs.Parts.{Parts, held, IsTableOf, IsCellOf, IsClosureOf, IsMarkupOf, IsOf, IsContentsOf, IsContentOf, IsNodeOf, AreOf, IsWhole, no_contents, table_in, with_entry, with_text, IsLater}
 use Rattle.lua_store.proofs.Lists.{all-at, all-set, all-push, map-alike}
 use Rattle.lua_store.proofs.EntryMaps.{set_at-seen, set_at-holds, is_there-seen}

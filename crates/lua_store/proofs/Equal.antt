@@ -7,6 +7,8 @@ use Rattle.std.proofs.lemmas.Bool.Decides.{Decides-int_eq, Decides-eqb}
 use Rattle.lua_heap.specs.Value.{same}
 use Rattle.lua_heap.proofs.Values.{same-alike, same-true, both_ways}
 use Rattle.lua_store.specs.declared.value.Value.{Value}
+use denote.Enum.Bare.{true_same}
+use Rattle.lua_heap.specs.contracts.library.Library.{the_type}
 use Rattle.lua_store.specs.declared.value.Value.TheVariants.{Nil, Bool as Truth, Number, Text, Table, Closure, Builtin, Markup}
 use Rattle.lua_store.specs.contracts.value.ValuePartialEq.TheImpl.{ghosts}
 use Rattle.lua_store.specs.ValueLaws.{same_value}
@@ -42,7 +44,7 @@ same_value-alike (Number n) = (Decides-int_eq n n).1 refl
 same_value-alike (Text id) = (Decides-eqb id.at id.at).1 refl
 same_value-alike (Table id) = (Decides-eqb id.at id.at).1 refl
 same_value-alike (Closure id) = (Decides-eqb id.at id.at).1 refl
-same_value-alike (Builtin id) = (Decides-eqb id id).1 refl
+same_value-alike (Builtin id) = true_same the_type id id refl
 same_value-alike (Markup id) = (Decides-eqb id.at id.at).1 refl
 
 pub eq-seen : (s : Held) → IsDistinct bytes_eq s.texts → (a b : Value) → IsOf s a → IsOf s b → ghosts.eq a b ≡ same (seen s.texts a) (seen s.texts b)

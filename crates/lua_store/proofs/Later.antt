@@ -6,12 +6,15 @@ use Rattle.lua_table.specs.Entries.{Contents}
 use Rattle.lua_heap.specs.Value as heap
 use Rattle.lua_heap.specs.Value.{Value as HeapValue}
 use Rattle.lua_heap.specs.Heap as objects
+use Rattle.lua_heap.specs.Proc.{Proc}
 use Rattle.std.specs.Option.{option_map}
 use Rattle.lua_store.specs.declared.ids.TextId.{TextId}
 use Rattle.lua_store.specs.declared.ids.MarkupId.{MarkupId}
 use Rattle.lua_store.specs.declared.value.Value.{Value}
 use Rattle.lua_store.specs.declared.value.Value.TheVariants.{Nil, Bool as Truth, Number, Text, Table, Closure as ClosureValue, Builtin, Markup}
 use Rattle.lua_store.specs.declared.closure.Closure.{Closure}
+use Rattle.lua_store.specs.declared.closure.ClosureKind.{ClosureKind}
+use Rattle.lua_store.specs.declared.closure.ClosureKind.TheVariants.{Function, Iterator}
 use Rattle.lua_store.specs.declared.markup.TextPair.{TextPair}
 use Rattle.lua_store.specs.declared.markup.MarkupStyle.{MarkupStyle}
 use Rattle.lua_store.specs.declared.markup.MarkupStyle.TheVariants.{Item, Text as StyleText}
@@ -19,7 +22,7 @@ use Rattle.lua_store.specs.declared.markup.MarkupChild.{MarkupChild}
 use Rattle.lua_store.specs.declared.markup.MarkupChild.TheVariants.{Text as ChildText, Node as ChildNode}
 use Rattle.lua_store.specs.declared.markup.MarkupNode.{MarkupNode}
 use Rattle.lua_store.specs.Seen.{Held, text_at, seen, seen_entry, seen_table, seen_closure, places_of, closed_of, seen_pair, seen_style, seen_child, seen_node}
-use Rattle.lua_store.specs.Parts.{Parts, IsOf, IsTextOf, IsCellOf, IsEntryOf, IsContentsOf, IsContentOf, IsPairOf, IsStyleOf, IsChildOf, IsParentOf, IsNodeOf, AreOf, IsLonger, IsLater}
+use Rattle.lua_store.specs.Parts.{Parts, IsOf, IsTextOf, IsCellOf, IsEntryOf, IsContentsOf, IsKindOf, IsContentOf, IsPairOf, IsStyleOf, IsChildOf, IsParentOf, IsNodeOf, AreOf, IsLonger, IsLater}
 use Rattle.lua_store.proofs.Lists.{all-to, map-alike}
 
 -- IsLonger and IsLater go from any store to itself, and compose
@@ -73,8 +76,12 @@ module _ (s t : Held) (l : IsLater s t) where
   pub contents_of-later : (c : Contents Value) → IsContentsOf s c → IsContentsOf t c
   contents_of-later c h = record { entries = all-to (IsEntryOf s) (IsEntryOf t) entry_of-later c.entries h.entries; meta = of-later c.meta h.meta }
 
+  kind_of-later : (k : ClosureKind) → IsKindOf s k → IsKindOf t k
+  kind_of-later (Function p) h = text_of-later p.title h
+  kind_of-later (Iterator step) h = tt
+
   pub content_of-later : (c : Closure) → IsContentOf s c → IsContentOf t c
-  content_of-later c h = record { title = text_of-later c.proto.title h.title; cells = all-to (IsCellOf s) (IsCellOf t) (λ id k. omega (arith, k, l.cells)) c.cells h.cells }
+  content_of-later c h = record { kind = kind_of-later c.kind h.kind; cells = all-to (IsCellOf s) (IsCellOf t) (λ id k. omega (arith, k, l.cells)) c.cells h.cells }
 
   pair_of-later : (p : TextPair) → IsPairOf s p → IsPairOf t p
   pair_of-later p h = (text_of-later p.name h.0, text_of-later p.value h.1)
@@ -133,7 +140,11 @@ module _ (s t : Held) (l : IsLater s t) where
       ∙ ap (λ v. let x : Contents HeapValue = record { entries = map (seen_entry s.texts) c.entries; meta = v; frozen = c.frozen } in x) (seen-later c.meta h.meta)
 
   pub closure-later : (c : Closure) → IsContentOf s c → seen_closure t.texts c ≡ seen_closure s.texts c
-  closure-later c h = ap (λ title. closed_of title c.proto.index (places_of c.cells)) (text-later c.proto.title h.title)
+  closure-later c h = by c.kind h.kind
+    where
+      by : (k : ClosureKind) → IsKindOf s k → closed_of t.texts k (places_of c.cells) ≡ closed_of s.texts k (places_of c.cells)
+      by (Function p) h = ap (λ title. objects.Function (let x : Proc = record { title = title; index = p.index; cells = places_of c.cells } in x)) (text-later p.title h)
+      by (Iterator step) h = refl
 
   pair-later : (p : TextPair) → IsPairOf s p → seen_pair t.texts p ≡ seen_pair s.texts p
   pair-later p h = ap (λ (k : List ℕ). let x : List ℕ × List ℕ = (k, text_at t.texts p.value.at) in x) (text-later p.name h.0)

@@ -13,9 +13,12 @@ use Rattle.lua_store.specs.declared.closure.Closure.{Closure}
 use Rattle.lua_store.specs.declared.markup.MarkupChild.{MarkupChild}
 use Rattle.lua_store.specs.declared.markup.MarkupChild.TheVariants.{Text as ChildText, Node as ChildNode}
 use Rattle.lua_store.specs.declared.markup.MarkupNode.{MarkupNode}
-use Rattle.lua_store.specs.Seen.{Held, Proc, seen, seen_entry, seen_table, seen_closure, closed_of, places_of, text_at, seen_child, seen_node}
+use Rattle.lua_store.specs.Seen.{Held, seen, seen_entry, seen_table, seen_closure, closed_of, places_of, text_at, seen_child, seen_node}
 use Rattle.lua_store.specs.Parts.{Parts, held, IsOf, IsCellOf, IsEntryOf, IsContentsOf, IsContentOf, IsChildOf, IsParentOf, IsNodeOf, IsWhole}
-use Rattle.lua_store.specs.Laws.{proc_names, NamesWhatIsThere}
+use Rattle.lua_heap.specs.Proc.{Proc, proc_names}
+use Rattle.lua_store.specs.declared.closure.ClosureKind.{ClosureKind}
+use Rattle.lua_store.specs.declared.closure.ClosureKind.TheVariants.{Function, Iterator}
+use Rattle.lua_store.specs.Laws.{NamesWhatIsThere}
 use Rattle.lua_store.proofs.Lists.{all-get}
 
 both : (S : Set) (xs ys : List Ref) → AllIn S xs → AllIn S ys → AllIn S (xs ++ ys)
@@ -61,11 +64,11 @@ module _ (s : Held) where
   cells-there (c ∷ cells) h = (there CellObj s.heap.cells c.at h.0, cells-there cells h.1)
 
   closure-there : (c : Closure) → IsContentOf s c → AllIn (is_there s.heap) (closed_names proc_names (seen_closure s.texts c))
-  closure-there c h = by (text_at s.texts c.proto.title.at)
+  closure-there c h = by c.kind
     where
-      by : (title : List ℕ) → AllIn (is_there s.heap) (closed_names proc_names (closed_of title c.proto.index (places_of c.cells)))
-      by [] = cells-there c.cells h.cells
-      by (b ∷ bs) = cells-there c.cells h.cells
+      by : (kind : ClosureKind) → AllIn (is_there s.heap) (closed_names proc_names (closed_of s.texts kind (places_of c.cells)))
+      by (Function p) = cells-there c.cells h.cells
+      by (Iterator step) = cells-there c.cells h.cells
 
   children-there : (cs : List MarkupChild) → AllByRecursion (IsChildOf s) cs → AllIn (is_there s.heap) (flat_map child_names (map (seen_child s.texts) cs))
   children-there [] h = tt

@@ -1,14 +1,14 @@
 -- LAWS OF STORES. What is of a store is of each later one, and is seen as it was.
-use Rattle.std.specs.Prelude.{◌≡◌, List, map}
+use Rattle.std.specs.Prelude.{◌≡◌, List}
 use Rattle.std.specs.List.{IsDistinct}
 use Rattle.std.specs.Str.{bytes_eq}
 use Rattle.lua_table.specs.Entries.{Contents}
-use Rattle.lua_heap.specs.Heap.{Ref, cel}
+use Rattle.lua_heap.specs.Proc.{proc_names}
 use Rattle.lua_heap.specs.Reach.{is_there, IsClosed}
 use Rattle.lua_store.specs.declared.value.Value.{Value}
 use Rattle.lua_store.specs.declared.closure.Closure.{Closure}
 use Rattle.lua_store.specs.declared.markup.MarkupNode.{MarkupNode}
-use Rattle.lua_store.specs.Seen.{Held, Proc, seen, seen_table, seen_closure, seen_node}
+use Rattle.lua_store.specs.Seen.{Held, seen, seen_table, seen_closure, seen_node}
 use Rattle.lua_store.specs.Parts.{IsOf, IsContentsOf, IsContentOf, IsNodeOf, IsLater}
 
 abbrev pub ValuesStay : Type 0
@@ -29,10 +29,6 @@ LaterGoesOn = (s t u : Held) → IsLater s t → IsLater t u → IsLater s u
 -- where no text is kept twice, two values that are seen alike are one
 abbrev pub SeenOnce : Type 0
 SeenOnce = (s : Held) (a b : Value) → IsDistinct bytes_eq s.texts → IsOf s a → IsOf s b → seen s.texts a ≡ seen s.texts b → a ≡ b
-
--- the objects that a function names: the cells that it shares
-abbrev pub proc_names : Proc → List Ref
-proc_names f = map cel f.cells
 
 -- whatever an object of the store names is there
 abbrev pub NamesWhatIsThere : Held → Type 0

@@ -13,6 +13,8 @@ use Rattle.lua_store.specs.declared.value.Value.{Value}
 use Rattle.lua_store.specs.declared.value.Value.TheVariants.{Nil, Bool as Truth, Number, Text, Table, Closure as ClosureValue, Builtin, Markup}
 use Rattle.lua_store.specs.contracts.value.ValuePartialEq.TheImpl.{ghosts}
 use Rattle.lua_store.specs.declared.closure.Closure.{Closure}
+use Rattle.lua_store.specs.declared.closure.ClosureKind.{ClosureKind}
+use Rattle.lua_store.specs.declared.closure.ClosureKind.TheVariants.{Function, Iterator}
 use Rattle.lua_store.specs.declared.markup.TextPair.{TextPair}
 use Rattle.lua_store.specs.declared.markup.MarkupStyle.{MarkupStyle}
 use Rattle.lua_store.specs.declared.markup.MarkupStyle.TheVariants.{Item, Text as StyleText}
@@ -78,8 +80,12 @@ pub record IsContentsOf (s : Held) (t : Contents Value) : Type 0 where
 abbrev pub AreCellsOf : Held → List CellId → Type 0
 AreCellsOf s cells = AllByRecursion (IsCellOf s) cells
 
+abbrev pub IsKindOf : Held → ClosureKind → Type 0
+IsKindOf s (Function p) = IsTextOf s p.title
+IsKindOf s (Iterator step) = Unit {0}
+
 pub record IsContentOf (s : Held) (c : Closure) : Type 0 where
-  pub title : IsTextOf s c.proto.title
+  pub kind : IsKindOf s c.kind
   pub cells : AreCellsOf s c.cells
 
 abbrev pub IsPairOf : Held → TextPair → Type 0

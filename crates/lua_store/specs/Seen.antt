@@ -10,7 +10,10 @@ use Rattle.lua_heap.specs.Table.{ValueStop}
 use Rattle.lua_heap.specs.Heap.{Closed, Function, Iterator, Heap, MarkupNode, MarkupStyle, Item, StyleText, MarkupChild, ChildText, ChildNode}
 use Rattle.lua_store.specs.declared.value.Value.{Value as Stored}
 use Rattle.lua_store.specs.declared.value.Value.TheVariants.{Nil as StoredNil, Bool as StoredBool, Number as StoredNumber, Text as StoredText, Table as StoredTable, Closure as StoredClosure, Builtin as StoredBuiltin, Markup as StoredMarkup}
+use Rattle.lua_heap.specs.Proc.{Proc}
 use Rattle.lua_store.specs.declared.closure.Closure.{Closure}
+use Rattle.lua_store.specs.declared.closure.ClosureKind.{ClosureKind}
+use Rattle.lua_store.specs.declared.closure.ClosureKind.TheVariants.{Function as StoredFunction, Iterator as StoredIterator}
 use Rattle.lua_store.specs.declared.ids.CellId.{CellId}
 use Rattle.lua_store.specs.declared.markup.TextPair.{TextPair}
 use Rattle.lua_store.specs.declared.markup.MarkupStyle.{MarkupStyle as StoredStyle}
@@ -18,12 +21,6 @@ use Rattle.lua_store.specs.declared.markup.MarkupStyle.TheVariants.{Item as Stor
 use Rattle.lua_store.specs.declared.markup.MarkupChild.{MarkupChild as StoredChild}
 use Rattle.lua_store.specs.declared.markup.MarkupChild.TheVariants.{Text as StoredChildText, Node as StoredChildNode}
 use Rattle.lua_store.specs.declared.markup.MarkupNode.{MarkupNode as StoredNode}
-
--- what a closure holds that is a function of Lua: which function it is, and the cells of the variables that it shares
-pub record Proc : Type 0 where
-  pub title : List ℕ
-  pub index : ℕ
-  pub cells : List ℕ
 
 -- a store: the texts in the order in which they were made, the objects, and for each closure the number of its invocation
 pub record Held : Type 0 where
@@ -55,13 +52,13 @@ seen_table texts t = record { entries = map (seen_entry texts) t.entries; meta =
 abbrev pub places_of : List CellId → List ℕ
 places_of = map (λ id. id.at)
 
--- where the title is the empty text, the closure is an iterator
-abbrev pub closed_of : List ℕ → ℕ → List ℕ → Closed Proc
-closed_of [] index cells = Iterator index cells
-closed_of (b ∷ bs) index cells = Function (record { title = b ∷ bs; index = index; cells = cells })
+-- a function of Lua, or an iterator, with its cells
+abbrev pub closed_of : List (List ℕ) → ClosureKind → List ℕ → Closed Proc
+closed_of texts (StoredFunction p) cells = Function (record { title = text_at texts p.title.at; index = p.index; cells = cells })
+closed_of texts (StoredIterator step) cells = Iterator step cells
 
 abbrev pub seen_closure : List (List ℕ) → Closure → Closed Proc
-seen_closure texts c = closed_of (text_at texts c.proto.title.at) c.proto.index (places_of c.cells)
+seen_closure texts c = closed_of texts c.kind (places_of c.cells)
 
 abbrev pub seen_pair : List (List ℕ) → TextPair → List ℕ × List ℕ
 seen_pair texts p = (text_at texts p.name.at, text_at texts p.value.at)

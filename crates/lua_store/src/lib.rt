@@ -24,9 +24,9 @@ mod texts;
 pub mod value;
 mod vectors;
 
-pub use closure::{Closure, ProtoId};
+pub use closure::{Closure, ClosureKind, ProtoId};
 pub use ids::{CellId, ClosureId, MarkupId, TableId, TextId};
-pub use lua_heap::builtin;
+pub use lua_heap::Library;
 pub use lua_table::{NoSuchKey, SetFault, Step, Table};
 pub use markup::{MarkupChild, MarkupNode, MarkupStyle, TextPair};
 pub use store::Store;

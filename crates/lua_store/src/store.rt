@@ -6,9 +6,9 @@ ghost use Rattle.lua_heap.specs.Value.{same};
 ghost use Rattle.lua_store.specs.declared.ids.TextId.{TextId};
 ghost use Rattle.lua_store.specs.Envs.{is_among};
 ghost use Rattle.lua_store.specs.Seen.{text_at, seen, places_of, closed_of, seen_closure, seen_node};
-ghost use Rattle.lua_store.specs.Parts.{nothing, with_text, IsTextOf, IsCellOf, IsClosureOf, IsMarkupOf, IsOf, AreCellsOf, IsContentOf, IsNodeOf, IsLater};
+ghost use Rattle.lua_store.specs.Parts.{nothing, with_text, IsTextOf, IsCellOf, IsClosureOf, IsMarkupOf, IsOf, AreCellsOf, IsKindOf, IsContentOf, IsNodeOf, IsLater};
 
-use crate::closure::{Closure, ProtoId};
+use crate::closure::{Closure, ClosureKind};
 use crate::closures::Closures;
 use crate::ids::{CellId, ClosureId, MarkupId, TextId};
 use crate::markup::MarkupNode;
@@ -122,26 +122,26 @@ impl<'b> Store<'b> {
         self.cells[at] = value;
     }
 
-    /// A new closure, or a new iterator where the title is the empty text, made in the invocation with that number.
+    /// A new closure, made in the invocation with that number.
     pub fn new_closure(
         &mut self,
-        proto: ProtoId,
+        kind: ClosureKind,
         env: u32,
         cells: List<CellId>,
     ) -> Result<ClosureId, NoMemory>
-        requires title { IsTextOf self.old proto.title }
+        requires kind { IsKindOf self.old kind }
         requires cells { AreCellsOf self.old cells }
         ensures of { IfOk result (IsClosureOf self.new) }
-        ensures id { IfOk result (λ id. id.at ≡ (heap.new_closure self.old.heap (closed_of (text_at self.old.texts proto.title.at) proto.index (places_of cells))).1) }
+        ensures id { IfOk result (λ id. id.at ≡ (heap.new_closure self.old.heap (closed_of self.old.texts kind (places_of cells))).1) }
         ensures made { OnOk result (self.new ≡ record {
           texts = self.old.texts;
-          heap = (heap.new_closure self.old.heap (closed_of (text_at self.old.texts proto.title.at) proto.index (places_of cells))).0;
+          heap = (heap.new_closure self.old.heap (closed_of self.old.texts kind (places_of cells))).0;
           envs = self.old.envs ++ env ∷ [];
         }) }
         ensures later { IsLater self.old self.new }
         ensures err { OnErr result (self.new ≡ self.old) }
     {
-        let closure = Closure { proto, env, cells };
+        let closure = Closure { kind, env, cells };
         Ok(ClosureId::of_place(self.closures.push(closure)?))
     }
 

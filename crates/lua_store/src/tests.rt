@@ -1,4 +1,6 @@
-use crate::{MarkupNode, ProtoId, SetFault, Store, TableId, TextId, Value, builtin, laws};
+use crate::{
+    ClosureKind, Library, MarkupNode, ProtoId, SetFault, Store, TableId, TextId, Value, laws,
+};
 use bumpalo::Bump;
 use std::alloc::Global;
 use std::process::Abort;
@@ -81,8 +83,8 @@ fn keep_in_cell(rt: &impl Abort, store: &mut Store) -> Result<(), NoMemory> {
     let cell = store.new_cell(Value::Number(1))?;
     let other = store.new_cell(Value::Nil)?;
     assert!(rt; store.cell(cell) == Value::Number(1));
-    store.set_cell(cell, Value::Builtin(builtin::BASIC_NEXT));
-    assert!(rt; store.cell(cell) == Value::Builtin(6));
+    store.set_cell(cell, Value::Builtin(Library::BasicNext));
+    assert!(rt; store.cell(cell) == Value::Builtin(Library::BasicNext));
     assert!(rt; store.cell(other) == Value::Nil);
     Ok(())
 }
@@ -91,12 +93,14 @@ fn keep_in_cell(rt: &impl Abort, store: &mut Store) -> Result<(), NoMemory> {
 fn make_closures(rt: &impl Abort, store: &mut Store, alloc: Global) -> Result<(), NoMemory> {
     let title = store.text(b"Module:A")?;
     assert!(rt; !store.has_env(7));
-    let proto = ProtoId { title, index: 3 };
-    let first = store.new_closure(proto, 7, List::new(alloc))?;
-    let second = store.new_closure(proto, 9, List::new(alloc))?;
+    let function = ClosureKind::Function(ProtoId { title, index: 3 });
+    let iterator = ClosureKind::Iterator(Library::GmatchStep);
+    let first = store.new_closure(function, 7, List::new(alloc))?;
+    let second = store.new_closure(iterator, 9, List::new(alloc))?;
     assert!(rt; first != second);
     assert!(rt; store.closure(first).env == 7);
-    assert!(rt; store.closure(second).proto == proto);
+    assert!(rt; store.closure(first).kind == function);
+    assert!(rt; store.closure(second).kind == iterator);
     assert!(rt; store.has_env(7) & store.has_env(9) & !store.has_env(8));
     Ok(())
 }

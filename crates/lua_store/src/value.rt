@@ -2,6 +2,7 @@
 ghost use Rattle.std.specs.Prelude.{◌≡◌};
 
 use crate::ids::{ClosureId, MarkupId, TableId, TextId};
+use lua_heap::Library;
 use lua_table::Slot;
 
 /// A value of Lua (manual 2.2). Numbers are whole. Equal values are the same value, as `rawequal` tells it.
@@ -13,8 +14,8 @@ pub enum Value {
     Text(TextId),
     Table(TableId),
     Closure(ClosureId),
-    /// A function of the library, by its number in `builtin`.
-    Builtin(u16),
+    /// A function of the library.
+    Builtin(Library),
     /// An object of `mw.html`.
     Markup(MarkupId),
 }

@@ -5,5 +5,5 @@ use Rattle.lua_store.proofs.store.Store.new_closure.Goals as goal
 
 pub invariant_of-self-2 : goal.invariant_of-self-2
 invariant_of-self-2 c =
-    let of = subst (λ s. IsContentOf s (record { proto = c.args.proto; env = c.args.env; cells = c.args.cells })) (sym c.self.view_is) (record { title = c.requires.title; cells = c.requires.cells }) in
+    let of = subst (λ s. IsContentOf s (record { kind = c.args.kind; env = c.args.env; cells = c.args.cells })) (sym c.self.view_is) (record { kind = c.requires.kind; cells = c.requires.cells }) in
     rw c.in_ok-push.ensures.ok.1 (made_closure _ c.self.invariant _ of).whole
