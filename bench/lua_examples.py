@@ -26,7 +26,7 @@ use Rattle.lua_syntax.specs.Tree.{{NoExp, NoField, Item, Pair, Lambda, Block, No
 use Rattle.lua_syntax.specs.Tree.{{AssignS, CallS, DoS, WhileS, RepeatS, IfS, IfElseS, CountS, CountByS, EachS, LocalFunctionS, LocalS, ReturnS, BreakS}}
 use Rattle.lua_syntax.specs.View.{{exps_of, fields_of, arms_of, stats_of}}
 use Rattle.page_run.specs.declared.which.Which.TheVariants.{{Steps, Calls}}
-{questions}use Rattle.lua_meaning.specs.Trial.{{Gives, Fails, Spends, Loads, Asks, without_steps, arg, invoked, invoked_with, invoked_on, loaded, faulted, counted, held, template_title, module_title, own_scene, parent_scene, reply, spent, asked}}
+{questions}use Rattle.lua_meaning.specs.Trial.{{Gives, Fails, Spends, Loads, Asks, without_steps, arg, invoked, invoked_with, invoked_on, loaded, faulted, counted, held, template_title, module_title, own_scene, scene_in_template, reply, spent, asked}}
 
 """
 
@@ -76,7 +76,7 @@ def called(example, step):
     if example["cases"]:
         held = rows(f"held {codes(k)} {len(v.encode())} {example['name']}{n or ''}" for n, (k, v) in enumerate(modules_of(example)))
         args = rows(f"arg {codes(k)} {codes(v)}" for k, v in example["args"] or [])
-        return f"asked {held} {args} {title} {step[0]} {rows(step[1])}"
+        return f"asked {held} {args} {codes(example['invoked'] or example['module'])} {step[0]} {rows(step[1])}"
     if example["fault"]:
         kind, line = example["fault"]
         return f"faulted {title} {size} {kind} {line} {step}"

@@ -11,7 +11,7 @@ use Rattle.wk_base.specs.declared.title.Namespace.TheVariants.{Main}
 use Rattle.lua_meaning.specs.Questions.{Template, Preprocess, Data}
 use Rattle.lua_heap.specs.Value.{Nil, Truth, Number, Text, Table}
 use Rattle.lua_meaning.specs.Questions.{Expanded, NoPage, Loaded, LoadFailed}
-use Rattle.lua_meaning.specs.Trial.{Gives, Fails, Spends, Loads, Asks, without_steps, arg, invoked, invoked_with, invoked_on, loaded, faulted, counted, held, template_title, module_title, own_scene, parent_scene, reply, spent, asked}
+use Rattle.lua_meaning.specs.Trial.{Gives, Fails, Spends, Loads, Asks, without_steps, arg, invoked, invoked_with, invoked_on, loaded, faulted, counted, held, template_title, module_title, own_scene, scene_in_template, reply, spent, asked}
 
 -- 1,000 for the start, 36 for the text, and 29 for what it does.
 --     return {f=function() return 'a' end}

@@ -36,3 +36,6 @@ pub mod ExampleCosts
 pub mod ExampleValues
 pub mod ExampleStatements
 pub mod ExampleFunctions
+pub mod ExampleHandlers
+pub mod ExampleFrames
+pub mod ExampleModules

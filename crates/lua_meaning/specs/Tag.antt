@@ -6,10 +6,10 @@ use Rattle.lua_heap.specs.Value.{Value, Nil, Truth, Number, Text, Table, is_nil}
 use Rattle.lua_heap.specs.Table.{Entries}
 use Rattle.lua_heap.specs.Heap.{Heap, table_at}
 use Rattle.lua_meaning.specs.Scope.{Bytes}
-use Rattle.lua_meaning.specs.Values.{first, second, third, text_in}
+use Rattle.lua_meaning.specs.Values.{second, third, text_in}
 use Rattle.lua_meaning.specs.Messages.{bad_argument, expected}
 use Rattle.lua_meaning.specs.Metatables.{field}
-use Rattle.lua_meaning.specs.Arguments.{Plain, gives_text, with_charge, Argument, with_argument, some_text, text_charge}
+use Rattle.lua_meaning.specs.Arguments.{Plain, gives_text, with_charge, Argument, with_argument, a_text, text_charge}
 
 -- the value of an attribute: `&`, `<`, `>`, `"`, `'` and the space that does not break are written as references
 abbrev pub reference : ℕ → Bytes
@@ -68,26 +68,26 @@ closed_by name (Number n) = Ok (codes ">" ++ signed_decimal n ++ codes "</" ++ n
 closed_by name (Text t) = Ok (codes ">" ++ t ++ codes "</" ++ name ++ codes ">")
 closed_by name v = Err (bad_argument 3 (codes "tag") (expected (codes "string") (v ∷ [])))
 
--- THE TAG of a name, attributes and content. It costs the bytes of the arguments that are strings, and its own.
+-- THE TAG of a name (the first of a list, if it is there), attributes and content. It costs the bytes of the arguments that are strings, and its own.
 pub record TagParts : Type 0 where
-  pub name : Value
+  pub name : List Value
   pub attrs : Value
   pub content : Value
 
 abbrev pub tag_of : {X : Type 0} → TagParts → Heap X → Plain X
 tag_of p h =
-    with_argument h (some_text 1 (codes "tag") (p.name ∷ []) (text_in p.name)) (λ name.
+    with_argument h (a_text 1 (codes "tag") p.name) (λ name.
     with_argument h (and_then (attributes_in h p.attrs) (closed_by name p.content)) (λ behind.
     gives_text h (codes "<" ++ name ++ behind)))
 
 -- the name, the content and the attributes, one by one or as fields of a table
 abbrev pub extension_parts : {X : Type 0} → Heap X → List Value → TagParts
 extension_parts h (Table t ∷ more) = record {
-  name = field h (Table t) (codes "name");
+  name = field h (Table t) (codes "name") ∷ [];
   attrs = field h (Table t) (codes "args");
   content = field h (Table t) (codes "content");
 }
-extension_parts h given = record { name = first given; attrs = third given; content = second given }
+extension_parts h given = record { name = given; attrs = third given; content = second given }
 
 abbrev pub extension_tag : {X : Type 0} → List Value → Heap X → Plain X
 extension_tag given h = with_charge (text_charge given) (tag_of (extension_parts h given) h)
