@@ -2,7 +2,7 @@
 use Rattle.std.proofs.Common.{◌≡◌, ℕ, zero, suc, ◌+◌, pos, min, Bool, true, false, if◌then◌else◌, List, length, Option, Some, unwrap_or, is_some, refl, ◌∙◌, ap, subst}
 use Rattle.std.specs.Option.{option_map}
 use Rattle.std.specs.Map.{lookup}
-use Rattle.lua_table.specs.Entries.{value_at, is_there, set_at, after_key, first_held, Stop}
+use Rattle.lua_table.specs.Entries.{value_at, is_there, set_at, after_key, first_live, Stop}
 use Rattle.lua_heap.specs.Value.{Value, Nil, Number, Table, Closure, Markup, same, is_nil}
 use Rattle.lua_heap.specs.Table.{Entries, get, has, set, first_entry, next, border, border_from}
 use Rattle.lua_heap.specs.Heap.{Ref, tab, clo, mar}
@@ -63,10 +63,10 @@ module _ {V W : Type 0} (eq : V → V → Bool) (eq' : W → W → Bool) (nil : 
   abbrev Stops : Stop eq nil → Stop eq' nil' → Type 0
   Stops a b = SameStop eq eq' nil nil' R a b
 
-  pub first_held-related : (es : List (V × V)) (fs : List (W × W)) → Each (SamePair R) es fs → Stops (first_held eq nil es) (first_held eq' nil' fs)
-  first_held-related _ _ none = record { key = nils; value = nils; passed = refl }
-  first_held-related _ _ (more x y xs ys s rest) =
-      let r = first_held-related xs ys rest in
+  pub first_live-related : (es : List (V × V)) (fs : List (W × W)) → Each (SamePair R) es fs → Stops (first_live eq nil es) (first_live eq' nil' fs)
+  first_live-related _ _ none = record { key = nils; value = nils; passed = refl }
+  first_live-related _ _ (more x y xs ys s rest) =
+      let r = first_live-related xs ys rest in
       choice Stops (eq x.1 nil) (eq' y.1 nil') _ _ _ _ (agree _ _ _ _ s.value nils)
       (record { key = r.key; value = r.value; passed = ap (λ (n : ℕ). n + 1) r.passed })
       (record { key = s.key; value = s.value; passed = refl })
@@ -141,7 +141,7 @@ module _ (m : Map) (o : OneToOne m) where
   set-related es fs k l v w s r t = set_at-related same same Nil Nil (Same m) (same-related m o) nil es fs k l v w s r t
 
   pub first-related : (es fs : Entries) → SameEntries m es fs → SameStop same same Nil Nil (Same m) (first_entry es) (first_entry fs)
-  first-related es fs s = first_held-related same same Nil Nil (Same m) (same-related m o) nil es fs s
+  first-related es fs s = first_live-related same same Nil Nil (Same m) (same-related m o) nil es fs s
 
   stops-related : (a b : Option Entries) → SameOption (SameEntries m) a b → SameOption (SameStop same same Nil Nil (Same m)) (option_map first_entry a) (option_map first_entry b)
   stops-related _ _ neither = neither

@@ -1,7 +1,7 @@
 -- TABLES OF VALUES (manual 2.2, 2.5.5, 2.5.7 and 5.1): the tables of `lua_table`, at the values of Lua.
 use Rattle.std.specs.Prelude.{ℕ, zero, suc, ◌+◌, pos, min, Bool, false, if◌then◌else◌, List, [], length, Option, Some, ◌≤◌}
 use Rattle.std.specs.Option.{option_map}
-use Rattle.lua_table.specs.Entries.{Contents, value_at, is_there, set_at, after_key, first_held, Stop, IsBorder, HasKeys}
+use Rattle.lua_table.specs.Entries.{Contents, value_at, is_there, set_at, after_key, first_live, Stop, IsBorder, HasKeys}
 use Rattle.lua_heap.specs.Value.{Value, Nil, Number, same, is_nil}
 
 abbrev pub Entries : Type 0
@@ -33,7 +33,7 @@ ValueStop = Stop same Nil
 
 -- where a walk by `next` stops that goes over these entries
 abbrev pub first_entry : Entries → ValueStop
-first_entry es = first_held same Nil es
+first_entry es = first_live same Nil es
 
 -- what `next` gives for a key, and for nil; None where the key never was set
 abbrev pub next : Entries → Value → Option ValueStop

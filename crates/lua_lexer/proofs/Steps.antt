@@ -1,5 +1,6 @@
 -- Steps over the bytes of a text.
 use Rattle.std.proofs.Common.{◌≡◌, ℕ, zero, suc, ◌+◌, ◌-◌, ◌<◌, ◌≤◌, Bool, true, false, List, [], ◌∷◌, ◌++◌, length, drop, min, refl, sym, ap, ◌∙◌, arith, drop-cons, true≢false, append_assoc, append-nil}
+use Rattle.std.proofs.lemmas.Bool.{cond-true, cond-false}
 use Rattle.std.specs.Prelude.{Option, Some, None, Result, Ok, Err, IfOk, ◌==◌, if◌then◌else◌}
 use Rattle.std.specs.List.{prefix_len}
 use Rattle.std.specs.declared.vec.Vec.{Vec}
@@ -11,15 +12,7 @@ use Rattle.lua_lexer.specs.declared.strings.StringBody.{StringBody}
 use Rattle.lua_lexer.specs.Answers.{IsBody, IsEscape}
 use borrow.Author.Tests.{eqb-true, eq-eqb}
 use Rattle.std.proofs.lemmas.List.{drop_all, drop_min}
-use Rattle.lua_lexer.specs.Lexis.{at, is_break, break_size, breaks_after, breaks, line_feeds_after, with_line_feeds, one_later, before_closing, closes_long, long_text, exponent_size, numeral_size, is_number_byte, is_name_byte, behind_escape, string_body, Body, Closed, Open, Gives, Wrong, escape_of, body_after, passed, with_byte}
-
-pub if_true : {A : Type 0} (b : Bool) (p q : A) → b ≡ true → (if b then p else q) ≡ p
-if_true true p q e = refl
-if_true false p q e = absurd (true≢false (sym e))
-
-pub if_false : {A : Type 0} (b : Bool) (p q : A) → b ≡ false → (if b then p else q) ≡ q
-if_false true p q e = absurd (true≢false e)
-if_false false p q e = refl
+use Rattle.lua_lexer.specs.Lexis.{at, is_break, break_size, breaks_after, breaks, line_feeds_after, with_line_feeds, one_later, before_closing, closes_long, long_text, exponent_size, numeral_size, is_number_byte, is_name_byte, behind_escape, string_body, Body, Closed, Open, Gives, Wrong, escape_of, body_after, behind_byte, with_byte}
 
 -- The rest of a text, with its first byte.
 pub front_of : (t : List ℕ) (i j : ℕ) → i < length t → j ≡ i + 1 → drop i t ≡ at t i ∷ drop j t
@@ -31,13 +24,6 @@ pub breaks_skip : (t : List ℕ) (i j n m : ℕ) → i < length t → j ≡ i + 
 breaks_skip t i j n m h e s =
     let same : n ≡ suc m = omega arith in
     ap (λ k. breaks_after k (drop i t)) same ∙ ap (breaks_after (suc m)) (front_of t i j h e)
-
-pub breaks_break : (t : List ℕ) (i j : ℕ) → i < length t → j ≡ i + 1 → is_break (at t i) ≡ true → breaks_after 0 (drop i t) ≡ suc (breaks_after (break_size (drop i t) - 1) (drop j t))
-breaks_break t i j h e b =
-    ap (breaks_after 0) (front_of t i j h e) ∙ if_true (is_break (at t i)) _ _ b ∙ ap (λ s. suc (breaks_after (break_size s - 1) (drop j t))) (sym (front_of t i j h e))
-
-pub breaks_plain : (t : List ℕ) (i j : ℕ) → i < length t → j ≡ i + 1 → is_break (at t i) ≡ false → breaks_after 0 (drop i t) ≡ breaks_after 0 (drop j t)
-breaks_plain t i j h e b = ap (breaks_after 0) (front_of t i j h e) ∙ if_false (is_break (at t i)) _ _ b
 
 breaks_end : (n : ℕ) → breaks_after n [] ≡ 0
 breaks_end zero = refl
@@ -55,13 +41,6 @@ pub feeds_skip : (t : List ℕ) (i j n m : ℕ) → i < length t → j ≡ i + 1
 feeds_skip t i j n m h e s =
     let same : n ≡ suc m = omega arith in
     ap (λ k. line_feeds_after k (drop i t)) same ∙ ap (line_feeds_after (suc m)) (front_of t i j h e)
-
-pub feeds_break : (t : List ℕ) (i j : ℕ) → i < length t → j ≡ i + 1 → is_break (at t i) ≡ true → line_feeds_after 0 (drop i t) ≡ 10 ∷ line_feeds_after (break_size (drop i t) - 1) (drop j t)
-feeds_break t i j h e b =
-    ap (line_feeds_after 0) (front_of t i j h e) ∙ if_true (is_break (at t i)) _ _ b ∙ ap (λ s. 10 ∷ line_feeds_after (break_size s - 1) (drop j t)) (sym (front_of t i j h e))
-
-pub feeds_plain : (t : List ℕ) (i j : ℕ) → i < length t → j ≡ i + 1 → is_break (at t i) ≡ false → line_feeds_after 0 (drop i t) ≡ at t i ∷ line_feeds_after 0 (drop j t)
-feeds_plain t i j h e b = ap (line_feeds_after 0) (front_of t i j h e) ∙ if_false (is_break (at t i)) _ _ b
 
 -- one byte more of what is made
 pub one_more : (made made' left left' whole : List ℕ) (c : ℕ) → made ++ left ≡ whole → left ≡ c ∷ left' → made' ≡ made ++ c ∷ [] → made' ++ left' ≡ whole
@@ -86,7 +65,7 @@ later i (Some n) = Some (i + n)
 pub closing_later : (level : ℕ) (t : List ℕ) (i j : ℕ) → i < length t → j ≡ i + 1 → closes_long level (drop i t) ≡ false → later j (before_closing level (drop j t)) ≡ later i (before_closing level (drop i t))
 closing_later level t i j h e c =
     let same : j ≡ suc i = omega arith in
-    by_rest (before_closing level (drop j t)) ∙ sym (ap (later i) (ap (before_closing level) (front_of t i j h e) ∙ if_false _ _ _ (ap (closes_long level) (sym (front_of t i j h e)) ∙ c)))
+    by_rest (before_closing level (drop j t)) ∙ sym (ap (later i) (ap (before_closing level) (front_of t i j h e) ∙ cond-false _ _ _ (ap (closes_long level) (sym (front_of t i j h e)) ∙ c)))
   where
     by_rest : (o : Option ℕ) → later j o ≡ later i (one_later o)
     by_rest None = refl
@@ -118,7 +97,7 @@ body_skip q t made i j n m h e s =
     let same : n ≡ suc m = omega arith in
     by_rest (body_after q m (drop j t)) ∙ sym (ap (joined made i) (ap (λ k. body_after q k (drop i t)) same ∙ ap (body_after q (suc m)) (front_of t i j h e)))
   where
-    by_rest : (b : Body) → joined made j b ≡ joined made i (passed b)
+    by_rest : (b : Body) → joined made j b ≡ joined made i (behind_byte b)
     by_rest (Closed bytes size) = let sum : j + size ≡ i + suc size = omega (arith, e) in ap (Closed (made ++ bytes)) sum
     by_rest (Open fault) = refl
 
@@ -142,13 +121,13 @@ quote_test c q h = by_test (c == q) refl
 pub body_close : (q c : ℕ) (t : List ℕ) (made : List ℕ) (i n : ℕ) (whole : Body) → i < length t → n ≡ 0 → c ≡ at t i → c ≡ q → joined made i (body_after q n (drop i t)) ≡ whole → whole ≡ Closed made (i + 1)
 body_close q c t made i n whole h z ec eq inv =
     let test : (at t i == q) ≡ true = eq-eqb (at t i) q (sym ec ∙ eq) in
-    let here : body_after q n (drop i t) ≡ Closed [] 1 = ap (λ k. body_after q k (drop i t)) z ∙ body_front q t i (i + 1) h refl ∙ if_true _ _ _ test in
+    let here : body_after q n (drop i t) ≡ Closed [] 1 = ap (λ k. body_after q k (drop i t)) z ∙ body_front q t i (i + 1) h refl ∙ cond-true _ _ _ test in
     sym inv ∙ ap (joined made i) here ∙ ap (λ x. Closed x (i + 1)) (append-nil made)
 
 pub body_break : (q c : ℕ) (t : List ℕ) (made : List ℕ) (i n : ℕ) (whole : Body) → i < length t → n ≡ 0 → c ≡ at t i → (c ≡ q → ⊥) → is_break c ≡ true → joined made i (body_after q n (drop i t)) ≡ whole → whole ≡ Open 1
 body_break q c t made i n whole h z ec ne b inv =
     let test : (at t i == q) ≡ false = quote_test (at t i) q (λ e. ne (ec ∙ e)) in
-    let here : body_after q n (drop i t) ≡ Open 1 = ap (λ k. body_after q k (drop i t)) z ∙ body_front q t i (i + 1) h refl ∙ if_false _ _ _ test ∙ if_true _ _ _ (ap is_break (sym ec) ∙ b) in
+    let here : body_after q n (drop i t) ≡ Open 1 = ap (λ k. body_after q k (drop i t)) z ∙ body_front q t i (i + 1) h refl ∙ cond-false _ _ _ test ∙ cond-true _ _ _ (ap is_break (sym ec) ∙ b) in
     sym inv ∙ ap (joined made i) here
 
 pub body_plain : (q c : ℕ) (t : List ℕ) (made made' : List ℕ) (i n : ℕ) (whole : Body) → i < length t → n ≡ 0 → c ≡ at t i → (c ≡ q → ⊥) → is_break c ≡ false → (c ≡ 92 → ⊥) → made' ≡ made ++ c ∷ [] → joined made i (body_after q n (drop i t)) ≡ whole → joined made' (i + 1) (body_after q n (drop (i + 1) t)) ≡ whole
@@ -156,13 +135,13 @@ body_plain q c t made made' i n whole h z ec ne b nb em inv =
     let test : (at t i == q) ≡ false = quote_test (at t i) q (λ e. ne (ec ∙ e)) in
     let slash : (at t i == 92) ≡ false = quote_test (at t i) 92 (λ e. nb (ec ∙ e)) in
     let here : body_after q n (drop i t) ≡ with_byte (at t i) (body_after q 0 (drop (i + 1) t)) =
-    ap (λ k. body_after q k (drop i t)) z ∙ body_front q t i (i + 1) h refl ∙ if_false _ _ _ test ∙ if_false _ _ _ (ap is_break (sym ec) ∙ b) ∙ if_false _ _ _ slash in
+    ap (λ k. body_after q k (drop i t)) z ∙ body_front q t i (i + 1) h refl ∙ cond-false _ _ _ test ∙ cond-false _ _ _ (ap is_break (sym ec) ∙ b) ∙ cond-false _ _ _ slash in
     ap (λ x. joined x (i + 1) (body_after q n (drop (i + 1) t))) (em ∙ ap (λ x. made ++ x ∷ []) ec) ∙ ap (λ k. joined (made ++ at t i ∷ []) (i + 1) (body_after q k (drop (i + 1) t))) z
     ∙ with_one made (at t i) i (i + 1) (body_after q 0 (drop (i + 1) t)) refl ∙ ap (joined made i) (sym here) ∙ inv
 
 escaped : (q : ℕ) (t : List ℕ) (i : ℕ) → i < length t → (at t i ≡ q → ⊥) → is_break (at t i) ≡ false → at t i ≡ 92 → body_after q 0 (drop i t) ≡ behind_escape (escape_of (drop (i + 1) t)) (λ n. body_after q n (drop (i + 1) t))
 escaped q t i h ne b e =
-    body_front q t i (i + 1) h refl ∙ if_false _ _ _ (quote_test (at t i) q ne) ∙ if_false _ _ _ b ∙ if_true _ _ _ (eq-eqb (at t i) 92 e)
+    body_front q t i (i + 1) h refl ∙ cond-false _ _ _ (quote_test (at t i) q ne) ∙ cond-false _ _ _ b ∙ cond-true _ _ _ (eq-eqb (at t i) 92 e)
 
 pub body_escape : (q c : ℕ) (t : List ℕ) (made made' : List ℕ) (i n b size : ℕ) (whole : Body) → i < length t → n ≡ 0 → c ≡ at t i → (c ≡ q → ⊥) → is_break c ≡ false → c ≡ 92 → escape_of (drop (i + 1) t) ≡ Gives b size → made' ≡ made ++ b ∷ [] → joined made i (body_after q n (drop i t)) ≡ whole → joined made' (i + 1) (body_after q (size - 1) (drop (i + 1) t)) ≡ whole
 body_escape q c t made made' i n b size whole h z ec ne nb e92 es em inv =

@@ -3,6 +3,7 @@
 use Rattle.std.specs.Prelude.{◌≡◌, ℕ, zero, suc, ◌+◌, ◌-◌, ◌*◌, ◌<◌, ◌&&◌, ◌||◌, ◌==◌, Bool, not, if◌then◌else◌, nat_le, List, [], ◌∷◌, ◌++◌, length, take, drop, slice_index_or, Option, Some, None, Result, Ok, Err, codes}
 use Rattle.std.specs.List.{prefix_len, list_any}
 use Rattle.std.specs.Cmp.Lexicographic.{pointwise}
+use Rattle.wk_base.specs.Space.{is_white}
 use Rattle.lua_lexer.specs.declared.token.TokenKind.{TokenKind}
 use Rattle.lua_lexer.specs.declared.token.TokenKind.TheVariants.{Name, Word, Mark, Number, Text, End}
 use Rattle.lua_lexer.specs.declared.token.Token.{Token}
@@ -13,10 +14,6 @@ abbrev pub at : List ℕ → ℕ → ℕ
 at text k = slice_index_or text k 256
 
 -- ---- kinds of bytes
-
--- the bytes that C's `isspace` takes
-abbrev pub is_space : ℕ → Bool
-is_space c = c == 32 || (nat_le 9 c && nat_le c 13)
 
 abbrev pub is_break : ℕ → Bool
 is_break c = c == 10 || c == 13
@@ -120,9 +117,9 @@ pub data Body : Type 0 where
   Closed : List ℕ → ℕ → Body
   Open : ℕ → Body
 
-abbrev pub passed : Body → Body
-passed (Closed bytes size) = Closed bytes (suc size)
-passed (Open fault) = Open fault
+abbrev pub behind_byte : Body → Body
+behind_byte (Closed bytes size) = Closed bytes (suc size)
+behind_byte (Open fault) = Open fault
 
 abbrev pub with_byte : ℕ → Body → Body
 with_byte b (Closed bytes size) = Closed (b ∷ bytes) (suc size)
@@ -136,7 +133,7 @@ behind_escape (Wrong fault) further = Open fault
 -- The string goes on up to this quote, once that many bytes are passed over.
 abbrev pub body_after : ℕ → ℕ → List ℕ → Body
 body_after q n [] = Open 1
-body_after q (suc n) (c ∷ cs) = passed (body_after q n cs)
+body_after q (suc n) (c ∷ cs) = behind_byte (body_after q n cs)
 body_after q zero (c ∷ cs) =
     if c == q then Closed [] 1
     else (if is_break c then Open 1
@@ -189,8 +186,8 @@ mark_size text =
 
 -- ---- pieces
 
-abbrev pub skipped : ℕ → Piece
-skipped size = record { kind = None; size = size }
+abbrev pub no_token : ℕ → Piece
+no_token size = record { kind = None; size = size }
 
 abbrev pub token_piece : TokenKind → ℕ → Piece
 token_piece kind size = record { kind = Some kind; size = size }
@@ -200,7 +197,7 @@ abbrev pub long_piece : (List ℕ → ℕ → Piece) → ℕ → List ℕ → Re
 long_piece made level inside = elim (before_closing level inside) [ None ↦ Err 2 | Some n ↦ Ok (made (take n inside) (level + 2 + n + (level + 2))) ]
 
 abbrev pub long_comment : List ℕ → ℕ → Piece
-long_comment inside size = skipped (size + 2)
+long_comment inside size = no_token (size + 2)
 
 abbrev pub long_string : List ℕ → ℕ → Piece
 long_string inside size = token_piece (Text (long_text inside)) size
@@ -209,7 +206,7 @@ long_string inside size = token_piece (Text (long_text inside)) size
 abbrev pub comment_of : List ℕ → Result Piece ℕ
 comment_of text =
     if opens_long text then long_piece long_comment (equals_behind text) (drop (equals_behind text + 2) text)
-    else Ok (skipped (2 + prefix_len (λ c. not (is_break c)) text))
+    else Ok (no_token (2 + prefix_len (λ c. not (is_break c)) text))
 
 abbrev pub string_of : List ℕ → Result Piece ℕ
 string_of text = elim (string_body (at text 0) (drop 1 text)) [ Closed bytes size ↦ Ok (token_piece (Text bytes) (size + 1)) | Open fault ↦ Err fault ]
@@ -224,7 +221,7 @@ is_numeral text = is_digit (at text 0) || (at text 0 == 46 && is_digit (at text 
 -- 1 unfinished string, 2 unfinished long bracket, 3 escape above 255, 4 a byte that begins nothing.
 unfoldable pub piece_of : List ℕ → Result Piece ℕ
 piece_of text =
-    if is_space (at text 0) then Ok (skipped (prefix_len is_space text))
+    if is_white (at text 0) then Ok (no_token (prefix_len is_white text))
     else (if is_letter (at text 0) then Ok (token_piece (word_kind (take (prefix_len is_name_byte text) text)) (prefix_len is_name_byte text))
     else (if is_numeral text then Ok (token_piece (Number (take (numeral_size text) text)) (numeral_size text))
     else (if is_quote (at text 0) then string_of text

@@ -1,7 +1,8 @@
 //! Kinds of bytes, and runs of them.
 ghost use Rattle.std.specs.Prelude.{◌≡◌, ◌<◌, ◌≤◌, length, not};
 ghost use Rattle.std.specs.List.{prefix_len};
-ghost use Rattle.lua_lexer.specs.Lexis.{at, is_space, is_break, is_digit, is_letter, is_name_byte, is_number_byte, is_quote, is_equals};
+ghost use Rattle.wk_base.specs.Space.{is_white};
+ghost use Rattle.lua_lexer.specs.Lexis.{at, is_break, is_digit, is_letter, is_name_byte, is_number_byte, is_quote, is_equals};
 
 /// The byte k places on, and 256 behind the last.
 pub fn at(text: &[u8], k: usize) -> u16
@@ -24,8 +25,8 @@ pub fn byte(text: &[u8], k: usize) -> u8
     text[k]
 }
 
-pub fn is_space(c: u16) -> bool
-    ensures { result ≡ is_space c }
+pub fn is_white(c: u16) -> bool
+    ensures { result ≡ is_white c }
 {
     c == 32 || (9 <= c && c <= 13)
 }
@@ -67,12 +68,12 @@ pub fn is_quote(c: u16) -> bool
 }
 
 pub fn space_run(text: &[u8]) -> usize
-    ensures size { result ≡ prefix_len is_space text.now }
+    ensures size { result ≡ prefix_len is_white text.now }
     ensures inside { result ≤ length text.now }
 {
     let mut n = 0;
     for c in text {
-        if !is_space(u16::from(*c)) {
+        if !is_white(u16::from(*c)) {
             return n;
         }
         n += 1;

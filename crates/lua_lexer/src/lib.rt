@@ -8,7 +8,7 @@
 //! - `brackets`: long brackets, and line breaks
 //! - `classes`: kinds of bytes, and runs of them
 //!
-//! The definitions stand in `specs/Lexis.antt`.
+//! The definitions stand in `specs/Lexis.antt` (read it first), and `specs/Answers.antt` joins them to the answers of the functions.
 #![tactic(auto)]
 
 mod brackets;

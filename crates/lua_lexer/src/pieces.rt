@@ -1,11 +1,12 @@
 //! What stands at the front of a text: white space, a comment or a token.
 ghost use Rattle.std.specs.Prelude.{◌≡◌, ◌+◌, ◌^◌, ◌<◌, ◌≤◌, ◌==◌, ◌&&◌, true, take, drop, length, Ok, IfOk, IfErr};
 ghost use Rattle.std.specs.List.{prefix_len};
-ghost use Rattle.lua_lexer.specs.Lexis.{at, is_space, is_letter, is_numeral, is_name_byte, is_quote, skipped, token_piece, word_kind, numeral_size, mark_size, comment_of, string_of, mark_of, opens_long, equals_behind, long_piece, long_string, piece_of};
+ghost use Rattle.wk_base.specs.Space.{is_white};
+ghost use Rattle.lua_lexer.specs.Lexis.{at, is_letter, is_numeral, is_name_byte, is_quote, no_token, token_piece, word_kind, numeral_size, mark_size, comment_of, string_of, mark_of, opens_long, equals_behind, long_piece, long_string, piece_of};
 ghost use Rattle.lua_lexer.specs.Answers.{IsPiece};
 
 use crate::brackets::{before_closing, equals_behind, long_text, opens_long, rest};
-use crate::classes::{at, is_letter, is_quote, is_space, line_run, name_run, space_run};
+use crate::classes::{at, is_letter, is_quote, is_white, line_run, name_run, space_run};
 use crate::marks::{is_keyword, is_numeral, mark_size, numeral_size};
 use crate::strings::string_body;
 use crate::token::{Piece, Stop, TokenKind};
@@ -20,7 +21,7 @@ pub fn piece(alloc: Global, text: &[u8]) -> Result<Piece, Stop>
     ensures inside { IfOk result (λ p. (0 < p.size) × (p.size ≤ length text.now)) }
 {
     let first = at(text, 0);
-    if is_space(first) {
+    if is_white(first) {
         return Ok(blank(text));
     }
     if is_letter(first) {
@@ -43,8 +44,8 @@ pub fn piece(alloc: Global, text: &[u8]) -> Result<Piece, Stop>
 
 fn blank(text: &[u8]) -> Piece
     requires there { 0 < length text.now }
-    requires space { is_space (at text.now 0) ≡ true }
-    ensures found { result ≡ skipped (prefix_len is_space text.now) }
+    requires space { is_white (at text.now 0) ≡ true }
+    ensures found { result ≡ no_token (prefix_len is_white text.now) }
     ensures inside { (0 < result.size) × (result.size ≤ length text.now) }
 {
     Piece {

@@ -10,11 +10,12 @@ use Rattle.std.proofs.lemmas.Bool.Decides.{nat_tests, leb_tells}
 use Rattle.std.proofs.lemmas.List.{take-append-le, drop-append-le, take_min, drop_min, take_all, drop_all, take_more}
 use Rattle.std.proofs.lemmas.List.Folds.{list_all-append}
 use Rattle.std.proofs.Math.Seq.{take-append-add, drop-append-add}
-use Rattle.std.proofs.lemmas.Bool.{ltb-false}
+use Rattle.std.proofs.lemmas.Bool.{ltb-false, cond-true, cond-false}
 use Rattle.std.proofs.lemmas.Int.{ints}
 use borrow.Author.Tests.{ltb-true, eqb-true}
+use Rattle.wk_base.specs.Space.{trim}
 use Rattle.lua_number.specs.Whole.{fits}
-use Rattle.lua_number.specs.Numerals.{in_range, behind, are_digits, signed, is_exponent_mark, is_point, exponent_of, is_zero_digit, whole_part, moved_point, decimal_value, decimal_of, natural, has_hex_mark, numeral_of, digits_of_base, unsigned, is_minus, trimmed, signed_value, read_numeral_of, read_number_of, read_in_base_of, is_space, without_back}
+use Rattle.lua_number.specs.Numerals.{in_range, behind, are_digits, signed, is_exponent_mark, is_point, exponent_of, is_zero_digit, whole_part, moved_point, decimal_value, decimal_of, natural, has_hex_mark, numeral_of, digits_of_base, unsigned, is_minus, trimmed, signed_value, read_numeral_of, read_number_of, read_in_base_of}
 use Rattle.lua_number.specs.Words.{in_word}
 use Rattle.lua_number.proofs.Operations.{does_fit, not_fits}
 
@@ -61,52 +62,6 @@ pub none_with_zeros : (o : Option ℕ) → o ≡ None → (n count : ℕ) → So
 none_with_zeros None e n count h lt = h (omega (arith, zeros_grow n count))
 none_with_zeros (Some x) e n count h lt = absurd (let same : Some x ≡ None = e in cc)
 
-and_true : (b : Bool) → (b && true) ≡ b
-and_true true = refl
-and_true false = refl
-
-and_false : (b : Bool) → (b && false) ≡ false
-and_false true = refl
-and_false false = refl
-
-pub if_true : {A : Type 0} (b : Bool) (p q : A) → b ≡ true → (if b then p else q) ≡ p
-if_true true p q e = refl
-if_true false p q e = absurd (true≢false (sym e))
-
-pub if_false : {A : Type 0} (b : Bool) (p q : A) → b ≡ false → (if b then p else q) ≡ q
-if_false true p q e = absurd (true≢false e)
-if_false false p q e = refl
-
--- The rest of a text without white space at its end.
-space_behind : (xs : List ℕ) (y : ℕ) → list_all is_space (xs ++ y ∷ []) ≡ (list_all is_space xs && is_space y)
-space_behind xs y = list_all-append is_space xs (y ∷ []) ∙ ap (λ b. list_all is_space xs && b) (and_true (is_space y))
-
-back_space : (xs : List ℕ) (y : ℕ) → is_space y ≡ true → without_back (xs ++ y ∷ []) ≡ without_back xs
-back_space [] y s = if_true (is_space y && true) [] (y ∷ []) (and_true (is_space y) ∙ s)
-back_space (x ∷ xs) y s =
-    let tests : list_all is_space (xs ++ y ∷ []) ≡ list_all is_space xs = space_behind xs y ∙ ap (λ b. list_all is_space xs && b) s ∙ and_true (list_all is_space xs) in
-    ap (λ b. if is_space x && b then [] else x ∷ without_back (xs ++ y ∷ [])) tests ∙ ap (λ r. if is_space x && list_all is_space xs then [] else x ∷ r) (back_space xs y s)
-
-back_kept : (xs : List ℕ) (y : ℕ) → is_space y ≡ false → without_back (xs ++ y ∷ []) ≡ xs ++ y ∷ []
-back_kept [] y s = if_false (is_space y && true) [] (y ∷ []) (and_true (is_space y) ∙ s)
-back_kept (x ∷ xs) y s =
-    let tests : list_all is_space (xs ++ y ∷ []) ≡ false = space_behind xs y ∙ ap (λ b. list_all is_space xs && b) s ∙ and_false (list_all is_space xs) in
-    if_false (is_space x && list_all is_space (xs ++ y ∷ [])) [] (x ∷ without_back (xs ++ y ∷ [])) (ap (λ b. is_space x && b) tests ∙ and_false (is_space x)) ∙ ap (λ r. x ∷ r) (back_kept xs y s)
-
-last_of : (xs : List ℕ) → 0 < length xs → xs ≡ take (length xs - 1) xs ++ get_or xs (length xs - 1) 0 ∷ []
-last_of xs h =
-    let inside : length xs - 1 < length xs = omega arith in
-    let whole : length xs - 1 + 1 ≡ length xs = omega arith in
-    sym (take_all (length xs) xs (le_refl _)) ∙ ap (λ n. take n xs) (sym whole) ∙ take_more xs (length xs - 1) 0 inside
-
-pub back_step : (xs : List ℕ) (c : ℕ) → 0 < length xs → c ≡ get_or xs (length xs - 1) 0 → is_space c ≡ true → without_back (take (length xs - 1) xs) ≡ without_back xs
-back_step xs c h e s =
-    sym (ap without_back (last_of xs h) ∙ back_space (take (length xs - 1) xs) (get_or xs (length xs - 1) 0) (ap is_space (sym e) ∙ s))
-
-pub back_stop : (xs : List ℕ) (c : ℕ) → 0 < length xs → c ≡ get_or xs (length xs - 1) 0 → is_space c ≡ false → xs ≡ without_back xs
-back_stop xs c h e s =
-    sym (ap without_back (last_of xs h) ∙ back_kept (take (length xs - 1) xs) (get_or xs (length xs - 1) 0) (ap is_space (sym e) ∙ s) ∙ sym (last_of xs h))
-
 -- Two parts of the digits round the point.
 pub take_both : (p : ℕ) (w f : List ℕ) → take (min p (length w)) w ++ take (min (p - min p (length w)) (length f)) f ≡ take p (w ++ f)
 take_both p w f = by_order (leb_tells p (length w))
@@ -151,12 +106,12 @@ pub whole_yes : (p : ℕ) (w f : List ℕ) (a b : ℕ) → a ≡ min p (length w
 whole_yes p w f a b ea eb z =
     let tests : list_all is_zero_digit (drop p (w ++ f)) ≡ true = ap (list_all is_zero_digit) (sym (same_drop p w f a b ea eb)) ∙ z in
     let behind : p - a - b ≡ p - length (w ++ f) = omega (arith, length-append w f) in
-    ap (λ n. Some (digits_value 10 (take a w ++ take b f) * 10 ^ n)) behind ∙ ap (λ ds. Some (digits_value 10 ds * 10 ^ (p - length (w ++ f)))) (same_take p w f a b ea eb) ∙ sym (if_true _ _ _ tests)
+    ap (λ n. Some (digits_value 10 (take a w ++ take b f) * 10 ^ n)) behind ∙ ap (λ ds. Some (digits_value 10 ds * 10 ^ (p - length (w ++ f)))) (same_take p w f a b ea eb) ∙ sym (cond-true _ _ _ tests)
 
 pub whole_no : (p : ℕ) (w f : List ℕ) (a b : ℕ) → a ≡ min p (length w) → b ≡ min (p - a) (length f) → list_all is_zero_digit (drop a w ++ drop b f) ≡ false → None ≡ whole_part (w ++ f) p
 whole_no p w f a b ea eb z =
     let tests : list_all is_zero_digit (drop p (w ++ f)) ≡ false = ap (list_all is_zero_digit) (sym (same_drop p w f a b ea eb)) ∙ z in
-    sym (if_false _ _ _ tests)
+    sym (cond-false _ _ _ tests)
 
 pub whole_value : (p : ℕ) (w f : List ℕ) (a b : ℕ) (wf wb ff fb : List ℕ) (v o : Option ℕ) → a ≡ min p (length w) → b ≡ min (p - a) (length f) → wf ≡ take a w → wb ≡ drop a w → ff ≡ take b f → fb ≡ drop b f → list_all is_zero_digit (wb ++ fb) ≡ true → SomeIff v (digits_value 10 (wf ++ ff) < 2 ^ 64) (digits_value 10 (wf ++ ff)) → ((n : ℕ) → SomeIff v (n < 2 ^ 64) n → SomeIff o (n * 10 ^ (p - a - b) < 2 ^ 64) (n * 10 ^ (p - a - b))) → o ≡ in_word (whole_part (w ++ f) p)
 whole_value p w f a b wf wb ff fb v o ea eb ewf ewb eff efb z hv ho =
@@ -177,7 +132,7 @@ zero_alone (suc n) = None
 
 huge : (v k : ℕ) → 20 ≤ k → in_word (Some (v * 10 ^ k)) ≡ zero_alone v
 huge zero k h = let none : 0 * 10 ^ k ≡ 0 = omega arith in ap (λ n. in_word (Some n)) none
-huge (suc v) k h = if_false (nat_lt (suc v * 10 ^ k) (2 ^ 64)) _ _ (over (nat_lt (suc v * 10 ^ k) (2 ^ 64)) refl)
+huge (suc v) k h = cond-false (nat_lt (suc v * 10 ^ k) (2 ^ 64)) _ _ (over (nat_lt (suc v * 10 ^ k) (2 ^ 64)) refl)
   where
     over : (b : Bool) → nat_lt (suc v * 10 ^ k) (2 ^ 64) ≡ b → nat_lt (suc v * 10 ^ k) (2 ^ 64) ≡ false
     over true e = absurd (power_large (suc v) k (λ z. omega arith) h (ltb-true _ _ e))
@@ -186,7 +141,7 @@ huge (suc v) k h = if_false (nat_lt (suc v * 10 ^ k) (2 ^ 64)) _ _ (over (nat_lt
 far : (ds : List ℕ) (p : ℕ) → length ds + 20 ≤ p → in_word (whole_part ds p) ≡ zero_alone (digits_value 10 ds)
 far ds p h =
     let tests : list_all is_zero_digit (drop p ds) ≡ true = ap (list_all is_zero_digit) (drop_all p ds (omega arith)) in
-    ap in_word (if_true _ _ _ tests ∙ ap (λ xs. Some (digits_value 10 xs * 10 ^ (p - length ds))) (take_all p ds (omega arith))) ∙ huge (digits_value 10 ds) (p - length ds) (omega arith)
+    ap in_word (cond-true _ _ _ tests ∙ ap (λ xs. Some (digits_value 10 xs * 10 ^ (p - length ds))) (take_all p ds (omega arith))) ∙ huge (digits_value 10 ds) (p - length ds) (omega arith)
 
 pub far_point : (ds : List ℕ) (p : ℕ) → length ds < 2 ^ 63 → in_word (whole_part ds (min p (2 ^ 64 - 1))) ≡ in_word (whole_part ds p)
 far_point ds p short = by_order (leb_tells p (2 ^ 64 - 1))
@@ -199,7 +154,7 @@ pub decimal_some : (w f : List ℕ) (x : Option ℤ) (point : ℕ) (r : Option �
 decimal_some w f None point r short e d h = absurd (let same : Some point ≡ None = e in cc)
 decimal_some w f (Some x) point r short e d h =
     let same : point ≡ min (moved_point (length w) x) (2 ^ 64 - 1) = cc in
-    h ∙ ap (λ n. in_word (whole_part (w ++ f) n)) same ∙ far_point (w ++ f) (moved_point (length w) x) (omega (arith, length-append w f)) ∙ ap in_word (sym (if_true _ _ _ d))
+    h ∙ ap (λ n. in_word (whole_part (w ++ f) n)) same ∙ far_point (w ++ f) (moved_point (length w) x) (omega (arith, length-append w f)) ∙ ap in_word (sym (cond-true _ _ _ d))
 
 pub decimal_parts : (text m w f : List ℕ) (b x : Option (List ℕ)) (r : Option ℕ) → m ≡ before_first is_exponent_mark text → x ≡ behind is_exponent_mark text → w ≡ before_first is_point m → b ≡ behind is_point m → f ≡ unwrap_or b [] → r ≡ in_word (decimal_value w f (exponent_of x)) → r ≡ in_word (decimal_of text)
 unfolding decimal_of
@@ -208,58 +163,24 @@ decimal_parts text m w f b x r em ex ew eb ef h =
     let whole : w ≡ before_first is_point (before_first is_exponent_mark text) = ew ∙ ap (before_first is_point) em in
     h ∙ ap (λ y. in_word (decimal_value w f (exponent_of y))) ex ∙ ap (λ y. in_word (decimal_value w y (exponent_of (behind is_exponent_mark text)))) part ∙ ap (λ y. in_word (decimal_value y (unwrap_or (behind is_point (before_first is_exponent_mark text)) []) (exponent_of (behind is_exponent_mark text)))) whole
 
--- A number of 64 bits with its sign.
-pub range_is : (o : Option ℤ) (z : ℤ) → SomeIff o (FitsSigned w64 z) z → o ≡ in_range (Some z)
-range_is None z h = sym (if_false (fits z) _ _ (not_fits z h))
-range_is (Some x) z h = ap Some h.1 ∙ sym (if_true (fits z) _ _ (does_fit z h.0))
-
-too_long : (negative : Bool) (n : ℕ) → 2 ^ 64 ≤ n → FitsSigned w64 (signed negative n) → ⊥
-too_long true zero h f = omega arith
-too_long true (suc n) h f = omega (arith, f.sfits)
-too_long false n h f = omega (arith, f.sfits)
-
-pub no_size : (negative : Bool) (o n : Option ℕ) → o ≡ None → o ≡ in_word n → None ≡ in_range (option_map (signed negative) n)
-no_size negative o None e h = refl
-no_size negative o (Some n) e h = by_test (nat_lt n (2 ^ 64)) refl
-  where
-    by_test : (b : Bool) → nat_lt n (2 ^ 64) ≡ b → None ≡ in_range (Some (signed negative n))
-    by_test true t = absurd (let same : None ≡ Some n = sym e ∙ h ∙ if_true _ _ _ t in cc)
-    by_test false t = sym (if_false (fits (signed negative n)) _ _ (not_fits (signed negative n) (too_long negative n (ltb-false _ _ t))))
-
-pub some_size : (o n : Option ℕ) (size : ℕ) → o ≡ Some size → o ≡ in_word n → Some size ≡ n
-some_size o None size e h = absurd (let same : Some size ≡ None = sym e ∙ h in cc)
-some_size o (Some n) size e h = by_test (nat_lt n (2 ^ 64)) refl
-  where
-    by_test : (b : Bool) → nat_lt n (2 ^ 64) ≡ b → Some size ≡ Some n
-    by_test true t = sym e ∙ h ∙ if_true _ _ _ t
-    by_test false t = absurd (let same : Some size ≡ None = sym e ∙ h ∙ if_false _ _ _ t in cc)
-
 minus : (n : ℕ) → pos 0 -ℤ pos n ≡ neg_ℤ (pos n)
 minus n = omega (arith, ints)
 
-pub minus_size : (o : Option ℤ) (n : Option ℕ) (size : ℕ) → Some size ≡ n → SomeIff o (FitsSigned w64 (pos 0 -ℤ pos size)) (pos 0 -ℤ pos size) → o ≡ in_range (option_map (signed true) n)
-minus_size o n size e h = range_is o (pos 0 -ℤ pos size) h ∙ ap (λ z. in_range (Some z)) (minus size) ∙ ap (λ x. in_range (option_map (signed true) x)) e
-
-pub plus_size : (o : Option ℤ) (n : Option ℕ) (size : ℕ) → Some size ≡ n → SomeIff o (FitsSigned w64 (pos 0 +ℤ pos size)) (pos 0 +ℤ pos size) → o ≡ in_range (option_map (signed false) n)
-plus_size o n size e h =
-    let same : 0 + size ≡ size = omega arith in
-    range_is o (pos 0 +ℤ pos size) h ∙ ap (λ k. in_range (Some (pos k))) same ∙ ap (λ x. in_range (option_map (signed false) x)) e
-
 pub base_marked : (base : ℕ) (text : List ℕ) → (base == 16 && has_hex_mark text) ≡ true → natural base (drop 2 text) ≡ digits_of_base base text
 unfolding digits_of_base
-base_marked base text e = sym (ap (natural base) (if_true _ _ _ e))
+base_marked base text e = sym (ap (natural base) (cond-true _ _ _ e))
 
 pub base_plain : (base : ℕ) (text : List ℕ) → (base == 16 && has_hex_mark text) ≡ false → natural base text ≡ digits_of_base base text
 unfolding digits_of_base
-base_plain base text e = sym (ap (natural base) (if_false _ _ _ e))
+base_plain base text e = sym (ap (natural base) (cond-false _ _ _ e))
 
 pub numeral_hex : (text : List ℕ) → has_hex_mark text ≡ true → natural 16 (drop 2 text) ≡ numeral_of text
 unfolding numeral_of
-numeral_hex text e = sym (if_true _ _ _ e)
+numeral_hex text e = sym (cond-true _ _ _ e)
 
 pub numeral_decimal : (text : List ℕ) → has_hex_mark text ≡ false → decimal_of text ≡ numeral_of text
 unfolding numeral_of
-numeral_decimal text e = sym (if_false _ _ _ e)
+numeral_decimal text e = sym (cond-false _ _ _ e)
 
 pub numeral_read : (text : List ℕ) (r : Option ℤ) → r ≡ in_range (option_map (signed false) (numeral_of text)) → r ≡ read_numeral_of text
 unfolding read_numeral_of
@@ -268,18 +189,18 @@ numeral_read text r e = e
 signed_read : (read : List ℕ → Option ℕ) (t u : List ℕ) (m : Bool) (r : Option ℤ) → u ≡ unsigned t → m ≡ is_minus t → r ≡ in_range (option_map (signed m) (read u)) → r ≡ signed_value read t
 signed_read read t u m r eu em e = e ∙ ap (λ x. in_range (option_map (signed m) (read x))) eu ∙ ap (λ b. in_range (option_map (signed b) (read (unsigned t)))) em
 
-pub number_read : (text t u : List ℕ) (m : Bool) (r : Option ℤ) → t ≡ trimmed text → u ≡ unsigned t → m ≡ is_minus t → r ≡ in_range (option_map (signed m) (numeral_of u)) → r ≡ read_number_of text
-unfolding read_number_of
+pub number_read : (text t u : List ℕ) (m : Bool) (r : Option ℤ) → t ≡ trim text → u ≡ unsigned t → m ≡ is_minus t → r ≡ in_range (option_map (signed m) (numeral_of u)) → r ≡ read_number_of text
+unfolding read_number_of trimmed
 number_read text t u m r et eu em e = signed_read numeral_of t u m r eu em e ∙ ap (signed_value numeral_of) et
 
 pub base_ten : (text : List ℕ) (base : ℕ) → base ≡ 10 → read_number_of text ≡ read_in_base_of text base
 unfolding read_in_base_of
-base_ten text base e = sym (if_true (base == 10) _ _ (ap (λ b. b == 10) e))
+base_ten text base e = sym (cond-true (base == 10) _ _ (ap (λ b. b == 10) e))
 
-pub base_read : (base : ℕ) (text t u : List ℕ) (m : Bool) (r : Option ℤ) → (base ≡ 10 → ⊥) → t ≡ trimmed text → u ≡ unsigned t → m ≡ is_minus t → r ≡ in_range (option_map (signed m) (digits_of_base base u)) → r ≡ read_in_base_of text base
-unfolding read_in_base_of
+pub base_read : (base : ℕ) (text t u : List ℕ) (m : Bool) (r : Option ℤ) → (base ≡ 10 → ⊥) → t ≡ trim text → u ≡ unsigned t → m ≡ is_minus t → r ≡ in_range (option_map (signed m) (digits_of_base base u)) → r ≡ read_in_base_of text base
+unfolding read_in_base_of trimmed
 base_read base text t u m r other et eu em e =
-    signed_read (digits_of_base base) t u m r eu em e ∙ ap (signed_value (digits_of_base base)) et ∙ sym (if_false (base == 10) _ _ (by_test (base == 10) refl))
+    signed_read (digits_of_base base) t u m r eu em e ∙ ap (signed_value (digits_of_base base)) et ∙ sym (cond-false (base == 10) _ _ (by_test (base == 10) refl))
   where
     by_test : (b : Bool) → (base == 10) ≡ b → (base == 10) ≡ false
     by_test true h = absurd (other (eqb-true _ _ h))

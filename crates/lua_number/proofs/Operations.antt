@@ -1,4 +1,4 @@
--- Results that are kept or refused, rests and powers.
+-- Results in range and beyond it, rests and powers.
 use Rattle.std.proofs.Common.{◌≡◌, ℕ, zero, suc, ◌+◌, ◌-◌, ◌^◌, ◌%◌, ◌<◌, ◌≤◌, ◌⊎◌, Bool, true, false, refl, sym, ap, subst, ◌∙◌, inl, inr, arith, true≢false}
 use Rattle.std.specs.Prelude.{ℤ, pos, negsuc, ◌+ℤ◌, ◌-ℤ◌, ◌*ℤ◌, ◌<ℤ◌, ◌≤ℤ◌, neg_ℤ, FitsSigned, Option, Some, None, SomeIff, nat_lt, nat_eq, if◌then◌else◌, ◌||◌, Result, Ok, Err, int_div, int_rem, unsigned_abs}
 use Rattle.std.specs.Int.{w64, int_pow, CanDivide, IsNonZero}
@@ -9,7 +9,7 @@ use Rattle.std.proofs.lemmas.Int.{ints, quot-rem, rem_below}
 use lib.IntN.{pred_ℤ, pred_ℤ-*ℤ}
 use Rattle.lua_number.specs.declared.arithmetic.NumberFault.{NumberFault}
 use Rattle.lua_number.specs.declared.arithmetic.NumberFault.TheVariants.{OutOfRange, NotWhole, ByZero}
-use Rattle.lua_number.specs.Whole.{fits, kept, is_zero, same_sign, floor_of, rest_of, remainder_of, quotient_of, moved, Between, IsRest}
+use Rattle.lua_number.specs.Whole.{fits, in_range_or_fault, is_zero, same_sign, floor_of, rest_of, remainder_of, quotient_of, rest_beside, Between, IsRest}
 
 pub does_fit : (z : ℤ) → FitsSigned w64 z → fits z ≡ true
 does_fit (pos n) f = grind (arith, nat_tests, f.sfits)
@@ -27,11 +27,11 @@ not_fits (negsuc n) f = by_test (nat_lt n (2 ^ 63)) refl
     by_test true e = absurd (f (record { sfits = grind (arith, nat_tests, e) }))
     by_test false e = e
 
-pub kept_fits : (z : ℤ) → FitsSigned w64 z → kept z ≡ Ok z
-kept_fits z f = ap (λ (b : Bool). if b then Ok z else Err OutOfRange) (does_fit z f)
+pub result_fits : (z : ℤ) → FitsSigned w64 z → in_range_or_fault z ≡ Ok z
+result_fits z f = ap (λ (b : Bool). if b then Ok z else Err OutOfRange) (does_fit z f)
 
-pub kept_not : (z : ℤ) → (FitsSigned w64 z → ⊥) → kept z ≡ Err OutOfRange
-kept_not z f = ap (λ (b : Bool). if b then Ok z else Err OutOfRange) (not_fits z f)
+pub result_not : (z : ℤ) → (FitsSigned w64 z → ⊥) → in_range_or_fault z ≡ Err OutOfRange
+result_not z f = ap (λ (b : Bool). if b then Ok z else Err OutOfRange) (not_fits z f)
 
 choice_first : {A : Type 0} (x y : Bool) (p q : A) → (x ≡ true) ⊎ (y ≡ true) → (if x || y then p else q) ≡ p
 choice_first true y p q h = refl
@@ -127,7 +127,7 @@ odd_power n e = let h : n % 2 ≡ 1 = omega arith in rw (h, one_pow n) refl
 -- What `rem` answers.
 pub rem_ok : (a b r : ℤ) → FitsSigned w64 b → (b ≡ pos 0 → ⊥) → r ≡ rest_of a b → Ok r ≡ remainder_of a b
 rem_ok a b r f z e =
-    rw (is_nonzero b z) (ap Ok e ∙ sym (kept_fits (rest_of a b) (between_fits (rest_of a b) b (rest_between a b (is_nonzero b z)) f)))
+    rw (is_nonzero b z) (ap Ok e ∙ sym (result_fits (rest_of a b) (between_fits (rest_of a b) b (rest_between a b (is_nonzero b z)) f)))
 
 pub rem_rest : (a b r : ℤ) → (b ≡ pos 0 → ⊥) → r ≡ rest_of a b → IsRest a b r
 rem_rest a b r z e = subst (λ (x : ℤ). IsRest a b x) (sym e) (rest_is_rest a b (is_nonzero b z))
@@ -149,64 +149,41 @@ zero_pow : (n : ℕ) → 0 < n → 0 ^ n ≡ 0
 zero_pow zero h = absurd (omega arith)
 zero_pow (suc n) h = rw pow-suc (omega arith)
 
-pub zero_power : (a : ℤ) (n : ℕ) → a ≡ pos 0 → 64 ≤ n → Ok (pos 0) ≡ kept (int_pow a n)
+pub zero_power : (a : ℤ) (n : ℕ) → a ≡ pos 0 → 64 ≤ n → Ok (pos 0) ≡ in_range_or_fault (int_pow a n)
 zero_power a n e h = rw (e, zero_pow n (omega arith)) refl
 
-pub one_power : (a : ℤ) (n : ℕ) → a ≡ pos 1 → Ok (pos 1) ≡ kept (int_pow a n)
+pub one_power : (a : ℤ) (n : ℕ) → a ≡ pos 1 → Ok (pos 1) ≡ in_range_or_fault (int_pow a n)
 one_power a n e = rw (e, one_pow n) refl
 
 grows : (a n : ℕ) → 2 ≤ a → 64 ≤ n → 2 ^ 64 ≤ a ^ n
 grows a n h k = omega (arith, pow-le-pow_left {n = 2} {m = a} h 64, pow-le-pow_right {n = a} (omega arith) {i = 64} {j = n} k)
 
-pub large_power : (a : ℤ) (n : ℕ) → (a ≡ pos 0 → ⊥) → (a ≡ pos 1 → ⊥) → (a ≡ negsuc 0 → ⊥) → 64 ≤ n → Err OutOfRange ≡ kept (int_pow a n)
+pub large_power : (a : ℤ) (n : ℕ) → (a ≡ pos 0 → ⊥) → (a ≡ pos 1 → ⊥) → (a ≡ negsuc 0 → ⊥) → 64 ≤ n → Err OutOfRange ≡ in_range_or_fault (int_pow a n)
 large_power (pos zero) n p q r h = absurd (p refl)
 large_power (pos (suc zero)) n p q r h = absurd (q refl)
-large_power (pos (suc (suc a))) n p q r h = sym (kept_not (pos (suc (suc a) ^ n)) (λ f. omega (arith, f.sfits, grows (suc (suc a)) n (omega arith) h)))
+large_power (pos (suc (suc a))) n p q r h = sym (result_not (pos (suc (suc a) ^ n)) (λ f. omega (arith, f.sfits, grows (suc (suc a)) n (omega arith) h)))
 large_power (negsuc zero) n p q r h = absurd (r refl)
 large_power (negsuc (suc a)) n p q r h = by_parity (nat_eq (n % 2) 0) refl
   where
-    by_parity : (b : Bool) → nat_eq (n % 2) 0 ≡ b → Err OutOfRange ≡ kept (int_pow (negsuc (suc a)) n)
-    by_parity true e = rw e (sym (kept_not (pos (suc (suc a) ^ n)) (λ f. omega (arith, f.sfits, grows (suc (suc a)) n (omega arith) h))))
-    by_parity false e = rw e (sym (kept_not (neg_ℤ (pos (suc (suc a) ^ n))) (λ f. beyond _ (grows (suc (suc a)) n (omega arith) h) f)))
+    by_parity : (b : Bool) → nat_eq (n % 2) 0 ≡ b → Err OutOfRange ≡ in_range_or_fault (int_pow (negsuc (suc a)) n)
+    by_parity true e = rw e (sym (result_not (pos (suc (suc a) ^ n)) (λ f. omega (arith, f.sfits, grows (suc (suc a)) n (omega arith) h))))
+    by_parity false e = rw e (sym (result_not (neg_ℤ (pos (suc (suc a) ^ n))) (λ f. beyond _ (grows (suc (suc a)) n (omega arith) h) f)))
 
-pub moved_is : (a b r : ℤ) → r ≡ moved (int_rem a b) b → r ≡ rest_of a b
-moved_is a b r e = e ∙ by_tests (is_zero (int_rem a b)) (same_sign (int_rem a b) b) refl refl
+pub rest_beside_is : (a b r : ℤ) → r ≡ rest_beside (int_rem a b) b → r ≡ rest_of a b
+rest_beside_is a b r e = e ∙ by_tests (is_zero (int_rem a b)) (same_sign (int_rem a b) b) refl refl
   where
-    by_tests : (x y : Bool) → is_zero (int_rem a b) ≡ x → same_sign (int_rem a b) b ≡ y → moved (int_rem a b) b ≡ rest_of a b
+    by_tests : (x y : Bool) → is_zero (int_rem a b) ≡ x → same_sign (int_rem a b) b ≡ y → rest_beside (int_rem a b) b ≡ rest_of a b
     by_tests true y p q = choice_first (is_zero (int_rem a b)) (same_sign (int_rem a b) b) _ _ (inl p) ∙ sym (rest_same a b (inl p))
     by_tests false true p q = choice_first (is_zero (int_rem a b)) (same_sign (int_rem a b) b) _ _ (inr q) ∙ sym (rest_same a b (inr q))
     by_tests false false p q = choice_second (is_zero (int_rem a b)) (same_sign (int_rem a b) b) _ _ p q ∙ sym (rest_moved a b p q)
 
-pub moved_of : (a b r m : ℤ) → m ≡ moved r b → r ≡ int_rem a b → m ≡ rest_of a b
-moved_of a b r m e h = moved_is a b m (e ∙ ap (λ x. moved x b) h)
+pub rest_beside_of : (a b r m : ℤ) → m ≡ rest_beside r b → r ≡ int_rem a b → m ≡ rest_of a b
+rest_beside_of a b r m e h = rest_beside_is a b m (e ∙ ap (λ x. rest_beside x b) h)
 
-pub kept_below : (r b : ℤ) → b <ℤ pos 0 → r ≤ℤ pos 0 → r ≡ moved r b
-kept_below (pos zero) b lt le = refl
-kept_below (pos (suc r)) b lt le = absurd (omega (arith, ints))
-kept_below (negsuc r) (pos b) lt le = absurd (omega (arith, ints))
-kept_below (negsuc r) (negsuc b) lt le = refl
-
-pub moved_below : (r b : ℤ) → b <ℤ pos 0 → pos 0 <ℤ r → r +ℤ b ≡ moved r b
-moved_below (pos zero) b lt gt = absurd (omega (arith, ints))
-moved_below (pos (suc r)) (pos b) lt gt = absurd (omega (arith, ints))
-moved_below (pos (suc r)) (negsuc b) lt gt = refl
-moved_below (negsuc r) b lt gt = absurd (omega (arith, ints))
-
-pub kept_above : (r b : ℤ) → pos 0 ≤ℤ b → pos 0 ≤ℤ r → r ≡ moved r b
-kept_above (pos zero) b ge le = refl
-kept_above (pos (suc r)) (pos b) ge le = refl
-kept_above (pos (suc r)) (negsuc b) ge le = absurd (omega (arith, ints))
-kept_above (negsuc r) b ge le = absurd (omega (arith, ints))
-
-pub moved_above : (r b : ℤ) → pos 0 ≤ℤ b → r <ℤ pos 0 → r +ℤ b ≡ moved r b
-moved_above (pos r) b ge lt = absurd (omega (arith, ints))
-moved_above (negsuc r) (pos b) ge lt = refl
-moved_above (negsuc r) (negsuc b) ge lt = absurd (omega (arith, ints))
-
--- A checked operation gives the kept result.
-checked_is : (o : Option ℤ) (z : ℤ) → SomeIff o (FitsSigned w64 z) z → ok_or o OutOfRange ≡ kept z
-checked_is None z h = sym (kept_not z h)
-checked_is (Some x) z h = ap Ok h.1 ∙ sym (kept_fits z h.0)
+-- A checked operation gives the result, or says that it is out of range.
+checked_is : (o : Option ℤ) (z : ℤ) → SomeIff o (FitsSigned w64 z) z → ok_or o OutOfRange ≡ in_range_or_fault z
+checked_is None z h = sym (result_not z h)
+checked_is (Some x) z h = ap Ok h.1 ∙ sym (result_fits z h.0)
 
 -- What `div` answers.
 err_ok : (f : NumberFault) (z : ℤ) → Err f ≡ Ok z → ⊥
@@ -228,8 +205,8 @@ pub quotient_fault : (a b : ℤ) (f : NumberFault) → FitsSigned w64 b → Err 
 quotient_fault a b f fit e = by_test (is_zero b) refl
   where
     by_test : (x : Bool) → is_zero b ≡ x → Err f ≡ quotient_of a b
-    by_test true z = (rw z at e) ∙ sym (ap (λ (x : Bool). if x then Err ByZero else (if is_zero (rest_of a b) then kept (floor_of a b) else Err NotWhole)) z)
-    by_test false z = absurd (err_ok f (rest_of a b) ((rw z at e) ∙ kept_fits (rest_of a b) (between_fits (rest_of a b) b (rest_between a b z) fit)))
+    by_test true z = (rw z at e) ∙ sym (ap (λ (x : Bool). if x then Err ByZero else (if is_zero (rest_of a b) then in_range_or_fault (floor_of a b) else Err NotWhole)) z)
+    by_test false z = absurd (err_ok f (rest_of a b) ((rw z at e) ∙ result_fits (rest_of a b) (between_fits (rest_of a b) b (rest_between a b z) fit)))
 
 zero_sum : (r b : ℤ) → unsigned_abs r < unsigned_abs b → r +ℤ b ≡ pos 0 → ⊥
 zero_sum (pos r) (pos b) lt e = omega (arith, ints)
@@ -250,17 +227,17 @@ ok_remainder a b r fit e = by_test (is_zero b) refl
   where
     by_test : (x : Bool) → is_zero b ≡ x → (is_zero b ≡ false) × (r ≡ rest_of a b)
     by_test true z = absurd (err_ok ByZero r (sym ((rw z at e))))
-    by_test false z = (z, ok_same r (rest_of a b) ((rw z at e) ∙ kept_fits (rest_of a b) (between_fits (rest_of a b) b (rest_between a b z) fit)))
+    by_test false z = (z, ok_same r (rest_of a b) ((rw z at e) ∙ result_fits (rest_of a b) (between_fits (rest_of a b) b (rest_between a b z) fit)))
 
 pub quotient_whole : (a b : ℤ) (o : Option ℤ) (r : ℤ) → FitsSigned w64 b → Ok r ≡ remainder_of a b → r ≡ pos 0 → SomeIff o (CanDivide w64 a b) (int_div a b) → ok_or o OutOfRange ≡ quotient_of a b
 quotient_whole a b o r fit e z h =
     let k : (is_zero b ≡ false) × (r ≡ rest_of a b) = ok_remainder a b r fit e in
     let none : rest_of a b ≡ pos 0 = sym k.1 ∙ z in
     let whole : floor_of a b ≡ int_div a b = whole_floor a b k.0 none in
-    checked_is o (int_div a b) (can_divide a b o fit k.0 h) ∙ sym (ap (λ (x : Bool). if x then Err ByZero else (if is_zero (rest_of a b) then kept (floor_of a b) else Err NotWhole)) k.0 ∙ (ap (λ (x : ℤ). if is_zero x then kept (floor_of a b) else Err NotWhole) none ∙ ap kept whole))
+    checked_is o (int_div a b) (can_divide a b o fit k.0 h) ∙ sym (ap (λ (x : Bool). if x then Err ByZero else (if is_zero (rest_of a b) then in_range_or_fault (floor_of a b) else Err NotWhole)) k.0 ∙ (ap (λ (x : ℤ). if is_zero x then in_range_or_fault (floor_of a b) else Err NotWhole) none ∙ ap in_range_or_fault whole))
 
 pub quotient_not_whole : (a b r : ℤ) → FitsSigned w64 b → Ok r ≡ remainder_of a b → (r ≡ pos 0 → ⊥) → Err NotWhole ≡ quotient_of a b
 quotient_not_whole a b r fit e z =
     let k : (is_zero b ≡ false) × (r ≡ rest_of a b) = ok_remainder a b r fit e in
     let some : is_zero (rest_of a b) ≡ false = is_nonzero (rest_of a b) (λ n. z (k.1 ∙ n)) in
-    sym (ap (λ (x : Bool). if x then Err ByZero else (if is_zero (rest_of a b) then kept (floor_of a b) else Err NotWhole)) k.0 ∙ ap (λ (x : Bool). if x then kept (floor_of a b) else Err NotWhole) some)
+    sym (ap (λ (x : Bool). if x then Err ByZero else (if is_zero (rest_of a b) then in_range_or_fault (floor_of a b) else Err NotWhole)) k.0 ∙ ap (λ (x : Bool). if x then in_range_or_fault (floor_of a b) else Err NotWhole) some)

@@ -5,6 +5,7 @@ use Rattle.std.specs.List.{list_all, before_first}
 use Rattle.std.specs.Option.{option_map}
 use Rattle.std.specs.Char.{digit_value}
 use Rattle.std.specs.Str.Parse.{digits_value}
+use Rattle.wk_base.specs.Space.{trim}
 use Rattle.lua_number.specs.Whole.{fits}
 
 -- The number, if it is one of Lua's.
@@ -81,21 +82,9 @@ has_hex_mark text = slice_index text 0 == 48 && (slice_index text 1 == 120 || sl
 unfoldable pub numeral_of : List ℕ → Option ℕ
 numeral_of text = if has_hex_mark text then natural 16 (drop 2 text) else decimal_of text
 
--- The bytes that C's `isspace` takes: space, tab, line feed, vertical tab, form feed, carriage return.
-abbrev pub is_space : ℕ → Bool
-is_space c = c == 32 || (nat_le 9 c && nat_le c 13)
-
-abbrev pub without_front : List ℕ → List ℕ
-without_front [] = []
-without_front (c ∷ cs) = if is_space c then without_front cs else c ∷ cs
-
-abbrev pub without_back : List ℕ → List ℕ
-without_back [] = []
-without_back (c ∷ cs) = if list_all is_space (c ∷ cs) then [] else c ∷ without_back cs
-
--- The text without white space at its ends.
+-- The text without the bytes that C's `isspace` takes at its ends, which are those that wikitext trims.
 unfoldable pub trimmed : List ℕ → List ℕ
-trimmed text = without_back (without_front text)
+trimmed text = trim text
 
 -- One sign or none, and then what `read` takes.
 abbrev pub signed_value : (List ℕ → Option ℕ) → List ℕ → Option ℤ

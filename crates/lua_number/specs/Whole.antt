@@ -10,21 +10,21 @@ abbrev pub fits : ℤ → Bool
 fits (pos n) = nat_lt n (2 ^ 63)
 fits (negsuc n) = nat_lt n (2 ^ 63)
 
--- A result, if it is in range.
-abbrev pub kept : ℤ → Result ℤ NumberFault
-kept z = if fits z then Ok z else Err OutOfRange
+-- A result, or the fault that it is out of range.
+abbrev pub in_range_or_fault : ℤ → Result ℤ NumberFault
+in_range_or_fault z = if fits z then Ok z else Err OutOfRange
 
 abbrev pub sum_of : ℤ → ℤ → Result ℤ NumberFault
-sum_of a b = kept (a +ℤ b)
+sum_of a b = in_range_or_fault (a +ℤ b)
 
 abbrev pub difference_of : ℤ → ℤ → Result ℤ NumberFault
-difference_of a b = kept (a -ℤ b)
+difference_of a b = in_range_or_fault (a -ℤ b)
 
 abbrev pub product_of : ℤ → ℤ → Result ℤ NumberFault
-product_of a b = kept (a *ℤ b)
+product_of a b = in_range_or_fault (a *ℤ b)
 
 abbrev pub negative_of : ℤ → Result ℤ NumberFault
-negative_of a = kept (neg_ℤ a)
+negative_of a = in_range_or_fault (neg_ℤ a)
 
 abbrev pub is_zero : ℤ → Bool
 is_zero (pos zero) = true
@@ -46,17 +46,17 @@ floor_of a b = if is_zero (int_rem a b) || same_sign (int_rem a b) b then int_di
 abbrev pub rest_of : ℤ → ℤ → ℤ
 rest_of a b = a -ℤ floor_of a b *ℤ b
 
--- A rest of the division towards zero, moved to the side of b.
-abbrev pub moved : ℤ → ℤ → ℤ
-moved r b = if is_zero r || same_sign r b then r else r +ℤ b
+-- The rest on the side of b, from the rest of the division towards zero.
+abbrev pub rest_beside : ℤ → ℤ → ℤ
+rest_beside r b = if is_zero r || same_sign r b then r else r +ℤ b
 
 -- a % b
 abbrev pub remainder_of : ℤ → ℤ → Result ℤ NumberFault
-remainder_of a b = if is_zero b then Err ByZero else kept (rest_of a b)
+remainder_of a b = if is_zero b then Err ByZero else in_range_or_fault (rest_of a b)
 
 -- a / b, where it is whole
 abbrev pub quotient_of : ℤ → ℤ → Result ℤ NumberFault
-quotient_of a b = if is_zero b then Err ByZero else (if is_zero (rest_of a b) then kept (floor_of a b) else Err NotWhole)
+quotient_of a b = if is_zero b then Err ByZero else (if is_zero (rest_of a b) then in_range_or_fault (floor_of a b) else Err NotWhole)
 
 -- 1 over a power of a, which is whole for the bases 1 and -1 alone
 abbrev pub inverse_power_of : ℤ → ℕ → Result ℤ NumberFault
@@ -68,7 +68,7 @@ inverse_power_of (negsuc (suc a)) n = Err NotWhole
 
 -- a ^ b
 abbrev pub power_of : ℤ → ℤ → Result ℤ NumberFault
-power_of a (pos n) = kept (int_pow a n)
+power_of a (pos n) = in_range_or_fault (int_pow a n)
 power_of a (negsuc n) = inverse_power_of a (suc n)
 
 -- Between 0 and b, where it may be 0 and is never b.

@@ -1,7 +1,7 @@
 //! The operations of Lua's numbers (manual 2.5.1) on whole numbers of 64 bits.
 ghost use Rattle.std.specs.Prelude.{◌≡◌, ◌≢◌, pos, negsuc, int_rem, IfOk};
 ghost use Rattle.std.specs.Int.{int_pow};
-ghost use Rattle.lua_number.specs.Whole.{sum_of, difference_of, product_of, quotient_of, remainder_of, power_of, inverse_power_of, kept, negative_of, moved, IsRest};
+ghost use Rattle.lua_number.specs.Whole.{sum_of, difference_of, product_of, quotient_of, remainder_of, power_of, inverse_power_of, in_range_or_fault, negative_of, rest_beside, IsRest};
 
 /// Why an operation has no result.
 #[derive(Clone, Copy, Debug, PartialEq, Eq)]
@@ -54,7 +54,7 @@ pub fn rem(a: i64, b: i64) -> Result<i64, NumberFault>
     if b == -1 {
         return Ok(0);
     }
-    Ok(moved(rest_towards_zero(a, b), b))
+    Ok(rest_beside(rest_towards_zero(a, b), b))
 }
 
 fn rest_towards_zero(a: i64, b: i64) -> i64
@@ -66,8 +66,8 @@ fn rest_towards_zero(a: i64, b: i64) -> i64
 }
 
 // The rest on the side of `b`.
-fn moved(rest: i64, b: i64) -> i64
-    ensures { result ≡ moved rest b }
+fn rest_beside(rest: i64, b: i64) -> i64
+    ensures { result ≡ rest_beside rest b }
 {
     let on_other_side = if b < 0 { rest > 0 } else { rest < 0 };
     if on_other_side { rest + b } else { rest }
@@ -101,7 +101,7 @@ pub fn pow(a: i64, b: i64) -> Result<i64, NumberFault>
 }
 
 fn power(a: i64, exponent: u64) -> Result<i64, NumberFault>
-    ensures { result ≡ kept (int_pow a exponent) }
+    ensures { result ≡ in_range_or_fault (int_pow a exponent) }
 {
     if exponent < 64 {
         a.checked_pow(exponent as u32)

@@ -4,7 +4,7 @@
 //! - `printing`: the digits of a number
 //! - `reading`: numerals and number texts
 //!
-//! The definitions stand in `specs/Whole.antt` (the operations) and `specs/Numerals.antt` (what is read).
+//! The definitions stand in `specs/Whole.antt` (the operations; read it first) and `specs/Numerals.antt` (what is read).
 #![tactic(auto)]
 
 pub mod arithmetic;

@@ -4,8 +4,10 @@ ghost use Rattle.std.specs.List.{before_first, list_all};
 ghost use Rattle.std.specs.Char.{digit_value};
 ghost use Rattle.std.specs.Str.Parse.{digits_value, digits_value_after};
 ghost use Rattle.std.specs.Option.{ForSome};
-ghost use Rattle.lua_number.specs.Numerals.{in_range, behind, are_digits, natural, is_minus, unsigned, signed, is_exponent_mark, is_point, is_zero_digit, exponent_of, moved_point, whole_part, decimal_value, decimal_of, has_hex_mark, numeral_of, is_space, without_front, without_back, trimmed, digits_of_base, read_numeral_of, read_number_of, read_in_base_of};
+ghost use Rattle.lua_number.specs.Numerals.{in_range, behind, are_digits, natural, is_minus, unsigned, signed, is_exponent_mark, is_point, is_zero_digit, exponent_of, moved_point, whole_part, decimal_value, decimal_of, has_hex_mark, numeral_of, digits_of_base, read_numeral_of, read_number_of, read_in_base_of};
 ghost use Rattle.lua_number.specs.Words.{in_word};
+
+use wk_base::space::trim;
 
 /// The value of a numeral of a program, as `12`, `1e3`, `3.0` or `0x1F`, or None where the bytes are no numeral,
 /// or its value is not whole or is above 2^63 - 1.
@@ -20,7 +22,7 @@ pub fn read_numeral(text: &[u8]) -> Option<i64>
 pub fn read_number(text: &[u8]) -> Option<i64>
     ensures { result ≡ read_number_of text.now }
 {
-    let text = without_space(text);
+    let text = trim(text);
     with_sign(is_minus(text), numeral(unsigned(text)))
 }
 
@@ -35,7 +37,7 @@ pub fn read_in_base(text: &[u8], base: u32) -> Option<i64>
     if base == 10 {
         return read_number(text);
     }
-    let text = without_space(text);
+    let text = trim(text);
     with_sign(is_minus(text), digits_of_base(unsigned(text), base))
 }
 
@@ -68,44 +70,6 @@ fn unsigned(text: &[u8]) -> &[u8]
         [b'-' | b'+', rest @ ..] => rest,
         _ => text,
     }
-}
-
-fn is_space(c: u8) -> bool
-    ensures { result ≡ is_space c }
-{
-    c == b' ' || (9 <= c && c <= 13)
-}
-
-fn without_space(text: &[u8]) -> &[u8]
-    ensures { result.now ≡ trimmed text.now }
-{
-    without_back(without_front(text))
-}
-
-fn without_front(text: &[u8]) -> &[u8]
-    ensures { result.now ≡ without_front text.now }
-{
-    let mut left = text;
-    while let [first, rest @ ..] = left {
-        if !is_space(*first) {
-            break;
-        }
-        left = rest;
-    }
-    left
-}
-
-fn without_back(text: &[u8]) -> &[u8]
-    ensures { result.now ≡ without_back text.now }
-{
-    let mut left = text;
-    while let [rest @ .., last] = left {
-        if !is_space(*last) {
-            break;
-        }
-        left = rest;
-    }
-    left
 }
 
 fn has_hex_mark(text: &[u8]) -> bool

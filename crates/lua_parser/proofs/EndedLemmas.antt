@@ -6,7 +6,8 @@ use Rattle.lua_lexer.specs.declared.token.Token.{Token}
 use Rattle.lua_lexer.specs.declared.token.TokenKind.{TokenKind}
 use Rattle.lua_lexer.specs.declared.token.TokenKind.TheVariants.{Name as NameToken, Word, Mark, Number as NumberToken, Text as TextToken, End as EndToken}
 use Rattle.lua_lexer.specs.declared.token.Piece.{Piece}
-use Rattle.lua_lexer.specs.Lexis.{Lexes, Spells, tokens_of, line_behind, piece_of, Body, Closed, Open, at, is_space, is_letter, is_numeral, is_quote, opens_long, is_keyword, word_kind, string_of, long_piece, long_string, long_comment, comment_of, mark_of, mark_size, token_piece, before_closing, string_body, equals_behind, skipped, is_name_byte, numeral_size}
+use Rattle.wk_base.specs.Space.{is_white}
+use Rattle.lua_lexer.specs.Lexis.{Lexes, Spells, tokens_of, line_behind, piece_of, Body, Closed, Open, at, is_letter, is_numeral, is_quote, opens_long, is_keyword, word_kind, string_of, long_piece, long_string, long_comment, comment_of, mark_of, mark_size, token_piece, before_closing, string_body, equals_behind, no_token, is_name_byte, numeral_size}
 use Rattle.lua_grammar.specs.declared.Sort.{Sort}
 use Rattle.lua_grammar.specs.declared.Sort.TheVariants.{Eof, Other}
 use Rattle.lua_grammar.specs.Tokens.{sort_of, sort_at, tok_at, kind_sort, word_sort, mark_sort, look_up, same, Entry, early_words, middle_words, late_words, operators, comparisons, brackets, points}
@@ -88,7 +89,7 @@ mark_gives text = either (0 == mark_size text) (Err 4) (Ok (token_piece (Mark (t
 piece_gives : (text : List ℕ) → Gives (piece_of text)
 unfolding piece_of
 piece_gives text =
-    either (is_space (at text 0)) (Ok (skipped (prefix_len is_space text))) _ tt
+    either (is_white (at text 0)) (Ok (no_token (prefix_len is_white text))) _ tt
     (either (is_letter (at text 0)) (Ok (token_piece (word_kind (take (prefix_len is_name_byte text) text)) (prefix_len is_name_byte text))) _ (word_kind_not_end (is_keyword (take (prefix_len is_name_byte text) text)) (take (prefix_len is_name_byte text) text))
     (either (is_numeral text) (Ok (token_piece (NumberToken (take (numeral_size text) text)) (numeral_size text))) _ (λ e. cc)
     (either (is_quote (at text 0)) (string_of text) _ (string_gives text)

@@ -4,7 +4,7 @@ use Rattle.std.proofs.Common.{◌≡◌, ◌+◌, Bool, true, false, cond, List,
 use Rattle.std.specs.List.{AllByRecursion}
 use Rattle.std.specs.Map.{lookup}
 use Rattle.std.specs.Option.{option_map}
-use Rattle.lua_table.specs.Entries.{value_at, is_there, set_at, after_key, first_held, Stop}
+use Rattle.lua_table.specs.Entries.{value_at, is_there, set_at, after_key, first_live, Stop}
 
 module _ {A B : Type 0} (eq : A → A → Bool) (same : B → B → Bool) (f : A → B) (P : A → Type 0) (alike : (a b : A) → P a → P b → eq a b ≡ same (f a) (f b)) where
   abbrev pub entry : A × A → B × B
@@ -74,12 +74,12 @@ module _ {A B : Type 0} (eq : A → A → Bool) (same : B → B → Bool) (f : A
     abbrev pub stop : Stop eq nil → Stop same (f nil)
     stop s = record { key = f s.key; value = f s.value; passed = s.passed }
 
-    pub first_held-seen : (es : List (A × A)) → AllByRecursion Holds es → first_held same (f nil) (map entry es) ≡ stop (first_held eq nil es)
-    first_held-seen [] all = refl
-    first_held-seen (e ∷ es) all =
-        ap (λ b. cond b (passing (first_held same (f nil) (map entry es))) (here e)) (sym (alike e.1 nil all.0.1 nil_of))
-        ∙ ap (λ s. cond (eq e.1 nil) (passing s) (here e)) (first_held-seen es all.1)
-        ∙ elim (eq e.1 nil) as (λ b. cond b (passing (stop (first_held eq nil es))) (here e) ≡ stop (cond b (let s = first_held eq nil es in record s { passed = s.passed + 1 }) (record { key = e.0; value = e.1; passed = 0 }))) [ true ↦ refl | false ↦ refl ]
+    pub first_live-seen : (es : List (A × A)) → AllByRecursion Holds es → first_live same (f nil) (map entry es) ≡ stop (first_live eq nil es)
+    first_live-seen [] all = refl
+    first_live-seen (e ∷ es) all =
+        ap (λ b. cond b (passing (first_live same (f nil) (map entry es))) (here e)) (sym (alike e.1 nil all.0.1 nil_of))
+        ∙ ap (λ s. cond (eq e.1 nil) (passing s) (here e)) (first_live-seen es all.1)
+        ∙ elim (eq e.1 nil) as (λ b. cond b (passing (stop (first_live eq nil es))) (here e) ≡ stop (cond b (let s = first_live eq nil es in record s { passed = s.passed + 1 }) (record { key = e.0; value = e.1; passed = 0 }))) [ true ↦ refl | false ↦ refl ]
       where
         passing : Stop same (f nil) → Stop same (f nil)
         passing s = record s { passed = s.passed + 1 }
@@ -87,8 +87,8 @@ module _ {A B : Type 0} (eq : A → A → Bool) (same : B → B → Bool) (f : A
         here : A × A → Stop same (f nil)
         here x = record { key = f x.0; value = f x.1; passed = 0 }
 
-    pub first_held-holds : (es : List (A × A)) → AllByRecursion Holds es → P (first_held eq nil es).key × P (first_held eq nil es).value
-    first_held-holds [] all = (nil_of, nil_of)
-    first_held-holds (e ∷ es) all =
-        elim (eq e.1 nil) as (λ b. let s : Stop eq nil = cond b (let s = first_held eq nil es in record s { passed = s.passed + 1 }) (record { key = e.0; value = e.1; passed = 0 }) in P s.key × P s.value)
-        [ true ↦ first_held-holds es all.1 | false ↦ all.0 ]
+    pub first_live-holds : (es : List (A × A)) → AllByRecursion Holds es → P (first_live eq nil es).key × P (first_live eq nil es).value
+    first_live-holds [] all = (nil_of, nil_of)
+    first_live-holds (e ∷ es) all =
+        elim (eq e.1 nil) as (λ b. let s : Stop eq nil = cond b (let s = first_live eq nil es in record s { passed = s.passed + 1 }) (record { key = e.0; value = e.1; passed = 0 }) in P s.key × P s.value)
+        [ true ↦ first_live-holds es all.1 | false ↦ all.0 ]

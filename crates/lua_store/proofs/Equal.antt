@@ -12,7 +12,7 @@ use Rattle.lua_heap.specs.contracts.library.Library.{the_type}
 use Rattle.lua_store.specs.declared.value.Value.TheVariants.{Nil, Bool as Truth, Number, Text, Table, Closure, Builtin, Markup}
 use Rattle.lua_store.specs.contracts.value.ValuePartialEq.TheImpl.{ghosts}
 use Rattle.lua_store.specs.ValueLaws.{same_value}
-use Rattle.lua_store.specs.Seen.{Held, text_at, seen}
+use Rattle.lua_store.specs.Seen.{StoreView, text_at, seen}
 use Rattle.lua_store.specs.Parts.{IsOf}
 use Rattle.lua_store.proofs.Lists.{all-at}
 
@@ -25,7 +25,7 @@ one_place (t ∷ ts) zero (suc b) d h k e = absurd (true≢false (sym ((bytes_eq
 one_place (t ∷ ts) (suc a) zero d h k e = absurd (true≢false (sym ((bytes_eq-Decides t (text_at ts a)).1 (sym e)) ∙ all-at (λ u. bytes_eq t u ≡ false) ts a [] d.0 (omega (arith, h))))
 one_place (t ∷ ts) (suc a) (suc b) d h k e = ap suc (one_place ts a b d.1 (omega (arith, h)) (omega (arith, k)) e)
 
-pub seen-one : (s : Held) (a b : Value) → IsDistinct bytes_eq s.texts → IsOf s a → IsOf s b → seen s.texts a ≡ seen s.texts b → a ≡ b
+pub seen-one : (s : StoreView) (a b : Value) → IsDistinct bytes_eq s.texts → IsOf s a → IsOf s b → seen s.texts a ≡ seen s.texts b → a ≡ b
 seen-one s Nil Nil d h k e = refl
 seen-one s (Truth a) (Truth b) d h k e = ap Truth cc
 seen-one s (Number a) (Number b) d h k e = ap Number cc
@@ -47,7 +47,7 @@ same_value-alike (Closure id) = (Decides-eqb id.at id.at).1 refl
 same_value-alike (Builtin id) = true_same the_type id id refl
 same_value-alike (Markup id) = (Decides-eqb id.at id.at).1 refl
 
-pub eq-seen : (s : Held) → IsDistinct bytes_eq s.texts → (a b : Value) → IsOf s a → IsOf s b → ghosts.eq a b ≡ same (seen s.texts a) (seen s.texts b)
+pub eq-seen : (s : StoreView) → IsDistinct bytes_eq s.texts → (a b : Value) → IsOf s a → IsOf s b → ghosts.eq a b ≡ same (seen s.texts a) (seen s.texts b)
 eq-seen s d a b h k = both_ways (ghosts.eq a b) (same (seen s.texts a) (seen s.texts b))
     (λ e. subst (λ v. same (seen s.texts a) (seen s.texts v) ≡ true) (same_value a b e) (same-alike (seen s.texts a)))
     (λ e. subst (λ v. ghosts.eq a v ≡ true) (seen-one s a b d h k (same-true (seen s.texts a) (seen s.texts b) e)) (same_value-alike a))

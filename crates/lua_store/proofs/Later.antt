@@ -21,7 +21,7 @@ use Rattle.lua_store.specs.declared.markup.MarkupStyle.TheVariants.{Item, Text a
 use Rattle.lua_store.specs.declared.markup.MarkupChild.{MarkupChild}
 use Rattle.lua_store.specs.declared.markup.MarkupChild.TheVariants.{Text as ChildText, Node as ChildNode}
 use Rattle.lua_store.specs.declared.markup.MarkupNode.{MarkupNode}
-use Rattle.lua_store.specs.Seen.{Held, text_at, seen, seen_entry, seen_table, seen_closure, places_of, closed_of, seen_pair, seen_style, seen_child, seen_node}
+use Rattle.lua_store.specs.Seen.{StoreView, text_at, seen, seen_entry, seen_table, seen_closure, places_of, closed_of, seen_pair, seen_style, seen_child, seen_node}
 use Rattle.lua_store.specs.Parts.{Parts, IsOf, IsTextOf, IsCellOf, IsEntryOf, IsContentsOf, IsKindOf, IsContentOf, IsPairOf, IsStyleOf, IsChildOf, IsParentOf, IsNodeOf, AreOf, IsLonger, IsLater}
 use Rattle.lua_store.proofs.Lists.{all-to, map-alike}
 
@@ -42,19 +42,20 @@ longer-push texts bytes = record {
   same = λ id h. get_or-append texts (bytes ∷ []) [] id h;
 }
 
-pub later-itself : (s : Held) → IsLater s s
-later-itself s = record { texts = longer-itself s.texts; tables = omega arith; cells = omega arith; closures = omega arith; markup = omega arith }
+pub later-itself : (s : StoreView) → IsLater s s
+later-itself s = record { texts = longer-itself s.texts; tables = omega arith; cells = omega arith; closures = omega arith; markup = omega arith; closures_same = λ id h. refl }
 
-pub later-then : (s t u : Held) → IsLater s t → IsLater t u → IsLater s u
+pub later-then : (s t u : StoreView) → IsLater s t → IsLater t u → IsLater s u
 later-then s t u l m = record {
   texts = longer-then s.texts t.texts u.texts l.texts m.texts;
   tables = omega (arith, l.tables, m.tables);
   cells = omega (arith, l.cells, m.cells);
   closures = omega (arith, l.closures, m.closures);
   markup = omega (arith, l.markup, m.markup);
+  closures_same = λ id h. m.closures_same id (omega (arith, h, l.closures)) ∙ l.closures_same id h;
 }
 
-module _ (s t : Held) (l : IsLater s t) where
+module _ (s t : StoreView) (l : IsLater s t) where
   -- what is of the earlier store is of the later one
 
   pub text_of-later : (id : TextId) → IsTextOf s id → IsTextOf t id

@@ -6,3 +6,4 @@ pub mod TextLemmas
 pub mod Changes
 pub mod Walks
 pub mod There
+pub mod AtPlaces

@@ -13,8 +13,8 @@ use Rattle.lua_store.specs.declared.closure.Closure.{Closure}
 use Rattle.lua_store.specs.declared.markup.MarkupChild.{MarkupChild}
 use Rattle.lua_store.specs.declared.markup.MarkupChild.TheVariants.{Text as ChildText, Node as ChildNode}
 use Rattle.lua_store.specs.declared.markup.MarkupNode.{MarkupNode}
-use Rattle.lua_store.specs.Seen.{Held, seen, seen_entry, seen_table, seen_closure, closed_of, places_of, text_at, seen_child, seen_node}
-use Rattle.lua_store.specs.Parts.{Parts, held, IsOf, IsCellOf, IsEntryOf, IsContentsOf, IsContentOf, IsChildOf, IsParentOf, IsNodeOf, IsWhole}
+use Rattle.lua_store.specs.Seen.{StoreView, seen, seen_entry, seen_table, seen_closure, closed_of, places_of, text_at, seen_child, seen_node}
+use Rattle.lua_store.specs.Parts.{Parts, view_of, IsOf, IsCellOf, IsEntryOf, IsContentsOf, IsContentOf, IsChildOf, IsParentOf, IsNodeOf, IsWhole}
 use Rattle.lua_heap.specs.Proc.{Proc, proc_names}
 use Rattle.lua_store.specs.declared.closure.ClosureKind.{ClosureKind}
 use Rattle.lua_store.specs.declared.closure.ClosureKind.TheVariants.{Function, Iterator}
@@ -37,7 +37,7 @@ kept f g [] n h = cc
 kept f g (x ∷ xs) zero h = (x, refl, refl)
 kept f g (x ∷ xs) (suc n) h = kept f g xs n h
 
-module _ (s : Held) where
+module _ (s : StoreView) where
   value-there : (v : Value) → IsOf s v → AllIn (is_there s.heap) (value_names (seen s.texts v))
   value-there Nil h = tt
   value-there (Truth b) h = tt
@@ -83,19 +83,19 @@ module _ (s : Held) where
   node-there n h =
       both (is_there s.heap) (parent_names (option_map (λ id. id.at) n.parent)) (flat_map child_names (map (seen_child s.texts) n.children)) (parent-there n.parent h.parent) (children-there n.children h.children)
 
-pub names-there : (p : Parts) → IsWhole p → NamesWhatIsThere (held p)
+pub names-there : (p : Parts) → IsWhole p → NamesWhatIsThere (view_of p)
 names-there p w = record { there = by }
   where
-    by : (r : Ref) → IsTrue (is_there (held p).heap r) → (a : Obj Proc) × (look (held p).heap r ≡ Some a) × AllIn (is_there (held p).heap) (obj_names proc_names a)
+    by : (r : Ref) → IsTrue (is_there (view_of p).heap r) → (a : Obj Proc) × (look (view_of p).heap r ≡ Some a) × AllIn (is_there (view_of p).heap) (obj_names proc_names a)
     by (tab n) h =
         let k = kept (seen_table p.texts) TableObj p.tables n h in
-        (TableObj (seen_table p.texts k.0), k.2, table-there (held p) k.0 (all-get (IsContentsOf (held p)) p.tables n k.0 w.own.tables k.1))
+        (TableObj (seen_table p.texts k.0), k.2, table-there (view_of p) k.0 (all-get (IsContentsOf (view_of p)) p.tables n k.0 w.own.tables k.1))
     by (cel n) h =
         let k = kept (seen p.texts) CellObj p.cells n h in
-        (CellObj (seen p.texts k.0), k.2, value-there (held p) k.0 (all-get (IsOf (held p)) p.cells n k.0 w.own.cells k.1))
+        (CellObj (seen p.texts k.0), k.2, value-there (view_of p) k.0 (all-get (IsOf (view_of p)) p.cells n k.0 w.own.cells k.1))
     by (clo n) h =
         let k = kept (seen_closure p.texts) ClosureObj p.closures n h in
-        (ClosureObj (seen_closure p.texts k.0), k.2, closure-there (held p) k.0 (all-get (IsContentOf (held p)) p.closures n k.0 w.own.closures k.1))
+        (ClosureObj (seen_closure p.texts k.0), k.2, closure-there (view_of p) k.0 (all-get (IsContentOf (view_of p)) p.closures n k.0 w.own.closures k.1))
     by (mar n) h =
         let k = kept (seen_node p.texts) MarkupObj p.markup n h in
-        (MarkupObj (seen_node p.texts k.0), k.2, node-there (held p) k.0 (all-get (IsNodeOf (held p)) p.markup n k.0 w.own.markup k.1))
+        (MarkupObj (seen_node p.texts k.0), k.2, node-there (view_of p) k.0 (all-get (IsNodeOf (view_of p)) p.markup n k.0 w.own.markup k.1))

@@ -8,28 +8,28 @@ use Rattle.lua_heap.specs.Reach.{is_there, IsClosed}
 use Rattle.lua_store.specs.declared.value.Value.{Value}
 use Rattle.lua_store.specs.declared.closure.Closure.{Closure}
 use Rattle.lua_store.specs.declared.markup.MarkupNode.{MarkupNode}
-use Rattle.lua_store.specs.Seen.{Held, seen, seen_table, seen_closure, seen_node}
+use Rattle.lua_store.specs.Seen.{StoreView, seen, seen_table, seen_closure, seen_node}
 use Rattle.lua_store.specs.Parts.{IsOf, IsContentsOf, IsContentOf, IsNodeOf, IsLater}
 
 abbrev pub ValuesStay : Type 0
-ValuesStay = (s t : Held) (v : Value) → IsLater s t → IsOf s v → IsOf t v × (seen t.texts v ≡ seen s.texts v)
+ValuesStay = (s t : StoreView) (v : Value) → IsLater s t → IsOf s v → IsOf t v × (seen t.texts v ≡ seen s.texts v)
 
 abbrev pub TablesStay : Type 0
-TablesStay = (s t : Held) (c : Contents Value) → IsLater s t → IsContentsOf s c → IsContentsOf t c × (seen_table t.texts c ≡ seen_table s.texts c)
+TablesStay = (s t : StoreView) (c : Contents Value) → IsLater s t → IsContentsOf s c → IsContentsOf t c × (seen_table t.texts c ≡ seen_table s.texts c)
 
 abbrev pub ClosuresStay : Type 0
-ClosuresStay = (s t : Held) (c : Closure) → IsLater s t → IsContentOf s c → IsContentOf t c × (seen_closure t.texts c ≡ seen_closure s.texts c)
+ClosuresStay = (s t : StoreView) (c : Closure) → IsLater s t → IsContentOf s c → IsContentOf t c × (seen_closure t.texts c ≡ seen_closure s.texts c)
 
 abbrev pub NodesStay : Type 0
-NodesStay = (s t : Held) (n : MarkupNode) → IsLater s t → IsNodeOf s n → IsNodeOf t n × (seen_node t.texts n ≡ seen_node s.texts n)
+NodesStay = (s t : StoreView) (n : MarkupNode) → IsLater s t → IsNodeOf s n → IsNodeOf t n × (seen_node t.texts n ≡ seen_node s.texts n)
 
 abbrev pub LaterGoesOn : Type 0
-LaterGoesOn = (s t u : Held) → IsLater s t → IsLater t u → IsLater s u
+LaterGoesOn = (s t u : StoreView) → IsLater s t → IsLater t u → IsLater s u
 
 -- where no text is kept twice, two values that are seen alike are one
 abbrev pub SeenOnce : Type 0
-SeenOnce = (s : Held) (a b : Value) → IsDistinct bytes_eq s.texts → IsOf s a → IsOf s b → seen s.texts a ≡ seen s.texts b → a ≡ b
+SeenOnce = (s : StoreView) (a b : Value) → IsDistinct bytes_eq s.texts → IsOf s a → IsOf s b → seen s.texts a ≡ seen s.texts b → a ≡ b
 
 -- whatever an object of the store names is there
-abbrev pub NamesWhatIsThere : Held → Type 0
+abbrev pub NamesWhatIsThere : StoreView → Type 0
 NamesWhatIsThere s = IsClosed proc_names (is_there s.heap) s.heap

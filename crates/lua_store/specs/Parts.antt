@@ -3,7 +3,7 @@ use Rattle.std.specs.Prelude.{◌≡◌, ℕ, ◌<◌, ◌≤◌, false, List, [
 use Rattle.std.specs.List.{list_any, AllByRecursion, IsDistinct}
 use Rattle.std.specs.Str.{bytes_eq}
 use Rattle.lua_table.specs.Entries.{Contents, set_at}
-use Rattle.lua_heap.specs.Heap.{empty}
+use Rattle.lua_heap.specs.Heap.{empty, closure_at}
 use Rattle.lua_store.specs.declared.ids.TextId.{TextId}
 use Rattle.lua_store.specs.declared.ids.TableId.{TableId}
 use Rattle.lua_store.specs.declared.ids.CellId.{CellId}
@@ -22,7 +22,7 @@ use Rattle.lua_store.specs.declared.markup.MarkupChild.{MarkupChild}
 use Rattle.lua_store.specs.declared.markup.MarkupChild.TheVariants.{Text as ChildText, Node as ChildNode}
 use Rattle.lua_store.specs.declared.markup.MarkupNode.{MarkupNode}
 use Rattle.lua_store.specs.Envs.{envs_of}
-use Rattle.lua_store.specs.Seen.{Held, text_at, seen_table, seen, seen_closure, seen_node}
+use Rattle.lua_store.specs.Seen.{StoreView, text_at, seen_table, seen, seen_closure, seen_node}
 
 pub record Parts : Type 0 where
   pub texts : List (List ℕ)
@@ -31,8 +31,8 @@ pub record Parts : Type 0 where
   pub closures : List Closure
   pub markup : List MarkupNode
 
-abbrev pub held : Parts → Held
-held p = record {
+abbrev pub view_of : Parts → StoreView
+view_of p = record {
   texts = p.texts;
   heap = record {
     tables = map (seen_table p.texts) p.tables;
@@ -44,23 +44,23 @@ held p = record {
 }
 
 -- ids of a store
-abbrev pub IsTextOf : Held → TextId → Type 0
+abbrev pub IsTextOf : StoreView → TextId → Type 0
 IsTextOf s id = id.at < length s.texts
 
-abbrev pub IsTableOf : Held → TableId → Type 0
+abbrev pub IsTableOf : StoreView → TableId → Type 0
 IsTableOf s id = id.at < length s.heap.tables
 
-abbrev pub IsCellOf : Held → CellId → Type 0
+abbrev pub IsCellOf : StoreView → CellId → Type 0
 IsCellOf s id = id.at < length s.heap.cells
 
-abbrev pub IsClosureOf : Held → ClosureId → Type 0
+abbrev pub IsClosureOf : StoreView → ClosureId → Type 0
 IsClosureOf s id = id.at < length s.heap.closures
 
-abbrev pub IsMarkupOf : Held → MarkupId → Type 0
+abbrev pub IsMarkupOf : StoreView → MarkupId → Type 0
 IsMarkupOf s id = id.at < length s.heap.markup
 
 -- values, and what else holds ids, that name only what the store has
-abbrev pub IsOf : Held → Value → Type 0
+abbrev pub IsOf : StoreView → Value → Type 0
 IsOf s Nil = Unit {0}
 IsOf s (Truth b) = Unit {0}
 IsOf s (Number n) = Unit {0}
@@ -70,40 +70,40 @@ IsOf s (ClosureValue id) = IsClosureOf s id
 IsOf s (Builtin which) = Unit {0}
 IsOf s (Markup id) = IsMarkupOf s id
 
-abbrev pub IsEntryOf : Held → Value × Value → Type 0
+abbrev pub IsEntryOf : StoreView → Value × Value → Type 0
 IsEntryOf s e = IsOf s e.0 × IsOf s e.1
 
-pub record IsContentsOf (s : Held) (t : Contents Value) : Type 0 where
+pub record IsContentsOf (s : StoreView) (t : Contents Value) : Type 0 where
   pub entries : AllByRecursion (IsEntryOf s) t.entries
   pub meta : IsOf s t.meta
 
-abbrev pub AreCellsOf : Held → List CellId → Type 0
+abbrev pub AreCellsOf : StoreView → List CellId → Type 0
 AreCellsOf s cells = AllByRecursion (IsCellOf s) cells
 
-abbrev pub IsKindOf : Held → ClosureKind → Type 0
+abbrev pub IsKindOf : StoreView → ClosureKind → Type 0
 IsKindOf s (Function p) = IsTextOf s p.title
 IsKindOf s (Iterator step) = Unit {0}
 
-pub record IsContentOf (s : Held) (c : Closure) : Type 0 where
+pub record IsContentOf (s : StoreView) (c : Closure) : Type 0 where
   pub kind : IsKindOf s c.kind
   pub cells : AreCellsOf s c.cells
 
-abbrev pub IsPairOf : Held → TextPair → Type 0
+abbrev pub IsPairOf : StoreView → TextPair → Type 0
 IsPairOf s p = IsTextOf s p.name × IsTextOf s p.value
 
-abbrev pub IsStyleOf : Held → MarkupStyle → Type 0
+abbrev pub IsStyleOf : StoreView → MarkupStyle → Type 0
 IsStyleOf s (Item p) = IsPairOf s p
 IsStyleOf s (StyleText id) = IsTextOf s id
 
-abbrev pub IsChildOf : Held → MarkupChild → Type 0
+abbrev pub IsChildOf : StoreView → MarkupChild → Type 0
 IsChildOf s (ChildText id) = IsTextOf s id
 IsChildOf s (ChildNode id) = IsMarkupOf s id
 
-abbrev pub IsParentOf : Held → Option MarkupId → Type 0
+abbrev pub IsParentOf : StoreView → Option MarkupId → Type 0
 IsParentOf s None = Unit {0}
 IsParentOf s (Some id) = IsMarkupOf s id
 
-pub record IsNodeOf (s : Held) (n : MarkupNode) : Type 0 where
+pub record IsNodeOf (s : StoreView) (n : MarkupNode) : Type 0 where
   pub name : IsTextOf s n.name
   pub parent : IsParentOf s n.parent
   pub attrs : AllByRecursion (IsPairOf s) n.attrs
@@ -111,7 +111,7 @@ pub record IsNodeOf (s : Held) (n : MarkupNode) : Type 0 where
   pub children : AllByRecursion (IsChildOf s) n.children
 
 -- whatever is kept names only what the store has
-pub record AreOf (s : Held) (p : Parts) : Type 0 where
+pub record AreOf (s : StoreView) (p : Parts) : Type 0 where
   pub tables : AllByRecursion (IsContentsOf s) p.tables
   pub cells : AllByRecursion (IsOf s) p.cells
   pub closures : AllByRecursion (IsContentOf s) p.closures
@@ -120,7 +120,7 @@ pub record AreOf (s : Held) (p : Parts) : Type 0 where
 -- no text is kept twice, and whatever is kept names only what is there
 pub record IsWhole (p : Parts) : Type 0 where
   pub distinct : IsDistinct bytes_eq p.texts
-  pub own : AreOf (held p) p
+  pub own : AreOf (view_of p) p
 
 -- a table without entries
 abbrev pub no_contents : Contents Value
@@ -142,14 +142,15 @@ pub record IsLonger (old new : List (List ℕ)) : Type 0 where
   pub length_ : length old ≤ length new
   pub same : (id : ℕ) → id < length old → text_at new id ≡ text_at old id
 
--- whatever the earlier store has, the later one has, and texts are as they were
-pub record IsLater (old new : Held) : Type 0 where
+-- whatever the earlier store has, the later one has; texts and closures are as they were
+pub record IsLater (old new : StoreView) : Type 0 where
   pub texts : IsLonger old.texts new.texts
   pub tables : length old.heap.tables ≤ length new.heap.tables
   pub cells : length old.heap.cells ≤ length new.heap.cells
   pub closures : length old.heap.closures ≤ length new.heap.closures
   pub markup : length old.heap.markup ≤ length new.heap.markup
+  pub closures_same : (id : ℕ) → id < length old.heap.closures → closure_at new.heap id ≡ closure_at old.heap id
 
 -- a store with nothing in it
-abbrev pub nothing : Held
+abbrev pub nothing : StoreView
 nothing = record { texts = []; heap = empty; envs = [] }

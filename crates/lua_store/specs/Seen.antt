@@ -23,7 +23,7 @@ use Rattle.lua_store.specs.declared.markup.MarkupChild.TheVariants.{Text as Stor
 use Rattle.lua_store.specs.declared.markup.MarkupNode.{MarkupNode as StoredNode}
 
 -- a store: the texts in the order in which they were made, the objects, and for each closure the number of its invocation
-pub record Held : Type 0 where
+pub record StoreView : Type 0 where
   pub texts : List (List ℕ)
   pub heap : Heap Proc
   pub envs : List ℕ

@@ -8,7 +8,8 @@ use std::alloc::Global;
 use std::marker::Model;
 use wk_base::NoMemory;
 
-/// Closures in the order in which they were made. The set has the numbers of their invocations, each once.
+/// Closures in the order in which they were made. The set has the numbers of their invocations, each once: these count up and
+/// no module chooses them, so the set needs no seed.
 #[derive(Drop)]
 pub struct Closures {
     items: Vec<Closure>,

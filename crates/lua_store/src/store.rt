@@ -18,6 +18,7 @@ use crate::vectors::{push, replace};
 use bumpalo::Bump;
 use lua_table::Table;
 use std::alloc::Global;
+use std::hash::RandomState;
 use std::marker::Model;
 use wk_base::{List, NoMemory};
 
@@ -27,6 +28,8 @@ use wk_base::{List, NoMemory};
 #[derive(Drop)]
 pub struct Store<'b> {
     pub(crate) alloc: Global,
+    /// From this texts and the keys of tables are hashed.
+    pub(crate) seed: RandomState,
     pub(crate) texts: Texts<'b>,
     pub(crate) tables: Vec<Table<Value>>,
     pub(crate) cells: Vec<Value>,
@@ -35,24 +38,28 @@ pub struct Store<'b> {
 }
 
 impl<'b> Model for Store<'b> {
-    ghost use Rattle.lua_store.specs.Seen.{Held};
-    ghost use Rattle.lua_store.specs.Parts.{held, IsWhole};
+    ghost use Rattle.lua_store.specs.Seen.{StoreView};
+    ghost use Rattle.lua_store.specs.Parts.{view_of, IsWhole};
 
-    ghost Value = { Held };
+    ghost Value = { StoreView };
 
-    ghost view = { λ s. held (record { texts = s.texts; tables = s.tables.items; cells = s.cells.items; closures = s.closures; markup = s.markup.items }) };
+    ghost view = { λ s. view_of (record { texts = s.texts; tables = s.tables.items; cells = s.cells.items; closures = s.closures; markup = s.markup.items }) };
 
     ghost invariant = { λ s. IsWhole (record { texts = s.texts; tables = s.tables.items; cells = s.cells.items; closures = s.closures; markup = s.markup.items }) };
 }
 
 impl<'b> Store<'b> {
     /// A store with nothing in it, whose texts will stand in the arena.
-    pub fn new(alloc: Global, arena: &'b Bump) -> Store<'b>
+    ///
+    /// Texts and the keys of tables are hashed from the seed. One that is drawn anew for each run of the program keeps a module
+    /// from choosing keys that collide; nothing that a store answers depends on it.
+    pub fn new(alloc: Global, arena: &'b Bump, seed: RandomState) -> Store<'b>
         ensures { result ≡ nothing }
     {
         Store {
             alloc,
-            texts: Texts::new(alloc, arena),
+            seed,
+            texts: Texts::new(alloc, arena, seed),
             tables: Vec::new(alloc),
             cells: Vec::new(alloc),
             closures: Closures::new(alloc),
@@ -65,7 +72,7 @@ impl<'b> Store<'b> {
         ensures of { IfOk result (IsTextOf self.new) }
         ensures there { IfOk result (λ id. text_at self.new.texts id.at ≡ bytes.now) }
         ensures one { IfOk result (λ id. (other : TextId) → IsTextOf self.new other → text_at self.new.texts other.at ≡ bytes.now → other ≡ id) }
-        ensures kept { OnOk result (self.new ≡ record self.old { texts = with_text self.old.texts bytes.now }) }
+        ensures added { OnOk result (self.new ≡ record self.old { texts = with_text self.old.texts bytes.now }) }
         ensures later { IsLater self.old self.new }
         ensures err { OnErr result (self.new ≡ self.old) }
     {

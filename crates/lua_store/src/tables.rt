@@ -1,5 +1,6 @@
 //! The calls of a store on its tables.
-ghost use Rattle.std.specs.Prelude.{◌≡◌, ◌<◌, ◌↔◌, ◌&&◌, pos, not, true, false, length, slice_set, IfOk, OnOk, OnErr};
+ghost use Rattle.std.specs.Prelude.{◌≡◌, ◌<◌, ◌↔◌, ◌&&◌, pos, not, true, false, length, slice_get, slice_set, IfOk, IfSome, OnOk, OnErr};
+ghost use Rattle.std.specs.Option.{option_map};
 ghost use Rattle.std.specs.List.{IsDistinct};
 ghost use Rattle.std.specs.Str.{bytes_eq};
 ghost use Rattle.lua_table.specs.Entries.{value_at, is_there};
@@ -11,8 +12,8 @@ ghost use Rattle.lua_heap.specs.Value as kind;
 ghost use Rattle.lua_heap.specs.Value.{is_nil};
 ghost use Rattle.lua_store.specs.contracts.value.ValuePartialEq.TheImpl.{ghosts};
 ghost use Rattle.lua_store.specs.declared.value.Value.TheVariants as own;
-ghost use Rattle.lua_store.specs.Seen.{seen, seen_table, seen_next};
-ghost use Rattle.lua_store.specs.Parts.{table_in, with_entry, IsTableOf, IsOf, IsContentsOf, IsLater};
+ghost use Rattle.lua_store.specs.Seen.{seen, seen_entry, seen_table, seen_next};
+ghost use Rattle.lua_store.specs.Parts.{table_in, with_entry, IsTableOf, IsOf, IsEntryOf, IsContentsOf, IsLater};
 
 use crate::ids::TableId;
 use crate::store::Store;
@@ -30,7 +31,7 @@ impl<'b> Store<'b> {
         ensures later { IsLater self.old self.new }
         ensures err { OnErr result (self.new ≡ self.old) }
     {
-        let table = Table::new(self.alloc);
+        let table = Table::new(self.alloc, self.seed);
         Ok(TableId::of_place(push(&mut self.tables, table)?))
     }
 
@@ -54,6 +55,15 @@ impl<'b> Store<'b> {
         self.table(id).get(&key)
     }
 
+    /// Whether a key of a table has an entry, cleared or not. Only a key without one makes an entry, and can need memory.
+    pub fn has(&self, id: TableId, key: Value) -> bool
+        requires table { IsTableOf self.now id }
+        requires key { IsOf self.now key }
+        ensures { result ≡ has (table_at self.now.heap id.at).entries (seen self.now.texts key) }
+    {
+        self.table(id).has(&key)
+    }
+
     /// Where a walk over a table comes to from a key, or from nil: the next entry that is not cleared, or nil at the end
     /// (`next`, manual 5.1). A key that never was set is `NoSuchKey`.
     pub fn next(&self, id: TableId, key: Value) -> Result<Step<Value>, NoSuchKey>
@@ -63,6 +73,23 @@ impl<'b> Store<'b> {
         ensures next { seen_next self.now.texts result ≡ entries.next (table_at self.now.heap id.at).entries (seen self.now.texts key) }
     {
         self.table(id).next(&key)
+    }
+
+    /// How many tables there are. Their names are the places from 0 on.
+    pub fn table_count(&self) -> usize
+        ensures { result ≡ length self.now.heap.tables }
+    {
+        self.tables.len()
+    }
+
+    /// The entry of a table at a place in order of first insertion, cleared or not; none past the last one.
+    #[tactic(auto, using(crate::proofs::AtPlaces::entry_of, crate::proofs::AtPlaces::entry_seen))]
+    pub fn entry(&self, id: TableId, place: usize) -> Option<(Value, Value)>
+        requires { IsTableOf self.now id }
+        ensures of { IfSome result (IsEntryOf self.now) }
+        ensures entry { option_map (seen_entry self.now.texts) result ≡ slice_get (table_at self.now.heap id.at).entries place }
+    {
+        self.table(id).at(place)
     }
 
     /// The least border of a table, which is what `#` gives (manual 2.5.5).

@@ -3,8 +3,27 @@ use crate::{
 };
 use bumpalo::Bump;
 use std::alloc::Global;
+use std::hash::RandomState;
+use std::io;
+use std::mem::size_of;
 use std::process::Abort;
+use std::random::RandomSource;
+use std::test::Fail;
 use wk_base::{List, NoMemory};
+
+/// A source whose bytes are all 5, so that each run of the tests is the same.
+struct Fives;
+
+impl RandomSource for Fives {
+    fn fill_bytes(&self, bytes: &mut [u8]) -> io::Result<()> {
+        bytes.fill(5);
+        Ok(())
+    }
+}
+
+fn fixed_seed() -> io::Result<RandomState> {
+    RandomState::new(&Fives)
+}
 
 /// Makes a table its own metatable.
 fn set_itself(store: &mut Store, id: TableId)
@@ -34,6 +53,10 @@ fn read_itself(rt: &impl Abort, store: &Store, id: TableId)
     let itself = Value::Table(id);
     assert!(rt; store.get(id, itself) == itself);
     assert!(rt; store.table(id).get(&itself) == itself);
+    assert!(rt; store.has(id, itself) && !store.has(id, Value::Nil));
+    assert!(rt; store.entry(id, 0) == Some((itself, itself)));
+    assert!(rt; store.entry(id, 1) == None);
+    assert!(rt; store.table_count() == 1);
     assert!(rt; store.meta(id) == itself);
     assert!(rt; store.border(id) == 0);
     walk(rt, store, id, Value::Nil, itself);
@@ -151,9 +174,9 @@ fn count_texts(rt: &impl Abort, store: &mut Store, count: u64) -> Result<(), NoM
 }
 
 #[test]
-fn a_table_that_holds_itself_is_given_up_with_its_store(rt: HostRuntime) {
+fn a_table_that_holds_itself_is_given_up_with_its_store(rt: HostRuntime) -> Result<(), Fail> {
     let arena = Bump::new(rt.alloc());
-    let mut store = Store::new(rt.alloc(), &arena);
+    let mut store = Store::new(rt.alloc(), &arena, fixed_seed()?);
     match hold_itself(&rt, &mut store) {
         Ok(id) => {
             read_itself(&rt, &store, id);
@@ -161,6 +184,7 @@ fn a_table_that_holds_itself_is_given_up_with_its_store(rt: HostRuntime) {
         }
         Err(_) => assert!(rt; false),
     }
+    Ok(())
 }
 
 /// States each law.
@@ -176,19 +200,26 @@ fn state_laws(store: &Store) {
 }
 
 #[test]
-fn each_call_is_made(rt: HostRuntime) {
+fn each_call_is_made(rt: HostRuntime) -> Result<(), Fail> {
     let arena = Bump::new(rt.alloc());
-    let mut store = Store::new(rt.alloc(), &arena);
+    let mut store = Store::new(rt.alloc(), &arena, fixed_seed()?);
     assert!(rt; name_texts(&rt, &mut store).is_ok());
     assert!(rt; keep_in_cell(&rt, &mut store).is_ok());
     assert!(rt; make_closures(&rt, &mut store, rt.alloc()).is_ok());
     assert!(rt; swap_nodes(&rt, &mut store, rt.alloc()).is_ok());
     state_laws(&store);
+    Ok(())
 }
 
 #[test]
-fn a_million_texts_have_one_name_each(rt: HostRuntime) {
+fn a_value_takes_16_bytes(rt: HostRuntime) {
+    assert_eq!(rt; size_of::<Value>(), 16);
+}
+
+#[test]
+fn a_million_texts_have_one_name_each(rt: HostRuntime) -> Result<(), Fail> {
     let arena = Bump::new(rt.alloc());
-    let mut store = Store::new(rt.alloc(), &arena);
+    let mut store = Store::new(rt.alloc(), &arena, fixed_seed()?);
     assert!(rt; count_texts(&rt, &mut store, 1_000_000).is_ok());
+    Ok(())
 }

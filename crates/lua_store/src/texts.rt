@@ -6,6 +6,7 @@ ghost use Rattle.lua_store.specs.Parts.{with_text};
 use bumpalo::Bump;
 use indexmap::IndexSet;
 use std::alloc::Global;
+use std::hash::RandomState;
 use std::marker::Model;
 use wk_base::NoMemory;
 
@@ -13,7 +14,7 @@ use wk_base::NoMemory;
 #[derive(Drop)]
 pub struct Texts<'b> {
     arena: &'b Bump,
-    items: IndexSet<&'b [u8]>,
+    items: IndexSet<&'b [u8], RandomState>,
 }
 
 impl<'b> Model for Texts<'b> {
@@ -29,19 +30,20 @@ impl<'b> Model for Texts<'b> {
 }
 
 impl<'b> Texts<'b> {
-    pub fn new(alloc: Global, arena: &'b Bump) -> Texts<'b>
+    /// No texts. Their bytes are hashed from the seed, so that a module can't choose texts that collide.
+    pub fn new(alloc: Global, arena: &'b Bump, seed: RandomState) -> Texts<'b>
         ensures { result ≡ [] }
     {
         Texts {
             arena,
-            items: IndexSet::new(alloc),
+            items: IndexSet::with_hasher(alloc, seed),
         }
     }
 
     /// The place of the text with these bytes, which is made where it is not there.
     pub fn place(&mut self, bytes: &[u8]) -> Result<usize, NoMemory>
         ensures there { IfOk result (λ id. slice_get self.new id ≡ Some bytes.now) }
-        ensures kept { OnOk result (self.new ≡ with_text self.old bytes.now) }
+        ensures added { OnOk result (self.new ≡ with_text self.old bytes.now) }
         ensures err { OnErr result (self.new ≡ self.old) }
     {
         if let Some(id) = find(&self.items, bytes) {
@@ -68,9 +70,9 @@ impl<'b> Texts<'b> {
 
 ghost use Rattle.lua_store.specs.Texts.{texts_of};
 
-fn find(texts: &IndexSet<&[u8]>, bytes: &[u8]) -> Option<usize>
+fn find(texts: &IndexSet<&[u8], RandomState>, bytes: &[u8]) -> Option<usize>
     ensures there { IfSome result (λ id. slice_get (texts_of texts.now.keys) id ≡ Some bytes.now) }
-    ensures kept { IfSome result (λ _. with_text (texts_of texts.now.keys) bytes.now ≡ texts_of texts.now.keys) }
+    ensures added { IfSome result (λ _. with_text (texts_of texts.now.keys) bytes.now ≡ texts_of texts.now.keys) }
 {
     match texts.get_full(bytes) {
         Some((at, _)) => Some(at),
@@ -78,9 +80,9 @@ fn find(texts: &IndexSet<&[u8]>, bytes: &[u8]) -> Option<usize>
     }
 }
 
-fn add<'b>(texts: &mut IndexSet<&'b [u8]>, bytes: &'b [u8]) -> Result<usize, NoMemory>
+fn add<'b>(texts: &mut IndexSet<&'b [u8], RandomState>, bytes: &'b [u8]) -> Result<usize, NoMemory>
     ensures there { IfOk result (λ id. slice_get (texts_of texts.new.keys) id ≡ Some bytes.entry.now) }
-    ensures kept { OnOk result (texts_of texts.new.keys ≡ with_text (texts_of texts.old.keys) bytes.entry.now) }
+    ensures added { OnOk result (texts_of texts.new.keys ≡ with_text (texts_of texts.old.keys) bytes.entry.now) }
     ensures err { OnErr result (texts.new.keys ≡ texts.old.keys) }
 {
     match texts.insert_full(bytes) {

@@ -5,6 +5,9 @@
 //! - `functions`: a tree's functions
 //! - `nodes`: the lines of a tree's nodes
 //!
+//! The definitions stand in `specs/Tree.antt` (a chunk as a plain tree; read it first), `specs/View.antt` (the plain tree of a tree of
+//! the code), `specs/Functions.antt` and `specs/Nodes.antt`.
+//!
 //! What the grammar writes shorter is one form here. `a.b` is an index with a text as its key; `{x = e}` is a pair with a
 //! text as its key; `function a.b:c() end` is an assignment of a function whose first parameter is `self`.
 //!

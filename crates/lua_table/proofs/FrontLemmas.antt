@@ -1,10 +1,11 @@
 -- Entries whose keys are the numbers from 1 on, in front of others.
 use Rattle.std.proofs.Common.{◌≡◌, ◌≢◌, Bool, true, false, sym, ◌∙◌, cond, List, [], ◌∷◌, ◌++◌, Option, Some, None, refl, ap, arith, ℕ, ℤ, pos, zero, suc, ◌+◌, ◌<◌, ◌≤◌, length, drop, slice_get, set, subst, add-one, position, get_or, is_some}
 use Rattle.std.proofs.lemmas.List.Quantifiers.{position-Some}
+use Rattle.std.proofs.lemmas.Option.{none-some}
 use Rattle.std.specs.Cmp.{IsEquivalence}
 use Rattle.std.specs.Map.{lookup, keys_of}
 use Rattle.indexmap.specs.IndexMap.{insert_entry}
-use Rattle.lua_table.specs.Entries.{after_key, first_held}
+use Rattle.lua_table.specs.Entries.{after_key, first_live}
 use Rattle.lua_table.specs.Front.{numbered}
 
 pub not_true : (b : Bool) → (b ≡ true → ⊥) → b ≡ false
@@ -157,26 +158,26 @@ module _ {V : Type 0} (eq : V → V → Bool) (nil key : V) where
 
 -- the first entry that is not cleared, where the entry e stands in front of others
 module _ {V : Type 0} (eq : V → V → Bool) (nil : V) where
-  held_here : (e : V × V) (es : List (V × V)) → false ≡ eq e.1 nil → first_held eq nil (e ∷ es) ≡ record { key = e.0; value = e.1; passed = 0 }
-  held_here e es held =
-      let P : Bool → Type 0 = λ b. cond b (let s = first_held eq nil es in record s { passed = s.passed + 1 }) (record { key = e.0; value = e.1; passed = 0 }) ≡ record { key = e.0; value = e.1; passed = 0 } in
-      subst P held refl
+  live_here : (e : V × V) (es : List (V × V)) → false ≡ eq e.1 nil → first_live eq nil (e ∷ es) ≡ record { key = e.0; value = e.1; passed = 0 }
+  live_here e es live =
+      let P : Bool → Type 0 = λ b. cond b (let s = first_live eq nil es in record s { passed = s.passed + 1 }) (record { key = e.0; value = e.1; passed = 0 }) ≡ record { key = e.0; value = e.1; passed = 0 } in
+      subst P live refl
 
-  held_passed : (e : V × V) (es : List (V × V)) → true ≡ eq e.1 nil → first_held eq nil (e ∷ es) ≡ (let s = first_held eq nil es in record s { passed = s.passed + 1 })
-  held_passed e es cleared =
-      let P : Bool → Type 0 = λ b. cond b (let s = first_held eq nil es in record s { passed = s.passed + 1 }) (record { key = e.0; value = e.1; passed = 0 }) ≡ (let s = first_held eq nil es in record s { passed = s.passed + 1 }) in
+  live_passed : (e : V × V) (es : List (V × V)) → true ≡ eq e.1 nil → first_live eq nil (e ∷ es) ≡ (let s = first_live eq nil es in record s { passed = s.passed + 1 })
+  live_passed e es cleared =
+      let P : Bool → Type 0 = λ b. cond b (let s = first_live eq nil es in record s { passed = s.passed + 1 }) (record { key = e.0; value = e.1; passed = 0 }) ≡ (let s = first_live eq nil es in record s { passed = s.passed + 1 }) in
       subst P cleared refl
 
   -- at a place of the list
-  pub held_at : (es : List (V × V)) (at : ℕ) (e : V × V) → slice_get es at ≡ Some e → false ≡ eq e.1 nil
-      → first_held eq nil (drop at es) ≡ record { key = e.0; value = e.1; passed = 0 }
-  held_at es at e there held = ap (first_held eq nil) (drop_there es at e there) ∙ held_here e (drop (suc at) es) held
+  pub live_at : (es : List (V × V)) (at : ℕ) (e : V × V) → slice_get es at ≡ Some e → false ≡ eq e.1 nil
+      → first_live eq nil (drop at es) ≡ record { key = e.0; value = e.1; passed = 0 }
+  live_at es at e there live = ap (first_live eq nil) (drop_there es at e there) ∙ live_here e (drop (suc at) es) live
 
   pub passed_at : (es : List (V × V)) (at : ℕ) (e : V × V) → slice_get es at ≡ Some e → true ≡ eq e.1 nil
-      → first_held eq nil (drop at es) ≡ (let s = first_held eq nil (drop (at + 1) es) in record s { passed = s.passed + 1 })
+      → first_live eq nil (drop at es) ≡ (let s = first_live eq nil (drop (at + 1) es) in record s { passed = s.passed + 1 })
   passed_at es at e there cleared =
-      ap (first_held eq nil) (drop_there es at e there) ∙ held_passed e (drop (suc at) es) cleared
-      ∙ ap (λ m. let s = first_held eq nil (drop m es) in record s { passed = s.passed + 1 }) (sym (add-one at))
+      ap (first_live eq nil) (drop_there es at e there) ∙ live_passed e (drop (suc at) es) cleared
+      ∙ ap (λ m. let s = first_live eq nil (drop m es) in record s { passed = s.passed + 1 }) (sym (add-one at))
 
   -- at a place of the front
   module _ (number : ℤ → V) where
@@ -186,12 +187,35 @@ module _ {V : Type 0} (eq : V → V → Bool) (nil : V) where
         ap (λ ws. numbered number at ws ++ es) (drop_there vs at v there)
         ∙ ap (λ m. (number (pos (at + 1)), v) ∷ (numbered number (at + 1) (drop m vs) ++ es)) (sym (add-one at))
 
-    pub held_number : (vs : List V) (es : List (V × V)) (at : ℕ) (v : V) → slice_get vs at ≡ Some v → false ≡ eq v nil
-        → first_held eq nil (numbered number at (drop at vs) ++ es) ≡ record { key = number (pos (at + 1)); value = v; passed = 0 }
-    held_number vs es at v there held =
-        ap (first_held eq nil) (numbered-drop vs es at v there) ∙ held_here (number (pos (at + 1)), v) (numbered number (at + 1) (drop (at + 1) vs) ++ es) held
+    pub live_number : (vs : List V) (es : List (V × V)) (at : ℕ) (v : V) → slice_get vs at ≡ Some v → false ≡ eq v nil
+        → first_live eq nil (numbered number at (drop at vs) ++ es) ≡ record { key = number (pos (at + 1)); value = v; passed = 0 }
+    live_number vs es at v there live =
+        ap (first_live eq nil) (numbered-drop vs es at v there) ∙ live_here (number (pos (at + 1)), v) (numbered number (at + 1) (drop (at + 1) vs) ++ es) live
 
     pub passed_number : (vs : List V) (es : List (V × V)) (at : ℕ) (v : V) → slice_get vs at ≡ Some v → true ≡ eq v nil
-        → first_held eq nil (numbered number at (drop at vs) ++ es) ≡ (let s = first_held eq nil (numbered number (at + 1) (drop (at + 1) vs) ++ es) in record s { passed = s.passed + 1 })
+        → first_live eq nil (numbered number at (drop at vs) ++ es) ≡ (let s = first_live eq nil (numbered number (at + 1) (drop (at + 1) vs) ++ es) in record s { passed = s.passed + 1 })
     passed_number vs es at v there cleared =
-        ap (first_held eq nil) (numbered-drop vs es at v there) ∙ held_passed (number (pos (at + 1)), v) (numbered number (at + 1) (drop (at + 1) vs) ++ es) cleared
+        ap (first_live eq nil) (numbered-drop vs es at v there) ∙ live_passed (number (pos (at + 1)), v) (numbered number (at + 1) (drop (at + 1) vs) ++ es) cleared
+
+abbrev or_this : {V : Type 0} → Option V → V → V
+or_this (Some x) w = x
+or_this None w = w
+
+-- the entry at a place
+pub at_front : {V : Type 0} (number : ℤ → V) (before place n : ℕ) (vs : List V) (es : List (V × V)) (v : V) → n ≡ before + place + 1 → slice_get vs place ≡ Some v
+    → slice_get (numbered number before vs ++ es) place ≡ Some (number (pos n), v)
+at_front number before place n [] es v e h = absurd (none-some v h)
+at_front number before zero n (w ∷ vs) es v e h =
+    let same : before + 1 ≡ n = omega (arith, e) in ap (λ m. Some (number (pos m), w)) same ∙ ap (λ x. Some (number (pos n), x)) (ap (λ o. or_this o w) h)
+at_front number before (suc place) n (w ∷ vs) es v e h = at_front number (before + 1) place n vs es v (omega (arith, e)) h
+
+pub at_rest : {V : Type 0} (number : ℤ → V) (before place later : ℕ) (vs : List V) (es : List (V × V)) → place ≡ length vs + later
+    → slice_get (numbered number before vs ++ es) place ≡ slice_get es later
+at_rest number before place later [] es e = let same : place ≡ later = omega (arith, e) in ap (slice_get es) same
+at_rest number before zero later (v ∷ vs) es e = absurd (omega (arith, e))
+at_rest number before (suc place) later (v ∷ vs) es e = at_rest number (before + 1) place later vs es (omega (arith, e))
+
+pub past_end : {A : Type 0} (xs : List A) (n : ℕ) → length xs ≤ n → slice_get xs n ≡ None
+past_end [] n h = refl
+past_end (x ∷ xs) zero h = absurd (omega (arith, h))
+past_end (x ∷ xs) (suc n) h = past_end xs n (omega (arith, h))

@@ -14,9 +14,9 @@ module _ {V : Type 0} (eq : V → V → Bool) (nil : V) where
       (elim (eq key e.0) as (λ b. is_some (cond b (Some e.1) (lookup (eq key) es)) ≡ true → cond b ((e.0, value) ∷ es) (e ∷ set_at eq nil es key value) ≡ cond b ((e.0, value) ∷ es) (e ∷ insert_entry eq es key value))
       [ true ↦ (λ _. refl) | false ↦ (λ h. ap (λ r. e ∷ r) (set_at-there es key value h)) ]) there
 
-  pub set_at-held : (es : List (V × V)) (key value : V) → eq value nil ≡ false → set_at eq nil es key value ≡ insert_entry eq es key value
-  set_at-held [] key value held = ap (λ b. cond b [] ((key, value) ∷ [])) held
-  set_at-held (e ∷ es) key value held = ap (λ r. cond (eq key e.0) ((e.0, value) ∷ es) (e ∷ r)) (set_at-held es key value held)
+  pub set_at-live : (es : List (V × V)) (key value : V) → eq value nil ≡ false → set_at eq nil es key value ≡ insert_entry eq es key value
+  set_at-live [] key value live = ap (λ b. cond b [] ((key, value) ∷ [])) live
+  set_at-live (e ∷ es) key value live = ap (λ r. cond (eq key e.0) ((e.0, value) ∷ es) (e ∷ r)) (set_at-live es key value live)
 
   -- nil for an absent key makes no entry
   pub set_at-nothing : (es : List (V × V)) (key value : V) → is_there eq nil es key ≡ false → eq value nil ≡ true → set_at eq nil es key value ≡ es
@@ -29,7 +29,7 @@ module _ {V : Type 0} (eq : V → V → Bool) (nil : V) where
   pub set_at-stored : (es : List (V × V)) (key value : V) (there cleared : Bool) → there ≡ is_there eq nil es key → cleared ≡ eq value nil
       → (not there && cleared) ≡ false → set_at eq nil es key value ≡ insert_entry eq es key value
   set_at-stored es key value true cleared at is h = set_at-there es key value (sym at)
-  set_at-stored es key value false cleared at is h = set_at-held es key value (sym is ∙ h)
+  set_at-stored es key value false cleared at is h = set_at-live es key value (sym is ∙ h)
 
   pub set_at-skipped : (es : List (V × V)) (key value : V) (there cleared : Bool) → there ≡ is_there eq nil es key → cleared ≡ eq value nil
       → (not there && cleared) ≡ true → es ≡ set_at eq nil es key value

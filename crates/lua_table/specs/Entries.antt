@@ -36,10 +36,10 @@ module _ {V : Type 0} (eq : V → V → Bool) (nil : V) where
     pub passed : ℕ
 
   -- the first entry that is not cleared, or nil where there is none
-  abbrev pub first_held : List (V × V) → Stop
-  first_held [] = record { key = nil; value = nil; passed = 0 }
-  first_held (e ∷ es) =
-      if eq e.1 nil then (let s = first_held es in record s { passed = s.passed + 1 })
+  abbrev pub first_live : List (V × V) → Stop
+  first_live [] = record { key = nil; value = nil; passed = 0 }
+  first_live (e ∷ es) =
+      if eq e.1 nil then (let s = first_live es in record s { passed = s.passed + 1 })
       else record { key = e.0; value = e.1; passed = 0 }
 
   -- the answer of `next` tells that stop

@@ -41,14 +41,14 @@ pub record LeadsOn (nodes : List Bool) (width node : ℕ) : Type 0 where
 
 -- the keys from 1 to `run` of a table are marked where they have no value, and the next number is no key
 module _ {V : Type 0} (eq : V → V → Bool) (nil : V) (number : ℤ → V) where
-  pub record IsTold (es : List (V × V)) (marks : List Bool) (run : ℕ) : Type 0 where
+  pub record MarksCleared (es : List (V × V)) (marks : List Bool) (run : ℕ) : Type 0 where
     pub most : run ≤ 9223372036854775807
     pub fits : run ≤ length marks
     pub right : (k : ℕ) → k < run → marked marks k ≡ eq (value_at eq nil es (number (pos (k + 1)))) nil
     pub ends : run < 9223372036854775807 → is_there eq nil es (number (pos (run + 1))) ≡ false
 
   -- the same, but for a key that is about to be set
-  pub record IsToldBut (key : V) (es : List (V × V)) (marks : List Bool) (run : ℕ) : Type 0 where
+  pub record MarksClearedBut (key : V) (es : List (V × V)) (marks : List Bool) (run : ℕ) : Type 0 where
     pub most : run ≤ 9223372036854775807
     pub fits : run ≤ length marks
     pub right : (k : ℕ) → k < run → key ≢ number (pos (k + 1)) → marked marks k ≡ eq (value_at eq nil es (number (pos (k + 1)))) nil

@@ -2,12 +2,13 @@
 ghost use Rattle.std.specs.Prelude.{◌≡◌, ◌≢◌, ◌+◌, ◌<◌, ◌≤◌, ◌^◌, ◌++◌, ℕ, pos, [], length, drop, slice_get, IsTrue, Some, None, IfSome, IfNone, MatchOption, OnOk, OnErr};
 ghost use Rattle.std.specs.Map.{lookup};
 ghost use Rattle.indexmap.specs.IndexMap.{insert_entry};
-ghost use Rattle.lua_table.specs.Entries.{after_key, first_held, Shows};
+ghost use Rattle.lua_table.specs.Entries.{after_key, first_live, Shows};
 ghost use Rattle.lua_table.specs.Front.{numbered};
 
 use crate::{Slot, Step};
 use indexmap::IndexMap;
 use std::alloc::{AllocError, Global};
+use std::hash::RandomState;
 use std::marker::Model;
 
 /// Entries in order of first insertion.
@@ -17,7 +18,7 @@ use std::marker::Model;
 #[derive(Drop)]
 pub struct Entries<V: Slot> {
     front: Vec<V>,
-    rest: IndexMap<V, V>,
+    rest: IndexMap<V, V, RandomState>,
 }
 
 impl<V: Slot> Model for Entries<V> {
@@ -35,12 +36,13 @@ impl<V: Slot> Model for Entries<V> {
 }
 
 impl<V: Slot> Entries<V> {
-    pub fn new(alloc: Global) -> Entries<V>
+    /// No entries. Keys are hashed from the seed, so that a module can't choose keys that collide.
+    pub fn new(alloc: Global, seed: RandomState) -> Entries<V>
         ensures { result ≡ [] }
     {
         Entries {
             front: Vec::new(alloc),
-            rest: IndexMap::new(alloc),
+            rest: IndexMap::with_hasher(alloc, seed),
         }
     }
 
@@ -82,21 +84,36 @@ impl<V: Slot> Entries<V> {
         }
     }
 
+    /// The entry at a place in order of first insertion, cleared or not.
+    pub fn at(&self, place: usize) -> Option<(V, V)>
+        ensures { result ≡ slice_get self.now place }
+    {
+        let count = self.front.len();
+        if place < count {
+            return Some((V::number(place as i64 + 1), item_at(&self.front, place)));
+        }
+        let later = place - count;
+        if later < self.rest.len() {
+            return Some(entry_at(&self.rest, later));
+        }
+        None
+    }
+
     /// The first entry that is not cleared.
     pub fn first(&self) -> Step<V>
-        ensures { Shows V.eq V.nil_value (first_held V.eq V.nil_value self.now) result }
+        ensures { Shows V.eq V.nil_value (first_live V.eq V.nil_value self.now) result }
     {
-        held_from(&self.front, &self.rest, 0)
+        live_from(&self.front, &self.rest, 0)
     }
 
     /// The first entry after `key` that is not cleared, or `None` where `key` is not there.
     pub fn after(&self, key: &V) -> Option<Step<V>>
         ensures absent { IfNone result (after_key V.eq V.nil_value self.now key.now ≡ None) }
-        ensures held { IfSome result (λ s. MatchOption (after_key V.eq V.nil_value self.now key.now) ⊥ (λ later. Shows V.eq V.nil_value (first_held V.eq V.nil_value later) s)) }
+        ensures live { IfSome result (λ s. MatchOption (after_key V.eq V.nil_value self.now key.now) ⊥ (λ later. Shows V.eq V.nil_value (first_live V.eq V.nil_value later) s)) }
     {
         match place_below(key, self.front.len()) {
-            Some(at) => Some(held_from(&self.front, &self.rest, at + 1)),
-            None => held_after(&self.rest, key),
+            Some(at) => Some(live_from(&self.front, &self.rest, at + 1)),
+            None => live_after(&self.rest, key),
         }
     }
 }
@@ -116,7 +133,7 @@ fn place_below<V: Slot>(key: &V, count: usize) -> Option<usize>
 }
 
 /// Whether a new key goes to the front: it is the number after `count`, and no other key has come yet.
-fn goes_to_front<V: Slot>(rest: &IndexMap<V, V>, key: &V, count: usize) -> bool
+fn goes_to_front<V: Slot>(rest: &IndexMap<V, V, RandomState>, key: &V, count: usize) -> bool
     ensures { IsTrue result → (length rest.now.entries ≡ 0) × (key.now ≡ V.number_of (pos (count + 1))) × (count + 1 < 2 ^ 63) }
 {
     if !rest.is_empty() {
@@ -135,13 +152,13 @@ fn item_at<V: Slot>(items: &[V], at: usize) -> V
     items[at]
 }
 
-fn value_in<V: Slot>(rest: &IndexMap<V, V>, key: &V) -> Option<V>
+fn value_in<V: Slot>(rest: &IndexMap<V, V, RandomState>, key: &V) -> Option<V>
     ensures { result ≡ lookup (V.eq key.now) rest.now.entries }
 {
     rest.get(key).copied()
 }
 
-fn entry_at<V: Slot>(rest: &IndexMap<V, V>, at: usize) -> (V, V)
+fn entry_at<V: Slot>(rest: &IndexMap<V, V, RandomState>, at: usize) -> (V, V)
     requires { at < length rest.now.entries }
     ensures { slice_get rest.now.entries at ≡ Some result }
 {
@@ -152,10 +169,10 @@ fn entry_at<V: Slot>(rest: &IndexMap<V, V>, at: usize) -> (V, V)
 }
 
 /// The first entry that is not cleared, from the place `from` in `front` on.
-fn held_from<V: Slot>(front: &[V], rest: &IndexMap<V, V>, from: usize) -> Step<V>
+fn live_from<V: Slot>(front: &[V], rest: &IndexMap<V, V, RandomState>, from: usize) -> Step<V>
     requires within { from ≤ length front.now }
     requires small { length front.now < 2 ^ 63 }
-    ensures { Shows V.eq V.nil_value (first_held V.eq V.nil_value (numbered V.number_of from (drop from front.now) ++ rest.now.entries)) result }
+    ensures { Shows V.eq V.nil_value (first_live V.eq V.nil_value (numbered V.number_of from (drop from front.now) ++ rest.now.entries)) result }
 {
     let mut passed = 0u64;
     for at in from..front.len() {
@@ -169,7 +186,7 @@ fn held_from<V: Slot>(front: &[V], rest: &IndexMap<V, V>, from: usize) -> Step<V
         }
         passed += 1;
     }
-    let step = held_in(rest, 0);
+    let step = live_in(rest, 0);
     Step {
         key: step.key,
         value: step.value,
@@ -178,9 +195,9 @@ fn held_from<V: Slot>(front: &[V], rest: &IndexMap<V, V>, from: usize) -> Step<V
 }
 
 /// The first entry of `rest` that is not cleared, from the place `from` on.
-fn held_in<V: Slot>(rest: &IndexMap<V, V>, from: usize) -> Step<V>
+fn live_in<V: Slot>(rest: &IndexMap<V, V, RandomState>, from: usize) -> Step<V>
     requires { from ≤ length rest.now.entries }
-    ensures shows { Shows V.eq V.nil_value (first_held V.eq V.nil_value (drop from rest.now.entries)) result }
+    ensures shows { Shows V.eq V.nil_value (first_live V.eq V.nil_value (drop from rest.now.entries)) result }
     ensures small { result.passed < 2 ^ 63 }
 {
     let mut passed = 0u64;
@@ -199,13 +216,13 @@ fn held_in<V: Slot>(rest: &IndexMap<V, V>, from: usize) -> Step<V>
 }
 
 /// The first entry of `rest` after `key` that is not cleared, or `None` where `key` is not there.
-fn held_after<V: Slot>(rest: &IndexMap<V, V>, key: &V) -> Option<Step<V>>
+fn live_after<V: Slot>(rest: &IndexMap<V, V, RandomState>, key: &V) -> Option<Step<V>>
     ensures absent { IfNone result (after_key V.eq V.nil_value rest.now.entries key.now ≡ None) }
-    ensures held { IfSome result (λ s. MatchOption (after_key V.eq V.nil_value rest.now.entries key.now) ⊥ (λ later. Shows V.eq V.nil_value (first_held V.eq V.nil_value later) s)) }
+    ensures live { IfSome result (λ s. MatchOption (after_key V.eq V.nil_value rest.now.entries key.now) ⊥ (λ later. Shows V.eq V.nil_value (first_live V.eq V.nil_value later) s)) }
 {
     let _count = rest.len();
     match rest.get_index_of(key) {
-        Some(at) => Some(held_in(rest, at + 1)),
+        Some(at) => Some(live_in(rest, at + 1)),
         None => None,
     }
 }

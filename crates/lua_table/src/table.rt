@@ -1,10 +1,11 @@
 //! A table, its calls and their refusals.
-ghost use Rattle.std.specs.Prelude.{◌≡◌, ◌≢◌, ◌↔◌, ◌+◌, ◌&&◌, ◌<◌, ◌≤◌, ℕ, pos, [], length, not, true, false, IfSome, IfNone, IfOk, OnOk, OnErr, MatchOption, MatchResult, None};
-ghost use Rattle.lua_table.specs.Entries.{Contents, value_at, is_there, set_at, after_key, first_held, IsBorder, Shows, HasKeys};
-ghost use Rattle.lua_table.specs.Holes.{marked, IsTold, IsToldBut, IsRun};
+ghost use Rattle.std.specs.Prelude.{slice_get, ◌≡◌, ◌≢◌, ◌↔◌, ◌+◌, ◌&&◌, ◌<◌, ◌≤◌, ℕ, pos, [], length, not, true, false, IfSome, IfNone, IfOk, OnOk, OnErr, MatchOption, MatchResult, None};
+ghost use Rattle.lua_table.specs.Entries.{Contents, value_at, is_there, set_at, after_key, first_live, IsBorder, Shows, HasKeys};
+ghost use Rattle.lua_table.specs.Holes.{marked, MarksCleared, MarksClearedBut, IsRun};
 
 use crate::{Entries, Holes, Slot};
 use std::alloc::{AllocError, Global};
+use std::hash::RandomState;
 use std::marker::Model;
 
 /// The greatest whole number, so the greatest border.
@@ -50,22 +51,25 @@ pub struct Table<V: Slot> {
 
 impl<V: Slot> Model for Table<V> {
     ghost use Rattle.lua_table.specs.Entries.{Contents, HasKeys};
-    ghost use Rattle.lua_table.specs.Holes.{IsTold};
+    ghost use Rattle.lua_table.specs.Holes.{MarksCleared};
 
     ghost Value = { Contents V };
 
     ghost view = { λ t. record { entries = t.entries; meta = t.meta; frozen = t.frozen } };
 
-    ghost invariant = { λ t. IsTold V.eq V.nil_value V.number_of t.entries t.holes t.run × HasKeys V.eq V.nil_value t.entries };
+    ghost invariant = { λ t. MarksCleared V.eq V.nil_value V.number_of t.entries t.holes t.run × HasKeys V.eq V.nil_value t.entries };
 }
 
 impl<V: Slot> Table<V> {
     /// An empty table, which can be written and has no metatable.
-    pub fn new(alloc: Global) -> Table<V>
+    ///
+    /// The seed is drawn anew for each run of the program: who does not know it can't choose keys that collide. Nothing that
+    /// a table answers depends on it.
+    pub fn new(alloc: Global, seed: RandomState) -> Table<V>
         ensures { result ≡ record { entries = []; meta = V.nil_value; frozen = false } }
     {
         Table {
-            entries: Entries::new(alloc),
+            entries: Entries::new(alloc, seed),
             run: 0,
             holes: Holes::new(alloc),
             meta: V::nil(),
@@ -81,6 +85,13 @@ impl<V: Slot> Table<V> {
             Some(value) => value,
             None => V::nil(),
         }
+    }
+
+    /// Whether a key has an entry, cleared or not. Only a key without one can need memory.
+    pub fn has(&self, key: &V) -> bool
+        ensures { result ≡ is_there V.eq V.nil_value self.now.entries key.now }
+    {
+        self.entries.get(key).is_some()
     }
 
     /// Whether the table is read-only.
@@ -150,14 +161,22 @@ impl<V: Slot> Table<V> {
         }
     }
 
+    /// The entry at a place in order of first insertion, cleared or not; none past the last one.
+    pub fn at(&self, place: usize) -> Option<(V, V)>
+        ensures { result ≡ slice_get self.now.entries place }
+    {
+        let entries = &self.entries;
+        entries.at(place)
+    }
+
     /// The entry after a key in order of first insertion, or the first one after nil, leaving out those that are cleared.
     ///
     /// Where none is left, the key and the value of the answer are nil. Sets of keys that are there may come between two
     /// steps of a walk.
     pub fn next(&self, key: &V) -> Result<Step<V>, NoSuchKey>
-        ensures first { key.now ≡ V.nil_value → MatchResult result (λ s. Shows V.eq V.nil_value (first_held V.eq V.nil_value self.now.entries) s) (λ _. ⊥) }
+        ensures first { key.now ≡ V.nil_value → MatchResult result (λ s. Shows V.eq V.nil_value (first_live V.eq V.nil_value self.now.entries) s) (λ _. ⊥) }
         ensures later { key.now ≢ V.nil_value → MatchResult result
-            (λ s. MatchOption (after_key V.eq V.nil_value self.now.entries key.now) ⊥ (λ rest. Shows V.eq V.nil_value (first_held V.eq V.nil_value rest) s))
+            (λ s. MatchOption (after_key V.eq V.nil_value self.now.entries key.now) ⊥ (λ rest. Shows V.eq V.nil_value (first_live V.eq V.nil_value rest) s))
             (λ _. after_key V.eq V.nil_value self.now.entries key.now ≡ None) }
         ensures keys { HasKeys V.eq V.nil_value self.now.entries }
     {
@@ -199,9 +218,9 @@ fn run_with<V: Slot>(
     run: u64,
     key: &V,
 ) -> Result<u64, AllocError>
-    requires { IsTold V.eq V.nil_value V.number_of entries.now holes.old run }
-    ensures ok { IfOk result (λ to. IsToldBut V.eq V.nil_value V.number_of key.now entries.now holes.new to) }
-    ensures still { IsTold V.eq V.nil_value V.number_of entries.now holes.new run }
+    requires { MarksCleared V.eq V.nil_value V.number_of entries.now holes.old run }
+    ensures ok { IfOk result (λ to. MarksClearedBut V.eq V.nil_value V.number_of key.now entries.now holes.new to) }
+    ensures still { MarksCleared V.eq V.nil_value V.number_of entries.now holes.new run }
     ensures absent { OnErr result (is_there V.eq V.nil_value entries.now key.now ≡ false) }
 {
     match place_of(key) {

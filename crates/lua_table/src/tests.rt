@@ -1,8 +1,25 @@
 //! Rows from Lua's rules, and sequences of calls beside a plain list of entries.
 use crate::{NoSuchKey, SetFault, Slot, Table};
 use std::alloc::AllocError;
+use std::hash::RandomState;
+use std::io;
 use std::process::Abort;
+use std::random::RandomSource;
 use std::test::Fail;
+
+/// A source whose bytes are all 5, so that each run of the tests is the same.
+struct Fives;
+
+impl RandomSource for Fives {
+    fn fill_bytes(&self, bytes: &mut [u8]) -> io::Result<()> {
+        bytes.fill(5);
+        Ok(())
+    }
+}
+
+fn fixed_seed() -> io::Result<RandomState> {
+    RandomState::new(&Fives)
+}
 
 /// A value of the tests: nil, a number or a letter.
 #[derive(Clone, Copy, Debug, PartialEq, Eq, Hash)]
@@ -71,12 +88,17 @@ fn l(letter: u8) -> Word {
 
 /// What a plain list of entries holds at a key.
 fn plain_get(entries: &[(Word, Word)], key: Word) -> Word {
-    for (held, value) in entries {
-        if *held == key {
+    for (entry_key, value) in entries {
+        if *entry_key == key {
             return *value;
         }
     }
     NIL
+}
+
+/// The entry of a plain list at a place.
+fn plain_at(entries: &[(Word, Word)], place: usize) -> Option<(Word, Word)> {
+    entries.get(place).copied()
 }
 
 fn plain_set(entries: &mut Vec<(Word, Word)>, key: Word, value: Word) -> Result<bool, AllocError> {
@@ -97,14 +119,14 @@ fn plain_set(entries: &mut Vec<(Word, Word)>, key: Word, value: Word) -> Result<
 fn plain_next(entries: &[(Word, Word)], key: Word) -> Option<(Word, Word, u64)> {
     let mut found = key == NIL;
     let mut passed = 0u64;
-    for (held, value) in entries {
+    for (entry_key, value) in entries {
         if found && *value != NIL {
-            return Some((*held, *value, passed));
+            return Some((*entry_key, *value, passed));
         }
         if found {
             passed = passed.wrapping_add(1);
         }
-        if *held == key {
+        if *entry_key == key {
             found = true;
         }
     }
@@ -136,6 +158,11 @@ fn agrees(rt: &impl Abort, table: &Table<Word>, entries: &[(Word, Word)], key: W
     assert_eq!(rt; table.get(&key), plain_get(entries, key));
     assert_eq!(rt; next(table, key), plain_next(entries, key));
     assert_eq!(rt; table.border(), plain_border(entries));
+    assert_eq!(rt; table.has(&key), entries.iter().any(|entry| entry.0 == key));
+    let last = entries.len();
+    for place in [0, last / 2, last.saturating_sub(1), last, usize::MAX] {
+        assert_eq!(rt; table.at(place), plain_at(entries, place));
+    }
     let mut at = NIL;
     for _ in 0..100 {
         let step = next(table, at);
@@ -166,8 +193,8 @@ fn walks(rt: &impl Abort, table: &Table<Word>, rows: &[(Word, Option<(Word, Word
 }
 
 #[test]
-fn entries_keep_the_order_of_first_insertion(rt: HostRuntime) {
-    let mut table = Table::new(rt.alloc());
+fn entries_keep_the_order_of_first_insertion(rt: HostRuntime) -> Result<(), Fail> {
+    let mut table = Table::new(rt.alloc(), fixed_seed()?);
     table.set_meta(n(7));
     assert_eq!(rt; table.meta(), n(7));
     let rows = [
@@ -200,11 +227,13 @@ fn entries_keep_the_order_of_first_insertion(rt: HostRuntime) {
     assert_eq!(rt; table.set(n(1), n(1)), Err(SetFault::Frozen));
     assert_eq!(rt; table.set(NIL, n(1)), Err(SetFault::Frozen));
     assert_eq!(rt; table.get(&n(1)), l(b'a'));
+    assert!(rt; table.has(&n(1)) && !table.has(&n(9)) && !table.has(&NIL));
+    Ok(())
 }
 
 #[test]
-fn borders_and_far_keys(rt: HostRuntime) {
-    let mut table = Table::new(rt.alloc());
+fn borders_and_far_keys(rt: HostRuntime) -> Result<(), Fail> {
+    let mut table = Table::new(rt.alloc(), fixed_seed()?);
     // Holes in the array and behind it, the ends of the range, and keys that are no places of a sequence.
     let rows = [
         (n(1), n(10), true, 1),
@@ -228,11 +257,14 @@ fn borders_and_far_keys(rt: HostRuntime) {
         (n(6), None),
     ];
     walks(&rt, &table, &walk);
+    // Cleared keys have an entry.
+    assert!(rt; table.has(&n(5)) && table.get(&n(5)) == NIL);
+    Ok(())
 }
 
 #[test]
-fn a_walk_may_clear_what_it_comes_to(rt: HostRuntime) {
-    let mut table = Table::new(rt.alloc());
+fn a_walk_may_clear_what_it_comes_to(rt: HostRuntime) -> Result<(), Fail> {
+    let mut table = Table::new(rt.alloc(), fixed_seed()?);
     for number in 1..101 {
         assert_eq!(rt; table.set(n(number), n(0)), Ok(true));
     }
@@ -247,6 +279,7 @@ fn a_walk_may_clear_what_it_comes_to(rt: HostRuntime) {
         &table,
         &[(at, Some((NIL, NIL, 0))), (NIL, Some((NIL, NIL, 100)))],
     );
+    Ok(())
 }
 
 #[test]
@@ -268,7 +301,7 @@ fn seeded_calls_agree_with_a_plain_list(rt: HostRuntime) -> Result<(), Fail> {
     ];
     let mut seed = 20061121u64;
     for run in 0..200u64 {
-        let mut table = Table::new(rt.alloc());
+        let mut table = Table::new(rt.alloc(), fixed_seed()?);
         let mut entries = Vec::new(rt.alloc());
         for step in 0..60u64 {
             seed = seed
@@ -311,7 +344,7 @@ fn key_of_step(step: u64, seed: u64) -> Word {
 
 #[test]
 fn keys_are_cleared_and_filled_below_a_long_run(rt: HostRuntime) -> Result<(), Fail> {
-    let mut table = Table::new(rt.alloc());
+    let mut table = Table::new(rt.alloc(), fixed_seed()?);
     let mut entries = Vec::new(rt.alloc());
     let mut seed = 19931001u64;
     for step in 0..900u64 {

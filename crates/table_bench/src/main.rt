@@ -1,12 +1,14 @@
 //! Fills and walks a table of a store, or makes texts, and prints how many entries or texts there were. Standard input says
-//! what: `dense`, `hashed` or `texts`, with `walk` before the first two for a full walk afterwards, and then how many.
-//! `bench/tables.py` times it.
+//! what: `dense`, `hashed` or `texts`, with `walk` before the first two for a full walk afterwards, and then how many; or
+//! `keys ` and then the keys to set, 8 bytes for each with the lowest first. `bench/tables.py` and `bench/attack_keys.py` time
+//! it.
 #![tactic(auto)]
 
 ghost use Rattle.lua_store.specs.Parts.{IsTableOf};
 
 use bumpalo::Bump;
 use lua_store::{Store, TableId, Value};
+use std::hash::RandomState;
 use std::io;
 use std::io::Read;
 
@@ -92,6 +94,31 @@ fn fill(store: &mut Store, id: TableId, kind: Kind, count: i64) -> i64
     count
 }
 
+/// Gives the table an entry for each key, of 8 bytes; how many were set.
+fn fill_given(store: &mut Store, id: TableId, keys: &[u8]) -> i64
+    requires { IsTableOf store.old id }
+{
+    let mut rest = keys;
+    let mut set = 0i64;
+    while let [a, b, c, d, e, f, g, h, later @ ..] = rest {
+        let key = Value::Number(i64::from_le_bytes([*a, *b, *c, *d, *e, *f, *g, *h]));
+        if store.set(id, key, key).is_err() {
+            return set;
+        }
+        rest = later;
+        set = set.saturating_add(1);
+    }
+    set
+}
+
+/// Sets the keys in a new table.
+fn perform_given(store: &mut Store, keys: &[u8]) -> i64 {
+    match store.new_table() {
+        Ok(id) => fill_given(store, id, keys),
+        Err(_) => 0,
+    }
+}
+
 /// Walks over the table; how many entries there are.
 fn walk(store: &Store, id: TableId, most: i64) -> i64
     requires { IsTableOf store.now id }
@@ -137,7 +164,11 @@ fn main(rt: HostRuntime) -> io::Result<()> {
     let mut text = Vec::new(rt.alloc());
     rt.stdin().read_to_end(&mut text)?;
     let arena = Bump::new(rt.alloc());
-    let mut store = Store::new(rt.alloc(), &arena);
+    let mut store = Store::new(rt.alloc(), &arena, RandomState::new(&rt)?);
+    if let Some(keys) = after(&text, b"keys ") {
+        let count = perform_given(&mut store, keys);
+        return println!(rt; "{count}");
+    }
     match read_work(&text) {
         Some(work) => {
             let count = perform(&mut store, &work);

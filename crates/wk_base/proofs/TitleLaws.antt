@@ -1,5 +1,6 @@
 -- Equal titles are the same title.
-use Rattle.std.proofs.Common.{◌≡◌, Bool, true, false, ◌&&◌, refl, sym, ◌∙◌, ap}
+use Rattle.std.proofs.Common.{◌≡◌, true, refl, sym, ◌∙◌, ap}
+use Rattle.std.proofs.lemmas.Bool.{and_parts}
 use Rattle.std.specs.Cmp.Lexicographic.{same_text}
 use Rattle.wk_base.specs.declared.title.Namespace.{Namespace}
 use Rattle.wk_base.specs.declared.title.Namespace.TheVariants.{Main, Talk, User, UserTalk, Project, ProjectTalk, File, FileTalk, MediaWiki, MediaWikiTalk, Template, TemplateTalk, Help, HelpTalk, Category, CategoryTalk, Module, ModuleTalk}
@@ -28,13 +29,8 @@ same_namespace Module Module h = refl
 same_namespace ModuleTalk ModuleTalk h = refl
 same_namespace _ _ h = cc
 
-both : (a b : Bool) → (a && b) ≡ true → (a ≡ true) × (b ≡ true)
-both true true h = (refl, refl)
-both true false h = (refl, h)
-both false b h = absurd cc
-
 pub same_title : (a b : Title) → titles.ghosts.eq a b ≡ true → a ≡ b
 same_title a b h =
-    let parts = both _ _ h in
+    let parts = and_parts _ _ h in
     let name : a.name ≡ b.name = same_text a.name b.name (sym parts.1) in
     ap (λ n. record a { ns = n }) (same_namespace a.ns b.ns parts.0) ∙ ap (λ n. record b { name = n }) name

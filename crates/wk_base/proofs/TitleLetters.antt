@@ -6,7 +6,7 @@ use Rattle.std.specs.Char.{to_ascii_uppercase, to_ascii_lowercase}
 use Rattle.std.specs.Str.{str_to_ascii_lowercase, bytes_eq, IsAscii}
 use Rattle.std.specs.Prelude.{find}
 use Rattle.wk_base.specs.Space.{is_white}
-use Rattle.wk_base.specs.Titles.{is_forbidden, is_bad, as_space, capitalised, namespace_named, prefixed_namespaces, prefix_of}
+use Rattle.wk_base.specs.Titles.{is_forbidden, is_bad, as_space, with_capital, namespace_named, prefixed_namespaces, prefix_of}
 
 letter_cases : (c : ℕ) → (to_ascii_uppercase c ≡ c) ⊎ ((97 ≤ c) × (c < 123) × (to_ascii_uppercase c ≡ c - 32))
 letter_cases c =
@@ -81,7 +81,7 @@ utf8_capital c cs text = go (letter_cases c)
         subst (λ (u : ℕ). IsUtf8 (u ∷ cs)) (sym e)
         (IsUtf8-append ((c - 32) ∷ []) cs (IsUtf8-from_ascii ((c - 32) ∷ []) (ascii_one (c - 32) (omega arith))) rest)
 
-pub bad_capital : (name : List ℕ) → is_bad name ≡ false → is_bad (capitalised name) ≡ false
+pub bad_capital : (name : List ℕ) → is_bad name ≡ false → is_bad (with_capital name) ≡ false
 bad_capital [] good = good
 bad_capital (c ∷ cs) good =
     let all = or_parts _ _ good in

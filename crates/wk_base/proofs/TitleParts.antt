@@ -3,7 +3,7 @@ use Rattle.std.proofs.Common.{◌≡◌, ℕ, ◌<◌, ◌==◌, Bool, true, fal
 use Rattle.std.proofs.lemmas.Bool.{true≢false, cond_both, cond-true, cond-false, and_parts, and_from, and_right, eqb-true, eq-eqb}
 use Rattle.std.proofs.lemmas.List.{reverse-append, length-reverse}
 use Rattle.wk_base.specs.Space.{is_white, trim_start, trim_end, trim}
-use Rattle.wk_base.specs.Titles.{as_space, spaced, begins_with, squeeze}
+use Rattle.wk_base.specs.Titles.{as_space, with_spaces, begins_with, squeeze}
 
 -- the first byte, and 0 where there is none
 abbrev pub first : List ℕ → ℕ
@@ -97,7 +97,7 @@ pub fixed_trim : (text : List ℕ) → is_white (first text) ≡ false → is_wh
 fixed_trim text front back = ap trim_end (fixed_start text front) ∙ trim_end-ending text ∙ fixed_ending text back
 
 -- texts without underscores
-pub plain_spaced : (text : List ℕ) → spaced (spaced text) ≡ spaced text
+pub plain_spaced : (text : List ℕ) → with_spaces (with_spaces text) ≡ with_spaces text
 plain_spaced [] = refl
 plain_spaced (c ∷ cs) = cons_same _ _ _ _ (twice (c == 95) c refl) (plain_spaced cs)
   where
@@ -105,26 +105,26 @@ plain_spaced (c ∷ cs) = cons_same _ _ _ _ (twice (c == 95) c refl) (plain_spac
     twice true c e = refl
     twice false c e = cond-false _ _ _ e
 
-pub plain_start : (text : List ℕ) → spaced text ≡ text → spaced (trim_start text) ≡ trim_start text
+pub plain_start : (text : List ℕ) → with_spaces text ≡ text → with_spaces (trim_start text) ≡ trim_start text
 plain_start [] plain = refl
 plain_start (c ∷ cs) plain =
-    cond_both (is_white c) (trim_start cs) (c ∷ cs) (λ t. spaced t ≡ t) (λ _. plain_start cs (cons_parts _ _ _ _ plain).1) (λ _. plain)
+    cond_both (is_white c) (trim_start cs) (c ∷ cs) (λ t. with_spaces t ≡ t) (λ _. plain_start cs (cons_parts _ _ _ _ plain).1) (λ _. plain)
 
-plain_keep : (c : ℕ) (cs : List ℕ) → as_space c ≡ c → spaced cs ≡ cs → spaced (keep c cs) ≡ keep c cs
+plain_keep : (c : ℕ) (cs : List ℕ) → as_space c ≡ c → with_spaces cs ≡ cs → with_spaces (keep c cs) ≡ keep c cs
 plain_keep c [] here rest =
-    cond_both (is_white c) [] (c ∷ []) (λ t. spaced t ≡ t) (λ _. refl) (λ _. cons_same _ _ _ _ here refl)
+    cond_both (is_white c) [] (c ∷ []) (λ t. with_spaces t ≡ t) (λ _. refl) (λ _. cons_same _ _ _ _ here refl)
 plain_keep c (d ∷ ds) here rest = cons_same _ _ _ _ here rest
 
-pub plain_ending : (text : List ℕ) → spaced text ≡ text → spaced (ending text) ≡ ending text
+pub plain_ending : (text : List ℕ) → with_spaces text ≡ text → with_spaces (ending text) ≡ ending text
 plain_ending [] plain = refl
 plain_ending (c ∷ cs) plain =
     let parts = cons_parts _ _ _ _ plain in plain_keep c (ending cs) parts.0 (plain_ending cs parts.1)
 
-pub plain_squeeze : (text : List ℕ) → spaced text ≡ text → spaced (squeeze text) ≡ squeeze text
+pub plain_squeeze : (text : List ℕ) → with_spaces text ≡ text → with_spaces (squeeze text) ≡ squeeze text
 plain_squeeze [] plain = refl
 plain_squeeze (c ∷ cs) plain =
     let parts = cons_parts _ _ _ _ plain in
-    cond_both ((c == 32) && begins_with 32 cs) (squeeze cs) (c ∷ squeeze cs) (λ t. spaced t ≡ t)
+    cond_both ((c == 32) && begins_with 32 cs) (squeeze cs) (c ∷ squeeze cs) (λ t. with_spaces t ≡ t)
     (λ _. plain_squeeze cs parts.1) (λ _. cons_same _ _ _ _ parts.0 (plain_squeeze cs parts.1))
 
 -- runs of spaces

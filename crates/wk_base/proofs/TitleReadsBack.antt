@@ -11,7 +11,7 @@ use Rattle.wk_base.specs.declared.title_read.TitleFault.TheVariants.{Empty, BadB
 use Rattle.std.specs.Char.{to_ascii_uppercase}
 use Rattle.std.specs.Str.{str_eq_ignore_ascii_case}
 use Rattle.wk_base.specs.Space.{is_white, trim_start, trim_end, trim}
-use Rattle.wk_base.specs.Titles.{as_space, spaced, begins_with, squeeze, tidy, cut_at_colon, cut_prefix, choose_namespace, open_colon, namespace_named, prefixed_namespaces, prefix_of, with_prefix, title_text, is_bad, capitalised, named, title_of}
+use Rattle.wk_base.specs.Titles.{as_space, with_spaces, begins_with, squeeze, tidy, cut_at_colon, cut_prefix, choose_namespace, open_colon, namespace_named, prefixed_namespaces, prefix_of, with_prefix, title_text, is_bad, with_capital, title_in, title_of}
 use Rattle.wk_base.proofs.TitleParts.{first, last_or, ending, cons_parts, cons_same, keep_plain, trim_end-ending, front_start, back_start, back_ending, front_ending, fixed_start, fixed_trim, plain_spaced, plain_start, plain_ending, plain_squeeze, first_squeeze, last_squeeze, squeeze_twice, ending_squeeze}
 use Rattle.wk_base.proofs.TitleLetters.{white_capital, colon_capital, plain_capital, capital_twice, bad_capital, named_capital}
 
@@ -19,9 +19,9 @@ use Rattle.wk_base.proofs.TitleLetters.{white_capital, colon_capital, plain_capi
 pub record Neat (text : List ℕ) : Type 0 where
   pub front : is_white (first text) ≡ false
   pub back : is_white (last_or 0 text) ≡ false
-  pub plain : spaced text ≡ text
+  pub plain : with_spaces text ≡ text
 
-neat_trim : (text : List ℕ) → spaced text ≡ text → Neat (trim text)
+neat_trim : (text : List ℕ) → with_spaces text ≡ text → Neat (trim text)
 neat_trim text plain =
     subst (λ (t : List ℕ). Neat t) (sym (trim_end-ending (trim_start text)))
     (record {
@@ -37,10 +37,10 @@ neat_squeeze text neat = record {
   plain = plain_squeeze text neat.plain;
 }
 
-neat_tidy : (text : List ℕ) → spaced text ≡ text → Neat (tidy text)
+neat_tidy : (text : List ℕ) → with_spaces text ≡ text → Neat (tidy text)
 neat_tidy text plain = neat_squeeze (trim text) (neat_trim text plain)
 
-neat_capital : (name : List ℕ) → Neat name → Neat (capitalised name)
+neat_capital : (name : List ℕ) → Neat name → Neat (with_capital name)
 neat_capital [] neat = neat
 neat_capital (c ∷ []) neat = record {
   front = white_capital c neat.front;
@@ -59,7 +59,7 @@ not_space c b plain = and_left (c == 32) b (or_parts _ _ plain).0
 squeeze_plain : (c : ℕ) (cs : List ℕ) → is_white c ≡ false → squeeze (c ∷ cs) ≡ c ∷ squeeze cs
 squeeze_plain c cs plain = cond-false _ _ _ (not_space c (begins_with 32 cs) plain)
 
-single_capital : (name : List ℕ) → Neat name → squeeze name ≡ name → squeeze (capitalised name) ≡ capitalised name
+single_capital : (name : List ℕ) → Neat name → squeeze name ≡ name → squeeze (with_capital name) ≡ with_capital name
 single_capital [] neat single = single
 single_capital (c ∷ cs) neat single =
     squeeze_plain (to_ascii_uppercase c) cs (white_capital c neat.front)
@@ -82,22 +82,22 @@ decided false true long made title e = absurd cc
 decided false false true made title e = absurd cc
 decided false false false made title e = (refl, refl, refl, cc)
 
-passed : (ns : Namespace) (name : List ℕ) (title : Title) → named ns name ≡ Ok title
-    → Passes name × (record { ns = ns; name = capitalised name } ≡ title)
+passed : (ns : Namespace) (name : List ℕ) (title : Title) → title_in ns name ≡ Ok title
+    → Passes name × (record { ns = ns; name = with_capital name } ≡ title)
 passed ns name title e =
-    let made : Title = record { ns = ns; name = capitalised name } in
+    let made : Title = record { ns = ns; name = with_capital name } in
     let parts = decided (length name == 0) (is_bad name) (nat_lt 255 (length name)) made title e in
     (record { some = parts.0; good = parts.1; short = parts.2 }, parts.3)
 
-passes_capital : (name : List ℕ) → Passes name → Passes (capitalised name)
+passes_capital : (name : List ℕ) → Passes name → Passes (with_capital name)
 passes_capital [] passes = passes
 passes_capital (c ∷ cs) passes = record { some = passes.some; good = bad_capital (c ∷ cs) passes.good; short = passes.short }
 
-capitalised_twice : (name : List ℕ) → capitalised (capitalised name) ≡ capitalised name
+capitalised_twice : (name : List ℕ) → with_capital (with_capital name) ≡ with_capital name
 capitalised_twice [] = refl
 capitalised_twice (c ∷ cs) = cons_same _ _ _ _ (capital_twice c) refl
 
-named_again : (ns : Namespace) (name : List ℕ) → Passes name → named ns (capitalised name) ≡ Ok (record { ns = ns; name = capitalised name })
+named_again : (ns : Namespace) (name : List ℕ) → Passes name → title_in ns (with_capital name) ≡ Ok (record { ns = ns; name = with_capital name })
 named_again ns name passes =
     let again = passes_capital name passes in
     cond-false _ _ _ again.some ∙ cond-false _ _ _ again.good ∙ cond-false _ _ _ again.short
@@ -105,14 +105,14 @@ named_again ns name passes =
 
 -- reading, step by step
 reads_as : (text rest name : List ℕ) (opened : Namespace × List ℕ) (ns : Namespace)
-    → spaced text ≡ text → trim text ≡ text → open_colon text Main ≡ opened
-    → choose_namespace opened.1 opened.0 ≡ (ns, rest) → tidy rest ≡ name → title_of text Main ≡ named ns name
+    → with_spaces text ≡ text → trim text ≡ text → open_colon text Main ≡ opened
+    → choose_namespace opened.1 opened.0 ≡ (ns, rest) → tidy rest ≡ name → title_of text Main ≡ title_in ns name
 unfolding title_of
 reads_as text rest name opened ns is_plain is_trimmed is_opened is_chosen is_name =
-    ap of_trimmed (ap trim is_plain ∙ is_trimmed) ∙ ap of_opened is_opened ∙ ap of_chosen is_chosen ∙ ap (named ns) is_name
+    ap of_trimmed (ap trim is_plain ∙ is_trimmed) ∙ ap of_opened is_opened ∙ ap of_chosen is_chosen ∙ ap (title_in ns) is_name
   where
     of_chosen : Namespace × List ℕ → Result Title TitleFault
-    of_chosen chosen = named chosen.0 (tidy chosen.1)
+    of_chosen chosen = title_in chosen.0 (tidy chosen.1)
 
     of_opened : Namespace × List ℕ → Result Title TitleFault
     of_opened o = of_chosen (choose_namespace o.1 o.0)
@@ -144,7 +144,7 @@ named_other : (text : List ℕ) → IfSome (namespace_named text) (λ ns. is_mai
 unfolding namespace_named prefixed_namespaces
 named_other text = found (λ ns. str_eq_ignore_ascii_case text (prefix_of ns)) prefixed_namespaces refl
 
-prefix_plain : (ns : Namespace) → spaced (prefix_of ns) ≡ prefix_of ns
+prefix_plain : (ns : Namespace) → with_spaces (prefix_of ns) ≡ prefix_of ns
 unfolding prefix_of
 prefix_plain Main = refl
 prefix_plain Talk = refl
@@ -202,23 +202,23 @@ last_some [] d e some = absurd (true≢false some)
 last_some (c ∷ cs) d e some = refl
 
 -- in a namespace with a prefix
-prefixed_again : (ns : Namespace) (rest : List ℕ) (title : Title) → is_main ns ≡ false → spaced rest ≡ rest
-    → named ns (tidy rest) ≡ Ok title → title_of (title_text title) Main ≡ Ok title
+prefixed_again : (ns : Namespace) (rest : List ℕ) (title : Title) → is_main ns ≡ false → with_spaces rest ≡ rest
+    → title_in ns (tidy rest) ≡ Ok title → title_of (title_text title) Main ≡ Ok title
 unfolding title_text
 prefixed_again ns rest title main plain e =
     let made = passed ns (tidy rest) title e in
-    let name = capitalised (tidy rest) in
+    let name = with_capital (tidy rest) in
     let neat = neat_capital (tidy rest) (neat_tidy rest plain) in
     let single = single_capital (tidy rest) (neat_tidy rest plain) (squeeze_twice (trim rest)) in
     let lead = leads ns name main in
     let text = prefix_of ns ++ (58 ∷ name) in
-    let is_plain : spaced text ≡ text =
+    let is_plain : with_spaces text ≡ text =
     map-append as_space (prefix_of ns) (58 ∷ name)
-    ∙ ap (λ (p : List ℕ). p ++ (58 ∷ spaced name)) (prefix_plain ns)
+    ∙ ap (λ (p : List ℕ). p ++ (58 ∷ with_spaces name)) (prefix_plain ns)
     ∙ ap (λ (n : List ℕ). prefix_of ns ++ (58 ∷ n)) neat.plain in
     let back : is_white (last_or 0 text) ≡ false =
     ap is_white (last_behind (prefix_of ns) name 0 58 ∙ last_some name 58 0 (passes_capital (tidy rest) made.0).some) ∙ neat.back in
-    let whole : title_of text Main ≡ named ns name =
+    let whole : title_of text Main ≡ title_in ns name =
     reads_as text name name (Main, text) ns is_plain (fixed_trim text lead.front back) lead.opened
     (ap (λ o. unwrap_or o (Main, text)) lead.cut) (tidy_neat name neat ∙ single) in
     subst (λ (t : Title). title_of (title_text t) Main ≡ Ok t) made.1
@@ -264,15 +264,15 @@ cut_squeeze : (text : List ℕ) → cut_at_colon (squeeze text) ≡ squeeze_part
 cut_squeeze [] = refl
 cut_squeeze (c ∷ cs) = cut_squeeze_at c cs (cut_at_colon cs) (c == 58) (cut_begins cs) (cut_squeeze cs) refl
 
-plain_before : (c : ℕ) (parts : Option Parts) → IfSome parts (λ p. spaced p.1 ≡ p.1) → IfSome (put_before c parts) (λ p. spaced p.1 ≡ p.1)
+plain_before : (c : ℕ) (parts : Option Parts) → IfSome parts (λ p. with_spaces p.1 ≡ p.1) → IfSome (put_before c parts) (λ p. with_spaces p.1 ≡ p.1)
 plain_before c None plain = tt
 plain_before c (Some p) plain = plain
 
-cut_plain : (text : List ℕ) → spaced text ≡ text → IfSome (cut_at_colon text) (λ p. spaced p.1 ≡ p.1)
+cut_plain : (text : List ℕ) → with_spaces text ≡ text → IfSome (cut_at_colon text) (λ p. with_spaces p.1 ≡ p.1)
 cut_plain [] plain = tt
 cut_plain (c ∷ cs) plain =
     let rest = (cons_parts _ _ _ _ plain).1 in
-    cond_both (c == 58) (Some ([], cs)) (put_before c (cut_at_colon cs)) (λ o. IfSome o (λ p. spaced p.1 ≡ p.1))
+    cond_both (c == 58) (Some ([], cs)) (put_before c (cut_at_colon cs)) (λ o. IfSome o (λ p. with_spaces p.1 ≡ p.1))
     (λ _. rest) (λ _. plain_before c (cut_at_colon cs) (cut_plain cs rest))
 
 -- the namespace that is chosen
@@ -280,18 +280,18 @@ abbrev pub chosen_by : Parts → Option (Namespace × List ℕ)
 chosen_by parts = option_map (λ (ns : Namespace). (ns, parts.1)) (namespace_named (tidy parts.0))
 
 abbrev pub Chosen : Namespace × List ℕ → Type 0
-Chosen chosen = (is_main chosen.0 ≡ false) × (spaced chosen.1 ≡ chosen.1)
+Chosen chosen = (is_main chosen.0 ≡ false) × (with_spaces chosen.1 ≡ chosen.1)
 
-chosen_named : (o : Option Namespace) (rest : List ℕ) → IfSome o (λ ns. is_main ns ≡ false) → spaced rest ≡ rest
+chosen_named : (o : Option Namespace) (rest : List ℕ) → IfSome o (λ ns. is_main ns ≡ false) → with_spaces rest ≡ rest
     → IfSome (option_map (λ (ns : Namespace). (ns, rest)) o) Chosen
 chosen_named None rest other plain = tt
 chosen_named (Some ns) rest other plain = (other, plain)
 
-chosen_at : (parts : Option Parts) → IfSome parts (λ p. spaced p.1 ≡ p.1) → IfSome (option_and_then chosen_by parts) Chosen
+chosen_at : (parts : Option Parts) → IfSome parts (λ p. with_spaces p.1 ≡ p.1) → IfSome (option_and_then chosen_by parts) Chosen
 chosen_at None plain = tt
 chosen_at (Some p) plain = chosen_named (namespace_named (tidy p.0)) p.1 (named_other (tidy p.0)) plain
 
-chosen : (text : List ℕ) → spaced text ≡ text → IfSome (cut_prefix text) Chosen
+chosen : (text : List ℕ) → with_spaces text ≡ text → IfSome (cut_prefix text) Chosen
 chosen text plain = chosen_at (cut_at_colon text) (cut_plain text plain)
 
 -- Where the text before a colon names no namespace, it names none in the name either.
@@ -326,11 +326,11 @@ uncut_at c cs (Some p) e plain other none =
     ap (option_and_then chosen_by) name_cut
     ∙ ap (option_map (λ (ns : Namespace). (ns, squeeze p.1))) (tidy_same c p.0 plain ∙ text_unnamed)
 
-uncut : (text : List ℕ) → Neat text → begins_with 58 (tidy text) ≡ false → cut_prefix text ≡ None → cut_prefix (capitalised (tidy text)) ≡ None
+uncut : (text : List ℕ) → Neat text → begins_with 58 (tidy text) ≡ false → cut_prefix text ≡ None → cut_prefix (with_capital (tidy text)) ≡ None
 uncut [] neat other none = refl
 uncut (c ∷ cs) neat other none =
     let is_tidy : tidy (c ∷ cs) ≡ c ∷ squeeze cs = tidy_neat (c ∷ cs) neat ∙ squeeze_plain c cs neat.front in
-    ap (λ (t : List ℕ). cut_prefix (capitalised t)) is_tidy
+    ap (λ (t : List ℕ). cut_prefix (with_capital t)) is_tidy
     ∙ uncut_at c cs (cut_at_colon cs) refl neat.front (sym (ap (begins_with 58) is_tidy) ∙ other) none
 
 unopened : (text : List ℕ) (ns : Namespace) → begins_with 58 text ≡ false → open_colon text ns ≡ (ns, text)
@@ -342,11 +342,11 @@ no_colon name passes = (or_parts _ _ (or_parts _ _ passes.good).0).1
 
 -- in the main namespace
 main_again : (text : List ℕ) (title : Title) → Neat text → cut_prefix text ≡ None
-    → named Main (tidy text) ≡ Ok title → title_of (title_text title) Main ≡ Ok title
+    → title_in Main (tidy text) ≡ Ok title → title_of (title_text title) Main ≡ Ok title
 unfolding title_text prefix_of
 main_again text title whole none e =
     let made = passed Main (tidy text) title e in
-    let name = capitalised (tidy text) in
+    let name = with_capital (tidy text) in
     let neat = neat_capital (tidy text) (neat_tidy text whole.plain) in
     let single = single_capital (tidy text) (neat_tidy text whole.plain) (squeeze_twice (trim text)) in
     let is_uncut = uncut text whole (no_colon (tidy text) made.0) none in
@@ -357,16 +357,16 @@ main_again text title whole none e =
     ∙ named_again Main (tidy text) made.0)
 
 default_again : (ns : Namespace) (text : List ℕ) (title : Title) → Neat text → cut_prefix text ≡ None
-    → named ns (tidy text) ≡ Ok title → title_of (title_text title) Main ≡ Ok title
+    → title_in ns (tidy text) ≡ Ok title → title_of (title_text title) Main ≡ Ok title
 default_again ns text title neat none e = go (cases_Bool (is_main ns))
   where
     go : (is_main ns ≡ true) ⊎ (is_main ns ≡ false) → title_of (title_text title) Main ≡ Ok title
-    go (inl main) = main_again text title neat none (ap (λ n. named n (tidy text)) (sym (main_is ns main)) ∙ e)
+    go (inl main) = main_again text title neat none (ap (λ n. title_in n (tidy text)) (sym (main_is ns main)) ∙ e)
     go (inr main) = prefixed_again ns text title main neat.plain e
 
 chosen_again : (ns : Namespace) (text : List ℕ) (title : Title) (cut : Option (Namespace × List ℕ)) → Neat text
     → cut_prefix text ≡ cut → IfSome cut Chosen
-    → named (unwrap_or cut (ns, text)).0 (tidy (unwrap_or cut (ns, text)).1) ≡ Ok title → title_of (title_text title) Main ≡ Ok title
+    → title_in (unwrap_or cut (ns, text)).0 (tidy (unwrap_or cut (ns, text)).1) ≡ Ok title → title_of (title_text title) Main ≡ Ok title
 chosen_again ns text title None neat is_cut is_chosen e = default_again ns text title neat is_cut e
 chosen_again ns text title (Some cut) neat is_cut is_chosen e = prefixed_again cut.0 cut.1 title is_chosen.0 is_chosen.1 e
 
@@ -385,6 +385,6 @@ pub reads_back : (text : List ℕ) (default : Namespace) (title : Title)
     → title_of text default ≡ Ok title → title_of (title_text title) Main ≡ Ok title
 unfolding title_of
 reads_back text default title e =
-    let opened = open_colon (trim (spaced text)) default in
-    let neat = neat_opened (trim (spaced text)) default (neat_trim (spaced text) (plain_spaced text)) in
+    let opened = open_colon (trim (with_spaces text)) default in
+    let neat = neat_opened (trim (with_spaces text)) default (neat_trim (with_spaces text) (plain_spaced text)) in
     chosen_again opened.0 opened.1 title (cut_prefix opened.1) neat refl (chosen opened.1 neat.plain) e

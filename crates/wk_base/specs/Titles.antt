@@ -1,6 +1,6 @@
 -- How a title is written, and how a text is read as one (MediaWiki, Manual:Page title and Help:Namespaces).
 -- Texts are lists of bytes: 32 is the space, 58 `:`, 95 `_`.
-use Rattle.std.specs.Prelude.{◌≡◌, ℕ, Bool, false, ◌||◌, ◌&&◌, not, ◌==◌, nat_lt, if◌then◌else◌, List, [], ◌∷◌, ◌++◌, map, find, length, Option, Some, None, option_map, option_and_then, unwrap_or, Result, Ok, Err, codes}
+use Rattle.std.specs.Prelude.{◌≡◌, ℕ, Bool, true, false, ◌||◌, ◌&&◌, not, ◌==◌, nat_lt, if◌then◌else◌, List, [], ◌∷◌, ◌++◌, map, find, length, Option, Some, None, option_map, option_and_then, unwrap_or, Result, Ok, Err, codes}
 use Rattle.std.specs.List.{list_any}
 use Rattle.std.specs.Char.{to_ascii_uppercase}
 use Rattle.std.specs.Str.{is_utf8, str_eq_ignore_ascii_case}
@@ -32,6 +32,11 @@ prefix_of CategoryTalk = codes "Category talk"
 prefix_of Module = codes "Module"
 prefix_of ModuleTalk = codes "Module talk"
 
+-- whether the pages of a namespace are modules of Lua (Extension:Scribunto)
+abbrev pub is_module : Namespace → Bool
+is_module Module = true
+is_module _ = false
+
 -- the prefix, a colon and the name, or the name alone where the prefix is empty
 abbrev pub with_prefix : List ℕ → List ℕ → List ℕ
 with_prefix [] name = name
@@ -45,8 +50,8 @@ title_text title = with_prefix (prefix_of title.ns) title.name
 abbrev pub as_space : ℕ → ℕ
 as_space c = if c == 95 then 32 else c
 
-abbrev pub spaced : List ℕ → List ℕ
-spaced text = map as_space text
+abbrev pub with_spaces : List ℕ → List ℕ
+with_spaces text = map as_space text
 
 -- whether the text begins with this byte
 abbrev pub begins_with : ℕ → List ℕ → Bool
@@ -100,25 +105,25 @@ abbrev pub is_bad : List ℕ → Bool
 is_bad name = not (is_utf8 name) || begins_with 58 name || list_any is_forbidden name
 
 -- A first letter of ASCII becomes a capital.
-abbrev pub capitalised : List ℕ → List ℕ
-capitalised [] = []
-capitalised (c ∷ cs) = to_ascii_uppercase c ∷ cs
+abbrev pub with_capital : List ℕ → List ℕ
+with_capital [] = []
+with_capital (c ∷ cs) = to_ascii_uppercase c ∷ cs
 
 -- the title of this name in a namespace, or why it is none
-abbrev pub named : Namespace → List ℕ → Result Title TitleFault
-named ns name =
+abbrev pub title_in : Namespace → List ℕ → Result Title TitleFault
+title_in ns name =
     if length name == 0 then Err Empty
     else if is_bad name then Err BadByte
     else if nat_lt 255 (length name) then Err TooLong
-    else Ok (record { ns = ns; name = capitalised name })
+    else Ok (record { ns = ns; name = with_capital name })
 
 -- The title that a text is read as under a default namespace, or why it is none: underscores are spaces and the ends are
--- trimmed, a colon in front is taken off, a prefix chooses the namespace, and what is left, tidied, is the name.
+-- trimmed, a colon in front is taken off, a prefix chooses the namespace, and what is left, made tidy, is the name.
 unfoldable pub title_of : List ℕ → Namespace → Result Title TitleFault
 title_of text default =
-    let opened = open_colon (trim (spaced text)) default in
+    let opened = open_colon (trim (with_spaces text)) default in
     let chosen = choose_namespace opened.1 opened.0 in
-    named chosen.0 (tidy chosen.1)
+    title_in chosen.0 (tidy chosen.1)
 
 -- Any title that the text is read as is read again from its own text, with the main namespace as default.
 abbrev pub ReadsBack : List ℕ → Namespace → Type 0

@@ -6,6 +6,10 @@
 //! - `title`: namespaces and titles of pages
 //! - `title_read`: how a text is read as a title
 //! - `steps`: a counter of turns
+//! - `space`: white space, and a text without it at the ends
+//!
+//! Read `specs/Titles.antt` first: what a title is, and which one a text is read as. `specs/Space.antt` says what white
+//! space is. `proofs/Options.antt` and `proofs/Numbers.antt` hold the lemmas that several crates use and std doesn't have.
 //!
 //! Want of memory is the one failure here, and is always `NoMemory`.
 #![tactic(auto)]
@@ -13,6 +17,7 @@
 pub mod bytes;
 pub mod left;
 pub mod list;
+pub mod space;
 pub mod steps;
 pub mod title;
 pub mod title_read;

@@ -1,4 +1,5 @@
 //! Each public call once, with ample memory.
+use crate::space::{is_white, trim};
 use crate::{Bytes, Left, Limits, List, Namespace, Title};
 use std::test::Fail;
 
@@ -62,5 +63,31 @@ fn allowances_are_taken_entered_and_left(rt: HostRuntime) -> Result<(), Fail> {
     left.leave_expansion();
     left.leave_template();
     assert_eq!(rt; (left.calls, left.depth, left.templates), (2, 1, 1));
+    Ok(())
+}
+
+#[test]
+fn white_space_is_taken_off_both_ends(rt: HostRuntime) -> Result<(), Fail> {
+    for byte in 0..=255u8 {
+        assert_eq!(rt; is_white(byte), b" \t\n\x0b\x0c\r".contains(&byte));
+    }
+    let cases: [(&[u8], &[u8]); 5] = [
+        (b" \t a b\r\n", b"a b"),
+        (b"_a_", b"_a_"),
+        (b"\xc2\xa0a", b"\xc2\xa0a"),
+        (b" \x0b\x0c ", b""),
+        (b"", b""),
+    ];
+    for (text, expected) in cases {
+        assert_eq!(rt; trim(text), expected);
+    }
+    Ok(())
+}
+
+#[test]
+fn only_the_namespace_of_modules_holds_modules(rt: HostRuntime) -> Result<(), Fail> {
+    assert!(rt; Namespace::Module.is_module());
+    assert!(rt; !Namespace::ModuleTalk.is_module());
+    assert!(rt; !Namespace::Main.is_module());
     Ok(())
 }

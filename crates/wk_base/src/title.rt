@@ -1,6 +1,6 @@
 //! Namespaces and titles of pages (MediaWiki, Help:Namespaces and Manual:Page title).
 ghost use Rattle.std.specs.Prelude.{◌≡◌, ◌∷◌, ◌++◌, IfOk};
-ghost use Rattle.wk_base.specs.Titles.{prefix_of, title_text};
+ghost use Rattle.wk_base.specs.Titles.{is_module, prefix_of, title_text};
 
 use crate::{Bytes, NoMemory};
 use std::alloc::AllocError;
@@ -55,6 +55,13 @@ impl Namespace {
             Namespace::ModuleTalk => "Module talk",
         }
     }
+
+    /// Whether the pages of this namespace are modules of Lua, which `#invoke` calls (Extension:Scribunto).
+    pub fn is_module(self) -> bool
+        ensures { result ≡ is_module self }
+    {
+        matches!(self, Namespace::Module)
+    }
 }
 
 /// The title of a page: its namespace, and its name in UTF-8 without the prefix.
@@ -72,6 +79,7 @@ impl Title {
         let name = self.name.copy()?;
         Ok(Title { ns: self.ns, name })
     }
+
     /// The title as it is written: the prefix, a colon and the name, or in the main namespace the name alone.
     pub fn text(&self) -> Result<Bytes, NoMemory>
         ensures { IfOk result (λ text. text ≡ title_text self.now) }

@@ -1,12 +1,13 @@
 //! Reading a text as the title of a page (MediaWiki, Manual:Page title).
 //!
-//! An underscore counts as a space throughout, so the functions here say what they do with the `spaced` text.
+//! An underscore counts as a space throughout, so the functions here say what they do with the `with_spaces` text.
 ghost use Rattle.std.specs.Prelude.{◌≡◌, ◌⊎◌, ◌==◌, ◌&&◌, option_map, IfOk, IfErr};
 ghost use Rattle.std.specs.List.{list_any};
 ghost use Rattle.std.specs.Str.{is_utf8, str_eq_ignore_ascii_case};
-ghost use Rattle.wk_base.specs.Space.{is_white, trim_start, trim_end, trim};
-ghost use Rattle.wk_base.specs.Titles.{ReadsBack, title_of, named, open_colon, cut_prefix, namespace_named, cut_at_colon, is_forbidden, is_bad, as_space, spaced, begins_with, squeeze, tidy, capitalised};
+ghost use Rattle.wk_base.specs.Space.{trim_start, trim_end, trim};
+ghost use Rattle.wk_base.specs.Titles.{ReadsBack, title_of, title_in, open_colon, cut_prefix, namespace_named, cut_at_colon, is_forbidden, is_bad, as_space, with_spaces, begins_with, squeeze, tidy, with_capital};
 
+use crate::space::is_white;
 use crate::{Bytes, Namespace, NoMemory, Title};
 use std::alloc::{AllocError, Global};
 
@@ -46,7 +47,7 @@ impl Title {
     {
         let (default, text) = open_colon(trim(text), default);
         let (ns, rest) = cut_prefix(text).unwrap_or((default, text));
-        named(ns, tidied(alloc, rest)?)
+        title_in(ns, tidy_name(alloc, rest)?)
     }
 }
 
@@ -58,7 +59,7 @@ pub fn text_reads_back(text: &[u8], default: Namespace)
 
 /// The white space at the start is left out.
 fn trim_start(mut text: &[u8]) -> &[u8]
-    ensures { spaced result.now ≡ trim_start (spaced text.now) }
+    ensures { with_spaces result.now ≡ trim_start (with_spaces text.now) }
 {
     while let [first, rest @ ..] = text
         && is_white(as_space(*first))
@@ -70,7 +71,7 @@ fn trim_start(mut text: &[u8]) -> &[u8]
 
 /// The white space at the end is left out.
 fn trim_end(mut text: &[u8]) -> &[u8]
-    ensures { spaced result.now ≡ trim_end (spaced text.now) }
+    ensures { with_spaces result.now ≡ trim_end (with_spaces text.now) }
 {
     while let [rest @ .., last] = text
         && is_white(as_space(*last))
@@ -81,7 +82,7 @@ fn trim_end(mut text: &[u8]) -> &[u8]
 }
 
 fn trim(text: &[u8]) -> &[u8]
-    ensures { spaced result.now ≡ trim (spaced text.now) }
+    ensures { with_spaces result.now ≡ trim (with_spaces text.now) }
 {
     trim_end(trim_start(text))
 }
@@ -92,15 +93,9 @@ fn as_space(byte: u8) -> u8
     if byte == b'_' { b' ' } else { byte }
 }
 
-fn is_white(byte: u8) -> bool
-    ensures { result ≡ is_white byte }
-{
-    byte == b' ' || (9 <= byte && byte <= 13)
-}
-
 /// Takes off a colon in front, which leads to the main namespace.
 fn open_colon(text: &[u8], default: Namespace) -> (Namespace, &[u8])
-    ensures { (result.0, spaced result.1.now) ≡ open_colon (spaced text.now) default }
+    ensures { (result.0, with_spaces result.1.now) ≡ open_colon (with_spaces text.now) default }
 {
     match text {
         [b':', rest @ ..] => (Namespace::Main, trim_start(rest)),
@@ -110,7 +105,7 @@ fn open_colon(text: &[u8], default: Namespace) -> (Namespace, &[u8])
 
 /// The namespace that the text before the first colon names, with what stands behind the colon.
 fn cut_prefix(text: &[u8]) -> Option<(Namespace, &[u8])>
-    ensures { option_map (λ cut. (cut.0, spaced cut.1.now)) result ≡ cut_prefix (spaced text.now) }
+    ensures { option_map (λ cut. (cut.0, with_spaces cut.1.now)) result ≡ cut_prefix (with_spaces text.now) }
 {
     let (prefix, rest) = cut_at_colon(text)?;
     let ns = namespace_named(trim(prefix))?;
@@ -119,7 +114,7 @@ fn cut_prefix(text: &[u8]) -> Option<(Namespace, &[u8])>
 
 /// What stands before the first colon, and what stands behind it.
 fn cut_at_colon(text: &[u8]) -> Option<(&[u8], &[u8])>
-    ensures { option_map (λ cut. (spaced cut.0.now, spaced cut.1.now)) result ≡ cut_at_colon (spaced text.now) }
+    ensures { option_map (λ cut. (with_spaces cut.0.now, with_spaces cut.1.now)) result ≡ cut_at_colon (with_spaces text.now) }
 {
     for (at, byte) in text.iter().enumerate() {
         if *byte == b':' {
@@ -153,7 +148,7 @@ const PREFIXED: [Namespace; 17] = [
 /// The namespace of this prefix, in any case and with any runs of spaces for one.
 #[tactic(auto, unfolding(crate::specs::Titles::namespace_named, crate::specs::Titles::prefixed_namespaces))]
 fn namespace_named(prefix: &[u8]) -> Option<Namespace>
-    ensures { result ≡ namespace_named (squeeze (spaced prefix.now)) }
+    ensures { result ≡ namespace_named (squeeze (with_spaces prefix.now)) }
 {
     PREFIXED
         .iter()
@@ -163,7 +158,7 @@ fn namespace_named(prefix: &[u8]) -> Option<Namespace>
 
 /// Whether the text is this prefix, in any case and with any runs of spaces for one.
 fn is_spelled(mut prefix: &[u8], mut text: &[u8]) -> bool
-    ensures { result ≡ str_eq_ignore_ascii_case (squeeze (spaced text.now)) prefix.now }
+    ensures { result ≡ str_eq_ignore_ascii_case (squeeze (with_spaces text.now)) prefix.now }
 {
     while let [first, rest @ ..] = text {
         if !is_doubled(*first, rest) {
@@ -181,7 +176,7 @@ fn is_spelled(mut prefix: &[u8], mut text: &[u8]) -> bool
 
 /// Whether a byte is a space that another one follows.
 fn is_doubled(byte: u8, after: &[u8]) -> bool
-    ensures { result ≡ (as_space byte == 32 && begins_with 32 (spaced after.now)) }
+    ensures { result ≡ (as_space byte == 32 && begins_with 32 (with_spaces after.now)) }
 {
     match after {
         [next, ..] => as_space(byte) == b' ' && as_space(*next) == b' ',
@@ -190,8 +185,8 @@ fn is_doubled(byte: u8, after: &[u8]) -> bool
 }
 
 /// The text trimmed, with each run of spaces made one.
-fn tidied(alloc: Global, text: &[u8]) -> Result<Vec<u8>, AllocError>
-    ensures { IfOk result (λ name. name.items ≡ tidy (spaced text.now)) }
+fn tidy_name(alloc: Global, text: &[u8]) -> Result<Vec<u8>, AllocError>
+    ensures { IfOk result (λ name. name.items ≡ tidy (with_spaces text.now)) }
 {
     let mut left = trim(text);
     let mut name = Vec::with_capacity(alloc, left.len())?;
@@ -205,8 +200,8 @@ fn tidied(alloc: Global, text: &[u8]) -> Result<Vec<u8>, AllocError>
 }
 
 /// The title of this name, whose first letter becomes a capital if it is one of ASCII.
-fn named(ns: Namespace, mut name: Vec<u8>) -> Result<Title, TitleFault>
-    ensures { result ≡ named ns name.items }
+fn title_in(ns: Namespace, mut name: Vec<u8>) -> Result<Title, TitleFault>
+    ensures { result ≡ title_in ns name.items }
 {
     if name.is_empty() {
         return Err(TitleFault::Empty);
@@ -259,7 +254,7 @@ fn is_forbidden(byte: u8) -> bool
 
 /// Makes a first letter of ASCII a capital.
 fn capitalise(name: &mut [u8])
-    ensures { name.new ≡ capitalised name.old }
+    ensures { name.new ≡ with_capital name.old }
 {
     if let [first, ..] = name {
         *first = first.to_ascii_uppercase();

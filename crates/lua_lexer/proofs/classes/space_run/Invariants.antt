@@ -1,7 +1,7 @@
 use Rattle.std.proofs.Common.{◌≡◌, ◌+◌, drop}
 use Rattle.std.specs.List.{prefix_len}
-use Rattle.lua_lexer.specs.Lexis.{is_space}
+use Rattle.wk_base.specs.Space.{is_white}
 use Rattle.lua_lexer.proofs.classes.space_run.Given as goal
 
 abbrev pub invariant-loop-c : goal.invariant-loop-c
-invariant-loop-c l = record { here : l.n ≡ l.c-index; total : l.n + prefix_len is_space (drop l.c-index l.text) ≡ prefix_len is_space l.text }
+invariant-loop-c l = record { here : l.n ≡ l.c-index; total : l.n + prefix_len is_white (drop l.c-index l.text) ≡ prefix_len is_white l.text }

@@ -8,4 +8,4 @@ returns-then-base-eq10 c = c.read_number.ensures ∙ base_ten c.args.text.now c.
 
 pub returns : goal.returns
 returns c =
-    base_read c.args.base c.args.text.now c.without_space-text.result.now c.unsigned.result.now c.is_minus.result _ c.if-base-eq10.false c.without_space-text.ensures c.unsigned.ensures c.is_minus.ensures (c.with_sign.ensures (digits_of_base c.args.base c.unsigned.result.now) c.digits_of_base.ensures)
+    base_read c.args.base c.args.text.now c.trim-text.result.now c.unsigned.result.now c.is_minus.result _ c.if-base-eq10.false c.trim-text.ensures c.unsigned.ensures c.is_minus.ensures (c.with_sign.ensures (digits_of_base c.args.base c.unsigned.result.now) c.digits_of_base.ensures)

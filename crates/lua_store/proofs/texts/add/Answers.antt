@@ -9,5 +9,5 @@ returns-in-Ok-clause-there c =
     let s = c.in-Ok.ensures.stored in
     text_there c.args.bytes.now c.insert_full.new.self.keys c.in-Ok.at s.0 s.1 (sym (same_text c.args.bytes.now s.0.now (sym s.2)))
 
-pub returns-in-Ok-clause-kept : goal.returns-in-Ok-clause-kept
-returns-in-Ok-clause-kept c = ap texts_of c.in-Ok.ensures.keys ∙ with_text-new c.args.bytes.now c.args.texts.now.keys c.args.bytes refl
+pub returns-in-Ok-clause-added : goal.returns-in-Ok-clause-added
+returns-in-Ok-clause-added c = ap texts_of c.in-Ok.ensures.keys ∙ with_text-new c.args.bytes.now c.args.texts.now.keys c.args.bytes refl

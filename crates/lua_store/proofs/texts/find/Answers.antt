@@ -7,5 +7,5 @@ returns-in-Some-clause-there c =
     text_there c.args.bytes.now c.args.texts.now.keys c.in-Some.at c.in-Some.field-0-1.now c.in-Some.ensures.stored
     (find_same c.args.bytes.now c.args.texts.now.keys c.in-Some.field-0-1.now (sym c.in-Some.ensures.key))
 
-pub returns-in-Some-clause-kept : goal.returns-in-Some-clause-kept
-returns-in-Some-clause-kept c = with_text-there c.args.bytes.now c.args.texts.now.keys c.in-Some.ensures.found
+pub returns-in-Some-clause-added : goal.returns-in-Some-clause-added
+returns-in-Some-clause-added c = with_text-there c.args.bytes.now c.args.texts.now.keys c.in-Some.ensures.found

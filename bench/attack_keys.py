@@ -1,0 +1,99 @@
+#!/usr/bin/env python3
+"""Times a table of a store on number keys that were chosen to collide, beside as many keys at random.
+
+  bench/attack_keys.py crates/table_bench/out/table_bench [HOW_MANY]
+
+The keys are found by the hash of a map whose seed is fixed (`FoldHasher` of core, folded to 32 bits, of which the lowest pick
+the place in the map). So this shows what a module can do that knows how its keys are hashed: where the seed is fixed, the time
+grows with the square of the number of keys; where it is drawn for each run, these keys are keys at random. A C compiler finds
+the keys (`cc`, some seconds). Processor seconds are of the best of some runs.
+"""
+import os
+import random
+import struct
+import subprocess
+import sys
+import tempfile
+
+ROUNDS = 3
+MOST_TIMES = 3.0
+
+# A key is hashed as two words of 8 bytes, the number of its kind among the kinds of values and the number itself. GROUP_BITS
+# bits of the folded hash pick the group of 12 places, 9 of which are used on average.
+FIND = r"""
+#include <stdint.h>
+#include <stdio.h>
+#include <stdlib.h>
+
+#define MULTIPLIER (0x9e3779b97f4a7c15ull ^ 16)
+#define INITIAL 0x243f6a8885a308d3ull
+#define NUMBER_KIND 2
+
+static uint64_t folded(uint64_t a, uint64_t b) {
+    unsigned __int128 product = (unsigned __int128)a * b;
+    return (uint64_t)product ^ (uint64_t)(product >> 64);
+}
+
+int main(int argc, char **argv) {
+    long wanted = atol(argv[1]);
+    uint32_t mask = (1u << atoi(argv[2])) - 1;
+    uint64_t state = folded(INITIAL ^ NUMBER_KIND, MULTIPLIER);
+    for (uint64_t n = 1ull << 40; wanted > 0; n++) {
+        uint64_t hash = folded(state ^ n, MULTIPLIER);
+        if (((hash ^ (hash >> 32)) & mask) == 0) {
+            fwrite(&n, 8, 1, stdout);
+            wanted--;
+        }
+    }
+    return 0;
+}
+"""
+
+
+def group_bits(count):
+    bits = 0
+    while 9 << bits < count:
+        bits += 1
+    return bits
+
+
+def colliding(count):
+    with tempfile.TemporaryDirectory() as folder:
+        source = os.path.join(folder, "find.c")
+        program = os.path.join(folder, "find")
+        with open(source, "w") as file:
+            file.write(FIND)
+        subprocess.run(["cc", "-O2", "-o", program, source], check=True)
+        return subprocess.run([program, str(count), str(group_bits(count))], check=True, stdout=subprocess.PIPE).stdout
+
+
+def at_random(count):
+    source = random.Random(42)
+    return b"".join(struct.pack("<q", source.randrange(1 << 40, 1 << 62)) for _ in range(count))
+
+
+def seconds(program, keys):
+    running = subprocess.Popen([program], stdin=subprocess.PIPE, stdout=subprocess.PIPE)
+    running.stdin.write(b"keys " + keys)
+    running.stdin.close()
+    answer = running.stdout.read().decode().strip()
+    _, status, usage = os.wait4(running.pid, 0)
+    running.returncode = status
+    if status != 0 or answer != str(len(keys) // 8):
+        sys.exit(f"{program} ended with {status} and {answer} of {len(keys) // 8}")
+    return usage.ru_utime + usage.ru_stime
+
+
+def main():
+    program = sys.argv[1]
+    count = int(sys.argv[2]) if len(sys.argv) > 2 else 200_000
+    times = {}
+    for name, keys in [("at random", at_random(count)), ("colliding", colliding(count))]:
+        times[name] = min(seconds(program, keys) for _ in range(ROUNDS))
+        print(f"{count:,} keys {name}: {times[name]:.3f} s")
+    ratio = times["colliding"] / times["at random"]
+    print(f"colliding keys take {ratio:.2f} times as long; at most {MOST_TIMES} are allowed")
+    sys.exit(ratio > MOST_TIMES)
+
+
+main()
