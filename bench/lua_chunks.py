@@ -2,17 +2,53 @@
 it is given, and what is seen at those. `profile` marks what Lua 5.1 does otherwise."""
 
 
-def chunk(name, said, text, gives=None, fails=None, module="X", steps=6000, seen=None, profile=False, calls=None, args=None, how="invoked", fault=None):
+def chunk(name, said, text, gives=None, fails=None, module="X", steps=6000, seen=None, profile=False, calls=None, args=None, how="invoked", fault=None, others=None, cases=False):
     if seen is None:
         seen = [("Gives", gives) if gives is not None else ("Fails", fails)]
     if not isinstance(steps, list):
         steps = [steps]
     return dict(name=name, said=said, text=text, module=module, steps=steps, seen=seen, profile=profile, calls=calls,
-                args=args, how=how, fault=fault)
+                args=args, how=how, fault=fault, others=others, cases=cases)
+
+
+def quoted(text):
+    escaped = text.replace("\\", "\\\\").replace('"', '\\"').replace("\n", "\\n")
+    return f'(codes "{escaped}")' if text else "[]"
+
+
+def pairs(args):
+    return "(" + " ∷ ".join([f"arg {quoted(k)} {quoted(v)}" for k, v in args] + ["[]"]) + ")" if args else "[]"
+
+
+def template(title, args, module="X", own=()):
+    return f"Template (own_scene {quoted(module)} {pairs(own)}) (template_title {quoted(title)}) {pairs(args)}"
+
+
+def preprocess(text, module="X", own=()):
+    return f"Preprocess (own_scene {quoted(module)} {pairs(own)}) {quoted(text)}"
+
+
+def data(title):
+    return f"Data (module_title {quoted(title)})"
+
+
+def text(answer, left):
+    return f"reply (Expanded {quoted(answer)}) {left}"
+
+
+def asking(name, said, source, *cases, module="X", args=None, others=None):
+    """Several runs of one text in the body of template T: of each its steps, the replies that it gets, and what is seen."""
+    return chunk(name, said, source, module=module, args=args, others=others, cases=True, profile=True,
+                 steps=[(steps, list(replies)) for steps, replies, _ in cases], seen=[end for _, _, end in cases])
 
 
 def body(name, said, text, gives=None, fails=None, **more):
     return chunk(name, said, "return {f=function(...)\n" + text + "\nend}", gives, fails, **more)
+
+
+def loaded_x(left):
+    """The tables of `return {x='v'}`."""
+    return f"reply (Loaded (((Text (codes \"x\"), Text (codes \"v\")) ∷ []) ∷ [])) {left}"
 
 
 # 1,000; the arguments; the text; the chunk; then `f` entered, the `local`, the nodes of the `return` with a link and a function
@@ -22,9 +58,11 @@ ARGUMENTS = 1000 + 2 * (4 + 1 + 1) + 78 + (1 + 1 + 1 + 8 + 1 + 1 + 8 + 4) + 1 + 
 CHARGES = [
     chunk("smallest", "1,000 for the start, 36 for the text, and 29 for what it does.",
           "return {f=function() return 'a' end}", module="A", steps=[1065, 1064], seen=[("Gives", "a", 0), ("Spends", "Steps", 0)]),
-    chunk("start", "1,083 for the start, the text and the chunk. Then `f` fails after 7 steps more, with a message of 40 bytes.",
-          "return {f=function() return mw.loadData('Module:D').x end}", module="M", steps=[1083 + 7 + 40, 1083 + 7 + 39],
-          seen=[("Fails", "Lua error: Module:M:1: attempt to index a nil value", 0), ("Spends", "Steps", 0)], profile=True),
+    asking("start", "1,083 for the start, the text and the chunk; then `f` asks after 9 steps more. The load takes 1,031, and 2 are left to read the "
+           "field and to answer.",
+           "return {f=function() return mw.loadData('Module:D').x end}",
+           (2125, [], ("Asks", data("D"), 1033)), (2125, [loaded_x(2)], ("Gives", "v", 0)), (2124, [loaded_x(1)], ("Spends", "Steps", 0)),
+           (1092, [], ("Asks", data("D"), 0)), (1091, [], ("Spends", "Steps", 0)), module="M"),
     chunk("data_start", "The load of a data module: 1,000 for the start, 14 for the text, and 17 for what it does.",
           "return {x='v'}", module="D", how="loaded", steps=[1031, 1030], seen=[("Loads", 0), ("Spends", "Steps", 0)], profile=True),
     chunk("arguments", "Arguments cost 4 each, and the bytes of their names and values. A name that is a place is a number.",

@@ -1,12 +1,17 @@
 -- EXAMPLES of single charges, worked out by hand.
 use Rattle.std.specs.Prelude.{◌≡◌, pos, true, false, [], ◌∷◌, codes}
 use Rattle.lua_syntax.specs.declared.BinaryOp.TheVariants as op
-use Rattle.lua_syntax.specs.Tree.{NilE, NumberE, TextE, DotsE, FunctionE, NameE, IndexE, CallE, MethodE, TableE, BinaryE}
+use Rattle.lua_syntax.specs.declared.UnaryOp.TheVariants as sign
+use Rattle.lua_syntax.specs.Tree.{NilE, TrueE, FalseE, NumberE, TextE, DotsE, FunctionE, NameE, IndexE, CallE, MethodE, TableE, BinaryE, UnaryE, ParenE}
 use Rattle.lua_syntax.specs.Tree.{NoExp, NoField, Item, Pair, Lambda, Block, NoStat, Arm}
-use Rattle.lua_syntax.specs.Tree.{AssignS, CallS, WhileS, RepeatS, IfS, CountS, EachS, LocalFunctionS, LocalS, ReturnS}
+use Rattle.lua_syntax.specs.Tree.{AssignS, CallS, DoS, WhileS, RepeatS, IfS, IfElseS, CountS, CountByS, EachS, LocalFunctionS, LocalS, ReturnS, BreakS}
 use Rattle.lua_syntax.specs.View.{exps_of, fields_of, arms_of, stats_of}
-use Rattle.page_run.specs.declared.which.Which.TheVariants.{Steps}
-use Rattle.lua_meaning.specs.Trial.{Gives, Spends, invoked}
+use Rattle.page_run.specs.declared.which.Which.TheVariants.{Steps, Calls}
+use Rattle.wk_base.specs.declared.title.Namespace.TheVariants.{Main}
+use Rattle.lua_meaning.specs.Questions.{Template, Preprocess, Data}
+use Rattle.lua_heap.specs.Value.{Nil, Truth, Number, Text, Table}
+use Rattle.lua_meaning.specs.Questions.{Expanded, NoPage, Loaded, LoadFailed}
+use Rattle.lua_meaning.specs.Trial.{Gives, Fails, Spends, Loads, Asks, without_steps, arg, invoked, invoked_with, invoked_on, loaded, faulted, counted, held, template_title, module_title, own_scene, parent_scene, reply, spent, asked}
 
 -- A function that does nothing.
 --     return {f=function(...)
@@ -40,8 +45,8 @@ abbrev pub while_costs : Block
 while_costs = stats_of (ReturnS 1 (exps_of (TableE 1 (fields_of (Pair (TextE 1 (codes "f")) (FunctionE 1 (Lambda [] true (stats_of (
     LocalS 2 (codes "i" ∷ []) (exps_of (NumberE 2 (pos 0) ∷ []))
     ∷ WhileS 2 (BinaryE 2 op.Lt (NameE 2 (codes "i")) (NumberE 2 (pos 2))) (stats_of (
-    AssignS 2 (exps_of (NameE 2 (codes "i") ∷ [])) (exps_of (BinaryE 2 op.Add (NameE 2 (codes "i")) (NumberE 2 (pos 1)) ∷ []))
-    ∷ []))
+        AssignS 2 (exps_of (NameE 2 (codes "i") ∷ [])) (exps_of (BinaryE 2 op.Add (NameE 2 (codes "i")) (NumberE 2 (pos 1)) ∷ []))
+        ∷ []))
     ∷ [])))) ∷ [])) ∷ [])) ∷ [])
 
 abbrev pub WhileCosts : Type 0
@@ -55,8 +60,8 @@ abbrev pub repeat_costs : Block
 repeat_costs = stats_of (ReturnS 1 (exps_of (TableE 1 (fields_of (Pair (TextE 1 (codes "f")) (FunctionE 1 (Lambda [] true (stats_of (
     LocalS 2 (codes "i" ∷ []) (exps_of (NumberE 2 (pos 0) ∷ []))
     ∷ RepeatS 2 (stats_of (
-    AssignS 2 (exps_of (NameE 2 (codes "i") ∷ [])) (exps_of (BinaryE 2 op.Add (NameE 2 (codes "i")) (NumberE 2 (pos 1)) ∷ []))
-    ∷ [])) (BinaryE 2 op.Ge (NameE 2 (codes "i")) (NumberE 2 (pos 2)))
+        AssignS 2 (exps_of (NameE 2 (codes "i") ∷ [])) (exps_of (BinaryE 2 op.Add (NameE 2 (codes "i")) (NumberE 2 (pos 1)) ∷ []))
+        ∷ [])) (BinaryE 2 op.Ge (NameE 2 (codes "i")) (NumberE 2 (pos 2)))
     ∷ [])))) ∷ [])) ∷ [])) ∷ [])
 
 abbrev pub RepeatCosts : Type 0
@@ -181,8 +186,8 @@ abbrev pub call_link_costs : Block
 call_link_costs = stats_of (ReturnS 1 (exps_of (TableE 1 (fields_of (Pair (TextE 1 (codes "f")) (FunctionE 1 (Lambda [] true (stats_of (ReturnS 2 (exps_of (CallE 2 (CallE 2 (NameE 2 (codes "setmetatable")) (exps_of (
     TableE 2 NoField
     ∷ TableE 2 (fields_of (
-    Pair (TextE 2 (codes "__call")) (FunctionE 2 (Lambda [] false (stats_of (ReturnS 2 (exps_of (NumberE 2 (pos 1) ∷ [])) ∷ []))))
-    ∷ []))
+        Pair (TextE 2 (codes "__call")) (FunctionE 2 (Lambda [] false (stats_of (ReturnS 2 (exps_of (NumberE 2 (pos 1) ∷ [])) ∷ []))))
+        ∷ []))
     ∷ []))) NoExp ∷ [])) ∷ [])))) ∷ [])) ∷ [])) ∷ [])
 
 abbrev pub CallLinkCosts : Type 0
@@ -207,8 +212,8 @@ MessageCosts = (invoked (codes "X") 68 message_costs 1144 ≡ Gives (codes "fals
 abbrev pub method_costs : Block
 method_costs = stats_of (ReturnS 1 (exps_of (TableE 1 (fields_of (Pair (TextE 1 (codes "f")) (FunctionE 1 (Lambda [] true (stats_of (
     LocalS 2 (codes "o" ∷ []) (exps_of (TableE 2 (fields_of (
-    Pair (TextE 2 (codes "m")) (FunctionE 2 (Lambda (codes "s" ∷ []) false (stats_of (ReturnS 2 (exps_of (NumberE 2 (pos 1) ∷ [])) ∷ []))))
-    ∷ [])) ∷ []))
+        Pair (TextE 2 (codes "m")) (FunctionE 2 (Lambda (codes "s" ∷ []) false (stats_of (ReturnS 2 (exps_of (NumberE 2 (pos 1) ∷ [])) ∷ []))))
+        ∷ [])) ∷ []))
     ∷ ReturnS 2 (exps_of (MethodE 2 (NameE 2 (codes "o")) (codes "m") NoExp ∷ []))
     ∷ [])))) ∷ [])) ∷ [])) ∷ [])
 

@@ -32,18 +32,18 @@ pub record Function : Type 0 where
   pub names : Names
   pub source : Bytes
 
--- THE ENVIRONMENT of a part of the text: the names that are seen there, the values of `...`, the title of its module, and
--- the levels above the function in which it stands.
-pub record Env : Type 0 where
+-- THE SCOPE of a part of the text: the names that are seen there, the values of `...`, the title of its module, and the levels
+-- above the function in which it stands.
+pub record Scope : Type 0 where
   pub names : Names
   pub dots : List Value
   pub source : Bytes
   pub callers : Levels
 
 -- the levels of an error at this line
-abbrev pub levels : Env → ℕ → Levels
-levels env line = record { source = env.source; line = line } ∷ env.callers
+abbrev pub levels : Scope → ℕ → Levels
+levels scope line = record { source = scope.source; line = line } ∷ scope.callers
 
 -- one more local variable, in front of those that are seen
-abbrev pub with_name : Bytes → ℕ → Env → Env
-with_name name cell env = record env { names = (name, cell) ∷ env.names }
+abbrev pub with_name : Bytes → ℕ → Scope → Scope
+with_name name cell scope = record scope { names = (name, cell) ∷ scope.names }

@@ -1,62 +1,44 @@
--- FUNCTIONS OF THE LIBRARY THAT CALL BACK (manual 5.1). Such a function calls a function, and waits for its outcome. What it then
--- does is a definition of its own, and has a name in the table at the end of this file: a machine that runs Lua keeps this name.
--- A function of the library calls from no place of the text, so the levels of what it calls are empty.
+-- BASIC FUNCTIONS THAT CALL BACK (manual 5.1). Such a function calls a function, and waits for its outcome. What it then does is a
+-- definition of its own, which has a name in the table of `Waits`.
 use Rattle.std.specs.Prelude.{ℤ, pos, ◌+ℤ◌, true, false, List, [], ◌∷◌, length, Option, Some, None, codes}
 use Rattle.std.specs.Prelude.{Ok, Err}
 use Rattle.std.specs.Fmt.{signed_decimal}
 use Rattle.page_run.specs.Outcome.{Outcome, Goes, Jumps, ◌>>=◌, ◌>>◌, give, jump, catch, tick}
 use Rattle.lua_number.specs.Whole.{fits}
-use Rattle.lua_heap.specs.Value.{Value, Nil, Truth, Number, Text, Table, Builtin}
+use Rattle.lua_heap.specs.Value.{Value, Nil, Truth, Number, Text, Table, Builtin, is_nil}
 use Rattle.lua_heap.specs.Table.{get}
 use Rattle.lua_heap.specs.Heap.{table_at}
 use Rattle.lua_heap.specs.declared.library.Library.TheVariants.{BasicNext, IpairsStep}
-use Rattle.lua_meaning.specs.Environment.{Bytes, Levels}
+use Rattle.lua_meaning.specs.Scope.{Bytes, Levels}
 use Rattle.lua_meaning.specs.Values.{kind_of, first, rest, second, third, text_in}
 use Rattle.lua_meaning.specs.Acts.{Act, Jump, Raised, choose, see_heap}
 use Rattle.lua_meaning.specs.Messages.{fail}
 use Rattle.lua_meaning.specs.Metatables.{handler}
-use Rattle.lua_meaning.specs.Calls.{call}
-use Rattle.lua_meaning.specs.Arguments.{Checked, a_table, a_number}
-
-abbrev pub Waits : Type 0
-Waits = Outcome (List Value) Jump → Act (List Value)
-
--- a call, and what waits for its outcome
-abbrev pub calling : Value → List Value → Waits → Act (List Value)
-calling f args waits = catch (call f args []) waits
-
--- what waits for values alone: an error goes on
-abbrev pub for_values : (List Value → Act (List Value)) → Waits
-for_values f (Goes vs) = f vs
-for_values f (Jumps j) = jump j
-
--- a checked argument, or its message at level 1
-abbrev pub argument : {X : Type 0} → Levels → Checked X → Act X
-argument callers (Ok x) = give x
-argument callers (Err message) = fail callers message
+use Rattle.lua_meaning.specs.Arguments.{a_table, a_number}
+use Rattle.lua_meaning.specs.Waiting.{Waits, calling, for_values, argument, text_value}
 
 -- PROTECTED CALLS: `pcall(f, ...)`
-abbrev pub caught : Waits
-caught (Goes vs) = give (Truth true ∷ vs)
-caught (Jumps (Raised v)) = give (Truth false ∷ v ∷ [])
-caught (Jumps j) = jump j
+abbrev pub pcall_answer : Waits
+pcall_answer (Goes vs) = give (Truth true ∷ vs)
+pcall_answer (Jumps (Raised v)) = give (Truth false ∷ v ∷ [])
+pcall_answer (Jumps j) = jump j
 
 abbrev pub pcall : List Value → Act (List Value)
-pcall args = calling (first args) (rest args) caught
+pcall args = calling (first args) (rest args) pcall_answer
 
 -- `xpcall(f, handler)`: the handler gets the error, and its first value is given; a handler that fails has a message of its own
-abbrev pub handled : Waits
-handled (Goes vs) = give (Truth false ∷ first vs ∷ [])
-handled (Jumps (Raised v)) = give (Truth false ∷ Text (codes "error in error handling") ∷ [])
-handled (Jumps j) = jump j
+abbrev pub handler_answer : Waits
+handler_answer (Goes vs) = give (Truth false ∷ first vs ∷ [])
+handler_answer (Jumps (Raised v)) = give (Truth false ∷ Text (codes "error in error handling") ∷ [])
+handler_answer (Jumps j) = jump j
 
-abbrev pub tried : Value → Waits
-tried h (Goes vs) = give (Truth true ∷ vs)
-tried h (Jumps (Raised v)) = calling h (v ∷ []) handled
-tried h (Jumps j) = jump j
+abbrev pub xpcall_answer : Value → Waits
+xpcall_answer h (Goes vs) = give (Truth true ∷ vs)
+xpcall_answer h (Jumps (Raised v)) = calling h (v ∷ []) handler_answer
+xpcall_answer h (Jumps j) = jump j
 
 abbrev pub xpcall : List Value → Act (List Value)
-xpcall args = calling (first args) [] (tried (second args))
+xpcall args = calling (first args) [] (xpcall_answer (second args))
 
 -- TEXTS OF VALUES, as `tostring` gives them
 abbrev pub text_of : Value → Bytes
@@ -71,10 +53,6 @@ abbrev pub string_or_fail : Levels → Option Bytes → Act Bytes
 string_or_fail callers (Some t) = give t
 string_or_fail callers None = fail callers (codes "'tostring' must return a string")
 
--- the text costs as many steps as it has bytes
-abbrev pub text_value : Bytes → Act (List Value)
-text_value t = tick (length t) >> give (Text t ∷ [])
-
 -- what `__tostring` gave
 abbrev pub string_given : Levels → List Value → Act (List Value)
 string_given callers vs = do
@@ -82,8 +60,7 @@ string_given callers vs = do
   text_value t
 
 abbrev pub to_string_by : Value → Value → Levels → Act (List Value)
-to_string_by Nil v callers = text_value (text_of v)
-to_string_by h v callers = calling h (v ∷ []) (for_values (string_given callers))
+to_string_by h v callers = choose (is_nil h) (text_value (text_of v)) (calling h (v ∷ []) (for_values (string_given callers)))
 
 abbrev pub to_string : List Value → Levels → Act (List Value)
 to_string args callers = do
@@ -95,10 +72,9 @@ abbrev pub three_of : List Value → Act (List Value)
 three_of vs = give (first vs ∷ second vs ∷ third vs ∷ [])
 
 abbrev pub pairs_by : Value → List Value → Levels → Act (List Value)
-pairs_by Nil args callers = do
+pairs_by h args callers = choose (is_nil h) (do
   t ← argument callers (a_table 1 (codes "pairs") args)
-  give (Builtin BasicNext ∷ Table t ∷ Nil ∷ [])
-pairs_by h args callers = calling h (first args ∷ []) (for_values three_of)
+  give (Builtin BasicNext ∷ Table t ∷ Nil ∷ [])) (calling h (first args ∷ []) (for_values three_of))
 
 abbrev pub pairs : List Value → Levels → Act (List Value)
 pairs args callers = do
@@ -106,10 +82,9 @@ pairs args callers = do
   pairs_by (handler h (first args) (codes "__pairs")) args callers
 
 abbrev pub ipairs_by : Value → List Value → Levels → Act (List Value)
-ipairs_by Nil args callers = do
+ipairs_by h args callers = choose (is_nil h) (do
   t ← argument callers (a_table 1 (codes "ipairs") args)
-  give (Builtin IpairsStep ∷ Table t ∷ Number (pos 0) ∷ [])
-ipairs_by h args callers = calling h (first args ∷ []) (for_values three_of)
+  give (Builtin IpairsStep ∷ Table t ∷ Number (pos 0) ∷ [])) (calling h (first args ∷ []) (for_values three_of))
 
 abbrev pub ipairs : List Value → Levels → Act (List Value)
 ipairs args callers = do
@@ -129,19 +104,3 @@ ipairs_step args callers = do
   choose (fits (n +ℤ pos 1))
       (place_and_value (n +ℤ pos 1) (get (table_at h t).entries (Number (n +ℤ pos 1))))
       (give (Nil ∷ []))
-
--- THE TABLE of what waits
-pub data Pending : Type 0 where
-  PcallWaits : Pending
-  XpcallWaits : (handler : Value) → Pending
-  HandlerWaits : Pending
-  ToStringWaits : Pending
-  PairsWaits : Pending
-
--- what it does with an outcome, where the function that waits has these levels
-abbrev pub resumes : Pending → Levels → Waits
-resumes PcallWaits callers = caught
-resumes (XpcallWaits h) callers = tried h
-resumes HandlerWaits callers = handled
-resumes ToStringWaits callers = for_values (string_given callers)
-resumes PairsWaits callers = for_values three_of

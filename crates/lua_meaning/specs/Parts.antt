@@ -2,7 +2,7 @@
 use Rattle.std.specs.Prelude.{ℕ, List}
 use Rattle.lua_syntax.specs.Tree.{Exp, Block}
 use Rattle.lua_heap.specs.Value.{Value}
-use Rattle.lua_meaning.specs.Environment.{Bytes, Env, Levels}
+use Rattle.lua_meaning.specs.Scope.{Bytes, Scope, Levels}
 use Rattle.lua_meaning.specs.Acts.{Act}
 
 -- A TARGET of an assignment (manual 2.4.3): a local variable by its cell, a global one by its name, or an index, whose table and key
@@ -11,18 +11,17 @@ pub data Target : Type 0 where
   Local : (cell : ℕ) → Target
   Global : (name : Bytes) (levels : Levels) → Target
   Entry : (of key : Value) (levels : Levels) → Target
-  NoTarget : Target
 
 -- WHAT A PART OF THE TREE MEANS: an expression gives values, a target is found, and a statement gives the environment that the
 -- statements after it have.
 abbrev pub Expression : Type 0
-Expression = Env → Act (List Value)
+Expression = Scope → Act (List Value)
 
 abbrev pub Targeted : Type 0
-Targeted = Env → Act Target
+Targeted = Scope → Act Target
 
 abbrev pub Statement : Type 0
-Statement = Env → Act Env
+Statement = Scope → Act Scope
 
 -- a field of a constructor
 pub data FieldMeaning : Type 0 where
@@ -35,8 +34,10 @@ pub record Branch : Type 0 where
   pub body : Statement
 
 -- A part of the tree beside its meaning, for loops, whose next turn names the part.
-abbrev pub ExpPart : Type 0
-ExpPart = Exp × Expression
+pub record ExpPart : Type 0 where
+  pub tree : Exp
+  pub meaning : Expression
 
-abbrev pub BlockPart : Type 0
-BlockPart = Block × Statement
+pub record BlockPart : Type 0 where
+  pub tree : Block
+  pub meaning : Statement
