@@ -31,7 +31,7 @@ use Rattle.page_run.specs.declared.which.Which.TheVariants.{{Steps, Calls}}
 """
 
 QUESTIONS = """use Rattle.wk_base.specs.declared.title.Namespace.TheVariants.{Main}
-use Rattle.lua_meaning.specs.Questions.{Template, Preprocess, Data}
+use Rattle.mw_frame.specs.declared.question.Ask.TheVariants.{Template, Preprocess, Data}
 use Rattle.lua_heap.specs.Value.{Nil, Truth, Number, Text, Table}
 use Rattle.lua_meaning.specs.Questions.{Expanded, NoPage, Loaded, LoadFailed}
 """

@@ -10,7 +10,9 @@ use Rattle.lua_heap.specs.Value.{Value, Closure as ClosureValue}
 use Rattle.lua_heap.specs.Heap.{Heap, Function as FunctionClosed, cell_at, set_cell_in, new_table, new_cell, new_closure}
 use Rattle.lua_meaning.specs.Scope.{Bytes, Scope, Function, Levels, with_name}
 use Rattle.lua_meaning.specs.Titled.{ByTitle}
-use Rattle.lua_meaning.specs.Questions.{Scene, Ask, Answer}
+use Rattle.mw_frame.specs.declared.scene.Scene.{Scene}
+use Rattle.mw_frame.specs.declared.question.Ask.{Ask}
+use Rattle.lua_meaning.specs.Questions.{Answer}
 use Rattle.lua_meaning.specs.Values.{first, rest}
 
 -- JUMPS (manual 2.4.4 and 2.7): a `return` with its values, a `break`, and an error with its value

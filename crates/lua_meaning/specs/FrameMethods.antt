@@ -11,7 +11,11 @@ use Rattle.lua_heap.specs.Table.{Entries}
 use Rattle.lua_heap.specs.Heap.{Heap, table_at}
 use Rattle.lua_heap.specs.declared.library.Library.TheVariants.{ArgumentExpand}
 use Rattle.lua_meaning.specs.Scope.{Bytes}
-use Rattle.lua_meaning.specs.Questions.{Arg, Scene, Ask, Template, Preprocess, Asked, TemplateAsked, TextAsked}
+use Rattle.mw_frame.specs.declared.scene.Arg.{Arg}
+use Rattle.mw_frame.specs.declared.scene.Scene.{Scene}
+use Rattle.mw_frame.specs.declared.question.Ask.{Ask}
+use Rattle.mw_frame.specs.declared.question.Ask.TheVariants.{Template, Preprocess}
+use Rattle.lua_meaning.specs.Questions.{Asked, TemplateAsked, TextAsked}
 use Rattle.lua_meaning.specs.Values.{first, rest, second, text_in}
 use Rattle.lua_meaning.specs.Acts.{Frame, Parent, Nobody, Unmade, Made}
 use Rattle.lua_meaning.specs.Messages.{bad_argument, expected, bad_template_arguments, invalid_title}

@@ -8,7 +8,8 @@ use Rattle.lua_heap.specs.Heap.{Heap, TableObj, add, table_at}
 use Rattle.lua_heap.specs.declared.library.Library.{Library}
 use Rattle.lua_heap.specs.declared.library.Library.TheVariants.{ArgsIndex, FrameGetParent, FrameExpandTemplate, FramePreprocess, FrameGetArgument, FrameArgumentPairs, FrameNewChild, FrameGetTitle, FrameExtensionTag}
 use Rattle.lua_meaning.specs.Scope.{Bytes}
-use Rattle.lua_meaning.specs.Questions.{Arg, Scene}
+use Rattle.mw_frame.specs.declared.scene.Arg.{Arg}
+use Rattle.mw_frame.specs.declared.scene.Scene.{Scene}
 use Rattle.lua_meaning.specs.Values.{second}
 use Rattle.lua_meaning.specs.Acts.{Frame, Parent}
 use Rattle.lua_meaning.specs.Arguments.{Plain, gives, with_argument, a_table}

@@ -10,7 +10,8 @@ use Rattle.page_run.specs.Events.{BeginsIs}
 use Rattle.page_run.specs.Charges.{KeepsCalls, RepliesFit, GivenBack}
 use Rattle.lua_heap.specs.Value.{Value, Table}
 use Rattle.lua_meaning.specs.Scope.{Scope, Levels, cell_of, levels}
-use Rattle.lua_meaning.specs.Questions.{Ask, Answer}
+use Rattle.mw_frame.specs.declared.question.Ask.{Ask}
+use Rattle.lua_meaning.specs.Questions.{Answer}
 use Rattle.lua_meaning.specs.Values.{first, rest, second}
 use Rattle.lua_meaning.specs.Acts.{LuaRun, Jump, State, Thing, WhileTurn, RepeatTurn, CountTurn, EachTurn, Body, LibraryBody, ChunkBody}
 use Rattle.lua_meaning.specs.Parts.{Target}

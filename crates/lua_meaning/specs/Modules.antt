@@ -14,7 +14,8 @@ use Rattle.lua_heap.specs.declared.library.Library.TheVariants.{StrictIndex, Str
 use Rattle.lua_meaning.specs.Scope.{Bytes, Levels}
 use Rattle.lua_meaning.specs.World.{Module, World}
 use Rattle.lua_meaning.specs.Titled.{ByTitle, item_of, with_item, without_item}
-use Rattle.lua_meaning.specs.Questions.{Data, DataAsked}
+use Rattle.mw_frame.specs.declared.question.Ask.TheVariants.{Data}
+use Rattle.lua_meaning.specs.Questions.{DataAsked}
 use Rattle.lua_meaning.specs.Values.{first, rest, second, text_in}
 use Rattle.lua_meaning.specs.Acts.{Act, Jump, Raised, Progress, Running, Finished, State, ChunkBody, raise, choose, see_heap}
 use Rattle.lua_meaning.specs.Messages.{place_text, fail, no_module, loop_in_require, no_data_module, undeclared_variable, undeclared_target}

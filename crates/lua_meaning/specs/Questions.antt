@@ -1,29 +1,8 @@
 -- WHAT A RUN ASKS FROM OUTSIDE, AND ITS ANSWERS (Scribunto, Frame object and mw.loadData).
 -- Arguments, scenes, jobs and the questions themselves (`Arg`, `Scene`, `Job`, `Ask`) are the types of the crate `mw_frame`.
-use Rattle.std.specs.Prelude.{List}
 use Rattle.wk_base.specs.declared.title.Title.{Title}
 use Rattle.lua_heap.specs.Graph.{Graph}
 use Rattle.lua_meaning.specs.Scope.{Bytes}
-
-pub record Arg : Type 0 where
-  pub name : Bytes
-  pub value : Bytes
-
-pub record Scene : Type 0 where
-  pub title : Title
-  pub args : List Arg
-  pub chain : List Title
-
-pub record Job : Type 0 where
-  pub module_ : Title
-  pub function : Bytes
-  pub scene : Scene
-  pub parent : Scene
-
-pub data Ask : Type 0 where
-  Template : (scene : Scene) (title : Title) (args : List Arg) → Ask
-  Preprocess : (scene : Scene) (text : Bytes) → Ask
-  Data : (title : Title) → Ask
 
 -- ANSWERS. That an allowance is spent with an answer, the run is told otherwise.
 pub data Answer : Type 0 where

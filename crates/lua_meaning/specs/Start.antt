@@ -10,7 +10,10 @@ use Rattle.page_run.specs.Perform.{perform, wait}
 use Rattle.lua_heap.specs.Value.{Value, Nil, Text, Table, is_nil}
 use Rattle.lua_meaning.specs.Scope.{Bytes}
 use Rattle.lua_meaning.specs.World.{Module, World}
-use Rattle.lua_meaning.specs.Questions.{Arg, Job, Ask, Answer}
+use Rattle.mw_frame.specs.declared.scene.Arg.{Arg}
+use Rattle.mw_frame.specs.declared.scene.Job.{Job}
+use Rattle.mw_frame.specs.declared.question.Ask.{Ask}
+use Rattle.lua_meaning.specs.Questions.{Answer}
 use Rattle.lua_meaning.specs.Values.{kind_of, first, text_in, is_function}
 use Rattle.lua_meaning.specs.Acts.{Act, LuaRun, Jump, Raised, State, Unmade, choose, one, see_heap}
 use Rattle.lua_meaning.specs.Messages.{fail, no_data_module}
@@ -95,7 +98,7 @@ invoke world job = do
   tick 1000
   tick (args_charge job.scene.args)
   frame ← begin_frame job
-  module_ ← one (require_module world (title_text job.module_) job.module_ [])
+  module_ ← one (require_module world (title_text job.«module») job.«module» [])
   invoke_in job.function module_ frame
 
 -- THE RUN OF A DATA MODULE costs 1,000 steps, has no frame, and must give a table. What that may hold is tested when it is taken out

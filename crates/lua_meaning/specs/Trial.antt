@@ -9,7 +9,11 @@ use Rattle.page_run.specs.State.{Reply, Gives as Says, Exhausts, no_tally, Event
 use Rattle.lua_syntax.specs.Tree.{Block}
 use Rattle.lua_heap.specs.Value.{Value, Text, Table}
 use Rattle.lua_meaning.specs.Scope.{Bytes}
-use Rattle.lua_meaning.specs.Questions.{Arg, Scene, Job, Ask, Answer}
+use Rattle.mw_frame.specs.declared.scene.Arg.{Arg}
+use Rattle.mw_frame.specs.declared.scene.Scene.{Scene}
+use Rattle.mw_frame.specs.declared.scene.Job.{Job}
+use Rattle.mw_frame.specs.declared.question.Ask.{Ask}
+use Rattle.lua_meaning.specs.Questions.{Answer}
 use Rattle.lua_meaning.specs.Titled.{same_title}
 use Rattle.lua_meaning.specs.Acts.{State, Jump, Raised}
 use Rattle.lua_meaning.specs.World.{Modules, World}
@@ -28,7 +32,7 @@ abbrev pub scene : Title → List Arg → Scene
 scene title args = record { title = title; args = args; chain = [] }
 
 abbrev pub job : Bytes → List Arg → Job
-job name args = record { module_ = module_title name; function = codes "f"; scene = scene (module_title name) args; parent = scene page [] }
+job name args = record { «module» = module_title name; function = codes "f"; scene = scene (module_title name) args; parent = scene page [] }
 
 abbrev pub one_module : ℕ → Block → Modules
 one_module size body title = Some (record { size = size; chunk = Ok body })
@@ -119,15 +123,15 @@ abbrev pub parent_scene : Scene
 parent_scene = scene_in_template (template_title (codes "T")) (arg (codes "1") (codes "p") ∷ arg (codes "n") (codes "q") ∷ [])
 
 abbrev pub job_in_template : Bytes → List Arg → Job
-job_in_template name args = record { module_ = module_title name; function = codes "f"; scene = own_scene name args; parent = parent_scene }
+job_in_template name args = record { «module» = module_title name; function = codes "f"; scene = own_scene name args; parent = parent_scene }
 
 -- a reply, with so many steps left after it; of calls there are enough
 abbrev pub reply : Answer → ℕ → Reply Answer
-reply answer steps = record { said = Says answer; left = allowance steps 19000; tally = no_tally }
+reply answer steps = record { response = Says answer; left = allowance steps 19000; tally = no_tally }
 
 -- a reply that spends the run
 abbrev pub spent : Which → Reply Answer
-spent which = record { said = Exhausts which; left = allowance 0 19000; tally = no_tally }
+spent which = record { response = Exhausts which; left = allowance 0 19000; tally = no_tally }
 
 abbrev pub asked : List Held → List Arg → Bytes → ℕ → List (Reply Answer) → Seen
 asked modules args name steps replies = seen (lua (in_world (modules_of modules)) (Invoke (job_in_template name args)) (allowance steps 20000) replies)

@@ -4,7 +4,8 @@ use Rattle.page_run.specs.Outcome.{Outcome, Goes, Jumps, ◌>>=◌, ◌>>◌, gi
 use Rattle.lua_heap.specs.Value.{Value, Text}
 use Rattle.lua_heap.specs.Graph.{join, joined_root}
 use Rattle.lua_meaning.specs.Scope.{Bytes, Levels}
-use Rattle.lua_meaning.specs.Questions.{Ask, Answer, Expanded, NoPage, Loaded, LoadFailed}
+use Rattle.mw_frame.specs.declared.question.Ask.{Ask}
+use Rattle.lua_meaning.specs.Questions.{Answer, Expanded, NoPage, Loaded, LoadFailed}
 use Rattle.lua_meaning.specs.Acts.{Act, Jump, Raised, raise, see_heap, change_heap}
 use Rattle.lua_meaning.specs.Messages.{fail, wrong_answer}
 use Rattle.lua_meaning.specs.Calls.{call}
