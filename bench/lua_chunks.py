@@ -2,17 +2,53 @@
 it is given, and what is seen at those. `profile` marks what Lua 5.1 does otherwise."""
 
 
-def chunk(name, said, text, gives=None, fails=None, module="X", steps=6000, seen=None, profile=False, calls=None, args=None, how="invoked", fault=None):
+def chunk(name, said, text, gives=None, fails=None, module="X", steps=6000, seen=None, profile=False, calls=None, args=None, how="invoked", fault=None, others=None, cases=False, invoked=None):
     if seen is None:
         seen = [("Gives", gives) if gives is not None else ("Fails", fails)]
     if not isinstance(steps, list):
         steps = [steps]
     return dict(name=name, said=said, text=text, module=module, steps=steps, seen=seen, profile=profile, calls=calls,
-                args=args, how=how, fault=fault)
+                args=args, how=how, fault=fault, others=others, cases=cases, invoked=invoked)
+
+
+def quoted(text):
+    escaped = text.replace("\\", "\\\\").replace('"', '\\"').replace("\n", "\\n")
+    return f'(codes "{escaped}")' if text else "[]"
+
+
+def pairs(args):
+    return "(" + " ∷ ".join([f"arg {quoted(k)} {quoted(v)}" for k, v in args] + ["[]"]) + ")" if args else "[]"
+
+
+def template(title, args, module="X", own=()):
+    return f"Template (own_scene {quoted(module)} {pairs(own)}) (template_title {quoted(title)}) {pairs(args)}"
+
+
+def preprocess(text, module="X", own=()):
+    return f"Preprocess (own_scene {quoted(module)} {pairs(own)}) {quoted(text)}"
+
+
+def data(title):
+    return f"Data (module_title {quoted(title)})"
+
+
+def text(answer, left):
+    return f"reply (Expanded {quoted(answer)}) {left}"
+
+
+def asking(name, said, source, *cases, module="X", args=None, others=None, invoked=None):
+    """Several runs of one text in the body of template T: of each its steps, the replies that it gets, and what is seen."""
+    return chunk(name, said, source, module=module, args=args, others=others, cases=True, profile=True, invoked=invoked,
+                 steps=[(steps, list(replies)) for steps, replies, _ in cases], seen=[end for _, _, end in cases])
 
 
 def body(name, said, text, gives=None, fails=None, **more):
     return chunk(name, said, "return {f=function(...)\n" + text + "\nend}", gives, fails, **more)
+
+
+def loaded_x(left):
+    """The tables of `return {x='v'}`."""
+    return f"reply (Loaded (((Text (codes \"x\"), Text (codes \"v\")) ∷ []) ∷ [])) {left}"
 
 
 # 1,000; the arguments; the text; the chunk; then `f` entered, the `local`, the nodes of the `return` with a link and a function
@@ -22,9 +58,11 @@ ARGUMENTS = 1000 + 2 * (4 + 1 + 1) + 78 + (1 + 1 + 1 + 8 + 1 + 1 + 8 + 4) + 1 + 
 CHARGES = [
     chunk("smallest", "1,000 for the start, 36 for the text, and 29 for what it does.",
           "return {f=function() return 'a' end}", module="A", steps=[1065, 1064], seen=[("Gives", "a", 0), ("Spends", "Steps", 0)]),
-    chunk("start", "1,083 for the start, the text and the chunk. Then `f` fails after 7 steps more, with a message of 40 bytes.",
-          "return {f=function() return mw.loadData('Module:D').x end}", module="M", steps=[1083 + 7 + 40, 1083 + 7 + 39],
-          seen=[("Fails", "Lua error: Module:M:1: attempt to index a nil value", 0), ("Spends", "Steps", 0)], profile=True),
+    asking("start", "1,083 for the start, the text and the chunk; then `f` asks after 9 steps more. The load takes 1,031, and 2 are left to read the "
+           "field and to answer.",
+           "return {f=function() return mw.loadData('Module:D').x end}",
+           (2125, [], ("Asks", data("D"), 1033)), (2125, [loaded_x(2)], ("Gives", "v", 0)), (2124, [loaded_x(1)], ("Spends", "Steps", 0)),
+           (1092, [], ("Asks", data("D"), 0)), (1091, [], ("Spends", "Steps", 0)), module="M"),
     chunk("data_start", "The load of a data module: 1,000 for the start, 14 for the text, and 17 for what it does.",
           "return {x='v'}", module="D", how="loaded", steps=[1031, 1030], seen=[("Loads", 0), ("Spends", "Steps", 0)], profile=True),
     chunk("arguments", "Arguments cost 4 each, and the bytes of their names and values. A name that is a place is a number.",
@@ -236,10 +274,235 @@ FUNCTIONS = [
          "local function g(n) if n==0 then return 'x','y' end return g(n-1) end\nreturn g(3)", "xy"),
 ]
 
+def framed(name, said, source, gives=None, fails=None, module="X", args=None, others=None, replies=()):
+    """A function of a frame, in the body of template T, with steps in plenty."""
+    end = ("Gives", gives) if gives is not None else ("Fails", fails)
+    return asking(name, said, "return {f=function(frame)\n" + source + "\nend}", (6000, list(replies), end), module=module, args=args, others=others)
+
+
+def framed_cost(name, said, source, parts, answer="", args=None):
+    """What `f` does with its frame costs these parts. Before it 1,000, the arguments, the text, 25 for the chunk, and 1 for `f` entered."""
+    whole = "return {f=function(frame)\n" + source + "\nend}"
+    steps = 1000 + sum(4 + len(k) + len(v) for k, v in args or []) + len(whole) + 25 + 1 + sum(parts) + len(answer)
+    return asking(name, said, whole, (steps, [], ("Gives", answer, 0)), (steps - 1, [], ("Spends", "Steps", 0)), args=args)
+
+
+def used(source):
+    """What is used when `f` of `return {f=function(frame) .. end}` is entered."""
+    return 1000 + len(source) + 25 + 1
+
+
+COSTS += [
+    cost("set_link_costs", "A link of an assignment costs a step.", "setmetatable({},{__newindex={}}).x=1",
+         [1 + 1, 2 + 9, 9 + 1 + 9 + 4, 1, 1, 1, 1, 4]),
+    cost("rawset_costs", "`rawset` of a new key costs an entry.", "local t={} rawset(t,1,2) rawset(t,1,3)", [1 + 9, 6 + 1 + 4, 6 + 1]),
+    cost("at_most_costs", "`<=` on texts costs the shorter one too.", "return 'abc'<='abde'", [1 + 3, 3], "true"),
+    cost("end_costs", "`next` pays for the cleared entries that it passes at the end.", "local t={1,2} t[2]=nil return next(t,1)",
+         [1 + 9 + 2 * (1 + 4), 1 + 3 + 1, 1 + 4, 1 + 1], "nil"),
+    cost("handler_makes_no_text", "What a handler of `..` gives costs nothing beyond its call.",
+         "local t=setmetatable({},{__concat=function() return 'abcdef' end}) return #(t..t)",
+         [1, 2 + 9, 9 + 1 + 9 + 4, 1, 1 + 1 + 1 + 3, 1 + 1 + 1], "6"),
+    cost("handler_of_text_costs", "What `__tostring` gives costs its length.",
+         "local t=setmetatable({},{__tostring=function() return 'abcdef' end}) return #tostring(t)",
+         [1, 2 + 9, 9 + 1 + 9 + 4, 1, 1 + 1 + 3, 1, 1 + 1 + 1, 6], "6", profile=True),
+    cost("answer_asks_handlers", "In the answer `__tostring` costs what it does, and its text nothing more.",
+         "return setmetatable({},{__tostring=function() return 'abc' end})", [1 + 2 + 9, 9 + 1 + 9 + 4, 1, 1 + 1 + 1], "abc"),
+    cost("no_levels_in_handlers", "The handler of `xpcall` is called by the library, so level 2 has no place in it: its message costs nothing.",
+         "return xpcall(function() error('x',0) end,function() error('m',2) end)",
+         [1 + 2 + 9 + 9, 1, 1 + 1 + 4 + 1, 1 + 1 + 4 + 1], "falseerror in error handling", profile=True),
+    cost("require_costs", "`strict` costs a table with two entries.", "return require('strict')", [1 + 3, 1, 8 + 2 * 4], "true", profile=True),
+]
+
+HANDLERS = [
+    body("at_most_handler", "`__le` is asked before `__lt`.",
+         "local m={__le=function(a,b) return a.n end,__lt=function() error('no') end}\nlocal a,b=setmetatable({n=1},m),setmetatable({n=false},m)\nreturn tostring(a<=b),tostring(b<=a),tostring(a>=b)", "truefalsefalse"),
+    body("nil_is_not_less", "Where `__lt` stands in for `__le`, nil from it is false.",
+         "local m={__lt=function() end}\nlocal a,b=setmetatable({},m),setmetatable({},m)\nreturn tostring(a<=b),tostring(a<b)", "truefalse"),
+    body("greater", "`a > b` is `b < a` for tables too.",
+         "local m={__lt=function(x,y) return x.n<y.n end}\nlocal a,b=setmetatable({n=1},m),setmetatable({n=2},m)\nreturn tostring(a>b),tostring(b>a)", "falsetrue"),
+    body("call_chain", "`__call` may be a table that has `__call`: each link puts its object in front.",
+         "local u=setmetatable({},{__call=function(...) return select('#',...),select(3,...) end})\nlocal t=setmetatable({},{__call=u})\nreturn t('a','b')", "4ab", profile=True),
+    body("false_protects", "`__metatable` may be false.",
+         "local t=setmetatable({},{__metatable=false})\nreturn tostring(getmetatable(t)),select(2,pcall(setmetatable,t,{}))", "falsecannot change a protected metatable"),
+    body("levels_through_handlers", "An operator that calls a handler is the place that called it.",
+         "local function bad() error('m',2) end\nlocal t=setmetatable({},{__add=bad,__index=bad,__newindex=bad,__call=bad})\nlocal function e(f) return select(2,pcall(f))..';' end\nreturn e(function()\n return t+1 end),e(function()\n return t.x end),e(function()\n t.x=1 end),e(function()\n t() end)",
+         "Module:X:6: m;Module:X:7: m;Module:X:8: m;Module:X:9: m;"),
+    body("levels_in_tostring", "What the library calls has no place above it.",
+         "local t=setmetatable({},{__tostring=function() error('m',2) end})\nreturn select(2,pcall(function() return tostring(t) end))", "m"),
+    body("one_value_of_handlers", "`xpcall` gives one value of its handler.",
+         "return select('#',xpcall(error,function() return 1,2 end)),xpcall(error,function() return 1,2 end)", "2false1"),
+    body("number_as_text", "`__tostring` may give a number.", "return type(tostring(setmetatable({},{__tostring=function() return 12 end}))),setmetatable({},{__tostring=function() return 7 end})",
+         "string7", profile=True),
+    body("method_first", "A method is looked up before the arguments are evaluated.",
+         "local log=''\nlocal o=setmetatable({},{__index=function(t,k) log=log..k return function() end end})\no:m((function() log=log..'!' end)())\nreturn log", "m!"),
+    body("library_calls_nothing", "A function of the library that calls what is no function raises without a place.",
+         "local function e(f,...) return select(2,pcall(f,...))..';' end\nreturn e(1),e(nil),e(function() return tostring(setmetatable({},{__tostring=1})) end)",
+         "attempt to call a number value;attempt to call a nil value;attempt to call a number value;", profile=True),
+    body("absent_is_nil", "An absent argument where any value may stand is nil, also for `setmetatable`.",
+         "local t=setmetatable({},{})\nreturn tostring(getmetatable(setmetatable(t))),tostring(rawequal()),tostring(rawget({})),type()", "niltruenilnil", profile=True),
+    body("kept_tables", "Strings and global variables are looked up in the tables that the run has kept.",
+         "string.twice=function(s) return s..s end\nstring=nil\nx=5\n_G={x=6}\nreturn ('ab'):twice(),x", "abab5"),
+    body("false_goes_on", "Only nil ends a generic loop.",
+         "local n=0\nfor v in function() n=n+1 if n<4 then return false end end do end\nreturn n", "4"),
+    body("assert_has_no_place", "`assert` raises its message without a place.", "return select(2,pcall(function() assert(nil,'no') end)),select(2,pcall(function() assert(false) end))",
+         "noassertion failed!"),
+    body("pairs_handler_arguments", "`__pairs` and `__ipairs` get the table alone, and three values are taken.",
+         "local function h(...) return select('#',...),2,3,4 end\nlocal t=setmetatable({},{__pairs=h,__ipairs=h})\nreturn select('#',pairs(t,1,2)),pairs(t,1),ipairs(t,1,2)", "31123", profile=True),
+    body("any_chain", "A chain ends at a value that is no table, and a handler on a string is indexed in turn.",
+         "local t=setmetatable({},{__index='abc'})\nstring.name='s'\nreturn t.name,select(2,pcall(function() return setmetatable({},{__index=1}).x end))", "sModule:X:4: attempt to index a number value", profile=True),
+    body("failing_answer", "A handler that gives no text for the answer fails, without a place.",
+         "return setmetatable({},{__tostring=function() return {} end})", fails="Lua error: 'tostring' must return a string", profile=True),
+    body("left_out", "What is left out is absent.", "return type(coroutine),type(print),type(loadstring),type(mw.site)", "nilnilnilnil", profile=True),
+]
+
+SELF = "local p={} x=1 function p.f(frame) local s=frame:preprocess('{{#invoke:Self|g}}') return s..x end return p"
+PRE = "return {f=function(frame) return frame:preprocess('{{{1}}}{{T}}') end}"
+EXPAND = "return {f=function(frame) return frame:expandTemplate{title='T', args={'p', n='q'}} end}"
+TWICE = "return {f=function(frame) return frame:expandTemplate{title=' foo_bar ',args={a=true,['1']=2,[1]=false}} end}"
+# before the question: 44 for what `f` does, 10 for the title, and 4 for the arguments
+EXPANDING = used(EXPAND) + 44 + 10 + 4
+
+FRAMES = [
+    asking("expands", "A question costs the title's text and the arguments; its answer costs its bytes.", EXPAND,
+           (EXPANDING + 30, [], ("Asks", template("T", [("1", "p"), ("n", "q")]), 30)),
+           (EXPANDING + 30, [text("[p|q]", 10)], ("Gives", "[p|q]", 0)), (EXPANDING + 30, [text("[p|q]", 9)], ("Spends", "Steps", 0)),
+           (EXPANDING - 1, [], ("Spends", "Steps", 0))),
+    asking("merges", "Of two arguments with one name the last counts, at the place of the first; all are charged. True is 1, and false is empty.", TWICE,
+           (6000, [], ("Asks", template("Foo bar", [("a", "1"), ("1", "")]),
+                       6000 - used(TWICE) - (3 + 9 + 2 + 4 + 1 + 9 + 3 * (2 + 4) + 4) - 1 - 16 - 2 - 2 - 1))),
+    asking("preprocesses", "`preprocess` asks in the scene of its frame.", PRE,
+           (6000, [], ("Asks", preprocess("{{{1}}}{{T}}", own=[("1", "a")]), 6000 - used(PRE) - 6 - 4 - 1 - 12)),
+           (6000, [text("at", 4)], ("Gives", "at", 0)), (6000, ["spent Steps"], ("Spends", "Steps", 0)), (6000, ["spent Calls"], ("Spends", "Calls", 0)),
+           args=[("1", "a")]),
+    asking("own_globals", "What an invocation inside does is not seen.", SELF,
+           (6000, [text("g", 1000)], ("Gives", "g1")), module="Self"),
+    asking("no_such_template", "That there is no such template is an error at the place that called.",
+           "return {f=function(frame) return frame:expandTemplate{title='Nope'} end}",
+           (6000, ["reply NoPage 1000"], ("Fails", "Lua error: Module:X:1: template 'Nope' does not exist"))),
+    asking("wrong_answers", "An answer that does not belong to its question is refused.", PRE,
+           (6000, ["reply NoPage 1000"], ("Fails", "Lua error: the answer does not belong to the question")),
+           (6000, [loaded_x(1000)], ("Fails", "Lua error: the answer does not belong to the question")),
+           (6000, ["reply (LoadFailed (codes \"m\")) 1000"], ("Fails", "Lua error: the answer does not belong to the question"))),
+    framed("requests_fail", "The errors of a request.",
+           "local function e(t) return select(2,pcall(frame.expandTemplate,frame,t))..';' end\nreturn e(),e{title={}},e{title='T',args=1},e{title='a|b',args={[true]=1}},e{title='T',args={a={}}},e{title='T',args={[true]=1}}",
+           "bad template arguments;bad template arguments;bad template arguments;invalid title 'a|b';bad template arguments;bad template arguments;"),
+    framed("parents", "The parent is the frame of the template; it is made once, and has none.",
+           "local p=frame:getParent()\nreturn p:getTitle(),p.args[1],p.args.n,tostring(p==frame:getParent()),tostring(p:getParent()),frame:getTitle()",
+           "Template:TpqtruenilModule:X"),
+    framed_cost("parent_costs", "The first `getParent` costs 16, and the arguments.", "frame:getParent() frame:getParent()", [1 + 2 + 1 + 16 + 2 * (4 + 2), 1 + 2 + 1]),
+    framed("children", "A child has its own arguments and this frame as parent; without a title it has this frame's.",
+           "local c=frame:newChild{title='a b',args={x=1,'y',['1']='z'}}\nlocal d=c:newChild{}\nreturn c:getTitle(),c.args[1],c.args.x,tostring(c:getParent()==frame),d:getTitle(),tostring(d:getParent()==c),tostring(next(d.args))",
+           "A bz1trueA btruenil"),
+    framed_cost("child_costs", "`newChild` costs 16, and each entry that is read.", "frame:newChild{args={1,['1']='ab'}}",
+                [1 + 2, 9 + 1 + 4, 9 + 1 + 4 + 2 + 4, 1, 16 + 6 + 7]),
+    asking("child_asks", "A question of a child has its title, its arguments and the chain of its parent.",
+           "return {f=function(frame) return frame:newChild{title='Q',args={'z'}}:preprocess{text='{{{1}}}'} end}",
+           (6000, [], ("Asks", "Preprocess (scene_in_template (record { ns = Main; name = codes \"Q\" }) (arg (codes \"1\") (codes \"z\") ∷ [])) (codes \"{{{1}}}\")",
+                       6000 - used("return {f=function(frame) return frame:newChild{title='Q',args={'z'}}:preprocess{text='{{{1}}}'} end}")
+                       - (1 + 1 + 2) - (9 + 2 + 4 + 1 + 9 + 5 + 4) - 1 - (16 + 6) - (9 + 2 + 4) - 1 - 7))),
+    framed("child_errors", "Its errors are those of `expandTemplate`.",
+           "local function e(t) return select(2,pcall(frame.newChild,frame,t))..';' end\nreturn e(),e{title={}},e{args=1},e{title='a|b',args={[true]=1}},e{args={[true]=1}},frame:newChild{title=1,args={}}:getTitle()",
+           "bad template arguments;bad template arguments;bad template arguments;invalid title 'a|b';bad template arguments;1"),
+    framed("single_arguments", "`getArgument` gives nil, or a table with `expand` and `value`.",
+           "local a=frame:getArgument('n')\nlocal s=''\nfor k in next,a do s=s..k end\nreturn s,a.value,a:expand(),tostring(frame:getArgument('m')),frame:getArgument{name=1}.value,a.expand({value=5})",
+           "expandvalueqqnilx5", args=[("1", "x"), ("n", "q")]),
+    framed_cost("argument_costs", "It costs a table with two entries.", "frame:getArgument('n')", [1 + 2 + 1, 1, 8 + 2 * 4], args=[("n", "q")]),
+    framed("walks_arguments", "`argumentPairs` is `pairs` of `args`.",
+           "local s=''\nfor k,v in frame:argumentPairs() do s=s..type(k)..k..v end\nframe.args=nil\nreturn s,#(frame:newChild{args={5,6,7}}).args,select(2,pcall(frame.argumentPairs,frame))",
+           "stringnqnumber1x3bad argument #1 to 'pairs' (table expected, got nil)", args=[("n", "q"), ("1", "x")]),
+    framed("long_names", "A name of 18 digits is a number, one of 19 or with a zero in front is none.",
+           "local a=frame.args\nreturn a[123456789012345678],a['123456789012345678'],tostring(a[1234567890123456789]),a['1234567890123456789'],tostring(a[1]),a['01'],tostring(a['1'])",
+           "xxnilynilznil", args=[("123456789012345678", "x"), ("1234567890123456789", "y"), ("01", "z")]),
+    framed("frames_keep_arguments", "A write changes what Lua reads, and not the frame.",
+           "frame.args.n='z'\nlocal kept=frame:getArgument('n').value\nframe.getTitle=nil\nreturn frame.args.n,kept,mw.getCurrentFrame().args.n", "zqz", args=[("n", "q")]),
+    asking("questions_keep_arguments", "A question has the arguments with which the frame was made.",
+           "return {f=function(frame) frame.args[1]='z' return frame:preprocess('x') end}",
+           (6000, [], ("Asks", preprocess("x", own=[("1", "a")]),
+                       6000 - used("return {f=function(frame) frame.args[1]='z' return frame:preprocess('x') end}") - 6 - (1 + 5 + 1) - (1 + 3) - 1 - 1)),
+           args=[("1", "a")]),
+    framed("numbered_frames", "A frame is known by the number in its metatable.",
+           "local copy=setmetatable({},{0})\nreturn frame.getTitle(copy),tostring(frame==mw.getCurrentFrame()),tostring(getmetatable(frame)),tostring(getmetatable(frame.args))",
+           "Module:Xtruefalsefalse"),
+    framed("no_frame", "What is no frame of the run is refused.",
+           "local function e(f,...) return select(2,pcall(f,...))..';' end\nreturn e(frame.getTitle,{}),e(frame.getParent),e(frame.preprocess,setmetatable({},{1}),'x'),e(frame.preprocess,frame,{}),e(frame.getArgument,frame)",
+           "bad argument #1 to 'getTitle' (frame expected, got table);bad argument #1 to 'getParent' (frame expected, got no value);bad argument #1 to 'preprocess' (frame expected, got table);"
+           "bad argument #2 to 'preprocess' (string expected, got nil);bad argument #2 to 'getArgument' (string expected, got no value);"),
+    framed("tags", "`extensionTag` is `mw.text.tag`: a text, false or nil follows the attributes.",
+           "return frame:extensionTag('b','t',{x=1,y='a<\"b',z=true,w=false}),frame:extensionTag{name='i',content=5},frame:extensionTag('br'),frame:extensionTag('hr',false)",
+           "<b x=\"1\" y=\"a&lt;&quot;b\" z>t</b><i>5</i><br><hr />"),
+    framed("bad_tags", "Its errors are worded as of `tag`.",
+           "local function e(...) return select(2,pcall(frame.extensionTag,frame,...))..';' end\nreturn e(),e('b','t',1),e('b','t',{[true]=1}),e('b','t',{a={}}),e('b',true)",
+           "bad argument #1 to 'tag' (string expected, got no value);bad argument #2 to 'tag' (table expected, got number);bad argument #2 to 'tag' (string expected, got boolean);"
+           "bad argument #2 to 'tag' (string expected, got table);bad argument #3 to 'tag' (string expected, got boolean);"),
+    framed_cost("tag_costs", "A tag costs the bytes of the arguments that are strings, and its own.", "frame:extensionTag('b','tt')", [1 + 2 + 2, 1, 3, len("<b>tt</b>")]),
+    framed("current_title", "`getCurrentTitle` gives the texts of the page's title.",
+           "local s=''\nfor k,v in pairs(mw.title.getCurrentTitle()) do s=s..k..'='..v..';' end\nmw.log(s)\nreturn s", "text=P;nsText=;prefixedText=P;"),
+    framed_cost("title_costs", "It costs a table with three entries.", "mw.title.getCurrentTitle()", [1 + 1 + 5, 1, 8 + 3 * 4]),
+]
+
+ROOT = "local d=mw.loadData('Module:D') local ok,e=pcall(function() d.v=6 end) return d.me.me.v..' '..tostring(ok)..' '..e"
+ROW = "local p={} function p.f() " + ROOT + " end return p"
+RING = "reply (Loaded (((Text (codes \"v\"), Number (pos 5)) ∷ (Text (codes \"me\"), Table 0) ∷ []) ∷ [])) 3000"
+
+MODULES = [
+    framed("requires_once", "A module runs once, and its value is kept.",
+           "return require('Module:Y').n,require('Module: Y').n,tostring(require('Module:Y')==require(' module:y '))", "11true",
+           others={"Y": "n=(n or 0)+1 return {n=n}"}),
+    framed("false_is_kept", "False is a value; nil and no value are true.",
+           "return tostring(require('Module:Y')),tostring(require('Module:Y')),n,tostring(require('Module:Z'))", "falsefalse1true",
+           others={"Y": "n=(n or 0)+1 return false", "Z": "n=n return nil,2"}),
+    asking("requires_itself", "The invoked module runs as `require` would run it: later its value is there.",
+           "local p={} function p.f() return tostring(require('Module:X')==p) end return p", (6000, [], ("Gives", "true"))),
+    asking("loops", "While it runs, to require it is an error.", "return require('Module:X')",
+           (6000, [], ("Fails", "Lua error: Module:X:1: loop in require of 'Module:X'"))),
+    framed("loops_through", "So it is through another module, which may be asked for again.",
+           "local ok,e=pcall(require,'Module:Y')\nreturn e,tostring(done),tostring(select(2,pcall(require,'Module:Y'))==e)", "Module:Z:1: loop in require of 'Module:Y'niltrue",
+           others={"Y": "require('Module:Z') done=1", "Z": "require('Module:Y')"}),
+    framed("runs_again", "A module whose run failed is run again.",
+           "pcall(require,'Module:Y')\nlocal ok,e=pcall(require,'Module:Y')\nreturn tries,e", "2m", others={"Y": "tries=(tries or 0)+1 error('m',0)"}),
+    framed("no_module", "What is no held module is not found.",
+           "local function e(x) return select(2,pcall(require,x))..';' end\nreturn e('Y'),e('Module:Z'),e('Module:'),e(12),select(2,pcall(require))",
+           "module 'Y' not found;module 'Module:Z' not found;module 'Module:' not found;module '12' not found;bad argument #1 to 'require' (string expected, got no value)",
+           others={"Y": "return 1"}),
+    framed("module_levels", "The text of a module that is required has no place above it.",
+           "return select(2,pcall(function() require('Module:Y') end)),select(2,pcall(function() require('Module:Z') end))", "Module:Y:2: mm",
+           others={"Y": "local x\nerror('m')", "Z": "error('m',2)"}),
+    asking("module_costs", "A module that is required costs its text and its run, and later the call alone.",
+           "return {f=function(frame) require('Module:Y') require('Module:Y') return 'a' end}",
+           *[(used("return {f=function(frame) require('Module:Y') require('Module:Y') return 'a' end}") + (4 + 1) + 8 + 1 + 2 + (4 + 1) + 2 + 1 - less, [], end)
+             for less, end in ((0, ("Gives", "a", 0)), (1, ("Spends", "Steps", 0)))], others={"Y": "return 1"}),
+    framed("strict", "`strict` makes absent global variables errors, with the place of the name.",
+           "local function e(f) return select(2,pcall(f))..';' end\nx=1\nlocal given=require('strict')\nx=2\nreturn tostring(given),x,e(function()\n return y end),e(function()\n y=1 end),e(function() return _G[{}] end),tostring(rawget(_G,'y'))",
+           "true2Module:X:7: variable 'y' is not declared;Module:X:8: assign to undeclared variable 'y';Module:X:8: variable 'table' is not declared;nil"),
+    framed("strict_anew", "Each call sets a new metatable, in place of any that is there.",
+           "require('strict')\nlocal m=getmetatable(_G)\nrequire('strict')\nsetmetatable(_G,{__metatable=1,__index=function() return 3 end})\nlocal y3=y\nrequire('strict')\nreturn tostring(m==getmetatable(_G)),y3,select(2,pcall(function() return y end))",
+           "false3Module:X:8: variable 'y' is not declared"),
+    asking("loads_once", "A data module is asked for once; its tables are read-only and may be cyclic.", ROW,
+           (6000, [RING], ("Gives", "5 false Module:R:1: table from mw.loadData is read-only")), module="R"),
+    framed("loaded_again", "Further loads give the same table, for the call alone.",
+           "local a=mw.loadData('Module:D')\nreturn tostring(a==mw.loadData('module: d ')),a.x,#a,tostring(next(a))", "truev0x", replies=[loaded_x(3000)]),
+    framed("load_fails", "The message of a load that failed is raised as it is, and the next load is a first one.",
+           "local ok,e=pcall(mw.loadData,'Module:D')\nlocal ok2,e2=pcall(mw.loadData,'Module:D')\nreturn e,tostring(ok2),e2.x", "data module holds a functiontruev",
+           replies=["reply (LoadFailed (codes \"data module holds a function\")) 3000", loaded_x(2000)]),
+    framed("no_data", "What is no held module is not found, at the place that called.",
+           "return select(2,pcall(mw.loadData,'Module:')),select(2,pcall(function()\n mw.loadData('D') end))", "data module 'Module:' not foundModule:X:3: data module 'D' not found",
+           replies=["reply NoPage 3000"]),
+    framed("wrong_data", "A text is no answer to a load.", "return mw.loadData('Module:D')", fails="Lua error: the answer does not belong to the question", replies=[text("x", 3000)]),
+    chunk("data_has_no_frame", "A data module has no frame.", "if mw.getCurrentFrame()==nil then return {} end", how="loaded", steps=[1000 + 47 + 1 + 1 + (1 + 1 + 3 + 1 + 1) + 1 + 9],
+          seen=[("Loads", 0)], profile=True),
+    asking("module_is_no_table", "A module must give a table.", "return true", (6000, [], ("Fails", "Script error: The module returned no table."))),
+    asking("module_is_not_held", "A module that is not held fails as in `require`.", "return 1",
+           (6000, [], ("Fails", "Lua error: module 'Module:Y' not found")), invoked="Y"),
+]
+
+
 FILES = [
     ("ExampleCharges", "EXAMPLES of charges, and of how runs end.", CHARGES),
     ("ExampleCosts", "EXAMPLES of single charges, worked out by hand.", COSTS),
     ("ExampleValues", "EXAMPLES of values, lists and operators.", VALUES),
     ("ExampleStatements", "EXAMPLES of statements, loops and constructors.", STATEMENTS),
     ("ExampleFunctions", "EXAMPLES of functions, errors and handlers.", FUNCTIONS),
+    ("ExampleHandlers", "EXAMPLES of handlers, levels, and what is absent.", HANDLERS),
+    ("ExampleFrames", "EXAMPLES of frames and their questions, in the body of template T.", FRAMES),
+    ("ExampleModules", "EXAMPLES of modules that ask for modules, and of data modules.", MODULES),
 ]

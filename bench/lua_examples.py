@@ -26,20 +26,29 @@ use Rattle.lua_syntax.specs.Tree.{{NoExp, NoField, Item, Pair, Lambda, Block, No
 use Rattle.lua_syntax.specs.Tree.{{AssignS, CallS, DoS, WhileS, RepeatS, IfS, IfElseS, CountS, CountByS, EachS, LocalFunctionS, LocalS, ReturnS, BreakS}}
 use Rattle.lua_syntax.specs.View.{{exps_of, fields_of, arms_of, stats_of}}
 use Rattle.page_run.specs.declared.which.Which.TheVariants.{{Steps, Calls}}
-use Rattle.lua_meaning.specs.Trial.{{Gives, Fails, Spends, Loads, ended, arg, invoked, invoked_with, invoked_on, loaded, faulted, counted}}
+{questions}use Rattle.lua_meaning.specs.Trial.{{Gives, Fails, Spends, Loads, Asks, without_steps, arg, invoked, invoked_with, invoked_on, loaded, faulted, counted, held, template_title, module_title, own_scene, scene_in_template, reply, spent, asked}}
 
+"""
+
+QUESTIONS = """use Rattle.wk_base.specs.declared.title.Namespace.TheVariants.{Main}
+use Rattle.mw_frame.specs.declared.question.Ask.TheVariants.{Template, Preprocess, Data}
+use Rattle.lua_heap.specs.Value.{Nil, Truth, Number, Text, Table}
+use Rattle.lua_meaning.specs.Questions.{Expanded, NoPage, Loaded, LoadFailed}
 """
 
 PROOF_HEAD = """-- {subject} They compute.
 use Rattle.std.proofs.Common.{{refl}}
 use Rattle.page_run.specs.Perform.{{perform}}
-use Rattle.wk_base.specs.Titles.{{title_text, prefix_of}}
+use Rattle.wk_base.specs.Titles.{{title_text, prefix_of, title_of, namespace_named, prefixed_namespaces}}
 use Rattle.std.specs.Fmt.{{digits}}
+use Rattle.std.specs.Str.{{is_utf8, chars}}
+use lib.Utf8.{{encode}}
 use Rattle.lua_number.specs.Numerals.{{decimal_of, numeral_of, trimmed, digits_of_base, read_number_of, read_in_base_of}}
 use Rattle.lua_meaning.specs.{module}.{{{names}}}
 """
 
 UNFOLDING = "unfolding perform digits title_text prefix_of decimal_of numeral_of trimmed digits_of_base read_number_of read_in_base_of"
+TITLES = " title_of namespace_named prefixed_namespaces is_utf8 chars encode"
 
 
 def codes(text):
@@ -55,6 +64,8 @@ def shown(end):
     kind, *rest = end
     if kind == "Counts":
         return str(rest[0])
+    if kind == "Asks":
+        return f"Asks ({rest[0]}) {rest[1]}"
     if kind in ("Spends", "Loads"):
         return " ".join(map(str, [kind, *rest]))
     return f"{kind} {codes(rest[0])} {rest[1] if len(rest) > 1 else 0}"
@@ -62,6 +73,10 @@ def shown(end):
 
 def called(example, step):
     title, size, name = codes(example["module"]), len(example["text"].encode()), example["name"]
+    if example["cases"]:
+        held = rows(f"held {codes(k)} {len(v.encode())} {example['name']}{n or ''}" for n, (k, v) in enumerate(modules_of(example)))
+        args = rows(f"arg {codes(k)} {codes(v)}" for k, v in example["args"] or [])
+        return f"asked {held} {args} {codes(example['invoked'] or example['module'])} {step[0]} {rows(step[1])}"
     if example["fault"]:
         kind, line = example["fault"]
         return f"faulted {title} {size} {kind} {line} {step}"
@@ -73,17 +88,24 @@ def called(example, step):
     return f"{example['how']} {title} {size} {name} {step}"
 
 
+def modules_of(example):
+    return [(example["module"], example["text"]), *(example["others"] or {}).items()]
+
+
 def spec(example):
     name = example["name"]
     title = name.replace("_", " ").title().replace(" ", "")
     claims = []
     for step, end in zip(example["steps"], example["seen"]):
-        exact = end[0] in ("Spends", "Loads", "Counts") or len(end) > 2
+        exact = end[0] in ("Spends", "Loads", "Counts", "Asks") or len(end) > 2
         call = called(example, step)
-        claims.append(f"{call} ≡ {shown(end)}" if exact else f"ended ({call}) ≡ {shown(end)}")
+        claims.append(f"{call} ≡ {shown(end)}" if exact else f"without_steps ({call}) ≡ {shown(end)}")
     claim = claims[0] if len(claims) == 1 else " × ".join(f"({c})" for c in claims)
     head = f"-- {example['said']}\n{comment(example['text'])}\n"
     term = "" if example["fault"] else f"abbrev pub {name} : Block\n{name} = {tree(example['text'])}\n\n"
+    for n, (module, text) in enumerate(modules_of(example)):
+        if n:
+            term += f"-- and Module:{module}\n{comment(text)}\nabbrev pub {name}{n} : Block\n{name}{n} = {tree(text)}\n\n"
     return head + term + f"abbrev pub {title} : Type 0\n{title} = {claim}\n", title, len(claims)
 
 
@@ -94,12 +116,13 @@ def write(module, subject, examples):
         specs.append(text)
         titles.append(title)
         proof = "refl" if count == 1 else "(" + ", ".join(["refl"] * count) + ")"
-        proofs.append(f"\n{example['name']} : {title}\n{UNFOLDING}\n{example['name']} = {proof}\n")
+        unfolding = UNFOLDING + (TITLES if example["cases"] else "")
+        proofs.append(f"\n{example['name']} : {title}\n{unfolding}\n{example['name']} = {proof}\n")
     every = "All" + module.removeprefix("Example")
     specs.append(f"-- ALL OF THEM\nabbrev pub {every} : Type 0\n{every} =\n    " + "\n    × ".join(titles) + "\n")
     proofs.append(f"\npub {every.lower()[:3]}_{every.lower()[3:]} : {every}\n{every.lower()[:3]}_{every.lower()[3:]} = ("
                   + ", ".join(example["name"] for example in examples) + ")\n")
-    (CRATE / "specs" / f"{module}.antt").write_text(HEAD.format(subject=subject) + "\n".join(specs))
+    (CRATE / "specs" / f"{module}.antt").write_text(HEAD.format(subject=subject, questions=QUESTIONS) + "\n".join(specs))
     (CRATE / "proofs" / f"{module}Laws.antt").write_text(
         PROOF_HEAD.format(subject=subject, module=module, names=", ".join(titles + [every])) + "".join(proofs))
 
@@ -129,7 +152,7 @@ def check_tree(example):
 
 
 def check(example):
-    if example["profile"]:
+    if example["profile"] or example["cases"]:
         return
     done = subprocess.run(["lua5.1", "-", example["text"], example["module"]], input=HARNESS, capture_output=True, text=True)
     kind, text = example["seen"][0][:2]

@@ -1,8 +1,10 @@
 -- EXAMPLES of charges, and of how runs end. They compute.
 use Rattle.std.proofs.Common.{refl}
 use Rattle.page_run.specs.Perform.{perform}
-use Rattle.wk_base.specs.Titles.{title_text, prefix_of}
+use Rattle.wk_base.specs.Titles.{title_text, prefix_of, title_of, namespace_named, prefixed_namespaces}
 use Rattle.std.specs.Fmt.{digits}
+use Rattle.std.specs.Str.{is_utf8, chars}
+use lib.Utf8.{encode}
 use Rattle.lua_number.specs.Numerals.{decimal_of, numeral_of, trimmed, digits_of_base, read_number_of, read_in_base_of}
 use Rattle.lua_meaning.specs.ExampleCharges.{Smallest, Start, DataStart, Arguments, Nodes, Counter, HoldsItself, CatchesAll, Nests, Joins, NoMarkup, Cells, Handlers, OutOfRange, SecondLevel, NoFunction, NoTable, DataNoTable, DataError, Faulty, Unfinished, TooLarge, TableError, WrittenOut, AllCharges}
 
@@ -11,8 +13,8 @@ unfolding perform digits title_text prefix_of decimal_of numeral_of trimmed digi
 smallest = (refl, refl)
 
 start : Start
-unfolding perform digits title_text prefix_of decimal_of numeral_of trimmed digits_of_base read_number_of read_in_base_of
-start = (refl, refl)
+unfolding perform digits title_text prefix_of decimal_of numeral_of trimmed digits_of_base read_number_of read_in_base_of title_of namespace_named prefixed_namespaces is_utf8 chars encode
+start = (refl, refl, refl, refl, refl)
 
 data_start : DataStart
 unfolding perform digits title_text prefix_of decimal_of numeral_of trimmed digits_of_base read_number_of read_in_base_of

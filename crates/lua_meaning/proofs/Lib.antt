@@ -4,3 +4,6 @@ pub mod ExampleCostsLaws
 pub mod ExampleValuesLaws
 pub mod ExampleStatementsLaws
 pub mod ExampleFunctionsLaws
+pub mod ExampleHandlersLaws
+pub mod ExampleFramesLaws
+pub mod ExampleModulesLaws

@@ -8,8 +8,11 @@ use Rattle.page_run.specs.Outcome.{Outcome, Act as ActOf, ◌>>=◌, ◌>>◌, g
 use Rattle.lua_heap.specs.declared.library.Library.{Library}
 use Rattle.lua_heap.specs.Value.{Value, Closure as ClosureValue}
 use Rattle.lua_heap.specs.Heap.{Heap, Function as FunctionClosed, cell_at, set_cell_in, new_table, new_cell, new_closure}
-use Rattle.lua_meaning.specs.Environment.{Bytes, Env, Function, Levels, with_name}
-use Rattle.lua_meaning.specs.Questions.{Scene, Ask, Answer}
+use Rattle.lua_meaning.specs.Scope.{Bytes, Scope, Function, Levels, with_name}
+use Rattle.lua_meaning.specs.Titled.{ByTitle}
+use Rattle.mw_frame.specs.declared.scene.Scene.{Scene}
+use Rattle.mw_frame.specs.declared.question.Ask.{Ask}
+use Rattle.lua_meaning.specs.Questions.{Answer}
 use Rattle.lua_meaning.specs.Values.{first, rest}
 
 -- JUMPS (manual 2.4.4 and 2.7): a `return` with its values, a `break`, and an error with its value
@@ -18,34 +21,43 @@ pub data Jump : Type 0 where
   Broke : Jump
   Raised : (value : Value) → Jump
 
--- the parent of a frame: there is none; it has not been asked for yet; or it is the frame of that number
+-- A FRAME of the run (Scribunto, Frame object): its scene, which never changes, its table, and its parent
 pub data Parent : Type 0 where
+  -- there is none
   Nobody : Parent
+  -- it has not been asked for yet
   Unmade : (scene : Scene) → Parent
+  -- it is the frame of that number
   Made : (number : ℕ) → Parent
 
--- a frame of the run (Scribunto, Frame object), and its table
 pub record Frame : Type 0 where
   pub scene : Scene
   pub table : Value
   pub parent : Parent
 
--- THE STATE that a run sees and changes: the heap; the tables of the global variables, of the functions for strings, and of the
--- modules that were loaded, by their numbers in it; and the frames, in the order in which they were made
+-- A MODULE that was required: it is being run, or it gave its value (`require`)
+pub data Progress : Type 0 where
+  Running : Progress
+  Finished : (value : Value) → Progress
+
+-- THE STATE that a run sees and changes: the heap; the tables of the global variables and of the functions for strings, by their
+-- numbers in it; by title the modules that were required, and the tables of the data modules that were loaded; and the frames,
+-- in the order in which they were made
 pub record State : Type 0 where
   pub heap : Heap Function
   pub globals : ℕ
   pub strings : ℕ
-  pub loaded : ℕ
+  pub modules : ByTitle Progress
+  pub data_ : ByTitle Value
   pub frames : List Frame
 
 -- THINGS: what is no smaller part of the text that runs. Each costs a step to begin.
 pub data Thing : Type 0 where
   -- another turn of a loop (manual 2.4.4 and 2.4.5)
-  WhileTurn : (test : Exp) (body : Block) (env : Env) → Thing
-  RepeatTurn : (body : Block) (test : Exp) (env : Env) → Thing
-  CountTurn : (name : Bytes) (index limit step : ℤ) (body : Block) (env : Env) → Thing
-  EachTurn : (names : List Bytes) (iterator state : Value) (results : List Value) (body : Block) (line : ℕ) (env : Env) → Thing
+  WhileTurn : (test : Exp) (body : Block) (scope : Scope) → Thing
+  RepeatTurn : (body : Block) (test : Exp) (scope : Scope) → Thing
+  CountTurn : (name : Bytes) (index limit step : ℤ) (body : Block) (scope : Scope) → Thing
+  EachTurn : (names : List Bytes) (iterator state : Value) (results : List Value) (body : Block) (line : ℕ) (scope : Scope) → Thing
   -- a function of Lua is entered, or one of the library (manual 2.5.8)
   Body : (function : Function) (arguments : List Value) (callers : Levels) → Thing
   LibraryBody : (which : Library) (arguments : List Value) (callers : Levels) → Thing
@@ -126,8 +138,8 @@ make_closure f = do
   give (ClosureValue (new_closure h (FunctionClosed f)).1)
 
 -- new local variables, each with a cell of its own (manual 2.4.7)
-abbrev pub declare : List Bytes → List Value → Env → Act Env
-declare [] vs env = give env
-declare (name ∷ names) vs env = do
+abbrev pub declare : List Bytes → List Value → Scope → Act Scope
+declare [] vs scope = give scope
+declare (name ∷ names) vs scope = do
   cell ← make_cell (first vs)
-  declare names (rest vs) (with_name name cell env)
+  declare names (rest vs) (with_name name cell scope)

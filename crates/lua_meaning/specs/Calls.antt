@@ -2,10 +2,10 @@
 -- A function that is called is a thing that begins: here it is named, with the levels that an error at its entry has.
 use Rattle.std.specs.Prelude.{List, ◌∷◌, Option, Some, None, codes}
 use Rattle.page_run.specs.Outcome.{◌>>=◌, begin}
-use Rattle.lua_heap.specs.Value.{Value, Nil, Table, Closure, Builtin}
+use Rattle.lua_heap.specs.Value.{Value, Table, Closure, Builtin, is_nil}
 use Rattle.lua_heap.specs.Heap.{Closed, Function as FunctionClosed, Iterator, closure_at}
-use Rattle.lua_meaning.specs.Environment.{Levels, Function}
-use Rattle.lua_meaning.specs.Acts.{Act, Body, LibraryBody, CallLink, see_heap}
+use Rattle.lua_meaning.specs.Scope.{Levels, Function}
+use Rattle.lua_meaning.specs.Acts.{Act, Body, LibraryBody, CallLink, choose, see_heap}
 use Rattle.lua_meaning.specs.Messages.{fail, cannot_call}
 use Rattle.lua_meaning.specs.Metatables.{handler}
 
@@ -17,8 +17,7 @@ enter f (Some (Iterator step cells)) args ls = begin (LibraryBody step (f ∷ ar
 
 -- a value that is no function has a handler, which gets it as its first argument, or can't be called
 abbrev pub call_by : Value → Value → List Value → Levels → Act (List Value)
-call_by Nil v args ls = fail ls (cannot_call v)
-call_by h v args ls = begin (CallLink h (v ∷ args) ls)
+call_by h v args ls = choose (is_nil h) (fail ls (cannot_call v)) (begin (CallLink h (v ∷ args) ls))
 
 abbrev pub call : Value → List Value → Levels → Act (List Value)
 call (Closure c) args ls = do

@@ -1,13 +1,17 @@
 -- EXAMPLES of charges, and of how runs end.
-use Rattle.std.specs.Prelude.{◌≡◌, pos, false, [], ◌∷◌, codes}
+use Rattle.std.specs.Prelude.{◌≡◌, pos, true, false, [], ◌∷◌, codes}
 use Rattle.lua_syntax.specs.declared.BinaryOp.TheVariants as op
 use Rattle.lua_syntax.specs.declared.UnaryOp.TheVariants as sign
-use Rattle.lua_syntax.specs.Tree.{TrueE, FalseE, NumberE, TextE, FunctionE, NameE, IndexE, CallE, TableE, BinaryE, UnaryE}
-use Rattle.lua_syntax.specs.Tree.{NoExp, NoField, Pair, Lambda, Block, NoStat, Arm}
-use Rattle.lua_syntax.specs.Tree.{AssignS, CallS, WhileS, IfS, CountS, LocalFunctionS, LocalS, ReturnS}
+use Rattle.lua_syntax.specs.Tree.{NilE, TrueE, FalseE, NumberE, TextE, DotsE, FunctionE, NameE, IndexE, CallE, MethodE, TableE, BinaryE, UnaryE, ParenE}
+use Rattle.lua_syntax.specs.Tree.{NoExp, NoField, Item, Pair, Lambda, Block, NoStat, Arm}
+use Rattle.lua_syntax.specs.Tree.{AssignS, CallS, DoS, WhileS, RepeatS, IfS, IfElseS, CountS, CountByS, EachS, LocalFunctionS, LocalS, ReturnS, BreakS}
 use Rattle.lua_syntax.specs.View.{exps_of, fields_of, arms_of, stats_of}
 use Rattle.page_run.specs.declared.which.Which.TheVariants.{Steps, Calls}
-use Rattle.lua_meaning.specs.Trial.{Gives, Fails, Spends, Loads, ended, arg, invoked, invoked_with, invoked_on, loaded, faulted, counted}
+use Rattle.wk_base.specs.declared.title.Namespace.TheVariants.{Main}
+use Rattle.mw_frame.specs.declared.question.Ask.TheVariants.{Template, Preprocess, Data}
+use Rattle.lua_heap.specs.Value.{Nil, Truth, Number, Text, Table}
+use Rattle.lua_meaning.specs.Questions.{Expanded, NoPage, Loaded, LoadFailed}
+use Rattle.lua_meaning.specs.Trial.{Gives, Fails, Spends, Loads, Asks, without_steps, arg, invoked, invoked_with, invoked_on, loaded, faulted, counted, held, template_title, module_title, own_scene, scene_in_template, reply, spent, asked}
 
 -- 1,000 for the start, 36 for the text, and 29 for what it does.
 --     return {f=function() return 'a' end}
@@ -19,7 +23,7 @@ smallest = stats_of (ReturnS 1 (exps_of (TableE 1 (fields_of (
 abbrev pub Smallest : Type 0
 Smallest = (invoked (codes "A") 36 smallest 1065 ≡ Gives (codes "a") 0) × (invoked (codes "A") 36 smallest 1064 ≡ Spends Steps 0)
 
--- 1,083 for the start, the text and the chunk. Then `f` fails after 7 steps more, with a message of 40 bytes.
+-- 1,083 for the start, the text and the chunk; then `f` asks after 9 steps more. The load takes 1,031, and 2 are left to read the field and to answer.
 --     return {f=function() return mw.loadData('Module:D').x end}
 abbrev pub start : Block
 start = stats_of (ReturnS 1 (exps_of (TableE 1 (fields_of (Pair (TextE 1 (codes "f")) (FunctionE 1 (Lambda [] false (stats_of (ReturnS 1 (exps_of (
@@ -27,7 +31,7 @@ start = stats_of (ReturnS 1 (exps_of (TableE 1 (fields_of (Pair (TextE 1 (codes 
     ∷ [])) ∷ [])))) ∷ [])) ∷ [])) ∷ [])
 
 abbrev pub Start : Type 0
-Start = (invoked (codes "M") 58 start 1130 ≡ Fails (codes "Lua error: Module:M:1: attempt to index a nil value") 0) × (invoked (codes "M") 58 start 1129 ≡ Spends Steps 0)
+Start = (asked (held (codes "M") 58 start ∷ []) [] (codes "M") 2125 [] ≡ Asks (Data (module_title (codes "D"))) 1033) × (asked (held (codes "M") 58 start ∷ []) [] (codes "M") 2125 (reply (Loaded (((Text (codes "x"), Text (codes "v")) ∷ []) ∷ [])) 2 ∷ []) ≡ Gives (codes "v") 0) × (asked (held (codes "M") 58 start ∷ []) [] (codes "M") 2124 (reply (Loaded (((Text (codes "x"), Text (codes "v")) ∷ []) ∷ [])) 1 ∷ []) ≡ Spends Steps 0) × (asked (held (codes "M") 58 start ∷ []) [] (codes "M") 1092 [] ≡ Asks (Data (module_title (codes "D"))) 0) × (asked (held (codes "M") 58 start ∷ []) [] (codes "M") 1091 [] ≡ Spends Steps 0)
 
 -- The load of a data module: 1,000 for the start, 14 for the text, and 17 for what it does.
 --     return {x='v'}
@@ -43,8 +47,8 @@ abbrev pub arguments : Block
 arguments = stats_of (ReturnS 1 (exps_of (TableE 1 (fields_of (Pair (TextE 1 (codes "f")) (FunctionE 1 (Lambda (codes "frame" ∷ []) false (stats_of (
     LocalS 1 (codes "a" ∷ []) (exps_of (IndexE 1 (NameE 1 (codes "frame")) (TextE 1 (codes "args")) ∷ []))
     ∷ ReturnS 1 (exps_of (
-    BinaryE 1 op.Concat (IndexE 1 (NameE 1 (codes "a")) (NumberE 1 (pos 1))) (BinaryE 1 op.Concat (IndexE 1 (NameE 1 (codes "a")) (TextE 1 (codes "1"))) (BinaryE 1 op.Concat (IndexE 1 (NameE 1 (codes "a")) (TextE 1 (codes "k"))) (UnaryE 1 sign.Len (NameE 1 (codes "a")))))
-    ∷ []))
+        BinaryE 1 op.Concat (IndexE 1 (NameE 1 (codes "a")) (NumberE 1 (pos 1))) (BinaryE 1 op.Concat (IndexE 1 (NameE 1 (codes "a")) (TextE 1 (codes "1"))) (BinaryE 1 op.Concat (IndexE 1 (NameE 1 (codes "a")) (TextE 1 (codes "k"))) (UnaryE 1 sign.Len (NameE 1 (codes "a")))))
+        ∷ []))
     ∷ [])))) ∷ [])) ∷ [])) ∷ [])
 
 abbrev pub Arguments : Type 0
@@ -67,14 +71,14 @@ counter = stats_of (
     AssignS 1 (exps_of (NameE 1 (codes "n") ∷ [])) (exps_of (NumberE 1 (pos 0) ∷ []))
     ∷ LocalS 1 (codes "p" ∷ []) (exps_of (TableE 1 NoField ∷ []))
     ∷ AssignS 1 (exps_of (IndexE 1 (NameE 1 (codes "p")) (TextE 1 (codes "f")) ∷ [])) (exps_of (FunctionE 1 (Lambda [] false (stats_of (
-    AssignS 1 (exps_of (NameE 1 (codes "n") ∷ [])) (exps_of (BinaryE 1 op.Add (NameE 1 (codes "n")) (NumberE 1 (pos 1)) ∷ []))
-    ∷ ReturnS 1 (exps_of (NameE 1 (codes "n") ∷ []))
-    ∷ []))) ∷ []))
+        AssignS 1 (exps_of (NameE 1 (codes "n") ∷ [])) (exps_of (BinaryE 1 op.Add (NameE 1 (codes "n")) (NumberE 1 (pos 1)) ∷ []))
+        ∷ ReturnS 1 (exps_of (NameE 1 (codes "n") ∷ []))
+        ∷ []))) ∷ []))
     ∷ ReturnS 1 (exps_of (NameE 1 (codes "p") ∷ []))
     ∷ [])
 
 abbrev pub Counter : Type 0
-Counter = ended (invoked (codes "C") 57 counter 6000) ≡ Gives (codes "1") 0
+Counter = without_steps (invoked (codes "C") 57 counter 6000) ≡ Gives (codes "1") 0
 
 -- A table holds itself.
 --     local p={} function p.f() local t={} t.t=t return t.t.t.t==t and 'y' end return p
@@ -82,17 +86,17 @@ abbrev pub holds_itself : Block
 holds_itself = stats_of (
     LocalS 1 (codes "p" ∷ []) (exps_of (TableE 1 NoField ∷ []))
     ∷ AssignS 1 (exps_of (IndexE 1 (NameE 1 (codes "p")) (TextE 1 (codes "f")) ∷ [])) (exps_of (FunctionE 1 (Lambda [] false (stats_of (
-    LocalS 1 (codes "t" ∷ []) (exps_of (TableE 1 NoField ∷ []))
-    ∷ AssignS 1 (exps_of (IndexE 1 (NameE 1 (codes "t")) (TextE 1 (codes "t")) ∷ [])) (exps_of (NameE 1 (codes "t") ∷ []))
-    ∷ ReturnS 1 (exps_of (
-    BinaryE 1 op.And (BinaryE 1 op.Eq (IndexE 1 (IndexE 1 (IndexE 1 (NameE 1 (codes "t")) (TextE 1 (codes "t"))) (TextE 1 (codes "t"))) (TextE 1 (codes "t"))) (NameE 1 (codes "t"))) (TextE 1 (codes "y"))
-    ∷ []))
-    ∷ []))) ∷ []))
+        LocalS 1 (codes "t" ∷ []) (exps_of (TableE 1 NoField ∷ []))
+        ∷ AssignS 1 (exps_of (IndexE 1 (NameE 1 (codes "t")) (TextE 1 (codes "t")) ∷ [])) (exps_of (NameE 1 (codes "t") ∷ []))
+        ∷ ReturnS 1 (exps_of (
+            BinaryE 1 op.And (BinaryE 1 op.Eq (IndexE 1 (IndexE 1 (IndexE 1 (NameE 1 (codes "t")) (TextE 1 (codes "t"))) (TextE 1 (codes "t"))) (TextE 1 (codes "t"))) (NameE 1 (codes "t"))) (TextE 1 (codes "y"))
+            ∷ []))
+        ∷ []))) ∷ []))
     ∷ ReturnS 1 (exps_of (NameE 1 (codes "p") ∷ []))
     ∷ [])
 
 abbrev pub HoldsItself : Type 0
-HoldsItself = ended (invoked (codes "K") 81 holds_itself 6000) ≡ Gives (codes "y") 0
+HoldsItself = without_steps (invoked (codes "K") 81 holds_itself 6000) ≡ Gives (codes "y") 0
 
 -- Nothing catches spent steps.
 --     local p={} function p.f() while true do pcall(p.f) end end return p
@@ -100,8 +104,8 @@ abbrev pub catches_all : Block
 catches_all = stats_of (
     LocalS 1 (codes "p" ∷ []) (exps_of (TableE 1 NoField ∷ []))
     ∷ AssignS 1 (exps_of (IndexE 1 (NameE 1 (codes "p")) (TextE 1 (codes "f")) ∷ [])) (exps_of (FunctionE 1 (Lambda [] false (stats_of (WhileS 1 (TrueE 1) (stats_of (
-    CallS 1 (CallE 1 (NameE 1 (codes "pcall")) (exps_of (IndexE 1 (NameE 1 (codes "p")) (TextE 1 (codes "f")) ∷ [])))
-    ∷ [])) ∷ []))) ∷ []))
+        CallS 1 (CallE 1 (NameE 1 (codes "pcall")) (exps_of (IndexE 1 (NameE 1 (codes "p")) (TextE 1 (codes "f")) ∷ [])))
+        ∷ [])) ∷ []))) ∷ []))
     ∷ ReturnS 1 (exps_of (NameE 1 (codes "p") ∷ []))
     ∷ [])
 
@@ -114,8 +118,8 @@ abbrev pub nests : Block
 nests = stats_of (
     LocalS 1 (codes "p" ∷ []) (exps_of (TableE 1 NoField ∷ []))
     ∷ AssignS 1 (exps_of (IndexE 1 (NameE 1 (codes "p")) (TextE 1 (codes "f")) ∷ [])) (exps_of (
-    FunctionE 1 (Lambda [] false (stats_of (ReturnS 1 (exps_of (CallE 1 (IndexE 1 (NameE 1 (codes "p")) (TextE 1 (codes "f"))) NoExp ∷ [])) ∷ [])))
-    ∷ []))
+        FunctionE 1 (Lambda [] false (stats_of (ReturnS 1 (exps_of (CallE 1 (IndexE 1 (NameE 1 (codes "p")) (TextE 1 (codes "f"))) NoExp ∷ [])) ∷ [])))
+        ∷ []))
     ∷ ReturnS 1 (exps_of (NameE 1 (codes "p") ∷ []))
     ∷ [])
 
@@ -128,13 +132,13 @@ abbrev pub joins : Block
 joins = stats_of (
     LocalS 1 (codes "a" ∷ []) (exps_of (TextE 1 (codes "x") ∷ []))
     ∷ ReturnS 1 (exps_of (TableE 1 (fields_of (Pair (TextE 1 (codes "f")) (FunctionE 1 (Lambda [] false (stats_of (
-    LocalS 1 (codes "b" ∷ []) (exps_of (BinaryE 1 op.Concat (NameE 1 (codes "a")) (TextE 1 (codes "y")) ∷ []))
-    ∷ ReturnS 1 (exps_of (BinaryE 1 op.Concat (NameE 1 (codes "b")) (NameE 1 (codes "a")) ∷ []))
-    ∷ [])))) ∷ [])) ∷ []))
+        LocalS 1 (codes "b" ∷ []) (exps_of (BinaryE 1 op.Concat (NameE 1 (codes "a")) (TextE 1 (codes "y")) ∷ []))
+        ∷ ReturnS 1 (exps_of (BinaryE 1 op.Concat (NameE 1 (codes "b")) (NameE 1 (codes "a")) ∷ []))
+        ∷ [])))) ∷ [])) ∷ []))
     ∷ [])
 
 abbrev pub Joins : Type 0
-Joins = ended (invoked (codes "Hi") 74 joins 6000) ≡ Gives (codes "xyx") 0
+Joins = without_steps (invoked (codes "Hi") 74 joins 6000) ≡ Gives (codes "xyx") 0
 
 -- The answer is a text, and is not expanded here.
 --     return {f = function() return '{{T}}' end}
@@ -144,7 +148,7 @@ no_markup = stats_of (ReturnS 1 (exps_of (TableE 1 (fields_of (
     ∷ [])) ∷ [])) ∷ [])
 
 abbrev pub NoMarkup : Type 0
-NoMarkup = ended (invoked (codes "V") 42 no_markup 6000) ≡ Gives (codes "{{T}}") 0
+NoMarkup = without_steps (invoked (codes "V") 42 no_markup 6000) ≡ Gives (codes "{{T}}") 0
 
 -- Each turn of a loop has variables of its own, which closures keep.
 --     local p={} function p.f() local fs={} for i=1,3 do fs[i]=function() i=i+10 return i end end return fs[1]()..fs[1]()..fs[2]() end return p
@@ -152,20 +156,20 @@ abbrev pub cells : Block
 cells = stats_of (
     LocalS 1 (codes "p" ∷ []) (exps_of (TableE 1 NoField ∷ []))
     ∷ AssignS 1 (exps_of (IndexE 1 (NameE 1 (codes "p")) (TextE 1 (codes "f")) ∷ [])) (exps_of (FunctionE 1 (Lambda [] false (stats_of (
-    LocalS 1 (codes "fs" ∷ []) (exps_of (TableE 1 NoField ∷ []))
-    ∷ CountS 1 (codes "i") (NumberE 1 (pos 1)) (NumberE 1 (pos 3)) (stats_of (AssignS 1 (exps_of (IndexE 1 (NameE 1 (codes "fs")) (NameE 1 (codes "i")) ∷ [])) (exps_of (FunctionE 1 (Lambda [] false (stats_of (
-    AssignS 1 (exps_of (NameE 1 (codes "i") ∷ [])) (exps_of (BinaryE 1 op.Add (NameE 1 (codes "i")) (NumberE 1 (pos 10)) ∷ []))
-    ∷ ReturnS 1 (exps_of (NameE 1 (codes "i") ∷ []))
-    ∷ []))) ∷ [])) ∷ []))
-    ∷ ReturnS 1 (exps_of (
-    BinaryE 1 op.Concat (CallE 1 (IndexE 1 (NameE 1 (codes "fs")) (NumberE 1 (pos 1))) NoExp) (BinaryE 1 op.Concat (CallE 1 (IndexE 1 (NameE 1 (codes "fs")) (NumberE 1 (pos 1))) NoExp) (CallE 1 (IndexE 1 (NameE 1 (codes "fs")) (NumberE 1 (pos 2))) NoExp))
-    ∷ []))
-    ∷ []))) ∷ []))
+        LocalS 1 (codes "fs" ∷ []) (exps_of (TableE 1 NoField ∷ []))
+        ∷ CountS 1 (codes "i") (NumberE 1 (pos 1)) (NumberE 1 (pos 3)) (stats_of (AssignS 1 (exps_of (IndexE 1 (NameE 1 (codes "fs")) (NameE 1 (codes "i")) ∷ [])) (exps_of (FunctionE 1 (Lambda [] false (stats_of (
+            AssignS 1 (exps_of (NameE 1 (codes "i") ∷ [])) (exps_of (BinaryE 1 op.Add (NameE 1 (codes "i")) (NumberE 1 (pos 10)) ∷ []))
+            ∷ ReturnS 1 (exps_of (NameE 1 (codes "i") ∷ []))
+            ∷ []))) ∷ [])) ∷ []))
+        ∷ ReturnS 1 (exps_of (
+            BinaryE 1 op.Concat (CallE 1 (IndexE 1 (NameE 1 (codes "fs")) (NumberE 1 (pos 1))) NoExp) (BinaryE 1 op.Concat (CallE 1 (IndexE 1 (NameE 1 (codes "fs")) (NumberE 1 (pos 1))) NoExp) (CallE 1 (IndexE 1 (NameE 1 (codes "fs")) (NumberE 1 (pos 2))) NoExp))
+            ∷ []))
+        ∷ []))) ∷ []))
     ∷ ReturnS 1 (exps_of (NameE 1 (codes "p") ∷ []))
     ∷ [])
 
 abbrev pub Cells : Type 0
-Cells = ended (invoked (codes "Slots") 137 cells 6000) ≡ Gives (codes "112112") 0
+Cells = without_steps (invoked (codes "Slots") 137 cells 6000) ≡ Gives (codes "112112") 0
 
 -- Handlers of indexing, of order and of calls.
 --     local p={} function p.f() local m={__index=function(t,k) return k..k end,__lt=function(a,b) return a.n<b.n end,__call=function(s,x) return x+s.n end} local a=setmetatable({n=1},m) local b=setmetatable({n=2},m) return a.zz..tostring(b<=a)..a(6) end return p
@@ -173,30 +177,30 @@ abbrev pub handlers : Block
 handlers = stats_of (
     LocalS 1 (codes "p" ∷ []) (exps_of (TableE 1 NoField ∷ []))
     ∷ AssignS 1 (exps_of (IndexE 1 (NameE 1 (codes "p")) (TextE 1 (codes "f")) ∷ [])) (exps_of (FunctionE 1 (Lambda [] false (stats_of (
-    LocalS 1 (codes "m" ∷ []) (exps_of (TableE 1 (fields_of (
-    Pair (TextE 1 (codes "__index")) (FunctionE 1 (Lambda (codes "t" ∷ codes "k" ∷ []) false (stats_of (ReturnS 1 (exps_of (BinaryE 1 op.Concat (NameE 1 (codes "k")) (NameE 1 (codes "k")) ∷ [])) ∷ []))))
-    ∷ Pair (TextE 1 (codes "__lt")) (FunctionE 1 (Lambda (codes "a" ∷ codes "b" ∷ []) false (stats_of (ReturnS 1 (exps_of (
-    BinaryE 1 op.Lt (IndexE 1 (NameE 1 (codes "a")) (TextE 1 (codes "n"))) (IndexE 1 (NameE 1 (codes "b")) (TextE 1 (codes "n")))
-    ∷ [])) ∷ []))))
-    ∷ Pair (TextE 1 (codes "__call")) (FunctionE 1 (Lambda (codes "s" ∷ codes "x" ∷ []) false (stats_of (
-    ReturnS 1 (exps_of (BinaryE 1 op.Add (NameE 1 (codes "x")) (IndexE 1 (NameE 1 (codes "s")) (TextE 1 (codes "n"))) ∷ []))
-    ∷ []))))
-    ∷ [])) ∷ []))
-    ∷ LocalS 1 (codes "a" ∷ []) (exps_of (
-    CallE 1 (NameE 1 (codes "setmetatable")) (exps_of (TableE 1 (fields_of (Pair (TextE 1 (codes "n")) (NumberE 1 (pos 1)) ∷ [])) ∷ NameE 1 (codes "m") ∷ []))
-    ∷ []))
-    ∷ LocalS 1 (codes "b" ∷ []) (exps_of (
-    CallE 1 (NameE 1 (codes "setmetatable")) (exps_of (TableE 1 (fields_of (Pair (TextE 1 (codes "n")) (NumberE 1 (pos 2)) ∷ [])) ∷ NameE 1 (codes "m") ∷ []))
-    ∷ []))
-    ∷ ReturnS 1 (exps_of (
-    BinaryE 1 op.Concat (IndexE 1 (NameE 1 (codes "a")) (TextE 1 (codes "zz"))) (BinaryE 1 op.Concat (CallE 1 (NameE 1 (codes "tostring")) (exps_of (BinaryE 1 op.Le (NameE 1 (codes "b")) (NameE 1 (codes "a")) ∷ []))) (CallE 1 (NameE 1 (codes "a")) (exps_of (NumberE 1 (pos 6) ∷ []))))
-    ∷ []))
-    ∷ []))) ∷ []))
+        LocalS 1 (codes "m" ∷ []) (exps_of (TableE 1 (fields_of (
+            Pair (TextE 1 (codes "__index")) (FunctionE 1 (Lambda (codes "t" ∷ codes "k" ∷ []) false (stats_of (ReturnS 1 (exps_of (BinaryE 1 op.Concat (NameE 1 (codes "k")) (NameE 1 (codes "k")) ∷ [])) ∷ []))))
+            ∷ Pair (TextE 1 (codes "__lt")) (FunctionE 1 (Lambda (codes "a" ∷ codes "b" ∷ []) false (stats_of (ReturnS 1 (exps_of (
+                BinaryE 1 op.Lt (IndexE 1 (NameE 1 (codes "a")) (TextE 1 (codes "n"))) (IndexE 1 (NameE 1 (codes "b")) (TextE 1 (codes "n")))
+                ∷ [])) ∷ []))))
+            ∷ Pair (TextE 1 (codes "__call")) (FunctionE 1 (Lambda (codes "s" ∷ codes "x" ∷ []) false (stats_of (
+                ReturnS 1 (exps_of (BinaryE 1 op.Add (NameE 1 (codes "x")) (IndexE 1 (NameE 1 (codes "s")) (TextE 1 (codes "n"))) ∷ []))
+                ∷ []))))
+            ∷ [])) ∷ []))
+        ∷ LocalS 1 (codes "a" ∷ []) (exps_of (
+            CallE 1 (NameE 1 (codes "setmetatable")) (exps_of (TableE 1 (fields_of (Pair (TextE 1 (codes "n")) (NumberE 1 (pos 1)) ∷ [])) ∷ NameE 1 (codes "m") ∷ []))
+            ∷ []))
+        ∷ LocalS 1 (codes "b" ∷ []) (exps_of (
+            CallE 1 (NameE 1 (codes "setmetatable")) (exps_of (TableE 1 (fields_of (Pair (TextE 1 (codes "n")) (NumberE 1 (pos 2)) ∷ [])) ∷ NameE 1 (codes "m") ∷ []))
+            ∷ []))
+        ∷ ReturnS 1 (exps_of (
+            BinaryE 1 op.Concat (IndexE 1 (NameE 1 (codes "a")) (TextE 1 (codes "zz"))) (BinaryE 1 op.Concat (CallE 1 (NameE 1 (codes "tostring")) (exps_of (BinaryE 1 op.Le (NameE 1 (codes "b")) (NameE 1 (codes "a")) ∷ []))) (CallE 1 (NameE 1 (codes "a")) (exps_of (NumberE 1 (pos 6) ∷ []))))
+            ∷ []))
+        ∷ []))) ∷ []))
     ∷ ReturnS 1 (exps_of (NameE 1 (codes "p") ∷ []))
     ∷ [])
 
 abbrev pub Handlers : Type 0
-Handlers = ended (invoked (codes "Meta") 256 handlers 6000) ≡ Gives (codes "zzzzfalse7") 0
+Handlers = without_steps (invoked (codes "Meta") 256 handlers 6000) ≡ Gives (codes "zzzzfalse7") 0
 
 -- Results that are no whole number in range are errors.
 --     local p={} function p.f() local function e(f) local ok,v=pcall(f) return tostring(v) end return e(function() return 9223372036854775807+1 end)..';'..e(function() return 7/2 end)..';'..6/2 ..';'..-7%3 ..';'..1e3 end return p
@@ -204,21 +208,21 @@ abbrev pub out_of_range : Block
 out_of_range = stats_of (
     LocalS 1 (codes "p" ∷ []) (exps_of (TableE 1 NoField ∷ []))
     ∷ AssignS 1 (exps_of (IndexE 1 (NameE 1 (codes "p")) (TextE 1 (codes "f")) ∷ [])) (exps_of (FunctionE 1 (Lambda [] false (stats_of (
-    LocalFunctionS 1 (codes "e") (Lambda (codes "f" ∷ []) false (stats_of (
-    LocalS 1 (codes "ok" ∷ codes "v" ∷ []) (exps_of (CallE 1 (NameE 1 (codes "pcall")) (exps_of (NameE 1 (codes "f") ∷ [])) ∷ []))
-    ∷ ReturnS 1 (exps_of (CallE 1 (NameE 1 (codes "tostring")) (exps_of (NameE 1 (codes "v") ∷ [])) ∷ []))
-    ∷ [])))
-    ∷ ReturnS 1 (exps_of (BinaryE 1 op.Concat (CallE 1 (NameE 1 (codes "e")) (exps_of (
-    FunctionE 1 (Lambda [] false (stats_of (ReturnS 1 (exps_of (BinaryE 1 op.Add (NumberE 1 (pos 9223372036854775807)) (NumberE 1 (pos 1)) ∷ [])) ∷ [])))
-    ∷ []))) (BinaryE 1 op.Concat (TextE 1 (codes ";")) (BinaryE 1 op.Concat (CallE 1 (NameE 1 (codes "e")) (exps_of (
-    FunctionE 1 (Lambda [] false (stats_of (ReturnS 1 (exps_of (BinaryE 1 op.Div (NumberE 1 (pos 7)) (NumberE 1 (pos 2)) ∷ [])) ∷ [])))
-    ∷ []))) (BinaryE 1 op.Concat (TextE 1 (codes ";")) (BinaryE 1 op.Concat (BinaryE 1 op.Div (NumberE 1 (pos 6)) (NumberE 1 (pos 2))) (BinaryE 1 op.Concat (TextE 1 (codes ";")) (BinaryE 1 op.Concat (BinaryE 1 op.Mod (UnaryE 1 sign.Minus (NumberE 1 (pos 7))) (NumberE 1 (pos 3))) (BinaryE 1 op.Concat (TextE 1 (codes ";")) (NumberE 1 (pos 1000))))))))) ∷ []))
-    ∷ []))) ∷ []))
+        LocalFunctionS 1 (codes "e") (Lambda (codes "f" ∷ []) false (stats_of (
+            LocalS 1 (codes "ok" ∷ codes "v" ∷ []) (exps_of (CallE 1 (NameE 1 (codes "pcall")) (exps_of (NameE 1 (codes "f") ∷ [])) ∷ []))
+            ∷ ReturnS 1 (exps_of (CallE 1 (NameE 1 (codes "tostring")) (exps_of (NameE 1 (codes "v") ∷ [])) ∷ []))
+            ∷ [])))
+        ∷ ReturnS 1 (exps_of (BinaryE 1 op.Concat (CallE 1 (NameE 1 (codes "e")) (exps_of (
+            FunctionE 1 (Lambda [] false (stats_of (ReturnS 1 (exps_of (BinaryE 1 op.Add (NumberE 1 (pos 9223372036854775807)) (NumberE 1 (pos 1)) ∷ [])) ∷ [])))
+            ∷ []))) (BinaryE 1 op.Concat (TextE 1 (codes ";")) (BinaryE 1 op.Concat (CallE 1 (NameE 1 (codes "e")) (exps_of (
+            FunctionE 1 (Lambda [] false (stats_of (ReturnS 1 (exps_of (BinaryE 1 op.Div (NumberE 1 (pos 7)) (NumberE 1 (pos 2)) ∷ [])) ∷ [])))
+            ∷ []))) (BinaryE 1 op.Concat (TextE 1 (codes ";")) (BinaryE 1 op.Concat (BinaryE 1 op.Div (NumberE 1 (pos 6)) (NumberE 1 (pos 2))) (BinaryE 1 op.Concat (TextE 1 (codes ";")) (BinaryE 1 op.Concat (BinaryE 1 op.Mod (UnaryE 1 sign.Minus (NumberE 1 (pos 7))) (NumberE 1 (pos 3))) (BinaryE 1 op.Concat (TextE 1 (codes ";")) (NumberE 1 (pos 1000))))))))) ∷ []))
+        ∷ []))) ∷ []))
     ∷ ReturnS 1 (exps_of (NameE 1 (codes "p") ∷ []))
     ∷ [])
 
 abbrev pub OutOfRange : Type 0
-OutOfRange = ended (invoked (codes "N") 223 out_of_range 6000) ≡ Gives (codes "Module:N:1: number out of range;Module:N:1: quotient is not whole;3;2;1000") 0
+OutOfRange = without_steps (invoked (codes "N") 223 out_of_range 6000) ≡ Gives (codes "Module:N:1: number out of range;Module:N:1: quotient is not whole;3;2;1000") 0
 
 -- An error with level 2 is at the place that called.
 --     local p = {}
@@ -229,16 +233,16 @@ abbrev pub second_level : Block
 second_level = stats_of (
     LocalS 1 (codes "p" ∷ []) (exps_of (TableE 1 NoField ∷ []))
     ∷ LocalFunctionS 2 (codes "check") (Lambda (codes "x" ∷ []) false (stats_of (IfS 2 (arms_of (
-    Arm (UnaryE 2 sign.Not (NameE 2 (codes "x"))) (stats_of (CallS 2 (CallE 2 (NameE 2 (codes "error")) (exps_of (TextE 2 (codes "bad") ∷ NumberE 2 (pos 2) ∷ []))) ∷ []))
-    ∷ [])) ∷ [])))
+        Arm (UnaryE 2 sign.Not (NameE 2 (codes "x"))) (stats_of (CallS 2 (CallE 2 (NameE 2 (codes "error")) (exps_of (TextE 2 (codes "bad") ∷ NumberE 2 (pos 2) ∷ []))) ∷ []))
+        ∷ [])) ∷ [])))
     ∷ AssignS 3 (exps_of (IndexE 3 (NameE 3 (codes "p")) (TextE 3 (codes "f")) ∷ [])) (exps_of (
-    FunctionE 3 (Lambda [] false (stats_of (CallS 3 (CallE 3 (NameE 3 (codes "check")) (exps_of (FalseE 3 ∷ []))) ∷ [])))
-    ∷ []))
+        FunctionE 3 (Lambda [] false (stats_of (CallS 3 (CallE 3 (NameE 3 (codes "check")) (exps_of (FalseE 3 ∷ []))) ∷ [])))
+        ∷ []))
     ∷ ReturnS 4 (exps_of (NameE 4 (codes "p") ∷ []))
     ∷ [])
 
 abbrev pub SecondLevel : Type 0
-SecondLevel = ended (invoked (codes "E") 115 second_level 6000) ≡ Fails (codes "Lua error: Module:E:3: bad") 0
+SecondLevel = without_steps (invoked (codes "E") 115 second_level 6000) ≡ Fails (codes "Lua error: Module:E:3: bad") 0
 
 -- The module has no function of that name.
 --     return {g=function() end}
@@ -248,7 +252,7 @@ no_function = stats_of (
     ∷ [])
 
 abbrev pub NoFunction : Type 0
-NoFunction = ended (invoked (codes "C") 25 no_function 6000) ≡ Fails (codes "Script error: The function \"f\" does not exist.") 0
+NoFunction = without_steps (invoked (codes "C") 25 no_function 6000) ≡ Fails (codes "Script error: The function \"f\" does not exist.") 0
 
 -- The module gives no table.
 --     return 1
@@ -256,7 +260,7 @@ abbrev pub no_table : Block
 no_table = stats_of (ReturnS 1 (exps_of (NumberE 1 (pos 1) ∷ [])) ∷ [])
 
 abbrev pub NoTable : Type 0
-NoTable = ended (invoked (codes "X") 8 no_table 6000) ≡ Fails (codes "Script error: The module returned no table.") 0
+NoTable = without_steps (invoked (codes "X") 8 no_table 6000) ≡ Fails (codes "Script error: The module returned no table.") 0
 
 -- A data module must give a table.
 --     return 1
@@ -264,7 +268,7 @@ abbrev pub data_no_table : Block
 data_no_table = stats_of (ReturnS 1 (exps_of (NumberE 1 (pos 1) ∷ [])) ∷ [])
 
 abbrev pub DataNoTable : Type 0
-DataNoTable = ended (loaded (codes "X") 8 data_no_table 6000) ≡ Fails (codes "data module returned no table") 0
+DataNoTable = without_steps (loaded (codes "X") 8 data_no_table 6000) ≡ Fails (codes "data module returned no table") 0
 
 -- The message of an error in a data module stands alone.
 --     error('x')
@@ -272,7 +276,7 @@ abbrev pub data_error : Block
 data_error = stats_of (CallS 1 (CallE 1 (NameE 1 (codes "error")) (exps_of (TextE 1 (codes "x") ∷ []))) ∷ [])
 
 abbrev pub DataError : Type 0
-DataError = ended (loaded (codes "DE") 10 data_error 6000) ≡ Fails (codes "Module:DE:1: x") 0
+DataError = without_steps (loaded (codes "DE") 10 data_error 6000) ≡ Fails (codes "Module:DE:1: x") 0
 
 -- A text that is no chunk fails where it would begin.
 --     local p = {}
@@ -280,17 +284,17 @@ DataError = ended (loaded (codes "DE") 10 data_error 6000) ≡ Fails (codes "Mod
 --       return 1 + end
 --     return p
 abbrev pub Faulty : Type 0
-Faulty = ended (faulted (codes "Y") 53 5 3 6000) ≡ Fails (codes "Lua error: Module:Y:3: unexpected token") 0
+Faulty = without_steps (faulted (codes "Y") 53 5 3 6000) ≡ Fails (codes "Lua error: Module:Y:3: unexpected token") 0
 
 -- The numbers of the faults are those of the lexis and of the grammar.
 --     return "
 abbrev pub Unfinished : Type 0
-Unfinished = ended (faulted (codes "U") 8 1 1 6000) ≡ Fails (codes "Lua error: Module:U:1: unfinished string") 0
+Unfinished = without_steps (faulted (codes "U") 8 1 1 6000) ≡ Fails (codes "Lua error: Module:U:1: unfinished string") 0
 
 -- A numeral beyond 64 bits is a fault.
 --     return 9223372036854775808
 abbrev pub TooLarge : Type 0
-TooLarge = ended (faulted (codes "B") 26 6 1 6000) ≡ Fails (codes "Lua error: Module:B:1: numeral is not a whole number in range") 0
+TooLarge = without_steps (faulted (codes "B") 26 6 1 6000) ≡ Fails (codes "Lua error: Module:B:1: numeral is not a whole number in range") 0
 
 -- An error that is no string has no message.
 --     return {f=function() error({}) end}
@@ -300,7 +304,7 @@ table_error = stats_of (ReturnS 1 (exps_of (TableE 1 (fields_of (
     ∷ [])) ∷ [])) ∷ [])
 
 abbrev pub TableError : Type 0
-TableError = ended (invoked (codes "Z") 35 table_error 6000) ≡ Fails (codes "Lua error: the error is a table value") 0
+TableError = without_steps (invoked (codes "Z") 35 table_error 6000) ≡ Fails (codes "Lua error: the error is a table value") 0
 
 -- The text of a failure is written without marks of HTML.
 --     return {f=function() error('a<b>&c', 0) end}
@@ -310,7 +314,7 @@ written_out = stats_of (ReturnS 1 (exps_of (TableE 1 (fields_of (
     ∷ [])) ∷ [])) ∷ [])
 
 abbrev pub WrittenOut : Type 0
-WrittenOut = ended (invoked (codes "X") 44 written_out 6000) ≡ Fails (codes "Lua error: a&lt;b&gt;&amp;c") 0
+WrittenOut = without_steps (invoked (codes "X") 44 written_out 6000) ≡ Fails (codes "Lua error: a&lt;b&gt;&amp;c") 0
 
 -- ALL OF THEM
 abbrev pub AllCharges : Type 0

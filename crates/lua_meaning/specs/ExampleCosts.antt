@@ -1,12 +1,17 @@
 -- EXAMPLES of single charges, worked out by hand.
 use Rattle.std.specs.Prelude.{◌≡◌, pos, true, false, [], ◌∷◌, codes}
 use Rattle.lua_syntax.specs.declared.BinaryOp.TheVariants as op
-use Rattle.lua_syntax.specs.Tree.{NilE, NumberE, TextE, DotsE, FunctionE, NameE, IndexE, CallE, MethodE, TableE, BinaryE}
+use Rattle.lua_syntax.specs.declared.UnaryOp.TheVariants as sign
+use Rattle.lua_syntax.specs.Tree.{NilE, TrueE, FalseE, NumberE, TextE, DotsE, FunctionE, NameE, IndexE, CallE, MethodE, TableE, BinaryE, UnaryE, ParenE}
 use Rattle.lua_syntax.specs.Tree.{NoExp, NoField, Item, Pair, Lambda, Block, NoStat, Arm}
-use Rattle.lua_syntax.specs.Tree.{AssignS, CallS, WhileS, RepeatS, IfS, CountS, EachS, LocalFunctionS, LocalS, ReturnS}
+use Rattle.lua_syntax.specs.Tree.{AssignS, CallS, DoS, WhileS, RepeatS, IfS, IfElseS, CountS, CountByS, EachS, LocalFunctionS, LocalS, ReturnS, BreakS}
 use Rattle.lua_syntax.specs.View.{exps_of, fields_of, arms_of, stats_of}
-use Rattle.page_run.specs.declared.which.Which.TheVariants.{Steps}
-use Rattle.lua_meaning.specs.Trial.{Gives, Spends, invoked}
+use Rattle.page_run.specs.declared.which.Which.TheVariants.{Steps, Calls}
+use Rattle.wk_base.specs.declared.title.Namespace.TheVariants.{Main}
+use Rattle.mw_frame.specs.declared.question.Ask.TheVariants.{Template, Preprocess, Data}
+use Rattle.lua_heap.specs.Value.{Nil, Truth, Number, Text, Table}
+use Rattle.lua_meaning.specs.Questions.{Expanded, NoPage, Loaded, LoadFailed}
+use Rattle.lua_meaning.specs.Trial.{Gives, Fails, Spends, Loads, Asks, without_steps, arg, invoked, invoked_with, invoked_on, loaded, faulted, counted, held, template_title, module_title, own_scene, scene_in_template, reply, spent, asked}
 
 -- A function that does nothing.
 --     return {f=function(...)
@@ -40,8 +45,8 @@ abbrev pub while_costs : Block
 while_costs = stats_of (ReturnS 1 (exps_of (TableE 1 (fields_of (Pair (TextE 1 (codes "f")) (FunctionE 1 (Lambda [] true (stats_of (
     LocalS 2 (codes "i" ∷ []) (exps_of (NumberE 2 (pos 0) ∷ []))
     ∷ WhileS 2 (BinaryE 2 op.Lt (NameE 2 (codes "i")) (NumberE 2 (pos 2))) (stats_of (
-    AssignS 2 (exps_of (NameE 2 (codes "i") ∷ [])) (exps_of (BinaryE 2 op.Add (NameE 2 (codes "i")) (NumberE 2 (pos 1)) ∷ []))
-    ∷ []))
+        AssignS 2 (exps_of (NameE 2 (codes "i") ∷ [])) (exps_of (BinaryE 2 op.Add (NameE 2 (codes "i")) (NumberE 2 (pos 1)) ∷ []))
+        ∷ []))
     ∷ [])))) ∷ [])) ∷ [])) ∷ [])
 
 abbrev pub WhileCosts : Type 0
@@ -55,8 +60,8 @@ abbrev pub repeat_costs : Block
 repeat_costs = stats_of (ReturnS 1 (exps_of (TableE 1 (fields_of (Pair (TextE 1 (codes "f")) (FunctionE 1 (Lambda [] true (stats_of (
     LocalS 2 (codes "i" ∷ []) (exps_of (NumberE 2 (pos 0) ∷ []))
     ∷ RepeatS 2 (stats_of (
-    AssignS 2 (exps_of (NameE 2 (codes "i") ∷ [])) (exps_of (BinaryE 2 op.Add (NameE 2 (codes "i")) (NumberE 2 (pos 1)) ∷ []))
-    ∷ [])) (BinaryE 2 op.Ge (NameE 2 (codes "i")) (NumberE 2 (pos 2)))
+        AssignS 2 (exps_of (NameE 2 (codes "i") ∷ [])) (exps_of (BinaryE 2 op.Add (NameE 2 (codes "i")) (NumberE 2 (pos 1)) ∷ []))
+        ∷ [])) (BinaryE 2 op.Ge (NameE 2 (codes "i")) (NumberE 2 (pos 2)))
     ∷ [])))) ∷ [])) ∷ [])) ∷ [])
 
 abbrev pub RepeatCosts : Type 0
@@ -181,8 +186,8 @@ abbrev pub call_link_costs : Block
 call_link_costs = stats_of (ReturnS 1 (exps_of (TableE 1 (fields_of (Pair (TextE 1 (codes "f")) (FunctionE 1 (Lambda [] true (stats_of (ReturnS 2 (exps_of (CallE 2 (CallE 2 (NameE 2 (codes "setmetatable")) (exps_of (
     TableE 2 NoField
     ∷ TableE 2 (fields_of (
-    Pair (TextE 2 (codes "__call")) (FunctionE 2 (Lambda [] false (stats_of (ReturnS 2 (exps_of (NumberE 2 (pos 1) ∷ [])) ∷ []))))
-    ∷ []))
+        Pair (TextE 2 (codes "__call")) (FunctionE 2 (Lambda [] false (stats_of (ReturnS 2 (exps_of (NumberE 2 (pos 1) ∷ [])) ∷ []))))
+        ∷ []))
     ∷ []))) NoExp ∷ [])) ∷ [])))) ∷ [])) ∷ [])) ∷ [])
 
 abbrev pub CallLinkCosts : Type 0
@@ -207,8 +212,8 @@ MessageCosts = (invoked (codes "X") 68 message_costs 1144 ≡ Gives (codes "fals
 abbrev pub method_costs : Block
 method_costs = stats_of (ReturnS 1 (exps_of (TableE 1 (fields_of (Pair (TextE 1 (codes "f")) (FunctionE 1 (Lambda [] true (stats_of (
     LocalS 2 (codes "o" ∷ []) (exps_of (TableE 2 (fields_of (
-    Pair (TextE 2 (codes "m")) (FunctionE 2 (Lambda (codes "s" ∷ []) false (stats_of (ReturnS 2 (exps_of (NumberE 2 (pos 1) ∷ [])) ∷ []))))
-    ∷ [])) ∷ []))
+        Pair (TextE 2 (codes "m")) (FunctionE 2 (Lambda (codes "s" ∷ []) false (stats_of (ReturnS 2 (exps_of (NumberE 2 (pos 1) ∷ [])) ∷ []))))
+        ∷ [])) ∷ []))
     ∷ ReturnS 2 (exps_of (MethodE 2 (NameE 2 (codes "o")) (codes "m") NoExp ∷ []))
     ∷ [])))) ∷ [])) ∷ [])) ∷ [])
 
@@ -277,6 +282,134 @@ targets_cost = stats_of (ReturnS 1 (exps_of (TableE 1 (fields_of (Pair (TextE 1 
 abbrev pub TargetsCost : Type 0
 TargetsCost = (invoked (codes "X") 49 targets_cost 1097 ≡ Gives [] 0) × (invoked (codes "X") 49 targets_cost 1096 ≡ Spends Steps 0)
 
+-- A link of an assignment costs a step.
+--     return {f=function(...)
+--     setmetatable({},{__newindex={}}).x=1
+--     end}
+abbrev pub set_link_costs : Block
+set_link_costs = stats_of (ReturnS 1 (exps_of (TableE 1 (fields_of (Pair (TextE 1 (codes "f")) (FunctionE 1 (Lambda [] true (stats_of (AssignS 2 (exps_of (
+    IndexE 2 (CallE 2 (NameE 2 (codes "setmetatable")) (exps_of (TableE 2 NoField ∷ TableE 2 (fields_of (Pair (TextE 2 (codes "__newindex")) (TableE 2 NoField) ∷ [])) ∷ []))) (TextE 2 (codes "x"))
+    ∷ [])) (exps_of (NumberE 2 (pos 1) ∷ [])) ∷ [])))) ∷ [])) ∷ [])) ∷ [])
+
+abbrev pub SetLinkCosts : Type 0
+SetLinkCosts = (invoked (codes "X") 65 set_link_costs 1135 ≡ Gives [] 0) × (invoked (codes "X") 65 set_link_costs 1134 ≡ Spends Steps 0)
+
+-- `rawset` of a new key costs an entry.
+--     return {f=function(...)
+--     local t={} rawset(t,1,2) rawset(t,1,3)
+--     end}
+abbrev pub rawset_costs : Block
+rawset_costs = stats_of (ReturnS 1 (exps_of (TableE 1 (fields_of (Pair (TextE 1 (codes "f")) (FunctionE 1 (Lambda [] true (stats_of (
+    LocalS 2 (codes "t" ∷ []) (exps_of (TableE 2 NoField ∷ []))
+    ∷ CallS 2 (CallE 2 (NameE 2 (codes "rawset")) (exps_of (NameE 2 (codes "t") ∷ NumberE 2 (pos 1) ∷ NumberE 2 (pos 2) ∷ [])))
+    ∷ CallS 2 (CallE 2 (NameE 2 (codes "rawset")) (exps_of (NameE 2 (codes "t") ∷ NumberE 2 (pos 1) ∷ NumberE 2 (pos 3) ∷ [])))
+    ∷ [])))) ∷ [])) ∷ [])) ∷ [])
+
+abbrev pub RawsetCosts : Type 0
+RawsetCosts = (invoked (codes "X") 67 rawset_costs 1121 ≡ Gives [] 0) × (invoked (codes "X") 67 rawset_costs 1120 ≡ Spends Steps 0)
+
+-- `<=` on texts costs the shorter one too.
+--     return {f=function(...)
+--     return 'abc'<='abde'
+--     end}
+abbrev pub at_most_costs : Block
+at_most_costs = stats_of (ReturnS 1 (exps_of (TableE 1 (fields_of (
+    Pair (TextE 1 (codes "f")) (FunctionE 1 (Lambda [] true (stats_of (ReturnS 2 (exps_of (BinaryE 2 op.Le (TextE 2 (codes "abc")) (TextE 2 (codes "abde")) ∷ [])) ∷ []))))
+    ∷ [])) ∷ [])) ∷ [])
+
+abbrev pub AtMostCosts : Type 0
+AtMostCosts = (invoked (codes "X") 49 at_most_costs 1086 ≡ Gives (codes "true") 0) × (invoked (codes "X") 49 at_most_costs 1085 ≡ Spends Steps 0)
+
+-- `next` pays for the cleared entries that it passes at the end.
+--     return {f=function(...)
+--     local t={1,2} t[2]=nil return next(t,1)
+--     end}
+abbrev pub end_costs : Block
+end_costs = stats_of (ReturnS 1 (exps_of (TableE 1 (fields_of (Pair (TextE 1 (codes "f")) (FunctionE 1 (Lambda [] true (stats_of (
+    LocalS 2 (codes "t" ∷ []) (exps_of (TableE 2 (fields_of (Item (NumberE 2 (pos 1)) ∷ Item (NumberE 2 (pos 2)) ∷ [])) ∷ []))
+    ∷ AssignS 2 (exps_of (IndexE 2 (NameE 2 (codes "t")) (NumberE 2 (pos 2)) ∷ [])) (exps_of (NilE 2 ∷ []))
+    ∷ ReturnS 2 (exps_of (CallE 2 (NameE 2 (codes "next")) (exps_of (NameE 2 (codes "t") ∷ NumberE 2 (pos 1) ∷ [])) ∷ []))
+    ∷ [])))) ∷ [])) ∷ [])) ∷ [])
+
+abbrev pub EndCosts : Type 0
+EndCosts = (invoked (codes "X") 68 end_costs 1129 ≡ Gives (codes "nil") 0) × (invoked (codes "X") 68 end_costs 1128 ≡ Spends Steps 0)
+
+-- What a handler of `..` gives costs nothing beyond its call.
+--     return {f=function(...)
+--     local t=setmetatable({},{__concat=function() return 'abcdef' end}) return #(t..t)
+--     end}
+abbrev pub handler_makes_no_text : Block
+handler_makes_no_text = stats_of (ReturnS 1 (exps_of (TableE 1 (fields_of (Pair (TextE 1 (codes "f")) (FunctionE 1 (Lambda [] true (stats_of (
+    LocalS 2 (codes "t" ∷ []) (exps_of (CallE 2 (NameE 2 (codes "setmetatable")) (exps_of (
+        TableE 2 NoField
+        ∷ TableE 2 (fields_of (
+            Pair (TextE 2 (codes "__concat")) (FunctionE 2 (Lambda [] false (stats_of (ReturnS 2 (exps_of (TextE 2 (codes "abcdef") ∷ [])) ∷ []))))
+            ∷ []))
+        ∷ [])) ∷ []))
+    ∷ ReturnS 2 (exps_of (UnaryE 2 sign.Len (ParenE 2 (BinaryE 2 op.Concat (NameE 2 (codes "t")) (NameE 2 (codes "t")))) ∷ []))
+    ∷ [])))) ∷ [])) ∷ [])) ∷ [])
+
+abbrev pub HandlerMakesNoText : Type 0
+HandlerMakesNoText = (invoked (codes "X") 110 handler_makes_no_text 1182 ≡ Gives (codes "6") 0) × (invoked (codes "X") 110 handler_makes_no_text 1181 ≡ Spends Steps 0)
+
+-- What `__tostring` gives costs its length.
+--     return {f=function(...)
+--     local t=setmetatable({},{__tostring=function() return 'abcdef' end}) return #tostring(t)
+--     end}
+abbrev pub handler_of_text_costs : Block
+handler_of_text_costs = stats_of (ReturnS 1 (exps_of (TableE 1 (fields_of (Pair (TextE 1 (codes "f")) (FunctionE 1 (Lambda [] true (stats_of (
+    LocalS 2 (codes "t" ∷ []) (exps_of (CallE 2 (NameE 2 (codes "setmetatable")) (exps_of (
+        TableE 2 NoField
+        ∷ TableE 2 (fields_of (
+            Pair (TextE 2 (codes "__tostring")) (FunctionE 2 (Lambda [] false (stats_of (ReturnS 2 (exps_of (TextE 2 (codes "abcdef") ∷ [])) ∷ []))))
+            ∷ []))
+        ∷ [])) ∷ []))
+    ∷ ReturnS 2 (exps_of (UnaryE 2 sign.Len (CallE 2 (NameE 2 (codes "tostring")) (exps_of (NameE 2 (codes "t") ∷ []))) ∷ []))
+    ∷ [])))) ∷ [])) ∷ [])) ∷ [])
+
+abbrev pub HandlerOfTextCosts : Type 0
+HandlerOfTextCosts = (invoked (codes "X") 117 handler_of_text_costs 1195 ≡ Gives (codes "6") 0) × (invoked (codes "X") 117 handler_of_text_costs 1194 ≡ Spends Steps 0)
+
+-- In the answer `__tostring` costs what it does, and its text nothing more.
+--     return {f=function(...)
+--     return setmetatable({},{__tostring=function() return 'abc' end})
+--     end}
+abbrev pub answer_asks_handlers : Block
+answer_asks_handlers = stats_of (ReturnS 1 (exps_of (TableE 1 (fields_of (Pair (TextE 1 (codes "f")) (FunctionE 1 (Lambda [] true (stats_of (ReturnS 2 (exps_of (CallE 2 (NameE 2 (codes "setmetatable")) (exps_of (
+    TableE 2 NoField
+    ∷ TableE 2 (fields_of (
+        Pair (TextE 2 (codes "__tostring")) (FunctionE 2 (Lambda [] false (stats_of (ReturnS 2 (exps_of (TextE 2 (codes "abc") ∷ [])) ∷ []))))
+        ∷ []))
+    ∷ [])) ∷ [])) ∷ [])))) ∷ [])) ∷ [])) ∷ [])
+
+abbrev pub AnswerAsksHandlers : Type 0
+AnswerAsksHandlers = (invoked (codes "X") 93 answer_asks_handlers 1161 ≡ Gives (codes "abc") 0) × (invoked (codes "X") 93 answer_asks_handlers 1160 ≡ Spends Steps 0)
+
+-- The handler of `xpcall` is called by the library, so level 2 has no place in it: its message costs nothing.
+--     return {f=function(...)
+--     return xpcall(function() error('x',0) end,function() error('m',2) end)
+--     end}
+abbrev pub no_levels_in_handlers : Block
+no_levels_in_handlers = stats_of (ReturnS 1 (exps_of (TableE 1 (fields_of (Pair (TextE 1 (codes "f")) (FunctionE 1 (Lambda [] true (stats_of (ReturnS 2 (exps_of (CallE 2 (NameE 2 (codes "xpcall")) (exps_of (
+    FunctionE 2 (Lambda [] false (stats_of (CallS 2 (CallE 2 (NameE 2 (codes "error")) (exps_of (TextE 2 (codes "x") ∷ NumberE 2 (pos 0) ∷ []))) ∷ [])))
+    ∷ FunctionE 2 (Lambda [] false (stats_of (CallS 2 (CallE 2 (NameE 2 (codes "error")) (exps_of (TextE 2 (codes "m") ∷ NumberE 2 (pos 2) ∷ []))) ∷ [])))
+    ∷ [])) ∷ [])) ∷ [])))) ∷ [])) ∷ [])) ∷ [])
+
+abbrev pub NoLevelsInHandlers : Type 0
+NoLevelsInHandlers = (invoked (codes "X") 99 no_levels_in_handlers 1189 ≡ Gives (codes "falseerror in error handling") 0) × (invoked (codes "X") 99 no_levels_in_handlers 1188 ≡ Spends Steps 0)
+
+-- `strict` costs a table with two entries.
+--     return {f=function(...)
+--     return require('strict')
+--     end}
+abbrev pub require_costs : Block
+require_costs = stats_of (ReturnS 1 (exps_of (TableE 1 (fields_of (
+    Pair (TextE 1 (codes "f")) (FunctionE 1 (Lambda [] true (stats_of (ReturnS 2 (exps_of (CallE 2 (NameE 2 (codes "require")) (exps_of (TextE 2 (codes "strict") ∷ [])) ∷ [])) ∷ []))))
+    ∷ [])) ∷ [])) ∷ [])
+
+abbrev pub RequireCosts : Type 0
+RequireCosts = (invoked (codes "X") 53 require_costs 1104 ≡ Gives (codes "true") 0) × (invoked (codes "X") 53 require_costs 1103 ≡ Spends Steps 0)
+
 -- ALL OF THEM
 abbrev pub AllCosts : Type 0
 AllCosts =
@@ -301,3 +434,12 @@ AllCosts =
     × ChoicesCost
     × BranchesCost
     × TargetsCost
+    × SetLinkCosts
+    × RawsetCosts
+    × AtMostCosts
+    × EndCosts
+    × HandlerMakesNoText
+    × HandlerOfTextCosts
+    × AnswerAsksHandlers
+    × NoLevelsInHandlers
+    × RequireCosts

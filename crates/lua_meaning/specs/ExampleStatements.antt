@@ -2,11 +2,16 @@
 use Rattle.std.specs.Prelude.{◌≡◌, pos, true, false, [], ◌∷◌, codes}
 use Rattle.lua_syntax.specs.declared.BinaryOp.TheVariants as op
 use Rattle.lua_syntax.specs.declared.UnaryOp.TheVariants as sign
-use Rattle.lua_syntax.specs.Tree.{NilE, TrueE, NumberE, TextE, FunctionE, NameE, IndexE, CallE, MethodE, TableE, BinaryE, UnaryE}
+use Rattle.lua_syntax.specs.Tree.{NilE, TrueE, FalseE, NumberE, TextE, DotsE, FunctionE, NameE, IndexE, CallE, MethodE, TableE, BinaryE, UnaryE, ParenE}
 use Rattle.lua_syntax.specs.Tree.{NoExp, NoField, Item, Pair, Lambda, Block, NoStat, Arm}
-use Rattle.lua_syntax.specs.Tree.{AssignS, DoS, WhileS, RepeatS, IfS, IfElseS, CountS, CountByS, EachS, LocalFunctionS, LocalS, ReturnS, BreakS}
+use Rattle.lua_syntax.specs.Tree.{AssignS, CallS, DoS, WhileS, RepeatS, IfS, IfElseS, CountS, CountByS, EachS, LocalFunctionS, LocalS, ReturnS, BreakS}
 use Rattle.lua_syntax.specs.View.{exps_of, fields_of, arms_of, stats_of}
-use Rattle.lua_meaning.specs.Trial.{Gives, Fails, ended, invoked}
+use Rattle.page_run.specs.declared.which.Which.TheVariants.{Steps, Calls}
+use Rattle.wk_base.specs.declared.title.Namespace.TheVariants.{Main}
+use Rattle.mw_frame.specs.declared.question.Ask.TheVariants.{Template, Preprocess, Data}
+use Rattle.lua_heap.specs.Value.{Nil, Truth, Number, Text, Table}
+use Rattle.lua_meaning.specs.Questions.{Expanded, NoPage, Loaded, LoadFailed}
+use Rattle.lua_meaning.specs.Trial.{Gives, Fails, Spends, Loads, Asks, without_steps, arg, invoked, invoked_with, invoked_on, loaded, faulted, counted, held, template_title, module_title, own_scene, scene_in_template, reply, spent, asked}
 
 -- The right sides are evaluated before any target is assigned.
 --     return {f=function(...)
@@ -22,7 +27,7 @@ swap = stats_of (ReturnS 1 (exps_of (TableE 1 (fields_of (Pair (TextE 1 (codes "
     ∷ [])))) ∷ [])) ∷ [])) ∷ [])
 
 abbrev pub Swap : Type 0
-Swap = ended (invoked (codes "X") 65 swap 6000) ≡ Gives (codes "21") 0
+Swap = without_steps (invoked (codes "X") 65 swap 6000) ≡ Gives (codes "21") 0
 
 -- The keys of the targets are evaluated before the right sides.
 --     return {f=function(...)
@@ -37,14 +42,14 @@ keys_first = stats_of (ReturnS 1 (exps_of (TableE 1 (fields_of (Pair (TextE 1 (c
     ∷ LocalS 3 (codes "t" ∷ []) (exps_of (TableE 3 NoField ∷ []))
     ∷ AssignS 4 (exps_of (NameE 4 (codes "i") ∷ IndexE 4 (NameE 4 (codes "t")) (NameE 4 (codes "i")) ∷ [])) (exps_of (BinaryE 4 op.Add (NameE 4 (codes "i")) (NumberE 4 (pos 1)) ∷ NumberE 4 (pos 20) ∷ []))
     ∷ ReturnS 5 (exps_of (
-    NameE 5 (codes "i")
-    ∷ IndexE 5 (NameE 5 (codes "t")) (NumberE 5 (pos 1))
-    ∷ IndexE 5 (NameE 5 (codes "t")) (NumberE 5 (pos 2))
-    ∷ []))
+        NameE 5 (codes "i")
+        ∷ IndexE 5 (NameE 5 (codes "t")) (NumberE 5 (pos 1))
+        ∷ IndexE 5 (NameE 5 (codes "t")) (NumberE 5 (pos 2))
+        ∷ []))
     ∷ [])))) ∷ [])) ∷ [])) ∷ [])
 
 abbrev pub KeysFirst : Type 0
-KeysFirst = ended (invoked (codes "X") 84 keys_first 6000) ≡ Gives (codes "220nil") 0
+KeysFirst = without_steps (invoked (codes "X") 84 keys_first 6000) ≡ Gives (codes "220nil") 0
 
 -- The last target is assigned first.
 --     return {f=function(...)
@@ -60,7 +65,7 @@ last_first = stats_of (ReturnS 1 (exps_of (TableE 1 (fields_of (Pair (TextE 1 (c
     ∷ [])))) ∷ [])) ∷ [])) ∷ [])
 
 abbrev pub LastFirst : Type 0
-LastFirst = ended (invoked (codes "X") 59 last_first 6000) ≡ Gives (codes "1") 0
+LastFirst = without_steps (invoked (codes "X") 59 last_first 6000) ≡ Gives (codes "1") 0
 
 -- Targets without a value get nil.
 --     return {f=function(...)
@@ -78,7 +83,7 @@ more_targets = stats_of (ReturnS 1 (exps_of (TableE 1 (fields_of (Pair (TextE 1 
     ∷ [])))) ∷ [])) ∷ [])) ∷ [])
 
 abbrev pub MoreTargets : Type 0
-MoreTargets = ended (invoked (codes "X") 71 more_targets 6000) ≡ Gives (codes "7nilnil") 0
+MoreTargets = without_steps (invoked (codes "X") 71 more_targets 6000) ≡ Gives (codes "7nilnil") 0
 
 -- A local variable is seen from the next statement on, to the end of its block.
 --     return {f=function(...)
@@ -91,15 +96,15 @@ abbrev pub shadowed : Block
 shadowed = stats_of (ReturnS 1 (exps_of (TableE 1 (fields_of (Pair (TextE 1 (codes "f")) (FunctionE 1 (Lambda [] true (stats_of (
     LocalS 2 (codes "x" ∷ []) (exps_of (NumberE 2 (pos 1) ∷ []))
     ∷ DoS 3 (stats_of (
-    LocalS 3 (codes "x" ∷ []) (exps_of (BinaryE 3 op.Add (NameE 3 (codes "x")) (NumberE 3 (pos 1)) ∷ []))
-    ∷ AssignS 3 (exps_of (NameE 3 (codes "x") ∷ [])) (exps_of (BinaryE 3 op.Add (NameE 3 (codes "x")) (NumberE 3 (pos 1)) ∷ []))
-    ∷ []))
+        LocalS 3 (codes "x" ∷ []) (exps_of (BinaryE 3 op.Add (NameE 3 (codes "x")) (NumberE 3 (pos 1)) ∷ []))
+        ∷ AssignS 3 (exps_of (NameE 3 (codes "x") ∷ [])) (exps_of (BinaryE 3 op.Add (NameE 3 (codes "x")) (NumberE 3 (pos 1)) ∷ []))
+        ∷ []))
     ∷ LocalS 4 (codes "x" ∷ []) (exps_of (BinaryE 4 op.Concat (NameE 4 (codes "x")) (TextE 4 (codes "!")) ∷ []))
     ∷ ReturnS 5 (exps_of (NameE 5 (codes "x") ∷ []))
     ∷ [])))) ∷ [])) ∷ [])) ∷ [])
 
 abbrev pub Shadowed : Type 0
-Shadowed = ended (invoked (codes "X") 87 shadowed 6000) ≡ Gives (codes "1!") 0
+Shadowed = without_steps (invoked (codes "X") 87 shadowed 6000) ≡ Gives (codes "1!") 0
 
 -- The name of a local function is seen in its body.
 --     return {f=function(...)
@@ -109,18 +114,18 @@ Shadowed = ended (invoked (codes "X") 87 shadowed 6000) ≡ Gives (codes "1!") 0
 abbrev pub local_functions : Block
 local_functions = stats_of (ReturnS 1 (exps_of (TableE 1 (fields_of (Pair (TextE 1 (codes "f")) (FunctionE 1 (Lambda [] true (stats_of (
     LocalFunctionS 2 (codes "fact") (Lambda (codes "n" ∷ []) false (stats_of (
-    IfS 2 (arms_of (
-    Arm (BinaryE 2 op.Le (NameE 2 (codes "n")) (NumberE 2 (pos 1))) (stats_of (ReturnS 2 (exps_of (NumberE 2 (pos 1) ∷ [])) ∷ []))
-    ∷ []))
-    ∷ ReturnS 2 (exps_of (
-    BinaryE 2 op.Mul (NameE 2 (codes "n")) (CallE 2 (NameE 2 (codes "fact")) (exps_of (BinaryE 2 op.Sub (NameE 2 (codes "n")) (NumberE 2 (pos 1)) ∷ [])))
-    ∷ []))
-    ∷ [])))
+        IfS 2 (arms_of (
+            Arm (BinaryE 2 op.Le (NameE 2 (codes "n")) (NumberE 2 (pos 1))) (stats_of (ReturnS 2 (exps_of (NumberE 2 (pos 1) ∷ [])) ∷ []))
+            ∷ []))
+        ∷ ReturnS 2 (exps_of (
+            BinaryE 2 op.Mul (NameE 2 (codes "n")) (CallE 2 (NameE 2 (codes "fact")) (exps_of (BinaryE 2 op.Sub (NameE 2 (codes "n")) (NumberE 2 (pos 1)) ∷ [])))
+            ∷ []))
+        ∷ [])))
     ∷ ReturnS 3 (exps_of (CallE 3 (NameE 3 (codes "fact")) (exps_of (NumberE 3 (pos 5) ∷ [])) ∷ []))
     ∷ [])))) ∷ [])) ∷ [])) ∷ [])
 
 abbrev pub LocalFunctions : Type 0
-LocalFunctions = ended (invoked (codes "X") 115 local_functions 6000) ≡ Gives (codes "120") 0
+LocalFunctions = without_steps (invoked (codes "X") 115 local_functions 6000) ≡ Gives (codes "120") 0
 
 -- A function that is assigned to a local name sees the global one.
 --     return {f=function(...)
@@ -134,7 +139,7 @@ global_functions = stats_of (ReturnS 1 (exps_of (TableE 1 (fields_of (Pair (Text
     ∷ [])))) ∷ [])) ∷ [])) ∷ [])
 
 abbrev pub GlobalFunctions : Type 0
-GlobalFunctions = ended (invoked (codes "X") 83 global_functions 6000) ≡ Gives (codes "nil") 0
+GlobalFunctions = without_steps (invoked (codes "X") 83 global_functions 6000) ≡ Gives (codes "nil") 0
 
 -- The first branch whose test is true.
 --     return {f=function(...)
@@ -144,18 +149,18 @@ GlobalFunctions = ended (invoked (codes "X") 83 global_functions 6000) ≡ Gives
 abbrev pub branches : Block
 branches = stats_of (ReturnS 1 (exps_of (TableE 1 (fields_of (Pair (TextE 1 (codes "f")) (FunctionE 1 (Lambda [] true (stats_of (
     LocalFunctionS 2 (codes "sign") (Lambda (codes "n" ∷ []) false (stats_of (IfElseS 2 (arms_of (
-    Arm (BinaryE 2 op.Lt (NameE 2 (codes "n")) (NumberE 2 (pos 0))) (stats_of (ReturnS 2 (exps_of (TextE 2 (codes "neg") ∷ [])) ∷ []))
-    ∷ Arm (BinaryE 2 op.Eq (NameE 2 (codes "n")) (NumberE 2 (pos 0))) (stats_of (ReturnS 2 (exps_of (TextE 2 (codes "zero") ∷ [])) ∷ []))
-    ∷ [])) (stats_of (ReturnS 2 (exps_of (TextE 2 (codes "pos") ∷ [])) ∷ [])) ∷ [])))
+        Arm (BinaryE 2 op.Lt (NameE 2 (codes "n")) (NumberE 2 (pos 0))) (stats_of (ReturnS 2 (exps_of (TextE 2 (codes "neg") ∷ [])) ∷ []))
+        ∷ Arm (BinaryE 2 op.Eq (NameE 2 (codes "n")) (NumberE 2 (pos 0))) (stats_of (ReturnS 2 (exps_of (TextE 2 (codes "zero") ∷ [])) ∷ []))
+        ∷ [])) (stats_of (ReturnS 2 (exps_of (TextE 2 (codes "pos") ∷ [])) ∷ [])) ∷ [])))
     ∷ ReturnS 3 (exps_of (
-    CallE 3 (NameE 3 (codes "sign")) (exps_of (UnaryE 3 sign.Minus (NumberE 3 (pos 1)) ∷ []))
-    ∷ CallE 3 (NameE 3 (codes "sign")) (exps_of (NumberE 3 (pos 0) ∷ []))
-    ∷ CallE 3 (NameE 3 (codes "sign")) (exps_of (NumberE 3 (pos 1) ∷ []))
-    ∷ []))
+        CallE 3 (NameE 3 (codes "sign")) (exps_of (UnaryE 3 sign.Minus (NumberE 3 (pos 1)) ∷ []))
+        ∷ CallE 3 (NameE 3 (codes "sign")) (exps_of (NumberE 3 (pos 0) ∷ []))
+        ∷ CallE 3 (NameE 3 (codes "sign")) (exps_of (NumberE 3 (pos 1) ∷ []))
+        ∷ []))
     ∷ [])))) ∷ [])) ∷ [])) ∷ [])
 
 abbrev pub Branches : Type 0
-Branches = ended (invoked (codes "X") 165 branches 6000) ≡ Gives (codes "negzeropos") 0
+Branches = without_steps (invoked (codes "X") 165 branches 6000) ≡ Gives (codes "negzeropos") 0
 
 -- `while`, and `break` out of the inner loop alone.
 --     return {f=function(...)
@@ -169,19 +174,19 @@ while_loop = stats_of (ReturnS 1 (exps_of (TableE 1 (fields_of (Pair (TextE 1 (c
     LocalS 2 (codes "s" ∷ []) (exps_of (TextE 2 [] ∷ []))
     ∷ LocalS 3 (codes "i" ∷ []) (exps_of (NumberE 3 (pos 0) ∷ []))
     ∷ WhileS 4 (BinaryE 4 op.Lt (NameE 4 (codes "i")) (NumberE 4 (pos 3))) (stats_of (
-    AssignS 4 (exps_of (NameE 4 (codes "i") ∷ [])) (exps_of (BinaryE 4 op.Add (NameE 4 (codes "i")) (NumberE 4 (pos 1)) ∷ []))
-    ∷ LocalS 4 (codes "j" ∷ []) (exps_of (NumberE 4 (pos 0) ∷ []))
-    ∷ WhileS 4 (TrueE 4) (stats_of (
-    AssignS 4 (exps_of (NameE 4 (codes "j") ∷ [])) (exps_of (BinaryE 4 op.Add (NameE 4 (codes "j")) (NumberE 4 (pos 1)) ∷ []))
-    ∷ IfS 4 (arms_of (Arm (BinaryE 4 op.Gt (NameE 4 (codes "j")) (NameE 4 (codes "i"))) (stats_of (BreakS 4 ∷ [])) ∷ []))
-    ∷ AssignS 4 (exps_of (NameE 4 (codes "s") ∷ [])) (exps_of (BinaryE 4 op.Concat (NameE 4 (codes "s")) (NameE 4 (codes "j")) ∷ []))
-    ∷ []))
-    ∷ []))
+        AssignS 4 (exps_of (NameE 4 (codes "i") ∷ [])) (exps_of (BinaryE 4 op.Add (NameE 4 (codes "i")) (NumberE 4 (pos 1)) ∷ []))
+        ∷ LocalS 4 (codes "j" ∷ []) (exps_of (NumberE 4 (pos 0) ∷ []))
+        ∷ WhileS 4 (TrueE 4) (stats_of (
+            AssignS 4 (exps_of (NameE 4 (codes "j") ∷ [])) (exps_of (BinaryE 4 op.Add (NameE 4 (codes "j")) (NumberE 4 (pos 1)) ∷ []))
+            ∷ IfS 4 (arms_of (Arm (BinaryE 4 op.Gt (NameE 4 (codes "j")) (NameE 4 (codes "i"))) (stats_of (BreakS 4 ∷ [])) ∷ []))
+            ∷ AssignS 4 (exps_of (NameE 4 (codes "s") ∷ [])) (exps_of (BinaryE 4 op.Concat (NameE 4 (codes "s")) (NameE 4 (codes "j")) ∷ []))
+            ∷ []))
+        ∷ []))
     ∷ ReturnS 5 (exps_of (NameE 5 (codes "s") ∷ []))
     ∷ [])))) ∷ [])) ∷ [])) ∷ [])
 
 abbrev pub WhileLoop : Type 0
-WhileLoop = ended (invoked (codes "X") 144 while_loop 6000) ≡ Gives (codes "112123") 0
+WhileLoop = without_steps (invoked (codes "X") 144 while_loop 6000) ≡ Gives (codes "112123") 0
 
 -- The test of `repeat` sees the variables of the body.
 --     return {f=function(...)
@@ -193,14 +198,14 @@ abbrev pub repeat_loop : Block
 repeat_loop = stats_of (ReturnS 1 (exps_of (TableE 1 (fields_of (Pair (TextE 1 (codes "f")) (FunctionE 1 (Lambda [] true (stats_of (
     LocalS 2 (codes "n" ∷ []) (exps_of (NumberE 2 (pos 0) ∷ []))
     ∷ RepeatS 3 (stats_of (
-    LocalS 3 (codes "done" ∷ []) (exps_of (BinaryE 3 op.Ge (NameE 3 (codes "n")) (NumberE 3 (pos 2)) ∷ []))
-    ∷ AssignS 3 (exps_of (NameE 3 (codes "n") ∷ [])) (exps_of (BinaryE 3 op.Add (NameE 3 (codes "n")) (NumberE 3 (pos 1)) ∷ []))
-    ∷ [])) (NameE 3 (codes "done"))
+        LocalS 3 (codes "done" ∷ []) (exps_of (BinaryE 3 op.Ge (NameE 3 (codes "n")) (NumberE 3 (pos 2)) ∷ []))
+        ∷ AssignS 3 (exps_of (NameE 3 (codes "n") ∷ [])) (exps_of (BinaryE 3 op.Add (NameE 3 (codes "n")) (NumberE 3 (pos 1)) ∷ []))
+        ∷ [])) (NameE 3 (codes "done"))
     ∷ ReturnS 4 (exps_of (NameE 4 (codes "n") ∷ []))
     ∷ [])))) ∷ [])) ∷ [])) ∷ [])
 
 abbrev pub RepeatLoop : Type 0
-RepeatLoop = ended (invoked (codes "X") 89 repeat_loop 6000) ≡ Gives (codes "3") 0
+RepeatLoop = without_steps (invoked (codes "X") 89 repeat_loop 6000) ≡ Gives (codes "3") 0
 
 -- A `break` in `repeat` passes the test over.
 --     return {f=function(...)
@@ -212,14 +217,14 @@ abbrev pub repeat_break : Block
 repeat_break = stats_of (ReturnS 1 (exps_of (TableE 1 (fields_of (Pair (TextE 1 (codes "f")) (FunctionE 1 (Lambda [] true (stats_of (
     LocalS 2 (codes "n" ∷ []) (exps_of (NumberE 2 (pos 0) ∷ []))
     ∷ RepeatS 3 (stats_of (
-    AssignS 3 (exps_of (NameE 3 (codes "n") ∷ [])) (exps_of (BinaryE 3 op.Add (NameE 3 (codes "n")) (NumberE 3 (pos 1)) ∷ []))
-    ∷ IfS 3 (arms_of (Arm (BinaryE 3 op.Eq (NameE 3 (codes "n")) (NumberE 3 (pos 2))) (stats_of (BreakS 3 ∷ [])) ∷ []))
-    ∷ [])) (BinaryE 3 op.Or (CallE 3 (NameE 3 (codes "error")) (exps_of (TextE 3 (codes "no") ∷ NumberE 3 (pos 0) ∷ []))) (BinaryE 3 op.Eq (NameE 3 (codes "n")) (NumberE 3 (pos 1))))
+        AssignS 3 (exps_of (NameE 3 (codes "n") ∷ [])) (exps_of (BinaryE 3 op.Add (NameE 3 (codes "n")) (NumberE 3 (pos 1)) ∷ []))
+        ∷ IfS 3 (arms_of (Arm (BinaryE 3 op.Eq (NameE 3 (codes "n")) (NumberE 3 (pos 2))) (stats_of (BreakS 3 ∷ [])) ∷ []))
+        ∷ [])) (BinaryE 3 op.Or (CallE 3 (NameE 3 (codes "error")) (exps_of (TextE 3 (codes "no") ∷ NumberE 3 (pos 0) ∷ []))) (BinaryE 3 op.Eq (NameE 3 (codes "n")) (NumberE 3 (pos 1))))
     ∷ ReturnS 4 (exps_of (NameE 4 (codes "n") ∷ []))
     ∷ [])))) ∷ [])) ∷ [])) ∷ [])
 
 abbrev pub RepeatBreak : Type 0
-RepeatBreak = ended (invoked (codes "X") 112 repeat_break 6000) ≡ Fails (codes "Lua error: no") 0
+RepeatBreak = without_steps (invoked (codes "X") 112 repeat_break 6000) ≡ Fails (codes "Lua error: no") 0
 
 -- The index counts up or down, and its copy in the body may change.
 --     return {f=function(...)
@@ -234,23 +239,23 @@ abbrev pub counting : Block
 counting = stats_of (ReturnS 1 (exps_of (TableE 1 (fields_of (Pair (TextE 1 (codes "f")) (FunctionE 1 (Lambda [] true (stats_of (
     LocalS 2 (codes "s" ∷ []) (exps_of (TextE 2 [] ∷ []))
     ∷ CountS 3 (codes "i") (NumberE 3 (pos 1)) (NumberE 3 (pos 3)) (stats_of (
-    AssignS 3 (exps_of (NameE 3 (codes "s") ∷ [])) (exps_of (BinaryE 3 op.Concat (NameE 3 (codes "s")) (NameE 3 (codes "i")) ∷ []))
-    ∷ AssignS 3 (exps_of (NameE 3 (codes "i") ∷ [])) (exps_of (NumberE 3 (pos 10) ∷ []))
-    ∷ []))
+        AssignS 3 (exps_of (NameE 3 (codes "s") ∷ [])) (exps_of (BinaryE 3 op.Concat (NameE 3 (codes "s")) (NameE 3 (codes "i")) ∷ []))
+        ∷ AssignS 3 (exps_of (NameE 3 (codes "i") ∷ [])) (exps_of (NumberE 3 (pos 10) ∷ []))
+        ∷ []))
     ∷ CountByS 4 (codes "i") (NumberE 4 (pos 3)) (NumberE 4 (pos 1)) (UnaryE 4 sign.Minus (NumberE 4 (pos 1))) (stats_of (
-    AssignS 4 (exps_of (NameE 4 (codes "s") ∷ [])) (exps_of (BinaryE 4 op.Concat (NameE 4 (codes "s")) (NameE 4 (codes "i")) ∷ []))
-    ∷ []))
+        AssignS 4 (exps_of (NameE 4 (codes "s") ∷ [])) (exps_of (BinaryE 4 op.Concat (NameE 4 (codes "s")) (NameE 4 (codes "i")) ∷ []))
+        ∷ []))
     ∷ CountS 5 (codes "i") (NumberE 5 (pos 1)) (NumberE 5 (pos 0)) (stats_of (
-    AssignS 5 (exps_of (NameE 5 (codes "s") ∷ [])) (exps_of (BinaryE 5 op.Concat (NameE 5 (codes "s")) (TextE 5 (codes "x")) ∷ []))
-    ∷ []))
+        AssignS 5 (exps_of (NameE 5 (codes "s") ∷ [])) (exps_of (BinaryE 5 op.Concat (NameE 5 (codes "s")) (TextE 5 (codes "x")) ∷ []))
+        ∷ []))
     ∷ CountS 6 (codes "i") (TextE 6 (codes "1")) (TextE 6 (codes "2")) (stats_of (
-    AssignS 6 (exps_of (NameE 6 (codes "s") ∷ [])) (exps_of (BinaryE 6 op.Concat (NameE 6 (codes "s")) (NameE 6 (codes "i")) ∷ []))
-    ∷ []))
+        AssignS 6 (exps_of (NameE 6 (codes "s") ∷ [])) (exps_of (BinaryE 6 op.Concat (NameE 6 (codes "s")) (NameE 6 (codes "i")) ∷ []))
+        ∷ []))
     ∷ ReturnS 7 (exps_of (NameE 7 (codes "s") ∷ []))
     ∷ [])))) ∷ [])) ∷ [])) ∷ [])
 
 abbrev pub Counting : Type 0
-Counting = ended (invoked (codes "X") 158 counting 6000) ≡ Gives (codes "12332112") 0
+Counting = without_steps (invoked (codes "X") 158 counting 6000) ≡ Gives (codes "12332112") 0
 
 -- Where the next index is out of range the loop ends.
 --     return {f=function(...)
@@ -262,13 +267,13 @@ abbrev pub counting_to_the_end : Block
 counting_to_the_end = stats_of (ReturnS 1 (exps_of (TableE 1 (fields_of (Pair (TextE 1 (codes "f")) (FunctionE 1 (Lambda [] true (stats_of (
     LocalS 2 (codes "n" ∷ []) (exps_of (NumberE 2 (pos 0) ∷ []))
     ∷ CountS 3 (codes "i") (NumberE 3 (pos 9223372036854775806)) (NumberE 3 (pos 9223372036854775807)) (stats_of (
-    AssignS 3 (exps_of (NameE 3 (codes "n") ∷ [])) (exps_of (BinaryE 3 op.Add (NameE 3 (codes "n")) (NumberE 3 (pos 1)) ∷ []))
-    ∷ []))
+        AssignS 3 (exps_of (NameE 3 (codes "n") ∷ [])) (exps_of (BinaryE 3 op.Add (NameE 3 (codes "n")) (NumberE 3 (pos 1)) ∷ []))
+        ∷ []))
     ∷ ReturnS 4 (exps_of (NameE 4 (codes "n") ∷ []))
     ∷ [])))) ∷ [])) ∷ [])) ∷ [])
 
 abbrev pub CountingToTheEnd : Type 0
-CountingToTheEnd = ended (invoked (codes "X") 106 counting_to_the_end 6000) ≡ Gives (codes "2") 0
+CountingToTheEnd = without_steps (invoked (codes "X") 106 counting_to_the_end 6000) ≡ Gives (codes "2") 0
 
 -- A step of 0 counts as a negative one.
 --     return {f=function(...)
@@ -281,17 +286,17 @@ abbrev pub step_of_zero : Block
 step_of_zero = stats_of (ReturnS 1 (exps_of (TableE 1 (fields_of (Pair (TextE 1 (codes "f")) (FunctionE 1 (Lambda [] true (stats_of (
     LocalS 2 (codes "n" ∷ []) (exps_of (NumberE 2 (pos 0) ∷ []))
     ∷ CountByS 3 (codes "i") (NumberE 3 (pos 1)) (NumberE 3 (pos 2)) (NumberE 3 (pos 0)) (stats_of (
-    AssignS 3 (exps_of (NameE 3 (codes "n") ∷ [])) (exps_of (BinaryE 3 op.Add (NameE 3 (codes "n")) (NumberE 3 (pos 1)) ∷ []))
-    ∷ []))
+        AssignS 3 (exps_of (NameE 3 (codes "n") ∷ [])) (exps_of (BinaryE 3 op.Add (NameE 3 (codes "n")) (NumberE 3 (pos 1)) ∷ []))
+        ∷ []))
     ∷ CountByS 4 (codes "i") (NumberE 4 (pos 2)) (NumberE 4 (pos 1)) (NumberE 4 (pos 0)) (stats_of (
-    AssignS 4 (exps_of (NameE 4 (codes "n") ∷ [])) (exps_of (BinaryE 4 op.Add (NameE 4 (codes "n")) (NumberE 4 (pos 1)) ∷ []))
-    ∷ IfS 4 (arms_of (Arm (BinaryE 4 op.Eq (NameE 4 (codes "n")) (NumberE 4 (pos 3))) (stats_of (BreakS 4 ∷ [])) ∷ []))
-    ∷ []))
+        AssignS 4 (exps_of (NameE 4 (codes "n") ∷ [])) (exps_of (BinaryE 4 op.Add (NameE 4 (codes "n")) (NumberE 4 (pos 1)) ∷ []))
+        ∷ IfS 4 (arms_of (Arm (BinaryE 4 op.Eq (NameE 4 (codes "n")) (NumberE 4 (pos 3))) (stats_of (BreakS 4 ∷ [])) ∷ []))
+        ∷ []))
     ∷ ReturnS 5 (exps_of (NameE 5 (codes "n") ∷ []))
     ∷ [])))) ∷ [])) ∷ [])) ∷ [])
 
 abbrev pub StepOfZero : Type 0
-StepOfZero = ended (invoked (codes "X") 120 step_of_zero 6000) ≡ Gives (codes "3") 0
+StepOfZero = without_steps (invoked (codes "X") 120 step_of_zero 6000) ≡ Gives (codes "3") 0
 
 -- `ipairs` stops at the first nil, and `pairs` goes through all in order.
 --     return {f=function(...)
@@ -304,20 +309,20 @@ abbrev pub generic : Block
 generic = stats_of (ReturnS 1 (exps_of (TableE 1 (fields_of (Pair (TextE 1 (codes "f")) (FunctionE 1 (Lambda [] true (stats_of (
     LocalS 2 (codes "s" ∷ []) (exps_of (TextE 2 [] ∷ []))
     ∷ EachS 3 (codes "i" ∷ codes "v" ∷ []) (exps_of (CallE 3 (NameE 3 (codes "ipairs")) (exps_of (
-    TableE 3 (fields_of (Item (TextE 3 (codes "a")) ∷ Item (TextE 3 (codes "b")) ∷ Item (NilE 3) ∷ Item (TextE 3 (codes "d")) ∷ []))
-    ∷ [])) ∷ [])) (stats_of (
-    AssignS 3 (exps_of (NameE 3 (codes "s") ∷ [])) (exps_of (BinaryE 3 op.Concat (NameE 3 (codes "s")) (BinaryE 3 op.Concat (NameE 3 (codes "i")) (NameE 3 (codes "v"))) ∷ []))
-    ∷ []))
+        TableE 3 (fields_of (Item (TextE 3 (codes "a")) ∷ Item (TextE 3 (codes "b")) ∷ Item (NilE 3) ∷ Item (TextE 3 (codes "d")) ∷ []))
+        ∷ [])) ∷ [])) (stats_of (
+        AssignS 3 (exps_of (NameE 3 (codes "s") ∷ [])) (exps_of (BinaryE 3 op.Concat (NameE 3 (codes "s")) (BinaryE 3 op.Concat (NameE 3 (codes "i")) (NameE 3 (codes "v"))) ∷ []))
+        ∷ []))
     ∷ EachS 4 (codes "k" ∷ codes "v" ∷ []) (exps_of (CallE 4 (NameE 4 (codes "pairs")) (exps_of (
-    TableE 4 (fields_of (Item (TextE 4 (codes "x")) ∷ Item (TextE 4 (codes "y")) ∷ Pair (TextE 4 (codes "z")) (TextE 4 (codes "w")) ∷ []))
-    ∷ [])) ∷ [])) (stats_of (
-    AssignS 4 (exps_of (NameE 4 (codes "s") ∷ [])) (exps_of (BinaryE 4 op.Concat (NameE 4 (codes "s")) (BinaryE 4 op.Concat (NameE 4 (codes "k")) (NameE 4 (codes "v"))) ∷ []))
-    ∷ []))
+        TableE 4 (fields_of (Item (TextE 4 (codes "x")) ∷ Item (TextE 4 (codes "y")) ∷ Pair (TextE 4 (codes "z")) (TextE 4 (codes "w")) ∷ []))
+        ∷ [])) ∷ [])) (stats_of (
+        AssignS 4 (exps_of (NameE 4 (codes "s") ∷ [])) (exps_of (BinaryE 4 op.Concat (NameE 4 (codes "s")) (BinaryE 4 op.Concat (NameE 4 (codes "k")) (NameE 4 (codes "v"))) ∷ []))
+        ∷ []))
     ∷ ReturnS 5 (exps_of (NameE 5 (codes "s") ∷ []))
     ∷ [])))) ∷ [])) ∷ [])) ∷ [])
 
 abbrev pub Generic : Type 0
-Generic = ended (invoked (codes "X") 153 generic 6000) ≡ Gives (codes "1a2b1x2yzw") 0
+Generic = without_steps (invoked (codes "X") 153 generic 6000) ≡ Gives (codes "1a2b1x2yzw") 0
 
 -- Any function is an iterator.
 --     return {f=function(...)
@@ -329,18 +334,18 @@ Generic = ended (invoked (codes "X") 153 generic 6000) ≡ Gives (codes "1a2b1x2
 abbrev pub own_iterator : Block
 own_iterator = stats_of (ReturnS 1 (exps_of (TableE 1 (fields_of (Pair (TextE 1 (codes "f")) (FunctionE 1 (Lambda [] true (stats_of (
     LocalFunctionS 2 (codes "to") (Lambda (codes "n" ∷ codes "i" ∷ []) false (stats_of (IfS 2 (arms_of (Arm (BinaryE 2 op.Lt (NameE 2 (codes "i")) (NameE 2 (codes "n"))) (stats_of (ReturnS 2 (exps_of (
-    BinaryE 2 op.Add (NameE 2 (codes "i")) (NumberE 2 (pos 1))
-    ∷ BinaryE 2 op.Mul (NameE 2 (codes "i")) (NameE 2 (codes "i"))
-    ∷ [])) ∷ [])) ∷ [])) ∷ [])))
+        BinaryE 2 op.Add (NameE 2 (codes "i")) (NumberE 2 (pos 1))
+        ∷ BinaryE 2 op.Mul (NameE 2 (codes "i")) (NameE 2 (codes "i"))
+        ∷ [])) ∷ [])) ∷ [])) ∷ [])))
     ∷ LocalS 3 (codes "s" ∷ []) (exps_of (TextE 3 [] ∷ []))
     ∷ EachS 4 (codes "i" ∷ codes "q" ∷ []) (exps_of (NameE 4 (codes "to") ∷ NumberE 4 (pos 3) ∷ NumberE 4 (pos 0) ∷ [])) (stats_of (
-    AssignS 4 (exps_of (NameE 4 (codes "s") ∷ [])) (exps_of (BinaryE 4 op.Concat (NameE 4 (codes "s")) (BinaryE 4 op.Concat (NameE 4 (codes "i")) (NameE 4 (codes "q"))) ∷ []))
-    ∷ []))
+        AssignS 4 (exps_of (NameE 4 (codes "s") ∷ [])) (exps_of (BinaryE 4 op.Concat (NameE 4 (codes "s")) (BinaryE 4 op.Concat (NameE 4 (codes "i")) (NameE 4 (codes "q"))) ∷ []))
+        ∷ []))
     ∷ ReturnS 5 (exps_of (NameE 5 (codes "s") ∷ []))
     ∷ [])))) ∷ [])) ∷ [])) ∷ [])
 
 abbrev pub OwnIterator : Type 0
-OwnIterator = ended (invoked (codes "X") 141 own_iterator 6000) ≡ Gives (codes "102134") 0
+OwnIterator = without_steps (invoked (codes "X") 141 own_iterator 6000) ≡ Gives (codes "102134") 0
 
 -- A cleared key keeps its place, and a walk passes it.
 --     return {f=function(...)
@@ -353,24 +358,24 @@ OwnIterator = ended (invoked (codes "X") 141 own_iterator 6000) ≡ Gives (codes
 abbrev pub cleared : Block
 cleared = stats_of (ReturnS 1 (exps_of (TableE 1 (fields_of (Pair (TextE 1 (codes "f")) (FunctionE 1 (Lambda [] true (stats_of (
     LocalS 2 (codes "t" ∷ []) (exps_of (TableE 2 (fields_of (
-    Pair (TextE 2 (codes "a")) (NumberE 2 (pos 1))
-    ∷ Pair (TextE 2 (codes "b")) (NumberE 2 (pos 2))
-    ∷ Pair (TextE 2 (codes "c")) (NumberE 2 (pos 3))
-    ∷ [])) ∷ []))
+        Pair (TextE 2 (codes "a")) (NumberE 2 (pos 1))
+        ∷ Pair (TextE 2 (codes "b")) (NumberE 2 (pos 2))
+        ∷ Pair (TextE 2 (codes "c")) (NumberE 2 (pos 3))
+        ∷ [])) ∷ []))
     ∷ AssignS 3 (exps_of (IndexE 3 (NameE 3 (codes "t")) (TextE 3 (codes "b")) ∷ [])) (exps_of (NilE 3 ∷ []))
     ∷ LocalS 4 (codes "s" ∷ []) (exps_of (TextE 4 [] ∷ []))
     ∷ EachS 5 (codes "k" ∷ codes "v" ∷ []) (exps_of (CallE 5 (NameE 5 (codes "pairs")) (exps_of (NameE 5 (codes "t") ∷ [])) ∷ [])) (stats_of (
-    AssignS 5 (exps_of (NameE 5 (codes "s") ∷ [])) (exps_of (BinaryE 5 op.Concat (NameE 5 (codes "s")) (BinaryE 5 op.Concat (NameE 5 (codes "k")) (NameE 5 (codes "v"))) ∷ []))
-    ∷ AssignS 5 (exps_of (IndexE 5 (NameE 5 (codes "t")) (NameE 5 (codes "k")) ∷ [])) (exps_of (NilE 5 ∷ []))
-    ∷ []))
+        AssignS 5 (exps_of (NameE 5 (codes "s") ∷ [])) (exps_of (BinaryE 5 op.Concat (NameE 5 (codes "s")) (BinaryE 5 op.Concat (NameE 5 (codes "k")) (NameE 5 (codes "v"))) ∷ []))
+        ∷ AssignS 5 (exps_of (IndexE 5 (NameE 5 (codes "t")) (NameE 5 (codes "k")) ∷ [])) (exps_of (NilE 5 ∷ []))
+        ∷ []))
     ∷ ReturnS 6 (exps_of (
-    NameE 6 (codes "s")
-    ∷ CallE 6 (NameE 6 (codes "tostring")) (exps_of (CallE 6 (NameE 6 (codes "next")) (exps_of (NameE 6 (codes "t") ∷ [])) ∷ []))
-    ∷ []))
+        NameE 6 (codes "s")
+        ∷ CallE 6 (NameE 6 (codes "tostring")) (exps_of (CallE 6 (NameE 6 (codes "next")) (exps_of (NameE 6 (codes "t") ∷ [])) ∷ []))
+        ∷ []))
     ∷ [])))) ∷ [])) ∷ [])) ∷ [])
 
 abbrev pub Cleared : Type 0
-Cleared = ended (invoked (codes "X") 142 cleared 6000) ≡ Gives (codes "a1c3nil") 0
+Cleared = without_steps (invoked (codes "X") 142 cleared 6000) ≡ Gives (codes "a1c3nil") 0
 
 -- Messages of loops.
 --     return {f=function(...)
@@ -380,25 +385,25 @@ Cleared = ended (invoked (codes "X") 142 cleared 6000) ≡ Gives (codes "a1c3nil
 abbrev pub loop_messages : Block
 loop_messages = stats_of (ReturnS 1 (exps_of (TableE 1 (fields_of (Pair (TextE 1 (codes "f")) (FunctionE 1 (Lambda [] true (stats_of (
     LocalFunctionS 2 (codes "e") (Lambda (codes "f" ∷ []) false (stats_of (
-    LocalS 2 (codes "ok" ∷ codes "v" ∷ []) (exps_of (CallE 2 (NameE 2 (codes "pcall")) (exps_of (NameE 2 (codes "f") ∷ [])) ∷ []))
-    ∷ ReturnS 2 (exps_of (BinaryE 2 op.Concat (NameE 2 (codes "v")) (TextE 2 (codes ";")) ∷ []))
-    ∷ [])))
+        LocalS 2 (codes "ok" ∷ codes "v" ∷ []) (exps_of (CallE 2 (NameE 2 (codes "pcall")) (exps_of (NameE 2 (codes "f") ∷ [])) ∷ []))
+        ∷ ReturnS 2 (exps_of (BinaryE 2 op.Concat (NameE 2 (codes "v")) (TextE 2 (codes ";")) ∷ []))
+        ∷ [])))
     ∷ ReturnS 3 (exps_of (
-    CallE 3 (NameE 3 (codes "e")) (exps_of (
-    FunctionE 3 (Lambda [] false (stats_of (CountS 3 (codes "i") (TableE 3 NoField) (NumberE 3 (pos 1)) NoStat ∷ [])))
-    ∷ []))
-    ∷ CallE 3 (NameE 3 (codes "e")) (exps_of (
-    FunctionE 3 (Lambda [] false (stats_of (CountS 3 (codes "i") (NumberE 3 (pos 1)) (TextE 3 (codes "x")) NoStat ∷ [])))
-    ∷ []))
-    ∷ CallE 3 (NameE 3 (codes "e")) (exps_of (
-    FunctionE 3 (Lambda [] false (stats_of (CountByS 3 (codes "i") (NumberE 3 (pos 1)) (NumberE 3 (pos 2)) (TableE 3 NoField) NoStat ∷ [])))
-    ∷ []))
-    ∷ CallE 3 (NameE 3 (codes "e")) (exps_of (FunctionE 3 (Lambda [] false (stats_of (EachS 3 (codes "x" ∷ []) (exps_of (NilE 3 ∷ [])) NoStat ∷ []))) ∷ []))
-    ∷ []))
+        CallE 3 (NameE 3 (codes "e")) (exps_of (
+            FunctionE 3 (Lambda [] false (stats_of (CountS 3 (codes "i") (TableE 3 NoField) (NumberE 3 (pos 1)) NoStat ∷ [])))
+            ∷ []))
+        ∷ CallE 3 (NameE 3 (codes "e")) (exps_of (
+            FunctionE 3 (Lambda [] false (stats_of (CountS 3 (codes "i") (NumberE 3 (pos 1)) (TextE 3 (codes "x")) NoStat ∷ [])))
+            ∷ []))
+        ∷ CallE 3 (NameE 3 (codes "e")) (exps_of (
+            FunctionE 3 (Lambda [] false (stats_of (CountByS 3 (codes "i") (NumberE 3 (pos 1)) (NumberE 3 (pos 2)) (TableE 3 NoField) NoStat ∷ [])))
+            ∷ []))
+        ∷ CallE 3 (NameE 3 (codes "e")) (exps_of (FunctionE 3 (Lambda [] false (stats_of (EachS 3 (codes "x" ∷ []) (exps_of (NilE 3 ∷ [])) NoStat ∷ []))) ∷ []))
+        ∷ []))
     ∷ [])))) ∷ [])) ∷ [])) ∷ [])
 
 abbrev pub LoopMessages : Type 0
-LoopMessages = ended (invoked (codes "X") 244 loop_messages 6000) ≡ Gives (codes "Module:X:3: 'for' initial value must be a number;Module:X:3: 'for' limit must be a number;Module:X:3: 'for' step must be a number;Module:X:3: attempt to call a nil value;") 0
+LoopMessages = without_steps (invoked (codes "X") 244 loop_messages 6000) ≡ Gives (codes "Module:X:3: 'for' initial value must be a number;Module:X:3: 'for' limit must be a number;Module:X:3: 'for' step must be a number;Module:X:3: attempt to call a nil value;") 0
 
 -- `pairs` and `ipairs` ask `__pairs` and `__ipairs`.
 --     return {f=function(...)
@@ -411,32 +416,32 @@ LoopMessages = ended (invoked (codes "X") 244 loop_messages 6000) ≡ Gives (cod
 abbrev pub walk_handlers : Block
 walk_handlers = stats_of (ReturnS 1 (exps_of (TableE 1 (fields_of (Pair (TextE 1 (codes "f")) (FunctionE 1 (Lambda [] true (stats_of (
     LocalS 2 (codes "t" ∷ []) (exps_of (CallE 2 (NameE 2 (codes "setmetatable")) (exps_of (
-    TableE 2 NoField
-    ∷ TableE 2 (fields_of (
-    Pair (TextE 2 (codes "__pairs")) (FunctionE 2 (Lambda (codes "t" ∷ []) false (stats_of (
-    ReturnS 2 (exps_of (NameE 2 (codes "next") ∷ TableE 2 (fields_of (Pair (TextE 2 (codes "k")) (TextE 2 (codes "v")) ∷ [])) ∷ []))
-    ∷ []))))
-    ∷ Pair (TextE 2 (codes "__ipairs")) (FunctionE 2 (Lambda [] false (stats_of (ReturnS 2 (exps_of (
-    FunctionE 2 (Lambda (codes "s" ∷ codes "i" ∷ []) false (stats_of (IfS 2 (arms_of (
-    Arm (BinaryE 2 op.Lt (NameE 2 (codes "i")) (NumberE 2 (pos 2))) (stats_of (ReturnS 2 (exps_of (BinaryE 2 op.Add (NameE 2 (codes "i")) (NumberE 2 (pos 1)) ∷ NameE 2 (codes "i") ∷ [])) ∷ []))
-    ∷ [])) ∷ [])))
-    ∷ NilE 2
-    ∷ NumberE 2 (pos 0)
-    ∷ [])) ∷ []))))
-    ∷ []))
-    ∷ [])) ∷ []))
+        TableE 2 NoField
+        ∷ TableE 2 (fields_of (
+            Pair (TextE 2 (codes "__pairs")) (FunctionE 2 (Lambda (codes "t" ∷ []) false (stats_of (
+                ReturnS 2 (exps_of (NameE 2 (codes "next") ∷ TableE 2 (fields_of (Pair (TextE 2 (codes "k")) (TextE 2 (codes "v")) ∷ [])) ∷ []))
+                ∷ []))))
+            ∷ Pair (TextE 2 (codes "__ipairs")) (FunctionE 2 (Lambda [] false (stats_of (ReturnS 2 (exps_of (
+                FunctionE 2 (Lambda (codes "s" ∷ codes "i" ∷ []) false (stats_of (IfS 2 (arms_of (
+                    Arm (BinaryE 2 op.Lt (NameE 2 (codes "i")) (NumberE 2 (pos 2))) (stats_of (ReturnS 2 (exps_of (BinaryE 2 op.Add (NameE 2 (codes "i")) (NumberE 2 (pos 1)) ∷ NameE 2 (codes "i") ∷ [])) ∷ []))
+                    ∷ [])) ∷ [])))
+                ∷ NilE 2
+                ∷ NumberE 2 (pos 0)
+                ∷ [])) ∷ []))))
+            ∷ []))
+        ∷ [])) ∷ []))
     ∷ LocalS 3 (codes "s" ∷ []) (exps_of (TextE 3 [] ∷ []))
     ∷ EachS 4 (codes "k" ∷ codes "v" ∷ []) (exps_of (CallE 4 (NameE 4 (codes "pairs")) (exps_of (NameE 4 (codes "t") ∷ [])) ∷ [])) (stats_of (
-    AssignS 4 (exps_of (NameE 4 (codes "s") ∷ [])) (exps_of (BinaryE 4 op.Concat (NameE 4 (codes "s")) (BinaryE 4 op.Concat (NameE 4 (codes "k")) (NameE 4 (codes "v"))) ∷ []))
-    ∷ []))
+        AssignS 4 (exps_of (NameE 4 (codes "s") ∷ [])) (exps_of (BinaryE 4 op.Concat (NameE 4 (codes "s")) (BinaryE 4 op.Concat (NameE 4 (codes "k")) (NameE 4 (codes "v"))) ∷ []))
+        ∷ []))
     ∷ EachS 5 (codes "i" ∷ codes "v" ∷ []) (exps_of (CallE 5 (NameE 5 (codes "ipairs")) (exps_of (NameE 5 (codes "t") ∷ [])) ∷ [])) (stats_of (
-    AssignS 5 (exps_of (NameE 5 (codes "s") ∷ [])) (exps_of (BinaryE 5 op.Concat (NameE 5 (codes "s")) (BinaryE 5 op.Concat (NameE 5 (codes "i")) (NameE 5 (codes "v"))) ∷ []))
-    ∷ []))
+        AssignS 5 (exps_of (NameE 5 (codes "s") ∷ [])) (exps_of (BinaryE 5 op.Concat (NameE 5 (codes "s")) (BinaryE 5 op.Concat (NameE 5 (codes "i")) (NameE 5 (codes "v"))) ∷ []))
+        ∷ []))
     ∷ ReturnS 6 (exps_of (NameE 6 (codes "s") ∷ []))
     ∷ [])))) ∷ [])) ∷ [])) ∷ [])
 
 abbrev pub WalkHandlers : Type 0
-WalkHandlers = ended (invoked (codes "X") 278 walk_handlers 6000) ≡ Gives (codes "kv1021") 0
+WalkHandlers = without_steps (invoked (codes "X") 278 walk_handlers 6000) ≡ Gives (codes "kv1021") 0
 
 -- After the last number `ipairs` gives nil.
 --     return {f=function(...)
@@ -447,12 +452,12 @@ abbrev pub last_place : Block
 last_place = stats_of (ReturnS 1 (exps_of (TableE 1 (fields_of (Pair (TextE 1 (codes "f")) (FunctionE 1 (Lambda [] true (stats_of (
     LocalS 2 (codes "step" ∷ []) (exps_of (CallE 2 (NameE 2 (codes "ipairs")) (exps_of (TableE 2 NoField ∷ [])) ∷ []))
     ∷ ReturnS 3 (exps_of (
-    CallE 3 (NameE 3 (codes "tostring")) (exps_of (CallE 3 (NameE 3 (codes "step")) (exps_of (TableE 3 NoField ∷ NumberE 3 (pos 9223372036854775807) ∷ [])) ∷ []))
-    ∷ []))
+        CallE 3 (NameE 3 (codes "tostring")) (exps_of (CallE 3 (NameE 3 (codes "step")) (exps_of (TableE 3 NoField ∷ NumberE 3 (pos 9223372036854775807) ∷ [])) ∷ []))
+        ∷ []))
     ∷ [])))) ∷ [])) ∷ [])) ∷ [])
 
 abbrev pub LastPlace : Type 0
-LastPlace = ended (invoked (codes "X") 96 last_place 6000) ≡ Gives (codes "nil") 0
+LastPlace = without_steps (invoked (codes "X") 96 last_place 6000) ≡ Gives (codes "nil") 0
 
 -- A `return` leaves all loops.
 --     return {f=function(...)
@@ -464,7 +469,7 @@ return_from_loops = stats_of (ReturnS 1 (exps_of (TableE 1 (fields_of (Pair (Tex
     ∷ [])) ∷ [])) ∷ [])) ∷ [])))) ∷ [])) ∷ [])) ∷ [])
 
 abbrev pub ReturnFromLoops : Type 0
-ReturnFromLoops = ended (invoked (codes "X") 93 return_from_loops 6000) ≡ Gives (codes "22") 0
+ReturnFromLoops = without_steps (invoked (codes "X") 93 return_from_loops 6000) ≡ Gives (codes "22") 0
 
 -- A constructor sets its fields in order, and its last item gives all its values.
 --     return {f=function(...)
@@ -476,25 +481,25 @@ abbrev pub constructors : Block
 constructors = stats_of (ReturnS 1 (exps_of (TableE 1 (fields_of (Pair (TextE 1 (codes "f")) (FunctionE 1 (Lambda [] true (stats_of (
     LocalFunctionS 2 (codes "two") (Lambda [] false (stats_of (ReturnS 2 (exps_of (TextE 2 (codes "p") ∷ TextE 2 (codes "q") ∷ [])) ∷ [])))
     ∷ LocalS 3 (codes "t" ∷ []) (exps_of (TableE 3 (fields_of (
-    Item (CallE 3 (NameE 3 (codes "two")) NoExp)
-    ∷ Item (CallE 3 (NameE 3 (codes "two")) NoExp)
-    ∷ Pair (TextE 3 (codes "k")) (NumberE 3 (pos 1))
-    ∷ Pair (TextE 3 (codes "x")) (NumberE 3 (pos 2))
-    ∷ Item (CallE 3 (NameE 3 (codes "two")) NoExp)
-    ∷ [])) ∷ []))
+        Item (CallE 3 (NameE 3 (codes "two")) NoExp)
+        ∷ Item (CallE 3 (NameE 3 (codes "two")) NoExp)
+        ∷ Pair (TextE 3 (codes "k")) (NumberE 3 (pos 1))
+        ∷ Pair (TextE 3 (codes "x")) (NumberE 3 (pos 2))
+        ∷ Item (CallE 3 (NameE 3 (codes "two")) NoExp)
+        ∷ [])) ∷ []))
     ∷ ReturnS 4 (exps_of (
-    UnaryE 4 sign.Len (NameE 4 (codes "t"))
-    ∷ IndexE 4 (NameE 4 (codes "t")) (NumberE 4 (pos 1))
-    ∷ IndexE 4 (NameE 4 (codes "t")) (NumberE 4 (pos 2))
-    ∷ IndexE 4 (NameE 4 (codes "t")) (NumberE 4 (pos 3))
-    ∷ IndexE 4 (NameE 4 (codes "t")) (NumberE 4 (pos 4))
-    ∷ IndexE 4 (NameE 4 (codes "t")) (TextE 4 (codes "k"))
-    ∷ IndexE 4 (NameE 4 (codes "t")) (TextE 4 (codes "x"))
-    ∷ []))
+        UnaryE 4 sign.Len (NameE 4 (codes "t"))
+        ∷ IndexE 4 (NameE 4 (codes "t")) (NumberE 4 (pos 1))
+        ∷ IndexE 4 (NameE 4 (codes "t")) (NumberE 4 (pos 2))
+        ∷ IndexE 4 (NameE 4 (codes "t")) (NumberE 4 (pos 3))
+        ∷ IndexE 4 (NameE 4 (codes "t")) (NumberE 4 (pos 4))
+        ∷ IndexE 4 (NameE 4 (codes "t")) (TextE 4 (codes "k"))
+        ∷ IndexE 4 (NameE 4 (codes "t")) (TextE 4 (codes "x"))
+        ∷ []))
     ∷ [])))) ∷ [])) ∷ [])) ∷ [])
 
 abbrev pub Constructors : Type 0
-Constructors = ended (invoked (codes "X") 146 constructors 6000) ≡ Gives (codes "4pppq12") 0
+Constructors = without_steps (invoked (codes "X") 146 constructors 6000) ≡ Gives (codes "4pppq12") 0
 
 -- A method gets its object first.
 --     return {f=function(...)
@@ -507,17 +512,17 @@ abbrev pub methods : Block
 methods = stats_of (ReturnS 1 (exps_of (TableE 1 (fields_of (Pair (TextE 1 (codes "f")) (FunctionE 1 (Lambda [] true (stats_of (
     LocalS 2 (codes "o" ∷ []) (exps_of (TableE 2 (fields_of (Pair (TextE 2 (codes "n")) (NumberE 2 (pos 3)) ∷ [])) ∷ []))
     ∷ AssignS 3 (exps_of (IndexE 3 (NameE 3 (codes "o")) (TextE 3 (codes "add")) ∷ [])) (exps_of (FunctionE 3 (Lambda (codes "self" ∷ codes "k" ∷ []) false (stats_of (
-    AssignS 3 (exps_of (IndexE 3 (NameE 3 (codes "self")) (TextE 3 (codes "n")) ∷ [])) (exps_of (BinaryE 3 op.Add (IndexE 3 (NameE 3 (codes "self")) (TextE 3 (codes "n"))) (NameE 3 (codes "k")) ∷ []))
-    ∷ ReturnS 3 (exps_of (NameE 3 (codes "self") ∷ []))
-    ∷ []))) ∷ []))
+        AssignS 3 (exps_of (IndexE 3 (NameE 3 (codes "self")) (TextE 3 (codes "n")) ∷ [])) (exps_of (BinaryE 3 op.Add (IndexE 3 (NameE 3 (codes "self")) (TextE 3 (codes "n"))) (NameE 3 (codes "k")) ∷ []))
+        ∷ ReturnS 3 (exps_of (NameE 3 (codes "self") ∷ []))
+        ∷ []))) ∷ []))
     ∷ AssignS 4 (exps_of (IndexE 4 (NameE 4 (codes "o")) (TextE 4 (codes "get")) ∷ [])) (exps_of (
-    FunctionE 4 (Lambda (codes "x" ∷ []) false (stats_of (ReturnS 4 (exps_of (IndexE 4 (NameE 4 (codes "x")) (TextE 4 (codes "n")) ∷ [])) ∷ [])))
-    ∷ []))
+        FunctionE 4 (Lambda (codes "x" ∷ []) false (stats_of (ReturnS 4 (exps_of (IndexE 4 (NameE 4 (codes "x")) (TextE 4 (codes "n")) ∷ [])) ∷ [])))
+        ∷ []))
     ∷ ReturnS 5 (exps_of (MethodE 5 (MethodE 5 (NameE 5 (codes "o")) (codes "add") (exps_of (NumberE 5 (pos 4) ∷ []))) (codes "get") NoExp ∷ []))
     ∷ [])))) ∷ [])) ∷ [])) ∷ [])
 
 abbrev pub Methods : Type 0
-Methods = ended (invoked (codes "X") 147 methods 6000) ≡ Gives (codes "7") 0
+Methods = without_steps (invoked (codes "X") 147 methods 6000) ≡ Gives (codes "7") 0
 
 -- ALL OF THEM
 abbrev pub AllStatements : Type 0

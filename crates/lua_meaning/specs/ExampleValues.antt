@@ -2,11 +2,16 @@
 use Rattle.std.specs.Prelude.{◌≡◌, pos, true, false, [], ◌∷◌, codes}
 use Rattle.lua_syntax.specs.declared.BinaryOp.TheVariants as op
 use Rattle.lua_syntax.specs.declared.UnaryOp.TheVariants as sign
-use Rattle.lua_syntax.specs.Tree.{NilE, TrueE, FalseE, NumberE, TextE, DotsE, FunctionE, NameE, CallE, TableE, BinaryE, UnaryE, ParenE}
-use Rattle.lua_syntax.specs.Tree.{NoExp, NoField, Item, Pair, Lambda, Block, NoStat}
-use Rattle.lua_syntax.specs.Tree.{LocalFunctionS, LocalS, ReturnS}
-use Rattle.lua_syntax.specs.View.{exps_of, fields_of, stats_of}
-use Rattle.lua_meaning.specs.Trial.{Gives, ended, invoked}
+use Rattle.lua_syntax.specs.Tree.{NilE, TrueE, FalseE, NumberE, TextE, DotsE, FunctionE, NameE, IndexE, CallE, MethodE, TableE, BinaryE, UnaryE, ParenE}
+use Rattle.lua_syntax.specs.Tree.{NoExp, NoField, Item, Pair, Lambda, Block, NoStat, Arm}
+use Rattle.lua_syntax.specs.Tree.{AssignS, CallS, DoS, WhileS, RepeatS, IfS, IfElseS, CountS, CountByS, EachS, LocalFunctionS, LocalS, ReturnS, BreakS}
+use Rattle.lua_syntax.specs.View.{exps_of, fields_of, arms_of, stats_of}
+use Rattle.page_run.specs.declared.which.Which.TheVariants.{Steps, Calls}
+use Rattle.wk_base.specs.declared.title.Namespace.TheVariants.{Main}
+use Rattle.mw_frame.specs.declared.question.Ask.TheVariants.{Template, Preprocess, Data}
+use Rattle.lua_heap.specs.Value.{Nil, Truth, Number, Text, Table}
+use Rattle.lua_meaning.specs.Questions.{Expanded, NoPage, Loaded, LoadFailed}
+use Rattle.lua_meaning.specs.Trial.{Gives, Fails, Spends, Loads, Asks, without_steps, arg, invoked, invoked_with, invoked_on, loaded, faulted, counted, held, template_title, module_title, own_scene, scene_in_template, reply, spent, asked}
 
 -- Constants, and their texts.
 --     return {f=function(...)
@@ -18,7 +23,7 @@ constants = stats_of (ReturnS 1 (exps_of (TableE 1 (fields_of (Pair (TextE 1 (co
     ∷ [])))) ∷ [])) ∷ [])) ∷ [])
 
 abbrev pub Constants : Type 0
-Constants = ended (invoked (codes "X") 69 constants 6000) ≡ Gives (codes "niltruefalse12a b31") 0
+Constants = without_steps (invoked (codes "X") 69 constants 6000) ≡ Gives (codes "niltruefalse12a b31") 0
 
 -- Lists are adjusted: a call gives all its values only as the last of a list.
 --     return {f=function(...)
@@ -34,7 +39,7 @@ adjusted = stats_of (ReturnS 1 (exps_of (TableE 1 (fields_of (Pair (TextE 1 (cod
     ∷ [])))) ∷ [])) ∷ [])) ∷ [])
 
 abbrev pub Adjusted : Type 0
-Adjusted = ended (invoked (codes "X") 107 adjusted 6000) ≡ Gives (codes "1123nil") 0
+Adjusted = without_steps (invoked (codes "X") 107 adjusted 6000) ≡ Gives (codes "1123nil") 0
 
 -- In parentheses there is one value.
 --     return {f=function(...)
@@ -48,7 +53,7 @@ parentheses = stats_of (ReturnS 1 (exps_of (TableE 1 (fields_of (Pair (TextE 1 (
     ∷ [])))) ∷ [])) ∷ [])) ∷ [])
 
 abbrev pub Parentheses : Type 0
-Parentheses = ended (invoked (codes "X") 79 parentheses 6000) ≡ Gives (codes "112") 0
+Parentheses = without_steps (invoked (codes "X") 79 parentheses 6000) ≡ Gives (codes "112") 0
 
 -- Of the arguments too, the last gives all.
 --     return {f=function(...)
@@ -59,16 +64,16 @@ Parentheses = ended (invoked (codes "X") 79 parentheses 6000) ≡ Gives (codes "
 abbrev pub many_arguments : Block
 many_arguments = stats_of (ReturnS 1 (exps_of (TableE 1 (fields_of (Pair (TextE 1 (codes "f")) (FunctionE 1 (Lambda [] true (stats_of (
     LocalFunctionS 2 (codes "g") (Lambda [] true (stats_of (
-    ReturnS 2 (exps_of (CallE 2 (NameE 2 (codes "select")) (exps_of (TextE 2 (codes "#") ∷ DotsE 2 ∷ [])) ∷ DotsE 2 ∷ []))
-    ∷ [])))
+        ReturnS 2 (exps_of (CallE 2 (NameE 2 (codes "select")) (exps_of (TextE 2 (codes "#") ∷ DotsE 2 ∷ [])) ∷ DotsE 2 ∷ []))
+        ∷ [])))
     ∷ LocalFunctionS 3 (codes "two") (Lambda [] false (stats_of (ReturnS 3 (exps_of (NumberE 3 (pos 7) ∷ NumberE 3 (pos 8) ∷ [])) ∷ [])))
     ∷ ReturnS 4 (exps_of (
-    CallE 4 (NameE 4 (codes "g")) (exps_of (CallE 4 (NameE 4 (codes "two")) NoExp ∷ CallE 4 (NameE 4 (codes "two")) NoExp ∷ []))
-    ∷ []))
+        CallE 4 (NameE 4 (codes "g")) (exps_of (CallE 4 (NameE 4 (codes "two")) NoExp ∷ CallE 4 (NameE 4 (codes "two")) NoExp ∷ []))
+        ∷ []))
     ∷ [])))) ∷ [])) ∷ [])) ∷ [])
 
 abbrev pub ManyArguments : Type 0
-ManyArguments = ended (invoked (codes "X") 139 many_arguments 6000) ≡ Gives (codes "3778") 0
+ManyArguments = without_steps (invoked (codes "X") 139 many_arguments 6000) ≡ Gives (codes "3778") 0
 
 -- `...` gives all its values as the last of a list.
 --     return {f=function(...)
@@ -82,7 +87,7 @@ varargs = stats_of (ReturnS 1 (exps_of (TableE 1 (fields_of (Pair (TextE 1 (code
     ∷ [])))) ∷ [])) ∷ [])) ∷ [])
 
 abbrev pub Varargs : Type 0
-Varargs = ended (invoked (codes "X") 91 varargs 6000) ≡ Gives (codes "1223") 0
+Varargs = without_steps (invoked (codes "X") 91 varargs 6000) ≡ Gives (codes "1223") 0
 
 -- A function without `return` gives none.
 --     return {f=function(...)
@@ -93,13 +98,13 @@ abbrev pub no_values : Block
 no_values = stats_of (ReturnS 1 (exps_of (TableE 1 (fields_of (Pair (TextE 1 (codes "f")) (FunctionE 1 (Lambda [] true (stats_of (
     LocalFunctionS 2 (codes "g") (Lambda [] false NoStat)
     ∷ ReturnS 3 (exps_of (
-    CallE 3 (NameE 3 (codes "select")) (exps_of (TextE 3 (codes "#") ∷ CallE 3 (NameE 3 (codes "g")) NoExp ∷ []))
-    ∷ CallE 3 (NameE 3 (codes "g")) NoExp
-    ∷ []))
+        CallE 3 (NameE 3 (codes "select")) (exps_of (TextE 3 (codes "#") ∷ CallE 3 (NameE 3 (codes "g")) NoExp ∷ []))
+        ∷ CallE 3 (NameE 3 (codes "g")) NoExp
+        ∷ []))
     ∷ [])))) ∷ [])) ∷ [])) ∷ [])
 
 abbrev pub NoValues : Type 0
-NoValues = ended (invoked (codes "X") 78 no_values 6000) ≡ Gives (codes "0") 0
+NoValues = without_steps (invoked (codes "X") 78 no_values 6000) ≡ Gives (codes "0") 0
 
 -- `and` and `or` give an operand.
 --     return {f=function(...)
@@ -115,7 +120,7 @@ and_or = stats_of (ReturnS 1 (exps_of (TableE 1 (fields_of (Pair (TextE 1 (codes
     ∷ [])) ∷ [])))) ∷ [])) ∷ [])) ∷ [])
 
 abbrev pub AndOr : Type 0
-AndOr = ended (invoked (codes "X") 127 and_or 6000) ≡ Gives (codes "nilnil23y") 0
+AndOr = without_steps (invoked (codes "X") 127 and_or 6000) ≡ Gives (codes "nilnil23y") 0
 
 -- Operators bind as the manual says.
 --     return {f=function(...)
@@ -134,7 +139,7 @@ precedence = stats_of (ReturnS 1 (exps_of (TableE 1 (fields_of (Pair (TextE 1 (c
     ∷ [])) ∷ [])))) ∷ [])) ∷ [])) ∷ [])
 
 abbrev pub Precedence : Type 0
-Precedence = ended (invoked (codes "X") 100 precedence 6000) ≡ Gives (codes "512-432false1232a3") 0
+Precedence = without_steps (invoked (codes "X") 100 precedence 6000) ≡ Gives (codes "512-432false1232a3") 0
 
 -- `%` has the sign of its second operand.
 --     return {f=function(...)
@@ -151,7 +156,7 @@ remainders = stats_of (ReturnS 1 (exps_of (TableE 1 (fields_of (Pair (TextE 1 (c
     ∷ [])) ∷ [])))) ∷ [])) ∷ [])) ∷ [])
 
 abbrev pub Remainders : Type 0
-Remainders = ended (invoked (codes "X") 69 remainders 6000) ≡ Gives (codes "12-2-12-2") 0
+Remainders = without_steps (invoked (codes "X") 69 remainders 6000) ≡ Gives (codes "12-2-12-2") 0
 
 -- A text that reads as a number is one in arithmetic.
 --     return {f=function(...)
@@ -167,7 +172,7 @@ texts_in_arithmetic = stats_of (ReturnS 1 (exps_of (TableE 1 (fields_of (Pair (T
     ∷ [])) ∷ [])))) ∷ [])) ∷ [])) ∷ [])
 
 abbrev pub TextsInArithmetic : Type 0
-TextsInArithmetic = ended (invoked (codes "X") 79 texts_in_arithmetic 6000) ≡ Gives (codes "1532-381020") 0
+TextsInArithmetic = without_steps (invoked (codes "X") 79 texts_in_arithmetic 6000) ≡ Gives (codes "1532-381020") 0
 
 -- Numbers are in order, and texts byte by byte.
 --     return {f=function(...)
@@ -187,7 +192,7 @@ order = stats_of (ReturnS 1 (exps_of (TableE 1 (fields_of (Pair (TextE 1 (codes 
     ∷ [])) ∷ [])))) ∷ [])) ∷ [])) ∷ [])
 
 abbrev pub Order : Type 0
-Order = ended (invoked (codes "X") 196 order 6000) ≡ Gives (codes "truetruetruetruefalsetruefalsetruetrue") 0
+Order = without_steps (invoked (codes "X") 196 order 6000) ≡ Gives (codes "truetruetruetruefalsetruefalsetruetrue") 0
 
 -- Equality converts nothing.
 --     return {f=function(...)
@@ -198,17 +203,17 @@ abbrev pub equality : Block
 equality = stats_of (ReturnS 1 (exps_of (TableE 1 (fields_of (Pair (TextE 1 (codes "f")) (FunctionE 1 (Lambda [] true (stats_of (
     LocalS 2 (codes "t" ∷ []) (exps_of (TableE 2 NoField ∷ []))
     ∷ ReturnS 3 (exps_of (
-    CallE 3 (NameE 3 (codes "tostring")) (exps_of (BinaryE 3 op.Eq (NumberE 3 (pos 1)) (TextE 3 (codes "1")) ∷ []))
-    ∷ CallE 3 (NameE 3 (codes "tostring")) (exps_of (BinaryE 3 op.Eq (TextE 3 (codes "a")) (TextE 3 (codes "a")) ∷ []))
-    ∷ CallE 3 (NameE 3 (codes "tostring")) (exps_of (BinaryE 3 op.Eq (NameE 3 (codes "t")) (TableE 3 NoField) ∷ []))
-    ∷ CallE 3 (NameE 3 (codes "tostring")) (exps_of (BinaryE 3 op.Eq (NameE 3 (codes "t")) (NameE 3 (codes "t")) ∷ []))
-    ∷ CallE 3 (NameE 3 (codes "tostring")) (exps_of (BinaryE 3 op.Ne (NilE 3) (FalseE 3) ∷ []))
-    ∷ CallE 3 (NameE 3 (codes "tostring")) (exps_of (BinaryE 3 op.Eq (NumberE 3 (pos 0)) (UnaryE 3 sign.Minus (NumberE 3 (pos 0))) ∷ []))
-    ∷ []))
+        CallE 3 (NameE 3 (codes "tostring")) (exps_of (BinaryE 3 op.Eq (NumberE 3 (pos 1)) (TextE 3 (codes "1")) ∷ []))
+        ∷ CallE 3 (NameE 3 (codes "tostring")) (exps_of (BinaryE 3 op.Eq (TextE 3 (codes "a")) (TextE 3 (codes "a")) ∷ []))
+        ∷ CallE 3 (NameE 3 (codes "tostring")) (exps_of (BinaryE 3 op.Eq (NameE 3 (codes "t")) (TableE 3 NoField) ∷ []))
+        ∷ CallE 3 (NameE 3 (codes "tostring")) (exps_of (BinaryE 3 op.Eq (NameE 3 (codes "t")) (NameE 3 (codes "t")) ∷ []))
+        ∷ CallE 3 (NameE 3 (codes "tostring")) (exps_of (BinaryE 3 op.Ne (NilE 3) (FalseE 3) ∷ []))
+        ∷ CallE 3 (NameE 3 (codes "tostring")) (exps_of (BinaryE 3 op.Eq (NumberE 3 (pos 0)) (UnaryE 3 sign.Minus (NumberE 3 (pos 0))) ∷ []))
+        ∷ []))
     ∷ [])))) ∷ [])) ∷ [])) ∷ [])
 
 abbrev pub Equality : Type 0
-Equality = ended (invoked (codes "X") 155 equality 6000) ≡ Gives (codes "falsetruefalsetruetruetrue") 0
+Equality = without_steps (invoked (codes "X") 155 equality 6000) ≡ Gives (codes "falsetruefalsetruetruetrue") 0
 
 -- The length of a text is in bytes, that of a table its border.
 --     return {f=function(...)
@@ -224,7 +229,7 @@ lengths = stats_of (ReturnS 1 (exps_of (TableE 1 (fields_of (Pair (TextE 1 (code
     ∷ [])) ∷ [])))) ∷ [])) ∷ [])) ∷ [])
 
 abbrev pub Lengths : Type 0
-Lengths = ended (invoked (codes "X") 70 lengths 6000) ≡ Gives (codes "03030") 0
+Lengths = without_steps (invoked (codes "X") 70 lengths 6000) ≡ Gives (codes "03030") 0
 
 -- The border is the least one.
 --     return {f=function(...)
@@ -236,7 +241,7 @@ least_border = stats_of (ReturnS 1 (exps_of (TableE 1 (fields_of (Pair (TextE 1 
     ∷ [])) ∷ [])))) ∷ [])) ∷ [])) ∷ [])
 
 abbrev pub LeastBorder : Type 0
-LeastBorder = ended (invoked (codes "X") 48 least_border 6000) ≡ Gives (codes "2") 0
+LeastBorder = without_steps (invoked (codes "X") 48 least_border 6000) ≡ Gives (codes "2") 0
 
 -- Kinds of values.
 --     return {f=function(...)
@@ -254,7 +259,7 @@ types = stats_of (ReturnS 1 (exps_of (TableE 1 (fields_of (Pair (TextE 1 (codes 
     ∷ [])) ∷ [])))) ∷ [])) ∷ [])) ∷ [])
 
 abbrev pub Types : Type 0
-Types = ended (invoked (codes "X") 115 types 6000) ≡ Gives (codes "nilnumberstringtablefunctionfunctionboolean") 0
+Types = without_steps (invoked (codes "X") 115 types 6000) ≡ Gives (codes "nilnumberstringtablefunctionfunctionboolean") 0
 
 -- `tonumber`.
 --     return {f=function(...)
@@ -273,7 +278,7 @@ to_numbers = stats_of (ReturnS 1 (exps_of (TableE 1 (fields_of (Pair (TextE 1 (c
     ∷ [])) ∷ [])))) ∷ [])) ∷ [])) ∷ [])
 
 abbrev pub ToNumbers : Type 0
-ToNumbers = ended (invoked (codes "X") 188 to_numbers 6000) ≡ Gives (codes "nil12-7255335nil9") 0
+ToNumbers = without_steps (invoked (codes "X") 188 to_numbers 6000) ≡ Gives (codes "nil12-7255335nil9") 0
 
 -- `select` counts from the front, or from the end.
 --     return {f=function(...)
@@ -287,7 +292,7 @@ selecting = stats_of (ReturnS 1 (exps_of (TableE 1 (fields_of (Pair (TextE 1 (co
     ∷ [])) ∷ [])))) ∷ [])) ∷ [])) ∷ [])
 
 abbrev pub Selecting : Type 0
-Selecting = ended (invoked (codes "X") 98 selecting 6000) ≡ Gives (codes "by2") 0
+Selecting = without_steps (invoked (codes "X") 98 selecting 6000) ≡ Gives (codes "by2") 0
 
 -- `unpack` reads the entries of a list.
 --     return {f=function(...)
@@ -296,21 +301,21 @@ Selecting = ended (invoked (codes "X") 98 selecting 6000) ≡ Gives (codes "by2"
 abbrev pub unpacking : Block
 unpacking = stats_of (ReturnS 1 (exps_of (TableE 1 (fields_of (Pair (TextE 1 (codes "f")) (FunctionE 1 (Lambda [] true (stats_of (ReturnS 2 (exps_of (
     CallE 2 (NameE 2 (codes "select")) (exps_of (
-    TextE 2 (codes "#")
+        TextE 2 (codes "#")
+        ∷ CallE 2 (NameE 2 (codes "unpack")) (exps_of (
+            TableE 2 (fields_of (Item (NumberE 2 (pos 1)) ∷ Item (NumberE 2 (pos 2)) ∷ Item (NilE 2) ∷ []))
+            ∷ NumberE 2 (pos 1)
+            ∷ NumberE 2 (pos 3)
+            ∷ []))
+        ∷ []))
     ∷ CallE 2 (NameE 2 (codes "unpack")) (exps_of (
-    TableE 2 (fields_of (Item (NumberE 2 (pos 1)) ∷ Item (NumberE 2 (pos 2)) ∷ Item (NilE 2) ∷ []))
-    ∷ NumberE 2 (pos 1)
-    ∷ NumberE 2 (pos 3)
-    ∷ []))
-    ∷ []))
-    ∷ CallE 2 (NameE 2 (codes "unpack")) (exps_of (
-    TableE 2 (fields_of (Item (NumberE 2 (pos 4)) ∷ Item (NumberE 2 (pos 5)) ∷ Item (NumberE 2 (pos 6)) ∷ []))
-    ∷ NumberE 2 (pos 2)
-    ∷ []))
+        TableE 2 (fields_of (Item (NumberE 2 (pos 4)) ∷ Item (NumberE 2 (pos 5)) ∷ Item (NumberE 2 (pos 6)) ∷ []))
+        ∷ NumberE 2 (pos 2)
+        ∷ []))
     ∷ [])) ∷ [])))) ∷ [])) ∷ [])) ∷ [])
 
 abbrev pub Unpacking : Type 0
-Unpacking = ended (invoked (codes "X") 88 unpacking 6000) ≡ Gives (codes "356") 0
+Unpacking = without_steps (invoked (codes "X") 88 unpacking 6000) ≡ Gives (codes "356") 0
 
 -- `assert` gives its arguments, or raises its message.
 --     return {f=function(...)
@@ -323,14 +328,14 @@ assertions = stats_of (ReturnS 1 (exps_of (TableE 1 (fields_of (Pair (TextE 1 (c
     LocalS 2 (codes "ok" ∷ codes "e" ∷ []) (exps_of (CallE 2 (NameE 2 (codes "pcall")) (exps_of (NameE 2 (codes "assert") ∷ FalseE 2 ∷ TextE 2 (codes "no") ∷ [])) ∷ []))
     ∷ LocalS 3 (codes "ok2" ∷ codes "e2" ∷ []) (exps_of (CallE 3 (NameE 3 (codes "pcall")) (exps_of (NameE 3 (codes "assert") ∷ NilE 3 ∷ [])) ∷ []))
     ∷ ReturnS 4 (exps_of (
-    CallE 4 (NameE 4 (codes "assert")) (exps_of (NumberE 4 (pos 1) ∷ NumberE 4 (pos 2) ∷ []))
-    ∷ NameE 4 (codes "e")
-    ∷ NameE 4 (codes "e2")
-    ∷ []))
+        CallE 4 (NameE 4 (codes "assert")) (exps_of (NumberE 4 (pos 1) ∷ NumberE 4 (pos 2) ∷ []))
+        ∷ NameE 4 (codes "e")
+        ∷ NameE 4 (codes "e2")
+        ∷ []))
     ∷ [])))) ∷ [])) ∷ [])) ∷ [])
 
 abbrev pub Assertions : Type 0
-Assertions = ended (invoked (codes "X") 125 assertions 6000) ≡ Gives (codes "1noassertion failed!") 0
+Assertions = without_steps (invoked (codes "X") 125 assertions 6000) ≡ Gives (codes "1noassertion failed!") 0
 
 -- ALL OF THEM
 abbrev pub AllValues : Type 0

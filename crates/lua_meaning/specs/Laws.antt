@@ -9,44 +9,47 @@ use Rattle.page_run.specs.Perform.{perform, NoRise}
 use Rattle.page_run.specs.Events.{BeginsIs}
 use Rattle.page_run.specs.Charges.{KeepsCalls, RepliesFit, GivenBack}
 use Rattle.lua_heap.specs.Value.{Value, Table}
-use Rattle.lua_meaning.specs.Environment.{Env, Levels, cell_of, levels}
-use Rattle.lua_meaning.specs.Questions.{Ask, Answer}
+use Rattle.lua_meaning.specs.Scope.{Scope, Levels, cell_of, levels}
+use Rattle.mw_frame.specs.declared.question.Ask.{Ask}
+use Rattle.lua_meaning.specs.Questions.{Answer}
 use Rattle.lua_meaning.specs.Values.{first, rest, second}
 use Rattle.lua_meaning.specs.Acts.{LuaRun, Jump, State, Thing, WhileTurn, RepeatTurn, CountTurn, EachTurn, Body, LibraryBody, ChunkBody}
-use Rattle.lua_meaning.specs.Tree.{Target}
+use Rattle.lua_meaning.specs.Parts.{Target}
 use Rattle.lua_meaning.specs.Expressions.{name_target}
 use Rattle.lua_meaning.specs.Meaning.{expression, target, statement}
-use Rattle.lua_meaning.specs.Protocol.{calling, pcall, xpcall, PcallWaits, XpcallWaits, resumes}
-use Rattle.lua_meaning.specs.Meant.{meant}
+use Rattle.lua_meaning.specs.Waiting.{calling}
+use Rattle.lua_meaning.specs.CallBacks.{pcall, xpcall}
+use Rattle.lua_meaning.specs.Pending.{PcallWaits, XpcallWaits, resumes}
+use Rattle.lua_meaning.specs.Things.{meaning_of}
 use Rattle.lua_meaning.specs.Home.{home}
 use Rattle.lua_meaning.specs.World.{World}
-use Rattle.lua_meaning.specs.Start.{Work, End, DoneData, whole, ended, end_of}
+use Rattle.lua_meaning.specs.Start.{Work, End, DoneData, run_of, outcome_of, end_of}
 
 -- A THING that begins takes a step and does what it means, or the run is spent; no bound on the number of things is seen.
 abbrev pub ThingsUnfold : Type 0
-ThingsUnfold = (world : World) (beyond : Replier Ask Answer) → NoRise beyond → BeginsIs (meant world) beyond
+ThingsUnfold = (world : World) (beyond : Replier Ask Answer) → NoRise beyond → BeginsIs (meaning_of world) beyond
 
 -- A NODE that begins takes a step, and is counted.
 abbrev pub IsNode : LuaRun → Type 0
 IsNode p = (more : LuaRun) × (p ≡ Takes 1 (Counts more))
 
 abbrev pub ExpressionsAreNodes : Type 0
-ExpressionsAreNodes = (e : Exp) (env : Env) (k : Outcome (List Value) Jump → LuaRun) → IsNode (expression e env k)
+ExpressionsAreNodes = (e : Exp) (scope : Scope) (k : Outcome (List Value) Jump → LuaRun) → IsNode (expression e scope k)
 
 abbrev pub StatementsAreNodes : Type 0
-StatementsAreNodes = (s : Stat) (env : Env) (k : Outcome Env Jump → LuaRun) → IsNode (statement s env k)
+StatementsAreNodes = (s : Stat) (scope : Scope) (k : Outcome Scope Jump → LuaRun) → IsNode (statement s scope k)
 
 -- A name as a target is none: it costs nothing.
 abbrev pub TargetNamesAreNone : Type 0
-TargetNamesAreNone = (line : ℕ) (x : List ℕ) (env : Env) (k : Outcome Target Jump → LuaRun) →
-    target (NameE line x) env k ≡ k (Goes (name_target (cell_of env.names x) x (levels env line)))
+TargetNamesAreNone = (line : ℕ) (x : List ℕ) (scope : Scope) (k : Outcome Target Jump → LuaRun) →
+    target (NameE line x) scope k ≡ k (Goes (name_target (cell_of scope.names x) x (levels scope line)))
 
 -- A TURN of a loop is counted when it begins, and a function is counted once it is entered.
 abbrev pub IsTurn : Thing → Type 0
-IsTurn (WhileTurn test body env) = Unit {0}
-IsTurn (RepeatTurn body test env) = Unit {0}
-IsTurn (CountTurn name index limit step body env) = Unit {0}
-IsTurn (EachTurn names iterator state results body line env) = Unit {0}
+IsTurn (WhileTurn test body scope) = Unit {0}
+IsTurn (RepeatTurn body test scope) = Unit {0}
+IsTurn (CountTurn name index limit step body scope) = Unit {0}
+IsTurn (EachTurn names iterator state results body line scope) = Unit {0}
 IsTurn _ = ⊥
 
 abbrev pub IsEntry : Thing → Type 0
@@ -56,22 +59,22 @@ IsEntry (ChunkBody source body) = Unit {0}
 IsEntry _ = ⊥
 
 abbrev pub TurnsAreCounted : Type 0
-TurnsAreCounted = (world : World) (t : Thing) → IsTurn t → (k : Outcome (List Value) Jump → LuaRun) → (more : LuaRun) × (meant world t k ≡ Counts more)
+TurnsAreCounted = (world : World) (t : Thing) → IsTurn t → (k : Outcome (List Value) Jump → LuaRun) → (more : LuaRun) × (meaning_of world t k ≡ Counts more)
 
 abbrev pub EntriesAreCounted : Type 0
-EntriesAreCounted = (world : World) (t : Thing) → IsEntry t → (k : Outcome (List Value) Jump → LuaRun) → (more : LuaRun) × (meant world t k ≡ Calls (Counts more))
+EntriesAreCounted = (world : World) (t : Thing) → IsEntry t → (k : Outcome (List Value) Jump → LuaRun) → (more : LuaRun) × (meaning_of world t k ≡ Calls (Counts more))
 
 -- CALLS in progress are given back at each end of a run; at a question what is left and what is in progress are together what there was.
 abbrev pub CallsAreGivenBack : Type 0
 CallsAreGivenBack = (world : World) (work : Work) (beyond : Replier Ask Answer) → KeepsCalls beyond → (left : Left) →
-    GivenBack left.calls (perform (meant world) beyond (whole world work) (start home left []))
+    GivenBack left.calls (perform (meaning_of world) beyond (run_of world work) (start home left []))
 
 -- MORE steps and calls change neither the end of a run nor its charge, where the replies fit what is left.
 abbrev pub MoreChangesNothing : Type 0
 MoreChangesNothing = (world : World) (work : Work) (beyond : Replier Ask Answer) → NoRise beyond → RepliesFit beyond beyond →
     (left : Left) (o : Outcome (List Value) Jump) (end : Moment State) →
-    perform (meant world) beyond (whole world work) (start home left []) ≡ Ended o end → (a b : ℕ) →
-    perform (meant world) beyond (whole world work) (start home record left { steps = left.steps + a; calls = left.calls + b } [])
+    perform (meaning_of world) beyond (run_of world work) (start home left []) ≡ Ended o end → (a b : ℕ) →
+    perform (meaning_of world) beyond (run_of world work) (start home record left { steps = left.steps + a; calls = left.calls + b } [])
     ≡ Ended o (record { heap = end.heap; left = record left { steps = end.left.steps + a; calls = left.calls + b }; in_progress = 0; tally = end.tally })
 
 -- THE END of a run is told by its outcome: a data module gives a table.
@@ -81,7 +84,7 @@ IsEnd (DoneData v) = ⊥
 IsEnd e = Unit {0}
 
 abbrev pub EndsAreTold : Type 0
-EndsAreTold = (e : End) → IsEnd e → end_of (ended e) ≡ e
+EndsAreTold = (e : End) → IsEnd e → end_of (outcome_of e) ≡ e
 
 -- WHAT WAITS for the outcome of a call is what the table of the protocol says.
 abbrev pub WaitsAreNamed : Type 0

@@ -1,4 +1,5 @@
-pub mod Environment
+pub mod Scope
+pub mod Titled
 pub mod World
 pub mod Questions
 pub mod Values
@@ -8,7 +9,7 @@ pub mod Metatables
 pub mod Calls
 pub mod Index
 pub mod Operators
-pub mod Tree
+pub mod Parts
 pub mod Expressions
 pub mod Constructors
 pub mod Statements
@@ -16,11 +17,17 @@ pub mod Loops
 pub mod Meaning
 pub mod Arguments
 pub mod Basic
-pub mod Protocol
 pub mod Frames
+pub mod Tag
+pub mod FrameMethods
+pub mod Mw
+pub mod Waiting
+pub mod CallBacks
+pub mod Modules
+pub mod Pending
 pub mod Libraries
 pub mod Home
-pub mod Meant
+pub mod Things
 pub mod Start
 pub mod Laws
 pub mod Trial
@@ -29,3 +36,6 @@ pub mod ExampleCosts
 pub mod ExampleValues
 pub mod ExampleStatements
 pub mod ExampleFunctions
+pub mod ExampleHandlers
+pub mod ExampleFrames
+pub mod ExampleModules

@@ -1,47 +1,175 @@
--- THE LIBRARY (manual 5): what each function does with its arguments, and with the levels of an error at its entry.
--- A function that is not built yet stands in no environment.
-use Rattle.std.specs.Prelude.{List, [], Option, Some, None}
-use Rattle.page_run.specs.Outcome.{◌>>=◌, give}
+-- THE LIBRARY (manual 5): a table with a line for each of its functions, and what a function does that is entered.
+use Rattle.std.specs.Prelude.{List, [], ◌∷◌, Option, Some, None}
+use Rattle.page_run.specs.Outcome.{◌>>=◌, ◌>>◌, tick, see, change}
 use Rattle.lua_heap.specs.Value.{Value}
 use Rattle.lua_heap.specs.Heap.{Heap}
 use Rattle.lua_heap.specs.declared.library.Library.{Library}
-use Rattle.lua_heap.specs.declared.library.Library.TheVariants.{BasicAssert, BasicError, BasicGetMetatable, BasicSetMetatable, BasicIpairs, BasicPairs, BasicNext, BasicPcall, BasicXpcall, BasicRawEqual, BasicRawGet, BasicRawSet, BasicSelect, BasicToNumber, BasicToString, BasicType, BasicUnpack, ArgsIndex, IpairsStep}
+use Rattle.lua_heap.specs.declared.library.Library.TheVariants.{BasicAssert, BasicError, BasicGetMetatable, BasicSetMetatable, BasicIpairs, BasicPairs, BasicNext, BasicPcall, BasicXpcall, BasicRawEqual, BasicRawGet, BasicRawSet, BasicSelect, BasicToNumber, BasicToString, BasicType, BasicUnpack, BasicRequire, StringByte, StringChar, StringFind, StringMatch, StringGmatch, StringGsub, StringFormat, StringLen, StringLower, StringUpper, StringRep, StringReverse, StringSub, TableConcat, TableInsert, TableMaxn, TableRemove, TableSort, MathAbs, MathCeil, MathFloor, MathFmod, MathMax, MathMin, MathPow, MwClone, MwLog, MwGetCurrentTitle, MwLoadData, MwGetCurrentFrame, UstringChar, UstringCodepoint, UstringGcodepoint, UstringByteOffset, UstringFind, UstringMatch, UstringGmatch, UstringGsub, UstringLen, UstringSub, UstringIsUtf8, UstringToNfc, UstringToNfd, UstringToNfkc, UstringToNfkd, TextTrim, TextSplit, TextGsplit, TextEncode, TextDecode, TextListToText, TextNowiki, TextTag, TextTruncate, HtmlCreate, HtmlNode, HtmlWikitext, HtmlNewline, HtmlAttr, HtmlAddClass, HtmlCss, HtmlCssText, HtmlTag, HtmlDone, HtmlAllDone, HtmlGetAttr, FrameGetParent, FrameExpandTemplate, FramePreprocess, FrameGetArgument, FrameArgumentPairs, FrameNewChild, FrameGetTitle, FrameExtensionTag, ArgsIndex, ArgumentExpand, StrictIndex, StrictNewIndex, IpairsStep, GmatchStep, UstringGmatchStep, GcodepointStep, GsplitStep}
 use Rattle.lua_meaning.specs.World.{World}
-use Rattle.lua_meaning.specs.Environment.{Function, Levels}
-use Rattle.lua_meaning.specs.Acts.{Act, see_heap}
-use Rattle.lua_meaning.specs.Arguments.{Plain, plain_act}
+use Rattle.lua_meaning.specs.Scope.{Function, Levels}
+use Rattle.lua_meaning.specs.Acts.{Act, Frame}
+use Rattle.lua_meaning.specs.Messages.{fail, not_built}
+use Rattle.lua_meaning.specs.Arguments.{Plain, plain_act, end_act}
 use Rattle.lua_meaning.specs.Basic.{assert, error, get_metatable, set_metatable, raw_equal, raw_get, raw_set, select, to_number, kind, unpack, next}
-use Rattle.lua_meaning.specs.Frames.{args_index}
-use Rattle.lua_meaning.specs.Protocol.{pcall, xpcall, to_string, pairs, ipairs, ipairs_step}
+use Rattle.lua_meaning.specs.Mw.{log, get_current_title}
+use Rattle.lua_meaning.specs.Frames.{args_index, argument_expand}
+use Rattle.lua_meaning.specs.FrameMethods.{FramedEnd, FrameEnds, FrameAsks, FrameWalks, Framed, get_current_frame, get_title, get_parent, argument_pairs, get_argument, preprocess, frame_extension_tag, expand_template, new_child}
+use Rattle.lua_meaning.specs.Waiting.{asking}
+use Rattle.lua_meaning.specs.CallBacks.{pcall, xpcall, to_string, pairs, ipairs, ipairs_step}
+use Rattle.lua_meaning.specs.Modules.{strict_index, strict_new_index, require, load_data}
+use Rattle.lua_meaning.specs.Pending.{hears}
 
--- a function that calls back nobody
-abbrev pub plain : World → Library → List Value → Heap Function → Option Plain
-plain world BasicAssert args h = Some (assert args h)
-plain world BasicError args h = Some (error args h)
-plain world BasicGetMetatable args h = Some (get_metatable args h)
-plain world BasicSetMetatable args h = Some (set_metatable args h)
-plain world BasicNext args h = Some (next args h)
-plain world BasicRawEqual args h = Some (raw_equal args h)
-plain world BasicRawGet args h = Some (raw_get args h)
-plain world BasicRawSet args h = Some (raw_set args h)
-plain world BasicSelect args h = Some (select args h)
-plain world BasicToNumber args h = Some (to_number args h)
-plain world BasicType args h = Some (kind args h)
-plain world BasicUnpack args h = Some (unpack args h)
-plain world ArgsIndex args h = Some (args_index args h)
-plain world _ args h = None
+-- the functions that call back, or see more of a run than its heap and its frames
+pub data Caller : Type 0 where
+  Pcall Xpcall ToString Pairs Ipairs NextPlace Require LoadData : Caller
 
-abbrev pub plain_or_none : Option Plain → Levels → Act (List Value)
-plain_or_none (Some p) callers = plain_act p callers
-plain_or_none None callers = give []
+-- WHAT A FUNCTION DOES with its arguments, in a heap and with the frames of a run, whatever the functions in the heap hold
+pub data Form (X : Type 0) : Type 0 where
+  -- it calls back nobody, and this is its answer
+  Answers : (plain : Plain X) → Form X
+  -- it sees the frames, and may ask
+  InFrames : (framed : Framed X) → Form X
+  -- it is said below
+  CallsBack : (caller : Caller) → Form X
+  -- it is not built yet: it stands in no environment, and is refused
+  NotBuilt : Form X
+
+-- THE TABLE
+abbrev pub form : {X : Type 0} → World → Library → List Value → Heap X → List Frame → Form X
+form world BasicAssert args h frames = Answers (assert args h)
+form world BasicError args h frames = Answers (error args h)
+form world BasicGetMetatable args h frames = Answers (get_metatable args h)
+form world BasicSetMetatable args h frames = Answers (set_metatable args h)
+form world BasicIpairs args h frames = CallsBack Ipairs
+form world BasicPairs args h frames = CallsBack Pairs
+form world BasicNext args h frames = Answers (next args h)
+form world BasicPcall args h frames = CallsBack Pcall
+form world BasicXpcall args h frames = CallsBack Xpcall
+form world BasicRawEqual args h frames = Answers (raw_equal args h)
+form world BasicRawGet args h frames = Answers (raw_get args h)
+form world BasicRawSet args h frames = Answers (raw_set args h)
+form world BasicSelect args h frames = Answers (select args h)
+form world BasicToNumber args h frames = Answers (to_number args h)
+form world BasicToString args h frames = CallsBack ToString
+form world BasicType args h frames = Answers (kind args h)
+form world BasicUnpack args h frames = Answers (unpack args h)
+form world BasicRequire args h frames = CallsBack Require
+form world StringByte args h frames = NotBuilt
+form world StringChar args h frames = NotBuilt
+form world StringFind args h frames = NotBuilt
+form world StringMatch args h frames = NotBuilt
+form world StringGmatch args h frames = NotBuilt
+form world StringGsub args h frames = NotBuilt
+form world StringFormat args h frames = NotBuilt
+form world StringLen args h frames = NotBuilt
+form world StringLower args h frames = NotBuilt
+form world StringUpper args h frames = NotBuilt
+form world StringRep args h frames = NotBuilt
+form world StringReverse args h frames = NotBuilt
+form world StringSub args h frames = NotBuilt
+form world TableConcat args h frames = NotBuilt
+form world TableInsert args h frames = NotBuilt
+form world TableMaxn args h frames = NotBuilt
+form world TableRemove args h frames = NotBuilt
+form world TableSort args h frames = NotBuilt
+form world MathAbs args h frames = NotBuilt
+form world MathCeil args h frames = NotBuilt
+form world MathFloor args h frames = NotBuilt
+form world MathFmod args h frames = NotBuilt
+form world MathMax args h frames = NotBuilt
+form world MathMin args h frames = NotBuilt
+form world MathPow args h frames = NotBuilt
+form world MwClone args h frames = NotBuilt
+form world MwLog args h frames = Answers (log args h)
+form world MwGetCurrentTitle args h frames = Answers (get_current_title world.page h)
+form world MwLoadData args h frames = CallsBack LoadData
+form world MwGetCurrentFrame args h frames = InFrames (get_current_frame h frames)
+form world UstringChar args h frames = NotBuilt
+form world UstringCodepoint args h frames = NotBuilt
+form world UstringGcodepoint args h frames = NotBuilt
+form world UstringByteOffset args h frames = NotBuilt
+form world UstringFind args h frames = NotBuilt
+form world UstringMatch args h frames = NotBuilt
+form world UstringGmatch args h frames = NotBuilt
+form world UstringGsub args h frames = NotBuilt
+form world UstringLen args h frames = NotBuilt
+form world UstringSub args h frames = NotBuilt
+form world UstringIsUtf8 args h frames = NotBuilt
+form world UstringToNfc args h frames = NotBuilt
+form world UstringToNfd args h frames = NotBuilt
+form world UstringToNfkc args h frames = NotBuilt
+form world UstringToNfkd args h frames = NotBuilt
+form world TextTrim args h frames = NotBuilt
+form world TextSplit args h frames = NotBuilt
+form world TextGsplit args h frames = NotBuilt
+form world TextEncode args h frames = NotBuilt
+form world TextDecode args h frames = NotBuilt
+form world TextListToText args h frames = NotBuilt
+form world TextNowiki args h frames = NotBuilt
+form world TextTag args h frames = NotBuilt
+form world TextTruncate args h frames = NotBuilt
+form world HtmlCreate args h frames = NotBuilt
+form world HtmlNode args h frames = NotBuilt
+form world HtmlWikitext args h frames = NotBuilt
+form world HtmlNewline args h frames = NotBuilt
+form world HtmlAttr args h frames = NotBuilt
+form world HtmlAddClass args h frames = NotBuilt
+form world HtmlCss args h frames = NotBuilt
+form world HtmlCssText args h frames = NotBuilt
+form world HtmlTag args h frames = NotBuilt
+form world HtmlDone args h frames = NotBuilt
+form world HtmlAllDone args h frames = NotBuilt
+form world HtmlGetAttr args h frames = NotBuilt
+form world FrameGetParent args h frames = InFrames (get_parent h frames args)
+form world FrameExpandTemplate args h frames = InFrames (expand_template h frames args)
+form world FramePreprocess args h frames = InFrames (preprocess h frames args)
+form world FrameGetArgument args h frames = InFrames (get_argument h frames args)
+form world FrameArgumentPairs args h frames = InFrames (argument_pairs h frames args)
+form world FrameNewChild args h frames = InFrames (new_child h frames args)
+form world FrameGetTitle args h frames = InFrames (get_title h frames args)
+form world FrameExtensionTag args h frames = InFrames (frame_extension_tag h frames args)
+form world ArgsIndex args h frames = Answers (args_index args h)
+form world ArgumentExpand args h frames = Answers (argument_expand args h)
+form world StrictIndex args h frames = Answers (strict_index args h)
+form world StrictNewIndex args h frames = Answers (strict_new_index args h)
+form world IpairsStep args h frames = CallsBack NextPlace
+form world GmatchStep args h frames = NotBuilt
+form world UstringGmatchStep args h frames = NotBuilt
+form world GcodepointStep args h frames = NotBuilt
+form world GsplitStep args h frames = NotBuilt
+
+-- a function that sees the frames
+abbrev pub framed_end : FramedEnd → Levels → Act (List Value)
+framed_end (FrameEnds end) callers = end_act end callers
+framed_end (FrameAsks question asked) callers = asking question (hears asked callers)
+framed_end (FrameWalks v) callers = pairs (v ∷ []) callers
+
+abbrev pub framed_act : Framed Function → Levels → Act (List Value)
+framed_act f callers = do
+  tick f.charge
+  s ← see
+  change (record s { heap = f.heap; frames = f.frames })
+  framed_end f.end callers
+
+-- a function that calls back
+abbrev pub call_back : World → Caller → List Value → Levels → Act (List Value)
+call_back world Pcall args callers = pcall args
+call_back world Xpcall args callers = xpcall args
+call_back world ToString args callers = to_string args callers
+call_back world Pairs args callers = pairs args callers
+call_back world Ipairs args callers = ipairs args callers
+call_back world NextPlace args callers = ipairs_step args callers
+call_back world Require args callers = require world args callers
+call_back world LoadData args callers = load_data args callers
+
+-- A FUNCTION OF THE LIBRARY, with the levels of an error at its entry
+abbrev pub do_form : World → Form Function → List Value → Levels → Act (List Value)
+do_form world (Answers plain) args callers = plain_act plain callers
+do_form world (InFrames framed) args callers = framed_act framed callers
+do_form world (CallsBack caller) args callers = call_back world caller args callers
+do_form world NotBuilt args callers = fail callers not_built
 
 abbrev pub library : World → Library → List Value → Levels → Act (List Value)
-library world BasicPcall args callers = pcall args
-library world BasicXpcall args callers = xpcall args
-library world BasicToString args callers = to_string args callers
-library world BasicPairs args callers = pairs args callers
-library world BasicIpairs args callers = ipairs args callers
-library world IpairsStep args callers = ipairs_step args callers
 library world which args callers = do
-  h ← see_heap
-  plain_or_none (plain world which args h) callers
+  s ← see
+  do_form world (form world which args s.heap s.frames) args callers

@@ -6,9 +6,11 @@ use Rattle.lua_syntax.specs.Tree.{Exps, NoExp, MoreExp, Fields, NoField, Item, P
 use Rattle.lua_syntax.specs.Tree.{Stat, AssignS, CallS, DoS, WhileS, RepeatS, IfS, IfElseS, CountS, CountByS, EachS, LocalFunctionS, LocalS, ReturnS, BreakS}
 use Rattle.page_run.specs.Outcome.{give}
 use Rattle.lua_heap.specs.Value.{Nil, Truth, Number, Text}
-use Rattle.lua_meaning.specs.Environment.{Bytes, cell_of, levels}
-use Rattle.lua_meaning.specs.Tree.{Expression, Targeted, Statement, Branch, FieldMeaning, ItemOf, PairOf, NoTarget, ExpPart, BlockPart}
-use Rattle.lua_meaning.specs.Expressions.{constant, dots, name, indexed, function, called, method, paren, binary, unary, name_target, index_target}
+use Rattle.lua_meaning.specs.Scope.{Bytes, cell_of, levels}
+use Rattle.lua_meaning.specs.Acts.{raise}
+use Rattle.lua_meaning.specs.Messages.{no_target}
+use Rattle.lua_meaning.specs.Parts.{Expression, Targeted, Statement, Branch, FieldMeaning, ItemOf, PairOf, ExpPart, BlockPart}
+use Rattle.lua_meaning.specs.Expressions.{constant, dots, name, index_expression, function, call_expression, method, paren, binary, unary, name_target, index_target}
 use Rattle.lua_meaning.specs.Constructors.{table_constructor}
 use Rattle.lua_meaning.specs.Statements.{in_order, at_end, do_block, assign, local, local_function, call_statement, conditional, return, break}
 use Rattle.lua_meaning.specs.Loops.{while_loop, repeat_loop, counting_loop, generic_loop}
@@ -24,8 +26,8 @@ abbrev mutual
   expression (DotsE line) = dots
   expression (FunctionE line f) = function f
   expression (NameE line x) = name x line
-  expression (IndexE line of key) = indexed (expression of) (expression key) line
-  expression (CallE line f args) = called (expression f) (expressions args) line
+  expression (IndexE line of key) = index_expression (expression of) (expression key) line
+  expression (CallE line f args) = call_expression (expression f) (expressions args) line
   expression (MethodE line of x args) = method (expression of) x (expressions args) line
   expression (TableE line fields) = table_constructor (fields_of fields) line
   expression (BinaryE line o a b) = binary o (expression a) (expression b) line
@@ -41,11 +43,11 @@ abbrev mutual
   fields_of (Item e more) = ItemOf (expression e) ∷ fields_of more
   fields_of (Pair key e more) = PairOf (expression key) (expression e) ∷ fields_of more
 
--- TARGETS: a target is a name or an index
+-- TARGETS: a target is a name or an index. No chunk has another one, and it is refused.
 abbrev pub target : Exp → Targeted
-target (NameE line x) env = give (name_target (cell_of env.names x) x (levels env line))
-target (IndexE line of key) env = index_target (expression of) (expression key) line env
-target _ env = give NoTarget
+target (NameE line x) scope = give (name_target (cell_of scope.names x) x (levels scope line))
+target (IndexE line of key) scope = index_target (expression of) (expression key) line scope
+target _ scope = raise (Text no_target)
 
 abbrev pub targets_of : Exps → List Targeted
 targets_of NoExp = []
@@ -57,13 +59,13 @@ abbrev mutual
   statement (AssignS line left right) = assign (targets_of left) (expressions right)
   statement (CallS line e) = call_statement (expression e)
   statement (DoS line b) = do_block (block b)
-  statement (WhileS line test b) = while_loop (test, expression test) (b, block b)
-  statement (RepeatS line b test) = repeat_loop (b, block b) (test, expression test)
+  statement (WhileS line test b) = while_loop (record { tree = test; meaning = expression test }) (record { tree = b; meaning = block b })
+  statement (RepeatS line b test) = repeat_loop (record { tree = b; meaning = block b }) (record { tree = test; meaning = expression test })
   statement (IfS line arms) = conditional (branches_of arms) None
   statement (IfElseS line arms other) = conditional (branches_of arms) (Some (block other))
-  statement (CountS line x from to b) = counting_loop x (expression from) (expression to) None (b, block b) line
-  statement (CountByS line x from to by b) = counting_loop x (expression from) (expression to) (Some (expression by)) (b, block b) line
-  statement (EachS line names right b) = generic_loop names (expressions right) (b, block b) line
+  statement (CountS line x from to b) = counting_loop x (expression from) (expression to) None (record { tree = b; meaning = block b }) line
+  statement (CountByS line x from to by b) = counting_loop x (expression from) (expression to) (Some (expression by)) (record { tree = b; meaning = block b }) line
+  statement (EachS line names right b) = generic_loop names (expressions right) (record { tree = b; meaning = block b }) line
   statement (LocalFunctionS line x f) = local_function x f
   statement (LocalS line names right) = local names (expressions right)
   statement (ReturnS line right) = return (expressions right)
@@ -89,7 +91,7 @@ body_of (Lambda params vararg b) = block b
 
 -- a part of the tree beside its meaning
 abbrev pub exp_part : Exp → ExpPart
-exp_part e = (e, expression e)
+exp_part e = record { tree = e; meaning = expression e }
 
 abbrev pub block_part : Block → BlockPart
-block_part b = (b, block b)
+block_part b = record { tree = b; meaning = block b }

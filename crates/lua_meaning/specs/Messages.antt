@@ -6,7 +6,7 @@ use Rattle.page_run.specs.Outcome.{◌>>◌, tick}
 use Rattle.lua_number.specs.declared.arithmetic.NumberFault.{NumberFault}
 use Rattle.lua_number.specs.declared.arithmetic.NumberFault.TheVariants.{OutOfRange, NotWhole, ByZero}
 use Rattle.lua_heap.specs.Value.{Value, Text}
-use Rattle.lua_meaning.specs.Environment.{Bytes, Place, Levels}
+use Rattle.lua_meaning.specs.Scope.{Bytes, Place, Levels}
 use Rattle.lua_meaning.specs.Values.{kind_of}
 use Rattle.lua_meaning.specs.Acts.{Act, raise}
 
@@ -72,6 +72,12 @@ nil_key = codes "table index is nil"
 abbrev pub read_only : Bytes
 read_only = codes "table from mw.loadData is read-only"
 
+abbrev pub not_built : Bytes
+not_built = codes "this function is not built"
+
+abbrev pub no_target : Bytes
+no_target = codes "cannot assign to this expression"
+
 abbrev pub no_initial_value : Bytes
 no_initial_value = codes "'for' initial value must be a number"
 
@@ -80,6 +86,34 @@ no_limit = codes "'for' limit must be a number"
 
 abbrev pub no_step : Bytes
 no_step = codes "'for' step must be a number"
+
+-- frames, modules and data modules; `text` is what the call was given
+abbrev pub bad_template_arguments : Bytes
+bad_template_arguments = codes "bad template arguments"
+
+abbrev pub invalid_title : Bytes → Bytes
+invalid_title text = codes "invalid title '" ++ text ++ codes "'"
+
+abbrev pub no_template : Bytes → Bytes
+no_template text = codes "template '" ++ text ++ codes "' does not exist"
+
+abbrev pub no_module : Bytes → Bytes
+no_module text = codes "module '" ++ text ++ codes "' not found"
+
+abbrev pub loop_in_require : Bytes → Bytes
+loop_in_require text = codes "loop in require of '" ++ text ++ codes "'"
+
+abbrev pub no_data_module : Bytes → Bytes
+no_data_module text = codes "data module '" ++ text ++ codes "' not found"
+
+abbrev pub undeclared_variable : Bytes → Bytes
+undeclared_variable name = codes "variable '" ++ name ++ codes "' is not declared"
+
+abbrev pub undeclared_target : Bytes → Bytes
+undeclared_target name = codes "assign to undeclared variable '" ++ name ++ codes "'"
+
+abbrev pub wrong_answer : Bytes
+wrong_answer = codes "the answer does not belong to the question"
 
 -- argument n of a function of the library, which wanted another kind, took no such number, or got nothing
 abbrev pub bad_argument : ℕ → Bytes → Bytes → Bytes

@@ -1,38 +1,42 @@
 -- OPERATORS ON VALUES (manual 2.5.1 to 2.5.5, and 2.8), with the levels of the operator's node.
 use Rattle.std.specs.Prelude.{min, ℤ, pos, Bool, true, false, not, [], ◌∷◌, ◌++◌, length, Option, Some, None, Result, Ok, Err, if◌then◌else◌, int_lt, int_le, nat_lt, ◌==◌, codes}
 use Rattle.page_run.specs.Outcome.{◌>>=◌, ◌>>◌, give, tick}
-use Rattle.lua_syntax.specs.declared.BinaryOp.{BinaryOp}
-use Rattle.lua_syntax.specs.declared.BinaryOp.TheVariants as op
 use Rattle.lua_number.specs.declared.arithmetic.NumberFault.{NumberFault}
 use Rattle.lua_number.specs.Whole.{sum_of, difference_of, product_of, quotient_of, remainder_of, power_of, negative_of}
-use Rattle.lua_heap.specs.Value.{Value, Nil, Truth, Number, Text, Table, same, is_true}
+use Rattle.lua_heap.specs.Value.{Value, Nil, Truth, Number, Text, Table, same, is_true, is_nil}
 use Rattle.lua_heap.specs.Table.{border}
 use Rattle.lua_heap.specs.Heap.{table_at}
-use Rattle.lua_meaning.specs.Environment.{Bytes, Levels}
+use Rattle.lua_meaning.specs.Scope.{Bytes, Levels}
 use Rattle.lua_meaning.specs.Values.{number_in, text_in}
 use Rattle.lua_meaning.specs.Acts.{Act, choose, one, see_heap}
 use Rattle.lua_meaning.specs.Messages.{fail, number_fault, cannot_calculate, cannot_concatenate, cannot_compare, no_length}
 use Rattle.lua_meaning.specs.Metatables.{either_handler, common_handler}
 use Rattle.lua_meaning.specs.Calls.{call}
 
--- ARITHMETIC (2.5.1). A result that is no whole number in range is an error.
-abbrev pub whole : BinaryOp → ℤ → ℤ → Result ℤ NumberFault
-whole op.Add a b = sum_of a b
-whole op.Sub a b = difference_of a b
-whole op.Mul a b = product_of a b
-whole op.Div a b = quotient_of a b
-whole op.Mod a b = remainder_of a b
-whole op.Pow a b = power_of a b
-whole _ a b = Ok a
+-- THE OPERATORS of arithmetic, and those with two operands that are both evaluated
+pub data Arithmetic : Type 0 where
+  Add Sub Mul Div Mod Pow : Arithmetic
 
-abbrev pub event : BinaryOp → Bytes
-event op.Add = codes "__add"
-event op.Sub = codes "__sub"
-event op.Mul = codes "__mul"
-event op.Div = codes "__div"
-event op.Mod = codes "__mod"
-event op.Pow = codes "__pow"
-event _ = codes "__concat"
+pub data Operator : Type 0 where
+  Less Greater AtMost AtLeast Equal Unequal Concatenate : Operator
+  Calculate : (which : Arithmetic) → Operator
+
+-- ARITHMETIC (2.5.1). A result that is no whole number in range is an error.
+abbrev pub result_of : Arithmetic → ℤ → ℤ → Result ℤ NumberFault
+result_of Add a b = sum_of a b
+result_of Sub a b = difference_of a b
+result_of Mul a b = product_of a b
+result_of Div a b = quotient_of a b
+result_of Mod a b = remainder_of a b
+result_of Pow a b = power_of a b
+
+abbrev pub event : Arithmetic → Bytes
+event Add = codes "__add"
+event Sub = codes "__sub"
+event Mul = codes "__mul"
+event Div = codes "__div"
+event Mod = codes "__mod"
+event Pow = codes "__pow"
 
 abbrev pub number_or_fail : Levels → Result ℤ NumberFault → Act Value
 number_or_fail ls (Ok n) = give (Number n)
@@ -40,37 +44,37 @@ number_or_fail ls (Err e) = fail ls (number_fault e)
 
 -- a handler's first value, or an error that names the operand that does not fit
 abbrev pub by_handler : Value → Value → Value → Levels → Bytes → Act Value
-by_handler Nil a b ls message = fail ls message
-by_handler h a b ls message = one (call h (a ∷ b ∷ []) ls)
+by_handler h a b ls message = choose (is_nil h) (fail ls message) (one (call h (a ∷ b ∷ []) ls))
 
-abbrev pub handled : Value → Value → Bytes → Levels → Bytes → Act Value
-handled a b event ls message = do
+abbrev pub by_either : Value → Value → Bytes → Levels → Bytes → Act Value
+by_either a b event ls message = do
   h ← see_heap
   by_handler (either_handler h a b event) a b ls message
 
-abbrev pub calculate : BinaryOp → Value → Value → Option ℤ → Option ℤ → Levels → Act Value
-calculate o a b (Some x) (Some y) ls = number_or_fail ls (whole o x y)
-calculate o a b (Some x) None ls = handled a b (event o) ls (cannot_calculate b)
-calculate o a b None y ls = handled a b (event o) ls (cannot_calculate a)
+abbrev pub calculate : Arithmetic → Value → Value → Option ℤ → Option ℤ → Levels → Act Value
+calculate o a b (Some x) (Some y) ls = number_or_fail ls (result_of o x y)
+calculate o a b (Some x) None ls = by_either a b (event o) ls (cannot_calculate b)
+calculate o a b None y ls = by_either a b (event o) ls (cannot_calculate a)
 
-abbrev pub arithmetic : BinaryOp → Value → Value → Levels → Act Value
+abbrev pub arithmetic : Arithmetic → Value → Value → Levels → Act Value
 arithmetic o a b ls = calculate o a b (number_in a) (number_in b) ls
 
 abbrev pub negate : Value → Option ℤ → Levels → Act Value
 negate a (Some x) ls = number_or_fail ls (negative_of x)
-negate a None ls = handled a a (codes "__unm") ls (cannot_calculate a)
+negate a None ls = by_either a a (codes "__unm") ls (cannot_calculate a)
 
 abbrev pub minus : Value → Levels → Act Value
 minus a ls = negate a (number_in a) ls
 
--- CONCATENATION (2.5.4). The text that it gives costs as many steps as it has bytes.
-abbrev pub join : Value → Value → Option Bytes → Option Bytes → Levels → Act Value
-join a b (Some x) (Some y) ls = tick (length (x ++ y)) >> give (Text (x ++ y))
-join a b (Some x) None ls = handled a b (codes "__concat") ls (cannot_concatenate b)
-join a b None y ls = handled a b (codes "__concat") ls (cannot_concatenate a)
+-- CONCATENATION (2.5.4). A text that it makes costs as many steps as it has bytes; what a handler gives in its place costs nothing
+-- beyond the call.
+abbrev pub join_texts : Value → Value → Option Bytes → Option Bytes → Levels → Act Value
+join_texts a b (Some x) (Some y) ls = tick (length (x ++ y)) >> give (Text (x ++ y))
+join_texts a b (Some x) None ls = by_either a b (codes "__concat") ls (cannot_concatenate b)
+join_texts a b None y ls = by_either a b (codes "__concat") ls (cannot_concatenate a)
 
 abbrev pub concatenate : Value → Value → Levels → Act Value
-concatenate a b ls = join a b (text_in a) (text_in b) ls
+concatenate a b ls = join_texts a b (text_in a) (text_in b) ls
 
 -- LENGTH (2.5.5)
 abbrev pub length_of : Value → Levels → Act Value
@@ -82,10 +86,9 @@ length_of v ls = fail ls (no_length v)
 
 -- COMPARISON (2.5.2). Equality converts nothing; two different tables may have a handler in common.
 abbrev pub truth_by : Value → Value → Value → Levels → Act Bool
-truth_by Nil a b ls = give false
-truth_by h a b ls = do
+truth_by h a b ls = choose (is_nil h) (give false) (do
   v ← one (call h (a ∷ b ∷ []) ls)
-  give (is_true v)
+  give (is_true v))
 
 abbrev pub equals : Value → Value → Levels → Act Bool
 equals a b ls = do
@@ -102,8 +105,7 @@ abbrev pub order_texts : Bytes → Bytes → Bool → Act Bool
 order_texts a b answer = tick (min (length a) (length b)) >> give answer
 
 abbrev pub less_by : Value → Value → Value → Levels → Act Bool
-less_by Nil a b ls = fail ls (cannot_compare a b)
-less_by h a b ls = truth_by h a b ls
+less_by h a b ls = choose (is_nil h) (fail ls (cannot_compare a b)) (truth_by h a b ls)
 
 abbrev pub less : Value → Value → Levels → Act Bool
 less (Number a) (Number b) ls = give (int_lt a b)
@@ -114,14 +116,12 @@ less a b ls = do
 
 -- `a <= b` falls back on `not (b < a)`
 abbrev pub not_less_by : Value → Value → Value → Levels → Act Bool
-not_less_by Nil a b ls = fail ls (cannot_compare a b)
-not_less_by h a b ls = do
+not_less_by h a b ls = choose (is_nil h) (fail ls (cannot_compare a b)) (do
   t ← truth_by h b a ls
-  give (not t)
+  give (not t))
 
 abbrev pub at_most_by : Value → Value → Value → Value → Levels → Act Bool
-at_most_by Nil lt a b ls = not_less_by lt a b ls
-at_most_by le lt a b ls = truth_by le a b ls
+at_most_by le lt a b ls = choose (is_nil le) (not_less_by lt a b ls) (truth_by le a b ls)
 
 abbrev pub at_most : Value → Value → Levels → Act Bool
 at_most (Number a) (Number b) ls = give (int_le a b)
@@ -130,7 +130,7 @@ at_most a b ls = do
   h ← see_heap
   at_most_by (common_handler h a b (codes "__le")) (common_handler h a b (codes "__lt")) a b ls
 
--- THE OPERATORS with two operands, both of which are evaluated; `a > b` is `b < a`, and `a ~= b` is `not (a == b)`
+-- WHAT AN OPERATOR GIVES; `a > b` is `b < a`, and `a ~= b` is `not (a == b)`
 abbrev pub truth : Act Bool → Act Value
 truth part = do
   b ← part
@@ -141,12 +141,12 @@ falsehood part = do
   b ← part
   give (Truth (not b))
 
-abbrev pub operate : BinaryOp → Value → Value → Levels → Act Value
-operate op.Lt a b ls = truth (less a b ls)
-operate op.Gt a b ls = truth (less b a ls)
-operate op.Le a b ls = truth (at_most a b ls)
-operate op.Ge a b ls = truth (at_most b a ls)
-operate op.Eq a b ls = truth (equals a b ls)
-operate op.Ne a b ls = falsehood (equals a b ls)
-operate op.Concat a b ls = concatenate a b ls
-operate o a b ls = arithmetic o a b ls
+abbrev pub operate : Operator → Value → Value → Levels → Act Value
+operate Less a b ls = truth (less a b ls)
+operate Greater a b ls = truth (less b a ls)
+operate AtMost a b ls = truth (at_most a b ls)
+operate AtLeast a b ls = truth (at_most b a ls)
+operate Equal a b ls = truth (equals a b ls)
+operate Unequal a b ls = falsehood (equals a b ls)
+operate Concatenate a b ls = concatenate a b ls
+operate (Calculate which) a b ls = arithmetic which a b ls

@@ -4,45 +4,45 @@ use Rattle.std.specs.Prelude.{List, [], ◌∷◌, ◌++◌, reverse, Option, So
 use Rattle.lua_syntax.specs.Tree.{Fun}
 use Rattle.page_run.specs.Outcome.{◌>>=◌, ◌>>◌, give, jump, see}
 use Rattle.lua_heap.specs.Value.{Value, Nil, Text, Table, is_true}
-use Rattle.lua_meaning.specs.Environment.{Bytes, Env, with_name}
+use Rattle.lua_meaning.specs.Scope.{Bytes, Scope, with_name}
 use Rattle.lua_meaning.specs.Values.{first, rest}
 use Rattle.lua_meaning.specs.Acts.{Act, Returned, Broke, node, choose, one, make_cell, write_cell, declare}
 use Rattle.lua_meaning.specs.Index.{set_index}
 use Rattle.lua_meaning.specs.Expressions.{values, closure}
-use Rattle.lua_meaning.specs.Tree.{Expression, Targeted, Statement, Branch, Target, Local, Global, Entry, NoTarget}
+use Rattle.lua_meaning.specs.Parts.{Expression, Targeted, Statement, Branch, Target, Local, Global, Entry}
 
 -- BLOCKS (2.4.1): a statement, and those that follow it in the environment that it gives
 abbrev pub in_order : Statement → Statement → Statement
-in_order s more env = do
-  after ← s env
+in_order s more scope = do
+  after ← s scope
   more after
 
 -- where a block ends
 abbrev pub at_end : Statement
-at_end env = give env
+at_end scope = give scope
 
 -- a block, with what it declares forgotten
 abbrev pub within : Statement → Statement
-within body env = do
-  body env
-  give env
+within body scope = do
+  body scope
+  give scope
 
 abbrev pub do_block : Statement → Statement
-do_block body env = do
+do_block body scope = do
   node
-  within body env
+  within body scope
 
 -- ASSIGNMENT (2.4.3): the tables and keys of the targets, then the values, and then each target from the last to the first
-abbrev pub targets : List Targeted → Env → List Target → Act (List Target)
-targets [] env before = give before
-targets (e ∷ more) env before = do
-  t ← e env
-  targets more env (before ++ t ∷ [])
+abbrev pub targets : List Targeted → Scope → List Target → Act (List Target)
+targets [] scope before = give before
+targets (e ∷ more) scope before = do
+  t ← e scope
+  targets more scope (before ++ t ∷ [])
 
 -- each target with its value
-abbrev pub paired : List Target → List Value → List (Target × Value)
-paired [] vs = []
-paired (t ∷ ts) vs = (t, first vs) ∷ paired ts (rest vs)
+abbrev pub with_values : List Target → List Value → List (Target × Value)
+with_values [] vs = []
+with_values (t ∷ ts) vs = (t, first vs) ∷ with_values ts (rest vs)
 
 abbrev pub assign_one : Target → Value → Act (Unit {0})
 assign_one (Local cell) v = write_cell cell v
@@ -50,67 +50,66 @@ assign_one (Global name ls) v = do
   s ← see
   set_index (Table s.globals) (Text name) v ls
 assign_one (Entry of key ls) v = set_index of key v ls
-assign_one NoTarget v = give tt
 
 abbrev pub assign_each : List (Target × Value) → Act (Unit {0})
 assign_each [] = give tt
 assign_each (p ∷ ps) = assign_one p.0 p.1 >> assign_each ps
 
 abbrev pub assign : List Targeted → List Expression → Statement
-assign left right env = do
+assign left right scope = do
   node
-  ts ← targets left env []
-  vs ← values right env []
-  assign_each (reverse (paired ts vs))
-  give env
+  ts ← targets left scope []
+  vs ← values right scope []
+  assign_each (reverse (with_values ts vs))
+  give scope
 
 -- LOCAL VARIABLES (2.4.7): they are seen from the next statement on
 abbrev pub local : List Bytes → List Expression → Statement
-local names right env = do
+local names right scope = do
   node
-  vs ← values right env []
-  declare names vs env
+  vs ← values right scope []
+  declare names vs scope
 
 -- the name of a local function is seen in its body (2.5.9)
 abbrev pub local_function : Bytes → Fun → Statement
-local_function name f env = do
+local_function name f scope = do
   node
   cell ← make_cell Nil
-  v ← closure f (with_name name cell env)
+  v ← closure f (with_name name cell scope)
   write_cell cell v
-  give (with_name name cell env)
+  give (with_name name cell scope)
 
 -- CALLS as statements (2.4.6): their values are dropped
 abbrev pub call_statement : Expression → Statement
-call_statement e env = do
+call_statement e scope = do
   node
-  e env
-  give env
+  e scope
+  give scope
 
 -- CONDITIONS (2.4.4): the first branch whose test is true, else the last block, if there is one
 abbrev pub otherwise : Option Statement → Statement
-otherwise None env = give env
-otherwise (Some body) env = within body env
+otherwise None scope = give scope
+otherwise (Some body) scope = within body scope
 
 abbrev pub branches : List Branch → Option Statement → Statement
-branches [] other env = otherwise other env
-branches (arm ∷ more) other env = do
-  v ← one (arm.test env)
-  choose (is_true v) (within arm.body env) (branches more other env)
+branches [] other scope = otherwise other scope
+branches (arm ∷ more) other scope = do
+  v ← one (arm.test scope)
+  choose (is_true v) (within arm.body scope) (branches more other scope)
 
 abbrev pub conditional : List Branch → Option Statement → Statement
-conditional arms other env = do
+conditional arms other scope = do
   node
-  branches arms other env
+  branches arms other scope
 
 -- JUMPS (2.4.4)
 abbrev pub return : List Expression → Statement
-return right env = do
+return right scope = do
   node
-  vs ← values right env []
+  vs ← values right scope []
   jump (Returned vs)
 
 abbrev pub break : Statement
-break env = do
+break scope = do
   node
   jump Broke

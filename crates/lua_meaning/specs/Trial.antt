@@ -1,15 +1,20 @@
--- A SMALL WORLD for worked examples: one module, whose function `f` is invoked on a page.
-use Rattle.std.specs.Prelude.{ℕ, List, [], ◌∷◌, Some, Ok, Err, codes}
+-- SMALL WORLDS for worked examples: a module, whose function `f` is invoked.
+use Rattle.std.specs.Prelude.{ℕ, List, [], ◌∷◌, Some, None, Ok, Err, if◌then◌else◌, codes}
 use Rattle.wk_base.specs.declared.title.Title.{Title}
-use Rattle.wk_base.specs.declared.title.Namespace.TheVariants.{Main, Module as ModuleSpace}
+use Rattle.wk_base.specs.declared.title.Namespace.TheVariants.{Main, Module as ModuleSpace, Template as TemplateSpace}
 use Rattle.wk_base.specs.declared.left.Left.{Left}
 use Rattle.page_run.specs.declared.which.Which.{Which}
 use Rattle.page_run.specs.Outcome.{Outcome, Goes, Jumps}
-use Rattle.page_run.specs.State.{Event, Ended, Spent, moment_of}
+use Rattle.page_run.specs.State.{Reply, Gives as Says, Exhausts, no_tally, Event, Ended, Spent, Asked, moment_of}
 use Rattle.lua_syntax.specs.Tree.{Block}
 use Rattle.lua_heap.specs.Value.{Value, Text, Table}
-use Rattle.lua_meaning.specs.Environment.{Bytes}
-use Rattle.lua_meaning.specs.Questions.{Arg, Scene, Job, Ask}
+use Rattle.lua_meaning.specs.Scope.{Bytes}
+use Rattle.mw_frame.specs.declared.scene.Arg.{Arg}
+use Rattle.mw_frame.specs.declared.scene.Scene.{Scene}
+use Rattle.mw_frame.specs.declared.scene.Job.{Job}
+use Rattle.mw_frame.specs.declared.question.Ask.{Ask}
+use Rattle.lua_meaning.specs.Questions.{Answer}
+use Rattle.lua_meaning.specs.Titled.{same_title}
 use Rattle.lua_meaning.specs.Acts.{State, Jump, Raised}
 use Rattle.lua_meaning.specs.World.{Modules, World}
 use Rattle.lua_meaning.specs.Start.{Invoke, DataOf, lua}
@@ -27,7 +32,7 @@ abbrev pub scene : Title → List Arg → Scene
 scene title args = record { title = title; args = args; chain = [] }
 
 abbrev pub job : Bytes → List Arg → Job
-job name args = record { module_ = module_title name; function = codes "f"; scene = scene (module_title name) args; parent = scene page [] }
+job name args = record { «module» = module_title name; function = codes "f"; scene = scene (module_title name) args; parent = scene page [] }
 
 abbrev pub one_module : ℕ → Block → Modules
 one_module size body title = Some (record { size = size; chunk = Ok body })
@@ -49,6 +54,7 @@ pub data Seen : Type 0 where
   Fails : (text : Bytes) (steps : ℕ) → Seen
   Spends : (which : Which) (steps : ℕ) → Seen
   Loads : (steps : ℕ) → Seen
+  Asks : (question : Ask) (steps : ℕ) → Seen
   Else : Seen
 
 abbrev pub seen : Event State Ask (Outcome (List Value) Jump) → Seen
@@ -56,13 +62,14 @@ seen (Ended (Goes (Text t ∷ [])) m) = Gives t m.left.steps
 seen (Ended (Goes (Table t ∷ [])) m) = Loads m.left.steps
 seen (Ended (Jumps (Raised (Text t))) m) = Fails t m.left.steps
 seen (Spent w m) = Spends w m.left.steps
+seen (Asked q m) = Asks q m.left.steps
 seen _ = Else
 
 -- with any steps left
-abbrev pub ended : Seen → Seen
-ended (Gives t steps) = Gives t 0
-ended (Fails t steps) = Fails t 0
-ended s = s
+abbrev pub without_steps : Seen → Seen
+without_steps (Gives t steps) = Gives t 0
+without_steps (Fails t steps) = Fails t 0
+without_steps s = s
 
 -- the function `f` of a module is invoked: the arguments, the calls, the module's name, the size of its text, its tree, and the steps
 abbrev pub invoked_on : List Arg → ℕ → Bytes → ℕ → Block → ℕ → Seen
@@ -87,3 +94,44 @@ faulted name size kind line steps = seen (lua (in_world (no_chunk size kind line
 -- the nodes, turns of loops and functions entered that were counted, with enough of all
 abbrev pub counted : Bytes → ℕ → Block → ℕ → ℕ
 counted name size body steps = (moment_of (lua (in_world (one_module size body)) (Invoke (job name [])) (allowance steps 20000) [])).tally.nodes
+
+-- SEVERAL MODULES, and an invocation in the body of template T, which has two arguments
+pub record Held : Type 0 where
+  pub name : Bytes
+  pub size : ℕ
+  pub body : Block
+
+abbrev pub held : Bytes → ℕ → Block → Held
+held name size body = record { name = name; size = size; body = body }
+
+abbrev pub modules_of : List Held → Modules
+modules_of [] title = None
+modules_of (m ∷ ms) title =
+    if same_title (module_title m.name) title then Some (record { size = m.size; chunk = Ok m.body }) else modules_of ms title
+
+abbrev pub template_title : Bytes → Title
+template_title name = record { ns = TemplateSpace; name = name }
+
+abbrev pub scene_in_template : Title → List Arg → Scene
+scene_in_template title args = record { title = title; args = args; chain = template_title (codes "T") ∷ [] }
+
+-- the scene of the invoked frame, and of its parent
+abbrev pub own_scene : Bytes → List Arg → Scene
+own_scene name args = scene_in_template (module_title name) args
+
+abbrev pub parent_scene : Scene
+parent_scene = scene_in_template (template_title (codes "T")) (arg (codes "1") (codes "p") ∷ arg (codes "n") (codes "q") ∷ [])
+
+abbrev pub job_in_template : Bytes → List Arg → Job
+job_in_template name args = record { «module» = module_title name; function = codes "f"; scene = own_scene name args; parent = parent_scene }
+
+-- a reply, with so many steps left after it; of calls there are enough
+abbrev pub reply : Answer → ℕ → Reply Answer
+reply answer steps = record { response = Says answer; left = allowance steps 19000; tally = no_tally }
+
+-- a reply that spends the run
+abbrev pub spent : Which → Reply Answer
+spent which = record { response = Exhausts which; left = allowance 0 19000; tally = no_tally }
+
+abbrev pub asked : List Held → List Arg → Bytes → ℕ → List (Reply Answer) → Seen
+asked modules args name steps replies = seen (lua (in_world (modules_of modules)) (Invoke (job_in_template name args)) (allowance steps 20000) replies)

@@ -3,7 +3,7 @@ use Rattle.std.specs.Prelude.{ℤ, Bool, true, false, List, [], ◌∷◌, Optio
 use Rattle.std.specs.Fmt.{signed_decimal}
 use Rattle.lua_number.specs.Numerals.{read_number_of}
 use Rattle.lua_heap.specs.Value.{Value, Nil, Truth, Number, Text, Table, Closure, Builtin, Markup}
-use Rattle.lua_meaning.specs.Environment.{Bytes}
+use Rattle.lua_meaning.specs.Scope.{Bytes}
 
 -- the name of a value's kind, as `type` gives it (manual 5.1); an object of mw.html is a table
 abbrev pub kind_of : Value → Bytes

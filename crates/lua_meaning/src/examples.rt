@@ -5,6 +5,9 @@ ghost use Rattle.lua_meaning.specs.ExampleCosts.{AllCosts};
 ghost use Rattle.lua_meaning.specs.ExampleValues.{AllValues};
 ghost use Rattle.lua_meaning.specs.ExampleStatements.{AllStatements};
 ghost use Rattle.lua_meaning.specs.ExampleFunctions.{AllFunctions};
+ghost use Rattle.lua_meaning.specs.ExampleHandlers.{AllHandlers};
+ghost use Rattle.lua_meaning.specs.ExampleFrames.{AllFrames};
+ghost use Rattle.lua_meaning.specs.ExampleModules.{AllModules};
 
 /// Charges of whole runs, worked out by hand, and how runs end.
 pub fn charges()
@@ -29,4 +32,19 @@ pub fn statements()
 /// Functions, errors and handlers.
 pub fn functions()
     ensures { AllFunctions }
+{}
+
+/// Handlers, the levels that are seen through them, and what is absent.
+pub fn handlers()
+    ensures { AllHandlers }
+{}
+
+/// Frames, their methods, and their questions.
+pub fn frames()
+    ensures { AllFrames }
+{}
+
+/// Modules that ask for modules, and data modules.
+pub fn modules()
+    ensures { AllModules }
 {}

@@ -17,5 +17,8 @@ fn laws_are_called(_rt: HostRuntime) -> Result<(), Fail> {
     examples::values();
     examples::statements();
     examples::functions();
+    examples::handlers();
+    examples::frames();
+    examples::modules();
     Ok(())
 }

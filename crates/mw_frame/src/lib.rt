@@ -2,11 +2,17 @@
 //! manual, "Frame object").
 //!
 //! - `scene`: arguments, the scene of a frame, and the job of an invocation
+//! - `question`: what a run of Lua asks from outside
+//!
+//! `specs/Scenes.antt` says when the names of arguments differ. Definitions of other crates cite the types as they are
+//! declared here.
 #![tactic(auto)]
 
+pub mod question;
 pub mod scene;
 
 pub use page_run::Which;
+pub use question::Ask;
 pub use scene::{Arg, Job, Scene};
 
 #[cfg(test)]

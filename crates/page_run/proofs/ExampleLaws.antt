@@ -1,29 +1,29 @@
 -- The small runs compute.
 use Rattle.std.proofs.Common.{refl}
 use Rattle.page_run.specs.Perform.{perform}
-use Rattle.page_run.specs.Examples.{Charged, Endless, Using, Nested, Asking}
-use Rattle.page_run.specs.Jumps.{Jumping}
+use Rattle.page_run.specs.Examples.{ChargesAreTaken, EndlessLoopIsSpent, UsesAreAnswered, NestingEndsWithNodes, QuestionsAreAnswered}
+use Rattle.page_run.specs.Jumps.{JumpsAreCaught}
 
-pub charged : Charged
+pub charges_are_taken : ChargesAreTaken
 unfolding perform
-charged = refl
+charges_are_taken = refl
 
-pub endless : Endless
+pub endless_loop_is_spent : EndlessLoopIsSpent
 unfolding perform
-endless = refl
+endless_loop_is_spent = refl
 
-pub using : Using
+pub uses_are_answered : UsesAreAnswered
 unfolding perform
-using = refl
+uses_are_answered = refl
 
-pub nested : Nested
+pub nesting_ends_with_nodes : NestingEndsWithNodes
 unfolding perform
-nested = refl
+nesting_ends_with_nodes = refl
 
-pub asking : Asking
+pub questions_are_answered : QuestionsAreAnswered
 unfolding perform
-asking = refl
+questions_are_answered = refl
 
-pub jumping : Jumping
+pub jumps_are_caught : JumpsAreCaught
 unfolding perform
-jumping = refl
+jumps_are_caught = refl

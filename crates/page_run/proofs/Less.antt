@@ -1,48 +1,27 @@
 -- What is taken of an allowance.
-use Rattle.std.proofs.Common.{◌≡◌, ℕ, ◌+◌, ◌-◌, ◌<◌, ◌≤◌, Bool, true, false, Option, Some, None, refl, ap, subst, arith}
+use Rattle.std.proofs.Common.{◌≡◌, ℕ, ◌+◌, ◌-◌, ◌<◌, ◌≤◌, Bool, true, false, Option, Some, None, refl, ap, arith}
+use Rattle.std.proofs.lemmas.Bool.{le-leb, lt-leb}
 use Rattle.std.specs.Prelude.{nat_le}
 use Rattle.wk_base.specs.declared.left.Left.{Left}
 use Rattle.page_run.specs.Run.{Use, TakeBytes, EnterDepth, LeaveDepth, HasTemplate, EnterTemplate, LeaveTemplate}
-use Rattle.page_run.specs.Perform.{covered, less, after_bytes, after_depth, after_template, used, size}
+use Rattle.page_run.specs.Perform.{less_if, less, after_bytes, after_depth, after_template, apply_use, size}
 
-is_none : {A : Type 0} → Option A → Type 0
-is_none None = Unit {0}
-is_none (Some x) = ⊥
-
-pub none_some : {A : Type 0} → (x : A) → None ≡ Some x → ⊥
-unfolding is_none
-none_some x e = subst is_none e tt
-
-some_value : {A : Type 0} → A → Option A → A
-some_value d None = d
-some_value d (Some x) = x
-
-pub some_same : {A : Type 0} → (x y : A) → Some x ≡ Some y → x ≡ y
-unfolding some_value
-some_same x y e = ap (some_value x) e
-
-covered_some : (b : Bool) (n l r : ℕ) → nat_le n l ≡ b → covered b n l ≡ Some r → r + n ≡ l
-covered_some true n l r e i =
+less_if_some : (b : Bool) (n l r : ℕ) → nat_le n l ≡ b → less_if b n l ≡ Some r → r + n ≡ l
+less_if_some true n l r e i =
     let le : n ≤ l = grind arith in
-    let same : l - n ≡ r = some_same (l - n) r i in
+    let same : l - n ≡ r = cc in
     omega arith
-covered_some false n l r e i = absurd (none_some r i)
+less_if_some false n l r e i = absurd cc
 
 -- what was taken was there, and the rest is left
 pub less_some : (n l r : ℕ) → less n l ≡ Some r → r + n ≡ l
-less_some n l r e = covered_some (nat_le n l) n l r refl e
-
-pub test_of_le : (n l : ℕ) → n ≤ l → nat_le n l ≡ true
-test_of_le n l h = grind arith
-
-pub test_of_lt : (n l : ℕ) → l < n → nat_le n l ≡ false
-test_of_lt n l h = grind arith
+less_some n l r e = less_if_some (nat_le n l) n l r refl e
 
 pub less_of : (n l : ℕ) → n ≤ l → less n l ≡ Some (l - n)
-less_of n l h = ap (λ b. covered b n l) (test_of_le n l h)
+less_of n l h = ap (λ b. less_if b n l) (le-leb n l h)
 
 pub less_over : (n l : ℕ) → l < n → less n l ≡ None
-less_over n l h = ap (λ b. covered b n l) (test_of_lt n l h)
+less_over n l h = ap (λ b. less_if b n l) (lt-leb n l h)
 
 -- what an expansion uses leaves steps and nodes as they are
 bytes_size : (o : Option ℕ) (l : Left) → size (after_bytes o l).1 ≡ size l
@@ -57,7 +36,7 @@ template_size : (o : Option ℕ) (l : Left) → size (after_template o l).1 ≡ 
 template_size (Some r) l = refl
 template_size None l = refl
 
-pub used_size : (u : Use) (l : Left) → size (used u l).1 ≡ size l
+pub used_size : (u : Use) (l : Left) → size (apply_use u l).1 ≡ size l
 used_size (TakeBytes n) l = bytes_size (less n l.bytes) l
 used_size EnterDepth l = depth_size (less 1 l.depth) l
 used_size LeaveDepth l = refl
@@ -78,7 +57,7 @@ template_calls : (o : Option ℕ) (l : Left) → (after_template o l).1.calls �
 template_calls (Some r) l = refl
 template_calls None l = refl
 
-pub used_calls : (u : Use) (l : Left) → (used u l).1.calls ≡ l.calls
+pub used_calls : (u : Use) (l : Left) → (apply_use u l).1.calls ≡ l.calls
 used_calls (TakeBytes n) l = bytes_calls (less n l.bytes) l
 used_calls EnterDepth l = depth_calls (less 1 l.depth) l
 used_calls LeaveDepth l = refl

@@ -1,8 +1,8 @@
 -- THE LAWS OF CHARGES.
 use Rattle.std.specs.Prelude.{◌≡◌, ℕ, ◌+◌, ◌-◌, ◌≤◌, [], Some}
 use Rattle.wk_base.specs.declared.left.Left.{Left}
-use Rattle.page_run.specs.Run.{Run, Meant}
-use Rattle.page_run.specs.State.{Tally, Gives, Reply, Replier, Moment, State, start, resumed, Event, Ended, Spent, Asked, moment_of}
+use Rattle.page_run.specs.Run.{Run, Meaning}
+use Rattle.page_run.specs.State.{Tally, Gives, Reply, Replier, Moment, State, start, resume, Event, Ended, Spent, Asked, moment_of}
 use Rattle.page_run.specs.Perform.{size, to_come, perform, NoRise}
 
 -- replies that leave the calls as they are
@@ -24,39 +24,39 @@ pub record ReplyFits {Q A : Type 0} (q : Q) (now : Left) (r : Reply A) (other : 
 
 -- each reply that gives an answer does
 abbrev pub RepliesFit : {Q A : Type 0} → Replier Q A → Replier Q A → Type 0
-RepliesFit {Q = Q} {A = A} beyond other = (q : Q) (now : Left) (r : Reply A) (a : A) → beyond q now ≡ Some r → r.said ≡ Gives a → ReplyFits q now r other
+RepliesFit {Q = Q} {A = A} beyond other = (q : Q) (now : Left) (r : Reply A) (a : A) → beyond q now ≡ Some r → r.response ≡ Gives a → ReplyFits q now r other
 
 -- A run that ends so, from what is left now, with n calls in progress, FITS elsewhere: from any `l` with its charge and d more in steps,
 -- and with calls for its height, `go` ends alike and leaves d.
-pub record Fits {H Q A O : Type 0} (go : State H A → Event H Q O) (heap : H) (now : Left) (n : ℕ) (told : Tally) (o : O) (end : Moment H) : Type 0 where
+pub record Fits {H Q A O : Type 0} (go : State H A → Event H Q O) (heap : H) (now : Left) (n : ℕ) (tally : Tally) (o : O) (end : Moment H) : Type 0 where
   pub falls : end.left.steps ≤ now.steps
   pub keeps : end.left.calls ≡ now.calls + n
-  pub higher : told.height ≤ end.tally.height
-  pub covers : told.height ≤ now.calls + n → end.tally.height ≤ now.calls + n
+  pub higher : tally.height ≤ end.tally.height
+  pub covers : tally.height ≤ now.calls + n → end.tally.height ≤ now.calls + n
   pub fits : (l : Left) (d : ℕ) → l.steps ≡ d + (now.steps - end.left.steps) → end.tally.height ≤ l.calls + n →
-      go (resumed heap l n told) ≡ Ended o (record { heap = end.heap; left = record l { steps = d; calls = l.calls + n }; in_progress = 0; tally = end.tally })
+      go (resume heap l n tally) ≡ Ended o (record { heap = end.heap; left = record l { steps = d; calls = l.calls + n }; in_progress = 0; tally = end.tally })
 
-module _ {M H T Q A O : Type 0} (meant : Meant M H T Q A O) where
+module _ {M H T Q A O : Type 0} (meaning : Meaning M H T Q A O) where
   abbrev pub NothingRises : Type 0
-  NothingRises = (beyond : Replier Q A) → NoRise beyond → (p : Run M H T Q A O) (s : State H A) → size (moment_of (perform meant beyond p s)).left ≤ to_come s
+  NothingRises = (beyond : Replier Q A) → NoRise beyond → (p : Run M H T Q A O) (s : State H A) → size (moment_of (perform meaning beyond p s)).left ≤ to_come s
 
   abbrev pub CallsComeBack : Type 0
   CallsComeBack = (beyond : Replier Q A) → KeepsCalls beyond → (p : Run M H T Q A O) (s : State H A) → s.replies ≡ [] →
-      GivenBack (s.left.calls + s.in_progress) (perform meant beyond p s)
+      GivenBack (s.left.calls + s.in_progress) (perform meaning beyond p s)
 
   -- of a run that may not use the allowances of expansions
   abbrev pub EndFits : Type 0
   EndFits = (M → ⊥) → (beyond other : Replier Q A) → NoRise other → RepliesFit beyond other →
-      (p : Run M H T Q A O) (heap : H) (now : Left) (n : ℕ) (told : Tally) (o : O) (end : Moment H) → perform meant beyond p (resumed heap now n told) ≡ Ended o end → Fits (perform meant other p) heap now n told o end
+      (p : Run M H T Q A O) (heap : H) (now : Left) (n : ℕ) (tally : Tally) (o : O) (end : Moment H) → perform meaning beyond p (resume heap now n tally) ≡ Ended o end → Fits (perform meaning other p) heap now n tally o end
 
   abbrev pub MoreIsAsGood : Type 0
   MoreIsAsGood = (M → ⊥) → (beyond : Replier Q A) → NoRise beyond → RepliesFit beyond beyond →
-      (p : Run M H T Q A O) (heap : H) (l : Left) (o : O) (end : Moment H) → perform meant beyond p (start heap l []) ≡ Ended o end → (a b : ℕ) →
-      perform meant beyond p (start heap record l { steps = l.steps + a; calls = l.calls + b } [])
+      (p : Run M H T Q A O) (heap : H) (l : Left) (o : O) (end : Moment H) → perform meaning beyond p (start heap l []) ≡ Ended o end → (a b : ℕ) →
+      perform meaning beyond p (start heap record l { steps = l.steps + a; calls = l.calls + b } [])
       ≡ Ended o (record { heap = end.heap; left = record l { steps = end.left.steps + a; calls = l.calls + b }; in_progress = 0; tally = end.tally })
 
   abbrev pub OneCharge : Type 0
   OneCharge = (M → ⊥) → (beyond : Replier Q A) → NoRise beyond → RepliesFit beyond beyond →
-      (p : Run M H T Q A O) (heap : H) (l l' : Left) (o o' : O) (end end' : Moment H) → perform meant beyond p (start heap l []) ≡ Ended o end → perform meant beyond p (start heap l' []) ≡ Ended o' end' →
+      (p : Run M H T Q A O) (heap : H) (l l' : Left) (o o' : O) (end end' : Moment H) → perform meaning beyond p (start heap l []) ≡ Ended o end → perform meaning beyond p (start heap l' []) ≡ Ended o' end' →
       (o ≡ o') × (end.heap ≡ end'.heap) × (end.tally ≡ end'.tally)
       × (l.steps - end.left.steps ≡ l'.steps - end'.left.steps) × (l.steps - end.left.steps ≤ l'.steps) × (end.tally.height ≤ l'.calls)

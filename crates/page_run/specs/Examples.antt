@@ -18,9 +18,9 @@ Small O = Run (Unit {0}) ℕ Thing ℕ ℕ O
 abbrev pub Act : Type 0 → Type 0
 Act X = Part (Small ℕ) X
 
-abbrev pub meant : Thing → Act ℕ
-meant Turn = begin Turn
-meant Nest = do
+abbrev pub meaning : Thing → Act ℕ
+meaning Turn = begin Turn
+meaning Nest = do
   inner ← open_or tt 7 Nest
   give (inner + 1)
 
@@ -28,8 +28,8 @@ abbrev pub some_left : Left
 some_left = record { steps = 10; nodes = 3; bytes = 5; calls = 2; depth = 1; templates = 1 }
 
 -- 1. A charge of 3, and two of 2, each inside a function of its own; a syntax node is counted; the number in the heap goes from 0 to 1.
-abbrev pub charged : Act ℕ
-charged = do
+abbrev pub charges : Act ℕ
+charges = do
   tick 3
   count
   n ← see
@@ -39,29 +39,29 @@ charged = do
   m ← see
   give (m + 20)
 
-abbrev pub Charged : Type 0
-Charged = perform meant wait (charged Ends) (start 0 some_left []) ≡ Ended 21 (record {
+abbrev pub ChargesAreTaken : Type 0
+ChargesAreTaken = perform meaning wait (charges Ends) (start 0 some_left []) ≡ Ended 21 (record {
   heap = 1;
   left = record some_left { steps = 3 };
   in_progress = 0;
-  tally = record { height = 1; nodes = 1; called = 0; loads = NoLoads };
+  tally = record { height = 1; nodes = 1; invoked_nodes = 0; loads = NoLoads };
 })
 
 -- 2. A loop without end, inside two functions: it is spent, and both calls are given back.
-abbrev pub endless : Act ℕ
-endless = in_call (in_call (begin Turn))
+abbrev pub endless_loop : Act ℕ
+endless_loop = in_call (in_call (begin Turn))
 
-abbrev pub Endless : Type 0
-Endless = perform meant wait (endless Ends) (start 0 some_left []) ≡ Spent Steps (record {
+abbrev pub EndlessLoopIsSpent : Type 0
+EndlessLoopIsSpent = perform meaning wait (endless_loop Ends) (start 0 some_left []) ≡ Spent Steps (record {
   heap = 0;
   left = record some_left { steps = 0 };
   in_progress = 0;
-  tally = record { height = 2; nodes = 0; called = 0; loads = NoLoads };
+  tally = record { height = 2; nodes = 0; invoked_nodes = 0; loads = NoLoads };
 })
 
 -- 3. Four bytes, and four more that are not there; a level, and another that is not there; a test of template levels. It is told so, and goes on.
-abbrev pub using : Part (Small (List Bool)) (List Bool)
-using = do
+abbrev pub uses : Part (Small (List Bool)) (List Bool)
+uses = do
   a ← try_use tt (TakeBytes 4)
   b ← try_use tt (TakeBytes 4)
   c ← try_use tt EnterDepth
@@ -73,43 +73,43 @@ using = do
 abbrev nothing_begins : Thing → Part (Small (List Bool)) (List Bool)
 nothing_begins t = give []
 
-abbrev pub Using : Type 0
-Using = perform nothing_begins wait (using Ends) (start 0 some_left []) ≡ Ended (true ∷ false ∷ true ∷ false ∷ true ∷ true ∷ []) (record {
+abbrev pub UsesAreAnswered : Type 0
+UsesAreAnswered = perform nothing_begins wait (uses Ends) (start 0 some_left []) ≡ Ended (true ∷ false ∷ true ∷ false ∷ true ∷ true ∷ []) (record {
   heap = 0;
   left = record some_left { bytes = 0 };
   in_progress = 0;
-  tally = record { height = 0; nodes = 0; called = 0; loads = NoLoads };
+  tally = record { height = 0; nodes = 0; invoked_nodes = 0; loads = NoLoads };
 })
 
 -- 4. A construct inside itself is opened three times, and the fourth time it is 7 in its place.
-abbrev pub nested : Act ℕ
-nested = open_or tt 7 Nest
+abbrev pub nest : Act ℕ
+nest = open_or tt 7 Nest
 
-abbrev pub Nested : Type 0
-Nested = perform meant wait (nested Ends) (start 0 some_left []) ≡ Ended 10 (record {
+abbrev pub NestingEndsWithNodes : Type 0
+NestingEndsWithNodes = perform meaning wait (nest Ends) (start 0 some_left []) ≡ Ended 10 (record {
   heap = 0;
   left = record some_left { nodes = 0 };
   in_progress = 0;
-  tally = record { height = 0; nodes = 0; called = 0; loads = NoLoads };
+  tally = record { height = 0; nodes = 0; invoked_nodes = 0; loads = NoLoads };
 })
 
 -- 5. Two questions inside a function. The first reply is given: it is a data load, of height 1. The second one is computed: ten times the question, for a step.
-abbrev pub asking : Act ℕ
-asking = in_call (do
+abbrev pub two_questions : Act ℕ
+two_questions = in_call (do
   a ← ask 1
   b ← ask 2
   give (a + b))
 
-abbrev pub loaded : Reply ℕ
-loaded = record { said = Gives 5; left = record some_left { steps = 8; calls = 1 }; tally = record { height = 1; nodes = 0; called = 0; loads = Load (68 ∷ []) 2 4 true NoLoads NoLoads } }
+abbrev pub load_reply : Reply ℕ
+load_reply = record { response = Gives 5; left = record some_left { steps = 8; calls = 1 }; tally = record { height = 1; nodes = 0; invoked_nodes = 0; loads = Load (68 ∷ []) 2 4 true NoLoads NoLoads } }
 
 abbrev pub tenfold : ℕ → Left → Option (Reply ℕ)
-tenfold q l = Some (record { said = Gives (10 * q); left = record l { steps = l.steps - 1 }; tally = record { height = 0; nodes = 9; called = 2; loads = NoLoads } })
+tenfold q l = Some (record { response = Gives (10 * q); left = record l { steps = l.steps - 1 }; tally = record { height = 0; nodes = 9; invoked_nodes = 2; loads = NoLoads } })
 
-abbrev pub Asking : Type 0
-Asking = perform meant tenfold (asking Ends) (start 0 some_left (loaded ∷ [])) ≡ Ended 25 (record {
+abbrev pub QuestionsAreAnswered : Type 0
+QuestionsAreAnswered = perform meaning tenfold (two_questions Ends) (start 0 some_left (load_reply ∷ [])) ≡ Ended 25 (record {
   heap = 0;
   left = record some_left { steps = 7 };
   in_progress = 0;
-  tally = record { height = 2; nodes = 0; called = 2; loads = Load (68 ∷ []) 2 4 true NoLoads NoLoads };
+  tally = record { height = 2; nodes = 0; invoked_nodes = 2; loads = Load (68 ∷ []) 2 4 true NoLoads NoLoads };
 })

@@ -10,32 +10,32 @@ abbrev pub Lua : Type 0
 Lua = Run ⊥ ℕ Thing ℕ ℕ (Outcome ℕ ℕ)
 
 -- it fails inside a function, with 9
-abbrev pub failing : Act Lua ℕ ℕ
-failing = in_call (do
+abbrev pub fail_inside : Act Lua ℕ ℕ
+fail_inside = in_call (do
   tick 2
   jump {X = Unit {0}} 9
   count
   give 1)
 
-abbrev pub rescued : Outcome ℕ ℕ → Act Lua ℕ ℕ
-rescued (Goes n) = give n
-rescued (Jumps n) = give (n + 1)
+abbrev pub rescue : Outcome ℕ ℕ → Act Lua ℕ ℕ
+rescue (Goes n) = give n
+rescue (Jumps n) = give (n + 1)
 
-abbrev pub jumping : Act Lua ℕ ℕ
-jumping = do
-  n ← catch failing rescued
+abbrev pub jumps : Act Lua ℕ ℕ
+jumps = do
+  n ← catch fail_inside rescue
   change n
-  failing
+  fail_inside
   tick 5
   give n
 
 abbrev nothing_begins : Thing → Act Lua ℕ ℕ
 nothing_begins t = give 0
 
-abbrev pub Jumping : Type 0
-Jumping = perform nothing_begins wait (jumping Ends) (start 0 some_left []) ≡ Ended (Jumps 9) (record {
+abbrev pub JumpsAreCaught : Type 0
+JumpsAreCaught = perform nothing_begins wait (jumps Ends) (start 0 some_left []) ≡ Ended (Jumps 9) (record {
   heap = 10;
   left = record some_left { steps = 6 };
   in_progress = 0;
-  tally = record { height = 1; nodes = 0; called = 0; loads = NoLoads };
+  tally = record { height = 1; nodes = 0; invoked_nodes = 0; loads = NoLoads };
 })

@@ -38,5 +38,5 @@ pub data Run (M H T Q A O : Type 0) : Type 0 where
   Asks : (question : Q) (rest : A → Run M H T Q A O) → Run M H T Q A O
 
 -- what stands for a thing that begins: its events, before those of what follows its outcome
-abbrev pub Meant : (M H T Q A O : Type 0) → Type 0
-Meant M H T Q A O = T → (O → Run M H T Q A O) → Run M H T Q A O
+abbrev pub Meaning : (M H T Q A O : Type 0) → Type 0
+Meaning M H T Q A O = T → (O → Run M H T Q A O) → Run M H T Q A O

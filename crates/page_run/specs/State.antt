@@ -20,30 +20,30 @@ pub record Tally : Type 0 where
   -- the nodes of syntax trees begun in it
   pub nodes : ℕ
   -- those begun in the runs of invocations inside it
-  pub called : ℕ
+  pub invoked_nodes : ℕ
   -- its data loads
   pub loads : Loads
 
 abbrev pub no_tally : Tally
-no_tally = record { height = 0; nodes = 0; called = 0; loads = NoLoads }
+no_tally = record { height = 0; nodes = 0; invoked_nodes = 0; loads = NoLoads }
 
 -- with what a reply tells, where so many calls are in progress: the calls of the reply's runs stand upon those
 abbrev pub join : ℕ → Tally → Tally → Tally
 join in_progress own inner = record {
   height = max own.height (in_progress + inner.height);
   nodes = own.nodes;
-  called = own.called + inner.called;
+  invoked_nodes = own.invoked_nodes + inner.invoked_nodes;
   loads = join_loads own.loads inner.loads;
 }
 
 -- an answer; or that the run is spent with it
-pub data Said (A : Type 0) : Type 0 where
-  Gives : (answer : A) → Said A
-  Exhausts : (which : Which) → Said A
+pub data Response (A : Type 0) : Type 0 where
+  Gives : (answer : A) → Response A
+  Exhausts : (which : Which) → Response A
 
 -- A REPLY to a question: what it says, what is left after it, and its own tally
 pub record Reply (A : Type 0) : Type 0 where
-  pub said : Said A
+  pub response : Response A
   pub left : Left
   pub tally : Tally
 
@@ -77,12 +77,12 @@ abbrev pub start : {H A : Type 0} → H → Left → List (Reply A) → State H 
 start heap left replies = record { heap = heap; left = left; in_progress = 0; tally = no_tally; replies = replies }
 
 -- the middle of a run, with no replies given
-abbrev pub resumed : {H A : Type 0} → H → Left → ℕ → Tally → State H A
-resumed heap l n told = record { heap = heap; left = l; in_progress = n; tally = told; replies = [] }
+abbrev pub resume : {H A : Type 0} → H → Left → ℕ → Tally → State H A
+resume heap l n tally = record { heap = heap; left = l; in_progress = n; tally = tally; replies = [] }
 
 -- at an end the calls in progress are given back
-abbrev pub all_back : {H A : Type 0} → State H A → Moment H
-all_back s = record { heap = s.heap; left = record s.left { calls = s.left.calls + s.in_progress }; in_progress = 0; tally = s.tally }
+abbrev pub with_calls_back : {H A : Type 0} → State H A → Moment H
+with_calls_back s = record { heap = s.heap; left = record s.left { calls = s.left.calls + s.in_progress }; in_progress = 0; tally = s.tally }
 
 -- A SEEN EVENT: the run has ended, or an allowance of Lua is spent, or it waits for the answer to a question
 pub data Event (H Q O : Type 0) : Type 0 where

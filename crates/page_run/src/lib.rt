@@ -1,6 +1,6 @@
 //! What a run is: of the Lua code that a page invokes, and of the expansion of the page itself.
 //!
-//! A run is the events that it makes, one after another. The definitions stand in `specs/`, in this order:
+//! A run is the events that it makes, one after another. The definitions stand in `specs/`, best read in this order:
 //!
 //! - `Run`: the events
 //! - `Part`, `Outcome`: parts of a run, one after another, and jumps past what follows

@@ -1,5 +1,5 @@
 //! Which data loads a run tells, and what the walk over them finds.
-ghost use Rattle.page_run.specs.Run.{Meant};
+ghost use Rattle.page_run.specs.Run.{Meaning};
 ghost use Rattle.page_run.specs.Walk.{RepeatIsKept, OtherIsFresh, WalkOfJoined, TellsNone, TellsReply};
 
 /// A completed load of a module whose load completed before is a repeat: its charge is kept, and what is inside it passed
@@ -25,11 +25,11 @@ pub fn walk_of_joined()
 /// Without a reply a run tells of no load and of no invocation.
 #[tactic(auto, using(crate::proofs::LoadLaws::tells_none))]
 pub fn tells_none<M, H, T, Q, A, O>()
-    ensures { (meant : Meant M H T Q A O) → TellsNone meant }
+    ensures { (meaning : Meaning M H T Q A O) → TellsNone meaning }
 {}
 
 /// With one reply more, a run that waited tells of that reply's loads and invocations after those so far, and of no others.
 #[tactic(auto, using(crate::proofs::LoadLaws::tells_reply))]
 pub fn tells_reply<M, H, T, Q, A, O>()
-    ensures { (meant : Meant M H T Q A O) → TellsReply meant }
+    ensures { (meaning : Meaning M H T Q A O) → TellsReply meaning }
 {}

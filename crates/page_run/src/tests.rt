@@ -4,19 +4,19 @@ use std::test::Fail;
 
 #[test]
 fn laws_are_called(_rt: HostRuntime) -> Result<(), Fail> {
-    events::ending::<(), u64, u8, u8, u8, u64>();
-    events::taking::<(), u64, u8, u8, u8, u64>();
-    events::counting::<(), u64, u8, u8, u8, u64>();
-    events::seeing::<(), u64, u8, u8, u8, u64>();
-    events::changing::<(), u64, u8, u8, u8, u64>();
-    events::calling::<(), u64, u8, u8, u8, u64>();
-    events::leaving::<(), u64, u8, u8, u8, u64>();
-    events::using_bytes::<(), u64, u8, u8, u8, u64>();
-    events::using_depth::<(), u64, u8, u8, u8, u64>();
-    events::using_templates::<(), u64, u8, u8, u8, u64>();
-    events::beginning::<(), u64, u8, u8, u8, u64>();
-    events::opening::<(), u64, u8, u8, u8, u64>();
-    events::asking::<(), u64, u8, u8, u8, u64>();
+    events::ends::<(), u64, u8, u8, u8, u64>();
+    events::takes::<(), u64, u8, u8, u8, u64>();
+    events::counts::<(), u64, u8, u8, u8, u64>();
+    events::sees::<(), u64, u8, u8, u8, u64>();
+    events::changes::<(), u64, u8, u8, u8, u64>();
+    events::calls::<(), u64, u8, u8, u8, u64>();
+    events::leaves::<(), u64, u8, u8, u8, u64>();
+    events::uses_bytes::<(), u64, u8, u8, u8, u64>();
+    events::uses_depth::<(), u64, u8, u8, u8, u64>();
+    events::uses_templates::<(), u64, u8, u8, u8, u64>();
+    events::begins::<(), u64, u8, u8, u8, u64>();
+    events::opens::<(), u64, u8, u8, u8, u64>();
+    events::asks::<(), u64, u8, u8, u8, u64>();
     replies::waiting_is_asking::<(), u64, u8, u8, u8, u64>();
     replies::end_stands::<(), u64, u8, u8, u8, u64>();
     replies::spent_stands::<(), u64, u8, u8, u8, u64>();
@@ -33,12 +33,12 @@ fn laws_are_called(_rt: HostRuntime) -> Result<(), Fail> {
     loads::repeat_is_kept();
     loads::other_is_fresh();
     loads::walk_of_joined();
-    examples::charged();
-    examples::endless();
-    examples::using();
-    examples::nested();
-    examples::asking();
-    examples::jumping();
+    examples::charges_are_taken();
+    examples::endless_loop_is_spent();
+    examples::uses_are_answered();
+    examples::nesting_ends_with_nodes();
+    examples::questions_are_answered();
+    examples::jumps_are_caught();
     Ok(())
 }
 

@@ -33,7 +33,7 @@ pub question_is : (w : Setting) (p : Page) (k : List ℕ → Page) (work : Work)
 question_is w p k work first l l' given job at h =
     subst (λ e. Asks e job l') (sym (now_is w p (Run.Asks job k) work first l l' given at h ∙ (asks_is (meant w) wait no_rise-wait job k (state l' at.tally [])).2 refl refl)) (refl, refl)
 
-pub waits_is : (w : Setting) (p : Page) (k : List ℕ → Page) (work : Work) (first l l' : Left) (given : List (Reply (List ℕ))) (job : Job) → AtPoint w p work first given l → Leads w p l (Run.Asks job k) l' → (r : Reply (List ℕ)) (x : List ℕ) → r.said ≡ Gives x → AtPoint w (k x) work first (given ++ r ∷ []) r.left
+pub waits_is : (w : Setting) (p : Page) (k : List ℕ → Page) (work : Work) (first l l' : Left) (given : List (Reply (List ℕ))) (job : Job) → AtPoint w p work first given l → Leads w p l (Run.Asks job k) l' → (r : Reply (List ℕ)) (x : List ℕ) → r.response ≡ Gives x → AtPoint w (k x) work first (given ++ r ∷ []) r.left
 waits_is w p k work first l l' given job at h r x said = record {
   tally = join 0 at.tally r.tally;
   goes_on = λ more.

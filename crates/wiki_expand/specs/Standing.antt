@@ -110,14 +110,14 @@ At e work first given left = AtIf (setting_of e) (doing_point e.doing (setting_o
 
 -- IT WAITS for a reply to the next question.
 abbrev pub Waits : Expander → Work → Left → List (Reply (List ℕ)) → Type 0
-Waits e work first given = (r : Reply (List ℕ)) (x : List ℕ) → r.said ≡ Gives x → AtPoint (setting_of e) (plug (setting_of e) e.stack (scene_in e.scene) x) work first (given ++ r ∷ []) r.left
+Waits e work first given = (r : Reply (List ℕ)) (x : List ℕ) → r.response ≡ Gives x → AtPoint (setting_of e) (plug (setting_of e) e.stack (scene_in e.scene) x) work first (given ++ r ∷ []) r.left
 
 -- a move is the definition's: the text that the run comes to, or the invocation that it asks for, after which it waits
 abbrev pub MoveAt : Move → Setting → List Frame → Scene → Work → Left → List (Reply (List ℕ)) → Left → Type 0
 MoveAt (Came text) w fs sc work first given left = Comes (told w work first given) text left
 MoveAt (Invokes job) w fs sc work first given left =
     Asks (told w work first given) job left
-    × ((r : Reply (List ℕ)) (x : List ℕ) → r.said ≡ Gives x → AtPoint w (plug w fs sc x) work first (given ++ r ∷ []) r.left)
+    × ((r : Reply (List ℕ)) (x : List ℕ) → r.response ≡ Gives x → AtPoint w (plug w fs sc x) work first (given ++ r ∷ []) r.left)
 
 abbrev pub IsMove : Move → Expander → Work → Left → List (Reply (List ℕ)) → Left → Type 0
 IsMove m e work first given left = MoveAt m (setting_of e) e.stack (scene_in e.scene) work first given left

@@ -308,7 +308,7 @@ impl<'w> Expander<'w> {
     /// Goes on with the text of the invocation that it waits for.
     pub fn answer(&mut self, left: &mut Left, text: Bytes) -> Result<(), NoMemory>
         requires waiting { IsWaiting self.old }
-        ensures at { OnOk result ((work : Work) (first : LeftOver) (given : List (Reply (List ℕ))) (r : Reply (List ℕ)) → Waits self.old work first given → r.said ≡ Gives text → r.left ≡ left.old → At self.new work first (given ++ r ∷ []) left.new) }
+        ensures at { OnOk result ((work : Work) (first : LeftOver) (given : List (Reply (List ℕ))) (r : Reply (List ℕ)) → Waits self.old work first given → r.response ≡ Gives text → r.left ≡ left.old → At self.new work first (given ++ r ∷ []) left.new) }
         ensures left { left.new ≡ left.old }
         ensures setting { OnOk result (setting_of self.new ≡ setting_of self.old) }
         ensures ready { OnOk result (IsReady self.new) }

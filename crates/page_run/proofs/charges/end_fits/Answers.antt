@@ -3,4 +3,4 @@ use Rattle.page_run.proofs.FitLaws.{end_fits}
 use Rattle.page_run.proofs.charges.end_fits.Goals as goal
 
 pub returns : goal.returns
-returns g c = λ meant. end_fits meant
+returns g c = λ meaning. end_fits meaning

@@ -1,0 +1,24 @@
+-- FUNCTIONS OF `mw` that call back nobody (Scribunto, mw library and mw.title).
+use Rattle.std.specs.Prelude.{List, [], ◌∷◌, length, codes}
+use Rattle.wk_base.specs.declared.title.Title.{Title}
+use Rattle.wk_base.specs.Titles.{title_text, prefix_of}
+use Rattle.lua_heap.specs.Value.{Value, Nil, Text, Table}
+use Rattle.lua_heap.specs.Table.{Entries}
+use Rattle.lua_heap.specs.Heap.{Heap}
+use Rattle.lua_meaning.specs.Arguments.{Plain, gives, costs}
+use Rattle.lua_meaning.specs.Frames.{with_table}
+
+-- `mw.log(...)` does nothing
+abbrev pub log : {X : Type 0} → List Value → Heap X → Plain X
+log args h = gives h []
+
+-- `mw.title.getCurrentTitle()` gives a table with the texts of the page's title. It costs a table with three entries.
+abbrev pub title_entries : Title → Entries
+title_entries title =
+    (Text (codes "text"), Text title.name)
+    ∷ (Text (codes "nsText"), Text (prefix_of title.ns))
+    ∷ (Text (codes "prefixedText"), Text (title_text title))
+    ∷ []
+
+abbrev pub get_current_title : {X : Type 0} → Title → Heap X → Plain X
+get_current_title page h = costs 20 (with_table h (title_entries page) Nil) (Table (length h.tables) ∷ [])

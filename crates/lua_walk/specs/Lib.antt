@@ -1,0 +1,4 @@
+pub mod Order
+pub mod Data
+pub mod Copy
+pub mod Examples

@@ -1,6 +1,0 @@
--- The law, at the types of the function.
-use Rattle.page_run.proofs.EventLaws.{templates_are}
-use Rattle.page_run.proofs.events.using_templates.Goals as goal
-
-pub returns : goal.returns
-returns g c = λ meant beyond nr. templates_are meant beyond nr
