@@ -13,6 +13,5 @@
 #![tactic(auto)]
 
 pub mod examples;
-
 #[cfg(test)]
 mod tests;
