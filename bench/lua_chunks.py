@@ -423,6 +423,11 @@ FRAMES = [
     framed("numbered_frames", "A frame is known by the number in its metatable.",
            "local copy=setmetatable({},{0})\nreturn frame.getTitle(copy),tostring(frame==mw.getCurrentFrame()),tostring(getmetatable(frame)),tostring(getmetatable(frame.args))",
            "Module:Xtruefalsefalse"),
+    framed("copied_frames", "A copy of a frame is that frame, and a copy of read-only data can be written.",
+           "local c=mw.clone(frame)\nlocal d=mw.clone(mw.loadData('Module:D'))\nd.x='w'\nlocal t={}\nt.a=t\nlocal e=mw.clone(t)\nreturn c:getTitle(),tostring(c==frame),c.args[1],c.args['1'],d.x,tostring(e.a==e),tostring(e==t),mw.clone(5)",
+           "Module:Xfalseaawtruefalse5", args=[("1", "a")], replies=[loaded_x(3000)]),
+    framed_cost("clone_costs", "`mw.clone` costs 8 for each table, metatables included, and 4 for each entry.",
+                "mw.clone(setmetatable({{}},{__len=1}))", [1 + 1 + 3, 2, 9 + 9 + 4, 9 + 1 + 1 + 4, 1, 1, 3 * 8 + 2 * 4]),
     framed("no_frame", "What is no frame of the run is refused.",
            "local function e(f,...) return select(2,pcall(f,...))..';' end\nreturn e(frame.getTitle,{}),e(frame.getParent),e(frame.preprocess,setmetatable({},{1}),'x'),e(frame.preprocess,frame,{}),e(frame.getArgument,frame)",
            "bad argument #1 to 'getTitle' (frame expected, got table);bad argument #1 to 'getParent' (frame expected, got no value);bad argument #1 to 'preprocess' (frame expected, got table);"

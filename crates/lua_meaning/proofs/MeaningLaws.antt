@@ -1,5 +1,5 @@
 -- The laws of the meaning: mostly they compute, form by form.
-use Rattle.std.proofs.Common.{◌≡◌, refl, subst, arith, ℕ, ◌+◌, List, []}
+use Rattle.std.proofs.Common.{◌≡◌, refl, ap, ◌∙◌, subst, arith, ℕ, ◌+◌, Bool, false, List, []}
 use Rattle.lua_syntax.specs.declared.BinaryOp.{BinaryOp}
 use Rattle.lua_syntax.specs.declared.BinaryOp.TheVariants as op
 use Rattle.lua_syntax.specs.Tree.{NilE, TrueE, FalseE, NumberE, TextE, DotsE, FunctionE, NameE, IndexE, CallE, MethodE, TableE, BinaryE, UnaryE, ParenE}
@@ -8,19 +8,21 @@ use Rattle.page_run.specs.Outcome.{Outcome}
 use Rattle.page_run.specs.State.{start}
 use Rattle.page_run.specs.Perform.{perform}
 use Rattle.page_run.specs.Charges.{GivenBack}
-use Rattle.page_run.proofs.EventLaws.{begins_is}
+use Rattle.page_run.proofs.EventLaws.{begins_is, asks_is, sees_is, changes_is}
 use Rattle.page_run.proofs.ChargeLaws.{calls_come_back}
 use Rattle.page_run.proofs.FitLaws.{more_is_as_good}
-use Rattle.lua_heap.specs.Value.{Value}
+use Rattle.lua_heap.specs.Value.{Value, is_nil}
 use Rattle.lua_heap.specs.Value as value
 use Rattle.lua_meaning.specs.Scope.{Scope}
-use Rattle.lua_meaning.specs.Acts.{LuaRun, Jump, WhileTurn, RepeatTurn, CountTurn, EachTurn, Body, LibraryBody, ChunkBody, IndexLink, SetLink, CallLink}
+use Rattle.lua_meaning.specs.Acts.{LuaRun, Act, Jump, choose, WhileTurn, RepeatTurn, CountTurn, EachTurn, Body, LibraryBody, ChunkBody, IndexLink, SetLink, CallLink}
 use Rattle.lua_meaning.specs.Parts.{Expression}
 use Rattle.lua_meaning.specs.Expressions.{binary}
 use Rattle.lua_meaning.specs.Things.{meaning_of}
+use Rattle.lua_meaning.specs.Questions.{Loaded}
+use Rattle.lua_meaning.specs.Waiting.{receive}
 use Rattle.lua_meaning.specs.Home.{home}
 use Rattle.lua_meaning.specs.Start.{run_of, Done, DoneData, Failed}
-use Rattle.lua_meaning.specs.Laws.{ThingsUnfold, IsNode, ExpressionsAreNodes, StatementsAreNodes, TargetNamesAreNone, TurnsAreCounted, EntriesAreCounted, CallsAreGivenBack, MoreChangesNothing, EndsAreTold, WaitsAreNamed}
+use Rattle.lua_meaning.specs.Laws.{ThingsUnfold, IsNode, ExpressionsAreNodes, StatementsAreNodes, TargetNamesAreNone, TurnsAreCounted, EntriesAreCounted, CallsAreGivenBack, MoreChangesNothing, EndsAreTold, CallsAreNamed, ModulesAreNamed, QuestionsAreNamed, TablesAreJoined}
 
 pub things_unfold : ThingsUnfold
 things_unfold world beyond no_rise = begins_is (meaning_of world) beyond no_rise
@@ -122,5 +124,20 @@ ends_are_told (DoneData (value.Builtin b)) end = absurd end
 ends_are_told (DoneData (value.Markup m)) end = absurd end
 ends_are_told (Failed t) end = refl
 
-pub waits_are_named : WaitsAreNamed
-waits_are_named callers v h args k = (refl, refl)
+-- one branch or the other, where the test is known
+chosen : {X : Type 0} → (b : Bool) (x y : Act X) (k : Outcome X Jump → LuaRun) → b ≡ false → choose b x y k ≡ y k
+chosen b x y k e = ap (λ t. choose t x y k) e
+
+pub calls_are_named : CallsAreNamed
+calls_are_named callers v h args k = (refl, refl, refl, λ e. chosen (is_nil h) _ _ k e, λ e. chosen (is_nil h) _ _ k e, λ e. chosen (is_nil h) _ _ k e)
+
+pub modules_are_named : ModulesAreNamed
+modules_are_named callers title m k = refl
+
+pub questions_are_named : QuestionsAreNamed
+questions_are_named callers question asked text title k = (refl, refl)
+
+pub tables_are_joined : TablesAreJoined
+tables_are_joined world beyond nr question waits k s r more graph given says =
+    let go = ((asks_is (meaning_of world) beyond nr question (λ a. receive a (λ o. waits o k)) s).0 r more given).0 (Loaded graph) says in
+    go ∙ sees_is (meaning_of world) beyond nr _ _ ∙ sees_is (meaning_of world) beyond nr _ _ ∙ changes_is (meaning_of world) beyond nr _ _ _

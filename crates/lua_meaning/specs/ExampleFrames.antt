@@ -8,7 +8,7 @@ use Rattle.lua_syntax.specs.Tree.{AssignS, CallS, DoS, WhileS, RepeatS, IfS, IfE
 use Rattle.lua_syntax.specs.View.{exps_of, fields_of, arms_of, stats_of}
 use Rattle.page_run.specs.declared.which.Which.TheVariants.{Steps, Calls}
 use Rattle.wk_base.specs.declared.title.Namespace.TheVariants.{Main}
-use Rattle.lua_meaning.specs.Questions.{Template, Preprocess, Data}
+use Rattle.mw_frame.specs.declared.question.Ask.TheVariants.{Template, Preprocess, Data}
 use Rattle.lua_heap.specs.Value.{Nil, Truth, Number, Text, Table}
 use Rattle.lua_meaning.specs.Questions.{Expanded, NoPage, Loaded, LoadFailed}
 use Rattle.lua_meaning.specs.Trial.{Gives, Fails, Spends, Loads, Asks, without_steps, arg, invoked, invoked_with, invoked_on, loaded, faulted, counted, held, template_title, module_title, own_scene, scene_in_template, reply, spent, asked}
@@ -393,6 +393,54 @@ numbered_frames = stats_of (ReturnS 1 (exps_of (TableE 1 (fields_of (Pair (TextE
 abbrev pub NumberedFrames : Type 0
 NumberedFrames = without_steps (asked (held (codes "X") 193 numbered_frames ∷ []) [] (codes "X") 6000 []) ≡ Gives (codes "Module:Xtruefalsefalse") 0
 
+-- A copy of a frame is that frame, and a copy of read-only data can be written.
+--     return {f=function(frame)
+--     local c=mw.clone(frame)
+--     local d=mw.clone(mw.loadData('Module:D'))
+--     d.x='w'
+--     local t={}
+--     t.a=t
+--     local e=mw.clone(t)
+--     return c:getTitle(),tostring(c==frame),c.args[1],c.args['1'],d.x,tostring(e.a==e),tostring(e==t),mw.clone(5)
+--     end}
+abbrev pub copied_frames : Block
+copied_frames = stats_of (ReturnS 1 (exps_of (TableE 1 (fields_of (Pair (TextE 1 (codes "f")) (FunctionE 1 (Lambda (codes "frame" ∷ []) false (stats_of (
+    LocalS 2 (codes "c" ∷ []) (exps_of (CallE 2 (IndexE 2 (NameE 2 (codes "mw")) (TextE 2 (codes "clone"))) (exps_of (NameE 2 (codes "frame") ∷ [])) ∷ []))
+    ∷ LocalS 3 (codes "d" ∷ []) (exps_of (CallE 3 (IndexE 3 (NameE 3 (codes "mw")) (TextE 3 (codes "clone"))) (exps_of (
+        CallE 3 (IndexE 3 (NameE 3 (codes "mw")) (TextE 3 (codes "loadData"))) (exps_of (TextE 3 (codes "Module:D") ∷ []))
+        ∷ [])) ∷ []))
+    ∷ AssignS 4 (exps_of (IndexE 4 (NameE 4 (codes "d")) (TextE 4 (codes "x")) ∷ [])) (exps_of (TextE 4 (codes "w") ∷ []))
+    ∷ LocalS 5 (codes "t" ∷ []) (exps_of (TableE 5 NoField ∷ []))
+    ∷ AssignS 6 (exps_of (IndexE 6 (NameE 6 (codes "t")) (TextE 6 (codes "a")) ∷ [])) (exps_of (NameE 6 (codes "t") ∷ []))
+    ∷ LocalS 7 (codes "e" ∷ []) (exps_of (CallE 7 (IndexE 7 (NameE 7 (codes "mw")) (TextE 7 (codes "clone"))) (exps_of (NameE 7 (codes "t") ∷ [])) ∷ []))
+    ∷ ReturnS 8 (exps_of (
+        MethodE 8 (NameE 8 (codes "c")) (codes "getTitle") NoExp
+        ∷ CallE 8 (NameE 8 (codes "tostring")) (exps_of (BinaryE 8 op.Eq (NameE 8 (codes "c")) (NameE 8 (codes "frame")) ∷ []))
+        ∷ IndexE 8 (IndexE 8 (NameE 8 (codes "c")) (TextE 8 (codes "args"))) (NumberE 8 (pos 1))
+        ∷ IndexE 8 (IndexE 8 (NameE 8 (codes "c")) (TextE 8 (codes "args"))) (TextE 8 (codes "1"))
+        ∷ IndexE 8 (NameE 8 (codes "d")) (TextE 8 (codes "x"))
+        ∷ CallE 8 (NameE 8 (codes "tostring")) (exps_of (BinaryE 8 op.Eq (IndexE 8 (NameE 8 (codes "e")) (TextE 8 (codes "a"))) (NameE 8 (codes "e")) ∷ []))
+        ∷ CallE 8 (NameE 8 (codes "tostring")) (exps_of (BinaryE 8 op.Eq (NameE 8 (codes "e")) (NameE 8 (codes "t")) ∷ []))
+        ∷ CallE 8 (IndexE 8 (NameE 8 (codes "mw")) (TextE 8 (codes "clone"))) (exps_of (NumberE 8 (pos 5) ∷ []))
+        ∷ []))
+    ∷ [])))) ∷ [])) ∷ [])) ∷ [])
+
+abbrev pub CopiedFrames : Type 0
+CopiedFrames = without_steps (asked (held (codes "X") 250 copied_frames ∷ []) (arg (codes "1") (codes "a") ∷ []) (codes "X") 6000 (reply (Loaded (((Text (codes "x"), Text (codes "v")) ∷ []) ∷ [])) 3000 ∷ [])) ≡ Gives (codes "Module:Xfalseaawtruefalse5") 0
+
+-- `mw.clone` costs 8 for each table, metatables included, and 4 for each entry.
+--     return {f=function(frame)
+--     mw.clone(setmetatable({{}},{__len=1}))
+--     end}
+abbrev pub clone_costs : Block
+clone_costs = stats_of (ReturnS 1 (exps_of (TableE 1 (fields_of (Pair (TextE 1 (codes "f")) (FunctionE 1 (Lambda (codes "frame" ∷ []) false (stats_of (CallS 2 (CallE 2 (IndexE 2 (NameE 2 (codes "mw")) (TextE 2 (codes "clone"))) (exps_of (CallE 2 (NameE 2 (codes "setmetatable")) (exps_of (
+    TableE 2 (fields_of (Item (TableE 2 NoField) ∷ []))
+    ∷ TableE 2 (fields_of (Pair (TextE 2 (codes "__len")) (NumberE 2 (pos 1)) ∷ []))
+    ∷ [])) ∷ []))) ∷ [])))) ∷ [])) ∷ [])) ∷ [])
+
+abbrev pub CloneCosts : Type 0
+CloneCosts = (asked (held (codes "X") 69 clone_costs ∷ []) [] (codes "X") 1173 [] ≡ Gives [] 0) × (asked (held (codes "X") 69 clone_costs ∷ []) [] (codes "X") 1172 [] ≡ Spends Steps 0)
+
 -- What is no frame of the run is refused.
 --     return {f=function(frame)
 --     local function e(f,...) return select(2,pcall(f,...))..';' end
@@ -541,6 +589,8 @@ AllFrames =
     × FramesKeepArguments
     × QuestionsKeepArguments
     × NumberedFrames
+    × CopiedFrames
+    × CloneCosts
     × NoFrame
     × Tags
     × BadTags

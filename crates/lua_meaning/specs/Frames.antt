@@ -1,5 +1,6 @@
 -- FRAMES (Scribunto, Frame object): the tables by which an invoked function sees its arguments.
 use Rattle.std.specs.Prelude.{ℕ, ◌+◌, pos, Bool, false, ◌&&◌, not, List, [], ◌∷◌, length, Option, Some, None, option_map, if◌then◌else◌, nat_le, nat_lt, slice_get, slice_index, ◌==◌, bytes_eq, codes}
+use Rattle.std.specs.Char.{is_ascii_digit}
 use Rattle.std.specs.List.{list_all}
 use Rattle.std.specs.Str.Parse.{digits_value}
 use Rattle.lua_heap.specs.Value.{Value, Nil, Truth, Number, Text, Table, Builtin}
@@ -38,11 +39,8 @@ args_charge [] = 0
 args_charge (a ∷ more) = 4 + length a.name + length a.value + args_charge more
 
 -- THE KEY of an argument's name in `args`: a decimal from 1 on without a leading zero, of at most 18 digits, is a number
-abbrev pub is_digit : ℕ → Bool
-is_digit c = nat_le 48 c && nat_le c 57
-
 abbrev pub is_place : Bytes → Bool
-is_place name = nat_lt 0 (length name) && nat_le (length name) 18 && list_all is_digit name && not (slice_index name 0 == 48)
+is_place name = nat_lt 0 (length name) && nat_le (length name) 18 && list_all is_ascii_digit name && not (slice_index name 0 == 48)
 
 abbrev pub arg_key : Bytes → Value
 arg_key name = if is_place name then Number (pos (digits_value 10 name)) else Text name

@@ -4,7 +4,7 @@ use Rattle.std.specs.Prelude.{[], ◌∷◌, codes}
 use Rattle.lua_heap.specs.Value.{Nil, Text, Table}
 use Rattle.lua_heap.specs.Table.{Entries}
 use Rattle.lua_heap.specs.Heap.{Heap, empty}
-use Rattle.lua_heap.specs.declared.library.Library.TheVariants.{BasicAssert, BasicError, BasicGetMetatable, BasicSetMetatable, BasicIpairs, BasicPairs, BasicNext, BasicPcall, BasicXpcall, BasicRawEqual, BasicRawGet, BasicRawSet, BasicSelect, BasicToNumber, BasicToString, BasicType, BasicUnpack, BasicRequire, MwLog, MwGetCurrentTitle, MwLoadData, MwGetCurrentFrame}
+use Rattle.lua_heap.specs.declared.library.Library.TheVariants.{BasicAssert, BasicError, BasicGetMetatable, BasicSetMetatable, BasicIpairs, BasicPairs, BasicNext, BasicPcall, BasicXpcall, BasicRawEqual, BasicRawGet, BasicRawSet, BasicSelect, BasicToNumber, BasicToString, BasicType, BasicUnpack, BasicRequire, MwClone, MwLog, MwGetCurrentTitle, MwLoadData, MwGetCurrentFrame}
 use Rattle.lua_meaning.specs.Scope.{Function}
 use Rattle.lua_meaning.specs.Acts.{State}
 use Rattle.lua_meaning.specs.Frames.{function_entry, with_table}
@@ -43,7 +43,8 @@ strings = []
 -- `mw`: table 2
 abbrev pub mw : Entries
 mw =
-    function_entry (codes "log") MwLog
+    function_entry (codes "clone") MwClone
+    ∷ function_entry (codes "log") MwLog
     ∷ (Text (codes "title"), Table 3)
     ∷ function_entry (codes "loadData") MwLoadData
     ∷ function_entry (codes "getCurrentFrame") MwGetCurrentFrame

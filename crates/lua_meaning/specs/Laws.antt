@@ -1,28 +1,34 @@
 -- LAWS OF THE MEANING, which the functions of this crate ensure.
-use Rattle.std.specs.Prelude.{◌≡◌, ℕ, ◌+◌, List, []}
+use Rattle.std.specs.Prelude.{◌≡◌, ℕ, ◌+◌, true, false, List, [], ◌∷◌, None}
+use Rattle.wk_base.specs.declared.title.Title.{Title}
 use Rattle.wk_base.specs.declared.left.Left.{Left}
 use Rattle.lua_syntax.specs.Tree.{Exp, Stat, NameE}
 use Rattle.page_run.specs.Run.{Takes, Counts, Calls}
-use Rattle.page_run.specs.Outcome.{Outcome, Goes}
-use Rattle.page_run.specs.State.{Replier, Moment, Ended, start}
+use Rattle.page_run.specs.Outcome.{Outcome, Goes, Jumps, ◌>>◌, catch}
+use Rattle.page_run.specs.State.{State as Middle, Gives as Responds, Reply, Replier, Moment, Ended, start}
 use Rattle.page_run.specs.Perform.{perform, NoRise}
-use Rattle.page_run.specs.Events.{BeginsIs}
+use Rattle.page_run.specs.Events.{BeginsIs, state_after_reply}
 use Rattle.page_run.specs.Charges.{KeepsCalls, RepliesFit, GivenBack}
-use Rattle.lua_heap.specs.Value.{Value, Table}
-use Rattle.lua_meaning.specs.Scope.{Scope, Levels, cell_of, levels}
+use Rattle.lua_heap.specs.Value.{Value, Table, is_nil}
+use Rattle.lua_heap.specs.Graph.{Graph, join, joined_root}
+use Rattle.lua_meaning.specs.Scope.{Bytes, Scope, Levels, cell_of, levels}
 use Rattle.mw_frame.specs.declared.question.Ask.{Ask}
-use Rattle.lua_meaning.specs.Questions.{Answer}
+use Rattle.mw_frame.specs.declared.question.Ask.TheVariants.{Data}
+use Rattle.lua_meaning.specs.Questions.{Answer, Loaded, Asked, DataAsked}
 use Rattle.lua_meaning.specs.Values.{first, rest, second}
-use Rattle.lua_meaning.specs.Acts.{LuaRun, Jump, State, Thing, WhileTurn, RepeatTurn, CountTurn, EachTurn, Body, LibraryBody, ChunkBody}
+use Rattle.lua_meaning.specs.Acts.{LuaRun, Jump, Raised, Running, State, Thing, WhileTurn, RepeatTurn, CountTurn, EachTurn, Body, LibraryBody, ChunkBody}
 use Rattle.lua_meaning.specs.Parts.{Target}
 use Rattle.lua_meaning.specs.Expressions.{name_target}
 use Rattle.lua_meaning.specs.Meaning.{expression, target, statement}
-use Rattle.lua_meaning.specs.Waiting.{calling}
-use Rattle.lua_meaning.specs.CallBacks.{pcall, xpcall}
-use Rattle.lua_meaning.specs.Pending.{PcallWaits, XpcallWaits, resumes}
+use Rattle.lua_meaning.specs.FrameMethods.{FrameAsks}
+use Rattle.lua_meaning.specs.Waiting.{Waits, calling, asking}
+use Rattle.lua_meaning.specs.CallBacks.{pcall, xpcall, xpcall_answer, to_string_by, pairs_by, ipairs_by}
+use Rattle.lua_meaning.specs.Modules.{run_chunk, keep_module, run_module, load_as}
+use Rattle.lua_meaning.specs.Pending.{PcallWaits, XpcallWaits, HandlerWaits, ToStringWaits, PairsWaits, ModuleWaits, resumes, hears}
+use Rattle.lua_meaning.specs.Libraries.{framed_end}
 use Rattle.lua_meaning.specs.Things.{meaning_of}
 use Rattle.lua_meaning.specs.Home.{home}
-use Rattle.lua_meaning.specs.World.{World}
+use Rattle.lua_meaning.specs.World.{Module, World}
 use Rattle.lua_meaning.specs.Start.{Work, End, DoneData, run_of, outcome_of, end_of}
 
 -- A THING that begins takes a step and does what it means, or the run is spent; no bound on the number of things is seen.
@@ -86,8 +92,28 @@ IsEnd e = Unit {0}
 abbrev pub EndsAreTold : Type 0
 EndsAreTold = (e : End) → IsEnd e → end_of (outcome_of e) ≡ e
 
--- WHAT WAITS for the outcome of a call is what the table of the protocol says.
-abbrev pub WaitsAreNamed : Type 0
-WaitsAreNamed = (callers : Levels) (v h : Value) (args : List Value) (k : Outcome (List Value) Jump → LuaRun) →
+-- WHAT WAITS is what the tables of names say, for each name.
+abbrev pub CallsAreNamed : Type 0
+CallsAreNamed = (callers : Levels) (v h : Value) (args : List Value) (k : Outcome (List Value) Jump → LuaRun) →
     (pcall args k ≡ calling (first args) (rest args) (resumes PcallWaits callers) k)
     × (xpcall args k ≡ calling (first args) [] (resumes (XpcallWaits (second args)) callers) k)
+    × (xpcall_answer h (Jumps (Raised v)) k ≡ calling h (v ∷ []) (resumes HandlerWaits callers) k)
+    × (is_nil h ≡ false → to_string_by h v callers k ≡ calling h (v ∷ []) (resumes ToStringWaits callers) k)
+    × (is_nil h ≡ false → pairs_by h args callers k ≡ calling h (first args ∷ []) (resumes PairsWaits callers) k)
+    × (is_nil h ≡ false → ipairs_by h args callers k ≡ calling h (first args ∷ []) (resumes PairsWaits callers) k)
+
+abbrev pub ModulesAreNamed : Type 0
+ModulesAreNamed = (callers : Levels) (title : Title) (m : Module) (k : Outcome (List Value) Jump → LuaRun) →
+    run_module title m k ≡ (keep_module title Running >> catch (run_chunk title m) (resumes (ModuleWaits title) callers)) k
+
+abbrev pub QuestionsAreNamed : Type 0
+QuestionsAreNamed = (callers : Levels) (question : Ask) (asked : Asked) (text : Bytes) (title : Title) (k : Outcome (List Value) Jump → LuaRun) →
+    (framed_end (FrameAsks question asked) callers k ≡ asking question (hears asked callers) k)
+    × (load_as text title None callers k ≡ asking (Data title) (hears (DataAsked text title) callers) k)
+
+-- THE TABLES of a data module stand behind those of the heap, and what waits gets their root.
+abbrev pub TablesAreJoined : Type 0
+TablesAreJoined = (world : World) (beyond : Replier Ask Answer) → NoRise beyond → (question : Ask) (waits : Waits) (k : Outcome (List Value) Jump → LuaRun) →
+    (s : Middle State Answer) (r : Reply Answer) (more : List (Reply Answer)) (graph : Graph) → s.replies ≡ r ∷ more → r.response ≡ Responds (Loaded graph) →
+    perform (meaning_of world) beyond (asking question waits k) s
+    ≡ perform (meaning_of world) beyond (waits (Goes (joined_root s.heap.heap ∷ [])) k) (record (state_after_reply r more s) { heap = record s.heap { heap = join true graph s.heap.heap } })

@@ -11,7 +11,7 @@ use Rattle.lua_meaning.specs.Acts.{Act, Frame}
 use Rattle.lua_meaning.specs.Messages.{fail, not_built}
 use Rattle.lua_meaning.specs.Arguments.{Plain, plain_act, end_act}
 use Rattle.lua_meaning.specs.Basic.{assert, error, get_metatable, set_metatable, raw_equal, raw_get, raw_set, select, to_number, kind, unpack, next}
-use Rattle.lua_meaning.specs.Mw.{log, get_current_title}
+use Rattle.lua_meaning.specs.Mw.{log, clone, get_current_title}
 use Rattle.lua_meaning.specs.Frames.{args_index, argument_expand}
 use Rattle.lua_meaning.specs.FrameMethods.{FramedEnd, FrameEnds, FrameAsks, FrameWalks, Framed, get_current_frame, get_title, get_parent, argument_pairs, get_argument, preprocess, frame_extension_tag, expand_template, new_child}
 use Rattle.lua_meaning.specs.Waiting.{asking}
@@ -79,7 +79,7 @@ form world MathFmod args h frames = NotBuilt
 form world MathMax args h frames = NotBuilt
 form world MathMin args h frames = NotBuilt
 form world MathPow args h frames = NotBuilt
-form world MwClone args h frames = NotBuilt
+form world MwClone args h frames = Answers (clone args h)
 form world MwLog args h frames = Answers (log args h)
 form world MwGetCurrentTitle args h frames = Answers (get_current_title world.page h)
 form world MwLoadData args h frames = CallsBack LoadData

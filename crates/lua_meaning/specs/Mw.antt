@@ -5,12 +5,18 @@ use Rattle.wk_base.specs.Titles.{title_text, prefix_of}
 use Rattle.lua_heap.specs.Value.{Value, Nil, Text, Table}
 use Rattle.lua_heap.specs.Table.{Entries}
 use Rattle.lua_heap.specs.Heap.{Heap}
+use Rattle.lua_walk.specs.Copy.{copied, copy_cost}
+use Rattle.lua_meaning.specs.Values.{first}
 use Rattle.lua_meaning.specs.Arguments.{Plain, gives, costs}
 use Rattle.lua_meaning.specs.Frames.{with_table}
 
 -- `mw.log(...)` does nothing
 abbrev pub log : {X : Type 0} → List Value → Heap X → Plain X
 log args h = gives h []
+
+-- `mw.clone(v)` gives a copy, with all tables that are reached; it costs 8 steps for each of them, and 4 for each of their entries
+abbrev pub clone : {X : Type 0} → List Value → Heap X → Plain X
+clone args h = costs (copy_cost h (first args)) (copied h (first args)).0 ((copied h (first args)).1 ∷ [])
 
 -- `mw.title.getCurrentTitle()` gives a table with the texts of the page's title. It costs a table with three entries.
 abbrev pub title_entries : Title → Entries

@@ -1,5 +1,5 @@
 //! The laws of the meaning: `specs/Laws.antt` says them.
-ghost use Rattle.lua_meaning.specs.Laws.{ThingsUnfold, ExpressionsAreNodes, StatementsAreNodes, TargetNamesAreNone, TurnsAreCounted, EntriesAreCounted, CallsAreGivenBack, MoreChangesNothing, EndsAreTold, WaitsAreNamed};
+ghost use Rattle.lua_meaning.specs.Laws.{ThingsUnfold, ExpressionsAreNodes, StatementsAreNodes, TargetNamesAreNone, TurnsAreCounted, EntriesAreCounted, CallsAreGivenBack, MoreChangesNothing, EndsAreTold, CallsAreNamed, ModulesAreNamed, QuestionsAreNamed, TablesAreJoined};
 
 /// A thing that begins takes one step and does what it means; where no step is left, the run is spent. This is the meaning of
 /// loops, of functions and of chains of handlers, said without a bound on their number.
@@ -38,10 +38,17 @@ pub fn more_changes_nothing()
     ensures { MoreChangesNothing }
 {}
 
-/// What waits for the outcome of a call is what the table of names says that a machine keeps.
-#[tactic(auto, using(crate::proofs::MeaningLaws::waits_are_named))]
+/// What waits for the outcome of a call, or for the answer to a question, is what the tables of names say that a machine
+/// keeps, for each name.
 pub fn waits_are_named()
-    ensures { WaitsAreNamed }
+    ensures calls { CallsAreNamed }
+    ensures modules { ModulesAreNamed }
+    ensures questions { QuestionsAreNamed }
+{}
+
+/// The tables of a data module stand behind those of the heap, read-only, and the root is what the asking function gets.
+pub fn tables_are_joined()
+    ensures { TablesAreJoined }
 {}
 
 /// The end of a run is told by its outcome: the text of an invocation, the table of a data module, or the text of a failure.

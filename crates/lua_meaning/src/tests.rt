@@ -11,6 +11,7 @@ fn laws_are_called(_rt: HostRuntime) -> Result<(), Fail> {
     laws::calls_are_given_back();
     laws::more_changes_nothing();
     laws::waits_are_named();
+    laws::tables_are_joined();
     laws::ends_are_told();
     examples::charges();
     examples::costs();
