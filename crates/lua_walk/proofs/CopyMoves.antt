@@ -196,8 +196,7 @@ module _ {X Y : Type 0} (R : Map → X → Y → Type 0) (up : GrowsWith R) (m :
       let xs = reached h a in
       let ys = reached s b in
       let o = reached-same R m h s st a b e in
-      let order = reached-order h (Left R m h s st) (left-there R m h s st) (left-shut R m h s st) a (b, e) in
-      (
+      let order = reached-order h (Left R m h s st) (left-there R m h s st) (left-shut R m h s st) a (b, e) in (
         with_copies m (length xs) (length h.tables) (length s.tables),
         copies-move xs ys o order.closed,
         root-same xs ys o order.closed (slice_get_within xs 0 a order.first),

@@ -6,8 +6,8 @@ use Rattle.wiki_markup.specs.declared.marked.Node.{Node}
 use Rattle.wiki_markup.specs.declared.marked.NodeKind.{NodeKind}
 use Rattle.wiki_markup.specs.declared.marked.NodeKind.TheVariants.{Text, Construct, Parameter, Part, Equals}
 use Rattle.wiki_markup.specs.declared.cells.Shape.TheVariants.{Double, Triple, Square}
-use Rattle.wiki_markup.specs.Items.{Opening, Closing, Split, Assign, Byte, Items, none, one, paired, letters_from, items_from}
-use Rattle.wiki_markup.specs.Pairing.{opening_byte, closing_byte, settled}
+use Rattle.wiki_markup.specs.Items.{Opening, Closing, Split, Assign, Byte, Items, none, one, group, letters_from, items_from}
+use Rattle.wiki_markup.specs.Pairing.{opening_byte, closing_byte, rewrite_all}
 use Rattle.wiki_markup.specs.Trees.{Trees, done, text, equals, node, byte, bytes, splits, assigns, Parts, in_front, part_of, nothing, trees_of, count, preorder, pairing, marked_of}
 use Rattle.wiki_markup.specs.declared.cells.Place.{Place as Where}
 use Rattle.wiki_markup.specs.declared.cells.Place.TheVariants.{Outside, FirstPart, LaterPart, BehindEquals}
@@ -171,11 +171,11 @@ laid_of w (one Split rest) p l =
 laid_of w (one Assign rest) p l =
     let h = laid_of w rest p l in
     laid_either (assigns w) _ _ (laid_equals _ (laid_of BehindEquals rest p l)) (laid_byte 61 _ h.0, h.1)
-laid_of w (paired Square inside rest) p l =
+laid_of w (group Square inside rest) p l =
     laid_front 2 91 _ (laid_of Outside inside _ (laid_front 2 93 _ (laid_of w rest p l)))
-laid_of w (paired Double inside rest) p l = laid_node Construct _ _ tt (laid_of FirstPart inside nothing laid_nothing) (laid_of w rest p l)
-laid_of w (paired Triple inside rest) p l = laid_node Parameter _ _ tt (laid_of FirstPart inside nothing laid_nothing) (laid_of w rest p l)
+laid_of w (group Double inside rest) p l = laid_node Construct _ _ tt (laid_of FirstPart inside nothing laid_nothing) (laid_of w rest p l)
+laid_of w (group Triple inside rest) p l = laid_node Parameter _ _ tt (laid_of FirstPart inside nothing laid_nothing) (laid_of w rest p l)
 
 -- the trees of a paired text are its pairing
 pub pairing_back : (s : ShownText) → trees_at 0 (marked_of s) ≡ pairing s
-pairing_back s = read_laid (pairing s) 0 (laid_of Outside (settled (items_from 0 (letters_from s.kept s.cuts 0 s.bytes))) nothing laid_nothing).0
+pairing_back s = read_laid (pairing s) 0 (laid_of Outside (rewrite_all (items_from 0 (letters_from s.kept s.cuts 0 s.bytes))) nothing laid_nothing).0

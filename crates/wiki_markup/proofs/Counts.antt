@@ -5,9 +5,9 @@ use Rattle.wiki_markup.specs.declared.cells.Pair.{Pair}
 use Rattle.wiki_markup.specs.declared.cells.Pair.TheVariants.{Brace, Bracket}
 use Rattle.wiki_markup.specs.declared.cells.Shape.{Shape}
 use Rattle.wiki_markup.specs.declared.cells.Shape.TheVariants.{Double, Triple, Square}
-use Rattle.wiki_markup.specs.Items.{Leaf, Opening, Closing, Split, Assign, Byte, Items, none, one, paired, size_of}
+use Rattle.wiki_markup.specs.Items.{Leaf, Opening, Closing, Split, Assign, Byte, Items, none, one, group, size_of}
 use Rattle.wiki_markup.specs.Trees.{Trees, done, text, equals, node, byte, bytes, Where, Outside, FirstPart, LaterPart, BehindEquals, Parts, in_front, nothing, trees_of, count, preorder}
-use Rattle.wiki_markup.specs.Pairing.{opening_byte, closing_byte, settled, shape_of}
+use Rattle.wiki_markup.specs.Pairing.{opening_byte, closing_byte, rewrite_all, shape_of}
 use Rattle.wiki_markup.specs.declared.cells.Cell.{Cell}
 use Rattle.wiki_markup.specs.declared.cells.Cell.TheVariants.{Byte as ByteCell, Bar as BarCell, Equal as EqualCell, Inner}
 use Rattle.wiki_markup.specs.declared.cells.Letter.{Letter}
@@ -18,7 +18,7 @@ use Rattle.wiki_markup.specs.declared.marked.Span.{Span}
 use Rattle.wiki_markup.specs.Items.{same_pair, run, same_mark, leaf_for, leaf_of, items_from, letters_from}
 use Rattle.wiki_markup.specs.Trees.{pairing, marked_of}
 use Rattle.wiki_markup.specs.declared.marked.ShownText.{ShownText}
-use Rattle.wiki_markup.specs.Work.{marks, begin_cells, end_cells, cells_of, Work, pairs, top, join_run, close_run, step, scan, begun, written, Stands, CanJoin, cells_before, waits_of}
+use Rattle.wiki_markup.specs.Work.{marks, begin_cells, end_cells, cells_of, Work, pairs, top, join_run, close_run, step, scan, no_work, write_at, Stands, CanJoin, cells_before, waits_of}
 use Rattle.wiki_markup.proofs.Closing.{joins, step_none, step_some, stands_join, stands_step, pairs_most, join_is, can_join}
 use Rattle.wiki_markup.proofs.Passes.{scanned_cells}
 
@@ -26,7 +26,7 @@ use Rattle.wiki_markup.proofs.Passes.{scanned_cells}
 unfoldable pub bytes_in : Items → ℕ
 bytes_in none = 0
 bytes_in (one leaf rest) = size_of leaf + bytes_in rest
-bytes_in (paired shape inside rest) = marks shape + bytes_in inside + (marks shape + bytes_in rest)
+bytes_in (group shape inside rest) = marks shape + bytes_in inside + (marks shape + bytes_in rest)
 
 abbrev pub nodes_in : Parts → ℕ
 nodes_in p = count p.here + count p.later
@@ -46,7 +46,7 @@ count_bytes (suc n) b t = omega (arith, count_byte b (bytes n b t), count_bytes 
 pub count_trees : (items : Items) (w : Where) (p : Parts) → nodes_in (trees_of w items p) ≤ bytes_in items + nodes_in p
 unfolding trees_of bytes_in count
 count_trees none w p = omega arith
-count_trees (paired Square inside rest) w p =
+count_trees (group Square inside rest) w p =
     let behind = in_front (bytes 2 93) (trees_of w rest p) in
     omega (
       arith,
@@ -55,8 +55,8 @@ count_trees (paired Square inside rest) w p =
       count_bytes 2 91 (trees_of Outside inside behind).here,
       count_bytes 2 93 (trees_of w rest p).here,
     )
-count_trees (paired Double inside rest) w p = omega (arith, count_trees inside FirstPart nothing, count_trees rest w p)
-count_trees (paired Triple inside rest) w p = omega (arith, count_trees inside FirstPart nothing, count_trees rest w p)
+count_trees (group Double inside rest) w p = omega (arith, count_trees inside FirstPart nothing, count_trees rest w p)
+count_trees (group Triple inside rest) w p = omega (arith, count_trees inside FirstPart nothing, count_trees rest w p)
 count_trees (one (Opening k n) rest) w p = omega (arith, count_trees rest w p, count_bytes n (opening_byte k) (trees_of w rest p).here)
 count_trees (one (Closing k n) rest) w p = omega (arith, count_trees rest w p, count_bytes n (closing_byte k) (trees_of w rest p).here)
 count_trees (one (Byte b) rest) w p = omega (arith, count_trees rest w p, count_byte b (trees_of w rest p).here)
@@ -92,7 +92,7 @@ length_cells (one (Closing p n) rest) = omega (arith, length-append (replicate n
 length_cells (one Split rest) = omega (arith, length_cells rest)
 length_cells (one Assign rest) = omega (arith, length_cells rest)
 length_cells (one (Byte b) rest) = omega (arith, length_cells rest)
-length_cells (paired s i rest) = omega (
+length_cells (group s i rest) = omega (
   arith,
   marks_some s,
   length-append (replicate (marks s - 1) Inner) (cells_of i ++ (end_cells s ++ cells_of rest)),
@@ -103,7 +103,7 @@ length_cells (paired s i rest) = omega (
   length_cells rest,
 )
 
-length_written : (i : ℕ) (new cells : List Cell) → i + length new ≤ length cells → length (written i new cells) ≡ length cells
+length_written : (i : ℕ) (new cells : List Cell) → i + length new ≤ length cells → length (write_at i new cells) ≡ length cells
 length_written i new cells h = omega (arith, length-append (take i cells) (new ++ drop (i + length new) cells), length-append new (drop (i + length new) cells), length-take i cells, length-drop (i + length new) cells)
 
 length_begin : (s : Shape) → length (begin_cells s) ≡ marks s
@@ -126,7 +126,7 @@ join_length p n k w s e h = go w.waits refl
         let shape : Shape = shape_of t.pair k in
         let place : ℕ = t.place + (t.count - k) in
         ap (λ v. length v.cells) (join_is k w t ws i)
-        ∙ length-append (written (t.place + (t.count - k)) (begin_cells (shape_of t.pair k)) w.cells) (end_cells (shape_of t.pair k))
+        ∙ length-append (write_at (t.place + (t.count - k)) (begin_cells (shape_of t.pair k)) w.cells) (end_cells (shape_of t.pair k))
         ∙ omega (
           arith,
           length_written (t.place + (t.count - k)) (begin_cells (shape_of t.pair k)) w.cells (omega (arith, length_begin (shape_of t.pair k), can.shape, can.most, can.inside)),
@@ -158,18 +158,18 @@ step_length (Byte b) w s = length-append w.cells (ByteCell b ∷ [])
 abbrev Unpaired : Items → Type 0
 Unpaired none = Unit {0}
 Unpaired (one leaf rest) = Unpaired rest
-Unpaired (paired s i rest) = ⊥
+Unpaired (group s i rest) = ⊥
 
 scan_length : (items : Items) (w : Work) → Unpaired items → Stands w → length (scan items w).cells ≡ length w.cells + bytes_in items
 unfolding scan bytes_in
 scan_length none w u s = omega arith
 scan_length (one leaf rest) w u s = omega (arith, scan_length rest (step leaf w) u (stands_step leaf w s), step_length leaf w s)
-scan_length (paired a i rest) w u s = absurd u
+scan_length (group a i rest) w u s = absurd u
 
 -- Rewriting keeps the number of bytes.
-settled_bytes : (items : Items) → Unpaired items → bytes_in (settled items) ≡ bytes_in items
+settled_bytes : (items : Items) → Unpaired items → bytes_in (rewrite_all items) ≡ bytes_in items
 unfolding cells_before waits_of
-settled_bytes items u = sym (length_cells (settled items)) ∙ sym (ap length (scanned_cells items)) ∙ scan_length items begun u ([], refl) ∙ omega arith
+settled_bytes items u = sym (length_cells (rewrite_all items)) ∙ sym (ap length (scanned_cells items)) ∙ scan_length items no_work u ([], refl) ∙ omega arith
 
 run_most : (m : Mark) (s : List Letter) → run m s ≤ length s
 unfolding run
@@ -233,28 +233,14 @@ unfolding letters_from
 letters_length kept cuts at [] = refl
 letters_length kept cuts at (b ∷ bs) = ap suc (letters_length kept cuts (at + 1) bs)
 
--- There are at most as many nodes as bytes.
-pub marked_most : (s : ShownText) → length (marked_of s) ≤ length s.bytes
-unfolding count
-marked_most s =
-    let letters : List Letter = letters_from s.kept s.cuts 0 s.bytes in
-    let items : Items = items_from 0 letters in
-    omega (
-      arith,
-      length_preorder (pairing s) 0,
-      count_trees (settled (items_from 0 (letters_from s.kept s.cuts 0 s.bytes))) Outside nothing,
-      settled_bytes (items_from 0 (letters_from s.kept s.cuts 0 s.bytes)) (items_unpaired 0 (letters_from s.kept s.cuts 0 s.bytes)),
-      items_bytes 0 (letters_from s.kept s.cuts 0 s.bytes) (omega arith),
-      letters_length s.kept s.cuts 0 s.bytes,
-    )
-
-pub letters_most : (s : List Letter) → length (preorder 0 (trees_of Outside (settled (items_from 0 s)) nothing).here) ≤ length s
+-- There are at most as many nodes as letters.
+pub letters_most : (s : List Letter) → length (preorder 0 (trees_of Outside (rewrite_all (items_from 0 s)) nothing).here) ≤ length s
 unfolding count
 letters_most s =
     omega (
       arith,
-      length_preorder (trees_of Outside (settled (items_from 0 s)) nothing).here 0,
-      count_trees (settled (items_from 0 s)) Outside nothing,
+      length_preorder (trees_of Outside (rewrite_all (items_from 0 s)) nothing).here 0,
+      count_trees (rewrite_all (items_from 0 s)) Outside nothing,
       settled_bytes (items_from 0 s) (items_unpaired 0 s),
       items_bytes 0 s (omega arith),
     )

@@ -6,17 +6,17 @@ use Rattle.wiki_markup.specs.declared.marked.Node.{Node}
 use Rattle.wiki_markup.specs.declared.marked.NodeKind.{NodeKind}
 use Rattle.wiki_markup.specs.declared.marked.NodeKind.TheVariants.{Text, Construct, Parameter, Part, Equals}
 use Rattle.wiki_markup.specs.declared.marked.ShownText.{ShownText}
-use Rattle.wiki_markup.specs.Shown.{shown_of, pieces_of, has_parts, behind, past, behind_next, opening, closing, self_closed, comment, more_comments, comment_line, attributes, after_name, literal_tag, literal, tag, whole, included, self_closed_include, at_place, pieces, before_next, parts, shown_bytes, kept_spans, cut_places}
+use Rattle.wiki_markup.specs.Shown.{shown_of, pieces_of, has_parts, behind, past, behind_next, opening, closing, self_closing, comment, more_comments, comment_line, attributes, after_name, literal_tag, literal, tag, element, include_tags, self_closing_include, at_place, pieces, before_next, parts, shown_bytes, kept_spans, cut_places}
 use Rattle.wiki_markup.specs.Items.{some_of, letters_from, run, items_from}
-use Rattle.wiki_markup.specs.Pairing.{onto, nearest, as_text, rewritten_from, closing_marks, rewritten_times}
+use Rattle.wiki_markup.specs.Pairing.{onto, nearest, as_text, rewrite_from, closing_marks, rewrite_times}
 use Rattle.wiki_markup.specs.Trees.{bytes, trees_of, count, preorder, marked_of}
 
 unfoldable pub show : Mode → List ℕ → ShownText
-unfolding shown_of pieces_of has_parts behind past behind_next opening closing self_closed comment more_comments comment_line attributes after_name literal_tag literal tag whole included self_closed_include at_place pieces before_next parts shown_bytes kept_spans cut_places
+unfolding shown_of pieces_of has_parts behind past behind_next opening closing self_closing comment more_comments comment_line attributes after_name literal_tag literal tag element include_tags self_closing_include at_place pieces before_next parts shown_bytes kept_spans cut_places
 show mode text = shown_of mode text
 
 unfoldable pub mark : List ℕ → List Node
-unfolding show some_of letters_from run items_from onto nearest as_text rewritten_from closing_marks rewritten_times bytes trees_of count preorder
+unfolding show some_of letters_from run items_from onto nearest as_text rewrite_from closing_marks rewrite_times bytes trees_of count preorder
 mark text = marked_of (show Direct text)
 
 abbrev at : NodeKind → ℕ → Node

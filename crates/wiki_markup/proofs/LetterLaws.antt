@@ -1,6 +1,7 @@
 -- Letters by two cursors: spans and cuts that a place has passed don't count, and of the rest the first decides.
 use Rattle.std.proofs.Common.{◌≡◌, ℕ, suc, zero, ◌+◌, ◌≤◌, ◌<◌, Bool, true, false, not, ◌&&◌, ◌||◌, nat_eq, nat_le, nat_lt, List, [], ◌∷◌, ◌++◌, length, drop, get_or, add-one, append_assoc, append-nil, cond, refl, sym, ◌∙◌, ap, subst, arith}
-use Rattle.std.proofs.lemmas.Bool.{leb-true, le-leb, eqb-false}
+use Rattle.std.proofs.lemmas.Bool.{leb-true, le-leb, lt-leb, eqb-false}
+use Rattle.std.proofs.Math.Bool.{and-true, or-false}
 use Rattle.wiki_markup.specs.declared.marked.Span.{Span}
 use Rattle.wiki_markup.specs.declared.cells.Letter.{Letter}
 use Rattle.wiki_markup.specs.declared.cells.Mark.TheVariants.{Plain}
@@ -9,14 +10,7 @@ use Rattle.wiki_markup.specs.Order.{Ordered, Rising, kept_head, span_apart, cut_
 use Rattle.std.proofs.Math.Seq.{drop-cons}
 use Rattle.wiki_markup.specs.Order.{span_passed, cut_passed, letter_of}
 use Rattle.wiki_markup.proofs.PlaceLaws.{differs}
-use Rattle.wiki_markup.proofs.PassSteps.{drop_all}
-
-le_false : (a b : ℕ) → b < a → nat_le a b ≡ false
-le_false a b h = go (nat_le a b) refl
-  where
-    go : (t : Bool) → nat_le a b ≡ t → nat_le a b ≡ false
-    go true e = absurd (omega (arith, leb-true a b e))
-    go false e = e
+use Rattle.std.proofs.lemmas.List.{drop_all}
 
 no_and : (a b r : Bool) → b ≡ false → ((a && b) || r) ≡ r
 no_and true b r e = rw e refl
@@ -27,7 +21,7 @@ no_or a b r e f = rw (e, f) refl
 
 forget_kept : (s : Span) (kept : List Span) (at : ℕ) → s.end ≤ at → is_kept (s ∷ kept) at ≡ is_kept kept at
 unfolding some_of
-forget_kept s kept at h = no_and (nat_le s.start at) (nat_lt at s.end) (is_kept kept at) (le_false (suc at) s.end (omega arith))
+forget_kept s kept at h = no_and (nat_le s.start at) (nat_lt at s.end) (is_kept kept at) (lt-leb (suc at) s.end (omega arith))
 
 forget_apart : (s : Span) (kept : List Span) (cuts : List ℕ) (p : ℕ) → s.start < p → s.end < p → is_apart (s ∷ kept) cuts p ≡ is_apart kept cuts p
 unfolding some_of
@@ -67,7 +61,7 @@ forget_cuts c kept cuts at (b ∷ bs) h =
 kept_later : (from at : ℕ) (kept : List Span) → Ordered from kept → at < from → is_kept kept at ≡ false
 unfolding some_of
 kept_later from at [] o h = refl
-kept_later from at (s ∷ kept) o h = rw (le_false s.start at (omega (arith, o.0))) (kept_later s.end at kept o.2 (omega (arith, o.0, o.1)))
+kept_later from at (s ∷ kept) o h = rw (lt-leb s.start at (omega (arith, o.0))) (kept_later s.end at kept o.2 (omega (arith, o.0, o.1)))
 
 apart_later : (from p : ℕ) (kept : List Span) → Ordered from kept → p < from → some_of (λ (t : Span). nat_eq t.start p || nat_eq t.end p) kept ≡ false
 unfolding some_of
@@ -85,19 +79,11 @@ cut_later from p (c ∷ cuts) o h = rw (differs c p (λ e. absurd (omega (arith,
 above : (a b : ℕ) → a ≤ b → (a ≡ b → ⊥) → a < b
 above a b h n = omega arith
 
-or_false : (a : Bool) → (a || false) ≡ a
-or_false true = refl
-or_false false = refl
-
-and_true : (a : Bool) → (a && true) ≡ a
-and_true true = refl
-and_true false = refl
-
 -- the first span and the first cut decide
 pub kept_is : (from at : ℕ) (kept : List Span) → Ordered from kept → Ahead kept at → is_kept kept at ≡ kept_head kept at
 unfolding some_of
 kept_is from at [] o a = refl
-kept_is from at (s ∷ kept) o a = rw (le-leb (suc at) s.end a, kept_later s.end at kept o.2 a, or_false, and_true) refl
+kept_is from at (s ∷ kept) o a = rw (le-leb (suc at) s.end a, kept_later s.end at kept o.2 a, or-false, and-true) refl
 
 pub span_is : (from at : ℕ) (kept : List Span) → Ordered from kept → Ahead kept at →
     some_of (λ (t : Span). nat_eq t.start (at + 1) || nat_eq t.end (at + 1)) kept ≡ span_apart kept (at + 1)
@@ -116,7 +102,7 @@ span_is from at (s ∷ kept) o a = go (nat_eq s.end (at + 1)) refl
     go true e = rw e (or_true (nat_eq s.start (at + 1)) more)
     go false e =
         let ne : s.end ≡ at + 1 → ⊥ = eqb-false s.end (at + 1) e in
-        rw (apart_later s.end (at + 1) kept o.2 (above (at + 1) s.end (omega (arith, a)) (λ i. ne (sym i))), or_false) refl
+        rw (apart_later s.end (at + 1) kept o.2 (above (at + 1) s.end (omega (arith, a)) (λ i. ne (sym i))), or-false) refl
 
 pub cut_is : (from at : ℕ) (cuts : List ℕ) → Rising from cuts → CutAhead cuts at → some_of (λ c. nat_eq c (at + 1)) cuts ≡ cut_apart cuts (at + 1)
 unfolding some_of
@@ -127,7 +113,7 @@ cut_is from at (c ∷ cuts) o a = go (nat_eq c (at + 1)) refl
     go true e = rw e refl
     go false e =
         let ne : c ≡ at + 1 → ⊥ = eqb-false c (at + 1) e in
-        rw (cut_later c (at + 1) cuts o.1 (above (at + 1) c (omega (arith, a)) (λ i. ne (sym i))), or_false) refl
+        rw (cut_later c (at + 1) cuts o.1 (above (at + 1) c (omega (arith, a)) (λ i. ne (sym i))), or-false) refl
 
 -- The rest of spans in order is in order.
 ordered_rest : (k from : ℕ) (kept : List Span) → Ordered from kept → (f : ℕ) × Ordered f (drop k kept)
@@ -214,7 +200,7 @@ letter_here kept cuts bs k c at h o r e f =
 
 pub letters_end : (kept : List Span) (cuts bs : List ℕ) (at : ℕ) → length bs ≤ at → letters_from kept cuts at (drop at bs) ≡ []
 unfolding letters_from
-letters_end kept cuts bs at h = rw (drop_all bs at h) refl
+letters_end kept cuts bs at h = rw (drop_all at bs h) refl
 
 -- what the loop of the code keeps, for one more letter
 pub letter_more : (all out new : List Letter) (x : Letter) (kept : List Span) (cuts bs : List ℕ) (k c at : ℕ) → at < length bs → Ordered 0 kept → Rising 0 cuts →

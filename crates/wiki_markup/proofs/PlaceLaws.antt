@@ -1,15 +1,15 @@
 -- What a scan by places rests on: readers, searches and pieces, one byte on.
 use Rattle.std.proofs.Common.{◌≡◌, ℕ, suc, zero, ◌+◌, ◌-◌, ◌≤◌, ◌<◌, Bool, true, false, nat_eq, nat_le, ◌&&◌, [], ◌∷◌, ◌++◌, length, take, drop, get_or, Some, None, cond, refl, sym, ◌∙◌, ap, subst, arith, add-one, append-nil, append_assoc}
 use Rattle.std.proofs.lemmas.Bool.{eqb-true, leb-true}
-use Rattle.std.proofs.lemmas.List.{drop_more, drop-drop, get_or-drop, length-drop}
+use Rattle.std.proofs.lemmas.List.{take_all, take_more, drop_more, drop-drop, get_or-drop, length-drop}
 use Rattle.std.proofs.Math.Seq.{drop-cons}
-use Rattle.wiki_markup.proofs.PassSteps.{drop_all}
+use Rattle.std.proofs.lemmas.List.{drop_all}
 use Rattle.wiki_markup.specs.declared.marked.Mode.{Mode}
 use Rattle.wiki_markup.specs.declared.marked.Mode.TheVariants.{Direct, Transcluded}
-use Rattle.wiki_markup.specs.declared.rules.Taken.{Taken}
-use Rattle.wiki_markup.specs.declared.rules.Taken.TheVariants.{Kept as TakenKept, Plain as TakenPlain, Removed as TakenRemoved}
-use Rattle.wiki_markup.specs.Shown.{Text, Left, or_else, then_on, small, is_blank, behind, past, behind_next, before_next, comment, more_comments, comment_line, attributes, ends_name, after_name, Name, Nowiki, Pre, closing, literal_tag, literal, at_place, Given, Plain, left_of, piece_of, pieces, self_closed, self_closed_include, included, tag, opening, whole}
-use Rattle.wiki_markup.specs.Places.{given_at, place_of}
+use Rattle.wiki_markup.specs.declared.rules.Ruling.{Ruling}
+use Rattle.wiki_markup.specs.declared.rules.Ruling.TheVariants.{Kept as RulingKept, Plain as RulingPlain, Removed as RulingRemoved}
+use Rattle.wiki_markup.specs.Shown.{Text, Left, or_else, then_on, small, is_blank, behind, past, behind_next, before_next, comment, more_comments, comment_line, attributes, ends_name, after_name, Name, Nowiki, Pre, closing, literal_tag, literal, at_place, RuleResult, Plain, left_of, piece_of, pieces, self_closing, self_closing_include, include_tags, tag, opening, element}
+use Rattle.wiki_markup.specs.Places.{result_at, place_of}
 
 -- Where something stands nowhere from a place on, it stands nowhere from a later place on: a search that found
 -- nothing needn't be made again.
@@ -42,7 +42,7 @@ differs a b h = go (nat_eq a b) refl
 -- a word, byte by byte
 pub behind_short : (w s : Text) (i p : ℕ) → i < length w → length s ≤ p → behind (drop i w) (drop p s) ≡ None
 unfolding behind
-behind_short w s i p h e = rw (drop-cons w i 0 h, drop_all s p e) refl
+behind_short w s i p h e = rw (drop-cons w i 0 h, drop_all p s e) refl
 
 pub behind_here : (w s : Text) (i p : ℕ) → i < length w → p < length s →
     behind (drop i w) (drop p s) ≡ cond (nat_eq (get_or w i 0) (small (get_or s p 0))) (behind (drop (i + 1) w) (drop (p + 1) s)) None
@@ -51,7 +51,7 @@ behind_here w s i p h e = rw (add-one i, add-one p, drop-cons w i 0 h, drop-cons
 
 pub behind_end : (w s : Text) (i : ℕ) → length w ≤ i → behind (drop i w) s ≡ Some s
 unfolding behind
-behind_end w s i h = rw (drop_all w i h) refl
+behind_end w s i h = rw (drop_all i w h) refl
 
 -- bytes that pass a test
 pub past_goes : (test : ℕ → Bool) (s : Text) (at : ℕ) → at < length s → test (get_or s at 0) ≡ true → past test (drop at s) ≡ past test (drop (at + 1) s)
@@ -64,7 +64,7 @@ past_stops test s at h e = rw (drop_more s at 0 h, e) refl
 
 pub past_all : (test : ℕ → Bool) (s : Text) (at : ℕ) → length s ≤ at → past test (drop at s) ≡ drop (length s) s
 unfolding past
-past_all test s at h = rw (drop_all s at h, drop_all s (length s) (omega arith)) refl
+past_all test s at h = rw (drop_all at s h, drop_all (length s) s (omega arith)) refl
 
 -- a search, byte by byte
 next_none : (reads : Text → Left) (b : ℕ) (bs : Text) → reads (b ∷ bs) ≡ None → behind_next reads (b ∷ bs) ≡ behind_next reads bs
@@ -87,7 +87,7 @@ next_here reads s r at h e =
 
 pub next_end : (reads : Text → Left) (s : Text) (at : ℕ) → length s ≤ at → reads [] ≡ None → behind_next reads (drop at s) ≡ None
 unfolding behind_next
-next_end reads s at h e = rw (drop_all s at h) e
+next_end reads s at h e = rw (drop_all at s h) e
 
 -- the bytes in front of what a search finds
 before_none : (reads : Text → Left) (b : ℕ) (bs : Text) → reads (b ∷ bs) ≡ None → before_next reads (b ∷ bs) ≡ b ∷ before_next reads bs
@@ -98,13 +98,8 @@ before_some : (reads : Text → Left) (b : ℕ) (bs r : Text) → reads (b ∷ b
 unfolding before_next
 before_some reads b bs r e = rw (e, before_next) refl
 
-take_one_more : (s : Text) (i : ℕ) → i < length s → take (i + 1) s ≡ take i s ++ get_or s i 0 ∷ []
-take_one_more [] i h = absurd (omega arith)
-take_one_more (x ∷ s) zero h = refl
-take_one_more (x ∷ s) (suc i) h = rw (add-one (suc i)) (ap (λ l. x ∷ l) (rw (add-one i) at (take_one_more s i (omega arith))))
-
 front_more : (t : Text) (i : ℕ) (rest : Text) → i < length t → take i t ++ (get_or t i 0 ∷ rest) ≡ take (i + 1) t ++ rest
-front_more t i rest h = rw (take_one_more t i h) (sym (append_assoc (take i t) (get_or t i 0 ∷ []) rest))
+front_more t i rest h = rw (take_more t i 0 h) (sym (append_assoc (take i t) (get_or t i 0 ∷ []) rest))
 
 pub before_goes : (reads : Text → Left) (s : Text) (from at : ℕ) → from ≤ at → at < length s → reads (drop at s) ≡ None →
     before_next reads (drop from s) ≡ take (at - from) (drop from s) ++ before_next reads (drop at s) →
@@ -133,25 +128,19 @@ before_here reads s r from at h e i =
     ∙ ap (λ l. take (at - from) (drop from s) ++ l) (rw (drop_more s at 0 h) (before_some reads (get_or s at 0) (drop (at + 1) s) r here))
     ∙ append-nil (take (at - from) (drop from s))
 
-pub take_over : (s : Text) (n : ℕ) → length s ≤ n → take n s ≡ s
-take_over [] zero h = refl
-take_over [] (suc n) h = refl
-take_over (x ∷ s) zero h = absurd (omega arith)
-take_over (x ∷ s) (suc n) h = ap (λ l. x ∷ l) (take_over s n (omega arith))
-
 pub before_end : (reads : Text → Left) (s : Text) (from at : ℕ) → length s ≤ at →
     before_next reads (drop from s) ≡ take (at - from) (drop from s) ++ before_next reads (drop at s) →
     before_next reads (drop from s) ≡ take (length s - from) (drop from s)
 unfolding before_next
 before_end reads s from at h i =
     i
-    ∙ rw (drop_all s at h) (append-nil (take (at - from) (drop from s)))
-    ∙ take_over (drop from s) (at - from) (omega (arith, length-drop from s))
-    ∙ sym (take_over (drop from s) (length s - from) (omega (arith, length-drop from s)))
+    ∙ rw (drop_all at s h) (append-nil (take (at - from) (drop from s)))
+    ∙ take_all (at - from) (drop from s) (omega (arith, length-drop from s))
+    ∙ sym (take_all (length s - from) (drop from s) (omega (arith, length-drop from s)))
 
 -- attributes, byte by byte
 pub attributes_end : (slash : Bool) (s : Text) (at : ℕ) → at < length s → get_or s at 0 ≡ 62 →
-    attributes slash (drop at s) ≡ Some (record { closed = slash; rest = drop (at + 1) s })
+    attributes slash (drop at s) ≡ Some (record { closes_itself = slash; rest = drop (at + 1) s })
 unfolding attributes
 attributes_end slash s at h e = rw (drop_more s at 0 h, e) refl
 
@@ -162,7 +151,7 @@ attributes_goes slash s at h n = rw (drop_more s at 0 h, differs (get_or s at 0)
 
 pub attributes_all : (slash : Bool) (s : Text) (at : ℕ) → length s ≤ at → attributes slash (drop at s) ≡ None
 unfolding attributes
-attributes_all slash s at h = rw (drop_all s at h) refl
+attributes_all slash s at h = rw (drop_all at s h) refl
 
 -- where there is no `>`, the byte before doesn't matter
 attributes_none : (b : ℕ) (a c : Bool) (s : Text) → attributes a (b ∷ s) ≡ None → attributes (nat_eq b 47) s ≡ None
@@ -214,7 +203,7 @@ closing_back reads limit s z h n e = next_goes reads s (limit - 1) (omega arith)
 -- what follows the name of a tag
 pub after_nothing : (s : Text) (at : ℕ) → length s ≤ at → after_name (drop at s) ≡ None
 unfolding after_name
-after_nothing s at h = rw (drop_all s at h) refl
+after_nothing s at h = rw (drop_all at s h) refl
 
 pub after_ended : (s : Text) (at : ℕ) → at < length s → ends_name (get_or s at 0) ≡ true → after_name (drop at s) ≡ attributes false (drop at s)
 unfolding after_name
@@ -229,17 +218,17 @@ after_other s at h e n =
     let here : behind (47 ∷ 62 ∷ []) (get_or s at 0 ∷ drop (at + 1) s) ≡ None = rw (← drop_more s at 0 h) n in
     rw (drop_more s at 0 h) (other_none (get_or s at 0) (drop (at + 1) s) e here)
 
-other_slash : (b : ℕ) (bs r : Text) → ends_name b ≡ false → behind (47 ∷ 62 ∷ []) (b ∷ bs) ≡ Some r → after_name (b ∷ bs) ≡ Some (record { closed = true; rest = r })
+other_slash : (b : ℕ) (bs r : Text) → ends_name b ≡ false → behind (47 ∷ 62 ∷ []) (b ∷ bs) ≡ Some r → after_name (b ∷ bs) ≡ Some (record { closes_itself = true; rest = r })
 unfolding after_name
 other_slash b bs r f g = rw (f, g) refl
 
 pub after_slash : (s r : Text) (at : ℕ) → at < length s → ends_name (get_or s at 0) ≡ false → behind (47 ∷ 62 ∷ []) (drop at s) ≡ Some r →
-    after_name (drop at s) ≡ Some (record { closed = true; rest = r })
+    after_name (drop at s) ≡ Some (record { closes_itself = true; rest = r })
 after_slash s r at h e n =
     let here : behind (47 ∷ 62 ∷ []) (get_or s at 0 ∷ drop (at + 1) s) ≡ Some r = rw (← drop_more s at 0 h) n in
     rw (drop_more s at 0 h) (other_slash (get_or s at 0) (drop (at + 1) s) r e here)
 
-pub literal_open : (name : Name) (t r : Text) (closed : Bool) → literal_tag name t ≡ Some (record { closed = closed; rest = r }) → closed ≡ false →
+pub literal_open : (name : Name) (t r : Text) (closed : Bool) → literal_tag name t ≡ Some (record { closes_itself = closed; rest = r }) → closed ≡ false →
     behind_next (closing name) r ≡ None → literal name t ≡ Some (Plain r)
 unfolding literal
 literal_open name t r closed e f g = rw (e, f, g) refl
@@ -258,7 +247,7 @@ unfolding literal literal_tag behind
 no_literal name b bs n = rw (no_begin b n, literal_tag) refl
 
 plain_byte : (mode : Mode) (part : Bool) (b : ℕ) (bs : Text) → (b ≡ 60 → ⊥) → at_place mode part false (b ∷ bs) bs ≡ Plain bs
-unfolding at_place comment self_closed_include self_closed included tag opening closing whole behind
+unfolding at_place comment self_closing_include self_closing include_tags tag opening closing element behind
 plain_byte Direct part b bs n = rw (no_begin b n, no_literal Nowiki b bs n, no_literal Pre b bs n) refl
 plain_byte Transcluded true b bs n = rw (no_begin b n, no_literal Nowiki b bs n, no_literal Pre b bs n) refl
 plain_byte Transcluded false b bs n = rw (no_begin b n, no_literal Nowiki b bs n, no_literal Pre b bs n) refl
@@ -320,31 +309,31 @@ pieces_skip mode part line zero s h = refl
 pieces_skip mode part line (suc k) [] h = refl
 pieces_skip mode part line (suc k) (b ∷ s) h = pieces_skip mode part (nat_eq b 10) k s (omega arith)
 
-pieces_taken : (mode : Mode) (part line : Bool) (b k : ℕ) (bs : Text) (g : Given) → at_place mode part line (b ∷ bs) bs ≡ g → length bs - length (left_of g) ≡ k → k ≤ length bs →
+pieces_taken : (mode : Mode) (part line : Bool) (b k : ℕ) (bs : Text) (g : RuleResult) → at_place mode part line (b ∷ bs) bs ≡ g → length bs - length (left_of g) ≡ k → k ≤ length bs →
     pieces mode part 0 line (b ∷ bs) ≡ piece_of (b ∷ bs) g ∷ pieces mode part 0 (nat_eq (get_or (b ∷ bs) k 0) 10) (drop k bs)
 unfolding pieces
 pieces_taken mode part line b k bs g e n h =
     rw (e, n) (ap (λ l. piece_of (b ∷ bs) g ∷ l) (pieces_skip mode part (nat_eq b 10) k bs h ∙ ap (λ t. pieces mode part 0 t (drop k bs)) (line_last b k bs h)))
 
-left_at_place : (s : Text) (t : Taken) → left_of (given_at s t) ≡ drop (place_of t) s
-left_at_place s (TakenKept p) = refl
-left_at_place s (TakenPlain p) = refl
-left_at_place s (TakenRemoved p) = refl
+left_at_place : (s : Text) (t : Ruling) → left_of (result_at s t) ≡ drop (place_of t) s
+left_at_place s (RulingKept p) = refl
+left_at_place s (RulingPlain p) = refl
+left_at_place s (RulingRemoved p) = refl
 
 -- one piece on
-pub pieces_step : (mode : Mode) (part line : Bool) (s : Text) (at : ℕ) (t : Taken) → at < length s → at < place_of t → place_of t ≤ length s →
-    at_place mode part line (drop at s) (drop (at + 1) s) ≡ given_at s t →
-    pieces mode part 0 line (drop at s) ≡ piece_of (drop at s) (given_at s t) ∷ pieces mode part 0 (nat_eq (get_or s (place_of t - 1) 0) 10) (drop (place_of t) s)
+pub pieces_step : (mode : Mode) (part line : Bool) (s : Text) (at : ℕ) (t : Ruling) → at < length s → at < place_of t → place_of t ≤ length s →
+    at_place mode part line (drop at s) (drop (at + 1) s) ≡ result_at s t →
+    pieces mode part 0 line (drop at s) ≡ piece_of (drop at s) (result_at s t) ∷ pieces mode part 0 (nat_eq (get_or s (place_of t - 1) 0) 10) (drop (place_of t) s)
 pieces_step mode part line s at t h a i e =
     let split : drop at s ≡ get_or s at 0 ∷ drop (at + 1) s = drop_more s at 0 h in
-    let here : at_place mode part line (get_or s at 0 ∷ drop (at + 1) s) (drop (at + 1) s) ≡ given_at s t = rw (← split) e in
-    let taken = pieces_taken mode part line (get_or s at 0) (place_of t - (at + 1)) (drop (at + 1) s) (given_at s t) here
+    let here : at_place mode part line (get_or s at 0 ∷ drop (at + 1) s) (drop (at + 1) s) ≡ result_at s t = rw (← split) e in
+    let taken = pieces_taken mode part line (get_or s at 0) (place_of t - (at + 1)) (drop (at + 1) s) (result_at s t) here
     (rw (left_at_place s t) (omega (arith, length-drop (at + 1) s, length-drop (place_of t) s))) (omega (arith, length-drop (at + 1) s)) in
     let byte : get_or (get_or s at 0 ∷ drop (at + 1) s) (place_of t - (at + 1)) 0 ≡ get_or s (place_of t - 1) 0 =
     ap (λ l. get_or l (place_of t - (at + 1)) 0) (sym split) ∙ get_or-drop at s (place_of t - (at + 1)) 0 ∙ ap (λ n. get_or s n 0) before in
     let rest : drop (place_of t - (at + 1)) (drop (at + 1) s) ≡ drop (place_of t) s = drop-drop (place_of t - (at + 1)) (at + 1) s ∙ ap (λ n. drop n s) whole in
-    let P : Text → Type 0 = λ l. pieces mode part 0 line l ≡ piece_of l (given_at s t) ∷ pieces mode part 0 (nat_eq (get_or s (place_of t - 1) 0) 10) (drop (place_of t) s) in
-    subst P (sym split) (taken ∙ ap (λ x. piece_of (get_or s at 0 ∷ drop (at + 1) s) (given_at s t) ∷ x)
+    let P : Text → Type 0 = λ l. pieces mode part 0 line l ≡ piece_of l (result_at s t) ∷ pieces mode part 0 (nat_eq (get_or s (place_of t - 1) 0) 10) (drop (place_of t) s) in
+    subst P (sym split) (taken ∙ ap (λ x. piece_of (get_or s at 0 ∷ drop (at + 1) s) (result_at s t) ∷ x)
     (ap (λ c. pieces mode part 0 (nat_eq c 10) (drop (place_of t - (at + 1)) (drop (at + 1) s))) byte ∙ ap (λ r. pieces mode part 0 (nat_eq (get_or s (place_of t - 1) 0) 10) r) rest))
   where
     before : at + (place_of t - (at + 1)) ≡ place_of t - 1

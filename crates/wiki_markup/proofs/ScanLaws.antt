@@ -1,13 +1,13 @@
 -- The loops of the scan: pieces are put one after the other.
 use Rattle.std.proofs.Common.{◌≡◌, ℕ, suc, zero, ◌+◌, ◌-◌, ◌≤◌, ◌<◌, Bool, true, false, nat_eq, List, [], ◌∷◌, ◌++◌, length, drop, get_or, Some, None, refl, sym, ◌∙◌, ap, arith, append-nil, append_assoc, length-append}
-use Rattle.wiki_markup.proofs.PassSteps.{drop_all}
+use Rattle.std.proofs.lemmas.List.{drop_all}
 use Rattle.wiki_markup.proofs.PlaceLaws.{pieces_step}
 use Rattle.wiki_markup.specs.declared.marked.Mode.{Mode}
 use Rattle.wiki_markup.specs.declared.marked.Span.{Span}
 use Rattle.wiki_markup.specs.declared.marked.ShownText.{ShownText}
-use Rattle.wiki_markup.specs.declared.rules.Taken.{Taken}
+use Rattle.wiki_markup.specs.declared.rules.Ruling.{Ruling}
 use Rattle.wiki_markup.specs.Shown.{Text, behind_next, before_next, opening, closing, Onlyinclude, at_place, piece_of, Piece, KeptPiece, PlainPiece, Cut, pieces, parts, pieces_of, shown_bytes, kept_spans, cut_places, shown_of}
-use Rattle.wiki_markup.specs.Places.{given_at, place_of, put_piece, put_pieces}
+use Rattle.wiki_markup.specs.Places.{result_at, place_of, put_piece, put_pieces}
 
 put_step : (p : Piece) (ps : List Piece) (w : ShownText) → put_pieces (p ∷ ps) w ≡ put_pieces ps (put_piece p w)
 unfolding put_pieces
@@ -19,23 +19,23 @@ put_append [] ys w = refl
 put_append (x ∷ xs) ys w = put_append xs ys (put_piece x w)
 
 -- one piece more
-pub show_more : (mode : Mode) (part line : Bool) (s : Text) (at : ℕ) (t : Taken) (target w next : ShownText) → at < length s → at < place_of t → place_of t ≤ length s →
-    at_place mode part line (drop at s) (drop (at + 1) s) ≡ given_at s t →
-    next ≡ put_piece (piece_of (drop at s) (given_at s t)) w →
+pub show_more : (mode : Mode) (part line : Bool) (s : Text) (at : ℕ) (t : Ruling) (target w next : ShownText) → at < length s → at < place_of t → place_of t ≤ length s →
+    at_place mode part line (drop at s) (drop (at + 1) s) ≡ result_at s t →
+    next ≡ put_piece (piece_of (drop at s) (result_at s t)) w →
     target ≡ put_pieces (pieces mode part 0 line (drop at s)) w →
     target ≡ put_pieces (pieces mode part 0 (nat_eq (get_or s (place_of t - 1) 0) 10) (drop (place_of t) s)) next
 show_more mode part line s at t target w next h a i e n same =
     let rest : List Piece = pieces mode part 0 (nat_eq (get_or s (place_of t - 1) 0) 10) (drop (place_of t) s) in
     same
     ∙ ap (λ ps. put_pieces ps w) (pieces_step mode part line s at t h a i e)
-    ∙ put_step (piece_of (drop at s) (given_at s t)) (pieces mode part 0 (nat_eq (get_or s (place_of t - 1) 0) 10) (drop (place_of t) s)) w
+    ∙ put_step (piece_of (drop at s) (result_at s t)) (pieces mode part 0 (nat_eq (get_or s (place_of t - 1) 0) 10) (drop (place_of t) s)) w
     ∙ ap (put_pieces (pieces mode part 0 (nat_eq (get_or s (place_of t - 1) 0) 10) (drop (place_of t) s))) (sym n)
 
 -- the text is at its end
 pub show_done : (mode : Mode) (part line : Bool) (s : Text) (at : ℕ) (target w : ShownText) → length s ≤ at →
     target ≡ put_pieces (pieces mode part 0 line (drop at s)) w → w ≡ target
 unfolding pieces put_pieces
-show_done mode part line s at target w h same = sym (same ∙ rw (drop_all s at h) refl)
+show_done mode part line s at target w h same = sym (same ∙ rw (drop_all at s h) refl)
 
 -- a part, and what follows it
 part_none : (mode : Mode) (n : ℕ) (t : Text) → behind_next (opening Onlyinclude) t ≡ None → parts mode (suc n) t ≡ Cut ∷ []

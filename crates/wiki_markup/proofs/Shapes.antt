@@ -2,8 +2,8 @@
 use Rattle.std.proofs.Common.{◌≡◌, ℕ, suc, zero, List, refl, sym, ◌∙◌, subst}
 use Rattle.wiki_markup.specs.declared.cells.Shape.TheVariants.{Double, Triple, Square}
 use Rattle.wiki_markup.specs.declared.marked.NodeKind.TheVariants.{Construct, Parameter}
-use Rattle.wiki_markup.specs.Items.{Opening, Closing, Split, Assign, Byte, Items, none, one, paired, items_from, letters_from}
-use Rattle.wiki_markup.specs.Pairing.{opening_byte, closing_byte, settled}
+use Rattle.wiki_markup.specs.Items.{Opening, Closing, Split, Assign, Byte, Items, none, one, group, items_from, letters_from}
+use Rattle.wiki_markup.specs.Pairing.{opening_byte, closing_byte, rewrite_all}
 use Rattle.wiki_markup.specs.declared.cells.Letter.{Letter}
 use Rattle.wiki_markup.specs.Trees.{preorder, Trees, done, text, equals, node, byte, bytes, Where, Outside, FirstPart, LaterPart, BehindEquals, Parts, in_front, part_of, nothing, trees_of, pairing, marked_of}
 use Rattle.wiki_markup.specs.declared.marked.ShownText.{ShownText}
@@ -119,7 +119,7 @@ both (one Assign rest) =
       later = (formed_equals _ h.behind.0, h.behind.1);
       behind = (formed_byte BehindEquals 61 _ h.behind.0, h.behind.1);
     }
-both (paired Double inside rest) =
+both (group Double inside rest) =
     let h = both rest in
     let i = both inside in
     record {
@@ -128,7 +128,7 @@ both (paired Double inside rest) =
       later = ((formed_node LaterPart inside _ i.first h.later.0).0, h.later.1);
       behind = ((formed_node BehindEquals inside _ i.first h.behind.0).0, h.behind.1);
     }
-both (paired Triple inside rest) =
+both (group Triple inside rest) =
     let h = both rest in
     let i = both inside in
     record {
@@ -137,7 +137,7 @@ both (paired Triple inside rest) =
       later = ((formed_node LaterPart inside _ i.first h.later.0).1, h.later.1);
       behind = ((formed_node BehindEquals inside _ i.first h.behind.0).1, h.behind.1);
     }
-both (paired Square inside rest) =
+both (group Square inside rest) =
     let h = both rest in
     let i = both inside in
     record {
@@ -147,12 +147,9 @@ both (paired Square inside rest) =
       behind = square_inner inside rest BehindEquals i.outer h.behind;
     }
 
--- The nodes are the preorder of trees of that form.
-pub is_marked : (s : ShownText) → IsMarked (marked_of s)
-is_marked s = (pairing s, ((both (settled (items_from 0 (letters_from s.kept s.cuts 0 s.bytes)))).outer Outside nothing (unfold Formed in tt)).0, refl)
-
 pub later_nothing : (items : Items) → (trees_of Outside items nothing).later ≡ done
 later_nothing items = ((both items).outer Outside nothing (unfold Formed in tt)).1
 
-pub letters_marked : (s : List Letter) → IsMarked (preorder 0 (trees_of Outside (settled (items_from 0 s)) nothing).here)
-letters_marked s = ((trees_of Outside (settled (items_from 0 s)) nothing).here, ((both (settled (items_from 0 s))).outer Outside nothing (unfold Formed in tt)).0, refl)
+-- The nodes are the preorder of trees of that form.
+pub letters_marked : (s : List Letter) → IsMarked (preorder 0 (trees_of Outside (rewrite_all (items_from 0 s)) nothing).here)
+letters_marked s = ((trees_of Outside (rewrite_all (items_from 0 s)) nothing).here, ((both (rewrite_all (items_from 0 s))).outer Outside nothing (unfold Formed in tt)).0, refl)

@@ -2,7 +2,8 @@
 use Rattle.std.proofs.Common.{◌≡◌, ℕ, suc, zero, ◌+◌, ◌-◌, ◌≤◌, Bool, true, false, nat_eq, List, [], ◌∷◌, ◌++◌, length, take, Some, None, cond, arith, length-append}
 use Rattle.std.proofs.lemmas.List.{length-take}
 use Rattle.wiki_markup.specs.declared.marked.Mode.{Mode}
-use Rattle.wiki_markup.specs.Shown.{Text, Left, then_on, or_else, behind, past, is_white, small, behind_next, before_next, letters_of, Name, Onlyinclude, opening, closing, Given, Kept, Plain, Removed, Piece, KeptPiece, PlainPiece, Cut, at_place, piece_of, left_of, pieces, parts, has_parts, pieces_of, shown_bytes, kept_spans, cut_places, shown_of}
+use Rattle.wk_base.specs.Space.{is_white}
+use Rattle.wiki_markup.specs.Shown.{Text, Left, then_on, or_else, behind, past, small, behind_next, before_next, letters_of, Name, Onlyinclude, opening, closing, RuleResult, Kept, Plain, Removed, Piece, KeptPiece, PlainPiece, Cut, at_place, piece_of, left_of, pieces, parts, has_parts, pieces_of, shown_bytes, kept_spans, cut_places, shown_of}
 use Rattle.wiki_markup.specs.Order.{Ordered, Rising}
 
 spans_ordered : (ps : List Piece) (from at : ℕ) → from ≤ at → Ordered from (kept_spans at ps)
@@ -27,7 +28,7 @@ shown_in_order mode text = (spans_ordered (pieces_of mode text) 0 0 (omega arith
 take_most : (n : ℕ) (s : Text) → length (take n s) ≤ n
 take_most n s = omega (arith, length-take n s)
 
-piece_most : (text : Text) (g : Given) (ps : List Piece) → length (shown_bytes (piece_of text g ∷ ps)) ≤ (length text - length (left_of g)) + length (shown_bytes ps)
+piece_most : (text : Text) (g : RuleResult) (ps : List Piece) → length (shown_bytes (piece_of text g ∷ ps)) ≤ (length text - length (left_of g)) + length (shown_bytes ps)
 unfolding shown_bytes
 piece_most text (Kept rest) ps = omega (arith, length-append (take (length text - length rest) text) (shown_bytes ps), take_most (length text - length rest) text)
 piece_most text (Plain rest) ps = omega (arith, length-append (take (length text - length rest) text) (shown_bytes ps), take_most (length text - length rest) text)
@@ -38,7 +39,7 @@ unfolding pieces shown_bytes
 pieces_most mode part line skip [] = omega arith
 pieces_most mode part line (suc skip) (b ∷ bs) = omega (arith, pieces_most mode part (nat_eq b 10) skip bs)
 pieces_most mode part line zero (b ∷ bs) =
-    let g : Given = at_place mode part line (b ∷ bs) bs in
+    let g : RuleResult = at_place mode part line (b ∷ bs) bs in
     let next : ℕ = length bs - length (left_of g) in
     omega (
       arith,

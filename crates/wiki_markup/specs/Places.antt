@@ -4,11 +4,11 @@ use Rattle.wiki_markup.specs.declared.marked.ShownText.{ShownText}
 use Rattle.wiki_markup.specs.declared.tags.Name.{Name}
 use Rattle.wiki_markup.specs.declared.tags.Name.TheVariants.{Nowiki, Pre}
 use Rattle.wiki_markup.specs.declared.tags.TagSpan.{TagSpan}
-use Rattle.wiki_markup.specs.declared.literals.OpenedTag.{OpenedTag}
+use Rattle.wiki_markup.specs.declared.literals.TagEnd.{TagEnd}
 use Rattle.wiki_markup.specs.declared.literals.LastEnds.{LastEnds}
-use Rattle.wiki_markup.specs.declared.rules.Taken.{Taken}
-use Rattle.wiki_markup.specs.declared.rules.Taken.TheVariants.{Kept as TakenKept, Plain as TakenPlain, Removed as TakenRemoved}
-use Rattle.wiki_markup.specs.Shown.{Text, Left, closing, behind_next, attributes, Opened, Given, Kept, Plain, Removed, Piece, KeptPiece, PlainPiece, Cut}
+use Rattle.wiki_markup.specs.declared.rules.Ruling.{Ruling}
+use Rattle.wiki_markup.specs.declared.rules.Ruling.TheVariants.{Kept as RulingKept, Plain as RulingPlain, Removed as RulingRemoved}
+use Rattle.wiki_markup.specs.Shown.{Text, Left, closing, behind_next, attributes, TagRest, RuleResult, Kept, Plain, Removed, Piece, KeptPiece, PlainPiece, Cut}
 
 abbrev pub left_at : Text → Option ℕ → Left
 left_at text None = None
@@ -23,23 +23,23 @@ abbrev pub end_of : Option TagSpan → Option ℕ
 end_of None = None
 end_of (Some t) = Some t.end
 
-abbrev pub opened_at : Text → Option OpenedTag → Option Opened
-opened_at text None = None
-opened_at text (Some o) = Some (record { closed = o.closed; rest = drop o.place text })
+abbrev pub tag_rest_at : Text → Option TagEnd → Option TagRest
+tag_rest_at text None = None
+tag_rest_at text (Some o) = Some (record { closes_itself = o.closes_itself; rest = drop o.place text })
 
-abbrev pub place_of : Taken → ℕ
-place_of (TakenKept p) = p
-place_of (TakenPlain p) = p
-place_of (TakenRemoved p) = p
+abbrev pub place_of : Ruling → ℕ
+place_of (RulingKept p) = p
+place_of (RulingPlain p) = p
+place_of (RulingRemoved p) = p
 
-abbrev pub given_at : Text → Taken → Given
-given_at text (TakenKept p) = Kept (drop p text)
-given_at text (TakenPlain p) = Plain (drop p text)
-given_at text (TakenRemoved p) = Removed (drop p text)
+abbrev pub result_at : Text → Ruling → RuleResult
+result_at text (RulingKept p) = Kept (drop p text)
+result_at text (RulingPlain p) = Plain (drop p text)
+result_at text (RulingRemoved p) = Removed (drop p text)
 
-abbrev pub optional_at : Text → Option Taken → Option Given
+abbrev pub optional_at : Text → Option Ruling → Option RuleResult
 optional_at text None = None
-optional_at text (Some t) = Some (given_at text t)
+optional_at text (Some t) = Some (result_at text t)
 
 -- from a place on there is no `>`, and no closing tag of a name
 abbrev pub NoTagEnd : Text → ℕ → Type 0

@@ -2,6 +2,7 @@
 -- The rules follow MediaWiki's manual: "Help:Formatting" (comments, `nowiki`, `pre`) and "Help:Templates",
 -- "Controlling template inclusion" (`noinclude`, `includeonly`, `onlyinclude`).
 use Rattle.std.specs.Prelude.{ℕ, suc, zero, ◌+◌, ◌-◌, Bool, true, false, ◌&&◌, ◌||◌, nat_eq, nat_le, List, [], ◌∷◌, ◌++◌, length, take, Option, Some, None, cond}
+use Rattle.wk_base.specs.Space.{is_white}
 use Rattle.wiki_markup.specs.declared.marked.Mode.{Mode}
 use Rattle.wiki_markup.specs.declared.marked.Mode.TheVariants.{Direct, Transcluded}
 use Rattle.wiki_markup.specs.declared.marked.Span.{Span}
@@ -31,10 +32,6 @@ small b = cond (nat_le 65 b && nat_le b 90) (b + 32) b
 -- a space or a tab
 abbrev pub is_blank : ℕ → Bool
 is_blank b = nat_eq b 32 || nat_eq b 9
-
--- a space, a tab, a newline, or one of the three bytes between the last two and the carriage return
-abbrev pub is_white : ℕ → Bool
-is_white b = nat_eq b 32 || (nat_le 9 b && nat_le b 13)
 
 -- behind a word that is written in small letters, in any case
 unfoldable pub behind : Text → Text → Left
@@ -83,8 +80,8 @@ opening name text = then_on (behind (60 ∷ letters_of name) text) (λ rest. beh
 unfoldable pub closing : Name → Text → Left
 closing name text = then_on (behind (60 ∷ 47 ∷ letters_of name) text) (λ rest. behind (62 ∷ []) (past is_white rest))
 
-unfoldable pub self_closed : Name → Text → Left
-self_closed name text = then_on (behind (60 ∷ letters_of name) text) (λ rest. behind (47 ∷ 62 ∷ []) (past is_white rest))
+unfoldable pub self_closing : Name → Text → Left
+self_closing name text = then_on (behind (60 ∷ letters_of name) text) (λ rest. behind (47 ∷ 62 ∷ []) (past is_white rest))
 
 -- a comment, to the end of the text where it isn't ended
 unfoldable pub comment : Text → Left
@@ -102,54 +99,54 @@ unfoldable pub comment_line : Text → Left
 comment_line text = then_on (comment (past is_blank text)) (more_comments (suc (length text)))
 
 -- What is left behind the `>` of an opening tag with attributes, and whether the tag ends in `/>`.
-pub record Opened : Type 0 where
-  pub closed : Bool
+pub record TagRest : Type 0 where
+  pub closes_itself : Bool
   pub rest : Text
 
 -- `slash` says whether the byte before is a `/`
-unfoldable pub attributes : Bool → Text → Option Opened
+unfoldable pub attributes : Bool → Text → Option TagRest
 attributes slash [] = None
-attributes slash (b ∷ bs) = cond (nat_eq b 62) (Some (record { closed = slash; rest = bs })) (attributes (nat_eq b 47) bs)
+attributes slash (b ∷ bs) = cond (nat_eq b 62) (Some (record { closes_itself = slash; rest = bs })) (attributes (nat_eq b 47) bs)
 
 -- white space or `>` ends a name
 abbrev pub ends_name : ℕ → Bool
 ends_name b = is_white b || nat_eq b 62
 
 -- after the name stand white space and what follows it, or the end of the tag
-unfoldable pub after_name : Text → Option Opened
+unfoldable pub after_name : Text → Option TagRest
 after_name [] = None
 after_name (b ∷ bs) = cond (ends_name b) (attributes false (b ∷ bs))
-    (elim (behind (47 ∷ 62 ∷ []) (b ∷ bs)) [ None ↦ None | Some rest ↦ Some (record { closed = true; rest = rest }) ])
+    (elim (behind (47 ∷ 62 ∷ []) (b ∷ bs)) [ None ↦ None | Some rest ↦ Some (record { closes_itself = true; rest = rest }) ])
 
-unfoldable pub literal_tag : Name → Text → Option Opened
+unfoldable pub literal_tag : Name → Text → Option TagRest
 literal_tag name text = elim (behind (60 ∷ letters_of name) text) [ None ↦ None | Some rest ↦ after_name rest ]
 
 -- What a rule gives at a place, and what is left behind it.
-pub data Given : Type 0 where
-  Kept : Text → Given
-  Plain : Text → Given
-  Removed : Text → Given
+pub data RuleResult : Type 0 where
+  Kept : Text → RuleResult
+  Plain : Text → RuleResult
+  Removed : Text → RuleResult
 
-abbrev pub removed : Left → Option Given
-removed None = None
-removed (Some rest) = Some (Removed rest)
+abbrev pub removes : Left → Option RuleResult
+removes None = None
+removes (Some rest) = Some (Removed rest)
 
 -- the first of two rules that applies
-abbrev pub otherwise : Option Given → Given → Given
+abbrev pub otherwise : Option RuleResult → RuleResult → RuleResult
 otherwise None other = other
 otherwise (Some given) other = given
 
 -- up to its closing tag it is kept; without one the opening tag is plain
-abbrev pub kept_to : Text → Left → Given
-kept_to rest None = Plain rest
-kept_to rest (Some after) = Kept after
+abbrev pub keep_to : Text → Left → RuleResult
+keep_to rest None = Plain rest
+keep_to rest (Some after) = Kept after
 
-abbrev pub content : Name → Option Opened → Option Given
+abbrev pub content : Name → Option TagRest → Option RuleResult
 content name None = None
-content name (Some o) = Some (cond o.closed (Kept o.rest) (kept_to o.rest (behind_next (closing name) o.rest)))
+content name (Some o) = Some (cond o.closes_itself (Kept o.rest) (keep_to o.rest (behind_next (closing name) o.rest)))
 
 -- `nowiki` or `pre`: kept as written, with its content
-unfoldable pub literal : Name → Text → Option Given
+unfoldable pub literal : Name → Text → Option RuleResult
 literal name text = content name (literal_tag name text)
 
 -- a tag of either form, whose content stays
@@ -157,30 +154,30 @@ unfoldable pub tag : Name → Text → Left
 tag name text = or_else (opening name text) (closing name text)
 
 -- an opening tag with all up to the closing one, or to the end of the text
-unfoldable pub whole : Name → Text → Left
-whole name text = then_on (opening name text) (λ rest. Some (or_end (behind_next (closing name) rest)))
+unfoldable pub element : Name → Text → Left
+element name text = then_on (opening name text) (λ rest. Some (or_end (behind_next (closing name) rest)))
 
 -- The rules on include tags. In a part between `onlyinclude` tags, such tags aren't removed.
-unfoldable pub included : Mode → Bool → Text → Left
-included Direct part text =
-    or_else (tag Noinclude text) (or_else (tag Onlyinclude text) (whole Includeonly text))
-included Transcluded part text =
-    or_else (whole Noinclude text) (or_else (tag Includeonly text) (cond part None (tag Onlyinclude text)))
+unfoldable pub include_tags : Mode → Bool → Text → Left
+include_tags Direct part text =
+    or_else (tag Noinclude text) (or_else (tag Onlyinclude text) (element Includeonly text))
+include_tags Transcluded part text =
+    or_else (element Noinclude text) (or_else (tag Includeonly text) (cond part None (tag Onlyinclude text)))
 
-unfoldable pub self_closed_include : Text → Left
-self_closed_include text =
-    or_else (self_closed Noinclude text) (or_else (self_closed Includeonly text) (self_closed Onlyinclude text))
+unfoldable pub self_closing_include : Text → Left
+self_closing_include text =
+    or_else (self_closing Noinclude text) (or_else (self_closing Includeonly text) (self_closing Onlyinclude text))
 
 -- The first rule that applies at a place. At the beginning of a line a line of comments comes first; a byte to
 -- which no rule applies is plain.
-unfoldable pub at_place : Mode → Bool → Bool → Text → Text → Given
+unfoldable pub at_place : Mode → Bool → Bool → Text → Text → RuleResult
 at_place mode part line text behind_byte =
-    otherwise (removed (cond line (comment_line text) None))
-    (otherwise (removed (comment text))
+    otherwise (removes (cond line (comment_line text) None))
+    (otherwise (removes (comment text))
     (otherwise (literal Nowiki text)
     (otherwise (literal Pre text)
-    (otherwise (removed (self_closed_include text))
-    (otherwise (removed (included mode part text))
+    (otherwise (removes (self_closing_include text))
+    (otherwise (removes (include_tags mode part text))
     (Plain behind_byte))))))
 
 pub data Piece : Type 0 where
@@ -189,12 +186,12 @@ pub data Piece : Type 0 where
   Cut : Piece
 
 -- the piece, whose bytes are those in front of what is left
-abbrev pub piece_of : Text → Given → Piece
+abbrev pub piece_of : Text → RuleResult → Piece
 piece_of text (Kept rest) = KeptPiece (take (length text - length rest) text)
 piece_of text (Plain rest) = PlainPiece (take (length text - length rest) text)
 piece_of text (Removed rest) = Cut
 
-abbrev pub left_of : Given → Text
+abbrev pub left_of : RuleResult → Text
 left_of (Kept rest) = rest
 left_of (Plain rest) = rest
 left_of (Removed rest) = rest
@@ -220,14 +217,14 @@ parts mode (suc n) text = elim (behind_next (opening Onlyinclude) text) [
 ]
 
 -- whether a search found something
-abbrev pub found : Left → Bool
-found None = false
-found (Some rest) = true
+abbrev pub is_found : Left → Bool
+is_found None = false
+is_found (Some rest) = true
 
 -- whether only what stands between `onlyinclude` tags counts
 unfoldable pub has_parts : Mode → Text → Bool
 has_parts Direct text = false
-has_parts Transcluded text = found (behind_next (opening Onlyinclude) text) && found (behind_next (closing Onlyinclude) text)
+has_parts Transcluded text = is_found (behind_next (opening Onlyinclude) text) && is_found (behind_next (closing Onlyinclude) text)
 
 unfoldable pub pieces_of : Mode → Text → List Piece
 pieces_of mode text = cond (has_parts mode text) (parts mode (suc (length text)) text) (pieces mode false 0 false text)
@@ -251,8 +248,8 @@ cut_places at (KeptPiece bs ∷ rest) = cut_places (at + length bs) rest
 cut_places at (PlainPiece bs ∷ rest) = cut_places (at + length bs) rest
 cut_places at (Cut ∷ rest) = at ∷ cut_places at rest
 
-abbrev pub joined_pieces : List Piece → ShownText
-joined_pieces all = record { bytes = shown_bytes all; kept = kept_spans 0 all; cuts = cut_places 0 all }
+abbrev pub join_pieces : List Piece → ShownText
+join_pieces all = record { bytes = shown_bytes all; kept = kept_spans 0 all; cuts = cut_places 0 all }
 
 unfoldable pub shown_of : Mode → Text → ShownText
-shown_of mode text = joined_pieces (pieces_of mode text)
+shown_of mode text = join_pieces (pieces_of mode text)

@@ -6,8 +6,8 @@ use Rattle.wiki_markup.specs.declared.marked.NodeKind.{NodeKind}
 use Rattle.wiki_markup.specs.declared.marked.NodeKind.TheVariants.{Text, Construct, Parameter, Part, Equals}
 pub use Rattle.wiki_markup.specs.declared.cells.Place.{Place as Where}
 pub use Rattle.wiki_markup.specs.declared.cells.Place.TheVariants.{Outside, FirstPart, LaterPart, BehindEquals}
-use Rattle.wiki_markup.specs.Items.{Opening, Closing, Split, Assign, Byte, Items, none, one, paired, letters_from, items_from}
-use Rattle.wiki_markup.specs.Pairing.{opening_byte, closing_byte, settled}
+use Rattle.wiki_markup.specs.Items.{Opening, Closing, Split, Assign, Byte, Items, none, one, group, letters_from, items_from}
+use Rattle.wiki_markup.specs.Pairing.{opening_byte, closing_byte, rewrite_all}
 use Rattle.wiki_markup.specs.declared.marked.ShownText.{ShownText}
 
 -- Trees side by side: a text, an `=` or a node with what stands in it, and then the trees behind it.
@@ -65,11 +65,11 @@ trees_of w (one Split rest) after = cond (splits w)
 trees_of w (one Assign rest) after = cond (assigns w)
     (in_front equals (trees_of BehindEquals rest after))
     (in_front (byte 61) (trees_of w rest after))
-trees_of w (paired Square inside rest) after =
+trees_of w (group Square inside rest) after =
     in_front (bytes 2 91) (trees_of Outside inside (in_front (bytes 2 93) (trees_of w rest after)))
-trees_of w (paired Double inside rest) after =
+trees_of w (group Double inside rest) after =
     in_front (node Construct (part_of (trees_of FirstPart inside nothing))) (trees_of w rest after)
-trees_of w (paired Triple inside rest) after =
+trees_of w (group Triple inside rest) after =
     in_front (node Parameter (part_of (trees_of FirstPart inside nothing))) (trees_of w rest after)
 
 unfoldable pub count : Trees → ℕ
@@ -89,7 +89,7 @@ preorder at (node kind inside rest) =
 
 -- The pairing of a shown text.
 abbrev pub pairing : ShownText → Trees
-pairing s = (trees_of Outside (settled (items_from 0 (letters_from s.kept s.cuts 0 s.bytes))) nothing).here
+pairing s = (trees_of Outside (rewrite_all (items_from 0 (letters_from s.kept s.cuts 0 s.bytes))) nothing).here
 
 abbrev pub marked_of : ShownText → List Node
 marked_of s = preorder 0 (pairing s)

@@ -1,12 +1,18 @@
 //! The front of the preprocessor: what is shown of a page, and the pairing of its braces and brackets.
 //!
+//! The definitions stand in `specs/`; read `Shown` first (what is shown of a text), then `Items`, `Pairing` and `Trees` (how
+//! its braces and brackets pair, and the tree). The others say what single passes keep, for proofs alone.
+//!
 //! - `marked`: the public types
-//! - `tags`: the names of tags
-//! - `reading`: `markup`, over the letters of a shown text
+//! - `showing`: `shown`, one scan of a text that writes as it goes
+//! - `rules`: which rule applies at a place; `comments`, `literals` (`nowiki` and `pre`), `tags` and `words` read for it
+//! - `pairing`: `markup`, over the letters of a shown text
 //! - `pass`: one pass over the letters, with the opening runs that wait on a stack
 //! - `roles`: each `|` and `=` settled by what it stands in
 //! - `build`: the nodes put together from the right
 //! - `cells`: letters, and what pairing makes of them
+//!
+//! The tests are the crate `wiki_markup_cases`.
 #![tactic(auto)]
 
 mod build;
@@ -14,17 +20,14 @@ mod cells;
 mod comments;
 mod literals;
 mod marked;
+mod pairing;
 mod pass;
-mod reading;
 mod roles;
 mod rules;
-mod scan;
+mod showing;
 mod tags;
 mod words;
 
 pub use marked::{Marked, Mode, Node, NodeKind, ShownText, Span};
-pub use reading::markup;
-pub use scan::shown;
-
-#[cfg(test)]
-mod tests;
+pub use pairing::markup;
+pub use showing::shown;

@@ -1,17 +1,18 @@
 //! `nowiki` and `pre`, which are kept as written with their content.
 ghost use Rattle.std.specs.Prelude.{◌≡◌, ◌+◌, ◌<◌, ◌≤◌, Option, IfSome, length, drop, None};
 ghost use Rattle.wiki_markup.specs.Shown.{attributes as attributes_lem, after_name as after_name_lem, literal_tag as literal_tag_lem, literal as literal_lem, ends_name as ends_name_lem};
-ghost use Rattle.wiki_markup.specs.Places.{opened_at, optional_at, place_of, NoTagEnd, NoClosing, AreLastEnds};
+ghost use Rattle.wiki_markup.specs.Places.{tag_rest_at, optional_at, place_of, NoTagEnd, NoClosing, AreLastEnds};
 ghost use Rattle.std.specs.Prelude.{false};
 
-use crate::rules::Taken;
+use crate::rules::Ruling;
 use crate::tags::{Name, closing, find_closing, opening_word};
-use crate::words::{behind_word, is_white};
+use crate::words::behind_word;
+use wk_base::space::is_white;
 
 /// An opening tag with attributes: whether it ends in `/>`, and the place behind it.
 #[derive(Clone, Copy, Debug, PartialEq, Eq)]
-pub struct OpenedTag {
-    pub closed: bool,
+pub struct TagEnd {
+    pub closes_itself: bool,
     pub place: usize,
 }
 
@@ -62,10 +63,10 @@ pub fn last_ends(text: &[u8]) -> LastEnds
 }
 
 /// Behind the `>` that ends a tag's attributes.
-fn attributes(text: &[u8], limit: usize, from: usize) -> Option<OpenedTag>
+fn attributes(text: &[u8], limit: usize, from: usize) -> Option<TagEnd>
     requires inside { from ≤ length text.now }
     requires limit { NoTagEnd text.now limit }
-    ensures same { attributes_lem false (drop from text.now) ≡ opened_at text.now result }
+    ensures same { attributes_lem false (drop from text.now) ≡ tag_rest_at text.now result }
     ensures ahead { IfSome result (λ o. from < o.place) }
     ensures inside { IfSome result (λ o. o.place ≤ length text.now) }
 {
@@ -75,8 +76,8 @@ fn attributes(text: &[u8], limit: usize, from: usize) -> Option<OpenedTag>
     let mut slash = false;
     for at in from..text.len() {
         if text[at] == b'>' {
-            return Some(OpenedTag {
-                closed: slash,
+            return Some(TagEnd {
+                closes_itself: slash,
                 place: at + 1,
             });
         }
@@ -91,10 +92,10 @@ fn ends_name(b: u8) -> bool
     is_white(b) || b == b'>'
 }
 
-fn after_name(text: &[u8], limit: usize, at: usize) -> Option<OpenedTag>
+fn after_name(text: &[u8], limit: usize, at: usize) -> Option<TagEnd>
     requires inside { at ≤ length text.now }
     requires limit { NoTagEnd text.now limit }
-    ensures same { after_name_lem (drop at text.now) ≡ opened_at text.now result }
+    ensures same { after_name_lem (drop at text.now) ≡ tag_rest_at text.now result }
     ensures ahead { IfSome result (λ o. at < o.place) }
     ensures inside { IfSome result (λ o. o.place ≤ length text.now) }
 {
@@ -107,17 +108,17 @@ fn after_name(text: &[u8], limit: usize, at: usize) -> Option<OpenedTag>
     let Some(place) = behind_word(text, at, b"/>") else {
         return None;
     };
-    Some(OpenedTag {
-        closed: true,
+    Some(TagEnd {
+        closes_itself: true,
         place,
     })
 }
 
 #[tactic(auto, unfolding(crate::specs::Shown::literal_tag))]
-fn literal_tag(text: &[u8], limit: usize, at: usize, name: Name) -> Option<OpenedTag>
+fn literal_tag(text: &[u8], limit: usize, at: usize, name: Name) -> Option<TagEnd>
     requires inside { at ≤ length text.now }
     requires limit { NoTagEnd text.now limit }
-    ensures same { literal_tag_lem name (drop at text.now) ≡ opened_at text.now result }
+    ensures same { literal_tag_lem name (drop at text.now) ≡ tag_rest_at text.now result }
     ensures ahead { IfSome result (λ o. at < o.place) }
     ensures inside { IfSome result (λ o. o.place ≤ length text.now) }
 {
@@ -130,7 +131,7 @@ fn literal_tag(text: &[u8], limit: usize, at: usize, name: Name) -> Option<Opene
 /// What the rule on `nowiki` and `pre` gives at a place. `tag_end` is the last `>` of the text, and `closed` the last
 /// closing tag of the name.
 #[tactic(auto, unfolding(crate::specs::Shown::literal))]
-pub fn literal(text: &[u8], tag_end: usize, closed: usize, at: usize, name: Name) -> Option<Taken>
+pub fn literal(text: &[u8], tag_end: usize, closed: usize, at: usize, name: Name) -> Option<Ruling>
     requires inside { at ≤ length text.now }
     requires tag_end { NoTagEnd text.now tag_end }
     requires closed { NoClosing name text.now closed }
@@ -141,14 +142,14 @@ pub fn literal(text: &[u8], tag_end: usize, closed: usize, at: usize, name: Name
     let Some(opened) = literal_tag(text, tag_end, at, name) else {
         return None;
     };
-    if opened.closed {
-        return Some(Taken::Kept(opened.place));
+    if opened.closes_itself {
+        return Some(Ruling::Kept(opened.place));
     }
     if opened.place >= closed {
-        return Some(Taken::Plain(opened.place));
+        return Some(Ruling::Plain(opened.place));
     }
     match find_closing(text, opened.place, name) {
-        Some(tag) => Some(Taken::Kept(tag.end)),
-        None => Some(Taken::Plain(opened.place)),
+        Some(tag) => Some(Ruling::Kept(tag.end)),
+        None => Some(Ruling::Plain(opened.place)),
     }
 }

@@ -1,6 +1,6 @@
 //! Tags: `<name>`, `</name>` and `<name/>`, with white space after the name, in any case.
 ghost use Rattle.std.specs.Prelude.{◌≡◌, ◌∷◌, ◌-◌, ◌+◌, ◌<◌, ◌≤◌, Option, IfSome, length, drop, take};
-ghost use Rattle.wiki_markup.specs.Shown.{letters_of, opening as opening_lem, closing as closing_lem, self_closed as self_closed_lem, behind_next, before_next, tag as tag_lem, whole as whole_lem};
+ghost use Rattle.wiki_markup.specs.Shown.{letters_of, opening as opening_lem, closing as closing_lem, self_closing as self_closing_lem, behind_next, before_next, tag as tag_lem, element as element_lem};
 ghost use Rattle.wiki_markup.specs.Places.{left_at, start_or, end_of};
 
 use crate::words::{behind_word, past_white};
@@ -75,10 +75,10 @@ pub fn closing(text: &[u8], at: usize, name: Name) -> Option<usize>
 }
 
 /// The place behind `<name/>`, if it stands at a place.
-#[tactic(auto, unfolding(crate::specs::Shown::self_closed))]
-pub fn self_closed(text: &[u8], at: usize, name: Name) -> Option<usize>
+#[tactic(auto, unfolding(crate::specs::Shown::self_closing))]
+pub fn self_closing(text: &[u8], at: usize, name: Name) -> Option<usize>
     requires { at ≤ length text.now }
-    ensures same { self_closed_lem name (drop at text.now) ≡ left_at text.now result }
+    ensures same { self_closing_lem name (drop at text.now) ≡ left_at text.now result }
     ensures ahead { IfSome result (λ p. at < p) }
     ensures inside { IfSome result (λ p. p ≤ length text.now) }
 {
@@ -135,10 +135,10 @@ pub fn tag(text: &[u8], at: usize, name: Name) -> Option<usize>
 }
 
 /// The place behind an opening tag with all up to the closing one, or to the end of the text.
-#[tactic(auto, unfolding(crate::specs::Shown::whole))]
-pub fn whole(text: &[u8], at: usize, name: Name) -> Option<usize>
+#[tactic(auto, unfolding(crate::specs::Shown::element))]
+pub fn element(text: &[u8], at: usize, name: Name) -> Option<usize>
     requires { at ≤ length text.now }
-    ensures same { whole_lem name (drop at text.now) ≡ left_at text.now result }
+    ensures same { element_lem name (drop at text.now) ≡ left_at text.now result }
     ensures ahead { IfSome result (λ p. at < p) }
     ensures inside { IfSome result (λ p. p ≤ length text.now) }
 {

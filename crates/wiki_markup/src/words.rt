@@ -1,7 +1,10 @@
 //! Words and white space in a text. A place stands for what is left of the text from there.
 ghost use Rattle.std.specs.Prelude.{◌≡◌, ◌+◌, ◌≤◌, Option, IfSome, length, drop};
-ghost use Rattle.wiki_markup.specs.Shown.{behind, past, is_blank as is_blank_lem, is_white as is_white_lem, small as small_lem};
+ghost use Rattle.wiki_markup.specs.Shown.{behind, past, is_blank as is_blank_lem, small as small_lem};
 ghost use Rattle.wiki_markup.specs.Places.{left_at};
+ghost use Rattle.wk_base.specs.Space.{is_white as is_white_lem};
+
+use wk_base::space::is_white;
 
 fn small(b: u8) -> u8
     ensures { result ≡ small_lem b }
@@ -13,12 +16,6 @@ fn is_blank(b: u8) -> bool
     ensures { result ≡ is_blank_lem b }
 {
     b == b' ' || b == b'\t'
-}
-
-pub fn is_white(b: u8) -> bool
-    ensures { result ≡ is_white_lem b }
-{
-    b == b' ' || (b >= b'\t' && b <= b'\r')
 }
 
 /// The place behind a word that is written in small letters, if the word stands at a place, in any case.

@@ -1,5 +1,5 @@
 use Rattle.std.proofs.Common.{◌∙◌, sym, arith}
-use Rattle.wiki_markup.specs.Shown.{is_white}
+use Rattle.wk_base.specs.Space.{is_white}
 use Rattle.wiki_markup.proofs.PlaceLaws.{past_goes, past_stops, past_all}
 use Rattle.wiki_markup.proofs.words.past_white.Goals as goal
 

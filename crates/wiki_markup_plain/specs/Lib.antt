@@ -1,4 +1,0 @@
-pub mod Flat
-pub mod Marks
-pub mod Steps
-pub mod Building
