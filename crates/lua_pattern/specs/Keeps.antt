@@ -18,7 +18,7 @@ same : (w b : ℕ) → (w == b) ≡ true → w ≡ b
 same w b e = grind (arith, nat_tests)
 
 -- a word with which a text begins is its head
-begins_take : (word text : List ℕ) → begins word text ≡ true → (take (length word) text ≡ word) × (length word ≤ length text)
+pub begins_take : (word text : List ℕ) → begins word text ≡ true → (take (length word) text ≡ word) × (length word ≤ length text)
 begins_take [] text e = (refl, omega arith)
 begins_take (w ∷ ws) [] e = absurd (cc)
 begins_take (w ∷ ws) (b ∷ bs) e =
@@ -46,12 +46,16 @@ again_within subject at from to le e =
     let l : length (drop at subject) ≡ length subject - at = length-drop at subject in
     omega (arith, l, short, le)
 
-pub bytes_keep : (subject : List ℕ) → KeepsPlaces bytes subject (λ p. p ≤ length subject)
-bytes_keep subject = record {
-  step = λ at c cs le e. step_within bytes bytes_lawful subject at c cs le e;
+-- Over any alphabet the places within a text are such.
+pub within_keeps : (a : Letters) → IsAlphabet a → (subject : List ℕ) → KeepsPlaces a subject (λ p. p ≤ length subject)
+within_keeps a law subject = record {
+  step = λ at c cs le e. step_within a law subject at c cs le e;
   again = λ at from to le lf lt e. again_within subject at from to le e;
   zero = omega arith;
 }
+
+pub bytes_keep : (subject : List ℕ) → KeepsPlaces bytes subject (λ p. p ≤ length subject)
+bytes_keep = within_keeps bytes bytes_lawful
 
 not_inner : (b : ℕ) → not (goes_on b) ≡ true → 128 ≤ b → 192 ≤ b
 not_inner b e ge = grind (arith, nat_tests)
