@@ -9,6 +9,9 @@
 //! - `read`: the reading of a pattern
 //! - `fits`: which symbols a single character fits
 //! - `steps`, `trail`, `passes`, `search`: the search, without recursion
+//!
+//! The definitions: begin with `specs/Letters.antt` (what an alphabet is), then `specs/Way.antt` (the first way in which items
+//! match, with its tries) and `specs/Read.antt` (how a pattern is read).
 #![tactic(auto)]
 
 pub mod alphabet;
