@@ -4,7 +4,6 @@ use Rattle.std.specs.List.{AllByRecursion, Contains, flat_map}
 use Rattle.std.specs.Option.{option_map}
 use Rattle.std.proofs.lemmas.Bool.Decides.{nat_tests}
 use Rattle.std.proofs.lemmas.Option.{slice_get_within}
-use Rattle.lua_table.specs.Entries.{Contents}
 use Rattle.lua_heap.specs.Value.{Value, Table, is_nil}
 use Rattle.lua_heap.specs.Table.{Entries}
 use Rattle.lua_heap.specs.Heap.{Heap, Ref, tab, cel, clo, mar, Obj, TableObj, look, table_at}
@@ -16,11 +15,11 @@ use Rattle.lua_heap.proofs.Steps.{moved-same}
 use Rattle.lua_heap.proofs.Joins.{choose}
 use Rattle.lua_walk.specs.Order.{place_of, reached, live}
 use Rattle.lua_walk.specs.Copy.{copy_of, copied_table, copies, copied}
-use Rattle.lua_walk.specs.Laws.{table_in, links, IsOrder}
+use Rattle.lua_walk.specs.Laws.{table_in, links}
 use Rattle.lua_walk.proofs.Visits.{none-past, reached-order}
 use Rattle.lua_walk.proofs.Graphs.{place-below, links-live}
 use Rattle.lua_walk.proofs.Copies.{with_tables, look-old, shared-old}
-use Rattle.lua_walk.proofs.Standings.{each-size, live-same, SameTab, place-same, tables-same, Left, left-there, left-shut, reached-same}
+use Rattle.lua_walk.proofs.Standings.{live-same, place-same, tables-same, Left, left-there, left-shut, reached-same}
 
 each-at : {A B : Type 0} (R : A → B → Type 0) (xs : List A) (ys : List B) (j : ℕ) → Each R xs ys → j < length xs → (x : A) × (y : B) × (slice_get xs j ≡ Some x) × (slice_get ys j ≡ Some y) × R x y
 each-at R _ _ j none l = absurd (omega (arith, l))

@@ -1,5 +1,5 @@
 -- What is in an order, and what becomes of it by what a table leads to.
-use Rattle.std.proofs.Common.{◌≡◌, ℕ, zero, suc, ◌<◌, eqb, Bool, true, false, List, [], ◌∷◌, ◌++◌, length, Some, slice_get, slice_index_or, refl, sym, ap, subst, arith, inl, inr, ◌⊎◌, if◌then◌else◌}
+use Rattle.std.proofs.Common.{◌≡◌, ℕ, zero, suc, ◌<◌, eqb, Bool, true, false, List, [], ◌∷◌, length, Some, slice_get, refl, sym, subst, arith, inl, inr, ◌⊎◌, if◌then◌else◌}
 use Rattle.std.specs.List.{AllByRecursion, Contains, IsDistinct, flat_map}
 use Rattle.std.proofs.lemmas.Bool.{eqb-true}
 use Rattle.std.proofs.lemmas.Bool.Decides.{nat_tests}

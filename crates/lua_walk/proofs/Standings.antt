@@ -1,5 +1,5 @@
 -- A walk in a heap, and a walk in another one where the first heap stands, come to the same tables.
-use Rattle.std.proofs.Common.{◌≡◌, ℕ, zero, suc, ◌+◌, ◌*◌, ◌<◌, eqb, Bool, true, false, List, [], ◌∷◌, ◌++◌, length, Option, Some, None, slice_get, refl, sym, ◌∙◌, ap, subst, arith, if◌then◌else◌}
+use Rattle.std.proofs.Common.{◌≡◌, ℕ, zero, suc, ◌+◌, ◌*◌, ◌<◌, eqb, Bool, true, false, List, [], ◌∷◌, length, Option, Some, slice_get, refl, ◌∙◌, ap, subst, arith, if◌then◌else◌}
 use Rattle.std.specs.Prelude.{Ok, Err}
 use Rattle.std.specs.List.{AllByRecursion, flat_map}
 use Rattle.std.proofs.lemmas.Option.{slice_get_within}
@@ -8,7 +8,6 @@ use Rattle.lua_heap.specs.Value.{Value, Table, is_nil}
 use Rattle.lua_heap.specs.Table.{Entries}
 use Rattle.lua_heap.specs.Heap.{Heap, tab, TableObj, table_at}
 use Rattle.lua_heap.specs.Related.{Map, Each, none, more, SameOption, neither, both, OneToOne, Same, nil, truth, number, text, table, closure, builtin, markup, SameEntries, SameTable, Stands}
-use Rattle.lua_heap.specs.Graph.{Graph}
 use Rattle.lua_heap.proofs.Names.{all-join}
 use Rattle.lua_heap.proofs.Places.{of-some_back}
 use Rattle.lua_heap.proofs.Entries.{same-related, nil-related}

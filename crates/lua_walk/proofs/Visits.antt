@@ -1,13 +1,12 @@
 -- A walk visits all that it reaches.
-use Rattle.std.proofs.Common.{◌≡◌, ℕ, zero, suc, ◌+◌, ◌-◌, ◌<◌, ◌≤◌, eqb, Bool, true, false, ◌||◌, List, [], ◌∷◌, ◌++◌, length, Option, Some, None, slice_get, IsTrue, is_some, refl, sym, ◌∙◌, ap, subst, arith, inl, inr, ◌⊎◌}
+use Rattle.std.proofs.Common.{◌≡◌, ℕ, zero, suc, ◌+◌, ◌-◌, ◌<◌, ◌≤◌, eqb, Bool, true, false, ◌||◌, List, [], ◌∷◌, length, Option, Some, None, slice_get, IsTrue, refl, sym, ◌∙◌, ap, subst, arith, inl, inr, ◌⊎◌}
 use Rattle.std.specs.List.{AllByRecursion, Contains, IsDistinct, flat_map, list_any}
 use Rattle.std.proofs.lemmas.Bool.{eqb-true}
 use Rattle.std.proofs.lemmas.Option.{slice_get_within}
 use Rattle.std.proofs.lemmas.Map.Steps.{length-le_from_distinct_below}
-use Rattle.lua_table.specs.Entries.{Contents}
 use Rattle.lua_heap.specs.Value.{Value, Nil, Truth, Number, Text, Table, Closure, Builtin, Markup}
 use Rattle.lua_heap.specs.Table.{Entries}
-use Rattle.lua_heap.specs.Heap.{Heap, Ref, tab, TableObj, look, table_at}
+use Rattle.lua_heap.specs.Heap.{Heap, Ref, tab, TableObj, table_at}
 use Rattle.lua_heap.specs.Reach.{Set, AllIn, value_names, entry_names, table_names, obj_names, IsClosed}
 use Rattle.lua_heap.proofs.Names.{all-split, all-join, all-map}
 use Rattle.lua_heap.proofs.Places.{some_back, of-some_back}

@@ -2,10 +2,10 @@
 -- tables that are reached, in order of first reach, with their entries that are not cleared. Or there is a first fault: the
 -- tables are looked at in that order, in each the metatable and then the entries, the key before the value.
 use Rattle.std.specs.Prelude.{ℕ, ◌++◌, List, [], ◌∷◌, Result, Ok, Err, if◌then◌else◌}
-use Rattle.std.specs.List.{flat_map, list_any}
+use Rattle.std.specs.List.{list_any}
 use Rattle.std.specs.Str.{bytes_eq}
 use Rattle.lua_table.specs.Entries.{Contents}
-use Rattle.lua_heap.specs.Value.{Value, Nil, Truth, Number, Text, Table, Closure, Builtin, Markup, is_nil}
+use Rattle.lua_heap.specs.Value.{Value, Truth, Number, Text, Table, Closure, Builtin, Markup, is_nil}
 use Rattle.lua_heap.specs.Table.{Entries}
 use Rattle.lua_heap.specs.Heap.{Heap, table_at}
 use Rattle.lua_heap.specs.Graph.{Graph}

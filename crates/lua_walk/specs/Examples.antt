@@ -2,7 +2,7 @@
 use Rattle.std.specs.Prelude.{◌≡◌, ℕ, pos, true, false, List, [], ◌∷◌, Ok, Err, codes}
 use Rattle.lua_table.specs.Entries.{Contents}
 use Rattle.lua_heap.specs.declared.library.Library.TheVariants.{BasicNext}
-use Rattle.lua_heap.specs.Value.{Value, Nil, Truth, Number, Text, Table, Closure, Builtin, Markup}
+use Rattle.lua_heap.specs.Value.{Value, Nil, Number, Text, Table, Builtin, Markup}
 use Rattle.lua_heap.specs.Table.{Entries, set}
 use Rattle.lua_heap.specs.Heap.{Heap, empty, table_at}
 use Rattle.lua_walk.specs.Order.{reached}
