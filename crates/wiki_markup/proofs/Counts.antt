@@ -16,8 +16,6 @@ use Rattle.wiki_markup.specs.declared.cells.Mark.TheVariants.{Open, Close, Bar, 
 use Rattle.wiki_markup.specs.declared.cells.Wait.{Wait}
 use Rattle.wiki_markup.specs.declared.marked.Span.{Span}
 use Rattle.wiki_markup.specs.Items.{same_pair, run, same_mark, leaf_for, leaf_of, items_from, letters_from}
-use Rattle.wiki_markup.specs.Trees.{pairing, marked_of}
-use Rattle.wiki_markup.specs.declared.marked.ShownText.{ShownText}
 use Rattle.wiki_markup.specs.Work.{marks, begin_cells, end_cells, cells_of, Work, pairs, top, join_run, close_run, step, scan, no_work, write_at, Stands, CanJoin, cells_before, waits_of}
 use Rattle.wiki_markup.proofs.Closing.{joins, step_none, step_some, stands_join, stands_step, pairs_most, join_is, can_join}
 use Rattle.wiki_markup.proofs.Passes.{scanned_cells}

@@ -2,11 +2,10 @@
 use Rattle.std.proofs.Common.{◌≡◌, ℕ, suc, zero, List, refl, sym, ◌∙◌, subst}
 use Rattle.wiki_markup.specs.declared.cells.Shape.TheVariants.{Double, Triple, Square}
 use Rattle.wiki_markup.specs.declared.marked.NodeKind.TheVariants.{Construct, Parameter}
-use Rattle.wiki_markup.specs.Items.{Opening, Closing, Split, Assign, Byte, Items, none, one, group, items_from, letters_from}
+use Rattle.wiki_markup.specs.Items.{Opening, Closing, Split, Assign, Byte, Items, none, one, group, items_from}
 use Rattle.wiki_markup.specs.Pairing.{opening_byte, closing_byte, rewrite_all}
 use Rattle.wiki_markup.specs.declared.cells.Letter.{Letter}
-use Rattle.wiki_markup.specs.Trees.{preorder, Trees, done, text, equals, node, byte, bytes, Where, Outside, FirstPart, LaterPart, BehindEquals, Parts, in_front, part_of, nothing, trees_of, pairing, marked_of}
-use Rattle.wiki_markup.specs.declared.marked.ShownText.{ShownText}
+use Rattle.wiki_markup.specs.Trees.{preorder, Trees, done, text, equals, node, byte, bytes, Where, Outside, FirstPart, LaterPart, BehindEquals, Parts, in_front, part_of, nothing, trees_of}
 use Rattle.wiki_markup.specs.Formed.{In, LaterParts, Formed, IsMarked}
 
 formed_byte : (v : Where) (b : ℕ) (t : Trees) → Formed (In v) t → Formed (In v) (byte b t)
