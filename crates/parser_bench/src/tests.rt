@@ -27,8 +27,8 @@ fn examples_of_the_grammar_are_called(_rt: HostRuntime) -> Result<(), Fail> {
 
 #[test]
 fn laws_of_the_parser_are_called(_rt: HostRuntime) -> Result<(), Fail> {
-    lua_parser::laws::spelled_once();
-    lua_parser::laws::text_spelled_once();
+    lua_grammar_laws::spelled_once();
+    lua_grammar_laws::text_spelled_once();
     lua_parser::laws::parsed_once();
     Ok(())
 }
