@@ -1,5 +1,4 @@
-//! Each law of the grammar and of the parser, and each list of examples, is called once. These tests stand here and not in
-//! `lua_grammar`, since all of `lua_parser` is proved again whenever that crate changes.
+//! Each law of the grammar and of the parser, and each list of examples, is called once.
 use lua_grammar::{examples, laws};
 use std::test::Fail;
 
@@ -12,6 +11,8 @@ fn laws_of_the_grammar_are_called(_rt: HostRuntime) -> Result<(), Fail> {
     laws::fewer_begin();
     laws::one_fault();
     laws::fault_or_chunk();
+    lua_grammar_laws::spelled_once();
+    lua_grammar_laws::text_spelled_once();
     Ok(())
 }
 
@@ -26,9 +27,7 @@ fn examples_of_the_grammar_are_called(_rt: HostRuntime) -> Result<(), Fail> {
 }
 
 #[test]
-fn laws_of_the_parser_are_called(_rt: HostRuntime) -> Result<(), Fail> {
-    lua_grammar_laws::spelled_once();
-    lua_grammar_laws::text_spelled_once();
-    lua_parser::laws::parsed_once();
+fn the_law_of_the_parser_is_called(_rt: HostRuntime) -> Result<(), Fail> {
+    lua_parser::parsed_once();
     Ok(())
 }
