@@ -2,7 +2,7 @@
 """A parser of Lua of its own, from the manual's grammar (2.1 and 8), to which `lua_parser` is compared.
 
     lua_reference.py            reads a chunk from standard input, and prints its tree or its fault
-    lua_reference.py --write    writes the tables of the tests of `lua_parser` from the chunks of `parser_chunks.py`, and
+    lua_reference.py --write    writes the tables of `lua_parser_cases` from the chunks of `parser_chunks.py`, and
                                 prints the numbers of rows and the sums of its answers
     lua_reference.py --judge    compares those answers with `bench/lua_trees.py` and with `luac5.1 -p`
 
@@ -719,7 +719,7 @@ def main():
     if sys.argv[1] == "--judge":
         judge(CHUNKS)
     elif sys.argv[1] == "--write":
-        write(os.path.join(here, "../crates/lua_parser/src/tree_tests"), CHUNKS, REPEATED, MODULE)
+        write(os.path.join(here, "../crates/lua_parser_cases/src/tree_tests"), CHUNKS, REPEATED, MODULE)
         sums(MODULE, PIECES, LENGTH)
     else:
         sys.exit(__doc__)

@@ -2,7 +2,7 @@
 use Rattle.std.proofs.Common.{ℕ, List, length, arith, lit≤}
 use Rattle.lua_lexer.specs.declared.token.Token.{Token}
 use Rattle.lua_syntax.specs.Tree.{Block}
-use Rattle.lua_grammar.specs.Grammar.{given_of, SpellsChunk, IsChunk, outside}
+use Rattle.lua_grammar.specs.Grammar.{given_tokens, SpellsChunk, IsChunk, outside}
 use Rattle.lua_grammar.specs.FactLaws.{ChunkFits, ChunkIsLow, TreesAreLow, NodesAreShallow}
 use Rattle.lua_grammar.proofs.Rules.{RuledBlock}
 use Rattle.lua_grammar.proofs.Productions as productions
@@ -11,7 +11,7 @@ use Rattle.lua_grammar.proofs.HeightLemmas.{exp, exps, fields, fun, block, arms,
 
 ruled : (tokens : List Token) (b : Block) → IsChunk tokens b → (rule : ℕ) → RuledBlock rule outside b
 unfolding IsChunk SpellsChunk
-ruled tokens b h rule = let d = h rule in (productions.block (given_of tokens (length tokens) rule) outside b 0 d.0 d.1 (omega (arith, d.2.1))).1
+ruled tokens b h rule = let d = h rule in (productions.block (given_tokens tokens (length tokens) rule) outside b 0 d.0 d.1 (omega (arith, d.2.1))).1
 
 pub chunk_fits : ChunkFits
 chunk_fits tokens b h = joined.block outside b (ruled tokens b h)

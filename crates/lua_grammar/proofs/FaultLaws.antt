@@ -1,13 +1,13 @@
 -- A first fault is one, and stands in no chunk, as the contracts say it.
 use Rattle.std.proofs.Common.{◌≡◌, ℕ, suc, ◌<◌, List, length, subst, arith}
 use Rattle.lua_lexer.specs.declared.token.Token.{Token}
-use Rattle.lua_grammar.specs.Grammar.{given_of, IsChunk, Begins, FirstFault}
+use Rattle.lua_grammar.specs.Grammar.{given_tokens, IsChunk, Begins, FirstFault}
 use Rattle.lua_grammar.specs.FaultLaws.{FewerBegin, OneFault, FaultOrChunk}
 use Rattle.lua_grammar.proofs.Fewer.{chunk}
 
 pub fewer_begin : FewerBegin
 unfolding Begins
-fewer_begin tokens f n m le (b, j, reach, d) = (b, j, omega (arith, le, reach), chunk (given_of tokens m f) n le b j d)
+fewer_begin tokens f n m le (b, j, reach, d) = (b, j, omega (arith, le, reach), chunk (given_tokens tokens m f) n le b j d)
 
 -- No list has a fault behind its first one: up to there it has no fault of that kind.
 not_behind : (tokens : List Token) (k l i j : ℕ) → FirstFault tokens k i → FirstFault tokens l j → i < j → ⊥

@@ -1,6 +1,6 @@
 -- A tree that fits somewhere is low enough for it.
 use Rattle.std.proofs.Common.{ℕ, suc, ◌+◌, ◌≤◌, max, arith}
-use Rattle.lua_grammar.specs.declared.Around.{Around}
+use Rattle.lua_grammar.specs.declared.Context.{Context}
 use Rattle.lua_grammar.specs.Grammar.{under, in_loop, in_function}
 use Rattle.lua_grammar.specs.Facts.{IsShallow, FitsExp, FitsExps, FitsFields, FitsFun, FitsBlock, FitsArms, FitsStat}
 use Rattle.lua_grammar.specs.Heights.{exp_height, exps_height, fields_height, fun_height, block_height, arms_height, stat_height}
@@ -28,7 +28,7 @@ deeper a le = omega (arith, le)
 mutual
   unfolding FitsExp exp_height
 
-  pub exp : (w : Around) (e : Exp) → FitsExp w e → Room w.above (exp_height e)
+  pub exp : (w : Context) (e : Exp) → FitsExp w e → Room w.above (exp_height e)
   exp w (NilE line) h = leaf w.above h
   exp w (TrueE line) h = leaf w.above h
   exp w (FalseE line) h = leaf w.above h
@@ -45,27 +45,27 @@ mutual
   exp w (UnaryE line op e) h = node w.above _ (exp (under w) e h.1)
   exp w (ParenE line e) h = node w.above _ (exp (under w) e h.1)
 
-  pub exps : (w : Around) (es : Exps) → FitsExps w es → w.above ≤ 201 → Room w.above (exps_height es)
+  pub exps : (w : Context) (es : Exps) → FitsExps w es → w.above ≤ 201 → Room w.above (exps_height es)
   exps w NoExp h le = empty w.above le
   exps w (MoreExp e es) h le = join _ _ _ (exp w e h.0) (exps w es h.1 le)
 
-  pub fields : (w : Around) (fs : Fields) → FitsFields w fs → w.above ≤ 201 → Room w.above (fields_height fs)
+  pub fields : (w : Context) (fs : Fields) → FitsFields w fs → w.above ≤ 201 → Room w.above (fields_height fs)
   fields w NoField h le = empty w.above le
   fields w (Item e fs) h le = join _ _ _ (exp w e h.0) (fields w fs h.1 le)
   fields w (Pair k e fs) h le = join _ _ _ (exp w k h.0) (join _ _ _ (exp w e h.1) (fields w fs h.2 le))
 
-  pub fun : (w : Around) (f : Fun) → FitsFun w f → w.above ≤ 201 → Room w.above (fun_height f)
+  pub fun : (w : Context) (f : Fun) → FitsFun w f → w.above ≤ 201 → Room w.above (fun_height f)
   fun w (Lambda ps dots b) h le = block (in_function dots w) b h le
 
-  pub block : (w : Around) (b : Block) → FitsBlock w b → w.above ≤ 201 → Room w.above (block_height b)
+  pub block : (w : Context) (b : Block) → FitsBlock w b → w.above ≤ 201 → Room w.above (block_height b)
   block w NoStat h le = empty w.above le
   block w (MoreStat s b) h le = join _ _ _ (stat w s h.0) (block w b h.2 le)
 
-  pub arms : (w : Around) (a : Arms) → FitsArms w a → w.above ≤ 201 → Room w.above (arms_height a)
+  pub arms : (w : Context) (a : Arms) → FitsArms w a → w.above ≤ 201 → Room w.above (arms_height a)
   arms w NoArm h le = empty w.above le
   arms w (Arm e b a) h le = join _ _ _ (exp w e h.0) (join _ _ _ (block w b h.1 le) (arms w a h.2 le))
 
-  pub stat : (w : Around) (s : Stat) → FitsStat w s → Room w.above (stat_height s)
+  pub stat : (w : Context) (s : Stat) → FitsStat w s → Room w.above (stat_height s)
   stat w (AssignS line ts es) h = node w.above _ (join _ _ _ (exps (under w) ts h.4 (deeper w.above h.0)) (exps (under w) es h.5 (deeper w.above h.0)))
   stat w (CallS line e) h = node w.above _ (exp (under w) e h.2)
   stat w (DoS line b) h = node w.above _ (block (under w) b h.1 (deeper w.above h.0))
@@ -85,7 +85,7 @@ mutual
 
 -- ---- the node at the top
 
-pub exp-shallow : (w : Around) (e : Exp) → FitsExp w e → IsShallow w
+pub exp-shallow : (w : Context) (e : Exp) → FitsExp w e → IsShallow w
 unfolding FitsExp
 exp-shallow w (NilE line) h = h
 exp-shallow w (TrueE line) h = h
@@ -103,7 +103,7 @@ exp-shallow w (BinaryE line op a b) h = h.0
 exp-shallow w (UnaryE line op e) h = h.0
 exp-shallow w (ParenE line e) h = h.0
 
-pub stat-shallow : (w : Around) (s : Stat) → FitsStat w s → IsShallow w
+pub stat-shallow : (w : Context) (s : Stat) → FitsStat w s → IsShallow w
 unfolding FitsExp
 stat-shallow w (AssignS line ts es) h = h.0
 stat-shallow w (CallS line e) h = h.0

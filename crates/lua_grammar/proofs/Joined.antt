@@ -1,6 +1,6 @@
 -- What a tree has under each rule by itself, it has under all of them.
 use Rattle.std.proofs.Common.{ℕ, refl}
-use Rattle.lua_grammar.specs.declared.Around.{Around}
+use Rattle.lua_grammar.specs.declared.Context.{Context}
 use Rattle.lua_grammar.specs.Grammar.{under, in_loop, in_function}
 use Rattle.lua_grammar.specs.Facts.{FitsExp, FitsExps, FitsFields, FitsFun, FitsBlock, FitsArms, FitsStat}
 use Rattle.lua_grammar.proofs.Rules.{RuledExp, RuledExps, RuledFields, RuledFun, RuledBlock, RuledArms, RuledStat}
@@ -9,7 +9,7 @@ use Rattle.lua_syntax.specs.Tree.{Exp, Exps, Fields, Fun, Block, Arms, Stat, Nil
 mutual
   unfolding FitsExp RuledExp
 
-  pub exp : (w : Around) (e : Exp) → ((rule : ℕ) → RuledExp rule w e) → FitsExp w e
+  pub exp : (w : Context) (e : Exp) → ((rule : ℕ) → RuledExp rule w e) → FitsExp w e
   exp w (NilE line) h = h 7 refl
   exp w (TrueE line) h = h 7 refl
   exp w (FalseE line) h = h 7 refl
@@ -26,27 +26,27 @@ mutual
   exp w (UnaryE line op e) h = ((h 7).0 refl, exp (under w) e (λ r. (h r).1))
   exp w (ParenE line e) h = ((h 7).0 refl, exp (under w) e (λ r. (h r).1))
 
-  pub exps : (w : Around) (es : Exps) → ((rule : ℕ) → RuledExps rule w es) → FitsExps w es
+  pub exps : (w : Context) (es : Exps) → ((rule : ℕ) → RuledExps rule w es) → FitsExps w es
   exps w NoExp h = tt
   exps w (MoreExp e es) h = (exp w e (λ r. (h r).0), exps w es (λ r. (h r).1))
 
-  pub fields : (w : Around) (fs : Fields) → ((rule : ℕ) → RuledFields rule w fs) → FitsFields w fs
+  pub fields : (w : Context) (fs : Fields) → ((rule : ℕ) → RuledFields rule w fs) → FitsFields w fs
   fields w NoField h = tt
   fields w (Item e fs) h = (exp w e (λ r. (h r).0), fields w fs (λ r. (h r).1))
   fields w (Pair k e fs) h = (exp w k (λ r. (h r).0), exp w e (λ r. (h r).1.0), fields w fs (λ r. (h r).1.1))
 
-  pub fun : (w : Around) (f : Fun) → ((rule : ℕ) → RuledFun rule w f) → FitsFun w f
+  pub fun : (w : Context) (f : Fun) → ((rule : ℕ) → RuledFun rule w f) → FitsFun w f
   fun w (Lambda ps dots b) h = block (in_function dots w) b h
 
-  pub block : (w : Around) (b : Block) → ((rule : ℕ) → RuledBlock rule w b) → FitsBlock w b
+  pub block : (w : Context) (b : Block) → ((rule : ℕ) → RuledBlock rule w b) → FitsBlock w b
   block w NoStat h = tt
   block w (MoreStat s b) h = (stat w s (λ r. (h r).0), (h 5).1.0, block w b (λ r. (h r).1.1))
 
-  pub arms : (w : Around) (a : Arms) → ((rule : ℕ) → RuledArms rule w a) → FitsArms w a
+  pub arms : (w : Context) (a : Arms) → ((rule : ℕ) → RuledArms rule w a) → FitsArms w a
   arms w NoArm h = tt
   arms w (Arm e b a) h = (exp w e (λ r. (h r).0), block w b (λ r. (h r).1.0), arms w a (λ r. (h r).1.1))
 
-  pub stat : (w : Around) (s : Stat) → ((rule : ℕ) → RuledStat rule w s) → FitsStat w s
+  pub stat : (w : Context) (s : Stat) → ((rule : ℕ) → RuledStat rule w s) → FitsStat w s
   stat w (AssignS line ts es) h =
       ((h 7).0 refl, (h 5).1.0, (h 5).1.1.0.0, (h 5).1.1.1.0, exps (under w) ts (λ r. (h r).1.1.0.1), exps (under w) es (λ r. (h r).1.1.1.1))
   stat w (CallS line e) h = ((h 7).0 refl, (h 5).1.0, exp (under w) e (λ r. (h r).1.1))

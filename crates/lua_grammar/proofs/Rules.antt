@@ -1,23 +1,23 @@
 -- The facts of a tree under one rule of the grammar alone: whoever spells a tree free of one fault says only so much of it.
 -- Parts are in pairs, as the proofs of spelling give them.
 use Rattle.std.proofs.Common.{◌≡◌, ℕ, true}
-use Rattle.lua_grammar.specs.declared.Around.{Around}
+use Rattle.lua_grammar.specs.declared.Context.{Context}
 use Rattle.lua_grammar.specs.Grammar.{AreVars, IsCall, IsLast, IsEmpty, under, in_loop, in_function}
 use Rattle.lua_grammar.specs.Facts.{IsShallow, IsNumeral, HasExp, HasName, HasArm}
 use Rattle.lua_syntax.specs.Tree.{Exp, Exps, Fields, Fun, Block, Arms, Stat, NilE, TrueE, FalseE, NumberE, TextE, DotsE, FunctionE, NameE, IndexE, CallE, MethodE, TableE, BinaryE, UnaryE, ParenE, NoExp, MoreExp, NoField, Item, Pair, Lambda, NoStat, MoreStat, NoArm, Arm, AssignS, CallS, DoS, WhileS, RepeatS, IfS, IfElseS, CountS, CountByS, EachS, LocalFunctionS, LocalS, ReturnS, BreakS}
 
 module _ (rule : ℕ) where
-  abbrev pub Shallow : Around → Type 0
+  abbrev pub Shallow : Context → Type 0
   Shallow w = rule ≡ 7 → IsShallow w
 
   unfoldable mutual
-    pub RuledExp : Around → Exp → Type 0
+    pub RuledExp : Context → Exp → Type 0
     RuledExp w (NilE line) = Shallow w
     RuledExp w (TrueE line) = Shallow w
     RuledExp w (FalseE line) = Shallow w
     RuledExp w (NumberE line n) = Shallow w × (rule ≡ 6 → IsNumeral n)
     RuledExp w (TextE line bytes) = Shallow w
-    RuledExp w (DotsE line) = Shallow w × (rule ≡ 10 → w.dotted ≡ true)
+    RuledExp w (DotsE line) = Shallow w × (rule ≡ 10 → w.vararg ≡ true)
     RuledExp w (FunctionE line f) = Shallow w × RuledFun (under w) f
     RuledExp w (NameE line n) = Shallow w
     RuledExp w (IndexE line t k) = Shallow w × (RuledExp (under w) t × RuledExp (under w) k)
@@ -28,27 +28,27 @@ module _ (rule : ℕ) where
     RuledExp w (UnaryE line op e) = Shallow w × RuledExp (under w) e
     RuledExp w (ParenE line e) = Shallow w × RuledExp (under w) e
 
-    pub RuledExps : Around → Exps → Type 0
+    pub RuledExps : Context → Exps → Type 0
     RuledExps w NoExp = Unit {0}
     RuledExps w (MoreExp e es) = RuledExp w e × RuledExps w es
 
-    pub RuledFields : Around → Fields → Type 0
+    pub RuledFields : Context → Fields → Type 0
     RuledFields w NoField = Unit {0}
     RuledFields w (Item e fs) = RuledExp w e × RuledFields w fs
     RuledFields w (Pair k e fs) = RuledExp w k × (RuledExp w e × RuledFields w fs)
 
-    pub RuledFun : Around → Fun → Type 0
+    pub RuledFun : Context → Fun → Type 0
     RuledFun w (Lambda ps dots b) = RuledBlock (in_function dots w) b
 
-    pub RuledBlock : Around → Block → Type 0
+    pub RuledBlock : Context → Block → Type 0
     RuledBlock w NoStat = Unit {0}
     RuledBlock w (MoreStat s b) = RuledStat w s × ((IsLast s → IsEmpty b) × RuledBlock w b)
 
-    pub RuledArms : Around → Arms → Type 0
+    pub RuledArms : Context → Arms → Type 0
     RuledArms w NoArm = Unit {0}
     RuledArms w (Arm e b arms) = RuledExp w e × (RuledBlock w b × RuledArms w arms)
 
-    pub RuledStat : Around → Stat → Type 0
+    pub RuledStat : Context → Stat → Type 0
     RuledStat w (AssignS line ts es) = Shallow w × (AreVars ts × ((HasExp ts × RuledExps (under w) ts) × (HasExp es × RuledExps (under w) es)))
     RuledStat w (CallS line e) = Shallow w × (IsCall e × RuledExp (under w) e)
     RuledStat w (DoS line b) = Shallow w × RuledBlock (under w) b
@@ -62,4 +62,4 @@ module _ (rule : ℕ) where
     RuledStat w (LocalFunctionS line n f) = Shallow w × RuledFun (under w) f
     RuledStat w (LocalS line ns es) = Shallow w × (HasName ns × RuledExps (under w) es)
     RuledStat w (ReturnS line es) = Shallow w × RuledExps (under w) es
-    RuledStat w (BreakS line) = Shallow w × (rule ≡ 8 → w.looped ≡ true)
+    RuledStat w (BreakS line) = Shallow w × (rule ≡ 8 → w.inside_loop ≡ true)

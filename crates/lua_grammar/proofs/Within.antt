@@ -1,16 +1,16 @@
 -- What ends among the tokens that are given: how what is known of the parts of a production goes on to the whole.
 use Rattle.std.proofs.Common.{◌≡◌, ℕ, suc, ◌<◌, ◌≤◌, inl, inr, Bool, List, cond, ap, subst, arith}
 use Rattle.std.proofs.lemmas.Bool.{lt-ltb}
-use Rattle.lua_grammar.specs.declared.Around.{Around}
-use Rattle.lua_grammar.specs.declared.Sort.{Sort}
-use Rattle.lua_grammar.specs.Grammar.{Given, Span, ◌⨟◌, ◌∣◌, none, where', word, word_if, text, node, opens, separator, before, under}
+use Rattle.lua_grammar.specs.declared.Context.{Context}
+use Rattle.lua_grammar.specs.declared.TokenClass.{TokenClass}
+use Rattle.lua_grammar.specs.Grammar.{GivenTokens, Span, ◌⨟◌, ◌∣◌, none, where', word, word_if, text, node, opens, separator, before, under}
 use Rattle.lua_grammar.proofs.Rules.{Shallow}
 
 -- What is here is one token.
 abbrev pub IsToken : Span → Type 0
 IsToken A = (i j : ℕ) → A i j → j ≡ suc i
 
-module _ (g : Given) where
+module _ (g : GivenTokens) where
   -- It has tokens or none, and C holds of it.
   abbrev pub Within : Span → Type 0 → Type 0
   Within A C = (i j : ℕ) → A i j → j ≤ g.given → (i ≤ j) × C
@@ -19,10 +19,10 @@ module _ (g : Given) where
   abbrev pub Inside : Span → Type 0 → Type 0
   Inside A C = (i j : ℕ) → A i j → j ≤ g.given → (i < j) × C
 
-  pub is_word : (s : Sort) → IsToken (word g s)
+  pub is_word : (s : TokenClass) → IsToken (word g s)
   is_word s i j d = d.1
 
-  pub is_text : (s : Sort) (bytes : List ℕ) → IsToken (text g s bytes)
+  pub is_text : (s : TokenClass) (bytes : List ℕ) → IsToken (text g s bytes)
   is_text s bytes i j d = d.1
 
   pub is_opening : IsToken (opens g)
@@ -57,7 +57,7 @@ module _ (g : Given) where
   pub never : {C : Type 0} → Inside (where' ⊥) C
   never i j (p, e) le = absurd p
 
-  pub condition : (s : Sort) (k : ℕ) (P : Type 0) → Inside (word_if g s k P) (g.free_of ≡ k → P)
+  pub condition : (s : TokenClass) (k : ℕ) (P : Type 0) → Inside (word_if g s k P) (g.free_of ≡ k → P)
   condition s k P i j d le = (omega (arith, d.2), (λ rule. d.1 rule (omega (arith, d.2, le))))
 
   pub either : {A B : Span} {C : Type 0} → Inside A C → Inside B C → Inside (A ∣ B) C
@@ -110,17 +110,17 @@ module _ (g : Given) where
   -- ---- nodes
 
   -- a node, and what stands behind the place where it comes into being
-  pub node_then : {B : Span} {D : Type 0} (w : Around) (line : ℕ) → Inside B D → Inside (node g w line ⨟ B) (Shallow g.free_of w × D)
+  pub node_then : {B : Span} {D : Type 0} (w : Context) (line : ℕ) → Inside B D → Inside (node g w line ⨟ B) (Shallow g.free_of w × D)
   node_then w line b i j (m, x, y) le = let r = b m j y le in (omega (arith, x.2, r.0), ((λ rule. x.1 rule (omega (arith, x.2, r.0, le))), r.1))
 
-  pub leaf : {B : Span} (w : Around) (line : ℕ) → Inside B (Unit {0}) → Inside (node g w line ⨟ B) (Shallow g.free_of w)
+  pub leaf : {B : Span} (w : Context) (line : ℕ) → Inside B (Unit {0}) → Inside (node g w line ⨟ B) (Shallow g.free_of w)
   leaf w line b i j d le = let r = node_then w line b i j d le in (r.0, r.1.0)
 
-  given_before : (w : Around) (m : ℕ) → m < g.given → before g m w ≡ under w
+  given_before : (w : Context) (m : ℕ) → m < g.given → before g m w ≡ under w
   given_before w m lt = ap (λ (b : Bool). cond b (under w) w) (lt-ltb m g.given lt)
 
   -- a node, and what stands on both sides of that place
-  pub node_between : {B : Span} {D : Type 0} (A : Around → Span) (C : Around → Type 0) (w : Around) (line i m j : ℕ) → ((v : Around) → Inside (A v) (C v)) → Inside B D
+  pub node_between : {B : Span} {D : Type 0} (A : Context → Span) (C : Context → Type 0) (w : Context) (line i m j : ℕ) → ((v : Context) → Inside (A v) (C v)) → Inside B D
       → A (before g m w) i m → (node g w line ⨟ B) m j → j ≤ g.given → (i < j) × (Shallow g.free_of w × (C (under w) × D))
   node_between A C w line i m j a b x y le =
       let r = node_then w line b m j y le in

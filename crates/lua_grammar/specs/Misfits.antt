@@ -47,7 +47,7 @@ StatementsAreWhole = Refused (AssignS 1 one one)
 
 -- a node below 201 others
 abbrev pub NodesAreFew : Type 0
-NodesAreFew = FitsExp (record { above = 201; looped = false; dotted = true }) (TrueE 1) → ⊥
+NodesAreFew = FitsExp (record { above = 201; inside_loop = false; vararg = true }) (TrueE 1) → ⊥
 
 abbrev pub MisfitsAreRefused : Type 0
 MisfitsAreRefused = BreaksAreInLoops × DotsAreOfTheirFunction × NumeralsAreInRange × StatementsAreWhole × NodesAreFew

@@ -1,22 +1,19 @@
 -- What a token is to the grammar: keywords and marks by their bytes (manual 2.1).
-use Rattle.std.specs.Prelude.{ℕ, Bool, if◌then◌else◌, ◌==◌, List, [], ◌∷◌, codes, slice_index_or}
-use Rattle.std.specs.Cmp.Lexicographic.{pointwise}
+use Rattle.std.specs.Prelude.{ℕ, if◌then◌else◌, List, [], ◌∷◌, codes, slice_index_or}
+use Rattle.lua_lexer.specs.Lexis.{same}
 use Rattle.lua_lexer.specs.declared.token.Token.{Token}
 use Rattle.lua_lexer.specs.declared.token.TokenKind.{TokenKind}
 use Rattle.lua_lexer.specs.declared.token.TokenKind.TheVariants.{Name as NameToken, Word, Mark, Number as NumberToken, Text as TextToken, End as EndToken}
-use Rattle.lua_grammar.specs.declared.Sort.{Sort}
-use Rattle.lua_grammar.specs.declared.Sort.TheVariants.{Name, Number, Text, Eof, And, Break, Do, Else, Elseif, End, False, For, Function, If, In, Local, Nil, Not, Or, Repeat, Return, Then, True, Until, While, Plus, Minus, Star, Slash, Percent, Caret, Hash, EqEq, NotEq, LessEq, MoreEq, Less, More, Assign, LeftParen, RightParen, LeftBrace, RightBrace, LeftBracket, RightBracket, Semicolon, Colon, Comma, Dot, DotDot, Dots, Other}
+use Rattle.lua_grammar.specs.declared.TokenClass.{TokenClass}
+use Rattle.lua_grammar.specs.declared.TokenClass.TheVariants.{Name, Number, Text, Eof, And, Break, Do, Else, Elseif, End, False, For, Function, If, In, Local, Nil, Not, Or, Repeat, Return, Then, True, Until, While, Plus, Minus, Star, Slash, Percent, Caret, Hash, EqEq, NotEq, LessEq, MoreEq, Less, More, Assign, LeftParen, RightParen, LeftBrace, RightBrace, LeftBracket, RightBracket, Semicolon, Colon, Comma, Dot, DotDot, Dots, Other}
 
--- Bytes, and the sort for which they stand.
+-- Bytes, and the class for which they stand.
 abbrev pub Entry : Type 0
-Entry = List ℕ × Sort
+Entry = List ℕ × TokenClass
 
-abbrev pub same : List ℕ → List ℕ → Bool
-same = pointwise ◌==◌
-
-abbrev pub look_up : List ℕ → List Entry → Sort → Sort
+abbrev pub look_up : List ℕ → List Entry → TokenClass → TokenClass
 look_up w [] otherwise = otherwise
-look_up w ((bytes, sort) ∷ rest) otherwise = if same w bytes then sort else look_up w rest otherwise
+look_up w ((bytes, class) ∷ rest) otherwise = if same w bytes then class else look_up w rest otherwise
 
 abbrev pub early_words : List Entry
 early_words = (codes "and", And) ∷ (codes "break", Break) ∷ (codes "do", Do) ∷ (codes "else", Else) ∷ (codes "elseif", Elseif) ∷ (codes "end", End) ∷ (codes "false", False) ∷ []
@@ -27,8 +24,8 @@ middle_words = (codes "for", For) ∷ (codes "function", Function) ∷ (codes "i
 abbrev pub late_words : List Entry
 late_words = (codes "or", Or) ∷ (codes "repeat", Repeat) ∷ (codes "return", Return) ∷ (codes "then", Then) ∷ (codes "true", True) ∷ (codes "until", Until) ∷ (codes "while", While) ∷ []
 
-unfoldable pub word_sort : List ℕ → Sort
-word_sort w = look_up w early_words (look_up w middle_words (look_up w late_words Other))
+unfoldable pub word_class : List ℕ → TokenClass
+word_class w = look_up w early_words (look_up w middle_words (look_up w late_words Other))
 
 abbrev pub operators : List Entry
 operators = (codes "+", Plus) ∷ (codes "-", Minus) ∷ (codes "*", Star) ∷ (codes "/", Slash) ∷ (codes "%", Percent) ∷ (codes "^", Caret) ∷ (codes "#", Hash) ∷ []
@@ -42,19 +39,19 @@ brackets = (codes "(", LeftParen) ∷ (codes ")", RightParen) ∷ (codes "{", Le
 abbrev pub points : List Entry
 points = (codes ";", Semicolon) ∷ (codes ":", Colon) ∷ (codes ",", Comma) ∷ (codes ".", Dot) ∷ (codes "..", DotDot) ∷ (codes "...", Dots) ∷ []
 
-unfoldable pub mark_sort : List ℕ → Sort
-mark_sort m = look_up m brackets (look_up m points (look_up m comparisons (look_up m operators Other)))
+unfoldable pub mark_class : List ℕ → TokenClass
+mark_class m = look_up m brackets (look_up m points (look_up m comparisons (look_up m operators Other)))
 
-abbrev pub kind_sort : TokenKind → Sort
-kind_sort (NameToken n) = Name
-kind_sort (Word w) = word_sort w
-kind_sort (Mark m) = mark_sort m
-kind_sort (NumberToken n) = Number
-kind_sort (TextToken t) = Text
-kind_sort EndToken = Eof
+abbrev pub kind_class : TokenKind → TokenClass
+kind_class (NameToken n) = Name
+kind_class (Word w) = word_class w
+kind_class (Mark m) = mark_class m
+kind_class (NumberToken n) = Number
+kind_class (TextToken t) = Text
+kind_class EndToken = Eof
 
-abbrev pub sort_of : Token → Sort
-sort_of t = kind_sort t.kind
+abbrev pub class_of : Token → TokenClass
+class_of t = kind_class t.kind
 
 -- The bytes of a name, a numeral or a string.
 abbrev pub kind_bytes : TokenKind → List ℕ
@@ -75,5 +72,5 @@ end_token = record { kind = EndToken; start = 0; end = 0; line = 0; end_line = 0
 unfoldable pub tok_at : List Token → ℕ → Token
 tok_at ts i = slice_index_or ts i end_token
 
-abbrev pub sort_at : List Token → ℕ → Sort
-sort_at ts i = sort_of (tok_at ts i)
+abbrev pub class_at : List Token → ℕ → TokenClass
+class_at ts i = class_of (tok_at ts i)

@@ -1,8 +1,8 @@
 //! The grammar of Lua (manual 8) as definitions: which tokens spell a chunk, and the first fault of those that spell none.
 //! A chunk is a plain tree of `lua_syntax`.
 //!
-//! - `specs/Tokens.antt`: the sorts of tokens
-//! - `specs/Grammar.antt`: what spells a tree, case by case, and the faults
+//! - `specs/Grammar.antt`: what spells a tree, case by case, and the faults; read it first
+//! - `specs/Tokens.antt`: the classes of tokens
 //! - `specs/Facts.antt`: what holds of the tree of every chunk, said of the tree alone
 //! - `specs/Heights.antt`: the levels of nodes of a tree
 //!
@@ -17,7 +17,7 @@ pub mod laws;
 
 /// What a token is to the grammar. `Other` is for bytes that are no keyword or mark of Lua.
 #[derive(Clone, Copy, Debug, PartialEq, Eq)]
-pub enum Sort {
+pub enum TokenClass {
     Name,
     Number,
     Text,
@@ -75,8 +75,8 @@ pub enum Sort {
 /// Where a tree stands: how many nodes are above it, whether in a loop of its function, and whether in a function
 /// whose parameters end with `...`.
 #[derive(Clone, Copy, Debug)]
-pub struct Around {
+pub struct Context {
     pub above: u32,
-    pub looped: bool,
-    pub dotted: bool,
+    pub inside_loop: bool,
+    pub vararg: bool,
 }

@@ -1,23 +1,19 @@
 -- Digits read one by one, and the point moved.
-use Rattle.std.proofs.Common.{◌≡◌, ℕ, zero, suc, ◌+◌, ◌-◌, ◌*◌, ◌^◌, ◌<◌, ◌≤◌, ◌⊎◌, Bool, true, false, List, [], ◌∷◌, ◌++◌, length, take, drop, get_or, min, refl, sym, ap, subst, ◌∙◌, inl, inr, arith, true≢false, drop-cons, le_refl, leb, append-nil, length-append}
-use Rattle.std.specs.Prelude.{ℤ, pos, neg_ℤ, ◌+ℤ◌, ◌-ℤ◌, Option, Some, None, SomeIff, FitsSigned, nat_lt, ◌==◌, ◌&&◌, if◌then◌else◌, option_map, unwrap_or}
+use Rattle.std.proofs.Common.{◌≡◌, ℕ, zero, suc, ◌+◌, ◌-◌, ◌*◌, ◌^◌, ◌<◌, ◌≤◌, ◌⊎◌, Bool, true, false, List, [], ◌∷◌, ◌++◌, length, take, drop, get_or, min, refl, sym, ap, subst, ◌∙◌, inl, inr, arith, drop-cons, le_refl, leb, append-nil, length-append}
+use Rattle.std.specs.Prelude.{ℤ, pos, neg_ℤ, ◌-ℤ◌, Option, Some, None, SomeIff, nat_lt, ◌==◌, ◌&&◌, option_map, unwrap_or}
 use Rattle.std.specs.Char.{digit_value}
-use Rattle.std.specs.Int.{w64}
 use Rattle.std.specs.List.{list_all, before_first}
 use Rattle.std.specs.Str.Parse.{digits_value, digits_value_after}
 use Rattle.std.proofs.Math.Nat.{mul-le-mul_left, mul-le-mul_right, one-le-pow, pow-le-pow_right}
 use Rattle.std.proofs.lemmas.Bool.Decides.{nat_tests, leb_tells}
-use Rattle.std.proofs.lemmas.List.{take-append-le, drop-append-le, take_min, drop_min, take_all, drop_all, take_more}
-use Rattle.std.proofs.lemmas.List.Folds.{list_all-append}
+use Rattle.std.proofs.lemmas.List.{take-append-le, drop-append-le, take_min, drop_min, take_all, drop_all}
 use Rattle.std.proofs.Math.Seq.{take-append-add, drop-append-add}
-use Rattle.std.proofs.lemmas.Bool.{ltb-false, cond-true, cond-false}
+use Rattle.std.proofs.lemmas.Bool.{cond-true, cond-false}
 use Rattle.std.proofs.lemmas.Int.{ints}
 use borrow.Author.Tests.{ltb-true, eqb-true}
 use Rattle.wk_base.specs.Space.{trim}
-use Rattle.lua_number.specs.Whole.{fits}
 use Rattle.lua_number.specs.Numerals.{in_range, behind, are_digits, signed, is_exponent_mark, is_point, exponent_of, is_zero_digit, whole_part, moved_point, decimal_value, decimal_of, natural, has_hex_mark, numeral_of, digits_of_base, unsigned, is_minus, trimmed, signed_value, read_numeral_of, read_number_of, read_in_base_of}
 use Rattle.lua_number.specs.Words.{in_word}
-use Rattle.lua_number.proofs.Operations.{does_fit, not_fits}
 
 pub word_is : (o : Option ℕ) (n : ℕ) → SomeIff o (n < 2 ^ 64) n → o ≡ in_word (Some n)
 word_is None n h = by_test (nat_lt n (2 ^ 64)) refl

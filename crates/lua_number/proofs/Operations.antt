@@ -1,6 +1,6 @@
 -- Results in range and beyond it, rests and powers.
 use Rattle.std.proofs.Common.{◌≡◌, ℕ, zero, suc, ◌+◌, ◌-◌, ◌^◌, ◌%◌, ◌<◌, ◌≤◌, ◌⊎◌, Bool, true, false, refl, sym, ap, subst, ◌∙◌, inl, inr, arith, true≢false}
-use Rattle.std.specs.Prelude.{ℤ, pos, negsuc, ◌+ℤ◌, ◌-ℤ◌, ◌*ℤ◌, ◌<ℤ◌, ◌≤ℤ◌, neg_ℤ, FitsSigned, Option, Some, None, SomeIff, nat_lt, nat_eq, if◌then◌else◌, ◌||◌, Result, Ok, Err, int_div, int_rem, unsigned_abs}
+use Rattle.std.specs.Prelude.{ℤ, pos, negsuc, ◌+ℤ◌, ◌-ℤ◌, ◌*ℤ◌, neg_ℤ, FitsSigned, Option, Some, None, SomeIff, nat_lt, nat_eq, if◌then◌else◌, ◌||◌, Result, Ok, Err, int_div, int_rem, unsigned_abs}
 use Rattle.std.specs.Int.{w64, int_pow, CanDivide, IsNonZero}
 use Rattle.std.specs.Option.{ok_or}
 use Rattle.std.proofs.Math.Nat.{pow-suc, pow-le-pow_left, pow-le-pow_right}

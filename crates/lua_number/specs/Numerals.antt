@@ -1,6 +1,6 @@
 -- How Lua reads numbers in the bytes of a text: numerals (manual 2.1), and number texts (`tonumber`, manual 5.1).
 -- Bytes are written by their codes: 43 is +, 45 is -, 46 is ., 48 is 0, 69 and 101 are E and e, 88 and 120 are X and x.
-use Rattle.std.specs.Prelude.{ℕ, suc, ◌+◌, ◌-◌, ◌*◌, ◌^◌, ◌&&◌, ◌||◌, ◌==◌, ℤ, pos, negsuc, neg_ℤ, Bool, if◌then◌else◌, nat_lt, nat_le, List, [], ◌∷◌, ◌++◌, length, take, drop, slice_index, position, Option, Some, None, unwrap_or}
+use Rattle.std.specs.Prelude.{ℕ, suc, ◌+◌, ◌-◌, ◌*◌, ◌^◌, ◌&&◌, ◌||◌, ◌==◌, ℤ, pos, negsuc, neg_ℤ, Bool, if◌then◌else◌, nat_lt, List, [], ◌++◌, length, take, drop, slice_index, position, Option, Some, None, unwrap_or}
 use Rattle.std.specs.List.{list_all, before_first}
 use Rattle.std.specs.Option.{option_map}
 use Rattle.std.specs.Char.{digit_value}

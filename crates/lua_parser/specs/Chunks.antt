@@ -10,8 +10,8 @@ use Rattle.lua_grammar.specs.Tokens.{tok_at}
 use Rattle.lua_syntax.specs.Tree.{Block}
 use Rattle.lua_grammar.specs.Grammar.{IsChunk, FirstFault}
 use Rattle.lua_syntax.specs.View.{block_view, chunk_view}
-use Rattle.lua_parser.specs.declared.answer.Fault.{Fault}
-use Rattle.lua_parser.specs.declared.answer.Fault.TheVariants.{At, NoMemory}
+use Rattle.lua_reading.specs.declared.answer.Fault.{Fault}
+use Rattle.lua_reading.specs.declared.answer.Fault.TheVariants.{At, NoMemory}
 
 -- The tokens spell this chunk and no other.
 abbrev pub IsTheChunk : List Token → Block → Type 0

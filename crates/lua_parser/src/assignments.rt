@@ -1,20 +1,19 @@
 //! Assignments and calls (manual 2.4.3 and 2.4.6).
 ghost use Rattle.std.specs.Prelude.{◌≡◌, ◌<◌, ◌≤◌, length};
-ghost use Rattle.lua_grammar.specs.Tokens.{sort_at};
+ghost use Rattle.lua_grammar.specs.Tokens.{class_at};
 ghost use Rattle.lua_grammar.specs.Grammar.{under, IsVar};
 ghost use Rattle.lua_syntax.specs.View.{expr_view};
-ghost use Rattle.lua_parser.specs.Parsing.{Ended, PrefixStood};
-ghost use Rattle.lua_parser.specs.Answers.{StatAnswer};
-ghost use Rattle.lua_parser.specs.StatAnswers.{Opening, is_call, is_var};
+ghost use Rattle.lua_reading.specs.Parsing.{HasOneEnd, ReadsPrefix};
+ghost use Rattle.lua_reading.specs.Answers.{StatAnswer};
+ghost use Rattle.lua_reading.specs.StatAnswers.{Opening, is_call, is_var};
 
-use crate::answer::{Fault, Parsed, bad};
-use crate::around::under;
-use crate::make;
 use crate::prefixes::{exprs, prefix};
-use crate::short_lists::short_list;
-use crate::tokens::{line_at, sort_at};
-use lua_grammar::{Around, Sort};
+use lua_grammar::{Context, TokenClass};
 use lua_lexer::Token;
+use lua_reading::context::under;
+use lua_reading::short_lists::short_list;
+use lua_reading::tokens::{class_at, line_at};
+use lua_reading::{Fault, Reading, fault_at, make};
 use lua_syntax::{Expr, ExprKind, Stat};
 use std::alloc::Global;
 
@@ -24,30 +23,30 @@ pub(crate) fn simple(
     alloc: Global,
     toks: &[Token],
     i: usize,
-    around: Around,
-) -> Result<Parsed<Stat>, Fault>
-    requires ended { Ended toks.now }
+    context: Context,
+) -> Result<Reading<Stat>, Fault>
+    requires ended { HasOneEnd toks.now }
     requires inside { i < length toks.now }
-    requires begins { Opening (sort_at toks.now i) }
-    requires high { around.above ≤ 201 }
-    ensures { StatAnswer toks.now around i result }
+    requires begins { Opening (class_at toks.now i) }
+    requires high { context.above ≤ 201 }
+    ensures { StatAnswer toks.now context i result }
 {
-    if around.above > 200 {
-        return bad(7, i);
+    if context.above > 200 {
+        return fault_at(7, i);
     }
-    let first = prefix(alloc, toks, i, under(around))?;
+    let first = prefix(alloc, toks, i, under(context))?;
     if is_call(&first.tree) {
         let tree = make::call_stat(line_at(toks, i), first.tree);
-        return Ok(Parsed {
+        return Ok(Reading {
             tree,
             end: first.end,
             height: 1 + first.height,
         });
     }
     if !is_var(&first.tree) {
-        return bad(5, first.end);
+        return fault_at(5, first.end);
     }
-    assignment(alloc, toks, i, first, around)
+    assignment(alloc, toks, i, first, context)
 }
 
 // An assignment whose first target has been read.
@@ -56,44 +55,44 @@ fn assignment(
     alloc: Global,
     toks: &[Token],
     i: usize,
-    first: Parsed<Expr>,
-    around: Around,
-) -> Result<Parsed<Stat>, Fault>
-    requires ended { Ended toks.now }
+    first: Reading<Expr>,
+    context: Context,
+) -> Result<Reading<Stat>, Fault>
+    requires ended { HasOneEnd toks.now }
     requires inside { i < length toks.now }
-    requires begins { Opening (sort_at toks.now i) }
-    requires room { around.above ≤ 200 }
-    requires read { PrefixStood toks.now (under around) i (expr_view first.tree) first.end first.height }
+    requires begins { Opening (class_at toks.now i) }
+    requires room { context.above ≤ 200 }
+    requires read { ReadsPrefix toks.now (under context) i (expr_view first.tree) first.end first.height }
     requires var { IsVar (expr_view first.tree) }
-    ensures { StatAnswer toks.now around i result }
+    ensures { StatAnswer toks.now context i result }
 {
-    let inner = under(around);
+    let inner = under(context);
     let mut tree = short_list(alloc)?;
     tree.push(first.tree)?;
     let mut end = first.end;
     let mut height = 1 + first.height;
     'targets: loop {
-        match sort_at(toks, end) {
-            Sort::Assign => {
+        match class_at(toks, end) {
+            TokenClass::Assign => {
                 let values = exprs(alloc, toks, end + 1, inner)?;
                 let all = height.max(1 + values.height);
                 let stat = make::assign(line_at(toks, i), tree, values.tree);
-                return Ok(Parsed {
+                return Ok(Reading {
                     tree: stat,
                     end: values.end,
                     height: all,
                 });
             }
-            Sort::Comma => {
+            TokenClass::Comma => {
                 let next = prefix(alloc, toks, end + 1, inner)?;
                 if !is_var(&next.tree) {
-                    return bad(5, next.end);
+                    return fault_at(5, next.end);
                 }
                 height = height.max(1 + next.height);
                 end = next.end;
                 tree.push(next.tree)?;
             }
-            _ => return bad(5, end),
+            _ => return fault_at(5, end),
         }
     }
 }

@@ -1,22 +1,21 @@
 //! Expressions (manual 2.5): operators and operands.
 ghost use Rattle.std.specs.Prelude.{◌≡◌, ◌<◌, ◌≤◌, ◌+◌, length, false};
-ghost use Rattle.lua_grammar.specs.Tokens.{sort_at, tok_at};
+ghost use Rattle.lua_grammar.specs.Tokens.{class_at, tok_at};
 ghost use Rattle.lua_grammar.specs.Grammar.{sign_of};
-ghost use Rattle.lua_grammar.specs.declared.Sort.TheVariants.{Function};
-ghost use Rattle.lua_parser.specs.Parsing.{Ended};
-ghost use Rattle.lua_parser.specs.Answers.{ExpAnswer, OperandAnswer, OneToken, has_parts};
+ghost use Rattle.lua_grammar.specs.declared.TokenClass.TheVariants.{Function};
+ghost use Rattle.lua_reading.specs.Parsing.{HasOneEnd};
+ghost use Rattle.lua_reading.specs.Answers.{ExpAnswer, OperandAnswer, OneToken, has_parts};
 
-use crate::answer::{Fault, Parsed, bad};
-use crate::around::under;
 use crate::blocks::body;
-use crate::make;
-use crate::operators::{level_of, op_of, right_level_of};
 use crate::prefixes::prefix;
 use crate::tables::table;
-use crate::tokens::{bytes_at, copy_at, line_at, sort_at};
-use lua_grammar::{Around, Sort};
+use lua_grammar::{Context, TokenClass};
 use lua_lexer::Token;
 use lua_number::read_numeral;
+use lua_reading::context::under;
+use lua_reading::operators::{level_of, op_of, right_level_of};
+use lua_reading::tokens::{bytes_at, class_at, copy_at, line_at};
+use lua_reading::{Fault, Reading, fault_at, make};
 use lua_syntax::{Expr, UnaryOp};
 use std::alloc::Global;
 
@@ -27,31 +26,31 @@ pub(crate) fn exp(
     toks: &[Token],
     i: usize,
     least: u8,
-    around: Around,
-) -> Result<Parsed<Expr>, Fault>
-    requires ended { Ended toks.now }
+    context: Context,
+) -> Result<Reading<Expr>, Fault>
+    requires ended { HasOneEnd toks.now }
     requires inside { i < length toks.now }
     requires levels { least ≤ 7 }
-    requires high { around.above ≤ 201 }
-    ensures { ExpAnswer toks.now around least i result }
+    requires high { context.above ≤ 201 }
+    ensures { ExpAnswer toks.now context least i result }
 {
-    let first = operand(alloc, toks, i, around)?;
+    let first = operand(alloc, toks, i, context)?;
     let mut left = first.tree;
     let mut end = first.end;
     let mut height = first.height;
     'climb: loop {
-        let Some(op) = op_of(sort_at(toks, end)) else {
+        let Some(op) = op_of(class_at(toks, end)) else {
             let tree = left;
-            return Ok(Parsed { tree, end, height });
+            return Ok(Reading { tree, end, height });
         };
         if level_of(op) < least {
             let tree = left;
-            return Ok(Parsed { tree, end, height });
+            return Ok(Reading { tree, end, height });
         }
-        if around.above + height > 200 {
-            return bad(7, end);
+        if context.above + height > 200 {
+            return fault_at(7, end);
         }
-        let right = exp(alloc, toks, end + 1, right_level_of(op), under(around))?;
+        let right = exp(alloc, toks, end + 1, right_level_of(op), under(context))?;
         left = make::binary(alloc, line_at(toks, end), op, left, right.tree)?;
         end = right.end;
         height = 1 + height.max(right.height);
@@ -60,20 +59,25 @@ pub(crate) fn exp(
 
 // An expression that is no binary one.
 #[cycle(parser)]
-fn operand(alloc: Global, toks: &[Token], i: usize, around: Around) -> Result<Parsed<Expr>, Fault>
-    requires ended { Ended toks.now }
+fn operand(
+    alloc: Global,
+    toks: &[Token],
+    i: usize,
+    context: Context,
+) -> Result<Reading<Expr>, Fault>
+    requires ended { HasOneEnd toks.now }
     requires inside { i < length toks.now }
-    requires high { around.above ≤ 201 }
-    ensures { OperandAnswer toks.now around i result }
+    requires high { context.above ≤ 201 }
+    ensures { OperandAnswer toks.now context i result }
 {
-    match sort_at(toks, i) {
-        Sort::Name | Sort::LeftParen => prefix(alloc, toks, i, around),
-        Sort::LeftBrace => table(alloc, toks, i, around),
-        Sort::Function => lambda(alloc, toks, i, around),
-        Sort::Not => unary(alloc, toks, i, UnaryOp::Not, around),
-        Sort::Hash => unary(alloc, toks, i, UnaryOp::Len, around),
-        Sort::Minus => unary(alloc, toks, i, UnaryOp::Minus, around),
-        _ => literal(alloc, toks, i, around),
+    match class_at(toks, i) {
+        TokenClass::Name | TokenClass::LeftParen => prefix(alloc, toks, i, context),
+        TokenClass::LeftBrace => table(alloc, toks, i, context),
+        TokenClass::Function => lambda(alloc, toks, i, context),
+        TokenClass::Not => unary(alloc, toks, i, UnaryOp::Not, context),
+        TokenClass::Hash => unary(alloc, toks, i, UnaryOp::Len, context),
+        TokenClass::Minus => unary(alloc, toks, i, UnaryOp::Minus, context),
+        _ => literal(alloc, toks, i, context),
     }
 }
 
@@ -84,20 +88,20 @@ fn unary(
     toks: &[Token],
     i: usize,
     op: UnaryOp,
-    around: Around,
-) -> Result<Parsed<Expr>, Fault>
-    requires ended { Ended toks.now }
+    context: Context,
+) -> Result<Reading<Expr>, Fault>
+    requires ended { HasOneEnd toks.now }
     requires inside { i < length toks.now }
-    requires sign { sort_at toks.now i ≡ sign_of op }
-    requires high { around.above ≤ 201 }
-    ensures { OperandAnswer toks.now around i result }
+    requires sign { class_at toks.now i ≡ sign_of op }
+    requires high { context.above ≤ 201 }
+    ensures { OperandAnswer toks.now context i result }
 {
-    if around.above > 200 {
-        return bad(7, i);
+    if context.above > 200 {
+        return fault_at(7, i);
     }
-    let inner = exp(alloc, toks, i + 1, 7, under(around))?;
+    let inner = exp(alloc, toks, i + 1, 7, under(context))?;
     let tree = make::unary(alloc, line_at(toks, i), op, inner.tree)?;
-    Ok(Parsed {
+    Ok(Reading {
         tree,
         end: inner.end,
         height: 1 + inner.height,
@@ -106,19 +110,19 @@ fn unary(
 
 // A function without a name.
 #[cycle(parser)]
-fn lambda(alloc: Global, toks: &[Token], i: usize, around: Around) -> Result<Parsed<Expr>, Fault>
-    requires ended { Ended toks.now }
+fn lambda(alloc: Global, toks: &[Token], i: usize, context: Context) -> Result<Reading<Expr>, Fault>
+    requires ended { HasOneEnd toks.now }
     requires inside { i < length toks.now }
-    requires begins { sort_at toks.now i ≡ Function }
-    requires high { around.above ≤ 201 }
-    ensures { OperandAnswer toks.now around i result }
+    requires begins { class_at toks.now i ≡ Function }
+    requires high { context.above ≤ 201 }
+    ensures { OperandAnswer toks.now context i result }
 {
-    if around.above > 200 {
-        return bad(7, i);
+    if context.above > 200 {
+        return fault_at(7, i);
     }
-    let function = body(alloc, toks, i + 1, false, under(around))?;
+    let function = body(alloc, toks, i + 1, false, under(context))?;
     let tree = make::function(line_at(toks, i), function.tree);
-    Ok(Parsed {
+    Ok(Reading {
         tree,
         end: function.end,
         height: 1 + function.height,
@@ -126,49 +130,54 @@ fn lambda(alloc: Global, toks: &[Token], i: usize, around: Around) -> Result<Par
 }
 
 // An expression of one token.
-fn literal(alloc: Global, toks: &[Token], i: usize, around: Around) -> Result<Parsed<Expr>, Fault>
-    requires ended { Ended toks.now }
+fn literal(
+    alloc: Global,
+    toks: &[Token],
+    i: usize,
+    context: Context,
+) -> Result<Reading<Expr>, Fault>
+    requires ended { HasOneEnd toks.now }
     requires inside { i < length toks.now }
-    requires plain { has_parts (sort_at toks.now i) ≡ false }
-    ensures { OperandAnswer toks.now around i result }
+    requires plain { has_parts (class_at toks.now i) ≡ false }
+    ensures { OperandAnswer toks.now context i result }
 {
     let line = line_at(toks, i);
-    match sort_at(toks, i) {
-        Sort::Nil => one_token(make::nil(line), i, around),
-        Sort::True => one_token(make::true_value(line), i, around),
-        Sort::False => one_token(make::false_value(line), i, around),
-        Sort::Text => {
+    match class_at(toks, i) {
+        TokenClass::Nil => one_token(make::nil(line), i, context),
+        TokenClass::True => one_token(make::true_value(line), i, context),
+        TokenClass::False => one_token(make::false_value(line), i, context),
+        TokenClass::Text => {
             let bytes = copy_at(alloc, toks, i)?;
-            one_token(make::text(line, bytes), i, around)
+            one_token(make::text(line, bytes), i, context)
         }
-        Sort::Number => {
+        TokenClass::Number => {
             let Some(value) = read_numeral(bytes_at(toks, i)) else {
-                return bad(6, i);
+                return fault_at(6, i);
             };
-            one_token(make::number(line, value), i, around)
+            one_token(make::number(line, value), i, context)
         }
-        Sort::Dots => {
-            if around.dotted {
-                return one_token(make::dots(line), i, around);
+        TokenClass::Dots => {
+            if context.vararg {
+                return one_token(make::dots(line), i, context);
             }
-            if around.above > 200 {
-                return bad(7, i);
+            if context.above > 200 {
+                return fault_at(7, i);
             }
-            bad(10, i)
+            fault_at(10, i)
         }
-        _ => bad(5, i),
+        _ => fault_at(5, i),
     }
 }
 
 // A node of one token, which may be too deep.
-fn one_token(tree: Expr, i: usize, around: Around) -> Result<Parsed<Expr>, Fault>
+fn one_token(tree: Expr, i: usize, context: Context) -> Result<Reading<Expr>, Fault>
     requires { i + 1 < 18446744073709551616 }
-    ensures { OneToken tree i around result }
+    ensures { OneToken tree i context result }
 {
-    if around.above > 200 {
-        return bad(7, i);
+    if context.above > 200 {
+        return fault_at(7, i);
     }
-    Ok(Parsed {
+    Ok(Reading {
         tree,
         end: i + 1,
         height: 1,

@@ -1,20 +1,20 @@
 //! Functions with a name (manual 2.5.9).
 ghost use Rattle.std.specs.Prelude.{◌≡◌, ◌≢◌, ◌<◌, ◌≤◌, ◌∷◌, ◌+◌, [], length, IfOk, IfErr, MatchOption};
-ghost use Rattle.lua_grammar.specs.Tokens.{sort_at};
-ghost use Rattle.lua_grammar.specs.declared.Sort.TheVariants.{Function, Dot, Colon};
-ghost use Rattle.lua_parser.specs.declared.answer.Fault.TheVariants.{NoMemory};
-ghost use Rattle.lua_parser.specs.Parsing.{Ended};
-ghost use Rattle.lua_parser.specs.Answers.{Answer, StatAnswer};
-ghost use Rattle.lua_parser.specs.StatAnswers.{head_goes, head_lang, head_mark, head_view};
+ghost use Rattle.lua_grammar.specs.Tokens.{class_at};
+ghost use Rattle.lua_grammar.specs.declared.TokenClass.TheVariants.{Function, Dot, Colon};
+ghost use Rattle.lua_reading.specs.declared.answer.Fault.TheVariants.{NoMemory};
+ghost use Rattle.lua_reading.specs.Parsing.{HasOneEnd};
+ghost use Rattle.lua_reading.specs.Answers.{Answer, StatAnswer};
+ghost use Rattle.lua_parser.specs.Parts.{head_view};
+ghost use Rattle.lua_reading.specs.StatAnswers.{head_goes, head_lang, head_mark};
 
-use crate::answer::{Fault, Parsed, bad};
-use crate::around::under;
 use crate::blocks::body;
-use crate::make;
-use crate::short_lists::short_list;
-use crate::tokens::{copy_at, line_at, sort_at};
-use lua_grammar::{Around, Sort};
+use lua_grammar::{Context, TokenClass};
 use lua_lexer::Token;
+use lua_reading::context::under;
+use lua_reading::short_lists::short_list;
+use lua_reading::tokens::{class_at, copy_at, line_at};
+use lua_reading::{Fault, Reading, fault_at, make};
 use lua_syntax::{Expr, Stat};
 use std::alloc::Global;
 use wk_base::List;
@@ -32,18 +32,18 @@ pub(crate) fn named_function(
     alloc: Global,
     toks: &[Token],
     i: usize,
-    around: Around,
-) -> Result<Parsed<Stat>, Fault>
-    requires ended { Ended toks.now }
+    context: Context,
+) -> Result<Reading<Stat>, Fault>
+    requires ended { HasOneEnd toks.now }
     requires inside { i < length toks.now }
-    requires begins { sort_at toks.now i ≡ Function }
-    requires high { around.above ≤ 201 }
-    ensures { StatAnswer toks.now around i result }
+    requires begins { class_at toks.now i ≡ Function }
+    requires high { context.above ≤ 201 }
+    ensures { StatAnswer toks.now context i result }
 {
-    if around.above + 1 > 200 {
-        return bad(7, i);
+    if context.above + 1 > 200 {
+        return fault_at(7, i);
     }
-    let inner = under(around);
+    let inner = under(context);
     let head = path(alloc, toks, i + 1, inner)?;
     let deep = under(inner);
     let function = body(alloc, toks, head.end, head.tree.method, deep)?;
@@ -53,7 +53,7 @@ pub(crate) fn named_function(
     let values = single(alloc, value)?;
     let tree = make::assign(line, targets, values);
     let all = head.height.max(1 + function.height);
-    Ok(Parsed {
+    Ok(Reading {
         tree,
         end: function.end,
         height: 1 + all,
@@ -61,30 +61,30 @@ pub(crate) fn named_function(
 }
 
 // Names with a `.` between them, and maybe a `:` and one more.
-fn path(alloc: Global, toks: &[Token], i: usize, around: Around) -> Result<Parsed<Named>, Fault>
-    requires ended { Ended toks.now }
+fn path(alloc: Global, toks: &[Token], i: usize, context: Context) -> Result<Reading<Named>, Fault>
+    requires ended { HasOneEnd toks.now }
     requires inside { i < length toks.now }
-    requires room { around.above ≤ 200 }
-    ensures { Answer toks.now head_view (head_lang toks.now around) head_goes around.above i result }
+    requires room { context.above ≤ 200 }
+    ensures { Answer toks.now head_view (head_lang toks.now context) head_goes context.above i result }
 {
-    let Sort::Name = sort_at(toks, i) else {
-        return bad(5, i);
+    let TokenClass::Name = class_at(toks, i) else {
+        return fault_at(5, i);
     };
     let first = copy_at(alloc, toks, i)?;
     let mut path = make::name(line_at(toks, i), first);
     let mut end = i + 1;
     let mut height = 1;
     'marks: loop {
-        let Some(method) = mark_of(sort_at(toks, end)) else {
+        let Some(method) = mark_of(class_at(toks, end)) else {
             let method = false;
             let tree = Named { path, method };
-            return Ok(Parsed { tree, end, height });
+            return Ok(Reading { tree, end, height });
         };
-        if around.above + height > 200 {
-            return bad(7, end);
+        if context.above + height > 200 {
+            return fault_at(7, end);
         }
-        let Sort::Name = sort_at(toks, end + 1) else {
-            return bad(5, end + 1);
+        let TokenClass::Name = class_at(toks, end + 1) else {
+            return fault_at(5, end + 1);
         };
         let bytes = copy_at(alloc, toks, end + 1)?;
         let key = make::text(line_at(toks, end + 1), bytes);
@@ -93,18 +93,18 @@ fn path(alloc: Global, toks: &[Token], i: usize, around: Around) -> Result<Parse
         height += 1;
         if method {
             let tree = Named { path, method };
-            return Ok(Parsed { tree, end, height });
+            return Ok(Reading { tree, end, height });
         }
     }
 }
 
 // Whether the name behind a mark is that of a method.
-fn mark_of(sort: Sort) -> Option<bool>
-    ensures { MatchOption result ((sort ≢ Dot) × (sort ≢ Colon)) (λ m. sort ≡ head_mark m) }
+fn mark_of(class: TokenClass) -> Option<bool>
+    ensures { MatchOption result ((class ≢ Dot) × (class ≢ Colon)) (λ m. class ≡ head_mark m) }
 {
-    match sort {
-        Sort::Dot => Some(false),
-        Sort::Colon => Some(true),
+    match class {
+        TokenClass::Dot => Some(false),
+        TokenClass::Colon => Some(true),
         _ => None,
     }
 }

@@ -1,23 +1,23 @@
 //! Lists of names (manual 8).
 ghost use Rattle.std.specs.Prelude.{◌≡◌, ◌<◌, length};
-ghost use Rattle.lua_grammar.specs.Tokens.{sort_at};
-ghost use Rattle.lua_grammar.specs.declared.Sort.TheVariants.{Name};
-ghost use Rattle.lua_parser.specs.Parsing.{Ended};
-ghost use Rattle.lua_parser.specs.StatAnswers.{NamesAnswer};
+ghost use Rattle.lua_grammar.specs.Tokens.{class_at};
+ghost use Rattle.lua_grammar.specs.declared.TokenClass.TheVariants.{Name};
+ghost use Rattle.lua_reading.specs.Parsing.{HasOneEnd};
+ghost use Rattle.lua_reading.specs.StatAnswers.{NamesAnswer};
 
-use crate::answer::{Fault, Parsed, bad};
-use crate::short_lists::short_list;
-use crate::tokens::{copy_at, sort_at};
-use lua_grammar::Sort;
+use lua_grammar::TokenClass;
 use lua_lexer::Token;
+use lua_reading::short_lists::short_list;
+use lua_reading::tokens::{class_at, copy_at};
+use lua_reading::{Fault, Reading, fault_at};
 use std::alloc::Global;
 use wk_base::{Bytes, List};
 
 // The name at i, and more names with commas between them.
-pub(crate) fn names(alloc: Global, toks: &[Token], i: usize) -> Result<Parsed<List<Bytes>>, Fault>
-    requires ended { Ended toks.now }
+pub(crate) fn names(alloc: Global, toks: &[Token], i: usize) -> Result<Reading<List<Bytes>>, Fault>
+    requires ended { HasOneEnd toks.now }
     requires inside { i < length toks.now }
-    requires begins { sort_at toks.now i ≡ Name }
+    requires begins { class_at toks.now i ≡ Name }
     ensures { NamesAnswer toks.now i result }
 {
     let mut tree = short_list(alloc)?;
@@ -25,15 +25,15 @@ pub(crate) fn names(alloc: Global, toks: &[Token], i: usize) -> Result<Parsed<Li
     tree.push(first)?;
     let mut end = i + 1;
     'names: loop {
-        let Sort::Comma = sort_at(toks, end) else {
-            return Ok(Parsed {
+        let TokenClass::Comma = class_at(toks, end) else {
+            return Ok(Reading {
                 tree,
                 end,
                 height: 0,
             });
         };
-        let Sort::Name = sort_at(toks, end + 1) else {
-            return bad(5, end + 1);
+        let TokenClass::Name = class_at(toks, end + 1) else {
+            return fault_at(5, end + 1);
         };
         let next = copy_at(alloc, toks, end + 1)?;
         tree.push(next)?;

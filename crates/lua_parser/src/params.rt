@@ -1,15 +1,15 @@
 //! Parameters of functions (manual 2.5.9).
 ghost use Rattle.std.specs.Prelude.{◌≡◌, ◌<◌, ◌≤◌, ◌+◌, length, IfOk, IfErr};
-ghost use Rattle.lua_parser.specs.declared.answer.Fault.TheVariants.{NoMemory};
-ghost use Rattle.lua_grammar.specs.Tokens.{sort_at, tok_at};
-ghost use Rattle.lua_parser.specs.Parsing.{Ended};
-ghost use Rattle.lua_parser.specs.Answers.{self_first, MaybeEmpty, params_lang, params_goes};
-ghost use Rattle.lua_parser.specs.Parameters.{params_view};
+ghost use Rattle.lua_reading.specs.declared.answer.Fault.TheVariants.{NoMemory};
+ghost use Rattle.lua_grammar.specs.Tokens.{class_at, tok_at};
+ghost use Rattle.lua_reading.specs.Parsing.{HasOneEnd};
+ghost use Rattle.lua_reading.specs.Answers.{self_first, MaybeEmpty, params_lang, params_goes};
+ghost use Rattle.lua_parser.specs.Parts.{params_view};
 
-use crate::answer::{Fault, Parsed, bad};
-use crate::tokens::{copy_at, sort_at};
-use lua_grammar::Sort;
+use lua_grammar::TokenClass;
 use lua_lexer::Token;
+use lua_reading::tokens::{class_at, copy_at};
+use lua_reading::{Fault, Reading, fault_at};
 use std::alloc::Global;
 use wk_base::{Bytes, List};
 
@@ -25,36 +25,36 @@ pub(crate) fn params(
     alloc: Global,
     toks: &[Token],
     i: usize,
-) -> Result<Parsed<ParameterList>, Fault>
-    requires ended { Ended toks.now }
+) -> Result<Reading<ParameterList>, Fault>
+    requires ended { HasOneEnd toks.now }
     requires inside { i < length toks.now }
     ensures { (a : _) → MaybeEmpty toks.now params_view (params_lang toks.now) params_goes a i result }
 {
     let mut names = List::new(alloc);
-    if let Sort::RightParen = sort_at(toks, i) {
+    if let TokenClass::RightParen = class_at(toks, i) {
         return Ok(ended(names, false, i));
     }
     let mut at = i;
     'params: loop {
-        match sort_at(toks, at) {
-            Sort::Dots => return Ok(ended(names, true, at + 1)),
-            Sort::Name => {
+        match class_at(toks, at) {
+            TokenClass::Dots => return Ok(ended(names, true, at + 1)),
+            TokenClass::Name => {
                 names.push(copy_at(alloc, toks, at)?)?;
-                let Sort::Comma = sort_at(toks, at + 1) else {
+                let TokenClass::Comma = class_at(toks, at + 1) else {
                     return Ok(ended(names, false, at + 1));
                 };
                 at += 2;
             }
-            _ => return bad(5, at),
+            _ => return fault_at(5, at),
         }
     }
 }
 
 // The parameters up to a place.
-fn ended(names: List<Bytes>, dots: bool, end: usize) -> Parsed<ParameterList>
+fn ended(names: List<Bytes>, dots: bool, end: usize) -> Reading<ParameterList>
     ensures { result ≡ record { tree = record { names = names; dots = dots }; end = end; height = 0 } }
 {
-    Parsed {
+    Reading {
         tree: ParameterList { names, dots },
         end,
         height: 0,

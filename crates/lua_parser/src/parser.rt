@@ -1,13 +1,13 @@
 //! A whole text as its chunk.
 ghost use Rattle.std.specs.Prelude.{◌≡◌, ◌<◌, length};
-ghost use Rattle.lua_parser.specs.Parsing.{Ended};
+ghost use Rattle.lua_reading.specs.Parsing.{HasOneEnd};
 ghost use Rattle.lua_parser.specs.Chunks.{ChunkAnswer, IsParsed};
 
-use crate::answer::{Fault, bad};
 use crate::blocks::block;
-use crate::tokens::{line_at, sort_at};
-use lua_grammar::{Around, Sort};
+use lua_grammar::{Context, TokenClass};
 use lua_lexer::{Token, lex};
+use lua_reading::tokens::{class_at, line_at};
+use lua_reading::{Fault, fault_at};
 use lua_syntax::{Block, Chunk, FaultAt, SyntaxFault};
 use std::alloc::Global;
 
@@ -40,17 +40,17 @@ pub fn parse(alloc: Global, text: &[u8]) -> Result<Chunk, SyntaxFault>
 
 // The block that all tokens but the end spell.
 fn chunk(alloc: Global, toks: &[Token]) -> Result<Block, Fault>
-    requires { Ended toks.now }
+    requires { HasOneEnd toks.now }
     ensures { ChunkAnswer toks.now result }
 {
-    let around = Around {
+    let context = Context {
         above: 0,
-        looped: false,
-        dotted: true,
+        inside_loop: false,
+        vararg: true,
     };
-    let body = block(alloc, toks, 0, around)?;
-    let Sort::Eof = sort_at(toks, body.end) else {
-        return bad(5, body.end);
+    let body = block(alloc, toks, 0, context)?;
+    let TokenClass::Eof = class_at(toks, body.end) else {
+        return fault_at(5, body.end);
     };
     Ok(body.tree)
 }

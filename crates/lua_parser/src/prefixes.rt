@@ -1,22 +1,21 @@
 //! Prefix expressions (manual 2.5): names, parentheses, indexes and calls, and lists of expressions.
 ghost use Rattle.std.specs.Prelude.{◌≡◌, ◌<◌, ◌≤◌, ◌+◌, length, true};
-ghost use Rattle.lua_grammar.specs.Tokens.{sort_at, tok_at};
+ghost use Rattle.lua_grammar.specs.Tokens.{class_at, tok_at};
 ghost use Rattle.lua_grammar.specs.Grammar.{under, suffix_goes};
 ghost use Rattle.lua_syntax.specs.View.{expr_view, exprs_view};
-ghost use Rattle.lua_grammar.specs.declared.Sort.TheVariants.{Dot, LeftBracket, Colon};
-ghost use Rattle.lua_parser.specs.Parsing.{Ended, nothing, exps_goes, all_lang, args_lang};
-ghost use Rattle.lua_parser.specs.Answers.{Alone, Answer, PrefixAnswer, primary_lang, suffix_lang, name_lang};
+ghost use Rattle.lua_grammar.specs.declared.TokenClass.TheVariants.{Dot, LeftBracket, Colon};
+ghost use Rattle.lua_reading.specs.Parsing.{HasOneEnd, nothing, exps_goes, all_lang, args_lang};
+ghost use Rattle.lua_reading.specs.Answers.{Alone, Answer, PrefixAnswer, primary_lang, suffix_lang, name_lang};
 
-use crate::answer::{Fault, Parsed, bad};
-use crate::around::under;
 use crate::exprs::exp;
-use crate::make;
-use crate::operators::is_suffix;
-use crate::short_lists::short_list;
 use crate::tables::table;
-use crate::tokens::{copy_at, end_line_at, line_at, sort_at};
-use lua_grammar::{Around, Sort};
+use lua_grammar::{Context, TokenClass};
 use lua_lexer::Token;
+use lua_reading::context::under;
+use lua_reading::operators::is_suffix;
+use lua_reading::short_lists::short_list;
+use lua_reading::tokens::{class_at, copy_at, end_line_at, line_at};
+use lua_reading::{Fault, Reading, fault_at, make};
 use lua_syntax::Expr;
 use std::alloc::Global;
 use wk_base::List;
@@ -27,26 +26,26 @@ pub(crate) fn prefix(
     alloc: Global,
     toks: &[Token],
     i: usize,
-    around: Around,
-) -> Result<Parsed<Expr>, Fault>
-    requires ended { Ended toks.now }
+    context: Context,
+) -> Result<Reading<Expr>, Fault>
+    requires ended { HasOneEnd toks.now }
     requires inside { i < length toks.now }
-    requires high { around.above ≤ 201 }
-    ensures { PrefixAnswer toks.now around i result }
+    requires high { context.above ≤ 201 }
+    ensures { PrefixAnswer toks.now context i result }
 {
-    let first = primary(alloc, toks, i, around)?;
+    let first = primary(alloc, toks, i, context)?;
     let mut left = first.tree;
     let mut end = first.end;
     let mut height = first.height;
     'chain: loop {
-        if !is_suffix(sort_at(toks, end)) {
+        if !is_suffix(class_at(toks, end)) {
             let tree = left;
-            return Ok(Parsed { tree, end, height });
+            return Ok(Reading { tree, end, height });
         }
-        if around.above + height > 200 {
-            return bad(7, end);
+        if context.above + height > 200 {
+            return fault_at(7, end);
         }
-        let next = suffix(alloc, toks, end, left, around)?;
+        let next = suffix(alloc, toks, end, left, context)?;
         left = next.tree;
         end = next.end;
         height = next.height.max(1 + height);
@@ -55,40 +54,45 @@ pub(crate) fn prefix(
 
 // A name, or an expression in parentheses.
 #[cycle(parser)]
-fn primary(alloc: Global, toks: &[Token], i: usize, around: Around) -> Result<Parsed<Expr>, Fault>
-    requires ended { Ended toks.now }
+fn primary(
+    alloc: Global,
+    toks: &[Token],
+    i: usize,
+    context: Context,
+) -> Result<Reading<Expr>, Fault>
+    requires ended { HasOneEnd toks.now }
     requires inside { i < length toks.now }
-    requires high { around.above ≤ 201 }
-    ensures { Answer toks.now expr_view (primary_lang toks.now around) nothing around.above i result }
+    requires high { context.above ≤ 201 }
+    ensures { Answer toks.now expr_view (primary_lang toks.now context) nothing context.above i result }
 {
-    match sort_at(toks, i) {
-        Sort::Name => {
-            if around.above > 200 {
-                return bad(7, i);
+    match class_at(toks, i) {
+        TokenClass::Name => {
+            if context.above > 200 {
+                return fault_at(7, i);
             }
             let tree = make::name(line_at(toks, i), copy_at(alloc, toks, i)?);
-            Ok(Parsed {
+            Ok(Reading {
                 tree,
                 end: i + 1,
                 height: 1,
             })
         }
-        Sort::LeftParen => {
-            if around.above > 200 {
-                return bad(7, i);
+        TokenClass::LeftParen => {
+            if context.above > 200 {
+                return fault_at(7, i);
             }
-            let inner = exp(alloc, toks, i + 1, 1, under(around))?;
-            let Sort::RightParen = sort_at(toks, inner.end) else {
-                return bad(5, inner.end);
+            let inner = exp(alloc, toks, i + 1, 1, under(context))?;
+            let TokenClass::RightParen = class_at(toks, inner.end) else {
+                return fault_at(5, inner.end);
             };
             let tree = make::paren(alloc, line_at(toks, i), inner.tree)?;
-            Ok(Parsed {
+            Ok(Reading {
                 tree,
                 end: inner.end + 1,
                 height: 1 + inner.height,
             })
         }
-        _ => bad(5, i),
+        _ => fault_at(5, i),
     }
 }
 
@@ -99,51 +103,51 @@ fn suffix(
     toks: &[Token],
     i: usize,
     left: Expr,
-    around: Around,
-) -> Result<Parsed<Expr>, Fault>
-    requires ended { Ended toks.now }
+    context: Context,
+) -> Result<Reading<Expr>, Fault>
+    requires ended { HasOneEnd toks.now }
     requires inside { i < length toks.now }
     requires begun { 1 ≤ i }
-    requires goes { suffix_goes (sort_at toks.now i) ≡ true }
-    requires high { around.above ≤ 200 }
-    ensures { Answer toks.now expr_view (suffix_lang toks.now around (expr_view left)) nothing around.above i result }
+    requires goes { suffix_goes (class_at toks.now i) ≡ true }
+    requires high { context.above ≤ 200 }
+    ensures { Answer toks.now expr_view (suffix_lang toks.now context (expr_view left)) nothing context.above i result }
 {
     let line = line_at(toks, i);
-    match sort_at(toks, i) {
-        Sort::Dot => {
-            let key = key_name(alloc, toks, i + 1, under(around))?;
-            Ok(Parsed {
+    match class_at(toks, i) {
+        TokenClass::Dot => {
+            let key = key_name(alloc, toks, i + 1, under(context))?;
+            Ok(Reading {
                 tree: make::index(alloc, line, left, key.tree)?,
                 end: key.end,
                 height: 1 + key.height,
             })
         }
-        Sort::LeftBracket => {
-            let key = exp(alloc, toks, i + 1, 1, under(around))?;
-            let Sort::RightBracket = sort_at(toks, key.end) else {
-                return bad(5, key.end);
+        TokenClass::LeftBracket => {
+            let key = exp(alloc, toks, i + 1, 1, under(context))?;
+            let TokenClass::RightBracket = class_at(toks, key.end) else {
+                return fault_at(5, key.end);
             };
-            Ok(Parsed {
+            Ok(Reading {
                 tree: make::index(alloc, line, left, key.tree)?,
                 end: key.end + 1,
                 height: 1 + key.height,
             })
         }
-        Sort::Colon => {
-            let Sort::Name = sort_at(toks, i + 1) else {
-                return bad(5, i + 1);
+        TokenClass::Colon => {
+            let TokenClass::Name = class_at(toks, i + 1) else {
+                return fault_at(5, i + 1);
             };
             let name = copy_at(alloc, toks, i + 1)?;
-            let args = arguments(alloc, toks, i + 2, under(around))?;
-            Ok(Parsed {
+            let args = arguments(alloc, toks, i + 2, under(context))?;
+            Ok(Reading {
                 tree: make::method(alloc, line, left, name, args.tree)?,
                 end: args.end,
                 height: 1 + args.height,
             })
         }
         _ => {
-            let args = arguments(alloc, toks, i, under(around))?;
-            Ok(Parsed {
+            let args = arguments(alloc, toks, i, under(context))?;
+            Ok(Reading {
                 tree: make::call(alloc, line, left, args.tree)?,
                 end: args.end,
                 height: 1 + args.height,
@@ -157,20 +161,20 @@ pub(crate) fn key_name(
     alloc: Global,
     toks: &[Token],
     i: usize,
-    around: Around,
-) -> Result<Parsed<Expr>, Fault>
-    requires ended { Ended toks.now }
+    context: Context,
+) -> Result<Reading<Expr>, Fault>
+    requires ended { HasOneEnd toks.now }
     requires inside { i < length toks.now }
-    ensures { Answer toks.now expr_view (name_lang toks.now around) nothing around.above i result }
+    ensures { Answer toks.now expr_view (name_lang toks.now context) nothing context.above i result }
 {
-    let Sort::Name = sort_at(toks, i) else {
-        return bad(5, i);
+    let TokenClass::Name = class_at(toks, i) else {
+        return fault_at(5, i);
     };
-    if around.above > 200 {
-        return bad(7, i);
+    if context.above > 200 {
+        return fault_at(7, i);
     }
     let tree = make::text(line_at(toks, i), copy_at(alloc, toks, i)?);
-    Ok(Parsed {
+    Ok(Reading {
         tree,
         end: i + 1,
         height: 1,
@@ -183,65 +187,65 @@ fn arguments(
     alloc: Global,
     toks: &[Token],
     i: usize,
-    around: Around,
-) -> Result<Parsed<List<Expr>>, Fault>
-    requires ended { Ended toks.now }
+    context: Context,
+) -> Result<Reading<List<Expr>>, Fault>
+    requires ended { HasOneEnd toks.now }
     requires inside { i < length toks.now }
     requires begun { 1 ≤ i }
-    requires high { around.above ≤ 201 }
-    ensures { Answer toks.now exprs_view (args_lang toks.now around) nothing around.above i result }
+    requires high { context.above ≤ 201 }
+    ensures { Answer toks.now exprs_view (args_lang toks.now context) nothing context.above i result }
 {
-    match sort_at(toks, i) {
-        Sort::LeftParen => {
+    match class_at(toks, i) {
+        TokenClass::LeftParen => {
             if line_at(toks, i) != end_line_at(toks, i - 1) {
-                return bad(9, i);
+                return fault_at(9, i);
             }
-            if let Sort::RightParen = sort_at(toks, i + 1) {
-                return Ok(Parsed {
+            if let TokenClass::RightParen = class_at(toks, i + 1) {
+                return Ok(Reading {
                     tree: List::new(alloc),
                     end: i + 2,
                     height: 0,
                 });
             }
-            let args = exprs(alloc, toks, i + 1, around)?;
-            let Sort::RightParen = sort_at(toks, args.end) else {
-                return bad(5, args.end);
+            let args = exprs(alloc, toks, i + 1, context)?;
+            let TokenClass::RightParen = class_at(toks, args.end) else {
+                return fault_at(5, args.end);
             };
-            Ok(Parsed {
+            Ok(Reading {
                 tree: args.tree,
                 end: args.end + 1,
                 height: args.height,
             })
         }
-        Sort::LeftBrace => {
-            let arg = table(alloc, toks, i, around)?;
+        TokenClass::LeftBrace => {
+            let arg = table(alloc, toks, i, context)?;
             alone(alloc, arg)
         }
-        Sort::Text => {
-            if around.above > 200 {
-                return bad(7, i);
+        TokenClass::Text => {
+            if context.above > 200 {
+                return fault_at(7, i);
             }
             let tree = make::text(line_at(toks, i), copy_at(alloc, toks, i)?);
             alone(
                 alloc,
-                Parsed {
+                Reading {
                     tree,
                     end: i + 1,
                     height: 1,
                 },
             )
         }
-        _ => bad(5, i),
+        _ => fault_at(5, i),
     }
 }
 
 // One expression as a list.
-fn alone(alloc: Global, arg: Parsed<Expr>) -> Result<Parsed<List<Expr>>, Fault>
+fn alone(alloc: Global, arg: Reading<Expr>) -> Result<Reading<List<Expr>>, Fault>
     ensures { Alone arg result }
 {
     let mut tree = short_list(alloc)?;
     tree.push(arg.tree)?;
-    Ok(Parsed {
+    Ok(Reading {
         tree,
         end: arg.end,
         height: arg.height,
@@ -254,23 +258,23 @@ pub(crate) fn exprs(
     alloc: Global,
     toks: &[Token],
     i: usize,
-    around: Around,
-) -> Result<Parsed<List<Expr>>, Fault>
-    requires ended { Ended toks.now }
+    context: Context,
+) -> Result<Reading<List<Expr>>, Fault>
+    requires ended { HasOneEnd toks.now }
     requires inside { i < length toks.now }
-    requires high { around.above ≤ 201 }
-    ensures { Answer toks.now exprs_view (all_lang toks.now around) exps_goes around.above i result }
+    requires high { context.above ≤ 201 }
+    ensures { Answer toks.now exprs_view (all_lang toks.now context) exps_goes context.above i result }
 {
     let mut tree = short_list(alloc)?;
     let mut at = i;
     let mut height = 0;
     'list: loop {
-        let next = exp(alloc, toks, at, 1, around)?;
+        let next = exp(alloc, toks, at, 1, context)?;
         tree.push(next.tree)?;
         height = next.height.max(height);
-        let Sort::Comma = sort_at(toks, next.end) else {
+        let TokenClass::Comma = class_at(toks, next.end) else {
             let end = next.end;
-            return Ok(Parsed { tree, end, height });
+            return Ok(Reading { tree, end, height });
         };
         at = next.end + 1;
     }

@@ -1,12 +1,10 @@
 //! Statements (manual 2.4).
 ghost use Rattle.std.specs.Prelude.{◌≡◌, ◌<◌, ◌≤◌, ◌+◌, length};
-ghost use Rattle.lua_grammar.specs.Tokens.{sort_at};
-ghost use Rattle.lua_grammar.specs.declared.Sort.TheVariants.{Do, Repeat, While};
-ghost use Rattle.lua_parser.specs.Parsing.{Ended};
-ghost use Rattle.lua_parser.specs.Answers.{StatAnswer};
+ghost use Rattle.lua_grammar.specs.Tokens.{class_at};
+ghost use Rattle.lua_grammar.specs.declared.TokenClass.TheVariants.{Do, Repeat, While};
+ghost use Rattle.lua_reading.specs.Parsing.{HasOneEnd};
+ghost use Rattle.lua_reading.specs.Answers.{StatAnswer};
 
-use crate::answer::{Fault, Parsed, bad};
-use crate::around::{in_loop, under};
 use crate::assignments::simple;
 use crate::blocks::block;
 use crate::conditions::if_stat;
@@ -14,10 +12,11 @@ use crate::exprs::exp;
 use crate::functions::named_function;
 use crate::locals::{break_stat, local, return_stat};
 use crate::loops::for_loop;
-use crate::make;
-use crate::tokens::{line_at, sort_at};
-use lua_grammar::{Around, Sort};
+use lua_grammar::{Context, TokenClass};
 use lua_lexer::Token;
+use lua_reading::context::{in_loop, under};
+use lua_reading::tokens::{class_at, line_at};
+use lua_reading::{Fault, Reading, fault_at, make};
 use lua_syntax::Stat;
 use std::alloc::Global;
 
@@ -27,46 +26,51 @@ pub(crate) fn statement(
     alloc: Global,
     toks: &[Token],
     i: usize,
-    around: Around,
-) -> Result<Parsed<Stat>, Fault>
-    requires ended { Ended toks.now }
+    context: Context,
+) -> Result<Reading<Stat>, Fault>
+    requires ended { HasOneEnd toks.now }
     requires inside { i < length toks.now }
-    requires high { around.above ≤ 201 }
-    ensures { StatAnswer toks.now around i result }
+    requires high { context.above ≤ 201 }
+    ensures { StatAnswer toks.now context i result }
 {
-    match sort_at(toks, i) {
-        Sort::Do => do_block(alloc, toks, i, around),
-        Sort::While => while_loop(alloc, toks, i, around),
-        Sort::Repeat => repeat_loop(alloc, toks, i, around),
-        Sort::If => if_stat(alloc, toks, i, around),
-        Sort::For => for_loop(alloc, toks, i, around),
-        Sort::Local => local(alloc, toks, i, around),
-        Sort::Return => return_stat(alloc, toks, i, around),
-        Sort::Break => break_stat(toks, i, around),
-        Sort::Function => named_function(alloc, toks, i, around),
-        Sort::Name => simple(alloc, toks, i, around),
-        Sort::LeftParen => simple(alloc, toks, i, around),
-        _ => bad(5, i),
+    match class_at(toks, i) {
+        TokenClass::Do => do_block(alloc, toks, i, context),
+        TokenClass::While => while_loop(alloc, toks, i, context),
+        TokenClass::Repeat => repeat_loop(alloc, toks, i, context),
+        TokenClass::If => if_stat(alloc, toks, i, context),
+        TokenClass::For => for_loop(alloc, toks, i, context),
+        TokenClass::Local => local(alloc, toks, i, context),
+        TokenClass::Return => return_stat(alloc, toks, i, context),
+        TokenClass::Break => break_stat(toks, i, context),
+        TokenClass::Function => named_function(alloc, toks, i, context),
+        TokenClass::Name => simple(alloc, toks, i, context),
+        TokenClass::LeftParen => simple(alloc, toks, i, context),
+        _ => fault_at(5, i),
     }
 }
 
 #[cycle(parser)]
-fn do_block(alloc: Global, toks: &[Token], i: usize, around: Around) -> Result<Parsed<Stat>, Fault>
-    requires ended { Ended toks.now }
+fn do_block(
+    alloc: Global,
+    toks: &[Token],
+    i: usize,
+    context: Context,
+) -> Result<Reading<Stat>, Fault>
+    requires ended { HasOneEnd toks.now }
     requires inside { i < length toks.now }
-    requires begins { sort_at toks.now i ≡ Do }
-    requires high { around.above ≤ 201 }
-    ensures { StatAnswer toks.now around i result }
+    requires begins { class_at toks.now i ≡ Do }
+    requires high { context.above ≤ 201 }
+    ensures { StatAnswer toks.now context i result }
 {
-    if around.above > 200 {
-        return bad(7, i);
+    if context.above > 200 {
+        return fault_at(7, i);
     }
-    let body = block(alloc, toks, i + 1, under(around))?;
-    let Sort::End = sort_at(toks, body.end) else {
-        return bad(5, body.end);
+    let body = block(alloc, toks, i + 1, under(context))?;
+    let TokenClass::End = class_at(toks, body.end) else {
+        return fault_at(5, body.end);
     };
     let tree = make::do_block(line_at(toks, i), body.tree);
-    Ok(Parsed {
+    Ok(Reading {
         tree,
         end: body.end + 1,
         height: 1 + body.height,
@@ -78,27 +82,27 @@ fn while_loop(
     alloc: Global,
     toks: &[Token],
     i: usize,
-    around: Around,
-) -> Result<Parsed<Stat>, Fault>
-    requires ended { Ended toks.now }
+    context: Context,
+) -> Result<Reading<Stat>, Fault>
+    requires ended { HasOneEnd toks.now }
     requires inside { i < length toks.now }
-    requires begins { sort_at toks.now i ≡ While }
-    requires high { around.above ≤ 201 }
-    ensures { StatAnswer toks.now around i result }
+    requires begins { class_at toks.now i ≡ While }
+    requires high { context.above ≤ 201 }
+    ensures { StatAnswer toks.now context i result }
 {
-    if around.above > 200 {
-        return bad(7, i);
+    if context.above > 200 {
+        return fault_at(7, i);
     }
-    let test = exp(alloc, toks, i + 1, 1, under(around))?;
-    let Sort::Do = sort_at(toks, test.end) else {
-        return bad(5, test.end);
+    let test = exp(alloc, toks, i + 1, 1, under(context))?;
+    let TokenClass::Do = class_at(toks, test.end) else {
+        return fault_at(5, test.end);
     };
-    let body = block(alloc, toks, test.end + 1, in_loop(around))?;
-    let Sort::End = sort_at(toks, body.end) else {
-        return bad(5, body.end);
+    let body = block(alloc, toks, test.end + 1, in_loop(context))?;
+    let TokenClass::End = class_at(toks, body.end) else {
+        return fault_at(5, body.end);
     };
     let tree = make::while_loop(line_at(toks, i), test.tree, body.tree);
-    Ok(Parsed {
+    Ok(Reading {
         tree,
         end: body.end + 1,
         height: 1 + test.height.max(body.height),
@@ -110,24 +114,24 @@ fn repeat_loop(
     alloc: Global,
     toks: &[Token],
     i: usize,
-    around: Around,
-) -> Result<Parsed<Stat>, Fault>
-    requires ended { Ended toks.now }
+    context: Context,
+) -> Result<Reading<Stat>, Fault>
+    requires ended { HasOneEnd toks.now }
     requires inside { i < length toks.now }
-    requires begins { sort_at toks.now i ≡ Repeat }
-    requires high { around.above ≤ 201 }
-    ensures { StatAnswer toks.now around i result }
+    requires begins { class_at toks.now i ≡ Repeat }
+    requires high { context.above ≤ 201 }
+    ensures { StatAnswer toks.now context i result }
 {
-    if around.above > 200 {
-        return bad(7, i);
+    if context.above > 200 {
+        return fault_at(7, i);
     }
-    let body = block(alloc, toks, i + 1, in_loop(around))?;
-    let Sort::Until = sort_at(toks, body.end) else {
-        return bad(5, body.end);
+    let body = block(alloc, toks, i + 1, in_loop(context))?;
+    let TokenClass::Until = class_at(toks, body.end) else {
+        return fault_at(5, body.end);
     };
-    let test = exp(alloc, toks, body.end + 1, 1, under(around))?;
+    let test = exp(alloc, toks, body.end + 1, 1, under(context))?;
     let tree = make::repeat_loop(line_at(toks, i), body.tree, test.tree);
-    Ok(Parsed {
+    Ok(Reading {
         tree,
         end: test.end,
         height: 1 + body.height.max(test.height),

@@ -9,9 +9,6 @@ use std::alloc::Global;
 use std::io;
 use std::io::Read;
 
-#[cfg(test)]
-mod tests;
-
 /// More bytes are not read as Lua.
 const MOST: usize = 4000000000;
 

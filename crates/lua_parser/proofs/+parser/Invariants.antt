@@ -1,15 +1,15 @@
 use Rattle.std.proofs.Common.{◌<◌, ◌≤◌, ◌+◌, length, ◌-◌, ◌*◌}
 use Rattle.lua_syntax.specs.View.{expr_view}
-use Rattle.lua_parser.proofs.Climb.{Climbs}
-use Rattle.lua_parser.proofs.Suffixes.{Chain}
-use Rattle.lua_parser.proofs.Lists.{Listed}
-use Rattle.lua_parser.proofs.FieldLemmas.{Fielded}
-use Rattle.lua_parser.specs.Parsing.{Below}
-use Rattle.lua_parser.proofs.ArmSteps.{ArmsRead}
-use Rattle.lua_grammar.specs.Tokens.{sort_at}
-use Rattle.lua_parser.specs.Parsing.{goes_after}
-use Rattle.lua_parser.proofs.BlockSteps.{BlockRead}
-use Rattle.lua_parser.proofs.SimpleExits.{TargetsRead}
+use Rattle.lua_reading.proofs.levels.Climb.{Climbs}
+use Rattle.lua_reading.proofs.levels.Suffixes.{Chain}
+use Rattle.lua_reading.proofs.lists.ExpressionLists.{Listed}
+use Rattle.lua_reading.proofs.lists.Fields.{Fielded}
+use Rattle.lua_reading.specs.Parsing.{Below}
+use Rattle.lua_reading.proofs.statements.Arms.{ArmsRead}
+use Rattle.lua_grammar.specs.Tokens.{class_at}
+use Rattle.lua_reading.specs.Parsing.{goes_after}
+use Rattle.lua_reading.proofs.statements.Blocks.{BlockRead}
+use Rattle.lua_reading.proofs.statements.SimpleExits.{TargetsRead}
 use Rattle.lua_parser.proofs.+parser.Given as goal
 
 abbrev pub decreases-blocks::block : goal.decreases-blocks::block
@@ -58,25 +58,25 @@ abbrev pub decreases-tables::table : goal.decreases-tables::table
 decreases-tables::table l = 32 * (length l.toks.now - l.i) + 8
 
 abbrev pub invariant-exprs::exp-climb : goal.invariant-exprs::exp-climb
-invariant-exprs::exp-climb l = Climbs l.toks l.around l.least l.i (expr_view l.left) l.end l.height
+invariant-exprs::exp-climb l = Climbs l.toks l.context l.least l.i (expr_view l.left) l.end l.height
 
 abbrev pub decreases-exprs::exp-climb : goal.decreases-exprs::exp-climb
 decreases-exprs::exp-climb l = length l.toks - l.end
 
 abbrev pub invariant-prefixes::prefix-chain : goal.invariant-prefixes::prefix-chain
-invariant-prefixes::prefix-chain l = Chain l.toks l.around l.i (expr_view l.left) l.end l.height
+invariant-prefixes::prefix-chain l = Chain l.toks l.context l.i (expr_view l.left) l.end l.height
 
 abbrev pub decreases-prefixes::prefix-chain : goal.decreases-prefixes::prefix-chain
 decreases-prefixes::prefix-chain l = length l.toks - l.end
 
 abbrev pub invariant-prefixes::exprs-list : goal.invariant-prefixes::exprs-list
-invariant-prefixes::exprs-list l = (l.at < length l.toks) × (l.i ≤ l.at) × Below l.height l.around.above × Listed l.toks l.around l.i l.tree l.at l.height
+invariant-prefixes::exprs-list l = (l.at < length l.toks) × (l.i ≤ l.at) × Below l.height l.context.above × Listed l.toks l.context l.i l.tree l.at l.height
 
 abbrev pub decreases-prefixes::exprs-list : goal.decreases-prefixes::exprs-list
 decreases-prefixes::exprs-list l = length l.toks - l.at
 
 abbrev pub invariant-tables::fields-fields : goal.invariant-tables::fields-fields
-invariant-tables::fields-fields l = (l.end < length l.toks) × (l.i ≤ l.end) × Below l.height l.around.above × Fielded l.toks l.around l.i l.tree l.end l.height
+invariant-tables::fields-fields l = (l.end < length l.toks) × (l.i ≤ l.end) × Below l.height l.context.above × Fielded l.toks l.context l.i l.tree l.end l.height
 
 abbrev pub decreases-tables::fields-fields : goal.decreases-tables::fields-fields
 decreases-tables::fields-fields l = length l.toks - l.end
@@ -126,7 +126,7 @@ abbrev pub decreases-conditions::arms : goal.decreases-conditions::arms
 decreases-conditions::arms l = 32 * (length l.toks.now - l.i) + 26
 
 abbrev pub invariant-conditions::arms-arms : goal.invariant-conditions::arms-arms
-invariant-conditions::arms-arms l = (l.i ≤ l.at) × ArmsRead l.toks l.around l.i l.tree l.at l.height
+invariant-conditions::arms-arms l = (l.i ≤ l.at) × ArmsRead l.toks l.context l.i l.tree l.at l.height
 
 abbrev pub decreases-conditions::arms-arms : goal.decreases-conditions::arms-arms
 decreases-conditions::arms-arms l = length l.toks - l.at
@@ -141,13 +141,13 @@ abbrev pub decreases-functions::named_function : goal.decreases-functions::named
 decreases-functions::named_function l = 32 * (length l.toks.now - l.i) + 27
 
 abbrev pub invariant-blocks::block-stats : goal.invariant-blocks::block-stats
-invariant-blocks::block-stats l = BlockRead l.toks l.around l.i l.tree l.end l.height
+invariant-blocks::block-stats l = BlockRead l.toks l.context l.i l.tree l.end l.height
 
 abbrev pub decreases-blocks::block-stats : goal.decreases-blocks::block-stats
 decreases-blocks::block-stats l = length l.toks - l.end
 
 abbrev pub invariant-assignments::assignment-targets : goal.invariant-assignments::assignment-targets
-invariant-assignments::assignment-targets l = TargetsRead l.toks l.fn.around (goes_after (sort_at l.toks l.i)) l.i l.tree l.end l.height
+invariant-assignments::assignment-targets l = TargetsRead l.toks l.fn.context (goes_after (class_at l.toks l.i)) l.i l.tree l.end l.height
 
 abbrev pub decreases-assignments::assignment-targets : goal.decreases-assignments::assignment-targets
 decreases-assignments::assignment-targets l = length l.toks - l.end

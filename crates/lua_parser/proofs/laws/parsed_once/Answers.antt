@@ -1,4 +1,4 @@
-use Rattle.lua_parser.proofs.AnsweredOnce.{one_chunk, one_fault, chunk_or_fault}
+use Rattle.lua_parser.proofs.lemmas.AnsweredOnce.{one_chunk, one_fault, chunk_or_fault}
 use Rattle.lua_parser.proofs.laws.parsed_once.Goals as goal
 
 pub returns-clause-chunk : goal.returns-clause-chunk

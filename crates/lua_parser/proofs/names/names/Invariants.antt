@@ -1,5 +1,5 @@
 use Rattle.std.proofs.Common.{length, ◌-◌}
-use Rattle.lua_parser.proofs.NameLists.{NamesRead}
+use Rattle.lua_reading.proofs.lists.Names.{NamesRead}
 use Rattle.lua_parser.proofs.names.names.Given as goal
 
 abbrev pub invariant-names : goal.invariant-names

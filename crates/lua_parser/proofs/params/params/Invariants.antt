@@ -1,5 +1,5 @@
 use Rattle.std.proofs.Common.{◌<◌, length, ◌-◌}
-use Rattle.lua_parser.proofs.BodyLemmas.{Params_so_far}
+use Rattle.lua_reading.proofs.functions.Bodies.{Params_so_far}
 use Rattle.lua_parser.proofs.params.params.Given as goal
 
 abbrev pub invariant-params : goal.invariant-params

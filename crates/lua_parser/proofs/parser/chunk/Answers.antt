@@ -1,6 +1,6 @@
 use Rattle.std.proofs.lemmas.Result.{err_from_is_err_and}
-use Rattle.lua_parser.proofs.Exits.{is_sort, isn't}
-use Rattle.lua_parser.proofs.ChunkLemmas.{some_token, block_fault, chunk_is, chunk_only, chunk_unended, unended_no_chunk}
+use Rattle.lua_reading.proofs.expressions.Exits.{is_class, isn't}
+use Rattle.lua_parser.proofs.lemmas.Chunks.{some_token, block_fault, chunk_is, chunk_only, chunk_unended, unended_no_chunk}
 use Rattle.lua_parser.proofs.parser.chunk.Goals as goal
 
 pub block-requires-clause-inside : goal.block-requires-clause-inside
@@ -13,8 +13,8 @@ returns-in_err-body c =
 
 pub returns-in_default : goal.returns-in_default
 returns-in_default c =
-    let ne = isn't _ _ _ _ c.sort_at.ensures c.in_default.not-Eof in
-    rw c.bad.ensures (chunk_unended _ _ _ _ c.in_ok-body.ensures ne, unended_no_chunk _ _ _ _ c.in_ok-body.ensures ne)
+    let ne = isn't _ _ _ _ c.class_at.ensures c.in_default.not-Eof in
+    rw c.fault_at.ensures (chunk_unended _ _ _ _ c.in_ok-body.ensures ne, unended_no_chunk _ _ _ _ c.in_ok-body.ensures ne)
 
 pub returns : goal.returns
-returns c = (chunk_is _ _ _ _ c.requires c.in_ok-body.ensures (is_sort _ _ _ _ c.sort_at.ensures c.in-Eof.is), chunk_only _ _ _ _ c.in_ok-body.ensures)
+returns c = (chunk_is _ _ _ _ c.requires c.in_ok-body.ensures (is_class _ _ _ _ c.class_at.ensures c.in-Eof.is), chunk_only _ _ _ _ c.in_ok-body.ensures)

@@ -1,4 +1,4 @@
-use Rattle.lua_parser.proofs.EndedLemmas.{lexed_ended}
+use Rattle.lua_parser.proofs.lemmas.OneEnd.{lexed_ended}
 use Rattle.lua_parser.proofs.parser.parse.Goals as goal
 
 pub chunk-requires : goal.chunk-requires

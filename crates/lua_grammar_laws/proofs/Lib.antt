@@ -1,0 +1,8 @@
+pub mod Rests
+pub mod Chains
+pub mod Expressions
+pub mod Fields
+pub mod Bodies
+pub mod Statements
+pub mod Blocks
+pub mod Once

@@ -1,0 +1,9 @@
+//! The laws that the grammar of Lua (manual 8) spells each text once: functions with an empty body, whose contracts are
+//! statements about the definitions of `lua_grammar`.
+//!
+//! - `laws`: a list of tokens, and so a text, spells one chunk at most
+#![tactic(auto)]
+
+pub mod laws;
+
+pub use laws::{spelled_once, text_spelled_once};

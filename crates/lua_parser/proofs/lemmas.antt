@@ -1,0 +1,4 @@
+pub mod OneEnd
+pub mod Chunks
+pub mod ParameterExits
+pub mod AnsweredOnce

@@ -1,0 +1,4 @@
+pub mod Bodies
+pub mod PathSteps
+pub mod PathExits
+pub mod NamedSteps

@@ -1,0 +1,4 @@
+pub mod Levels
+pub mod Chains
+pub mod Climb
+pub mod Suffixes

@@ -1,0 +1,3 @@
+pub mod ExpressionLists
+pub mod Fields
+pub mod Names

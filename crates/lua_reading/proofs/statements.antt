@@ -1,0 +1,10 @@
+pub mod Begins
+pub mod Split
+pub mod PlainExits
+pub mod Forms
+pub mod FormExits
+pub mod ForExits
+pub mod Arms
+pub mod Blocks
+pub mod SimpleSteps
+pub mod SimpleExits
