@@ -47,8 +47,8 @@ abbrev pub arguments : Block
 arguments = stats_of (ReturnS 1 (exps_of (TableE 1 (fields_of (Pair (TextE 1 (codes "f")) (FunctionE 1 (Lambda (codes "frame" ∷ []) false (stats_of (
     LocalS 1 (codes "a" ∷ []) (exps_of (IndexE 1 (NameE 1 (codes "frame")) (TextE 1 (codes "args")) ∷ []))
     ∷ ReturnS 1 (exps_of (
-        BinaryE 1 op.Concat (IndexE 1 (NameE 1 (codes "a")) (NumberE 1 (pos 1))) (BinaryE 1 op.Concat (IndexE 1 (NameE 1 (codes "a")) (TextE 1 (codes "1"))) (BinaryE 1 op.Concat (IndexE 1 (NameE 1 (codes "a")) (TextE 1 (codes "k"))) (UnaryE 1 sign.Len (NameE 1 (codes "a")))))
-        ∷ []))
+    BinaryE 1 op.Concat (IndexE 1 (NameE 1 (codes "a")) (NumberE 1 (pos 1))) (BinaryE 1 op.Concat (IndexE 1 (NameE 1 (codes "a")) (TextE 1 (codes "1"))) (BinaryE 1 op.Concat (IndexE 1 (NameE 1 (codes "a")) (TextE 1 (codes "k"))) (UnaryE 1 sign.Len (NameE 1 (codes "a")))))
+    ∷ []))
     ∷ [])))) ∷ [])) ∷ [])) ∷ [])
 
 abbrev pub Arguments : Type 0
@@ -71,9 +71,9 @@ counter = stats_of (
     AssignS 1 (exps_of (NameE 1 (codes "n") ∷ [])) (exps_of (NumberE 1 (pos 0) ∷ []))
     ∷ LocalS 1 (codes "p" ∷ []) (exps_of (TableE 1 NoField ∷ []))
     ∷ AssignS 1 (exps_of (IndexE 1 (NameE 1 (codes "p")) (TextE 1 (codes "f")) ∷ [])) (exps_of (FunctionE 1 (Lambda [] false (stats_of (
-        AssignS 1 (exps_of (NameE 1 (codes "n") ∷ [])) (exps_of (BinaryE 1 op.Add (NameE 1 (codes "n")) (NumberE 1 (pos 1)) ∷ []))
-        ∷ ReturnS 1 (exps_of (NameE 1 (codes "n") ∷ []))
-        ∷ []))) ∷ []))
+    AssignS 1 (exps_of (NameE 1 (codes "n") ∷ [])) (exps_of (BinaryE 1 op.Add (NameE 1 (codes "n")) (NumberE 1 (pos 1)) ∷ []))
+    ∷ ReturnS 1 (exps_of (NameE 1 (codes "n") ∷ []))
+    ∷ []))) ∷ []))
     ∷ ReturnS 1 (exps_of (NameE 1 (codes "p") ∷ []))
     ∷ [])
 
@@ -86,12 +86,12 @@ abbrev pub holds_itself : Block
 holds_itself = stats_of (
     LocalS 1 (codes "p" ∷ []) (exps_of (TableE 1 NoField ∷ []))
     ∷ AssignS 1 (exps_of (IndexE 1 (NameE 1 (codes "p")) (TextE 1 (codes "f")) ∷ [])) (exps_of (FunctionE 1 (Lambda [] false (stats_of (
-        LocalS 1 (codes "t" ∷ []) (exps_of (TableE 1 NoField ∷ []))
-        ∷ AssignS 1 (exps_of (IndexE 1 (NameE 1 (codes "t")) (TextE 1 (codes "t")) ∷ [])) (exps_of (NameE 1 (codes "t") ∷ []))
-        ∷ ReturnS 1 (exps_of (
-            BinaryE 1 op.And (BinaryE 1 op.Eq (IndexE 1 (IndexE 1 (IndexE 1 (NameE 1 (codes "t")) (TextE 1 (codes "t"))) (TextE 1 (codes "t"))) (TextE 1 (codes "t"))) (NameE 1 (codes "t"))) (TextE 1 (codes "y"))
-            ∷ []))
-        ∷ []))) ∷ []))
+    LocalS 1 (codes "t" ∷ []) (exps_of (TableE 1 NoField ∷ []))
+    ∷ AssignS 1 (exps_of (IndexE 1 (NameE 1 (codes "t")) (TextE 1 (codes "t")) ∷ [])) (exps_of (NameE 1 (codes "t") ∷ []))
+    ∷ ReturnS 1 (exps_of (
+    BinaryE 1 op.And (BinaryE 1 op.Eq (IndexE 1 (IndexE 1 (IndexE 1 (NameE 1 (codes "t")) (TextE 1 (codes "t"))) (TextE 1 (codes "t"))) (TextE 1 (codes "t"))) (NameE 1 (codes "t"))) (TextE 1 (codes "y"))
+    ∷ []))
+    ∷ []))) ∷ []))
     ∷ ReturnS 1 (exps_of (NameE 1 (codes "p") ∷ []))
     ∷ [])
 
@@ -104,8 +104,8 @@ abbrev pub catches_all : Block
 catches_all = stats_of (
     LocalS 1 (codes "p" ∷ []) (exps_of (TableE 1 NoField ∷ []))
     ∷ AssignS 1 (exps_of (IndexE 1 (NameE 1 (codes "p")) (TextE 1 (codes "f")) ∷ [])) (exps_of (FunctionE 1 (Lambda [] false (stats_of (WhileS 1 (TrueE 1) (stats_of (
-        CallS 1 (CallE 1 (NameE 1 (codes "pcall")) (exps_of (IndexE 1 (NameE 1 (codes "p")) (TextE 1 (codes "f")) ∷ [])))
-        ∷ [])) ∷ []))) ∷ []))
+    CallS 1 (CallE 1 (NameE 1 (codes "pcall")) (exps_of (IndexE 1 (NameE 1 (codes "p")) (TextE 1 (codes "f")) ∷ [])))
+    ∷ [])) ∷ []))) ∷ []))
     ∷ ReturnS 1 (exps_of (NameE 1 (codes "p") ∷ []))
     ∷ [])
 
@@ -118,8 +118,8 @@ abbrev pub nests : Block
 nests = stats_of (
     LocalS 1 (codes "p" ∷ []) (exps_of (TableE 1 NoField ∷ []))
     ∷ AssignS 1 (exps_of (IndexE 1 (NameE 1 (codes "p")) (TextE 1 (codes "f")) ∷ [])) (exps_of (
-        FunctionE 1 (Lambda [] false (stats_of (ReturnS 1 (exps_of (CallE 1 (IndexE 1 (NameE 1 (codes "p")) (TextE 1 (codes "f"))) NoExp ∷ [])) ∷ [])))
-        ∷ []))
+    FunctionE 1 (Lambda [] false (stats_of (ReturnS 1 (exps_of (CallE 1 (IndexE 1 (NameE 1 (codes "p")) (TextE 1 (codes "f"))) NoExp ∷ [])) ∷ [])))
+    ∷ []))
     ∷ ReturnS 1 (exps_of (NameE 1 (codes "p") ∷ []))
     ∷ [])
 
@@ -132,9 +132,9 @@ abbrev pub joins : Block
 joins = stats_of (
     LocalS 1 (codes "a" ∷ []) (exps_of (TextE 1 (codes "x") ∷ []))
     ∷ ReturnS 1 (exps_of (TableE 1 (fields_of (Pair (TextE 1 (codes "f")) (FunctionE 1 (Lambda [] false (stats_of (
-        LocalS 1 (codes "b" ∷ []) (exps_of (BinaryE 1 op.Concat (NameE 1 (codes "a")) (TextE 1 (codes "y")) ∷ []))
-        ∷ ReturnS 1 (exps_of (BinaryE 1 op.Concat (NameE 1 (codes "b")) (NameE 1 (codes "a")) ∷ []))
-        ∷ [])))) ∷ [])) ∷ []))
+    LocalS 1 (codes "b" ∷ []) (exps_of (BinaryE 1 op.Concat (NameE 1 (codes "a")) (TextE 1 (codes "y")) ∷ []))
+    ∷ ReturnS 1 (exps_of (BinaryE 1 op.Concat (NameE 1 (codes "b")) (NameE 1 (codes "a")) ∷ []))
+    ∷ [])))) ∷ [])) ∷ []))
     ∷ [])
 
 abbrev pub Joins : Type 0
@@ -156,15 +156,15 @@ abbrev pub cells : Block
 cells = stats_of (
     LocalS 1 (codes "p" ∷ []) (exps_of (TableE 1 NoField ∷ []))
     ∷ AssignS 1 (exps_of (IndexE 1 (NameE 1 (codes "p")) (TextE 1 (codes "f")) ∷ [])) (exps_of (FunctionE 1 (Lambda [] false (stats_of (
-        LocalS 1 (codes "fs" ∷ []) (exps_of (TableE 1 NoField ∷ []))
-        ∷ CountS 1 (codes "i") (NumberE 1 (pos 1)) (NumberE 1 (pos 3)) (stats_of (AssignS 1 (exps_of (IndexE 1 (NameE 1 (codes "fs")) (NameE 1 (codes "i")) ∷ [])) (exps_of (FunctionE 1 (Lambda [] false (stats_of (
-            AssignS 1 (exps_of (NameE 1 (codes "i") ∷ [])) (exps_of (BinaryE 1 op.Add (NameE 1 (codes "i")) (NumberE 1 (pos 10)) ∷ []))
-            ∷ ReturnS 1 (exps_of (NameE 1 (codes "i") ∷ []))
-            ∷ []))) ∷ [])) ∷ []))
-        ∷ ReturnS 1 (exps_of (
-            BinaryE 1 op.Concat (CallE 1 (IndexE 1 (NameE 1 (codes "fs")) (NumberE 1 (pos 1))) NoExp) (BinaryE 1 op.Concat (CallE 1 (IndexE 1 (NameE 1 (codes "fs")) (NumberE 1 (pos 1))) NoExp) (CallE 1 (IndexE 1 (NameE 1 (codes "fs")) (NumberE 1 (pos 2))) NoExp))
-            ∷ []))
-        ∷ []))) ∷ []))
+    LocalS 1 (codes "fs" ∷ []) (exps_of (TableE 1 NoField ∷ []))
+    ∷ CountS 1 (codes "i") (NumberE 1 (pos 1)) (NumberE 1 (pos 3)) (stats_of (AssignS 1 (exps_of (IndexE 1 (NameE 1 (codes "fs")) (NameE 1 (codes "i")) ∷ [])) (exps_of (FunctionE 1 (Lambda [] false (stats_of (
+    AssignS 1 (exps_of (NameE 1 (codes "i") ∷ [])) (exps_of (BinaryE 1 op.Add (NameE 1 (codes "i")) (NumberE 1 (pos 10)) ∷ []))
+    ∷ ReturnS 1 (exps_of (NameE 1 (codes "i") ∷ []))
+    ∷ []))) ∷ [])) ∷ []))
+    ∷ ReturnS 1 (exps_of (
+    BinaryE 1 op.Concat (CallE 1 (IndexE 1 (NameE 1 (codes "fs")) (NumberE 1 (pos 1))) NoExp) (BinaryE 1 op.Concat (CallE 1 (IndexE 1 (NameE 1 (codes "fs")) (NumberE 1 (pos 1))) NoExp) (CallE 1 (IndexE 1 (NameE 1 (codes "fs")) (NumberE 1 (pos 2))) NoExp))
+    ∷ []))
+    ∷ []))) ∷ []))
     ∷ ReturnS 1 (exps_of (NameE 1 (codes "p") ∷ []))
     ∷ [])
 
@@ -177,25 +177,25 @@ abbrev pub handlers : Block
 handlers = stats_of (
     LocalS 1 (codes "p" ∷ []) (exps_of (TableE 1 NoField ∷ []))
     ∷ AssignS 1 (exps_of (IndexE 1 (NameE 1 (codes "p")) (TextE 1 (codes "f")) ∷ [])) (exps_of (FunctionE 1 (Lambda [] false (stats_of (
-        LocalS 1 (codes "m" ∷ []) (exps_of (TableE 1 (fields_of (
-            Pair (TextE 1 (codes "__index")) (FunctionE 1 (Lambda (codes "t" ∷ codes "k" ∷ []) false (stats_of (ReturnS 1 (exps_of (BinaryE 1 op.Concat (NameE 1 (codes "k")) (NameE 1 (codes "k")) ∷ [])) ∷ []))))
-            ∷ Pair (TextE 1 (codes "__lt")) (FunctionE 1 (Lambda (codes "a" ∷ codes "b" ∷ []) false (stats_of (ReturnS 1 (exps_of (
-                BinaryE 1 op.Lt (IndexE 1 (NameE 1 (codes "a")) (TextE 1 (codes "n"))) (IndexE 1 (NameE 1 (codes "b")) (TextE 1 (codes "n")))
-                ∷ [])) ∷ []))))
-            ∷ Pair (TextE 1 (codes "__call")) (FunctionE 1 (Lambda (codes "s" ∷ codes "x" ∷ []) false (stats_of (
-                ReturnS 1 (exps_of (BinaryE 1 op.Add (NameE 1 (codes "x")) (IndexE 1 (NameE 1 (codes "s")) (TextE 1 (codes "n"))) ∷ []))
-                ∷ []))))
-            ∷ [])) ∷ []))
-        ∷ LocalS 1 (codes "a" ∷ []) (exps_of (
-            CallE 1 (NameE 1 (codes "setmetatable")) (exps_of (TableE 1 (fields_of (Pair (TextE 1 (codes "n")) (NumberE 1 (pos 1)) ∷ [])) ∷ NameE 1 (codes "m") ∷ []))
-            ∷ []))
-        ∷ LocalS 1 (codes "b" ∷ []) (exps_of (
-            CallE 1 (NameE 1 (codes "setmetatable")) (exps_of (TableE 1 (fields_of (Pair (TextE 1 (codes "n")) (NumberE 1 (pos 2)) ∷ [])) ∷ NameE 1 (codes "m") ∷ []))
-            ∷ []))
-        ∷ ReturnS 1 (exps_of (
-            BinaryE 1 op.Concat (IndexE 1 (NameE 1 (codes "a")) (TextE 1 (codes "zz"))) (BinaryE 1 op.Concat (CallE 1 (NameE 1 (codes "tostring")) (exps_of (BinaryE 1 op.Le (NameE 1 (codes "b")) (NameE 1 (codes "a")) ∷ []))) (CallE 1 (NameE 1 (codes "a")) (exps_of (NumberE 1 (pos 6) ∷ []))))
-            ∷ []))
-        ∷ []))) ∷ []))
+    LocalS 1 (codes "m" ∷ []) (exps_of (TableE 1 (fields_of (
+    Pair (TextE 1 (codes "__index")) (FunctionE 1 (Lambda (codes "t" ∷ codes "k" ∷ []) false (stats_of (ReturnS 1 (exps_of (BinaryE 1 op.Concat (NameE 1 (codes "k")) (NameE 1 (codes "k")) ∷ [])) ∷ []))))
+    ∷ Pair (TextE 1 (codes "__lt")) (FunctionE 1 (Lambda (codes "a" ∷ codes "b" ∷ []) false (stats_of (ReturnS 1 (exps_of (
+    BinaryE 1 op.Lt (IndexE 1 (NameE 1 (codes "a")) (TextE 1 (codes "n"))) (IndexE 1 (NameE 1 (codes "b")) (TextE 1 (codes "n")))
+    ∷ [])) ∷ []))))
+    ∷ Pair (TextE 1 (codes "__call")) (FunctionE 1 (Lambda (codes "s" ∷ codes "x" ∷ []) false (stats_of (
+    ReturnS 1 (exps_of (BinaryE 1 op.Add (NameE 1 (codes "x")) (IndexE 1 (NameE 1 (codes "s")) (TextE 1 (codes "n"))) ∷ []))
+    ∷ []))))
+    ∷ [])) ∷ []))
+    ∷ LocalS 1 (codes "a" ∷ []) (exps_of (
+    CallE 1 (NameE 1 (codes "setmetatable")) (exps_of (TableE 1 (fields_of (Pair (TextE 1 (codes "n")) (NumberE 1 (pos 1)) ∷ [])) ∷ NameE 1 (codes "m") ∷ []))
+    ∷ []))
+    ∷ LocalS 1 (codes "b" ∷ []) (exps_of (
+    CallE 1 (NameE 1 (codes "setmetatable")) (exps_of (TableE 1 (fields_of (Pair (TextE 1 (codes "n")) (NumberE 1 (pos 2)) ∷ [])) ∷ NameE 1 (codes "m") ∷ []))
+    ∷ []))
+    ∷ ReturnS 1 (exps_of (
+    BinaryE 1 op.Concat (IndexE 1 (NameE 1 (codes "a")) (TextE 1 (codes "zz"))) (BinaryE 1 op.Concat (CallE 1 (NameE 1 (codes "tostring")) (exps_of (BinaryE 1 op.Le (NameE 1 (codes "b")) (NameE 1 (codes "a")) ∷ []))) (CallE 1 (NameE 1 (codes "a")) (exps_of (NumberE 1 (pos 6) ∷ []))))
+    ∷ []))
+    ∷ []))) ∷ []))
     ∷ ReturnS 1 (exps_of (NameE 1 (codes "p") ∷ []))
     ∷ [])
 
@@ -208,16 +208,16 @@ abbrev pub out_of_range : Block
 out_of_range = stats_of (
     LocalS 1 (codes "p" ∷ []) (exps_of (TableE 1 NoField ∷ []))
     ∷ AssignS 1 (exps_of (IndexE 1 (NameE 1 (codes "p")) (TextE 1 (codes "f")) ∷ [])) (exps_of (FunctionE 1 (Lambda [] false (stats_of (
-        LocalFunctionS 1 (codes "e") (Lambda (codes "f" ∷ []) false (stats_of (
-            LocalS 1 (codes "ok" ∷ codes "v" ∷ []) (exps_of (CallE 1 (NameE 1 (codes "pcall")) (exps_of (NameE 1 (codes "f") ∷ [])) ∷ []))
-            ∷ ReturnS 1 (exps_of (CallE 1 (NameE 1 (codes "tostring")) (exps_of (NameE 1 (codes "v") ∷ [])) ∷ []))
-            ∷ [])))
-        ∷ ReturnS 1 (exps_of (BinaryE 1 op.Concat (CallE 1 (NameE 1 (codes "e")) (exps_of (
-            FunctionE 1 (Lambda [] false (stats_of (ReturnS 1 (exps_of (BinaryE 1 op.Add (NumberE 1 (pos 9223372036854775807)) (NumberE 1 (pos 1)) ∷ [])) ∷ [])))
-            ∷ []))) (BinaryE 1 op.Concat (TextE 1 (codes ";")) (BinaryE 1 op.Concat (CallE 1 (NameE 1 (codes "e")) (exps_of (
-            FunctionE 1 (Lambda [] false (stats_of (ReturnS 1 (exps_of (BinaryE 1 op.Div (NumberE 1 (pos 7)) (NumberE 1 (pos 2)) ∷ [])) ∷ [])))
-            ∷ []))) (BinaryE 1 op.Concat (TextE 1 (codes ";")) (BinaryE 1 op.Concat (BinaryE 1 op.Div (NumberE 1 (pos 6)) (NumberE 1 (pos 2))) (BinaryE 1 op.Concat (TextE 1 (codes ";")) (BinaryE 1 op.Concat (BinaryE 1 op.Mod (UnaryE 1 sign.Minus (NumberE 1 (pos 7))) (NumberE 1 (pos 3))) (BinaryE 1 op.Concat (TextE 1 (codes ";")) (NumberE 1 (pos 1000))))))))) ∷ []))
-        ∷ []))) ∷ []))
+    LocalFunctionS 1 (codes "e") (Lambda (codes "f" ∷ []) false (stats_of (
+    LocalS 1 (codes "ok" ∷ codes "v" ∷ []) (exps_of (CallE 1 (NameE 1 (codes "pcall")) (exps_of (NameE 1 (codes "f") ∷ [])) ∷ []))
+    ∷ ReturnS 1 (exps_of (CallE 1 (NameE 1 (codes "tostring")) (exps_of (NameE 1 (codes "v") ∷ [])) ∷ []))
+    ∷ [])))
+    ∷ ReturnS 1 (exps_of (BinaryE 1 op.Concat (CallE 1 (NameE 1 (codes "e")) (exps_of (
+    FunctionE 1 (Lambda [] false (stats_of (ReturnS 1 (exps_of (BinaryE 1 op.Add (NumberE 1 (pos 9223372036854775807)) (NumberE 1 (pos 1)) ∷ [])) ∷ [])))
+    ∷ []))) (BinaryE 1 op.Concat (TextE 1 (codes ";")) (BinaryE 1 op.Concat (CallE 1 (NameE 1 (codes "e")) (exps_of (
+    FunctionE 1 (Lambda [] false (stats_of (ReturnS 1 (exps_of (BinaryE 1 op.Div (NumberE 1 (pos 7)) (NumberE 1 (pos 2)) ∷ [])) ∷ [])))
+    ∷ []))) (BinaryE 1 op.Concat (TextE 1 (codes ";")) (BinaryE 1 op.Concat (BinaryE 1 op.Div (NumberE 1 (pos 6)) (NumberE 1 (pos 2))) (BinaryE 1 op.Concat (TextE 1 (codes ";")) (BinaryE 1 op.Concat (BinaryE 1 op.Mod (UnaryE 1 sign.Minus (NumberE 1 (pos 7))) (NumberE 1 (pos 3))) (BinaryE 1 op.Concat (TextE 1 (codes ";")) (NumberE 1 (pos 1000))))))))) ∷ []))
+    ∷ []))) ∷ []))
     ∷ ReturnS 1 (exps_of (NameE 1 (codes "p") ∷ []))
     ∷ [])
 
@@ -233,11 +233,11 @@ abbrev pub second_level : Block
 second_level = stats_of (
     LocalS 1 (codes "p" ∷ []) (exps_of (TableE 1 NoField ∷ []))
     ∷ LocalFunctionS 2 (codes "check") (Lambda (codes "x" ∷ []) false (stats_of (IfS 2 (arms_of (
-        Arm (UnaryE 2 sign.Not (NameE 2 (codes "x"))) (stats_of (CallS 2 (CallE 2 (NameE 2 (codes "error")) (exps_of (TextE 2 (codes "bad") ∷ NumberE 2 (pos 2) ∷ []))) ∷ []))
-        ∷ [])) ∷ [])))
+    Arm (UnaryE 2 sign.Not (NameE 2 (codes "x"))) (stats_of (CallS 2 (CallE 2 (NameE 2 (codes "error")) (exps_of (TextE 2 (codes "bad") ∷ NumberE 2 (pos 2) ∷ []))) ∷ []))
+    ∷ [])) ∷ [])))
     ∷ AssignS 3 (exps_of (IndexE 3 (NameE 3 (codes "p")) (TextE 3 (codes "f")) ∷ [])) (exps_of (
-        FunctionE 3 (Lambda [] false (stats_of (CallS 3 (CallE 3 (NameE 3 (codes "check")) (exps_of (FalseE 3 ∷ []))) ∷ [])))
-        ∷ []))
+    FunctionE 3 (Lambda [] false (stats_of (CallS 3 (CallE 3 (NameE 3 (codes "check")) (exps_of (FalseE 3 ∷ []))) ∷ [])))
+    ∷ []))
     ∷ ReturnS 4 (exps_of (NameE 4 (codes "p") ∷ []))
     ∷ [])
 

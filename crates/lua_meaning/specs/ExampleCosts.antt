@@ -45,8 +45,8 @@ abbrev pub while_costs : Block
 while_costs = stats_of (ReturnS 1 (exps_of (TableE 1 (fields_of (Pair (TextE 1 (codes "f")) (FunctionE 1 (Lambda [] true (stats_of (
     LocalS 2 (codes "i" ∷ []) (exps_of (NumberE 2 (pos 0) ∷ []))
     ∷ WhileS 2 (BinaryE 2 op.Lt (NameE 2 (codes "i")) (NumberE 2 (pos 2))) (stats_of (
-        AssignS 2 (exps_of (NameE 2 (codes "i") ∷ [])) (exps_of (BinaryE 2 op.Add (NameE 2 (codes "i")) (NumberE 2 (pos 1)) ∷ []))
-        ∷ []))
+    AssignS 2 (exps_of (NameE 2 (codes "i") ∷ [])) (exps_of (BinaryE 2 op.Add (NameE 2 (codes "i")) (NumberE 2 (pos 1)) ∷ []))
+    ∷ []))
     ∷ [])))) ∷ [])) ∷ [])) ∷ [])
 
 abbrev pub WhileCosts : Type 0
@@ -60,8 +60,8 @@ abbrev pub repeat_costs : Block
 repeat_costs = stats_of (ReturnS 1 (exps_of (TableE 1 (fields_of (Pair (TextE 1 (codes "f")) (FunctionE 1 (Lambda [] true (stats_of (
     LocalS 2 (codes "i" ∷ []) (exps_of (NumberE 2 (pos 0) ∷ []))
     ∷ RepeatS 2 (stats_of (
-        AssignS 2 (exps_of (NameE 2 (codes "i") ∷ [])) (exps_of (BinaryE 2 op.Add (NameE 2 (codes "i")) (NumberE 2 (pos 1)) ∷ []))
-        ∷ [])) (BinaryE 2 op.Ge (NameE 2 (codes "i")) (NumberE 2 (pos 2)))
+    AssignS 2 (exps_of (NameE 2 (codes "i") ∷ [])) (exps_of (BinaryE 2 op.Add (NameE 2 (codes "i")) (NumberE 2 (pos 1)) ∷ []))
+    ∷ [])) (BinaryE 2 op.Ge (NameE 2 (codes "i")) (NumberE 2 (pos 2)))
     ∷ [])))) ∷ [])) ∷ [])) ∷ [])
 
 abbrev pub RepeatCosts : Type 0
@@ -186,8 +186,8 @@ abbrev pub call_link_costs : Block
 call_link_costs = stats_of (ReturnS 1 (exps_of (TableE 1 (fields_of (Pair (TextE 1 (codes "f")) (FunctionE 1 (Lambda [] true (stats_of (ReturnS 2 (exps_of (CallE 2 (CallE 2 (NameE 2 (codes "setmetatable")) (exps_of (
     TableE 2 NoField
     ∷ TableE 2 (fields_of (
-        Pair (TextE 2 (codes "__call")) (FunctionE 2 (Lambda [] false (stats_of (ReturnS 2 (exps_of (NumberE 2 (pos 1) ∷ [])) ∷ []))))
-        ∷ []))
+    Pair (TextE 2 (codes "__call")) (FunctionE 2 (Lambda [] false (stats_of (ReturnS 2 (exps_of (NumberE 2 (pos 1) ∷ [])) ∷ []))))
+    ∷ []))
     ∷ []))) NoExp ∷ [])) ∷ [])))) ∷ [])) ∷ [])) ∷ [])
 
 abbrev pub CallLinkCosts : Type 0
@@ -212,8 +212,8 @@ MessageCosts = (invoked (codes "X") 68 message_costs 1144 ≡ Gives (codes "fals
 abbrev pub method_costs : Block
 method_costs = stats_of (ReturnS 1 (exps_of (TableE 1 (fields_of (Pair (TextE 1 (codes "f")) (FunctionE 1 (Lambda [] true (stats_of (
     LocalS 2 (codes "o" ∷ []) (exps_of (TableE 2 (fields_of (
-        Pair (TextE 2 (codes "m")) (FunctionE 2 (Lambda (codes "s" ∷ []) false (stats_of (ReturnS 2 (exps_of (NumberE 2 (pos 1) ∷ [])) ∷ []))))
-        ∷ [])) ∷ []))
+    Pair (TextE 2 (codes "m")) (FunctionE 2 (Lambda (codes "s" ∷ []) false (stats_of (ReturnS 2 (exps_of (NumberE 2 (pos 1) ∷ [])) ∷ []))))
+    ∷ [])) ∷ []))
     ∷ ReturnS 2 (exps_of (MethodE 2 (NameE 2 (codes "o")) (codes "m") NoExp ∷ []))
     ∷ [])))) ∷ [])) ∷ [])) ∷ [])
 
@@ -341,11 +341,11 @@ EndCosts = (invoked (codes "X") 68 end_costs 1129 ≡ Gives (codes "nil") 0) × 
 abbrev pub handler_makes_no_text : Block
 handler_makes_no_text = stats_of (ReturnS 1 (exps_of (TableE 1 (fields_of (Pair (TextE 1 (codes "f")) (FunctionE 1 (Lambda [] true (stats_of (
     LocalS 2 (codes "t" ∷ []) (exps_of (CallE 2 (NameE 2 (codes "setmetatable")) (exps_of (
-        TableE 2 NoField
-        ∷ TableE 2 (fields_of (
-            Pair (TextE 2 (codes "__concat")) (FunctionE 2 (Lambda [] false (stats_of (ReturnS 2 (exps_of (TextE 2 (codes "abcdef") ∷ [])) ∷ []))))
-            ∷ []))
-        ∷ [])) ∷ []))
+    TableE 2 NoField
+    ∷ TableE 2 (fields_of (
+    Pair (TextE 2 (codes "__concat")) (FunctionE 2 (Lambda [] false (stats_of (ReturnS 2 (exps_of (TextE 2 (codes "abcdef") ∷ [])) ∷ []))))
+    ∷ []))
+    ∷ [])) ∷ []))
     ∷ ReturnS 2 (exps_of (UnaryE 2 sign.Len (ParenE 2 (BinaryE 2 op.Concat (NameE 2 (codes "t")) (NameE 2 (codes "t")))) ∷ []))
     ∷ [])))) ∷ [])) ∷ [])) ∷ [])
 
@@ -359,11 +359,11 @@ HandlerMakesNoText = (invoked (codes "X") 110 handler_makes_no_text 1182 ≡ Giv
 abbrev pub handler_of_text_costs : Block
 handler_of_text_costs = stats_of (ReturnS 1 (exps_of (TableE 1 (fields_of (Pair (TextE 1 (codes "f")) (FunctionE 1 (Lambda [] true (stats_of (
     LocalS 2 (codes "t" ∷ []) (exps_of (CallE 2 (NameE 2 (codes "setmetatable")) (exps_of (
-        TableE 2 NoField
-        ∷ TableE 2 (fields_of (
-            Pair (TextE 2 (codes "__tostring")) (FunctionE 2 (Lambda [] false (stats_of (ReturnS 2 (exps_of (TextE 2 (codes "abcdef") ∷ [])) ∷ []))))
-            ∷ []))
-        ∷ [])) ∷ []))
+    TableE 2 NoField
+    ∷ TableE 2 (fields_of (
+    Pair (TextE 2 (codes "__tostring")) (FunctionE 2 (Lambda [] false (stats_of (ReturnS 2 (exps_of (TextE 2 (codes "abcdef") ∷ [])) ∷ []))))
+    ∷ []))
+    ∷ [])) ∷ []))
     ∷ ReturnS 2 (exps_of (UnaryE 2 sign.Len (CallE 2 (NameE 2 (codes "tostring")) (exps_of (NameE 2 (codes "t") ∷ []))) ∷ []))
     ∷ [])))) ∷ [])) ∷ [])) ∷ [])
 
@@ -378,8 +378,8 @@ abbrev pub answer_asks_handlers : Block
 answer_asks_handlers = stats_of (ReturnS 1 (exps_of (TableE 1 (fields_of (Pair (TextE 1 (codes "f")) (FunctionE 1 (Lambda [] true (stats_of (ReturnS 2 (exps_of (CallE 2 (NameE 2 (codes "setmetatable")) (exps_of (
     TableE 2 NoField
     ∷ TableE 2 (fields_of (
-        Pair (TextE 2 (codes "__tostring")) (FunctionE 2 (Lambda [] false (stats_of (ReturnS 2 (exps_of (TextE 2 (codes "abc") ∷ [])) ∷ []))))
-        ∷ []))
+    Pair (TextE 2 (codes "__tostring")) (FunctionE 2 (Lambda [] false (stats_of (ReturnS 2 (exps_of (TextE 2 (codes "abc") ∷ [])) ∷ []))))
+    ∷ []))
     ∷ [])) ∷ [])) ∷ [])))) ∷ [])) ∷ [])) ∷ [])
 
 abbrev pub AnswerAsksHandlers : Type 0

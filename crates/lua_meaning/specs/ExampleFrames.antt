@@ -30,10 +30,10 @@ abbrev pub merges : Block
 merges = stats_of (ReturnS 1 (exps_of (TableE 1 (fields_of (Pair (TextE 1 (codes "f")) (FunctionE 1 (Lambda (codes "frame" ∷ []) false (stats_of (ReturnS 1 (exps_of (MethodE 1 (NameE 1 (codes "frame")) (codes "expandTemplate") (exps_of (TableE 1 (fields_of (
     Pair (TextE 1 (codes "title")) (TextE 1 (codes " foo_bar "))
     ∷ Pair (TextE 1 (codes "args")) (TableE 1 (fields_of (
-        Pair (TextE 1 (codes "a")) (TrueE 1)
-        ∷ Pair (TextE 1 (codes "1")) (NumberE 1 (pos 2))
-        ∷ Pair (NumberE 1 (pos 1)) (FalseE 1)
-        ∷ [])))
+    Pair (TextE 1 (codes "a")) (TrueE 1)
+    ∷ Pair (TextE 1 (codes "1")) (NumberE 1 (pos 2))
+    ∷ Pair (NumberE 1 (pos 1)) (FalseE 1)
+    ∷ [])))
     ∷ [])) ∷ [])) ∷ [])) ∷ [])))) ∷ [])) ∷ [])) ∷ [])
 
 abbrev pub Merges : Type 0
@@ -56,9 +56,9 @@ own_globals = stats_of (
     LocalS 1 (codes "p" ∷ []) (exps_of (TableE 1 NoField ∷ []))
     ∷ AssignS 1 (exps_of (NameE 1 (codes "x") ∷ [])) (exps_of (NumberE 1 (pos 1) ∷ []))
     ∷ AssignS 1 (exps_of (IndexE 1 (NameE 1 (codes "p")) (TextE 1 (codes "f")) ∷ [])) (exps_of (FunctionE 1 (Lambda (codes "frame" ∷ []) false (stats_of (
-        LocalS 1 (codes "s" ∷ []) (exps_of (MethodE 1 (NameE 1 (codes "frame")) (codes "preprocess") (exps_of (TextE 1 (codes "{{#invoke:Self|g}}") ∷ [])) ∷ []))
-        ∷ ReturnS 1 (exps_of (BinaryE 1 op.Concat (NameE 1 (codes "s")) (NameE 1 (codes "x")) ∷ []))
-        ∷ []))) ∷ []))
+    LocalS 1 (codes "s" ∷ []) (exps_of (MethodE 1 (NameE 1 (codes "frame")) (codes "preprocess") (exps_of (TextE 1 (codes "{{#invoke:Self|g}}") ∷ [])) ∷ []))
+    ∷ ReturnS 1 (exps_of (BinaryE 1 op.Concat (NameE 1 (codes "s")) (NameE 1 (codes "x")) ∷ []))
+    ∷ []))) ∷ []))
     ∷ ReturnS 1 (exps_of (NameE 1 (codes "p") ∷ []))
     ∷ [])
 
@@ -93,32 +93,32 @@ WrongAnswers = (without_steps (asked (held (codes "X") 70 wrong_answers ∷ []) 
 abbrev pub requests_fail : Block
 requests_fail = stats_of (ReturnS 1 (exps_of (TableE 1 (fields_of (Pair (TextE 1 (codes "f")) (FunctionE 1 (Lambda (codes "frame" ∷ []) false (stats_of (
     LocalFunctionS 2 (codes "e") (Lambda (codes "t" ∷ []) false (stats_of (ReturnS 2 (exps_of (BinaryE 2 op.Concat (CallE 2 (NameE 2 (codes "select")) (exps_of (
-        NumberE 2 (pos 2)
-        ∷ CallE 2 (NameE 2 (codes "pcall")) (exps_of (
-            IndexE 2 (NameE 2 (codes "frame")) (TextE 2 (codes "expandTemplate"))
-            ∷ NameE 2 (codes "frame")
-            ∷ NameE 2 (codes "t")
-            ∷ []))
-        ∷ []))) (TextE 2 (codes ";")) ∷ [])) ∷ [])))
+    NumberE 2 (pos 2)
+    ∷ CallE 2 (NameE 2 (codes "pcall")) (exps_of (
+    IndexE 2 (NameE 2 (codes "frame")) (TextE 2 (codes "expandTemplate"))
+    ∷ NameE 2 (codes "frame")
+    ∷ NameE 2 (codes "t")
+    ∷ []))
+    ∷ []))) (TextE 2 (codes ";")) ∷ [])) ∷ [])))
     ∷ ReturnS 3 (exps_of (
-        CallE 3 (NameE 3 (codes "e")) NoExp
-        ∷ CallE 3 (NameE 3 (codes "e")) (exps_of (TableE 3 (fields_of (Pair (TextE 3 (codes "title")) (TableE 3 NoField) ∷ [])) ∷ []))
-        ∷ CallE 3 (NameE 3 (codes "e")) (exps_of (
-            TableE 3 (fields_of (Pair (TextE 3 (codes "title")) (TextE 3 (codes "T")) ∷ Pair (TextE 3 (codes "args")) (NumberE 3 (pos 1)) ∷ []))
-            ∷ []))
-        ∷ CallE 3 (NameE 3 (codes "e")) (exps_of (TableE 3 (fields_of (
-            Pair (TextE 3 (codes "title")) (TextE 3 (codes "a|b"))
-            ∷ Pair (TextE 3 (codes "args")) (TableE 3 (fields_of (Pair (TrueE 3) (NumberE 3 (pos 1)) ∷ [])))
-            ∷ [])) ∷ []))
-        ∷ CallE 3 (NameE 3 (codes "e")) (exps_of (TableE 3 (fields_of (
-            Pair (TextE 3 (codes "title")) (TextE 3 (codes "T"))
-            ∷ Pair (TextE 3 (codes "args")) (TableE 3 (fields_of (Pair (TextE 3 (codes "a")) (TableE 3 NoField) ∷ [])))
-            ∷ [])) ∷ []))
-        ∷ CallE 3 (NameE 3 (codes "e")) (exps_of (TableE 3 (fields_of (
-            Pair (TextE 3 (codes "title")) (TextE 3 (codes "T"))
-            ∷ Pair (TextE 3 (codes "args")) (TableE 3 (fields_of (Pair (TrueE 3) (NumberE 3 (pos 1)) ∷ [])))
-            ∷ [])) ∷ []))
-        ∷ []))
+    CallE 3 (NameE 3 (codes "e")) NoExp
+    ∷ CallE 3 (NameE 3 (codes "e")) (exps_of (TableE 3 (fields_of (Pair (TextE 3 (codes "title")) (TableE 3 NoField) ∷ [])) ∷ []))
+    ∷ CallE 3 (NameE 3 (codes "e")) (exps_of (
+    TableE 3 (fields_of (Pair (TextE 3 (codes "title")) (TextE 3 (codes "T")) ∷ Pair (TextE 3 (codes "args")) (NumberE 3 (pos 1)) ∷ []))
+    ∷ []))
+    ∷ CallE 3 (NameE 3 (codes "e")) (exps_of (TableE 3 (fields_of (
+    Pair (TextE 3 (codes "title")) (TextE 3 (codes "a|b"))
+    ∷ Pair (TextE 3 (codes "args")) (TableE 3 (fields_of (Pair (TrueE 3) (NumberE 3 (pos 1)) ∷ [])))
+    ∷ [])) ∷ []))
+    ∷ CallE 3 (NameE 3 (codes "e")) (exps_of (TableE 3 (fields_of (
+    Pair (TextE 3 (codes "title")) (TextE 3 (codes "T"))
+    ∷ Pair (TextE 3 (codes "args")) (TableE 3 (fields_of (Pair (TextE 3 (codes "a")) (TableE 3 NoField) ∷ [])))
+    ∷ [])) ∷ []))
+    ∷ CallE 3 (NameE 3 (codes "e")) (exps_of (TableE 3 (fields_of (
+    Pair (TextE 3 (codes "title")) (TextE 3 (codes "T"))
+    ∷ Pair (TextE 3 (codes "args")) (TableE 3 (fields_of (Pair (TrueE 3) (NumberE 3 (pos 1)) ∷ [])))
+    ∷ [])) ∷ []))
+    ∷ []))
     ∷ [])))) ∷ [])) ∷ [])) ∷ [])
 
 abbrev pub RequestsFail : Type 0
@@ -133,13 +133,13 @@ abbrev pub parents : Block
 parents = stats_of (ReturnS 1 (exps_of (TableE 1 (fields_of (Pair (TextE 1 (codes "f")) (FunctionE 1 (Lambda (codes "frame" ∷ []) false (stats_of (
     LocalS 2 (codes "p" ∷ []) (exps_of (MethodE 2 (NameE 2 (codes "frame")) (codes "getParent") NoExp ∷ []))
     ∷ ReturnS 3 (exps_of (
-        MethodE 3 (NameE 3 (codes "p")) (codes "getTitle") NoExp
-        ∷ IndexE 3 (IndexE 3 (NameE 3 (codes "p")) (TextE 3 (codes "args"))) (NumberE 3 (pos 1))
-        ∷ IndexE 3 (IndexE 3 (NameE 3 (codes "p")) (TextE 3 (codes "args"))) (TextE 3 (codes "n"))
-        ∷ CallE 3 (NameE 3 (codes "tostring")) (exps_of (BinaryE 3 op.Eq (NameE 3 (codes "p")) (MethodE 3 (NameE 3 (codes "frame")) (codes "getParent") NoExp) ∷ []))
-        ∷ CallE 3 (NameE 3 (codes "tostring")) (exps_of (MethodE 3 (NameE 3 (codes "p")) (codes "getParent") NoExp ∷ []))
-        ∷ MethodE 3 (NameE 3 (codes "frame")) (codes "getTitle") NoExp
-        ∷ []))
+    MethodE 3 (NameE 3 (codes "p")) (codes "getTitle") NoExp
+    ∷ IndexE 3 (IndexE 3 (NameE 3 (codes "p")) (TextE 3 (codes "args"))) (NumberE 3 (pos 1))
+    ∷ IndexE 3 (IndexE 3 (NameE 3 (codes "p")) (TextE 3 (codes "args"))) (TextE 3 (codes "n"))
+    ∷ CallE 3 (NameE 3 (codes "tostring")) (exps_of (BinaryE 3 op.Eq (NameE 3 (codes "p")) (MethodE 3 (NameE 3 (codes "frame")) (codes "getParent") NoExp) ∷ []))
+    ∷ CallE 3 (NameE 3 (codes "tostring")) (exps_of (MethodE 3 (NameE 3 (codes "p")) (codes "getParent") NoExp ∷ []))
+    ∷ MethodE 3 (NameE 3 (codes "frame")) (codes "getTitle") NoExp
+    ∷ []))
     ∷ [])))) ∷ [])) ∷ [])) ∷ [])
 
 abbrev pub Parents : Type 0
@@ -167,23 +167,23 @@ ParentCosts = (asked (held (codes "X") 66 parent_costs ∷ []) [] (codes "X") 11
 abbrev pub children : Block
 children = stats_of (ReturnS 1 (exps_of (TableE 1 (fields_of (Pair (TextE 1 (codes "f")) (FunctionE 1 (Lambda (codes "frame" ∷ []) false (stats_of (
     LocalS 2 (codes "c" ∷ []) (exps_of (MethodE 2 (NameE 2 (codes "frame")) (codes "newChild") (exps_of (TableE 2 (fields_of (
-        Pair (TextE 2 (codes "title")) (TextE 2 (codes "a b"))
-        ∷ Pair (TextE 2 (codes "args")) (TableE 2 (fields_of (
-            Pair (TextE 2 (codes "x")) (NumberE 2 (pos 1))
-            ∷ Item (TextE 2 (codes "y"))
-            ∷ Pair (TextE 2 (codes "1")) (TextE 2 (codes "z"))
-            ∷ [])))
-        ∷ [])) ∷ [])) ∷ []))
+    Pair (TextE 2 (codes "title")) (TextE 2 (codes "a b"))
+    ∷ Pair (TextE 2 (codes "args")) (TableE 2 (fields_of (
+    Pair (TextE 2 (codes "x")) (NumberE 2 (pos 1))
+    ∷ Item (TextE 2 (codes "y"))
+    ∷ Pair (TextE 2 (codes "1")) (TextE 2 (codes "z"))
+    ∷ [])))
+    ∷ [])) ∷ [])) ∷ []))
     ∷ LocalS 3 (codes "d" ∷ []) (exps_of (MethodE 3 (NameE 3 (codes "c")) (codes "newChild") (exps_of (TableE 3 NoField ∷ [])) ∷ []))
     ∷ ReturnS 4 (exps_of (
-        MethodE 4 (NameE 4 (codes "c")) (codes "getTitle") NoExp
-        ∷ IndexE 4 (IndexE 4 (NameE 4 (codes "c")) (TextE 4 (codes "args"))) (NumberE 4 (pos 1))
-        ∷ IndexE 4 (IndexE 4 (NameE 4 (codes "c")) (TextE 4 (codes "args"))) (TextE 4 (codes "x"))
-        ∷ CallE 4 (NameE 4 (codes "tostring")) (exps_of (BinaryE 4 op.Eq (MethodE 4 (NameE 4 (codes "c")) (codes "getParent") NoExp) (NameE 4 (codes "frame")) ∷ []))
-        ∷ MethodE 4 (NameE 4 (codes "d")) (codes "getTitle") NoExp
-        ∷ CallE 4 (NameE 4 (codes "tostring")) (exps_of (BinaryE 4 op.Eq (MethodE 4 (NameE 4 (codes "d")) (codes "getParent") NoExp) (NameE 4 (codes "c")) ∷ []))
-        ∷ CallE 4 (NameE 4 (codes "tostring")) (exps_of (CallE 4 (NameE 4 (codes "next")) (exps_of (IndexE 4 (NameE 4 (codes "d")) (TextE 4 (codes "args")) ∷ [])) ∷ []))
-        ∷ []))
+    MethodE 4 (NameE 4 (codes "c")) (codes "getTitle") NoExp
+    ∷ IndexE 4 (IndexE 4 (NameE 4 (codes "c")) (TextE 4 (codes "args"))) (NumberE 4 (pos 1))
+    ∷ IndexE 4 (IndexE 4 (NameE 4 (codes "c")) (TextE 4 (codes "args"))) (TextE 4 (codes "x"))
+    ∷ CallE 4 (NameE 4 (codes "tostring")) (exps_of (BinaryE 4 op.Eq (MethodE 4 (NameE 4 (codes "c")) (codes "getParent") NoExp) (NameE 4 (codes "frame")) ∷ []))
+    ∷ MethodE 4 (NameE 4 (codes "d")) (codes "getTitle") NoExp
+    ∷ CallE 4 (NameE 4 (codes "tostring")) (exps_of (BinaryE 4 op.Eq (MethodE 4 (NameE 4 (codes "d")) (codes "getParent") NoExp) (NameE 4 (codes "c")) ∷ []))
+    ∷ CallE 4 (NameE 4 (codes "tostring")) (exps_of (CallE 4 (NameE 4 (codes "next")) (exps_of (IndexE 4 (NameE 4 (codes "d")) (TextE 4 (codes "args")) ∷ [])) ∷ []))
+    ∷ []))
     ∷ [])))) ∷ [])) ∷ [])) ∷ [])
 
 abbrev pub Children : Type 0
@@ -220,24 +220,24 @@ ChildAsks = asked (held (codes "X") 101 child_asks ∷ []) [] (codes "X") 6000 [
 abbrev pub child_errors : Block
 child_errors = stats_of (ReturnS 1 (exps_of (TableE 1 (fields_of (Pair (TextE 1 (codes "f")) (FunctionE 1 (Lambda (codes "frame" ∷ []) false (stats_of (
     LocalFunctionS 2 (codes "e") (Lambda (codes "t" ∷ []) false (stats_of (ReturnS 2 (exps_of (BinaryE 2 op.Concat (CallE 2 (NameE 2 (codes "select")) (exps_of (
-        NumberE 2 (pos 2)
-        ∷ CallE 2 (NameE 2 (codes "pcall")) (exps_of (IndexE 2 (NameE 2 (codes "frame")) (TextE 2 (codes "newChild")) ∷ NameE 2 (codes "frame") ∷ NameE 2 (codes "t") ∷ []))
-        ∷ []))) (TextE 2 (codes ";")) ∷ [])) ∷ [])))
+    NumberE 2 (pos 2)
+    ∷ CallE 2 (NameE 2 (codes "pcall")) (exps_of (IndexE 2 (NameE 2 (codes "frame")) (TextE 2 (codes "newChild")) ∷ NameE 2 (codes "frame") ∷ NameE 2 (codes "t") ∷ []))
+    ∷ []))) (TextE 2 (codes ";")) ∷ [])) ∷ [])))
     ∷ ReturnS 3 (exps_of (
-        CallE 3 (NameE 3 (codes "e")) NoExp
-        ∷ CallE 3 (NameE 3 (codes "e")) (exps_of (TableE 3 (fields_of (Pair (TextE 3 (codes "title")) (TableE 3 NoField) ∷ [])) ∷ []))
-        ∷ CallE 3 (NameE 3 (codes "e")) (exps_of (TableE 3 (fields_of (Pair (TextE 3 (codes "args")) (NumberE 3 (pos 1)) ∷ [])) ∷ []))
-        ∷ CallE 3 (NameE 3 (codes "e")) (exps_of (TableE 3 (fields_of (
-            Pair (TextE 3 (codes "title")) (TextE 3 (codes "a|b"))
-            ∷ Pair (TextE 3 (codes "args")) (TableE 3 (fields_of (Pair (TrueE 3) (NumberE 3 (pos 1)) ∷ [])))
-            ∷ [])) ∷ []))
-        ∷ CallE 3 (NameE 3 (codes "e")) (exps_of (
-            TableE 3 (fields_of (Pair (TextE 3 (codes "args")) (TableE 3 (fields_of (Pair (TrueE 3) (NumberE 3 (pos 1)) ∷ []))) ∷ []))
-            ∷ []))
-        ∷ MethodE 3 (MethodE 3 (NameE 3 (codes "frame")) (codes "newChild") (exps_of (
-            TableE 3 (fields_of (Pair (TextE 3 (codes "title")) (NumberE 3 (pos 1)) ∷ Pair (TextE 3 (codes "args")) (TableE 3 NoField) ∷ []))
-            ∷ []))) (codes "getTitle") NoExp
-        ∷ []))
+    CallE 3 (NameE 3 (codes "e")) NoExp
+    ∷ CallE 3 (NameE 3 (codes "e")) (exps_of (TableE 3 (fields_of (Pair (TextE 3 (codes "title")) (TableE 3 NoField) ∷ [])) ∷ []))
+    ∷ CallE 3 (NameE 3 (codes "e")) (exps_of (TableE 3 (fields_of (Pair (TextE 3 (codes "args")) (NumberE 3 (pos 1)) ∷ [])) ∷ []))
+    ∷ CallE 3 (NameE 3 (codes "e")) (exps_of (TableE 3 (fields_of (
+    Pair (TextE 3 (codes "title")) (TextE 3 (codes "a|b"))
+    ∷ Pair (TextE 3 (codes "args")) (TableE 3 (fields_of (Pair (TrueE 3) (NumberE 3 (pos 1)) ∷ [])))
+    ∷ [])) ∷ []))
+    ∷ CallE 3 (NameE 3 (codes "e")) (exps_of (
+    TableE 3 (fields_of (Pair (TextE 3 (codes "args")) (TableE 3 (fields_of (Pair (TrueE 3) (NumberE 3 (pos 1)) ∷ []))) ∷ []))
+    ∷ []))
+    ∷ MethodE 3 (MethodE 3 (NameE 3 (codes "frame")) (codes "newChild") (exps_of (
+    TableE 3 (fields_of (Pair (TextE 3 (codes "title")) (NumberE 3 (pos 1)) ∷ Pair (TextE 3 (codes "args")) (TableE 3 NoField) ∷ []))
+    ∷ []))) (codes "getTitle") NoExp
+    ∷ []))
     ∷ [])))) ∷ [])) ∷ [])) ∷ [])
 
 abbrev pub ChildErrors : Type 0
@@ -255,16 +255,16 @@ single_arguments = stats_of (ReturnS 1 (exps_of (TableE 1 (fields_of (Pair (Text
     LocalS 2 (codes "a" ∷ []) (exps_of (MethodE 2 (NameE 2 (codes "frame")) (codes "getArgument") (exps_of (TextE 2 (codes "n") ∷ [])) ∷ []))
     ∷ LocalS 3 (codes "s" ∷ []) (exps_of (TextE 3 [] ∷ []))
     ∷ EachS 4 (codes "k" ∷ []) (exps_of (NameE 4 (codes "next") ∷ NameE 4 (codes "a") ∷ [])) (stats_of (
-        AssignS 4 (exps_of (NameE 4 (codes "s") ∷ [])) (exps_of (BinaryE 4 op.Concat (NameE 4 (codes "s")) (NameE 4 (codes "k")) ∷ []))
-        ∷ []))
+    AssignS 4 (exps_of (NameE 4 (codes "s") ∷ [])) (exps_of (BinaryE 4 op.Concat (NameE 4 (codes "s")) (NameE 4 (codes "k")) ∷ []))
+    ∷ []))
     ∷ ReturnS 5 (exps_of (
-        NameE 5 (codes "s")
-        ∷ IndexE 5 (NameE 5 (codes "a")) (TextE 5 (codes "value"))
-        ∷ MethodE 5 (NameE 5 (codes "a")) (codes "expand") NoExp
-        ∷ CallE 5 (NameE 5 (codes "tostring")) (exps_of (MethodE 5 (NameE 5 (codes "frame")) (codes "getArgument") (exps_of (TextE 5 (codes "m") ∷ [])) ∷ []))
-        ∷ IndexE 5 (MethodE 5 (NameE 5 (codes "frame")) (codes "getArgument") (exps_of (TableE 5 (fields_of (Pair (TextE 5 (codes "name")) (NumberE 5 (pos 1)) ∷ [])) ∷ []))) (TextE 5 (codes "value"))
-        ∷ CallE 5 (IndexE 5 (NameE 5 (codes "a")) (TextE 5 (codes "expand"))) (exps_of (TableE 5 (fields_of (Pair (TextE 5 (codes "value")) (NumberE 5 (pos 5)) ∷ [])) ∷ []))
-        ∷ []))
+    NameE 5 (codes "s")
+    ∷ IndexE 5 (NameE 5 (codes "a")) (TextE 5 (codes "value"))
+    ∷ MethodE 5 (NameE 5 (codes "a")) (codes "expand") NoExp
+    ∷ CallE 5 (NameE 5 (codes "tostring")) (exps_of (MethodE 5 (NameE 5 (codes "frame")) (codes "getArgument") (exps_of (TextE 5 (codes "m") ∷ [])) ∷ []))
+    ∷ IndexE 5 (MethodE 5 (NameE 5 (codes "frame")) (codes "getArgument") (exps_of (TableE 5 (fields_of (Pair (TextE 5 (codes "name")) (NumberE 5 (pos 1)) ∷ [])) ∷ []))) (TextE 5 (codes "value"))
+    ∷ CallE 5 (IndexE 5 (NameE 5 (codes "a")) (TextE 5 (codes "expand"))) (exps_of (TableE 5 (fields_of (Pair (TextE 5 (codes "value")) (NumberE 5 (pos 5)) ∷ [])) ∷ []))
+    ∷ []))
     ∷ [])))) ∷ [])) ∷ [])) ∷ [])
 
 abbrev pub SingleArguments : Type 0
@@ -293,19 +293,19 @@ abbrev pub walks_arguments : Block
 walks_arguments = stats_of (ReturnS 1 (exps_of (TableE 1 (fields_of (Pair (TextE 1 (codes "f")) (FunctionE 1 (Lambda (codes "frame" ∷ []) false (stats_of (
     LocalS 2 (codes "s" ∷ []) (exps_of (TextE 2 [] ∷ []))
     ∷ EachS 3 (codes "k" ∷ codes "v" ∷ []) (exps_of (MethodE 3 (NameE 3 (codes "frame")) (codes "argumentPairs") NoExp ∷ [])) (stats_of (AssignS 3 (exps_of (NameE 3 (codes "s") ∷ [])) (exps_of (
-        BinaryE 3 op.Concat (NameE 3 (codes "s")) (BinaryE 3 op.Concat (CallE 3 (NameE 3 (codes "type")) (exps_of (NameE 3 (codes "k") ∷ []))) (BinaryE 3 op.Concat (NameE 3 (codes "k")) (NameE 3 (codes "v"))))
-        ∷ [])) ∷ []))
+    BinaryE 3 op.Concat (NameE 3 (codes "s")) (BinaryE 3 op.Concat (CallE 3 (NameE 3 (codes "type")) (exps_of (NameE 3 (codes "k") ∷ []))) (BinaryE 3 op.Concat (NameE 3 (codes "k")) (NameE 3 (codes "v"))))
+    ∷ [])) ∷ []))
     ∷ AssignS 4 (exps_of (IndexE 4 (NameE 4 (codes "frame")) (TextE 4 (codes "args")) ∷ [])) (exps_of (NilE 4 ∷ []))
     ∷ ReturnS 5 (exps_of (
-        NameE 5 (codes "s")
-        ∷ UnaryE 5 sign.Len (IndexE 5 (ParenE 5 (MethodE 5 (NameE 5 (codes "frame")) (codes "newChild") (exps_of (TableE 5 (fields_of (
-            Pair (TextE 5 (codes "args")) (TableE 5 (fields_of (Item (NumberE 5 (pos 5)) ∷ Item (NumberE 5 (pos 6)) ∷ Item (NumberE 5 (pos 7)) ∷ [])))
-            ∷ [])) ∷ [])))) (TextE 5 (codes "args")))
-        ∷ CallE 5 (NameE 5 (codes "select")) (exps_of (
-            NumberE 5 (pos 2)
-            ∷ CallE 5 (NameE 5 (codes "pcall")) (exps_of (IndexE 5 (NameE 5 (codes "frame")) (TextE 5 (codes "argumentPairs")) ∷ NameE 5 (codes "frame") ∷ []))
-            ∷ []))
-        ∷ []))
+    NameE 5 (codes "s")
+    ∷ UnaryE 5 sign.Len (IndexE 5 (ParenE 5 (MethodE 5 (NameE 5 (codes "frame")) (codes "newChild") (exps_of (TableE 5 (fields_of (
+    Pair (TextE 5 (codes "args")) (TableE 5 (fields_of (Item (NumberE 5 (pos 5)) ∷ Item (NumberE 5 (pos 6)) ∷ Item (NumberE 5 (pos 7)) ∷ [])))
+    ∷ [])) ∷ [])))) (TextE 5 (codes "args")))
+    ∷ CallE 5 (NameE 5 (codes "select")) (exps_of (
+    NumberE 5 (pos 2)
+    ∷ CallE 5 (NameE 5 (codes "pcall")) (exps_of (IndexE 5 (NameE 5 (codes "frame")) (TextE 5 (codes "argumentPairs")) ∷ NameE 5 (codes "frame") ∷ []))
+    ∷ []))
+    ∷ []))
     ∷ [])))) ∷ [])) ∷ [])) ∷ [])
 
 abbrev pub WalksArguments : Type 0
@@ -320,14 +320,14 @@ abbrev pub long_names : Block
 long_names = stats_of (ReturnS 1 (exps_of (TableE 1 (fields_of (Pair (TextE 1 (codes "f")) (FunctionE 1 (Lambda (codes "frame" ∷ []) false (stats_of (
     LocalS 2 (codes "a" ∷ []) (exps_of (IndexE 2 (NameE 2 (codes "frame")) (TextE 2 (codes "args")) ∷ []))
     ∷ ReturnS 3 (exps_of (
-        IndexE 3 (NameE 3 (codes "a")) (NumberE 3 (pos 123456789012345678))
-        ∷ IndexE 3 (NameE 3 (codes "a")) (TextE 3 (codes "123456789012345678"))
-        ∷ CallE 3 (NameE 3 (codes "tostring")) (exps_of (IndexE 3 (NameE 3 (codes "a")) (NumberE 3 (pos 1234567890123456789)) ∷ []))
-        ∷ IndexE 3 (NameE 3 (codes "a")) (TextE 3 (codes "1234567890123456789"))
-        ∷ CallE 3 (NameE 3 (codes "tostring")) (exps_of (IndexE 3 (NameE 3 (codes "a")) (NumberE 3 (pos 1)) ∷ []))
-        ∷ IndexE 3 (NameE 3 (codes "a")) (TextE 3 (codes "01"))
-        ∷ CallE 3 (NameE 3 (codes "tostring")) (exps_of (IndexE 3 (NameE 3 (codes "a")) (TextE 3 (codes "1")) ∷ []))
-        ∷ []))
+    IndexE 3 (NameE 3 (codes "a")) (NumberE 3 (pos 123456789012345678))
+    ∷ IndexE 3 (NameE 3 (codes "a")) (TextE 3 (codes "123456789012345678"))
+    ∷ CallE 3 (NameE 3 (codes "tostring")) (exps_of (IndexE 3 (NameE 3 (codes "a")) (NumberE 3 (pos 1234567890123456789)) ∷ []))
+    ∷ IndexE 3 (NameE 3 (codes "a")) (TextE 3 (codes "1234567890123456789"))
+    ∷ CallE 3 (NameE 3 (codes "tostring")) (exps_of (IndexE 3 (NameE 3 (codes "a")) (NumberE 3 (pos 1)) ∷ []))
+    ∷ IndexE 3 (NameE 3 (codes "a")) (TextE 3 (codes "01"))
+    ∷ CallE 3 (NameE 3 (codes "tostring")) (exps_of (IndexE 3 (NameE 3 (codes "a")) (TextE 3 (codes "1")) ∷ []))
+    ∷ []))
     ∷ [])))) ∷ [])) ∷ [])) ∷ [])
 
 abbrev pub LongNames : Type 0
@@ -344,14 +344,14 @@ abbrev pub frames_keep_arguments : Block
 frames_keep_arguments = stats_of (ReturnS 1 (exps_of (TableE 1 (fields_of (Pair (TextE 1 (codes "f")) (FunctionE 1 (Lambda (codes "frame" ∷ []) false (stats_of (
     AssignS 2 (exps_of (IndexE 2 (IndexE 2 (NameE 2 (codes "frame")) (TextE 2 (codes "args"))) (TextE 2 (codes "n")) ∷ [])) (exps_of (TextE 2 (codes "z") ∷ []))
     ∷ LocalS 3 (codes "kept" ∷ []) (exps_of (
-        IndexE 3 (MethodE 3 (NameE 3 (codes "frame")) (codes "getArgument") (exps_of (TextE 3 (codes "n") ∷ []))) (TextE 3 (codes "value"))
-        ∷ []))
+    IndexE 3 (MethodE 3 (NameE 3 (codes "frame")) (codes "getArgument") (exps_of (TextE 3 (codes "n") ∷ []))) (TextE 3 (codes "value"))
+    ∷ []))
     ∷ AssignS 4 (exps_of (IndexE 4 (NameE 4 (codes "frame")) (TextE 4 (codes "getTitle")) ∷ [])) (exps_of (NilE 4 ∷ []))
     ∷ ReturnS 5 (exps_of (
-        IndexE 5 (IndexE 5 (NameE 5 (codes "frame")) (TextE 5 (codes "args"))) (TextE 5 (codes "n"))
-        ∷ NameE 5 (codes "kept")
-        ∷ IndexE 5 (IndexE 5 (CallE 5 (IndexE 5 (NameE 5 (codes "mw")) (TextE 5 (codes "getCurrentFrame"))) NoExp) (TextE 5 (codes "args"))) (TextE 5 (codes "n"))
-        ∷ []))
+    IndexE 5 (IndexE 5 (NameE 5 (codes "frame")) (TextE 5 (codes "args"))) (TextE 5 (codes "n"))
+    ∷ NameE 5 (codes "kept")
+    ∷ IndexE 5 (IndexE 5 (CallE 5 (IndexE 5 (NameE 5 (codes "mw")) (TextE 5 (codes "getCurrentFrame"))) NoExp) (TextE 5 (codes "args"))) (TextE 5 (codes "n"))
+    ∷ []))
     ∷ [])))) ∷ [])) ∷ [])) ∷ [])
 
 abbrev pub FramesKeepArguments : Type 0
@@ -376,18 +376,18 @@ QuestionsKeepArguments = asked (held (codes "X") 77 questions_keep_arguments ∷
 abbrev pub numbered_frames : Block
 numbered_frames = stats_of (ReturnS 1 (exps_of (TableE 1 (fields_of (Pair (TextE 1 (codes "f")) (FunctionE 1 (Lambda (codes "frame" ∷ []) false (stats_of (
     LocalS 2 (codes "copy" ∷ []) (exps_of (
-        CallE 2 (NameE 2 (codes "setmetatable")) (exps_of (TableE 2 NoField ∷ TableE 2 (fields_of (Item (NumberE 2 (pos 0)) ∷ [])) ∷ []))
-        ∷ []))
+    CallE 2 (NameE 2 (codes "setmetatable")) (exps_of (TableE 2 NoField ∷ TableE 2 (fields_of (Item (NumberE 2 (pos 0)) ∷ [])) ∷ []))
+    ∷ []))
     ∷ ReturnS 3 (exps_of (
-        CallE 3 (IndexE 3 (NameE 3 (codes "frame")) (TextE 3 (codes "getTitle"))) (exps_of (NameE 3 (codes "copy") ∷ []))
-        ∷ CallE 3 (NameE 3 (codes "tostring")) (exps_of (
-            BinaryE 3 op.Eq (NameE 3 (codes "frame")) (CallE 3 (IndexE 3 (NameE 3 (codes "mw")) (TextE 3 (codes "getCurrentFrame"))) NoExp)
-            ∷ []))
-        ∷ CallE 3 (NameE 3 (codes "tostring")) (exps_of (CallE 3 (NameE 3 (codes "getmetatable")) (exps_of (NameE 3 (codes "frame") ∷ [])) ∷ []))
-        ∷ CallE 3 (NameE 3 (codes "tostring")) (exps_of (
-            CallE 3 (NameE 3 (codes "getmetatable")) (exps_of (IndexE 3 (NameE 3 (codes "frame")) (TextE 3 (codes "args")) ∷ []))
-            ∷ []))
-        ∷ []))
+    CallE 3 (IndexE 3 (NameE 3 (codes "frame")) (TextE 3 (codes "getTitle"))) (exps_of (NameE 3 (codes "copy") ∷ []))
+    ∷ CallE 3 (NameE 3 (codes "tostring")) (exps_of (
+    BinaryE 3 op.Eq (NameE 3 (codes "frame")) (CallE 3 (IndexE 3 (NameE 3 (codes "mw")) (TextE 3 (codes "getCurrentFrame"))) NoExp)
+    ∷ []))
+    ∷ CallE 3 (NameE 3 (codes "tostring")) (exps_of (CallE 3 (NameE 3 (codes "getmetatable")) (exps_of (NameE 3 (codes "frame") ∷ [])) ∷ []))
+    ∷ CallE 3 (NameE 3 (codes "tostring")) (exps_of (
+    CallE 3 (NameE 3 (codes "getmetatable")) (exps_of (IndexE 3 (NameE 3 (codes "frame")) (TextE 3 (codes "args")) ∷ []))
+    ∷ []))
+    ∷ []))
     ∷ [])))) ∷ [])) ∷ [])) ∷ [])
 
 abbrev pub NumberedFrames : Type 0
@@ -407,22 +407,22 @@ abbrev pub copied_frames : Block
 copied_frames = stats_of (ReturnS 1 (exps_of (TableE 1 (fields_of (Pair (TextE 1 (codes "f")) (FunctionE 1 (Lambda (codes "frame" ∷ []) false (stats_of (
     LocalS 2 (codes "c" ∷ []) (exps_of (CallE 2 (IndexE 2 (NameE 2 (codes "mw")) (TextE 2 (codes "clone"))) (exps_of (NameE 2 (codes "frame") ∷ [])) ∷ []))
     ∷ LocalS 3 (codes "d" ∷ []) (exps_of (CallE 3 (IndexE 3 (NameE 3 (codes "mw")) (TextE 3 (codes "clone"))) (exps_of (
-        CallE 3 (IndexE 3 (NameE 3 (codes "mw")) (TextE 3 (codes "loadData"))) (exps_of (TextE 3 (codes "Module:D") ∷ []))
-        ∷ [])) ∷ []))
+    CallE 3 (IndexE 3 (NameE 3 (codes "mw")) (TextE 3 (codes "loadData"))) (exps_of (TextE 3 (codes "Module:D") ∷ []))
+    ∷ [])) ∷ []))
     ∷ AssignS 4 (exps_of (IndexE 4 (NameE 4 (codes "d")) (TextE 4 (codes "x")) ∷ [])) (exps_of (TextE 4 (codes "w") ∷ []))
     ∷ LocalS 5 (codes "t" ∷ []) (exps_of (TableE 5 NoField ∷ []))
     ∷ AssignS 6 (exps_of (IndexE 6 (NameE 6 (codes "t")) (TextE 6 (codes "a")) ∷ [])) (exps_of (NameE 6 (codes "t") ∷ []))
     ∷ LocalS 7 (codes "e" ∷ []) (exps_of (CallE 7 (IndexE 7 (NameE 7 (codes "mw")) (TextE 7 (codes "clone"))) (exps_of (NameE 7 (codes "t") ∷ [])) ∷ []))
     ∷ ReturnS 8 (exps_of (
-        MethodE 8 (NameE 8 (codes "c")) (codes "getTitle") NoExp
-        ∷ CallE 8 (NameE 8 (codes "tostring")) (exps_of (BinaryE 8 op.Eq (NameE 8 (codes "c")) (NameE 8 (codes "frame")) ∷ []))
-        ∷ IndexE 8 (IndexE 8 (NameE 8 (codes "c")) (TextE 8 (codes "args"))) (NumberE 8 (pos 1))
-        ∷ IndexE 8 (IndexE 8 (NameE 8 (codes "c")) (TextE 8 (codes "args"))) (TextE 8 (codes "1"))
-        ∷ IndexE 8 (NameE 8 (codes "d")) (TextE 8 (codes "x"))
-        ∷ CallE 8 (NameE 8 (codes "tostring")) (exps_of (BinaryE 8 op.Eq (IndexE 8 (NameE 8 (codes "e")) (TextE 8 (codes "a"))) (NameE 8 (codes "e")) ∷ []))
-        ∷ CallE 8 (NameE 8 (codes "tostring")) (exps_of (BinaryE 8 op.Eq (NameE 8 (codes "e")) (NameE 8 (codes "t")) ∷ []))
-        ∷ CallE 8 (IndexE 8 (NameE 8 (codes "mw")) (TextE 8 (codes "clone"))) (exps_of (NumberE 8 (pos 5) ∷ []))
-        ∷ []))
+    MethodE 8 (NameE 8 (codes "c")) (codes "getTitle") NoExp
+    ∷ CallE 8 (NameE 8 (codes "tostring")) (exps_of (BinaryE 8 op.Eq (NameE 8 (codes "c")) (NameE 8 (codes "frame")) ∷ []))
+    ∷ IndexE 8 (IndexE 8 (NameE 8 (codes "c")) (TextE 8 (codes "args"))) (NumberE 8 (pos 1))
+    ∷ IndexE 8 (IndexE 8 (NameE 8 (codes "c")) (TextE 8 (codes "args"))) (TextE 8 (codes "1"))
+    ∷ IndexE 8 (NameE 8 (codes "d")) (TextE 8 (codes "x"))
+    ∷ CallE 8 (NameE 8 (codes "tostring")) (exps_of (BinaryE 8 op.Eq (IndexE 8 (NameE 8 (codes "e")) (TextE 8 (codes "a"))) (NameE 8 (codes "e")) ∷ []))
+    ∷ CallE 8 (NameE 8 (codes "tostring")) (exps_of (BinaryE 8 op.Eq (NameE 8 (codes "e")) (NameE 8 (codes "t")) ∷ []))
+    ∷ CallE 8 (IndexE 8 (NameE 8 (codes "mw")) (TextE 8 (codes "clone"))) (exps_of (NumberE 8 (pos 5) ∷ []))
+    ∷ []))
     ∷ [])))) ∷ [])) ∷ [])) ∷ [])
 
 abbrev pub CopiedFrames : Type 0
@@ -449,19 +449,19 @@ CloneCosts = (asked (held (codes "X") 69 clone_costs ∷ []) [] (codes "X") 1173
 abbrev pub no_frame : Block
 no_frame = stats_of (ReturnS 1 (exps_of (TableE 1 (fields_of (Pair (TextE 1 (codes "f")) (FunctionE 1 (Lambda (codes "frame" ∷ []) false (stats_of (
     LocalFunctionS 2 (codes "e") (Lambda (codes "f" ∷ []) true (stats_of (ReturnS 2 (exps_of (
-        BinaryE 2 op.Concat (CallE 2 (NameE 2 (codes "select")) (exps_of (NumberE 2 (pos 2) ∷ CallE 2 (NameE 2 (codes "pcall")) (exps_of (NameE 2 (codes "f") ∷ DotsE 2 ∷ [])) ∷ []))) (TextE 2 (codes ";"))
-        ∷ [])) ∷ [])))
+    BinaryE 2 op.Concat (CallE 2 (NameE 2 (codes "select")) (exps_of (NumberE 2 (pos 2) ∷ CallE 2 (NameE 2 (codes "pcall")) (exps_of (NameE 2 (codes "f") ∷ DotsE 2 ∷ [])) ∷ []))) (TextE 2 (codes ";"))
+    ∷ [])) ∷ [])))
     ∷ ReturnS 3 (exps_of (
-        CallE 3 (NameE 3 (codes "e")) (exps_of (IndexE 3 (NameE 3 (codes "frame")) (TextE 3 (codes "getTitle")) ∷ TableE 3 NoField ∷ []))
-        ∷ CallE 3 (NameE 3 (codes "e")) (exps_of (IndexE 3 (NameE 3 (codes "frame")) (TextE 3 (codes "getParent")) ∷ []))
-        ∷ CallE 3 (NameE 3 (codes "e")) (exps_of (
-            IndexE 3 (NameE 3 (codes "frame")) (TextE 3 (codes "preprocess"))
-            ∷ CallE 3 (NameE 3 (codes "setmetatable")) (exps_of (TableE 3 NoField ∷ TableE 3 (fields_of (Item (NumberE 3 (pos 1)) ∷ [])) ∷ []))
-            ∷ TextE 3 (codes "x")
-            ∷ []))
-        ∷ CallE 3 (NameE 3 (codes "e")) (exps_of (IndexE 3 (NameE 3 (codes "frame")) (TextE 3 (codes "preprocess")) ∷ NameE 3 (codes "frame") ∷ TableE 3 NoField ∷ []))
-        ∷ CallE 3 (NameE 3 (codes "e")) (exps_of (IndexE 3 (NameE 3 (codes "frame")) (TextE 3 (codes "getArgument")) ∷ NameE 3 (codes "frame") ∷ []))
-        ∷ []))
+    CallE 3 (NameE 3 (codes "e")) (exps_of (IndexE 3 (NameE 3 (codes "frame")) (TextE 3 (codes "getTitle")) ∷ TableE 3 NoField ∷ []))
+    ∷ CallE 3 (NameE 3 (codes "e")) (exps_of (IndexE 3 (NameE 3 (codes "frame")) (TextE 3 (codes "getParent")) ∷ []))
+    ∷ CallE 3 (NameE 3 (codes "e")) (exps_of (
+    IndexE 3 (NameE 3 (codes "frame")) (TextE 3 (codes "preprocess"))
+    ∷ CallE 3 (NameE 3 (codes "setmetatable")) (exps_of (TableE 3 NoField ∷ TableE 3 (fields_of (Item (NumberE 3 (pos 1)) ∷ [])) ∷ []))
+    ∷ TextE 3 (codes "x")
+    ∷ []))
+    ∷ CallE 3 (NameE 3 (codes "e")) (exps_of (IndexE 3 (NameE 3 (codes "frame")) (TextE 3 (codes "preprocess")) ∷ NameE 3 (codes "frame") ∷ TableE 3 NoField ∷ []))
+    ∷ CallE 3 (NameE 3 (codes "e")) (exps_of (IndexE 3 (NameE 3 (codes "frame")) (TextE 3 (codes "getArgument")) ∷ NameE 3 (codes "frame") ∷ []))
+    ∷ []))
     ∷ [])))) ∷ [])) ∷ [])) ∷ [])
 
 abbrev pub NoFrame : Type 0
@@ -474,18 +474,18 @@ NoFrame = without_steps (asked (held (codes "X") 241 no_frame ∷ []) [] (codes 
 abbrev pub tags : Block
 tags = stats_of (ReturnS 1 (exps_of (TableE 1 (fields_of (Pair (TextE 1 (codes "f")) (FunctionE 1 (Lambda (codes "frame" ∷ []) false (stats_of (ReturnS 2 (exps_of (
     MethodE 2 (NameE 2 (codes "frame")) (codes "extensionTag") (exps_of (
-        TextE 2 (codes "b")
-        ∷ TextE 2 (codes "t")
-        ∷ TableE 2 (fields_of (
-            Pair (TextE 2 (codes "x")) (NumberE 2 (pos 1))
-            ∷ Pair (TextE 2 (codes "y")) (TextE 2 (codes "a<\"b"))
-            ∷ Pair (TextE 2 (codes "z")) (TrueE 2)
-            ∷ Pair (TextE 2 (codes "w")) (FalseE 2)
-            ∷ []))
-        ∷ []))
+    TextE 2 (codes "b")
+    ∷ TextE 2 (codes "t")
+    ∷ TableE 2 (fields_of (
+    Pair (TextE 2 (codes "x")) (NumberE 2 (pos 1))
+    ∷ Pair (TextE 2 (codes "y")) (TextE 2 (codes "a<\"b"))
+    ∷ Pair (TextE 2 (codes "z")) (TrueE 2)
+    ∷ Pair (TextE 2 (codes "w")) (FalseE 2)
+    ∷ []))
+    ∷ []))
     ∷ MethodE 2 (NameE 2 (codes "frame")) (codes "extensionTag") (exps_of (
-        TableE 2 (fields_of (Pair (TextE 2 (codes "name")) (TextE 2 (codes "i")) ∷ Pair (TextE 2 (codes "content")) (NumberE 2 (pos 5)) ∷ []))
-        ∷ []))
+    TableE 2 (fields_of (Pair (TextE 2 (codes "name")) (TextE 2 (codes "i")) ∷ Pair (TextE 2 (codes "content")) (NumberE 2 (pos 5)) ∷ []))
+    ∷ []))
     ∷ MethodE 2 (NameE 2 (codes "frame")) (codes "extensionTag") (exps_of (TextE 2 (codes "br") ∷ []))
     ∷ MethodE 2 (NameE 2 (codes "frame")) (codes "extensionTag") (exps_of (TextE 2 (codes "hr") ∷ FalseE 2 ∷ []))
     ∷ [])) ∷ [])))) ∷ [])) ∷ [])) ∷ [])
@@ -501,20 +501,20 @@ Tags = without_steps (asked (held (codes "X") 190 tags ∷ []) [] (codes "X") 60
 abbrev pub bad_tags : Block
 bad_tags = stats_of (ReturnS 1 (exps_of (TableE 1 (fields_of (Pair (TextE 1 (codes "f")) (FunctionE 1 (Lambda (codes "frame" ∷ []) false (stats_of (
     LocalFunctionS 2 (codes "e") (Lambda [] true (stats_of (ReturnS 2 (exps_of (BinaryE 2 op.Concat (CallE 2 (NameE 2 (codes "select")) (exps_of (
-        NumberE 2 (pos 2)
-        ∷ CallE 2 (NameE 2 (codes "pcall")) (exps_of (IndexE 2 (NameE 2 (codes "frame")) (TextE 2 (codes "extensionTag")) ∷ NameE 2 (codes "frame") ∷ DotsE 2 ∷ []))
-        ∷ []))) (TextE 2 (codes ";")) ∷ [])) ∷ [])))
+    NumberE 2 (pos 2)
+    ∷ CallE 2 (NameE 2 (codes "pcall")) (exps_of (IndexE 2 (NameE 2 (codes "frame")) (TextE 2 (codes "extensionTag")) ∷ NameE 2 (codes "frame") ∷ DotsE 2 ∷ []))
+    ∷ []))) (TextE 2 (codes ";")) ∷ [])) ∷ [])))
     ∷ ReturnS 3 (exps_of (
-        CallE 3 (NameE 3 (codes "e")) NoExp
-        ∷ CallE 3 (NameE 3 (codes "e")) (exps_of (TextE 3 (codes "b") ∷ TextE 3 (codes "t") ∷ NumberE 3 (pos 1) ∷ []))
-        ∷ CallE 3 (NameE 3 (codes "e")) (exps_of (TextE 3 (codes "b") ∷ TextE 3 (codes "t") ∷ TableE 3 (fields_of (Pair (TrueE 3) (NumberE 3 (pos 1)) ∷ [])) ∷ []))
-        ∷ CallE 3 (NameE 3 (codes "e")) (exps_of (
-            TextE 3 (codes "b")
-            ∷ TextE 3 (codes "t")
-            ∷ TableE 3 (fields_of (Pair (TextE 3 (codes "a")) (TableE 3 NoField) ∷ []))
-            ∷ []))
-        ∷ CallE 3 (NameE 3 (codes "e")) (exps_of (TextE 3 (codes "b") ∷ TrueE 3 ∷ []))
-        ∷ []))
+    CallE 3 (NameE 3 (codes "e")) NoExp
+    ∷ CallE 3 (NameE 3 (codes "e")) (exps_of (TextE 3 (codes "b") ∷ TextE 3 (codes "t") ∷ NumberE 3 (pos 1) ∷ []))
+    ∷ CallE 3 (NameE 3 (codes "e")) (exps_of (TextE 3 (codes "b") ∷ TextE 3 (codes "t") ∷ TableE 3 (fields_of (Pair (TrueE 3) (NumberE 3 (pos 1)) ∷ [])) ∷ []))
+    ∷ CallE 3 (NameE 3 (codes "e")) (exps_of (
+    TextE 3 (codes "b")
+    ∷ TextE 3 (codes "t")
+    ∷ TableE 3 (fields_of (Pair (TextE 3 (codes "a")) (TableE 3 NoField) ∷ []))
+    ∷ []))
+    ∷ CallE 3 (NameE 3 (codes "e")) (exps_of (TextE 3 (codes "b") ∷ TrueE 3 ∷ []))
+    ∷ []))
     ∷ [])))) ∷ [])) ∷ [])) ∷ [])
 
 abbrev pub BadTags : Type 0
@@ -543,10 +543,10 @@ abbrev pub current_title : Block
 current_title = stats_of (ReturnS 1 (exps_of (TableE 1 (fields_of (Pair (TextE 1 (codes "f")) (FunctionE 1 (Lambda (codes "frame" ∷ []) false (stats_of (
     LocalS 2 (codes "s" ∷ []) (exps_of (TextE 2 [] ∷ []))
     ∷ EachS 3 (codes "k" ∷ codes "v" ∷ []) (exps_of (CallE 3 (NameE 3 (codes "pairs")) (exps_of (
-        CallE 3 (IndexE 3 (IndexE 3 (NameE 3 (codes "mw")) (TextE 3 (codes "title"))) (TextE 3 (codes "getCurrentTitle"))) NoExp
-        ∷ [])) ∷ [])) (stats_of (AssignS 3 (exps_of (NameE 3 (codes "s") ∷ [])) (exps_of (
-        BinaryE 3 op.Concat (NameE 3 (codes "s")) (BinaryE 3 op.Concat (NameE 3 (codes "k")) (BinaryE 3 op.Concat (TextE 3 (codes "=")) (BinaryE 3 op.Concat (NameE 3 (codes "v")) (TextE 3 (codes ";")))))
-        ∷ [])) ∷ []))
+    CallE 3 (IndexE 3 (IndexE 3 (NameE 3 (codes "mw")) (TextE 3 (codes "title"))) (TextE 3 (codes "getCurrentTitle"))) NoExp
+    ∷ [])) ∷ [])) (stats_of (AssignS 3 (exps_of (NameE 3 (codes "s") ∷ [])) (exps_of (
+    BinaryE 3 op.Concat (NameE 3 (codes "s")) (BinaryE 3 op.Concat (NameE 3 (codes "k")) (BinaryE 3 op.Concat (TextE 3 (codes "=")) (BinaryE 3 op.Concat (NameE 3 (codes "v")) (TextE 3 (codes ";")))))
+    ∷ [])) ∷ []))
     ∷ CallS 4 (CallE 4 (IndexE 4 (NameE 4 (codes "mw")) (TextE 4 (codes "log"))) (exps_of (NameE 4 (codes "s") ∷ [])))
     ∷ ReturnS 5 (exps_of (NameE 5 (codes "s") ∷ []))
     ∷ [])))) ∷ [])) ∷ [])) ∷ [])

@@ -24,15 +24,15 @@ use Rattle.lua_meaning.specs.Trial.{Gives, Fails, Spends, Loads, Asks, without_s
 abbrev pub counters : Block
 counters = stats_of (ReturnS 1 (exps_of (TableE 1 (fields_of (Pair (TextE 1 (codes "f")) (FunctionE 1 (Lambda [] true (stats_of (
     LocalFunctionS 2 (codes "make") (Lambda [] false (stats_of (
-        LocalS 2 (codes "n" ∷ []) (exps_of (NumberE 2 (pos 0) ∷ []))
-        ∷ ReturnS 2 (exps_of (
-            FunctionE 2 (Lambda [] false (stats_of (
-                AssignS 2 (exps_of (NameE 2 (codes "n") ∷ [])) (exps_of (BinaryE 2 op.Add (NameE 2 (codes "n")) (NumberE 2 (pos 1)) ∷ []))
-                ∷ ReturnS 2 (exps_of (NameE 2 (codes "n") ∷ []))
-                ∷ [])))
-            ∷ FunctionE 2 (Lambda [] false (stats_of (ReturnS 2 (exps_of (NameE 2 (codes "n") ∷ [])) ∷ [])))
-            ∷ []))
-        ∷ [])))
+    LocalS 2 (codes "n" ∷ []) (exps_of (NumberE 2 (pos 0) ∷ []))
+    ∷ ReturnS 2 (exps_of (
+    FunctionE 2 (Lambda [] false (stats_of (
+    AssignS 2 (exps_of (NameE 2 (codes "n") ∷ [])) (exps_of (BinaryE 2 op.Add (NameE 2 (codes "n")) (NumberE 2 (pos 1)) ∷ []))
+    ∷ ReturnS 2 (exps_of (NameE 2 (codes "n") ∷ []))
+    ∷ [])))
+    ∷ FunctionE 2 (Lambda [] false (stats_of (ReturnS 2 (exps_of (NameE 2 (codes "n") ∷ [])) ∷ [])))
+    ∷ []))
+    ∷ [])))
     ∷ LocalS 3 (codes "inc" ∷ codes "get" ∷ []) (exps_of (CallE 3 (NameE 3 (codes "make")) NoExp ∷ []))
     ∷ LocalS 4 (codes "other" ∷ []) (exps_of (CallE 4 (NameE 4 (codes "make")) NoExp ∷ []))
     ∷ CallS 5 (CallE 5 (NameE 5 (codes "inc")) NoExp)
@@ -56,18 +56,18 @@ while_cells = stats_of (ReturnS 1 (exps_of (TableE 1 (fields_of (Pair (TextE 1 (
     LocalS 2 (codes "fs" ∷ []) (exps_of (TableE 2 NoField ∷ []))
     ∷ LocalS 3 (codes "i" ∷ []) (exps_of (NumberE 3 (pos 1) ∷ []))
     ∷ WhileS 4 (BinaryE 4 op.Le (NameE 4 (codes "i")) (NumberE 4 (pos 2))) (stats_of (
-        LocalS 4 (codes "j" ∷ []) (exps_of (NameE 4 (codes "i") ∷ []))
-        ∷ AssignS 4 (exps_of (IndexE 4 (NameE 4 (codes "fs")) (NameE 4 (codes "i")) ∷ [])) (exps_of (FunctionE 4 (Lambda [] false (stats_of (
-            AssignS 4 (exps_of (NameE 4 (codes "j") ∷ [])) (exps_of (BinaryE 4 op.Add (NameE 4 (codes "j")) (NumberE 4 (pos 1)) ∷ []))
-            ∷ ReturnS 4 (exps_of (NameE 4 (codes "j") ∷ []))
-            ∷ []))) ∷ []))
-        ∷ AssignS 4 (exps_of (NameE 4 (codes "i") ∷ [])) (exps_of (BinaryE 4 op.Add (NameE 4 (codes "i")) (NumberE 4 (pos 1)) ∷ []))
-        ∷ []))
+    LocalS 4 (codes "j" ∷ []) (exps_of (NameE 4 (codes "i") ∷ []))
+    ∷ AssignS 4 (exps_of (IndexE 4 (NameE 4 (codes "fs")) (NameE 4 (codes "i")) ∷ [])) (exps_of (FunctionE 4 (Lambda [] false (stats_of (
+    AssignS 4 (exps_of (NameE 4 (codes "j") ∷ [])) (exps_of (BinaryE 4 op.Add (NameE 4 (codes "j")) (NumberE 4 (pos 1)) ∷ []))
+    ∷ ReturnS 4 (exps_of (NameE 4 (codes "j") ∷ []))
+    ∷ []))) ∷ []))
+    ∷ AssignS 4 (exps_of (NameE 4 (codes "i") ∷ [])) (exps_of (BinaryE 4 op.Add (NameE 4 (codes "i")) (NumberE 4 (pos 1)) ∷ []))
+    ∷ []))
     ∷ ReturnS 5 (exps_of (
-        CallE 5 (IndexE 5 (NameE 5 (codes "fs")) (NumberE 5 (pos 1))) NoExp
-        ∷ CallE 5 (IndexE 5 (NameE 5 (codes "fs")) (NumberE 5 (pos 1))) NoExp
-        ∷ CallE 5 (IndexE 5 (NameE 5 (codes "fs")) (NumberE 5 (pos 2))) NoExp
-        ∷ []))
+    CallE 5 (IndexE 5 (NameE 5 (codes "fs")) (NumberE 5 (pos 1))) NoExp
+    ∷ CallE 5 (IndexE 5 (NameE 5 (codes "fs")) (NumberE 5 (pos 1))) NoExp
+    ∷ CallE 5 (IndexE 5 (NameE 5 (codes "fs")) (NumberE 5 (pos 2))) NoExp
+    ∷ []))
     ∷ [])))) ∷ [])) ∷ [])) ∷ [])
 
 abbrev pub WhileCells : Type 0
@@ -81,14 +81,14 @@ abbrev pub protected : Block
 protected = stats_of (ReturnS 1 (exps_of (TableE 1 (fields_of (Pair (TextE 1 (codes "f")) (FunctionE 1 (Lambda [] true (stats_of (ReturnS 2 (exps_of (
     CallE 2 (NameE 2 (codes "tostring")) (exps_of (CallE 2 (NameE 2 (codes "pcall")) (exps_of (NameE 2 (codes "error") ∷ TextE 2 (codes "m") ∷ [])) ∷ []))
     ∷ CallE 2 (NameE 2 (codes "select")) (exps_of (
-        NumberE 2 (pos 2)
-        ∷ CallE 2 (NameE 2 (codes "pcall")) (exps_of (NameE 2 (codes "error") ∷ TextE 2 (codes "m") ∷ []))
-        ∷ []))
+    NumberE 2 (pos 2)
+    ∷ CallE 2 (NameE 2 (codes "pcall")) (exps_of (NameE 2 (codes "error") ∷ TextE 2 (codes "m") ∷ []))
+    ∷ []))
     ∷ CallE 2 (NameE 2 (codes "pcall")) (exps_of (
-        FunctionE 2 (Lambda [] true (stats_of (ReturnS 2 (exps_of (DotsE 2 ∷ [])) ∷ [])))
-        ∷ NumberE 2 (pos 1)
-        ∷ NumberE 2 (pos 2)
-        ∷ []))
+    FunctionE 2 (Lambda [] true (stats_of (ReturnS 2 (exps_of (DotsE 2 ∷ [])) ∷ [])))
+    ∷ NumberE 2 (pos 1)
+    ∷ NumberE 2 (pos 2)
+    ∷ []))
     ∷ [])) ∷ [])))) ∷ [])) ∷ [])) ∷ [])
 
 abbrev pub Protected : Type 0
@@ -107,12 +107,12 @@ values_as_errors = stats_of (ReturnS 1 (exps_of (TableE 1 (fields_of (Pair (Text
     ∷ LocalS 3 (codes "ok" ∷ codes "e" ∷ []) (exps_of (CallE 3 (NameE 3 (codes "pcall")) (exps_of (NameE 3 (codes "error") ∷ NameE 3 (codes "t") ∷ [])) ∷ []))
     ∷ LocalS 4 (codes "ok2" ∷ codes "e2" ∷ []) (exps_of (CallE 4 (NameE 4 (codes "pcall")) (exps_of (NameE 4 (codes "error") ∷ NumberE 4 (pos 42) ∷ [])) ∷ []))
     ∷ ReturnS 5 (exps_of (
-        CallE 5 (NameE 5 (codes "tostring")) (exps_of (BinaryE 5 op.Eq (NameE 5 (codes "e")) (NameE 5 (codes "t")) ∷ []))
-        ∷ CallE 5 (NameE 5 (codes "type")) (exps_of (NameE 5 (codes "e2") ∷ []))
-        ∷ CallE 5 (NameE 5 (codes "tostring")) (exps_of (
-            CallE 5 (NameE 5 (codes "select")) (exps_of (NumberE 5 (pos 2) ∷ CallE 5 (NameE 5 (codes "pcall")) (exps_of (NameE 5 (codes "error") ∷ [])) ∷ []))
-            ∷ []))
-        ∷ []))
+    CallE 5 (NameE 5 (codes "tostring")) (exps_of (BinaryE 5 op.Eq (NameE 5 (codes "e")) (NameE 5 (codes "t")) ∷ []))
+    ∷ CallE 5 (NameE 5 (codes "type")) (exps_of (NameE 5 (codes "e2") ∷ []))
+    ∷ CallE 5 (NameE 5 (codes "tostring")) (exps_of (
+    CallE 5 (NameE 5 (codes "select")) (exps_of (NumberE 5 (pos 2) ∷ CallE 5 (NameE 5 (codes "pcall")) (exps_of (NameE 5 (codes "error") ∷ [])) ∷ []))
+    ∷ []))
+    ∷ []))
     ∷ [])))) ∷ [])) ∷ [])) ∷ [])
 
 abbrev pub ValuesAsErrors : Type 0
@@ -134,18 +134,18 @@ abbrev pub places : Block
 places = stats_of (ReturnS 1 (exps_of (TableE 1 (fields_of (Pair (TextE 1 (codes "f")) (FunctionE 1 (Lambda [] true (stats_of (
     LocalFunctionS 2 (codes "g") (Lambda (codes "n" ∷ []) false (stats_of (CallS 2 (CallE 2 (NameE 2 (codes "error")) (exps_of (TextE 2 (codes "m") ∷ NameE 2 (codes "n") ∷ []))) ∷ [])))
     ∷ LocalFunctionS 3 (codes "e") (Lambda (codes "n" ∷ []) false (stats_of (
-        LocalS 4 (codes "ok" ∷ codes "v" ∷ []) (exps_of (CallE 4 (NameE 4 (codes "pcall")) (exps_of (FunctionE 4 (Lambda [] false (stats_of (
-            CallS 5 (CallE 5 (NameE 5 (codes "g")) (exps_of (NameE 5 (codes "n") ∷ [])))
-            ∷ ReturnS 6 (exps_of (NumberE 6 (pos 1) ∷ []))
-            ∷ []))) ∷ [])) ∷ []))
-        ∷ ReturnS 8 (exps_of (BinaryE 8 op.Concat (NameE 8 (codes "v")) (TextE 8 (codes ";")) ∷ []))
-        ∷ [])))
+    LocalS 4 (codes "ok" ∷ codes "v" ∷ []) (exps_of (CallE 4 (NameE 4 (codes "pcall")) (exps_of (FunctionE 4 (Lambda [] false (stats_of (
+    CallS 5 (CallE 5 (NameE 5 (codes "g")) (exps_of (NameE 5 (codes "n") ∷ [])))
+    ∷ ReturnS 6 (exps_of (NumberE 6 (pos 1) ∷ []))
+    ∷ []))) ∷ [])) ∷ []))
+    ∷ ReturnS 8 (exps_of (BinaryE 8 op.Concat (NameE 8 (codes "v")) (TextE 8 (codes ";")) ∷ []))
+    ∷ [])))
     ∷ ReturnS 10 (exps_of (
-        CallE 10 (NameE 10 (codes "e")) (exps_of (NumberE 10 (pos 1) ∷ []))
-        ∷ CallE 10 (NameE 10 (codes "e")) (exps_of (NumberE 10 (pos 2) ∷ []))
-        ∷ CallE 10 (NameE 10 (codes "e")) (exps_of (NumberE 10 (pos 0) ∷ []))
-        ∷ CallE 10 (NameE 10 (codes "e")) (exps_of (NumberE 10 (pos 4) ∷ []))
-        ∷ []))
+    CallE 10 (NameE 10 (codes "e")) (exps_of (NumberE 10 (pos 1) ∷ []))
+    ∷ CallE 10 (NameE 10 (codes "e")) (exps_of (NumberE 10 (pos 2) ∷ []))
+    ∷ CallE 10 (NameE 10 (codes "e")) (exps_of (NumberE 10 (pos 0) ∷ []))
+    ∷ CallE 10 (NameE 10 (codes "e")) (exps_of (NumberE 10 (pos 4) ∷ []))
+    ∷ []))
     ∷ [])))) ∷ [])) ∷ [])) ∷ [])
 
 abbrev pub Places : Type 0
@@ -161,35 +161,35 @@ Places = without_steps (invoked (codes "X") 193 places 6000) ≡ Gives (codes "M
 abbrev pub failing : Block
 failing = stats_of (ReturnS 1 (exps_of (TableE 1 (fields_of (Pair (TextE 1 (codes "f")) (FunctionE 1 (Lambda [] true (stats_of (
     LocalFunctionS 2 (codes "e") (Lambda (codes "f" ∷ []) false (stats_of (
-        LocalS 2 (codes "ok" ∷ codes "v" ∷ []) (exps_of (CallE 2 (NameE 2 (codes "pcall")) (exps_of (NameE 2 (codes "f") ∷ [])) ∷ []))
-        ∷ ReturnS 2 (exps_of (BinaryE 2 op.Concat (NameE 2 (codes "v")) (TextE 2 (codes ";")) ∷ []))
-        ∷ [])))
+    LocalS 2 (codes "ok" ∷ codes "v" ∷ []) (exps_of (CallE 2 (NameE 2 (codes "pcall")) (exps_of (NameE 2 (codes "f") ∷ [])) ∷ []))
+    ∷ ReturnS 2 (exps_of (BinaryE 2 op.Concat (NameE 2 (codes "v")) (TextE 2 (codes ";")) ∷ []))
+    ∷ [])))
     ∷ LocalS 3 (codes "t" ∷ []) (exps_of (TableE 3 NoField ∷ []))
     ∷ ReturnS 4 (exps_of (
-        CallE 4 (NameE 4 (codes "e")) (exps_of (
-            FunctionE 4 (Lambda [] false (stats_of (ReturnS 4 (exps_of (IndexE 4 (IndexE 4 (NameE 4 (codes "t")) (TextE 4 (codes "x"))) (TextE 4 (codes "y")) ∷ [])) ∷ [])))
-            ∷ []))
-        ∷ CallE 4 (NameE 4 (codes "e")) (exps_of (FunctionE 4 (Lambda [] false (stats_of (CallS 4 (CallE 4 (NameE 4 (codes "t")) NoExp) ∷ []))) ∷ []))
-        ∷ CallE 4 (NameE 4 (codes "e")) (exps_of (
-            FunctionE 4 (Lambda [] false (stats_of (ReturnS 4 (exps_of (BinaryE 4 op.Add (NumberE 4 (pos 1)) (NameE 4 (codes "t")) ∷ [])) ∷ [])))
-            ∷ []))
-        ∷ CallE 4 (NameE 4 (codes "e")) (exps_of (
-            FunctionE 4 (Lambda [] false (stats_of (ReturnS 4 (exps_of (BinaryE 4 op.Concat (TextE 4 (codes "a")) (NameE 4 (codes "t")) ∷ [])) ∷ [])))
-            ∷ []))
-        ∷ CallE 5 (NameE 5 (codes "e")) (exps_of (
-            FunctionE 5 (Lambda [] false (stats_of (ReturnS 5 (exps_of (BinaryE 5 op.Lt (NumberE 5 (pos 1)) (TextE 5 (codes "2")) ∷ [])) ∷ [])))
-            ∷ []))
-        ∷ CallE 5 (NameE 5 (codes "e")) (exps_of (
-            FunctionE 5 (Lambda [] false (stats_of (ReturnS 5 (exps_of (BinaryE 5 op.Lt (NameE 5 (codes "t")) (NameE 5 (codes "t")) ∷ [])) ∷ [])))
-            ∷ []))
-        ∷ CallE 5 (NameE 5 (codes "e")) (exps_of (FunctionE 5 (Lambda [] false (stats_of (ReturnS 5 (exps_of (UnaryE 5 sign.Len (NilE 5) ∷ [])) ∷ []))) ∷ []))
-        ∷ CallE 5 (NameE 5 (codes "e")) (exps_of (
-            FunctionE 5 (Lambda [] false (stats_of (AssignS 5 (exps_of (IndexE 5 (NameE 5 (codes "t")) (NilE 5) ∷ [])) (exps_of (NumberE 5 (pos 1) ∷ [])) ∷ [])))
-            ∷ []))
-        ∷ CallE 5 (NameE 5 (codes "e")) (exps_of (
-            FunctionE 5 (Lambda [] false (stats_of (ReturnS 5 (exps_of (BinaryE 5 op.Add (TextE 5 (codes "x")) (NumberE 5 (pos 1)) ∷ [])) ∷ [])))
-            ∷ []))
-        ∷ []))
+    CallE 4 (NameE 4 (codes "e")) (exps_of (
+    FunctionE 4 (Lambda [] false (stats_of (ReturnS 4 (exps_of (IndexE 4 (IndexE 4 (NameE 4 (codes "t")) (TextE 4 (codes "x"))) (TextE 4 (codes "y")) ∷ [])) ∷ [])))
+    ∷ []))
+    ∷ CallE 4 (NameE 4 (codes "e")) (exps_of (FunctionE 4 (Lambda [] false (stats_of (CallS 4 (CallE 4 (NameE 4 (codes "t")) NoExp) ∷ []))) ∷ []))
+    ∷ CallE 4 (NameE 4 (codes "e")) (exps_of (
+    FunctionE 4 (Lambda [] false (stats_of (ReturnS 4 (exps_of (BinaryE 4 op.Add (NumberE 4 (pos 1)) (NameE 4 (codes "t")) ∷ [])) ∷ [])))
+    ∷ []))
+    ∷ CallE 4 (NameE 4 (codes "e")) (exps_of (
+    FunctionE 4 (Lambda [] false (stats_of (ReturnS 4 (exps_of (BinaryE 4 op.Concat (TextE 4 (codes "a")) (NameE 4 (codes "t")) ∷ [])) ∷ [])))
+    ∷ []))
+    ∷ CallE 5 (NameE 5 (codes "e")) (exps_of (
+    FunctionE 5 (Lambda [] false (stats_of (ReturnS 5 (exps_of (BinaryE 5 op.Lt (NumberE 5 (pos 1)) (TextE 5 (codes "2")) ∷ [])) ∷ [])))
+    ∷ []))
+    ∷ CallE 5 (NameE 5 (codes "e")) (exps_of (
+    FunctionE 5 (Lambda [] false (stats_of (ReturnS 5 (exps_of (BinaryE 5 op.Lt (NameE 5 (codes "t")) (NameE 5 (codes "t")) ∷ [])) ∷ [])))
+    ∷ []))
+    ∷ CallE 5 (NameE 5 (codes "e")) (exps_of (FunctionE 5 (Lambda [] false (stats_of (ReturnS 5 (exps_of (UnaryE 5 sign.Len (NilE 5) ∷ [])) ∷ []))) ∷ []))
+    ∷ CallE 5 (NameE 5 (codes "e")) (exps_of (
+    FunctionE 5 (Lambda [] false (stats_of (AssignS 5 (exps_of (IndexE 5 (NameE 5 (codes "t")) (NilE 5) ∷ [])) (exps_of (NumberE 5 (pos 1) ∷ [])) ∷ [])))
+    ∷ []))
+    ∷ CallE 5 (NameE 5 (codes "e")) (exps_of (
+    FunctionE 5 (Lambda [] false (stats_of (ReturnS 5 (exps_of (BinaryE 5 op.Add (TextE 5 (codes "x")) (NumberE 5 (pos 1)) ∷ [])) ∷ [])))
+    ∷ []))
+    ∷ []))
     ∷ [])))) ∷ [])) ∷ [])) ∷ [])
 
 abbrev pub Failing : Type 0
@@ -203,15 +203,15 @@ Failing = without_steps (invoked (codes "X") 370 failing 6000) ≡ Gives (codes 
 abbrev pub bad_arguments : Block
 bad_arguments = stats_of (ReturnS 1 (exps_of (TableE 1 (fields_of (Pair (TextE 1 (codes "f")) (FunctionE 1 (Lambda [] true (stats_of (
     LocalFunctionS 2 (codes "e") (Lambda (codes "f" ∷ []) true (stats_of (
-        LocalS 2 (codes "ok" ∷ codes "v" ∷ []) (exps_of (CallE 2 (NameE 2 (codes "pcall")) (exps_of (NameE 2 (codes "f") ∷ DotsE 2 ∷ [])) ∷ []))
-        ∷ ReturnS 2 (exps_of (BinaryE 2 op.Concat (NameE 2 (codes "v")) (TextE 2 (codes ";")) ∷ []))
-        ∷ [])))
+    LocalS 2 (codes "ok" ∷ codes "v" ∷ []) (exps_of (CallE 2 (NameE 2 (codes "pcall")) (exps_of (NameE 2 (codes "f") ∷ DotsE 2 ∷ [])) ∷ []))
+    ∷ ReturnS 2 (exps_of (BinaryE 2 op.Concat (NameE 2 (codes "v")) (TextE 2 (codes ";")) ∷ []))
+    ∷ [])))
     ∷ ReturnS 3 (exps_of (
-        CallE 3 (NameE 3 (codes "e")) (exps_of (NameE 3 (codes "setmetatable") ∷ NumberE 3 (pos 1) ∷ []))
-        ∷ CallE 3 (NameE 3 (codes "e")) (exps_of (FunctionE 3 (Lambda [] false (stats_of (CallS 3 (CallE 3 (NameE 3 (codes "rawget")) NoExp) ∷ []))) ∷ []))
-        ∷ CallE 3 (NameE 3 (codes "e")) (exps_of (NameE 3 (codes "next") ∷ TableE 3 NoField ∷ TextE 3 (codes "k") ∷ []))
-        ∷ CallE 3 (NameE 3 (codes "e")) (exps_of (NameE 3 (codes "select") ∷ NumberE 3 (pos 0) ∷ []))
-        ∷ []))
+    CallE 3 (NameE 3 (codes "e")) (exps_of (NameE 3 (codes "setmetatable") ∷ NumberE 3 (pos 1) ∷ []))
+    ∷ CallE 3 (NameE 3 (codes "e")) (exps_of (FunctionE 3 (Lambda [] false (stats_of (CallS 3 (CallE 3 (NameE 3 (codes "rawget")) NoExp) ∷ []))) ∷ []))
+    ∷ CallE 3 (NameE 3 (codes "e")) (exps_of (NameE 3 (codes "next") ∷ TableE 3 NoField ∷ TextE 3 (codes "k") ∷ []))
+    ∷ CallE 3 (NameE 3 (codes "e")) (exps_of (NameE 3 (codes "select") ∷ NumberE 3 (pos 0) ∷ []))
+    ∷ []))
     ∷ [])))) ∷ [])) ∷ [])) ∷ [])
 
 abbrev pub BadArguments : Type 0
@@ -227,22 +227,22 @@ BadArguments = without_steps (invoked (codes "X") 175 bad_arguments 6000) ≡ Gi
 abbrev pub error_handlers : Block
 error_handlers = stats_of (ReturnS 1 (exps_of (TableE 1 (fields_of (Pair (TextE 1 (codes "f")) (FunctionE 1 (Lambda [] true (stats_of (
     LocalFunctionS 2 (codes "h") (Lambda (codes "m" ∷ []) false (stats_of (
-        ReturnS 2 (exps_of (BinaryE 2 op.Concat (TextE 2 (codes "h(")) (BinaryE 2 op.Concat (NameE 2 (codes "m")) (TextE 2 (codes ")"))) ∷ []))
-        ∷ [])))
+    ReturnS 2 (exps_of (BinaryE 2 op.Concat (TextE 2 (codes "h(")) (BinaryE 2 op.Concat (NameE 2 (codes "m")) (TextE 2 (codes ")"))) ∷ []))
+    ∷ [])))
     ∷ LocalS 3 (codes "ok" ∷ codes "v" ∷ []) (exps_of (CallE 3 (NameE 3 (codes "xpcall")) (exps_of (
-        FunctionE 3 (Lambda [] false (stats_of (CallS 3 (CallE 3 (NameE 3 (codes "error")) (exps_of (TextE 3 (codes "x") ∷ NumberE 3 (pos 0) ∷ []))) ∷ [])))
-        ∷ NameE 3 (codes "h")
-        ∷ [])) ∷ []))
+    FunctionE 3 (Lambda [] false (stats_of (CallS 3 (CallE 3 (NameE 3 (codes "error")) (exps_of (TextE 3 (codes "x") ∷ NumberE 3 (pos 0) ∷ []))) ∷ [])))
+    ∷ NameE 3 (codes "h")
+    ∷ [])) ∷ []))
     ∷ LocalS 4 (codes "ok2" ∷ codes "v2" ∷ []) (exps_of (CallE 4 (NameE 4 (codes "xpcall")) (exps_of (
-        FunctionE 4 (Lambda [] false (stats_of (ReturnS 4 (exps_of (NumberE 4 (pos 5) ∷ [])) ∷ [])))
-        ∷ NameE 4 (codes "h")
-        ∷ [])) ∷ []))
+    FunctionE 4 (Lambda [] false (stats_of (ReturnS 4 (exps_of (NumberE 4 (pos 5) ∷ [])) ∷ [])))
+    ∷ NameE 4 (codes "h")
+    ∷ [])) ∷ []))
     ∷ ReturnS 5 (exps_of (
-        CallE 5 (NameE 5 (codes "tostring")) (exps_of (NameE 5 (codes "ok") ∷ []))
-        ∷ NameE 5 (codes "v")
-        ∷ CallE 5 (NameE 5 (codes "tostring")) (exps_of (NameE 5 (codes "ok2") ∷ []))
-        ∷ NameE 5 (codes "v2")
-        ∷ []))
+    CallE 5 (NameE 5 (codes "tostring")) (exps_of (NameE 5 (codes "ok") ∷ []))
+    ∷ NameE 5 (codes "v")
+    ∷ CallE 5 (NameE 5 (codes "tostring")) (exps_of (NameE 5 (codes "ok2") ∷ []))
+    ∷ NameE 5 (codes "v2")
+    ∷ []))
     ∷ [])))) ∷ [])) ∷ [])) ∷ [])
 
 abbrev pub ErrorHandlers : Type 0
@@ -256,9 +256,9 @@ ErrorHandlers = without_steps (invoked (codes "X") 211 error_handlers 6000) ≡ 
 abbrev pub failing_handlers : Block
 failing_handlers = stats_of (ReturnS 1 (exps_of (TableE 1 (fields_of (Pair (TextE 1 (codes "f")) (FunctionE 1 (Lambda [] true (stats_of (
     LocalS 2 (codes "ok" ∷ codes "v" ∷ []) (exps_of (CallE 2 (NameE 2 (codes "xpcall")) (exps_of (
-        FunctionE 2 (Lambda [] false (stats_of (CallS 2 (CallE 2 (NameE 2 (codes "error")) (exps_of (TextE 2 (codes "x") ∷ NumberE 2 (pos 0) ∷ []))) ∷ [])))
-        ∷ FunctionE 2 (Lambda [] false (stats_of (CallS 2 (CallE 2 (NameE 2 (codes "error")) (exps_of (TextE 2 (codes "y") ∷ []))) ∷ [])))
-        ∷ [])) ∷ []))
+    FunctionE 2 (Lambda [] false (stats_of (CallS 2 (CallE 2 (NameE 2 (codes "error")) (exps_of (TextE 2 (codes "x") ∷ NumberE 2 (pos 0) ∷ []))) ∷ [])))
+    ∷ FunctionE 2 (Lambda [] false (stats_of (CallS 2 (CallE 2 (NameE 2 (codes "error")) (exps_of (TextE 2 (codes "y") ∷ []))) ∷ [])))
+    ∷ [])) ∷ []))
     ∷ ReturnS 3 (exps_of (CallE 3 (NameE 3 (codes "tostring")) (exps_of (NameE 3 (codes "ok") ∷ [])) ∷ NameE 3 (codes "v") ∷ []))
     ∷ [])))) ∷ [])) ∷ [])) ∷ [])
 
@@ -276,18 +276,18 @@ abbrev pub index_chain : Block
 index_chain = stats_of (ReturnS 1 (exps_of (TableE 1 (fields_of (Pair (TextE 1 (codes "f")) (FunctionE 1 (Lambda [] true (stats_of (
     LocalS 2 (codes "a" ∷ []) (exps_of (TableE 2 (fields_of (Pair (TextE 2 (codes "x")) (NumberE 2 (pos 1)) ∷ [])) ∷ []))
     ∷ LocalS 3 (codes "b" ∷ []) (exps_of (CallE 3 (NameE 3 (codes "setmetatable")) (exps_of (
-        TableE 3 (fields_of (Pair (TextE 3 (codes "y")) (NumberE 3 (pos 2)) ∷ []))
-        ∷ TableE 3 (fields_of (Pair (TextE 3 (codes "__index")) (NameE 3 (codes "a")) ∷ []))
-        ∷ [])) ∷ []))
+    TableE 3 (fields_of (Pair (TextE 3 (codes "y")) (NumberE 3 (pos 2)) ∷ []))
+    ∷ TableE 3 (fields_of (Pair (TextE 3 (codes "__index")) (NameE 3 (codes "a")) ∷ []))
+    ∷ [])) ∷ []))
     ∷ LocalS 4 (codes "c" ∷ []) (exps_of (
-        CallE 4 (NameE 4 (codes "setmetatable")) (exps_of (TableE 4 NoField ∷ TableE 4 (fields_of (Pair (TextE 4 (codes "__index")) (NameE 4 (codes "b")) ∷ [])) ∷ []))
-        ∷ []))
+    CallE 4 (NameE 4 (codes "setmetatable")) (exps_of (TableE 4 NoField ∷ TableE 4 (fields_of (Pair (TextE 4 (codes "__index")) (NameE 4 (codes "b")) ∷ [])) ∷ []))
+    ∷ []))
     ∷ ReturnS 5 (exps_of (
-        IndexE 5 (NameE 5 (codes "c")) (TextE 5 (codes "x"))
-        ∷ IndexE 5 (NameE 5 (codes "c")) (TextE 5 (codes "y"))
-        ∷ CallE 5 (NameE 5 (codes "tostring")) (exps_of (IndexE 5 (NameE 5 (codes "c")) (TextE 5 (codes "z")) ∷ []))
-        ∷ CallE 5 (NameE 5 (codes "tostring")) (exps_of (CallE 5 (NameE 5 (codes "rawget")) (exps_of (NameE 5 (codes "c") ∷ TextE 5 (codes "x") ∷ [])) ∷ []))
-        ∷ []))
+    IndexE 5 (NameE 5 (codes "c")) (TextE 5 (codes "x"))
+    ∷ IndexE 5 (NameE 5 (codes "c")) (TextE 5 (codes "y"))
+    ∷ CallE 5 (NameE 5 (codes "tostring")) (exps_of (IndexE 5 (NameE 5 (codes "c")) (TextE 5 (codes "z")) ∷ []))
+    ∷ CallE 5 (NameE 5 (codes "tostring")) (exps_of (CallE 5 (NameE 5 (codes "rawget")) (exps_of (NameE 5 (codes "c") ∷ TextE 5 (codes "x") ∷ [])) ∷ []))
+    ∷ []))
     ∷ [])))) ∷ [])) ∷ [])) ∷ [])
 
 abbrev pub IndexChain : Type 0
@@ -307,26 +307,26 @@ new_index = stats_of (ReturnS 1 (exps_of (TableE 1 (fields_of (Pair (TextE 1 (co
     LocalS 2 (codes "log" ∷ []) (exps_of (TextE 2 [] ∷ []))
     ∷ LocalS 3 (codes "store" ∷ []) (exps_of (TableE 3 NoField ∷ []))
     ∷ LocalS 4 (codes "a" ∷ []) (exps_of (CallE 4 (NameE 4 (codes "setmetatable")) (exps_of (
-        TableE 4 (fields_of (Pair (TextE 4 (codes "old")) (NumberE 4 (pos 1)) ∷ []))
-        ∷ TableE 4 (fields_of (Pair (TextE 4 (codes "__newindex")) (FunctionE 4 (Lambda (codes "t" ∷ codes "k" ∷ codes "v" ∷ []) false (stats_of (
-            AssignS 4 (exps_of (NameE 4 (codes "log") ∷ [])) (exps_of (BinaryE 4 op.Concat (NameE 4 (codes "log")) (NameE 4 (codes "k")) ∷ []))
-            ∷ CallS 4 (CallE 4 (NameE 4 (codes "rawset")) (exps_of (NameE 4 (codes "t") ∷ NameE 4 (codes "k") ∷ NameE 4 (codes "v") ∷ [])))
-            ∷ [])))) ∷ []))
-        ∷ [])) ∷ []))
+    TableE 4 (fields_of (Pair (TextE 4 (codes "old")) (NumberE 4 (pos 1)) ∷ []))
+    ∷ TableE 4 (fields_of (Pair (TextE 4 (codes "__newindex")) (FunctionE 4 (Lambda (codes "t" ∷ codes "k" ∷ codes "v" ∷ []) false (stats_of (
+    AssignS 4 (exps_of (NameE 4 (codes "log") ∷ [])) (exps_of (BinaryE 4 op.Concat (NameE 4 (codes "log")) (NameE 4 (codes "k")) ∷ []))
+    ∷ CallS 4 (CallE 4 (NameE 4 (codes "rawset")) (exps_of (NameE 4 (codes "t") ∷ NameE 4 (codes "k") ∷ NameE 4 (codes "v") ∷ [])))
+    ∷ [])))) ∷ []))
+    ∷ [])) ∷ []))
     ∷ LocalS 5 (codes "b" ∷ []) (exps_of (
-        CallE 5 (NameE 5 (codes "setmetatable")) (exps_of (TableE 5 NoField ∷ TableE 5 (fields_of (Pair (TextE 5 (codes "__newindex")) (NameE 5 (codes "store")) ∷ [])) ∷ []))
-        ∷ []))
+    CallE 5 (NameE 5 (codes "setmetatable")) (exps_of (TableE 5 NoField ∷ TableE 5 (fields_of (Pair (TextE 5 (codes "__newindex")) (NameE 5 (codes "store")) ∷ [])) ∷ []))
+    ∷ []))
     ∷ AssignS 6 (exps_of (IndexE 6 (NameE 6 (codes "a")) (TextE 6 (codes "old")) ∷ [])) (exps_of (NumberE 6 (pos 2) ∷ []))
     ∷ AssignS 6 (exps_of (IndexE 6 (NameE 6 (codes "a")) (TextE 6 (codes "new")) ∷ [])) (exps_of (NumberE 6 (pos 3) ∷ []))
     ∷ AssignS 6 (exps_of (IndexE 6 (NameE 6 (codes "a")) (TextE 6 (codes "new")) ∷ [])) (exps_of (NumberE 6 (pos 4) ∷ []))
     ∷ AssignS 6 (exps_of (IndexE 6 (NameE 6 (codes "b")) (TextE 6 (codes "k")) ∷ [])) (exps_of (NumberE 6 (pos 5) ∷ []))
     ∷ ReturnS 7 (exps_of (
-        NameE 7 (codes "log")
-        ∷ IndexE 7 (NameE 7 (codes "a")) (TextE 7 (codes "old"))
-        ∷ IndexE 7 (NameE 7 (codes "a")) (TextE 7 (codes "new"))
-        ∷ CallE 7 (NameE 7 (codes "tostring")) (exps_of (CallE 7 (NameE 7 (codes "rawget")) (exps_of (NameE 7 (codes "b") ∷ TextE 7 (codes "k") ∷ [])) ∷ []))
-        ∷ IndexE 7 (NameE 7 (codes "store")) (TextE 7 (codes "k"))
-        ∷ []))
+    NameE 7 (codes "log")
+    ∷ IndexE 7 (NameE 7 (codes "a")) (TextE 7 (codes "old"))
+    ∷ IndexE 7 (NameE 7 (codes "a")) (TextE 7 (codes "new"))
+    ∷ CallE 7 (NameE 7 (codes "tostring")) (exps_of (CallE 7 (NameE 7 (codes "rawget")) (exps_of (NameE 7 (codes "b") ∷ TextE 7 (codes "k") ∷ [])) ∷ []))
+    ∷ IndexE 7 (NameE 7 (codes "store")) (TextE 7 (codes "k"))
+    ∷ []))
     ∷ [])))) ∷ [])) ∷ [])) ∷ [])
 
 abbrev pub NewIndex : Type 0
@@ -341,22 +341,22 @@ NewIndex = without_steps (invoked (codes "X") 273 new_index 6000) ≡ Gives (cod
 abbrev pub arithmetic_handlers : Block
 arithmetic_handlers = stats_of (ReturnS 1 (exps_of (TableE 1 (fields_of (Pair (TextE 1 (codes "f")) (FunctionE 1 (Lambda [] true (stats_of (
     LocalS 2 (codes "m" ∷ []) (exps_of (TableE 2 (fields_of (
-        Pair (TextE 2 (codes "__add")) (FunctionE 2 (Lambda (codes "a" ∷ codes "b" ∷ []) false (stats_of (ReturnS 2 (exps_of (TextE 2 (codes "add") ∷ [])) ∷ []))))
-        ∷ Pair (TextE 2 (codes "__concat")) (FunctionE 2 (Lambda (codes "a" ∷ codes "b" ∷ []) false (stats_of (ReturnS 2 (exps_of (
-            BinaryE 2 op.Concat (CallE 2 (NameE 2 (codes "type")) (exps_of (NameE 2 (codes "a") ∷ []))) (CallE 2 (NameE 2 (codes "type")) (exps_of (NameE 2 (codes "b") ∷ [])))
-            ∷ [])) ∷ []))))
-        ∷ Pair (TextE 2 (codes "__unm")) (FunctionE 2 (Lambda (codes "a" ∷ codes "b" ∷ []) false (stats_of (
-            ReturnS 2 (exps_of (CallE 2 (NameE 2 (codes "tostring")) (exps_of (BinaryE 2 op.Eq (NameE 2 (codes "a")) (NameE 2 (codes "b")) ∷ [])) ∷ []))
-            ∷ []))))
-        ∷ [])) ∷ []))
+    Pair (TextE 2 (codes "__add")) (FunctionE 2 (Lambda (codes "a" ∷ codes "b" ∷ []) false (stats_of (ReturnS 2 (exps_of (TextE 2 (codes "add") ∷ [])) ∷ []))))
+    ∷ Pair (TextE 2 (codes "__concat")) (FunctionE 2 (Lambda (codes "a" ∷ codes "b" ∷ []) false (stats_of (ReturnS 2 (exps_of (
+    BinaryE 2 op.Concat (CallE 2 (NameE 2 (codes "type")) (exps_of (NameE 2 (codes "a") ∷ []))) (CallE 2 (NameE 2 (codes "type")) (exps_of (NameE 2 (codes "b") ∷ [])))
+    ∷ [])) ∷ []))))
+    ∷ Pair (TextE 2 (codes "__unm")) (FunctionE 2 (Lambda (codes "a" ∷ codes "b" ∷ []) false (stats_of (
+    ReturnS 2 (exps_of (CallE 2 (NameE 2 (codes "tostring")) (exps_of (BinaryE 2 op.Eq (NameE 2 (codes "a")) (NameE 2 (codes "b")) ∷ [])) ∷ []))
+    ∷ []))))
+    ∷ [])) ∷ []))
     ∷ LocalS 3 (codes "t" ∷ []) (exps_of (CallE 3 (NameE 3 (codes "setmetatable")) (exps_of (TableE 3 NoField ∷ NameE 3 (codes "m") ∷ [])) ∷ []))
     ∷ ReturnS 4 (exps_of (
-        BinaryE 4 op.Add (NameE 4 (codes "t")) (NumberE 4 (pos 1))
-        ∷ BinaryE 4 op.Add (NumberE 4 (pos 1)) (NameE 4 (codes "t"))
-        ∷ BinaryE 4 op.Concat (NameE 4 (codes "t")) (TextE 4 (codes "x"))
-        ∷ BinaryE 4 op.Concat (TextE 4 (codes "x")) (NameE 4 (codes "t"))
-        ∷ UnaryE 4 sign.Minus (NameE 4 (codes "t"))
-        ∷ []))
+    BinaryE 4 op.Add (NameE 4 (codes "t")) (NumberE 4 (pos 1))
+    ∷ BinaryE 4 op.Add (NumberE 4 (pos 1)) (NameE 4 (codes "t"))
+    ∷ BinaryE 4 op.Concat (NameE 4 (codes "t")) (TextE 4 (codes "x"))
+    ∷ BinaryE 4 op.Concat (TextE 4 (codes "x")) (NameE 4 (codes "t"))
+    ∷ UnaryE 4 sign.Minus (NameE 4 (codes "t"))
+    ∷ []))
     ∷ [])))) ∷ [])) ∷ [])) ∷ [])
 
 abbrev pub ArithmeticHandlers : Type 0
@@ -371,21 +371,21 @@ ArithmeticHandlers = without_steps (invoked (codes "X") 231 arithmetic_handlers 
 abbrev pub first_handler : Block
 first_handler = stats_of (ReturnS 1 (exps_of (TableE 1 (fields_of (Pair (TextE 1 (codes "f")) (FunctionE 1 (Lambda [] true (stats_of (
     LocalFunctionS 2 (codes "made") (Lambda (codes "name" ∷ []) false (stats_of (ReturnS 2 (exps_of (CallE 2 (NameE 2 (codes "setmetatable")) (exps_of (
-        TableE 2 NoField
-        ∷ TableE 2 (fields_of (
-            Pair (TextE 2 (codes "__add")) (FunctionE 2 (Lambda [] false (stats_of (ReturnS 2 (exps_of (NameE 2 (codes "name") ∷ [])) ∷ []))))
-            ∷ Pair (TextE 2 (codes "__concat")) (FunctionE 2 (Lambda [] false (stats_of (ReturnS 2 (exps_of (NameE 2 (codes "name") ∷ [])) ∷ []))))
-            ∷ []))
-        ∷ [])) ∷ [])) ∷ [])))
+    TableE 2 NoField
+    ∷ TableE 2 (fields_of (
+    Pair (TextE 2 (codes "__add")) (FunctionE 2 (Lambda [] false (stats_of (ReturnS 2 (exps_of (NameE 2 (codes "name") ∷ [])) ∷ []))))
+    ∷ Pair (TextE 2 (codes "__concat")) (FunctionE 2 (Lambda [] false (stats_of (ReturnS 2 (exps_of (NameE 2 (codes "name") ∷ [])) ∷ []))))
+    ∷ []))
+    ∷ [])) ∷ [])) ∷ [])))
     ∷ LocalS 3 (codes "a" ∷ codes "b" ∷ []) (exps_of (
-        CallE 3 (NameE 3 (codes "made")) (exps_of (TextE 3 (codes "a") ∷ []))
-        ∷ CallE 3 (NameE 3 (codes "made")) (exps_of (TextE 3 (codes "b") ∷ []))
-        ∷ []))
+    CallE 3 (NameE 3 (codes "made")) (exps_of (TextE 3 (codes "a") ∷ []))
+    ∷ CallE 3 (NameE 3 (codes "made")) (exps_of (TextE 3 (codes "b") ∷ []))
+    ∷ []))
     ∷ ReturnS 4 (exps_of (
-        BinaryE 4 op.Add (NameE 4 (codes "a")) (NameE 4 (codes "b"))
-        ∷ BinaryE 4 op.Add (NameE 4 (codes "b")) (NameE 4 (codes "a"))
-        ∷ BinaryE 4 op.Concat (NameE 4 (codes "a")) (NameE 4 (codes "b"))
-        ∷ []))
+    BinaryE 4 op.Add (NameE 4 (codes "a")) (NameE 4 (codes "b"))
+    ∷ BinaryE 4 op.Add (NameE 4 (codes "b")) (NameE 4 (codes "a"))
+    ∷ BinaryE 4 op.Concat (NameE 4 (codes "a")) (NameE 4 (codes "b"))
+    ∷ []))
     ∷ [])))) ∷ [])) ∷ [])) ∷ [])
 
 abbrev pub FirstHandler : Type 0
@@ -403,23 +403,23 @@ abbrev pub equal_handlers : Block
 equal_handlers = stats_of (ReturnS 1 (exps_of (TableE 1 (fields_of (Pair (TextE 1 (codes "f")) (FunctionE 1 (Lambda [] true (stats_of (
     LocalS 2 (codes "eq" ∷ []) (exps_of (FunctionE 2 (Lambda [] false (stats_of (ReturnS 2 (exps_of (NumberE 2 (pos 1) ∷ [])) ∷ []))) ∷ []))
     ∷ LocalS 3 (codes "a" ∷ []) (exps_of (
-        CallE 3 (NameE 3 (codes "setmetatable")) (exps_of (TableE 3 NoField ∷ TableE 3 (fields_of (Pair (TextE 3 (codes "__eq")) (NameE 3 (codes "eq")) ∷ [])) ∷ []))
-        ∷ []))
+    CallE 3 (NameE 3 (codes "setmetatable")) (exps_of (TableE 3 NoField ∷ TableE 3 (fields_of (Pair (TextE 3 (codes "__eq")) (NameE 3 (codes "eq")) ∷ [])) ∷ []))
+    ∷ []))
     ∷ LocalS 4 (codes "b" ∷ []) (exps_of (
-        CallE 4 (NameE 4 (codes "setmetatable")) (exps_of (TableE 4 NoField ∷ TableE 4 (fields_of (Pair (TextE 4 (codes "__eq")) (NameE 4 (codes "eq")) ∷ [])) ∷ []))
-        ∷ []))
+    CallE 4 (NameE 4 (codes "setmetatable")) (exps_of (TableE 4 NoField ∷ TableE 4 (fields_of (Pair (TextE 4 (codes "__eq")) (NameE 4 (codes "eq")) ∷ [])) ∷ []))
+    ∷ []))
     ∷ LocalS 5 (codes "c" ∷ []) (exps_of (CallE 5 (NameE 5 (codes "setmetatable")) (exps_of (
-        TableE 5 NoField
-        ∷ TableE 5 (fields_of (
-            Pair (TextE 5 (codes "__eq")) (FunctionE 5 (Lambda [] false (stats_of (ReturnS 5 (exps_of (NumberE 5 (pos 1) ∷ [])) ∷ []))))
-            ∷ []))
-        ∷ [])) ∷ []))
+    TableE 5 NoField
+    ∷ TableE 5 (fields_of (
+    Pair (TextE 5 (codes "__eq")) (FunctionE 5 (Lambda [] false (stats_of (ReturnS 5 (exps_of (NumberE 5 (pos 1) ∷ [])) ∷ []))))
+    ∷ []))
+    ∷ [])) ∷ []))
     ∷ ReturnS 6 (exps_of (
-        CallE 6 (NameE 6 (codes "tostring")) (exps_of (BinaryE 6 op.Eq (NameE 6 (codes "a")) (NameE 6 (codes "b")) ∷ []))
-        ∷ CallE 6 (NameE 6 (codes "tostring")) (exps_of (BinaryE 6 op.Ne (NameE 6 (codes "a")) (NameE 6 (codes "b")) ∷ []))
-        ∷ CallE 6 (NameE 6 (codes "tostring")) (exps_of (BinaryE 6 op.Eq (NameE 6 (codes "a")) (NameE 6 (codes "c")) ∷ []))
-        ∷ CallE 6 (NameE 6 (codes "tostring")) (exps_of (BinaryE 6 op.Eq (NameE 6 (codes "a")) (NumberE 6 (pos 1)) ∷ []))
-        ∷ []))
+    CallE 6 (NameE 6 (codes "tostring")) (exps_of (BinaryE 6 op.Eq (NameE 6 (codes "a")) (NameE 6 (codes "b")) ∷ []))
+    ∷ CallE 6 (NameE 6 (codes "tostring")) (exps_of (BinaryE 6 op.Ne (NameE 6 (codes "a")) (NameE 6 (codes "b")) ∷ []))
+    ∷ CallE 6 (NameE 6 (codes "tostring")) (exps_of (BinaryE 6 op.Eq (NameE 6 (codes "a")) (NameE 6 (codes "c")) ∷ []))
+    ∷ CallE 6 (NameE 6 (codes "tostring")) (exps_of (BinaryE 6 op.Eq (NameE 6 (codes "a")) (NumberE 6 (pos 1)) ∷ []))
+    ∷ []))
     ∷ [])))) ∷ [])) ∷ [])) ∷ [])
 
 abbrev pub EqualHandlers : Type 0
@@ -433,15 +433,15 @@ EqualHandlers = without_steps (invoked (codes "X") 254 equal_handlers 6000) ≡ 
 abbrev pub call_handlers : Block
 call_handlers = stats_of (ReturnS 1 (exps_of (TableE 1 (fields_of (Pair (TextE 1 (codes "f")) (FunctionE 1 (Lambda [] true (stats_of (
     LocalS 2 (codes "t" ∷ []) (exps_of (CallE 2 (NameE 2 (codes "setmetatable")) (exps_of (
-        TableE 2 (fields_of (Pair (TextE 2 (codes "n")) (NumberE 2 (pos 2)) ∷ []))
-        ∷ TableE 2 (fields_of (Pair (TextE 2 (codes "__call")) (FunctionE 2 (Lambda (codes "self" ∷ codes "a" ∷ codes "b" ∷ []) false (stats_of (ReturnS 2 (exps_of (
-            BinaryE 2 op.Add (BinaryE 2 op.Add (IndexE 2 (NameE 2 (codes "self")) (TextE 2 (codes "n"))) (NameE 2 (codes "a"))) (NameE 2 (codes "b"))
-            ∷ [])) ∷ [])))) ∷ []))
-        ∷ [])) ∷ []))
+    TableE 2 (fields_of (Pair (TextE 2 (codes "n")) (NumberE 2 (pos 2)) ∷ []))
+    ∷ TableE 2 (fields_of (Pair (TextE 2 (codes "__call")) (FunctionE 2 (Lambda (codes "self" ∷ codes "a" ∷ codes "b" ∷ []) false (stats_of (ReturnS 2 (exps_of (
+    BinaryE 2 op.Add (BinaryE 2 op.Add (IndexE 2 (NameE 2 (codes "self")) (TextE 2 (codes "n"))) (NameE 2 (codes "a"))) (NameE 2 (codes "b"))
+    ∷ [])) ∷ [])))) ∷ []))
+    ∷ [])) ∷ []))
     ∷ ReturnS 3 (exps_of (
-        CallE 3 (NameE 3 (codes "t")) (exps_of (NumberE 3 (pos 3) ∷ NumberE 3 (pos 4) ∷ []))
-        ∷ CallE 3 (NameE 3 (codes "pcall")) (exps_of (NameE 3 (codes "t") ∷ NumberE 3 (pos 1) ∷ NumberE 3 (pos 1) ∷ []))
-        ∷ []))
+    CallE 3 (NameE 3 (codes "t")) (exps_of (NumberE 3 (pos 3) ∷ NumberE 3 (pos 4) ∷ []))
+    ∷ CallE 3 (NameE 3 (codes "pcall")) (exps_of (NameE 3 (codes "t") ∷ NumberE 3 (pos 1) ∷ NumberE 3 (pos 1) ∷ []))
+    ∷ []))
     ∷ [])))) ∷ [])) ∷ [])) ∷ [])
 
 abbrev pub CallHandlers : Type 0
@@ -455,15 +455,15 @@ CallHandlers = without_steps (invoked (codes "X") 133 call_handlers 6000) ≡ Gi
 abbrev pub to_text : Block
 to_text = stats_of (ReturnS 1 (exps_of (TableE 1 (fields_of (Pair (TextE 1 (codes "f")) (FunctionE 1 (Lambda [] true (stats_of (
     LocalS 2 (codes "t" ∷ []) (exps_of (CallE 2 (NameE 2 (codes "setmetatable")) (exps_of (
-        TableE 2 NoField
-        ∷ TableE 2 (fields_of (
-            Pair (TextE 2 (codes "__tostring")) (FunctionE 2 (Lambda [] false (stats_of (ReturnS 2 (exps_of (TextE 2 (codes "T") ∷ [])) ∷ []))))
-            ∷ []))
-        ∷ [])) ∷ []))
+    TableE 2 NoField
+    ∷ TableE 2 (fields_of (
+    Pair (TextE 2 (codes "__tostring")) (FunctionE 2 (Lambda [] false (stats_of (ReturnS 2 (exps_of (TextE 2 (codes "T") ∷ [])) ∷ []))))
+    ∷ []))
+    ∷ [])) ∷ []))
     ∷ ReturnS 3 (exps_of (
-        BinaryE 3 op.Concat (CallE 3 (NameE 3 (codes "tostring")) (exps_of (NameE 3 (codes "t") ∷ []))) (TextE 3 (codes "!"))
-        ∷ NameE 3 (codes "t")
-        ∷ []))
+    BinaryE 3 op.Concat (CallE 3 (NameE 3 (codes "tostring")) (exps_of (NameE 3 (codes "t") ∷ []))) (TextE 3 (codes "!"))
+    ∷ NameE 3 (codes "t")
+    ∷ []))
     ∷ [])))) ∷ [])) ∷ [])) ∷ [])
 
 abbrev pub ToText : Type 0
@@ -478,21 +478,21 @@ ToText = without_steps (invoked (codes "X") 118 to_text 6000) ≡ Gives (codes "
 abbrev pub no_text : Block
 no_text = stats_of (ReturnS 1 (exps_of (TableE 1 (fields_of (Pair (TextE 1 (codes "f")) (FunctionE 1 (Lambda [] true (stats_of (
     LocalS 2 (codes "t" ∷ []) (exps_of (CallE 2 (NameE 2 (codes "setmetatable")) (exps_of (
-        TableE 2 NoField
-        ∷ TableE 2 (fields_of (
-            Pair (TextE 2 (codes "__tostring")) (FunctionE 2 (Lambda [] false (stats_of (ReturnS 2 (exps_of (TableE 2 NoField ∷ [])) ∷ []))))
-            ∷ []))
-        ∷ [])) ∷ []))
+    TableE 2 NoField
+    ∷ TableE 2 (fields_of (
+    Pair (TextE 2 (codes "__tostring")) (FunctionE 2 (Lambda [] false (stats_of (ReturnS 2 (exps_of (TableE 2 NoField ∷ [])) ∷ []))))
+    ∷ []))
+    ∷ [])) ∷ []))
     ∷ LocalS 3 (codes "ok" ∷ codes "e" ∷ []) (exps_of (CallE 3 (NameE 3 (codes "pcall")) (exps_of (NameE 3 (codes "tostring") ∷ NameE 3 (codes "t") ∷ [])) ∷ []))
     ∷ ReturnS 4 (exps_of (
-        BinaryE 4 op.Concat (NameE 4 (codes "e")) (TextE 4 (codes ";"))
-        ∷ CallE 4 (NameE 4 (codes "select")) (exps_of (
-            NumberE 4 (pos 2)
-            ∷ CallE 4 (NameE 4 (codes "pcall")) (exps_of (
-                FunctionE 4 (Lambda [] false (stats_of (ReturnS 4 (exps_of (CallE 4 (NameE 4 (codes "tostring")) (exps_of (NameE 4 (codes "t") ∷ [])) ∷ [])) ∷ [])))
-                ∷ []))
-            ∷ []))
-        ∷ []))
+    BinaryE 4 op.Concat (NameE 4 (codes "e")) (TextE 4 (codes ";"))
+    ∷ CallE 4 (NameE 4 (codes "select")) (exps_of (
+    NumberE 4 (pos 2)
+    ∷ CallE 4 (NameE 4 (codes "pcall")) (exps_of (
+    FunctionE 4 (Lambda [] false (stats_of (ReturnS 4 (exps_of (CallE 4 (NameE 4 (codes "tostring")) (exps_of (NameE 4 (codes "t") ∷ [])) ∷ [])) ∷ [])))
+    ∷ []))
+    ∷ []))
+    ∷ []))
     ∷ [])))) ∷ [])) ∷ [])) ∷ [])
 
 abbrev pub NoText : Type 0
@@ -506,12 +506,12 @@ NoText = without_steps (invoked (codes "X") 187 no_text 6000) ≡ Gives (codes "
 abbrev pub methods_of_strings : Block
 methods_of_strings = stats_of (ReturnS 1 (exps_of (TableE 1 (fields_of (Pair (TextE 1 (codes "f")) (FunctionE 1 (Lambda [] true (stats_of (
     AssignS 2 (exps_of (IndexE 2 (NameE 2 (codes "string")) (TextE 2 (codes "twice")) ∷ [])) (exps_of (
-        FunctionE 2 (Lambda (codes "s" ∷ []) false (stats_of (ReturnS 2 (exps_of (BinaryE 2 op.Concat (NameE 2 (codes "s")) (NameE 2 (codes "s")) ∷ [])) ∷ [])))
-        ∷ []))
+    FunctionE 2 (Lambda (codes "s" ∷ []) false (stats_of (ReturnS 2 (exps_of (BinaryE 2 op.Concat (NameE 2 (codes "s")) (NameE 2 (codes "s")) ∷ [])) ∷ [])))
+    ∷ []))
     ∷ ReturnS 3 (exps_of (
-        MethodE 3 (ParenE 3 (TextE 3 (codes "ab"))) (codes "twice") NoExp
-        ∷ CallE 3 (NameE 3 (codes "tostring")) (exps_of (IndexE 3 (ParenE 3 (TextE 3 (codes "x"))) (TextE 3 (codes "none")) ∷ []))
-        ∷ []))
+    MethodE 3 (ParenE 3 (TextE 3 (codes "ab"))) (codes "twice") NoExp
+    ∷ CallE 3 (NameE 3 (codes "tostring")) (exps_of (IndexE 3 (ParenE 3 (TextE 3 (codes "x"))) (TextE 3 (codes "none")) ∷ []))
+    ∷ []))
     ∷ [])))) ∷ [])) ∷ [])) ∷ [])
 
 abbrev pub MethodsOfStrings : Type 0
@@ -526,16 +526,16 @@ MethodsOfStrings = without_steps (invoked (codes "X") 112 methods_of_strings 600
 abbrev pub protected_metatables : Block
 protected_metatables = stats_of (ReturnS 1 (exps_of (TableE 1 (fields_of (Pair (TextE 1 (codes "f")) (FunctionE 1 (Lambda [] true (stats_of (
     LocalS 2 (codes "t" ∷ []) (exps_of (
-        CallE 2 (NameE 2 (codes "setmetatable")) (exps_of (TableE 2 NoField ∷ TableE 2 (fields_of (Pair (TextE 2 (codes "__metatable")) (TextE 2 (codes "no")) ∷ [])) ∷ []))
-        ∷ []))
+    CallE 2 (NameE 2 (codes "setmetatable")) (exps_of (TableE 2 NoField ∷ TableE 2 (fields_of (Pair (TextE 2 (codes "__metatable")) (TextE 2 (codes "no")) ∷ [])) ∷ []))
+    ∷ []))
     ∷ LocalS 3 (codes "ok" ∷ codes "e" ∷ []) (exps_of (
-        CallE 3 (NameE 3 (codes "pcall")) (exps_of (NameE 3 (codes "setmetatable") ∷ NameE 3 (codes "t") ∷ TableE 3 NoField ∷ []))
-        ∷ []))
+    CallE 3 (NameE 3 (codes "pcall")) (exps_of (NameE 3 (codes "setmetatable") ∷ NameE 3 (codes "t") ∷ TableE 3 NoField ∷ []))
+    ∷ []))
     ∷ ReturnS 4 (exps_of (
-        CallE 4 (NameE 4 (codes "getmetatable")) (exps_of (NameE 4 (codes "t") ∷ []))
-        ∷ CallE 4 (NameE 4 (codes "tostring")) (exps_of (NameE 4 (codes "ok") ∷ []))
-        ∷ NameE 4 (codes "e")
-        ∷ []))
+    CallE 4 (NameE 4 (codes "getmetatable")) (exps_of (NameE 4 (codes "t") ∷ []))
+    ∷ CallE 4 (NameE 4 (codes "tostring")) (exps_of (NameE 4 (codes "ok") ∷ []))
+    ∷ NameE 4 (codes "e")
+    ∷ []))
     ∷ [])))) ∷ [])) ∷ [])) ∷ [])
 
 abbrev pub ProtectedMetatables : Type 0
@@ -550,11 +550,11 @@ ProtectedMetatables = without_steps (invoked (codes "X") 146 protected_metatable
 abbrev pub global_handlers : Block
 global_handlers = stats_of (ReturnS 1 (exps_of (TableE 1 (fields_of (Pair (TextE 1 (codes "f")) (FunctionE 1 (Lambda [] true (stats_of (
     CallS 2 (CallE 2 (NameE 2 (codes "setmetatable")) (exps_of (
-        NameE 2 (codes "_G")
-        ∷ TableE 2 (fields_of (
-            Pair (TextE 2 (codes "__index")) (FunctionE 2 (Lambda (codes "t" ∷ codes "k" ∷ []) false (stats_of (ReturnS 2 (exps_of (BinaryE 2 op.Concat (NameE 2 (codes "k")) (TextE 2 (codes "?")) ∷ [])) ∷ []))))
-            ∷ []))
-        ∷ [])))
+    NameE 2 (codes "_G")
+    ∷ TableE 2 (fields_of (
+    Pair (TextE 2 (codes "__index")) (FunctionE 2 (Lambda (codes "t" ∷ codes "k" ∷ []) false (stats_of (ReturnS 2 (exps_of (BinaryE 2 op.Concat (NameE 2 (codes "k")) (TextE 2 (codes "?")) ∷ [])) ∷ []))))
+    ∷ []))
+    ∷ [])))
     ∷ AssignS 3 (exps_of (NameE 3 (codes "x") ∷ [])) (exps_of (NumberE 3 (pos 1) ∷ []))
     ∷ ReturnS 4 (exps_of (NameE 4 (codes "x") ∷ IndexE 4 (NameE 4 (codes "_G")) (TextE 4 (codes "x")) ∷ NameE 4 (codes "y") ∷ []))
     ∷ [])))) ∷ [])) ∷ [])) ∷ [])
@@ -570,19 +570,19 @@ GlobalHandlers = without_steps (invoked (codes "X") 107 global_handlers 6000) �
 abbrev pub raw_equality : Block
 raw_equality = stats_of (ReturnS 1 (exps_of (TableE 1 (fields_of (Pair (TextE 1 (codes "f")) (FunctionE 1 (Lambda [] true (stats_of (
     LocalS 2 (codes "t" ∷ []) (exps_of (CallE 2 (NameE 2 (codes "setmetatable")) (exps_of (
-        TableE 2 NoField
-        ∷ TableE 2 (fields_of (
-            Pair (TextE 2 (codes "__eq")) (FunctionE 2 (Lambda [] false (stats_of (ReturnS 2 (exps_of (TrueE 2 ∷ [])) ∷ []))))
-            ∷ []))
-        ∷ [])) ∷ []))
+    TableE 2 NoField
+    ∷ TableE 2 (fields_of (
+    Pair (TextE 2 (codes "__eq")) (FunctionE 2 (Lambda [] false (stats_of (ReturnS 2 (exps_of (TrueE 2 ∷ [])) ∷ []))))
+    ∷ []))
+    ∷ [])) ∷ []))
     ∷ ReturnS 3 (exps_of (
-        CallE 3 (NameE 3 (codes "tostring")) (exps_of (CallE 3 (NameE 3 (codes "rawequal")) (exps_of (
-            NameE 3 (codes "t")
-            ∷ CallE 3 (NameE 3 (codes "setmetatable")) (exps_of (TableE 3 NoField ∷ CallE 3 (NameE 3 (codes "getmetatable")) (exps_of (NameE 3 (codes "t") ∷ [])) ∷ []))
-            ∷ [])) ∷ []))
-        ∷ CallE 3 (NameE 3 (codes "tostring")) (exps_of (CallE 3 (NameE 3 (codes "next")) (exps_of (TableE 3 NoField ∷ [])) ∷ []))
-        ∷ CallE 3 (NameE 3 (codes "next")) (exps_of (TableE 3 (fields_of (Item (NumberE 3 (pos 7)) ∷ [])) ∷ []))
-        ∷ []))
+    CallE 3 (NameE 3 (codes "tostring")) (exps_of (CallE 3 (NameE 3 (codes "rawequal")) (exps_of (
+    NameE 3 (codes "t")
+    ∷ CallE 3 (NameE 3 (codes "setmetatable")) (exps_of (TableE 3 NoField ∷ CallE 3 (NameE 3 (codes "getmetatable")) (exps_of (NameE 3 (codes "t") ∷ [])) ∷ []))
+    ∷ [])) ∷ []))
+    ∷ CallE 3 (NameE 3 (codes "tostring")) (exps_of (CallE 3 (NameE 3 (codes "next")) (exps_of (TableE 3 NoField ∷ [])) ∷ []))
+    ∷ CallE 3 (NameE 3 (codes "next")) (exps_of (TableE 3 (fields_of (Item (NumberE 3 (pos 7)) ∷ [])) ∷ []))
+    ∷ []))
     ∷ [])))) ∷ [])) ∷ [])) ∷ [])
 
 abbrev pub RawEquality : Type 0
@@ -596,11 +596,11 @@ RawEquality = without_steps (invoked (codes "X") 178 raw_equality 6000) ≡ Give
 abbrev pub tail_values : Block
 tail_values = stats_of (ReturnS 1 (exps_of (TableE 1 (fields_of (Pair (TextE 1 (codes "f")) (FunctionE 1 (Lambda [] true (stats_of (
     LocalFunctionS 2 (codes "g") (Lambda (codes "n" ∷ []) false (stats_of (
-        IfS 2 (arms_of (
-            Arm (BinaryE 2 op.Eq (NameE 2 (codes "n")) (NumberE 2 (pos 0))) (stats_of (ReturnS 2 (exps_of (TextE 2 (codes "x") ∷ TextE 2 (codes "y") ∷ [])) ∷ []))
-            ∷ []))
-        ∷ ReturnS 2 (exps_of (CallE 2 (NameE 2 (codes "g")) (exps_of (BinaryE 2 op.Sub (NameE 2 (codes "n")) (NumberE 2 (pos 1)) ∷ [])) ∷ []))
-        ∷ [])))
+    IfS 2 (arms_of (
+    Arm (BinaryE 2 op.Eq (NameE 2 (codes "n")) (NumberE 2 (pos 0))) (stats_of (ReturnS 2 (exps_of (TextE 2 (codes "x") ∷ TextE 2 (codes "y") ∷ [])) ∷ []))
+    ∷ []))
+    ∷ ReturnS 2 (exps_of (CallE 2 (NameE 2 (codes "g")) (exps_of (BinaryE 2 op.Sub (NameE 2 (codes "n")) (NumberE 2 (pos 1)) ∷ [])) ∷ []))
+    ∷ [])))
     ∷ ReturnS 3 (exps_of (CallE 3 (NameE 3 (codes "g")) (exps_of (NumberE 3 (pos 3) ∷ [])) ∷ []))
     ∷ [])))) ∷ [])) ∷ [])) ∷ [])
 

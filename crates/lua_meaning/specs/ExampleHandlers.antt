@@ -22,18 +22,18 @@ use Rattle.lua_meaning.specs.Trial.{Gives, Fails, Spends, Loads, Asks, without_s
 abbrev pub at_most_handler : Block
 at_most_handler = stats_of (ReturnS 1 (exps_of (TableE 1 (fields_of (Pair (TextE 1 (codes "f")) (FunctionE 1 (Lambda [] true (stats_of (
     LocalS 2 (codes "m" ∷ []) (exps_of (TableE 2 (fields_of (
-        Pair (TextE 2 (codes "__le")) (FunctionE 2 (Lambda (codes "a" ∷ codes "b" ∷ []) false (stats_of (ReturnS 2 (exps_of (IndexE 2 (NameE 2 (codes "a")) (TextE 2 (codes "n")) ∷ [])) ∷ []))))
-        ∷ Pair (TextE 2 (codes "__lt")) (FunctionE 2 (Lambda [] false (stats_of (CallS 2 (CallE 2 (NameE 2 (codes "error")) (exps_of (TextE 2 (codes "no") ∷ []))) ∷ []))))
-        ∷ [])) ∷ []))
+    Pair (TextE 2 (codes "__le")) (FunctionE 2 (Lambda (codes "a" ∷ codes "b" ∷ []) false (stats_of (ReturnS 2 (exps_of (IndexE 2 (NameE 2 (codes "a")) (TextE 2 (codes "n")) ∷ [])) ∷ []))))
+    ∷ Pair (TextE 2 (codes "__lt")) (FunctionE 2 (Lambda [] false (stats_of (CallS 2 (CallE 2 (NameE 2 (codes "error")) (exps_of (TextE 2 (codes "no") ∷ []))) ∷ []))))
+    ∷ [])) ∷ []))
     ∷ LocalS 3 (codes "a" ∷ codes "b" ∷ []) (exps_of (
-        CallE 3 (NameE 3 (codes "setmetatable")) (exps_of (TableE 3 (fields_of (Pair (TextE 3 (codes "n")) (NumberE 3 (pos 1)) ∷ [])) ∷ NameE 3 (codes "m") ∷ []))
-        ∷ CallE 3 (NameE 3 (codes "setmetatable")) (exps_of (TableE 3 (fields_of (Pair (TextE 3 (codes "n")) (FalseE 3) ∷ [])) ∷ NameE 3 (codes "m") ∷ []))
-        ∷ []))
+    CallE 3 (NameE 3 (codes "setmetatable")) (exps_of (TableE 3 (fields_of (Pair (TextE 3 (codes "n")) (NumberE 3 (pos 1)) ∷ [])) ∷ NameE 3 (codes "m") ∷ []))
+    ∷ CallE 3 (NameE 3 (codes "setmetatable")) (exps_of (TableE 3 (fields_of (Pair (TextE 3 (codes "n")) (FalseE 3) ∷ [])) ∷ NameE 3 (codes "m") ∷ []))
+    ∷ []))
     ∷ ReturnS 4 (exps_of (
-        CallE 4 (NameE 4 (codes "tostring")) (exps_of (BinaryE 4 op.Le (NameE 4 (codes "a")) (NameE 4 (codes "b")) ∷ []))
-        ∷ CallE 4 (NameE 4 (codes "tostring")) (exps_of (BinaryE 4 op.Le (NameE 4 (codes "b")) (NameE 4 (codes "a")) ∷ []))
-        ∷ CallE 4 (NameE 4 (codes "tostring")) (exps_of (BinaryE 4 op.Ge (NameE 4 (codes "a")) (NameE 4 (codes "b")) ∷ []))
-        ∷ []))
+    CallE 4 (NameE 4 (codes "tostring")) (exps_of (BinaryE 4 op.Le (NameE 4 (codes "a")) (NameE 4 (codes "b")) ∷ []))
+    ∷ CallE 4 (NameE 4 (codes "tostring")) (exps_of (BinaryE 4 op.Le (NameE 4 (codes "b")) (NameE 4 (codes "a")) ∷ []))
+    ∷ CallE 4 (NameE 4 (codes "tostring")) (exps_of (BinaryE 4 op.Ge (NameE 4 (codes "a")) (NameE 4 (codes "b")) ∷ []))
+    ∷ []))
     ∷ [])))) ∷ [])) ∷ [])) ∷ [])
 
 abbrev pub AtMostHandler : Type 0
@@ -49,13 +49,13 @@ abbrev pub nil_is_not_less : Block
 nil_is_not_less = stats_of (ReturnS 1 (exps_of (TableE 1 (fields_of (Pair (TextE 1 (codes "f")) (FunctionE 1 (Lambda [] true (stats_of (
     LocalS 2 (codes "m" ∷ []) (exps_of (TableE 2 (fields_of (Pair (TextE 2 (codes "__lt")) (FunctionE 2 (Lambda [] false NoStat)) ∷ [])) ∷ []))
     ∷ LocalS 3 (codes "a" ∷ codes "b" ∷ []) (exps_of (
-        CallE 3 (NameE 3 (codes "setmetatable")) (exps_of (TableE 3 NoField ∷ NameE 3 (codes "m") ∷ []))
-        ∷ CallE 3 (NameE 3 (codes "setmetatable")) (exps_of (TableE 3 NoField ∷ NameE 3 (codes "m") ∷ []))
-        ∷ []))
+    CallE 3 (NameE 3 (codes "setmetatable")) (exps_of (TableE 3 NoField ∷ NameE 3 (codes "m") ∷ []))
+    ∷ CallE 3 (NameE 3 (codes "setmetatable")) (exps_of (TableE 3 NoField ∷ NameE 3 (codes "m") ∷ []))
+    ∷ []))
     ∷ ReturnS 4 (exps_of (
-        CallE 4 (NameE 4 (codes "tostring")) (exps_of (BinaryE 4 op.Le (NameE 4 (codes "a")) (NameE 4 (codes "b")) ∷ []))
-        ∷ CallE 4 (NameE 4 (codes "tostring")) (exps_of (BinaryE 4 op.Lt (NameE 4 (codes "a")) (NameE 4 (codes "b")) ∷ []))
-        ∷ []))
+    CallE 4 (NameE 4 (codes "tostring")) (exps_of (BinaryE 4 op.Le (NameE 4 (codes "a")) (NameE 4 (codes "b")) ∷ []))
+    ∷ CallE 4 (NameE 4 (codes "tostring")) (exps_of (BinaryE 4 op.Lt (NameE 4 (codes "a")) (NameE 4 (codes "b")) ∷ []))
+    ∷ []))
     ∷ [])))) ∷ [])) ∷ [])) ∷ [])
 
 abbrev pub NilIsNotLess : Type 0
@@ -70,16 +70,16 @@ NilIsNotLess = without_steps (invoked (codes "X") 142 nil_is_not_less 6000) ≡ 
 abbrev pub greater : Block
 greater = stats_of (ReturnS 1 (exps_of (TableE 1 (fields_of (Pair (TextE 1 (codes "f")) (FunctionE 1 (Lambda [] true (stats_of (
     LocalS 2 (codes "m" ∷ []) (exps_of (TableE 2 (fields_of (Pair (TextE 2 (codes "__lt")) (FunctionE 2 (Lambda (codes "x" ∷ codes "y" ∷ []) false (stats_of (ReturnS 2 (exps_of (
-        BinaryE 2 op.Lt (IndexE 2 (NameE 2 (codes "x")) (TextE 2 (codes "n"))) (IndexE 2 (NameE 2 (codes "y")) (TextE 2 (codes "n")))
-        ∷ [])) ∷ [])))) ∷ [])) ∷ []))
+    BinaryE 2 op.Lt (IndexE 2 (NameE 2 (codes "x")) (TextE 2 (codes "n"))) (IndexE 2 (NameE 2 (codes "y")) (TextE 2 (codes "n")))
+    ∷ [])) ∷ [])))) ∷ [])) ∷ []))
     ∷ LocalS 3 (codes "a" ∷ codes "b" ∷ []) (exps_of (
-        CallE 3 (NameE 3 (codes "setmetatable")) (exps_of (TableE 3 (fields_of (Pair (TextE 3 (codes "n")) (NumberE 3 (pos 1)) ∷ [])) ∷ NameE 3 (codes "m") ∷ []))
-        ∷ CallE 3 (NameE 3 (codes "setmetatable")) (exps_of (TableE 3 (fields_of (Pair (TextE 3 (codes "n")) (NumberE 3 (pos 2)) ∷ [])) ∷ NameE 3 (codes "m") ∷ []))
-        ∷ []))
+    CallE 3 (NameE 3 (codes "setmetatable")) (exps_of (TableE 3 (fields_of (Pair (TextE 3 (codes "n")) (NumberE 3 (pos 1)) ∷ [])) ∷ NameE 3 (codes "m") ∷ []))
+    ∷ CallE 3 (NameE 3 (codes "setmetatable")) (exps_of (TableE 3 (fields_of (Pair (TextE 3 (codes "n")) (NumberE 3 (pos 2)) ∷ [])) ∷ NameE 3 (codes "m") ∷ []))
+    ∷ []))
     ∷ ReturnS 4 (exps_of (
-        CallE 4 (NameE 4 (codes "tostring")) (exps_of (BinaryE 4 op.Gt (NameE 4 (codes "a")) (NameE 4 (codes "b")) ∷ []))
-        ∷ CallE 4 (NameE 4 (codes "tostring")) (exps_of (BinaryE 4 op.Gt (NameE 4 (codes "b")) (NameE 4 (codes "a")) ∷ []))
-        ∷ []))
+    CallE 4 (NameE 4 (codes "tostring")) (exps_of (BinaryE 4 op.Gt (NameE 4 (codes "a")) (NameE 4 (codes "b")) ∷ []))
+    ∷ CallE 4 (NameE 4 (codes "tostring")) (exps_of (BinaryE 4 op.Gt (NameE 4 (codes "b")) (NameE 4 (codes "a")) ∷ []))
+    ∷ []))
     ∷ [])))) ∷ [])) ∷ [])) ∷ [])
 
 abbrev pub Greater : Type 0
@@ -94,15 +94,15 @@ Greater = without_steps (invoked (codes "X") 165 greater 6000) ≡ Gives (codes 
 abbrev pub call_chain : Block
 call_chain = stats_of (ReturnS 1 (exps_of (TableE 1 (fields_of (Pair (TextE 1 (codes "f")) (FunctionE 1 (Lambda [] true (stats_of (
     LocalS 2 (codes "u" ∷ []) (exps_of (CallE 2 (NameE 2 (codes "setmetatable")) (exps_of (
-        TableE 2 NoField
-        ∷ TableE 2 (fields_of (Pair (TextE 2 (codes "__call")) (FunctionE 2 (Lambda [] true (stats_of (ReturnS 2 (exps_of (
-            CallE 2 (NameE 2 (codes "select")) (exps_of (TextE 2 (codes "#") ∷ DotsE 2 ∷ []))
-            ∷ CallE 2 (NameE 2 (codes "select")) (exps_of (NumberE 2 (pos 3) ∷ DotsE 2 ∷ []))
-            ∷ [])) ∷ [])))) ∷ []))
-        ∷ [])) ∷ []))
+    TableE 2 NoField
+    ∷ TableE 2 (fields_of (Pair (TextE 2 (codes "__call")) (FunctionE 2 (Lambda [] true (stats_of (ReturnS 2 (exps_of (
+    CallE 2 (NameE 2 (codes "select")) (exps_of (TextE 2 (codes "#") ∷ DotsE 2 ∷ []))
+    ∷ CallE 2 (NameE 2 (codes "select")) (exps_of (NumberE 2 (pos 3) ∷ DotsE 2 ∷ []))
+    ∷ [])) ∷ [])))) ∷ []))
+    ∷ [])) ∷ []))
     ∷ LocalS 3 (codes "t" ∷ []) (exps_of (
-        CallE 3 (NameE 3 (codes "setmetatable")) (exps_of (TableE 3 NoField ∷ TableE 3 (fields_of (Pair (TextE 3 (codes "__call")) (NameE 3 (codes "u")) ∷ [])) ∷ []))
-        ∷ []))
+    CallE 3 (NameE 3 (codes "setmetatable")) (exps_of (TableE 3 NoField ∷ TableE 3 (fields_of (Pair (TextE 3 (codes "__call")) (NameE 3 (codes "u")) ∷ [])) ∷ []))
+    ∷ []))
     ∷ ReturnS 4 (exps_of (CallE 4 (NameE 4 (codes "t")) (exps_of (TextE 4 (codes "a") ∷ TextE 4 (codes "b") ∷ [])) ∷ []))
     ∷ [])))) ∷ [])) ∷ [])) ∷ [])
 
@@ -117,15 +117,15 @@ CallChain = without_steps (invoked (codes "X") 171 call_chain 6000) ≡ Gives (c
 abbrev pub false_protects : Block
 false_protects = stats_of (ReturnS 1 (exps_of (TableE 1 (fields_of (Pair (TextE 1 (codes "f")) (FunctionE 1 (Lambda [] true (stats_of (
     LocalS 2 (codes "t" ∷ []) (exps_of (
-        CallE 2 (NameE 2 (codes "setmetatable")) (exps_of (TableE 2 NoField ∷ TableE 2 (fields_of (Pair (TextE 2 (codes "__metatable")) (FalseE 2) ∷ [])) ∷ []))
-        ∷ []))
+    CallE 2 (NameE 2 (codes "setmetatable")) (exps_of (TableE 2 NoField ∷ TableE 2 (fields_of (Pair (TextE 2 (codes "__metatable")) (FalseE 2) ∷ [])) ∷ []))
+    ∷ []))
     ∷ ReturnS 3 (exps_of (
-        CallE 3 (NameE 3 (codes "tostring")) (exps_of (CallE 3 (NameE 3 (codes "getmetatable")) (exps_of (NameE 3 (codes "t") ∷ [])) ∷ []))
-        ∷ CallE 3 (NameE 3 (codes "select")) (exps_of (
-            NumberE 3 (pos 2)
-            ∷ CallE 3 (NameE 3 (codes "pcall")) (exps_of (NameE 3 (codes "setmetatable") ∷ NameE 3 (codes "t") ∷ TableE 3 NoField ∷ []))
-            ∷ []))
-        ∷ []))
+    CallE 3 (NameE 3 (codes "tostring")) (exps_of (CallE 3 (NameE 3 (codes "getmetatable")) (exps_of (NameE 3 (codes "t") ∷ [])) ∷ []))
+    ∷ CallE 3 (NameE 3 (codes "select")) (exps_of (
+    NumberE 3 (pos 2)
+    ∷ CallE 3 (NameE 3 (codes "pcall")) (exps_of (NameE 3 (codes "setmetatable") ∷ NameE 3 (codes "t") ∷ TableE 3 NoField ∷ []))
+    ∷ []))
+    ∷ []))
     ∷ [])))) ∷ [])) ∷ [])) ∷ [])
 
 abbrev pub FalseProtects : Type 0
@@ -146,29 +146,29 @@ abbrev pub levels_through_handlers : Block
 levels_through_handlers = stats_of (ReturnS 1 (exps_of (TableE 1 (fields_of (Pair (TextE 1 (codes "f")) (FunctionE 1 (Lambda [] true (stats_of (
     LocalFunctionS 2 (codes "bad") (Lambda [] false (stats_of (CallS 2 (CallE 2 (NameE 2 (codes "error")) (exps_of (TextE 2 (codes "m") ∷ NumberE 2 (pos 2) ∷ []))) ∷ [])))
     ∷ LocalS 3 (codes "t" ∷ []) (exps_of (CallE 3 (NameE 3 (codes "setmetatable")) (exps_of (
-        TableE 3 NoField
-        ∷ TableE 3 (fields_of (
-            Pair (TextE 3 (codes "__add")) (NameE 3 (codes "bad"))
-            ∷ Pair (TextE 3 (codes "__index")) (NameE 3 (codes "bad"))
-            ∷ Pair (TextE 3 (codes "__newindex")) (NameE 3 (codes "bad"))
-            ∷ Pair (TextE 3 (codes "__call")) (NameE 3 (codes "bad"))
-            ∷ []))
-        ∷ [])) ∷ []))
+    TableE 3 NoField
+    ∷ TableE 3 (fields_of (
+    Pair (TextE 3 (codes "__add")) (NameE 3 (codes "bad"))
+    ∷ Pair (TextE 3 (codes "__index")) (NameE 3 (codes "bad"))
+    ∷ Pair (TextE 3 (codes "__newindex")) (NameE 3 (codes "bad"))
+    ∷ Pair (TextE 3 (codes "__call")) (NameE 3 (codes "bad"))
+    ∷ []))
+    ∷ [])) ∷ []))
     ∷ LocalFunctionS 4 (codes "e") (Lambda (codes "f" ∷ []) false (stats_of (ReturnS 4 (exps_of (
-        BinaryE 4 op.Concat (CallE 4 (NameE 4 (codes "select")) (exps_of (NumberE 4 (pos 2) ∷ CallE 4 (NameE 4 (codes "pcall")) (exps_of (NameE 4 (codes "f") ∷ [])) ∷ []))) (TextE 4 (codes ";"))
-        ∷ [])) ∷ [])))
+    BinaryE 4 op.Concat (CallE 4 (NameE 4 (codes "select")) (exps_of (NumberE 4 (pos 2) ∷ CallE 4 (NameE 4 (codes "pcall")) (exps_of (NameE 4 (codes "f") ∷ [])) ∷ []))) (TextE 4 (codes ";"))
+    ∷ [])) ∷ [])))
     ∷ ReturnS 5 (exps_of (
-        CallE 5 (NameE 5 (codes "e")) (exps_of (
-            FunctionE 5 (Lambda [] false (stats_of (ReturnS 6 (exps_of (BinaryE 6 op.Add (NameE 6 (codes "t")) (NumberE 6 (pos 1)) ∷ [])) ∷ [])))
-            ∷ []))
-        ∷ CallE 6 (NameE 6 (codes "e")) (exps_of (
-            FunctionE 6 (Lambda [] false (stats_of (ReturnS 7 (exps_of (IndexE 7 (NameE 7 (codes "t")) (TextE 7 (codes "x")) ∷ [])) ∷ [])))
-            ∷ []))
-        ∷ CallE 7 (NameE 7 (codes "e")) (exps_of (FunctionE 7 (Lambda [] false (stats_of (
-            AssignS 8 (exps_of (IndexE 8 (NameE 8 (codes "t")) (TextE 8 (codes "x")) ∷ [])) (exps_of (NumberE 8 (pos 1) ∷ []))
-            ∷ []))) ∷ []))
-        ∷ CallE 8 (NameE 8 (codes "e")) (exps_of (FunctionE 8 (Lambda [] false (stats_of (CallS 9 (CallE 9 (NameE 9 (codes "t")) NoExp) ∷ []))) ∷ []))
-        ∷ []))
+    CallE 5 (NameE 5 (codes "e")) (exps_of (
+    FunctionE 5 (Lambda [] false (stats_of (ReturnS 6 (exps_of (BinaryE 6 op.Add (NameE 6 (codes "t")) (NumberE 6 (pos 1)) ∷ [])) ∷ [])))
+    ∷ []))
+    ∷ CallE 6 (NameE 6 (codes "e")) (exps_of (
+    FunctionE 6 (Lambda [] false (stats_of (ReturnS 7 (exps_of (IndexE 7 (NameE 7 (codes "t")) (TextE 7 (codes "x")) ∷ [])) ∷ [])))
+    ∷ []))
+    ∷ CallE 7 (NameE 7 (codes "e")) (exps_of (FunctionE 7 (Lambda [] false (stats_of (
+    AssignS 8 (exps_of (IndexE 8 (NameE 8 (codes "t")) (TextE 8 (codes "x")) ∷ [])) (exps_of (NumberE 8 (pos 1) ∷ []))
+    ∷ []))) ∷ []))
+    ∷ CallE 8 (NameE 8 (codes "e")) (exps_of (FunctionE 8 (Lambda [] false (stats_of (CallS 9 (CallE 9 (NameE 9 (codes "t")) NoExp) ∷ []))) ∷ []))
+    ∷ []))
     ∷ [])))) ∷ [])) ∷ [])) ∷ [])
 
 abbrev pub LevelsThroughHandlers : Type 0
@@ -182,17 +182,17 @@ LevelsThroughHandlers = without_steps (invoked (codes "X") 311 levels_through_ha
 abbrev pub levels_in_tostring : Block
 levels_in_tostring = stats_of (ReturnS 1 (exps_of (TableE 1 (fields_of (Pair (TextE 1 (codes "f")) (FunctionE 1 (Lambda [] true (stats_of (
     LocalS 2 (codes "t" ∷ []) (exps_of (CallE 2 (NameE 2 (codes "setmetatable")) (exps_of (
-        TableE 2 NoField
-        ∷ TableE 2 (fields_of (
-            Pair (TextE 2 (codes "__tostring")) (FunctionE 2 (Lambda [] false (stats_of (CallS 2 (CallE 2 (NameE 2 (codes "error")) (exps_of (TextE 2 (codes "m") ∷ NumberE 2 (pos 2) ∷ []))) ∷ []))))
-            ∷ []))
-        ∷ [])) ∷ []))
+    TableE 2 NoField
+    ∷ TableE 2 (fields_of (
+    Pair (TextE 2 (codes "__tostring")) (FunctionE 2 (Lambda [] false (stats_of (CallS 2 (CallE 2 (NameE 2 (codes "error")) (exps_of (TextE 2 (codes "m") ∷ NumberE 2 (pos 2) ∷ []))) ∷ []))))
+    ∷ []))
+    ∷ [])) ∷ []))
     ∷ ReturnS 3 (exps_of (CallE 3 (NameE 3 (codes "select")) (exps_of (
-        NumberE 3 (pos 2)
-        ∷ CallE 3 (NameE 3 (codes "pcall")) (exps_of (
-            FunctionE 3 (Lambda [] false (stats_of (ReturnS 3 (exps_of (CallE 3 (NameE 3 (codes "tostring")) (exps_of (NameE 3 (codes "t") ∷ [])) ∷ [])) ∷ [])))
-            ∷ []))
-        ∷ [])) ∷ []))
+    NumberE 3 (pos 2)
+    ∷ CallE 3 (NameE 3 (codes "pcall")) (exps_of (
+    FunctionE 3 (Lambda [] false (stats_of (ReturnS 3 (exps_of (CallE 3 (NameE 3 (codes "tostring")) (exps_of (NameE 3 (codes "t") ∷ [])) ∷ [])) ∷ [])))
+    ∷ []))
+    ∷ [])) ∷ []))
     ∷ [])))) ∷ [])) ∷ [])) ∷ [])
 
 abbrev pub LevelsInTostring : Type 0
@@ -205,16 +205,16 @@ LevelsInTostring = without_steps (invoked (codes "X") 152 levels_in_tostring 600
 abbrev pub one_value_of_handlers : Block
 one_value_of_handlers = stats_of (ReturnS 1 (exps_of (TableE 1 (fields_of (Pair (TextE 1 (codes "f")) (FunctionE 1 (Lambda [] true (stats_of (ReturnS 2 (exps_of (
     CallE 2 (NameE 2 (codes "select")) (exps_of (
-        TextE 2 (codes "#")
-        ∷ CallE 2 (NameE 2 (codes "xpcall")) (exps_of (
-            NameE 2 (codes "error")
-            ∷ FunctionE 2 (Lambda [] false (stats_of (ReturnS 2 (exps_of (NumberE 2 (pos 1) ∷ NumberE 2 (pos 2) ∷ [])) ∷ [])))
-            ∷ []))
-        ∷ []))
+    TextE 2 (codes "#")
     ∷ CallE 2 (NameE 2 (codes "xpcall")) (exps_of (
-        NameE 2 (codes "error")
-        ∷ FunctionE 2 (Lambda [] false (stats_of (ReturnS 2 (exps_of (NumberE 2 (pos 1) ∷ NumberE 2 (pos 2) ∷ [])) ∷ [])))
-        ∷ []))
+    NameE 2 (codes "error")
+    ∷ FunctionE 2 (Lambda [] false (stats_of (ReturnS 2 (exps_of (NumberE 2 (pos 1) ∷ NumberE 2 (pos 2) ∷ [])) ∷ [])))
+    ∷ []))
+    ∷ []))
+    ∷ CallE 2 (NameE 2 (codes "xpcall")) (exps_of (
+    NameE 2 (codes "error")
+    ∷ FunctionE 2 (Lambda [] false (stats_of (ReturnS 2 (exps_of (NumberE 2 (pos 1) ∷ NumberE 2 (pos 2) ∷ [])) ∷ [])))
+    ∷ []))
     ∷ [])) ∷ [])))) ∷ [])) ∷ [])) ∷ [])
 
 abbrev pub OneValueOfHandlers : Type 0
@@ -227,17 +227,17 @@ OneValueOfHandlers = without_steps (invoked (codes "X") 127 one_value_of_handler
 abbrev pub number_as_text : Block
 number_as_text = stats_of (ReturnS 1 (exps_of (TableE 1 (fields_of (Pair (TextE 1 (codes "f")) (FunctionE 1 (Lambda [] true (stats_of (ReturnS 2 (exps_of (
     CallE 2 (NameE 2 (codes "type")) (exps_of (CallE 2 (NameE 2 (codes "tostring")) (exps_of (CallE 2 (NameE 2 (codes "setmetatable")) (exps_of (
-        TableE 2 NoField
-        ∷ TableE 2 (fields_of (
-            Pair (TextE 2 (codes "__tostring")) (FunctionE 2 (Lambda [] false (stats_of (ReturnS 2 (exps_of (NumberE 2 (pos 12) ∷ [])) ∷ []))))
-            ∷ []))
-        ∷ [])) ∷ [])) ∷ []))
+    TableE 2 NoField
+    ∷ TableE 2 (fields_of (
+    Pair (TextE 2 (codes "__tostring")) (FunctionE 2 (Lambda [] false (stats_of (ReturnS 2 (exps_of (NumberE 2 (pos 12) ∷ [])) ∷ []))))
+    ∷ []))
+    ∷ [])) ∷ [])) ∷ []))
     ∷ CallE 2 (NameE 2 (codes "setmetatable")) (exps_of (
-        TableE 2 NoField
-        ∷ TableE 2 (fields_of (
-            Pair (TextE 2 (codes "__tostring")) (FunctionE 2 (Lambda [] false (stats_of (ReturnS 2 (exps_of (NumberE 2 (pos 7) ∷ [])) ∷ []))))
-            ∷ []))
-        ∷ []))
+    TableE 2 NoField
+    ∷ TableE 2 (fields_of (
+    Pair (TextE 2 (codes "__tostring")) (FunctionE 2 (Lambda [] false (stats_of (ReturnS 2 (exps_of (NumberE 2 (pos 7) ∷ [])) ∷ []))))
+    ∷ []))
+    ∷ []))
     ∷ [])) ∷ [])))) ∷ [])) ∷ [])) ∷ [])
 
 abbrev pub NumberAsText : Type 0
@@ -254,15 +254,15 @@ abbrev pub method_first : Block
 method_first = stats_of (ReturnS 1 (exps_of (TableE 1 (fields_of (Pair (TextE 1 (codes "f")) (FunctionE 1 (Lambda [] true (stats_of (
     LocalS 2 (codes "log" ∷ []) (exps_of (TextE 2 [] ∷ []))
     ∷ LocalS 3 (codes "o" ∷ []) (exps_of (CallE 3 (NameE 3 (codes "setmetatable")) (exps_of (
-        TableE 3 NoField
-        ∷ TableE 3 (fields_of (Pair (TextE 3 (codes "__index")) (FunctionE 3 (Lambda (codes "t" ∷ codes "k" ∷ []) false (stats_of (
-            AssignS 3 (exps_of (NameE 3 (codes "log") ∷ [])) (exps_of (BinaryE 3 op.Concat (NameE 3 (codes "log")) (NameE 3 (codes "k")) ∷ []))
-            ∷ ReturnS 3 (exps_of (FunctionE 3 (Lambda [] false NoStat) ∷ []))
-            ∷ [])))) ∷ []))
-        ∷ [])) ∷ []))
+    TableE 3 NoField
+    ∷ TableE 3 (fields_of (Pair (TextE 3 (codes "__index")) (FunctionE 3 (Lambda (codes "t" ∷ codes "k" ∷ []) false (stats_of (
+    AssignS 3 (exps_of (NameE 3 (codes "log") ∷ [])) (exps_of (BinaryE 3 op.Concat (NameE 3 (codes "log")) (NameE 3 (codes "k")) ∷ []))
+    ∷ ReturnS 3 (exps_of (FunctionE 3 (Lambda [] false NoStat) ∷ []))
+    ∷ [])))) ∷ []))
+    ∷ [])) ∷ []))
     ∷ CallS 4 (MethodE 4 (NameE 4 (codes "o")) (codes "m") (exps_of (CallE 4 (ParenE 4 (FunctionE 4 (Lambda [] false (stats_of (
-        AssignS 4 (exps_of (NameE 4 (codes "log") ∷ [])) (exps_of (BinaryE 4 op.Concat (NameE 4 (codes "log")) (TextE 4 (codes "!")) ∷ []))
-        ∷ []))))) NoExp ∷ [])))
+    AssignS 4 (exps_of (NameE 4 (codes "log") ∷ [])) (exps_of (BinaryE 4 op.Concat (NameE 4 (codes "log")) (TextE 4 (codes "!")) ∷ []))
+    ∷ []))))) NoExp ∷ [])))
     ∷ ReturnS 5 (exps_of (NameE 5 (codes "log") ∷ []))
     ∷ [])))) ∷ [])) ∷ [])) ∷ [])
 
@@ -277,15 +277,15 @@ MethodFirst = without_steps (invoked (codes "X") 175 method_first 6000) ≡ Give
 abbrev pub library_calls_nothing : Block
 library_calls_nothing = stats_of (ReturnS 1 (exps_of (TableE 1 (fields_of (Pair (TextE 1 (codes "f")) (FunctionE 1 (Lambda [] true (stats_of (
     LocalFunctionS 2 (codes "e") (Lambda (codes "f" ∷ []) true (stats_of (ReturnS 2 (exps_of (
-        BinaryE 2 op.Concat (CallE 2 (NameE 2 (codes "select")) (exps_of (NumberE 2 (pos 2) ∷ CallE 2 (NameE 2 (codes "pcall")) (exps_of (NameE 2 (codes "f") ∷ DotsE 2 ∷ [])) ∷ []))) (TextE 2 (codes ";"))
-        ∷ [])) ∷ [])))
+    BinaryE 2 op.Concat (CallE 2 (NameE 2 (codes "select")) (exps_of (NumberE 2 (pos 2) ∷ CallE 2 (NameE 2 (codes "pcall")) (exps_of (NameE 2 (codes "f") ∷ DotsE 2 ∷ [])) ∷ []))) (TextE 2 (codes ";"))
+    ∷ [])) ∷ [])))
     ∷ ReturnS 3 (exps_of (
-        CallE 3 (NameE 3 (codes "e")) (exps_of (NumberE 3 (pos 1) ∷ []))
-        ∷ CallE 3 (NameE 3 (codes "e")) (exps_of (NilE 3 ∷ []))
-        ∷ CallE 3 (NameE 3 (codes "e")) (exps_of (FunctionE 3 (Lambda [] false (stats_of (ReturnS 3 (exps_of (CallE 3 (NameE 3 (codes "tostring")) (exps_of (
-            CallE 3 (NameE 3 (codes "setmetatable")) (exps_of (TableE 3 NoField ∷ TableE 3 (fields_of (Pair (TextE 3 (codes "__tostring")) (NumberE 3 (pos 1)) ∷ [])) ∷ []))
-            ∷ [])) ∷ [])) ∷ []))) ∷ []))
-        ∷ []))
+    CallE 3 (NameE 3 (codes "e")) (exps_of (NumberE 3 (pos 1) ∷ []))
+    ∷ CallE 3 (NameE 3 (codes "e")) (exps_of (NilE 3 ∷ []))
+    ∷ CallE 3 (NameE 3 (codes "e")) (exps_of (FunctionE 3 (Lambda [] false (stats_of (ReturnS 3 (exps_of (CallE 3 (NameE 3 (codes "tostring")) (exps_of (
+    CallE 3 (NameE 3 (codes "setmetatable")) (exps_of (TableE 3 NoField ∷ TableE 3 (fields_of (Pair (TextE 3 (codes "__tostring")) (NumberE 3 (pos 1)) ∷ [])) ∷ []))
+    ∷ [])) ∷ [])) ∷ []))) ∷ []))
+    ∷ []))
     ∷ [])))) ∷ [])) ∷ [])) ∷ [])
 
 abbrev pub LibraryCallsNothing : Type 0
@@ -300,13 +300,13 @@ abbrev pub absent_is_nil : Block
 absent_is_nil = stats_of (ReturnS 1 (exps_of (TableE 1 (fields_of (Pair (TextE 1 (codes "f")) (FunctionE 1 (Lambda [] true (stats_of (
     LocalS 2 (codes "t" ∷ []) (exps_of (CallE 2 (NameE 2 (codes "setmetatable")) (exps_of (TableE 2 NoField ∷ TableE 2 NoField ∷ [])) ∷ []))
     ∷ ReturnS 3 (exps_of (
-        CallE 3 (NameE 3 (codes "tostring")) (exps_of (
-            CallE 3 (NameE 3 (codes "getmetatable")) (exps_of (CallE 3 (NameE 3 (codes "setmetatable")) (exps_of (NameE 3 (codes "t") ∷ [])) ∷ []))
-            ∷ []))
-        ∷ CallE 3 (NameE 3 (codes "tostring")) (exps_of (CallE 3 (NameE 3 (codes "rawequal")) NoExp ∷ []))
-        ∷ CallE 3 (NameE 3 (codes "tostring")) (exps_of (CallE 3 (NameE 3 (codes "rawget")) (exps_of (TableE 3 NoField ∷ [])) ∷ []))
-        ∷ CallE 3 (NameE 3 (codes "type")) NoExp
-        ∷ []))
+    CallE 3 (NameE 3 (codes "tostring")) (exps_of (
+    CallE 3 (NameE 3 (codes "getmetatable")) (exps_of (CallE 3 (NameE 3 (codes "setmetatable")) (exps_of (NameE 3 (codes "t") ∷ [])) ∷ []))
+    ∷ []))
+    ∷ CallE 3 (NameE 3 (codes "tostring")) (exps_of (CallE 3 (NameE 3 (codes "rawequal")) NoExp ∷ []))
+    ∷ CallE 3 (NameE 3 (codes "tostring")) (exps_of (CallE 3 (NameE 3 (codes "rawget")) (exps_of (TableE 3 NoField ∷ [])) ∷ []))
+    ∷ CallE 3 (NameE 3 (codes "type")) NoExp
+    ∷ []))
     ∷ [])))) ∷ [])) ∷ [])) ∷ [])
 
 abbrev pub AbsentIsNil : Type 0
@@ -323,8 +323,8 @@ AbsentIsNil = without_steps (invoked (codes "X") 152 absent_is_nil 6000) ≡ Giv
 abbrev pub kept_tables : Block
 kept_tables = stats_of (ReturnS 1 (exps_of (TableE 1 (fields_of (Pair (TextE 1 (codes "f")) (FunctionE 1 (Lambda [] true (stats_of (
     AssignS 2 (exps_of (IndexE 2 (NameE 2 (codes "string")) (TextE 2 (codes "twice")) ∷ [])) (exps_of (
-        FunctionE 2 (Lambda (codes "s" ∷ []) false (stats_of (ReturnS 2 (exps_of (BinaryE 2 op.Concat (NameE 2 (codes "s")) (NameE 2 (codes "s")) ∷ [])) ∷ [])))
-        ∷ []))
+    FunctionE 2 (Lambda (codes "s" ∷ []) false (stats_of (ReturnS 2 (exps_of (BinaryE 2 op.Concat (NameE 2 (codes "s")) (NameE 2 (codes "s")) ∷ [])) ∷ [])))
+    ∷ []))
     ∷ AssignS 3 (exps_of (NameE 3 (codes "string") ∷ [])) (exps_of (NilE 3 ∷ []))
     ∷ AssignS 4 (exps_of (NameE 4 (codes "x") ∷ [])) (exps_of (NumberE 4 (pos 5) ∷ []))
     ∷ AssignS 5 (exps_of (NameE 5 (codes "_G") ∷ [])) (exps_of (TableE 5 (fields_of (Pair (TextE 5 (codes "x")) (NumberE 5 (pos 6)) ∷ [])) ∷ []))
@@ -344,11 +344,11 @@ abbrev pub false_goes_on : Block
 false_goes_on = stats_of (ReturnS 1 (exps_of (TableE 1 (fields_of (Pair (TextE 1 (codes "f")) (FunctionE 1 (Lambda [] true (stats_of (
     LocalS 2 (codes "n" ∷ []) (exps_of (NumberE 2 (pos 0) ∷ []))
     ∷ EachS 3 (codes "v" ∷ []) (exps_of (FunctionE 3 (Lambda [] false (stats_of (
-        AssignS 3 (exps_of (NameE 3 (codes "n") ∷ [])) (exps_of (BinaryE 3 op.Add (NameE 3 (codes "n")) (NumberE 3 (pos 1)) ∷ []))
-        ∷ IfS 3 (arms_of (
-            Arm (BinaryE 3 op.Lt (NameE 3 (codes "n")) (NumberE 3 (pos 4))) (stats_of (ReturnS 3 (exps_of (FalseE 3 ∷ [])) ∷ []))
-            ∷ []))
-        ∷ []))) ∷ [])) NoStat
+    AssignS 3 (exps_of (NameE 3 (codes "n") ∷ [])) (exps_of (BinaryE 3 op.Add (NameE 3 (codes "n")) (NumberE 3 (pos 1)) ∷ []))
+    ∷ IfS 3 (arms_of (
+    Arm (BinaryE 3 op.Lt (NameE 3 (codes "n")) (NumberE 3 (pos 4))) (stats_of (ReturnS 3 (exps_of (FalseE 3 ∷ [])) ∷ []))
+    ∷ []))
+    ∷ []))) ∷ [])) NoStat
     ∷ ReturnS 4 (exps_of (NameE 4 (codes "n") ∷ []))
     ∷ [])))) ∷ [])) ∷ [])) ∷ [])
 
@@ -362,17 +362,17 @@ FalseGoesOn = without_steps (invoked (codes "X") 113 false_goes_on 6000) ≡ Giv
 abbrev pub assert_has_no_place : Block
 assert_has_no_place = stats_of (ReturnS 1 (exps_of (TableE 1 (fields_of (Pair (TextE 1 (codes "f")) (FunctionE 1 (Lambda [] true (stats_of (ReturnS 2 (exps_of (
     CallE 2 (NameE 2 (codes "select")) (exps_of (
-        NumberE 2 (pos 2)
-        ∷ CallE 2 (NameE 2 (codes "pcall")) (exps_of (
-            FunctionE 2 (Lambda [] false (stats_of (CallS 2 (CallE 2 (NameE 2 (codes "assert")) (exps_of (NilE 2 ∷ TextE 2 (codes "no") ∷ []))) ∷ [])))
-            ∷ []))
-        ∷ []))
+    NumberE 2 (pos 2)
+    ∷ CallE 2 (NameE 2 (codes "pcall")) (exps_of (
+    FunctionE 2 (Lambda [] false (stats_of (CallS 2 (CallE 2 (NameE 2 (codes "assert")) (exps_of (NilE 2 ∷ TextE 2 (codes "no") ∷ []))) ∷ [])))
+    ∷ []))
+    ∷ []))
     ∷ CallE 2 (NameE 2 (codes "select")) (exps_of (
-        NumberE 2 (pos 2)
-        ∷ CallE 2 (NameE 2 (codes "pcall")) (exps_of (
-            FunctionE 2 (Lambda [] false (stats_of (CallS 2 (CallE 2 (NameE 2 (codes "assert")) (exps_of (FalseE 2 ∷ []))) ∷ [])))
-            ∷ []))
-        ∷ []))
+    NumberE 2 (pos 2)
+    ∷ CallE 2 (NameE 2 (codes "pcall")) (exps_of (
+    FunctionE 2 (Lambda [] false (stats_of (CallS 2 (CallE 2 (NameE 2 (codes "assert")) (exps_of (FalseE 2 ∷ []))) ∷ [])))
+    ∷ []))
+    ∷ []))
     ∷ [])) ∷ [])))) ∷ [])) ∷ [])) ∷ [])
 
 abbrev pub AssertHasNoPlace : Type 0
@@ -387,26 +387,26 @@ AssertHasNoPlace = without_steps (invoked (codes "X") 130 assert_has_no_place 60
 abbrev pub pairs_handler_arguments : Block
 pairs_handler_arguments = stats_of (ReturnS 1 (exps_of (TableE 1 (fields_of (Pair (TextE 1 (codes "f")) (FunctionE 1 (Lambda [] true (stats_of (
     LocalFunctionS 2 (codes "h") (Lambda [] true (stats_of (ReturnS 2 (exps_of (
-        CallE 2 (NameE 2 (codes "select")) (exps_of (TextE 2 (codes "#") ∷ DotsE 2 ∷ []))
-        ∷ NumberE 2 (pos 2)
-        ∷ NumberE 2 (pos 3)
-        ∷ NumberE 2 (pos 4)
-        ∷ [])) ∷ [])))
+    CallE 2 (NameE 2 (codes "select")) (exps_of (TextE 2 (codes "#") ∷ DotsE 2 ∷ []))
+    ∷ NumberE 2 (pos 2)
+    ∷ NumberE 2 (pos 3)
+    ∷ NumberE 2 (pos 4)
+    ∷ [])) ∷ [])))
     ∷ LocalS 3 (codes "t" ∷ []) (exps_of (CallE 3 (NameE 3 (codes "setmetatable")) (exps_of (
-        TableE 3 NoField
-        ∷ TableE 3 (fields_of (
-            Pair (TextE 3 (codes "__pairs")) (NameE 3 (codes "h"))
-            ∷ Pair (TextE 3 (codes "__ipairs")) (NameE 3 (codes "h"))
-            ∷ []))
-        ∷ [])) ∷ []))
+    TableE 3 NoField
+    ∷ TableE 3 (fields_of (
+    Pair (TextE 3 (codes "__pairs")) (NameE 3 (codes "h"))
+    ∷ Pair (TextE 3 (codes "__ipairs")) (NameE 3 (codes "h"))
+    ∷ []))
+    ∷ [])) ∷ []))
     ∷ ReturnS 4 (exps_of (
-        CallE 4 (NameE 4 (codes "select")) (exps_of (
-            TextE 4 (codes "#")
-            ∷ CallE 4 (NameE 4 (codes "pairs")) (exps_of (NameE 4 (codes "t") ∷ NumberE 4 (pos 1) ∷ NumberE 4 (pos 2) ∷ []))
-            ∷ []))
-        ∷ CallE 4 (NameE 4 (codes "pairs")) (exps_of (NameE 4 (codes "t") ∷ NumberE 4 (pos 1) ∷ []))
-        ∷ CallE 4 (NameE 4 (codes "ipairs")) (exps_of (NameE 4 (codes "t") ∷ NumberE 4 (pos 1) ∷ NumberE 4 (pos 2) ∷ []))
-        ∷ []))
+    CallE 4 (NameE 4 (codes "select")) (exps_of (
+    TextE 4 (codes "#")
+    ∷ CallE 4 (NameE 4 (codes "pairs")) (exps_of (NameE 4 (codes "t") ∷ NumberE 4 (pos 1) ∷ NumberE 4 (pos 2) ∷ []))
+    ∷ []))
+    ∷ CallE 4 (NameE 4 (codes "pairs")) (exps_of (NameE 4 (codes "t") ∷ NumberE 4 (pos 1) ∷ []))
+    ∷ CallE 4 (NameE 4 (codes "ipairs")) (exps_of (NameE 4 (codes "t") ∷ NumberE 4 (pos 1) ∷ NumberE 4 (pos 2) ∷ []))
+    ∷ []))
     ∷ [])))) ∷ [])) ∷ [])) ∷ [])
 
 abbrev pub PairsHandlerArguments : Type 0
@@ -421,18 +421,18 @@ PairsHandlerArguments = without_steps (invoked (codes "X") 188 pairs_handler_arg
 abbrev pub any_chain : Block
 any_chain = stats_of (ReturnS 1 (exps_of (TableE 1 (fields_of (Pair (TextE 1 (codes "f")) (FunctionE 1 (Lambda [] true (stats_of (
     LocalS 2 (codes "t" ∷ []) (exps_of (
-        CallE 2 (NameE 2 (codes "setmetatable")) (exps_of (TableE 2 NoField ∷ TableE 2 (fields_of (Pair (TextE 2 (codes "__index")) (TextE 2 (codes "abc")) ∷ [])) ∷ []))
-        ∷ []))
+    CallE 2 (NameE 2 (codes "setmetatable")) (exps_of (TableE 2 NoField ∷ TableE 2 (fields_of (Pair (TextE 2 (codes "__index")) (TextE 2 (codes "abc")) ∷ [])) ∷ []))
+    ∷ []))
     ∷ AssignS 3 (exps_of (IndexE 3 (NameE 3 (codes "string")) (TextE 3 (codes "name")) ∷ [])) (exps_of (TextE 3 (codes "s") ∷ []))
     ∷ ReturnS 4 (exps_of (
-        IndexE 4 (NameE 4 (codes "t")) (TextE 4 (codes "name"))
-        ∷ CallE 4 (NameE 4 (codes "select")) (exps_of (
-            NumberE 4 (pos 2)
-            ∷ CallE 4 (NameE 4 (codes "pcall")) (exps_of (FunctionE 4 (Lambda [] false (stats_of (ReturnS 4 (exps_of (
-                IndexE 4 (CallE 4 (NameE 4 (codes "setmetatable")) (exps_of (TableE 4 NoField ∷ TableE 4 (fields_of (Pair (TextE 4 (codes "__index")) (NumberE 4 (pos 1)) ∷ [])) ∷ []))) (TextE 4 (codes "x"))
-                ∷ [])) ∷ []))) ∷ []))
-            ∷ []))
-        ∷ []))
+    IndexE 4 (NameE 4 (codes "t")) (TextE 4 (codes "name"))
+    ∷ CallE 4 (NameE 4 (codes "select")) (exps_of (
+    NumberE 4 (pos 2)
+    ∷ CallE 4 (NameE 4 (codes "pcall")) (exps_of (FunctionE 4 (Lambda [] false (stats_of (ReturnS 4 (exps_of (
+    IndexE 4 (CallE 4 (NameE 4 (codes "setmetatable")) (exps_of (TableE 4 NoField ∷ TableE 4 (fields_of (Pair (TextE 4 (codes "__index")) (NumberE 4 (pos 1)) ∷ [])) ∷ []))) (TextE 4 (codes "x"))
+    ∷ [])) ∷ []))) ∷ []))
+    ∷ []))
+    ∷ []))
     ∷ [])))) ∷ [])) ∷ [])) ∷ [])
 
 abbrev pub AnyChain : Type 0
@@ -446,8 +446,8 @@ abbrev pub failing_answer : Block
 failing_answer = stats_of (ReturnS 1 (exps_of (TableE 1 (fields_of (Pair (TextE 1 (codes "f")) (FunctionE 1 (Lambda [] true (stats_of (ReturnS 2 (exps_of (CallE 2 (NameE 2 (codes "setmetatable")) (exps_of (
     TableE 2 NoField
     ∷ TableE 2 (fields_of (
-        Pair (TextE 2 (codes "__tostring")) (FunctionE 2 (Lambda [] false (stats_of (ReturnS 2 (exps_of (TableE 2 NoField ∷ [])) ∷ []))))
-        ∷ []))
+    Pair (TextE 2 (codes "__tostring")) (FunctionE 2 (Lambda [] false (stats_of (ReturnS 2 (exps_of (TableE 2 NoField ∷ [])) ∷ []))))
+    ∷ []))
     ∷ [])) ∷ [])) ∷ [])))) ∷ [])) ∷ [])) ∷ [])
 
 abbrev pub FailingAnswer : Type 0

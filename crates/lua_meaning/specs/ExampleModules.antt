@@ -22,8 +22,8 @@ requires_once = stats_of (ReturnS 1 (exps_of (TableE 1 (fields_of (Pair (TextE 1
     IndexE 2 (CallE 2 (NameE 2 (codes "require")) (exps_of (TextE 2 (codes "Module:Y") ∷ []))) (TextE 2 (codes "n"))
     ∷ IndexE 2 (CallE 2 (NameE 2 (codes "require")) (exps_of (TextE 2 (codes "Module: Y") ∷ []))) (TextE 2 (codes "n"))
     ∷ CallE 2 (NameE 2 (codes "tostring")) (exps_of (
-        BinaryE 2 op.Eq (CallE 2 (NameE 2 (codes "require")) (exps_of (TextE 2 (codes "Module:Y") ∷ []))) (CallE 2 (NameE 2 (codes "require")) (exps_of (TextE 2 (codes " module:y ") ∷ [])))
-        ∷ []))
+    BinaryE 2 op.Eq (CallE 2 (NameE 2 (codes "require")) (exps_of (TextE 2 (codes "Module:Y") ∷ []))) (CallE 2 (NameE 2 (codes "require")) (exps_of (TextE 2 (codes " module:y ") ∷ [])))
+    ∷ []))
     ∷ [])) ∷ [])))) ∷ [])) ∷ [])) ∷ [])
 
 -- and Module:Y
@@ -74,8 +74,8 @@ abbrev pub requires_itself : Block
 requires_itself = stats_of (
     LocalS 1 (codes "p" ∷ []) (exps_of (TableE 1 NoField ∷ []))
     ∷ AssignS 1 (exps_of (IndexE 1 (NameE 1 (codes "p")) (TextE 1 (codes "f")) ∷ [])) (exps_of (FunctionE 1 (Lambda [] false (stats_of (ReturnS 1 (exps_of (CallE 1 (NameE 1 (codes "tostring")) (exps_of (
-        BinaryE 1 op.Eq (CallE 1 (NameE 1 (codes "require")) (exps_of (TextE 1 (codes "Module:X") ∷ []))) (NameE 1 (codes "p"))
-        ∷ [])) ∷ [])) ∷ []))) ∷ []))
+    BinaryE 1 op.Eq (CallE 1 (NameE 1 (codes "require")) (exps_of (TextE 1 (codes "Module:X") ∷ []))) (NameE 1 (codes "p"))
+    ∷ [])) ∷ [])) ∷ []))) ∷ []))
     ∷ ReturnS 1 (exps_of (NameE 1 (codes "p") ∷ []))
     ∷ [])
 
@@ -99,13 +99,13 @@ abbrev pub loops_through : Block
 loops_through = stats_of (ReturnS 1 (exps_of (TableE 1 (fields_of (Pair (TextE 1 (codes "f")) (FunctionE 1 (Lambda (codes "frame" ∷ []) false (stats_of (
     LocalS 2 (codes "ok" ∷ codes "e" ∷ []) (exps_of (CallE 2 (NameE 2 (codes "pcall")) (exps_of (NameE 2 (codes "require") ∷ TextE 2 (codes "Module:Y") ∷ [])) ∷ []))
     ∷ ReturnS 3 (exps_of (
-        NameE 3 (codes "e")
-        ∷ CallE 3 (NameE 3 (codes "tostring")) (exps_of (NameE 3 (codes "done") ∷ []))
-        ∷ CallE 3 (NameE 3 (codes "tostring")) (exps_of (BinaryE 3 op.Eq (CallE 3 (NameE 3 (codes "select")) (exps_of (
-            NumberE 3 (pos 2)
-            ∷ CallE 3 (NameE 3 (codes "pcall")) (exps_of (NameE 3 (codes "require") ∷ TextE 3 (codes "Module:Y") ∷ []))
-            ∷ []))) (NameE 3 (codes "e")) ∷ []))
-        ∷ []))
+    NameE 3 (codes "e")
+    ∷ CallE 3 (NameE 3 (codes "tostring")) (exps_of (NameE 3 (codes "done") ∷ []))
+    ∷ CallE 3 (NameE 3 (codes "tostring")) (exps_of (BinaryE 3 op.Eq (CallE 3 (NameE 3 (codes "select")) (exps_of (
+    NumberE 3 (pos 2)
+    ∷ CallE 3 (NameE 3 (codes "pcall")) (exps_of (NameE 3 (codes "require") ∷ TextE 3 (codes "Module:Y") ∷ []))
+    ∷ []))) (NameE 3 (codes "e")) ∷ []))
+    ∷ []))
     ∷ [])))) ∷ [])) ∷ [])) ∷ [])
 
 -- and Module:Y
@@ -156,16 +156,16 @@ RunsAgain = without_steps (asked (held (codes "X") 108 runs_again ∷ held (code
 abbrev pub no_module : Block
 no_module = stats_of (ReturnS 1 (exps_of (TableE 1 (fields_of (Pair (TextE 1 (codes "f")) (FunctionE 1 (Lambda (codes "frame" ∷ []) false (stats_of (
     LocalFunctionS 2 (codes "e") (Lambda (codes "x" ∷ []) false (stats_of (ReturnS 2 (exps_of (BinaryE 2 op.Concat (CallE 2 (NameE 2 (codes "select")) (exps_of (
-        NumberE 2 (pos 2)
-        ∷ CallE 2 (NameE 2 (codes "pcall")) (exps_of (NameE 2 (codes "require") ∷ NameE 2 (codes "x") ∷ []))
-        ∷ []))) (TextE 2 (codes ";")) ∷ [])) ∷ [])))
+    NumberE 2 (pos 2)
+    ∷ CallE 2 (NameE 2 (codes "pcall")) (exps_of (NameE 2 (codes "require") ∷ NameE 2 (codes "x") ∷ []))
+    ∷ []))) (TextE 2 (codes ";")) ∷ [])) ∷ [])))
     ∷ ReturnS 3 (exps_of (
-        CallE 3 (NameE 3 (codes "e")) (exps_of (TextE 3 (codes "Y") ∷ []))
-        ∷ CallE 3 (NameE 3 (codes "e")) (exps_of (TextE 3 (codes "Module:Z") ∷ []))
-        ∷ CallE 3 (NameE 3 (codes "e")) (exps_of (TextE 3 (codes "Module:") ∷ []))
-        ∷ CallE 3 (NameE 3 (codes "e")) (exps_of (NumberE 3 (pos 12) ∷ []))
-        ∷ CallE 3 (NameE 3 (codes "select")) (exps_of (NumberE 3 (pos 2) ∷ CallE 3 (NameE 3 (codes "pcall")) (exps_of (NameE 3 (codes "require") ∷ [])) ∷ []))
-        ∷ []))
+    CallE 3 (NameE 3 (codes "e")) (exps_of (TextE 3 (codes "Y") ∷ []))
+    ∷ CallE 3 (NameE 3 (codes "e")) (exps_of (TextE 3 (codes "Module:Z") ∷ []))
+    ∷ CallE 3 (NameE 3 (codes "e")) (exps_of (TextE 3 (codes "Module:") ∷ []))
+    ∷ CallE 3 (NameE 3 (codes "e")) (exps_of (NumberE 3 (pos 12) ∷ []))
+    ∷ CallE 3 (NameE 3 (codes "select")) (exps_of (NumberE 3 (pos 2) ∷ CallE 3 (NameE 3 (codes "pcall")) (exps_of (NameE 3 (codes "require") ∷ [])) ∷ []))
+    ∷ []))
     ∷ [])))) ∷ [])) ∷ [])) ∷ [])
 
 -- and Module:Y
@@ -183,17 +183,17 @@ NoModule = without_steps (asked (held (codes "X") 165 no_module ∷ held (codes 
 abbrev pub module_levels : Block
 module_levels = stats_of (ReturnS 1 (exps_of (TableE 1 (fields_of (Pair (TextE 1 (codes "f")) (FunctionE 1 (Lambda (codes "frame" ∷ []) false (stats_of (ReturnS 2 (exps_of (
     CallE 2 (NameE 2 (codes "select")) (exps_of (
-        NumberE 2 (pos 2)
-        ∷ CallE 2 (NameE 2 (codes "pcall")) (exps_of (
-            FunctionE 2 (Lambda [] false (stats_of (CallS 2 (CallE 2 (NameE 2 (codes "require")) (exps_of (TextE 2 (codes "Module:Y") ∷ []))) ∷ [])))
-            ∷ []))
-        ∷ []))
+    NumberE 2 (pos 2)
+    ∷ CallE 2 (NameE 2 (codes "pcall")) (exps_of (
+    FunctionE 2 (Lambda [] false (stats_of (CallS 2 (CallE 2 (NameE 2 (codes "require")) (exps_of (TextE 2 (codes "Module:Y") ∷ []))) ∷ [])))
+    ∷ []))
+    ∷ []))
     ∷ CallE 2 (NameE 2 (codes "select")) (exps_of (
-        NumberE 2 (pos 2)
-        ∷ CallE 2 (NameE 2 (codes "pcall")) (exps_of (
-            FunctionE 2 (Lambda [] false (stats_of (CallS 2 (CallE 2 (NameE 2 (codes "require")) (exps_of (TextE 2 (codes "Module:Z") ∷ []))) ∷ [])))
-            ∷ []))
-        ∷ []))
+    NumberE 2 (pos 2)
+    ∷ CallE 2 (NameE 2 (codes "pcall")) (exps_of (
+    FunctionE 2 (Lambda [] false (stats_of (CallS 2 (CallE 2 (NameE 2 (codes "require")) (exps_of (TextE 2 (codes "Module:Z") ∷ []))) ∷ [])))
+    ∷ []))
+    ∷ []))
     ∷ [])) ∷ [])))) ∷ [])) ∷ [])) ∷ [])
 
 -- and Module:Y
@@ -243,23 +243,23 @@ ModuleCosts = (asked (held (codes "X") 81 module_costs ∷ held (codes "Y") 8 mo
 abbrev pub strict : Block
 strict = stats_of (ReturnS 1 (exps_of (TableE 1 (fields_of (Pair (TextE 1 (codes "f")) (FunctionE 1 (Lambda (codes "frame" ∷ []) false (stats_of (
     LocalFunctionS 2 (codes "e") (Lambda (codes "f" ∷ []) false (stats_of (ReturnS 2 (exps_of (
-        BinaryE 2 op.Concat (CallE 2 (NameE 2 (codes "select")) (exps_of (NumberE 2 (pos 2) ∷ CallE 2 (NameE 2 (codes "pcall")) (exps_of (NameE 2 (codes "f") ∷ [])) ∷ []))) (TextE 2 (codes ";"))
-        ∷ [])) ∷ [])))
+    BinaryE 2 op.Concat (CallE 2 (NameE 2 (codes "select")) (exps_of (NumberE 2 (pos 2) ∷ CallE 2 (NameE 2 (codes "pcall")) (exps_of (NameE 2 (codes "f") ∷ [])) ∷ []))) (TextE 2 (codes ";"))
+    ∷ [])) ∷ [])))
     ∷ AssignS 3 (exps_of (NameE 3 (codes "x") ∷ [])) (exps_of (NumberE 3 (pos 1) ∷ []))
     ∷ LocalS 4 (codes "given" ∷ []) (exps_of (CallE 4 (NameE 4 (codes "require")) (exps_of (TextE 4 (codes "strict") ∷ [])) ∷ []))
     ∷ AssignS 5 (exps_of (NameE 5 (codes "x") ∷ [])) (exps_of (NumberE 5 (pos 2) ∷ []))
     ∷ ReturnS 6 (exps_of (
-        CallE 6 (NameE 6 (codes "tostring")) (exps_of (NameE 6 (codes "given") ∷ []))
-        ∷ NameE 6 (codes "x")
-        ∷ CallE 6 (NameE 6 (codes "e")) (exps_of (FunctionE 6 (Lambda [] false (stats_of (ReturnS 7 (exps_of (NameE 7 (codes "y") ∷ [])) ∷ []))) ∷ []))
-        ∷ CallE 7 (NameE 7 (codes "e")) (exps_of (
-            FunctionE 7 (Lambda [] false (stats_of (AssignS 8 (exps_of (NameE 8 (codes "y") ∷ [])) (exps_of (NumberE 8 (pos 1) ∷ [])) ∷ [])))
-            ∷ []))
-        ∷ CallE 8 (NameE 8 (codes "e")) (exps_of (
-            FunctionE 8 (Lambda [] false (stats_of (ReturnS 8 (exps_of (IndexE 8 (NameE 8 (codes "_G")) (TableE 8 NoField) ∷ [])) ∷ [])))
-            ∷ []))
-        ∷ CallE 8 (NameE 8 (codes "tostring")) (exps_of (CallE 8 (NameE 8 (codes "rawget")) (exps_of (NameE 8 (codes "_G") ∷ TextE 8 (codes "y") ∷ [])) ∷ []))
-        ∷ []))
+    CallE 6 (NameE 6 (codes "tostring")) (exps_of (NameE 6 (codes "given") ∷ []))
+    ∷ NameE 6 (codes "x")
+    ∷ CallE 6 (NameE 6 (codes "e")) (exps_of (FunctionE 6 (Lambda [] false (stats_of (ReturnS 7 (exps_of (NameE 7 (codes "y") ∷ [])) ∷ []))) ∷ []))
+    ∷ CallE 7 (NameE 7 (codes "e")) (exps_of (
+    FunctionE 7 (Lambda [] false (stats_of (AssignS 8 (exps_of (NameE 8 (codes "y") ∷ [])) (exps_of (NumberE 8 (pos 1) ∷ [])) ∷ [])))
+    ∷ []))
+    ∷ CallE 8 (NameE 8 (codes "e")) (exps_of (
+    FunctionE 8 (Lambda [] false (stats_of (ReturnS 8 (exps_of (IndexE 8 (NameE 8 (codes "_G")) (TableE 8 NoField) ∷ [])) ∷ [])))
+    ∷ []))
+    ∷ CallE 8 (NameE 8 (codes "tostring")) (exps_of (CallE 8 (NameE 8 (codes "rawget")) (exps_of (NameE 8 (codes "_G") ∷ TextE 8 (codes "y") ∷ [])) ∷ []))
+    ∷ []))
     ∷ [])))) ∷ [])) ∷ [])) ∷ [])
 
 abbrev pub Strict : Type 0
@@ -281,24 +281,24 @@ strict_anew = stats_of (ReturnS 1 (exps_of (TableE 1 (fields_of (Pair (TextE 1 (
     ∷ LocalS 3 (codes "m" ∷ []) (exps_of (CallE 3 (NameE 3 (codes "getmetatable")) (exps_of (NameE 3 (codes "_G") ∷ [])) ∷ []))
     ∷ CallS 4 (CallE 4 (NameE 4 (codes "require")) (exps_of (TextE 4 (codes "strict") ∷ [])))
     ∷ CallS 5 (CallE 5 (NameE 5 (codes "setmetatable")) (exps_of (
-        NameE 5 (codes "_G")
-        ∷ TableE 5 (fields_of (
-            Pair (TextE 5 (codes "__metatable")) (NumberE 5 (pos 1))
-            ∷ Pair (TextE 5 (codes "__index")) (FunctionE 5 (Lambda [] false (stats_of (ReturnS 5 (exps_of (NumberE 5 (pos 3) ∷ [])) ∷ []))))
-            ∷ []))
-        ∷ [])))
+    NameE 5 (codes "_G")
+    ∷ TableE 5 (fields_of (
+    Pair (TextE 5 (codes "__metatable")) (NumberE 5 (pos 1))
+    ∷ Pair (TextE 5 (codes "__index")) (FunctionE 5 (Lambda [] false (stats_of (ReturnS 5 (exps_of (NumberE 5 (pos 3) ∷ [])) ∷ []))))
+    ∷ []))
+    ∷ [])))
     ∷ LocalS 6 (codes "y3" ∷ []) (exps_of (NameE 6 (codes "y") ∷ []))
     ∷ CallS 7 (CallE 7 (NameE 7 (codes "require")) (exps_of (TextE 7 (codes "strict") ∷ [])))
     ∷ ReturnS 8 (exps_of (
-        CallE 8 (NameE 8 (codes "tostring")) (exps_of (
-            BinaryE 8 op.Eq (NameE 8 (codes "m")) (CallE 8 (NameE 8 (codes "getmetatable")) (exps_of (NameE 8 (codes "_G") ∷ [])))
-            ∷ []))
-        ∷ NameE 8 (codes "y3")
-        ∷ CallE 8 (NameE 8 (codes "select")) (exps_of (
-            NumberE 8 (pos 2)
-            ∷ CallE 8 (NameE 8 (codes "pcall")) (exps_of (FunctionE 8 (Lambda [] false (stats_of (ReturnS 8 (exps_of (NameE 8 (codes "y") ∷ [])) ∷ []))) ∷ []))
-            ∷ []))
-        ∷ []))
+    CallE 8 (NameE 8 (codes "tostring")) (exps_of (
+    BinaryE 8 op.Eq (NameE 8 (codes "m")) (CallE 8 (NameE 8 (codes "getmetatable")) (exps_of (NameE 8 (codes "_G") ∷ [])))
+    ∷ []))
+    ∷ NameE 8 (codes "y3")
+    ∷ CallE 8 (NameE 8 (codes "select")) (exps_of (
+    NumberE 8 (pos 2)
+    ∷ CallE 8 (NameE 8 (codes "pcall")) (exps_of (FunctionE 8 (Lambda [] false (stats_of (ReturnS 8 (exps_of (NameE 8 (codes "y") ∷ [])) ∷ []))) ∷ []))
+    ∷ []))
+    ∷ []))
     ∷ [])))) ∷ [])) ∷ [])) ∷ [])
 
 abbrev pub StrictAnew : Type 0
@@ -310,16 +310,16 @@ abbrev pub loads_once : Block
 loads_once = stats_of (
     LocalS 1 (codes "p" ∷ []) (exps_of (TableE 1 NoField ∷ []))
     ∷ AssignS 1 (exps_of (IndexE 1 (NameE 1 (codes "p")) (TextE 1 (codes "f")) ∷ [])) (exps_of (FunctionE 1 (Lambda [] false (stats_of (
-        LocalS 1 (codes "d" ∷ []) (exps_of (
-            CallE 1 (IndexE 1 (NameE 1 (codes "mw")) (TextE 1 (codes "loadData"))) (exps_of (TextE 1 (codes "Module:D") ∷ []))
-            ∷ []))
-        ∷ LocalS 1 (codes "ok" ∷ codes "e" ∷ []) (exps_of (CallE 1 (NameE 1 (codes "pcall")) (exps_of (FunctionE 1 (Lambda [] false (stats_of (
-            AssignS 1 (exps_of (IndexE 1 (NameE 1 (codes "d")) (TextE 1 (codes "v")) ∷ [])) (exps_of (NumberE 1 (pos 6) ∷ []))
-            ∷ []))) ∷ [])) ∷ []))
-        ∷ ReturnS 1 (exps_of (
-            BinaryE 1 op.Concat (IndexE 1 (IndexE 1 (IndexE 1 (NameE 1 (codes "d")) (TextE 1 (codes "me"))) (TextE 1 (codes "me"))) (TextE 1 (codes "v"))) (BinaryE 1 op.Concat (TextE 1 (codes " ")) (BinaryE 1 op.Concat (CallE 1 (NameE 1 (codes "tostring")) (exps_of (NameE 1 (codes "ok") ∷ []))) (BinaryE 1 op.Concat (TextE 1 (codes " ")) (NameE 1 (codes "e")))))
-            ∷ []))
-        ∷ []))) ∷ []))
+    LocalS 1 (codes "d" ∷ []) (exps_of (
+    CallE 1 (IndexE 1 (NameE 1 (codes "mw")) (TextE 1 (codes "loadData"))) (exps_of (TextE 1 (codes "Module:D") ∷ []))
+    ∷ []))
+    ∷ LocalS 1 (codes "ok" ∷ codes "e" ∷ []) (exps_of (CallE 1 (NameE 1 (codes "pcall")) (exps_of (FunctionE 1 (Lambda [] false (stats_of (
+    AssignS 1 (exps_of (IndexE 1 (NameE 1 (codes "d")) (TextE 1 (codes "v")) ∷ [])) (exps_of (NumberE 1 (pos 6) ∷ []))
+    ∷ []))) ∷ [])) ∷ []))
+    ∷ ReturnS 1 (exps_of (
+    BinaryE 1 op.Concat (IndexE 1 (IndexE 1 (IndexE 1 (NameE 1 (codes "d")) (TextE 1 (codes "me"))) (TextE 1 (codes "me"))) (TextE 1 (codes "v"))) (BinaryE 1 op.Concat (TextE 1 (codes " ")) (BinaryE 1 op.Concat (CallE 1 (NameE 1 (codes "tostring")) (exps_of (NameE 1 (codes "ok") ∷ []))) (BinaryE 1 op.Concat (TextE 1 (codes " ")) (NameE 1 (codes "e")))))
+    ∷ []))
+    ∷ []))) ∷ []))
     ∷ ReturnS 1 (exps_of (NameE 1 (codes "p") ∷ []))
     ∷ [])
 
@@ -334,16 +334,16 @@ LoadsOnce = without_steps (asked (held (codes "R") 153 loads_once ∷ []) [] (co
 abbrev pub loaded_again : Block
 loaded_again = stats_of (ReturnS 1 (exps_of (TableE 1 (fields_of (Pair (TextE 1 (codes "f")) (FunctionE 1 (Lambda (codes "frame" ∷ []) false (stats_of (
     LocalS 2 (codes "a" ∷ []) (exps_of (
-        CallE 2 (IndexE 2 (NameE 2 (codes "mw")) (TextE 2 (codes "loadData"))) (exps_of (TextE 2 (codes "Module:D") ∷ []))
-        ∷ []))
+    CallE 2 (IndexE 2 (NameE 2 (codes "mw")) (TextE 2 (codes "loadData"))) (exps_of (TextE 2 (codes "Module:D") ∷ []))
+    ∷ []))
     ∷ ReturnS 3 (exps_of (
-        CallE 3 (NameE 3 (codes "tostring")) (exps_of (
-            BinaryE 3 op.Eq (NameE 3 (codes "a")) (CallE 3 (IndexE 3 (NameE 3 (codes "mw")) (TextE 3 (codes "loadData"))) (exps_of (TextE 3 (codes "module: d ") ∷ [])))
-            ∷ []))
-        ∷ IndexE 3 (NameE 3 (codes "a")) (TextE 3 (codes "x"))
-        ∷ UnaryE 3 sign.Len (NameE 3 (codes "a"))
-        ∷ CallE 3 (NameE 3 (codes "tostring")) (exps_of (CallE 3 (NameE 3 (codes "next")) (exps_of (NameE 3 (codes "a") ∷ [])) ∷ []))
-        ∷ []))
+    CallE 3 (NameE 3 (codes "tostring")) (exps_of (
+    BinaryE 3 op.Eq (NameE 3 (codes "a")) (CallE 3 (IndexE 3 (NameE 3 (codes "mw")) (TextE 3 (codes "loadData"))) (exps_of (TextE 3 (codes "module: d ") ∷ [])))
+    ∷ []))
+    ∷ IndexE 3 (NameE 3 (codes "a")) (TextE 3 (codes "x"))
+    ∷ UnaryE 3 sign.Len (NameE 3 (codes "a"))
+    ∷ CallE 3 (NameE 3 (codes "tostring")) (exps_of (CallE 3 (NameE 3 (codes "next")) (exps_of (NameE 3 (codes "a") ∷ [])) ∷ []))
+    ∷ []))
     ∷ [])))) ∷ [])) ∷ [])) ∷ [])
 
 abbrev pub LoadedAgain : Type 0
@@ -358,16 +358,16 @@ LoadedAgain = without_steps (asked (held (codes "X") 133 loaded_again ∷ []) []
 abbrev pub load_fails : Block
 load_fails = stats_of (ReturnS 1 (exps_of (TableE 1 (fields_of (Pair (TextE 1 (codes "f")) (FunctionE 1 (Lambda (codes "frame" ∷ []) false (stats_of (
     LocalS 2 (codes "ok" ∷ codes "e" ∷ []) (exps_of (
-        CallE 2 (NameE 2 (codes "pcall")) (exps_of (IndexE 2 (NameE 2 (codes "mw")) (TextE 2 (codes "loadData")) ∷ TextE 2 (codes "Module:D") ∷ []))
-        ∷ []))
+    CallE 2 (NameE 2 (codes "pcall")) (exps_of (IndexE 2 (NameE 2 (codes "mw")) (TextE 2 (codes "loadData")) ∷ TextE 2 (codes "Module:D") ∷ []))
+    ∷ []))
     ∷ LocalS 3 (codes "ok2" ∷ codes "e2" ∷ []) (exps_of (
-        CallE 3 (NameE 3 (codes "pcall")) (exps_of (IndexE 3 (NameE 3 (codes "mw")) (TextE 3 (codes "loadData")) ∷ TextE 3 (codes "Module:D") ∷ []))
-        ∷ []))
+    CallE 3 (NameE 3 (codes "pcall")) (exps_of (IndexE 3 (NameE 3 (codes "mw")) (TextE 3 (codes "loadData")) ∷ TextE 3 (codes "Module:D") ∷ []))
+    ∷ []))
     ∷ ReturnS 4 (exps_of (
-        NameE 4 (codes "e")
-        ∷ CallE 4 (NameE 4 (codes "tostring")) (exps_of (NameE 4 (codes "ok2") ∷ []))
-        ∷ IndexE 4 (NameE 4 (codes "e2")) (TextE 4 (codes "x"))
-        ∷ []))
+    NameE 4 (codes "e")
+    ∷ CallE 4 (NameE 4 (codes "tostring")) (exps_of (NameE 4 (codes "ok2") ∷ []))
+    ∷ IndexE 4 (NameE 4 (codes "e2")) (TextE 4 (codes "x"))
+    ∷ []))
     ∷ [])))) ∷ [])) ∷ [])) ∷ [])
 
 abbrev pub LoadFails : Type 0
@@ -381,15 +381,15 @@ LoadFails = without_steps (asked (held (codes "X") 142 load_fails ∷ []) [] (co
 abbrev pub no_data : Block
 no_data = stats_of (ReturnS 1 (exps_of (TableE 1 (fields_of (Pair (TextE 1 (codes "f")) (FunctionE 1 (Lambda (codes "frame" ∷ []) false (stats_of (ReturnS 2 (exps_of (
     CallE 2 (NameE 2 (codes "select")) (exps_of (
-        NumberE 2 (pos 2)
-        ∷ CallE 2 (NameE 2 (codes "pcall")) (exps_of (IndexE 2 (NameE 2 (codes "mw")) (TextE 2 (codes "loadData")) ∷ TextE 2 (codes "Module:") ∷ []))
-        ∷ []))
+    NumberE 2 (pos 2)
+    ∷ CallE 2 (NameE 2 (codes "pcall")) (exps_of (IndexE 2 (NameE 2 (codes "mw")) (TextE 2 (codes "loadData")) ∷ TextE 2 (codes "Module:") ∷ []))
+    ∷ []))
     ∷ CallE 2 (NameE 2 (codes "select")) (exps_of (
-        NumberE 2 (pos 2)
-        ∷ CallE 2 (NameE 2 (codes "pcall")) (exps_of (FunctionE 2 (Lambda [] false (stats_of (
-            CallS 3 (CallE 3 (IndexE 3 (NameE 3 (codes "mw")) (TextE 3 (codes "loadData"))) (exps_of (TextE 3 (codes "D") ∷ [])))
-            ∷ []))) ∷ []))
-        ∷ []))
+    NumberE 2 (pos 2)
+    ∷ CallE 2 (NameE 2 (codes "pcall")) (exps_of (FunctionE 2 (Lambda [] false (stats_of (
+    CallS 3 (CallE 3 (IndexE 3 (NameE 3 (codes "mw")) (TextE 3 (codes "loadData"))) (exps_of (TextE 3 (codes "D") ∷ [])))
+    ∷ []))) ∷ []))
+    ∷ []))
     ∷ [])) ∷ [])))) ∷ [])) ∷ [])) ∷ [])
 
 abbrev pub NoData : Type 0

@@ -42,10 +42,10 @@ keys_first = stats_of (ReturnS 1 (exps_of (TableE 1 (fields_of (Pair (TextE 1 (c
     ∷ LocalS 3 (codes "t" ∷ []) (exps_of (TableE 3 NoField ∷ []))
     ∷ AssignS 4 (exps_of (NameE 4 (codes "i") ∷ IndexE 4 (NameE 4 (codes "t")) (NameE 4 (codes "i")) ∷ [])) (exps_of (BinaryE 4 op.Add (NameE 4 (codes "i")) (NumberE 4 (pos 1)) ∷ NumberE 4 (pos 20) ∷ []))
     ∷ ReturnS 5 (exps_of (
-        NameE 5 (codes "i")
-        ∷ IndexE 5 (NameE 5 (codes "t")) (NumberE 5 (pos 1))
-        ∷ IndexE 5 (NameE 5 (codes "t")) (NumberE 5 (pos 2))
-        ∷ []))
+    NameE 5 (codes "i")
+    ∷ IndexE 5 (NameE 5 (codes "t")) (NumberE 5 (pos 1))
+    ∷ IndexE 5 (NameE 5 (codes "t")) (NumberE 5 (pos 2))
+    ∷ []))
     ∷ [])))) ∷ [])) ∷ [])) ∷ [])
 
 abbrev pub KeysFirst : Type 0
@@ -96,9 +96,9 @@ abbrev pub shadowed : Block
 shadowed = stats_of (ReturnS 1 (exps_of (TableE 1 (fields_of (Pair (TextE 1 (codes "f")) (FunctionE 1 (Lambda [] true (stats_of (
     LocalS 2 (codes "x" ∷ []) (exps_of (NumberE 2 (pos 1) ∷ []))
     ∷ DoS 3 (stats_of (
-        LocalS 3 (codes "x" ∷ []) (exps_of (BinaryE 3 op.Add (NameE 3 (codes "x")) (NumberE 3 (pos 1)) ∷ []))
-        ∷ AssignS 3 (exps_of (NameE 3 (codes "x") ∷ [])) (exps_of (BinaryE 3 op.Add (NameE 3 (codes "x")) (NumberE 3 (pos 1)) ∷ []))
-        ∷ []))
+    LocalS 3 (codes "x" ∷ []) (exps_of (BinaryE 3 op.Add (NameE 3 (codes "x")) (NumberE 3 (pos 1)) ∷ []))
+    ∷ AssignS 3 (exps_of (NameE 3 (codes "x") ∷ [])) (exps_of (BinaryE 3 op.Add (NameE 3 (codes "x")) (NumberE 3 (pos 1)) ∷ []))
+    ∷ []))
     ∷ LocalS 4 (codes "x" ∷ []) (exps_of (BinaryE 4 op.Concat (NameE 4 (codes "x")) (TextE 4 (codes "!")) ∷ []))
     ∷ ReturnS 5 (exps_of (NameE 5 (codes "x") ∷ []))
     ∷ [])))) ∷ [])) ∷ [])) ∷ [])
@@ -114,13 +114,13 @@ Shadowed = without_steps (invoked (codes "X") 87 shadowed 6000) ≡ Gives (codes
 abbrev pub local_functions : Block
 local_functions = stats_of (ReturnS 1 (exps_of (TableE 1 (fields_of (Pair (TextE 1 (codes "f")) (FunctionE 1 (Lambda [] true (stats_of (
     LocalFunctionS 2 (codes "fact") (Lambda (codes "n" ∷ []) false (stats_of (
-        IfS 2 (arms_of (
-            Arm (BinaryE 2 op.Le (NameE 2 (codes "n")) (NumberE 2 (pos 1))) (stats_of (ReturnS 2 (exps_of (NumberE 2 (pos 1) ∷ [])) ∷ []))
-            ∷ []))
-        ∷ ReturnS 2 (exps_of (
-            BinaryE 2 op.Mul (NameE 2 (codes "n")) (CallE 2 (NameE 2 (codes "fact")) (exps_of (BinaryE 2 op.Sub (NameE 2 (codes "n")) (NumberE 2 (pos 1)) ∷ [])))
-            ∷ []))
-        ∷ [])))
+    IfS 2 (arms_of (
+    Arm (BinaryE 2 op.Le (NameE 2 (codes "n")) (NumberE 2 (pos 1))) (stats_of (ReturnS 2 (exps_of (NumberE 2 (pos 1) ∷ [])) ∷ []))
+    ∷ []))
+    ∷ ReturnS 2 (exps_of (
+    BinaryE 2 op.Mul (NameE 2 (codes "n")) (CallE 2 (NameE 2 (codes "fact")) (exps_of (BinaryE 2 op.Sub (NameE 2 (codes "n")) (NumberE 2 (pos 1)) ∷ [])))
+    ∷ []))
+    ∷ [])))
     ∷ ReturnS 3 (exps_of (CallE 3 (NameE 3 (codes "fact")) (exps_of (NumberE 3 (pos 5) ∷ [])) ∷ []))
     ∷ [])))) ∷ [])) ∷ [])) ∷ [])
 
@@ -149,14 +149,14 @@ GlobalFunctions = without_steps (invoked (codes "X") 83 global_functions 6000) �
 abbrev pub branches : Block
 branches = stats_of (ReturnS 1 (exps_of (TableE 1 (fields_of (Pair (TextE 1 (codes "f")) (FunctionE 1 (Lambda [] true (stats_of (
     LocalFunctionS 2 (codes "sign") (Lambda (codes "n" ∷ []) false (stats_of (IfElseS 2 (arms_of (
-        Arm (BinaryE 2 op.Lt (NameE 2 (codes "n")) (NumberE 2 (pos 0))) (stats_of (ReturnS 2 (exps_of (TextE 2 (codes "neg") ∷ [])) ∷ []))
-        ∷ Arm (BinaryE 2 op.Eq (NameE 2 (codes "n")) (NumberE 2 (pos 0))) (stats_of (ReturnS 2 (exps_of (TextE 2 (codes "zero") ∷ [])) ∷ []))
-        ∷ [])) (stats_of (ReturnS 2 (exps_of (TextE 2 (codes "pos") ∷ [])) ∷ [])) ∷ [])))
+    Arm (BinaryE 2 op.Lt (NameE 2 (codes "n")) (NumberE 2 (pos 0))) (stats_of (ReturnS 2 (exps_of (TextE 2 (codes "neg") ∷ [])) ∷ []))
+    ∷ Arm (BinaryE 2 op.Eq (NameE 2 (codes "n")) (NumberE 2 (pos 0))) (stats_of (ReturnS 2 (exps_of (TextE 2 (codes "zero") ∷ [])) ∷ []))
+    ∷ [])) (stats_of (ReturnS 2 (exps_of (TextE 2 (codes "pos") ∷ [])) ∷ [])) ∷ [])))
     ∷ ReturnS 3 (exps_of (
-        CallE 3 (NameE 3 (codes "sign")) (exps_of (UnaryE 3 sign.Minus (NumberE 3 (pos 1)) ∷ []))
-        ∷ CallE 3 (NameE 3 (codes "sign")) (exps_of (NumberE 3 (pos 0) ∷ []))
-        ∷ CallE 3 (NameE 3 (codes "sign")) (exps_of (NumberE 3 (pos 1) ∷ []))
-        ∷ []))
+    CallE 3 (NameE 3 (codes "sign")) (exps_of (UnaryE 3 sign.Minus (NumberE 3 (pos 1)) ∷ []))
+    ∷ CallE 3 (NameE 3 (codes "sign")) (exps_of (NumberE 3 (pos 0) ∷ []))
+    ∷ CallE 3 (NameE 3 (codes "sign")) (exps_of (NumberE 3 (pos 1) ∷ []))
+    ∷ []))
     ∷ [])))) ∷ [])) ∷ [])) ∷ [])
 
 abbrev pub Branches : Type 0
@@ -174,14 +174,14 @@ while_loop = stats_of (ReturnS 1 (exps_of (TableE 1 (fields_of (Pair (TextE 1 (c
     LocalS 2 (codes "s" ∷ []) (exps_of (TextE 2 [] ∷ []))
     ∷ LocalS 3 (codes "i" ∷ []) (exps_of (NumberE 3 (pos 0) ∷ []))
     ∷ WhileS 4 (BinaryE 4 op.Lt (NameE 4 (codes "i")) (NumberE 4 (pos 3))) (stats_of (
-        AssignS 4 (exps_of (NameE 4 (codes "i") ∷ [])) (exps_of (BinaryE 4 op.Add (NameE 4 (codes "i")) (NumberE 4 (pos 1)) ∷ []))
-        ∷ LocalS 4 (codes "j" ∷ []) (exps_of (NumberE 4 (pos 0) ∷ []))
-        ∷ WhileS 4 (TrueE 4) (stats_of (
-            AssignS 4 (exps_of (NameE 4 (codes "j") ∷ [])) (exps_of (BinaryE 4 op.Add (NameE 4 (codes "j")) (NumberE 4 (pos 1)) ∷ []))
-            ∷ IfS 4 (arms_of (Arm (BinaryE 4 op.Gt (NameE 4 (codes "j")) (NameE 4 (codes "i"))) (stats_of (BreakS 4 ∷ [])) ∷ []))
-            ∷ AssignS 4 (exps_of (NameE 4 (codes "s") ∷ [])) (exps_of (BinaryE 4 op.Concat (NameE 4 (codes "s")) (NameE 4 (codes "j")) ∷ []))
-            ∷ []))
-        ∷ []))
+    AssignS 4 (exps_of (NameE 4 (codes "i") ∷ [])) (exps_of (BinaryE 4 op.Add (NameE 4 (codes "i")) (NumberE 4 (pos 1)) ∷ []))
+    ∷ LocalS 4 (codes "j" ∷ []) (exps_of (NumberE 4 (pos 0) ∷ []))
+    ∷ WhileS 4 (TrueE 4) (stats_of (
+    AssignS 4 (exps_of (NameE 4 (codes "j") ∷ [])) (exps_of (BinaryE 4 op.Add (NameE 4 (codes "j")) (NumberE 4 (pos 1)) ∷ []))
+    ∷ IfS 4 (arms_of (Arm (BinaryE 4 op.Gt (NameE 4 (codes "j")) (NameE 4 (codes "i"))) (stats_of (BreakS 4 ∷ [])) ∷ []))
+    ∷ AssignS 4 (exps_of (NameE 4 (codes "s") ∷ [])) (exps_of (BinaryE 4 op.Concat (NameE 4 (codes "s")) (NameE 4 (codes "j")) ∷ []))
+    ∷ []))
+    ∷ []))
     ∷ ReturnS 5 (exps_of (NameE 5 (codes "s") ∷ []))
     ∷ [])))) ∷ [])) ∷ [])) ∷ [])
 
@@ -198,9 +198,9 @@ abbrev pub repeat_loop : Block
 repeat_loop = stats_of (ReturnS 1 (exps_of (TableE 1 (fields_of (Pair (TextE 1 (codes "f")) (FunctionE 1 (Lambda [] true (stats_of (
     LocalS 2 (codes "n" ∷ []) (exps_of (NumberE 2 (pos 0) ∷ []))
     ∷ RepeatS 3 (stats_of (
-        LocalS 3 (codes "done" ∷ []) (exps_of (BinaryE 3 op.Ge (NameE 3 (codes "n")) (NumberE 3 (pos 2)) ∷ []))
-        ∷ AssignS 3 (exps_of (NameE 3 (codes "n") ∷ [])) (exps_of (BinaryE 3 op.Add (NameE 3 (codes "n")) (NumberE 3 (pos 1)) ∷ []))
-        ∷ [])) (NameE 3 (codes "done"))
+    LocalS 3 (codes "done" ∷ []) (exps_of (BinaryE 3 op.Ge (NameE 3 (codes "n")) (NumberE 3 (pos 2)) ∷ []))
+    ∷ AssignS 3 (exps_of (NameE 3 (codes "n") ∷ [])) (exps_of (BinaryE 3 op.Add (NameE 3 (codes "n")) (NumberE 3 (pos 1)) ∷ []))
+    ∷ [])) (NameE 3 (codes "done"))
     ∷ ReturnS 4 (exps_of (NameE 4 (codes "n") ∷ []))
     ∷ [])))) ∷ [])) ∷ [])) ∷ [])
 
@@ -217,9 +217,9 @@ abbrev pub repeat_break : Block
 repeat_break = stats_of (ReturnS 1 (exps_of (TableE 1 (fields_of (Pair (TextE 1 (codes "f")) (FunctionE 1 (Lambda [] true (stats_of (
     LocalS 2 (codes "n" ∷ []) (exps_of (NumberE 2 (pos 0) ∷ []))
     ∷ RepeatS 3 (stats_of (
-        AssignS 3 (exps_of (NameE 3 (codes "n") ∷ [])) (exps_of (BinaryE 3 op.Add (NameE 3 (codes "n")) (NumberE 3 (pos 1)) ∷ []))
-        ∷ IfS 3 (arms_of (Arm (BinaryE 3 op.Eq (NameE 3 (codes "n")) (NumberE 3 (pos 2))) (stats_of (BreakS 3 ∷ [])) ∷ []))
-        ∷ [])) (BinaryE 3 op.Or (CallE 3 (NameE 3 (codes "error")) (exps_of (TextE 3 (codes "no") ∷ NumberE 3 (pos 0) ∷ []))) (BinaryE 3 op.Eq (NameE 3 (codes "n")) (NumberE 3 (pos 1))))
+    AssignS 3 (exps_of (NameE 3 (codes "n") ∷ [])) (exps_of (BinaryE 3 op.Add (NameE 3 (codes "n")) (NumberE 3 (pos 1)) ∷ []))
+    ∷ IfS 3 (arms_of (Arm (BinaryE 3 op.Eq (NameE 3 (codes "n")) (NumberE 3 (pos 2))) (stats_of (BreakS 3 ∷ [])) ∷ []))
+    ∷ [])) (BinaryE 3 op.Or (CallE 3 (NameE 3 (codes "error")) (exps_of (TextE 3 (codes "no") ∷ NumberE 3 (pos 0) ∷ []))) (BinaryE 3 op.Eq (NameE 3 (codes "n")) (NumberE 3 (pos 1))))
     ∷ ReturnS 4 (exps_of (NameE 4 (codes "n") ∷ []))
     ∷ [])))) ∷ [])) ∷ [])) ∷ [])
 
@@ -239,18 +239,18 @@ abbrev pub counting : Block
 counting = stats_of (ReturnS 1 (exps_of (TableE 1 (fields_of (Pair (TextE 1 (codes "f")) (FunctionE 1 (Lambda [] true (stats_of (
     LocalS 2 (codes "s" ∷ []) (exps_of (TextE 2 [] ∷ []))
     ∷ CountS 3 (codes "i") (NumberE 3 (pos 1)) (NumberE 3 (pos 3)) (stats_of (
-        AssignS 3 (exps_of (NameE 3 (codes "s") ∷ [])) (exps_of (BinaryE 3 op.Concat (NameE 3 (codes "s")) (NameE 3 (codes "i")) ∷ []))
-        ∷ AssignS 3 (exps_of (NameE 3 (codes "i") ∷ [])) (exps_of (NumberE 3 (pos 10) ∷ []))
-        ∷ []))
+    AssignS 3 (exps_of (NameE 3 (codes "s") ∷ [])) (exps_of (BinaryE 3 op.Concat (NameE 3 (codes "s")) (NameE 3 (codes "i")) ∷ []))
+    ∷ AssignS 3 (exps_of (NameE 3 (codes "i") ∷ [])) (exps_of (NumberE 3 (pos 10) ∷ []))
+    ∷ []))
     ∷ CountByS 4 (codes "i") (NumberE 4 (pos 3)) (NumberE 4 (pos 1)) (UnaryE 4 sign.Minus (NumberE 4 (pos 1))) (stats_of (
-        AssignS 4 (exps_of (NameE 4 (codes "s") ∷ [])) (exps_of (BinaryE 4 op.Concat (NameE 4 (codes "s")) (NameE 4 (codes "i")) ∷ []))
-        ∷ []))
+    AssignS 4 (exps_of (NameE 4 (codes "s") ∷ [])) (exps_of (BinaryE 4 op.Concat (NameE 4 (codes "s")) (NameE 4 (codes "i")) ∷ []))
+    ∷ []))
     ∷ CountS 5 (codes "i") (NumberE 5 (pos 1)) (NumberE 5 (pos 0)) (stats_of (
-        AssignS 5 (exps_of (NameE 5 (codes "s") ∷ [])) (exps_of (BinaryE 5 op.Concat (NameE 5 (codes "s")) (TextE 5 (codes "x")) ∷ []))
-        ∷ []))
+    AssignS 5 (exps_of (NameE 5 (codes "s") ∷ [])) (exps_of (BinaryE 5 op.Concat (NameE 5 (codes "s")) (TextE 5 (codes "x")) ∷ []))
+    ∷ []))
     ∷ CountS 6 (codes "i") (TextE 6 (codes "1")) (TextE 6 (codes "2")) (stats_of (
-        AssignS 6 (exps_of (NameE 6 (codes "s") ∷ [])) (exps_of (BinaryE 6 op.Concat (NameE 6 (codes "s")) (NameE 6 (codes "i")) ∷ []))
-        ∷ []))
+    AssignS 6 (exps_of (NameE 6 (codes "s") ∷ [])) (exps_of (BinaryE 6 op.Concat (NameE 6 (codes "s")) (NameE 6 (codes "i")) ∷ []))
+    ∷ []))
     ∷ ReturnS 7 (exps_of (NameE 7 (codes "s") ∷ []))
     ∷ [])))) ∷ [])) ∷ [])) ∷ [])
 
@@ -267,8 +267,8 @@ abbrev pub counting_to_the_end : Block
 counting_to_the_end = stats_of (ReturnS 1 (exps_of (TableE 1 (fields_of (Pair (TextE 1 (codes "f")) (FunctionE 1 (Lambda [] true (stats_of (
     LocalS 2 (codes "n" ∷ []) (exps_of (NumberE 2 (pos 0) ∷ []))
     ∷ CountS 3 (codes "i") (NumberE 3 (pos 9223372036854775806)) (NumberE 3 (pos 9223372036854775807)) (stats_of (
-        AssignS 3 (exps_of (NameE 3 (codes "n") ∷ [])) (exps_of (BinaryE 3 op.Add (NameE 3 (codes "n")) (NumberE 3 (pos 1)) ∷ []))
-        ∷ []))
+    AssignS 3 (exps_of (NameE 3 (codes "n") ∷ [])) (exps_of (BinaryE 3 op.Add (NameE 3 (codes "n")) (NumberE 3 (pos 1)) ∷ []))
+    ∷ []))
     ∷ ReturnS 4 (exps_of (NameE 4 (codes "n") ∷ []))
     ∷ [])))) ∷ [])) ∷ [])) ∷ [])
 
@@ -286,12 +286,12 @@ abbrev pub step_of_zero : Block
 step_of_zero = stats_of (ReturnS 1 (exps_of (TableE 1 (fields_of (Pair (TextE 1 (codes "f")) (FunctionE 1 (Lambda [] true (stats_of (
     LocalS 2 (codes "n" ∷ []) (exps_of (NumberE 2 (pos 0) ∷ []))
     ∷ CountByS 3 (codes "i") (NumberE 3 (pos 1)) (NumberE 3 (pos 2)) (NumberE 3 (pos 0)) (stats_of (
-        AssignS 3 (exps_of (NameE 3 (codes "n") ∷ [])) (exps_of (BinaryE 3 op.Add (NameE 3 (codes "n")) (NumberE 3 (pos 1)) ∷ []))
-        ∷ []))
+    AssignS 3 (exps_of (NameE 3 (codes "n") ∷ [])) (exps_of (BinaryE 3 op.Add (NameE 3 (codes "n")) (NumberE 3 (pos 1)) ∷ []))
+    ∷ []))
     ∷ CountByS 4 (codes "i") (NumberE 4 (pos 2)) (NumberE 4 (pos 1)) (NumberE 4 (pos 0)) (stats_of (
-        AssignS 4 (exps_of (NameE 4 (codes "n") ∷ [])) (exps_of (BinaryE 4 op.Add (NameE 4 (codes "n")) (NumberE 4 (pos 1)) ∷ []))
-        ∷ IfS 4 (arms_of (Arm (BinaryE 4 op.Eq (NameE 4 (codes "n")) (NumberE 4 (pos 3))) (stats_of (BreakS 4 ∷ [])) ∷ []))
-        ∷ []))
+    AssignS 4 (exps_of (NameE 4 (codes "n") ∷ [])) (exps_of (BinaryE 4 op.Add (NameE 4 (codes "n")) (NumberE 4 (pos 1)) ∷ []))
+    ∷ IfS 4 (arms_of (Arm (BinaryE 4 op.Eq (NameE 4 (codes "n")) (NumberE 4 (pos 3))) (stats_of (BreakS 4 ∷ [])) ∷ []))
+    ∷ []))
     ∷ ReturnS 5 (exps_of (NameE 5 (codes "n") ∷ []))
     ∷ [])))) ∷ [])) ∷ [])) ∷ [])
 
@@ -309,15 +309,15 @@ abbrev pub generic : Block
 generic = stats_of (ReturnS 1 (exps_of (TableE 1 (fields_of (Pair (TextE 1 (codes "f")) (FunctionE 1 (Lambda [] true (stats_of (
     LocalS 2 (codes "s" ∷ []) (exps_of (TextE 2 [] ∷ []))
     ∷ EachS 3 (codes "i" ∷ codes "v" ∷ []) (exps_of (CallE 3 (NameE 3 (codes "ipairs")) (exps_of (
-        TableE 3 (fields_of (Item (TextE 3 (codes "a")) ∷ Item (TextE 3 (codes "b")) ∷ Item (NilE 3) ∷ Item (TextE 3 (codes "d")) ∷ []))
-        ∷ [])) ∷ [])) (stats_of (
-        AssignS 3 (exps_of (NameE 3 (codes "s") ∷ [])) (exps_of (BinaryE 3 op.Concat (NameE 3 (codes "s")) (BinaryE 3 op.Concat (NameE 3 (codes "i")) (NameE 3 (codes "v"))) ∷ []))
-        ∷ []))
+    TableE 3 (fields_of (Item (TextE 3 (codes "a")) ∷ Item (TextE 3 (codes "b")) ∷ Item (NilE 3) ∷ Item (TextE 3 (codes "d")) ∷ []))
+    ∷ [])) ∷ [])) (stats_of (
+    AssignS 3 (exps_of (NameE 3 (codes "s") ∷ [])) (exps_of (BinaryE 3 op.Concat (NameE 3 (codes "s")) (BinaryE 3 op.Concat (NameE 3 (codes "i")) (NameE 3 (codes "v"))) ∷ []))
+    ∷ []))
     ∷ EachS 4 (codes "k" ∷ codes "v" ∷ []) (exps_of (CallE 4 (NameE 4 (codes "pairs")) (exps_of (
-        TableE 4 (fields_of (Item (TextE 4 (codes "x")) ∷ Item (TextE 4 (codes "y")) ∷ Pair (TextE 4 (codes "z")) (TextE 4 (codes "w")) ∷ []))
-        ∷ [])) ∷ [])) (stats_of (
-        AssignS 4 (exps_of (NameE 4 (codes "s") ∷ [])) (exps_of (BinaryE 4 op.Concat (NameE 4 (codes "s")) (BinaryE 4 op.Concat (NameE 4 (codes "k")) (NameE 4 (codes "v"))) ∷ []))
-        ∷ []))
+    TableE 4 (fields_of (Item (TextE 4 (codes "x")) ∷ Item (TextE 4 (codes "y")) ∷ Pair (TextE 4 (codes "z")) (TextE 4 (codes "w")) ∷ []))
+    ∷ [])) ∷ [])) (stats_of (
+    AssignS 4 (exps_of (NameE 4 (codes "s") ∷ [])) (exps_of (BinaryE 4 op.Concat (NameE 4 (codes "s")) (BinaryE 4 op.Concat (NameE 4 (codes "k")) (NameE 4 (codes "v"))) ∷ []))
+    ∷ []))
     ∷ ReturnS 5 (exps_of (NameE 5 (codes "s") ∷ []))
     ∷ [])))) ∷ [])) ∷ [])) ∷ [])
 
@@ -334,13 +334,13 @@ Generic = without_steps (invoked (codes "X") 153 generic 6000) ≡ Gives (codes 
 abbrev pub own_iterator : Block
 own_iterator = stats_of (ReturnS 1 (exps_of (TableE 1 (fields_of (Pair (TextE 1 (codes "f")) (FunctionE 1 (Lambda [] true (stats_of (
     LocalFunctionS 2 (codes "to") (Lambda (codes "n" ∷ codes "i" ∷ []) false (stats_of (IfS 2 (arms_of (Arm (BinaryE 2 op.Lt (NameE 2 (codes "i")) (NameE 2 (codes "n"))) (stats_of (ReturnS 2 (exps_of (
-        BinaryE 2 op.Add (NameE 2 (codes "i")) (NumberE 2 (pos 1))
-        ∷ BinaryE 2 op.Mul (NameE 2 (codes "i")) (NameE 2 (codes "i"))
-        ∷ [])) ∷ [])) ∷ [])) ∷ [])))
+    BinaryE 2 op.Add (NameE 2 (codes "i")) (NumberE 2 (pos 1))
+    ∷ BinaryE 2 op.Mul (NameE 2 (codes "i")) (NameE 2 (codes "i"))
+    ∷ [])) ∷ [])) ∷ [])) ∷ [])))
     ∷ LocalS 3 (codes "s" ∷ []) (exps_of (TextE 3 [] ∷ []))
     ∷ EachS 4 (codes "i" ∷ codes "q" ∷ []) (exps_of (NameE 4 (codes "to") ∷ NumberE 4 (pos 3) ∷ NumberE 4 (pos 0) ∷ [])) (stats_of (
-        AssignS 4 (exps_of (NameE 4 (codes "s") ∷ [])) (exps_of (BinaryE 4 op.Concat (NameE 4 (codes "s")) (BinaryE 4 op.Concat (NameE 4 (codes "i")) (NameE 4 (codes "q"))) ∷ []))
-        ∷ []))
+    AssignS 4 (exps_of (NameE 4 (codes "s") ∷ [])) (exps_of (BinaryE 4 op.Concat (NameE 4 (codes "s")) (BinaryE 4 op.Concat (NameE 4 (codes "i")) (NameE 4 (codes "q"))) ∷ []))
+    ∷ []))
     ∷ ReturnS 5 (exps_of (NameE 5 (codes "s") ∷ []))
     ∷ [])))) ∷ [])) ∷ [])) ∷ [])
 
@@ -358,20 +358,20 @@ OwnIterator = without_steps (invoked (codes "X") 141 own_iterator 6000) ≡ Give
 abbrev pub cleared : Block
 cleared = stats_of (ReturnS 1 (exps_of (TableE 1 (fields_of (Pair (TextE 1 (codes "f")) (FunctionE 1 (Lambda [] true (stats_of (
     LocalS 2 (codes "t" ∷ []) (exps_of (TableE 2 (fields_of (
-        Pair (TextE 2 (codes "a")) (NumberE 2 (pos 1))
-        ∷ Pair (TextE 2 (codes "b")) (NumberE 2 (pos 2))
-        ∷ Pair (TextE 2 (codes "c")) (NumberE 2 (pos 3))
-        ∷ [])) ∷ []))
+    Pair (TextE 2 (codes "a")) (NumberE 2 (pos 1))
+    ∷ Pair (TextE 2 (codes "b")) (NumberE 2 (pos 2))
+    ∷ Pair (TextE 2 (codes "c")) (NumberE 2 (pos 3))
+    ∷ [])) ∷ []))
     ∷ AssignS 3 (exps_of (IndexE 3 (NameE 3 (codes "t")) (TextE 3 (codes "b")) ∷ [])) (exps_of (NilE 3 ∷ []))
     ∷ LocalS 4 (codes "s" ∷ []) (exps_of (TextE 4 [] ∷ []))
     ∷ EachS 5 (codes "k" ∷ codes "v" ∷ []) (exps_of (CallE 5 (NameE 5 (codes "pairs")) (exps_of (NameE 5 (codes "t") ∷ [])) ∷ [])) (stats_of (
-        AssignS 5 (exps_of (NameE 5 (codes "s") ∷ [])) (exps_of (BinaryE 5 op.Concat (NameE 5 (codes "s")) (BinaryE 5 op.Concat (NameE 5 (codes "k")) (NameE 5 (codes "v"))) ∷ []))
-        ∷ AssignS 5 (exps_of (IndexE 5 (NameE 5 (codes "t")) (NameE 5 (codes "k")) ∷ [])) (exps_of (NilE 5 ∷ []))
-        ∷ []))
+    AssignS 5 (exps_of (NameE 5 (codes "s") ∷ [])) (exps_of (BinaryE 5 op.Concat (NameE 5 (codes "s")) (BinaryE 5 op.Concat (NameE 5 (codes "k")) (NameE 5 (codes "v"))) ∷ []))
+    ∷ AssignS 5 (exps_of (IndexE 5 (NameE 5 (codes "t")) (NameE 5 (codes "k")) ∷ [])) (exps_of (NilE 5 ∷ []))
+    ∷ []))
     ∷ ReturnS 6 (exps_of (
-        NameE 6 (codes "s")
-        ∷ CallE 6 (NameE 6 (codes "tostring")) (exps_of (CallE 6 (NameE 6 (codes "next")) (exps_of (NameE 6 (codes "t") ∷ [])) ∷ []))
-        ∷ []))
+    NameE 6 (codes "s")
+    ∷ CallE 6 (NameE 6 (codes "tostring")) (exps_of (CallE 6 (NameE 6 (codes "next")) (exps_of (NameE 6 (codes "t") ∷ [])) ∷ []))
+    ∷ []))
     ∷ [])))) ∷ [])) ∷ [])) ∷ [])
 
 abbrev pub Cleared : Type 0
@@ -385,21 +385,21 @@ Cleared = without_steps (invoked (codes "X") 142 cleared 6000) ≡ Gives (codes 
 abbrev pub loop_messages : Block
 loop_messages = stats_of (ReturnS 1 (exps_of (TableE 1 (fields_of (Pair (TextE 1 (codes "f")) (FunctionE 1 (Lambda [] true (stats_of (
     LocalFunctionS 2 (codes "e") (Lambda (codes "f" ∷ []) false (stats_of (
-        LocalS 2 (codes "ok" ∷ codes "v" ∷ []) (exps_of (CallE 2 (NameE 2 (codes "pcall")) (exps_of (NameE 2 (codes "f") ∷ [])) ∷ []))
-        ∷ ReturnS 2 (exps_of (BinaryE 2 op.Concat (NameE 2 (codes "v")) (TextE 2 (codes ";")) ∷ []))
-        ∷ [])))
+    LocalS 2 (codes "ok" ∷ codes "v" ∷ []) (exps_of (CallE 2 (NameE 2 (codes "pcall")) (exps_of (NameE 2 (codes "f") ∷ [])) ∷ []))
+    ∷ ReturnS 2 (exps_of (BinaryE 2 op.Concat (NameE 2 (codes "v")) (TextE 2 (codes ";")) ∷ []))
+    ∷ [])))
     ∷ ReturnS 3 (exps_of (
-        CallE 3 (NameE 3 (codes "e")) (exps_of (
-            FunctionE 3 (Lambda [] false (stats_of (CountS 3 (codes "i") (TableE 3 NoField) (NumberE 3 (pos 1)) NoStat ∷ [])))
-            ∷ []))
-        ∷ CallE 3 (NameE 3 (codes "e")) (exps_of (
-            FunctionE 3 (Lambda [] false (stats_of (CountS 3 (codes "i") (NumberE 3 (pos 1)) (TextE 3 (codes "x")) NoStat ∷ [])))
-            ∷ []))
-        ∷ CallE 3 (NameE 3 (codes "e")) (exps_of (
-            FunctionE 3 (Lambda [] false (stats_of (CountByS 3 (codes "i") (NumberE 3 (pos 1)) (NumberE 3 (pos 2)) (TableE 3 NoField) NoStat ∷ [])))
-            ∷ []))
-        ∷ CallE 3 (NameE 3 (codes "e")) (exps_of (FunctionE 3 (Lambda [] false (stats_of (EachS 3 (codes "x" ∷ []) (exps_of (NilE 3 ∷ [])) NoStat ∷ []))) ∷ []))
-        ∷ []))
+    CallE 3 (NameE 3 (codes "e")) (exps_of (
+    FunctionE 3 (Lambda [] false (stats_of (CountS 3 (codes "i") (TableE 3 NoField) (NumberE 3 (pos 1)) NoStat ∷ [])))
+    ∷ []))
+    ∷ CallE 3 (NameE 3 (codes "e")) (exps_of (
+    FunctionE 3 (Lambda [] false (stats_of (CountS 3 (codes "i") (NumberE 3 (pos 1)) (TextE 3 (codes "x")) NoStat ∷ [])))
+    ∷ []))
+    ∷ CallE 3 (NameE 3 (codes "e")) (exps_of (
+    FunctionE 3 (Lambda [] false (stats_of (CountByS 3 (codes "i") (NumberE 3 (pos 1)) (NumberE 3 (pos 2)) (TableE 3 NoField) NoStat ∷ [])))
+    ∷ []))
+    ∷ CallE 3 (NameE 3 (codes "e")) (exps_of (FunctionE 3 (Lambda [] false (stats_of (EachS 3 (codes "x" ∷ []) (exps_of (NilE 3 ∷ [])) NoStat ∷ []))) ∷ []))
+    ∷ []))
     ∷ [])))) ∷ [])) ∷ [])) ∷ [])
 
 abbrev pub LoopMessages : Type 0
@@ -416,27 +416,27 @@ LoopMessages = without_steps (invoked (codes "X") 244 loop_messages 6000) ≡ Gi
 abbrev pub walk_handlers : Block
 walk_handlers = stats_of (ReturnS 1 (exps_of (TableE 1 (fields_of (Pair (TextE 1 (codes "f")) (FunctionE 1 (Lambda [] true (stats_of (
     LocalS 2 (codes "t" ∷ []) (exps_of (CallE 2 (NameE 2 (codes "setmetatable")) (exps_of (
-        TableE 2 NoField
-        ∷ TableE 2 (fields_of (
-            Pair (TextE 2 (codes "__pairs")) (FunctionE 2 (Lambda (codes "t" ∷ []) false (stats_of (
-                ReturnS 2 (exps_of (NameE 2 (codes "next") ∷ TableE 2 (fields_of (Pair (TextE 2 (codes "k")) (TextE 2 (codes "v")) ∷ [])) ∷ []))
-                ∷ []))))
-            ∷ Pair (TextE 2 (codes "__ipairs")) (FunctionE 2 (Lambda [] false (stats_of (ReturnS 2 (exps_of (
-                FunctionE 2 (Lambda (codes "s" ∷ codes "i" ∷ []) false (stats_of (IfS 2 (arms_of (
-                    Arm (BinaryE 2 op.Lt (NameE 2 (codes "i")) (NumberE 2 (pos 2))) (stats_of (ReturnS 2 (exps_of (BinaryE 2 op.Add (NameE 2 (codes "i")) (NumberE 2 (pos 1)) ∷ NameE 2 (codes "i") ∷ [])) ∷ []))
-                    ∷ [])) ∷ [])))
-                ∷ NilE 2
-                ∷ NumberE 2 (pos 0)
-                ∷ [])) ∷ []))))
-            ∷ []))
-        ∷ [])) ∷ []))
+    TableE 2 NoField
+    ∷ TableE 2 (fields_of (
+    Pair (TextE 2 (codes "__pairs")) (FunctionE 2 (Lambda (codes "t" ∷ []) false (stats_of (
+    ReturnS 2 (exps_of (NameE 2 (codes "next") ∷ TableE 2 (fields_of (Pair (TextE 2 (codes "k")) (TextE 2 (codes "v")) ∷ [])) ∷ []))
+    ∷ []))))
+    ∷ Pair (TextE 2 (codes "__ipairs")) (FunctionE 2 (Lambda [] false (stats_of (ReturnS 2 (exps_of (
+    FunctionE 2 (Lambda (codes "s" ∷ codes "i" ∷ []) false (stats_of (IfS 2 (arms_of (
+    Arm (BinaryE 2 op.Lt (NameE 2 (codes "i")) (NumberE 2 (pos 2))) (stats_of (ReturnS 2 (exps_of (BinaryE 2 op.Add (NameE 2 (codes "i")) (NumberE 2 (pos 1)) ∷ NameE 2 (codes "i") ∷ [])) ∷ []))
+    ∷ [])) ∷ [])))
+    ∷ NilE 2
+    ∷ NumberE 2 (pos 0)
+    ∷ [])) ∷ []))))
+    ∷ []))
+    ∷ [])) ∷ []))
     ∷ LocalS 3 (codes "s" ∷ []) (exps_of (TextE 3 [] ∷ []))
     ∷ EachS 4 (codes "k" ∷ codes "v" ∷ []) (exps_of (CallE 4 (NameE 4 (codes "pairs")) (exps_of (NameE 4 (codes "t") ∷ [])) ∷ [])) (stats_of (
-        AssignS 4 (exps_of (NameE 4 (codes "s") ∷ [])) (exps_of (BinaryE 4 op.Concat (NameE 4 (codes "s")) (BinaryE 4 op.Concat (NameE 4 (codes "k")) (NameE 4 (codes "v"))) ∷ []))
-        ∷ []))
+    AssignS 4 (exps_of (NameE 4 (codes "s") ∷ [])) (exps_of (BinaryE 4 op.Concat (NameE 4 (codes "s")) (BinaryE 4 op.Concat (NameE 4 (codes "k")) (NameE 4 (codes "v"))) ∷ []))
+    ∷ []))
     ∷ EachS 5 (codes "i" ∷ codes "v" ∷ []) (exps_of (CallE 5 (NameE 5 (codes "ipairs")) (exps_of (NameE 5 (codes "t") ∷ [])) ∷ [])) (stats_of (
-        AssignS 5 (exps_of (NameE 5 (codes "s") ∷ [])) (exps_of (BinaryE 5 op.Concat (NameE 5 (codes "s")) (BinaryE 5 op.Concat (NameE 5 (codes "i")) (NameE 5 (codes "v"))) ∷ []))
-        ∷ []))
+    AssignS 5 (exps_of (NameE 5 (codes "s") ∷ [])) (exps_of (BinaryE 5 op.Concat (NameE 5 (codes "s")) (BinaryE 5 op.Concat (NameE 5 (codes "i")) (NameE 5 (codes "v"))) ∷ []))
+    ∷ []))
     ∷ ReturnS 6 (exps_of (NameE 6 (codes "s") ∷ []))
     ∷ [])))) ∷ [])) ∷ [])) ∷ [])
 
@@ -452,8 +452,8 @@ abbrev pub last_place : Block
 last_place = stats_of (ReturnS 1 (exps_of (TableE 1 (fields_of (Pair (TextE 1 (codes "f")) (FunctionE 1 (Lambda [] true (stats_of (
     LocalS 2 (codes "step" ∷ []) (exps_of (CallE 2 (NameE 2 (codes "ipairs")) (exps_of (TableE 2 NoField ∷ [])) ∷ []))
     ∷ ReturnS 3 (exps_of (
-        CallE 3 (NameE 3 (codes "tostring")) (exps_of (CallE 3 (NameE 3 (codes "step")) (exps_of (TableE 3 NoField ∷ NumberE 3 (pos 9223372036854775807) ∷ [])) ∷ []))
-        ∷ []))
+    CallE 3 (NameE 3 (codes "tostring")) (exps_of (CallE 3 (NameE 3 (codes "step")) (exps_of (TableE 3 NoField ∷ NumberE 3 (pos 9223372036854775807) ∷ [])) ∷ []))
+    ∷ []))
     ∷ [])))) ∷ [])) ∷ [])) ∷ [])
 
 abbrev pub LastPlace : Type 0
@@ -481,21 +481,21 @@ abbrev pub constructors : Block
 constructors = stats_of (ReturnS 1 (exps_of (TableE 1 (fields_of (Pair (TextE 1 (codes "f")) (FunctionE 1 (Lambda [] true (stats_of (
     LocalFunctionS 2 (codes "two") (Lambda [] false (stats_of (ReturnS 2 (exps_of (TextE 2 (codes "p") ∷ TextE 2 (codes "q") ∷ [])) ∷ [])))
     ∷ LocalS 3 (codes "t" ∷ []) (exps_of (TableE 3 (fields_of (
-        Item (CallE 3 (NameE 3 (codes "two")) NoExp)
-        ∷ Item (CallE 3 (NameE 3 (codes "two")) NoExp)
-        ∷ Pair (TextE 3 (codes "k")) (NumberE 3 (pos 1))
-        ∷ Pair (TextE 3 (codes "x")) (NumberE 3 (pos 2))
-        ∷ Item (CallE 3 (NameE 3 (codes "two")) NoExp)
-        ∷ [])) ∷ []))
+    Item (CallE 3 (NameE 3 (codes "two")) NoExp)
+    ∷ Item (CallE 3 (NameE 3 (codes "two")) NoExp)
+    ∷ Pair (TextE 3 (codes "k")) (NumberE 3 (pos 1))
+    ∷ Pair (TextE 3 (codes "x")) (NumberE 3 (pos 2))
+    ∷ Item (CallE 3 (NameE 3 (codes "two")) NoExp)
+    ∷ [])) ∷ []))
     ∷ ReturnS 4 (exps_of (
-        UnaryE 4 sign.Len (NameE 4 (codes "t"))
-        ∷ IndexE 4 (NameE 4 (codes "t")) (NumberE 4 (pos 1))
-        ∷ IndexE 4 (NameE 4 (codes "t")) (NumberE 4 (pos 2))
-        ∷ IndexE 4 (NameE 4 (codes "t")) (NumberE 4 (pos 3))
-        ∷ IndexE 4 (NameE 4 (codes "t")) (NumberE 4 (pos 4))
-        ∷ IndexE 4 (NameE 4 (codes "t")) (TextE 4 (codes "k"))
-        ∷ IndexE 4 (NameE 4 (codes "t")) (TextE 4 (codes "x"))
-        ∷ []))
+    UnaryE 4 sign.Len (NameE 4 (codes "t"))
+    ∷ IndexE 4 (NameE 4 (codes "t")) (NumberE 4 (pos 1))
+    ∷ IndexE 4 (NameE 4 (codes "t")) (NumberE 4 (pos 2))
+    ∷ IndexE 4 (NameE 4 (codes "t")) (NumberE 4 (pos 3))
+    ∷ IndexE 4 (NameE 4 (codes "t")) (NumberE 4 (pos 4))
+    ∷ IndexE 4 (NameE 4 (codes "t")) (TextE 4 (codes "k"))
+    ∷ IndexE 4 (NameE 4 (codes "t")) (TextE 4 (codes "x"))
+    ∷ []))
     ∷ [])))) ∷ [])) ∷ [])) ∷ [])
 
 abbrev pub Constructors : Type 0
@@ -512,12 +512,12 @@ abbrev pub methods : Block
 methods = stats_of (ReturnS 1 (exps_of (TableE 1 (fields_of (Pair (TextE 1 (codes "f")) (FunctionE 1 (Lambda [] true (stats_of (
     LocalS 2 (codes "o" ∷ []) (exps_of (TableE 2 (fields_of (Pair (TextE 2 (codes "n")) (NumberE 2 (pos 3)) ∷ [])) ∷ []))
     ∷ AssignS 3 (exps_of (IndexE 3 (NameE 3 (codes "o")) (TextE 3 (codes "add")) ∷ [])) (exps_of (FunctionE 3 (Lambda (codes "self" ∷ codes "k" ∷ []) false (stats_of (
-        AssignS 3 (exps_of (IndexE 3 (NameE 3 (codes "self")) (TextE 3 (codes "n")) ∷ [])) (exps_of (BinaryE 3 op.Add (IndexE 3 (NameE 3 (codes "self")) (TextE 3 (codes "n"))) (NameE 3 (codes "k")) ∷ []))
-        ∷ ReturnS 3 (exps_of (NameE 3 (codes "self") ∷ []))
-        ∷ []))) ∷ []))
+    AssignS 3 (exps_of (IndexE 3 (NameE 3 (codes "self")) (TextE 3 (codes "n")) ∷ [])) (exps_of (BinaryE 3 op.Add (IndexE 3 (NameE 3 (codes "self")) (TextE 3 (codes "n"))) (NameE 3 (codes "k")) ∷ []))
+    ∷ ReturnS 3 (exps_of (NameE 3 (codes "self") ∷ []))
+    ∷ []))) ∷ []))
     ∷ AssignS 4 (exps_of (IndexE 4 (NameE 4 (codes "o")) (TextE 4 (codes "get")) ∷ [])) (exps_of (
-        FunctionE 4 (Lambda (codes "x" ∷ []) false (stats_of (ReturnS 4 (exps_of (IndexE 4 (NameE 4 (codes "x")) (TextE 4 (codes "n")) ∷ [])) ∷ [])))
-        ∷ []))
+    FunctionE 4 (Lambda (codes "x" ∷ []) false (stats_of (ReturnS 4 (exps_of (IndexE 4 (NameE 4 (codes "x")) (TextE 4 (codes "n")) ∷ [])) ∷ [])))
+    ∷ []))
     ∷ ReturnS 5 (exps_of (MethodE 5 (MethodE 5 (NameE 5 (codes "o")) (codes "add") (exps_of (NumberE 5 (pos 4) ∷ []))) (codes "get") NoExp ∷ []))
     ∷ [])))) ∷ [])) ∷ [])) ∷ [])
 

@@ -64,12 +64,12 @@ Parentheses = without_steps (invoked (codes "X") 79 parentheses 6000) ≡ Gives 
 abbrev pub many_arguments : Block
 many_arguments = stats_of (ReturnS 1 (exps_of (TableE 1 (fields_of (Pair (TextE 1 (codes "f")) (FunctionE 1 (Lambda [] true (stats_of (
     LocalFunctionS 2 (codes "g") (Lambda [] true (stats_of (
-        ReturnS 2 (exps_of (CallE 2 (NameE 2 (codes "select")) (exps_of (TextE 2 (codes "#") ∷ DotsE 2 ∷ [])) ∷ DotsE 2 ∷ []))
-        ∷ [])))
+    ReturnS 2 (exps_of (CallE 2 (NameE 2 (codes "select")) (exps_of (TextE 2 (codes "#") ∷ DotsE 2 ∷ [])) ∷ DotsE 2 ∷ []))
+    ∷ [])))
     ∷ LocalFunctionS 3 (codes "two") (Lambda [] false (stats_of (ReturnS 3 (exps_of (NumberE 3 (pos 7) ∷ NumberE 3 (pos 8) ∷ [])) ∷ [])))
     ∷ ReturnS 4 (exps_of (
-        CallE 4 (NameE 4 (codes "g")) (exps_of (CallE 4 (NameE 4 (codes "two")) NoExp ∷ CallE 4 (NameE 4 (codes "two")) NoExp ∷ []))
-        ∷ []))
+    CallE 4 (NameE 4 (codes "g")) (exps_of (CallE 4 (NameE 4 (codes "two")) NoExp ∷ CallE 4 (NameE 4 (codes "two")) NoExp ∷ []))
+    ∷ []))
     ∷ [])))) ∷ [])) ∷ [])) ∷ [])
 
 abbrev pub ManyArguments : Type 0
@@ -98,9 +98,9 @@ abbrev pub no_values : Block
 no_values = stats_of (ReturnS 1 (exps_of (TableE 1 (fields_of (Pair (TextE 1 (codes "f")) (FunctionE 1 (Lambda [] true (stats_of (
     LocalFunctionS 2 (codes "g") (Lambda [] false NoStat)
     ∷ ReturnS 3 (exps_of (
-        CallE 3 (NameE 3 (codes "select")) (exps_of (TextE 3 (codes "#") ∷ CallE 3 (NameE 3 (codes "g")) NoExp ∷ []))
-        ∷ CallE 3 (NameE 3 (codes "g")) NoExp
-        ∷ []))
+    CallE 3 (NameE 3 (codes "select")) (exps_of (TextE 3 (codes "#") ∷ CallE 3 (NameE 3 (codes "g")) NoExp ∷ []))
+    ∷ CallE 3 (NameE 3 (codes "g")) NoExp
+    ∷ []))
     ∷ [])))) ∷ [])) ∷ [])) ∷ [])
 
 abbrev pub NoValues : Type 0
@@ -203,13 +203,13 @@ abbrev pub equality : Block
 equality = stats_of (ReturnS 1 (exps_of (TableE 1 (fields_of (Pair (TextE 1 (codes "f")) (FunctionE 1 (Lambda [] true (stats_of (
     LocalS 2 (codes "t" ∷ []) (exps_of (TableE 2 NoField ∷ []))
     ∷ ReturnS 3 (exps_of (
-        CallE 3 (NameE 3 (codes "tostring")) (exps_of (BinaryE 3 op.Eq (NumberE 3 (pos 1)) (TextE 3 (codes "1")) ∷ []))
-        ∷ CallE 3 (NameE 3 (codes "tostring")) (exps_of (BinaryE 3 op.Eq (TextE 3 (codes "a")) (TextE 3 (codes "a")) ∷ []))
-        ∷ CallE 3 (NameE 3 (codes "tostring")) (exps_of (BinaryE 3 op.Eq (NameE 3 (codes "t")) (TableE 3 NoField) ∷ []))
-        ∷ CallE 3 (NameE 3 (codes "tostring")) (exps_of (BinaryE 3 op.Eq (NameE 3 (codes "t")) (NameE 3 (codes "t")) ∷ []))
-        ∷ CallE 3 (NameE 3 (codes "tostring")) (exps_of (BinaryE 3 op.Ne (NilE 3) (FalseE 3) ∷ []))
-        ∷ CallE 3 (NameE 3 (codes "tostring")) (exps_of (BinaryE 3 op.Eq (NumberE 3 (pos 0)) (UnaryE 3 sign.Minus (NumberE 3 (pos 0))) ∷ []))
-        ∷ []))
+    CallE 3 (NameE 3 (codes "tostring")) (exps_of (BinaryE 3 op.Eq (NumberE 3 (pos 1)) (TextE 3 (codes "1")) ∷ []))
+    ∷ CallE 3 (NameE 3 (codes "tostring")) (exps_of (BinaryE 3 op.Eq (TextE 3 (codes "a")) (TextE 3 (codes "a")) ∷ []))
+    ∷ CallE 3 (NameE 3 (codes "tostring")) (exps_of (BinaryE 3 op.Eq (NameE 3 (codes "t")) (TableE 3 NoField) ∷ []))
+    ∷ CallE 3 (NameE 3 (codes "tostring")) (exps_of (BinaryE 3 op.Eq (NameE 3 (codes "t")) (NameE 3 (codes "t")) ∷ []))
+    ∷ CallE 3 (NameE 3 (codes "tostring")) (exps_of (BinaryE 3 op.Ne (NilE 3) (FalseE 3) ∷ []))
+    ∷ CallE 3 (NameE 3 (codes "tostring")) (exps_of (BinaryE 3 op.Eq (NumberE 3 (pos 0)) (UnaryE 3 sign.Minus (NumberE 3 (pos 0))) ∷ []))
+    ∷ []))
     ∷ [])))) ∷ [])) ∷ [])) ∷ [])
 
 abbrev pub Equality : Type 0
@@ -301,17 +301,17 @@ Selecting = without_steps (invoked (codes "X") 98 selecting 6000) ≡ Gives (cod
 abbrev pub unpacking : Block
 unpacking = stats_of (ReturnS 1 (exps_of (TableE 1 (fields_of (Pair (TextE 1 (codes "f")) (FunctionE 1 (Lambda [] true (stats_of (ReturnS 2 (exps_of (
     CallE 2 (NameE 2 (codes "select")) (exps_of (
-        TextE 2 (codes "#")
-        ∷ CallE 2 (NameE 2 (codes "unpack")) (exps_of (
-            TableE 2 (fields_of (Item (NumberE 2 (pos 1)) ∷ Item (NumberE 2 (pos 2)) ∷ Item (NilE 2) ∷ []))
-            ∷ NumberE 2 (pos 1)
-            ∷ NumberE 2 (pos 3)
-            ∷ []))
-        ∷ []))
+    TextE 2 (codes "#")
     ∷ CallE 2 (NameE 2 (codes "unpack")) (exps_of (
-        TableE 2 (fields_of (Item (NumberE 2 (pos 4)) ∷ Item (NumberE 2 (pos 5)) ∷ Item (NumberE 2 (pos 6)) ∷ []))
-        ∷ NumberE 2 (pos 2)
-        ∷ []))
+    TableE 2 (fields_of (Item (NumberE 2 (pos 1)) ∷ Item (NumberE 2 (pos 2)) ∷ Item (NilE 2) ∷ []))
+    ∷ NumberE 2 (pos 1)
+    ∷ NumberE 2 (pos 3)
+    ∷ []))
+    ∷ []))
+    ∷ CallE 2 (NameE 2 (codes "unpack")) (exps_of (
+    TableE 2 (fields_of (Item (NumberE 2 (pos 4)) ∷ Item (NumberE 2 (pos 5)) ∷ Item (NumberE 2 (pos 6)) ∷ []))
+    ∷ NumberE 2 (pos 2)
+    ∷ []))
     ∷ [])) ∷ [])))) ∷ [])) ∷ [])) ∷ [])
 
 abbrev pub Unpacking : Type 0
@@ -328,10 +328,10 @@ assertions = stats_of (ReturnS 1 (exps_of (TableE 1 (fields_of (Pair (TextE 1 (c
     LocalS 2 (codes "ok" ∷ codes "e" ∷ []) (exps_of (CallE 2 (NameE 2 (codes "pcall")) (exps_of (NameE 2 (codes "assert") ∷ FalseE 2 ∷ TextE 2 (codes "no") ∷ [])) ∷ []))
     ∷ LocalS 3 (codes "ok2" ∷ codes "e2" ∷ []) (exps_of (CallE 3 (NameE 3 (codes "pcall")) (exps_of (NameE 3 (codes "assert") ∷ NilE 3 ∷ [])) ∷ []))
     ∷ ReturnS 4 (exps_of (
-        CallE 4 (NameE 4 (codes "assert")) (exps_of (NumberE 4 (pos 1) ∷ NumberE 4 (pos 2) ∷ []))
-        ∷ NameE 4 (codes "e")
-        ∷ NameE 4 (codes "e2")
-        ∷ []))
+    CallE 4 (NameE 4 (codes "assert")) (exps_of (NumberE 4 (pos 1) ∷ NumberE 4 (pos 2) ∷ []))
+    ∷ NameE 4 (codes "e")
+    ∷ NameE 4 (codes "e2")
+    ∷ []))
     ∷ [])))) ∷ [])) ∷ [])) ∷ [])
 
 abbrev pub Assertions : Type 0

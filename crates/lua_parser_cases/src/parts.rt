@@ -62,7 +62,10 @@ fn contexts_follow_the_tree(rt: HostRuntime) -> Result<(), Fail> {
         vararg: true,
     };
     let body = in_function(false, in_loop(under(outside)));
-    assert_eq!(rt; (body.above, body.inside_loop, body.vararg), (2, false, false));
+    assert_eq!(rt;
+        (body.above, body.inside_loop, body.vararg),
+        (2, false, false)
+    );
     Ok(())
 }
 
