@@ -1,13 +1,10 @@
 -- A rendering by other numbers.
-use Rattle.std.proofs.Common.{◌≡◌, ℕ, zero, suc, List, [], ◌∷◌, ◌++◌, Some, Bool, refl, sym, ◌∙◌, ap, ◌||◌, ◌&&◌, not, if◌then◌else◌, slice_index_or}
-use Rattle.std.specs.List.{flat_map}
-use Rattle.lua_heap.specs.Heap.{Heap, MarkupStyle, MarkupChild, MarkupNode, mar, no_markup, markup_at}
-use Rattle.lua_heap.specs.Related.{Map, Each, none, more, SameChild, child_text, child_node, Stands}
+use Rattle.std.proofs.Common.{◌≡◌, ℕ, zero, suc, List, Some, refl, ◌∙◌, ap, slice_index_or}
+use Rattle.lua_heap.specs.Heap.{MarkupChild, MarkupNode, mar, no_markup}
+use Rattle.lua_heap.specs.Related.{Map, Each, none, more, SameChild, child_text, child_node}
 use Rattle.lua_heap.proofs.StandingLaws.{markup_stands}
-use Rattle.mw_html.specs.Names.{closes_itself}
-use Rattle.mw_html.specs.Render.{Piece, given, begins, too_deep, and_then, children, child, opening, inside, node, render}
+use Rattle.mw_html.specs.Render.{Piece, given, begins, and_then, children, opening, inside, node}
 use Rattle.mw_html.specs.Laws.{SameTag, IsRenumbered, RenumberedIsRendered, StandsIsRendered}
-use Rattle.mw_html.proofs.Nodes.{node_is}
 
 children-same : (m : Map) (f g : ℕ → Piece) → ((a b : ℕ) → m.to (mar a) ≡ Some (mar b) → f a ≡ g b) → (cs ds : List MarkupChild) → Each (SameChild m) cs ds → children f cs ≡ children g ds
 children-same m f g same _ _ none = refl
