@@ -6,7 +6,6 @@ use Rattle.lua_pattern.specs.declared.pattern.Search.TheVariants as search
 use Rattle.lua_pattern.specs.declared.slots.Slot.{Slot}
 use Rattle.lua_pattern.specs.declared.item.Item.{Item}
 use Rattle.lua_pattern.specs.declared.read.PatternFault.{PatternFault}
-use Rattle.lua_pattern.specs.declared.read.PatternFault.TheVariants as fault
 use Rattle.lua_pattern.specs.Way.{first}
 use Rattle.lua_pattern.specs.Found.{IsSearch}
 use Rattle.lua_pattern.specs.Read.{Read, Fine, read_of, codes}

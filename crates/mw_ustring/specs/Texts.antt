@@ -1,5 +1,5 @@
 -- Code points of a text and their places (Scribunto, Ustring library). Places of Lua are those of `lua_string`, counted in code points.
-use Rattle.std.specs.Prelude.{ℕ, zero, suc, ◌-◌, Bool, true, false, nat_lt, if◌then◌else◌, ℤ, pos, negsuc, unsigned_abs, List, [], ◌∷◌, ◌++◌, length, take, drop, reverse, slice_get, Option, Some, None, chars, encode_utf8_all}
+use Rattle.std.specs.Prelude.{ℕ, zero, suc, ◌-◌, Bool, false, nat_lt, if◌then◌else◌, ℤ, pos, negsuc, unsigned_abs, List, [], ◌∷◌, ◌++◌, length, take, drop, reverse, slice_get, Option, Some, None, chars, encode_utf8_all}
 use Rattle.std.specs.Char.{encode_utf8}
 use Rattle.std.specs.Option.{option_map}
 use lib.Utf8.{scalar}
