@@ -12,6 +12,5 @@
 
 pub mod examples;
 pub mod laws;
-
 #[cfg(test)]
 mod tests;

@@ -68,11 +68,7 @@ impl Arguments {
     }
 
     /// The arguments of a list, no two of one name.
-    pub fn of_list(
-        alloc: Global,
-        seed: RandomState,
-        list: &[Arg],
-    ) -> Result<Arguments, NoMemory>
+    pub fn of_list(alloc: Global, seed: RandomState, list: &[Arg]) -> Result<Arguments, NoMemory>
         requires { NamesDiffer list.now }
         ensures { IfOk result (λ args. args ≡ list.now) }
     {
@@ -113,7 +109,11 @@ fn copied(alloc: Global, map: &IndexMap<Bytes, Bytes, RandomState>) -> Result<Li
 }
 
 /// An entry of that name has the value: in its place where one is there, and else at the end.
-fn insert(map: &mut IndexMap<Bytes, Bytes, RandomState>, name: Bytes, value: Bytes) -> Result<(), NoMemory>
+fn insert(
+    map: &mut IndexMap<Bytes, Bytes, RandomState>,
+    name: Bytes,
+    value: Bytes,
+) -> Result<(), NoMemory>
     ensures put { OnOk result (args_in map.new.entries ≡ put name value (args_in map.old.entries)) }
     ensures differ { NamesDiffer (args_in map.old.entries) → NamesDiffer (args_in map.new.entries) }
 {

@@ -19,7 +19,6 @@ pub mod kind;
 pub mod rope;
 pub mod space;
 pub mod stack;
-pub mod texts;
-
 #[cfg(test)]
 mod tests;
+pub mod texts;
