@@ -26,7 +26,7 @@ use Rattle.lua_syntax.specs.Tree.{{NoExp, NoField, Item, Pair, Lambda, Block, No
 use Rattle.lua_syntax.specs.Tree.{{AssignS, CallS, DoS, WhileS, RepeatS, IfS, IfElseS, CountS, CountByS, EachS, LocalFunctionS, LocalS, ReturnS, BreakS}}
 use Rattle.lua_syntax.specs.View.{{exps_of, fields_of, arms_of, stats_of}}
 use Rattle.page_run.specs.declared.which.Which.TheVariants.{{Steps, Calls}}
-{questions}use Rattle.lua_meaning.specs.Trial.{{Gives, Fails, Spends, Loads, Asks, without_steps, arg, invoked, invoked_with, invoked_on, loaded, faulted, counted, held, template_title, module_title, own_scene, scene_in_template, reply, spent, asked}}
+{questions}use Rattle.lua_meaning.specs.Trial.{{Gives, Fails, Spends, Loads, Asks, without_steps, arg, invoke_module, invoke_with_calls, invoke_with_args, load_module, invoke_fault, count_nodes, module_text, template_title, module_title, own_scene, scene_in_template, reply, exhausts, invoke_in_template}}
 
 """
 
@@ -74,17 +74,17 @@ def shown(end):
 def called(example, step):
     title, size, name = codes(example["module"]), len(example["text"].encode()), example["name"]
     if example["cases"]:
-        held = rows(f"held {codes(k)} {len(v.encode())} {example['name']}{n or ''}" for n, (k, v) in enumerate(modules_of(example)))
+        texts = rows(f"module_text {codes(k)} {len(v.encode())} {example['name']}{n or ''}" for n, (k, v) in enumerate(modules_of(example)))
         args = rows(f"arg {codes(k)} {codes(v)}" for k, v in example["args"] or [])
-        return f"asked {held} {args} {codes(example['invoked'] or example['module'])} {step[0]} {rows(step[1])}"
+        return f"invoke_in_template {texts} {args} {codes(example['invoked'] or example['module'])} {step[0]} {rows(step[1])}"
     if example["fault"]:
         kind, line = example["fault"]
-        return f"faulted {title} {size} {kind} {line} {step}"
+        return f"invoke_fault {title} {size} {kind} {line} {step}"
     if example["args"]:
         args = rows(f"arg {codes(k)} {codes(v)}" for k, v in example["args"])
-        return f"invoked_on {args} 20000 {title} {size} {name} {step}"
+        return f"invoke_with_args {args} 20000 {title} {size} {name} {step}"
     if example["calls"]:
-        return f"invoked_with {example['calls']} {title} {size} {name} {step}"
+        return f"invoke_with_calls {example['calls']} {title} {size} {name} {step}"
     return f"{example['how']} {title} {size} {name} {step}"
 
 
