@@ -8,6 +8,7 @@
 An example is a module whose function `f` is invoked. The files hold its text, its tree (by lua_trees.py), and what comes.
 """
 import pathlib
+import re
 import subprocess
 import sys
 
@@ -109,6 +110,27 @@ def spec(example):
     return head + term + f"abbrev pub {title} : Type 0\n{title} = {claim}\n", title, len(claims)
 
 
+def needed(head, rest):
+    """The `use` lines of a head, without the names that the rest of the file has not."""
+    lines = []
+    for line in head.split("\n"):
+        found = re.match(r"(use .*\.)\{(.*)\}$", line)
+        if found:
+            names = [name for name in found[2].split(", ") if seen_in(name, rest)]
+            line = f"{found[1]}{{{', '.join(names)}}}" if names else None
+        elif line.startswith("use ") and not seen_in(line.split()[-1], rest):
+            line = None
+        if line is not None:
+            lines.append(line)
+    return "\n".join(lines)
+
+
+def seen_in(name, rest):
+    code = re.sub(r"(?m)^ *--.*$|\"(?:\\\\.|[^\"])*\"", "", rest)
+    word = name.split(" as ")[-1].replace("◌", "")
+    return word in code if not word[0].isalpha() else re.search(rf"(?<![\w.]){word}(?!\w)", code) is not None
+
+
 def write(module, subject, examples):
     specs, proofs, titles = [], [], []
     for example in examples:
@@ -122,9 +144,10 @@ def write(module, subject, examples):
     specs.append(f"-- ALL OF THEM\nabbrev pub {every} : Type 0\n{every} =\n    " + "\n    × ".join(titles) + "\n")
     proofs.append(f"\npub {every.lower()[:3]}_{every.lower()[3:]} : {every}\n{every.lower()[:3]}_{every.lower()[3:]} = ("
                   + ", ".join(example["name"] for example in examples) + ")\n")
-    (CRATE / "specs" / f"{module}.antt").write_text(HEAD.format(subject=subject, questions=QUESTIONS) + "\n".join(specs))
+    (CRATE / "specs" / f"{module}.antt").write_text(
+        needed(HEAD.format(subject=subject, questions=QUESTIONS), "\n".join(specs)) + "\n".join(specs))
     (CRATE / "proofs" / f"{module}Laws.antt").write_text(
-        PROOF_HEAD.format(subject=subject, module=module, names=", ".join(titles + [every])) + "".join(proofs))
+        needed(PROOF_HEAD.format(subject=subject, module=module, names=", ".join(titles + [every])), "".join(proofs)) + "".join(proofs))
 
 
 HARNESS = """
