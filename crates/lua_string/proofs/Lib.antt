@@ -1,0 +1,5 @@
+pub mod WalkLemmas
+pub mod Plain
+pub mod Prices
+pub mod Copies
+pub mod HeadLemmas

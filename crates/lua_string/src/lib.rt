@@ -1,0 +1,26 @@
+//! The plain functions of Lua's `string` and `math` (Lua 5.1 manual, 5.4 and 5.6), over whole numbers of 64 bits.
+//!
+//! - `place`: places of Lua in a text; `sub` and `byte`
+//! - `text`: `char`, `len`, `lower`, `upper`, `rep` and `reverse`
+//! - `finding`: `find` and `match`, within a budget of steps
+//! - `replacing`: what a replacement text of `gsub` stands for
+//! - `walking`: the law that `gsub` may search on in place of going from place to place
+//! - `whole`: the functions of `math`
+//!
+//! The definitions stand in `specs/Places.antt`, `specs/Texts.antt`, `specs/Finds.antt`, `specs/Replacements.antt`,
+//! `specs/Walk.antt` (the way of `gsub` and `gmatch`) and `specs/Whole.antt`.
+#![tactic(auto)]
+
+pub mod finding;
+pub mod place;
+pub mod replacing;
+pub mod text;
+pub mod walking;
+pub mod whole;
+
+pub use finding::{find, match_from};
+pub use place::{byte, part, sub};
+pub use replacing::{CaptureText, replaced, replaced_length};
+pub use text::{char_of, len, lower, rep, rep_length, reverse, upper};
+pub use walking::going_on;
+pub use whole::{abs, ceil, floor, fmod, max, min, pow};
