@@ -13,7 +13,7 @@ begins_itself : (word rest : List ℕ) → begins word (word ++ rest) ≡ true
 begins_itself [] rest = refl
 begins_itself (w ∷ ws) rest = ap (λ v. cond v (begins ws (ws ++ rest)) false) (eq-eqb w w refl) ∙ begins_itself ws rest
 
-occurs_begins : (text needle : List ℕ) (k : ℕ) → OccursAt text needle k → begins needle (drop k text) ≡ true
+pub occurs_begins : (text needle : List ℕ) (k : ℕ) → OccursAt text needle k → begins needle (drop k text) ≡ true
 occurs_begins text needle k o =
     let rest : List ℕ = drop (length needle) (drop k text) in
     ap (begins needle) (sym (take-append-drop (length needle) (drop k text)) ∙ ap (λ l. l ++ rest) (OccursAt-part text needle k o)) ∙ begins_itself needle rest

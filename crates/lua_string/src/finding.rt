@@ -40,14 +40,14 @@ fn captures_fit(captures: &[Capture], room: u64) -> bool
 }
 
 /// Whether what `find` gives of a match has at most so many bytes.
-fn find_fits(found: &Match, room: u64) -> bool
+pub fn find_fits(found: &Match, room: u64) -> bool
     ensures { result ≡ nat_le (find_bytes found.now) room }
 {
     captures_fit(found.captures.as_slice(), room)
 }
 
 /// Whether what `match` gives of a match has at most so many bytes.
-fn match_fits(found: &Match, room: u64) -> bool
+pub fn match_fits(found: &Match, room: u64) -> bool
     ensures { result ≡ nat_le (match_bytes found.now) room }
 {
     match found.captures.as_slice() {

@@ -18,7 +18,7 @@ pub fn first_place(len: usize, place: i64) -> usize
 }
 
 /// How many bytes stand up to a place and at it, in a text of `len` bytes.
-fn last_place(len: usize, place: i64) -> usize
+pub fn last_place(len: usize, place: i64) -> usize
     ensures place { result ≡ last_place_lem len place }
     ensures within { result ≤ len }
 {

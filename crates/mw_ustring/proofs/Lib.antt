@@ -1,0 +1,4 @@
+pub mod Offsets
+pub mod Begun
+pub mod Prices
+pub mod Boundaries
