@@ -21,4 +21,6 @@ pub use byte_places::byteoffset;
 pub use finding::{find, match_from, start};
 pub use forms::{to_nfc, to_nfd, to_nfkc, to_nfkd};
 pub use parts::{char_of, codepoint, part, sub};
-pub use points::{count_points, first_points, isutf8, len, offset, point_place, points_behind, text_of};
+pub use points::{
+    count_points, first_points, isutf8, len, offset, point_place, points_behind, text_of,
+};
