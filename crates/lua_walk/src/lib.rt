@@ -1,4 +1,5 @@
 //! Walks over the tables of a heap: which tables are reached, and in which order; data that is taken out of a heap; and copies
+//! of values. Definitions, with their laws; nothing here is executed.
 //!
 //! The definitions stand in `specs/`, in this order:
 //!
@@ -9,9 +10,11 @@
 //!
 //! Each function has an empty body, and its contract is what it is named after:
 //!
+//! - `laws`: the walk reaches what it should, data are graphs, and copies are new (`Laws`)
 //! - `examples`: the small heaps are walked as `Examples` says
 #![tactic(auto)]
 
 pub mod examples;
+pub mod laws;
 #[cfg(test)]
 mod tests;
