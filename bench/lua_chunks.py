@@ -2,7 +2,7 @@
 it is given, and what is seen at those. `profile` marks what Lua 5.1 does otherwise."""
 
 
-def chunk(name, said, text, gives=None, fails=None, module="X", steps=6000, seen=None, profile=False, calls=None, args=None, how="invoked", fault=None, others=None, cases=False, invoked=None):
+def chunk(name, said, text, gives=None, fails=None, module="X", steps=6000, seen=None, profile=False, calls=None, args=None, how="invoke_module", fault=None, others=None, cases=False, invoked=None):
     if seen is None:
         seen = [("Gives", gives) if gives is not None else ("Fails", fails)]
     if not isinstance(steps, list):
@@ -64,12 +64,12 @@ CHARGES = [
            (2125, [], ("Asks", data("D"), 1033)), (2125, [loaded_x(2)], ("Gives", "v", 0)), (2124, [loaded_x(1)], ("Spends", "Steps", 0)),
            (1092, [], ("Asks", data("D"), 0)), (1091, [], ("Spends", "Steps", 0)), module="M"),
     chunk("data_start", "The load of a data module: 1,000 for the start, 14 for the text, and 17 for what it does.",
-          "return {x='v'}", module="D", how="loaded", steps=[1031, 1030], seen=[("Loads", 0), ("Spends", "Steps", 0)], profile=True),
+          "return {x='v'}", module="D", how="load_module", steps=[1031, 1030], seen=[("Loads", 0), ("Spends", "Steps", 0)], profile=True),
     chunk("arguments", "Arguments cost 4 each, and the bytes of their names and values. A name that is a place is a number.",
           "return {f=function(frame) local a=frame.args return a[1]..a['1']..a.k..#a end}", module="G", args=[("1", "x"), ("k", "v")],
           steps=[ARGUMENTS, ARGUMENTS - 1], seen=[("Gives", "xxv1", 0), ("Spends", "Steps", 0)], profile=True),
     chunk("nodes", "Counted are two functions entered, seven nodes, and three turns of the loop.",
-          "return {f=function() for i=1,3 do end end}", how="counted", seen=[("Counts", 2 + 7 + 3)], profile=True),
+          "return {f=function() for i=1,3 do end end}", how="count_nodes", seen=[("Counts", 2 + 7 + 3)], profile=True),
     chunk("counter", "A global variable lives as long as its invocation: in each one the counter gives 1.",
           "n=0 local p={} function p.f() n=n+1 return n end return p", "1", module="C"),
     chunk("holds_itself", "A table holds itself.",
@@ -97,8 +97,8 @@ CHARGES = [
     chunk("no_function", "The module has no function of that name.", "return {g=function() end}",
           fails='Script error: The function "f" does not exist.', module="C", profile=True),
     chunk("no_table", "The module gives no table.", "return 1", fails="Script error: The module returned no table.", profile=True),
-    chunk("data_no_table", "A data module must give a table.", "return 1", fails="data module returned no table", how="loaded", profile=True),
-    chunk("data_error", "The message of an error in a data module stands alone.", "error('x')", fails="Module:DE:1: x", module="DE", how="loaded", profile=True),
+    chunk("data_no_table", "A data module must give a table.", "return 1", fails="data module returned no table", how="load_module", profile=True),
+    chunk("data_error", "The message of an error in a data module stands alone.", "error('x')", fails="Module:DE:1: x", module="DE", how="load_module", profile=True),
     chunk("faulty", "A text that is no chunk fails where it would begin.", "local p = {}\nfunction p.f()\n  return 1 + end\nreturn p",
           fails="Lua error: Module:Y:3: unexpected token", module="Y", fault=(5, 3), profile=True),
     chunk("unfinished", "The numbers of the faults are those of the lexis and of the grammar.", 'return "',
@@ -372,7 +372,7 @@ FRAMES = [
                        6000 - used(TWICE) - (3 + 9 + 2 + 4 + 1 + 9 + 3 * (2 + 4) + 4) - 1 - 16 - 2 - 2 - 1))),
     asking("preprocesses", "`preprocess` asks in the scene of its frame.", PRE,
            (6000, [], ("Asks", preprocess("{{{1}}}{{T}}", own=[("1", "a")]), 6000 - used(PRE) - 6 - 4 - 1 - 12)),
-           (6000, [text("at", 4)], ("Gives", "at", 0)), (6000, ["spent Steps"], ("Spends", "Steps", 0)), (6000, ["spent Calls"], ("Spends", "Calls", 0)),
+           (6000, [text("at", 4)], ("Gives", "at", 0)), (6000, ["exhausts Steps"], ("Spends", "Steps", 0)), (6000, ["exhausts Calls"], ("Spends", "Calls", 0)),
            args=[("1", "a")]),
     asking("own_globals", "What an invocation inside does is not seen.", SELF,
            (6000, [text("g", 1000)], ("Gives", "g1")), module="Self"),
@@ -493,7 +493,7 @@ MODULES = [
            "return select(2,pcall(mw.loadData,'Module:')),select(2,pcall(function()\n mw.loadData('D') end))", "data module 'Module:' not foundModule:X:3: data module 'D' not found",
            replies=["reply NoPage 3000"]),
     framed("wrong_data", "A text is no answer to a load.", "return mw.loadData('Module:D')", fails="Lua error: the answer does not belong to the question", replies=[text("x", 3000)]),
-    chunk("data_has_no_frame", "A data module has no frame.", "if mw.getCurrentFrame()==nil then return {} end", how="loaded", steps=[1000 + 47 + 1 + 1 + (1 + 1 + 3 + 1 + 1) + 1 + 9],
+    chunk("data_has_no_frame", "A data module has no frame.", "if mw.getCurrentFrame()==nil then return {} end", how="load_module", steps=[1000 + 47 + 1 + 1 + (1 + 1 + 3 + 1 + 1) + 1 + 9],
           seen=[("Loads", 0)], profile=True),
     asking("module_is_no_table", "A module must give a table.", "return true", (6000, [], ("Fails", "Script error: The module returned no table."))),
     asking("module_is_not_held", "A module that is not held fails as in `require`.", "return 1",

@@ -8,6 +8,7 @@
 An example is a module whose function `f` is invoked. The files hold its text, its tree (by lua_trees.py), and what comes.
 """
 import pathlib
+import re
 import subprocess
 import sys
 
@@ -26,7 +27,7 @@ use Rattle.lua_syntax.specs.Tree.{{NoExp, NoField, Item, Pair, Lambda, Block, No
 use Rattle.lua_syntax.specs.Tree.{{AssignS, CallS, DoS, WhileS, RepeatS, IfS, IfElseS, CountS, CountByS, EachS, LocalFunctionS, LocalS, ReturnS, BreakS}}
 use Rattle.lua_syntax.specs.View.{{exps_of, fields_of, arms_of, stats_of}}
 use Rattle.page_run.specs.declared.which.Which.TheVariants.{{Steps, Calls}}
-{questions}use Rattle.lua_meaning.specs.Trial.{{Gives, Fails, Spends, Loads, Asks, without_steps, arg, invoked, invoked_with, invoked_on, loaded, faulted, counted, held, template_title, module_title, own_scene, scene_in_template, reply, spent, asked}}
+{questions}use Rattle.lua_meaning.specs.Trial.{{Gives, Fails, Spends, Loads, Asks, without_steps, arg, invoke_module, invoke_with_calls, invoke_with_args, load_module, invoke_fault, count_nodes, module_text, template_title, module_title, own_scene, scene_in_template, reply, exhausts, invoke_in_template}}
 
 """
 
@@ -74,17 +75,17 @@ def shown(end):
 def called(example, step):
     title, size, name = codes(example["module"]), len(example["text"].encode()), example["name"]
     if example["cases"]:
-        held = rows(f"held {codes(k)} {len(v.encode())} {example['name']}{n or ''}" for n, (k, v) in enumerate(modules_of(example)))
+        texts = rows(f"module_text {codes(k)} {len(v.encode())} {example['name']}{n or ''}" for n, (k, v) in enumerate(modules_of(example)))
         args = rows(f"arg {codes(k)} {codes(v)}" for k, v in example["args"] or [])
-        return f"asked {held} {args} {codes(example['invoked'] or example['module'])} {step[0]} {rows(step[1])}"
+        return f"invoke_in_template {texts} {args} {codes(example['invoked'] or example['module'])} {step[0]} {rows(step[1])}"
     if example["fault"]:
         kind, line = example["fault"]
-        return f"faulted {title} {size} {kind} {line} {step}"
+        return f"invoke_fault {title} {size} {kind} {line} {step}"
     if example["args"]:
         args = rows(f"arg {codes(k)} {codes(v)}" for k, v in example["args"])
-        return f"invoked_on {args} 20000 {title} {size} {name} {step}"
+        return f"invoke_with_args {args} 20000 {title} {size} {name} {step}"
     if example["calls"]:
-        return f"invoked_with {example['calls']} {title} {size} {name} {step}"
+        return f"invoke_with_calls {example['calls']} {title} {size} {name} {step}"
     return f"{example['how']} {title} {size} {name} {step}"
 
 
@@ -109,6 +110,27 @@ def spec(example):
     return head + term + f"abbrev pub {title} : Type 0\n{title} = {claim}\n", title, len(claims)
 
 
+def needed(head, rest):
+    """The `use` lines of a head, without the names that the rest of the file has not."""
+    lines = []
+    for line in head.split("\n"):
+        found = re.match(r"(use .*\.)\{(.*)\}$", line)
+        if found:
+            names = [name for name in found[2].split(", ") if seen_in(name, rest)]
+            line = f"{found[1]}{{{', '.join(names)}}}" if names else None
+        elif line.startswith("use ") and not seen_in(line.split()[-1], rest):
+            line = None
+        if line is not None:
+            lines.append(line)
+    return "\n".join(lines)
+
+
+def seen_in(name, rest):
+    code = re.sub(r"(?m)^ *--.*$|\"(?:\\\\.|[^\"])*\"", "", rest)
+    word = name.split(" as ")[-1].replace("◌", "")
+    return word in code if not word[0].isalpha() else re.search(rf"(?<![\w.]){word}(?!\w)", code) is not None
+
+
 def write(module, subject, examples):
     specs, proofs, titles = [], [], []
     for example in examples:
@@ -122,9 +144,10 @@ def write(module, subject, examples):
     specs.append(f"-- ALL OF THEM\nabbrev pub {every} : Type 0\n{every} =\n    " + "\n    × ".join(titles) + "\n")
     proofs.append(f"\npub {every.lower()[:3]}_{every.lower()[3:]} : {every}\n{every.lower()[:3]}_{every.lower()[3:]} = ("
                   + ", ".join(example["name"] for example in examples) + ")\n")
-    (CRATE / "specs" / f"{module}.antt").write_text(HEAD.format(subject=subject, questions=QUESTIONS) + "\n".join(specs))
+    (CRATE / "specs" / f"{module}.antt").write_text(
+        needed(HEAD.format(subject=subject, questions=QUESTIONS), "\n".join(specs)) + "\n".join(specs))
     (CRATE / "proofs" / f"{module}Laws.antt").write_text(
-        PROOF_HEAD.format(subject=subject, module=module, names=", ".join(titles + [every])) + "".join(proofs))
+        needed(PROOF_HEAD.format(subject=subject, module=module, names=", ".join(titles + [every])), "".join(proofs)) + "".join(proofs))
 
 
 HARNESS = """

@@ -1,4 +1,5 @@
 pub mod MeaningLaws
+pub mod FrameLaws
 pub mod ExampleChargesLaws
 pub mod ExampleCostsLaws
 pub mod ExampleValuesLaws

@@ -8,6 +8,7 @@ use Rattle.page_run.specs.Outcome.{Outcome, Act as ActOf, ◌>>=◌, ◌>>◌, g
 use Rattle.lua_heap.specs.declared.library.Library.{Library}
 use Rattle.lua_heap.specs.Value.{Value, Closure as ClosureValue}
 use Rattle.lua_heap.specs.Heap.{Heap, Function as FunctionClosed, cell_at, set_cell_in, new_table, new_cell, new_closure}
+use Rattle.lua_meaning.specs.Charges.{node_charge, table_charge, closure_charge}
 use Rattle.lua_meaning.specs.Scope.{Bytes, Scope, Function, Levels, with_name}
 use Rattle.lua_meaning.specs.Titled.{ByTitle}
 use Rattle.mw_frame.specs.declared.scene.Scene.{Scene}
@@ -48,7 +49,7 @@ pub record State : Type 0 where
   pub globals : ℕ
   pub strings : ℕ
   pub modules : ByTitle Progress
-  pub data_ : ByTitle Value
+  pub data_modules : ByTitle Value
   pub frames : List Frame
 
 -- THINGS: what is no smaller part of the text that runs. Each costs a step to begin.
@@ -78,7 +79,7 @@ Act X = ActOf LuaRun Jump X
 
 -- a node of the tree begins: it is counted, and costs a step
 abbrev pub node : Act (Unit {0})
-node = tick 1 >> count
+node = tick node_charge >> count
 
 -- AN ERROR, with its value
 abbrev pub raise : {X : Type 0} → Value → Act X
@@ -122,17 +123,17 @@ make_cell v = do
   change_heap (new_cell h v).0
   give (new_cell h v).1
 
--- a table costs 8 steps, and a closure too
+-- a new table, and a new closure
 abbrev pub make_table : Act ℕ
 make_table = do
-  tick 8
+  tick table_charge
   h ← see_heap
   change_heap (new_table h).0
   give (new_table h).1
 
 abbrev pub make_closure : Function → Act Value
 make_closure f = do
-  tick 8
+  tick closure_charge
   h ← see_heap
   change_heap (new_closure h (FunctionClosed f)).0
   give (ClosureValue (new_closure h (FunctionClosed f)).1)

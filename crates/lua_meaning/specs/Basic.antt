@@ -5,7 +5,8 @@ use Rattle.lua_number.specs.Numerals.{read_in_base_of}
 use Rattle.lua_heap.specs.Value.{Value, Nil, Truth, Number, Text, Table, same, is_true, is_nil}
 use Rattle.lua_heap.specs.Table.{Entries, get, has, behind_key, first_entry, border}
 use Rattle.lua_heap.specs.Heap.{Heap, table_at, set_in, set_meta_in}
-use Rattle.lua_meaning.specs.Scope.{Bytes, Function}
+use Rattle.lua_meaning.specs.Charges.{entry_charge}
+use Rattle.lua_meaning.specs.Scope.{Bytes}
 use Rattle.lua_meaning.specs.Values.{kind_of, first, rest, second, third, number_in}
 use Rattle.lua_meaning.specs.Messages.{bad_argument, expected, nil_key, read_only}
 use Rattle.lua_meaning.specs.Metatables.{metatable, field, handler}
@@ -59,15 +60,15 @@ raw_equal args h = gives h (Truth (same (first args) (second args)) ∷ [])
 abbrev pub raw_get : {X : Type 0} → List Value → Heap X → Plain X
 raw_get args h = with_argument h (a_table 1 (codes "rawget") args) (λ t. gives h (get (table_at h t).entries (second args) ∷ []))
 
--- `rawset(t, k, v)`: a new entry costs 4 steps
-abbrev pub entry_charge : Entries → Value → Value → ℕ
-entry_charge es key value = if has es key || is_nil value then 0 else 4
+-- `rawset(t, k, v)`, where a new entry has its charge
+abbrev pub set_charge : Entries → Value → Value → ℕ
+set_charge es key value = if has es key || is_nil value then 0 else entry_charge
 
 abbrev pub with_entry : {X : Type 0} → ℕ → Value → Value → Heap X → Plain X
 with_entry t key value h =
     if (table_at h t).frozen then fails h read_only
     else if is_nil key then fails h nil_key
-    else costs (entry_charge (table_at h t).entries key value) (set_in h t key value) (Table t ∷ [])
+    else costs (set_charge (table_at h t).entries key value) (set_in h t key value) (Table t ∷ [])
 
 abbrev pub raw_set : {X : Type 0} → List Value → Heap X → Plain X
 raw_set args h = with_argument h (a_table 1 (codes "rawset") args) (λ t. with_entry t (second args) (third args) h)

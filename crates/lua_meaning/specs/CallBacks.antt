@@ -1,9 +1,8 @@
 -- BASIC FUNCTIONS THAT CALL BACK (manual 5.1). Such a function calls a function, and waits for its outcome. What it then does is a
 -- definition of its own, which has a name in the table of `Waits`.
-use Rattle.std.specs.Prelude.{ℤ, pos, ◌+ℤ◌, true, false, List, [], ◌∷◌, length, Option, Some, None, codes}
-use Rattle.std.specs.Prelude.{Ok, Err}
+use Rattle.std.specs.Prelude.{ℤ, pos, ◌+ℤ◌, true, false, List, [], ◌∷◌, Option, Some, None, codes}
 use Rattle.std.specs.Fmt.{signed_decimal}
-use Rattle.page_run.specs.Outcome.{Outcome, Goes, Jumps, ◌>>=◌, ◌>>◌, give, jump, catch, tick}
+use Rattle.page_run.specs.Outcome.{Goes, Jumps, ◌>>=◌, give, jump}
 use Rattle.lua_number.specs.Whole.{fits}
 use Rattle.lua_heap.specs.Value.{Value, Nil, Truth, Number, Text, Table, Builtin, is_nil}
 use Rattle.lua_heap.specs.Table.{get}
@@ -11,7 +10,7 @@ use Rattle.lua_heap.specs.Heap.{table_at}
 use Rattle.lua_heap.specs.declared.library.Library.TheVariants.{BasicNext, IpairsStep}
 use Rattle.lua_meaning.specs.Scope.{Bytes, Levels}
 use Rattle.lua_meaning.specs.Values.{kind_of, first, rest, second, third, text_in}
-use Rattle.lua_meaning.specs.Acts.{Act, Jump, Raised, choose, see_heap}
+use Rattle.lua_meaning.specs.Acts.{Act, Raised, choose, see_heap}
 use Rattle.lua_meaning.specs.Messages.{fail}
 use Rattle.lua_meaning.specs.Metatables.{handler}
 use Rattle.lua_meaning.specs.Arguments.{a_table, a_number}

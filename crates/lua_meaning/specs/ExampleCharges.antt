@@ -1,17 +1,16 @@
 -- EXAMPLES of charges, and of how runs end.
-use Rattle.std.specs.Prelude.{◌≡◌, pos, true, false, [], ◌∷◌, codes}
+use Rattle.std.specs.Prelude.{◌≡◌, pos, false, [], ◌∷◌, codes}
 use Rattle.lua_syntax.specs.declared.BinaryOp.TheVariants as op
 use Rattle.lua_syntax.specs.declared.UnaryOp.TheVariants as sign
-use Rattle.lua_syntax.specs.Tree.{NilE, TrueE, FalseE, NumberE, TextE, DotsE, FunctionE, NameE, IndexE, CallE, MethodE, TableE, BinaryE, UnaryE, ParenE}
-use Rattle.lua_syntax.specs.Tree.{NoExp, NoField, Item, Pair, Lambda, Block, NoStat, Arm}
-use Rattle.lua_syntax.specs.Tree.{AssignS, CallS, DoS, WhileS, RepeatS, IfS, IfElseS, CountS, CountByS, EachS, LocalFunctionS, LocalS, ReturnS, BreakS}
+use Rattle.lua_syntax.specs.Tree.{TrueE, FalseE, NumberE, TextE, FunctionE, NameE, IndexE, CallE, TableE, BinaryE, UnaryE}
+use Rattle.lua_syntax.specs.Tree.{NoExp, NoField, Pair, Lambda, Block, NoStat, Arm}
+use Rattle.lua_syntax.specs.Tree.{AssignS, CallS, WhileS, IfS, CountS, LocalFunctionS, LocalS, ReturnS}
 use Rattle.lua_syntax.specs.View.{exps_of, fields_of, arms_of, stats_of}
 use Rattle.page_run.specs.declared.which.Which.TheVariants.{Steps, Calls}
-use Rattle.wk_base.specs.declared.title.Namespace.TheVariants.{Main}
-use Rattle.mw_frame.specs.declared.question.Ask.TheVariants.{Template, Preprocess, Data}
-use Rattle.lua_heap.specs.Value.{Nil, Truth, Number, Text, Table}
-use Rattle.lua_meaning.specs.Questions.{Expanded, NoPage, Loaded, LoadFailed}
-use Rattle.lua_meaning.specs.Trial.{Gives, Fails, Spends, Loads, Asks, without_steps, arg, invoked, invoked_with, invoked_on, loaded, faulted, counted, held, template_title, module_title, own_scene, scene_in_template, reply, spent, asked}
+use Rattle.mw_frame.specs.declared.question.Ask.TheVariants.{Data}
+use Rattle.lua_heap.specs.Value.{Text}
+use Rattle.lua_meaning.specs.Questions.{Loaded}
+use Rattle.lua_meaning.specs.Trial.{Gives, Fails, Spends, Loads, Asks, without_steps, arg, invoke_module, invoke_with_calls, invoke_with_args, load_module, invoke_fault, count_nodes, module_text, module_title, reply, invoke_in_template}
 
 -- 1,000 for the start, 36 for the text, and 29 for what it does.
 --     return {f=function() return 'a' end}
@@ -21,7 +20,7 @@ smallest = stats_of (ReturnS 1 (exps_of (TableE 1 (fields_of (
     ∷ [])) ∷ [])) ∷ [])
 
 abbrev pub Smallest : Type 0
-Smallest = (invoked (codes "A") 36 smallest 1065 ≡ Gives (codes "a") 0) × (invoked (codes "A") 36 smallest 1064 ≡ Spends Steps 0)
+Smallest = (invoke_module (codes "A") 36 smallest 1065 ≡ Gives (codes "a") 0) × (invoke_module (codes "A") 36 smallest 1064 ≡ Spends Steps 0)
 
 -- 1,083 for the start, the text and the chunk; then `f` asks after 9 steps more. The load takes 1,031, and 2 are left to read the field and to answer.
 --     return {f=function() return mw.loadData('Module:D').x end}
@@ -31,7 +30,7 @@ start = stats_of (ReturnS 1 (exps_of (TableE 1 (fields_of (Pair (TextE 1 (codes 
     ∷ [])) ∷ [])))) ∷ [])) ∷ [])) ∷ [])
 
 abbrev pub Start : Type 0
-Start = (asked (held (codes "M") 58 start ∷ []) [] (codes "M") 2125 [] ≡ Asks (Data (module_title (codes "D"))) 1033) × (asked (held (codes "M") 58 start ∷ []) [] (codes "M") 2125 (reply (Loaded (((Text (codes "x"), Text (codes "v")) ∷ []) ∷ [])) 2 ∷ []) ≡ Gives (codes "v") 0) × (asked (held (codes "M") 58 start ∷ []) [] (codes "M") 2124 (reply (Loaded (((Text (codes "x"), Text (codes "v")) ∷ []) ∷ [])) 1 ∷ []) ≡ Spends Steps 0) × (asked (held (codes "M") 58 start ∷ []) [] (codes "M") 1092 [] ≡ Asks (Data (module_title (codes "D"))) 0) × (asked (held (codes "M") 58 start ∷ []) [] (codes "M") 1091 [] ≡ Spends Steps 0)
+Start = (invoke_in_template (module_text (codes "M") 58 start ∷ []) [] (codes "M") 2125 [] ≡ Asks (Data (module_title (codes "D"))) 1033) × (invoke_in_template (module_text (codes "M") 58 start ∷ []) [] (codes "M") 2125 (reply (Loaded (((Text (codes "x"), Text (codes "v")) ∷ []) ∷ [])) 2 ∷ []) ≡ Gives (codes "v") 0) × (invoke_in_template (module_text (codes "M") 58 start ∷ []) [] (codes "M") 2124 (reply (Loaded (((Text (codes "x"), Text (codes "v")) ∷ []) ∷ [])) 1 ∷ []) ≡ Spends Steps 0) × (invoke_in_template (module_text (codes "M") 58 start ∷ []) [] (codes "M") 1092 [] ≡ Asks (Data (module_title (codes "D"))) 0) × (invoke_in_template (module_text (codes "M") 58 start ∷ []) [] (codes "M") 1091 [] ≡ Spends Steps 0)
 
 -- The load of a data module: 1,000 for the start, 14 for the text, and 17 for what it does.
 --     return {x='v'}
@@ -39,7 +38,7 @@ abbrev pub data_start : Block
 data_start = stats_of (ReturnS 1 (exps_of (TableE 1 (fields_of (Pair (TextE 1 (codes "x")) (TextE 1 (codes "v")) ∷ [])) ∷ [])) ∷ [])
 
 abbrev pub DataStart : Type 0
-DataStart = (loaded (codes "D") 14 data_start 1031 ≡ Loads 0) × (loaded (codes "D") 14 data_start 1030 ≡ Spends Steps 0)
+DataStart = (load_module (codes "D") 14 data_start 1031 ≡ Loads 0) × (load_module (codes "D") 14 data_start 1030 ≡ Spends Steps 0)
 
 -- Arguments cost 4 each, and the bytes of their names and values. A name that is a place is a number.
 --     return {f=function(frame) local a=frame.args return a[1]..a['1']..a.k..#a end}
@@ -52,7 +51,7 @@ arguments = stats_of (ReturnS 1 (exps_of (TableE 1 (fields_of (Pair (TextE 1 (co
     ∷ [])))) ∷ [])) ∷ [])) ∷ [])
 
 abbrev pub Arguments : Type 0
-Arguments = (invoked_on (arg (codes "1") (codes "x") ∷ arg (codes "k") (codes "v") ∷ []) 20000 (codes "G") 78 arguments 1150 ≡ Gives (codes "xxv1") 0) × (invoked_on (arg (codes "1") (codes "x") ∷ arg (codes "k") (codes "v") ∷ []) 20000 (codes "G") 78 arguments 1149 ≡ Spends Steps 0)
+Arguments = (invoke_with_args (arg (codes "1") (codes "x") ∷ arg (codes "k") (codes "v") ∷ []) 20000 (codes "G") 78 arguments 1150 ≡ Gives (codes "xxv1") 0) × (invoke_with_args (arg (codes "1") (codes "x") ∷ arg (codes "k") (codes "v") ∷ []) 20000 (codes "G") 78 arguments 1149 ≡ Spends Steps 0)
 
 -- Counted are two functions entered, seven nodes, and three turns of the loop.
 --     return {f=function() for i=1,3 do end end}
@@ -62,7 +61,7 @@ nodes = stats_of (ReturnS 1 (exps_of (TableE 1 (fields_of (
     ∷ [])) ∷ [])) ∷ [])
 
 abbrev pub Nodes : Type 0
-Nodes = counted (codes "X") 42 nodes 6000 ≡ 12
+Nodes = count_nodes (codes "X") 42 nodes 6000 ≡ 12
 
 -- A global variable lives as long as its invocation: in each one the counter gives 1.
 --     n=0 local p={} function p.f() n=n+1 return n end return p
@@ -78,7 +77,7 @@ counter = stats_of (
     ∷ [])
 
 abbrev pub Counter : Type 0
-Counter = without_steps (invoked (codes "C") 57 counter 6000) ≡ Gives (codes "1") 0
+Counter = without_steps (invoke_module (codes "C") 57 counter 6000) ≡ Gives (codes "1") 0
 
 -- A table holds itself.
 --     local p={} function p.f() local t={} t.t=t return t.t.t.t==t and 'y' end return p
@@ -96,7 +95,7 @@ holds_itself = stats_of (
     ∷ [])
 
 abbrev pub HoldsItself : Type 0
-HoldsItself = without_steps (invoked (codes "K") 81 holds_itself 6000) ≡ Gives (codes "y") 0
+HoldsItself = without_steps (invoke_module (codes "K") 81 holds_itself 6000) ≡ Gives (codes "y") 0
 
 -- Nothing catches spent steps.
 --     local p={} function p.f() while true do pcall(p.f) end end return p
@@ -110,7 +109,7 @@ catches_all = stats_of (
     ∷ [])
 
 abbrev pub CatchesAll : Type 0
-CatchesAll = invoked (codes "L") 67 catches_all 3000 ≡ Spends Steps 0
+CatchesAll = invoke_module (codes "L") 67 catches_all 3000 ≡ Spends Steps 0
 
 -- A tail call nests too, until no call is left: 1,081 for the start and the chunk, 1 for the first call, and 6 for each of 50.
 --     local p={} function p.f() return p.f() end return p
@@ -124,7 +123,7 @@ nests = stats_of (
     ∷ [])
 
 abbrev pub Nests : Type 0
-Nests = invoked_with 50 (codes "H") 51 nests 3000 ≡ Spends Calls 1618
+Nests = invoke_with_calls 50 (codes "H") 51 nests 3000 ≡ Spends Calls 1618
 
 -- What `..` gives is charged.
 --     local a = 'x' return {f = function() local b = a .. 'y' return b .. a end}
@@ -138,7 +137,7 @@ joins = stats_of (
     ∷ [])
 
 abbrev pub Joins : Type 0
-Joins = without_steps (invoked (codes "Hi") 74 joins 6000) ≡ Gives (codes "xyx") 0
+Joins = without_steps (invoke_module (codes "Hi") 74 joins 6000) ≡ Gives (codes "xyx") 0
 
 -- The answer is a text, and is not expanded here.
 --     return {f = function() return '{{T}}' end}
@@ -148,7 +147,7 @@ no_markup = stats_of (ReturnS 1 (exps_of (TableE 1 (fields_of (
     ∷ [])) ∷ [])) ∷ [])
 
 abbrev pub NoMarkup : Type 0
-NoMarkup = without_steps (invoked (codes "V") 42 no_markup 6000) ≡ Gives (codes "{{T}}") 0
+NoMarkup = without_steps (invoke_module (codes "V") 42 no_markup 6000) ≡ Gives (codes "{{T}}") 0
 
 -- Each turn of a loop has variables of its own, which closures keep.
 --     local p={} function p.f() local fs={} for i=1,3 do fs[i]=function() i=i+10 return i end end return fs[1]()..fs[1]()..fs[2]() end return p
@@ -169,7 +168,7 @@ cells = stats_of (
     ∷ [])
 
 abbrev pub Cells : Type 0
-Cells = without_steps (invoked (codes "Slots") 137 cells 6000) ≡ Gives (codes "112112") 0
+Cells = without_steps (invoke_module (codes "Slots") 137 cells 6000) ≡ Gives (codes "112112") 0
 
 -- Handlers of indexing, of order and of calls.
 --     local p={} function p.f() local m={__index=function(t,k) return k..k end,__lt=function(a,b) return a.n<b.n end,__call=function(s,x) return x+s.n end} local a=setmetatable({n=1},m) local b=setmetatable({n=2},m) return a.zz..tostring(b<=a)..a(6) end return p
@@ -200,7 +199,7 @@ handlers = stats_of (
     ∷ [])
 
 abbrev pub Handlers : Type 0
-Handlers = without_steps (invoked (codes "Meta") 256 handlers 6000) ≡ Gives (codes "zzzzfalse7") 0
+Handlers = without_steps (invoke_module (codes "Meta") 256 handlers 6000) ≡ Gives (codes "zzzzfalse7") 0
 
 -- Results that are no whole number in range are errors.
 --     local p={} function p.f() local function e(f) local ok,v=pcall(f) return tostring(v) end return e(function() return 9223372036854775807+1 end)..';'..e(function() return 7/2 end)..';'..6/2 ..';'..-7%3 ..';'..1e3 end return p
@@ -222,7 +221,7 @@ out_of_range = stats_of (
     ∷ [])
 
 abbrev pub OutOfRange : Type 0
-OutOfRange = without_steps (invoked (codes "N") 223 out_of_range 6000) ≡ Gives (codes "Module:N:1: number out of range;Module:N:1: quotient is not whole;3;2;1000") 0
+OutOfRange = without_steps (invoke_module (codes "N") 223 out_of_range 6000) ≡ Gives (codes "Module:N:1: number out of range;Module:N:1: quotient is not whole;3;2;1000") 0
 
 -- An error with level 2 is at the place that called.
 --     local p = {}
@@ -242,7 +241,7 @@ second_level = stats_of (
     ∷ [])
 
 abbrev pub SecondLevel : Type 0
-SecondLevel = without_steps (invoked (codes "E") 115 second_level 6000) ≡ Fails (codes "Lua error: Module:E:3: bad") 0
+SecondLevel = without_steps (invoke_module (codes "E") 115 second_level 6000) ≡ Fails (codes "Lua error: Module:E:3: bad") 0
 
 -- The module has no function of that name.
 --     return {g=function() end}
@@ -252,7 +251,7 @@ no_function = stats_of (
     ∷ [])
 
 abbrev pub NoFunction : Type 0
-NoFunction = without_steps (invoked (codes "C") 25 no_function 6000) ≡ Fails (codes "Script error: The function \"f\" does not exist.") 0
+NoFunction = without_steps (invoke_module (codes "C") 25 no_function 6000) ≡ Fails (codes "Script error: The function \"f\" does not exist.") 0
 
 -- The module gives no table.
 --     return 1
@@ -260,7 +259,7 @@ abbrev pub no_table : Block
 no_table = stats_of (ReturnS 1 (exps_of (NumberE 1 (pos 1) ∷ [])) ∷ [])
 
 abbrev pub NoTable : Type 0
-NoTable = without_steps (invoked (codes "X") 8 no_table 6000) ≡ Fails (codes "Script error: The module returned no table.") 0
+NoTable = without_steps (invoke_module (codes "X") 8 no_table 6000) ≡ Fails (codes "Script error: The module returned no table.") 0
 
 -- A data module must give a table.
 --     return 1
@@ -268,7 +267,7 @@ abbrev pub data_no_table : Block
 data_no_table = stats_of (ReturnS 1 (exps_of (NumberE 1 (pos 1) ∷ [])) ∷ [])
 
 abbrev pub DataNoTable : Type 0
-DataNoTable = without_steps (loaded (codes "X") 8 data_no_table 6000) ≡ Fails (codes "data module returned no table") 0
+DataNoTable = without_steps (load_module (codes "X") 8 data_no_table 6000) ≡ Fails (codes "data module returned no table") 0
 
 -- The message of an error in a data module stands alone.
 --     error('x')
@@ -276,7 +275,7 @@ abbrev pub data_error : Block
 data_error = stats_of (CallS 1 (CallE 1 (NameE 1 (codes "error")) (exps_of (TextE 1 (codes "x") ∷ []))) ∷ [])
 
 abbrev pub DataError : Type 0
-DataError = without_steps (loaded (codes "DE") 10 data_error 6000) ≡ Fails (codes "Module:DE:1: x") 0
+DataError = without_steps (load_module (codes "DE") 10 data_error 6000) ≡ Fails (codes "Module:DE:1: x") 0
 
 -- A text that is no chunk fails where it would begin.
 --     local p = {}
@@ -284,17 +283,17 @@ DataError = without_steps (loaded (codes "DE") 10 data_error 6000) ≡ Fails (co
 --       return 1 + end
 --     return p
 abbrev pub Faulty : Type 0
-Faulty = without_steps (faulted (codes "Y") 53 5 3 6000) ≡ Fails (codes "Lua error: Module:Y:3: unexpected token") 0
+Faulty = without_steps (invoke_fault (codes "Y") 53 5 3 6000) ≡ Fails (codes "Lua error: Module:Y:3: unexpected token") 0
 
 -- The numbers of the faults are those of the lexis and of the grammar.
 --     return "
 abbrev pub Unfinished : Type 0
-Unfinished = without_steps (faulted (codes "U") 8 1 1 6000) ≡ Fails (codes "Lua error: Module:U:1: unfinished string") 0
+Unfinished = without_steps (invoke_fault (codes "U") 8 1 1 6000) ≡ Fails (codes "Lua error: Module:U:1: unfinished string") 0
 
 -- A numeral beyond 64 bits is a fault.
 --     return 9223372036854775808
 abbrev pub TooLarge : Type 0
-TooLarge = without_steps (faulted (codes "B") 26 6 1 6000) ≡ Fails (codes "Lua error: Module:B:1: numeral is not a whole number in range") 0
+TooLarge = without_steps (invoke_fault (codes "B") 26 6 1 6000) ≡ Fails (codes "Lua error: Module:B:1: numeral is not a whole number in range") 0
 
 -- An error that is no string has no message.
 --     return {f=function() error({}) end}
@@ -304,7 +303,7 @@ table_error = stats_of (ReturnS 1 (exps_of (TableE 1 (fields_of (
     ∷ [])) ∷ [])) ∷ [])
 
 abbrev pub TableError : Type 0
-TableError = without_steps (invoked (codes "Z") 35 table_error 6000) ≡ Fails (codes "Lua error: the error is a table value") 0
+TableError = without_steps (invoke_module (codes "Z") 35 table_error 6000) ≡ Fails (codes "Lua error: the error is a table value") 0
 
 -- The text of a failure is written without marks of HTML.
 --     return {f=function() error('a<b>&c', 0) end}
@@ -314,7 +313,7 @@ written_out = stats_of (ReturnS 1 (exps_of (TableE 1 (fields_of (
     ∷ [])) ∷ [])) ∷ [])
 
 abbrev pub WrittenOut : Type 0
-WrittenOut = without_steps (invoked (codes "X") 44 written_out 6000) ≡ Fails (codes "Lua error: a&lt;b&gt;&amp;c") 0
+WrittenOut = without_steps (invoke_module (codes "X") 44 written_out 6000) ≡ Fails (codes "Lua error: a&lt;b&gt;&amp;c") 0
 
 -- ALL OF THEM
 abbrev pub AllCharges : Type 0

@@ -2,16 +2,12 @@
 use Rattle.std.specs.Prelude.{◌≡◌, pos, true, false, [], ◌∷◌, codes}
 use Rattle.lua_syntax.specs.declared.BinaryOp.TheVariants as op
 use Rattle.lua_syntax.specs.declared.UnaryOp.TheVariants as sign
-use Rattle.lua_syntax.specs.Tree.{NilE, TrueE, FalseE, NumberE, TextE, DotsE, FunctionE, NameE, IndexE, CallE, MethodE, TableE, BinaryE, UnaryE, ParenE}
+use Rattle.lua_syntax.specs.Tree.{NilE, NumberE, TextE, DotsE, FunctionE, NameE, IndexE, CallE, MethodE, TableE, BinaryE, UnaryE, ParenE}
 use Rattle.lua_syntax.specs.Tree.{NoExp, NoField, Item, Pair, Lambda, Block, NoStat, Arm}
-use Rattle.lua_syntax.specs.Tree.{AssignS, CallS, DoS, WhileS, RepeatS, IfS, IfElseS, CountS, CountByS, EachS, LocalFunctionS, LocalS, ReturnS, BreakS}
+use Rattle.lua_syntax.specs.Tree.{AssignS, CallS, WhileS, RepeatS, IfS, CountS, EachS, LocalFunctionS, LocalS, ReturnS}
 use Rattle.lua_syntax.specs.View.{exps_of, fields_of, arms_of, stats_of}
-use Rattle.page_run.specs.declared.which.Which.TheVariants.{Steps, Calls}
-use Rattle.wk_base.specs.declared.title.Namespace.TheVariants.{Main}
-use Rattle.mw_frame.specs.declared.question.Ask.TheVariants.{Template, Preprocess, Data}
-use Rattle.lua_heap.specs.Value.{Nil, Truth, Number, Text, Table}
-use Rattle.lua_meaning.specs.Questions.{Expanded, NoPage, Loaded, LoadFailed}
-use Rattle.lua_meaning.specs.Trial.{Gives, Fails, Spends, Loads, Asks, without_steps, arg, invoked, invoked_with, invoked_on, loaded, faulted, counted, held, template_title, module_title, own_scene, scene_in_template, reply, spent, asked}
+use Rattle.page_run.specs.declared.which.Which.TheVariants.{Steps}
+use Rattle.lua_meaning.specs.Trial.{Gives, Spends, invoke_module}
 
 -- A function that does nothing.
 --     return {f=function(...)
@@ -23,7 +19,7 @@ nothing = stats_of (
     ∷ [])
 
 abbrev pub Nothing : Type 0
-Nothing = (invoked (codes "X") 29 nothing 1055 ≡ Gives [] 0) × (invoked (codes "X") 29 nothing 1054 ≡ Spends Steps 0)
+Nothing = (invoke_module (codes "X") 29 nothing 1055 ≡ Gives [] 0) × (invoke_module (codes "X") 29 nothing 1054 ≡ Spends Steps 0)
 
 -- `...` costs a step more for each value: here it has one, the frame.
 --     return {f=function(...)
@@ -35,7 +31,7 @@ dots_cost = stats_of (ReturnS 1 (exps_of (
     ∷ [])) ∷ [])
 
 abbrev pub DotsCost : Type 0
-DotsCost = (invoked (codes "X") 39 dots_cost 1073 ≡ Gives (codes "table") 0) × (invoked (codes "X") 39 dots_cost 1072 ≡ Spends Steps 0)
+DotsCost = (invoke_module (codes "X") 39 dots_cost 1073 ≡ Gives (codes "table") 0) × (invoke_module (codes "X") 39 dots_cost 1072 ≡ Spends Steps 0)
 
 -- `while`: three tests, and two turns.
 --     return {f=function(...)
@@ -50,7 +46,7 @@ while_costs = stats_of (ReturnS 1 (exps_of (TableE 1 (fields_of (Pair (TextE 1 (
     ∷ [])))) ∷ [])) ∷ [])) ∷ [])
 
 abbrev pub WhileCosts : Type 0
-WhileCosts = (invoked (codes "X") 61 while_costs 1109 ≡ Gives [] 0) × (invoked (codes "X") 61 while_costs 1108 ≡ Spends Steps 0)
+WhileCosts = (invoke_module (codes "X") 61 while_costs 1109 ≡ Gives [] 0) × (invoke_module (codes "X") 61 while_costs 1108 ≡ Spends Steps 0)
 
 -- `repeat`: two turns, each with its test.
 --     return {f=function(...)
@@ -65,7 +61,7 @@ repeat_costs = stats_of (ReturnS 1 (exps_of (TableE 1 (fields_of (Pair (TextE 1 
     ∷ [])))) ∷ [])) ∷ [])) ∷ [])
 
 abbrev pub RepeatCosts : Type 0
-RepeatCosts = (invoked (codes "X") 62 repeat_costs 1107 ≡ Gives [] 0) × (invoked (codes "X") 62 repeat_costs 1106 ≡ Spends Steps 0)
+RepeatCosts = (invoke_module (codes "X") 62 repeat_costs 1107 ≡ Gives [] 0) × (invoke_module (codes "X") 62 repeat_costs 1106 ≡ Spends Steps 0)
 
 -- A counting loop: its numbers, and a step for each turn.
 --     return {f=function(...)
@@ -77,7 +73,7 @@ for_costs = stats_of (ReturnS 1 (exps_of (TableE 1 (fields_of (
     ∷ [])) ∷ [])) ∷ [])
 
 abbrev pub ForCosts : Type 0
-ForCosts = (invoked (codes "X") 45 for_costs 1076 ≡ Gives [] 0) × (invoked (codes "X") 45 for_costs 1075 ≡ Spends Steps 0)
+ForCosts = (invoke_module (codes "X") 45 for_costs 1076 ≡ Gives [] 0) × (invoke_module (codes "X") 45 for_costs 1075 ≡ Spends Steps 0)
 
 -- A generic loop: the function is entered three times, and there are two turns.
 --     return {f=function(...)
@@ -89,7 +85,7 @@ each_costs = stats_of (ReturnS 1 (exps_of (TableE 1 (fields_of (Pair (TextE 1 (c
     ∷ [])))) ∷ [])) ∷ [])) ∷ [])
 
 abbrev pub EachCosts : Type 0
-EachCosts = (invoked (codes "X") 55 each_costs 1107 ≡ Gives [] 0) × (invoked (codes "X") 55 each_costs 1106 ≡ Spends Steps 0)
+EachCosts = (invoke_module (codes "X") 55 each_costs 1107 ≡ Gives [] 0) × (invoke_module (codes "X") 55 each_costs 1106 ≡ Spends Steps 0)
 
 -- `next` passes a cleared entry; a key that is cleared is no new entry.
 --     return {f=function(...)
@@ -103,7 +99,7 @@ cleared_costs = stats_of (ReturnS 1 (exps_of (TableE 1 (fields_of (Pair (TextE 1
     ∷ [])))) ∷ [])) ∷ [])) ∷ [])
 
 abbrev pub ClearedCosts : Type 0
-ClearedCosts = (invoked (codes "X") 66 cleared_costs 1125 ≡ Gives (codes "22") 0) × (invoked (codes "X") 66 cleared_costs 1124 ≡ Spends Steps 0)
+ClearedCosts = (invoke_module (codes "X") 66 cleared_costs 1125 ≡ Gives (codes "22") 0) × (invoke_module (codes "X") 66 cleared_costs 1124 ≡ Spends Steps 0)
 
 -- `..` costs the length of what it gives.
 --     return {f=function(...)
@@ -115,7 +111,7 @@ joins_cost = stats_of (ReturnS 1 (exps_of (TableE 1 (fields_of (
     ∷ [])) ∷ [])) ∷ [])
 
 abbrev pub JoinsCost : Type 0
-JoinsCost = (invoked (codes "X") 45 joins_cost 1081 ≡ Gives (codes "abc") 0) × (invoked (codes "X") 45 joins_cost 1080 ≡ Spends Steps 0)
+JoinsCost = (invoke_module (codes "X") 45 joins_cost 1081 ≡ Gives (codes "abc") 0) × (invoke_module (codes "X") 45 joins_cost 1080 ≡ Spends Steps 0)
 
 -- The order of two texts costs the length of the shorter one.
 --     return {f=function(...)
@@ -127,7 +123,7 @@ order_costs = stats_of (ReturnS 1 (exps_of (TableE 1 (fields_of (
     ∷ [])) ∷ [])) ∷ [])
 
 abbrev pub OrderCosts : Type 0
-OrderCosts = (invoked (codes "X") 48 order_costs 1085 ≡ Gives (codes "true") 0) × (invoked (codes "X") 48 order_costs 1084 ≡ Spends Steps 0)
+OrderCosts = (invoke_module (codes "X") 48 order_costs 1085 ≡ Gives (codes "true") 0) × (invoke_module (codes "X") 48 order_costs 1084 ≡ Spends Steps 0)
 
 -- Their equality costs nothing.
 --     return {f=function(...)
@@ -139,7 +135,7 @@ equality_is_free = stats_of (ReturnS 1 (exps_of (TableE 1 (fields_of (
     ∷ [])) ∷ [])) ∷ [])
 
 abbrev pub EqualityIsFree : Type 0
-EqualityIsFree = (invoked (codes "X") 48 equality_is_free 1082 ≡ Gives (codes "true") 0) × (invoked (codes "X") 48 equality_is_free 1081 ≡ Spends Steps 0)
+EqualityIsFree = (invoke_module (codes "X") 48 equality_is_free 1082 ≡ Gives (codes "true") 0) × (invoke_module (codes "X") 48 equality_is_free 1081 ≡ Spends Steps 0)
 
 -- `tostring` costs the length of the text.
 --     return {f=function(...)
@@ -151,7 +147,7 @@ text_costs = stats_of (ReturnS 1 (exps_of (TableE 1 (fields_of (
     ∷ [])) ∷ [])) ∷ [])
 
 abbrev pub TextCosts : Type 0
-TextCosts = (invoked (codes "X") 51 text_costs 1088 ≡ Gives (codes "abc") 0) × (invoked (codes "X") 51 text_costs 1087 ≡ Spends Steps 0)
+TextCosts = (invoke_module (codes "X") 51 text_costs 1088 ≡ Gives (codes "abc") 0) × (invoke_module (codes "X") 51 text_costs 1087 ≡ Spends Steps 0)
 
 -- `unpack` costs a step for each entry.
 --     return {f=function(...)
@@ -163,7 +159,7 @@ unpack_costs = stats_of (ReturnS 1 (exps_of (TableE 1 (fields_of (Pair (TextE 1 
     ∷ [])) ∷ [])))) ∷ [])) ∷ [])) ∷ [])
 
 abbrev pub UnpackCosts : Type 0
-UnpackCosts = (invoked (codes "X") 49 unpack_costs 1102 ≡ Gives (codes "12") 0) × (invoked (codes "X") 49 unpack_costs 1101 ≡ Spends Steps 0)
+UnpackCosts = (invoke_module (codes "X") 49 unpack_costs 1102 ≡ Gives (codes "12") 0) × (invoke_module (codes "X") 49 unpack_costs 1101 ≡ Spends Steps 0)
 
 -- A link to a table costs a step.
 --     return {f=function(...)
@@ -176,7 +172,7 @@ link_costs = stats_of (ReturnS 1 (exps_of (TableE 1 (fields_of (Pair (TextE 1 (c
     ∷ []))) (TextE 2 (codes "x")) ∷ [])) ∷ [])))) ∷ [])) ∷ [])) ∷ [])
 
 abbrev pub LinkCosts : Type 0
-LinkCosts = (invoked (codes "X") 70 link_costs 1142 ≡ Gives (codes "1") 0) × (invoked (codes "X") 70 link_costs 1141 ≡ Spends Steps 0)
+LinkCosts = (invoke_module (codes "X") 70 link_costs 1142 ≡ Gives (codes "1") 0) × (invoke_module (codes "X") 70 link_costs 1141 ≡ Spends Steps 0)
 
 -- A link to a function costs a step, and the function's entry another.
 --     return {f=function(...)
@@ -191,7 +187,7 @@ call_link_costs = stats_of (ReturnS 1 (exps_of (TableE 1 (fields_of (Pair (TextE
     ∷ []))) NoExp ∷ [])) ∷ [])))) ∷ [])) ∷ [])) ∷ [])
 
 abbrev pub CallLinkCosts : Type 0
-CallLinkCosts = (invoked (codes "X") 87 call_link_costs 1155 ≡ Gives (codes "1") 0) × (invoked (codes "X") 87 call_link_costs 1154 ≡ Spends Steps 0)
+CallLinkCosts = (invoke_module (codes "X") 87 call_link_costs 1155 ≡ Gives (codes "1") 0) × (invoke_module (codes "X") 87 call_link_costs 1154 ≡ Spends Steps 0)
 
 -- A message costs its length with its place.
 --     return {f=function(...)
@@ -203,7 +199,7 @@ message_costs = stats_of (ReturnS 1 (exps_of (TableE 1 (fields_of (Pair (TextE 1
     ∷ [])) ∷ [])) ∷ [])))) ∷ [])) ∷ [])) ∷ [])
 
 abbrev pub MessageCosts : Type 0
-MessageCosts = (invoked (codes "X") 68 message_costs 1144 ≡ Gives (codes "falseModule:X:2: m") 0) × (invoked (codes "X") 68 message_costs 1143 ≡ Spends Steps 0)
+MessageCosts = (invoke_module (codes "X") 68 message_costs 1144 ≡ Gives (codes "falseModule:X:2: m") 0) × (invoke_module (codes "X") 68 message_costs 1143 ≡ Spends Steps 0)
 
 -- A method's name costs nothing.
 --     return {f=function(...)
@@ -218,7 +214,7 @@ method_costs = stats_of (ReturnS 1 (exps_of (TableE 1 (fields_of (Pair (TextE 1 
     ∷ [])))) ∷ [])) ∷ [])) ∷ [])
 
 abbrev pub MethodCosts : Type 0
-MethodCosts = (invoked (codes "X") 78 method_costs 1135 ≡ Gives (codes "1") 0) × (invoked (codes "X") 78 method_costs 1134 ≡ Spends Steps 0)
+MethodCosts = (invoke_module (codes "X") 78 method_costs 1135 ≡ Gives (codes "1") 0) × (invoke_module (codes "X") 78 method_costs 1134 ≡ Spends Steps 0)
 
 -- A local function is a statement, and a closure.
 --     return {f=function(...)
@@ -230,7 +226,7 @@ local_function_costs = stats_of (ReturnS 1 (exps_of (TableE 1 (fields_of (
     ∷ [])) ∷ [])) ∷ [])
 
 abbrev pub LocalFunctionCosts : Type 0
-LocalFunctionCosts = (invoked (codes "X") 55 local_function_costs 1094 ≡ Gives [] 0) × (invoked (codes "X") 55 local_function_costs 1093 ≡ Spends Steps 0)
+LocalFunctionCosts = (invoke_module (codes "X") 55 local_function_costs 1094 ≡ Gives [] 0) × (invoke_module (codes "X") 55 local_function_costs 1093 ≡ Spends Steps 0)
 
 -- A global variable that is new is a new entry, and a name as a target costs nothing.
 --     return {f=function(...)
@@ -243,7 +239,7 @@ global_costs = stats_of (ReturnS 1 (exps_of (TableE 1 (fields_of (Pair (TextE 1 
     ∷ [])))) ∷ [])) ∷ [])) ∷ [])
 
 abbrev pub GlobalCosts : Type 0
-GlobalCosts = (invoked (codes "X") 36 global_costs 1070 ≡ Gives [] 0) × (invoked (codes "X") 36 global_costs 1069 ≡ Spends Steps 0)
+GlobalCosts = (invoke_module (codes "X") 36 global_costs 1070 ≡ Gives [] 0) × (invoke_module (codes "X") 36 global_costs 1069 ≡ Spends Steps 0)
 
 -- What is not evaluated costs nothing.
 --     return {f=function(...)
@@ -255,7 +251,7 @@ choices_cost = stats_of (ReturnS 1 (exps_of (TableE 1 (fields_of (Pair (TextE 1 
     ∷ [])))) ∷ [])) ∷ [])) ∷ [])
 
 abbrev pub ChoicesCost : Type 0
-ChoicesCost = (invoked (codes "X") 58 choices_cost 1090 ≡ Gives (codes "a") 0) × (invoked (codes "X") 58 choices_cost 1089 ≡ Spends Steps 0)
+ChoicesCost = (invoke_module (codes "X") 58 choices_cost 1090 ≡ Gives (codes "a") 0) × (invoke_module (codes "X") 58 choices_cost 1089 ≡ Spends Steps 0)
 
 -- Of a condition the tests that are made.
 --     return {f=function(...)
@@ -267,7 +263,7 @@ branches_cost = stats_of (ReturnS 1 (exps_of (TableE 1 (fields_of (
     ∷ [])) ∷ [])) ∷ [])
 
 abbrev pub BranchesCost : Type 0
-BranchesCost = (invoked (codes "X") 72 branches_cost 1101 ≡ Gives [] 0) × (invoked (codes "X") 72 branches_cost 1100 ≡ Spends Steps 0)
+BranchesCost = (invoke_module (codes "X") 72 branches_cost 1101 ≡ Gives [] 0) × (invoke_module (codes "X") 72 branches_cost 1100 ≡ Spends Steps 0)
 
 -- Targets that are indices are nodes; nil makes no entry.
 --     return {f=function(...)
@@ -280,7 +276,7 @@ targets_cost = stats_of (ReturnS 1 (exps_of (TableE 1 (fields_of (Pair (TextE 1 
     ∷ [])))) ∷ [])) ∷ [])) ∷ [])
 
 abbrev pub TargetsCost : Type 0
-TargetsCost = (invoked (codes "X") 49 targets_cost 1097 ≡ Gives [] 0) × (invoked (codes "X") 49 targets_cost 1096 ≡ Spends Steps 0)
+TargetsCost = (invoke_module (codes "X") 49 targets_cost 1097 ≡ Gives [] 0) × (invoke_module (codes "X") 49 targets_cost 1096 ≡ Spends Steps 0)
 
 -- A link of an assignment costs a step.
 --     return {f=function(...)
@@ -292,7 +288,7 @@ set_link_costs = stats_of (ReturnS 1 (exps_of (TableE 1 (fields_of (Pair (TextE 
     ∷ [])) (exps_of (NumberE 2 (pos 1) ∷ [])) ∷ [])))) ∷ [])) ∷ [])) ∷ [])
 
 abbrev pub SetLinkCosts : Type 0
-SetLinkCosts = (invoked (codes "X") 65 set_link_costs 1135 ≡ Gives [] 0) × (invoked (codes "X") 65 set_link_costs 1134 ≡ Spends Steps 0)
+SetLinkCosts = (invoke_module (codes "X") 65 set_link_costs 1135 ≡ Gives [] 0) × (invoke_module (codes "X") 65 set_link_costs 1134 ≡ Spends Steps 0)
 
 -- `rawset` of a new key costs an entry.
 --     return {f=function(...)
@@ -306,7 +302,7 @@ rawset_costs = stats_of (ReturnS 1 (exps_of (TableE 1 (fields_of (Pair (TextE 1 
     ∷ [])))) ∷ [])) ∷ [])) ∷ [])
 
 abbrev pub RawsetCosts : Type 0
-RawsetCosts = (invoked (codes "X") 67 rawset_costs 1121 ≡ Gives [] 0) × (invoked (codes "X") 67 rawset_costs 1120 ≡ Spends Steps 0)
+RawsetCosts = (invoke_module (codes "X") 67 rawset_costs 1121 ≡ Gives [] 0) × (invoke_module (codes "X") 67 rawset_costs 1120 ≡ Spends Steps 0)
 
 -- `<=` on texts costs the shorter one too.
 --     return {f=function(...)
@@ -318,7 +314,7 @@ at_most_costs = stats_of (ReturnS 1 (exps_of (TableE 1 (fields_of (
     ∷ [])) ∷ [])) ∷ [])
 
 abbrev pub AtMostCosts : Type 0
-AtMostCosts = (invoked (codes "X") 49 at_most_costs 1086 ≡ Gives (codes "true") 0) × (invoked (codes "X") 49 at_most_costs 1085 ≡ Spends Steps 0)
+AtMostCosts = (invoke_module (codes "X") 49 at_most_costs 1086 ≡ Gives (codes "true") 0) × (invoke_module (codes "X") 49 at_most_costs 1085 ≡ Spends Steps 0)
 
 -- `next` pays for the cleared entries that it passes at the end.
 --     return {f=function(...)
@@ -332,7 +328,7 @@ end_costs = stats_of (ReturnS 1 (exps_of (TableE 1 (fields_of (Pair (TextE 1 (co
     ∷ [])))) ∷ [])) ∷ [])) ∷ [])
 
 abbrev pub EndCosts : Type 0
-EndCosts = (invoked (codes "X") 68 end_costs 1129 ≡ Gives (codes "nil") 0) × (invoked (codes "X") 68 end_costs 1128 ≡ Spends Steps 0)
+EndCosts = (invoke_module (codes "X") 68 end_costs 1129 ≡ Gives (codes "nil") 0) × (invoke_module (codes "X") 68 end_costs 1128 ≡ Spends Steps 0)
 
 -- What a handler of `..` gives costs nothing beyond its call.
 --     return {f=function(...)
@@ -350,7 +346,7 @@ handler_makes_no_text = stats_of (ReturnS 1 (exps_of (TableE 1 (fields_of (Pair 
     ∷ [])))) ∷ [])) ∷ [])) ∷ [])
 
 abbrev pub HandlerMakesNoText : Type 0
-HandlerMakesNoText = (invoked (codes "X") 110 handler_makes_no_text 1182 ≡ Gives (codes "6") 0) × (invoked (codes "X") 110 handler_makes_no_text 1181 ≡ Spends Steps 0)
+HandlerMakesNoText = (invoke_module (codes "X") 110 handler_makes_no_text 1182 ≡ Gives (codes "6") 0) × (invoke_module (codes "X") 110 handler_makes_no_text 1181 ≡ Spends Steps 0)
 
 -- What `__tostring` gives costs its length.
 --     return {f=function(...)
@@ -368,7 +364,7 @@ handler_of_text_costs = stats_of (ReturnS 1 (exps_of (TableE 1 (fields_of (Pair 
     ∷ [])))) ∷ [])) ∷ [])) ∷ [])
 
 abbrev pub HandlerOfTextCosts : Type 0
-HandlerOfTextCosts = (invoked (codes "X") 117 handler_of_text_costs 1195 ≡ Gives (codes "6") 0) × (invoked (codes "X") 117 handler_of_text_costs 1194 ≡ Spends Steps 0)
+HandlerOfTextCosts = (invoke_module (codes "X") 117 handler_of_text_costs 1195 ≡ Gives (codes "6") 0) × (invoke_module (codes "X") 117 handler_of_text_costs 1194 ≡ Spends Steps 0)
 
 -- In the answer `__tostring` costs what it does, and its text nothing more.
 --     return {f=function(...)
@@ -383,7 +379,7 @@ answer_asks_handlers = stats_of (ReturnS 1 (exps_of (TableE 1 (fields_of (Pair (
     ∷ [])) ∷ [])) ∷ [])))) ∷ [])) ∷ [])) ∷ [])
 
 abbrev pub AnswerAsksHandlers : Type 0
-AnswerAsksHandlers = (invoked (codes "X") 93 answer_asks_handlers 1161 ≡ Gives (codes "abc") 0) × (invoked (codes "X") 93 answer_asks_handlers 1160 ≡ Spends Steps 0)
+AnswerAsksHandlers = (invoke_module (codes "X") 93 answer_asks_handlers 1161 ≡ Gives (codes "abc") 0) × (invoke_module (codes "X") 93 answer_asks_handlers 1160 ≡ Spends Steps 0)
 
 -- The handler of `xpcall` is called by the library, so level 2 has no place in it: its message costs nothing.
 --     return {f=function(...)
@@ -396,7 +392,7 @@ no_levels_in_handlers = stats_of (ReturnS 1 (exps_of (TableE 1 (fields_of (Pair 
     ∷ [])) ∷ [])) ∷ [])))) ∷ [])) ∷ [])) ∷ [])
 
 abbrev pub NoLevelsInHandlers : Type 0
-NoLevelsInHandlers = (invoked (codes "X") 99 no_levels_in_handlers 1189 ≡ Gives (codes "falseerror in error handling") 0) × (invoked (codes "X") 99 no_levels_in_handlers 1188 ≡ Spends Steps 0)
+NoLevelsInHandlers = (invoke_module (codes "X") 99 no_levels_in_handlers 1189 ≡ Gives (codes "falseerror in error handling") 0) × (invoke_module (codes "X") 99 no_levels_in_handlers 1188 ≡ Spends Steps 0)
 
 -- `strict` costs a table with two entries.
 --     return {f=function(...)
@@ -408,7 +404,7 @@ require_costs = stats_of (ReturnS 1 (exps_of (TableE 1 (fields_of (
     ∷ [])) ∷ [])) ∷ [])
 
 abbrev pub RequireCosts : Type 0
-RequireCosts = (invoked (codes "X") 53 require_costs 1104 ≡ Gives (codes "true") 0) × (invoked (codes "X") 53 require_costs 1103 ≡ Spends Steps 0)
+RequireCosts = (invoke_module (codes "X") 53 require_costs 1104 ≡ Gives (codes "true") 0) × (invoke_module (codes "X") 53 require_costs 1103 ≡ Spends Steps 0)
 
 -- ALL OF THEM
 abbrev pub AllCosts : Type 0

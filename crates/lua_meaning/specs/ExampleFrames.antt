@@ -3,15 +3,15 @@ use Rattle.std.specs.Prelude.{◌≡◌, pos, true, false, [], ◌∷◌, codes}
 use Rattle.lua_syntax.specs.declared.BinaryOp.TheVariants as op
 use Rattle.lua_syntax.specs.declared.UnaryOp.TheVariants as sign
 use Rattle.lua_syntax.specs.Tree.{NilE, TrueE, FalseE, NumberE, TextE, DotsE, FunctionE, NameE, IndexE, CallE, MethodE, TableE, BinaryE, UnaryE, ParenE}
-use Rattle.lua_syntax.specs.Tree.{NoExp, NoField, Item, Pair, Lambda, Block, NoStat, Arm}
-use Rattle.lua_syntax.specs.Tree.{AssignS, CallS, DoS, WhileS, RepeatS, IfS, IfElseS, CountS, CountByS, EachS, LocalFunctionS, LocalS, ReturnS, BreakS}
-use Rattle.lua_syntax.specs.View.{exps_of, fields_of, arms_of, stats_of}
+use Rattle.lua_syntax.specs.Tree.{NoExp, NoField, Item, Pair, Lambda, Block}
+use Rattle.lua_syntax.specs.Tree.{AssignS, CallS, EachS, LocalFunctionS, LocalS, ReturnS}
+use Rattle.lua_syntax.specs.View.{exps_of, fields_of, stats_of}
 use Rattle.page_run.specs.declared.which.Which.TheVariants.{Steps, Calls}
 use Rattle.wk_base.specs.declared.title.Namespace.TheVariants.{Main}
-use Rattle.mw_frame.specs.declared.question.Ask.TheVariants.{Template, Preprocess, Data}
-use Rattle.lua_heap.specs.Value.{Nil, Truth, Number, Text, Table}
+use Rattle.mw_frame.specs.declared.question.Ask.TheVariants.{Template, Preprocess}
+use Rattle.lua_heap.specs.Value.{Text}
 use Rattle.lua_meaning.specs.Questions.{Expanded, NoPage, Loaded, LoadFailed}
-use Rattle.lua_meaning.specs.Trial.{Gives, Fails, Spends, Loads, Asks, without_steps, arg, invoked, invoked_with, invoked_on, loaded, faulted, counted, held, template_title, module_title, own_scene, scene_in_template, reply, spent, asked}
+use Rattle.lua_meaning.specs.Trial.{Gives, Fails, Spends, Asks, without_steps, arg, module_text, template_title, own_scene, scene_in_template, reply, exhausts, invoke_in_template}
 
 -- A question costs the title's text and the arguments; its answer costs its bytes.
 --     return {f=function(frame) return frame:expandTemplate{title='T', args={'p', n='q'}} end}
@@ -22,7 +22,7 @@ expands = stats_of (ReturnS 1 (exps_of (TableE 1 (fields_of (Pair (TextE 1 (code
     ∷ [])) ∷ [])) ∷ [])) ∷ [])))) ∷ [])) ∷ [])) ∷ [])
 
 abbrev pub Expands : Type 0
-Expands = (asked (held (codes "X") 88 expands ∷ []) [] (codes "X") 1202 [] ≡ Asks (Template (own_scene (codes "X") []) (template_title (codes "T")) (arg (codes "1") (codes "p") ∷ arg (codes "n") (codes "q") ∷ [])) 30) × (asked (held (codes "X") 88 expands ∷ []) [] (codes "X") 1202 (reply (Expanded (codes "[p|q]")) 10 ∷ []) ≡ Gives (codes "[p|q]") 0) × (asked (held (codes "X") 88 expands ∷ []) [] (codes "X") 1202 (reply (Expanded (codes "[p|q]")) 9 ∷ []) ≡ Spends Steps 0) × (asked (held (codes "X") 88 expands ∷ []) [] (codes "X") 1171 [] ≡ Spends Steps 0)
+Expands = (invoke_in_template (module_text (codes "X") 88 expands ∷ []) [] (codes "X") 1202 [] ≡ Asks (Template (own_scene (codes "X") []) (template_title (codes "T")) (arg (codes "1") (codes "p") ∷ arg (codes "n") (codes "q") ∷ [])) 30) × (invoke_in_template (module_text (codes "X") 88 expands ∷ []) [] (codes "X") 1202 (reply (Expanded (codes "[p|q]")) 10 ∷ []) ≡ Gives (codes "[p|q]") 0) × (invoke_in_template (module_text (codes "X") 88 expands ∷ []) [] (codes "X") 1202 (reply (Expanded (codes "[p|q]")) 9 ∷ []) ≡ Spends Steps 0) × (invoke_in_template (module_text (codes "X") 88 expands ∷ []) [] (codes "X") 1171 [] ≡ Spends Steps 0)
 
 -- Of two arguments with one name the last counts, at the place of the first; all are charged. True is 1, and false is empty.
 --     return {f=function(frame) return frame:expandTemplate{title=' foo_bar ',args={a=true,['1']=2,[1]=false}} end}
@@ -37,7 +37,7 @@ merges = stats_of (ReturnS 1 (exps_of (TableE 1 (fields_of (Pair (TextE 1 (codes
     ∷ [])) ∷ [])) ∷ [])) ∷ [])))) ∷ [])) ∷ [])) ∷ [])
 
 abbrev pub Merges : Type 0
-Merges = asked (held (codes "X") 109 merges ∷ []) [] (codes "X") 6000 [] ≡ Asks (Template (own_scene (codes "X") []) (template_title (codes "Foo bar")) (arg (codes "a") (codes "1") ∷ arg (codes "1") [] ∷ [])) 4793
+Merges = invoke_in_template (module_text (codes "X") 109 merges ∷ []) [] (codes "X") 6000 [] ≡ Asks (Template (own_scene (codes "X") []) (template_title (codes "Foo bar")) (arg (codes "a") (codes "1") ∷ arg (codes "1") [] ∷ [])) 4793
 
 -- `preprocess` asks in the scene of its frame.
 --     return {f=function(frame) return frame:preprocess('{{{1}}}{{T}}') end}
@@ -47,7 +47,7 @@ preprocesses = stats_of (ReturnS 1 (exps_of (TableE 1 (fields_of (Pair (TextE 1 
     ∷ [])))) ∷ [])) ∷ [])) ∷ [])
 
 abbrev pub Preprocesses : Type 0
-Preprocesses = (asked (held (codes "X") 70 preprocesses ∷ []) (arg (codes "1") (codes "a") ∷ []) (codes "X") 6000 [] ≡ Asks (Preprocess (own_scene (codes "X") (arg (codes "1") (codes "a") ∷ [])) (codes "{{{1}}}{{T}}")) 4881) × (asked (held (codes "X") 70 preprocesses ∷ []) (arg (codes "1") (codes "a") ∷ []) (codes "X") 6000 (reply (Expanded (codes "at")) 4 ∷ []) ≡ Gives (codes "at") 0) × (asked (held (codes "X") 70 preprocesses ∷ []) (arg (codes "1") (codes "a") ∷ []) (codes "X") 6000 (spent Steps ∷ []) ≡ Spends Steps 0) × (asked (held (codes "X") 70 preprocesses ∷ []) (arg (codes "1") (codes "a") ∷ []) (codes "X") 6000 (spent Calls ∷ []) ≡ Spends Calls 0)
+Preprocesses = (invoke_in_template (module_text (codes "X") 70 preprocesses ∷ []) (arg (codes "1") (codes "a") ∷ []) (codes "X") 6000 [] ≡ Asks (Preprocess (own_scene (codes "X") (arg (codes "1") (codes "a") ∷ [])) (codes "{{{1}}}{{T}}")) 4881) × (invoke_in_template (module_text (codes "X") 70 preprocesses ∷ []) (arg (codes "1") (codes "a") ∷ []) (codes "X") 6000 (reply (Expanded (codes "at")) 4 ∷ []) ≡ Gives (codes "at") 0) × (invoke_in_template (module_text (codes "X") 70 preprocesses ∷ []) (arg (codes "1") (codes "a") ∷ []) (codes "X") 6000 (exhausts Steps ∷ []) ≡ Spends Steps 0) × (invoke_in_template (module_text (codes "X") 70 preprocesses ∷ []) (arg (codes "1") (codes "a") ∷ []) (codes "X") 6000 (exhausts Calls ∷ []) ≡ Spends Calls 0)
 
 -- What an invocation inside does is not seen.
 --     local p={} x=1 function p.f(frame) local s=frame:preprocess('{{#invoke:Self|g}}') return s..x end return p
@@ -63,7 +63,7 @@ own_globals = stats_of (
     ∷ [])
 
 abbrev pub OwnGlobals : Type 0
-OwnGlobals = without_steps (asked (held (codes "Self") 106 own_globals ∷ []) [] (codes "Self") 6000 (reply (Expanded (codes "g")) 1000 ∷ [])) ≡ Gives (codes "g1") 0
+OwnGlobals = without_steps (invoke_in_template (module_text (codes "Self") 106 own_globals ∷ []) [] (codes "Self") 6000 (reply (Expanded (codes "g")) 1000 ∷ [])) ≡ Gives (codes "g1") 0
 
 -- That there is no such template is an error at the place that called.
 --     return {f=function(frame) return frame:expandTemplate{title='Nope'} end}
@@ -73,7 +73,7 @@ no_such_template = stats_of (ReturnS 1 (exps_of (TableE 1 (fields_of (Pair (Text
     ∷ [])) ∷ [])))) ∷ [])) ∷ [])) ∷ [])
 
 abbrev pub NoSuchTemplate : Type 0
-NoSuchTemplate = without_steps (asked (held (codes "X") 72 no_such_template ∷ []) [] (codes "X") 6000 (reply NoPage 1000 ∷ [])) ≡ Fails (codes "Lua error: Module:X:1: template 'Nope' does not exist") 0
+NoSuchTemplate = without_steps (invoke_in_template (module_text (codes "X") 72 no_such_template ∷ []) [] (codes "X") 6000 (reply NoPage 1000 ∷ [])) ≡ Fails (codes "Lua error: Module:X:1: template 'Nope' does not exist") 0
 
 -- An answer that does not belong to its question is refused.
 --     return {f=function(frame) return frame:preprocess('{{{1}}}{{T}}') end}
@@ -83,7 +83,7 @@ wrong_answers = stats_of (ReturnS 1 (exps_of (TableE 1 (fields_of (Pair (TextE 1
     ∷ [])))) ∷ [])) ∷ [])) ∷ [])
 
 abbrev pub WrongAnswers : Type 0
-WrongAnswers = (without_steps (asked (held (codes "X") 70 wrong_answers ∷ []) [] (codes "X") 6000 (reply NoPage 1000 ∷ [])) ≡ Fails (codes "Lua error: the answer does not belong to the question") 0) × (without_steps (asked (held (codes "X") 70 wrong_answers ∷ []) [] (codes "X") 6000 (reply (Loaded (((Text (codes "x"), Text (codes "v")) ∷ []) ∷ [])) 1000 ∷ [])) ≡ Fails (codes "Lua error: the answer does not belong to the question") 0) × (without_steps (asked (held (codes "X") 70 wrong_answers ∷ []) [] (codes "X") 6000 (reply (LoadFailed (codes "m")) 1000 ∷ [])) ≡ Fails (codes "Lua error: the answer does not belong to the question") 0)
+WrongAnswers = (without_steps (invoke_in_template (module_text (codes "X") 70 wrong_answers ∷ []) [] (codes "X") 6000 (reply NoPage 1000 ∷ [])) ≡ Fails (codes "Lua error: the answer does not belong to the question") 0) × (without_steps (invoke_in_template (module_text (codes "X") 70 wrong_answers ∷ []) [] (codes "X") 6000 (reply (Loaded (((Text (codes "x"), Text (codes "v")) ∷ []) ∷ [])) 1000 ∷ [])) ≡ Fails (codes "Lua error: the answer does not belong to the question") 0) × (without_steps (invoke_in_template (module_text (codes "X") 70 wrong_answers ∷ []) [] (codes "X") 6000 (reply (LoadFailed (codes "m")) 1000 ∷ [])) ≡ Fails (codes "Lua error: the answer does not belong to the question") 0)
 
 -- The errors of a request.
 --     return {f=function(frame)
@@ -122,7 +122,7 @@ requests_fail = stats_of (ReturnS 1 (exps_of (TableE 1 (fields_of (Pair (TextE 1
     ∷ [])))) ∷ [])) ∷ [])) ∷ [])
 
 abbrev pub RequestsFail : Type 0
-RequestsFail = without_steps (asked (held (codes "X") 240 requests_fail ∷ []) [] (codes "X") 6000 []) ≡ Gives (codes "bad template arguments;bad template arguments;bad template arguments;invalid title 'a|b';bad template arguments;bad template arguments;") 0
+RequestsFail = without_steps (invoke_in_template (module_text (codes "X") 240 requests_fail ∷ []) [] (codes "X") 6000 []) ≡ Gives (codes "bad template arguments;bad template arguments;bad template arguments;invalid title 'a|b';bad template arguments;bad template arguments;") 0
 
 -- The parent is the frame of the template; it is made once, and has none.
 --     return {f=function(frame)
@@ -143,7 +143,7 @@ parents = stats_of (ReturnS 1 (exps_of (TableE 1 (fields_of (Pair (TextE 1 (code
     ∷ [])))) ∷ [])) ∷ [])) ∷ [])
 
 abbrev pub Parents : Type 0
-Parents = without_steps (asked (held (codes "X") 167 parents ∷ []) [] (codes "X") 6000 []) ≡ Gives (codes "Template:TpqtruenilModule:X") 0
+Parents = without_steps (invoke_in_template (module_text (codes "X") 167 parents ∷ []) [] (codes "X") 6000 []) ≡ Gives (codes "Template:TpqtruenilModule:X") 0
 
 -- The first `getParent` costs 16, and the arguments.
 --     return {f=function(frame)
@@ -156,7 +156,7 @@ parent_costs = stats_of (ReturnS 1 (exps_of (TableE 1 (fields_of (Pair (TextE 1 
     ∷ [])))) ∷ [])) ∷ [])) ∷ [])
 
 abbrev pub ParentCosts : Type 0
-ParentCosts = (asked (held (codes "X") 66 parent_costs ∷ []) [] (codes "X") 1128 [] ≡ Gives [] 0) × (asked (held (codes "X") 66 parent_costs ∷ []) [] (codes "X") 1127 [] ≡ Spends Steps 0)
+ParentCosts = (invoke_in_template (module_text (codes "X") 66 parent_costs ∷ []) [] (codes "X") 1128 [] ≡ Gives [] 0) × (invoke_in_template (module_text (codes "X") 66 parent_costs ∷ []) [] (codes "X") 1127 [] ≡ Spends Steps 0)
 
 -- A child has its own arguments and this frame as parent; without a title it has this frame's.
 --     return {f=function(frame)
@@ -187,7 +187,7 @@ children = stats_of (ReturnS 1 (exps_of (TableE 1 (fields_of (Pair (TextE 1 (cod
     ∷ [])))) ∷ [])) ∷ [])) ∷ [])
 
 abbrev pub Children : Type 0
-Children = without_steps (asked (held (codes "X") 245 children ∷ []) [] (codes "X") 6000 []) ≡ Gives (codes "A bz1trueA btruenil") 0
+Children = without_steps (invoke_in_template (module_text (codes "X") 245 children ∷ []) [] (codes "X") 6000 []) ≡ Gives (codes "A bz1trueA btruenil") 0
 
 -- `newChild` costs 16, and each entry that is read.
 --     return {f=function(frame)
@@ -199,7 +199,7 @@ child_costs = stats_of (ReturnS 1 (exps_of (TableE 1 (fields_of (Pair (TextE 1 (
     ∷ [])) ∷ []))) ∷ [])))) ∷ [])) ∷ [])) ∷ [])
 
 abbrev pub ChildCosts : Type 0
-ChildCosts = (asked (held (codes "X") 66 child_costs ∷ []) [] (codes "X") 1159 [] ≡ Gives [] 0) × (asked (held (codes "X") 66 child_costs ∷ []) [] (codes "X") 1158 [] ≡ Spends Steps 0)
+ChildCosts = (invoke_in_template (module_text (codes "X") 66 child_costs ∷ []) [] (codes "X") 1159 [] ≡ Gives [] 0) × (invoke_in_template (module_text (codes "X") 66 child_costs ∷ []) [] (codes "X") 1158 [] ≡ Spends Steps 0)
 
 -- A question of a child has its title, its arguments and the chain of its parent.
 --     return {f=function(frame) return frame:newChild{title='Q',args={'z'}}:preprocess{text='{{{1}}}'} end}
@@ -210,7 +210,7 @@ child_asks = stats_of (ReturnS 1 (exps_of (TableE 1 (fields_of (Pair (TextE 1 (c
     ∷ [])) ∷ []))) (codes "preprocess") (exps_of (TableE 1 (fields_of (Pair (TextE 1 (codes "text")) (TextE 1 (codes "{{{1}}}")) ∷ [])) ∷ [])) ∷ [])) ∷ [])))) ∷ [])) ∷ [])) ∷ [])
 
 abbrev pub ChildAsks : Type 0
-ChildAsks = asked (held (codes "X") 101 child_asks ∷ []) [] (codes "X") 6000 [] ≡ Asks (Preprocess (scene_in_template (record { ns = Main; name = codes "Q" }) (arg (codes "1") (codes "z") ∷ [])) (codes "{{{1}}}")) 4789
+ChildAsks = invoke_in_template (module_text (codes "X") 101 child_asks ∷ []) [] (codes "X") 6000 [] ≡ Asks (Preprocess (scene_in_template (record { ns = Main; name = codes "Q" }) (arg (codes "1") (codes "z") ∷ [])) (codes "{{{1}}}")) 4789
 
 -- Its errors are those of `expandTemplate`.
 --     return {f=function(frame)
@@ -241,7 +241,7 @@ child_errors = stats_of (ReturnS 1 (exps_of (TableE 1 (fields_of (Pair (TextE 1 
     ∷ [])))) ∷ [])) ∷ [])) ∷ [])
 
 abbrev pub ChildErrors : Type 0
-ChildErrors = without_steps (asked (held (codes "X") 232 child_errors ∷ []) [] (codes "X") 6000 []) ≡ Gives (codes "bad template arguments;bad template arguments;bad template arguments;invalid title 'a|b';bad template arguments;1") 0
+ChildErrors = without_steps (invoke_in_template (module_text (codes "X") 232 child_errors ∷ []) [] (codes "X") 6000 []) ≡ Gives (codes "bad template arguments;bad template arguments;bad template arguments;invalid title 'a|b';bad template arguments;1") 0
 
 -- `getArgument` gives nil, or a table with `expand` and `value`.
 --     return {f=function(frame)
@@ -268,7 +268,7 @@ single_arguments = stats_of (ReturnS 1 (exps_of (TableE 1 (fields_of (Pair (Text
     ∷ [])))) ∷ [])) ∷ [])) ∷ [])
 
 abbrev pub SingleArguments : Type 0
-SingleArguments = without_steps (asked (held (codes "X") 215 single_arguments ∷ []) (arg (codes "1") (codes "x") ∷ arg (codes "n") (codes "q") ∷ []) (codes "X") 6000 []) ≡ Gives (codes "expandvalueqqnilx5") 0
+SingleArguments = without_steps (invoke_in_template (module_text (codes "X") 215 single_arguments ∷ []) (arg (codes "1") (codes "x") ∷ arg (codes "n") (codes "q") ∷ []) (codes "X") 6000 []) ≡ Gives (codes "expandvalueqqnilx5") 0
 
 -- It costs a table with two entries.
 --     return {f=function(frame)
@@ -280,7 +280,7 @@ argument_costs = stats_of (ReturnS 1 (exps_of (TableE 1 (fields_of (
     ∷ [])) ∷ [])) ∷ [])
 
 abbrev pub ArgumentCosts : Type 0
-ArgumentCosts = (asked (held (codes "X") 53 argument_costs ∷ []) (arg (codes "n") (codes "q") ∷ []) (codes "X") 1106 [] ≡ Gives [] 0) × (asked (held (codes "X") 53 argument_costs ∷ []) (arg (codes "n") (codes "q") ∷ []) (codes "X") 1105 [] ≡ Spends Steps 0)
+ArgumentCosts = (invoke_in_template (module_text (codes "X") 53 argument_costs ∷ []) (arg (codes "n") (codes "q") ∷ []) (codes "X") 1106 [] ≡ Gives [] 0) × (invoke_in_template (module_text (codes "X") 53 argument_costs ∷ []) (arg (codes "n") (codes "q") ∷ []) (codes "X") 1105 [] ≡ Spends Steps 0)
 
 -- `argumentPairs` is `pairs` of `args`.
 --     return {f=function(frame)
@@ -309,7 +309,7 @@ walks_arguments = stats_of (ReturnS 1 (exps_of (TableE 1 (fields_of (Pair (TextE
     ∷ [])))) ∷ [])) ∷ [])) ∷ [])
 
 abbrev pub WalksArguments : Type 0
-WalksArguments = without_steps (asked (held (codes "X") 204 walks_arguments ∷ []) (arg (codes "n") (codes "q") ∷ arg (codes "1") (codes "x") ∷ []) (codes "X") 6000 []) ≡ Gives (codes "stringnqnumber1x3bad argument #1 to 'pairs' (table expected, got nil)") 0
+WalksArguments = without_steps (invoke_in_template (module_text (codes "X") 204 walks_arguments ∷ []) (arg (codes "n") (codes "q") ∷ arg (codes "1") (codes "x") ∷ []) (codes "X") 6000 []) ≡ Gives (codes "stringnqnumber1x3bad argument #1 to 'pairs' (table expected, got nil)") 0
 
 -- A name of 18 digits is a number, one of 19 or with a zero in front is none.
 --     return {f=function(frame)
@@ -331,7 +331,7 @@ long_names = stats_of (ReturnS 1 (exps_of (TableE 1 (fields_of (Pair (TextE 1 (c
     ∷ [])))) ∷ [])) ∷ [])) ∷ [])
 
 abbrev pub LongNames : Type 0
-LongNames = without_steps (asked (held (codes "X") 200 long_names ∷ []) (arg (codes "123456789012345678") (codes "x") ∷ arg (codes "1234567890123456789") (codes "y") ∷ arg (codes "01") (codes "z") ∷ []) (codes "X") 6000 []) ≡ Gives (codes "xxnilynilznil") 0
+LongNames = without_steps (invoke_in_template (module_text (codes "X") 200 long_names ∷ []) (arg (codes "123456789012345678") (codes "x") ∷ arg (codes "1234567890123456789") (codes "y") ∷ arg (codes "01") (codes "z") ∷ []) (codes "X") 6000 []) ≡ Gives (codes "xxnilynilznil") 0
 
 -- A write changes what Lua reads, and not the frame.
 --     return {f=function(frame)
@@ -355,7 +355,7 @@ frames_keep_arguments = stats_of (ReturnS 1 (exps_of (TableE 1 (fields_of (Pair 
     ∷ [])))) ∷ [])) ∷ [])) ∷ [])
 
 abbrev pub FramesKeepArguments : Type 0
-FramesKeepArguments = without_steps (asked (held (codes "X") 159 frames_keep_arguments ∷ []) (arg (codes "n") (codes "q") ∷ []) (codes "X") 6000 []) ≡ Gives (codes "zqz") 0
+FramesKeepArguments = without_steps (invoke_in_template (module_text (codes "X") 159 frames_keep_arguments ∷ []) (arg (codes "n") (codes "q") ∷ []) (codes "X") 6000 []) ≡ Gives (codes "zqz") 0
 
 -- A question has the arguments with which the frame was made.
 --     return {f=function(frame) frame.args[1]='z' return frame:preprocess('x') end}
@@ -366,7 +366,7 @@ questions_keep_arguments = stats_of (ReturnS 1 (exps_of (TableE 1 (fields_of (Pa
     ∷ [])))) ∷ [])) ∷ [])) ∷ [])
 
 abbrev pub QuestionsKeepArguments : Type 0
-QuestionsKeepArguments = asked (held (codes "X") 77 questions_keep_arguments ∷ []) (arg (codes "1") (codes "a") ∷ []) (codes "X") 6000 [] ≡ Asks (Preprocess (own_scene (codes "X") (arg (codes "1") (codes "a") ∷ [])) (codes "x")) 4878
+QuestionsKeepArguments = invoke_in_template (module_text (codes "X") 77 questions_keep_arguments ∷ []) (arg (codes "1") (codes "a") ∷ []) (codes "X") 6000 [] ≡ Asks (Preprocess (own_scene (codes "X") (arg (codes "1") (codes "a") ∷ [])) (codes "x")) 4878
 
 -- A frame is known by the number in its metatable.
 --     return {f=function(frame)
@@ -391,7 +391,7 @@ numbered_frames = stats_of (ReturnS 1 (exps_of (TableE 1 (fields_of (Pair (TextE
     ∷ [])))) ∷ [])) ∷ [])) ∷ [])
 
 abbrev pub NumberedFrames : Type 0
-NumberedFrames = without_steps (asked (held (codes "X") 193 numbered_frames ∷ []) [] (codes "X") 6000 []) ≡ Gives (codes "Module:Xtruefalsefalse") 0
+NumberedFrames = without_steps (invoke_in_template (module_text (codes "X") 193 numbered_frames ∷ []) [] (codes "X") 6000 []) ≡ Gives (codes "Module:Xtruefalsefalse") 0
 
 -- A copy of a frame is that frame, and a copy of read-only data can be written.
 --     return {f=function(frame)
@@ -426,7 +426,7 @@ copied_frames = stats_of (ReturnS 1 (exps_of (TableE 1 (fields_of (Pair (TextE 1
     ∷ [])))) ∷ [])) ∷ [])) ∷ [])
 
 abbrev pub CopiedFrames : Type 0
-CopiedFrames = without_steps (asked (held (codes "X") 250 copied_frames ∷ []) (arg (codes "1") (codes "a") ∷ []) (codes "X") 6000 (reply (Loaded (((Text (codes "x"), Text (codes "v")) ∷ []) ∷ [])) 3000 ∷ [])) ≡ Gives (codes "Module:Xfalseaawtruefalse5") 0
+CopiedFrames = without_steps (invoke_in_template (module_text (codes "X") 250 copied_frames ∷ []) (arg (codes "1") (codes "a") ∷ []) (codes "X") 6000 (reply (Loaded (((Text (codes "x"), Text (codes "v")) ∷ []) ∷ [])) 3000 ∷ [])) ≡ Gives (codes "Module:Xfalseaawtruefalse5") 0
 
 -- `mw.clone` costs 8 for each table, metatables included, and 4 for each entry.
 --     return {f=function(frame)
@@ -439,7 +439,7 @@ clone_costs = stats_of (ReturnS 1 (exps_of (TableE 1 (fields_of (Pair (TextE 1 (
     ∷ [])) ∷ []))) ∷ [])))) ∷ [])) ∷ [])) ∷ [])
 
 abbrev pub CloneCosts : Type 0
-CloneCosts = (asked (held (codes "X") 69 clone_costs ∷ []) [] (codes "X") 1173 [] ≡ Gives [] 0) × (asked (held (codes "X") 69 clone_costs ∷ []) [] (codes "X") 1172 [] ≡ Spends Steps 0)
+CloneCosts = (invoke_in_template (module_text (codes "X") 69 clone_costs ∷ []) [] (codes "X") 1173 [] ≡ Gives [] 0) × (invoke_in_template (module_text (codes "X") 69 clone_costs ∷ []) [] (codes "X") 1172 [] ≡ Spends Steps 0)
 
 -- What is no frame of the run is refused.
 --     return {f=function(frame)
@@ -465,7 +465,7 @@ no_frame = stats_of (ReturnS 1 (exps_of (TableE 1 (fields_of (Pair (TextE 1 (cod
     ∷ [])))) ∷ [])) ∷ [])) ∷ [])
 
 abbrev pub NoFrame : Type 0
-NoFrame = without_steps (asked (held (codes "X") 241 no_frame ∷ []) [] (codes "X") 6000 []) ≡ Gives (codes "bad argument #1 to 'getTitle' (frame expected, got table);bad argument #1 to 'getParent' (frame expected, got no value);bad argument #1 to 'preprocess' (frame expected, got table);bad argument #2 to 'preprocess' (string expected, got nil);bad argument #2 to 'getArgument' (string expected, got no value);") 0
+NoFrame = without_steps (invoke_in_template (module_text (codes "X") 241 no_frame ∷ []) [] (codes "X") 6000 []) ≡ Gives (codes "bad argument #1 to 'getTitle' (frame expected, got table);bad argument #1 to 'getParent' (frame expected, got no value);bad argument #1 to 'preprocess' (frame expected, got table);bad argument #2 to 'preprocess' (string expected, got nil);bad argument #2 to 'getArgument' (string expected, got no value);") 0
 
 -- `extensionTag` is `mw.text.tag`: a text, false or nil follows the attributes.
 --     return {f=function(frame)
@@ -491,7 +491,7 @@ tags = stats_of (ReturnS 1 (exps_of (TableE 1 (fields_of (Pair (TextE 1 (codes "
     ∷ [])) ∷ [])))) ∷ [])) ∷ [])) ∷ [])
 
 abbrev pub Tags : Type 0
-Tags = without_steps (asked (held (codes "X") 190 tags ∷ []) [] (codes "X") 6000 []) ≡ Gives (codes "<b x=\"1\" y=\"a&lt;&quot;b\" z>t</b><i>5</i><br><hr />") 0
+Tags = without_steps (invoke_in_template (module_text (codes "X") 190 tags ∷ []) [] (codes "X") 6000 []) ≡ Gives (codes "<b x=\"1\" y=\"a&lt;&quot;b\" z>t</b><i>5</i><br><hr />") 0
 
 -- Its errors are worded as of `tag`.
 --     return {f=function(frame)
@@ -518,7 +518,7 @@ bad_tags = stats_of (ReturnS 1 (exps_of (TableE 1 (fields_of (Pair (TextE 1 (cod
     ∷ [])))) ∷ [])) ∷ [])) ∷ [])
 
 abbrev pub BadTags : Type 0
-BadTags = without_steps (asked (held (codes "X") 190 bad_tags ∷ []) [] (codes "X") 6000 []) ≡ Gives (codes "bad argument #1 to 'tag' (string expected, got no value);bad argument #2 to 'tag' (table expected, got number);bad argument #2 to 'tag' (string expected, got boolean);bad argument #2 to 'tag' (string expected, got table);bad argument #3 to 'tag' (string expected, got boolean);") 0
+BadTags = without_steps (invoke_in_template (module_text (codes "X") 190 bad_tags ∷ []) [] (codes "X") 6000 []) ≡ Gives (codes "bad argument #1 to 'tag' (string expected, got no value);bad argument #2 to 'tag' (table expected, got number);bad argument #2 to 'tag' (string expected, got boolean);bad argument #2 to 'tag' (string expected, got table);bad argument #3 to 'tag' (string expected, got boolean);") 0
 
 -- A tag costs the bytes of the arguments that are strings, and its own.
 --     return {f=function(frame)
@@ -530,7 +530,7 @@ tag_costs = stats_of (ReturnS 1 (exps_of (TableE 1 (fields_of (Pair (TextE 1 (co
     ∷ [])))) ∷ [])) ∷ [])) ∷ [])
 
 abbrev pub TagCosts : Type 0
-TagCosts = (asked (held (codes "X") 59 tag_costs ∷ []) [] (codes "X") 1103 [] ≡ Gives [] 0) × (asked (held (codes "X") 59 tag_costs ∷ []) [] (codes "X") 1102 [] ≡ Spends Steps 0)
+TagCosts = (invoke_in_template (module_text (codes "X") 59 tag_costs ∷ []) [] (codes "X") 1103 [] ≡ Gives [] 0) × (invoke_in_template (module_text (codes "X") 59 tag_costs ∷ []) [] (codes "X") 1102 [] ≡ Spends Steps 0)
 
 -- `getCurrentTitle` gives the texts of the page's title.
 --     return {f=function(frame)
@@ -552,7 +552,7 @@ current_title = stats_of (ReturnS 1 (exps_of (TableE 1 (fields_of (Pair (TextE 1
     ∷ [])))) ∷ [])) ∷ [])) ∷ [])
 
 abbrev pub CurrentTitle : Type 0
-CurrentTitle = without_steps (asked (held (codes "X") 132 current_title ∷ []) [] (codes "X") 6000 []) ≡ Gives (codes "text=P;nsText=;prefixedText=P;") 0
+CurrentTitle = without_steps (invoke_in_template (module_text (codes "X") 132 current_title ∷ []) [] (codes "X") 6000 []) ≡ Gives (codes "text=P;nsText=;prefixedText=P;") 0
 
 -- It costs a table with three entries.
 --     return {f=function(frame)
@@ -564,7 +564,7 @@ title_costs = stats_of (ReturnS 1 (exps_of (TableE 1 (fields_of (Pair (TextE 1 (
     ∷ [])))) ∷ [])) ∷ [])) ∷ [])
 
 abbrev pub TitleCosts : Type 0
-TitleCosts = (asked (held (codes "X") 57 title_costs ∷ []) [] (codes "X") 1111 [] ≡ Gives [] 0) × (asked (held (codes "X") 57 title_costs ∷ []) [] (codes "X") 1110 [] ≡ Spends Steps 0)
+TitleCosts = (invoke_in_template (module_text (codes "X") 57 title_costs ∷ []) [] (codes "X") 1111 [] ≡ Gives [] 0) × (invoke_in_template (module_text (codes "X") 57 title_costs ∷ []) [] (codes "X") 1110 [] ≡ Spends Steps 0)
 
 -- ALL OF THEM
 abbrev pub AllFrames : Type 0

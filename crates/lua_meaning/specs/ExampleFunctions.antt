@@ -2,16 +2,11 @@
 use Rattle.std.specs.Prelude.{◌≡◌, pos, true, false, [], ◌∷◌, codes}
 use Rattle.lua_syntax.specs.declared.BinaryOp.TheVariants as op
 use Rattle.lua_syntax.specs.declared.UnaryOp.TheVariants as sign
-use Rattle.lua_syntax.specs.Tree.{NilE, TrueE, FalseE, NumberE, TextE, DotsE, FunctionE, NameE, IndexE, CallE, MethodE, TableE, BinaryE, UnaryE, ParenE}
-use Rattle.lua_syntax.specs.Tree.{NoExp, NoField, Item, Pair, Lambda, Block, NoStat, Arm}
-use Rattle.lua_syntax.specs.Tree.{AssignS, CallS, DoS, WhileS, RepeatS, IfS, IfElseS, CountS, CountByS, EachS, LocalFunctionS, LocalS, ReturnS, BreakS}
+use Rattle.lua_syntax.specs.Tree.{NilE, TrueE, NumberE, TextE, DotsE, FunctionE, NameE, IndexE, CallE, MethodE, TableE, BinaryE, UnaryE, ParenE}
+use Rattle.lua_syntax.specs.Tree.{NoExp, NoField, Item, Pair, Lambda, Block, Arm}
+use Rattle.lua_syntax.specs.Tree.{AssignS, CallS, WhileS, IfS, LocalFunctionS, LocalS, ReturnS}
 use Rattle.lua_syntax.specs.View.{exps_of, fields_of, arms_of, stats_of}
-use Rattle.page_run.specs.declared.which.Which.TheVariants.{Steps, Calls}
-use Rattle.wk_base.specs.declared.title.Namespace.TheVariants.{Main}
-use Rattle.mw_frame.specs.declared.question.Ask.TheVariants.{Template, Preprocess, Data}
-use Rattle.lua_heap.specs.Value.{Nil, Truth, Number, Text, Table}
-use Rattle.lua_meaning.specs.Questions.{Expanded, NoPage, Loaded, LoadFailed}
-use Rattle.lua_meaning.specs.Trial.{Gives, Fails, Spends, Loads, Asks, without_steps, arg, invoked, invoked_with, invoked_on, loaded, faulted, counted, held, template_title, module_title, own_scene, scene_in_template, reply, spent, asked}
+use Rattle.lua_meaning.specs.Trial.{Gives, without_steps, invoke_module}
 
 -- Closures share the variables around them.
 --     return {f=function(...)
@@ -42,7 +37,7 @@ counters = stats_of (ReturnS 1 (exps_of (TableE 1 (fields_of (Pair (TextE 1 (cod
     ∷ [])))) ∷ [])) ∷ [])) ∷ [])
 
 abbrev pub Counters : Type 0
-Counters = without_steps (invoked (codes "X") 202 counters 6000) ≡ Gives (codes "2") 0
+Counters = without_steps (invoke_module (codes "X") 202 counters 6000) ≡ Gives (codes "2") 0
 
 -- A loop with `while` has fresh variables in each turn too.
 --     return {f=function(...)
@@ -71,7 +66,7 @@ while_cells = stats_of (ReturnS 1 (exps_of (TableE 1 (fields_of (Pair (TextE 1 (
     ∷ [])))) ∷ [])) ∷ [])) ∷ [])
 
 abbrev pub WhileCells : Type 0
-WhileCells = without_steps (invoked (codes "X") 151 while_cells 6000) ≡ Gives (codes "233") 0
+WhileCells = without_steps (invoke_module (codes "X") 151 while_cells 6000) ≡ Gives (codes "233") 0
 
 -- `pcall` gives false and the error, or true and the values.
 --     return {f=function(...)
@@ -92,7 +87,7 @@ protected = stats_of (ReturnS 1 (exps_of (TableE 1 (fields_of (Pair (TextE 1 (co
     ∷ [])) ∷ [])))) ∷ [])) ∷ [])) ∷ [])
 
 abbrev pub Protected : Type 0
-Protected = without_steps (invoked (codes "X") 131 protected 6000) ≡ Gives (codes "falsemtrue12") 0
+Protected = without_steps (invoke_module (codes "X") 131 protected 6000) ≡ Gives (codes "falsemtrue12") 0
 
 -- An error may be any value, and keeps it.
 --     return {f=function(...)
@@ -116,7 +111,7 @@ values_as_errors = stats_of (ReturnS 1 (exps_of (TableE 1 (fields_of (Pair (Text
     ∷ [])))) ∷ [])) ∷ [])) ∷ [])
 
 abbrev pub ValuesAsErrors : Type 0
-ValuesAsErrors = without_steps (invoked (codes "X") 164 values_as_errors 6000) ≡ Gives (codes "truenumbernil") 0
+ValuesAsErrors = without_steps (invoke_module (codes "X") 164 values_as_errors 6000) ≡ Gives (codes "truenumbernil") 0
 
 -- Level 1 is the place that called `error`, level 2 that which called its function; 0 has none.
 --     return {f=function(...)
@@ -149,7 +144,7 @@ places = stats_of (ReturnS 1 (exps_of (TableE 1 (fields_of (Pair (TextE 1 (codes
     ∷ [])))) ∷ [])) ∷ [])) ∷ [])
 
 abbrev pub Places : Type 0
-Places = without_steps (invoked (codes "X") 193 places 6000) ≡ Gives (codes "Module:X:2: m;Module:X:5: m;m;m;") 0
+Places = without_steps (invoke_module (codes "X") 193 places 6000) ≡ Gives (codes "Module:X:2: m;Module:X:5: m;m;m;") 0
 
 -- Messages of operators, with their places.
 --     return {f=function(...)
@@ -193,7 +188,7 @@ failing = stats_of (ReturnS 1 (exps_of (TableE 1 (fields_of (Pair (TextE 1 (code
     ∷ [])))) ∷ [])) ∷ [])) ∷ [])
 
 abbrev pub Failing : Type 0
-Failing = without_steps (invoked (codes "X") 370 failing 6000) ≡ Gives (codes "Module:X:4: attempt to index a nil value;Module:X:4: attempt to call a table value;Module:X:4: attempt to perform arithmetic on a table value;Module:X:4: attempt to concatenate a table value;Module:X:5: attempt to compare number with string;Module:X:5: attempt to compare two table values;Module:X:5: attempt to get length of a nil value;Module:X:5: table index is nil;Module:X:5: attempt to perform arithmetic on a string value;") 0
+Failing = without_steps (invoke_module (codes "X") 370 failing 6000) ≡ Gives (codes "Module:X:4: attempt to index a nil value;Module:X:4: attempt to call a table value;Module:X:4: attempt to perform arithmetic on a table value;Module:X:4: attempt to concatenate a table value;Module:X:5: attempt to compare number with string;Module:X:5: attempt to compare two table values;Module:X:5: attempt to get length of a nil value;Module:X:5: table index is nil;Module:X:5: attempt to perform arithmetic on a string value;") 0
 
 -- Messages of the library's functions are at the place that called; under `pcall` there is none.
 --     return {f=function(...)
@@ -215,7 +210,7 @@ bad_arguments = stats_of (ReturnS 1 (exps_of (TableE 1 (fields_of (Pair (TextE 1
     ∷ [])))) ∷ [])) ∷ [])) ∷ [])
 
 abbrev pub BadArguments : Type 0
-BadArguments = without_steps (invoked (codes "X") 175 bad_arguments 6000) ≡ Gives (codes "bad argument #1 to 'setmetatable' (table expected, got number);Module:X:3: bad argument #1 to 'rawget' (table expected, got no value);invalid key to 'next';bad argument #1 to 'select' (out of range);") 0
+BadArguments = without_steps (invoke_module (codes "X") 175 bad_arguments 6000) ≡ Gives (codes "bad argument #1 to 'setmetatable' (table expected, got number);Module:X:3: bad argument #1 to 'rawget' (table expected, got no value);invalid key to 'next';bad argument #1 to 'select' (out of range);") 0
 
 -- `xpcall` gives the error to its handler.
 --     return {f=function(...)
@@ -246,7 +241,7 @@ error_handlers = stats_of (ReturnS 1 (exps_of (TableE 1 (fields_of (Pair (TextE 
     ∷ [])))) ∷ [])) ∷ [])) ∷ [])
 
 abbrev pub ErrorHandlers : Type 0
-ErrorHandlers = without_steps (invoked (codes "X") 211 error_handlers 6000) ≡ Gives (codes "falseh(x)true5") 0
+ErrorHandlers = without_steps (invoke_module (codes "X") 211 error_handlers 6000) ≡ Gives (codes "falseh(x)true5") 0
 
 -- A handler that fails has a message of its own.
 --     return {f=function(...)
@@ -263,7 +258,7 @@ failing_handlers = stats_of (ReturnS 1 (exps_of (TableE 1 (fields_of (Pair (Text
     ∷ [])))) ∷ [])) ∷ [])) ∷ [])
 
 abbrev pub FailingHandlers : Type 0
-FailingHandlers = without_steps (invoked (codes "X") 125 failing_handlers 6000) ≡ Gives (codes "falseerror in error handling") 0
+FailingHandlers = without_steps (invoke_module (codes "X") 125 failing_handlers 6000) ≡ Gives (codes "falseerror in error handling") 0
 
 -- Where a key is absent the handler is asked, along a chain of tables.
 --     return {f=function(...)
@@ -291,7 +286,7 @@ index_chain = stats_of (ReturnS 1 (exps_of (TableE 1 (fields_of (Pair (TextE 1 (
     ∷ [])))) ∷ [])) ∷ [])) ∷ [])
 
 abbrev pub IndexChain : Type 0
-IndexChain = without_steps (invoked (codes "X") 172 index_chain 6000) ≡ Gives (codes "12nilnil") 0
+IndexChain = without_steps (invoke_module (codes "X") 172 index_chain 6000) ≡ Gives (codes "12nilnil") 0
 
 -- An assignment to an absent key asks `__newindex`.
 --     return {f=function(...)
@@ -330,7 +325,7 @@ new_index = stats_of (ReturnS 1 (exps_of (TableE 1 (fields_of (Pair (TextE 1 (co
     ∷ [])))) ∷ [])) ∷ [])) ∷ [])
 
 abbrev pub NewIndex : Type 0
-NewIndex = without_steps (invoked (codes "X") 273 new_index 6000) ≡ Gives (codes "new24nil5") 0
+NewIndex = without_steps (invoke_module (codes "X") 273 new_index 6000) ≡ Gives (codes "new24nil5") 0
 
 -- The first operand's handler, or else the second's.
 --     return {f=function(...)
@@ -360,7 +355,7 @@ arithmetic_handlers = stats_of (ReturnS 1 (exps_of (TableE 1 (fields_of (Pair (T
     ∷ [])))) ∷ [])) ∷ [])) ∷ [])
 
 abbrev pub ArithmeticHandlers : Type 0
-ArithmeticHandlers = without_steps (invoked (codes "X") 231 arithmetic_handlers 6000) ≡ Gives (codes "addaddtablestringstringtabletrue") 0
+ArithmeticHandlers = without_steps (invoke_module (codes "X") 231 arithmetic_handlers 6000) ≡ Gives (codes "addaddtablestringstringtabletrue") 0
 
 -- Where both operands have a handler, the first one's is asked.
 --     return {f=function(...)
@@ -389,7 +384,7 @@ first_handler = stats_of (ReturnS 1 (exps_of (TableE 1 (fields_of (Pair (TextE 1
     ∷ [])))) ∷ [])) ∷ [])) ∷ [])
 
 abbrev pub FirstHandler : Type 0
-FirstHandler = without_steps (invoked (codes "X") 205 first_handler 6000) ≡ Gives (codes "aba") 0
+FirstHandler = without_steps (invoke_module (codes "X") 205 first_handler 6000) ≡ Gives (codes "aba") 0
 
 -- `__eq` is asked for two tables that have the same handler.
 --     return {f=function(...)
@@ -423,7 +418,7 @@ equal_handlers = stats_of (ReturnS 1 (exps_of (TableE 1 (fields_of (Pair (TextE 
     ∷ [])))) ∷ [])) ∷ [])) ∷ [])
 
 abbrev pub EqualHandlers : Type 0
-EqualHandlers = without_steps (invoked (codes "X") 254 equal_handlers 6000) ≡ Gives (codes "truefalsefalsefalse") 0
+EqualHandlers = without_steps (invoke_module (codes "X") 254 equal_handlers 6000) ≡ Gives (codes "truefalsefalsefalse") 0
 
 -- A table with `__call` is called with itself first.
 --     return {f=function(...)
@@ -445,7 +440,7 @@ call_handlers = stats_of (ReturnS 1 (exps_of (TableE 1 (fields_of (Pair (TextE 1
     ∷ [])))) ∷ [])) ∷ [])) ∷ [])
 
 abbrev pub CallHandlers : Type 0
-CallHandlers = without_steps (invoked (codes "X") 133 call_handlers 6000) ≡ Gives (codes "9true4") 0
+CallHandlers = without_steps (invoke_module (codes "X") 133 call_handlers 6000) ≡ Gives (codes "9true4") 0
 
 -- `__tostring` gives the text of a table.
 --     return {f=function(...)
@@ -467,7 +462,7 @@ to_text = stats_of (ReturnS 1 (exps_of (TableE 1 (fields_of (Pair (TextE 1 (code
     ∷ [])))) ∷ [])) ∷ [])) ∷ [])
 
 abbrev pub ToText : Type 0
-ToText = without_steps (invoked (codes "X") 118 to_text 6000) ≡ Gives (codes "T!T") 0
+ToText = without_steps (invoke_module (codes "X") 118 to_text 6000) ≡ Gives (codes "T!T") 0
 
 -- What `__tostring` gives must be a string.
 --     return {f=function(...)
@@ -496,7 +491,7 @@ no_text = stats_of (ReturnS 1 (exps_of (TableE 1 (fields_of (Pair (TextE 1 (code
     ∷ [])))) ∷ [])) ∷ [])) ∷ [])
 
 abbrev pub NoText : Type 0
-NoText = without_steps (invoked (codes "X") 187 no_text 6000) ≡ Gives (codes "'tostring' must return a string;Module:X:4: 'tostring' must return a string") 0
+NoText = without_steps (invoke_module (codes "X") 187 no_text 6000) ≡ Gives (codes "'tostring' must return a string;Module:X:4: 'tostring' must return a string") 0
 
 -- A string is indexed in the table `string`.
 --     return {f=function(...)
@@ -515,7 +510,7 @@ methods_of_strings = stats_of (ReturnS 1 (exps_of (TableE 1 (fields_of (Pair (Te
     ∷ [])))) ∷ [])) ∷ [])) ∷ [])
 
 abbrev pub MethodsOfStrings : Type 0
-MethodsOfStrings = without_steps (invoked (codes "X") 112 methods_of_strings 6000) ≡ Gives (codes "ababnil") 0
+MethodsOfStrings = without_steps (invoke_module (codes "X") 112 methods_of_strings 6000) ≡ Gives (codes "ababnil") 0
 
 -- A metatable may be protected.
 --     return {f=function(...)
@@ -539,7 +534,7 @@ protected_metatables = stats_of (ReturnS 1 (exps_of (TableE 1 (fields_of (Pair (
     ∷ [])))) ∷ [])) ∷ [])) ∷ [])
 
 abbrev pub ProtectedMetatables : Type 0
-ProtectedMetatables = without_steps (invoked (codes "X") 146 protected_metatables 6000) ≡ Gives (codes "nofalsecannot change a protected metatable") 0
+ProtectedMetatables = without_steps (invoke_module (codes "X") 146 protected_metatables 6000) ≡ Gives (codes "nofalsecannot change a protected metatable") 0
 
 -- Global variables are entries of a table, whose metatable is asked too.
 --     return {f=function(...)
@@ -560,7 +555,7 @@ global_handlers = stats_of (ReturnS 1 (exps_of (TableE 1 (fields_of (Pair (TextE
     ∷ [])))) ∷ [])) ∷ [])) ∷ [])
 
 abbrev pub GlobalHandlers : Type 0
-GlobalHandlers = without_steps (invoked (codes "X") 107 global_handlers 6000) ≡ Gives (codes "11y?") 0
+GlobalHandlers = without_steps (invoke_module (codes "X") 107 global_handlers 6000) ≡ Gives (codes "11y?") 0
 
 -- `rawequal` and `next` ask no handlers.
 --     return {f=function(...)
@@ -586,7 +581,7 @@ raw_equality = stats_of (ReturnS 1 (exps_of (TableE 1 (fields_of (Pair (TextE 1 
     ∷ [])))) ∷ [])) ∷ [])) ∷ [])
 
 abbrev pub RawEquality : Type 0
-RawEquality = without_steps (invoked (codes "X") 178 raw_equality 6000) ≡ Gives (codes "falsenil17") 0
+RawEquality = without_steps (invoke_module (codes "X") 178 raw_equality 6000) ≡ Gives (codes "falsenil17") 0
 
 -- A call at the end gives all the values of the function that it calls.
 --     return {f=function(...)
@@ -605,7 +600,7 @@ tail_values = stats_of (ReturnS 1 (exps_of (TableE 1 (fields_of (Pair (TextE 1 (
     ∷ [])))) ∷ [])) ∷ [])) ∷ [])
 
 abbrev pub TailValues : Type 0
-TailValues = without_steps (invoked (codes "X") 110 tail_values 6000) ≡ Gives (codes "xy") 0
+TailValues = without_steps (invoke_module (codes "X") 110 tail_values 6000) ≡ Gives (codes "xy") 0
 
 -- ALL OF THEM
 abbrev pub AllFunctions : Type 0

@@ -1,17 +1,11 @@
 -- EXAMPLES of handlers, levels, and what is absent.
 use Rattle.std.specs.Prelude.{◌≡◌, pos, true, false, [], ◌∷◌, codes}
 use Rattle.lua_syntax.specs.declared.BinaryOp.TheVariants as op
-use Rattle.lua_syntax.specs.declared.UnaryOp.TheVariants as sign
-use Rattle.lua_syntax.specs.Tree.{NilE, TrueE, FalseE, NumberE, TextE, DotsE, FunctionE, NameE, IndexE, CallE, MethodE, TableE, BinaryE, UnaryE, ParenE}
-use Rattle.lua_syntax.specs.Tree.{NoExp, NoField, Item, Pair, Lambda, Block, NoStat, Arm}
-use Rattle.lua_syntax.specs.Tree.{AssignS, CallS, DoS, WhileS, RepeatS, IfS, IfElseS, CountS, CountByS, EachS, LocalFunctionS, LocalS, ReturnS, BreakS}
+use Rattle.lua_syntax.specs.Tree.{NilE, FalseE, NumberE, TextE, DotsE, FunctionE, NameE, IndexE, CallE, MethodE, TableE, BinaryE, ParenE}
+use Rattle.lua_syntax.specs.Tree.{NoExp, NoField, Pair, Lambda, Block, NoStat, Arm}
+use Rattle.lua_syntax.specs.Tree.{AssignS, CallS, IfS, EachS, LocalFunctionS, LocalS, ReturnS}
 use Rattle.lua_syntax.specs.View.{exps_of, fields_of, arms_of, stats_of}
-use Rattle.page_run.specs.declared.which.Which.TheVariants.{Steps, Calls}
-use Rattle.wk_base.specs.declared.title.Namespace.TheVariants.{Main}
-use Rattle.mw_frame.specs.declared.question.Ask.TheVariants.{Template, Preprocess, Data}
-use Rattle.lua_heap.specs.Value.{Nil, Truth, Number, Text, Table}
-use Rattle.lua_meaning.specs.Questions.{Expanded, NoPage, Loaded, LoadFailed}
-use Rattle.lua_meaning.specs.Trial.{Gives, Fails, Spends, Loads, Asks, without_steps, arg, invoked, invoked_with, invoked_on, loaded, faulted, counted, held, template_title, module_title, own_scene, scene_in_template, reply, spent, asked}
+use Rattle.lua_meaning.specs.Trial.{Gives, Fails, without_steps, invoke_module}
 
 -- `__le` is asked before `__lt`.
 --     return {f=function(...)
@@ -37,7 +31,7 @@ at_most_handler = stats_of (ReturnS 1 (exps_of (TableE 1 (fields_of (Pair (TextE
     ∷ [])))) ∷ [])) ∷ [])) ∷ [])
 
 abbrev pub AtMostHandler : Type 0
-AtMostHandler = without_steps (invoked (codes "X") 214 at_most_handler 6000) ≡ Gives (codes "truefalsefalse") 0
+AtMostHandler = without_steps (invoke_module (codes "X") 214 at_most_handler 6000) ≡ Gives (codes "truefalsefalse") 0
 
 -- Where `__lt` stands in for `__le`, nil from it is false.
 --     return {f=function(...)
@@ -59,7 +53,7 @@ nil_is_not_less = stats_of (ReturnS 1 (exps_of (TableE 1 (fields_of (Pair (TextE
     ∷ [])))) ∷ [])) ∷ [])) ∷ [])
 
 abbrev pub NilIsNotLess : Type 0
-NilIsNotLess = without_steps (invoked (codes "X") 142 nil_is_not_less 6000) ≡ Gives (codes "truefalse") 0
+NilIsNotLess = without_steps (invoke_module (codes "X") 142 nil_is_not_less 6000) ≡ Gives (codes "truefalse") 0
 
 -- `a > b` is `b < a` for tables too.
 --     return {f=function(...)
@@ -83,7 +77,7 @@ greater = stats_of (ReturnS 1 (exps_of (TableE 1 (fields_of (Pair (TextE 1 (code
     ∷ [])))) ∷ [])) ∷ [])) ∷ [])
 
 abbrev pub Greater : Type 0
-Greater = without_steps (invoked (codes "X") 165 greater 6000) ≡ Gives (codes "falsetrue") 0
+Greater = without_steps (invoke_module (codes "X") 165 greater 6000) ≡ Gives (codes "falsetrue") 0
 
 -- `__call` may be a table that has `__call`: each link puts its object in front.
 --     return {f=function(...)
@@ -107,7 +101,7 @@ call_chain = stats_of (ReturnS 1 (exps_of (TableE 1 (fields_of (Pair (TextE 1 (c
     ∷ [])))) ∷ [])) ∷ [])) ∷ [])
 
 abbrev pub CallChain : Type 0
-CallChain = without_steps (invoked (codes "X") 171 call_chain 6000) ≡ Gives (codes "4ab") 0
+CallChain = without_steps (invoke_module (codes "X") 171 call_chain 6000) ≡ Gives (codes "4ab") 0
 
 -- `__metatable` may be false.
 --     return {f=function(...)
@@ -129,7 +123,7 @@ false_protects = stats_of (ReturnS 1 (exps_of (TableE 1 (fields_of (Pair (TextE 
     ∷ [])))) ∷ [])) ∷ [])) ∷ [])
 
 abbrev pub FalseProtects : Type 0
-FalseProtects = without_steps (invoked (codes "X") 141 false_protects 6000) ≡ Gives (codes "falsecannot change a protected metatable") 0
+FalseProtects = without_steps (invoke_module (codes "X") 141 false_protects 6000) ≡ Gives (codes "falsecannot change a protected metatable") 0
 
 -- An operator that calls a handler is the place that called it.
 --     return {f=function(...)
@@ -172,7 +166,7 @@ levels_through_handlers = stats_of (ReturnS 1 (exps_of (TableE 1 (fields_of (Pai
     ∷ [])))) ∷ [])) ∷ [])) ∷ [])
 
 abbrev pub LevelsThroughHandlers : Type 0
-LevelsThroughHandlers = without_steps (invoked (codes "X") 311 levels_through_handlers 6000) ≡ Gives (codes "Module:X:6: m;Module:X:7: m;Module:X:8: m;Module:X:9: m;") 0
+LevelsThroughHandlers = without_steps (invoke_module (codes "X") 311 levels_through_handlers 6000) ≡ Gives (codes "Module:X:6: m;Module:X:7: m;Module:X:8: m;Module:X:9: m;") 0
 
 -- What the library calls has no place above it.
 --     return {f=function(...)
@@ -196,7 +190,7 @@ levels_in_tostring = stats_of (ReturnS 1 (exps_of (TableE 1 (fields_of (Pair (Te
     ∷ [])))) ∷ [])) ∷ [])) ∷ [])
 
 abbrev pub LevelsInTostring : Type 0
-LevelsInTostring = without_steps (invoked (codes "X") 152 levels_in_tostring 6000) ≡ Gives (codes "m") 0
+LevelsInTostring = without_steps (invoke_module (codes "X") 152 levels_in_tostring 6000) ≡ Gives (codes "m") 0
 
 -- `xpcall` gives one value of its handler.
 --     return {f=function(...)
@@ -218,7 +212,7 @@ one_value_of_handlers = stats_of (ReturnS 1 (exps_of (TableE 1 (fields_of (Pair 
     ∷ [])) ∷ [])))) ∷ [])) ∷ [])) ∷ [])
 
 abbrev pub OneValueOfHandlers : Type 0
-OneValueOfHandlers = without_steps (invoked (codes "X") 127 one_value_of_handlers 6000) ≡ Gives (codes "2false1") 0
+OneValueOfHandlers = without_steps (invoke_module (codes "X") 127 one_value_of_handlers 6000) ≡ Gives (codes "2false1") 0
 
 -- `__tostring` may give a number.
 --     return {f=function(...)
@@ -241,7 +235,7 @@ number_as_text = stats_of (ReturnS 1 (exps_of (TableE 1 (fields_of (Pair (TextE 
     ∷ [])) ∷ [])))) ∷ [])) ∷ [])) ∷ [])
 
 abbrev pub NumberAsText : Type 0
-NumberAsText = without_steps (invoked (codes "X") 160 number_as_text 6000) ≡ Gives (codes "string7") 0
+NumberAsText = without_steps (invoke_module (codes "X") 160 number_as_text 6000) ≡ Gives (codes "string7") 0
 
 -- A method is looked up before the arguments are evaluated.
 --     return {f=function(...)
@@ -267,7 +261,7 @@ method_first = stats_of (ReturnS 1 (exps_of (TableE 1 (fields_of (Pair (TextE 1 
     ∷ [])))) ∷ [])) ∷ [])) ∷ [])
 
 abbrev pub MethodFirst : Type 0
-MethodFirst = without_steps (invoked (codes "X") 175 method_first 6000) ≡ Gives (codes "m!") 0
+MethodFirst = without_steps (invoke_module (codes "X") 175 method_first 6000) ≡ Gives (codes "m!") 0
 
 -- A function of the library that calls what is no function raises without a place.
 --     return {f=function(...)
@@ -289,7 +283,7 @@ library_calls_nothing = stats_of (ReturnS 1 (exps_of (TableE 1 (fields_of (Pair 
     ∷ [])))) ∷ [])) ∷ [])) ∷ [])
 
 abbrev pub LibraryCallsNothing : Type 0
-LibraryCallsNothing = without_steps (invoked (codes "X") 177 library_calls_nothing 6000) ≡ Gives (codes "attempt to call a number value;attempt to call a nil value;attempt to call a number value;") 0
+LibraryCallsNothing = without_steps (invoke_module (codes "X") 177 library_calls_nothing 6000) ≡ Gives (codes "attempt to call a number value;attempt to call a nil value;attempt to call a number value;") 0
 
 -- An absent argument where any value may stand is nil, also for `setmetatable`.
 --     return {f=function(...)
@@ -310,7 +304,7 @@ absent_is_nil = stats_of (ReturnS 1 (exps_of (TableE 1 (fields_of (Pair (TextE 1
     ∷ [])))) ∷ [])) ∷ [])) ∷ [])
 
 abbrev pub AbsentIsNil : Type 0
-AbsentIsNil = without_steps (invoked (codes "X") 152 absent_is_nil 6000) ≡ Gives (codes "niltruenilnil") 0
+AbsentIsNil = without_steps (invoke_module (codes "X") 152 absent_is_nil 6000) ≡ Gives (codes "niltruenilnil") 0
 
 -- Strings and global variables are looked up in the tables that the run has kept.
 --     return {f=function(...)
@@ -332,7 +326,7 @@ kept_tables = stats_of (ReturnS 1 (exps_of (TableE 1 (fields_of (Pair (TextE 1 (
     ∷ [])))) ∷ [])) ∷ [])) ∷ [])
 
 abbrev pub KeptTables : Type 0
-KeptTables = without_steps (invoked (codes "X") 117 kept_tables 6000) ≡ Gives (codes "abab5") 0
+KeptTables = without_steps (invoke_module (codes "X") 117 kept_tables 6000) ≡ Gives (codes "abab5") 0
 
 -- Only nil ends a generic loop.
 --     return {f=function(...)
@@ -353,7 +347,7 @@ false_goes_on = stats_of (ReturnS 1 (exps_of (TableE 1 (fields_of (Pair (TextE 1
     ∷ [])))) ∷ [])) ∷ [])) ∷ [])
 
 abbrev pub FalseGoesOn : Type 0
-FalseGoesOn = without_steps (invoked (codes "X") 113 false_goes_on 6000) ≡ Gives (codes "4") 0
+FalseGoesOn = without_steps (invoke_module (codes "X") 113 false_goes_on 6000) ≡ Gives (codes "4") 0
 
 -- `assert` raises its message without a place.
 --     return {f=function(...)
@@ -376,7 +370,7 @@ assert_has_no_place = stats_of (ReturnS 1 (exps_of (TableE 1 (fields_of (Pair (T
     ∷ [])) ∷ [])))) ∷ [])) ∷ [])) ∷ [])
 
 abbrev pub AssertHasNoPlace : Type 0
-AssertHasNoPlace = without_steps (invoked (codes "X") 130 assert_has_no_place 6000) ≡ Gives (codes "noassertion failed!") 0
+AssertHasNoPlace = without_steps (invoke_module (codes "X") 130 assert_has_no_place 6000) ≡ Gives (codes "noassertion failed!") 0
 
 -- `__pairs` and `__ipairs` get the table alone, and three values are taken.
 --     return {f=function(...)
@@ -410,7 +404,7 @@ pairs_handler_arguments = stats_of (ReturnS 1 (exps_of (TableE 1 (fields_of (Pai
     ∷ [])))) ∷ [])) ∷ [])) ∷ [])
 
 abbrev pub PairsHandlerArguments : Type 0
-PairsHandlerArguments = without_steps (invoked (codes "X") 188 pairs_handler_arguments 6000) ≡ Gives (codes "31123") 0
+PairsHandlerArguments = without_steps (invoke_module (codes "X") 188 pairs_handler_arguments 6000) ≡ Gives (codes "31123") 0
 
 -- A chain ends at a value that is no table, and a handler on a string is indexed in turn.
 --     return {f=function(...)
@@ -436,7 +430,7 @@ any_chain = stats_of (ReturnS 1 (exps_of (TableE 1 (fields_of (Pair (TextE 1 (co
     ∷ [])))) ∷ [])) ∷ [])) ∷ [])
 
 abbrev pub AnyChain : Type 0
-AnyChain = without_steps (invoked (codes "X") 169 any_chain 6000) ≡ Gives (codes "sModule:X:4: attempt to index a number value") 0
+AnyChain = without_steps (invoke_module (codes "X") 169 any_chain 6000) ≡ Gives (codes "sModule:X:4: attempt to index a number value") 0
 
 -- A handler that gives no text for the answer fails, without a place.
 --     return {f=function(...)
@@ -451,7 +445,7 @@ failing_answer = stats_of (ReturnS 1 (exps_of (TableE 1 (fields_of (Pair (TextE 
     ∷ [])) ∷ [])) ∷ [])))) ∷ [])) ∷ [])) ∷ [])
 
 abbrev pub FailingAnswer : Type 0
-FailingAnswer = without_steps (invoked (codes "X") 90 failing_answer 6000) ≡ Fails (codes "Lua error: 'tostring' must return a string") 0
+FailingAnswer = without_steps (invoke_module (codes "X") 90 failing_answer 6000) ≡ Fails (codes "Lua error: 'tostring' must return a string") 0
 
 -- What is left out is absent.
 --     return {f=function(...)
@@ -466,7 +460,7 @@ left_out = stats_of (ReturnS 1 (exps_of (TableE 1 (fields_of (Pair (TextE 1 (cod
     ∷ [])) ∷ [])))) ∷ [])) ∷ [])) ∷ [])
 
 abbrev pub LeftOut : Type 0
-LeftOut = without_steps (invoked (codes "X") 94 left_out 6000) ≡ Gives (codes "nilnilnilnil") 0
+LeftOut = without_steps (invoke_module (codes "X") 94 left_out 6000) ≡ Gives (codes "nilnilnilnil") 0
 
 -- ALL OF THEM
 abbrev pub AllHandlers : Type 0

@@ -1,17 +1,15 @@
 -- EXAMPLES of modules that ask for modules, and of data modules.
-use Rattle.std.specs.Prelude.{◌≡◌, pos, true, false, [], ◌∷◌, codes}
+use Rattle.std.specs.Prelude.{◌≡◌, pos, false, [], ◌∷◌, codes}
 use Rattle.lua_syntax.specs.declared.BinaryOp.TheVariants as op
 use Rattle.lua_syntax.specs.declared.UnaryOp.TheVariants as sign
-use Rattle.lua_syntax.specs.Tree.{NilE, TrueE, FalseE, NumberE, TextE, DotsE, FunctionE, NameE, IndexE, CallE, MethodE, TableE, BinaryE, UnaryE, ParenE}
-use Rattle.lua_syntax.specs.Tree.{NoExp, NoField, Item, Pair, Lambda, Block, NoStat, Arm}
-use Rattle.lua_syntax.specs.Tree.{AssignS, CallS, DoS, WhileS, RepeatS, IfS, IfElseS, CountS, CountByS, EachS, LocalFunctionS, LocalS, ReturnS, BreakS}
+use Rattle.lua_syntax.specs.Tree.{NilE, TrueE, FalseE, NumberE, TextE, FunctionE, NameE, IndexE, CallE, TableE, BinaryE, UnaryE, ParenE}
+use Rattle.lua_syntax.specs.Tree.{NoExp, NoField, Pair, Lambda, Block, Arm}
+use Rattle.lua_syntax.specs.Tree.{AssignS, CallS, IfS, LocalFunctionS, LocalS, ReturnS}
 use Rattle.lua_syntax.specs.View.{exps_of, fields_of, arms_of, stats_of}
-use Rattle.page_run.specs.declared.which.Which.TheVariants.{Steps, Calls}
-use Rattle.wk_base.specs.declared.title.Namespace.TheVariants.{Main}
-use Rattle.mw_frame.specs.declared.question.Ask.TheVariants.{Template, Preprocess, Data}
-use Rattle.lua_heap.specs.Value.{Nil, Truth, Number, Text, Table}
+use Rattle.page_run.specs.declared.which.Which.TheVariants.{Steps}
+use Rattle.lua_heap.specs.Value.{Number, Text, Table}
 use Rattle.lua_meaning.specs.Questions.{Expanded, NoPage, Loaded, LoadFailed}
-use Rattle.lua_meaning.specs.Trial.{Gives, Fails, Spends, Loads, Asks, without_steps, arg, invoked, invoked_with, invoked_on, loaded, faulted, counted, held, template_title, module_title, own_scene, scene_in_template, reply, spent, asked}
+use Rattle.lua_meaning.specs.Trial.{Gives, Fails, Spends, Loads, without_steps, load_module, module_text, reply, invoke_in_template}
 
 -- A module runs once, and its value is kept.
 --     return {f=function(frame)
@@ -35,7 +33,7 @@ requires_once1 = stats_of (
     ∷ [])
 
 abbrev pub RequiresOnce : Type 0
-RequiresOnce = without_steps (asked (held (codes "X") 135 requires_once ∷ held (codes "Y") 25 requires_once1 ∷ []) [] (codes "X") 6000 []) ≡ Gives (codes "11true") 0
+RequiresOnce = without_steps (invoke_in_template (module_text (codes "X") 135 requires_once ∷ module_text (codes "Y") 25 requires_once1 ∷ []) [] (codes "X") 6000 []) ≡ Gives (codes "11true") 0
 
 -- False is a value; nil and no value are true.
 --     return {f=function(frame)
@@ -66,7 +64,7 @@ false_is_kept2 = stats_of (
     ∷ [])
 
 abbrev pub FalseIsKept : Type 0
-FalseIsKept = without_steps (asked (held (codes "X") 129 false_is_kept ∷ held (codes "Y") 25 false_is_kept1 ∷ held (codes "Z") 16 false_is_kept2 ∷ []) [] (codes "X") 6000 []) ≡ Gives (codes "falsefalse1true") 0
+FalseIsKept = without_steps (invoke_in_template (module_text (codes "X") 129 false_is_kept ∷ module_text (codes "Y") 25 false_is_kept1 ∷ module_text (codes "Z") 16 false_is_kept2 ∷ []) [] (codes "X") 6000 []) ≡ Gives (codes "falsefalse1true") 0
 
 -- The invoked module runs as `require` would run it: later its value is there.
 --     local p={} function p.f() return tostring(require('Module:X')==p) end return p
@@ -80,7 +78,7 @@ requires_itself = stats_of (
     ∷ [])
 
 abbrev pub RequiresItself : Type 0
-RequiresItself = without_steps (asked (held (codes "X") 78 requires_itself ∷ []) [] (codes "X") 6000 []) ≡ Gives (codes "true") 0
+RequiresItself = without_steps (invoke_in_template (module_text (codes "X") 78 requires_itself ∷ []) [] (codes "X") 6000 []) ≡ Gives (codes "true") 0
 
 -- While it runs, to require it is an error.
 --     return require('Module:X')
@@ -88,7 +86,7 @@ abbrev pub loops : Block
 loops = stats_of (ReturnS 1 (exps_of (CallE 1 (NameE 1 (codes "require")) (exps_of (TextE 1 (codes "Module:X") ∷ [])) ∷ [])) ∷ [])
 
 abbrev pub Loops : Type 0
-Loops = without_steps (asked (held (codes "X") 26 loops ∷ []) [] (codes "X") 6000 []) ≡ Fails (codes "Lua error: Module:X:1: loop in require of 'Module:X'") 0
+Loops = without_steps (invoke_in_template (module_text (codes "X") 26 loops ∷ []) [] (codes "X") 6000 []) ≡ Fails (codes "Lua error: Module:X:1: loop in require of 'Module:X'") 0
 
 -- So it is through another module, which may be asked for again.
 --     return {f=function(frame)
@@ -122,7 +120,7 @@ abbrev pub loops_through2 : Block
 loops_through2 = stats_of (CallS 1 (CallE 1 (NameE 1 (codes "require")) (exps_of (TextE 1 (codes "Module:Y") ∷ []))) ∷ [])
 
 abbrev pub LoopsThrough : Type 0
-LoopsThrough = without_steps (asked (held (codes "X") 140 loops_through ∷ held (codes "Y") 26 loops_through1 ∷ held (codes "Z") 19 loops_through2 ∷ []) [] (codes "X") 6000 []) ≡ Gives (codes "Module:Z:1: loop in require of 'Module:Y'niltrue") 0
+LoopsThrough = without_steps (invoke_in_template (module_text (codes "X") 140 loops_through ∷ module_text (codes "Y") 26 loops_through1 ∷ module_text (codes "Z") 19 loops_through2 ∷ []) [] (codes "X") 6000 []) ≡ Gives (codes "Module:Z:1: loop in require of 'Module:Y'niltrue") 0
 
 -- A module whose run failed is run again.
 --     return {f=function(frame)
@@ -146,7 +144,7 @@ runs_again1 = stats_of (
     ∷ [])
 
 abbrev pub RunsAgain : Type 0
-RunsAgain = without_steps (asked (held (codes "X") 108 runs_again ∷ held (codes "Y") 33 runs_again1 ∷ []) [] (codes "X") 6000 []) ≡ Gives (codes "2m") 0
+RunsAgain = without_steps (invoke_in_template (module_text (codes "X") 108 runs_again ∷ module_text (codes "Y") 33 runs_again1 ∷ []) [] (codes "X") 6000 []) ≡ Gives (codes "2m") 0
 
 -- What is no held module is not found.
 --     return {f=function(frame)
@@ -174,7 +172,7 @@ abbrev pub no_module1 : Block
 no_module1 = stats_of (ReturnS 1 (exps_of (NumberE 1 (pos 1) ∷ [])) ∷ [])
 
 abbrev pub NoModule : Type 0
-NoModule = without_steps (asked (held (codes "X") 165 no_module ∷ held (codes "Y") 8 no_module1 ∷ []) [] (codes "X") 6000 []) ≡ Gives (codes "module 'Y' not found;module 'Module:Z' not found;module 'Module:' not found;module '12' not found;bad argument #1 to 'require' (string expected, got no value)") 0
+NoModule = without_steps (invoke_in_template (module_text (codes "X") 165 no_module ∷ module_text (codes "Y") 8 no_module1 ∷ []) [] (codes "X") 6000 []) ≡ Gives (codes "module 'Y' not found;module 'Module:Z' not found;module 'Module:' not found;module '12' not found;bad argument #1 to 'require' (string expected, got no value)") 0
 
 -- The text of a module that is required has no place above it.
 --     return {f=function(frame)
@@ -211,7 +209,7 @@ abbrev pub module_levels2 : Block
 module_levels2 = stats_of (CallS 1 (CallE 1 (NameE 1 (codes "error")) (exps_of (TextE 1 (codes "m") ∷ NumberE 1 (pos 2) ∷ []))) ∷ [])
 
 abbrev pub ModuleLevels : Type 0
-ModuleLevels = without_steps (asked (held (codes "X") 141 module_levels ∷ held (codes "Y") 18 module_levels1 ∷ held (codes "Z") 12 module_levels2 ∷ []) [] (codes "X") 6000 []) ≡ Gives (codes "Module:Y:2: mm") 0
+ModuleLevels = without_steps (invoke_in_template (module_text (codes "X") 141 module_levels ∷ module_text (codes "Y") 18 module_levels1 ∷ module_text (codes "Z") 12 module_levels2 ∷ []) [] (codes "X") 6000 []) ≡ Gives (codes "Module:Y:2: mm") 0
 
 -- A module that is required costs its text and its run, and later the call alone.
 --     return {f=function(frame) require('Module:Y') require('Module:Y') return 'a' end}
@@ -228,7 +226,7 @@ abbrev pub module_costs1 : Block
 module_costs1 = stats_of (ReturnS 1 (exps_of (NumberE 1 (pos 1) ∷ [])) ∷ [])
 
 abbrev pub ModuleCosts : Type 0
-ModuleCosts = (asked (held (codes "X") 81 module_costs ∷ held (codes "Y") 8 module_costs1 ∷ []) [] (codes "X") 1131 [] ≡ Gives (codes "a") 0) × (asked (held (codes "X") 81 module_costs ∷ held (codes "Y") 8 module_costs1 ∷ []) [] (codes "X") 1130 [] ≡ Spends Steps 0)
+ModuleCosts = (invoke_in_template (module_text (codes "X") 81 module_costs ∷ module_text (codes "Y") 8 module_costs1 ∷ []) [] (codes "X") 1131 [] ≡ Gives (codes "a") 0) × (invoke_in_template (module_text (codes "X") 81 module_costs ∷ module_text (codes "Y") 8 module_costs1 ∷ []) [] (codes "X") 1130 [] ≡ Spends Steps 0)
 
 -- `strict` makes absent global variables errors, with the place of the name.
 --     return {f=function(frame)
@@ -263,7 +261,7 @@ strict = stats_of (ReturnS 1 (exps_of (TableE 1 (fields_of (Pair (TextE 1 (codes
     ∷ [])))) ∷ [])) ∷ [])) ∷ [])
 
 abbrev pub Strict : Type 0
-Strict = without_steps (asked (held (codes "X") 256 strict ∷ []) [] (codes "X") 6000 []) ≡ Gives (codes "true2Module:X:7: variable 'y' is not declared;Module:X:8: assign to undeclared variable 'y';Module:X:8: variable 'table' is not declared;nil") 0
+Strict = without_steps (invoke_in_template (module_text (codes "X") 256 strict ∷ []) [] (codes "X") 6000 []) ≡ Gives (codes "true2Module:X:7: variable 'y' is not declared;Module:X:8: assign to undeclared variable 'y';Module:X:8: variable 'table' is not declared;nil") 0
 
 -- Each call sets a new metatable, in place of any that is there.
 --     return {f=function(frame)
@@ -302,7 +300,7 @@ strict_anew = stats_of (ReturnS 1 (exps_of (TableE 1 (fields_of (Pair (TextE 1 (
     ∷ [])))) ∷ [])) ∷ [])) ∷ [])
 
 abbrev pub StrictAnew : Type 0
-StrictAnew = without_steps (asked (held (codes "X") 266 strict_anew ∷ []) [] (codes "X") 6000 []) ≡ Gives (codes "false3Module:X:8: variable 'y' is not declared") 0
+StrictAnew = without_steps (invoke_in_template (module_text (codes "X") 266 strict_anew ∷ []) [] (codes "X") 6000 []) ≡ Gives (codes "false3Module:X:8: variable 'y' is not declared") 0
 
 -- A data module is asked for once; its tables are read-only and may be cyclic.
 --     local p={} function p.f() local d=mw.loadData('Module:D') local ok,e=pcall(function() d.v=6 end) return d.me.me.v..' '..tostring(ok)..' '..e end return p
@@ -324,7 +322,7 @@ loads_once = stats_of (
     ∷ [])
 
 abbrev pub LoadsOnce : Type 0
-LoadsOnce = without_steps (asked (held (codes "R") 153 loads_once ∷ []) [] (codes "R") 6000 (reply (Loaded (((Text (codes "v"), Number (pos 5)) ∷ (Text (codes "me"), Table 0) ∷ []) ∷ [])) 3000 ∷ [])) ≡ Gives (codes "5 false Module:R:1: table from mw.loadData is read-only") 0
+LoadsOnce = without_steps (invoke_in_template (module_text (codes "R") 153 loads_once ∷ []) [] (codes "R") 6000 (reply (Loaded (((Text (codes "v"), Number (pos 5)) ∷ (Text (codes "me"), Table 0) ∷ []) ∷ [])) 3000 ∷ [])) ≡ Gives (codes "5 false Module:R:1: table from mw.loadData is read-only") 0
 
 -- Further loads give the same table, for the call alone.
 --     return {f=function(frame)
@@ -347,7 +345,7 @@ loaded_again = stats_of (ReturnS 1 (exps_of (TableE 1 (fields_of (Pair (TextE 1 
     ∷ [])))) ∷ [])) ∷ [])) ∷ [])
 
 abbrev pub LoadedAgain : Type 0
-LoadedAgain = without_steps (asked (held (codes "X") 133 loaded_again ∷ []) [] (codes "X") 6000 (reply (Loaded (((Text (codes "x"), Text (codes "v")) ∷ []) ∷ [])) 3000 ∷ [])) ≡ Gives (codes "truev0x") 0
+LoadedAgain = without_steps (invoke_in_template (module_text (codes "X") 133 loaded_again ∷ []) [] (codes "X") 6000 (reply (Loaded (((Text (codes "x"), Text (codes "v")) ∷ []) ∷ [])) 3000 ∷ [])) ≡ Gives (codes "truev0x") 0
 
 -- The message of a load that failed is raised as it is, and the next load is a first one.
 --     return {f=function(frame)
@@ -371,7 +369,7 @@ load_fails = stats_of (ReturnS 1 (exps_of (TableE 1 (fields_of (Pair (TextE 1 (c
     ∷ [])))) ∷ [])) ∷ [])) ∷ [])
 
 abbrev pub LoadFails : Type 0
-LoadFails = without_steps (asked (held (codes "X") 142 load_fails ∷ []) [] (codes "X") 6000 (reply (LoadFailed (codes "data module holds a function")) 3000 ∷ reply (Loaded (((Text (codes "x"), Text (codes "v")) ∷ []) ∷ [])) 2000 ∷ [])) ≡ Gives (codes "data module holds a functiontruev") 0
+LoadFails = without_steps (invoke_in_template (module_text (codes "X") 142 load_fails ∷ []) [] (codes "X") 6000 (reply (LoadFailed (codes "data module holds a function")) 3000 ∷ reply (Loaded (((Text (codes "x"), Text (codes "v")) ∷ []) ∷ [])) 2000 ∷ [])) ≡ Gives (codes "data module holds a functiontruev") 0
 
 -- What is no held module is not found, at the place that called.
 --     return {f=function(frame)
@@ -393,7 +391,7 @@ no_data = stats_of (ReturnS 1 (exps_of (TableE 1 (fields_of (Pair (TextE 1 (code
     ∷ [])) ∷ [])))) ∷ [])) ∷ [])) ∷ [])
 
 abbrev pub NoData : Type 0
-NoData = without_steps (asked (held (codes "X") 126 no_data ∷ []) [] (codes "X") 6000 (reply NoPage 3000 ∷ [])) ≡ Gives (codes "data module 'Module:' not foundModule:X:3: data module 'D' not found") 0
+NoData = without_steps (invoke_in_template (module_text (codes "X") 126 no_data ∷ []) [] (codes "X") 6000 (reply NoPage 3000 ∷ [])) ≡ Gives (codes "data module 'Module:' not foundModule:X:3: data module 'D' not found") 0
 
 -- A text is no answer to a load.
 --     return {f=function(frame)
@@ -405,7 +403,7 @@ wrong_data = stats_of (ReturnS 1 (exps_of (TableE 1 (fields_of (Pair (TextE 1 (c
     ∷ [])) ∷ [])))) ∷ [])) ∷ [])) ∷ [])
 
 abbrev pub WrongData : Type 0
-WrongData = without_steps (asked (held (codes "X") 61 wrong_data ∷ []) [] (codes "X") 6000 (reply (Expanded (codes "x")) 3000 ∷ [])) ≡ Fails (codes "Lua error: the answer does not belong to the question") 0
+WrongData = without_steps (invoke_in_template (module_text (codes "X") 61 wrong_data ∷ []) [] (codes "X") 6000 (reply (Expanded (codes "x")) 3000 ∷ [])) ≡ Fails (codes "Lua error: the answer does not belong to the question") 0
 
 -- A data module has no frame.
 --     if mw.getCurrentFrame()==nil then return {} end
@@ -415,7 +413,7 @@ data_has_no_frame = stats_of (IfS 1 (arms_of (
     ∷ [])) ∷ [])
 
 abbrev pub DataHasNoFrame : Type 0
-DataHasNoFrame = loaded (codes "X") 47 data_has_no_frame 1066 ≡ Loads 0
+DataHasNoFrame = load_module (codes "X") 47 data_has_no_frame 1066 ≡ Loads 0
 
 -- A module must give a table.
 --     return true
@@ -423,7 +421,7 @@ abbrev pub module_is_no_table : Block
 module_is_no_table = stats_of (ReturnS 1 (exps_of (TrueE 1 ∷ [])) ∷ [])
 
 abbrev pub ModuleIsNoTable : Type 0
-ModuleIsNoTable = without_steps (asked (held (codes "X") 11 module_is_no_table ∷ []) [] (codes "X") 6000 []) ≡ Fails (codes "Script error: The module returned no table.") 0
+ModuleIsNoTable = without_steps (invoke_in_template (module_text (codes "X") 11 module_is_no_table ∷ []) [] (codes "X") 6000 []) ≡ Fails (codes "Script error: The module returned no table.") 0
 
 -- A module that is not held fails as in `require`.
 --     return 1
@@ -431,7 +429,7 @@ abbrev pub module_is_not_held : Block
 module_is_not_held = stats_of (ReturnS 1 (exps_of (NumberE 1 (pos 1) ∷ [])) ∷ [])
 
 abbrev pub ModuleIsNotHeld : Type 0
-ModuleIsNotHeld = without_steps (asked (held (codes "X") 8 module_is_not_held ∷ []) [] (codes "Y") 6000 []) ≡ Fails (codes "Lua error: module 'Module:Y' not found") 0
+ModuleIsNotHeld = without_steps (invoke_in_template (module_text (codes "X") 8 module_is_not_held ∷ []) [] (codes "Y") 6000 []) ≡ Fails (codes "Lua error: module 'Module:Y' not found") 0
 
 -- ALL OF THEM
 abbrev pub AllModules : Type 0

@@ -2,16 +2,11 @@
 use Rattle.std.specs.Prelude.{◌≡◌, pos, true, false, [], ◌∷◌, codes}
 use Rattle.lua_syntax.specs.declared.BinaryOp.TheVariants as op
 use Rattle.lua_syntax.specs.declared.UnaryOp.TheVariants as sign
-use Rattle.lua_syntax.specs.Tree.{NilE, TrueE, FalseE, NumberE, TextE, DotsE, FunctionE, NameE, IndexE, CallE, MethodE, TableE, BinaryE, UnaryE, ParenE}
+use Rattle.lua_syntax.specs.Tree.{NilE, TrueE, NumberE, TextE, FunctionE, NameE, IndexE, CallE, MethodE, TableE, BinaryE, UnaryE}
 use Rattle.lua_syntax.specs.Tree.{NoExp, NoField, Item, Pair, Lambda, Block, NoStat, Arm}
-use Rattle.lua_syntax.specs.Tree.{AssignS, CallS, DoS, WhileS, RepeatS, IfS, IfElseS, CountS, CountByS, EachS, LocalFunctionS, LocalS, ReturnS, BreakS}
+use Rattle.lua_syntax.specs.Tree.{AssignS, DoS, WhileS, RepeatS, IfS, IfElseS, CountS, CountByS, EachS, LocalFunctionS, LocalS, ReturnS, BreakS}
 use Rattle.lua_syntax.specs.View.{exps_of, fields_of, arms_of, stats_of}
-use Rattle.page_run.specs.declared.which.Which.TheVariants.{Steps, Calls}
-use Rattle.wk_base.specs.declared.title.Namespace.TheVariants.{Main}
-use Rattle.mw_frame.specs.declared.question.Ask.TheVariants.{Template, Preprocess, Data}
-use Rattle.lua_heap.specs.Value.{Nil, Truth, Number, Text, Table}
-use Rattle.lua_meaning.specs.Questions.{Expanded, NoPage, Loaded, LoadFailed}
-use Rattle.lua_meaning.specs.Trial.{Gives, Fails, Spends, Loads, Asks, without_steps, arg, invoked, invoked_with, invoked_on, loaded, faulted, counted, held, template_title, module_title, own_scene, scene_in_template, reply, spent, asked}
+use Rattle.lua_meaning.specs.Trial.{Gives, Fails, without_steps, invoke_module}
 
 -- The right sides are evaluated before any target is assigned.
 --     return {f=function(...)
@@ -27,7 +22,7 @@ swap = stats_of (ReturnS 1 (exps_of (TableE 1 (fields_of (Pair (TextE 1 (codes "
     ∷ [])))) ∷ [])) ∷ [])) ∷ [])
 
 abbrev pub Swap : Type 0
-Swap = without_steps (invoked (codes "X") 65 swap 6000) ≡ Gives (codes "21") 0
+Swap = without_steps (invoke_module (codes "X") 65 swap 6000) ≡ Gives (codes "21") 0
 
 -- The keys of the targets are evaluated before the right sides.
 --     return {f=function(...)
@@ -49,7 +44,7 @@ keys_first = stats_of (ReturnS 1 (exps_of (TableE 1 (fields_of (Pair (TextE 1 (c
     ∷ [])))) ∷ [])) ∷ [])) ∷ [])
 
 abbrev pub KeysFirst : Type 0
-KeysFirst = without_steps (invoked (codes "X") 84 keys_first 6000) ≡ Gives (codes "220nil") 0
+KeysFirst = without_steps (invoke_module (codes "X") 84 keys_first 6000) ≡ Gives (codes "220nil") 0
 
 -- The last target is assigned first.
 --     return {f=function(...)
@@ -65,7 +60,7 @@ last_first = stats_of (ReturnS 1 (exps_of (TableE 1 (fields_of (Pair (TextE 1 (c
     ∷ [])))) ∷ [])) ∷ [])) ∷ [])
 
 abbrev pub LastFirst : Type 0
-LastFirst = without_steps (invoked (codes "X") 59 last_first 6000) ≡ Gives (codes "1") 0
+LastFirst = without_steps (invoke_module (codes "X") 59 last_first 6000) ≡ Gives (codes "1") 0
 
 -- Targets without a value get nil.
 --     return {f=function(...)
@@ -83,7 +78,7 @@ more_targets = stats_of (ReturnS 1 (exps_of (TableE 1 (fields_of (Pair (TextE 1 
     ∷ [])))) ∷ [])) ∷ [])) ∷ [])
 
 abbrev pub MoreTargets : Type 0
-MoreTargets = without_steps (invoked (codes "X") 71 more_targets 6000) ≡ Gives (codes "7nilnil") 0
+MoreTargets = without_steps (invoke_module (codes "X") 71 more_targets 6000) ≡ Gives (codes "7nilnil") 0
 
 -- A local variable is seen from the next statement on, to the end of its block.
 --     return {f=function(...)
@@ -104,7 +99,7 @@ shadowed = stats_of (ReturnS 1 (exps_of (TableE 1 (fields_of (Pair (TextE 1 (cod
     ∷ [])))) ∷ [])) ∷ [])) ∷ [])
 
 abbrev pub Shadowed : Type 0
-Shadowed = without_steps (invoked (codes "X") 87 shadowed 6000) ≡ Gives (codes "1!") 0
+Shadowed = without_steps (invoke_module (codes "X") 87 shadowed 6000) ≡ Gives (codes "1!") 0
 
 -- The name of a local function is seen in its body.
 --     return {f=function(...)
@@ -125,7 +120,7 @@ local_functions = stats_of (ReturnS 1 (exps_of (TableE 1 (fields_of (Pair (TextE
     ∷ [])))) ∷ [])) ∷ [])) ∷ [])
 
 abbrev pub LocalFunctions : Type 0
-LocalFunctions = without_steps (invoked (codes "X") 115 local_functions 6000) ≡ Gives (codes "120") 0
+LocalFunctions = without_steps (invoke_module (codes "X") 115 local_functions 6000) ≡ Gives (codes "120") 0
 
 -- A function that is assigned to a local name sees the global one.
 --     return {f=function(...)
@@ -139,7 +134,7 @@ global_functions = stats_of (ReturnS 1 (exps_of (TableE 1 (fields_of (Pair (Text
     ∷ [])))) ∷ [])) ∷ [])) ∷ [])
 
 abbrev pub GlobalFunctions : Type 0
-GlobalFunctions = without_steps (invoked (codes "X") 83 global_functions 6000) ≡ Gives (codes "nil") 0
+GlobalFunctions = without_steps (invoke_module (codes "X") 83 global_functions 6000) ≡ Gives (codes "nil") 0
 
 -- The first branch whose test is true.
 --     return {f=function(...)
@@ -160,7 +155,7 @@ branches = stats_of (ReturnS 1 (exps_of (TableE 1 (fields_of (Pair (TextE 1 (cod
     ∷ [])))) ∷ [])) ∷ [])) ∷ [])
 
 abbrev pub Branches : Type 0
-Branches = without_steps (invoked (codes "X") 165 branches 6000) ≡ Gives (codes "negzeropos") 0
+Branches = without_steps (invoke_module (codes "X") 165 branches 6000) ≡ Gives (codes "negzeropos") 0
 
 -- `while`, and `break` out of the inner loop alone.
 --     return {f=function(...)
@@ -186,7 +181,7 @@ while_loop = stats_of (ReturnS 1 (exps_of (TableE 1 (fields_of (Pair (TextE 1 (c
     ∷ [])))) ∷ [])) ∷ [])) ∷ [])
 
 abbrev pub WhileLoop : Type 0
-WhileLoop = without_steps (invoked (codes "X") 144 while_loop 6000) ≡ Gives (codes "112123") 0
+WhileLoop = without_steps (invoke_module (codes "X") 144 while_loop 6000) ≡ Gives (codes "112123") 0
 
 -- The test of `repeat` sees the variables of the body.
 --     return {f=function(...)
@@ -205,7 +200,7 @@ repeat_loop = stats_of (ReturnS 1 (exps_of (TableE 1 (fields_of (Pair (TextE 1 (
     ∷ [])))) ∷ [])) ∷ [])) ∷ [])
 
 abbrev pub RepeatLoop : Type 0
-RepeatLoop = without_steps (invoked (codes "X") 89 repeat_loop 6000) ≡ Gives (codes "3") 0
+RepeatLoop = without_steps (invoke_module (codes "X") 89 repeat_loop 6000) ≡ Gives (codes "3") 0
 
 -- A `break` in `repeat` passes the test over.
 --     return {f=function(...)
@@ -224,7 +219,7 @@ repeat_break = stats_of (ReturnS 1 (exps_of (TableE 1 (fields_of (Pair (TextE 1 
     ∷ [])))) ∷ [])) ∷ [])) ∷ [])
 
 abbrev pub RepeatBreak : Type 0
-RepeatBreak = without_steps (invoked (codes "X") 112 repeat_break 6000) ≡ Fails (codes "Lua error: no") 0
+RepeatBreak = without_steps (invoke_module (codes "X") 112 repeat_break 6000) ≡ Fails (codes "Lua error: no") 0
 
 -- The index counts up or down, and its copy in the body may change.
 --     return {f=function(...)
@@ -255,7 +250,7 @@ counting = stats_of (ReturnS 1 (exps_of (TableE 1 (fields_of (Pair (TextE 1 (cod
     ∷ [])))) ∷ [])) ∷ [])) ∷ [])
 
 abbrev pub Counting : Type 0
-Counting = without_steps (invoked (codes "X") 158 counting 6000) ≡ Gives (codes "12332112") 0
+Counting = without_steps (invoke_module (codes "X") 158 counting 6000) ≡ Gives (codes "12332112") 0
 
 -- Where the next index is out of range the loop ends.
 --     return {f=function(...)
@@ -273,7 +268,7 @@ counting_to_the_end = stats_of (ReturnS 1 (exps_of (TableE 1 (fields_of (Pair (T
     ∷ [])))) ∷ [])) ∷ [])) ∷ [])
 
 abbrev pub CountingToTheEnd : Type 0
-CountingToTheEnd = without_steps (invoked (codes "X") 106 counting_to_the_end 6000) ≡ Gives (codes "2") 0
+CountingToTheEnd = without_steps (invoke_module (codes "X") 106 counting_to_the_end 6000) ≡ Gives (codes "2") 0
 
 -- A step of 0 counts as a negative one.
 --     return {f=function(...)
@@ -296,7 +291,7 @@ step_of_zero = stats_of (ReturnS 1 (exps_of (TableE 1 (fields_of (Pair (TextE 1 
     ∷ [])))) ∷ [])) ∷ [])) ∷ [])
 
 abbrev pub StepOfZero : Type 0
-StepOfZero = without_steps (invoked (codes "X") 120 step_of_zero 6000) ≡ Gives (codes "3") 0
+StepOfZero = without_steps (invoke_module (codes "X") 120 step_of_zero 6000) ≡ Gives (codes "3") 0
 
 -- `ipairs` stops at the first nil, and `pairs` goes through all in order.
 --     return {f=function(...)
@@ -322,7 +317,7 @@ generic = stats_of (ReturnS 1 (exps_of (TableE 1 (fields_of (Pair (TextE 1 (code
     ∷ [])))) ∷ [])) ∷ [])) ∷ [])
 
 abbrev pub Generic : Type 0
-Generic = without_steps (invoked (codes "X") 153 generic 6000) ≡ Gives (codes "1a2b1x2yzw") 0
+Generic = without_steps (invoke_module (codes "X") 153 generic 6000) ≡ Gives (codes "1a2b1x2yzw") 0
 
 -- Any function is an iterator.
 --     return {f=function(...)
@@ -345,7 +340,7 @@ own_iterator = stats_of (ReturnS 1 (exps_of (TableE 1 (fields_of (Pair (TextE 1 
     ∷ [])))) ∷ [])) ∷ [])) ∷ [])
 
 abbrev pub OwnIterator : Type 0
-OwnIterator = without_steps (invoked (codes "X") 141 own_iterator 6000) ≡ Gives (codes "102134") 0
+OwnIterator = without_steps (invoke_module (codes "X") 141 own_iterator 6000) ≡ Gives (codes "102134") 0
 
 -- A cleared key keeps its place, and a walk passes it.
 --     return {f=function(...)
@@ -375,7 +370,7 @@ cleared = stats_of (ReturnS 1 (exps_of (TableE 1 (fields_of (Pair (TextE 1 (code
     ∷ [])))) ∷ [])) ∷ [])) ∷ [])
 
 abbrev pub Cleared : Type 0
-Cleared = without_steps (invoked (codes "X") 142 cleared 6000) ≡ Gives (codes "a1c3nil") 0
+Cleared = without_steps (invoke_module (codes "X") 142 cleared 6000) ≡ Gives (codes "a1c3nil") 0
 
 -- Messages of loops.
 --     return {f=function(...)
@@ -403,7 +398,7 @@ loop_messages = stats_of (ReturnS 1 (exps_of (TableE 1 (fields_of (Pair (TextE 1
     ∷ [])))) ∷ [])) ∷ [])) ∷ [])
 
 abbrev pub LoopMessages : Type 0
-LoopMessages = without_steps (invoked (codes "X") 244 loop_messages 6000) ≡ Gives (codes "Module:X:3: 'for' initial value must be a number;Module:X:3: 'for' limit must be a number;Module:X:3: 'for' step must be a number;Module:X:3: attempt to call a nil value;") 0
+LoopMessages = without_steps (invoke_module (codes "X") 244 loop_messages 6000) ≡ Gives (codes "Module:X:3: 'for' initial value must be a number;Module:X:3: 'for' limit must be a number;Module:X:3: 'for' step must be a number;Module:X:3: attempt to call a nil value;") 0
 
 -- `pairs` and `ipairs` ask `__pairs` and `__ipairs`.
 --     return {f=function(...)
@@ -441,7 +436,7 @@ walk_handlers = stats_of (ReturnS 1 (exps_of (TableE 1 (fields_of (Pair (TextE 1
     ∷ [])))) ∷ [])) ∷ [])) ∷ [])
 
 abbrev pub WalkHandlers : Type 0
-WalkHandlers = without_steps (invoked (codes "X") 278 walk_handlers 6000) ≡ Gives (codes "kv1021") 0
+WalkHandlers = without_steps (invoke_module (codes "X") 278 walk_handlers 6000) ≡ Gives (codes "kv1021") 0
 
 -- After the last number `ipairs` gives nil.
 --     return {f=function(...)
@@ -457,7 +452,7 @@ last_place = stats_of (ReturnS 1 (exps_of (TableE 1 (fields_of (Pair (TextE 1 (c
     ∷ [])))) ∷ [])) ∷ [])) ∷ [])
 
 abbrev pub LastPlace : Type 0
-LastPlace = without_steps (invoked (codes "X") 96 last_place 6000) ≡ Gives (codes "nil") 0
+LastPlace = without_steps (invoke_module (codes "X") 96 last_place 6000) ≡ Gives (codes "nil") 0
 
 -- A `return` leaves all loops.
 --     return {f=function(...)
@@ -469,7 +464,7 @@ return_from_loops = stats_of (ReturnS 1 (exps_of (TableE 1 (fields_of (Pair (Tex
     ∷ [])) ∷ [])) ∷ [])) ∷ [])))) ∷ [])) ∷ [])) ∷ [])
 
 abbrev pub ReturnFromLoops : Type 0
-ReturnFromLoops = without_steps (invoked (codes "X") 93 return_from_loops 6000) ≡ Gives (codes "22") 0
+ReturnFromLoops = without_steps (invoke_module (codes "X") 93 return_from_loops 6000) ≡ Gives (codes "22") 0
 
 -- A constructor sets its fields in order, and its last item gives all its values.
 --     return {f=function(...)
@@ -499,7 +494,7 @@ constructors = stats_of (ReturnS 1 (exps_of (TableE 1 (fields_of (Pair (TextE 1 
     ∷ [])))) ∷ [])) ∷ [])) ∷ [])
 
 abbrev pub Constructors : Type 0
-Constructors = without_steps (invoked (codes "X") 146 constructors 6000) ≡ Gives (codes "4pppq12") 0
+Constructors = without_steps (invoke_module (codes "X") 146 constructors 6000) ≡ Gives (codes "4pppq12") 0
 
 -- A method gets its object first.
 --     return {f=function(...)
@@ -522,7 +517,7 @@ methods = stats_of (ReturnS 1 (exps_of (TableE 1 (fields_of (Pair (TextE 1 (code
     ∷ [])))) ∷ [])) ∷ [])) ∷ [])
 
 abbrev pub Methods : Type 0
-Methods = without_steps (invoked (codes "X") 147 methods 6000) ≡ Gives (codes "7") 0
+Methods = without_steps (invoke_module (codes "X") 147 methods 6000) ≡ Gives (codes "7") 0
 
 -- ALL OF THEM
 abbrev pub AllStatements : Type 0

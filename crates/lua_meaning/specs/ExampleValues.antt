@@ -2,16 +2,11 @@
 use Rattle.std.specs.Prelude.{◌≡◌, pos, true, false, [], ◌∷◌, codes}
 use Rattle.lua_syntax.specs.declared.BinaryOp.TheVariants as op
 use Rattle.lua_syntax.specs.declared.UnaryOp.TheVariants as sign
-use Rattle.lua_syntax.specs.Tree.{NilE, TrueE, FalseE, NumberE, TextE, DotsE, FunctionE, NameE, IndexE, CallE, MethodE, TableE, BinaryE, UnaryE, ParenE}
-use Rattle.lua_syntax.specs.Tree.{NoExp, NoField, Item, Pair, Lambda, Block, NoStat, Arm}
-use Rattle.lua_syntax.specs.Tree.{AssignS, CallS, DoS, WhileS, RepeatS, IfS, IfElseS, CountS, CountByS, EachS, LocalFunctionS, LocalS, ReturnS, BreakS}
-use Rattle.lua_syntax.specs.View.{exps_of, fields_of, arms_of, stats_of}
-use Rattle.page_run.specs.declared.which.Which.TheVariants.{Steps, Calls}
-use Rattle.wk_base.specs.declared.title.Namespace.TheVariants.{Main}
-use Rattle.mw_frame.specs.declared.question.Ask.TheVariants.{Template, Preprocess, Data}
-use Rattle.lua_heap.specs.Value.{Nil, Truth, Number, Text, Table}
-use Rattle.lua_meaning.specs.Questions.{Expanded, NoPage, Loaded, LoadFailed}
-use Rattle.lua_meaning.specs.Trial.{Gives, Fails, Spends, Loads, Asks, without_steps, arg, invoked, invoked_with, invoked_on, loaded, faulted, counted, held, template_title, module_title, own_scene, scene_in_template, reply, spent, asked}
+use Rattle.lua_syntax.specs.Tree.{NilE, TrueE, FalseE, NumberE, TextE, DotsE, FunctionE, NameE, CallE, TableE, BinaryE, UnaryE, ParenE}
+use Rattle.lua_syntax.specs.Tree.{NoExp, NoField, Item, Pair, Lambda, Block, NoStat}
+use Rattle.lua_syntax.specs.Tree.{LocalFunctionS, LocalS, ReturnS}
+use Rattle.lua_syntax.specs.View.{exps_of, fields_of, stats_of}
+use Rattle.lua_meaning.specs.Trial.{Gives, without_steps, invoke_module}
 
 -- Constants, and their texts.
 --     return {f=function(...)
@@ -23,7 +18,7 @@ constants = stats_of (ReturnS 1 (exps_of (TableE 1 (fields_of (Pair (TextE 1 (co
     ∷ [])))) ∷ [])) ∷ [])) ∷ [])
 
 abbrev pub Constants : Type 0
-Constants = without_steps (invoked (codes "X") 69 constants 6000) ≡ Gives (codes "niltruefalse12a b31") 0
+Constants = without_steps (invoke_module (codes "X") 69 constants 6000) ≡ Gives (codes "niltruefalse12a b31") 0
 
 -- Lists are adjusted: a call gives all its values only as the last of a list.
 --     return {f=function(...)
@@ -39,7 +34,7 @@ adjusted = stats_of (ReturnS 1 (exps_of (TableE 1 (fields_of (Pair (TextE 1 (cod
     ∷ [])))) ∷ [])) ∷ [])) ∷ [])
 
 abbrev pub Adjusted : Type 0
-Adjusted = without_steps (invoked (codes "X") 107 adjusted 6000) ≡ Gives (codes "1123nil") 0
+Adjusted = without_steps (invoke_module (codes "X") 107 adjusted 6000) ≡ Gives (codes "1123nil") 0
 
 -- In parentheses there is one value.
 --     return {f=function(...)
@@ -53,7 +48,7 @@ parentheses = stats_of (ReturnS 1 (exps_of (TableE 1 (fields_of (Pair (TextE 1 (
     ∷ [])))) ∷ [])) ∷ [])) ∷ [])
 
 abbrev pub Parentheses : Type 0
-Parentheses = without_steps (invoked (codes "X") 79 parentheses 6000) ≡ Gives (codes "112") 0
+Parentheses = without_steps (invoke_module (codes "X") 79 parentheses 6000) ≡ Gives (codes "112") 0
 
 -- Of the arguments too, the last gives all.
 --     return {f=function(...)
@@ -73,7 +68,7 @@ many_arguments = stats_of (ReturnS 1 (exps_of (TableE 1 (fields_of (Pair (TextE 
     ∷ [])))) ∷ [])) ∷ [])) ∷ [])
 
 abbrev pub ManyArguments : Type 0
-ManyArguments = without_steps (invoked (codes "X") 139 many_arguments 6000) ≡ Gives (codes "3778") 0
+ManyArguments = without_steps (invoke_module (codes "X") 139 many_arguments 6000) ≡ Gives (codes "3778") 0
 
 -- `...` gives all its values as the last of a list.
 --     return {f=function(...)
@@ -87,7 +82,7 @@ varargs = stats_of (ReturnS 1 (exps_of (TableE 1 (fields_of (Pair (TextE 1 (code
     ∷ [])))) ∷ [])) ∷ [])) ∷ [])
 
 abbrev pub Varargs : Type 0
-Varargs = without_steps (invoked (codes "X") 91 varargs 6000) ≡ Gives (codes "1223") 0
+Varargs = without_steps (invoke_module (codes "X") 91 varargs 6000) ≡ Gives (codes "1223") 0
 
 -- A function without `return` gives none.
 --     return {f=function(...)
@@ -104,7 +99,7 @@ no_values = stats_of (ReturnS 1 (exps_of (TableE 1 (fields_of (Pair (TextE 1 (co
     ∷ [])))) ∷ [])) ∷ [])) ∷ [])
 
 abbrev pub NoValues : Type 0
-NoValues = without_steps (invoked (codes "X") 78 no_values 6000) ≡ Gives (codes "0") 0
+NoValues = without_steps (invoke_module (codes "X") 78 no_values 6000) ≡ Gives (codes "0") 0
 
 -- `and` and `or` give an operand.
 --     return {f=function(...)
@@ -120,7 +115,7 @@ and_or = stats_of (ReturnS 1 (exps_of (TableE 1 (fields_of (Pair (TextE 1 (codes
     ∷ [])) ∷ [])))) ∷ [])) ∷ [])) ∷ [])
 
 abbrev pub AndOr : Type 0
-AndOr = without_steps (invoked (codes "X") 127 and_or 6000) ≡ Gives (codes "nilnil23y") 0
+AndOr = without_steps (invoke_module (codes "X") 127 and_or 6000) ≡ Gives (codes "nilnil23y") 0
 
 -- Operators bind as the manual says.
 --     return {f=function(...)
@@ -139,7 +134,7 @@ precedence = stats_of (ReturnS 1 (exps_of (TableE 1 (fields_of (Pair (TextE 1 (c
     ∷ [])) ∷ [])))) ∷ [])) ∷ [])) ∷ [])
 
 abbrev pub Precedence : Type 0
-Precedence = without_steps (invoked (codes "X") 100 precedence 6000) ≡ Gives (codes "512-432false1232a3") 0
+Precedence = without_steps (invoke_module (codes "X") 100 precedence 6000) ≡ Gives (codes "512-432false1232a3") 0
 
 -- `%` has the sign of its second operand.
 --     return {f=function(...)
@@ -156,7 +151,7 @@ remainders = stats_of (ReturnS 1 (exps_of (TableE 1 (fields_of (Pair (TextE 1 (c
     ∷ [])) ∷ [])))) ∷ [])) ∷ [])) ∷ [])
 
 abbrev pub Remainders : Type 0
-Remainders = without_steps (invoked (codes "X") 69 remainders 6000) ≡ Gives (codes "12-2-12-2") 0
+Remainders = without_steps (invoke_module (codes "X") 69 remainders 6000) ≡ Gives (codes "12-2-12-2") 0
 
 -- A text that reads as a number is one in arithmetic.
 --     return {f=function(...)
@@ -172,7 +167,7 @@ texts_in_arithmetic = stats_of (ReturnS 1 (exps_of (TableE 1 (fields_of (Pair (T
     ∷ [])) ∷ [])))) ∷ [])) ∷ [])) ∷ [])
 
 abbrev pub TextsInArithmetic : Type 0
-TextsInArithmetic = without_steps (invoked (codes "X") 79 texts_in_arithmetic 6000) ≡ Gives (codes "1532-381020") 0
+TextsInArithmetic = without_steps (invoke_module (codes "X") 79 texts_in_arithmetic 6000) ≡ Gives (codes "1532-381020") 0
 
 -- Numbers are in order, and texts byte by byte.
 --     return {f=function(...)
@@ -192,7 +187,7 @@ order = stats_of (ReturnS 1 (exps_of (TableE 1 (fields_of (Pair (TextE 1 (codes 
     ∷ [])) ∷ [])))) ∷ [])) ∷ [])) ∷ [])
 
 abbrev pub Order : Type 0
-Order = without_steps (invoked (codes "X") 196 order 6000) ≡ Gives (codes "truetruetruetruefalsetruefalsetruetrue") 0
+Order = without_steps (invoke_module (codes "X") 196 order 6000) ≡ Gives (codes "truetruetruetruefalsetruefalsetruetrue") 0
 
 -- Equality converts nothing.
 --     return {f=function(...)
@@ -213,7 +208,7 @@ equality = stats_of (ReturnS 1 (exps_of (TableE 1 (fields_of (Pair (TextE 1 (cod
     ∷ [])))) ∷ [])) ∷ [])) ∷ [])
 
 abbrev pub Equality : Type 0
-Equality = without_steps (invoked (codes "X") 155 equality 6000) ≡ Gives (codes "falsetruefalsetruetruetrue") 0
+Equality = without_steps (invoke_module (codes "X") 155 equality 6000) ≡ Gives (codes "falsetruefalsetruetruetrue") 0
 
 -- The length of a text is in bytes, that of a table its border.
 --     return {f=function(...)
@@ -229,7 +224,7 @@ lengths = stats_of (ReturnS 1 (exps_of (TableE 1 (fields_of (Pair (TextE 1 (code
     ∷ [])) ∷ [])))) ∷ [])) ∷ [])) ∷ [])
 
 abbrev pub Lengths : Type 0
-Lengths = without_steps (invoked (codes "X") 70 lengths 6000) ≡ Gives (codes "03030") 0
+Lengths = without_steps (invoke_module (codes "X") 70 lengths 6000) ≡ Gives (codes "03030") 0
 
 -- The border is the least one.
 --     return {f=function(...)
@@ -241,7 +236,7 @@ least_border = stats_of (ReturnS 1 (exps_of (TableE 1 (fields_of (Pair (TextE 1 
     ∷ [])) ∷ [])))) ∷ [])) ∷ [])) ∷ [])
 
 abbrev pub LeastBorder : Type 0
-LeastBorder = without_steps (invoked (codes "X") 48 least_border 6000) ≡ Gives (codes "2") 0
+LeastBorder = without_steps (invoke_module (codes "X") 48 least_border 6000) ≡ Gives (codes "2") 0
 
 -- Kinds of values.
 --     return {f=function(...)
@@ -259,7 +254,7 @@ types = stats_of (ReturnS 1 (exps_of (TableE 1 (fields_of (Pair (TextE 1 (codes 
     ∷ [])) ∷ [])))) ∷ [])) ∷ [])) ∷ [])
 
 abbrev pub Types : Type 0
-Types = without_steps (invoked (codes "X") 115 types 6000) ≡ Gives (codes "nilnumberstringtablefunctionfunctionboolean") 0
+Types = without_steps (invoke_module (codes "X") 115 types 6000) ≡ Gives (codes "nilnumberstringtablefunctionfunctionboolean") 0
 
 -- `tonumber`.
 --     return {f=function(...)
@@ -278,7 +273,7 @@ to_numbers = stats_of (ReturnS 1 (exps_of (TableE 1 (fields_of (Pair (TextE 1 (c
     ∷ [])) ∷ [])))) ∷ [])) ∷ [])) ∷ [])
 
 abbrev pub ToNumbers : Type 0
-ToNumbers = without_steps (invoked (codes "X") 188 to_numbers 6000) ≡ Gives (codes "nil12-7255335nil9") 0
+ToNumbers = without_steps (invoke_module (codes "X") 188 to_numbers 6000) ≡ Gives (codes "nil12-7255335nil9") 0
 
 -- `select` counts from the front, or from the end.
 --     return {f=function(...)
@@ -292,7 +287,7 @@ selecting = stats_of (ReturnS 1 (exps_of (TableE 1 (fields_of (Pair (TextE 1 (co
     ∷ [])) ∷ [])))) ∷ [])) ∷ [])) ∷ [])
 
 abbrev pub Selecting : Type 0
-Selecting = without_steps (invoked (codes "X") 98 selecting 6000) ≡ Gives (codes "by2") 0
+Selecting = without_steps (invoke_module (codes "X") 98 selecting 6000) ≡ Gives (codes "by2") 0
 
 -- `unpack` reads the entries of a list.
 --     return {f=function(...)
@@ -315,7 +310,7 @@ unpacking = stats_of (ReturnS 1 (exps_of (TableE 1 (fields_of (Pair (TextE 1 (co
     ∷ [])) ∷ [])))) ∷ [])) ∷ [])) ∷ [])
 
 abbrev pub Unpacking : Type 0
-Unpacking = without_steps (invoked (codes "X") 88 unpacking 6000) ≡ Gives (codes "356") 0
+Unpacking = without_steps (invoke_module (codes "X") 88 unpacking 6000) ≡ Gives (codes "356") 0
 
 -- `assert` gives its arguments, or raises its message.
 --     return {f=function(...)
@@ -335,7 +330,7 @@ assertions = stats_of (ReturnS 1 (exps_of (TableE 1 (fields_of (Pair (TextE 1 (c
     ∷ [])))) ∷ [])) ∷ [])) ∷ [])
 
 abbrev pub Assertions : Type 0
-Assertions = without_steps (invoked (codes "X") 125 assertions 6000) ≡ Gives (codes "1noassertion failed!") 0
+Assertions = without_steps (invoke_module (codes "X") 125 assertions 6000) ≡ Gives (codes "1noassertion failed!") 0
 
 -- ALL OF THEM
 abbrev pub AllValues : Type 0

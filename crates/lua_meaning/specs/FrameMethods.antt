@@ -1,27 +1,28 @@
 -- METHODS OF FRAMES (Scribunto, Frame object). Each finds its frame by the number in the metatable of its first argument, so a copy
 -- of a frame is that frame. They read the tables that they are given without metamethods.
-use Rattle.std.specs.Prelude.{ℕ, ◌+◌, pos, List, [], ◌∷◌, ◌++◌, length, Result, Ok, Err, Option, Some, None, option_map, if◌then◌else◌, slice_set, codes}
+use Rattle.std.specs.Prelude.{ℕ, ◌+◌, pos, List, [], ◌∷◌, ◌++◌, length, Result, Ok, Err, Option, Some, None, if◌then◌else◌, slice_set, codes}
 use Rattle.wk_base.specs.declared.title.Title.{Title}
 use Rattle.wk_base.specs.declared.title.Namespace.{Namespace}
 use Rattle.wk_base.specs.declared.title.Namespace.TheVariants.{Main, Template as TemplateSpace}
 use Rattle.wk_base.specs.declared.title_read.TitleFault.{TitleFault}
 use Rattle.wk_base.specs.Titles.{title_text, title_of}
-use Rattle.lua_heap.specs.Value.{Value, Nil, Truth, Number, Text, Table, is_nil}
+use Rattle.lua_heap.specs.Value.{Value, Nil, Truth, Text, Table, is_nil}
 use Rattle.lua_heap.specs.Table.{Entries}
 use Rattle.lua_heap.specs.Heap.{Heap, table_at}
 use Rattle.lua_heap.specs.declared.library.Library.TheVariants.{ArgumentExpand}
+use Rattle.lua_meaning.specs.Charges.{filled_table_charge, frame_charge}
 use Rattle.lua_meaning.specs.Scope.{Bytes}
 use Rattle.mw_frame.specs.declared.scene.Arg.{Arg}
 use Rattle.mw_frame.specs.declared.scene.Scene.{Scene}
 use Rattle.mw_frame.specs.declared.question.Ask.{Ask}
 use Rattle.mw_frame.specs.declared.question.Ask.TheVariants.{Template, Preprocess}
 use Rattle.lua_meaning.specs.Questions.{Asked, TemplateAsked, TextAsked}
-use Rattle.lua_meaning.specs.Values.{first, rest, second, text_in}
+use Rattle.lua_meaning.specs.Values.{first, rest, text_in}
 use Rattle.lua_meaning.specs.Acts.{Frame, Parent, Nobody, Unmade, Made}
 use Rattle.lua_meaning.specs.Messages.{bad_argument, expected, bad_template_arguments, invalid_title}
 use Rattle.lua_meaning.specs.Metatables.{field, metatable}
 use Rattle.lua_meaning.specs.Arguments.{Plain, PlainEnd, Gives, Fails, Argument, some_value, a_text}
-use Rattle.lua_meaning.specs.Frames.{put_arg, merge_args, arg_named, bytes_of, args_charge, function_entry, with_table, make_frame, frame_table, new_frame, table_of_frame, Numbered, frame_numbered, number_in_metatable}
+use Rattle.lua_meaning.specs.Frames.{merge_args, arg_named, bytes_of, args_charge, function_entry, with_table, make_frame, frame_table, new_frame, table_of_frame, Numbered, frame_numbered, number_in_metatable}
 use Rattle.lua_meaning.specs.Tag.{extension_tag}
 
 -- A TITLE WITH ARGUMENTS, as `expandTemplate` and `newChild` are given them: a table with the fields `title` and `args`
@@ -128,10 +129,10 @@ module _ {X : Type 0} (h : Heap X) (frames : List Frame) where
   abbrev pub get_title : List Value → Framed X
   get_title args = in_frame (codes "getTitle") args (λ self. answers (Text (title_text self.frame.scene.title)))
 
-  -- `frame:getParent()`: the parent is made once, when it is asked for first; that costs 16 steps and its arguments
+  -- `frame:getParent()`: the parent is made once, when it is asked for first; that costs a frame with its arguments
   abbrev pub made_parent : Numbered → Scene → Framed X
   made_parent self scene = record {
-    charge = 16 + args_charge scene.args;
+    charge = frame_charge + args_charge scene.args;
     heap = make_frame scene (length frames) h;
     frames = slice_set frames self.number (record self.frame { parent = Made (length frames) }) ++ new_frame h scene Nobody ∷ [];
     end = FrameEnds (Gives (frame_table h ∷ []));
@@ -162,7 +163,7 @@ module _ {X : Type 0} (h : Heap X) (frames : List Frame) where
   abbrev pub argument_table : Option Bytes → Framed X
   argument_table None = answers Nil
   argument_table (Some text) = record {
-    charge = 16;
+    charge = filled_table_charge 2;
     heap = with_table h (argument_entries text) Nil;
     frames = frames;
     end = FrameEnds (Gives (Table (length h.tables) ∷ []));
@@ -198,10 +199,10 @@ module _ {X : Type 0} (h : Heap X) (frames : List Frame) where
       asks (length (title_text title) + bytes_of read) (Template self.frame.scene title (merge_args [] read)) (TemplateAsked text)))))))
 
   -- `frame:newChild{title=, args=}`: a frame of its own, with this frame as parent and its chain. Without a title it has this frame's.
-  -- It costs 16 steps and all entries that are read.
+  -- It costs a frame with all entries that are read.
   abbrev pub child : Numbered → Title → List Arg → Framed X
   child self title read = let scene : Scene = record { title = title; args = merge_args [] read; chain = self.frame.scene.chain } in record {
-    charge = 16 + args_charge read;
+    charge = frame_charge + args_charge read;
     heap = make_frame scene (length frames) h;
     frames = frames ++ new_frame h scene (Made self.number) ∷ [];
     end = FrameEnds (Gives (frame_table h ∷ []));

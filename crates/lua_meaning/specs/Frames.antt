@@ -8,6 +8,7 @@ use Rattle.lua_heap.specs.Table.{Entries, get, set}
 use Rattle.lua_heap.specs.Heap.{Heap, TableObj, add, table_at}
 use Rattle.lua_heap.specs.declared.library.Library.{Library}
 use Rattle.lua_heap.specs.declared.library.Library.TheVariants.{ArgsIndex, FrameGetParent, FrameExpandTemplate, FramePreprocess, FrameGetArgument, FrameArgumentPairs, FrameNewChild, FrameGetTitle, FrameExtensionTag}
+use Rattle.lua_meaning.specs.Charges.{argument_charge}
 use Rattle.lua_meaning.specs.Scope.{Bytes}
 use Rattle.mw_frame.specs.declared.scene.Arg.{Arg}
 use Rattle.mw_frame.specs.declared.scene.Scene.{Scene}
@@ -29,14 +30,14 @@ abbrev pub arg_named : Bytes → List Arg → Option Bytes
 arg_named name [] = None
 arg_named name (a ∷ more) = if bytes_eq name a.name then Some a.value else arg_named name more
 
--- the bytes of their names and values; and the charge where they stand in a frame, 4 more for each of them
+-- the bytes of their names and values; and their charge where they stand in a frame
 abbrev pub bytes_of : List Arg → ℕ
 bytes_of [] = 0
 bytes_of (a ∷ more) = length a.name + length a.value + bytes_of more
 
 abbrev pub args_charge : List Arg → ℕ
 args_charge [] = 0
-args_charge (a ∷ more) = 4 + length a.name + length a.value + args_charge more
+args_charge (a ∷ more) = argument_charge + length a.name + length a.value + args_charge more
 
 -- THE KEY of an argument's name in `args`: a decimal from 1 on without a leading zero, of at most 18 digits, is a number
 abbrev pub is_place : Bytes → Bool

@@ -59,4 +59,4 @@ home_heap = with_table (with_table (with_table (with_table empty globals Nil) st
 
 -- the state with which a run begins
 abbrev pub home : State
-home = record { heap = home_heap; globals = 0; strings = 1; modules = []; data_ = []; frames = [] }
+home = record { heap = home_heap; globals = 0; strings = 1; modules = []; data_modules = []; frames = [] }

@@ -6,6 +6,7 @@ use Rattle.page_run.specs.Outcome.{◌>>=◌, ◌>>◌, give, tick, see, begin}
 use Rattle.lua_heap.specs.Value.{Value, Nil, Text, Table, Markup, is_nil}
 use Rattle.lua_heap.specs.Table.{get, has}
 use Rattle.lua_heap.specs.Heap.{Heap, table_at, set_in}
+use Rattle.lua_meaning.specs.Charges.{entry_charge}
 use Rattle.lua_meaning.specs.Scope.{Levels, Function}
 use Rattle.lua_meaning.specs.Values.{is_function}
 use Rattle.lua_meaning.specs.Acts.{Act, IndexLink, SetLink, choose, one, see_heap, change_heap}
@@ -41,12 +42,12 @@ index_link object h key ls = choose (is_function h) (call h (object ∷ key ∷ 
 abbrev pub index : Value → Value → Levels → Act Value
 index v key ls = one (index_all v key ls)
 
--- WRITING without handlers: a table that is read-only refuses, and so does the key nil; a new entry costs 4 steps.
+-- WRITING without handlers: a table that is read-only refuses, and so does the key nil; a new entry has its charge.
 abbrev pub put_entry : Heap Function → ℕ → Value → Value → Act (Unit {0})
 put_entry h t key value =
     choose (has (table_at h t).entries key || is_nil value)
     (change_heap (set_in h t key value))
-    (tick 4 >> change_heap (set_in h t key value))
+    (tick entry_charge >> change_heap (set_in h t key value))
 
 abbrev pub set_entry : ℕ → Value → Value → Levels → Act (Unit {0})
 set_entry t key value ls = do

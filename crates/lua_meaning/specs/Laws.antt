@@ -10,8 +10,10 @@ use Rattle.page_run.specs.Perform.{perform, NoRise}
 use Rattle.page_run.specs.Events.{BeginsIs, state_after_reply}
 use Rattle.page_run.specs.Charges.{KeepsCalls, RepliesFit, GivenBack}
 use Rattle.lua_heap.specs.Value.{Value, Table, is_nil}
+use Rattle.lua_heap.specs.declared.library.Library.{Library}
+use Rattle.lua_heap.specs.Heap.{Heap}
 use Rattle.lua_heap.specs.Graph.{Graph, join, joined_root}
-use Rattle.lua_meaning.specs.Scope.{Bytes, Scope, Levels, cell_of, levels}
+use Rattle.lua_meaning.specs.Scope.{Bytes, Scope, Function, Levels, cell_of, levels}
 use Rattle.mw_frame.specs.declared.question.Ask.{Ask}
 use Rattle.mw_frame.specs.declared.question.Ask.TheVariants.{Data}
 use Rattle.lua_meaning.specs.Questions.{Answer, Loaded, Asked, DataAsked}
@@ -20,12 +22,12 @@ use Rattle.lua_meaning.specs.Acts.{LuaRun, Jump, Raised, Running, State, Thing, 
 use Rattle.lua_meaning.specs.Parts.{Target}
 use Rattle.lua_meaning.specs.Expressions.{name_target}
 use Rattle.lua_meaning.specs.Meaning.{expression, target, statement}
-use Rattle.lua_meaning.specs.FrameMethods.{FrameAsks}
+use Rattle.lua_meaning.specs.FrameMethods.{FramedEnd, FrameAsks}
 use Rattle.lua_meaning.specs.Waiting.{Waits, calling, asking}
 use Rattle.lua_meaning.specs.CallBacks.{pcall, xpcall, xpcall_answer, to_string_by, pairs_by, ipairs_by}
 use Rattle.lua_meaning.specs.Modules.{run_chunk, keep_module, run_module, load_as}
 use Rattle.lua_meaning.specs.Pending.{PcallWaits, XpcallWaits, HandlerWaits, ToStringWaits, PairsWaits, ModuleWaits, resumes, hears}
-use Rattle.lua_meaning.specs.Libraries.{framed_end}
+use Rattle.lua_meaning.specs.Libraries.{Form, InFrames, form, framed_end}
 use Rattle.lua_meaning.specs.Things.{meaning_of}
 use Rattle.lua_meaning.specs.Home.{home}
 use Rattle.lua_meaning.specs.World.{Module, World}
@@ -117,3 +119,16 @@ TablesAreJoined = (world : World) (beyond : Replier Ask Answer) → NoRise beyon
     (s : Middle State Answer) (r : Reply Answer) (more : List (Reply Answer)) (graph : Graph) → s.replies ≡ r ∷ more → r.response ≡ Responds (Loaded graph) →
     perform (meaning_of world) beyond (asking question waits k) s
     ≡ perform (meaning_of world) beyond (waits (Goes (joined_root s.heap.heap ∷ [])) k) (record (state_after_reply r more s) { heap = record s.heap { heap = join true graph s.heap.heap } })
+
+-- WITHOUT A FRAME, as in the run of a data module, no function of the library asks for a template or a text, nor makes a frame,
+-- whatever its arguments and the heap are.
+abbrev pub AsksNothing : FramedEnd → Type 0
+AsksNothing (FrameAsks question asked) = ⊥
+AsksNothing end = Unit {0}
+
+abbrev pub NeedsNoFrame : {X : Type 0} → Form X → Type 0
+NeedsNoFrame (InFrames framed) = AsksNothing framed.end × (framed.frames ≡ [])
+NeedsNoFrame other = Unit {0}
+
+abbrev pub FramesAreNeeded : Type 0
+FramesAreNeeded = (world : World) (which : Library) (args : List Value) (h : Heap Function) → NeedsNoFrame (form world which args h [])

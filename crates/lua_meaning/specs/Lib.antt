@@ -1,3 +1,4 @@
+pub mod Charges
 pub mod Scope
 pub mod Titled
 pub mod World

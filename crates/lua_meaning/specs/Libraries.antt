@@ -1,5 +1,5 @@
 -- THE LIBRARY (manual 5): a table with a line for each of its functions, and what a function does that is entered.
-use Rattle.std.specs.Prelude.{List, [], ◌∷◌, Option, Some, None}
+use Rattle.std.specs.Prelude.{List, [], ◌∷◌}
 use Rattle.page_run.specs.Outcome.{◌>>=◌, ◌>>◌, tick, see, change}
 use Rattle.lua_heap.specs.Value.{Value}
 use Rattle.lua_heap.specs.Heap.{Heap}

@@ -1,23 +1,23 @@
 -- MODULES (manual 5.3; Scribunto, "require" and mw.loadData).
-use Rattle.std.specs.Prelude.{ℕ, ◌-◌, pos, true, List, [], ◌∷◌, ◌++◌, length, Option, Some, None, Result, Ok, Err, if◌then◌else◌, bytes_eq, slice_index_or, codes}
+use Rattle.std.specs.Prelude.{ℕ, ◌-◌, true, List, [], ◌∷◌, ◌++◌, length, Option, Some, None, Result, Ok, Err, if◌then◌else◌, bytes_eq, slice_index_or, codes}
 use Rattle.wk_base.specs.declared.title.Title.{Title}
 use Rattle.wk_base.specs.declared.title.Namespace.TheVariants.{Main}
 use Rattle.wk_base.specs.declared.title_read.TitleFault.{TitleFault}
 use Rattle.wk_base.specs.Titles.{title_text, title_of}
 use Rattle.lua_syntax.specs.declared.fault.FaultAt.{FaultAt}
 use Rattle.lua_syntax.specs.Tree.{Block}
-use Rattle.page_run.specs.Outcome.{Outcome, Goes, Jumps, ◌>>=◌, ◌>>◌, give, jump, catch, tick, see, change, begin}
+use Rattle.page_run.specs.Outcome.{Goes, Jumps, ◌>>=◌, ◌>>◌, give, jump, catch, tick, see, change, begin}
 use Rattle.lua_heap.specs.Value.{Value, Nil, Truth, Text, Table, is_nil}
 use Rattle.lua_heap.specs.Table.{Entries}
 use Rattle.lua_heap.specs.Heap.{Heap, set_meta_in}
 use Rattle.lua_heap.specs.declared.library.Library.TheVariants.{StrictIndex, StrictNewIndex}
+use Rattle.lua_meaning.specs.Charges.{filled_table_charge}
 use Rattle.lua_meaning.specs.Scope.{Bytes, Levels}
 use Rattle.lua_meaning.specs.World.{Module, World}
-use Rattle.lua_meaning.specs.Titled.{ByTitle, item_of, with_item, without_item}
+use Rattle.lua_meaning.specs.Titled.{item_of, with_item, without_item}
 use Rattle.mw_frame.specs.declared.question.Ask.TheVariants.{Data}
-use Rattle.lua_meaning.specs.Questions.{DataAsked}
-use Rattle.lua_meaning.specs.Values.{first, rest, second, text_in}
-use Rattle.lua_meaning.specs.Acts.{Act, Jump, Raised, Progress, Running, Finished, State, ChunkBody, raise, choose, see_heap}
+use Rattle.lua_meaning.specs.Values.{first, second}
+use Rattle.lua_meaning.specs.Acts.{Act, Raised, Progress, Running, Finished, State, ChunkBody, raise, choose}
 use Rattle.lua_meaning.specs.Messages.{place_text, fail, no_module, loop_in_require, no_data_module, undeclared_variable, undeclared_target}
 use Rattle.lua_meaning.specs.Arguments.{Plain, fails, a_text}
 use Rattle.lua_meaning.specs.Frames.{function_entry, with_table}
@@ -94,7 +94,7 @@ with_meta s = record s { heap = set_meta_in (with_table s.heap strict_meta Nil) 
 
 abbrev pub require_strict : Act (List Value)
 require_strict = do
-  tick 16
+  tick (filled_table_charge 2)
   s ← see
   change (with_meta s)
   give (Truth true ∷ [])
@@ -122,7 +122,7 @@ require world args callers = do
 abbrev pub keep_data : Title → Value → Act (Unit {0})
 keep_data title root = do
   s ← see
-  change (record s { data_ = with_item s.data_ title root })
+  change (record s { data_modules = with_item s.data_modules title root })
 
 abbrev pub data_answer : Bytes → Title → Levels → Waits
 data_answer text title callers (Goes (Table t ∷ [])) = do
@@ -139,7 +139,7 @@ load_as text title None callers = asking (Data title) (data_answer text title ca
 abbrev pub load_titled : Bytes → Result Title TitleFault → Levels → Act (List Value)
 load_titled text (Ok title) callers = do
   s ← see
-  load_as text title (item_of s.data_ title) callers
+  load_as text title (item_of s.data_modules title) callers
 load_titled text (Err fault) callers = fail callers (no_data_module text)
 
 abbrev pub load_data : List Value → Levels → Act (List Value)

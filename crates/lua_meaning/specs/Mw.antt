@@ -6,6 +6,7 @@ use Rattle.lua_heap.specs.Value.{Value, Nil, Text, Table}
 use Rattle.lua_heap.specs.Table.{Entries}
 use Rattle.lua_heap.specs.Heap.{Heap}
 use Rattle.lua_walk.specs.Copy.{copied, copy_cost}
+use Rattle.lua_meaning.specs.Charges.{filled_table_charge}
 use Rattle.lua_meaning.specs.Values.{first}
 use Rattle.lua_meaning.specs.Arguments.{Plain, gives, costs}
 use Rattle.lua_meaning.specs.Frames.{with_table}
@@ -18,7 +19,7 @@ log args h = gives h []
 abbrev pub clone : {X : Type 0} → List Value → Heap X → Plain X
 clone args h = costs (copy_cost h (first args)) (copied h (first args)).0 ((copied h (first args)).1 ∷ [])
 
--- `mw.title.getCurrentTitle()` gives a table with the texts of the page's title. It costs a table with three entries.
+-- `mw.title.getCurrentTitle()` gives a table with the texts of the page's title.
 abbrev pub title_entries : Title → Entries
 title_entries title =
     (Text (codes "text"), Text title.name)
@@ -27,4 +28,4 @@ title_entries title =
     ∷ []
 
 abbrev pub get_current_title : {X : Type 0} → Title → Heap X → Plain X
-get_current_title page h = costs 20 (with_table h (title_entries page) Nil) (Table (length h.tables) ∷ [])
+get_current_title page h = costs (filled_table_charge 3) (with_table h (title_entries page) Nil) (Table (length h.tables) ∷ [])

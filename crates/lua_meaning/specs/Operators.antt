@@ -3,7 +3,7 @@ use Rattle.std.specs.Prelude.{min, ℤ, pos, Bool, true, false, not, [], ◌∷�
 use Rattle.page_run.specs.Outcome.{◌>>=◌, ◌>>◌, give, tick}
 use Rattle.lua_number.specs.declared.arithmetic.NumberFault.{NumberFault}
 use Rattle.lua_number.specs.Whole.{sum_of, difference_of, product_of, quotient_of, remainder_of, power_of, negative_of}
-use Rattle.lua_heap.specs.Value.{Value, Nil, Truth, Number, Text, Table, same, is_true, is_nil}
+use Rattle.lua_heap.specs.Value.{Value, Truth, Number, Text, Table, same, is_true, is_nil}
 use Rattle.lua_heap.specs.Table.{border}
 use Rattle.lua_heap.specs.Heap.{table_at}
 use Rattle.lua_meaning.specs.Scope.{Bytes, Levels}

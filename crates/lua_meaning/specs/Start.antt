@@ -7,10 +7,10 @@ use Rattle.page_run.specs.Run.{Ends}
 use Rattle.page_run.specs.Outcome.{Outcome, Goes, Jumps, ◌>>=◌, ◌>>◌, give, tick, see, change}
 use Rattle.page_run.specs.State.{Reply, Event, start}
 use Rattle.page_run.specs.Perform.{perform, wait}
-use Rattle.lua_heap.specs.Value.{Value, Nil, Text, Table, is_nil}
+use Rattle.lua_heap.specs.Value.{Value, Text, Table, is_nil}
+use Rattle.lua_meaning.specs.Charges.{run_charge}
 use Rattle.lua_meaning.specs.Scope.{Bytes}
 use Rattle.lua_meaning.specs.World.{Module, World}
-use Rattle.mw_frame.specs.declared.scene.Arg.{Arg}
 use Rattle.mw_frame.specs.declared.scene.Job.{Job}
 use Rattle.mw_frame.specs.declared.question.Ask.{Ask}
 use Rattle.lua_meaning.specs.Questions.{Answer}
@@ -76,8 +76,7 @@ shown_error None v = codes "the error is a " ++ kind_of v ++ codes " value"
 abbrev pub error_text : Value → Bytes
 error_text v = shown_error (text_in v) v
 
--- AN INVOCATION costs 1,000 steps, and for each argument 4 and the bytes of its name and value. The module runs as `require` would
--- run it; its value must be a table, no object of mw.html, and the value there at the function's name a function, which is called
+-- AN INVOCATION: the module runs as `require` would run it; its value must be a table, no object of mw.html, and the value there at the function's name a function, which is called
 -- with the frame.
 abbrev pub invoke_function : Bytes → Value → Value → Act End
 invoke_function name f frame =
@@ -95,13 +94,13 @@ invoke_in name v frame = give (Failed (codes "Script error: The module returned 
 
 abbrev pub invoke : World → Job → Act End
 invoke world job = do
-  tick 1000
+  tick run_charge
   tick (args_charge job.scene.args)
   frame ← begin_frame job
   module_ ← one (require_module world (title_text job.«module») job.«module» [])
   invoke_in job.function module_ frame
 
--- THE RUN OF A DATA MODULE costs 1,000 steps, has no frame, and must give a table. What that may hold is tested when it is taken out
+-- THE RUN OF A DATA MODULE has no frame, and must give a table. What that may hold is tested when it is taken out
 -- of the heap.
 abbrev pub data_value : Value → End
 data_value (Table t) = DoneData (Table t)
@@ -113,7 +112,7 @@ run_data_module title None = fail [] (no_data_module (title_text title))
 
 abbrev pub run_data : World → Title → Act End
 run_data world title = do
-  tick 1000
+  tick run_charge
   vs ← run_data_module title (world.modules title)
   give (data_value (first vs))
 

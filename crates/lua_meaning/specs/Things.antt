@@ -1,5 +1,5 @@
 -- WHAT EACH THING MEANS that begins. A function entered, and a turn of a loop, are counted like the nodes of the tree.
-use Rattle.std.specs.Prelude.{ℕ, List, [], length, drop, if◌then◌else◌}
+use Rattle.std.specs.Prelude.{List, [], length, drop, if◌then◌else◌}
 use Rattle.page_run.specs.Outcome.{Outcome, Goes, Jumps, ◌>>=◌, ◌>>◌, give, jump, catch, count, in_call}
 use Rattle.lua_syntax.specs.Tree.{Block}
 use Rattle.lua_heap.specs.Value.{Value}

@@ -72,39 +72,39 @@ without_steps (Fails t steps) = Fails t 0
 without_steps s = s
 
 -- the function `f` of a module is invoked: the arguments, the calls, the module's name, the size of its text, its tree, and the steps
-abbrev pub invoked_on : List Arg → ℕ → Bytes → ℕ → Block → ℕ → Seen
-invoked_on args calls name size body steps = seen (lua (in_world (one_module size body)) (Invoke (job name args)) (allowance steps calls) [])
+abbrev pub invoke_with_args : List Arg → ℕ → Bytes → ℕ → Block → ℕ → Seen
+invoke_with_args args calls name size body steps = seen (lua (in_world (one_module size body)) (Invoke (job name args)) (allowance steps calls) [])
 
 -- without arguments
-abbrev pub invoked_with : ℕ → Bytes → ℕ → Block → ℕ → Seen
-invoked_with calls name size body steps = invoked_on [] calls name size body steps
+abbrev pub invoke_with_calls : ℕ → Bytes → ℕ → Block → ℕ → Seen
+invoke_with_calls calls name size body steps = invoke_with_args [] calls name size body steps
 
 -- and with the calls of a page
-abbrev pub invoked : Bytes → ℕ → Block → ℕ → Seen
-invoked name size body steps = invoked_with 20000 name size body steps
+abbrev pub invoke_module : Bytes → ℕ → Block → ℕ → Seen
+invoke_module name size body steps = invoke_with_calls 20000 name size body steps
 
 -- a module is loaded as data
-abbrev pub loaded : Bytes → ℕ → Block → ℕ → Seen
-loaded name size body steps = seen (lua (in_world (one_module size body)) (DataOf (module_title name)) (allowance steps 20000) [])
+abbrev pub load_module : Bytes → ℕ → Block → ℕ → Seen
+load_module name size body steps = seen (lua (in_world (one_module size body)) (DataOf (module_title name)) (allowance steps 20000) [])
 
 -- a text is invoked that is no chunk
-abbrev pub faulted : Bytes → ℕ → ℕ → ℕ → ℕ → Seen
-faulted name size kind line steps = seen (lua (in_world (no_chunk size kind line)) (Invoke (job name [])) (allowance steps 20000) [])
+abbrev pub invoke_fault : Bytes → ℕ → ℕ → ℕ → ℕ → Seen
+invoke_fault name size kind line steps = seen (lua (in_world (no_chunk size kind line)) (Invoke (job name [])) (allowance steps 20000) [])
 
 -- the nodes, turns of loops and functions entered that were counted, with enough of all
-abbrev pub counted : Bytes → ℕ → Block → ℕ → ℕ
-counted name size body steps = (moment_of (lua (in_world (one_module size body)) (Invoke (job name [])) (allowance steps 20000) [])).tally.nodes
+abbrev pub count_nodes : Bytes → ℕ → Block → ℕ → ℕ
+count_nodes name size body steps = (moment_of (lua (in_world (one_module size body)) (Invoke (job name [])) (allowance steps 20000) [])).tally.nodes
 
 -- SEVERAL MODULES, and an invocation in the body of template T, which has two arguments
-pub record Held : Type 0 where
+pub record ModuleText : Type 0 where
   pub name : Bytes
   pub size : ℕ
   pub body : Block
 
-abbrev pub held : Bytes → ℕ → Block → Held
-held name size body = record { name = name; size = size; body = body }
+abbrev pub module_text : Bytes → ℕ → Block → ModuleText
+module_text name size body = record { name = name; size = size; body = body }
 
-abbrev pub modules_of : List Held → Modules
+abbrev pub modules_of : List ModuleText → Modules
 modules_of [] title = None
 modules_of (m ∷ ms) title =
     if same_title (module_title m.name) title then Some (record { size = m.size; chunk = Ok m.body }) else modules_of ms title
@@ -130,8 +130,8 @@ abbrev pub reply : Answer → ℕ → Reply Answer
 reply answer steps = record { response = Says answer; left = allowance steps 19000; tally = no_tally }
 
 -- a reply that spends the run
-abbrev pub spent : Which → Reply Answer
-spent which = record { response = Exhausts which; left = allowance 0 19000; tally = no_tally }
+abbrev pub exhausts : Which → Reply Answer
+exhausts which = record { response = Exhausts which; left = allowance 0 19000; tally = no_tally }
 
-abbrev pub asked : List Held → List Arg → Bytes → ℕ → List (Reply Answer) → Seen
-asked modules args name steps replies = seen (lua (in_world (modules_of modules)) (Invoke (job_in_template name args)) (allowance steps 20000) replies)
+abbrev pub invoke_in_template : List ModuleText → List Arg → Bytes → ℕ → List (Reply Answer) → Seen
+invoke_in_template modules args name steps replies = seen (lua (in_world (modules_of modules)) (Invoke (job_in_template name args)) (allowance steps 20000) replies)

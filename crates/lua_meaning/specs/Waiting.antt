@@ -6,7 +6,7 @@ use Rattle.lua_heap.specs.Graph.{join, joined_root}
 use Rattle.lua_meaning.specs.Scope.{Bytes, Levels}
 use Rattle.mw_frame.specs.declared.question.Ask.{Ask}
 use Rattle.lua_meaning.specs.Questions.{Answer, Expanded, NoPage, Loaded, LoadFailed}
-use Rattle.lua_meaning.specs.Acts.{Act, Jump, Raised, raise, see_heap, change_heap}
+use Rattle.lua_meaning.specs.Acts.{Act, Jump, raise, see_heap, change_heap}
 use Rattle.lua_meaning.specs.Messages.{fail, wrong_answer}
 use Rattle.lua_meaning.specs.Calls.{call}
 use Rattle.lua_meaning.specs.Arguments.{Argument}

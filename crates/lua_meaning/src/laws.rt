@@ -1,5 +1,5 @@
 //! The laws of the meaning: `specs/Laws.antt` says them.
-ghost use Rattle.lua_meaning.specs.Laws.{ThingsUnfold, ExpressionsAreNodes, StatementsAreNodes, TargetNamesAreNone, TurnsAreCounted, EntriesAreCounted, CallsAreGivenBack, MoreChangesNothing, EndsAreTold, CallsAreNamed, ModulesAreNamed, QuestionsAreNamed, TablesAreJoined};
+ghost use Rattle.lua_meaning.specs.Laws.{ThingsUnfold, ExpressionsAreNodes, StatementsAreNodes, TargetNamesAreNone, TurnsAreCounted, EntriesAreCounted, CallsAreGivenBack, MoreChangesNothing, EndsAreTold, CallsAreNamed, ModulesAreNamed, QuestionsAreNamed, TablesAreJoined, FramesAreNeeded};
 
 /// A thing that begins takes one step and does what it means; where no step is left, the run is spent. This is the meaning of
 /// loops, of functions and of chains of handlers, said without a bound on their number.
@@ -55,4 +55,10 @@ pub fn tables_are_joined()
 #[tactic(auto, using(crate::proofs::MeaningLaws::ends_are_told))]
 pub fn ends_are_told()
     ensures { EndsAreTold }
+{}
+
+/// Where a run has no frame, as that of a data module, no function of the library asks for a template or a text, nor makes a
+/// frame.
+pub fn frames_are_needed()
+    ensures { FramesAreNeeded }
 {}

@@ -6,7 +6,7 @@
 //!
 //! - `Acts`: the state of a run, the things that begin in it, and what its parts are written with
 //! - `Scope`, `Titled`, `World`, `Questions`, `Values`: names and places of the text, what is kept by title, modules, answers
-//! - `Messages`: errors, their places and their texts
+//! - `Charges`, `Messages`: each number of steps once; errors, their places and their texts
 //! - `Metatables`, `Calls`, `Index`, `Operators`: what is done with values
 //! - `Parts`, `Expressions`, `Constructors`, `Statements`, `Loops`: what each form of the text does
 //! - `Meaning`: one line for each form of the tree
@@ -22,7 +22,8 @@
 //!
 //! Each function has an empty body, and its contract is a law about those definitions:
 //!
-//! - `laws`: things unfold, what is counted, calls are given back, more allowance changes nothing, what waits is named
+//! - `laws`: things unfold, what is counted, calls are given back, more allowance changes nothing, what waits is named, and
+//!   what a run without frames does not ask
 //! - `examples`: what small modules give
 #![tactic(auto)]
 

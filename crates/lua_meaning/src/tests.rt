@@ -12,6 +12,7 @@ fn laws_are_called(_rt: HostRuntime) -> Result<(), Fail> {
     laws::more_changes_nothing();
     laws::waits_are_named();
     laws::tables_are_joined();
+    laws::frames_are_needed();
     laws::ends_are_told();
     examples::charges();
     examples::costs();

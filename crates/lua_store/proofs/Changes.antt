@@ -1,5 +1,5 @@
 -- WHAT EACH CALL MAKES OF A STORE: of what is kept, and of what is seen.
-use Rattle.std.proofs.Common.{◌≡◌, ℕ, zero, suc, ◌<◌, ◌≤◌, Bool, true, false, true≢false, cond, List, [], ◌∷◌, ◌++◌, length, map, refl, sym, ap, ◌∙◌, arith, subst, slice_get, slice_set, Some}
+use Rattle.std.proofs.Common.{◌≡◌, ◌≢◌, ℕ, zero, suc, ◌<◌, ◌≤◌, Bool, true, false, true≢false, cond, List, [], ◌∷◌, ◌++◌, length, map, refl, sym, ap, ◌∙◌, arith, subst, slice_get, slice_set, Some}
 use Rattle.std.specs.Option.{option_map}
 use Rattle.std.proofs.lemmas.Option.{slice_get-map, get_or_from_slice_get, slice_get_within}
 use Rattle.std.proofs.lemmas.Bool.{or_parts}
@@ -7,9 +7,11 @@ use Rattle.std.proofs.lemmas.Slice.Eq.{bytes_eq-Decides}
 use Rattle.std.proofs.lemmas.List.{length-append, length-set, length-map, map-append, map-set}
 use Rattle.std.proofs.Math.ListN.{get_or-map}
 use Rattle.std.specs.List.{IsDistinct, list_any}
-use Rattle.std.specs.Prelude.{Result, Ok, Err, OnOk, OnErr}
+use Rattle.std.specs.Prelude.{Result, Ok, Err, OnOk, OnErr, ◌↔◌}
 use Rattle.std.specs.Str.{bytes_eq}
 use Rattle.lua_table.specs.Entries.{Contents, is_there}
+use Rattle.lua_table.specs.declared.table.SetFault.{SetFault}
+use Rattle.lua_table.specs.declared.table.SetFault.TheVariants.{Frozen, NotAKey}
 use Rattle.lua_heap.specs.Value as heap
 use Rattle.lua_heap.specs.Value.{same, is_nil}
 use Rattle.lua_heap.specs.Table.{has}
@@ -30,7 +32,8 @@ use Rattle.lua_store.specs.Seen.{StoreView, text_at, seen, seen_table, seen_clos
 use Rattle.lua_store.specs.Parts.{Parts, view_of, IsTableOf, IsCellOf, IsClosureOf, IsMarkupOf, IsOf, IsContentsOf, IsContentOf, IsNodeOf, AreOf, IsWhole, no_contents, table_in, with_entry, with_text, IsLater}
 use Rattle.lua_store.proofs.Lists.{all-at, all-set, all-push, map-alike}
 use Rattle.lua_store.proofs.EntryMaps.{set_at-seen, set_at-holds, is_there-seen}
-use Rattle.lua_store.proofs.Equal.{eq-seen, one_place}
+use Rattle.lua_table.proofs.SetLemmas.{HasKeys-set, HasKeys-empty}
+use Rattle.lua_store.proofs.Equal.{eq-seen, eq-laws, one_place}
 use Rattle.lua_store.proofs.Later.{longer-itself, longer-push, later-itself, are_of-later, contents_of-later, table-later, content_of-later, closure-later, of-later, seen-later, node_of-later, node-later}
 
 -- what is kept is whole afterwards, and shows what the definitions of the heap say
@@ -102,7 +105,7 @@ module _ (p : Parts) (w : IsWhole p) where
   made_table = became p (record p { tables = p.tables ++ no_contents ∷ [] }) (record (view_of p) { heap = (new_table (view_of p).heap).0 }) w w.distinct
       (ap (λ ts. let s : StoreView = record (view_of p) { heap = record (view_of p).heap { tables = ts } } in s) (map-append (seen_table p.texts) p.tables (no_contents ∷ [])))
       (tables-later (view_of p) (new_table (view_of p).heap).0.tables (more (view_of p).heap.tables (seen_table p.texts no_contents)))
-      (λ own. record { tables = all-push (IsContentsOf _) p.tables no_contents own.tables (record { entries = tt; meta = tt }); cells = own.cells; closures = own.closures; markup = own.markup })
+      (λ own. record { tables = all-push (IsContentsOf _) p.tables no_contents own.tables (record { entries = tt; meta = tt; keys = HasKeys-empty ghosts.eq Nil }); cells = own.cells; closures = own.closures; markup = own.markup })
 
   pub put_table : (id : ℕ) (t : Contents Value) → IsContentsOf (view_of p) t
       → Became p (record p { tables = slice_set p.tables id t }) (record (view_of p) { heap = record (view_of p).heap { tables = slice_set (view_of p).heap.tables id (seen_table p.texts t) } })
@@ -124,12 +127,12 @@ module _ (p : Parts) (w : IsWhole p) where
       → Became p (record p { tables = slice_set p.tables id t }) (record (view_of p) { heap = put (view_of p).heap (tab id) (TableObj u) })
   changed_table id t u of e = subst (λ x. Became p (record p { tables = slice_set p.tables id t }) (record (view_of p) { heap = put (view_of p).heap (tab id) (TableObj x) })) e (put_table id t of)
 
-  pub set_table : (id : ℕ) (key value : Value) → id < length p.tables → IsOf (view_of p) key → IsOf (view_of p) value
+  pub set_table : (id : ℕ) (key value : Value) → id < length p.tables → IsOf (view_of p) key → IsOf (view_of p) value → key ≢ Nil
       → Became p (record p { tables = slice_set p.tables id (with_entry (table_in p.tables id) key value) }) (record (view_of p) { heap = set_in (view_of p).heap id (seen p.texts key) (seen p.texts value) })
-  set_table id key value h k v =
+  set_table id key value h k v named =
       let of = table_in-of id h in
       changed_table id (with_entry (table_in p.tables id) key value) (entry_set (table_at (view_of p).heap id) (seen p.texts key) (seen p.texts value))
-      (record { entries = set_at-holds ghosts.eq same (seen p.texts) (IsOf (view_of p)) (eq-seen (view_of p) w.distinct) Nil tt (table_in p.tables id).entries key value of.entries k v; meta = of.meta })
+      (record { entries = set_at-holds ghosts.eq same (seen p.texts) (IsOf (view_of p)) (eq-seen (view_of p) w.distinct) Nil tt (table_in p.tables id).entries key value of.entries k v; meta = of.meta; keys = HasKeys-set ghosts.eq Nil eq-laws (table_in p.tables id).entries key value named of.keys })
       (ap (λ es. let t : Contents heap.Value = record { entries = es; meta = seen p.texts (table_in p.tables id).meta; frozen = (table_in p.tables id).frozen } in t)
       (set_at-seen ghosts.eq same (seen p.texts) (IsOf (view_of p)) (eq-seen (view_of p) w.distinct) Nil tt (table_in p.tables id).entries key value of.entries k v)
       ∙ ap (λ t. entry_set t (seen p.texts key) (seen p.texts value)) (sym (table_in-seen id)))
@@ -138,14 +141,14 @@ module _ (p : Parts) (w : IsWhole p) where
       → Became p (record p { tables = slice_set p.tables id (record (table_in p.tables id) { meta = meta }) }) (record (view_of p) { heap = set_meta_in (view_of p).heap id (seen p.texts meta) })
   set_meta_table id meta h m =
       changed_table id (record (table_in p.tables id) { meta = meta }) (record (table_at (view_of p).heap id) { meta = seen p.texts meta })
-      (record { entries = (table_in-of id h).entries; meta = m })
+      (record { entries = (table_in-of id h).entries; meta = m; keys = (table_in-of id h).keys })
       (ap (λ (t : Contents heap.Value). let u : Contents heap.Value = record t { meta = seen p.texts meta } in u) (sym (table_in-seen id)))
 
   pub freeze_table : (id : ℕ) → id < length p.tables
       → Became p (record p { tables = slice_set p.tables id (record (table_in p.tables id) { frozen = true }) }) (record (view_of p) { heap = freeze_in (view_of p).heap id })
   freeze_table id h =
       changed_table id (record (table_in p.tables id) { frozen = true }) (record (table_at (view_of p).heap id) { frozen = true })
-      (record { entries = (table_in-of id h).entries; meta = (table_in-of id h).meta })
+      (record { entries = (table_in-of id h).entries; meta = (table_in-of id h).meta; keys = (table_in-of id h).keys })
       (ap (λ (t : Contents heap.Value). let u : Contents heap.Value = record t { frozen = true } in u) (sym (table_in-seen id)))
 
   -- CELLS
@@ -240,6 +243,9 @@ pub markup_place : (p : Parts) (s : StoreView) → view_of p ≡ s → (id : Mar
 markup_place p s shown id h = let e = length-map p.markup (seen_node p.texts) in let f = ap (λ (t : StoreView). length t.heap.markup) shown in omega (arith, e, f, h)
 
 -- A set that may be refused
+ok-err : (b : Bool) (e : SetFault) → ◌≡◌ {A = Result Bool SetFault} (Ok b) (Err e) → ⊥
+ok-err b e h = cc
+
 pub on_ok : {R F : Type 0} {A B : Type 0} (r : Result R F) → OnOk r A → (A → B) → OnOk r B
 on_ok (Ok x) a f = f a
 on_ok (Err e) a f = tt
@@ -251,6 +257,16 @@ of_both (Err e) a b = b
 pub on_err : {R F : Type 0} {A B : Type 0} (r : Result R F) → OnErr r A → (A → B) → OnErr r B
 on_err (Ok x) a f = tt
 on_err (Err e) a f = f a
+
+pub both_ok : {R F : Type 0} (A B : Type 0) (r : Result R F) → OnOk r A → OnOk r B → OnOk r (A × B)
+both_ok A B (Ok x) a b = (a, b)
+both_ok A B (Err e) a b = tt
+
+-- a key that was set is not nil
+pub named_ok : (r : Result Bool SetFault) (frozen : Bool) (key : Value) → ((r ≡ Err Frozen) ↔ (frozen ≡ true)) → ((r ≡ Err NotAKey) ↔ ((frozen ≡ false) × (key ≡ Nil))) → OnOk r (key ≢ Nil)
+named_ok (Err e) frozen key f n = tt
+named_ok (Ok made) true key f n = absurd (ok-err made Frozen (f.1 refl))
+named_ok (Ok made) false key f n = λ is. ok-err made NotAKey (n.1 (refl, is))
 
 -- what is seen of a key's entry, and of nil
 pub nil-seen : (texts : List (List ℕ)) (v : Value) → is_nil (seen texts v) ≡ ghosts.eq v Nil

@@ -1,5 +1,6 @@
 -- Two values of one store are the same value exactly where what is seen of them is.
 use Rattle.std.proofs.Common.{◌≡◌, ℕ, zero, suc, ◌<◌, true, false, true≢false, List, [], ◌∷◌, length, refl, sym, ap, ◌∙◌, arith, subst}
+use Rattle.std.specs.Cmp.{IsEquivalence}
 use Rattle.std.specs.List.{IsDistinct}
 use Rattle.std.specs.Str.{bytes_eq}
 use Rattle.std.proofs.lemmas.Slice.Eq.{bytes_eq-Decides}
@@ -46,6 +47,15 @@ same_value-alike (Table id) = (Decides-eqb id.at id.at).1 refl
 same_value-alike (Closure id) = (Decides-eqb id.at id.at).1 refl
 same_value-alike (Builtin id) = true_same the_type id id refl
 same_value-alike (Markup id) = (Decides-eqb id.at id.at).1 refl
+
+pub eq-laws : IsEquivalence ghosts.eq
+eq-laws = record {
+  refl = same_value-alike;
+  symm = λ a b. both_ways (ghosts.eq a b) (ghosts.eq b a)
+      (λ e. subst (λ v. ghosts.eq v a ≡ true) (same_value a b e) (same_value-alike a))
+      (λ e. subst (λ v. ghosts.eq v b ≡ true) (same_value b a e) (same_value-alike b));
+  congr = λ a b c e. ap (λ v. ghosts.eq v c) (same_value a b e);
+}
 
 pub eq-seen : (s : StoreView) → IsDistinct bytes_eq s.texts → (a b : Value) → IsOf s a → IsOf s b → ghosts.eq a b ≡ same (seen s.texts a) (seen s.texts b)
 eq-seen s d a b h k = both_ways (ghosts.eq a b) (same (seen s.texts a) (seen s.texts b))

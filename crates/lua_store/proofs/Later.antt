@@ -75,7 +75,7 @@ module _ (s t : StoreView) (l : IsLater s t) where
   entry_of-later e h = (of-later e.0 h.0, of-later e.1 h.1)
 
   pub contents_of-later : (c : Contents Value) → IsContentsOf s c → IsContentsOf t c
-  contents_of-later c h = record { entries = all-to (IsEntryOf s) (IsEntryOf t) entry_of-later c.entries h.entries; meta = of-later c.meta h.meta }
+  contents_of-later c h = record { entries = all-to (IsEntryOf s) (IsEntryOf t) entry_of-later c.entries h.entries; meta = of-later c.meta h.meta; keys = h.keys }
 
   kind_of-later : (k : ClosureKind) → IsKindOf s k → IsKindOf t k
   kind_of-later (Function p) h = text_of-later p.title h

@@ -7,3 +7,4 @@ pub mod Changes
 pub mod Walks
 pub mod There
 pub mod AtPlaces
+pub mod Keys

@@ -1,9 +1,11 @@
 -- LAWS OF STORES. What is of a store is of each later one, and is seen as it was.
-use Rattle.std.specs.Prelude.{◌≡◌, List}
+use Rattle.lua_heap.specs.Table.{HasValueKeys}
+use Rattle.std.specs.Prelude.{◌≡◌, ℕ, List}
 use Rattle.std.specs.List.{IsDistinct}
 use Rattle.std.specs.Str.{bytes_eq}
 use Rattle.lua_table.specs.Entries.{Contents}
 use Rattle.lua_heap.specs.Proc.{proc_names}
+use Rattle.lua_heap.specs.Heap.{table_at}
 use Rattle.lua_heap.specs.Reach.{is_there, IsClosed}
 use Rattle.lua_store.specs.declared.value.Value.{Value}
 use Rattle.lua_store.specs.declared.closure.Closure.{Closure}
@@ -29,6 +31,10 @@ LaterGoesOn = (s t u : StoreView) → IsLater s t → IsLater t u → IsLater s 
 -- where no text is kept twice, two values that are seen alike are one
 abbrev pub SeenOnce : Type 0
 SeenOnce = (s : StoreView) (a b : Value) → IsDistinct bytes_eq s.texts → IsOf s a → IsOf s b → seen s.texts a ≡ seen s.texts b → a ≡ b
+
+-- each key of a table is there once, and none is nil
+abbrev pub KeysAreOnce : StoreView → Type 0
+KeysAreOnce s = (n : ℕ) → HasValueKeys (table_at s.heap n).entries
 
 -- whatever an object of the store names is there
 abbrev pub NamesWhatIsThere : StoreView → Type 0

@@ -2,7 +2,7 @@
 use Rattle.std.specs.Prelude.{◌≡◌, ℕ, ◌<◌, ◌≤◌, false, List, [], ◌∷◌, ◌++◌, map, length, if◌then◌else◌, Option, Some, None, slice_index_or}
 use Rattle.std.specs.List.{list_any, AllByRecursion, IsDistinct}
 use Rattle.std.specs.Str.{bytes_eq}
-use Rattle.lua_table.specs.Entries.{Contents, set_at}
+use Rattle.lua_table.specs.Entries.{Contents, set_at, HasKeys}
 use Rattle.lua_heap.specs.Heap.{empty, closure_at}
 use Rattle.lua_store.specs.declared.ids.TextId.{TextId}
 use Rattle.lua_store.specs.declared.ids.TableId.{TableId}
@@ -73,9 +73,11 @@ IsOf s (Markup id) = IsMarkupOf s id
 abbrev pub IsEntryOf : StoreView → Value × Value → Type 0
 IsEntryOf s e = IsOf s e.0 × IsOf s e.1
 
+-- a table likewise, in which each key is there once and none is nil
 pub record IsContentsOf (s : StoreView) (t : Contents Value) : Type 0 where
   pub entries : AllByRecursion (IsEntryOf s) t.entries
   pub meta : IsOf s t.meta
+  pub keys : HasKeys ghosts.eq Nil t.entries
 
 abbrev pub AreCellsOf : StoreView → List CellId → Type 0
 AreCellsOf s cells = AllByRecursion (IsCellOf s) cells

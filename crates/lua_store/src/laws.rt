@@ -1,7 +1,7 @@
 //! Laws of stores. Each is the contract of a function that does nothing.
 ghost use Rattle.std.specs.List.{IsDistinct};
 ghost use Rattle.std.specs.Str.{bytes_eq};
-ghost use Rattle.lua_store.specs.Laws.{ValuesStay, TablesStay, ClosuresStay, NodesStay, LaterGoesOn, SeenOnce, NamesWhatIsThere};
+ghost use Rattle.lua_store.specs.Laws.{ValuesStay, TablesStay, ClosuresStay, NodesStay, LaterGoesOn, SeenOnce, KeysAreOnce, NamesWhatIsThere};
 
 use crate::store::Store;
 
@@ -38,6 +38,13 @@ pub fn seen_once()
 /// No store keeps a text twice.
 pub fn texts_are_once(store: &Store)
     ensures { IsDistinct bytes_eq store.now.texts }
+{
+    let _opened = &store.texts;
+}
+
+/// In no table of a store a key is there twice, or nil.
+pub fn keys_are_once(store: &Store)
+    ensures { KeysAreOnce store.now }
 {
     let _opened = &store.texts;
 }

@@ -196,6 +196,7 @@ fn state_laws(store: &Store) {
     laws::later_goes_on();
     laws::seen_once();
     laws::texts_are_once(store);
+    laws::keys_are_once(store);
     laws::names_what_is_there(store);
 }
 

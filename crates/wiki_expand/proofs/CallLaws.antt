@@ -8,20 +8,20 @@ use Rattle.mw_frame.specs.declared.scene.Scene.{Scene}
 use Rattle.page_run.specs.Run.{HasTemplate, EnterTemplate, LeaveTemplate, Uses}
 use Rattle.page_run.specs.Part.{give}
 use Rattle.page_run.specs.Perform.{perform, wait}
-use Rattle.wiki_expand.specs.Texts.{depth_text}
-use Rattle.wiki_expand.specs.Places.{value_in}
-use Rattle.wiki_expand.specs.Expand.{Setting, Page, Doing, choice, giving_back, expand, onward, argument, arguments, none_given, invocation, is_in, body, template, meant}
+use Rattle.expand_meaning.specs.Texts.{depth_text}
+use Rattle.expand_meaning.specs.Places.{value_in}
+use Rattle.expand_meaning.specs.Expand.{Setting, Page, Doing, choice, giving_back, expand, onward, argument, arguments, none_given, invocation, is_in, body, template, value_or, meant}
 use Rattle.wiki_expand.specs.Forests.{trees_in, parts}
-use Rattle.wiki_expand.specs.Points.{ahead, plug, finish, given_in, state, Leads}
+use Rattle.wiki_expand.specs.Points.{ahead, leaving, plug, finish, given_in, state, Leads}
 use Rattle.wiki_expand.specs.declared.frame.Walk.{Walk}
 use Rattle.wiki_expand.specs.declared.frame.Call.{Call}
 use Rattle.wiki_expand.specs.declared.frame.Frame.{Frame}
-use Rattle.wiki_expand.specs.declared.frame.Frame.TheVariants.{Unnamed, Body}
+use Rattle.wiki_expand.specs.declared.frame.Frame.TheVariants.{Level, Unnamed, Body}
 use Rattle.wiki_expand.proofs.Moves.{leads_on, stays, body_there, body_not, body_entered, body_none, from}
 use Rattle.wiki_expand.proofs.PointLaws.{Starts}
 
 pub argument_none : (w : Setting) (sc : Scene) (fs gs : List Frame) (c : Call) (part : Trees) (s : Walk) → None ≡ value_in part → Starts s part → gs ≡ Unnamed c ∷ fs
-    → arguments (part ∷ parts c.rest) sc (given_in c) (finish w c.purpose sc (plug w fs sc)) ≡ onward (ahead s) sc s.out.items (plug w gs sc)
+    → arguments (part ∷ parts c.rest) sc (given_in c) (finish w c.purpose sc (plug w fs sc)) ≡ onward (ahead s) sc s.out (plug w gs sc)
 argument_none w sc fs gs c part s e h d =
     ap (λ v. argument v part sc (given_in c) (λ g. arguments (parts c.rest) sc g (finish w c.purpose sc (plug w fs sc)))) (sym e)
     ∙ sym (h sc (plug w gs sc) ∙ ap (λ hs. expand part sc (plug w hs sc)) d)
@@ -38,7 +38,7 @@ body_depth w t title args sc k l l' x n z i d =
     leads_on w _ _ _ l l l' (stays w _ _ l (second (is_in title sc.chain) _ _ k n)) (leads_on w _ _ _ l l l' (body_none w _ l z) (stays_at w _ _ l l' (ap k (sym d)) i))
 
 pub body_begins : (w : Setting) (t : Trees) (title : Title) (args : List Arg) (sc sc' : Scene) (fs gs : List Frame) (l l' : Left) (s : Walk) → is_in title sc.chain ≡ false → 0 < l.templates → l' ≡ record l { templates = l.templates - 1 } → Starts s t
-    → sc' ≡ record { title = title; args = args; chain = title ∷ sc.chain } → gs ≡ Body sc.title sc.args ∷ fs → Leads w (body t title args sc (plug w fs sc)) l (onward (ahead s) sc' s.out.items (plug w gs sc')) l'
+    → sc' ≡ record { title = title; args = args; chain = title ∷ sc.chain } → gs ≡ Body sc.title sc.args ∷ fs → Leads w (body t title args sc (plug w fs sc)) l (onward (ahead s) sc' s.out (plug w gs sc')) l'
 body_begins w t title args sc sc' fs gs l l' s n z i h c g =
     leads_on w _ _ _ l l l' (stays w _ _ l (second (is_in title sc.chain) _ _ (plug w fs sc) n))
     (leads_on w _ _ _ l l' l' (body_entered w _ l l' z i)
@@ -65,3 +65,13 @@ pub function_starts : (w : Setting) (m : Option Title) (name : List ℕ) (ps : L
 function_starts w m name ps sc k none f x i e =
     ap (λ given. arguments ps sc (record { args = given; number = 1 }) (λ args. invocation m name x args sc k)) (sym i)
     ∙ ap (λ y. arguments ps sc (record { args = none; number = 1 }) (λ args. invocation m name y args sc k)) (sym e)
+
+-- a parameter with an argument, and one with a default
+pub parameter_found : (w : Setting) (sc : Scene) (k : List ℕ → Page) (o : Option (List ℕ)) (v u x : List ℕ) (d : Option Trees) (l l' : Left) (q : Page) → o ≡ Some v → u ≡ v → Leads w (leaving k u) l q l' → Leads w (value_or o x d sc (leaving k)) l q l'
+parameter_found w sc k o v u x d l l' q e f h = from w _ _ q l l' (ap (λ o. value_or o x d sc (leaving k)) e ∙ ap (leaving k) (sym f)) h
+
+pub parameter_default : (w : Setting) (sc : Scene) (fs gs : List Frame) (o : Option (List ℕ)) (x : List ℕ) (d : Option Trees) (t : Trees) (s : Walk) (l : Left) → o ≡ None → d ≡ Some t → Starts s t → gs ≡ Level ∷ fs
+    → Leads w (value_or o x d sc (leaving (plug w fs sc))) l (onward (ahead s) sc s.out (plug w gs sc)) l
+parameter_default w sc fs gs o x d t s l e f h g =
+    stays w _ _ l (ap (λ o. value_or o x d sc (leaving (plug w fs sc))) e ∙ ap (λ d. value_or None x d sc (leaving (plug w fs sc))) f
+    ∙ sym (h sc (plug w gs sc) ∙ ap (λ hs. expand t sc (plug w hs sc)) g))

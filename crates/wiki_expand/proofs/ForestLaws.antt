@@ -6,35 +6,10 @@ use Rattle.std.proofs.Math.ListN.{drop_of_length-le}
 use Rattle.std.specs.List.{slice_get}
 use Rattle.wiki_markup.specs.declared.marked.Node.{Node}
 use Rattle.wiki_markup.specs.Trees.{Trees, done}
-use Rattle.wiki_expand.specs.Places.{planted, reach, trees_by, trees_at}
+use Rattle.expand_meaning.specs.Places.{planted, reach, trees_at}
+use Rattle.expand_meaning.proofs.TreeLaws.{trees_first, no_trees}
 use Rattle.wiki_expand.specs.Forests.{nodes_in, between, trees_in}
 use Rattle.wiki_expand.specs.declared.forest.Forest.{Forest}
-
-short_take : (k : ℕ) (xs : List Node) → length (take k xs) ≤ length xs
-short_take k xs = omega (arith, length-take k xs)
-
-short_drop : (k : ℕ) (xs : List Node) → length (drop k xs) ≤ length xs
-short_drop k xs = omega (arith, length-drop k xs)
-
--- more than enough is enough
-pub trees_enough : (n m at : ℕ) (xs : List Node) → length xs ≤ n → length xs ≤ m → trees_by n at xs ≡ trees_by m at xs
-unfolding trees_by
-trees_enough zero zero at xs ln lm = refl
-trees_enough zero (suc m) at [] ln lm = refl
-trees_enough zero (suc m) at (x ∷ xs) ln lm = absurd (omega arith)
-trees_enough (suc n) zero at [] ln lm = refl
-trees_enough (suc n) zero at (x ∷ xs) ln lm = absurd (omega arith)
-trees_enough (suc n) (suc m) at [] ln lm = refl
-trees_enough (suc n) (suc m) at (x ∷ xs) ln lm =
-    ap (λ t. planted x.kind t (trees_by n (at + 1 + reach at x) (drop (reach at x) xs))) (trees_enough n m (at + 1) (take (reach at x) xs) (omega (arith, short_take (reach at x) xs)) (omega (arith, short_take (reach at x) xs)))
-    ∙ ap (λ t. planted x.kind (trees_by m (at + 1) (take (reach at x) xs)) t) (trees_enough n m (at + 1 + reach at x) (drop (reach at x) xs) (omega (arith, short_drop (reach at x) xs)) (omega (arith, short_drop (reach at x) xs)))
-
--- the first node, what stands in it, and what stands behind it
-pub trees_first : (at : ℕ) (x : Node) (xs : List Node) → trees_at at (x ∷ xs) ≡ planted x.kind (trees_at (at + 1) (take (reach at x) xs)) (trees_at (at + 1 + reach at x) (drop (reach at x) xs))
-unfolding trees_at trees_by
-trees_first at x xs =
-    ap (λ t. planted x.kind t (trees_by (length xs) (at + 1 + reach at x) (drop (reach at x) xs))) (trees_enough (length xs) (length (take (reach at x) xs)) (at + 1) (take (reach at x) xs) (short_take (reach at x) xs) (omega arith))
-    ∙ ap (λ t. planted x.kind (trees_at (at + 1) (take (reach at x) xs)) t) (trees_enough (length xs) (length (drop (reach at x) xs)) (at + 1 + reach at x) (drop (reach at x) xs) (short_drop (reach at x) xs) (omega arith))
 
 drop_here : (xs : List Node) (at : ℕ) (x : Node) → slice_get xs at ≡ Some x → drop at xs ≡ x ∷ drop (suc at) xs
 drop_here [] zero x e = absurd cc
@@ -55,23 +30,10 @@ pub between_first : (nodes : List Node) (at end : ℕ) (x : Node) → at < end �
 between_first nodes at end x h e =
     ap (take (end - at)) (drop_here nodes at x e ∙ ap (λ n. x ∷ drop n nodes) (next_is at)) ∙ some_left at end x (drop (at + 1) nodes) h
 
-drop_none : (xs : List Node) (at : ℕ) → slice_get xs at ≡ None → drop at xs ≡ []
-drop_none [] zero e = refl
-drop_none [] (suc at) e = refl
-drop_none (y ∷ ys) zero e = absurd cc
-drop_none (y ∷ ys) (suc at) e = drop_none ys at e
-
-pub between_none : (nodes : List Node) (at end : ℕ) → slice_get nodes at ≡ None → between at end nodes ≡ []
-between_none nodes at end e = ap (take (end - at)) (drop_none nodes at e) ∙ take_all (end - at) [] (omega arith)
-
 pub between_over : (nodes : List Node) (at end : ℕ) → end ≤ at → between at end nodes ≡ []
 between_over nodes at end h =
     let e : end - at ≡ 0 = omega arith in
     ap (λ n. take n (drop at nodes)) e
-
-pub no_trees : (at : ℕ) → trees_at at [] ≡ done
-unfolding trees_at trees_by
-no_trees at = refl
 
 -- the place where a node's inside ends
 abbrev pub cut_of : ℕ → ℕ → Node → ℕ
@@ -129,9 +91,13 @@ pub over_is : (f : Forest) → f.end ≤ f.at → trees_in f ≡ done
 unfolding trees_in
 over_is f h = ap (trees_at f.at) (between_over (nodes_in f.nodes) f.at f.end h) ∙ no_trees f.at
 
-pub nothing_is : (f : Forest) → slice_get (nodes_in f.nodes) f.at ≡ None → trees_in f ≡ done
+-- a forest whose place is behind all nodes
+pub past_is : (f : Forest) → length (nodes_in f.nodes) ≤ f.at → trees_in f ≡ done
 unfolding trees_in
-nothing_is f h = ap (trees_at f.at) (between_none (nodes_in f.nodes) f.at f.end h) ∙ no_trees f.at
+past_is f h =
+    ap (λ ns. trees_at f.at (take (f.end - f.at) ns)) (drop_of_length-le (nodes_in f.nodes) h)
+    ∙ ap (trees_at f.at) (take_all (f.end - f.at) [] (omega arith))
+    ∙ no_trees f.at
 
 -- a stretch of the same nodes
 pub stretch_is : (f g : Forest) (at end : ℕ) → nodes_in g.nodes ≡ nodes_in f.nodes → g.at ≡ at → g.end ≡ end → trees_at at (between at end (nodes_in f.nodes)) ≡ trees_in g

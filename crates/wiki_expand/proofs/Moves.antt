@@ -7,9 +7,10 @@ use Rattle.page_run.specs.Perform.{perform, wait}
 use Rattle.page_run.specs.Part.{open_or}
 use Rattle.page_run.proofs.ReplyLaws.{no_rise-wait}
 use Rattle.page_run.proofs.EventLaws.{bytes_are, depth_is, templates_are, opens_is}
-use Rattle.wiki_expand.specs.Texts.{node_text, size_text, depth_text}
-use Rattle.wiki_expand.specs.Expand.{Setting, Page, Thing, Doing, deeper, sized, meant}
+use Rattle.expand_meaning.specs.Texts.{node_text, size_text, depth_text}
+use Rattle.expand_meaning.specs.Expand.{Setting, Page, Thing, Doing, deeper, sized, meant}
 use Rattle.wiki_expand.specs.Points.{Leads, Goes_to, state, point, leaving}
+use Rattle.wiki_expand.specs.Weights.{Keeps}
 use Rattle.wiki_expand.specs.declared.frame.Frame.{Frame}
 use Rattle.wiki_expand.specs.declared.frame.Progress.{Progress}
 use Rattle.wiki_expand.specs.declared.frame.Progress.TheVariants.{On, Deeper, Asks}
@@ -99,3 +100,7 @@ no_level_to w t m k l l1 l2 l3 x y e n i d j q s =
     (leads_on w _ _ _ l1 l1 l3 (level_none w _ l1 d)
     (leads_on w _ _ _ l1 l2 l3 (at w (Uses tt (TakeBytes (length depth_text)) (λ enough. k (cond enough depth_text size_text))) l1 l2 (sym j))
     (leads_on w _ _ _ l2 l2 l3 (stays w _ _ l2 (ap (λ z. Uses tt (TakeBytes (length z)) (λ enough. k (cond enough z size_text))) (sym q))) s))))
+
+-- levels over two stretches
+pub keeps_on : (l l1 l2 : Left) (fs gs hs : List Frame) → Keeps l fs l1 gs → Keeps l1 gs l2 hs → Keeps l fs l2 hs
+keeps_on l l1 l2 fs gs hs a b = (b.0 ∙ a.0, b.1 ∙ a.1, b.2 ∙ a.2, b.3 ∙ a.3)

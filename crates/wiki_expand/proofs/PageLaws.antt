@@ -7,9 +7,9 @@ use Rattle.wk_base.specs.contracts.title.TitlePartialEq.TheImpl as titles
 use Rattle.wiki_markup.specs.declared.marked.ShownText.{ShownText}
 use Rattle.wiki_markup.specs.Trees.{pairing, marked_of}
 use Rattle.wiki_expand.specs.declared.pages.Entry.{Entry}
-use Rattle.wiki_expand.specs.Places.{trees_at}
-use Rattle.wiki_expand.specs.Pages.{Pages, held, direct_of, included_of, direct_in, included_in}
-use Rattle.wiki_expand.proofs.ReadLaws.{pairing_back}
+use Rattle.expand_meaning.specs.Places.{trees_at}
+use Rattle.wiki_expand.specs.Pages.{Pages, find_page, direct_of, included_of, direct_in, included_in}
+use Rattle.expand_meaning.proofs.ReadLaws.{pairing_back}
 
 title_itself : (t : Title) → titles.ghosts.eq t t ≡ true
 title_itself t = search (comparing, rules)
@@ -22,10 +22,10 @@ lookup_last : {K X : Type 0} (test : K → Bool) (es : List (K × X)) (k : K) (x
 lookup_last test [] k x n t = rw t refl
 lookup_last test (e ∷ es) k x n t = behind_others (test e.0) e.1 x (lookup test es) (lookup test (es ++ (k, x) ∷ [])) n (λ m. lookup_last test es k x m t)
 
-pub held_last : (pages : Pages) (title : Title) (e : Entry) → held pages title ≡ None → held (pages ++ (title, e) ∷ []) title ≡ Some e
+pub held_last : (pages : Pages) (title : Title) (e : Entry) → find_page pages title ≡ None → find_page (pages ++ (title, e) ∷ []) title ≡ Some e
 held_last pages title e n = lookup_last (titles.ghosts.eq title) pages title e n (title_itself title)
 
-pub added_back : (pages : Pages) (title : Title) (e : Entry) (direct transcluded : ShownText) → held pages title ≡ None
+pub added_back : (pages : Pages) (title : Title) (e : Entry) (direct transcluded : ShownText) → find_page pages title ≡ None
     → e.direct.nodes ≡ marked_of direct → e.transcluded.nodes ≡ marked_of transcluded
     → (direct_in (pages ++ (title, e) ∷ []) title ≡ Some (pairing direct)) × (included_in (pages ++ (title, e) ∷ []) title ≡ Some (pairing transcluded))
 added_back pages title e direct transcluded n d t = (

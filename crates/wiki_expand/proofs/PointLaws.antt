@@ -5,11 +5,11 @@ use Rattle.wk_base.specs.declared.left.Left.{Left}
 use Rattle.page_run.specs.Part.{open_or}
 use Rattle.wiki_markup.specs.Trees.{Trees, node}
 use Rattle.wiki_markup.specs.declared.marked.NodeKind.TheVariants.{Construct as ConstructKind, Parameter as ParameterKind}
-use Rattle.wiki_expand.specs.Texts.{node_text}
+use Rattle.expand_meaning.specs.Texts.{node_text}
 use Rattle.mw_frame.specs.declared.scene.Scene.{Scene}
-use Rattle.wiki_expand.specs.Kind.{kind_of}
-use Rattle.wiki_expand.specs.Places.{parts_in, part_in, first_in, others_in, no_part, name_in}
-use Rattle.wiki_expand.specs.Expand.{Setting, AConstruct, AParameter, Page, onward, expand, found, value_or, by_kind, construct, parameter}
+use Rattle.expand_meaning.specs.Kind.{kind_of}
+use Rattle.expand_meaning.specs.Places.{parts_in, part_in, first_in, others_in, no_part, name_in}
+use Rattle.expand_meaning.specs.Expand.{Setting, AConstruct, AParameter, Page, onward, expand, found, value_or, by_kind, construct, parameter}
 use Rattle.wiki_expand.specs.Forests.{trees_in, parts}
 use Rattle.wiki_expand.specs.Points.{ahead, plug, leaving}
 use Rattle.wiki_expand.specs.declared.forest.Forest.{Forest}
@@ -19,21 +19,21 @@ use Rattle.wiki_expand.specs.declared.frame.Frame.TheVariants.{Level, Parameter,
 
 -- a walk begins
 abbrev pub Starts : Walk → Trees → Type 0
-Starts s t = (sc : Scene) (k : List ℕ → Page) → onward (ahead s) sc s.out.items k ≡ expand t sc k
+Starts s t = (sc : Scene) (k : List ℕ → Page) → onward (ahead s) sc s.out k ≡ expand t sc k
 
-pub construct_begins : (w : Setting) (sc : Scene) (fs hs gs : List Frame) (inside : List Trees) (first rest : Forest) (s : Walk) → trees_in first ≡ first_in inside → parts rest ≡ others_in inside → Starts s (trees_in first) → gs ≡ First rest ∷ hs → hs ≡ Level ∷ fs → construct w inside sc (leaving (plug w fs sc)) ≡ onward (ahead s) sc s.out.items (plug w gs sc)
+pub construct_begins : (w : Setting) (sc : Scene) (fs hs gs : List Frame) (inside : List Trees) (first rest : Forest) (s : Walk) → trees_in first ≡ first_in inside → parts rest ≡ others_in inside → Starts s (trees_in first) → gs ≡ First rest ∷ hs → hs ≡ Level ∷ fs → construct w inside sc (leaving (plug w fs sc)) ≡ onward (ahead s) sc s.out (plug w gs sc)
 construct_begins w sc fs hs gs inside first rest s f r h e d = sym (
     h sc (plug w gs sc)
     ∙ ap (λ hs. expand (trees_in first) sc (plug w hs sc)) (e ∙ ap (λ gs. First rest ∷ gs) d)
     ∙ ap (λ t. expand t sc (plug w (First rest ∷ Level ∷ fs) sc)) f
     ∙ ap (λ ps. expand (first_in inside) sc (λ x. by_kind w (kind_of (no_part ps) w.page (trim x)) x ps sc (plug w (Level ∷ fs) sc))) r)
 
-pub parameter_begins : (w : Setting) (sc : Scene) (fs hs gs : List Frame) (inside : List Trees) (first rest : Forest) (s : Walk) → trees_in first ≡ first_in inside → parts rest ≡ others_in inside → Starts s (trees_in first) → gs ≡ Parameter rest ∷ hs → hs ≡ Level ∷ fs → parameter inside sc (leaving (plug w fs sc)) ≡ onward (ahead s) sc s.out.items (plug w gs sc)
-parameter_begins w sc fs hs gs inside first rest s f r h e d = sym (
+pub parameter_begins : (w : Setting) (sc : Scene) (fs gs : List Frame) (inside : List Trees) (first rest : Forest) (s : Walk) → trees_in first ≡ first_in inside → parts rest ≡ others_in inside → Starts s (trees_in first) → gs ≡ Parameter rest ∷ fs → parameter inside sc (leaving (plug w fs sc)) ≡ onward (ahead s) sc s.out (plug w gs sc)
+parameter_begins w sc fs gs inside first rest s f r h e = sym (
     h sc (plug w gs sc)
-    ∙ ap (λ hs. expand (trees_in first) sc (plug w hs sc)) (e ∙ ap (λ gs. Parameter rest ∷ gs) d)
-    ∙ ap (λ t. expand t sc (plug w (Parameter rest ∷ Level ∷ fs) sc)) f
-    ∙ ap (λ ps. expand (first_in inside) sc (λ x. value_or (found (trim x) sc.args) x (part_in ps) sc (plug w (Level ∷ fs) sc))) r)
+    ∙ ap (λ hs. expand (trees_in first) sc (plug w hs sc)) e
+    ∙ ap (λ t. expand t sc (plug w (Parameter rest ∷ fs) sc)) f
+    ∙ ap (λ ps. expand (first_in inside) sc (λ x. value_or (found (trim x) sc.args) x (part_in ps) sc (leaving (plug w fs sc)))) r)
 
 -- a construct or a parameter in a walk
 walk_by : (named : Bool) (inside rest : Trees) (sc : Scene) (out : List ℕ) (k : List ℕ → Page) → onward (cond named (name_in (node ConstructKind inside rest)) (node ConstructKind inside rest)) sc out k ≡ open_or tt node_text (AConstruct (parts_in inside) sc) (λ x. onward (cond named (name_in rest) rest) sc (out ++ x) k)

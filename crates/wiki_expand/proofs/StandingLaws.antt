@@ -10,9 +10,11 @@ use Rattle.page_run.specs.State.{Tally, no_tally, join, Gives, Reply, Event, End
 use Rattle.page_run.specs.Perform.{perform, wait}
 use Rattle.page_run.proofs.ReplyLaws.{no_rise-wait}
 use Rattle.page_run.proofs.EventLaws.{ends_is, asks_is}
-use Rattle.wiki_expand.specs.Expand.{Setting, Page, meant}
-use Rattle.wiki_expand.specs.Told.{Work, Reading, Including, expansion, told, Comes, Asks, text_in}
-use Rattle.wiki_expand.specs.Points.{plug, state, Leads}
+use Rattle.expand_meaning.specs.Expand.{Setting, Page, meant}
+use Rattle.expand_meaning.specs.Outcome.{Work, Reading, Including, expansion, next_event, Comes, Asks, text_in}
+use Rattle.wiki_expand.specs.Points.{wiki_setting, scene_in, waiting, state, Leads}
+use Rattle.wiki_expand.specs.declared.frame.Wiki.{Wiki}
+use Rattle.wiki_expand.specs.declared.frame.Machine.{Machine}
 use Rattle.wiki_expand.specs.Standing.{AtPoint, AtIf, LeadsIf, MoveAt, IsDoing, AfterIs, Moves, work_page}
 use Rattle.wiki_expand.specs.Weights.{levels, bodies}
 use Rattle.wiki_expand.specs.declared.expander.Move.{Move}
@@ -21,15 +23,15 @@ use Rattle.wiki_expand.specs.declared.expander.Doing.{Doing}
 use Rattle.wiki_expand.specs.declared.frame.Frame.{Frame}
 
 -- the event at a point, with no more replies
-pub now_is : (w : Setting) (p q : Page) (work : Work) (first l l' : Left) (given : List (Reply (List ℕ))) (at : AtPoint w p work first given l) → Leads w p l q l' → told w work first given ≡ perform (meant w) wait q (state l' at.tally [])
-now_is w p q work first l l' given at h = ap (told w work first) (sym (append-nil given)) ∙ sym (at.goes_on []) ∙ h.runs at.tally []
+pub now_is : (w : Setting) (p q : Page) (work : Work) (first l l' : Left) (given : List (Reply (List ℕ))) (at : AtPoint w p work first given l) → Leads w p l q l' → next_event w work first given ≡ perform (meant w) wait q (state l' at.tally [])
+now_is w p q work first l l' given at h = ap (next_event w work first) (sym (append-nil given)) ∙ sym (at.goes_on []) ∙ h.runs at.tally []
 
-pub text_is : (w : Setting) (p : Page) (work : Work) (first l l' : Left) (given : List (Reply (List ℕ))) (x : List ℕ) → AtPoint w p work first given l → Leads w p l (Ends x) l' → Comes (told w work first given) x l'
+pub text_is : (w : Setting) (p : Page) (work : Work) (first l l' : Left) (given : List (Reply (List ℕ))) (x : List ℕ) → AtPoint w p work first given l → Leads w p l (Ends x) l' → Comes (next_event w work first given) x l'
 text_is w p work first l l' given x at h =
     let back : l'.calls + 0 ≡ l'.calls = omega arith in
     subst (λ e. Comes e x l') (sym (now_is w p (Ends x) work first l l' given at h ∙ ends_is (meant w) wait no_rise-wait x (state l' at.tally []))) (refl, ap (λ n. record l' { calls = n }) back)
 
-pub question_is : (w : Setting) (p : Page) (k : List ℕ → Page) (work : Work) (first l l' : Left) (given : List (Reply (List ℕ))) (job : Job) → AtPoint w p work first given l → Leads w p l (Run.Asks job k) l' → Asks (told w work first given) job l'
+pub question_is : (w : Setting) (p : Page) (k : List ℕ → Page) (work : Work) (first l l' : Left) (given : List (Reply (List ℕ))) (job : Job) → AtPoint w p work first given l → Leads w p l (Run.Asks job k) l' → Asks (next_event w work first given) job l'
 question_is w p k work first l l' given job at h =
     subst (λ e. Asks e job l') (sym (now_is w p (Run.Asks job k) work first l l' given at h ∙ (asks_is (meant w) wait no_rise-wait job k (state l' at.tally [])).2 refl refl)) (refl, refl)
 
@@ -40,12 +42,12 @@ waits_is w p k work first l l' given job at h r x said = record {
       sym (((asks_is (meant w) wait no_rise-wait job k (state l' at.tally (r ∷ more))).0 r more refl).0 x said)
       ∙ sym (h.runs at.tally (r ∷ more))
       ∙ at.goes_on (r ∷ more)
-      ∙ ap (told w work first) (sym (append_assoc given (r ∷ []) more));
+      ∙ ap (next_event w work first) (sym (append_assoc given (r ∷ []) more));
 }
 
 -- a run at its beginning
 pub begins_is : (w : Setting) (p : Page) (work : Work) (l : Left) → p ≡ work_page work Ends → AtPoint w p work l [] l
-unfolding told
+unfolding next_event
 begins_is w p (Reading trees sc) l e = record { tally = no_tally; goes_on = λ more. ap (λ q. perform (meant w) wait q (state l no_tally more)) e }
 begins_is w p (Including trees title sc) l e = record { tally = no_tally; goes_on = λ more. ap (λ q. perform (meant w) wait q (state l no_tally more)) e }
 
@@ -63,15 +65,15 @@ pub at_focus : (w : Setting) (o : Option Page) (q : Page) (work : Work) (first l
 at_focus w (Some p) q work first l l' given at h = at_point w p q work first l l' given at h
 at_focus w None q work first l l' given at h = absurd at
 
-pub move_of : (w : Setting) (q : Page) (work : Work) (first l l' : Left) (given : List (Reply (List ℕ))) (m : Move) (fs : List Frame) (sc : Scene) → AtPoint w q work first given l → Moves w q l m fs sc l' → MoveAt m w fs sc work first given l'
-move_of w q work first l l' given (Came x) fs sc at h = text_is w q work first l l' given x at h.0
-move_of w q work first l l' given (Invokes job) fs sc at h =
-    (question_is w q (plug w fs sc) work first l l' given job at h, waits_is w q (plug w fs sc) work first l l' given job at h)
+pub move_of : (w : Wiki) (q : Page) (work : Work) (first l l' : Left) (given : List (Reply (List ℕ))) (m : Move) (e : Machine) → AtPoint (wiki_setting w) q work first given l → Moves w q l m e l' → MoveAt m (wiki_setting w) e.stack (scene_in e.scene) work first given l'
+move_of w q work first l l' given (Came x) e at h = text_is (wiki_setting w) q work first l l' given x at h.0
+move_of w q work first l l' given (Invokes job) e at h =
+    (question_is (wiki_setting w) q (waiting w e) work first l l' given job at h, waits_is (wiki_setting w) q (waiting w e) work first l l' given job at h)
 
 -- after a move that ends nothing is in progress
-pub over_is : (w : Setting) (q : Page) (l l' : Left) (m : Move) (fs : List Frame) (sc : Scene) (d : Doing) → Moves w q l m fs sc l' → IsDoing m d → AfterIs m d fs
-over_is w q l l' (Came x) fs sc d h i = (ap levels h.1, ap bodies h.1)
-over_is w q l l' (Invokes job) fs sc d h i = i
+pub over_is : (w : Wiki) (q : Page) (l l' : Left) (m : Move) (e : Machine) (d : Doing) → Moves w q l m e l' → IsDoing m d → AfterIs m d e.stack
+over_is w q l l' (Came x) e d h i = (ap levels h.1, ap bodies h.1)
+over_is w q l l' (Invokes job) e d h i = i
 
 pub moved : (w : Setting) (p q : Page) (work : Work) (first l l' : Left) (given : List (Reply (List ℕ))) → p ≡ q → l ≡ l' → AtPoint w p work first given l → AtPoint w q work first given l'
 moved w p q work first l l' given e i at = subst (λ m. AtPoint w q work first given m) i (subst (λ r. AtPoint w r work first given l) e at)

@@ -1,9 +1,11 @@
 -- What a forest of the code stands for.
-use Rattle.std.specs.Prelude.{◌≡◌, ℕ, ◌+◌, ◌-◌, ◌<◌, ◌≤◌, List, take, drop, Option, Some, None}
+use Rattle.std.specs.Prelude.{◌≡◌, ℕ, ◌+◌, ◌-◌, ◌<◌, ◌≤◌, List, [], take, drop, Option, Some, None}
 use Rattle.wiki_markup.specs.declared.marked.Node.{Node}
-use Rattle.wiki_markup.specs.declared.marked.NodeKind.TheVariants.{Construct as ConstructKind, Parameter as ParameterKind, Part as PartKind}
+use Rattle.wiki_markup.specs.declared.marked.NodeKind.{NodeKind}
+use Rattle.wiki_markup.specs.declared.marked.NodeKind.TheVariants.{Text as TextKind, Equals as EqualsKind, Construct as ConstructKind, Parameter as ParameterKind, Part as PartKind}
+use Rattle.expand_texts.specs.Ropes.{bytes_of}
 use Rattle.wiki_markup.specs.Trees.{Trees, done, text, equals, node}
-use Rattle.wiki_expand.specs.Places.{trees_at, parts_in, value_in}
+use Rattle.expand_meaning.specs.Places.{trees_at, parts_in, value_in}
 use Rattle.wiki_expand.specs.declared.forest.Nodes.{Nodes}
 use Rattle.wiki_expand.specs.declared.forest.Nodes.TheVariants.{Held, Own}
 use Rattle.wiki_expand.specs.declared.forest.Forest.{Forest}
@@ -15,6 +17,14 @@ use Rattle.wiki_expand.specs.declared.forest.Split.TheVariants.{Nothing, Text, E
 abbrev pub nodes_in : Nodes → List Node
 nodes_in (Held nodes) = nodes.now
 nodes_in (Own nodes) = nodes.value.nodes
+
+-- the text that a node is, if it is one
+abbrev pub text_in : NodeKind → List ℕ
+text_in (TextKind bytes) = bytes
+text_in EqualsKind = []
+text_in ConstructKind = []
+text_in ParameterKind = []
+text_in PartKind = []
 
 -- the nodes from a place up to another
 abbrev pub between : ℕ → ℕ → List Node → List Node
@@ -31,7 +41,7 @@ size f = f.end - f.at
 -- its first tree, with what stands in it, and the trees behind it
 abbrev pub Splits : Split → Trees → Type 0
 Splits Nothing t = t ≡ done
-Splits (Text bytes rest) t = t ≡ text bytes.now (trees_in rest)
+Splits (Text piece rest) t = t ≡ text (bytes_of piece) (trees_in rest)
 Splits (Equals rest) t = t ≡ equals (trees_in rest)
 Splits (Construct inside rest) t = t ≡ node ConstructKind (trees_in inside) (trees_in rest)
 Splits (Parameter inside rest) t = t ≡ node ParameterKind (trees_in inside) (trees_in rest)
@@ -40,7 +50,7 @@ Splits (Part inside rest) t = t ≡ node PartKind (trees_in inside) (trees_in re
 -- each time there are fewer
 abbrev pub Falls : Split → ℕ → Type 0
 Falls Nothing n = Unit {0}
-Falls (Text bytes rest) n = size rest < n
+Falls (Text piece rest) n = size rest < n
 Falls (Equals rest) n = size rest < n
 Falls (Construct inside rest) n = size inside + size rest < n
 Falls (Parameter inside rest) n = size inside + size rest < n

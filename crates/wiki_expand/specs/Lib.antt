@@ -1,13 +1,5 @@
-pub mod Texts
-pub mod Kind
-pub mod Places
-pub mod Expand
-pub mod Told
-pub mod Examples
 pub mod Forests
 pub mod Pages
-pub mod Kinds
-pub mod Entries
 pub mod Points
 pub mod Weights
 pub mod Asked

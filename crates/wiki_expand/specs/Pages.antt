@@ -1,19 +1,19 @@
--- The held pages, by title.
+-- The find_page pages, by title.
 use Rattle.std.specs.Prelude.{ℕ, List, Option, Some, None, option_map}
 use Rattle.std.specs.Map.{lookup}
 use Rattle.wk_base.specs.declared.title.Title.{Title}
 use Rattle.wk_base.specs.contracts.title.TitlePartialEq.TheImpl as titles
 use Rattle.wiki_markup.specs.Trees.{Trees}
 use Rattle.wiki_expand.specs.declared.pages.Entry.{Entry}
-use Rattle.wiki_expand.specs.Places.{trees_at}
-use Rattle.wiki_expand.specs.Expand.{Setting}
+use Rattle.expand_meaning.specs.Places.{trees_at}
+use Rattle.expand_meaning.specs.Expand.{Setting}
 
 -- a page: its title, and its text as it is read for itself and as it is included
 abbrev pub Pages : Type 0
 Pages = List (Title × Entry)
 
-abbrev pub held : Pages → Title → Option Entry
-held pages title = lookup (titles.ghosts.eq title) pages
+abbrev pub find_page : Pages → Title → Option Entry
+find_page pages title = lookup (titles.ghosts.eq title) pages
 
 abbrev pub direct_of : Entry → Trees
 direct_of e = trees_at 0 e.direct.nodes
@@ -22,10 +22,10 @@ abbrev pub included_of : Entry → Trees
 included_of e = trees_at 0 e.transcluded.nodes
 
 abbrev pub direct_in : Pages → Title → Option Trees
-direct_in pages title = option_map direct_of (held pages title)
+direct_in pages title = option_map direct_of (find_page pages title)
 
 abbrev pub included_in : Pages → Title → Option Trees
-included_in pages title = option_map included_of (held pages title)
+included_in pages title = option_map included_of (find_page pages title)
 
 -- what an expansion of a page sees of them
 abbrev pub setting_in : Pages → Title → Setting

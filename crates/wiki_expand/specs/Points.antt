@@ -12,11 +12,14 @@ use Rattle.page_run.specs.Run.{Run, TakeBytes, LeaveDepth, LeaveTemplate, Ends, 
 use Rattle.page_run.specs.Part.{open_or}
 use Rattle.page_run.specs.State.{Tally, Reply, State}
 use Rattle.page_run.specs.Perform.{perform, wait}
-use Rattle.wiki_expand.specs.Texts.{node_text, size_text, are_equal}
-use Rattle.wiki_expand.specs.Kind.{kind_of, title_named}
-use Rattle.wiki_expand.specs.Places.{part_in, no_part, name_in}
-use Rattle.wiki_expand.specs.Expand.{Setting, Thing, Page, Doing, Given, Looking, onward, expand, all_parts, put, found, arguments, value_or, either, by_name, valueless, after_turn, switch, module_titled, invocation, body, by_kind, meant}
+use Rattle.expand_meaning.specs.Texts.{node_text, size_text, are_equal}
+use Rattle.expand_meaning.specs.Kind.{kind_of, title_named}
+use Rattle.expand_meaning.specs.Places.{part_in, no_part, name_in}
+use Rattle.expand_meaning.specs.Expand.{Setting, Thing, Page, Doing, Given, Looking, onward, expand, all_parts, put, found, arguments, value_or, either, by_name, valueless, after_turn, switch, module_titled, invocation, body, by_kind, meant}
 use Rattle.wiki_expand.specs.Forests.{trees_in, parts}
+use Rattle.wiki_expand.specs.Pages.{setting_in}
+use Rattle.wiki_expand.specs.declared.frame.Wiki.{Wiki}
+use Rattle.wiki_expand.specs.declared.frame.Machine.{Machine}
 use Rattle.wiki_expand.specs.declared.frame.Inner.{Inner}
 use Rattle.wiki_expand.specs.declared.frame.Walk.{Walk}
 use Rattle.wiki_expand.specs.declared.frame.Seen.{Seen}
@@ -26,11 +29,15 @@ use Rattle.wiki_expand.specs.declared.frame.Purpose.TheVariants.{Invoke as ForMo
 use Rattle.wiki_expand.specs.declared.frame.Frame.{Frame}
 use Rattle.wiki_expand.specs.declared.frame.Frame.TheVariants.{Walk as Walking, Level, Trim, Parameter, First, Written, Compare, Case, Valueless, Function, Unnamed, Name, Value, Body}
 use Rattle.wiki_expand.specs.declared.frame.Focus.{Focus}
-use Rattle.wiki_expand.specs.declared.frame.Focus.TheVariants.{Walk as Goes, Text as Hands}
+use Rattle.wiki_expand.specs.declared.frame.Focus.TheVariants.{Walk as Walks, Text as Hands}
 use Rattle.wiki_expand.specs.declared.frame.Entry.{Entry}
 use Rattle.wiki_expand.specs.declared.frame.Entry.TheVariants.{NoNode, NoLevel, Entered}
 use Rattle.wiki_expand.specs.declared.frame.Progress.{Progress}
 use Rattle.wiki_expand.specs.declared.frame.Progress.TheVariants.{On, Deeper, Asks}
+
+-- where it expands
+abbrev pub wiki_setting : Wiki → Setting
+wiki_setting w = setting_in w.pages.now w.page
 
 abbrev pub scene_in : Inner → Scene
 scene_in s = record { title = s.title; args = s.args; chain = s.chain }
@@ -64,12 +71,16 @@ abbrev pub behind_first : List Title → List Title
 behind_first [] = []
 behind_first (t ∷ ts) = ts
 
+-- a construct or parameter ends with this text
+abbrev pub leaving : (List ℕ → Page) → List ℕ → Page
+leaving k x = Uses tt LeaveDepth (λ _. Uses tt (TakeBytes (length x)) (λ enough. k (cond enough x size_text)))
+
 -- what a frame makes of a text in a scene, given what waits below
 abbrev pub frame : Setting → Frame → (Scene → List ℕ → Page) → Scene → List ℕ → Page
-frame w (Walking s) k sc x = onward (ahead s) sc (s.out.items ++ x) (k sc)
-frame w Level k sc x = Uses tt LeaveDepth (λ _. Uses tt (TakeBytes (length x)) (λ enough. k sc (cond enough x size_text)))
+frame w (Walking s) k sc x = onward (ahead s) sc (s.out ++ x) (k sc)
+frame w Level k sc x = leaving (k sc) x
 frame w Trim k sc x = k sc (trim x)
-frame w (Parameter rest) k sc x = value_or (found (trim x) sc.args) x (part_in (parts rest)) sc (k sc)
+frame w (Parameter rest) k sc x = value_or (found (trim x) sc.args) x (part_in (parts rest)) sc (leaving (k sc))
 frame w (First rest) k sc x = by_kind w (kind_of (no_part (parts rest)) w.page (trim x)) x (parts rest) sc (k sc)
 frame w (Written rest) k sc x = all_parts (parts rest) sc x (λ out. k sc (out ++ codes "}}"))
 frame w (Compare left rest) k sc x = either (are_equal left.items (trim x)) (parts rest) sc (k sc)
@@ -87,8 +98,8 @@ plug w [] sc x = Ends x
 plug w (f ∷ fs) sc x = frame w f (plug w fs) sc x
 
 abbrev pub focus_on : Focus → Scene → (List ℕ → Page) → Page
-focus_on (Goes s) sc k = onward (ahead s) sc s.out.items k
-focus_on (Hands x) sc k = k x.items
+focus_on (Walks s) sc k = onward (ahead s) sc s.out k
+focus_on (Hands x) sc k = k x
 
 -- THE POINT: the rest of the run
 abbrev pub point : Setting → Focus → List Frame → Scene → Page
@@ -101,6 +112,17 @@ state l t more = record { heap = tt; left = l; in_progress = 0; tally = t; repli
 pub record Leads (w : Setting) (p : Page) (l : Left) (q : Page) (l' : Left) : Type 0 where
   pub runs : (t : Tally) (more : List (Reply (List ℕ))) → perform (meant w) wait p (state l t more) ≡ perform (meant w) wait q (state l' t more)
 
+-- the run at a focus of a machine, and the run in which what waits on top of it goes on with a text
+abbrev pub run_at : Wiki → Machine → Focus → Page
+run_at w m f = point (wiki_setting w) f m.stack (scene_in m.scene)
+
+abbrev pub resumed : Wiki → Machine → Frame → List ℕ → Page
+resumed w m top x = frame (wiki_setting w) top (plug (wiki_setting w) m.stack) (scene_in m.scene) x
+
+-- what waits for the text of a run
+abbrev pub waiting : Wiki → Machine → List ℕ → Page
+waiting w m x = plug (wiki_setting w) m.stack (scene_in m.scene) x
+
 -- how a step ends
 abbrev pub Goes_to : Setting → Page → Left → Progress → List Frame → Scene → Left → Type 0
 Goes_to w p l (On f) fs sc l' = Leads w p l (point w f fs sc) l'
@@ -109,14 +131,10 @@ Goes_to w p l (Asks job) fs sc l' = Leads w p l (Run.Asks job (plug w fs sc)) l'
 
 -- ---- opening
 
--- a construct or parameter ends with this text
-abbrev pub leaving : (List ℕ → Page) → List ℕ → Page
-leaving k x = Uses tt LeaveDepth (λ _. Uses tt (TakeBytes (length x)) (λ enough. k (cond enough x size_text)))
-
 -- what comes of opening a thing whose text is made by `m`: the text in its place, or its first part is expanded
 abbrev pub Opens_to : Setting → Thing → Doing (List ℕ) → (List ℕ → Page) → Left → Entry → Left → Type 0
-Opens_to w t m k l (NoNode x) l' = Leads w (open_or tt node_text t k) l (k x.items) l'
-Opens_to w t m k l (NoLevel x) l' = Leads w (open_or tt node_text t k) l (k x.items) l'
+Opens_to w t m k l (NoNode x) l' = Leads w (open_or tt node_text t k) l (k x) l'
+Opens_to w t m k l (NoLevel x) l' = Leads w (open_or tt node_text t k) l (k x) l'
 Opens_to w t m k l Entered l' = Leads w (open_or tt node_text t k) l (m (leaving k)) l'
 
 -- what it takes
@@ -124,3 +142,7 @@ abbrev pub Takes_of : Left → Entry → Left → Type 0
 Takes_of l (NoNode x) l' = l' ≡ l
 Takes_of l (NoLevel x) l' = (l'.nodes + 1 ≡ l.nodes) × (l' ≡ record l { nodes = l'.nodes; bytes = l'.bytes })
 Takes_of l Entered l' = (l'.nodes + 1 ≡ l.nodes) × (l'.depth + 1 ≡ l.depth) × (l' ≡ record l { nodes = l'.nodes; depth = l'.depth })
+
+-- A STEP of a machine: how the run goes on
+abbrev pub Goes : Wiki → Page → Left → Progress → Machine → Left → Type 0
+Goes w p l r m l' = Goes_to (wiki_setting w) p l r m.stack (scene_in m.scene) l'

@@ -9,12 +9,14 @@ use Rattle.wiki_markup.specs.Trees.{Trees}
 use Rattle.page_run.specs.Run.{Run, Ends}
 use Rattle.page_run.specs.State.{Tally, Gives, Reply}
 use Rattle.page_run.specs.Perform.{perform, wait}
-use Rattle.wiki_expand.specs.Places.{trees_at}
-use Rattle.wiki_expand.specs.Expand.{Setting, Page, expand, body, meant}
-use Rattle.wiki_expand.specs.Told.{Work, Reading, Including, told, Comes, Asks}
-use Rattle.wiki_expand.specs.Pages.{Pages, held, direct_in, included_in, setting_in}
+use Rattle.expand_meaning.specs.Places.{trees_at}
+use Rattle.expand_meaning.specs.Expand.{Setting, Page, expand, body, meant}
+use Rattle.expand_meaning.specs.Outcome.{Work, Reading, Including, next_event, Comes, Asks}
+use Rattle.wiki_expand.specs.Pages.{Pages, find_page, direct_in, included_in, setting_in}
 use Rattle.wiki_expand.specs.Forests.{trees_in}
-use Rattle.wiki_expand.specs.Points.{plug, point, scene_in, state, Leads}
+use Rattle.wiki_expand.specs.Points.{wiki_setting, plug, point, run_at, waiting as waiting_in, scene_in, state, Leads}
+use Rattle.wiki_expand.specs.declared.frame.Wiki.{Wiki}
+use Rattle.wiki_expand.specs.declared.frame.Machine.{Machine}
 use Rattle.wiki_expand.specs.Weights.{levels, bodies, chances, allowed}
 use Rattle.wiki_expand.specs.Asked.{HasModule}
 use Rattle.wiki_expand.specs.declared.frame.Frame.{Frame}
@@ -51,23 +53,23 @@ work_page (Including trees title sc) k = body trees title sc.args sc k
 
 -- its title is held
 abbrev pub IsHeldSource : Pages → Source → Type 0
-IsHeldSource pages (OfPage title) = IsSome (held pages title)
-IsHeldSource pages (OfTemplate title) = IsSome (held pages title)
+IsHeldSource pages (OfPage title) = IsSome (find_page pages title)
+IsHeldSource pages (OfTemplate title) = IsSome (find_page pages title)
 IsHeldSource pages (OfText text) = Unit {0}
 
 -- where an expander expands
 abbrev pub setting_of : Expander → Setting
-setting_of e = setting_in e.pages.now e.page
+setting_of e = wiki_setting e.wiki
 
 -- constructs and parameters in progress, bodies in progress, and what the nodes and the constructs in progress allow
 abbrev pub depth_in : Expander → ℕ
-depth_in e = levels e.stack
+depth_in e = levels e.machine.stack
 
 abbrev pub templates_in : Expander → ℕ
-templates_in e = bodies e.stack
+templates_in e = bodies e.machine.stack
 
 abbrev pub allowed_in : Left → Expander → ℕ
-allowed_in left e = allowed left e.stack
+allowed_in left e = allowed left e.machine.stack
 
 -- it goes on, it waits for an answer, or it is over
 abbrev pub ready : Doing → Type 0
@@ -91,7 +93,7 @@ IsWaiting e = waiting e.doing
 -- the run of a work stands here after these replies, whatever replies follow
 pub record AtPoint (w : Setting) (p : Page) (work : Work) (first : Left) (given : List (Reply (List ℕ))) (left : Left) : Type 0 where
   pub tally : Tally
-  pub goes_on : (more : List (Reply (List ℕ))) → perform (meant w) wait p (state left tally more) ≡ told w work first (given ++ more)
+  pub goes_on : (more : List (Reply (List ℕ))) → perform (meant w) wait p (state left tally more) ≡ next_event w work first (given ++ more)
 
 -- where it goes on
 abbrev pub doing_point : Doing → Setting → List Frame → Scene → Option Page
@@ -106,30 +108,26 @@ AtIf w None work first given left = ⊥
 
 -- AN EXPANDER STANDS AT THE POINT of a work's run, from these first allowances and after these replies, with so much left.
 abbrev pub At : Expander → Work → Left → List (Reply (List ℕ)) → Left → Type 0
-At e work first given left = AtIf (setting_of e) (doing_point e.doing (setting_of e) e.stack (scene_in e.scene)) work first given left
+At e work first given left = AtIf (setting_of e) (doing_point e.doing (setting_of e) e.machine.stack (scene_in e.machine.scene)) work first given left
 
 -- IT WAITS for a reply to the next question.
 abbrev pub Waits : Expander → Work → Left → List (Reply (List ℕ)) → Type 0
-Waits e work first given = (r : Reply (List ℕ)) (x : List ℕ) → r.response ≡ Gives x → AtPoint (setting_of e) (plug (setting_of e) e.stack (scene_in e.scene) x) work first (given ++ r ∷ []) r.left
+Waits e work first given = (r : Reply (List ℕ)) (x : List ℕ) → r.response ≡ Gives x → AtPoint (setting_of e) (waiting_in e.wiki e.machine x) work first (given ++ r ∷ []) r.left
 
 -- a move is the definition's: the text that the run comes to, or the invocation that it asks for, after which it waits
 abbrev pub MoveAt : Move → Setting → List Frame → Scene → Work → Left → List (Reply (List ℕ)) → Left → Type 0
-MoveAt (Came text) w fs sc work first given left = Comes (told w work first given) text left
+MoveAt (Came text) w fs sc work first given left = Comes (next_event w work first given) text left
 MoveAt (Invokes job) w fs sc work first given left =
-    Asks (told w work first given) job left
+    Asks (next_event w work first given) job left
     × ((r : Reply (List ℕ)) (x : List ℕ) → r.response ≡ Gives x → AtPoint w (plug w fs sc x) work first (given ++ r ∷ []) r.left)
 
 abbrev pub IsMove : Move → Expander → Work → Left → List (Reply (List ℕ)) → Left → Type 0
-IsMove m e work first given left = MoveAt m (setting_of e) e.stack (scene_in e.scene) work first given left
+IsMove m e work first given left = MoveAt m (setting_of e) e.machine.stack (scene_in e.machine.scene) work first given left
 
 -- an invocation's module is held, and no two arguments of its frames have one name
-abbrev pub MoveHeld : Pages → Move → Type 0
-MoveHeld pages (Came text) = Unit {0}
-MoveHeld pages (Invokes job) = HasModule pages job
-
-abbrev pub MoveNamed : Move → Type 0
-MoveNamed (Came text) = Unit {0}
-MoveNamed (Invokes job) = HaveNames job
+abbrev pub MoveAsks : Pages → Move → Type 0
+MoveAsks pages (Came text) = Unit {0}
+MoveAsks pages (Invokes job) = HasModule pages job × HaveNames job
 
 -- after a move: it is over and nothing is in progress, or it waits
 abbrev pub AfterIs : Move → Doing → List Frame → Type 0
@@ -137,7 +135,7 @@ AfterIs (Came text) d fs = (levels fs ≡ 0) × (bodies fs ≡ 0)
 AfterIs (Invokes job) d fs = waiting d
 
 abbrev pub IsAfter : Move → Expander → Type 0
-IsAfter m e = AfterIs m e.doing e.stack
+IsAfter m e = AfterIs m e.doing e.machine.stack
 
 -- a question takes what is allowed
 abbrev pub MoveFalls : Move → ℕ → ℕ → Type 0
@@ -146,24 +144,24 @@ MoveFalls (Invokes job) before after = after < before
 
 -- ---- steps up to a pause
 
-abbrev pub Moves : Setting → Page → Left → Move → List Frame → Scene → Left → Type 0
-Moves w p l (Came x) fs sc l' = Leads w p l (Ends x) l' × (fs ≡ [])
-Moves w p l (Invokes job) fs sc l' = Leads w p l (Run.Asks job (plug w fs sc)) l'
+abbrev pub Moves : Wiki → Page → Left → Move → Machine → Left → Type 0
+Moves w p l (Came x) m l' = Leads (wiki_setting w) p l (Ends x) l' × (m.stack ≡ [])
+Moves w p l (Invokes job) m l' = Leads (wiki_setting w) p l (Run.Asks job (waiting_in w m)) l'
 
-abbrev pub Pauses : Setting → Page → Left → Pause → List Frame → Scene → Left → Type 0
-Pauses w p l (PausesDeeper f) fs sc l' = Leads w p l (point w f fs sc) l'
-Pauses w p l (PausesAsking job) fs sc l' = Leads w p l (Run.Asks job (plug w fs sc)) l'
-Pauses w p l (PausesEnded x) fs sc l' = Leads w p l (Ends x.items) l' × (fs ≡ [])
+abbrev pub Pauses : Wiki → Page → Left → Pause → Machine → Left → Type 0
+Pauses w p l (PausesDeeper f) m l' = Leads (wiki_setting w) p l (run_at w m f) l'
+Pauses w p l (PausesAsking job) m l' = Leads (wiki_setting w) p l (Run.Asks job (waiting_in w m)) l'
+Pauses w p l (PausesEnded x) m l' = Leads (wiki_setting w) p l (Ends x) l' × (m.stack ≡ [])
 
 abbrev pub PauseFalls : ℕ → Pause → List Frame → Left → Type 0
 PauseFalls n (PausesDeeper f) fs l = allowed l fs < n
 PauseFalls n (PausesAsking job) fs l = allowed l fs < n
 PauseFalls n (PausesEnded x) fs l = allowed l fs ≤ n
 
-abbrev pub PauseHeld : Pages → Pause → Type 0
-PauseHeld pages (PausesDeeper f) = Unit {0}
-PauseHeld pages (PausesAsking job) = HasModule pages job × HaveNames job
-PauseHeld pages (PausesEnded x) = Unit {0}
+abbrev pub PauseAsks : Pages → Pause → Type 0
+PauseAsks pages (PausesDeeper f) = Unit {0}
+PauseAsks pages (PausesAsking job) = HasModule pages job × HaveNames job
+PauseAsks pages (PausesEnded x) = Unit {0}
 
 abbrev pub LeadsIf : Setting → Option Page → Left → Page → Left → Type 0
 LeadsIf w (Some p) l q l' = Leads w p l q l'

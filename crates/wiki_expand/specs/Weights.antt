@@ -16,6 +16,7 @@ sum_of f (x ∷ xs) = f x + sum_of f xs
 -- constructs and parameters in progress
 abbrev pub level : Frame → ℕ
 level Level = 1
+level (Parameter rest) = 1
 level _ = 0
 
 abbrev pub levels : List Frame → ℕ
@@ -81,3 +82,7 @@ Falls n allowance (Asks job) fs l = allowed l fs < allowance
 -- frames that are put on a stack: no construct or body begins, and at most so many chances come
 abbrev pub Calm : ℕ → List Frame → List Frame → Type 0
 Calm n old new = (levels new ≡ levels old) × (bodies new ≡ bodies old) × (chances new ≤ chances old + n)
+
+-- levels of constructs and bodies are given back when their frames go, and no step takes steps or calls
+abbrev pub Keeps : Left → List Frame → Left → List Frame → Type 0
+Keeps l fs l' gs = (l'.depth + levels gs ≡ l.depth + levels fs) × (l'.templates + bodies gs ≡ l.templates + bodies fs) × (l'.steps ≡ l.steps) × (l'.calls ≡ l.calls)

@@ -1,7 +1,8 @@
 //! What is taken of the allowances, and given back.
-ghost use Rattle.std.specs.Prelude.{◌≡◌, ◌+◌, ◌-◌, ◌≤◌, ◌<◌, ◌^◌};
+ghost use Rattle.std.specs.Prelude.{◌≡◌, ◌-◌, ◌≤◌, ◌<◌, length};
 ghost use Rattle.std.specs.Bool.{OnTrue, OnFalse};
 
+use expand_texts::rope::Rope;
 use wk_base::Left;
 
 /// Takes a node, if one is left.
@@ -18,15 +19,22 @@ pub fn take_node(left: &mut Left) -> bool
     true
 }
 
-/// Takes bytes. Where fewer are left, none stay.
-pub fn take_bytes(left: &mut Left, n: u64) -> bool
-    ensures enough { OnTrue result (n ≤ left.old.bytes) }
-    ensures short { OnFalse result (left.old.bytes < n) }
-    ensures taken { left.new ≡ record left.old { bytes = left.old.bytes - n } }
+/// Takes the length of a text in bytes. Where fewer are left, none stay.
+pub fn take_bytes(left: &mut Left, text: &Rope<'_>) -> bool
+    ensures enough { OnTrue result (length text.now ≤ left.old.bytes) }
+    ensures short { OnFalse result (left.old.bytes < length text.now) }
+    ensures taken { left.new ≡ record left.old { bytes = left.old.bytes - length text.now } }
 {
-    let enough = n <= left.bytes;
-    left.take_bytes(n);
-    enough
+    match text.left_of(left.bytes) {
+        Some(rest) => {
+            left.bytes = rest;
+            true
+        }
+        None => {
+            left.bytes = 0;
+            false
+        }
+    }
 }
 
 /// Enters a level, if one is left.

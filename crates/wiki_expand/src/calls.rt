@@ -1,34 +1,42 @@
 //! Arguments, templates and invocations.
-ghost use Rattle.std.specs.Prelude.{◌≡◌, ◌+◌, ◌*◌, ◌<◌, ◌≤◌, ◌∷◌, [], ℕ, List, decimal, Some, None, IsSome, IfSome, IfOk, OnOk};
+ghost use Rattle.std.specs.Prelude.{◌≡◌, ◌+◌, ◌*◌, ◌<◌, ◌≤◌, ◌∷◌, [], ℕ, List, decimal, IsSome, IfSome, IfOk, OnOk};
 ghost use Rattle.mw_frame.specs.declared.scene.Scene.{Scene as SceneValue};
 ghost use Rattle.mw_frame.specs.Scenes.{HaveNames};
 ghost use Rattle.wk_base.specs.declared.left.Left.{Left as LeftOver};
 ghost use Rattle.wk_base.specs.declared.title.Title.{Title as TitleValue};
 ghost use Rattle.wk_base.specs.Space.{trim};
+ghost use Rattle.expand_meaning.specs.Kind.{title_named as title_at};
+ghost use Rattle.expand_meaning.specs.Expand.{Setting, Page, Given, none_given, expand, arguments as arguments_of, invocation as invocation_of, invoke as invoke_of, job_of as job_with, module_titled, body as body_of, template as template_of};
 ghost use Rattle.wiki_expand.specs.declared.frame.Frame.{Frame as Waiting};
-ghost use Rattle.wiki_expand.specs.Kind.{title_named as title_at};
-ghost use Rattle.wiki_expand.specs.Expand.{Setting, Page, Given, expand, arguments as arguments_of, invocation as invocation_of, invoke as invoke_of, job_of as job_with, module_titled, body as body_of, template as template_of, is_module as is_module_of};
 ghost use Rattle.wiki_expand.specs.Forests.{trees_in, parts, size, option_trees};
-ghost use Rattle.wiki_expand.specs.Pages.{Pages, held, included_in, setting_in};
-ghost use Rattle.wiki_expand.specs.Points.{plug, point, scene_in, finish as finish_of, calling, given_in, unnamed as unnamed_of, with_name, Leads, Goes_to};
-ghost use Rattle.wiki_expand.specs.Weights.{levels, bodies, allowed, weights, point_weight, Calm, Falls};
-ghost use Rattle.wiki_expand.specs.Asked.{AsksHeld, AsksNamed};
+ghost use Rattle.wiki_expand.specs.Pages.{Pages, find_page, included_in, setting_in};
+ghost use Rattle.wiki_expand.specs.Points.{plug, point, waiting, run_at, scene_in, wiki_setting, finish as finish_of, calling, given_in, unnamed as unnamed_of, with_name, Leads, Goes};
+ghost use Rattle.wiki_expand.specs.Weights.{allowed, weights, point_weight, Calm, Keeps, Falls};
+ghost use Rattle.wiki_expand.specs.Asked.{AsksWell};
 
 use crate::allowances::{enter_body, has_template};
-use crate::arguments::Arguments;
 use crate::forest::{Forest, Nodes};
-use crate::frame::{Call, Focus, Frame, Inner, Progress, Purpose};
-use crate::kind::title_named;
+use crate::frame::{Call, Focus, Frame, Inner, Machine, Progress, Purpose, Wiki};
 use crate::pages::PageMap;
-use crate::space::trimmed;
-use crate::stack::Stack;
-use crate::texts::{copied, depth_text, loop_text, missing_text, no_function_text, no_module_text};
-use crate::walk::{walk, walk_name};
+use crate::walk::{fixed, walk, walk_name};
+use expand_texts::arguments::Arguments;
+use expand_texts::kind::title_named;
+use expand_texts::rope::{Piece, Rope};
+use expand_texts::space::trimmed;
+use expand_texts::stack::Stack;
+use expand_texts::texts::{depth_text, loop_text, missing_text, no_function_text, no_module_text};
 use itoa::Buffer;
 use mw_frame::{Job, Scene};
 use std::alloc::Global;
 use std::mem::replace;
 use wk_base::{Bytes, Left, Namespace, NoMemory, Title};
+
+/// A text that was made here.
+pub fn made<'w>(alloc: Global, text: Vec<u8>) -> Result<Rope<'w>, NoMemory>
+    ensures { IfOk result (λ rope. rope ≡ text.items) }
+{
+    Rope::of(alloc, Piece::Owned(text))
+}
 
 /// Begins an argument: its name, where it has one, and else its value.
 fn begin_argument<'w>(
@@ -75,8 +83,8 @@ fn next_number(number: u64) -> Result<u64, NoMemory>
 }
 
 /// An argument without a name.
-fn add_unnamed<'w>(alloc: Global, call: Call<'w>, text: Vec<u8>) -> Result<Call<'w>, NoMemory>
-    ensures given { IfOk result (λ c. given_in c ≡ unnamed_of call.entry text.items) }
+fn add_unnamed<'w>(alloc: Global, call: Call<'w>, text: Rope<'w>) -> Result<Call<'w>, NoMemory>
+    ensures given { IfOk result (λ c. given_in c ≡ unnamed_of call.entry text.entry) }
     ensures same { IfOk result (λ c. (w : Setting) (g : Given) (sc : SceneValue) (k : List ℕ → Page) → calling w c g sc k ≡ calling w call.entry g sc k) }
     ensures size { IfOk result (λ c. size c.rest ≡ size call.entry.rest) }
 {
@@ -88,7 +96,8 @@ fn add_unnamed<'w>(alloc: Global, call: Call<'w>, text: Vec<u8>) -> Result<Call<
     } = call;
     let mut args = args;
     let name = digits(alloc, number)?;
-    args.put(Bytes::of_vec(name), Bytes::of_vec(text))?;
+    let value = text.into_vec(alloc)?;
+    args.put(Bytes::of_vec(name), Bytes::of_vec(value))?;
     let number = next_number(number)?;
     Ok(Call {
         purpose,
@@ -103,9 +112,9 @@ fn add_named<'w>(
     alloc: Global,
     call: Call<'w>,
     name: Bytes,
-    text: &[u8],
+    text: Rope<'w>,
 ) -> Result<Call<'w>, NoMemory>
-    ensures given { IfOk result (λ c. given_in c ≡ with_name call.entry name (trim text.now)) }
+    ensures given { IfOk result (λ c. given_in c ≡ with_name call.entry name (trim text.entry)) }
     ensures same { IfOk result (λ c. (w : Setting) (g : Given) (sc : SceneValue) (k : List ℕ → Page) → calling w c g sc k ≡ calling w call.entry g sc k) }
     ensures size { IfOk result (λ c. size c.rest ≡ size call.entry.rest) }
 {
@@ -116,8 +125,9 @@ fn add_named<'w>(
         rest,
     } = call;
     let mut args = args;
-    let text = trimmed(alloc, text)?;
-    args.put(name, Bytes::of_vec(text))?;
+    let value = text.trimmed(alloc)?;
+    let value = value.into_vec(alloc)?;
+    args.put(name, Bytes::of_vec(value))?;
     Ok(Call {
         purpose,
         args,
@@ -132,13 +142,14 @@ pub fn name<'w>(
     stack: &mut Stack<Frame<'w>>,
     call: Call<'w>,
     value: Forest<'w>,
-    text: &[u8],
+    text: Rope<'w>,
 ) -> Result<Focus<'w>, NoMemory>
-    ensures same { IfOk result (λ f. (w : Setting) (sc : SceneValue) → expand (trees_in value.entry) sc (λ v. calling w call.entry (with_name call.entry (trim text.now) (trim v)) sc (plug w stack.old sc)) ≡ point w f stack.new sc) }
+    ensures same { IfOk result (λ f. (w : Setting) (sc : SceneValue) → expand (trees_in value.entry) sc (λ v. calling w call.entry (with_name call.entry (trim text.entry) (trim v)) sc (plug w stack.old sc)) ≡ point w f stack.new sc) }
     ensures calm { OnOk result (Calm 1 stack.old stack.new) }
     ensures light { IfOk result (λ f. point_weight f stack.new ≤ 16 * size call.entry.rest + 8 * size value.entry + 20 + weights stack.old) }
 {
-    let name = trimmed(alloc, text)?;
+    let text = text.trimmed(alloc)?;
+    let name = text.into_vec(alloc)?;
     stack.push(Frame::Value(call, Bytes::of_vec(name)))?;
     Ok(Focus::Walk(walk(alloc, value)))
 }
@@ -157,6 +168,7 @@ pub fn invoke<'w>(
     match rest.take_part()? {
         None => {
             let text = no_function_text(alloc)?;
+            let text = made(alloc, text)?;
             Ok(Focus::Text(text))
         }
         Some((function, rest)) => {
@@ -166,24 +178,15 @@ pub fn invoke<'w>(
     }
 }
 
-fn is_module(ns: Namespace) -> bool
-    ensures { result ≡ is_module_of ns }
-{
-    match ns {
-        Namespace::Module => true,
-        _ => false,
-    }
-}
-
 /// The held page of namespace Module that a text names.
 fn module_named(alloc: Global, pages: &PageMap, name: &[u8]) -> Result<Option<Title>, NoMemory>
     ensures title { IfOk result (λ title. (page : TitleValue) → title ≡ module_titled (setting_in pages.now page) (title_at name.now Namespace.Module)) }
-    ensures held { IfOk result (λ title. IfSome title (λ t. (t.ns ≡ Namespace.Module) × IsSome (held pages.now t))) }
+    ensures held { IfOk result (λ title. IfSome title (λ t. (t.ns ≡ Namespace.Module) × IsSome (find_page pages.now t))) }
 {
     let Some(title) = title_named(alloc, name, Namespace::Module)? else {
         return Ok(None);
     };
-    if !is_module(title.ns) {
+    if !title.ns.is_module() {
         return Ok(None);
     }
     if pages.holds(&title) {
@@ -223,218 +226,28 @@ fn job_of(
 
 /// All parts of an `#invoke` are there.
 fn invocation<'w>(
-    alloc: Global,
-    pages: &'w PageMap,
+    wiki: &Wiki<'w>,
     scene: &Inner,
     name: Bytes,
     function: Bytes,
     args: Arguments,
 ) -> Result<Progress<'w>, NoMemory>
-    ensures goes { IfOk result (λ r. (page : TitleValue) (fs : List Waiting) (l : LeftOver) → Goes_to (setting_in pages.now page) (invocation_of (module_titled (setting_in pages.now page) (title_at name Namespace.Module)) name function args (scene_in scene.now) (plug (setting_in pages.now page) fs (scene_in scene.now))) l r fs (scene_in scene.now) l) }
-    ensures held { IfOk result (λ r. AsksHeld pages.now r) }
-    ensures names { IfOk result (λ r. AsksNamed r) }
-    ensures falls { IfOk result (λ r. (fs : List Waiting) (l : LeftOver) → Falls (3 + weights fs) (allowed l fs + 1) r fs l) }
+    ensures goes { IfOk result (λ r. (stack : List Waiting) (l : LeftOver) → Goes wiki.now (invocation_of (module_titled (wiki_setting wiki.now) (title_at name Namespace.Module)) name function args (scene_in scene.now) (plug (wiki_setting wiki.now) stack (scene_in scene.now))) l r (record { scene = scene.now; stack = stack }) l) }
+    ensures falls { IfOk result (λ r. (stack : List Waiting) (l : LeftOver) → Falls (3 + weights stack) (allowed l stack + 1) r stack l) }
+    ensures asks { IfOk result (λ r. AsksWell wiki.now.pages.now r) }
 {
-    match module_named(alloc, pages, name.as_slice())? {
+    let alloc = wiki.alloc;
+    match module_named(alloc, wiki.pages, name.as_slice())? {
         Some(title) => {
             let job = job_of(alloc, title, function, &args, scene)?;
             Ok(Progress::Asks(job))
         }
         None => {
             let text = no_module_text(alloc, name.as_slice())?;
+            let text = made(alloc, text)?;
             Ok(Progress::On(Focus::Text(text)))
         }
     }
-}
-
-/// The text of a page is included, with these arguments.
-pub fn begin_body<'w>(
-    alloc: Global,
-    left: &mut Left,
-    stack: &mut Stack<Frame<'w>>,
-    scene: &mut Inner,
-    trees: Forest<'w>,
-    title: Title,
-    args: Arguments,
-) -> Result<Focus<'w>, NoMemory>
-    ensures leads { IfOk result (λ f. (w : Setting) → Leads w (body_of (trees_in trees.entry) title args (scene_in scene.old) (plug w stack.old (scene_in scene.old))) left.old (point w f stack.new (scene_in scene.new)) left.new) }
-    ensures depth { OnOk result (left.new.depth + levels stack.new ≡ left.old.depth + levels stack.old) }
-    ensures templates { OnOk result (left.new.templates + bodies stack.new ≡ left.old.templates + bodies stack.old) }
-    ensures used { OnOk result ((left.new.steps ≡ left.old.steps) × (left.new.calls ≡ left.old.calls)) }
-    ensures falls { OnOk result (allowed left.new stack.new ≤ allowed left.old stack.old) }
-{
-    if scene.chain.contains(&title) {
-        let text = loop_text(alloc, &title)?;
-        return Ok(Focus::Text(text));
-    }
-    if !enter_body(left) {
-        let text = depth_text(alloc)?;
-        return Ok(Focus::Text(text));
-    }
-    let link = title.copy()?;
-    scene.chain.push(link)?;
-    let caller = replace(&mut scene.title, title);
-    let given = replace(&mut scene.args, args);
-    stack.push(Frame::Body(caller, given))?;
-    Ok(Focus::Walk(walk(alloc, trees)))
-}
-
-/// All arguments are there.
-pub fn finish<'w>(
-    alloc: Global,
-    pages: &'w PageMap,
-    left: &mut Left,
-    stack: &mut Stack<Frame<'w>>,
-    scene: &mut Inner,
-    purpose: Purpose<'w>,
-    args: Arguments,
-) -> Result<Progress<'w>, NoMemory>
-    ensures goes { IfOk result (λ r. (page : TitleValue) → Goes_to (setting_in pages.now page) (finish_of (setting_in pages.now page) purpose.entry (scene_in scene.old) (plug (setting_in pages.now page) stack.old (scene_in scene.old)) args) left.old r stack.new (scene_in scene.new) left.new) }
-    ensures depth { OnOk result (left.new.depth + levels stack.new ≡ left.old.depth + levels stack.old) }
-    ensures templates { OnOk result (left.new.templates + bodies stack.new ≡ left.old.templates + bodies stack.old) }
-    ensures used { OnOk result ((left.new.steps ≡ left.old.steps) × (left.new.calls ≡ left.old.calls)) }
-    ensures falls { IfOk result (λ r. Falls (3 + weights stack.old) (allowed left.old stack.old + 1) r stack.new left.new) }
-    ensures held { IfOk result (λ r. AsksHeld pages.now r) }
-    ensures names { IfOk result (λ r. AsksNamed r) }
-{
-    match purpose {
-        Purpose::Invoke(name, function) => {
-            let progress = invocation(alloc, pages, scene, name, function, args)?;
-            Ok(progress)
-        }
-        Purpose::Template(title, trees) => {
-            let focus = begin_body(alloc, left, stack, scene, trees, title, args)?;
-            Ok(Progress::Deeper(focus))
-        }
-    }
-}
-
-/// Looks at the next argument, or hands on what there is.
-fn arguments<'w>(
-    alloc: Global,
-    pages: &'w PageMap,
-    left: &mut Left,
-    stack: &mut Stack<Frame<'w>>,
-    scene: &mut Inner,
-    call: Call<'w>,
-) -> Result<Progress<'w>, NoMemory>
-    ensures goes { IfOk result (λ r. (page : TitleValue) → Goes_to (setting_in pages.now page) (calling (setting_in pages.now page) call.entry (given_in call.entry) (scene_in scene.old) (plug (setting_in pages.now page) stack.old (scene_in scene.old))) left.old r stack.new (scene_in scene.new) left.new) }
-    ensures depth { OnOk result (left.new.depth + levels stack.new ≡ left.old.depth + levels stack.old) }
-    ensures templates { OnOk result (left.new.templates + bodies stack.new ≡ left.old.templates + bodies stack.old) }
-    ensures used { OnOk result ((left.new.steps ≡ left.old.steps) × (left.new.calls ≡ left.old.calls)) }
-    ensures falls { IfOk result (λ r. Falls (16 * size call.entry.rest + 16 + weights stack.old) (allowed left.old stack.old + 1) r stack.new left.new) }
-    ensures held { IfOk result (λ r. AsksHeld pages.now r) }
-    ensures names { IfOk result (λ r. AsksNamed r) }
-{
-    let Call {
-        purpose,
-        args,
-        number,
-        rest,
-    } = call;
-    match rest.take_part()? {
-        None => {
-            let progress = finish(alloc, pages, left, stack, scene, purpose, args)?;
-            Ok(progress)
-        }
-        Some((part, rest)) => {
-            let call = Call {
-                purpose,
-                args,
-                number,
-                rest,
-            };
-            let focus = begin_argument(alloc, stack, call, part)?;
-            Ok(Progress::On(focus))
-        }
-    }
-}
-
-/// The value of an argument without a name is there.
-pub fn unnamed<'w>(
-    alloc: Global,
-    pages: &'w PageMap,
-    left: &mut Left,
-    stack: &mut Stack<Frame<'w>>,
-    scene: &mut Inner,
-    call: Call<'w>,
-    text: Vec<u8>,
-) -> Result<Progress<'w>, NoMemory>
-    ensures goes { IfOk result (λ r. (page : TitleValue) → Goes_to (setting_in pages.now page) (calling (setting_in pages.now page) call.entry (unnamed_of call.entry text.items) (scene_in scene.old) (plug (setting_in pages.now page) stack.old (scene_in scene.old))) left.old r stack.new (scene_in scene.new) left.new) }
-    ensures depth { OnOk result (left.new.depth + levels stack.new ≡ left.old.depth + levels stack.old) }
-    ensures templates { OnOk result (left.new.templates + bodies stack.new ≡ left.old.templates + bodies stack.old) }
-    ensures used { OnOk result ((left.new.steps ≡ left.old.steps) × (left.new.calls ≡ left.old.calls)) }
-    ensures falls { IfOk result (λ r. Falls (16 * size call.entry.rest + 16 + weights stack.old) (allowed left.old stack.old + 1) r stack.new left.new) }
-    ensures held { IfOk result (λ r. AsksHeld pages.now r) }
-    ensures names { IfOk result (λ r. AsksNamed r) }
-{
-    let call = add_unnamed(alloc, call, text)?;
-    let progress = arguments(alloc, pages, left, stack, scene, call)?;
-    Ok(progress)
-}
-
-/// The value of an argument with a name is there.
-pub fn value<'w>(
-    alloc: Global,
-    pages: &'w PageMap,
-    left: &mut Left,
-    stack: &mut Stack<Frame<'w>>,
-    scene: &mut Inner,
-    call: Call<'w>,
-    name: Bytes,
-    text: &[u8],
-) -> Result<Progress<'w>, NoMemory>
-    ensures goes { IfOk result (λ r. (page : TitleValue) → Goes_to (setting_in pages.now page) (calling (setting_in pages.now page) call.entry (with_name call.entry name (trim text.now)) (scene_in scene.old) (plug (setting_in pages.now page) stack.old (scene_in scene.old))) left.old r stack.new (scene_in scene.new) left.new) }
-    ensures depth { OnOk result (left.new.depth + levels stack.new ≡ left.old.depth + levels stack.old) }
-    ensures templates { OnOk result (left.new.templates + bodies stack.new ≡ left.old.templates + bodies stack.old) }
-    ensures used { OnOk result ((left.new.steps ≡ left.old.steps) × (left.new.calls ≡ left.old.calls)) }
-    ensures falls { IfOk result (λ r. Falls (16 * size call.entry.rest + 16 + weights stack.old) (allowed left.old stack.old + 1) r stack.new left.new) }
-    ensures held { IfOk result (λ r. AsksHeld pages.now r) }
-    ensures names { IfOk result (λ r. AsksNamed r) }
-{
-    let call = add_named(alloc, call, name, text)?;
-    let progress = arguments(alloc, pages, left, stack, scene, call)?;
-    Ok(progress)
-}
-
-/// A template: both tests come before the arguments.
-pub fn template<'w>(
-    alloc: Global,
-    pages: &'w PageMap,
-    left: &mut Left,
-    stack: &mut Stack<Frame<'w>>,
-    scene: &mut Inner,
-    title: Title,
-    rest: Forest<'w>,
-) -> Result<Progress<'w>, NoMemory>
-    ensures goes { IfOk result (λ r. (page : TitleValue) → Goes_to (setting_in pages.now page) (template_of (included_in pages.now title) title (parts rest.entry) (scene_in scene.old) (plug (setting_in pages.now page) stack.old (scene_in scene.old))) left.old r stack.new (scene_in scene.new) left.new) }
-    ensures depth { OnOk result (left.new.depth + levels stack.new ≡ left.old.depth + levels stack.old) }
-    ensures templates { OnOk result (left.new.templates + bodies stack.new ≡ left.old.templates + bodies stack.old) }
-    ensures used { OnOk result ((left.new.steps ≡ left.old.steps) × (left.new.calls ≡ left.old.calls)) }
-    ensures falls { IfOk result (λ r. Falls (16 * size rest.entry + 16 + weights stack.old) (allowed left.old stack.old + 1) r stack.new left.new) }
-    ensures held { IfOk result (λ r. AsksHeld pages.now r) }
-    ensures names { IfOk result (λ r. AsksNamed r) }
-{
-    let Some(trees) = included(pages, &title) else {
-        let text = missing_text(alloc, &title)?;
-        return Ok(Progress::On(Focus::Text(text)));
-    };
-    if scene.chain.contains(&title) {
-        let text = loop_text(alloc, &title)?;
-        return Ok(Progress::On(Focus::Text(text)));
-    }
-    if !has_template(left) {
-        let text = depth_text(alloc)?;
-        return Ok(Progress::On(Focus::Text(text)));
-    }
-    let call = Call {
-        purpose: Purpose::Template(title, trees),
-        args: Arguments::new(alloc),
-        number: 1,
-        rest,
-    };
-    let progress = arguments(alloc, pages, left, stack, scene, call)?;
-    Ok(progress)
 }
 
 /// The text of a page as it is included.
@@ -447,32 +260,196 @@ fn included<'w>(pages: &'w PageMap, title: &Title) -> Option<Forest<'w>>
     }
 }
 
-/// The function of an `#invoke` is there: its arguments follow.
-pub fn function<'w>(
-    alloc: Global,
-    pages: &'w PageMap,
-    left: &mut Left,
-    stack: &mut Stack<Frame<'w>>,
-    scene: &mut Inner,
-    name: Bytes,
-    rest: Forest<'w>,
-    text: &[u8],
-) -> Result<Progress<'w>, NoMemory>
-    ensures goes { IfOk result (λ r. (page : TitleValue) → Goes_to (setting_in pages.now page) (arguments_of (parts rest.entry) (scene_in scene.old) (record { args = []; number = 1 }) (λ args. invocation_of (module_titled (setting_in pages.now page) (title_at name Namespace.Module)) name (trim text.now) args (scene_in scene.old) (plug (setting_in pages.now page) stack.old (scene_in scene.old)))) left.old r stack.new (scene_in scene.new) left.new) }
-    ensures depth { OnOk result (left.new.depth + levels stack.new ≡ left.old.depth + levels stack.old) }
-    ensures templates { OnOk result (left.new.templates + bodies stack.new ≡ left.old.templates + bodies stack.old) }
-    ensures used { OnOk result ((left.new.steps ≡ left.old.steps) × (left.new.calls ≡ left.old.calls)) }
-    ensures falls { IfOk result (λ r. Falls (16 * size rest.entry + 16 + weights stack.old) (allowed left.old stack.old + 1) r stack.new left.new) }
-    ensures held { IfOk result (λ r. AsksHeld pages.now r) }
-    ensures names { IfOk result (λ r. AsksNamed r) }
-{
-    let function = trimmed(alloc, text)?;
-    let call = Call {
-        purpose: Purpose::Invoke(name, Bytes::of_vec(function)),
-        args: Arguments::new(alloc),
-        number: 1,
-        rest,
-    };
-    let progress = arguments(alloc, pages, left, stack, scene, call)?;
-    Ok(progress)
+impl<'w> Machine<'w> {
+    /// The text of a page is included, with these arguments.
+    pub fn begin_body(
+        &mut self,
+        wiki: &Wiki<'w>,
+        left: &mut Left,
+        trees: Forest<'w>,
+        title: Title,
+        args: Arguments,
+    ) -> Result<Focus<'w>, NoMemory>
+        ensures leads { IfOk result (λ f. Leads (wiki_setting wiki.now) (body_of (trees_in trees.entry) title args (scene_in self.old.scene) (waiting wiki.now self.old)) left.old (run_at wiki.now self.new f) left.new) }
+        ensures keeps { OnOk result (Keeps left.old self.old.stack left.new self.new.stack) }
+        ensures falls { OnOk result (allowed left.new self.new.stack ≤ allowed left.old self.old.stack) }
+    {
+        if self.scene.chain.contains(&title) {
+            let text = loop_text(wiki.alloc, &title)?;
+            let text = made(wiki.alloc, text)?;
+            return Ok(Focus::Text(text));
+        }
+        if !enter_body(left) {
+            let text = fixed(wiki.alloc, depth_text())?;
+            return Ok(Focus::Text(text));
+        }
+        let link = title.copy()?;
+        self.scene.chain.push(link)?;
+        let caller = replace(&mut self.scene.title, title);
+        let given = replace(&mut self.scene.args, args);
+        self.stack.push(Frame::Body(caller, given))?;
+        Ok(Focus::Walk(walk(wiki.alloc, trees)))
+    }
+
+    /// All arguments are there.
+    fn finish(
+        &mut self,
+        wiki: &Wiki<'w>,
+        left: &mut Left,
+        purpose: Purpose<'w>,
+        args: Arguments,
+    ) -> Result<Progress<'w>, NoMemory>
+        ensures goes { IfOk result (λ r. Goes wiki.now (finish_of (wiki_setting wiki.now) purpose.entry (scene_in self.old.scene) (waiting wiki.now self.old) args) left.old r self.new left.new) }
+        ensures keeps { OnOk result (Keeps left.old self.old.stack left.new self.new.stack) }
+        ensures falls { IfOk result (λ r. Falls (3 + weights self.old.stack) (allowed left.old self.old.stack + 1) r self.new.stack left.new) }
+        ensures asks { IfOk result (λ r. AsksWell wiki.now.pages.now r) }
+    {
+        match purpose {
+            Purpose::Invoke(name, function) => {
+                let progress = invocation(wiki, &self.scene, name, function, args)?;
+                Ok(progress)
+            }
+            Purpose::Template(title, trees) => {
+                let focus = self.begin_body(wiki, left, trees, title, args)?;
+                Ok(Progress::Deeper(focus))
+            }
+        }
+    }
+
+    /// Looks at the next argument, or hands on what there is.
+    fn arguments(
+        &mut self,
+        wiki: &Wiki<'w>,
+        left: &mut Left,
+        call: Call<'w>,
+    ) -> Result<Progress<'w>, NoMemory>
+        ensures goes { IfOk result (λ r. Goes wiki.now (calling (wiki_setting wiki.now) call.entry (given_in call.entry) (scene_in self.old.scene) (waiting wiki.now self.old)) left.old r self.new left.new) }
+        ensures keeps { OnOk result (Keeps left.old self.old.stack left.new self.new.stack) }
+        ensures falls { IfOk result (λ r. Falls (16 * size call.entry.rest + 16 + weights self.old.stack) (allowed left.old self.old.stack + 1) r self.new.stack left.new) }
+        ensures asks { IfOk result (λ r. AsksWell wiki.now.pages.now r) }
+    {
+        let Call {
+            purpose,
+            args,
+            number,
+            rest,
+        } = call;
+        match rest.take_part()? {
+            None => {
+                let progress = self.finish(wiki, left, purpose, args)?;
+                Ok(progress)
+            }
+            Some((part, rest)) => {
+                let call = Call {
+                    purpose,
+                    args,
+                    number,
+                    rest,
+                };
+                let focus = begin_argument(wiki.alloc, &mut self.stack, call, part)?;
+                Ok(Progress::On(focus))
+            }
+        }
+    }
+
+    /// The value of an argument without a name is there.
+    pub fn unnamed(
+        &mut self,
+        wiki: &Wiki<'w>,
+        left: &mut Left,
+        call: Call<'w>,
+        text: Rope<'w>,
+    ) -> Result<Progress<'w>, NoMemory>
+        ensures goes { IfOk result (λ r. Goes wiki.now (calling (wiki_setting wiki.now) call.entry (unnamed_of call.entry text.entry) (scene_in self.old.scene) (waiting wiki.now self.old)) left.old r self.new left.new) }
+        ensures keeps { OnOk result (Keeps left.old self.old.stack left.new self.new.stack) }
+        ensures falls { IfOk result (λ r. Falls (16 * size call.entry.rest + 16 + weights self.old.stack) (allowed left.old self.old.stack + 1) r self.new.stack left.new) }
+        ensures asks { IfOk result (λ r. AsksWell wiki.now.pages.now r) }
+    {
+        let call = add_unnamed(wiki.alloc, call, text)?;
+        let progress = self.arguments(wiki, left, call)?;
+        Ok(progress)
+    }
+
+    /// The value of an argument with a name is there.
+    pub fn value(
+        &mut self,
+        wiki: &Wiki<'w>,
+        left: &mut Left,
+        call: Call<'w>,
+        name: Bytes,
+        text: Rope<'w>,
+    ) -> Result<Progress<'w>, NoMemory>
+        ensures goes { IfOk result (λ r. Goes wiki.now (calling (wiki_setting wiki.now) call.entry (with_name call.entry name (trim text.entry)) (scene_in self.old.scene) (waiting wiki.now self.old)) left.old r self.new left.new) }
+        ensures keeps { OnOk result (Keeps left.old self.old.stack left.new self.new.stack) }
+        ensures falls { IfOk result (λ r. Falls (16 * size call.entry.rest + 16 + weights self.old.stack) (allowed left.old self.old.stack + 1) r self.new.stack left.new) }
+        ensures asks { IfOk result (λ r. AsksWell wiki.now.pages.now r) }
+    {
+        let call = add_named(wiki.alloc, call, name, text)?;
+        let progress = self.arguments(wiki, left, call)?;
+        Ok(progress)
+    }
+
+    /// A template: both tests come before the arguments.
+    pub fn template(
+        &mut self,
+        wiki: &Wiki<'w>,
+        left: &mut Left,
+        title: Title,
+        rest: Forest<'w>,
+    ) -> Result<Progress<'w>, NoMemory>
+        ensures goes { IfOk result (λ r. Goes wiki.now (template_of (included_in wiki.now.pages.now title) title (parts rest.entry) (scene_in self.old.scene) (waiting wiki.now self.old)) left.old r self.new left.new) }
+        ensures keeps { OnOk result (Keeps left.old self.old.stack left.new self.new.stack) }
+        ensures falls { IfOk result (λ r. Falls (16 * size rest.entry + 16 + weights self.old.stack) (allowed left.old self.old.stack + 1) r self.new.stack left.new) }
+        ensures asks { IfOk result (λ r. AsksWell wiki.now.pages.now r) }
+    {
+        let alloc = wiki.alloc;
+        let Some(trees) = included(wiki.pages, &title) else {
+            let text = missing_text(alloc, &title)?;
+            let text = made(alloc, text)?;
+            return Ok(Progress::On(Focus::Text(text)));
+        };
+        if self.scene.chain.contains(&title) {
+            let text = loop_text(alloc, &title)?;
+            let text = made(alloc, text)?;
+            return Ok(Progress::On(Focus::Text(text)));
+        }
+        if !has_template(left) {
+            let text = fixed(alloc, depth_text())?;
+            return Ok(Progress::On(Focus::Text(text)));
+        }
+        let call = Call {
+            purpose: Purpose::Template(title, trees),
+            args: Arguments::new(alloc, wiki.pages.seed()),
+            number: 1,
+            rest,
+        };
+        let progress = self.arguments(wiki, left, call)?;
+        Ok(progress)
+    }
+
+    /// The function of an `#invoke` is there: its arguments follow.
+    pub fn function(
+        &mut self,
+        wiki: &Wiki<'w>,
+        left: &mut Left,
+        name: Bytes,
+        rest: Forest<'w>,
+        text: Rope<'w>,
+    ) -> Result<Progress<'w>, NoMemory>
+        ensures goes { IfOk result (λ r. Goes wiki.now (arguments_of (parts rest.entry) (scene_in self.old.scene) none_given (λ args. invocation_of (module_titled (wiki_setting wiki.now) (title_at name Namespace.Module)) name (trim text.entry) args (scene_in self.old.scene) (waiting wiki.now self.old))) left.old r self.new left.new) }
+        ensures keeps { OnOk result (Keeps left.old self.old.stack left.new self.new.stack) }
+        ensures falls { IfOk result (λ r. Falls (16 * size rest.entry + 16 + weights self.old.stack) (allowed left.old self.old.stack + 1) r self.new.stack left.new) }
+        ensures asks { IfOk result (λ r. AsksWell wiki.now.pages.now r) }
+    {
+        let text = text.trimmed(wiki.alloc)?;
+        let function = text.into_vec(wiki.alloc)?;
+        let call = Call {
+            purpose: Purpose::Invoke(name, Bytes::of_vec(function)),
+            args: Arguments::new(wiki.alloc, wiki.pages.seed()),
+            number: 1,
+            rest,
+        };
+        let progress = self.arguments(wiki, left, call)?;
+        Ok(progress)
+    }
 }

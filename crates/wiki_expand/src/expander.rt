@@ -3,27 +3,26 @@ ghost use Rattle.std.specs.Prelude.{◌≡◌, ◌+◌, ◌*◌, ◌<◌, ◌≤
 ghost use Rattle.mw_frame.specs.Scenes.{NamesDiffer};
 ghost use Rattle.mw_frame.specs.declared.scene.Scene.{Scene as SceneValue};
 ghost use Rattle.wiki_expand.specs.declared.frame.Frame.{Frame as Waiting};
-ghost use Rattle.wiki_expand.specs.Expand.{Setting};
+ghost use Rattle.expand_meaning.specs.Expand.{Setting};
 ghost use Rattle.wk_base.specs.declared.left.Left.{Left as LeftOver};
 ghost use Rattle.page_run.specs.State.{Reply, Gives};
 ghost use Rattle.wiki_expand.specs.Pages.{setting_in, direct_in};
-ghost use Rattle.wiki_expand.specs.Points.{plug, point, scene_in, Goes_to};
-ghost use Rattle.wiki_expand.specs.Weights.{levels, bodies, allowed, weights, point_weight, Falls};
-ghost use Rattle.wiki_expand.specs.Asked.{AsksHeld, AsksNamed};
-ghost use Rattle.wiki_expand.specs.Told.{Work};
+ghost use Rattle.wiki_expand.specs.Points.{wiki_setting, plug, run_at, scene_in};
+ghost use Rattle.wiki_expand.specs.Weights.{levels, bodies, allowed, Keeps};
+ghost use Rattle.expand_meaning.specs.Outcome.{Work};
 ghost use Rattle.wiki_expand.specs.Forests.{trees_in};
-ghost use Rattle.wiki_expand.specs.Standing.{ready, LeadsIf, IsDoing, doing_point, work_from, work_page, IsHeldSource, Moves, Pauses, PauseFalls, PauseHeld, At, Waits, IsMove, MoveHeld, MoveNamed, MoveFalls, IsReady, IsWaiting, IsAfter, setting_of, work_of, depth_in, templates_in, allowed_in};
+ghost use Rattle.wiki_expand.specs.Standing.{ready, LeadsIf, IsDoing, doing_point, work_from, work_page, IsHeldSource, Moves, Pauses, PauseFalls, PauseAsks, At, Waits, IsMove, MoveAsks, MoveFalls, IsReady, IsWaiting, IsAfter, setting_of, work_of, depth_in, templates_in, allowed_in};
 
-use crate::arguments::Arguments;
-use crate::calls::begin_body;
+use crate::calls::made;
 use crate::forest::{Forest, Nodes};
-use crate::frame::{Focus, Frame, Inner, Pause, Progress};
+use crate::frame::{Focus, Inner, Machine, Pause, Progress, Wiki};
 use crate::pages::PageMap;
-use crate::resume::resume;
-use crate::stack::Stack;
-use crate::walk::{walk, walk_on};
+use crate::walk::walk;
+use expand_texts::arguments::Arguments;
+use expand_texts::stack::Stack;
 use mw_frame::{Arg, Job, Scene};
 use std::alloc::Global;
+use std::hash::RandomState;
 use std::mem::replace;
 use std::rc::Rc;
 use wiki_markup::Marked;
@@ -60,90 +59,102 @@ pub enum Doing<'w> {
 /// The expansion of a text, which stops at each invocation (MediaWiki, Help:Templates).
 #[derive(Drop)]
 pub struct Expander<'w> {
-    alloc: Global,
-    pages: &'w PageMap,
-    page: Title,
-    scene: Inner,
-    stack: Stack<Frame<'w>>,
+    wiki: Wiki<'w>,
+    machine: Machine<'w>,
     doing: Doing<'w>,
 }
 
-/// Goes on up to the next pause.
-fn run<'w>(
-    alloc: Global,
-    pages: &'w PageMap,
-    page: &Title,
-    left: &mut Left,
-    stack: &mut Stack<Frame<'w>>,
-    scene: &mut Inner,
-    focus: Focus<'w>,
-) -> Result<Pause<'w>, NoMemory>
-    requires depth { left.old.depth + levels stack.old < 2 ^ 64 }
-    requires templates { left.old.templates + bodies stack.old < 2 ^ 64 }
-    ensures goes { IfOk result (λ r. Pauses (setting_in pages.now page.now) (point (setting_in pages.now page.now) focus.entry stack.old (scene_in scene.old)) left.old r stack.new (scene_in scene.new) left.new) }
-    ensures depth { OnOk result (left.new.depth + levels stack.new ≡ left.old.depth + levels stack.old) }
-    ensures templates { OnOk result (left.new.templates + bodies stack.new ≡ left.old.templates + bodies stack.old) }
-    ensures used { OnOk result ((left.new.steps ≡ left.old.steps) × (left.new.calls ≡ left.old.calls)) }
-    ensures falls { IfOk result (λ r. PauseFalls (allowed left.old stack.old) r stack.new left.new) }
-    ensures held { IfOk result (λ r. PauseHeld pages.now r) }
-{
-    let mut focus = focus;
-    loop {
-        match focus {
-            Focus::Walk(walk) => match walk_on(alloc, left, stack, walk)? {
-                Progress::On(next) => {
-                    focus = next;
-                    continue;
-                }
-                Progress::Deeper(next) => return Ok(Pause::Deeper(next)),
-                Progress::Asks(job) => return Ok(Pause::Asks(job)),
-            },
-            Focus::Text(text) => match stack.pop() {
-                None => return Ok(Pause::Ended(text)),
-                Some(top) => {
-                    match resume(alloc, pages, page, left, stack, scene, top, text)? {
+impl<'w> Machine<'w> {
+    /// Goes on up to the next pause.
+    fn run(
+        &mut self,
+        wiki: &Wiki<'w>,
+        left: &mut Left,
+        focus: Focus<'w>,
+    ) -> Result<Pause<'w>, NoMemory>
+        requires depth { left.old.depth + levels self.old.stack < 2 ^ 64 }
+        requires templates { left.old.templates + bodies self.old.stack < 2 ^ 64 }
+        ensures goes { IfOk result (λ r. Pauses wiki.now (run_at wiki.now self.old focus.entry) left.old r self.new left.new) }
+        ensures keeps { OnOk result (Keeps left.old self.old.stack left.new self.new.stack) }
+        ensures falls { IfOk result (λ r. PauseFalls (allowed left.old self.old.stack) r self.new.stack left.new) }
+        ensures asks { IfOk result (λ r. PauseAsks wiki.now.pages.now r) }
+    {
+        let mut focus = focus;
+        loop {
+            match focus {
+                Focus::Walk(walk) => match self.walk_on(wiki, left, walk)? {
+                    Progress::On(next) => {
+                        focus = next;
+                        continue;
+                    }
+                    Progress::Deeper(next) => return Ok(Pause::Deeper(next)),
+                    Progress::Asks(job) => return Ok(Pause::Asks(job)),
+                },
+                Focus::Text(text) => match self.stack.pop() {
+                    None => return Ok(Pause::Ended(text)),
+                    Some(top) => match self.resume(wiki, left, top, text)? {
                         Progress::On(next) => {
                             focus = next;
                             continue;
                         }
                         Progress::Deeper(next) => return Ok(Pause::Deeper(next)),
                         Progress::Asks(job) => return Ok(Pause::Asks(job)),
-                    }
-                }
-            },
+                    },
+                },
+            }
         }
     }
-}
 
-/// What ends a run of steps: the text, or an invocation.
-fn next_move<'w>(
-    alloc: Global,
-    pages: &'w PageMap,
-    page: &Title,
-    left: &mut Left,
-    stack: &mut Stack<Frame<'w>>,
-    scene: &mut Inner,
-    focus: Focus<'w>,
-) -> Result<Move, NoMemory>
-    requires depth { left.old.depth + levels stack.old < 2 ^ 64 }
-    requires templates { left.old.templates + bodies stack.old < 2 ^ 64 }
-    ensures moves { IfOk result (λ m. Moves (setting_in pages.now page.now) (point (setting_in pages.now page.now) focus.entry stack.old (scene_in scene.old)) left.old m stack.new (scene_in scene.new) left.new) }
-    ensures depth { OnOk result (left.new.depth + levels stack.new ≡ left.old.depth + levels stack.old) }
-    ensures templates { OnOk result (left.new.templates + bodies stack.new ≡ left.old.templates + bodies stack.old) }
-    ensures used { OnOk result ((left.new.steps ≡ left.old.steps) × (left.new.calls ≡ left.old.calls)) }
-    ensures falls { IfOk result (λ m. MoveFalls m (allowed left.old stack.old) (allowed left.new stack.new)) }
-    ensures held { IfOk result (λ m. MoveHeld pages.now m) }
-    ensures names { IfOk result (λ m. MoveNamed m) }
-{
-    let mut focus = focus;
-    loop {
-        match run(alloc, pages, page, left, stack, scene, focus)? {
-            Pause::Deeper(next) => {
-                focus = next;
-                continue;
+    /// What ends a run of steps: the text, or an invocation.
+    fn next_move(
+        &mut self,
+        wiki: &Wiki<'w>,
+        left: &mut Left,
+        focus: Focus<'w>,
+    ) -> Result<Move, NoMemory>
+        requires depth { left.old.depth + levels self.old.stack < 2 ^ 64 }
+        requires templates { left.old.templates + bodies self.old.stack < 2 ^ 64 }
+        ensures moves { IfOk result (λ m. Moves wiki.now (run_at wiki.now self.old focus.entry) left.old m self.new left.new) }
+        ensures keeps { OnOk result (Keeps left.old self.old.stack left.new self.new.stack) }
+        ensures falls { IfOk result (λ m. MoveFalls m (allowed left.old self.old.stack) (allowed left.new self.new.stack)) }
+        ensures asks { IfOk result (λ m. MoveAsks wiki.now.pages.now m) }
+    {
+        let mut focus = focus;
+        loop {
+            match self.run(wiki, left, focus)? {
+                Pause::Deeper(next) => {
+                    focus = next;
+                    continue;
+                }
+                Pause::Asks(job) => return Ok(Move::Invoke(job)),
+                Pause::Ended(text) => {
+                    let bytes = text.into_vec(wiki.alloc)?;
+                    return Ok(Move::Text(Bytes::of_vec(bytes)));
+                }
             }
-            Pause::Asks(job) => return Ok(Move::Invoke(job)),
-            Pause::Ended(text) => return Ok(Move::Text(Bytes::of_vec(text))),
+        }
+    }
+
+    /// Where an expander goes on.
+    fn begin_focus(
+        &mut self,
+        wiki: &Wiki<'w>,
+        left: &mut Left,
+        doing: Doing<'w>,
+    ) -> Result<Focus<'w>, NoMemory>
+        requires { ready doing }
+        ensures leads { IfOk result (λ f. LeadsIf (wiki_setting wiki.now) (doing_point doing.entry (wiki_setting wiki.now) self.old.stack (scene_in self.old.scene)) left.old (run_at wiki.now self.new f) left.new) }
+        ensures keeps { OnOk result (Keeps left.old self.old.stack left.new self.new.stack) }
+        ensures falls { OnOk result (allowed left.new self.new.stack ≤ allowed left.old self.old.stack) }
+    {
+        match doing {
+            Doing::Ready(focus) => Ok(focus),
+            Doing::Begins(title, trees, args) => {
+                let focus = self.begin_body(wiki, left, trees, title, args)?;
+                Ok(focus)
+            }
+            Doing::Waiting => unreachable!(),
+            Doing::Over => unreachable!(),
         }
     }
 }
@@ -182,6 +193,7 @@ fn read_source<'w>(
 /// The beginning of a source.
 fn begin<'w>(
     alloc: Global,
+    seed: RandomState,
     trees: Forest<'w>,
     template: Option<Title>,
     args: &[Arg],
@@ -193,35 +205,9 @@ fn begin<'w>(
     match template {
         None => Ok(Doing::Ready(Focus::Walk(walk(alloc, trees)))),
         Some(title) => {
-            let args = Arguments::of_list(alloc, args)?;
+            let args = Arguments::of_list(alloc, seed, args)?;
             Ok(Doing::Begins(title, trees, args))
         }
-    }
-}
-
-/// Where an expander goes on.
-fn begin_focus<'w>(
-    alloc: Global,
-    left: &mut Left,
-    stack: &mut Stack<Frame<'w>>,
-    scene: &mut Inner,
-    doing: Doing<'w>,
-) -> Result<Focus<'w>, NoMemory>
-    requires { ready doing }
-    ensures leads { IfOk result (λ f. (w : Setting) → LeadsIf w (doing_point doing.entry w stack.old (scene_in scene.old)) left.old (point w f stack.new (scene_in scene.new)) left.new) }
-    ensures depth { OnOk result (left.new.depth + levels stack.new ≡ left.old.depth + levels stack.old) }
-    ensures templates { OnOk result (left.new.templates + bodies stack.new ≡ left.old.templates + bodies stack.old) }
-    ensures used { OnOk result ((left.new.steps ≡ left.old.steps) × (left.new.calls ≡ left.old.calls)) }
-    ensures falls { OnOk result (allowed left.new stack.new ≤ allowed left.old stack.old) }
-{
-    match doing {
-        Doing::Ready(focus) => Ok(focus),
-        Doing::Begins(title, trees, args) => {
-            let focus = begin_body(alloc, left, stack, scene, trees, title, args)?;
-            Ok(focus)
-        }
-        Doing::Waiting => unreachable!(),
-        Doing::Over => unreachable!(),
     }
 }
 
@@ -257,18 +243,20 @@ impl<'w> Expander<'w> {
     {
         let (trees, template) = read_source(alloc, pages, source)?;
         let Scene { title, args, chain } = scene;
-        let doing = begin(alloc, trees, template, args.as_slice())?;
-        let args = Arguments::of_list(alloc, args.as_slice())?;
+        let doing = begin(alloc, pages.seed(), trees, template, args.as_slice())?;
+        let args = Arguments::of_list(alloc, pages.seed(), args.as_slice())?;
+        let page = page.copy()?;
+        let scene = Inner {
+            title,
+            args,
+            chain: Stack::of_vec(chain.into_vec()),
+        };
         Ok(Expander {
-            alloc,
-            pages,
-            page: page.copy()?,
-            scene: Inner {
-                title,
-                args,
-                chain: Stack::of_list(chain),
+            wiki: Wiki { alloc, pages, page },
+            machine: Machine {
+                scene,
+                stack: Stack::new(alloc),
             },
-            stack: Stack::new(alloc),
             doing,
         })
     }
@@ -281,8 +269,7 @@ impl<'w> Expander<'w> {
         requires depth { left.old.depth + depth_in self.old < 2 ^ 64 }
         requires templates { left.old.templates + templates_in self.old < 2 ^ 64 }
         ensures goes { IfOk result (λ m. (work : Work) (first : LeftOver) (given : List (Reply (List ℕ))) → At self.old work first given left.old → IsMove m self.new work first given left.new) }
-        ensures held { IfOk result (λ m. MoveHeld self.old.pages.now m) }
-        ensures names { IfOk result (λ m. MoveNamed m) }
+        ensures asks { IfOk result (λ m. MoveAsks self.old.wiki.pages.now m) }
         ensures setting { OnOk result (setting_of self.new ≡ setting_of self.old) }
         ensures depth { OnOk result (left.new.depth + depth_in self.new ≡ left.old.depth + depth_in self.old) }
         ensures templates { OnOk result (left.new.templates + templates_in self.new ≡ left.old.templates + templates_in self.old) }
@@ -291,16 +278,8 @@ impl<'w> Expander<'w> {
         ensures falls { IfOk result (λ m. MoveFalls m (allowed_in left.old self.old) (allowed_in left.new self.new)) }
     {
         let doing = replace(&mut self.doing, Doing::Over);
-        let focus = begin_focus(self.alloc, left, &mut self.stack, &mut self.scene, doing)?;
-        let next = next_move(
-            self.alloc,
-            self.pages,
-            &self.page,
-            left,
-            &mut self.stack,
-            &mut self.scene,
-            focus,
-        )?;
+        let focus = self.machine.begin_focus(&self.wiki, left, doing)?;
+        let next = self.machine.next_move(&self.wiki, left, focus)?;
         self.doing = doing_after(&next);
         Ok(next)
     }
@@ -317,7 +296,8 @@ impl<'w> Expander<'w> {
         ensures falls { OnOk result (allowed_in left.new self.new ≡ allowed_in left.old self.old) }
     {
         let _ = left;
-        self.doing = Doing::Ready(Focus::Text(text.into_vec()));
+        let text = made(self.wiki.alloc, text.into_vec())?;
+        self.doing = Doing::Ready(Focus::Text(text));
         Ok(())
     }
 }

@@ -2,12 +2,14 @@
 ghost use Rattle.std.specs.Prelude.{◌≡◌, ◌+◌, ◌-◌, ◌<◌, ◌≤◌, [], ◌∷◌, cond, min, max, slice_get, MatchOption, None, Some, IfOk, IfSome};
 ghost use Rattle.std.specs.Option.{option_copied};
 ghost use Rattle.wiki_markup.specs.Trees.{done};
-ghost use Rattle.wiki_expand.specs.Places.{trees_at, part_in, first_in, others_in, no_part, value_in};
-ghost use Rattle.wiki_expand.specs.Forests.{nodes_in, trees_in, size, parts, Splits, Falls, option_trees, option_size, GoesPast, PastFalls};
+ghost use Rattle.expand_meaning.specs.Places.{trees_at, part_in, first_in, others_in, no_part, value_in};
+ghost use Rattle.expand_texts.specs.Ropes.{bytes_of};
+ghost use Rattle.wiki_expand.specs.Forests.{nodes_in, trees_in, text_in, size, parts, Splits, Falls, option_trees, option_size, GoesPast, PastFalls};
 
+use expand_texts::rope::Piece;
 use std::rc::Rc;
 use wiki_markup::{Marked, Node, NodeKind};
-use wk_base::{Bytes, NoMemory};
+use wk_base::NoMemory;
 
 /// The nodes of a page that is held, or of a text of its own.
 #[derive(Drop)]
@@ -26,9 +28,9 @@ pub struct Forest<'w> {
 
 /// The first tree of a forest, with what stands in it, and the trees behind it.
 #[derive(Drop)]
-pub enum Split<'f, 'w> {
+pub enum Split<'w> {
     Nothing,
-    Text(&'f Bytes, Forest<'w>),
+    Text(Piece<'w>, Forest<'w>),
     Equals(Forest<'w>),
     Construct(Forest<'w>, Forest<'w>),
     Parameter(Forest<'w>, Forest<'w>),
@@ -73,6 +75,26 @@ fn clamped(end: usize, first: usize, last: usize) -> usize
     end.max(first).min(last)
 }
 
+/// The text of a node of a page, which stays where it is.
+fn borrowed<'w>(node: &'w Node) -> Piece<'w>
+    ensures { bytes_of result ≡ text_in node.now.kind }
+{
+    match &node.kind {
+        NodeKind::Text(bytes) => Piece::Borrowed(bytes.as_slice()),
+        _ => Piece::Borrowed(b""),
+    }
+}
+
+/// A copy of the text of a node.
+fn copied<'w>(node: &Node) -> Result<Piece<'w>, NoMemory>
+    ensures { IfOk result (λ text. bytes_of text ≡ text_in node.now.kind) }
+{
+    match &node.kind {
+        NodeKind::Text(bytes) => Ok(Piece::Owned(bytes.copy()?.into_vec())),
+        _ => Ok(Piece::Borrowed(b"")),
+    }
+}
+
 impl<'w> Forest<'w> {
     /// All trees of some nodes.
     pub fn all(nodes: Nodes<'w>) -> Forest<'w>
@@ -92,34 +114,44 @@ impl<'w> Forest<'w> {
         Ok(Forest { nodes, at, end })
     }
 
-    fn first(&self) -> Option<&Node>
-        ensures { option_copied result ≡ slice_get (nodes_in self.now.nodes) self.now.at }
-    {
-        self.nodes.as_slice().get(self.at)
-    }
-
     /// The first tree, and what stands in it and behind it.
-    pub fn split(&self) -> Result<Split<'_, 'w>, NoMemory>
+    pub fn split(&self) -> Result<Split<'w>, NoMemory>
         ensures splits { IfOk result (λ s. Splits s (trees_in self.now)) }
         ensures falls { IfOk result (λ s. Falls s (size self.now)) }
     {
         if self.at >= self.end {
             return Ok(Split::Nothing);
         }
-        match self.first() {
-            None => Ok(Split::Nothing),
-            Some(node) => {
-                let cut = clamped(node.end, self.at + 1, self.end);
-                let inside = self.part(self.at + 1, cut)?;
-                let rest = self.part(cut, self.end)?;
-                match &node.kind {
-                    NodeKind::Text(bytes) => Ok(Split::Text(bytes, rest)),
-                    NodeKind::Equals => Ok(Split::Equals(rest)),
-                    NodeKind::Construct => Ok(Split::Construct(inside, rest)),
-                    NodeKind::Parameter => Ok(Split::Parameter(inside, rest)),
-                    NodeKind::Part => Ok(Split::Part(inside, rest)),
-                }
-            }
+        match &self.nodes {
+            Nodes::Held(nodes) => match nodes.get(self.at) {
+                None => Ok(Split::Nothing),
+                Some(node) => self.split_at(node, borrowed(node)),
+            },
+            Nodes::Own(marked) => match marked.as_ref().nodes.as_slice().get(self.at) {
+                None => Ok(Split::Nothing),
+                Some(node) => self.split_at(node, copied(node)?),
+            },
+        }
+    }
+
+    /// The tree of the first node, whose text is given where it is one.
+    fn split_at(&self, node: &Node, text: Piece<'w>) -> Result<Split<'w>, NoMemory>
+        requires some { self.now.at < self.now.end }
+        requires first { slice_get (nodes_in self.now.nodes) self.now.at ≡ Some node.now }
+        requires text { bytes_of text ≡ text_in node.now.kind }
+        ensures splits { IfOk result (λ s. Splits s (trees_in self.now)) }
+        ensures falls { IfOk result (λ s. Falls s (size self.now)) }
+    {
+        let end = self.end;
+        let cut = clamped(node.end, self.at + 1, end);
+        let inside = self.part(self.at + 1, cut)?;
+        let rest = self.part(cut, end)?;
+        match &node.kind {
+            NodeKind::Text(_) => Ok(Split::Text(text, rest)),
+            NodeKind::Equals => Ok(Split::Equals(rest)),
+            NodeKind::Construct => Ok(Split::Construct(inside, rest)),
+            NodeKind::Parameter => Ok(Split::Parameter(inside, rest)),
+            NodeKind::Part => Ok(Split::Part(inside, rest)),
         }
     }
 

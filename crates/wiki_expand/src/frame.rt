@@ -1,9 +1,27 @@
 //! What the expander does next, and what waits for a text.
-use crate::arguments::Arguments;
 use crate::forest::Forest;
-use crate::stack::Stack;
+use crate::pages::PageMap;
+use expand_texts::arguments::Arguments;
+use expand_texts::rope::Rope;
+use expand_texts::stack::Stack;
 use mw_frame::Job;
+use std::alloc::Global;
 use wk_base::{Bytes, Title};
+
+/// What stays while a page is expanded: the pages, and the title of the one that is expanded.
+#[derive(Drop)]
+pub struct Wiki<'w> {
+    pub alloc: Global,
+    pub pages: &'w PageMap,
+    pub page: Title,
+}
+
+/// What changes: the scene in which the next text is expanded, and what waits for a text, the nearest first.
+#[derive(Drop)]
+pub struct Machine<'w> {
+    pub scene: Inner,
+    pub stack: Stack<Frame<'w>>,
+}
 
 /// The text in which the expander stands: the page, or the body of a template.
 #[derive(Drop)]
@@ -19,7 +37,7 @@ pub struct Inner {
 pub struct Walk<'w> {
     pub rest: Forest<'w>,
     pub named: bool,
-    pub out: Vec<u8>,
+    pub out: Rope<'w>,
 }
 
 /// What a `#switch` knows before a part.
@@ -66,7 +84,7 @@ pub enum Frame<'w> {
     Level,
     /// White space at the ends doesn't count.
     Trim,
-    /// The name of a parameter, with the parts behind it.
+    /// The name of a parameter, with the parts behind it; the parameter has a level.
     Parameter(Forest<'w>),
     /// The first part of a construct, with the parts behind it.
     First(Forest<'w>),
@@ -94,7 +112,7 @@ pub enum Frame<'w> {
 #[derive(Drop)]
 pub enum Focus<'w> {
     Walk(Walk<'w>),
-    Text(Vec<u8>),
+    Text(Rope<'w>),
 }
 
 /// How a step ends.
@@ -116,13 +134,13 @@ pub enum Pause<'w> {
     /// It waits for what an invocation gives.
     Asks(Job),
     /// It has come to its text.
-    Ended(Vec<u8>),
+    Ended(Rope<'w>),
 }
 
 /// What comes of opening a construct or a parameter: the text in its place, or it is entered.
 #[derive(Drop)]
-pub enum Entry {
-    NoNode(Vec<u8>),
-    NoLevel(Vec<u8>),
+pub enum Entry<'w> {
+    NoNode(Rope<'w>),
+    NoLevel(Rope<'w>),
     Entered,
 }

@@ -2,21 +2,24 @@
 ghost use Rattle.std.specs.Prelude.{◌≡◌, ◌+◌, ◌*◌, ◌<◌, ◌≤◌, ◌∷◌, ◌++◌, false, cond, codes, IfOk, OnOk};
 ghost use Rattle.mw_frame.specs.declared.scene.Scene.{Scene};
 ghost use Rattle.wk_base.specs.Space.{trim};
-ghost use Rattle.wiki_expand.specs.Expand.{Setting, expand, trimmed, either as either_of, is_text as is_text_of, if_equal as if_equal_of, is_default as is_default_of, by_name, after_turn, valueless as valueless_of, switch as switch_of, all_parts};
-ghost use Rattle.wiki_expand.specs.Places.{no_part};
+ghost use Rattle.expand_meaning.specs.Texts.{are_equal as are_equal_to};
+ghost use Rattle.expand_meaning.specs.Expand.{Setting, expand, trimmed, either as either_of, is_text as is_text_of, if_equal as if_equal_of, is_default as is_default_of, by_name, after_turn, valueless as valueless_of, switch as switch_of, nothing_seen, all_parts};
+ghost use Rattle.expand_meaning.specs.Places.{no_part};
+ghost use Rattle.expand_texts.specs.Ropes.{bytes_of};
 ghost use Rattle.wiki_expand.specs.Forests.{trees_in, parts, size};
 ghost use Rattle.wiki_expand.specs.Points.{plug, point, seen_in};
 ghost use Rattle.wiki_expand.specs.Weights.{weights, point_weight, Calm};
 
-use crate::equality::are_equal;
 use crate::forest::Forest;
 use crate::frame::{Focus, Frame, Seen, Switch, Walk};
-use crate::space::{trim, trimmed};
-use crate::stack::Stack;
-use crate::texts::append;
-use crate::walk::{walk, walk_name};
+use crate::walk::{fixed, walk, walk_name};
+use expand_texts::equality::are_equal;
+use expand_texts::rope::{Piece, Rope};
+use expand_texts::space::trimmed;
+use expand_texts::stack::Stack;
 use std::alloc::Global;
 use wk_base::NoMemory;
+use wk_base::space::trim;
 
 /// A part whose ends are trimmed.
 fn trimmed_part<'w>(
@@ -73,6 +76,24 @@ pub fn if_equal<'w>(
     let (right, branches) = rest.head()?;
     stack.push(Frame::Compare(left, branches))?;
     Ok(Focus::Walk(walk(alloc, right)))
+}
+
+/// The right side of `#ifeq` is there.
+pub fn compare<'w>(
+    alloc: Global,
+    stack: &mut Stack<Frame<'w>>,
+    left: &[u8],
+    branches: Forest<'w>,
+    text: Rope<'w>,
+) -> Result<Focus<'w>, NoMemory>
+    ensures same { IfOk result (λ f. (w : Setting) (sc : Scene) → either_of (are_equal_to left.now (trim text.entry)) (parts branches.entry) sc (plug w stack.old sc) ≡ point w f stack.new sc) }
+    ensures calm { OnOk result (Calm 0 stack.old stack.new) }
+    ensures light { IfOk result (λ f. point_weight f stack.new ≤ 8 * size branches.entry + 5 + weights stack.old) }
+{
+    let right = text.into_piece(alloc)?;
+    let first = are_equal(left, trim(right.as_slice()));
+    let focus = either(alloc, stack, first, branches)?;
+    Ok(focus)
 }
 
 /// A `#switch` looks at its next part.
@@ -174,13 +195,14 @@ pub fn case<'w>(
     stack: &mut Stack<Frame<'w>>,
     state: Switch<'w>,
     value: Forest<'w>,
-    text: &[u8],
+    text: Rope<'w>,
 ) -> Result<Focus<'w>, NoMemory>
-    ensures same { IfOk result (λ f. (w : Setting) (sc : Scene) → by_name state.entry.value.items (trim text.now) (trees_in value.entry) sc (seen_in state.entry.seen) (λ t. after_turn t (switch_of state.entry.value.items (parts state.entry.rest) sc) (plug w stack.old sc)) ≡ point w f stack.new sc) }
+    ensures same { IfOk result (λ f. (w : Setting) (sc : Scene) → by_name state.entry.value.items (trim text.entry) (trees_in value.entry) sc (seen_in state.entry.seen) (λ t. after_turn t (switch_of state.entry.value.items (parts state.entry.rest) sc) (plug w stack.old sc)) ≡ point w f stack.new sc) }
     ensures calm { OnOk result (Calm 0 stack.old stack.new) }
     ensures light { IfOk result (λ f. point_weight f stack.new < 16 * size state.entry.rest + 8 * size value.entry + 8 * size state.entry.seen.default + 16 + weights stack.old) }
 {
-    let name = trim(text);
+    let text = text.into_piece(alloc)?;
+    let name = trim(text.as_slice());
     if are_equal(&state.value, name) {
         let focus = trimmed_part(alloc, stack, value)?;
         return Ok(focus);
@@ -196,24 +218,24 @@ pub fn valueless<'w>(
     alloc: Global,
     stack: &mut Stack<Frame<'w>>,
     state: Switch<'w>,
-    text: &[u8],
+    text: Rope<'w>,
 ) -> Result<Focus<'w>, NoMemory>
-    ensures same { IfOk result (λ f. (w : Setting) (sc : Scene) → after_turn (valueless_of state.entry.value.items (trim text.now) (no_part (parts state.entry.rest)) (seen_in state.entry.seen)) (switch_of state.entry.value.items (parts state.entry.rest) sc) (plug w stack.old sc) ≡ point w f stack.new sc) }
+    ensures same { IfOk result (λ f. (w : Setting) (sc : Scene) → after_turn (valueless_of state.entry.value.items (trim text.entry) (no_part (parts state.entry.rest)) (seen_in state.entry.seen)) (switch_of state.entry.value.items (parts state.entry.rest) sc) (plug w stack.old sc) ≡ point w f stack.new sc) }
     ensures calm { OnOk result (Calm 0 stack.old stack.new) }
     ensures light { IfOk result (λ f. point_weight f stack.new < 16 * size state.entry.rest + 8 * size state.entry.seen.default + 16 + weights stack.old) }
 {
-    let name = trim(text);
-    let waits = state.seen.waits || is_default(name);
+    let text = text.trimmed(alloc)?;
+    let waits = state.seen.waits || text.is(b"#default");
     let Switch { value, rest, seen } = state;
     if rest.is_over()? {
         if waits {
             let focus = switch(alloc, stack, Switch { value, rest, seen })?;
             return Ok(focus);
         }
-        let text = trimmed(alloc, text)?;
         return Ok(Focus::Text(text));
     }
-    let met = seen.met || are_equal(&value, name);
+    let name = text.into_piece(alloc)?;
+    let met = seen.met || are_equal(&value, name.as_slice());
     let Seen { default, .. } = seen;
     let seen = Seen {
         met,
@@ -228,20 +250,20 @@ pub fn valueless<'w>(
 pub fn written<'w>(
     stack: &mut Stack<Frame<'w>>,
     rest: Forest<'w>,
-    out: Vec<u8>,
+    out: Rope<'w>,
 ) -> Result<Focus<'w>, NoMemory>
-    ensures same { IfOk result (λ f. (w : Setting) (sc : Scene) → all_parts (parts rest.entry) sc out.items (λ text. plug w stack.old sc (text ++ codes "}}")) ≡ point w f stack.new sc) }
+    ensures same { IfOk result (λ f. (w : Setting) (sc : Scene) → all_parts (parts rest.entry) sc out.entry (λ text. plug w stack.old sc (text ++ codes "}}")) ≡ point w f stack.new sc) }
     ensures calm { OnOk result (Calm 0 stack.old stack.new) }
     ensures light { IfOk result (λ f. point_weight f stack.new < 16 * size rest.entry + 8 + weights stack.old) }
 {
     let mut out = out;
     match rest.take_part()? {
         None => {
-            append(&mut out, b"}}")?;
+            out.push(Piece::Borrowed(b"}}"))?;
             Ok(Focus::Text(out))
         }
         Some((part, rest)) => {
-            append(&mut out, b"|")?;
+            out.push(Piece::Borrowed(b"|"))?;
             stack.push(Frame::Written(rest))?;
             Ok(Focus::Walk(Walk {
                 rest: part,
@@ -250,4 +272,43 @@ pub fn written<'w>(
             }))
         }
     }
+}
+
+/// A construct that stands as it is written, behind its first part.
+pub fn begin_written<'w>(
+    alloc: Global,
+    stack: &mut Stack<Frame<'w>>,
+    rest: Forest<'w>,
+    first: Piece<'w>,
+) -> Result<Focus<'w>, NoMemory>
+    ensures same { IfOk result (λ f. (w : Setting) (sc : Scene) → all_parts (parts rest.entry) sc (codes "{{" ++ bytes_of first.entry) (λ out. plug w stack.old sc (out ++ codes "}}")) ≡ point w f stack.new sc) }
+    ensures calm { OnOk result (Calm 0 stack.old stack.new) }
+    ensures light { IfOk result (λ f. point_weight f stack.new < 16 * size rest.entry + 8 + weights stack.old) }
+{
+    let mut out = fixed(alloc, b"{{")?;
+    out.push(first)?;
+    let focus = written(stack, rest, out)?;
+    Ok(focus)
+}
+
+/// A `#switch` begins.
+pub fn begin_switch<'w>(
+    alloc: Global,
+    stack: &mut Stack<Frame<'w>>,
+    rest: Forest<'w>,
+    text: &[u8],
+) -> Result<Focus<'w>, NoMemory>
+    ensures same { IfOk result (λ f. (w : Setting) (sc : Scene) → switch_of (trim text.now) (parts rest.entry) sc nothing_seen (plug w stack.old sc) ≡ point w f stack.new sc) }
+    ensures calm { OnOk result (Calm 0 stack.old stack.new) }
+    ensures light { IfOk result (λ f. point_weight f stack.new < 16 * size rest.entry + 16 + weights stack.old) }
+{
+    let value = trimmed(alloc, text)?;
+    let default = rest.none()?;
+    let seen = Seen {
+        met: false,
+        waits: false,
+        default,
+    };
+    let focus = switch(alloc, stack, Switch { value, rest, seen })?;
+    Ok(focus)
 }

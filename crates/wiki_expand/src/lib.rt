@@ -7,36 +7,25 @@
 //! - `calls`: arguments, templates and invocations
 //! - `functions`: `#if`, `#ifeq` and `#switch`
 //! - `walk`: going through trees, and opening what stands in them
-//! - `frame`: what waits, and what is done next
-//! - `kind`, `equality`, `texts`, `space`: plain functions of texts
-//! - `arguments`, `forest`, `stack`, `allowances`: what the others stand on
-//! - `examples`: worked pages
+//! - `frame`: the state of an expansion: what waits, and what is done next
+//! - `forest`: trees, as a stretch of nodes
+//! - `allowances`: what is taken of the allowances
 //! - `laws`: what holds of the definitions
 //!
-//! The definitions stand in `specs/`: `Expand` is the expansion as its events, `Told` what it comes to, `Standing` what an
-//! expander at a point of a run is.
+//! What an expansion is stands in `expand_meaning`. Here begin with `specs/Standing.antt`, what an expander at a point of a
+//! run is; `Points` says what a state of the machine stands for, and `Weights` why it comes to an end.
 #![tactic(auto)]
 
 mod allowances;
-mod arguments;
 mod calls;
-mod equality;
-pub mod examples;
 pub mod expander;
 mod forest;
 mod frame;
 mod functions;
-mod kind;
 pub mod laws;
 pub mod pages;
 mod resume;
-mod space;
-mod stack;
-mod texts;
 mod walk;
 
 pub use expander::{Expander, Move, Source};
 pub use pages::PageMap;
-
-#[cfg(test)]
-mod tests;

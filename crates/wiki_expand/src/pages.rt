@@ -2,10 +2,11 @@
 ghost use Rattle.std.specs.Prelude.{◌≡◌, ◌++◌, ◌∷◌, [], None, OnOk, OnErr, is_some, option_map};
 ghost use Rattle.std.specs.Option.{option_copied};
 ghost use Rattle.wiki_markup.specs.Formed.{IsMarked};
-ghost use Rattle.wiki_expand.specs.Pages.{held};
+ghost use Rattle.wiki_expand.specs.Pages.{find_page};
 
 use indexmap::IndexMap;
 use std::alloc::Global;
+use std::hash::RandomState;
 use std::marker::Model;
 use wiki_markup::Marked;
 use wk_base::{NoMemory, Title};
@@ -20,7 +21,7 @@ pub struct Entry {
 /// A finite map from the titles of pages to their texts.
 #[derive(Drop)]
 pub struct PageMap {
-    map: IndexMap<Title, Entry>,
+    map: IndexMap<Title, Entry, RandomState>,
 }
 
 impl Model for PageMap {
@@ -39,18 +40,24 @@ impl Model for PageMap {
 }
 
 impl PageMap {
-    /// No page is held.
-    pub fn new(alloc: Global) -> PageMap
+    /// No page is held. Titles, and the names of arguments, are hashed by the seed, so that no page can choose ones that
+    /// collide.
+    pub fn new(alloc: Global, seed: RandomState) -> PageMap
         ensures { result ≡ [] }
     {
         PageMap {
-            map: IndexMap::new(alloc),
+            map: IndexMap::with_hasher(alloc, seed),
         }
+    }
+
+    /// The seed of the hashes.
+    pub(crate) fn seed(&self) -> RandomState {
+        *self.map.hasher()
     }
 
     /// A page that isn't held yet is held.
     pub fn add(&mut self, title: Title, direct: Marked, transcluded: Marked) -> Result<(), NoMemory>
-        requires fresh { held self.old title ≡ None }
+        requires fresh { find_page self.old title ≡ None }
         requires direct { IsMarked direct.nodes }
         requires transcluded { IsMarked transcluded.nodes }
         ensures ok { OnOk result (self.new ≡ self.old ++ (title, record { direct = direct; transcluded = transcluded }) ∷ []) }
@@ -68,14 +75,14 @@ impl PageMap {
 
     /// Whether a page of this title is held.
     pub fn holds(&self, title: &Title) -> bool
-        ensures { result ≡ is_some (held self.now title.now) }
+        ensures { result ≡ is_some (find_page self.now title.now) }
     {
         self.get(title).is_some()
     }
 
     /// The text of a page.
     pub(crate) fn get(&self, title: &Title) -> Option<&Entry>
-        ensures { option_copied result ≡ held self.now title.now }
+        ensures { option_copied result ≡ find_page self.now title.now }
     {
         self.map.get(title)
     }

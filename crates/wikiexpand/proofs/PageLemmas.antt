@@ -12,11 +12,11 @@ use Rattle.mw_frame.specs.declared.scene.Arg.{Arg}
 use Rattle.mw_frame.specs.declared.scene.Job.{Job}
 use Rattle.page_run.specs.State.{Event, Ended, Spent, Asked}
 use Rattle.wiki_expand.specs.declared.pages.Entry.{Entry}
-use Rattle.wiki_expand.specs.Pages.{Pages, held, direct_of, included_of, direct_in, setting_in}
-use Rattle.wiki_expand.specs.Expand.{Setting}
+use Rattle.wiki_expand.specs.Pages.{Pages, find_page, direct_of, included_of, direct_in, setting_in}
+use Rattle.expand_meaning.specs.Expand.{Setting}
 use Rattle.wiki_expand.specs.Standing.{work_of}
 use Rattle.wiki_expand.specs.declared.expander.Source.{Source}
-use Rattle.wiki_expand.specs.Told.{Work, Reading, told, Comes, page_scene, page_text, text_in}
+use Rattle.expand_meaning.specs.Outcome.{Work, Reading, next_event, Comes, page_scene, page_text, text_in}
 use Rattle.wikiexpand.specs.Page.{is_module, has_module, holds_module, with_page, with_pages, page_map, entry_of, full, text_of}
 
 neither : (a b : Bool) → (a || b) ≡ false → (a ≡ false) × (b ≡ false)
@@ -30,7 +30,7 @@ no_module_more [] title e h n = rw n refl
 no_module_more ((t, x) ∷ map) title e h n = let both : (is_module t.ns ≡ false) × (holds_module map ≡ false) = neither (is_module t.ns) (holds_module map) h in rw (both.0, no_module_more map title e both.1 n) refl
 
 no_module_with : (map : Pages) (page : FolderPage) → holds_module map ≡ false → is_module page.title.ns ≡ false → holds_module (with_page map page) ≡ false
-no_module_with map page h n = go (is_some (held map page.title))
+no_module_with map page h n = go (is_some (find_page map page.title))
   where
     go : (b : Bool) → holds_module (if b then map else map ++ (page.title, entry_of page.bytes) ∷ []) ≡ false
     go true = h
@@ -45,11 +45,11 @@ unfolding page_map
 no_module pages n = no_modules [] pages refl n
 
 -- a held title is no module's
-pub held_is_no_module : (map : Pages) (title : Title) → holds_module map ≡ false → IsSome (held map title) → is_module title.ns ≡ false
+pub held_is_no_module : (map : Pages) (title : Title) → holds_module map ≡ false → IsSome (find_page map title) → is_module title.ns ≡ false
 held_is_no_module [] title h some = absurd cc
 held_is_no_module ((t, x) ∷ map) title h some = let both : (is_module t.ns ≡ false) × (holds_module map ≡ false) = neither (is_module t.ns) (holds_module map) h in go (titles.ghosts.eq title t) refl both.0 (held_is_no_module map title both.1) some
   where
-    go : (b : Bool) → titles.ghosts.eq title t ≡ b → is_module t.ns ≡ false → (IsSome (held map title) → is_module title.ns ≡ false) → IsSome (cond b (Some x) (held map title)) → is_module title.ns ≡ false
+    go : (b : Bool) → titles.ghosts.eq title t ≡ b → is_module t.ns ≡ false → (IsSome (find_page map title) → is_module title.ns ≡ false) → IsSome (cond b (Some x) (find_page map title)) → is_module title.ns ≡ false
     go true e n rest some = ap (λ (t : Title). is_module t.ns) (same_title title t e) ∙ n
     go false e n rest some = rest some
 
@@ -66,11 +66,11 @@ pub all_left : (left : Left) (limits : Limits) → left.steps ≡ limits.steps �
 all_left left limits s n b c d t = rw (← s, ← n, ← b, ← c, ← d, ← t) refl
 
 -- where the expansion of a held page has come to a text, that is the page's text
-pub text_is : (map : Pages) (limits : Limits) (title : Title) (text : List ℕ) (left : Left) → IsSome (held map title) → ((trees : Trees) → direct_in map title ≡ Some trees → Comes (told (setting_in map title) (Reading trees (page_scene title)) (full limits) []) text left) → text_of map limits title ≡ Some text
+pub text_is : (map : Pages) (limits : Limits) (title : Title) (text : List ℕ) (left : Left) → IsSome (find_page map title) → ((trees : Trees) → direct_in map title ≡ Some trees → Comes (next_event (setting_in map title) (Reading trees (page_scene title)) (full limits) []) text left) → text_of map limits title ≡ Some text
 unfolding text_of page_text
-text_is map limits title text left some comes = go (held map title) refl some
+text_is map limits title text left some comes = go (find_page map title) refl some
   where
-    go : (entry : Option Entry) → held map title ≡ entry → IsSome entry → option_map (λ trees. text_in (told (setting_in map title) (Reading trees (page_scene title)) (full limits) [])) (option_map direct_of entry) ≡ Some text
+    go : (entry : Option Entry) → find_page map title ≡ entry → IsSome entry → option_map (λ trees. text_in (next_event (setting_in map title) (Reading trees (page_scene title)) (full limits) [])) (option_map direct_of entry) ≡ Some text
     go None e some = absurd cc
     go (Some entry) e some = ap Some (comes_to _ text left (comes (direct_of entry) (ap (option_map direct_of) e)))
 
@@ -79,17 +79,17 @@ pub begun : (map : Pages) (title own source : Title) (args : List Arg) (chain : 
 begun map title own source args chain P own_is source_is none alone begins trees is = rw (own_is, source_is, none, alone, is) at begins
 
 -- a page that is not held has no text
-pub unheld : (map : Pages) (limits : Limits) (title : Title) → is_some (held map title) ≡ false → text_of map limits title ≡ None
+pub unheld : (map : Pages) (limits : Limits) (title : Title) → is_some (find_page map title) ≡ false → text_of map limits title ≡ None
 unfolding text_of
-unheld map limits title h = go (held map title) h
+unheld map limits title h = go (find_page map title) h
   where
     go : (entry : Option Entry) → is_some entry ≡ false → option_map (λ trees. page_text (setting_in map title) trees (full limits)) (option_map direct_of entry) ≡ None
     go None h = refl
     go (Some entry) h = absurd cc
 
 -- a page that an expansion can include from other pages is held here, where it can include the same
-pub held_here : (p q : Pages) (page page' : Title) (title : Title) → setting_in p page ≡ setting_in q page' → IsSome (held p title) → IsSome (held q title)
-held_here p q page page' title same some = go (held p title) (held q title) (ap (λ (w : Setting). w.included title) same) some
+pub held_here : (p q : Pages) (page page' : Title) (title : Title) → setting_in p page ≡ setting_in q page' → IsSome (find_page p title) → IsSome (find_page q title)
+held_here p q page page' title same some = go (find_page p title) (find_page q title) (ap (λ (w : Setting). w.included title) same) some
   where
     go : (a b : Option Entry) → option_map included_of a ≡ option_map included_of b → IsSome a → IsSome b
     go a (Some y) e some = refl

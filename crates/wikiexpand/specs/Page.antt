@@ -13,8 +13,8 @@ use Rattle.wiki_markup.specs.declared.marked.Mode.TheVariants.{Direct, Transclud
 use Rattle.wiki_markup.specs.Shown.{shown_of}
 use Rattle.wiki_markup.specs.Trees.{marked_of}
 use Rattle.wiki_expand.specs.declared.pages.Entry.{Entry}
-use Rattle.wiki_expand.specs.Pages.{Pages, held, direct_in, setting_in}
-use Rattle.wiki_expand.specs.Told.{page_text}
+use Rattle.wiki_expand.specs.Pages.{Pages, find_page, direct_in, setting_in}
+use Rattle.expand_meaning.specs.Outcome.{page_text}
 
 -- ---- modules
 
@@ -40,7 +40,7 @@ entry_of text = record { direct = marked_in Direct text; transcluded = marked_in
 
 -- one page more; the first of a title counts (a wiki has no second one)
 abbrev pub with_page : Pages → FolderPage → Pages
-with_page map page = if is_some (held map page.title) then map else map ++ (page.title, entry_of page.bytes) ∷ []
+with_page map page = if is_some (find_page map page.title) then map else map ++ (page.title, entry_of page.bytes) ∷ []
 
 abbrev pub with_pages : Pages → List FolderPage → Pages
 with_pages map [] = map

@@ -8,6 +8,7 @@ ghost use Rattle.wikiexpand.specs.Outcome.{IsWork};
 use crate::pages::{page_map, text_of};
 use crate::report::{Report, Status};
 use std::alloc::Global;
+use std::hash::RandomState;
 use wiki_expand::PageMap;
 use wk_base::{Bytes, Limits, Namespace, NoMemory, Title};
 use wk_shelf::FolderPage;
@@ -93,6 +94,7 @@ fn page_report(
 /// What a title gives on the pages of a wiki: that a module is not built, or what it gives on them by title.
 pub fn wiki_report(
     alloc: Global,
+    seed: RandomState,
     limits: &Limits,
     title: &Title,
     pages: &[FolderPage],
@@ -104,6 +106,6 @@ pub fn wiki_report(
     if has_module(pages) {
         return refusal(alloc, Status::NotBuilt, b"not built", b"");
     }
-    let map = page_map(alloc, pages)?;
+    let map = page_map(alloc, seed, pages)?;
     page_report(alloc, limits, title, &map)
 }

@@ -3,6 +3,7 @@
 use crate::cases;
 use crate::wiki_app::run;
 use std::alloc::{AllocError, Global};
+use std::hash::RandomState;
 use std::test::Fail;
 use std::thread::Threads;
 use wk_base::{Bytes, List, NoMemory};
@@ -142,6 +143,7 @@ struct Ran {
 fn outcome<R: Threads + Sync>(
     rt: &R,
     alloc: Global,
+    seed: RandomState,
     words: &[String],
     pages: &[Page<'_>],
 ) -> Result<Ran, NoMemory> {
@@ -152,19 +154,20 @@ fn outcome<R: Threads + Sync>(
     let mut shelf = MemoryShelf::new(alloc, files, List::new(alloc));
     let mut out = MemorySink::new(alloc, List::new(alloc), 10_000)?;
     let mut err = MemorySink::new(alloc, List::new(alloc), 100)?;
-    let status = run(rt, alloc, words, &mut shelf, &mut out, &mut err);
+    let status = run(rt, alloc, seed, words, &mut shelf, &mut out, &mut err);
     Ok(Ran { status, out, err })
 }
 
 #[test]
 fn each_page_has_its_text(rt: HostRuntime) -> Result<(), Fail> {
+    let seed = RandomState::new(&rt)?;
     let mut pages = Vec::new(rt.alloc());
     let mut words = words_of(rt.alloc(), "expand d P")?;
     let mut count: u32 = 0;
     for line in cases::table().split('\n') {
         if let Some(wanted) = line.strip_prefix('>') {
             let wanted = unescaped(rt.alloc(), wanted)?;
-            let ran = outcome(&rt, rt.alloc(), words.as_slice(), pages.as_slice())?;
+            let ran = outcome(&rt, rt.alloc(), seed, words.as_slice(), pages.as_slice())?;
             assert_eq!(rt; ran.out.bytes(), wanted.as_slice(), "{line}");
             assert_eq!(rt; ran.err.bytes().len(), 0, "{line}");
             assert_eq!(rt; ran.status, 0, "{line}");
@@ -184,6 +187,7 @@ fn each_page_has_its_text(rt: HostRuntime) -> Result<(), Fail> {
 
 #[test]
 fn each_command_line_has_its_status(rt: HostRuntime) -> Result<(), Fail> {
+    let seed = RandomState::new(&rt)?;
     let pages = [Page {
         title: "P",
         text: "{{!}}",
@@ -191,7 +195,7 @@ fn each_command_line_has_its_status(rt: HostRuntime) -> Result<(), Fail> {
     for line in cases::command_lines().split('\n') {
         if let Some((status, words)) = line.split_once(' ') {
             let words = words_of(rt.alloc(), words)?;
-            let ran = outcome(&rt, rt.alloc(), words.as_slice(), &pages)?;
+            let ran = outcome(&rt, rt.alloc(), seed, words.as_slice(), &pages)?;
             assert_eq!(rt;
                 usize::from(ran.status),
                 number(status.as_bytes()),

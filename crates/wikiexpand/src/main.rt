@@ -18,6 +18,7 @@ mod report;
 mod wiki_app;
 
 use report::Status;
+use std::hash::RandomState;
 use std::process::ExitCode;
 use std::{env, io};
 use wiki_app::run;
@@ -44,12 +45,17 @@ fn main(rt: HostRuntime) -> ExitCode {
     let Ok(files) = rt.clone() else {
         return ExitCode::from(Status::NoMemory.code());
     };
+    // No page is to know which titles collide.
+    let Ok(seed) = RandomState::new(&rt) else {
+        return ExitCode::from(Status::ReadFault.code());
+    };
     let mut shelf = FolderShelf::new(rt.alloc(), files);
     let mut out = StreamSink::new(rt.alloc(), rt.stdout());
     let mut err = StreamSink::new(rt.alloc(), rt.stderr());
     ExitCode::from(run(
         &rt,
         rt.alloc(),
+        seed,
         words.as_slice(),
         &mut shelf,
         &mut out,

@@ -2,11 +2,12 @@
 ghost use Rattle.std.specs.Prelude.{◌≡◌, [], Some, IfOk, OnOk, IsSome, false};
 ghost use Rattle.wk_base.specs.Allowances.{IsCountable};
 ghost use Rattle.wiki_markup.specs.Formed.{IsMarked};
-ghost use Rattle.wiki_expand.specs.Pages.{held};
+ghost use Rattle.wiki_expand.specs.Pages.{find_page};
 ghost use Rattle.wikiexpand.specs.Page.{marked_in, with_page, has_module, holds_module, page_map, text_of};
 
 use mw_frame::Scene;
 use std::alloc::Global;
+use std::hash::RandomState;
 use wiki_expand::{Expander, Move, PageMap, Source};
 use wiki_markup::{Marked, Mode, markup, shown};
 use wk_base::{Bytes, Left, Limits, List, NoMemory, Title};
@@ -34,13 +35,17 @@ fn add_page(alloc: Global, map: &mut PageMap, page: &FolderPage) -> Result<(), N
     map.add(title, direct, transcluded)
 }
 
-/// The pages of a folder, by title.
+/// The pages of a folder, by title. Titles are hashed by the seed.
 #[tactic(auto, unfolding(crate::specs::Page::page_map))]
-pub fn page_map(alloc: Global, pages: &[FolderPage]) -> Result<PageMap, NoMemory>
+pub fn page_map(
+    alloc: Global,
+    seed: RandomState,
+    pages: &[FolderPage],
+) -> Result<PageMap, NoMemory>
     ensures map { IfOk result (λ map. map ≡ page_map pages.now) }
     ensures no_module { has_module pages.now ≡ false → IfOk result (λ map. holds_module map ≡ false) }
 {
-    let mut map = PageMap::new(alloc);
+    let mut map = PageMap::new(alloc, seed);
     for page in pages {
         add_page(alloc, &mut map, page)?;
     }
@@ -54,7 +59,7 @@ pub fn text_of(
     limits: &Limits,
     title: &Title,
 ) -> Result<Bytes, NoMemory>
-    requires held { IsSome (held map.now title.now) }
+    requires held { IsSome (find_page map.now title.now) }
     requires no_module { holds_module map.now ≡ false }
     requires countable { IsCountable limits.now }
     ensures { IfOk result (λ text. text_of map.now limits.now title.now ≡ Some text) }

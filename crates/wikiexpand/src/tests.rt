@@ -3,6 +3,7 @@ ghost use Rattle.std.specs.Prelude.{◌≡◌, None};
 
 use crate::wiki_app::run;
 use std::alloc::{AllocError, Global};
+use std::hash::RandomState;
 use std::marker::Brand;
 use std::sync::ledger::{Blank, Ledger};
 use std::test::Fail;
@@ -254,6 +255,7 @@ fn each_run_has_its_status_and_its_bytes(rt: HostRuntime) -> Result<(), Fail> {
         let status = run(
             &rt,
             rt.alloc(),
+            RandomState::new(&rt)?,
             words.as_slice(),
             &mut shelf,
             &mut out,
@@ -314,6 +316,7 @@ fn a_folder_has_a_most_number_of_pages(rt: HostRuntime) -> Result<(), Fail> {
         let status = run(
             &rt,
             rt.alloc(),
+            RandomState::new(&rt)?,
             words.as_slice(),
             &mut Crowd { pages },
             &mut out,
@@ -356,6 +359,7 @@ fn a_folder_has_a_most_number_of_bytes(rt: HostRuntime) -> Result<(), Fail> {
         let status = run(
             &rt,
             rt.alloc(),
+            RandomState::new(&rt)?,
             words.as_slice(),
             &mut shelf,
             &mut out,

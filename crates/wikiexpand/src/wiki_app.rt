@@ -13,6 +13,7 @@ use crate::command::{Command, read_command};
 use crate::put::{put_both, put_piece};
 use crate::report::{Report, Status};
 use std::alloc::Global;
+use std::hash::RandomState;
 use std::thread::Threads;
 use wk_base::NoMemory;
 use wk_shelf::{FolderFault, Shelf, ShelfFault, Sink, SinkFailed, read_folder};
@@ -24,6 +25,7 @@ const CANNOT_READ: &[u8] = b"wikiexpand: cannot read\n";
 /// Reads the folder, and makes what the command is to answer.
 fn prepare<S: Shelf>(
     alloc: Global,
+    seed: RandomState,
     command: &Command<'_>,
     shelf: &mut S,
 ) -> Result<Report, ShelfFault>
@@ -33,7 +35,7 @@ fn prepare<S: Shelf>(
     ensures cause { result ≡ Err ShelfFault.Failed → Rose (S.faults shelf.old) (S.faults shelf.new) }
 {
     let report = match read_folder(alloc, shelf, command.folder) {
-        Ok(pages) => wiki_report(alloc, &command.limits, &command.page, pages.as_slice()),
+        Ok(pages) => wiki_report(alloc, seed, &command.limits, &command.page, pages.as_slice()),
         Err(FolderFault::Source(fault)) => fault_report(alloc, fault.as_slice()),
         Err(FolderFault::Read) => return Err(ShelfFault::Failed),
         Err(FolderFault::NoMemory) => return Err(ShelfFault::NoMemory),
@@ -54,10 +56,12 @@ fn after_put(put: Result<(), SinkFailed>, status: Status) -> u8
     }
 }
 
-/// Does what the words ask, over a shelf, with `out` and `err` for the two streams. The answer is the exit status.
+/// Does what the words ask, over a shelf, with `out` and `err` for the two streams. The answer is the exit status. `seed` is
+/// that of the tables whose keys the pages choose.
 pub fn run<R: Threads + Sync, S: Shelf, O: Sink, E: Sink>(
     rt: &R,
     alloc: Global,
+    seed: RandomState,
     words: &[String],
     shelf: &mut S,
     out: &mut O,
@@ -79,7 +83,7 @@ pub fn run<R: Threads + Sync, S: Shelf, O: Sink, E: Sink>(
         Ok(None) => return after_put(put_piece(err, USAGE), Status::Usage),
         Err(NoMemory) => return Status::NoMemory.code(),
     };
-    match prepare(alloc, &command, shelf) {
+    match prepare(alloc, seed, &command, shelf) {
         Ok(report) => after_put(
             put_both(out, report.out.as_slice(), err, report.err.as_slice()),
             report.status,

@@ -1,7 +1,7 @@
 use Rattle.std.proofs.Common.{ap}
 use Rattle.wiki_expand.specs.Forests.{trees_in}
-use Rattle.wiki_expand.specs.Expand.{onward}
+use Rattle.expand_meaning.specs.Expand.{onward}
 use Rattle.wiki_expand.proofs.walk.walk.Goals as goal
 
 pub returns-clause-starts : goal.returns-clause-starts
-returns-clause-starts c = λ sc k. ap (λ out. onward (trees_in c.args.rest) sc out k) c.new.ensures.items
+returns-clause-starts c = λ sc k. ap (λ out. onward (trees_in c.args.rest) sc out k) c.new.ensures

@@ -1,46 +1,18 @@
-use Rattle.std.proofs.Common.{◌≡◌, ◌∙◌, ap, sym, rules, arith}
-use Rattle.wiki_expand.specs.Places.{planted}
-use Rattle.wiki_expand.specs.Forests.{trees_in}
-use Rattle.wiki_expand.proofs.ForestLaws.{over_is, nothing_is, first_is}
+use Rattle.std.proofs.Common.{◌≡◌, ◌∙◌, length, ap, arith}
+use Rattle.wiki_expand.specs.Forests.{nodes_in}
+use Rattle.wiki_expand.proofs.ForestLaws.{over_is, past_is}
 use Rattle.wiki_expand.proofs.forest.Forest.split.Goals as goal
 
 pub returns-then-self-clause-splits : goal.returns-then-self-clause-splits
 returns-then-self-clause-splits c = over_is c.args.self.now c.if-self.true
 
 pub returns-in-None-clause-splits : goal.returns-in-None-clause-splits
-returns-in-None-clause-splits c = nothing_is c.args.self.now (sym c.in-None.ensures)
+returns-in-None-clause-splits c =
+    let nodes : length (nodes_in c.args.self.now.nodes) ≡ length c.in-Held.nodes.now = ap (λ ns. length (nodes_in ns)) c.in-Held.is in
+    past_is c.args.self.now (omega (arith, nodes, c.in-None.ensures.lookup.3))
 
-pub returns-in-Text-clause-splits : goal.returns-in-Text-clause-splits
-returns-in-Text-clause-splits c =
-    first_is c.args.self.now c.in_ok-inside-in-Some.inside c.in_ok-rest-in-Some.rest c.in-Some.node.now _ (omega (arith, c.if-self.false)) (sym c.in-Some.ensures) c.clamped-cut.ensures
-    c.in_ok-inside-in-Some.ensures.nodes c.in_ok-inside-in-Some.ensures.at c.in_ok-inside-in-Some.ensures.end
-    c.in_ok-rest-in-Some.ensures.nodes c.in_ok-rest-in-Some.ensures.at c.in_ok-rest-in-Some.ensures.end
-    ∙ ap (λ k. planted k (trees_in c.in_ok-inside-in-Some.inside) (trees_in c.in_ok-rest-in-Some.rest)) c.in-Text.is
-
-pub returns-in-Equals-clause-splits : goal.returns-in-Equals-clause-splits
-returns-in-Equals-clause-splits c =
-    first_is c.args.self.now c.in_ok-inside-in-Some.inside c.in_ok-rest-in-Some.rest c.in-Some.node.now _ (omega (arith, c.if-self.false)) (sym c.in-Some.ensures) c.clamped-cut.ensures
-    c.in_ok-inside-in-Some.ensures.nodes c.in_ok-inside-in-Some.ensures.at c.in_ok-inside-in-Some.ensures.end
-    c.in_ok-rest-in-Some.ensures.nodes c.in_ok-rest-in-Some.ensures.at c.in_ok-rest-in-Some.ensures.end
-    ∙ ap (λ k. planted k (trees_in c.in_ok-inside-in-Some.inside) (trees_in c.in_ok-rest-in-Some.rest)) c.in-Equals.is
-
-pub returns-in-Construct-clause-splits : goal.returns-in-Construct-clause-splits
-returns-in-Construct-clause-splits c =
-    first_is c.args.self.now c.in_ok-inside-in-Some.inside c.in_ok-rest-in-Some.rest c.in-Some.node.now _ (omega (arith, c.if-self.false)) (sym c.in-Some.ensures) c.clamped-cut.ensures
-    c.in_ok-inside-in-Some.ensures.nodes c.in_ok-inside-in-Some.ensures.at c.in_ok-inside-in-Some.ensures.end
-    c.in_ok-rest-in-Some.ensures.nodes c.in_ok-rest-in-Some.ensures.at c.in_ok-rest-in-Some.ensures.end
-    ∙ ap (λ k. planted k (trees_in c.in_ok-inside-in-Some.inside) (trees_in c.in_ok-rest-in-Some.rest)) c.in-Construct.is
-
-pub returns-in-Parameter-clause-splits : goal.returns-in-Parameter-clause-splits
-returns-in-Parameter-clause-splits c =
-    first_is c.args.self.now c.in_ok-inside-in-Some.inside c.in_ok-rest-in-Some.rest c.in-Some.node.now _ (omega (arith, c.if-self.false)) (sym c.in-Some.ensures) c.clamped-cut.ensures
-    c.in_ok-inside-in-Some.ensures.nodes c.in_ok-inside-in-Some.ensures.at c.in_ok-inside-in-Some.ensures.end
-    c.in_ok-rest-in-Some.ensures.nodes c.in_ok-rest-in-Some.ensures.at c.in_ok-rest-in-Some.ensures.end
-    ∙ ap (λ k. planted k (trees_in c.in_ok-inside-in-Some.inside) (trees_in c.in_ok-rest-in-Some.rest)) c.in-Parameter.is
-
-pub returns-clause-splits : goal.returns-clause-splits
-returns-clause-splits c =
-    first_is c.args.self.now c.in_ok-inside-in-Some.inside c.in_ok-rest-in-Some.rest c.in-Some.node.now _ (omega (arith, c.if-self.false)) (sym c.in-Some.ensures) c.clamped-cut.ensures
-    c.in_ok-inside-in-Some.ensures.nodes c.in_ok-inside-in-Some.ensures.at c.in_ok-inside-in-Some.ensures.end
-    c.in_ok-rest-in-Some.ensures.nodes c.in_ok-rest-in-Some.ensures.at c.in_ok-rest-in-Some.ensures.end
-    ∙ ap (λ k. planted k (trees_in c.in_ok-inside-in-Some.inside) (trees_in c.in_ok-rest-in-Some.rest)) c.in-Part.is
+pub returns-in-None-get-clause-splits : goal.returns-in-None-get-clause-splits
+returns-in-None-get-clause-splits c =
+    let nodes : length (nodes_in c.args.self.now.nodes) ≡ length c.in-Own.marked.value.nodes = ap (λ ns. length (nodes_in ns)) c.in-Own.is in
+    let slice : length c.as_slice.result.now ≡ length c.in-Own.marked.value.nodes = ap length (c.as_slice.ensures ∙ ap (λ m. m.nodes) c.as_ref.ensures) in
+    past_is c.args.self.now (omega (arith, nodes, slice, c.in-None-get.ensures.lookup.3))

@@ -1,0 +1,61 @@
+#!/usr/bin/env python3
+"""Times pages that include long texts again and again, of which few bytes can be paid, by the built program.
+
+  bench/attack_inclusions.py crates/wikiexpand/out/wikiexpand
+
+Each row is a small wiki whose page calls a template of two million bytes very often. The least processor time of three runs is
+told (the program has one thread, so on an idle machine that is the time it takes), and the printed text is compared with
+one that this script makes by itself.
+"""
+import os
+import subprocess
+import sys
+import tempfile
+
+ROUNDS = 3
+LONG = 2_000_000
+SIZE = '<span class="error">Include size exceeded</span>'
+
+
+def rows():
+    """name, pages, options, wanted text"""
+    text = "x" * LONG
+    few = ["--nodes", "4000000", "--bytes", "100"]
+    yield "a template of 2 MB, 40,000 times", {"T": text, "P": "{{T}}" * 40_000}, [], text + SIZE * 39_999
+    yield "the same, 300,000 times", {"T": text, "P": "{{T}}" * 300_000}, [], text + SIZE * 299_999
+    yield "the same, no byte ever paid", {"T": text, "P": "{{T}}" * 300_000}, few, SIZE * 300_000
+    half = "x" * (LONG // 2)
+    yield ("two texts of 1 MB and a construct between them, 300,000 times", {"T": half + "{{!}}" + half, "P": "{{T}}" * 300_000},
+           few, SIZE * 300_000)
+    yield ("a branch of 2 MB, 300,000 times", {"T": "{{#if:x|" + text + "}}", "P": "{{T}}" * 300_000}, few, SIZE * 300_000)
+    yield ("a last part of a switch of 2 MB, 300,000 times", {"T": "{{#switch:x|" + text + "}}", "P": "{{T}}" * 300_000}, few,
+           SIZE * 300_000)
+    yield ("a default of 2 MB, 300,000 times", {"T": "{{{a|" + text + "}}}", "P": "{{T}}" * 300_000}, few, SIZE * 300_000)
+    yield ("an argument of 1 MB, 200,000 times in a template", {"T": "{{{1}}}" * 200_000, "P": "{{T|" + half + "}}"}, few, SIZE)
+    yield ("as written, 2 MB, 300,000 times", {"T": "{{subst:|" + text + "}}", "P": "{{T}}" * 300_000}, few, SIZE * 300_000)
+
+
+def seconds(program, folder, options, wanted):
+    running = subprocess.Popen([program, "expand", *options, folder, "P"], stdout=subprocess.PIPE)
+    printed = running.stdout.read()
+    _, status, used = os.wait4(running.pid, 0)
+    running.returncode = status
+    if status != 0 or printed != wanted:
+        sys.exit(f"{program} ended with {status} and {len(printed)} bytes, not {len(wanted)}")
+    return used.ru_utime + used.ru_stime
+
+
+def main():
+    program = os.path.abspath(sys.argv[1])
+    for name, pages, options, wanted in rows():
+        with tempfile.TemporaryDirectory() as folder:
+            for title, text in pages.items():
+                file = "P" if title == "P" else "Template:" + title
+                with open(os.path.join(folder, file + ".wiki"), "w", encoding="utf-8") as page:
+                    page.write(text)
+            least = min(seconds(program, folder, options, wanted.encode()) for _ in range(ROUNDS))
+        print(f"{name}: {least:.2f} s", flush=True)
+
+
+if __name__ == "__main__":
+    main()

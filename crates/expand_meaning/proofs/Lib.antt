@@ -1,0 +1,3 @@
+pub mod TreeLaws
+pub mod ReadLaws
+pub mod Rows

@@ -1,0 +1,4 @@
+pub mod EqualityLaws
+pub mod KindLaws
+pub mod ArgumentLaws
+pub mod RopeLaws

@@ -1,0 +1,3 @@
+pub mod Plain
+pub mod Put
+pub mod Taken

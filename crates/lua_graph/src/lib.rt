@@ -1,0 +1,23 @@
+//! Graphs of plain data, taken out of a store and put into one (Scribunto, `mw.loadData`).
+//!
+//! Read `specs/Plain.antt` first.
+//!
+//! - `graph`: graphs
+//! - `fault`: why a value is no data
+//! - `order`: the tables that a table reaches, in order of first reach
+//! - `putting`: a graph is put into a store
+//! - `taking`: a graph is taken out of a store
+#![tactic(auto)]
+
+pub mod fault;
+pub mod graph;
+mod order;
+mod putting;
+mod taking;
+#[cfg(test)]
+mod tests;
+
+pub use fault::DataFault;
+pub use graph::{Graph, GraphEntry, GraphItem, GraphNode};
+pub use putting::put_in;
+pub use taking::take_out;

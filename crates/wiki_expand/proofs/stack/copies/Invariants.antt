@@ -1,5 +1,0 @@
-use Rattle.std.proofs.Common.{◌≡◌, take}
-use Rattle.wiki_expand.proofs.stack.copies.Given as goal
-
-abbrev pub invariant-loop-title : goal.invariant-loop-title
-invariant-loop-title l = l.made ≡ take l.title-index l.titles

@@ -1,0 +1,12 @@
+//! Tests that expand pages: each public function of `wiki_expand` is called, and invocations are answered.
+//!
+//! - `cases`: small wikis with the text of a page
+//! - `tests`: the expansions, one after another
+//!
+//! There are no definitions here; `expand_meaning/specs/Expand.antt` says what an expansion is.
+#![tactic(auto)]
+
+#[cfg(test)]
+mod cases;
+#[cfg(test)]
+mod tests;
