@@ -15,6 +15,8 @@ import subprocess
 import sys
 import tempfile
 
+from timing import best
+
 ROUNDS = 3
 MOST_TIMES = 3.0
 
@@ -73,15 +75,7 @@ def at_random(count):
 
 
 def seconds(program, keys):
-    running = subprocess.Popen([program], stdin=subprocess.PIPE, stdout=subprocess.PIPE)
-    running.stdin.write(b"keys " + keys)
-    running.stdin.close()
-    answer = running.stdout.read().decode().strip()
-    _, status, usage = os.wait4(running.pid, 0)
-    running.returncode = status
-    if status != 0 or answer != str(len(keys) // 8):
-        sys.exit(f"{program} ended with {status} and {answer} of {len(keys) // 8}")
-    return usage.ru_utime + usage.ru_stime
+    return best(ROUNDS, [program], b"keys " + keys, f"{len(keys) // 8}\n".encode()).processor
 
 
 def main():
@@ -89,7 +83,7 @@ def main():
     count = int(sys.argv[2]) if len(sys.argv) > 2 else 200_000
     times = {}
     for name, keys in [("at random", at_random(count)), ("colliding", colliding(count))]:
-        times[name] = min(seconds(program, keys) for _ in range(ROUNDS))
+        times[name] = seconds(program, keys)
         print(f"{count:,} keys {name}: {times[name]:.3f} s")
     ratio = times["colliding"] / times["at random"]
     print(f"colliding keys take {ratio:.2f} times as long; at most {MOST_TIMES} are allowed")

@@ -7,9 +7,9 @@ Each search looks for a run of the set up to the end of a subject that has none,
 subject has symbols, and one more. Seconds of processor time of the search alone: those of a run that reads the pattern and
 looks into an empty subject are taken off, and told beside. Of each the best of some rounds counts.
 """
-import os
-import subprocess
 import sys
+
+from timing import best
 
 ROUNDS = 3
 PARTS = 200_000
@@ -17,21 +17,11 @@ SYMBOLS = 1_000_000
 CLASSES = "%d%c%p%u%x%z"
 
 
-def used(program, line):
-    running = subprocess.Popen([program], stdin=subprocess.PIPE, stdout=subprocess.PIPE)
-    running.stdin.write(line)
-    running.stdin.close()
-    answer = running.stdout.read().decode().strip()
-    _, status, usage = os.wait4(running.pid, 0)
-    running.returncode = status
-    if status != 0 or not answer.endswith(" tries"):
-        sys.exit(f"{program} ended with {status} and {answer!r} at a line of {len(line)} bytes")
-    return usage.ru_utime + usage.ru_stime
-
-
-def best(program, kind, pattern, subject):
-    line = f"{kind}\t0\t{pattern}\t{subject}\n".encode()
-    return min(used(program, line) for _ in range(ROUNDS))
+def seconds(program, kind, pattern, subject):
+    took = best(ROUNDS, [program], f"{kind}\t0\t{pattern}\t{subject}\n".encode())
+    if not took.printed.endswith(b" tries\n"):
+        sys.exit(f"{program} printed {took.printed!r} for the pattern {pattern[:20]} ..")
+    return took.processor
 
 
 def searches():
@@ -51,8 +41,8 @@ def main():
     once = {}
     print(f"{'alphabet':8} {'set':14} {'reading':>8} {'search':>8} {'times':>6}")
     for kind, name, text, symbol in searches():
-        reading = best(program, kind, f"^[{text}]$", "")
-        search = best(program, kind, f"[{text}]*$", symbol * SYMBOLS) - best(program, kind, "^b", symbol * SYMBOLS) - reading
+        reading = seconds(program, kind, f"^[{text}]$", "")
+        search = seconds(program, kind, f"[{text}]*$", symbol * SYMBOLS) - seconds(program, kind, "^b", symbol * SYMBOLS) - reading
         once.setdefault(kind, search)
         print(f"{kind:8} {name:14} {reading:8.3f} {search:8.3f} {search / once[kind]:6.2f}")
 

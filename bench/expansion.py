@@ -17,9 +17,10 @@ The text that is printed is compared with one that this script makes by itself.
 """
 import os
 import shutil
-import subprocess
 import sys
 import tempfile
+
+import timing
 
 ROUNDS, PAGES = 5, 1000
 PARAMETERS = [f"field{number}" for number in range(1, 31)]
@@ -72,19 +73,13 @@ def make(folder):
     return sum(len(text) for text in pages.values())
 
 
-def seconds(program, folder, page, wanted, options=()):
-    """the processor time of a run, whose output is to be as wanted"""
-    running = subprocess.Popen([program, "expand", *options, folder, page], stdout=subprocess.PIPE)
-    printed = running.stdout.read()
-    _, status, used = os.wait4(running.pid, 0)
-    running.returncode = status
-    if status != 0 or printed != wanted:
-        sys.exit(f"{page}: {program} ended with {status} and {len(printed)} bytes, not {len(wanted)}")
-    return used.ru_utime + used.ru_stime
+def seconds(program, folder, page, wanted, options=(), rounds=1):
+    """the least processor time of some runs, whose output is to be as wanted"""
+    return timing.best(rounds, [program, "expand", *options, folder, page], wanted=wanted).processor
 
 
 def best(program, folder, page, wanted, options=()):
-    return min(seconds(program, folder, page, wanted, options) for _ in range(ROUNDS))
+    return seconds(program, folder, page, wanted, options, ROUNDS)
 
 
 def main():

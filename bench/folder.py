@@ -4,14 +4,14 @@
   bench/folder.py crates/wikiexpand/out/wikiexpand [FOLDER]
 
 Two folders are made below FOLDER (or a temporary one): 2,000 pages of 10 KiB, and 100,000 pages of 100 bytes, the most that a
-folder may hold. For each: the best wall time of some runs that print one page, and the most memory of a run.
+folder may hold. For each: the best wall time of some runs that print one page, and the most memory of the best one.
 """
 import os
 import shutil
-import subprocess
 import sys
 import tempfile
-import time
+
+from timing import best
 
 
 def make(folder, count, size):
@@ -24,17 +24,6 @@ def make(folder, count, size):
     return text
 
 
-def run(program, folder, text):
-    began = time.perf_counter()
-    running = subprocess.Popen([program, "expand", folder, "page_7"], stdout=subprocess.PIPE)
-    printed = running.stdout.read()
-    _, status, used = os.wait4(running.pid, 0)
-    took = time.perf_counter() - began
-    if status != 0 or printed != text:
-        sys.exit(f"{program} ended with {status} and {len(printed)} bytes")
-    return took, used.ru_maxrss / 1024
-
-
 def main():
     program = os.path.abspath(sys.argv[1])
     base = sys.argv[2] if len(sys.argv) > 2 else tempfile.mkdtemp()
@@ -42,8 +31,8 @@ def main():
     for name, count, size in (("2,000 pages of 10 KiB", 2000, 10240), ("100,000 pages of 100 bytes", 100000, 100)):
         folder = os.path.join(base, str(count))
         text = make(folder, count, size)
-        runs = [run(program, folder, text) for _ in range(3)]
-        print(f"{name:32} {min(r[0] for r in runs):8.2f} {max(r[1] for r in runs):6.0f}")
+        took = best(3, [program, "expand", folder, "page_7"], wanted=text)
+        print(f"{name:32} {took.wall:8.2f} {took.memory / (1 << 20):6.0f}")
         shutil.rmtree(folder)
 
 

@@ -1,14 +1,17 @@
 #!/usr/bin/env python3
 """Writes the rows of formats that the tests of lua_format compare with: what C's printf makes of numbers of 64 bits.
 
-  bench/format_rows.py > crates/lua_format/src/rows.rt
+  bench/format_rows.py [--write]     prints the file, or writes it into the crate
 
 A row has a format with one directive, a number and the text, with ` => ` between. `%f` is asked of C with the number as a
 long double, whose 64 bits hold it, for a C of which this is so (x86-64).
 """
 import ctypes
 import itertools
+import os
+import sys
 
+FILE = os.path.join(os.path.dirname(os.path.dirname(os.path.abspath(__file__))), "crates/lua_format/src/rows.rt")
 libc = ctypes.CDLL(None)
 NUMBERS = [0, 7, -5, 42, 255, -1, 9223372036854775807, -9223372036854775808]
 FLAGS = ["", "-", "0", "+", " ", "#", "-0", "+0", " 0", "#0", "-#", "+-"]
@@ -40,14 +43,20 @@ def rows():
     return [(f, s, l, n) for f, s, l, n in chosen if l != "f" or float(n) == n]
 
 
-def main():
-    print("//! Written by bench/format_rows.py: formats, numbers and what C's `printf` makes of them.")
-    print()
-    print("/// Rows of a format, a number and a text, with ` => ` between.")
-    print("pub(crate) fn printf_rows() -> &'static str {")
+def text():
     lines = [f"%{f}{s}{l}| => {n} => {shown(f, s, l, n)}|" for f, s, l, n in rows()]
-    print('    r#"' + "\n".join(lines) + '"#')
-    print("}")
+    return ("//! Written by bench/format_rows.py: formats, numbers and what C's `printf` makes of them.\n\n"
+            "/// Rows of a format, a number and a text, with ` => ` between.\n"
+            "pub(crate) fn printf_rows() -> &'static str {\n"
+            '    r#"' + "\n".join(lines) + '"#\n}\n')
+
+
+def main():
+    if sys.argv[1:] == ["--write"]:
+        with open(FILE, "w", encoding="utf-8") as file:
+            file.write(text())
+    else:
+        print(text(), end="")
 
 
 main()

@@ -345,7 +345,7 @@ HANDLERS = [
     body("false_goes_on", "Only nil ends a generic loop.",
          "local n=0\nfor v in function() n=n+1 if n<4 then return false end end do end\nreturn n", "4"),
     body("assert_has_no_place", "`assert` raises its message without a place.", "return select(2,pcall(function() assert(nil,'no') end)),select(2,pcall(function() assert(false) end))",
-         "noassertion failed!"),
+         "noassertion failed!", profile=True),
     body("pairs_handler_arguments", "`__pairs` and `__ipairs` get the table alone, and three values are taken.",
          "local function h(...) return select('#',...),2,3,4 end\nlocal t=setmetatable({},{__pairs=h,__ipairs=h})\nreturn select('#',pairs(t,1,2)),pairs(t,1),ipairs(t,1,2)", "31123", profile=True),
     body("any_chain", "A chain ends at a value that is no table, and a handler on a string is indexed in turn.",

@@ -576,7 +576,7 @@ class Example:
 
     def proofs(self):
         lines = heading(self.text) + [f"pub {self.name} : IsChunk {self.name}_tokens {self.name}_tree", UNFOLDING, f"{self.name} k = {self.proof.flat()}"]
-        given = f"(given_of {self.name}_tokens {len(self.tokens)} k)"
+        given = f"(given_tokens {self.name}_tokens {len(self.tokens)} k)"
         for number, part in enumerate(self.parts):
             lines += ["" if number else "  where"] + ["    " + self.said(part)]
             lines.append(f"    stands_{part.name} : " + part.said.format(given, f"{self.name}_{part.name}", part.start, part.end))
@@ -584,7 +584,7 @@ class Example:
         return "\n".join(lines + [""])
 
 
-UNFOLDING = "unfolding IsChunk SpellsChunk Spells SpellsPath mark_sort word_sort tok_at read_numeral_of numeral_of decimal_of"
+UNFOLDING = "unfolding IsChunk SpellsChunk Spells SpellsPath mark_class word_class tok_at read_numeral_of numeral_of decimal_of"
 
 SPECS_USE = """
 Rattle.std.specs.Prelude ℕ true false List [] ◌∷◌ pos codes
@@ -611,8 +611,8 @@ across line last kind start end = record { kind = kind; start = start; end = end
 PROOFS_USE = """
 Rattle.std.proofs.Common true false inl inr refl lit≤
 Rattle.lua_number.specs.Numerals read_numeral_of numeral_of decimal_of
-Rattle.lua_grammar.specs.Tokens mark_sort word_sort tok_at
-Rattle.lua_grammar.specs.Grammar IsChunk SpellsChunk Spells SpellsPath SpellsStat given_of outside under in_loop in_function
+Rattle.lua_grammar.specs.Tokens mark_class word_class tok_at
+Rattle.lua_grammar.specs.Grammar IsChunk SpellsChunk Spells SpellsPath SpellsStat given_tokens outside under in_loop in_function
 Rattle.lua_grammar.proofs.Pieces here word text number ended goes_on allowed comma semicolon last not_last
 """
 

@@ -168,27 +168,36 @@ io.write(ok and 'Gives ' or 'Fails ', tostring(out))
 
 
 def check_tree(example):
+    """Whether the text is read alike by lua_reference.py; a difference is printed."""
     read, fault = answer(example["text"]), example["fault"]
     wanted = f"fault {fault[0]} line {fault[1]}" if fault else other_tree(example["text"])
     if read != wanted:
         print(f"{example['name']}: {wanted} here, {read} in lua_reference.py")
+    return read == wanted
 
 
 def check(example):
+    """Whether Lua 5.1 has the same result, where it is to; a difference is printed."""
     if example["profile"] or example["cases"]:
-        return
+        return True
     done = subprocess.run(["lua5.1", "-", example["text"], example["module"]], input=HARNESS, capture_output=True, text=True)
     kind, text = example["seen"][0][:2]
     wanted = f"{kind} {text}".replace("Fails Lua error: ", "Fails ")
     if done.stdout != wanted:
         print(f"{example['name']}: {wanted!r} here, {done.stdout!r} in lua5.1 {done.stderr}")
+    return done.stdout == wanted
+
+
+def check_all():
+    every = [example for _, _, examples in FILES for example in examples]
+    compared = [example for example in every if not (example["profile"] or example["cases"])]
+    wrong = sum(not (check_tree(example) and check(example)) for example in every)
+    print(f"{len(every)} examples, {len(compared)} of them compared with lua5.1, {wrong} differ")
+    return bool(wrong)
 
 
 if __name__ == "__main__":
+    if "--check" in sys.argv:
+        sys.exit(check_all())
     for module, subject, examples in FILES:
-        if "--check" in sys.argv:
-            for example in examples:
-                check_tree(example)
-                check(example)
-        else:
-            write(module, subject, examples)
+        write(module, subject, examples)

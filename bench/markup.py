@@ -7,9 +7,9 @@ For each page: the seconds of processor time at 2 MiB, and how much longer a byt
 of some rounds counts, so that other work on the machine disturbs little. What the program takes to start is timed on an empty
 page and taken off.
 """
-import os
-import subprocess
 import sys
+
+from timing import best
 
 SMALL, LARGE, ROUNDS, SMALL_ROUNDS = 1 << 17, 1 << 21, 7, 40
 PAGES = [b"{", b"{{", b"}}", b"}", b"[[{{", b"{{}}", b"{{{{a}}", b"{{a|b=c}}", b"<!--", b"<!-- -->", b"\n<!-- --> ", b"\n ",
@@ -17,28 +17,13 @@ PAGES = [b"{", b"{{", b"}}", b"}", b"[[{{", b"{{}}", b"{{{{a}}", b"{{a|b=c}}", b
          b"</onlyinclude>", b"<onlyinclude>", b"|", b"a"]
 
 
-def seconds(program, page):
-    running = subprocess.Popen([program], stdin=subprocess.PIPE, stdout=subprocess.DEVNULL)
-    running.stdin.write(page)
-    running.stdin.close()
-    _, status, used = os.wait4(running.pid, 0)
-    running.returncode = status
-    if status != 0:
-        sys.exit(f"{program} ended with {status}")
-    return used.ru_utime + used.ru_stime
-
-
-def best(program, page, rounds):
-    return min(seconds(program, page) for _ in range(rounds))
-
-
 def main():
     program = sys.argv[1]
-    start = best(program, b"", SMALL_ROUNDS)
+    start = best(SMALL_ROUNDS, [program]).processor
     print(f"{'page':20} {'2 MiB':>8} {'per byte':>9}")
     for piece in PAGES:
-        large = best(program, (piece * LARGE)[:LARGE], ROUNDS) - start
-        small = best(program, (piece * SMALL)[:SMALL], SMALL_ROUNDS) - start
+        large = best(ROUNDS, [program], (piece * LARGE)[:LARGE]).processor - start
+        small = best(SMALL_ROUNDS, [program], (piece * SMALL)[:SMALL]).processor - start
         print(f"{piece.decode()!r:20} {large:7.3f}s {large / small / (LARGE / SMALL):8.2f}x")
 
 

@@ -5,6 +5,7 @@ It knows nothing of the crate `wiki_markup`: the list of items is rewritten, lef
 crate take their expected values from here.
 
   markup_reference.py table FILE     for each line `MODE text` of FILE: the line with its tree, as the tests have it
+  markup_reference.py check FILE     tells each line `MODE text => tree` of a table of the tests whose tree is another
   markup_reference.py pairing        the number that the test on all texts of up to 7 items expects
   markup_reference.py shown          the number that the test on all texts of up to 4 pieces in both modes expects
 """
@@ -267,14 +268,25 @@ def escaped(data):
     return "".join(plain.get(b) or (chr(b) if 32 <= b < 127 else "\\x%02x" % b) for b in data)
 
 
+def row(line):
+    """the line `MODE text` with its tree"""
+    mode, text = line[:1].decode(), unescaped(line[2:])
+    return line + b" => " + escaped(marked(*shown(text, mode))).encode()
+
+
 if __name__ == "__main__":
     command = sys.argv[1]
     total = 14695981039346656037
     if command == "table":
         for line in open(sys.argv[2], "rb").read().split(b"\n"):
             if line:
-                mode, text = line[:1].decode(), unescaped(line[2:])
-                print(line.decode() + " => " + escaped(marked(*shown(text, mode))))
+                print(row(line).decode())
+    elif command == "check":
+        table = open(sys.argv[2], "rb").read().split(b'r##"')[1].split(b'"##')[0]
+        lines = [line for line in table.split(b"\n") if line]
+        wrong = [line for line in lines if row(line.partition(b" => ")[0]) != line]
+        print(f"{len(lines)} lines, {len(wrong)} with another tree", *wrong, sep="\n")
+        sys.exit(bool(wrong))
     elif command == "pairing":
         for text in texts(PAIRING_ITEMS, 7):
             total = mixed(total, marked(text, [], []))

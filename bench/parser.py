@@ -7,9 +7,9 @@ For each text: its bytes, the seconds of processor time of its lexing alone and 
 longer the parsing takes. Of each the best of some rounds counts, so that other work on the machine disturbs little. What the
 program takes to start is timed on an empty text and taken off.
 """
-import os
-import subprocess
 import sys
+
+from timing import best
 
 ROUNDS, START_ROUNDS, LARGE = 7, 40, 1 << 21
 FUNCTION = """
@@ -53,30 +53,14 @@ TEXTS = {
 }
 
 
-def seconds(program, page):
-    running = subprocess.Popen([program], stdin=subprocess.PIPE, stdout=subprocess.PIPE)
-    running.stdin.write(page)
-    running.stdin.close()
-    said = running.stdout.read().decode().strip()
-    _, status, used = os.wait4(running.pid, 0)
-    running.returncode = status
-    if status != 0:
-        sys.exit(f"{program} ended with {status}")
-    return used.ru_utime + used.ru_stime, said
-
-
-def best(program, page, rounds):
-    return min(seconds(program, page) for _ in range(rounds))
-
-
 def main():
     program = sys.argv[1]
-    start, _ = best(program, b"", START_ROUNDS)
+    start = best(START_ROUNDS, [program]).processor
     print(f"{'text':20} {'bytes':>8} {'lexing':>8} {'parsing':>8}")
     for name, text in TEXTS.items():
-        lexing, _ = best(program, ("lex\n" + text).encode(), ROUNDS)
-        parsing, said = best(program, ("parse\n" + text).encode(), ROUNDS)
-        lexing, parsing = lexing - start, parsing - start
+        lexing = best(ROUNDS, [program], ("lex\n" + text).encode()).processor - start
+        parsed = best(ROUNDS, [program], ("parse\n" + text).encode())
+        parsing, said = parsed.processor - start, parsed.printed.decode().strip()
         print(f"{name:20} {len(text):8} {lexing:7.3f}s {parsing:7.3f}s {parsing / lexing:6.2f}x  {said}")
 
 
