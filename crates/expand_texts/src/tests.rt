@@ -83,7 +83,7 @@ fn names_are_found(rt: HostRuntime) -> Result<(), Fail> {
     assert!(rt; list.as_slice().len() == 1);
     let page = title(alloc)?;
     let kind = kind_of(alloc, true, &page, b"PAGENAME")?;
-    assert!(rt; matches!(kind, Kind::Word(word) if word.as_slice() == b"T".as_slice()));
+    assert!(rt; matches!(&kind, Kind::Word(word) if word.as_slice() == b"T".as_slice()));
     assert!(rt; title_named(alloc, b"a<b", Namespace::Template)?.is_none());
     Ok(())
 }
