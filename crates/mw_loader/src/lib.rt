@@ -1,0 +1,16 @@
+//! Data modules of one page: what was loaded is kept, and is shared read-only (Scribunto, `mw.loadData`).
+//!
+//! Read `specs/Shared.antt` first.
+//!
+//! - `keep`: what the loads of a page gave
+//! - `sharing`: the data of a value, read-only
+#![tactic(auto)]
+
+pub mod keep;
+mod sharing;
+#[cfg(test)]
+mod tests;
+
+pub use keep::{DataKeep, Kept};
+pub use lua_graph::DataFault;
+pub use sharing::make_shared;
