@@ -1,0 +1,12 @@
+pub mod OnlyData
+pub mod Heaps
+pub mod Calls
+pub mod Operators
+pub mod Expressions
+pub mod Statements
+pub mod Loops
+pub mod Tree
+pub mod CallBacks
+pub mod Modules
+pub mod Things
+pub mod Runs

@@ -1,0 +1,12 @@
+//! Laws of the meaning of Lua that go over whole runs: functions with an empty body, whose contracts are statements about the
+//! definitions of `lua_meaning`.
+//!
+//! - `laws`: what the run of a data module asks
+#![tactic(auto)]
+
+pub mod laws;
+
+pub use laws::data_runs_ask_for_data;
+
+#[cfg(test)]
+mod tests;
