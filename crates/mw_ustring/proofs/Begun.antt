@@ -1,5 +1,5 @@
 -- The bytes that begin a code point, from the back of a text.
-use Rattle.std.proofs.Common.{◌≡◌, ℕ, zero, suc, ◌+◌, ◌-◌, ◌<◌, Bool, true, false, if◌then◌else◌, List, [], ◌∷◌, ◌++◌, length, reverse, slice_get, Option, Some, refl, sym, ap, ◌∙◌, arith}
+use Rattle.std.proofs.Common.{◌≡◌, ℕ, zero, suc, ◌+◌, ◌-◌, ◌<◌, Bool, true, false, if◌then◌else◌, List, [], ◌∷◌, ◌++◌, length, reverse, slice_get, Option, Some, sym, ap, ◌∙◌, arith}
 use Rattle.std.specs.List.{IsLastAndRest}
 use Rattle.std.proofs.lemmas.List.{reverse-append}
 use Rattle.lua_pattern.specs.Texts.{goes_on}
