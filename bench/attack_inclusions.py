@@ -8,9 +8,10 @@ told (the program has one thread, so on an idle machine that is the time it take
 one that this script makes by itself.
 """
 import os
-import subprocess
 import sys
 import tempfile
+
+from timing import best
 
 ROUNDS = 3
 LONG = 2_000_000
@@ -35,16 +36,6 @@ def rows():
     yield ("as written, 2 MB, 300,000 times", {"T": "{{subst:|" + text + "}}", "P": "{{T}}" * 300_000}, few, SIZE * 300_000)
 
 
-def seconds(program, folder, options, wanted):
-    running = subprocess.Popen([program, "expand", *options, folder, "P"], stdout=subprocess.PIPE)
-    printed = running.stdout.read()
-    _, status, used = os.wait4(running.pid, 0)
-    running.returncode = status
-    if status != 0 or printed != wanted:
-        sys.exit(f"{program} ended with {status} and {len(printed)} bytes, not {len(wanted)}")
-    return used.ru_utime + used.ru_stime
-
-
 def main():
     program = os.path.abspath(sys.argv[1])
     for name, pages, options, wanted in rows():
@@ -53,7 +44,7 @@ def main():
                 file = "P" if title == "P" else "Template:" + title
                 with open(os.path.join(folder, file + ".wiki"), "w", encoding="utf-8") as page:
                     page.write(text)
-            least = min(seconds(program, folder, options, wanted.encode()) for _ in range(ROUNDS))
+            least = best(ROUNDS, [program, "expand", *options, folder, "P"], wanted=wanted.encode()).processor
         print(f"{name}: {least:.2f} s", flush=True)
 
 

@@ -4,15 +4,18 @@
 Of each part of NormalizationTest.txt (Debian's package unicode-data) lines are taken at even distances. A line has five
 fields, code points in hexadecimal: a text, and its normal forms C, D, KC and KD.
 
-    python3 bench/normal_forms.py > crates/mw_ustring/src/normal_rows.rt
+    bench/normal_forms.py [--write]     prints the file, or writes it into the crate
 """
 import bz2
+import os
+import sys
 
+FILE = os.path.join(os.path.dirname(os.path.dirname(os.path.abspath(__file__))), "crates/mw_ustring/src/normal_rows.rt")
 FROM = "/usr/share/unicode/NormalizationTest.txt.bz2"
 COUNTS = {"@Part0": 24, "@Part1": 96, "@Part2": 50, "@Part3": 30}
 
 
-def main():
+def parts_of_the_test():
     parts, name = {}, None
     for line in bz2.open(FROM, "rt", encoding="utf-8"):
         if line.startswith("@"):
@@ -20,17 +23,27 @@ def main():
         elif name and line.strip() and not line.startswith("#"):
             fields = line.split("#")[0].strip().rstrip(";").split(";")
             parts.setdefault(name, []).append(";".join(fields))
-    print("//! Lines of Unicode's conformance test for normal forms, as `bench/normal_forms.py` writes them.\n")
-    print("/// A text and its normal forms C, D, KC and KD, by code points in hexadecimal.")
-    print("pub fn rows() -> &'static str {")
-    print('    "\\')
+    return parts
+
+
+def text():
+    parts, rows = parts_of_the_test(), []
     for name, count in COUNTS.items():
         lines = parts[name]
         count = min(count, len(lines))
-        for k in range(count):
-            print(lines[k * len(lines) // count])
-    print('"')
-    print("}")
+        rows += [lines[k * len(lines) // count] for k in range(count)]
+    return ("//! Lines of Unicode's conformance test for normal forms, as `bench/normal_forms.py` writes them.\n\n"
+            "/// A text and its normal forms C, D, KC and KD, by code points in hexadecimal.\n"
+            "pub fn rows() -> &'static str {\n"
+            '    "\\\n' + "\n".join(rows) + '\n"\n}\n')
+
+
+def main():
+    if sys.argv[1:] == ["--write"]:
+        with open(FILE, "w", encoding="utf-8") as file:
+            file.write(text())
+    else:
+        print(text(), end="")
 
 
 main()
