@@ -49,8 +49,8 @@ fn arguments(alloc: Global, seed: RandomState) -> Result<List<Arg>, NoMemory> {
 fn texts_are_made(rt: HostRuntime) -> Result<(), Fail> {
     let alloc = rt.alloc();
     let made = made_texts(alloc)?;
-    assert!(rt; made.len() == 402);
-    assert!(rt; texts::depth_text().len() == 60);
+    assert!(rt; made.len() == 323);
+    assert!(rt; texts::depth_text().len() == 57);
     assert!(rt; trim_start(b" a ") == b"a ".as_slice());
     assert!(rt; trim_end(b" a ") == b" a".as_slice());
     assert!(rt; trimmed(alloc, b" a ")?.as_slice() == b"a".as_slice());
