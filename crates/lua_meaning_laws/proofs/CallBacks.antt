@@ -1,7 +1,6 @@
 -- What waits, and functions of the library that call back.
 use Rattle.std.specs.Prelude.{ℤ, pos, ◌+ℤ◌, codes, true, List, [], ◌∷◌, Option, Some, None, Ok, Err}
 use Rattle.page_run.specs.Outcome.{Outcome, Goes, Jumps}
-use Rattle.page_run.specs.Outcome as act
 use Rattle.mw_frame.specs.declared.question.Ask.{Ask}
 use Rattle.lua_heap.specs.Value.{Value, Nil, Number, Table, Builtin}
 use Rattle.lua_heap.specs.declared.library.Library.TheVariants.{BasicNext, IpairsStep}

@@ -7,7 +7,6 @@ use Rattle.lua_syntax.specs.declared.UnaryOp.TheVariants as sign
 use Rattle.lua_syntax.specs.Tree.{Fun}
 use Rattle.lua_heap.specs.Value.{Value, Number, Text, Table, is_true}
 use Rattle.lua_meaning.specs.Scope.{Bytes, Scope, Levels, cell_of, levels}
-use Rattle.lua_meaning.specs.Acts.{Act}
 use Rattle.lua_meaning.specs.Operators.{Operator, Less, Greater, AtMost, AtLeast, Equal, Unequal, Concatenate, Calculate, Add, Sub, Mul, Div, Mod, Pow}
 use Rattle.lua_meaning.specs.Parts.{Expression, Entry, FieldMeaning, ItemOf, PairOf}
 use Rattle.lua_meaning.specs.Expressions as parts

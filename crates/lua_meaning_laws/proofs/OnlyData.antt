@@ -15,8 +15,8 @@ use Rattle.lua_meaning_laws.specs.Laws.{IsForData}
 
 infixl 40 ◌>>=◌
 infixl 40 ◌>>◌
-
 -- A RUN that makes no frame where there is none, and asks for data alone. What it does when it sees frames is left open.
+-- A run of Lua may not use the allowances of expansions.
 abbrev pub OnlyData : LuaRun → Type 0
 OnlyData (Ends outcome) = Unit {0}
 OnlyData (Takes steps rest) = OnlyData rest
@@ -25,7 +25,7 @@ OnlyData (Sees rest) = (s : State) → s.frames ≡ [] → OnlyData (rest s)
 OnlyData (Changes s rest) = (s.frames ≡ []) × OnlyData rest
 OnlyData (Calls rest) = OnlyData rest
 OnlyData (Leaves rest) = OnlyData rest
-OnlyData (Uses may what rest) = (b : Bool) → OnlyData (rest b)
+OnlyData (Uses may what rest) = ⊥
 OnlyData (Begins thing rest) = (o : Outcome (List Value) Jump) → OnlyData (rest o)
 OnlyData (Opens may thing without rest) = ⊥
 OnlyData (Asks question rest) = IsForData question × ((a : Answer) → OnlyData (rest a))

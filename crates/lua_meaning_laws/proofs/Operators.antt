@@ -1,5 +1,5 @@
 -- Operators on values.
-use Rattle.std.specs.Prelude.{ℤ, pos, codes, Bool, true, not, List, [], ◌∷◌, Option, Some, None, Result, Ok, Err}
+use Rattle.std.specs.Prelude.{ℤ, pos, codes, Bool, true, not, [], ◌∷◌, Option, Some, None, Result, Ok, Err}
 use Rattle.lua_number.specs.declared.arithmetic.NumberFault.{NumberFault}
 use Rattle.lua_heap.specs.Value.{Value, Truth, Number, Text, Table, same, is_true}
 use Rattle.lua_heap.specs.Table.{border}

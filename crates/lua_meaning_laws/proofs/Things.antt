@@ -1,5 +1,5 @@
 -- The functions of the library, and all things that begin.
-use Rattle.std.proofs.Common.{◌≡◌, subst, sym}
+use Rattle.std.proofs.Common.{subst, sym}
 use Rattle.std.specs.Prelude.{List, [], ◌∷◌}
 use Rattle.page_run.specs.Outcome.{Outcome, Goes, Jumps}
 use Rattle.lua_syntax.specs.Tree.{Block}

@@ -3,14 +3,12 @@
 use Rattle.std.specs.Prelude.{List}
 use Rattle.wk_base.specs.declared.title.Title.{Title}
 use Rattle.wk_base.specs.declared.left.Left.{Left}
-use Rattle.page_run.specs.Outcome.{Outcome}
 use Rattle.page_run.specs.State.{Reply, Event, Ended, Spent, Asked}
 use Rattle.mw_frame.specs.declared.question.Ask.{Ask}
 use Rattle.mw_frame.specs.declared.question.Ask.TheVariants.{Template, Preprocess, Data}
-use Rattle.lua_heap.specs.Value.{Value}
 use Rattle.lua_meaning.specs.World.{World}
 use Rattle.lua_meaning.specs.Questions.{Answer}
-use Rattle.lua_meaning.specs.Acts.{State, Jump}
+use Rattle.lua_meaning.specs.Acts.{State}
 use Rattle.lua_meaning.specs.Start.{DataOf, lua}
 
 -- a question for the tables of a data module
