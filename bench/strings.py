@@ -5,9 +5,9 @@
 
 Milliseconds of processor time for one call, less those of a run without a call. Of each the best of some rounds counts.
 """
-import os
-import subprocess
 import sys
+
+from timing import best
 
 ROUNDS = 3
 COUNT = 20
@@ -28,22 +28,10 @@ print(string.format("%d", sum))
 """
 
 
-def used(command, work, count):
-    running = subprocess.Popen(command, stdin=subprocess.PIPE, stdout=subprocess.PIPE)
-    running.stdin.write(f"{work} {count}\n".encode())
-    running.stdin.close()
-    answer = running.stdout.read().decode().strip()
-    _, status, usage = os.wait4(running.pid, 0)
-    running.returncode = status
-    if status != 0:
-        sys.exit(f"{command} ended with {status} at {work} {count}")
-    return usage.ru_utime + usage.ru_stime, answer
-
-
 def call(command, work):
-    start = min(used(command, work, 0)[0] for _ in range(ROUNDS))
-    runs = [used(command, work, COUNT) for _ in range(ROUNDS)]
-    return 1000 * (min(run[0] for run in runs) - start) / COUNT, runs[0][1]
+    start = best(ROUNDS, command, f"{work} 0\n".encode()).processor
+    took = best(ROUNDS, command, f"{work} {COUNT}\n".encode())
+    return 1000 * (took.processor - start) / COUNT, took.printed.strip()
 
 
 def main():
