@@ -1,38 +1,10 @@
 //! One case: a line with an alphabet, a place, a pattern and a subject.
-ghost use Rattle.std.specs.Prelude.{◌<◌};
-
+use case_text::unescaped;
 use lua_pattern::{Alphabet, Capture, Match, OneByte, OnePoint, Pattern, PatternFault, Search};
-use std::alloc::{AllocError, Global};
 use std::io;
 
 /// The tries that a case may take.
 const BUDGET: u64 = 10_000_000;
-
-fn digit(byte: u8) -> u8
-    ensures { result < 16 }
-{
-    match byte {
-        b'0'..=b'9' => byte - b'0',
-        b'a'..=b'f' => byte - b'a' + 10,
-        _ => 0,
-    }
-}
-
-/// The bytes of a field, in which `\x` and two small hexadecimal digits stand for a byte.
-fn unescaped(alloc: Global, text: &[u8]) -> Result<Vec<u8>, AllocError> {
-    let mut bytes = Vec::new(alloc);
-    let mut left = text;
-    while let [first, rest @ ..] = left {
-        if let [b'\\', b'x', high, low, later @ ..] = left {
-            bytes.push(digit(*high) * 16 + digit(*low))?;
-            left = later;
-        } else {
-            bytes.push(*first)?;
-            left = rest;
-        }
-    }
-    Ok(bytes)
-}
 
 fn show_match(rt: &HostRuntime, found: &Match, tries: u64) -> io::Result<()> {
     print!(rt; "{} {}", found.start, found.end)?;
