@@ -4,14 +4,9 @@ use Rattle.std.specs.Prelude.{Some, None}
 use Rattle.std.specs.Option.{option_and_then}
 use Rattle.std.specs.Str.{all_ascii_digits}
 use Rattle.std.specs.Str.Parse.{digits_value, without_leading_plus, IsNumeral}
-use Rattle.std.proofs.lemmas.Str.Parse.{IsNumeralModel, numerals_by_value, tells_all_ascii_digits}
-use Rattle.std.proofs.lemmas.Bool.{lt-leb, ltb-true}
-use Rattle.wk_shelf.proofs.FileLemmas.{both}
+use Rattle.std.proofs.lemmas.Bool.{and_parts, lt-leb, ltb-true}
+use Rattle.wk_base.proofs.Numbers.{digits_model}
 use Rattle.wikiexpand.specs.Command.{number_within, up_to}
-
--- Texts of digits are those of std.
-model : IsNumeralModel (λ ds. all_ascii_digits ds ≡ true) (digits_value 10)
-model = numerals_by_value (λ ds. all_ascii_digits ds ≡ true) tells_all_ascii_digits
 
 is_more : (ds : List ℕ) → 0 < length ds → nat_lt 0 (length ds) ≡ true
 is_more ds some = grind arith
@@ -19,7 +14,7 @@ is_more ds some = grind arith
 -- a text that parses
 pub parsed : (bound : ℕ) (text : List ℕ) → IsNumeral 10 (without_leading_plus text) → up_to bound (digits_value 10 (without_leading_plus text)) ≡ number_within bound text
 parsed bound text numeral =
-    let digits : all_ascii_digits (without_leading_plus text) ≡ true = model.from _ numeral.1 in
+    let digits : all_ascii_digits (without_leading_plus text) ≡ true = digits_model.from _ numeral.1 in
     rw (is_more _ numeral.0, digits) refl
 
 -- a text that doesn't: it is no number, or one that is too great
@@ -29,7 +24,7 @@ unparsed bound text small not = go (without_leading_plus text) (nat_lt 0 (length
     go : (ds : List ℕ) (given : Bool) → (nat_lt 0 (length ds) && all_ascii_digits ds) ≡ given → (IsNumeral 10 ds × (digits_value 10 ds < 2 ^ 64) → ⊥) → None ≡ option_and_then (up_to bound) (if given then Some (digits_value 10 ds) else None)
     go ds false e h = refl
     go ds true e h =
-        let digits : all_ascii_digits ds ≡ true = (both (nat_lt 0 (length ds)) (all_ascii_digits ds) e).1 in
-        let some : 0 < length ds = ltb-true 0 (length ds) (both (nat_lt 0 (length ds)) (all_ascii_digits ds) e).0 in
-        let great : 2 ^ 64 ≤ digits_value 10 ds = omega (arith, λ (l : digits_value 10 ds < 2 ^ 64). h ((some, model.to ds digits), l)) in
+        let digits : all_ascii_digits ds ≡ true = (and_parts (nat_lt 0 (length ds)) (all_ascii_digits ds) e).1 in
+        let some : 0 < length ds = ltb-true 0 (length ds) (and_parts (nat_lt 0 (length ds)) (all_ascii_digits ds) e).0 in
+        let great : 2 ^ 64 ≤ digits_value 10 ds = omega (arith, λ (l : digits_value 10 ds < 2 ^ 64). h ((some, digits_model.to ds digits), l)) in
         rw (lt-leb (digits_value 10 ds) bound (omega (arith, great, small))) refl

@@ -1,10 +1,12 @@
 -- The pages of a folder without modules, and the text of one of them.
-use Rattle.std.proofs.Common.{◌≡◌, ◌∙◌, ℕ, option_map, Bool, true, false, List, [], ◌∷◌, ◌++◌, refl, ap, ◌||◌, is_some, cond}
+use Rattle.std.proofs.Common.{◌≡◌, ◌∙◌, ℕ, option_map, Bool, true, false, List, [], ◌∷◌, ◌++◌, refl, ap, is_some, cond}
 use Rattle.std.specs.Prelude.{Option, Some, None, IsSome, IfSome, if◌then◌else◌}
+use Rattle.std.proofs.lemmas.Bool.{or_parts}
 use Rattle.wk_base.specs.declared.left.Left.{Left}
 use Rattle.wk_base.specs.declared.left.Limits.{Limits}
 use Rattle.wk_base.specs.declared.title.Title.{Title}
 use Rattle.wk_base.specs.contracts.title.TitlePartialEq.TheImpl as titles
+use Rattle.wk_base.specs.Titles.{is_module}
 use Rattle.wk_base.proofs.TitleLaws.{same_title}
 use Rattle.wk_shelf.specs.declared.folder.FolderPage.{FolderPage}
 use Rattle.wiki_markup.specs.Trees.{Trees}
@@ -17,17 +19,13 @@ use Rattle.expand_meaning.specs.Expand.{Setting}
 use Rattle.wiki_expand.specs.Standing.{work_of}
 use Rattle.wiki_expand.specs.declared.expander.Source.{Source}
 use Rattle.expand_meaning.specs.Outcome.{Work, Reading, next_event, Comes, page_scene, page_text, text_in}
-use Rattle.wikiexpand.specs.Page.{is_module, has_module, holds_module, with_page, with_pages, page_map, entry_of, full, text_of}
-
-neither : (a b : Bool) → (a || b) ≡ false → (a ≡ false) × (b ≡ false)
-neither true b h = absurd cc
-neither false b h = (refl, h)
+use Rattle.wikiexpand.specs.Page.{has_module, holds_module, with_page, with_pages, page_map, entry_of, full, text_of}
 
 -- ---- no page is a module
 
 no_module_more : (map : Pages) (title : Title) (e : Entry) → holds_module map ≡ false → is_module title.ns ≡ false → holds_module (map ++ (title, e) ∷ []) ≡ false
 no_module_more [] title e h n = rw n refl
-no_module_more ((t, x) ∷ map) title e h n = let both : (is_module t.ns ≡ false) × (holds_module map ≡ false) = neither (is_module t.ns) (holds_module map) h in rw (both.0, no_module_more map title e both.1 n) refl
+no_module_more ((t, x) ∷ map) title e h n = let both : (is_module t.ns ≡ false) × (holds_module map ≡ false) = or_parts (is_module t.ns) (holds_module map) h in rw (both.0, no_module_more map title e both.1 n) refl
 
 no_module_with : (map : Pages) (page : FolderPage) → holds_module map ≡ false → is_module page.title.ns ≡ false → holds_module (with_page map page) ≡ false
 no_module_with map page h n = go (is_some (find_page map page.title))
@@ -38,7 +36,7 @@ no_module_with map page h n = go (is_some (find_page map page.title))
 
 no_modules : (map : Pages) (pages : List FolderPage) → holds_module map ≡ false → has_module pages ≡ false → holds_module (with_pages map pages) ≡ false
 no_modules map [] h n = h
-no_modules map (page ∷ pages) h n = let both : (is_module page.title.ns ≡ false) × (has_module pages ≡ false) = neither (is_module page.title.ns) (has_module pages) n in no_modules (with_page map page) pages (no_module_with map page h both.0) both.1
+no_modules map (page ∷ pages) h n = let both : (is_module page.title.ns ≡ false) × (has_module pages ≡ false) = or_parts (is_module page.title.ns) (has_module pages) n in no_modules (with_page map page) pages (no_module_with map page h both.0) both.1
 
 pub no_module : (pages : List FolderPage) → has_module pages ≡ false → holds_module (page_map pages) ≡ false
 unfolding page_map
@@ -47,7 +45,7 @@ no_module pages n = no_modules [] pages refl n
 -- a held title is no module's
 pub held_is_no_module : (map : Pages) (title : Title) → holds_module map ≡ false → IsSome (find_page map title) → is_module title.ns ≡ false
 held_is_no_module [] title h some = absurd cc
-held_is_no_module ((t, x) ∷ map) title h some = let both : (is_module t.ns ≡ false) × (holds_module map ≡ false) = neither (is_module t.ns) (holds_module map) h in go (titles.ghosts.eq title t) refl both.0 (held_is_no_module map title both.1) some
+held_is_no_module ((t, x) ∷ map) title h some = let both : (is_module t.ns ≡ false) × (holds_module map ≡ false) = or_parts (is_module t.ns) (holds_module map) h in go (titles.ghosts.eq title t) refl both.0 (held_is_no_module map title both.1) some
   where
     go : (b : Bool) → titles.ghosts.eq title t ≡ b → is_module t.ns ≡ false → (IsSome (find_page map title) → is_module title.ns ≡ false) → IsSome (cond b (Some x) (find_page map title)) → is_module title.ns ≡ false
     go true e n rest some = ap (λ (t : Title). is_module t.ns) (same_title title t e) ∙ n

@@ -32,42 +32,42 @@ abbrev pub is_equals : ℕ → Bool
 is_equals c = c == 61
 
 -- the option of a name
-abbrev pub named : List ℕ → Option Allowance
-named name =
+abbrev pub option_named : List ℕ → Option Allowance
+option_named name =
     if bytes_eq name (codes "--nodes") then Some Nodes
     else if bytes_eq name (codes "--bytes") then Some Bytes
     else None
 
--- What a word says: the text that it adds, if it adds one, and how the word behind it is read.
-pub record Said : Type 0 where
+-- What a word means: the text that it adds, if it adds one, and how the word behind it is read.
+pub record WordMeaning : Type 0 where
   pub item : Option Item
   pub next : Reading
 
 -- an option's number stands behind its first `=`, or is the next word
-abbrev pub option_said : List ℕ → Allowance → Said
-option_said word allowance =
+abbrev pub option_meaning : List ℕ → Allowance → WordMeaning
+option_meaning word allowance =
     if list_any is_equals word then record { item = Some (number_of allowance (after_first is_equals word)); next = Any }
     else record { item = None; next = NumberOf allowance }
 
-abbrev pub said : Reading → List ℕ → Option Said
-said (NumberOf allowance) word = Some (record { item = Some (number_of allowance word); next = Any })
-said ValueAlone word = Some (record { item = Some (value word); next = ValueAlone })
-said Any word =
+abbrev pub meaning_of : Reading → List ℕ → Option WordMeaning
+meaning_of (NumberOf allowance) word = Some (record { item = Some (number_of allowance word); next = Any })
+meaning_of ValueAlone word = Some (record { item = Some (value word); next = ValueAlone })
+meaning_of Any word =
     if is_end word then Some (record { item = None; next = ValueAlone })
-    else if is_option word then option_map (option_said word) (named (before_first is_equals word))
+    else if is_option word then option_map (option_meaning word) (option_named (before_first is_equals word))
     else Some (record { item = Some (value word); next = Any })
 
--- what a word says, and what the words behind it say
-abbrev pub joined : Option Said → (Reading → Option (List Item)) → Option (List Item)
-joined None behind = None
-joined (Some said) behind = option_map (cons_option said.item) (behind said.next)
+-- the text of a word, and those of the words behind it
+abbrev pub followed_by : Option WordMeaning → (Reading → Option (List Item)) → Option (List Item)
+followed_by None behind = None
+followed_by (Some meaning) behind = option_map (cons_option meaning.item) (behind meaning.next)
 
 -- The texts of the words: none where an option is unknown, or the last one has no number.
 abbrev pub items_from : Reading → List (List ℕ) → Option (List Item)
 items_from (NumberOf allowance) [] = None
 items_from Any [] = Some []
 items_from ValueAlone [] = Some []
-items_from reading (word ∷ words) = joined (said reading word) (λ next. items_from next words)
+items_from reading (word ∷ words) = followed_by (meaning_of reading word) (λ next. items_from next words)
 
 abbrev pub items_of : List (List ℕ) → Option (List Item)
 items_of words = items_from Any words

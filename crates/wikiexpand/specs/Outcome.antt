@@ -4,10 +4,10 @@ use Rattle.std.specs.List.{list_any}
 use Rattle.wk_shelf.specs.Put.{Puts, PutsSome}
 use Rattle.wikiexpand.specs.declared.report.Report.{Report}
 use Rattle.wikiexpand.specs.declared.report.Status.{Status}
-use Rattle.wikiexpand.specs.declared.report.Status.TheVariants.{Done, NotHeld, SourceFault, NotBuilt}
+use Rattle.wikiexpand.specs.declared.report.Status.TheVariants.{Done, NoSuchPage, SourceFault, NotBuilt}
 use Rattle.wikiexpand.specs.Report.{status_code, read_line}
 
--- a status that comes with the whole of what is due: 0 done, 1 no such page, 2 no command, 3 source fault, 7 not built
+-- a status that comes with the whole expected report: 0 done, 1 no such page, 2 no command, 3 source fault, 7 not built
 abbrev pub is_answer : ℕ → Bool
 is_answer status = list_any (λ n. status == n) (0 ∷ 1 ∷ 2 ∷ 3 ∷ 7 ∷ [])
 
@@ -15,13 +15,13 @@ is_answer status = list_any (λ n. status == n) (0 ∷ 1 ∷ 2 ∷ 3 ∷ 7 ∷ [
 abbrev pub is_status : ℕ → Bool
 is_status status = list_any (λ n. status == n) (0 ∷ 1 ∷ 2 ∷ 3 ∷ 4 ∷ 5 ∷ 6 ∷ 7 ∷ [])
 
--- the status is the one that is due, and each sink that tells its bytes holds what it held and what is due
+-- the status is the expected one, and each sink that tells its bytes holds what it held and then the bytes of the report
 pub record Answers (status : ℕ) (out_old out_new err_old err_new : Option (List ℕ)) (report : Report) : Type 0 where
   pub status_is : status ≡ status_code report.status
   pub out_is : Puts out_old out_new report.out
   pub err_is : Puts err_old err_new report.err
 
--- a prefix of what is due stands on each sink; where a read failed, that of its line may stand on standard error
+-- each sink got a prefix of the bytes of the report; where a read failed, standard error may have one of its line instead
 pub record Begins (read_failed : Type 0) (out_old out_new err_old err_new : Option (List ℕ)) (report : Report) : Type 0 where
   pub out_begins : PutsSome out_old out_new report.out
   pub err_begins : PutsSome err_old err_new report.err ⊎ (read_failed × PutsSome err_old err_new read_line)
@@ -29,7 +29,7 @@ pub record Begins (read_failed : Type 0) (out_old out_new err_old err_new : Opti
 -- the statuses with which the work on a command ends
 abbrev pub IsWork : Status → Type 0
 IsWork Done = Unit {0}
-IsWork NotHeld = Unit {0}
+IsWork NoSuchPage = Unit {0}
 IsWork SourceFault = Unit {0}
 IsWork NotBuilt = Unit {0}
 IsWork _ = ⊥

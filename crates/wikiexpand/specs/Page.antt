@@ -1,11 +1,10 @@
 -- What a page of a folder becomes.
-use Rattle.std.specs.Prelude.{ℕ, Bool, true, false, if◌then◌else◌, is_some, List, [], ◌∷◌, ◌++◌, Option, option_map}
+use Rattle.std.specs.Prelude.{ℕ, Bool, if◌then◌else◌, is_some, List, [], ◌∷◌, ◌++◌, Option, option_map}
 use Rattle.std.specs.List.{list_any}
 use Rattle.wk_base.specs.declared.left.Left.{Left}
 use Rattle.wk_base.specs.declared.left.Limits.{Limits}
 use Rattle.wk_base.specs.declared.title.Title.{Title}
-use Rattle.wk_base.specs.declared.title.Namespace.{Namespace}
-use Rattle.wk_base.specs.declared.title.Namespace.TheVariants.{Module}
+use Rattle.wk_base.specs.Titles.{is_module}
 use Rattle.wk_shelf.specs.declared.folder.FolderPage.{FolderPage}
 use Rattle.wiki_markup.specs.declared.marked.Marked.{Marked}
 use Rattle.wiki_markup.specs.declared.marked.Mode.{Mode}
@@ -17,10 +16,6 @@ use Rattle.wiki_expand.specs.Pages.{Pages, find_page, direct_in, setting_in}
 use Rattle.expand_meaning.specs.Outcome.{page_text}
 
 -- ---- modules
-
-abbrev pub is_module : Namespace → Bool
-is_module Module = true
-is_module _ = false
 
 abbrev pub has_module : List FolderPage → Bool
 has_module pages = list_any (λ page. is_module page.title.ns) pages

@@ -4,18 +4,18 @@ use Rattle.wk_base.specs.declared.left.Limits.{Limits}
 use Rattle.wk_base.specs.declared.title.Title.{Title}
 use Rattle.wk_base.specs.Titles.{title_text}
 use Rattle.wk_shelf.specs.declared.folder.FolderPage.{FolderPage}
-use Rattle.wk_shelf.specs.Files.{Held}
+use Rattle.wk_shelf.specs.Files.{StoredFile}
 use Rattle.wk_shelf.specs.Folder.{files_of, wiki_of}
 use Rattle.wikiexpand.specs.Command.{Command, command_of}
 use Rattle.wikiexpand.specs.Page.{has_module, page_map, text_of}
 use Rattle.wikiexpand.specs.declared.report.Status.{Status}
-use Rattle.wikiexpand.specs.declared.report.Status.TheVariants.{Done, NotHeld, Usage, SourceFault, ReadFault, WriteFault, NoMemory, NotBuilt}
+use Rattle.wikiexpand.specs.declared.report.Status.TheVariants.{Done, NoSuchPage, Usage, SourceFault, ReadFault, WriteFault, NoMemory, NotBuilt}
 use Rattle.wikiexpand.specs.declared.report.Report.{Report}
 
 -- the exit status
 abbrev pub status_code : Status → ℕ
 status_code Done = 0
-status_code NotHeld = 1
+status_code NoSuchPage = 1
 status_code Usage = 2
 status_code SourceFault = 3
 status_code ReadFault = 4
@@ -37,7 +37,7 @@ read_line = codes "wikiexpand: cannot read" ++ 10 ∷ []
 -- ---- the answer
 
 abbrev pub page_report : Title → Option (List ℕ) → Report
-page_report title None = record { status = NotHeld; out = []; err = line (codes "no such page: " ++ title_text title) }
+page_report title None = record { status = NoSuchPage; out = []; err = line (codes "no such page: " ++ title_text title) }
 page_report title (Some text) = record { status = Done; out = text; err = [] }
 
 -- what a title gives on the pages of a wiki: its text; modules don't run yet
@@ -57,10 +57,10 @@ report_of command (Ok pages) = wiki_report command.limits command.page pages
 abbrev pub usage_report : Report
 usage_report = record { status = Usage; out = []; err = usage_line }
 
-abbrev pub due_at : Option Command → Option (List Held) → Option Report
-due_at None held = Some usage_report
-due_at (Some command) held = option_map (λ files. report_of command (wiki_of (files_of command.folder files))) held
+abbrev pub expected_for : Option Command → Option (List StoredFile) → Option Report
+expected_for None files = Some usage_report
+expected_for (Some command) files = option_map (λ known. report_of command (wiki_of (files_of command.folder known))) files
 
 -- what the words are to give where the shelf tells its files; words that are no command need none
-abbrev pub due : List (List ℕ) → Option (List Held) → Option Report
-due words held = due_at (command_of words) held
+abbrev pub expected : List (List ℕ) → Option (List StoredFile) → Option Report
+expected words files = expected_for (command_of words) files

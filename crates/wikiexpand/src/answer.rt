@@ -1,7 +1,7 @@
 //! What a title gives on the pages of a folder.
 ghost use Rattle.std.specs.Prelude.{◌≡◌, ◌++◌, [], false, IfOk};
 ghost use Rattle.wk_base.specs.Allowances.{IsCountable};
-ghost use Rattle.wikiexpand.specs.Page.{is_module, has_module, holds_module, text_of};
+ghost use Rattle.wikiexpand.specs.Page.{has_module, holds_module, text_of};
 ghost use Rattle.wikiexpand.specs.Report.{line, page_report, wiki_report, fault_report};
 ghost use Rattle.wikiexpand.specs.Outcome.{IsWork};
 
@@ -10,23 +10,14 @@ use crate::report::{Report, Status};
 use std::alloc::Global;
 use std::hash::RandomState;
 use wiki_expand::PageMap;
-use wk_base::{Bytes, Limits, Namespace, NoMemory, Title};
+use wk_base::{Bytes, Limits, NoMemory, Title};
 use wk_shelf::FolderPage;
-
-fn is_module(ns: Namespace) -> bool
-    ensures { result ≡ is_module ns }
-{
-    match ns {
-        Namespace::Module => true,
-        _ => false,
-    }
-}
 
 fn has_module(pages: &[FolderPage]) -> bool
     ensures { result ≡ has_module pages.now }
 {
     for page in pages {
-        if is_module(page.title.ns) {
+        if page.title.ns.is_module() {
             return true;
         }
     }
@@ -79,7 +70,7 @@ fn page_report(
     if !map.holds(title) {
         return refusal(
             alloc,
-            Status::NotHeld,
+            Status::NoSuchPage,
             b"no such page: ",
             title.text()?.as_slice(),
         );
@@ -91,7 +82,8 @@ fn page_report(
     })
 }
 
-/// What a title gives on the pages of a wiki: that a module is not built, or what it gives on them by title.
+/// What a title gives on the pages of a wiki: that a module is not built, or what it gives on them by title. Titles are
+/// hashed from the seed.
 pub fn wiki_report(
     alloc: Global,
     seed: RandomState,

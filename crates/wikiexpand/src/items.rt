@@ -1,6 +1,6 @@
 //! The words of a command line as texts, some of them given for an option.
 ghost use Rattle.std.specs.Prelude.{◌≡◌, Option, MatchOption, IfOk, map, string_bytes, option_map, Some};
-ghost use Rattle.wikiexpand.specs.Items.{is_option, is_end, is_equals, named, said, items_of, number_of, value, option_said};
+ghost use Rattle.wikiexpand.specs.Items.{is_option, is_end, is_equals, option_named, meaning_of, items_of, number_of, value, option_meaning};
 ghost use Rattle.std.specs.List.{before_first};
 
 use std::alloc::Global;
@@ -80,8 +80,8 @@ fn is_option(word: &[u8]) -> bool
 }
 
 /// The option of a name.
-fn named(name: &str) -> Option<Allowance>
-    ensures { result ≡ named name.now }
+fn option_named(name: &str) -> Option<Allowance>
+    ensures { result ≡ option_named name.now }
 {
     if name == "--nodes" {
         return Some(Allowance::Nodes);
@@ -93,21 +93,21 @@ fn named(name: &str) -> Option<Allowance>
 }
 
 /// What an option's word says, whose number stands behind its first `=` or is the next word.
-fn option_said<'w>(word: &'w str) -> Option<(Option<Item<'w>>, Reading)>
-    ensures { option_map (λ s. record { item = s.0; next = s.1 }) result ≡ option_map (option_said word.now) (named (before_first is_equals word.now)) }
+fn option_meaning<'w>(word: &'w str) -> Option<(Option<Item<'w>>, Reading)>
+    ensures { option_map (λ s. record { item = s.0; next = s.1 }) result ≡ option_map (option_meaning word.now) (option_named (before_first is_equals word.now)) }
 {
     match word.split_once('=') {
         Some((name, number)) => {
-            let allowance = named(name)?;
+            let allowance = option_named(name)?;
             Some((Some(Item::number_of(allowance, number)), Reading::Any))
         }
-        None => Some((None, Reading::NumberOf(named(word)?))),
+        None => Some((None, Reading::NumberOf(option_named(word)?))),
     }
 }
 
 /// What a word says: the text that it adds, if it adds one, and what the next word is. None where it is an unknown option.
-fn said<'w>(reading: Reading, word: &'w str) -> Option<(Option<Item<'w>>, Reading)>
-    ensures { option_map (λ s. record { item = s.0; next = s.1 }) result ≡ said reading word.now }
+fn meaning_of<'w>(reading: Reading, word: &'w str) -> Option<(Option<Item<'w>>, Reading)>
+    ensures { option_map (λ s. record { item = s.0; next = s.1 }) result ≡ meaning_of reading word.now }
 {
     match reading {
         Reading::NumberOf(allowance) => {
@@ -119,7 +119,7 @@ fn said<'w>(reading: Reading, word: &'w str) -> Option<(Option<Item<'w>>, Readin
                 return Some((None, Reading::ValueAlone));
             }
             if is_option(word.as_bytes()) {
-                return option_said(word);
+                return option_meaning(word);
             }
             Some((Some(Item::value(word)), Reading::Any))
         }
@@ -133,7 +133,7 @@ pub fn items_of<'w>(alloc: Global, words: &'w [String]) -> Result<Option<Vec<Ite
     let mut items = Vec::new(alloc);
     let mut reading = Reading::Any;
     for word in words {
-        let Some((item, next)) = said(reading, word.as_str()) else {
+        let Some((item, next)) = meaning_of(reading, word.as_str()) else {
             return Ok(None);
         };
         if let Some(item) = item

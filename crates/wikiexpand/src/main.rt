@@ -1,5 +1,8 @@
 //! Renders pages of a folder of wiki files.
 //!
+//! Read `specs/Report.antt` first: what the words are to give, with the lines on standard error and the statuses. Then
+//! `specs/Outcome.antt`: what a run leaves on the two streams.
+//!
 //! - `items`: the words of the command line as texts, some of them given for an option
 //! - `command`: the command that the words are
 //! - `answer`: what a title gives on the pages of a folder
@@ -17,11 +20,12 @@ mod put;
 mod report;
 mod wiki_app;
 
+use put::put_piece;
 use report::Status;
 use std::hash::RandomState;
 use std::process::ExitCode;
 use std::{env, io};
-use wiki_app::run;
+use wiki_app::{CANNOT_READ, after_put, run};
 use wk_shelf::{FolderShelf, StreamSink};
 
 /// The words after the program's name.
@@ -45,13 +49,14 @@ fn main(rt: HostRuntime) -> ExitCode {
     let Ok(files) = rt.clone() else {
         return ExitCode::from(Status::NoMemory.code());
     };
-    // No page is to know which titles collide.
-    let Ok(seed) = RandomState::new(&rt) else {
-        return ExitCode::from(Status::ReadFault.code());
-    };
     let mut shelf = FolderShelf::new(rt.alloc(), files);
     let mut out = StreamSink::new(rt.alloc(), rt.stdout());
     let mut err = StreamSink::new(rt.alloc(), rt.stderr());
+    // A source of random bytes that gives none is a read that failed.
+    let Ok(seed) = RandomState::new(&rt) else {
+        let put = put_piece(&mut err, CANNOT_READ);
+        return ExitCode::from(after_put(put, Status::ReadFault));
+    };
     ExitCode::from(run(
         &rt,
         rt.alloc(),

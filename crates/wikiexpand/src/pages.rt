@@ -35,13 +35,9 @@ fn add_page(alloc: Global, map: &mut PageMap, page: &FolderPage) -> Result<(), N
     map.add(title, direct, transcluded)
 }
 
-/// The pages of a folder, by title. Titles are hashed by the seed.
+/// The pages of a folder, by title. Titles are hashed from the seed.
 #[tactic(auto, unfolding(crate::specs::Page::page_map))]
-pub fn page_map(
-    alloc: Global,
-    seed: RandomState,
-    pages: &[FolderPage],
-) -> Result<PageMap, NoMemory>
+pub fn page_map(alloc: Global, seed: RandomState, pages: &[FolderPage]) -> Result<PageMap, NoMemory>
     ensures map { IfOk result (λ map. map ≡ page_map pages.now) }
     ensures no_module { has_module pages.now ≡ false → IfOk result (λ map. holds_module map ≡ false) }
 {

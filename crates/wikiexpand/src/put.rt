@@ -17,19 +17,19 @@ pub fn put_piece<K: Sink>(sink: &mut K, piece: &[u8]) -> Result<(), SinkFailed>
     sink.put(piece)
 }
 
-/// Puts what is shown to one sink, then what is told to another.
+/// Puts a page to one sink, then a message to another.
 pub fn put_both<O: Sink, E: Sink>(
     out: &mut O,
-    shown: &[u8],
+    page: &[u8],
     err: &mut E,
-    told: &[u8],
+    message: &[u8],
 ) -> Result<(), SinkFailed>
-    ensures out_ok { OnOk result (Puts (O.contents out.old) (O.contents out.new) shown.now) }
-    ensures err_ok { OnOk result (Puts (E.contents err.old) (E.contents err.new) told.now) }
-    ensures out_some { PutsSome (O.contents out.old) (O.contents out.new) shown.now }
-    ensures err_some { PutsSome (E.contents err.old) (E.contents err.new) told.now }
+    ensures out_ok { OnOk result (Puts (O.contents out.old) (O.contents out.new) page.now) }
+    ensures err_ok { OnOk result (Puts (E.contents err.old) (E.contents err.new) message.now) }
+    ensures out_some { PutsSome (O.contents out.old) (O.contents out.new) page.now }
+    ensures err_some { PutsSome (E.contents err.old) (E.contents err.new) message.now }
     ensures cause { OnErr result (Rose (O.faults out.old) (O.faults out.new) ⊎ Rose (E.faults err.old) (E.faults err.new)) }
 {
-    put_piece(out, shown)?;
-    put_piece(err, told)
+    put_piece(out, page)?;
+    put_piece(err, message)
 }

@@ -10,7 +10,7 @@ pub enum Status {
     /// The page was printed.
     Done,
     /// The folder has no page of the title.
-    NotHeld,
+    NoSuchPage,
     /// The words are no command.
     Usage,
     /// The folder's files make no wiki.
@@ -39,7 +39,7 @@ impl Status {
     {
         match self {
             Status::Done => 0,
-            Status::NotHeld => 1,
+            Status::NoSuchPage => 1,
             Status::Usage => 2,
             Status::SourceFault => 3,
             Status::ReadFault => 4,

@@ -1,9 +1,9 @@
 //! The top call over a shelf and sinks in memory, by tables.
 ghost use Rattle.std.specs.Prelude.{◌≡◌, None};
 
+use crate::case_tests::fixed_seed;
 use crate::wiki_app::run;
 use std::alloc::{AllocError, Global};
-use std::hash::RandomState;
 use std::marker::Brand;
 use std::sync::ledger::{Blank, Ledger};
 use std::test::Fail;
@@ -255,7 +255,7 @@ fn each_run_has_its_status_and_its_bytes(rt: HostRuntime) -> Result<(), Fail> {
         let status = run(
             &rt,
             rt.alloc(),
-            RandomState::new(&rt)?,
+            fixed_seed()?,
             words.as_slice(),
             &mut shelf,
             &mut out,
@@ -268,7 +268,7 @@ fn each_run_has_its_status_and_its_bytes(rt: HostRuntime) -> Result<(), Fail> {
     Ok(())
 }
 
-/// A folder of many empty pages, of which no content is told.
+/// A folder of many empty pages, of which no content is message.
 #[derive(Drop)]
 struct Crowd {
     pages: u32,
@@ -309,21 +309,21 @@ fn a_folder_has_a_most_number_of_pages(rt: HostRuntime) -> Result<(), Fail> {
         (100_000, 1, b"wikiexpand: no such page: P\n"),
         (100_001, 3, b"wikiexpand: source fault: too many files\n"),
     ];
-    for (pages, expected, told) in cases {
+    for (pages, expected, message) in cases {
         let words = words_of(rt.alloc(), &["expand", "d", "P"])?;
         let mut out = MemorySink::new(rt.alloc(), List::new(rt.alloc()), 0)?;
         let mut err = MemorySink::new(rt.alloc(), List::new(rt.alloc()), 100)?;
         let status = run(
             &rt,
             rt.alloc(),
-            RandomState::new(&rt)?,
+            fixed_seed()?,
             words.as_slice(),
             &mut Crowd { pages },
             &mut out,
             &mut err,
         );
         assert_eq!(rt; status, expected);
-        assert_eq!(rt; err.bytes(), told);
+        assert_eq!(rt; err.bytes(), message);
     }
     Ok(())
 }
@@ -349,7 +349,7 @@ fn a_folder_has_a_most_number_of_bytes(rt: HostRuntime) -> Result<(), Fail> {
         (32, 1, b"wikiexpand: no such page: P9\n"),
         (33, 3, b"wikiexpand: source fault: too many bytes\n"),
     ];
-    for (count, expected, told) in cases {
+    for (count, expected, message) in cases {
         let words = words_of(rt.alloc(), &["expand", "d", "P9"])?;
         let files = full_pages(rt.alloc(), count, 2_097_152)?;
         assert!(rt; can_hold(files.as_slice()));
@@ -359,14 +359,14 @@ fn a_folder_has_a_most_number_of_bytes(rt: HostRuntime) -> Result<(), Fail> {
         let status = run(
             &rt,
             rt.alloc(),
-            RandomState::new(&rt)?,
+            fixed_seed()?,
             words.as_slice(),
             &mut shelf,
             &mut out,
             &mut err,
         );
         assert_eq!(rt; status, expected);
-        assert_eq!(rt; err.bytes(), told);
+        assert_eq!(rt; err.bytes(), message);
     }
     Ok(())
 }

@@ -12,7 +12,7 @@ use Rattle.std.specs.String.{string_cmp}
 use Rattle.std.proofs.lemmas.List.Sums.{sum_by-cons}
 use Rattle.std.proofs.lemmas.List.Sorted.{IsPermutation-map, sum_by-IsPermutation}
 use Rattle.std.specs.Prelude.{Option, Some, None, IfSome}
-use Rattle.wk_shelf.specs.Files.{Held, Lists, names_in}
+use Rattle.wk_shelf.specs.Files.{StoredFile, Lists, names_in}
 use Rattle.wk_shelf.specs.Order.{text_le, put_in_order, in_byte_order}
 
 abbrev compared : List ℕ → List ℕ → Ordering
@@ -193,6 +193,6 @@ sorted_is_in_byte_order names before after listed moved sorted =
     ∙ sym (times-in_byte_order t names))
 
 -- the same where a shelf told the names, if it tells any
-pub told_in_byte_order : (files : Option (List Held)) (folder : List ℕ) (before after : List (String Global)) → Lists files folder (map string_bytes before) → IsPermutation before after → IsSorted string_cmp after → IfSome files (λ fs. map string_bytes after ≡ in_byte_order (names_in folder fs))
-told_in_byte_order None folder before after told moved sorted = tt
-told_in_byte_order (Some fs) folder before after told moved sorted = sorted_is_in_byte_order (names_in folder fs) before after told.0 moved sorted
+pub in_order : (files : Option (List StoredFile)) (folder : List ℕ) (before after : List (String Global)) → Lists files folder (map string_bytes before) → IsPermutation before after → IsSorted string_cmp after → IfSome files (λ fs. map string_bytes after ≡ in_byte_order (names_in folder fs))
+in_order None folder before after told moved sorted = tt
+in_order (Some fs) folder before after told moved sorted = sorted_is_in_byte_order (names_in folder fs) before after told.0 moved sorted

@@ -8,7 +8,7 @@ use Rattle.std.proofs.lemmas.List.Elements.{filter_map-append}
 use Rattle.std.proofs.lemmas.List.Sums.{sum_by_more}
 use Rattle.wk_base.specs.declared.title.Title.{Title}
 use Rattle.wk_base.specs.contracts.title.TitlePartialEq.TheImpl as titles
-use Rattle.wk_shelf.specs.Files.{Held}
+use Rattle.wk_shelf.specs.Files.{StoredFile}
 use Rattle.wk_shelf.specs.Folder.{File, file_at, first_fault, title_fault, title_of_file, is_title, size_fault, size_fault_after, size_of, page_of, page_titled, IsRead, AreRead}
 use Rattle.wk_shelf.specs.declared.folder.FolderPage.{FolderPage}
 use Rattle.wk_shelf.specs.declared.folder.FolderFault.{FolderFault}
@@ -87,26 +87,26 @@ read_more files i pages total file bytes title h low is read some =
 -- ---- the same where the shelf may not tell its files
 
 -- the files of these names
-abbrev pub named_files : List ℕ → List Held → List (String Global) → List File
+abbrev pub named_files : List ℕ → List StoredFile → List (String Global) → List File
 named_files folder held names = map (file_at folder held) (map string_bytes names)
 
-file_is : (folder : List ℕ) (held : List Held) (names : List (String Global)) (i : ℕ) (name : String Global) → name ≡ get_or names i name → file_at folder held (string_bytes name) ≡ get_or (named_files folder held names) i (file_at folder held (string_bytes name))
+file_is : (folder : List ℕ) (held : List StoredFile) (names : List (String Global)) (i : ℕ) (name : String Global) → name ≡ get_or names i name → file_at folder held (string_bytes name) ≡ get_or (named_files folder held names) i (file_at folder held (string_bytes name))
 file_is folder held names i name is = ap (file_at folder held) (name_at names i name is) ∙ sym (get_or-map (file_at folder held) (map string_bytes names) i (string_bytes name))
 
 -- before the first, nothing was read
-pub none_read : (told : Option (List Held)) (folder : List ℕ) (names : List (String Global)) → IfSome told (λ held. ReadSoFar (named_files folder held names) 0 [] 0)
+pub none_read : (told : Option (List StoredFile)) (folder : List ℕ) (names : List (String Global)) → IfSome told (λ held. ReadSoFar (named_files folder held names) 0 [] 0)
 none_read None folder names = tt
 none_read (Some held) folder names = record { pages_are = refl; total_is = refl; rest = refl }
 
 -- the fault of the file that is read is the first
-pub one_fault : (told : Option (List Held)) (line : Option (List ℕ)) (folder : List ℕ) (names : List (String Global)) (i : ℕ) (pages : List FolderPage) (total : ℕ) (name : String Global) → i < length names → name ≡ get_or names i name → IfSome told (λ held. ReadSoFar (named_files folder held names) i pages total) → IfSome line (λ l. IfSome told (λ held. size_fault_after total (file_at folder held (string_bytes name)) ≡ Some l)) → IfSome line (λ l. IfSome told (λ held. first_fault size_fault [] (named_files folder held names) ≡ Some l))
+pub one_fault : (told : Option (List StoredFile)) (line : Option (List ℕ)) (folder : List ℕ) (names : List (String Global)) (i : ℕ) (pages : List FolderPage) (total : ℕ) (name : String Global) → i < length names → name ≡ get_or names i name → IfSome told (λ held. ReadSoFar (named_files folder held names) i pages total) → IfSome line (λ l. IfSome told (λ held. size_fault_after total (file_at folder held (string_bytes name)) ≡ Some l)) → IfSome line (λ l. IfSome told (λ held. first_fault size_fault [] (named_files folder held names) ≡ Some l))
 one_fault told None folder names i pages total name low is h fault = tt
 one_fault None (Some l) folder names i pages total name low is h fault = tt
 one_fault (Some held) (Some l) folder names i pages total name low is h fault =
     read_fault (named_files folder held names) i pages total _ l h (omega (arith, length-map (map string_bytes names) (file_at folder held), length-map names (string_bytes {Z = Global}))) (file_is folder held names i name is) fault
 
 -- one more file was read
-pub one_more : (told : Option (List Held)) (folder : List ℕ) (names : List (String Global)) (i : ℕ) (pages : List FolderPage) (total : ℕ) (name : String Global) (bytes : List ℕ) (title : Title) → i < length names → name ≡ get_or names i name → title_of_file (string_bytes name) ≡ Some title → IfSome told (λ held. ReadSoFar (named_files folder held names) i pages total) → IfSome told (λ held. IsRead total (file_at folder held (string_bytes name)) bytes) → IfSome told (λ held. ReadSoFar (named_files folder held names) (i + 1) (pages ++ record { title = title; bytes = bytes } ∷ []) (total + length bytes))
+pub one_more : (told : Option (List StoredFile)) (folder : List ℕ) (names : List (String Global)) (i : ℕ) (pages : List FolderPage) (total : ℕ) (name : String Global) (bytes : List ℕ) (title : Title) → i < length names → name ≡ get_or names i name → title_of_file (string_bytes name) ≡ Some title → IfSome told (λ held. ReadSoFar (named_files folder held names) i pages total) → IfSome told (λ held. IsRead total (file_at folder held (string_bytes name)) bytes) → IfSome told (λ held. ReadSoFar (named_files folder held names) (i + 1) (pages ++ record { title = title; bytes = bytes } ∷ []) (total + length bytes))
 one_more None folder names i pages total name bytes title low is some h read = tt
 one_more (Some held) folder names i pages total name bytes title low is some h read =
     read_more (named_files folder held names) i pages total _ bytes title h (omega (arith, length-map (map string_bytes names) (file_at folder held), length-map names (string_bytes {Z = Global}))) (file_is folder held names i name is) read some
@@ -118,7 +118,7 @@ all_of files i pages total past h =
     (h.pages_are ∙ ap (filter_map page_of) whole, h.rest ∙ ap (first_fault size_fault (take i files)) none)
 
 -- all were read
-pub all_read : (told : Option (List Held)) (folder : List ℕ) (names : List (String Global)) (i : ℕ) (pages : List FolderPage) (total : ℕ) → length names ≤ i → IfSome told (λ held. ReadSoFar (named_files folder held names) i pages total) → IfSome told (λ held. AreRead (named_files folder held names) pages)
+pub all_read : (told : Option (List StoredFile)) (folder : List ℕ) (names : List (String Global)) (i : ℕ) (pages : List FolderPage) (total : ℕ) → length names ≤ i → IfSome told (λ held. ReadSoFar (named_files folder held names) i pages total) → IfSome told (λ held. AreRead (named_files folder held names) pages)
 all_read None folder names i pages total past h = tt
 all_read (Some held) folder names i pages total past h =
     all_of (named_files folder held names) i pages total (omega (arith, length-map (map string_bytes names) (file_at folder held), length-map names (string_bytes {Z = Global}))) h
@@ -129,9 +129,9 @@ is_titled names i name h low is none =
     has_title [] (map string_bytes names) i (string_bytes name) h (omega (arith, length-map names (string_bytes {Z = Global}))) (ap title_of_file (sym (name_at names i name is)) ∙ none)
 
 -- a fault that says this line, where it says one, says the one that is due
-pub says_due : (told : Option (List ℕ)) (never : Type 0) (line : List ℕ) (due : Option (List ℕ)) → MatchOption told never (λ t. t ≡ line) → due ≡ Some line → MatchOption told never (λ t. due ≡ Some t)
-says_due None never line due h e = h
-says_due (Some t) never line due h e = e ∙ ap (λ u. Some u) (sym h)
+pub says_fault : (told : Option (List ℕ)) (never : Type 0) (line : List ℕ) (due : Option (List ℕ)) → MatchOption told never (λ t. t ≡ line) → due ≡ Some line → MatchOption told never (λ t. due ≡ Some t)
+says_fault None never line due h e = h
+says_fault (Some t) never line due h e = e ∙ ap (λ u. Some u) (sym h)
 
 -- what is said of a fault holds of the same fault handed on
 pub handed_on : {T : Type 0} (result : Result T FolderFault) (fault : FolderFault) (P : FolderFault → Type 0) → IsErrAnd result (λ f. f ≡ fault) → P fault → IfErr result P

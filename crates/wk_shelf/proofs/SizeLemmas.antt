@@ -3,7 +3,7 @@ use Rattle.std.proofs.Common.{◌≡◌, ℕ, ◌+◌, ◌-◌, ◌<◌, ◌≤�
 use Rattle.std.specs.Prelude.{Option, Some, None, IfSome, MatchOption, codes}
 use Rattle.std.proofs.lemmas.Bool.{lt-ltb, le-ltb}
 use Rattle.std.proofs.lemmas.List.{length-take, take_all}
-use Rattle.wk_shelf.specs.Files.{Held, Reads, bytes_at}
+use Rattle.wk_shelf.specs.Files.{StoredFile, Reads, bytes_at}
 use Rattle.wk_shelf.specs.Folder.{File, file_at, size_of, size_fault_after, IsRead}
 
 -- a fault that says this line, where it says one, is the fault that is due
@@ -26,19 +26,19 @@ whole bytes held is h =
     let n : length bytes ≡ min 2097153 (length held) = ap length is ∙ length-take 2097153 held in
     is ∙ take_all 2097153 held (omega arith)
 
-pub known_long : (held : Option (List Held)) (folder name bytes : List ℕ) (total : ℕ) → Reads held folder name 2097153 bytes → 2097152 < length bytes → IfSome held (λ files. size_fault_after total (file_at folder files name) ≡ Some (name ++ codes ": too long"))
+pub known_long : (held : Option (List StoredFile)) (folder name bytes : List ℕ) (total : ℕ) → Reads held folder name 2097153 bytes → 2097152 < length bytes → IfSome held (λ files. size_fault_after total (file_at folder files name) ≡ Some (name ++ codes ": too long"))
 known_long None folder name bytes total is h = tt
 known_long (Some files) folder name bytes total is h =
     let n : length bytes ≡ min 2097153 (length (bytes_at folder name files)) = ap length is ∙ length-take 2097153 (bytes_at folder name files) in
     too_long total (file_at folder files name) (omega arith)
 
-pub known_many : (held : Option (List Held)) (folder name bytes : List ℕ) (total : ℕ) → Reads held folder name 2097153 bytes → length bytes ≤ 2097152 → 67108864 - total < length bytes → IfSome held (λ files. size_fault_after total (file_at folder files name) ≡ Some (codes "too many bytes"))
+pub known_many : (held : Option (List StoredFile)) (folder name bytes : List ℕ) (total : ℕ) → Reads held folder name 2097153 bytes → length bytes ≤ 2097152 → 67108864 - total < length bytes → IfSome held (λ files. size_fault_after total (file_at folder files name) ≡ Some (codes "too many bytes"))
 known_many None folder name bytes total is h k = tt
 known_many (Some files) folder name bytes total is h k =
     let n : length bytes ≡ length (bytes_at folder name files) = ap length (whole bytes (bytes_at folder name files) is h) in
     too_many total (file_at folder files name) (omega arith) (omega arith)
 
-pub known_read : (held : Option (List Held)) (folder name bytes : List ℕ) (total : ℕ) → Reads held folder name 2097153 bytes → length bytes ≤ 2097152 → total + length bytes ≤ 67108864 → IfSome held (λ files. IsRead total (file_at folder files name) bytes)
+pub known_read : (held : Option (List StoredFile)) (folder name bytes : List ℕ) (total : ℕ) → Reads held folder name 2097153 bytes → length bytes ≤ 2097152 → total + length bytes ≤ 67108864 → IfSome held (λ files. IsRead total (file_at folder files name) bytes)
 known_read None folder name bytes total is h k = tt
 known_read (Some files) folder name bytes total is h k =
     let same = whole bytes (bytes_at folder name files) is h in

@@ -8,7 +8,7 @@ use Rattle.wk_base.specs.declared.title.Title.{Title}
 use Rattle.wk_base.specs.declared.title.Namespace.TheVariants.{Main}
 use Rattle.wk_base.specs.contracts.title.TitlePartialEq.TheImpl as titles
 use Rattle.wk_base.specs.Titles.{title_of}
-use Rattle.wk_shelf.specs.Files.{Held, names_in, bytes_at}
+use Rattle.wk_shelf.specs.Files.{StoredFile, names_in, bytes_at}
 use Rattle.wk_shelf.specs.Order.{in_byte_order}
 use Rattle.wk_shelf.specs.declared.folder.FolderPage.{FolderPage}
 
@@ -17,12 +17,12 @@ pub record File : Type 0 where
   pub name : List ℕ
   pub bytes : List ℕ
 
-abbrev pub file_at : List ℕ → List Held → List ℕ → File
-file_at folder held name = record { name = name; bytes = bytes_at folder name held }
+abbrev pub file_at : List ℕ → List StoredFile → List ℕ → File
+file_at folder files name = record { name = name; bytes = bytes_at folder name files }
 
 -- the folder's files in byte order of their names
-abbrev pub files_of : List ℕ → List Held → List File
-files_of folder held = map (file_at folder held) (in_byte_order (names_in folder held))
+abbrev pub files_of : List ℕ → List StoredFile → List File
+files_of folder files = map (file_at folder files) (in_byte_order (names_in folder files))
 
 -- ---- names
 

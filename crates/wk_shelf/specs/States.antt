@@ -1,11 +1,11 @@
 -- What is known of a shelf and of a sink in memory.
 use Rattle.std.specs.Prelude.{ℕ, ◌+◌, ◌-◌, ◌^◌, Bool, ◌||◌, ◌==◌, nat_lt, List, length, min, if◌then◌else◌}
 use Rattle.std.specs.List.{list_any}
-use Rattle.wk_shelf.specs.Files.{Held}
+use Rattle.wk_shelf.specs.Files.{StoredFile}
 
 -- `fail` has the numbers of the calls that fail, and the next call has the number `calls`
 pub record ShelfState : Type 0 where
-  pub files : List Held
+  pub files : List StoredFile
   pub fail : List ℕ
   pub calls : ℕ
   pub faults : ℕ

@@ -14,6 +14,7 @@ use crate::{Shelf, ShelfFault, sorted_names};
 use indexmap::IndexSet;
 use percent_encoding::percent_decode;
 use std::alloc::Global;
+use std::hash::RandomState;
 use wk_base::{Bytes, List, Namespace, NoMemory, Title, TitleFault};
 
 /// A page of a folder: its title, and the bytes of its file.
@@ -119,12 +120,12 @@ fn fault_line(alloc: Global, name: &[u8], saying: &[u8]) -> FolderFault
     }
 }
 
-/// Tests that each name has a title, and none has an earlier one's.
-fn check_titles(alloc: Global, names: &[String]) -> Result<(), FolderFault>
+/// Tests that each name has a title, and none has an earlier one's. Titles are hashed from the seed.
+fn check_titles(alloc: Global, seed: RandomState, names: &[String]) -> Result<(), FolderFault>
     ensures ok { OnOk result (first_fault title_fault [] (map string_bytes names.now) ≡ None) }
     ensures fault { IfErr result (λ fault. MatchOption (source_line fault) (fault ≡ FolderFault.NoMemory) (λ line. first_fault title_fault [] (map string_bytes names.now) ≡ Some line)) }
 {
-    let mut taken = IndexSet::new(alloc);
+    let mut taken = IndexSet::with_hasher(alloc, seed);
     for name in names {
         let Some(title) = file_title(alloc, name.as_bytes())? else {
             return Err(fault_line(alloc, name.as_bytes(), b": not a title"));
@@ -151,8 +152,8 @@ fn read_page<S: Shelf>(
     ensures later { S.faults shelf.old ≤ S.faults shelf.new }
     ensures cause { result ≡ Err FolderFault.Read → Rose (S.faults shelf.old) (S.faults shelf.new) }
     ensures fits { IfOk result (λ bytes. total + length bytes ≤ 67108864) }
-    ensures bytes { IfOk result (λ bytes. IfSome (S.files shelf.old) (λ held. IsRead total (file_at folder.now held name.now) bytes)) }
-    ensures fault { IfErr result (λ fault. IfSome (source_line fault) (λ line. IfSome (S.files shelf.old) (λ held. size_fault_after total (file_at folder.now held name.now) ≡ Some line))) }
+    ensures bytes { IfOk result (λ bytes. IfSome (S.files shelf.old) (λ files. IsRead total (file_at folder.now files name.now) bytes)) }
+    ensures fault { IfErr result (λ fault. IfSome (source_line fault) (λ line. IfSome (S.files shelf.old) (λ files. size_fault_after total (file_at folder.now files name.now) ≡ Some line))) }
 {
     let bytes = shelf.read(alloc, folder, name, MOST_FILE_BYTES + 1)?;
     let size = bytes.as_slice().len();
@@ -176,8 +177,8 @@ fn read_pages<S: Shelf>(
     ensures same { S.files shelf.new ≡ S.files shelf.old }
     ensures later { S.faults shelf.old ≤ S.faults shelf.new }
     ensures cause { result ≡ Err FolderFault.Read → Rose (S.faults shelf.old) (S.faults shelf.new) }
-    ensures pages { IfOk result (λ pages. IfSome (S.files shelf.old) (λ held. AreRead (map (file_at folder.now held) (map string_bytes names.now)) pages)) }
-    ensures fault { IfErr result (λ fault. IfSome (source_line fault) (λ line. IfSome (S.files shelf.old) (λ held. first_fault size_fault [] (map (file_at folder.now held) (map string_bytes names.now)) ≡ Some line))) }
+    ensures pages { IfOk result (λ pages. IfSome (S.files shelf.old) (λ files. AreRead (map (file_at folder.now files) (map string_bytes names.now)) pages)) }
+    ensures fault { IfErr result (λ fault. IfSome (source_line fault) (λ line. IfSome (S.files shelf.old) (λ files. first_fault size_fault [] (map (file_at folder.now files) (map string_bytes names.now)) ≡ Some line))) }
 {
     let mut pages = List::new(alloc);
     let mut total = 0;
@@ -194,16 +195,20 @@ fn read_pages<S: Shelf>(
 
 /// The pages of a folder in byte order of their files' names, or its first fault: too many files, then the first name
 /// that is no title or gives an earlier one's, then the first file that is too long or with which all are too long.
+///
+/// The seed is drawn anew for each run of the program: who does not know it can't choose names whose titles collide. No
+/// answer depends on it.
 pub fn read_folder<S: Shelf>(
     alloc: Global,
+    seed: RandomState,
     shelf: &mut S,
     folder: &str,
 ) -> Result<List<FolderPage>, FolderFault>
     ensures same { S.files shelf.new ≡ S.files shelf.old }
     ensures later { S.faults shelf.old ≤ S.faults shelf.new }
     ensures cause { result ≡ Err FolderFault.Read → Rose (S.faults shelf.old) (S.faults shelf.new) }
-    ensures pages { IfOk result (λ pages. IfSome (S.files shelf.old) (λ held. wiki_of (files_of folder.now held) ≡ Ok pages)) }
-    ensures fault { IfErr result (λ fault. IfSome (source_line fault) (λ line. IfSome (S.files shelf.old) (λ held. wiki_of (files_of folder.now held) ≡ Err line))) }
+    ensures pages { IfOk result (λ pages. IfSome (S.files shelf.old) (λ files. wiki_of (files_of folder.now files) ≡ Ok pages)) }
+    ensures fault { IfErr result (λ fault. IfSome (source_line fault) (λ line. IfSome (S.files shelf.old) (λ files. wiki_of (files_of folder.now files) ≡ Err line))) }
 {
     let mut names = sorted_names(alloc, shelf, folder)?;
     keep_pages(&mut names);
@@ -211,6 +216,6 @@ pub fn read_folder<S: Shelf>(
     if pages.len() > MOST_PAGES {
         return Err(fault_line(alloc, b"too many files", b""));
     }
-    check_titles(alloc, pages)?;
+    check_titles(alloc, seed, pages)?;
     read_pages(alloc, shelf, folder, pages)
 }

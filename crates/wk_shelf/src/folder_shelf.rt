@@ -52,7 +52,8 @@ fn names<F: Files + AllocGlobal + Clone + Drop>(
     Ok(names)
 }
 
-/// The bytes of a file up to `most` of them, read in pieces of at most 64 KiB.
+/// The bytes of a file up to `most` of them. A pipe, a socket, a device or a folder of that name, also behind a link, is no
+/// file: it is not opened, since what opens or reads it could wait for ever.
 fn first_bytes<F: Files + AllocGlobal + Clone + Drop>(
     files: &F,
     folder: &str,
@@ -60,20 +61,13 @@ fn first_bytes<F: Files + AllocGlobal + Clone + Drop>(
     most: usize,
 ) -> io::Result<Vec<u8>> {
     let path = format!(in files.alloc(); "{folder}/{name}")?;
-    let mut file = fs::open(files, path.as_str())?;
-    let mut bytes = Vec::new(files.alloc());
-    for _ in 0..u64::MAX {
-        if bytes.len() >= most {
-            break;
-        }
-        let mut buffer = [0u8; 65536];
-        let count = file.read(&mut buffer)?;
-        if count == 0 {
-            break;
-        }
-        bytes.extend_from_slice(&buffer[..count])?;
+    if !fs::metadata(files, path.as_str())?.is_file() {
+        return Err(io::Error::from(io::ErrorKind::InvalidInput));
     }
-    bytes.truncate(most);
+    let file = fs::open(files, path.as_str())?;
+    let mut bytes = Vec::new(files.alloc());
+    file.take(u64::try_from(most).unwrap_or(u64::MAX))
+        .read_to_end(&mut bytes)?;
     Ok(bytes)
 }
 

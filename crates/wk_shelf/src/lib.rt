@@ -1,5 +1,8 @@
 //! The outside, as the renderer sees it: shelves of files to read, and sinks for the bytes that it writes.
 //!
+//! Read `specs/Files.antt` and `specs/Put.antt` first: what a shelf holds and what a sink holds after a put. Then
+//! `specs/Folder.antt`: the wiki that a folder is.
+//!
 //! - `shelf`: what a shelf is asked, and what its answers say
 //! - `sink`: what a sink is asked, and what its answers say
 //! - `sorted`: the names of a folder in byte order

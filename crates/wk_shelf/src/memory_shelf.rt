@@ -1,7 +1,7 @@
 //! A shelf in memory, which tells what it holds.
 ghost use Rattle.std.specs.Prelude.{◌≡◌, List, [], Some, IfOk, OnErr, ◌≤◌, map, unwrap_or, take, string_bytes, Err, true, false, ◌↔◌, ◌&&◌, not, IsTrue};
 ghost use Rattle.wk_shelf.specs.States.{ShelfState, is_listed, counted};
-ghost use Rattle.wk_shelf.specs.Held.{held_of, are_files, same_place};
+ghost use Rattle.wk_shelf.specs.MemoryFiles.{file_of, are_files, same_place};
 ghost use Rattle.wk_shelf.specs.Causes.{Rose};
 ghost use Rattle.wk_shelf.specs.Files.{bytes_at, names_in, all_differ, Lists, Reads};
 ghost use Rattle.std.specs.Option.{option_copied};
@@ -24,7 +24,7 @@ pub struct MemoryFile {
 
 /// Whether two files agree in folder and name.
 fn same_file(one: &MemoryFile, other: &MemoryFile) -> bool
-    ensures { result ≡ same_place (held_of one.now) (held_of other.now) }
+    ensures { result ≡ same_place (file_of one.now) (file_of other.now) }
 {
     one.folder == other.folder && one.name == other.name
 }
@@ -40,7 +40,7 @@ fn is_text(name: &[u8]) -> bool
 
 /// Whether a file is one of those that follow.
 fn is_among(file: &MemoryFile, others: &[MemoryFile]) -> bool
-    ensures { result ≡ list_any (same_place (held_of file.now)) (map held_of others.now) }
+    ensures { result ≡ list_any (same_place (file_of file.now)) (map file_of others.now) }
 {
     for other in others {
         if same_file(file, other) {
@@ -52,14 +52,14 @@ fn is_among(file: &MemoryFile, others: &[MemoryFile]) -> bool
 
 /// Whether a name is text, and its file is none of those that follow.
 fn is_new(file: &MemoryFile, others: &[MemoryFile]) -> bool
-    ensures { result ≡ (is_utf8 file.now.name && not (list_any (same_place (held_of file.now)) (map held_of others.now))) }
+    ensures { result ≡ (is_utf8 file.now.name && not (list_any (same_place (file_of file.now)) (map file_of others.now))) }
 {
     is_text(file.name.as_slice()) && !is_among(file, others)
 }
 
 /// Whether a shelf in memory can hold these files: each name is text, and no two files agree in folder and name.
 pub fn can_hold(files: &[MemoryFile]) -> bool
-    ensures { result ≡ are_files (map held_of files.now) }
+    ensures { result ≡ are_files (map file_of files.now) }
 {
     for at in (0..files.len()).rev() {
         if !is_new(&files[at], &files[at + 1..]) {
@@ -82,20 +82,20 @@ pub struct MemoryShelf {
 impl Model for MemoryShelf {
     ghost use Rattle.std.specs.Prelude.{map, ◌≡◌, true};
     ghost use Rattle.wk_shelf.specs.States.{ShelfState};
-    ghost use Rattle.wk_shelf.specs.Held.{held_of, are_files};
+    ghost use Rattle.wk_shelf.specs.MemoryFiles.{file_of, are_files};
 
     ghost Value = { ShelfState };
 
-    ghost view = { λ s. record { files = map held_of s.files; fail = s.fail; calls = s.calls; faults = s.faults } };
+    ghost view = { λ s. record { files = map file_of s.files; fail = s.fail; calls = s.calls; faults = s.faults } };
 
-    ghost invariant = { λ s. are_files (map held_of s.files) ≡ true };
+    ghost invariant = { λ s. are_files (map file_of s.files) ≡ true };
 }
 
 impl MemoryShelf {
     /// A shelf that holds just these files (`can_hold` tests them).
     pub fn new(alloc: Global, files: List<MemoryFile>, fail: List<u64>) -> MemoryShelf
-        requires { are_files (map held_of files) ≡ true }
-        ensures { result ≡ record { files = map held_of files; fail = fail; calls = 0; faults = 0 } }
+        requires { are_files (map file_of files) ≡ true }
+        ensures { result ≡ record { files = map file_of files; fail = fail; calls = 0; faults = 0 } }
     {
         MemoryShelf {
             files,
@@ -122,7 +122,7 @@ impl MemoryShelf {
 }
 
 fn find_file<'f>(files: &'f [MemoryFile], folder: &[u8], name: &[u8]) -> Option<&'f Bytes>
-    ensures { unwrap_or (option_copied result) [] ≡ bytes_at folder.now name.now (map held_of files.now) }
+    ensures { unwrap_or (option_copied result) [] ≡ bytes_at folder.now name.now (map file_of files.now) }
 {
     for file in files {
         if folder == file.folder.as_slice() && name == file.name.as_slice() {
@@ -134,8 +134,8 @@ fn find_file<'f>(files: &'f [MemoryFile], folder: &[u8], name: &[u8]) -> Option<
 
 /// The names of the files of a folder.
 fn names_of(alloc: Global, files: &[MemoryFile], folder: &[u8]) -> Result<Vec<String>, ShelfFault>
-    requires { are_files (map held_of files.now) ≡ true }
-    ensures names { IfOk result (λ names. map string_bytes names.items ≡ names_in folder.now (map held_of files.now)) }
+    requires { are_files (map file_of files.now) ≡ true }
+    ensures names { IfOk result (λ names. map string_bytes names.items ≡ names_in folder.now (map file_of files.now)) }
     ensures memory { OnErr result (result ≡ Err ShelfFault.NoMemory) }
 {
     let mut names = Vec::new(alloc);
@@ -163,12 +163,12 @@ fn first_bytes(
     name: &[u8],
     most: usize,
 ) -> Result<Bytes, ShelfFault>
-    ensures bytes { IfOk result (λ bytes. bytes ≡ take most (bytes_at folder.now name.now (map held_of files.now))) }
+    ensures bytes { IfOk result (λ bytes. bytes ≡ take most (bytes_at folder.now name.now (map file_of files.now))) }
     ensures memory { OnErr result (result ≡ Err ShelfFault.NoMemory) }
 {
     match find_file(files, folder, name) {
-        Some(held) => {
-            let all = held.as_slice();
+        Some(bytes) => {
+            let all = bytes.as_slice();
             match Bytes::of(alloc, &all[..all.len().min(most)]) {
                 Ok(bytes) => Ok(bytes),
                 Err(_) => Err(ShelfFault::NoMemory),

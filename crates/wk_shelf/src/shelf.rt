@@ -1,7 +1,7 @@
 //! A shelf: folders of files that can be listed and read.
 ghost use Rattle.std.specs.Prelude.{◌≡◌, ℕ, ◌≤◌, List, Option, IfOk, map, string_bytes};
 ghost use Rattle.wk_shelf.specs.Causes.{Rose};
-ghost use Rattle.wk_shelf.specs.Files.{Held, Lists, Reads};
+ghost use Rattle.wk_shelf.specs.Files.{StoredFile, Lists, Reads};
 
 use std::alloc::Global;
 use wk_base::Bytes;
@@ -20,7 +20,7 @@ pub enum ShelfFault {
 /// the calls that failed. The count never falls, and stays at `u64::MAX` once it is there.
 pub trait Shelf {
     /// The files that it holds, where that is known.
-    ghost files: { Self → Option (List Held) };
+    ghost files: { Self → Option (List StoredFile) };
 
     /// How many calls failed.
     ghost faults: { Self → ℕ };

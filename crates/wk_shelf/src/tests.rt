@@ -4,9 +4,26 @@ use crate::{
     SinkFailed, StreamSink, can_hold, read_folder, sorted_names,
 };
 use std::alloc::{AllocError, Global};
-use std::fs;
+use std::hash::RandomState;
+use std::os::unix::fs::symlink;
+use std::random::RandomSource;
 use std::test::Fail;
+use std::{fs, io};
 use wk_base::{Bytes, List, NoMemory};
+
+/// A source whose bytes are all 5, so that each run of the tests is the same.
+struct Fives;
+
+impl RandomSource for Fives {
+    fn fill_bytes(&self, bytes: &mut [u8]) -> io::Result<()> {
+        bytes.fill(5);
+        Ok(())
+    }
+}
+
+fn fixed_seed() -> io::Result<RandomState> {
+    RandomState::new(&Fives)
+}
 
 fn file(alloc: Global, folder: &str, name: &str, text: &str) -> Result<MemoryFile, NoMemory> {
     let folder = Bytes::of(alloc, folder.as_bytes())?;
@@ -111,6 +128,67 @@ fn a_folder_is_listed_and_read(rt: HostRuntime) -> Result<(), Fail> {
     Ok(())
 }
 
+/// A text of that many bytes in which no two places are alike for long.
+fn long_text(alloc: Global, length: usize) -> Result<Vec<u8>, AllocError> {
+    let mut text = Vec::new(alloc);
+    let mut number = 1u32;
+    for _ in 0..length {
+        number = number.wrapping_mul(1_664_525).wrapping_add(1_013_904_223);
+        text.push(number.to_be_bytes()[0])?;
+    }
+    Ok(text)
+}
+
+/// Whether a file of that length is read whole by the shelf, and listed by its name of that many bytes.
+fn is_read_whole(rt: &HostRuntime, name_length: usize, length: usize) -> Result<bool, Fail> {
+    let text = long_text(rt.alloc(), length)?;
+    let mut name = String::new(rt.alloc());
+    for _ in 5..name_length {
+        name.push_str("n")?;
+    }
+    name.push_str(".wiki")?;
+    let path = format!(in rt.alloc(); "pages/{name}")?;
+    fs::write(rt, path.as_str(), text.as_slice())?;
+    let mut shelf = FolderShelf::new(rt.alloc(), rt.clone()?);
+    let names = shelf.list(rt.alloc(), "pages")?;
+    let bytes = shelf.read(rt.alloc(), "pages", name.as_str(), 2_097_153)?;
+    Ok(names.iter().any(|other| *other == name) && bytes.as_slice() == text.as_slice())
+}
+
+#[test]
+fn files_are_read_to_their_end_whatever_their_name(rt: HostRuntime) -> Result<(), Fail> {
+    fs::create_dir(&rt, "pages")?;
+    for (name, length) in [(6, 0), (40, 65_537), (41, 200_000), (250, 2_097_152)] {
+        assert!(rt; is_read_whole(&rt, name, length)?, "{name} {length}");
+    }
+    Ok(())
+}
+
+#[test]
+fn what_is_no_file_is_not_read(rt: HostRuntime) -> Result<(), Fail> {
+    fs::create_dir(&rt, "strange")?;
+    fs::create_dir(&rt, "strange/folder.wiki")?;
+    for (target, link) in [
+        ("nowhere", "strange/broken.wiki"),
+        ("itself.wiki", "strange/itself.wiki"),
+        ("folder.wiki", "strange/to_folder.wiki"),
+        ("/dev/null", "strange/to_device.wiki"),
+    ] {
+        symlink(&rt, target, link)?;
+    }
+    let mut shelf = FolderShelf::new(rt.alloc(), rt.clone()?);
+    for name in ["folder", "broken", "itself", "to_folder", "to_device"] {
+        let name = format!(in rt.alloc(); "{name}.wiki")?;
+        let failed = shelf.read(rt.alloc(), "strange", name.as_str(), 3);
+        assert!(rt; matches!(failed, Err(ShelfFault::Failed)), "{name}");
+    }
+    fs::write(&rt, "strange/text", "linked")?;
+    symlink(&rt, "text", "strange/to_file.wiki")?;
+    let bytes = shelf.read(rt.alloc(), "strange", "to_file.wiki", 9)?;
+    assert_eq!(rt; bytes.as_slice(), b"linked".as_slice());
+    Ok(())
+}
+
 #[test]
 fn a_stream_takes_a_piece_or_counts_a_fault(rt: HostRuntime) -> Result<(), Fail> {
     let mut good = StreamSink::new(rt.alloc(), fs::create(&rt, "written")?);
@@ -118,6 +196,12 @@ fn a_stream_takes_a_piece_or_counts_a_fault(rt: HostRuntime) -> Result<(), Fail>
     assert_eq!(rt; good.put(b"text"), Ok(()));
     let written = fs::read_to_string(&rt, "written")?;
     assert_eq!(rt; written.as_str(), "some text");
+    let long = long_text(rt.alloc(), 200_000)?;
+    let mut whole = StreamSink::new(rt.alloc(), fs::create(&rt, "long")?);
+    assert_eq!(rt; whole.put(long.as_slice()), Ok(()));
+    assert!(rt; fs::read(&rt, "long")?.as_slice() == long.as_slice());
+    let mut device = StreamSink::new(rt.alloc(), fs::create(&rt, "/dev/full")?);
+    assert_eq!(rt; device.put(b"a"), Err(SinkFailed));
     let mut room = [0u8; 3];
     let mut full = StreamSink::new(rt.alloc(), room.as_mut_slice());
     assert_eq!(rt; full.put(b"abcd"), Err(SinkFailed));
@@ -138,9 +222,9 @@ fn files_named(alloc: Global, names: &[&str], bytes: &[u8]) -> Result<List<Memor
 }
 
 /// The titles of a folder's pages in order, or the line of its fault.
-fn told(alloc: Global, shelf: &mut MemoryShelf) -> Result<Vec<u8>, NoMemory> {
+fn answer(alloc: Global, seed: RandomState, shelf: &mut MemoryShelf) -> Result<Vec<u8>, NoMemory> {
     let mut text = Vec::new(alloc);
-    match read_folder(alloc, shelf, "d") {
+    match read_folder(alloc, seed, shelf, "d") {
         Ok(pages) => {
             for page in pages.as_slice() {
                 text.extend_from_slice(page.title.text()?.as_slice())?;
@@ -184,7 +268,7 @@ fn a_folder_is_a_wiki_or_has_a_first_fault(rt: HostRuntime) -> Result<(), Fail> 
         let files = files_named(rt.alloc(), names, b"text")?;
         assert!(rt; can_hold(files.as_slice()));
         let mut shelf = MemoryShelf::new(rt.alloc(), files, List::new(rt.alloc()));
-        let text = told(rt.alloc(), &mut shelf)?;
+        let text = answer(rt.alloc(), fixed_seed()?, &mut shelf)?;
         assert_eq!(rt; text.as_slice(), expected.as_bytes());
     }
     Ok(())
@@ -205,7 +289,7 @@ fn a_folder_has_limits_of_bytes(rt: HostRuntime) -> Result<(), Fail> {
         let files = files_named(rt.alloc(), names, bytes.as_slice())?;
         assert!(rt; can_hold(files.as_slice()));
         let mut shelf = MemoryShelf::new(rt.alloc(), files, List::new(rt.alloc()));
-        let text = told(rt.alloc(), &mut shelf)?;
+        let text = answer(rt.alloc(), fixed_seed()?, &mut shelf)?;
         assert_eq!(rt; text.as_slice(), expected.as_bytes());
     }
     Ok(())

@@ -5,7 +5,8 @@ use Rattle.wk_base.specs.declared.title.Namespace.TheVariants.{Module}
 use Rattle.wiki_expand.specs.Pages.{find_page, setting_in}
 use Rattle.wiki_expand.specs.Standing.{At, setting_of}
 use Rattle.expand_meaning.specs.Outcome.{Work, Reading, Comes, next_event, page_scene}
-use Rattle.wikiexpand.specs.Page.{is_module, full}
+use Rattle.wk_base.specs.Titles.{is_module}
+use Rattle.wikiexpand.specs.Page.{full}
 use Rattle.wikiexpand.proofs.PageLemmas.{held_is_no_module, held_here, all_left, begun, text_is}
 use Rattle.wikiexpand.proofs.pages.text_of.Goals as goal
 

@@ -1,7 +1,7 @@
 use Rattle.std.proofs.Common.{◌≡◌, [], List, map, length, string_bytes, arith, ◌∙◌, subst, Some, Err, IfSome, IfOk, IfErr}
 use Rattle.std.specs.Prelude.{Option, codes}
 use Rattle.std.proofs.lemmas.List.{length-map}
-use Rattle.wk_shelf.specs.Files.{Held}
+use Rattle.wk_shelf.specs.Files.{StoredFile}
 use Rattle.wk_shelf.specs.Folder.{wiki_of, files_of, first_fault, size_fault, file_at, AreRead}
 use Rattle.wk_shelf.specs.FolderFaults.{source_line}
 use Rattle.wk_shelf.specs.declared.folder.FolderFault.TheVariants.{NoMemory}
@@ -38,7 +38,7 @@ returns-clause-pages g c =
     let names = map string_bytes items in
     let kept : AreKept told c.args.folder.now names = kept_names told c.args.folder.now c.in_ok-names.names.items items c.in_ok-names.ensures.names (c.as_slice-pages.ensures.value ∙ c.keep_pages.ensures) in
     let n : length names ≡ length items = length-map items string_bytes in
-    let Read = λ (files : Option (List Held)). IfOk c.read_pages.result (λ pages. IfSome files (λ held. AreRead (map (file_at c.args.folder.now held) names) pages)) in
+    let Read = λ (files : Option (List StoredFile)). IfOk c.read_pages.result (λ pages. IfSome files (λ held. AreRead (map (file_at c.args.folder.now held) names) pages)) in
     let read : Read (g.S.Shelf.files c.sorted_names.new.shelf) = c.read_pages.ensures.pages in
     all_pages c.read_pages.result told c.args.folder.now names kept (omega arith) c.in_ok-check_titles.ensures.ok (subst Read c.in_ok-names.ensures.same read)
 
@@ -49,6 +49,6 @@ returns-clause-fault g c =
     let names = map string_bytes items in
     let kept : AreKept told c.args.folder.now names = kept_names told c.args.folder.now c.in_ok-names.names.items items c.in_ok-names.ensures.names (c.as_slice-pages.ensures.value ∙ c.keep_pages.ensures) in
     let n : length names ≡ length items = length-map items string_bytes in
-    let Said = λ (files : Option (List Held)). IfErr c.read_pages.result (λ fault. IfSome (source_line fault) (λ line. IfSome files (λ held. first_fault size_fault [] (map (file_at c.args.folder.now held) names) ≡ Some line))) in
+    let Said = λ (files : Option (List StoredFile)). IfErr c.read_pages.result (λ fault. IfSome (source_line fault) (λ line. IfSome files (λ held. first_fault size_fault [] (map (file_at c.args.folder.now held) names) ≡ Some line))) in
     let said : Said (g.S.Shelf.files c.sorted_names.new.shelf) = c.read_pages.ensures.fault in
     file_fault c.read_pages.result told c.args.folder.now names kept (omega arith) c.in_ok-check_titles.ensures.ok (subst Said c.in_ok-names.ensures.same said)

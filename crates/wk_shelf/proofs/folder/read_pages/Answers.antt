@@ -1,6 +1,6 @@
 use Rattle.std.proofs.Common.{◌≡◌, ◌+◌, ◌≤◌, [], List, ℕ, rules, ap, sym, subst, ◌∙◌, length, string_bytes, None, Some, IfSome}
 use Rattle.std.specs.Prelude.{Option}
-use Rattle.wk_shelf.specs.Files.{Held}
+use Rattle.wk_shelf.specs.Files.{StoredFile}
 use Rattle.wk_shelf.specs.Folder.{title_of_file, first_fault, size_fault, size_fault_after, file_at, IsRead}
 use Rattle.wk_shelf.specs.FolderFaults.{source_line}
 use Rattle.wk_shelf.specs.declared.folder.FolderFault.{FolderFault}
@@ -12,7 +12,7 @@ pub returns-in_err-bytes-clause-fault : goal.returns-in_err-bytes-clause-fault
 returns-in_err-bytes-clause-fault g c =
     let files = g.S.Shelf.files c.args.shelf.now in
     let Due = λ (fault : FolderFault). IfSome (source_line fault) (λ line. IfSome files (λ held. first_fault size_fault [] (named_files c.args.folder.now held c.args.names.now) ≡ Some line)) in
-    let Here = λ (told : Option (List Held)) (name : List ℕ). IfSome (source_line c.in_err-bytes.field-0.0) (λ line. IfSome told (λ held. size_fault_after c.loop-name.total (file_at c.args.folder.now held name) ≡ Some line)) in
+    let Here = λ (told : Option (List StoredFile)) (name : List ℕ). IfSome (source_line c.in_err-bytes.field-0.0) (λ line. IfSome told (λ held. size_fault_after c.loop-name.total (file_at c.args.folder.now held name) ≡ Some line)) in
     let first : Here (g.S.Shelf.files c.loop-name.shelf) c.as_str.result.now = c.in_err-bytes.ensures.fault in
     let second : Here files c.as_str.result.now = subst (λ told. Here told c.as_str.result.now) c.loop-name.invariant.same first in
     let here : Here files (string_bytes c.name-item.result) = subst (Here files) c.as_str.ensures.value second in
@@ -29,7 +29,7 @@ loop-name-preserved g c =
     let files = g.S.Shelf.files c.args.shelf.now in
     let n : length c.as_slice.result.now ≡ length c.in_ok-bytes.bytes = ap length c.as_slice.ensures in
     let some : title_of_file (string_bytes c.name-item.result) ≡ Some c.in-Some.title = ap title_of_file (sym c.as_bytes.ensures.value) ∙ sym c.in_ok-title.ensures ∙ c.in-Some.is in
-    let Read = λ (told : Option (List Held)) (name : List ℕ). IfSome told (λ held. IsRead c.loop-name.total (file_at c.args.folder.now held name) c.in_ok-bytes.bytes) in
+    let Read = λ (told : Option (List StoredFile)) (name : List ℕ). IfSome told (λ held. IsRead c.loop-name.total (file_at c.args.folder.now held name) c.in_ok-bytes.bytes) in
     let first : Read (g.S.Shelf.files c.loop-name.shelf) c.as_str.result.now = c.in_ok-bytes.ensures.bytes in
     let second : Read files c.as_str.result.now = subst (λ told. Read told c.as_str.result.now) c.loop-name.invariant.same first in
     let read : Read files (string_bytes c.name-item.result) = subst (Read files) c.as_str.ensures.value second in

@@ -1,7 +1,7 @@
 use Rattle.std.proofs.Common.{◌≡◌, drop, map}
 use Rattle.wk_shelf.specs.Files.{bytes_at}
-use Rattle.wk_shelf.specs.Held.{held_of}
+use Rattle.wk_shelf.specs.MemoryFiles.{file_of}
 use Rattle.wk_shelf.proofs.memory_shelf.find_file.Given as goal
 
 abbrev pub invariant-loop-file : goal.invariant-loop-file
-invariant-loop-file l = bytes_at l.folder l.name (map held_of (drop l.file-index l.files)) ≡ bytes_at l.folder l.name (map held_of l.files)
+invariant-loop-file l = bytes_at l.folder l.name (map file_of (drop l.file-index l.files)) ≡ bytes_at l.folder l.name (map file_of l.files)
