@@ -1,0 +1,5 @@
+pub mod CodeLaws
+pub mod QuietValues
+pub mod QuietLibrary
+pub mod Paid
+pub mod Charges
