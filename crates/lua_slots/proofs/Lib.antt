@@ -3,3 +3,5 @@ pub mod QuietValues
 pub mod QuietLibrary
 pub mod Paid
 pub mod Charges
+pub mod ExampleCodeRuns
+pub mod ExampleCallsRuns

@@ -47,8 +47,8 @@ item t n NoFieldC vs line fs s = items t n vs line fs s
 item t n (ItemC e more) vs line fs s = set_entry t (Number (pos n)) (first vs) (Some line) _ s
 item t n (PairC key e more) vs line fs s = set_entry t (Number (pos n)) (first vs) (Some line) _ s
 
-decided : (d : Bool) (b : CExp) (v : Value) (fs : List SFrame) (s : Slots) → IsQuiet (expressions.decided d b v fs s)
-decided d b v fs s = both (expressions.decides d (is_true v)) (errors.gives (v ∷ []) fs s) (Now (Evals b (First ∷ fs)) s) (still refl) (still refl)
+choose_operand : (d : Bool) (b : CExp) (v : Value) (fs : List SFrame) (s : Slots) → IsQuiet (expressions.choose_operand d b v fs s)
+choose_operand d b v fs s = both (expressions.decides d (is_true v)) (errors.gives (v ∷ []) fs s) (Now (Evals b (First ∷ fs)) s) (still refl) (still refl)
 
 -- STATEMENTS
 within : (b : CBlock) (fs : List SFrame) (s : Slots) → IsQuiet (statements.within b fs s)
@@ -100,7 +100,7 @@ goes world First vs fs s = still refl
 goes world (Verdict n) vs fs s = still refl
 goes world (KeyNext key line) vs fs s = still refl
 goes world (IndexNow of line) vs fs s = index of (first vs) (Some line) _ s
-goes world (DecideNext d b) vs fs s = decided d b (first vs) fs s
+goes world (DecideNext d b) vs fs s = choose_operand d b (first vs) fs s
 goes world (OperandNext o b line) vs fs s = still refl
 goes world (OperateNow o a line) vs fs s = operate o a (first vs) (Some line) fs s
 goes world (UnaryNow o line) vs fs s = apply o (first vs) (Some line) fs s

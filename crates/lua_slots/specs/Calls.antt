@@ -41,12 +41,12 @@ activation f p args line s = record {
 abbrev pub with_function : Activation → Slots → Slots
 with_function a s = record s { functions = a ∷ s.functions }
 
-abbrev pub entered : Proc → CProto → List Value → Option ℕ → Slots → Slots
-entered f p args line s = all_opened p.flags args (with_function (activation f p args line s) s)
+abbrev pub slots_in_body : Proc → CProto → List Value → Option ℕ → Slots → Slots
+slots_in_body f p args line s = all_opened p.flags args (with_function (activation f p args line s) s)
 
 abbrev pub body_of : Option CProto → Proc → List Value → Option ℕ → List SFrame → Slots → Move
 body_of None f args line fs s = gives [] fs s
-body_of (Some p) f args line fs s = Enters (Marks (Now (Runs p.body (BodyEnd ∷ fs)) (entered f p args line s)))
+body_of (Some p) f args line fs s = Enters (Marks (Now (Runs p.body (BodyEnd ∷ fs)) (slots_in_body f p args line s)))
 
 -- its code
 abbrev pub code_in : Result Protos FaultAt → ℕ → Option CProto

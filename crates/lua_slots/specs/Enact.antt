@@ -74,9 +74,9 @@ answered NoPage fs s f = Stands (Gives (Goes []) fs) s f
 answered (Loaded graph) fs s f = Stands (Gives (Goes (joined_root s.heap ∷ [])) fs) (with_heap (join true graph s.heap) s) f
 answered (LoadFailed message) fs s f = Stands (Gives (Jumps (Raised (Text message))) fs) s f
 
-abbrev pub responded : Response Answer → List SFrame → Slots → Funds → Enacted
-responded (Says a) fs s f = answered a fs s f
-responded (Exhausts which) fs s f = Short which (all_given_back f)
+abbrev pub after_response : Response Answer → List SFrame → Slots → Funds → Enacted
+after_response (Says a) fs s f = answered a fs s f
+after_response (Exhausts which) fs s f = Short which (all_given_back f)
 
 abbrev pub takes_reply : Reply Answer → List SFrame → Slots → Funds → Enacted
-takes_reply r fs s f = responded r.response fs s (replied r f)
+takes_reply r fs s f = after_response r.response fs s (replied r f)

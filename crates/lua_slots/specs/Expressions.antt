@@ -58,5 +58,5 @@ abbrev pub decides : Bool → Bool → Bool
 decides true b = b
 decides false b = not b
 
-abbrev pub decided : Bool → CExp → Value → List SFrame → Slots → Move
-decided deciding b v fs s = choose (decides deciding (is_true v)) (gives (v ∷ []) fs s) (Now (Evals b (First ∷ fs)) s)
+abbrev pub choose_operand : Bool → CExp → Value → List SFrame → Slots → Move
+choose_operand deciding b v fs s = choose (decides deciding (is_true v)) (gives (v ∷ []) fs s) (Now (Evals b (First ∷ fs)) s)

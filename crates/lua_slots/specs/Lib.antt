@@ -17,3 +17,6 @@ pub mod Starts
 pub mod Moves
 pub mod Enact
 pub mod Laws
+pub mod Trial
+pub mod ExampleCode
+pub mod ExampleCalls

@@ -14,7 +14,7 @@ use Rattle.lua_slots.specs.Errors.{choose, gives, jumps}
 use Rattle.lua_slots.specs.Calls.{call, enters_body, left_function, after_body}
 use Rattle.lua_slots.specs.Index.{index, index_link, set_entry, set_link}
 use Rattle.lua_slots.specs.Operators.{answers, operate, apply}
-use Rattle.lua_slots.specs.Expressions.{lists, more_values, fields, items, item, evals, decided}
+use Rattle.lua_slots.specs.Expressions.{lists, more_values, fields, items, item, evals, choose_operand}
 use Rattle.lua_slots.specs.Statements.{finds, with_values, sets, within, branches, runs}
 use Rattle.lua_slots.specs.Loops.{after_turn, while_next, while_turn, repeat_turn, repeat_next, step_next, counting, count_turn, count_next, each_from, each_next, each_turn}
 use Rattle.lua_slots.specs.Libraries.{enters_library, resumes, hears}
@@ -39,7 +39,7 @@ goes world First vs fs s = gives (first vs ∷ []) fs s
 goes world (Verdict negated) vs fs s = answers negated (is_true (first vs)) fs s
 goes world (KeyNext key line) vs fs s = Now (Evals key (IndexNow (first vs) line ∷ fs)) s
 goes world (IndexNow of line) vs fs s = index of (first vs) (Some line) (First ∷ fs) s
-goes world (DecideNext deciding b) vs fs s = decided deciding b (first vs) fs s
+goes world (DecideNext deciding b) vs fs s = choose_operand deciding b (first vs) fs s
 goes world (OperandNext o b line) vs fs s = Now (Evals b (OperateNow o (first vs) line ∷ fs)) s
 goes world (OperateNow o a line) vs fs s = operate o a (first vs) (Some line) fs s
 goes world (UnaryNow o line) vs fs s = apply o (first vs) (Some line) fs s

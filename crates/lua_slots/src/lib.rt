@@ -13,6 +13,10 @@
 //! - `Moves`: from a point to the next one; a line for each thing, frame and point
 //! - `Enact`: what a move comes to, with what is left of the allowances, and what a reply does
 //! - `Laws`: code stays code, no move marks more than it costs, charges come first and are exact
+//! - `Trial`, and the worked examples `ExampleCode`, `ExampleCalls`
 #![tactic(auto)]
 
+pub mod examples;
 pub mod laws;
+#[cfg(test)]
+mod tests;
