@@ -43,31 +43,31 @@ abbrev pub works_in : (Bytes → Option CModule) → Work → ℕ → ℕ → Li
 works_in modules work steps calls replies = run 3000 (record { page = page; modules = modules }) (Stands (Works work) no_slots (funds (allowance steps calls))) replies
 
 -- the function `f` of a module is invoked: the arguments, the calls, the module's name, the size of its text, its functions, and the steps
-abbrev pub invoked_on : List Arg → ℕ → Bytes → ℕ → List CProto → ℕ → Seen
-invoked_on args calls name size ps steps = works_in (λ title. Some (module_of size ps)) (Invoke (job name args)) steps calls []
+abbrev pub invoke_with_args : List Arg → ℕ → Bytes → ℕ → List CProto → ℕ → Seen
+invoke_with_args args calls name size ps steps = works_in (λ title. Some (module_of size ps)) (Invoke (job name args)) steps calls []
 
-abbrev pub invoked_with : ℕ → Bytes → ℕ → List CProto → ℕ → Seen
-invoked_with calls name size ps steps = invoked_on [] calls name size ps steps
+abbrev pub invoke_with_calls : ℕ → Bytes → ℕ → List CProto → ℕ → Seen
+invoke_with_calls calls name size ps steps = invoke_with_args [] calls name size ps steps
 
-abbrev pub invoked : Bytes → ℕ → List CProto → ℕ → Seen
-invoked name size ps steps = invoked_with 20000 name size ps steps
+abbrev pub invoke_module : Bytes → ℕ → List CProto → ℕ → Seen
+invoke_module name size ps steps = invoke_with_calls 20000 name size ps steps
 
 -- a module is loaded as data
-abbrev pub loaded : Bytes → ℕ → List CProto → ℕ → Seen
-loaded name size ps steps = works_in (λ title. Some (module_of size ps)) (DataOf (module_title name)) steps 20000 []
+abbrev pub load_module : Bytes → ℕ → List CProto → ℕ → Seen
+load_module name size ps steps = works_in (λ title. Some (module_of size ps)) (DataOf (module_title name)) steps 20000 []
 
 -- several modules, and an invocation in the body of a template
-pub record Held : Type 0 where
+pub record ModuleCode : Type 0 where
   pub name : Bytes
   pub size : ℕ
   pub functions : List CProto
 
-abbrev pub held : Bytes → ℕ → List CProto → Held
-held name size ps = record { name = name; size = size; functions = ps }
+abbrev pub module_text : Bytes → ℕ → List CProto → ModuleCode
+module_text name size ps = record { name = name; size = size; functions = ps }
 
-abbrev pub modules_of : List Held → Bytes → Option CModule
+abbrev pub modules_of : List ModuleCode → Bytes → Option CModule
 modules_of [] title = None
 modules_of (m ∷ ms) title = if bytes_eq (title_text (module_title m.name)) title then Some (module_of m.size m.functions) else modules_of ms title
 
-abbrev pub asked : List Held → List Arg → Bytes → ℕ → List (Reply Answer) → Seen
-asked modules args name steps replies = works_in (modules_of modules) (Invoke (job_in_template name args)) steps 20000 replies
+abbrev pub invoke_in_template : List ModuleCode → List Arg → Bytes → ℕ → List (Reply Answer) → Seen
+invoke_in_template modules args name steps replies = works_in (modules_of modules) (Invoke (job_in_template name args)) steps 20000 replies
