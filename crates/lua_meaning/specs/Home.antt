@@ -5,7 +5,6 @@ use Rattle.lua_heap.specs.Value.{Nil, Text, Table}
 use Rattle.lua_heap.specs.Table.{Entries}
 use Rattle.lua_heap.specs.Heap.{Heap, empty}
 use Rattle.lua_heap.specs.declared.library.Library.TheVariants.{BasicAssert, BasicError, BasicGetMetatable, BasicSetMetatable, BasicIpairs, BasicPairs, BasicNext, BasicPcall, BasicXpcall, BasicRawEqual, BasicRawGet, BasicRawSet, BasicSelect, BasicToNumber, BasicToString, BasicType, BasicUnpack, BasicRequire, MwClone, MwLog, MwGetCurrentTitle, MwLoadData, MwGetCurrentFrame}
-use Rattle.lua_meaning.specs.Scope.{Function}
 use Rattle.lua_meaning.specs.Acts.{State}
 use Rattle.lua_meaning.specs.Frames.{function_entry, with_table}
 
@@ -54,7 +53,7 @@ mw =
 abbrev pub mw_title : Entries
 mw_title = function_entry (codes "getCurrentTitle") MwGetCurrentTitle ∷ []
 
-abbrev pub home_heap : Heap Function
+abbrev pub home_heap : {X : Type 0} → Heap X
 home_heap = with_table (with_table (with_table (with_table empty globals Nil) strings Nil) mw Nil) mw_title Nil
 
 -- the state with which a run begins

@@ -1,0 +1,86 @@
+-- FUNCTIONS OF THE LIBRARY (manual 5). What a function does with its arguments is what the meaning says of it, at the machine's own
+-- heap and frames; here is how it charges, ends, asks and calls, and what waits.
+use Rattle.std.specs.Prelude.{ℕ, List, [], ◌∷◌, Option, None}
+use Rattle.page_run.specs.Outcome.{Outcome, Goes, Jumps}
+use Rattle.lua_heap.specs.Proc.{Proc}
+use Rattle.lua_heap.specs.Value.{Value, Text}
+use Rattle.lua_heap.specs.declared.library.Library.{Library}
+use Rattle.lua_meaning.specs.Scope.{Bytes}
+use Rattle.lua_meaning.specs.World.{World}
+use Rattle.lua_meaning.specs.Questions.{Asked, TemplateAsked, TextAsked, DataAsked}
+use Rattle.lua_meaning.specs.Acts.{Jump, Raised, Frame}
+use Rattle.lua_meaning.specs.Messages.{not_built, no_template, wrong_answer}
+use Rattle.lua_meaning.specs.Arguments.{Plain}
+use Rattle.lua_meaning.specs.FrameMethods.{FramedEnd, FrameEnds, FrameAsks, FrameWalks, Framed}
+use Rattle.lua_meaning.specs.Pending.{Pending, PcallWaits, XpcallWaits, HandlerWaits, ToStringWaits, PairsWaits, ModuleWaits}
+use Rattle.lua_meaning.specs.Libraries.{Caller, Pcall, Xpcall, ToString, Pairs, Ipairs, NextPlace, Require, LoadData, Form, Answers, InFrames, CallsBack, NotBuilt, form}
+use Rattle.lua_slots.specs.Code.{CWorld}
+use Rattle.lua_slots.specs.Slots.{Slots, with_heap}
+use Rattle.lua_slots.specs.Points.{SFrame, LibraryEnd, Hears, Asking, Move, Costs, Marks, Enters, Now}
+use Rattle.lua_slots.specs.Errors.{jumps, fails, ends}
+use Rattle.lua_slots.specs.CallBacks.{pcall, pcall_answer, xpcall, xpcall_answer, handler_answer, gives_text, to_string, string_answer, pairs, ipairs, three_answer, ipairs_step}
+use Rattle.lua_slots.specs.Modules.{require, module_answer, load_data, data_answer}
+
+-- of the world such a function sees the page alone
+abbrev pub page_alone : CWorld → World
+page_alone world = record { page = world.page; modules = λ title. None }
+
+-- a function that calls back nobody
+abbrev pub plain : Plain Proc → Option ℕ → List SFrame → Slots → Move
+plain p line fs s = Costs p.charge (ends p.end line fs (with_heap p.heap s))
+
+-- a function that sees the frames
+abbrev pub framed_end : FramedEnd → Option ℕ → List SFrame → Slots → Move
+framed_end (FrameEnds end) line fs s = ends end line fs s
+framed_end (FrameAsks question asked) line fs s = Now (Asking question (Hears asked line ∷ fs)) s
+framed_end (FrameWalks v) line fs s = pairs (v ∷ []) line fs s
+
+abbrev pub with_frames : Framed Proc → Slots → Slots
+with_frames f s = record s { heap = f.heap; frames = f.frames }
+
+abbrev pub framed : Framed Proc → Option ℕ → List SFrame → Slots → Move
+framed f line fs s = Costs f.charge (framed_end f.end line fs (with_frames f s))
+
+-- a function that calls back, or sees more of a run
+abbrev pub call_back : CWorld → Caller → List Value → Option ℕ → List SFrame → Slots → Move
+call_back world Pcall args line fs s = pcall args line fs s
+call_back world Xpcall args line fs s = xpcall args line fs s
+call_back world ToString args line fs s = to_string args line fs s
+call_back world Pairs args line fs s = pairs args line fs s
+call_back world Ipairs args line fs s = ipairs args line fs s
+call_back world NextPlace args line fs s = ipairs_step args line fs s
+call_back world Require args line fs s = require world args line fs s
+call_back world LoadData args line fs s = load_data args line fs s
+
+abbrev pub does : CWorld → Form Proc → List Value → Option ℕ → List SFrame → Slots → Move
+does world (Answers p) args line fs s = plain p line fs s
+does world (InFrames f) args line fs s = framed f line fs s
+does world (CallsBack caller) args line fs s = call_back world caller args line fs s
+does world NotBuilt args line fs s = fails line not_built fs s
+
+-- A FUNCTION OF THE LIBRARY IS ENTERED, at this line
+abbrev pub enters_library : CWorld → Library → List Value → Option ℕ → List SFrame → Slots → Move
+enters_library world which args line fs s = Enters (Marks (does world (form (page_alone world) which args s.heap s.frames) args line (LibraryEnd ∷ fs) s))
+
+-- WHAT WAITS FOR A CALL
+abbrev pub resumes : Pending → Outcome (List Value) Jump → Option ℕ → List SFrame → Slots → Move
+resumes PcallWaits o line fs s = pcall_answer o fs s
+resumes (XpcallWaits h) o line fs s = xpcall_answer h o line fs s
+resumes HandlerWaits o line fs s = handler_answer o fs s
+resumes ToStringWaits o line fs s = string_answer o line fs s
+resumes PairsWaits o line fs s = three_answer o fs s
+resumes (ModuleWaits title) o line fs s = module_answer title o fs s
+
+-- WHAT WAITS FOR AN ANSWER
+abbrev pub text_answer : Outcome (List Value) Jump → List SFrame → Slots → Move
+text_answer (Goes (Text t ∷ [])) fs s = gives_text t fs s
+text_answer outcome fs s = jumps (Raised (Text wrong_answer)) fs s
+
+abbrev pub template_answer : Bytes → Outcome (List Value) Jump → Option ℕ → List SFrame → Slots → Move
+template_answer text (Goes []) line fs s = fails line (no_template text) fs s
+template_answer text outcome line fs s = text_answer outcome fs s
+
+abbrev pub hears : Asked → Outcome (List Value) Jump → Option ℕ → List SFrame → Slots → Move
+hears (TemplateAsked text) o line fs s = template_answer text o line fs s
+hears TextAsked o line fs s = text_answer o fs s
+hears (DataAsked text title) o line fs s = data_answer text title o line fs s
