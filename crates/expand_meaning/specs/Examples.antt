@@ -1,5 +1,5 @@
 -- WORKED PAGES, with what MediaWiki's rules make of them, written by hand.
-use Rattle.std.specs.Prelude.{◌≡◌, ℕ, List, [], ◌∷◌, codes, Option, Some, None}
+use Rattle.std.specs.Prelude.{◌≡◌, ℕ, List, [], ◌∷◌, codes, Option}
 use Rattle.std.specs.Map.{lookup}
 use Rattle.wk_base.specs.declared.left.Left.{Left}
 use Rattle.wk_base.specs.declared.title.Namespace.TheVariants.{Main, Template}

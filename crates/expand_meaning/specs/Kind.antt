@@ -1,6 +1,6 @@
 -- What the text of a construct's first part stands for (MediaWiki, Help:Magic words, Help:Templates, and
 -- Help:Extension:ParserFunctions). Texts are trimmed before.
-use Rattle.std.specs.Prelude.{ℕ, Bool, ◌&&◌, if◌then◌else◌, List, [], ◌∷◌, ◌++◌, length, take, drop, codes, bytes_eq, unwrap_or, Option, Some, None, Result, Ok, Err}
+use Rattle.std.specs.Prelude.{ℕ, Bool, if◌then◌else◌, List, [], ◌∷◌, length, take, drop, codes, bytes_eq, unwrap_or, Option, Some, None, Result, Ok, Err}
 use Rattle.std.specs.Str.{str_eq_ignore_ascii_case}
 use Rattle.wk_base.specs.Space.{trim}
 use Rattle.wk_base.specs.Titles.{prefix_of, title_text, title_of}

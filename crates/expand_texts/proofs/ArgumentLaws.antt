@@ -1,5 +1,5 @@
 -- Arguments in a map.
-use Rattle.std.proofs.Common.{◌≡◌, ◌≢◌, ◌<◌, ◌≤◌, ℕ, zero, suc, length, take, get_or, ◌+◌, Bool, true, false, cond, ◌==◌, List, [], ◌∷◌, ◌++◌, map, Option, Some, None, refl, sym, subst, ap, ◌∙◌, bytes_eq, true≢false, arith}
+use Rattle.std.proofs.Common.{◌≡◌, ◌≢◌, ◌<◌, ℕ, zero, suc, length, take, get_or, ◌+◌, Bool, true, false, cond, ◌==◌, List, [], ◌∷◌, ◌++◌, map, Option, Some, refl, sym, subst, ap, ◌∙◌, bytes_eq, true≢false, arith}
 use Rattle.std.specs.Cmp.Lexicographic.{pointwise, same_text}
 use Rattle.std.specs.Map.{lookup}
 use Rattle.std.specs.List.{slice_get}
@@ -47,11 +47,6 @@ differ_by false name value a args e d m = (lacks_put a.name name value args (oth
 pub differ_put : (name value : List ℕ) (args : List Arg) → NamesDiffer args → NamesDiffer (put name value args)
 differ_put name value [] d = (tt, tt)
 differ_put name value (a ∷ args) d = differ_by (bytes_eq name a.name) name value a args refl d (differ_put name value args d.1)
-
--- an argument of a new name is the last
-absent_by : (b : Bool) (value : List ℕ) (a new : Arg) (args more : List Arg) → b ≡ false → more ≡ args ++ new ∷ [] → cond b (record { name = a.name; value = value } ∷ args) (a ∷ more) ≡ a ∷ args ++ new ∷ []
-absent_by true value a new args more h e = absurd cc
-absent_by false value a new args more h e = ap (λ t. a ∷ t) e
 
 lacks_at : (x : List ℕ) (args : List Arg) (i : ℕ) (d : Arg) → i < length args → Lacks x args → bytes_eq (get_or args i d).name x ≡ false
 lacks_at x [] i d h l = absurd (omega arith)

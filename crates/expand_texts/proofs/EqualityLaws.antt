@@ -1,5 +1,5 @@
 -- Numbers of at most 18 digits fit.
-use Rattle.std.proofs.Common.{◌≡◌, ℕ, zero, suc, ◌+◌, ◌-◌, ◌*◌, ◌^◌, ◌<◌, ◌≤◌, refl, subst, arith}
+use Rattle.std.proofs.Common.{◌≡◌, ℕ, zero, suc, ◌^◌, ◌<◌, ◌≤◌, refl, arith}
 use Rattle.std.proofs.Math.Nat.{pow-le-pow_right}
 
 pub small_at : (n i len : ℕ) → i < len → len ≤ 18 → n < 10 ^ i → n < 100000000000000000

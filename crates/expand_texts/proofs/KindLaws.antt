@@ -1,5 +1,5 @@
 -- A prefix of a text that may be shorter.
-use Rattle.std.proofs.Common.{◌≡◌, ℕ, ◌<◌, ◌≤◌, ◌⊎◌, inl, inr, min, List, take, drop, length, refl, sym, ap, ◌∙◌, arith, Some, None, Option, if◌then◌else◌}
+use Rattle.std.proofs.Common.{◌≡◌, ℕ, min, List, take, drop, length, refl, ap, ◌∙◌, Some, None, if◌then◌else◌}
 use Rattle.std.proofs.lemmas.List.{take_min, drop_min}
 use Rattle.std.specs.Str.{str_eq_ignore_ascii_case}
 use Rattle.expand_meaning.specs.Kind.{behind}

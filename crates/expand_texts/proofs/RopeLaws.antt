@@ -1,7 +1,6 @@
 -- Pieces in a row, and the white space at the ends of a text that is made of two.
 use Rattle.std.proofs.Common.{◌≡◌, ◌≢◌, ℕ, ◌+◌, ◌-◌, ◌≤◌, Bool, true, false, if◌then◌else◌, List, [], ◌∷◌, ◌++◌, length, take, drop, get_or, reverse, bytes_eq, refl, sym, ap, ◌∙◌, append_assoc, append-nil, arith}
-use Rattle.std.proofs.lemmas.List.{reverse-append, reverse-reverse, length-append, take_all}
-use Rattle.std.specs.List.{flat_map}
+use Rattle.std.proofs.lemmas.List.{reverse-append, reverse-reverse, take_all}
 use Rattle.wk_base.specs.Space.{is_white, trim_start, trim_end}
 use Rattle.expand_texts.specs.Ropes.{bytes_of, joined}
 use Rattle.expand_texts.specs.declared.rope.Piece.{Piece}
@@ -12,11 +11,6 @@ joined_append (x ∷ xs) ys = ap (λ t. bytes_of x ++ t) (joined_append xs ys) �
 
 pub joined_push : (xs : List Piece) (x : Piece) → joined (xs ++ x ∷ []) ≡ joined xs ++ bytes_of x
 joined_push xs x = joined_append xs (x ∷ []) ∙ ap (λ t. joined xs ++ t) (append-nil (bytes_of x))
-
--- one piece alone
-pub joined_alone : (xs ys : List Piece) (x : Piece) → length xs ≡ 1 → xs ≡ ys ++ x ∷ [] → bytes_of x ≡ joined xs
-joined_alone xs [] x n e = sym (ap joined e ∙ append-nil (bytes_of x))
-joined_alone xs (y ∷ ys) x n e = absurd (omega (arith, n, ap length e, length-append ys (x ∷ [])))
 
 -- a front that is all white
 front_by : (w : Bool) (c : ℕ) (cs b : List ℕ) → (if w then trim_start cs else c ∷ cs) ≡ [] → (trim_start cs ≡ [] → trim_start (cs ++ b) ≡ trim_start b) → (if w then trim_start (cs ++ b) else c ∷ (cs ++ b)) ≡ trim_start b

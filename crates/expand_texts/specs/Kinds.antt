@@ -1,5 +1,5 @@
 -- What a kind of the code stands for.
-use Rattle.std.specs.Prelude.{ℕ, List, Option, Some, None}
+use Rattle.std.specs.Prelude.{ℕ}
 use Rattle.expand_texts.specs.declared.kind.Kind.{Kind as KindOf}
 use Rattle.expand_texts.specs.declared.kind.Kind.TheVariants.{Written as IsWritten, Word as IsWord, If as IsIf, IfEq as IsIfEq, Switch as IsSwitch, Invoke as IsInvoke, Include as IsInclude}
 use Rattle.expand_meaning.specs.Kind.{Kind, Written, Word, If, IfEq, Switch, Invoke, Include}

@@ -7,7 +7,7 @@
 //! - `arguments`: arguments, found by name
 //! - `rope`: a text as pieces in a row
 //! - `stack`: a list of which the nearest item is at hand
-//! - `space`: white space at the ends of a text
+//! - `space`: a copy without the white space at its ends
 //!
 //! What is meant stands in `expand_meaning`; begin with its `specs/Kind.antt` and `specs/Texts.antt`. `specs/Ropes.antt`
 //! says which text a rope is.

@@ -4,12 +4,11 @@ ghost use Rattle.std.specs.Bool.{OnTrue, OnFalse};
 ghost use Rattle.wk_base.specs.Space.{trim_start, trim_end, trim};
 ghost use Rattle.expand_texts.specs.Ropes.{bytes_of, joined};
 
-use crate::space;
 use crate::stack::Stack;
 use crate::texts::{append, copied};
 use std::alloc::Global;
 use std::marker::Model;
-use wk_base::NoMemory;
+use wk_base::{NoMemory, space};
 
 /// Bytes of a page, or bytes that were made here.
 #[derive(Drop)]

@@ -3,7 +3,7 @@ use crate::arguments::Arguments;
 use crate::equality::are_equal;
 use crate::kind::{Kind, kind_of, title_named};
 use crate::rope::{Piece, Rope};
-use crate::space::{trim_end, trim_start, trimmed};
+use crate::space::trimmed;
 use crate::stack::Stack;
 use crate::texts;
 use mw_frame::Arg;
@@ -51,8 +51,6 @@ fn texts_are_made(rt: HostRuntime) -> Result<(), Fail> {
     let made = made_texts(alloc)?;
     assert!(rt; made.len() == 323);
     assert!(rt; texts::depth_text().len() == 57);
-    assert!(rt; trim_start(b" a ") == b"a ".as_slice());
-    assert!(rt; trim_end(b" a ") == b" a".as_slice());
     assert!(rt; trimmed(alloc, b" a ")?.as_slice() == b"a".as_slice());
     assert!(rt; are_equal(b"01", b"+1"));
     Ok(())

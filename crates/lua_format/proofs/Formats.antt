@@ -11,7 +11,7 @@ use Rattle.lua_format.specs.declared.value.FormatValue.{FormatValue}
 use Rattle.lua_format.specs.declared.value.FormatFault.{FormatFault}
 use Rattle.lua_format.specs.declared.value.FormatFault.TheVariants as fault
 use Rattle.lua_format.specs.Directives.{is_flag, with_flag, flag_more, flags_from, no_flags, second_digit, two_digits, precision_of, conversion_of, letter_of, behind_flags, directive_of}
-use Rattle.lua_format.specs.Format.{item_of, put, and_then, is_percent, behind_percent, formatted_from, formatted, IsFault, HasLength}
+use Rattle.lua_format.specs.Format.{item_of, put, and_then, is_percent, behind_percent, formatted_from, formatted, HasLength}
 use Rattle.lua_format.specs.Lengths.{saturated}
 
 -- ---- what stands behind a directive is shorter
@@ -183,13 +183,6 @@ put_fault text r whole e is h = sym h ∙ ap (put text) is
 
 pub put_more : (text more : List ℕ) (r later whole : Result (List ℕ) FormatFault) → r ≡ put more later → put text r ≡ whole → put (text ++ more) later ≡ whole
 put_more text more r later whole e h = sym (put_put text more later) ∙ ap (put text) (sym e) ∙ h
-
-pub is_fault : (r : Result (List ℕ) FormatFault) (e : FormatFault) → r ≡ Err e → IsFault r e
-is_fault r fault.NoMemory h = tt
-is_fault r fault.BadOption h = h
-is_fault r (fault.Missing at want) h = h
-is_fault r (fault.WrongKind at want) h = h
-is_fault r (fault.OutOfRange at) h = h
 
 -- one byte more that is no `%`
 abbrev Splits : List ℕ → ℕ → Type 0

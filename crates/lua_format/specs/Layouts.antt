@@ -5,7 +5,6 @@ use Rattle.std.specs.Int.{is_negative, cast_unsigned, w64}
 use Rattle.std.specs.Option.{is_none}
 use Rattle.std.specs.Fmt.{digits, decimal}
 use Rattle.lua_format.specs.declared.directive.Flags.{Flags}
-use Rattle.lua_format.specs.declared.directive.Directive.{Directive}
 use Rattle.lua_format.specs.declared.directive.Conversion.{Conversion}
 use Rattle.lua_format.specs.declared.directive.Conversion.TheVariants as conversion
 

@@ -1,5 +1,5 @@
 -- What the parts of a formatted text stand for.
-use Rattle.std.specs.Prelude.{ℕ, true, false, if◌then◌else◌, List, [], ◌∷◌, ◌++◌}
+use Rattle.std.specs.Prelude.{ℕ, if◌then◌else◌, List, [], ◌∷◌, ◌++◌}
 use Rattle.lua_format.specs.declared.layout.Prefix.{Prefix}
 use Rattle.lua_format.specs.declared.layout.Prefix.TheVariants as prefix
 use Rattle.lua_format.specs.declared.layout.Source.{Source}

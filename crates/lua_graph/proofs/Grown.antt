@@ -12,10 +12,9 @@ use Rattle.std.proofs.lemmas.Bool.Decides.{Decides-eqb}
 use Rattle.std.proofs.lemmas.Bool.{eqb-true}
 use Rattle.lua_heap.specs.Value as heap
 use Rattle.lua_heap.specs.Value.{is_nil}
-use Rattle.lua_heap.specs.Graph.{Graph, IsItem, IsDatum, IsGraph}
 use Rattle.lua_heap.proofs.Values.{both_ways}
 use Rattle.lua_walk.specs.Data as walk
-use Rattle.lua_walk.specs.Data.{Checked, Fault, on_ok, all_ok, with_text, with_text_of, with_texts_of_entries, with_texts_of}
+use Rattle.lua_walk.specs.Data.{Checked, Fault, on_ok, with_text, with_text_of}
 use Rattle.lua_store.specs.declared.ids.TextId.{TextId}
 use Rattle.lua_store.specs.contracts.ids.TextIdPartialEq.TheImpl.{ghosts as text_id}
 use Rattle.lua_store.specs.Seen.{StoreView, text_at}
@@ -30,7 +29,7 @@ use Rattle.lua_graph.specs.declared.graph.GraphEntry.{GraphEntry}
 use Rattle.lua_graph.specs.declared.graph.GraphNode.{GraphNode}
 use Rattle.lua_graph.specs.Plain.{plain_item, plain_entry, plain_entries, plain_nodes}
 use Rattle.lua_graph.specs.Put.{named}
-use Rattle.lua_graph.specs.Taken.{IsFault, with_id, IsTextIn, AreTextsIn, Grows, IsRead, EntryIsRead, AreRead, NodesAreRead}
+use Rattle.lua_graph.specs.Taken.{IsFault, with_id, IsTextIn, AreTextsIn, Grows, IsRead, EntryIsRead}
 
 -- A fault is handed on where its cause is.
 pub fault_to : {A B : Type 0} (r : Checked A) (q : Checked B) (e : DataFault) → ((x : Fault) → r ≡ Err x → q ≡ Err x) → IsFault r e → IsFault q e

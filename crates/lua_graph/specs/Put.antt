@@ -4,7 +4,7 @@ use Rattle.std.specs.List.{AllByRecursion}
 use Rattle.lua_heap.specs.Table.{Entries}
 use Rattle.lua_heap.specs.Heap.{Heap, set_in, freeze_in, new_table}
 use Rattle.lua_heap.specs.Graph as plain
-use Rattle.lua_heap.specs.Graph.{IsGraph, shift_entries, join}
+use Rattle.lua_heap.specs.Graph.{IsGraph, join}
 use Rattle.lua_store.specs.declared.ids.TextId.{TextId}
 use Rattle.lua_store.specs.declared.ids.TableId.{TableId}
 use Rattle.lua_store.specs.Seen.{StoreView, text_at}

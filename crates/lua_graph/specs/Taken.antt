@@ -1,5 +1,5 @@
 -- WHAT IS TAKEN OUT OF A STORE: tables and texts by their places in order of first reach (`lua_walk`, Order and Data).
-use Rattle.std.specs.Prelude.{◌≡◌, ℕ, ◌<◌, Bool, true, false, if◌then◌else◌, List, [], ◌∷◌, ◌++◌, length, map, Option, Some, None, Result, Ok, Err}
+use Rattle.std.specs.Prelude.{◌≡◌, ℕ, ◌<◌, true, false, if◌then◌else◌, List, [], ◌∷◌, ◌++◌, length, map, Option, Some, None, Ok, Err}
 use Rattle.std.specs.List.{AllByRecursion, IsDistinct, list_any}
 use Rattle.std.specs.Str.{bytes_eq}
 use Rattle.lua_heap.specs.Value as heap
@@ -12,7 +12,7 @@ use Rattle.lua_store.specs.declared.ids.TextId.{TextId}
 use Rattle.lua_store.specs.declared.ids.TableId.{TableId}
 use Rattle.lua_store.specs.contracts.ids.TextIdPartialEq.TheImpl.{ghosts as text_id}
 use Rattle.lua_store.specs.declared.value.Value.{Value}
-use Rattle.lua_store.specs.Seen.{StoreView, seen, seen_entry}
+use Rattle.lua_store.specs.Seen.{StoreView}
 use Rattle.lua_store.specs.Parts.{IsTextOf}
 use Rattle.lua_graph.specs.declared.fault.DataFault.{DataFault}
 use Rattle.lua_graph.specs.declared.fault.DataFault.TheVariants.{NotATable, HasFunction, HasMetatable, BadKey, NoMemory}

@@ -1,5 +1,5 @@
 -- What is reached can be told: a search over the objects of a heap finds it. So it is the same as what steps lead to.
-use Rattle.std.proofs.Common.{◌≡◌, ◌≢◌, ℕ, zero, suc, ◌<◌, Bool, true, false, List, [], ◌∷◌, ◌++◌, length, Some, IsTrue, refl, sym, subst, inl, inr, ◌⊎◌, arith, ◌||◌, ◌&&◌, slice_get, slice_index_or}
+use Rattle.std.proofs.Common.{◌≡◌, ◌≢◌, ℕ, zero, suc, ◌<◌, Bool, true, false, List, [], ◌∷◌, ◌++◌, length, Some, IsTrue, refl, sym, subst, inl, inr, ◌⊎◌, arith, ◌||◌, ◌&&◌, slice_get}
 use Rattle.std.specs.List.{Contains}
 use Rattle.lua_heap.specs.Heap.{Heap, Ref, tab, cel, clo, mar, Obj, look}
 use Rattle.lua_heap.specs.Reach.{AllIn}
@@ -35,14 +35,6 @@ in-contains (p ∷ ps) q h = elim (or-back (is_one p q) (is_in ps q) h) [
   | inl e ↦ (0, omega arith, one-back p q e)
   | inr e ↦ let c = in-contains ps q e in (suc c.0, (let b : c.0 < length ps = c.1 in omega (arith, b)), c.2)
 ]
-
-pub contains-in : (ps : List Ref) (q : Ref) → Contains ps q → IsTrue (is_in ps q)
-contains-in ps q c = go ps c.0 c.1 c.2
-  where
-    go : (ps : List Ref) (k : ℕ) → k < length ps → slice_index_or ps k q ≡ q → IsTrue (is_in ps q)
-    go [] k h e = absurd (omega (arith, h))
-    go (p ∷ ps) zero h e = or-left (is_one p q) (is_in ps q) (subst (λ x. IsTrue (is_one x q)) (sym e) (one-same q))
-    go (p ∷ ps) (suc k) h e = or-right (is_one p q) (is_in ps q) (go ps k (omega (arith, h)) e)
 
 in-left : (ps qs : List Ref) (q : Ref) → IsTrue (is_in ps q) → IsTrue (is_in (ps ++ qs) q)
 in-left [] qs q h = cc

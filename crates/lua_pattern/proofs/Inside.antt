@@ -235,9 +235,6 @@ first_has a law subject P K true items from p =
     (costs_holds (From P from) P 1 (way a items subject from []) (way_has a law subject P K items from p))
 first_has a law subject P K false items from p = first_of_has a law subject P K items (a.symbols (drop from subject)) from from refl (omega arith) p
 
-every_place : (a : Letters) (subject : List ℕ) → KeepsPlaces a subject (λ at. Unit {0})
-every_place a subject = record { step = λ at c cs p e. tt; again = λ at from to p mf mt e. tt; zero = tt }
-
 abbrev pub IsBehind : ℕ → Answer → Type 0
 IsBehind from (At start end marks n) = (from ≤ start) × (start ≤ end)
 IsBehind from (Nowhere n) = Unit {0}
@@ -245,8 +242,3 @@ IsBehind from (Nowhere n) = Unit {0}
 behind_of : (from : ℕ) (o : Answer) → AnswerHas (λ at. Unit {0}) from o → IsBehind from o
 behind_of from (At start end marks n) h = (h.0, h.1)
 behind_of from (Nowhere n) h = tt
-
--- The first match does not begin before the place from which the search goes, nor end before it begins.
-pub first_behind : (a : Letters) → IsAlphabet a → (anchored : Bool) (items : List Item) (subject : List ℕ) (from : ℕ) → IsBehind from (first a anchored items subject from)
-first_behind a law anchored items subject from =
-    behind_of from (first a anchored items subject from) (first_has a law subject (λ at. Unit {0}) (every_place a subject) anchored items from tt)

@@ -1,16 +1,8 @@
 -- One start after the other.
-use Rattle.std.proofs.Common.{◌≡◌, ℕ, ◌+◌, ◌-◌, ◌<◌, ◌≤◌, List, [], ◌∷◌, refl, sym, ◌∙◌, ap, arith, add_assoc, zero-add}
+use Rattle.std.proofs.Common.{◌≡◌, ℕ, ◌+◌, ◌-◌, ◌<◌, ◌≤◌, List, [], ◌∷◌, refl, ◌∙◌, ap, arith}
 use Rattle.lua_pattern.specs.declared.item.Item.{Item}
 use Rattle.lua_pattern.specs.Letters.{Letters, Symbol}
 use Rattle.lua_pattern.specs.Way.{Outcome, Hit, Miss, tries, way, Answer, At, Nowhere, starting, answer_costs, answer_or_else, answer_tries, first_of}
-
-pub answer_costs_zero : (a : Answer) → answer_costs 0 a ≡ a
-answer_costs_zero (At start end marks n) = ap (λ k. At start end marks k) (zero-add n)
-answer_costs_zero (Nowhere n) = ap (λ k. Nowhere k) (zero-add n)
-
-answer_costs_costs : (a b : ℕ) (o : Answer) → answer_costs a (answer_costs b o) ≡ answer_costs (a + b) o
-answer_costs_costs a b (At start end marks n) = ap (λ k. At start end marks k) (sym (add_assoc a b n))
-answer_costs_costs a b (Nowhere n) = ap (λ k. Nowhere k) (sym (add_assoc a b n))
 
 answer_tries_costs : (n : ℕ) (a : Answer) → answer_tries (answer_costs n a) ≡ n + answer_tries a
 answer_tries_costs n (At start end marks m) = refl
@@ -42,19 +34,6 @@ start_hits a items subject whole cs start end marks left middle left_now l1 l2 e
     let d : (left - middle) + (middle - left_now) ≡ left - left_now = omega (arith, l1, l2) in
     e ∙ ap (answer_costs (left - middle)) (first_hit a items subject cs start end marks (middle - left_now) h)
     ∙ ap (λ k. At start end marks k) d
-
-pub start_misses : (a : Letters) (items : List Item) (subject : List ℕ) (whole : Answer) (cs : List Symbol) (c : Symbol) (later : List Symbol) (start : ℕ) (left middle left_now : ℕ) →
-    middle ≤ left → left_now ≤ middle → cs ≡ c ∷ later →
-    whole ≡ answer_costs (left - middle) (first_of a items subject cs start) →
-    way a items subject start [] ≡ Miss (middle - left_now) →
-    whole ≡ answer_costs (left - left_now) (first_of a items subject later (start + c.size))
-start_misses a items subject whole cs c later start left middle left_now l1 l2 s e h =
-    let d : (left - middle) + (middle - left_now) ≡ left - left_now = omega (arith, l1, l2) in
-    let next : Answer = first_of a items subject later (start + c.size) in
-    e ∙ ap (λ n. answer_costs (left - middle) (first_of a items subject n start)) s
-    ∙ ap (λ o. answer_costs (left - middle) (answer_or_else (starting start o) next)) h
-    ∙ answer_costs_costs (left - middle) (middle - left_now) next
-    ∙ ap (λ k. answer_costs k next) d
 
 pub start_ends : (a : Letters) (items : List Item) (subject : List ℕ) (whole : Answer) (cs : List Symbol) (start : ℕ) (left middle left_now : ℕ) →
     middle ≤ left → left_now ≤ middle → cs ≡ [] →

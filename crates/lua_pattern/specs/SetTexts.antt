@@ -1,10 +1,9 @@
 -- The set that a text writes between `[` and `]`, as `mw.text.trim` and `encode` take one: nothing may stand behind its `]`.
-use Rattle.std.specs.Prelude.{◌≡◌, ℕ, false, List, [], ◌∷◌, ◌++◌, Result, Ok, Err}
+use Rattle.std.specs.Prelude.{◌≡◌, ℕ, List, [], ◌∷◌, ◌++◌, Result, Ok, Err}
 use Rattle.lua_pattern.specs.declared.item.Set.{Set}
 use Rattle.lua_pattern.specs.declared.item.Item.{Item}
 use Rattle.lua_pattern.specs.declared.item.Item.TheVariants.{One}
 use Rattle.lua_pattern.specs.declared.item.Single.TheVariants.{Of}
-use Rattle.lua_pattern.specs.declared.slots.Slot.{Slot}
 use Rattle.lua_pattern.specs.declared.read.PatternFault.{PatternFault}
 use Rattle.lua_pattern.specs.declared.read.PatternFault.TheVariants as fault
 use Rattle.lua_pattern.specs.Read.{Read, Fault, Fine, read_of}

@@ -1,5 +1,5 @@
 -- What functions of the library do has no mark, and neither has the start of a run.
-use Rattle.std.proofs.Common.{◌≡◌, ℕ, Bool, true, false, List, [], ◌∷◌, ◌++◌, Option, Some, None, refl}
+use Rattle.std.proofs.Common.{ℕ, true, List, [], ◌∷◌, ◌++◌, Option, Some, None, refl}
 use Rattle.std.specs.Prelude.{ℤ, pos, ◌+ℤ◌, Result, Ok, Err, bytes_eq, codes}
 use Rattle.wk_base.specs.declared.title.Title.{Title}
 use Rattle.wk_base.specs.declared.title.Namespace.TheVariants.{Main}
@@ -16,18 +16,18 @@ use Rattle.lua_heap.specs.declared.library.Library.TheVariants.{BasicNext, Ipair
 use Rattle.lua_meaning.specs.Scope.{Bytes}
 use Rattle.lua_meaning.specs.Titled.{item_of}
 use Rattle.lua_meaning.specs.Questions.{Asked, TemplateAsked, TextAsked, DataAsked}
-use Rattle.lua_meaning.specs.Values.{first, rest, second, text_in, is_function}
+use Rattle.lua_meaning.specs.Values.{first, rest, text_in, is_function}
 use Rattle.lua_meaning.specs.Acts.{Jump, Raised, Progress, Running, Finished}
 use Rattle.lua_meaning.specs.Metatables.{handler}
-use Rattle.lua_meaning.specs.Arguments.{Plain, a_table, a_number, a_text}
+use Rattle.lua_meaning.specs.Arguments.{a_table, a_number, a_text}
 use Rattle.lua_meaning.specs.CallBacks.{text_of}
-use Rattle.lua_meaning.specs.FrameMethods.{FramedEnd, FrameEnds, FrameAsks, FrameWalks, Framed}
+use Rattle.lua_meaning.specs.FrameMethods.{FramedEnd, FrameEnds, FrameAsks, FrameWalks}
 use Rattle.lua_meaning.specs.Pending.{Pending, PcallWaits, XpcallWaits, HandlerWaits, ToStringWaits, PairsWaits, ModuleWaits}
 use Rattle.lua_meaning.specs.Libraries.{Caller, Pcall, Xpcall, ToString, Pairs, Ipairs, NextPlace, Require, LoadData, Form, Answers, InFrames, CallsBack, NotBuilt}
 use Rattle.lua_meaning.specs.Start.{Work, Invoke, DataOf, Failed}
 use Rattle.lua_slots.specs.Code.{Protos, CModule, CWorld}
 use Rattle.lua_slots.specs.Slots.{Slots, with_heap}
-use Rattle.lua_slots.specs.Points.{SFrame, Waits, TextNow, AnswerNow, DataNow, FunctionFound, ModuleFound, Texts, Move, Costs, Now}
+use Rattle.lua_slots.specs.Points.{SFrame, DataNow, Texts, Costs, Now}
 use Rattle.lua_slots.specs.Errors as errors
 use Rattle.lua_slots.specs.CallBacks as callbacks
 use Rattle.lua_slots.specs.Modules as modules

@@ -1,19 +1,19 @@
 -- What is done with values has no mark.
 use Rattle.std.proofs.Common.{◌≡◌, ℕ, Bool, true, false, ◌||◌, List, [], ◌∷◌, Option, Some, None, refl}
-use Rattle.std.specs.Prelude.{ℤ, pos, Result, Ok, Err, codes, not}
+use Rattle.std.specs.Prelude.{ℤ, Result, Ok, Err, codes}
 use Rattle.lua_syntax.specs.declared.UnaryOp.{UnaryOp}
 use Rattle.lua_syntax.specs.declared.UnaryOp.TheVariants as sign
 use Rattle.lua_number.specs.declared.arithmetic.NumberFault.{NumberFault}
 use Rattle.lua_number.specs.Whole.{negative_of}
 use Rattle.lua_heap.specs.Proc.{Proc}
-use Rattle.lua_heap.specs.Value.{Value, Nil, Number, Text, Table, Closure, Builtin, Markup, is_nil, same, is_true}
+use Rattle.lua_heap.specs.Value.{Value, Nil, Number, Text, Table, Closure, Builtin, Markup, is_nil, same}
 use Rattle.lua_heap.specs.Table.{get, has}
 use Rattle.lua_heap.specs.Heap.{table_at, closure_at, Closed, Function as FunctionClosed, Iterator}
 use Rattle.lua_meaning.specs.Scope.{Bytes, Place as TextPlace}
 use Rattle.lua_meaning.specs.Values.{is_function, number_in, text_in}
 use Rattle.lua_meaning.specs.Acts.{Jump, Returned}
 use Rattle.lua_meaning.specs.Arguments.{PlainEnd, Gives as PlainGives, Fails as PlainFails, Argument}
-use Rattle.lua_meaning.specs.Messages.{place_at, cannot_call, cannot_calculate, cannot_concatenate, cannot_compare, nil_key, read_only}
+use Rattle.lua_meaning.specs.Messages.{cannot_call, cannot_calculate, cannot_concatenate, cannot_compare, nil_key, read_only}
 use Rattle.lua_meaning.specs.Metatables.{handler, either_handler, common_handler}
 use Rattle.lua_meaning.specs.Operators.{Arithmetic, Operator, Less, Greater, AtMost, AtLeast, Equal, Unequal, Concatenate, Calculate, result_of, event}
 use Rattle.lua_slots.specs.Slots.{Slots}

@@ -10,7 +10,7 @@ use Rattle.lua_meaning.specs.Messages.{cannot_call}
 use Rattle.lua_meaning.specs.Metatables.{handler}
 use Rattle.lua_slots.specs.Code.{CProto, Protos, CModule, CWorld}
 use Rattle.lua_slots.specs.Slots.{Activation, Slots, function_of, all_opened, cut}
-use Rattle.lua_slots.specs.Points.{BodyS, LibraryS, CallLinkS, SFrame, BodyEnd, Runs, Starts, Move, Marks, Enters, Exits, Now}
+use Rattle.lua_slots.specs.Points.{BodyS, LibraryS, CallLinkS, SFrame, BodyEnd, Runs, Starts, Move, Marks, Enters, Now}
 use Rattle.lua_slots.specs.Errors.{choose, gives, jumps, fails}
 
 -- WHAT IS CALLED begins as a thing

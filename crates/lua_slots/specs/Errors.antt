@@ -3,7 +3,7 @@
 use Rattle.std.specs.Prelude.{ℕ, Bool, true, false, List, [], ◌∷◌, ◌++◌, length, Option, Some, None, Ok, Err}
 use Rattle.page_run.specs.Outcome.{Goes, Jumps}
 use Rattle.lua_heap.specs.Value.{Value, Text}
-use Rattle.lua_meaning.specs.Scope.{Bytes, Levels, Place as TextPlace}
+use Rattle.lua_meaning.specs.Scope.{Bytes, Place as TextPlace}
 use Rattle.lua_meaning.specs.Acts.{Jump, Raised}
 use Rattle.lua_meaning.specs.Messages.{place_text, nth_level, place_at}
 use Rattle.lua_meaning.specs.Arguments.{PlainEnd, Gives as PlainGives, Fails as PlainFails, Argument}

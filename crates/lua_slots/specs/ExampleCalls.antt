@@ -1,14 +1,13 @@
 -- CODE OF MODULES THAT CALL, and what comes of it: the same as of their trees, to the step.
-use Rattle.std.specs.Prelude.{◌≡◌, pos, Bool, true, false, List, [], ◌∷◌, codes}
+use Rattle.std.specs.Prelude.{◌≡◌, pos, true, false, List, [], ◌∷◌, codes}
 use Rattle.lua_syntax.specs.declared.UnaryOp.TheVariants as sign
-use Rattle.page_run.specs.declared.which.Which.TheVariants.{Steps, Calls}
-use Rattle.lua_heap.specs.Value.{Nil, Truth, Number, Text, Table}
-use Rattle.lua_meaning.specs.Operators.{Add, Sub, Mul, Div, Mod, Pow, Less, Greater, AtMost, AtLeast, Equal, Unequal, Concatenate, Calculate}
-use Rattle.lua_meaning.specs.Questions.{Expanded, NoPage, Loaded, LoadFailed}
-use Rattle.lua_meaning.specs.Trial.{arg, invoke_module, invoke_with_calls, invoke_with_args, load_module, module_text, reply, exhausts, invoke_in_template}
-use Rattle.lua_slots.specs.Code.{Reg, Box, Up, ConstantC, DotsC, FunctionC, LocalC, GlobalC, IndexC, CallC, MethodC, TableC, AndC, OrC, OperateC, UnaryC, ParenC}
-use Rattle.lua_slots.specs.Code.{NoC, MoreC, NoFieldC, ItemC, PairC, PlaceC, GlobalTargetC, EntryC}
-use Rattle.lua_slots.specs.Code.{AssignC, CallStatC, DoC, WhileC, RepeatC, IfC, IfElseC, CountC, CountByC, EachC, ReturnC, BreakC, EndC, DeclareC, LocalFunctionC, ThenC, NoArmC, ArmC, CProto}
+use Rattle.lua_heap.specs.Value.{Number, Text}
+use Rattle.lua_meaning.specs.Operators.{Add, Equal, Concatenate, Calculate}
+use Rattle.lua_meaning.specs.Questions.{Loaded, LoadFailed}
+use Rattle.lua_meaning.specs.Trial.{invoke_module, module_text, reply, invoke_in_template}
+use Rattle.lua_slots.specs.Code.{Reg, Box, Up, ConstantC, DotsC, FunctionC, LocalC, GlobalC, IndexC, CallC, TableC, OperateC, UnaryC}
+use Rattle.lua_slots.specs.Code.{NoC, MoreC, NoFieldC, PairC, PlaceC, EntryC}
+use Rattle.lua_slots.specs.Code.{AssignC, CallStatC, ReturnC, EndC, DeclareC, LocalFunctionC, ThenC, CProto}
 use Rattle.lua_slots.specs.IsCode.{IsProtos}
 use Rattle.lua_slots.specs.Trial.{functions_in}
 use Rattle.lua_slots.specs.Trial as run

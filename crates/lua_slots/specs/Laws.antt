@@ -1,5 +1,5 @@
 -- LAWS of code and of moves.
-use Rattle.std.specs.Prelude.{◌≡◌, ◌≤◌, ℕ, ◌+◌, ◌-◌, Option, Some}
+use Rattle.std.specs.Prelude.{◌≡◌, ◌≤◌, ℕ, ◌+◌, ◌-◌, Some}
 use Rattle.lua_syntax.specs.Tree.{Block}
 use Rattle.lua_slots.specs.Code.{CBlock, CProto, Protos, CWorld}
 use Rattle.lua_slots.specs.Sight.{Sight}

@@ -1,14 +1,14 @@
 -- FUNCTIONS OF THE LIBRARY (manual 5). What a function does with its arguments is what the meaning says of it, at the machine's own
 -- heap and frames; here is how it charges, ends, asks and calls, and what waits.
 use Rattle.std.specs.Prelude.{ℕ, List, [], ◌∷◌, Option, None}
-use Rattle.page_run.specs.Outcome.{Outcome, Goes, Jumps}
+use Rattle.page_run.specs.Outcome.{Outcome, Goes}
 use Rattle.lua_heap.specs.Proc.{Proc}
 use Rattle.lua_heap.specs.Value.{Value, Text}
 use Rattle.lua_heap.specs.declared.library.Library.{Library}
 use Rattle.lua_meaning.specs.Scope.{Bytes}
 use Rattle.lua_meaning.specs.World.{World}
 use Rattle.lua_meaning.specs.Questions.{Asked, TemplateAsked, TextAsked, DataAsked}
-use Rattle.lua_meaning.specs.Acts.{Jump, Raised, Frame}
+use Rattle.lua_meaning.specs.Acts.{Jump, Raised}
 use Rattle.lua_meaning.specs.Messages.{not_built, no_template, wrong_answer}
 use Rattle.lua_meaning.specs.Arguments.{Plain}
 use Rattle.lua_meaning.specs.FrameMethods.{FramedEnd, FrameEnds, FrameAsks, FrameWalks, Framed}

@@ -8,8 +8,8 @@ use Rattle.lua_meaning.specs.Acts.{Jump, Broke}
 use Rattle.lua_meaning.specs.Messages.{no_initial_value, no_limit, no_step}
 use Rattle.lua_meaning.specs.Loops.{is_within}
 use Rattle.lua_slots.specs.Code.{CExp, CBlock}
-use Rattle.lua_slots.specs.Slots.{Slots, opened, all_opened, cut}
-use Rattle.lua_slots.specs.Points.{WhileTurnS, RepeatTurnS, CountTurnS, EachTurnS, SFrame, WhileEnd, TestNext, TestNow, CountBy, CountEnd, EachNext, EachEnd, Evals, Runs, Starts, Move, Marks, Now}
+use Rattle.lua_slots.specs.Slots.{Slots, opened, all_opened}
+use Rattle.lua_slots.specs.Points.{WhileTurnS, RepeatTurnS, CountTurnS, EachTurnS, SFrame, WhileEnd, TestNext, CountBy, CountEnd, EachNext, EachEnd, Evals, Runs, Starts, Move, Marks, Now}
 use Rattle.lua_slots.specs.Errors.{choose, gives, jumps, fails}
 use Rattle.lua_slots.specs.Calls.{call}
 

@@ -4,7 +4,7 @@ use Rattle.lua_syntax.specs.declared.UnaryOp.{UnaryOp}
 use Rattle.lua_syntax.specs.declared.UnaryOp.TheVariants as sign
 use Rattle.lua_number.specs.declared.arithmetic.NumberFault.{NumberFault}
 use Rattle.lua_number.specs.Whole.{negative_of}
-use Rattle.lua_heap.specs.Value.{Value, Nil, Truth, Number, Text, Table, same, is_true, is_nil}
+use Rattle.lua_heap.specs.Value.{Value, Truth, Number, Text, Table, same, is_true, is_nil}
 use Rattle.lua_heap.specs.Table.{border}
 use Rattle.lua_heap.specs.Heap.{table_at}
 use Rattle.lua_meaning.specs.Scope.{Bytes}

@@ -1,6 +1,5 @@
 -- WHAT A MACHINE DOES NEXT, above the frames that wait; and its moves.
 use Rattle.std.specs.Prelude.{ℕ, ℤ, Bool, List, Option}
-use Rattle.wk_base.specs.declared.title.Title.{Title}
 use Rattle.mw_frame.specs.declared.question.Ask.{Ask}
 use Rattle.lua_syntax.specs.declared.UnaryOp.{UnaryOp}
 use Rattle.page_run.specs.Outcome.{Outcome}

@@ -7,13 +7,13 @@ use Rattle.mw_frame.specs.declared.scene.Job.{Job}
 use Rattle.page_run.specs.Outcome.{Outcome, Goes, Jumps}
 use Rattle.lua_heap.specs.Value.{Value, Text, Table, is_nil}
 use Rattle.lua_meaning.specs.Scope.{Bytes}
-use Rattle.lua_meaning.specs.Values.{first, text_in, is_function}
+use Rattle.lua_meaning.specs.Values.{is_function}
 use Rattle.lua_meaning.specs.Acts.{Jump, Raised, Unmade}
 use Rattle.lua_meaning.specs.Messages.{no_data_module}
 use Rattle.lua_meaning.specs.Metatables.{handler}
 use Rattle.lua_meaning.specs.CallBacks.{text_of}
 use Rattle.lua_meaning.specs.Frames.{args_charge, make_frame, frame_table, new_frame}
-use Rattle.lua_meaning.specs.Start.{Work, Invoke, DataOf, End, Done, Failed, data_value, invoke_outcome, data_outcome}
+use Rattle.lua_meaning.specs.Start.{Work, Invoke, DataOf, End, Done, Failed, invoke_outcome, data_outcome}
 use Rattle.lua_slots.specs.Code.{CModule, CWorld}
 use Rattle.lua_slots.specs.Slots.{Slots}
 use Rattle.lua_slots.specs.Points.{SFrame, ModuleFound, FunctionFound, AnswerNow, TextNow, DataNow, Gives, Texts, Move, Costs, Now}

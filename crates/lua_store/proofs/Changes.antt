@@ -18,9 +18,6 @@ use Rattle.lua_heap.specs.Table.{has}
 use Rattle.lua_heap.specs.Heap.{MarkupNode as HeapNode, Closed, new_table, TableObj, tab, put, table_at, with_entry as entry_set, set_in, set_meta_in, freeze_in, new_cell, set_cell_in, new_closure, new_markup, set_markup_in, markup_at, no_markup}
 use Rattle.lua_store.specs.declared.ids.TextId.{TextId}
 use Rattle.lua_store.specs.declared.ids.TableId.{TableId}
-use Rattle.lua_store.specs.declared.ids.CellId.{CellId}
-use Rattle.lua_store.specs.declared.ids.ClosureId.{ClosureId}
-use Rattle.lua_store.specs.declared.ids.MarkupId.{MarkupId}
 use Rattle.lua_store.specs.declared.value.Value.{Value}
 use Rattle.lua_store.specs.declared.value.Value.TheVariants.{Nil}
 use Rattle.lua_store.specs.contracts.value.ValuePartialEq.TheImpl.{ghosts}
@@ -29,7 +26,7 @@ use Rattle.lua_store.specs.declared.markup.MarkupNode.{MarkupNode}
 use Rattle.lua_store.specs.Envs.{envs_of}
 use Rattle.lua_heap.specs.Proc.{Proc}
 use Rattle.lua_store.specs.Seen.{StoreView, text_at, seen, seen_table, seen_closure, seen_node}
-use Rattle.lua_store.specs.Parts.{Parts, view_of, IsTableOf, IsCellOf, IsClosureOf, IsMarkupOf, IsOf, IsContentsOf, IsContentOf, IsNodeOf, AreOf, IsWhole, no_contents, table_in, with_entry, with_text, IsLater}
+use Rattle.lua_store.specs.Parts.{Parts, view_of, IsTableOf, IsOf, IsContentsOf, IsContentOf, IsNodeOf, AreOf, IsWhole, no_contents, table_in, with_entry, with_text, IsLater}
 use Rattle.lua_store.proofs.Lists.{all-at, all-set, all-push, map-alike}
 use Rattle.lua_store.proofs.EntryMaps.{set_at-seen, set_at-holds, is_there-seen}
 use Rattle.lua_table.proofs.SetLemmas.{HasKeys-set, HasKeys-empty}
@@ -232,15 +229,6 @@ whole-nothing = record { distinct = tt; own = record { tables = tt; cells = tt; 
 -- an id of the store is a place in what is kept
 pub table_place : (p : Parts) (s : StoreView) → view_of p ≡ s → (id : TableId) → IsTableOf s id → id.at < length p.tables
 table_place p s shown id h = let e = length-map p.tables (seen_table p.texts) in let f = ap (λ (t : StoreView). length t.heap.tables) shown in omega (arith, e, f, h)
-
-pub cell_place : (p : Parts) (s : StoreView) → view_of p ≡ s → (id : CellId) → IsCellOf s id → id.at < length p.cells
-cell_place p s shown id h = let e = length-map p.cells (seen p.texts) in let f = ap (λ (t : StoreView). length t.heap.cells) shown in omega (arith, e, f, h)
-
-pub closure_place : (p : Parts) (s : StoreView) → view_of p ≡ s → (id : ClosureId) → IsClosureOf s id → id.at < length p.closures
-closure_place p s shown id h = let e = length-map p.closures (seen_closure p.texts) in let f = ap (λ (t : StoreView). length t.heap.closures) shown in omega (arith, e, f, h)
-
-pub markup_place : (p : Parts) (s : StoreView) → view_of p ≡ s → (id : MarkupId) → IsMarkupOf s id → id.at < length p.markup
-markup_place p s shown id h = let e = length-map p.markup (seen_node p.texts) in let f = ap (λ (t : StoreView). length t.heap.markup) shown in omega (arith, e, f, h)
 
 -- A set that may be refused
 ok-err : (b : Bool) (e : SetFault) → ◌≡◌ {A = Result Bool SetFault} (Ok b) (Err e) → ⊥

@@ -13,7 +13,7 @@ use Rattle.lua_store.specs.declared.closure.Closure.{Closure}
 use Rattle.lua_store.specs.declared.markup.MarkupChild.{MarkupChild}
 use Rattle.lua_store.specs.declared.markup.MarkupChild.TheVariants.{Text as ChildText, Node as ChildNode}
 use Rattle.lua_store.specs.declared.markup.MarkupNode.{MarkupNode}
-use Rattle.lua_store.specs.Seen.{StoreView, seen, seen_entry, seen_table, seen_closure, closed_of, places_of, text_at, seen_child, seen_node}
+use Rattle.lua_store.specs.Seen.{StoreView, seen, seen_entry, seen_table, seen_closure, closed_of, places_of, seen_child, seen_node}
 use Rattle.lua_store.specs.Parts.{Parts, view_of, IsOf, IsCellOf, IsEntryOf, IsContentsOf, IsContentOf, IsChildOf, IsParentOf, IsNodeOf, IsWhole}
 use Rattle.lua_heap.specs.Proc.{Proc, proc_names}
 use Rattle.lua_store.specs.declared.closure.ClosureKind.{ClosureKind}

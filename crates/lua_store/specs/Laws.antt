@@ -1,6 +1,6 @@
 -- LAWS OF STORES. What is of a store is of each later one, and is seen as it was.
 use Rattle.lua_heap.specs.Table.{HasValueKeys}
-use Rattle.std.specs.Prelude.{◌≡◌, ℕ, List}
+use Rattle.std.specs.Prelude.{◌≡◌, ℕ}
 use Rattle.std.specs.List.{IsDistinct}
 use Rattle.std.specs.Str.{bytes_eq}
 use Rattle.lua_table.specs.Entries.{Contents}

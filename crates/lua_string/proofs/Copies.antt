@@ -1,5 +1,5 @@
 -- Copies of a text.
-use Rattle.std.proofs.Common.{◌≡◌, ℕ, zero, suc, ◌+◌, ◌-◌, ◌*◌, ◌^◌, ◌<◌, ◌≤◌, min, List, [], ◌∷◌, ◌++◌, length, refl, sym, ap, ◌∙◌, arith, append_assoc, length-append, suc-mul}
+use Rattle.std.proofs.Common.{◌≡◌, ℕ, zero, suc, ◌+◌, ◌-◌, ◌*◌, ◌^◌, ◌<◌, min, List, [], ◌∷◌, ◌++◌, length, refl, sym, ap, ◌∙◌, arith, append_assoc, length-append}
 use Rattle.lua_string.specs.Texts.{copies, saturated}
 
 pub copies_more : (made new whole s : List ℕ) (count turn : ℕ) → new ≡ made ++ s → turn < count → made ++ copies (count - turn) s ≡ whole → new ++ copies (count - (turn + 1)) s ≡ whole

@@ -1,5 +1,5 @@
 -- The price of a match: its tries, and the bytes of what it gives.
-use Rattle.std.proofs.Common.{◌≡◌, ℕ, ◌+◌, ◌-◌, ◌<◌, ◌≤◌, Bool, true, false, nat_le, ℤ, List, length, drop, map, true≢false, refl, sym, ◌∙◌, ap, subst, arith}
+use Rattle.std.proofs.Common.{◌≡◌, ℕ, ◌+◌, ◌-◌, ◌<◌, ◌≤◌, Bool, true, false, nat_le, ℤ, List, length, drop, true≢false, refl, sym, ◌∙◌, ap, subst, arith}
 use Rattle.std.proofs.lemmas.Bool.{leb-true, leb-false, le-leb, lt-leb}
 use Rattle.lua_pattern.specs.declared.pattern.Match.{Match}
 use Rattle.lua_pattern.specs.declared.pattern.Search.{Search}
@@ -7,7 +7,7 @@ use Rattle.lua_pattern.specs.declared.pattern.Search.TheVariants as search
 use Rattle.lua_pattern.specs.declared.slots.Slot.{Slot}
 use Rattle.lua_pattern.specs.declared.item.Item.{Item}
 use Rattle.lua_pattern.specs.Way.{Answer, At, Nowhere, answer_tries, first}
-use Rattle.lua_pattern.specs.Found.{IsFound, IsSearch, capture_of}
+use Rattle.lua_pattern.specs.Found.{IsFound, IsSearch}
 use Rattle.lua_pattern.specs.Read.{Read, Fine, read_of, codes}
 use Rattle.lua_pattern.specs.Reads.{IsReadFault}
 use Rattle.lua_pattern.specs.declared.read.PatternFault.{PatternFault}
@@ -97,10 +97,6 @@ find_plain size false budget s pattern init from found e ef h = absurd (true≢f
 pub find_fault : (plain : Bool) (pattern : List ℕ) (e : PatternFault) → plain ≡ false → IsReadFault (read_of (codes bytes pattern)) e → IsFindFault plain pattern e
 find_fault false pattern e is h = h
 find_fault true pattern e is h = absurd (true≢false is)
-
-pub find_memory : (plain : Bool) (pattern : List ℕ) → IsFindFault plain pattern fault.NoMemory
-find_memory false pattern = tt
-find_memory true pattern = refl
 
 -- captures that fit
 pub fits_more : (len rest left : ℕ) → len ≤ left → nat_le (len + rest) left ≡ nat_le rest (left - len)

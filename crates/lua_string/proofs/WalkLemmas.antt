@@ -1,24 +1,20 @@
 -- Going from place to place, and searching on.
-use Rattle.std.proofs.Common.{◌≡◌, ◌≢◌, ℕ, zero, suc, ◌+◌, ◌-◌, ◌<◌, ◌≤◌, ◌==◌, Bool, true, false, nat_lt, if◌then◌else◌, List, [], ◌∷◌, ◌++◌, length, take, drop, Option, Some, None, refl, sym, ◌∙◌, ap, subst, arith, append_assoc, length-drop}
+use Rattle.std.proofs.Common.{◌≡◌, ℕ, zero, suc, ◌+◌, ◌-◌, ◌<◌, ◌≤◌, Bool, true, false, nat_lt, if◌then◌else◌, List, [], ◌∷◌, ◌++◌, length, take, drop, Option, Some, None, refl, sym, ◌∙◌, ap, subst, arith, append_assoc, length-drop}
 use Rattle.std.proofs.lemmas.Bool.Decides.{nat_tests}
 use Rattle.std.proofs.lemmas.List.{drop-drop, take-append-drop}
 use Rattle.std.proofs.Math.Seq.{take-add}
 use Rattle.lua_pattern.specs.declared.item.Item.{Item}
 use Rattle.lua_pattern.specs.Letters.{Symbol, Letters, IsFirst, IsAlphabet}
 use Rattle.lua_pattern.specs.Way.{Outcome, Hit, Miss, Answer, At, Nowhere, way, costs, starting, first, first_of, answer_costs, answer_or_else}
-use Rattle.lua_pattern.specs.Places.{KeepsPlaces}
 use Rattle.lua_pattern.specs.Keeps.{within_keeps}
 use Rattle.lua_pattern.proofs.Inside.{AnswerHas, first_has}
-use Rattle.lua_string.specs.Walk.{Step, Walk, Stops, Meets, behind_first, next_place, walk_on, walk, span, before, on_walk, by_walk, one_symbol, behind_match, behind_miss, at_place, anchor_tries, by_places, GoingOn}
+use Rattle.lua_string.specs.Walk.{Step, Walk, Stops, Meets, behind_first, next_place, walk_on, walk, span, before, on_walk, by_walk, one_symbol, behind_match, at_place, by_places, GoingOn}
 
 same_pieces : (a b : List ℕ) (n m : ℕ) → a ≡ b → n ≡ m → ◌≡◌ {A = List ℕ × ℕ} (a, n) (b, m)
 same_pieces a b n m e f =
     let text : List ℕ → List ℕ × ℕ = λ l. (l, n) in
     let tries : ℕ → List ℕ × ℕ = λ k. (b, k) in
     ap text e ∙ ap tries f
-
-before_before : (t u : List ℕ) (n m : ℕ) (p : List ℕ × ℕ) → before t n (before u m p) ≡ before (t ++ u) (n + m) p
-before_before t u n m p = same_pieces _ _ _ _ (sym (append_assoc t u p.0)) (omega arith)
 
 -- ---- bytes between places
 

@@ -48,10 +48,3 @@ found_between text needle None ut un h = tt
 found_between text [] (Some k) ut un h = none_between text k ut (place_found text [] (Some k) h)
 found_between text (n ∷ ns) (Some k) ut un h =
     begins_between (n ∷ ns) text k un ut (omega arith) (omega (arith, h.0.high)) (occurs_begins text (n ∷ ns) k h.1)
-
--- places of a part are places of the text
-pub between_whole : (s : List ℕ) (from k n : ℕ) → from ≤ length s → IsCharBoundary (drop from s) k → IsCharBoundary (drop from s) (k + n)
-    → IsCharBoundary s (from + k) × IsCharBoundary s (from + k + n)
-between_whole s from k n le a b =
-    let e : from + (k + n) ≡ from + k + n = omega arith in
-    (IsCharBoundary-from_rest s from k le a, subst (IsCharBoundary s) e (IsCharBoundary-from_rest s from (k + n) le b))

@@ -1,11 +1,11 @@
 -- The trees of nodes in preorder, and how a forest is split.
-use Rattle.std.proofs.Common.{◌≡◌, ℕ, zero, suc, ◌+◌, ◌-◌, ◌<◌, ◌≤◌, min, max, List, [], ◌∷◌, take, drop, length, Option, Some, None, ◌⊎◌, inl, inr, refl, sym, ap, ◌∙◌, subst, arith}
-use Rattle.std.proofs.lemmas.List.{length-take, length-drop, take_all, take-take, drop-drop, drop-take}
+use Rattle.std.proofs.Common.{◌≡◌, ℕ, zero, suc, ◌+◌, ◌-◌, ◌<◌, ◌≤◌, min, max, List, [], ◌∷◌, take, drop, length, Some, ◌⊎◌, inl, inr, refl, sym, ap, ◌∙◌, arith}
+use Rattle.std.proofs.lemmas.List.{length-take, take_all, take-take, drop-drop, drop-take}
 use Rattle.std.proofs.lemmas.Bool.{cases_lt}
 use Rattle.std.proofs.Math.ListN.{drop_of_length-le}
 use Rattle.std.specs.List.{slice_get}
 use Rattle.wiki_markup.specs.declared.marked.Node.{Node}
-use Rattle.wiki_markup.specs.Trees.{Trees, done}
+use Rattle.wiki_markup.specs.Trees.{done}
 use Rattle.expand_meaning.specs.Places.{planted, reach, trees_at}
 use Rattle.expand_meaning.proofs.TreeLaws.{trees_first, no_trees}
 use Rattle.wiki_expand.specs.Forests.{nodes_in, between, trees_in}

@@ -2,7 +2,7 @@
 use Rattle.std.proofs.Common.{◌≡◌, ℕ, ◌+◌, ◌-◌, ◌<◌, ◌≤◌, Bool, true, false, cond, List, length, refl, sym, ap, ◌∙◌, arith}
 use Rattle.wk_base.specs.declared.left.Left.{Left}
 use Rattle.mw_frame.specs.declared.scene.Scene.{Scene}
-use Rattle.page_run.specs.Run.{TakeBytes, EnterDepth, LeaveDepth, HasTemplate, EnterTemplate, LeaveTemplate, Uses, Opens}
+use Rattle.page_run.specs.Run.{TakeBytes, EnterDepth, LeaveDepth, HasTemplate, EnterTemplate, LeaveTemplate, Uses}
 use Rattle.page_run.specs.Perform.{perform, wait}
 use Rattle.page_run.specs.Part.{open_or}
 use Rattle.page_run.proofs.ReplyLaws.{no_rise-wait}

@@ -1,7 +1,6 @@
 -- The points that a construct goes through.
 use Rattle.std.proofs.Common.{◌≡◌, ℕ, Bool, true, false, cond, List, [], ◌∷◌, ◌++◌, refl, sym, ap, ◌∙◌}
 use Rattle.wk_base.specs.Space.{trim}
-use Rattle.wk_base.specs.declared.left.Left.{Left}
 use Rattle.page_run.specs.Part.{open_or}
 use Rattle.wiki_markup.specs.Trees.{Trees, node}
 use Rattle.wiki_markup.specs.declared.marked.NodeKind.TheVariants.{Construct as ConstructKind, Parameter as ParameterKind}

@@ -1,17 +1,14 @@
 -- What an expander does at a point of a run is what the definition does.
 use Rattle.std.proofs.Common.{◌≡◌, ℕ, ◌+◌, List, [], ◌∷◌, ◌++◌, Option, Some, None, IfSome, append-nil, append_assoc, refl, sym, ap, ◌∙◌, subst, arith}
 use Rattle.wk_base.specs.declared.left.Left.{Left}
-use Rattle.wk_base.specs.declared.title.Title.{Title}
-use Rattle.wiki_markup.specs.Trees.{Trees}
-use Rattle.mw_frame.specs.declared.scene.Scene.{Scene}
 use Rattle.mw_frame.specs.declared.scene.Job.{Job}
 use Rattle.page_run.specs.Run.{Run, Ends}
-use Rattle.page_run.specs.State.{Tally, no_tally, join, Gives, Reply, Event, Ended, Spent, Asked}
+use Rattle.page_run.specs.State.{no_tally, join, Gives, Reply}
 use Rattle.page_run.specs.Perform.{perform, wait}
 use Rattle.page_run.proofs.ReplyLaws.{no_rise-wait}
 use Rattle.page_run.proofs.EventLaws.{ends_is, asks_is}
 use Rattle.expand_meaning.specs.Expand.{Setting, Page, meant}
-use Rattle.expand_meaning.specs.Outcome.{Work, Reading, Including, expansion, next_event, Comes, Asks, text_in}
+use Rattle.expand_meaning.specs.Outcome.{Work, Reading, Including, next_event, Comes, Asks}
 use Rattle.wiki_expand.specs.Points.{wiki_setting, scene_in, waiting, state, Leads}
 use Rattle.wiki_expand.specs.declared.frame.Wiki.{Wiki}
 use Rattle.wiki_expand.specs.declared.frame.Machine.{Machine}
@@ -20,7 +17,6 @@ use Rattle.wiki_expand.specs.Weights.{levels, bodies}
 use Rattle.wiki_expand.specs.declared.expander.Move.{Move}
 use Rattle.wiki_expand.specs.declared.expander.Move.TheVariants.{Text as Came, Invoke as Invokes}
 use Rattle.wiki_expand.specs.declared.expander.Doing.{Doing}
-use Rattle.wiki_expand.specs.declared.frame.Frame.{Frame}
 
 -- the event at a point, with no more replies
 pub now_is : (w : Setting) (p q : Page) (work : Work) (first l l' : Left) (given : List (Reply (List ℕ))) (at : AtPoint w p work first given l) → Leads w p l q l' → next_event w work first given ≡ perform (meant w) wait q (state l' at.tally [])
@@ -50,12 +46,6 @@ pub begins_is : (w : Setting) (p : Page) (work : Work) (l : Left) → p ≡ work
 unfolding next_event
 begins_is w p (Reading trees sc) l e = record { tally = no_tally; goes_on = λ more. ap (λ q. perform (meant w) wait q (state l no_tally more)) e }
 begins_is w p (Including trees title sc) l e = record { tally = no_tally; goes_on = λ more. ap (λ q. perform (meant w) wait q (state l no_tally more)) e }
-
--- for the callers: the text of an event
-pub text_of_event : (e : Event (Unit {0}) Job (List ℕ)) (x : List ℕ) (l : Left) → Comes e x l → text_in e ≡ x
-text_of_event (Ended y m) x l h = h.0
-text_of_event (Spent w m) x l h = absurd h
-text_of_event (Asked q m) x l h = absurd h
 
 -- the point that a run comes to
 at_point : (w : Setting) (p q : Page) (work : Work) (first l l' : Left) (given : List (Reply (List ℕ))) → AtPoint w p work first given l → Leads w p l q l' → AtPoint w q work first given l'

@@ -1,5 +1,5 @@
 -- What a forest of the code stands for.
-use Rattle.std.specs.Prelude.{◌≡◌, ℕ, ◌+◌, ◌-◌, ◌<◌, ◌≤◌, List, [], take, drop, Option, Some, None}
+use Rattle.std.specs.Prelude.{◌≡◌, ℕ, ◌+◌, ◌-◌, ◌<◌, List, [], take, drop, Option, Some, None}
 use Rattle.wiki_markup.specs.declared.marked.Node.{Node}
 use Rattle.wiki_markup.specs.declared.marked.NodeKind.{NodeKind}
 use Rattle.wiki_markup.specs.declared.marked.NodeKind.TheVariants.{Text as TextKind, Equals as EqualsKind, Construct as ConstructKind, Parameter as ParameterKind, Part as PartKind}

@@ -1,5 +1,5 @@
 -- What an expander stands for: the rest of its run.
-use Rattle.std.specs.Prelude.{◌≡◌, ℕ, ◌+◌, Bool, cond, List, [], ◌∷◌, ◌++◌, length, codes, decimal, Option, Some, None}
+use Rattle.std.specs.Prelude.{◌≡◌, ℕ, ◌+◌, cond, List, [], ◌∷◌, ◌++◌, length, codes, decimal}
 use Rattle.wk_base.specs.Space.{trim}
 use Rattle.wk_base.specs.declared.left.Left.{Left}
 use Rattle.wk_base.specs.declared.title.Title.{Title}
@@ -7,7 +7,6 @@ use Rattle.wk_base.specs.declared.title.Namespace.TheVariants.{Module}
 use Rattle.wiki_markup.specs.Trees.{Trees}
 use Rattle.mw_frame.specs.declared.scene.Arg.{Arg}
 use Rattle.mw_frame.specs.declared.scene.Scene.{Scene}
-use Rattle.mw_frame.specs.declared.scene.Job.{Job}
 use Rattle.page_run.specs.Run.{Run, TakeBytes, LeaveDepth, LeaveTemplate, Ends, Uses}
 use Rattle.page_run.specs.Part.{open_or}
 use Rattle.page_run.specs.State.{Tally, Reply, State}

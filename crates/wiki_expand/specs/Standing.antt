@@ -1,9 +1,8 @@
 -- An expander at a point of a run.
-use Rattle.std.specs.Prelude.{◌≡◌, ℕ, ◌+◌, ◌*◌, ◌<◌, ◌≤◌, List, [], ◌∷◌, ◌++◌, Option, Some, None, IsSome, option_map}
+use Rattle.std.specs.Prelude.{◌≡◌, ℕ, ◌+◌, ◌<◌, ◌≤◌, List, [], ◌∷◌, ◌++◌, Option, Some, None, IsSome, option_map}
 use Rattle.wk_base.specs.declared.left.Left.{Left}
 use Rattle.wk_base.specs.declared.title.Title.{Title}
 use Rattle.mw_frame.specs.declared.scene.Scene.{Scene}
-use Rattle.mw_frame.specs.declared.scene.Job.{Job}
 use Rattle.mw_frame.specs.Scenes.{HaveNames}
 use Rattle.wiki_markup.specs.Trees.{Trees}
 use Rattle.page_run.specs.Run.{Run, Ends}
@@ -12,15 +11,14 @@ use Rattle.page_run.specs.Perform.{perform, wait}
 use Rattle.expand_meaning.specs.Places.{trees_at}
 use Rattle.expand_meaning.specs.Expand.{Setting, Page, expand, body, meant}
 use Rattle.expand_meaning.specs.Outcome.{Work, Reading, Including, next_event, Comes, Asks}
-use Rattle.wiki_expand.specs.Pages.{Pages, find_page, direct_in, included_in, setting_in}
+use Rattle.wiki_expand.specs.Pages.{Pages, find_page, direct_in, included_in}
 use Rattle.wiki_expand.specs.Forests.{trees_in}
 use Rattle.wiki_expand.specs.Points.{wiki_setting, plug, point, run_at, waiting as waiting_in, scene_in, state, Leads}
 use Rattle.wiki_expand.specs.declared.frame.Wiki.{Wiki}
 use Rattle.wiki_expand.specs.declared.frame.Machine.{Machine}
-use Rattle.wiki_expand.specs.Weights.{levels, bodies, chances, allowed}
+use Rattle.wiki_expand.specs.Weights.{levels, bodies, allowed}
 use Rattle.wiki_expand.specs.Asked.{HasModule}
 use Rattle.wiki_expand.specs.declared.frame.Frame.{Frame}
-use Rattle.wiki_expand.specs.declared.frame.Focus.{Focus}
 use Rattle.wiki_expand.specs.declared.frame.Pause.{Pause}
 use Rattle.wiki_expand.specs.declared.frame.Pause.TheVariants.{Deeper as PausesDeeper, Asks as PausesAsking, Ended as PausesEnded}
 use Rattle.wiki_expand.specs.declared.expander.Source.{Source}

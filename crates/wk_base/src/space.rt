@@ -17,7 +17,8 @@ pub fn trim(text: &[u8]) -> &[u8]
     trim_end(trim_start(text))
 }
 
-fn trim_start(mut text: &[u8]) -> &[u8]
+/// The text without the white space at its start.
+pub fn trim_start(mut text: &[u8]) -> &[u8]
     ensures { result.now ≡ trim_start text.now }
 {
     while let [first, rest @ ..] = text
@@ -28,7 +29,8 @@ fn trim_start(mut text: &[u8]) -> &[u8]
     text
 }
 
-fn trim_end(mut text: &[u8]) -> &[u8]
+/// The text without the white space at its end.
+pub fn trim_end(mut text: &[u8]) -> &[u8]
     ensures { result.now ≡ trim_end text.now }
 {
     while let [rest @ .., last] = text

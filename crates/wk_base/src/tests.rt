@@ -1,5 +1,5 @@
 //! Each public call once, with ample memory.
-use crate::space::{is_white, trim};
+use crate::space::{is_white, trim, trim_end, trim_start};
 use crate::{Bytes, Left, Limits, List, Namespace, Title};
 use std::test::Fail;
 
@@ -81,6 +81,8 @@ fn white_space_is_taken_off_both_ends(rt: HostRuntime) -> Result<(), Fail> {
     for (text, expected) in cases {
         assert_eq!(rt; trim(text), expected);
     }
+    assert!(rt; trim_start(b" a ") == b"a ".as_slice());
+    assert!(rt; trim_end(b" a ") == b" a".as_slice());
     Ok(())
 }
 

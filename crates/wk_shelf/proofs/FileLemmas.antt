@@ -11,12 +11,6 @@ use Rattle.std.specs.Prelude.{if◌then◌else◌}
 use Rattle.wk_shelf.specs.Files.{StoredFile, names_in, all_differ}
 use Rattle.wk_shelf.specs.MemoryFiles.{file_of, same_place, are_files}
 
--- what is left of files that can be held can be held
-pub are_files-drop : (k : ℕ) (files : List StoredFile) → are_files files ≡ true → are_files (drop k files) ≡ true
-are_files-drop zero files h = h
-are_files-drop (suc k) [] h = h
-are_files-drop (suc k) (f ∷ fs) h = are_files-drop k fs (and_parts _ _ h).1
-
 not_both : (a b : Bool) → a ≡ true → (a && b) ≡ false → b ≡ false
 not_both true b e h = h
 not_both false b e h = cc

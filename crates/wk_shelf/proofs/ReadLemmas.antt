@@ -93,11 +93,6 @@ named_files folder held names = map (file_at folder held) (map string_bytes name
 file_is : (folder : List ℕ) (held : List StoredFile) (names : List (String Global)) (i : ℕ) (name : String Global) → name ≡ get_or names i name → file_at folder held (string_bytes name) ≡ get_or (named_files folder held names) i (file_at folder held (string_bytes name))
 file_is folder held names i name is = ap (file_at folder held) (name_at names i name is) ∙ sym (get_or-map (file_at folder held) (map string_bytes names) i (string_bytes name))
 
--- before the first, nothing was read
-pub none_read : (told : Option (List StoredFile)) (folder : List ℕ) (names : List (String Global)) → IfSome told (λ held. ReadSoFar (named_files folder held names) 0 [] 0)
-none_read None folder names = tt
-none_read (Some held) folder names = record { pages_are = refl; total_is = refl; rest = refl }
-
 -- the fault of the file that is read is the first
 pub one_fault : (told : Option (List StoredFile)) (line : Option (List ℕ)) (folder : List ℕ) (names : List (String Global)) (i : ℕ) (pages : List FolderPage) (total : ℕ) (name : String Global) → i < length names → name ≡ get_or names i name → IfSome told (λ held. ReadSoFar (named_files folder held names) i pages total) → IfSome line (λ l. IfSome told (λ held. size_fault_after total (file_at folder held (string_bytes name)) ≡ Some l)) → IfSome line (λ l. IfSome told (λ held. first_fault size_fault [] (named_files folder held names) ≡ Some l))
 one_fault told None folder names i pages total name low is h fault = tt

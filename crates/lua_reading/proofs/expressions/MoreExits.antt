@@ -1,5 +1,5 @@
 -- The lemmas as the exits of the code want them: for functions, tables, prefix expressions and lists.
-use Rattle.std.proofs.Common.{◌≡◌, ◌≢◌, ℕ, zero, suc, [], ◌∷◌, ◌++◌, ◌+◌, ◌<◌, ◌≤◌, max, Bool, true, false, List, length, refl, sym, ap, subst, ◌∙◌, inl, inr, le_refl, arith, true≢false}
+use Rattle.std.proofs.Common.{◌≡◌, ◌≢◌, ℕ, zero, suc, [], ◌∷◌, ◌++◌, ◌+◌, ◌<◌, ◌≤◌, max, Bool, true, false, List, length, refl, sym, ap, subst, ◌∙◌, inl, inr, arith, true≢false}
 use Rattle.lua_lexer.specs.declared.token.Token.{Token}
 use Rattle.lua_syntax.specs.declared.Expr.{Expr}
 use Rattle.lua_grammar.specs.declared.TokenClass.{TokenClass}
@@ -14,8 +14,8 @@ use Rattle.lua_reading.specs.declared.answer.Fault.{Fault}
 use Rattle.lua_reading.specs.declared.answer.Fault.TheVariants.{At, NoMemory}
 use Rattle.lua_reading.specs.Parsing.{Lang, Below, ReadsTree, ReadsFault, HasOneEnd, exp_lang, prefix_lang, args_lang, all_lang, fields_lang, nothing, goes_on, exps_goes, fields_goes, operand_lang, ReadsOperand, ReadsPrefix, ReadsExp}
 use Rattle.lua_reading.specs.Answers.{IfFault, ReadsNonEmpty, primary_lang, suffix_lang, name_lang, body_lang, field_lang, field_goes, one_field}
-use Rattle.lua_reading.proofs.pieces.Steps.{Kind, Done, Word, Under, Left, Follows, all_read, under_step, under_fails, word_step, word_fails, named_step, named_fails, follows_word, follows_nothing, start}
-use Rattle.lua_reading.proofs.pieces.Kinds.{exp_kind, args_kind, all_kind, name_kind, fields_kind, body_kind}
+use Rattle.lua_reading.proofs.pieces.Steps.{Kind, Done, Word, Under, Left, Follows, all_read, under_step, under_fails, word_step, word_fails, named_step, named_fails, follows_word, follows_nothing}
+use Rattle.lua_reading.proofs.pieces.Kinds.{exp_kind, args_kind, name_kind, fields_kind, body_kind}
 use Rattle.lua_reading.proofs.expressions.Operands.{operand_reading}
 use Rattle.lua_reading.proofs.expressions.Atoms.{table_starts, function_starts, fits_of}
 use Rattle.lua_reading.proofs.levels.Suffixes.{IsArgs, Chain, chain_begins, primary_fails, chain_ends, chain_goes_on, chain_fails, chain_deep, dot_starts, bracket_starts, colon_starts, call_starts, suffix_can, suffix_room}

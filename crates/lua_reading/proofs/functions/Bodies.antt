@@ -8,7 +8,7 @@ use Rattle.lua_grammar.specs.declared.Context.{Context}
 use Rattle.lua_grammar.specs.Tokens.{class_at, tok_at, bytes_of}
 use Rattle.lua_syntax.specs.Tree.{Fun, Block, Lambda}
 use Rattle.lua_grammar.specs.Grammar.{given_tokens, word, text, in_function, Params, SpellsFun, SpellsMethod}
-use Rattle.lua_reading.specs.Parsing.{Lang, Stops, Below, ReadsTree, ReadsFault, nothing}
+use Rattle.lua_reading.specs.Parsing.{Lang, Stops, ReadsTree, ReadsFault, nothing}
 use Rattle.lua_reading.specs.Answers.{Parameters, params_lang, params_goes, body_lang}
 use Rattle.lua_reading.proofs.pieces.Steps.{CanOpen, Kind, Rest, Done, Word, Named, Here, Either, Reads, Left, follows_done, word_step, word_fails, named_step, first_way, second_way, word_closed, done_closed, Closed, inline, all_read}
 use Rattle.lua_reading.proofs.pieces.Kinds.{params_kind, block_kind}

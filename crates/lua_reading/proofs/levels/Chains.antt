@@ -1,8 +1,6 @@
 -- The left side of operators, indexes and calls: what has been read stands at the left end of what it becomes.
 use Rattle.std.proofs.Common.{◌≡◌, ℕ, suc, ◌<◌, ◌≤◌, ◌⊎◌, Bool, true, false, cond, nat_lt, List, refl, subst, inl, inr, le_trans, le_refl, arith, lt-ltb}
 use Rattle.lua_lexer.specs.declared.token.Token.{Token}
-use Rattle.lua_syntax.specs.declared.BinaryOp.{BinaryOp}
-use Rattle.lua_syntax.specs.declared.BinaryOp.TheVariants.{Or as OrOp, And as AndOp, Lt, Gt, Le, Ge, Ne, Eq, Concat, Add, Sub, Mul, Div, Mod, Pow}
 use Rattle.lua_grammar.specs.declared.TokenClass.TheVariants.{Name, LeftBracket, RightBracket, Colon}
 use Rattle.lua_grammar.specs.declared.Context.{Context}
 use Rattle.lua_syntax.specs.Tree.{Exp, NilE, TrueE, FalseE, NumberE, TextE, DotsE, FunctionE, NameE, IndexE, CallE, MethodE, TableE, BinaryE, UnaryE, ParenE}

@@ -5,9 +5,9 @@ use Rattle.lua_grammar.specs.declared.TokenClass.{TokenClass}
 use Rattle.lua_grammar.specs.declared.Context.{Context}
 use Rattle.lua_grammar.specs.Tokens.{tok_at}
 use Rattle.lua_syntax.specs.Tree.{Exp, Exps, Fields, Fun, Block, Arms, Stat, NameE, TextE, NoExp, MoreExp, NoField, Item, Lambda, NoStat, NoArm, Arm, BreakS}
-use Rattle.lua_grammar.specs.Grammar.{given_tokens, suffix_goes, Spells, SpellsArgs, SpellsAll, MoreExps, SpellsFields, SpellsFun, SpellsBlock, SpellsArms, MoreArms, SpellsStat}
-use Rattle.lua_reading.specs.Parsing.{high, exp_lang, prefix_lang, args_lang, all_lang, more_lang, fields_lang, block_lang, arms_lang, more_arms_lang, stat_lang, nothing, goes_on, exps_goes, names_goes, fields_goes, block_goes, goes_after, arms_goes, operand_lang}
-use Rattle.lua_reading.specs.Answers.{name_lang, names_lang, params_lang, Parameters, params_goes, body_lang, field_lang, field_goes}
+use Rattle.lua_grammar.specs.Grammar.{given_tokens, Spells, SpellsArgs, SpellsAll, SpellsFields, SpellsFun, SpellsBlock, SpellsArms, SpellsStat}
+use Rattle.lua_reading.specs.Parsing.{high, exp_lang, args_lang, all_lang, fields_lang, block_lang, arms_lang, stat_lang, nothing, goes_on, exps_goes, fields_goes, block_goes, goes_after, arms_goes, operand_lang}
+use Rattle.lua_reading.specs.Answers.{name_lang, params_lang, Parameters, params_goes, body_lang, field_lang, field_goes}
 use Rattle.lua_reading.proofs.pieces.Steps.{CanOpen, Kind}
 
 -- A name that is yet to come.

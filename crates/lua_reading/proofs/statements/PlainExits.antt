@@ -1,5 +1,5 @@
 -- The exits of statements: a chain of steps each.
-use Rattle.std.proofs.Common.{◌≡◌, ◌≢◌, ℕ, suc, ◌-◌, ◌+◌, ◌<◌, ◌≤◌, max, Bool, true, false, not, List, length, refl, sym, ap, subst, ◌∙◌, inl, inr, arith, true≢false, le_refl}
+use Rattle.std.proofs.Common.{◌≡◌, ◌≢◌, ℕ, suc, ◌-◌, ◌+◌, ◌<◌, ◌≤◌, max, Bool, true, false, List, length, refl, sym, ap, subst, ◌∙◌, inl, inr, arith, true≢false, le_refl}
 use Rattle.lua_lexer.specs.declared.token.Token.{Token}
 use Rattle.lua_grammar.specs.declared.TokenClass.{TokenClass}
 use Rattle.lua_grammar.specs.declared.TokenClass.TheVariants.{Break, Do, Else, Elseif, End, Eof, Repeat, Return, Until, While, Assign, Comma, Semicolon}

@@ -1,4 +1,4 @@
-use Rattle.std.proofs.Common.{◌≡◌, Bool, Option, Some, None, List, ℕ, if◌then◌else◌, ap, sym, ◌∙◌}
+use Rattle.std.proofs.Common.{Bool, Some, None, ℕ, if◌then◌else◌, ap, sym, ◌∙◌}
 use Rattle.expand_texts.proofs.KindLaws.{behind_found}
 use Rattle.expand_texts.proofs.kind.behind.Goals as goal
 

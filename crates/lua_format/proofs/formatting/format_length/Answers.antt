@@ -1,4 +1,4 @@
-use Rattle.std.proofs.Common.{rules, arith, ℕ, ◌≡◌, ◌+◌, ◌≤◌, length}
+use Rattle.std.proofs.Common.{rules, arith, ℕ, ◌≡◌, length}
 use Rattle.lua_format.specs.Format.{formatted}
 use Rattle.lua_format.specs.Pieces.{piece_bytes}
 use Rattle.lua_format.proofs.Formats.{length_done, length_more}

@@ -1,4 +1,4 @@
-use Rattle.std.proofs.Common.{◌≡◌, ◌≤◌, ◌+◌, length}
+use Rattle.std.proofs.Common.{◌≤◌, ◌+◌, length}
 use Rattle.lua_format.specs.Format.{formatted}
 use Rattle.lua_format.proofs.Formats.{Counts}
 use Rattle.lua_format.proofs.formatting.format_length.Given as goal

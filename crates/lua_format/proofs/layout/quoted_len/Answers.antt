@@ -1,4 +1,4 @@
-use Rattle.lua_format.proofs.Fills.{quoted_end, quoted_more}
+use Rattle.lua_format.proofs.Fills.{quoted_end}
 use Rattle.lua_format.proofs.layout.quoted_len.Goals as goal
 
 pub returns-in_default : goal.returns-in_default

@@ -1,4 +1,4 @@
-use Rattle.std.proofs.Common.{◌≡◌, ◌+◌, drop, sym, ap, ◌∙◌}
+use Rattle.std.proofs.Common.{◌+◌, drop, sym, ap, ◌∙◌}
 use Rattle.lua_heap.specs.Heap.{table_at}
 use Rattle.lua_walk.specs.Order.{with_value, with_entries}
 use Rattle.lua_graph.specs.Taken.{places}

@@ -1,4 +1,4 @@
-use Rattle.std.proofs.Common.{◌≡◌, ◌∙◌, ◌++◌, ◌∷◌, [], take, get_or, ap, sym}
+use Rattle.std.proofs.Common.{◌≡◌, ◌∙◌, ◌∷◌, [], take, get_or, ap, sym}
 use Rattle.std.proofs.lemmas.List.{take_more}
 use Rattle.mw_frame.specs.declared.scene.Arg.{Arg}
 use Rattle.expand_meaning.specs.Expand.{put}

@@ -1,4 +1,4 @@
-use Rattle.std.proofs.Common.{rules, arith, sym, ap, ◌∙◌, ◌+◌, ◌-◌, Some}
+use Rattle.std.proofs.Common.{rules, arith, sym, ◌∙◌, ◌+◌, ◌-◌}
 use Rattle.lua_table.proofs.FrontLemmas.{at_front, at_rest, past_end}
 use Rattle.lua_table.proofs.entries.Entries.at.Goals as goal
 

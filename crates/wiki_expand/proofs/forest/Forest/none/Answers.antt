@@ -1,4 +1,4 @@
-use Rattle.std.proofs.Common.{◌∙◌, sym, arith}
+use Rattle.std.proofs.Common.{arith}
 use Rattle.wiki_expand.proofs.ForestLaws.{over_is}
 use Rattle.wiki_expand.proofs.forest.Forest.none.Goals as goal
 

@@ -1,4 +1,4 @@
-use Rattle.std.proofs.Common.{◌≡◌, ◌∙◌, ap, sym}
+use Rattle.std.proofs.Common.{◌∙◌, ap, sym}
 use Rattle.wiki_markup.specs.Trees.{text}
 use Rattle.expand_meaning.specs.Places.{planted}
 use Rattle.wiki_expand.specs.Forests.{trees_in, text_in}

@@ -1,4 +1,4 @@
-use Rattle.std.proofs.Common.{◌∙◌, ap}
+use Rattle.std.proofs.Common.{◌∙◌}
 use Rattle.wk_base.specs.Space.{trim}
 use Rattle.wk_base.specs.declared.title.Namespace.TheVariants.{Module}
 use Rattle.expand_meaning.specs.Kind.{title_named}

@@ -1,5 +1,5 @@
 use Rattle.std.proofs.Common.{◌≡◌, ◌≤◌, ◌+◌, ◌*◌, ap, arith}
-use Rattle.wiki_expand.specs.Points.{Leads, wiki_setting, run_at, resumed}
+use Rattle.wiki_expand.specs.Points.{wiki_setting}
 use Rattle.wiki_expand.specs.Weights.{chance, chances, allowed}
 use Rattle.wiki_expand.proofs.Moves.{leads_on, keeps_on}
 use Rattle.wiki_expand.proofs.frame.Machine.run.Goals as goal
