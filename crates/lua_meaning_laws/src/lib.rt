@@ -2,6 +2,8 @@
 //! definitions of `lua_meaning`.
 //!
 //! - `laws`: what the run of a data module asks
+//!
+//! Of the definitions read `specs/Laws.antt` first.
 #![tactic(auto)]
 
 pub mod laws;

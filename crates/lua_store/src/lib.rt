@@ -9,6 +9,8 @@
 //! - `vectors`: changes of a vector
 //! - `closure`, `markup`: closures, and objects of `mw.html`
 //! - `closures`: the closures of a store, with the numbers of their invocations
+//!
+//! Of the definitions read `specs/Seen.antt` first: what is seen of a store, which is a heap of `lua_heap` and its texts.
 #![tactic(auto)]
 
 pub mod closure;

@@ -3,6 +3,8 @@
 //! - `table`: a table, its calls and their refusals
 //! - `entries`: the list of its entries, of which the keys 1, 2, 3 and so on may stand in an array
 //! - `holes`: which of the keys 1, 2, 3 and so on are cleared, and the first of them
+//!
+//! Of the definitions read `specs/Entries.antt` first: a table as the list of its entries.
 #![tactic(auto)]
 
 ghost use Rattle.std.specs.Prelude.{◌≡◌, ◌↔◌, ℤ, Option, Some, None, IsTrue, true};
