@@ -1,12 +1,14 @@
 //! The top call over a shelf and sinks in memory, by tables.
 ghost use Rattle.std.specs.Prelude.{◌≡◌, None};
 
-use crate::case_tests::fixed_seed;
+use crate::case_tests::{Ran, fixed_seed};
 use crate::wiki_app::run;
 use std::alloc::{AllocError, Global};
+use std::hash::RandomState;
 use std::marker::Brand;
 use std::sync::ledger::{Blank, Ledger};
 use std::test::Fail;
+use std::thread::Threads;
 use wk_base::{Bytes, List, NoMemory, Steps};
 use wk_shelf::{MemoryFile, MemoryShelf, MemorySink, Shelf, ShelfFault, can_hold};
 
@@ -23,7 +25,7 @@ struct Case<'c> {
     err: &'c [u8],
 }
 
-const NEVER: u64 = 9;
+const NEVER: u64 = u64::MAX;
 
 const USAGE: &[u8] = b"usage: wikiexpand expand DIR PAGE [PAGE ...] | expand DIR --all | demo N\n";
 
@@ -51,6 +53,40 @@ fn one(alloc: Global, number: u64) -> Result<List<u64>, NoMemory> {
     let mut numbers = List::new(alloc);
     numbers.push(number)?;
     Ok(numbers)
+}
+
+/// Runs the words over a shelf, where the sinks' calls of these numbers fail.
+fn ran_over<R: Threads + Sync, S: Shelf>(
+    rt: &R,
+    alloc: Global,
+    seed: RandomState,
+    words: &[&str],
+    shelf: &mut S,
+    out_fails: u64,
+    err_fails: u64,
+) -> Result<Ran, NoMemory> {
+    let words = words_of(alloc, words)?;
+    let mut out = MemorySink::new(alloc, one(alloc, out_fails)?, 100)?;
+    let mut err = MemorySink::new(alloc, one(alloc, err_fails)?, 100)?;
+    let status = run(rt, alloc, seed, words.as_slice(), shelf, &mut out, &mut err);
+    Ok(Ran { status, out, err })
+}
+
+/// Runs the words over these files; a folder that a shelf in memory can't hold counts as want of memory.
+fn ran_in_memory<R: Threads + Sync>(
+    rt: &R,
+    alloc: Global,
+    seed: RandomState,
+    words: &[&str],
+    files: List<MemoryFile>,
+    fails: [u64; 3],
+) -> Result<Ran, NoMemory> {
+    if !can_hold(files.as_slice()) {
+        return Err(NoMemory);
+    }
+    let [shelf_fails, out_fails, err_fails] = fails;
+    let mut shelf = MemoryShelf::new(alloc, files, one(alloc, shelf_fails)?);
+    ran_over(rt, alloc, seed, words, &mut shelf, out_fails, err_fails)
 }
 
 const TWO: &[(&str, &[u8])] = &[("P.wiki", b"text\n"), ("Talk:q.wiki", b"")];
@@ -246,24 +282,10 @@ const CASES: &[Case<'static>] = &[
 #[test]
 fn each_run_has_its_status_and_its_bytes(rt: HostRuntime) -> Result<(), Fail> {
     for case in CASES {
-        let words = words_of(rt.alloc(), case.words)?;
         let files = files_of(rt.alloc(), case.files)?;
-        assert!(rt; can_hold(files.as_slice()));
-        let mut shelf = MemoryShelf::new(rt.alloc(), files, one(rt.alloc(), case.shelf_fails)?);
-        let mut out = MemorySink::new(rt.alloc(), one(rt.alloc(), case.out_fails)?, 100)?;
-        let mut err = MemorySink::new(rt.alloc(), one(rt.alloc(), case.err_fails)?, 100)?;
-        let status = run(
-            &rt,
-            rt.alloc(),
-            fixed_seed()?,
-            words.as_slice(),
-            &mut shelf,
-            &mut out,
-            &mut err,
-        );
-        assert_eq!(rt; status, case.status, "{:?}", case.words);
-        assert_eq!(rt; out.bytes(), case.out, "{:?}", case.words);
-        assert_eq!(rt; err.bytes(), case.err, "{:?}", case.words);
+        let fails = [case.shelf_fails, case.out_fails, case.err_fails];
+        let ran = ran_in_memory(&rt, rt.alloc(), fixed_seed()?, case.words, files, fails)?;
+        assert!(rt; ran.is(case.status, case.out, case.err), "{:?}", case.words);
     }
     Ok(())
 }
@@ -310,20 +332,18 @@ fn a_folder_has_a_most_number_of_pages(rt: HostRuntime) -> Result<(), Fail> {
         (100_001, 3, b"wikiexpand: source fault: too many files\n"),
     ];
     for (pages, expected, message) in cases {
-        let words = words_of(rt.alloc(), &["expand", "d", "P"])?;
-        let mut out = MemorySink::new(rt.alloc(), List::new(rt.alloc()), 0)?;
-        let mut err = MemorySink::new(rt.alloc(), List::new(rt.alloc()), 100)?;
-        let status = run(
+        let mut shelf = Crowd { pages };
+        let words = ["expand", "d", "P"];
+        let ran = ran_over(
             &rt,
             rt.alloc(),
             fixed_seed()?,
-            words.as_slice(),
-            &mut Crowd { pages },
-            &mut out,
-            &mut err,
-        );
-        assert_eq!(rt; status, expected);
-        assert_eq!(rt; err.bytes(), message);
+            &words,
+            &mut shelf,
+            NEVER,
+            NEVER,
+        )?;
+        assert!(rt; ran.is(expected, b"", message));
     }
     Ok(())
 }
@@ -350,23 +370,10 @@ fn a_folder_has_a_most_number_of_bytes(rt: HostRuntime) -> Result<(), Fail> {
         (33, 3, b"wikiexpand: source fault: too many bytes\n"),
     ];
     for (count, expected, message) in cases {
-        let words = words_of(rt.alloc(), &["expand", "d", "P9"])?;
         let files = full_pages(rt.alloc(), count, 2_097_152)?;
-        assert!(rt; can_hold(files.as_slice()));
-        let mut shelf = MemoryShelf::new(rt.alloc(), files, List::new(rt.alloc()));
-        let mut out = MemorySink::new(rt.alloc(), List::new(rt.alloc()), 0)?;
-        let mut err = MemorySink::new(rt.alloc(), List::new(rt.alloc()), 100)?;
-        let status = run(
-            &rt,
-            rt.alloc(),
-            fixed_seed()?,
-            words.as_slice(),
-            &mut shelf,
-            &mut out,
-            &mut err,
-        );
-        assert_eq!(rt; status, expected);
-        assert_eq!(rt; err.bytes(), message);
+        let words = ["expand", "d", "P9"];
+        let ran = ran_in_memory(&rt, rt.alloc(), fixed_seed()?, &words, files, [NEVER; 3])?;
+        assert!(rt; ran.is(expected, b"", message));
     }
     Ok(())
 }
