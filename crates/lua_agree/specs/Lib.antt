@@ -1,0 +1,9 @@
+pub mod Variables
+pub mod Values
+pub mod Functions
+pub mod Rests
+pub mod Agree
+pub mod Follows
+pub mod Laws
+pub mod Met
+pub mod Named

@@ -1,0 +1,1 @@
+//! Laws. Each is the contract of a function that does nothing.
