@@ -13,7 +13,7 @@ use Rattle.lua_graph.proofs.Joining.{all_set}
 abbrev Differs : Value → Value × Value → Type 0
 Differs key e = same key e.0 ≡ false
 
-abbrev IsLive : Value × Value → Type 0
+abbrev pub IsLive : Value × Value → Type 0
 IsLive e = is_nil e.1 ≡ false
 
 turned : (v w : Value) → same v w ≡ false → same w v ≡ false
@@ -44,7 +44,7 @@ unfolding IsDistinct
 apart [] fs e d = tt
 apart (x ∷ es) fs e d = (turned x.0 e.0 (picked (λ k. same x.0 k ≡ false) es fs e d.0), apart es fs e d.1)
 
-all_set-is : (done es : Entries) → AllByRecursion IsLive es → IsDistinct same (keys_of (done ++ es)) → all_set done es ≡ done ++ es
+pub all_set-is : (done es : Entries) → AllByRecursion IsLive es → IsDistinct same (keys_of (done ++ es)) → all_set done es ≡ done ++ es
 all_set-is done [] h d = sym (append-nil done)
 all_set-is done (e ∷ es) h d =
     ap (λ l. all_set l es) (set_new done e.0 e.1 (apart done es e d) h.0)

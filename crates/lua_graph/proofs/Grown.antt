@@ -39,9 +39,6 @@ fault_to r q HasMetatable f h = f walk.HasMetatable h
 fault_to r q BadKey f h = f walk.BadKey h
 fault_to r q NoMemory f h = tt
 
-pub no_memory : {A : Type 0} (r : Checked A) (e : DataFault) → e ≡ NoMemory → IsFault r e
-no_memory r e is = subst (IsFault r) (sym is) tt
-
 -- MORE TEXTS
 pub grows_none : (s : StoreView) (ids : List TextId) → Grows s ids ids
 grows_none s ids = record { more = []; is = sym (append-nil ids); of = λ a. a }
@@ -101,10 +98,6 @@ module _ (s : StoreView) (a b : List TextId) (g : Grows s a b) where
   nodes_in (n ∷ ns) h = (entries_in n.entries h.0, nodes_in ns h.1)
 
 -- ITEMS
-pub read_same : (s : StoreView) (ids : List TextId) (r : Checked heap.Value) (i : GraphItem) → r ≡ Ok (plain_item (named s.texts ids) i) → IsTextIn (length ids) i
-    → ((ts : List (List ℕ)) → with_text_of ts (plain_item ts i) ≡ ts) → IsRead s ids ids r i
-read_same s ids r i e p k = record { value = e; placed = p; grows = grows_none s ids; texts = λ d a. sym (k (named s.texts ids)) }
-
 module _ (s : StoreView) (once : IsDistinct bytes_eq s.texts) where
   one_id : (a b : TextId) → IsTextOf s a → IsTextOf s b → bytes_eq (text_at s.texts a.at) (text_at s.texts b.at) ≡ text_id.eq a b
   one_id a b h k = both_ways (bytes_eq (text_at s.texts a.at) (text_at s.texts b.at)) (text_id.eq a b)

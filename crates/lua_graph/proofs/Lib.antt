@@ -6,3 +6,5 @@ pub mod Places
 pub mod Grown
 pub mod Checks
 pub mod Made
+pub mod Costs
+pub mod Copies

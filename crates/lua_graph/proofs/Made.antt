@@ -12,7 +12,8 @@ use Rattle.lua_heap.specs.Reach.{is_there}
 use Rattle.lua_heap.specs.Graph.{IsKey, IsItem, IsDatum, IsGraph}
 use Rattle.lua_walk.specs.Order.{reached}
 use Rattle.lua_walk.specs.Data.{all_ok, node_of, taken}
-use Rattle.lua_walk.proofs.WalkLaws.{taken_is_graph}
+use Rattle.lua_walk.specs.Laws.{IsOrder}
+use Rattle.lua_walk.proofs.WalkLaws.{reached_is_all, taken_is_graph}
 use Rattle.lua_store.specs.declared.ids.TextId.{TextId}
 use Rattle.lua_store.specs.Seen.{StoreView, text_at}
 use Rattle.lua_store.specs.Laws.{NamesWhatIsThere, KeysAreOnce}
@@ -58,6 +59,10 @@ there h n within = go h.tables n within
     go [] n within = absurd (omega (arith, within))
     go (t ∷ ts) zero within = refl
     go (t ∷ ts) (suc n) within = go ts n (omega (arith, within))
+
+-- the order of a table of a store
+pub whole_order : (s : StoreView) (t : ℕ) (order : List ℕ) → t < length s.heap.tables → NamesWhatIsThere s → order ≡ reached s.heap t → IsOrder s.heap t order
+whole_order s t order within names is = subst (IsOrder s.heap t) (sym is) (reached_is_all proc_names (is_there s.heap) s.heap t names (there s.heap t within))
 
 -- of the tables of a table's order, with their texts
 pub made_of : (s : StoreView) (t : ℕ) (order : List ℕ) (before ids : List TextId) (ns : List GraphNode) (bytes : List (List ℕ)) → t < length s.heap.tables → NamesWhatIsThere s → KeysAreOnce s

@@ -79,13 +79,6 @@ pub visit_step : {X : Type 0} (h : Heap X) (n m at t : ℕ) (order next : List �
 visit_step h n m at t order next e there is =
     ap (visit m h (at + 1)) is ∙ ap (λ o. go_on (λ t. visit m h (at + 1) (with_links order (table_at h t))) order o) (sym there) ∙ ap (λ k. visit k h at order) (sym e)
 
-pub visit_end : {X : Type 0} (h : Heap X) (n at : ℕ) (order : List ℕ) → slice_get order at ≡ None → visit n h at order ≡ order
-visit_end h zero at order e = refl
-visit_end h (suc n) at order e = ap (λ o. go_on (λ t. visit n h (at + 1) (with_links order (table_at h t))) order o) e
-
-pub visit_none : {X : Type 0} (h : Heap X) (n at : ℕ) (order : List ℕ) → n ≡ 0 → visit n h at order ≡ order
-visit_none h n at order e = ap (λ k. visit k h at order) e
-
 -- the place that a look-up finds, or how many there are
 place-le_ : (t : ℕ) (xs : List ℕ) (b : Bool) → place_of xs t ≤ length xs → (if b then 0 else suc (place_of xs t)) ≤ suc (length xs)
 place-le_ t xs true h = omega arith

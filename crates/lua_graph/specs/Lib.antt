@@ -1,3 +1,4 @@
+pub mod Copied
 pub mod Plain
 pub mod Put
 pub mod Taken

@@ -2,21 +2,26 @@
 //!
 //! Read `specs/Plain.antt` first.
 //!
+//! - `copying`: copies of a table and of all that it reaches
 //! - `graph`: graphs
 //! - `fault`: why a value is no data
 //! - `order`: the tables that a table reaches, in order of first reach
+//! - `paying`: the steps that a copy costs
 //! - `putting`: a graph is put into a store
 //! - `taking`: a graph is taken out of a store
 #![tactic(auto)]
 
+mod copying;
 pub mod fault;
 pub mod graph;
 mod order;
+mod paying;
 mod putting;
 mod taking;
 #[cfg(test)]
 mod tests;
 
+pub use copying::copy;
 pub use fault::DataFault;
 pub use graph::{Graph, GraphEntry, GraphItem, GraphNode};
 pub use putting::put_in;

@@ -4,7 +4,7 @@ ghost use Rattle.std.specs.List.{AllByRecursion};
 ghost use Rattle.std.specs.Option.{option_map};
 ghost use Rattle.lua_heap.specs.Heap.{table_at};
 ghost use Rattle.lua_walk.specs.Order as walk;
-ghost use Rattle.lua_walk.specs.Order.{with_table, with_value, with_links};
+ghost use Rattle.lua_walk.specs.Order.{place_of, with_table, with_value, with_links};
 ghost use Rattle.lua_store.specs.Seen.{StoreView, seen};
 ghost use Rattle.lua_store.specs.Parts.{IsOf, IsTableOf};
 ghost use Rattle.lua_graph.specs.Taken.{places};
@@ -72,6 +72,16 @@ pub(crate) fn nth(order: &IndexSet<TableId>, at: usize) -> Option<TableId>
     ensures of { (s : StoreView) → AllByRecursion (IsTableOf s) order.now.keys → IfSome result (IsTableOf s) }
 {
     order.get_index(at).copied()
+}
+
+/// The place of a table in the order, or how many there are where it is not among them.
+pub(crate) fn place_of_table(order: &IndexSet<TableId>, table: TableId) -> usize
+    ensures { result ≡ place_of (places order.now.keys) table.at }
+{
+    match order.get_index_of(&table) {
+        Some(at) => at,
+        None => order.len(),
+    }
 }
 
 /// All tables that a table reaches, in order of first reach. Their numbers count up and no module chooses them, so the set

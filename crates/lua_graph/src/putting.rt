@@ -49,7 +49,11 @@ fn names_of(alloc: Global, store: &mut Store, texts: &[Bytes]) -> Result<List<Te
 }
 
 /// So many new tables.
-fn new_tables(alloc: Global, store: &mut Store, count: usize) -> Result<List<TableId>, NoMemory>
+pub(crate) fn new_tables(
+    alloc: Global,
+    store: &mut Store,
+    count: usize,
+) -> Result<List<TableId>, NoMemory>
     ensures put { OnOk result (store.new ≡ record store.old { heap = grown count store.old.heap }) }
     ensures tables { IfOk result (AreTables store.new (length store.old.heap.tables) count) }
     ensures later { OnOk result (IsLater store.old store.new) }

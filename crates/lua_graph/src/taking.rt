@@ -5,7 +5,6 @@ ghost use Rattle.lua_heap.specs.Heap.{table_at};
 ghost use Rattle.lua_heap.specs.Value.{is_nil};
 ghost use Rattle.lua_walk.specs.Data as walk;
 ghost use Rattle.lua_walk.specs.Data.{texts_of};
-ghost use Rattle.lua_walk.specs.Order.{place_of};
 ghost use Rattle.lua_store.specs.declared.value.Value.TheVariants as own;
 ghost use Rattle.lua_store.specs.Seen.{StoreView, seen};
 ghost use Rattle.lua_store.specs.Parts.{IsOf, IsTextOf, IsTableOf};
@@ -15,7 +14,7 @@ ghost use Rattle.lua_graph.specs.Taken.{places, with_id, IsFault, IsRead, IsEntr
 
 use crate::fault::DataFault;
 use crate::graph::{Graph, GraphEntry, GraphItem, GraphNode};
-use crate::order::{entry_at, nth, reached};
+use crate::order::{entry_at, nth, place_of_table, reached};
 use indexmap::IndexSet;
 use lua_store::{Store, TableId, TextId, Value, laws};
 use lua_table::Slot;
@@ -31,16 +30,6 @@ fn place_of_text(texts: &mut IndexSet<TextId>, text: TextId) -> Result<usize, Da
     match texts.insert_full(text) {
         Ok((at, _)) => Ok(at),
         Err(_) => Err(DataFault::NoMemory),
-    }
-}
-
-/// The place of a table in the order, or how many there are where it is not among them.
-fn place_of_table(order: &IndexSet<TableId>, table: TableId) -> usize
-    ensures { result ≡ place_of (places order.now.keys) table.at }
-{
-    match order.get_index_of(&table) {
-        Some(at) => at,
-        None => order.len(),
     }
 }
 

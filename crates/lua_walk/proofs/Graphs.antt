@@ -80,7 +80,7 @@ unfolding IsDistinct
 live-distinct_ e es true d r = r
 live-distinct_ e es false d r = (live-keys (λ k. same e.0 k ≡ false) es d.0, r)
 
-live-distinct : (es : Entries) → IsDistinct same (keys_of es) → IsDistinct same (keys_of (live es))
+pub live-distinct : (es : Entries) → IsDistinct same (keys_of es) → IsDistinct same (keys_of (live es))
 unfolding IsDistinct
 live-distinct [] d = tt
 live-distinct (e ∷ es) d = live-distinct_ e es (is_nil e.1) d (live-distinct es d.1)
