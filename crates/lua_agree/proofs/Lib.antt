@@ -1,0 +1,6 @@
+pub mod Variables
+pub mod Carries
+pub mod Parts
+pub mod Places
+pub mod Ends
+pub mod Index

@@ -1,0 +1,57 @@
+-- THE TABLE OF THE LIBRARY, line by line: each function does the same to two heaps.
+use Rattle.std.proofs.Common.{◌≡◌, List, subst}
+use Rattle.lua_heap.specs.Value.{Value}
+use Rattle.lua_heap.specs.Heap.{Heap}
+use Rattle.lua_heap.specs.Related.{Map, GrowsWith, Each, Same, Stands}
+use Rattle.lua_heap.specs.declared.library.Library.{Library}
+use Rattle.lua_heap.specs.declared.library.Library.TheVariants.{BasicAssert, BasicError, BasicGetMetatable, BasicSetMetatable, BasicIpairs, BasicPairs, BasicNext, BasicPcall, BasicXpcall, BasicRawEqual, BasicRawGet, BasicRawSet, BasicSelect, BasicToNumber, BasicToString, BasicType, BasicUnpack, BasicRequire, MwClone, MwLog, MwGetCurrentTitle, MwLoadData, MwGetCurrentFrame, FrameGetParent, FrameExpandTemplate, FramePreprocess, FrameGetArgument, FrameArgumentPairs, FrameNewChild, FrameGetTitle, FrameExtensionTag, ArgsIndex, ArgumentExpand, StrictIndex, StrictNewIndex, IpairsStep}
+use Rattle.lua_meaning.specs.World.{World}
+use Rattle.lua_meaning.specs.Acts.{Frame}
+use Rattle.lua_meaning.specs.Mw.{get_current_title}
+use Rattle.lua_meaning.specs.Libraries.{Answers, form}
+use Rattle.lua_library_agree.specs.Same.{SameFrame, SameForm, both_answer, both_see, both_call, neither_built}
+use Rattle.lua_library_agree.proofs.Basics.{assert-same, error-same, get_metatable-same, set_metatable-same, raw_equal-same, raw_get-same, raw_set-same, select-same, to_number-same, kind_is-same, unpack-same, next-same}
+use Rattle.lua_library_agree.proofs.FrameTables.{args_index-same, argument_expand-same}
+use Rattle.lua_library_agree.proofs.Methods.{get_current_frame-same, get_title-same, get_parent-same, argument_pairs-same, get_argument-same, preprocess-same, frame_extension_tag-same, expand_template-same, new_child-same}
+use Rattle.lua_library_agree.proofs.MwFunctions.{log-same, strict_index-same, strict_new_index-same, clone-same, get_current_title-same}
+
+module _ {X Y : Type 0} (R : Map → X → Y → Type 0) (up : GrowsWith R) (m : Map) (h : Heap X) (s : Heap Y) (st : Stands R m h s) (world other : World)
+    (vs ws : List Value) (e : Each (Same m) vs ws) (fs gs : List Frame) (ef : Each (SameFrame m) fs gs) where
+  pub all-agree : world.page ≡ other.page → (which : Library) → SameForm R m h s (form world which vs h fs) (form other which ws s gs)
+  all-agree page BasicAssert = both_answer _ _ (assert-same R m h s st vs ws e)
+  all-agree page BasicError = both_answer _ _ (error-same R m h s st vs ws e)
+  all-agree page BasicGetMetatable = both_answer _ _ (get_metatable-same R m h s st vs ws e)
+  all-agree page BasicSetMetatable = both_answer _ _ (set_metatable-same R m h s st vs ws e)
+  all-agree page BasicIpairs = both_call _
+  all-agree page BasicPairs = both_call _
+  all-agree page BasicNext = both_answer _ _ (next-same R m h s st vs ws e)
+  all-agree page BasicPcall = both_call _
+  all-agree page BasicXpcall = both_call _
+  all-agree page BasicRawEqual = both_answer _ _ (raw_equal-same R m h s st vs ws e)
+  all-agree page BasicRawGet = both_answer _ _ (raw_get-same R m h s st vs ws e)
+  all-agree page BasicRawSet = both_answer _ _ (raw_set-same R m h s st vs ws e)
+  all-agree page BasicSelect = both_answer _ _ (select-same R m h s st vs ws e)
+  all-agree page BasicToNumber = both_answer _ _ (to_number-same R m h s st vs ws e)
+  all-agree page BasicToString = both_call _
+  all-agree page BasicType = both_answer _ _ (kind_is-same R m h s st vs ws e)
+  all-agree page BasicUnpack = both_answer _ _ (unpack-same R m h s st vs ws e)
+  all-agree page BasicRequire = both_call _
+  all-agree page MwClone = both_answer _ _ (clone-same R m h s st up vs ws e)
+  all-agree page MwLog = both_answer _ _ (log-same R m h s st vs ws)
+  all-agree page MwGetCurrentTitle = subst (λ p. SameForm R m h s (Answers (get_current_title world.page h)) (Answers (get_current_title p s))) page (both_answer _ _ (get_current_title-same R m h s st up world.page))
+  all-agree page MwLoadData = both_call _
+  all-agree page MwGetCurrentFrame = both_see _ _ (get_current_frame-same R up m h s st fs gs ef)
+  all-agree page FrameGetParent = both_see _ _ (get_parent-same R up m h s st fs gs ef vs ws e)
+  all-agree page FrameExpandTemplate = both_see _ _ (expand_template-same R up m h s st fs gs ef vs ws e)
+  all-agree page FramePreprocess = both_see _ _ (preprocess-same R up m h s st fs gs ef vs ws e)
+  all-agree page FrameGetArgument = both_see _ _ (get_argument-same R up m h s st fs gs ef vs ws e)
+  all-agree page FrameArgumentPairs = both_see _ _ (argument_pairs-same R up m h s st fs gs ef vs ws e)
+  all-agree page FrameNewChild = both_see _ _ (new_child-same R up m h s st fs gs ef vs ws e)
+  all-agree page FrameGetTitle = both_see _ _ (get_title-same R up m h s st fs gs ef vs ws e)
+  all-agree page FrameExtensionTag = both_see _ _ (frame_extension_tag-same R up m h s st fs gs ef vs ws e)
+  all-agree page ArgsIndex = both_answer _ _ (args_index-same R m h s st vs ws e)
+  all-agree page ArgumentExpand = both_answer _ _ (argument_expand-same R m h s st vs ws e)
+  all-agree page StrictIndex = both_answer _ _ (strict_index-same R m h s st vs ws e)
+  all-agree page StrictNewIndex = both_answer _ _ (strict_new_index-same R m h s st vs ws e)
+  all-agree page IpairsStep = both_call _
+  all-agree page which = neither_built

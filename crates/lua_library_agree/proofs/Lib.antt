@@ -1,0 +1,11 @@
+pub mod Values
+pub mod Heaps
+pub mod Basics
+pub mod FrameTables
+pub mod Tags
+pub mod Methods
+pub mod MwFunctions
+pub mod Agreements
+pub mod Homes
+pub mod Joins
+pub mod LibraryLaws
