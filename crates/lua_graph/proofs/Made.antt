@@ -52,7 +52,7 @@ made g w t =
     let size : length (plain_graph g) ≡ length g.nodes = length-map g.nodes (λ (x : GraphNode). plain_entries g.texts x.entries) in
     record { named = nodes_made g.texts (length g.nodes) (length g.texts) g.nodes (subst (λ n. AllByRecursion (AllByRecursion (IsDatum n)) (plain_graph g)) size w.data_) t; plain = w }
 
-there : (h : Heap Proc) (n : ℕ) → n < length h.tables → IsTrue (is_there h (tab n))
+pub there : (h : Heap Proc) (n : ℕ) → n < length h.tables → IsTrue (is_there h (tab n))
 there h n within = go h.tables n within
   where
     go : (ts : List (Contents heap.Value)) (n : ℕ) → n < length ts → IsTrue (is_some (option_map (λ (t : Contents heap.Value). let o : Obj Proc = TableObj t in o) (slice_get ts n)))

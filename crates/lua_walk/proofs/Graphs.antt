@@ -17,10 +17,10 @@ use Rattle.lua_walk.specs.Data.{Checked, HasMetatable, on_ok, all_ok, key_of, it
 use Rattle.lua_walk.specs.Laws.{table_in, links, IsOrder}
 
 -- WITHOUT A FAULT
-ok-back : {A : Type 0} {a b : A} → ◌≡◌ {A = Checked A} (Ok a) (Ok b) → a ≡ b
+pub ok-back : {A : Type 0} {a b : A} → ◌≡◌ {A = Checked A} (Ok a) (Ok b) → a ≡ b
 ok-back e = cc
 
-on-back : {A B : Type 0} (r : Checked A) (f : A → Checked B) (b : B) → on_ok r f ≡ Ok b → (a : A) × (r ≡ Ok a) × (f a ≡ Ok b)
+pub on-back : {A B : Type 0} (r : Checked A) (f : A → Checked B) (b : B) → on_ok r f ≡ Ok b → (a : A) × (r ≡ Ok a) × (f a ≡ Ok b)
 on-back (Ok a) f b e = (a, refl, e)
 on-back (Err x) f b e = cc
 
@@ -31,7 +31,7 @@ all-each {A} {B} f (x ∷ xs) ys e =
     let zs = on-back (all_ok f xs) (λ zs. Ok (y.0 ∷ zs)) ys y.2 in
     subst (Each (λ x y. f x ≡ Ok y) (x ∷ xs)) (ok-back zs.2) (more x y.0 xs zs.0 y.1 (all-each f xs zs.0 zs.1))
 
-each-length : {A B : Type 0} (R : A → B → Type 0) (xs : List A) (ys : List B) → Each R xs ys → length xs ≡ length ys
+pub each-length : {A B : Type 0} (R : A → B → Type 0) (xs : List A) (ys : List B) → Each R xs ys → length xs ≡ length ys
 each-length R _ _ none = refl
 each-length R _ _ (more x y xs ys r rest) = ap suc (each-length R xs ys rest)
 
@@ -44,7 +44,7 @@ place-below_ : (x t : ℕ) (xs : List ℕ) (b : Bool) → eqb t x ≡ b → (b �
 place-below_ x t xs true e f = omega arith
 place-below_ x t xs false e f = let g = f refl in omega (arith, g)
 
-differ : (x t : ℕ) → eqb t x ≡ false → x ≡ t → ⊥
+pub differ : (x t : ℕ) → eqb t x ≡ false → x ≡ t → ⊥
 differ x t e f = grind (arith, nat_tests)
 
 contains-tail : (x t : ℕ) (xs : List ℕ) → eqb t x ≡ false → Contains (x ∷ xs) t → Contains xs t

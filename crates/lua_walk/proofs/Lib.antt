@@ -4,5 +4,6 @@ pub mod Graphs
 pub mod Copies
 pub mod Standings
 pub mod CopyMoves
+pub mod Regained
 pub mod WalkLaws
 pub mod ExampleLaws

@@ -32,7 +32,7 @@ none-past [] (suc n) h = refl
 none-past (x ∷ xs) zero h = absurd (omega (arith, h))
 none-past (x ∷ xs) (suc n) h = none-past xs n (omega (arith, h))
 
-get-in : (xs : List ℕ) (n x : ℕ) → slice_get xs n ≡ Some x → In xs x
+pub get-in : (xs : List ℕ) (n x : ℕ) → slice_get xs n ≡ Some x → In xs x
 get-in [] n x e = cc
 get-in (y ∷ xs) zero x e = inl (some_back (sym e))
 get-in (y ∷ xs) (suc n) x e = inr (get-in xs n x e)

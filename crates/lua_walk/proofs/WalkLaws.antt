@@ -1,7 +1,8 @@
 -- The laws of the walk, of data and of copies, as the contracts say them.
-use Rattle.lua_walk.specs.Laws.{ReachedIsAll, MoreFindNothing, TakenIsGraph, CopyChangesNothing, TakenIsSame, CopyCostsTheSame, CopyMoves}
+use Rattle.lua_walk.specs.Laws.{ReachedIsAll, MoreFindNothing, TakenIsGraph, TakenIsReached, CopyChangesNothing, TakenIsSame, CopyCostsTheSame, CopyMoves}
 use Rattle.lua_walk.proofs.Visits.{InSet, set-there, set-shut, reached-order, more-nothing}
 use Rattle.lua_walk.proofs.Graphs.{taken-graph}
+use Rattle.lua_walk.proofs.Regained.{taken-reached}
 use Rattle.lua_walk.proofs.Copies.{copy-changes}
 use Rattle.lua_walk.proofs.Standings.{taken-same, cost-same}
 use Rattle.lua_walk.proofs.CopyMoves.{copy-moves}
@@ -16,6 +17,9 @@ module _ {X : Type 0} where
 
   pub taken_is_graph : TakenIsGraph X
   taken_is_graph names S h t g c i keys e = taken-graph h t g (reached_is_all names S h t c i) keys e
+
+  pub taken_is_reached : TakenIsReached X
+  taken_is_reached names S h s t n frozen g c i e le = taken-reached h s t frozen g (reached_is_all names S h t c i) e n le
 
   pub copy_changes_nothing : CopyChangesNothing X
   copy_changes_nothing h v = copy-changes h v

@@ -1,5 +1,5 @@
 -- LAWS OF THE WALK, OF DATA AND OF COPIES
-use Rattle.std.specs.Prelude.{◌≡◌, ℕ, ◌<◌, ◌≤◌, eqb, List, [], ◌∷◌, ◌++◌, length, Ok, Some, IsTrue, slice_get}
+use Rattle.std.specs.Prelude.{◌≡◌, ℕ, ◌+◌, ◌<◌, ◌≤◌, Bool, eqb, List, [], ◌∷◌, ◌++◌, length, Ok, Some, IsTrue, slice_get}
 use Rattle.std.specs.List.{AllByRecursion, Contains, IsDistinct, flat_map}
 use Rattle.lua_table.specs.Entries.{Contents}
 use Rattle.lua_heap.specs.Value.{Value, Table}
@@ -7,7 +7,7 @@ use Rattle.lua_heap.specs.Table.{HasValueKeys}
 use Rattle.lua_heap.specs.Heap.{Heap, Ref, tab, table_at}
 use Rattle.lua_heap.specs.Related.{Map, Same, GrowsWith, Stands, Moved}
 use Rattle.lua_heap.specs.Reach.{Set, nowhere, Frame, FreezesNone, IsClosed}
-use Rattle.lua_heap.specs.Graph.{Graph, IsGraph}
+use Rattle.lua_heap.specs.Graph.{Graph, IsGraph, join}
 use Rattle.lua_walk.specs.Order.{visit, reached}
 use Rattle.lua_walk.specs.Data.{taken}
 use Rattle.lua_walk.specs.Copy.{copied, copy_cost}
@@ -47,6 +47,11 @@ module _ (X : Type 0) where
   abbrev pub TakenIsGraph : Type 0
   TakenIsGraph = (names : X → List Ref) (S : Set) (h : Heap X) (t : ℕ) (g : Graph) → IsClosed names S h → IsTrue (S (tab t)) → ((n : ℕ) → HasValueKeys (table_at h n).entries)
       → taken h (Table t) ≡ Ok g → IsGraph g
+
+  -- Each table of what is taken is reached from its root, also where it joined another heap.
+  abbrev pub TakenIsReached : Type 0
+  TakenIsReached = (names : X → List Ref) (S : Set) (h s : Heap X) (t n : ℕ) (frozen : Bool) (g : Graph) → IsClosed names S h → IsTrue (S (tab t))
+      → taken h (Table t) ≡ Ok g → n < length g → Leads (join frozen g s) (length s.tables) (length s.tables + n)
 
   -- A copy changes nothing that is there, and freezes none.
   abbrev pub CopyChangesNothing : Type 0

@@ -1,5 +1,5 @@
 //! The walk reaches what it should; data are graphs; and copies are new (`Laws`).
-ghost use Rattle.lua_walk.specs.Laws.{ReachedIsAll, MoreFindNothing, TakenIsGraph, CopyChangesNothing, TakenIsSame, CopyCostsTheSame, CopyMoves};
+ghost use Rattle.lua_walk.specs.Laws.{ReachedIsAll, MoreFindNothing, TakenIsGraph, TakenIsReached, CopyChangesNothing, TakenIsSame, CopyCostsTheSame, CopyMoves};
 
 use lua_heap::Content;
 
@@ -16,6 +16,11 @@ pub fn more_find_nothing<X>()
 /// What is taken is a graph, where the keys of each table differ.
 pub fn taken_is_graph<X>()
     ensures { TakenIsGraph X }
+{}
+
+/// Each table of what is taken is reached from its root, also where it joined another heap.
+pub fn taken_is_reached<X>()
+    ensures { TakenIsReached X }
 {}
 
 /// A copy changes nothing that is there, and can be written.

@@ -20,6 +20,7 @@ fn laws_are_called(_rt: HostRuntime) -> Result<(), Fail> {
     laws::reached_is_all::<OneObject>();
     laws::more_find_nothing::<OneObject>();
     laws::taken_is_graph::<OneObject>();
+    laws::taken_is_reached::<OneObject>();
     laws::copy_changes_nothing::<OneObject>();
     laws::taken_is_same::<OneObject, OneObject>();
     laws::copy_costs_the_same::<OneObject, OneObject>();

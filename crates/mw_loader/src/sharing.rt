@@ -8,7 +8,7 @@ ghost use Rattle.lua_graph.specs.Taken.{IsFault};
 ghost use Rattle.mw_loader.specs.Shared.{IsSharedData};
 
 use lua_graph::{DataFault, put_in, take_out};
-use lua_store::{Store, Value};
+use lua_store::{Store, Value, laws};
 use std::alloc::Global;
 
 /// New read-only tables that hold the data of a value, and the root among them; or the first fault that keeps it from being
@@ -21,6 +21,7 @@ pub fn make_shared(alloc: Global, store: &mut Store, value: Value) -> Result<Val
     ensures fault { IfErr result (IsFault (taken store.old.heap (seen store.old.texts value))) }
     ensures same { IfErr result (λ e. e ≢ fault.NoMemory → store.new ≡ store.old) }
 {
+    laws::names_what_is_there(store);
     let graph = match take_out(alloc, store, value) {
         Ok(graph) => graph,
         Err(fault) => return Err(fault),
