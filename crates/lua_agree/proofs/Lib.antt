@@ -5,3 +5,6 @@ pub mod Places
 pub mod Ends
 pub mod Index
 pub mod Operators
+pub mod Constructors
+pub mod Expressions
+pub mod Calls
