@@ -32,10 +32,11 @@ module _ (code : CWorld) {B : Base} {m : Map} {h : State} {s : Slots} where
     modules = r.modules;
     data_modules = r.data_modules;
     frames = r.frames;
+    writable = r.writable;
   }
 
   pub with-functions : {vars : List Var} (fns : List Activation) → Rel code B m vars h s → Rel code B m vars h (record s { functions = fns })
-  with-functions fns r = record { stands = r.stands; open_ = r.open_; later = r.later; globals = r.globals; strings = r.strings; modules = r.modules; data_modules = r.data_modules; frames = r.frames }
+  with-functions fns r = record { stands = r.stands; open_ = r.open_; later = r.later; globals = r.globals; strings = r.strings; modules = r.modules; data_modules = r.data_modules; frames = r.frames; writable = r.writable }
 
   pub depth-is : {vars : List Var} → Rel code B m vars h s → length s.regs ≡ length vars
   depth-is {vars} r = vars-length m h.heap vars s.regs r.open_

@@ -30,6 +30,7 @@ use Rattle.lua_agree.specs.Functions.{SameFunction}
 use Rattle.lua_agree.specs.Rests.{After, SameRest}
 use Rattle.lua_agree.specs.Agree.{bodies, libraries, call_links, SamePoint, gives, starts, Base, Rel}
 use Rattle.lua_agree.specs.Follows.{Follows, takes, sees, now}
+use Rattle.lua_library_agree.proofs.Heaps.{stays-writable}
 use Rattle.lua_agree.proofs.Variables.{vars-moved}
 use Rattle.lua_agree.proofs.Carries.{modules-grow, data-grow, frames-grow}
 
@@ -190,17 +191,18 @@ module _ (code : CWorld) {B : Base} {m n : Map} {vars : List Var} {h : State} {s
     modules = modules-grow v.later.grows r.modules;
     data_modules = data-grow v.later.grows r.data_modules;
     frames = frames-grow v.later.grows r.frames;
+    writable = stays-writable (SameFunction code) m n h.heap i s.heap t v h.globals s.globals (v.later.grows _ _ r.globals) r.writable;
   }
 
 module _ (code : CWorld) {B : Base} {m : Map} {vars : List Var} {h : State} {s : Slots} (r : Rel code B m vars h s) where
   pub rel-modules : {xs ys : ByTitle Progress} → Each (SameTitled (SameProgress m)) xs ys → Rel code B m vars (record h { modules = xs }) (record s { modules = ys })
-  rel-modules e = record { stands = r.stands; open_ = r.open_; later = r.later; globals = r.globals; strings = r.strings; modules = e; data_modules = r.data_modules; frames = r.frames }
+  rel-modules e = record { stands = r.stands; open_ = r.open_; later = r.later; globals = r.globals; strings = r.strings; modules = e; data_modules = r.data_modules; frames = r.frames; writable = r.writable }
 
   pub rel-data : {xs ys : ByTitle Value} → Each (SameTitled (Same m)) xs ys → Rel code B m vars (record h { data_modules = xs }) (record s { data_ = ys })
-  rel-data e = record { stands = r.stands; open_ = r.open_; later = r.later; globals = r.globals; strings = r.strings; modules = r.modules; data_modules = e; frames = r.frames }
+  rel-data e = record { stands = r.stands; open_ = r.open_; later = r.later; globals = r.globals; strings = r.strings; modules = r.modules; data_modules = e; frames = r.frames; writable = r.writable }
 
   pub rel-frames : {xs ys : List Frame} → Each (SameFrame m) xs ys → Rel code B m vars (record h { frames = xs }) (record s { frames = ys })
-  rel-frames e = record { stands = r.stands; open_ = r.open_; later = r.later; globals = r.globals; strings = r.strings; modules = r.modules; data_modules = r.data_modules; frames = e }
+  rel-frames e = record { stands = r.stands; open_ = r.open_; later = r.later; globals = r.globals; strings = r.strings; modules = r.modules; data_modules = r.data_modules; frames = e; writable = r.writable }
 
 -- on both sides the same branch
 module _ (world : World) (code : CWorld) (B : Base) where

@@ -103,6 +103,7 @@ module _ (world : World) (code : CWorld) (B : Base) {m : Map} {vars : List Var} 
           modules = r.modules;
           data_modules = r.data_modules;
           frames = r.frames;
+          writable = r.writable;
         }) g none))))
     writes _ c _ {a} {b} e (at_box i d q) f =
         let u = boxed-cell m h.heap vars s.regs i d r.open_ q in
@@ -234,6 +235,7 @@ one-opened code {B} {m} {vars} {h} {s} true {v} {w} r e =
         modules = q.modules;
         data_modules = q.data_modules;
         frames = q.frames;
+        writable = q.writable;
       };
     }
 one-opened code {B} {m} {vars} {h} {s} false {v} {w} r e =
@@ -253,6 +255,7 @@ one-opened code {B} {m} {vars} {h} {s} false {v} {w} r e =
         modules = q.modules;
         data_modules = q.data_modules;
         frames = q.frames;
+        writable = q.writable;
       };
     }
 
