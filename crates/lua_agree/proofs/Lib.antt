@@ -4,3 +4,4 @@ pub mod Parts
 pub mod Places
 pub mod Ends
 pub mod Index
+pub mod Operators
