@@ -1,0 +1,5 @@
+pub mod LowValues
+pub mod LowLibrary
+pub mod Falls
+pub mod Events
+pub mod Counts
