@@ -5,3 +5,4 @@ pub mod Places
 pub mod Ends
 pub mod Index
 pub mod Operators
+pub mod Statements

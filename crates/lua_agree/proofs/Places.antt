@@ -40,7 +40,7 @@ bytes_eq-true : (a b : Bytes) → bytes_eq a b ≡ true → a ≡ b
 bytes_eq-true a b h = (bytes_eq-Decides a b).0 h
 
 -- THE CELL of a place that is no plain register
-boxed-cell : (m : Map) (h : Heap Function) (vars : List Var) (regs : List Slot) (i c : ℕ) → Vars m h vars regs → slice_get vars i ≡ Some (boxed c)
+pub boxed-cell : (m : Map) (h : Heap Function) (vars : List Var) (regs : List Slot) (i c : ℕ) → Vars m h vars regs → slice_get vars i ≡ Some (boxed c)
     → (d : ℕ) × (slot_cell (slice_get regs i) ≡ Some d) × (m.to (cel c) ≡ Some (cel d))
 boxed-cell m h _ _ i c vnone e = cc
 boxed-cell m h _ _ zero c (vplain d v w vars regs a b s n rest) e = kinds e
