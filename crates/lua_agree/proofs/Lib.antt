@@ -6,3 +6,4 @@ pub mod Ends
 pub mod Index
 pub mod Operators
 pub mod Statements
+pub mod Loops
