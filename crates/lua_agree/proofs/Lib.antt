@@ -8,3 +8,5 @@ pub mod Operators
 pub mod Constructors
 pub mod Expressions
 pub mod Calls
+pub mod Statements
+pub mod Loops

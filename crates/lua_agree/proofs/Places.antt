@@ -112,7 +112,7 @@ module _ (world : World) (code : CWorld) (B : Base) {m : Map} {vars : List Var} 
       (subst (λ o. Rel code B m vars (record h { heap = set_cell_in h.heap d a }) (with_cell o b s)) (sym t) (cell-written d q u f))
 
   -- where a place is written, the functions in progress stay
-  same-functions : (p : Place) (b : Value) → (write_place s p b).functions ≡ s.functions
+  pub same-functions : (p : Place) (b : Value) → (write_place s p b).functions ≡ s.functions
   same-functions (Reg i) b = refl
   same-functions (Box i) b = go (slot_cell (slice_get s.regs i))
     where
@@ -182,7 +182,7 @@ var-deeper {m} {v} {vars} {cells} {q = q} {o = o} e (at_up i c r k f) = subst (�
     here_back : {x y : Place} → Here x ≡ Here y → x ≡ y
     here_back e = cc
 
-var-here : (m : Map) (b : Bool) (c : ℕ) (vars : List Var) (cells : List ℕ) → SameVar m (record { cell = c; boxed = b } ∷ vars) cells (newest b) (Some c)
+pub var-here : (m : Map) (b : Bool) (c : ℕ) (vars : List Var) (cells : List ℕ) → SameVar m (record { cell = c; boxed = b } ∷ vars) cells (newest b) (Some c)
 var-here m true c vars cells = at_box 0 c refl
 var-here m false c vars cells = at_reg 0 c refl
 
