@@ -8,3 +8,4 @@ pub mod Operators
 pub mod Constructors
 pub mod Expressions
 pub mod Calls
+pub mod CallBacks
