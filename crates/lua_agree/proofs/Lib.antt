@@ -9,3 +9,4 @@ pub mod Constructors
 pub mod Expressions
 pub mod Calls
 pub mod CallBacks
+pub mod Modules
