@@ -10,3 +10,4 @@ pub mod Expressions
 pub mod Calls
 pub mod CallBacks
 pub mod Modules
+pub mod Libraries
