@@ -11,3 +11,4 @@ pub mod Calls
 pub mod CallBacks
 pub mod Modules
 pub mod Libraries
+pub mod Starts
