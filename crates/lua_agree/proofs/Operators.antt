@@ -1,13 +1,11 @@
 -- OPERATORS on values, and the handlers of operands.
-use Rattle.std.proofs.Common.{◌≡◌, ℕ, ℤ, pos, Bool, true, false, List, [], ◌∷◌, length, Option, Some, None, refl, sym, subst}
+use Rattle.std.proofs.Common.{◌≡◌, ℕ, ℤ, Bool, true, false, List, [], ◌∷◌, Option, Some, None, refl, subst}
 use Rattle.std.specs.Prelude.{codes, not, Result, Ok, Err, int_lt, int_le}
 use Rattle.lua_syntax.specs.declared.UnaryOp.{UnaryOp}
 use Rattle.lua_syntax.specs.declared.UnaryOp.TheVariants as sign
 use Rattle.lua_number.specs.declared.arithmetic.NumberFault.{NumberFault}
 use Rattle.lua_number.specs.Whole.{negative_of}
-use Rattle.lua_heap.specs.Value.{Value, Nil, Truth, Closure, Builtin, Markup, same, is_true}
-use Rattle.lua_heap.specs.Table.{border}
-use Rattle.lua_heap.specs.Heap.{table_at}
+use Rattle.lua_heap.specs.Value.{Value, is_true}
 use Rattle.lua_heap.specs.Related.{Map, Same, nil, truth, number, text, table, closure, builtin, markup}
 use Rattle.lua_heap.proofs.Entries.{nil-related, same-related, border-related}
 use Rattle.lua_heap.proofs.Steps.{one_to_one}
@@ -15,8 +13,8 @@ use Rattle.lua_heap.proofs.Stood.{stood-table}
 use Rattle.page_run.specs.Outcome.{Goes, ◌>>=◌, give}
 use Rattle.lua_meaning.specs.Scope.{Bytes, Levels}
 use Rattle.lua_meaning.specs.Values.{number_in, text_in}
-use Rattle.lua_meaning.specs.Acts.{Act, State, one}
-use Rattle.lua_meaning.specs.Messages.{fail, cannot_calculate, cannot_concatenate, cannot_compare, no_length}
+use Rattle.lua_meaning.specs.Acts.{State, one}
+use Rattle.lua_meaning.specs.Messages.{fail, cannot_calculate, cannot_concatenate, cannot_compare}
 use Rattle.lua_meaning.specs.Metatables.{common_handler}
 use Rattle.lua_meaning.specs.Calls.{call}
 use Rattle.lua_meaning.specs.Operators.{Arithmetic, Operator, Less, Greater, AtMost, AtLeast, Equal, Unequal, Concatenate, Calculate, result_of, event, number_or_fail, by_handler, by_either, calculate, negate, join_texts, length_of, truth_by, equals, text_less, order_texts, less_by, less, not_less_by, at_most_by, at_most, operate}
@@ -24,13 +22,13 @@ use Rattle.lua_meaning.specs.Expressions.{apply}
 use Rattle.lua_meaning.specs.World.{World}
 use Rattle.lua_slots.specs.Code.{CWorld}
 use Rattle.lua_slots.specs.Slots.{Slots, levels_at}
-use Rattle.lua_slots.specs.Points.{SFrame, First, Verdict}
+use Rattle.lua_slots.specs.Points.{SFrame}
 use Rattle.lua_slots.specs.Errors as machine
 use Rattle.lua_slots.specs.Operators as machine_operators
 use Rattle.lua_slots.specs.Operators.{negated_if}
 use Rattle.lua_agree.specs.Variables.{Var}
 use Rattle.lua_agree.specs.Functions.{SameFunction}
-use Rattle.lua_agree.specs.Rests.{After, first_of, alone, truth_after, falsehood_after, not_after, SameTruth, is_truth, is_falsehood, is_not_less, SameRest, at_first, at_verdict}
+use Rattle.lua_agree.specs.Rests.{After, alone, truth_after, SameTruth, is_truth, is_falsehood, is_not_less, SameRest, at_first, at_verdict}
 use Rattle.lua_agree.specs.Agree.{Base, Rel}
 use Rattle.lua_agree.specs.Follows.{Follows, takes, sees}
 use Rattle.lua_agree.proofs.Parts.{number-same, text-same, kind-same, true-same, either-same, common-same, rest-jumps, OnJump, branches, values-on, one-value, two-values, fails-with, calls}
@@ -99,7 +97,7 @@ module _ (world : World) (code : CWorld) (B : Base) {m : Map} {vars : List Var} 
     answered-by _ _ is_falsehood b = values-on world code B r g (one-value (truth _))
     answered-by _ _ is_not_less b = values-on world code B r g (one-value (truth _))
 
-    answered : (b : Bool) → Follows world code B (t (Goes b)) h (machine_operators.answers negated b fs s)
+    pub answered : (b : Bool) → Follows world code B (t (Goes b)) h (machine_operators.answers negated b fs s)
     answered b = answered-by negated t w b
 
     jumps-by : (negated : Bool) (t : After Bool) → SameTruth k negated t → OnJump code m vars s.functions Bool t fs

@@ -1,5 +1,5 @@
 -- What moves are made of: values and jumps for what follows, errors, handlers, calls.
-use Rattle.std.proofs.Common.{◌≡◌, ◌∙◌, IsTrue, ℕ, zero, suc, ℤ, Bool, true, false, List, [], ◌∷◌, ◌++◌, length, drop, Option, Some, None, refl, sym, subst, ap}
+use Rattle.std.proofs.Common.{◌≡◌, ◌∙◌, IsTrue, ℕ, zero, suc, Bool, true, false, List, [], ◌∷◌, ◌++◌, length, drop, Option, Some, None, refl, sym, subst, ap}
 use Rattle.std.specs.Prelude.{codes, if◌then◌else◌}
 use Rattle.page_run.specs.Outcome.{Outcome, Goes, Jumps}
 use Rattle.lua_table.specs.Entries.{Contents}
@@ -16,13 +16,13 @@ use Rattle.lua_meaning.specs.Values.{first, rest, second, third, is_function, nu
 use Rattle.lua_meaning.specs.CallBacks.{text_of}
 use Rattle.lua_meaning.specs.Acts.{Act, Jump, State, Body, LibraryBody, CallLink, LuaRun, Progress, Frame, choose}
 use Rattle.lua_meaning.specs.Titled.{ByTitle}
-use Rattle.lua_meaning.specs.Messages.{nth_level, raise_text, raise_at, fail, cannot_call}
+use Rattle.lua_meaning.specs.Messages.{nth_level, raise_text, fail, cannot_call}
 use Rattle.lua_meaning.specs.Metatables.{field, handler, either_handler, common_handler}
 use Rattle.lua_meaning.specs.Calls.{enter, call_by, call}
 use Rattle.lua_meaning.specs.World.{World}
 use Rattle.lua_slots.specs.Code.{CWorld}
 use Rattle.lua_slots.specs.Slots.{Activation, Slots, levels_at}
-use Rattle.lua_slots.specs.Points.{BodyS, LibraryS, CallLinkS, SFrame, Point, Gives, Move, Starts, Now}
+use Rattle.lua_slots.specs.Points.{BodyS, LibraryS, CallLinkS, SFrame, Point, Gives, Move, Now}
 use Rattle.lua_slots.specs.Errors as machine
 use Rattle.lua_slots.specs.Calls as machine_calls
 use Rattle.lua_library_agree.specs.Same.{SameFrame}
