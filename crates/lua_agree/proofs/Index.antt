@@ -1,5 +1,5 @@
 -- READING AND SETTING an index, and their links.
-use Rattle.std.proofs.Common.{◌≡◌, ℕ, Bool, true, false, ◌||◌, List, [], ◌∷◌, Option, Some, refl, sym, ◌∙◌, subst}
+use Rattle.std.proofs.Common.{◌≡◌, ℕ, Bool, false, ◌||◌, List, [], ◌∷◌, Option, Some, refl, sym, ◌∙◌, subst}
 use Rattle.std.specs.Prelude.{codes}
 use Rattle.page_run.specs.Outcome.{Goes, Jumps, on_value, ◌>>◌, give, begin}
 use Rattle.lua_heap.specs.Value.{Value, Nil, Truth, Number, Text, Table, Closure, Builtin, Markup}
@@ -13,15 +13,14 @@ use Rattle.lua_meaning.specs.Scope.{Levels}
 use Rattle.lua_meaning.specs.Acts.{Jump, State, IndexLink, SetLink}
 use Rattle.lua_meaning.specs.Messages.{cannot_index, nil_key, read_only}
 use Rattle.lua_meaning.specs.Calls as names_calls
-use Rattle.lua_meaning.specs.Index.{index_by, index_table, index_all, index_link, set_entry, set_by, set_table, set_all, set_link, set_index}
+use Rattle.lua_meaning.specs.Index.{index_by, index_table, index_all, index_link, set_entry, set_by, set_all, set_link, set_index}
 use Rattle.lua_meaning.specs.World.{World}
 use Rattle.lua_slots.specs.Code.{CWorld}
 use Rattle.lua_slots.specs.Slots.{Slots, levels_at}
-use Rattle.lua_slots.specs.Points.{IndexLinkS, SetLinkS, SFrame, Gives, Starts, Now}
+use Rattle.lua_slots.specs.Points.{IndexLinkS, SetLinkS, SFrame, Gives}
 use Rattle.lua_slots.specs.Errors as machine
 use Rattle.lua_slots.specs.Index as machine_index
 use Rattle.lua_agree.specs.Variables.{Var}
-use Rattle.lua_agree.specs.Values.{SameJump}
 use Rattle.lua_agree.specs.Functions.{SameFunction}
 use Rattle.lua_agree.specs.Rests.{After, dropped, SameRest}
 use Rattle.lua_agree.specs.Agree.{index_links, set_links, SamePoint, starts, Base, Rel}

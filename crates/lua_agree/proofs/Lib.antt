@@ -4,3 +4,16 @@ pub mod Parts
 pub mod Places
 pub mod Ends
 pub mod Index
+pub mod Operators
+pub mod Constructors
+pub mod Expressions
+pub mod Calls
+pub mod Statements
+pub mod Loops
+pub mod CallBacks
+pub mod Modules
+pub mod Libraries
+pub mod Starts
+pub mod Given
+pub mod Moves
+pub mod MetLaws
