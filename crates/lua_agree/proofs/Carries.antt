@@ -20,8 +20,9 @@ use Rattle.lua_slots.specs.Code.{Place, CExp, CWorld}
 use Rattle.lua_slots.specs.Sight.{Sight}
 use Rattle.lua_slots.specs.Slots.{Activation, newest_function}
 use Rattle.lua_slots.specs.Points.{STarget, SThing, SFrame, Point}
+use Rattle.lua_library_agree.specs.Same.{SameFrame}
 use Rattle.lua_agree.specs.Variables.{Var, Held, HeldFunction, SameVar, at_reg, at_box, at_up, Inside}
-use Rattle.lua_agree.specs.Values.{SameJump, returned, broke, raised, SameOutcome, values_, jumps_, SameTarget, places, globals_, entries_, SameSet, SamePending, pcalls, xpcalls, handlers, to_strings, walks, modules, SameProgress, running, finished, SameTitled, SameFrame}
+use Rattle.lua_agree.specs.Values.{SameJump, returned, broke, raised, SameOutcome, values_, jumps_, SameTarget, places, globals_, entries_, SameSet, SamePending, pcalls, xpcalls, handlers, to_strings, walks, modules, SameProgress, running, finished, SameTitled}
 use Rattle.lua_agree.specs.Functions.{SameFunction}
 use Rattle.lua_agree.specs.Rests.{After, SameRest, SameEnd, at_end, at_first, at_verdict, at_key, at_index, at_decide, at_operand, at_operate, at_unary, at_arguments, at_call, at_method_of, at_method, at_last, at_more, at_last_item, at_item, at_pair, at_pair_value, at_fields, at_items, at_target_key, at_target, at_assign, at_sets, at_declare, at_stats, at_branch, at_return, at_while, at_test, at_count_from, at_count_to, at_count_by, at_each_values, at_each_next, at_library, at_wait, at_hearing, at_module, at_function, at_answer, at_text, at_data, ends_block, ends_body, ends_while, ends_repeat, ends_count, ends_each}
 use Rattle.lua_agree.specs.Agree.{SameThing, while_turns, repeat_turns, count_turns, each_turns, bodies, texts_of, libraries, index_links, set_links, call_links, SamePoint, gives, jumps, ends, evaluates, lists, finds, sets, runs, starts, texts, asks, works}

@@ -28,6 +28,7 @@ module _ (code : CWorld) {B : Base} {m : Map} {h : State} {s : Slots} where
     open_ = subst (λ n. Vars m h.heap vars (cut_to n s.regs)) (sym e) (vars-cut m h.heap vars all s.regs o r.open_);
     later = r.later;
     globals = r.globals;
+    writable = r.writable;
     strings = r.strings;
     modules = r.modules;
     data_modules = r.data_modules;
@@ -35,7 +36,7 @@ module _ (code : CWorld) {B : Base} {m : Map} {h : State} {s : Slots} where
   }
 
   pub with-functions : {vars : List Var} (fns : List Activation) → Rel code B m vars h s → Rel code B m vars h (record s { functions = fns })
-  with-functions fns r = record { stands = r.stands; open_ = r.open_; later = r.later; globals = r.globals; strings = r.strings; modules = r.modules; data_modules = r.data_modules; frames = r.frames }
+  with-functions fns r = record { stands = r.stands; open_ = r.open_; later = r.later; globals = r.globals; writable = r.writable; strings = r.strings; modules = r.modules; data_modules = r.data_modules; frames = r.frames }
 
   pub depth-is : {vars : List Var} → Rel code B m vars h s → length s.regs ≡ length vars
   depth-is {vars} r = vars-length m h.heap vars s.regs r.open_

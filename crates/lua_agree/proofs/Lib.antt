@@ -4,3 +4,9 @@ pub mod Parts
 pub mod Places
 pub mod Ends
 pub mod Index
+pub mod Operators
+pub mod Constructors
+pub mod Expressions
+pub mod Calls
+pub mod Statements
+pub mod Loops

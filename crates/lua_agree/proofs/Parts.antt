@@ -1,15 +1,16 @@
 -- What moves are made of: values and jumps for what follows, errors, handlers, calls.
-use Rattle.std.proofs.Common.{◌≡◌, ℕ, zero, suc, ℤ, Bool, true, false, List, [], ◌∷◌, ◌++◌, length, drop, Option, Some, None, refl, sym, subst, ap}
+use Rattle.std.proofs.Common.{◌≡◌, ◌∙◌, IsTrue, ℕ, zero, suc, ℤ, Bool, true, false, List, [], ◌∷◌, ◌++◌, length, drop, Option, Some, None, refl, sym, subst, ap}
 use Rattle.std.specs.Prelude.{codes, if◌then◌else◌}
 use Rattle.page_run.specs.Outcome.{Outcome, Goes, Jumps}
+use Rattle.lua_table.specs.Entries.{Contents}
 use Rattle.lua_heap.specs.Proc.{Proc}
 use Rattle.lua_heap.specs.Value.{Value, Nil, Truth, Number, Text, Closure, Markup, is_true}
-use Rattle.lua_heap.specs.Heap.{Heap, tab, Closed, table_at, closure_at}
+use Rattle.lua_heap.specs.Heap.{Heap, tab, Obj, TableObj, Closed, table_at, closure_at}
 use Rattle.lua_heap.specs.Table.{get}
 use Rattle.lua_heap.specs.Related.{Map, Each, none, more, Same, nil, truth, number, text, table, closure, builtin, markup, SameClosed, functions, iterators, Stands, Moved}
 use Rattle.lua_heap.proofs.Entries.{nil-related, get-related, same-related}
 use Rattle.lua_heap.proofs.Steps.{one_to_one, later-then}
-use Rattle.lua_heap.proofs.Stood.{stood-table, stood-closure}
+use Rattle.lua_heap.proofs.Stood.{look-table, stood-table, stood-closure}
 use Rattle.lua_meaning.specs.Scope.{Bytes, Place as TextPlace, Function, Levels}
 use Rattle.lua_meaning.specs.Values.{first, rest, second, third, is_function, number_in, text_in, kind_of}
 use Rattle.lua_meaning.specs.CallBacks.{text_of}
@@ -24,8 +25,9 @@ use Rattle.lua_slots.specs.Slots.{Activation, Slots, levels_at}
 use Rattle.lua_slots.specs.Points.{BodyS, LibraryS, CallLinkS, SFrame, Point, Gives, Move, Starts, Now}
 use Rattle.lua_slots.specs.Errors as machine
 use Rattle.lua_slots.specs.Calls as machine_calls
+use Rattle.lua_library_agree.specs.Same.{SameFrame}
 use Rattle.lua_agree.specs.Variables.{Var}
-use Rattle.lua_agree.specs.Values.{SameJump, raised, SameOutcome, values_, jumps_, SameProgress, SameTitled, SameFrame}
+use Rattle.lua_agree.specs.Values.{SameJump, raised, SameOutcome, values_, jumps_, SameProgress, SameTitled}
 use Rattle.lua_agree.specs.Functions.{SameFunction}
 use Rattle.lua_agree.specs.Rests.{After, SameRest}
 use Rattle.lua_agree.specs.Agree.{bodies, libraries, call_links, SamePoint, gives, starts, Base, Rel}
@@ -178,6 +180,19 @@ module _ (code : CWorld) {m : Map} {vars : List Var} {fns : List Activation} whe
   pub rest-jumps : {k : After (List Value)} {fs : List SFrame} → SameRest code m vars fns k fs → OnJump code m vars fns (List Value) k fs
   rest-jumps {k} {fs} r = record { jump = λ j j' e. gives (Jumps j) (Jumps j') k fs (jumps_ j j' e) r }
 
+-- no table becomes read-only
+table-back : {c d : Contents Value} → ◌≡◌ {A = Obj Proc} (TableObj c) (TableObj d) → c ≡ d
+table-back q = cc
+
+unless-frozen : (f : Bool) (c d : Contents Value) → d.frozen ≡ f → (IsTrue f → c ≡ d) → c.frozen ≡ false → f ≡ false
+unless-frozen false c d q g w = refl
+unless-frozen true c d q g w = sym q ∙ (ap (λ (e : Contents Value). e.frozen) (sym (g refl)) ∙ w)
+
+still-writable : (code : CWorld) {m n : Map} {h i : Heap Function} {s t : Heap Proc} {a b : ℕ} → Moved (SameFunction code) m n h i s t → m.to (tab a) ≡ Some (tab b) → (table_at s b).frozen ≡ false → (table_at t b).frozen ≡ false
+still-writable code {m} {n} {h} {i} {s} {t} {a} {b} v e w =
+    let x = stood-table (SameFunction code) n i t a b v.stands (v.later.grows _ _ e) in
+    unless-frozen (table_at t b).frozen (table_at s b) (table_at t b) refl (λ f. table-back (look-table s b _ (v.later.freezes_none (tab b) _ x.2 f))) w
+
 -- WHAT BOTH HOLD changes: the heap, where no object is made for which another one stands; or what is kept of the run
 module _ (code : CWorld) {B : Base} {m n : Map} {vars : List Var} {h : State} {s : Slots} where
   pub rel-moved : {i : Heap Function} {t : Heap Proc} → Rel code B m vars h s → Moved (SameFunction code) m n h.heap i s.heap t → Rel code B n vars (record h { heap = i }) (record s { heap = t })
@@ -186,6 +201,7 @@ module _ (code : CWorld) {B : Base} {m n : Map} {vars : List Var} {h : State} {s
     open_ = vars-moved code m n h.heap i s.heap t vars s.regs v r.open_;
     later = later-then (SameFunction code) B.map m n B.heap h.heap i B.store s.heap t r.later v.later;
     globals = v.later.grows _ _ r.globals;
+    writable = still-writable code v r.globals r.writable;
     strings = v.later.grows _ _ r.strings;
     modules = modules-grow v.later.grows r.modules;
     data_modules = data-grow v.later.grows r.data_modules;
@@ -194,13 +210,13 @@ module _ (code : CWorld) {B : Base} {m n : Map} {vars : List Var} {h : State} {s
 
 module _ (code : CWorld) {B : Base} {m : Map} {vars : List Var} {h : State} {s : Slots} (r : Rel code B m vars h s) where
   pub rel-modules : {xs ys : ByTitle Progress} → Each (SameTitled (SameProgress m)) xs ys → Rel code B m vars (record h { modules = xs }) (record s { modules = ys })
-  rel-modules e = record { stands = r.stands; open_ = r.open_; later = r.later; globals = r.globals; strings = r.strings; modules = e; data_modules = r.data_modules; frames = r.frames }
+  rel-modules e = record { stands = r.stands; open_ = r.open_; later = r.later; globals = r.globals; writable = r.writable; strings = r.strings; modules = e; data_modules = r.data_modules; frames = r.frames }
 
   pub rel-data : {xs ys : ByTitle Value} → Each (SameTitled (Same m)) xs ys → Rel code B m vars (record h { data_modules = xs }) (record s { data_ = ys })
-  rel-data e = record { stands = r.stands; open_ = r.open_; later = r.later; globals = r.globals; strings = r.strings; modules = r.modules; data_modules = e; frames = r.frames }
+  rel-data e = record { stands = r.stands; open_ = r.open_; later = r.later; globals = r.globals; writable = r.writable; strings = r.strings; modules = r.modules; data_modules = e; frames = r.frames }
 
   pub rel-frames : {xs ys : List Frame} → Each (SameFrame m) xs ys → Rel code B m vars (record h { frames = xs }) (record s { frames = ys })
-  rel-frames e = record { stands = r.stands; open_ = r.open_; later = r.later; globals = r.globals; strings = r.strings; modules = r.modules; data_modules = r.data_modules; frames = e }
+  rel-frames e = record { stands = r.stands; open_ = r.open_; later = r.later; globals = r.globals; writable = r.writable; strings = r.strings; modules = r.modules; data_modules = r.data_modules; frames = e }
 
 -- on both sides the same branch
 module _ (world : World) (code : CWorld) (B : Base) where

@@ -84,33 +84,52 @@ module _ (world : World) (code : CWorld) (B : Base) {m : Map} {vars : List Var} 
     reads p o x ls w = reads-at p o x ls w w
 
   -- WRITING
-  module _ (k : After (Unit {0})) {fs : List SFrame} (g : SameRest code m vars s.functions (dropped k) fs) where
-    writes-cell : (c d : ℕ) {a b : Value} → m.to (cel c) ≡ Some (cel d) → Same m a b → Follows world code B (write_cell c a k) h (machine.gives [] fs (record s { heap = set_cell_in s.heap d b }))
-    writes-cell c d {a} {b} e f = sees _ _ _ (sees _ _ _ (changes _ _ _ _ (values-on world code B (rel-moved code r (moved-set_cell (SameFunction code) m h.heap s.heap c d a b r.stands e f)) g none)))
+  cell-written : (c d : ℕ) {a b : Value} → m.to (cel c) ≡ Some (cel d) → Same m a b → Rel code B m vars (record h { heap = set_cell_in h.heap c a }) (record s { heap = set_cell_in s.heap d b })
+  cell-written c d {a} {b} e f = rel-moved code r (moved-set_cell (SameFunction code) m h.heap s.heap c d a b r.stands e f)
 
-    pub writes : (p : Place) (c : ℕ) (o : Option ℕ) {a b : Value} → o ≡ Some c → SameVar m vars (function_of s).cells p o → Same m a b → Follows world code B (assign_one (Local c) a k) h (machine.gives [] fs (write_place s p b))
-    writes _ c _ {a} {b} e (at_reg i d q) f =
-        let u = read-plain m h.heap vars s.regs i d r.open_ q in
-        let w = later-put_first (SameFunction code) m h.heap s.heap (cel d) (CellObj u.0) (CellObj a) r.stands u.3 (of_cell d a) u.2 in
-        subst (λ z. Follows world code B (assign_one (Local z) a k) h (machine.gives [] fs (record s { regs = slice_set s.regs i (Plain b) }))) (some_back e)
-        (sees _ _ _ (sees _ _ _ (changes _ _ _ _
-        (values-on world code B {m = m} {vars = vars} {h = record h { heap = set_cell_in h.heap d a }} {s = record s { regs = slice_set s.regs i (Plain b) }} (record {
-          stands = w.1;
-          open_ = write-plain m h.heap vars s.regs i d a b r.open_ q f;
-          later = later-then (SameFunction code) B.map m m B.heap h.heap (set_cell_in h.heap d a) B.store s.heap s.heap r.later w.0;
-          globals = r.globals;
-          strings = r.strings;
-          modules = r.modules;
-          data_modules = r.data_modules;
-          frames = r.frames;
-        }) g none))))
-    writes _ c _ {a} {b} e (at_box i d q) f =
-        let u = boxed-cell m h.heap vars s.regs i d r.open_ q in
-        subst (λ z. Follows world code B (assign_one (Local z) a k) h (machine.gives [] fs (write_place s (Box i) b))) (some_back e)
-        (subst (λ o. Follows world code B (assign_one (Local d) a k) h (machine.gives [] fs (with_cell o b s))) (sym u.1) (writes-cell d u.0 u.2 f))
-    writes _ c _ {a} {b} e (at_up i d q t u) f =
-        subst (λ z. Follows world code B (assign_one (Local z) a k) h (machine.gives [] fs (write_place s (Up i) b))) (some_back e)
-        (subst (λ o. Follows world code B (assign_one (Local d) a k) h (machine.gives [] fs (with_cell o b s))) (sym t) (writes-cell d q u f))
+  pub written : (p : Place) (c : ℕ) (o : Option ℕ) {a b : Value} → o ≡ Some c → SameVar m vars (function_of s).cells p o → Same m a b → Rel code B m vars (record h { heap = set_cell_in h.heap c a }) (write_place s p b)
+  written _ c _ {a} {b} e (at_reg i d q) f =
+      let u = read-plain m h.heap vars s.regs i d r.open_ q in
+      let w = later-put_first (SameFunction code) m h.heap s.heap (cel d) (CellObj u.0) (CellObj a) r.stands u.3 (of_cell d a) u.2 in
+      subst (λ z. Rel code B m vars (record h { heap = set_cell_in h.heap z a }) (record s { regs = slice_set s.regs i (Plain b) })) (some_back e)
+      record {
+        stands = w.1;
+        open_ = write-plain m h.heap vars s.regs i d a b r.open_ q f;
+        later = later-then (SameFunction code) B.map m m B.heap h.heap (set_cell_in h.heap d a) B.store s.heap s.heap r.later w.0;
+        globals = r.globals;
+        writable = r.writable;
+        strings = r.strings;
+        modules = r.modules;
+        data_modules = r.data_modules;
+        frames = r.frames;
+      }
+  written _ c _ {a} {b} e (at_box i d q) f =
+      let u = boxed-cell m h.heap vars s.regs i d r.open_ q in
+      subst (λ z. Rel code B m vars (record h { heap = set_cell_in h.heap z a }) (write_place s (Box i) b)) (some_back e)
+      (subst (λ o. Rel code B m vars (record h { heap = set_cell_in h.heap d a }) (with_cell o b s)) (sym u.1) (cell-written d u.0 u.2 f))
+  written _ c _ {a} {b} e (at_up i d q t u) f =
+      subst (λ z. Rel code B m vars (record h { heap = set_cell_in h.heap z a }) (write_place s (Up i) b)) (some_back e)
+      (subst (λ o. Rel code B m vars (record h { heap = set_cell_in h.heap d a }) (with_cell o b s)) (sym t) (cell-written d q u f))
+
+  -- where a place is written, the functions in progress stay
+  pub same-functions : (p : Place) (b : Value) → (write_place s p b).functions ≡ s.functions
+  same-functions (Reg i) b = refl
+  same-functions (Box i) b = go (slot_cell (slice_get s.regs i))
+    where
+      go : (o : Option ℕ) → (with_cell o b s).functions ≡ s.functions
+      go (Some c) = refl
+      go None = refl
+  same-functions (Up i) b = go (slice_get (function_of s).cells i)
+    where
+      go : (o : Option ℕ) → (with_cell o b s).functions ≡ s.functions
+      go (Some c) = refl
+      go None = refl
+
+  pub writes : (k : After (Unit {0})) {fs : List SFrame} → SameRest code m vars s.functions (dropped k) fs → (p : Place) (c : ℕ) {a b : Value} → SameVar m vars (function_of s).cells p (Some c) → Same m a b
+      → Follows world code B (assign_one (Local c) a k) h (machine.gives [] fs (write_place s p b))
+  writes k {fs} g p c {a} {b} e f =
+      sees _ _ _ (sees _ _ _ (changes _ _ _ _
+      (values-on world code B (written p c _ refl e f) (subst (λ fns. SameRest code m vars fns (dropped k) fs) (sym (same-functions p b)) g) none)))
 
 -- CAPTURING: each captured name's cell stands as the captured cell
 module _ (m : Map) (h : Heap Function) (vars : List Var) (regs : List Slot) (fns : List Activation) (see : Sight) (scope : Scope) (v : Vars m h vars regs) (i : Inside m vars fns see scope) where
@@ -163,7 +182,7 @@ var-deeper {m} {v} {vars} {cells} {q = q} {o = o} e (at_up i c r k f) = subst (�
     here_back : {x y : Place} → Here x ≡ Here y → x ≡ y
     here_back e = cc
 
-var-here : (m : Map) (b : Bool) (c : ℕ) (vars : List Var) (cells : List ℕ) → SameVar m (record { cell = c; boxed = b } ∷ vars) cells (newest b) (Some c)
+pub var-here : (m : Map) (b : Bool) (c : ℕ) (vars : List Var) (cells : List ℕ) → SameVar m (record { cell = c; boxed = b } ∷ vars) cells (newest b) (Some c)
 var-here m true c vars cells = at_box 0 c refl
 var-here m false c vars cells = at_reg 0 c refl
 
@@ -230,6 +249,7 @@ one-opened code {B} {m} {vars} {h} {s} true {v} {w} r e =
         open_ = vboxed (length h.heap.cells) (length s.heap.cells) vars s.regs p.1 q.open_;
         later = q.later;
         globals = q.globals;
+        writable = q.writable;
         strings = q.strings;
         modules = q.modules;
         data_modules = q.data_modules;
@@ -249,6 +269,7 @@ one-opened code {B} {m} {vars} {h} {s} false {v} {w} r e =
             (made-new code m h.heap s.heap vars s.regs (length h.heap.cells) r.stands f r.open_) q.open_;
         later = q.later;
         globals = q.globals;
+        writable = q.writable;
         strings = q.strings;
         modules = q.modules;
         data_modules = q.data_modules;

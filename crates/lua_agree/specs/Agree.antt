@@ -1,5 +1,5 @@
 -- WHEN A MACHINE OVER SLOTS STANDS WHERE A RUN OVER NAMES STANDS: things that begin, points, and what both hold.
-use Rattle.std.specs.Prelude.{◌≡◌, ℕ, ℤ, Bool, List, [], ◌∷◌, length, Option, Some, None}
+use Rattle.std.specs.Prelude.{◌≡◌, ℕ, ℤ, Bool, false, List, [], ◌∷◌, length, Option, Some, None}
 use Rattle.lua_syntax.specs.Tree.{Exp, Exps, Block}
 use Rattle.page_run.specs.Run.{Begins, Asks}
 use Rattle.page_run.specs.Outcome.{Outcome, Goes, Jumps, on_value, ◌>>=◌, ◌>>◌, give}
@@ -7,7 +7,7 @@ use Rattle.mw_frame.specs.declared.question.Ask.{Ask}
 use Rattle.lua_heap.specs.Proc.{Proc}
 use Rattle.lua_heap.specs.Value.{Value}
 use Rattle.lua_heap.specs.declared.library.Library.{Library}
-use Rattle.lua_heap.specs.Heap.{Heap, tab}
+use Rattle.lua_heap.specs.Heap.{Heap, tab, table_at}
 use Rattle.lua_heap.specs.Related.{Map, Each, Same, Stands, Later}
 use Rattle.lua_meaning.specs.Scope.{Bytes, Function, Scope, Levels}
 use Rattle.lua_meaning.specs.Acts.{Jump, State, Thing, WhileTurn, RepeatTurn, CountTurn, EachTurn, Body, LibraryBody, ChunkBody, IndexLink, SetLink, CallLink, LuaRun}
@@ -24,8 +24,9 @@ use Rattle.lua_slots.specs.IsCode.{any_sight, IsExp, IsExps, IsTargets, IsBlock,
 use Rattle.lua_slots.specs.Slots.{Activation, Slots, levels_at}
 use Rattle.lua_slots.specs.Calls.{code_of, text_of_module}
 use Rattle.lua_slots.specs.Points.{STarget, SThing, WhileTurnS, RepeatTurnS, CountTurnS, EachTurnS, BodyS, LibraryS, IndexLinkS, SetLinkS, CallLinkS, SFrame, Point, Gives, Evals, Lists, Finds, Sets, Runs, Starts, Texts, Asking, Works}
+use Rattle.lua_library_agree.specs.Same.{SameFrame}
 use Rattle.lua_agree.specs.Variables.{Var, Vars, Inside}
-use Rattle.lua_agree.specs.Values.{SameJump, SameOutcome, SameTarget, SameSet, SameProgress, SameTitled, SameFrame}
+use Rattle.lua_agree.specs.Values.{SameJump, SameOutcome, SameTarget, SameSet, SameProgress, SameTitled}
 use Rattle.lua_agree.specs.Functions.{SameFunction, here, end_of}
 use Rattle.lua_agree.specs.Rests.{After, stays, all_targets, told, SameRest, SameEnd}
 
@@ -81,12 +82,14 @@ pub record Base : Type 0 where
   pub store : Heap Proc
 
 -- WHAT BOTH HOLD: the run's heap stands in the store, its open variables in the registers; what is kept of the run stands for what is
--- kept; and since the base all else is as it was.
+-- kept; and since the base all else is as it was. The table of the global variables can be written, as `require` of `strict` takes for
+-- granted.
 pub record Rel (code : CWorld) (B : Base) (m : Map) (vars : List Var) (h : State) (s : Slots) : Type 0 where
   pub stands : Stands (SameFunction code) m h.heap s.heap
   pub open_ : Vars m h.heap vars s.regs
   pub later : Later B.map m B.heap h.heap B.store s.heap
   pub globals : m.to (tab h.globals) ≡ Some (tab s.globals)
+  pub writable : (table_at s.heap s.globals).frozen ≡ false
   pub strings : m.to (tab h.strings) ≡ Some (tab s.strings)
   pub modules : Each (SameTitled (SameProgress m)) h.modules s.modules
   pub data_modules : Each (SameTitled (Same m)) h.data_modules s.data_

@@ -1,12 +1,12 @@
 -- WHAT STANDS FOR WHAT beside single values: jumps and outcomes, targets of an assignment, what waits in the library, and what is kept
--- of a run.
+-- by title.
 use Rattle.std.specs.Prelude.{◌≡◌, ℕ, List, [], ◌∷◌, Some}
 use Rattle.wk_base.specs.declared.title.Title.{Title}
 use Rattle.page_run.specs.Outcome.{Outcome, Goes, Jumps}
 use Rattle.lua_heap.specs.Value.{Value}
 use Rattle.lua_heap.specs.Related.{Map, Each, Same}
 use Rattle.lua_meaning.specs.Scope.{Bytes, Levels}
-use Rattle.lua_meaning.specs.Acts.{Jump, Returned, Broke, Raised, Progress, Running, Finished, Frame}
+use Rattle.lua_meaning.specs.Acts.{Jump, Returned, Broke, Raised, Progress, Running, Finished}
 use Rattle.lua_meaning.specs.Parts.{Target, Local, Global, Entry}
 use Rattle.lua_meaning.specs.Pending.{Pending, PcallWaits, XpcallWaits, HandlerWaits, ToStringWaits, PairsWaits, ModuleWaits}
 use Rattle.lua_meaning.specs.Titled.{Titled}
@@ -44,7 +44,7 @@ pub data SamePending (m : Map) : Pending → Pending → Type 0 where
   walks : SamePending m PairsWaits PairsWaits
   modules : (title : Title) → SamePending m (ModuleWaits title) (ModuleWaits title)
 
--- WHAT IS KEPT OF A RUN: modules that were required, tables of loaded data, and frames
+-- WHAT IS KEPT OF A RUN by title: modules that were required, and tables of loaded data
 pub data SameProgress (m : Map) : Progress → Progress → Type 0 where
   running : SameProgress m Running Running
   finished : (v w : Value) → Same m v w → SameProgress m (Finished v) (Finished w)
@@ -52,8 +52,3 @@ pub data SameProgress (m : Map) : Progress → Progress → Type 0 where
 pub record SameTitled {A B : Type 0} (R : A → B → Type 0) (a : Titled A) (b : Titled B) : Type 0 where
   pub title : a.title ≡ b.title
   pub item : R a.item b.item
-
-pub record SameFrame (m : Map) (a b : Frame) : Type 0 where
-  pub scene : a.scene ≡ b.scene
-  pub table : Same m a.table b.table
-  pub parent : a.parent ≡ b.parent

@@ -3,11 +3,11 @@ use Rattle.std.proofs.Common.{◌≡◌, ℕ, ◌+◌, ℤ, Bool, true, false, L
 use Rattle.std.specs.Prelude.{Ok, Err, codes}
 use Rattle.lua_heap.specs.Value.{Value, Nil, Text, Table, is_nil, same}
 use Rattle.lua_heap.specs.Table.{Entries, get, has, set, border}
-use Rattle.lua_heap.specs.Heap.{Heap, tab, table_at}
+use Rattle.lua_heap.specs.Heap.{Heap, tab, TableObj, table_at, is_shared}
 use Rattle.lua_heap.specs.Related.{Map, Each, none, more, OneToOne, Same, nil, truth, number, text, table, closure, builtin, markup, SameEntries, SameTable, Stands, Moved}
 use Rattle.lua_heap.proofs.Entries.{same-related, nil-related, get-related, has-related, border-related}
 use Rattle.lua_heap.proofs.Steps.{one_to_one, moved-same}
-use Rattle.lua_heap.proofs.Stood.{stood-table}
+use Rattle.lua_heap.proofs.Stood.{look-table, stood-table}
 use Rattle.lua_meaning.specs.Scope.{Bytes}
 use Rattle.lua_meaning.specs.Metatables.{field, metatable, handler, either_handler, common_handler}
 use Rattle.lua_meaning.specs.Arguments.{Plain, PlainEnd, Gives, Fails, Argument, gives, costs, gives_text, fails, with_argument, with_charge}
@@ -24,6 +24,18 @@ chosen Q false true e p q = cc
 -- one more entry
 pub entry-more : {m : Map} {k l v w : Value} {es fs : Entries} → Same m k l → Same m v w → SameEntries m es fs → SameEntries m ((k, v) ∷ es) ((l, w) ∷ fs)
 entry-more e f r = more _ _ _ _ (record { key = e; value = f }) r
+
+-- a table that stands for one and can be written, can be written after a call: no call makes a table read-only
+pub stays-writable : {X Y : Type 0} (R : Map → X → Y → Type 0) (m n : Map) (h i : Heap X) (s t : Heap Y) → Moved R m n h i s t → (a b : ℕ) → SameTab n a b
+    → (table_at s b).frozen ≡ false → (table_at t b).frozen ≡ false
+stays-writable R m n h i s t v a b e w = go (table_at t b).frozen refl
+  where
+    go : (x : Bool) → (table_at t b).frozen ≡ x → (table_at t b).frozen ≡ false
+    go false f = f
+    go true f =
+        let there = (stood-table R n i t a b v.stands e).2 in
+        let was = look-table s b (TableObj (table_at t b)) (v.later.freezes_none (tab b) (TableObj (table_at t b)) there f) in
+        sym (ap is_shared was) ∙ w
 
 module _ {X Y : Type 0} (R : Map → X → Y → Type 0) (m : Map) (h : Heap X) (s : Heap Y) (st : Stands R m h s) where
   pub one-one : OneToOne m
