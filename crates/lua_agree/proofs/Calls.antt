@@ -2,11 +2,11 @@
 use Rattle.std.proofs.Common.{◌≡◌, ℕ, suc, Bool, true, false, List, [], ◌∷◌, length, drop, Option, Some, None, refl, sym, subst, ap}
 use Rattle.std.specs.Prelude.{if◌then◌else◌}
 use Rattle.lua_syntax.specs.Tree.{Fun, Lambda, Block}
-use Rattle.page_run.specs.Outcome.{Goes, on_value}
+use Rattle.page_run.specs.Outcome.{on_value}
 use Rattle.lua_heap.specs.Proc.{Proc}
 use Rattle.lua_heap.specs.Value.{Value}
 use Rattle.lua_heap.specs.Related.{Map, Each, none, Same}
-use Rattle.lua_meaning.specs.Scope.{Bytes, Function, Levels, cell_of, levels}
+use Rattle.lua_meaning.specs.Scope.{Bytes, Function, Levels, cell_of}
 use Rattle.lua_meaning.specs.Acts.{State}
 use Rattle.lua_meaning.specs.Meaning.{block}
 use Rattle.lua_meaning.specs.Things.{after_body, body_scope, enter_function, chunk_scope, enter_chunk}

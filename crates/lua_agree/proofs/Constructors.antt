@@ -1,5 +1,5 @@
 -- TABLE CONSTRUCTORS (manual 2.5.7): fields in order, the values of the last item, and the entries that are set.
-use Rattle.std.proofs.Common.{◌≡◌, ℕ, pos, ◌+◌, List, [], ◌∷◌, Option, Some, refl}
+use Rattle.std.proofs.Common.{◌≡◌, ℕ, pos, ◌+◌, List, ◌∷◌, Some, refl}
 use Rattle.lua_syntax.specs.Tree.{Exp, Fields, NoField, Item, Pair}
 use Rattle.page_run.specs.Outcome.{on_value}
 use Rattle.lua_heap.specs.Value.{Value, Number, Table}
@@ -7,7 +7,7 @@ use Rattle.lua_heap.specs.Heap.{tab}
 use Rattle.lua_heap.specs.Related.{Map, Each, none, more, Same, number, table}
 use Rattle.lua_meaning.specs.Scope.{Scope, Levels, levels}
 use Rattle.lua_meaning.specs.Values.{first}
-use Rattle.lua_meaning.specs.Acts.{State, one}
+use Rattle.lua_meaning.specs.Acts.{State}
 use Rattle.lua_meaning.specs.Index.{set_entry}
 use Rattle.lua_meaning.specs.Constructors.{set_items, set_fields}
 use Rattle.lua_meaning.specs.Meaning.{expression, fields_of}
@@ -16,12 +16,12 @@ use Rattle.lua_slots.specs.Code.{CExp, CFields, NoFieldC, ItemC, PairC, CWorld}
 use Rattle.lua_slots.specs.Sight.{Sight}
 use Rattle.lua_slots.specs.IsCode.{IsExp, IsFields}
 use Rattle.lua_slots.specs.Slots.{Slots, levels_at}
-use Rattle.lua_slots.specs.Points.{SFrame, PairNow, FieldsNext, ItemsNext, Evals, Now}
+use Rattle.lua_slots.specs.Points.{SFrame, PairNow, FieldsNext, Evals, Now}
 use Rattle.lua_slots.specs.Index as machine_index
 use Rattle.lua_slots.specs.Expressions as machine_expressions
 use Rattle.lua_agree.specs.Variables.{Var, Inside}
 use Rattle.lua_agree.specs.Functions.{IsMoreFields, here}
-use Rattle.lua_agree.specs.Rests.{After, first_of, dropped, built, then_fields, then_items, SameRest, at_last_item, at_item, at_pair, at_pair_value, at_fields, at_items}
+use Rattle.lua_agree.specs.Rests.{After, first_of, built, then_fields, then_items, SameRest, at_last_item, at_item, at_pair, at_pair_value, at_fields, at_items}
 use Rattle.lua_agree.specs.Agree.{evaluates, Base, Rel}
 use Rattle.lua_agree.specs.Follows.{Follows}
 use Rattle.lua_agree.proofs.Parts.{first-same, one-value, here-now, values-on}

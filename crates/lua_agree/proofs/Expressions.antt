@@ -1,11 +1,11 @@
 -- EXPRESSIONS (manual 2.5): what begins with a node, lists, and closures that are made.
-use Rattle.std.proofs.Common.{◌≡◌, ℕ, true, false, List, [], ◌∷◌, length, Option, Some, None, refl, sym, subst}
+use Rattle.std.proofs.Common.{◌≡◌, ℕ, true, false, List, ◌∷◌, length, Some, sym, subst}
 use Rattle.lua_syntax.specs.declared.BinaryOp.{BinaryOp}
 use Rattle.lua_syntax.specs.declared.BinaryOp.TheVariants as op
 use Rattle.lua_syntax.specs.Tree.{Exp, NilE, TrueE, FalseE, NumberE, TextE, DotsE, FunctionE, NameE, IndexE, CallE, MethodE, TableE, BinaryE, UnaryE, ParenE, Exps, NoExp, MoreExp, Fun}
 use Rattle.page_run.specs.Run.{Takes}
 use Rattle.page_run.specs.Outcome.{Goes}
-use Rattle.lua_heap.specs.Value.{Value, Closure, Text, Table}
+use Rattle.lua_heap.specs.Value.{Value, Closure, Text}
 use Rattle.lua_heap.specs.Heap.{Function as FunctionClosed, new_closure}
 use Rattle.lua_heap.specs.Related.{Map, Grows, Each, Same, nil, truth, number, text, functions}
 use Rattle.lua_heap.proofs.Changes.{moved-new_closure, moved-new_table}
@@ -15,9 +15,9 @@ use Rattle.lua_meaning.specs.Operators.{Add, Sub, Mul, Div, Mod, Pow, Operator, 
 use Rattle.lua_meaning.specs.Expressions.{values, variable, operation, closure}
 use Rattle.lua_meaning.specs.Meaning.{expression, expressions}
 use Rattle.lua_meaning.specs.World.{World}
-use Rattle.lua_slots.specs.Code.{Place, CExp, ConstantC, DotsC, FunctionC, LocalC, GlobalC, IndexC, CallC, MethodC, TableC, AndC, OrC, OperateC, UnaryC, ParenC, CExps, NoC, MoreC, CProto, CWorld}
-use Rattle.lua_slots.specs.Sight.{Sight, inside}
-use Rattle.lua_slots.specs.IsCode.{operator_of, IsCaptured, IsClosure, IsExp, IsExps, IsFun}
+use Rattle.lua_slots.specs.Code.{Place, CExp, ConstantC, DotsC, FunctionC, LocalC, GlobalC, IndexC, CallC, MethodC, TableC, AndC, OrC, OperateC, UnaryC, ParenC, CExps, NoC, MoreC, CWorld}
+use Rattle.lua_slots.specs.Sight.{Sight}
+use Rattle.lua_slots.specs.IsCode.{operator_of, IsClosure, IsExp, IsExps, IsFun}
 use Rattle.lua_slots.specs.Slots.{Slots, function_of, proc_of, with_closure, next_closure}
 use Rattle.lua_slots.specs.Points.{SFrame, First, Move, Costs}
 use Rattle.lua_slots.specs.Errors as machine

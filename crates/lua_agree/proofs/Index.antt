@@ -1,32 +1,31 @@
 -- READING AND SETTING an index, and their links.
-use Rattle.std.proofs.Common.{◌≡◌, ℕ, Bool, true, false, ◌||◌, List, [], ◌∷◌, Option, Some, refl, sym, ◌∙◌, subst}
+use Rattle.std.proofs.Common.{◌≡◌, ℕ, Bool, false, ◌||◌, List, [], ◌∷◌, Option, Some, refl, sym, ◌∙◌, subst}
 use Rattle.std.specs.Prelude.{codes}
 use Rattle.page_run.specs.Outcome.{Goes, Jumps, on_value, ◌>>◌, give, begin}
-use Rattle.lua_heap.specs.Value.{Value, Nil, Truth, Number, Text, Table, Closure, Builtin, Markup}
+use Rattle.lua_heap.specs.Value.{Value, Nil, Table}
 use Rattle.lua_heap.specs.Heap.{tab, table_at, set_in}
-use Rattle.lua_heap.specs.Related.{Map, none, more, Same, nil, truth, number, text, table, closure, builtin, markup}
+use Rattle.lua_heap.specs.Related.{Map, none, more, Same, nil, text, table, markup}
 use Rattle.lua_heap.proofs.Entries.{nil-related, has-related}
 use Rattle.lua_heap.proofs.Steps.{one_to_one}
 use Rattle.lua_heap.proofs.Stood.{stood-table}
 use Rattle.lua_heap.proofs.Changes.{moved-set}
 use Rattle.lua_meaning.specs.Scope.{Levels}
 use Rattle.lua_meaning.specs.Acts.{Jump, State, IndexLink, SetLink}
-use Rattle.lua_meaning.specs.Messages.{cannot_index, nil_key, read_only}
+use Rattle.lua_meaning.specs.Messages.{nil_key, read_only}
 use Rattle.lua_meaning.specs.Calls as names_calls
-use Rattle.lua_meaning.specs.Index.{index_by, index_table, index_all, index_link, set_entry, set_by, set_table, set_all, set_link, set_index}
+use Rattle.lua_meaning.specs.Index.{index_by, index_table, index_all, index_link, set_entry, set_by, set_all, set_link, set_index}
 use Rattle.lua_meaning.specs.World.{World}
 use Rattle.lua_slots.specs.Code.{CWorld}
 use Rattle.lua_slots.specs.Slots.{Slots, levels_at}
-use Rattle.lua_slots.specs.Points.{IndexLinkS, SetLinkS, SFrame, Gives, Starts, Now}
+use Rattle.lua_slots.specs.Points.{IndexLinkS, SetLinkS, SFrame, Gives}
 use Rattle.lua_slots.specs.Errors as machine
 use Rattle.lua_slots.specs.Index as machine_index
 use Rattle.lua_agree.specs.Variables.{Var}
-use Rattle.lua_agree.specs.Values.{SameJump}
 use Rattle.lua_agree.specs.Functions.{SameFunction}
 use Rattle.lua_agree.specs.Rests.{After, dropped, SameRest}
 use Rattle.lua_agree.specs.Agree.{index_links, set_links, SamePoint, starts, Base, Rel}
 use Rattle.lua_agree.specs.Follows.{Follows, takes, sees, changes}
-use Rattle.lua_agree.proofs.Parts.{function-same, handler-same, entry-same, OnJump, rest-jumps, rel-moved, branches, here-now, values-on, one-value, fails, calls}
+use Rattle.lua_agree.proofs.Parts.{function-same, handler-same, entry-same, OnJump, rest-jumps, rel-moved, branches, here-now, values-on, one-value, fails, fails-with, calls}
 
 module _ (world : World) (code : CWorld) (B : Base) {m : Map} {vars : List Var} {h : State} {s : Slots} (r : Rel code B m vars h s) {k : After (List Value)} {fs : List SFrame} (g : SameRest code m vars s.functions k fs) where
   -- READING an index
@@ -44,14 +43,10 @@ module _ (world : World) (code : CWorld) (B : Base) {m : Map} {vars : List Var} 
         (λ _. values-on world code B r g (one-value x)))
 
     pub indexes : {a b c d : Value} → Same m a b → Same m c d → Follows world code B (index_all a c ls k) h (machine_index.index b d line fs s)
-    indexes nil f = fails world code B r line (rest-jumps code g) l (cannot_index Nil)
-    indexes (truth x) f = fails world code B r line (rest-jumps code g) l (cannot_index (Truth x))
-    indexes (number x) f = fails world code B r line (rest-jumps code g) l (cannot_index (Number x))
     indexes (text x) f = sees _ _ _ (indexes-table h.strings s.strings r.strings f)
     indexes (table a b e) f = indexes-table a b e f
-    indexes (closure x y z) f = fails world code B r line (rest-jumps code g) l (cannot_index (Closure x))
-    indexes (builtin x) f = fails world code B r line (rest-jumps code g) l (cannot_index (Builtin x))
     indexes (markup x y z) f = values-on world code B r g (one-value nil)
+    indexes e f = fails-with world code B r line (rest-jumps code g) l refl
 
     pub index-links-on : {a b i i' c d : Value} → Same m a b → Same m i i' → Same m c d → Follows world code B (index_link a i c ls k) h (machine_index.index_link b i' d line fs s)
     index-links-on {a} {b} {i} {i'} {c} {d} e x f =
@@ -93,17 +88,11 @@ module _ (world : World) (code : CWorld) (B : Base) {m : Map} {vars : List Var} 
         (λ _. here-now world code B r (starts (SetLink (Table a) i c x ls) (SetLinkS (Table b) i' d y line) k fs (set_links _ _ _ _ _ _ _ _ ls line (table _ _ e) z f v l) g))
 
     pub sets-all : {a b c d x y : Value} → Same m a b → Same m c d → Same m x y → Follows world code B (set_all a c x ls k) h (machine_index.set_index b d y line fs s)
-    sets-all nil f v = fails world code B r line (rest-jumps code g) l (cannot_index Nil)
-    sets-all (truth b) f v = fails world code B r line (rest-jumps code g) l (cannot_index (Truth b))
-    sets-all (number b) f v = fails world code B r line (rest-jumps code g) l (cannot_index (Number b))
-    sets-all (text b) f v = fails world code B r line (rest-jumps code g) l (cannot_index (Text b))
     sets-all (table a b e) f v =
         sees _ _ _
         (branches world code B _ _ _ _ (nil-related m _ _ (entry-same code m h.heap s.heap r.stands e f)) (λ _. sets-by e (handler-same code m h.heap s.heap r.stands (codes "__newindex") (table a b e)) f v)
         (λ _. sets-plainly e f v))
-    sets-all (closure p q z) f v = fails world code B r line (rest-jumps code g) l (cannot_index (Closure p))
-    sets-all (builtin b) f v = fails world code B r line (rest-jumps code g) l (cannot_index (Builtin b))
-    sets-all (markup p q z) f v = fails world code B r line (rest-jumps code g) l (cannot_index (Markup p))
+    sets-all e f v = fails-with world code B r line (rest-jumps code g) l refl
 
     pub set-links-on : {a b i i' c d x y : Value} → Same m a b → Same m i i' → Same m c d → Same m x y → Follows world code B (set_link a i c x ls k) h (machine_index.set_link b i' d y line fs s)
     set-links-on {a} {b} {i} {i'} {c} {d} {x} {y} e z f v =

@@ -10,3 +10,10 @@ pub mod Expressions
 pub mod Calls
 pub mod Statements
 pub mod Loops
+pub mod CallBacks
+pub mod Modules
+pub mod Libraries
+pub mod Starts
+pub mod Given
+pub mod Moves
+pub mod MetLaws

@@ -1,22 +1,20 @@
 -- OPERATORS on values, and the handlers of operands.
-use Rattle.std.proofs.Common.{◌≡◌, ℕ, ℤ, pos, Bool, true, false, List, [], ◌∷◌, length, Option, Some, None, refl, sym, subst}
+use Rattle.std.proofs.Common.{◌≡◌, ℕ, ℤ, Bool, true, false, List, [], ◌∷◌, Option, Some, None, refl, subst}
 use Rattle.std.specs.Prelude.{codes, not, Result, Ok, Err, int_lt, int_le}
 use Rattle.lua_syntax.specs.declared.UnaryOp.{UnaryOp}
 use Rattle.lua_syntax.specs.declared.UnaryOp.TheVariants as sign
 use Rattle.lua_number.specs.declared.arithmetic.NumberFault.{NumberFault}
 use Rattle.lua_number.specs.Whole.{negative_of}
-use Rattle.lua_heap.specs.Value.{Value, Nil, Truth, Closure, Builtin, Markup, same, is_true}
-use Rattle.lua_heap.specs.Table.{border}
-use Rattle.lua_heap.specs.Heap.{table_at}
-use Rattle.lua_heap.specs.Related.{Map, Same, nil, truth, number, text, table, closure, builtin, markup}
+use Rattle.lua_heap.specs.Value.{Value, is_true}
+use Rattle.lua_heap.specs.Related.{Map, Same, truth, number, text, table}
 use Rattle.lua_heap.proofs.Entries.{nil-related, same-related, border-related}
 use Rattle.lua_heap.proofs.Steps.{one_to_one}
 use Rattle.lua_heap.proofs.Stood.{stood-table}
 use Rattle.page_run.specs.Outcome.{Goes, ◌>>=◌, give}
 use Rattle.lua_meaning.specs.Scope.{Bytes, Levels}
 use Rattle.lua_meaning.specs.Values.{number_in, text_in}
-use Rattle.lua_meaning.specs.Acts.{Act, State, one}
-use Rattle.lua_meaning.specs.Messages.{fail, cannot_calculate, cannot_concatenate, cannot_compare, no_length}
+use Rattle.lua_meaning.specs.Acts.{State, one}
+use Rattle.lua_meaning.specs.Messages.{fail, cannot_calculate, cannot_concatenate, cannot_compare}
 use Rattle.lua_meaning.specs.Metatables.{common_handler}
 use Rattle.lua_meaning.specs.Calls.{call}
 use Rattle.lua_meaning.specs.Operators.{Arithmetic, Operator, Less, Greater, AtMost, AtLeast, Equal, Unequal, Concatenate, Calculate, result_of, event, number_or_fail, by_handler, by_either, calculate, negate, join_texts, length_of, truth_by, equals, text_less, order_texts, less_by, less, not_less_by, at_most_by, at_most, operate}
@@ -24,13 +22,13 @@ use Rattle.lua_meaning.specs.Expressions.{apply}
 use Rattle.lua_meaning.specs.World.{World}
 use Rattle.lua_slots.specs.Code.{CWorld}
 use Rattle.lua_slots.specs.Slots.{Slots, levels_at}
-use Rattle.lua_slots.specs.Points.{SFrame, First, Verdict}
+use Rattle.lua_slots.specs.Points.{SFrame}
 use Rattle.lua_slots.specs.Errors as machine
 use Rattle.lua_slots.specs.Operators as machine_operators
 use Rattle.lua_slots.specs.Operators.{negated_if}
 use Rattle.lua_agree.specs.Variables.{Var}
 use Rattle.lua_agree.specs.Functions.{SameFunction}
-use Rattle.lua_agree.specs.Rests.{After, first_of, alone, truth_after, falsehood_after, not_after, SameTruth, is_truth, is_falsehood, is_not_less, SameRest, at_first, at_verdict}
+use Rattle.lua_agree.specs.Rests.{After, alone, truth_after, SameTruth, is_truth, is_falsehood, is_not_less, SameRest, at_first, at_verdict}
 use Rattle.lua_agree.specs.Agree.{Base, Rel}
 use Rattle.lua_agree.specs.Follows.{Follows, takes, sees}
 use Rattle.lua_agree.proofs.Parts.{number-same, text-same, kind-same, true-same, either-same, common-same, rest-jumps, OnJump, branches, values-on, one-value, two-values, fails-with, calls}
@@ -81,16 +79,11 @@ module _ (world : World) (code : CWorld) (B : Base) {m : Map} {vars : List Var} 
 
   -- LENGTH
   lengths : {a b : Value} → Same m a b → Follows world code B (length_of a ls (alone k)) h (machine_operators.length_of b line fs s)
-  lengths nil = failing refl
-  lengths (truth b) = failing refl
-  lengths (number n) = failing refl
   lengths (text t) = values-on world code B r g (one-value (number _))
   lengths (table a b e) =
       let t = stood-table (SameFunction code) m h.heap s.heap a b r.stands e in
       sees _ _ _ (values-on world code B r g (one-value (rw (border-related m (one_to_one (SameFunction code) m h.heap s.heap r.stands) _ _ t.0.entries) (number _))))
-  lengths (closure a b e) = failing refl
-  lengths (builtin w) = failing refl
-  lengths (markup a b e) = failing refl
+  lengths e = failing refl
 
   -- COMPARISON: a truth is given, or its negation
   module _ {negated : Bool} {t : After Bool} (w : SameTruth k negated t) where
@@ -99,7 +92,7 @@ module _ (world : World) (code : CWorld) (B : Base) {m : Map} {vars : List Var} 
     answered-by _ _ is_falsehood b = values-on world code B r g (one-value (truth _))
     answered-by _ _ is_not_less b = values-on world code B r g (one-value (truth _))
 
-    answered : (b : Bool) → Follows world code B (t (Goes b)) h (machine_operators.answers negated b fs s)
+    pub answered : (b : Bool) → Follows world code B (t (Goes b)) h (machine_operators.answers negated b fs s)
     answered b = answered-by negated t w b
 
     jumps-by : (negated : Bool) (t : After Bool) → SameTruth k negated t → OnJump code m vars s.functions Bool t fs
@@ -147,134 +140,12 @@ module _ (world : World) (code : CWorld) (B : Base) {m : Map} {vars : List Var} 
   lesses : {a b c d : Value} → Same m a b → Same m c d → Follows world code B (less a c ls (truth_after k)) h (machine_operators.less b d line fs s)
   lesses (number x) (number y) = answered is_truth (int_lt x y)
   lesses (text x) (text y) = orders x y (text_less x y)
-  lesses nil nil = sees _ _ _ (lesses-common nil nil)
-  lesses nil (truth q) = sees _ _ _ (lesses-common nil (truth q))
-  lesses nil (number q) = sees _ _ _ (lesses-common nil (number q))
-  lesses nil (text q) = sees _ _ _ (lesses-common nil (text q))
-  lesses nil (table q1 q2 q3) = sees _ _ _ (lesses-common nil (table q1 q2 q3))
-  lesses nil (closure q1 q2 q3) = sees _ _ _ (lesses-common nil (closure q1 q2 q3))
-  lesses nil (builtin q) = sees _ _ _ (lesses-common nil (builtin q))
-  lesses nil (markup q1 q2 q3) = sees _ _ _ (lesses-common nil (markup q1 q2 q3))
-  lesses (truth p) nil = sees _ _ _ (lesses-common (truth p) nil)
-  lesses (truth p) (truth q) = sees _ _ _ (lesses-common (truth p) (truth q))
-  lesses (truth p) (number q) = sees _ _ _ (lesses-common (truth p) (number q))
-  lesses (truth p) (text q) = sees _ _ _ (lesses-common (truth p) (text q))
-  lesses (truth p) (table q1 q2 q3) = sees _ _ _ (lesses-common (truth p) (table q1 q2 q3))
-  lesses (truth p) (closure q1 q2 q3) = sees _ _ _ (lesses-common (truth p) (closure q1 q2 q3))
-  lesses (truth p) (builtin q) = sees _ _ _ (lesses-common (truth p) (builtin q))
-  lesses (truth p) (markup q1 q2 q3) = sees _ _ _ (lesses-common (truth p) (markup q1 q2 q3))
-  lesses (number p) nil = sees _ _ _ (lesses-common (number p) nil)
-  lesses (number p) (truth q) = sees _ _ _ (lesses-common (number p) (truth q))
-  lesses (number p) (text q) = sees _ _ _ (lesses-common (number p) (text q))
-  lesses (number p) (table q1 q2 q3) = sees _ _ _ (lesses-common (number p) (table q1 q2 q3))
-  lesses (number p) (closure q1 q2 q3) = sees _ _ _ (lesses-common (number p) (closure q1 q2 q3))
-  lesses (number p) (builtin q) = sees _ _ _ (lesses-common (number p) (builtin q))
-  lesses (number p) (markup q1 q2 q3) = sees _ _ _ (lesses-common (number p) (markup q1 q2 q3))
-  lesses (text p) nil = sees _ _ _ (lesses-common (text p) nil)
-  lesses (text p) (truth q) = sees _ _ _ (lesses-common (text p) (truth q))
-  lesses (text p) (number q) = sees _ _ _ (lesses-common (text p) (number q))
-  lesses (text p) (table q1 q2 q3) = sees _ _ _ (lesses-common (text p) (table q1 q2 q3))
-  lesses (text p) (closure q1 q2 q3) = sees _ _ _ (lesses-common (text p) (closure q1 q2 q3))
-  lesses (text p) (builtin q) = sees _ _ _ (lesses-common (text p) (builtin q))
-  lesses (text p) (markup q1 q2 q3) = sees _ _ _ (lesses-common (text p) (markup q1 q2 q3))
-  lesses (table p1 p2 p3) nil = sees _ _ _ (lesses-common (table p1 p2 p3) nil)
-  lesses (table p1 p2 p3) (truth q) = sees _ _ _ (lesses-common (table p1 p2 p3) (truth q))
-  lesses (table p1 p2 p3) (number q) = sees _ _ _ (lesses-common (table p1 p2 p3) (number q))
-  lesses (table p1 p2 p3) (text q) = sees _ _ _ (lesses-common (table p1 p2 p3) (text q))
-  lesses (table p1 p2 p3) (table q1 q2 q3) = sees _ _ _ (lesses-common (table p1 p2 p3) (table q1 q2 q3))
-  lesses (table p1 p2 p3) (closure q1 q2 q3) = sees _ _ _ (lesses-common (table p1 p2 p3) (closure q1 q2 q3))
-  lesses (table p1 p2 p3) (builtin q) = sees _ _ _ (lesses-common (table p1 p2 p3) (builtin q))
-  lesses (table p1 p2 p3) (markup q1 q2 q3) = sees _ _ _ (lesses-common (table p1 p2 p3) (markup q1 q2 q3))
-  lesses (closure p1 p2 p3) nil = sees _ _ _ (lesses-common (closure p1 p2 p3) nil)
-  lesses (closure p1 p2 p3) (truth q) = sees _ _ _ (lesses-common (closure p1 p2 p3) (truth q))
-  lesses (closure p1 p2 p3) (number q) = sees _ _ _ (lesses-common (closure p1 p2 p3) (number q))
-  lesses (closure p1 p2 p3) (text q) = sees _ _ _ (lesses-common (closure p1 p2 p3) (text q))
-  lesses (closure p1 p2 p3) (table q1 q2 q3) = sees _ _ _ (lesses-common (closure p1 p2 p3) (table q1 q2 q3))
-  lesses (closure p1 p2 p3) (closure q1 q2 q3) = sees _ _ _ (lesses-common (closure p1 p2 p3) (closure q1 q2 q3))
-  lesses (closure p1 p2 p3) (builtin q) = sees _ _ _ (lesses-common (closure p1 p2 p3) (builtin q))
-  lesses (closure p1 p2 p3) (markup q1 q2 q3) = sees _ _ _ (lesses-common (closure p1 p2 p3) (markup q1 q2 q3))
-  lesses (builtin p) nil = sees _ _ _ (lesses-common (builtin p) nil)
-  lesses (builtin p) (truth q) = sees _ _ _ (lesses-common (builtin p) (truth q))
-  lesses (builtin p) (number q) = sees _ _ _ (lesses-common (builtin p) (number q))
-  lesses (builtin p) (text q) = sees _ _ _ (lesses-common (builtin p) (text q))
-  lesses (builtin p) (table q1 q2 q3) = sees _ _ _ (lesses-common (builtin p) (table q1 q2 q3))
-  lesses (builtin p) (closure q1 q2 q3) = sees _ _ _ (lesses-common (builtin p) (closure q1 q2 q3))
-  lesses (builtin p) (builtin q) = sees _ _ _ (lesses-common (builtin p) (builtin q))
-  lesses (builtin p) (markup q1 q2 q3) = sees _ _ _ (lesses-common (builtin p) (markup q1 q2 q3))
-  lesses (markup p1 p2 p3) nil = sees _ _ _ (lesses-common (markup p1 p2 p3) nil)
-  lesses (markup p1 p2 p3) (truth q) = sees _ _ _ (lesses-common (markup p1 p2 p3) (truth q))
-  lesses (markup p1 p2 p3) (number q) = sees _ _ _ (lesses-common (markup p1 p2 p3) (number q))
-  lesses (markup p1 p2 p3) (text q) = sees _ _ _ (lesses-common (markup p1 p2 p3) (text q))
-  lesses (markup p1 p2 p3) (table q1 q2 q3) = sees _ _ _ (lesses-common (markup p1 p2 p3) (table q1 q2 q3))
-  lesses (markup p1 p2 p3) (closure q1 q2 q3) = sees _ _ _ (lesses-common (markup p1 p2 p3) (closure q1 q2 q3))
-  lesses (markup p1 p2 p3) (builtin q) = sees _ _ _ (lesses-common (markup p1 p2 p3) (builtin q))
-  lesses (markup p1 p2 p3) (markup q1 q2 q3) = sees _ _ _ (lesses-common (markup p1 p2 p3) (markup q1 q2 q3))
+  lesses e f = sees _ _ _ (lesses-common e f)
 
   at-mosts : {a b c d : Value} → Same m a b → Same m c d → Follows world code B (at_most a c ls (truth_after k)) h (machine_operators.at_most b d line fs s)
   at-mosts (number x) (number y) = answered is_truth (int_le x y)
   at-mosts (text x) (text y) = orders x y (not (text_less y x))
-  at-mosts nil nil = sees _ _ _ (at-mosts-common nil nil)
-  at-mosts nil (truth q) = sees _ _ _ (at-mosts-common nil (truth q))
-  at-mosts nil (number q) = sees _ _ _ (at-mosts-common nil (number q))
-  at-mosts nil (text q) = sees _ _ _ (at-mosts-common nil (text q))
-  at-mosts nil (table q1 q2 q3) = sees _ _ _ (at-mosts-common nil (table q1 q2 q3))
-  at-mosts nil (closure q1 q2 q3) = sees _ _ _ (at-mosts-common nil (closure q1 q2 q3))
-  at-mosts nil (builtin q) = sees _ _ _ (at-mosts-common nil (builtin q))
-  at-mosts nil (markup q1 q2 q3) = sees _ _ _ (at-mosts-common nil (markup q1 q2 q3))
-  at-mosts (truth p) nil = sees _ _ _ (at-mosts-common (truth p) nil)
-  at-mosts (truth p) (truth q) = sees _ _ _ (at-mosts-common (truth p) (truth q))
-  at-mosts (truth p) (number q) = sees _ _ _ (at-mosts-common (truth p) (number q))
-  at-mosts (truth p) (text q) = sees _ _ _ (at-mosts-common (truth p) (text q))
-  at-mosts (truth p) (table q1 q2 q3) = sees _ _ _ (at-mosts-common (truth p) (table q1 q2 q3))
-  at-mosts (truth p) (closure q1 q2 q3) = sees _ _ _ (at-mosts-common (truth p) (closure q1 q2 q3))
-  at-mosts (truth p) (builtin q) = sees _ _ _ (at-mosts-common (truth p) (builtin q))
-  at-mosts (truth p) (markup q1 q2 q3) = sees _ _ _ (at-mosts-common (truth p) (markup q1 q2 q3))
-  at-mosts (number p) nil = sees _ _ _ (at-mosts-common (number p) nil)
-  at-mosts (number p) (truth q) = sees _ _ _ (at-mosts-common (number p) (truth q))
-  at-mosts (number p) (text q) = sees _ _ _ (at-mosts-common (number p) (text q))
-  at-mosts (number p) (table q1 q2 q3) = sees _ _ _ (at-mosts-common (number p) (table q1 q2 q3))
-  at-mosts (number p) (closure q1 q2 q3) = sees _ _ _ (at-mosts-common (number p) (closure q1 q2 q3))
-  at-mosts (number p) (builtin q) = sees _ _ _ (at-mosts-common (number p) (builtin q))
-  at-mosts (number p) (markup q1 q2 q3) = sees _ _ _ (at-mosts-common (number p) (markup q1 q2 q3))
-  at-mosts (text p) nil = sees _ _ _ (at-mosts-common (text p) nil)
-  at-mosts (text p) (truth q) = sees _ _ _ (at-mosts-common (text p) (truth q))
-  at-mosts (text p) (number q) = sees _ _ _ (at-mosts-common (text p) (number q))
-  at-mosts (text p) (table q1 q2 q3) = sees _ _ _ (at-mosts-common (text p) (table q1 q2 q3))
-  at-mosts (text p) (closure q1 q2 q3) = sees _ _ _ (at-mosts-common (text p) (closure q1 q2 q3))
-  at-mosts (text p) (builtin q) = sees _ _ _ (at-mosts-common (text p) (builtin q))
-  at-mosts (text p) (markup q1 q2 q3) = sees _ _ _ (at-mosts-common (text p) (markup q1 q2 q3))
-  at-mosts (table p1 p2 p3) nil = sees _ _ _ (at-mosts-common (table p1 p2 p3) nil)
-  at-mosts (table p1 p2 p3) (truth q) = sees _ _ _ (at-mosts-common (table p1 p2 p3) (truth q))
-  at-mosts (table p1 p2 p3) (number q) = sees _ _ _ (at-mosts-common (table p1 p2 p3) (number q))
-  at-mosts (table p1 p2 p3) (text q) = sees _ _ _ (at-mosts-common (table p1 p2 p3) (text q))
-  at-mosts (table p1 p2 p3) (table q1 q2 q3) = sees _ _ _ (at-mosts-common (table p1 p2 p3) (table q1 q2 q3))
-  at-mosts (table p1 p2 p3) (closure q1 q2 q3) = sees _ _ _ (at-mosts-common (table p1 p2 p3) (closure q1 q2 q3))
-  at-mosts (table p1 p2 p3) (builtin q) = sees _ _ _ (at-mosts-common (table p1 p2 p3) (builtin q))
-  at-mosts (table p1 p2 p3) (markup q1 q2 q3) = sees _ _ _ (at-mosts-common (table p1 p2 p3) (markup q1 q2 q3))
-  at-mosts (closure p1 p2 p3) nil = sees _ _ _ (at-mosts-common (closure p1 p2 p3) nil)
-  at-mosts (closure p1 p2 p3) (truth q) = sees _ _ _ (at-mosts-common (closure p1 p2 p3) (truth q))
-  at-mosts (closure p1 p2 p3) (number q) = sees _ _ _ (at-mosts-common (closure p1 p2 p3) (number q))
-  at-mosts (closure p1 p2 p3) (text q) = sees _ _ _ (at-mosts-common (closure p1 p2 p3) (text q))
-  at-mosts (closure p1 p2 p3) (table q1 q2 q3) = sees _ _ _ (at-mosts-common (closure p1 p2 p3) (table q1 q2 q3))
-  at-mosts (closure p1 p2 p3) (closure q1 q2 q3) = sees _ _ _ (at-mosts-common (closure p1 p2 p3) (closure q1 q2 q3))
-  at-mosts (closure p1 p2 p3) (builtin q) = sees _ _ _ (at-mosts-common (closure p1 p2 p3) (builtin q))
-  at-mosts (closure p1 p2 p3) (markup q1 q2 q3) = sees _ _ _ (at-mosts-common (closure p1 p2 p3) (markup q1 q2 q3))
-  at-mosts (builtin p) nil = sees _ _ _ (at-mosts-common (builtin p) nil)
-  at-mosts (builtin p) (truth q) = sees _ _ _ (at-mosts-common (builtin p) (truth q))
-  at-mosts (builtin p) (number q) = sees _ _ _ (at-mosts-common (builtin p) (number q))
-  at-mosts (builtin p) (text q) = sees _ _ _ (at-mosts-common (builtin p) (text q))
-  at-mosts (builtin p) (table q1 q2 q3) = sees _ _ _ (at-mosts-common (builtin p) (table q1 q2 q3))
-  at-mosts (builtin p) (closure q1 q2 q3) = sees _ _ _ (at-mosts-common (builtin p) (closure q1 q2 q3))
-  at-mosts (builtin p) (builtin q) = sees _ _ _ (at-mosts-common (builtin p) (builtin q))
-  at-mosts (builtin p) (markup q1 q2 q3) = sees _ _ _ (at-mosts-common (builtin p) (markup q1 q2 q3))
-  at-mosts (markup p1 p2 p3) nil = sees _ _ _ (at-mosts-common (markup p1 p2 p3) nil)
-  at-mosts (markup p1 p2 p3) (truth q) = sees _ _ _ (at-mosts-common (markup p1 p2 p3) (truth q))
-  at-mosts (markup p1 p2 p3) (number q) = sees _ _ _ (at-mosts-common (markup p1 p2 p3) (number q))
-  at-mosts (markup p1 p2 p3) (text q) = sees _ _ _ (at-mosts-common (markup p1 p2 p3) (text q))
-  at-mosts (markup p1 p2 p3) (table q1 q2 q3) = sees _ _ _ (at-mosts-common (markup p1 p2 p3) (table q1 q2 q3))
-  at-mosts (markup p1 p2 p3) (closure q1 q2 q3) = sees _ _ _ (at-mosts-common (markup p1 p2 p3) (closure q1 q2 q3))
-  at-mosts (markup p1 p2 p3) (builtin q) = sees _ _ _ (at-mosts-common (markup p1 p2 p3) (builtin q))
-  at-mosts (markup p1 p2 p3) (markup q1 q2 q3) = sees _ _ _ (at-mosts-common (markup p1 p2 p3) (markup q1 q2 q3))
+  at-mosts e f = sees _ _ _ (at-mosts-common e f)
 
   -- WHAT AN OPERATOR GIVES
   pub operates : (o : Operator) {a b c d : Value} → Same m a b → Same m c d → Follows world code B (operate o a c ls (alone k)) h (machine_operators.operate o b d line fs s)

@@ -1,13 +1,13 @@
 -- What moves are made of: values and jumps for what follows, errors, handlers, calls.
-use Rattle.std.proofs.Common.{◌≡◌, ◌∙◌, IsTrue, ℕ, zero, suc, ℤ, Bool, true, false, List, [], ◌∷◌, ◌++◌, length, drop, Option, Some, None, refl, sym, subst, ap}
+use Rattle.std.proofs.Common.{◌≡◌, ◌∙◌, IsTrue, ℕ, zero, suc, Bool, true, false, List, [], ◌∷◌, ◌++◌, length, drop, Option, Some, None, refl, sym, subst, ap}
 use Rattle.std.specs.Prelude.{codes, if◌then◌else◌}
 use Rattle.page_run.specs.Outcome.{Outcome, Goes, Jumps}
 use Rattle.lua_table.specs.Entries.{Contents}
 use Rattle.lua_heap.specs.Proc.{Proc}
-use Rattle.lua_heap.specs.Value.{Value, Nil, Truth, Number, Text, Closure, Markup, is_true}
+use Rattle.lua_heap.specs.Value.{Value, Closure, is_true}
 use Rattle.lua_heap.specs.Heap.{Heap, tab, Obj, TableObj, Closed, table_at, closure_at}
 use Rattle.lua_heap.specs.Table.{get}
-use Rattle.lua_heap.specs.Related.{Map, Each, none, more, Same, nil, truth, number, text, table, closure, builtin, markup, SameClosed, functions, iterators, Stands, Moved}
+use Rattle.lua_heap.specs.Related.{Map, Each, none, more, Same, nil, truth, text, table, closure, builtin, SameClosed, functions, iterators, Stands, Moved}
 use Rattle.lua_heap.proofs.Entries.{nil-related, get-related, same-related}
 use Rattle.lua_heap.proofs.Steps.{one_to_one, later-then}
 use Rattle.lua_heap.proofs.Stood.{look-table, stood-table, stood-closure}
@@ -16,13 +16,13 @@ use Rattle.lua_meaning.specs.Values.{first, rest, second, third, is_function, nu
 use Rattle.lua_meaning.specs.CallBacks.{text_of}
 use Rattle.lua_meaning.specs.Acts.{Act, Jump, State, Body, LibraryBody, CallLink, LuaRun, Progress, Frame, choose}
 use Rattle.lua_meaning.specs.Titled.{ByTitle}
-use Rattle.lua_meaning.specs.Messages.{nth_level, raise_text, raise_at, fail, cannot_call}
+use Rattle.lua_meaning.specs.Messages.{nth_level, raise_text, fail, cannot_call}
 use Rattle.lua_meaning.specs.Metatables.{field, handler, either_handler, common_handler}
 use Rattle.lua_meaning.specs.Calls.{enter, call_by, call}
 use Rattle.lua_meaning.specs.World.{World}
 use Rattle.lua_slots.specs.Code.{CWorld}
 use Rattle.lua_slots.specs.Slots.{Activation, Slots, levels_at}
-use Rattle.lua_slots.specs.Points.{BodyS, LibraryS, CallLinkS, SFrame, Point, Gives, Move, Starts, Now}
+use Rattle.lua_slots.specs.Points.{BodyS, LibraryS, CallLinkS, SFrame, Point, Gives, Move, Now}
 use Rattle.lua_slots.specs.Errors as machine
 use Rattle.lua_slots.specs.Calls as machine_calls
 use Rattle.lua_library_agree.specs.Same.{SameFrame}
@@ -53,23 +53,11 @@ each-join (more x y vs ws r e) f = more _ _ _ _ r (each-join e f)
 
 pub true-same : {m : Map} {a b : Value} → Same m a b → is_true a ≡ is_true b
 true-same nil = refl
-true-same (truth b) = refl
-true-same (number n) = refl
-true-same (text t) = refl
-true-same (table a b e) = refl
-true-same (closure a b e) = refl
-true-same (builtin w) = refl
-true-same (markup a b e) = refl
+true-same e = refl
 
 pub function-same : {m : Map} {a b : Value} → Same m a b → is_function a ≡ is_function b
 function-same nil = refl
-function-same (truth b) = refl
-function-same (number n) = refl
-function-same (text t) = refl
-function-same (table a b e) = refl
-function-same (closure a b e) = refl
-function-same (builtin w) = refl
-function-same (markup a b e) = refl
+function-same e = refl
 
 pub second-same : {m : Map} {vs ws : List Value} → Each (Same m) vs ws → Same m (second vs) (second ws)
 second-same e = first-same (rest-same e)
@@ -91,44 +79,20 @@ each-drop (suc n) (more x y xs ys r e) = each-drop n e
 
 pub number-same : {m : Map} {a b : Value} → Same m a b → number_in a ≡ number_in b
 number-same nil = refl
-number-same (truth b) = refl
-number-same (number n) = refl
-number-same (text t) = refl
-number-same (table a b e) = refl
-number-same (closure a b e) = refl
-number-same (builtin w) = refl
-number-same (markup a b e) = refl
+number-same e = refl
 
 pub text-same : {m : Map} {a b : Value} → Same m a b → text_in a ≡ text_in b
 text-same nil = refl
-text-same (truth b) = refl
-text-same (number n) = refl
-text-same (text t) = refl
-text-same (table a b e) = refl
-text-same (closure a b e) = refl
-text-same (builtin w) = refl
-text-same (markup a b e) = refl
+text-same e = refl
 
 pub kind-same : {m : Map} {a b : Value} → Same m a b → kind_of a ≡ kind_of b
 kind-same nil = refl
-kind-same (truth b) = refl
-kind-same (number n) = refl
-kind-same (text t) = refl
-kind-same (table a b e) = refl
-kind-same (closure a b e) = refl
-kind-same (builtin w) = refl
-kind-same (markup a b e) = refl
+kind-same e = refl
 
 pub text-of-same : {m : Map} {a b : Value} → Same m a b → text_of a ≡ text_of b
-text-of-same nil = refl
 text-of-same (truth true) = refl
 text-of-same (truth false) = refl
-text-of-same (number n) = refl
-text-of-same (text t) = refl
-text-of-same (table a b e) = refl
-text-of-same (closure a b e) = refl
-text-of-same (builtin w) = refl
-text-of-same (markup a b e) = refl
+text-of-same e = refl
 
 -- no place calls what a function of the library calls
 pub no-levels : (fns : List Activation) → [] ≡ levels_at fns None
@@ -141,24 +105,12 @@ module _ (code : CWorld) (m : Map) (h : Heap Function) (s : Heap Proc) (st : Sta
   entry-same {a} {b} e f = get-related m (one_to_one (SameFunction code) m h s st) _ _ _ _ (stood-table (SameFunction code) m h s a b st e).0.entries f
 
   pub field-same : {a b : Value} (name : Bytes) → Same m a b → Same m (field h a name) (field s b name)
-  field-same name nil = nil
-  field-same name (truth b) = nil
-  field-same name (number n) = nil
-  field-same name (text t) = nil
   field-same name (table a b e) = entry-same e (text name)
-  field-same name (closure a b e) = nil
-  field-same name (builtin w) = nil
-  field-same name (markup a b e) = nil
+  field-same name e = nil
 
   pub handler-same : {a b : Value} (name : Bytes) → Same m a b → Same m (handler h a name) (handler s b name)
-  handler-same name nil = nil
-  handler-same name (truth b) = nil
-  handler-same name (number n) = nil
-  handler-same name (text t) = nil
   handler-same name (table a b e) = field-same name (stood-table (SameFunction code) m h s a b st e).0.meta
-  handler-same name (closure a b e) = nil
-  handler-same name (builtin w) = nil
-  handler-same name (markup a b e) = nil
+  handler-same name e = nil
 
   either : (c d : Bool) → c ≡ d → {x y z u : Value} → Same m x y → Same m z u → Same m (if c then x else z) (if d then y else u)
   either true true e f g = f
@@ -268,12 +220,7 @@ module _ (world : World) (code : CWorld) (B : Base) {m : Map} {vars : List Var} 
         (λ _. here-now (starts (CallLink i (a ∷ vs) ls) (CallLinkS i' (a' ∷ ws) line) k fs (call_links _ _ _ _ ls line x (more _ _ _ _ e es) l) g))
 
     pub calls : {f f' : Value} {vs ws : List Value} → Same m f f' → Each (Same m) vs ws → Follows world code B (call f vs ls k) h (machine_calls.call f' ws line fs s)
-    calls nil es = fails line (rest-jumps code g) l (cannot_call Nil)
-    calls (truth b) es = fails line (rest-jumps code g) l (cannot_call (Truth b))
-    calls (number n) es = fails line (rest-jumps code g) l (cannot_call (Number n))
-    calls (text t) es = fails line (rest-jumps code g) l (cannot_call (Text t))
     calls {vs = vs} {ws = ws} (builtin w) es = here-now (starts (LibraryBody w vs ls) (LibraryS w ws line) k fs (libraries w vs ws ls line es l) g)
-    calls (markup a b x) es = fails line (rest-jumps code g) l (cannot_call (Markup a))
     calls (table a b x) es = sees _ _ _ (calls-by (handler-same code m h.heap s.heap r.stands (codes "__call") (table a b x)) (table a b x) es refl)
     calls {vs = vs} {ws = ws} (closure a b x) es =
         let c = stood-closure (SameFunction code) m h.heap s.heap a b r.stands x in
@@ -281,3 +228,4 @@ module _ (world : World) (code : CWorld) (B : Base) {m : Map} {vars : List Var} 
         (subst (λ o. Follows world code B (enter (Closure a) o vs ls k) h (machine_calls.enter (Closure b) (closure_at s.heap b) ws line fs s)) (sym c.2)
         (subst (λ o. Follows world code B (enter (Closure a) (Some c.0) vs ls k) h (machine_calls.enter (Closure b) o ws line fs s)) (sym c.3)
         (enters (closure a b x) c.4 es)))
+    calls e es = fails-with line (rest-jumps code g) l refl

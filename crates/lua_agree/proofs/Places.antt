@@ -16,7 +16,7 @@ use Rattle.lua_heap.proofs.Stood.{look-cell, stood-cell}
 use Rattle.lua_heap.proofs.Changes.{moved-set_cell, moved-new_cell}
 use Rattle.lua_meaning.specs.Scope.{Bytes, Scope, Function, Levels, cell_of, with_name}
 use Rattle.lua_meaning.specs.Values.{first, rest}
-use Rattle.lua_meaning.specs.Acts.{State, declare, write_cell}
+use Rattle.lua_meaning.specs.Acts.{State, declare}
 use Rattle.lua_meaning.specs.Parts.{Local}
 use Rattle.lua_meaning.specs.Statements.{assign_one}
 use Rattle.lua_meaning.specs.Expressions.{variable}

@@ -1,5 +1,5 @@
 -- STATEMENTS AND BLOCKS: what begins with a node of theirs, what waits in them, and how blocks and bodies end.
-use Rattle.std.proofs.Common.{◌≡◌, ℕ, Bool, true, false, List, [], ◌∷◌, ◌++◌, length, reverse, Option, Some, None, refl, sym, subst}
+use Rattle.std.proofs.Common.{◌≡◌, ℕ, Bool, List, [], ◌∷◌, ◌++◌, length, reverse, Option, Some, None, refl, sym, subst}
 use Rattle.std.proofs.lemmas.List.{reverse-append}
 use Rattle.lua_syntax.specs.Tree.{Exp, NameE, IndexE, Exps, NoExp, MoreExp, Fun, Arms, NoArm, Arm, Block, NoStat, MoreStat, Stat, AssignS, CallS, DoS, WhileS, RepeatS, IfS, IfElseS, CountS, CountByS, EachS, LocalFunctionS, LocalS, ReturnS, BreakS}
 use Rattle.page_run.specs.Outcome.{Goes, Jumps, on_value, ◌>>=◌, ◌>>◌, give, jump}

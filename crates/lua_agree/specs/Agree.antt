@@ -1,8 +1,8 @@
 -- WHEN A MACHINE OVER SLOTS STANDS WHERE A RUN OVER NAMES STANDS: things that begin, points, and what both hold.
-use Rattle.std.specs.Prelude.{◌≡◌, ℕ, ℤ, Bool, false, List, [], ◌∷◌, length, Option, Some, None}
+use Rattle.std.specs.Prelude.{◌≡◌, ℕ, ℤ, Bool, false, List, [], Option, Some, None}
 use Rattle.lua_syntax.specs.Tree.{Exp, Exps, Block}
 use Rattle.page_run.specs.Run.{Begins, Asks}
-use Rattle.page_run.specs.Outcome.{Outcome, Goes, Jumps, on_value, ◌>>=◌, ◌>>◌, give}
+use Rattle.page_run.specs.Outcome.{Outcome, Goes, Jumps, on_value, give}
 use Rattle.mw_frame.specs.declared.question.Ask.{Ask}
 use Rattle.lua_heap.specs.Proc.{Proc}
 use Rattle.lua_heap.specs.Value.{Value}

@@ -7,7 +7,7 @@ use Rattle.lua_heap.specs.Related.{Map}
 use Rattle.lua_meaning.specs.Scope.{Bytes, Function, cell_of}
 use Rattle.lua_meaning.specs.Parts.{Expression, Statement}
 use Rattle.lua_meaning.specs.Meaning.{expression, block}
-use Rattle.lua_slots.specs.Code.{Up, CExp, CBlock, CFields, NoFieldC, CProto, Protos, CWorld}
+use Rattle.lua_slots.specs.Code.{Up, CExp, CBlock, CFields, CProto, Protos, CWorld}
 use Rattle.lua_slots.specs.Sight.{Sight, Everywhere, up_of, inside}
 use Rattle.lua_slots.specs.IsCode.{EndSight, any_sight, IsExp, IsFields, IsFun, IsBlock}
 use Rattle.lua_slots.specs.Slots.{Activation, newest_function}

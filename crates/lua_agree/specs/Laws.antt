@@ -1,5 +1,5 @@
 -- THE LAWS of the simulation, over any world and any code of its modules.
-use Rattle.std.specs.Prelude.{◌≡◌, List}
+use Rattle.std.specs.Prelude.{List}
 use Rattle.lua_heap.specs.Related.{Map}
 use Rattle.lua_meaning.specs.Acts.{State, LuaRun}
 use Rattle.lua_meaning.specs.World.{World}

@@ -1,6 +1,6 @@
 -- WHAT STANDS FOR WHAT beside single values: jumps and outcomes, targets of an assignment, what waits in the library, and what is kept
 -- by title.
-use Rattle.std.specs.Prelude.{◌≡◌, ℕ, List, [], ◌∷◌, Some}
+use Rattle.std.specs.Prelude.{◌≡◌, ℕ, List, Some}
 use Rattle.wk_base.specs.declared.title.Title.{Title}
 use Rattle.page_run.specs.Outcome.{Outcome, Goes, Jumps}
 use Rattle.lua_heap.specs.Value.{Value}

@@ -1,5 +1,5 @@
-//! A run over names and a machine over slots make the same events: the relation between them, and one lemma for each move. Definitions
-//! and laws alone; nothing here is executed.
+//! A run over names and a machine over slots make the same events: the relation between them, and that each move follows the run.
+//! Definitions and laws alone; nothing here is executed.
 //!
 //! The definitions stand in `specs/`; read them in this order:
 //!

@@ -1,22 +1,22 @@
 -- The basic functions that call back nobody (manual 5.1).
-use Rattle.std.proofs.Common.{◌≡◌, ℕ, zero, suc, ◌-◌, ℤ, pos, negsuc, ◌+ℤ◌, Bool, true, false, ◌&&◌, ◌||◌, List, [], ◌∷◌, length, drop, Option, Some, None, refl, sym, ◌∙◌, ap, subst, if◌then◌else◌, nat_le, nat_lt, bytes_eq}
-use Rattle.std.specs.Prelude.{Ok, Err, codes}
+use Rattle.std.proofs.Common.{◌≡◌, ℕ, zero, suc, ◌-◌, ℤ, pos, negsuc, ◌+ℤ◌, Bool, ◌&&◌, ◌||◌, List, length, drop, Option, Some, None, refl, ◌∙◌, ap, subst, if◌then◌else◌, nat_le, nat_lt}
+use Rattle.std.specs.Prelude.{codes}
 use Rattle.std.specs.Ordering.{int_eq}
-use Rattle.lua_heap.specs.Value.{Value, Nil, Number, Text, Table, is_true, is_nil, same}
-use Rattle.lua_heap.specs.Table.{Entries, get, has, border, behind_key, first_entry}
-use Rattle.lua_heap.specs.Heap.{Heap, tab, table_at}
+use Rattle.lua_heap.specs.Value.{Value, Nil, is_nil, same}
+use Rattle.lua_heap.specs.Table.{Entries, has, behind_key}
+use Rattle.lua_heap.specs.Heap.{Heap}
 use Rattle.lua_heap.specs.Related.{Map, Each, none, more, SameOption, neither, both, Same, nil, truth, number, text, table, closure, builtin, markup, SameEntries, Stands}
 use Rattle.lua_heap.proofs.Entries.{same-related, nil-related, get-related, has-related, border-related, after_key-related, first-related}
 use Rattle.lua_heap.proofs.Changes.{moved-set, moved-set_meta}
 use Rattle.lua_meaning.specs.Charges.{entry_charge}
 use Rattle.lua_meaning.specs.Scope.{Bytes}
-use Rattle.lua_meaning.specs.Values.{first, rest, second, third, number_in}
-use Rattle.lua_meaning.specs.Messages.{read_only, nil_key, bad_argument}
-use Rattle.lua_meaning.specs.Arguments.{Plain, Argument, with_argument}
-use Rattle.lua_meaning.specs.Basic.{message_or, assert, error, shown_metatable, get_metatable, a_metatable, with_metatable, set_metatable, raw_equal, raw_get, set_charge, with_entry, raw_set, no_such_place, from_place, is_count, select, number_or_nil, digits_in, in_base, to_number, kind, count_between, entries_from, unpack, key_and_value, next_entry, behind, next}
+use Rattle.lua_meaning.specs.Values.{first, number_in}
+use Rattle.lua_meaning.specs.Messages.{read_only, nil_key}
+use Rattle.lua_meaning.specs.Arguments.{Plain}
+use Rattle.lua_meaning.specs.Basic.{message_or, assert, error, shown_metatable, get_metatable, a_metatable, with_metatable, set_metatable, raw_equal, raw_get, set_charge, with_entry, raw_set, from_place, is_count, select, number_or_nil, digits_in, in_base, to_number, kind, count_between, entries_from, unpack, key_and_value, next_entry, behind, next}
 use Rattle.lua_library_agree.specs.Same.{SameArgument, both_ok, both_err, both_give, SamePlain}
-use Rattle.lua_library_agree.proofs.Values.{one-each, first-same, rest-same, second-same, third-same, drop-same, each-length, truth-same, number-same, text-same, kind-same, number_in-same, is_true-same, SameTab, bad-same, err-same, a_table-same, a_number-same, number_or-same, a_text-same}
-use Rattle.lua_library_agree.proofs.Heaps.{one-one, table-stood, entries-stood, item-same, field-same, metatable-same, handler-same, costing, giving, failing_with, failing, branch, with-argument, with-equal}
+use Rattle.lua_library_agree.proofs.Values.{one-each, first-same, rest-same, second-same, third-same, drop-same, each-length, truth-same, number-same, text-same, kind-same, number_in-same, is_true-same, SameTab, a_table-same, a_number-same, number_or-same, a_text-same}
+use Rattle.lua_library_agree.proofs.Heaps.{one-one, table-stood, entries-stood, item-same, field-same, metatable-same, costing, giving, failing_with, failing, branch, with-argument, with-equal}
 
 message_or-same : {m : Map} {v w : Value} (t : Bytes) → Same m v w → Same m (message_or v t) (message_or w t)
 message_or-same t nil = text t

@@ -1,5 +1,5 @@
 -- New tables that name one another: those of a frame, of a fresh environment, of `require('strict')`; and what reads a frame's tables.
-use Rattle.std.proofs.Common.{◌≡◌, ℕ, zero, suc, ◌+◌, pos, Bool, true, false, List, [], ◌∷◌, ◌++◌, length, Option, Some, None, slice_set, slice_index_or, refl, sym, ◌∙◌, ap, subst, arith, if◌then◌else◌}
+use Rattle.std.proofs.Common.{◌≡◌, ℕ, zero, suc, ◌+◌, pos, Bool, true, false, List, [], ◌∷◌, ◌++◌, length, Some, slice_set, slice_index_or, refl, ◌∙◌, ap, subst, arith, if◌then◌else◌}
 use Rattle.std.specs.Prelude.{codes}
 use Rattle.std.proofs.lemmas.List.{length-append}
 use Rattle.mw_frame.specs.declared.scene.Arg.{Arg}
@@ -7,16 +7,15 @@ use Rattle.mw_frame.specs.declared.scene.Scene.{Scene}
 use Rattle.lua_table.specs.Entries.{Contents}
 use Rattle.lua_heap.specs.Value.{Value, Nil, Number, Text, Table}
 use Rattle.lua_heap.specs.Table.{Entries, empty_table}
-use Rattle.lua_heap.specs.Heap.{Heap, tab, TableObj, table_at, set_meta_in, fresh}
-use Rattle.lua_heap.specs.Related.{Map, Grows, GrowsWith, Each, none, more, Same, nil, truth, number, text, table, closure, builtin, markup, SameEntries, tables, Stands, Moved}
+use Rattle.lua_heap.specs.Heap.{Heap, tab, TableObj, table_at, set_meta_in}
+use Rattle.lua_heap.specs.Related.{Map, Grows, GrowsWith, Each, none, Same, nil, truth, number, text, table, closure, builtin, markup, SameEntries, tables, Stands, Moved}
 use Rattle.lua_heap.proofs.Entries.{set-related}
 use Rattle.lua_heap.proofs.Carried.{same-grows}
 use Rattle.lua_heap.proofs.Steps.{extend, extend-at, moved-add, moved-then}
 use Rattle.lua_heap.proofs.Changes.{moved-set_meta}
 use Rattle.lua_meaning.specs.Scope.{Bytes}
-use Rattle.lua_meaning.specs.Arguments.{Plain}
 use Rattle.lua_meaning.specs.Acts.{Parent}
-use Rattle.lua_meaning.specs.Frames.{is_place, arg_key, arg_entries, by_key, args_index, argument_expand, args_meta, frame_meta, frame_entries, with_table, make_frame, make_frame_at, frame_table, new_frame}
+use Rattle.lua_meaning.specs.Frames.{is_place, arg_key, arg_entries, by_key, args_index, argument_expand, args_meta, frame_meta, frame_entries, with_table, make_frame, new_frame}
 use Rattle.lua_meaning.specs.Modules.{strict_meta}
 use Rattle.lua_library_agree.specs.Same.{SameFrame, SamePlain}
 use Rattle.lua_library_agree.specs.Laws.{strict_heap}

@@ -1,18 +1,18 @@
 -- What is read of two heaps, of which one stands in the other: fields, metatables, handlers, entries. And how an answer is put together.
-use Rattle.std.proofs.Common.{◌≡◌, ℕ, ◌+◌, ℤ, Bool, true, false, List, [], ◌∷◌, Option, Some, None, refl, sym, ◌∙◌, ap, subst, if◌then◌else◌}
-use Rattle.std.specs.Prelude.{Ok, Err, codes}
-use Rattle.lua_heap.specs.Value.{Value, Nil, Text, Table, is_nil, same}
-use Rattle.lua_heap.specs.Table.{Entries, get, has, set, border}
+use Rattle.std.proofs.Common.{◌≡◌, ℕ, ◌+◌, ℤ, Bool, true, false, List, ◌∷◌, refl, sym, ◌∙◌, ap, subst, if◌then◌else◌}
+use Rattle.std.specs.Prelude.{Ok, Err}
+use Rattle.lua_heap.specs.Value.{Value, is_nil, same}
+use Rattle.lua_heap.specs.Table.{Entries, get}
 use Rattle.lua_heap.specs.Heap.{Heap, tab, TableObj, table_at, is_shared}
-use Rattle.lua_heap.specs.Related.{Map, Each, none, more, OneToOne, Same, nil, truth, number, text, table, closure, builtin, markup, SameEntries, SameTable, Stands, Moved}
-use Rattle.lua_heap.proofs.Entries.{same-related, nil-related, get-related, has-related, border-related}
+use Rattle.lua_heap.specs.Related.{Map, Each, more, OneToOne, Same, nil, truth, number, text, table, closure, builtin, markup, SameEntries, SameTable, Stands, Moved}
+use Rattle.lua_heap.proofs.Entries.{same-related, nil-related, get-related}
 use Rattle.lua_heap.proofs.Steps.{one_to_one, moved-same}
 use Rattle.lua_heap.proofs.Stood.{look-table, stood-table}
 use Rattle.lua_meaning.specs.Scope.{Bytes}
 use Rattle.lua_meaning.specs.Metatables.{field, metatable, handler, either_handler, common_handler}
-use Rattle.lua_meaning.specs.Arguments.{Plain, PlainEnd, Gives, Fails, Argument, gives, costs, gives_text, fails, with_argument, with_charge}
+use Rattle.lua_meaning.specs.Arguments.{Plain, Fails, Argument, gives, costs, gives_text, fails, with_argument, with_charge}
 use Rattle.lua_library_agree.specs.Same.{SameArgument, both_ok, both_err, both_give, both_fail, SamePlain}
-use Rattle.lua_library_agree.proofs.Values.{one-each, text-same, SameTab}
+use Rattle.lua_library_agree.proofs.Values.{one-each, SameTab}
 
 -- one of two, by equal tests
 pub chosen : {A B : Type 0} (Q : A → B → Type 0) (b c : Bool) {x y : A} {z w : B} → b ≡ c → Q x z → Q y w → Q (if b then x else y) (if c then z else w)

@@ -1,8 +1,8 @@
 -- A fresh environment stands for a fresh environment, table by table.
-use Rattle.std.proofs.Common.{◌≡◌, ℕ, zero, suc, List, [], ◌∷◌, false, Option, Some, None, refl, subst}
-use Rattle.lua_heap.specs.Value.{Value, Nil, Table}
-use Rattle.lua_heap.specs.Heap.{Heap, Ref, tab, cel, clo, mar, Obj, TableObj, look}
-use Rattle.lua_heap.specs.Related.{Map, Each, none, more, Same, nil, truth, number, text, table, closure, builtin, markup, SameEntries, SameObj, tables, Stands}
+use Rattle.std.proofs.Common.{◌≡◌, zero, suc, false, Option, Some, None, refl, subst}
+use Rattle.lua_heap.specs.Value.{Nil}
+use Rattle.lua_heap.specs.Heap.{Ref, tab, cel, clo, mar, Obj, TableObj, look}
+use Rattle.lua_heap.specs.Related.{Map, none, nil, text, table, builtin, SameEntries, SameObj, tables}
 use Rattle.lua_heap.proofs.Places.{some_back}
 use Rattle.lua_meaning.specs.Home.{globals, strings, mw, mw_title, home_heap}
 use Rattle.lua_library_agree.specs.Laws.{HomesAgree}

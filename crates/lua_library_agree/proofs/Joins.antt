@@ -1,11 +1,9 @@
 -- The tables of a data module are put into both heaps.
-use Rattle.std.proofs.Common.{◌≡◌, ℕ, Bool, true, false, List, [], ◌∷◌, Option, Some, None, refl, sym, ◌∙◌, ap, subst}
-use Rattle.std.specs.Prelude.{IsTrue}
-use Rattle.lua_heap.specs.Value.{Value}
-use Rattle.lua_heap.specs.Heap.{Heap, Ref, Obj, look}
-use Rattle.lua_heap.specs.Related.{Map, GrowsWith, Stands}
+use Rattle.std.proofs.Common.{Bool, true}
+use Rattle.lua_heap.specs.Heap.{Heap, look}
+use Rattle.lua_heap.specs.Related.{Map, Stands}
 use Rattle.lua_heap.specs.Reach.{is_there}
-use Rattle.lua_heap.specs.Graph.{Graph, IsGraph, join, joined_root}
+use Rattle.lua_heap.specs.Graph.{Graph, join, joined_root}
 use Rattle.lua_heap.proofs.Places.{some-is, is-some}
 use Rattle.lua_heap.proofs.Joins.{look-first, joined}
 use Rattle.lua_heap.proofs.Puts.{put, put-kept}

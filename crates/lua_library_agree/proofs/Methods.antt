@@ -1,32 +1,28 @@
 -- The methods of frames (Scribunto, Frame object).
-use Rattle.std.proofs.Common.{◌≡◌, ℕ, ◌+◌, pos, negsuc, Bool, true, false, List, [], ◌∷◌, ◌++◌, length, Option, Some, None, slice_get, slice_set, refl, sym, ◌∙◌, ap, subst, if◌then◌else◌}
+use Rattle.std.proofs.Common.{◌≡◌, ℕ, ◌+◌, pos, negsuc, List, [], ◌∷◌, ◌++◌, length, Option, Some, None, slice_set, refl, ◌∙◌, ap, subst}
 use Rattle.std.specs.Prelude.{Ok, Err, codes}
 use Rattle.std.specs.Option.{option_map}
-use Rattle.wk_base.specs.declared.title.Title.{Title}
-use Rattle.wk_base.specs.declared.title.Namespace.TheVariants.{Template as TemplateSpace}
 use Rattle.wk_base.specs.Titles.{title_text}
 use Rattle.mw_frame.specs.declared.scene.Arg.{Arg}
 use Rattle.mw_frame.specs.declared.scene.Scene.{Scene}
 use Rattle.mw_frame.specs.declared.question.Ask.{Ask}
-use Rattle.lua_heap.specs.Value.{Value, Nil, Number, Text, Table, is_nil}
+use Rattle.lua_heap.specs.Value.{Value, Nil, is_nil}
 use Rattle.lua_heap.specs.Table.{Entries}
-use Rattle.lua_heap.specs.Heap.{Heap, table_at}
+use Rattle.lua_heap.specs.Heap.{Heap}
 use Rattle.lua_heap.specs.Related.{Map, Grows, GrowsWith, Each, none, more, SameOption, neither, both, Same, nil, truth, number, text, table, closure, builtin, markup, SameEntry, SameEntries, Stands}
 use Rattle.lua_heap.proofs.Entries.{nil-related}
 use Rattle.lua_heap.proofs.Carried.{same-grows}
 use Rattle.lua_heap.proofs.Steps.{moved-same}
-use Rattle.lua_meaning.specs.Charges.{frame_charge, filled_table_charge}
+use Rattle.lua_meaning.specs.Charges.{frame_charge}
 use Rattle.lua_meaning.specs.Scope.{Bytes}
 use Rattle.lua_meaning.specs.Questions.{Asked}
-use Rattle.lua_meaning.specs.Values.{first, rest, text_in}
+use Rattle.lua_meaning.specs.Values.{rest, text_in}
 use Rattle.lua_meaning.specs.Acts.{Frame, Parent, Nobody, Unmade, Made}
-use Rattle.lua_meaning.specs.Messages.{bad_argument, expected, bad_template_arguments}
-use Rattle.lua_meaning.specs.Metatables.{field, metatable}
 use Rattle.lua_meaning.specs.Arguments.{Plain, Argument}
-use Rattle.lua_meaning.specs.Frames.{merge_args, arg_named, args_charge, make_frame, new_frame, table_or_nil, table_of_frame, Numbered, frame_numbered, number_in_metatable, with_table}
-use Rattle.lua_meaning.specs.FrameMethods.{a_request, a_title_text, an_optional_text, entries_of, read_title, child_title, arg_value, arg_of, in_front, read_args, FramedEnd, FrameEnds, FrameAsks, FrameWalks, Framed, comes_to, answers, refuses, asks, as_framed, if_argument, a_frame, in_frame, get_current_frame, get_title, made_parent, parent_of, get_parent, argument_pairs, text_or_field, argument_entries, argument_table, get_argument, preprocess, frame_extension_tag, expand_template, child, new_child}
+use Rattle.lua_meaning.specs.Frames.{merge_args, arg_named, args_charge, make_frame, new_frame, table_or_nil, table_of_frame, Numbered, frame_numbered, number_in_metatable}
+use Rattle.lua_meaning.specs.FrameMethods.{a_request, a_title_text, an_optional_text, entries_of, arg_value, arg_of, in_front, read_args, FrameWalks, Framed, comes_to, answers, refuses, asks, as_framed, if_argument, in_frame, get_current_frame, get_title, parent_of, get_parent, argument_pairs, text_or_field, argument_entries, argument_table, get_argument, preprocess, frame_extension_tag, expand_template, new_child}
 use Rattle.lua_library_agree.specs.Same.{SameFrame, SameNumbered, SameArgument, both_ok, both_err, both_give, both_fail, both_end, both_ask, both_walk, SamePlain, SameFramed}
-use Rattle.lua_library_agree.proofs.Values.{one-each, first-same, rest-same, each-length, each-get, each-set, each-append, each-widen, text-same, text_in-same, bad-same, a_text-same, some_value-same, SameTab}
+use Rattle.lua_library_agree.proofs.Values.{one-each, first-same, rest-same, each-length, each-get, each-set, each-append, each-widen, text_in-same, bad-same, a_text-same, some_value-same, SameTab}
 use Rattle.lua_library_agree.proofs.Heaps.{chosen, entry-more, entries-stood, item-same, field-same, metatable-same}
 use Rattle.lua_library_agree.proofs.FrameTables.{frame-made, table-added}
 use Rattle.lua_library_agree.proofs.Tags.{extension_tag-same}

@@ -1,6 +1,5 @@
 -- The functions of `mw` that call back nobody, and of `require('strict')`.
-use Rattle.std.proofs.Common.{◌≡◌, List, [], ◌∷◌, length, refl, ap}
-use Rattle.std.specs.Prelude.{codes}
+use Rattle.std.proofs.Common.{List, refl}
 use Rattle.wk_base.specs.declared.title.Title.{Title}
 use Rattle.lua_heap.specs.Value.{Value, Nil}
 use Rattle.lua_heap.specs.Heap.{Heap}

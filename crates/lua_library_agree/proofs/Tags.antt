@@ -1,14 +1,14 @@
 -- The tag of HTML that `frame:extensionTag` gives (Scribunto, mw.text.tag).
-use Rattle.std.proofs.Common.{◌≡◌, ℕ, Bool, true, false, List, [], ◌∷◌, ◌++◌, Option, Some, None, refl, sym, ◌∙◌, ap, subst, if◌then◌else◌}
-use Rattle.std.specs.Prelude.{Ok, Err, codes}
+use Rattle.std.proofs.Common.{◌≡◌, true, false, List, ◌++◌, Option, Some, None, refl, ◌∙◌, ap}
+use Rattle.std.specs.Prelude.{Err, codes}
 use Rattle.lua_heap.specs.Value.{Value, is_nil}
 use Rattle.lua_heap.specs.Table.{Entries}
-use Rattle.lua_heap.specs.Heap.{Heap, table_at}
+use Rattle.lua_heap.specs.Heap.{Heap}
 use Rattle.lua_heap.specs.Related.{Map, Each, none, more, Same, nil, truth, number, text, table, closure, builtin, markup, SameEntry, SameEntries, Stands}
 use Rattle.lua_heap.proofs.Entries.{nil-related}
 use Rattle.lua_meaning.specs.Scope.{Bytes}
 use Rattle.lua_meaning.specs.Values.{text_in}
-use Rattle.lua_meaning.specs.Arguments.{Plain, Argument}
+use Rattle.lua_meaning.specs.Arguments.{Argument}
 use Rattle.lua_meaning.specs.Tag.{no_attribute, attribute, named_attribute, and_then, attributes, attributes_in, closed_by, TagParts, tag_of, extension_parts, extension_tag}
 use Rattle.lua_library_agree.specs.Same.{SamePlain}
 use Rattle.lua_library_agree.proofs.Values.{one-each, second-same, third-same, bad-same, text_in-same, a_text-same, text_charge-same}

@@ -1,13 +1,13 @@
 -- Values that stand for one another are read alike: their kinds, what they are as numbers and texts, arguments and their messages.
-use Rattle.std.proofs.Common.{◌≡◌, ℕ, zero, suc, ℤ, Bool, true, false, List, [], ◌∷◌, ◌++◌, ◌+◌, length, drop, Option, Some, None, slice_get, slice_set, refl, sym, ◌∙◌, ap, subst, if◌then◌else◌}
+use Rattle.std.proofs.Common.{◌≡◌, ℕ, zero, suc, ℤ, Bool, List, [], ◌∷◌, ◌++◌, ◌+◌, length, drop, Option, Some, None, slice_get, slice_set, refl, ◌∙◌, ap, subst}
 use Rattle.std.specs.Prelude.{Ok, Err, codes}
-use Rattle.lua_heap.specs.Value.{Value, Number, Truth, Text, is_true, is_nil}
+use Rattle.lua_heap.specs.Value.{Value, Number, Truth, Text, is_true}
 use Rattle.lua_heap.specs.Heap.{tab}
 use Rattle.lua_heap.specs.Related.{Map, Each, none, more, SameOption, neither, both, Same, nil, truth, number, text, table, closure, builtin, markup}
 use Rattle.lua_meaning.specs.Scope.{Bytes}
 use Rattle.lua_meaning.specs.Values.{kind_of, first, rest, second, third, number_in, text_in, is_function}
-use Rattle.lua_meaning.specs.Messages.{bad_argument, expected, got}
-use Rattle.lua_meaning.specs.Arguments.{Argument, text_charge, a_table, some_value, some_number, a_number, number_or, some_text, a_text}
+use Rattle.lua_meaning.specs.Messages.{bad_argument, expected}
+use Rattle.lua_meaning.specs.Arguments.{text_charge, a_table, some_value, some_number, a_number, number_or, some_text, a_text}
 use Rattle.lua_meaning.specs.CallBacks.{text_of}
 use Rattle.lua_library_agree.specs.Same.{SameArgument, both_ok, both_err}
 
