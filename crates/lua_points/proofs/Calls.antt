@@ -13,29 +13,27 @@ use Rattle.lua_slots.specs.Points.{Point, Gives, Asking}
 use Rattle.lua_slots.specs.Enact.{Funds}
 use Rattle.lua_goes.specs.Going.{Stop, Over, Lacks, Waiting, heap_at}
 use Rattle.lua_agree.specs.Named.{roots}
-use Rattle.lua_agree.specs.Laws.{GoesOn, NextIsMet}
 use Rattle.lua_points.specs.At.{At, Gone, IsAt}
 use Rattle.lua_points.specs.Laws.{CallIsMet, OthersStay, UnownedStays, roots_at, ReachStays}
 use Rattle.lua_points.proofs.Standings.{apart}
 use Rattle.lua_points.proofs.Goings.{gone}
 use Rattle.lua_points.proofs.Points.{at-own, own_of, own-inside, plain_image, plain-own, plain-roots, plain-back}
 
-module _ (goes : GoesOn) (next : NextIsMet) where
-  pub call_is_met : CallIsMet
-  call_is_met code S world work first given point s f a e c = gone goes next code S world work first given point s f a e c
+pub call_is_met : CallIsMet
+call_is_met code S world work first given point s f a e c = gone code S world work first given point s f a e c
 
-  -- OTHERS: what isn't in an own set with the roots
-  pub others_stay : OthersStay
-  others_stay code point s f a e c T own i =
-      let b = at-own code a.within a.world a.work a.first a.given point s f a.at T own i in
-      let g = gone goes next code _ a.world a.work a.first a.given point s f b e c in
-      frame-own T s.heap (heap_at e) (frame-wider _ (with_shared T s.heap) s.heap (heap_at e) (own-inside code a.within a.world a.work a.first a.given point s f a.at T) g.frame)
+-- OTHERS: what isn't in an own set with the roots
+pub others_stay : OthersStay
+others_stay code point s f a e c T own i =
+    let b = at-own code a.within a.world a.work a.first a.given point s f a.at T own i in
+    let g = gone code _ a.world a.work a.first a.given point s f b e c in
+    frame-own T s.heap (heap_at e) (frame-wider _ (with_shared T s.heap) s.heap (heap_at e) (own-inside code a.within a.world a.work a.first a.given point s f a.at T) g.frame)
 
-  pub unowned_stays_ : UnownedStays
-  unowned_stays_ code point s f a e c r b l n =
-      unowned_stays proc_names s.heap (roots point s) (plain_image code a.within a.world a.work a.first a.given point s f a.at)
-      (plain-own code a.within a.world a.work a.first a.given point s f a.at) (plain-roots code a.within a.world a.work a.first a.given point s f a.at) (heap_at e)
-      (λ T own i. others_stay code point s f a e c T own i) r b l n
+pub unowned_stays_ : UnownedStays
+unowned_stays_ code point s f a e c r b l n =
+    unowned_stays proc_names s.heap (roots point s) (plain_image code a.within a.world a.work a.first a.given point s f a.at)
+    (plain-own code a.within a.world a.work a.first a.given point s f a.at) (plain-roots code a.within a.world a.work a.first a.given point s f a.at) (heap_at e)
+    (λ T own i. others_stay code point s f a e c T own i) r b l n
 
 -- REACH: what is owned where the machine stands afterwards, and was there, is in each own set that had the roots
 module _ (code : CWorld) (point : Point) (s : Slots) (f : Funds) (a : IsAt code point s f) (r : Ref) (b : Obj Proc) (l : look s.heap r ≡ Some b) (T : Set) where
@@ -60,7 +58,7 @@ module _ (code : CWorld) (point : Point) (s : Slots) (f : Funds) (a : IsAt code 
   reaches (Over o u g) went own = at-point (Gives o []) u g _ refl went went.event own
   reaches (Waiting q fs u g) went own = at-point (Asking q fs) u g _ refl went went.event own
 
-pub reach_stays : (goes : GoesOn) (next : NextIsMet) → ReachStays
-reach_stays goes next code point s f a e c r b l own T o i =
+pub reach_stays : ReachStays
+reach_stays code point s f a e c r b l own T o i =
     let d = at-own code a.within a.world a.work a.first a.given point s f a.at T o i in
-    reaches code point s f a r b l T e (gone goes next code _ a.world a.work a.first a.given point s f d e c) own
+    reaches code point s f a r b l T e (gone code _ a.world a.work a.first a.given point s f d e c) own

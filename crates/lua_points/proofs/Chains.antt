@@ -19,7 +19,6 @@ use Rattle.lua_slots.specs.Slots.{Slots, with_heap}
 use Rattle.lua_slots.specs.Points.{SFrame, Gives, Asking, Works}
 use Rattle.lua_slots.specs.Enact.{Funds, funds, replied}
 use Rattle.lua_goes.specs.Going.{Stop, Waiting, Comes}
-use Rattle.lua_agree.specs.Laws.{GoesOn, NextIsMet}
 use Rattle.lua_points.specs.At.{Gone}
 use Rattle.lua_points.specs.Told.{IsHome, slots_at_start, reply, IsToldAs}
 use Rattle.lua_points.proofs.Points.{at-frame}
@@ -31,16 +30,16 @@ use Rattle.lua_points.proofs.Answers.{answer_is_at}
 abbrev own_set : Heap Proc → Heap Proc → Heap Proc → Set
 own_set s t u = with_new (with_new nowhere s t) t u
 
-pub answered : GoesOn → NextIsMet → (code : CWorld) (world : World) → Agrees world code → (work : Work) (first : Left) (globals strings : ℕ) (s t : Heap Proc) → IsHome code globals strings s t
+pub answered : (code : CWorld) (world : World) → Agrees world code → (work : Work) (first : Left) (globals strings : ℕ) (s t : Heap Proc) → IsHome code globals strings s t
     → (q : Ask) (fs : List SFrame) (u : Slots) (g : Funds) → Comes code (Works work) (slots_at_start t globals strings) (funds first) (Waiting q fs u g)
     → (v : Heap Proc) → ((r : Ref) (o : Obj Proc) → IsTrue (own_set s t u.heap r) → look u.heap r ≡ Some o → look v r ≡ Some o)
     → (K : Set) (a : Answer) (l : Left) (told : Tally) (o : Outcome (List Value) Jump) → IsToldAs K (own_set s t u.heap) v a o
     → (e : Stop) → Comes code (Gives o fs) (with_heap v u) (replied (reply a l told) g) e
     → Gone code (union (own_set s t u.heap) K) world work first (reply a l told ∷ []) v e
-answered goes next code world agrees work first globals strings s t h q fs u g c v same K a l told o x e d =
+answered code world agrees work first globals strings s t h q fs u g c v same K a l told o x e d =
     let mine : Set = own_set s t u.heap in
     let at_start = start_is_at code world agrees work first globals strings s t h in
-    let went = call_is_met goes next code (with_new nowhere s t) world work first [] (Works work) (slots_at_start t globals strings) (funds first) at_start (Waiting q fs u g) c in
+    let went = call_is_met code (with_new nowhere s t) world work first [] (Works work) (slots_at_start t globals strings) (funds first) at_start (Waiting q fs u g) c in
     let waits = at-frame code mine world work first [] (Asking q fs) u g went.event v same in
     let told_ = answer_is_at code mine K world work first [] q fs (with_heap v u) g waits a l told o x in
-    call_is_met goes next code (union mine K) world work first (reply a l told ∷ []) (Gives o fs) (with_heap v u) (replied (reply a l told) g) told_ e d
+    call_is_met code (union mine K) world work first (reply a l told ∷ []) (Gives o fs) (with_heap v u) (replied (reply a l told) g) told_ e d

@@ -9,7 +9,6 @@ use Rattle.lua_slots.specs.Code.{CWorld}
 use Rattle.lua_slots.specs.Slots.{Slots}
 use Rattle.lua_slots.specs.Points.{Point}
 use Rattle.lua_goes.specs.Going.{Stop, Over, Lacks, Waiting, heap_at, Comes}
-use Rattle.lua_agree.specs.Laws.{GoesOn, NextIsMet}
 use Rattle.lua_points.specs.Laws.{roots_at, event_telling}
 use Rattle.lua_points.specs.Clauses.{fund, ClauseOfStart, ClauseOfAnswer, ClausesOfGo}
 use Rattle.lua_points.proofs.Starts.{start_is_at}
@@ -38,14 +37,13 @@ module _ (code : CWorld) (point : Point) (s : Slots) (left : Left) (calls : ℕ)
   carried : (told : Tally) → Comes code point s (fund left calls told) (event_telling told e)
   carried told = subst (λ t. Comes code point s (fund left calls t) (event_telling told e)) (nothing_told told) (tally_is_carried code point s (fund left calls no_tally) e told c)
 
-module _ (goes : GoesOn) (next : NextIsMet) where
-  pub clauses_of_go : ClausesOfGo
-  clauses_of_go code point s left calls e k c =
-      let more = carried code point s left calls e c in
-      let f = fund left calls k.0 in
-      record {
-        goes_to = λ S world work first given told at. call_is_met goes next code S world work first given point s (fund left calls told) at (event_telling told e) (more told);
-        keeps_to = λ T own i. subst (λ (h : Heap Proc). Frame T s.heap h) (heap-told k.0 e) (others_stay goes next code point s f k.1 (event_telling k.0 e) (more k.0) T own i);
-        leaves_unowned = λ r b l n. subst (λ (h : Heap Proc). look h r ≡ Some b) (heap-told k.0 e) (unowned_stays_ goes next code point s f k.1 (event_telling k.0 e) (more k.0) r b l n);
-        reaches_no_more = λ r b l own. reach_stays goes next code point s f k.1 (event_telling k.0 e) (more k.0) r b l (own-told k.0 e r own);
-      }
+pub clauses_of_go : ClausesOfGo
+clauses_of_go code point s left calls e k c =
+    let more = carried code point s left calls e c in
+    let f = fund left calls k.0 in
+    record {
+      goes_to = λ S world work first given told at. call_is_met code S world work first given point s (fund left calls told) at (event_telling told e) (more told);
+      keeps_to = λ T own i. subst (λ (h : Heap Proc). Frame T s.heap h) (heap-told k.0 e) (others_stay code point s f k.1 (event_telling k.0 e) (more k.0) T own i);
+      leaves_unowned = λ r b l n. subst (λ (h : Heap Proc). look h r ≡ Some b) (heap-told k.0 e) (unowned_stays_ code point s f k.1 (event_telling k.0 e) (more k.0) r b l n);
+      reaches_no_more = λ r b l own. reach_stays code point s f k.1 (event_telling k.0 e) (more k.0) r b l (own-told k.0 e r own);
+    }

@@ -30,7 +30,8 @@ use Rattle.lua_agree.specs.Variables.{Var}
 use Rattle.lua_agree.specs.Functions.{SameFunction}
 use Rattle.lua_agree.specs.Agree.{SamePoint, Base, Rel}
 use Rattle.lua_agree.specs.Follows.{Follows, takes, counts, calls, leaves, sees, changes, begins, now}
-use Rattle.lua_agree.specs.Laws.{GoesOn, NextIsMet}
+use Rattle.lua_agree.proofs.MetLaws.{next_is_met}
+use Rattle.lua_agree.proofs.Moves.{goes_on}
 use Rattle.lua_agree.specs.Met.{moment_with, comes_to, Met, goes_to, is_spent}
 use Rattle.lua_points.specs.At.{Standing, At, Gone}
 use Rattle.lua_points.proofs.Events.{append-none, ended-point, end-is-back}
@@ -38,7 +39,7 @@ use Rattle.lua_points.proofs.Events.{append-none, ended-point, end-is-back}
 abbrev Past : Type 0
 Past = List (Reply Answer) → Event State Ask (Outcome (List Value) Jump)
 
-module _ (goes : GoesOn) (next : NextIsMet) (code : CWorld) (world : World) (w : Agrees world code) where
+module _ (code : CWorld) (world : World) (w : Agrees world code) where
   -- where a run stands now that stood elsewhere before
   record Led (B : Base) (past : Past) (q : Point) (u : Slots) (g : Funds) : Type 0 where
     map : Map
@@ -57,7 +58,7 @@ module _ (goes : GoesOn) (next : NextIsMet) (code : CWorld) (world : World) (w :
 
   -- one more move
   steps : {B : Base} {past : Past} {p : Point} {t : Slots} {g : Funds} (e : Enacted) → (k : Led B past p t g) → enact (moves code p t) g ≡ e → Met world code B (comes_to world k.run k.state g) e
-  steps {B} {p = p} {t = t} {g = g} e k x = subst (λ z. Met world code B (comes_to world k.run k.state g) z) x (next world code w B k.map k.vars k.run k.state p t g k.rel k.same)
+  steps {B} {p = p} {t = t} {g = g} e k x = subst (λ z. Met world code B (comes_to world k.run k.state g) z) x (next_is_met world code w B k.map k.vars k.run k.state p t g k.rel k.same)
 
   goes-led : {B : Base} {past : Past} {from : Point} {s : Slots} {f : Funds} {q : Point} {u : Slots} {g : Funds} → Led B past from s f → Reaches code from s f q u g → Led B past q u g
   goes-led k here = k
@@ -128,13 +129,13 @@ at-back code S world work first given o s f a =
     record { agrees = a.agrees; state = a.state; run = a.run; standing = a.standing; meant = λ later. a.meant later ∙ end-is-back world a.run k.0 a.state f later k.1 }
 
 -- THE CALL
-module _ (goes : GoesOn) (next : NextIsMet) (code : CWorld) (S : Set) (world : World) (work : Work) (first : Left) (given : List (Reply Answer)) (point : Point) (s : Slots) (f : Funds) where
+module _ (code : CWorld) (S : Set) (world : World) (work : Work) (first : Left) (given : List (Reply Answer)) (point : Point) (s : Slots) (f : Funds) where
   module _ (a : At code S world work first given point s f) where
     abbrev B : Base
-    B = base goes next code world a.agrees S a.state a.run point s a.standing
+    B = base code world a.agrees S a.state a.run point s a.standing
 
-    at-start : Led goes next code world a.agrees B (comes_to world a.run a.state f) point s f
-    at-start = record { map = a.standing.map; vars = a.standing.vars; run = a.run; state = a.state; rel = starts-here goes next code world a.agrees S a.state a.run point s a.standing; same = a.standing.same; meant = λ replies. refl }
+    at-start : Led code world a.agrees B (comes_to world a.run a.state f) point s f
+    at-start = record { map = a.standing.map; vars = a.standing.vars; run = a.run; state = a.state; rel = starts-here code world a.agrees S a.state a.run point s a.standing; same = a.standing.same; meant = λ replies. refl }
 
     now-meant : lua world work first given ≡ comes_to world a.run a.state f []
     now-meant = sym (ap (λ xs. lua world work first xs) (append-none given)) ∙ a.meant []
@@ -142,42 +143,42 @@ module _ (goes : GoesOn) (next : NextIsMet) (code : CWorld) (S : Set) (world : W
     -- where it stands after its moves
     at-later : (q : Point) (u : Slots) (g : Funds) → Reaches code point s f q u g → At code (with_new S s.heap u.heap) world work first given q u g
     at-later q u g l =
-        let k = goes-led goes next code world a.agrees at-start l in
+        let k = goes-led code world a.agrees at-start l in
         record {
           agrees = a.agrees;
           state = k.state;
           run = k.run;
-          standing = stands-later goes next code world a.agrees S a.state a.run point s a.standing k;
+          standing = stands-later code world a.agrees S a.state a.run point s a.standing k;
           meant = λ later. a.meant later ∙ k.meant later;
         }
 
     go : (e : Stop) → Comes code point s f e → Gone code S world work first given s.heap e
     go _ (is_over o u g l) =
-        let k = goes-led goes next code world a.agrees at-start l in
+        let k = goes-led code world a.agrees at-start l in
         record {
           event = at-back code (with_new S s.heap u.heap) world work first given o u g (at-later (Gives o []) u g l);
           frame = frame-later S a.standing.map k.map a.state.heap k.state.heap s.heap u.heap a.standing.inside k.rel.later;
           freezes_none = k.rel.later.freezes_none;
         }
     go _ (is_asking q fs u g l) =
-        let k = goes-led goes next code world a.agrees at-start l in
+        let k = goes-led code world a.agrees at-start l in
         record {
           event = at-later _ u g l;
           frame = frame-later S a.standing.map k.map a.state.heap k.state.heap s.heap u.heap a.standing.inside k.rel.later;
           freezes_none = k.rel.later.freezes_none;
         }
     go _ (is_short p t g which h l e) =
-        let k = goes-led goes next code world a.agrees at-start l in
-        let n = met-short goes next code world a.agrees (steps goes next code world a.agrees (Short which h) k e) in
+        let k = goes-led code world a.agrees at-start l in
+        let n = met-short code world a.agrees (steps code world a.agrees (Short which h) k e) in
         record {
           event = (n.0, now-meant ∙ k.meant [] ∙ n.1 []);
           frame = frame-later S a.standing.map k.map a.state.heap k.state.heap s.heap t.heap a.standing.inside k.rel.later;
           freezes_none = k.rel.later.freezes_none;
         }
     go _ (is_short_late p t g which h l e) =
-        let k = goes-led goes next code world a.agrees at-start l in
-        let n = met-short goes next code world a.agrees (steps goes next code world a.agrees (Short which h) k e) in
-        let v = led-later goes next code world a.agrees (goes world code a.agrees B k.map k.vars k.run k.state p t k.rel k.same) in
+        let k = goes-led code world a.agrees at-start l in
+        let n = met-short code world a.agrees (steps code world a.agrees (Short which h) k e) in
+        let v = led-later code world a.agrees (goes_on world code a.agrees B k.map k.vars k.run k.state p t k.rel k.same) in
         record {
           event = (n.0, now-meant ∙ k.meant [] ∙ n.1 []);
           frame = frame-later S a.standing.map v.0 a.state.heap v.1.heap s.heap (led (moves code p t)).heap a.standing.inside v.2;

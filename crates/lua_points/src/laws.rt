@@ -1,6 +1,6 @@
 //! The laws of points: `specs/Laws.antt` says them. Each is the contract of a function that does nothing.
-ghost use Rattle.lua_points.specs.Clauses.{ClauseOfStart, ClauseOfAnswer};
-ghost use Rattle.lua_points.specs.Laws.{ThereIsAHome, StartIsAt, QuestionIsAsked, EndIsMet, AnswerIsAt, SpentAnswerIsMet, PointIsCut, PointHasImage, PointLooksAtSet, PointLooksAtOwn, PointLooksAtOwned, StartOwnsNew, AnswerOwnsNothing, NeighbourWaits, NeighboursStayApart, SetStaysThere, AnswersAreThere, AnswersStayApart, LoadIsAnswer, AnswersWait, TallyIsCarried, NothingTold};
+ghost use Rattle.lua_points.specs.Clauses.{ClauseOfStart, ClauseOfAnswer, ClausesOfGo};
+ghost use Rattle.lua_points.specs.Laws.{ThereIsAHome, StartIsAt, CallIsMet, QuestionIsAsked, EndIsMet, AnswerIsAt, SpentAnswerIsMet, PointIsCut, PointHasImage, PointLooksAtSet, PointLooksAtOwn, PointLooksAtOwned, OthersStay, UnownedStays, ReachStays, StartOwnsNew, AnswerOwnsNothing, NeighbourWaits, NeighboursStayApart, SetStaysThere, AnswersAreThere, AnswersStayApart, LoadIsAnswer, AnswersWait, TallyIsCarried, NothingTold};
 
 /// A fresh environment is there in a store that had nothing.
 pub fn there_is_a_home()
@@ -10,6 +10,12 @@ pub fn there_is_a_home()
 /// A machine with a fresh environment is at the start of each run of its work, in a set that has nothing but what was made.
 pub fn start_is_at()
     ensures { StartIsAt }
+{}
+
+/// A call that comes to an event does so in each run that stands where the machine stands. It keeps to the run's set, and makes no table
+/// read-only.
+pub fn call_is_met()
+    ensures { CallIsMet }
 {}
 
 /// At a question the meaning asks it.
@@ -55,6 +61,21 @@ pub fn point_looks_at_own()
 /// It looks at what the machine owns and at read-only tables alone.
 pub fn point_looks_at_owned()
     ensures { PointLooksAtOwned }
+{}
+
+/// A call keeps to each own set with the machine's roots.
+pub fn others_stay()
+    ensures { OthersStay }
+{}
+
+/// So what the machine doesn't own is as it was.
+pub fn unowned_stays()
+    ensures { UnownedStays }
+{}
+
+/// What a machine owns after a call it owned before, or it was made in the call.
+pub fn reach_stays()
+    ensures { ReachStays }
 {}
 
 /// What a fresh machine owns was made with it.
@@ -120,4 +141,9 @@ pub fn clause_of_start()
 /// The clause of `answer`.
 pub fn clause_of_answer()
     ensures { ClauseOfAnswer }
+{}
+
+/// All clauses of `go`, from what the loop of a machine shows.
+pub fn clauses_of_go()
+    ensures { ClausesOfGo }
 {}

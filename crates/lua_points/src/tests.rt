@@ -6,6 +6,7 @@ use std::test::Fail;
 fn laws_of_points_are_called(_rt: HostRuntime) -> Result<(), Fail> {
     laws::there_is_a_home();
     laws::start_is_at();
+    laws::call_is_met();
     laws::question_is_asked();
     laws::end_is_met();
     laws::answer_is_at();
@@ -15,6 +16,9 @@ fn laws_of_points_are_called(_rt: HostRuntime) -> Result<(), Fail> {
     laws::point_looks_at_set();
     laws::point_looks_at_own();
     laws::point_looks_at_owned();
+    laws::others_stay();
+    laws::unowned_stays();
+    laws::reach_stays();
     laws::start_owns_new();
     laws::answer_owns_nothing();
     laws::neighbour_waits();
@@ -28,5 +32,6 @@ fn laws_of_points_are_called(_rt: HostRuntime) -> Result<(), Fail> {
     laws::nothing_told();
     laws::clause_of_start();
     laws::clause_of_answer();
+    laws::clauses_of_go();
     Ok(())
 }
