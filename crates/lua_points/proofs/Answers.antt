@@ -58,7 +58,7 @@ end_is_met code S world work first given o s f a =
       outcome = k.0;
       map = a.standing.map;
       state = a.state;
-      is_end = now-meant code S world work first given a ∙ ap (λ p. comes_to world p a.state f []) k.1 ∙ end-comes world k.0 a.state f [];
+      is_end = λ later. a.meant later ∙ ap (λ p. comes_to world p a.state f later) k.1 ∙ end-comes world k.0 a.state f later;
       stands = a.standing.stands;
       same = k.2;
       inside = a.standing.inside;
@@ -189,11 +189,10 @@ spent_answer_is_met code S world work first given q fs s f a w l y =
     let k = asked-point a.standing.same in
     let r : Reply Answer = spent_reply w l y in (
       a.state,
-      sym (ap (λ xs. lua world work first xs) (append-none (given ++ r ∷ [])))
-          ∙ ap (λ xs. lua world work first xs) (append-one given r [])
-          ∙ a.meant (r ∷ [])
-          ∙ ap (λ p. comes_to world p a.state f (r ∷ [])) k.1
-          ∙ perform-Asks (meaning_of world) wait no-replies q (λ z. receive z k.0) (state_of a.state f (r ∷ [])),
+      λ later. ap (λ xs. lua world work first xs) (append-one given r later)
+          ∙ a.meant (r ∷ later)
+          ∙ ap (λ p. comes_to world p a.state f (r ∷ later)) k.1
+          ∙ perform-Asks (meaning_of world) wait no-replies q (λ z. receive z k.0) (state_of a.state f (r ∷ later)),
     )
 
 -- what was answered is read-only: it is not owned, and doesn't bring two machines together

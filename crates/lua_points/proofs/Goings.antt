@@ -1,5 +1,5 @@
 -- A CALL of a machine, for every run that stands where the machine stands.
-use Rattle.std.proofs.Common.{◌≡◌, List, [], Some, sym, ◌∙◌, ap, refl, subst, inl, inr, IsTrue}
+use Rattle.std.proofs.Common.{◌≡◌, List, [], Some, ◌∙◌, refl, subst, inl, inr, IsTrue}
 use Rattle.wk_base.specs.declared.left.Left.{Left}
 use Rattle.page_run.specs.declared.which.Which.{Which}
 use Rattle.page_run.specs.Outcome.{Outcome}
@@ -18,7 +18,7 @@ use Rattle.lua_heap.proofs.Frames.{frame-later, inside-later}
 use Rattle.lua_meaning.specs.Questions.{Answer}
 use Rattle.lua_meaning.specs.Acts.{Jump, State, LuaRun}
 use Rattle.lua_meaning.specs.World.{World}
-use Rattle.lua_meaning.specs.Start.{Work, lua}
+use Rattle.lua_meaning.specs.Start.{Work}
 use Rattle.lua_slots.specs.Code.{CWorld}
 use Rattle.lua_slots.specs.IsCode.{Agrees}
 use Rattle.lua_slots.specs.Slots.{Slots}
@@ -34,7 +34,7 @@ use Rattle.lua_agree.proofs.MetLaws.{next_is_met}
 use Rattle.lua_agree.proofs.Moves.{goes_on}
 use Rattle.lua_agree.specs.Met.{moment_with, comes_to, Met, goes_to, is_spent}
 use Rattle.lua_points.specs.At.{Standing, At, Gone}
-use Rattle.lua_points.proofs.Events.{append-none, ended-point, end-is-back}
+use Rattle.lua_points.proofs.Events.{ended-point, end-is-back}
 
 abbrev Past : Type 0
 Past = List (Reply Answer) → Event State Ask (Outcome (List Value) Jump)
@@ -137,9 +137,6 @@ module _ (code : CWorld) (S : Set) (world : World) (work : Work) (first : Left) 
     at-start : Led code world a.agrees B (comes_to world a.run a.state f) point s f
     at-start = record { map = a.standing.map; vars = a.standing.vars; run = a.run; state = a.state; rel = starts-here code world a.agrees S a.state a.run point s a.standing; same = a.standing.same; meant = λ replies. refl }
 
-    now-meant : lua world work first given ≡ comes_to world a.run a.state f []
-    now-meant = sym (ap (λ xs. lua world work first xs) (append-none given)) ∙ a.meant []
-
     -- where it stands after its moves
     at-later : (q : Point) (u : Slots) (g : Funds) → Reaches code point s f q u g → At code (with_new S s.heap u.heap) world work first given q u g
     at-later q u g l =
@@ -171,7 +168,7 @@ module _ (code : CWorld) (S : Set) (world : World) (work : Work) (first : Left) 
         let k = goes-led code world a.agrees at-start l in
         let n = met-short code world a.agrees (steps code world a.agrees (Short which h) k e) in
         record {
-          event = (n.0, now-meant ∙ k.meant [] ∙ n.1 []);
+          event = (n.0, λ later. a.meant later ∙ k.meant later ∙ n.1 later);
           frame = frame-later S a.standing.map k.map a.state.heap k.state.heap s.heap t.heap a.standing.inside k.rel.later;
           freezes_none = k.rel.later.freezes_none;
         }
@@ -180,7 +177,7 @@ module _ (code : CWorld) (S : Set) (world : World) (work : Work) (first : Left) 
         let n = met-short code world a.agrees (steps code world a.agrees (Short which h) k e) in
         let v = led-later code world a.agrees (goes_on world code a.agrees B k.map k.vars k.run k.state p t k.rel k.same) in
         record {
-          event = (n.0, now-meant ∙ k.meant [] ∙ n.1 []);
+          event = (n.0, λ later. a.meant later ∙ k.meant later ∙ n.1 later);
           frame = frame-later S a.standing.map v.0 a.state.heap v.1.heap s.heap (led (moves code p t)).heap a.standing.inside v.2;
           freezes_none = v.2.freezes_none;
         }

@@ -54,10 +54,10 @@ module _ (code : CWorld) where
     pub meant : (more : List (Reply Answer)) → lua world work first (given ++ more) ≡ comes_to world run state f more
 
   -- what is true of the run at an event of a machine: it is at its end, or at a question, as the machine is; or it is spent with the same
-  -- allowance, and as much is left
+  -- allowance, and as much is left, whatever replies would have come
   abbrev pub AtEvent : Set → World → Work → Left → List (Reply Answer) → Stop → Type 0
   AtEvent S world work first given (Over o s f) = At S world work first given (Gives o []) s f
-  AtEvent S world work first given (Lacks w t f) = (h : State) × (lua world work first given ≡ Spent w (moment_with h f))
+  AtEvent S world work first given (Lacks w t f) = (h : State) × ((more : List (Reply Answer)) → lua world work first (given ++ more) ≡ Spent w (moment_with h f))
   AtEvent S world work first given (Waiting q fs s f) = At S world work first given (Asking q fs) s f
 
   -- WHAT A CALL DOES that comes to that event, from the heap s of the store: the run is there too, in the set with what was made in the

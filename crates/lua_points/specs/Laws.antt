@@ -53,7 +53,7 @@ pub record EndIs (code : CWorld) (S : Set) (world : World) (work : Work) (first 
   pub outcome : Outcome (List Value) Jump
   pub map : Map
   pub state : State
-  pub is_end : lua world work first given ≡ Ended outcome (moment_with state (all_given_back f))
+  pub is_end : (more : List (Reply Answer)) → lua world work first (given ++ more) ≡ Ended outcome (moment_with state (all_given_back f))
   pub stands : Stands (SameFunction code) map state.heap s.heap
   pub same : SameOutcome map outcome o
   pub inside : (q r : Ref) → map.to q ≡ Some r → IsTrue (S r)
@@ -72,7 +72,7 @@ AnswerIsAt = (code : CWorld) (S K : Set) (world : World) (work : Work) (first : 
 abbrev pub SpentAnswerIsMet : Type 0
 SpentAnswerIsMet = (code : CWorld) (S : Set) (world : World) (work : Work) (first : Left) (given : List (Reply Answer)) (q : Ask) (fs : List SFrame) (s : Slots) (f : Funds)
     → At code S world work first given (Asking q fs) s f → (w : Which) (l : Left) (told : Tally)
-    → (h : State) × (lua world work first (given ++ spent_reply w l told ∷ []) ≡ Spent w (moment_with h (all_given_back (replied (spent_reply w l told) f))))
+    → (h : State) × ((more : List (Reply Answer)) → lua world work first ((given ++ spent_reply w l told ∷ []) ++ more) ≡ Spent w (moment_with h (all_given_back (replied (spent_reply w l told) f))))
 
 -- WHERE A POINT MAY BE SEEN: within a closed set with the roots, of which there is one within each set where it is seen; and in each store
 -- that has the set as it was
