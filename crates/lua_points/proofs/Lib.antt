@@ -1,0 +1,12 @@
+pub mod Images
+pub mod Standings
+pub mod Events
+pub mod Goings
+pub mod Points
+pub mod Calls
+pub mod Starts
+pub mod Answers
+pub mod Loads
+pub mod Tallies
+pub mod Clauses
+pub mod Chains

@@ -1,0 +1,5 @@
+use Rattle.lua_points.proofs.Clauses.{clause_of_start}
+use Rattle.lua_points.proofs.laws.clause_of_start.Goals as goal
+
+pub returns : goal.returns
+returns c = clause_of_start

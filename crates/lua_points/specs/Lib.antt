@@ -1,0 +1,4 @@
+pub mod At
+pub mod Told
+pub mod Laws
+pub mod Clauses

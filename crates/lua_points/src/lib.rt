@@ -1,0 +1,14 @@
+//! Where a machine over slots stands in a run of Lua, what its calls mean, and why machines that share a store do not notice each other.
+//! Definitions and laws alone; nothing here is executed.
+//!
+//! The definitions stand in `specs/`; read `specs/At.antt` first:
+//!
+//! - `At`: a machine stands in a store at a point of a run; what a call does
+//! - `Told`: a fresh environment, and answers
+//! - `Laws`: what holds of `start`, `go` and `answer`, and of points that wait
+//! - `Clauses`: the same as code cites it, for all runs at once
+#![tactic(auto)]
+
+pub mod laws;
+#[cfg(test)]
+mod tests;
