@@ -18,8 +18,6 @@ mod order;
 mod paying;
 mod putting;
 mod taking;
-#[cfg(test)]
-mod tests;
 
 pub use copying::copy;
 pub use fault::DataFault;
