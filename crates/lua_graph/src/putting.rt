@@ -36,7 +36,7 @@ fn split_entries(entries: &[GraphEntry]) -> Option<(GraphEntry, &[GraphEntry])>
 fn names_of(alloc: Global, store: &mut Store, texts: &[Bytes]) -> Result<List<TextId>, NoMemory>
     ensures put { OnOk result (store.new ≡ record store.old { texts = with_texts store.old.texts texts.now }) }
     ensures names { IfOk result (AreNames store.new texts.now) }
-    ensures later { OnOk result (IsLater store.old store.new) }
+    ensures later { IsLater store.old store.new }
 {
     let mut names = List::new(alloc);
     let mut rest = texts;
@@ -56,7 +56,7 @@ pub(crate) fn new_tables(
 ) -> Result<List<TableId>, NoMemory>
     ensures put { OnOk result (store.new ≡ record store.old { heap = grown count store.old.heap }) }
     ensures tables { IfOk result (AreTables store.new (length store.old.heap.tables) count) }
-    ensures later { OnOk result (IsLater store.old store.new) }
+    ensures later { IsLater store.old store.new }
 {
     let mut tables = List::new(alloc);
     let mut left = count;
@@ -172,7 +172,7 @@ pub fn put_in(
     ensures put { OnOk result (store.new ≡ put frozen graph.now store.old) }
     ensures root { IfOk result (λ v. seen store.new.texts v ≡ joined_root store.old.heap) }
     ensures of { IfOk result (IsOf store.new) }
-    ensures later { OnOk result (IsLater store.old store.new) }
+    ensures later { IsLater store.old store.new }
 {
     let nodes = graph.nodes.as_slice();
     let names = names_of(alloc, store, graph.texts.as_slice())?;
