@@ -9,8 +9,9 @@ use Rattle.lua_slots.specs.Code.{CWorld}
 use Rattle.lua_slots.specs.Slots.{Slots}
 use Rattle.lua_slots.specs.Points.{Point}
 use Rattle.lua_goes.specs.Going.{Stop, Over, Lacks, Waiting, heap_at, Comes}
+use Rattle.lua_goes.proofs.Events.{comes_to_an_event}
 use Rattle.lua_points.specs.Laws.{roots_at, event_telling}
-use Rattle.lua_points.specs.Clauses.{fund, ClauseOfStart, ClauseOfAnswer, ClausesOfGo}
+use Rattle.lua_points.specs.Clauses.{fund, ClauseOfStart, ClauseOfAnswer, ClausesOfGo, GoCanBe}
 use Rattle.lua_points.proofs.Starts.{start_is_at}
 use Rattle.lua_points.proofs.Answers.{answer_is_at}
 use Rattle.lua_points.proofs.Tallies.{tally_is_carried, nothing_told}
@@ -47,3 +48,6 @@ clauses_of_go code point s left calls e k c =
       leaves_unowned = λ r b l n. subst (λ (h : Heap Proc). look h r ≡ Some b) (heap-told k.0 e) (unowned_stays_ code point s f k.1 (event_telling k.0 e) (more k.0) r b l n);
       reaches_no_more = λ r b l own. reach_stays code point s f k.1 (event_telling k.0 e) (more k.0) r b l (own-told k.0 e r own);
     }
+
+pub go_can_be : GoCanBe
+go_can_be code point s left calls k = let e = comes_to_an_event code point s (fund left calls no_tally) in (e.0, clauses_of_go code point s left calls e.0 k e.1)

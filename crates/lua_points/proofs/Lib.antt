@@ -10,3 +10,4 @@ pub mod Loads
 pub mod Tallies
 pub mod Clauses
 pub mod Chains
+pub mod Families

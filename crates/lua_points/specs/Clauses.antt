@@ -74,3 +74,7 @@ pub record GoIs (code : CWorld) (point : Point) (s : Slots) (left : Left) (calls
 
 abbrev pub ClausesOfGo : Type 0
 ClausesOfGo = (code : CWorld) (point : Point) (s : Slots) (left : Left) (calls : ℕ) (e : Stop) → CanGo code point s left calls → Comes code point s (fund left calls no_tally) e → GoIs code point s left calls e
+
+-- And there is such an event, from wherever a machine can go on: no clause asks too much.
+abbrev pub GoCanBe : Type 0
+GoCanBe = (code : CWorld) (point : Point) (s : Slots) (left : Left) (calls : ℕ) → CanGo code point s left calls → (e : Stop) × GoIs code point s left calls e

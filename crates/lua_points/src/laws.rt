@@ -1,5 +1,6 @@
 //! The laws of points: `specs/Laws.antt` says them. Each is the contract of a function that does nothing.
-ghost use Rattle.lua_points.specs.Clauses.{ClauseOfStart, ClauseOfAnswer, ClausesOfGo};
+ghost use Rattle.lua_points.specs.Clauses.{ClauseOfStart, ClauseOfAnswer, ClausesOfGo, GoCanBe};
+ghost use Rattle.lua_points.specs.Families.{OneMore, OneGoes, OneIsAnswered, DataIsPut, OrderIsFree};
 ghost use Rattle.lua_points.specs.Laws.{ThereIsAHome, StartIsAt, CallIsMet, QuestionIsAsked, EndIsMet, AnswerIsAt, SpentAnswerIsMet, PointIsCut, PointHasImage, PointLooksAtSet, PointLooksAtOwn, PointLooksAtOwned, OthersStay, UnownedStays, ReachStays, StartOwnsNew, AnswerOwnsNothing, NeighbourWaits, NeighboursStayApart, SetStaysThere, AnswersAreThere, AnswersStayApart, LoadIsAnswer, AnswersWait, TallyIsCarried, NothingTold};
 
 /// A fresh environment is there in a store that had nothing.
@@ -146,4 +147,34 @@ pub fn clause_of_answer()
 /// All clauses of `go`, from what the loop of a machine shows.
 pub fn clauses_of_go()
     ensures { ClausesOfGo }
+{}
+
+/// There is an event for which they hold.
+pub fn go_can_be()
+    ensures { GoCanBe }
+{}
+
+/// Machines that are apart stay so when one more is to be started.
+pub fn one_more()
+    ensures { OneMore }
+{}
+
+/// They stay so when one of them goes on, or is started.
+pub fn one_goes()
+    ensures { OneGoes }
+{}
+
+/// They stay so when one of them is answered.
+pub fn one_is_answered()
+    ensures { OneIsAnswered }
+{}
+
+/// They stay so when tables of a data module are put into the store.
+pub fn data_is_put()
+    ensures { DataIsPut }
+{}
+
+/// Any of them may be the one that goes on.
+pub fn order_is_free()
+    ensures { OrderIsFree }
 {}

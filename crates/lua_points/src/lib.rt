@@ -7,6 +7,7 @@
 //! - `Told`: a fresh environment, and answers
 //! - `Laws`: what holds of `start`, `go` and `answer`, and of points that wait
 //! - `Clauses`: the same as code cites it, for all runs at once
+//! - `Families`: many machines of one store
 #![tactic(auto)]
 
 pub mod laws;

@@ -33,5 +33,11 @@ fn laws_of_points_are_called(_rt: HostRuntime) -> Result<(), Fail> {
     laws::clause_of_start();
     laws::clause_of_answer();
     laws::clauses_of_go();
+    laws::go_can_be();
+    laws::one_more();
+    laws::one_goes();
+    laws::one_is_answered();
+    laws::data_is_put();
+    laws::order_is_free();
     Ok(())
 }
