@@ -1,5 +1,5 @@
 //! The data of a value, read-only.
-ghost use Rattle.std.specs.Prelude.{◌≡◌, ◌≢◌, IfOk, IfErr, OnOk, MatchResult};
+ghost use Rattle.std.specs.Prelude.{◌≡◌, ◌≢◌, IfOk, IfErr};
 ghost use Rattle.lua_walk.specs.Data.{taken};
 ghost use Rattle.lua_store.specs.Seen.{seen};
 ghost use Rattle.lua_store.specs.Parts.{IsOf, IsLater};
