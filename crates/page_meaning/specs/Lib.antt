@@ -1,0 +1,9 @@
+pub mod Wiki
+pub mod Told
+pub mod Drive
+pub mod Page
+pub mod Points
+pub mod Laws
+pub mod Modules
+pub mod Trial
+pub mod Examples
