@@ -2,9 +2,10 @@
 use Rattle.std.proofs.Common.{◌≡◌, ℕ, zero, suc, true, ◌+◌, ◌-◌, ◌<◌, ◌≤◌, ◌⊎◌, inl, inr, List, [], Option, Some, None, refl, sym, ap, ◌∙◌, subst, arith}
 use Rattle.wk_base.specs.declared.left.Left.{Left}
 use Rattle.wk_base.specs.declared.title.Title.{Title}
+use Rattle.wk_base.specs.Titles.{title_text}
 use Rattle.page_run.specs.declared.which.Which.{Which}
 use Rattle.page_run.specs.Outcome.{Outcome}
-use Rattle.page_run.specs.State.{no_tally, Response, Gives, Exhausts, Reply, Replier, Moment, State as Middle, Ended, Spent, Asked, start}
+use Rattle.page_run.specs.State.{NoLoads, Load, moment_of, no_tally, Response, Gives, Exhausts, Reply, Replier, Moment, State as Middle, Ended, Spent, Asked, start}
 use Rattle.page_run.specs.Perform.{size, perform, NoRise}
 use Rattle.page_run.specs.Charges.{ReplyFits, RepliesFit, Fits}
 use Rattle.page_run.proofs.FitLaws.{end_fits}
@@ -19,9 +20,9 @@ use Rattle.lua_meaning.specs.Home.{home}
 use Rattle.lua_meaning.specs.Start.{DataOf, run_of, end_of}
 use Rattle.lua_meaning_laws.specs.Laws.{IsForData}
 use Rattle.page_meaning.specs.Wiki.{Wiki, world}
-use Rattle.page_meaning.specs.Told.{Seen, data_answer, as_loaded, loaded}
+use Rattle.page_meaning.specs.Told.{Seen, data_answer, completes, as_loaded, loaded}
 use Rattle.page_meaning.specs.Drive.{Runs, data_reply, replies, drive_by, drive, load}
-use Rattle.page_meaning.specs.Laws.{charge_of, height_of, LoadsAreCovered, KeptIsFresh, ShortIsSpent}
+use Rattle.page_meaning.specs.Laws.{charge_of, height_of, LoadsAreCovered, KeptIsFresh, ShortIsSpent, KeptServes}
 use Rattle.page_meaning.proofs.DriveLaws.{Calm, calm-replies, calm-drive, drive-is}
 use Rattle.page_meaning.proofs.DataRuns.{data_run_same}
 
@@ -148,3 +149,22 @@ loads_are_covered wiki page title now a h =
 
 pub short_is_spent : ShortIsSpent
 short_is_spent wiki page title now a h l few = short wiki page title now a h l few (load wiki page title l).response refl
+
+pub kept_serves : KeptServes
+kept_serves wiki page title answer charge height k l steps calls =
+    let paid : charge_of wiki page title k.now ≤ l.steps = omega (arith, k.charge_is) in
+    let high : height_of wiki page title k.now ≤ l.calls = omega (arith, k.height_is) in
+    let e = kept_is_fresh wiki page title k.now answer k.gives l paid high in
+    let gives : (load wiki page title l).response ≡ Gives answer = ap (λ (r : Reply Answer). r.response) e ∙ k.gives in
+    let rest : (load wiki page title l).left.steps ≡ l.steps - charge_of wiki page title k.now = ap (λ (r : Reply Answer). r.left.steps) e in
+    let same : charge_of wiki page title l ≡ charge = omega (arith, k.charge_is) in
+    record {
+      gives = gives;
+      left = ap (λ (r : Reply Answer). r.left) e ∙ ap (λ c. record l { steps = l.steps - c }) (sym k.charge_is);
+      height_is = ap (λ (r : Reply Answer). r.tally.height) e ∙ sym k.height_is;
+      nodes = (moment_of (drive wiki page (DataOf title) l)).tally.nodes;
+      inner = (moment_of (drive wiki page (DataOf title) l)).tally.loads;
+      told =
+          ap (λ c. Load (title_text title) c (moment_of (drive wiki page (DataOf title) l)).tally.nodes (completes (load wiki page title l).response) (moment_of (drive wiki page (DataOf title) l)).tally.loads NoLoads) same
+          ∙ ap (λ x. Load (title_text title) charge (moment_of (drive wiki page (DataOf title) l)).tally.nodes (completes x) (moment_of (drive wiki page (DataOf title) l)).tally.loads NoLoads) gives;
+    }

@@ -4,4 +4,6 @@ pub mod OverLaws
 pub mod PointsLaws
 pub mod DataRuns
 pub mod KeptLaws
+pub mod PaidLaws
+pub mod TaskLaws
 pub mod Rows

@@ -1,17 +1,20 @@
 -- THE LAWS of pages, which the functions of this crate ensure.
-use Rattle.std.specs.Prelude.{◌≡◌, ◌⊎◌, ℕ, ◌-◌, ◌≤◌, ◌<◌, List, []}
+use Rattle.std.specs.Prelude.{◌≡◌, ◌⊎◌, ℕ, true, ◌+◌, ◌-◌, ◌≤◌, ◌<◌, List, []}
 use Rattle.wk_base.specs.declared.title.Title.{Title}
 use Rattle.wk_base.specs.declared.left.Left.{Left}
+use Rattle.wk_base.specs.Titles.{title_text}
 use Rattle.page_run.specs.declared.which.Which.{Which}
-use Rattle.page_run.specs.State.{Gives, Exhausts, Reply, Event, Ended, Spent, Asked}
+use Rattle.page_run.specs.State.{Loads, NoLoads, Load, Gives, Exhausts, Reply, Event, Ended, Spent, Asked}
 use Rattle.page_run.specs.Perform.{NoRise}
 use Rattle.page_run.specs.Charges.{KeepsCalls}
+use Rattle.wiki_markup.specs.Trees.{Trees}
 use Rattle.expand_meaning.specs.Outcome.{Work as PageWork, next_event}
 use Rattle.lua_meaning.specs.Questions.{Answer}
 use Rattle.lua_meaning.specs.Start.{Work, Invoke, lua}
 use Rattle.page_meaning.specs.Wiki.{Wiki, setting, world}
 use Rattle.page_meaning.specs.Told.{PageSeen, invoked}
 use Rattle.page_meaning.specs.Drive.{invocation_reply, reply, replies, one_run, drive, load}
+use Rattle.page_meaning.specs.Page.{page}
 use Rattle.page_meaning.specs.Points.{drive_after, expand_after, Follows}
 
 -- A RUN with its questions answered is one run, whose replies are computed by such runs. No bound on runs inside one another is seen.
@@ -81,3 +84,29 @@ abbrev pub ShortIsSpent : Type 0
 ShortIsSpent = (wiki : Wiki) (page title : Title) (now : Left) (a : Answer) → (load wiki page title now).response ≡ Gives a → (l : Left) →
     (l.steps < charge_of wiki page title now) ⊎ (l.calls < height_of wiki page title now) →
     (which : Which) × ((load wiki page title l).response ≡ Exhausts which)
+
+-- WHAT IS KEPT of a load that completed: its answer, its charge and its height
+module _ (wiki : Wiki) (page : Title) where
+  pub record IsKept (title : Title) (answer : Answer) (charge height : ℕ) : Type 0 where
+    pub now : Left
+    pub gives : (load wiki page title now).response ≡ Gives answer
+    pub charge_is : charge ≡ charge_of wiki page title now
+    pub height_is : height ≡ height_of wiki page title now
+
+  -- these stand for a fresh load from here: it gives that answer, takes that charge, has that height, and is told as completed
+  pub record StandsFor (title : Title) (answer : Answer) (charge height : ℕ) (l : Left) : Type 0 where
+    pub gives : (load wiki page title l).response ≡ Gives answer
+    pub left : (load wiki page title l).left ≡ record l { steps = l.steps - charge }
+    pub height_is : (load wiki page title l).tally.height ≡ height
+    pub nodes : ℕ
+    pub inner : Loads
+    pub told : (load wiki page title l).tally.loads ≡ Load (title_text title) charge nodes true inner NoLoads
+
+-- What is kept stands for a fresh load wherever it is covered.
+abbrev pub KeptServes : Type 0
+KeptServes = (wiki : Wiki) (page title : Title) (answer : Answer) (charge height : ℕ) → IsKept wiki page title answer charge height → (l : Left) →
+    charge ≤ l.steps → height ≤ l.calls → StandsFor wiki page title answer charge height l
+
+-- The charges that are kept on a page are paid: with what is left they are no more than the steps that there were.
+abbrev pub KeptIsPaid : Type 0
+KeptIsPaid = (wiki : Wiki) (title : Title) (trees : Trees) (full : Left) → (page wiki title trees full).kept + (page wiki title trees full).left.steps ≤ full.steps

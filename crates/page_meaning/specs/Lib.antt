@@ -3,6 +3,7 @@ pub mod Told
 pub mod Drive
 pub mod Page
 pub mod Points
+pub mod Tasks
 pub mod Laws
 pub mod Modules
 pub mod Trial

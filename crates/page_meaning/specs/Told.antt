@@ -77,13 +77,13 @@ load_response (Spent which m) = Exhausts which
 load_response (Asked question m) = Exhausts Steps
 
 -- A load completes where it gives an answer, a failure too. It stands in the list of loads, with its charge, its nodes, and the loads
--- inside it.
+-- inside it; there are no invocations inside it, since a data module asks for data alone.
 abbrev pub completes : Response Answer → Bool
 completes (Gives answer) = true
 completes (Exhausts which) = false
 
 abbrev pub as_loaded : Title → ℕ → Bool → Tally → Tally
-as_loaded title charge completed t = record { height = t.height; nodes = 0; invoked_nodes = t.invoked_nodes; loads = Load (title_text title) charge t.nodes completed t.loads NoLoads }
+as_loaded title charge completed t = record { height = t.height; nodes = 0; invoked_nodes = 0; loads = Load (title_text title) charge t.nodes completed t.loads NoLoads }
 
 abbrev pub loaded : Title → Left → Seen → Reply Answer
 loaded title first e = record {

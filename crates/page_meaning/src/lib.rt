@@ -8,6 +8,7 @@
 //! - `Drive`: the replies to the three questions; a run with its questions answered; an invocation, and a load of data
 //! - `Page`: the text of a page, what is left, what is kept and what is begun
 //! - `Points`: a run after some replies, and what it comes to
+//! - `Tasks`: runs of Lua and expansions alike
 //! - `Laws`
 //! - `Examples`: worked pages, with what comes of them; `Trial` makes small wikis, `Modules` has their modules
 //!
@@ -15,11 +16,13 @@
 //!
 //! - `drive`: what runs inside one another come to, and what they leave
 //! - `kept`: what a data module's load gives elsewhere
+//! - `tasks`: runs of Lua and expansions alike go on, and tell their loads
 //! - `examples`: worked pages come to what `Examples` says
 #![tactic(auto)]
 
 pub mod drive;
 pub mod examples;
 pub mod kept;
+pub mod tasks;
 #[cfg(test)]
 mod tests;

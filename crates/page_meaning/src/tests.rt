@@ -1,5 +1,5 @@
 //! Each law, and each group of worked pages, is called once.
-use crate::{drive, examples, kept};
+use crate::{drive, examples, kept, tasks};
 use std::test::Fail;
 
 #[test]
@@ -14,6 +14,11 @@ fn laws_are_called(_rt: HostRuntime) -> Result<(), Fail> {
     kept::loads_are_covered();
     kept::kept_is_fresh();
     kept::short_is_spent();
+    kept::kept_serves();
+    kept::kept_is_paid();
+    tasks::tasks_go_on();
+    tasks::tasks_tell_loads();
+    tasks::pages_are_tasks();
     examples::globals_are_fresh();
     examples::failures_are_shown();
     examples::given_stands();
