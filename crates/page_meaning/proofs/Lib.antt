@@ -1,0 +1,9 @@
+pub mod DriveLaws
+pub mod Texts
+pub mod OverLaws
+pub mod PointsLaws
+pub mod DataRuns
+pub mod KeptLaws
+pub mod PaidLaws
+pub mod TaskLaws
+pub mod Rows

@@ -1,0 +1,10 @@
+pub mod Wiki
+pub mod Told
+pub mod Drive
+pub mod Page
+pub mod Points
+pub mod Tasks
+pub mod Laws
+pub mod Modules
+pub mod Trial
+pub mod Examples
