@@ -2,7 +2,7 @@
 use Rattle.std.proofs.Common.{◌≡◌, ℕ, zero, suc, ◌+◌, ◌-◌, ◌^◌, ◌<◌, ◌&&◌, Bool, true, false, if◌then◌else◌, List, [], ◌∷◌, ◌++◌, length, replicate, refl, sym, ap, ◌∙◌, arith, append_assoc, append-nil, length-append}
 use Rattle.std.proofs.lemmas.List.{replicate-append-replicate}
 use Rattle.lua_format.specs.declared.directive.Flags.{Flags}
-use Rattle.lua_format.specs.Layouts.{spaces, noughts, filled, quoted, quoted_byte, quoted_bytes}
+use Rattle.lua_format.specs.Layouts.{spaces, noughts, filled, quoted, quoted_bytes}
 use Rattle.lua_format.specs.Lengths.{saturated}
 
 pub room_is : (width len n : ℕ) → width < 2 ^ 64 → len ≡ saturated n → width - len ≡ width - n
@@ -50,11 +50,3 @@ quoted_end len rest bytes e small is =
     let there : saturated len ≡ saturated (2 + length (quoted_bytes bytes)) = ap saturated (let z : len ≡ len + length (quoted_bytes rest) = omega (arith, none) in z) ∙ is in
     let same : saturated len ≡ len = omega (arith, small) in
     sym same ∙ there ∙ ap saturated (let z : 2 + length (quoted_bytes bytes) ≡ length (quoted bytes) = omega (arith, whole) in z)
-
-pub quoted_more : (len : ℕ) (rest behind bytes : List ℕ) (b : ℕ) → rest ≡ b ∷ behind → len < 2 ^ 64
-    → saturated (len + length (quoted_bytes rest)) ≡ saturated (2 + length (quoted_bytes bytes))
-    → saturated (saturated (len + length (quoted_byte b)) + length (quoted_bytes behind)) ≡ saturated (2 + length (quoted_bytes bytes))
-quoted_more len rest behind bytes b e small is =
-    let more : length (quoted_bytes rest) ≡ length (quoted_byte b) + length (quoted_bytes behind) = ap (λ l. length (quoted_bytes l)) e ∙ length-append (quoted_byte b) (quoted_bytes behind) in
-    let same : saturated (saturated (len + length (quoted_byte b)) + length (quoted_bytes behind)) ≡ saturated (len + length (quoted_bytes rest)) = omega (arith, more) in
-    same ∙ is

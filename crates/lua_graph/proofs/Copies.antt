@@ -1,5 +1,5 @@
 -- A copy is made entry by entry, and table by table.
-use Rattle.std.proofs.Common.{◌≡◌, ◌≢◌, ℕ, zero, suc, ◌+◌, ◌-◌, ◌≤◌, ◌<◌, Bool, true, false, List, [], ◌∷◌, ◌++◌, length, map, take, drop, replicate, slice_get, slice_set, slice_index_or, refl, sym, ap, ◌∙◌, subst, arith, append_assoc, append-nil, length-append, get_or-set_same, get_or-set_other, Some, None}
+use Rattle.std.proofs.Common.{◌≡◌, ℕ, zero, suc, ◌+◌, ◌-◌, ◌≤◌, ◌<◌, Bool, true, false, List, [], ◌∷◌, ◌++◌, length, map, take, drop, replicate, slice_get, slice_set, slice_index_or, refl, sym, ap, ◌∙◌, subst, arith, append_assoc, append-nil, length-append, get_or-set_same, Some, None}
 use Rattle.std.specs.Prelude.{if◌then◌else◌}
 use Rattle.std.specs.List.{AllByRecursion, Contains, IsDistinct, flat_map}
 use Rattle.std.specs.Map.{keys_of}
@@ -44,9 +44,6 @@ tables_stay s t [] l a = tt
 tables_stay s t (m ∷ ts) l a = (omega (arith, a.0, l.tables), tables_stay s t ts l a.1)
 
 -- WHAT A TABLE LEADS TO
-pub meta_reached : (order : List ℕ) (t : Contents Value) (v : Value) → v ≡ t.meta → AllByRecursion (Contains order) (links t) → AllByRecursion (Contains order) (table_in v)
-meta_reached order t v e a = subst (λ w. AllByRecursion (Contains order) (table_in w)) (sym e) (all-split (Contains order) (table_in t.meta) (flat_map (λ e. table_in e.1) t.entries) a).0
-
 rest_reached : (order : List ℕ) (es : Entries) (at : ℕ) → AllByRecursion (Contains order) (flat_map (λ e. table_in e.1) es) → AllByRecursion (Contains order) (flat_map (λ e. table_in e.1) (drop at es))
 rest_reached order es zero a = a
 rest_reached order [] (suc at) a = tt

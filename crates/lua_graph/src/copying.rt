@@ -110,7 +110,7 @@ fn copy_tables(
     ensures put { OnOk result (store.new ≡ record store.old { heap = record store.old.heap { tables = store.old.heap.tables ++ copies store.old.heap (places order.now.keys) } }) }
     ensures root { IfOk result (λ root. root.at ≡ length store.old.heap.tables) }
     ensures of { IfOk result (IsTableOf store.new) }
-    ensures later { OnOk result (IsLater store.old store.new) }
+    ensures later { IsLater store.old store.new }
 {
     let list = new_tables(alloc, store, order.len())?;
     let tables = list.as_slice();
@@ -139,7 +139,7 @@ pub fn copy(
     ensures made { IfOk result (λ copy. MatchOption copy (store.new ≡ store.old) (IsCopy store.old value store.new)) }
     ensures rest { OnOk result (left.new ≡ record left.old { steps = left.old.steps - copy_cost store.old.heap (seen store.old.texts value) }) }
     ensures of { IfOk result (λ copy. IfSome copy (IsOf store.new)) }
-    ensures later { OnOk result (IsLater store.old store.new) }
+    ensures later { IsLater store.old store.new }
 {
     laws::names_what_is_there(store);
     let root = match value {

@@ -1,6 +1,6 @@
-//! Graphs of plain data, taken out of a store and put into one (Scribunto, `mw.loadData`).
+//! Graphs of plain data, taken out of a store and put into one (Scribunto, `mw.loadData`), and copies (`mw.clone`).
 //!
-//! Read `specs/Plain.antt` first.
+//! Read `specs/Plain.antt` first, and then `IsCopy` in `specs/Copied.antt`.
 //!
 //! - `copying`: copies of a table and of all that it reaches
 //! - `graph`: graphs
@@ -18,8 +18,6 @@ mod order;
 mod paying;
 mod putting;
 mod taking;
-#[cfg(test)]
-mod tests;
 
 pub use copying::copy;
 pub use fault::DataFault;

@@ -1,15 +1,14 @@
 //! A graph is put into a store.
-ghost use Rattle.std.specs.Prelude.{◌≡◌, ◌<◌, ◌≤◌, ◌+◌, ◌-◌, ℕ, [], ◌∷◌, ◌++◌, true, false, length, map, IfOk, OnOk, MatchOption};
+ghost use Rattle.std.specs.Prelude.{◌≡◌, ◌<◌, ◌+◌, ◌-◌, ℕ, [], ◌∷◌, length, map, IfOk, OnOk, MatchOption};
 ghost use Rattle.std.specs.List.{AllByRecursion};
-ghost use Rattle.lua_heap.specs.Heap.{table_at};
 ghost use Rattle.lua_heap.specs.Graph.{joined_root, shift, shift_entries};
-ghost use Rattle.lua_store.specs.Seen.{seen, text_at};
+ghost use Rattle.lua_store.specs.Seen.{seen};
 ghost use Rattle.lua_store.specs.Parts.{IsOf, IsTextOf, IsTableOf, IsLater};
 ghost use Rattle.lua_graph.specs.Put.{IsMade, put, with_texts, grown, filled, locked, all_filled, AreNames, AreTables, AreFrom, AreEntriesOf, named};
-ghost use Rattle.lua_graph.specs.Plain.{IsItemOf, IsEntryOf, plain_item, plain_entry, plain_entries, plain_nodes};
+ghost use Rattle.lua_graph.specs.Plain.{IsItemOf, IsEntryOf, plain_item, plain_entries, plain_nodes};
 
 use crate::graph::{Graph, GraphEntry, GraphItem, GraphNode};
-use lua_store::{SetFault, Store, TableId, TextId, Value};
+use lua_store::{Store, TableId, TextId, Value};
 use std::alloc::Global;
 use wk_base::{Bytes, List, NoMemory};
 
@@ -36,7 +35,7 @@ fn split_entries(entries: &[GraphEntry]) -> Option<(GraphEntry, &[GraphEntry])>
 fn names_of(alloc: Global, store: &mut Store, texts: &[Bytes]) -> Result<List<TextId>, NoMemory>
     ensures put { OnOk result (store.new ≡ record store.old { texts = with_texts store.old.texts texts.now }) }
     ensures names { IfOk result (AreNames store.new texts.now) }
-    ensures later { OnOk result (IsLater store.old store.new) }
+    ensures later { IsLater store.old store.new }
 {
     let mut names = List::new(alloc);
     let mut rest = texts;
@@ -56,7 +55,7 @@ pub(crate) fn new_tables(
 ) -> Result<List<TableId>, NoMemory>
     ensures put { OnOk result (store.new ≡ record store.old { heap = grown count store.old.heap }) }
     ensures tables { IfOk result (AreTables store.new (length store.old.heap.tables) count) }
-    ensures later { OnOk result (IsLater store.old store.new) }
+    ensures later { IsLater store.old store.new }
 {
     let mut tables = List::new(alloc);
     let mut left = count;
@@ -172,7 +171,7 @@ pub fn put_in(
     ensures put { OnOk result (store.new ≡ put frozen graph.now store.old) }
     ensures root { IfOk result (λ v. seen store.new.texts v ≡ joined_root store.old.heap) }
     ensures of { IfOk result (IsOf store.new) }
-    ensures later { OnOk result (IsLater store.old store.new) }
+    ensures later { IsLater store.old store.new }
 {
     let nodes = graph.nodes.as_slice();
     let names = names_of(alloc, store, graph.texts.as_slice())?;

@@ -1,5 +1,5 @@
 //! A graph is taken out of a store.
-ghost use Rattle.std.specs.Prelude.{◌≡◌, ◌≢◌, ◌+◌, ◌<◌, ℕ, [], ◌∷◌, ◌++◌, false, Ok, Some, length, drop, slice_get, IfOk, IfErr, OnOk, MatchOption};
+ghost use Rattle.std.specs.Prelude.{◌≡◌, ◌≢◌, ◌+◌, ◌<◌, [], ◌∷◌, ◌++◌, false, Ok, Some, slice_get, IfOk, IfErr, OnOk, MatchOption};
 ghost use Rattle.std.specs.List.{AllByRecursion};
 ghost use Rattle.lua_heap.specs.Heap.{table_at};
 ghost use Rattle.lua_heap.specs.Value.{is_nil};

@@ -9,10 +9,6 @@ use Rattle.lua_heap.specs.Related.{Map, Grows, Each, none, more, SameOption, nei
 use Rattle.lua_heap.specs.Reach.{Set, AllIn, value_names, entry_names, table_names, child_names, parent_names, node_names, obj_names, LooksAtNames, NamesStand, StandsForItself}
 use Rattle.lua_heap.proofs.Names.{all-split, all-join, all-any}
 
-pub each-map : {A B : Type 0} (R Q : A → B → Type 0) (xs : List A) (ys : List B) → ((x : A) (y : B) → R x y → Q x y) → Each R xs ys → Each Q xs ys
-each-map R Q xs ys f none = none
-each-map R Q xs ys f (more x y xs' ys' r rest) = more x y xs' ys' (f x y r) (each-map R Q xs' ys' f rest)
-
 -- related lists whose second elements have all their names in a set
 pub each-in : {A B : Type 0} (R Q : A → B → Type 0) (names : B → List Ref) (S : Set) → ((x : A) (y : B) → R x y → AllIn S (names y) → Q x y) → (xs : List A) (ys : List B) → Each R xs ys → AllIn S (flat_map names ys) → Each Q xs ys
 each-in R Q names S f _ _ none i = none
@@ -111,9 +107,6 @@ obj-grows R up m n _ _ g (cells a b e) = cells a b (same-grows m n _ _ g e)
 obj-grows R up m n _ _ g (closures _ _ (functions a b c)) = closures _ _ (functions a b (up m n a b g c))
 obj-grows R up m n _ _ g (closures _ _ (iterators k cs ds t)) = closures _ _ (iterators k cs ds (cells-carried m n everywhere (λ q r e i. g q r e) cs ds t (every _)))
 obj-grows R up m n _ _ g (nodes a b t) = nodes a b (node-carried m n everywhere (λ q r e i. g q r e) a b t (every _))
-
-pub looks-grows : {X Y : Type 0} (R : Map → X → Y → Type 0) (names : Y → List Ref) → LooksAtNames R names → GrowsWith R
-looks-grows R names look m n a b g r = look m n everywhere (λ q r e i. g q r e) a b r (every _)
 
 -- WHAT IS NAMED by what stands for something
 module _ (m : Map) (S : Set) (f : (q r : Ref) → m.to q ≡ Some r → IsTrue (S r)) where

@@ -30,13 +30,6 @@ graph_back frozen g j o e =
 graph_within : (frozen : Bool) (g : Graph) (j : ℕ) (o : Obj ⊥) → look (graph_heap frozen g) (tab j) ≡ Some o → j < length g
 graph_within frozen g j o e = let b = graph_back frozen g j o e in slice_get_within g j b.0 b.1
 
--- only tables stand for something of a graph
-pub only_tables : (frozen : Bool) (g : Graph) (q : Ref) (o : Obj ⊥) → look (graph_heap frozen g) q ≡ Some o → (j : ℕ) × (q ≡ tab j)
-only_tables frozen g (tab j) o e = (j, refl)
-only_tables frozen g (cel j) o e = cc
-only_tables frozen g (clo j) o e = cc
-only_tables frozen g (mar j) o e = cc
-
 pub look-joined : {X : Type 0} (frozen : Bool) (g : Graph) (h : Heap X) (j : ℕ) (es : Entries) → slice_get g j ≡ Some es
     → look (join frozen g h) (tab (length h.tables + j)) ≡ Some (TableObj (node_table frozen (shift_entries (length h.tables) es)))
 look-joined frozen g h j es e =

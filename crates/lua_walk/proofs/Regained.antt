@@ -1,5 +1,5 @@
 -- What is taken is reached from its root, where it joined another heap.
-use Rattle.std.proofs.Common.{◌≡◌, ℕ, zero, suc, ◌+◌, ◌<◌, eqb, Bool, true, false, List, [], ◌∷◌, ◌++◌, length, map, Some, slice_get, slice_index_or, refl, sym, ◌∙◌, ap, subst, arith, inl, inr, ◌⊎◌, if◌then◌else◌}
+use Rattle.std.proofs.Common.{◌≡◌, ℕ, zero, suc, ◌+◌, ◌<◌, eqb, Bool, true, false, List, [], ◌∷◌, ◌++◌, length, map, Some, slice_get, slice_index_or, refl, sym, ◌∙◌, ap, subst, arith, inl, inr, if◌then◌else◌}
 use Rattle.std.specs.Prelude.{Ok, Err}
 use Rattle.std.specs.List.{AllByRecursion, Contains, IsDistinct, flat_map}
 use Rattle.std.proofs.lemmas.Bool.{eqb-true}
@@ -14,7 +14,7 @@ use Rattle.lua_heap.proofs.Names.{all-at}
 use Rattle.lua_heap.proofs.Places.{some_back, part-add, get-part}
 use Rattle.lua_heap.proofs.Joins.{joined_tables}
 use Rattle.lua_walk.specs.Order.{place_of, reached, live}
-use Rattle.lua_walk.specs.Data.{Checked, HasMetatable, on_ok, all_ok, key_of, item_of, entry_of, node_of, taken}
+use Rattle.lua_walk.specs.Data.{HasMetatable, on_ok, all_ok, key_of, item_of, entry_of, node_of, taken}
 use Rattle.lua_walk.specs.Laws.{table_in, links, Leads, root, step, IsOrder}
 use Rattle.lua_walk.proofs.Orders.{In, in-contains, in-at}
 use Rattle.lua_walk.proofs.Visits.{get-there, get-in}

@@ -1,12 +1,8 @@
 -- What was taken out and put in is shared.
-use Rattle.std.proofs.Common.{◌≡◌, ℕ, zero, suc, ◌+◌, ◌-◌, ◌<◌, ◌≤◌, true, List, [], ◌∷◌, length, map, Some, is_some, slice_get, IsTrue, refl, sym, ap, ◌∙◌, subst, arith, length-append}
-use Rattle.std.specs.Prelude.{Ok, Err}
-use Rattle.std.specs.Option.{option_map}
+use Rattle.std.proofs.Common.{◌≡◌, ℕ, ◌+◌, ◌-◌, ◌<◌, ◌≤◌, true, length, map, sym, ap, ◌∙◌, subst, arith, length-append}
+use Rattle.std.specs.Prelude.{Ok}
 use Rattle.std.proofs.lemmas.List.{length-map}
-use Rattle.lua_table.specs.Entries.{Contents}
-use Rattle.lua_heap.specs.Value as heap
-use Rattle.lua_heap.specs.Heap.{tab}
-use Rattle.lua_heap.specs.Proc.{Proc, proc_names}
+use Rattle.lua_heap.specs.Proc.{proc_names}
 use Rattle.lua_heap.specs.Reach.{is_there}
 use Rattle.lua_heap.specs.Graph as plain
 use Rattle.lua_heap.specs.Graph.{node_table, graph_tables, shift_entries, join, joined_root}

@@ -1,5 +1,5 @@
 //! The data of a value, read-only.
-ghost use Rattle.std.specs.Prelude.{◌≡◌, ◌≢◌, IfOk, IfErr, OnOk, MatchResult};
+ghost use Rattle.std.specs.Prelude.{◌≡◌, ◌≢◌, IfOk, IfErr};
 ghost use Rattle.lua_walk.specs.Data.{taken};
 ghost use Rattle.lua_store.specs.Seen.{seen};
 ghost use Rattle.lua_store.specs.Parts.{IsOf, IsLater};
@@ -17,7 +17,7 @@ pub fn make_shared(alloc: Global, store: &mut Store, value: Value) -> Result<Val
     requires { IsOf store.old value }
     ensures shared { IfOk result (IsSharedData store.old value store.new) }
     ensures of { IfOk result (IsOf store.new) }
-    ensures later { OnOk result (IsLater store.old store.new) }
+    ensures later { IsLater store.old store.new }
     ensures fault { IfErr result (IsFault (taken store.old.heap (seen store.old.texts value))) }
     ensures same { IfErr result (λ e. e ≢ fault.NoMemory → store.new ≡ store.old) }
 {

@@ -49,6 +49,19 @@ fn is_shared(rt: &impl Abort, store: &mut Store, root: TableId)
     assert!(rt; store.set(root, Value::Nil, Value::Nil) == Err(SetFault::Frozen));
 }
 
+/// A table with a metatable is not shared, and the store stays as it is.
+fn refuse(rt: &impl Abort, alloc: Global, store: &mut Store) -> Result<(), NoMemory> {
+    let table = store.new_table()?;
+    let meta = store.new_table()?;
+    if !store.is_frozen(table) {
+        store.set_meta(table, Value::Table(meta));
+    }
+    let count = store.table_count();
+    assert!(rt; make_shared(alloc, store, Value::Table(table)) == Err(DataFault::HasMetatable));
+    assert!(rt; store.table_count() == count);
+    Ok(())
+}
+
 fn titled(alloc: Global, name: &[u8]) -> Result<Title, NoMemory> {
     let name = Bytes::of(alloc, name)?;
     Ok(Title {
@@ -96,6 +109,7 @@ fn data_are_kept_and_shared(rt: HostRuntime) -> Result<(), Fail> {
     let arena = Bump::new(rt.alloc());
     let mut store = Store::new(rt.alloc(), &arena, fixed_seed()?);
     assert!(rt; share(&rt, rt.alloc(), &mut store).is_ok());
+    assert!(rt; refuse(&rt, rt.alloc(), &mut store).is_ok());
     let mut keep = DataKeep::new(rt.alloc(), fixed_seed()?);
     assert!(rt; keep_two(&rt, rt.alloc(), &mut keep).is_ok());
     Ok(())

@@ -36,8 +36,8 @@ fn plain_place(needle: &[u8], text: &[u8]) -> Option<usize>
     memmem::find(text, needle)
 }
 
-/// A plain search: no tries, no captures.
-fn plain_find(alloc: Global, s: &[u8], needle: &[u8], from: usize) -> Search
+/// A plain search from a byte on: no tries, no captures. Code points begin at both ends of what is found.
+pub fn plain_find(alloc: Global, s: &[u8], needle: &[u8], from: usize) -> Search
     requires text { IsUtf8 s.now }
     requires needle { IsUtf8 needle.now }
     requires place { IsCharBoundary s.now from }

@@ -18,7 +18,7 @@ pub mod parts;
 pub mod points;
 
 pub use byte_places::byteoffset;
-pub use finding::{find, match_from, start};
+pub use finding::{find, match_from, plain_find, start};
 pub use forms::{to_nfc, to_nfd, to_nfkc, to_nfkd};
 pub use parts::{char_of, codepoint, part, sub};
 pub use points::{

@@ -2,8 +2,8 @@
 
 use crate::{
     byteoffset, char_of, codepoint, count_points, find, first_points, isutf8, len, match_from,
-    normal_rows, offset, part, point_place, points_behind, start, sub, text_of, to_nfc, to_nfd,
-    to_nfkc, to_nfkd,
+    normal_rows, offset, part, plain_find, point_place, points_behind, start, sub, text_of, to_nfc,
+    to_nfd, to_nfkc, to_nfkd,
 };
 use lua_pattern::{PatternFault, Search};
 use std::test::Fail;
@@ -155,6 +155,8 @@ fn parts_and_budgets(rt: HostRuntime) -> Result<(), Fail> {
     assert_eq!(rt; offset(text, 2), 3);
     assert_eq!(rt; offset(text, 9), 5);
     assert_eq!(rt; start(text, -1), 4);
+    let found = plain_find(alloc, text, "é".as_bytes(), 1);
+    assert!(rt; matches!(found, Search::Found(_, 0)));
     assert_eq!(rt; points_behind(text, 3), b"c".as_slice());
     assert_eq!(rt; first_points(text, 1), b"a".as_slice());
     assert_eq!(rt; text_of(text), "aébc");

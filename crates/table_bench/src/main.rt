@@ -1,11 +1,17 @@
 //! Fills and walks a table of a store, or makes texts, and prints how many entries or texts there were. Standard input says
 //! what: `dense`, `hashed` or `texts`, with `walk` before the first two for a full walk afterwards, and then how many; or
-//! `keys ` and then the keys to set, 8 bytes for each with the lowest first. `bench/tables.py` and `bench/attack_keys.py` time
-//! it.
+//! `keys ` and then the keys to set, 8 bytes for each with the lowest first; or `linked`, `shared` or `copied`, and how many
+//! tables to put one inside the other, which then are taken out and put in again, or copied. `bench/tables.py` and
+//! `bench/attack_keys.py` time it.
+//!
+//! - `linked`: tables one inside the other
 #![tactic(auto)]
 
 ghost use Rattle.lua_store.specs.Parts.{IsTableOf};
 
+mod linked;
+
+use crate::linked::{Then, perform_linked};
 use bumpalo::Bump;
 use lua_store::{Store, TableId, Value};
 use std::hash::RandomState;
@@ -160,6 +166,18 @@ fn perform(store: &mut Store, work: &Work) -> i64 {
     walk(store, id, work.count.saturating_add(1))
 }
 
+/// How many tables are to be linked, and what is done with them.
+fn read_linked(text: &[u8]) -> Option<(i64, Then)> {
+    if let Some(rest) = after(text, b"linked ") {
+        return Some((number(rest), Then::Nothing));
+    }
+    if let Some(rest) = after(text, b"shared ") {
+        return Some((number(rest), Then::Share));
+    }
+    let rest = after(text, b"copied ")?;
+    Some((number(rest), Then::Copy))
+}
+
 fn main(rt: HostRuntime) -> io::Result<()> {
     let mut text = Vec::new(rt.alloc());
     rt.stdin().read_to_end(&mut text)?;
@@ -168,6 +186,12 @@ fn main(rt: HostRuntime) -> io::Result<()> {
     if let Some(keys) = after(&text, b"keys ") {
         let count = perform_given(&mut store, keys);
         return println!(rt; "{count}");
+    }
+    if let Some((count, then)) = read_linked(&text) {
+        return match perform_linked(rt.alloc(), &mut store, count, then) {
+            Ok(tables) => println!(rt; "{tables}"),
+            Err(_) => println!(rt; "no memory"),
+        };
     }
     match read_work(&text) {
         Some(work) => {

@@ -18,8 +18,8 @@ loop-at-init c =
     let s = c.args.store.now in
     let t = c.new_tables.new.store in record {
       put = c.in_ok-list.ensures.put ∙ ap (λ (h : Heap Proc). record s { heap = h }) (part_none s.heap (places c.args.order.now.keys) c.len.result (c.len.ensures.len ∙ sym (length-map c.args.order.now.keys (λ (i : TableId). i.at))));
-      later = c.in_ok-list.ensures.later;
-      old = tables_stay s t c.args.order.now.keys c.in_ok-list.ensures.later c.requires.of;
+      later = c.new_tables.ensures.later;
+      old = tables_stay s t c.args.order.now.keys c.new_tables.ensures.later c.requires.of;
       new = subst (AllByRecursion (IsTableOf t)) (sym c.as_slice-tables.ensures) c.in_ok-list.ensures.tables.of;
     }
 
@@ -62,7 +62,7 @@ loop-at-preserved c =
     let k = length s.heap.tables in
     let from = subst (AreFrom k) (sym c.as_slice-tables.ensures) c.in_ok-list.ensures.tables.from in
     let within = placed c.args.order.now.keys c.as_slice-tables.result.now c.loop-at.at c.in-Some.source.at (sym c.in-Some.ensures.place) (ap length c.as_slice-tables.ensures ∙ c.in_ok-list.ensures.tables.count ∙ c.len.ensures.len) in
-    let later = c.in_ok-copy_table-in-Some.ensures.later in record {
+    let later = c.copy_table.ensures.later in record {
       put = part_on s c.loop-at.store c.copy_table.new.store (places c.args.order.now.keys) c.loop-at.at c.in-Some.source.at _ (sym c.in-Some.ensures.place) (c.in-Some.ensures.of s c.requires.of)
           (from_at k c.as_slice-tables.result.now c.loop-at.at _ from within) c.loop-at.invariant.put (c.in_ok-copy_table-in-Some.ensures.put k from);
       later = later-then s c.loop-at.store c.copy_table.new.store c.loop-at.invariant.later later;

@@ -1,0 +1,6 @@
+mod Examples
+pub mod Edges
+pub mod Loops
+pub mod Numbers
+pub mod Parts
+pub mod Pieces

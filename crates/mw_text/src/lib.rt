@@ -1,0 +1,38 @@
+//! The plain functions of MediaWiki's `mw.text` (Scribunto manual, Text library), over UTF-8.
+//!
+//! Texts are bytes; where a function needs them to be UTF-8, it says so, and `mw_ustring::isutf8` tells.
+//!
+//! - `answers`: what functions give within a budget of steps
+//! - `sets`: the sets of `trim` and `encode`
+//! - `ends`: the code points at both ends of a text
+//! - `trimming`: `trim`
+//! - `splitting`: `split`, and the step of `gsplit`
+//! - `references`: character references; `encode` and `nowiki`
+//! - `decoding`: `decode`
+//! - `joining`: `listToText` and `truncate`
+//! - `tagging`: `tag`
+//!
+//! The definitions: begin with `specs/Answers.antt`, then take the file of the function: `specs/Trim.antt`, `Split`,
+//! `References`, `Decode`, `Joined`, `Tag`.
+#![tactic(auto)]
+
+pub mod answers;
+pub mod decoding;
+pub mod ends;
+pub mod joining;
+pub mod references;
+pub mod sets;
+pub mod splitting;
+pub mod tagging;
+pub mod trimming;
+
+pub use answers::{PartsAnswer, TextAnswer};
+pub use decoding::decode;
+pub use joining::{list_to_text, truncate};
+pub use references::{encode, nowiki};
+pub use splitting::{Part, PartAnswer, next_part, split};
+pub use tagging::{TagAttr, TagContent, TagValue, tag};
+pub use trimming::trim;
+
+#[cfg(test)]
+mod tests;
