@@ -24,7 +24,7 @@ pub clause_of_answer : ClauseOfAnswer
 clause_of_answer code q fs s a o S K world work first given f at told l inner = answer_is_at code S K world work first given q fs s f at a l inner o told
 
 -- an event that is told more is the same in the store
-heap-told : (told : Tally) (e : Stop) → heap_at (event_telling told e) ≡ heap_at e
+pub heap-told : (told : Tally) (e : Stop) → heap_at (event_telling told e) ≡ heap_at e
 heap-told told (Over o s f) = refl
 heap-told told (Lacks w t f) = refl
 heap-told told (Waiting q fs s f) = refl

@@ -1,0 +1,208 @@
+-- What functions of the library do to the loaded data: `mw.loadData` asks for what is not there, and keeps what it gets; all others, and
+-- the start of a run, leave them as they are, and ask for none.
+use Rattle.std.proofs.Common.{◌≡◌, ℕ, true, List, [], ◌∷◌, ◌++◌, Option, Some, None, refl}
+use Rattle.std.specs.Prelude.{ℤ, pos, ◌+ℤ◌, Result, Ok, Err, bytes_eq, codes}
+use Rattle.wk_base.specs.declared.title.Title.{Title}
+use Rattle.wk_base.specs.declared.title.Namespace.TheVariants.{Main}
+use Rattle.wk_base.specs.declared.title_read.TitleFault.{TitleFault}
+use Rattle.wk_base.specs.Titles.{title_text, title_of}
+use Rattle.lua_syntax.specs.declared.fault.FaultAt.{FaultAt}
+use Rattle.page_run.specs.Outcome.{Outcome, Goes, Jumps}
+use Rattle.lua_number.specs.Whole.{fits}
+use Rattle.lua_heap.specs.Proc.{Proc}
+use Rattle.lua_heap.specs.Value.{Value, Nil, Truth, Number, Text, Table, Builtin, is_nil}
+use Rattle.lua_heap.specs.Table.{get}
+use Rattle.lua_heap.specs.Heap.{table_at}
+use Rattle.lua_heap.specs.declared.library.Library.TheVariants.{BasicNext, IpairsStep}
+use Rattle.lua_meaning.specs.Scope.{Bytes}
+use Rattle.lua_meaning.specs.Titled.{item_of}
+use Rattle.lua_meaning.specs.Questions.{Asked, TemplateAsked, TextAsked, DataAsked}
+use Rattle.lua_meaning.specs.Values.{first, rest, text_in, is_function}
+use Rattle.lua_meaning.specs.Acts.{Jump, Raised, Progress, Running, Finished}
+use Rattle.lua_meaning.specs.Metatables.{handler}
+use Rattle.lua_meaning.specs.Arguments.{a_table, a_number, a_text}
+use Rattle.lua_meaning.specs.CallBacks.{text_of}
+use Rattle.lua_meaning.specs.FrameMethods.{FramedEnd, FrameEnds, FrameAsks, FrameWalks}
+use Rattle.lua_meaning.specs.Pending.{Pending, PcallWaits, XpcallWaits, HandlerWaits, ToStringWaits, PairsWaits, ModuleWaits}
+use Rattle.lua_meaning.specs.Libraries.{Caller, Pcall, Xpcall, ToString, Pairs, Ipairs, NextPlace, Require, LoadData, Form, Answers, InFrames, CallsBack, NotBuilt}
+use Rattle.lua_meaning.specs.Start.{Work, Invoke, DataOf, Failed}
+use Rattle.lua_asks.proofs.NoData.{AsksNoData, NeedsNoData}
+use Rattle.lua_meaning.specs.Arguments.{Argument}
+use Rattle.lua_slots.specs.Code.{Protos, CModule, CWorld}
+use Rattle.lua_slots.specs.Slots.{Slots, with_heap}
+use Rattle.lua_slots.specs.Points.{SFrame, DataNow, Texts, Costs, Now}
+use Rattle.lua_slots.specs.Errors as errors
+use Rattle.lua_slots.specs.CallBacks as callbacks
+use Rattle.lua_slots.specs.Modules as modules
+use Rattle.lua_slots.specs.Libraries as libraries
+use Rattle.lua_slots.specs.Starts as starts
+use Rattle.lua_asks.proofs.Loading.{IsGood, calm, loads, asks_anew}
+use Rattle.lua_asks.proofs.CalmValues.{IsCalm, still, both, fails, ends, with_argument, call, index_table}
+
+-- FUNCTIONS THAT CALL BACK
+pub pcall_answer : (o : Outcome (List Value) Jump) (fs : List SFrame) (s : Slots) → IsCalm s.data_ (callbacks.pcall_answer o fs s)
+pcall_answer (Goes vs) fs s = still (refl, tt)
+pcall_answer (Jumps (Raised v)) fs s = still (refl, tt)
+pcall_answer (Jumps j) fs s = still (refl, tt)
+
+pub xpcall_answer : (h : Value) (o : Outcome (List Value) Jump) (line : Option ℕ) (fs : List SFrame) (s : Slots) → IsCalm s.data_ (callbacks.xpcall_answer h o line fs s)
+xpcall_answer h (Goes vs) line fs s = still (refl, tt)
+xpcall_answer h (Jumps (Raised v)) line fs s = call h (v ∷ []) None _ s
+xpcall_answer h (Jumps j) line fs s = still (refl, tt)
+
+handler_answer : (o : Outcome (List Value) Jump) (fs : List SFrame) (s : Slots) → IsCalm s.data_ (callbacks.handler_answer o fs s)
+handler_answer (Goes vs) fs s = still (refl, tt)
+handler_answer (Jumps (Raised v)) fs s = still (refl, tt)
+handler_answer (Jumps j) fs s = still (refl, tt)
+
+to_string_by : (h v : Value) (line : Option ℕ) (fs : List SFrame) (s : Slots) → IsCalm s.data_ (callbacks.to_string_by h v line fs s)
+to_string_by h v line fs s = both (is_nil h) (callbacks.gives_text (text_of v) fs s) _ (still (refl, tt)) (call h (v ∷ []) None _ s)
+
+string_given : (t : Option Bytes) (line : Option ℕ) (fs : List SFrame) (s : Slots) → IsCalm s.data_ (callbacks.string_given t line fs s)
+string_given (Some t) line fs s = still (refl, tt)
+string_given None line fs s = fails line _ fs s
+
+string_answer : (o : Outcome (List Value) Jump) (line : Option ℕ) (fs : List SFrame) (s : Slots) → IsCalm s.data_ (callbacks.string_answer o line fs s)
+string_answer (Goes vs) line fs s = string_given (text_in (first vs)) line fs s
+string_answer (Jumps j) line fs s = still (refl, tt)
+
+pairs_by : (h : Value) (args : List Value) (line : Option ℕ) (fs : List SFrame) (s : Slots) → IsCalm s.data_ (callbacks.pairs_by h args line fs s)
+pairs_by h args line fs s = both (is_nil h) _ _ (with_argument (a_table 1 (codes "pairs") args) line fs s (λ t. errors.gives (Builtin BasicNext ∷ Table t ∷ Nil ∷ []) fs s) (λ t. still (refl, tt))) (call h (first args ∷ []) None _ s)
+
+pairs : (args : List Value) (line : Option ℕ) (fs : List SFrame) (s : Slots) → IsCalm s.data_ (callbacks.pairs args line fs s)
+pairs args line fs s = pairs_by (handler s.heap (first args) (codes "__pairs")) args line fs s
+
+ipairs_by : (h : Value) (args : List Value) (line : Option ℕ) (fs : List SFrame) (s : Slots) → IsCalm s.data_ (callbacks.ipairs_by h args line fs s)
+ipairs_by h args line fs s = both (is_nil h) _ _ (with_argument (a_table 1 (codes "ipairs") args) line fs s (λ t. errors.gives (Builtin IpairsStep ∷ Table t ∷ Number (pos 0) ∷ []) fs s) (λ t. still (refl, tt))) (call h (first args ∷ []) None _ s)
+
+three_answer : (o : Outcome (List Value) Jump) (fs : List SFrame) (s : Slots) → IsCalm s.data_ (callbacks.three_answer o fs s)
+three_answer (Goes vs) fs s = still (refl, tt)
+three_answer (Jumps j) fs s = still (refl, tt)
+
+next_place : (t : ℕ) (n : ℤ) (fs : List SFrame) (s : Slots) → IsCalm s.data_ (callbacks.next_place t n fs s)
+next_place t n fs s = both (fits (n +ℤ pos 1)) (errors.gives (callbacks.place_and_value (n +ℤ pos 1) (get (table_at s.heap t).entries (Number (n +ℤ pos 1)))) fs s) (errors.gives (Nil ∷ []) fs s) (still (refl, tt)) (still (refl, tt))
+
+ipairs_step : (args : List Value) (line : Option ℕ) (fs : List SFrame) (s : Slots) → IsCalm s.data_ (callbacks.ipairs_step args line fs s)
+ipairs_step args line fs s =
+    with_argument (a_table 1 (codes "ipairs") args) line fs s _ (λ t.
+    with_argument (a_number 2 (codes "ipairs") (rest args)) line fs s _ (λ n. next_place t n fs s))
+
+-- MODULES
+begins_text : (title : Title) (code : Result Protos FaultAt) (fs : List SFrame) (s : Slots) → IsCalm s.data_ (modules.begins_text title code fs s)
+begins_text title (Ok at) fs s = still (refl, tt)
+begins_text title (Err fault) fs s = still (refl, tt)
+
+runs_text : (title : Title) (m : CModule) (fs : List SFrame) (s : Slots) → IsCalm s.data_ (modules.runs_text title m fs s)
+runs_text title m fs s = still (begins_text title m.code fs s).stays
+
+module_answer : (title : Title) (o : Outcome (List Value) Jump) (fs : List SFrame) (s : Slots) → IsCalm s.data_ (modules.module_answer title o fs s)
+module_answer title (Goes vs) fs s = still (refl, tt)
+module_answer title (Jumps j) fs s = still (refl, tt)
+
+require_as : (text : Bytes) (title : Title) (p : Option Progress) (m : Option CModule) (line : Option ℕ) (fs : List SFrame) (s : Slots) → IsCalm s.data_ (modules.require_as text title p m line fs s)
+require_as text title (Some (Finished v)) m line fs s = still (refl, tt)
+require_as text title (Some Running) m line fs s = fails line _ fs s
+require_as text title None (Some m) line fs s = runs_text title m _ _
+require_as text title None None line fs s = fails line _ fs s
+
+require_module : (world : CWorld) (text : Bytes) (title : Title) (line : Option ℕ) (fs : List SFrame) (s : Slots) → IsCalm s.data_ (modules.require_module world text title line fs s)
+require_module world text title line fs s = require_as text title (item_of s.modules title) (world.modules (title_text title)) line fs s
+
+require_titled : (world : CWorld) (text : Bytes) (t : Result Title TitleFault) (line : Option ℕ) (fs : List SFrame) (s : Slots) → IsCalm s.data_ (modules.require_titled world text t line fs s)
+require_titled world text (Ok title) line fs s = require_module world text title line fs s
+require_titled world text (Err fault) line fs s = fails line _ fs s
+
+require_text : (world : CWorld) (text : Bytes) (line : Option ℕ) (fs : List SFrame) (s : Slots) → IsCalm s.data_ (modules.require_text world text line fs s)
+require_text world text line fs s = both (bytes_eq text (codes "strict")) (Costs 16 (errors.gives (Truth true ∷ []) fs (modules.with_strict s))) _ (still (refl, tt)) (require_titled world text (title_of text Main) line fs s)
+
+require : (world : CWorld) (args : List Value) (line : Option ℕ) (fs : List SFrame) (s : Slots) → IsCalm s.data_ (modules.require world args line fs s)
+require world args line fs s = with_argument (a_text 1 (codes "require") args) line fs s _ (λ text. require_text world text line fs s)
+
+data_answer : (text : Bytes) (title : Title) (o : Outcome (List Value) Jump) (line : Option ℕ) (fs : List SFrame) (s : Slots) → IsGood s (modules.data_answer text title o line fs s)
+data_answer text title (Goes (Table t ∷ [])) line fs s = loads title (Table t) (Goes (Table t ∷ [])) fs s
+data_answer text title (Goes []) line fs s = calm (fails line _ fs s)
+data_answer text title (Jumps (Raised v)) line fs s = calm (still (refl, tt))
+data_answer text title o line fs s = calm (still (refl, tt))
+
+load_as : (text : Bytes) (title : Title) (root : Option Value) (line : Option ℕ) (fs : List SFrame) (s : Slots) → item_of s.data_ title ≡ root → IsGood s (modules.load_as text title root line fs s)
+load_as text title (Some root) line fs s e = calm (still (refl, tt))
+load_as text title None line fs s e = asks_anew text title line fs s e
+
+load_titled : (text : Bytes) (t : Result Title TitleFault) (line : Option ℕ) (fs : List SFrame) (s : Slots) → IsGood s (modules.load_titled text t line fs s)
+load_titled text (Ok title) line fs s = load_as text title (item_of s.data_ title) line fs s refl
+load_titled text (Err fault) line fs s = calm (fails line _ fs s)
+
+load_data : (args : List Value) (line : Option ℕ) (fs : List SFrame) (s : Slots) → IsGood s (modules.load_data args line fs s)
+load_data args line fs s = go (a_text 1 (codes "loadData") args)
+  where
+    go : (a : Argument Bytes) → IsGood s (errors.with_argument a line fs s (λ text. modules.load_titled text (title_of text Main) line fs s))
+    go (Ok text) = load_titled text (title_of text Main) line fs s
+    go (Err message) = calm (fails line message fs s)
+
+-- THE LIBRARY
+framed_end : (e : FramedEnd) (line : Option ℕ) (fs : List SFrame) (s : Slots) → AsksNoData e → IsCalm s.data_ (libraries.framed_end e line fs s)
+framed_end (FrameEnds end) line fs s a = ends end line fs s
+framed_end (FrameAsks question asked) line fs s a = still (refl, a)
+framed_end (FrameWalks v) line fs s a = pairs (v ∷ []) line fs s
+
+call_back : (world : CWorld) (c : Caller) (args : List Value) (line : Option ℕ) (fs : List SFrame) (s : Slots) → IsGood s (libraries.call_back world c args line fs s)
+call_back world Pcall args line fs s = calm (call (first args) (rest args) None _ s)
+call_back world Xpcall args line fs s = calm (call (first args) [] None _ s)
+call_back world ToString args line fs s = calm (to_string_by (handler s.heap (first args) (codes "__tostring")) (first args) line fs s)
+call_back world Pairs args line fs s = calm (pairs args line fs s)
+call_back world Ipairs args line fs s = calm (ipairs_by (handler s.heap (first args) (codes "__ipairs")) args line fs s)
+call_back world NextPlace args line fs s = calm (ipairs_step args line fs s)
+call_back world Require args line fs s = calm (require world args line fs s)
+call_back world LoadData args line fs s = load_data args line fs s
+
+pub does : (world : CWorld) (f : Form Proc) (args : List Value) (line : Option ℕ) (fs : List SFrame) (s : Slots) → NeedsNoData f → IsGood s (libraries.does world f args line fs s)
+does world (Answers p) args line fs s a = calm (still (ends p.end line fs (with_heap p.heap s)).stays)
+does world (InFrames f) args line fs s a = calm (still (framed_end f.end line fs (libraries.with_frames f s) a).stays)
+does world (CallsBack caller) args line fs s a = call_back world caller args line fs s
+does world NotBuilt args line fs s a = calm (fails line _ fs s)
+
+pub resumes : (p : Pending) (o : Outcome (List Value) Jump) (line : Option ℕ) (fs : List SFrame) (s : Slots) → IsCalm s.data_ (libraries.resumes p o line fs s)
+resumes PcallWaits o line fs s = pcall_answer o fs s
+resumes (XpcallWaits h) o line fs s = xpcall_answer h o line fs s
+resumes HandlerWaits o line fs s = handler_answer o fs s
+resumes ToStringWaits o line fs s = string_answer o line fs s
+resumes PairsWaits o line fs s = three_answer o fs s
+resumes (ModuleWaits title) o line fs s = module_answer title o fs s
+
+text_answer : (o : Outcome (List Value) Jump) (fs : List SFrame) (s : Slots) → IsCalm s.data_ (libraries.text_answer o fs s)
+text_answer (Goes (Text t ∷ [])) fs s = still (refl, tt)
+text_answer o fs s = still (refl, tt)
+
+template_answer : (text : Bytes) (o : Outcome (List Value) Jump) (line : Option ℕ) (fs : List SFrame) (s : Slots) → IsCalm s.data_ (libraries.template_answer text o line fs s)
+template_answer text (Goes []) line fs s = fails line _ fs s
+template_answer text (Goes (v ∷ vs)) line fs s = text_answer (Goes (v ∷ vs)) fs s
+template_answer text (Jumps j) line fs s = still (refl, tt)
+
+pub hears : (a : Asked) (o : Outcome (List Value) Jump) (line : Option ℕ) (fs : List SFrame) (s : Slots) → IsGood s (libraries.hears a o line fs s)
+hears (TemplateAsked text) o line fs s = calm (template_answer text o line fs s)
+hears TextAsked o line fs s = calm (text_answer o fs s)
+hears (DataAsked text title) o line fs s = data_answer text title o line fs s
+
+-- THE START AND THE END OF A RUN
+pub texts : (vs : List Value) (before : Bytes) (fs : List SFrame) (s : Slots) → IsCalm s.data_ (starts.texts vs before fs s)
+texts [] before fs s = still (refl, tt)
+texts (v ∷ vs) before fs s = both (is_nil (handler s.heap v (codes "__tostring"))) (Now (Texts vs (before ++ text_of v) fs) s) _ (still (refl, tt)) (call (handler s.heap v (codes "__tostring")) (v ∷ []) None _ s)
+
+pub text_given : (t : Option Bytes) (vs : List Value) (before : Bytes) (fs : List SFrame) (s : Slots) → IsCalm s.data_ (starts.text_given t vs before fs s)
+text_given (Some t) vs before fs s = still (refl, tt)
+text_given None vs before fs s = still (refl, tt)
+
+pub invoke_in : (name : Bytes) (v frame : Value) (fs : List SFrame) (s : Slots) → IsCalm s.data_ (starts.invoke_in name v frame fs s)
+invoke_in name (Table t) frame fs s = index_table t (Text name) None _ s
+invoke_in name v frame fs s = still (refl, tt)
+
+pub invoke_function : (name : Bytes) (f frame : Value) (fs : List SFrame) (s : Slots) → IsCalm s.data_ (starts.invoke_function name f frame fs s)
+invoke_function name f frame fs s = both (is_function f) _ (starts.invoke_ends (Goes (Failed (codes "Script error: The function \"" ++ name ++ codes "\" does not exist."))) fs s) (call f (frame ∷ []) None _ s) (still (refl, tt))
+
+runs_data : (title : Title) (m : Option CModule) (fs : List SFrame) (s : Slots) → IsCalm s.data_ (starts.runs_data title m fs s)
+runs_data title (Some m) fs s = runs_text title m fs s
+runs_data title None fs s = fails None _ fs s
+
+pub works : (world : CWorld) (w : Work) (s : Slots) → IsCalm s.data_ (starts.works world w s)
+works world (Invoke job) s = still (require_module world (title_text job.«module») job.«module» None _ (starts.with_frame job s)).stays
+works world (DataOf title) s = still (runs_data title (world.modules (title_text title)) (DataNow ∷ []) s).stays

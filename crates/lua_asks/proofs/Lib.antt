@@ -1,0 +1,6 @@
+pub mod CalmValues
+pub mod NoData
+pub mod Loading
+pub mod CalmLibrary
+pub mod CalmMoves
+pub mod Once
