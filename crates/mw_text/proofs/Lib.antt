@@ -4,3 +4,4 @@ pub mod Loops
 pub mod Numbers
 pub mod Parts
 pub mod Pieces
+pub mod Values

@@ -11,6 +11,7 @@
 //! - `decoding`: `decode`
 //! - `joining`: `listToText` and `truncate`
 //! - `tagging`: `tag`
+//! - `laws`: what `tag` writes of a value is what `encode` gives
 //!
 //! The definitions: begin with `specs/Answers.antt`, then take the file of the function: `specs/Trim.antt`, `Split`,
 //! `References`, `Decode`, `Joined`, `Tag`.
@@ -20,6 +21,7 @@ pub mod answers;
 pub mod decoding;
 pub mod ends;
 pub mod joining;
+pub mod laws;
 pub mod references;
 pub mod sets;
 pub mod splitting;
@@ -29,6 +31,7 @@ pub mod trimming;
 pub use answers::{PartsAnswer, TextAnswer};
 pub use decoding::decode;
 pub use joining::{list_to_text, truncate};
+pub use laws::value_is_encoded;
 pub use references::{encode, nowiki};
 pub use splitting::{Part, PartAnswer, next_part, split};
 pub use tagging::{TagAttr, TagContent, TagValue, tag};

@@ -2,7 +2,7 @@
 
 use crate::{
     Part, PartAnswer, PartsAnswer, TagAttr, TagContent, TagValue, TextAnswer, decode, encode,
-    list_to_text, next_part, nowiki, split, tag, trim, truncate,
+    list_to_text, next_part, nowiki, split, tag, trim, truncate, value_is_encoded,
 };
 use lua_pattern::PatternFault;
 use lua_string::rep;
@@ -348,6 +348,9 @@ fn tags_as_in_mediawiki(rt: HostRuntime) -> Result<(), Fail> {
         attrs.as_slice(),
         &TagContent::Text(Bytes::of(alloc, b"t<")?),
     )?;
+    if isutf8(made.as_slice()) {
+        value_is_encoded(made.as_slice());
+    }
     let want = "<b x=\"1&nbsp;&lt;&quot;&#39;&amp;&gt;Â\" a>t<</b>";
     assert_eq!(rt; made.as_slice(), want.as_bytes());
     Ok(())

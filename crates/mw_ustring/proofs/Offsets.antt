@@ -54,9 +54,9 @@ tail_is s n = let e : length (drop n s) ≡ length s - n = length-drop n s in ta
 pub tail_text : (s : List ℕ) (at : ℕ) → IsUtf8 s → IsCharBoundary s at → IsUtf8 (take (length s - at) (drop at s))
 tail_text s at u b = subst (λ (l : List ℕ). IsUtf8 l) (sym (tail_is s at)) (IsUtf8-drop s at u b)
 
-pub tail_points : (s : List ℕ) (n at : ℕ) → IsUtf8 s → IsCharBoundary s at → at ≡ offset_of s n → chars (take (length s - at) (drop at s)) ≡ drop n (chars s)
-tail_points s n at u b e =
-    ap chars (tail_is s at) ∙ sym (chars_from_encodes (drop n (chars s)) (drop at s) (IsUtf8-drop s at u b) (sym (ap (λ k. drop k s) e ∙ drop_is s n u)))
+pub rest_points : (s : List ℕ) (n at : ℕ) → IsUtf8 s → IsCharBoundary s at → at ≡ offset_of s n → chars (drop at s) ≡ drop n (chars s)
+rest_points s n at u b e =
+    sym (chars_from_encodes (drop n (chars s)) (drop at s) (IsUtf8-drop s at u b) (sym (ap (λ k. drop k s) e ∙ drop_is s n u)))
 
 pub front_points : (s : List ℕ) (n at : ℕ) → IsUtf8 s → IsCharBoundary s at → at ≡ offset_of s n → chars (take at s) ≡ take n (chars s)
 front_points s n at u b e =

@@ -3,7 +3,7 @@ ghost use Rattle.std.specs.Prelude.{◌≡◌, IsUtf8, IfOk, OnOk, MatchOption, 
 ghost use Rattle.std.specs.Char.{encode_utf8};
 ghost use Rattle.mw_ustring.specs.Texts.{points_of, is_point, text_of_codes};
 
-use crate::points::{count_points, first_points, points_behind, text_of};
+use crate::points::{count, text_before, text_behind, text_of};
 use lua_string::place::{first_place, last_place};
 use std::alloc::Global;
 use wk_base::{List, NoMemory};
@@ -14,10 +14,11 @@ pub fn part(s: &[u8], from: i64, to: i64) -> &[u8]
     ensures text { IsUtf8 result.now }
     ensures points { chars result.now ≡ points_of s.now from to }
 {
-    let count = count_points(s);
+    let text = text_of(s);
+    let count = count(text);
     let first = first_place(count, from);
     let last = last_place(count, to);
-    first_points(points_behind(s, first), last.saturating_sub(first))
+    text_before(text_behind(text, first), last.saturating_sub(first)).as_bytes()
 }
 
 /// `mw.ustring.sub(s, from, to)`

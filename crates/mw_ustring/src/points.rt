@@ -31,11 +31,18 @@ pub fn text_of(s: &[u8]) -> &str
 }
 
 /// How many code points a text has.
+pub(crate) fn count(text: &str) -> usize
+    ensures { result ≡ length (chars text.now) }
+{
+    text.chars().count()
+}
+
+/// How many code points a text has.
 pub fn count_points(s: &[u8]) -> usize
     requires text { IsUtf8 s.now }
     ensures { result ≡ length (chars s.now) }
 {
-    text_of(s).chars().count()
+    count(text_of(s))
 }
 
 /// Where the code point with this number begins, from 0, or the end of the text; in bytes.
@@ -68,12 +75,26 @@ pub fn point_place(s: &[u8], at: usize) -> usize
 }
 
 /// The text behind so many code points.
+pub(crate) fn text_behind(text: &str, count: usize) -> &str
+    ensures { chars result.now ≡ drop count (chars text.now) }
+{
+    &text[byte_offset(text, count)..]
+}
+
+/// The text of the first code points, at most so many.
+pub(crate) fn text_before(text: &str, count: usize) -> &str
+    ensures { chars result.now ≡ take count (chars text.now) }
+{
+    &text[..byte_offset(text, count)]
+}
+
+/// The text behind so many code points.
 pub fn points_behind(s: &[u8], count: usize) -> &[u8]
     requires text { IsUtf8 s.now }
     ensures text { IsUtf8 result.now }
     ensures points { chars result.now ≡ drop count (chars s.now) }
 {
-    &s[offset(s, count)..]
+    text_behind(text_of(s), count).as_bytes()
 }
 
 /// The text of the first code points, at most so many.
@@ -82,5 +103,5 @@ pub fn first_points(s: &[u8], count: usize) -> &[u8]
     ensures text { IsUtf8 result.now }
     ensures points { chars result.now ≡ take count (chars s.now) }
 {
-    &s[..offset(s, count)]
+    text_before(text_of(s), count).as_bytes()
 }

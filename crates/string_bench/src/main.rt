@@ -1,7 +1,10 @@
-//! Makes a call of `lua_format` or `lua_string` over a long text, again and again, and prints how many bytes the answers had,
-//! and the sum of the places found. A line of standard input says what: `format`, `plain`, `rep`, `sub` or `find`, and behind
-//! a space how often. `bench/strings.py` times it.
+//! Makes a call of a function of texts over a long text, again and again, and prints how many bytes the answers had, and the
+//! sum of the places found. A line of standard input says what, and behind a space how often. `format`, `plain`, `rep`, `sub`
+//! and `find` are calls of `lua_format` and `lua_string` over 2 MiB, which `bench/strings.py` times; those of `points` have a
+//! third word, the bytes of the text, and are timed by `bench/texts.py`.
 #![tactic(auto)]
+
+mod points;
 
 use lua_format::{FormatValue, format};
 use lua_pattern::Search;
@@ -65,12 +68,32 @@ fn run(alloc: Global, work: &str, count: u64) -> u64 {
     sum
 }
 
+/// The same over a text of so many bytes that the work names.
+fn run_points(alloc: Global, work: &str, count: u64, bytes: u64) -> u64 {
+    let Ok(text) = points::text_for(alloc, work, bytes) else {
+        return 0;
+    };
+    let mut sum: u64 = 0;
+    for _turn in 0..count {
+        sum = sum.wrapping_add(points::once(alloc, work, text.as_slice()));
+    }
+    sum
+}
+
 fn main(rt: HostRuntime) -> io::Result<()> {
     for line in rt.lines(rt.alloc()) {
         let line = line?;
-        let (work, count) = line.split_once(' ').unwrap_or(("", ""));
-        let count: u64 = count.parse().unwrap_or(0);
-        println!(rt; "{}", run(rt.alloc(), work, count))?;
+        let (work, rest) = line.split_once(' ').unwrap_or(("", ""));
+        let sum = match rest.split_once(' ') {
+            Some((count, bytes)) => run_points(
+                rt.alloc(),
+                work,
+                count.parse().unwrap_or(0),
+                bytes.parse().unwrap_or(0),
+            ),
+            None => run(rt.alloc(), work, rest.parse().unwrap_or(0)),
+        };
+        println!(rt; "{sum}")?;
     }
     Ok(())
 }

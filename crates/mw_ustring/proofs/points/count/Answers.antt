@@ -1,6 +1,6 @@
 use Rattle.std.proofs.Common.{rules}
 use Rattle.std.proofs.lemmas.Str.{chars_from_encodes}
-use Rattle.mw_ustring.proofs.points.count_points.Goals as goal
+use Rattle.mw_ustring.proofs.points.count.Goals as goal
 
 pub returns : goal.returns
 returns c = search (rules, chars_from_encodes)
