@@ -3,6 +3,7 @@ use Rattle.std.specs.Prelude.{ℕ, Bool, false, ◌==◌, if◌then◌else◌, L
 use Rattle.std.specs.List.{list_any, cons_option, before_first, after_first}
 use Rattle.std.specs.Str.{bytes_eq}
 use Rattle.wikiexpand.specs.declared.items.Allowance.{Allowance}
+use Rattle.wikiexpand.specs.declared.items.Allowance.TheVariants.{Nodes, Bytes}
 use Rattle.wikiexpand.specs.declared.items.Reading.{Reading}
 use Rattle.wikiexpand.specs.declared.items.Reading.TheVariants.{Any, NumberOf, ValueAlone}
 
