@@ -1,0 +1,4 @@
+pub mod Seen
+pub mod Arguments
+pub mod Unpack
+pub mod Select

@@ -1,0 +1,34 @@
+//! The basic functions of Lua that call back nobody (manual 5.1), over the store of a page.
+//!
+//! Read `specs/Seen.antt` first: what an answer is seen as, and when it is the meaning's own.
+//!
+//! - `stop`: why a function gives no values
+//! - `values`: values, and lists of values
+//! - `texts`: the text that a value is taken for
+//! - `messages`: the texts of errors
+//! - `arguments`: the arguments of functions
+//! - `fields`: fields of tables, and metatables
+//! - `raising`: `assert` and `error`
+//! - `handlers`: `getmetatable` and `setmetatable`
+//! - `raw`: `rawequal`, `rawget`, `rawset`
+//! - `walking`: `next`
+//! - `choosing`: `select` and `type`
+//! - `unpacking`: `unpack`
+//! - `numbers`: `tonumber`
+#![tactic(auto)]
+
+pub mod arguments;
+pub mod choosing;
+pub mod fields;
+pub mod handlers;
+pub mod messages;
+pub mod numbers;
+pub mod raising;
+pub mod raw;
+pub mod stop;
+pub mod texts;
+pub mod unpacking;
+pub mod values;
+pub mod walking;
+
+pub use stop::Stop;

@@ -1,0 +1,32 @@
+-- A FRESH ENVIRONMENT IN A HEAP (manual 5; Scribunto, "Lua environment"): the four tables with which each run of Lua begins stand behind
+-- those that were there, in the same order, and name each other by their new numbers.
+use Rattle.std.specs.Prelude.{◌≡◌, ℕ, ◌+◌, false, [], ◌∷◌}
+use Rattle.lua_heap.specs.Heap.{Heap}
+use Rattle.lua_heap.specs.Graph.{Graph, graph_heap, join}
+use Rattle.lua_meaning.specs.Home.{globals, strings, mw, mw_title, home_heap}
+use Rattle.lua_store.specs.Seen.{StoreView}
+use Rattle.lua_store.specs.Parts.{IsTableOf}
+use Rattle.lua_home.specs.declared.made.Tables.{Tables}
+
+abbrev pub home_tables : Graph
+home_tables = globals ∷ strings ∷ mw ∷ mw_title ∷ []
+
+abbrev pub with_home : {X : Type 0} → Heap X → Heap X
+with_home h = join false home_tables h
+
+-- alone in a heap, they are the heap with which a run begins
+abbrev pub HomeIsHome : Type 0
+HomeIsHome = graph_heap false home_tables ≡ home_heap
+
+-- the numbers of the four tables, where so many stand before them
+pub record AreAt (k : ℕ) (t : Tables) : Type 0 where
+  pub globals : t.globals.at ≡ k + 0
+  pub strings : t.strings.at ≡ k + 1
+  pub mw : t.mw.at ≡ k + 2
+  pub title : t.title.at ≡ k + 3
+
+pub record AreTablesOf (s : StoreView) (t : Tables) : Type 0 where
+  pub globals : IsTableOf s t.globals
+  pub strings : IsTableOf s t.strings
+  pub mw : IsTableOf s t.mw
+  pub title : IsTableOf s t.title
