@@ -1,0 +1,174 @@
+-- When all that a machine holds names only what a store has. It stays so in each later store, and is seen there as it was (`Laws`).
+use Rattle.std.specs.Prelude.{◌≡◌, ℕ, List, Option, Some, None, codes}
+use Rattle.std.specs.List.{AllByRecursion}
+use Rattle.lua_store.specs.declared.value.Value.{Value}
+use Rattle.lua_store.specs.declared.ids.TextId.{TextId}
+use Rattle.lua_store.specs.declared.ids.CellId.{CellId}
+use Rattle.lua_store.specs.declared.ids.ClosureId.{ClosureId}
+use Rattle.lua_store.specs.Seen.{StoreView, text_at}
+use Rattle.lua_store.specs.Parts.{IsOf, IsTextOf, IsTableOf, IsCellOf, IsClosureOf}
+use Rattle.lua_meaning.specs.Operators as plain
+use Rattle.lua_stack.specs.declared.values.Given.{Given}
+use Rattle.lua_stack.specs.declared.frame.Found.{Found}
+use Rattle.lua_stack.specs.declared.frame.Found.TheVariants as found
+use Rattle.lua_stack.specs.declared.frame.Setting.{Setting}
+use Rattle.lua_stack.specs.declared.frame.Pending.{Pending}
+use Rattle.lua_stack.specs.declared.frame.Pending.TheVariants as pending
+use Rattle.lua_stack.specs.declared.frame.Asked.{Asked}
+use Rattle.lua_stack.specs.declared.frame.Asked.TheVariants as asked
+use Rattle.lua_stack.specs.declared.frame.Thing.{Thing}
+use Rattle.lua_stack.specs.declared.frame.Thing.TheVariants as thing
+use Rattle.lua_stack.specs.declared.frame.Frame.{Frame}
+use Rattle.lua_stack.specs.declared.frame.Frame.TheVariants as frame
+use Rattle.lua_stack.specs.declared.focus.Jump.{Jump}
+use Rattle.lua_stack.specs.declared.focus.Jump.TheVariants as jump
+use Rattle.lua_stack.specs.declared.focus.Focus.{Focus}
+use Rattle.lua_stack.specs.declared.focus.Focus.TheVariants as focus
+use Rattle.lua_stack.specs.declared.register.Slot.{Slot}
+use Rattle.lua_stack.specs.declared.register.Slot.TheVariants as slot
+use Rattle.lua_stack.specs.declared.activation.Callee.{Callee}
+use Rattle.lua_stack.specs.declared.activation.Activation.{Activation}
+use Rattle.lua_stack.specs.declared.environment.Environment.{Environment}
+use Rattle.lua_stack.specs.Lists.{given_values}
+
+-- VALUES
+abbrev pub ValuesOf : StoreView → List Value → Type 0
+ValuesOf s vs = AllByRecursion (IsOf s) vs
+
+abbrev pub GivenOf : StoreView → Given → Type 0
+GivenOf s g = ValuesOf s (given_values g)
+
+abbrev pub TextsOf : StoreView → List TextId → Type 0
+TextsOf s ids = AllByRecursion (IsTextOf s) ids
+
+-- REGISTERS
+abbrev pub SlotOf : StoreView → Slot → Type 0
+SlotOf s (slot.Plain v) = IsOf s v
+SlotOf s (slot.Boxed c) = IsCellOf s c
+
+abbrev pub RegistersOf : StoreView → List Slot → Type 0
+RegistersOf s regs = AllByRecursion (SlotOf s) regs
+
+-- a register, a cell and a closure, if there is one
+abbrev pub MayBeSlotOf : StoreView → Option Slot → Type 0
+MayBeSlotOf s None = Unit {0}
+MayBeSlotOf s (Some r) = SlotOf s r
+
+abbrev pub MayBeCellOf : StoreView → Option CellId → Type 0
+MayBeCellOf s None = Unit {0}
+MayBeCellOf s (Some c) = IsCellOf s c
+
+abbrev pub MayBeClosureOf : StoreView → Option ClosureId → Type 0
+MayBeClosureOf s None = Unit {0}
+MayBeClosureOf s (Some c) = IsClosureOf s c
+
+-- FUNCTIONS
+pub record CalleeOf (s : StoreView) (f : Callee) : Type 0 where
+  pub source : IsTextOf s f.source
+  pub closure : MayBeClosureOf s f.closure
+
+pub record ActivationOf (s : StoreView) (a : Activation) : Type 0 where
+  pub source : IsTextOf s a.source
+  pub closure : MayBeClosureOf s a.closure
+  pub dots : ValuesOf s a.dots
+
+abbrev pub ActivationsOf : StoreView → List Activation → Type 0
+ActivationsOf s activations = AllByRecursion (ActivationOf s) activations
+
+-- TARGETS
+abbrev pub FoundOf : StoreView → Found → Type 0
+FoundOf s (found.Variable p) = Unit {0}
+FoundOf s (found.Global name line) = Unit {0}
+FoundOf s (found.At of key line) = IsOf s of × IsOf s key
+
+abbrev pub SettingOf : StoreView → Setting → Type 0
+SettingOf s p = FoundOf s p.target × IsOf s p.value
+
+-- FRAMES
+abbrev pub PendingOf : StoreView → Pending → Type 0
+PendingOf s (pending.Xpcall h) = IsOf s h
+PendingOf s _ = Unit {0}
+
+abbrev pub AskedOf : StoreView → Asked → Type 0
+AskedOf s (asked.Template text) = IsTextOf s text
+AskedOf s asked.Text = Unit {0}
+AskedOf s (asked.Data text title) = IsTextOf s text
+
+abbrev pub FrameOf : StoreView → Frame → Type 0
+FrameOf s (frame.IndexNow of line) = IsOf s of
+FrameOf s (frame.OperateNow op a line) = IsOf s a
+FrameOf s (frame.CallNow f line) = IsOf s f
+FrameOf s (frame.MethodNow object args line) = IsOf s object
+FrameOf s (frame.MoreNext es before) = ValuesOf s before
+FrameOf s (frame.ItemNow t n es line) = IsTableOf s t
+FrameOf s (frame.PairNext t n e es line) = IsTableOf s t
+FrameOf s (frame.PairNow t n key es line) = IsTableOf s t × IsOf s key
+FrameOf s (frame.FieldsNext t n es line) = IsTableOf s t
+FrameOf s (frame.ItemsNext t n left line) = IsTableOf s t × ValuesOf s left
+FrameOf s (frame.TargetKey key line more before values) = AllByRecursion (FoundOf s) before
+FrameOf s (frame.TargetNow of line more before values) = IsOf s of × AllByRecursion (FoundOf s) before
+FrameOf s (frame.AssignNow targets) = AllByRecursion (FoundOf s) targets
+FrameOf s (frame.SetsNext pairs) = AllByRecursion (SettingOf s) pairs
+FrameOf s (frame.CountTo boxed from by b line) = IsOf s from
+FrameOf s (frame.CountBy boxed from to b line) = IsOf s from × IsOf s to
+FrameOf s (frame.EachNext flags iterator state b line) = IsOf s iterator × IsOf s state
+FrameOf s (frame.EachEnd depth flags iterator state before b line) = IsOf s iterator × IsOf s state × IsOf s before
+FrameOf s (frame.Waits what line) = PendingOf s what
+FrameOf s (frame.Hears what line) = AskedOf s what
+FrameOf s (frame.ModuleFound name f) = IsOf s f
+FrameOf s (frame.FunctionFound name f) = IsOf s f
+FrameOf s (frame.TextNow values before) = ValuesOf s values × TextsOf s before
+FrameOf s _ = Unit {0}
+
+abbrev pub FramesOf : StoreView → List Frame → Type 0
+FramesOf s frames = AllByRecursion (FrameOf s) frames
+
+-- WHAT IS NEXT
+abbrev pub ThingOf : StoreView → Thing → Type 0
+ThingOf s (thing.EachTurn flags iterator state results b line) = IsOf s iterator × IsOf s state × GivenOf s results
+ThingOf s (thing.Body f args line) = CalleeOf s f × ValuesOf s args
+ThingOf s (thing.Library which args line) = ValuesOf s args
+ThingOf s (thing.IndexLink object h key line) = IsOf s object × IsOf s h × IsOf s key
+ThingOf s (thing.SetLink object h key value line) = IsOf s object × IsOf s h × IsOf s key × IsOf s value
+ThingOf s (thing.CallLink h args line) = IsOf s h × ValuesOf s args
+ThingOf s _ = Unit {0}
+
+abbrev pub JumpOf : StoreView → Jump → Type 0
+JumpOf s (jump.Returned g) = GivenOf s g
+JumpOf s jump.Broke = Unit {0}
+JumpOf s (jump.Raised v) = IsOf s v
+
+abbrev pub FocusOf : StoreView → Focus → Type 0
+FocusOf s (focus.Gives g) = GivenOf s g
+FocusOf s (focus.Jumps j) = JumpOf s j
+FocusOf s (focus.Lists es before) = ValuesOf s before
+FocusOf s (focus.Finds targets before values) = AllByRecursion (FoundOf s) before
+FocusOf s (focus.Sets pairs) = AllByRecursion (SettingOf s) pairs
+FocusOf s (focus.Starts t) = ThingOf s t
+FocusOf s (focus.Texts values before) = ValuesOf s values × TextsOf s before
+FocusOf s _ = Unit {0}
+
+-- THE ENVIRONMENT of a run, whose names of handlers are what the manual calls them (2.8)
+abbrev pub IsNameOf : StoreView → TextId → List ℕ → Type 0
+IsNameOf s id name = IsTextOf s id × (text_at s.texts id.at ≡ name)
+
+pub record EnvironmentOf (s : StoreView) (e : Environment) : Type 0 where
+  pub globals : IsTableOf s e.globals
+  pub strings : IsTableOf s e.strings
+  pub index : IsNameOf s e.index (codes "__index")
+  pub set_index : IsNameOf s e.set_index (codes "__newindex")
+  pub call : IsNameOf s e.call (codes "__call")
+  pub add : IsNameOf s e.add (plain.event plain.Add)
+  pub subtract : IsNameOf s e.subtract (plain.event plain.Sub)
+  pub multiply : IsNameOf s e.multiply (plain.event plain.Mul)
+  pub divide : IsNameOf s e.divide (plain.event plain.Div)
+  pub modulo : IsNameOf s e.modulo (plain.event plain.Mod)
+  pub power : IsNameOf s e.power (plain.event plain.Pow)
+  pub negate : IsNameOf s e.negate (codes "__unm")
+  pub concatenate : IsNameOf s e.concatenate (codes "__concat")
+  pub equal : IsNameOf s e.equal (codes "__eq")
+  pub less : IsNameOf s e.less (codes "__lt")
+  pub at_most : IsNameOf s e.at_most (codes "__le")
+  pub to_string : IsNameOf s e.to_string (codes "__tostring")
+  pub pairs : IsNameOf s e.pairs (codes "__pairs")
+  pub ipairs : IsNameOf s e.ipairs (codes "__ipairs")

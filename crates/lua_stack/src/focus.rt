@@ -1,0 +1,47 @@
+//! What the machine does next.
+use crate::frame::{Found, Setting, Thing};
+use crate::stack::Stack;
+use crate::values::{Given, Values};
+use lua_code::{Expression, Statement, Target};
+use lua_store::{TextId, Value};
+use mw_frame::{Ask, Job};
+use wk_base::{List, Title};
+
+/// What passes frames by: a `return` with its values, a `break`, and an error with its value (manual 2.4.4 and 2.7).
+#[derive(Drop)]
+pub enum Jump {
+    Returned(Given),
+    Broke,
+    Raised(Value),
+}
+
+/// What a run is to do: an invocation, or the load of a data module.
+#[derive(Drop)]
+pub enum Work {
+    Invoke(Job),
+    Data(Title),
+}
+
+/// What the machine does next, above the frames that wait.
+#[derive(Drop)]
+pub enum Focus<'m> {
+    /// Values for the newest frame.
+    Gives(Given),
+    /// A jump that reaches the newest frame.
+    Jumps(Jump),
+    Evaluates(&'m Expression),
+    /// What is left of a list, and the values before.
+    Lists(&'m [Expression], Values),
+    /// What is left of the targets of an assignment, those that are found, and the values.
+    Finds(&'m [Target], List<Found<'m>>, &'m List<Expression>),
+    /// What is still to be set, the last target first.
+    Sets(Stack<Setting<'m>>),
+    Runs(&'m [Statement]),
+    Starts(Thing<'m>),
+    /// The texts of these values, behind the texts before.
+    Texts(Values, List<TextId>),
+    /// It stands at a question.
+    Asks(Ask),
+    /// A run is to begin.
+    Works(Work),
+}

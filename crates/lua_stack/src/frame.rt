@@ -1,0 +1,142 @@
+//! What waits for an outcome, and what begins.
+use crate::activation::Callee;
+use crate::stack::Stack;
+use crate::values::{Given, Values};
+use lua_code::{Branch, Entry, Expression, Operator, Place, Statement, Target};
+use lua_store::{Library, TableId, TextId, Value};
+use lua_syntax::UnaryOp;
+use wk_base::{Bytes, List, Title};
+
+/// A target of an assignment that is found (manual 2.4.3).
+#[derive(Clone, Copy)]
+pub enum Found<'m> {
+    Variable(Place),
+    Global(&'m [u8], u32),
+    /// The entry of a table or another value at a key.
+    At(Value, Value, u32),
+}
+
+/// A target with the value that it is to get.
+#[derive(Clone, Copy)]
+pub struct Setting<'m> {
+    pub target: Found<'m>,
+    pub value: Value,
+}
+
+/// A function of the library that waits for a call.
+#[derive(Drop)]
+pub enum Pending {
+    Pcall,
+    /// `xpcall` with its handler.
+    Xpcall(Value),
+    /// `xpcall` whose handler is called.
+    Handler,
+    ToString,
+    Pairs,
+    /// The text of a module of this title is run.
+    Module(Title),
+}
+
+/// A function of the library that waits for an answer from outside.
+#[derive(Drop)]
+pub enum Asked {
+    /// `frame:expandTemplate`, with the text that names the template.
+    Template(TextId),
+    /// `frame:preprocess`
+    Text,
+    /// `mw.loadData`, with the text that names the module, and its title.
+    Data(TextId, Title),
+}
+
+/// What begins at a step of its own. A line is given where a place of the newest function's text asks for it.
+#[derive(Drop)]
+pub enum Thing<'m> {
+    WhileTurn(&'m Expression, &'m List<Statement>),
+    RepeatTurn(&'m List<Statement>, &'m Expression),
+    /// The flag of the variable, the index, the limit, the step, and the body.
+    CountTurn(bool, i64, i64, i64, &'m List<Statement>),
+    /// The flags of the variables, the iterator, the state, the iterator's results, the body, and the loop's line.
+    EachTurn(&'m [bool], Value, Value, Given, &'m List<Statement>, u32),
+    /// A function of Lua with its arguments.
+    Body(Callee, Values, Option<u32>),
+    /// A function of the library with its arguments.
+    Library(Library, Values, Option<u32>),
+    /// From an object to its handler for an index at this key.
+    IndexLink(Value, Value, Value, Option<u32>),
+    /// From an object to its handler for an assignment at this key to this value.
+    SetLink(Value, Value, Value, Value, Option<u32>),
+    /// From an object to its handler for a call. The object is the first of the arguments.
+    CallLink(Value, Values, Option<u32>),
+}
+
+/// What waits for an outcome.
+#[derive(Drop)]
+pub enum Frame<'m> {
+    /// The first value alone counts.
+    First,
+    /// It is a truth, or its negation.
+    Verdict(bool),
+    KeyNext(&'m Expression, u32),
+    IndexNow(Value, u32),
+    /// The second operand, and the truth of the first one that makes it unneeded.
+    DecideNext(bool, &'m Expression),
+    OperandNext(Operator, &'m Expression, u32),
+    OperateNow(Operator, Value, u32),
+    UnaryNow(UnaryOp, u32),
+    ArgumentsNext(&'m List<Expression>, u32),
+    CallNow(Value, u32),
+    MethodNext(&'m [u8], &'m List<Expression>, u32),
+    MethodNow(Value, &'m List<Expression>, u32),
+    /// What is left of a list, and the values before.
+    MoreNext(&'m [Expression], Values),
+    /// A constructor of this table whose next item has this place: an item is evaluated, with these entries behind it.
+    ItemNow(TableId, usize, &'m [Entry], u32),
+    /// The key of a pair is evaluated.
+    PairNext(TableId, usize, &'m Expression, &'m [Entry], u32),
+    /// The value of a pair is evaluated.
+    PairNow(TableId, usize, Value, &'m [Entry], u32),
+    /// An entry is set.
+    FieldsNext(TableId, usize, &'m [Entry], u32),
+    /// An entry is set, and these values are still to be set.
+    ItemsNext(TableId, usize, Values, u32),
+    /// The table of a target is evaluated, and then its key; the targets behind it, those that are found, and the values.
+    TargetKey(&'m Expression, u32, &'m [Target], List<Found<'m>>, &'m List<Expression>),
+    /// The key of a target in this table is evaluated.
+    TargetNow(Value, u32, &'m [Target], List<Found<'m>>, &'m List<Expression>),
+    /// The values for these targets are evaluated.
+    AssignNow(List<Found<'m>>),
+    /// A target is set, and these are still to be set.
+    SetsNext(Stack<Setting<'m>>),
+    DeclareNow(&'m [bool], &'m [Statement]),
+    StatsNext(&'m [Statement]),
+    /// A test of an `if`, with what follows its `then`, the branches behind it, and the `else`.
+    BranchNext(&'m List<Statement>, &'m [Branch], Option<&'m List<Statement>>),
+    /// The end of a block that has so many registers below it.
+    BlockEnd(usize),
+    BodyEnd,
+    LibraryEnd,
+    WhileTest(&'m Expression, &'m List<Statement>),
+    WhileEnd(usize, &'m Expression, &'m List<Statement>),
+    /// The body of a `repeat`, before its test.
+    TestNext(&'m Expression, usize, &'m List<Statement>),
+    TestNow(&'m Expression, usize, &'m List<Statement>),
+    CountFrom(bool, &'m Expression, Option<&'m Expression>, &'m List<Statement>, u32),
+    CountTo(bool, Value, Option<&'m Expression>, &'m List<Statement>, u32),
+    CountBy(bool, Value, Value, &'m List<Statement>, u32),
+    CountEnd(usize, bool, i64, i64, i64, &'m List<Statement>),
+    EachValues(&'m [bool], &'m List<Statement>, u32),
+    EachNext(&'m [bool], Value, Value, &'m List<Statement>, u32),
+    EachEnd(usize, &'m [bool], Value, Value, Value, &'m List<Statement>, u32),
+    ReturnNow,
+    /// A function of the library that waits for a call; the line is that of its own call.
+    Waits(Pending, Option<u32>),
+    /// A function of the library that waits for an answer.
+    Hears(Asked, Option<u32>),
+    /// A whole run: the module's value is to come, whose function of this name gets this frame.
+    ModuleFound(Bytes, Value),
+    FunctionFound(Bytes, Value),
+    AnswerNow,
+    /// The text of a value of the answer is to come, with the values behind it and the texts before.
+    TextNow(Values, List<TextId>),
+    DataNow,
+}

@@ -1,0 +1,39 @@
+//! What a machine of Lua holds: frames that wait, registers, functions in progress, values in flight, and what it does next.
+//!
+//! - `stack`: a list of which the newest item is at hand
+//! - `values`: values in flight
+//! - `frame`: what waits, and what begins
+//! - `focus`: what the machine does next
+//! - `register`: local variables, in registers and in cells
+//! - `opening`: new local variables
+//! - `activation`: functions in progress, and the places of their errors
+//! - `environment`: the tables of a run, and the names of handlers
+//! - `raising`: an error with its message
+//! - `laws`: what a machine holds stays while its store grows
+//!
+//! Begin with `specs/Seen.antt`: what each of these is seen as in `lua_slots`. `specs/Of.antt` says when all their values are of a
+//! store.
+#![tactic(auto)]
+
+pub mod activation;
+pub mod environment;
+pub mod focus;
+pub mod frame;
+pub mod laws;
+pub mod opening;
+pub mod raising;
+pub mod register;
+pub mod stack;
+pub mod values;
+
+pub use activation::{Activation, Activations, Callee, Level};
+pub use environment::Environment;
+pub use focus::{Focus, Jump, Work};
+pub use frame::{Asked, Found, Frame, Pending, Setting, Thing};
+pub use raising::Raising;
+pub use register::Slot;
+pub use stack::Stack;
+pub use values::{Given, Values};
+
+#[cfg(test)]
+mod tests;
