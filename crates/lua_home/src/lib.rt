@@ -8,5 +8,7 @@
 
 pub mod fields;
 pub mod made;
+#[cfg(test)]
+mod tests;
 
 pub use made::{Tables, fresh};

@@ -10,6 +10,8 @@
 pub mod call;
 pub mod mw;
 pub mod table;
+#[cfg(test)]
+mod tests;
 
 pub use call::plain_call;
 pub use table::{PlainFunction, plain_function};
