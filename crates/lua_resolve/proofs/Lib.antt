@@ -1,0 +1,2 @@
+mod SpotLaws
+mod SightLaws
