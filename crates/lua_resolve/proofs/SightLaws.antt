@@ -1,13 +1,13 @@
 -- Where names stand stays so: through more variables, through a function that captures, and while functions capture more.
-use Rattle.std.proofs.Common.{◌≡◌, ◌∙◌, ℕ, suc, Bool, true, false, cond, refl, sym, ap, subst, List, [], ◌∷◌, ◌++◌, length, Option, Some, None, option_map, bytes_eq}
+use Rattle.std.proofs.Common.{◌≡◌, ◌∙◌, ℕ, Bool, true, false, cond, refl, sym, ap, subst, List, [], ◌∷◌, ◌++◌, length, Option, Some, None, bytes_eq}
 use Rattle.std.proofs.lemmas.Slice.Eq.{bytes_eq-Decides}
 use Rattle.lua_heap.specs.Related.{Each}
 use Rattle.lua_heap.specs.Related as related
 use Rattle.lua_meaning.specs.Scope.{Bytes}
 use Rattle.lua_slots.specs.Code.{Place, Reg, Box, Up}
-use Rattle.lua_slots.specs.Sight.{Sighted, Everywhere, Here, Hidden, Sight, nothing_local, newest, with_local, deeper, inside, up_of, up_or}
-use Rattle.lua_slots.specs.IsCode.{is_plain, IsCaptured}
-use Rattle.lua_resolve.specs.Scopes.{Local, Level, nothing_known, with_capture, local_sight, level_sight, stack_sight, Misses, AreCaptured, StaysAs, Covers, Grows, IsSighted, IsPlaced}
+use Rattle.lua_slots.specs.Sight.{Sighted, Everywhere, Here, Hidden, Sight, nothing_local, newest, deeper, inside, up_of, up_or}
+use Rattle.lua_slots.specs.IsCode.{IsCaptured}
+use Rattle.lua_resolve.specs.Scopes.{Local, Level, nothing_known, with_capture, local_sight, level_sight, stack_sight, Misses, AreCaptured, StaysAs, Covers, Grows, IsPlaced}
 use Rattle.lua_resolve.specs.declared.level.Found.{Found}
 use Rattle.lua_resolve.specs.Spots.{IsFound, found_seen, IsCelled, IsPassed}
 use Rattle.lua_code.specs.Seen.{place_seen}
@@ -82,9 +82,9 @@ captures_at false n o a b none here h = stays_up o a b h
 pub covers_captured : (names : List Bytes) (x : Bytes) (a b : Sight) (p : Place) → Covers a b → b x ≡ Here p → up_of names x ≡ None → Covers (inside names a) (inside (names ++ x ∷ []) b)
 covers_captured names x a b p h here none y =
     subst (λ o. StaysAs (up_or (up_of names y) (a y)) (up_or o (b y))) (sym (up_more names x y none))
-        (captures_at (bytes_eq x y) (length names) (up_of names y) (a y) (b y)
-            (λ e. subst (λ z. up_of names z ≡ None) ((bytes_eq-Decides x y).0 e) none)
-            (λ e. (p, subst (λ z. b z ≡ Here p) ((bytes_eq-Decides x y).0 e) here)) (h y))
+    (captures_at (bytes_eq x y) (length names) (up_of names y) (a y) (b y)
+    (λ e. subst (λ z. up_of names z ≡ None) ((bytes_eq-Decides x y).0 e) none)
+    (λ e. (p, subst (λ z. b z ≡ Here p) ((bytes_eq-Decides x y).0 e) here)) (h y))
 
 -- FUNCTIONS
 pub grows_same : (ls : List Level) → Grows ls ls
@@ -138,7 +138,7 @@ passed l m ls ms x (Some f) g miss placed celled e =
     let up : up_of k.names x ≡ Some (length l.names) = up_more l.names x x miss.no_capture ∙ ap (λ t. cond t (Some (length l.names)) (up_of l.names x)) ((bytes_eq-Decides x x).1 refl) in
     let sight : level_sight k (stack_sight ms) x ≡ Here (Up (length l.names)) = local_miss l.locals (inside k.names (stack_sight ms)) x (Here (Up (length l.names))) miss.no_local (ap (λ o. up_or o (stack_sight ms x)) up) refl in
     let there : IsPlaced (l ∷ ls) (k ∷ ms) x (Some (Up (length l.names))) =
-        record { grows = grown; captured = λ c. (captured_more (stack_sight ms) l.names l.places x (place_seen f.place) (captured_on _ _ l.names l.places covers c.0) own, placed.captured c.1); sighted = sight } in
+    record { grows = grown; captured = λ c. (captured_more (stack_sight ms) l.names l.places x (place_seen f.place) (captured_on _ _ l.names l.places covers c.0) own, placed.captured c.1); sighted = sight } in
     subst (λ h. IsPlaced (l ∷ ls) (m ∷ ms) x (found_seen h) × IsCelled h) (sym e.2) (subst (λ j. IsPlaced (l ∷ ls) (j ∷ ms) x (Some (Up (length l.names)))) (sym e.1) there, λ q. refl)
 
 -- A LEVEL that is new, or has the same captures

@@ -1,19 +1,16 @@
 -- Spots of names, against where names stand.
-use Rattle.std.proofs.Common.{◌≡◌, ◌∙◌, ℕ, zero, suc, ◌+◌, ◌-◌, ◌<◌, Bool, true, false, true≢false, cond, refl, sym, ap, subst, List, [], ◌∷◌, ◌++◌, map, length, drop, ◌≤◌, Option, Some, None, option_map, bytes_eq, Bor, arith}
+use Rattle.std.proofs.Common.{◌≡◌, ◌∙◌, ℕ, zero, suc, ◌-◌, ◌<◌, Bool, true, false, true≢false, cond, refl, sym, ap, subst, List, [], ◌∷◌, ◌++◌, map, length, drop, ◌≤◌, Option, Some, None, option_map, bytes_eq, Bor, arith}
 use Rattle.std.proofs.lemmas.Slice.Eq.{bytes_eq-Decides}
-use Rattle.std.proofs.lemmas.List.{map-append}
 use Rattle.std.specs.Map.{lookup}
 use Rattle.indexmap.specs.IndexMap.{insert_entry}
 use Rattle.lua_meaning.specs.Scope.{Bytes}
 use Rattle.lua_slots.specs.Code.{Place as PlainPlace, Reg, Box, Up}
-use Rattle.lua_slots.specs.Sight.{Sighted, Everywhere, Here, Hidden, Sight, newest, with_local, deeper, inside, up_of, up_or}
-use Rattle.lua_slots.specs.IsCode.{is_plain}
+use Rattle.lua_slots.specs.Sight.{Sighted, Here, Sight, newest, deeper, inside, up_of, up_or}
 use Rattle.lua_code.specs.declared.place.Place.{Place}
-use Rattle.lua_code.specs.Seen.{place_seen}
 use Rattle.lua_resolve.specs.declared.spots.Spot.{Spot}
 use Rattle.lua_resolve.specs.declared.spots.Spot.TheVariants as spot
 use Rattle.lua_resolve.specs.declared.level.Variable.{Variable}
-use Rattle.lua_resolve.specs.Scopes.{Local, Level, local_sight, level_sight, is_local, Misses, closed_to, without_newest}
+use Rattle.lua_resolve.specs.Scopes.{Local, Level, local_sight, is_local, Misses, closed_to, without_newest}
 use Rattle.lua_resolve.specs.Spots.{joined, spot_at, IsNoted, IsEnded, local_seen, level_seen, spot_of, AreShadowed, IsRight, found_of, IsFound}
 
 abbrev Spots : Type 0
@@ -49,8 +46,8 @@ apart false c v w o p never e = e
 
 module _ (eq : Bor Bytes → Bor Bytes → Bool) (is : (a b : Bor Bytes) → eq a b ≡ bytes_eq a.now b.now) where
   noted_at : (e : Bor Bytes × Option Spot) (es : Spots) (k : Bor Bytes) (v : Option Spot) (x : Bytes) (t : Bool) → eq k e.0 ≡ t
-    → spot_at (insert_entry eq es k v) x ≡ cond (bytes_eq k.now x) v (spot_at es x)
-    → spot_at (cond t ((e.0, v) ∷ es) (e ∷ insert_entry eq es k v)) x ≡ cond (bytes_eq k.now x) v (spot_at (e ∷ es) x)
+      → spot_at (insert_entry eq es k v) x ≡ cond (bytes_eq k.now x) v (spot_at es x)
+      → spot_at (cond t ((e.0, v) ∷ es) (e ∷ insert_entry eq es k v)) x ≡ cond (bytes_eq k.now x) v (spot_at (e ∷ es) x)
   noted_at e es k v x true h ih =
       let n : k.now ≡ e.0.now = (bytes_eq-Decides k.now e.0.now).0 (sym (is k e.0) ∙ h) in
       let same : bytes_eq x e.0.now ≡ bytes_eq k.now x = flip x e.0.now ∙ ap (λ y. bytes_eq y x) (sym n) in
@@ -139,7 +136,7 @@ pub declared : (v : Variable) (vs new_vs : List Variable) (names : List (Bor Byt
     → new_vs ≡ v ∷ vs → IsNoted spots v.name.now (Some (spot.Local (length vs) v.boxed v.number)) new → IsRight new_vs names new
 declared v vs new_vs names spots new right shadowed e written =
     subst (λ us. IsRight us names new) (sym e)
-        (record { found = λ x. written x ∙ ap (λ o. cond (bytes_eq v.name.now x) (Some (spot.Local (length vs) v.boxed v.number)) o) (right.found x); shadowed = (shadowed ∙ right.found v.name.now, right.shadowed) })
+    (record { found = λ x. written x ∙ ap (λ o. cond (bytes_eq v.name.now x) (Some (spot.Local (length vs) v.boxed v.number)) o) (right.found x); shadowed = (shadowed ∙ right.found v.name.now, right.shadowed) })
 
 ended_at : (v : Variable) (vs : List Variable) (names : List (Bor Bytes)) (x : Bytes) (old new : Option Spot) (t : Bool) → bytes_eq v.name.now x ≡ t → v.shadowed ≡ spot_of v.name.now vs names
     → new ≡ cond t v.shadowed old → old ≡ cond t (Some (spot.Local (length vs) v.boxed v.number)) (spot_of x vs names) → new ≡ spot_of x vs names
@@ -150,7 +147,7 @@ pub ended : (vs new_vs : List Variable) (names : List (Bor Bytes)) (spots new : 
 ended [] new_vs names spots new right e = subst (λ us. IsRight us names new) (sym e.0) (subst (λ ss. IsRight [] names ss) (sym e.1) right)
 ended (v ∷ vs) new_vs names spots new right e =
     subst (λ us. IsRight us names new) (sym e.0)
-        (record { found = λ x. ended_at v vs names x (spot_at spots x) (spot_at new x) (bytes_eq v.name.now x) refl right.shadowed.0 (e.1 x) (right.found x); shadowed = right.shadowed.1 })
+    (record { found = λ x. ended_at v vs names x (spot_at spots x) (spot_at new x) (bytes_eq v.name.now x) refl right.shadowed.0 (e.1 x) (right.found x); shadowed = right.shadowed.1 })
 
 swap : (b c : Bool) (p q r : Option Spot) → (b ≡ true → c ≡ true → ⊥) → cond b p (cond c q r) ≡ cond c q (cond b p r)
 swap true true p q r never = absurd (never refl refl)
@@ -203,14 +200,14 @@ shadowed_more [] names m h u s = tt
 shadowed_more (v ∷ vs) names m h u s =
     let parts = both_false (bytes_eq v.name.now m.now) (is_local m.now (map local_seen vs)) h in
     let same : spot_of v.name.now vs (names ++ m ∷ []) ≡ spot_of v.name.now vs names =
-        spot_more vs names m v.name.now parts.1 u ∙ ap (λ t. cond t (Some (spot.Captured (length names))) (spot_of v.name.now vs names)) (flip m.now v.name.now ∙ parts.0) in
+    spot_more vs names m v.name.now parts.1 u ∙ ap (λ t. cond t (Some (spot.Captured (length names))) (spot_of v.name.now vs names)) (flip m.now v.name.now ∙ parts.0) in
     (s.0 ∙ sym same, shadowed_more vs names m parts.1 u s.1)
 
 pub captured : (vs : List Variable) (names new_names : List (Bor Bytes)) (places : List Place) (m : Bor Bytes) (spots new : Spots) → Misses (level_seen vs names places) m.now → IsRight vs names spots
     → new_names ≡ names ++ m ∷ [] → IsNoted spots m.now (Some (spot.Captured (length names))) new → IsRight vs new_names new
 captured vs names new_names places m spots new miss right e written =
     subst (λ ns. IsRight vs ns new) (sym e)
-        (record { found = λ x. written x ∙ ap (λ o. cond (bytes_eq m.now x) (Some (spot.Captured (length names))) o) (right.found x) ∙ sym (spot_more vs names m x miss.no_local miss.no_capture); shadowed = shadowed_more vs names m miss.no_local miss.no_capture right.shadowed })
+    (record { found = λ x. written x ∙ ap (λ o. cond (bytes_eq m.now x) (Some (spot.Captured (length names))) o) (right.found x) ∙ sym (spot_more vs names m x miss.no_local miss.no_capture); shadowed = shadowed_more vs names m miss.no_local miss.no_capture right.shadowed })
 
 -- CLOSING
 pub closes : (n : ℕ) (l : Level) → n < length l.locals → closed_to n (without_newest l) ≡ closed_to n l

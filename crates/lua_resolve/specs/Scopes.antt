@@ -6,7 +6,7 @@ use Rattle.std.specs.Coded.{Coded, code_by, coded×, coded_ℕ, coded_bool, code
 use Rattle.lua_heap.specs.Related.{Each}
 use Rattle.lua_meaning.specs.Scope.{Bytes}
 use Rattle.lua_slots.specs.Code.{Place, Reg, Box, Up}
-use Rattle.lua_slots.specs.Sight.{Sighted, Everywhere, Here, Hidden, Sight, nothing_local, with_local, deeper, inside, up_of}
+use Rattle.lua_slots.specs.Sight.{Sighted, Everywhere, Here, Hidden, Sight, nothing_local, with_local, inside, up_of}
 use Rattle.lua_slots.specs.IsCode.{IsCaptured}
 
 -- a local variable, and whether it has a cell
@@ -95,12 +95,12 @@ declared x b s = record s { level = with_variable x b s.level }
 abbrev pub entered : Scopes → Scopes
 entered s = record s { level = nothing_known; outer = s.level ∷ s.outer }
 
+abbrev pub IsLeftTo : List Level → Scopes → Scopes → List Place → Type 0
+IsLeftTo [] s t places = t ≡ s
+IsLeftTo (l ∷ ls) s t places = (t ≡ record s { level = l; outer = ls }) × (places ≡ s.level.places) × (s.clean ≡ true → Each (IsCaptured (stack_sight (l ∷ ls))) s.level.names s.level.places)
+
 abbrev pub IsLeft : Scopes → Scopes → List Place → Type 0
 IsLeft s t places = IsLeftTo s.outer s t places
-  where
-    IsLeftTo : List Level → Scopes → Scopes → List Place → Type 0
-    IsLeftTo [] s t places = t ≡ s
-    IsLeftTo (l ∷ ls) s t places = (t ≡ record s { level = l; outer = ls }) × (places ≡ s.level.places) × (s.clean ≡ true → Each (IsCaptured (stack_sight (l ∷ ls))) s.level.names s.level.places)
 
 -- a name was looked for: where it stands, and what has grown for it
 abbrev pub IsSighted : Option Place → Sighted → Type 0
@@ -120,10 +120,12 @@ coded_place = code_by ((ℕ × Bool) × Bool) (coded× (coded× coded_ℕ coded_
     to (Reg i) = ((i, false), false)
     to (Box i) = ((i, true), false)
     to (Up i) = ((i, false), true)
+
     from : (ℕ × Bool) × Bool → Place
     from ((i, true), b) = Box i
     from ((i, false), true) = Up i
     from ((i, false), false) = Reg i
+
     back : (p : Place) → from (to p) ≡ p
     back (Reg i) = refl
     back (Box i) = refl

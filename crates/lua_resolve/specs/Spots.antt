@@ -1,5 +1,5 @@
 -- WHAT THE CODE HOLDS of a function in progress: its variables, and a map from names to spots.
-use Rattle.std.specs.Prelude.{◌≡◌, ℕ, suc, ◌-◌, Bool, true, false, if◌then◌else◌, bytes_eq, List, [], ◌∷◌, map, length, Option, Some, None, option_map}
+use Rattle.std.specs.Prelude.{◌≡◌, ℕ, suc, ◌-◌, true, false, if◌then◌else◌, bytes_eq, List, [], ◌∷◌, map, length, Option, Some, None, option_map}
 use Rattle.std.specs.Borrow.{Bor}
 use Rattle.std.specs.Map.{lookup}
 use Rattle.lua_meaning.specs.Scope.{Bytes}

@@ -1,4 +1,4 @@
-use Rattle.std.proofs.Common.{◌≡◌, refl, sym, subst}
+use Rattle.std.proofs.Common.{refl, sym, subst}
 use Rattle.lua_resolve.specs.Spots.{IsNoted}
 use Rattle.lua_resolve.proofs.SpotLaws.{noted}
 use Rattle.lua_resolve.proofs.spots.note.Goals as goal
