@@ -1,10 +1,10 @@
 #!/usr/bin/env python3
-"""Times the lexing and the parsing of long Lua texts.
+"""Times the lexing, the parsing and the resolving of long Lua texts.
 
   bench/parser.py crates/parser_bench/out/parser_bench
 
-For each text: its bytes, the seconds of processor time of its lexing alone and of its parsing (which lexes it first), and how much
-longer the parsing takes. Of each the best of some rounds counts, so that other work on the machine disturbs little. What the
+For each text: its bytes, the seconds of processor time of its lexing alone and of its parsing (which lexes it first), how much
+longer the parsing takes, and what resolving its names takes beside the parsing, as a part of that. Of each the best of some rounds counts, so that other work on the machine disturbs little. What the
 program takes to start is timed on an empty text and taken off.
 """
 import sys
@@ -49,6 +49,9 @@ TEXTS = {
     "200,000 fields": "return {" + "x = 1, " * 200000 + "}",
     "200,000 arguments": "f(1" + ", 1" * 199999 + ")",
     "200,000 deep": "x = " + "(" * 200000,
+    "200,000 locals": "".join(f"local v{n} = 1\n" for n in range(200000)),
+    "one name, 200,000": "local x = x\n" * 200000,
+    "60 functions deep": "local x = 1\n" + "return function()\n" * 60 + "x = x + 1\n" * 100000 + "end\n" * 60,
     "200,000 operators": "x = 1" + " + 1" * 200000,
 }
 
@@ -56,12 +59,13 @@ TEXTS = {
 def main():
     program = sys.argv[1]
     start = best(START_ROUNDS, [program]).processor
-    print(f"{'text':20} {'bytes':>8} {'lexing':>8} {'parsing':>8}")
+    print(f"{'text':20} {'bytes':>8} {'lexing':>8} {'parsing':>8} {'':7} {'resolving':>9}")
     for name, text in TEXTS.items():
         lexing = best(ROUNDS, [program], ("lex\n" + text).encode()).processor - start
         parsed = best(ROUNDS, [program], ("parse\n" + text).encode())
         parsing, said = parsed.processor - start, parsed.printed.decode().strip()
-        print(f"{name:20} {len(text):8} {lexing:7.3f}s {parsing:7.3f}s {parsing / lexing:6.2f}x  {said}")
+        resolving = best(ROUNDS, [program], ("resolve\n" + text).encode()).processor - start - parsing
+        print(f"{name:20} {len(text):8} {lexing:7.3f}s {parsing:7.3f}s {parsing / lexing:6.2f}x {resolving:8.3f}s {resolving / parsing:5.2f}  {said}")
 
 
 main()

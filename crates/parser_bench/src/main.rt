@@ -1,11 +1,13 @@
-//! Reads a Lua text from standard input, behind a line `lex` or `parse`, and prints how many tokens or statements it has, or its
-//! fault. `bench/parser.py` times it.
+//! Reads a Lua text from standard input, behind a line `lex`, `parse` or `resolve`, and prints how many tokens, statements or
+//! functions it has, or its fault. `bench/parser.py` times it.
 #![tactic(auto)]
 
 use lua_lexer::lex;
 use lua_parser::parse;
+use lua_resolve::resolve;
 use lua_syntax::SyntaxFault;
 use std::alloc::Global;
+use std::hash::RandomState;
 use std::io;
 use std::io::Read;
 
@@ -28,13 +30,28 @@ fn statements(alloc: Global, text: &[u8]) -> Result<usize, SyntaxFault> {
     Ok(parse(alloc, text)?.body.stats.as_slice().len())
 }
 
+/// The functions of a text, itself not among them.
+fn functions(alloc: Global, seed: RandomState, text: &[u8]) -> Result<usize, SyntaxFault> {
+    if text.len() >= MOST {
+        return Err(SyntaxFault::NoMemory);
+    }
+    let chunk = parse(alloc, text)?;
+    match resolve(alloc, seed, &chunk) {
+        Ok(protos) => Ok(protos.functions.as_slice().len()),
+        Err(_) => Err(SyntaxFault::NoMemory),
+    }
+}
+
 fn main(rt: HostRuntime) -> io::Result<()> {
     let mut input = Vec::new(rt.alloc());
     rt.stdin().read_to_end(&mut input)?;
     let input = input.as_slice();
-    let counted = match input.strip_prefix(b"lex\n") {
-        Some(text) => tokens(rt.alloc(), text),
-        None => statements(rt.alloc(), input.strip_prefix(b"parse\n").unwrap_or(input)),
+    let counted = if let Some(text) = input.strip_prefix(b"lex\n") {
+        tokens(rt.alloc(), text)
+    } else if let Some(text) = input.strip_prefix(b"resolve\n") {
+        functions(rt.alloc(), RandomState::new(&rt)?, text)
+    } else {
+        statements(rt.alloc(), input.strip_prefix(b"parse\n").unwrap_or(input))
     };
     match counted {
         Ok(count) => println!(rt; "{count}"),

@@ -1,0 +1,4 @@
+mod SpotLaws
+mod SightLaws
+mod PartLaws
+mod FormLaws

@@ -1,0 +1,15 @@
+use Rattle.std.proofs.Common.{refl, sym, subst, option_map}
+use Rattle.lua_syntax.specs.Tree.{NameE}
+use Rattle.lua_slots.specs.IsCode.{IsExp}
+use Rattle.lua_code.specs.Seen.{place_seen}
+use Rattle.lua_code.proofs.Views.{expression-Local, expression-Global}
+use Rattle.lua_resolve.specs.Scopes.{IsSighted}
+use Rattle.lua_resolve.proofs.resolver.Resolver.name.Goals as goal
+
+pub returns-in-Some-clause-code : goal.returns-in-Some-clause-code
+returns-in-Some-clause-code c = λ at see l. subst (IsExp at see (NameE c.args.line c.args.name.now)) (sym (expression-Local c.in-Some.place))
+    (subst (λ p. IsSighted (option_map place_seen p) (see c.args.name.now)) c.in-Some.is (c.in_ok-place.ensures.place at see l))
+
+pub returns-in_ok-copy-in-None-clause-code : goal.returns-in_ok-copy-in-None-clause-code
+returns-in_ok-copy-in-None-clause-code c = λ at see l. subst (IsExp at see (NameE c.args.line c.args.name.now)) (sym (expression-Global c.in_ok-copy-in-None.field-0 c.args.line))
+    (subst (λ p. IsSighted (option_map place_seen p) (see c.args.name.now)) c.in-None.is (c.in_ok-place.ensures.place at see l), c.in_ok-copy-in-None.ensures, refl)

@@ -1,0 +1,10 @@
+use Rattle.std.proofs.Common.{refl, subst, option_map}
+use Rattle.lua_code.specs.Seen.{place_seen}
+use Rattle.lua_resolve.specs.Scopes.{IsSighted}
+use Rattle.lua_resolve.proofs.resolver.Resolver.named_target.Goals as goal
+
+pub returns-in-Some-clause-code : goal.returns-in-Some-clause-code
+returns-in-Some-clause-code c = λ at see l. subst (λ p. IsSighted (option_map place_seen p) (see c.args.name.now)) c.in-Some.is (c.in_ok-place.ensures.place at see l)
+
+pub returns-in_ok-copy-in-None-clause-code : goal.returns-in_ok-copy-in-None-clause-code
+returns-in_ok-copy-in-None-clause-code c = λ at see l. (subst (λ p. IsSighted (option_map place_seen p) (see c.args.name.now)) c.in-None.is (c.in_ok-place.ensures.place at see l), c.in_ok-copy-in-None.ensures, refl)

@@ -1,0 +1,119 @@
+//! A text that is gone over: names, declarations, and functions that are done.
+ghost use Rattle.std.specs.Prelude.{◌≡◌, ◌∷◌, ◌++◌, [], suc, length, IfOk, IfSome, OnOk, option_map};
+ghost use Rattle.lua_syntax.specs.Tree.{Exp, NameE};
+ghost use Rattle.lua_slots.specs.Code.{Protos as PlainProtos};
+ghost use Rattle.lua_slots.specs.Sight.{Sight};
+ghost use Rattle.lua_slots.specs.IsCode.{IsExp, IsTarget};
+ghost use Rattle.lua_code.specs.Seen.{place_seen, expression_seen, target_seen};
+ghost use Rattle.lua_resolve.specs.Scopes.{nothing_known, closed_to, IsSighted};
+ghost use Rattle.lua_resolve.specs.Parts.{state_of, Next, Later, AreDeclared};
+
+use crate::cells::Cells;
+use crate::scopes::Scopes;
+use lua_code::{Expression, Place, Proto, Target};
+use std::alloc::Global;
+use std::hash::RandomState;
+use wk_base::{Bytes, List, NoMemory};
+
+/// A text that is gone over: the functions in progress, and those that are done.
+#[derive(Drop)]
+pub(crate) struct Resolver<'t> {
+    pub(crate) alloc: Global,
+    pub(crate) scopes: Scopes<'t>,
+    pub(crate) functions: List<Proto>,
+}
+
+impl<'t> Resolver<'t> {
+    /// In front of a text.
+    pub(crate) fn new(alloc: Global, seed: RandomState, cells: Cells) -> Resolver<'t>
+        ensures scopes { result.scopes ≡ record { clean = cells.clean; level = nothing_known; outer = [] } }
+        ensures functions { result.functions ≡ [] }
+    {
+        Resolver {
+            alloc,
+            scopes: Scopes::new(alloc, seed, cells),
+            functions: List::new(alloc),
+        }
+    }
+
+    /// Where a name stands; `None` where it is global.
+    pub(crate) fn variable(&mut self, name: &'t Bytes) -> Result<Option<Place>, NoMemory>
+        ensures next { OnOk result (Next (state_of self.old) (state_of self.new)) }
+        ensures place { IfOk result (λ p. (at : PlainProtos) (see : Sight) → Later (state_of self.new) at see → IsSighted (option_map place_seen p) (see name.now)) }
+    {
+        let place = self.scopes.place(name)?;
+        Ok(place)
+    }
+
+    /// Code of a name.
+    pub(crate) fn name(&mut self, name: &'t Bytes, line: u32) -> Result<Expression, NoMemory>
+        ensures next { OnOk result (Next (state_of self.old) (state_of self.new)) }
+        ensures code { IfOk result (λ c. (at : PlainProtos) (see : Sight) → Later (state_of self.new) at see → IsExp at see (NameE line name.now) (expression_seen c)) }
+    {
+        match self.variable(name)? {
+            Some(place) => Ok(Expression::Local(place)),
+            None => Ok(Expression::Global(name.copy()?, line)),
+        }
+    }
+
+    /// A name that is assigned to.
+    pub(crate) fn named_target(&mut self, name: &'t Bytes, line: u32) -> Result<Target, NoMemory>
+        ensures next { OnOk result (Next (state_of self.old) (state_of self.new)) }
+        ensures code { IfOk result (λ c. (at : PlainProtos) (see : Sight) → Later (state_of self.new) at see → IsTarget at see (NameE line name.now) (target_seen c)) }
+    {
+        match self.variable(name)? {
+            Some(place) => Ok(Target::Variable(place)),
+            None => Ok(Target::Global(name.copy()?, line)),
+        }
+    }
+
+    /// Local variables of these names; whether each has a cell.
+    pub(crate) fn declare(&mut self, names: &'t [Bytes]) -> Result<List<bool>, NoMemory>
+        ensures { IfOk result (λ flags. AreDeclared (state_of self.old) (state_of self.new) names.now flags) }
+    {
+        let mut flags = List::new(self.alloc);
+        for name in names {
+            let boxed = self.scopes.declare(name)?;
+            flags.push(boxed)?;
+        }
+        Ok(flags)
+    }
+
+    /// A local variable of this name; whether it has a cell.
+    pub(crate) fn declare_one(&mut self, name: &'t Bytes) -> Result<bool, NoMemory>
+        ensures { IfOk result (λ boxed. AreDeclared (state_of self.old) (state_of self.new) (name.now ∷ []) (boxed ∷ [])) }
+    {
+        let boxed = self.scopes.declare(name)?;
+        Ok(boxed)
+    }
+
+    /// Only the oldest so many local variables are left.
+    pub(crate) fn close(&mut self, count: usize) -> Result<(), NoMemory>
+        ensures { OnOk result ((self.new.scopes ≡ record self.old.scopes { level = closed_to count self.old.scopes.level }) × (self.new.functions ≡ self.old.functions)) }
+    {
+        self.scopes.close(count)
+    }
+
+    /// A function that is done; its number.
+    pub(crate) fn add(&mut self, proto: Proto) -> Result<u32, NoMemory>
+        ensures scopes { self.new.scopes ≡ self.old.scopes }
+        ensures functions { IfOk result (λ index. (index ≡ suc (length self.old.functions)) × (self.new.functions ≡ self.old.functions ++ proto ∷ [])) }
+    {
+        let Some(index) = number_of(self.functions.as_slice().len()) else {
+            return Err(NoMemory);
+        };
+        self.functions.push(proto)?;
+        Ok(index)
+    }
+}
+
+/// The number of the next function behind so many.
+fn number_of(count: usize) -> Option<u32>
+    ensures { IfSome result (λ index. index ≡ suc count) }
+{
+    if count < 4000000000 {
+        Some(count as u32 + 1)
+    } else {
+        None
+    }
+}
