@@ -19,26 +19,91 @@ struct Row {
 
 const ROWS: [Row; 13] = [
     // the value is global: its name is not local yet
-    Row { text: "local x = x", boxed: 0, plain: 1, functions: 0 },
+    Row {
+        text: "local x = x",
+        boxed: 0,
+        plain: 1,
+        functions: 0,
+    },
     // a function that captures itself
-    Row { text: "local function f() return f() end", boxed: 1, plain: 0, functions: 1 },
+    Row {
+        text: "local function f() return f() end",
+        boxed: 1,
+        plain: 0,
+        functions: 1,
+    },
     // one that only has the name from outside
-    Row { text: "local f = function() return f() end", boxed: 0, plain: 1, functions: 1 },
-    Row { text: "local a, b = 1, 2 return function() return a end", boxed: 1, plain: 1, functions: 1 },
+    Row {
+        text: "local f = function() return f() end",
+        boxed: 0,
+        plain: 1,
+        functions: 1,
+    },
+    Row {
+        text: "local a, b = 1, 2 return function() return a end",
+        boxed: 1,
+        plain: 1,
+        functions: 1,
+    },
     // the test sees the variable of the body, and captures it
-    Row { text: "repeat local done = f() until (function() return done end)()", boxed: 1, plain: 0, functions: 1 },
-    Row { text: "for i = 1, 3 do local f = function() return i end end", boxed: 1, plain: 1, functions: 1 },
-    Row { text: "for k, v in pairs(t) do f(k, function() return v end) end", boxed: 1, plain: 1, functions: 1 },
+    Row {
+        text: "repeat local done = f() until (function() return done end)()",
+        boxed: 1,
+        plain: 0,
+        functions: 1,
+    },
+    Row {
+        text: "for i = 1, 3 do local f = function() return i end end",
+        boxed: 1,
+        plain: 1,
+        functions: 1,
+    },
+    Row {
+        text: "for k, v in pairs(t) do f(k, function() return v end) end",
+        boxed: 1,
+        plain: 1,
+        functions: 1,
+    },
     // two parameters of one name: the second is captured
-    Row { text: "local function f(a, a) return function() return a end end", boxed: 1, plain: 2, functions: 2 },
+    Row {
+        text: "local function f(a, a) return function() return a end end",
+        boxed: 1,
+        plain: 2,
+        functions: 2,
+    },
     // a captured name that the inner function has itself
-    Row { text: "local x return function(x) return x end", boxed: 0, plain: 2, functions: 1 },
+    Row {
+        text: "local x return function(x) return x end",
+        boxed: 0,
+        plain: 2,
+        functions: 1,
+    },
     // captured through a function that does not use it
-    Row { text: "local x return function() return function() x = 1 end end", boxed: 1, plain: 0, functions: 2 },
+    Row {
+        text: "local x return function() return function() x = 1 end end",
+        boxed: 1,
+        plain: 0,
+        functions: 2,
+    },
     // the inner one of two with one name
-    Row { text: "local x do local x return function() return x end end", boxed: 1, plain: 1, functions: 1 },
-    Row { text: "if a then local b elseif c then local d else local e f(function() e = 1 end) end", boxed: 1, plain: 2, functions: 1 },
-    Row { text: "function t.a.b:c(d) return self, d end while a do local x end", boxed: 0, plain: 3, functions: 1 },
+    Row {
+        text: "local x do local x return function() return x end end",
+        boxed: 1,
+        plain: 1,
+        functions: 1,
+    },
+    Row {
+        text: "if a then local b elseif c then local d else local e f(function() e = 1 end) end",
+        boxed: 1,
+        plain: 2,
+        functions: 1,
+    },
+    Row {
+        text: "function t.a.b:c(d) return self, d end while a do local x end",
+        boxed: 0,
+        plain: 3,
+        functions: 1,
+    },
 ];
 
 fn counted(alloc: Global, seed: RandomState, text: &[u8]) -> Result<Counts, Fail> {
@@ -91,7 +156,11 @@ fn long_texts_are_resolved(rt: HostRuntime) -> Result<(), Fail> {
     let counts = counted(alloc, seed, shadowed.as_slice())?;
     assert_eq!(rt; counts.plain, 200000);
     // a variable that many functions capture, each through all those around it
-    let deep = repeated(alloc, ["local x = 1 ", "return function() ", "return x", " end"], 60)?;
+    let deep = repeated(
+        alloc,
+        ["local x = 1 ", "return function() ", "return x", " end"],
+        60,
+    )?;
     let counts = counted(alloc, seed, deep.as_slice())?;
     assert_eq!(rt; counts.boxed, 1);
     assert_eq!(rt; counts.functions, 60);
