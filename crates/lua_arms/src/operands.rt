@@ -1,0 +1,74 @@
+//! Expressions whose operands are evaluated (manual 2.5): the first of them is next, and a frame waits for it.
+ghost use Rattle.std.specs.Prelude.{◌≡◌, List, IfOk};
+ghost use Rattle.lua_code.specs.Seen.{expression_seen};
+ghost use Rattle.lua_slots.specs.Slots.{Slots};
+ghost use Rattle.lua_slots.specs.Expressions as machine;
+ghost use Rattle.lua_slots.specs.Errors.{node};
+ghost use Rattle.lua_stack.specs.Seen.{frames_seen};
+ghost use Rattle.lua_stack.specs.Of.{FramesOf};
+ghost use Rattle.lua_arms.specs.Steps.{step_seen, StepOf};
+ghost use Rattle.lua_arms.specs.Operands.{HasOperands};
+
+use crate::step::Step;
+use lua_code::Expression;
+use lua_stack::{Focus, Frame, Stack};
+use lua_store::Store;
+use wk_base::NoMemory;
+
+/// An expression with operands begins, whose step is taken and which is counted.
+#[tactic(auto, using(crate::proofs::Codes::codes))]
+pub fn begin_operands<'m>(
+    store: &Store,
+    frames: &mut Stack<Frame<'m>>,
+    code: &'m Expression,
+) -> Result<Step<'m>, NoMemory>
+    requires code { HasOperands (expression_seen code.now) }
+    requires frames { FramesOf store.now frames.old }
+    ensures of { IfOk result (λ r. StepOf store.now r × FramesOf store.now frames.new) }
+    ensures move_ { IfOk result (λ r. (s : Slots)
+        → machine.evals (expression_seen code.now) (frames_seen store.now.texts frames.old) s ≡ node (step_seen store.now r (frames_seen store.now.texts frames.new) s)) }
+{
+    match code {
+        Expression::Index(of, key, line) => {
+            frames.push(Frame::KeyNext(key, *line))?;
+            Ok(Step::On(Focus::Evaluates(of)))
+        }
+        Expression::Call(called, arguments, line) => {
+            frames.push(Frame::ArgumentsNext(arguments, *line))?;
+            Ok(Step::On(Focus::Evaluates(called)))
+        }
+        Expression::Method(of, name, arguments, line) => {
+            frames.push(Frame::MethodNext(name.as_slice(), arguments, *line))?;
+            Ok(Step::On(Focus::Evaluates(of)))
+        }
+        Expression::And(a, b) => {
+            frames.push(Frame::DecideNext(false, b))?;
+            Ok(Step::On(Focus::Evaluates(a)))
+        }
+        Expression::Or(a, b) => {
+            frames.push(Frame::DecideNext(true, b))?;
+            Ok(Step::On(Focus::Evaluates(a)))
+        }
+        Expression::Operate(op, a, b, line) => {
+            frames.push(Frame::OperandNext(*op, b, *line))?;
+            Ok(Step::On(Focus::Evaluates(a)))
+        }
+        Expression::Unary(op, a, line) => {
+            frames.push(Frame::UnaryNow(*op, *line))?;
+            Ok(Step::On(Focus::Evaluates(a)))
+        }
+        Expression::Paren(a) => {
+            frames.push(Frame::First)?;
+            Ok(Step::On(Focus::Evaluates(a)))
+        }
+        Expression::Nil => unreachable!(),
+        Expression::Truth(_) => unreachable!(),
+        Expression::Number(_) => unreachable!(),
+        Expression::Text(_) => unreachable!(),
+        Expression::Dots => unreachable!(),
+        Expression::Function(_, _) => unreachable!(),
+        Expression::Local(_) => unreachable!(),
+        Expression::Global(_, _) => unreachable!(),
+        Expression::Table(_, _) => unreachable!(),
+    }
+}
