@@ -9,7 +9,7 @@
 //! - `loops`: what follows a test, a bound or an iterator's results
 //! - `operands`: expressions whose operands are evaluated
 //! - `statements`: blocks of their own, and conditions
-//! - `operators`: what operators give, and the calls of their handlers
+//! - `numbers`: the number that a value is taken for
 //!
 //! Begin with `specs/Steps.antt`: what a step is seen as. Each function's contract is the equation of its move in `lua_slots`.
 #![tactic(auto)]
@@ -18,8 +18,8 @@ pub mod calls;
 pub mod index;
 pub mod lists;
 pub mod loops;
+pub mod numbers;
 pub mod operands;
-pub mod operators;
 pub mod setting;
 pub mod statements;
 pub mod step;

@@ -13,7 +13,7 @@ ghost use Rattle.lua_arms.specs.Steps.{step_seen, StepOf};
 use crate::step::Step;
 use lua_code::Expression;
 use lua_stack::values::is_true;
-use lua_stack::{Focus, Frame, Given, Stack, Values};
+use lua_stack::{Focus, Frame, Given, InExpression, Stack, Values};
 use lua_store::{Store, Value};
 use wk_base::NoMemory;
 
@@ -49,7 +49,7 @@ pub fn list<'m>(
     match front_of(expressions) {
         None => Ok(Step::On(Focus::Gives(Given::Many(before)))),
         Some(front) => {
-            frames.push(Frame::MoreNext(front.rest, before))?;
+            frames.push(Frame::Expression(InExpression::MoreNext(front.rest, before)))?;
             Ok(Step::On(Focus::Evaluates(front.first)))
         }
     }
@@ -98,6 +98,6 @@ pub fn choose_operand<'m>(
     if is_true(value) == deciding {
         return Ok(Step::On(Focus::Gives(Given::One(value))));
     }
-    frames.push(Frame::First)?;
+    frames.push(Frame::Expression(InExpression::First))?;
     Ok(Step::On(Focus::Evaluates(other)))
 }

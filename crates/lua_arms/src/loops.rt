@@ -15,11 +15,12 @@ ghost use Rattle.lua_arms.specs.Steps.{step_seen, StepOf};
 
 use crate::calls::call;
 use crate::index::two;
-use crate::operators::number_in;
+use crate::numbers::number_in;
 use crate::step::{Failure, Step};
 use lua_code::{Expression, Statement};
+use lua_number::add;
 use lua_stack::values::{is_nil, is_true};
-use lua_stack::{Environment, Focus, Frame, Given, Stack, Thing, Values};
+use lua_stack::{Environment, Focus, Frame, Given, InLoop, Stack, Thing, Values};
 use lua_store::{Store, Value};
 use std::alloc::Global;
 use wk_base::{List, NoMemory};
@@ -95,6 +96,25 @@ pub fn count_from<'m>(
     nothing(alloc)
 }
 
+/// After a turn of a counting loop: it goes on at the next index, and where that is out of range, it is over.
+pub fn count_next<'m>(
+    alloc: Global,
+    boxed: bool,
+    index: i64,
+    limit: i64,
+    step: i64,
+    body: &'m List<Statement>,
+) -> Step<'m>
+    ensures of { (store : StoreView) → StepOf store result }
+    ensures move_ { (store : StoreView) (fs : List SFrame) (s : Slots)
+        → machine.count_next boxed index limit step (block_seen body.now) fs s ≡ step_seen store result fs s }
+{
+    match add(index, step) {
+        Ok(next) => count_from(alloc, boxed, next, limit, step, body),
+        Err(_) => nothing(alloc),
+    }
+}
+
 /// A counting loop with its three bounds begins.
 pub fn counting<'m>(
     alloc: Global,
@@ -150,7 +170,7 @@ pub fn step_next<'m>(
             Ok(counting(alloc, store, boxed, bounds, body, line))
         }
         Some(by) => {
-            frames.push(Frame::CountBy(boxed, from, to, body, line))?;
+            frames.push(Frame::Loop(InLoop::CountBy(boxed, from, to, body, line)))?;
             Ok(Step::On(Focus::Evaluates(by)))
         }
     }
@@ -178,7 +198,7 @@ pub fn each_from<'m>(
         ≡ step_seen store.now r (frames_seen store.now.texts frames.new) s) }
 {
     let (iterator, state, before) = values;
-    frames.push(Frame::EachNext(flags, iterator, state, body, line))?;
+    frames.push(Frame::Loop(InLoop::EachNext(flags, iterator, state, body, line)))?;
     let arguments = two(alloc, state, before)?;
     let step = call(store, env, iterator, arguments, Some(line))?;
     Ok(step)

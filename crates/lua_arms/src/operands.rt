@@ -11,7 +11,7 @@ ghost use Rattle.lua_arms.specs.Operands.{HasOperands};
 
 use crate::step::Step;
 use lua_code::Expression;
-use lua_stack::{Focus, Frame, Stack};
+use lua_stack::{Focus, Frame, InExpression, Stack};
 use lua_store::Store;
 use wk_base::NoMemory;
 
@@ -30,35 +30,39 @@ pub fn begin_operands<'m>(
 {
     match code {
         Expression::Index(of, key, line) => {
-            frames.push(Frame::KeyNext(key, *line))?;
+            frames.push(Frame::Expression(InExpression::KeyNext(key, *line)))?;
             Ok(Step::On(Focus::Evaluates(of)))
         }
         Expression::Call(called, arguments, line) => {
-            frames.push(Frame::ArgumentsNext(arguments, *line))?;
+            frames.push(Frame::Expression(InExpression::ArgumentsNext(arguments, *line)))?;
             Ok(Step::On(Focus::Evaluates(called)))
         }
         Expression::Method(of, name, arguments, line) => {
-            frames.push(Frame::MethodNext(name.as_slice(), arguments, *line))?;
+            frames.push(Frame::Expression(InExpression::MethodNext(
+                name.as_slice(),
+                arguments,
+                *line,
+            )))?;
             Ok(Step::On(Focus::Evaluates(of)))
         }
         Expression::And(a, b) => {
-            frames.push(Frame::DecideNext(false, b))?;
+            frames.push(Frame::Expression(InExpression::DecideNext(false, b)))?;
             Ok(Step::On(Focus::Evaluates(a)))
         }
         Expression::Or(a, b) => {
-            frames.push(Frame::DecideNext(true, b))?;
+            frames.push(Frame::Expression(InExpression::DecideNext(true, b)))?;
             Ok(Step::On(Focus::Evaluates(a)))
         }
         Expression::Operate(op, a, b, line) => {
-            frames.push(Frame::OperandNext(*op, b, *line))?;
+            frames.push(Frame::Expression(InExpression::OperandNext(*op, b, *line)))?;
             Ok(Step::On(Focus::Evaluates(a)))
         }
         Expression::Unary(op, a, line) => {
-            frames.push(Frame::UnaryNow(*op, *line))?;
+            frames.push(Frame::Expression(InExpression::UnaryNow(*op, *line)))?;
             Ok(Step::On(Focus::Evaluates(a)))
         }
         Expression::Paren(a) => {
-            frames.push(Frame::First)?;
+            frames.push(Frame::Expression(InExpression::First))?;
             Ok(Step::On(Focus::Evaluates(a)))
         }
         Expression::Nil => unreachable!(),

@@ -5,22 +5,21 @@ ghost use Rattle.lua_store.specs.Seen.{seen};
 ghost use Rattle.lua_store.specs.Parts.{IsOf, IsTableOf, IsLater};
 ghost use Rattle.lua_slots.specs.Enact.{enact};
 ghost use Rattle.lua_slots.specs.Slots.{Slots, with_heap};
-ghost use Rattle.lua_slots.specs.Points.{SFrame};
+ghost use Rattle.lua_slots.specs.Points.{SFrame, Now};
 ghost use Rattle.lua_slots.specs.Index as machine;
-ghost use Rattle.lua_stack.specs.Of.{EnvironmentOf};
+ghost use Rattle.lua_stack.specs.Seen.{focus_seen};
+ghost use Rattle.lua_stack.specs.Of.{EnvironmentOf, FocusOf};
 ghost use Rattle.lua_slots.specs.Errors.{gives};
 ghost use Rattle.lua_heap.specs.Value as kind;
 ghost use Rattle.lua_heap.specs.Table.{has};
 ghost use Rattle.lua_heap.specs.Heap.{table_at};
-ghost use Rattle.lua_arms.specs.Steps.{step_seen, StepOf};
 ghost use Rattle.lua_arms.specs.Paid.{paid_seen, PaidOf, IfSpent};
 
 use crate::calls::call;
-use crate::loops::nothing;
 use crate::step::{Failure, Paid, Step};
 use crate::tables::handler;
 use lua_stack::values::{is_function, is_nil};
-use lua_stack::{Environment, Focus, Thing, Values};
+use lua_stack::{Environment, Focus, Given, Thing, Values};
 use lua_store::{Store, TableId, Value};
 use page_run::Which;
 use std::alloc::Global;
@@ -45,17 +44,17 @@ fn put<'m>(
     table: TableId,
     key: Value,
     value: Value,
-) -> Result<Step<'m>, NoMemory>
+) -> Result<Focus<'m>, NoMemory>
     requires table { IsTableOf store.old table }
     requires key { IsOf store.old key }
     requires value { IsOf store.old value }
-    ensures of { IfOk result (λ r. StepOf store.new r) }
+    ensures of { IfOk result (λ f. FocusOf store.new f) }
     ensures later { OnOk result (IsLater store.old store.new) }
-    ensures move_ { IfOk result (λ r. (fs : List SFrame) (s : Slots) → s.heap ≡ store.old.heap
-        → gives [] fs (machine.with_entry table.at (seen store.old.texts key) (seen store.old.texts value) s) ≡ step_seen store.new r fs (with_heap store.new.heap s)) }
+    ensures move_ { IfOk result (λ f. (fs : List SFrame) (s : Slots) → s.heap ≡ store.old.heap
+        → gives [] fs (machine.with_entry table.at (seen store.old.texts key) (seen store.old.texts value) s) ≡ Now (focus_seen store.new f fs) (with_heap store.new.heap s)) }
 {
     match store.set(table, key, value) {
-        Ok(_) => Ok(nothing(alloc)),
+        Ok(_) => Ok(Focus::Gives(Given::Many(Values::new(alloc)))),
         Err(_) => Err(NoMemory),
     }
 }
@@ -91,11 +90,11 @@ pub fn set_entry<'m>(
         if !left.take_steps(4) {
             return Ok(Paid::Spent(Which::Steps));
         }
-        let step = put(alloc, store, table, key, value)?;
-        return Ok(Paid::Goes(step));
+        let focus = put(alloc, store, table, key, value)?;
+        return Ok(Paid::Goes(Step::On(focus)));
     }
-    let step = put(alloc, store, table, key, value)?;
-    Ok(Paid::Goes(step))
+    let focus = put(alloc, store, table, key, value)?;
+    Ok(Paid::Goes(Step::On(focus)))
 }
 
 /// The entry of a table at a key: where it is nil, a handler may be the first link of a chain.

@@ -10,7 +10,7 @@ ghost use Rattle.lua_arms.specs.Steps.{step_seen, StepOf};
 use crate::loops::nothing;
 use crate::step::Step;
 use lua_code::{Branch, Statement};
-use lua_stack::{Focus, Frame, Slot, Stack};
+use lua_stack::{Ending, Focus, Frame, InStatement, Slot, Stack};
 use lua_store::Store;
 use std::alloc::Global;
 use wk_base::{List, NoMemory};
@@ -27,7 +27,7 @@ pub fn within<'m>(
     ensures move_ { IfOk result (λ r. (s : Slots) → s.regs ≡ registers_seen store.now.texts regs.now
         → machine.within (block_seen body.now) (frames_seen store.now.texts frames.old) s ≡ step_seen store.now r (frames_seen store.now.texts frames.new) s) }
 {
-    frames.push(Frame::BlockEnd(regs.len()))?;
+    frames.push(Frame::End(Ending::BlockEnd(regs.len())))?;
     Ok(Step::On(Focus::Runs(body.as_slice())))
 }
 
@@ -66,7 +66,7 @@ pub fn branches<'m>(
     match front_branch(branches) {
         Some(front) => {
             let Branch { test, body } = front.first;
-            frames.push(Frame::BranchNext(body, front.rest, other))?;
+            frames.push(Frame::Statement(InStatement::BranchNext(body, front.rest, other)))?;
             Ok(Step::On(Focus::Evaluates(test)))
         }
         None => match other {

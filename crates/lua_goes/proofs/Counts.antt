@@ -56,7 +56,7 @@ sum-of (Enters mv) c f a = sum-called mv c (λ d g b. sum-of mv d g b) f (less 1
 sum-of (Exits mv) c f a = sum-left mv c (λ d g b. sum-of mv d g b) f a
 
 -- CALLS of a move
-abbrev Kept : Funds → Enacted → Type 0
+abbrev pub Kept : Funds → Enacted → Type 0
 Kept f (Stands q t g) = g.left.calls + g.in_progress ≡ f.left.calls + f.in_progress
 Kept f (Short w g) = (g.left.calls ≡ f.left.calls + f.in_progress) × (g.in_progress ≡ 0)
 
@@ -80,7 +80,7 @@ module _ (mv : Move) (rest : (f : Funds) → Kept f (enact mv f)) where
   kept-left : (f : Funds) → Kept f (enact mv (back f.in_progress f))
   kept-left f = kept-more f (back f.in_progress f) (enact mv (back f.in_progress f)) (calls-back f.in_progress f refl) (rest (back f.in_progress f))
 
-kept-of : (mv : Move) (f : Funds) → Kept f (enact mv f)
+pub kept-of : (mv : Move) (f : Funds) → Kept f (enact mv f)
 kept-of (Now p t) f = refl
 kept-of (Costs n mv) f = kept-paid mv (λ g. kept-of mv g) f (less n f.left.steps)
 kept-of (Marks mv) f = kept-more f (marked f) (enact mv (marked f)) refl (kept-of mv (marked f))
@@ -99,7 +99,7 @@ module _ (world : CWorld) (p : Point) (s : Slots) (f : Funds) where
   kept-met : (q : Point) (t : Slots) (g : Funds) (e : Enacted) → enact (moves world q t) g ≡ e → g.left.calls + g.in_progress ≡ f.left.calls + f.in_progress → Kept f e
   kept-met q t g e is k = kept-more f g e k (subst (Kept g) is (kept-of (moves world q t) g))
 
-  kept-reached : {q : Point} {t : Slots} {g : Funds} → Reaches world p s f q t g → g.left.calls + g.in_progress ≡ f.left.calls + f.in_progress
+  pub kept-reached : {q : Point} {t : Slots} {g : Funds} → Reaches world p s f q t g → g.left.calls + g.in_progress ≡ f.left.calls + f.in_progress
   kept-reached here = refl
   kept-reached (further q t g q' t' g' r e) = kept-met q t g (Stands q' t' g') e (kept-reached r)
 

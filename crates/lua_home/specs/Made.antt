@@ -25,6 +25,11 @@ pub record AreAt (k : ℕ) (t : Tables) : Type 0 where
   pub mw : t.mw.at ≡ k + 2
   pub title : t.title.at ≡ k + 3
 
+-- those of the two tables that a run keeps at hand
+pub record IsHomeAt (k first second : ℕ) : Type 0 where
+  pub globals : first ≡ k + 0
+  pub strings : second ≡ k + 1
+
 pub record AreTablesOf (s : StoreView) (t : Tables) : Type 0 where
   pub globals : IsTableOf s t.globals
   pub strings : IsTableOf s t.strings

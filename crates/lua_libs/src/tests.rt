@@ -1,9 +1,11 @@
 //! Each plain function is called. The expected values follow from the manual (5.1).
 ghost use Rattle.lua_basic.specs.Seen.{AllOf};
 
-use crate::{PlainFunction, plain_call, plain_function};
+use crate::{PlainFunction, mw_clone, mw_get_current_title, plain_call, plain_function};
 use bumpalo::Bump;
 use lua_basic::Stop;
+use lua_basic::fields::field;
+use lua_basic::values::first;
 use lua_store::{Library, Store, Value};
 use std::alloc::Global;
 use std::hash::RandomState;
@@ -11,7 +13,7 @@ use std::io;
 use std::process::Abort;
 use std::random::RandomSource;
 use std::test::Fail;
-use wk_base::{Left, List, NoMemory};
+use wk_base::{Bytes, Left, List, Namespace, NoMemory, Title};
 
 /// A source whose bytes are all 5, so that each run of the tests is the same.
 struct Fives;
@@ -162,6 +164,27 @@ fn strict(alloc: Global, store: &mut Store, which: PlainFunction) -> Result<List
     plain_call(alloc, store, &mut steps(0), which, &[Value::Nil, name])
 }
 
+/// Whether a copy of a table that holds itself is another one.
+fn copies_ring(alloc: Global, store: &mut Store, left: u64) -> Result<bool, Stop> {
+    let table = store.new_table()?;
+    let ring = Value::Table(table);
+    let _set = store.set(table, Value::Number(1), ring).is_ok();
+    let values = mw_clone(alloc, store, &mut steps(left), &[ring])?;
+    Ok(first(values.as_slice()) != ring)
+}
+
+/// Whether the current title is `Help:A`, where that is the page.
+fn names_page(alloc: Global, store: &mut Store, left: u64) -> Result<bool, Stop> {
+    let page = Title {
+        ns: Namespace::Help,
+        name: Bytes::of(alloc, b"A")?,
+    };
+    let values = mw_get_current_title(alloc, store, &mut steps(left), &page)?;
+    let found = field(store, first(values.as_slice()), b"prefixedText")?;
+    let wanted = store.text(b"Help:A")?;
+    Ok(found == Value::Text(wanted))
+}
+
 #[test]
 fn values_are_chosen(rt: HostRuntime) -> Result<(), Fail> {
     let arena = Bump::new(rt.alloc());
@@ -281,5 +304,17 @@ fn tables_are_read_and_set(rt: HostRuntime) -> Result<(), Fail> {
     assert!(rt; own_metatable(&rt, alloc, &mut store).is_ok());
     assert!(rt; plain_function(Library::BasicNext) == Some(PlainFunction::Next));
     assert!(rt; plain_function(Library::BasicPcall) == None);
+    Ok(())
+}
+
+#[test]
+fn tables_are_made(rt: HostRuntime) -> Result<(), Fail> {
+    let arena = Bump::new(rt.alloc());
+    let mut store = Store::new(rt.alloc(), &arena, fixed_seed()?);
+    let alloc = rt.alloc();
+    assert!(rt; copies_ring(alloc, &mut store, 12) == Ok(true));
+    assert!(rt; copies_ring(alloc, &mut store, 11) == Err(Stop::Spent));
+    assert!(rt; names_page(alloc, &mut store, 20) == Ok(true));
+    assert!(rt; names_page(alloc, &mut store, 19) == Err(Stop::Spent));
     Ok(())
 }

@@ -19,6 +19,20 @@ use Rattle.lua_stack.specs.declared.frame.Asked.{Asked}
 use Rattle.lua_stack.specs.declared.frame.Asked.TheVariants as asked
 use Rattle.lua_stack.specs.declared.frame.Thing.{Thing}
 use Rattle.lua_stack.specs.declared.frame.Thing.TheVariants as thing
+use Rattle.lua_stack.specs.declared.frame.InExpression.{InExpression}
+use Rattle.lua_stack.specs.declared.frame.InExpression.TheVariants as in_expression
+use Rattle.lua_stack.specs.declared.frame.InConstructor.{InConstructor}
+use Rattle.lua_stack.specs.declared.frame.InConstructor.TheVariants as in_constructor
+use Rattle.lua_stack.specs.declared.frame.InAssignment.{InAssignment}
+use Rattle.lua_stack.specs.declared.frame.InAssignment.TheVariants as in_assignment
+use Rattle.lua_stack.specs.declared.frame.InStatement.{InStatement}
+use Rattle.lua_stack.specs.declared.frame.InStatement.TheVariants as in_statement
+use Rattle.lua_stack.specs.declared.frame.InLoop.{InLoop}
+use Rattle.lua_stack.specs.declared.frame.InLoop.TheVariants as in_loop
+use Rattle.lua_stack.specs.declared.frame.Ending.{Ending}
+use Rattle.lua_stack.specs.declared.frame.Ending.TheVariants as ending
+use Rattle.lua_stack.specs.declared.frame.InRun.{InRun}
+use Rattle.lua_stack.specs.declared.frame.InRun.TheVariants as in_run
 use Rattle.lua_stack.specs.declared.frame.Frame.{Frame}
 use Rattle.lua_stack.specs.declared.frame.Frame.TheVariants as frame
 use Rattle.lua_stack.specs.declared.focus.Jump.{Jump}
@@ -31,8 +45,8 @@ use Rattle.lua_stack.specs.declared.activation.Callee.{Callee}
 use Rattle.lua_stack.specs.declared.activation.Activation.{Activation}
 use Rattle.lua_stack.specs.declared.environment.Environment.{Environment}
 use Rattle.lua_stack.specs.Lists.{given_values}
-use Rattle.lua_stack.specs.Seen.{values_seen, joined_seen, slot_seen, registers_seen, captured_by, closed_cells, callee_seen, activation_seen, activations_seen, found_seen, setting_seen, pending_seen, asked_seen, frame_seen, frames_seen, thing_seen, jump_seen, focus_seen}
-use Rattle.lua_stack.specs.Of.{ValuesOf, TextsOf, SlotOf, RegistersOf, MayBeClosureOf, CalleeOf, ActivationOf, ActivationsOf, FoundOf, SettingOf, PendingOf, AskedOf, FrameOf, FramesOf, ThingOf, JumpOf, FocusOf, IsNameOf, EnvironmentOf}
+use Rattle.lua_stack.specs.Seen.{values_seen, joined_seen, slot_seen, registers_seen, captured_by, closed_cells, callee_seen, activation_seen, activations_seen, found_seen, setting_seen, pending_seen, asked_seen, in_expression_seen, in_constructor_seen, in_assignment_seen, in_statement_seen, in_loop_seen, ending_seen, in_run_seen, frame_seen, frames_seen, thing_seen, jump_seen, focus_seen}
+use Rattle.lua_stack.specs.Of.{ValuesOf, TextsOf, SlotOf, RegistersOf, MayBeClosureOf, CalleeOf, ActivationOf, ActivationsOf, FoundOf, SettingOf, PendingOf, AskedOf, InExpressionOf, InConstructorOf, InAssignmentOf, InStatementOf, InLoopOf, EndingOf, InRunOf, FrameOf, FramesOf, ThingOf, JumpOf, FocusOf, IsNameOf, EnvironmentOf}
 
 module _ (s t : StoreView) (l : IsLater s t) where
   -- VALUES
@@ -151,54 +165,105 @@ module _ (s t : StoreView) (l : IsLater s t) where
   asked_stays asked.Text h = refl
   asked_stays (asked.Data text title) h = rw (text_stays text h) refl
 
+  in_expression_later : (f : InExpression) → InExpressionOf s f → InExpressionOf t f
+  in_expression_later (in_expression.IndexNow of line) h = value_later of h
+  in_expression_later (in_expression.OperateNow op a line) h = value_later a h
+  in_expression_later (in_expression.CallNow f line) h = value_later f h
+  in_expression_later (in_expression.MethodNow object args line) h = value_later object h
+  in_expression_later (in_expression.MoreNext es before) h = values_later before h
+  in_expression_later f h = tt
+
+  in_constructor_later : (f : InConstructor) → InConstructorOf s f → InConstructorOf t f
+  in_constructor_later (in_constructor.ItemNow t n es line) h = omega (arith, h, l.tables)
+  in_constructor_later (in_constructor.PairNext t n e es line) h = omega (arith, h, l.tables)
+  in_constructor_later (in_constructor.PairNow t n key es line) h = (omega (arith, h.0, l.tables), value_later key h.1)
+  in_constructor_later (in_constructor.FieldsNext t n es line) h = omega (arith, h, l.tables)
+  in_constructor_later (in_constructor.ItemsNext t n left line) h = (omega (arith, h.0, l.tables), values_later left h.1)
+
+  in_assignment_later : (f : InAssignment) → InAssignmentOf s f → InAssignmentOf t f
+  in_assignment_later (in_assignment.TargetKey key line more before values) h = founds_later before h
+  in_assignment_later (in_assignment.TargetNow of line more before values) h = (value_later of h.0, founds_later before h.1)
+  in_assignment_later (in_assignment.AssignNow targets) h = founds_later targets h
+  in_assignment_later (in_assignment.SetsNext pairs) h = settings_later pairs h
+
+  in_statement_later : (f : InStatement) → InStatementOf s f → InStatementOf t f
+  in_statement_later f h = tt
+
+  in_loop_later : (f : InLoop) → InLoopOf s f → InLoopOf t f
+  in_loop_later (in_loop.CountTo boxed from by b line) h = value_later from h
+  in_loop_later (in_loop.CountBy boxed from to b line) h = (value_later from h.0, value_later to h.1)
+  in_loop_later (in_loop.EachNext flags iterator state b line) h = (value_later iterator h.0, value_later state h.1)
+  in_loop_later f h = tt
+
+  ending_later : (f : Ending) → EndingOf s f → EndingOf t f
+  ending_later (ending.EachEnd depth flags iterator state before b line) h = (value_later iterator h.0, value_later state h.1, value_later before h.2)
+  ending_later f h = tt
+
+  in_run_later : (f : InRun) → InRunOf s f → InRunOf t f
+  in_run_later (in_run.ModuleFound name f) h = value_later f h
+  in_run_later (in_run.FunctionFound name f) h = value_later f h
+  in_run_later (in_run.TextNow values before) h = (values_later values h.0, texts_later before h.1)
+  in_run_later f h = tt
+
   frame_later : (f : Frame) → FrameOf s f → FrameOf t f
-  frame_later (frame.IndexNow of line) h = value_later of h
-  frame_later (frame.OperateNow op a line) h = value_later a h
-  frame_later (frame.CallNow f line) h = value_later f h
-  frame_later (frame.MethodNow object args line) h = value_later object h
-  frame_later (frame.MoreNext es before) h = values_later before h
-  frame_later (frame.ItemNow t n es line) h = omega (arith, h, l.tables)
-  frame_later (frame.PairNext t n e es line) h = omega (arith, h, l.tables)
-  frame_later (frame.PairNow t n key es line) h = (omega (arith, h.0, l.tables), value_later key h.1)
-  frame_later (frame.FieldsNext t n es line) h = omega (arith, h, l.tables)
-  frame_later (frame.ItemsNext t n left line) h = (omega (arith, h.0, l.tables), values_later left h.1)
-  frame_later (frame.TargetKey key line more before values) h = founds_later before h
-  frame_later (frame.TargetNow of line more before values) h = (value_later of h.0, founds_later before h.1)
-  frame_later (frame.AssignNow targets) h = founds_later targets h
-  frame_later (frame.SetsNext pairs) h = settings_later pairs h
-  frame_later (frame.CountTo boxed from by b line) h = value_later from h
-  frame_later (frame.CountBy boxed from to b line) h = (value_later from h.0, value_later to h.1)
-  frame_later (frame.EachNext flags iterator state b line) h = (value_later iterator h.0, value_later state h.1)
-  frame_later (frame.EachEnd depth flags iterator state before b line) h = (value_later iterator h.0, value_later state h.1, value_later before h.2)
+  frame_later (frame.Expression f) h = in_expression_later f h
+  frame_later (frame.Constructor f) h = in_constructor_later f h
+  frame_later (frame.Assignment f) h = in_assignment_later f h
+  frame_later (frame.Statement f) h = in_statement_later f h
+  frame_later (frame.Loop f) h = in_loop_later f h
+  frame_later (frame.End f) h = ending_later f h
   frame_later (frame.Waits what line) h = pending_later what h
   frame_later (frame.Hears what line) h = asked_later what h
-  frame_later (frame.ModuleFound name f) h = value_later f h
-  frame_later (frame.FunctionFound name f) h = value_later f h
-  frame_later (frame.TextNow values before) h = (values_later values h.0, texts_later before h.1)
-  frame_later f h = tt
+  frame_later (frame.Run f) h = in_run_later f h
+
+  in_expression_stays : (f : InExpression) → InExpressionOf s f → in_expression_seen t.texts f ≡ in_expression_seen s.texts f
+  in_expression_stays (in_expression.IndexNow of line) h = rw (value_stays of h) refl
+  in_expression_stays (in_expression.OperateNow op a line) h = rw (value_stays a h) refl
+  in_expression_stays (in_expression.CallNow f line) h = rw (value_stays f h) refl
+  in_expression_stays (in_expression.MethodNow object args line) h = rw (value_stays object h) refl
+  in_expression_stays (in_expression.MoreNext es before) h = rw (values_stay before h) refl
+  in_expression_stays f h = refl
+
+  in_constructor_stays : (f : InConstructor) → InConstructorOf s f → in_constructor_seen t.texts f ≡ in_constructor_seen s.texts f
+  in_constructor_stays (in_constructor.PairNow t n key es line) h = rw (value_stays key h.1) refl
+  in_constructor_stays (in_constructor.ItemsNext t n left line) h = rw (values_stay left h.1) refl
+  in_constructor_stays f h = refl
+
+  in_assignment_stays : (f : InAssignment) → InAssignmentOf s f → in_assignment_seen t.texts f ≡ in_assignment_seen s.texts f
+  in_assignment_stays (in_assignment.TargetKey key line more before values) h = rw (founds_stay before h) refl
+  in_assignment_stays (in_assignment.TargetNow of line more before values) h = rw (value_stays of h.0, founds_stay before h.1) refl
+  in_assignment_stays (in_assignment.AssignNow targets) h = rw (founds_stay targets h) refl
+  in_assignment_stays (in_assignment.SetsNext pairs) h = rw (settings_stay pairs h) refl
+
+  in_statement_stays : (f : InStatement) → InStatementOf s f → in_statement_seen t.texts f ≡ in_statement_seen s.texts f
+  in_statement_stays f h = refl
+
+  in_loop_stays : (f : InLoop) → InLoopOf s f → in_loop_seen t.texts f ≡ in_loop_seen s.texts f
+  in_loop_stays (in_loop.CountTo boxed from by b line) h = rw (value_stays from h) refl
+  in_loop_stays (in_loop.CountBy boxed from to b line) h = rw (value_stays from h.0, value_stays to h.1) refl
+  in_loop_stays (in_loop.EachNext flags iterator state b line) h = rw (value_stays iterator h.0, value_stays state h.1) refl
+  in_loop_stays f h = refl
+
+  ending_stays : (f : Ending) → EndingOf s f → ending_seen t.texts f ≡ ending_seen s.texts f
+  ending_stays (ending.EachEnd depth flags iterator state before b line) h = rw (value_stays iterator h.0, value_stays state h.1, value_stays before h.2) refl
+  ending_stays f h = refl
+
+  in_run_stays : (f : InRun) → InRunOf s f → in_run_seen t.texts f ≡ in_run_seen s.texts f
+  in_run_stays (in_run.ModuleFound name f) h = rw (value_stays f h) refl
+  in_run_stays (in_run.FunctionFound name f) h = rw (value_stays f h) refl
+  in_run_stays (in_run.TextNow values before) h = rw (values_stay values h.0, texts_stay before h.1) refl
+  in_run_stays f h = refl
 
   frame_stays : (f : Frame) → FrameOf s f → frame_seen t.texts f ≡ frame_seen s.texts f
-  frame_stays (frame.IndexNow of line) h = rw (value_stays of h) refl
-  frame_stays (frame.OperateNow op a line) h = rw (value_stays a h) refl
-  frame_stays (frame.CallNow f line) h = rw (value_stays f h) refl
-  frame_stays (frame.MethodNow object args line) h = rw (value_stays object h) refl
-  frame_stays (frame.MoreNext es before) h = rw (values_stay before h) refl
-  frame_stays (frame.PairNow t n key es line) h = rw (value_stays key h.1) refl
-  frame_stays (frame.ItemsNext t n left line) h = rw (values_stay left h.1) refl
-  frame_stays (frame.TargetKey key line more before values) h = rw (founds_stay before h) refl
-  frame_stays (frame.TargetNow of line more before values) h = rw (value_stays of h.0, founds_stay before h.1) refl
-  frame_stays (frame.AssignNow targets) h = rw (founds_stay targets h) refl
-  frame_stays (frame.SetsNext pairs) h = rw (settings_stay pairs h) refl
-  frame_stays (frame.CountTo boxed from by b line) h = rw (value_stays from h) refl
-  frame_stays (frame.CountBy boxed from to b line) h = rw (value_stays from h.0, value_stays to h.1) refl
-  frame_stays (frame.EachNext flags iterator state b line) h = rw (value_stays iterator h.0, value_stays state h.1) refl
-  frame_stays (frame.EachEnd depth flags iterator state before b line) h = rw (value_stays iterator h.0, value_stays state h.1, value_stays before h.2) refl
+  frame_stays (frame.Expression f) h = in_expression_stays f h
+  frame_stays (frame.Constructor f) h = in_constructor_stays f h
+  frame_stays (frame.Assignment f) h = in_assignment_stays f h
+  frame_stays (frame.Statement f) h = in_statement_stays f h
+  frame_stays (frame.Loop f) h = in_loop_stays f h
+  frame_stays (frame.End f) h = ending_stays f h
   frame_stays (frame.Waits what line) h = rw (pending_stays what h) refl
   frame_stays (frame.Hears what line) h = rw (asked_stays what h) refl
-  frame_stays (frame.ModuleFound name f) h = rw (value_stays f h) refl
-  frame_stays (frame.FunctionFound name f) h = rw (value_stays f h) refl
-  frame_stays (frame.TextNow values before) h = rw (values_stay values h.0, texts_stay before h.1) refl
-  frame_stays f h = refl
+  frame_stays (frame.Run f) h = in_run_stays f h
 
   pub frames_later : (fs : List Frame) → FramesOf s fs → FramesOf t fs
   frames_later fs h = all-to (FrameOf s) (FrameOf t) frame_later fs h
@@ -243,6 +308,7 @@ module _ (s t : StoreView) (l : IsLater s t) where
   focus_later (focus.Sets pairs) h = settings_later pairs h
   focus_later (focus.Starts x) h = thing_later x h
   focus_later (focus.Texts values before) h = (values_later values h.0, texts_later before h.1)
+  focus_later (focus.Works work) h = h
   focus_later f h = tt
 
   pub focus_as : (f : Focus) (fs : List SFrame) → FocusOf s f → focus_seen t f fs ≡ focus_seen s f fs

@@ -7,6 +7,7 @@ use Rattle.lua_store.specs.declared.ids.CellId.{CellId}
 use Rattle.lua_store.specs.declared.ids.ClosureId.{ClosureId}
 use Rattle.lua_store.specs.Seen.{StoreView, text_at}
 use Rattle.lua_store.specs.Parts.{IsOf, IsTextOf, IsTableOf, IsCellOf, IsClosureOf}
+use Rattle.mw_frame.specs.Scenes.{HaveNames}
 use Rattle.lua_meaning.specs.Operators as plain
 use Rattle.lua_stack.specs.declared.values.Given.{Given}
 use Rattle.lua_stack.specs.declared.frame.Found.{Found}
@@ -18,10 +19,26 @@ use Rattle.lua_stack.specs.declared.frame.Asked.{Asked}
 use Rattle.lua_stack.specs.declared.frame.Asked.TheVariants as asked
 use Rattle.lua_stack.specs.declared.frame.Thing.{Thing}
 use Rattle.lua_stack.specs.declared.frame.Thing.TheVariants as thing
+use Rattle.lua_stack.specs.declared.frame.InExpression.{InExpression}
+use Rattle.lua_stack.specs.declared.frame.InExpression.TheVariants as in_expression
+use Rattle.lua_stack.specs.declared.frame.InConstructor.{InConstructor}
+use Rattle.lua_stack.specs.declared.frame.InConstructor.TheVariants as in_constructor
+use Rattle.lua_stack.specs.declared.frame.InAssignment.{InAssignment}
+use Rattle.lua_stack.specs.declared.frame.InAssignment.TheVariants as in_assignment
+use Rattle.lua_stack.specs.declared.frame.InStatement.{InStatement}
+use Rattle.lua_stack.specs.declared.frame.InStatement.TheVariants as in_statement
+use Rattle.lua_stack.specs.declared.frame.InLoop.{InLoop}
+use Rattle.lua_stack.specs.declared.frame.InLoop.TheVariants as in_loop
+use Rattle.lua_stack.specs.declared.frame.Ending.{Ending}
+use Rattle.lua_stack.specs.declared.frame.Ending.TheVariants as ending
+use Rattle.lua_stack.specs.declared.frame.InRun.{InRun}
+use Rattle.lua_stack.specs.declared.frame.InRun.TheVariants as in_run
 use Rattle.lua_stack.specs.declared.frame.Frame.{Frame}
 use Rattle.lua_stack.specs.declared.frame.Frame.TheVariants as frame
 use Rattle.lua_stack.specs.declared.focus.Jump.{Jump}
 use Rattle.lua_stack.specs.declared.focus.Jump.TheVariants as jump
+use Rattle.lua_stack.specs.declared.focus.Work.{Work}
+use Rattle.lua_stack.specs.declared.focus.Work.TheVariants as work
 use Rattle.lua_stack.specs.declared.focus.Focus.{Focus}
 use Rattle.lua_stack.specs.declared.focus.Focus.TheVariants as focus
 use Rattle.lua_stack.specs.declared.register.Slot.{Slot}
@@ -94,31 +111,56 @@ AskedOf s (asked.Template text) = IsTextOf s text
 AskedOf s asked.Text = Unit {0}
 AskedOf s (asked.Data text title) = IsTextOf s text
 
+abbrev pub InExpressionOf : StoreView → InExpression → Type 0
+InExpressionOf s (in_expression.IndexNow of line) = IsOf s of
+InExpressionOf s (in_expression.OperateNow op a line) = IsOf s a
+InExpressionOf s (in_expression.CallNow f line) = IsOf s f
+InExpressionOf s (in_expression.MethodNow object args line) = IsOf s object
+InExpressionOf s (in_expression.MoreNext es before) = ValuesOf s before
+InExpressionOf s _ = Unit {0}
+
+abbrev pub InConstructorOf : StoreView → InConstructor → Type 0
+InConstructorOf s (in_constructor.ItemNow t n es line) = IsTableOf s t
+InConstructorOf s (in_constructor.PairNext t n e es line) = IsTableOf s t
+InConstructorOf s (in_constructor.PairNow t n key es line) = IsTableOf s t × IsOf s key
+InConstructorOf s (in_constructor.FieldsNext t n es line) = IsTableOf s t
+InConstructorOf s (in_constructor.ItemsNext t n left line) = IsTableOf s t × ValuesOf s left
+
+abbrev pub InAssignmentOf : StoreView → InAssignment → Type 0
+InAssignmentOf s (in_assignment.TargetKey key line more before values) = AllByRecursion (FoundOf s) before
+InAssignmentOf s (in_assignment.TargetNow of line more before values) = IsOf s of × AllByRecursion (FoundOf s) before
+InAssignmentOf s (in_assignment.AssignNow targets) = AllByRecursion (FoundOf s) targets
+InAssignmentOf s (in_assignment.SetsNext pairs) = AllByRecursion (SettingOf s) pairs
+
+abbrev pub InStatementOf : StoreView → InStatement → Type 0
+InStatementOf s _ = Unit {0}
+
+abbrev pub InLoopOf : StoreView → InLoop → Type 0
+InLoopOf s (in_loop.CountTo boxed from by b line) = IsOf s from
+InLoopOf s (in_loop.CountBy boxed from to b line) = IsOf s from × IsOf s to
+InLoopOf s (in_loop.EachNext flags iterator state b line) = IsOf s iterator × IsOf s state
+InLoopOf s _ = Unit {0}
+
+abbrev pub EndingOf : StoreView → Ending → Type 0
+EndingOf s (ending.EachEnd depth flags iterator state before b line) = IsOf s iterator × IsOf s state × IsOf s before
+EndingOf s _ = Unit {0}
+
+abbrev pub InRunOf : StoreView → InRun → Type 0
+InRunOf s (in_run.ModuleFound name f) = IsOf s f
+InRunOf s (in_run.FunctionFound name f) = IsOf s f
+InRunOf s (in_run.TextNow values before) = ValuesOf s values × TextsOf s before
+InRunOf s _ = Unit {0}
+
 abbrev pub FrameOf : StoreView → Frame → Type 0
-FrameOf s (frame.IndexNow of line) = IsOf s of
-FrameOf s (frame.OperateNow op a line) = IsOf s a
-FrameOf s (frame.CallNow f line) = IsOf s f
-FrameOf s (frame.MethodNow object args line) = IsOf s object
-FrameOf s (frame.MoreNext es before) = ValuesOf s before
-FrameOf s (frame.ItemNow t n es line) = IsTableOf s t
-FrameOf s (frame.PairNext t n e es line) = IsTableOf s t
-FrameOf s (frame.PairNow t n key es line) = IsTableOf s t × IsOf s key
-FrameOf s (frame.FieldsNext t n es line) = IsTableOf s t
-FrameOf s (frame.ItemsNext t n left line) = IsTableOf s t × ValuesOf s left
-FrameOf s (frame.TargetKey key line more before values) = AllByRecursion (FoundOf s) before
-FrameOf s (frame.TargetNow of line more before values) = IsOf s of × AllByRecursion (FoundOf s) before
-FrameOf s (frame.AssignNow targets) = AllByRecursion (FoundOf s) targets
-FrameOf s (frame.SetsNext pairs) = AllByRecursion (SettingOf s) pairs
-FrameOf s (frame.CountTo boxed from by b line) = IsOf s from
-FrameOf s (frame.CountBy boxed from to b line) = IsOf s from × IsOf s to
-FrameOf s (frame.EachNext flags iterator state b line) = IsOf s iterator × IsOf s state
-FrameOf s (frame.EachEnd depth flags iterator state before b line) = IsOf s iterator × IsOf s state × IsOf s before
+FrameOf s (frame.Expression f) = InExpressionOf s f
+FrameOf s (frame.Constructor f) = InConstructorOf s f
+FrameOf s (frame.Assignment f) = InAssignmentOf s f
+FrameOf s (frame.Statement f) = InStatementOf s f
+FrameOf s (frame.Loop f) = InLoopOf s f
+FrameOf s (frame.End f) = EndingOf s f
 FrameOf s (frame.Waits what line) = PendingOf s what
 FrameOf s (frame.Hears what line) = AskedOf s what
-FrameOf s (frame.ModuleFound name f) = IsOf s f
-FrameOf s (frame.FunctionFound name f) = IsOf s f
-FrameOf s (frame.TextNow values before) = ValuesOf s values × TextsOf s before
-FrameOf s _ = Unit {0}
+FrameOf s (frame.Run f) = InRunOf s f
 
 abbrev pub FramesOf : StoreView → List Frame → Type 0
 FramesOf s frames = AllByRecursion (FrameOf s) frames
@@ -138,6 +180,11 @@ JumpOf s (jump.Returned g) = GivenOf s g
 JumpOf s jump.Broke = Unit {0}
 JumpOf s (jump.Raised v) = IsOf s v
 
+-- the names of arguments differ
+abbrev pub WorkOf : Work → Type 0
+WorkOf (work.Invoke job) = HaveNames job
+WorkOf (work.Data title) = Unit {0}
+
 abbrev pub FocusOf : StoreView → Focus → Type 0
 FocusOf s (focus.Gives g) = GivenOf s g
 FocusOf s (focus.Jumps j) = JumpOf s j
@@ -146,6 +193,7 @@ FocusOf s (focus.Finds targets before values) = AllByRecursion (FoundOf s) befor
 FocusOf s (focus.Sets pairs) = AllByRecursion (SettingOf s) pairs
 FocusOf s (focus.Starts t) = ThingOf s t
 FocusOf s (focus.Texts values before) = ValuesOf s values × TextsOf s before
+FocusOf s (focus.Works work) = WorkOf work
 FocusOf s _ = Unit {0}
 
 -- THE ENVIRONMENT of a run, whose names of handlers are what the manual calls them (2.8)

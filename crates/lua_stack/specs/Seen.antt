@@ -28,6 +28,20 @@ use Rattle.lua_stack.specs.declared.frame.Asked.{Asked}
 use Rattle.lua_stack.specs.declared.frame.Asked.TheVariants as asked
 use Rattle.lua_stack.specs.declared.frame.Thing.{Thing}
 use Rattle.lua_stack.specs.declared.frame.Thing.TheVariants as thing
+use Rattle.lua_stack.specs.declared.frame.InExpression.{InExpression}
+use Rattle.lua_stack.specs.declared.frame.InExpression.TheVariants as in_expression
+use Rattle.lua_stack.specs.declared.frame.InConstructor.{InConstructor}
+use Rattle.lua_stack.specs.declared.frame.InConstructor.TheVariants as in_constructor
+use Rattle.lua_stack.specs.declared.frame.InAssignment.{InAssignment}
+use Rattle.lua_stack.specs.declared.frame.InAssignment.TheVariants as in_assignment
+use Rattle.lua_stack.specs.declared.frame.InStatement.{InStatement}
+use Rattle.lua_stack.specs.declared.frame.InStatement.TheVariants as in_statement
+use Rattle.lua_stack.specs.declared.frame.InLoop.{InLoop}
+use Rattle.lua_stack.specs.declared.frame.InLoop.TheVariants as in_loop
+use Rattle.lua_stack.specs.declared.frame.Ending.{Ending}
+use Rattle.lua_stack.specs.declared.frame.Ending.TheVariants as ending
+use Rattle.lua_stack.specs.declared.frame.InRun.{InRun}
+use Rattle.lua_stack.specs.declared.frame.InRun.TheVariants as in_run
 use Rattle.lua_stack.specs.declared.frame.Frame.{Frame}
 use Rattle.lua_stack.specs.declared.frame.Frame.TheVariants as frame
 use Rattle.lua_stack.specs.declared.focus.Jump.{Jump}
@@ -121,54 +135,75 @@ asked_seen texts (asked.Template text) = asking.TemplateAsked (text_at texts tex
 asked_seen texts asked.Text = asking.TextAsked
 asked_seen texts (asked.Data text title) = asking.DataAsked (text_at texts text.at) title
 
+abbrev pub in_expression_seen : Texts → InExpression → SFrame
+in_expression_seen texts in_expression.First = point.First
+in_expression_seen texts (in_expression.Verdict negated) = point.Verdict negated
+in_expression_seen texts (in_expression.KeyNext key line) = point.KeyNext (expression_seen key.now) line
+in_expression_seen texts (in_expression.IndexNow of line) = point.IndexNow (seen texts of) line
+in_expression_seen texts (in_expression.DecideNext deciding b) = point.DecideNext deciding (expression_seen b.now)
+in_expression_seen texts (in_expression.OperandNext op b line) = point.OperandNext (operator_seen op) (expression_seen b.now) line
+in_expression_seen texts (in_expression.OperateNow op a line) = point.OperateNow (operator_seen op) (seen texts a) line
+in_expression_seen texts (in_expression.UnaryNow op line) = point.UnaryNow op line
+in_expression_seen texts (in_expression.ArgumentsNext args line) = point.ArgumentsNext (expressions_seen args.now) line
+in_expression_seen texts (in_expression.CallNow f line) = point.CallNow (seen texts f) line
+in_expression_seen texts (in_expression.MethodNext name args line) = point.MethodNext name.now (expressions_seen args.now) line
+in_expression_seen texts (in_expression.MethodNow object args line) = point.MethodNow (seen texts object) (expressions_seen args.now) line
+in_expression_seen texts (in_expression.MoreNext es before) = point.MoreNext (expressions_seen es.now) (values_seen texts before)
+
+abbrev pub in_constructor_seen : Texts → InConstructor → SFrame
+in_constructor_seen texts (in_constructor.ItemNow t n es line) = point.ItemNow t.at n (entries_seen es.now) line
+in_constructor_seen texts (in_constructor.PairNext t n e es line) = point.PairNext t.at n (expression_seen e.now) (entries_seen es.now) line
+in_constructor_seen texts (in_constructor.PairNow t n key es line) = point.PairNow t.at n (seen texts key) (entries_seen es.now) line
+in_constructor_seen texts (in_constructor.FieldsNext t n es line) = point.FieldsNext t.at n (entries_seen es.now) line
+in_constructor_seen texts (in_constructor.ItemsNext t n left line) = point.ItemsNext t.at n (values_seen texts left) line
+
+abbrev pub in_assignment_seen : Texts → InAssignment → SFrame
+in_assignment_seen texts (in_assignment.TargetKey key line more before values) = point.TargetKey (expression_seen key.now) line (map target_seen more.now) (map (found_seen texts) before) (expressions_seen values.now)
+in_assignment_seen texts (in_assignment.TargetNow of line more before values) = point.TargetNow (seen texts of) line (map target_seen more.now) (map (found_seen texts) before) (expressions_seen values.now)
+in_assignment_seen texts (in_assignment.AssignNow targets) = point.AssignNow (map (found_seen texts) targets)
+in_assignment_seen texts (in_assignment.SetsNext pairs) = point.SetsNext (settings_seen texts pairs)
+
+abbrev pub in_statement_seen : Texts → InStatement → SFrame
+in_statement_seen texts (in_statement.DeclareNow flags more) = point.DeclareNow flags.now (block_seen more.now)
+in_statement_seen texts (in_statement.StatsNext more) = point.StatsNext (block_seen more.now)
+in_statement_seen texts (in_statement.BranchNext b arms other) = point.BranchNext (block_seen b.now) (branches_seen arms.now) (option_map (λ b. block_seen b.now) other)
+in_statement_seen texts in_statement.ReturnNow = point.ReturnNow
+
+abbrev pub in_loop_seen : Texts → InLoop → SFrame
+in_loop_seen texts (in_loop.WhileTest test b) = point.WhileTest (expression_seen test.now) (block_seen b.now)
+in_loop_seen texts (in_loop.CountFrom boxed to by b line) = point.CountFrom boxed (expression_seen to.now) (option_map (λ e. expression_seen e.now) by) (block_seen b.now) line
+in_loop_seen texts (in_loop.CountTo boxed from by b line) = point.CountTo boxed (seen texts from) (option_map (λ e. expression_seen e.now) by) (block_seen b.now) line
+in_loop_seen texts (in_loop.CountBy boxed from to b line) = point.CountBy boxed (seen texts from) (seen texts to) (block_seen b.now) line
+in_loop_seen texts (in_loop.EachValues flags b line) = point.EachValues flags.now (block_seen b.now) line
+in_loop_seen texts (in_loop.EachNext flags iterator state b line) = point.EachNext flags.now (seen texts iterator) (seen texts state) (block_seen b.now) line
+
+abbrev pub ending_seen : Texts → Ending → SFrame
+ending_seen texts (ending.BlockEnd depth) = point.BlockEnd depth
+ending_seen texts ending.BodyEnd = point.BodyEnd
+ending_seen texts ending.LibraryEnd = point.LibraryEnd
+ending_seen texts (ending.WhileEnd depth test b) = point.WhileEnd depth (expression_seen test.now) (block_seen b.now)
+ending_seen texts (ending.TestNext test depth b) = point.TestNext (expression_seen test.now) depth (block_seen b.now)
+ending_seen texts (ending.TestNow test depth b) = point.TestNow (expression_seen test.now) depth (block_seen b.now)
+ending_seen texts (ending.CountEnd depth boxed index limit step b) = point.CountEnd depth boxed index limit step (block_seen b.now)
+ending_seen texts (ending.EachEnd depth flags iterator state before b line) = point.EachEnd depth flags.now (seen texts iterator) (seen texts state) (seen texts before) (block_seen b.now) line
+
+abbrev pub in_run_seen : Texts → InRun → SFrame
+in_run_seen texts (in_run.ModuleFound name f) = point.ModuleFound name (seen texts f)
+in_run_seen texts (in_run.FunctionFound name f) = point.FunctionFound name (seen texts f)
+in_run_seen texts in_run.AnswerNow = point.AnswerNow
+in_run_seen texts (in_run.TextNow values before) = point.TextNow (values_seen texts values) (joined_seen texts before)
+in_run_seen texts in_run.DataNow = point.DataNow
+
 abbrev pub frame_seen : Texts → Frame → SFrame
-frame_seen texts frame.First = point.First
-frame_seen texts (frame.Verdict negated) = point.Verdict negated
-frame_seen texts (frame.KeyNext key line) = point.KeyNext (expression_seen key.now) line
-frame_seen texts (frame.IndexNow of line) = point.IndexNow (seen texts of) line
-frame_seen texts (frame.DecideNext deciding b) = point.DecideNext deciding (expression_seen b.now)
-frame_seen texts (frame.OperandNext op b line) = point.OperandNext (operator_seen op) (expression_seen b.now) line
-frame_seen texts (frame.OperateNow op a line) = point.OperateNow (operator_seen op) (seen texts a) line
-frame_seen texts (frame.UnaryNow op line) = point.UnaryNow op line
-frame_seen texts (frame.ArgumentsNext args line) = point.ArgumentsNext (expressions_seen args.now) line
-frame_seen texts (frame.CallNow f line) = point.CallNow (seen texts f) line
-frame_seen texts (frame.MethodNext name args line) = point.MethodNext name.now (expressions_seen args.now) line
-frame_seen texts (frame.MethodNow object args line) = point.MethodNow (seen texts object) (expressions_seen args.now) line
-frame_seen texts (frame.MoreNext es before) = point.MoreNext (expressions_seen es.now) (values_seen texts before)
-frame_seen texts (frame.ItemNow t n es line) = point.ItemNow t.at n (entries_seen es.now) line
-frame_seen texts (frame.PairNext t n e es line) = point.PairNext t.at n (expression_seen e.now) (entries_seen es.now) line
-frame_seen texts (frame.PairNow t n key es line) = point.PairNow t.at n (seen texts key) (entries_seen es.now) line
-frame_seen texts (frame.FieldsNext t n es line) = point.FieldsNext t.at n (entries_seen es.now) line
-frame_seen texts (frame.ItemsNext t n left line) = point.ItemsNext t.at n (values_seen texts left) line
-frame_seen texts (frame.TargetKey key line more before values) = point.TargetKey (expression_seen key.now) line (map target_seen more.now) (map (found_seen texts) before) (expressions_seen values.now)
-frame_seen texts (frame.TargetNow of line more before values) = point.TargetNow (seen texts of) line (map target_seen more.now) (map (found_seen texts) before) (expressions_seen values.now)
-frame_seen texts (frame.AssignNow targets) = point.AssignNow (map (found_seen texts) targets)
-frame_seen texts (frame.SetsNext pairs) = point.SetsNext (settings_seen texts pairs)
-frame_seen texts (frame.DeclareNow flags more) = point.DeclareNow flags.now (block_seen more.now)
-frame_seen texts (frame.StatsNext more) = point.StatsNext (block_seen more.now)
-frame_seen texts (frame.BranchNext b arms other) = point.BranchNext (block_seen b.now) (branches_seen arms.now) (option_map (λ b. block_seen b.now) other)
-frame_seen texts (frame.BlockEnd depth) = point.BlockEnd depth
-frame_seen texts frame.BodyEnd = point.BodyEnd
-frame_seen texts frame.LibraryEnd = point.LibraryEnd
-frame_seen texts (frame.WhileTest test b) = point.WhileTest (expression_seen test.now) (block_seen b.now)
-frame_seen texts (frame.WhileEnd depth test b) = point.WhileEnd depth (expression_seen test.now) (block_seen b.now)
-frame_seen texts (frame.TestNext test depth b) = point.TestNext (expression_seen test.now) depth (block_seen b.now)
-frame_seen texts (frame.TestNow test depth b) = point.TestNow (expression_seen test.now) depth (block_seen b.now)
-frame_seen texts (frame.CountFrom boxed to by b line) = point.CountFrom boxed (expression_seen to.now) (option_map (λ e. expression_seen e.now) by) (block_seen b.now) line
-frame_seen texts (frame.CountTo boxed from by b line) = point.CountTo boxed (seen texts from) (option_map (λ e. expression_seen e.now) by) (block_seen b.now) line
-frame_seen texts (frame.CountBy boxed from to b line) = point.CountBy boxed (seen texts from) (seen texts to) (block_seen b.now) line
-frame_seen texts (frame.CountEnd depth boxed index limit step b) = point.CountEnd depth boxed index limit step (block_seen b.now)
-frame_seen texts (frame.EachValues flags b line) = point.EachValues flags.now (block_seen b.now) line
-frame_seen texts (frame.EachNext flags iterator state b line) = point.EachNext flags.now (seen texts iterator) (seen texts state) (block_seen b.now) line
-frame_seen texts (frame.EachEnd depth flags iterator state before b line) = point.EachEnd depth flags.now (seen texts iterator) (seen texts state) (seen texts before) (block_seen b.now) line
-frame_seen texts frame.ReturnNow = point.ReturnNow
+frame_seen texts (frame.Expression f) = in_expression_seen texts f
+frame_seen texts (frame.Constructor f) = in_constructor_seen texts f
+frame_seen texts (frame.Assignment f) = in_assignment_seen texts f
+frame_seen texts (frame.Statement f) = in_statement_seen texts f
+frame_seen texts (frame.Loop f) = in_loop_seen texts f
+frame_seen texts (frame.End f) = ending_seen texts f
 frame_seen texts (frame.Waits what line) = point.Waits (pending_seen texts what) line
 frame_seen texts (frame.Hears what line) = point.Hears (asked_seen texts what) line
-frame_seen texts (frame.ModuleFound name f) = point.ModuleFound name (seen texts f)
-frame_seen texts (frame.FunctionFound name f) = point.FunctionFound name (seen texts f)
-frame_seen texts frame.AnswerNow = point.AnswerNow
-frame_seen texts (frame.TextNow values before) = point.TextNow (values_seen texts values) (joined_seen texts before)
-frame_seen texts frame.DataNow = point.DataNow
+frame_seen texts (frame.Run f) = in_run_seen texts f
 
 abbrev pub frames_seen : Texts → List Frame → List SFrame
 frames_seen texts frames = map (frame_seen texts) frames

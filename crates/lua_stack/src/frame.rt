@@ -69,9 +69,9 @@ pub enum Thing<'m> {
     CallLink(Value, Values, Option<u32>),
 }
 
-/// What waits for an outcome.
+/// An expression, or a list of them, that waits for one of its operands (manual 2.5).
 #[derive(Drop)]
-pub enum Frame<'m> {
+pub enum InExpression<'m> {
     /// The first value alone counts.
     First,
     /// It is a truth, or its negation.
@@ -89,6 +89,11 @@ pub enum Frame<'m> {
     MethodNow(Value, &'m List<Expression>, u32),
     /// What is left of a list, and the values before.
     MoreNext(&'m [Expression], Values),
+}
+
+/// A table constructor that waits for one of its entries (manual 2.5.7). The table's next item has the place that is given.
+#[derive(Drop)]
+pub enum InConstructor<'m> {
     /// A constructor of this table whose next item has this place: an item is evaluated, with these entries behind it.
     ItemNow(TableId, usize, &'m [Entry], u32),
     /// The key of a pair is evaluated.
@@ -99,6 +104,11 @@ pub enum Frame<'m> {
     FieldsNext(TableId, usize, &'m [Entry], u32),
     /// An entry is set, and these values are still to be set.
     ItemsNext(TableId, usize, Values, u32),
+}
+
+/// An assignment that waits for a part of a target, for its values, or for a target that is set (manual 2.4.3).
+#[derive(Drop)]
+pub enum InAssignment<'m> {
     /// The table of a target is evaluated, and then its key; the targets behind it, those that are found, and the values.
     TargetKey(&'m Expression, u32, &'m [Target], List<Found<'m>>, &'m List<Expression>),
     /// The key of a target in this table is evaluated.
@@ -107,36 +117,68 @@ pub enum Frame<'m> {
     AssignNow(List<Found<'m>>),
     /// A target is set, and these are still to be set.
     SetsNext(Stack<Setting<'m>>),
+}
+
+/// A block that waits for one of its statements, or a statement for what it evaluates first (manual 2.4).
+#[derive(Drop)]
+pub enum InStatement<'m> {
     DeclareNow(&'m [bool], &'m [Statement]),
     StatsNext(&'m [Statement]),
     /// A test of an `if`, with what follows its `then`, the branches behind it, and the `else`.
     BranchNext(&'m List<Statement>, &'m [Branch], Option<&'m List<Statement>>),
+    ReturnNow,
+}
+
+/// A loop between its turns: it waits for a test, a bound, or an iterator (manual 2.4.4 and 2.4.5).
+#[derive(Drop)]
+pub enum InLoop<'m> {
+    WhileTest(&'m Expression, &'m List<Statement>),
+    CountFrom(bool, &'m Expression, Option<&'m Expression>, &'m List<Statement>, u32),
+    CountTo(bool, Value, Option<&'m Expression>, &'m List<Statement>, u32),
+    CountBy(bool, Value, Value, &'m List<Statement>, u32),
+    EachValues(&'m [bool], &'m List<Statement>, u32),
+    EachNext(&'m [bool], Value, Value, &'m List<Statement>, u32),
+}
+
+/// What is done at an end, whether it is come to or jumped out of: of a block, a function, or a turn of a loop.
+#[derive(Drop)]
+pub enum Ending<'m> {
     /// The end of a block that has so many registers below it.
     BlockEnd(usize),
     BodyEnd,
     LibraryEnd,
-    WhileTest(&'m Expression, &'m List<Statement>),
     WhileEnd(usize, &'m Expression, &'m List<Statement>),
     /// The body of a `repeat`, before its test.
     TestNext(&'m Expression, usize, &'m List<Statement>),
     TestNow(&'m Expression, usize, &'m List<Statement>),
-    CountFrom(bool, &'m Expression, Option<&'m Expression>, &'m List<Statement>, u32),
-    CountTo(bool, Value, Option<&'m Expression>, &'m List<Statement>, u32),
-    CountBy(bool, Value, Value, &'m List<Statement>, u32),
     CountEnd(usize, bool, i64, i64, i64, &'m List<Statement>),
-    EachValues(&'m [bool], &'m List<Statement>, u32),
-    EachNext(&'m [bool], Value, Value, &'m List<Statement>, u32),
     EachEnd(usize, &'m [bool], Value, Value, Value, &'m List<Statement>, u32),
-    ReturnNow,
-    /// A function of the library that waits for a call; the line is that of its own call.
-    Waits(Pending, Option<u32>),
-    /// A function of the library that waits for an answer.
-    Hears(Asked, Option<u32>),
-    /// A whole run: the module's value is to come, whose function of this name gets this frame.
+}
+
+/// A whole run that waits for its module, its function, or what that gives (Scribunto, "Invoking modules" and mw.loadData).
+#[derive(Drop)]
+pub enum InRun {
+    /// The module's value is to come, whose function of this name gets this frame.
     ModuleFound(Bytes, Value),
     FunctionFound(Bytes, Value),
     AnswerNow,
     /// The text of a value of the answer is to come, with the values behind it and the texts before.
     TextNow(Values, List<TextId>),
     DataNow,
+}
+
+/// What waits for an outcome.
+#[derive(Drop)]
+pub enum Frame<'m> {
+    Expression(InExpression<'m>),
+    Constructor(InConstructor<'m>),
+    Assignment(InAssignment<'m>),
+    Statement(InStatement<'m>),
+    Loop(InLoop<'m>),
+    End(Ending<'m>),
+    /// A function of the library that waits for a call; the line is that of its own call.
+    Waits(Pending, Option<u32>),
+    /// A function of the library that waits for an answer.
+    Hears(Asked, Option<u32>),
+    Run(InRun),
 }

@@ -29,7 +29,10 @@ pub mod values;
 pub use activation::{Activation, Activations, Callee, Level};
 pub use environment::Environment;
 pub use focus::{Focus, Jump, Work};
-pub use frame::{Asked, Found, Frame, Pending, Setting, Thing};
+pub use frame::{
+    Asked, Ending, Found, Frame, InAssignment, InConstructor, InExpression, InLoop, InRun,
+    InStatement, Pending, Setting, Thing,
+};
 pub use raising::Raising;
 pub use register::Slot;
 pub use stack::Stack;

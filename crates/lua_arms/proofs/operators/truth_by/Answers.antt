@@ -1,4 +1,0 @@
-use Rattle.lua_arms.proofs.operators.truth_by.Goals as goal
-
-pub returns-then-is_nil-clause-of : goal.returns-then-is_nil-clause-of
-returns-then-is_nil-clause-of c = (c.answer.ensures.of c.args.store.now, c.requires.frames)

@@ -1,0 +1,7 @@
+pub mod Codes
+pub mod Ends
+pub mod NewClosure
+pub mod Tables
+pub mod Newest
+pub mod Places
+pub mod Items

@@ -1,0 +1,15 @@
+use Rattle.std.proofs.Common.{◌∙◌, refl, sym, ap}
+use Rattle.lua_store.specs.Seen.{seen}
+use Rattle.std.specs.Prelude.{Some}
+use Rattle.lua_slots.specs.Calls.{call}
+use Rattle.lua_stack.specs.Seen.{values_seen}
+use Rattle.lua_state.specs.Seen.{slots_of, frames_of}
+use Rattle.lua_evals.proofs.Ends.{stepped}
+use Rattle.lua_evals.proofs.operands.call_with.Goals as goal
+
+pub returns : goal.returns
+returns c =
+    stepped c.args.store.now c.finish.new.store c.args.state.now c.args.state.now.frames c.args.left.now c.finish.new.left _ c.in_ok-step.step _
+    (ap (λ vs. call (seen c.args.store.now.texts c.args.called) (values_seen c.args.store.now.texts vs) (Some c.args.line) (frames_of c.args.store.now c.args.state.now) (slots_of c.args.store.now c.args.state.now)) (sym c.in_ok-arguments.ensures)
+    ∙ c.in_ok-step.ensures.move_ (frames_of c.args.store.now c.args.state.now) (slots_of c.args.store.now c.args.state.now) refl)
+    c.in_ok-turn.ensures.makes

@@ -1,0 +1,95 @@
+//! Closures that begin (manual 2.5.9).
+ghost use Rattle.std.specs.Prelude.{◌≡◌, ◌∷◌, [], map, IfOk};
+ghost use Rattle.wk_base.specs.declared.left.Left.{Left as Allowance};
+ghost use Rattle.lua_code.specs.Seen.{place_seen};
+ghost use Rattle.lua_slots.specs.Errors.{gives};
+ghost use Rattle.lua_slots.specs.Points.{Costs};
+ghost use Rattle.lua_slots.specs.Slots.{function_of, next_closure, proc_of, with_closure};
+ghost use Rattle.lua_store.specs.Parts.{IsTextOf};
+ghost use Rattle.lua_store.specs.Seen.{text_at};
+ghost use Rattle.lua_state.specs.Makes.{Makes};
+ghost use Rattle.lua_state.specs.Of.{StateOf};
+ghost use Rattle.lua_state.specs.Seen.{frames_of, slots_of};
+
+use crate::running::running_closure;
+use lua_code::Place;
+use lua_stack::register::captures;
+use lua_stack::{Focus, Given};
+use lua_state::{State, Turn, pay};
+use lua_store::{ClosureKind, ProtoId, Store, TextId, Value};
+use page_run::Which;
+use std::alloc::Global;
+use wk_base::{Left, NoMemory};
+
+/// A closure of this function of a module, with the cells at these places.
+fn closure_in<'m>(
+    alloc: Global,
+    store: &mut Store,
+    state: &State<'m>,
+    source: TextId,
+    index: u32,
+    places: &[Place],
+) -> Result<Turn<'m>, NoMemory>
+    requires state { StateOf store.old state.now }
+    requires source { IsTextOf store.old source }
+    requires title { text_at store.old.texts source.at ≡ (function_of (slots_of store.old state.now)).source }
+    ensures { (l : Allowance) → IfOk result (λ r. Makes store.old state.now l store.new state.now l
+        (gives (next_closure (slots_of store.old state.now) ∷ []) (frames_of store.old state.now)
+        (with_closure (proc_of index (map place_seen places.now) (slots_of store.old state.now)) (slots_of store.old state.now))) r) }
+{
+    let running = running_closure(&state.functions);
+    let cells = captures(alloc, store, &state.regs, running, places)?;
+    let title = ProtoId {
+        title: source,
+        index,
+    };
+    let id = store.new_closure(ClosureKind::Function(title), 0, cells)?;
+    Ok(Turn::On(Focus::Gives(Given::One(Value::Closure(id)))))
+}
+
+/// A closure of the running function's module.
+fn new_closure<'m>(
+    alloc: Global,
+    store: &mut Store,
+    state: &State<'m>,
+    index: u32,
+    places: &[Place],
+) -> Result<Turn<'m>, NoMemory>
+    requires state { StateOf store.old state.now }
+    ensures { (l : Allowance) → IfOk result (λ r. Makes store.old state.now l store.new state.now l
+        (gives (next_closure (slots_of store.old state.now) ∷ []) (frames_of store.old state.now)
+        (with_closure (proc_of index (map place_seen places.now) (slots_of store.old state.now)) (slots_of store.old state.now))) r) }
+{
+    match state.functions.newest() {
+        Some(newest) => {
+            let turn = closure_in(alloc, store, state, newest.source, index, places)?;
+            Ok(turn)
+        }
+        None => {
+            let source = store.text(&[])?;
+            let turn = closure_in(alloc, store, state, source, index, places)?;
+            Ok(turn)
+        }
+    }
+}
+
+/// A function expression makes a closure (manual 2.5.9), at 8 steps.
+pub fn closure<'m>(
+    alloc: Global,
+    store: &mut Store,
+    left: &mut Left,
+    state: &State<'m>,
+    index: u32,
+    places: &[Place],
+) -> Result<Turn<'m>, NoMemory>
+    requires state { StateOf store.old state.now }
+    ensures { IfOk result (λ r. Makes store.old state.now left.old store.new state.now left.new
+        (Costs 8 (gives (next_closure (slots_of store.old state.now) ∷ []) (frames_of store.old state.now)
+        (with_closure (proc_of index (map place_seen places.now) (slots_of store.old state.now)) (slots_of store.old state.now)))) r) }
+{
+    if !pay(left, 8) {
+        return Ok(Turn::Spent(Which::Steps));
+    }
+    let turn = new_closure(alloc, store, state, index, places)?;
+    Ok(turn)
+}

@@ -1,0 +1,82 @@
+//! An expression begins (manual 2.5), and a list of expressions goes on.
+ghost use Rattle.std.specs.Prelude.{IfOk};
+ghost use Rattle.lua_code.specs.Seen.{expression_seen, expressions_seen};
+ghost use Rattle.lua_slots.specs.Expressions as machine;
+ghost use Rattle.lua_stack.specs.Of.{ValuesOf};
+ghost use Rattle.lua_stack.specs.Seen.{values_seen};
+ghost use Rattle.lua_arms.specs.Paid.{behind_node};
+ghost use Rattle.lua_state.specs.Makes.{Makes};
+ghost use Rattle.lua_state.specs.Of.{StateOf};
+ghost use Rattle.lua_state.specs.Seen.{frames_of, slots_of};
+
+use crate::closures::closure;
+use crate::exits::give;
+use crate::forms::{constructor, dots, global, operands, text};
+use crate::running::variable;
+use lua_arms::lists;
+use lua_code::Expression;
+use lua_stack::Values;
+use lua_state::{State, Turn, finish};
+use lua_store::{Store, Value};
+use std::alloc::Global;
+use wk_base::{Left, NoMemory};
+
+/// An expression begins. The step of its node is paid, and the node is counted, by the caller.
+#[tactic(auto, using(crate::proofs::Codes::codes))]
+pub fn evaluate<'m>(
+    alloc: Global,
+    store: &mut Store,
+    left: &mut Left,
+    state: &mut State<'m>,
+    e: &'m Expression,
+) -> Result<Turn<'m>, NoMemory>
+    requires state { StateOf store.old state.old }
+    ensures { IfOk result (λ r. Makes store.old state.old left.old store.new state.new left.new (behind_node (machine.evals (expression_seen e.now) (frames_of store.old state.old) (slots_of store.old state.old))) r) }
+{
+    match e {
+        Expression::Nil => Ok(give(store, state, Value::Nil)),
+        Expression::Truth(truth) => Ok(give(store, state, Value::Bool(*truth))),
+        Expression::Number(number) => Ok(give(store, state, Value::Number(*number))),
+        Expression::Text(bytes) => text(store, state, bytes.as_slice()),
+        Expression::Dots => dots(alloc, store, left, state),
+        Expression::Function(index, places) => {
+            closure(alloc, store, left, state, *index, places.as_slice())
+        }
+        Expression::Local(place) => {
+            let value = variable(store, state, *place);
+            Ok(give(store, state, value))
+        }
+        Expression::Global(name, line) => {
+            global(alloc, store, left, state, name.as_slice(), *line)
+        }
+        Expression::Table(entries, line) => {
+            constructor(store, left, state, entries.as_slice(), *line)
+        }
+        Expression::Index(_, _, _) => operands(alloc, store, left, state, e),
+        Expression::Call(_, _, _) => operands(alloc, store, left, state, e),
+        Expression::Method(_, _, _, _) => operands(alloc, store, left, state, e),
+        Expression::And(_, _) => operands(alloc, store, left, state, e),
+        Expression::Or(_, _) => operands(alloc, store, left, state, e),
+        Expression::Operate(_, _, _, _) => operands(alloc, store, left, state, e),
+        Expression::Unary(_, _, _) => operands(alloc, store, left, state, e),
+        Expression::Paren(_) => operands(alloc, store, left, state, e),
+    }
+}
+
+/// A list of expressions goes on, with the values of those before.
+pub fn list<'m>(
+    alloc: Global,
+    store: &mut Store,
+    left: &mut Left,
+    state: &mut State<'m>,
+    expressions: &'m [Expression],
+    before: Values,
+) -> Result<Turn<'m>, NoMemory>
+    requires state { StateOf store.old state.old }
+    requires before { ValuesOf store.old before }
+    ensures { IfOk result (λ r. Makes store.old state.old left.old store.new state.new left.new (machine.lists (expressions_seen expressions.now) (values_seen store.old.texts before) (frames_of store.old state.old) (slots_of store.old state.old)) r) }
+{
+    let step = lists::list(store, &mut state.frames, expressions, before)?;
+    let turn = finish(alloc, store, left, state, step)?;
+    Ok(turn)
+}

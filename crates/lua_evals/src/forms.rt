@@ -1,0 +1,165 @@
+//! How each form of an expression begins, whose node is paid and counted.
+ghost use Rattle.std.specs.Prelude.{◌∷◌, [], Some, length, IfOk};
+ghost use Rattle.wk_base.specs.declared.left.Left.{Left as Allowance};
+ghost use Rattle.lua_code.specs.Seen.{expression_seen, entries_seen};
+ghost use Rattle.lua_heap.specs.Heap.{new_table as one_more_table};
+ghost use Rattle.lua_heap.specs.Value as kind;
+ghost use Rattle.lua_slots.specs.Errors.{gives};
+ghost use Rattle.lua_slots.specs.Expressions as machine;
+ghost use Rattle.lua_slots.specs.Index.{index_table as indexes};
+ghost use Rattle.lua_slots.specs.Points.{First, Costs};
+ghost use Rattle.lua_slots.specs.Slots.{function_of};
+ghost use Rattle.lua_store.specs.Parts.{IsTextOf};
+ghost use Rattle.lua_store.specs.Seen.{text_at};
+ghost use Rattle.lua_arms.specs.Operands.{HasOperands};
+ghost use Rattle.lua_arms.specs.Paid.{behind_node};
+ghost use Rattle.lua_state.specs.Makes.{Makes};
+ghost use Rattle.lua_state.specs.Of.{StateOf};
+ghost use Rattle.lua_state.specs.Seen.{frames_of, slots_of};
+
+use crate::constructors::fields;
+use crate::exits::give;
+use crate::running::{copy_dots, count_dots};
+use lua_arms::index::index_table;
+use lua_arms::operands::begin_operands;
+use lua_code::{Entry, Expression};
+use lua_stack::{Focus, Frame, Given, InExpression};
+use lua_state::{State, Turn, finish, pay};
+use lua_store::{Store, TextId, Value};
+use page_run::Which;
+use std::alloc::Global;
+use wk_base::{Left, NoMemory};
+
+/// A text. It is made in the store where it is not there yet, and nothing is charged for it.
+pub fn text<'m>(store: &mut Store, state: &State<'m>, bytes: &[u8]) -> Result<Turn<'m>, NoMemory>
+    requires { StateOf store.old state.now }
+    ensures { (l : Allowance) → IfOk result (λ r. Makes store.old state.now l store.new state.now l (gives (kind.Text bytes.now ∷ []) (frames_of store.old state.now) (slots_of store.old state.now)) r) }
+{
+    let text = store.text(bytes)?;
+    Ok(give(store, state, Value::Text(text)))
+}
+
+/// The values of `...` are copied.
+fn copied_dots<'m>(alloc: Global, store: &Store, state: &State<'m>) -> Result<Turn<'m>, NoMemory>
+    requires { StateOf store.now state.now }
+    ensures { (l : Allowance) → IfOk result (λ r. Makes store.now state.now l store.now state.now l
+        (gives (function_of (slots_of store.now state.now)).dots (frames_of store.now state.now) (slots_of store.now state.now)) r) }
+{
+    let values = copy_dots(alloc, &state.functions)?;
+    Ok(Turn::On(Focus::Gives(Given::Many(values))))
+}
+
+/// `...` costs a step for each of its values, which are taken before these are copied.
+pub fn dots<'m>(
+    alloc: Global,
+    store: &Store,
+    left: &mut Left,
+    state: &State<'m>,
+) -> Result<Turn<'m>, NoMemory>
+    requires { StateOf store.now state.now }
+    ensures { IfOk result (λ r. Makes store.now state.now left.old store.now state.now left.new
+        (Costs (length (function_of (slots_of store.now state.now)).dots) (gives (function_of (slots_of store.now state.now)).dots (frames_of store.now state.now) (slots_of store.now state.now))) r) }
+{
+    let count = count_dots(&state.functions);
+    if !pay(left, count as u64) {
+        return Ok(Turn::Spent(Which::Steps));
+    }
+    let turn = copied_dots(alloc, store, state)?;
+    Ok(turn)
+}
+
+/// A global variable whose name is this text: an index of the table of global variables (manual 2.3).
+fn global_named<'m>(
+    alloc: Global,
+    store: &mut Store,
+    left: &mut Left,
+    state: &mut State<'m>,
+    name: TextId,
+    line: u32,
+) -> Result<Turn<'m>, NoMemory>
+    requires state { StateOf store.old state.old }
+    requires name { IsTextOf store.old name }
+    ensures { IfOk result (λ r. Makes store.old state.old left.old store.new state.new left.new
+        (indexes (slots_of store.old state.old).globals (kind.Text (text_at store.old.texts name.at)) (Some line) (First ∷ frames_of store.old state.old) (slots_of store.old state.old)) r) }
+{
+    state.frames.push(Frame::Expression(InExpression::First))?;
+    let step = index_table(
+        store,
+        &state.env,
+        state.env.globals,
+        Value::Text(name),
+        Some(line),
+    );
+    let turn = finish(alloc, store, left, state, step)?;
+    Ok(turn)
+}
+
+/// A global variable.
+pub fn global<'m>(
+    alloc: Global,
+    store: &mut Store,
+    left: &mut Left,
+    state: &mut State<'m>,
+    name: &[u8],
+    line: u32,
+) -> Result<Turn<'m>, NoMemory>
+    requires state { StateOf store.old state.old }
+    ensures { IfOk result (λ r. Makes store.old state.old left.old store.new state.new left.new
+        (indexes (slots_of store.old state.old).globals (kind.Text name.now) (Some line) (First ∷ frames_of store.old state.old) (slots_of store.old state.old)) r) }
+{
+    let id = store.text(name)?;
+    let turn = global_named(alloc, store, left, state, id, line)?;
+    Ok(turn)
+}
+
+/// The first entry of a new table.
+fn new_table<'m>(
+    store: &mut Store,
+    state: &mut State<'m>,
+    entries: &'m [Entry],
+    line: u32,
+) -> Result<Turn<'m>, NoMemory>
+    requires state { StateOf store.old state.old }
+    ensures { (l : Allowance) → IfOk result (λ r. Makes store.old state.old l store.new state.new l
+        (machine.fields (one_more_table (slots_of store.old state.old).heap).1 1 (entries_seen entries.now) line (frames_of store.old state.old) (machine.with_table (slots_of store.old state.old))) r) }
+{
+    let table = store.new_table()?;
+    let focus = fields(&mut state.frames, table, 1, entries, line)?;
+    Ok(Turn::On(focus))
+}
+
+/// A table constructor makes a table (manual 2.5.7), at 8 steps, and its first entry is next.
+pub fn constructor<'m>(
+    store: &mut Store,
+    left: &mut Left,
+    state: &mut State<'m>,
+    entries: &'m [Entry],
+    line: u32,
+) -> Result<Turn<'m>, NoMemory>
+    requires state { StateOf store.old state.old }
+    ensures { IfOk result (λ r. Makes store.old state.old left.old store.new state.new left.new
+        (Costs 8 (machine.fields (one_more_table (slots_of store.old state.old).heap).1 1 (entries_seen entries.now) line (frames_of store.old state.old) (machine.with_table (slots_of store.old state.old)))) r) }
+{
+    if !pay(left, 8) {
+        return Ok(Turn::Spent(Which::Steps));
+    }
+    let turn = new_table(store, state, entries, line)?;
+    Ok(turn)
+}
+
+/// The first operand of an expression that has some.
+pub fn operands<'m>(
+    alloc: Global,
+    store: &mut Store,
+    left: &mut Left,
+    state: &mut State<'m>,
+    code: &'m Expression,
+) -> Result<Turn<'m>, NoMemory>
+    requires state { StateOf store.old state.old }
+    requires code { HasOperands (expression_seen code.now) }
+    ensures { IfOk result (λ r. Makes store.old state.old left.old store.new state.new left.new (behind_node (machine.evals (expression_seen code.now) (frames_of store.old state.old) (slots_of store.old state.old))) r) }
+{
+    let step = begin_operands(store, &mut state.frames, code)?;
+    let turn = finish(alloc, store, left, state, step)?;
+    Ok(turn)
+}

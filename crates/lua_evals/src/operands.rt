@@ -1,0 +1,217 @@
+//! What a frame in an expression does with values: indices, operators, calls (manual 2.3, 2.5 and 2.5.8).
+ghost use Rattle.std.specs.Prelude.{◌≡◌, ◌∷◌, [], Some, IfOk};
+ghost use Rattle.lua_code.specs.Seen.{expression_seen, expressions_seen, operator_seen};
+ghost use Rattle.lua_heap.specs.Value as kind;
+ghost use Rattle.lua_slots.specs.Calls as calls;
+ghost use Rattle.lua_slots.specs.Expressions as machine;
+ghost use Rattle.lua_slots.specs.Index as indices;
+ghost use Rattle.lua_slots.specs.Operators as operators;
+ghost use Rattle.lua_slots.specs.Points.{First, MethodNow};
+ghost use Rattle.lua_store.specs.Parts.{IsOf, IsTextOf};
+ghost use Rattle.lua_store.specs.Seen.{seen, text_at};
+ghost use Rattle.lua_stack.specs.Of.{GivenOf, ValuesOf};
+ghost use Rattle.lua_stack.specs.Seen.{given_seen, values_seen};
+ghost use Rattle.lua_state.specs.Makes.{Makes};
+ghost use Rattle.lua_state.specs.Of.{StateOf};
+ghost use Rattle.lua_state.specs.Seen.{frames_of, slots_of};
+
+use lua_arms::calls::call;
+use lua_arms::index::index;
+use lua_arms::lists;
+use lua_code::{Expression, Operator};
+use lua_operators::{apply, operate};
+use lua_stack::{Frame, Given, InExpression, Values};
+use lua_state::{State, Turn, finish, finish_paid};
+use lua_store::{Store, TextId, Value};
+use lua_syntax::UnaryOp;
+use std::alloc::Global;
+use wk_base::{Left, List, NoMemory};
+
+/// An index at this key, whose first value counts.
+pub fn index_at<'m>(
+    alloc: Global,
+    store: &mut Store,
+    left: &mut Left,
+    state: &mut State<'m>,
+    of: Value,
+    key: Value,
+    line: u32,
+) -> Result<Turn<'m>, NoMemory>
+    requires state { StateOf store.old state.old }
+    requires of { IsOf store.old of }
+    requires key { IsOf store.old key }
+    ensures { IfOk result (λ r. Makes store.old state.old left.old store.new state.new left.new
+        (indices.index (seen store.old.texts of) (seen store.old.texts key) (Some line) (First ∷ frames_of store.old state.old) (slots_of store.old state.old)) r) }
+{
+    state.frames.push(Frame::Expression(InExpression::First))?;
+    let step = index(store, &state.env, of, key, Some(line));
+    let turn = finish(alloc, store, left, state, step)?;
+    Ok(turn)
+}
+
+/// The first operand of `and` or `or`: it is the value, or the second operand is.
+pub fn decide<'m>(
+    alloc: Global,
+    store: &mut Store,
+    left: &mut Left,
+    state: &mut State<'m>,
+    deciding: bool,
+    other: &'m Expression,
+    value: Value,
+) -> Result<Turn<'m>, NoMemory>
+    requires state { StateOf store.old state.old }
+    requires value { IsOf store.old value }
+    ensures { IfOk result (λ r. Makes store.old state.old left.old store.new state.new left.new
+        (machine.choose_operand deciding (expression_seen other.now) (seen store.old.texts value) (frames_of store.old state.old) (slots_of store.old state.old)) r) }
+{
+    let step = lists::choose_operand(store, &mut state.frames, deciding, other, value)?;
+    let turn = finish(alloc, store, left, state, step)?;
+    Ok(turn)
+}
+
+/// An operator whose two operands are evaluated.
+pub fn operate_on<'m>(
+    alloc: Global,
+    store: &mut Store,
+    left: &mut Left,
+    state: &mut State<'m>,
+    op: Operator,
+    values: (Value, Value),
+    line: u32,
+) -> Result<Turn<'m>, NoMemory>
+    requires state { StateOf store.old state.old }
+    requires first { IsOf store.old values.0 }
+    requires second { IsOf store.old values.1 }
+    ensures { IfOk result (λ r. Makes store.old state.old left.old store.new state.new left.new
+        (operators.operate (operator_seen op) (seen store.old.texts values.0) (seen store.old.texts values.1) (Some line) (frames_of store.old state.old) (slots_of store.old state.old)) r) }
+{
+    let paid = operate(
+        alloc,
+        store,
+        &state.env,
+        left,
+        &mut state.frames,
+        op,
+        values,
+        Some(line),
+    )?;
+    let turn = finish_paid(alloc, store, left, state, paid)?;
+    Ok(turn)
+}
+
+/// An operator whose one operand is evaluated.
+pub fn apply_to<'m>(
+    alloc: Global,
+    store: &mut Store,
+    left: &mut Left,
+    state: &mut State<'m>,
+    op: UnaryOp,
+    value: Value,
+    line: u32,
+) -> Result<Turn<'m>, NoMemory>
+    requires state { StateOf store.old state.old }
+    requires value { IsOf store.old value }
+    ensures { IfOk result (λ r. Makes store.old state.old left.old store.new state.new left.new
+        (operators.apply op (seen store.old.texts value) (Some line) (frames_of store.old state.old) (slots_of store.old state.old)) r) }
+{
+    let paid = apply(
+        alloc,
+        store,
+        &state.env,
+        left,
+        &mut state.frames,
+        op,
+        value,
+        Some(line),
+    )?;
+    let turn = finish_paid(alloc, store, left, state, paid)?;
+    Ok(turn)
+}
+
+/// A value is called with these arguments.
+pub fn call_with<'m>(
+    alloc: Global,
+    store: &mut Store,
+    left: &mut Left,
+    state: &mut State<'m>,
+    called: Value,
+    arguments: Given,
+    line: u32,
+) -> Result<Turn<'m>, NoMemory>
+    requires state { StateOf store.old state.old }
+    requires called { IsOf store.old called }
+    requires arguments { GivenOf store.old arguments }
+    ensures { IfOk result (λ r. Makes store.old state.old left.old store.new state.new left.new
+        (calls.call (seen store.old.texts called) (given_seen store.old.texts arguments) (Some line) (frames_of store.old state.old) (slots_of store.old state.old)) r) }
+{
+    let arguments = arguments.into_values(alloc)?;
+    let step = call(store, &state.env, called, arguments, Some(line))?;
+    let turn = finish(alloc, store, left, state, step)?;
+    Ok(turn)
+}
+
+/// A method whose name is this text: an index of its object, which waits to be the first argument (manual 2.5.8).
+fn method_named<'m>(
+    alloc: Global,
+    store: &mut Store,
+    left: &mut Left,
+    state: &mut State<'m>,
+    object: Value,
+    name: TextId,
+    arguments: &'m List<Expression>,
+    line: u32,
+) -> Result<Turn<'m>, NoMemory>
+    requires state { StateOf store.old state.old }
+    requires object { IsOf store.old object }
+    requires name { IsTextOf store.old name }
+    ensures { IfOk result (λ r. Makes store.old state.old left.old store.new state.new left.new
+        (indices.index (seen store.old.texts object) (kind.Text (text_at store.old.texts name.at)) (Some line) (MethodNow (seen store.old.texts object) (expressions_seen arguments.now) line ∷ frames_of store.old state.old) (slots_of store.old state.old)) r) }
+{
+    let frame = InExpression::MethodNow(object, arguments, line);
+    state.frames.push(Frame::Expression(frame))?;
+    let step = index(store, &state.env, object, Value::Text(name), Some(line));
+    let turn = finish(alloc, store, left, state, step)?;
+    Ok(turn)
+}
+
+/// A method of an object.
+pub fn method<'m>(
+    alloc: Global,
+    store: &mut Store,
+    left: &mut Left,
+    state: &mut State<'m>,
+    object: Value,
+    name: &'m [u8],
+    arguments: &'m List<Expression>,
+    line: u32,
+) -> Result<Turn<'m>, NoMemory>
+    requires state { StateOf store.old state.old }
+    requires object { IsOf store.old object }
+    ensures { IfOk result (λ r. Makes store.old state.old left.old store.new state.new left.new
+        (indices.index (seen store.old.texts object) (kind.Text name.now) (Some line) (MethodNow (seen store.old.texts object) (expressions_seen arguments.now) line ∷ frames_of store.old state.old) (slots_of store.old state.old)) r) }
+{
+    let id = store.text(name)?;
+    let turn = method_named(alloc, store, left, state, object, id, arguments, line)?;
+    Ok(turn)
+}
+
+/// An expression of a list is evaluated.
+pub fn more<'m>(
+    alloc: Global,
+    store: &mut Store,
+    left: &mut Left,
+    state: &State<'m>,
+    expressions: &'m [Expression],
+    before: Values,
+    values: Given,
+) -> Result<Turn<'m>, NoMemory>
+    requires state { StateOf store.old state.now }
+    requires before { ValuesOf store.old before }
+    requires values { GivenOf store.old values }
+    ensures { IfOk result (λ r. Makes store.old state.now left.old store.new state.now left.new
+        (machine.more_values (expressions_seen expressions.now) (values_seen store.old.texts before) (given_seen store.old.texts values) (frames_of store.old state.now) (slots_of store.old state.now)) r) }
+{
+    let step = lists::more_values(store, expressions, before, values)?;
+    let turn = finish(alloc, store, left, state, step)?;
+    Ok(turn)
+}

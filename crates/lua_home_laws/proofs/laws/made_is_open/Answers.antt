@@ -1,0 +1,5 @@
+use Rattle.lua_home_laws.proofs.Homes.{made_is_open}
+use Rattle.lua_home_laws.proofs.laws.made_is_open.Goals as goal
+
+pub returns : goal.returns
+returns c = made_is_open

@@ -1,0 +1,156 @@
+-- A PART OF THE MACHINE MAKES A MOVE: from what it says of its own to what is said of the whole.
+use Rattle.std.proofs.Common.{◌≡◌, ◌∙◌, ℕ, ◌+◌, ◌-◌, ◌<◌, ◌≤◌, List, [], ◌∷◌, refl, sym, ap, subst, arith}
+use Rattle.wk_base.specs.declared.left.Left.{Left}
+use Rattle.page_run.specs.State.{Tally}
+use Rattle.page_run.specs.declared.which.Which.TheVariants.{Steps}
+use Rattle.page_run.specs.Outcome.{Goes, Jumps}
+use Rattle.lua_store.specs.Seen.{StoreView}
+use Rattle.lua_store.proofs.Later.{later-itself}
+use Rattle.lua_slots.specs.Code.{CWorld, CExp, ConstantC, DotsC, FunctionC, LocalC, GlobalC, IndexC, CallC, MethodC, TableC, AndC, OrC, OperateC, UnaryC, ParenC}
+use Rattle.lua_slots.specs.Slots.{Slots}
+use Rattle.lua_slots.specs.Points.{SFrame, Point, Gives, Move, Costs, Marks}
+use Rattle.lua_slots.specs.Errors.{node}
+use Rattle.lua_slots.specs.Expressions.{evals}
+use Rattle.lua_slots.specs.Moves.{moves, goes, passes}
+use Rattle.lua_slots.specs.Enact.{Enacted, enact}
+use Rattle.lua_goes.specs.Laws.{GoesOnFrom}
+use Rattle.lua_arms.specs.declared.step.Step.TheVariants as step
+use Rattle.lua_arms.specs.declared.step.Paid.{Paid}
+use Rattle.lua_arms.specs.declared.step.Paid.TheVariants as paid
+use Rattle.lua_arms.specs.Paid.{behind_node, IfSpent}
+use Rattle.lua_stack.specs.declared.frame.Frame.{Frame}
+use Rattle.lua_stack.specs.declared.focus.Focus.{Focus}
+use Rattle.lua_stack.specs.declared.focus.Focus.TheVariants as focus
+use Rattle.lua_stack.specs.declared.focus.Jump.{Jump}
+use Rattle.lua_stack.specs.declared.values.Given.{Given}
+use Rattle.lua_stack.specs.Seen.{frame_seen, frames_seen, given_seen, jump_seen}
+use Rattle.lua_stack.specs.Of.{FrameOf}
+use Rattle.lua_stack.proofs.Raises.{pays, spends}
+use Rattle.lua_state.specs.declared.state.State.{State}
+use Rattle.lua_state.specs.declared.turn.Turn.{Turn}
+use Rattle.lua_state.specs.declared.turn.Turn.TheVariants as turn
+use Rattle.lua_state.specs.Seen.{slots_of, frames_of, funds_of, turn_seen}
+use Rattle.lua_state.specs.Of.{StateOf}
+use Rattle.lua_state.specs.Worlds.{world_seen}
+use Rattle.lua_state.specs.Makes.{Makes, Counts}
+use Rattle.lua_state.proofs.Making.{UnlessOn}
+use Rattle.lua_machine.specs.Moved.{point_of, moved_of, moved_seen, MovesTo}
+use Rattle.lua_machine.proofs.Loops.{as_many}
+
+-- A MOVE THAT COUNTS NOTHING
+pub counted : (s : StoreView) (m : State) (l : Left) (k : ℕ) (t : StoreView) (m' : State) (l' : Left) (mv : Move) (r : Turn) → Makes s m l t m' l' mv r → Counts s m l k t m' l' k mv r
+counted s m l k t m' l' mv r e = record {
+  state = e.state;
+  world = e.world;
+  of = e.of;
+  later = e.later;
+  still = e.still;
+  rises = omega arith;
+  makes = λ told n n' h. subst (λ (i : ℕ). enact mv (funds_of l m told n) ≡ turn_seen t m' r (funds_of l' m' told i)) (as_many k n n' h) (e.makes told n);
+}
+
+-- A STEP IN FRONT, and a node
+pub step_paid : (s : StoreView) (m : State) (l l1 : Left) (k : ℕ) (t : StoreView) (m' : State) (l' : Left) (k' : ℕ) (mv : Move) (r : Turn) → 1 ≤ l.steps → l1 ≡ record l { steps = l.steps - 1 } → Counts s m l1 k t m' l' k' mv r
+    → Counts s m l k t m' l' k' (Costs 1 mv) r
+step_paid s m l l1 k t m' l' k' mv r covered rest e = record {
+  state = e.state;
+  world = e.world;
+  of = e.of;
+  later = e.later;
+  still = e.still;
+  rises = e.rises;
+  makes = λ told n n' h. pays 1 mv (funds_of l m told n) covered ∙ (ap (λ (x : Left). enact mv (funds_of x m told n)) (sym rest) ∙ e.makes told n n' h);
+}
+
+pub mark_counted : (s : StoreView) (m : State) (l : Left) (k : ℕ) (t : StoreView) (m' : State) (l' : Left) (mv : Move) (r : Turn) → Makes s m l t m' l' mv r → Counts s m l k t m' l' (k + 1) (Marks mv) r
+mark_counted s m l k t m' l' mv r e = record {
+  state = e.state;
+  world = e.world;
+  of = e.of;
+  later = e.later;
+  still = e.still;
+  rises = omega arith;
+  makes = λ told n n' h. subst (λ (i : ℕ). enact mv (funds_of l m told (n + 1)) ≡ turn_seen t m' r (funds_of l' m' told i)) (omega (arith, h)) (e.makes told (n + 1));
+}
+
+-- where no step is left
+pub step_spent : (s : StoreView) (m : State) (l l1 : Left) (k : ℕ) (mv : Move) → StateOf s m → l.steps < 1 → l1 ≡ record l { steps = 0 } → Counts s m l k s m l1 k (Costs 1 mv) (turn.Spent Steps)
+step_spent s m l l1 k mv of short rest = record {
+  state = of;
+  world = refl;
+  of = tt;
+  later = later-itself s;
+  still = refl;
+  rises = omega arith;
+  makes = λ told n n' h. spends 1 mv (funds_of l m told n) short ∙ (rw (rest, as_many k n n' h) refl);
+}
+
+-- each expression begins with its node
+pub begins_with_node : (e : CExp) (fs : List SFrame) (s : Slots) → evals e fs s ≡ node (behind_node (evals e fs s))
+begins_with_node (ConstantC v) fs s = refl
+begins_with_node DotsC fs s = refl
+begins_with_node (FunctionC index places) fs s = refl
+begins_with_node (LocalC p) fs s = refl
+begins_with_node (GlobalC x line) fs s = refl
+begins_with_node (IndexC of key line) fs s = refl
+begins_with_node (CallC f args line) fs s = refl
+begins_with_node (MethodC of x args line) fs s = refl
+begins_with_node (TableC cs line) fs s = refl
+begins_with_node (AndC a b) fs s = refl
+begins_with_node (OrC a b) fs s = refl
+begins_with_node (OperateC o a b line) fs s = refl
+begins_with_node (UnaryC o a line) fs s = refl
+begins_with_node (ParenC a) fs s = refl
+
+pub as_move : (s : StoreView) (m : State) (l : Left) (k : ℕ) (t : StoreView) (m' : State) (l' : Left) (k' : ℕ) (mv mv' : Move) (r : Turn) → mv ≡ mv' → Counts s m l k t m' l' k' mv r → Counts s m l k t m' l' k' mv' r
+as_move s m l k t m' l' k' mv mv' r e c = subst (λ (x : Move). Counts s m l k t m' l' k' x r) e c
+
+-- OF THE WHOLE MACHINE
+pub moved_by : (s : StoreView) (m : State) (f : Focus) (l : Left) (k : ℕ) (t : StoreView) (m' : State) (l' : Left) (k' : ℕ) (mv : Move) (r : Turn) → GoesOnFrom (point_of s m f) → moves (world_seen m.codes.world) (point_of s m f) (slots_of s m) ≡ mv
+    → Counts s m l k t m' l' k' mv r → MovesTo s m f l k t m' l' k' (moved_of r)
+moved_by s m f l k t m' l' k' mv (turn.On y) on is e = record {
+  state = e.state;
+  world = e.world;
+  of = e.of;
+  later = e.later;
+  still = tt;
+  rises = e.rises;
+  on = on;
+  makes = λ told n n' h. ap (λ (x : Move). enact x (funds_of l m told n)) is ∙ e.makes told n n' h;
+}
+moved_by s m f l k t m' l' k' mv (turn.Spent w) on is e = record {
+  state = e.state;
+  world = e.world;
+  of = tt;
+  later = e.later;
+  still = e.still;
+  rises = e.rises;
+  on = tt;
+  makes = λ told n n' h. ap (λ (x : Move). enact x (funds_of l m told n)) is ∙ e.makes told n n' h;
+}
+
+-- A FRAME IS TAKEN
+abbrev pub with_frames : State → List Frame → State
+with_frames m frames = record m { frames = frames }
+
+pub popped : (s : StoreView) (m : State) (frame : Frame) (rest : List Frame) → m.frames ≡ frame ∷ rest → StateOf s m → StateOf s (with_frames m rest) × FrameOf s frame
+popped s m frame rest e o =
+    let f = rw e at o.frames in
+    (record { frames = f.1; regs = o.regs; functions = o.functions; env = o.env; modules = o.modules; loaded = o.loaded; scenes = o.scenes; codes = o.codes }, f.0)
+
+module _ (s : StoreView) (m : State) (l : Left) (k : ℕ) (frame : Frame) (rest : List Frame) (t : StoreView) (m' : State) (l' : Left) (r : Turn) (is : m.frames ≡ frame ∷ rest) where
+  over_frames : (mv : Move) → Makes s (with_frames m rest) l t m' l' mv r → Counts s m l k t m' l' k mv r
+  over_frames mv e = counted s m l k t m' l' mv r (record { state = e.state; world = e.world; of = e.of; later = e.later; still = e.still; makes = e.makes })
+
+  pub values_given : (values : Given) → ((world : CWorld) → Makes s (with_frames m rest) l t m' l' (goes world (frame_seen s.texts frame) (given_seen s.texts values) (frames_seen s.texts rest) (slots_of s m)) r) → MovesTo s m (focus.Gives values) l k t m' l' k (moved_of r)
+  values_given values e =
+      moved_by s m (focus.Gives values) l k t m' l' k _ r
+      (subst (λ (fs : List Frame). GoesOnFrom (Gives (Goes (given_seen s.texts values)) (frames_seen s.texts fs))) (sym is) tt)
+      (ap (λ (fs : List Frame). moves (world_seen m.codes.world) (Gives (Goes (given_seen s.texts values)) (frames_seen s.texts fs)) (slots_of s m)) is)
+      (over_frames _ (e (world_seen m.codes.world)))
+
+-- WHERE AN ARM DOES NOT GO ON, the store's objects are as they were.
+pub unless_on : (s u : StoreView) (p : Paid) → IfSpent p (u ≡ s) → UnlessOn p (u.heap ≡ s.heap)
+unless_on s u (paid.Goes (step.On f)) h = tt
+unless_on s u (paid.Goes (step.Fails line f)) h = ap (λ (x : StoreView). x.heap) h
+unless_on s u (paid.Spent which) h = ap (λ (x : StoreView). x.heap) h

@@ -1,0 +1,138 @@
+//! What reaches a frame: each kind of frame goes on with it.
+ghost use Rattle.std.specs.Prelude.{◌≡◌, ◌+◌, ◌<◌, ◌^◌, IfOk};
+ghost use Rattle.lua_slots.specs.Code.{CWorld};
+ghost use Rattle.lua_slots.specs.Moves.{goes, passes};
+ghost use Rattle.lua_stack.specs.Seen.{frame_seen, given_seen, jump_seen};
+ghost use Rattle.lua_stack.specs.Of.{FrameOf, GivenOf, JumpOf};
+ghost use Rattle.lua_state.specs.Seen.{slots_of, frames_of};
+ghost use Rattle.lua_state.specs.Of.{StateOf};
+ghost use Rattle.lua_state.specs.Makes.{Makes};
+
+use crate::stand_ins::{
+    give_assignment, give_constructor, give_end, give_expression, give_loop, give_run,
+    give_statement, hear, pass_end, pass_run, resume,
+};
+use lua_stack::{Focus, Frame, Given, Jump};
+use lua_state::{Outcome, State, Turn};
+use lua_store::Store;
+use std::alloc::Global;
+use wk_base::{Left, NoMemory};
+
+/// A frame that waited gets values. It is taken from the frames already.
+pub fn give_frame<'m>(
+    alloc: Global,
+    store: &mut Store,
+    left: &mut Left,
+    state: &mut State<'m>,
+    frame: Frame<'m>,
+    values: Given,
+) -> Result<Turn<'m>, NoMemory>
+    requires state { StateOf store.old state.old }
+    requires calls { left.old.calls + state.old.calls < 2 ^ 64 }
+    requires frame { FrameOf store.old frame }
+    requires values { GivenOf store.old values }
+    ensures { IfOk result (λ r. (world : CWorld) → Makes store.old state.old left.old store.new state.new left.new (goes world (frame_seen store.old.texts frame.entry) (given_seen store.old.texts values) (frames_of store.old state.old) (slots_of store.old state.old)) r) }
+{
+    match frame {
+        Frame::Expression(frame) => {
+            let turn = give_expression(alloc, store, left, state, frame, values)?;
+            Ok(turn)
+        }
+        Frame::Constructor(frame) => {
+            let turn = give_constructor(alloc, store, left, state, frame, values)?;
+            Ok(turn)
+        }
+        Frame::Assignment(frame) => {
+            let turn = give_assignment(alloc, store, left, state, frame, values)?;
+            Ok(turn)
+        }
+        Frame::Statement(frame) => {
+            let turn = give_statement(alloc, store, left, state, frame, values)?;
+            Ok(turn)
+        }
+        Frame::Loop(frame) => {
+            let turn = give_loop(alloc, store, left, state, frame, values)?;
+            Ok(turn)
+        }
+        Frame::End(frame) => {
+            let turn = give_end(alloc, store, left, state, frame, values)?;
+            Ok(turn)
+        }
+        Frame::Waits(pending, line) => {
+            let turn = resume(
+                alloc,
+                store,
+                left,
+                state,
+                pending,
+                Outcome::Goes(values),
+                line,
+            )?;
+            Ok(turn)
+        }
+        Frame::Hears(asked, line) => {
+            let turn = hear(
+                alloc,
+                store,
+                left,
+                state,
+                asked,
+                Outcome::Goes(values),
+                line,
+            )?;
+            Ok(turn)
+        }
+        Frame::Run(frame) => {
+            let turn = give_run(alloc, store, left, state, frame, values)?;
+            Ok(turn)
+        }
+    }
+}
+
+/// A frame that waited gets a jump, which most pass on.
+pub fn pass_frame<'m>(
+    alloc: Global,
+    store: &mut Store,
+    left: &mut Left,
+    state: &mut State<'m>,
+    frame: Frame<'m>,
+    jump: Jump,
+) -> Result<Turn<'m>, NoMemory>
+    requires state { StateOf store.old state.old }
+    requires calls { left.old.calls + state.old.calls < 2 ^ 64 }
+    requires frame { FrameOf store.old frame }
+    requires jump { JumpOf store.old jump }
+    ensures { IfOk result (λ r. Makes store.old state.old left.old store.new state.new left.new (passes (frame_seen store.old.texts frame.entry) (jump_seen store.old.texts jump) (frames_of store.old state.old) (slots_of store.old state.old)) r) }
+{
+    match frame {
+        Frame::Expression(_) => Ok(Turn::On(Focus::Jumps(jump))),
+        Frame::Constructor(_) => Ok(Turn::On(Focus::Jumps(jump))),
+        Frame::Assignment(_) => Ok(Turn::On(Focus::Jumps(jump))),
+        Frame::Statement(_) => Ok(Turn::On(Focus::Jumps(jump))),
+        Frame::Loop(_) => Ok(Turn::On(Focus::Jumps(jump))),
+        Frame::End(frame) => {
+            let turn = pass_end(alloc, store, left, state, frame, jump)?;
+            Ok(turn)
+        }
+        Frame::Waits(pending, line) => {
+            let turn = resume(
+                alloc,
+                store,
+                left,
+                state,
+                pending,
+                Outcome::Jumps(jump),
+                line,
+            )?;
+            Ok(turn)
+        }
+        Frame::Hears(asked, line) => {
+            let turn = hear(alloc, store, left, state, asked, Outcome::Jumps(jump), line)?;
+            Ok(turn)
+        }
+        Frame::Run(frame) => {
+            let turn = pass_run(alloc, store, left, state, frame, jump)?;
+            Ok(turn)
+        }
+    }
+}

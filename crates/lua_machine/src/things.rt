@@ -1,0 +1,156 @@
+//! Things that begin, whose step is paid.
+ghost use Rattle.std.specs.Prelude.{◌≡◌, ◌+◌, ◌<◌, ◌^◌, IfOk};
+ghost use Rattle.lua_slots.specs.Calls as calls;
+ghost use Rattle.lua_slots.specs.Index as indexing;
+ghost use Rattle.lua_slots.specs.Moves.{begins};
+ghost use Rattle.lua_stack.specs.Seen.{thing_seen, values_seen};
+ghost use Rattle.lua_stack.specs.Of.{ThingOf, ValuesOf};
+ghost use Rattle.lua_state.specs.Seen.{slots_of, frames_of};
+ghost use Rattle.lua_state.specs.Of.{StateOf};
+ghost use Rattle.lua_state.specs.Worlds.{world_seen};
+ghost use Rattle.lua_state.specs.Makes.{Makes, Counts};
+ghost use Rattle.lua_store.specs.Seen.{seen};
+ghost use Rattle.lua_store.specs.Parts.{IsOf};
+
+use crate::stand_ins::{count_turn, each_turn, enter_body, enter_library, repeat_turn, while_turn};
+use lua_arms::calls::call;
+use lua_arms::index::index_link;
+use lua_arms::setting::set_link;
+use lua_stack::{Thing, Values};
+use lua_state::{State, Turn, finish, finish_paid};
+use lua_store::{Store, Value};
+use std::alloc::Global;
+use std::sync::ledger::Ledger;
+use wk_base::{Left, NoMemory, Steps};
+
+/// A link of a chain of handlers for an index.
+fn link_index<'m>(
+    alloc: Global,
+    store: &mut Store,
+    left: &mut Left,
+    state: &mut State<'m>,
+    link: (Value, Value, Value),
+    line: Option<u32>,
+) -> Result<Turn<'m>, NoMemory>
+    requires state { StateOf store.old state.old }
+    requires object { IsOf store.old link.0 }
+    requires handler { IsOf store.old link.1 }
+    requires key { IsOf store.old link.2 }
+    ensures { IfOk result (λ r. Makes store.old state.old left.old store.new state.new left.new (indexing.index_link (seen store.old.texts link.0) (seen store.old.texts link.1) (seen store.old.texts link.2) line (frames_of store.old state.old) (slots_of store.old state.old)) r) }
+{
+    let (object, handler, key) = link;
+    let step = index_link(alloc, store, &state.env, object, handler, key, line)?;
+    let turn = finish(alloc, store, left, state, step)?;
+    Ok(turn)
+}
+
+/// A link of a chain of handlers for an assignment.
+fn link_set<'m>(
+    alloc: Global,
+    store: &mut Store,
+    left: &mut Left,
+    state: &mut State<'m>,
+    link: (Value, Value, Value, Value),
+    line: Option<u32>,
+) -> Result<Turn<'m>, NoMemory>
+    requires state { StateOf store.old state.old }
+    requires object { IsOf store.old link.0 }
+    requires handler { IsOf store.old link.1 }
+    requires key { IsOf store.old link.2 }
+    requires value { IsOf store.old link.3 }
+    ensures { IfOk result (λ r. Makes store.old state.old left.old store.new state.new left.new (indexing.set_link (seen store.old.texts link.0) (seen store.old.texts link.1) (seen store.old.texts link.2) (seen store.old.texts link.3) line (frames_of store.old state.old) (slots_of store.old state.old)) r) }
+{
+    let (object, handler, key, value) = link;
+    let paid = set_link(
+        alloc,
+        store,
+        &state.env,
+        left,
+        object,
+        handler,
+        (key, value),
+        line,
+    )?;
+    let turn = finish_paid(alloc, store, left, state, paid)?;
+    Ok(turn)
+}
+
+/// A link of a chain of handlers for a call.
+fn link_call<'m>(
+    alloc: Global,
+    store: &mut Store,
+    left: &mut Left,
+    state: &mut State<'m>,
+    handler: Value,
+    arguments: Values,
+    line: Option<u32>,
+) -> Result<Turn<'m>, NoMemory>
+    requires state { StateOf store.old state.old }
+    requires handler { IsOf store.old handler }
+    requires arguments { ValuesOf store.old arguments }
+    ensures { IfOk result (λ r. Makes store.old state.old left.old store.new state.new left.new (calls.call (seen store.old.texts handler) (values_seen store.old.texts arguments) line (frames_of store.old state.old) (slots_of store.old state.old)) r) }
+{
+    let step = call(store, &state.env, handler, arguments, line)?;
+    let turn = finish(alloc, store, left, state, step)?;
+    Ok(turn)
+}
+
+/// What begins at a step of its own.
+pub fn begin<'m, L: Ledger>(
+    alloc: Global,
+    store: &mut Store,
+    left: &mut Left,
+    state: &mut State<'m>,
+    thing: Thing<'m>,
+    turns: &mut Steps<L>,
+) -> Result<Turn<'m>, NoMemory>
+    requires state { StateOf store.old state.old }
+    requires calls { left.old.calls + state.old.calls < 2 ^ 64 }
+    requires thing { ThingOf store.old thing }
+    ensures { IfOk result (λ r. Counts store.old state.old left.old turns.old store.new state.new left.new turns.new (begins (world_seen state.old.codes.world) (thing_seen store.old thing.entry) (frames_of store.old state.old) (slots_of store.old state.old)) r) }
+{
+    match thing {
+        Thing::WhileTurn(test, body) => {
+            let turn = while_turn(alloc, store, left, state, test, body, turns)?;
+            Ok(turn)
+        }
+        Thing::RepeatTurn(body, test) => {
+            let turn = repeat_turn(alloc, store, left, state, body, test, turns)?;
+            Ok(turn)
+        }
+        Thing::CountTurn(boxed, index, limit, step, body) => {
+            let range = (index, limit, step);
+            let turn = count_turn(alloc, store, left, state, boxed, range, body, turns)?;
+            Ok(turn)
+        }
+        Thing::EachTurn(flags, iterator, by, results, body, line) => {
+            let values = (iterator, by);
+            let turn = each_turn(
+                alloc, store, left, state, flags, values, results, body, line, turns,
+            )?;
+            Ok(turn)
+        }
+        Thing::Body(callee, arguments, line) => {
+            let turn = enter_body(alloc, store, left, state, callee, arguments, line, turns)?;
+            Ok(turn)
+        }
+        Thing::Library(which, arguments, line) => {
+            let turn = enter_library(alloc, store, left, state, which, arguments, line, turns)?;
+            Ok(turn)
+        }
+        Thing::IndexLink(object, handler, key, line) => {
+            let link = (object, handler, key);
+            let turn = link_index(alloc, store, left, state, link, line)?;
+            Ok(turn)
+        }
+        Thing::SetLink(object, handler, key, value, line) => {
+            let link = (object, handler, key, value);
+            let turn = link_set(alloc, store, left, state, link, line)?;
+            Ok(turn)
+        }
+        Thing::CallLink(handler, arguments, line) => {
+            let turn = link_call(alloc, store, left, state, handler, arguments, line)?;
+            Ok(turn)
+        }
+    }
+}

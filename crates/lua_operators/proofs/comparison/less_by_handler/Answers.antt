@@ -1,0 +1,12 @@
+use Rattle.std.proofs.Common.{◌∙◌, ap}
+use Rattle.lua_store.specs.Seen.{seen}
+use Rattle.lua_slots.specs.Operators as machine
+use Rattle.lua_stack.specs.Seen.{frames_seen}
+use Rattle.lua_operators.proofs.Orders.{handler_as}
+use Rattle.lua_operators.proofs.comparison.less_by_handler.Goals as goal
+
+pub returns-clause-move_ : goal.returns-clause-move_
+returns-clause-move_ c = λ s h.
+    ap (λ v. machine.less_by v (seen c.args.store.now.texts c.args.operands.0) (seen c.args.store.now.texts c.args.operands.1) c.args.line (frames_seen c.args.store.now.texts c.args.frames.now) s)
+    (handler_as c.args.store.now.heap s.heap _ _ _ _ _ h c.requires.env.less.1 c.common_handler-handler.ensures.value)
+    ∙ c.in_ok-step.ensures.move_ s h

@@ -1,0 +1,36 @@
+//! Lengths (manual 2.5.5).
+ghost use Rattle.std.specs.Prelude.{◌≡◌, List};
+ghost use Rattle.lua_store.specs.Seen.{seen};
+ghost use Rattle.lua_store.specs.Parts.{IsOf};
+ghost use Rattle.lua_slots.specs.Slots.{Slots};
+ghost use Rattle.lua_slots.specs.Points.{SFrame};
+ghost use Rattle.lua_slots.specs.Operators as machine;
+ghost use Rattle.lua_arms.specs.Steps.{step_seen, StepOf};
+
+use lua_arms::{Failure, Step};
+use lua_stack::{Focus, Given};
+use lua_store::{Store, Value};
+
+/// The length of a text or a table (manual 2.5.5).
+pub fn length_of<'m>(store: &Store, value: Value, line: Option<u32>) -> Step<'m>
+    requires { IsOf store.now value }
+    ensures of { StepOf store.now result }
+    ensures move_ { (fs : List SFrame) (s : Slots) → s.heap ≡ store.now.heap → machine.length_of (seen store.now.texts value) line fs s ≡ step_seen store.now result fs s }
+{
+    match value {
+        Value::Text(text) => {
+            let length = store.bytes(text).len() as i64;
+            Step::On(Focus::Gives(Given::One(Value::Number(length))))
+        }
+        Value::Table(table) => {
+            let length = store.border(table);
+            Step::On(Focus::Gives(Given::One(Value::Number(length))))
+        }
+        Value::Nil => Step::Fails(line, Failure::NoLength(value)),
+        Value::Bool(_) => Step::Fails(line, Failure::NoLength(value)),
+        Value::Number(_) => Step::Fails(line, Failure::NoLength(value)),
+        Value::Closure(_) => Step::Fails(line, Failure::NoLength(value)),
+        Value::Builtin(_) => Step::Fails(line, Failure::NoLength(value)),
+        Value::Markup(_) => Step::Fails(line, Failure::NoLength(value)),
+    }
+}

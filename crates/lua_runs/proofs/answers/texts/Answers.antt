@@ -1,0 +1,22 @@
+use Rattle.std.proofs.Common.{◌∙◌, ap, sym, subst, length}
+use Rattle.std.specs.Prelude.{◌∷◌, []}
+use Rattle.lua_store.specs.Seen.{seen}
+use Rattle.lua_slots.specs.Starts.{texts}
+use Rattle.lua_stack.specs.Of.{TextsOf}
+use Rattle.lua_stack.specs.Seen.{values_seen, joined_seen}
+use Rattle.lua_stack.proofs.Openings.{first_of}
+use Rattle.lua_state.specs.Seen.{slots_of, frames_of}
+use Rattle.lua_state.specs.Makes.{Makes}
+use Rattle.lua_runs.proofs.Behind.{opened, closed, rest_of}
+use Rattle.lua_runs.proofs.answers.texts.Goals as goal
+
+pub next_text-requires-clause-value : goal.next_text-requires-clause-value
+next_text-requires-clause-value c = first_of c.args.store.now c.args.values c.take_first-value.result c.take_first-value.ensures.first c.requires.values
+
+pub next_text-requires-clause-values : goal.next_text-requires-clause-values
+next_text-requires-clause-values c = rest_of c.args.store.now c.args.values c.take_first-value.new.self c.take_first-value.ensures.rest c.requires.values
+
+pub returns : goal.returns
+returns c =
+    subst (λ vs. Makes c.args.store.now c.args.state.now c.args.left.now c.next_text.new.store c.next_text.new.state c.next_text.new.left (texts vs (joined_seen c.args.store.now.texts c.args.before) (frames_of c.args.store.now c.args.state.now) (slots_of c.args.store.now c.args.state.now)) c.in_ok-turn-2.turn)
+    (sym (opened c.args.store.now.texts c.args.values c.take_first-value.new.self c.take_first-value.result (λ e. c.if-len-eq0.false (c.len.ensures ∙ e)) c.take_first-value.ensures.first c.take_first-value.ensures.rest)) c.in_ok-turn-2.ensures

@@ -1,0 +1,95 @@
+-- What a machine holds is of each later store, and is seen there as it was, but for the heap.
+use Rattle.std.proofs.Common.{◌≡◌, ◌∙◌, refl, ℕ, List, map, ap, arith}
+use Rattle.std.specs.List.{AllByRecursion}
+use Rattle.wk_base.specs.declared.title.Title.{Title}
+use Rattle.lua_heap.specs.Proc.{Proc}
+use Rattle.lua_heap.specs.Heap.{Heap}
+use Rattle.lua_meaning.specs.Acts as act
+use Rattle.lua_store.specs.declared.value.Value.{Value}
+use Rattle.lua_store.specs.declared.ids.TextId.{TextId}
+use Rattle.lua_store.specs.Seen.{StoreView, seen, text_at}
+use Rattle.lua_store.specs.Parts.{IsOf, IsTextOf, IsLater}
+use Rattle.lua_store.proofs.Later.{of-later, seen-later, text_of-later}
+use Rattle.lua_store.proofs.Lists.{all-to, map-alike}
+use Rattle.lua_code.specs.declared.proto.Protos.{Protos}
+use Rattle.lua_slots.specs.Code.{CWorld}
+use Rattle.lua_slots.specs.Slots.{Slots, with_heap}
+use Rattle.lua_stack.proofs.Stay.{registers_later, registers_as, activations_later, activations_as, frames_later, frames_as, environment_later}
+use Rattle.lua_titled.specs.Seen.{titled_by, by_title}
+use Rattle.mw_frames.specs.declared.scenes.SceneFrame.{SceneFrame}
+use Rattle.mw_frames.specs.declared.scenes.Scenes.{Scenes}
+use Rattle.mw_frames.specs.Scenes.{made, FrameOf, NamesOf, IsNameOf, ScenesOf}
+use Rattle.lua_state.specs.declared.codes.Codes.{Codes}
+use Rattle.lua_state.specs.declared.progress.Progress.{Progress}
+use Rattle.lua_state.specs.declared.progress.Progress.TheVariants as progress
+use Rattle.lua_state.specs.declared.state.State.{State}
+use Rattle.lua_state.specs.Seen.{progress_seen, slots_of, frames_of}
+use Rattle.lua_state.specs.Of.{ProgressOf, StateOf}
+use Rattle.lua_state.specs.Worlds.{world_seen, IsFound, CodesOf}
+use Rattle.lua_state.specs.Laws.{StateStays}
+
+module _ (s t : StoreView) (l : IsLater s t) where
+  progress_later : (p : Progress) → ProgressOf s p → ProgressOf t p
+  progress_later progress.Running h = tt
+  progress_later (progress.Finished v) h = of-later s t l v h
+
+  progress_stays : (p : Progress) → ProgressOf s p → progress_seen t.texts p ≡ progress_seen s.texts p
+  progress_stays progress.Running h = refl
+  progress_stays (progress.Finished v) h = ap act.Finished (seen-later s t l v h)
+
+  modules_as : (ms : List (Title × Progress)) → AllByRecursion (λ (x : Title × Progress). ProgressOf s x.1) ms → by_title (progress_seen t.texts) ms ≡ by_title (progress_seen s.texts) ms
+  modules_as ms h = map-alike (λ (x : Title × Progress). ProgressOf s x.1) (titled_by (progress_seen t.texts)) (titled_by (progress_seen s.texts)) (λ x k. rw (progress_stays x.1 k) refl) ms h
+
+  loaded_as : (vs : List (Title × Value)) → AllByRecursion (λ (x : Title × Value). IsOf s x.1) vs → by_title (seen t.texts) vs ≡ by_title (seen s.texts) vs
+  loaded_as vs h = map-alike (λ (x : Title × Value). IsOf s x.1) (titled_by (seen t.texts)) (titled_by (seen s.texts)) (λ x k. rw (seen-later s t l x.1 k) refl) vs h
+
+  -- FRAMES of the run
+  name_later : (id : TextId) (name : List ℕ) → IsNameOf s id name → IsNameOf t id name
+  name_later id name h = (text_of-later s t l id h.0, l.texts.same id.at h.0 ∙ h.1)
+
+  scene_later : (f : SceneFrame) → FrameOf s f → FrameOf t f
+  scene_later f h = record { table = omega (arith, h.table, l.tables); names = h.names; parent = h.parent }
+
+  scenes_later : (x : Scenes) → ScenesOf s x → ScenesOf t x
+  scenes_later x h = record {
+    frames = all-to (FrameOf s) (FrameOf t) scene_later (made x) h.frames;
+    names = record {
+      args = name_later x.names.args _ h.names.args;
+      title = name_later x.names.title _ h.names.title;
+      name = name_later x.names.name _ h.names.name;
+      text = name_later x.names.text _ h.names.text;
+      content = name_later x.names.content _ h.names.content;
+    };
+  }
+
+  -- CODE that was found
+  found_later : (w : CWorld) (source : TextId) (functions : Protos) → IsFound w s source functions → IsFound w t source functions
+  found_later w source functions h = record { of = text_of-later s t l source h.of; size = h.size; code = ap w.modules (l.texts.same source.at h.of) ∙ h.code }
+
+  codes_later : (c : Codes) → CodesOf s c → CodesOf t c
+  codes_later c h = record { all = all-to (λ e. IsFound (world_seen c.world) s e.0 e.1.now) (λ e. IsFound (world_seen c.world) t e.0 e.1.now) (λ e k. found_later (world_seen c.world) e.0 e.1.now k) c.known.entries h.all }
+
+  pub state_later : (m : State) → StateOf s m → StateOf t m
+  state_later m h = record {
+    frames = frames_later s t l m.frames h.frames;
+    regs = registers_later s t l m.regs h.regs;
+    functions = activations_later s t l m.functions h.functions;
+    env = environment_later s t l m.env h.env;
+    modules = all-to (λ (x : Title × Progress). ProgressOf s x.1) (λ (x : Title × Progress). ProgressOf t x.1) (λ x k. progress_later x.1 k) m.modules h.modules;
+    loaded = all-to (λ (x : Title × Value). IsOf s x.1) (λ (x : Title × Value). IsOf t x.1) (λ x k. of-later s t l x.1 k) m.loaded h.loaded;
+    scenes = scenes_later m.scenes h.scenes;
+    codes = codes_later m.codes h.codes;
+  }
+
+  pub frames_stay : (m : State) → StateOf s m → frames_of t m ≡ frames_of s m
+  frames_stay m h = frames_as s t l m.frames h.frames
+
+  pub slots_stay : (m : State) → StateOf s m → slots_of t m ≡ with_heap t.heap (slots_of s m)
+  slots_stay m h = rw (modules_as m.modules h.modules, loaded_as m.loaded h.loaded, registers_as s t l m.regs h.regs, activations_as s t l m.functions h.functions) refl
+
+  -- the store's objects are as they were, and so is all
+  pub slots_same : (m : State) → StateOf s m → t.heap ≡ s.heap → slots_of t m ≡ slots_of s m
+  slots_same m h e = slots_stay m h ∙ ap (λ (x : Heap Proc). with_heap x (slots_of s m)) e
+
+pub state_stays : StateStays
+state_stays s t m l h = (state_later s t l m h, frames_stay s t l m h, slots_stay s t l m h)

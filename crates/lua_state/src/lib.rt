@@ -1,0 +1,33 @@
+//! What a machine of Lua holds, together; and how a move ends.
+//!
+//! - `codes`: the modules of a run, and their code
+//! - `outcome`: what reaches a frame
+//! - `progress`: modules that were required
+//! - `state`: what a machine holds beside the store
+//! - `turn`: what a move comes to
+//! - `charges`: steps that are taken, calls that are entered and left
+//! - `ending`: the end of a move, with the message of what failed
+//! - `messages`: the texts of what failed
+//! - `laws`: what a machine holds stays while its store grows
+//!
+//! Begin with `specs/Makes.antt`: that code makes a move of `lua_slots`. `specs/Seen.antt` says what a machine is seen as, and
+//! `proofs/Making.antt` how a move is made of parts.
+#![tactic(auto)]
+
+pub mod charges;
+pub mod codes;
+pub mod ending;
+pub mod laws;
+mod messages;
+pub mod outcome;
+pub mod progress;
+pub mod state;
+pub mod turn;
+
+pub use charges::{enter_call, leave_call, pay, pay_node};
+pub use codes::{Codes, World};
+pub use ending::{fail, finish, finish_paid};
+pub use outcome::Outcome;
+pub use progress::Progress;
+pub use state::State;
+pub use turn::Turn;
