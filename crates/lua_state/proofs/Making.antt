@@ -1,5 +1,5 @@
 -- HOW A MOVE IS MADE OF PARTS: of what code did before, and of a move that is made from there.
-use Rattle.std.proofs.Common.{◌≡◌, ◌∙◌, refl, sym, ap, arith, ℕ, ◌+◌, ◌≤◌}
+use Rattle.std.proofs.Common.{◌≡◌, ◌∙◌, refl, sym, ap, arith, ℕ, ◌+◌, ◌≤◌, ◌⊎◌, inl, inr}
 use Rattle.wk_base.specs.declared.left.Left.{Left}
 use Rattle.page_run.specs.declared.which.Which.{Which}
 use Rattle.page_run.specs.State.{Tally, no_tally}
@@ -9,6 +9,7 @@ use Rattle.lua_store.proofs.Later.{later-itself, later-then}
 use Rattle.lua_slots.specs.Slots.{Slots, with_heap}
 use Rattle.lua_slots.specs.Points.{Move, Marks, Now}
 use Rattle.lua_slots.specs.Enact.{Funds, all_given_back, Enacted, Stands, Short, enact}
+use Rattle.lua_goes.specs.Going.{led}
 use Rattle.lua_stack.specs.declared.focus.Focus.{Focus}
 use Rattle.lua_stack.specs.Seen.{focus_seen}
 use Rattle.lua_stack.specs.Of.{FocusOf}
@@ -23,7 +24,7 @@ use Rattle.lua_state.specs.declared.turn.Turn.{Turn}
 use Rattle.lua_state.specs.declared.turn.Turn.TheVariants as turn
 use Rattle.lua_state.specs.Seen.{slots_of, frames_of, funds_of, turn_seen}
 use Rattle.lua_state.specs.Of.{StateOf, TurnOf}
-use Rattle.lua_state.specs.Makes.{IfSpent, Makes, Counts}
+use Rattle.lua_state.specs.Makes.{IfSpent, IsStill, Makes, Counts, LateMakes, LateCounts}
 use Rattle.lua_state.proofs.Staying.{state_later, frames_stay, slots_stay}
 
 -- what is told and left, of states with the same calls
@@ -153,6 +154,73 @@ counts_none s t m m' l l' k k' mv r q made = record {
 
 pub counts_mark : (s t : StoreView) (m m' : State) (l l' : Left) (k j k' : ℕ) (mv : Move) (r : Turn) → j ≡ k + 1 → Counts s m l j t m' l' k' mv r → Counts s m l k t m' l' k' (Marks mv) r
 counts_mark s t m m' l l' k j k' mv r q made = record {
+  state = made.state;
+  world = made.world;
+  of = made.of;
+  later = made.later;
+  still = made.still;
+  rises = let up = made.rises in omega (arith, q, up);
+  makes = λ told n n' e. made.makes told (n + 1) n' (omega (arith, q, e));
+}
+
+-- LATE CHARGES: a move whose store is as it was where an allowance is spent is one of these
+still_late : (s t : StoreView) (mv : Move) (r : Turn) → IfSpent r (t.heap ≡ s.heap) → IfSpent r (IsStill s t mv)
+still_late s t mv (turn.On focus) e = tt
+still_late s t mv (turn.Spent which) e = inl e
+
+pub makes_late : (s t : StoreView) (m m' : State) (l l' : Left) (mv : Move) (r : Turn) → Makes s m l t m' l' mv r → LateMakes s m l t m' l' mv r
+makes_late s t m m' l l' mv r made = record { state = made.state; world = made.world; of = made.of; later = made.later; still = still_late s t mv r made.still; makes = made.makes }
+
+pub counts_late : (s t : StoreView) (m m' : State) (l l' : Left) (k k' : ℕ) (mv : Move) (r : Turn) → Counts s m l k t m' l' k' mv r → LateCounts s m l k t m' l' k' mv r
+counts_late s t m m' l l' k k' mv r made = record { state = made.state; world = made.world; of = made.of; later = made.later; still = still_late s t mv r made.still; rises = made.rises; makes = made.makes }
+
+-- after parts: these had not changed the store's objects, or the move from there leads to the store's objects as they are where an
+-- allowance is spent
+still_then : (s u t : StoreView) (mv nv : Move) (r : Turn) → IfSpent r (u.heap ≡ s.heap) → (led mv).heap ≡ (led nv).heap → IfSpent r (IsStill u t nv) → IfSpent r (IsStill s t mv)
+still_then s u t mv nv (turn.On focus) b same a = tt
+still_then s u t mv nv (turn.Spent which) b same (inl e) = inl (e ∙ b)
+still_then s u t mv nv (turn.Spent which) b same (inr e) = inr (e ∙ sym same)
+
+pub late_after : (s u t : StoreView) (m n m' : State) (l k l' : Left) (mv nv : Move) (r : Turn) → n.codes.world ≡ m.codes.world → IsLater s u → IfSpent r (u.heap ≡ s.heap) → (led mv).heap ≡ (led nv).heap
+    → ((told : Tally) (i : ℕ) → enact mv (funds_of l m told i) ≡ enact nv (funds_of k n told i)) → LateMakes u n k t m' l' nv r → LateMakes s m l t m' l' mv r
+late_after s u t m n m' l k l' mv nv r w later still same e made = record {
+  state = made.state;
+  world = made.world ∙ w;
+  of = made.of;
+  later = later-then s u t later made.later;
+  still = still_then s u t mv nv r still same made.still;
+  makes = λ told i. e told i ∙ made.makes told i;
+}
+
+-- parts that changed the store's objects to those to which the move leads
+changed_then : (s u t : StoreView) (mv : Move) (r : Turn) → u.heap ≡ (led mv).heap → IfSpent r (t.heap ≡ u.heap) → IfSpent r (IsStill s t mv)
+changed_then s u t mv (turn.On focus) same e = tt
+changed_then s u t mv (turn.Spent which) same e = inr (e ∙ same)
+
+pub late_changed : (s u t : StoreView) (m n m' : State) (l k l' : Left) (mv nv : Move) (r : Turn) → n.codes.world ≡ m.codes.world → IsLater s u → u.heap ≡ (led mv).heap
+    → ((told : Tally) (i : ℕ) → enact mv (funds_of l m told i) ≡ enact nv (funds_of k n told i)) → Makes u n k t m' l' nv r → LateMakes s m l t m' l' mv r
+late_changed s u t m n m' l k l' mv nv r w later same e made = record {
+  state = made.state;
+  world = made.world ∙ w;
+  of = made.of;
+  later = later-then s u t later made.later;
+  still = changed_then s u t mv r same made.still;
+  makes = λ told i. e told i ∙ made.makes told i;
+}
+
+pub late_counts_none : (s t : StoreView) (m m' : State) (l l' : Left) (k k' : ℕ) (mv : Move) (r : Turn) → k' ≡ k → LateMakes s m l t m' l' mv r → LateCounts s m l k t m' l' k' mv r
+late_counts_none s t m m' l l' k k' mv r q made = record {
+  state = made.state;
+  world = made.world;
+  of = made.of;
+  later = made.later;
+  still = made.still;
+  rises = omega (arith, q);
+  makes = λ told n n' e. let same : n ≡ n' = omega (arith, q, e) in made.makes told n ∙ ap (λ i. turn_seen t m' r (funds_of l' m' told i)) same;
+}
+
+pub late_counts_mark : (s t : StoreView) (m m' : State) (l l' : Left) (k j k' : ℕ) (mv : Move) (r : Turn) → j ≡ k + 1 → LateCounts s m l j t m' l' k' mv r → LateCounts s m l k t m' l' k' (Marks mv) r
+late_counts_mark s t m m' l l' k j k' mv r q made = record {
   state = made.state;
   world = made.world;
   of = made.of;

@@ -1,11 +1,12 @@
 -- THAT CODE MAKES A MOVE of `lua_slots`: from a store, a state and what is left to those after it, with what comes next.
-use Rattle.std.specs.Prelude.{◌≡◌, ◌≤◌, ◌+◌, ℕ}
+use Rattle.std.specs.Prelude.{◌≡◌, ◌≤◌, ◌+◌, ◌⊎◌, ℕ}
 use Rattle.wk_base.specs.declared.left.Left.{Left}
 use Rattle.page_run.specs.State.{Tally}
 use Rattle.lua_store.specs.Seen.{StoreView}
 use Rattle.lua_store.specs.Parts.{IsLater}
 use Rattle.lua_slots.specs.Points.{Move}
 use Rattle.lua_slots.specs.Enact.{enact}
+use Rattle.lua_goes.specs.Going.{led}
 use Rattle.lua_state.specs.declared.state.State.{State}
 use Rattle.lua_state.specs.declared.turn.Turn.{Turn}
 use Rattle.lua_state.specs.declared.turn.Turn.TheVariants as turn
@@ -33,5 +34,27 @@ pub record Counts (s : StoreView) (m : State) (l : Left) (k : ℕ) (t : StoreVie
   pub of : TurnOf t r
   pub later : IsLater s t
   pub still : IfSpent r (t.heap ≡ s.heap)
+  pub rises : k ≤ k'
+  pub makes : (told : Tally) (n n' : ℕ) → k' + n ≡ k + n' → enact mv (funds_of l m told n) ≡ turn_seen t m' r (funds_of l' m' told n')
+
+-- WHERE CODE CHANGES THE STORE BEFORE ITS LAST CHARGE: where an allowance is spent the objects of the store are as they were, or those
+-- to which the move would have led.
+abbrev pub IsStill : StoreView → StoreView → Move → Type 0
+IsStill s t mv = (t.heap ≡ s.heap) ⊎ (t.heap ≡ (led mv).heap)
+
+pub record LateMakes (s : StoreView) (m : State) (l : Left) (t : StoreView) (m' : State) (l' : Left) (mv : Move) (r : Turn) : Type 0 where
+  pub state : StateOf t m'
+  pub world : m'.codes.world ≡ m.codes.world
+  pub of : TurnOf t r
+  pub later : IsLater s t
+  pub still : IfSpent r (IsStill s t mv)
+  pub makes : (told : Tally) (n : ℕ) → enact mv (funds_of l m told n) ≡ turn_seen t m' r (funds_of l' m' told n)
+
+pub record LateCounts (s : StoreView) (m : State) (l : Left) (k : ℕ) (t : StoreView) (m' : State) (l' : Left) (k' : ℕ) (mv : Move) (r : Turn) : Type 0 where
+  pub state : StateOf t m'
+  pub world : m'.codes.world ≡ m.codes.world
+  pub of : TurnOf t r
+  pub later : IsLater s t
+  pub still : IfSpent r (IsStill s t mv)
   pub rises : k ≤ k'
   pub makes : (told : Tally) (n n' : ℕ) → k' + n ≡ k + n' → enact mv (funds_of l m told n) ≡ turn_seen t m' r (funds_of l' m' told n')
