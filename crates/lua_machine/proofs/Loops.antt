@@ -1,5 +1,5 @@
 -- MOVES ONE AFTER ANOTHER, in the forms of the loops.
-use Rattle.std.proofs.Common.{◌≡◌, ℕ, ◌+◌, ◌-◌, ◌<◌, ◌≤◌, ◌∙◌, refl, sym, subst, arith}
+use Rattle.std.proofs.Common.{◌≡◌, ℕ, ◌+◌, ◌-◌, ◌<◌, ◌≤◌, ◌∙◌, ◌⊎◌, inl, inr, refl, sym, subst, arith}
 use Rattle.wk_base.specs.declared.left.Left.{Left}
 use Rattle.page_run.specs.State.{Tally, no_tally}
 use Rattle.lua_store.specs.Seen.{StoreView}
@@ -23,6 +23,7 @@ use Rattle.lua_state.specs.declared.codes.World.{World}
 use Rattle.lua_state.specs.Seen.{slots_of, funds_of}
 use Rattle.lua_state.specs.Of.{StateOf}
 use Rattle.lua_state.specs.Worlds.{world_seen}
+use Rattle.lua_state.specs.Makes.{IsStill}
 use Rattle.lua_machine.specs.declared.moving.Moved.{Moved}
 use Rattle.lua_machine.specs.declared.moving.Moved.TheVariants as moved
 use Rattle.lua_machine.specs.Moved.{point_of, moved_seen, IfSpent, MovesTo}
@@ -41,11 +42,12 @@ come_then r (is_asking q fs t g x) = is_asking q fs t g (reach_then r x)
 
 -- one move more
 more : (world : CWorld) (p : Point) (s : Slots) (f : Funds) (a : StoreView) (m : State) (x : Focus) (g : Funds) (b : StoreView) (m' : State) (r : Moved) (g' : Funds) → Reaches world p s f (point_of a m x) (slots_of a m) g
-    → IfSpent r (b.heap ≡ a.heap) → enact (moves world (point_of a m x) (slots_of a m)) g ≡ moved_seen b m' r g' → Led world p s f b m' r g'
+    → IfSpent r (IsStill a b (moves world (point_of a m x) (slots_of a m))) → enact (moves world (point_of a m x) (slots_of a m)) g ≡ moved_seen b m' r g' → Led world p s f b m' r g'
 more world p s f a m x g b m' (moved.On y) g' c st e = further _ _ _ _ _ _ c e
 more world p s f a m x g b m' (moved.Over o) g' c st e = further _ _ _ _ _ _ c e
 more world p s f a m x g b m' (moved.Asks q) g' c st e = further _ _ _ _ _ _ c e
-more world p s f a m x g b m' (moved.Spent w) g' c st e = subst (λ (h : Heap Proc). Comes world p s f (Lacks w h (all_given_back g'))) (sym st) (is_short _ _ _ w (all_given_back g') c e)
+more world p s f a m x g b m' (moved.Spent w) g' c (inl st) e = subst (λ (h : Heap Proc). Comes world p s f (Lacks w h (all_given_back g'))) (sym st) (is_short _ _ _ w (all_given_back g') c e)
+more world p s f a m x g b m' (moved.Spent w) g' c (inr st) e = subst (λ (h : Heap Proc). Comes world p s f (Lacks w h (all_given_back g'))) (sym st) (is_short_late _ _ _ w (all_given_back g') c e)
 
 led_then : (world : CWorld) (p : Point) (s : Slots) (f : Funds) (q : Point) (t : Slots) (g : Funds) (b : StoreView) (m : State) (r : Moved) (g' : Funds) → Reaches world p s f q t g → Led world q t g b m r g' → Led world p s f b m r g'
 led_then world p s f q t g b m (moved.On y) g' c x = reach_then c x
@@ -77,7 +79,8 @@ module _ (a : StoreView) (m : State) (x : Focus) (l : Left) (k : ℕ) (b : Store
     rises = omega (arith, c.rises, e.rises);
     led = λ told n n' h.
         let j : ℕ = k' + n - k in
-        more (world_seen m.codes.world) _ _ _ b m' y (funds_of l' m' told j) d m'' r (funds_of l'' m'' told n') (c.led told n j (omega (arith, c.rises))) e.still
+        more (world_seen m.codes.world) _ _ _ b m' y (funds_of l' m' told j) d m'' r (funds_of l'' m'' told n') (c.led told n j (omega (arith, c.rises)))
+        (subst (λ (w : World). IfSpent r (IsStill b d (moves (world_seen w) (point_of b m' y) (slots_of b m')))) c.world e.still)
         (subst (λ (w : World). enact (moves (world_seen w) (point_of b m' y) (slots_of b m')) (funds_of l' m' told j) ≡ moved_seen d m'' r (funds_of l'' m'' told n')) c.world (e.makes told j n' (omega (arith, c.rises, h))));
   }
 

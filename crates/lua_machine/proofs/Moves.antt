@@ -32,8 +32,8 @@ use Rattle.lua_state.specs.declared.turn.Turn.TheVariants as turn
 use Rattle.lua_state.specs.Seen.{slots_of, frames_of, funds_of, turn_seen}
 use Rattle.lua_state.specs.Of.{StateOf}
 use Rattle.lua_state.specs.Worlds.{world_seen}
-use Rattle.lua_state.specs.Makes.{Makes, Counts}
-use Rattle.lua_state.proofs.Making.{UnlessOn}
+use Rattle.lua_state.specs.Makes.{IsStill, Makes, Counts, LateCounts}
+use Rattle.lua_state.proofs.Making.{UnlessOn, counts_late}
 use Rattle.lua_machine.specs.Moved.{point_of, moved_of, moved_seen, MovesTo}
 use Rattle.lua_machine.proofs.Loops.{as_many}
 
@@ -53,6 +53,18 @@ counted s m l k t m' l' mv r e = record {
 pub step_paid : (s : StoreView) (m : State) (l l1 : Left) (k : ℕ) (t : StoreView) (m' : State) (l' : Left) (k' : ℕ) (mv : Move) (r : Turn) → 1 ≤ l.steps → l1 ≡ record l { steps = l.steps - 1 } → Counts s m l1 k t m' l' k' mv r
     → Counts s m l k t m' l' k' (Costs 1 mv) r
 step_paid s m l l1 k t m' l' k' mv r covered rest e = record {
+  state = e.state;
+  world = e.world;
+  of = e.of;
+  later = e.later;
+  still = e.still;
+  rises = e.rises;
+  makes = λ told n n' h. pays 1 mv (funds_of l m told n) covered ∙ (ap (λ (x : Left). enact mv (funds_of x m told n)) (sym rest) ∙ e.makes told n n' h);
+}
+
+pub late_step_paid : (s : StoreView) (m : State) (l l1 : Left) (k : ℕ) (t : StoreView) (m' : State) (l' : Left) (k' : ℕ) (mv : Move) (r : Turn) → 1 ≤ l.steps → l1 ≡ record l { steps = l.steps - 1 } → LateCounts s m l1 k t m' l' k' mv r
+    → LateCounts s m l k t m' l' k' (Costs 1 mv) r
+late_step_paid s m l l1 k t m' l' k' mv r covered rest e = record {
   state = e.state;
   world = e.world;
   of = e.of;
@@ -106,9 +118,9 @@ pub as_move : (s : StoreView) (m : State) (l : Left) (k : ℕ) (t : StoreView) (
 as_move s m l k t m' l' k' mv mv' r e c = subst (λ (x : Move). Counts s m l k t m' l' k' x r) e c
 
 -- OF THE WHOLE MACHINE
-pub moved_by : (s : StoreView) (m : State) (f : Focus) (l : Left) (k : ℕ) (t : StoreView) (m' : State) (l' : Left) (k' : ℕ) (mv : Move) (r : Turn) → GoesOnFrom (point_of s m f) → moves (world_seen m.codes.world) (point_of s m f) (slots_of s m) ≡ mv
-    → Counts s m l k t m' l' k' mv r → MovesTo s m f l k t m' l' k' (moved_of r)
-moved_by s m f l k t m' l' k' mv (turn.On y) on is e = record {
+pub late_moved_by : (s : StoreView) (m : State) (f : Focus) (l : Left) (k : ℕ) (t : StoreView) (m' : State) (l' : Left) (k' : ℕ) (mv : Move) (r : Turn) → GoesOnFrom (point_of s m f) → moves (world_seen m.codes.world) (point_of s m f) (slots_of s m) ≡ mv
+    → LateCounts s m l k t m' l' k' mv r → MovesTo s m f l k t m' l' k' (moved_of r)
+late_moved_by s m f l k t m' l' k' mv (turn.On y) on is e = record {
   state = e.state;
   world = e.world;
   of = e.of;
@@ -118,16 +130,20 @@ moved_by s m f l k t m' l' k' mv (turn.On y) on is e = record {
   on = on;
   makes = λ told n n' h. ap (λ (x : Move). enact x (funds_of l m told n)) is ∙ e.makes told n n' h;
 }
-moved_by s m f l k t m' l' k' mv (turn.Spent w) on is e = record {
+late_moved_by s m f l k t m' l' k' mv (turn.Spent w) on is e = record {
   state = e.state;
   world = e.world;
   of = tt;
   later = e.later;
-  still = e.still;
+  still = subst (λ (x : Move). IsStill s t x) (sym is) e.still;
   rises = e.rises;
   on = tt;
   makes = λ told n n' h. ap (λ (x : Move). enact x (funds_of l m told n)) is ∙ e.makes told n n' h;
 }
+
+pub moved_by : (s : StoreView) (m : State) (f : Focus) (l : Left) (k : ℕ) (t : StoreView) (m' : State) (l' : Left) (k' : ℕ) (mv : Move) (r : Turn) → GoesOnFrom (point_of s m f) → moves (world_seen m.codes.world) (point_of s m f) (slots_of s m) ≡ mv
+    → Counts s m l k t m' l' k' mv r → MovesTo s m f l k t m' l' k' (moved_of r)
+moved_by s m f l k t m' l' k' mv r on is e = late_moved_by s m f l k t m' l' k' mv r on is (counts_late s t m m' l l' k k' mv r e)
 
 -- A FRAME IS TAKEN
 abbrev pub with_frames : State → List Frame → State

@@ -17,6 +17,7 @@ use Rattle.lua_state.specs.Of.{StateOf, OutcomeOf}
 use Rattle.lua_state.specs.Worlds.{world_seen}
 use Rattle.lua_state.specs.declared.turn.Turn.{Turn}
 use Rattle.lua_state.specs.declared.turn.Turn.TheVariants as turn
+use Rattle.lua_state.specs.Makes.{IsStill}
 use Rattle.lua_machine.specs.declared.moving.Moved.{Moved}
 use Rattle.lua_machine.specs.declared.moving.Moved.TheVariants as moved
 
@@ -48,13 +49,14 @@ abbrev pub IfSpent : Moved → Type 0 → Type 0
 IfSpent (moved.Spent w) A = A
 IfSpent _ A = Unit {0}
 
--- from a store, a state, what is next, what is left and the counter of turns to those after the move
+-- From a store, a state, what is next, what is left and the counter of turns to those after the move. Where an allowance is spent, the objects of
+-- the store are as they were, or those to which the move would have led.
 pub record MovesTo (s : StoreView) (m : State) (f : Focus) (l : Left) (k : ℕ) (t : StoreView) (m' : State) (l' : Left) (k' : ℕ) (r : Moved) : Type 0 where
   pub state : StateOf t m'
   pub world : m'.codes.world ≡ m.codes.world
   pub of : MovedOf t r
   pub later : IsLater s t
-  pub still : IfSpent r (t.heap ≡ s.heap)
+  pub still : IfSpent r (IsStill s t (moves (world_seen m.codes.world) (point_of s m f) (slots_of s m)))
   pub rises : k ≤ k'
   pub on : IfOn r (GoesOnFrom (point_of s m f))
   pub makes : (told : Tally) (n n' : ℕ) → k' + n ≡ k + n' → enact (moves (world_seen m.codes.world) (point_of s m f) (slots_of s m)) (funds_of l m told n) ≡ moved_seen t m' r (funds_of l' m' told n')

@@ -9,9 +9,10 @@ ghost use Rattle.lua_state.specs.Of.{StateOf};
 ghost use Rattle.lua_state.specs.Makes.{Makes};
 
 use crate::stand_ins::{
-    give_assignment, give_constructor, give_end, give_expression, give_loop, give_run,
-    give_statement, hear, pass_end, pass_run, resume,
+    give_assignment, give_end, give_loop, give_statement, hear, pass_end, resume,
 };
+use lua_evals::{give_constructor, give_expression};
+use lua_runs::{give_run, pass_run};
 use lua_stack::{Focus, Frame, Given, Jump};
 use lua_state::{Outcome, State, Turn};
 use lua_store::Store;

@@ -11,13 +11,15 @@ ghost use Rattle.lua_stack.specs.Of.{ThingOf};
 ghost use Rattle.lua_state.specs.Seen.{slots_of, frames_of};
 ghost use Rattle.lua_state.specs.Of.{StateOf};
 ghost use Rattle.lua_state.specs.Worlds.{world_seen};
-ghost use Rattle.lua_state.specs.Makes.{Counts};
+ghost use Rattle.lua_state.specs.Makes.{Counts, LateCounts};
 ghost use Rattle.lua_machine.specs.Moved.{MovesTo, moved_of};
 
 use crate::frames::{give_frame, pass_frame};
-use crate::stand_ins::{begin_work, evaluate, find, list, run, set, texts};
+use crate::stand_ins::{begin_work, find, run, set};
 use crate::things::begin;
 use lua_code::Expression;
+use lua_evals::{evaluate, list};
+use lua_runs::texts;
 use lua_stack::{Focus, Given, Jump, Thing};
 use lua_state::{Outcome, State, Turn};
 use lua_store::Store;
@@ -118,7 +120,7 @@ fn begin_thing<'m, L: Ledger>(
     requires state { StateOf store.old state.old }
     requires calls { left.old.calls + state.old.calls < 2 ^ 64 }
     requires thing { ThingOf store.old thing }
-    ensures { IfOk result (λ r. Counts store.old state.old left.old turns.old store.new state.new left.new turns.new (Costs 1 (begins (world_seen state.old.codes.world) (thing_seen store.old thing.entry) (frames_of store.old state.old) (slots_of store.old state.old))) r) }
+    ensures { IfOk result (λ r. LateCounts store.old state.old left.old turns.old store.new state.new left.new turns.new (Costs 1 (begins (world_seen state.old.codes.world) (thing_seen store.old thing.entry) (frames_of store.old state.old) (slots_of store.old state.old))) r) }
 {
     if !left.take_steps(1) {
         return Ok(Turn::Spent(Which::Steps));

@@ -22,7 +22,7 @@ ghost use Rattle.lua_arms.specs.Paid.{behind_node};
 ghost use Rattle.lua_state.specs.Seen.{slots_of, frames_of, outcome_seen};
 ghost use Rattle.lua_state.specs.Of.{StateOf, OutcomeOf};
 ghost use Rattle.lua_state.specs.Worlds.{world_seen};
-ghost use Rattle.lua_state.specs.Makes.{Makes, Counts};
+ghost use Rattle.lua_state.specs.Makes.{Makes, Counts, LateMakes, LateCounts};
 
 use lua_code::{Expression, Statement, Target};
 use lua_stack::{
@@ -34,70 +34,6 @@ use lua_store::{Library, Store, TextId, Value};
 use std::alloc::Global;
 use std::sync::ledger::Ledger;
 use wk_base::{Left, List, NoMemory, Steps};
-
-/// Not there yet.
-pub fn evaluate<'m>(
-    alloc: Global,
-    store: &mut Store,
-    left: &mut Left,
-    state: &mut State<'m>,
-    expression: &'m Expression,
-) -> Result<Turn<'m>, NoMemory>
-    requires state { StateOf store.old state.old }
-    ensures { IfOk result (λ r. Makes store.old state.old left.old store.new state.new left.new (behind_node (expressions.evals (expression_seen expression.now) (frames_of store.old state.old) (slots_of store.old state.old))) r) }
-{
-    Err(NoMemory)
-}
-
-/// Not there yet.
-pub fn list<'m>(
-    alloc: Global,
-    store: &mut Store,
-    left: &mut Left,
-    state: &mut State<'m>,
-    items: &'m [Expression],
-    before: Values,
-) -> Result<Turn<'m>, NoMemory>
-    requires state { StateOf store.old state.old }
-    requires before { ValuesOf store.old before }
-    ensures { IfOk result (λ r. Makes store.old state.old left.old store.new state.new left.new (expressions.lists (expressions_seen items.now) (values_seen store.old.texts before) (frames_of store.old state.old) (slots_of store.old state.old)) r) }
-{
-    Err(NoMemory)
-}
-
-/// Not there yet.
-pub fn give_expression<'m>(
-    alloc: Global,
-    store: &mut Store,
-    left: &mut Left,
-    state: &mut State<'m>,
-    frame: InExpression<'m>,
-    values: Given,
-) -> Result<Turn<'m>, NoMemory>
-    requires state { StateOf store.old state.old }
-    requires frame { InExpressionOf store.old frame }
-    requires values { GivenOf store.old values }
-    ensures { IfOk result (λ r. (world : CWorld) → Makes store.old state.old left.old store.new state.new left.new (goes world (in_expression_seen store.old.texts frame.entry) (given_seen store.old.texts values) (frames_of store.old state.old) (slots_of store.old state.old)) r) }
-{
-    Err(NoMemory)
-}
-
-/// Not there yet.
-pub fn give_constructor<'m>(
-    alloc: Global,
-    store: &mut Store,
-    left: &mut Left,
-    state: &mut State<'m>,
-    frame: InConstructor<'m>,
-    values: Given,
-) -> Result<Turn<'m>, NoMemory>
-    requires state { StateOf store.old state.old }
-    requires frame { InConstructorOf store.old frame }
-    requires values { GivenOf store.old values }
-    ensures { IfOk result (λ r. (world : CWorld) → Makes store.old state.old left.old store.new state.new left.new (goes world (in_constructor_seen store.old.texts frame.entry) (given_seen store.old.texts values) (frames_of store.old state.old) (slots_of store.old state.old)) r) }
-{
-    Err(NoMemory)
-}
 
 /// Not there yet.
 pub fn give_assignment<'m>(
@@ -339,7 +275,7 @@ pub fn enter_library<'m, L: Ledger>(
     requires state { StateOf store.old state.old }
     requires calls { left.old.calls + state.old.calls < 2 ^ 64 }
     requires arguments { ValuesOf store.old arguments }
-    ensures { IfOk result (λ r. Counts store.old state.old left.old turns.old store.new state.new left.new turns.new (libraries.enters_library (world_seen state.old.codes.world) which (values_seen store.old.texts arguments) line (frames_of store.old state.old) (slots_of store.old state.old)) r) }
+    ensures { IfOk result (λ r. LateCounts store.old state.old left.old turns.old store.new state.new left.new turns.new (libraries.enters_library (world_seen state.old.codes.world) which (values_seen store.old.texts arguments) line (frames_of store.old state.old) (slots_of store.old state.old)) r) }
 {
     Err(NoMemory)
 }
@@ -390,58 +326,8 @@ pub fn begin_work<'m>(
 ) -> Result<Turn<'m>, NoMemory>
     requires state { StateOf store.old state.old }
     requires work { WorkOf work }
-    ensures { IfOk result (λ r. Makes store.old state.old left.old store.new state.new left.new (starts.works (world_seen state.old.codes.world) (work_seen work) (slots_of store.old state.old)) r) }
+    ensures { IfOk result (λ r. LateMakes store.old state.old left.old store.new state.new left.new (starts.works (world_seen state.old.codes.world) (work_seen work) (slots_of store.old state.old)) r) }
 {
     Err(NoMemory)
 }
 
-/// Not there yet.
-pub fn texts<'m>(
-    alloc: Global,
-    store: &mut Store,
-    left: &mut Left,
-    state: &mut State<'m>,
-    values: Values,
-    before: List<TextId>,
-) -> Result<Turn<'m>, NoMemory>
-    requires state { StateOf store.old state.old }
-    requires values { ValuesOf store.old values }
-    requires before { TextsOf store.old before }
-    ensures { IfOk result (λ r. Makes store.old state.old left.old store.new state.new left.new (starts.texts (values_seen store.old.texts values) (joined_seen store.old.texts before) (frames_of store.old state.old) (slots_of store.old state.old)) r) }
-{
-    Err(NoMemory)
-}
-
-/// Not there yet.
-pub fn give_run<'m>(
-    alloc: Global,
-    store: &mut Store,
-    left: &mut Left,
-    state: &mut State<'m>,
-    frame: InRun,
-    values: Given,
-) -> Result<Turn<'m>, NoMemory>
-    requires state { StateOf store.old state.old }
-    requires frame { InRunOf store.old frame }
-    requires values { GivenOf store.old values }
-    ensures { IfOk result (λ r. (world : CWorld) → Makes store.old state.old left.old store.new state.new left.new (goes world (in_run_seen store.old.texts frame) (given_seen store.old.texts values) (frames_of store.old state.old) (slots_of store.old state.old)) r) }
-{
-    Err(NoMemory)
-}
-
-/// Not there yet.
-pub fn pass_run<'m>(
-    alloc: Global,
-    store: &mut Store,
-    left: &mut Left,
-    state: &mut State<'m>,
-    frame: InRun,
-    jump: Jump,
-) -> Result<Turn<'m>, NoMemory>
-    requires state { StateOf store.old state.old }
-    requires frame { InRunOf store.old frame }
-    requires jump { JumpOf store.old jump }
-    ensures { IfOk result (λ r. Makes store.old state.old left.old store.new state.new left.new (passes (in_run_seen store.old.texts frame) (jump_seen store.old.texts jump) (frames_of store.old state.old) (slots_of store.old state.old)) r) }
-{
-    Err(NoMemory)
-}

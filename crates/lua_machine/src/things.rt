@@ -8,7 +8,7 @@ ghost use Rattle.lua_stack.specs.Of.{ThingOf, ValuesOf};
 ghost use Rattle.lua_state.specs.Seen.{slots_of, frames_of};
 ghost use Rattle.lua_state.specs.Of.{StateOf};
 ghost use Rattle.lua_state.specs.Worlds.{world_seen};
-ghost use Rattle.lua_state.specs.Makes.{Makes, Counts};
+ghost use Rattle.lua_state.specs.Makes.{Makes, LateCounts};
 ghost use Rattle.lua_store.specs.Seen.{seen};
 ghost use Rattle.lua_store.specs.Parts.{IsOf};
 
@@ -107,7 +107,7 @@ pub fn begin<'m, L: Ledger>(
     requires state { StateOf store.old state.old }
     requires calls { left.old.calls + state.old.calls < 2 ^ 64 }
     requires thing { ThingOf store.old thing }
-    ensures { IfOk result (λ r. Counts store.old state.old left.old turns.old store.new state.new left.new turns.new (begins (world_seen state.old.codes.world) (thing_seen store.old thing.entry) (frames_of store.old state.old) (slots_of store.old state.old)) r) }
+    ensures { IfOk result (λ r. LateCounts store.old state.old left.old turns.old store.new state.new left.new turns.new (begins (world_seen state.old.codes.world) (thing_seen store.old thing.entry) (frames_of store.old state.old) (slots_of store.old state.old)) r) }
 {
     match thing {
         Thing::WhileTurn(test, body) => {

@@ -1,8 +1,8 @@
 use Rattle.std.proofs.Common.{refl}
-use Rattle.lua_machine.proofs.Moves.{step_paid}
+use Rattle.lua_machine.proofs.Moves.{late_step_paid}
 use Rattle.lua_machine.proofs.moving.begin_thing.Goals as goal
 
 pub returns : goal.returns
 returns g c =
-    step_paid c.args.store.now c.args.state.now c.args.left.now c.take_steps.new.self c.args.turns.now c.begin.new.store c.begin.new.state c.begin.new.left c.begin.new.turns _ c.in_ok-turn.turn
+    late_step_paid c.args.store.now c.args.state.now c.args.left.now c.take_steps.new.self c.args.turns.now c.begin.new.store c.begin.new.state c.begin.new.left c.begin.new.turns _ c.in_ok-turn.turn
     (c.if-not-take_steps.ensures.covered.0 refl) c.take_steps.ensures.rest c.in_ok-turn.ensures

@@ -1,6 +1,7 @@
 use Rattle.std.proofs.Common.{refl}
 use Rattle.lua_stack.specs.declared.focus.Focus.TheVariants as focus
-use Rattle.lua_machine.proofs.Moves.{counted, moved_by}
+use Rattle.lua_state.proofs.Making.{late_counts_none}
+use Rattle.lua_machine.proofs.Moves.{counted, moved_by, late_moved_by}
 use Rattle.lua_machine.proofs.moving.turn.Goals as goal
 
 pub returns-in_ok-moved-in-Gives : goal.returns-in_ok-moved-in-Gives
@@ -31,7 +32,7 @@ returns-in_ok-turn-in-Runs g c = rw (c.in-Runs.is, c.of_turn-in-Runs.ensures)
 
 pub returns-in_ok-turn-in-Starts : goal.returns-in_ok-turn-in-Starts
 returns-in_ok-turn-in-Starts g c = rw (c.in-Starts.is, c.of_turn-in-Starts.ensures)
-    (moved_by c.args.store.now c.args.state.now (focus.Starts c.in-Starts.thing) c.args.left.now c.args.turns.now c.begin_thing.new.store c.begin_thing.new.state c.begin_thing.new.left c.begin_thing.new.turns _ c.in_ok-turn-in-Starts.turn tt refl c.in_ok-turn-in-Starts.ensures)
+    (late_moved_by c.args.store.now c.args.state.now (focus.Starts c.in-Starts.thing) c.args.left.now c.args.turns.now c.begin_thing.new.store c.begin_thing.new.state c.begin_thing.new.left c.begin_thing.new.turns _ c.in_ok-turn-in-Starts.turn tt refl c.in_ok-turn-in-Starts.ensures)
 
 pub returns-in_ok-turn-in-Texts : goal.returns-in_ok-turn-in-Texts
 returns-in_ok-turn-in-Texts g c = rw (c.in-Texts.is, c.of_turn-in-Texts.ensures)
@@ -39,4 +40,4 @@ returns-in_ok-turn-in-Texts g c = rw (c.in-Texts.is, c.of_turn-in-Texts.ensures)
 
 pub returns-in_ok-turn-in-Works : goal.returns-in_ok-turn-in-Works
 returns-in_ok-turn-in-Works g c = rw (c.in-Works.is, c.of_turn-in-Works.ensures)
-    (moved_by c.args.store.now c.args.state.now (focus.Works c.in-Works.work) c.args.left.now c.args.turns.now c.begin_work.new.store c.begin_work.new.state c.begin_work.new.left c.args.turns.now _ c.in_ok-turn-in-Works.turn tt refl (counted c.args.store.now c.args.state.now c.args.left.now c.args.turns.now c.begin_work.new.store c.begin_work.new.state c.begin_work.new.left _ c.in_ok-turn-in-Works.turn c.in_ok-turn-in-Works.ensures))
+    (late_moved_by c.args.store.now c.args.state.now (focus.Works c.in-Works.work) c.args.left.now c.args.turns.now c.begin_work.new.store c.begin_work.new.state c.begin_work.new.left c.args.turns.now _ c.in_ok-turn-in-Works.turn tt refl (late_counts_none c.args.store.now c.begin_work.new.store c.args.state.now c.begin_work.new.state c.args.left.now c.begin_work.new.left c.args.turns.now c.args.turns.now _ c.in_ok-turn-in-Works.turn refl c.in_ok-turn-in-Works.ensures))
