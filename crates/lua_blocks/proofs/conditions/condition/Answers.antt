@@ -7,7 +7,7 @@ use Rattle.lua_blocks.proofs.Parts.{above, above_of}
 use Rattle.lua_blocks.proofs.conditions.condition.Goals as goal
 
 pub first_test-requires : goal.first_test-requires
-first_test-requires c = above_of c.args.store.now c.args.state.now c.push.new.self (frame.Statement (in_statement.StatsNext c.args.rest)) c.in_ok-push.ensures.ok c.requires.state tt
+first_test-requires c = record { state = above_of c.args.store.now c.args.state.now c.push.new.self (frame.Statement (in_statement.StatsNext c.args.rest)) c.in_ok-push.ensures.ok c.requires.state tt }
 
 pub returns : goal.returns
 returns c =

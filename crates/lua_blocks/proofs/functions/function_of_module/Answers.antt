@@ -1,4 +1,4 @@
-use Rattle.std.proofs.Common.{◌∙◌, ap, refl}
+use Rattle.std.proofs.Common.{refl}
 use Rattle.std.specs.Prelude.{map}
 use Rattle.lua_code.specs.Seen.{place_seen, block_seen}
 use Rattle.lua_slots.specs.Points.{Runs}

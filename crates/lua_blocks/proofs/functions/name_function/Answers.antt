@@ -1,5 +1,3 @@
-use Rattle.std.proofs.Common.{◌∙◌, ap}
-use Rattle.std.specs.Prelude.{List, ℕ}
 use Rattle.lua_store.proofs.Later.{later-then}
 use Rattle.lua_code.specs.Seen.{place_seen}
 use Rattle.lua_stack.proofs.Stay.{registers_later, registers_as, captured_stay}

@@ -1,4 +1,3 @@
-use Rattle.std.proofs.Common.{◌∙◌, ap}
 use Rattle.lua_store.proofs.Later.{later-then, text_of-later}
 use Rattle.lua_blocks.proofs.Changes.{closure_later, function_opened}
 use Rattle.lua_stack.proofs.Stay.{captured_stay}

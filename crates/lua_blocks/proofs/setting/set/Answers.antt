@@ -3,7 +3,7 @@ use Rattle.lua_slots.specs.Statements.{sets_one}
 use Rattle.lua_stack.specs.declared.frame.Frame.TheVariants as frame
 use Rattle.lua_stack.specs.declared.frame.InAssignment.TheVariants as in_assignment
 use Rattle.lua_stack.specs.Seen.{found_seen}
-use Rattle.lua_blocks.proofs.Parts.{above, above_of}
+use Rattle.lua_blocks.proofs.Parts.{above}
 use Rattle.lua_blocks.proofs.setting.set.Goals as goal
 
 pub returns-in-None : goal.returns-in-None
