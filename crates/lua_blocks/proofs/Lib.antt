@@ -1,0 +1,5 @@
+pub mod Parts
+pub mod Newest
+pub mod Changes
+pub mod Pairs
+pub mod Blocks

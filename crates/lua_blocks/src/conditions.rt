@@ -1,0 +1,132 @@
+//! `if` (manual 2.4.4): the first branch whose test is true, or else the last block, if there is one.
+ghost use Rattle.std.specs.Prelude.{◌≡◌, ◌∷◌, option_map, IfOk};
+ghost use Rattle.lua_code.specs.Seen.{block_seen, branches_seen};
+ghost use Rattle.lua_heap.specs.Value.{is_true as is_true_value};
+ghost use Rattle.lua_slots.specs.Errors.{choose};
+ghost use Rattle.lua_slots.specs.Points.{StatsNext};
+ghost use Rattle.lua_slots.specs.Slots.{Slots};
+ghost use Rattle.lua_slots.specs.Statements as machine;
+ghost use Rattle.lua_store.specs.Seen.{seen};
+ghost use Rattle.lua_stack.specs.Of.{FramesOf};
+ghost use Rattle.lua_stack.specs.Seen.{frames_seen, registers_seen};
+ghost use Rattle.lua_arms.specs.Steps.{step_seen, StepOf};
+ghost use Rattle.lua_state.specs.Makes.{Makes};
+ghost use Rattle.lua_state.specs.Of.{StateOf};
+ghost use Rattle.lua_state.specs.Seen.{frames_of, slots_of};
+
+use lua_arms::Step;
+use lua_arms::statements::{branches, within};
+use lua_code::{Branch, Statement};
+use lua_stack::values::is_true;
+use lua_stack::{Frame, InStatement, Slot, Stack};
+use lua_state::{State, Turn, finish};
+use lua_store::{Store, Value};
+use std::alloc::Global;
+use wk_base::{Left, List, NoMemory};
+
+/// After a test of an `if`: what follows its `then`, or the branches behind it.
+fn choose_branch<'m>(
+    alloc: Global,
+    store: &Store,
+    frames: &mut Stack<Frame<'m>>,
+    regs: &Stack<Slot>,
+    body: &'m List<Statement>,
+    more: &'m [Branch],
+    other: Option<&'m List<Statement>>,
+    value: Value,
+) -> Result<Step<'m>, NoMemory>
+    requires frames { FramesOf store.now frames.old }
+    ensures of { IfOk result (λ r. StepOf store.now r × FramesOf store.now frames.new) }
+    ensures move_ { IfOk result (λ r. (s : Slots) → s.regs ≡ registers_seen store.now.texts regs.now
+        → choose (is_true_value (seen store.now.texts value)) (machine.within (block_seen body.now) (frames_seen store.now.texts frames.old) s)
+        (machine.branches (branches_seen more.now) (option_map (λ b. block_seen b.now) other.entry) (frames_seen store.now.texts frames.old) s)
+        ≡ step_seen store.now r (frames_seen store.now.texts frames.new) s) }
+{
+    if is_true(value) {
+        let step = within(store, frames, regs, body)?;
+        return Ok(step);
+    }
+    let step = branches(alloc, store, frames, regs, more, other)?;
+    Ok(step)
+}
+
+/// A test of an `if` gave this value.
+pub fn tested<'m>(
+    alloc: Global,
+    store: &mut Store,
+    left: &mut Left,
+    state: &mut State<'m>,
+    body: &'m List<Statement>,
+    more: &'m [Branch],
+    other: Option<&'m List<Statement>>,
+    value: Value,
+) -> Result<Turn<'m>, NoMemory>
+    requires state { StateOf store.old state.old }
+    ensures { IfOk result (λ r. Makes store.old state.old left.old store.new state.new left.new
+        (choose (is_true_value (seen store.old.texts value)) (machine.within (block_seen body.now) (frames_of store.old state.old) (slots_of store.old state.old))
+        (machine.branches (branches_seen more.now) (option_map (λ b. block_seen b.now) other.entry) (frames_of store.old state.old) (slots_of store.old state.old))) r) }
+{
+    let step = choose_branch(
+        alloc,
+        store,
+        &mut state.frames,
+        &state.regs,
+        body,
+        more,
+        other,
+        value,
+    )?;
+    let turn = finish(alloc, store, left, state, step)?;
+    Ok(turn)
+}
+
+/// The first test of an `if` is next, or its `else`.
+fn first_test<'m>(
+    alloc: Global,
+    store: &mut Store,
+    left: &mut Left,
+    state: &mut State<'m>,
+    arms: &'m List<Branch>,
+    other: Option<&'m List<Statement>>,
+) -> Result<Turn<'m>, NoMemory>
+    requires state { StateOf store.old state.old }
+    ensures { IfOk result (λ r. Makes store.old state.old left.old store.new state.new left.new
+        (machine.branches (branches_seen arms.now) (option_map (λ b. block_seen b.now) other.entry) (frames_of store.old state.old) (slots_of store.old state.old)) r) }
+{
+    let arms = arms.as_slice();
+    let step = branches(alloc, store, &mut state.frames, &state.regs, arms, other)?;
+    let turn = finish(alloc, store, left, state, step)?;
+    Ok(turn)
+}
+
+/// The `else` of an `if`, if it has one.
+fn other_of<'m>(other: &'m Option<List<Statement>>) -> Option<&'m List<Statement>>
+    ensures { option_map (λ b. block_seen b.now) result ≡ option_map block_seen other.now }
+{
+    match other {
+        Some(body) => Some(body),
+        None => None,
+    }
+}
+
+/// An `if` begins, before these statements.
+pub fn condition<'m>(
+    alloc: Global,
+    store: &mut Store,
+    left: &mut Left,
+    state: &mut State<'m>,
+    arms: &'m List<Branch>,
+    other: &'m Option<List<Statement>>,
+    rest: &'m [Statement],
+) -> Result<Turn<'m>, NoMemory>
+    requires state { StateOf store.old state.old }
+    ensures { IfOk result (λ r. Makes store.old state.old left.old store.new state.new left.new
+        (machine.branches (branches_seen arms.now) (option_map block_seen other.now) (StatsNext (block_seen rest.now) ∷ frames_of store.old state.old) (slots_of store.old state.old)) r) }
+{
+    state
+        .frames
+        .push(Frame::Statement(InStatement::StatsNext(rest)))?;
+    let last = other_of(other);
+    let turn = first_test(alloc, store, left, state, arms, last)?;
+    Ok(turn)
+}

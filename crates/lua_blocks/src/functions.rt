@@ -1,0 +1,174 @@
+//! Local functions (manual 2.4.7 and 2.5.9): each is the value of a new variable, which it can capture.
+ghost use Rattle.std.specs.Prelude.{◌≡◌, map, length, IfOk, OnOk};
+ghost use Rattle.wk_base.specs.declared.left.Left.{Left as Allowance};
+ghost use Rattle.lua_heap.specs.Heap as heap;
+ghost use Rattle.lua_code.specs.Seen.{block_seen, place_seen};
+ghost use Rattle.lua_slots.specs.Points.{Costs, Now, Runs};
+ghost use Rattle.lua_slots.specs.Sight.{newest};
+ghost use Rattle.lua_slots.specs.Slots.{function_of, with_function_named};
+ghost use Rattle.lua_store.specs.Parts.{IsClosureOf, IsLater, IsTextOf};
+ghost use Rattle.lua_store.specs.Seen.{text_at};
+ghost use Rattle.lua_stack.specs.Of.{MayBeClosureOf, RegistersOf};
+ghost use Rattle.lua_stack.specs.Seen.{captured_by, registers_seen};
+ghost use Rattle.lua_state.specs.Makes.{Makes};
+ghost use Rattle.lua_state.specs.Of.{StateOf};
+ghost use Rattle.lua_state.specs.Seen.{frames_of, slots_of};
+ghost use Rattle.lua_blocks.specs.Named.{proc_at, closure_named, function_named};
+
+use crate::running::{running_closure, running_source};
+use lua_code::{Place, Statement};
+use lua_stack::opening::open;
+use lua_stack::register::{captures, write};
+use lua_stack::{Focus, Slot, Stack};
+use lua_state::{State, Turn, pay};
+use lua_store::{ClosureId, ClosureKind, ProtoId, Store, TextId, Value};
+use page_run::Which;
+use std::alloc::Global;
+use wk_base::{Left, NoMemory};
+
+/// The place of the newest variable.
+fn newest_place(boxed: bool) -> Place
+    ensures { place_seen result ≡ newest boxed }
+{
+    if boxed {
+        return Place::Cell(0);
+    }
+    Place::Register(0)
+}
+
+/// A closure of this function of a module, with the cells at these places.
+fn new_function(
+    alloc: Global,
+    store: &mut Store,
+    regs: &Stack<Slot>,
+    closure: Option<ClosureId>,
+    proto: ProtoId,
+    places: &[Place],
+) -> Result<ClosureId, NoMemory>
+    requires registers { RegistersOf store.old regs.now }
+    requires closure { MayBeClosureOf store.old closure }
+    requires source { IsTextOf store.old proto.title }
+    ensures of { IfOk result (λ id. IsClosureOf store.new id) }
+    ensures at { IfOk result (λ id. id.at ≡ length store.old.heap.closures) }
+    ensures later { OnOk result (IsLater store.old store.new) }
+    ensures texts { OnOk result (store.new.texts ≡ store.old.texts) }
+    ensures made { OnOk result (store.new.heap ≡ (heap.new_closure store.old.heap (heap.Function
+        (proc_at (text_at store.old.texts proto.title.at) proto.index (map place_seen places.now) (captured_by store.old.heap closure) (registers_seen store.old.texts regs.now)))).0) }
+{
+    let cells = captures(alloc, store, regs, closure, places)?;
+    let id = store.new_closure(ClosureKind::Function(proto), 0, cells)?;
+    Ok(id)
+}
+
+/// A new closure is the value of the newest variable.
+fn name_function(
+    alloc: Global,
+    store: &mut Store,
+    regs: &mut Stack<Slot>,
+    closure: Option<ClosureId>,
+    proto: ProtoId,
+    boxed: bool,
+    places: &[Place],
+) -> Result<(), NoMemory>
+    requires registers { RegistersOf store.old regs.old }
+    requires closure { MayBeClosureOf store.old closure }
+    requires source { IsTextOf store.old proto.title }
+    ensures of { OnOk result (RegistersOf store.new regs.new) }
+    ensures later { OnOk result (IsLater store.old store.new) }
+    ensures named { OnOk result ((store.new.heap, registers_seen store.new.texts regs.new) ≡ closure_named boxed
+        (proc_at (text_at store.old.texts proto.title.at) proto.index (map place_seen places.now) (captured_by store.old.heap closure) (registers_seen store.old.texts regs.old))
+        (captured_by store.old.heap closure) (store.old.heap, registers_seen store.old.texts regs.old)) }
+{
+    let id = new_function(alloc, store, regs, closure, proto, places)?;
+    let place = newest_place(boxed);
+    write(store, regs, closure, place, Value::Closure(id));
+    Ok(())
+}
+
+/// A new variable, and a new closure as its value.
+fn open_function(
+    alloc: Global,
+    store: &mut Store,
+    regs: &mut Stack<Slot>,
+    closure: Option<ClosureId>,
+    proto: ProtoId,
+    boxed: bool,
+    places: &[Place],
+) -> Result<(), NoMemory>
+    requires registers { RegistersOf store.old regs.old }
+    requires closure { MayBeClosureOf store.old closure }
+    requires source { IsTextOf store.old proto.title }
+    ensures of { OnOk result (RegistersOf store.new regs.new) }
+    ensures later { OnOk result (IsLater store.old store.new) }
+    ensures named { OnOk result ((store.new.heap, registers_seen store.new.texts regs.new) ≡ function_named boxed
+        (text_at store.old.texts proto.title.at) proto.index (map place_seen places.now) (captured_by store.old.heap closure) (store.old.heap, registers_seen store.old.texts regs.old)) }
+{
+    open(store, regs, boxed, Value::Nil)?;
+    name_function(alloc, store, regs, closure, proto, boxed, places)?;
+    Ok(())
+}
+
+/// A local function of the module of this title, and the statements behind it.
+fn function_of_module<'m>(
+    alloc: Global,
+    store: &mut Store,
+    state: &mut State<'m>,
+    source: TextId,
+    function: (bool, u32),
+    places: &[Place],
+    rest: &'m [Statement],
+) -> Result<Turn<'m>, NoMemory>
+    requires state { StateOf store.old state.old }
+    requires source { IsTextOf store.old source }
+    requires title { text_at store.old.texts source.at ≡ (function_of (slots_of store.old state.old)).source }
+    ensures { (l : Allowance) → IfOk result (λ r. Makes store.old state.old l store.new state.new l
+        (Now (Runs (block_seen rest.now) (frames_of store.old state.old)) (with_function_named function.0 function.1 (map place_seen places.now) (slots_of store.old state.old))) r) }
+{
+    let (boxed, index) = function;
+    let closure = running_closure(&state.functions);
+    let proto = ProtoId {
+        title: source,
+        index,
+    };
+    open_function(alloc, store, &mut state.regs, closure, proto, boxed, places)?;
+    Ok(Turn::On(Focus::Runs(rest)))
+}
+
+/// A local function of the running function's module.
+fn declare_function<'m>(
+    alloc: Global,
+    store: &mut Store,
+    state: &mut State<'m>,
+    function: (bool, u32),
+    places: &[Place],
+    rest: &'m [Statement],
+) -> Result<Turn<'m>, NoMemory>
+    requires state { StateOf store.old state.old }
+    ensures { (l : Allowance) → IfOk result (λ r. Makes store.old state.old l store.new state.new l
+        (Now (Runs (block_seen rest.now) (frames_of store.old state.old)) (with_function_named function.0 function.1 (map place_seen places.now) (slots_of store.old state.old))) r) }
+{
+    let source = running_source(store, &state.functions)?;
+    let turn = function_of_module(alloc, store, state, source, function, places, rest)?;
+    Ok(turn)
+}
+
+/// A local function, at 8 steps for its closure, and the statements behind it. `function` is the flag of its variable and its number.
+pub fn local_function<'m>(
+    alloc: Global,
+    store: &mut Store,
+    left: &mut Left,
+    state: &mut State<'m>,
+    function: (bool, u32),
+    places: &[Place],
+    rest: &'m [Statement],
+) -> Result<Turn<'m>, NoMemory>
+    requires state { StateOf store.old state.old }
+    ensures { IfOk result (λ r. Makes store.old state.old left.old store.new state.new left.new
+        (Costs 8 (Now (Runs (block_seen rest.now) (frames_of store.old state.old)) (with_function_named function.0 function.1 (map place_seen places.now) (slots_of store.old state.old)))) r) }
+{
+    if !pay(left, 8) {
+        return Ok(Turn::Spent(Which::Steps));
+    }
+    let turn = declare_function(alloc, store, state, function, places, rest)?;
+    Ok(turn)
+}
