@@ -1,73 +1,30 @@
 //! Parts of the machine that are not there yet: expressions, statements, loops and bodies of functions, functions of the library, and the start and
 //! the end of a whole run. Each has the contract that it will have, and its body answers that there is no memory, which meets any contract. A
 //! part that stands in a crate of its own takes the place of the one here.
-ghost use Rattle.std.specs.Prelude.{◌≡◌, ◌+◌, ◌<◌, ◌^◌, IfOk};
-ghost use Rattle.std.specs.List.{AllByRecursion};
-ghost use Rattle.std.specs.Prelude.{map};
-ghost use Rattle.lua_code.specs.Seen.{expression_seen, expressions_seen, block_seen, target_seen};
-ghost use Rattle.lua_store.specs.Parts.{IsOf, IsTextOf};
+ghost use Rattle.std.specs.Prelude.{◌+◌, ◌<◌, ◌^◌, IfOk};
+ghost use Rattle.lua_code.specs.Seen.{expression_seen, block_seen};
+ghost use Rattle.lua_store.specs.Parts.{IsOf};
 ghost use Rattle.lua_store.specs.Seen.{seen};
 ghost use Rattle.lua_slots.specs.Code.{CWorld};
-ghost use Rattle.lua_slots.specs.Expressions as expressions;
-ghost use Rattle.lua_slots.specs.Statements as stats;
 ghost use Rattle.lua_slots.specs.Loops as loops;
 ghost use Rattle.lua_slots.specs.Calls as calls;
 ghost use Rattle.lua_slots.specs.Libraries as libraries;
 ghost use Rattle.lua_slots.specs.Starts as starts;
 ghost use Rattle.lua_slots.specs.Moves.{goes, passes};
-ghost use Rattle.lua_slots.specs.Points as point;
-ghost use Rattle.lua_stack.specs.Seen.{values_seen, given_seen, joined_seen, found_seen, settings_seen, jump_seen, work_seen, callee_seen, pending_seen, asked_seen, in_expression_seen, in_constructor_seen, in_assignment_seen, in_statement_seen, in_loop_seen, ending_seen, in_run_seen};
-ghost use Rattle.lua_stack.specs.Of.{ValuesOf, GivenOf, TextsOf, FoundOf, SettingOf, JumpOf, CalleeOf, PendingOf, AskedOf, WorkOf, InExpressionOf, InConstructorOf, InAssignmentOf, InStatementOf, InLoopOf, EndingOf, InRunOf};
-ghost use Rattle.lua_arms.specs.Paid.{behind_node};
+ghost use Rattle.lua_stack.specs.Seen.{values_seen, given_seen, jump_seen, work_seen, callee_seen, pending_seen, asked_seen, in_loop_seen, ending_seen};
+ghost use Rattle.lua_stack.specs.Of.{ValuesOf, GivenOf, JumpOf, CalleeOf, PendingOf, AskedOf, WorkOf, InLoopOf, EndingOf};
 ghost use Rattle.lua_state.specs.Seen.{slots_of, frames_of, outcome_seen};
 ghost use Rattle.lua_state.specs.Of.{StateOf, OutcomeOf};
 ghost use Rattle.lua_state.specs.Worlds.{world_seen};
 ghost use Rattle.lua_state.specs.Makes.{Makes, Counts, LateMakes, LateCounts};
 
-use lua_code::{Expression, Statement, Target};
-use lua_stack::{
-    Asked, Callee, Ending, Found, Given, InAssignment, InConstructor, InExpression, InLoop, InRun,
-    InStatement, Jump, Pending, Setting, Stack, Values, Work,
-};
+use lua_code::{Expression, Statement};
+use lua_stack::{Asked, Callee, Ending, Given, InLoop, Jump, Pending, Values, Work};
 use lua_state::{Outcome, State, Turn};
-use lua_store::{Library, Store, TextId, Value};
+use lua_store::{Library, Store, Value};
 use std::alloc::Global;
 use std::sync::ledger::Ledger;
 use wk_base::{Left, List, NoMemory, Steps};
-
-/// Not there yet.
-pub fn give_assignment<'m>(
-    alloc: Global,
-    store: &mut Store,
-    left: &mut Left,
-    state: &mut State<'m>,
-    frame: InAssignment<'m>,
-    values: Given,
-) -> Result<Turn<'m>, NoMemory>
-    requires state { StateOf store.old state.old }
-    requires frame { InAssignmentOf store.old frame }
-    requires values { GivenOf store.old values }
-    ensures { IfOk result (λ r. (world : CWorld) → Makes store.old state.old left.old store.new state.new left.new (goes world (in_assignment_seen store.old.texts frame.entry) (given_seen store.old.texts values) (frames_of store.old state.old) (slots_of store.old state.old)) r) }
-{
-    Err(NoMemory)
-}
-
-/// Not there yet.
-pub fn give_statement<'m>(
-    alloc: Global,
-    store: &mut Store,
-    left: &mut Left,
-    state: &mut State<'m>,
-    frame: InStatement<'m>,
-    values: Given,
-) -> Result<Turn<'m>, NoMemory>
-    requires state { StateOf store.old state.old }
-    requires frame { InStatementOf store.old frame }
-    requires values { GivenOf store.old values }
-    ensures { IfOk result (λ r. (world : CWorld) → Makes store.old state.old left.old store.new state.new left.new (goes world (in_statement_seen store.old.texts frame.entry) (given_seen store.old.texts values) (frames_of store.old state.old) (slots_of store.old state.old)) r) }
-{
-    Err(NoMemory)
-}
 
 /// Not there yet.
 pub fn give_loop<'m>(
@@ -82,54 +39,6 @@ pub fn give_loop<'m>(
     requires frame { InLoopOf store.old frame }
     requires values { GivenOf store.old values }
     ensures { IfOk result (λ r. (world : CWorld) → Makes store.old state.old left.old store.new state.new left.new (goes world (in_loop_seen store.old.texts frame.entry) (given_seen store.old.texts values) (frames_of store.old state.old) (slots_of store.old state.old)) r) }
-{
-    Err(NoMemory)
-}
-
-/// Not there yet.
-pub fn run<'m, L: Ledger>(
-    alloc: Global,
-    store: &mut Store,
-    left: &mut Left,
-    state: &mut State<'m>,
-    statements: &'m [Statement],
-    turns: &mut Steps<L>,
-) -> Result<Turn<'m>, NoMemory>
-    requires state { StateOf store.old state.old }
-    ensures { IfOk result (λ r. Counts store.old state.old left.old turns.old store.new state.new left.new turns.new (stats.runs (block_seen statements.now) (frames_of store.old state.old) (slots_of store.old state.old)) r) }
-{
-    Err(NoMemory)
-}
-
-/// Not there yet.
-pub fn find<'m, L: Ledger>(
-    alloc: Global,
-    store: &mut Store,
-    left: &mut Left,
-    state: &mut State<'m>,
-    targets: &'m [Target],
-    before: List<Found<'m>>,
-    values: &'m List<Expression>,
-    turns: &mut Steps<L>,
-) -> Result<Turn<'m>, NoMemory>
-    requires state { StateOf store.old state.old }
-    requires before { AllByRecursion (FoundOf store.old) before }
-    ensures { IfOk result (λ r. Counts store.old state.old left.old turns.old store.new state.new left.new turns.new (stats.finds (map target_seen targets.now) (map (found_seen store.old.texts) before.entry) (expressions_seen values.now) (frames_of store.old state.old) (slots_of store.old state.old)) r) }
-{
-    Err(NoMemory)
-}
-
-/// Not there yet.
-pub fn set<'m>(
-    alloc: Global,
-    store: &mut Store,
-    left: &mut Left,
-    state: &mut State<'m>,
-    pairs: Stack<Setting<'m>>,
-) -> Result<Turn<'m>, NoMemory>
-    requires state { StateOf store.old state.old }
-    requires pairs { AllByRecursion (SettingOf store.old) pairs }
-    ensures { IfOk result (λ r. Makes store.old state.old left.old store.new state.new left.new (stats.sets (settings_seen store.old.texts pairs.entry) (frames_of store.old state.old) (slots_of store.old state.old)) r) }
 {
     Err(NoMemory)
 }
