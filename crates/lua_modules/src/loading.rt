@@ -273,8 +273,14 @@ fn data_failed<'m>(
 {
     match jump {
         Jump::Raised(value) => Ok(Turn::On(Focus::Jumps(Jump::Raised(value)))),
-        Jump::Returned(_) => wrong_answer(store, state),
-        Jump::Broke => wrong_answer(store, state),
+        Jump::Returned(_) => {
+            let turn = wrong_answer(store, state)?;
+            Ok(turn)
+        }
+        Jump::Broke => {
+            let turn = wrong_answer(store, state)?;
+            Ok(turn)
+        }
     }
 }
 

@@ -48,6 +48,10 @@ fn guard(store: &mut Store, globals: TableId) -> Result<(), NoMemory>
 {
     let meta = store.new_table()?;
     fill_meta(store, meta)?;
+    // Only tables of loaded data are read-only, which that of the global variables never is.
+    if store.is_frozen(globals) {
+        return Err(NoMemory);
+    }
     store.set_meta(globals, Value::Table(meta));
     Ok(())
 }

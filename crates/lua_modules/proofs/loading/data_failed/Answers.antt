@@ -10,7 +10,7 @@ returns-in-Raised c = λ l text title line.
     rw c.in-Raised.is (on c.args.store.now c.args.state.now l (focus.Jumps (jump.Raised c.in-Raised.value)) c.requires.state (subst (JumpOf c.args.store.now) c.in-Raised.is c.requires.jump))
 
 pub returns-in-Returned : goal.returns-in-Returned
-returns-in-Returned c = λ l text title line. rw c.in-Returned.is (c.wrong_answer.ensures l)
+returns-in-Returned c = λ l text title line. rw c.in-Returned.is (c.in_ok-turn-in-Returned.ensures l)
 
-pub returns-in-Broke : goal.returns-in-Broke
-returns-in-Broke c = λ l text title line. rw c.in-Broke.is (c.wrong_answer-in-Broke.ensures l)
+pub returns : goal.returns
+returns c = λ l text title line. rw c.in-Broke.is (c.in_ok-turn-in-Broke.ensures l)

@@ -14,7 +14,7 @@ returns-in-Some c = λ l.
     (on c.args.store.now c.args.state.now l (focus.Gives (given.One c.in-Some.value)) c.requires.state
     (item_all (IsOf c.args.store.now) c.args.state.now.loaded c.args.title _ c.in-Some.value c.in_ok-found.ensures c.in-Some.is c.requires.state.loaded, tt))
 
-pub returns-in_ok-turn-in-None : goal.returns-in_ok-turn-in-None
-returns-in_ok-turn-in-None c = λ l.
+pub returns : goal.returns
+returns c = λ l.
     loaded c.args.store.now c.ask_data.new.store c.args.state.now c.ask_data.new.state l l c.args.text.now c.args.title c.args.line c.in_ok-turn-in-None.turn _ None c.in_ok-found.ensures c.in-None.is
     (c.in_ok-turn-in-None.ensures l)

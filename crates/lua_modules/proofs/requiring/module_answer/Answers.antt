@@ -20,8 +20,8 @@ keep_module-requires-clause-value c =
 pub forget_module-requires-clause-jump : goal.forget_module-requires-clause-jump
 forget_module-requires-clause-jump c = subst (OutcomeOf c.args.store.now) c.in-Jumps.is c.requires.outcome
 
-pub returns-in_ok-turn-in-Goes : goal.returns-in_ok-turn-in-Goes
-returns-in_ok-turn-in-Goes c =
+pub returns-in-Goes : goal.returns-in-Goes
+returns-in-Goes c =
     let texts = c.args.store.now.texts in
     rw c.in-Goes.is
     (subst (λ (v : Value). Makes c.args.store.now c.args.state.now c.args.left.now c.args.store.now c.keep_module.new.state c.args.left.now
@@ -29,5 +29,5 @@ returns-in_ok-turn-in-Goes c =
     (c.kept_value-value.ensures.seen texts ∙ ap value_or_true (ap (seen texts) c.first-first.ensures ∙ first_seen texts (given_values c.in-Goes.values)))
     (c.in_ok-turn-in-Goes.ensures c.args.left.now))
 
-pub returns-in_ok-turn-in-Jumps : goal.returns-in_ok-turn-in-Jumps
-returns-in_ok-turn-in-Jumps c = rw c.in-Jumps.is (c.in_ok-turn-in-Jumps.ensures c.args.left.now)
+pub returns : goal.returns
+returns c = rw c.in-Jumps.is (c.in_ok-turn-in-Jumps.ensures c.args.left.now)

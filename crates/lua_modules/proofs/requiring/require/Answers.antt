@@ -18,8 +18,8 @@ use Rattle.lua_modules.proofs.requiring.require.Goals as goal
 pub text_in-requires : goal.text_in-requires
 text_in-requires c = first_of c.args.store.now c.args.arguments c.first-first.result c.first-first.ensures c.requires.arguments
 
-pub returns-in_ok-turn-in-Some : goal.returns-in_ok-turn-in-Some
-returns-in_ok-turn-in-Some c =
+pub returns-in-Some : goal.returns-in-Some
+returns-in-Some c =
     let vs = values_seen c.args.store.now.texts c.args.arguments in
     subst (λ (a : Argument Bytes). Makes c.args.store.now c.args.state.now c.args.left.now c.require_text.new.store c.require_text.new.state c.require_text.new.left
     (with_argument a c.args.line (frames_of c.args.store.now c.args.state.now) (slots_of c.args.store.now c.args.state.now) (λ b. require_text (world_seen c.args.state.now.codes.world) b c.args.line (frames_of c.args.store.now c.args.state.now) (slots_of c.args.store.now c.args.state.now))) c.in_ok-turn-in-Some.turn)
@@ -27,8 +27,8 @@ returns-in_ok-turn-in-Some c =
     (subst (λ (b : Bytes). Makes c.args.store.now c.args.state.now c.args.left.now c.require_text.new.store c.require_text.new.state c.require_text.new.left
     ((λ b. require_text (world_seen c.args.state.now.codes.world) b c.args.line (frames_of c.args.store.now c.args.state.now) (slots_of c.args.store.now c.args.state.now)) b) c.in_ok-turn-in-Some.turn) c.as_slice-bytes.ensures c.in_ok-turn-in-Some.ensures)
 
-pub returns-in_ok-turn-in-None : goal.returns-in_ok-turn-in-None
-returns-in_ok-turn-in-None c =
+pub returns : goal.returns
+returns c =
     let vs = values_seen c.args.store.now.texts c.args.arguments in
     subst (λ (a : Argument Bytes). Makes c.args.store.now c.args.state.now c.args.left.now c.refuse.new.store c.args.state.now c.refuse.new.left
     (with_argument a c.args.line (frames_of c.args.store.now c.args.state.now) (slots_of c.args.store.now c.args.state.now) (λ b. require_text (world_seen c.args.state.now.codes.world) b c.args.line (frames_of c.args.store.now c.args.state.now) (slots_of c.args.store.now c.args.state.now))) c.in_ok-turn-in-None.turn)
