@@ -3,8 +3,11 @@ use Rattle.std.proofs.Common.{◌≡◌, ◌∙◌, refl, sym, ap, subst, ℕ, L
 use Rattle.wk_base.specs.declared.left.Left.{Left}
 use Rattle.wk_base.specs.declared.title.Title.{Title}
 use Rattle.wk_base.specs.declared.title_read.TitleFault.{TitleFault}
-use Rattle.page_run.specs.Outcome.{Goes}
-use Rattle.lua_heap.specs.Value.{Value as Plain, Table}
+use Rattle.page_run.specs.Outcome.{Goes, Jumps}
+use Rattle.lua_heap.specs.Value.{Value as Plain, Table, Text}
+use Rattle.lua_meaning.specs.Acts.{Raised}
+use Rattle.lua_meaning.specs.Messages.{wrong_answer}
+use Rattle.lua_slots.specs.Errors.{jumps}
 use Rattle.lua_meaning.specs.Scope.{Bytes}
 use Rattle.lua_meaning.specs.Values.{first, text_in}
 use Rattle.lua_meaning.specs.Arguments.{a_text, some_text}
@@ -12,7 +15,9 @@ use Rattle.lua_store.specs.declared.value.Value.{Value}
 use Rattle.lua_store.specs.declared.value.Value.TheVariants as own
 use Rattle.lua_store.specs.declared.ids.TextId.{TextId}
 use Rattle.lua_store.specs.Seen.{StoreView, seen, text_at}
-use Rattle.lua_store.specs.Parts.{IsLater, IsTextOf}
+use Rattle.lua_store.specs.Parts.{IsLater, IsOf, IsTextOf}
+use Rattle.lua_stack.specs.declared.focus.Jump.{Jump}
+use Rattle.lua_stack.specs.declared.focus.Jump.TheVariants as jump
 use Rattle.lua_basic.specs.declared.texts.TextIn.{TextIn}
 use Rattle.lua_basic.specs.Arguments.{text_bytes}
 use Rattle.lua_slots.specs.Calls.{text_of_module}
@@ -22,8 +27,8 @@ use Rattle.lua_slots.specs.Slots.{Slots}
 use Rattle.lua_stack.specs.declared.focus.Focus.TheVariants as focus
 use Rattle.lua_stack.specs.declared.frame.Thing.TheVariants as thing
 use Rattle.lua_stack.specs.Lists.{first_stored}
-use Rattle.lua_stack.specs.Of.{ValuesOf}
-use Rattle.lua_stack.specs.Seen.{values_seen}
+use Rattle.lua_stack.specs.Of.{JumpOf, ValuesOf}
+use Rattle.lua_stack.specs.Seen.{jump_seen, values_seen}
 use Rattle.lua_stack.proofs.Openings.{first_seen}
 use Rattle.lua_state.specs.declared.state.State.{State}
 use Rattle.lua_state.specs.declared.turn.Turn.TheVariants as turn
@@ -34,7 +39,7 @@ use Rattle.lua_state.proofs.Staying.{state_later}
 use Rattle.lua_modules.specs.declared.loading.DataAnswer.{DataAnswer}
 use Rattle.lua_modules.specs.Read.{title_read}
 use Rattle.lua_modules.specs.declared.loading.DataAnswer.TheVariants as answer
-use Rattle.lua_modules.specs.Answers.{one_answer_in, answer_in, data_move, DataAnswerOf}
+use Rattle.lua_modules.specs.Answers.{one_answer_in, answer_in, data_move, raised_in, DataAnswerOf}
 use Rattle.lua_modules.proofs.Parts.{on}
 
 -- THE TEXT OF A MODULE begins, whose name the store has
@@ -88,3 +93,20 @@ pub several : (vs : List Value) → (length vs ≡ 0 → ⊥) → (length vs ≡
 several [] none one = absurd (none refl)
 several (v ∷ []) none one = absurd (one refl)
 several (v ∷ w ∷ vs) none one = refl
+
+-- an answer that is none
+pub raised_of : (s : StoreView) (j : Jump) (v : Value) → raised_in j ≡ Some v → JumpOf s j → IsOf s v
+raised_of s (jump.Raised x) v e h = let same : x ≡ v = cc in subst (IsOf s) same h
+raised_of s (jump.Returned g) v e h = absurd cc
+raised_of s jump.Broke v e h = absurd cc
+
+module _ (texts : List (List ℕ)) (text : Bytes) (title : Title) (line : Option ℕ) (fs : List SFrame) (s : Slots) where
+  pub raised_move : (j : Jump) (v : Value) → raised_in j ≡ Some v → jumps (Raised (seen texts v)) fs s ≡ data_answer text title (Jumps (jump_seen texts j)) line fs s
+  raised_move (jump.Raised x) v e = let same : v ≡ x = cc in ap (λ (w : Value). jumps (Raised (seen texts w)) fs s) same
+  raised_move (jump.Returned g) v e = absurd cc
+  raised_move jump.Broke v e = absurd cc
+
+  pub other_move : (j : Jump) → raised_in j ≡ None → jumps (Raised (Text wrong_answer)) fs s ≡ data_answer text title (Jumps (jump_seen texts j)) line fs s
+  other_move (jump.Raised x) e = absurd cc
+  other_move (jump.Returned g) e = refl
+  other_move jump.Broke e = refl

@@ -1,5 +1,5 @@
 -- What values are as an answer to `mw.loadData`: one table, nothing, or what does not belong to the question.
-use Rattle.std.specs.Prelude.{ℕ, List, [], ◌∷◌, Option}
+use Rattle.std.specs.Prelude.{ℕ, List, [], ◌∷◌, Option, Some, None}
 use Rattle.wk_base.specs.declared.title.Title.{Title}
 use Rattle.lua_heap.specs.Value as kind
 use Rattle.lua_meaning.specs.Scope.{Bytes}
@@ -13,6 +13,8 @@ use Rattle.lua_store.specs.declared.value.Value.{Value}
 use Rattle.lua_store.specs.declared.value.Value.TheVariants as own
 use Rattle.lua_store.specs.Seen.{StoreView}
 use Rattle.lua_store.specs.Parts.{IsTableOf}
+use Rattle.lua_stack.specs.declared.focus.Jump.{Jump}
+use Rattle.lua_stack.specs.declared.focus.Jump.TheVariants as jump
 use Rattle.lua_modules.specs.declared.loading.DataAnswer.{DataAnswer}
 use Rattle.lua_modules.specs.declared.loading.DataAnswer.TheVariants as answer
 
@@ -35,3 +37,8 @@ abbrev pub data_move : DataAnswer → Bytes → Title → Option ℕ → List SF
 data_move (answer.Table table) text title line fs s = gives (kind.Table table.at ∷ []) fs (with_data title (kind.Table table.at) s)
 data_move answer.Nothing text title line fs s = fails line (no_data_module text) fs s
 data_move answer.Other text title line fs s = jumps (Raised (kind.Text wrong_answer)) fs s
+
+-- the value of an error, if a jump is one
+abbrev pub raised_in : Jump → Option Value
+raised_in (jump.Raised v) = Some v
+raised_in _ = None

@@ -20,7 +20,7 @@ ghost use Rattle.lua_stack.specs.Seen.{jump_seen, values_seen};
 ghost use Rattle.lua_state.specs.Makes.{Makes};
 ghost use Rattle.lua_state.specs.Of.{OutcomeOf, StateOf};
 ghost use Rattle.lua_state.specs.Seen.{frames_of, outcome_seen, slots_of};
-ghost use Rattle.lua_modules.specs.Answers.{one_answer_in, answer_in, data_move, DataAnswerOf};
+ghost use Rattle.lua_modules.specs.Answers.{one_answer_in, answer_in, data_move, raised_in, DataAnswerOf};
 
 use crate::raising::{lacks_data, wrong_answer};
 use crate::texts::{read_title, refuse};
@@ -260,24 +260,32 @@ fn data_given<'m>(
     }
 }
 
+/// The value of an error, if a jump is one.
+fn raised(jump: &Jump) -> Option<Value>
+    ensures { result ≡ raised_in jump.now }
+{
+    match jump {
+        Jump::Raised(value) => Some(*value),
+        Jump::Returned(_) => None,
+        Jump::Broke => None,
+    }
+}
+
 /// The answer to a question of `mw.loadData`, where it is none: an error is raised as it is.
 fn data_failed<'m>(
     store: &mut Store,
     state: &State<'m>,
-    jump: Jump,
+    jump: &Jump,
 ) -> Result<Turn<'m>, NoMemory>
     requires state { StateOf store.old state.now }
-    requires jump { JumpOf store.old jump }
+    requires jump { JumpOf store.old jump.now }
     ensures { (l : Allowance) (text : List ℕ) (title : Name) (line : Option ℕ) → IfOk result (λ r. Makes store.old state.now l store.new state.now l
-        (machine.data_answer text title (Jumps (jump_seen store.old.texts jump)) line (frames_of store.old state.now) (slots_of store.old state.now)) r) }
+        (machine.data_answer text title (Jumps (jump_seen store.old.texts jump.now)) line (frames_of store.old state.now) (slots_of store.old state.now)) r) }
 {
-    match jump {
-        Jump::Raised(value) => Ok(Turn::On(Focus::Jumps(Jump::Raised(value)))),
-        Jump::Returned(_) => {
-            let turn = wrong_answer(store, state)?;
-            Ok(turn)
-        }
-        Jump::Broke => {
+    let found = raised(jump);
+    match found {
+        Some(value) => Ok(Turn::On(Focus::Jumps(Jump::Raised(value)))),
+        None => {
             let turn = wrong_answer(store, state)?;
             Ok(turn)
         }
@@ -307,6 +315,9 @@ pub fn data_answer<'m>(
             let turn = data_given(alloc, store, left, state, text, title, answer, line)?;
             Ok(turn)
         }
-        Outcome::Jumps(jump) => data_failed(store, state, jump),
+        Outcome::Jumps(jump) => {
+            let turn = data_failed(store, state, &jump)?;
+            Ok(turn)
+        }
     }
 }

@@ -90,7 +90,10 @@ fn first_function<'m>(
     let found = modules.find_text(alloc, text)?;
     match found {
         None => Ok(None),
-        Some(held) => function_of(known, held, source, index),
+        Some(held) => {
+            let function = function_of(known, held, source, index)?;
+            Ok(function)
+        }
     }
 }
 
@@ -127,7 +130,8 @@ impl<'m> Codes<'m> {
             }
             None => {
                 let modules = self.world.modules;
-                first_function(alloc, &mut self.known, modules, store, source, index)
+                let found = first_function(alloc, &mut self.known, modules, store, source, index)?;
+                Ok(found)
             }
         }
     }

@@ -26,7 +26,7 @@ returns-in-Some c =
     (with_argument a c.args.line (frames_of c.args.store.now c.args.state.now) (slots_of c.args.store.now c.args.state.now) (λ b. load_titled b (title_of b Main) c.args.line (frames_of c.args.store.now c.args.state.now) (slots_of c.args.store.now c.args.state.now))) c.in_ok-turn-in-Some.turn)
     (ap (λ (o : Option TextIn). some_text 1 (codes "loadData") vs (option_map text_bytes o)) (sym c.in-Some.is) ∙ argued c.args.store.now.texts c.args.arguments c.first-first.result _ (codes "loadData") c.first-first.ensures c.in_ok-found.ensures)
     (subst (λ (b : Bytes). Makes c.args.store.now c.args.state.now c.args.left.now c.load_text.new.store c.load_text.new.state c.load_text.new.left
-    ((λ b. load_titled b (title_of b Main) c.args.line (frames_of c.args.store.now c.args.state.now) (slots_of c.args.store.now c.args.state.now)) b) c.in_ok-turn-in-Some.turn) c.as_slice-bytes.ensures c.in_ok-turn-in-Some.ensures)
+    (load_titled b (title_of b Main) c.args.line (frames_of c.args.store.now c.args.state.now) (slots_of c.args.store.now c.args.state.now)) c.in_ok-turn-in-Some.turn) c.as_slice-bytes.ensures c.in_ok-turn-in-Some.ensures)
 
 pub returns : goal.returns
 returns c =

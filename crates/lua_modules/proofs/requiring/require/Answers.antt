@@ -25,7 +25,7 @@ returns-in-Some c =
     (with_argument a c.args.line (frames_of c.args.store.now c.args.state.now) (slots_of c.args.store.now c.args.state.now) (λ b. require_text (world_seen c.args.state.now.codes.world) b c.args.line (frames_of c.args.store.now c.args.state.now) (slots_of c.args.store.now c.args.state.now))) c.in_ok-turn-in-Some.turn)
     (ap (λ (o : Option TextIn). some_text 1 (codes "require") vs (option_map text_bytes o)) (sym c.in-Some.is) ∙ argued c.args.store.now.texts c.args.arguments c.first-first.result _ (codes "require") c.first-first.ensures c.in_ok-found.ensures)
     (subst (λ (b : Bytes). Makes c.args.store.now c.args.state.now c.args.left.now c.require_text.new.store c.require_text.new.state c.require_text.new.left
-    ((λ b. require_text (world_seen c.args.state.now.codes.world) b c.args.line (frames_of c.args.store.now c.args.state.now) (slots_of c.args.store.now c.args.state.now)) b) c.in_ok-turn-in-Some.turn) c.as_slice-bytes.ensures c.in_ok-turn-in-Some.ensures)
+    (require_text (world_seen c.args.state.now.codes.world) b c.args.line (frames_of c.args.store.now c.args.state.now) (slots_of c.args.store.now c.args.state.now)) c.in_ok-turn-in-Some.turn) c.as_slice-bytes.ensures c.in_ok-turn-in-Some.ensures)
 
 pub returns : goal.returns
 returns c =

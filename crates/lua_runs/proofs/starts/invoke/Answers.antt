@@ -1,4 +1,6 @@
+use Rattle.std.proofs.Common.{subst, true, false}
 use Rattle.lua_meaning.specs.Frames.{args_charge}
+use Rattle.lua_state.specs.Charges.{Pays}
 use Rattle.lua_state.proofs.Making.{makes_late}
 use Rattle.lua_runs.proofs.Parts.{short, costs}
 use Rattle.lua_runs.proofs.Starting.{late_costs}
@@ -13,10 +15,10 @@ pub returns-then-not-pay_frame : goal.returns-then-not-pay_frame
 returns-then-not-pay_frame c =
     makes_late c.args.store.now c.args.store.now c.args.state.now c.args.state.now c.args.left.now c.pay_frame.new.left _ _
     (costs c.args.store.now c.args.store.now c.args.state.now c.args.state.now c.args.left.now c.pay.new.left c.pay_frame.new.left 1000 _ _ c.if-not-pay.ensures
-    (short c.args.store.now c.args.state.now c.pay.new.left c.pay_frame.new.left (args_charge c.args.job.scene.args) _ c.requires.state (rw c.as_slice-args.ensures at c.if-not-pay_frame.ensures)))
+    (short c.args.store.now c.args.state.now c.pay.new.left c.pay_frame.new.left (args_charge c.args.job.scene.args) _ c.requires.state (subst (λ as. Pays (args_charge as) c.pay.new.left c.pay_frame.new.left false) c.as_slice-args.ensures c.if-not-pay_frame.ensures)))
 
 pub returns : goal.returns
 returns c =
     late_costs c.args.store.now c.invoke_paid.new.store c.args.state.now c.invoke_paid.new.state c.args.left.now c.pay.new.left c.invoke_paid.new.left 1000 _ _ c.if-not-pay.ensures
     (late_costs c.args.store.now c.invoke_paid.new.store c.args.state.now c.invoke_paid.new.state c.pay.new.left c.pay_frame.new.left c.invoke_paid.new.left (args_charge c.args.job.scene.args) _ _
-    (rw c.as_slice-args.ensures at c.if-not-pay_frame.ensures) c.in_ok-turn.ensures)
+    (subst (λ as. Pays (args_charge as) c.pay.new.left c.pay_frame.new.left true) c.as_slice-args.ensures c.if-not-pay_frame.ensures) c.in_ok-turn.ensures)

@@ -9,12 +9,12 @@ returns-in-None-clause-found c =
     let e = rw c.in-None.is at c.in_ok-found.ensures in
     ap (λ o. code_of o c.args.index) (e ∙ ap (modules_seen c.args.modules.now) c.bytes-text.ensures)
 
-pub returns-in-Some-clause-all : goal.returns-in-Some-clause-all
-returns-in-Some-clause-all c = λ w same all.
+pub returns-in_ok-function-in-Some-clause-all : goal.returns-in_ok-function-in-Some-clause-all
+returns-in_ok-function-in-Some-clause-all c = λ w same all.
     let e = rw c.in-Some.is at c.in_ok-found.ensures in
-    c.function_of.ensures.all w c.args.store.now c.requires (e ∙ ap (modules_seen c.args.modules.now) c.bytes-text.ensures ∙ ap (λ f. f (text_at c.args.store.now.texts c.args.source.at)) same) all
+    c.in_ok-function-in-Some.ensures.all w c.args.store.now c.requires.source (e ∙ ap (modules_seen c.args.modules.now) c.bytes-text.ensures ∙ ap (λ f. f (text_at c.args.store.now.texts c.args.source.at)) same) all
 
-pub returns-in-Some-clause-found : goal.returns-in-Some-clause-found
-returns-in-Some-clause-found c =
+pub returns-in_ok-function-in-Some-clause-found : goal.returns-in_ok-function-in-Some-clause-found
+returns-in_ok-function-in-Some-clause-found c =
     let e = rw c.in-Some.is at c.in_ok-found.ensures in
-    c.function_of.ensures.found ∙ ap (λ o. code_of o c.args.index) (e ∙ ap (modules_seen c.args.modules.now) c.bytes-text.ensures)
+    c.in_ok-function-in-Some.ensures.found ∙ ap (λ o. code_of o c.args.index) (e ∙ ap (modules_seen c.args.modules.now) c.bytes-text.ensures)
