@@ -16,7 +16,8 @@ use Rattle.lua_machine.specs.declared.event.Event.{Event}
 use Rattle.lua_machine.specs.declared.event.Event.TheVariants as event
 use Rattle.lua_machine.specs.Moved.{point_of, MovedOf}
 use Rattle.lua_machine.specs.Going.{LeadsTo, moved_for}
-use Rattle.lua_machine.specs.Events.{stop_seen, funds_after, EventOf, BackAt, Settles}
+use Rattle.lua_machine.specs.Events.{stop_seen, funds_after, EventOf, BackAt, TakesItsOwn, Settles}
+use Rattle.lua_machine.proofs.Rest.{comes_takes}
 
 from_nothing : (l : Left) (m : State) → m.height ≡ 0 → funds_of l m no_tally 0 ≡ fund l m.calls no_tally
 from_nothing l m h = rw h refl
@@ -43,6 +44,17 @@ module _ (a : StoreView) (m : State) (x : Focus) (l : Left) (k : ℕ) (b : Store
       sum (event.Over o) p = omega (arith, p, c.rises)
       sum (event.Spent w) p = omega (arith, p, c.rises)
       sum (event.Asks q) p = omega (arith, p, c.rises)
+
+  -- steps and calls alone are taken
+  pub takes_its_own : (e : Event) (l'' : Left) (m'' : State) → m.height ≡ 0 → LeadsTo a m x l k b m' l' k' (moved_for e) → Settles e l' m' l'' m'' → TakesItsOwn l l''
+  takes_its_own e l'' m'' h c s =
+      let n : ℕ = k' - k in
+      taken e (comes_takes (world_seen m.codes.world) (point_of a m x) (slots_of a m) (fund l m.calls no_tally) (comes e l'' m'' n h c s (omega (arith, c.rises))))
+    where
+      taken : (e : Event) → TakesItsOwn l (funds_at (stop_seen b m'' e (funds_after l'' m'' (k' - k)))).left → TakesItsOwn l l''
+      taken (event.Over o) t = t
+      taken (event.Spent w) t = t
+      taken (event.Asks q) t = t
 
   -- where it stopped, calls left and calls in progress are as many as they were
   pub calls_at : (e : Event) → m.height ≡ 0 → LeadsTo a m x l k b m' l' k' (moved_for e) → l'.calls + m'.calls ≡ l.calls + m.calls

@@ -1,3 +1,4 @@
 pub mod Loops
 pub mod Moves
+pub mod Rest
 pub mod Events

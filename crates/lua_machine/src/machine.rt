@@ -1,6 +1,7 @@
 //! A machine of Lua: a run that goes on until an event.
 ghost use Rattle.std.specs.Prelude.{◌≡◌, ◌+◌, ◌<◌, ◌≤◌, ◌^◌, ℕ, List, max, IfOk, OnOk};
 ghost use Rattle.mw_frame.specs.declared.question.Ask.{Ask as PlainAsk};
+ghost use Rattle.lua_heap.specs.Reach.{nowhere, Frame};
 ghost use Rattle.lua_meaning.specs.Questions.{Answer as PlainAnswer};
 ghost use Rattle.lua_meaning.specs.Start.{Work as PlainWork};
 ghost use Rattle.lua_slots.specs.Code.{CWorld};
@@ -13,7 +14,7 @@ ghost use Rattle.lua_machine.specs.Moved.{point_of};
 ghost use Rattle.lua_store.specs.Parts.{IsLater};
 ghost use Rattle.lua_stack.specs.Of.{FocusOf, WorkOf};
 ghost use Rattle.lua_state.specs.Of.{StateOf};
-ghost use Rattle.lua_machine.specs.Events.{MachineOf, GoesFrom, stop_seen, funds_after, EventOf, BackAt, Settles, AnswerOf, answer_outcome};
+ghost use Rattle.lua_machine.specs.Events.{MachineOf, GoesFrom, TakesItsOwn, stop_seen, funds_after, EventOf, BackAt, Settles, AnswerOf, answer_outcome};
 
 use crate::event::{Answer, Event};
 use crate::going::advance;
@@ -81,6 +82,7 @@ fn proceed<'m, L: Ledger>(
     ensures goes { IfOk result (λ e. (n : ℕ) → turns.new ≡ turns.old + n → GoesFrom store.old state.old focus.entry left.old (stop_seen store.new state.new e (funds_after left.new state.new n))) }
     ensures counts { OnOk result ((turns.old ≤ turns.new) × (turns.new + left.new.steps ≤ turns.old + left.old.steps)) }
     ensures back { IfOk result (λ e. BackAt e left.old state.old.calls left.new state.new.calls) }
+    ensures takes { OnOk result (TakesItsOwn left.old left.new) }
 {
     state.height = 0;
     let event = advance(alloc, store, left, state, focus, turns)?;
@@ -128,6 +130,7 @@ fn fresh_state<'m>(
     ensures world { IfOk result (λ m. m.codes.world ≡ world.entry) }
     ensures starts { IfOk result (λ m. (code : CWorld) (work : PlainWork) → Starts code work store.old.heap (slots_of store.new m)) }
     ensures idle { IfOk result (λ m. m.calls ≡ 0) }
+    ensures frame { OnOk result (Frame nowhere store.old.heap store.new.heap) }
     ensures later { OnOk result (IsLater store.old store.new) }
 {
     let env = environment(store)?;
@@ -162,6 +165,7 @@ impl<'m> Machine<'m> {
         ensures next { IfOk result (λ m. m.next ≡ focus_kind.Works work) }
         ensures starts { IfOk result (λ m. (code : CWorld) → Starts code (work_seen work) store.old.heap (slots_of store.new m.state)) }
         ensures idle { IfOk result (λ m. (m.state.calls ≡ 0) × (m.height ≡ 0)) }
+        ensures frame { OnOk result (Frame nowhere store.old.heap store.new.heap) }
         ensures later { OnOk result (IsLater store.old store.new) }
     {
         let state = fresh_state(alloc, store, seed, world)?;
@@ -171,6 +175,20 @@ impl<'m> Machine<'m> {
             next: Focus::Works(work),
             height: 0,
         })
+    }
+
+    /// How many calls are in progress.
+    pub fn calls(&self) -> u64
+        ensures { result ≡ self.now.state.calls }
+    {
+        self.state.calls
+    }
+
+    /// The most calls that were in progress at one time so far.
+    pub fn height(&self) -> u64
+        ensures { result ≡ self.now.height }
+    {
+        self.height
     }
 
     /// The answer to the question at which the machine stands. `height` is the most calls that were in progress at one time in what was run
@@ -210,6 +228,7 @@ impl<'m> Machine<'m> {
         ensures goes { IfOk result (λ e. (n : ℕ) → turns.new ≡ turns.old + n → GoesFrom store.old self.old.state self.old.next left.old (stop_seen store.new self.new.state e (funds_after left.new self.new.state n))) }
         ensures counts { OnOk result ((turns.old ≤ turns.new) × (turns.new + left.new.steps ≤ turns.old + left.old.steps)) }
         ensures back { IfOk result (λ e. BackAt e left.old self.old.state.calls left.new self.new.state.calls) }
+        ensures takes { OnOk result (TakesItsOwn left.old left.new) }
         ensures height { OnOk result (self.new.height ≡ max self.old.height self.new.state.height) }
     {
         let nothing = Focus::Gives(Given::Many(Values::new(self.alloc)));

@@ -1,6 +1,8 @@
 use Rattle.std.proofs.Common.{◌∙◌}
-use Rattle.lua_home_laws.proofs.Homes.{made_starts}
+use Rattle.lua_home_laws.proofs.Homes.{made_is_home, made_starts}
+use Rattle.lua_slots.specs.Code.{CWorld}
 use Rattle.lua_stack.proofs.Stay.{environment_later}
+use Rattle.lua_state.specs.Worlds.{world_seen}
 use Rattle.lua_machine.proofs.machine.fresh_state.Goals as goal
 
 pub returns-clause-of : goal.returns-clause-of
@@ -19,3 +21,9 @@ pub returns-clause-starts : goal.returns-clause-starts
 returns-clause-starts c = λ code work.
     rw (c.new-3.ensures, c.new-4.ensures, c.new-5.ensures, c.new-6.ensures, c.in_ok-scenes.ensures.made)
     (made_starts code work c.args.store.now.heap c.new.new.store.heap c.in_ok-env.env.globals.at c.in_ok-env.env.strings.at (c.in_ok-scenes.ensures.heap ∙ c.in_ok-env.ensures.made) c.in_ok-env.ensures.at)
+
+-- in any code the environment is a home, and what was there stays
+pub returns-clause-frame : goal.returns-clause-frame
+returns-clause-frame c =
+    let code : CWorld = world_seen c.args.world in
+    (made_is_home code c.args.store.now.heap c.new.new.store.heap c.in_ok-env.env.globals.at c.in_ok-env.env.strings.at (c.in_ok-scenes.ensures.heap ∙ c.in_ok-env.ensures.made) c.in_ok-env.ensures.at).frame

@@ -4,7 +4,7 @@ use Rattle.lua_state.specs.Seen.{slots_of}
 use Rattle.lua_state.specs.Worlds.{world_seen}
 use Rattle.lua_machine.specs.Moved.{point_of}
 use Rattle.lua_machine.specs.Events.{stop_seen, funds_after}
-use Rattle.lua_machine.proofs.Events.{comes, paid_for, calls_back, settled_of, settled_world, event_of, calls_at}
+use Rattle.lua_machine.proofs.Events.{comes, paid_for, takes_its_own, calls_back, settled_of, settled_world, event_of, calls_at}
 use Rattle.lua_machine.proofs.machine.proceed.Goals as goal
 
 pub settle-requires : goal.settle-requires
@@ -27,3 +27,6 @@ returns-clause-counts g c = paid_for c.args.store.now (record c.args.state.now {
 
 pub returns-clause-back : goal.returns-clause-back
 returns-clause-back g c = calls_back c.args.store.now (record c.args.state.now { height = 0 }) c.args.focus c.args.left.now c.args.turns.now c.advance.new.store c.advance.new.state c.advance.new.left c.advance.new.turns c.in_ok-event.event c.settle.new.left c.settle.new.state refl c.in_ok-event.ensures c.settle.ensures
+
+pub returns-clause-takes : goal.returns-clause-takes
+returns-clause-takes g c = takes_its_own c.args.store.now (record c.args.state.now { height = 0 }) c.args.focus c.args.left.now c.args.turns.now c.advance.new.store c.advance.new.state c.advance.new.left c.advance.new.turns c.in_ok-event.event c.settle.new.left c.settle.new.state refl c.in_ok-event.ensures c.settle.ensures

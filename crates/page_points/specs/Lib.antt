@@ -1,0 +1,5 @@
+pub mod Places
+pub mod Machines
+pub mod Loads
+pub mod Apart
+pub mod Laws
