@@ -1,5 +1,5 @@
 -- A turn of a loop begins, or the body of a function: there are new registers, and a frame that waits for its end.
-use Rattle.std.proofs.Common.{◌≡◌, ◌∙◌, refl, sym, ap, ℕ, Bool, List, ◌∷◌}
+use Rattle.std.proofs.Common.{◌≡◌, ◌∙◌, refl, sym, ap, Bool, List, ◌∷◌}
 use Rattle.std.specs.Prelude.{ℤ}
 use Rattle.wk_base.specs.declared.left.Left.{Left}
 use Rattle.lua_heap.specs.Proc.{Proc}

@@ -1,15 +1,12 @@
 -- A function of Lua is entered.
-use Rattle.std.proofs.Common.{◌≡◌, ◌∙◌, refl, sym, ap, subst, ℕ, zero, suc, ◌+◌, Bool, true, false, List, [], ◌∷◌, length, drop, map, Option, Some, None, arith}
+use Rattle.std.proofs.Common.{◌≡◌, ◌∙◌, refl, sym, ap, subst, ℕ, zero, suc, ◌+◌, Bool, true, false, List, [], ◌∷◌, length, drop, Option, Some, None, arith}
 use Rattle.std.specs.Prelude.{if◌then◌else◌}
 use Rattle.std.proofs.lemmas.List.{drop-map, length-map}
 use Rattle.wk_base.specs.declared.left.Left.{Left}
-use Rattle.page_run.specs.State.{Tally}
 use Rattle.page_run.specs.declared.which.Which.TheVariants.{Calls}
-use Rattle.lua_heap.specs.Proc.{Proc}
-use Rattle.lua_heap.specs.Heap.{Heap}
 use Rattle.lua_store.specs.declared.value.Value.{Value}
 use Rattle.lua_store.specs.declared.ids.ClosureId.{ClosureId}
-use Rattle.lua_store.specs.Seen.{StoreView, seen, text_at}
+use Rattle.lua_store.specs.Seen.{StoreView, seen}
 use Rattle.lua_store.specs.Parts.{IsLater}
 use Rattle.lua_store.proofs.Later.{later-itself, text_of-later}
 use Rattle.lua_slots.specs.Code.{CProto}
@@ -22,7 +19,7 @@ use Rattle.lua_stack.specs.declared.activation.Activation.{Activation}
 use Rattle.lua_stack.specs.declared.activation.Callee.{Callee}
 use Rattle.lua_stack.specs.declared.frame.Frame.{Frame}
 use Rattle.lua_stack.specs.declared.register.Slot.{Slot}
-use Rattle.lua_stack.specs.Seen.{Texts, slot_seen, values_seen, registers_seen, captured_by, callee_seen, activation_seen, activations_seen}
+use Rattle.lua_stack.specs.Seen.{Texts, slot_seen, values_seen, registers_seen, callee_seen, activation_seen, activations_seen}
 use Rattle.lua_stack.specs.Of.{ValuesOf, CalleeOf, ActivationOf, ActivationsOf, MayBeClosureOf}
 use Rattle.lua_stack.proofs.Stay.{values_later, captured_stay, activations_later, activations_as}
 use Rattle.lua_state.specs.declared.codes.Codes.{Codes}
@@ -34,8 +31,8 @@ use Rattle.lua_state.specs.Of.{StateOf}
 use Rattle.lua_state.specs.Makes.{IfSpent, Makes, Counts}
 use Rattle.lua_state.specs.Charges.{EntersCall}
 use Rattle.lua_state.specs.Worlds.{CodesOf}
-use Rattle.lua_state.proofs.Making.{after, counts_after, counts_mark, counts_none, counts_from_parts}
-use Rattle.lua_loops.proofs.Beginning.{with_parts, with_new, opened_slots}
+use Rattle.lua_state.proofs.Making.{counts_after, counts_mark, counts_none, counts_from_parts}
+use Rattle.lua_loops.proofs.Beginning.{with_parts, opened_slots}
 
 -- THE ARGUMENTS BEHIND the parameters, where the function has `...`
 abbrev pub dots_at : Bool → ℕ → List Value → List Value

@@ -1,15 +1,13 @@
 -- Registers, functions and calls that are given back.
-use Rattle.std.proofs.Common.{◌≡◌, ◌∙◌, refl, sym, ap, subst, ℕ, suc, zero, ◌-◌, List, [], ◌∷◌, length, drop, map}
+use Rattle.std.proofs.Common.{◌≡◌, ◌∙◌, refl, sym, ap, subst, ℕ, suc, zero, ◌-◌, List, [], ◌∷◌, length, drop}
 use Rattle.std.proofs.lemmas.List.{drop-map, length-map}
 use Rattle.wk_base.specs.declared.left.Left.{Left}
-use Rattle.page_run.specs.State.{Tally}
 use Rattle.lua_store.specs.Seen.{StoreView}
 use Rattle.lua_store.proofs.Later.{later-itself}
 use Rattle.lua_slots.specs.Slots as slots
 use Rattle.lua_slots.specs.Slots.{Slots, cut_to, cut, newest_function, function_of}
 use Rattle.lua_slots.specs.Points.{Move, Exits, Now}
 use Rattle.lua_slots.specs.Calls.{rest_of, left_function}
-use Rattle.lua_slots.specs.Enact.{enact}
 use Rattle.lua_stack.specs.declared.activation.Activation.{Activation}
 use Rattle.lua_stack.specs.declared.focus.Focus.{Focus}
 use Rattle.lua_stack.specs.declared.register.Slot.{Slot}
@@ -18,12 +16,12 @@ use Rattle.lua_stack.specs.Of.{RegistersOf, ActivationsOf, FocusOf}
 use Rattle.lua_state.specs.declared.state.State.{State}
 use Rattle.lua_state.specs.declared.turn.Turn.{Turn}
 use Rattle.lua_state.specs.declared.turn.Turn.TheVariants as turn
-use Rattle.lua_state.specs.Seen.{slots_of, frames_of, funds_of}
+use Rattle.lua_state.specs.Seen.{slots_of, frames_of}
 use Rattle.lua_state.specs.Of.{StateOf}
 use Rattle.lua_state.specs.Makes.{IfSpent, Makes}
 use Rattle.lua_state.specs.Charges.{LeavesCall}
-use Rattle.lua_state.proofs.Making.{after, from_parts, stands}
-use Rattle.lua_loops.proofs.Parts.{with_frames, on}
+use Rattle.lua_state.proofs.Making.{after, from_parts}
+use Rattle.lua_loops.proofs.Parts.{on}
 
 -- THE OLDEST of some registers
 dropped_of : (s : StoreView) (n : ℕ) (regs : List Slot) → RegistersOf s regs → RegistersOf s (drop n regs)

@@ -2,7 +2,6 @@
 use Rattle.std.proofs.Common.{◌≡◌, ◌∙◌, refl, sym, ap, subst, ℕ, ◌+◌, Bool, List, [], ◌∷◌}
 use Rattle.std.specs.Prelude.{ℤ}
 use Rattle.wk_base.specs.declared.left.Left.{Left}
-use Rattle.lua_heap.specs.Value.{Value as Plain}
 use Rattle.lua_meaning.specs.Values.{first}
 use Rattle.lua_store.specs.declared.value.Value.{Value}
 use Rattle.lua_store.specs.Seen.{StoreView, seen}
@@ -48,9 +47,6 @@ stepped s t m fs l l' mv st r e made = from_parts s t m (with_frames m fs) (with
 -- the same move in other words
 pub same_move : (s t : StoreView) (m m' : State) (l l' : Left) (mv nv : Move) (r : Turn) → nv ≡ mv → Makes s m l t m' l' nv r → Makes s m l t m' l' mv r
 same_move s t m m' l l' mv nv r e made = subst (λ (x : Move). Makes s m l t m' l' x r) e made
-
-pub counts_same : (s t : StoreView) (m m' : State) (l l' : Left) (k k' : ℕ) (mv nv : Move) (r : Turn) → nv ≡ mv → Counts s m l k t m' l' k' nv r → Counts s m l k t m' l' k' mv r
-counts_same s t m m' l l' k k' mv nv r e made = subst (λ (x : Move). Counts s m l k t m' l' k' x r) e made
 
 -- one more is counted
 pub counted : (s t : StoreView) (m m' : State) (l l' : Left) (k k' : ℕ) (mv : Move) (r : Turn) → k' ≡ k + 1 → Makes s m l t m' l' mv r → Counts s m l k t m' l' k' (Marks mv) r

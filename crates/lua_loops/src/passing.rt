@@ -1,5 +1,5 @@
 //! The end of a block, a function, or a turn of a loop is jumped out of (manual 2.4.4 and 2.7).
-ghost use Rattle.std.specs.Prelude.{◌≡◌, ◌+◌, ◌<◌, ◌^◌, IfOk};
+ghost use Rattle.std.specs.Prelude.{◌+◌, ◌<◌, ◌^◌, IfOk};
 ghost use Rattle.wk_base.specs.declared.left.Left.{Left as Allowance};
 ghost use Rattle.lua_slots.specs.Calls as calls;
 ghost use Rattle.lua_slots.specs.Errors.{jumps};

@@ -5,7 +5,6 @@ use Rattle.lua_slots.specs.Points.{Point, Now}
 use Rattle.lua_stack.specs.Seen.{callee_seen, values_seen}
 use Rattle.lua_state.specs.Seen.{slots_of, frames_of}
 use Rattle.lua_state.proofs.Making.{counts_none}
-use Rattle.lua_loops.proofs.Parts.{same_move}
 use Rattle.lua_loops.proofs.Entering.{with_codes, with_codes_of, found}
 use Rattle.lua_loops.proofs.bodies.enter_body.Goals as goal
 

@@ -1,4 +1,4 @@
-use Rattle.std.proofs.Common.{subst, true, false}
+use Rattle.std.proofs.Common.{subst}
 use Rattle.std.specs.Prelude.{◌∷◌}
 use Rattle.lua_code.specs.Seen.{block_seen, proto_seen}
 use Rattle.lua_slots.specs.Calls.{slots_in_body}

@@ -1,10 +1,7 @@
-use Rattle.std.proofs.Common.{◌∙◌, ap, ℕ, rules, w64, to_z, of_z}
-use Rattle.std.specs.Prelude.{ℤ}
+use Rattle.std.proofs.Common.{rules, w64, to_z, of_z}
 use Rattle.std.proofs.lemmas.Int.{to_z-of_z}
 use mir.Val.{SFits}
-use Rattle.lua_heap.specs.Value.{Number}
 use Rattle.lua_code.specs.Seen.{block_seen}
-use Rattle.lua_slots.specs.Slots.{with_one}
 use Rattle.lua_stack.specs.declared.frame.Ending.TheVariants as ending
 use Rattle.lua_stack.specs.Seen.{registers_seen}
 use Rattle.lua_loops.proofs.Parts.{counted, counts_at_end}
