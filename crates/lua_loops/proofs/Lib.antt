@@ -1,0 +1,4 @@
+pub mod Parts
+pub mod Beginning
+pub mod Left
+pub mod Entering

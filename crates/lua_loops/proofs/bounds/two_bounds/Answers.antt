@@ -1,0 +1,11 @@
+use Rattle.lua_state.specs.Seen.{slots_of}
+use Rattle.lua_loops.proofs.Parts.{with_frames_of, stepped}
+use Rattle.lua_loops.proofs.bounds.two_bounds.Goals as goal
+
+pub finish-requires-clause-state : goal.finish-requires-clause-state
+finish-requires-clause-state c = with_frames_of c.args.store.now c.args.state.now c.step_next.new.frames c.requires.state c.in_ok-step.ensures.of.1
+
+pub returns : goal.returns
+returns c =
+    stepped c.args.store.now c.finish.new.store c.args.state.now c.step_next.new.frames c.args.left.now c.finish.new.left _ c.in_ok-step.step _
+    (c.in_ok-step.ensures.move_ (slots_of c.args.store.now c.args.state.now)) c.in_ok-turn.ensures.makes
