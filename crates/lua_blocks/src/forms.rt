@@ -13,7 +13,7 @@ ghost use Rattle.lua_state.specs.Seen.{frames_of, slots_of};
 
 use crate::exits::{wait, wait_within};
 use lua_code::{Expression, Statement, Target};
-use lua_stack::{Ending, Focus, Frame, InLoop, InStatement, Values};
+use lua_stack::{Ending, Focus, Frame, InLoop, InStatement, Thing, Values};
 use lua_state::{State, Turn};
 use lua_store::Store;
 use std::alloc::Global;
@@ -92,6 +92,22 @@ pub fn loop_begins<'m>(
     )
 }
 
+/// The first turn of a `repeat` (manual 2.4.4).
+pub fn repeat<'m>(
+    store: &Store,
+    state: &mut State<'m>,
+    body: &'m List<Statement>,
+    test: &'m Expression,
+    rest: &'m [Statement],
+) -> Result<Turn<'m>, NoMemory>
+    requires state { StateOf store.now state.old }
+    ensures { (l : Allowance) → IfOk result (λ r. Makes store.now state.old l store.now state.new l
+        (Now (point.Starts (point.RepeatTurnS (block_seen body.now) (expression_seen test.now)) (StatsNext (block_seen rest.now) ∷ frames_of store.now state.old)) (slots_of store.now state.old)) r) }
+{
+    let focus = Focus::Starts(Thing::RepeatTurn(body, test));
+    then(store, state, focus, rest)
+}
+
 /// The step of a counting loop, if one is given.
 fn step_of<'m>(by: &'m Option<Expression>) -> Option<&'m Expression>
     ensures { option_map (λ e. expression_seen e.now) result ≡ option_map expression_seen by.now }
@@ -124,7 +140,7 @@ pub fn count<'m>(
 }
 
 /// The values of these expressions are next, for which this frame waits.
-pub fn values_for<'m>(
+fn values_for<'m>(
     alloc: Global,
     store: &Store,
     state: &mut State<'m>,
@@ -140,6 +156,22 @@ pub fn values_for<'m>(
     let outer = Frame::Statement(InStatement::StatsNext(rest));
     let focus = Focus::Lists(values.as_slice(), Values::new(alloc));
     wait_within(store, state, outer, waiting, focus)
+}
+
+/// The values that a function gives are next (manual 2.4.4).
+pub fn return_values<'m>(
+    alloc: Global,
+    store: &Store,
+    state: &mut State<'m>,
+    values: &'m List<Expression>,
+    rest: &'m [Statement],
+) -> Result<Turn<'m>, NoMemory>
+    requires state { StateOf store.now state.old }
+    ensures { (l : Allowance) → IfOk result (λ r. Makes store.now state.old l store.now state.new l
+        (Now (point.Lists (expressions_seen values.now) [] (point.ReturnNow ∷ StatsNext (block_seen rest.now) ∷ frames_of store.now state.old)) (slots_of store.now state.old)) r) }
+{
+    let frame = Frame::Statement(InStatement::ReturnNow);
+    values_for(alloc, store, state, values, frame, rest)
 }
 
 /// The values of new local variables are next (manual 2.4.7), which the statements behind see.

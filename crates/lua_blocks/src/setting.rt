@@ -1,5 +1,5 @@
 //! The targets of an assignment are set (manual 2.4.3), from the last to the first.
-ghost use Rattle.std.specs.Prelude.{◌∷◌, [], Some, IfOk};
+ghost use Rattle.std.specs.Prelude.{[], Some, IfOk};
 ghost use Rattle.std.specs.List.{AllByRecursion};
 ghost use Rattle.wk_base.specs.declared.left.Left.{Left as Allowance};
 ghost use Rattle.lua_code.specs.Seen.{place_seen};

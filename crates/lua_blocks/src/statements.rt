@@ -9,10 +9,10 @@ ghost use Rattle.lua_state.specs.Seen.{frames_of, slots_of};
 
 use crate::conditions::condition;
 use crate::exits::nothing;
-use crate::forms::{assign, block, count, declare, each, loop_begins, then, values_for};
+use crate::forms::{assign, block, count, declare, each, loop_begins, repeat, return_values, then};
 use crate::functions::local_function;
 use lua_code::Statement;
-use lua_stack::{Focus, Frame, InLoop, InStatement, Jump, Thing};
+use lua_stack::{Focus, InLoop, Jump};
 use lua_state::{State, Turn, pay_node};
 use lua_store::Store;
 use page_run::Which;
@@ -56,10 +56,7 @@ fn begin<'m>(
         Statement::While(test, body) => {
             loop_begins(store, state, test, InLoop::WhileTest(test, body), rest)
         }
-        Statement::Repeat(body, test) => {
-            let focus = Focus::Starts(Thing::RepeatTurn(body, test));
-            then(store, state, focus, rest)
-        }
+        Statement::Repeat(body, test) => repeat(store, state, body, test, rest),
         Statement::If(arms, other) => condition(alloc, store, left, state, arms, other, rest),
         Statement::Count(boxed, from, to, by, body, line) => {
             count(store, state, *boxed, (from, to), by, body, *line, rest)
@@ -67,10 +64,7 @@ fn begin<'m>(
         Statement::Each(flags, values, body, line) => {
             each(alloc, store, state, flags, values, body, *line, rest)
         }
-        Statement::Return(values) => {
-            let frame = Frame::Statement(InStatement::ReturnNow);
-            values_for(alloc, store, state, values, frame, rest)
-        }
+        Statement::Return(values) => return_values(alloc, store, state, values, rest),
         Statement::Break => then(store, state, Focus::Jumps(Jump::Broke), rest),
         Statement::Declare(flags, values) => declare(alloc, store, state, flags, values, rest),
         Statement::LocalFunction(boxed, index, places) => {

@@ -17,7 +17,7 @@ pub returns-in-While : goal.returns-in-While
 returns-in-While c = rw (c.in-While.is, statement-While c.in-While.test c.in-While.body (block_seen c.args.rest.now)) (c.loop_begins.ensures c.args.left.now)
 
 pub returns-in-Repeat : goal.returns-in-Repeat
-returns-in-Repeat c = rw (c.in-Repeat.is, statement-Repeat c.in-Repeat.body c.in-Repeat.test (block_seen c.args.rest.now)) (c.then-in-Repeat.ensures c.args.left.now)
+returns-in-Repeat c = rw (c.in-Repeat.is, statement-Repeat c.in-Repeat.body c.in-Repeat.test (block_seen c.args.rest.now)) (c.repeat.ensures c.args.left.now)
 
 pub returns-in-If : goal.returns-in-If
 returns-in-If c = rw (c.in-If.is, if_begins c.in-If.arms c.in-If.other c.args.rest.now (frames_of c.args.store.now c.args.state.now) (slots_of c.args.store.now c.args.state.now)) c.condition.ensures
@@ -31,7 +31,7 @@ pub returns-in-Each : goal.returns-in-Each
 returns-in-Each c = rw (c.in-Each.is, statement-Each c.in-Each.flags c.in-Each.values c.in-Each.body c.in-Each.line (block_seen c.args.rest.now)) (c.each.ensures c.args.left.now)
 
 pub returns-in-Return : goal.returns-in-Return
-returns-in-Return c = rw (c.in-Return.is, statement-Return c.in-Return.values (block_seen c.args.rest.now)) (c.values_for.ensures c.args.left.now)
+returns-in-Return c = rw (c.in-Return.is, statement-Return c.in-Return.values (block_seen c.args.rest.now)) (c.return_values.ensures c.args.left.now)
 
 pub returns-in-Break : goal.returns-in-Break
 returns-in-Break c = rw (c.in-Break.is, statement-Break (block_seen c.args.rest.now)) (c.then-in-Break.ensures c.args.left.now)
