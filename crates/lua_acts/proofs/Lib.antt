@@ -1,0 +1,6 @@
+pub mod Parts
+pub mod Lists
+pub mod Refusing
+pub mod Handlers
+pub mod Levels
+pub mod Next

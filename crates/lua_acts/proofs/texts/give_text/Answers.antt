@@ -1,0 +1,11 @@
+use Rattle.std.proofs.Common.{length}
+use Rattle.lua_acts.proofs.Parts.{costs, short}
+use Rattle.lua_acts.proofs.texts.give_text.Goals as goal
+
+pub returns-then-not-pay : goal.returns-then-not-pay
+returns-then-not-pay c = short c.args.store.now c.args.state.now c.args.left.now c.pay.new.left (length c.args.bytes.now) _ c.requires c.if-not-pay.ensures
+
+pub returns : goal.returns
+returns c =
+    costs c.args.store.now c.give_paid.new.store c.args.state.now c.args.state.now c.args.left.now c.pay.new.left c.pay.new.left (length c.args.bytes.now) _ _
+    c.if-not-pay.ensures (c.in_ok-turn.ensures c.pay.new.left)

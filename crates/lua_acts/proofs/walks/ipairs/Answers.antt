@@ -1,0 +1,48 @@
+use Rattle.std.proofs.Common.{None}
+use Rattle.std.specs.Prelude.{◌∷◌, [], pos, codes}
+use Rattle.lua_heap.specs.Value as kind
+use Rattle.lua_heap.specs.declared.library.Library.TheVariants.{IpairsStep}
+use Rattle.lua_meaning.specs.Arguments.{a_table}
+use Rattle.lua_meaning.specs.Pending.{PairsWaits}
+use Rattle.lua_meaning.specs.Values.{first}
+use Rattle.lua_store.specs.Seen.{seen}
+use Rattle.lua_slots.specs.Calls.{call}
+use Rattle.lua_slots.specs.Errors.{gives, with_argument}
+use Rattle.lua_slots.specs.Points.{Waits}
+use Rattle.lua_stack.specs.Seen.{values_seen}
+use Rattle.lua_stack.proofs.Openings.{first_of}
+use Rattle.lua_state.specs.Seen.{slots_of, frames_of}
+use Rattle.lua_acts.proofs.Handlers.{without, asked}
+use Rattle.lua_acts.proofs.Lists.{seen_first, with_first}
+use Rattle.lua_acts.proofs.walks.ipairs.Goals as goal
+
+pub handler-found-requires-clause-of : goal.handler-found-requires-clause-of
+handler-found-requires-clause-of c = first_of c.args.store.now c.args.arguments c.first-value.result c.first-value.ensures c.requires.arguments
+
+pub handler-found-requires-clause-name : goal.handler-found-requires-clause-name
+handler-found-requires-clause-name c = c.requires.state.env.ipairs.0
+
+pub ask-requires-clause-value : goal.ask-requires-clause-value
+ask-requires-clause-value c = first_of c.args.store.now c.args.arguments c.first-value.result c.first-value.ensures c.requires.arguments
+
+pub returns-then-is_nil : goal.returns-then-is_nil
+returns-then-is_nil c =
+    let args = values_seen c.args.store.now.texts c.args.arguments in
+    let fs = frames_of c.args.store.now c.args.state.now in
+    let s = slots_of c.args.store.now c.args.state.now in
+    without c.args.store.now c.begin.new.store c.args.state.now c.args.state.now c.args.left.now c.begin.new.left c.in_ok-turn.turn c.handler-found.result c.first-value.result (first args) _ _
+    (λ h. call h (first args ∷ []) None (Waits PairsWaits c.args.line ∷ fs) s)
+    (with_argument (a_table 1 (codes "ipairs") args) c.args.line fs s (λ t. gives (kind.Builtin IpairsStep ∷ kind.Table t ∷ kind.Number (pos 0) ∷ []) fs s))
+    (seen_first c.args.store.now.texts c.args.arguments c.first-value.result c.first-value.ensures) c.handler-found.ensures.value c.requires.state.env.ipairs.1 (c.if-is_nil.ensures c.args.store.now.texts) c.in_ok-turn.ensures
+
+pub returns : goal.returns
+returns c =
+    let args = values_seen c.args.store.now.texts c.args.arguments in
+    let fs = frames_of c.args.store.now c.args.state.now in
+    let s = slots_of c.args.store.now c.args.state.now in
+    asked c.args.store.now c.ask.new.store c.args.state.now c.ask.new.state c.args.left.now c.ask.new.left c.in_ok-turn-2.turn c.handler-found.result c.first-value.result (first args) _ _
+    (λ h. call h (first args ∷ []) None (Waits PairsWaits c.args.line ∷ fs) s)
+    (with_argument (a_table 1 (codes "ipairs") args) c.args.line fs s (λ t. gives (kind.Builtin IpairsStep ∷ kind.Table t ∷ kind.Number (pos 0) ∷ []) fs s))
+    (seen_first c.args.store.now.texts c.args.arguments c.first-value.result c.first-value.ensures) c.handler-found.ensures.value c.requires.state.env.ipairs.1 (c.if-is_nil.ensures c.args.store.now.texts)
+    (with_first c.args.store.now c.ask.new.store c.args.state.now c.ask.new.state c.args.left.now c.ask.new.left c.in_ok-turn-2.turn c.args.arguments c.first-value.result
+    (λ v. call (seen c.args.store.now.texts c.handler-found.result) (v ∷ []) None (Waits PairsWaits c.args.line ∷ fs) s) c.first-value.ensures c.in_ok-turn-2.ensures)

@@ -1,0 +1,36 @@
+//! A function that sees the frames is called.
+ghost use Rattle.lua_store.specs.Parts.{IsLater};
+ghost use Rattle.lua_basic.specs.Seen.{values_seen, AllOf};
+ghost use Rattle.mw_frames.specs.Scenes.{ScenesOf};
+ghost use Rattle.mw_frame_calls.specs.Seen.{scenes_seen, Paid, AnswerOf};
+ghost use Rattle.mw_frame_calls.specs.Table.{framed_of};
+
+use crate::answer::FrameAnswer;
+use crate::table::FrameFunction;
+use lua_basic::Stop;
+use lua_store::{Store, Value};
+use mw_frames::Scenes;
+use std::alloc::Global;
+use wk_base::Left;
+
+/// What a function that sees the frames gives for these arguments, after its charge.
+///
+/// It is `Stop::Raised` exactly where it raises and its charge is covered, with the level whose place the caller puts in front, and
+/// `Stop::Spent` exactly where its charge is not covered; then the store and the frames are as they were.
+pub fn frame_call(
+    alloc: Global,
+    store: &mut Store,
+    left: &mut Left,
+    scenes: &mut Scenes,
+    which: FrameFunction,
+    args: &[Value],
+) -> Result<FrameAnswer, Stop>
+    requires args { AllOf store.old args.now }
+    requires scenes { ScenesOf store.old scenes.old }
+    ensures answer { Paid (framed_of which (values_seen store.old.texts args.now) store.old.heap (scenes_seen scenes.old)) store.old (scenes_seen scenes.old) left.old store.new (scenes_seen scenes.new) left.new result }
+    ensures of { AnswerOf store.new result }
+    ensures scenes { ScenesOf store.new scenes.new }
+    ensures later { IsLater store.old store.new }
+{
+    Err(Stop::NoMemory)
+}
