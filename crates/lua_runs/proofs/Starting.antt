@@ -18,8 +18,9 @@ use Rattle.lua_store.specs.Parts.{IsLater}
 use Rattle.lua_store.proofs.Later.{later-itself}
 use Rattle.lua_slots.specs.Code.{Protos, CModule, CWorld}
 use Rattle.lua_slots.specs.Errors.{raises}
-use Rattle.lua_slots.specs.Modules.{begins_text, require_as, require_module}
-use Rattle.lua_slots.specs.Points.{SFrame, ModuleFound, DataNow, Move, Costs}
+use Rattle.lua_slots.specs.Modules.{with_module, begins_text, require_as, require_module}
+use Rattle.lua_meaning.specs.Pending.{ModuleWaits}
+use Rattle.lua_slots.specs.Points.{SFrame, Waits, ModuleFound, DataNow, Move, Costs}
 use Rattle.lua_slots.specs.Slots.{Slots, with_heap, levels_at}
 use Rattle.lua_slots.specs.Enact.{all_given_back, Short, enact}
 use Rattle.page_run.specs.declared.which.Which.TheVariants.{Steps}
@@ -27,6 +28,7 @@ use Rattle.page_run.specs.State.{Tally}
 use Rattle.lua_syntax.specs.declared.fault.FaultAt.{FaultAt}
 use Rattle.lua_slots.specs.Starts.{with_frame, runs_data}
 use Rattle.lua_goes.specs.Going.{led}
+use Rattle.lua_stack.specs.declared.frame.Frame.{Frame}
 use Rattle.lua_stack.proofs.Raises.{pays, spends}
 use Rattle.lua_state.specs.declared.state.State.{State}
 use Rattle.lua_state.specs.declared.turn.Turn.{Turn}
@@ -69,7 +71,7 @@ begins_keep title m fs x = by m.code
 required_keep : (text : Bytes) (title : Title) (p : Option act.Progress) (m : Option CModule) (line : Option ℕ) (fs : List SFrame) (x : Slots) → (led (require_as text title p m line fs x)).heap ≡ x.heap
 required_keep text title (Some (act.Finished v)) m line fs x = refl
 required_keep text title (Some act.Running) m line fs x = raises_keep (nth_level (levels_at x.functions line) 1) (loop_in_require text) fs x
-required_keep text title None (Some m) line fs x = begins_keep title m _ _
+required_keep text title None (Some m) line fs x = begins_keep title m (Waits (ModuleWaits title) line ∷ fs) (with_module title act.Running x)
 required_keep text title None None line fs x = raises_keep (nth_level (levels_at x.functions line) 1) (no_module text) fs x
 
 pub require_keeps : (w : CWorld) (text : Bytes) (title : Title) (line : Option ℕ) (fs : List SFrame) (x : Slots) → (led (require_module w text title line fs x)).heap ≡ x.heap
@@ -149,3 +151,7 @@ loaded s t m n l l' title r waits frames done =
     from_parts s t m n n l l' _ _ r (ap (λ (x : State). x.codes.world) waits) (ap (λ (x : State). x.calls) waits) (ap (λ (x : State). x.height) waits)
     (sym (ap (λ (fs : List SFrame). runs_data title ((world_seen n.codes.world).modules (title_text title)) fs (slots_of s n)) frames
     ∙ ap (λ (x : State). runs_data title ((world_seen x.codes.world).modules (title_text title)) (DataNow ∷ []) (slots_of s x)) waits)) done
+
+-- what waits alone
+pub only : (fs es : List Frame) (f : Frame) → fs ≡ f ∷ es → es ≡ [] → fs ≡ f ∷ []
+only fs es f e none = e ∙ ap (λ (x : List Frame). f ∷ x) none

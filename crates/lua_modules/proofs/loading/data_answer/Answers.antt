@@ -17,8 +17,8 @@ data_given-requires-clause-answer c =
 pub data_failed-requires-clause-jump : goal.data_failed-requires-clause-jump
 data_failed-requires-clause-jump c = subst (OutcomeOf c.args.store.now) c.in-Jumps.is c.requires.outcome
 
-pub returns-in-Goes : goal.returns-in-Goes
-returns-in-Goes c =
+pub returns-in_ok-turn-in-Goes : goal.returns-in_ok-turn-in-Goes
+returns-in_ok-turn-in-Goes c =
     let texts = c.args.store.now.texts in
     let fs = frames_of c.args.store.now c.args.state.now in
     let s = slots_of c.args.store.now c.args.state.now in
@@ -27,5 +27,5 @@ returns-in-Goes c =
     (ap (λ (a : DataAnswer). data_move a (text_at texts c.args.text.at) c.args.title c.args.line fs s) c.answer_of-answer.ensures
     ∙ answer_move texts (given_values c.in-Goes.given) (text_at texts c.args.text.at) c.args.title c.args.line fs s) c.in_ok-turn-in-Goes.ensures)
 
-pub returns : goal.returns
-returns c = rw c.in-Jumps.is (c.in_ok-turn-in-Jumps.ensures c.args.left.now (text_at c.args.store.now.texts c.args.text.at) c.args.title c.args.line)
+pub returns-in_ok-turn-in-Jumps : goal.returns-in_ok-turn-in-Jumps
+returns-in_ok-turn-in-Jumps c = rw c.in-Jumps.is (c.in_ok-turn-in-Jumps.ensures c.args.left.now (text_at c.args.store.now.texts c.args.text.at) c.args.title c.args.line)
