@@ -15,8 +15,8 @@ ghost use Rattle.lua_state.specs.Makes.{Counts, LateCounts};
 ghost use Rattle.lua_machine.specs.Moved.{MovesTo, moved_of};
 
 use crate::frames::{give_frame, pass_frame};
-use crate::stand_ins::begin_work;
 use crate::things::begin;
+use lua_runs::begin_work;
 use lua_blocks::{find, run, set};
 use lua_code::Expression;
 use lua_evals::{evaluate, list};

@@ -3,16 +3,15 @@
 //! part that stands in a crate of its own takes the place of the one here.
 ghost use Rattle.std.specs.Prelude.{◌+◌, ◌<◌, ◌^◌, IfOk};
 ghost use Rattle.lua_slots.specs.Libraries as libraries;
-ghost use Rattle.lua_slots.specs.Starts as starts;
-ghost use Rattle.lua_stack.specs.Seen.{values_seen, work_seen, pending_seen, asked_seen};
-ghost use Rattle.lua_stack.specs.Of.{ValuesOf, PendingOf, AskedOf, WorkOf};
+ghost use Rattle.lua_stack.specs.Seen.{values_seen, pending_seen, asked_seen};
+ghost use Rattle.lua_stack.specs.Of.{ValuesOf, PendingOf, AskedOf};
 ghost use Rattle.lua_state.specs.Seen.{slots_of, frames_of, outcome_seen};
 ghost use Rattle.lua_state.specs.Of.{StateOf, OutcomeOf};
 ghost use Rattle.lua_state.specs.Worlds.{world_seen};
-ghost use Rattle.lua_state.specs.Makes.{Makes, LateMakes, LateCounts};
+ghost use Rattle.lua_state.specs.Makes.{Makes, LateCounts};
 
 
-use lua_stack::{Asked, Pending, Values, Work};
+use lua_stack::{Asked, Pending, Values};
 use lua_state::{Outcome, State, Turn};
 use lua_store::{Library, Store};
 use std::alloc::Global;
@@ -70,21 +69,6 @@ pub fn hear<'m>(
     requires asked { AskedOf store.old asked }
     requires outcome { OutcomeOf store.old outcome }
     ensures { IfOk result (λ r. Makes store.old state.old left.old store.new state.new left.new (libraries.hears (asked_seen store.old.texts asked) (outcome_seen store.old.texts outcome) line (frames_of store.old state.old) (slots_of store.old state.old)) r) }
-{
-    Err(NoMemory)
-}
-
-/// Not there yet.
-pub fn begin_work<'m>(
-    alloc: Global,
-    store: &mut Store,
-    left: &mut Left,
-    state: &mut State<'m>,
-    work: Work,
-) -> Result<Turn<'m>, NoMemory>
-    requires state { StateOf store.old state.old }
-    requires work { WorkOf work }
-    ensures { IfOk result (λ r. LateMakes store.old state.old left.old store.new state.new left.new (starts.works (world_seen state.old.codes.world) (work_seen work) (slots_of store.old state.old)) r) }
 {
     Err(NoMemory)
 }
