@@ -1,5 +1,5 @@
 -- What is given to `require` and `mw.loadData`: a text that begins, an argument, a title that was read, and an answer.
-use Rattle.std.proofs.Common.{◌≡◌, ◌∙◌, refl, sym, ap, subst, ℕ, List, [], ◌∷◌, Option, Some, None, Result, Ok, Err, option_map, length, arith}
+use Rattle.std.proofs.Common.{◌≡◌, ◌∙◌, refl, ap, subst, ℕ, List, [], ◌∷◌, Option, Some, None, Result, Ok, Err, option_map, length, arith}
 use Rattle.wk_base.specs.declared.left.Left.{Left}
 use Rattle.wk_base.specs.declared.title.Title.{Title}
 use Rattle.wk_base.specs.declared.title_read.TitleFault.{TitleFault}
@@ -9,7 +9,7 @@ use Rattle.lua_meaning.specs.Acts.{Raised}
 use Rattle.lua_meaning.specs.Messages.{wrong_answer}
 use Rattle.lua_slots.specs.Errors.{jumps}
 use Rattle.lua_meaning.specs.Scope.{Bytes}
-use Rattle.lua_meaning.specs.Values.{first, text_in}
+use Rattle.lua_meaning.specs.Values.{text_in}
 use Rattle.lua_meaning.specs.Arguments.{a_text, some_text}
 use Rattle.lua_store.specs.declared.value.Value.{Value}
 use Rattle.lua_store.specs.declared.value.Value.TheVariants as own
@@ -36,7 +36,6 @@ use Rattle.lua_state.specs.Seen.{slots_of, frames_of}
 use Rattle.lua_state.specs.Of.{StateOf}
 use Rattle.lua_state.specs.Makes.{Makes}
 use Rattle.lua_state.proofs.Staying.{state_later}
-use Rattle.lua_modules.specs.declared.loading.DataAnswer.{DataAnswer}
 use Rattle.lua_modules.specs.Read.{title_read}
 use Rattle.lua_modules.specs.declared.loading.DataAnswer.TheVariants as answer
 use Rattle.lua_modules.specs.Answers.{one_answer_in, answer_in, data_move, raised_in, DataAnswerOf}

@@ -1,5 +1,5 @@
 -- A NEW TABLE is filled, and becomes a metatable.
-use Rattle.std.proofs.Common.{◌≡◌, ◌∙◌, refl, sym, ap, ℕ, List, [], ◌∷◌, ◌++◌, length, slice_set}
+use Rattle.std.proofs.Common.{◌≡◌, ◌∙◌, refl, ap, ℕ, [], ◌∷◌, ◌++◌, length, slice_set}
 use Rattle.lua_table.specs.Entries.{Contents}
 use Rattle.lua_heap.specs.Value.{Value, Nil, Table}
 use Rattle.lua_heap.specs.Table.{Entries, empty_table}

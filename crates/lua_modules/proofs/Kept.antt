@@ -1,5 +1,5 @@
 -- MODULES AND DATA that a state keeps by title.
-use Rattle.std.proofs.Common.{◌≡◌, ◌∙◌, refl, sym, ap, subst, ℕ, List, [], ◌∷◌, Option, Some, None, option_map}
+use Rattle.std.proofs.Common.{◌≡◌, ◌∙◌, sym, ap, subst, ℕ, List, Option, option_map}
 use Rattle.std.specs.List.{AllByRecursion}
 use Rattle.wk_base.specs.declared.left.Left.{Left}
 use Rattle.wk_base.specs.declared.title.Title.{Title}
@@ -11,7 +11,7 @@ use Rattle.lua_meaning.specs.Titled.{ByTitle, item_of, with_item, without_item}
 use Rattle.lua_store.specs.declared.value.Value.{Value}
 use Rattle.lua_store.specs.Seen.{StoreView, seen}
 use Rattle.lua_store.specs.Parts.{IsOf}
-use Rattle.lua_titled.specs.Seen.{by_title, titled}
+use Rattle.lua_titled.specs.Seen.{titled}
 use Rattle.lua_titled.proofs.Natural.{item_by, with_by, without_by}
 use Rattle.lua_slots.specs.Code.{CWorld}
 use Rattle.lua_slots.specs.Modules.{require_as, require_module, with_module, without_module, with_data, load_as}

@@ -1,5 +1,5 @@
 -- How moves of modules are made of parts.
-use Rattle.std.proofs.Common.{◌≡◌, ◌∙◌, Bool, true, false, refl, sym, ap, subst, ℕ, List, [], ◌∷◌}
+use Rattle.std.proofs.Common.{◌≡◌, ◌∙◌, Bool, true, false, refl, sym, ap, subst, ℕ, List}
 use Rattle.wk_base.specs.declared.left.Left.{Left}
 use Rattle.page_run.specs.declared.which.Which.TheVariants.{Steps}
 use Rattle.lua_heap.specs.Value as kind
@@ -8,7 +8,7 @@ use Rattle.lua_store.specs.declared.ids.TextId.{TextId}
 use Rattle.lua_store.specs.Seen.{StoreView, text_at}
 use Rattle.lua_store.specs.Parts.{IsLater, IsTextOf}
 use Rattle.lua_store.proofs.Later.{later-itself}
-use Rattle.lua_slots.specs.Errors.{choose, gives, jumps}
+use Rattle.lua_slots.specs.Errors.{choose, jumps}
 use Rattle.lua_slots.specs.Slots.{Slots, with_heap}
 use Rattle.lua_slots.specs.Points.{SFrame, Move, Costs, Now}
 use Rattle.lua_slots.specs.Enact.{enact}

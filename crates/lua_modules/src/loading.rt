@@ -272,11 +272,7 @@ fn raised(jump: &Jump) -> Option<Value>
 }
 
 /// The answer to a question of `mw.loadData`, where it is none: an error is raised as it is.
-fn data_failed<'m>(
-    store: &mut Store,
-    state: &State<'m>,
-    jump: &Jump,
-) -> Result<Turn<'m>, NoMemory>
+fn data_failed<'m>(store: &mut Store, state: &State<'m>, jump: &Jump) -> Result<Turn<'m>, NoMemory>
     requires state { StateOf store.old state.now }
     requires jump { JumpOf store.old jump.now }
     ensures { (l : Allowance) (text : List ℕ) (title : Name) (line : Option ℕ) → IfOk result (λ r. Makes store.old state.now l store.new state.now l

@@ -46,9 +46,7 @@ fn begin_text<'m>(
         closure: None,
     };
     let arguments = Values::new(alloc);
-    Ok(Turn::On(Focus::Starts(Thing::Body(
-        callee, arguments, None,
-    ))))
+    Ok(Turn::On(Focus::Starts(Thing::Body(callee, arguments, None))))
 }
 
 /// The text of the module of this title has a fault, which is raised.

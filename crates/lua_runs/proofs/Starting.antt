@@ -131,10 +131,13 @@ invoked s u t m k n m' l l' job r text table first waits later heap slots named 
   where
     worlds : n.codes.world ≡ m.codes.world
     worlds = ap (λ (x : State). x.codes.world) waits ∙ ap (λ (x : State). x.codes.world) first
+
     calls : n.calls ≡ m.calls
     calls = ap (λ (x : State). x.calls) waits ∙ ap (λ (x : State). x.calls) first
+
     height : n.height ≡ m.height
     height = ap (λ (x : State). x.height) waits ∙ ap (λ (x : State). x.height) first
+
     same : require_module (world_seen n.codes.world) text job.«module» None (frames_of u n) (slots_of u n)
         ≡ require_module (world_seen m.codes.world) (title_text job.«module») job.«module» None (ModuleFound job.function (frame_table s.heap) ∷ []) (with_frame job (slots_of s m))
     same =

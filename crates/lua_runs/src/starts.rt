@@ -72,6 +72,13 @@ fn make_first(
     Ok(table)
 }
 
+/// With no item.
+fn empty<T: Drop>(alloc: Global, items: &mut Stack<T>)
+    ensures { items.new ≡ [] }
+{
+    *items = Stack::new(alloc);
+}
+
 /// The run waits for the value of its module alone, whose function of this name gets this frame.
 fn wait_for_module(
     alloc: Global,
@@ -86,10 +93,9 @@ fn wait_for_module(
     ensures same { OnOk result (state.new ≡ record state.old { frames = state.new.frames }) }
     ensures frames { OnOk result (frames_of store.now state.new ≡ point.ModuleFound function (kind.Table frame.at) ∷ []) }
 {
-    let mut frames = Stack::new(alloc);
+    empty(alloc, &mut state.frames);
     let waiting = InRun::ModuleFound(function, Value::Table(frame));
-    frames.push(Frame::Run(waiting))?;
-    state.frames = frames;
+    state.frames.push(Frame::Run(waiting))?;
     Ok(())
 }
 
@@ -194,9 +200,8 @@ fn wait_for_data(alloc: Global, store: &Store, state: &mut State<'_>) -> Result<
     ensures same { OnOk result (state.new ≡ record state.old { frames = state.new.frames }) }
     ensures frames { OnOk result (frames_of store.now state.new ≡ point.DataNow ∷ []) }
 {
-    let mut frames = Stack::new(alloc);
-    frames.push(Frame::Run(InRun::DataNow))?;
-    state.frames = frames;
+    empty(alloc, &mut state.frames);
+    state.frames.push(Frame::Run(InRun::DataNow))?;
     Ok(())
 }
 

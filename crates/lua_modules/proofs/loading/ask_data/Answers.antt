@@ -1,4 +1,4 @@
-use Rattle.std.proofs.Common.{◌∙◌, ◌∷◌}
+use Rattle.std.proofs.Common.{◌∷◌}
 use Rattle.mw_frame.specs.declared.question.Ask.TheVariants as ask
 use Rattle.lua_meaning.specs.Questions.{DataAsked}
 use Rattle.lua_slots.specs.Points.{Now, Asking, Hears}

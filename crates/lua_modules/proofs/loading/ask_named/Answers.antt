@@ -1,7 +1,6 @@
-use Rattle.std.proofs.Common.{◌∙◌, ap, sym, ◌∷◌, List}
+use Rattle.std.proofs.Common.{◌∙◌, ap, sym, List}
 use Rattle.mw_frame.specs.declared.question.Ask.TheVariants as ask
 use Rattle.lua_slots.specs.Points.{SFrame, Now, Asking}
-use Rattle.lua_slots.specs.Slots.{Slots}
 use Rattle.lua_stack.specs.declared.focus.Focus.TheVariants as focus
 use Rattle.lua_state.specs.declared.state.State.{State}
 use Rattle.lua_state.specs.Seen.{slots_of, frames_of}

@@ -1,4 +1,4 @@
-use Rattle.std.proofs.Common.{ap, sym, Bool, true, if◌then◌else◌}
+use Rattle.std.proofs.Common.{ap, Bool, true, if◌then◌else◌}
 use Rattle.lua_heap.specs.Value.{Truth}
 use Rattle.lua_store.specs.Seen.{seen}
 use Rattle.lua_modules.proofs.requiring.kept_value.Goals as goal

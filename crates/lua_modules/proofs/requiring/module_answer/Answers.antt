@@ -6,7 +6,6 @@ use Rattle.lua_slots.specs.Errors.{gives}
 use Rattle.lua_slots.specs.Modules.{with_module}
 use Rattle.lua_store.specs.Seen.{seen}
 use Rattle.lua_stack.specs.Lists.{given_values}
-use Rattle.lua_stack.specs.Of.{JumpOf}
 use Rattle.lua_stack.proofs.Openings.{first_of, first_seen}
 use Rattle.lua_state.specs.Makes.{Makes}
 use Rattle.lua_state.specs.Of.{OutcomeOf}

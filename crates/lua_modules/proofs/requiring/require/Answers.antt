@@ -1,4 +1,4 @@
-use Rattle.std.proofs.Common.{◌∙◌, ap, subst, sym, codes, Some, None, Option, option_map, List}
+use Rattle.std.proofs.Common.{◌∙◌, ap, subst, sym, codes, Option, option_map, List}
 use Rattle.lua_meaning.specs.Arguments.{Argument, some_text}
 use Rattle.lua_meaning.specs.Messages.{bad_argument, expected}
 use Rattle.lua_meaning.specs.Scope.{Bytes}

@@ -1,4 +1,4 @@
-use Rattle.std.proofs.Common.{subst, sym, true}
+use Rattle.std.proofs.Common.{true}
 use Rattle.lua_stack.specs.declared.focus.Focus.TheVariants as focus
 use Rattle.lua_stack.specs.declared.values.Given.TheVariants as given
 use Rattle.lua_store.specs.declared.value.Value.TheVariants as own

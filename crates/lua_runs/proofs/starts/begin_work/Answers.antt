@@ -9,7 +9,7 @@ invoke-requires-clause-names c = subst WorkOf c.in-Invoke.is c.requires.work
 pub returns-in_ok-turn-in-Invoke : goal.returns-in_ok-turn-in-Invoke
 returns-in_ok-turn-in-Invoke c = rw c.in-Invoke.is c.in_ok-turn-in-Invoke.ensures
 
-pub returns : goal.returns
-returns c =
+pub returns-in_ok-turn-in-Data : goal.returns-in_ok-turn-in-Data
+returns-in_ok-turn-in-Data c =
     rw c.in-Data.is
     (makes_late c.args.store.now c.load.new.store c.args.state.now c.load.new.state c.args.left.now c.load.new.left _ _ c.in_ok-turn-in-Data.ensures)
