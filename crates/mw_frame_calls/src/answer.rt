@@ -1,7 +1,12 @@
 //! What a function that sees the frames gives.
+ghost use Rattle.std.specs.Prelude.{◌≡◌, ◌∷◌, [], IfOk};
+ghost use Rattle.mw_frame_calls.specs.declared.answer.FrameAnswer.TheVariants as answer;
+
+use lua_basic::values::single;
 use lua_store::{TextId, Value};
 use mw_frame::Ask;
-use wk_base::List;
+use std::alloc::Global;
+use wk_base::{List, NoMemory};
 
 /// What waits for the answer of a question.
 #[derive(Clone, Copy, Debug, PartialEq, Eq)]
@@ -21,4 +26,12 @@ pub enum FrameAnswer {
     Asks(Ask, Awaited),
     /// It goes on as `pairs` of this value (Scribunto, `frame:argumentPairs`).
     Walks(Value),
+}
+
+/// A single value is given.
+pub fn one(alloc: Global, value: Value) -> Result<FrameAnswer, NoMemory>
+    ensures { IfOk result (λ a. a ≡ answer.Gives (value ∷ [])) }
+{
+    let values = single(alloc, value)?;
+    Ok(FrameAnswer::Gives(values))
 }

@@ -6,7 +6,12 @@ ghost use Rattle.mw_frame_calls.specs.Seen.{scenes_seen, Paid, AnswerOf};
 ghost use Rattle.mw_frame_calls.specs.Table.{framed_of};
 
 use crate::answer::FrameAnswer;
+use crate::asking::{expand_template, preprocess};
+use crate::children::new_child;
+use crate::parents::get_parent;
+use crate::reading::{argument_pairs, get_argument, get_current_frame, get_title};
 use crate::table::FrameFunction;
+use crate::tags::frame_extension_tag;
 use lua_basic::Stop;
 use lua_store::{Store, Value};
 use mw_frames::Scenes;
@@ -32,5 +37,15 @@ pub fn frame_call(
     ensures scenes { ScenesOf store.new scenes.new }
     ensures later { IsLater store.old store.new }
 {
-    Err(Stop::NoMemory)
+    match which {
+        FrameFunction::Current => get_current_frame(alloc, store, scenes),
+        FrameFunction::Title => get_title(alloc, store, scenes, args),
+        FrameFunction::Pairs => argument_pairs(alloc, store, scenes, args),
+        FrameFunction::Argument => get_argument(alloc, store, left, scenes, args),
+        FrameFunction::Preprocess => preprocess(alloc, store, left, scenes, args),
+        FrameFunction::Template => expand_template(alloc, store, left, scenes, args),
+        FrameFunction::Parent => get_parent(alloc, store, left, scenes, args),
+        FrameFunction::Child => new_child(alloc, store, left, scenes, args),
+        FrameFunction::Tag => frame_extension_tag(alloc, store, left, scenes, args),
+    }
 }

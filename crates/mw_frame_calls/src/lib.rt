@@ -5,12 +5,28 @@
 //!
 //! - `answer`: what such a function gives
 //! - `table`: which functions see the frames
-//! - `call`: one of them is called
+//! - `finding`: the frame of a method, and the arguments behind it
+//! - `reading`: titles, arguments, and the frame of an invocation
+//! - `requests`: a title with arguments, as methods are given them
+//! - `asking`: methods that ask
+//! - `parents`: the parents of frames
+//! - `children`: children of frames
+//! - `tags`: tags of extensions
+//! - `call`: one of the functions is called
 #![tactic(auto)]
 
 pub mod answer;
+pub mod asking;
 pub mod call;
+pub mod children;
+pub mod finding;
+pub mod parents;
+pub mod reading;
+pub mod requests;
 pub mod table;
+pub mod tags;
+#[cfg(test)]
+mod tests;
 
 pub use answer::{Awaited, FrameAnswer};
 pub use call::frame_call;

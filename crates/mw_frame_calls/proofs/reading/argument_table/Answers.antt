@@ -1,0 +1,14 @@
+use Rattle.std.proofs.Common.{◌∙◌, ap, refl, codes}
+use Rattle.lua_heap.specs.Heap.{set_in}
+use Rattle.lua_heap.specs.Value.{Text}
+use Rattle.lua_store.specs.Seen.{StoreView}
+use Rattle.mw_frame_calls.proofs.Tables.{two_set}
+use Rattle.mw_frame_calls.proofs.reading.argument_table.Goals as goal
+
+pub returns-clause-made : goal.returns-clause-made
+returns-clause-made c =
+    let heap = λ (s : StoreView). s.heap in
+    let t = c.in_ok-table.table.at in
+    let value = c.in_ok-set_field-2.ensures.put ∙ ap (λ x. set_in c.text.new.self.heap t (Text (codes "value")) (Text x)) c.in_ok-text.ensures.there
+    ∙ ap (λ x. set_in x t (Text (codes "value")) (Text c.args.text.now)) (ap heap c.in_ok-text.ensures.added) in
+    two_set c.args.store.now.heap c.new_table.new.self.heap c.set_field.new.store.heap c.set_field-2.new.store.heap t _ _ (ap heap c.in_ok-table.ensures.made) c.in_ok-set_field.ensures.put value c.in_ok-table.ensures.id refl

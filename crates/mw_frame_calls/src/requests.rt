@@ -1,0 +1,181 @@
+//! A title with arguments, as `expandTemplate` and `newChild` are given them (Scribunto, Frame object).
+ghost use Rattle.std.specs.Prelude.{◌≡◌, ◌++◌, List, ℕ, Ok, Err, IfOk, IfErr, IfSome, OnOk, MatchOption, codes};
+ghost use Rattle.std.specs.Option.{option_map};
+ghost use Rattle.lua_heap.specs.Heap.{Heap};
+ghost use Rattle.lua_heap.specs.Proc.{Proc};
+ghost use Rattle.lua_meaning.specs.Arguments.{fails};
+ghost use Rattle.lua_meaning.specs.FrameMethods as meaning;
+ghost use Rattle.lua_meaning.specs.Messages.{bad_template_arguments, invalid_title};
+ghost use Rattle.lua_store.specs.Seen.{StoreView, seen};
+ghost use Rattle.lua_store.specs.Parts.{IsOf, IsTableOf, IsLater};
+ghost use Rattle.lua_basic.specs.Arguments.{text_bytes};
+ghost use Rattle.lua_basic.specs.Seen.{values_seen, AllOf, Stops, StopOf, Refuses};
+ghost use Rattle.mw_frames.specs.Reading.{found_args};
+ghost use Rattle.mw_frames.specs.Scenes.{ScenesOf};
+ghost use Rattle.mw_frame_calls.specs.Parts.{IsRequest, entries_in, found_entries, found_optional};
+
+use crate::finding::table_in;
+use lua_basic::Stop;
+use lua_basic::messages::fail;
+use lua_basic::texts::{TextIn, text_in};
+use lua_basic::values::is_nil;
+use lua_store::{Store, TableId, Value};
+use mw_frames::Scenes;
+use mw_frames::reading::{ArgText, read_args};
+use std::alloc::Global;
+use wk_base::{List, Namespace, NoMemory, Title, TitleFault};
+
+/// The fields of a table that is given.
+#[derive(Clone, Copy)]
+pub struct Request {
+    pub title: Value,
+    pub args: Value,
+}
+
+/// The fields of the table that is given, if it is one.
+pub fn a_request(store: &Store, scenes: &Scenes, given: &[Value]) -> Option<Request>
+    requires given { AllOf store.now given.now }
+    requires scenes { ScenesOf store.now scenes.now }
+    ensures found { MatchOption result (meaning.a_request (values_seen store.now.texts given.now) ≡ Err bad_template_arguments) (IsRequest store.now (values_seen store.now.texts given.now)) }
+    ensures of { IfSome result (λ r. IsOf store.now r.title × IsOf store.now r.args) }
+{
+    match table_in(given) {
+        Some(table) => {
+            let names = scenes.names();
+            let title = store.get(table, Value::Text(names.title));
+            let args = store.get(table, Value::Text(names.args));
+            Some(Request { title, args })
+        }
+        None => None,
+    }
+}
+
+/// The arguments are none.
+pub fn refuse(store: &mut Store) -> Stop
+    ensures raises { Stops (fails store.old.heap bad_template_arguments) store.new result }
+    ensures of { StopOf store.new result }
+    ensures later { IsLater store.old store.new }
+{
+    fail(store, b"bad template arguments")
+}
+
+/// The table of which arguments are read, and nothing for nil; None where it is neither.
+pub fn entries_table(value: Value) -> Option<Option<TableId>>
+    ensures found { (texts : List (List ℕ)) (h : Heap Proc) → meaning.entries_of h (seen texts value) ≡ found_entries h result }
+    ensures of { (s : StoreView) → IsOf s value → IfSome result (λ table. IfSome table (IsTableOf s)) }
+{
+    match value {
+        Value::Nil => Some(None),
+        Value::Table(table) => Some(Some(table)),
+        Value::Bool(_) => None,
+        Value::Number(_) => None,
+        Value::Text(_) => None,
+        Value::Closure(_) => None,
+        Value::Builtin(_) => None,
+        Value::Markup(_) => None,
+    }
+}
+
+/// The arguments of a table; or None where an entry is none.
+pub fn read_entries<'b>(
+    alloc: Global,
+    store: &Store<'b>,
+    table: Option<TableId>,
+) -> Result<Option<List<ArgText<'b>>>, NoMemory>
+    requires { IfSome table (IsTableOf store.now) }
+    ensures { IfOk result (λ args. meaning.read_args (entries_in store.now.heap table) ≡ found_args args) }
+{
+    match table {
+        Some(table) => read_args(alloc, store, table),
+        None => Ok(Some(List::new(alloc))),
+    }
+}
+
+/// A text that may be nil; or None where it is neither.
+pub fn optional_text<'b>(
+    alloc: Global,
+    store: &Store<'b>,
+    value: Value,
+) -> Result<Option<Option<TextIn<'b>>>, NoMemory>
+    requires { IsOf store.now value }
+    ensures { IfOk result (λ text. meaning.an_optional_text (seen store.now.texts value) ≡ found_optional text) }
+{
+    if is_nil(value) {
+        return Ok(Some(None));
+    }
+    match text_in(alloc, store, value)? {
+        Some(text) => Ok(Some(Some(text))),
+        None => Ok(None),
+    }
+}
+
+/// That a text is no title.
+fn quoted(alloc: Global, text: &[u8]) -> Result<Vec<u8>, NoMemory>
+    ensures { IfOk result (λ made. made.items ≡ invalid_title text.now) }
+{
+    let Ok(mut made) = b"invalid title '".to_vec(alloc) else {
+        return Err(NoMemory);
+    };
+    match made.extend_from_slice(text) {
+        Ok(_) => {}
+        Err(_) => return Err(NoMemory),
+    }
+    match made.extend_from_slice(b"'") {
+        Ok(_) => Ok(made),
+        Err(_) => Err(NoMemory),
+    }
+}
+
+/// A text is no title.
+fn invalid(alloc: Global, store: &mut Store, text: &[u8]) -> Stop
+    ensures raises { Stops (fails store.old.heap (invalid_title text.now)) store.new result }
+    ensures of { StopOf store.new result }
+    ensures later { IsLater store.old store.new }
+{
+    match quoted(alloc, text) {
+        Ok(message) => fail(store, message.as_slice()),
+        Err(_) => Stop::NoMemory,
+    }
+}
+
+/// The title that a text names.
+pub fn a_title(
+    alloc: Global,
+    store: &mut Store,
+    text: &[u8],
+    default: Namespace,
+) -> Result<Title, Stop>
+    ensures found { IfOk result (λ title. meaning.read_title text.now default ≡ Ok title) }
+    ensures same { OnOk result (store.new ≡ store.old) }
+    ensures refused { IfErr result (Refuses (meaning.read_title text.now default) store.old store.new) }
+    ensures of { IfErr result (StopOf store.new) }
+    ensures later { IsLater store.old store.new }
+{
+    match Title::read(alloc, text, default) {
+        Ok(title) => Ok(title),
+        Err(TitleFault::NoMemory) => Err(Stop::NoMemory),
+        Err(_) => Err(invalid(alloc, store, text)),
+    }
+}
+
+/// The title that a text names, or where there is none a copy of this one.
+pub fn a_child_title(
+    alloc: Global,
+    store: &mut Store,
+    text: &Option<TextIn>,
+    own: &Title,
+) -> Result<Title, Stop>
+    ensures found { IfOk result (λ title. meaning.child_title (option_map text_bytes text.now) own.now ≡ Ok title) }
+    ensures same { OnOk result (store.new ≡ store.old) }
+    ensures refused { IfErr result (Refuses (meaning.child_title (option_map text_bytes text.now) own.now) store.old store.new) }
+    ensures of { IfErr result (StopOf store.new) }
+    ensures later { IsLater store.old store.new }
+{
+    match text {
+        Some(text) => a_title(alloc, store, text.as_slice(), Namespace::Main),
+        None => match own.copy() {
+            Ok(title) => Ok(title),
+            Err(_) => Err(Stop::NoMemory),
+        },
+    }
+}

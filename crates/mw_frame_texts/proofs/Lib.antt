@@ -1,0 +1,4 @@
+pub mod Sums
+pub mod Reading
+pub mod Same
+pub mod Charged

@@ -1,0 +1,131 @@
+//! A tag of HTML as a text (Scribunto, `frame:extensionTag`).
+ghost use Rattle.std.specs.Prelude.{◌≡◌, List as Items, ℕ, IfSome};
+ghost use Rattle.lua_heap.specs.Heap.{Heap};
+ghost use Rattle.lua_heap.specs.Proc.{Proc};
+ghost use Rattle.lua_meaning.specs.Arguments.{gives_text};
+ghost use Rattle.lua_meaning.specs.Tag as meaning;
+ghost use Rattle.lua_store.specs.Seen.{StoreView, seen};
+ghost use Rattle.lua_store.specs.Parts.{IsOf, IsTableOf, IsLater};
+ghost use Rattle.lua_basic.specs.Seen.{values_seen, AllOf, Paid, AnswerOf};
+ghost use Rattle.mw_frames.specs.Scenes.{NamesOf};
+ghost use Rattle.mw_frame_texts.specs.Read.{parts, found_parts};
+ghost use Rattle.mw_frame_texts.specs.Written.{tag_written};
+
+use crate::attributes::{AttrText, the_attributes};
+use crate::contents::{Content, content_in};
+use crate::copies::written;
+use crate::costs::{pay_given, pay_tag};
+use lua_basic::Stop;
+use lua_basic::arguments::a_text;
+use lua_basic::messages::refuse_kind;
+use lua_basic::values::{second, single, third};
+use lua_store::{Store, TableId, Value};
+use mw_frames::FieldNames;
+use std::alloc::Global;
+use wk_base::{Left, List};
+
+/// The text is made, after what it costs.
+fn give_tag(
+    alloc: Global,
+    store: &mut Store,
+    left: &mut Left,
+    name: &[u8],
+    attrs: &[AttrText],
+    content: &Content,
+) -> Result<List<Value>, Stop>
+    ensures answer { Paid (gives_text store.old.heap (tag_written name.now attrs.now content.now)) store.old left.old store.new left.new result }
+    ensures of { AnswerOf store.new result }
+    ensures later { IsLater store.old store.new }
+{
+    pay_tag(left, name, attrs, content)?;
+    let made = written(alloc, name, attrs, content)?;
+    let text = store.text(made.as_slice())?;
+    let values = single(alloc, Value::Text(text))?;
+    Ok(values)
+}
+
+/// A tag of a name, attributes and content. The name is the first of a list, if it is there.
+fn tag_of(
+    alloc: Global,
+    store: &mut Store,
+    left: &mut Left,
+    names: &[Value],
+    attrs: Value,
+    value: Value,
+) -> Result<List<Value>, Stop>
+    requires names { AllOf store.old names.now }
+    requires attrs { IsOf store.old attrs }
+    requires content { IsOf store.old value }
+    ensures answer { Paid (meaning.tag_of (parts (values_seen store.old.texts names.now) (seen store.old.texts attrs) (seen store.old.texts value)) store.old.heap) store.old left.old store.new left.new result }
+    ensures of { AnswerOf store.new result }
+    ensures later { IsLater store.old store.new }
+{
+    let name = a_text(alloc, store, 1, b"tag", names)?;
+    let attrs = the_attributes(alloc, store, attrs)?;
+    let Some(content) = content_in(alloc, store, value)? else {
+        return Err(refuse_kind(alloc, store, 3, b"tag", b"string", &[value]));
+    };
+    give_tag(
+        alloc,
+        store,
+        left,
+        name.as_slice(),
+        attrs.as_slice(),
+        &content,
+    )
+}
+
+/// The first of the arguments, where it is a table, which then has the parts as fields.
+fn table_in(given: &[Value]) -> Option<TableId>
+    ensures of { (s : StoreView) → AllOf s given.now → IfSome result (IsTableOf s) }
+    ensures split { (texts : Items (Items ℕ)) (h : Heap Proc) → meaning.extension_parts h (values_seen texts given.now) ≡ found_parts h (values_seen texts given.now) result }
+{
+    match given {
+        [Value::Table(id), ..] => Some(*id),
+        _ => None,
+    }
+}
+
+/// The parts are given one by one or as fields of a table.
+fn tag_given(
+    alloc: Global,
+    store: &mut Store,
+    left: &mut Left,
+    names: FieldNames,
+    given: &[Value],
+) -> Result<List<Value>, Stop>
+    requires given { AllOf store.old given.now }
+    requires names { NamesOf store.old names }
+    ensures answer { Paid (meaning.tag_of (meaning.extension_parts store.old.heap (values_seen store.old.texts given.now)) store.old.heap) store.old left.old store.new left.new result }
+    ensures of { AnswerOf store.new result }
+    ensures later { IsLater store.old store.new }
+{
+    match table_in(given) {
+        Some(table) => {
+            let name = store.get(table, Value::Text(names.name));
+            let attrs = store.get(table, Value::Text(names.args));
+            let content = store.get(table, Value::Text(names.content));
+            tag_of(alloc, store, left, &[name], attrs, content)
+        }
+        None => tag_of(alloc, store, left, given, third(given), second(given)),
+    }
+}
+
+/// A tag of the arguments, behind the frame. It costs the bytes of those that are strings, and its own. `names` are those of the fields that
+/// methods of frames read.
+pub fn extension_tag(
+    alloc: Global,
+    store: &mut Store,
+    left: &mut Left,
+    names: FieldNames,
+    given: &[Value],
+) -> Result<List<Value>, Stop>
+    requires given { AllOf store.old given.now }
+    requires names { NamesOf store.old names }
+    ensures answer { Paid (meaning.extension_tag (values_seen store.old.texts given.now) store.old.heap) store.old left.old store.new left.new result }
+    ensures of { AnswerOf store.new result }
+    ensures later { IsLater store.old store.new }
+{
+    pay_given(store, left, given)?;
+    tag_given(alloc, store, left, names, given)
+}
