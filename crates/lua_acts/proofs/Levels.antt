@@ -1,5 +1,5 @@
 -- Errors at a level.
-use Rattle.std.proofs.Common.{◌≡◌, refl, subst, ℕ, Option}
+use Rattle.std.proofs.Common.{◌≡◌, subst, Option}
 use Rattle.std.specs.Option.{option_map}
 use Rattle.wk_base.specs.declared.left.Left.{Left}
 use Rattle.lua_meaning.specs.Scope.{Bytes, Place}

@@ -1,5 +1,5 @@
 -- An argument of a function: what is done with it, or its function stops.
-use Rattle.std.proofs.Common.{◌≡◌, refl, sym, ap, subst, ℕ, [], Option, Ok, Err, arith}
+use Rattle.std.proofs.Common.{◌≡◌, sym, ap, subst, ℕ, [], Option, Ok, Err, arith}
 use Rattle.wk_base.specs.declared.left.Left.{Left}
 use Rattle.lua_heap.specs.Proc.{Proc}
 use Rattle.lua_heap.specs.Heap.{Heap}

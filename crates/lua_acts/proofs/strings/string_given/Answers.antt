@@ -1,8 +1,6 @@
 use Rattle.std.proofs.Common.{◌∙◌, sym, ap, subst, Some}
 use Rattle.std.specs.Prelude.{IfOk}
 use Rattle.std.specs.Option.{option_map}
-use Rattle.lua_meaning.specs.Values.{text_in}
-use Rattle.lua_store.specs.Seen.{seen}
 use Rattle.lua_basic.specs.Arguments.{text_bytes}
 use Rattle.lua_slots.specs.CallBacks.{string_given}
 use Rattle.lua_state.specs.Seen.{slots_of, frames_of}

@@ -1,0 +1,6 @@
+pub mod Lines
+pub mod Led
+pub mod Paying
+pub mod Framing
+pub mod Enters
+pub mod Heard

@@ -1,0 +1,23 @@
+use Rattle.lua_state.proofs.Making.{makes_late}
+use Rattle.lua_calls.proofs.calling.call_act.Goals as goal
+
+pub returns-in-Plain : goal.returns-in-Plain
+returns-in-Plain c = rw c.in-Plain.is c.plain.ensures
+
+pub returns-in-Framed : goal.returns-in-Framed
+returns-in-Framed c = rw c.in-Framed.is c.framed.ensures
+
+pub returns-in-Clone : goal.returns-in-Clone
+returns-in-Clone c = rw c.in-Clone.is c.clone.ensures
+
+pub returns-in-CurrentTitle : goal.returns-in-CurrentTitle
+returns-in-CurrentTitle c = rw c.in-CurrentTitle.is c.current_title.ensures
+
+pub returns-in-ArgsIndex : goal.returns-in-ArgsIndex
+returns-in-ArgsIndex c = rw c.in-ArgsIndex.is c.index_args.ensures
+
+pub returns-in_ok-turn-in-Calls : goal.returns-in_ok-turn-in-Calls
+returns-in_ok-turn-in-Calls c = rw c.in-Calls.is (makes_late c.args.store.now c.call_back.new.store c.args.state.now c.call_back.new.state c.args.left.now c.call_back.new.left _ c.in_ok-turn-in-Calls.turn c.in_ok-turn-in-Calls.ensures)
+
+pub returns-in_ok-turn-in-NotBuilt : goal.returns-in_ok-turn-in-NotBuilt
+returns-in_ok-turn-in-NotBuilt c = rw c.in-NotBuilt.is (makes_late c.args.store.now c.not_built.new.store c.args.state.now c.args.state.now c.args.left.now c.not_built.new.left _ c.in_ok-turn-in-NotBuilt.turn c.in_ok-turn-in-NotBuilt.ensures)

@@ -1,0 +1,12 @@
+use Rattle.std.proofs.Common.{◌∷◌}
+use Rattle.lua_stack.specs.declared.focus.Focus.TheVariants as focus
+use Rattle.lua_stack.specs.declared.frame.Frame.TheVariants as frame
+use Rattle.lua_slots.specs.Points.{Hears}
+use Rattle.lua_calls.proofs.Enters.{on_above}
+use Rattle.lua_calls.proofs.framed.ask.Goals as goal
+
+pub returns : goal.returns
+returns c = λ l.
+    rw (c.in_ok-push.ensures.ok, ← c.asked_of-asked.ensures.seen c.args.store.now.texts)
+    (on_above c.args.store.now c.args.state.now (frame.Hears c.asked_of-asked.result c.args.line ∷ c.args.state.now.frames) l (focus.Asks c.args.question) c.requires.state
+    (c.asked_of-asked.ensures.of c.args.store.now c.requires.awaited, c.requires.state.frames) tt)

@@ -1,0 +1,27 @@
+-- HOW A FUNCTION OF THE LIBRARY ENDS whose charge is taken: with values, with an error, or as one that stops.
+use Rattle.std.specs.Prelude.{◌≡◌, ℕ, List, Option, Result, Ok, Err}
+use Rattle.wk_base.specs.declared.left.Left.{Left}
+use Rattle.lua_meaning.specs.Arguments.{Gives}
+use Rattle.lua_store.specs.declared.value.Value.{Value}
+use Rattle.lua_store.specs.Seen.{StoreView}
+use Rattle.lua_slots.specs.Errors.{ends}
+use Rattle.lua_slots.specs.Libraries.{framed_end}
+use Rattle.lua_basic.specs.declared.stop.Stop.{Stop}
+use Rattle.lua_stack.specs.Seen.{values_seen}
+use Rattle.lua_state.specs.declared.state.State.{State}
+use Rattle.lua_state.specs.declared.turn.Turn.{Turn}
+use Rattle.lua_state.specs.Seen.{slots_of, frames_of}
+use Rattle.lua_state.specs.Makes.{Makes}
+use Rattle.lua_acts.specs.Stops.{StopsAs}
+use Rattle.mw_frame_calls.specs.declared.answer.FrameAnswer.{FrameAnswer}
+use Rattle.mw_frame_calls.specs.Seen.{end_seen}
+
+-- one that calls back nobody
+abbrev pub EndsAs : StoreView → State → Left → Option ℕ → Result (List Value) Stop → StoreView → Left → Turn → Type 0
+EndsAs s m l line (Ok vs) t l' r = Makes s m l t m l' (ends (Gives (values_seen s.texts vs)) line (frames_of s m) (slots_of s m)) r
+EndsAs s m l line (Err e) t l' r = StopsAs s m l line e t l' r
+
+-- one that sees the frames, which may go on from there in another state
+abbrev pub FramedEndsAs : StoreView → State → Left → Option ℕ → Result FrameAnswer Stop → StoreView → State → Left → Turn → Type 0
+FramedEndsAs s m l line (Ok a) t m' l' r = Makes s m l t m' l' (framed_end (end_seen s.texts a) line (frames_of s m) (slots_of s m)) r
+FramedEndsAs s m l line (Err e) t m' l' r = (m' ≡ m) × StopsAs s m l line e t l' r

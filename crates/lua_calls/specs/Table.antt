@@ -1,0 +1,58 @@
+-- THE TABLE OF THE LIBRARY as code goes through it: what each function is, and what is done with it.
+use Rattle.std.specs.Prelude.{◌≡◌, List}
+use Rattle.lua_heap.specs.Proc.{Proc}
+use Rattle.lua_heap.specs.Value.{Value}
+use Rattle.lua_heap.specs.Heap.{Heap}
+use Rattle.lua_heap.specs.declared.library.Library.{Library}
+use Rattle.lua_heap.specs.declared.library.Library.TheVariants.{MwClone, MwGetCurrentTitle, ArgsIndex, BasicPcall, BasicXpcall, BasicToString, BasicPairs, BasicIpairs, IpairsStep, BasicRequire, MwLoadData}
+use Rattle.lua_meaning.specs.World.{World}
+use Rattle.lua_meaning.specs.Acts.{Frame}
+use Rattle.lua_meaning.specs.Mw.{clone, get_current_title}
+use Rattle.lua_meaning.specs.Frames.{args_index}
+use Rattle.lua_meaning.specs.Libraries as meaning
+use Rattle.lua_meaning.specs.Libraries.{Form, Answers, InFrames, CallsBack, form}
+use Rattle.lua_libs.specs.Table.{answer_of}
+use Rattle.mw_frame_calls.specs.Table.{framed_of}
+use Rattle.lua_calls.specs.declared.table.CallBack.{CallBack}
+use Rattle.lua_calls.specs.declared.table.CallBack.TheVariants as call_back
+use Rattle.lua_calls.specs.declared.table.Act.{Act}
+use Rattle.lua_calls.specs.declared.table.Act.TheVariants as act
+
+abbrev pub caller_seen : CallBack → meaning.Caller
+caller_seen call_back.Pcall = meaning.Pcall
+caller_seen call_back.Xpcall = meaning.Xpcall
+caller_seen call_back.ToString = meaning.ToString
+caller_seen call_back.Pairs = meaning.Pairs
+caller_seen call_back.Ipairs = meaning.Ipairs
+caller_seen call_back.NextPlace = meaning.NextPlace
+caller_seen call_back.Require = meaning.Require
+caller_seen call_back.LoadData = meaning.LoadData
+
+-- what an act does with its arguments
+abbrev pub act_seen : World → Act → List Value → Heap Proc → List Frame → Form Proc
+act_seen world (act.Plain f) args h frames = Answers (answer_of f args h)
+act_seen world (act.Framed f) args h frames = InFrames (framed_of f args h frames)
+act_seen world act.Clone args h frames = Answers (clone args h)
+act_seen world act.CurrentTitle args h frames = Answers (get_current_title world.page h)
+act_seen world act.ArgsIndex args h frames = Answers (args_index args h)
+act_seen world (act.Calls caller) args h frames = CallsBack (caller_seen caller)
+act_seen world act.NotBuilt args h frames = meaning.NotBuilt
+
+-- the functions that are neither plain nor of the frames
+abbrev pub other_in : Library → Act
+other_in MwClone = act.Clone
+other_in MwGetCurrentTitle = act.CurrentTitle
+other_in ArgsIndex = act.ArgsIndex
+other_in BasicPcall = act.Calls call_back.Pcall
+other_in BasicXpcall = act.Calls call_back.Xpcall
+other_in BasicToString = act.Calls call_back.ToString
+other_in BasicPairs = act.Calls call_back.Pairs
+other_in BasicIpairs = act.Calls call_back.Ipairs
+other_in IpairsStep = act.Calls call_back.NextPlace
+other_in BasicRequire = act.Calls call_back.Require
+other_in MwLoadData = act.Calls call_back.LoadData
+other_in which = act.NotBuilt
+
+-- THE LINE of a function in the meaning's table is what this act does
+abbrev pub IsLine : Library → Act → Type 0
+IsLine which a = (world : World) (args : List Value) (h : Heap Proc) (frames : List Frame) → form world which args h frames ≡ act_seen world a args h frames

@@ -1,0 +1,101 @@
+//! What a function of the library does that is entered.
+ghost use Rattle.std.specs.Prelude.{IfOk};
+ghost use Rattle.lua_slots.specs.Libraries as machine;
+ghost use Rattle.lua_meaning.specs.Messages.{not_built as plain_not_built};
+ghost use Rattle.lua_slots.specs.Errors.{fails};
+ghost use Rattle.lua_stack.specs.Of.{ValuesOf};
+ghost use Rattle.lua_stack.specs.Seen.{values_seen};
+ghost use Rattle.lua_state.specs.Makes.{LateMakes, Makes};
+ghost use Rattle.lua_state.specs.Of.{StateOf};
+ghost use Rattle.lua_state.specs.Seen.{frames_of, slots_of};
+ghost use Rattle.lua_state.specs.Worlds.{world_seen};
+ghost use Rattle.lua_calls.specs.Table.{act_seen, caller_seen};
+
+use crate::framed::framed;
+use crate::plain::{clone, current_title, index_args, plain};
+use crate::stand_ins::{load_data, require};
+use crate::table::{Act, CallBack};
+use lua_acts::{ipairs, ipairs_step, pairs, pcall, to_string, xpcall};
+use lua_stack::Values;
+use lua_state::{State, Turn, fail};
+use lua_store::Store;
+use std::alloc::Global;
+use wk_base::{Left, NoMemory};
+
+/// A function that calls back, or sees more of a run.
+fn call_back<'m>(
+    alloc: Global,
+    store: &mut Store,
+    left: &mut Left,
+    state: &mut State<'m>,
+    caller: CallBack,
+    arguments: Values,
+    line: Option<u32>,
+) -> Result<Turn<'m>, NoMemory>
+    requires state { StateOf store.old state.old }
+    requires arguments { ValuesOf store.old arguments }
+    ensures { IfOk result (λ r. Makes store.old state.old left.old store.new state.new left.new
+        (machine.call_back (world_seen state.old.codes.world) (caller_seen caller) (values_seen store.old.texts arguments) line (frames_of store.old state.old) (slots_of store.old state.old)) r) }
+{
+    match caller {
+        CallBack::Pcall => pcall(alloc, store, left, state, arguments, line),
+        CallBack::Xpcall => xpcall(alloc, store, left, state, arguments, line),
+        CallBack::ToString => to_string(alloc, store, left, state, arguments, line),
+        CallBack::Pairs => pairs(alloc, store, left, state, arguments, line),
+        CallBack::Ipairs => ipairs(alloc, store, left, state, arguments, line),
+        CallBack::NextPlace => ipairs_step(alloc, store, left, state, arguments, line),
+        CallBack::Require => require(alloc, store, left, state, arguments, line),
+        CallBack::LoadData => load_data(alloc, store, left, state, arguments, line),
+    }
+}
+
+/// A function that is not built.
+fn not_built<'m>(
+    alloc: Global,
+    store: &mut Store,
+    left: &mut Left,
+    state: &State<'m>,
+    line: Option<u32>,
+) -> Result<Turn<'m>, NoMemory>
+    requires { StateOf store.old state.now }
+    ensures { IfOk result (λ r. Makes store.old state.now left.old store.new state.now left.new
+        (fails line plain_not_built (frames_of store.old state.now) (slots_of store.old state.now)) r) }
+{
+    let message = b"this function is not built";
+    let turn = fail(alloc, store, left, state, line, message)?;
+    Ok(turn)
+}
+
+/// What a function of the library does.
+pub fn call_act<'m>(
+    alloc: Global,
+    store: &mut Store,
+    left: &mut Left,
+    state: &mut State<'m>,
+    act: Act,
+    arguments: Values,
+    line: Option<u32>,
+) -> Result<Turn<'m>, NoMemory>
+    requires state { StateOf store.old state.old }
+    requires arguments { ValuesOf store.old arguments }
+    ensures { IfOk result (λ r. LateMakes store.old state.old left.old store.new state.new left.new
+        (machine.does (world_seen state.old.codes.world)
+        (act_seen (machine.page_alone (world_seen state.old.codes.world)) act (values_seen store.old.texts arguments) (slots_of store.old state.old).heap (slots_of store.old state.old).frames)
+        (values_seen store.old.texts arguments) line (frames_of store.old state.old) (slots_of store.old state.old)) r) }
+{
+    match act {
+        Act::Plain(function) => plain(alloc, store, left, state, function, arguments, line),
+        Act::Framed(function) => framed(alloc, store, left, state, function, arguments, line),
+        Act::Clone => clone(alloc, store, left, state, arguments, line),
+        Act::CurrentTitle => current_title(alloc, store, left, state, line),
+        Act::ArgsIndex => index_args(alloc, store, left, state, arguments, line),
+        Act::Calls(caller) => {
+            let turn = call_back(alloc, store, left, state, caller, arguments, line)?;
+            Ok(turn)
+        }
+        Act::NotBuilt => {
+            let turn = not_built(alloc, store, left, state, line)?;
+            Ok(turn)
+        }
+    }
+}

@@ -1,0 +1,24 @@
+//! Functions of the library that are entered, and what waits for a call or an answer (manual 5; Scribunto).
+//!
+//! - `table`: what each function of the library is
+//! - `plain`: functions that call back nobody
+//! - `framed`: functions that see the frames
+//! - `calling`: functions that call back, or see more of a run
+//! - `entering`: a function of the library is entered
+//! - `waiting`: what waits for a call, or for an answer
+//! - `stand_ins`: parts that are not there yet
+//!
+//! Begin with `specs/Libraries.antt` of `lua_slots`: what it is to enter such a function, and what waits. `specs/Makes.antt` of `lua_state`
+//! says that code makes a move. `specs/Table.antt` is the table of the library as code goes through it.
+#![tactic(auto)]
+
+pub mod calling;
+pub mod entering;
+pub mod framed;
+pub mod plain;
+mod stand_ins;
+pub mod table;
+pub mod waiting;
+
+pub use entering::enter_library;
+pub use waiting::{hear, resume};
