@@ -8,7 +8,7 @@ ghost use Rattle.lua_state.specs.Seen.{slots_of, frames_of};
 ghost use Rattle.lua_state.specs.Of.{StateOf};
 ghost use Rattle.lua_state.specs.Makes.{Makes};
 
-use crate::stand_ins::{hear, resume};
+use lua_calls::{hear, resume};
 use lua_loops::{give_end, give_loop, pass_end};
 use lua_blocks::{give_assignment, give_statement};
 use lua_evals::{give_constructor, give_expression};

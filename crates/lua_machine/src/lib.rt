@@ -6,7 +6,6 @@
 //! - `moving`: one move, with its charges
 //! - `frames`: what reaches a frame that waits
 //! - `things`: what begins at a step of its own
-//! - `stand_ins`: parts that are not there yet
 //!
 //! Begin with `specs/Events.antt`: what a call of a machine says. `specs/Moved.antt` and `specs/Going.antt` say what a move, and what moves one
 //! after another are.
@@ -17,7 +16,6 @@ pub mod frames;
 pub mod going;
 pub mod machine;
 pub mod moving;
-pub mod stand_ins;
 pub mod things;
 
 pub use event::{Answer, Event};

@@ -12,7 +12,7 @@ ghost use Rattle.lua_state.specs.Makes.{Makes, LateCounts};
 ghost use Rattle.lua_store.specs.Seen.{seen};
 ghost use Rattle.lua_store.specs.Parts.{IsOf};
 
-use crate::stand_ins::enter_library;
+use lua_calls::enter_library;
 use lua_loops::{count_turn, each_turn, enter_body, repeat_turn, while_turn};
 use lua_arms::calls::call;
 use lua_arms::index::index_link;
