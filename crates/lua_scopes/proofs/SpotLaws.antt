@@ -197,9 +197,6 @@ pub closed_seen : (n : ℕ) (l m : Held) (old new : Spots) → IsClosed n l m ol
 closed_seen n l m old new h =
     ap level_seen h.left ∙ ap (λ ls. record (level_seen l) { locals = ls }) (dropped (length l.variables - n) l.variables ∙ ap (λ k. drop (k - n) (map local_seen l.variables)) (sym (as_many l.variables)))
 
-pub seen_length : (l : Held) → length l.variables ≡ length (level_seen l).locals
-seen_length l = sym (as_many l.variables)
-
 -- CAPTURED NAMES are given back
 pub given_start : (cs : List Capture) (old : Spots) → IsGivenSoFar cs cs old old
 given_start cs old ls kept h = (kept, h)
@@ -225,12 +222,12 @@ unknown_at n x cs (Some i) outside e none = cc
 unknown_at n x cs None outside e none = refl
 
 -- a function ends
-pub gone : (l m : Held) (ls : List Held) (old new newer : Spots) → IsClosed 0 l m old new → IsGivenBack m.captures new newer → IsRight (l ∷ ls) old → IsRight ls newer
-gone l m ls old new newer closed given right =
+pub gone : (l m : Held) (cs : List Capture) (ls : List Held) (old new newer : Spots) → IsClosed 0 l m old new → cs ≡ m.captures → IsGivenBack cs new newer → IsRight (l ∷ ls) old → IsRight ls newer
+gone l m cs ls old new newer closed same given right =
     let none : drop (length l.variables - 0) l.variables ≡ [] = drop_all (length l.variables - 0) l.variables (omega arith) in
     let is : m ≡ of_variables [] l = closed.left ∙ ap (λ vs. of_variables vs l) none in
     let now : IsRight (of_variables [] l ∷ ls) new = subst (λ k. IsRight (k ∷ ls) new) is (closed.right ls right) in
-    let back : IsGivenBack l.captures new newer = subst (λ k. IsGivenBack k.captures new newer) is given in
+    let back : IsGivenBack l.captures new newer = subst (λ k. IsGivenBack k new newer) (same ∙ ap (λ k. k.captures) is) given in
     record { found = back ls now.shadowed.0 (λ x e. now.found x ∙ unknown_at (length ls) x l.captures (up_of (names l.captures) x) (entry_of x ls) refl e); shadowed = now.shadowed.1 }
 
 swap : (b c : Bool) (p q r : Option Spot) → (b ≡ true → c ≡ true → ⊥) → cond b p (cond c q r) ≡ cond c q (cond b p r)

@@ -1,14 +1,18 @@
 -- What keeps the functions in progress whole.
 use Rattle.std.proofs.Common.{◌≡◌, ◌∙◌, ℕ, Bool, true, refl, sym, ap, subst, List, [], ◌∷◌, map, length, Option, Some, None}
 use Rattle.lua_meaning.specs.Scope.{Bytes}
+use Rattle.lua_heap.specs.Related.{Each}
+use Rattle.lua_slots.specs.IsCode.{IsCaptured}
+use Rattle.lua_code.specs.declared.place.Place.{Place}
 use Rattle.lua_code.specs.Seen.{place_seen}
 use Rattle.lua_scopes.specs.declared.spots.Entry.{Entry}
 use Rattle.lua_scopes.specs.declared.spots.Found.{Found}
+use Rattle.lua_scopes.specs.declared.level.Variable.{Variable}
 use Rattle.lua_scopes.specs.declared.level.Level.{Level as Held}
-use Rattle.lua_scopes.specs.Scopes.{Level, Scopes, stack, closed_to, IsPlaced}
-use Rattle.lua_scopes.specs.Spots.{Spots, spot_at, level_seen, new_level, AreWhole, IsClosed, Reaches}
-use Rattle.lua_scopes.proofs.SightLaws.{begun as captures_begun}
-use Rattle.lua_scopes.proofs.SpotLaws.{none_known, begun, closed_seen}
+use Rattle.lua_scopes.specs.Scopes.{Level, Scopes, stack_sight, stack, closed_to, declared, IsLeftTo, IsLeft, IsPlaced}
+use Rattle.lua_scopes.specs.Spots.{Spots, spot_at, names, level_seen, new_level, IsRight, AreWhole, IsDeclared, IsClosed, Reaches}
+use Rattle.lua_scopes.proofs.SightLaws.{begun as captures_begun, same_captures}
+use Rattle.lua_scopes.proofs.SpotLaws.{none_known, begun, declared as declared_right, closed_seen}
 use Rattle.lua_scopes.proofs.ReachLaws.{nowhere}
 
 pub entered : (l : Held) (ls : List Held) (spots : Spots) → l ≡ new_level → AreWhole ls spots → AreWhole (l ∷ ls) spots
@@ -41,6 +45,42 @@ closed n s = record s { level = closed_to n s.level }
 
 pub closed_scopes : (clean : Bool) (n : ℕ) (l m : Held) (ls : List Held) (old new : Spots) (s : Scopes) → seen clean l ls ≡ s → IsClosed n l m old new → seen clean m ls ≡ closed n s
 closed_scopes clean n l m ls old new s is h = ap (λ k. with_level clean k ls) (closed_seen n l m old new h) ∙ ap (closed n) is
+
+pub closed_whole : (clean : Bool) (n : ℕ) (l m : Held) (ls : List Held) (old new : Spots) → (clean ≡ true → AreWhole (l ∷ ls) old) → IsClosed n l m old new → clean ≡ true → AreWhole (m ∷ ls) new
+closed_whole clean n l m ls old new whole h e =
+    let w : AreWhole (l ∷ ls) old = whole e in
+    (same_captures (level_seen l) (level_seen m) (map level_seen ls) (ap (λ k. names k.captures) h.left) (ap (λ k. map place_seen k.places) h.left) w.0, h.right ls w.1)
+
+-- one more variable
+pub declared_scopes : (clean now : Bool) (v : Variable) (l m : Held) (ls : List Held) (depth : ℕ) (old new : Spots) (s : Scopes) → seen clean l ls ≡ s → now ≡ clean → IsDeclared l m v depth old new → seen now m ls ≡ declared v.name.now v.boxed s
+declared_scopes clean now v l m ls depth old new s is same h = ap (λ b. seen b m ls) same ∙ ap (λ k. with_level clean (level_seen k) ls) h.0 ∙ ap (declared v.name.now v.boxed) is
+
+pub declared_whole : (clean now : Bool) (v : Variable) (l m : Held) (ls : List Held) (depth : ℕ) (old new : Spots) → (clean ≡ true → AreWhole (l ∷ ls) old) → now ≡ clean → depth ≡ length ls → v.shadowed ≡ spot_at old v.name.now
+    → IsDeclared l m v depth old new → now ≡ true → AreWhole (m ∷ ls) new
+declared_whole clean now v l m ls depth old new whole same deep shadowed h e =
+    let w : AreWhole (l ∷ ls) old = whole (sym same ∙ e) in
+    (same_captures (level_seen l) (level_seen m) (map level_seen ls) (ap (λ k. names k.captures) h.0) (ap (λ k. map place_seen k.places) h.0) w.0, declared_right v l m ls depth old new deep shadowed h w.1)
+
+-- a function ends: the text itself doesn't
+pub not_left : (clean : Bool) (l : Held) (ls ms : List Held) (s : Scopes) (places : List Place) → seen clean l ls ≡ s → ls ≡ [] → ms ≡ ls → IsLeft s (seen clean l ms) (map place_seen places)
+not_left clean l ls ms s places is none same =
+    subst (λ t. IsLeft t (seen clean l ms) (map place_seen places)) is
+    (subst (λ os. IsLeftTo (map level_seen os) (seen clean l ls) (seen clean l ms) (map place_seen places)) (sym none) (ap (seen clean l) same))
+
+pub left_scopes : (clean : Bool) (l k j i : Held) (ls ms : List Held) (old : Spots) (s : Scopes) (places : List Place) → seen clean l ls ≡ s → (clean ≡ true → AreWhole (l ∷ ls) old) → ls ≡ k ∷ ms → j ≡ k → i ≡ l → places ≡ i.places
+    → IsLeft s (seen clean j ms) (map place_seen places)
+left_scopes clean l k j i ls ms old s places is whole popped now before same =
+    let kept : clean ≡ true → Each (IsCaptured (stack_sight (map level_seen ls))) (names l.captures) (map place_seen l.places) = λ e. (whole e).0.0 in
+    subst (λ t. IsLeft t (seen clean j ms) (map place_seen places)) is
+    (subst (λ os. IsLeftTo (map level_seen os) (seen clean l ls) (seen clean j ms) (map place_seen places)) (sym popped)
+    (ap (λ h. seen clean h ms) now, ap (map place_seen) (same ∙ ap (λ h. h.places) before), λ e. subst (λ os. Each (IsCaptured (stack_sight (map level_seen os))) (names l.captures) (map place_seen l.places)) popped (kept e)))
+
+pub left_whole : (clean : Bool) (l k j i : Held) (ls ms : List Held) (old new : Spots) → (clean ≡ true → AreWhole (l ∷ ls) old) → ls ≡ k ∷ ms → j ≡ k → i ≡ l → ((os : List Held) → IsRight (i ∷ os) old → IsRight os new)
+    → clean ≡ true → AreWhole (j ∷ ms) new
+left_whole clean l k j i ls ms old new whole popped now before ends e =
+    let w : AreWhole (l ∷ ls) old = whole e in
+    let right : IsRight ls new = ends ls (subst (λ h. IsRight (h ∷ ls) old) (sym before) w.1) in
+    subst (λ os. AreWhole os new) (popped ∙ ap (λ h. h ∷ ms) (sym now)) (w.0.1, right)
 
 pub nowhere_placed : (clean : Bool) (l : Held) (ls : List Held) (spots : Spots) (s : Scopes) (x y : Bytes) (o : Option Entry) → seen clean l ls ≡ s → (clean ≡ true → AreWhole (l ∷ ls) spots) → y ≡ x → o ≡ spot_at spots y → o ≡ None
     → clean ≡ true → (s.clean ≡ true) × IsPlaced (stack s) (map level_seen (l ∷ ls)) x None
