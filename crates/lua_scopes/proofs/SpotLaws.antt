@@ -1,7 +1,11 @@
 -- What the map has for names, against where names stand.
-use Rattle.std.proofs.Common.{◌≡◌, ◌∙◌, ℕ, zero, suc, ◌-◌, ◌<◌, Bool, true, false, true≢false, cond, refl, sym, ap, subst, List, [], ◌∷◌, ◌++◌, map, length, drop, ◌≤◌, Option, Some, None, option_map, bytes_eq, Bor, arith}
+use Rattle.std.proofs.Common.{◌≡◌, ◌∙◌, ℕ, zero, suc, ◌-◌, ◌<◌, Bool, true, false, true≢false, cond, refl, sym, ap, subst, List, [], ◌∷◌, ◌++◌, map, length, drop, ◌≤◌, slice_get, Option, Some, None, option_map, bytes_eq, Bor, arith}
 use Rattle.std.proofs.lemmas.Slice.Eq.{bytes_eq-Decides}
 use Rattle.std.proofs.lemmas.List.{drop_all}
+use Rattle.std.specs.Cmp.{IsEquivalence, on_equiv}
+use Rattle.std.specs.Cmp.Lexicographic.{nat_list_eq_equiv}
+use Rattle.indexmap.specs.IndexMap.{IndexMap, IsUnique, with_value_at}
+use Rattle.indexmap.proofs.CallerLemmas.{updates-with_value_at}
 use Rattle.std.specs.Map.{lookup}
 use Rattle.lua_meaning.specs.Scope.{Bytes}
 use Rattle.lua_slots.specs.Code.{Place as PlainPlace, Reg, Box, Up}
@@ -15,7 +19,7 @@ use Rattle.lua_scopes.specs.declared.level.Variable.{Variable}
 use Rattle.lua_scopes.specs.declared.level.Capture.{Capture}
 use Rattle.lua_scopes.specs.declared.level.Level.{Level as Held}
 use Rattle.lua_scopes.specs.Scopes.{Local, Level, local_sight, is_local, Misses, closed_to, with_capture}
-use Rattle.lua_scopes.specs.Spots.{Spots, joined, spot_at, IsNoted, local_seen, names, level_seen, new_level, spot_of, entry_or, entry_of, AreKept, AreShadowed, AreAllShadowed, IsRight, IsDeclared, IsEndedOf, IsEnded, IsClosed, IsCapturing, IsGivenSoFar, IsGivenBack, found_of, IsFound, AllMiss, onto}
+use Rattle.lua_scopes.specs.Spots.{Spots, joined, spot_at, StandsAt, IsNoted, local_seen, names, level_seen, new_level, spot_of, entry_or, entry_of, AreKept, AreShadowed, AreAllShadowed, IsRight, IsDeclared, IsEndedOf, IsEnded, IsClosed, IsCapturing, IsGivenSoFar, IsGivenBack, found_of, IsFound, AllMiss, onto}
 
 -- EQUAL BYTES
 flips : (a b : Bytes) (s t : Bool) → bytes_eq a b ≡ s → bytes_eq b a ≡ t → s ≡ t
@@ -45,6 +49,17 @@ nothing_noted k old new written none x = written x ∙ both (bytes_eq k.now x) (
     both : (b : Bool) (o : Option Entry) → o ≡ None → cond b None o ≡ None
     both true o e = refl
     both false o e = e
+
+-- a name that stands at a place, and is written there
+pub stands : (es : Spots) (i : ℕ) (x : Bytes) (o : Option (Bor (Bor Bytes) × Bor (Option Entry))) (k : Bor (Bor Bytes)) (v : Bor (Option Entry)) → option_map (λ (p : Bor (Bor Bytes) × Bor (Option Entry)). (p.0.now, p.1.now)) o ≡ slice_get es i → o ≡ Some (k, v) → bytes_eq k.now.now x ≡ true
+    → StandsAt es i x
+stands es i x o k v at is e = (k.now, v.now, sym at ∙ ap (option_map (λ (p : Bor (Bor Bytes) × Bor (Option Entry)). (p.0.now, p.1.now))) is, (bytes_eq-Decides k.now.now x).0 e)
+
+names_are_same : IsEquivalence (λ (a b : Bor Bytes). bytes_eq a.now b.now)
+names_are_same = on_equiv (λ (k : Bor Bytes). k.now) nat_list_eq_equiv
+
+pub put_there : {S : Type 0} (m : IndexMap (Bor Bytes) (Option Entry) S) (i : ℕ) (w : Option Entry) → IsUnique (λ (a b : Bor Bytes). bytes_eq a.now b.now) m → (x : Bytes) → StandsAt m.entries i x → IsNoted m.entries x w (with_value_at m i w).entries
+put_there m i w unique x (k, v, at, same) = subst (λ y. IsNoted m.entries y w (with_value_at m i w).entries) same (noted k w m.entries (with_value_at m i w).entries (updates-with_value_at m i w names_are_same unique k v at).0)
 
 -- WHERE A NAME STANDS
 both_false : (b c : Bool) → cond b true c ≡ false → (b ≡ false) × (c ≡ false)

@@ -1,6 +1,6 @@
 -- WHAT THE CODE HOLDS of the functions in progress, and what it knows of names: one map for all these functions. It has for a name the
 -- innermost function that knows it, and from where.
-use Rattle.std.specs.Prelude.{◌≡◌, ℕ, suc, ◌-◌, Bool, true, false, if◌then◌else◌, bytes_eq, List, [], ◌∷◌, ◌++◌, map, length, drop, Option, Some, None, option_map}
+use Rattle.std.specs.Prelude.{◌≡◌, ℕ, suc, ◌-◌, Bool, true, false, if◌then◌else◌, bytes_eq, List, [], ◌∷◌, ◌++◌, map, length, drop, slice_get, Option, Some, None, option_map}
 use Rattle.std.specs.Borrow.{Bor}
 use Rattle.std.specs.Map.{lookup}
 use Rattle.lua_meaning.specs.Scope.{Bytes}
@@ -28,6 +28,10 @@ joined (Some s) = s
 
 abbrev pub spot_at : Spots → Bytes → Option Entry
 spot_at es x = joined (lookup (λ (k : Bor Bytes). bytes_eq x k.now) es)
+
+-- a name stands at a place of the map
+abbrev pub StandsAt : Spots → ℕ → Bytes → Type 0
+StandsAt es i x = (k : Bor Bytes) × (v : Option Entry) × (slice_get es i ≡ Some (k, v)) × (k.now ≡ x)
 
 -- a name has another entry from now on
 abbrev pub IsNoted : Spots → Bytes → Option Entry → Spots → Type 0

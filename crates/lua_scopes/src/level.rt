@@ -3,25 +3,28 @@ ghost use Rattle.std.specs.Prelude.{◌≡◌, ◌∷◌, List as Items, IfOk, O
 ghost use Rattle.lua_scopes.specs.Spots.{new_level, IsDeclared, IsEnded, IsClosed, IsRight, IsCapturing, IsGivenBack};
 ghost use Rattle.lua_scopes.specs.declared.level.Level.{Level as Held};
 
-use crate::spots::{Entry, Spot, SpotMap, note};
+use crate::spots::{Entry, Named, Spot, SpotMap, note};
 use crate::stack::Stack;
 use lua_code::Place;
 use std::alloc::Global;
 use wk_base::{Bytes, List, NoMemory};
 
-/// A local variable: whether it has a cell, its number among the declarations, and what was known of its name before.
+/// A local variable: its name and where that may stand in the map, whether it has a cell, its number among the declarations, and what
+/// was known of its name before.
 #[derive(Clone, Copy)]
 pub(crate) struct Variable<'t> {
     pub(crate) name: &'t Bytes,
+    pub(crate) at: usize,
     pub(crate) boxed: bool,
     pub(crate) number: usize,
     pub(crate) shadowed: Option<Entry>,
 }
 
-/// A name that a function captures, and what was known of it before.
+/// A name that a function captures, where it may stand in the map, and what was known of it before.
 #[derive(Clone, Copy)]
 pub(crate) struct Capture<'t> {
     pub(crate) name: &'t Bytes,
+    pub(crate) at: usize,
     pub(crate) shadowed: Option<Entry>,
 }
 
@@ -56,7 +59,14 @@ impl<'t> Level<'t> {
     {
         let spot = Spot::Local(self.variables.len(), variable.boxed, variable.number);
         self.variables.push(variable)?;
-        note(spots, variable.name, Some(Entry { depth, spot }))
+        note(
+            spots,
+            Named {
+                name: variable.name,
+                number: variable.at,
+            },
+            Some(Entry { depth, spot }),
+        )
     }
 
     /// Only the oldest so many local variables are left.
@@ -75,7 +85,14 @@ impl<'t> Level<'t> {
     {
         match self.variables.pop() {
             None => Ok(()),
-            Some(variable) => note(spots, variable.name, variable.shadowed),
+            Some(variable) => note(
+                spots,
+                Named {
+                    name: variable.name,
+                    number: variable.at,
+                },
+                variable.shadowed,
+            ),
         }
     }
 
@@ -93,7 +110,14 @@ impl<'t> Level<'t> {
         self.captures.push(capture)?;
         self.places.push(from)?;
         let spot = Spot::Captured(index);
-        note(spots, capture.name, Some(Entry { depth, spot }))?;
+        note(
+            spots,
+            Named {
+                name: capture.name,
+                number: capture.at,
+            },
+            Some(Entry { depth, spot }),
+        )?;
         Ok(Place::Captured(index))
     }
 
@@ -113,7 +137,14 @@ fn give_back<'t>(captures: &[Capture<'t>], spots: &mut SpotMap<'t>) -> Result<()
     ensures { OnOk result (IsGivenBack captures.now spots.old.entries spots.new.entries) }
 {
     for capture in captures {
-        note(spots, capture.name, capture.shadowed)?;
+        note(
+            spots,
+            Named {
+                name: capture.name,
+                number: capture.at,
+            },
+            capture.shadowed,
+        )?;
     }
     Ok(())
 }

@@ -12,8 +12,8 @@
 #![tactic(auto)]
 
 mod cells;
-mod looks;
 mod level;
+mod looks;
 mod names;
 mod scopes;
 mod sketch;

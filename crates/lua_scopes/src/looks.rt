@@ -13,7 +13,7 @@ pub fn first_look<'t>(
     seed: RandomState,
     chunk: &'t Chunk,
 ) -> Result<Sketch<'t>, NoMemory> {
-    let mut seen = Sketching::new(alloc, seed);
+    let mut seen = Sketching::new(alloc, seed)?;
     block(&chunk.body, &mut seen)?;
     Ok(seen.into_sketch())
 }
@@ -166,11 +166,7 @@ fn statement<'t>(s: &'t StatKind, seen: &mut Sketching<'t>) -> Result<(), NoMemo
 }
 
 #[cycle(looks)]
-fn counted<'t>(
-    name: &'t Bytes,
-    body: &'t Block,
-    seen: &mut Sketching<'t>,
-) -> Result<(), NoMemory> {
+fn counted<'t>(name: &'t Bytes, body: &'t Block, seen: &mut Sketching<'t>) -> Result<(), NoMemory> {
     let count = seen.len();
     seen.declared(name)?;
     block(body, seen)?;

@@ -88,6 +88,7 @@ impl<'t> Scopes<'t> {
         let named = self.numbers.next(name);
         let variable = Variable {
             name,
+            at: named.number,
             boxed: cell.boxed,
             number: cell.number,
             shadowed: find(&self.spots, named),
@@ -195,6 +196,7 @@ fn reach<'t>(
     cells.captured(beyond.plain);
     let capture = Capture {
         name: named.name,
+        at: named.number,
         shadowed: find(spots, named),
     };
     let place = level.capture(spots, capture, beyond.place, outer.len())?;

@@ -16,6 +16,11 @@ pub struct Sketch<'t> {
 }
 
 impl<'t> Sketch<'t> {
+    /// No name, and nothing of variables: what going over a text finds out.
+    pub fn unknown(alloc: Global, seed: RandomState) -> Sketch<'t> {
+        Sketch::of_captured(alloc, seed, Vec::new(alloc))
+    }
+
     /// No name, and nothing but which variables are captured.
     pub(crate) fn of_captured(alloc: Global, seed: RandomState, captured: Vec<bool>) -> Sketch<'t> {
         Sketch {
@@ -44,6 +49,8 @@ struct Open {
 #[derive(Drop)]
 pub(crate) struct Sketching<'t> {
     sketch: Sketch<'t>,
+    /// The numbers of names that were met lately, at most one for each slot (`slot_of`).
+    recent: Vec<usize>,
     /// By the numbers of names.
     newest: Vec<Option<Newest>>,
     open: Vec<Open>,
@@ -52,13 +59,14 @@ pub(crate) struct Sketching<'t> {
 
 impl<'t> Sketching<'t> {
     /// In front of a text. Names are hashed by the seed.
-    pub(crate) fn new(alloc: Global, seed: RandomState) -> Sketching<'t> {
-        Sketching {
-            sketch: Sketch::of_captured(alloc, seed, Vec::new(alloc)),
+    pub(crate) fn new(alloc: Global, seed: RandomState) -> Result<Sketching<'t>, NoMemory> {
+        Ok(Sketching {
+            sketch: Sketch::unknown(alloc, seed),
+            recent: no_numbers(alloc)?,
             newest: Vec::new(alloc),
             open: Vec::new(alloc),
             depth: 0,
-        }
+        })
     }
 
     /// What was seen.
@@ -66,9 +74,24 @@ impl<'t> Sketching<'t> {
         self.sketch
     }
 
+    /// The number of a name. A name that was met lately is compared, and not hashed.
+    fn number_of(&mut self, name: &'t Bytes) -> Result<usize, NoMemory> {
+        let slot = slot_of(name.as_slice());
+        if slot >= self.recent.len() {
+            return self.sketch.names.number(name);
+        }
+        let recent = self.recent[slot];
+        if self.sketch.names.has(recent, name) {
+            return Ok(recent);
+        }
+        let number = self.sketch.names.number(name)?;
+        self.recent[slot] = number;
+        Ok(number)
+    }
+
     /// The number of the next name of the text.
     fn number(&mut self, name: &'t Bytes) -> Result<usize, NoMemory> {
-        let number = self.sketch.names.number(name)?;
+        let number = self.number_of(name)?;
         push(&mut self.sketch.numbers, number)?;
         if number >= self.newest.len() {
             push(&mut self.newest, None)?;
@@ -131,6 +154,30 @@ impl<'t> Sketching<'t> {
     pub(crate) fn leave(&mut self) {
         self.depth = self.depth.saturating_sub(1);
     }
+}
+
+/// How many slots there are for the names that were met lately.
+const SLOTS: usize = 256;
+
+/// The slot of a name: it is soon found, and nothing is lost where many names have the same one, since these are hashed.
+fn slot_of(name: &[u8]) -> usize {
+    match name {
+        [] => 0,
+        [one] => *one as usize,
+        [first, .., last] => {
+            let ends = (*first as usize) * 31 + (*last as usize) * 7;
+            (ends + (name.len() % SLOTS) * 13) % SLOTS
+        }
+    }
+}
+
+/// For each slot no number.
+fn no_numbers(alloc: Global) -> Result<Vec<usize>, NoMemory> {
+    let mut numbers = Vec::new(alloc);
+    for _ in 0..SLOTS {
+        push(&mut numbers, usize::MAX)?;
+    }
+    Ok(numbers)
 }
 
 /// That flag is set.

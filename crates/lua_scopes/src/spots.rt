@@ -1,7 +1,7 @@
 //! What is known of names, by the names.
-ghost use Rattle.std.specs.Prelude.{◌≡◌, None, OnOk};
+ghost use Rattle.std.specs.Prelude.{◌≡◌, None, true, OnOk};
 ghost use Rattle.lua_meaning.specs.Scope.{Bytes as PlainBytes};
-ghost use Rattle.lua_scopes.specs.Spots.{spot_at, IsNoted, found_of};
+ghost use Rattle.lua_scopes.specs.Spots.{spot_at, StandsAt, IsNoted, found_of};
 
 use indexmap::IndexMap;
 use lua_code::Place;
@@ -57,17 +57,41 @@ pub(crate) fn find<'t>(spots: &SpotMap<'t>, named: Named<'t>) -> Option<Entry>
     }
 }
 
-/// From now on this is known of a name.
+/// Whether a name stands at its number.
+fn stands_there<'t>(spots: &SpotMap<'t>, named: Named<'t>) -> bool
+    ensures { result ≡ true → StandsAt spots.now.entries named.entry.number named.entry.name.now }
+{
+    match spots.get_index(named.number) {
+        Some((key, _)) => *key == named.name,
+        None => false,
+    }
+}
+
+/// From now on this is known of a name. If it stands at its number it is not hashed.
 pub(crate) fn note<'t>(
     spots: &mut SpotMap<'t>,
-    name: &'t Bytes,
+    named: Named<'t>,
     entry: Option<Entry>,
 ) -> Result<(), NoMemory>
-    ensures { OnOk result (IsNoted spots.old.entries name.now entry spots.new.entries) }
+    ensures { OnOk result (IsNoted spots.old.entries named.entry.name.now entry spots.new.entries) }
 {
-    match spots.insert(name, entry) {
+    if stands_there(spots, named) {
+        put(spots, named.number, entry);
+        return Ok(());
+    }
+    match spots.insert(named.name, entry) {
         Ok(_) => Ok(()),
         Err(_) => Err(NoMemory),
+    }
+}
+
+/// From now on this is known of the name that stands there.
+fn put<'t>(spots: &mut SpotMap<'t>, number: usize, entry: Option<Entry>)
+    ensures { (x : PlainBytes) → StandsAt spots.old.entries number x → IsNoted spots.old.entries x entry spots.new.entries }
+{
+    if number < spots.len() {
+        let (_, known) = spots.pair_mut(number);
+        *known = entry;
     }
 }
 
