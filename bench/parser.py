@@ -29,12 +29,26 @@ function p.f%d(frame, ...)
 end
 """
 
+CAPTURING = """
+-- The %d-th of many functions, with two inside it.
+function p.f%d(frame, ...)
+  local args, count = frame.args, %d
+  local function add(value, key)
+    if value ~= '' and not p[key] then count = count + 1 end
+    p[count] = args[key] or value
+    return p, count, frame
+  end
+  for i, value in ipairs(args) do add(value, i) end
+  return add, function(x) return add(x, #args), p.f%d(frame, count) end
+end
+"""
 
-def module(size):
+
+def module(size, function=FUNCTION):
     text, number = ["local p = {}\n"], 0
     length = len(text[0])
     while length < size:
-        text.append(FUNCTION % (number, number, number))
+        text.append(function % ((number,) * function.count("%d")))
         length += len(text[-1])
         number += 1
     return "".join(text + ["return p\n"])
@@ -43,6 +57,7 @@ def module(size):
 TEXTS = {
     "a module, 128 KiB": module(LARGE >> 4),
     "a module, 2 MiB": module(LARGE),
+    "captures, 2 MiB": module(LARGE, CAPTURING),
     "20,000 statements": "x = 1\n" * 20000,
     "200,000 statements": "x = 1\n" * 200000,
     "20,000 fields": "return {" + "x = 1, " * 20000 + "}",

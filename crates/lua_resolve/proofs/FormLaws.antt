@@ -23,7 +23,7 @@ use Rattle.lua_slots.specs.IsCode.{EndSight, any_sight, operator_of, IsExp, IsEx
 use Rattle.lua_code.specs.declared.statement.Statement.{Statement}
 use Rattle.lua_code.specs.Seen.{expression_seen, statement_seen, block_seen, branches_seen, proto_seen, protos_seen}
 use Rattle.lua_code.specs.declared.proto.Proto.{Proto}
-use Rattle.lua_resolve.specs.Scopes.{Level, Scopes, closed_to, entered, IsLeft, nothing_known, local_sight, stack, stack_sight, Covers, StaysAs, Grows}
+use Rattle.lua_scopes.specs.Scopes.{Level, Scopes, closed_to, entered, IsLeft, nothing_known, local_sight, stack, stack_sight, Covers, StaysAs, Grows}
 use Rattle.lua_resolve.specs.Parts.{State, locals, Holds, Later, Next, tail_of, IsPart, AreDeclared, IsStep, IsOther}
 use Rattle.lua_resolve.proofs.PartLaws.{plain_part, IsClosed, entered_state}
 

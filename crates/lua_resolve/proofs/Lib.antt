@@ -1,4 +1,2 @@
-mod SpotLaws
-mod SightLaws
 mod PartLaws
 mod FormLaws

@@ -13,9 +13,9 @@ use Rattle.lua_code.specs.declared.statement.Target.{Target}
 use Rattle.lua_code.specs.declared.statement.Statement.{Statement}
 use Rattle.lua_code.specs.declared.statement.Branch.{Branch}
 use Rattle.lua_code.specs.Seen.{expression_seen, expressions_seen, entry_seen, entries_seen, target_seen, statement_seen, block_seen, branch_seen, branches_seen}
-use Rattle.lua_resolve.specs.Scopes.{Local, Level, stack, closed_to, local_sight, stack_sight, Covers, Grows, IsSighted, IsPlaced, IsLeft, IsLeftTo, entered}
+use Rattle.lua_scopes.specs.Scopes.{Local, Level, stack, closed_to, local_sight, stack_sight, Covers, Grows, IsSighted, IsPlaced, IsLeft, IsLeftTo, entered}
 use Rattle.lua_resolve.specs.Parts.{State, locals, with_locals_of, opened, Holds, Later, Went, Next, expressions_before, entries_before, branches_before, statements_before, ExpressionsSoFar, EntriesSoFar, TargetsSoFar, BranchesSoFar, tail_of, IsPart, BlockSoFar, with_names, AreDeclared, NamesSoFar}
-use Rattle.lua_resolve.proofs.SightLaws.{covers_trans, covers_here, covers_everywhere, covers_local, covers_inside, grows_same, grows_trans, grows_covers, captured_on}
+use Rattle.lua_scopes.proofs.SightLaws.{covers_trans, covers_here, covers_everywhere, covers_local, covers_inside, grows_same, grows_trans, grows_covers, captured_on}
 
 -- STATES
 pub next_same : (s : State) → Next s s

@@ -15,7 +15,7 @@ use Rattle.lua_code.specs.declared.statement.Target.{Target}
 use Rattle.lua_code.specs.declared.statement.Statement.{Statement}
 use Rattle.lua_code.specs.declared.statement.Branch.{Branch}
 use Rattle.lua_code.specs.Seen.{expression_seen, entry_seen, target_seen, statement_seen, block_seen, branch_seen, proto_seen}
-use Rattle.lua_resolve.specs.Scopes.{Local, Scopes, stack, local_sight, stack_sight, Covers, Grows}
+use Rattle.lua_scopes.specs.Scopes.{Local, Scopes, stack, local_sight, stack_sight, Covers, Grows}
 use Rattle.lua_resolve.specs.declared.resolver.Resolver.{Resolver}
 
 -- the functions in progress, and those that are done, which are numbered from 1

@@ -9,6 +9,7 @@ ghost use Rattle.lua_slots.specs.IsCode.{IsClosure, IsExp, IsExps, IsFields, IsF
 ghost use Rattle.lua_code.specs.Seen.{place_seen, expression_seen, expressions_seen, entry_seen, entries_seen, target_seen};
 ghost use Rattle.lua_resolve.specs.Parts.{state_of, Next, Later};
 
+use crate::lists::with_room;
 use crate::operators::binary;
 use crate::resolver::Resolver;
 use lua_code::{Entry, Expression, Place, Proto, Target};
@@ -116,7 +117,7 @@ impl<'t> Resolver<'t> {
         ensures next { OnOk result (Next (state_of self.old) (state_of self.new)) }
         ensures code { IfOk result (λ cs. (at : PlainProtos) (see : Sight) → Later (state_of self.new) at see → IsExps at see (exprs_view list.now) (expressions_seen cs)) }
     {
-        let mut out = List::new(self.alloc);
+        let mut out = with_room(self.alloc, list.len())?;
         for e in list {
             let code = self.expression(e)?;
             out.push(code)?;
@@ -149,7 +150,7 @@ impl<'t> Resolver<'t> {
         ensures next { OnOk result (Next (state_of self.old) (state_of self.new)) }
         ensures code { IfOk result (λ cs. (at : PlainProtos) (see : Sight) → Later (state_of self.new) at see → IsFields at see (fields_view list.now) (entries_seen cs)) }
     {
-        let mut out = List::new(self.alloc);
+        let mut out = with_room(self.alloc, list.len())?;
         for f in list {
             let code = self.entry(f)?;
             out.push(code)?;
@@ -195,7 +196,7 @@ impl<'t> Resolver<'t> {
         ensures next { OnOk result (Next (state_of self.old) (state_of self.new)) }
         ensures code { IfOk result (λ cs. (at : PlainProtos) (see : Sight) → Later (state_of self.new) at see → IsTargets at see (exprs_view list.now) (map target_seen cs)) }
     {
-        let mut out = List::new(self.alloc);
+        let mut out = with_room(self.alloc, list.len())?;
         for e in list {
             let code = self.target(e)?;
             out.push(code)?;
@@ -212,7 +213,7 @@ impl<'t> Resolver<'t> {
         self.scopes.enter()?;
         let flags = self.declare(f.params.as_slice())?;
         let body = self.block(&f.body)?;
-        let places = self.scopes.leave();
+        let places = self.scopes.leave()?;
         let dots = f.dots;
         let index = self.add(Proto { flags, dots, body })?;
         Ok(Done { index, places })

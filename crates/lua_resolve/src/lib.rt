@@ -4,25 +4,17 @@
 //! - `expressions`, `statements`: code of the parts of a tree
 //! - `operators`: code of operators
 //! - `resolver`: names, declarations, and functions that are done
-//! - `scopes`: the functions in progress, and what they capture from one another
-//! - `level`: one of them, its variables and captured names
-//! - `spots`: where a function knows a name from
-//! - `cells`: which variables have cells
-//! - `stack`: a list of which the newest item is at hand
+//! - `lists`: lists with room
 //!
-//! Which code is code of a text is said in `lua_slots` (`specs/IsCode.antt`). Here begin with `specs/Scopes.antt`, then
-//! `specs/Parts.antt`: what each part of a tree leaves, as the cycle has it.
+//! Which code is code of a text is said in `lua_slots` (`specs/IsCode.antt`), and where names stand in functions in progress in
+//! `lua_scopes` (`specs/Scopes.antt`). Here begin with `specs/Parts.antt`: what each part of a tree leaves, as the cycle has it.
 #![tactic(auto)]
 
-mod cells;
 mod expressions;
-mod level;
+mod lists;
 mod operators;
 mod resolver;
 mod rounds;
-mod scopes;
-mod spots;
-mod stack;
 mod statements;
 
 pub use rounds::resolve;

@@ -1,18 +1,17 @@
 //! A text that is gone over: names, declarations, and functions that are done.
-ghost use Rattle.std.specs.Prelude.{◌≡◌, ◌∷◌, ◌++◌, [], suc, length, IfOk, IfSome, OnOk, option_map};
+ghost use Rattle.std.specs.Prelude.{◌≡◌, ◌∷◌, ◌++◌, [], true, suc, length, IfOk, IfSome, OnOk, option_map};
 ghost use Rattle.lua_syntax.specs.Tree.{Exp, NameE};
 ghost use Rattle.lua_slots.specs.Code.{Protos as PlainProtos};
 ghost use Rattle.lua_slots.specs.Sight.{Sight};
 ghost use Rattle.lua_slots.specs.IsCode.{IsExp, IsTarget};
 ghost use Rattle.lua_code.specs.Seen.{place_seen, expression_seen, target_seen};
-ghost use Rattle.lua_resolve.specs.Scopes.{nothing_known, closed_to, IsSighted};
+ghost use Rattle.lua_scopes.specs.Scopes.{nothing_known, closed_to, IsSighted};
 ghost use Rattle.lua_resolve.specs.Parts.{state_of, Next, Later, AreDeclared};
 
-use crate::cells::Cells;
-use crate::scopes::Scopes;
+use crate::lists::with_room;
 use lua_code::{Expression, Place, Proto, Target};
+use lua_scopes::{Scopes, Sketch};
 use std::alloc::Global;
-use std::hash::RandomState;
 use wk_base::{Bytes, List, NoMemory};
 
 /// A text that is gone over: the functions in progress, and those that are done.
@@ -24,14 +23,14 @@ pub(crate) struct Resolver<'t> {
 }
 
 impl<'t> Resolver<'t> {
-    /// In front of a text.
-    pub(crate) fn new(alloc: Global, seed: RandomState, cells: Cells) -> Resolver<'t>
-        ensures scopes { result.scopes ≡ record { clean = cells.clean; level = nothing_known; outer = [] } }
+    /// In front of a text of which a sketch was made.
+    pub(crate) fn new(alloc: Global, sketch: Sketch<'t>) -> Resolver<'t>
+        ensures scopes { result.scopes ≡ record { clean = true; level = nothing_known; outer = [] } }
         ensures functions { result.functions ≡ [] }
     {
         Resolver {
             alloc,
-            scopes: Scopes::new(alloc, seed, cells),
+            scopes: Scopes::new(alloc, sketch),
             functions: List::new(alloc),
         }
     }
@@ -71,7 +70,7 @@ impl<'t> Resolver<'t> {
     pub(crate) fn declare(&mut self, names: &'t [Bytes]) -> Result<List<bool>, NoMemory>
         ensures { IfOk result (λ flags. AreDeclared (state_of self.old) (state_of self.new) names.now flags) }
     {
-        let mut flags = List::new(self.alloc);
+        let mut flags = with_room(self.alloc, names.len())?;
         for name in names {
             let boxed = self.scopes.declare(name)?;
             flags.push(boxed)?;

@@ -4,19 +4,19 @@ ghost use Rattle.lua_syntax.specs.View.{chunk_view};
 ghost use Rattle.lua_slots.specs.IsCode.{IsProtos};
 ghost use Rattle.lua_code.specs.Seen.{protos_seen};
 
-use crate::cells::Cells;
 use crate::resolver::Resolver;
 use lua_code::{Proto, Protos};
+use lua_scopes::{Scopes, Sketch, first_look};
 use lua_syntax::Chunk;
 use std::alloc::Global;
 use std::hash::RandomState;
 use wk_base::{List, NoMemory};
 
-/// What going over a text once gave: code of it, if all that functions capture had cells, and what is known of cells now.
+/// What going over a text once gave: code of it, if all that functions capture had cells.
 #[derive(Drop)]
-struct Gone {
+struct Gone<'t> {
     protos: Protos,
-    cells: Cells,
+    scopes: Scopes<'t>,
 }
 
 /// Code of a text (manual 2.4.1): number 0 of its functions is the text itself. Names are hashed by the seed, so that no text
@@ -24,29 +24,28 @@ struct Gone {
 ///
 /// The tree is one that the parser gives: it is gone down by recursion, and its depth is bounded (200 levels).
 ///
-/// Which local variables have cells is known only behind them, where a function captures one. So the text is gone over once
-/// to find these, and, if there are any, once more. What is captured doesn't depend on what has cells, so the second time
-/// nothing is missed.
+/// Which local variables have cells is known only behind them, where a function captures one. So a first look at the text finds
+/// these, and makes no code. Nothing is proved of that look: if a function captured a variable that has no cell, the text would be
+/// gone over again with what is known then.
 pub fn resolve(alloc: Global, seed: RandomState, chunk: &Chunk) -> Result<Protos, NoMemory>
     ensures { IfOk result (λ ps. IsProtos (protos_seen ps) (chunk_view chunk.now)) }
 {
-    let mut cells = Cells::new(alloc);
+    let mut sketch = first_look(alloc, seed, chunk)?;
     for _ in 0..usize::MAX {
-        let gone = round(alloc, seed, chunk, cells)?;
-        if gone.cells.clean {
+        let gone = round(alloc, chunk, sketch)?;
+        if gone.scopes.is_clean() {
             return Ok(gone.protos);
         }
-        cells = gone.cells.again();
+        sketch = gone.scopes.into_sketch(seed);
     }
     Err(NoMemory)
 }
 
 /// Goes over the text once.
-fn round(alloc: Global, seed: RandomState, chunk: &Chunk, cells: Cells) -> Result<Gone, NoMemory>
-    requires { cells.clean ≡ true }
-    ensures { IfOk result (λ r. r.cells.clean ≡ true → IsProtos (protos_seen r.protos) (chunk_view chunk.now)) }
+fn round<'t>(alloc: Global, chunk: &'t Chunk, sketch: Sketch<'t>) -> Result<Gone<'t>, NoMemory>
+    ensures { IfOk result (λ r. r.scopes.clean ≡ true → IsProtos (protos_seen r.protos) (chunk_view chunk.now)) }
 {
-    let mut resolver = Resolver::new(alloc, seed, cells);
+    let mut resolver = Resolver::new(alloc, sketch);
     let body = resolver.block(&chunk.body)?;
     let Resolver {
         alloc,
@@ -58,8 +57,6 @@ fn round(alloc: Global, seed: RandomState, chunk: &Chunk, cells: Cells) -> Resul
         dots: false,
         body,
     };
-    Ok(Gone {
-        protos: Protos { text, functions },
-        cells: scopes.into_cells(),
-    })
+    let protos = Protos { text, functions };
+    Ok(Gone { protos, scopes })
 }

@@ -9,6 +9,7 @@ ghost use Rattle.lua_code.specs.Seen.{statement_seen, block_seen, branch_seen, b
 ghost use Rattle.lua_resolve.specs.Parts.{state_of, Next, Later, IsPart, BlockSoFar, IsStep, IsOther};
 
 use crate::expressions::Done;
+use crate::lists::with_room;
 use crate::resolver::Resolver;
 use lua_code::{Branch, Expression, Statement};
 use lua_syntax::{Arm, Block, Expr, Stat, StatKind};
@@ -46,7 +47,7 @@ impl<'t> Resolver<'t> {
     fn stats(&mut self, list: &'t [Stat]) -> Result<List<Statement>, NoMemory>
         ensures { IfOk result (λ cs. BlockSoFar (state_of self.old) (state_of self.new) (stats_view list.now) NoStat cs) }
     {
-        let mut out = List::new(self.alloc);
+        let mut out = with_room(self.alloc, list.len())?;
         for s in list {
             let code = self.stat(s)?;
             out.push(code)?;
@@ -202,7 +203,7 @@ impl<'t> Resolver<'t> {
         ensures next { OnOk result (Next (state_of self.old) (state_of self.new)) }
         ensures code { IfOk result (λ cs. (at : PlainProtos) (see : Sight) → Later (state_of self.new) at see → IsArms at see (arms_view list.now) (branches_seen cs)) }
     {
-        let mut out = List::new(self.alloc);
+        let mut out = with_room(self.alloc, list.len())?;
         for a in list {
             let code = self.branch(a)?;
             out.push(code)?;

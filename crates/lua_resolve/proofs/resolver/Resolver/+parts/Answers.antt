@@ -98,7 +98,7 @@ pub expression-returns-clause-code : goal.expression-returns-clause-code
 expression-returns-clause-code t c = λ at see l. exp_as at see (expr_opens _) refl (c.in_ok-code.ensures.code at see l)
 
 pub expressions-loop-e-init : goal.expressions-loop-e-init
-expressions-loop-e-init t c = subst (ExpressionsSoFar _ _ _ _) (sym c.new-out.ensures) (exps_start _ _)
+expressions-loop-e-init t c = subst (ExpressionsSoFar _ _ _ _) (sym c.in_ok-out.ensures) (exps_start _ _)
 
 pub expressions-loop-e-preserved : goal.expressions-loop-e-preserved
 expressions-loop-e-preserved t c = exps_step _ _ _ _ _ _ _ _ (expr_view c.e-item.result) _ c.loop-e.invariant (ap exprs_view (next_item c.args.list.now c.loop-e.e-index c.e-item.result c.e-item.is c.loop-e-test.true)) c.in_ok-code.ensures.next c.in_ok-code.ensures.code c.in_ok-push.ensures.ok
@@ -110,7 +110,7 @@ pub expressions-returns-clause-code : goal.expressions-returns-clause-code
 expressions-returns-clause-code t c = λ at see l. let none : drop c.loop-e.e-index c.args.list.now ≡ [] = drop_all c.loop-e.e-index c.args.list.now (omega (arith, c.loop-e-test.false)) in exps_end _ _ _ _ _ c.loop-e.invariant (ap exprs_view none) at see l
 
 pub targets-loop-e-init : goal.targets-loop-e-init
-targets-loop-e-init t c = subst (TargetsSoFar _ _ _ _) (sym c.new-out.ensures) (targets_start _ _)
+targets-loop-e-init t c = subst (TargetsSoFar _ _ _ _) (sym c.in_ok-out.ensures) (targets_start _ _)
 
 pub targets-loop-e-preserved : goal.targets-loop-e-preserved
 targets-loop-e-preserved t c = targets_step _ _ _ _ _ _ _ _ (expr_view c.e-item.result) _ c.loop-e.invariant (ap exprs_view (next_item c.args.list.now c.loop-e.e-index c.e-item.result c.e-item.is c.loop-e-test.true)) c.in_ok-code.ensures.next c.in_ok-code.ensures.code c.in_ok-push.ensures.ok
@@ -122,7 +122,7 @@ pub targets-returns-clause-code : goal.targets-returns-clause-code
 targets-returns-clause-code t c = λ at see l. let none : drop c.loop-e.e-index c.args.list.now ≡ [] = drop_all c.loop-e.e-index c.args.list.now (omega (arith, c.loop-e-test.false)) in targets_end _ _ _ _ _ c.loop-e.invariant (ap exprs_view none) at see l
 
 pub entries-loop-f-init : goal.entries-loop-f-init
-entries-loop-f-init t c = subst (EntriesSoFar _ _ _ _) (sym c.new-out.ensures) (fields_start _ _)
+entries-loop-f-init t c = subst (EntriesSoFar _ _ _ _) (sym c.in_ok-out.ensures) (fields_start _ _)
 
 pub entries-loop-f-preserved : goal.entries-loop-f-preserved
 entries-loop-f-preserved t c = fields_step _ _ _ _ _ _ _ _ (field_view c.f-item.result) _ c.loop-f.invariant (ap fields_view (next_item c.args.list.now c.loop-f.f-index c.f-item.result c.f-item.is c.loop-f-test.true)) c.in_ok-code.ensures.next c.in_ok-code.ensures.code c.in_ok-push.ensures.ok
@@ -134,7 +134,7 @@ pub entries-returns-clause-code : goal.entries-returns-clause-code
 entries-returns-clause-code t c = λ at see l. let none : drop c.loop-f.f-index c.args.list.now ≡ [] = drop_all c.loop-f.f-index c.args.list.now (omega (arith, c.loop-f-test.false)) in fields_end _ _ _ _ _ c.loop-f.invariant (ap fields_view none) at see l
 
 pub branches-loop-a-init : goal.branches-loop-a-init
-branches-loop-a-init t c = subst (BranchesSoFar _ _ _ _) (sym c.new-out.ensures) (arms_start _ _)
+branches-loop-a-init t c = subst (BranchesSoFar _ _ _ _) (sym c.in_ok-out.ensures) (arms_start _ _)
 
 pub branches-loop-a-preserved : goal.branches-loop-a-preserved
 branches-loop-a-preserved t c = arms_step _ _ _ _ _ _ _ _ (arm_view c.a-item.result) _ c.loop-a.invariant (ap arms_view (next_item c.args.list.now c.loop-a.a-index c.a-item.result c.a-item.is c.loop-a-test.true)) c.in_ok-code.ensures.next c.in_ok-code.ensures.code c.in_ok-push.ensures.ok
@@ -146,7 +146,7 @@ pub branches-returns-clause-code : goal.branches-returns-clause-code
 branches-returns-clause-code t c = λ at see l. let none : drop c.loop-a.a-index c.args.list.now ≡ [] = drop_all c.loop-a.a-index c.args.list.now (omega (arith, c.loop-a-test.false)) in arms_end _ _ _ _ _ c.loop-a.invariant (ap arms_view none) at see l
 
 pub stats-loop-s-init : goal.stats-loop-s-init
-stats-loop-s-init t c = subst (BlockSoFar _ _ _ _) (sym c.new-out.ensures) (block_start _ _)
+stats-loop-s-init t c = subst (BlockSoFar _ _ _ _) (sym c.in_ok-out.ensures) (block_start _ _)
 
 pub stats-loop-s-preserved : goal.stats-loop-s-preserved
 stats-loop-s-preserved t c = block_step _ _ _ _ _ _ _ _ _ _ c.loop-s.invariant (ap stats_view (next_item c.args.list.now c.loop-s.s-index c.s-item.result c.s-item.is c.loop-s-test.true)) c.in_ok-code.ensures c.in_ok-push.ensures.ok
@@ -179,10 +179,10 @@ pub target-returns-in-Nil-clause-code : goal.target-returns-in-Nil-clause-code
 target-returns-in-Nil-clause-code t c = search (rules, views)
 
 pub function-returns-clause-next : goal.function-returns-clause-next
-function-returns-clause-next t c = function_next _ _ _ _ _ _ _ _ (entering (state_of c.args.self.now) _ _ _ _ c.in_ok-enter.ensures (names_of_list _ _ c.as_slice.ensures c.in_ok-flags.ensures)) c.in_ok-body.ensures.next (leaving _ _ _ _ c.leave-places.ensures c.in_ok-index.ensures.scopes) (adding _ _ _ c.in_ok-index.ensures.functions.1)
+function-returns-clause-next t c = function_next _ _ _ _ _ _ _ _ (entering (state_of c.args.self.now) _ _ _ _ c.in_ok-enter.ensures (names_of_list _ _ c.as_slice.ensures c.in_ok-flags.ensures)) c.in_ok-body.ensures.next (leaving _ _ _ _ c.in_ok-places.ensures c.in_ok-index.ensures.scopes) (adding _ _ _ c.in_ok-index.ensures.functions.1)
 
 pub function-returns-clause-code : goal.function-returns-clause-code
-function-returns-clause-code t c = λ at see l. subst (λ k. IsClosure at see c.in_ok-index.index (map place_seen c.leave-places.result) (λ inner q. IsFun at inner k q)) (sym (function_opens c.args.f.now)) (function_code _ _ _ _ _ _ _ _ _ _ _ _ (entering (state_of c.args.self.now) _ _ _ _ c.in_ok-enter.ensures (names_of_list _ _ c.as_slice.ensures c.in_ok-flags.ensures)) c.in_ok-body.ensures.next c.in_ok-body.ensures.code (leaving _ _ _ _ c.leave-places.ensures c.in_ok-index.ensures.scopes) (adding _ _ _ c.in_ok-index.ensures.functions.1) refl (numbered _ _ c.in_ok-index.ensures.functions.0) at see l)
+function-returns-clause-code t c = λ at see l. subst (λ k. IsClosure at see c.in_ok-index.index (map place_seen c.in_ok-places.places) (λ inner q. IsFun at inner k q)) (sym (function_opens c.args.f.now)) (function_code _ _ _ _ _ _ _ _ _ _ _ _ (entering (state_of c.args.self.now) _ _ _ _ c.in_ok-enter.ensures (names_of_list _ _ c.as_slice.ensures c.in_ok-flags.ensures)) c.in_ok-body.ensures.next c.in_ok-body.ensures.code (leaving _ _ _ _ c.in_ok-places.ensures c.in_ok-index.ensures.scopes) (adding _ _ _ c.in_ok-index.ensures.functions.1) refl (numbered _ _ c.in_ok-index.ensures.functions.0) at see l)
 
 pub block-returns-clause-next : goal.block-returns-clause-next
 block-returns-clause-next t c = block_next _ _ _ _ _ c.in_ok-out.ensures (closing (state_of c.args.self.now) _ _ _ _ _ c.len-count.ensures c.in_ok-close.ensures)

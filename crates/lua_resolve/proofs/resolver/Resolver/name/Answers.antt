@@ -3,7 +3,7 @@ use Rattle.lua_syntax.specs.Tree.{NameE}
 use Rattle.lua_slots.specs.IsCode.{IsExp}
 use Rattle.lua_code.specs.Seen.{place_seen}
 use Rattle.lua_code.proofs.Views.{expression-Local, expression-Global}
-use Rattle.lua_resolve.specs.Scopes.{IsSighted}
+use Rattle.lua_scopes.specs.Scopes.{IsSighted}
 use Rattle.lua_resolve.proofs.resolver.Resolver.name.Goals as goal
 
 pub returns-in-Some-clause-code : goal.returns-in-Some-clause-code

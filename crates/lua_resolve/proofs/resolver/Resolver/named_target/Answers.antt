@@ -1,6 +1,6 @@
 use Rattle.std.proofs.Common.{refl, subst, option_map}
 use Rattle.lua_code.specs.Seen.{place_seen}
-use Rattle.lua_resolve.specs.Scopes.{IsSighted}
+use Rattle.lua_scopes.specs.Scopes.{IsSighted}
 use Rattle.lua_resolve.proofs.resolver.Resolver.named_target.Goals as goal
 
 pub returns-in-Some-clause-code : goal.returns-in-Some-clause-code

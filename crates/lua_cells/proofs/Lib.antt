@@ -1,0 +1,4 @@
+mod CellLaws
+mod Codes
+mod FunctionLaws
+mod RegisterLaws

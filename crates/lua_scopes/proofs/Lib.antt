@@ -1,0 +1,4 @@
+pub mod SightLaws
+mod ReachLaws
+mod SpotLaws
+mod WholeLaws
