@@ -1,5 +1,5 @@
 -- Who goes on, is answered or begins, and data that is put into the store, leave the others alone.
-use Rattle.std.proofs.Common.{◌≡◌, List, [], ◌∷◌, true, refl}
+use Rattle.std.proofs.Common.{List, [], ◌∷◌, true, refl}
 use Rattle.page_run.specs.Outcome.{Outcome}
 use Rattle.lua_heap.specs.Proc.{Proc}
 use Rattle.lua_heap.specs.Value.{Value}

@@ -3,7 +3,7 @@ use Rattle.std.proofs.Common.{◌≡◌, ℕ, ◌+◌, List, [], ◌∷◌, refl
 use Rattle.wk_base.specs.declared.left.Left.{Left}
 use Rattle.page_run.specs.declared.which.Which.{Which}
 use Rattle.page_run.specs.Outcome.{Outcome, Goes, Jumps}
-use Rattle.page_run.specs.State.{Moment, Ended, Spent, Asked, Gives, moment_of}
+use Rattle.page_run.specs.State.{Moment, Ended, Spent, Gives, moment_of}
 use Rattle.page_run.specs.Walk.{tally_of}
 use Rattle.lua_heap.specs.Value.{Value, Nil, Truth, Number, Text, Table, Closure, Builtin, Markup}
 use Rattle.lua_heap.specs.Proc.{Proc}
@@ -12,10 +12,10 @@ use Rattle.lua_heap.specs.Related.{Map, none, more, Same, nil, truth, number, te
 use Rattle.lua_walk.proofs.Standings.{taken-same}
 use Rattle.lua_meaning.specs.Scope.{Function}
 use Rattle.lua_meaning.specs.Questions.{Expanded}
-use Rattle.lua_meaning.specs.Acts.{Jump, Returned, Broke, Raised, State}
+use Rattle.lua_meaning.specs.Acts.{Jump, Raised, State}
 use Rattle.lua_meaning.specs.Start.{Work, Invoke, DataOf, End, Done, DoneData, Failed, end_of, lua}
 use Rattle.lua_slots.specs.Code.{CWorld}
-use Rattle.lua_agree.specs.Values.{SameJump, returned, broke, raised, SameOutcome, values_, jumps_}
+use Rattle.lua_agree.specs.Values.{returned, broke, raised, SameOutcome, values_, jumps_}
 use Rattle.lua_agree.specs.Functions.{SameFunction}
 use Rattle.page_meaning.specs.Wiki.{Wiki, world}
 use Rattle.wk_base.specs.declared.title.Title.{Title}

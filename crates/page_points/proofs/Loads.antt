@@ -1,11 +1,11 @@
 -- Data loads: what was kept of one stands for it where it is covered; elsewhere it is fresh; and what is kept of one that completed.
-use Rattle.std.proofs.Common.{◌≡◌, ℕ, ◌+◌, ◌-◌, ◌≤◌, ◌⊎◌, inl, inr, Bool, true, false, List, [], Some, refl, sym, ap, ◌∙◌, subst, arith}
+use Rattle.std.proofs.Common.{◌≡◌, ℕ, ◌-◌, ◌≤◌, ◌⊎◌, inl, inr, Bool, true, false, List, [], Some, refl, sym, ap, ◌∙◌, subst, arith}
 use Rattle.std.specs.Prelude.{◌<◌, ◌&&◌, Option, None, Ok, Err}
 use Rattle.wk_base.specs.declared.left.Left.{Left}
 use Rattle.wk_base.specs.declared.title.Title.{Title}
 use Rattle.wk_base.specs.Titles.{title_text}
-use Rattle.page_run.specs.State.{Response, Gives, Exhausts, Reply, Ended, Spent, Asked}
-use Rattle.page_run.specs.Walk.{WalkState, walk, walk_load, pass_repeat, is_in}
+use Rattle.page_run.specs.State.{Response, Gives, Reply, Ended, Spent, Asked}
+use Rattle.page_run.specs.Walk.{WalkState, walk, walk_load, is_in}
 use Rattle.mw_frame.specs.declared.question.Ask.TheVariants.{Template, Preprocess, Data}
 use Rattle.lua_heap.specs.Value.{Text}
 use Rattle.lua_heap.specs.Heap.{Heap}

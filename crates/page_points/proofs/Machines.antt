@@ -5,7 +5,7 @@ use Rattle.wk_base.specs.declared.title.Title.{Title}
 use Rattle.wk_base.specs.declared.left.Left.{Left}
 use Rattle.page_run.specs.declared.which.Which.{Which}
 use Rattle.page_run.specs.Outcome.{Outcome}
-use Rattle.page_run.specs.State.{Tally, no_tally, Response, Gives as Says, Exhausts, Reply, Ended, Spent, Asked}
+use Rattle.page_run.specs.State.{no_tally, Gives as Says, Exhausts, Reply, Ended, Spent}
 use Rattle.page_run.specs.Walk.{WalkState, tally_of}
 use Rattle.mw_frame.specs.declared.question.Ask.{Ask}
 use Rattle.lua_heap.specs.Proc.{Proc}
@@ -19,19 +19,19 @@ use Rattle.lua_slots.specs.Code.{CWorld}
 use Rattle.lua_slots.specs.IsCode.{Agrees}
 use Rattle.lua_slots.specs.Slots.{Slots, with_heap}
 use Rattle.lua_slots.specs.Points.{SFrame, Point, Gives, Asking, Works}
-use Rattle.lua_slots.specs.Enact.{Funds, all_given_back, replied as with_reply}
+use Rattle.lua_slots.specs.Enact.{all_given_back, replied as with_reply}
 use Rattle.lua_goes.specs.Going.{Over, Lacks, Waiting}
 use Rattle.lua_agree.specs.Met.{moment_with}
 use Rattle.lua_points.specs.At.{At}
 use Rattle.lua_points.specs.Told.{IsToldAs, reply, spent_reply}
-use Rattle.lua_points.specs.Laws.{told_after, telling}
+use Rattle.lua_points.specs.Laws.{telling}
 use Rattle.lua_points.specs.Clauses.{fund, Starts, GoesOnWith, GoIs}
 use Rattle.lua_points.proofs.Points.{point_looks_at_set}
 use Rattle.lua_points.proofs.Answers.{question_is_asked, end_is_met, spent_answer_is_met}
 use Rattle.page_meaning.specs.Wiki.{Wiki, world}
 use Rattle.page_meaning.specs.Told.{Seen}
 use Rattle.page_meaning.specs.Tasks.{Running, OfLua, Wants, lua_reply, lua_progress, progress}
-use Rattle.page_points.specs.Places.{Place, beginning, replied, HasCome, next_of}
+use Rattle.page_points.specs.Places.{Place, beginning, replied, next_of}
 use Rattle.page_points.specs.Machines.{KnowsHeight, Stood, counts, gone, end_told, spent_told, EndsAs}
 use Rattle.page_points.proofs.Ends.{has_ended, is_spent, same_told, spent_response, left_after}
 

@@ -1,11 +1,11 @@
 -- The stack's moves: a task begins, one is told a reply, one has come to its own, and the page ends.
-use Rattle.std.proofs.Common.{◌≡◌, ℕ, ◌+◌, ◌-◌, ◌≤◌, Bool, true, false, List, [], ◌∷◌, ◌++◌, Option, Some, None, refl, sym, ap, ◌∙◌, subst, arith}
+use Rattle.std.proofs.Common.{◌≡◌, ℕ, ◌+◌, ◌-◌, ◌≤◌, false, List, [], ◌∷◌, ◌++◌, Some, refl, sym, ap, ◌∙◌, subst, arith}
 use Rattle.std.specs.Prelude.{map, ◌&&◌}
 use Rattle.std.proofs.lemmas.List.{map-append}
 use Rattle.wk_base.specs.declared.left.Left.{Left}
 use Rattle.wk_base.specs.declared.title.Title.{Title}
 use Rattle.wk_base.specs.Titles.{title_text}
-use Rattle.page_run.specs.State.{Loads, NoLoads, Load, join_loads, Reply, Ended, Spent, Asked, start}
+use Rattle.page_run.specs.State.{Loads, Reply, Ended, Spent, Asked, start}
 use Rattle.page_run.specs.Walk.{WalkState, empty_walk, walk, walk_load, count_fresh, is_in, tally_of}
 use Rattle.page_run.proofs.LoadLaws.{tells_none, tells_reply, walk_of_joined}
 use Rattle.lua_heap.specs.Reach.{Set}
@@ -20,7 +20,7 @@ use Rattle.page_meaning.specs.Told.{Seen, PageSeen, completes}
 use Rattle.page_meaning.specs.Page.{kept_in, begun_in}
 use Rattle.page_meaning.specs.Tasks.{Task, Running, Expanding, Question, Comes, Wants, as_text, lua_progress, page_progress, task_of, progress, total, total_or_absent, answer_to, GoesOn}
 use Rattle.page_meaning.proofs.TaskLaws.{tasks_go_on, tasks_tell_loads}
-use Rattle.page_points.specs.Places.{Place, beginning, replied, TellsAll, EndsWalk, from_start, from_here, next_of, loads_of, invoked_so_far, counted, counted_in, IsFresh, WaitsFor, Chain, Going, begun_so_far, HasCome}
+use Rattle.page_points.specs.Places.{Place, beginning, replied, TellsAll, EndsWalk, from_start, from_here, next_of, loads_of, invoked_so_far, IsFresh, WaitsFor, Going, begun_so_far, HasCome}
 
 module _ (wiki : Wiki) (page : Title) where
   -- INVOCATIONS of which a task was told

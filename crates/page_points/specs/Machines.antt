@@ -8,7 +8,6 @@ use Rattle.lua_heap.specs.Value.{Value, Text}
 use Rattle.lua_heap.specs.Proc.{Proc}
 use Rattle.lua_heap.specs.Heap.{Heap}
 use Rattle.lua_heap.specs.Reach.{with_new}
-use Rattle.lua_heap.specs.Graph.{Graph}
 use Rattle.lua_walk.specs.Data.{taken}
 use Rattle.lua_meaning.specs.Questions.{Answer, Expanded, LoadFailed}
 use Rattle.lua_meaning.specs.Acts.{Jump}
