@@ -8,10 +8,10 @@ ghost use Rattle.lua_state.specs.Seen.{slots_of, frames_of};
 ghost use Rattle.lua_state.specs.Of.{StateOf};
 ghost use Rattle.lua_state.specs.Makes.{Makes};
 
-use lua_calls::{hear, resume};
-use lua_loops::{give_end, give_loop, pass_end};
 use lua_blocks::{give_assignment, give_statement};
+use lua_calls::{hear, resume};
 use lua_evals::{give_constructor, give_expression};
+use lua_loops::{give_end, give_loop, pass_end};
 use lua_runs::{give_run, pass_run};
 use lua_stack::{Focus, Frame, Given, Jump};
 use lua_state::{Outcome, State, Turn};

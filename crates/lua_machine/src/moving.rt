@@ -16,11 +16,10 @@ ghost use Rattle.lua_machine.specs.Moved.{MovesTo, moved_of};
 
 use crate::frames::{give_frame, pass_frame};
 use crate::things::begin;
-use lua_runs::begin_work;
 use lua_blocks::{find, run, set};
 use lua_code::Expression;
 use lua_evals::{evaluate, list};
-use lua_runs::texts;
+use lua_runs::{begin_work, texts};
 use lua_stack::{Focus, Given, Jump, Thing};
 use lua_state::{Outcome, State, Turn};
 use lua_store::Store;

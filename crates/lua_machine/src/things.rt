@@ -12,11 +12,11 @@ ghost use Rattle.lua_state.specs.Makes.{Makes, LateCounts};
 ghost use Rattle.lua_store.specs.Seen.{seen};
 ghost use Rattle.lua_store.specs.Parts.{IsOf};
 
-use lua_calls::enter_library;
-use lua_loops::{count_turn, each_turn, enter_body, repeat_turn, while_turn};
 use lua_arms::calls::call;
 use lua_arms::index::index_link;
 use lua_arms::setting::set_link;
+use lua_calls::enter_library;
+use lua_loops::{count_turn, each_turn, enter_body, repeat_turn, while_turn};
 use lua_stack::{Thing, Values};
 use lua_state::{State, Turn, finish, finish_paid};
 use lua_store::{Store, Value};

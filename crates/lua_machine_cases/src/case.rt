@@ -1,5 +1,6 @@
 //! What is known of a case.
-ghost use Rattle.std.specs.Prelude.{IfOk};
+ghost use Rattle.std.specs.Prelude.{◌≡◌, true, IfOk};
+ghost use Rattle.wk_base.specs.Titles.{is_module};
 ghost use Rattle.lua_stack.specs.Of.{WorkOf};
 ghost use Rattle.mw_frame.specs.Scenes.{NamesDiffer};
 
@@ -10,7 +11,7 @@ use lua_parser::parse;
 use lua_resolve::resolve;
 use lua_stack::Work;
 use lua_syntax::{FaultAt, SyntaxFault};
-use mw_frame::{Arg, Job, Scene};
+use mw_frame::{Job, Scene};
 use mw_frames::merging::merge_args;
 use mw_frames::reading::ArgText;
 use std::alloc::Global;
@@ -36,18 +37,20 @@ pub(crate) struct Case {
     pub(crate) page: Title,
     pub(crate) modules: Modules,
     pub(crate) aim: Aim,
-    pub(crate) args: Vec<ArgText<'static>>,
+    pub(crate) args: List<ArgText<'static>>,
     /// The template around the invocation, if there is one, with its arguments.
     pub(crate) parent: Option<Title>,
-    pub(crate) parent_args: Vec<ArgText<'static>>,
+    pub(crate) parent_args: List<ArgText<'static>>,
     /// Entries of the next table that is an answer.
-    pub(crate) entries: Vec<Entry>,
+    pub(crate) entries: List<Entry>,
     /// The answers to the questions of the next run, in order.
-    pub(crate) replies: Vec<Reply>,
+    pub(crate) replies: List<Reply>,
 }
 
 /// The title of a module.
-fn module_title(alloc: Global, name: &[u8]) -> Result<Title, NoMemory> {
+fn module_title(alloc: Global, name: &[u8]) -> Result<Title, NoMemory>
+    ensures { IfOk result (λ title. is_module title.ns ≡ true) }
+{
     let name = Bytes::of(alloc, name)?;
     Ok(Title {
         ns: Namespace::Module,
@@ -109,11 +112,11 @@ impl Case {
             },
             modules: Modules::new(alloc, seed),
             aim: Aim::Load(Vec::new(alloc)),
-            args: Vec::new(alloc),
+            args: List::new(alloc),
             parent: None,
-            parent_args: Vec::new(alloc),
-            entries: Vec::new(alloc),
-            replies: Vec::new(alloc),
+            parent_args: List::new(alloc),
+            entries: List::new(alloc),
+            replies: List::new(alloc),
         })
     }
 
@@ -128,10 +131,10 @@ impl Case {
         let title = module_title(alloc, name)?;
         let code = code_of(alloc, seed, text)?;
         let size = text.len() as u64;
-        if self.modules.get(&title).is_some() {
-            return Ok(());
+        match self.modules.get(&title) {
+            Some(_) => Ok(()),
+            None => self.modules.add(title, size, code),
         }
-        self.modules.add(title, size, code)
     }
 
     /// The titles of the templates that are being expanded.

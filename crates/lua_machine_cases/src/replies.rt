@@ -1,12 +1,12 @@
 //! Answers that were written by hand.
-ghost use Rattle.std.specs.Prelude.{IfOk, OnOk};
+ghost use Rattle.std.specs.Prelude.{◌≡◌, IfOk};
 ghost use Rattle.lua_store.specs.Parts.{IsOf, IsTableOf, IsLater};
 ghost use Rattle.lua_machine.specs.Events.{AnswerOf};
 
 use lua_machine::Answer;
 use lua_store::{Store, TableId, Value};
 use std::alloc::Global;
-use wk_base::{Bytes, Left, NoMemory};
+use wk_base::{Bytes, Left, List, NoMemory};
 
 /// What a question is answered with.
 #[derive(Drop)]
@@ -14,7 +14,7 @@ pub(crate) enum Told {
     Text(Vec<u8>),
     NoPage,
     Failed(Vec<u8>),
-    Table(Vec<Entry>),
+    Table(List<Entry>),
 }
 
 /// An entry of a table: its key, and `#` with a number, `@` for the table itself, or a text.
@@ -39,7 +39,9 @@ pub(crate) struct Reply {
 }
 
 /// Changes the steps that are left; whether what was taken was there.
-pub(crate) fn change_steps(left: &mut Left, change: Change) -> bool {
+pub(crate) fn change_steps(left: &mut Left, change: Change) -> bool
+    ensures { left.new.calls ≡ left.old.calls }
+{
     match change {
         Change::Leaves(steps) => {
             left.steps = steps;
@@ -87,8 +89,8 @@ fn set_entry(store: &mut Store, table: TableId, entry: &Entry) -> Result<(), NoM
     requires { IsTableOf store.old table }
     ensures { IsLater store.old store.new }
 {
-    let value = entry_value(store, table, entry.value.as_slice())?;
     let key = store.text(entry.key.as_slice())?;
+    let value = entry_value(store, table, entry.value.as_slice())?;
     match store.set(table, Value::Text(key), value) {
         Ok(_) => Ok(()),
         Err(_) => Err(NoMemory),

@@ -1,6 +1,8 @@
 //! One run of a case.
 ghost use Rattle.std.specs.Prelude.{◌≡◌, ◌+◌, ◌<◌, ◌^◌, IfOk, OnOk};
 ghost use Rattle.lua_store.specs.Parts.{IsOf};
+ghost use Rattle.lua_stack.specs.Of.{GivenOf, JumpOf};
+ghost use Rattle.lua_state.specs.Of.{OutcomeOf};
 ghost use Rattle.lua_machine.specs.Events.{MachineOf, EventOf};
 
 use crate::case::Case;
@@ -79,29 +81,54 @@ fn go_on<L: Ledger>(
     Ok(event)
 }
 
-/// A value at the end of a run, or one that nothing caught.
-fn add_value(
-    out: &mut String,
-    store: &Store,
-    value: Value,
-    words: &str,
-) -> Result<(), NoMemory>
+/// A value at the end of a run, or one that nothing caught, behind a word.
+fn add_value(out: &mut String, store: &Store, value: Value, word: &str) -> Result<(), NoMemory>
     requires { IsOf store.now value }
 {
     match value {
         Value::Text(id) => {
-            out.push_str(words)?;
+            out.push_str(word)?;
             out.push_str(" ")?;
             add_bytes(out, store.bytes(id))
         }
-        Value::Table(_) => {
-            out.push_str("loads")?;
-            Ok(())
-        }
-        _ => {
-            out.push_str("another value")?;
-            Ok(())
-        }
+        Value::Table(_) => add_words(out, "loads"),
+        _ => add_words(out, "another value"),
+    }
+}
+
+fn add_words(out: &mut String, words: &str) -> Result<(), NoMemory> {
+    out.push_str(words)?;
+    Ok(())
+}
+
+/// What a run gave.
+fn add_given(out: &mut String, store: &Store, given: &Given) -> Result<(), NoMemory>
+    requires { GivenOf store.now given.now }
+{
+    match given {
+        Given::One(value) => add_value(out, store, *value, "gives"),
+        Given::Many(_) => add_words(out, "several values"),
+    }
+}
+
+/// What a run raised.
+fn add_jump(out: &mut String, store: &Store, jump: &Jump) -> Result<(), NoMemory>
+    requires { JumpOf store.now jump.now }
+{
+    match jump {
+        Jump::Raised(value) => add_value(out, store, *value, "fails"),
+        Jump::Returned(_) => add_words(out, "returned"),
+        Jump::Broke => add_words(out, "broke"),
+    }
+}
+
+/// An outcome in words.
+fn add_outcome(out: &mut String, store: &Store, outcome: &Outcome) -> Result<(), NoMemory>
+    requires { OutcomeOf store.now outcome.now }
+{
+    match outcome {
+        Outcome::Goes(given) => add_given(out, store, given),
+        Outcome::Jumps(jump) => add_jump(out, store, jump),
     }
 }
 
@@ -110,14 +137,7 @@ fn add_event(out: &mut String, store: &Store, event: &Event) -> Result<(), NoMem
     requires { EventOf store.now event.now }
 {
     match event {
-        Event::Over(Outcome::Goes(Given::One(value))) => add_value(out, store, *value, "gives"),
-        Event::Over(Outcome::Jumps(Jump::Raised(value))) => {
-            add_value(out, store, *value, "fails")
-        }
-        Event::Over(_) => {
-            out.push_str("no end of a run")?;
-            Ok(())
-        }
+        Event::Over(outcome) => add_outcome(out, store, outcome),
         Event::Spent(which) => add_spent(out, *which),
         Event::Asks(question) => add_question(out, question),
     }

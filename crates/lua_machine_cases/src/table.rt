@@ -8,7 +8,7 @@ use std::alloc::Global;
 use std::hash::RandomState;
 use std::io;
 use std::mem::replace;
-use wk_base::{Namespace, NoMemory, Title, TitleFault};
+use wk_base::{List, Namespace, NoMemory, Title, TitleFault};
 
 /// The text before the first tab, and the one behind it; without a tab the whole, and nothing.
 fn cut(line: &str) -> (&str, &str) {
@@ -51,8 +51,7 @@ fn template(alloc: Global, text: &str) -> Result<Option<Title>, NoMemory> {
 
 fn add_reply(case: &mut Case, told: Told, left: &str) -> Result<(), NoMemory> {
     let change = change(left);
-    case.replies.push(Reply { told, change })?;
-    Ok(())
+    case.replies.push(Reply { told, change })
 }
 
 /// A line with an answer; false where it is none.
@@ -79,7 +78,7 @@ fn take_answer(
             case.entries.push(Entry { key, value })?;
         }
         "table" => {
-            let entries = replace(&mut case.entries, Vec::new(alloc));
+            let entries = replace(&mut case.entries, List::new(alloc));
             add_reply(case, Told::Table(entries), first)?;
         }
         _ => return Ok(false),
@@ -135,7 +134,10 @@ fn run_once(
     match word {
         "exact" => println!(rt; "{name}: {text}, {} left", end.steps),
         "took" => {
-            println!(rt; "{name}: {text}, {} taken", allowed.steps.saturating_sub(end.steps))
+            println!(rt;
+                "{name}: {text}, {} taken",
+                allowed.steps.saturating_sub(end.steps)
+            )
         }
         _ => println!(rt; "{name}: {text}"),
     }
@@ -185,6 +187,6 @@ pub(crate) fn take_line(
             };
         }
     }
-    case.replies = Vec::new(rt.alloc());
+    case.replies = List::new(rt.alloc());
     Ok(())
 }

@@ -1,6 +1,8 @@
 //! A run, and starts.
 ghost use Rattle.std.specs.Prelude.{◌≡◌};
 ghost use Rattle.lua_store.specs.Parts.{IsOf};
+ghost use Rattle.lua_stack.specs.Of.{GivenOf, JumpOf};
+ghost use Rattle.lua_state.specs.Of.{OutcomeOf};
 ghost use Rattle.lua_machine.specs.Events.{MachineOf, EventOf};
 
 use crate::work::{Held, work};
@@ -40,22 +42,50 @@ fn add_text(out: &mut String, store: &Store, value: Value) -> Result<(), NoMemor
     Ok(())
 }
 
+fn add_words(out: &mut String, words: &str) -> Result<(), NoMemory> {
+    out.push_str(words)?;
+    Ok(())
+}
+
+/// What a run gave.
+fn add_given(out: &mut String, store: &Store, given: &Given) -> Result<(), NoMemory>
+    requires { GivenOf store.now given.now }
+{
+    match given {
+        Given::One(value) => add_text(out, store, *value),
+        Given::Many(_) => add_words(out, "several values"),
+    }
+}
+
+/// What a run raised.
+fn add_jump(out: &mut String, store: &Store, jump: &Jump) -> Result<(), NoMemory>
+    requires { JumpOf store.now jump.now }
+{
+    match jump {
+        Jump::Raised(value) => add_text(out, store, *value),
+        Jump::Returned(_) => add_words(out, "returned"),
+        Jump::Broke => add_words(out, "broke"),
+    }
+}
+
+/// An outcome in words.
+fn add_outcome(out: &mut String, store: &Store, outcome: &Outcome) -> Result<(), NoMemory>
+    requires { OutcomeOf store.now outcome.now }
+{
+    match outcome {
+        Outcome::Goes(given) => add_given(out, store, given),
+        Outcome::Jumps(jump) => add_jump(out, store, jump),
+    }
+}
+
 /// An event in words.
 fn add_event(out: &mut String, store: &Store, event: &Event) -> Result<(), NoMemory>
     requires { EventOf store.now event.now }
 {
     match event {
-        Event::Over(Outcome::Goes(Given::One(value))) => add_text(out, store, *value),
-        Event::Over(Outcome::Jumps(Jump::Raised(value))) => add_text(out, store, *value),
-        Event::Over(_) => Ok(()),
-        Event::Spent(_) => {
-            out.push_str("spent")?;
-            Ok(())
-        }
-        Event::Asks(_) => {
-            out.push_str("asks")?;
-            Ok(())
-        }
+        Event::Over(outcome) => add_outcome(out, store, outcome),
+        Event::Spent(_) => add_words(out, "spent"),
+        Event::Asks(_) => add_words(out, "asks"),
     }
 }
 

@@ -23,7 +23,9 @@ pub(crate) struct Held {
 }
 
 /// A title `X` or `Module:X`.
-fn titled(alloc: Global, ns: Namespace) -> Result<Title, NoMemory> {
+fn titled(alloc: Global, ns: Namespace) -> Result<Title, NoMemory>
+    ensures { IfOk result (λ title. title.ns ≡ ns) }
+{
     let name = Bytes::of(alloc, b"X")?;
     Ok(Title { ns, name })
 }

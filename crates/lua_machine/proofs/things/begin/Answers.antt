@@ -1,4 +1,4 @@
-use Rattle.std.proofs.Common.{refl}
+use Rattle.std.proofs.Common.{◌≡◌, rules, w64, to_z, of_z}
 use Rattle.lua_state.proofs.Making.{counts_late}
 use Rattle.lua_machine.proofs.Moves.{counted}
 use Rattle.lua_machine.proofs.things.begin.Goals as goal
@@ -10,7 +10,11 @@ pub returns-in_ok-turn-in-RepeatTurn : goal.returns-in_ok-turn-in-RepeatTurn
 returns-in_ok-turn-in-RepeatTurn g c = rw c.in-RepeatTurn.is (counts_late c.args.store.now c.repeat_turn.new.store c.args.state.now c.repeat_turn.new.state c.args.left.now c.repeat_turn.new.left c.args.turns.now c.repeat_turn.new.turns _ c.in_ok-turn-in-RepeatTurn.turn c.in_ok-turn-in-RepeatTurn.ensures)
 
 pub returns-in_ok-turn-in-CountTurn : goal.returns-in_ok-turn-in-CountTurn
-returns-in_ok-turn-in-CountTurn g c = rw c.in-CountTurn.is (counts_late c.args.store.now c.count_turn.new.store c.args.state.now c.count_turn.new.state c.args.left.now c.count_turn.new.left c.args.turns.now c.count_turn.new.turns _ c.in_ok-turn-in-CountTurn.turn c.in_ok-turn-in-CountTurn.ensures)
+returns-in_ok-turn-in-CountTurn g c =
+    let index : to_z w64 (of_z w64 c.in-CountTurn.index) ≡ c.in-CountTurn.index = search rules in
+    let limit : to_z w64 (of_z w64 c.in-CountTurn.limit) ≡ c.in-CountTurn.limit = search rules in
+    let step : to_z w64 (of_z w64 c.in-CountTurn.step) ≡ c.in-CountTurn.step = search rules in
+    rw c.in-CountTurn.is (counts_late c.args.store.now c.count_turn.new.store c.args.state.now c.count_turn.new.state c.args.left.now c.count_turn.new.left c.args.turns.now c.count_turn.new.turns _ c.in_ok-turn-in-CountTurn.turn (rw (index, limit, step) at c.in_ok-turn-in-CountTurn.ensures))
 
 pub returns-in_ok-turn-in-EachTurn : goal.returns-in_ok-turn-in-EachTurn
 returns-in_ok-turn-in-EachTurn g c = rw c.in-EachTurn.is (counts_late c.args.store.now c.each_turn.new.store c.args.state.now c.each_turn.new.state c.args.left.now c.each_turn.new.left c.args.turns.now c.each_turn.new.turns _ c.in_ok-turn-in-EachTurn.turn c.in_ok-turn-in-EachTurn.ensures)
