@@ -1,0 +1,94 @@
+#!/usr/bin/env python3
+"""Times the machine of Lua beside `lua5.1` on the same texts.
+
+  bench/machine.py crates/machine_bench/out/machine_bench
+
+For each text: the seconds of processor time of the machine and of `lua5.1` (the best of some rounds each, and what the programs take to
+start is taken off), how much longer the machine takes, the steps that it takes, millions of steps a second, and the most memory of both in MiB. Then
+what a start with its fresh environment takes, in one store and in a store of its own; and texts that are made to take long, at two sizes:
+how much longer the larger one takes, which is twice as large.
+"""
+import shutil
+import sys
+
+from timing import best, run
+
+ROUNDS, START_ROUNDS, STEPS = 3, 20, 10 ** 12
+
+TEXTS = {
+    "fib(30)": "local function fib(n) if n<2 then return n end return fib(n-1)+fib(n-2) end return {f=function() return fib(30) end}",
+    "20,000,000 turns": "return {f=function() local s=0 for i=1,20000000 do s=s+i end return s%1000003 end}",
+    "2,000,000 sets and gets": "return {f=function() local t={} for i=1,2000000 do t[i]=i end local s=0 for i=1,2000000 do s=s+t[i] end return s%1000003 end}",
+    "the same, hashed": "return {f=function() local t={} for i=1,2000000 do t[-i*7]=i end local s=0 for i=1,2000000 do s=s+t[-i*7] end return s%1000003 end}",
+    "1,000,000 closures": "return {f=function() local n=0 for i=1,1000000 do local g=function() n=n+i end g() end return n%1000003 end}",
+    "300,000 joined texts": "return {f=function() local s for i=1,300000 do s='k'..i end return s end}",
+    "300,000 appended": "return {f=function() local n=0 for i=1,3000 do local s='' for j=1,100 do s=s..'x' end n=n+#s end return n end}",
+    "1,000,000 method calls": "local o={n=0} o.__index=o function o:inc() self.n=self.n+1 end return {f=function() local p=setmetatable({},o) for i=1,1000000 do p:inc() end return p.n end}",
+    "500,000 protected calls": "return {f=function() local n=0 for i=1,500000 do local ok,v=pcall(function() return i end) n=n+v end return n%1000003 end}",
+    "2,000,000 entries walked": "return {f=function() local t={} for i=1,200000 do t[i]=1 end local n=0 for k=1,10 do for i,v in pairs(t) do n=n+v end end return n end}",
+}
+
+# Texts that are made to take long, for a size; and the size.
+ATTACKS = {
+    "a chain of __call on itself": ("return {f=function() local t={} t.__call=t setmetatable(t,t) return pcall(function() return t() end) end}", 100000, True),
+    "arguments that grow": ("return {f=function() local function g(n,...) if n==0 then return select('#',...) end return g(n-1,n,...) end return g(%d) end}", 2000, False),
+    "locals in a row": ("return {f=function() local n=0 for i=1,%d do local a,b,c,d,e,f,g,h=1,2,3,4,5,6,7,8 n=n+a end return n end}", 200000, False),
+    "errors in deep calls": ("return {f=function() local function g(n) if n==0 then error('x') end g(n-1) end return #select(2,pcall(g,%d)) end}", 50000, False),
+    "a text that doubles": ("return {f=function() local s='x' for i=1,%d do s=(s..s..'y') if #s>1000000 then s='x' end end return #s end}", 400, False),
+    "keys cleared and walked": ("return {f=function() local t={} for i=1,%d do t[i..'']=1 end for k in pairs(t) do t[k]=nil end local n=0 for i=1,20 do if next(t)==nil then n=n+1 end end return n end}", 50000, False),
+}
+
+LUA = "local m=loadstring(io.read('*a'),'=Module:X')() io.write(tostring((m.f({}))))"
+
+
+def given(text, steps=STEPS):
+    return f"run {steps}\n{text}".encode()
+
+
+def beside_lua(program):
+    lua = shutil.which("lua5.1")
+    start = best(START_ROUNDS, [program], b"run 0\nreturn {}").processor
+    lua_start = best(START_ROUNDS, [lua, "-e", "io.read('*a')"]).processor if lua else 0
+    print(f"{'text':26} {'machine':>8} {'lua5.1':>8} {'ratio':>6} {'steps':>12} {'M/s':>6} {'MiB':>5} {'MiB':>5}")
+    for name, text in TEXTS.items():
+        mine = best(ROUNDS, [program], given(text))
+        words = mine.printed.decode().split()
+        took, steps = mine.processor - start, int(words[-1])
+        line = f"{name:26} {took:7.2f}s "
+        if lua:
+            other = best(ROUNDS, [lua, "-e", LUA], text.encode())
+            if other.printed.decode() != words[0]:
+                sys.exit(f"{name}: {words[0]} here, {other.printed.decode()} in lua5.1")
+            theirs = max(other.processor - lua_start, 1e-3)
+            print(f"{line}{theirs:7.2f}s {took / theirs:5.1f}x {steps:12} {steps / took / 1e6:6.1f} {mine.memory / 2 ** 20:5.0f} {other.memory / 2 ** 20:5.0f}")
+        else:
+            print(f"{line}{'':8} {'':6} {steps:12} {steps / took / 1e6:6.1f} {mine.memory / 2 ** 20:5.0f}")
+
+
+def starts(program):
+    print(f"\n{'starts':26} {'each':>10} {'MiB':>5}")
+    for name, word in (("in one store", "starts"), ("in stores of their own", "stores")):
+        few, many = best(ROUNDS, [program], f"{word} 1\n".encode()), best(ROUNDS, [program], f"{word} 20001\n".encode(), b"20001\n")
+        print(f"{name:26} {(many.processor - few.processor) / 20000 * 1e6:7.1f} us {many.memory / 2 ** 20:5.0f}")
+
+
+def attacks(program):
+    start = best(START_ROUNDS, [program], b"run 0\nreturn {}").processor
+    print(f"\n{'made to take long':30} {'once':>8} {'twice':>8} {'ratio':>6}")
+    for name, (text, size, in_steps) in ATTACKS.items():
+        took = []
+        for n in (size, 2 * size):
+            spent = given(text, n) if in_steps else given(text % n)
+            took.append(best(ROUNDS, [program], spent).processor - start)
+        print(f"{name:30} {took[0]:7.3f}s {took[1]:7.3f}s {took[1] / max(took[0], 1e-4):5.1f}x")
+
+
+def main():
+    program = sys.argv[1]
+    run([program], b"run 0\n")
+    beside_lua(program)
+    starts(program)
+    attacks(program)
+
+
+main()
