@@ -1,0 +1,200 @@
+//! What is known of a case.
+ghost use Rattle.std.specs.Prelude.{◌≡◌, true, IfOk};
+ghost use Rattle.wk_base.specs.Titles.{is_module};
+ghost use Rattle.lua_stack.specs.Of.{WorkOf};
+ghost use Rattle.mw_frame.specs.Scenes.{NamesDiffer};
+
+use crate::replies::{Entry, Reply};
+use lua_basic::texts::TextIn;
+use lua_code::{Modules, Protos};
+use lua_parser::parse;
+use lua_resolve::resolve;
+use lua_stack::Work;
+use lua_syntax::{FaultAt, SyntaxFault};
+use mw_frame::{Job, Scene};
+use mw_frames::merging::merge_args;
+use mw_frames::reading::ArgText;
+use std::alloc::Global;
+use std::hash::RandomState;
+use wk_base::{Bytes, List, Namespace, NoMemory, Title};
+
+/// More bytes are not read as Lua.
+const MOST: usize = 4_000_000_000;
+
+/// What is to be done with a module.
+#[derive(Drop)]
+pub(crate) enum Aim {
+    /// A function of it is invoked.
+    Invoke(Vec<u8>, Vec<u8>),
+    /// It is loaded as data.
+    Load(Vec<u8>),
+}
+
+/// A case, as its lines have it so far.
+#[derive(Drop)]
+pub(crate) struct Case {
+    pub(crate) name: String,
+    pub(crate) page: Title,
+    pub(crate) modules: Modules,
+    pub(crate) aim: Aim,
+    pub(crate) args: List<ArgText<'static>>,
+    /// The template around the invocation, if there is one, with its arguments.
+    pub(crate) parent: Option<Title>,
+    pub(crate) parent_args: List<ArgText<'static>>,
+    /// Entries of the next table that is an answer.
+    pub(crate) entries: List<Entry>,
+    /// The answers to the questions of the next run, in order.
+    pub(crate) replies: List<Reply>,
+}
+
+/// The title of a module.
+fn module_title(alloc: Global, name: &[u8]) -> Result<Title, NoMemory>
+    ensures { IfOk result (λ title. is_module title.ns ≡ true) }
+{
+    let name = Bytes::of(alloc, name)?;
+    Ok(Title {
+        ns: Namespace::Module,
+        name,
+    })
+}
+
+/// The code of a text, or its first fault.
+fn code_of(
+    alloc: Global,
+    seed: RandomState,
+    text: &[u8],
+) -> Result<Result<Protos, FaultAt>, NoMemory> {
+    if text.len() >= MOST {
+        return Err(NoMemory);
+    }
+    match parse(alloc, text) {
+        Ok(chunk) => {
+            let protos = resolve(alloc, seed, &chunk)?;
+            Ok(Ok(protos))
+        }
+        Err(SyntaxFault::At(fault)) => Ok(Err(fault)),
+        Err(SyntaxFault::NoMemory) => Err(NoMemory),
+    }
+}
+
+/// An argument of a frame.
+pub(crate) fn argument(name: Vec<u8>, value: Vec<u8>) -> ArgText<'static> {
+    ArgText {
+        name: TextIn::Written(name),
+        value: TextIn::Written(value),
+    }
+}
+
+/// A scene with these arguments, of two with one name the last.
+fn scene(
+    alloc: Global,
+    seed: RandomState,
+    title: Title,
+    args: &[ArgText<'static>],
+    chain: List<Title>,
+) -> Result<Scene, NoMemory>
+    ensures { IfOk result (λ s. NamesDiffer s.args) }
+{
+    let args = merge_args(alloc, seed, args)?;
+    Ok(Scene { title, args, chain })
+}
+
+impl Case {
+    /// A case with nothing in it.
+    pub(crate) fn new(alloc: Global, seed: RandomState, name: &str) -> Result<Case, NoMemory> {
+        let name = String::from_str(alloc, name)?;
+        let page = Bytes::of(alloc, b"P")?;
+        Ok(Case {
+            name,
+            page: Title {
+                ns: Namespace::Main,
+                name: page,
+            },
+            modules: Modules::new(alloc, seed),
+            aim: Aim::Load(Vec::new(alloc)),
+            args: List::new(alloc),
+            parent: None,
+            parent_args: List::new(alloc),
+            entries: List::new(alloc),
+            replies: List::new(alloc),
+        })
+    }
+
+    /// A module is held, unless one of its title is.
+    pub(crate) fn add_module(
+        &mut self,
+        alloc: Global,
+        seed: RandomState,
+        name: &[u8],
+        text: &[u8],
+    ) -> Result<(), NoMemory> {
+        let title = module_title(alloc, name)?;
+        let code = code_of(alloc, seed, text)?;
+        let size = text.len() as u64;
+        match self.modules.get(&title) {
+            Some(_) => Ok(()),
+            None => self.modules.add(title, size, code),
+        }
+    }
+
+    /// The titles of the templates that are being expanded.
+    fn chain(&self, alloc: Global) -> Result<List<Title>, NoMemory> {
+        let mut chain = List::new(alloc);
+        if let Some(title) = &self.parent {
+            let title = title.copy()?;
+            chain.push(title)?;
+        }
+        Ok(chain)
+    }
+
+    /// The invocation of a function of a module.
+    fn job(
+        &self,
+        alloc: Global,
+        seed: RandomState,
+        name: &[u8],
+        function: &[u8],
+    ) -> Result<Work, NoMemory>
+        ensures { IfOk result WorkOf }
+    {
+        let module = module_title(alloc, name)?;
+        let title = module.copy()?;
+        let function = Bytes::of(alloc, function)?;
+        let around = match &self.parent {
+            Some(title) => title.copy()?,
+            None => self.page.copy()?,
+        };
+        let chain = self.chain(alloc)?;
+        let parent_chain = self.chain(alloc)?;
+        let own = scene(alloc, seed, title, self.args.as_slice(), chain)?;
+        let parent = scene(
+            alloc,
+            seed,
+            around,
+            self.parent_args.as_slice(),
+            parent_chain,
+        )?;
+        Ok(Work::Invoke(Job {
+            module,
+            function,
+            scene: own,
+            parent,
+        }))
+    }
+
+    /// What is to be done, for one run.
+    pub(crate) fn work(&self, alloc: Global, seed: RandomState) -> Result<Work, NoMemory>
+        ensures { IfOk result WorkOf }
+    {
+        match &self.aim {
+            Aim::Invoke(name, function) => {
+                let job = self.job(alloc, seed, name.as_slice(), function.as_slice())?;
+                Ok(job)
+            }
+            Aim::Load(name) => {
+                let title = module_title(alloc, name.as_slice())?;
+                Ok(Work::Data(title))
+            }
+        }
+    }
+}

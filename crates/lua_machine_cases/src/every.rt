@@ -1,0 +1,124 @@
+//! Many runs of one case.
+use crate::case::Case;
+use crate::runs::{Allowed, Ended, end_of};
+use page_run::Which;
+use std::alloc::Global;
+use std::hash::RandomState;
+use wk_base::NoMemory;
+
+/// What many runs come to: all are as they should be, from this number of steps or calls on; or this number gives something else.
+#[derive(Clone, Copy)]
+pub(crate) enum Found {
+    From(u64),
+    Differs(u64),
+    /// The first run was spent.
+    Endless,
+}
+
+/// Numbers of steps and calls that are left over.
+const MORE: [u64; 5] = [0, 1, 2, 7, 1000];
+
+/// Whether a run was spent for want of steps, and none are left.
+fn wants_steps(end: &Ended) -> bool {
+    matches!(end.spent, Some(Which::Steps)) && end.steps == 0
+}
+
+/// Whether runs with so many steps, and with some more, all give an end, and what is more is left.
+fn same_above(
+    alloc: Global,
+    seed: RandomState,
+    case: &Case,
+    whole: &Ended,
+    need: Allowed,
+) -> Result<bool, NoMemory> {
+    for more in MORE {
+        let allowed = Allowed {
+            steps: need.steps.saturating_add(more),
+            calls: need.calls,
+        };
+        let end = end_of(alloc, seed, case, allowed)?;
+        if end.text.as_str() != whole.text.as_str() || end.steps != more {
+            return Ok(false);
+        }
+    }
+    Ok(true)
+}
+
+/// Runs a case with every number of steps up to what it needs, and with some more.
+pub(crate) fn every_step(
+    alloc: Global,
+    seed: RandomState,
+    case: &Case,
+    allowed: Allowed,
+) -> Result<Found, NoMemory> {
+    let whole = end_of(alloc, seed, case, allowed)?;
+    if matches!(whole.spent, Some(Which::Steps)) {
+        return Ok(Found::Endless);
+    }
+    let need = allowed.steps.saturating_sub(whole.steps);
+    let calls = allowed.calls;
+    for steps in 0..need {
+        let end = end_of(alloc, seed, case, Allowed { steps, calls })?;
+        if !wants_steps(&end) {
+            return Ok(Found::Differs(steps));
+        }
+    }
+    let needed = Allowed { steps: need, calls };
+    if same_above(alloc, seed, case, &whole, needed)? {
+        Ok(Found::From(need))
+    } else {
+        Ok(Found::Differs(need))
+    }
+}
+
+/// Whether runs with some more calls all give an end, and give back all calls.
+fn same_with_more(
+    alloc: Global,
+    seed: RandomState,
+    case: &Case,
+    whole: &Ended,
+    need: Allowed,
+) -> Result<bool, NoMemory> {
+    for more in MORE {
+        let allowed = Allowed {
+            steps: need.steps,
+            calls: need.calls.saturating_add(more),
+        };
+        let end = end_of(alloc, seed, case, allowed)?;
+        if end.text.as_str() != whole.text.as_str() || end.calls != allowed.calls {
+            return Ok(false);
+        }
+    }
+    Ok(true)
+}
+
+/// The least number of calls with which a case isn't spent; below it each run is spent for want of calls, and gives them back.
+pub(crate) fn least_calls(
+    alloc: Global,
+    seed: RandomState,
+    case: &Case,
+    allowed: Allowed,
+) -> Result<Found, NoMemory> {
+    let whole = end_of(alloc, seed, case, allowed)?;
+    if whole.spent.is_some() {
+        return Ok(Found::Endless);
+    }
+    let steps = allowed.steps;
+    for calls in 0..allowed.calls {
+        let end = end_of(alloc, seed, case, Allowed { steps, calls })?;
+        match end.spent {
+            Some(Which::Calls) if end.calls == calls => {}
+            Some(_) => return Ok(Found::Differs(calls)),
+            None => {
+                let need = Allowed { steps, calls };
+                let same = same_with_more(alloc, seed, case, &whole, need)?;
+                return Ok(if same {
+                    Found::From(calls)
+                } else {
+                    Found::Differs(calls)
+                });
+            }
+        }
+    }
+    Ok(Found::From(allowed.calls))
+}
