@@ -12,7 +12,6 @@ import re
 import sys
 import threading
 
-from expand_reference import title_of, title_text
 from lua_reference import Fault, answer
 from machine_values import (LEAST, MOST, Asked, Builtin, Closure, Raised, Spent, Table, first, handler, is_function, is_true, kind_of,
                             nth, number_in, raw_field, same, text_in, text_of)
@@ -62,10 +61,6 @@ def read(text):
 
 
 # ---- numbers
-def quotient(a, b):
-    return None if a % b else a // b
-
-
 def power(a, b):
     if b >= 0:
         return a ** b if abs(a) < 2 or b < 64 else MOST + 1
