@@ -7,7 +7,7 @@ use Rattle.wk_base.specs.declared.left.Left.{Left}
 use Rattle.lua_store.specs.declared.value.Value.{Value}
 use Rattle.lua_store.specs.declared.ids.TextId.{TextId}
 use Rattle.lua_store.specs.Seen.{StoreView, seen, text_at}
-use Rattle.lua_store.specs.Parts.{IsLater, IsOf, IsTextOf}
+use Rattle.lua_store.specs.Parts.{IsLater, IsTextOf}
 use Rattle.lua_store.proofs.Later.{text_of-later}
 use Rattle.lua_store.proofs.Lists.{all-to}
 use Rattle.lua_heap.specs.Value.{Value as Plain}

@@ -1,5 +1,5 @@
 -- How a run begins is made of parts.
-use Rattle.std.proofs.Common.{◌≡◌, ◌∙◌, Bool, true, false, refl, sym, ap, subst, ℕ, List, [], ◌∷◌, ◌++◌, ◌+◌, length, Option, Some, None, Result, Ok, Err}
+use Rattle.std.proofs.Common.{◌≡◌, ◌∙◌, true, false, refl, sym, ap, subst, ℕ, List, [], ◌∷◌, ◌++◌, ◌+◌, length, Option, Some, None, Result, Ok, Err}
 use Rattle.wk_base.specs.declared.left.Left.{Left}
 use Rattle.wk_base.specs.declared.title.Title.{Title}
 use Rattle.wk_base.specs.Titles.{title_text}
@@ -21,7 +21,7 @@ use Rattle.lua_slots.specs.Errors.{raises}
 use Rattle.lua_slots.specs.Modules.{with_module, begins_text, require_as, require_module}
 use Rattle.lua_meaning.specs.Pending.{ModuleWaits}
 use Rattle.lua_slots.specs.Points.{SFrame, Waits, ModuleFound, DataNow, Move, Costs}
-use Rattle.lua_slots.specs.Slots.{Slots, with_heap, levels_at}
+use Rattle.lua_slots.specs.Slots.{Slots, levels_at}
 use Rattle.lua_slots.specs.Enact.{all_given_back, Short, enact}
 use Rattle.page_run.specs.declared.which.Which.TheVariants.{Steps}
 use Rattle.page_run.specs.State.{Tally}

@@ -1,4 +1,3 @@
-use Rattle.std.proofs.Common.{ap}
 use Rattle.lua_runs.proofs.Behind.{first_text, joined_put}
 use Rattle.lua_runs.proofs.answers.joined.Goals as goal
 

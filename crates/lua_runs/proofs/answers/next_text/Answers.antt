@@ -1,14 +1,11 @@
-use Rattle.std.proofs.Common.{◌∙◌, ap, sym, subst}
-use Rattle.std.specs.Prelude.{◌∷◌, [], ◌++◌, None, codes}
+use Rattle.std.specs.Prelude.{◌∷◌, [], ◌++◌, None}
 use Rattle.lua_heap.specs.Value.{is_nil}
 use Rattle.lua_meaning.specs.CallBacks.{text_of}
 use Rattle.lua_store.specs.Seen.{seen}
 use Rattle.lua_slots.specs.Points.{Now, Texts, TextNow}
 use Rattle.lua_slots.specs.Calls.{call}
-use Rattle.lua_slots.specs.Starts.{text_by}
 use Rattle.lua_stack.specs.Seen.{values_seen, joined_seen}
 use Rattle.lua_state.specs.Seen.{slots_of, frames_of}
-use Rattle.lua_state.specs.Makes.{Makes}
 use Rattle.lua_runs.proofs.Behind.{by_handler}
 use Rattle.lua_runs.proofs.Parts.{chosen, other}
 use Rattle.lua_runs.proofs.answers.next_text.Goals as goal

@@ -1,4 +1,4 @@
-use Rattle.std.proofs.Common.{length, ap, refl}
+use Rattle.std.proofs.Common.{length, refl}
 use Rattle.lua_store.specs.Seen.{text_at}
 use Rattle.lua_stack.specs.Seen.{joined_seen}
 use Rattle.lua_runs.proofs.Behind.{first_text, length_first}

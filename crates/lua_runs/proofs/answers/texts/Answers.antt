@@ -1,13 +1,10 @@
-use Rattle.std.proofs.Common.{◌∙◌, ap, sym, subst, length}
-use Rattle.std.specs.Prelude.{◌∷◌, []}
-use Rattle.lua_store.specs.Seen.{seen}
+use Rattle.std.proofs.Common.{◌∙◌, sym, subst}
 use Rattle.lua_slots.specs.Starts.{texts}
-use Rattle.lua_stack.specs.Of.{TextsOf}
-use Rattle.lua_stack.specs.Seen.{values_seen, joined_seen}
+use Rattle.lua_stack.specs.Seen.{joined_seen}
 use Rattle.lua_stack.proofs.Openings.{first_of}
 use Rattle.lua_state.specs.Seen.{slots_of, frames_of}
 use Rattle.lua_state.specs.Makes.{Makes}
-use Rattle.lua_runs.proofs.Behind.{opened, closed, rest_of}
+use Rattle.lua_runs.proofs.Behind.{opened, rest_of}
 use Rattle.lua_runs.proofs.answers.texts.Goals as goal
 
 pub next_text-requires-clause-value : goal.next_text-requires-clause-value

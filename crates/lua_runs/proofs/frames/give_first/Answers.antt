@@ -1,5 +1,3 @@
-use Rattle.std.proofs.Common.{subst}
-use Rattle.lua_store.specs.Seen.{seen}
 use Rattle.lua_runs.proofs.Behind.{seen_first}
 use Rattle.lua_runs.proofs.frames.give_first.Goals as goal
 

@@ -1,18 +1,4 @@
-use Rattle.std.proofs.Common.{◌∙◌, ap, sym, refl, ℕ, List, [], ◌∷◌, ◌+◌, length}
-use Rattle.std.specs.Prelude.{None}
-use Rattle.wk_base.specs.Titles.{title_text}
-use Rattle.lua_heap.specs.Value.{Table}
-use Rattle.lua_meaning.specs.Frames.{frame_table}
-use Rattle.lua_meaning.specs.Scope.{Bytes}
-use Rattle.lua_slots.specs.Code.{CWorld}
-use Rattle.lua_slots.specs.Enact.{enact}
-use Rattle.lua_slots.specs.Modules.{require_module}
-use Rattle.lua_slots.specs.Points.{SFrame, ModuleFound}
-use Rattle.lua_slots.specs.Slots.{Slots}
-use Rattle.lua_slots.specs.Starts.{with_frame}
-use Rattle.lua_state.specs.declared.state.State.{State}
-use Rattle.lua_state.specs.Seen.{slots_of, frames_of}
-use Rattle.lua_state.specs.Worlds.{world_seen}
+use Rattle.std.proofs.Common.{◌∙◌}
 use Rattle.lua_runs.proofs.Starting.{invoked, framed}
 use Rattle.lua_runs.proofs.starts.invoke_paid.Goals as goal
 

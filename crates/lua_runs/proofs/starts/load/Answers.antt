@@ -1,8 +1,3 @@
-use Rattle.std.proofs.Common.{ap, sym, refl}
-use Rattle.lua_slots.specs.Starts.{runs_data}
-use Rattle.wk_base.specs.Titles.{title_text}
-use Rattle.lua_state.specs.declared.state.State.{State}
-use Rattle.lua_state.specs.Worlds.{world_seen}
 use Rattle.lua_runs.proofs.Parts.{short, costs}
 use Rattle.lua_runs.proofs.Starting.{loaded}
 use Rattle.lua_runs.proofs.starts.load.Goals as goal

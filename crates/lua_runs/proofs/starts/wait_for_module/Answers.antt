@@ -1,4 +1,4 @@
-use Rattle.std.proofs.Common.{◌∙◌, ap, sym, subst, ◌∷◌, List}
+use Rattle.std.proofs.Common.{ap, sym, subst, List}
 use Rattle.lua_stack.specs.declared.frame.Frame.{Frame}
 use Rattle.lua_stack.specs.Of.{FramesOf}
 use Rattle.lua_stack.specs.Seen.{frames_seen}
