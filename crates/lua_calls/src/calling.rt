@@ -13,9 +13,9 @@ ghost use Rattle.lua_calls.specs.Table.{act_seen, caller_seen};
 
 use crate::framed::framed;
 use crate::plain::{clone, current_title, index_args, plain};
-use crate::stand_ins::{load_data, require};
 use crate::table::{Act, CallBack};
 use lua_acts::{ipairs, ipairs_step, pairs, pcall, to_string, xpcall};
+use lua_modules::{load_data, require};
 use lua_stack::Values;
 use lua_state::{State, Turn, fail};
 use lua_store::Store;

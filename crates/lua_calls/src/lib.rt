@@ -6,7 +6,6 @@
 //! - `calling`: functions that call back, or see more of a run
 //! - `entering`: a function of the library is entered
 //! - `waiting`: what waits for a call, or for an answer
-//! - `stand_ins`: parts that are not there yet
 //!
 //! Begin with `specs/Libraries.antt` of `lua_slots`: what it is to enter such a function, and what waits. `specs/Makes.antt` of `lua_state`
 //! says that code makes a move. `specs/Table.antt` is the table of the library as code goes through it.
@@ -16,7 +15,6 @@ pub mod calling;
 pub mod entering;
 pub mod framed;
 pub mod plain;
-mod stand_ins;
 pub mod table;
 pub mod waiting;
 

@@ -18,10 +18,10 @@ ghost use Rattle.lua_state.specs.Of.{OutcomeOf, StateOf};
 ghost use Rattle.lua_state.specs.Seen.{frames_of, outcome_seen, slots_of};
 ghost use Rattle.lua_calls.specs.Answers.{answer_in, one_answer_in};
 
-use crate::stand_ins::{data_answer, module_answer};
 use lua_acts::{
     give_text, handler_answer, pcall_answer, raise, string_answer, three_answer, xpcall_answer,
 };
+use lua_modules::{data_answer, module_answer};
 use lua_stack::{Asked, Given, Pending, Values};
 use lua_state::{Outcome, State, Turn, fail};
 use lua_store::{Store, TextId, Value};

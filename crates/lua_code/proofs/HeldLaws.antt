@@ -1,5 +1,7 @@
 -- Modules are found by the texts of their titles as they are by these.
-use Rattle.std.proofs.Common.{◌≡◌, ◌∙◌, ℕ, Bool, true, refl, sym, ap, subst, List, [], ◌∷◌, ◌++◌, map, Option, Some, None, option_map, cond, bytes_eq, Bor}
+use Rattle.std.proofs.Common.{◌≡◌, ◌∙◌, ℕ, Bool, true, false, refl, sym, ap, subst, List, [], ◌∷◌, ◌++◌, map, take, drop, Option, Some, None, option_map, cond, bytes_eq, Bor, codes, true≢false}
+use Rattle.std.proofs.lemmas.List.{take-append-drop}
+use Rattle.std.proofs.lemmas.Slice.Eq.{bytes_eq-Decides}
 use Rattle.std.specs.Option.{option_copied}
 use Rattle.std.specs.Map.{lookup}
 use Rattle.wk_base.specs.declared.title.Namespace.{Namespace}
@@ -15,7 +17,7 @@ is_of_modules ModuleNs h = refl
 is_of_modules _ h = cc
 
 -- the title of a module, with its namespace written out
-abbrev named : List ℕ → Title
+abbrev pub named : List ℕ → Title
 named name = record { ns = ModuleNs; name = name }
 
 is_named : (t : Title) → is_module t.ns ≡ true → t ≡ named t.name
@@ -49,3 +51,30 @@ more (e ∷ es) t m all h = (all.0, more es t m all.1 h)
 
 pub added : (held new : Held) (t : Title) (m : Module) → new ≡ held ++ (t, m) ∷ [] → AreModules held → is_module t.ns ≡ true → AreModules new
 added held new t m e all h = subst AreModules (sym e) (more held t m all h)
+
+-- BY A TEXT: one that begins as no title of a module is of none
+begins_named : (n : List ℕ) → bytes_eq (take 7 (title_text (named n))) (codes "Module:") ≡ true
+unfolding title_text prefix_of
+begins_named n = refl
+
+begins_so : (text : List ℕ) (t : Title) → is_module t.ns ≡ true → text ≡ title_text t → bytes_eq (take 7 text) (codes "Module:") ≡ true
+begins_so text t h e = ap (λ x. bytes_eq (take 7 x) (codes "Module:")) (e ∙ ap title_text (is_named t h)) ∙ begins_named t.name
+
+lacked : (held : Held) (text : List ℕ) → AreModules held → bytes_eq (take 7 text) (codes "Module:") ≡ false → lookup (bytes_eq text) (map (λ e. (title_text e.0, e.1)) held) ≡ None
+lacked [] text all h = refl
+lacked (e ∷ es) text all h = by (bytes_eq text (title_text e.0)) refl (lacked es text all.1 h)
+  where
+    by : (b : Bool) → bytes_eq text (title_text e.0) ≡ b → lookup (bytes_eq text) (map (λ e. (title_text e.0, e.1)) es) ≡ None → cond b (Some e.1) (lookup (bytes_eq text) (map (λ e. (title_text e.0, e.1)) es)) ≡ None
+    by true p later = absurd (true≢false (sym (begins_so text e.0 all.0 ((bytes_eq-Decides text (title_text e.0)).0 p)) ∙ h))
+    by false p later = later
+
+pub lacking : (held : Held) (text : List ℕ) → AreModules held → bytes_eq (take 7 text) (codes "Module:") ≡ false → None ≡ modules_seen held text
+lacking held text all h = sym (ap (option_map module_seen) (lacked held text all h))
+
+-- and one that begins so is the text of a title of a module
+text_named : (n : List ℕ) → codes "Module:" ++ n ≡ title_text (named n)
+unfolding title_text prefix_of
+text_named n = refl
+
+pub text_of : (text : List ℕ) → bytes_eq (take 7 text) (codes "Module:") ≡ true → title_text (named (drop 7 text)) ≡ text
+text_of text h = sym (text_named (drop 7 text)) ∙ ap (λ x. x ++ drop 7 text) (sym ((bytes_eq-Decides (take 7 text) (codes "Module:")).0 h)) ∙ take-append-drop 7 text

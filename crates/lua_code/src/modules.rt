@@ -1,6 +1,7 @@
 //! The modules of a run.
-ghost use Rattle.std.specs.Prelude.{◌≡◌, ◌++◌, ◌∷◌, [], true, None, OnOk, OnErr, option_map};
+ghost use Rattle.std.specs.Prelude.{◌≡◌, ◌++◌, ◌∷◌, [], true, None, OnOk, OnErr, IfOk, option_map};
 ghost use Rattle.std.specs.Option.{option_copied};
+ghost use Rattle.wk_base.specs.declared.title.Namespace.TheVariants as space;
 ghost use Rattle.wk_base.specs.Titles.{is_module, title_text};
 ghost use Rattle.lua_code.specs.Held.{find_module, modules_seen, module_seen, AreModules};
 
@@ -10,7 +11,7 @@ use lua_syntax::FaultAt;
 use std::alloc::Global;
 use std::hash::RandomState;
 use std::marker::Model;
-use wk_base::{NoMemory, Title};
+use wk_base::{Bytes, Namespace, NoMemory, Title};
 
 /// A module: the length of its text in bytes, and its functions, or its first fault.
 #[derive(Drop)]
@@ -62,6 +63,36 @@ fn insert(
     }
 }
 
+/// The title of a module by its name.
+fn title_named(alloc: Global, name: &[u8]) -> Result<Title, NoMemory>
+    ensures { IfOk result (λ title. title ≡ record { ns = space.Module; name = name.now }) }
+{
+    let name = Bytes::of(alloc, name)?;
+    Ok(Title {
+        ns: Namespace::Module,
+        name,
+    })
+}
+
+/// The module whose title is written as this text.
+fn find_in<'a>(
+    map: &'a IndexMap<Title, Module, RandomState>,
+    alloc: Global,
+    text: &[u8],
+) -> Result<Option<&'a Module>, NoMemory>
+    requires { AreModules map.now.entries }
+    ensures { IfOk result (λ found. option_map (λ m. module_seen m.now) found ≡ modules_seen map.now.entries text.now) }
+{
+    match text.strip_prefix(b"Module:") {
+        None => Ok(None),
+        Some(name) => {
+            let title = title_named(alloc, name)?;
+            let found = map.get(&title);
+            Ok(found)
+        }
+    }
+}
+
 impl Modules {
     /// No module. Titles are hashed by the seed, so that no title can be chosen to collide with others.
     pub fn new(alloc: Global, seed: RandomState) -> Modules
@@ -94,5 +125,12 @@ impl Modules {
         ensures seen { is_module title.now.ns ≡ true → option_map (λ m. module_seen m.now) result ≡ modules_seen self.now (title_text title.now) }
     {
         self.map.get(title)
+    }
+
+    /// The module whose title is written as this text, if it is held.
+    pub fn find_text(&self, alloc: Global, text: &[u8]) -> Result<Option<&Module>, NoMemory>
+        ensures { IfOk result (λ found. option_map (λ m. module_seen m.now) found ≡ modules_seen self.now text.now) }
+    {
+        find_in(&self.map, alloc, text)
     }
 }

@@ -61,6 +61,12 @@ fn told(alloc: Global, modules: &Modules, name: &[u8]) -> Result<Option<(u64, u3
     }
 }
 
+// Whether a module is found by the text of its title.
+fn is_found(alloc: Global, modules: &Modules, text: &[u8]) -> Result<bool, NoMemory> {
+    let found = modules.find_text(alloc, text)?;
+    Ok(found.is_some())
+}
+
 #[test]
 fn modules_are_found(rt: HostRuntime) -> Result<(), Fail> {
     let seed = RandomState::new(&rt)?;
@@ -68,6 +74,9 @@ fn modules_are_found(rt: HostRuntime) -> Result<(), Fail> {
     assert_eq!(rt; told(rt.alloc(), &modules, b"a")?, Some((20, 0)));
     assert_eq!(rt; told(rt.alloc(), &modules, b"b")?, Some((30, 3)));
     assert_eq!(rt; told(rt.alloc(), &modules, b"c")?, None);
+    assert!(rt; is_found(rt.alloc(), &modules, b"Module:a")?);
+    assert!(rt; !is_found(rt.alloc(), &modules, b"Module:c")?);
+    assert!(rt; !is_found(rt.alloc(), &modules, b"a")?);
     Ok(())
 }
 

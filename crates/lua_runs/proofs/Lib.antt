@@ -1,3 +1,4 @@
 pub mod Parts
 pub mod Behind
 pub mod Sums
+pub mod Starting

@@ -38,7 +38,7 @@ with_frames m fs = record m { frames = fs }
 pub with_frames_of : (s : StoreView) (m : State) (fs : List Frame) → StateOf s m → FramesOf s fs → StateOf s (with_frames m fs)
 with_frames_of s m fs h k = record { frames = k; regs = h.regs; functions = h.functions; env = h.env; modules = h.modules; loaded = h.loaded; scenes = h.scenes; codes = h.codes }
 
-if_spent : (A : Type 0) (r : Turn) → A → IfSpent r A
+pub if_spent : (A : Type 0) (r : Turn) → A → IfSpent r A
 if_spent A (turn.On focus) h = tt
 if_spent A (turn.Spent which) h = h
 

@@ -1,3 +1,4 @@
 pub mod Staying
 pub mod Making
 pub mod Raised
+pub mod Found

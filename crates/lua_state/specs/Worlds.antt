@@ -1,6 +1,7 @@
 -- The world of a machine: the page and the modules; and the modules whose code was found.
 use Rattle.std.specs.Prelude.{◌≡◌, ℕ, List, Option, Some, Ok}
 use Rattle.std.specs.List.{AllByRecursion}
+use Rattle.std.specs.Borrow.{Bor}
 use Rattle.lua_code.specs.declared.proto.Protos.{Protos}
 use Rattle.lua_code.specs.Seen.{protos_seen}
 use Rattle.lua_code.specs.Held.{modules_seen}
@@ -20,5 +21,8 @@ pub record IsFound (w : CWorld) (s : StoreView) (source : TextId) (functions : P
   pub size : ℕ
   pub code : w.modules (text_at s.texts source.at) ≡ Some (record { size = size; code = Ok (protos_seen functions) })
 
+abbrev pub AreFound : CWorld → StoreView → List (TextId × Bor Protos) → Type 0
+AreFound w s known = AllByRecursion (λ e. IsFound w s e.0 e.1.now) known
+
 pub record CodesOf (s : StoreView) (c : Codes) : Type 0 where
-  pub all : AllByRecursion (λ e. IsFound (world_seen c.world) s e.0 e.1.now) c.known.entries
+  pub all : AreFound (world_seen c.world) s c.known.entries

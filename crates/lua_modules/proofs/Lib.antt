@@ -1,0 +1,5 @@
+pub mod Held
+pub mod Parts
+pub mod Kept
+pub mod Guarded
+pub mod Given

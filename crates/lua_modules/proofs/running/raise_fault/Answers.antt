@@ -1,0 +1,12 @@
+use Rattle.std.proofs.Common.{◌∙◌, subst}
+use Rattle.lua_heap.specs.Value as kind
+use Rattle.lua_meaning.specs.Acts as act
+use Rattle.lua_slots.specs.Errors.{jumps}
+use Rattle.lua_state.specs.Seen.{slots_of, frames_of}
+use Rattle.lua_state.specs.Makes.{Makes}
+use Rattle.lua_modules.proofs.running.raise_fault.Goals as goal
+
+pub returns : goal.returns
+returns c = λ l.
+    subst (λ b. Makes c.args.store.now c.args.state.now l c.raise.new.store c.args.state.now l (jumps (act.Raised (kind.Text b)) (frames_of c.args.store.now c.args.state.now) (slots_of c.args.store.now c.args.state.now)) c.in_ok-turn.turn)
+    (c.as_slice-said.ensures.value ∙ c.in_ok-message.ensures) (c.in_ok-turn.ensures l)

@@ -1,0 +1,84 @@
+//! `require('strict')` (Scribunto, strict): global variables that are absent are refused.
+ghost use Rattle.std.specs.Prelude.{◌≡◌, ◌∷◌, [], true, length, IfOk, OnOk};
+ghost use Rattle.wk_base.specs.declared.left.Left.{Left as Allowance};
+ghost use Rattle.lua_graph.specs.Put.{filled};
+ghost use Rattle.lua_heap.specs.Heap.{set_meta_in};
+ghost use Rattle.lua_heap.specs.Value as kind;
+ghost use Rattle.lua_meaning.specs.Frames.{with_table};
+ghost use Rattle.lua_meaning.specs.Modules.{strict_meta};
+ghost use Rattle.lua_slots.specs.Errors.{gives};
+ghost use Rattle.lua_slots.specs.Modules.{with_strict};
+ghost use Rattle.lua_slots.specs.Points.{Costs};
+ghost use Rattle.lua_store.specs.Parts.{IsLater, IsTableOf};
+ghost use Rattle.lua_state.specs.Makes.{Makes};
+ghost use Rattle.lua_state.specs.Of.{StateOf};
+ghost use Rattle.lua_state.specs.Seen.{frames_of, slots_of};
+
+use lua_home::fields::{Field, Item, fill};
+use lua_stack::{Focus, Given};
+use lua_state::{State, Turn, pay};
+use lua_store::{Library, Store, TableId, Value};
+use page_run::Which;
+use wk_base::{Left, NoMemory};
+
+/// The metatable whose handlers refuse what is absent.
+fn fill_meta(store: &mut Store, table: TableId) -> Result<(), NoMemory>
+    requires { IsTableOf store.old table }
+    ensures put { OnOk result (store.new.heap ≡ filled table.at strict_meta store.old.heap) }
+    ensures later { IsLater store.old store.new }
+{
+    let fields = [
+        Field {
+            name: b"__index",
+            value: Item::Function(Library::StrictIndex),
+        },
+        Field {
+            name: b"__newindex",
+            value: Item::Function(Library::StrictNewIndex),
+        },
+    ];
+    fill(store, table, &fields)
+}
+
+/// The table of the global variables gets a new metatable.
+fn guard(store: &mut Store, globals: TableId) -> Result<(), NoMemory>
+    requires { IsTableOf store.old globals }
+    ensures made { OnOk result (store.new.heap ≡ set_meta_in (with_table store.old.heap strict_meta kind.Nil) globals.at (kind.Table (length store.old.heap.tables))) }
+    ensures later { IsLater store.old store.new }
+{
+    let meta = store.new_table()?;
+    fill_meta(store, meta)?;
+    // Only tables of loaded data are read-only, which that of the global variables never is.
+    if store.is_frozen(globals) {
+        return Err(NoMemory);
+    }
+    store.set_meta(globals, Value::Table(meta));
+    Ok(())
+}
+
+/// The table of the global variables is guarded, and the answer is true.
+fn give_guarded<'m>(store: &mut Store, state: &State<'m>) -> Result<Turn<'m>, NoMemory>
+    requires { StateOf store.old state.now }
+    ensures { (l : Allowance) → IfOk result (λ r. Makes store.old state.now l store.new state.now l
+        (gives (kind.Truth true ∷ []) (frames_of store.old state.now) (with_strict (slots_of store.old state.now))) r) }
+{
+    guard(store, state.env.globals)?;
+    Ok(Turn::On(Focus::Gives(Given::One(Value::Bool(true)))))
+}
+
+/// `require('strict')` costs a table with two entries.
+pub fn require_strict<'m>(
+    store: &mut Store,
+    left: &mut Left,
+    state: &State<'m>,
+) -> Result<Turn<'m>, NoMemory>
+    requires { StateOf store.old state.now }
+    ensures { IfOk result (λ r. Makes store.old state.now left.old store.new state.now left.new
+        (Costs 16 (gives (kind.Truth true ∷ []) (frames_of store.old state.now) (with_strict (slots_of store.old state.now)))) r) }
+{
+    if !pay(left, 16) {
+        return Ok(Turn::Spent(Which::Steps));
+    }
+    let turn = give_guarded(store, state)?;
+    Ok(turn)
+}

@@ -1,0 +1,52 @@
+//! Arguments that are texts, and titles that texts are read as.
+ghost use Rattle.std.specs.Prelude.{◌≡◌, codes, IfOk};
+ghost use Rattle.wk_base.specs.Titles.{title_of};
+ghost use Rattle.wk_base.specs.declared.title.Namespace.TheVariants.{Main};
+ghost use Rattle.lua_meaning.specs.Messages as meaning;
+ghost use Rattle.lua_slots.specs.Errors.{fails};
+ghost use Rattle.lua_stack.specs.Seen.{values_seen};
+ghost use Rattle.lua_state.specs.Makes.{Makes};
+ghost use Rattle.lua_state.specs.Of.{StateOf};
+ghost use Rattle.lua_state.specs.Seen.{frames_of, slots_of};
+ghost use Rattle.lua_modules.specs.Read.{title_read};
+
+use lua_basic::messages::{bad_argument, expected};
+use lua_state::{State, Turn, fail};
+use lua_store::{Store, Value};
+use std::alloc::Global;
+use wk_base::{Left, Namespace, NoMemory, Title, TitleFault};
+
+/// The title that a text is read as, if it is one.
+pub fn read_title(alloc: Global, text: &[u8]) -> Result<Option<Title>, NoMemory>
+    ensures { IfOk result (λ title. title ≡ title_read (title_of text.now Main)) }
+{
+    match Title::read(alloc, text, Namespace::Main) {
+        Ok(title) => Ok(Some(title)),
+        Err(TitleFault::NoMemory) => Err(NoMemory),
+        Err(TitleFault::Empty) => Ok(None),
+        Err(TitleFault::BadByte) => Ok(None),
+        Err(TitleFault::TooLong) => Ok(None),
+    }
+}
+
+/// The first argument of a function is no text.
+pub fn refuse<'m>(
+    alloc: Global,
+    store: &mut Store,
+    left: &mut Left,
+    state: &State<'m>,
+    function: &[u8],
+    given: &[Value],
+    line: Option<u32>,
+) -> Result<Turn<'m>, NoMemory>
+    requires { StateOf store.old state.now }
+    ensures { IfOk result (λ r. Makes store.old state.now left.old store.new state.now left.new
+        (fails line (meaning.bad_argument 1 function.now (meaning.expected (codes "string") (values_seen store.old.texts given.now))) (frames_of store.old state.now) (slots_of store.old state.now)) r) }
+{
+    let why = expected(alloc, b"string", given)?;
+    let reason = why.as_slice();
+    let message = bad_argument(alloc, 1, function, reason)?;
+    let said = message.as_slice();
+    let turn = fail(alloc, store, left, state, line, said)?;
+    Ok(turn)
+}
