@@ -1,5 +1,5 @@
 //! What methods read of frames: titles, arguments, and the frame of an invocation (Scribunto, Frame object).
-ghost use Rattle.std.specs.Prelude.{◌≡◌, ◌∷◌, [], List, ℕ, None, Some, IfOk, OnOk, MatchOption, length};
+ghost use Rattle.std.specs.Prelude.{◌≡◌, [], List, ℕ, None, Some, IfOk, OnOk, MatchOption, length};
 ghost use Rattle.lua_heap.specs.Value as kind;
 ghost use Rattle.lua_meaning.specs.Frames as frames;
 ghost use Rattle.lua_meaning.specs.FrameMethods as meaning;

@@ -1,5 +1,5 @@
 //! A title with arguments, as `expandTemplate` and `newChild` are given them (Scribunto, Frame object).
-ghost use Rattle.std.specs.Prelude.{◌≡◌, ◌++◌, List, ℕ, Ok, Err, IfOk, IfErr, IfSome, OnOk, MatchOption, codes};
+ghost use Rattle.std.specs.Prelude.{◌≡◌, List, ℕ, Ok, Err, IfOk, IfErr, IfSome, OnOk, MatchOption};
 ghost use Rattle.std.specs.Option.{option_map};
 ghost use Rattle.lua_heap.specs.Heap.{Heap};
 ghost use Rattle.lua_heap.specs.Proc.{Proc};

@@ -1,5 +1,6 @@
 //! Each function of frames is called. The expected answers follow from Scribunto's manual (Frame object).
 ghost use Rattle.std.specs.Prelude.{IfOk};
+ghost use Rattle.lua_store.specs.Parts.{IsTableOf};
 ghost use Rattle.mw_frame.specs.Scenes.{NamesDiffer};
 
 use crate::answer::FrameAnswer;
@@ -8,7 +9,7 @@ use crate::children::add_frame;
 use crate::table::{FrameFunction, frame_function};
 use bumpalo::Bump;
 use lua_basic::Stop;
-use lua_store::{Library, Store, Value};
+use lua_store::{Library, Store, TableId, Value};
 use mw_frame::{Arg, Scene};
 use mw_frames::keys::set_field;
 use mw_frames::{Parent, Scenes};
@@ -58,7 +59,7 @@ enum Outcome {
     NoMemory,
 }
 
-fn outcome(answer: Result<FrameAnswer, Stop>) -> Outcome {
+fn came_to(answer: Result<FrameAnswer, Stop>) -> Outcome {
     match answer {
         Ok(FrameAnswer::Gives(values)) => Outcome::Gives(values.as_slice().len()),
         Ok(FrameAnswer::Asks(_, _)) => Outcome::Asks,
@@ -112,7 +113,17 @@ fn with_text(
         which,
         &args,
     );
-    Ok(outcome(answer))
+    Ok(came_to(answer))
+}
+
+/// A table whose field `title` is a text.
+fn titled(store: &mut Store, text: &[u8]) -> Result<TableId, NoMemory>
+    ensures { IfOk result (IsTableOf store.new) }
+{
+    let request = store.new_table()?;
+    let text = store.text(text)?;
+    set_field(store, request, b"title", Value::Text(text))?;
+    Ok(request)
 }
 
 /// A call with a frame and a table whose field `title` is a text.
@@ -125,9 +136,7 @@ fn with_title(
 ) -> Result<Outcome, NoMemory> {
     let arena = Bump::new(alloc);
     let mut store = Store::new(alloc, &arena, seed);
-    let request = store.new_table()?;
-    let text = store.text(text)?;
-    set_field(&mut store, request, b"title", Value::Text(text))?;
+    let request = titled(&mut store, text)?;
     let mut scenes = Scenes::new(alloc, &mut store, seed)?;
     let own = scene(alloc)?;
     let table = add_frame(&mut store, &mut scenes, own, Parent::Nobody)?;
@@ -140,7 +149,7 @@ fn with_title(
         which,
         &args,
     );
-    Ok(outcome(answer))
+    Ok(came_to(answer))
 }
 
 /// Whether a call with a text comes to this.

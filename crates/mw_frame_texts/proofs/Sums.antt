@@ -7,7 +7,7 @@ use Rattle.mw_frame_texts.specs.declared.attributes.AttrText.{AttrText}
 use Rattle.mw_frame_texts.specs.Written.{attr_written, attrs_written}
 
 -- an attribute of a list, and those behind it
-pub attr-step : (xs : List AttrText) (i : ℕ) (x : AttrText) → i < length xs → x ≡ get_or xs i x → drop i xs ≡ x ∷ drop (i + 1) xs
+attr-step : (xs : List AttrText) (i : ℕ) (x : AttrText) → i < length xs → x ≡ get_or xs i x → drop i xs ≡ x ∷ drop (i + 1) xs
 attr-step xs i x h e =
     let next : suc i ≡ i + 1 = omega arith in
     drop-cons xs i x h ∙ ap (λ y. y ∷ drop (suc i) xs) (sym e) ∙ ap (λ n. x ∷ drop n xs) next

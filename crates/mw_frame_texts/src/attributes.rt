@@ -1,5 +1,5 @@
 //! The attributes of a tag, read of a table (Scribunto, mw.text.tag). Their texts are not copied.
-ghost use Rattle.std.specs.Prelude.{◌≡◌, List as Items, ℕ, [], Ok, IfOk, IfErr, IfSome, OnOk};
+ghost use Rattle.std.specs.Prelude.{◌≡◌, List as Items, ℕ, Ok, IfOk, IfErr, IfSome, OnOk};
 ghost use Rattle.lua_heap.specs.Heap.{Heap, table_at};
 ghost use Rattle.lua_heap.specs.Proc.{Proc};
 ghost use Rattle.lua_meaning.specs.Scope.{Bytes};

@@ -1,6 +1,7 @@
 use Rattle.std.proofs.Common.{◌∙◌, ap, refl, subst, sym, Ok, Err}
 use Rattle.std.proofs.lemmas.Result.{err_from_is_err_and}
 use Rattle.lua_meaning.specs.Tag.{extension_tag}
+use Rattle.lua_meaning.specs.Values.{rest}
 use Rattle.lua_basic.specs.Seen as plain
 use Rattle.lua_basic.specs.Seen.{values_seen}
 use Rattle.lua_store.specs.Seen.{StoreView}
@@ -32,7 +33,7 @@ returns-in_err-values-clause-answer c =
     let m = c.extension_tag.new.left in
     let e = c.in_err-values.field-0.0 in
     let answer = subst (λ vs. plain.Paid (extension_tag vs s.heap) s l t m (Err e)) (c.rest.ensures.values s.texts)
-        (subst (λ (x : StoreView). plain.Paid (extension_tag (values_seen x.texts c.rest.result.now) x.heap) x l t m (Err e)) c.in_ok-_number.ensures.same c.in_err-values.ensures.answer) in
+    (subst (λ (x : StoreView). plain.Paid (extension_tag (values_seen x.texts c.rest.result.now) x.heap) x l t m (Err e)) c.in_ok-_number.ensures.same c.in_err-values.ensures.answer) in
     subst (λ q. Paid q s frames c.args.left.now c.extension_tag.new.store frames c.extension_tag.new.left c.from_residual-in_err-values.result) (sym self)
     (gives_none _ s.heap s c.extension_tag.new.store frames c.args.left.now c.extension_tag.new.left c.in_err-values.field-0.0 c.from_residual-in_err-values.result answer (p.1 ∙ ap Err p.2))
 
@@ -44,7 +45,7 @@ returns-clause-answer c =
     let self = found _ _ (numbered c.in_ok-_number._number it.0) s.heap frames _ (c.in_ok-_number.ensures.found it.0 it.1) refl in
     let paid = rw (c.in_ok-_number.ensures.same, c.rest.ensures.values s.texts) at c.in_ok-values.ensures.answer in
     subst (λ q. Paid q s frames c.args.left.now c.extension_tag.new.store frames c.extension_tag.new.left (Ok (answer.Gives c.in_ok-values.values))) (sym self)
-    (gives_values _ s.heap s c.extension_tag.new.store frames c.args.left.now c.extension_tag.new.left c.in_ok-values.values paid)
+    (gives_values (extension_tag (rest (values_seen s.texts c.args.args.now)) s.heap) s.heap s c.extension_tag.new.store frames c.args.left.now c.extension_tag.new.left c.in_ok-values.values paid)
 
 pub extension_tag-requires-clause-given : goal.extension_tag-requires-clause-given
 extension_tag-requires-clause-given c = rw c.in_ok-_number.ensures.same (c.rest.ensures.of c.args.store.now c.requires.args)
