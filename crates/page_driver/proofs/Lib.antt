@@ -1,0 +1,11 @@
+pub mod Waiting
+pub mod Goings
+pub mod Hands
+pub mod Asks
+pub mod KeepLaws
+pub mod Halting
+pub mod Expanding
+pub mod Answering
+pub mod Steps
+pub mod Starts
+pub mod Whole

@@ -1,0 +1,9 @@
+pub mod Ground
+pub mod Seen
+pub mod Ending
+pub mod Tasks
+pub mod Going
+pub mod Kept
+pub mod Beginning
+pub mod Driven
+pub mod Page

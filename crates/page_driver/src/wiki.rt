@@ -1,0 +1,22 @@
+//! A wiki, and a page of it that was expanded.
+use lua_code::Modules;
+use wiki_expand::PageMap;
+use wk_base::{Bytes, Left, Title};
+
+/// The pages and the modules of a wiki, by title.
+#[derive(Drop)]
+pub struct Wiki {
+    pub pages: PageMap,
+    pub modules: Modules,
+}
+
+/// A page that was expanded.
+#[derive(Drop)]
+pub struct Page {
+    pub title: Title,
+    pub text: Bytes,
+    /// What is left of the allowances of the page.
+    pub left: Left,
+    /// The steps of data loads that were found kept: they are charged, and nothing was run for them.
+    pub kept: u64,
+}
