@@ -1,2 +1,3 @@
-mod PartLaws
+mod FinishedLaws
 mod FormLaws
+mod PartLaws

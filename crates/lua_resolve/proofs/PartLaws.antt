@@ -13,9 +13,9 @@ use Rattle.lua_code.specs.declared.statement.Target.{Target}
 use Rattle.lua_code.specs.declared.statement.Statement.{Statement}
 use Rattle.lua_code.specs.declared.statement.Branch.{Branch}
 use Rattle.lua_code.specs.Seen.{expression_seen, expressions_seen, entry_seen, entries_seen, target_seen, statement_seen, block_seen, branch_seen, branches_seen}
-use Rattle.lua_scopes.specs.Scopes.{Local, Level, stack, closed_to, local_sight, stack_sight, Covers, Grows, IsSighted, IsPlaced, IsLeft, IsLeftTo, entered}
+use Rattle.lua_scopes.specs.Scopes.{Local, Level, stack, closed_to, local_sight, stack_sight, Covers, Grows, IsLeft, IsLeftTo, entered}
 use Rattle.lua_resolve.specs.Parts.{State, locals, with_locals_of, opened, Holds, Later, Went, Next, expressions_before, entries_before, branches_before, statements_before, ExpressionsSoFar, EntriesSoFar, TargetsSoFar, BranchesSoFar, tail_of, IsPart, BlockSoFar, with_names, AreDeclared, NamesSoFar}
-use Rattle.lua_scopes.proofs.SightLaws.{covers_trans, covers_here, covers_everywhere, covers_local, covers_inside, grows_same, grows_trans, grows_covers, captured_on}
+use Rattle.lua_scopes.proofs.SightLaws.{covers_trans, covers_local, covers_inside, grows_same, grows_trans, grows_covers, captured_on}
 
 -- STATES
 pub next_same : (s : State) → Next s s
@@ -33,17 +33,6 @@ pub later : (s t : State) (at : Protos) (see : Sight) → Next s t → Later t a
 later s t at see h l =
     let went = h.went l.clean in
     record { clean = went.clean; functions = went.functions at l.functions; covers = covers_trans (stack_sight (stack s.scopes)) (stack_sight (stack t.scopes)) see (grows_covers (stack s.scopes) (stack t.scopes) went.grows) l.covers }
-
--- NAMES
-pub placed_next : (s t : State) (x : Bytes) (p : Option Place) → (t.scopes.clean ≡ true → (s.scopes.clean ≡ true) × IsPlaced (stack s.scopes) (stack t.scopes) x p) → t.functions ≡ s.functions → Next s t
-placed_next s t x p h e = record { went = λ clean. let k = h clean in record { clean = k.0; functions = λ at g. subst (λ ps. Holds ps at) e g; grows = k.1.grows } }
-
-sighted_on : (p : Option Place) (x : Bytes) (a b : Sight) → Covers a b → IsSighted p (a x) → IsSighted p (b x)
-sighted_on None x a b h e = covers_everywhere a b x h e
-sighted_on (Some p) x a b h e = covers_here a b x p h e
-
-pub placed_sight : (s t : State) (x : Bytes) (p : Option Place) → (t.scopes.clean ≡ true → (s.scopes.clean ≡ true) × IsPlaced (stack s.scopes) (stack t.scopes) x p) → (at : Protos) (see : Sight) → Later t at see → IsSighted p (see x)
-placed_sight s t x p h at see l = sighted_on p x _ see l.covers (h l.clean).1.sighted
 
 -- LISTS
 pub exps_start : (s : State) (whole : Exps) → ExpressionsSoFar s s whole whole []
@@ -256,19 +245,6 @@ plain_part s t st c next code = record {
 }
 
 -- DECLARED NAMES
-pub names_start : (s : State) (whole : List Bytes) → NamesSoFar s s whole whole []
-names_start s whole = record { others = refl; as_many = λ more h. h; locals = λ more. refl }
-
-pub names_step : (s t u : State) (whole left after : List Bytes) (flags new : List Bool) (x : Bytes) (b : Bool) → NamesSoFar s t whole left flags → left ≡ x ∷ after
-    → u ≡ with_locals_of (record { name = x; boxed = b } ∷ locals t) t → new ≡ flags ++ b ∷ [] → NamesSoFar s u whole after new
-names_step s t u whole left after flags new x b so is e added =
-    let own : Local = record { name = x; boxed = b } in
-    subst (λ k. NamesSoFar s k whole after new) (sym e) (subst (NamesSoFar s (with_locals_of (own ∷ locals t) t) whole after) (sym added) (record {
-      others = ap (with_locals_of (own ∷ locals t)) so.others;
-      as_many = λ more h. subst (AreAsMany whole) (sym (append_assoc flags (b ∷ []) more)) (so.as_many (b ∷ more) (subst (λ k. AreAsMany k (b ∷ more)) (sym is) h));
-      locals = λ more. ap (λ k. with_names k (b ∷ more) (locals t)) (sym is) ∙ so.locals (b ∷ more) ∙ ap (λ bs. with_names whole bs (locals s)) (sym (append_assoc flags (b ∷ []) more));
-    }))
-
 pub names_end : (s t : State) (whole left : List Bytes) (flags : List Bool) → NamesSoFar s t whole left flags → left ≡ [] → AreDeclared s t whole flags
 names_end s t whole left flags so is = record {
   as_many = subst (AreAsMany whole) (append-nil flags) (so.as_many [] (subst (λ k. AreAsMany k []) (sym is) tt));

@@ -3,7 +3,8 @@
 //! - `rounds`: `resolve`, the public call
 //! - `expressions`, `statements`: code of the parts of a tree
 //! - `operators`: code of operators
-//! - `resolver`: names, declarations, and functions that are done
+//! - `resolver`: names and declarations
+//! - `functions`: functions that are done, none of which has an idle cell
 //! - `lists`: lists with room
 //!
 //! Which code is code of a text is said in `lua_slots` (`specs/IsCode.antt`), and where names stand in functions in progress in
@@ -11,6 +12,7 @@
 #![tactic(auto)]
 
 mod expressions;
+mod functions;
 mod lists;
 mod operators;
 mod resolver;

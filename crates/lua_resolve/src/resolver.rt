@@ -8,6 +8,7 @@ ghost use Rattle.lua_code.specs.Seen.{place_seen, expression_seen, target_seen};
 ghost use Rattle.lua_scopes.specs.Scopes.{nothing_known, closed_to, IsSighted};
 ghost use Rattle.lua_resolve.specs.Parts.{state_of, Next, Later, AreDeclared};
 
+use crate::functions::Functions;
 use crate::lists::with_room;
 use lua_code::{Expression, Place, Proto, Target};
 use lua_scopes::{Scopes, Sketch};
@@ -19,7 +20,7 @@ use wk_base::{Bytes, List, NoMemory};
 pub(crate) struct Resolver<'t> {
     pub(crate) alloc: Global,
     pub(crate) scopes: Scopes<'t>,
-    pub(crate) functions: List<Proto>,
+    pub(crate) functions: Functions,
 }
 
 impl<'t> Resolver<'t> {
@@ -31,7 +32,7 @@ impl<'t> Resolver<'t> {
         Resolver {
             alloc,
             scopes: Scopes::new(alloc, sketch),
-            functions: List::new(alloc),
+            functions: Functions::new(alloc),
         }
     }
 
@@ -98,7 +99,7 @@ impl<'t> Resolver<'t> {
         ensures scopes { self.new.scopes ≡ self.old.scopes }
         ensures functions { IfOk result (λ index. (index ≡ suc (length self.old.functions)) × (self.new.functions ≡ self.old.functions ++ proto ∷ [])) }
     {
-        let Some(index) = number_of(self.functions.as_slice().len()) else {
+        let Some(index) = number_of(self.functions.len()) else {
             return Err(NoMemory);
         };
         self.functions.push(proto)?;
