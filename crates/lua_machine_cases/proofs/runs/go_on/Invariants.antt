@@ -1,6 +1,0 @@
-use Rattle.std.proofs.Common.{◌+◌, ◌<◌, ◌^◌}
-use Rattle.lua_machine.specs.Events.{MachineOf}
-use Rattle.lua_machine_cases.proofs.runs.go_on.Given as goal
-
-abbrev pub invariant-questions : goal.invariant-questions
-invariant-questions g l = MachineOf l.store l.machine × (l.left.calls + l.machine.state.calls < 2 ^ 64)
