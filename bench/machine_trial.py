@@ -4,8 +4,8 @@
     machine_trial.py [CASE ..]     the cases of these names (without a name: the first ones)
 
 The program stands in `machine_program/cases` (`timed` has the one that `machine.py` is to time). It is not proved yet, so it is no
-crate of the repository; here it is laid out as one in a copy. Its table comes from `machine_rows.py`. `rt try` shows the last 20 lines
-that a program prints, so as many are compared. It takes some minutes, most of them to read the crates below.
+crate of the repository; here it is laid out as one in a copy. Its table comes from `machine_rows.py`. Of a long output `rt try`
+shows the last 20 lines, so as many are compared. It takes some minutes, most of them to read the crates below.
 """
 import os
 import pathlib
@@ -56,8 +56,14 @@ def main():
         names = {re.search(r"^case\t(.*)$", case, re.M)[1] for case in cases}
         wanted = [line for line in (crate / "stdout").read_text().splitlines() if line.partition(":")[0] in names]
         os.remove(crate / "stdin"), os.remove(crate / "stdout")
-        ran = subprocess.run(["rt", "try", "--seconds", "600"], cwd=crate, input="\n\n".join(cases) + "\n", capture_output=True, text=True)
-    printed = [line[2:] for line in ran.stdout.splitlines() if line.startswith("| ")]
+        table = "\n\n".join(cases) + "\n"
+        ran = subprocess.run(
+            ["rt", "try", "--seconds", "600"], cwd=crate, input=table, stdout=subprocess.PIPE, stderr=subprocess.STDOUT, text=True
+        )
+    lines = [line.removeprefix("| ") for line in ran.stdout.splitlines()]
+    printed = [line for line in lines if line.partition(":")[0] in names][-SHOWN:]
+    if not printed:
+        print(ran.stdout)
     wanted = wanted[-SHOWN:]
     for line in printed:
         if line not in wanted:
