@@ -150,7 +150,7 @@ module _ (s : StoreView) (m : Machine) (o : Outcome (List Value) Jump) (high : �
 
 -- AN ANSWER OF THE STORE is told as it is, or is put into the store first
 pub tells_at_once : (s : StoreView) (l : Left) (t : Task) (a : Answer) (o : Outcome (List Value) Jump) (high : ℕ) (s' : StoreView) (l' : Left) (n : ℕ) (x : Halted) → ((S : Set) → (K : Set) × IsToldAs K S s.heap a o) → ToldFrom s l t a o high s' l' n x → GoesOnWith s l t (Says a) high s' l' n x
-tells_at_once s l t a o high s' l' n x tells goes g ground modules agree p w there r says leaves well = let k = tells p.within in goes g ground modules agree p w k.0 k.1 r says leaves well
+tells_at_once s l t a o high s' l' n x tells goes g ground modules agree p w _ r says leaves well = let k = tells p.within in goes g ground modules agree p w k.0 k.1 r says leaves well
 
 pub tells_put : (s s₁ : StoreView) (l : Left) (t : Task) (a : Answer) (o : Outcome (List Value) Jump) (high : ℕ) (s' : StoreView) (l' : Left) (n : ℕ) (x : Halted) → TaskIn s t → IsLater s s₁ → PutsAnswer s.heap s₁.heap a o → ToldFrom s₁ l t a o high s' l' n x → GoesOnWith s l t (Says a) high s' l' n x
 tells_put s s₁ l t a o high s' l' n x of later puts goes g ground modules agree p w there r says leaves well =
@@ -209,7 +209,7 @@ module _ (m : Machine) (which : Which) (s : StoreView) (l l' : Left) (back : l' 
   }
 
   pub invocation_refused : (high : ℕ) (text : List ℕ) → text ≡ spent_text which → GoesOnWith s l (task.Invocation m) (Exhausts which) high s l' 0 (record { task = task.Invocation m; halt = halt.Comes (reply.Text text) })
-  invocation_refused high text e g ground modules agree p w there r says leaves well =
+  invocation_refused high text e g ground modules agree p w _ r says leaves well =
       let x = refused g modules p w.waits r says leaves in
       let work = work_is x.0 (Invoke w.task.0) (sym x.1 ∙ w.task.1) in
       let y = x.2.1 in (
@@ -228,7 +228,7 @@ module _ (m : Machine) (which : Which) (s : StoreView) (l l' : Left) (back : l' 
       )
 
   pub load_refused : (high : ℕ) (b : Begun) → GoesOnWith s l (task.Load b m) (Exhausts which) high s l' 0 (record { task = task.Load b m; halt = halt.Comes (reply.Spent which) })
-  load_refused high b g ground modules agree p w there r says leaves well =
+  load_refused high b g ground modules agree p w _ r says leaves well =
       let x = refused g modules p w.waits r says leaves in
       let work = work_is x.0 (DataOf b.title) (sym x.1 ∙ w.task.0) in
       let y = x.2.1 in (

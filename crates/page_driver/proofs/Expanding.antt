@@ -118,7 +118,7 @@ module _ (e : Expander) (l : Left) (text : List ℕ) (e₁ : Expander) (l₁ : L
   }
 
   pub told_goes : (s : StoreView) (high n : ℕ) (a : Answer) (l' : Left) (x : Halted) → text ≡ text_of a → GoesOn s l₁ (task.Expansion e₁) s l' n x → GoesOnWith s l (task.Expansion e) (Gives a) high s l' n x
-  told_goes s high n a l' x is goes g ground modules agree p w there r says leaves well =
+  told_goes s high n a l' x is goes g ground modules agree p w _ r says leaves well =
       let given : (as_text r).response ≡ Gives text = ap text_response says ∙ ap Gives (sym is) in
       let stands = λ (work : Work) (i : p.task ≡ Expanding work).
       let at = c.at work p.first (map as_text p.given) (as_text r) (w.waits work i) given leaves in
