@@ -1,5 +1,5 @@
 -- Arguments that are read, and what follows them; values that stay.
-use Rattle.std.proofs.Common.{◌≡◌, ◌∙◌, ap, sym, subst, refl, ℕ, List, [], ◌∷◌, ◌++◌, append_assoc, Ok, Err}
+use Rattle.std.proofs.Common.{◌≡◌, ◌∙◌, ap, sym, subst, refl, List, [], ◌∷◌, ◌++◌, append_assoc, Ok, Err}
 use Rattle.std.specs.Prelude.{Result}
 use Rattle.wk_base.specs.declared.left.Left.{Left}
 use Rattle.lua_heap.specs.Proc.{Proc}
@@ -7,7 +7,7 @@ use Rattle.lua_heap.specs.Value as kind
 use Rattle.lua_meaning.specs.Arguments.{Plain, Argument, with_argument}
 use Rattle.lua_store.specs.declared.value.Value.{Value}
 use Rattle.lua_store.specs.Seen.{StoreView, seen}
-use Rattle.lua_store.specs.Parts.{IsOf, IsLater}
+use Rattle.lua_store.specs.Parts.{IsLater}
 use Rattle.lua_store.proofs.Later.{of-later, seen-later}
 use Rattle.lua_basic.specs.declared.stop.Stop.{Stop}
 use Rattle.lua_basic.specs.Seen.{values_seen, AllOf, Free, Paid, Refuses}

@@ -1,6 +1,6 @@
 -- All arguments of a function, read one after another.
 use Rattle.std.proofs.Common.{◌≡◌, ◌∙◌, ap, sym, refl, ℕ, ◌+◌, ℤ, true, false, unsigned_abs, List, [], ◌∷◌, ◌++◌, append_assoc, append-nil, Some, None, Ok, Err, codes}
-use Rattle.std.specs.Prelude.{Option, Result, if◌then◌else◌}
+use Rattle.std.specs.Prelude.{Option, if◌then◌else◌}
 use Rattle.lua_string.specs.Texts.{is_code}
 use Rattle.lua_heap.specs.Value.{Value}
 use Rattle.lua_meaning.specs.Scope.{Bytes}

@@ -1,7 +1,6 @@
 -- Searches: what is given of what was found.
-use Rattle.std.proofs.Common.{◌≡◌, ◌∙◌, ap, sym, subst, refl, arith, ℕ, suc, ◌+◌, ◌<◌, ◌≤◌, List, [], ◌∷◌, length, Option, Some, None, Err}
+use Rattle.std.proofs.Common.{◌≡◌, ◌∙◌, ap, sym, refl, ℕ, ◌+◌, List, [], ◌∷◌, Option, Some, None, Err}
 use Rattle.wk_base.specs.declared.left.Left.{Left}
-use Rattle.lua_pattern.specs.declared.pattern.Capture.{Capture}
 use Rattle.lua_pattern.specs.declared.pattern.Match.{Match}
 use Rattle.lua_pattern.specs.declared.pattern.Search.{Search}
 use Rattle.lua_pattern.specs.declared.pattern.Search.TheVariants as search

@@ -19,7 +19,7 @@ use Rattle.lua_pattern.specs.Sizes.{find_bytes, match_bytes}
 use Rattle.lua_format.specs.declared.value.FormatFault.{FormatFault}
 use Rattle.lua_format.specs.declared.value.FormatFault.TheVariants as fault
 use Rattle.lua_format.specs.Format.{formatted}
-use Rattle.lua_heap.specs.Value.{Value, Nil, is_true}
+use Rattle.lua_heap.specs.Value.{Value, is_true}
 use Rattle.lua_heap.specs.Heap.{Heap}
 use Rattle.lua_heap.specs.Related.{Map, Each, none, more, Same, nil, truth, number, text, table, closure, builtin, markup, Stands}
 use Rattle.lua_meaning.specs.Scope.{Bytes}
@@ -29,12 +29,11 @@ use Rattle.lua_meaning.specs.Arguments.{Plain, fails}
 use Rattle.lua_library_agree.specs.Same.{SamePlain}
 use Rattle.lua_library_agree.proofs.Values.{one-each, rest-same, third-same, drop-same, is_true-same, expected-same, a_number-same, number_or-same, a_text-same, text_charge-same}
 use Rattle.lua_library_agree.proofs.Heaps.{costing, giving, giving_text, failing, with-equal, charging}
-use Rattle.lua_strings.specs.Checks.{fourth, code_in, and_those, a_code, codes_from, numbers_from}
+use Rattle.lua_strings.specs.Checks.{fourth, code_in, and_those, codes_from, numbers_from}
 use Rattle.lua_strings.specs.Strings as strings
 use Rattle.lua_strings.specs.Strings.{code_values, of_text}
 use Rattle.lua_strings.specs.Searches.{capture_value, captures_given, find_values, whole_or, match_values, answered, by_pattern, searched, plain_values, find_in, find, match_from}
 use Rattle.lua_strings.specs.Formats.{format_value, wanted_kind, format_message, laid_out, format_by, format_given, format}
-use Rattle.lua_strings.specs.Numbers as numbers
 use Rattle.lua_strings.specs.Numbers.{itself, gives_number, of_number, of_two, of_all}
 use Rattle.lua_strings.specs.declared.table.StringFunction.{StringFunction}
 use Rattle.lua_strings.specs.declared.table.StringFunction.TheVariants as own

@@ -1,5 +1,5 @@
 -- CHECKS OF ARGUMENTS (manual 5) beside those of `Arguments`: the fourth one, numbers from 0 to 255, and all arguments as numbers.
-use Rattle.std.specs.Prelude.{ℕ, ◌+◌, ℤ, Bool, unsigned_abs, List, [], ◌∷◌, Ok, Err, if◌then◌else◌, codes}
+use Rattle.std.specs.Prelude.{ℕ, ◌+◌, ℤ, unsigned_abs, List, [], ◌∷◌, Ok, Err, if◌then◌else◌, codes}
 use Rattle.lua_string.specs.Texts.{is_code}
 use Rattle.lua_heap.specs.Value.{Value}
 use Rattle.lua_meaning.specs.Scope.{Bytes}

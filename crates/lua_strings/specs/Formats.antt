@@ -1,6 +1,6 @@
 -- `string.format` (manual 5.4). It costs first the bytes of its arguments that are strings, also of those that no directive takes, and then
 -- the text that it gives.
-use Rattle.std.specs.Prelude.{ℕ, ◌+◌, List, [], ◌∷◌, map, drop, Result, Ok, Err, codes}
+use Rattle.std.specs.Prelude.{◌+◌, List, [], map, drop, Result, Ok, Err, codes}
 use Rattle.lua_format.specs.declared.value.FormatValue.{FormatValue}
 use Rattle.lua_format.specs.declared.value.FormatValue.TheVariants as given
 use Rattle.lua_format.specs.declared.value.Want.{Want}

@@ -1,5 +1,5 @@
 -- WHAT PARTS OF THE CODE STAND FOR: what was read of all arguments, and the kinds of functions that share a body.
-use Rattle.std.specs.Prelude.{◌≡◌, ℕ, ◌+◌, ◌≤◌, ℤ, List, map, reverse, Option, Result, Ok, Err, codes}
+use Rattle.std.specs.Prelude.{ℕ, ◌+◌, ◌≤◌, ℤ, List, map, reverse, Option, Result, Ok, Err, codes}
 use Rattle.std.specs.Char.{to_ascii_lowercase, to_ascii_uppercase}
 use Rattle.lua_number.specs.declared.arithmetic.NumberFault.{NumberFault}
 use Rattle.lua_number.specs.Whole.{power_of}

@@ -1,6 +1,6 @@
 -- `string.gmatch` (manual 5.4): an iterator is a closure of the library with its state in cells. It reads its pattern at each of its steps
 -- and not before, and each reading is charged.
-use Rattle.std.specs.Prelude.{ℕ, zero, suc, ◌+◌, pos, negsuc, false, List, [], ◌∷◌, ◌++◌, length, Option, Some, None, codes}
+use Rattle.std.specs.Prelude.{ℕ, suc, ◌+◌, pos, false, List, [], ◌∷◌, ◌++◌, length, Option, Some, None, codes}
 use Rattle.lua_pattern.specs.declared.item.Item.{Item}
 use Rattle.lua_pattern.specs.declared.slots.Slot.{Slot}
 use Rattle.lua_pattern.specs.Texts.{bytes}

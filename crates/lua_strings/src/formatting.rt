@@ -91,13 +91,7 @@ fn argument_number(at: usize) -> Result<u64, NoMemory>
 }
 
 /// A value is absent or of another kind than was wanted.
-fn refuse_value(
-    alloc: Global,
-    store: &mut Store,
-    at: usize,
-    want: Want,
-    given: &[Value],
-) -> Stop
+fn refuse_value(alloc: Global, store: &mut Store, at: usize, want: Want, given: &[Value]) -> Stop
     ensures raises { Stops (fails store.old.heap (bad_argument (at + 2) (codes "format") (expected (meaning.wanted_kind want) (values_seen store.old.texts given.now)))) store.new result }
     ensures of { StopOf store.new result }
     ensures later { IsLater store.old store.new }

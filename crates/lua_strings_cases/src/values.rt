@@ -87,12 +87,7 @@ fn put(out: &mut Vec<u8>, bytes: &[u8]) -> Result<(), NoMemory> {
 }
 
 /// Writes a value with a space before it.
-fn put_value(
-    alloc: Global,
-    store: &Store,
-    out: &mut Vec<u8>,
-    value: Value,
-) -> Result<(), NoMemory>
+fn put_value(alloc: Global, store: &Store, out: &mut Vec<u8>, value: Value) -> Result<(), NoMemory>
     requires { IsOf store.now value }
 {
     match value {

@@ -1,4 +1,3 @@
-use Rattle.std.proofs.Common.{◌≡◌, ◌∙◌, ap, sym}
 use Rattle.lua_basic.proofs.Found.{refused}
 use Rattle.lua_strings.proofs.arguments.all_numbers.Goals as goal
 

@@ -1,7 +1,5 @@
 use Rattle.std.proofs.Common.{◌≡◌, ◌∙◌, ap, subst, sym, true, false, unsigned_abs, rules, w64, to_z, of_z}
-use Rattle.std.proofs.lemmas.Int.{to_z-of_z}
 use Rattle.lua_string.specs.Texts.{is_code}
-use Rattle.lua_meaning.specs.Values.{number_in}
 use Rattle.lua_store.specs.Seen.{seen}
 use Rattle.lua_basic.specs.Seen.{values_seen, AllOf}
 use Rattle.lua_strings.specs.Checks.{codes_from}
@@ -41,11 +39,11 @@ values-preserved c =
     let inside : (is_code z ≡ true) × (c.in-Some-byte_with.byte ≡ unsigned_abs z) = rw wide at c.in-Some-byte_with.ensures in (
       all.1,
       λ function.
-      let is = ap (values_seen s.texts) c.in-Some.ensures in
-      let more = values_seen s.texts c.in-Some.more.now in
-      let whole = codes_from 1 function (values_seen s.texts c.args.args.now) in
-      let e = subst (λ vs. behind c.values.text (codes_from c.values.n function vs) ≡ whole) is (c.values.invariant.1 function) in
-      code-read c.values.text c.push.new.self c.values.n c.in_ok-n.n function (seen s.texts c.in-Some.value) more z c.in-Some-byte_with.byte whole c.in_ok-n.ensures c.in_ok-push.ensures.ok (sym c.number_in.ensures ∙ c.in-Some-number_in.is)
+          let is = ap (values_seen s.texts) c.in-Some.ensures in
+          let more = values_seen s.texts c.in-Some.more.now in
+          let whole = codes_from 1 function (values_seen s.texts c.args.args.now) in
+          let e = subst (λ vs. behind c.values.text (codes_from c.values.n function vs) ≡ whole) is (c.values.invariant.1 function) in
+          code-read c.values.text c.push.new.self c.values.n c.in_ok-n.n function (seen s.texts c.in-Some.value) more z c.in-Some-byte_with.byte whole c.in_ok-n.ensures c.in_ok-push.ensures.ok (sym c.number_in.ensures ∙ c.in-Some-number_in.is)
           inside.0 inside.1 e,
     )
 

@@ -1,5 +1,4 @@
 use Rattle.std.proofs.Common.{◌≡◌, ◌∙◌, ap, subst, sym, rules, w64, to_z, of_z}
-use Rattle.lua_meaning.specs.Values.{number_in}
 use Rattle.lua_store.specs.Seen.{seen}
 use Rattle.lua_basic.specs.Seen.{values_seen, AllOf}
 use Rattle.lua_strings.specs.Checks.{numbers_from}
@@ -26,11 +25,11 @@ values-preserved c =
     let pushed = rw wide at c.in_ok-push.ensures.ok in (
       all.1,
       λ function.
-      let is = ap (values_seen s.texts) c.in-Some.ensures in
-      let more = values_seen s.texts c.in-Some.more.now in
-      let whole = numbers_from 1 function (values_seen s.texts c.args.args.now) in
-      let e = subst (λ vs. behind c.values.numbers (numbers_from c.values.n function vs) ≡ whole) is (c.values.invariant.1 function) in
-      number-read c.values.numbers c.push.new.self c.values.n c.in_ok-n.n function (seen s.texts c.in-Some.value) more c.in-Some-number_in.number whole c.in_ok-n.ensures pushed (sym c.number_in.ensures ∙ c.in-Some-number_in.is) e,
+          let is = ap (values_seen s.texts) c.in-Some.ensures in
+          let more = values_seen s.texts c.in-Some.more.now in
+          let whole = numbers_from 1 function (values_seen s.texts c.args.args.now) in
+          let e = subst (λ vs. behind c.values.numbers (numbers_from c.values.n function vs) ≡ whole) is (c.values.invariant.1 function) in
+          number-read c.values.numbers c.push.new.self c.values.n c.in_ok-n.n function (seen s.texts c.in-Some.value) more c.in-Some-number_in.number whole c.in_ok-n.ensures pushed (sym c.number_in.ensures ∙ c.in-Some-number_in.is) e,
     )
 
 pub returns : goal.returns

@@ -1,4 +1,4 @@
-use Rattle.std.proofs.Common.{◌∙◌, ap, sym, subst, drop, ◌+◌, codes}
+use Rattle.std.proofs.Common.{◌∙◌, ap, sym, subst, ◌+◌, codes}
 use Rattle.std.proofs.lemmas.List.{drop-map}
 use Rattle.lua_store.specs.Seen.{seen}
 use Rattle.lua_basic.specs.Seen.{values_seen, Stops}

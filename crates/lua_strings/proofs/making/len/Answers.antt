@@ -1,4 +1,4 @@
-use Rattle.std.proofs.Common.{◌∙◌, ap, Err, refl, length, pos, ◌∷◌, [], sym}
+use Rattle.std.proofs.Common.{◌∙◌, ap, Err, refl}
 use Rattle.std.proofs.lemmas.Result.{err_from_is_err_and}
 use Rattle.lua_basic.specs.Arguments.{text_bytes}
 use Rattle.lua_basic.proofs.Found.{stopped, found}

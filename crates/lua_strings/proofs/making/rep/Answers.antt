@@ -1,10 +1,8 @@
-use Rattle.std.proofs.Common.{◌≡◌, ◌∙◌, ap, refl, Err, pos, negsuc, codes, rules, w64, to_z, of_z, length}
+use Rattle.std.proofs.Common.{◌≡◌, ◌∙◌, ap, refl, Err, codes, rules, w64, to_z, of_z}
 use Rattle.std.proofs.lemmas.Result.{err_from_is_err_and}
-use Rattle.lua_meaning.specs.Values as meaning
-use Rattle.lua_meaning.specs.Arguments.{a_text, a_number, number_or}
+use Rattle.lua_meaning.specs.Arguments.{a_number}
 use Rattle.lua_basic.specs.Arguments.{text_bytes}
-use Rattle.lua_basic.proofs.Found.{stopped}
-use Rattle.lua_strings.proofs.Given.{past, past_free, ended}
+use Rattle.lua_strings.proofs.Given.{past, ended}
 use Rattle.lua_strings.proofs.making.rep.Goals as goal
 
 pub a_number-requires : goal.a_number-requires

@@ -1,10 +1,6 @@
-use Rattle.std.proofs.Common.{◌≡◌, ◌∙◌, ap, Err, sym, subst, Some, None, ◌∷◌, [], refl}
+use Rattle.std.proofs.Common.{◌∙◌, ap, Err, refl}
 use Rattle.std.proofs.lemmas.Result.{err_from_is_err_and}
-use Rattle.lua_basic.specs.Seen.{Free}
 use Rattle.lua_basic.proofs.Found.{stopped}
-use Rattle.lua_meaning.specs.Arguments.{some_value}
-use Rattle.lua_strings.proofs.Given.{past_free}
-use Rattle.lua_strings.specs.Found.{all_of}
 use Rattle.lua_strings.proofs.numbers.of_all.Goals as goal
 
 pub returns-in_err-numbers-clause-answer : goal.returns-in_err-numbers-clause-answer

@@ -1,4 +1,4 @@
-use Rattle.std.proofs.Common.{◌≡◌, ◌∙◌, ap, subst}
+use Rattle.std.proofs.Common.{◌∙◌, ap, subst}
 use Rattle.lua_meaning.specs.Arguments.{text_charge}
 use Rattle.lua_basic.specs.Seen.{values_seen, AllOf}
 use Rattle.lua_strings.proofs.Taken.{taken_more}

@@ -1,10 +1,9 @@
-use Rattle.std.proofs.Common.{◌≡◌, ◌∙◌, ap, refl, Err, pos, negsuc, codes, rules, w64, to_z, of_z, length}
+use Rattle.std.proofs.Common.{◌≡◌, ◌∙◌, ap, refl, Err, negsuc, codes, rules, w64, to_z, of_z}
 use Rattle.std.proofs.lemmas.Result.{err_from_is_err_and}
 use Rattle.lua_meaning.specs.Values as meaning
-use Rattle.lua_meaning.specs.Arguments.{a_text, a_number, number_or}
+use Rattle.lua_meaning.specs.Arguments.{a_number, number_or}
 use Rattle.lua_basic.specs.Arguments.{text_bytes}
-use Rattle.lua_basic.proofs.Found.{stopped}
-use Rattle.lua_strings.proofs.Given.{past, past_free, ended}
+use Rattle.lua_strings.proofs.Given.{past, ended}
 use Rattle.lua_string.specs.Places.{sub_of}
 use Rattle.lua_strings.proofs.places.sub.Goals as goal
 
