@@ -5,3 +5,4 @@ pub mod Lengths
 pub mod Sought
 pub mod Rows
 pub mod StringsAgree
+pub mod IteratorsAgree

@@ -55,7 +55,7 @@ captures-same s (c ∷ cs) = more _ _ _ _ (capture-same s c) (captures-same s cs
 find_values-same : {m : Map} (s : Bytes) (found : Match) → Each (Same m) (find_values s found) (find_values s found)
 find_values-same s found = more _ _ _ _ (number _) (more _ _ _ _ (number _) (captures-same s found.captures))
 
-whole_or-same : {m : Map} (s whole : Bytes) (cs : List Capture) → Each (Same m) (whole_or s whole cs) (whole_or s whole cs)
+pub whole_or-same : {m : Map} (s whole : Bytes) (cs : List Capture) → Each (Same m) (whole_or s whole cs) (whole_or s whole cs)
 whole_or-same s whole [] = one-each (text _)
 whole_or-same s whole (c ∷ cs) = captures-same s (c ∷ cs)
 

@@ -1,6 +1,6 @@
 -- `string.gmatch` (manual 5.4): an iterator is a closure of the library with its state in cells. It reads its pattern at each of its steps
 -- and not before, and each reading is charged.
-use Rattle.std.specs.Prelude.{ℕ, suc, ◌+◌, pos, false, List, [], ◌∷◌, ◌++◌, length, Option, Some, None, codes}
+use Rattle.std.specs.Prelude.{ℕ, ◌+◌, pos, false, List, [], ◌∷◌, length, Option, Some, None, codes}
 use Rattle.lua_pattern.specs.declared.item.Item.{Item}
 use Rattle.lua_pattern.specs.declared.slots.Slot.{Slot}
 use Rattle.lua_pattern.specs.Texts.{bytes}
@@ -11,27 +11,23 @@ use Rattle.lua_string.specs.Walk.{Walk, Stops, Meets, walk}
 use Rattle.lua_heap.specs.declared.library.Library.{Library}
 use Rattle.lua_heap.specs.declared.library.Library.TheVariants.{GmatchStep}
 use Rattle.lua_heap.specs.Value.{Value, Nil, Number, Text, Closure}
-use Rattle.lua_heap.specs.Heap.{Closed, Iterator, Heap, cell_at, closure_at, set_cell_in}
+use Rattle.lua_heap.specs.Heap.{Closed, Iterator, Heap, new_cell, new_closure, cell_at, closure_at, set_cell_in}
 use Rattle.lua_meaning.specs.Charges.{closure_charge}
 use Rattle.lua_meaning.specs.Scope.{Bytes}
 use Rattle.lua_meaning.specs.Values.{first, rest}
 use Rattle.lua_meaning.specs.Arguments.{Plain, Gives, gives, fails, with_argument, with_charge, a_text}
 use Rattle.lua_strings.specs.Searches.{match_values, malformed}
 
--- AN ITERATOR with these values in new cells
-abbrev pub numbers_of : ℕ → List Value → List ℕ
-numbers_of n [] = []
-numbers_of n (v ∷ vs) = n ∷ numbers_of (suc n) vs
+-- AN ITERATOR with these values in new cells, which are made one after another
+abbrev pub new_cells : {X : Type 0} → List Value → Heap X → Heap X × List ℕ
+new_cells [] h = (h, [])
+new_cells (v ∷ vs) h = let cell = new_cell h v in let more = new_cells vs cell.0 in (more.0, cell.1 ∷ more.1)
 
 abbrev pub make_iterator : {X : Type 0} → Library → List Value → Heap X → Plain X
-make_iterator step values h = record {
-  charge = closure_charge;
-  heap = record h {
-    cells = h.cells ++ values;
-    closures = h.closures ++ Iterator step (numbers_of (length h.cells) values) ∷ [];
-  };
-  end = Gives (Closure (length h.closures) ∷ []);
-}
+make_iterator step values h =
+    let cells = new_cells values h in
+    let made = new_closure cells.0 (Iterator step cells.1) in
+    record { charge = closure_charge; heap = made.0; end = Gives (Closure made.1 ∷ []) }
 
 abbrev pub cells_of : {X : Type 0} → Option (Closed X) → List ℕ
 cells_of (Some (Iterator step cells)) = cells
