@@ -1,0 +1,75 @@
+-- WHAT PARTS OF THE CODE STAND FOR: what was read of all arguments, and the kinds of functions that share a body.
+use Rattle.std.specs.Prelude.{ℕ, ◌+◌, ◌≤◌, ℤ, List, map, reverse, Option, Result, Ok, Err, codes}
+use Rattle.std.specs.Char.{to_ascii_lowercase, to_ascii_uppercase}
+use Rattle.lua_number.specs.declared.arithmetic.NumberFault.{NumberFault}
+use Rattle.lua_number.specs.Whole.{power_of}
+use Rattle.lua_string.specs.Whole.{abs_of, fmod_of, max_of, min_of}
+use Rattle.lua_pattern.specs.declared.pattern.Match.{Match}
+use Rattle.lua_pattern.specs.declared.pattern.Search.{Search}
+use Rattle.lua_pattern.specs.declared.pattern.Search.TheVariants as search
+use Rattle.lua_pattern.specs.Sizes.{find_bytes, match_bytes}
+use Rattle.lua_heap.specs.Value.{Value}
+use Rattle.lua_meaning.specs.Scope.{Bytes}
+use Rattle.lua_meaning.specs.Messages.{bad_argument, expected}
+use Rattle.lua_meaning.specs.Arguments.{Argument}
+use Rattle.lua_basic.specs.Seen.{values_seen}
+use Rattle.lua_strings.specs.Checks.{out_of_range}
+use Rattle.lua_strings.specs.Numbers.{itself}
+use Rattle.lua_strings.specs.Searches as searches
+use Rattle.lua_strings.specs.declared.arguments.NumbersRead.{NumbersRead}
+use Rattle.lua_strings.specs.declared.arguments.NumbersRead.TheVariants as numbers
+use Rattle.lua_strings.specs.declared.arguments.CodesRead.{CodesRead}
+use Rattle.lua_strings.specs.declared.arguments.CodesRead.TheVariants as bytes
+use Rattle.lua_strings.specs.declared.making.Change.{Change}
+use Rattle.lua_strings.specs.declared.making.Change.TheVariants as change
+use Rattle.lua_strings.specs.declared.numbers.OfOne.{OfOne}
+use Rattle.lua_strings.specs.declared.numbers.OfOne.TheVariants as one
+use Rattle.lua_strings.specs.declared.numbers.OfTwo.{OfTwo}
+use Rattle.lua_strings.specs.declared.numbers.OfTwo.TheVariants as two
+use Rattle.lua_strings.specs.declared.numbers.OfAll.{OfAll}
+use Rattle.lua_strings.specs.declared.numbers.OfAll.TheVariants as all
+use Rattle.lua_strings.specs.declared.searching.Wanted.{Wanted}
+use Rattle.lua_strings.specs.declared.searching.Wanted.TheVariants as wanted
+
+-- ARGUMENTS that were read, or the first that is none
+abbrev pub found_numbers : Bytes → List (List ℕ) → NumbersRead → Argument (List ℤ)
+found_numbers function texts (numbers.All ns) = Ok ns
+found_numbers function texts (numbers.Refused n given) = Err (bad_argument n function (expected (codes "number") (values_seen texts given.now)))
+
+abbrev pub found_codes : Bytes → List (List ℕ) → CodesRead → Argument (List ℕ)
+found_codes function texts (bytes.All text) = Ok text
+found_codes function texts (bytes.NotANumber n given) = Err (bad_argument n function (expected (codes "number") (values_seen texts given.now)))
+found_codes function texts (bytes.OutOfRange n) = Err (out_of_range n function)
+
+-- what a text becomes
+abbrev pub change_of : Change → Bytes → Bytes
+change_of change.Lower s = map to_ascii_lowercase s
+change_of change.Upper s = map to_ascii_uppercase s
+change_of change.Reverse s = reverse s
+
+-- what numbers become
+abbrev pub one_of : OfOne → ℤ → Result ℤ NumberFault
+one_of one.Abs n = abs_of n
+one_of one.Itself n = itself n
+
+abbrev pub two_of : OfTwo → ℤ → ℤ → Result ℤ NumberFault
+two_of two.Fmod a b = fmod_of a b
+two_of two.Pow a b = power_of a b
+
+abbrev pub all_of : OfAll → List ℤ → Option ℤ
+all_of all.Greatest ns = max_of ns
+all_of all.Least ns = min_of ns
+
+-- what is wanted of a match: the bytes of its texts, and its values
+abbrev pub bytes_of : Wanted → Match → ℕ
+bytes_of wanted.Find m = find_bytes m
+bytes_of wanted.Match m = match_bytes m
+
+abbrev pub values_of : Wanted → Bytes → Match → List Value
+values_of wanted.Find s m = searches.find_values s m
+values_of wanted.Match s m = searches.match_values s m
+
+-- a match is within a budget, where there is one
+abbrev pub IsCovered : (Match → ℕ) → ℕ → Search → Type 0
+IsCovered size budget (search.Found m tries) = tries + size m ≤ budget
+IsCovered size budget found = Unit {0}

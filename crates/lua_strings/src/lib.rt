@@ -1,0 +1,34 @@
+//! The functions of `string` and `math` that call back nobody and make no iterator, over the store of a page (manual 5.4, 5.6).
+//!
+//! What they give stands in `specs/Strings.antt`, `specs/Searches.antt`, `specs/Formats.antt` and `specs/Numbers.antt`, with their checks of
+//! arguments in `specs/Checks.antt`. Read these first, then `call`.
+//!
+//! - `table`: which functions they are
+//! - `paying`: steps that are taken, and texts that are paid for
+//! - `messages`: messages that name an argument by any number
+//! - `arguments`: all arguments as numbers or codes
+//! - `places`: `byte` and `sub`
+//! - `making`: `char`, `len`, `lower`, `upper`, `rep` and `reverse`
+//! - `captures`: what is given of a match
+//! - `searching`: `find` and `match`
+//! - `formatting`: `format`
+//! - `numbers`: the functions of `math`
+//! - `call`: one of them is called
+//! - `examples`: worked examples
+#![tactic(auto)]
+
+pub mod arguments;
+pub mod call;
+pub mod captures;
+pub mod examples;
+pub mod formatting;
+pub mod making;
+pub mod messages;
+pub mod numbers;
+pub mod paying;
+pub mod places;
+pub mod searching;
+pub mod table;
+
+pub use call::string_call;
+pub use table::{StringFunction, string_function};
