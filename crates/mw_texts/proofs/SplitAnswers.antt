@@ -1,0 +1,33 @@
+-- What `split` gives, by the pattern that was read.
+use Rattle.std.proofs.Common.{◌≡◌, ◌∙◌, ap, sym, subst, arith, ℕ, ◌+◌, ◌<◌, ◌≤◌, List, [], ◌∷◌, length, Ok, Err}
+use Rattle.std.specs.Prelude.{Result}
+use Rattle.wk_base.specs.declared.left.Left.{Left}
+use Rattle.lua_pattern.specs.declared.read.PatternFault.{PatternFault}
+use Rattle.lua_pattern.specs.declared.read.PatternFault.TheVariants as fault
+use Rattle.mw_text.specs.declared.answers.PartsAnswer.TheVariants as parts
+use Rattle.mw_text.specs.Answers.{total}
+use Rattle.mw_text.specs.Split.{Sought, parts_of, IsSoughtFault, IsSplit}
+use Rattle.lua_heap.specs.Proc.{Proc}
+use Rattle.lua_heap.specs.Heap.{Heap}
+use Rattle.lua_meaning.specs.Scope.{Bytes}
+use Rattle.lua_store.specs.Seen.{StoreView}
+use Rattle.lua_basic.specs.declared.stop.Stop.{Stop}
+use Rattle.lua_basic.specs.Seen.{Stops}
+use Rattle.mw_ustrings.specs.Faults.{FaultStops}
+use Rattle.mw_texts.specs.Texts.{parts_charge, gives_parts, splits}
+
+bytes_within : (ts : List Bytes) → total ts ≤ parts_charge ts
+bytes_within [] = omega arith
+bytes_within (t ∷ ts) = let more = bytes_within ts in omega (arith, more)
+
+pub split_found : (h : Heap Proc) (s : Bytes) (choice : Result Sought ℕ) (budget : ℕ) (ts : List Bytes) (n : ℕ) → IsSplit budget s choice (parts.Parts ts n) → splits h s choice ≡ gives_parts h n ts
+split_found h s (Ok sought) budget ts n p = ap (λ k. gives_parts h k (parts_of sought s).1) (sym p.2) ∙ ap (gives_parts h n) (sym p.1)
+split_found h s (Err k) budget ts n p = absurd p
+
+pub split_spent : (h : Heap Proc) (s : Bytes) (choice : Result Sought ℕ) (budget : ℕ) → IsSplit budget s choice parts.Spent → budget < (splits h s choice).charge
+split_spent h s (Ok sought) budget p = let more = bytes_within (parts_of sought s).1 in omega (arith, p, more)
+split_spent h s (Err k) budget p = absurd p
+
+pub split_fault : (s : Bytes) (choice : Result Sought ℕ) (e : PatternFault) (w t : StoreView) (end : Stop) → IsSoughtFault choice e → FaultStops w t e end → Stops (splits w.heap s choice) t end
+split_fault s choice (fault.At n) w t end is stops = subst (λ x. Stops (splits w.heap s x) t end) (sym is) stops
+split_fault s choice fault.NoMemory w t end is stops = subst (λ x. Stops (splits w.heap s choice) t x) (sym stops) tt

@@ -1,0 +1,6 @@
+use Rattle.std.proofs.Common.{◌≡◌, take, map}
+use Rattle.lua_basic.specs.Arguments.{text_bytes}
+use Rattle.mw_texts.proofs.listing.copy_items.Given as goal
+
+abbrev pub invariant-each : goal.invariant-each
+invariant-each l = l.copies ≡ map text_bytes (take l.item-index l.items)

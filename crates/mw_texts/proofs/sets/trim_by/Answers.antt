@@ -1,0 +1,18 @@
+use Rattle.std.proofs.Common.{Err}
+use Rattle.std.specs.Option.{option_map}
+use Rattle.mw_text.specs.Sets.{chosen_set}
+use Rattle.lua_basic.proofs.Found.{for_nothing}
+use Rattle.mw_texts.specs.Texts.{by_set, trims}
+use Rattle.mw_texts.proofs.SetAnswers.{trim_answered, set_fault}
+use Rattle.mw_texts.proofs.sets.trim_by.Goals as goal
+
+pub returns-in-Err-clause-answer : goal.returns-in-Err-clause-answer
+returns-in-Err-clause-answer c =
+    let s = c.args.store.now in
+    for_nothing (by_set s.heap (trims s.heap c.args.s.now) (chosen_set (option_map (λ bytes. bytes.now) c.args.set))) s c.refuse_pattern.new.store c.args.left.now (Err c.refuse_pattern.result)
+    (set_fault (trims s.heap c.args.s.now) _ _ s c.refuse_pattern.new.store c.refuse_pattern.result c.in-Err.ensures c.refuse_pattern.ensures.stops)
+
+pub returns-in-Ok-clause-answer : goal.returns-in-Ok-clause-answer
+returns-in-Ok-clause-answer c =
+    let s = c.args.store.now in
+    trim_answered s.heap s c.args.left.now c.give_answer.new.store c.give_answer.new.left c.give_answer.result c.args.left.now.steps c.args.s.now c.in-Ok.answer c.give_answer.ensures.answer _ c.in-Ok.ensures

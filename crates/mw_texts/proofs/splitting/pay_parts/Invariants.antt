@@ -1,0 +1,10 @@
+use Rattle.std.proofs.Common.{length}
+use Rattle.mw_frames.specs.Costs.{SoFar}
+use Rattle.mw_texts.specs.Texts.{parts_charge}
+use Rattle.mw_texts.proofs.splitting.pay_parts.Given as goal
+
+abbrev pub invariant-each : goal.invariant-each
+invariant-each l = SoFar l.initial.left l.left (parts_charge l.rest) (parts_charge l.parts)
+
+abbrev pub decreases-each : goal.decreases-each
+decreases-each l = length l.rest

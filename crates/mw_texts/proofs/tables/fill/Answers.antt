@@ -1,0 +1,24 @@
+use Rattle.std.proofs.Common.{◌∙◌, ap, sym, refl, arith, suc}
+use Rattle.std.specs.Prelude.{pos}
+use Rattle.lua_heap.specs.Heap.{set_in}
+use Rattle.lua_heap.specs.Value.{Number, Text}
+use Rattle.lua_graph.specs.Put.{filled}
+use Rattle.lua_store.proofs.Later.{later-then, later-itself}
+use Rattle.mw_texts.specs.Texts.{text_entries}
+use Rattle.mw_texts.proofs.tables.fill.Goals as goal
+
+pub each-init : goal.each-init
+each-init c = (refl, c.requires, later-itself c.args.store.now)
+
+pub each-preserved : goal.each-preserved
+each-preserved c =
+    let i = c.each.invariant in
+    let later = c.set_text.ensures.later in
+    let t = c.args.table.at in
+    let h = c.set_text.new.store.heap in (
+      ap (λ n. filled t (text_entries n c.in-Some.more.now) h) c.in_ok-at.ensures
+          ∙ ap (filled t (text_entries (suc c.each.at) c.in-Some.more.now)) (c.in_ok-set_text.ensures.set ∙ ap (λ x. set_in c.each.store.heap t (Number (pos c.each.at)) (Text x)) c.as_slice.ensures)
+          ∙ ap (λ xs. filled t (text_entries c.each.at xs) c.each.store.heap) (sym c.in-Some.ensures) ∙ i.0,
+      omega (arith, i.1, later.tables),
+      later-then c.args.store.now c.each.store c.set_text.new.store i.2 later,
+    )

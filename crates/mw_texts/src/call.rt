@@ -1,0 +1,67 @@
+//! A function of `mw.text` is called.
+ghost use Rattle.lua_store.specs.Parts.{IsLater};
+ghost use Rattle.lua_basic.specs.Seen.{values_seen, AllOf, Paid, AnswerOf};
+ghost use Rattle.mw_texts.specs.Names.{TagNamesOf};
+ghost use Rattle.mw_texts.specs.Table.{given_by, answer_of};
+
+use crate::listing::list_to_text;
+use crate::plain::{decode, nowiki, truncate};
+use crate::sets::{encode, trim};
+use crate::splitting::split;
+use crate::table::TextFunction;
+use crate::tagging::{TagNames, tag};
+use lua_basic::Stop;
+use lua_store::{Store, Value};
+use mw_frame_texts::costs::pay_given;
+use std::alloc::Global;
+use wk_base::{Left, List};
+
+/// What a function gives behind the charge of its arguments.
+fn give(
+    alloc: Global,
+    store: &mut Store,
+    left: &mut Left,
+    names: TagNames,
+    which: TextFunction,
+    args: &[Value],
+) -> Result<List<Value>, Stop>
+    requires args { AllOf store.old args.now }
+    requires names { TagNamesOf store.old names }
+    ensures answer { Paid (given_by which (values_seen store.old.texts args.now) store.old.heap) store.old left.old store.new left.new result }
+    ensures of { AnswerOf store.new result }
+    ensures later { IsLater store.old store.new }
+{
+    match which {
+        TextFunction::Trim => trim(alloc, store, left, args),
+        TextFunction::Split => split(alloc, store, left, args),
+        TextFunction::Encode => encode(alloc, store, left, args),
+        TextFunction::Decode => decode(alloc, store, left, args),
+        TextFunction::ListToText => list_to_text(alloc, store, left, args),
+        TextFunction::Nowiki => nowiki(alloc, store, left, args),
+        TextFunction::Tag => tag(alloc, store, left, names, args),
+        TextFunction::Truncate => truncate(alloc, store, left, args),
+    }
+}
+
+/// What a function of `mw.text` gives for these arguments, after its charge, of which the bytes of the arguments that are strings come
+/// first. `names` are those of the fields that `tag` reads.
+///
+/// It is `Stop::Raised` exactly where it raises and its charge is covered, with the level whose place the caller puts in front, and
+/// `Stop::Spent` exactly where its charge is not covered; then the store is as it was.
+pub fn text_call(
+    alloc: Global,
+    store: &mut Store,
+    left: &mut Left,
+    names: TagNames,
+    which: TextFunction,
+    args: &[Value],
+) -> Result<List<Value>, Stop>
+    requires args { AllOf store.old args.now }
+    requires names { TagNamesOf store.old names }
+    ensures answer { Paid (answer_of which (values_seen store.old.texts args.now) store.old.heap) store.old left.old store.new left.new result }
+    ensures of { AnswerOf store.new result }
+    ensures later { IsLater store.old store.new }
+{
+    pay_given(store, left, args)?;
+    give(alloc, store, left, names, which, args)
+}

@@ -1,0 +1,28 @@
+//! The functions of `mw.text` that call back nobody, over the store of a page (Scribunto, Text library).
+//!
+//! What each function gives stands in `specs/Texts.antt`; begin there.
+//!
+//! - `sets`: `trim` and `encode`
+//! - `splitting`: `split`
+//! - `tables`: a new table with texts
+//! - `plain`: `decode`, `nowiki` and `truncate`
+//! - `listing`: `listToText`
+//! - `tagging`: `tag`
+//! - `table`: the functions by name
+//! - `call`: a function is called
+#![tactic(auto)]
+
+pub mod call;
+pub mod listing;
+pub mod plain;
+pub mod sets;
+pub mod splitting;
+pub mod table;
+pub mod tables;
+pub mod tagging;
+#[cfg(test)]
+mod tests;
+
+pub use call::text_call;
+pub use table::TextFunction;
+pub use tagging::TagNames;

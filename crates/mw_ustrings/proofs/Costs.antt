@@ -1,0 +1,36 @@
+-- Answers that are paid for.
+use Rattle.std.proofs.Common.{◌≡◌, ◌∙◌, ap, sym, subst, refl, arith, ℕ, ◌+◌, ◌<◌, ◌≤◌, List, length, Ok, Err}
+use Rattle.std.specs.Prelude.{Result}
+use Rattle.wk_base.specs.declared.left.Left.{Left}
+use Rattle.lua_heap.specs.Proc.{Proc}
+use Rattle.lua_heap.specs.Heap.{Heap}
+use Rattle.lua_heap.specs.Value as kind
+use Rattle.lua_meaning.specs.Arguments.{Plain, Gives, costs}
+use Rattle.lua_store.specs.declared.value.Value.{Value}
+use Rattle.lua_store.specs.Seen.{StoreView}
+use Rattle.lua_basic.specs.declared.stop.Stop.{Stop}
+use Rattle.lua_basic.specs.declared.stop.Stop.TheVariants as stop
+use Rattle.lua_basic.specs.Seen.{values_seen, Covers, Paid}
+use Rattle.mw_frames.specs.Costs.{Took, Unpaid}
+use Rattle.mw_frames.proofs.Sums.{unpaid_then}
+use Rattle.mw_frame_texts.proofs.Charged.{lacked}
+
+-- values that are given for so many steps
+abbrev gave : ℕ → Heap Proc → List kind.Value → Plain Proc
+gave n h vs = record { charge = n; heap = h; end = Gives vs }
+
+pub values_cover : (n : ℕ) (h : Heap Proc) (t : StoreView) (l m : Left) (ws : List kind.Value) (vs : List Value) → Took n l m → t.heap ≡ h → values_seen t.texts vs ≡ ws
+    → Covers (costs n h ws) l t m (Gives (values_seen t.texts vs))
+values_cover n h t l m ws vs took heap seen = record {
+  covered = took.0;
+  answer = ap (λ x. gave n x ws) (sym heap) ∙ ap (λ x. gave n t.heap x) (sym seen);
+  rest = took.1;
+}
+
+-- A second part of a sum is not there
+pub lacked_second : (a b : ℕ) (p : Plain Proc) (s : StoreView) (l m n : Left) (e : Stop) (r : Result (List Value) Stop) → Took a l m → Unpaid b m n e → a + b ≤ p.charge → r ≡ Err e → Paid p s l s n r
+lacked_second a b p s l m n e r took unpaid le is = lacked (a + b) p s l n e r (unpaid_then a b l m n e took unpaid) le is
+
+-- A charge that exceeds what is left
+pub exceeded : (p : Plain Proc) (s : StoreView) (l m : Left) (e : Stop) → l.steps < p.charge → e ≡ stop.Spent → m ≡ record l { steps = 0 } → Paid p s l s m (Err e)
+exceeded p s l m e short is rest = subst (λ x. Paid p s l s m (Err x)) (sym is) (record { short = short; same = refl; rest = rest })

@@ -1,0 +1,27 @@
+use Rattle.std.proofs.Common.{◌∙◌, ap, arith, Err}
+use Rattle.std.proofs.lemmas.Result.{err_from_is_err_and}
+use Rattle.std.proofs.lemmas.List.Elements.{recursion_from_All}
+use Rattle.lua_pattern.specs.Sizes.{match_bytes}
+use Rattle.mw_frames.proofs.Sums.{took_then}
+use Rattle.mw_frame_texts.proofs.Charged.{lacked}
+use Rattle.mw_ustrings.proofs.Costs.{values_cover, lacked_second}
+use Rattle.mw_ustrings.proofs.finding.give_match.Goals as goal
+
+pub match_values-requires-clause-captures : goal.match_values-requires-clause-captures
+match_values-requires-clause-captures c = recursion_from_All _ _ c.requires.captures
+
+pub returns-in_err-pay-clause-answer : goal.returns-in_err-pay-clause-answer
+returns-in_err-pay-clause-answer c =
+    let p = err_from_is_err_and c.from_residual.result c.from_residual.ensures.1 in
+    lacked c.args.tries _ c.args.store.now c.args.left.now c.pay.new.left c.in_err-pay.field-0.0 c.from_residual.result c.in_err-pay.ensures (omega arith) (p.1 ∙ ap Err p.2)
+
+pub returns-in_err-pay_match-clause-answer : goal.returns-in_err-pay_match-clause-answer
+returns-in_err-pay_match-clause-answer c =
+    let p = err_from_is_err_and c.from_residual-in_err-pay_match.result c.from_residual-in_err-pay_match.ensures.1 in
+    lacked_second c.args.tries (match_bytes c.args.found.now) _ c.args.store.now c.args.left.now c.pay.new.left c.pay_match.new.left c.in_err-pay_match.field-0.0 c.from_residual-in_err-pay_match.result c.in_ok-pay.ensures
+    (c.in_err-pay_match.ensures) (omega arith) (p.1 ∙ ap Err p.2)
+
+pub returns-clause-answer : goal.returns-clause-answer
+returns-clause-answer c =
+    let took = took_then c.args.tries (match_bytes c.args.found.now) c.args.left.now c.pay.new.left c.pay_match.new.left c.in_ok-pay.ensures (c.in_ok-pay_match.ensures) in
+    values_cover _ c.args.store.now.heap c.match_values.new.store c.args.left.now c.pay_match.new.left _ c.in_ok-values.values took c.match_values.ensures.heap c.in_ok-values.ensures.values

@@ -1,0 +1,30 @@
+use Rattle.std.proofs.Common.{◌∙◌, ap, refl, Ok, Err, [], ◌∷◌}
+use Rattle.std.specs.Prelude.{codes}
+use Rattle.std.proofs.lemmas.Result.{err_from_is_err_and}
+use Rattle.lua_basic.specs.Arguments.{text_bytes}
+use Rattle.lua_basic.specs.Seen.{values_seen}
+use Rattle.mw_ustrings.proofs.ReadArguments.{handed_on_free, turned_down_free}
+use Rattle.lua_meaning.specs.Arguments.{a_text, gives}
+use Rattle.lua_basic.specs.Seen.{Free}
+use Rattle.mw_ustrings.specs.Ustring.{length_in}
+use Rattle.mw_ustrings.proofs.wholes.len.Goals as goal
+
+pub returns-in_err-text-clause-answer : goal.returns-in_err-text-clause-answer
+returns-in_err-text-clause-answer c =
+    let p = err_from_is_err_and c.from_residual.result c.from_residual.ensures.1 in
+    let s = c.args.store.now in
+    let vs = values_seen s.texts c.args.args.now in
+    turned_down_free _ (a_text 1 (codes "len") vs) _ s s c.a_text.new.store c.in_err-text.field-0.0 c.from_residual.result refl c.in_err-text.ensures.refused refl (p.1 ∙ ap Err p.2)
+
+pub returns-clause-answer : goal.returns-clause-answer
+returns-clause-answer c =
+    let s = c.args.store.now in
+    let vs = values_seen s.texts c.args.args.now in
+    let t = c.a_text.new.store in
+    let answer : Free (gives s.heap (length_in (text_bytes c.in_ok-text.text) ∷ [])) t (Ok c.in_ok-values.values) =
+        rw (c.in_ok-values.ensures, c.in_ok-length.ensures.value t.texts, c.as_slice.ensures, c.in_ok-text.ensures.same) refl in
+    handed_on_free _ (a_text 1 (codes "len") vs) (text_bytes c.in_ok-text.text) _ s t (Ok c.in_ok-values.values) c.in_ok-text.ensures.found refl
+    answer
+
+pub returns-clause-of : goal.returns-clause-of
+returns-clause-of c = rw c.in_ok-values.ensures (c.in_ok-length.ensures.of c.a_text.new.store, tt)

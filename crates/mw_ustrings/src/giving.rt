@@ -1,0 +1,68 @@
+//! What is given, after what it costs.
+ghost use Rattle.std.specs.Prelude.{◌≡◌, ℕ, List as Items, pos, [], ◌∷◌, IfOk};
+ghost use Rattle.lua_heap.specs.Value as kind;
+ghost use Rattle.lua_meaning.specs.Arguments.{gives, costs, gives_text};
+ghost use Rattle.lua_store.specs.Seen.{StoreView, seen};
+ghost use Rattle.lua_store.specs.Parts.{IsOf, IsLater};
+ghost use Rattle.lua_basic.specs.Seen.{Free, Paid, AnswerOf};
+ghost use Rattle.lua_basic.specs.declared.stop.Stop.TheVariants as stop;
+
+use lua_basic::Stop;
+use lua_basic::values::single;
+use lua_store::{Store, Value};
+use mw_frames::paying::pay;
+use std::alloc::Global;
+use wk_base::{Left, List, NoMemory};
+
+/// No step stays.
+pub fn spend(left: &mut Left) -> Stop
+    ensures stop_ { result ≡ stop.Spent }
+    ensures rest { left.new ≡ record left.old { steps = 0 } }
+{
+    left.steps = 0;
+    Stop::Spent
+}
+
+/// A count as a value. One that no number of Lua reaches does not fit in memory.
+pub fn number(n: usize) -> Result<Value, NoMemory>
+    ensures of { IfOk result (λ v. (s : StoreView) → IsOf s v) }
+    ensures value { IfOk result (λ v. (texts : Items (Items ℕ)) → seen texts v ≡ kind.Number (pos n)) }
+{
+    match i64::try_from(n) {
+        Ok(n) => Ok(Value::Number(n)),
+        Err(_) => Err(NoMemory),
+    }
+}
+
+/// A text is given, after a step for each of its bytes.
+pub fn give_text(
+    alloc: Global,
+    store: &mut Store,
+    left: &mut Left,
+    text: &[u8],
+) -> Result<List<Value>, Stop>
+    ensures answer { Paid (gives_text store.old.heap text.now) store.old left.old store.new left.new result }
+    ensures of { AnswerOf store.new result }
+    ensures later { IsLater store.old store.new }
+{
+    pay(left, text.len() as u64)?;
+    let text = store.text(text)?;
+    let values = single(alloc, Value::Text(text))?;
+    Ok(values)
+}
+
+/// Nil is given, after so many steps.
+pub fn give_nothing(
+    alloc: Global,
+    store: &mut Store,
+    left: &mut Left,
+    steps: u64,
+) -> Result<List<Value>, Stop>
+    ensures answer { Paid (costs steps store.old.heap (kind.Nil ∷ [])) store.old left.old store.new left.new result }
+    ensures of { AnswerOf store.new result }
+    ensures same { store.new ≡ store.old }
+{
+    pay(left, steps)?;
+    let values = single(alloc, Value::Nil)?;
+    Ok(values)
+}

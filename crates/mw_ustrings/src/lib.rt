@@ -1,0 +1,29 @@
+//! The functions of `mw.ustring` that call back nobody, over the store of a page (Scribunto, Ustring library).
+//!
+//! What each function gives stands in `specs/Ustring.antt`; begin there. `specs/TextArguments.antt` has the arguments that are texts.
+//!
+//! - `arguments`: arguments that are texts in UTF-8
+//! - `giving`: texts and numbers that are given, after what they cost
+//! - `char_of`: `char`
+//! - `parts`: `codepoint`, `byteoffset` and `sub`
+//! - `wholes`: `len`, `isutf8` and the normal forms
+//! - `captures`: what a match gives, and what that costs
+//! - `finding`: `find` and `match`
+//! - `table`: the functions by name
+//! - `call`: a function is called
+#![tactic(auto)]
+
+pub mod arguments;
+pub mod call;
+pub mod captures;
+pub mod char_of;
+pub mod finding;
+pub mod giving;
+pub mod parts;
+pub mod table;
+#[cfg(test)]
+mod tests;
+pub mod wholes;
+
+pub use call::ustring_call;
+pub use table::UstringFunction;
