@@ -15,7 +15,6 @@ use Rattle.lua_heap.proofs.Steps.{moved-same, moved-then}
 use Rattle.lua_heap.proofs.Stood.{stood-cell, stood-closure}
 use Rattle.lua_heap.proofs.Changes.{moved-set_cell, moved-new_cell, moved-new_closure}
 use Rattle.lua_meaning.specs.Scope.{Bytes}
-use Rattle.lua_meaning.specs.Values.{first}
 use Rattle.lua_meaning.specs.Arguments.{Plain}
 use Rattle.lua_library_agree.specs.Same.{both_give, SamePlain}
 use Rattle.lua_library_agree.proofs.Values.{one-each, first-same, rest-same, a_text-same}
