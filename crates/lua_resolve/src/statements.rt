@@ -60,8 +60,7 @@ impl<'t> Resolver<'t> {
     fn stat(&mut self, s: &'t Stat) -> Result<Statement, NoMemory>
         ensures { IfOk result (λ c. IsPart (state_of self.old) (state_of self.new) (stat_view s.now) (statement_seen c)) }
     {
-        let code = self.stat_kind(&s.kind, s.line)?;
-        Ok(code)
+        self.stat_kind(&s.kind, s.line)
     }
 
     #[cycle(parts)]

@@ -156,6 +156,9 @@ impl<'t> Scopes<'t> {
         let Some(entry) = find(&self.spots, named) else {
             return Ok(None);
         };
+        if entry.depth == self.outer.len() {
+            return Ok(Some(place_of(entry.spot, self.level.variables.len()).place));
+        }
         match reach(
             &mut self.level,
             &mut self.outer,

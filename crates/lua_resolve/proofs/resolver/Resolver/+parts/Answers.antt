@@ -13,7 +13,7 @@ use Rattle.lua_code.specs.Seen.{place_seen, expression_seen, statement_seen, blo
 use Rattle.lua_code.proofs.Views.{expression-Nil, expression-Truth, expression-Number, expression-Text, expression-Dots, expression-Function, expression-Index, expression-Call, expression-Method, expression-Table, expression-Unary, expression-Paren, entry-Item, entry-Pair, branch_made, statement-Assign, statement-Call, statement-Do, statement-While, statement-Repeat, statement-Each, statement-Return, statement-Break, statement-Declare, statement-LocalFunction}
 use Rattle.lua_resolve.specs.Parts.{state_of, IsPart, ExpressionsSoFar, TargetsSoFar, EntriesSoFar, BranchesSoFar, BlockSoFar, IsStep, IsOther}
 use Rattle.lua_resolve.proofs.PartLaws.{next_same, next_trans, later, exps_start, exps_step, exps_end, fields_start, fields_step, fields_end, arms_start, arms_step, arms_end, targets_start, targets_step, targets_end, block_start, block_step, block_done, block_next, block_code, repeat_next, repeat_code, plain_part, body_next, body_code, local_part, local_function_part, function_next, function_code}
-use Rattle.lua_resolve.proofs.FormLaws.{exp_as, code_as, target_as, fields_as, arms_as, part_as, next_item, closing, entering, leaving, adding, numbered, exp_of, exps_of, targets_of, fields_of_list, arms_of_list, stats_of_list, names_of_list, if_part, count_part}
+use Rattle.lua_resolve.proofs.FormLaws.{exp_as, code_as, result_as, target_result_as, part_result_as, target_as, fields_as, arms_as, part_as, next_item, closing, entering, leaving, adding, numbered, exp_of, exps_of, targets_of, fields_of_list, arms_of_list, stats_of_list, names_of_list, if_part, count_part}
 use Rattle.lua_resolve.proofs.resolver.Resolver.+parts.Goals as goal
 
 pub kind-returns-in-Nil-clause-next : goal.kind-returns-in-Nil-clause-next
@@ -55,8 +55,8 @@ kind-returns-in_ok-copy-in-Text-clause-code t c = λ at see l. exp_as at see (ap
 pub kind-returns-in_ok-index-in-Function-clause-code : goal.kind-returns-in_ok-index-in-Function-clause-code
 kind-returns-in_ok-index-in-Function-clause-code t c = λ at see l. exp_as at see (ap (λ k. kind_view k c.args.line) c.in-Function.is ∙ kind-Function _ _) (expression-Function _ _) (c.in_ok-index-in-Function.ensures.code at see l)
 
-pub kind-returns-in_ok-code-in-Name-clause-code : goal.kind-returns-in_ok-code-in-Name-clause-code
-kind-returns-in_ok-code-in-Name-clause-code t c = λ at see l. exp_as at see (ap (λ k. kind_view k c.args.line) c.in-Name.is ∙ kind-Name _ _) (refl) (c.in_ok-code-in-Name.ensures.code at see l)
+pub kind-returns-in-Name-clause-code : goal.kind-returns-in-Name-clause-code
+kind-returns-in-Name-clause-code t c = result_as _ _ (ap (λ k. kind_view k c.args.line) c.in-Name.is ∙ kind-Name _ _) c.name.ensures.code
 
 pub kind-returns-in_ok-key-in-Index-clause-next : goal.kind-returns-in_ok-key-in-Index-clause-next
 kind-returns-in_ok-key-in-Index-clause-next t c = next_trans _ _ _ c.in_ok-of-in-Index.ensures.next c.in_ok-key-in-Index.ensures.next
@@ -95,7 +95,7 @@ pub operand-returns-clause-code : goal.operand-returns-clause-code
 operand-returns-clause-code t c = λ at see l. code_as at see (expr_view c.args.e.now) (ap expression_seen c.in_ok-code-2.ensures) (c.in_ok-code.ensures.code at see l)
 
 pub expression-returns-clause-code : goal.expression-returns-clause-code
-expression-returns-clause-code t c = λ at see l. exp_as at see (expr_opens _) refl (c.in_ok-code.ensures.code at see l)
+expression-returns-clause-code t c = result_as _ _ (expr_opens _) c.kind.ensures.code
 
 pub expressions-loop-e-init : goal.expressions-loop-e-init
 expressions-loop-e-init t c = subst (ExpressionsSoFar _ _ _ _) (sym c.in_ok-out.ensures) (exps_start _ _)
@@ -163,8 +163,8 @@ entry-returns-in_ok-item-in-Pair-clause-next t c = next_trans _ _ _ c.in_ok-key-
 pub entry-returns-in_ok-item-in-Pair-clause-code : goal.entry-returns-in_ok-item-in-Pair-clause-code
 entry-returns-in_ok-item-in-Pair-clause-code t c = λ at see l fs cs h. fields_as at see (ap (λ f. field_view f fs) c.in-Pair.is ∙ field-Pair _ _ fs) (entry-Pair _ _ cs) (c.in_ok-key-in-Pair.ensures.code at see (later _ _ at see (c.in_ok-item-in-Pair.ensures.next) l), c.in_ok-item-in-Pair.ensures.code at see l, h)
 
-pub target-returns-in_ok-target-in-Name-clause-code : goal.target-returns-in_ok-target-in-Name-clause-code
-target-returns-in_ok-target-in-Name-clause-code t c = λ at see l. target_as at see _ (expr_opens _ ∙ ap (λ k. kind_view k c.args.e.now.line) c.in-Name.is ∙ kind-Name _ _) (c.in_ok-target-in-Name.ensures.code at see l)
+pub target-returns-in-Name-clause-code : goal.target-returns-in-Name-clause-code
+target-returns-in-Name-clause-code t c = target_result_as _ _ (expr_opens _ ∙ ap (λ k. kind_view k c.args.e.now.line) c.in-Name.is ∙ kind-Name _ _) c.named_target.ensures.code
 
 pub target-returns-in_ok-key-in-Index-clause-next : goal.target-returns-in_ok-key-in-Index-clause-next
 target-returns-in_ok-key-in-Index-clause-next t c = next_trans _ _ _ c.in_ok-of-in-Index.ensures.next c.in_ok-key-in-Index.ensures.next
@@ -197,7 +197,7 @@ pub branch-returns-clause-code : goal.branch-returns-clause-code
 branch-returns-clause-code t c = λ at see l more cs h. arms_as at see (ap (λ k. k more) (arm_opens _)) (branch_made _ _ cs) (c.in_ok-test.ensures.code at see (later _ _ at see (c.in_ok-body.ensures.next) l), c.in_ok-body.ensures.code at see l, h)
 
 pub stat-returns : goal.stat-returns
-stat-returns t c = subst (λ k. IsPart (state_of c.args.self.now) (state_of c.stat_kind.new.self) k (statement_seen c.in_ok-code.code)) (sym (stat_opens c.args.s.now)) c.in_ok-code.ensures
+stat-returns t c = part_result_as _ _ _ (stat_opens c.args.s.now) c.stat_kind.ensures
 
 pub stat_kind-returns-in_ok-values-in-Assign : goal.stat_kind-returns-in_ok-values-in-Assign
 stat_kind-returns-in_ok-values-in-Assign t c = part_as _ _ (ap (λ k. stat_kind_view k c.args.line) c.in-Assign.is ∙ stat-Assign _ _ _) (statement-Assign _ _) (plain_part _ _ _ _ (next_trans _ _ _ c.in_ok-targets-in-Assign.ensures.next c.in_ok-values-in-Assign.ensures.next) (λ at see l tail left rest h. ((targets_of at see _ c.as_slice.ensures (c.in_ok-targets-in-Assign.ensures.code at see (later _ _ at see (c.in_ok-values-in-Assign.ensures.next) l)), exps_of at see _ c.as_slice-in-Assign.ensures (c.in_ok-values-in-Assign.ensures.code at see l)), h)))
