@@ -62,11 +62,7 @@ pub(crate) fn inner(
 
 /// A block, and a test that sees its variables.
 #[cycle(statements)]
-fn repeated(
-    list: &[Statement],
-    until: &Expression,
-    registers: &mut Watch,
-) -> Result<(), NoMemory>
+fn repeated(list: &[Statement], until: &Expression, registers: &mut Watch) -> Result<(), NoMemory>
     ensures { OnOk result (registers.new ≡ scoped (λ r. expression_gone (expression_seen until.now) (block_gone (block_seen list.now) r)) registers.old) }
 {
     let count = registers.len();
