@@ -208,8 +208,8 @@ stat_kind-returns-in_ok-code-in-Call t c = part_as _ _ (ap (λ k. stat_kind_view
 pub stat_kind-returns-in_ok-body-in-Do : goal.stat_kind-returns-in_ok-body-in-Do
 stat_kind-returns-in_ok-body-in-Do t c = part_as _ _ (ap (λ k. stat_kind_view k c.args.line) c.in-Do.is ∙ stat-Do _ _) (statement-Do _) (plain_part _ _ _ _ (c.in_ok-body-in-Do.ensures.next) (λ at see l tail left rest h. (c.in_ok-body-in-Do.ensures.code at see l, h)))
 
-pub stat_kind-returns-in_ok-body-in-While : goal.stat_kind-returns-in_ok-body-in-While
-stat_kind-returns-in_ok-body-in-While t c = part_as _ _ (ap (λ k. stat_kind_view k c.args.line) c.in-While.is ∙ stat-While _ _ _) (statement-While _ _) (plain_part _ _ _ _ (next_trans _ _ _ c.in_ok-test-in-While.ensures.next c.in_ok-body-in-While.ensures.next) (λ at see l tail left rest h. ((c.in_ok-test-in-While.ensures.code at see (later _ _ at see (c.in_ok-body-in-While.ensures.next) l), c.in_ok-body-in-While.ensures.code at see l), h)))
+pub loop_kind-returns-in_ok-body-in-While : goal.loop_kind-returns-in_ok-body-in-While
+loop_kind-returns-in_ok-body-in-While t c = part_as _ _ (ap (λ k. stat_kind_view k c.args.line) c.in-While.is ∙ stat-While _ _ _) (statement-While _ _) (plain_part _ _ _ _ (next_trans _ _ _ c.in_ok-test-in-While.ensures.next c.in_ok-body-in-While.ensures.next) (λ at see l tail left rest h. ((c.in_ok-test-in-While.ensures.code at see (later _ _ at see (c.in_ok-body-in-While.ensures.next) l), c.in_ok-body-in-While.ensures.code at see l), h)))
 
 pub stat_kind-returns-in_ok-values-in-Return : goal.stat_kind-returns-in_ok-values-in-Return
 stat_kind-returns-in_ok-values-in-Return t c = part_as _ _ (ap (λ k. stat_kind_view k c.args.line) c.in-Return.is ∙ stat-Return _ _) (statement-Return _) (plain_part _ _ _ _ (c.in_ok-values-in-Return.ensures.next) (λ at see l tail left rest h. (exps_of at see _ c.as_slice-in-Return.ensures (c.in_ok-values-in-Return.ensures.code at see l), h)))
@@ -220,8 +220,8 @@ stat_kind-returns-in-Break t c = part_as _ _ (ap (λ k. stat_kind_view k c.args.
 pub stat_kind-returns-in_ok-other-in-If : goal.stat_kind-returns-in_ok-other-in-If
 stat_kind-returns-in_ok-other-in-If t c = subst (λ k. IsPart (state_of c.args.self.now) (state_of c.otherwise.new.self) (stat_kind_view k c.args.line) (statement_seen (codes.If c.in_ok-arms-in-If.arms c.in_ok-other-in-If.other))) (sym c.in-If.is) (if_part _ _ _ _ _ _ _ (next_trans _ _ _ c.in_ok-arms-in-If.ensures.next c.in_ok-other-in-If.ensures.next) (λ at see l. arms_of_list at see _ c.as_slice-in-If.ensures (c.in_ok-arms-in-If.ensures.code at see (later _ _ at see c.in_ok-other-in-If.ensures.next l))) c.in_ok-other-in-If.ensures.code)
 
-pub stat_kind-returns-in_ok-close-in-Repeat : goal.stat_kind-returns-in_ok-close-in-Repeat
-stat_kind-returns-in_ok-close-in-Repeat t c = part_as _ _ (ap (λ k. stat_kind_view k c.args.line) c.in-Repeat.is ∙ stat-Repeat _ _ _) (statement-Repeat _ _) (plain_part _ _ _ _ (repeat_next _ _ _ _ _ _ c.in_ok-body-in-Repeat.ensures c.in_ok-test-in-Repeat.ensures.next (closing (state_of c.args.self.now) _ _ _ _ _ c.len-count.ensures c.in_ok-close-in-Repeat.ensures)) (λ at see l tail left rest h. (subst (λ b. IsBlock at (λ end. IsExp at end (expr_view c.in-Repeat.test) (expression_seen c.in_ok-test-in-Repeat.test)) see b (block_seen c.in_ok-body-in-Repeat.body)) (sym (block_opens c.in-Repeat.body)) (stats_of_list at (λ end. IsExp at end (expr_view c.in-Repeat.test) (expression_seen c.in_ok-test-in-Repeat.test)) see _ c.as_slice-in-Repeat.ensures (repeat_code _ _ _ _ _ _ _ _ c.in_ok-body-in-Repeat.ensures c.in_ok-test-in-Repeat.ensures.next c.in_ok-test-in-Repeat.ensures.code (closing (state_of c.args.self.now) _ _ _ _ _ c.len-count.ensures c.in_ok-close-in-Repeat.ensures) at see l)), h)))
+pub loop_kind-returns-in_ok-close-in-Repeat : goal.loop_kind-returns-in_ok-close-in-Repeat
+loop_kind-returns-in_ok-close-in-Repeat t c = part_as _ _ (ap (λ k. stat_kind_view k c.args.line) c.in-Repeat.is ∙ stat-Repeat _ _ _) (statement-Repeat _ _) (plain_part _ _ _ _ (repeat_next _ _ _ _ _ _ c.in_ok-body-in-Repeat.ensures c.in_ok-test-in-Repeat.ensures.next (closing (state_of c.args.self.now) _ _ _ _ _ c.len-count.ensures c.in_ok-close-in-Repeat.ensures)) (λ at see l tail left rest h. (subst (λ b. IsBlock at (λ end. IsExp at end (expr_view c.in-Repeat.test) (expression_seen c.in_ok-test-in-Repeat.test)) see b (block_seen c.in_ok-body-in-Repeat.body)) (sym (block_opens c.in-Repeat.body)) (stats_of_list at (λ end. IsExp at end (expr_view c.in-Repeat.test) (expression_seen c.in_ok-test-in-Repeat.test)) see _ c.as_slice.ensures (repeat_code _ _ _ _ _ _ _ _ c.in_ok-body-in-Repeat.ensures c.in_ok-test-in-Repeat.ensures.next c.in_ok-test-in-Repeat.ensures.code (closing (state_of c.args.self.now) _ _ _ _ _ c.len-count.ensures c.in_ok-close-in-Repeat.ensures) at see l)), h)))
 
 pub stat_kind-returns-in_ok-index-in-LocalFunction : goal.stat_kind-returns-in_ok-index-in-LocalFunction
 stat_kind-returns-in_ok-index-in-LocalFunction t c = part_as _ _ (ap (λ k. stat_kind_view k c.args.line) c.in-LocalFunction.is ∙ stat-LocalFunction _ _ _) (statement-LocalFunction _ _ _) (local_function_part _ _ _ _ _ _ _ _ _ c.in_ok-boxed-in-LocalFunction.ensures c.in_ok-index-in-LocalFunction.ensures.next c.in_ok-index-in-LocalFunction.ensures.code)
@@ -229,11 +229,11 @@ stat_kind-returns-in_ok-index-in-LocalFunction t c = part_as _ _ (ap (λ k. stat
 pub stat_kind-returns-in_ok-flags-in-Local : goal.stat_kind-returns-in_ok-flags-in-Local
 stat_kind-returns-in_ok-flags-in-Local t c = part_as _ _ (ap (λ k. stat_kind_view k c.args.line) c.in-Local.is ∙ stat-Local _ _ _) (statement-Declare _ _) (local_part _ _ _ _ _ _ _ _ c.in_ok-values-in-Local.ensures.next (λ at see l. exps_of at see _ c.as_slice-in-Local.ensures (c.in_ok-values-in-Local.ensures.code at see l)) (names_of_list _ _ c.as_slice-in-Local-2.ensures c.in_ok-flags-in-Local.ensures))
 
-pub stat_kind-returns-in_ok-flags-in-Each : goal.stat_kind-returns-in_ok-flags-in-Each
-stat_kind-returns-in_ok-flags-in-Each t c = part_as _ _ (ap (λ k. stat_kind_view k c.args.line) c.in-Each.is ∙ stat-Each _ _ _ _) (statement-Each _ _ _ _) (plain_part _ _ _ _ (next_trans _ _ _ c.in_ok-values-in-Each.ensures.next c.in_ok-flags-in-Each.ensures.next) (λ at see l tail left rest h. ((refl, c.in_ok-flags-in-Each.ensures.as_many, exps_of at see _ c.as_slice-in-Each.ensures (c.in_ok-values-in-Each.ensures.code at see (later _ _ at see c.in_ok-flags-in-Each.ensures.next l)), c.in_ok-flags-in-Each.ensures.code at see l), h)))
+pub loop_kind-returns-in_ok-flags-in-Each : goal.loop_kind-returns-in_ok-flags-in-Each
+loop_kind-returns-in_ok-flags-in-Each t c = part_as _ _ (ap (λ k. stat_kind_view k c.args.line) c.in-Each.is ∙ stat-Each _ _ _ _) (statement-Each _ _ _ _) (plain_part _ _ _ _ (next_trans _ _ _ c.in_ok-values-in-Each.ensures.next c.in_ok-flags-in-Each.ensures.next) (λ at see l tail left rest h. ((refl, c.in_ok-flags-in-Each.ensures.as_many, exps_of at see _ c.as_slice-in-Each.ensures (c.in_ok-values-in-Each.ensures.code at see (later _ _ at see c.in_ok-flags-in-Each.ensures.next l)), c.in_ok-flags-in-Each.ensures.code at see l), h)))
 
-pub stat_kind-returns-in_ok-boxed-in-Count : goal.stat_kind-returns-in_ok-boxed-in-Count
-stat_kind-returns-in_ok-boxed-in-Count t c = subst (λ k. IsPart (state_of c.args.self.now) (state_of c.counted.new.self) (stat_kind_view k c.args.line) (statement_seen (codes.Count c.in_ok-boxed-in-Count.field-0.boxed c.in_ok-from-in-Count.from c.in_ok-to-in-Count.to c.in_ok-by-in-Count.by c.in_ok-boxed-in-Count.field-0.body c.args.line))) (sym c.in-Count.is) (count_part _ _ _ _ _ _ _ _ _ _ _ _ _ (next_trans _ _ _ c.in_ok-from-in-Count.ensures.next (next_trans _ _ _ c.in_ok-to-in-Count.ensures.next (next_trans _ _ _ c.in_ok-by-in-Count.ensures.next c.in_ok-boxed-in-Count.ensures.next))) (λ at see l. c.in_ok-from-in-Count.ensures.code at see (later _ _ at see (next_trans _ _ _ c.in_ok-to-in-Count.ensures.next (next_trans _ _ _ c.in_ok-by-in-Count.ensures.next c.in_ok-boxed-in-Count.ensures.next)) l)) (λ at see l. c.in_ok-to-in-Count.ensures.code at see (later _ _ at see (next_trans _ _ _ c.in_ok-by-in-Count.ensures.next c.in_ok-boxed-in-Count.ensures.next) l)) (λ at see l. c.in_ok-by-in-Count.ensures.code at see (later _ _ at see c.in_ok-boxed-in-Count.ensures.next l)) c.in_ok-boxed-in-Count.ensures.code)
+pub loop_kind-returns-in_ok-boxed-in-Count : goal.loop_kind-returns-in_ok-boxed-in-Count
+loop_kind-returns-in_ok-boxed-in-Count t c = subst (λ k. IsPart (state_of c.args.self.now) (state_of c.counted.new.self) (stat_kind_view k c.args.line) (statement_seen (codes.Count c.in_ok-boxed-in-Count.field-0.boxed c.in_ok-from-in-Count.from c.in_ok-to-in-Count.to c.in_ok-by-in-Count.by c.in_ok-boxed-in-Count.field-0.body c.args.line))) (sym c.in-Count.is) (count_part _ _ _ _ _ _ _ _ _ _ _ _ _ (next_trans _ _ _ c.in_ok-from-in-Count.ensures.next (next_trans _ _ _ c.in_ok-to-in-Count.ensures.next (next_trans _ _ _ c.in_ok-by-in-Count.ensures.next c.in_ok-boxed-in-Count.ensures.next))) (λ at see l. c.in_ok-from-in-Count.ensures.code at see (later _ _ at see (next_trans _ _ _ c.in_ok-to-in-Count.ensures.next (next_trans _ _ _ c.in_ok-by-in-Count.ensures.next c.in_ok-boxed-in-Count.ensures.next)) l)) (λ at see l. c.in_ok-to-in-Count.ensures.code at see (later _ _ at see (next_trans _ _ _ c.in_ok-by-in-Count.ensures.next c.in_ok-boxed-in-Count.ensures.next) l)) (λ at see l. c.in_ok-by-in-Count.ensures.code at see (later _ _ at see c.in_ok-boxed-in-Count.ensures.next l)) c.in_ok-boxed-in-Count.ensures.code)
 
 pub counted-returns-clause-next : goal.counted-returns-clause-next
 counted-returns-clause-next t c = body_next _ _ _ _ _ _ c.in_ok-boxed.ensures c.in_ok-body.ensures.next (closing (state_of c.args.self.now) _ _ _ _ _ c.len-count.ensures c.in_ok-close.ensures)
