@@ -1,4 +1,5 @@
 mod CellLaws
 mod Codes
 mod FunctionLaws
+mod IdleLaws
 mod RegisterLaws

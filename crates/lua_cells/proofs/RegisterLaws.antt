@@ -1,5 +1,5 @@
 -- Registers one after another.
-use Rattle.std.proofs.Common.{◌≡◌, ◌∙◌, ℕ, suc, ◌-◌, ◌<◌, ◌≤◌, Bool, true, false, refl, sym, ap, List, [], ◌∷◌, length, arith}
+use Rattle.std.proofs.Common.{◌≡◌, ◌∙◌, ℕ, suc, ◌-◌, ◌<◌, ◌≤◌, Bool, sym, ap, List, [], ◌∷◌, length, arith}
 use Rattle.lua_cells.specs.declared.registers.Registers.{Registers}
 use Rattle.lua_cells.specs.Registers.{ended, closed}
 

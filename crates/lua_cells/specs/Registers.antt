@@ -1,6 +1,6 @@
 -- CODE THAT IS GONE OVER: of each register of a function, the newest first, whether it names a cell that nothing captured so far; and
 -- whether all cells of variables that ended were captured.
-use Rattle.std.specs.Prelude.{ℕ, zero, suc, ◌-◌, Bool, true, false, if◌then◌else◌, List, [], ◌∷◌, length, slice_set}
+use Rattle.std.specs.Prelude.{◌≡◌, ℕ, zero, suc, ◌-◌, Bool, true, false, if◌then◌else◌, List, [], ◌∷◌, length, slice_set}
 use Rattle.lua_slots.specs.Code.{Place, Reg, Box, Up, CExp, FunctionC, IndexC, CallC, MethodC, TableC, AndC, OrC, OperateC, UnaryC, ParenC}
 use Rattle.lua_slots.specs.Code.{CExps, NoC, MoreC, CFields, NoFieldC, ItemC, PairC, CTarget, EntryC}
 use Rattle.lua_slots.specs.Code.{CStat, AssignC, CallStatC, DoC, WhileC, RepeatC, IfC, IfElseC, CountC, CountByC, EachC, ReturnC, CBlock, EndC, DeclareC, LocalFunctionC, ThenC, CArms, NoArmC, ArmC, CProto}
@@ -94,3 +94,8 @@ abbrev mutual
 -- a function, from no register on
 abbrev pub function_gone : CProto → Registers
 function_gone p = scoped (λ s. block_gone p.body (opened p.flags s)) (record { idle = []; needed = true })
+
+-- no register names a cell that nothing captured so far
+abbrev pub NoneIdle : List Bool → Type 0
+NoneIdle [] = Unit {0}
+NoneIdle (b ∷ bs) = (b ≡ false) × NoneIdle bs

@@ -3,8 +3,8 @@ ghost use Rattle.std.specs.Prelude.{◌≡◌, ◌↔◌, true, IfOk};
 ghost use Rattle.lua_code.specs.Seen.{proto_seen};
 ghost use Rattle.lua_cells.specs.Cells.{HasNoIdleCell};
 
-use crate::registers::Registers;
 use crate::statements::inner;
+use crate::watch::Watch;
 use lua_code::Proto;
 use std::alloc::Global;
 use wk_base::NoMemory;
@@ -16,11 +16,11 @@ use wk_base::NoMemory;
 pub fn has_no_idle_cell(alloc: Global, proto: &Proto) -> Result<bool, NoMemory>
     ensures { IfOk result (λ none. (none ≡ true) ↔ HasNoIdleCell (proto_seen proto.now)) }
 {
-    let mut registers = Registers::new(alloc);
+    let mut registers = Watch::new(alloc);
     inner(
         proto.flags.as_slice(),
         proto.body.as_slice(),
         &mut registers,
     )?;
-    Ok(registers.needed)
+    Ok(registers.is_needed())
 }

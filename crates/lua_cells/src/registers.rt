@@ -1,7 +1,7 @@
 //! The registers of a function whose code is gone over.
 ghost use Rattle.std.specs.Prelude.{◌≡◌, [], true, length, map, OnOk};
 ghost use Rattle.lua_code.specs.Seen.{place_seen};
-ghost use Rattle.lua_cells.specs.Registers.{captured, all_captured, opened_one, opened, ended, closed};
+ghost use Rattle.lua_cells.specs.Registers.{captured, all_captured, opened_one, ended, closed};
 
 use lua_code::Place;
 use lua_stack::Stack;
@@ -39,16 +39,6 @@ impl Registers {
         ensures { OnOk result (self.new ≡ opened_one boxed self.old) }
     {
         self.idle.push(boxed)
-    }
-
-    /// More variables, one after another.
-    pub(crate) fn open(&mut self, flags: &[bool]) -> Result<(), NoMemory>
-        ensures { OnOk result (self.new ≡ opened flags.now self.old) }
-    {
-        for boxed in flags {
-            self.open_one(*boxed)?;
-        }
-        Ok(())
     }
 
     /// A function captures what stands at this place.

@@ -6,14 +6,13 @@ ghost use Rattle.lua_slots.specs.Code.{CBlock, CArms};
 ghost use Rattle.lua_code.specs.Seen.{expression_seen, statement_seen, block_seen, branch_seen, branches_seen};
 ghost use Rattle.lua_cells.specs.Registers.{opened_one, opened, scoped, expression_gone, block_gone, arms_gone};
 
-use crate::expressions::{expression, expressions, targets};
-use crate::registers::Registers;
+use crate::watch::Watch;
 use lua_code::{Branch, Expression, Statement};
 use wk_base::NoMemory;
 
 /// Statements, whose variables stay open.
 #[cycle(statements)]
-pub(crate) fn statements(list: &[Statement], registers: &mut Registers) -> Result<(), NoMemory>
+pub(crate) fn statements(list: &[Statement], registers: &mut Watch) -> Result<(), NoMemory>
     ensures { OnOk result (registers.new ≡ block_gone (block_seen list.now) registers.old) }
 {
     for code in list {
@@ -24,7 +23,7 @@ pub(crate) fn statements(list: &[Statement], registers: &mut Registers) -> Resul
 
 /// A block, whose variables end with it.
 #[cycle(statements)]
-fn block(list: &[Statement], registers: &mut Registers) -> Result<(), NoMemory>
+fn block(list: &[Statement], registers: &mut Watch) -> Result<(), NoMemory>
     ensures { OnOk result (registers.new ≡ scoped (λ r. block_gone (block_seen list.now) r) registers.old) }
 {
     let count = registers.len();
@@ -35,7 +34,7 @@ fn block(list: &[Statement], registers: &mut Registers) -> Result<(), NoMemory>
 
 /// A block that sees one variable more.
 #[cycle(statements)]
-fn counted(boxed: bool, list: &[Statement], registers: &mut Registers) -> Result<(), NoMemory>
+fn counted(boxed: bool, list: &[Statement], registers: &mut Watch) -> Result<(), NoMemory>
     ensures { OnOk result (registers.new ≡ scoped (λ r. block_gone (block_seen list.now) (opened_one boxed r)) registers.old) }
 {
     let count = registers.len();
@@ -50,7 +49,7 @@ fn counted(boxed: bool, list: &[Statement], registers: &mut Registers) -> Result
 pub(crate) fn inner(
     flags: &[bool],
     list: &[Statement],
-    registers: &mut Registers,
+    registers: &mut Watch,
 ) -> Result<(), NoMemory>
     ensures { OnOk result (registers.new ≡ scoped (λ r. block_gone (block_seen list.now) (opened flags.now r)) registers.old) }
 {
@@ -63,38 +62,34 @@ pub(crate) fn inner(
 
 /// A block, and a test that sees its variables.
 #[cycle(statements)]
-fn repeated(
-    list: &[Statement],
-    until: &Expression,
-    registers: &mut Registers,
-) -> Result<(), NoMemory>
+fn repeated(list: &[Statement], until: &Expression, registers: &mut Watch) -> Result<(), NoMemory>
     ensures { OnOk result (registers.new ≡ scoped (λ r. expression_gone (expression_seen until.now) (block_gone (block_seen list.now) r)) registers.old) }
 {
     let count = registers.len();
     statements(list, registers)?;
-    expression(until, registers);
+    registers.expression(until);
     registers.close(count);
     Ok(())
 }
 
 // With whatever statements come after it.
 #[cycle(statements)]
-fn statement(code: &Statement, registers: &mut Registers) -> Result<(), NoMemory>
+fn statement(code: &Statement, registers: &mut Watch) -> Result<(), NoMemory>
     ensures { OnOk result ((rest : CBlock) → block_gone rest registers.new ≡ block_gone (statement_seen code.now rest) registers.old) }
 {
     match code {
         Statement::Assign(left, values) => {
-            targets(left.as_slice(), registers);
-            expressions(values.as_slice(), registers);
+            registers.targets(left.as_slice());
+            registers.expressions(values.as_slice());
             Ok(())
         }
         Statement::Call(call) => {
-            expression(call, registers);
+            registers.expression(call);
             Ok(())
         }
         Statement::Do(body) => block(body.as_slice(), registers),
         Statement::While(test, body) => {
-            expression(test, registers);
+            registers.expression(test);
             block(body.as_slice(), registers)
         }
         Statement::Repeat(body, test) => repeated(body.as_slice(), test, registers),
@@ -106,20 +101,20 @@ fn statement(code: &Statement, registers: &mut Registers) -> Result<(), NoMemory
             }
         }
         Statement::Count(boxed, from, to, by, body, _) => {
-            expression(from, registers);
-            expression(to, registers);
+            registers.expression(from);
+            registers.expression(to);
             match by {
                 None => {}
-                Some(by) => expression(by, registers),
+                Some(by) => registers.expression(by),
             }
             counted(*boxed, body.as_slice(), registers)
         }
         Statement::Each(flags, values, body, _) => {
-            expressions(values.as_slice(), registers);
+            registers.expressions(values.as_slice());
             inner(flags.as_slice(), body.as_slice(), registers)
         }
         Statement::Declare(flags, values) => {
-            expressions(values.as_slice(), registers);
+            registers.expressions(values.as_slice());
             registers.open(flags.as_slice())
         }
         Statement::LocalFunction(boxed, _, places) => {
@@ -128,7 +123,7 @@ fn statement(code: &Statement, registers: &mut Registers) -> Result<(), NoMemory
             Ok(())
         }
         Statement::Return(values) => {
-            expressions(values.as_slice(), registers);
+            registers.expressions(values.as_slice());
             Ok(())
         }
         Statement::Break => Ok(()),
@@ -137,15 +132,15 @@ fn statement(code: &Statement, registers: &mut Registers) -> Result<(), NoMemory
 
 // With whatever arms come after it.
 #[cycle(statements)]
-fn branch(code: &Branch, registers: &mut Registers) -> Result<(), NoMemory>
+fn branch(code: &Branch, registers: &mut Watch) -> Result<(), NoMemory>
     ensures { OnOk result ((rest : CArms) → arms_gone rest registers.new ≡ arms_gone (branch_seen code.now rest) registers.old) }
 {
-    expression(&code.test, registers);
+    registers.expression(&code.test);
     block(code.body.as_slice(), registers)
 }
 
 #[cycle(statements)]
-fn branches(list: &[Branch], registers: &mut Registers) -> Result<(), NoMemory>
+fn branches(list: &[Branch], registers: &mut Watch) -> Result<(), NoMemory>
     ensures { OnOk result (registers.new ≡ arms_gone (branches_seen list.now) registers.old) }
 {
     for code in list {

@@ -1,5 +1,5 @@
 -- Forms of expressions and statements put together from their parts.
-use Rattle.std.proofs.Common.{◌≡◌, ◌∙◌, ℕ, zero, suc, Bool, true, false, refl, sym, ap, subst, List, [], ◌∷◌, ◌++◌, map, length, drop, get_or, ◌<◌, ◌+◌, slice_get, Option, Some, None, option_map}
+use Rattle.std.proofs.Common.{◌≡◌, ◌∙◌, ℕ, zero, suc, Bool, true, false, refl, sym, ap, subst, List, [], ◌∷◌, ◌++◌, map, length, drop, get_or, ◌<◌, ◌+◌, slice_get, Option, Some, None, option_map, Result, IfOk}
 use Rattle.std.proofs.lemmas.List.{drop_more}
 use Rattle.lua_syntax.specs.Tree.{Exp, Fields, Arms, Block, Stat, MoreStat}
 use Rattle.lua_syntax.specs.declared.BinaryOp.{BinaryOp}
@@ -14,6 +14,7 @@ use Rattle.lua_syntax.specs.View.{expr_view, exprs_view, fields_view, arms_view,
 use Rattle.lua_syntax.proofs.Views.{stat-If, stat-IfElse, stat-Count, stat-CountBy}
 use Rattle.lua_code.specs.declared.expression.Expression.{Expression}
 use Rattle.lua_code.specs.declared.statement.Branch.{Branch}
+use Rattle.lua_code.specs.declared.statement.Target.{Target}
 use Rattle.lua_code.specs.declared.statement.Statement.TheVariants as codes
 use Rattle.lua_code.proofs.Views.{statement-If, statement-IfElse, statement-Count, statement-CountBy}
 use Rattle.lua_meaning.specs.Scope.{Bytes}
@@ -21,7 +22,7 @@ use Rattle.lua_slots.specs.Code.{Place, CExp, CExps, CFields, CTarget, CArms, CB
 use Rattle.lua_slots.specs.Sight.{Everywhere, Sight, nothing_local, with_local, inside}
 use Rattle.lua_slots.specs.IsCode.{EndSight, any_sight, operator_of, IsExp, IsExps, IsFields, IsTarget, IsTargets, IsArms, IsBlock, IsProtos}
 use Rattle.lua_code.specs.declared.statement.Statement.{Statement}
-use Rattle.lua_code.specs.Seen.{expression_seen, statement_seen, block_seen, branches_seen, proto_seen, protos_seen}
+use Rattle.lua_code.specs.Seen.{expression_seen, target_seen, statement_seen, block_seen, branches_seen, proto_seen, protos_seen}
 use Rattle.lua_code.specs.declared.proto.Proto.{Proto}
 use Rattle.lua_scopes.specs.Scopes.{Level, Scopes, closed_to, entered, IsLeft, nothing_known, local_sight, stack, stack_sight, Covers, StaysAs, Grows}
 use Rattle.lua_resolve.specs.Parts.{State, locals, Holds, Later, Next, tail_of, IsPart, AreDeclared, IsStep, IsOther}
@@ -33,6 +34,16 @@ exp_as at see {f = f} {c = c} e k h = subst (λ x. IsExp at see x c) (sym e) (su
 
 pub code_as : (at : Protos) (see : Sight) (e : Exp) {c d : CExp} → c ≡ d → IsExp at see e d → IsExp at see e c
 code_as at see e k h = subst (IsExp at see e) (sym k) h
+
+-- the same of a result that is handed on
+pub result_as : {E : Type 0} (r : Result Expression E) (t : State) {e f : Exp} → e ≡ f → IfOk r (λ c. (at : Protos) (see : Sight) → Later t at see → IsExp at see f (expression_seen c)) → IfOk r (λ c. (at : Protos) (see : Sight) → Later t at see → IsExp at see e (expression_seen c))
+result_as r t e h = subst (λ x. IfOk r (λ c. (at : Protos) (see : Sight) → Later t at see → IsExp at see x (expression_seen c))) (sym e) h
+
+pub target_result_as : {E : Type 0} (r : Result Target E) (t : State) {e f : Exp} → e ≡ f → IfOk r (λ c. (at : Protos) (see : Sight) → Later t at see → IsTarget at see f (target_seen c)) → IfOk r (λ c. (at : Protos) (see : Sight) → Later t at see → IsTarget at see e (target_seen c))
+target_result_as r t e h = subst (λ x. IfOk r (λ c. (at : Protos) (see : Sight) → Later t at see → IsTarget at see x (target_seen c))) (sym e) h
+
+pub part_result_as : {E : Type 0} (r : Result Statement E) (s t : State) {a b : Stat} → a ≡ b → IfOk r (λ c. IsPart s t b (statement_seen c)) → IfOk r (λ c. IsPart s t a (statement_seen c))
+part_result_as r s t e h = subst (λ x. IfOk r (λ c. IsPart s t x (statement_seen c))) (sym e) h
 
 pub part_as : (s t : State) {st su : Stat} {c d : CBlock → CBlock} → st ≡ su → ((rest : CBlock) → c rest ≡ d rest) → IsPart s t su d → IsPart s t st c
 part_as s t {c = c} {d = d} e same h = subst (λ x. IsPart s t x c) (sym e) (record {

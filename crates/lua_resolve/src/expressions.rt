@@ -41,8 +41,7 @@ impl<'t> Resolver<'t> {
         ensures next { OnOk result (Next (state_of self.old) (state_of self.new)) }
         ensures code { IfOk result (λ c. (at : PlainProtos) (see : Sight) → Later (state_of self.new) at see → IsExp at see (expr_view e.now) (expression_seen c)) }
     {
-        let code = self.kind(&e.kind, e.line)?;
-        Ok(code)
+        self.kind(&e.kind, e.line)
     }
 
     /// Code of an expression, in a box.
@@ -72,10 +71,7 @@ impl<'t> Resolver<'t> {
                 let Done { index, places } = self.function(f)?;
                 Ok(Expression::Function(index, places))
             }
-            ExprKind::Name(name) => {
-                let code = self.name(name, line)?;
-                Ok(code)
-            }
+            ExprKind::Name(name) => self.name(name, line),
             ExprKind::Index(of, key) => {
                 let of = self.operand(of)?;
                 let key = self.operand(key)?;
@@ -165,10 +161,7 @@ impl<'t> Resolver<'t> {
         ensures code { IfOk result (λ c. (at : PlainProtos) (see : Sight) → Later (state_of self.new) at see → IsTarget at see (expr_view e.now) (target_seen c)) }
     {
         match &e.kind {
-            ExprKind::Name(name) => {
-                let target = self.named_target(name, e.line)?;
-                Ok(target)
-            }
+            ExprKind::Name(name) => self.named_target(name, e.line),
             ExprKind::Index(of, key) => {
                 let of = self.expression(of)?;
                 let key = self.expression(key)?;

@@ -60,8 +60,7 @@ impl<'t> Resolver<'t> {
     fn stat(&mut self, s: &'t Stat) -> Result<Statement, NoMemory>
         ensures { IfOk result (λ c. IsPart (state_of self.old) (state_of self.new) (stat_view s.now) (statement_seen c)) }
     {
-        let code = self.stat_kind(&s.kind, s.line)?;
-        Ok(code)
+        self.stat_kind(&s.kind, s.line)
     }
 
     #[cycle(parts)]
@@ -82,34 +81,10 @@ impl<'t> Resolver<'t> {
                 let body = self.block(body)?;
                 Ok(Statement::Do(body))
             }
-            StatKind::While(test, body) => {
-                let test = self.expression(test)?;
-                let body = self.block(body)?;
-                Ok(Statement::While(test, body))
-            }
-            StatKind::Repeat(body, test) => {
-                let count = self.scopes.len();
-                let body = self.stats(body.stats.as_slice())?;
-                let test = self.expression(test)?;
-                self.close(count)?;
-                Ok(Statement::Repeat(body, test))
-            }
             StatKind::If(arms, other) => {
                 let arms = self.branches(arms.as_slice())?;
                 let other = self.otherwise(other)?;
                 Ok(Statement::If(arms, other))
-            }
-            StatKind::Count(name, from, to, by, body) => {
-                let from = self.expression(from)?;
-                let to = self.expression(to)?;
-                let by = self.step(by)?;
-                let Counted { boxed, body } = self.counted(name, body)?;
-                Ok(Statement::Count(boxed, from, to, by, body, line))
-            }
-            StatKind::Each(names, values, body) => {
-                let values = self.expressions(values.as_slice())?;
-                let Scoped { flags, body } = self.scoped(names, body)?;
-                Ok(Statement::Each(flags, values, body, line))
             }
             StatKind::LocalFunction(name, f) => {
                 let boxed = self.declare_one(name)?;
@@ -126,6 +101,52 @@ impl<'t> Resolver<'t> {
                 Ok(Statement::Return(values))
             }
             StatKind::Break => Ok(Statement::Break),
+            StatKind::While(_, _)
+            | StatKind::Repeat(_, _)
+            | StatKind::Count(_, _, _, _, _)
+            | StatKind::Each(_, _, _) => self.loop_kind(k, line),
+        }
+    }
+
+    /// Code of a loop. Loops stand apart, since a function pays at each call for the room of all values that it may hold.
+    #[cycle(parts)]
+    fn loop_kind(&mut self, k: &'t StatKind, line: u32) -> Result<Statement, NoMemory>
+        ensures { IfOk result (λ c. IsPart (state_of self.old) (state_of self.new) (stat_kind_view k.now line) (statement_seen c)) }
+    {
+        match k {
+            StatKind::While(test, body) => {
+                let test = self.expression(test)?;
+                let body = self.block(body)?;
+                Ok(Statement::While(test, body))
+            }
+            StatKind::Repeat(body, test) => {
+                let count = self.scopes.len();
+                let body = self.stats(body.stats.as_slice())?;
+                let test = self.expression(test)?;
+                self.close(count)?;
+                Ok(Statement::Repeat(body, test))
+            }
+            StatKind::Count(name, from, to, by, body) => {
+                let from = self.expression(from)?;
+                let to = self.expression(to)?;
+                let by = self.step(by)?;
+                let Counted { boxed, body } = self.counted(name, body)?;
+                Ok(Statement::Count(boxed, from, to, by, body, line))
+            }
+            StatKind::Each(names, values, body) => {
+                let values = self.expressions(values.as_slice())?;
+                let Scoped { flags, body } = self.scoped(names, body)?;
+                Ok(Statement::Each(flags, values, body, line))
+            }
+            // `stat_kind` hands on loops alone
+            StatKind::Assign(_, _)
+            | StatKind::Call(_)
+            | StatKind::Do(_)
+            | StatKind::If(_, _)
+            | StatKind::LocalFunction(_, _)
+            | StatKind::Local(_, _)
+            | StatKind::Return(_)
+            | StatKind::Break => Err(NoMemory),
         }
     }
 

@@ -28,6 +28,14 @@ pub(crate) struct Capture<'t> {
     pub(crate) shadowed: Option<Entry>,
 }
 
+/// What is left of a function that ended: the places from which it captured, and the list of its variables, whose room another function
+/// can use.
+#[derive(Drop)]
+pub(crate) struct Ended<'t> {
+    pub(crate) places: List<Place>,
+    pub(crate) room: Stack<Variable<'t>>,
+}
+
 /// A function in progress: its local variables, the newest first, and what it captures, from places of the function around.
 #[derive(Drop)]
 pub(crate) struct Level<'t> {
@@ -37,12 +45,14 @@ pub(crate) struct Level<'t> {
 }
 
 impl<'t> Level<'t> {
-    /// A function of which nothing is known yet.
-    pub(crate) fn new(alloc: Global) -> Level<'t>
+    /// A function of which nothing is known yet. Its variables will stand in this list, which is emptied.
+    pub(crate) fn new(alloc: Global, room: Stack<Variable<'t>>) -> Level<'t>
         ensures { result ≡ new_level }
     {
+        let mut variables = room;
+        variables.clear();
         Level {
-            variables: Stack::new(alloc),
+            variables,
             captures: List::new(alloc),
             places: List::new(alloc),
         }
@@ -122,13 +132,16 @@ impl<'t> Level<'t> {
     }
 
     /// The function ends: names stand for what they stand for around it. The places from which it captured.
-    pub(crate) fn end(mut self, spots: &mut SpotMap<'t>) -> Result<List<Place>, NoMemory>
-        ensures places { IfOk result (λ places. places ≡ self.entry.places) }
+    pub(crate) fn end(mut self, spots: &mut SpotMap<'t>) -> Result<Ended<'t>, NoMemory>
+        ensures places { IfOk result (λ ended. ended.places ≡ self.entry.places) }
         ensures right { OnOk result ((ls : Items Held) → IsRight (self.entry ∷ ls) spots.old.entries → IsRight ls spots.new.entries) }
     {
         self.close(spots, 0)?;
         give_back(self.captures.as_slice(), spots)?;
-        Ok(self.places)
+        Ok(Ended {
+            places: self.places,
+            room: self.variables,
+        })
     }
 }
 

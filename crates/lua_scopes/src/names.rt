@@ -41,14 +41,6 @@ impl<'t> Names<'t> {
         number_of(&mut self.spots, name)
     }
 
-    /// Whether that is the number of a name.
-    pub(crate) fn has(&self, number: usize, name: &'t Bytes) -> bool {
-        match self.spots.get_index(number) {
-            Some((key, _)) => *key == name,
-            None => false,
-        }
-    }
-
     /// What is known of them.
     pub(crate) fn into_spots(self) -> SpotMap<'t>
         ensures { (x : PlainBytes) → spot_at result.entries x ≡ None }

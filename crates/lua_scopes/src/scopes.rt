@@ -27,6 +27,8 @@ pub struct Scopes<'t> {
     spots: SpotMap<'t>,
     numbers: Numbers,
     cells: Cells,
+    /// Lists of variables of functions that ended.
+    rooms: Stack<Stack<Variable<'t>>>,
 }
 
 impl<'t> Model for Scopes<'t> {
@@ -53,11 +55,12 @@ impl<'t> Scopes<'t> {
         } = sketch;
         Scopes {
             alloc,
-            level: Level::new(alloc),
+            level: Level::new(alloc, Stack::new(alloc)),
             outer: Stack::new(alloc),
             spots: names.into_spots(),
             numbers: Numbers::new(numbers),
             cells: Cells::new(captured),
+            rooms: Stack::new(alloc),
         }
     }
 
@@ -120,7 +123,7 @@ impl<'t> Scopes<'t> {
     pub fn enter(&mut self) -> Result<(), NoMemory>
         ensures { OnOk result (self.new ≡ entered self.old) }
     {
-        let inner = Level::new(self.alloc);
+        let inner = Level::new(self.alloc, room(self.alloc, &mut self.rooms));
         let around = replace(&mut self.level, inner);
         match self.outer.push(around) {
             Ok(_) => Ok(()),
@@ -140,7 +143,10 @@ impl<'t> Scopes<'t> {
         };
         let inner = replace(&mut self.level, around);
         match inner.end(&mut self.spots) {
-            Ok(places) => Ok(places),
+            Ok(ended) => {
+                keep(&mut self.rooms, ended.room);
+                Ok(ended.places)
+            }
             Err(_) => {
                 self.cells.clean = false;
                 Err(NoMemory)
@@ -156,6 +162,9 @@ impl<'t> Scopes<'t> {
         let Some(entry) = find(&self.spots, named) else {
             return Ok(None);
         };
+        if entry.depth == self.outer.len() {
+            return Ok(Some(place_of(entry.spot, self.level.variables.len()).place));
+        }
         match reach(
             &mut self.level,
             &mut self.outer,
@@ -170,6 +179,21 @@ impl<'t> Scopes<'t> {
                 Err(NoMemory)
             }
         }
+    }
+}
+
+/// A list for variables, of a function that ended if there is one.
+fn room<'t>(alloc: Global, rooms: &mut Stack<Stack<Variable<'t>>>) -> Stack<Variable<'t>> {
+    match rooms.pop() {
+        Some(room) => room,
+        None => Stack::new(alloc),
+    }
+}
+
+/// Keeps a list for another function, if there is memory to keep it.
+fn keep<'t>(rooms: &mut Stack<Stack<Variable<'t>>>, room: Stack<Variable<'t>>) {
+    match rooms.push(room) {
+        Ok(_) | Err(_) => {}
     }
 }
 

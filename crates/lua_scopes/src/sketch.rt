@@ -45,12 +45,19 @@ struct Open {
     before: Option<Newest>,
 }
 
+/// A name that was met lately, and its number.
+#[derive(Clone, Copy)]
+struct Recent<'t> {
+    name: &'t Bytes,
+    number: usize,
+}
+
 /// A text that is looked at.
 #[derive(Drop)]
 pub(crate) struct Sketching<'t> {
     sketch: Sketch<'t>,
-    /// The numbers of names that were met lately, at most one for each slot (`slot_of`).
-    recent: Vec<usize>,
+    /// Names that were met lately, at most one for each slot (`slot_of`).
+    recent: Vec<Option<Recent<'t>>>,
     /// By the numbers of names.
     newest: Vec<Option<Newest>>,
     open: Vec<Open>,
@@ -62,7 +69,7 @@ impl<'t> Sketching<'t> {
     pub(crate) fn new(alloc: Global, seed: RandomState) -> Result<Sketching<'t>, NoMemory> {
         Ok(Sketching {
             sketch: Sketch::unknown(alloc, seed),
-            recent: no_numbers(alloc)?,
+            recent: no_names(alloc)?,
             newest: Vec::new(alloc),
             open: Vec::new(alloc),
             depth: 0,
@@ -80,12 +87,13 @@ impl<'t> Sketching<'t> {
         if slot >= self.recent.len() {
             return self.sketch.names.number(name);
         }
-        let recent = self.recent[slot];
-        if self.sketch.names.has(recent, name) {
-            return Ok(recent);
+        if let Some(recent) = self.recent[slot] {
+            if *recent.name == *name {
+                return Ok(recent.number);
+            }
         }
         let number = self.sketch.names.number(name)?;
-        self.recent[slot] = number;
+        self.recent[slot] = Some(Recent { name, number });
         Ok(number)
     }
 
@@ -171,13 +179,13 @@ fn slot_of(name: &[u8]) -> usize {
     }
 }
 
-/// For each slot no number.
-fn no_numbers(alloc: Global) -> Result<Vec<usize>, NoMemory> {
-    let mut numbers = Vec::new(alloc);
+/// For each slot no name.
+fn no_names<'t>(alloc: Global) -> Result<Vec<Option<Recent<'t>>>, NoMemory> {
+    let mut names = Vec::new(alloc);
     for _ in 0..SLOTS {
-        push(&mut numbers, usize::MAX)?;
+        push(&mut names, None)?;
     }
-    Ok(numbers)
+    Ok(names)
 }
 
 /// That flag is set.

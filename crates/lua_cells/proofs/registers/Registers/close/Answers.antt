@@ -1,4 +1,4 @@
-use Rattle.std.proofs.Common.{subst, ◌<◌, ◌≤◌, arith}
+use Rattle.std.proofs.Common.{subst, ◌<◌, arith}
 use Rattle.lua_cells.proofs.RegisterLaws.{closing_step, closing_end, fewer}
 use Rattle.lua_cells.proofs.registers.Registers.close.Goals as goal
 

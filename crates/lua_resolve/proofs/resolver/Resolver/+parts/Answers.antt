@@ -13,7 +13,7 @@ use Rattle.lua_code.specs.Seen.{place_seen, expression_seen, statement_seen, blo
 use Rattle.lua_code.proofs.Views.{expression-Nil, expression-Truth, expression-Number, expression-Text, expression-Dots, expression-Function, expression-Index, expression-Call, expression-Method, expression-Table, expression-Unary, expression-Paren, entry-Item, entry-Pair, branch_made, statement-Assign, statement-Call, statement-Do, statement-While, statement-Repeat, statement-Each, statement-Return, statement-Break, statement-Declare, statement-LocalFunction}
 use Rattle.lua_resolve.specs.Parts.{state_of, IsPart, ExpressionsSoFar, TargetsSoFar, EntriesSoFar, BranchesSoFar, BlockSoFar, IsStep, IsOther}
 use Rattle.lua_resolve.proofs.PartLaws.{next_same, next_trans, later, exps_start, exps_step, exps_end, fields_start, fields_step, fields_end, arms_start, arms_step, arms_end, targets_start, targets_step, targets_end, block_start, block_step, block_done, block_next, block_code, repeat_next, repeat_code, plain_part, body_next, body_code, local_part, local_function_part, function_next, function_code}
-use Rattle.lua_resolve.proofs.FormLaws.{exp_as, code_as, target_as, fields_as, arms_as, part_as, next_item, closing, entering, leaving, adding, numbered, exp_of, exps_of, targets_of, fields_of_list, arms_of_list, stats_of_list, names_of_list, if_part, count_part}
+use Rattle.lua_resolve.proofs.FormLaws.{exp_as, code_as, result_as, target_result_as, part_result_as, target_as, fields_as, arms_as, part_as, next_item, closing, entering, leaving, adding, numbered, exp_of, exps_of, targets_of, fields_of_list, arms_of_list, stats_of_list, names_of_list, if_part, count_part}
 use Rattle.lua_resolve.proofs.resolver.Resolver.+parts.Goals as goal
 
 pub kind-returns-in-Nil-clause-next : goal.kind-returns-in-Nil-clause-next
@@ -55,8 +55,8 @@ kind-returns-in_ok-copy-in-Text-clause-code t c = λ at see l. exp_as at see (ap
 pub kind-returns-in_ok-index-in-Function-clause-code : goal.kind-returns-in_ok-index-in-Function-clause-code
 kind-returns-in_ok-index-in-Function-clause-code t c = λ at see l. exp_as at see (ap (λ k. kind_view k c.args.line) c.in-Function.is ∙ kind-Function _ _) (expression-Function _ _) (c.in_ok-index-in-Function.ensures.code at see l)
 
-pub kind-returns-in_ok-code-in-Name-clause-code : goal.kind-returns-in_ok-code-in-Name-clause-code
-kind-returns-in_ok-code-in-Name-clause-code t c = λ at see l. exp_as at see (ap (λ k. kind_view k c.args.line) c.in-Name.is ∙ kind-Name _ _) (refl) (c.in_ok-code-in-Name.ensures.code at see l)
+pub kind-returns-in-Name-clause-code : goal.kind-returns-in-Name-clause-code
+kind-returns-in-Name-clause-code t c = result_as _ _ (ap (λ k. kind_view k c.args.line) c.in-Name.is ∙ kind-Name _ _) c.name.ensures.code
 
 pub kind-returns-in_ok-key-in-Index-clause-next : goal.kind-returns-in_ok-key-in-Index-clause-next
 kind-returns-in_ok-key-in-Index-clause-next t c = next_trans _ _ _ c.in_ok-of-in-Index.ensures.next c.in_ok-key-in-Index.ensures.next
@@ -95,7 +95,7 @@ pub operand-returns-clause-code : goal.operand-returns-clause-code
 operand-returns-clause-code t c = λ at see l. code_as at see (expr_view c.args.e.now) (ap expression_seen c.in_ok-code-2.ensures) (c.in_ok-code.ensures.code at see l)
 
 pub expression-returns-clause-code : goal.expression-returns-clause-code
-expression-returns-clause-code t c = λ at see l. exp_as at see (expr_opens _) refl (c.in_ok-code.ensures.code at see l)
+expression-returns-clause-code t c = result_as _ _ (expr_opens _) c.kind.ensures.code
 
 pub expressions-loop-e-init : goal.expressions-loop-e-init
 expressions-loop-e-init t c = subst (ExpressionsSoFar _ _ _ _) (sym c.in_ok-out.ensures) (exps_start _ _)
@@ -163,8 +163,8 @@ entry-returns-in_ok-item-in-Pair-clause-next t c = next_trans _ _ _ c.in_ok-key-
 pub entry-returns-in_ok-item-in-Pair-clause-code : goal.entry-returns-in_ok-item-in-Pair-clause-code
 entry-returns-in_ok-item-in-Pair-clause-code t c = λ at see l fs cs h. fields_as at see (ap (λ f. field_view f fs) c.in-Pair.is ∙ field-Pair _ _ fs) (entry-Pair _ _ cs) (c.in_ok-key-in-Pair.ensures.code at see (later _ _ at see (c.in_ok-item-in-Pair.ensures.next) l), c.in_ok-item-in-Pair.ensures.code at see l, h)
 
-pub target-returns-in_ok-target-in-Name-clause-code : goal.target-returns-in_ok-target-in-Name-clause-code
-target-returns-in_ok-target-in-Name-clause-code t c = λ at see l. target_as at see _ (expr_opens _ ∙ ap (λ k. kind_view k c.args.e.now.line) c.in-Name.is ∙ kind-Name _ _) (c.in_ok-target-in-Name.ensures.code at see l)
+pub target-returns-in-Name-clause-code : goal.target-returns-in-Name-clause-code
+target-returns-in-Name-clause-code t c = target_result_as _ _ (expr_opens _ ∙ ap (λ k. kind_view k c.args.e.now.line) c.in-Name.is ∙ kind-Name _ _) c.named_target.ensures.code
 
 pub target-returns-in_ok-key-in-Index-clause-next : goal.target-returns-in_ok-key-in-Index-clause-next
 target-returns-in_ok-key-in-Index-clause-next t c = next_trans _ _ _ c.in_ok-of-in-Index.ensures.next c.in_ok-key-in-Index.ensures.next
@@ -197,7 +197,7 @@ pub branch-returns-clause-code : goal.branch-returns-clause-code
 branch-returns-clause-code t c = λ at see l more cs h. arms_as at see (ap (λ k. k more) (arm_opens _)) (branch_made _ _ cs) (c.in_ok-test.ensures.code at see (later _ _ at see (c.in_ok-body.ensures.next) l), c.in_ok-body.ensures.code at see l, h)
 
 pub stat-returns : goal.stat-returns
-stat-returns t c = subst (λ k. IsPart (state_of c.args.self.now) (state_of c.stat_kind.new.self) k (statement_seen c.in_ok-code.code)) (sym (stat_opens c.args.s.now)) c.in_ok-code.ensures
+stat-returns t c = part_result_as _ _ _ (stat_opens c.args.s.now) c.stat_kind.ensures
 
 pub stat_kind-returns-in_ok-values-in-Assign : goal.stat_kind-returns-in_ok-values-in-Assign
 stat_kind-returns-in_ok-values-in-Assign t c = part_as _ _ (ap (λ k. stat_kind_view k c.args.line) c.in-Assign.is ∙ stat-Assign _ _ _) (statement-Assign _ _) (plain_part _ _ _ _ (next_trans _ _ _ c.in_ok-targets-in-Assign.ensures.next c.in_ok-values-in-Assign.ensures.next) (λ at see l tail left rest h. ((targets_of at see _ c.as_slice.ensures (c.in_ok-targets-in-Assign.ensures.code at see (later _ _ at see (c.in_ok-values-in-Assign.ensures.next) l)), exps_of at see _ c.as_slice-in-Assign.ensures (c.in_ok-values-in-Assign.ensures.code at see l)), h)))
@@ -208,8 +208,8 @@ stat_kind-returns-in_ok-code-in-Call t c = part_as _ _ (ap (λ k. stat_kind_view
 pub stat_kind-returns-in_ok-body-in-Do : goal.stat_kind-returns-in_ok-body-in-Do
 stat_kind-returns-in_ok-body-in-Do t c = part_as _ _ (ap (λ k. stat_kind_view k c.args.line) c.in-Do.is ∙ stat-Do _ _) (statement-Do _) (plain_part _ _ _ _ (c.in_ok-body-in-Do.ensures.next) (λ at see l tail left rest h. (c.in_ok-body-in-Do.ensures.code at see l, h)))
 
-pub stat_kind-returns-in_ok-body-in-While : goal.stat_kind-returns-in_ok-body-in-While
-stat_kind-returns-in_ok-body-in-While t c = part_as _ _ (ap (λ k. stat_kind_view k c.args.line) c.in-While.is ∙ stat-While _ _ _) (statement-While _ _) (plain_part _ _ _ _ (next_trans _ _ _ c.in_ok-test-in-While.ensures.next c.in_ok-body-in-While.ensures.next) (λ at see l tail left rest h. ((c.in_ok-test-in-While.ensures.code at see (later _ _ at see (c.in_ok-body-in-While.ensures.next) l), c.in_ok-body-in-While.ensures.code at see l), h)))
+pub loop_kind-returns-in_ok-body-in-While : goal.loop_kind-returns-in_ok-body-in-While
+loop_kind-returns-in_ok-body-in-While t c = part_as _ _ (ap (λ k. stat_kind_view k c.args.line) c.in-While.is ∙ stat-While _ _ _) (statement-While _ _) (plain_part _ _ _ _ (next_trans _ _ _ c.in_ok-test-in-While.ensures.next c.in_ok-body-in-While.ensures.next) (λ at see l tail left rest h. ((c.in_ok-test-in-While.ensures.code at see (later _ _ at see (c.in_ok-body-in-While.ensures.next) l), c.in_ok-body-in-While.ensures.code at see l), h)))
 
 pub stat_kind-returns-in_ok-values-in-Return : goal.stat_kind-returns-in_ok-values-in-Return
 stat_kind-returns-in_ok-values-in-Return t c = part_as _ _ (ap (λ k. stat_kind_view k c.args.line) c.in-Return.is ∙ stat-Return _ _) (statement-Return _) (plain_part _ _ _ _ (c.in_ok-values-in-Return.ensures.next) (λ at see l tail left rest h. (exps_of at see _ c.as_slice-in-Return.ensures (c.in_ok-values-in-Return.ensures.code at see l), h)))
@@ -220,8 +220,8 @@ stat_kind-returns-in-Break t c = part_as _ _ (ap (λ k. stat_kind_view k c.args.
 pub stat_kind-returns-in_ok-other-in-If : goal.stat_kind-returns-in_ok-other-in-If
 stat_kind-returns-in_ok-other-in-If t c = subst (λ k. IsPart (state_of c.args.self.now) (state_of c.otherwise.new.self) (stat_kind_view k c.args.line) (statement_seen (codes.If c.in_ok-arms-in-If.arms c.in_ok-other-in-If.other))) (sym c.in-If.is) (if_part _ _ _ _ _ _ _ (next_trans _ _ _ c.in_ok-arms-in-If.ensures.next c.in_ok-other-in-If.ensures.next) (λ at see l. arms_of_list at see _ c.as_slice-in-If.ensures (c.in_ok-arms-in-If.ensures.code at see (later _ _ at see c.in_ok-other-in-If.ensures.next l))) c.in_ok-other-in-If.ensures.code)
 
-pub stat_kind-returns-in_ok-close-in-Repeat : goal.stat_kind-returns-in_ok-close-in-Repeat
-stat_kind-returns-in_ok-close-in-Repeat t c = part_as _ _ (ap (λ k. stat_kind_view k c.args.line) c.in-Repeat.is ∙ stat-Repeat _ _ _) (statement-Repeat _ _) (plain_part _ _ _ _ (repeat_next _ _ _ _ _ _ c.in_ok-body-in-Repeat.ensures c.in_ok-test-in-Repeat.ensures.next (closing (state_of c.args.self.now) _ _ _ _ _ c.len-count.ensures c.in_ok-close-in-Repeat.ensures)) (λ at see l tail left rest h. (subst (λ b. IsBlock at (λ end. IsExp at end (expr_view c.in-Repeat.test) (expression_seen c.in_ok-test-in-Repeat.test)) see b (block_seen c.in_ok-body-in-Repeat.body)) (sym (block_opens c.in-Repeat.body)) (stats_of_list at (λ end. IsExp at end (expr_view c.in-Repeat.test) (expression_seen c.in_ok-test-in-Repeat.test)) see _ c.as_slice-in-Repeat.ensures (repeat_code _ _ _ _ _ _ _ _ c.in_ok-body-in-Repeat.ensures c.in_ok-test-in-Repeat.ensures.next c.in_ok-test-in-Repeat.ensures.code (closing (state_of c.args.self.now) _ _ _ _ _ c.len-count.ensures c.in_ok-close-in-Repeat.ensures) at see l)), h)))
+pub loop_kind-returns-in_ok-close-in-Repeat : goal.loop_kind-returns-in_ok-close-in-Repeat
+loop_kind-returns-in_ok-close-in-Repeat t c = part_as _ _ (ap (λ k. stat_kind_view k c.args.line) c.in-Repeat.is ∙ stat-Repeat _ _ _) (statement-Repeat _ _) (plain_part _ _ _ _ (repeat_next _ _ _ _ _ _ c.in_ok-body-in-Repeat.ensures c.in_ok-test-in-Repeat.ensures.next (closing (state_of c.args.self.now) _ _ _ _ _ c.len-count.ensures c.in_ok-close-in-Repeat.ensures)) (λ at see l tail left rest h. (subst (λ b. IsBlock at (λ end. IsExp at end (expr_view c.in-Repeat.test) (expression_seen c.in_ok-test-in-Repeat.test)) see b (block_seen c.in_ok-body-in-Repeat.body)) (sym (block_opens c.in-Repeat.body)) (stats_of_list at (λ end. IsExp at end (expr_view c.in-Repeat.test) (expression_seen c.in_ok-test-in-Repeat.test)) see _ c.as_slice.ensures (repeat_code _ _ _ _ _ _ _ _ c.in_ok-body-in-Repeat.ensures c.in_ok-test-in-Repeat.ensures.next c.in_ok-test-in-Repeat.ensures.code (closing (state_of c.args.self.now) _ _ _ _ _ c.len-count.ensures c.in_ok-close-in-Repeat.ensures) at see l)), h)))
 
 pub stat_kind-returns-in_ok-index-in-LocalFunction : goal.stat_kind-returns-in_ok-index-in-LocalFunction
 stat_kind-returns-in_ok-index-in-LocalFunction t c = part_as _ _ (ap (λ k. stat_kind_view k c.args.line) c.in-LocalFunction.is ∙ stat-LocalFunction _ _ _) (statement-LocalFunction _ _ _) (local_function_part _ _ _ _ _ _ _ _ _ c.in_ok-boxed-in-LocalFunction.ensures c.in_ok-index-in-LocalFunction.ensures.next c.in_ok-index-in-LocalFunction.ensures.code)
@@ -229,11 +229,11 @@ stat_kind-returns-in_ok-index-in-LocalFunction t c = part_as _ _ (ap (λ k. stat
 pub stat_kind-returns-in_ok-flags-in-Local : goal.stat_kind-returns-in_ok-flags-in-Local
 stat_kind-returns-in_ok-flags-in-Local t c = part_as _ _ (ap (λ k. stat_kind_view k c.args.line) c.in-Local.is ∙ stat-Local _ _ _) (statement-Declare _ _) (local_part _ _ _ _ _ _ _ _ c.in_ok-values-in-Local.ensures.next (λ at see l. exps_of at see _ c.as_slice-in-Local.ensures (c.in_ok-values-in-Local.ensures.code at see l)) (names_of_list _ _ c.as_slice-in-Local-2.ensures c.in_ok-flags-in-Local.ensures))
 
-pub stat_kind-returns-in_ok-flags-in-Each : goal.stat_kind-returns-in_ok-flags-in-Each
-stat_kind-returns-in_ok-flags-in-Each t c = part_as _ _ (ap (λ k. stat_kind_view k c.args.line) c.in-Each.is ∙ stat-Each _ _ _ _) (statement-Each _ _ _ _) (plain_part _ _ _ _ (next_trans _ _ _ c.in_ok-values-in-Each.ensures.next c.in_ok-flags-in-Each.ensures.next) (λ at see l tail left rest h. ((refl, c.in_ok-flags-in-Each.ensures.as_many, exps_of at see _ c.as_slice-in-Each.ensures (c.in_ok-values-in-Each.ensures.code at see (later _ _ at see c.in_ok-flags-in-Each.ensures.next l)), c.in_ok-flags-in-Each.ensures.code at see l), h)))
+pub loop_kind-returns-in_ok-flags-in-Each : goal.loop_kind-returns-in_ok-flags-in-Each
+loop_kind-returns-in_ok-flags-in-Each t c = part_as _ _ (ap (λ k. stat_kind_view k c.args.line) c.in-Each.is ∙ stat-Each _ _ _ _) (statement-Each _ _ _ _) (plain_part _ _ _ _ (next_trans _ _ _ c.in_ok-values-in-Each.ensures.next c.in_ok-flags-in-Each.ensures.next) (λ at see l tail left rest h. ((refl, c.in_ok-flags-in-Each.ensures.as_many, exps_of at see _ c.as_slice-in-Each.ensures (c.in_ok-values-in-Each.ensures.code at see (later _ _ at see c.in_ok-flags-in-Each.ensures.next l)), c.in_ok-flags-in-Each.ensures.code at see l), h)))
 
-pub stat_kind-returns-in_ok-boxed-in-Count : goal.stat_kind-returns-in_ok-boxed-in-Count
-stat_kind-returns-in_ok-boxed-in-Count t c = subst (λ k. IsPart (state_of c.args.self.now) (state_of c.counted.new.self) (stat_kind_view k c.args.line) (statement_seen (codes.Count c.in_ok-boxed-in-Count.field-0.boxed c.in_ok-from-in-Count.from c.in_ok-to-in-Count.to c.in_ok-by-in-Count.by c.in_ok-boxed-in-Count.field-0.body c.args.line))) (sym c.in-Count.is) (count_part _ _ _ _ _ _ _ _ _ _ _ _ _ (next_trans _ _ _ c.in_ok-from-in-Count.ensures.next (next_trans _ _ _ c.in_ok-to-in-Count.ensures.next (next_trans _ _ _ c.in_ok-by-in-Count.ensures.next c.in_ok-boxed-in-Count.ensures.next))) (λ at see l. c.in_ok-from-in-Count.ensures.code at see (later _ _ at see (next_trans _ _ _ c.in_ok-to-in-Count.ensures.next (next_trans _ _ _ c.in_ok-by-in-Count.ensures.next c.in_ok-boxed-in-Count.ensures.next)) l)) (λ at see l. c.in_ok-to-in-Count.ensures.code at see (later _ _ at see (next_trans _ _ _ c.in_ok-by-in-Count.ensures.next c.in_ok-boxed-in-Count.ensures.next) l)) (λ at see l. c.in_ok-by-in-Count.ensures.code at see (later _ _ at see c.in_ok-boxed-in-Count.ensures.next l)) c.in_ok-boxed-in-Count.ensures.code)
+pub loop_kind-returns-in_ok-boxed-in-Count : goal.loop_kind-returns-in_ok-boxed-in-Count
+loop_kind-returns-in_ok-boxed-in-Count t c = subst (λ k. IsPart (state_of c.args.self.now) (state_of c.counted.new.self) (stat_kind_view k c.args.line) (statement_seen (codes.Count c.in_ok-boxed-in-Count.field-0.boxed c.in_ok-from-in-Count.from c.in_ok-to-in-Count.to c.in_ok-by-in-Count.by c.in_ok-boxed-in-Count.field-0.body c.args.line))) (sym c.in-Count.is) (count_part _ _ _ _ _ _ _ _ _ _ _ _ _ (next_trans _ _ _ c.in_ok-from-in-Count.ensures.next (next_trans _ _ _ c.in_ok-to-in-Count.ensures.next (next_trans _ _ _ c.in_ok-by-in-Count.ensures.next c.in_ok-boxed-in-Count.ensures.next))) (λ at see l. c.in_ok-from-in-Count.ensures.code at see (later _ _ at see (next_trans _ _ _ c.in_ok-to-in-Count.ensures.next (next_trans _ _ _ c.in_ok-by-in-Count.ensures.next c.in_ok-boxed-in-Count.ensures.next)) l)) (λ at see l. c.in_ok-to-in-Count.ensures.code at see (later _ _ at see (next_trans _ _ _ c.in_ok-by-in-Count.ensures.next c.in_ok-boxed-in-Count.ensures.next) l)) (λ at see l. c.in_ok-by-in-Count.ensures.code at see (later _ _ at see c.in_ok-boxed-in-Count.ensures.next l)) c.in_ok-boxed-in-Count.ensures.code)
 
 pub counted-returns-clause-next : goal.counted-returns-clause-next
 counted-returns-clause-next t c = body_next _ _ _ _ _ _ c.in_ok-boxed.ensures c.in_ok-body.ensures.next (closing (state_of c.args.self.now) _ _ _ _ _ c.len-count.ensures c.in_ok-close.ensures)
