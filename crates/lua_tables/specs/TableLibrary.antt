@@ -1,6 +1,6 @@
 -- FUNCTIONS OF `table` (manual 5.5). They ask no metamethod. n is the border of a table, which is what `#` gives. Each entry that is
 -- read or written costs a step, and a new one 4 more.
-use Rattle.std.specs.Prelude.{ℕ, zero, suc, ◌+◌, ◌-◌, ◌*◌, ℤ, pos, ◌+ℤ◌, Bool, true, false, not, ◌&&◌, ◌||◌, List, [], ◌∷◌, ◌++◌, map, length, Option, Some, None, is_some, if◌then◌else◌, nat_le, nat_lt, int_lt, int_le, codes}
+use Rattle.std.specs.Prelude.{ℕ, zero, suc, ◌+◌, ◌-◌, ◌*◌, ℤ, pos, ◌+ℤ◌, Bool, true, false, ◌&&◌, ◌||◌, List, [], ◌∷◌, ◌++◌, map, length, Option, Some, None, is_some, if◌then◌else◌, nat_le, nat_lt, int_lt, codes}
 use Rattle.std.specs.Fmt.{signed_decimal}
 use Rattle.std.specs.Int.{w64, leading_zeros, int_max}
 use Rattle.std.specs.Ordering.{nat_cmp, int_cmp, is_le}
@@ -8,6 +8,7 @@ use Rattle.std.specs.Cmp.Lexicographic.{slice_cmp}
 use Rattle.std.specs.declared.cmp.Ordering.{Ordering}
 use Rattle.std.specs.declared.cmp.Ordering.TheVariants.{Equal}
 use Rattle.lua_number.specs.declared.arithmetic.NumberFault.TheVariants.{OutOfRange}
+use Rattle.lua_number.specs.Whole.{fits}
 use Rattle.lua_heap.specs.Value.{Value, Nil, Number, Text, is_nil}
 use Rattle.lua_heap.specs.Table.{Entries, get, border}
 use Rattle.lua_heap.specs.Heap.{Heap, table_at, set_in}
@@ -81,12 +82,16 @@ concat args h =
 
 -- `insert(t, v)` puts v at n + 1. `insert(t, place, v)` puts v at a place, and what stood from there to n one place further on; a third
 -- argument, nil too, makes this form. A read-only table is refused before anything is read.
-abbrev pub insert_values : {X : Type 0} → ℕ → ℤ → ℕ → Value → Heap X → Plain X
-insert_values t place moved v h =
+abbrev pub insert_fitting : {X : Type 0} → ℕ → ℤ → ℕ → Value → Heap X → Plain X
+insert_fitting t place moved v h =
     let es = (table_at h t).entries in
     let vs = v ∷ entries_from moved place es in
-    if int_lt (pos 9223372036854775807) (place +ℤ pos moved) then fails h (number_fault OutOfRange)
-    else costs (moved + put_charge place vs es) (put_from place vs t h) []
+    costs (moved + put_charge place vs es) (put_from place vs t h) []
+
+abbrev pub insert_values : {X : Type 0} → ℕ → ℤ → ℕ → Value → Heap X → Plain X
+insert_values t place moved v h =
+    if fits (place +ℤ pos moved) then insert_fitting t place moved v h
+    else fails h (number_fault OutOfRange)
 
 abbrev pub insert_at : {X : Type 0} → ℕ → ℤ → Value → Heap X → Plain X
 insert_at t place v h =
@@ -132,7 +137,7 @@ remove_values t place vs h =
 abbrev pub remove_at : {X : Type 0} → ℕ → ℤ → Heap X → Plain X
 remove_at t place h =
     let es = (table_at h t).entries in
-    if not (int_le (pos 1) place && int_le place (pos (border es))) then gives h []
+    if int_lt place (pos 1) || int_lt (pos (border es)) place then gives h []
     else if (table_at h t).frozen then fails h read_only
     else remove_values t place (entries_from (count_between place (pos (border es))) place es) h
 

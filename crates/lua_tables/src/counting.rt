@@ -48,11 +48,13 @@ fn greatest_key(store: &Store, left: &mut Left, table: TableId) -> Result<i64, S
 {
     let mut greatest = 0;
     'entries: for at in 0..usize::MAX {
-        let Some((key, value)) = store.entry(table, at) else {
-            return Ok(greatest);
-        };
-        take(left, 1)?;
-        greatest = greater_key(greatest, key, value);
+        match store.entry(table, at) {
+            Some((key, value)) => {
+                take(left, 1)?;
+                greatest = greater_key(greatest, key, value);
+            }
+            None => return Ok(greatest),
+        }
     }
     // so many entries do not fit in memory
     Err(Stop::NoMemory)

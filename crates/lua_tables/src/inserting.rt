@@ -10,7 +10,9 @@ ghost use Rattle.lua_tables.specs.TableLibrary as meaning;
 ghost use Rattle.lua_tables.specs.Moves.{last_put};
 
 use crate::paying::take_both;
-use crate::places::{count_to, entry_charge, put_at, put_from, read_onto, value_behind};
+use crate::places::{
+    count_to, entry_charge, place_behind, put_at, put_from, read_onto, value_behind,
+};
 use lua_basic::Stop;
 use lua_basic::arguments::{a_number, a_table};
 use lua_basic::messages::{fail, refuse};
@@ -45,6 +47,7 @@ fn put_inserted(
     requires table { IsTableOf store.old table }
     requires value { IsOf store.old value }
     requires writable { (table_at store.old.heap table.at).frozen ≡ false }
+    requires low { pos 1 ≤ℤ place }
     requires within { (place +ℤ pos moved) <ℤ pos 9223372036854775808 }
     ensures put { OnOk result (store.new ≡ record store.old { heap = meaning.put_from place (seen store.old.texts value ∷ entries_from moved place (table_at store.old.heap table.at).entries) table.at store.old.heap }) }
     ensures later { IsLater store.old store.new }
@@ -58,6 +61,34 @@ fn put_inserted(
 }
 
 /// Puts a value at a place of a table that can be written, and so many that stood from there to the border one place further.
+fn insert_fitting(
+    alloc: Global,
+    store: &mut Store,
+    left: &mut Left,
+    table: TableId,
+    place: i64,
+    moved: u64,
+    value: Value,
+) -> Result<List<Value>, Stop>
+    requires table { IsTableOf store.old table }
+    requires value { IsOf store.old value }
+    requires writable { (table_at store.old.heap table.at).frozen ≡ false }
+    requires low { pos 1 ≤ℤ place }
+    requires within { (place +ℤ pos moved) <ℤ pos 9223372036854775808 }
+    requires moved { moved ≡ count_between place (pos (entries.border (table_at store.old.heap table.at).entries)) }
+    ensures answer { Paid (meaning.insert_fitting table.at place moved (seen store.old.texts value) store.old.heap) store.old left.old store.new left.new result }
+    ensures of { AnswerOf store.new result }
+    ensures later { IsLater store.old store.new }
+{
+    let top = place_behind(place, moved);
+    let last = last_of(store, table, place, moved, value);
+    let charge = entry_charge(store, table, top, last);
+    take_both(left, moved, moved + 1 + charge)?;
+    put_inserted(alloc, store, table, place, moved, value)?;
+    Ok(List::new(alloc))
+}
+
+/// The same, where the greatest place is a number.
 fn insert_values(
     alloc: Global,
     store: &mut Store,
@@ -76,14 +107,10 @@ fn insert_values(
     ensures of { AnswerOf store.new result }
     ensures later { IsLater store.old store.new }
 {
-    let Some(top) = place.checked_add_unsigned(moved) else {
-        return Err(fail(store, b"number out of range"));
-    };
-    let last = last_of(store, table, place, moved, value);
-    let charge = entry_charge(store, table, top, last);
-    take_both(left, moved, moved + 1 + charge)?;
-    put_inserted(alloc, store, table, place, moved, value)?;
-    Ok(List::new(alloc))
+    match place.checked_add_unsigned(moved) {
+        Some(_) => insert_fitting(alloc, store, left, table, place, moved, value),
+        None => Err(fail(store, b"number out of range")),
+    }
 }
 
 /// Puts a value at a place from 1 on.

@@ -1,5 +1,5 @@
 //! `concat` (manual 5.5).
-ghost use Rattle.std.specs.Prelude.{◌≡◌, ◌++◌, ◌+ℤ◌, ℕ, List as Items, pos, length, IfOk, OnOk};
+ghost use Rattle.std.specs.Prelude.{◌≡◌, ◌++◌, ◌+◌, ◌+ℤ◌, ℕ, List as Items, pos, length, IfOk, OnOk};
 ghost use Rattle.lua_heap.specs.Heap.{table_at};
 ghost use Rattle.lua_meaning.specs.Arguments.{fails, gives_text};
 ghost use Rattle.lua_store.specs.Seen.{seen};
@@ -48,6 +48,42 @@ fn take_part(
     take_both(left, separator.len() as u64, text.as_slice().len() as u64)
 }
 
+/// Takes the steps of values that stand behind a first one, each with a separator in front.
+fn take_behind(
+    alloc: Global,
+    store: &Store,
+    left: &mut Left,
+    separator: &[u8],
+    values: &[Value],
+) -> Result<(), Stop>
+    requires { AllOf store.now values.now }
+    ensures { Takes (length (meaning.behind_parts separator.now (values_seen store.now.texts values.now))) left.old left.new result }
+{
+    let mut rest = values;
+    'parts: while let Some((value, more)) = split(rest) {
+        take_part(alloc, store, left, separator, value)?;
+        rest = more;
+    }
+    Ok(())
+}
+
+/// Takes the steps of a first value, and of those behind it.
+fn take_parts(
+    alloc: Global,
+    store: &Store,
+    left: &mut Left,
+    separator: &[u8],
+    first: Value,
+    others: &[Value],
+) -> Result<(), Stop>
+    requires first { IsOf store.now first }
+    requires others { AllOf store.now others.now }
+    ensures { Takes (length (meaning.part (seen store.now.texts first)) + length (meaning.behind_parts separator.now (values_seen store.now.texts others.now))) left.old left.new result }
+{
+    take_part(alloc, store, left, b"", first)?;
+    take_behind(alloc, store, left, separator, others)
+}
+
 /// Takes the steps of the text that the values give together.
 fn take_joined(
     alloc: Global,
@@ -59,16 +95,10 @@ fn take_joined(
     requires { AllOf store.now values.now }
     ensures { Takes (length (meaning.joined separator.now (values_seen store.now.texts values.now))) left.old left.new result }
 {
-    let Some((first, others)) = split(values) else {
-        return Ok(());
-    };
-    take_part(alloc, store, left, b"", first)?;
-    let mut rest = others;
-    'parts: while let Some((value, more)) = split(rest) {
-        take_part(alloc, store, left, separator, value)?;
-        rest = more;
+    match split(values) {
+        Some((first, others)) => take_parts(alloc, store, left, separator, first, others),
+        None => Ok(()),
     }
-    Ok(())
 }
 
 /// More bytes behind a text.
@@ -97,6 +127,25 @@ fn add_part(
     add(text, part.as_slice())
 }
 
+/// Values that stand behind a first one, each with a separator in front, behind a text.
+fn add_behind(
+    alloc: Global,
+    store: &Store,
+    text: &mut Vec<u8>,
+    separator: &[u8],
+    values: &[Value],
+) -> Result<(), NoMemory>
+    requires { AllOf store.now values.now }
+    ensures { OnOk result (text.new.items ≡ text.old.items ++ meaning.behind_parts separator.now (values_seen store.now.texts values.now)) }
+{
+    let mut rest = values;
+    'parts: while let Some((value, more)) = split(rest) {
+        add_part(alloc, store, text, separator, value)?;
+        rest = more;
+    }
+    Ok(())
+}
+
 /// The text that the values give together.
 fn join(
     alloc: Global,
@@ -108,16 +157,14 @@ fn join(
     ensures { IfOk result (λ text. text.items ≡ meaning.joined separator.now (values_seen store.now.texts values.now)) }
 {
     let mut text = Vec::new(alloc);
-    let Some((first, others)) = split(values) else {
-        return Ok(text);
-    };
-    add_part(alloc, store, &mut text, b"", first)?;
-    let mut rest = others;
-    'parts: while let Some((value, more)) = split(rest) {
-        add_part(alloc, store, &mut text, separator, value)?;
-        rest = more;
+    match split(values) {
+        Some((first, others)) => {
+            add_part(alloc, store, &mut text, b"", first)?;
+            add_behind(alloc, store, &mut text, separator, others)?;
+            Ok(text)
+        }
+        None => Ok(text),
     }
-    Ok(text)
 }
 
 /// The values are joined; it costs the bytes of the text.
@@ -179,10 +226,11 @@ fn concat_between(
     ensures of { AnswerOf store.new result }
     ensures later { IsLater store.old store.new }
 {
-    match walk(alloc, store, left, table, first, last, Wanted::Part)? {
+    let walked = walk(alloc, store, left, table, first, last, Wanted::Part)?;
+    match &walked {
         Walked::Passed(values) => join_values(alloc, store, left, separator, values.as_slice()),
         Walked::Refused(offset, _) => {
-            Err(refuse_item(alloc, store, place_behind(first, offset)))
+            Err(refuse_item(alloc, store, place_behind(first, *offset)))
         }
     }
 }

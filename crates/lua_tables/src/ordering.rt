@@ -1,12 +1,12 @@
 //! Values are put in order: numbers, and strings by their bytes.
-ghost use Rattle.std.specs.Prelude.{◌≡◌, ℕ, List as Items, map, length, IfOk, OnOk};
+ghost use Rattle.std.specs.Prelude.{◌≡◌, ◌++◌, ◌∷◌, [], ℕ, List as Items, map, length, IfOk, OnOk};
 ghost use Rattle.std.specs.Ordering.{nat_cmp, int_cmp};
 ghost use Rattle.std.specs.Cmp.Lexicographic.{slice_cmp};
 ghost use Rattle.std.specs.Borrow.{Bor};
 ghost use Rattle.lua_heap.specs.Value as kind;
 ghost use Rattle.lua_meaning.specs.Values.{first};
-ghost use Rattle.lua_store.specs.Parts.{IsLater};
-ghost use Rattle.lua_store.specs.Seen.{StoreView};
+ghost use Rattle.lua_store.specs.Parts.{IsOf, IsLater};
+ghost use Rattle.lua_store.specs.Seen.{StoreView, seen};
 ghost use Rattle.lua_basic.specs.Seen.{values_seen, AllOf};
 ghost use Rattle.lua_tables.specs.Kinds as kinds;
 ghost use Rattle.lua_tables.specs.TableLibrary as meaning;
@@ -18,6 +18,22 @@ use lua_store::{Store, Value};
 use std::alloc::Global;
 use wk_base::{List, NoMemory};
 
+/// A value behind numbers, if it is one.
+fn add_number(numbers: &mut List<i64>, value: Value) -> Result<(), NoMemory>
+    ensures { OnOk result ((texts : Items (Items ℕ)) → numbers.new ≡ numbers.old ++ kinds.numbers_in (seen texts value ∷ [])) }
+{
+    match value {
+        Value::Number(number) => numbers.push(number),
+        Value::Text(_) => Ok(()),
+        Value::Nil => Ok(()),
+        Value::Bool(_) => Ok(()),
+        Value::Table(_) => Ok(()),
+        Value::Closure(_) => Ok(()),
+        Value::Builtin(_) => Ok(()),
+        Value::Markup(_) => Ok(()),
+    }
+}
+
 /// The numbers among values.
 fn numbers_in(alloc: Global, values: &[Value]) -> Result<List<i64>, NoMemory>
     ensures { IfOk result (λ numbers. (texts : Items (Items ℕ)) → numbers ≡ kinds.numbers_in (values_seen texts values.now)) }
@@ -25,9 +41,7 @@ fn numbers_in(alloc: Global, values: &[Value]) -> Result<List<i64>, NoMemory>
     let mut numbers = List::new(alloc);
     let mut rest = values;
     'values: while let Some((value, more)) = split(rest) {
-        if let Value::Number(number) = value {
-            numbers.push(number)?;
-        }
+        add_number(&mut numbers, value)?;
         rest = more;
     }
     Ok(numbers)
@@ -39,8 +53,10 @@ fn number_values(alloc: Global, numbers: &[i64]) -> Result<List<Value>, NoMemory
     ensures of { IfOk result (λ values. (s : StoreView) → AllOf s values) }
 {
     let mut values = List::new(alloc);
-    'numbers: for at in 0..numbers.len() {
-        values.push(Value::Number(numbers[at]))?;
+    let mut rest = numbers;
+    'numbers: while let Some((number, more)) = split(rest) {
+        values.push(Value::Number(number))?;
+        rest = more;
     }
     Ok(values)
 }
@@ -52,7 +68,25 @@ fn sorted_numbers(alloc: Global, values: &[Value]) -> Result<List<Value>, NoMemo
 {
     let mut numbers = numbers_in(alloc, values)?.into_vec();
     numbers.sort_unstable();
-    number_values(alloc, numbers.as_slice())
+    let sorted = number_values(alloc, numbers.as_slice())?;
+    Ok(sorted)
+}
+
+/// A value behind texts, if it is one.
+fn add_text<'b>(store: &Store<'b>, texts: &mut List<&'b [u8]>, value: Value) -> Result<(), NoMemory>
+    requires { IsOf store.now value }
+    ensures { OnOk result (map (λ (b : Bor (Items ℕ)). b.now) texts.new ≡ map (λ (b : Bor (Items ℕ)). b.now) texts.old ++ kinds.texts_in (seen store.now.texts value ∷ [])) }
+{
+    match value {
+        Value::Text(text) => texts.push(store.bytes(text)),
+        Value::Number(_) => Ok(()),
+        Value::Nil => Ok(()),
+        Value::Bool(_) => Ok(()),
+        Value::Table(_) => Ok(()),
+        Value::Closure(_) => Ok(()),
+        Value::Builtin(_) => Ok(()),
+        Value::Markup(_) => Ok(()),
+    }
 }
 
 /// The bytes of the strings among values.
@@ -67,9 +101,7 @@ fn texts_in<'b>(
     let mut texts = List::new(alloc);
     let mut rest = values;
     'values: while let Some((value, more)) = split(rest) {
-        if let Value::Text(text) = value {
-            texts.push(store.bytes(text))?;
-        }
+        add_text(store, &mut texts, value)?;
         rest = more;
     }
     Ok(texts)
@@ -91,11 +123,7 @@ fn text_values(alloc: Global, store: &mut Store, texts: &[&[u8]]) -> Result<List
 }
 
 /// The strings among values, in order of their bytes.
-fn sorted_texts(
-    alloc: Global,
-    store: &mut Store,
-    values: &[Value],
-) -> Result<List<Value>, NoMemory>
+fn sorted_texts(alloc: Global, store: &mut Store, values: &[Value]) -> Result<List<Value>, NoMemory>
     requires { AllOf store.old values.now }
     ensures values { IfOk result (λ sorted. values_seen store.new.texts sorted ≡ map kind.Text (meaning.in_order (slice_cmp nat_cmp) (kinds.texts_in (values_seen store.old.texts values.now)))) }
     ensures of { IfOk result (AllOf store.new) }
@@ -104,7 +132,8 @@ fn sorted_texts(
 {
     let mut texts = texts_in(alloc, store, values)?.into_vec();
     texts.sort_unstable();
-    text_values(alloc, store, texts.as_slice())
+    let sorted = text_values(alloc, store, texts.as_slice())?;
+    Ok(sorted)
 }
 
 /// Values in order, which are numbers alone or strings alone, where there are two or more.
@@ -124,7 +153,9 @@ pub(crate) fn in_order(
         return copy(alloc, values);
     }
     if is_number(first(values)) {
-        return sorted_numbers(alloc, values);
+        let numbers = sorted_numbers(alloc, values)?;
+        return Ok(numbers);
     }
-    sorted_texts(alloc, store, values)
+    let texts = sorted_texts(alloc, store, values)?;
+    Ok(texts)
 }

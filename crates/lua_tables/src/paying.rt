@@ -11,20 +11,15 @@ use wk_base::Left;
 pub(crate) fn take(left: &mut Left, steps: u64) -> Result<(), Stop>
     ensures { Takes steps left.old left.new result }
 {
-    match pay(left, steps) {
-        Ok(()) => Ok(()),
-        Err(stop) => Err(stop),
-    }
+    pay(left, steps)
 }
 
 /// Takes two charges, whose sum may be greater than any number of steps.
 pub(crate) fn take_both(left: &mut Left, first: u64, second: u64) -> Result<(), Stop>
     ensures { Takes (first + second) left.old left.new result }
 {
-    match take(left, first) {
-        Ok(()) => take(left, second),
-        Err(stop) => Err(stop),
-    }
+    take(left, first)?;
+    take(left, second)
 }
 
 /// Takes all steps, for a charge that no number of steps covers.
@@ -39,7 +34,7 @@ fn spend(left: &mut Left) -> Stop
 }
 
 /// Takes what it costs to put so many values in order: their number times its binary digits.
-pub(crate) fn take_order(left: &mut Left, count: u64) -> Result<(), Stop>
+fn take_order(left: &mut Left, count: u64) -> Result<(), Stop>
     ensures { Takes (meaning.order_charge count) left.old left.new result }
 {
     let digits = u64::from(64 - count.leading_zeros());
@@ -47,4 +42,12 @@ pub(crate) fn take_order(left: &mut Left, count: u64) -> Result<(), Stop>
         Some(steps) => take(left, steps),
         None => Err(spend(left)),
     }
+}
+
+/// Takes what it costs to put so many values in order and to write them.
+pub(crate) fn take_sort(left: &mut Left, count: u64) -> Result<(), Stop>
+    ensures { Takes (meaning.order_charge count + count) left.old left.new result }
+{
+    take_order(left, count)?;
+    take(left, count)
 }

@@ -15,13 +15,13 @@ use lua_store::{Store, TableId, Value};
 use lua_table::SetFault;
 use wk_base::{List, NoMemory};
 
-/// The first value, and those behind it.
-pub(crate) fn split(values: &[Value]) -> Option<(Value, &[Value])>
-    ensures { MatchOption result (values.now ≡ []) (λ p. values.now ≡ p.0 ∷ p.1.now) }
+/// The first item, and those behind it.
+pub(crate) fn split<T: Copy>(items: &[T]) -> Option<(T, &[T])>
+    ensures { MatchOption result (items.now ≡ []) (λ p. items.now ≡ p.0 ∷ p.1.now) }
 {
-    match values {
+    match items {
         [] => None,
-        [value, more @ ..] => Some((*value, more)),
+        [item, more @ ..] => Some((*item, more)),
     }
 }
 
@@ -123,12 +123,17 @@ pub(crate) fn put_from(
     requires table { IsTableOf store.old table }
     requires values { AllOf store.old values.now }
     requires writable { (table_at store.old.heap table.at).frozen ≡ false }
+    requires low { pos 1 ≤ℤ first }
     requires within { (first +ℤ pos (length values.now)) ≤ℤ pos 9223372036854775808 }
     ensures put { OnOk result (store.new ≡ record store.old { heap = meaning.put_from first (values_seen store.old.texts values.now) table.at store.old.heap }) }
     ensures later { IsLater store.old store.new }
 {
-    'places: for offset in 0..values.len() {
-        put_at(store, table, place_behind(first, offset as u64), values[offset])?;
+    let mut rest = values;
+    let mut offset = 0;
+    'places: while let Some((value, more)) = split(rest) {
+        put_at(store, table, place_behind(first, offset), value)?;
+        rest = more;
+        offset += 1;
     }
     Ok(())
 }

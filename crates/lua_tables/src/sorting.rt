@@ -12,8 +12,8 @@ ghost use Rattle.lua_tables.specs.TableLibrary as meaning;
 
 use crate::checks::a_nil;
 use crate::ordering::in_order;
-use crate::paying::{take, take_order};
-use crate::places::put_from;
+use crate::paying::take_sort;
+use crate::places::{count_to, put_from};
 use crate::walking::{Walked, Wanted, is_number, walk};
 use lua_basic::Stop;
 use lua_basic::arguments::a_table;
@@ -46,11 +46,13 @@ fn sort_values(
     ensures of { AnswerOf store.new result }
     ensures later { IsLater store.old store.new }
 {
-    if store.is_frozen(table) && !values.is_empty() {
+    if values.is_empty() {
+        return Ok(List::new(alloc));
+    }
+    if store.is_frozen(table) {
         return Err(fail(store, b"table from mw.loadData is read-only"));
     }
-    take_order(left, values.len() as u64)?;
-    take(left, values.len() as u64)?;
+    take_sort(left, values.len() as u64)?;
     let sorted = in_order(alloc, store, values)?;
     put_from(store, table, 1, sorted.as_slice())?;
     Ok(List::new(alloc))
@@ -70,11 +72,12 @@ fn sort_table(
 {
     let border = store.border(table);
     let one = store.get(table, Value::Number(1));
-    let wanted = Wanted::Like(border as u64, one);
-    match walk(alloc, store, left, table, 1, border, wanted)? {
+    let wanted = Wanted::Like(count_to(1, border), one);
+    let walked = walk(alloc, store, left, table, 1, border, wanted)?;
+    match &walked {
         Walked::Passed(values) => sort_values(alloc, store, left, table, values.as_slice()),
         Walked::Refused(_, value) => {
-            Err(refuse_kind(alloc, store, 1, b"sort", wanted_kind(one), &[value]))
+            Err(refuse_kind(alloc, store, 1, b"sort", wanted_kind(one), &[*value]))
         }
     }
 }

@@ -133,22 +133,22 @@ pub(crate) fn walk(
     wanted: Wanted,
 ) -> Result<Walked, Stop>
     requires { IsTableOf store.now table }
-    ensures {
-      let vs = entries_from (count_between first last) first (table_at store.now.heap table.at).entries in
-      Walks store.now vs (meaning.walk (test_of store.now.texts wanted) vs) left.old left.new result
-    }
+    ensures { let vs = entries_from (count_between first last) first (table_at store.now.heap table.at).entries in
+        Walks store.now vs (meaning.walk (test_of store.now.texts wanted) vs) left.old left.new result }
 {
     let mut values = List::new(alloc);
     'places: for offset in 0..u64::MAX {
-        let Some(place) = place_within(first, offset, last) else {
-            return Ok(Walked::Passed(values));
-        };
-        take(left, 1)?;
-        let value = store.get(table, Value::Number(place));
-        if !passes(wanted, value) {
-            return Ok(Walked::Refused(offset, value));
+        match place_within(first, offset, last) {
+            Some(place) => {
+                take(left, 1)?;
+                let value = store.get(table, Value::Number(place));
+                if !passes(wanted, value) {
+                    return Ok(Walked::Refused(offset, value));
+                }
+                values.push(value)?;
+            }
+            None => return Ok(Walked::Passed(values)),
         }
-        values.push(value)?;
     }
     // so many values do not fit in memory
     Err(Stop::NoMemory)
