@@ -48,18 +48,24 @@ concat-dear h sep i vs PassedAll = omega arith
 concat-dear h sep i vs (Refused k v) = omega arith
 
 -- a value that is refused stands within what was to be read
-pub refused-within : (test : kind.Value → Bool) (vs : List kind.Value) (k : ℕ) (v : kind.Value) → walk test vs ≡ Refused k v → k < length vs
-refused-within test [] k v e = absurd cc
-refused-within test (u ∷ vs) k v e = go (test u) e
+refused-inside : (n : ℕ) (w : Walk) (k : ℕ) (v : kind.Value) → ((j : ℕ) → w ≡ Refused j v → j < n) → one_passed w ≡ Refused k v → k < suc n
+refused-inside n PassedAll k v f e = absurd (no e)
   where
-    inside : (w : Walk) (k : ℕ) → one_passed w ≡ Refused k v → ((j : ℕ) → w ≡ Refused j v → j < length vs) → k < suc (length vs)
-    inside PassedAll k e f = absurd cc
-    inside (Refused j u) k e f =
-        let same_value : u ≡ v = cc in
-        let next : suc j ≡ k = cc in
-        let less = f j (ap (Refused j) same_value) in
-        omega (arith, next, less)
+    no : PassedAll ≡ Refused k v → ⊥
+    no e = absurd cc
+refused-inside n (Refused j u) k v f e =
+    let same_value : u ≡ v = cc in
+    let next : suc j ≡ k = cc in
+    let less = f j (ap (Refused j) same_value) in
+    omega (arith, next, less)
 
-    go : (b : Bool) → (if b then one_passed (walk test vs) else Refused 0 u) ≡ Refused k v → k < suc (length vs)
-    go true e = inside (walk test vs) k e (λ j f. refused-within test vs j v f)
-    go false e = let none : 0 ≡ k = cc in omega (arith, none)
+refused-next : (n : ℕ) (b : Bool) (w : Walk) (u : kind.Value) (k : ℕ) (v : kind.Value) → ((j : ℕ) → w ≡ Refused j v → j < n) → (if b then one_passed w else Refused 0 u) ≡ Refused k v → k < suc n
+refused-next n true w u k v f e = refused-inside n w k v f e
+refused-next n false w u k v f e = let none : 0 ≡ k = cc in omega (arith, none)
+
+pub refused-within : (test : kind.Value → Bool) (vs : List kind.Value) (k : ℕ) (v : kind.Value) → walk test vs ≡ Refused k v → k < length vs
+refused-within test [] k v e = absurd (no e)
+  where
+    no : PassedAll ≡ Refused k v → ⊥
+    no e = absurd cc
+refused-within test (u ∷ vs) k v e = refused-next (length vs) (test u) (walk test vs) u k v (λ j f. refused-within test vs j v f) e

@@ -270,7 +270,7 @@ module _ {X Y : Type 0} (R : Map → X → Y → Type 0) (m : Map) where
     append-same a b x v w r =
         branch R m h s st _ _ (table-stood R m h s st a b x).frozen (λ _. failing R m h s st read_only) (λ o.
         subst (λ (k : ℕ). Alike (insert_values a (pos (border (table_at h a).entries + 1)) 0 v h) (insert_values b (pos (k + 1)) 0 w s)) (border-same a b x)
-        (insert_values-same a b x o _ 0 v w r))
+        (insert_values-same a b x o (pos (border (table_at h a).entries + 1)) 0 v w r))
 
     pub insert-same : (vs ws : List Value) → Each (Same m) vs ws → Alike (insert vs h) (insert ws s)
     insert-same vs ws e =

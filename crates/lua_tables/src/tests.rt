@@ -1,6 +1,6 @@
 //! Each function is called. The results are those of the program of Lua 5.1, the charges are counted by hand.
 ghost use Rattle.std.specs.Prelude.{IfOk};
-ghost use Rattle.lua_store.specs.Parts.{IsTableOf};
+ghost use Rattle.lua_store.specs.Parts.{IsTableOf, IsLater};
 
 use crate::{TableFunction, table_call};
 use bumpalo::Bump;
@@ -41,18 +41,49 @@ fn steps(steps: u64) -> Left {
 }
 
 /// A table of numbers.
-fn list(store: &mut Store, numbers: &[i64]) -> Result<TableId, NoMemory>
+fn list(store: &mut Store, numbers: &[u8]) -> Result<TableId, NoMemory>
     ensures { IfOk result (IsTableOf store.new) }
 {
     let table = store.new_table()?;
     let mut place: i64 = 1;
     'numbers: for number in numbers {
         let _set = store
-            .set(table, Value::Number(place), Value::Number(*number))
+            .set(
+                table,
+                Value::Number(place),
+                Value::Number(i64::from(*number)),
+            )
             .is_ok();
         place = place.saturating_add(1);
     }
     Ok(table)
+}
+
+/// A call with a table and numbers behind it.
+fn call_with(
+    alloc: Global,
+    store: &mut Store,
+    left: &mut Left,
+    which: TableFunction,
+    table: TableId,
+    args: &[u8],
+) -> Result<List<Value>, Stop>
+    requires { IsTableOf store.old table }
+    ensures { IsLater store.old store.new }
+{
+    let table = Value::Table(table);
+    match args {
+        [] => table_call(alloc, store, left, which, &[table]),
+        [a] => {
+            let args = [table, Value::Number(i64::from(*a))];
+            table_call(alloc, store, left, which, &args)
+        }
+        [a, b, ..] => {
+            let a = Value::Number(i64::from(*a));
+            let b = Value::Number(i64::from(*b));
+            table_call(alloc, store, left, which, &[table, a, b])
+        }
+    }
 }
 
 /// A call with a table of numbers, and numbers behind it.
@@ -61,19 +92,11 @@ fn called(
     store: &mut Store,
     charge: u64,
     which: TableFunction,
-    numbers: &[i64],
-    args: &[i64],
+    numbers: &[u8],
+    args: &[u8],
 ) -> Result<List<Value>, Stop> {
-    let table = Value::Table(list(store, numbers)?);
-    let left = &mut steps(charge);
-    match args {
-        [] => table_call(alloc, store, left, which, &[table]),
-        [a] => table_call(alloc, store, left, which, &[table, Value::Number(*a)]),
-        [a, b, ..] => {
-            let args = [table, Value::Number(*a), Value::Number(*b)];
-            table_call(alloc, store, left, which, &args)
-        }
-    }
+    let table = list(store, numbers)?;
+    call_with(alloc, store, &mut steps(charge), which, table, args)
 }
 
 /// The numbers of the table after such a call, with commas between.
@@ -81,22 +104,15 @@ fn left_over(
     alloc: Global,
     store: &mut Store,
     which: TableFunction,
-    numbers: &[i64],
-    args: &[i64],
+    numbers: &[u8],
+    args: &[u8],
 ) -> Result<List<Value>, Stop> {
-    let table = Value::Table(list(store, numbers)?);
+    let table = list(store, numbers)?;
     let left = &mut steps(1000);
-    let called = match args {
-        [] => table_call(alloc, store, left, which, &[table]),
-        [a] => table_call(alloc, store, left, which, &[table, Value::Number(*a)]),
-        [a, b, ..] => {
-            let args = [table, Value::Number(*a), Value::Number(*b)];
-            table_call(alloc, store, left, which, &args)
-        }
-    };
-    let _values = called?;
+    let _values = call_with(alloc, store, left, which, table, args)?;
     let comma = Value::Text(store.text(b",")?);
-    table_call(alloc, store, left, TableFunction::Concat, &[table, comma])
+    let args = [Value::Table(table), comma];
+    table_call(alloc, store, left, TableFunction::Concat, &args)
 }
 
 /// This text is given, or raised at level 1.
@@ -117,8 +133,8 @@ fn says(
 /// A call, the number that it gives, its charge, and the table afterwards.
 struct Row {
     which: TableFunction,
-    numbers: &'static [i64],
-    args: &'static [i64],
+    numbers: &'static [u8],
+    args: &'static [u8],
     given: Option<i64>,
     charge: u64,
     after: &'static [u8],
@@ -152,8 +168,8 @@ fn try_row(rt: &impl Abort, alloc: Global, store: &mut Store, row: &Row) -> Resu
 /// A call of a table with a row of this function.
 fn row(
     which: TableFunction,
-    numbers: &'static [i64],
-    args: &'static [i64],
+    numbers: &'static [u8],
+    args: &'static [u8],
     given: Option<i64>,
     charge: u64,
     after: &'static [u8],
@@ -183,34 +199,25 @@ fn lists_are_changed(rt: HostRuntime) -> Result<(), Fail> {
     let sort = TableFunction::Sort;
     let maxn = TableFunction::Maxn;
     let rows = [
-        row(insert, &[], &[7], None, 5, b"7"),
-        row(insert, &[1, 2], &[7], None, 5, b"1,2,7"),
-        row(insert, &[1, 2], &[1, 7], None, 9, b"7,1,2"),
-        row(insert, &[1, 2], &[2, 7], None, 7, b"1,7,2"),
-        row(insert, &[1, 2], &[3, 7], None, 5, b"1,2,7"),
-        row(insert, &[1, 2], &[5, 7], None, 5, b"1,2"),
-        row(insert, &[1], &[], None, 1, b"1"),
-        row(remove, &[], &[], None, 0, b""),
-        row(remove, &[4, 5, 6], &[], Some(6), 2, b"4,5"),
-        row(remove, &[4, 5, 6], &[1], Some(4), 6, b"5,6"),
-        row(remove, &[4, 5, 6], &[3], Some(6), 2, b"4,5"),
-        row(remove, &[4, 5, 6], &[0], None, 0, b"4,5,6"),
-        row(remove, &[4, 5, 6], &[4], None, 0, b"4,5,6"),
-        row(remove, &[4, 5, 6], &[-1], None, 0, b"4,5,6"),
-        row(maxn, &[], &[], Some(0), 0, b""),
-        row(maxn, &[9, 9], &[], Some(2), 2, b"9,9"),
-        row(sort, &[], &[], None, 0, b""),
-        row(sort, &[5], &[], None, 3, b"5"),
-        row(sort, &[3, 1, 2], &[], None, 12, b"1,2,3"),
-        row(sort, &[2, -1, 2, 0], &[], None, 20, b"-1,0,2,2"),
-        row(
-            sort,
-            &[i64::MAX, i64::MIN, 0],
-            &[],
-            None,
-            12,
-            b"-9223372036854775808,0,9223372036854775807",
-        ),
+        row(insert, b"", b"\x07", None, 5, b"7"),
+        row(insert, b"\x01\x02", b"\x07", None, 5, b"1,2,7"),
+        row(insert, b"\x01\x02", b"\x01\x07", None, 9, b"7,1,2"),
+        row(insert, b"\x01\x02", b"\x02\x07", None, 7, b"1,7,2"),
+        row(insert, b"\x01\x02", b"\x03\x07", None, 5, b"1,2,7"),
+        row(insert, b"\x01\x02", b"\x05\x07", None, 5, b"1,2"),
+        row(insert, b"\x01", b"", None, 1, b"1"),
+        row(remove, b"", b"", None, 0, b""),
+        row(remove, b"\x04\x05\x06", b"", Some(6), 2, b"4,5"),
+        row(remove, b"\x04\x05\x06", b"\x01", Some(4), 6, b"5,6"),
+        row(remove, b"\x04\x05\x06", b"\x03", Some(6), 2, b"4,5"),
+        row(remove, b"\x04\x05\x06", b"\x00", None, 0, b"4,5,6"),
+        row(remove, b"\x04\x05\x06", b"\x04", None, 0, b"4,5,6"),
+        row(maxn, b"", b"", Some(0), 0, b""),
+        row(maxn, b"\x09\x09", b"", Some(2), 2, b"9,9"),
+        row(sort, b"", b"", None, 0, b""),
+        row(sort, b"\x05", b"", None, 3, b"5"),
+        row(sort, b"\x03\x01\x02", b"", None, 12, b"1,2,3"),
+        row(sort, b"\x02\x01\x02\x00", b"", None, 20, b"0,1,2,2"),
     ];
     try_rows(&rt, rt.alloc(), &mut store, &rows);
     Ok(())
@@ -224,7 +231,7 @@ fn joined(
     first: i64,
     last: i64,
 ) -> Result<List<Value>, Stop> {
-    let table = Value::Table(list(store, &[10, 20, 30])?);
+    let table = Value::Table(list(store, b"\x0a\x14\x1e")?);
     let separator = Value::Text(store.text(separator)?);
     let args = [table, separator, Value::Number(first), Value::Number(last)];
     table_call(alloc, store, &mut steps(50), TableFunction::Concat, &args)
@@ -250,7 +257,7 @@ fn sorted(alloc: Global, store: &mut Store, one: &[u8], other: &[u8]) -> Result<
 
 /// A call with a read-only table of two numbers.
 fn refused(alloc: Global, store: &mut Store, which: TableFunction) -> Result<List<Value>, Stop> {
-    let table = list(store, &[2, 1])?;
+    let table = list(store, b"\x02\x01")?;
     store.freeze(table);
     let args = [Value::Table(table)];
     table_call(alloc, store, &mut steps(2), which, &args)
@@ -287,7 +294,14 @@ fn messages_are_raised(rt: HostRuntime) -> Result<(), Fail> {
     let arena = Bump::new(rt.alloc());
     let mut store = Store::new(rt.alloc(), &arena, fixed_seed()?);
     let alloc = rt.alloc();
-    let answer = called(alloc, &mut store, 0, TableFunction::Insert, &[1], &[0, 5]);
+    let answer = called(
+        alloc,
+        &mut store,
+        0,
+        TableFunction::Insert,
+        b"\x01",
+        b"\x00\x05",
+    );
     assert!(rt;
         says(
             &rt,
@@ -297,7 +311,7 @@ fn messages_are_raised(rt: HostRuntime) -> Result<(), Fail> {
         )
         .is_ok()
     );
-    let answer = called(alloc, &mut store, 0, TableFunction::Sort, &[1], &[1]);
+    let answer = called(alloc, &mut store, 0, TableFunction::Sort, b"\x01", b"\x01");
     assert!(rt;
         says(
             &rt,

@@ -1,4 +1,4 @@
-use Rattle.std.proofs.Common.{◌≡◌, ◌∙◌, ap, refl, Err, subst, sym, length, pos, [], ◌∷◌, rules, w64, to_z, of_z}
+use Rattle.std.proofs.Common.{◌≡◌, ◌∙◌, ap, refl, Ok, Err, subst, sym, length, pos, [], ◌∷◌, rules, w64, to_z, of_z}
 use Rattle.std.proofs.lemmas.Result.{err_from_is_err_and}
 use Rattle.lua_heap.specs.Value as kind
 use Rattle.lua_heap.specs.Heap.{table_at}
@@ -41,6 +41,6 @@ returns-clause-answer c =
     let counted = rw c.in_ok-table.ensures.same at c.in_ok-greatest.ensures in
     let whole : to_z w64 (of_z w64 c.in_ok-greatest.greatest) ≡ c.in_ok-greatest.greatest = search rules in
     let values = ap (values_seen s.texts) (rw whole at c.in_ok-values.ensures) ∙ ap (λ z. kind.Number z ∷ []) (sym counted.0) in
-    subst (λ q. Paid q c.args.store.now c.args.left.now s c.greatest_key.new.left _) (sym table)
+    subst (λ q. Paid q c.args.store.now c.args.left.now s c.greatest_key.new.left (Ok c.in_ok-values.values)) (sym table)
     (paid-values (length es) _ c.args.store.now c.args.left.now s c.greatest_key.new.left c.in_ok-values.values counted.1
     (put-gives _ _ _ s _ c.in_ok-values.values refl (ap (λ (x : StoreView). x.heap) c.in_ok-table.ensures.same) values))

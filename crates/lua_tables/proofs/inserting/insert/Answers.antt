@@ -3,7 +3,7 @@ use Rattle.std.proofs.lemmas.Result.{err_from_is_err_and}
 use Rattle.std.proofs.lemmas.List.{length-map}
 use Rattle.lua_meaning.specs.Arguments.{a_number}
 use Rattle.lua_meaning.specs.Values as meaning
-use Rattle.lua_store.specs.Seen.{seen}
+use Rattle.lua_store.specs.Seen.{StoreView, seen}
 use Rattle.lua_basic.specs.Seen.{values_seen, Free, Paid}
 use Rattle.lua_basic.proofs.Found.{stopped, found, for_nothing}
 use Rattle.lua_tables.specs.TableLibrary.{insert_at}
@@ -67,6 +67,11 @@ returns-clause-answer c =
     let form = three-arguments t vs h (omega (arith, size, long)) in
     let is = rw c.in_ok-table.ensures.same at c.in_ok-place.ensures.found in
     let place = found _ _ c.in_ok-place.place h (λ z. insert_at t z (meaning.third vs) h) is (ap (a_number 2 (codes "insert")) (c.rest.ensures.values texts)) in
-    let own = rw (c.in_ok-place.ensures.same ∙ c.in_ok-table.ensures.same, at_) at c.insert_at.ensures.answer in
-    let answer = rw (c.third.ensures.value texts) at own in
-    subst (λ q. Paid q c.args.store.now c.args.left.now c.insert_at.new.store c.insert_at.new.left c.insert_at.result) (sym (table ∙ form ∙ place)) answer
+    let s = c.args.store.now in
+    let l = c.args.left.now in
+    let t2 = c.insert_at.new.store in
+    let l2 = c.insert_at.new.left in
+    let stored = subst (λ (x : StoreView). Paid (insert_at t (to_z w64 (of_z w64 c.in_ok-place.place)) (seen x.texts c.third.result) x.heap) x l t2 l2 c.insert_at.result) (c.in_ok-place.ensures.same ∙ c.in_ok-table.ensures.same) c.insert_at.ensures.answer in
+    let placed = subst (λ z. Paid (insert_at t z (seen texts c.third.result) h) s l t2 l2 c.insert_at.result) at_ stored in
+    let answer = subst (λ v. Paid (insert_at t c.in_ok-place.place v h) s l t2 l2 c.insert_at.result) (c.third.ensures.value texts) placed in
+    subst (λ q. Paid q s l t2 l2 c.insert_at.result) (sym (table ∙ form ∙ place)) answer

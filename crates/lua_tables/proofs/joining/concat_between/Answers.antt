@@ -1,4 +1,4 @@
-use Rattle.std.proofs.Common.{◌≡◌, ◌<◌, ◌∙◌, ap, sym, subst, refl, suc, length, arith, rules, pos, ◌+ℤ◌, Err, w64, to_z, of_z}
+use Rattle.std.proofs.Common.{◌≡◌, ◌<◌, ◌≤◌, ◌∙◌, ap, sym, subst, refl, suc, length, arith, rules, pos, ◌+ℤ◌, Err, w64, to_z, of_z}
 use Rattle.std.proofs.lemmas.Int.{to_z-of_z, ints}
 use Rattle.std.proofs.lemmas.Result.{err_from_is_err_and}
 use Rattle.lua_heap.specs.Heap.{table_at}
@@ -40,10 +40,14 @@ returns-in_err-walked-clause-answer c =
     let first = to_z-of_z w64 c.args.first c.ranges.first in
     let last = to_z-of_z w64 c.args.last c.ranges.last in
     let h = c.args.store.now.heap in
-    let vs = entries_from (count_between c.args.first c.args.last) c.args.first (table_at h c.args.table.at).entries in
-    let short = rw (first, last) at c.in_err-walked.ensures in
-    paid-walked (concat_between c.args.table.at c.args.separator.now c.args.first c.args.last h) vs (walk is_part vs) c.args.store.now c.args.left.now c.walk.new.left _ c.from_residual.result
-    (concat-dear h c.args.separator.now c.args.first vs (walk is_part vs)) short (p.1 ∙ ap Err p.2)
+    let es = (table_at h c.args.table.at).entries in
+    let read = entries_from (count_between c.args.first c.args.last) c.args.first es in
+    let given = entries_from (count_between (to_z w64 (of_z w64 c.args.first)) (to_z w64 (of_z w64 c.args.last))) (to_z w64 (of_z w64 c.args.first)) es in
+    let same : read ≡ given = ap (λ z. entries_from (count_between z c.args.last) z es) (sym first) ∙ ap (λ z. entries_from (count_between (to_z w64 (of_z w64 c.args.first)) z) (to_z w64 (of_z w64 c.args.first)) es) (sym last) in
+    let dear = subst (λ vs. walk_charge vs (walk is_part vs) ≤ (concat_between c.args.table.at c.args.separator.now c.args.first c.args.last h).charge) same
+    (concat-dear h c.args.separator.now c.args.first read (walk is_part read)) in
+    paid-walked (concat_between c.args.table.at c.args.separator.now c.args.first c.args.last h) given (walk is_part given) c.args.store.now c.args.left.now c.walk.new.left _ c.from_residual.result
+    dear c.in_err-walked.ensures (p.1 ∙ ap Err p.2)
 
 pub returns-in-Passed-clause-answer : goal.returns-in-Passed-clause-answer
 returns-in-Passed-clause-answer c =

@@ -28,13 +28,12 @@ returns-in_err-walked-clause-answer c =
     let h = c.args.store.now.heap in
     let t = c.args.table.at in
     let es = (table_at h t).entries in
-    let edge : c.border-border.result ≡ pos (border es) = c.border-border.ensures in
-    let size = (rw last at c.count_to.ensures.count) ∙ ap (count_between (pos 1)) edge ∙ count_from_one (border es) in
+    let edge : to_z w64 (of_z w64 c.border-border.result) ≡ pos (border es) = last ∙ c.border-border.ensures in
+    let size = c.count_to.ensures.count ∙ ap (count_between (pos 1)) edge ∙ count_from_one (border es) in
     let one = c.get-one.ensures.value in
-    let vs = entries_from (count_between (pos 1) c.border-border.result) (pos 1) es in
-    let short = rw last at c.in_err-walked.ensures in
+    let vs = entries_from (count_between (pos 1) (to_z w64 (of_z w64 c.border-border.result))) (pos 1) es in
     paid-walked (sort_table t h) vs (walk (may_stand c.count_to.result (seen texts c.get-one.result)) vs) c.args.store.now c.args.left.now c.walk.new.left _ c.from_residual.result
-    (read-dear t h c.count_to.result c.border-border.result (seen texts c.get-one.result) size edge one) short (p.1 ∙ ap Err p.2)
+    (read-dear t h c.count_to.result (to_z w64 (of_z w64 c.border-border.result)) (seen texts c.get-one.result) size edge one) c.in_err-walked.ensures (p.1 ∙ ap Err p.2)
 
 pub sort_values-requires-clause-of : goal.sort_values-requires-clause-of
 sort_values-requires-clause-of c =

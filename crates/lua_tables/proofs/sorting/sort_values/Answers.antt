@@ -1,4 +1,4 @@
-use Rattle.std.proofs.Common.{◌≡◌, ◌<◌, ◌∙◌, ◌+◌, ap, sym, subst, false, [], arith, rules, length, Err, pos}
+use Rattle.std.proofs.Common.{◌≡◌, ◌<◌, ◌∙◌, ◌+◌, ap, sym, subst, false, [], arith, rules, length, Ok, Err, pos}
 use Rattle.std.proofs.lemmas.Result.{err_from_is_err_and}
 use Rattle.std.proofs.lemmas.List.{length-map}
 use Rattle.lua_heap.specs.Heap.{table_at}
@@ -45,6 +45,6 @@ returns-clause-answer c =
     let same : mid.heap ≡ h = ap (λ (s : StoreView). s.heap) c.in_ok-sorted.ensures.same in
     let values = ap (values_seen mid.texts) c.as_slice.ensures ∙ c.in_ok-sorted.ensures.values in
     let heap = ap (λ (s : StoreView). s.heap) c.in_ok-put_from.ensures.put ∙ ap (λ xs. put_from (pos 1) xs c.args.table.at mid.heap) values ∙ ap (put_from (pos 1) (in_order value_cmp vs) c.args.table.at) same in
-    subst (λ q. Paid q c.args.store.now c.args.left.now t c.take_sort.new.left _) (sym whole)
-    (paid-values (order_charge (length c.args.values.now) + length c.args.values.now) _ c.args.store.now c.args.left.now t c.take_sort.new.left _ c.in_ok-take_sort.ensures
-    (put-gives _ _ _ t [] _ cost heap (ap (values_seen t.texts) c.new-2.ensures)))
+    subst (λ q. Paid q c.args.store.now c.args.left.now t c.take_sort.new.left (Ok c.new-2.result)) (sym whole)
+    (paid-values (order_charge (length c.args.values.now) + length c.args.values.now) _ c.args.store.now c.args.left.now t c.take_sort.new.left c.new-2.result c.in_ok-take_sort.ensures
+    (put-gives _ _ _ t [] c.new-2.result cost heap (ap (values_seen t.texts) c.new-2.ensures)))
