@@ -131,6 +131,7 @@ fn says(
 }
 
 /// A call, the number that it gives, its charge, and the table afterwards.
+#[derive(Drop)]
 struct Row {
     which: TableFunction,
     numbers: &'static [u8],
@@ -166,7 +167,7 @@ fn try_row(rt: &impl Abort, alloc: Global, store: &mut Store, row: &Row) -> Resu
 }
 
 /// A call of a table with a row of this function.
-fn row(
+fn a_row(
     which: TableFunction,
     numbers: &'static [u8],
     args: &'static [u8],
@@ -199,25 +200,25 @@ fn lists_are_changed(rt: HostRuntime) -> Result<(), Fail> {
     let sort = TableFunction::Sort;
     let maxn = TableFunction::Maxn;
     let rows = [
-        row(insert, b"", b"\x07", None, 5, b"7"),
-        row(insert, b"\x01\x02", b"\x07", None, 5, b"1,2,7"),
-        row(insert, b"\x01\x02", b"\x01\x07", None, 9, b"7,1,2"),
-        row(insert, b"\x01\x02", b"\x02\x07", None, 7, b"1,7,2"),
-        row(insert, b"\x01\x02", b"\x03\x07", None, 5, b"1,2,7"),
-        row(insert, b"\x01\x02", b"\x05\x07", None, 5, b"1,2"),
-        row(insert, b"\x01", b"", None, 1, b"1"),
-        row(remove, b"", b"", None, 0, b""),
-        row(remove, b"\x04\x05\x06", b"", Some(6), 2, b"4,5"),
-        row(remove, b"\x04\x05\x06", b"\x01", Some(4), 6, b"5,6"),
-        row(remove, b"\x04\x05\x06", b"\x03", Some(6), 2, b"4,5"),
-        row(remove, b"\x04\x05\x06", b"\x00", None, 0, b"4,5,6"),
-        row(remove, b"\x04\x05\x06", b"\x04", None, 0, b"4,5,6"),
-        row(maxn, b"", b"", Some(0), 0, b""),
-        row(maxn, b"\x09\x09", b"", Some(2), 2, b"9,9"),
-        row(sort, b"", b"", None, 0, b""),
-        row(sort, b"\x05", b"", None, 3, b"5"),
-        row(sort, b"\x03\x01\x02", b"", None, 12, b"1,2,3"),
-        row(sort, b"\x02\x01\x02\x00", b"", None, 20, b"0,1,2,2"),
+        a_row(insert, b"", b"\x07", None, 5, b"7"),
+        a_row(insert, b"\x01\x02", b"\x07", None, 5, b"1,2,7"),
+        a_row(insert, b"\x01\x02", b"\x01\x07", None, 9, b"7,1,2"),
+        a_row(insert, b"\x01\x02", b"\x02\x07", None, 7, b"1,7,2"),
+        a_row(insert, b"\x01\x02", b"\x03\x07", None, 5, b"1,2,7"),
+        a_row(insert, b"\x01\x02", b"\x05\x07", None, 5, b"1,2"),
+        a_row(insert, b"\x01", b"", None, 1, b"1"),
+        a_row(remove, b"", b"", None, 0, b""),
+        a_row(remove, b"\x04\x05\x06", b"", Some(6), 2, b"4,5"),
+        a_row(remove, b"\x04\x05\x06", b"\x01", Some(4), 6, b"5,6"),
+        a_row(remove, b"\x04\x05\x06", b"\x03", Some(6), 2, b"4,5"),
+        a_row(remove, b"\x04\x05\x06", b"\x00", None, 0, b"4,5,6"),
+        a_row(remove, b"\x04\x05\x06", b"\x04", None, 0, b"4,5,6"),
+        a_row(maxn, b"", b"", Some(0), 0, b""),
+        a_row(maxn, b"\x09\x09", b"", Some(2), 2, b"9,9"),
+        a_row(sort, b"", b"", None, 0, b""),
+        a_row(sort, b"\x05", b"", None, 3, b"5"),
+        a_row(sort, b"\x03\x01\x02", b"", None, 12, b"1,2,3"),
+        a_row(sort, b"\x02\x01\x02\x00", b"", None, 20, b"0,1,2,2"),
     ];
     try_rows(&rt, rt.alloc(), &mut store, &rows);
     Ok(())
