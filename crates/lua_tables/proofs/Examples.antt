@@ -3,9 +3,7 @@
 use Rattle.std.proofs.Common.{◌≡◌, refl, ℕ, true, false, pos, negsuc, List, [], ◌∷◌}
 use Rattle.std.specs.Prelude.{codes}
 use Rattle.std.specs.Fmt.{digits}
-use Rattle.std.specs.Int.{leading_zeros}
 use lib.Count.{count_leading_zeros}
-use Rattle.lua_number.specs.Numerals.{decimal_of, numeral_of, trimmed, digits_of_base, read_number_of, read_in_base_of}
 use Rattle.lua_table.specs.Front.{numbered}
 use Rattle.lua_heap.specs.Value.{Value, Nil, Truth, Number, Text, Table}
 use Rattle.lua_heap.specs.Table.{Entries}

@@ -1,5 +1,5 @@
 -- Values in order: two lists that rise by a total order and hold the same are the same, so a sort gives what an insertion sort gives.
-use Rattle.std.proofs.Common.{◌≡◌, ◌∙◌, ap, sym, subst, refl, arith, rules, ℕ, zero, suc, ◌+◌, ◌≤◌, ◌<◌, Bool, true, false, cond, if◌then◌else◌, ◌||◌, nat_le, ℤ, pos, negsuc, List, [], ◌∷◌, ◌++◌, length, map, get_or, sum_by}
+use Rattle.std.proofs.Common.{◌≡◌, ◌∙◌, ap, sym, subst, refl, arith, rules, ℕ, suc, ◌+◌, ◌≤◌, ◌<◌, Bool, true, false, cond, if◌then◌else◌, ◌||◌, nat_le, ℤ, List, [], ◌∷◌, ◌++◌, length, map, get_or, sum_by}
 use Rattle.std.specs.List.{AllByRecursion}
 use Rattle.std.specs.List.Sorted.{IsPermutation, IsSorted}
 use Rattle.std.specs.declared.cmp.Ordering.{Ordering}
@@ -10,7 +10,7 @@ use Rattle.std.specs.Cmp.Lexicographic.{slice_cmp, nat_list_cmp_total, texts_tie
 use Rattle.std.specs.Borrow.{Bor}
 use Rattle.std.proofs.lemmas.List.Sums.{sum_by-cons}
 use Rattle.std.proofs.lemmas.List.Sorted.{IsPermutation-map, sum_by-IsPermutation}
-use Rattle.lua_heap.specs.Value.{Value, Nil, Number, Text}
+use Rattle.lua_heap.specs.Value.{Value, Number, Text}
 use Rattle.lua_meaning.specs.Scope.{Bytes}
 use Rattle.lua_meaning.specs.Values.{first}
 use Rattle.lua_tables.specs.TableLibrary.{Walk, PassedAll, Refused, one_passed, walk, is_number, is_string, goes_with, may_stand, value_cmp, put_in_order, in_order}

@@ -1,10 +1,10 @@
 -- Values at places of a table: how many there are, what is put, and what that costs.
-use Rattle.std.proofs.Common.{◌≡◌, ◌≢◌, ◌∙◌, ap, sym, subst, refl, rules, arith, ℕ, zero, suc, ◌+◌, ◌-◌, ◌<◌, ◌≤◌, Bool, true, false, ℤ, pos, negsuc, ◌+ℤ◌, ◌-ℤ◌, List, [], ◌∷◌, ◌++◌, length, drop, map, Option, Some, None, is_some, unwrap_or, slice_index_or, get_or-set_same}
-use Rattle.std.specs.Prelude.{◌≤ℤ◌, ◌<ℤ◌, slice_set}
+use Rattle.std.proofs.Common.{◌≡◌, ◌≢◌, ◌∙◌, ap, sym, subst, refl, arith, ℕ, zero, suc, ◌+◌, ◌<◌, ◌≤◌, true, false, ℤ, pos, negsuc, ◌+ℤ◌, ◌-ℤ◌, List, [], ◌∷◌, length, Option, Some, None, is_some, unwrap_or, get_or-set_same}
+use Rattle.std.specs.Prelude.{◌≤ℤ◌, ◌<ℤ◌}
 use Rattle.std.specs.Map.{lookup}
 use Rattle.std.proofs.lemmas.Int.{ints}
 use Rattle.lua_table.specs.Entries.{Contents}
-use Rattle.lua_heap.specs.Value.{Value, Nil, Number, same, is_nil}
+use Rattle.lua_heap.specs.Value.{Value, Nil, Number, same}
 use Rattle.lua_heap.specs.Table.{Entries, get, has, border, empty_table}
 use Rattle.lua_heap.specs.Heap.{Heap, table_at, set_in, with_entry}
 use Rattle.lua_heap.proofs.Borders.{border_is_least}

@@ -1,5 +1,5 @@
 -- Values that are read one after another, each for a step.
-use Rattle.std.proofs.Common.{◌≡◌, ◌∙◌, ap, sym, subst, refl, arith, ℕ, zero, suc, ◌+◌, ◌-◌, ◌<◌, ◌≤◌, Bool, true, false, if◌then◌else◌, ℤ, pos, ◌+ℤ◌, List, [], ◌∷◌, ◌++◌, append-nil, length, drop, Option, Some, None, Ok, Err, slice_get}
+use Rattle.std.proofs.Common.{◌≡◌, ◌∙◌, ap, sym, subst, refl, arith, ℕ, zero, suc, ◌+◌, ◌-◌, ◌<◌, ◌≤◌, Bool, true, false, if◌then◌else◌, ℤ, pos, ◌+ℤ◌, List, [], ◌∷◌, ◌++◌, append-nil, length, drop, Some, None, Ok, Err, slice_get}
 use Rattle.std.specs.Prelude.{Result}
 use Rattle.std.proofs.lemmas.Int.{ints}
 use Rattle.wk_base.specs.declared.left.Left.{Left}
@@ -20,7 +20,7 @@ use Rattle.lua_basic.proofs.Counts.{entry-read}
 use Rattle.lua_tables.specs.TableLibrary.{Walk, PassedAll, Refused, one_passed, walk, greater_key, greatest_key}
 use Rattle.lua_tables.specs.declared.walking.Walked.{Walked}
 use Rattle.lua_tables.specs.declared.walking.Walked.TheVariants as walked
-use Rattle.lua_tables.specs.Paying.{IsTaken, IsOver, Takes}
+use Rattle.lua_tables.specs.Paying.{IsTaken, Takes}
 use Rattle.lua_tables.specs.Walked.{walk_charge, Walks}
 use Rattle.lua_tables.specs.Counted.{Counts}
 use Rattle.lua_tables.proofs.Taken.{with_steps, taken-both, again}

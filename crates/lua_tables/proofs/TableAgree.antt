@@ -1,27 +1,27 @@
 -- The functions of `table` (manual 5.5) do the same to two heaps, of which one stands in the other.
-use Rattle.std.proofs.Common.{◌≡◌, ℕ, zero, suc, ◌+◌, ◌&&◌, ◌||◌, ℤ, pos, ◌+ℤ◌, Bool, true, false, if◌then◌else◌, List, [], ◌∷◌, ◌++◌, length, Option, Some, None, is_some, nat_le, nat_lt, ◌≤◌, arith, rules, refl, ◌∙◌, ap, subst}
-use Rattle.std.specs.Prelude.{Ok, Err, codes, int_lt}
+use Rattle.std.proofs.Common.{◌≡◌, ℕ, zero, suc, ◌+◌, ◌&&◌, ◌||◌, ℤ, pos, ◌+ℤ◌, Bool, true, false, if◌then◌else◌, List, [], ◌∷◌, ◌++◌, length, is_some, nat_le, nat_lt, ◌≤◌, arith, rules, refl, ◌∙◌, ap, subst}
+use Rattle.std.specs.Prelude.{codes, int_lt}
 use Rattle.std.specs.Int.{int_max}
 use Rattle.std.specs.Ordering.{is_le}
 use Rattle.lua_number.specs.Whole.{fits}
 use Rattle.lua_heap.specs.Value.{Value, Nil, Number, Text, is_nil}
 use Rattle.lua_heap.specs.Table.{Entries, get, has, border}
 use Rattle.lua_heap.specs.Heap.{Heap, table_at, set_in}
-use Rattle.lua_heap.specs.Related.{Map, Each, none, more, Same, nil, truth, number, text, table, closure, builtin, markup, SameEntries, SamePair, Stands, Moved}
+use Rattle.lua_heap.specs.Related.{Map, Each, none, more, Same, nil, truth, number, text, table, closure, builtin, markup, SameEntries, Stands, Moved}
 use Rattle.lua_heap.proofs.Entries.{nil-related, get-related, has-related, border-related}
 use Rattle.lua_heap.proofs.Changes.{moved-set}
 use Rattle.lua_heap.proofs.Steps.{moved-same, moved-then}
 use Rattle.lua_meaning.specs.Charges.{entry_charge}
 use Rattle.lua_meaning.specs.Scope.{Bytes}
-use Rattle.lua_meaning.specs.Values.{kind_of, first, rest, text_in}
+use Rattle.lua_meaning.specs.Values.{rest}
 use Rattle.lua_meaning.specs.Messages.{bad_argument, expected, read_only}
-use Rattle.lua_meaning.specs.Arguments.{Plain, Argument, gives_text, fails, with_charge, costs}
+use Rattle.lua_meaning.specs.Arguments.{Plain, gives_text, fails, costs}
 use Rattle.lua_meaning.specs.Basic.{set_charge, count_between, entries_from}
-use Rattle.lua_library_agree.specs.Same.{SameArgument, both_ok, both_err, both_give, SamePlain}
-use Rattle.lua_library_agree.proofs.Values.{one-each, first-same, rest-same, second-same, third-same, each-length, each-append, text_in-same, kind-same, SameTab, a_table-same, a_number-same, number_or-same, a_text-same, number-same, text-same, bad-same}
-use Rattle.lua_library_agree.proofs.Heaps.{one-one, table-stood, entries-stood, item-same, giving, giving_text, failing, branch, with-argument, with-equal, charging, costing, stays-writable}
+use Rattle.lua_library_agree.specs.Same.{both_give, SamePlain}
+use Rattle.lua_library_agree.proofs.Values.{one-each, first-same, rest-same, second-same, third-same, each-length, each-append, text_in-same, kind-same, SameTab, a_table-same, a_number-same, number_or-same, a_text-same, number-same}
+use Rattle.lua_library_agree.proofs.Heaps.{one-one, table-stood, entries-stood, giving, giving_text, failing, branch, with-argument, with-equal, charging, costing, stays-writable}
 use Rattle.lua_tables.specs.ArgumentChecks.{text_or, a_nil}
-use Rattle.lua_tables.specs.TableLibrary.{put_from, put_charge, Walk, PassedAll, Refused, one_passed, walk, is_part, part, behind_parts, joined, concat_values, concat_between, concat, insert_fitting, insert_values, insert_at, append, insert, number_key, greater_key, greatest_key, maxn, remove_values, remove_at, remove, is_number, is_string, goes_with, may_stand, wanted_kind, value_cmp, put_in_order, in_order, order_charge, sort_values, sort_walked, sort_table, sort}
+use Rattle.lua_tables.specs.TableLibrary.{put_from, put_charge, Walk, PassedAll, Refused, one_passed, walk, is_part, part, behind_parts, joined, concat_values, concat_between, concat, insert_values, insert_at, append, insert, number_key, greater_key, greatest_key, maxn, remove_values, remove_at, remove, is_number, is_string, goes_with, may_stand, wanted_kind, value_cmp, put_in_order, in_order, order_charge, sort_values, sort_walked, sort_table, sort}
 
 -- FURTHER ARGUMENTS
 text_or-same : {m : Map} (default : Bytes) (n : ℕ) (name : Bytes) {vs ws : List Value} → Each (Same m) vs ws → text_or default n name vs ≡ text_or default n name ws

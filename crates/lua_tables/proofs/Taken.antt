@@ -1,5 +1,5 @@
 -- Charges that are taken part by part, and answers that were paid for.
-use Rattle.std.proofs.Common.{◌≡◌, ◌∙◌, ap, sym, subst, refl, ℕ, ◌+◌, ◌-◌, ◌<◌, ◌≤◌, List, Ok, Err, arith}
+use Rattle.std.proofs.Common.{◌≡◌, ◌∙◌, ap, sym, subst, refl, ℕ, ◌+◌, ◌-◌, ◌≤◌, List, Ok, Err, arith}
 use Rattle.std.specs.Prelude.{Result}
 use Rattle.wk_base.specs.declared.left.Left.{Left}
 use Rattle.lua_heap.specs.Proc.{Proc}
@@ -8,8 +8,8 @@ use Rattle.lua_store.specs.declared.value.Value.{Value}
 use Rattle.lua_store.specs.Seen.{StoreView}
 use Rattle.lua_basic.specs.declared.stop.Stop.{Stop}
 use Rattle.lua_basic.specs.declared.stop.Stop.TheVariants as stop
-use Rattle.lua_basic.specs.Seen.{values_seen, ends, less_steps, Covers, IsShort, Paid}
-use Rattle.lua_tables.specs.Paying.{IsTaken, IsOver, Takes}
+use Rattle.lua_basic.specs.Seen.{values_seen, ends, less_steps, Covers, Paid}
+use Rattle.lua_tables.specs.Paying.{IsTaken, Takes}
 
 -- the same allowances with so many steps
 abbrev pub with_steps : Left → ℕ → Left

@@ -1,6 +1,6 @@
 -- FUNCTIONS OF `table` (manual 5.5). They ask no metamethod. n is the border of a table, which is what `#` gives. Each entry that is
 -- read or written costs a step, and a new one 4 more.
-use Rattle.std.specs.Prelude.{ℕ, zero, suc, ◌+◌, ◌-◌, ◌*◌, ℤ, pos, ◌+ℤ◌, Bool, true, false, ◌&&◌, ◌||◌, List, [], ◌∷◌, ◌++◌, map, length, Option, Some, None, is_some, if◌then◌else◌, nat_le, nat_lt, int_lt, codes}
+use Rattle.std.specs.Prelude.{ℕ, suc, ◌+◌, ◌-◌, ◌*◌, ℤ, pos, ◌+ℤ◌, Bool, true, false, ◌&&◌, ◌||◌, List, [], ◌∷◌, ◌++◌, length, Option, Some, None, is_some, if◌then◌else◌, nat_le, nat_lt, int_lt, codes}
 use Rattle.std.specs.Fmt.{signed_decimal}
 use Rattle.std.specs.Int.{w64, leading_zeros, int_max}
 use Rattle.std.specs.Ordering.{nat_cmp, int_cmp, is_le}
@@ -13,7 +13,7 @@ use Rattle.lua_heap.specs.Value.{Value, Nil, Number, Text, is_nil}
 use Rattle.lua_heap.specs.Table.{Entries, get, border}
 use Rattle.lua_heap.specs.Heap.{Heap, table_at, set_in}
 use Rattle.lua_meaning.specs.Scope.{Bytes}
-use Rattle.lua_meaning.specs.Values.{kind_of, first, rest, second, third, text_in}
+use Rattle.lua_meaning.specs.Values.{first, rest, second, third, text_in}
 use Rattle.lua_meaning.specs.Messages.{bad_argument, expected, number_fault, read_only}
 use Rattle.lua_meaning.specs.Arguments.{Plain, gives, costs, gives_text, fails, with_charge, with_argument, a_table, a_number, number_or}
 use Rattle.lua_meaning.specs.Basic.{set_charge, count_between, entries_from}

@@ -2,7 +2,6 @@
 use Rattle.std.specs.Prelude.{◌≡◌, ℕ, suc, Bool, List, length, Result, Ok, Err}
 use Rattle.lua_heap.specs.Value as kind
 use Rattle.wk_base.specs.declared.left.Left.{Left}
-use Rattle.lua_store.specs.declared.value.Value.{Value}
 use Rattle.lua_store.specs.Seen.{StoreView, seen}
 use Rattle.lua_store.specs.Parts.{IsOf}
 use Rattle.lua_basic.specs.declared.stop.Stop.{Stop}

@@ -1,10 +1,9 @@
-use Rattle.std.proofs.Common.{◌≡◌, ◌<◌, ◌≤◌, ◌∙◌, ap, sym, subst, refl, suc, length, arith, rules, pos, ◌+ℤ◌, Err, w64, to_z, of_z}
+use Rattle.std.proofs.Common.{◌≡◌, ◌<◌, ◌≤◌, ◌∙◌, ap, sym, subst, suc, length, arith, rules, pos, ◌+ℤ◌, Err, w64, to_z, of_z}
 use Rattle.std.proofs.lemmas.Int.{to_z-of_z, ints}
 use Rattle.std.proofs.lemmas.Result.{err_from_is_err_and}
 use Rattle.lua_heap.specs.Heap.{table_at}
 use Rattle.lua_meaning.specs.Arguments.{fails, gives_text}
 use Rattle.lua_meaning.specs.Basic.{count_between, entries_from}
-use Rattle.lua_store.specs.Seen.{seen}
 use Rattle.lua_basic.specs.Seen.{values_seen, AllOf, Stops, Paid}
 use Rattle.lua_basic.proofs.Found.{for_nothing}
 use Rattle.lua_tables.specs.TableLibrary.{PassedAll, walk, is_part, joined, invalid_item, concat_between}

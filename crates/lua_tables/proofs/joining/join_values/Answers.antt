@@ -1,4 +1,4 @@
-use Rattle.std.proofs.Common.{◌≡◌, ◌∙◌, ap, sym, refl, subst, [], ◌∷◌, arith, length, Err}
+use Rattle.std.proofs.Common.{◌∙◌, ap, refl, [], ◌∷◌, arith, length, Err}
 use Rattle.std.proofs.lemmas.Result.{err_from_is_err_and}
 use Rattle.lua_heap.specs.Value as kind
 use Rattle.lua_meaning.specs.Arguments.{gives_text}

@@ -1,4 +1,4 @@
-use Rattle.std.proofs.Common.{◌≡◌, ◌<◌, ◌∙◌, ap, sym, true, false, arith, rules, length}
+use Rattle.std.proofs.Common.{◌<◌, ◌∙◌, ap, sym, true, false, arith, rules, length}
 use Rattle.std.proofs.lemmas.List.{length-map}
 use Rattle.lua_meaning.specs.Values.{first}
 use Rattle.lua_store.specs.Seen.{seen}

@@ -1,9 +1,8 @@
-use Rattle.std.proofs.Common.{◌≡◌, ◌∙◌, ◌++◌, ◌+◌, ap, sym, subst, [], ◌∷◌, arith, length, Err, w64}
+use Rattle.std.proofs.Common.{◌≡◌, ◌∙◌, ◌++◌, ◌+◌, ap, sym, subst, [], ◌∷◌, arith, Err, w64}
 use Rattle.std.proofs.lemmas.Int.{to_z-of_z, ints}
 use Rattle.std.proofs.lemmas.Result.{err_from_is_err_and}
-use Rattle.lua_heap.specs.Value.{Nil}
 use Rattle.lua_heap.specs.Heap.{table_at}
-use Rattle.lua_meaning.specs.Values.{first, rest}
+use Rattle.lua_meaning.specs.Values.{first}
 use Rattle.lua_meaning.specs.Basic.{entries_from}
 use Rattle.lua_store.specs.Seen.{StoreView, seen}
 use Rattle.lua_basic.specs.Seen.{values_seen, AllOf}

@@ -1,7 +1,7 @@
-use Rattle.std.proofs.Common.{◌≡◌, ◌∙◌, ap, refl, Err, subst, sym, codes}
+use Rattle.std.proofs.Common.{◌∙◌, ap, refl, Err, subst, sym, codes}
 use Rattle.std.proofs.lemmas.Result.{err_from_is_err_and}
 use Rattle.lua_heap.specs.Value as kind
-use Rattle.lua_basic.specs.Seen.{values_seen, Free, Paid}
+use Rattle.lua_basic.specs.Seen.{Free, Paid}
 use Rattle.lua_basic.proofs.Found.{stopped, found, for_nothing}
 use Rattle.lua_tables.specs.ArgumentChecks.{a_nil}
 use Rattle.lua_tables.specs.TableLibrary.{sort_table}
