@@ -1,0 +1,10 @@
+pub mod Checked
+pub mod Taken
+pub mod Put
+pub mod Reading
+pub mod Parts
+pub mod Orders
+pub mod Listed
+pub mod Moved
+pub mod Examples
+pub mod TableAgree

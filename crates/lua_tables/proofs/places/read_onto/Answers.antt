@@ -1,0 +1,23 @@
+use Rattle.std.proofs.Common.{◌<◌, ◌++◌, ◌∙◌, ap, sym, subst, rules, w64}
+use Rattle.std.proofs.lemmas.Int.{to_z-of_z}
+use Rattle.lua_heap.specs.Heap.{table_at}
+use Rattle.lua_meaning.specs.Basic.{entries_from}
+use Rattle.lua_store.specs.Seen.{seen}
+use Rattle.lua_basic.specs.Seen.{values_seen, AllOf}
+use Rattle.lua_basic.proofs.Lists.{all-with, seen-with}
+use Rattle.lua_basic.proofs.Counts.{entry-read}
+use Rattle.lua_tables.proofs.places.read_onto.Goals as goal
+
+pub numbers-preserved : goal.numbers-preserved
+numbers-preserved c =
+    let texts = c.args.store.now.texts in
+    let es = (table_at c.args.store.now.heap c.args.table.at).entries in
+    let first = to_z-of_z w64 c.args.first c.ranges.first in
+    let lt : c.numbers.offset < c.args.count = search rules in
+    let value = rw first at c.value_behind.ensures.value in
+    let so_far = rw first at c.numbers.invariant.1 in
+    rw first (
+      λ all. subst (AllOf c.args.store.now) (sym c.in_ok-push.ensures.ok) (all-with c.args.store.now c.numbers.values c.value_behind.result (c.numbers.invariant.0 all) c.value_behind.ensures.of),
+      entry-read (values_seen texts c.numbers.values) (values_seen texts c.push.new.self) (seen texts c.value_behind.result) c.args.count c.numbers.offset c.args.first es (values_seen texts c.args.values.now ++ entries_from c.args.count c.args.first es)
+          lt (ap (values_seen texts) c.in_ok-push.ensures.ok ∙ seen-with texts c.numbers.values c.value_behind.result) value so_far,
+    )

@@ -1,0 +1,161 @@
+//! Values are put in order: numbers, and strings by their bytes.
+ghost use Rattle.std.specs.Prelude.{◌≡◌, ◌++◌, ◌∷◌, [], ℕ, List as Items, map, length, IfOk, OnOk};
+ghost use Rattle.std.specs.Ordering.{nat_cmp, int_cmp};
+ghost use Rattle.std.specs.Cmp.Lexicographic.{slice_cmp};
+ghost use Rattle.std.specs.Borrow.{Bor};
+ghost use Rattle.lua_heap.specs.Value as kind;
+ghost use Rattle.lua_meaning.specs.Values.{first};
+ghost use Rattle.lua_store.specs.Parts.{IsOf, IsLater};
+ghost use Rattle.lua_store.specs.Seen.{StoreView, seen};
+ghost use Rattle.lua_basic.specs.Seen.{values_seen, AllOf};
+ghost use Rattle.lua_tables.specs.Kinds as kinds;
+ghost use Rattle.lua_tables.specs.TableLibrary as meaning;
+
+use crate::places::split;
+use crate::walking::is_number;
+use lua_basic::values::{copy, first};
+use lua_store::{Store, Value};
+use std::alloc::Global;
+use wk_base::{List, NoMemory};
+
+/// A value behind numbers, if it is one.
+fn add_number(numbers: &mut List<i64>, value: Value) -> Result<(), NoMemory>
+    ensures { OnOk result ((texts : Items (Items ℕ)) → numbers.new ≡ numbers.old ++ kinds.numbers_in (seen texts value ∷ [])) }
+{
+    match value {
+        Value::Number(number) => numbers.push(number),
+        Value::Text(_) => Ok(()),
+        Value::Nil => Ok(()),
+        Value::Bool(_) => Ok(()),
+        Value::Table(_) => Ok(()),
+        Value::Closure(_) => Ok(()),
+        Value::Builtin(_) => Ok(()),
+        Value::Markup(_) => Ok(()),
+    }
+}
+
+/// The numbers among values.
+fn numbers_in(alloc: Global, values: &[Value]) -> Result<List<i64>, NoMemory>
+    ensures { IfOk result (λ numbers. (texts : Items (Items ℕ)) → numbers ≡ kinds.numbers_in (values_seen texts values.now)) }
+{
+    let mut numbers = List::new(alloc);
+    let mut rest = values;
+    'values: while let Some((value, more)) = split(rest) {
+        add_number(&mut numbers, value)?;
+        rest = more;
+    }
+    Ok(numbers)
+}
+
+/// Numbers as values.
+fn number_values(alloc: Global, numbers: &[i64]) -> Result<List<Value>, NoMemory>
+    ensures values { IfOk result (λ values. (texts : Items (Items ℕ)) → values_seen texts values ≡ map kind.Number numbers.now) }
+    ensures of { IfOk result (λ values. (s : StoreView) → AllOf s values) }
+{
+    let mut values = List::new(alloc);
+    let mut rest = numbers;
+    'numbers: while let Some((number, more)) = split(rest) {
+        values.push(Value::Number(number))?;
+        rest = more;
+    }
+    Ok(values)
+}
+
+/// The numbers among values, in order.
+fn sorted_numbers(alloc: Global, values: &[Value]) -> Result<List<Value>, NoMemory>
+    ensures values { IfOk result (λ sorted. (texts : Items (Items ℕ)) → values_seen texts sorted ≡ map kind.Number (meaning.in_order int_cmp (kinds.numbers_in (values_seen texts values.now)))) }
+    ensures of { IfOk result (λ sorted. (s : StoreView) → AllOf s sorted) }
+{
+    let mut numbers = numbers_in(alloc, values)?.into_vec();
+    numbers.sort_unstable();
+    let sorted = number_values(alloc, numbers.as_slice())?;
+    Ok(sorted)
+}
+
+/// A value behind texts, if it is one.
+fn add_text<'b>(store: &Store<'b>, texts: &mut List<&'b [u8]>, value: Value) -> Result<(), NoMemory>
+    requires { IsOf store.now value }
+    ensures { OnOk result (map (λ (b : Bor (Items ℕ)). b.now) texts.new ≡ map (λ (b : Bor (Items ℕ)). b.now) texts.old ++ kinds.texts_in (seen store.now.texts value ∷ [])) }
+{
+    match value {
+        Value::Text(text) => texts.push(store.bytes(text)),
+        Value::Number(_) => Ok(()),
+        Value::Nil => Ok(()),
+        Value::Bool(_) => Ok(()),
+        Value::Table(_) => Ok(()),
+        Value::Closure(_) => Ok(()),
+        Value::Builtin(_) => Ok(()),
+        Value::Markup(_) => Ok(()),
+    }
+}
+
+/// The bytes of the strings among values.
+fn texts_in<'b>(
+    alloc: Global,
+    store: &Store<'b>,
+    values: &[Value],
+) -> Result<List<&'b [u8]>, NoMemory>
+    requires { AllOf store.now values.now }
+    ensures { IfOk result (λ texts. map (λ (b : Bor (Items ℕ)). b.now) texts ≡ kinds.texts_in (values_seen store.now.texts values.now)) }
+{
+    let mut texts = List::new(alloc);
+    let mut rest = values;
+    'values: while let Some((value, more)) = split(rest) {
+        add_text(store, &mut texts, value)?;
+        rest = more;
+    }
+    Ok(texts)
+}
+
+/// Strings as values.
+fn text_values(alloc: Global, store: &mut Store, texts: &[&[u8]]) -> Result<List<Value>, NoMemory>
+    ensures values { IfOk result (λ values. values_seen store.new.texts values ≡ map kind.Text (map (λ (b : Bor (Items ℕ)). b.now) texts.now)) }
+    ensures of { IfOk result (AllOf store.new) }
+    ensures same { OnOk result (store.new ≡ record store.old { texts = store.new.texts }) }
+    ensures later { IsLater store.old store.new }
+{
+    let mut values = List::new(alloc);
+    'texts: for at in 0..texts.len() {
+        let id = store.text(texts[at])?;
+        values.push(Value::Text(id))?;
+    }
+    Ok(values)
+}
+
+/// The strings among values, in order of their bytes.
+fn sorted_texts(alloc: Global, store: &mut Store, values: &[Value]) -> Result<List<Value>, NoMemory>
+    requires { AllOf store.old values.now }
+    ensures values { IfOk result (λ sorted. values_seen store.new.texts sorted ≡ map kind.Text (meaning.in_order (slice_cmp nat_cmp) (kinds.texts_in (values_seen store.old.texts values.now)))) }
+    ensures of { IfOk result (AllOf store.new) }
+    ensures same { OnOk result (store.new ≡ record store.old { texts = store.new.texts }) }
+    ensures later { IsLater store.old store.new }
+{
+    let mut texts = texts_in(alloc, store, values)?.into_vec();
+    texts.sort_unstable();
+    let sorted = text_values(alloc, store, texts.as_slice())?;
+    Ok(sorted)
+}
+
+/// Values in order, which are numbers alone or strings alone, where there are two or more.
+pub(crate) fn in_order(
+    alloc: Global,
+    store: &mut Store,
+    values: &[Value],
+) -> Result<List<Value>, NoMemory>
+    requires of { AllOf store.old values.now }
+    requires kinds { meaning.walk (meaning.may_stand (length values.now) (first (values_seen store.old.texts values.now))) (values_seen store.old.texts values.now) ≡ meaning.PassedAll }
+    ensures values { IfOk result (λ sorted. values_seen store.new.texts sorted ≡ meaning.in_order meaning.value_cmp (values_seen store.old.texts values.now)) }
+    ensures of { IfOk result (AllOf store.new) }
+    ensures same { OnOk result (store.new ≡ record store.old { texts = store.new.texts }) }
+    ensures later { IsLater store.old store.new }
+{
+    if values.len() <= 1 {
+        return copy(alloc, values);
+    }
+    if is_number(first(values)) {
+        let numbers = sorted_numbers(alloc, values)?;
+        return Ok(numbers);
+    }
+    let texts = sorted_texts(alloc, store, values)?;
+    Ok(texts)
+}
