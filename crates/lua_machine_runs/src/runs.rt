@@ -67,6 +67,27 @@ fn tell(
     Ok(())
 }
 
+/// Answers a question with the reply. Where that takes more steps than are left, this is told in place of a next event.
+fn reply_to(
+    alloc: Global,
+    store: &mut Store,
+    machine: &mut Machine,
+    left: &mut Left,
+    reply: &Reply,
+) -> Result<Option<Event>, NoMemory>
+    requires machine { MachineOf store.old machine.old }
+    requires calls { left.old.calls + machine.old.state.calls < 2 ^ 64 }
+    ensures machine { OnOk result (MachineOf store.new machine.new) }
+    ensures calls { OnOk result (left.new.calls + machine.new.state.calls < 2 ^ 64) }
+    ensures last { IfOk result (λ e. IfSome e (EventOf store.new)) }
+{
+    if !change_steps(left, reply.change) {
+        return Ok(Some(Event::Spent(Which::Steps)));
+    }
+    tell(alloc, store, machine, &reply.told)?;
+    Ok(None)
+}
+
 /// Goes on until the next event. A question is answered with the reply; any other event is the last one.
 fn reply_once<L: Ledger>(
     alloc: Global,
@@ -86,11 +107,8 @@ fn reply_once<L: Ledger>(
     if !is_question(&event) {
         return Ok(Some(event));
     }
-    if !change_steps(left, reply.change) {
-        return Ok(Some(Event::Spent(Which::Steps)));
-    }
-    tell(alloc, store, machine, &reply.told)?;
-    Ok(None)
+    let last = reply_to(alloc, store, machine, left, reply)?;
+    Ok(last)
 }
 
 /// Goes on until the end, an allowance that is spent, or a question to which there is no reply.
@@ -129,6 +147,20 @@ fn allowances(steps: u64, calls: u64) -> Left
     }
 }
 
+/// How a run ended, with what it left.
+fn summary(alloc: Global, store: &Store, event: &Event, left: &Left) -> Result<Ended, NoMemory>
+    requires { EventOf store.now event.now }
+{
+    let mut text = String::new(alloc);
+    add_event(&mut text, store, event)?;
+    Ok(Ended {
+        text,
+        spent: spent_by(event),
+        steps: left.steps,
+        calls: left.calls,
+    })
+}
+
 /// Runs a machine that has started, with a counter of its own.
 fn run_started<L: Ledger>(
     alloc: Global,
@@ -147,14 +179,8 @@ fn run_started<L: Ledger>(
     let mut turns = Steps::<L>::open(blank);
     let mut left = allowances(allowed.steps, allowed.calls);
     let event = go_on(alloc, store, machine, &mut left, &mut turns, replies)?;
-    let mut text = String::new(alloc);
-    add_event(&mut text, store, &event)?;
-    Ok(Ended {
-        text,
-        spent: spent_by(&event),
-        steps: left.steps,
-        calls: left.calls,
-    })
+    let end = summary(alloc, store, &event, &left)?;
+    Ok(end)
 }
 
 /// The world in which a case runs.
@@ -163,6 +189,21 @@ pub fn world_of<'m>(case: &'m Case) -> World<'m> {
         page: &case.page,
         modules: &case.modules,
     }
+}
+
+/// Runs a case once in this store.
+fn end_in(
+    alloc: Global,
+    store: &mut Store,
+    seed: RandomState,
+    case: &Case,
+    allowed: Allowed,
+) -> Result<Ended, NoMemory> {
+    let work = case.work(alloc, seed)?;
+    let mut machine = Machine::start(alloc, store, seed, world_of(case), work)?;
+    let replies = case.replies.as_slice();
+    let blank = Blank::new(1);
+    run_started::<Brand>(alloc, store, &mut machine, allowed, replies, blank)
 }
 
 /// Runs a case once, in a store of its own.
@@ -174,9 +215,5 @@ pub fn end_of(
 ) -> Result<Ended, NoMemory> {
     let arena = Bump::new(alloc);
     let mut store = Store::new(alloc, &arena, seed);
-    let work = case.work(alloc, seed)?;
-    let mut machine = Machine::start(alloc, &mut store, seed, world_of(case), work)?;
-    let replies = case.replies.as_slice();
-    let blank = Blank::new(1);
-    run_started::<Brand>(alloc, &mut store, &mut machine, allowed, replies, blank)
+    end_in(alloc, &mut store, seed, case, allowed)
 }
