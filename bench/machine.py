@@ -1,19 +1,21 @@
 #!/usr/bin/env python3
 """Times the machine of Lua beside `lua5.1` on the same texts.
 
-  bench/machine.py crates/machine_bench/out/machine_bench
+  bench/machine.py crates/lua_machine_cases/out/lua_machine_cases
 
 For each text: the seconds of processor time of the machine and of `lua5.1` (the best of some rounds each, and what the programs take to
 start is taken off), how much longer the machine takes, the steps that it takes, millions of steps a second, and the most memory of both in MiB. Then
 what a start with its fresh environment takes, in one store and in a store of its own; and texts that are made to take long, at two sizes:
 how much longer the larger one takes, which is twice as large.
 """
+import re
 import shutil
 import sys
 
+from machine_reference import shown
 from timing import best, run
 
-ROUNDS, START_ROUNDS, STEPS = 3, 20, 10 ** 12
+ROUNDS, START_ROUNDS, STEPS, CALLS = 3, 20, 10 ** 12, 200_000
 
 TEXTS = {
     "fib(30)": "local function fib(n) if n<2 then return n end return fib(n-1)+fib(n-2) end return {f=function() return fib(30) end}",
@@ -41,39 +43,52 @@ ATTACKS = {
 LUA = "local m=loadstring(io.read('*a'),'=Module:X')() io.write(tostring((m.f({}))))"
 
 
+def case(text, line):
+    """A table of one case, whose module has this text, and what is done with it."""
+    return f"case\tX\nmodule\tX\t{shown(text.encode())}\ninvoke\tX\tf\n{line}\n".encode()
+
+
 def given(text, steps=STEPS):
-    return f"run {steps}\n{text}".encode()
+    return case(text, f"took\t{steps}\t{CALLS}")
+
+
+def ended(printed):
+    """What a run gave, and the steps that it took."""
+    found = re.fullmatch(r"X: gives (.*), (\d+) taken\n", printed.decode())
+    if not found:
+        sys.exit(f"printed {printed[:80]!r}")
+    return found[1], int(found[2])
 
 
 def beside_lua(program):
     lua = shutil.which("lua5.1")
-    start = best(START_ROUNDS, [program], b"run 0\nreturn {}").processor
+    start = best(START_ROUNDS, [program]).processor
     lua_start = best(START_ROUNDS, [lua, "-e", "io.read('*a')"]).processor if lua else 0
     print(f"{'text':26} {'machine':>8} {'lua5.1':>8} {'ratio':>6} {'steps':>12} {'M/s':>6} {'MiB':>5} {'MiB':>5}")
     for name, text in TEXTS.items():
         mine = best(ROUNDS, [program], given(text))
-        words = mine.printed.decode().split()
-        took, steps = mine.processor - start, int(words[-1])
+        gave, steps = ended(mine.printed)
+        took = mine.processor - start
         line = f"{name:26} {took:7.2f}s "
         if lua:
             other = best(ROUNDS, [lua, "-e", LUA], text.encode())
-            if other.printed.decode() != words[0]:
-                sys.exit(f"{name}: {words[0]} here, {other.printed.decode()} in lua5.1")
+            if other.printed.decode() != gave:
+                sys.exit(f"{name}: {gave} here, {other.printed.decode()} in lua5.1")
             theirs = max(other.processor - lua_start, 1e-3)
-            print(f"{line}{theirs:7.2f}s {took / theirs:5.1f}x {steps:12} {steps / took / 1e6:6.1f} {mine.memory / 2 ** 20:5.0f} {other.memory / 2 ** 20:5.0f}")
+            print(f"{line}{theirs:7.2f}s {took / theirs:5.1f}x {steps:12} {steps / took / 1e6:6.1f} {mine.memory / 2 ** 20:5.0f} {other.memory / 2 ** 20:5.0f}", flush=True)
         else:
-            print(f"{line}{'':8} {'':6} {steps:12} {steps / took / 1e6:6.1f} {mine.memory / 2 ** 20:5.0f}")
+            print(f"{line}{'':8} {'':6} {steps:12} {steps / took / 1e6:6.1f} {mine.memory / 2 ** 20:5.0f}", flush=True)
 
 
 def starts(program):
     print(f"\n{'starts':26} {'each':>10} {'MiB':>5}")
     for name, word in (("in one store", "starts"), ("in stores of their own", "stores")):
-        few, many = best(ROUNDS, [program], f"{word} 1\n".encode()), best(ROUNDS, [program], f"{word} 20001\n".encode(), b"20001\n")
+        few, many = (best(ROUNDS, [program], case("return {}", f"{word}\t{count}"), b"X: started\n") for count in (1, 20001))
         print(f"{name:26} {(many.processor - few.processor) / 20000 * 1e6:7.1f} us {many.memory / 2 ** 20:5.0f}")
 
 
 def attacks(program):
-    start = best(START_ROUNDS, [program], b"run 0\nreturn {}").processor
+    start = best(START_ROUNDS, [program]).processor
     print(f"\n{'made to take long':30} {'once':>8} {'twice':>8} {'ratio':>6}")
     for name, (text, size, in_steps) in ATTACKS.items():
         took = []
@@ -85,7 +100,7 @@ def attacks(program):
 
 def main():
     program = sys.argv[1]
-    run([program], b"run 0\n")
+    run([program])
     beside_lua(program)
     starts(program)
     attacks(program)

@@ -1,5 +1,5 @@
-//! Answers that were written by hand.
-ghost use Rattle.std.specs.Prelude.{◌≡◌, IfOk};
+//! Answers to questions, written by hand.
+ghost use Rattle.std.specs.Prelude.{◌≡◌, IfOk, OnOk};
 ghost use Rattle.lua_store.specs.Parts.{IsOf, IsTableOf, IsLater};
 ghost use Rattle.lua_machine.specs.Events.{AnswerOf};
 
@@ -10,36 +10,37 @@ use wk_base::{Bytes, Left, List, NoMemory};
 
 /// What a question is answered with.
 #[derive(Drop)]
-pub(crate) enum Told {
+pub enum Told {
     Text(Vec<u8>),
     NoPage,
     Failed(Vec<u8>),
+    /// A read-only table.
     Table(List<Entry>),
 }
 
 /// An entry of a table: its key, and `#` with a number, `@` for the table itself, or a text.
 #[derive(Drop)]
-pub(crate) struct Entry {
-    pub(crate) key: Vec<u8>,
-    pub(crate) value: Vec<u8>,
+pub struct Entry {
+    pub key: Vec<u8>,
+    pub value: Vec<u8>,
 }
 
 /// What becomes of the steps that are left.
 #[derive(Clone, Copy)]
-pub(crate) enum Change {
+pub enum Change {
     Leaves(u64),
     Takes(u64),
 }
 
 /// An answer, and what it makes of the steps.
 #[derive(Drop)]
-pub(crate) struct Reply {
-    pub(crate) told: Told,
-    pub(crate) change: Change,
+pub struct Reply {
+    pub told: Told,
+    pub change: Change,
 }
 
 /// Changes the steps that are left; whether what was taken was there.
-pub(crate) fn change_steps(left: &mut Left, change: Change) -> bool
+pub fn change_steps(left: &mut Left, change: Change) -> bool
     ensures { left.new.calls ≡ left.old.calls }
 {
     match change {
@@ -51,56 +52,72 @@ pub(crate) fn change_steps(left: &mut Left, change: Change) -> bool
     }
 }
 
-/// The whole number of digits with a sign or without; 0 where there is none.
+/// The whole number that digits write, with a sign or without; other bytes are passed over.
 fn number(text: &[u8]) -> i64 {
-    let (minus, digits) = match text {
-        [b'-', digits @ ..] => (true, digits),
-        _ => (false, text),
-    };
     let mut value = 0i64;
-    for byte in digits.iter().copied() {
+    for byte in text.iter().copied() {
         if byte.is_ascii_digit() {
             value = value
                 .saturating_mul(10)
                 .saturating_add(i64::from(byte - b'0'));
         }
     }
-    if minus { value.wrapping_neg() } else { value }
+    match text {
+        [b'-', ..] => value.wrapping_neg(),
+        _ => value,
+    }
+}
+
+/// A text as a value.
+fn text_value(store: &mut Store, text: &[u8]) -> Result<Value, NoMemory>
+    ensures of { IfOk result (IsOf store.new) }
+    ensures later { OnOk result (IsLater store.old store.new) }
+{
+    let id = store.text(text)?;
+    Ok(Value::Text(id))
 }
 
 /// The value of an entry.
 fn entry_value(store: &mut Store, table: TableId, text: &[u8]) -> Result<Value, NoMemory>
     requires { IsTableOf store.old table }
     ensures of { IfOk result (IsOf store.new) }
-    ensures later { IsLater store.old store.new }
+    ensures later { OnOk result (IsLater store.old store.new) }
 {
     match text {
         [b'@'] => Ok(Value::Table(table)),
         [b'#', digits @ ..] => Ok(Value::Number(number(digits))),
-        _ => {
-            let id = store.text(text)?;
-            Ok(Value::Text(id))
-        }
+        _ => text_value(store, text),
+    }
+}
+
+/// Sets a key of a table that has room.
+fn set(store: &mut Store, table: TableId, key: Value, value: Value) -> Result<(), NoMemory>
+    requires table { IsTableOf store.old table }
+    requires key { IsOf store.old key }
+    requires value { IsOf store.old value }
+    ensures { OnOk result (IsLater store.old store.new) }
+{
+    match store.set(table, key, value) {
+        Ok(_) => Ok(()),
+        Err(_) => Err(NoMemory),
     }
 }
 
 /// Sets an entry of a table.
 fn set_entry(store: &mut Store, table: TableId, entry: &Entry) -> Result<(), NoMemory>
     requires { IsTableOf store.old table }
-    ensures { IsLater store.old store.new }
+    ensures { OnOk result (IsLater store.old store.new) }
 {
-    let key = store.text(entry.key.as_slice())?;
+    let key = text_value(store, entry.key.as_slice())?;
     let value = entry_value(store, table, entry.value.as_slice())?;
-    match store.set(table, Value::Text(key), value) {
-        Ok(_) => Ok(()),
-        Err(_) => Err(NoMemory),
-    }
+    set(store, table, key, value)?;
+    Ok(())
 }
 
 /// Sets the entries of a table.
 fn set_entries(store: &mut Store, table: TableId, entries: &[Entry]) -> Result<(), NoMemory>
     requires { IsTableOf store.old table }
-    ensures { IsLater store.old store.new }
+    ensures { OnOk result (IsLater store.old store.new) }
 {
     'entries: for entry in entries {
         set_entry(store, table, entry)?;
@@ -111,7 +128,7 @@ fn set_entries(store: &mut Store, table: TableId, entries: &[Entry]) -> Result<(
 /// A new read-only table with these entries.
 fn made(store: &mut Store, entries: &[Entry]) -> Result<Value, NoMemory>
     ensures of { IfOk result (IsOf store.new) }
-    ensures later { IsLater store.old store.new }
+    ensures later { OnOk result (IsLater store.old store.new) }
 {
     let table = store.new_table()?;
     set_entries(store, table, entries)?;
@@ -120,9 +137,9 @@ fn made(store: &mut Store, entries: &[Entry]) -> Result<Value, NoMemory>
 }
 
 /// The answer that a reply gives.
-pub(crate) fn answer_of(alloc: Global, store: &mut Store, told: &Told) -> Result<Answer, NoMemory>
+pub fn answer_of(alloc: Global, store: &mut Store, told: &Told) -> Result<Answer, NoMemory>
     ensures of { IfOk result (AnswerOf store.new) }
-    ensures later { IsLater store.old store.new }
+    ensures later { OnOk result (IsLater store.old store.new) }
 {
     match told {
         Told::Text(text) => {

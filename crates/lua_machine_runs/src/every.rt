@@ -8,7 +8,7 @@ use wk_base::NoMemory;
 
 /// What many runs come to: all are as they should be, from this number of steps or calls on; or this number gives something else.
 #[derive(Clone, Copy)]
-pub(crate) enum Found {
+pub enum Found {
     From(u64),
     Differs(u64),
     /// The first run was spent.
@@ -18,9 +18,30 @@ pub(crate) enum Found {
 /// Numbers of steps and calls that are left over.
 const MORE: [u64; 5] = [0, 1, 2, 7, 1000];
 
+/// So many numbers of steps below the one that is needed are tried without a gap; of the others, which a start takes for
+/// itself, every so many one is.
+const WITHOUT_GAP: u64 = 500;
+
+const GAP: u64 = 61;
+
+/// Whether a number of steps is tried.
+fn is_tried(steps: u64, need: u64) -> bool {
+    need.saturating_sub(steps) <= WITHOUT_GAP || steps % GAP == 0
+}
+
 /// Whether a run was spent for want of steps, and none are left.
 fn wants_steps(end: &Ended) -> bool {
     matches!(end.spent, Some(Which::Steps)) && end.steps == 0
+}
+
+/// Whether a run was spent for want of calls, and gave back all of them.
+fn wants_calls(end: &Ended, calls: u64) -> bool {
+    matches!(end.spent, Some(Which::Calls)) && end.calls == calls
+}
+
+/// Whether two runs ended in the same words.
+fn ends_alike(a: &Ended, b: &Ended) -> bool {
+    a.text.as_bytes() == b.text.as_bytes()
 }
 
 /// Whether runs with so many steps, and with some more, all give an end, and what is more is left.
@@ -37,15 +58,15 @@ fn same_above(
             calls: need.calls,
         };
         let end = end_of(alloc, seed, case, allowed)?;
-        if end.text.as_str() != whole.text.as_str() || end.steps != more {
+        if !ends_alike(&end, whole) || end.steps != more {
             return Ok(false);
         }
     }
     Ok(true)
 }
 
-/// Runs a case with every number of steps up to what it needs, and with some more.
-pub(crate) fn every_step(
+/// Runs a case with numbers of steps below what it needs, and with some more.
+pub fn every_step(
     alloc: Global,
     seed: RandomState,
     case: &Case,
@@ -58,6 +79,9 @@ pub(crate) fn every_step(
     let need = allowed.steps.saturating_sub(whole.steps);
     let calls = allowed.calls;
     for steps in 0..need {
+        if !is_tried(steps, need) {
+            continue;
+        }
         let end = end_of(alloc, seed, case, Allowed { steps, calls })?;
         if !wants_steps(&end) {
             return Ok(Found::Differs(steps));
@@ -80,12 +104,13 @@ fn same_with_more(
     need: Allowed,
 ) -> Result<bool, NoMemory> {
     for more in MORE {
+        let calls = need.calls.saturating_add(more);
         let allowed = Allowed {
             steps: need.steps,
-            calls: need.calls.saturating_add(more),
+            calls,
         };
         let end = end_of(alloc, seed, case, allowed)?;
-        if end.text.as_str() != whole.text.as_str() || end.calls != allowed.calls {
+        if !ends_alike(&end, whole) || end.calls != calls {
             return Ok(false);
         }
     }
@@ -93,7 +118,7 @@ fn same_with_more(
 }
 
 /// The least number of calls with which a case isn't spent; below it each run is spent for want of calls, and gives them back.
-pub(crate) fn least_calls(
+pub fn least_calls(
     alloc: Global,
     seed: RandomState,
     case: &Case,
@@ -105,20 +130,15 @@ pub(crate) fn least_calls(
     }
     let steps = allowed.steps;
     for calls in 0..allowed.calls {
-        let end = end_of(alloc, seed, case, Allowed { steps, calls })?;
-        match end.spent {
-            Some(Which::Calls) if end.calls == calls => {}
-            Some(_) => return Ok(Found::Differs(calls)),
-            None => {
-                let need = Allowed { steps, calls };
-                let same = same_with_more(alloc, seed, case, &whole, need)?;
-                return Ok(if same {
-                    Found::From(calls)
-                } else {
-                    Found::Differs(calls)
-                });
-            }
+        let need = Allowed { steps, calls };
+        let end = end_of(alloc, seed, case, need)?;
+        if wants_calls(&end, calls) {
+            continue;
         }
+        if end.spent.is_none() && same_with_more(alloc, seed, case, &whole, need)? {
+            return Ok(Found::From(calls));
+        }
+        return Ok(Found::Differs(calls));
     }
     Ok(Found::From(allowed.calls))
 }

@@ -1,6 +1,7 @@
-//! What is known of a case.
-ghost use Rattle.std.specs.Prelude.{◌≡◌, true, IfOk};
+//! Modules, and what is to be done with one of them.
+ghost use Rattle.std.specs.Prelude.{◌≡◌, true, false, None, IfOk};
 ghost use Rattle.wk_base.specs.Titles.{is_module};
+ghost use Rattle.lua_code.specs.Held.{find_module};
 ghost use Rattle.lua_stack.specs.Of.{WorkOf};
 ghost use Rattle.mw_frame.specs.Scenes.{NamesDiffer};
 
@@ -19,32 +20,32 @@ use std::hash::RandomState;
 use wk_base::{Bytes, List, Namespace, NoMemory, Title};
 
 /// More bytes are not read as Lua.
-const MOST: usize = 4_000_000_000;
+const MOST: usize = 4000000000;
 
 /// What is to be done with a module.
 #[derive(Drop)]
-pub(crate) enum Aim {
-    /// A function of it is invoked.
+pub enum Aim {
+    /// The function of that name, the second one, is invoked.
     Invoke(Vec<u8>, Vec<u8>),
-    /// It is loaded as data.
+    /// The module is loaded as data.
     Load(Vec<u8>),
 }
 
-/// A case, as its lines have it so far.
+/// Modules, what is to be done with one of them, and the answers to the questions of its next run.
 #[derive(Drop)]
-pub(crate) struct Case {
-    pub(crate) name: String,
-    pub(crate) page: Title,
-    pub(crate) modules: Modules,
-    pub(crate) aim: Aim,
-    pub(crate) args: List<ArgText<'static>>,
+pub struct Case {
+    pub name: Vec<u8>,
+    pub page: Title,
+    pub modules: Modules,
+    pub aim: Aim,
+    pub args: List<ArgText<'static>>,
     /// The template around the invocation, if there is one, with its arguments.
-    pub(crate) parent: Option<Title>,
-    pub(crate) parent_args: List<ArgText<'static>>,
+    pub parent: Option<Title>,
+    pub parent_args: List<ArgText<'static>>,
     /// Entries of the next table that is an answer.
-    pub(crate) entries: List<Entry>,
+    pub entries: List<Entry>,
     /// The answers to the questions of the next run, in order.
-    pub(crate) replies: List<Reply>,
+    pub replies: List<Reply>,
 }
 
 /// The title of a module.
@@ -77,8 +78,18 @@ fn code_of(
     }
 }
 
+/// Whether a module of that title is held.
+fn is_held(modules: &Modules, title: &Title) -> bool
+    ensures { result ≡ false → find_module modules.now title.now ≡ None }
+{
+    match modules.get(title) {
+        Some(_) => true,
+        None => false,
+    }
+}
+
 /// An argument of a frame.
-pub(crate) fn argument(name: Vec<u8>, value: Vec<u8>) -> ArgText<'static> {
+pub fn argument(name: Vec<u8>, value: Vec<u8>) -> ArgText<'static> {
     ArgText {
         name: TextIn::Written(name),
         value: TextIn::Written(value),
@@ -100,12 +111,13 @@ fn scene(
 }
 
 impl Case {
-    /// A case with nothing in it.
-    pub(crate) fn new(alloc: Global, seed: RandomState, name: &str) -> Result<Case, NoMemory> {
-        let name = String::from_str(alloc, name)?;
+    /// A case with nothing in it, on a page `P`.
+    pub fn new(alloc: Global, seed: RandomState, name: &[u8]) -> Result<Case, NoMemory> {
+        let mut own = Vec::new(alloc);
+        own.extend_from_slice(name)?;
         let page = Bytes::of(alloc, b"P")?;
         Ok(Case {
-            name,
+            name: own,
             page: Title {
                 ns: Namespace::Main,
                 name: page,
@@ -120,8 +132,8 @@ impl Case {
         })
     }
 
-    /// A module is held, unless one of its title is.
-    pub(crate) fn add_module(
+    /// A module with this text is held, unless one of its title is.
+    pub fn add_module(
         &mut self,
         alloc: Global,
         seed: RandomState,
@@ -131,10 +143,10 @@ impl Case {
         let title = module_title(alloc, name)?;
         let code = code_of(alloc, seed, text)?;
         let size = text.len() as u64;
-        match self.modules.get(&title) {
-            Some(_) => Ok(()),
-            None => self.modules.add(title, size, code),
+        if is_held(&self.modules, &title) {
+            return Ok(());
         }
+        self.modules.add(title, size, code)
     }
 
     /// The titles of the templates that are being expanded.
@@ -145,6 +157,14 @@ impl Case {
             chain.push(title)?;
         }
         Ok(chain)
+    }
+
+    /// The title of the page or template around the invocation.
+    fn around(&self) -> Result<Title, NoMemory> {
+        match &self.parent {
+            Some(title) => title.copy(),
+            None => self.page.copy(),
+        }
     }
 
     /// The invocation of a function of a module.
@@ -160,20 +180,12 @@ impl Case {
         let module = module_title(alloc, name)?;
         let title = module.copy()?;
         let function = Bytes::of(alloc, function)?;
-        let around = match &self.parent {
-            Some(title) => title.copy()?,
-            None => self.page.copy()?,
-        };
         let chain = self.chain(alloc)?;
-        let parent_chain = self.chain(alloc)?;
         let own = scene(alloc, seed, title, self.args.as_slice(), chain)?;
-        let parent = scene(
-            alloc,
-            seed,
-            around,
-            self.parent_args.as_slice(),
-            parent_chain,
-        )?;
+        let around = self.around()?;
+        let parent_chain = self.chain(alloc)?;
+        let args = self.parent_args.as_slice();
+        let parent = scene(alloc, seed, around, args, parent_chain)?;
         Ok(Work::Invoke(Job {
             module,
             function,
@@ -183,13 +195,13 @@ impl Case {
     }
 
     /// What is to be done, for one run.
-    pub(crate) fn work(&self, alloc: Global, seed: RandomState) -> Result<Work, NoMemory>
+    pub fn work(&self, alloc: Global, seed: RandomState) -> Result<Work, NoMemory>
         ensures { IfOk result WorkOf }
     {
         match &self.aim {
             Aim::Invoke(name, function) => {
-                let job = self.job(alloc, seed, name.as_slice(), function.as_slice())?;
-                Ok(job)
+                let work = self.job(alloc, seed, name.as_slice(), function.as_slice())?;
+                Ok(work)
             }
             Aim::Load(name) => {
                 let title = module_title(alloc, name.as_slice())?;

@@ -1,0 +1,6 @@
+use Rattle.lua_store.specs.Parts.{IsTableOf, IsLater}
+use Rattle.lua_machine_runs.proofs.replies.set_entries.Given as goal
+
+-- the table is there, and the store is a later one
+abbrev pub invariant-entries : goal.invariant-entries
+invariant-entries l = IsTableOf l.store l.table × IsLater l.fn.store l.store

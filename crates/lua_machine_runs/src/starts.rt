@@ -1,0 +1,51 @@
+//! Machines that are only started, each in a fresh environment.
+use crate::case::Case;
+use crate::runs::world_of;
+use bumpalo::Bump;
+use lua_machine::Machine;
+use lua_store::Store;
+use std::alloc::Global;
+use std::hash::RandomState;
+use wk_base::NoMemory;
+
+/// Starts a machine and lets it go.
+fn start(alloc: Global, store: &mut Store, seed: RandomState, case: &Case) -> Result<(), NoMemory> {
+    let work = case.work(alloc, seed)?;
+    let _machine = Machine::start(alloc, store, seed, world_of(case), work)?;
+    Ok(())
+}
+
+/// Starts so many machines in one store.
+pub fn start_together(
+    alloc: Global,
+    seed: RandomState,
+    case: &Case,
+    count: u64,
+) -> Result<(), NoMemory> {
+    let arena = Bump::new(alloc);
+    let mut store = Store::new(alloc, &arena, seed);
+    for _ in 0..count {
+        start(alloc, &mut store, seed, case)?;
+    }
+    Ok(())
+}
+
+/// Starts a machine in a store of its own.
+fn start_once(alloc: Global, seed: RandomState, case: &Case) -> Result<(), NoMemory> {
+    let arena = Bump::new(alloc);
+    let mut store = Store::new(alloc, &arena, seed);
+    start(alloc, &mut store, seed, case)
+}
+
+/// Starts so many machines, each in a store of its own.
+pub fn start_apart(
+    alloc: Global,
+    seed: RandomState,
+    case: &Case,
+    count: u64,
+) -> Result<(), NoMemory> {
+    for _ in 0..count {
+        start_once(alloc, seed, case)?;
+    }
+    Ok(())
+}
