@@ -1,10 +1,11 @@
 //! Pages with modules (MediaWiki, Extension:Scribunto): the expansion of a page, the runs of Lua that it asks for, and the expansions and
-//! loads of data that these ask for in turn, on one stack over one store. Here are the types and the laws; the functions that move them are
-//! to come.
+//! loads of data that these ask for in turn, on one stack over one store.
 //!
 //! - `wiki`: a wiki, and a page of it that was expanded
 //! - `task`: a task on the stack, and how it halts
 //! - `beginning`: what nothing on a page changes
+//! - `going`: a task goes on until it halts
+//! - `telling`: a task that waits is told a reply, and goes on
 //! - `driving`: a page in progress
 //! - `keep`: what the loads of a page gave
 //!
@@ -14,8 +15,10 @@
 
 pub mod beginning;
 pub mod driving;
+pub mod going;
 pub mod keep;
 pub mod task;
+pub mod telling;
 pub mod wiki;
 
 pub use wiki::{Page, Wiki};
