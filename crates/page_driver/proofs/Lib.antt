@@ -9,3 +9,6 @@ pub mod Answering
 pub mod Steps
 pub mod Starts
 pub mod Whole
+pub mod Sinking
+pub mod Drives
+pub mod Beginnings

@@ -7,4 +7,5 @@ pub mod Falling
 pub mod Kept
 pub mod Beginning
 pub mod Driven
+pub mod Moving
 pub mod Page

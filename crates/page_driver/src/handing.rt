@@ -1,0 +1,150 @@
+//! A task has come to its reply, which the one below it is told.
+ghost use Rattle.std.specs.Prelude.{◌≡◌, ◌-◌, IfOk, OnOk, min};
+ghost use Rattle.page_driver.specs.Ground.{ground_of};
+ghost use Rattle.page_driver.specs.Kept.{keep_with};
+ghost use Rattle.page_driver.specs.declared.task.Reply.TheVariants as reply_kind;
+ghost use Rattle.page_driver.specs.Driven.{InProgress, MovesOn};
+ghost use Rattle.page_driver.specs.Moving.{comes_with, loads_with, tower_with, Sinks};
+
+use crate::beginning::Around;
+use crate::driving::{Next, Tower};
+use crate::keep::{Keep, Kept};
+use crate::task::{Begun, Data, Reply, Task};
+use crate::telling::{tell_data, tell_spent, tell_text};
+use lua_machine::Machine;
+use lua_store::Store;
+use std::sync::ledger::Ledger;
+use wk_base::{Left, NoMemory, Steps, Title};
+
+/// The steps that a load took.
+fn charge_of(begun: &Begun, left: &Left) -> u64
+    ensures { result ≡ begun.now.steps - left.now.steps }
+{
+    begun.steps.saturating_sub(left.steps)
+}
+
+/// The most calls that were in progress at one time in a load, which are never more than are left now that all are given back.
+fn height_of(machine: &Machine<'_>, left: &Left) -> u64
+    ensures { result ≡ min machine.now.height left.now.calls }
+{
+    machine.height().min(left.calls)
+}
+
+/// Keeps what a load gave, unless something is kept of its module.
+fn keep_first(keep: &mut Keep, title: Title, kept: Kept) -> Result<(), NoMemory>
+    ensures { OnOk result (keep.new ≡ keep_with keep.old title kept) }
+{
+    let found = keep.find(&title).is_some();
+    if found {
+        return Ok(());
+    }
+    keep.keep(title, kept)?;
+    Ok(())
+}
+
+/// What a load gave is kept, and told to the task that asked for it.
+fn hand_loaded<'w, L: Ledger>(
+    around: &Around<'w>,
+    store: &mut Store,
+    left: &mut Left,
+    tower: &mut Tower<'w>,
+    begun: Begun,
+    machine: Machine<'w>,
+    data: Data,
+    waiting: Task<'w>,
+    turns: &mut Steps<L>,
+) -> Result<Next<'w>, NoMemory>
+    requires { InProgress (ground_of around.now) store.old left.old turns.old (tower_with waiting tower.old) (loads_with begun machine data) }
+    ensures moves { IfOk result (λ n. MovesOn (ground_of around.now) store.old left.old turns.old (tower_with waiting.entry tower.old) (loads_with begun machine.entry data) store.new left.new turns.new tower.new n) }
+    ensures sinks { IfOk result (λ n. Sinks left.old (tower_with waiting.entry tower.old) (loads_with begun machine.entry data) left.new tower.new n) }
+{
+    let charge = charge_of(&begun, left);
+    let height = height_of(&machine, left);
+    let halted = tell_data(around.alloc, store, left, waiting, &data, height, turns)?;
+    let kept = Kept {
+        given: data,
+        charge,
+        height,
+    };
+    keep_first(&mut tower.keep, begun.title, kept)?;
+    Ok(Next::On(halted))
+}
+
+/// Data, to which only a load comes.
+fn hand_data<'w, L: Ledger>(
+    around: &Around<'w>,
+    store: &mut Store,
+    left: &mut Left,
+    tower: &mut Tower<'w>,
+    task: Task<'w>,
+    data: Data,
+    waiting: Task<'w>,
+    turns: &mut Steps<L>,
+) -> Result<Next<'w>, NoMemory>
+    requires { InProgress (ground_of around.now) store.old left.old turns.old (tower_with waiting tower.old) (comes_with task (reply_kind.Data data)) }
+    ensures moves { IfOk result (λ n. MovesOn (ground_of around.now) store.old left.old turns.old (tower_with waiting.entry tower.old) (comes_with task.entry (reply_kind.Data data)) store.new left.new turns.new tower.new n) }
+    ensures sinks { IfOk result (λ n. Sinks left.old (tower_with waiting.entry tower.old) (comes_with task.entry (reply_kind.Data data)) left.new tower.new n) }
+{
+    match task {
+        Task::Load(begun, machine) => {
+            let next = hand_loaded(around, store, left, tower, begun, machine, data, waiting, turns)?;
+            Ok(next)
+        }
+        Task::Expansion(_) => unreachable!(),
+        Task::Invocation(_) => unreachable!(),
+    }
+}
+
+/// The newest of those that wait is told the reply, and goes on until it halts.
+fn hand_down<'w, L: Ledger>(
+    around: &Around<'w>,
+    store: &mut Store,
+    left: &mut Left,
+    tower: &mut Tower<'w>,
+    task: Task<'w>,
+    reply: Reply,
+    waiting: Task<'w>,
+    turns: &mut Steps<L>,
+) -> Result<Next<'w>, NoMemory>
+    requires { InProgress (ground_of around.now) store.old left.old turns.old (tower_with waiting tower.old) (comes_with task reply) }
+    ensures moves { IfOk result (λ n. MovesOn (ground_of around.now) store.old left.old turns.old (tower_with waiting.entry tower.old) (comes_with task.entry reply) store.new left.new turns.new tower.new n) }
+    ensures sinks { IfOk result (λ n. Sinks left.old (tower_with waiting.entry tower.old) (comes_with task.entry reply) left.new tower.new n) }
+{
+    match reply {
+        Reply::Text(text) => {
+            let halted = tell_text(around.alloc, store, left, waiting, text, turns)?;
+            Ok(Next::On(halted))
+        }
+        Reply::Data(data) => {
+            let next = hand_data(around, store, left, tower, task, data, waiting, turns)?;
+            Ok(next)
+        }
+        Reply::Spent(which) => {
+            let halted = tell_spent(around.alloc, left, waiting, which)?;
+            Ok(Next::On(halted))
+        }
+    }
+}
+
+/// A task has come to its reply: where nobody waits the page is expanded.
+pub fn hand_over<'w, L: Ledger>(
+    around: &Around<'w>,
+    store: &mut Store,
+    left: &mut Left,
+    tower: &mut Tower<'w>,
+    task: Task<'w>,
+    reply: Reply,
+    turns: &mut Steps<L>,
+) -> Result<Next<'w>, NoMemory>
+    requires { InProgress (ground_of around.now) store.old left.old turns.old tower.old (comes_with task reply) }
+    ensures moves { IfOk result (λ n. MovesOn (ground_of around.now) store.old left.old turns.old tower.old (comes_with task.entry reply) store.new left.new turns.new tower.new n) }
+    ensures sinks { IfOk result (λ n. Sinks left.old tower.old (comes_with task.entry reply) left.new tower.new n) }
+{
+    match tower.stack.pop() {
+        None => Ok(Next::Over(reply)),
+        Some(waiting) => {
+            let next = hand_down(around, store, left, tower, task, reply, waiting, turns)?;
+            Ok(next)
+        }
+    }
+}
