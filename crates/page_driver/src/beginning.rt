@@ -87,7 +87,11 @@ fn bare_scene(alloc: Global, page: &Title) -> Result<Scene, NoMemory>
 }
 
 /// A run of Lua begins, in a fresh environment of its own.
-fn begin_run<'w>(around: &Around<'w>, store: &mut Store, work: Work) -> Result<Machine<'w>, NoMemory>
+fn begin_run<'w>(
+    around: &Around<'w>,
+    store: &mut Store,
+    work: Work,
+) -> Result<Machine<'w>, NoMemory>
     requires { WorkOf work }
     ensures { IfOk result (λ m. MachineBegins (ground_of around.now) (work_seen work) store.old store.new m) }
 {
@@ -96,7 +100,11 @@ fn begin_run<'w>(around: &Around<'w>, store: &mut Store, work: Work) -> Result<M
 }
 
 /// An invocation begins (Extension:Scribunto, `#invoke`).
-pub fn begin_invocation<'w>(around: &Around<'w>, store: &mut Store, job: Job) -> Result<Task<'w>, NoMemory>
+pub fn begin_invocation<'w>(
+    around: &Around<'w>,
+    store: &mut Store,
+    job: Job,
+) -> Result<Task<'w>, NoMemory>
     requires { HaveNames job }
     ensures begins { IfOk result (λ t. Begins (ground_of around.now) (Running (Invoke job)) store.old store.new t) }
     ensures chances { IfOk result (λ t. chances_of t ≡ 0) }
@@ -106,7 +114,12 @@ pub fn begin_invocation<'w>(around: &Around<'w>, store: &mut Store, job: Job) ->
 }
 
 /// The load of a data module begins, where so many steps are left (Scribunto, `mw.loadData`).
-pub fn begin_load<'w>(around: &Around<'w>, store: &mut Store, title: Title, steps: u64) -> Result<Task<'w>, NoMemory>
+pub fn begin_load<'w>(
+    around: &Around<'w>,
+    store: &mut Store,
+    title: Title,
+    steps: u64,
+) -> Result<Task<'w>, NoMemory>
     requires { is_module title.ns ≡ true }
     ensures { IfOk result (λ t. BeginsWith (ground_of around.now) (Running (DataOf title)) steps store.old store.new t) }
 {
@@ -125,24 +138,45 @@ pub fn begin_text<'w>(around: &Around<'w>, scene: Scene, text: &Bytes) -> Result
 {
     check_names(around, scene.args.as_slice())?;
     let marked = read_text(around.alloc, text)?;
-    let expander = Expander::start(around.alloc, around.pages, around.world.page, Source::Text(marked), scene)?;
+    let expander = Expander::start(
+        around.alloc,
+        around.pages,
+        around.world.page,
+        Source::Text(marked),
+        scene,
+    )?;
     Ok(Task::Expansion(expander))
 }
 
 /// The expansion of a template with these arguments begins, as that of the text of the scene includes it (Scribunto,
 /// `frame:expandTemplate`).
-pub fn begin_template<'w>(around: &Around<'w>, scene: Scene, title: Title, args: List<Arg>) -> Result<Task<'w>, NoMemory>
+pub fn begin_template<'w>(
+    around: &Around<'w>,
+    scene: Scene,
+    title: Title,
+    args: List<Arg>,
+) -> Result<Task<'w>, NoMemory>
     requires { IsSome (find_page (ground_of around.now).pages title) }
     ensures { IfOk result (λ t. IfSome (included_in (ground_of around.now).pages title) (λ trees. (s : StoreView) → Begins (ground_of around.now) (Expanding (Including trees title record scene { args = args })) s s t)) }
 {
     check_names(around, args.as_slice())?;
-    let Scene { title: asking, args: _, chain } = scene;
+    let Scene {
+        title: asking,
+        args: _,
+        chain,
+    } = scene;
     let scene = Scene {
         title: asking,
         args,
         chain,
     };
-    let expander = Expander::start(around.alloc, around.pages, around.world.page, Source::Template(title), scene)?;
+    let expander = Expander::start(
+        around.alloc,
+        around.pages,
+        around.world.page,
+        Source::Template(title),
+        scene,
+    )?;
     Ok(Task::Expansion(expander))
 }
 

@@ -50,19 +50,19 @@ fn hand_loaded<'w, L: Ledger>(
     tower: &mut Tower<'w>,
     begun: Begun,
     machine: Machine<'w>,
-    data: Data,
+    given: Data,
     waiting: Task<'w>,
     turns: &mut Steps<L>,
 ) -> Result<Next<'w>, NoMemory>
-    requires { InProgress (ground_of around.now) store.old left.old turns.old (tower_with waiting tower.old) (loads_with begun machine data) }
-    ensures moves { IfOk result (λ n. MovesOn (ground_of around.now) store.old left.old turns.old (tower_with waiting.entry tower.old) (loads_with begun machine.entry data) store.new left.new turns.new tower.new n) }
-    ensures sinks { IfOk result (λ n. Sinks left.old (tower_with waiting.entry tower.old) (loads_with begun machine.entry data) left.new tower.new n) }
+    requires { InProgress (ground_of around.now) store.old left.old turns.old (tower_with waiting tower.old) (loads_with begun machine given) }
+    ensures moves { IfOk result (λ n. MovesOn (ground_of around.now) store.old left.old turns.old (tower_with waiting.entry tower.old) (loads_with begun machine.entry given) store.new left.new turns.new tower.new n) }
+    ensures sinks { IfOk result (λ n. Sinks left.old (tower_with waiting.entry tower.old) (loads_with begun machine.entry given) left.new tower.new n) }
 {
     let charge = charge_of(&begun, left);
     let height = height_of(&machine, left);
-    let halted = tell_data(around.alloc, store, left, waiting, &data, height, turns)?;
+    let halted = tell_data(around.alloc, store, left, waiting, &given, height, turns)?;
     let kept = Kept {
-        given: data,
+        given,
         charge,
         height,
     };
@@ -77,17 +77,19 @@ fn hand_data<'w, L: Ledger>(
     left: &mut Left,
     tower: &mut Tower<'w>,
     task: Task<'w>,
-    data: Data,
+    given: Data,
     waiting: Task<'w>,
     turns: &mut Steps<L>,
 ) -> Result<Next<'w>, NoMemory>
-    requires { InProgress (ground_of around.now) store.old left.old turns.old (tower_with waiting tower.old) (comes_with task (reply_kind.Data data)) }
-    ensures moves { IfOk result (λ n. MovesOn (ground_of around.now) store.old left.old turns.old (tower_with waiting.entry tower.old) (comes_with task.entry (reply_kind.Data data)) store.new left.new turns.new tower.new n) }
-    ensures sinks { IfOk result (λ n. Sinks left.old (tower_with waiting.entry tower.old) (comes_with task.entry (reply_kind.Data data)) left.new tower.new n) }
+    requires { InProgress (ground_of around.now) store.old left.old turns.old (tower_with waiting tower.old) (comes_with task (reply_kind.Data given)) }
+    ensures moves { IfOk result (λ n. MovesOn (ground_of around.now) store.old left.old turns.old (tower_with waiting.entry tower.old) (comes_with task.entry (reply_kind.Data given)) store.new left.new turns.new tower.new n) }
+    ensures sinks { IfOk result (λ n. Sinks left.old (tower_with waiting.entry tower.old) (comes_with task.entry (reply_kind.Data given)) left.new tower.new n) }
 {
     match task {
         Task::Load(begun, machine) => {
-            let next = hand_loaded(around, store, left, tower, begun, machine, data, waiting, turns)?;
+            let next = hand_loaded(
+                around, store, left, tower, begun, machine, given, waiting, turns,
+            )?;
             Ok(next)
         }
         Task::Expansion(_) => unreachable!(),

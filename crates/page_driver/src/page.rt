@@ -64,7 +64,11 @@ fn full_left(limits: &Limits) -> Left
 }
 
 /// Expands the page, in a store of its own, which is given back at once.
-fn expand_within<L: Ledger>(around: &Around<'_>, limits: &Limits, turns: &mut Steps<L>) -> Result<Page, NoMemory>
+fn expand_within<L: Ledger>(
+    around: &Around<'_>,
+    limits: &Limits,
+    turns: &mut Steps<L>,
+) -> Result<Page, NoMemory>
     requires held { IsSome (find_page (ground_of around.now).pages (page_of (ground_of around.now))) }
     requires countable { IsCountable limits.now }
     ensures page { IfOk result (λ p. (modules : PlainModules) → AreModulesOf (ground_of around.now) modules → IsHeldPage (wiki_of (ground_of around.now) modules) (page_of (ground_of around.now)) (direct_in (ground_of around.now).pages (page_of (ground_of around.now))) (full_of limits.now) turns.old turns.new p) }

@@ -33,5 +33,5 @@ returns-clause-paid g c =
     let w = ground_of c.args.around.now in
     let t = c.empty_tower-tower.ensures in
     let k = turns_held w c.new-store.result c.full_left-left.result c.args.turns.now c.empty_tower-tower.result c.in_ok-root.root t.stack t.keep t.kept c.full_left-left.ensures.fits
-        c.drive.new.left c.drive.new.turns c.drive.new.tower c.in_ok-reply.reply c.in_ok-reply.ensures (direct_in w.pages (page_of w)) (held_has_trees direct_of (find_page w.pages (page_of w)) c.requires.held) c.in_ok-root.ensures in
+    c.drive.new.left c.drive.new.turns c.drive.new.tower c.in_ok-reply.reply c.in_ok-reply.ensures (direct_in w.pages (page_of w)) (held_has_trees direct_of (find_page w.pages (page_of w)) c.requires.held) c.in_ok-root.ensures in
     omega (arith, k.1, ap (λ (l : Left). l.steps) c.full_left-left.ensures.full)
