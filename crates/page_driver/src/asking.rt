@@ -2,7 +2,7 @@
 //! `mw.loadData`).
 ghost use Rattle.std.specs.Prelude.{◌≡◌, ◌-◌, ◌+◌, ◌≤◌, ℕ, true, IfOk};
 ghost use Rattle.page_run.specs.State.{Gives};
-ghost use Rattle.mw_frame.specs.declared.question.Ask.TheVariants as ask;
+ghost use Rattle.mw_frame.specs.declared.question.Ask.TheVariants as question_kind;
 ghost use Rattle.page_driver.specs.Ground.{ground_of, TellsHeld};
 ghost use Rattle.page_driver.specs.Seen.{data_seen, CanBePut};
 ghost use Rattle.page_driver.specs.Tasks.{TaskIn, CanBeTold};
@@ -37,9 +37,9 @@ fn ask_template<'w, L: Ledger>(
     args: List<Arg>,
     turns: &mut Steps<L>,
 ) -> Result<Next<'w>, NoMemory>
-    requires { InProgress (ground_of around.now) store.old left.old turns.old tower.old (asks_with task (ask.Template scene title args)) }
-    ensures moves { IfOk result (λ n. MovesOn (ground_of around.now) store.old left.old turns.old tower.old (asks_with task.entry (ask.Template scene title args)) store.new left.new turns.new tower.new n) }
-    ensures sinks { IfOk result (λ n. Sinks left.old tower.old (asks_with task.entry (ask.Template scene title args)) left.new tower.new n) }
+    requires { InProgress (ground_of around.now) store.old left.old turns.old tower.old (asks_with task (question_kind.Template scene title args)) }
+    ensures moves { IfOk result (λ n. MovesOn (ground_of around.now) store.old left.old turns.old tower.old (asks_with task.entry (question_kind.Template scene title args)) store.new left.new turns.new tower.new n) }
+    ensures sinks { IfOk result (λ n. Sinks left.old tower.old (asks_with task.entry (question_kind.Template scene title args)) left.new tower.new n) }
 {
     let held = around.pages.holds(&title);
     if held {
@@ -62,9 +62,9 @@ fn ask_text<'w, L: Ledger>(
     text: Bytes,
     turns: &mut Steps<L>,
 ) -> Result<Next<'w>, NoMemory>
-    requires { InProgress (ground_of around.now) store.old left.old turns.old tower.old (asks_with task (ask.Preprocess scene text)) }
-    ensures moves { IfOk result (λ n. MovesOn (ground_of around.now) store.old left.old turns.old tower.old (asks_with task.entry (ask.Preprocess scene text)) store.new left.new turns.new tower.new n) }
-    ensures sinks { IfOk result (λ n. Sinks left.old tower.old (asks_with task.entry (ask.Preprocess scene text)) left.new tower.new n) }
+    requires { InProgress (ground_of around.now) store.old left.old turns.old tower.old (asks_with task (question_kind.Preprocess scene text)) }
+    ensures moves { IfOk result (λ n. MovesOn (ground_of around.now) store.old left.old turns.old tower.old (asks_with task.entry (question_kind.Preprocess scene text)) store.new left.new turns.new tower.new n) }
+    ensures sinks { IfOk result (λ n. Sinks left.old tower.old (asks_with task.entry (question_kind.Preprocess scene text)) left.new tower.new n) }
 {
     let inner = begin_text(around, scene, &text)?;
     let next = begin_above(around, store, left, tower, task, inner, turns)?;
@@ -140,9 +140,9 @@ fn ask_held_data<'w, L: Ledger>(
     turns: &mut Steps<L>,
 ) -> Result<Next<'w>, NoMemory>
     requires held { TellsHeld around.now.world.modules.now title true }
-    requires progress { InProgress (ground_of around.now) store.old left.old turns.old tower.old (asks_with task (ask.Data title)) }
-    ensures moves { IfOk result (λ n. MovesOn (ground_of around.now) store.old left.old turns.old tower.old (asks_with task.entry (ask.Data title)) store.new left.new turns.new tower.new n) }
-    ensures sinks { IfOk result (λ n. Sinks left.old tower.old (asks_with task.entry (ask.Data title)) left.new tower.new n) }
+    requires progress { InProgress (ground_of around.now) store.old left.old turns.old tower.old (asks_with task (question_kind.Data title)) }
+    ensures moves { IfOk result (λ n. MovesOn (ground_of around.now) store.old left.old turns.old tower.old (asks_with task.entry (question_kind.Data title)) store.new left.new turns.new tower.new n) }
+    ensures sinks { IfOk result (λ n. Sinks left.old tower.old (asks_with task.entry (question_kind.Data title)) left.new tower.new n) }
 {
     match find_covered(&tower.keep, &title, left) {
         Some(kept) => {
@@ -169,9 +169,9 @@ fn ask_data<'w, L: Ledger>(
     title: Title,
     turns: &mut Steps<L>,
 ) -> Result<Next<'w>, NoMemory>
-    requires { InProgress (ground_of around.now) store.old left.old turns.old tower.old (asks_with task (ask.Data title)) }
-    ensures moves { IfOk result (λ n. MovesOn (ground_of around.now) store.old left.old turns.old tower.old (asks_with task.entry (ask.Data title)) store.new left.new turns.new tower.new n) }
-    ensures sinks { IfOk result (λ n. Sinks left.old tower.old (asks_with task.entry (ask.Data title)) left.new tower.new n) }
+    requires { InProgress (ground_of around.now) store.old left.old turns.old tower.old (asks_with task (question_kind.Data title)) }
+    ensures moves { IfOk result (λ n. MovesOn (ground_of around.now) store.old left.old turns.old tower.old (asks_with task.entry (question_kind.Data title)) store.new left.new turns.new tower.new n) }
+    ensures sinks { IfOk result (λ n. Sinks left.old tower.old (asks_with task.entry (question_kind.Data title)) left.new tower.new n) }
 {
     let held = is_held(around.world.modules, &title)?;
     if held {
