@@ -8,6 +8,7 @@ use Rattle.wk_base.specs.declared.left.Left.{Left}
 use Rattle.wk_base.specs.declared.title.Title.{Title}
 use Rattle.wiki_expand.specs.Pages.{Pages, find_page, included_of, included_in}
 use Rattle.wiki_expand.specs.declared.pages.Entry.{Entry}
+use Rattle.expand_meaning.specs.Outcome.{Work as PageWork}
 use Rattle.lua_store.specs.Seen.{StoreView}
 use Rattle.page_run.specs.State.{Gives}
 use Rattle.lua_machine.specs.declared.machine.Machine.{Machine}
@@ -128,3 +129,11 @@ module _ (g : Ground) (s : StoreView) (left : Left) (k : ℕ) (tower : Tower) (p
       let moves = data_moves g s left k tower p b m given s' left' k' x h (λ n i. subst (λ high. GoesOnWith s left p (Gives (data_seen given)) high s' left' n x) e' (goes n i)) in
       subst (λ ks. MovesOn g s left k (tower_with p tower) (loads_with b m given) s' left' k' (record tower { keep = ks }) (next.On x)) (sym same)
       (subst (λ n. LoadMoves n height) (sym e) (subst (LoadMoves (b.steps - left.steps)) (sym e') moves))
+
+-- A TASK BEGINS above the one that asks: the tower has that one on top
+module _ (g : Ground) (s : StoreView) (left : Left) (k : ℕ) (tower : Tower) (t : Task) (x : Halted) (s₁ : StoreView) (inner : Task) (tower₁ : Tower) (e : tower₁ ≡ tower_with t tower) (starts : (work : PageWork) (first : Left) (k₀ : ℕ) → Driven g work first k₀ s left k tower x → Starting g work first k₀ s₁ left k (tower_with t tower) inner) where
+  pub above_starts : InProgress g s left k tower x → IsStarting g s₁ left k tower₁ inner
+  above_starts p = subst (λ (w : Tower). IsStarting g s₁ left k w inner) (sym e) (is_starting g s left k tower x s₁ left k (tower_with t tower) inner p (starts p.work p.first p.start p.driven))
+
+  pub above_moves : (s' : StoreView) (left' : Left) (k' : ℕ) (n : Next) → StartsOn g s₁ left k tower₁ inner s' left' k' tower₁ n → MovesOn g s left k tower x s' left' k' tower₁ n
+  above_moves s' left' k' n on work first start fits d = on work first start fits (subst (λ (w : Tower). Starting g work first start s₁ left k w inner) (sym e) (starts work first start d))

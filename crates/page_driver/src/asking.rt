@@ -1,6 +1,6 @@
 //! A run of Lua asks for a template, for the expansion of a text, or for data (Scribunto, `frame:expandTemplate`, `frame:preprocess` and
 //! `mw.loadData`).
-ghost use Rattle.std.specs.Prelude.{◌≡◌, ◌-◌, ◌+◌, ◌≤◌, ℕ, true, IfOk};
+ghost use Rattle.std.specs.Prelude.{◌≡◌, ◌-◌, ◌+◌, ◌≤◌, ℕ, true, IfOk, IfSome};
 ghost use Rattle.page_run.specs.State.{Gives};
 ghost use Rattle.mw_frame.specs.declared.question.Ask.TheVariants as question_kind;
 ghost use Rattle.page_driver.specs.Ground.{ground_of, TellsHeld};
@@ -15,7 +15,7 @@ ghost use Rattle.page_driver.specs.Moving.{asks_with, Sinks};
 use crate::beginning::{Around, begin_load, begin_template, begin_text};
 use crate::driving::{Next, Tower};
 use crate::keep::{Keep, Kept};
-use crate::stacking::begin_above;
+use crate::stacking::{go_above, push_task};
 use crate::task::{Halted, Task};
 use crate::telling::{tell_data, tell_none};
 use lua_code::Modules;
@@ -43,8 +43,9 @@ fn ask_template<'w, L: Ledger>(
 {
     let held = around.pages.holds(&title);
     if held {
+        push_task(tower, task)?;
         let inner = begin_template(around, scene, title, args)?;
-        let next = begin_above(around, store, left, tower, task, inner, turns)?;
+        let next = go_above(around, store, left, tower, inner, turns)?;
         return Ok(next);
     }
     let halted = tell_none(around.alloc, store, left, task, turns)?;
@@ -66,25 +67,30 @@ fn ask_text<'w, L: Ledger>(
     ensures moves { IfOk result (λ n. MovesOn (ground_of around.now) store.old left.old turns.old tower.old (asks_with task.entry (question_kind.Preprocess scene text)) store.new left.new turns.new tower.new n) }
     ensures sinks { IfOk result (λ n. Sinks left.old tower.old (asks_with task.entry (question_kind.Preprocess scene text)) left.new tower.new n) }
 {
+    push_task(tower, task)?;
     let inner = begin_text(around, scene, &text)?;
-    let next = begin_above(around, store, left, tower, task, inner, turns)?;
+    let next = go_above(around, store, left, tower, inner, turns)?;
     Ok(next)
 }
 
-/// Whether the module of this title is held. A title that only looks like a module's is never asked for, but no clause of a machine says
-/// so: where one were, the answer would be that memory was wanting.
-fn is_held(modules: &Modules, title: &Title) -> Result<bool, NoMemory>
-    ensures { IfOk result (λ held. TellsHeld modules.now title.now held) }
+/// Whether the module of this title is held. `None` is for want of memory, and for a title that only looks like a module's: that is never asked
+/// for, but no clause of a machine says so.
+fn is_held(modules: &Modules, title: &Title) -> Option<bool>
+    ensures { IfSome result (λ held. TellsHeld modules.now title.now held) }
 {
     if title.ns.is_module() {
         let held = modules.get(title).is_some();
-        return Ok(held);
+        return Some(held);
     }
-    let text = title.text()?;
-    if text.as_slice().starts_with(b"Module:") {
-        return Err(NoMemory);
+    match title.text() {
+        Ok(text) => {
+            if text.as_slice().starts_with(b"Module:") {
+                return None;
+            }
+            Some(false)
+        }
+        Err(_) => None,
     }
-    Ok(false)
 }
 
 /// What was kept of a module, where what is left covers it.
@@ -152,14 +158,39 @@ fn ask_held_data<'w, L: Ledger>(
             Ok(Next::On(halted))
         }
         None => {
+            push_task(tower, task)?;
             let inner = begin_load(around, store, title, left.steps)?;
-            let next = begin_above(around, store, left, tower, task, inner, turns)?;
+            let next = go_above(around, store, left, tower, inner, turns)?;
             Ok(next)
         }
     }
 }
 
 /// Data of a module. Where none of that title is held, the task that asks is told so.
+fn ask_known_data<'w, L: Ledger>(
+    around: &Around<'w>,
+    store: &mut Store,
+    left: &mut Left,
+    tower: &mut Tower<'w>,
+    task: Task<'w>,
+    title: Title,
+    held: bool,
+    turns: &mut Steps<L>,
+) -> Result<Next<'w>, NoMemory>
+    requires held { TellsHeld around.now.world.modules.now title held }
+    requires progress { InProgress (ground_of around.now) store.old left.old turns.old tower.old (asks_with task (question_kind.Data title)) }
+    ensures moves { IfOk result (λ n. MovesOn (ground_of around.now) store.old left.old turns.old tower.old (asks_with task.entry (question_kind.Data title)) store.new left.new turns.new tower.new n) }
+    ensures sinks { IfOk result (λ n. Sinks left.old tower.old (asks_with task.entry (question_kind.Data title)) left.new tower.new n) }
+{
+    if held {
+        let next = ask_held_data(around, store, left, tower, task, title, turns)?;
+        return Ok(next);
+    }
+    let halted = tell_none(around.alloc, store, left, task, turns)?;
+    Ok(Next::On(halted))
+}
+
+/// Data of a module.
 fn ask_data<'w, L: Ledger>(
     around: &Around<'w>,
     store: &mut Store,
@@ -173,13 +204,16 @@ fn ask_data<'w, L: Ledger>(
     ensures moves { IfOk result (λ n. MovesOn (ground_of around.now) store.old left.old turns.old tower.old (asks_with task.entry (question_kind.Data title)) store.new left.new turns.new tower.new n) }
     ensures sinks { IfOk result (λ n. Sinks left.old tower.old (asks_with task.entry (question_kind.Data title)) left.new tower.new n) }
 {
-    let held = is_held(around.world.modules, &title)?;
-    if held {
-        let next = ask_held_data(around, store, left, tower, task, title, turns)?;
-        return Ok(next);
+    match is_held(around.world.modules, &title) {
+        Some(held) => {
+            let next = ask_known_data(around, store, left, tower, task, title, held, turns)?;
+            Ok(next)
+        }
+        None => {
+            drop(task);
+            Err(NoMemory)
+        }
     }
-    let halted = tell_none(around.alloc, store, left, task, turns)?;
-    Ok(Next::On(halted))
 }
 
 /// A question is answered at once, or a task begins that answers it.

@@ -26,5 +26,6 @@ pub fn go_on<'w, L: Ledger>(
     ensures goes { IfOk result (λ x. (n : ℕ) → turns.new ≡ turns.old + n → GoesOn store.old left.old task.entry store.new left.new n x) }
     ensures falls { IfOk result (λ x. Falls left.old task.entry left.new x) }
 {
+    drop(task);
     Err(NoMemory)
 }

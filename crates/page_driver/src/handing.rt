@@ -1,6 +1,11 @@
 //! A task has come to its reply, which the one below it is told.
-ghost use Rattle.std.specs.Prelude.{◌≡◌, ◌-◌, IfOk, OnOk, min};
+ghost use Rattle.std.specs.Prelude.{◌≡◌, ◌-◌, ◌+◌, ◌≤◌, ℕ, IfOk, OnOk, min};
+ghost use Rattle.page_run.specs.State.{Gives};
 ghost use Rattle.page_driver.specs.Ground.{ground_of};
+ghost use Rattle.page_driver.specs.Seen.{data_seen, CanBePut};
+ghost use Rattle.page_driver.specs.Tasks.{TaskIn, CanBeTold};
+ghost use Rattle.page_driver.specs.Going.{Halts, GoesOnWith};
+ghost use Rattle.page_driver.specs.Falling.{CanGiveBack, Falls};
 ghost use Rattle.page_driver.specs.Kept.{keep_with};
 ghost use Rattle.page_driver.specs.declared.task.Reply.TheVariants as reply_kind;
 ghost use Rattle.page_driver.specs.Driven.{InProgress, MovesOn};
@@ -9,10 +14,11 @@ ghost use Rattle.page_driver.specs.Moving.{comes_with, loads_with, tower_with, S
 use crate::beginning::Around;
 use crate::driving::{Next, Tower};
 use crate::keep::{Keep, Kept};
-use crate::task::{Begun, Data, Reply, Task};
+use crate::task::{Begun, Data, Halted, Reply, Task};
 use crate::telling::{tell_data, tell_spent, tell_text};
 use lua_machine::Machine;
 use lua_store::Store;
+use std::alloc::Global;
 use std::sync::ledger::Ledger;
 use wk_base::{Left, NoMemory, Steps, Title};
 
@@ -42,6 +48,37 @@ fn keep_first(keep: &mut Keep, title: Title, kept: Kept) -> Result<(), NoMemory>
     Ok(())
 }
 
+/// A task is told what a load gave, which is kept.
+fn tell_kept<'w, L: Ledger>(
+    alloc: Global,
+    store: &mut Store,
+    left: &mut Left,
+    keep: &mut Keep,
+    title: Title,
+    kept: Kept,
+    waiting: Task<'w>,
+    turns: &mut Steps<L>,
+) -> Result<Halted<'w>, NoMemory>
+    requires of { TaskIn store.old waiting }
+    requires waits { CanBeTold waiting }
+    requires back { CanGiveBack left.old waiting }
+    requires given { CanBePut kept.given }
+    requires height { kept.height ≤ left.old.calls }
+    ensures halts { IfOk result (λ x. Halts store.old left.old turns.old waiting.entry store.new left.new turns.new x) }
+    ensures goes { IfOk result (λ x. (n : ℕ) → turns.new ≡ turns.old + n → GoesOnWith store.old left.old waiting.entry (Gives (data_seen kept.given)) kept.height store.new left.new n x) }
+    ensures falls { IfOk result (λ x. Falls left.old waiting.entry left.new x) }
+    ensures keep { OnOk result (keep.new ≡ keep_with keep.old title kept) }
+{
+    let halted = tell_data(alloc, store, left, waiting, &kept.given, kept.height, turns)?;
+    match keep_first(keep, title, kept) {
+        Ok(_) => Ok(halted),
+        Err(_) => {
+            drop(halted);
+            Err(NoMemory)
+        }
+    }
+}
+
 /// What a load gave is kept, and told to the task that asked for it.
 fn hand_loaded<'w, L: Ledger>(
     around: &Around<'w>,
@@ -60,13 +97,22 @@ fn hand_loaded<'w, L: Ledger>(
 {
     let charge = charge_of(&begun, left);
     let height = height_of(&machine, left);
-    let halted = tell_data(around.alloc, store, left, waiting, &given, height, turns)?;
+    drop(machine);
     let kept = Kept {
         given,
         charge,
         height,
     };
-    keep_first(&mut tower.keep, begun.title, kept)?;
+    let halted = tell_kept(
+        around.alloc,
+        store,
+        left,
+        &mut tower.keep,
+        begun.title,
+        kept,
+        waiting,
+        turns,
+    )?;
     Ok(Next::On(halted))
 }
 
@@ -114,6 +160,7 @@ fn hand_down<'w, L: Ledger>(
 {
     match reply {
         Reply::Text(text) => {
+            drop(task);
             let halted = tell_text(around.alloc, store, left, waiting, text, turns)?;
             Ok(Next::On(halted))
         }
@@ -122,6 +169,7 @@ fn hand_down<'w, L: Ledger>(
             Ok(next)
         }
         Reply::Spent(which) => {
+            drop(task);
             let halted = tell_spent(around.alloc, left, waiting, which)?;
             Ok(Next::On(halted))
         }
@@ -143,7 +191,10 @@ pub fn hand_over<'w, L: Ledger>(
     ensures sinks { IfOk result (λ n. Sinks left.old tower.old (comes_with task.entry reply) left.new tower.new n) }
 {
     match tower.stack.pop() {
-        None => Ok(Next::Over(reply)),
+        None => {
+            drop(task);
+            Ok(Next::Over(reply))
+        }
         Some(waiting) => {
             let next = hand_down(around, store, left, tower, task, reply, waiting, turns)?;
             Ok(next)

@@ -15,29 +15,27 @@ use std::sync::ledger::Ledger;
 use wk_base::{Left, NoMemory, Steps};
 
 /// One task more waits.
-fn push_task<'w>(tower: &mut Tower<'w>, task: Task<'w>) -> Result<(), NoMemory>
+pub(crate) fn push_task<'w>(tower: &mut Tower<'w>, task: Task<'w>) -> Result<(), NoMemory>
     ensures { OnOk result (tower.new ≡ tower_with task.entry tower.old) }
 {
     tower.stack.push(task)?;
     Ok(())
 }
 
-/// A task begins above the one that asks, which waits from now on. It goes on until it halts.
-pub fn begin_above<'w, L: Ledger>(
+/// Goes on with a task that has begun above all that wait.
+pub(crate) fn go_above<'w, L: Ledger>(
     around: &Around<'w>,
     store: &mut Store,
     left: &mut Left,
-    tower: &mut Tower<'w>,
-    asking: Task<'w>,
+    tower: &Tower<'w>,
     inner: Task<'w>,
     turns: &mut Steps<L>,
 ) -> Result<Next<'w>, NoMemory>
-    requires { IsStarting (ground_of around.now) store.old left.old turns.old (tower_with asking tower.old) inner }
-    ensures on { IfOk result (λ n. StartsOn (ground_of around.now) store.old left.old turns.old (tower_with asking.entry tower.old) inner.entry store.new left.new turns.new tower.new n) }
-    ensures tower { OnOk result (tower.new ≡ tower_with asking.entry tower.old) }
+    requires { IsStarting (ground_of around.now) store.old left.old turns.old tower.now inner }
+    ensures on { IfOk result (λ n. StartsOn (ground_of around.now) store.old left.old turns.old tower.now inner.entry store.new left.new turns.new tower.now n) }
     ensures falls { IfOk result (λ n. GoesDown left.old inner.entry left.new n) }
 {
-    push_task(tower, asking)?;
+    let _ = tower;
     let halted = go_on(around.alloc, store, left, inner, turns)?;
     Ok(Next::On(halted))
 }
@@ -56,7 +54,8 @@ pub fn invoke<'w, L: Ledger>(
     ensures moves { IfOk result (λ n. MovesOn (ground_of around.now) store.old left.old turns.old tower.old (invokes_with task.entry job) store.new left.new turns.new tower.new n) }
     ensures sinks { IfOk result (λ n. Sinks left.old tower.old (invokes_with task.entry job) left.new tower.new n) }
 {
+    push_task(tower, task)?;
     let inner = begin_invocation(around, store, job)?;
-    let next = begin_above(around, store, left, tower, task, inner, turns)?;
+    let next = go_above(around, store, left, tower, inner, turns)?;
     Ok(next)
 }

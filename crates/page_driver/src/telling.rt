@@ -31,6 +31,7 @@ pub fn tell_text<'w, L: Ledger>(
     ensures goes { IfOk result (λ x. (n : ℕ) → turns.new ≡ turns.old + n → GoesOnWith store.old left.old task.entry (Gives (Expanded text)) 0 store.new left.new n x) }
     ensures falls { IfOk result (λ x. Falls left.old task.entry left.new x) }
 {
+    drop(task);
     Err(NoMemory)
 }
 
@@ -49,6 +50,7 @@ pub fn tell_none<'w, L: Ledger>(
     ensures goes { IfOk result (λ x. (n : ℕ) → turns.new ≡ turns.old + n → GoesOnWith store.old left.old task.entry (Gives NoPage) 0 store.new left.new n x) }
     ensures falls { IfOk result (λ x. Falls left.old task.entry left.new x) }
 {
+    drop(task);
     Err(NoMemory)
 }
 
@@ -72,6 +74,7 @@ pub fn tell_data<'w, L: Ledger>(
     ensures goes { IfOk result (λ x. (n : ℕ) → turns.new ≡ turns.old + n → GoesOnWith store.old left.old task.entry (Gives (data_seen given.now)) height store.new left.new n x) }
     ensures falls { IfOk result (λ x. Falls left.old task.entry left.new x) }
 {
+    drop(task);
     Err(NoMemory)
 }
 
@@ -89,5 +92,6 @@ pub fn tell_spent<'w>(
     ensures goes { IfOk result (λ x. (s : StoreView) (high : ℕ) → GoesOnWith s left.old task.entry (Exhausts which) high s left.new 0 x) }
     ensures falls { IfOk result (λ x. Falls left.old task.entry left.new x) }
 {
+    drop(task);
     Err(NoMemory)
 }

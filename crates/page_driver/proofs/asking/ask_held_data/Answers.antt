@@ -2,10 +2,10 @@ use Rattle.std.proofs.Common.{◌-◌, refl, arith}
 use Rattle.mw_frame.specs.declared.question.Ask.TheVariants.{Data}
 use Rattle.wk_base.specs.declared.left.Left.{Left}
 use Rattle.page_driver.specs.Ground.{ground_of}
-use Rattle.page_driver.specs.Moving.{asks_with, tower_with}
+use Rattle.page_driver.specs.Moving.{asks_with}
 use Rattle.page_driver.proofs.Steps.{load_starts, kept_moves}
 use Rattle.page_driver.proofs.KeepLaws.{entry_data}
-use Rattle.page_driver.proofs.Drives.{asking_fits, kept_fits, is_starting}
+use Rattle.page_driver.proofs.Drives.{asking_fits, above_starts, above_moves}
 use Rattle.page_driver.proofs.Sinking.{answered_on, answered_sinks}
 use Rattle.page_driver.proofs.asking.ask_held_data.Goals as goal
 
@@ -45,17 +45,17 @@ returns-in_ok-halted-in-Some-clause-sinks g c =
 pub begin_load-requires : goal.begin_load-requires
 begin_load-requires g c = c.requires.held.1
 
-pub begin_above-requires : goal.begin_above-requires
-begin_above-requires g c =
-    let p = c.requires.progress in
+pub go_above-requires : goal.go_above-requires
+go_above-requires g c =
     let short = rw c.in-None.is at c.find_covered.ensures in
-    is_starting (ground_of c.args.around.now) c.args.store.now c.args.left.now c.args.turns.now c.args.tower.now (asks_with c.args.task (Data c.args.title)) c.begin_load.new.store c.args.left.now c.args.turns.now (tower_with c.args.task c.args.tower.now) c.in_ok-inner.inner p
-    (load_starts (ground_of c.args.around.now) c.args.store.now c.args.left.now c.args.turns.now c.args.tower.now c.args.task c.args.title c.in_ok-inner.inner c.begin_load.new.store c.requires.held.1 c.requires.held.0 short c.in_ok-inner.ensures p.work p.first p.start p.driven)
+    above_starts (ground_of c.args.around.now) c.args.store.now c.args.left.now c.args.turns.now c.args.tower.now c.args.task (asks_with c.args.task (Data c.args.title)) c.begin_load.new.store c.in_ok-inner.inner c.push_task.new.tower c.in_ok-push_task.ensures
+    (λ work first start d. load_starts (ground_of c.args.around.now) c.args.store.now c.args.left.now c.args.turns.now c.args.tower.now c.args.task c.args.title c.in_ok-inner.inner c.begin_load.new.store c.requires.held.1 c.requires.held.0 short c.in_ok-inner.ensures work first start d) c.requires.progress
 
 pub returns-in_ok-next-in-None-clause-moves : goal.returns-in_ok-next-in-None-clause-moves
-returns-in_ok-next-in-None-clause-moves g c = λ work first start fits d.
+returns-in_ok-next-in-None-clause-moves g c =
     let short = rw c.in-None.is at c.find_covered.ensures in
-    c.in_ok-next.ensures.on work first start fits (load_starts (ground_of c.args.around.now) c.args.store.now c.args.left.now c.args.turns.now c.args.tower.now c.args.task c.args.title c.in_ok-inner.inner c.begin_load.new.store c.requires.held.1 c.requires.held.0 short c.in_ok-inner.ensures work first start d)
+    above_moves (ground_of c.args.around.now) c.args.store.now c.args.left.now c.args.turns.now c.args.tower.now c.args.task (asks_with c.args.task (Data c.args.title)) c.begin_load.new.store c.in_ok-inner.inner c.push_task.new.tower c.in_ok-push_task.ensures
+    (λ work first start d. load_starts (ground_of c.args.around.now) c.args.store.now c.args.left.now c.args.turns.now c.args.tower.now c.args.task c.args.title c.in_ok-inner.inner c.begin_load.new.store c.requires.held.1 c.requires.held.0 short c.in_ok-inner.ensures work first start d) c.go_above.new.store c.go_above.new.left c.go_above.new.turns c.in_ok-next.next c.in_ok-next.ensures.on
 
 pub returns-in_ok-next-in-None-clause-sinks : goal.returns-in_ok-next-in-None-clause-sinks
-returns-in_ok-next-in-None-clause-sinks g c = answered_on c.args.left.now c.args.task (Data c.args.title) c.in_ok-inner.inner c.args.tower.now c.begin_above.new.tower c.begin_above.new.left c.in_ok-next.next c.in_ok-next.ensures.falls
+returns-in_ok-next-in-None-clause-sinks g c = answered_on c.args.left.now c.args.task (Data c.args.title) c.in_ok-inner.inner c.args.tower.now c.push_task.new.tower c.go_above.new.left c.in_ok-next.next c.in_ok-next.ensures.falls

@@ -12,5 +12,5 @@ returns-then-left-kept c = finds_short c.args.keep.now c.args.title.now c.args.l
 pub returns-then-left-kept-2 : goal.returns-then-left-kept-2
 returns-then-left-kept-2 c = finds_short c.args.keep.now c.args.title.now c.args.left.now c.in-Some.kept.now (kept_found _ _ _ c.find.ensures c.in-Some.is) (inr c.if-left-kept-2.true)
 
-pub returns-in-Some : goal.returns-in-Some
-returns-in-Some c = (kept_found _ _ _ c.find.ensures c.in-Some.is, omega (arith, c.if-left-kept.false), omega (arith, c.if-left-kept-2.false))
+pub returns-else-left-kept-2 : goal.returns-else-left-kept-2
+returns-else-left-kept-2 c = (kept_found _ _ _ c.find.ensures c.in-Some.is, omega (arith, c.if-left-kept.false), omega (arith, c.if-left-kept-2.false))

@@ -1,37 +1,20 @@
-use Rattle.std.proofs.Common.{refl, ap, arith}
-use Rattle.wk_base.specs.declared.left.Left.{Left}
-use Rattle.wiki_expand.specs.Pages.{direct_of, direct_in, find_page}
-use Rattle.page_driver.specs.Ground.{ground_of, page_of}
-use Rattle.page_driver.specs.Page.{full_of}
-use Rattle.page_driver.proofs.Whole.{starting_held, page_held, turns_held, held_has_trees}
+use Rattle.std.proofs.Common.{refl}
 use Rattle.page_driver.proofs.page.expand_within.Goals as goal
 
-pub drive-requires : goal.drive-requires
-drive-requires g c =
-    let w = ground_of c.args.around.now in
-    let t = c.empty_tower-tower.ensures in
-    starting_held w c.new-store.result c.full_left-left.result c.args.turns.now c.empty_tower-tower.result c.in_ok-root.root t.stack t.keep t.kept c.full_left-left.ensures.fits
-    (direct_in w.pages (page_of w)) (held_has_trees direct_of (find_page w.pages (page_of w)) c.requires.held) c.in_ok-root.ensures
+pub come_from-requires-clause-held : goal.come_from-requires-clause-held
+come_from-requires-clause-held g c = c.requires.held
+
+pub come_from-requires-clause-countable : goal.come_from-requires-clause-countable
+come_from-requires-clause-countable g c = c.requires.countable
+
+pub come_from-requires-clause-root : goal.come_from-requires-clause-root
+come_from-requires-clause-root g c = c.in_ok-root.ensures
 
 pub returns-clause-page : goal.returns-clause-page
-returns-clause-page g c = λ modules agree.
-    let w = ground_of c.args.around.now in
-    let t = c.empty_tower-tower.ensures in
-    page_held w c.new-store.result c.full_left-left.result c.args.turns.now c.empty_tower-tower.result c.in_ok-root.root t.stack t.keep t.kept c.full_left-left.ensures.fits
-    c.drive.new.left c.drive.new.turns c.drive.new.tower c.in_ok-reply.reply c.in_ok-reply.ensures (direct_in w.pages (page_of w)) (held_has_trees direct_of (find_page w.pages (page_of w)) c.requires.held) c.in_ok-root.ensures modules agree
-    (record { title = c.in_ok-title.title; text = c.in_ok-text.text; left = c.drive.new.left; kept = c.drive.new.tower.kept }) c.in_ok-title.ensures c.in_ok-text.ensures refl refl (full_of c.args.limits.now) c.full_left-left.ensures.full
+returns-clause-page g c = c.in_ok-came.ensures.page (record { title = c.in_ok-title.title; text = c.in_ok-text.text; left = c.in_ok-came.came.left; kept = c.in_ok-came.came.kept }) c.in_ok-title.ensures c.in_ok-text.ensures refl refl
 
 pub returns-clause-rises : goal.returns-clause-rises
-returns-clause-rises g c =
-    let w = ground_of c.args.around.now in
-    let t = c.empty_tower-tower.ensures in
-    (turns_held w c.new-store.result c.full_left-left.result c.args.turns.now c.empty_tower-tower.result c.in_ok-root.root t.stack t.keep t.kept c.full_left-left.ensures.fits
-    c.drive.new.left c.drive.new.turns c.drive.new.tower c.in_ok-reply.reply c.in_ok-reply.ensures (direct_in w.pages (page_of w)) (held_has_trees direct_of (find_page w.pages (page_of w)) c.requires.held) c.in_ok-root.ensures).0
+returns-clause-rises g c = c.in_ok-came.ensures.rises
 
 pub returns-clause-paid : goal.returns-clause-paid
-returns-clause-paid g c =
-    let w = ground_of c.args.around.now in
-    let t = c.empty_tower-tower.ensures in
-    let k = turns_held w c.new-store.result c.full_left-left.result c.args.turns.now c.empty_tower-tower.result c.in_ok-root.root t.stack t.keep t.kept c.full_left-left.ensures.fits
-    c.drive.new.left c.drive.new.turns c.drive.new.tower c.in_ok-reply.reply c.in_ok-reply.ensures (direct_in w.pages (page_of w)) (held_has_trees direct_of (find_page w.pages (page_of w)) c.requires.held) c.in_ok-root.ensures in
-    omega (arith, k.1, ap (λ (l : Left). l.steps) c.full_left-left.ensures.full)
+returns-clause-paid g c = c.in_ok-came.ensures.paid
