@@ -15,10 +15,10 @@ pub ask_data-requires : goal.ask_data-requires
 ask_data-requires g c = subst (λ (q : Ask). InProgress (ground_of c.args.around.now) c.args.store.now c.args.left.now c.args.turns.now c.args.tower.now (asks_with c.args.task q)) c.in-Data.is c.requires
 
 pub returns-in_ok-next-in-Template-clause-moves : goal.returns-in_ok-next-in-Template-clause-moves
-returns-in_ok-next-in-Template-clause-moves g c = rw c.in-Template.is c.in_ok-next.ensures.moves
+returns-in_ok-next-in-Template-clause-moves g c = rw c.in-Template.is c.in_ok-next-in-Template.ensures.moves
 
 pub returns-in_ok-next-in-Template-clause-sinks : goal.returns-in_ok-next-in-Template-clause-sinks
-returns-in_ok-next-in-Template-clause-sinks g c = rw c.in-Template.is c.in_ok-next.ensures.sinks
+returns-in_ok-next-in-Template-clause-sinks g c = rw c.in-Template.is c.in_ok-next-in-Template.ensures.sinks
 
 pub returns-in_ok-next-in-Preprocess-clause-moves : goal.returns-in_ok-next-in-Preprocess-clause-moves
 returns-in_ok-next-in-Preprocess-clause-moves g c = rw c.in-Preprocess.is c.in_ok-next-in-Preprocess.ensures.moves

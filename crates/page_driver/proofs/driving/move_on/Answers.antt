@@ -15,10 +15,10 @@ pub answer_question-requires : goal.answer_question-requires
 answer_question-requires g c = subst (λ (h : Halt). let x : Halted = record { task = c.args.halted.task; halt = h } in InProgress (ground_of c.args.around.now) c.args.store.now c.args.left.now c.args.turns.now c.args.tower.now x) c.in-Asks.is c.requires
 
 pub returns-in_ok-next-in-Comes-clause-moves : goal.returns-in_ok-next-in-Comes-clause-moves
-returns-in_ok-next-in-Comes-clause-moves g c = rw c.in-Comes.is c.in_ok-next.ensures.moves
+returns-in_ok-next-in-Comes-clause-moves g c = rw c.in-Comes.is c.in_ok-next-in-Comes.ensures.moves
 
 pub returns-in_ok-next-in-Comes-clause-sinks : goal.returns-in_ok-next-in-Comes-clause-sinks
-returns-in_ok-next-in-Comes-clause-sinks g c = rw c.in-Comes.is c.in_ok-next.ensures.sinks
+returns-in_ok-next-in-Comes-clause-sinks g c = rw c.in-Comes.is c.in_ok-next-in-Comes.ensures.sinks
 
 pub returns-in_ok-next-in-Invokes-clause-moves : goal.returns-in_ok-next-in-Invokes-clause-moves
 returns-in_ok-next-in-Invokes-clause-moves g c = rw c.in-Invokes.is c.in_ok-next-in-Invokes.ensures.moves

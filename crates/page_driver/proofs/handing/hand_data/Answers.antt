@@ -9,8 +9,8 @@ use Rattle.page_driver.proofs.handing.hand_data.Goals as goal
 pub hand_loaded-requires : goal.hand_loaded-requires
 hand_loaded-requires g c = subst (λ (t : Task). InProgress (ground_of c.args.around.now) c.args.store.now c.args.left.now c.args.turns.now (tower_with c.args.waiting c.args.tower.now) (comes_with t (Data c.args.given))) c.in-Load.is c.requires
 
-pub returns-in_ok-next-in-Load-clause-moves : goal.returns-in_ok-next-in-Load-clause-moves
-returns-in_ok-next-in-Load-clause-moves g c = rw c.in-Load.is c.in_ok-next.ensures.moves
+pub returns-clause-moves : goal.returns-clause-moves
+returns-clause-moves g c = rw c.in-Load.is c.in_ok-next-in-Load.ensures.moves
 
-pub returns-in_ok-next-in-Load-clause-sinks : goal.returns-in_ok-next-in-Load-clause-sinks
-returns-in_ok-next-in-Load-clause-sinks g c = rw c.in-Load.is c.in_ok-next.ensures.sinks
+pub returns-clause-sinks : goal.returns-clause-sinks
+returns-clause-sinks g c = rw c.in-Load.is c.in_ok-next-in-Load.ensures.sinks

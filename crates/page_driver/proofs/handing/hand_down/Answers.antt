@@ -21,20 +21,20 @@ tell_text-requires-clause-back g c = below_fits (ground_of c.args.around.now) c.
 
 pub returns-in_ok-halted-in-Text-clause-moves : goal.returns-in_ok-halted-in-Text-clause-moves
 returns-in_ok-halted-in-Text-clause-moves g c = rw c.in-Text.is
-    (text_moves (ground_of c.args.around.now) c.args.store.now c.args.left.now c.args.turns.now c.args.tower.now c.args.waiting c.args.task c.in-Text.text c.tell_text.new.store c.tell_text.new.left c.tell_text.new.turns c.in_ok-halted.halted c.in_ok-halted.ensures.halts c.in_ok-halted.ensures.goes)
+    (text_moves (ground_of c.args.around.now) c.args.store.now c.args.left.now c.args.turns.now c.args.tower.now c.args.waiting c.args.task c.in-Text.text c.tell_text.new.store c.tell_text.new.left c.tell_text.new.turns c.in_ok-halted-in-Text.halted c.in_ok-halted-in-Text.ensures.halts c.in_ok-halted-in-Text.ensures.goes)
 
 pub returns-in_ok-halted-in-Text-clause-sinks : goal.returns-in_ok-halted-in-Text-clause-sinks
-returns-in_ok-halted-in-Text-clause-sinks g c = told_sinks c.args.left.now c.args.task c.args.reply c.args.waiting c.args.tower.now c.args.tower.now c.tell_text.new.left c.in_ok-halted.halted refl c.in_ok-halted.ensures.falls
+returns-in_ok-halted-in-Text-clause-sinks g c = told_sinks c.args.left.now c.args.task c.args.reply c.args.waiting c.args.tower.now c.args.tower.now c.tell_text.new.left c.in_ok-halted-in-Text.halted refl c.in_ok-halted-in-Text.ensures.falls
 
 -- DATA
 pub hand_data-requires : goal.hand_data-requires
 hand_data-requires g c = subst (λ (r : Reply). InProgress (ground_of c.args.around.now) c.args.store.now c.args.left.now c.args.turns.now (tower_with c.args.waiting c.args.tower.now) (comes_with c.args.task r)) c.in-Data.is c.requires
 
 pub returns-in_ok-next-in-Data-clause-moves : goal.returns-in_ok-next-in-Data-clause-moves
-returns-in_ok-next-in-Data-clause-moves g c = rw c.in-Data.is c.in_ok-next.ensures.moves
+returns-in_ok-next-in-Data-clause-moves g c = rw c.in-Data.is c.in_ok-next-in-Data.ensures.moves
 
 pub returns-in_ok-next-in-Data-clause-sinks : goal.returns-in_ok-next-in-Data-clause-sinks
-returns-in_ok-next-in-Data-clause-sinks g c = rw c.in-Data.is c.in_ok-next.ensures.sinks
+returns-in_ok-next-in-Data-clause-sinks g c = rw c.in-Data.is c.in_ok-next-in-Data.ensures.sinks
 
 -- THAT AN ALLOWANCE IS SPENT
 pub tell_spent-requires-clause-waits : goal.tell_spent-requires-clause-waits

@@ -20,7 +20,7 @@ pub hand_down-requires : goal.hand_down-requires
 hand_down-requires g c = subst (λ (ts : List Task). InProgress (ground_of c.args.around.now) c.args.store.now c.args.left.now c.args.turns.now (record c.args.tower.now { stack = ts }) (comes_with c.args.task c.args.reply)) c.in-Some.ensures c.requires
 
 pub returns-in_ok-next-in-Some-clause-moves : goal.returns-in_ok-next-in-Some-clause-moves
-returns-in_ok-next-in-Some-clause-moves g c = subst (λ (ts : List Task). MovesOn (ground_of c.args.around.now) c.args.store.now c.args.left.now c.args.turns.now (record c.args.tower.now { stack = ts }) (comes_with c.args.task c.args.reply) c.hand_down.new.store c.hand_down.new.left c.hand_down.new.turns c.hand_down.new.tower c.in_ok-next.next) (sym c.in-Some.ensures) c.in_ok-next.ensures.moves
+returns-in_ok-next-in-Some-clause-moves g c = subst (λ (ts : List Task). MovesOn (ground_of c.args.around.now) c.args.store.now c.args.left.now c.args.turns.now (record c.args.tower.now { stack = ts }) (comes_with c.args.task c.args.reply) c.hand_down.new.store c.hand_down.new.left c.hand_down.new.turns c.hand_down.new.tower c.in_ok-next-in-Some.next) (sym c.in-Some.ensures) c.in_ok-next-in-Some.ensures.moves
 
 pub returns-in_ok-next-in-Some-clause-sinks : goal.returns-in_ok-next-in-Some-clause-sinks
-returns-in_ok-next-in-Some-clause-sinks g c = subst (λ (ts : List Task). Sinks c.args.left.now (record c.args.tower.now { stack = ts }) (comes_with c.args.task c.args.reply) c.hand_down.new.left c.hand_down.new.tower c.in_ok-next.next) (sym c.in-Some.ensures) c.in_ok-next.ensures.sinks
+returns-in_ok-next-in-Some-clause-sinks g c = subst (λ (ts : List Task). Sinks c.args.left.now (record c.args.tower.now { stack = ts }) (comes_with c.args.task c.args.reply) c.hand_down.new.left c.hand_down.new.tower c.in_ok-next-in-Some.next) (sym c.in-Some.ensures) c.in_ok-next-in-Some.ensures.sinks
