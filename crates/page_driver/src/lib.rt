@@ -6,6 +6,7 @@
 //! - `beginning`: what nothing on a page changes
 //! - `going`: a task goes on until it halts
 //! - `telling`: a task that waits is told a reply, and goes on
+//! - `ending`: the text or the data that a run of Lua came to
 //! - `driving`: a page in progress
 //! - `keep`: what the loads of a page gave
 //!
@@ -15,6 +16,7 @@
 
 pub mod beginning;
 pub mod driving;
+mod ending;
 pub mod going;
 pub mod keep;
 pub mod task;
