@@ -164,6 +164,13 @@ pub calls_fit : (calls left high : ℕ) → left + calls < 2 ^ 64 → high ≤ l
 calls_fit calls left high a b = omega (arith, a, b)
 
 -- IT IS SPENT with the answer
+module _ (m : Machine) (l l' : Left) (back : l' ≡ record l { calls = l.calls + m.state.calls }) where
+  pub invocation_refused_falls : (text : List ℕ) → Falls l (task.Invocation m) l' (record { task = task.Invocation m; halt = halt.Comes (reply.Text text) })
+  invocation_refused_falls text = (omega (arith, ap (λ (v : Left). v.steps) back), omega (arith, ap (λ (v : Left). v.nodes) back))
+
+  pub load_refused_falls : (b : Begun) (which : Which) → Falls l (task.Load b m) l' (record { task = task.Load b m; halt = halt.Comes (reply.Spent which) })
+  load_refused_falls b which = (omega (arith, ap (λ (v : Left). v.steps) back), omega (arith, ap (λ (v : Left). v.nodes) back))
+
 module _ (m : Machine) (which : Which) (s : StoreView) (l l' : Left) (back : l' ≡ record l { calls = l.calls + m.state.calls }) where
   abbrev done : Place → PlainReply Answer → Place
   done p r = record (replied p r) { nodes = p.nodes + 0; within = p.within }
@@ -209,15 +216,6 @@ module _ (m : Machine) (which : Which) (s : StoreView) (l l' : Left) (back : l' 
     rises = omega arith;
     paid = omega (arith, steps_same);
   }
-
-  nodes_same : l'.nodes ≡ l.nodes
-  nodes_same = ap (λ (v : Left). v.nodes) back
-
-  pub invocation_refused_falls : (text : List ℕ) → Falls l (task.Invocation m) l' (record { task = task.Invocation m; halt = halt.Comes (reply.Text text) })
-  invocation_refused_falls text = (omega (arith, steps_same), omega (arith, nodes_same))
-
-  pub load_refused_falls : (b : Begun) → Falls l (task.Load b m) l' (record { task = task.Load b m; halt = halt.Comes (reply.Spent which) })
-  load_refused_falls b = (omega (arith, steps_same), omega (arith, nodes_same))
 
   pub invocation_refused : (high : ℕ) (text : List ℕ) → text ≡ spent_text which → GoesOnWith s l (task.Invocation m) (Exhausts which) high s l' 0 (record { task = task.Invocation m; halt = halt.Comes (reply.Text text) })
   invocation_refused high text e g ground modules agree p w _ r says leaves well =

@@ -267,6 +267,15 @@ pub fn tell_data<'w, L: Ledger>(
     Ok(halted)
 }
 
+/// The calls in progress of a run that is spent are left again.
+fn give_back<'w>(left: &mut Left, machine: &Machine<'w>)
+    requires { left.old.calls + machine.now.state.calls < 2 ^ 64 }
+    ensures { left.new ≡ record left.old { calls = left.old.calls + machine.now.state.calls } }
+{
+    let calls = machine.calls();
+    left.calls += calls;
+}
+
 /// An invocation is told that an allowance is spent: it gives back its calls, and comes to the text that says so.
 fn spend_invocation<'w>(
     alloc: Global,
@@ -280,8 +289,7 @@ fn spend_invocation<'w>(
     ensures falls { IfOk result (λ x. Falls left.old (task_kind.Invocation machine.entry) left.new x) }
 {
     let text = spent_text(alloc, which)?;
-    let calls = machine.calls();
-    left.calls += calls;
+    give_back(left, &machine);
     Ok(Halted {
         task: Task::Invocation(machine),
         halt: Halt::Comes(Reply::Text(text)),
@@ -295,8 +303,7 @@ fn spend_load<'w>(left: &mut Left, begun: Begun, machine: Machine<'w>, which: Wh
     ensures goes { (s : StoreView) (high : ℕ) → GoesOnWith s left.old (task_kind.Load begun machine.entry) (Exhausts which) high s left.new 0 result }
     ensures falls { Falls left.old (task_kind.Load begun machine.entry) left.new result }
 {
-    let calls = machine.calls();
-    left.calls += calls;
+    give_back(left, &machine);
     Halted {
         task: Task::Load(begun, machine),
         halt: Halt::Comes(Reply::Spent(which)),

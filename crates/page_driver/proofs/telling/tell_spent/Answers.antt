@@ -11,10 +11,10 @@ pub tell_expansion-requires-clause-back : goal.tell_expansion-requires-clause-ba
 tell_expansion-requires-clause-back c = subst (CanGiveBack c.args.left.now) c.in-Expansion.is c.requires.back
 
 pub spend_invocation-requires : goal.spend_invocation-requires
-spend_invocation-requires c = subst (CanGiveBack c.args.left.now) c.in-Invocation.is c.requires.back
+spend_invocation-requires c = record { back = subst (CanGiveBack c.args.left.now) c.in-Invocation.is c.requires.back }
 
 pub spend_load-requires : goal.spend_load-requires
-spend_load-requires c = subst (CanGiveBack c.args.left.now) c.in-Load.is c.requires.back
+spend_load-requires c = record { back = subst (CanGiveBack c.args.left.now) c.in-Load.is c.requires.back }
 
 pub returns-in_ok-halted-in-Expansion-clause-halts : goal.returns-in_ok-halted-in-Expansion-clause-halts
 returns-in_ok-halted-in-Expansion-clause-halts c = λ s k of. rw c.in-Expansion.is (c.in_ok-halted-in-Expansion.ensures.halts s k)
