@@ -17,28 +17,28 @@ use Rattle.page_driver.proofs.ending.end_data.Goals as goal
 pub value_data-requires : goal.value_data-requires
 value_data-requires c =
     subst (IsOf c.args.store.now) (sym c.first-value.ensures)
-    (first_of c.args.store.now (given_values c.in-Goes.given.now) (subst (OutcomeOf c.args.store.now) c.in-Goes.is c.requires))
+    (first_of c.args.store.now (given_values c.in-Goes.given) (subst (OutcomeOf c.args.store.now) c.in-Goes.is c.requires))
 
 pub copied_text-requires : goal.copied_text-requires
 copied_text-requires c =
     subst (λ (o : Option TextId). IfSome o (IsTextOf c.args.store.now)) (sym c.raised_text-found.ensures)
-    (raised_text_of c.args.store.now c.in-Jumps.jump.now (subst (OutcomeOf c.args.store.now) c.in-Jumps.is c.requires))
+    (raised_text_of c.args.store.now c.in-Jumps.jump (subst (OutcomeOf c.args.store.now) c.in-Jumps.is c.requires))
 
 pub returns-in_ok-data-in-Goes-clause-data : goal.returns-in_ok-data-in-Goes-clause-data
 returns-in_ok-data-in-Goes-clause-data c =
     rw c.in-Goes.is
-    (c.in_ok-data.ensures.data
+    (c.in_ok-data-in-Goes.ensures.data
     ∙ ap (λ (v : Value). graph_answer (taken c.args.store.now.heap (seen c.args.store.now.texts v))) c.first-value.ensures
-    ∙ given_data c.args.store.now.texts c.args.store.now.heap (given_values c.in-Goes.given.now))
+    ∙ given_data c.args.store.now.texts c.args.store.now.heap (given_values c.in-Goes.given))
 
 pub returns-in_ok-data-in-Goes-clause-put : goal.returns-in_ok-data-in-Goes-clause-put
-returns-in_ok-data-in-Goes-clause-put c = c.in_ok-data.ensures.put
+returns-in_ok-data-in-Goes-clause-put c = c.in_ok-data-in-Goes.ensures.put
 
 pub returns-in_ok-message-in-Jumps-clause-data : goal.returns-in_ok-message-in-Jumps-clause-data
 returns-in_ok-message-in-Jumps-clause-data c =
     rw c.in-Jumps.is
-    (ap LoadFailed (c.in_ok-message.ensures ∙ ap (text_or_none c.args.store.now.texts) c.raised_text-found.ensures)
-    ∙ sym (ap (data_told c.args.store.now.heap) (jump_end c.args.store.now.texts c.in-Jumps.jump.now)))
+    (ap LoadFailed (c.in_ok-message-in-Jumps.ensures ∙ ap (text_or_none c.args.store.now.texts) c.raised_text-found.ensures)
+    ∙ sym (ap (data_told c.args.store.now.heap) (jump_end c.args.store.now.texts c.in-Jumps.jump)))
 
 pub returns-in_ok-message-in-Jumps-clause-put : goal.returns-in_ok-message-in-Jumps-clause-put
 returns-in_ok-message-in-Jumps-clause-put c = tt

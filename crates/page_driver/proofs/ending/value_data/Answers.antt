@@ -12,7 +12,7 @@ pub returns-in-Ok-clause-put : goal.returns-in-Ok-clause-put
 returns-in-Ok-clause-put c = c.in-Ok.ensures.made
 
 pub returns-in_ok-copy-in-Some-clause-data : goal.returns-in_ok-copy-in-Some-clause-data
-returns-in_ok-copy-in-Some-clause-data c = ap LoadFailed c.in_ok-copy.ensures ∙ sym (c.in-Some.ensures (taken c.args.store.now.heap (seen c.args.store.now.texts c.args.value)) c.in-Err.ensures.fault)
+returns-in_ok-copy-in-Some-clause-data c = ap LoadFailed c.in_ok-copy-in-Some.ensures ∙ sym (c.in-Some.ensures (taken c.args.store.now.heap (seen c.args.store.now.texts c.args.value)) c.in-Err.ensures.fault)
 
 pub returns-in_ok-copy-in-Some-clause-put : goal.returns-in_ok-copy-in-Some-clause-put
 returns-in_ok-copy-in-Some-clause-put c = tt
