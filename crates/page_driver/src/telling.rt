@@ -249,17 +249,17 @@ pub fn tell_data<'w, L: Ledger>(
     store: &mut Store,
     left: &mut Left,
     task: Task<'w>,
-    data: &Data,
+    given: &Data,
     height: u64,
     turns: &mut Steps<L>,
 ) -> Result<Halted<'w>, NoMemory>
     requires of { TaskIn store.old task }
     requires waits { CanBeTold task }
     requires back { CanGiveBack left.old task }
-    requires data { CanBePut data.now }
+    requires data { CanBePut given.now }
     requires height { height ≤ left.old.calls }
     ensures halts { IfOk result (λ x. Halts store.old left.old turns.old task.entry store.new left.new turns.new x) }
-    ensures goes { IfOk result (λ x. (n : ℕ) → turns.new ≡ turns.old + n → GoesOnWith store.old left.old task.entry (Gives (data_seen data.now)) height store.new left.new n x) }
+    ensures goes { IfOk result (λ x. (n : ℕ) → turns.new ≡ turns.old + n → GoesOnWith store.old left.old task.entry (Gives (data_seen given.now)) height store.new left.new n x) }
     ensures falls { IfOk result (λ x. Falls left.old task.entry left.new x) }
 {
     let answer = put_data(alloc, store, data)?;
