@@ -223,14 +223,14 @@ pub fn tell_none<'w, L: Ledger>(
 }
 
 /// Data as an answer of the store: its tables are put into the store, read-only (Scribunto, `mw.loadData`).
-fn put_data(alloc: Global, store: &mut Store, data: &Data) -> Result<Answer, NoMemory>
-    requires { CanBePut data.now }
+fn put_data(alloc: Global, store: &mut Store, given: &Data) -> Result<Answer, NoMemory>
+    requires { CanBePut given.now }
     ensures of { IfOk result (AnswerOf store.new) }
     ensures later { OnOk result (IsLater store.old store.new) }
-    ensures puts { IfOk result (λ a. PutsAnswer store.old.heap store.new.heap (data_seen data.now) (answer_outcome store.new.texts a)) }
+    ensures puts { IfOk result (λ a. PutsAnswer store.old.heap store.new.heap (data_seen given.now) (answer_outcome store.new.texts a)) }
     ensures text { IfOk result (λ a. answered_text a ≡ []) }
 {
-    match data {
+    match given {
         Data::Tables(graph) => {
             let root = put_in(alloc, store, graph, true)?;
             Ok(Answer::Loaded(root))
@@ -262,7 +262,7 @@ pub fn tell_data<'w, L: Ledger>(
     ensures goes { IfOk result (λ x. (n : ℕ) → turns.new ≡ turns.old + n → GoesOnWith store.old left.old task.entry (Gives (data_seen given.now)) height store.new left.new n x) }
     ensures falls { IfOk result (λ x. Falls left.old task.entry left.new x) }
 {
-    let answer = put_data(alloc, store, data)?;
+    let answer = put_data(alloc, store, given)?;
     let halted = tell(alloc, store, left, task, answer, height, turns)?;
     Ok(halted)
 }

@@ -14,8 +14,8 @@ returns-clause-halts g c =
 
 pub returns-clause-goes : goal.returns-clause-goes
 returns-clause-goes g c = λ n e.
-    tells_put c.args.store.now c.put_data.new.store c.args.left.now c.args.task (data_seen c.args.data.now) (answer_outcome c.put_data.new.store.texts c.in_ok-answer.answer) c.args.height c.tell.new.store c.tell.new.left n c.in_ok-halted.halted c.requires.of c.in_ok-answer.ensures.later c.in_ok-answer.ensures.puts
-    (c.in_ok-halted.ensures.goes n e (data_seen c.args.data.now) (c.in_ok-answer.ensures.text ∙ sym (no_text c.args.data.now)))
+    tells_put c.args.store.now c.put_data.new.store c.args.left.now c.args.task (data_seen c.args.given.now) (answer_outcome c.put_data.new.store.texts c.in_ok-answer.answer) c.args.height c.tell.new.store c.tell.new.left n c.in_ok-halted.halted c.requires.of c.in_ok-answer.ensures.later c.in_ok-answer.ensures.puts
+    (c.in_ok-halted.ensures.goes n e (data_seen c.args.given.now) (c.in_ok-answer.ensures.text ∙ sym (no_text c.args.given.now)))
 
 pub returns-clause-falls : goal.returns-clause-falls
 returns-clause-falls g c = c.in_ok-halted.ensures.falls
