@@ -1,6 +1,9 @@
 use Rattle.page_driver.proofs.Expanding.{expansion_halts, expansion_goes, expansion_falls}
 use Rattle.page_driver.proofs.going.go_expansion.Goals as goal
 
+pub go_expander-requires-clause-can : goal.go_expander-requires-clause-can
+go_expander-requires-clause-can c = c.requires.can
+
 pub go_expander-requires-clause-depth : goal.go_expander-requires-clause-depth
 go_expander-requires-clause-depth c = c.requires.back.depth
 

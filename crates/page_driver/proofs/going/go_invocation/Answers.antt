@@ -1,6 +1,9 @@
 use Rattle.page_driver.proofs.Halting.{invocation_halts, invocation_goes, invocation_falls}
 use Rattle.page_driver.proofs.going.go_invocation.Goals as goal
 
+pub go_machine-requires-clause-of : goal.go_machine-requires-clause-of
+go_machine-requires-clause-of g c = c.requires.of
+
 pub go_machine-requires-clause-calls : goal.go_machine-requires-clause-calls
 go_machine-requires-clause-calls g c = c.requires.back.calls
 

@@ -1,5 +1,11 @@
 use Rattle.page_driver.proofs.going.go_machine.Goals as goal
 
+pub go-requires-clause-machine : goal.go-requires-clause-machine
+go-requires-clause-machine g c = c.requires.of
+
+pub go-requires-clause-calls : goal.go-requires-clause-calls
+go-requires-clause-calls g c = c.requires.calls
+
 pub returns-clause-went : goal.returns-clause-went
 returns-clause-went g c = record {
   of = c.in_ok-event.ensures.of;

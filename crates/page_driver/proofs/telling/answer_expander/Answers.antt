@@ -1,5 +1,8 @@
 use Rattle.page_driver.proofs.telling.answer_expander.Goals as goal
 
+pub answer-requires : goal.answer-requires
+answer-requires c = record { waiting = c.requires }
+
 pub returns-clause-told : goal.returns-clause-told
 returns-clause-told c = record {
   at = c.in_ok-answer.ensures.at;

@@ -4,6 +4,18 @@ use Rattle.page_driver.specs.Tasks.{TaskIn, CanBeTold}
 use Rattle.page_driver.specs.Falling.{CanGiveBack}
 use Rattle.page_driver.proofs.telling.tell.Goals as goal
 
+pub tell_invocation-requires-clause-answer : goal.tell_invocation-requires-clause-answer
+tell_invocation-requires-clause-answer g c = c.requires.answer
+
+pub tell_invocation-requires-clause-height : goal.tell_invocation-requires-clause-height
+tell_invocation-requires-clause-height g c = c.requires.height
+
+pub tell_load-requires-clause-answer : goal.tell_load-requires-clause-answer
+tell_load-requires-clause-answer g c = c.requires.answer
+
+pub tell_load-requires-clause-height : goal.tell_load-requires-clause-height
+tell_load-requires-clause-height g c = c.requires.height
+
 pub tell_expansion-requires-clause-waits : goal.tell_expansion-requires-clause-waits
 tell_expansion-requires-clause-waits g c = subst CanBeTold c.in-Expansion.is c.requires.waits
 

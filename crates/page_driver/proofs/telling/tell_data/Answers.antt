@@ -5,6 +5,21 @@ use Rattle.page_driver.proofs.Waiting.{task_later}
 use Rattle.page_driver.proofs.Answering.{tells_put, put_halts, no_text}
 use Rattle.page_driver.proofs.telling.tell_data.Goals as goal
 
+pub put_data-requires : goal.put_data-requires
+put_data-requires g c = c.requires.data
+
+pub tell-requires-clause-waits : goal.tell-requires-clause-waits
+tell-requires-clause-waits g c = c.requires.waits
+
+pub tell-requires-clause-back : goal.tell-requires-clause-back
+tell-requires-clause-back g c = c.requires.back
+
+pub tell-requires-clause-answer : goal.tell-requires-clause-answer
+tell-requires-clause-answer g c = c.in_ok-answer.ensures.of
+
+pub tell-requires-clause-height : goal.tell-requires-clause-height
+tell-requires-clause-height g c = c.requires.height
+
 pub tell-requires-clause-of : goal.tell-requires-clause-of
 tell-requires-clause-of g c = task_later c.args.store.now c.put_data.new.store c.in_ok-answer.ensures.later c.args.task c.requires.of
 

@@ -1,6 +1,12 @@
 use Rattle.page_driver.proofs.Expanding.{told_halts, told_goes, told_falls, told_back}
 use Rattle.page_driver.proofs.telling.tell_expansion.Goals as goal
 
+pub answer_expander-requires : goal.answer_expander-requires
+answer_expander-requires c = c.requires.waits
+
+pub go_expansion-requires-clause-can : goal.go_expansion-requires-clause-can
+go_expansion-requires-clause-can c = c.in_ok-answer_expander.ensures.can
+
 pub go_expansion-requires-clause-back : goal.go_expansion-requires-clause-back
 go_expansion-requires-clause-back c = told_back c.args.expander c.args.left.now c.args.text c.answer_expander.new.expander c.answer_expander.new.left c.in_ok-answer_expander.ensures.told c.requires.back
 

@@ -2,6 +2,15 @@ use Rattle.lua_machine.specs.Events.{answer_outcome}
 use Rattle.page_driver.proofs.Answering.{invocation_told_back, invocation_told_halts, invocation_told_goes, calls_fit}
 use Rattle.page_driver.proofs.telling.tell_invocation.Goals as goal
 
+pub answer_machine-requires-clause-of : goal.answer_machine-requires-clause-of
+answer_machine-requires-clause-of g c = c.requires.of
+
+pub answer_machine-requires-clause-answer : goal.answer_machine-requires-clause-answer
+answer_machine-requires-clause-answer g c = c.requires.answer
+
+pub go_invocation-requires-clause-of : goal.go_invocation-requires-clause-of
+go_invocation-requires-clause-of g c = c.in_ok-answer_machine.ensures.of
+
 pub answer_machine-requires-clause-height : goal.answer_machine-requires-clause-height
 answer_machine-requires-clause-height g c = calls_fit c.args.machine.state.calls c.args.left.now.calls c.args.height c.requires.back.calls c.requires.height
 

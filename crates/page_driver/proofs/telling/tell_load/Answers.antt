@@ -2,6 +2,9 @@ use Rattle.lua_machine.specs.Events.{answer_outcome}
 use Rattle.page_driver.proofs.Answering.{load_told_back, load_told_halts, load_told_goes, calls_fit}
 use Rattle.page_driver.proofs.telling.tell_load.Goals as goal
 
+pub answer_machine-requires-clause-answer : goal.answer_machine-requires-clause-answer
+answer_machine-requires-clause-answer g c = c.requires.answer
+
 pub answer_machine-requires-clause-of : goal.answer_machine-requires-clause-of
 answer_machine-requires-clause-of g c = c.requires.of.0
 

@@ -7,6 +7,15 @@ use Rattle.lua_points.specs.Told.{as_text}
 use Rattle.page_driver.proofs.Answering.{tells_at_once}
 use Rattle.page_driver.proofs.telling.tell_text.Goals as goal
 
+pub tell-requires-clause-of : goal.tell-requires-clause-of
+tell-requires-clause-of g c = c.requires.of
+
+pub tell-requires-clause-waits : goal.tell-requires-clause-waits
+tell-requires-clause-waits g c = c.requires.waits
+
+pub tell-requires-clause-back : goal.tell-requires-clause-back
+tell-requires-clause-back g c = c.requires.back
+
 pub tell-requires-clause-answer : goal.tell-requires-clause-answer
 tell-requires-clause-answer g c = tt
 
