@@ -3,6 +3,8 @@
 use Rattle.std.specs.Prelude.{ℕ, ◌+◌, ◌*◌, ◌<◌, ◌≤◌, ◌^◌}
 use Rattle.wk_base.specs.declared.left.Left.{Left}
 use Rattle.wiki_expand.specs.Weights.{chances}
+use Rattle.lua_machine.specs.declared.event.Event.{Event}
+use Rattle.lua_machine.specs.declared.event.Event.TheVariants as event
 use Rattle.page_driver.specs.declared.task.Task.{Task}
 use Rattle.page_driver.specs.declared.task.Task.TheVariants as task
 use Rattle.page_driver.specs.declared.task.Halt.{Halt}
@@ -24,6 +26,11 @@ chances_of _ = 0
 -- what it may still ask with the nodes that are left: each of them gives two chances
 abbrev pub allowed_with : Left → Task → ℕ
 allowed_with l t = 2 * l.nodes + chances_of t
+
+-- a machine that asks has taken a step
+abbrev pub StepsFall : Event → ℕ → ℕ → Type 0
+StepsFall (event.Asks q) before after = after < before
+StepsFall _ before after = Unit {0}
 
 abbrev pub FallsAt : Halt → ℕ → ℕ → ℕ → ℕ → Type 0
 FallsAt (halt.Comes r) steps allowance steps' allowance' = (steps' ≤ steps) × (allowance' ≤ allowance)

@@ -3,6 +3,7 @@ pub mod Seen
 pub mod Ending
 pub mod Tasks
 pub mod Going
+pub mod Calls
 pub mod Falling
 pub mod Kept
 pub mod Beginning

@@ -9,6 +9,7 @@
 //! - `beginning`: what nothing on a page changes, and how its tasks begin
 //! - `going`: a task goes on until it halts
 //! - `telling`: a task that waits is told a reply, and goes on
+//! - `ending`: the text or the data that a run of Lua came to
 //! - `keep`: what the loads of a page gave
 //! - `task`: a task on the stack, and how it halts
 //! - `wiki`: a wiki, and a page of it that was expanded
@@ -20,6 +21,7 @@
 pub mod asking;
 pub mod beginning;
 pub mod driving;
+mod ending;
 pub mod going;
 pub mod handing;
 pub mod keep;
