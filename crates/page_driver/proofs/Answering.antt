@@ -1,6 +1,6 @@
 -- A run of Lua goes on with an answer, also with one that is put into the store first.
-use Rattle.std.proofs.Common.{◌≡◌, ℕ, ◌+◌, refl, sym, ap, ◌∙◌, subst, arith}
-use Rattle.std.specs.Prelude.{List, [], max}
+use Rattle.std.proofs.Common.{◌≡◌, ℕ, ◌+◌, ◌<◌, ◌≤◌, ◌^◌, refl, sym, ap, ◌∙◌, subst, arith}
+use Rattle.std.specs.Prelude.{List, []}
 use Rattle.wk_base.specs.declared.left.Left.{Left}
 use Rattle.mw_frame.specs.declared.question.Ask.{Ask}
 use Rattle.page_run.specs.Outcome.{Outcome}
@@ -50,17 +50,9 @@ use Rattle.page_driver.specs.declared.task.Halted.{Halted}
 use Rattle.page_driver.specs.Ground.{Ground, page_of, wiki_of}
 use Rattle.page_driver.specs.Tasks.{TaskIn, MachineReady, MachineWaits}
 use Rattle.page_driver.specs.Going.{HeightTold, Halts, HaltsAt, GoesOn, GoesOnWith, ToldFrom, PutsAnswer}
+use Rattle.page_driver.specs.Calls.{MachineIsTold}
+use Rattle.page_driver.specs.Falling.{CanGiveBack, Falls}
 use Rattle.page_driver.proofs.Waiting.{waits_later}
-
--- a call of `answer`, by its clauses
-pub record MachineIsTold (s : StoreView) (m : Machine) (o : Outcome (List Value) Jump) (high : ℕ) (s₁ : StoreView) (m₁ : Machine) : Type 0 where
-  pub later : IsLater s s₁
-  pub heap : s₁.heap ≡ s.heap
-  pub state : m₁.state ≡ m.state
-  pub point : point_of s₁ m₁.state m₁.next ≡ Gives o (frames_of s₁ m₁.state)
-  pub slots : slots_of s₁ m₁.state ≡ slots_of s m.state
-  pub goes_on : (code : CWorld) (q : Ask) (a : Answer) → AnswersWith code q (frames_of s₁ m₁.state) (slots_of s₁ m₁.state) a o
-  pub height : m₁.height ≡ max m.height (m.state.calls + high)
 
 work_is : (v w : Work) → Running v ≡ Running w → v ≡ w
 work_is v w e = cc
@@ -94,6 +86,12 @@ module _ (s : StoreView) (m : Machine) (o : Outcome (List Value) Jump) (high : �
     rises = h.rises;
     paid = h.paid;
   }
+
+  pub invocation_told_back : (l : Left) → CanGiveBack l (task.Invocation m) → CanGiveBack l (task.Invocation m₁)
+  invocation_told_back l b = record { calls = omega (arith, b.calls, calls); depth = b.depth; templates = b.templates }
+
+  pub load_told_back : (b : Begun) (l : Left) → CanGiveBack l (task.Load b m) → CanGiveBack l (task.Load b m₁)
+  load_told_back b l k = record { calls = omega (arith, k.calls, calls); depth = k.depth; templates = k.templates }
 
   -- AT A PLACE it can go on
   module _ (g : Ground) (modules : Modules) (p : Place) (w : MachineWaits g modules s m p) (a : Answer) (K : Set) (told : IsToldAs K p.within s.heap a o) (r : PlainReply Answer) (says : r.response ≡ Says a) (l : Left) (leaves : r.left ≡ l) (knows : KnowsHeight w.stood.work r.tally.height high) where
@@ -161,7 +159,18 @@ tells_put s s₁ l t a o high s' l' n x of later puts goes g ground modules agre
 pub put_halts : (s s₁ s' : StoreView) (l l' : Left) (k k' : ℕ) (t : Task) (x : Halted) → IsLater s s₁ → Halts s₁ l k t s' l' k' x → Halts s l k t s' l' k' x
 put_halts s s₁ s' l l' k k' t x later h = record { of = h.of; halts = h.halts; ground = h.ground; later = later-then s s₁ s' later h.later; sums = h.sums; rises = h.rises; paid = h.paid }
 
+-- the calls of an answer with the most that were in progress in it
+pub calls_fit : (calls left high : ℕ) → left + calls < 2 ^ 64 → high ≤ left → calls + high < 2 ^ 64
+calls_fit calls left high a b = omega (arith, a, b)
+
 -- IT IS SPENT with the answer
+module _ (m : Machine) (l l' : Left) (back : l' ≡ record l { calls = l.calls + m.state.calls }) where
+  pub invocation_refused_falls : (text : List ℕ) → Falls l (task.Invocation m) l' (record { task = task.Invocation m; halt = halt.Comes (reply.Text text) })
+  invocation_refused_falls text = (omega (arith, ap (λ (v : Left). v.steps) back), omega (arith, ap (λ (v : Left). v.nodes) back))
+
+  pub load_refused_falls : (b : Begun) (which : Which) → Falls l (task.Load b m) l' (record { task = task.Load b m; halt = halt.Comes (reply.Spent which) })
+  load_refused_falls b which = (omega (arith, ap (λ (v : Left). v.steps) back), omega (arith, ap (λ (v : Left). v.nodes) back))
+
 module _ (m : Machine) (which : Which) (s : StoreView) (l l' : Left) (back : l' ≡ record l { calls = l.calls + m.state.calls }) where
   abbrev done : Place → PlainReply Answer → Place
   done p r = record (replied p r) { nodes = p.nodes + 0; within = p.within }

@@ -1,23 +1,25 @@
 -- An expansion goes on until it halts, at its start and with a text.
-use Rattle.std.proofs.Common.{◌≡◌, ℕ, ◌+◌, List, [], ◌∷◌, ◌++◌, sym, ap, ◌∙◌, subst, arith}
+use Rattle.std.proofs.Common.{◌≡◌, ℕ, ◌+◌, ◌*◌, List, [], ◌∷◌, ◌++◌, sym, ap, ◌∙◌, subst, arith}
 use Rattle.std.specs.Prelude.{map}
 use Rattle.std.proofs.lemmas.List.{map-append}
 use Rattle.wk_base.specs.declared.left.Left.{Left}
+use Rattle.page_run.specs.Outcome.{Outcome}
 use Rattle.page_run.specs.State.{Gives, Reply as PlainReply}
 use Rattle.lua_heap.specs.Proc.{Proc}
+use Rattle.lua_heap.specs.Value.{Value}
 use Rattle.lua_heap.specs.Heap.{Heap}
 use Rattle.lua_heap.specs.Reach.{Set, Frame}
 use Rattle.expand_meaning.specs.Expand.{Setting}
 use Rattle.expand_meaning.specs.Outcome.{Work, Comes, Asks, next_event}
 use Rattle.lua_meaning.specs.World.{Modules}
+use Rattle.lua_meaning.specs.Acts.{Jump}
 use Rattle.lua_meaning.specs.Questions.{Answer}
 use Rattle.lua_store.specs.Seen.{StoreView}
 use Rattle.lua_store.proofs.Later.{later-itself}
-use Rattle.wiki_expand.specs.Pages.{Pages}
 use Rattle.wiki_expand.specs.declared.expander.Expander.{Expander}
 use Rattle.wiki_expand.specs.declared.expander.Move.{Move}
 use Rattle.wiki_expand.specs.declared.expander.Move.TheVariants.{Text as Came, Invoke as Invokes}
-use Rattle.wiki_expand.specs.Standing.{At, Waits as ExpanderWaits, IsMove, MoveAsks, IsAfter, setting_of, depth_in, templates_in}
+use Rattle.wiki_expand.specs.Standing.{At, IsMove, MoveAsks, MoveFalls, IsAfter, setting_of, depth_in, templates_in, allowed_in}
 use Rattle.page_meaning.specs.Wiki.{setting}
 use Rattle.page_meaning.specs.Tasks.{Expanding, as_text, text_of, text_response}
 use Rattle.page_points.specs.Places.{Place, replied}
@@ -27,27 +29,10 @@ use Rattle.page_points.proofs.Apart.{going_leaves}
 use Rattle.page_driver.specs.declared.task.Task.TheVariants as task
 use Rattle.page_driver.specs.declared.task.Halted.{Halted}
 use Rattle.page_driver.specs.Ground.{Ground, page_of, wiki_of}
-use Rattle.page_driver.specs.Tasks.{HasHalted}
-use Rattle.page_driver.specs.Going.{halt_of, Halts, GoesOn, GoesOnWith}
-
--- a call of `go`, by its clauses
-pub record ExpanderGoes (e : Expander) (l : Left) (m : Move) (e' : Expander) (l' : Left) : Type 0 where
-  pub goes : (work : Work) (first : Left) (given : List (PlainReply (List ℕ))) → At e work first given l → IsMove m e' work first given l'
-  pub pages : Pages
-  pub asks : MoveAsks pages m
-  pub setting : setting_of e' ≡ setting_of e
-  pub depth : l'.depth + depth_in e' ≡ l.depth + depth_in e
-  pub templates : l'.templates + templates_in e' ≡ l.templates + templates_in e
-  pub after : IsAfter m e'
-  pub used : (l'.steps ≡ l.steps) × (l'.calls ≡ l.calls)
-
--- and of `answer`
-pub record ExpanderIsTold (e : Expander) (l : Left) (text : List ℕ) (e' : Expander) (l' : Left) : Type 0 where
-  pub at : (work : Work) (first : Left) (given : List (PlainReply (List ℕ))) (r : PlainReply (List ℕ)) → ExpanderWaits e work first given → r.response ≡ Gives text → r.left ≡ l → At e' work first (given ++ r ∷ []) l'
-  pub left : l' ≡ l
-  pub setting : setting_of e' ≡ setting_of e
-  pub depth : depth_in e' ≡ depth_in e
-  pub templates : templates_in e' ≡ templates_in e
+use Rattle.page_driver.specs.Tasks.{HasHalted, Ready}
+use Rattle.page_driver.specs.Going.{halt_of, Halts, GoesOn, ToldFrom}
+use Rattle.page_driver.specs.Calls.{ExpanderGoes, ExpanderIsTold}
+use Rattle.page_driver.specs.Falling.{CanGiveBack, FallsAt, Falls, allowed_with}
 
 no_frame : (S : Set) (h : Heap Proc) → Frame S h h
 no_frame S h = record { lives = λ r b e. (b, e); others = λ r b e i. e; shared = λ r b e i. e }
@@ -75,6 +60,13 @@ module _ (e : Expander) (l : Left) (m : Move) (e' : Expander) (l' : Left) (c : E
         rises = omega arith;
         paid = omega (arith, c.used.0);
       }
+
+  pub expansion_falls : Falls l (task.Expansion e) l' (record { task = task.Expansion e'; halt = halt_of m })
+  expansion_falls = by_move m c.falls
+    where
+      by_move : (x : Move) → MoveFalls x (allowed_in l e) (allowed_in l' e') → FallsAt (halt_of x) l.steps (allowed_with l (task.Expansion e)) l'.steps (allowed_with l' (task.Expansion e'))
+      by_move (Came text) f = (omega (arith, c.used.0), f)
+      by_move (Invokes job) f = (omega (arith, c.used.0), f)
 
   module _ (g : Ground) (modules : Modules) (p : Place) (s : StoreView) (n : ℕ) (ground : setting_of e ≡ setting (wiki_of g modules) (page_of g)) where
     here : setting_of e' ≡ setting (wiki_of g modules) (page_of g)
@@ -117,8 +109,20 @@ module _ (e : Expander) (l : Left) (text : List ℕ) (e₁ : Expander) (l₁ : L
     paid = omega (arith, h.paid, ap (λ (y : Left). y.steps) c.left);
   }
 
-  pub told_goes : (s : StoreView) (high n : ℕ) (a : Answer) (l' : Left) (x : Halted) → text ≡ text_of a → GoesOn s l₁ (task.Expansion e₁) s l' n x → GoesOnWith s l (task.Expansion e) (Gives a) high s l' n x
-  told_goes s high n a l' x is goes g ground modules agree p w _ r says leaves well =
+  pub told_back : CanGiveBack l (task.Expansion e) → CanGiveBack l₁ (task.Expansion e₁)
+  told_back b = record {
+    calls = omega (arith, b.calls, ap (λ (y : Left). y.calls) c.left);
+    depth = omega (arith, b.depth, c.depth, ap (λ (y : Left). y.depth) c.left);
+    templates = omega (arith, b.templates, c.templates, ap (λ (y : Left). y.templates) c.left);
+  }
+
+  pub told_falls : (l' : Left) (x : Halted) → Falls l₁ (task.Expansion e₁) l' x → Falls l (task.Expansion e) l' x
+  told_falls l' x f =
+      subst (λ n. FallsAt x.halt n (allowed_with l (task.Expansion e)) l'.steps (allowed_with l' x.task)) (ap (λ (y : Left). y.steps) c.left)
+      (subst (λ n. FallsAt x.halt l₁.steps n l'.steps (allowed_with l' x.task)) c.falls f)
+
+  pub told_goes : (s : StoreView) (high n : ℕ) (a : Answer) (o : Outcome (List Value) Jump) (l' : Left) (x : Halted) → text ≡ text_of a → GoesOn s l₁ (task.Expansion e₁) s l' n x → ToldFrom s l (task.Expansion e) a o high s l' n x
+  told_goes s high n a o l' x is goes g ground modules agree p w K told r says leaves well =
       let given : (as_text r).response ≡ Gives text = ap text_response says ∙ ap Gives (sym is) in
       let stands = λ (work : Work) (i : p.task ≡ Expanding work).
       let at = c.at work p.first (map as_text p.given) (as_text r) (w.waits work i) given leaves in

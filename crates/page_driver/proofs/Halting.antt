@@ -1,5 +1,5 @@
 -- A run of Lua goes on until it halts.
-use Rattle.std.proofs.Common.{◌≡◌, ℕ, ◌+◌, true, sym, ap, ◌∙◌, subst, arith}
+use Rattle.std.proofs.Common.{◌≡◌, ◌≤◌, ℕ, ◌+◌, ◌*◌, true, sym, ap, ◌∙◌, subst, arith}
 use Rattle.wk_base.specs.declared.left.Left.{Left}
 use Rattle.wk_base.specs.Titles.{is_module}
 use Rattle.mw_frame.specs.declared.scene.Job.{Job}
@@ -34,6 +34,7 @@ use Rattle.page_driver.specs.declared.task.Halt.TheVariants as halt
 use Rattle.page_driver.specs.Ground.{Ground, page_of, wiki_of}
 use Rattle.page_driver.specs.Tasks.{at_halt, HaltOf, MachineReady, MachineWaits, HasHalted}
 use Rattle.page_driver.specs.Going.{MachineGoes, IsInvocationHalt, IsLoadHalt, Halts, GoesOn}
+use Rattle.page_driver.specs.Falling.{StepsFall, FallsAt, Falls}
 
 work_is : (v w : Work) → Running v ≡ Running w → v ≡ w
 work_is v w e = cc
@@ -102,6 +103,24 @@ module _ (s : StoreView) (left : Left) (k : ℕ) (m : Machine) (s' : StoreView) 
     rises = c.counts.0;
     paid = c.counts.1;
   }
+
+  -- WHAT IT TAKES
+  nodes_same : left'.nodes ≡ left.nodes
+  nodes_same = ap (λ (l : Left). l.nodes) c.takes
+
+  steps_taken : left'.steps ≤ left.steps
+  steps_taken = omega (arith, c.counts.0, c.counts.1)
+
+  falls_by : (e : Event) (h : Halt) → Comes e h → StepsFall e left.steps left'.steps → FallsAt h left.steps (2 * left.nodes + 0) left'.steps (2 * left'.nodes + 0)
+  falls_by (event.Over o) h i f = rw i.1 (steps_taken, omega (arith, nodes_same))
+  falls_by (event.Spent w) h i f = rw i.1 (steps_taken, omega (arith, nodes_same))
+  falls_by (event.Asks q) h i f = rw i (f, omega (arith, nodes_same))
+
+  pub invocation_falls : (h : Halt) → IsInvocationHalt s' e h → StepsFall e left.steps left'.steps → Falls left (task.Invocation m) left' (record { task = task.Invocation m'; halt = h })
+  invocation_falls h i f = falls_by e h (invocation_comes s' e h i) f
+
+  pub load_falls : (b : Begun) (h : Halt) → IsLoadHalt s' e h → StepsFall e left.steps left'.steps → Falls left (task.Load b m) left' (record { task = task.Load b m'; halt = h })
+  load_falls b h i f = falls_by e h (load_comes s' e h i) f
 
   -- AT A PLACE
   module _ (g : Ground) (modules : Modules) (p : Place) (n : ℕ) (counted : k' ≡ k + n) (same : m.state.codes.world ≡ g.world) (stood : MachineReady g modules s left m p) where

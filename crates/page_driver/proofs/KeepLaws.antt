@@ -121,3 +121,11 @@ finds_none keep title left e = subst (λ o. IsShort o left) (sym e) tt
 
 pub finds_short : (keep : List (Title × Kept)) (title : Title) (left : Left) (x : Kept) → kept_for keep title ≡ Some x → (left.steps < x.charge) ⊎ (left.calls < x.height) → IsShort (kept_for keep title) left
 finds_short keep title left x e short = subst (λ o. IsShort o left) (sym e) short
+
+-- what is kept of a module stays, and what is new comes behind the others
+pub kept_stays : (keep : List (Title × Kept)) (title : Title) (kept : Kept) (o : Option Kept) → kept_for keep title ≡ o → is_some o ≡ true → keep ≡ keep_with keep title kept
+kept_stays keep title kept None e h = absurd cc
+kept_stays keep title kept (Some x) e h = sym (ap (λ o. kept_beside o keep title kept) e)
+
+pub kept_behind : (keep : List (Title × Kept)) (title : Title) (kept : Kept) → kept_for keep title ≡ None → keep ++ (title, kept) ∷ [] ≡ keep_with keep title kept
+kept_behind keep title kept e = sym (ap (λ o. kept_beside o keep title kept) e)

@@ -1,25 +1,34 @@
--- TEXTS among what a run gave.
+-- TEXTS AMONG WHAT A RUN OF LUA GAVE, by their names in the store; and what an expansion is told for an answer.
 use Rattle.std.specs.Prelude.{ℕ, List, [], ◌∷◌, Option, Some, None}
-use Rattle.lua_heap.specs.Value.{Value, Text}
-use Rattle.lua_walk.specs.Data as walk
-use Rattle.lua_meaning.specs.Questions.{Answer, NoPage, LoadFailed}
-use Rattle.lua_graph.specs.declared.fault.DataFault.{DataFault}
-use Rattle.lua_graph.specs.declared.fault.DataFault.TheVariants as fault
-use Rattle.page_meaning.specs.Told.{fault_text}
+use Rattle.lua_store.specs.declared.ids.TextId.{TextId}
+use Rattle.lua_store.specs.declared.value.Value.{Value}
+use Rattle.lua_store.specs.declared.value.Value.TheVariants as own
+use Rattle.lua_store.specs.Seen.{text_at}
+use Rattle.lua_stack.specs.declared.focus.Jump.{Jump}
+use Rattle.lua_stack.specs.declared.focus.Jump.TheVariants as jump
+use Rattle.lua_machine.specs.declared.event.Answer.{Answer}
+use Rattle.lua_machine.specs.declared.event.Answer.TheVariants as answer
 
-abbrev pub text_in_value : Value → Option (List ℕ)
-text_in_value (Text t) = Some t
+abbrev pub text_in_value : Value → Option TextId
+text_in_value (own.Text id) = Some id
 text_in_value _ = None
 
 -- the only one of these values, if it is a text
-abbrev pub only_text_in : List Value → Option (List ℕ)
+abbrev pub only_text_in : List Value → Option TextId
 only_text_in (v ∷ []) = text_in_value v
 only_text_in _ = None
 
--- what a fault is told as; that memory was wanting is told otherwise
-abbrev pub fault_answer : DataFault → Answer
-fault_answer fault.NotATable = LoadFailed (fault_text walk.NotATable)
-fault_answer fault.HasFunction = LoadFailed (fault_text walk.HasFunction)
-fault_answer fault.HasMetatable = LoadFailed (fault_text walk.HasMetatable)
-fault_answer fault.BadKey = LoadFailed (fault_text walk.BadKey)
-fault_answer fault.NoMemory = NoPage
+-- the value of an error, if it is a text
+abbrev pub raised_text_in : Jump → Option TextId
+raised_text_in (jump.Raised v) = text_in_value v
+raised_text_in _ = None
+
+-- the bytes of a text, or none
+abbrev pub text_or_none : List (List ℕ) → Option TextId → List ℕ
+text_or_none texts (Some id) = text_at texts id.at
+text_or_none texts None = []
+
+-- no answer but a text is one to an expansion
+abbrev pub answered_text : Answer → List ℕ
+answered_text (answer.Expanded text) = text
+answered_text _ = []

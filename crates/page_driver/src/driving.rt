@@ -1,7 +1,20 @@
-//! A page in progress: the tasks on its stack, and what is kept of its data loads.
+//! A page in progress: what a task that has halted leads to, and the loop until the page is expanded.
+ghost use Rattle.std.specs.Prelude.{IfOk};
+ghost use Rattle.page_driver.specs.Ground.{ground_of};
+ghost use Rattle.page_driver.specs.Driven.{InProgress, IsStarting, MovesOn, ComesTo};
+ghost use Rattle.page_driver.specs.Moving.{Sinks, SinksToQuestion, IsQuestionIf, TakesSteps};
+
+use crate::asking::answer_question;
+use crate::beginning::Around;
+use crate::going::go_on;
+use crate::handing::hand_over;
 use crate::keep::Keep;
-use crate::task::{Halted, Reply, Task};
+use crate::stacking::invoke;
+use crate::task::{Halt, Halted, Reply, Task};
 use lua_stack::Stack;
+use lua_store::Store;
+use std::sync::ledger::Ledger;
+use wk_base::{Left, NoMemory, Steps};
 
 /// The tasks that wait, the data that is kept, and the steps of loads that were found kept.
 #[derive(Drop)]
@@ -16,4 +29,116 @@ pub struct Tower<'w> {
 pub enum Next<'w> {
     Over(Reply),
     On(Halted<'w>),
+}
+
+/// A page moves on, from a task that has halted to the next that halts.
+pub fn move_on<'w, L: Ledger>(
+    around: &Around<'w>,
+    store: &mut Store,
+    left: &mut Left,
+    tower: &mut Tower<'w>,
+    halted: Halted<'w>,
+    turns: &mut Steps<L>,
+) -> Result<Next<'w>, NoMemory>
+    requires { InProgress (ground_of around.now) store.old left.old turns.old tower.old halted }
+    ensures moves { IfOk result (λ n. MovesOn (ground_of around.now) store.old left.old turns.old tower.old halted.entry store.new left.new turns.new tower.new n) }
+    ensures sinks { IfOk result (λ n. Sinks left.old tower.old halted.entry left.new tower.new n) }
+{
+    let Halted { task, halt } = halted;
+    match halt {
+        Halt::Comes(reply) => {
+            let next = hand_over(around, store, left, tower, task, reply, turns)?;
+            Ok(next)
+        }
+        Halt::Invokes(job) => {
+            let next = invoke(around, store, left, tower, task, job, turns)?;
+            Ok(next)
+        }
+        Halt::Asks(question) => {
+            let next = answer_question(around, store, left, tower, task, question, turns)?;
+            Ok(next)
+        }
+    }
+}
+
+/// Whether a task has halted at a question of Lua.
+fn asks_lua(halted: &Halted<'_>) -> bool
+    ensures { IsQuestionIf halted.now.halt result }
+{
+    match halted.halt {
+        Halt::Comes(_) => false,
+        Halt::Invokes(_) => false,
+        Halt::Asks(_) => true,
+    }
+}
+
+/// Moves on until a run of Lua asks, or until the page is expanded.
+fn move_to_question<'w, L: Ledger>(
+    around: &Around<'w>,
+    store: &mut Store,
+    left: &mut Left,
+    tower: &mut Tower<'w>,
+    halted: Halted<'w>,
+    turns: &mut Steps<L>,
+) -> Result<Next<'w>, NoMemory>
+    requires { InProgress (ground_of around.now) store.old left.old turns.old tower.old halted }
+    ensures moves { IfOk result (λ n. MovesOn (ground_of around.now) store.old left.old turns.old tower.old halted.entry store.new left.new turns.new tower.new n) }
+    ensures sinks { IfOk result (λ n. SinksToQuestion left.old halted.entry left.new n) }
+{
+    let mut now = halted;
+    'moves: loop {
+        if asks_lua(&now) {
+            return Ok(Next::On(now));
+        }
+        let moved = move_on(around, store, left, tower, now, turns)?;
+        match moved {
+            Next::Over(reply) => return Ok(Next::Over(reply)),
+            Next::On(next) => now = next,
+        }
+    }
+}
+
+/// Moves on past the next question of Lua.
+fn pass_question<'w, L: Ledger>(
+    around: &Around<'w>,
+    store: &mut Store,
+    left: &mut Left,
+    tower: &mut Tower<'w>,
+    halted: Halted<'w>,
+    turns: &mut Steps<L>,
+) -> Result<Next<'w>, NoMemory>
+    requires { InProgress (ground_of around.now) store.old left.old turns.old tower.old halted }
+    ensures moves { IfOk result (λ n. MovesOn (ground_of around.now) store.old left.old turns.old tower.old halted.entry store.new left.new turns.new tower.new n) }
+    ensures takes { IfOk result (λ n. TakesSteps left.old halted.entry left.new n) }
+{
+    let reached = move_to_question(around, store, left, tower, halted, turns)?;
+    match reached {
+        Next::Over(reply) => Ok(Next::Over(reply)),
+        Next::On(asking) => {
+            let next = move_on(around, store, left, tower, asking, turns)?;
+            Ok(next)
+        }
+    }
+}
+
+/// Goes on with the first task of a page, and with all that it leads to, until the page is expanded.
+pub fn drive<'w, L: Ledger>(
+    around: &Around<'w>,
+    store: &mut Store,
+    left: &mut Left,
+    tower: &mut Tower<'w>,
+    task: Task<'w>,
+    turns: &mut Steps<L>,
+) -> Result<Reply, NoMemory>
+    requires { IsStarting (ground_of around.now) store.old left.old turns.old tower.old task }
+    ensures { IfOk result (λ r. ComesTo (ground_of around.now) store.old left.old turns.old tower.old task.entry left.new turns.new tower.new r) }
+{
+    let mut halted = go_on(around.alloc, store, left, task, turns)?;
+    'questions: loop {
+        let moved = pass_question(around, store, left, tower, halted, turns)?;
+        match moved {
+            Next::Over(reply) => return Ok(reply),
+            Next::On(next) => halted = next,
+        }
+    }
 }

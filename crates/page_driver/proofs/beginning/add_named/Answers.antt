@@ -1,0 +1,13 @@
+use Rattle.std.proofs.Common.{◌∙◌, ap, sym}
+use Rattle.mw_frame.specs.declared.scene.Arg.{Arg}
+use Rattle.expand_meaning.specs.Expand.{put}
+use Rattle.page_driver.proofs.Starts.{put_new}
+use Rattle.page_driver.proofs.Beginnings.{unfound}
+use Rattle.page_driver.proofs.beginning.add_named.Goals as goal
+
+pub returns-clause-fresh : goal.returns-clause-fresh
+returns-clause-fresh c = unfound _ _ c.find.ensures (sym c.is_some-taken.ensures ∙ c.if-taken.false)
+
+pub returns-clause-added : goal.returns-clause-added
+returns-clause-added c =
+    c.in_ok-put.ensures ∙ ap (λ (a : Arg). put a.name a.value c.args.names.now) c.in_ok-arg.ensures ∙ put_new _ _ _ (unfound _ _ c.find.ensures (sym c.is_some-taken.ensures ∙ c.if-taken.false))

@@ -1,0 +1,6 @@
+use Rattle.std.proofs.Common.{◌∙◌, sym}
+use Rattle.page_driver.proofs.Answering.{no_text}
+use Rattle.page_driver.proofs.page.text_in.Goals as goal
+
+pub returns-in-Data : goal.returns-in-Data
+returns-in-Data c = rw c.in-Data.is (c.in_ok-nothing-in-Data.ensures ∙ sym (no_text _))

@@ -1,0 +1,159 @@
+//! The expansion of a page.
+ghost use Rattle.std.specs.Prelude.{◌≡◌, ◌+◌, ◌≤◌, [], IsSome, IfSome, IfOk, OnOk};
+ghost use Rattle.wk_base.specs.Allowances.{IsCountable};
+ghost use Rattle.wiki_expand.specs.Pages.{find_page, direct_in};
+ghost use Rattle.lua_meaning.specs.World.{Modules as PlainModules};
+ghost use Rattle.expand_meaning.specs.Outcome.{Reading, page_scene};
+ghost use Rattle.lua_store.specs.Seen.{StoreView};
+ghost use Rattle.page_meaning.specs.Tasks.{Expanding, given_text};
+ghost use Rattle.page_driver.specs.declared.wiki.Page.{Page as PageValue};
+ghost use Rattle.page_driver.specs.Beginning.{Begins};
+ghost use Rattle.page_driver.specs.Ground.{AreModulesIn, AreModulesOf, ground_of, page_of, wiki_in, wiki_of};
+ghost use Rattle.page_driver.specs.Seen.{reply_seen};
+ghost use Rattle.page_driver.specs.Driven.{Fits};
+ghost use Rattle.page_driver.specs.Page.{full_of, IsHeldPage};
+
+use crate::beginning::{Around, begin_page};
+use crate::driving::{Tower, drive};
+use crate::keep::Keep;
+use crate::task::{Reply, Task};
+use crate::wiki::{Page, Wiki};
+use bumpalo::Bump;
+use lua_stack::Stack;
+use lua_state::World;
+use lua_store::Store;
+use std::alloc::Global;
+use std::hash::RandomState;
+use std::sync::ledger::Ledger;
+use wk_base::{Bytes, Left, Limits, NoMemory, Steps, Title};
+
+/// The text of a reply. An expansion comes to nothing else.
+fn text_in(alloc: Global, reply: Reply) -> Result<Bytes, NoMemory>
+    ensures { IfOk result (λ text. text ≡ given_text (reply_seen reply)) }
+{
+    match reply {
+        Reply::Text(text) => Ok(text),
+        Reply::Data(_) => {
+            let nothing = Bytes::of(alloc, b"")?;
+            Ok(nothing)
+        }
+        Reply::Spent(_) => {
+            let nothing = Bytes::of(alloc, b"")?;
+            Ok(nothing)
+        }
+    }
+}
+
+/// Nothing waits, and nothing is kept.
+fn empty_tower<'w>(alloc: Global, seed: RandomState) -> Tower<'w>
+    ensures stack { result.stack ≡ [] }
+    ensures keep { result.keep ≡ [] }
+    ensures kept { result.kept ≡ 0 }
+{
+    Tower {
+        stack: Stack::new(alloc),
+        keep: Keep::new(alloc, seed),
+        kept: 0,
+    }
+}
+
+/// All that a page may use.
+fn full_left(limits: &Limits) -> Left
+    requires { IsCountable limits.now }
+    ensures full { result ≡ full_of limits.now }
+    ensures fits { Fits result }
+{
+    let limits = *limits;
+    Left::full(&limits)
+}
+
+/// What the expansion of the page came to, what is left, and the steps of loads that were found kept.
+#[derive(Drop)]
+struct Came {
+    reply: Reply,
+    left: Left,
+    kept: u64,
+}
+
+/// Goes on with the page's own expansion, in a store of its own, which is given back at once.
+fn come_from<'w, L: Ledger>(
+    around: &Around<'w>,
+    limits: &Limits,
+    root: Task<'w>,
+    turns: &mut Steps<L>,
+) -> Result<Came, NoMemory>
+    requires held { IsSome (find_page (ground_of around.now).pages (page_of (ground_of around.now))) }
+    requires countable { IsCountable limits.now }
+    requires root { IfSome (direct_in (ground_of around.now).pages (page_of (ground_of around.now))) (λ trees. (s : StoreView) → Begins (ground_of around.now) (Expanding (Reading trees (page_scene (page_of (ground_of around.now))))) s s root) }
+    ensures page { IfOk result (λ x. (p : PageValue) → p.title ≡ page_of (ground_of around.now) → p.text ≡ given_text (reply_seen x.reply) → p.left ≡ x.left → p.kept ≡ x.kept → (modules : PlainModules) → AreModulesOf (ground_of around.now) modules → IsHeldPage (wiki_of (ground_of around.now) modules) (page_of (ground_of around.now)) (direct_in (ground_of around.now).pages (page_of (ground_of around.now))) (full_of limits.now) turns.old turns.new p) }
+    ensures rises { OnOk result (turns.old ≤ turns.new) }
+    ensures paid { IfOk result (λ x. turns.new + x.left.steps + x.kept ≤ turns.old + limits.now.steps) }
+{
+    let mut left = full_left(limits);
+    let mut tower = empty_tower(around.alloc, around.seed);
+    let arena = Bump::new(around.alloc);
+    let mut store = Store::new(around.alloc, &arena, around.seed);
+    let reply = drive(around, &mut store, &mut left, &mut tower, root, turns)?;
+    Ok(Came {
+        reply,
+        left,
+        kept: tower.kept,
+    })
+}
+
+/// Expands the page.
+fn expand_within<L: Ledger>(
+    around: &Around<'_>,
+    limits: &Limits,
+    turns: &mut Steps<L>,
+) -> Result<Page, NoMemory>
+    requires held { IsSome (find_page (ground_of around.now).pages (page_of (ground_of around.now))) }
+    requires countable { IsCountable limits.now }
+    ensures page { IfOk result (λ p. (modules : PlainModules) → AreModulesOf (ground_of around.now) modules → IsHeldPage (wiki_of (ground_of around.now) modules) (page_of (ground_of around.now)) (direct_in (ground_of around.now).pages (page_of (ground_of around.now))) (full_of limits.now) turns.old turns.new p) }
+    ensures rises { OnOk result (turns.old ≤ turns.new) }
+    ensures paid { IfOk result (λ p. turns.new + p.left.steps + p.kept ≤ turns.old + limits.now.steps) }
+{
+    let root = begin_page(around)?;
+    let came = come_from(around, limits, root, turns)?;
+    let Came { reply, left, kept } = came;
+    let text = text_in(around.alloc, reply)?;
+    let title = around.world.page.copy()?;
+    Ok(Page {
+        title,
+        text,
+        left,
+        kept,
+    })
+}
+
+/// Expands a page of a wiki (MediaWiki, Help:Templates; Extension:Scribunto). Each invocation runs in a fresh environment; a data module is
+/// evaluated once, where what is left covers it. The counter of turns rises by the nodes of Lua that are begun, and by no more than the steps that
+/// are taken, those for kept data left out.
+pub fn expand_page<L: Ledger>(
+    alloc: Global,
+    seed: RandomState,
+    wiki: &Wiki,
+    title: &Title,
+    limits: &Limits,
+    turns: &mut Steps<L>,
+) -> Result<Page, NoMemory>
+    requires held { IsSome (find_page wiki.now.pages title.now) }
+    requires countable { IsCountable limits.now }
+    // For all modules whose code is held, it is the page of the wiki that has them.
+    ensures page { IfOk result (λ p. (modules : PlainModules) → AreModulesIn title.now wiki.now.modules modules → IsHeldPage (wiki_in wiki.now.pages modules) title.now (direct_in wiki.now.pages title.now) (full_of limits.now) turns.old turns.new p) }
+    ensures rises { OnOk result (turns.old ≤ turns.new) }
+    ensures paid { IfOk result (λ p. turns.new + p.left.steps + p.kept ≤ turns.old + limits.now.steps) }
+{
+    let world = World {
+        page: title,
+        modules: &wiki.modules,
+    };
+    let around = Around {
+        alloc,
+        seed,
+        pages: &wiki.pages,
+        world,
+    };
+    let page = expand_within(&around, limits, turns)?;
+    Ok(page)
+}

@@ -1,0 +1,13 @@
+//! Tests of `page_driver`: pages that call modules are expanded.
+//!
+//! - `cases`: a wiki, and pages with their texts
+//! - `wikis`: how a wiki is made of texts
+//! - `tests`: the pages, one after another
+#![tactic(auto)]
+
+#[cfg(test)]
+mod cases;
+#[cfg(test)]
+mod tests;
+#[cfg(test)]
+mod wikis;
