@@ -15,7 +15,9 @@
 pub mod beginning;
 pub mod driving;
 pub mod keep;
+pub mod page;
 pub mod task;
 pub mod wiki;
 
+pub use page::expand_page;
 pub use wiki::{Page, Wiki};
