@@ -7,7 +7,7 @@ braces pair is taken from `markup_reference.py`.
   expand_reference.py check FILE      runs the cases of a table and tells each whose output differs
   expand_reference.py page DIR PAGE   prints the text of a page of a folder
 
-FILE is crates/wikiexpand/src/cases.rt, which tells the form of a table, or a table of that form by itself.
+FILE is crates/wiki_app_cases/src/cases.rt, which tells the form of a table, or a table of that form by itself.
 """
 import os
 import re

@@ -1,7 +1,7 @@
 #!/usr/bin/env python3
 """Compares the built program with `expand_reference.py`, which follows the same rules by itself.
 
-  bench/expansion_compare.py PROGRAM table              the cases of crates/wikiexpand/src/cases.rt, as folders on disk
+  bench/expansion_compare.py PROGRAM table              the cases of crates/wiki_app_cases/src/cases.rt, as folders on disk
   bench/expansion_compare.py PROGRAM random COUNT SEED  that many folders of random pages
 
 PROGRAM is crates/wikiexpand/out/wikiexpand. Each difference is printed with the folder's pages.
@@ -71,7 +71,7 @@ def printed(program, words, files):
 def main():
     program = os.path.abspath(sys.argv[1])
     if sys.argv[2] == "table":
-        table = os.path.join(os.path.dirname(os.path.abspath(__file__)), "../crates/wikiexpand/src/cases.rt")
+        table = os.path.join(os.path.dirname(os.path.abspath(__file__)), "../crates/wiki_app_cases/src/cases.rt")
         cases = [(words, dict(files), wanted) for _, words, files, wanted in reference.each_case(reference.table_in(table))]
     else:
         pick = random.Random(int(sys.argv[4]))

@@ -1,31 +1,13 @@
 //! Renders pages of a folder of wiki files.
 //!
-//! Read `specs/Report.antt` first: what the words are to give, with the lines on standard error and the statuses. Then
-//! `specs/Outcome.antt`: what a run leaves on the two streams.
-//!
-//! - `items`: the words of the command line as texts, some of them given for an option
-//! - `command`: the command that the words are
-//! - `answer`: what a title gives on the pages of a folder
-//! - `pages`: the pages of a folder, paired, and the text of one of them
-//! - `report`: what a run is to answer
-//! - `put`: putting a report to the two streams
-//! - `wiki_app`: the top call, over any shelf and any two sinks
+//! What is printed, and with which status, stands in `wiki_app` (`specs/Report.antt`, `specs/Outcome.antt`): its `run` is called here over
+//! the real folder and the real streams.
 #![tactic(auto)]
 
-mod answer;
-mod command;
-mod items;
-mod pages;
-mod put;
-mod report;
-mod wiki_app;
-
-use put::put_piece;
-use report::Status;
 use std::hash::RandomState;
 use std::process::ExitCode;
 use std::{env, io};
-use wiki_app::{CANNOT_READ, after_put, run};
+use wiki_app::{CANNOT_READ, Status, after_put, put_piece, run};
 use wk_shelf::{FolderShelf, StreamSink};
 
 /// The words after the program's name.
@@ -67,10 +49,3 @@ fn main(rt: HostRuntime) -> ExitCode {
         &mut err,
     ))
 }
-
-#[cfg(test)]
-mod case_tests;
-#[cfg(test)]
-mod cases;
-#[cfg(test)]
-mod tests;

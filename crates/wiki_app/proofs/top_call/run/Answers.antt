@@ -1,0 +1,78 @@
+use Rattle.std.proofs.Common.{refl, inr, rules, []}
+use Rattle.std.specs.Prelude.{None, Some, is_ok}
+use Rattle.wiki_app.specs.Report.{usage_report}
+use Rattle.wiki_app.proofs.RunLemmas.{for_due, for_any, usage_due, command_due, usage_meant, command_meant, no_answer, never, nothing, answers, usage_answers, begins, begins_nothing, begins_with_read_line, completes, neither}
+use Rattle.wiki_app.proofs.top_call.run.Goals as goal
+
+-- ---- no command
+
+pub returns-in-Ok-None-clause-answered : goal.returns-in-Ok-None-clause-answered
+returns-in-Ok-None-clause-answered g c = λ is. for_due _ _ usage_report _ (usage_due _ _ (rw c.in-Ok-None.field-0-is at c.in-Ok-None.ensures.command)) (usage_answers c.put_piece.result _ _ _ _ _ c.after_put.ensures refl c.put_piece.ensures.ok is)
+
+pub returns-in-Ok-None-clause-meant : goal.returns-in-Ok-None-clause-meant
+returns-in-Ok-None-clause-meant g c = λ is. usage_meant _ _ (rw c.in-Ok-None.field-0-is at c.in-Ok-None.ensures.command)
+
+pub returns-in-Ok-None-clause-cut_off : goal.returns-in-Ok-None-clause-cut_off
+returns-in-Ok-None-clause-cut_off g c = λ why. for_due _ _ usage_report _ (usage_due _ _ (rw c.in-Ok-None.field-0-is at c.in-Ok-None.ensures.command)) (begins _ usage_report [] _ _ _ _ _ refl refl (nothing _ []) c.put_piece.ensures.some)
+
+pub returns-in-Ok-None-clause-complete : goal.returns-in-Ok-None-clause-complete
+returns-in-Ok-None-clause-complete g c = λ a b e. for_due _ _ usage_report _ (usage_due _ _ (rw c.in-Ok-None.field-0-is at c.in-Ok-None.ensures.command)) (completes c.put_piece.result _ usage_report _ c.after_put.ensures c.put_piece.ensures.cause e)
+
+-- ---- memory ran out while the words were read
+
+pub returns-in-Err-clause-answered : goal.returns-in-Err-clause-answered
+returns-in-Err-clause-answered g c = λ is. no_answer _ 6 c.code.ensures refl is
+
+pub returns-in-Err-clause-meant : goal.returns-in-Err-clause-meant
+returns-in-Err-clause-meant g c = λ is. no_answer _ 6 c.code.ensures refl is
+
+pub returns-in-Err-clause-cut_off : goal.returns-in-Err-clause-cut_off
+returns-in-Err-clause-cut_off g c = λ why. for_any _ _ _ (begins_nothing _ _ _)
+
+pub returns-in-Err-clause-complete : goal.returns-in-Err-clause-complete
+returns-in-Err-clause-complete g c = λ a b e. for_any _ _ _ (λ report. inr c.code.ensures)
+
+-- ---- there is a report
+
+pub returns-in-Ok-clause-answered : goal.returns-in-Ok-clause-answered
+returns-in-Ok-clause-answered g c = λ is. for_due _ _ c.in-Ok.report _ (command_due _ _ _ c.in-Ok.report (rw c.in-Ok-Some.field-0-is at c.in-Ok-Some.ensures.command) c.in-Ok.ensures.report)
+    (answers c.put_both.result _ c.in-Ok.report _ _ _ _ _ _ c.after_put-in-Ok.ensures c.as_slice.ensures c.as_slice-in-Ok.ensures c.put_both.ensures.out_ok c.put_both.ensures.err_ok is)
+
+pub returns-in-Ok-clause-meant : goal.returns-in-Ok-clause-meant
+returns-in-Ok-clause-meant g c = λ is. command_meant _ _ _ (rw c.in-Ok-Some.field-0-is at c.in-Ok-Some.ensures.command) c.in-Ok.ensures.meant
+
+pub returns-in-Ok-clause-cut_off : goal.returns-in-Ok-clause-cut_off
+returns-in-Ok-clause-cut_off g c = λ why. for_due _ _ c.in-Ok.report _ (command_due _ _ _ c.in-Ok.report (rw c.in-Ok-Some.field-0-is at c.in-Ok-Some.ensures.command) c.in-Ok.ensures.report)
+    (begins _ c.in-Ok.report _ _ _ _ _ _ c.as_slice.ensures c.as_slice-in-Ok.ensures c.put_both.ensures.out_some c.put_both.ensures.err_some)
+
+pub returns-in-Ok-clause-complete : goal.returns-in-Ok-clause-complete
+returns-in-Ok-clause-complete g c = λ a b e. for_due _ _ c.in-Ok.report _ (command_due _ _ _ c.in-Ok.report (rw c.in-Ok-Some.field-0-is at c.in-Ok-Some.ensures.command) c.in-Ok.ensures.report)
+    (completes c.put_both.result _ c.in-Ok.report _ c.after_put-in-Ok.ensures c.put_both.ensures.cause (neither _ _ b e))
+
+-- ---- a read failed
+
+pub returns-in-Err-Failed-clause-answered : goal.returns-in-Err-Failed-clause-answered
+returns-in-Err-Failed-clause-answered g c = λ is. never (is_ok c.put_piece-in-Err-Failed.result) 4 _ c.after_put-in-Err-Failed.ensures refl is
+
+pub returns-in-Err-Failed-clause-meant : goal.returns-in-Err-Failed-clause-meant
+returns-in-Err-Failed-clause-meant g c = λ is. never (is_ok c.put_piece-in-Err-Failed.result) 4 _ c.after_put-in-Err-Failed.ensures refl is
+
+pub returns-in-Err-Failed-clause-cut_off : goal.returns-in-Err-Failed-clause-cut_off
+returns-in-Err-Failed-clause-cut_off g c = λ why. for_any _ _ _ (begins_with_read_line _ _ _ _ (search rules) c.put_piece-in-Err-Failed.ensures.some)
+
+pub returns-in-Err-Failed-clause-complete : goal.returns-in-Err-Failed-clause-complete
+returns-in-Err-Failed-clause-complete g c = λ a b e. absurd (a (search rules))
+
+-- ---- memory ran out
+
+pub returns-clause-answered : goal.returns-clause-answered
+returns-clause-answered g c = λ is. no_answer _ 6 c.code-in-Err-NoMemory.ensures refl is
+
+pub returns-clause-meant : goal.returns-clause-meant
+returns-clause-meant g c = λ is. no_answer _ 6 c.code-in-Err-NoMemory.ensures refl is
+
+pub returns-clause-cut_off : goal.returns-clause-cut_off
+returns-clause-cut_off g c = λ why. for_any _ _ _ (begins_nothing _ _ _)
+
+pub returns-clause-complete : goal.returns-clause-complete
+returns-clause-complete g c = λ a b e. for_any _ _ _ (λ report. inr c.code-in-Err-NoMemory.ensures)

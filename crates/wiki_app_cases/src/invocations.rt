@@ -1,0 +1,161 @@
+//! Small folders with modules, and the text of a page (MediaWiki, Extension:Scribunto and its Lua reference manual; Lua 5.1's manual).
+//!
+//! Lines are those of `cases`. What is expected was worked out by hand from the manuals and from docs/RULES.md.
+
+/// How many cases there are.
+pub const COUNT: u32 = 44;
+
+pub fn table() -> &'static str {
+    TABLE
+}
+
+const TABLE: &str = r#"
+# each invocation has a fresh environment
+Module:C|n=0 local p={} function p.f() n=n+1 return n end return p
+P|{{#invoke:C|f}}{{#invoke:C|f}}
+>11
+P|{{#invoke: c | f }};{{#invoke:Module:C|f|x}};{{#INVOKE:_C_|f}}
+>1;1;1
+# what is missing
+P|{{#invoke:C}}
+><strong class="error">Script error: You must specify a function to call.</strong>
+P|{{#invoke:Gone|f}}
+><strong class="error">Script error: No such module "Gone".</strong>
+P|{{#invoke:Talk:C|f}}
+><strong class="error">Script error: No such module "Talk:C".</strong>
+P|{{#invoke:C|g}}
+><strong class="error">Script error: The function "g" does not exist.</strong>
+P|a{{#invoke:C| <g> }}b
+>a<strong class="error">Script error: The function "&lt;g&gt;" does not exist.</strong>b
+Module:Five|return 5
+P|{{#invoke:Five|f}}
+><strong class="error">Script error: The module returned no table.</strong>
+# a module's page is a page: it prints as what it is, also where it is included
+$expand d module:c
+>n=0 local p={} function p.f() n=n+1 return n end return p
+P|{{Module:C}}
+>n=0 local p={} function p.f() n=n+1 return n end return p
+# nodes and bytes are the page's
+P|{{#invoke:C|f}}{{#invoke:C|f}}
+$expand d P --nodes 1
+>1<span class="error">Node limit exceeded</span>
+$expand d P --bytes 1
+>1<span class="error">Include size exceeded</span>
+
+# wikitext in the namespace hurts nothing until it is invoked
+Module:C|return {f=function() return 'c' end}
+Module:C/doc|{{!}} is a bar
+P|{{#invoke:C|f}};{{#invoke:C/doc|f}}
+>c;<strong class="error">Lua error: Module:C/doc:1: unexpected token</strong>
+$expand d Module:C/doc
+>| is a bar
+# texts that are no Lua
+Module:Y|local p = {}\nfunction p.f()\n  return 1 + end\nreturn p
+Module:U|return "
+Module:B|return 9223372036854775808
+P|{{#invoke:Y|f}}
+><strong class="error">Lua error: Module:Y:3: unexpected token</strong>
+P|{{#invoke:U|f}}
+><strong class="error">Lua error: Module:U:1: unfinished string</strong>
+P|{{#invoke:B|f}}
+><strong class="error">Lua error: Module:B:1: numeral is not a whole number in range</strong>
+
+# errors
+Module:Z|return {f=function() error({}) end}
+Module:E|local p = {}\nlocal function check(x) if not x then error('bad', 2) end end\nfunction p.f() check(false) end\nreturn p
+P|{{#invoke:Z|f}}
+><strong class="error">Lua error: the error is a table value</strong>
+P|{{#invoke:E|f}}
+><strong class="error">Lua error: Module:E:3: bad</strong>
+Module:N|local p={} function p.f() local function e(f) local ok,v=pcall(f) return tostring(v) end return e(function() return 9223372036854775807+1 end)..';'..e(function() return 7/2 end)..';'..6/2 ..';'..-7%3 ..';'..1e3 end return p
+P|{{#invoke:N|f}}
+>Module:N:1: number out of range;Module:N:1: quotient is not whole;3;2;1000
+
+# values
+Module:K|local p={} function p.f() local t={} t.t=t return t.t.t.t==t and 'y' end return p
+P|{{#invoke:K|f}}
+>y
+Module:Hi|local a = 'x' return {f = function() local b = a .. 'y' return b .. a end}
+P|{{#invoke:Hi|f}}
+>xyx
+Module:V|return {f = function() return '{{T}}' end}
+Template:T|t
+P|{{#invoke:V|f}}
+>{{T}}
+Module:Many|return {f=function() return 1,'a',true,nil end}
+P|{{#invoke:Many|f}}
+>1atruenil
+Module:Slots|local p={} function p.f() local fs={} for i=1,3 do fs[i]=function() i=i+10 return i end end return fs[1]()..fs[1]()..fs[2]() end return p
+P|{{#invoke:Slots|f}}
+>112112
+Module:Meta|local p={} function p.f() local m={__index=function(t,k) return k..k end,__lt=function(a,b) return a.n<b.n end,__call=function(s,x) return x+s.n end} local a=setmetatable({n=1},m) local b=setmetatable({n=2},m) return a.zz..tostring(b<=a)..a(6) end return p
+P|{{#invoke:Meta|f}}
+>zzzzfalse7
+
+# an allowance that is spent ends one invocation, and the page goes on
+Module:C|n=0 local p={} function p.f() n=n+1 return n end return p
+Module:H|local p={} function p.f() return p.f() end return p
+P|{{#invoke:H|f}}{{#invoke:C|f}}
+><strong class="error">Script error: The allowance of nested calls is spent.</strong>1
+Module:L|local p={} function p.f() while true do end end return p
+P|{{#invoke:L|f}} and {{#invoke:C|f}}
+><strong class="error">Script error: The allowance of steps is spent.</strong> and <strong class="error">Script error: The allowance of steps is spent.</strong>
+Module:L|local p={} function p.f() while true do pcall(p.f) end end return p
+P|{{#invoke:L|f}}{{#invoke:C|f}}
+><strong class="error">Script error: The allowance of nested calls is spent.</strong>1
+
+# frames
+Template:T|<noinclude>d</noinclude>[{{{1|x}}}|{{{n}}}]
+Module:X|return {f=function(frame) return frame:expandTemplate{title='T', args={'p', n='q'}} end}
+P|{{#invoke:X|f}}
+>[p|q]
+Module:G|return {f=function(frame) local a=frame.args return a[1]..a['1']..a.k..#a end}
+P|{{#invoke:G|f|x|k= v }}
+>xxv1
+Module:Pre|return {f=function(frame) return frame:preprocess('{{{1}}}{{T|1=t}}') end}
+P|{{#invoke:Pre|f|a}}
+>a[t|{{{n}}}]
+Module:Up|return {f=function(frame) return frame:getParent():getTitle()..(frame:getParent().args.a or 'none')..(frame.args.a or 'none') end}
+Template:Up|{{#invoke:Up|f}}
+P|{{Up|a=1}};{{#invoke:Up|f|a=2}}
+>Template:Up1none;Pnone2
+Module:Bad|return {f=function(frame) return frame:expandTemplate{title=frame.args[1]} end}
+P|{{#invoke:Bad|f|Nope}}
+><strong class="error">Lua error: Module:Bad:1: template 'Nope' does not exist</strong>
+P|{{#invoke:Bad|f|a<b}}
+><strong class="error">Lua error: Module:Bad:1: invalid title 'a&lt;b'</strong>
+Template:Loop|{{#invoke:Bad|f|Loop}}
+P|{{Loop}}
+><span class="error">Template loop detected: [[:Template:Loop]]</span>
+# an invocation inside an invocation is another one
+Module:Self|local p={} x=1 function p.g() x=2 tostring=nil return 'g' end function p.f(frame) local s=frame:preprocess('{{#invoke:Self|g}}') return s..x..tostring(12) end return p
+P|{{#invoke:Self|f}}
+>g112
+Module:Deep|return {f=function(frame) return frame:preprocess('{{#invoke:Deep|f}}') end}
+P|{{#invoke:Deep|f}}
+><span class="error">Expansion depth limit exceeded</span>
+
+# modules that are loaded
+Module:D|local t={v=5} t.me=t return t
+Module:R|local p={} function p.f() local d=mw.loadData('Module:D') local ok,e=pcall(function() d.v=6 end) return d.me.me.v..' '..tostring(ok)..' '..e end return p
+P|{{#invoke:R|f}};{{#invoke:R|f}}
+>5 false Module:R:1: table from mw.loadData is read-only;5 false Module:R:1: table from mw.loadData is read-only
+Module:DE|error('x')
+Module:DF|return {f=function() end}
+Module:Try|return {f=function(frame) local ok,e=pcall(mw.loadData,frame.args[1]) return tostring(ok)..' '..e end}
+P|{{#invoke:Try|f|Module:DE}};{{#invoke:Try|f|Module:DE}}
+>false Module:DE:1: x;false Module:DE:1: x
+P|{{#invoke:Try|f|Module:DF}};{{#invoke:Try|f|DF}}
+>false data module holds a function;false data module 'DF' not found
+Module:Ring|require('Module:Ring') return {}
+P|{{#invoke:Ring|f}}
+><strong class="error">Lua error: Module:Ring:1: loop in require of 'Module:Ring'</strong>
+Module:One|return {add=function(a,b) return a+b end}
+Module:Two|local one=require('Module:One') return {f=function(frame) local a=frame.args return one.add(a[1],a[2])..tostring(require('module:one')==one) end}
+P|{{#invoke:Two|f|2|3}}
+>5true
+Module:Own|return mw.loadData('Module:Own')
+Module:MO|return {f=function() return mw.loadData('Module:Own').x end}
+P|{{#invoke:MO|f}};{{#invoke:Two|f|2|3}}
+><strong class="error">Script error: The allowance of nested calls is spent.</strong>;5true
+"#;

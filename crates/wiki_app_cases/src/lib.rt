@@ -1,0 +1,15 @@
+//! Tests of the program's top call, apart from it since tests are proved together with the whole of their crate.
+//!
+//! - `cases`, `case_tests`: small folders of pages with the text of one of them
+//! - `invocations`: small folders with modules
+//! - `tests`: statuses, the limits of a folder, and runs in which a read or a put fails
+#![tactic(auto)]
+
+#[cfg(test)]
+mod case_tests;
+#[cfg(test)]
+mod cases;
+#[cfg(test)]
+mod invocations;
+#[cfg(test)]
+mod tests;

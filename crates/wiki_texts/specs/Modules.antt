@@ -1,0 +1,34 @@
+-- THE MODULES THAT THE TEXTS OF A WIKI MEAN (Extension:Scribunto: the pages of namespace Module): of each title the tree of its text, or the
+-- text's first fault (Lua, manual 8).
+use Rattle.std.specs.Prelude.{◌≡◌, ℕ, ◌&&◌, if◌then◌else◌, List, [], ◌∷◌, length, Option, Some, None, Result, Ok, Err}
+use Rattle.std.specs.Str.{bytes_eq}
+use Rattle.wk_base.specs.declared.title.Title.{Title}
+use Rattle.wk_base.specs.Titles.{is_module, title_text}
+use Rattle.lua_syntax.specs.declared.fault.FaultAt.{FaultAt}
+use Rattle.lua_syntax.specs.declared.fault.SyntaxFault.TheVariants.{At}
+use Rattle.lua_syntax.specs.Tree.{Block}
+use Rattle.lua_lexer.specs.declared.token.Token.{Token}
+use Rattle.lua_lexer.specs.Lexis.{Lexes}
+use Rattle.lua_grammar.specs.Grammar.{IsChunk}
+use Rattle.lua_parser.specs.Chunks.{IsParsed}
+use Rattle.lua_meaning.specs.World.{Module, Modules}
+use Rattle.wiki_texts.specs.declared.raw.RawPage.{RawPage}
+
+-- the text of the module whose title is written so, if there is one; the first one counts (a wiki has no second one)
+abbrev pub module_text : List RawPage → List ℕ → Option (List ℕ)
+module_text [] name = None
+module_text (page ∷ pages) name =
+    if is_module page.title.ns && bytes_eq name (title_text page.title) then Some page.bytes else module_text pages name
+
+-- the tree that a text spells, or its first fault; a text has one of the two
+abbrev pub IsTree : List ℕ → Result Block FaultAt → Type 0
+IsTree text (Ok tree) = (tokens : List Token) × Lexes text tokens × IsChunk tokens tree
+IsTree text (Err fault) = IsParsed (Err (At fault)) text
+
+abbrev pub IsMeantBy : Option (List ℕ) → Option Module → Type 0
+IsMeantBy None None = Unit {0}
+IsMeantBy (Some text) (Some m) = (m.size ≡ length text) × IsTree text m.chunk
+IsMeantBy _ _ = ⊥
+
+abbrev pub AreMeantBy : List RawPage → Modules → Type 0
+AreMeantBy pages modules = (title : Title) → IsMeantBy (module_text pages (title_text title)) (modules title)
