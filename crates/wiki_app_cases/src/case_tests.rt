@@ -46,7 +46,7 @@ fn put<'t>(pages: &mut Vec<Page<'t>>, page: Page<'t>) -> Result<(), AllocError> 
 }
 
 /// The name of a page's file: a slash is written as an escape.
-fn file_name(alloc: Global, title: &str) -> Result<Vec<u8>, NoMemory> {
+fn file_name(alloc: Global, title: &str) -> Result<Vec<u8>, AllocError> {
     let mut name = Vec::new(alloc);
     for byte in title.as_bytes() {
         if *byte == b'/' {
@@ -120,6 +120,11 @@ struct Tally {
     wrong: Vec<String>,
 }
 
+fn add(texts: &mut Vec<String>, text: String) -> Result<(), AllocError> {
+    texts.push(text)?;
+    Ok(())
+}
+
 /// Whether a run of the words over the pages printed this text; if not, what it printed.
 fn differs<R: Threads + Sync>(
     rt: &R,
@@ -159,8 +164,8 @@ fn tried<R: Threads + Sync>(
                 pages.as_slice(),
                 wanted,
             )? {
-                tally.wrong.push(String::from_str(alloc, line)?)?;
-                tally.wrong.push(other)?;
+                add(&mut tally.wrong, String::from_str(alloc, line)?)?;
+                add(&mut tally.wrong, other)?;
             }
             words = words_of(alloc, "expand d P")?;
             tally.count = tally.count.saturating_add(1);

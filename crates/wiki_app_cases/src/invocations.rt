@@ -46,7 +46,7 @@ $expand d P --bytes 1
 Module:C|return {f=function() return 'c' end}
 Module:C/doc|{{!}} is a bar
 P|{{#invoke:C|f}};{{#invoke:C/doc|f}}
->c;<strong class="error">Lua error: Module:C/doc:1: unexpected token</strong>
+>c;<strong class="error">Lua error: Module:C/doc:1: unexpected byte</strong>
 $expand d Module:C/doc
 >| is a bar
 # texts that are no Lua
