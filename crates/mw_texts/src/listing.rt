@@ -140,12 +140,7 @@ fn pay_times(left: &mut Left, steps: u64, times: u64) -> Result<(), Stop>
 }
 
 /// Takes a step for each byte that stands between so many items.
-fn pay_glue(
-    left: &mut Left,
-    separator: usize,
-    conjunction: usize,
-    count: usize,
-) -> Result<(), Stop>
+fn pay_glue(left: &mut Left, separator: usize, conjunction: usize, count: usize) -> Result<(), Stop>
     ensures { Pays (glue_charge separator conjunction count) left.old left.new result }
 {
     match count.checked_sub(2) {

@@ -127,5 +127,12 @@ pub fn split(
     let others = rest(args);
     let pattern = utf8_text(alloc, store, 2, b"split", others)?;
     let plain = is_true(second(others));
-    split_by(alloc, store, left, text.as_slice(), pattern.as_slice(), plain)
+    split_by(
+        alloc,
+        store,
+        left,
+        text.as_slice(),
+        pattern.as_slice(),
+        plain,
+    )
 }

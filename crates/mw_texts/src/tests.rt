@@ -106,12 +106,7 @@ fn put(
 }
 
 /// Entries of a table, with `;` between them.
-fn fill(
-    alloc: Global,
-    store: &mut Store,
-    table: TableId,
-    entries: &str,
-) -> Result<(), NoMemory>
+fn fill(alloc: Global, store: &mut Store, table: TableId, entries: &str) -> Result<(), NoMemory>
     requires { IsTableOf store.old table }
     ensures { IsLater store.old store.new }
 {
@@ -209,11 +204,7 @@ fn is_as_told(
 }
 
 /// The values of a table that is the first of a list.
-fn unpacked(
-    alloc: Global,
-    store: &mut Store,
-    given: &[Value],
-) -> Result<List<Value>, Stop>
+fn unpacked(alloc: Global, store: &mut Store, given: &[Value]) -> Result<List<Value>, Stop>
     requires { AllOf store.old given.now }
 {
     unpack(alloc, store, &mut steps(1000), &[first(given)])

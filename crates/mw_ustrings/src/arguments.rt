@@ -141,12 +141,7 @@ pub fn utf8_text_if_any<'b>(
 }
 
 /// That an argument of a function is bad, and why. There may be more than 255 of them, counted from 1.
-fn bad_argument(
-    alloc: Global,
-    n: usize,
-    function: &[u8],
-    why: &[u8],
-) -> Result<Vec<u8>, NoMemory>
+fn bad_argument(alloc: Global, n: usize, function: &[u8], why: &[u8]) -> Result<Vec<u8>, NoMemory>
     requires { n < 2 ^ 63 }
     ensures { IfOk result (λ text. text.items ≡ messages.bad_argument n function.now why.now) }
 {
@@ -163,13 +158,7 @@ fn bad_argument(
 }
 
 /// An argument with any number is bad.
-pub fn refuse_at(
-    alloc: Global,
-    store: &mut Store,
-    n: usize,
-    function: &[u8],
-    why: &[u8],
-) -> Stop
+pub fn refuse_at(alloc: Global, store: &mut Store, n: usize, function: &[u8], why: &[u8]) -> Stop
     requires { n < 2 ^ 63 }
     ensures raises { Stops (fails store.old.heap (messages.bad_argument n function.now why.now)) store.new result }
     ensures of { StopOf store.new result }

@@ -45,9 +45,7 @@ fn a_point(alloc: Global, store: &mut Store, n: usize, given: &[Value]) -> Resul
     ensures later { IsLater store.old store.new }
 {
     match number_in(store, first(given)) {
-        None => Err(refuse_kind_at(
-            alloc, store, n, b"char", b"number", given,
-        )),
+        None => Err(refuse_kind_at(alloc, store, n, b"char", b"number", given)),
         Some(code) => match point(code) {
             Some(point) => Ok(point),
             None => Err(refuse_at(alloc, store, n, b"char", b"out of range")),

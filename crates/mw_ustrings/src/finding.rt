@@ -230,5 +230,12 @@ pub fn match_from(
     let others = rest(args);
     let pattern = utf8_text(alloc, store, 2, b"match", others)?;
     let init = number_or(alloc, store, 1, 3, b"match", rest(others))?;
-    match_by(alloc, store, left, text.as_slice(), pattern.as_slice(), init)
+    match_by(
+        alloc,
+        store,
+        left,
+        text.as_slice(),
+        pattern.as_slice(),
+        init,
+    )
 }

@@ -246,24 +246,43 @@ a => bad argument #2 to 'sub' (number expected, got no value)
 a|#1|true => bad argument #3 to 'sub' (number expected, got boolean)"
 }
 
+fn parts_are_tried(rt: &impl Abort, alloc: Global, store: &mut Store) -> Result<(), NoMemory> {
+    tries(rt, alloc, store, UstringFunction::Char, chars())?;
+    tries(rt, alloc, store, UstringFunction::Codepoint, codepoints())?;
+    tries(rt, alloc, store, UstringFunction::Byteoffset, byteoffsets())?;
+    tries(rt, alloc, store, UstringFunction::Sub, subs())
+}
+
+fn searches_are_tried(rt: &impl Abort, alloc: Global, store: &mut Store) -> Result<(), NoMemory> {
+    tries(rt, alloc, store, UstringFunction::Find, finds())?;
+    tries(rt, alloc, store, UstringFunction::Match, matches())?;
+    let row = r"a\xc3\xa9bc|b";
+    let short = is_spent(alloc, store, UstringFunction::Find, 9, row)?;
+    let covered = !is_spent(alloc, store, UstringFunction::Find, 10, row)?;
+    assert!(rt; short && covered);
+    Ok(())
+}
+
+fn wholes_are_tried(rt: &impl Abort, alloc: Global, store: &mut Store) -> Result<(), NoMemory> {
+    tries(rt, alloc, store, UstringFunction::Len, lengths())?;
+    tries(rt, alloc, store, UstringFunction::IsUtf8, encodings())
+}
+
+fn forms_are_tried(rt: &impl Abort, alloc: Global, store: &mut Store) -> Result<(), NoMemory> {
+    tries(rt, alloc, store, UstringFunction::ToNfc, composed())?;
+    tries(rt, alloc, store, UstringFunction::ToNfd, decomposed())?;
+    tries(rt, alloc, store, UstringFunction::ToNfkc, compatible())?;
+    tries(rt, alloc, store, UstringFunction::ToNfkd, r"\xc2\xb2 => 2")
+}
+
 #[test]
 fn functions_give_what_the_rows_tell(rt: HostRuntime) -> Result<(), Fail> {
     let arena = Bump::new(rt.alloc());
     let mut store = Store::new(rt.alloc(), &arena, fixed_seed()?);
     let alloc = rt.alloc();
-    tries(&rt, alloc, &mut store, UstringFunction::Char, chars())?;
-    tries(&rt, alloc, &mut store, UstringFunction::Codepoint, codepoints())?;
-    tries(&rt, alloc, &mut store, UstringFunction::Byteoffset, byteoffsets())?;
-    tries(&rt, alloc, &mut store, UstringFunction::Find, finds())?;
-    tries(&rt, alloc, &mut store, UstringFunction::Match, matches())?;
-    tries(&rt, alloc, &mut store, UstringFunction::Sub, subs())?;
-    tries(&rt, alloc, &mut store, UstringFunction::Len, lengths())?;
-    tries(&rt, alloc, &mut store, UstringFunction::IsUtf8, encodings())?;
-    tries(&rt, alloc, &mut store, UstringFunction::ToNfc, composed())?;
-    tries(&rt, alloc, &mut store, UstringFunction::ToNfd, decomposed())?;
-    tries(&rt, alloc, &mut store, UstringFunction::ToNfkc, compatible())?;
-    tries(&rt, alloc, &mut store, UstringFunction::ToNfkd, r"\xc2\xb2 => 2")?;
-    assert!(rt; is_spent(alloc, &mut store, UstringFunction::Find, 9, r"a\xc3\xa9bc|b")?);
-    assert!(rt; !is_spent(alloc, &mut store, UstringFunction::Find, 10, r"a\xc3\xa9bc|b")?);
+    parts_are_tried(&rt, alloc, &mut store)?;
+    searches_are_tried(&rt, alloc, &mut store)?;
+    wholes_are_tried(&rt, alloc, &mut store)?;
+    forms_are_tried(&rt, alloc, &mut store)?;
     Ok(())
 }

@@ -1,4 +1,3 @@
-
 use Rattle.mw_texts.proofs.listing.list_values.Goals as goal
 
 pub returns-clause-values : goal.returns-clause-values

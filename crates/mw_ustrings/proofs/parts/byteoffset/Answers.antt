@@ -56,7 +56,7 @@ returns-clause-answer c =
     let whole_byte : to_z w64 (of_z w64 c.in_ok-byte.byte) ≡ c.in_ok-byte.byte = search rules in
     let t = c.number_or-2.new.store in
     let answer : Free (gives s.heap (place_or_nil (byteoffset_of (text_bytes c.in_ok-text.text) c.in_ok-from.from c.in_ok-byte.byte) ∷ [])) t (Ok c.in_ok-values.values) =
-        rw (c.in_ok-values.ensures, c.in_ok-place.ensures.value t.texts, c.byteoffset.ensures, c.as_slice.ensures, whole_from, whole_byte, c.in_ok-byte.ensures.same ∙ c.in_ok-from.ensures.same ∙ c.in_ok-text.ensures.same) refl in
+    rw (c.in_ok-values.ensures, c.in_ok-place.ensures.value t.texts, c.byteoffset.ensures, c.as_slice.ensures, whole_from, whole_byte, c.in_ok-byte.ensures.same ∙ c.in_ok-from.ensures.same ∙ c.in_ok-text.ensures.same) refl in
     handed_on_free _ (utf8_text 1 (codes "byteoffset") vs) (text_bytes c.in_ok-text.text) _ s t (Ok c.in_ok-values.values) c.in_ok-text.ensures.found refl
     (handed_on_free _ (number_or (pos 1) 2 (codes "byteoffset") (rest vs)) c.in_ok-from.from _ s t (Ok c.in_ok-values.values) c.in_ok-from.ensures.found (ap (number_or (pos 1) 2 (codes "byteoffset")) at_two)
     (handed_on_free _ (number_or (pos 1) 3 (codes "byteoffset") (rest (rest vs))) c.in_ok-byte.byte _ s t (Ok c.in_ok-values.values) c.in_ok-byte.ensures.found (ap (number_or (pos 1) 3 (codes "byteoffset")) at_three)

@@ -1,4 +1,3 @@
-
 use Rattle.mw_ustrings.proofs.parts.place_or_nil.Goals as goal
 
 pub returns-in-Some-clause-value : goal.returns-in-Some-clause-value

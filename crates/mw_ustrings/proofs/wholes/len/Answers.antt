@@ -22,7 +22,7 @@ returns-clause-answer c =
     let vs = values_seen s.texts c.args.args.now in
     let t = c.a_text.new.store in
     let answer : Free (gives s.heap (length_in (text_bytes c.in_ok-text.text) ∷ [])) t (Ok c.in_ok-values.values) =
-        rw (c.in_ok-values.ensures, c.in_ok-length.ensures.value t.texts, c.as_slice.ensures, c.in_ok-text.ensures.same) refl in
+    rw (c.in_ok-values.ensures, c.in_ok-length.ensures.value t.texts, c.as_slice.ensures, c.in_ok-text.ensures.same) refl in
     handed_on_free _ (a_text 1 (codes "len") vs) (text_bytes c.in_ok-text.text) _ s t (Ok c.in_ok-values.values) c.in_ok-text.ensures.found refl
     answer
 
