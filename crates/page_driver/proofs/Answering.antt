@@ -159,6 +159,10 @@ tells_put s s₁ l t a o high s' l' n x of later puts goes g ground modules agre
 pub put_halts : (s s₁ s' : StoreView) (l l' : Left) (k k' : ℕ) (t : Task) (x : Halted) → IsLater s s₁ → Halts s₁ l k t s' l' k' x → Halts s l k t s' l' k' x
 put_halts s s₁ s' l l' k k' t x later h = record { of = h.of; halts = h.halts; ground = h.ground; later = later-then s s₁ s' later h.later; sums = h.sums; rises = h.rises; paid = h.paid }
 
+-- a text, or that there is none, has no calls
+pub no_calls_fit : (n : ℕ) → 0 ≤ n
+no_calls_fit n = omega arith
+
 -- the calls of an answer with the most that were in progress in it
 pub calls_fit : (calls left high : ℕ) → left + calls < 2 ^ 64 → high ≤ left → calls + high < 2 ^ 64
 calls_fit calls left high a b = omega (arith, a, b)

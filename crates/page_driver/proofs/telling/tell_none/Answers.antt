@@ -1,9 +1,9 @@
-use Rattle.std.proofs.Common.{refl, arith, []}
+use Rattle.std.proofs.Common.{refl, []}
 use Rattle.page_run.specs.Outcome.{Goes}
 use Rattle.lua_heap.specs.Reach.{nowhere}
 use Rattle.lua_meaning.specs.Questions.{NoPage}
 use Rattle.lua_points.specs.Told.{as_none}
-use Rattle.page_driver.proofs.Answering.{tells_at_once}
+use Rattle.page_driver.proofs.Answering.{tells_at_once, no_calls_fit}
 use Rattle.page_driver.proofs.telling.tell_none.Goals as goal
 
 pub tell-requires-clause-of : goal.tell-requires-clause-of
@@ -19,7 +19,7 @@ pub tell-requires-clause-answer : goal.tell-requires-clause-answer
 tell-requires-clause-answer g c = tt
 
 pub tell-requires-clause-height : goal.tell-requires-clause-height
-tell-requires-clause-height g c = omega arith
+tell-requires-clause-height g c = no_calls_fit c.args.left.now.calls
 
 pub returns-clause-halts : goal.returns-clause-halts
 returns-clause-halts g c = c.in_ok-halted.ensures.halts
