@@ -262,9 +262,17 @@ pub fn tell_data<'w, L: Ledger>(
     ensures goes { IfOk result (λ x. (n : ℕ) → turns.new ≡ turns.old + n → GoesOnWith store.old left.old task.entry (Gives (data_seen given.now)) height store.new left.new n x) }
     ensures falls { IfOk result (λ x. Falls left.old task.entry left.new x) }
 {
-    let answer = put_data(alloc, store, given)?;
-    let halted = tell(alloc, store, left, task, answer, height, turns)?;
-    Ok(halted)
+    match put_data(alloc, store, given) {
+        Ok(answer) => {
+            let halted = tell(alloc, store, left, task, answer, height, turns)?;
+            Ok(halted)
+        }
+        // let go by a call, since the drop of a machine in place is long to prove
+        Err(_) => {
+            drop(task);
+            Err(NoMemory)
+        }
+    }
 }
 
 /// The calls in progress of a run that is spent are left again.

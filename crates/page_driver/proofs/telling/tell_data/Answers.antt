@@ -15,22 +15,22 @@ pub tell-requires-clause-back : goal.tell-requires-clause-back
 tell-requires-clause-back g c = c.requires.back
 
 pub tell-requires-clause-answer : goal.tell-requires-clause-answer
-tell-requires-clause-answer g c = c.in_ok-answer.ensures.of
+tell-requires-clause-answer g c = (rw c.in-Ok.is at c.put_data.ensures.of)
 
 pub tell-requires-clause-height : goal.tell-requires-clause-height
 tell-requires-clause-height g c = c.requires.height
 
 pub tell-requires-clause-of : goal.tell-requires-clause-of
-tell-requires-clause-of g c = task_later c.args.store.now c.put_data.new.store c.in_ok-answer.ensures.later c.args.task c.requires.of
+tell-requires-clause-of g c = task_later c.args.store.now c.put_data.new.store (rw c.in-Ok.is at c.put_data.ensures.later) c.args.task c.requires.of
 
-pub returns-clause-halts : goal.returns-clause-halts
-returns-clause-halts g c =
-    put_halts c.args.store.now c.put_data.new.store c.tell.new.store c.args.left.now c.tell.new.left c.args.turns.now c.tell.new.turns c.args.task c.in_ok-halted.halted c.in_ok-answer.ensures.later c.in_ok-halted.ensures.halts
+pub returns-in_ok-halted-in-Ok-clause-halts : goal.returns-in_ok-halted-in-Ok-clause-halts
+returns-in_ok-halted-in-Ok-clause-halts g c =
+    put_halts c.args.store.now c.put_data.new.store c.tell.new.store c.args.left.now c.tell.new.left c.args.turns.now c.tell.new.turns c.args.task c.in_ok-halted-in-Ok.halted (rw c.in-Ok.is at c.put_data.ensures.later) c.in_ok-halted-in-Ok.ensures.halts
 
-pub returns-clause-goes : goal.returns-clause-goes
-returns-clause-goes g c = λ n e.
-    tells_put c.args.store.now c.put_data.new.store c.args.left.now c.args.task (data_seen c.args.given.now) (answer_outcome c.put_data.new.store.texts c.in_ok-answer.answer) c.args.height c.tell.new.store c.tell.new.left n c.in_ok-halted.halted c.requires.of c.in_ok-answer.ensures.later c.in_ok-answer.ensures.puts
-    (c.in_ok-halted.ensures.goes n e (data_seen c.args.given.now) (c.in_ok-answer.ensures.text ∙ sym (no_text c.args.given.now)))
+pub returns-in_ok-halted-in-Ok-clause-goes : goal.returns-in_ok-halted-in-Ok-clause-goes
+returns-in_ok-halted-in-Ok-clause-goes g c = λ n e.
+    tells_put c.args.store.now c.put_data.new.store c.args.left.now c.args.task (data_seen c.args.given.now) (answer_outcome c.put_data.new.store.texts c.in-Ok.answer) c.args.height c.tell.new.store c.tell.new.left n c.in_ok-halted-in-Ok.halted c.requires.of (rw c.in-Ok.is at c.put_data.ensures.later) (rw c.in-Ok.is at c.put_data.ensures.puts)
+    (c.in_ok-halted-in-Ok.ensures.goes n e (data_seen c.args.given.now) ((rw c.in-Ok.is at c.put_data.ensures.text) ∙ sym (no_text c.args.given.now)))
 
-pub returns-clause-falls : goal.returns-clause-falls
-returns-clause-falls g c = c.in_ok-halted.ensures.falls
+pub returns-in_ok-halted-in-Ok-clause-falls : goal.returns-in_ok-halted-in-Ok-clause-falls
+returns-in_ok-halted-in-Ok-clause-falls g c = c.in_ok-halted-in-Ok.ensures.falls
