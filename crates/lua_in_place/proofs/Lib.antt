@@ -1,0 +1,6 @@
+pub mod Plain
+pub mod Parts
+pub mod Reading
+pub mod Listing
+pub mod Nodes
+pub mod Computed
