@@ -2,7 +2,6 @@
 use Rattle.std.proofs.Common.{◌≡◌, ℕ, ◌+◌, ◌<◌, ◌≤◌, ◌^◌, refl, sym, ap, ◌∙◌, subst, arith}
 use Rattle.std.specs.Prelude.{List, []}
 use Rattle.wk_base.specs.declared.left.Left.{Left}
-use Rattle.mw_frame.specs.declared.question.Ask.{Ask}
 use Rattle.page_run.specs.Outcome.{Outcome}
 use Rattle.page_run.specs.State.{Gives as Says, Exhausts, Reply as PlainReply}
 use Rattle.page_run.specs.declared.which.Which.{Which}
@@ -14,7 +13,6 @@ use Rattle.lua_meaning.specs.World.{Modules}
 use Rattle.lua_meaning.specs.Questions.{Answer, Expanded}
 use Rattle.lua_meaning.specs.Acts.{Jump}
 use Rattle.lua_meaning.specs.Start.{Work, Invoke, DataOf}
-use Rattle.lua_slots.specs.Code.{CWorld}
 use Rattle.lua_slots.specs.Slots.{Slots}
 use Rattle.lua_slots.specs.Points.{SFrame, Point, Gives}
 use Rattle.lua_points.specs.Told.{IsToldAs}

@@ -1,6 +1,6 @@
 -- Expansions begin, and no two arguments of their frames have one name.
-use Rattle.std.proofs.Common.{◌≡◌, ◌≢◌, ◌∙◌, ℕ, Bool, true, false, cond, List, [], ◌∷◌, ◌++◌, Option, Some, None, refl, sym, ap, subst, IsTrue}
-use Rattle.std.specs.Prelude.{IfSome, IsSome, option_map, bytes_eq, is_some}
+use Rattle.std.proofs.Common.{◌≡◌, ◌≢◌, ◌∙◌, ℕ, Bool, true, false, cond, List, [], ◌∷◌, ◌++◌, Option, Some, None, refl, sym, ap, subst}
+use Rattle.std.specs.Prelude.{IfSome, option_map, bytes_eq, is_some}
 use Rattle.std.specs.Borrow.{Bor}
 use Rattle.std.proofs.lemmas.Slice.Eq.{bytes_eq-Decides}
 use Rattle.wk_base.specs.declared.left.Left.{Left}

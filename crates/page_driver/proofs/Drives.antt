@@ -1,7 +1,6 @@
 -- A page in progress: what its functions ask for, and moves one after another.
-use Rattle.std.proofs.Common.{◌≡◌, ◌∙◌, ℕ, ◌+◌, ◌-◌, ◌<◌, ◌≤◌, ◌^◌, true, false, Bool, List, [], ◌∷◌, Option, Some, None, refl, sym, ap, subst, arith}
+use Rattle.std.proofs.Common.{◌≡◌, ◌∙◌, ℕ, ◌+◌, ◌-◌, ◌<◌, ◌≤◌, ◌^◌, true, false, List, Option, Some, None, refl, sym, ap, subst, arith}
 use Rattle.std.specs.Prelude.{min, IsSome, IfSome, is_some, option_map}
-use Rattle.std.specs.List.{AllByRecursion}
 use Rattle.std.specs.Borrow.{Bor}
 use Rattle.std.specs.Option.{option_copied}
 use Rattle.wk_base.specs.declared.left.Left.{Left}
@@ -22,13 +21,13 @@ use Rattle.page_driver.specs.declared.driving.Tower.{Tower}
 use Rattle.page_driver.specs.declared.driving.Next.{Next}
 use Rattle.page_driver.specs.declared.driving.Next.TheVariants as next
 use Rattle.page_driver.specs.Ground.{Ground}
-use Rattle.page_driver.specs.Tasks.{TaskIn, CanBeTold, calls_in, depth_of, templates_of, at_halt}
+use Rattle.page_driver.specs.Tasks.{calls_in, depth_of, templates_of, at_halt}
 use Rattle.page_driver.specs.Seen.{data_seen}
 use Rattle.page_driver.specs.Going.{Halts, GoesOnWith}
 use Rattle.page_driver.specs.Kept.{keep_with}
 use Rattle.page_driver.specs.Falling.{CanGiveBack}
-use Rattle.page_driver.specs.Driven.{IsBelow, Accounts, Driven, Starting, Fits, InProgress, IsStarting, MovesOn, StartsOn, ComesTo}
-use Rattle.page_driver.specs.Moving.{comes_with, asks_with, loads_with, tower_with}
+use Rattle.page_driver.specs.Driven.{IsBelow, Accounts, Driven, Starting, Fits, InProgress, IsStarting, MovesOn, StartsOn}
+use Rattle.page_driver.specs.Moving.{comes_with, loads_with, tower_with}
 use Rattle.page_driver.proofs.Steps.{data_moves}
 
 module _ (g : Ground) (s : StoreView) (left : Left) (k : ℕ) (tower : Tower) where

@@ -1,5 +1,5 @@
 -- An expansion goes on until it halts, at its start and with a text.
-use Rattle.std.proofs.Common.{◌≡◌, ℕ, ◌+◌, ◌*◌, List, [], ◌∷◌, ◌++◌, sym, ap, ◌∙◌, subst, arith}
+use Rattle.std.proofs.Common.{◌≡◌, ℕ, ◌+◌, List, [], ◌∷◌, sym, ap, ◌∙◌, subst, arith}
 use Rattle.std.specs.Prelude.{map}
 use Rattle.std.proofs.lemmas.List.{map-append}
 use Rattle.wk_base.specs.declared.left.Left.{Left}
@@ -29,7 +29,7 @@ use Rattle.page_points.proofs.Apart.{going_leaves}
 use Rattle.page_driver.specs.declared.task.Task.TheVariants as task
 use Rattle.page_driver.specs.declared.task.Halted.{Halted}
 use Rattle.page_driver.specs.Ground.{Ground, page_of, wiki_of}
-use Rattle.page_driver.specs.Tasks.{HasHalted, Ready}
+use Rattle.page_driver.specs.Tasks.{HasHalted}
 use Rattle.page_driver.specs.Going.{halt_of, Halts, GoesOn, ToldFrom}
 use Rattle.page_driver.specs.Calls.{ExpanderGoes, ExpanderIsTold}
 use Rattle.page_driver.specs.Falling.{CanGiveBack, FallsAt, Falls, allowed_with}

@@ -28,7 +28,6 @@ use Rattle.page_points.proofs.Apart.{going_leaves}
 use Rattle.page_driver.specs.declared.task.Begun.{Begun}
 use Rattle.page_driver.specs.declared.task.Task.TheVariants as task
 use Rattle.page_driver.specs.declared.task.Reply.{Reply}
-use Rattle.page_driver.specs.declared.task.Reply.TheVariants as reply
 use Rattle.page_driver.specs.declared.task.Halt.{Halt}
 use Rattle.page_driver.specs.declared.task.Halt.TheVariants as halt
 use Rattle.page_driver.specs.Ground.{Ground, page_of, wiki_of}

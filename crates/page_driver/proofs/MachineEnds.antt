@@ -1,5 +1,5 @@
 -- How a run of Lua ends, in terms of the store's own values.
-use Rattle.std.proofs.Common.{◌≡◌, ℕ, List, [], ◌∷◌, ◌++◌, Option, Some, None, length, refl, sym, ap, ◌∙◌, subst, arith}
+use Rattle.std.proofs.Common.{◌≡◌, ℕ, List, [], ◌∷◌, None, length, refl, arith}
 use Rattle.std.specs.Prelude.{codes, IfSome}
 use Rattle.page_run.specs.declared.which.Which.TheVariants.{Steps, Calls}
 use Rattle.page_run.specs.Outcome.{Goes, Jumps}

@@ -1,5 +1,5 @@
 -- What is left sinks with each move.
-use Rattle.std.proofs.Common.{◌≡◌, ℕ, ◌+◌, ◌*◌, ◌<◌, ◌≤◌, List, [], ◌∷◌, ap, arith}
+use Rattle.std.proofs.Common.{◌≡◌, ℕ, ◌+◌, ◌*◌, ◌<◌, ◌≤◌, List, ◌∷◌, ap, arith}
 use Rattle.std.specs.Prelude.{length}
 use Rattle.wk_base.specs.declared.left.Left.{Left}
 use Rattle.mw_frame.specs.declared.question.Ask.{Ask}
@@ -14,7 +14,7 @@ use Rattle.page_driver.specs.declared.driving.Next.{Next}
 use Rattle.page_driver.specs.declared.driving.Next.TheVariants as next
 use Rattle.page_driver.specs.Driven.{sum_of}
 use Rattle.page_driver.specs.Falling.{chances_of, allowed_with, FallsAt, Falls}
-use Rattle.page_driver.specs.Moving.{comes_with, invokes_with, asks_with, tower_with, steps_at, invoked, weight_of, SinksFrom, Sinks, GoesDown, IsQuestion, TakesSteps}
+use Rattle.page_driver.specs.Moving.{comes_with, invokes_with, asks_with, tower_with, steps_at, invoked, SinksFrom, Sinks, GoesDown, IsQuestion, TakesSteps}
 
 -- a task that goes on: its question counts for the step that it took, and its invocation for what its nodes allowed
 fallen_at : (h : Halt) (l l' : Left) (a a' : ℕ) → FallsAt h l.steps a l'.steps a' → (steps_at l' h ≤ l.steps) × (2 * a' + invoked h ≤ 2 * a)

@@ -1,7 +1,5 @@
 use Rattle.std.proofs.Common.{◌∙◌, refl, sym, arith}
-use Rattle.std.specs.Prelude.{IsSome}
 use Rattle.lua_store.specs.Seen.{StoreView}
-use Rattle.mw_frame.specs.declared.scene.Scene.{Scene}
 use Rattle.mw_frame.specs.declared.question.Ask.TheVariants.{Template}
 use Rattle.wiki_markup.specs.Trees.{Trees}
 use Rattle.wiki_expand.specs.Pages.{included_of, included_in, find_page}

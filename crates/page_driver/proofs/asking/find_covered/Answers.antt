@@ -1,4 +1,4 @@
-use Rattle.std.proofs.Common.{◌∙◌, sym, inl, inr, arith}
+use Rattle.std.proofs.Common.{inl, inr, arith}
 use Rattle.page_driver.proofs.KeepLaws.{finds_none, finds_short}
 use Rattle.page_driver.proofs.Drives.{kept_found, nothing_found}
 use Rattle.page_driver.proofs.asking.find_covered.Goals as goal

@@ -1,5 +1,4 @@
 use Rattle.std.proofs.Common.{arith}
-use Rattle.page_driver.specs.declared.driving.Next.TheVariants.{On}
 use Rattle.page_driver.specs.Ground.{ground_of}
 use Rattle.page_driver.proofs.Drives.{in_progress, one_after_another}
 use Rattle.page_driver.proofs.Sinking.{not_asked}

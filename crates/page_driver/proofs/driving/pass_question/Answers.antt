@@ -1,4 +1,3 @@
-use Rattle.std.proofs.Common.{arith}
 use Rattle.page_driver.specs.Ground.{ground_of}
 use Rattle.page_driver.proofs.Drives.{in_progress, one_after_another}
 use Rattle.page_driver.proofs.Sinking.{asked_then}

@@ -1,4 +1,4 @@
-use Rattle.std.proofs.Common.{◌∙◌, ap, sym, subst, codes, ◌++◌, List, Option}
+use Rattle.std.proofs.Common.{◌∙◌, ap, sym, subst, Option}
 use Rattle.std.specs.Prelude.{IfSome}
 use Rattle.lua_store.specs.declared.ids.TextId.{TextId}
 use Rattle.lua_store.specs.Parts.{IsTextOf}

@@ -1,6 +1,5 @@
 use Rattle.std.proofs.Common.{refl, subst}
 use Rattle.page_driver.specs.declared.task.Reply.{Reply}
-use Rattle.page_driver.specs.declared.task.Reply.TheVariants.{Text, Data, Spent}
 use Rattle.page_driver.specs.Ground.{ground_of}
 use Rattle.page_driver.specs.Driven.{InProgress}
 use Rattle.page_driver.specs.Moving.{comes_with, tower_with}

@@ -1,6 +1,5 @@
 use Rattle.std.proofs.Common.{List, refl, sym, subst}
 use Rattle.page_driver.specs.declared.task.Task.{Task}
-use Rattle.page_driver.specs.declared.driving.Tower.{Tower}
 use Rattle.page_driver.specs.Ground.{ground_of}
 use Rattle.page_driver.specs.Driven.{InProgress, MovesOn}
 use Rattle.page_driver.specs.Moving.{comes_with, Sinks}

@@ -1,4 +1,4 @@
-use Rattle.std.proofs.Common.{refl, ap, arith}
+use Rattle.std.proofs.Common.{ap, arith}
 use Rattle.wk_base.specs.declared.left.Left.{Left}
 use Rattle.wiki_expand.specs.Pages.{direct_of, direct_in, find_page}
 use Rattle.page_driver.specs.Ground.{ground_of, page_of}

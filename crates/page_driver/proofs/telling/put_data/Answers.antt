@@ -1,5 +1,4 @@
-use Rattle.std.proofs.Common.{◌∙◌, ap, refl, subst, sym, List, ℕ}
-use Rattle.lua_heap.specs.Heap.{Heap}
+use Rattle.std.proofs.Common.{refl, subst, sym, List, ℕ}
 use Rattle.lua_store.proofs.Later.{later-itself}
 use Rattle.page_driver.specs.Seen.{CanBePut}
 use Rattle.page_driver.specs.Going.{PutsAnswer}

@@ -1,5 +1,5 @@
 use Rattle.std.proofs.Common.{subst}
-use Rattle.page_driver.specs.Tasks.{TaskIn, CanBeTold}
+use Rattle.page_driver.specs.Tasks.{CanBeTold}
 use Rattle.page_driver.specs.Falling.{CanGiveBack}
 use Rattle.page_driver.proofs.Answering.{expansion_not_refused}
 use Rattle.page_driver.proofs.telling.tell_spent.Goals as goal
