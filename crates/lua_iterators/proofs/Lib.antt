@@ -1,0 +1,5 @@
+pub mod Changed
+pub mod Walks
+pub mod Parted
+pub mod Made
+pub mod Rows
