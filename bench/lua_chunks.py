@@ -501,6 +501,39 @@ MODULES = [
 ]
 
 
+LIBRARIES = [
+    cost("rep_costs", "A text that is made costs its bytes.", "return ('x'):rep(3)", [1 + 1 + 1 + 1 + 1, 1 + 3], "xxx"),
+    cost("format_costs", "`string.format` costs the bytes of its arguments that are strings, and of what it gives.", "return string.format('%s-%d','a',5)",
+         [1 + 1 + 3 + 3, 1 + 5 + 1 + 3], "a-5"),
+    cost("concat_costs", "`table.concat` costs a step for each entry, and what it gives.", "return table.concat({1,2,3},',')",
+         [1 + 1 + 3, 9 + 3 * (1 + 4), 1, 1 + 3 + 5], "1,2,3"),
+    cost("max_costs", "Functions of `math` cost nothing but their call.", "return math.max(3,7,5)", [1 + 1 + 3 + 3, 1], "7"),
+    cost("split_costs", "`mw.text.split`: five bytes are given, one is read, the comma is compared four times; a table, three entries, and their two bytes.",
+         "return mw.text.split('a,b,',',')[2]", [1 + 1 + 1 + 5 + 2 + 1, 1 + 5 + 1 + 4 + 8 + 3 * 4 + 2], "b", profile=True),
+    body("methods_of_texts", "Functions of `string` are the methods of texts.",
+         "local s='aBc'\nreturn s:upper():reverse():sub(1,2),s:lower(),s:len(),s:byte(2),string.char(72,105)", "CBabc366Hi"),
+    body("searches_of_texts", "`find` gives places, `match` gives captures, and nil where there is none.",
+         "return ('hello'):find('l+'),('a.b'):find('.',2,true),('key=val'):match('(%w+)=(%w+)'),tostring(('x'):match('y'))", "32keynil"),
+    body("all_of_a_search", "The last one of a list gives all that it finds.", "return ('hello'):find('(l)(l)')", "34ll"),
+    body("formats", "Directives of `string.format`.", "return ('%05d|%-3s|%x|%q|%%'):format(42,'a',255,'b')", '00042|a  |ff|"b"|%'),
+    body("tables_are_changed", "`insert`, `remove`, `sort` and `maxn`.",
+         "local t={3,1}\ntable.insert(t,2) table.sort(t)\ntable.insert(t,1,'x')\nreturn table.remove(t),#t,table.concat(t,'.'),table.maxn({1,[9]=2})", "33x.1.29"),
+    body("whole_numbers", "Functions of `math`, over whole numbers.",
+         "return math.abs(-5),math.floor(7),math.ceil(7),math.fmod(-7,3),math.max(1,3),math.min(2,1),math.pow(2,10)", "577-1311024"),
+    body("code_points", "`mw.ustring` counts code points, `#` counts bytes.",
+         "local u=mw.ustring\nlocal s=u.char(233,8364,97)\nreturn #s,u.len(s),u.codepoint(s,2),u.sub(s,3),u.byteoffset(s,3),u.find(s,'a'),u.match(s,'.$'),tostring(u.isutf8(u.sub(s,1,1)))",
+         "638364a63atrue", profile=True),
+    body("texts_of_pages", "Functions of `mw.text`.",
+         "local t=mw.text\nreturn t.trim(' x '),t.encode('<b>'),t.decode('&lt;'),t.nowiki('['),t.listToText({1,2,3}),t.truncate('abcdef',3),t.tag('i',{id=1},'y')",
+         'x&lt;b&gt;<&#91;1, 2 and 3abc...<i id="1">y</i>', profile=True),
+    body("wrong_arguments", "A wrong argument is told with its place.",
+         "return select(2,pcall(function() local s=string.rep('x') end)),';',select(2,pcall(function() local n=math.max() end)),';',select(2,pcall(function() local n=table.concat({1,{}}) end))",
+         "Module:X:2: bad argument #2 to 'rep' (number expected, got no value);Module:X:2: bad argument #1 to 'max' (number expected, got no value);"
+         "Module:X:2: invalid value (at index 2) in table for 'concat'", profile=True),
+    body("names_in_order", "`next` goes through the names of a library in this order.",
+         "local n='' for k in pairs(math) do n=n..k..' ' end\nreturn n", "abs ceil floor fmod max min pow ", profile=True),
+]
+
 FILES = [
     ("ExampleCharges", "EXAMPLES of charges, and of how runs end.", CHARGES),
     ("ExampleCosts", "EXAMPLES of single charges, worked out by hand.", COSTS),
@@ -510,4 +543,5 @@ FILES = [
     ("ExampleHandlers", "EXAMPLES of handlers, levels, and what is absent.", HANDLERS),
     ("ExampleFrames", "EXAMPLES of frames and their questions, in the body of template T.", FRAMES),
     ("ExampleModules", "EXAMPLES of modules that ask for modules, and of data modules.", MODULES),
+    ("ExampleLibraries", "EXAMPLES of the libraries `string`, `table`, `math`, `mw.ustring` and `mw.text`.", LIBRARIES),
 ]

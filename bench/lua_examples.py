@@ -43,13 +43,22 @@ use Rattle.page_run.specs.Perform.{{perform}}
 use Rattle.wk_base.specs.Titles.{{title_text, prefix_of, title_of, namespace_named, prefixed_namespaces}}
 use Rattle.std.specs.Fmt.{{digits}}
 use Rattle.std.specs.Str.{{is_utf8, chars}}
+use Rattle.std.specs.Char.{{encode_utf8}}
 use lib.Utf8.{{encode}}
+use lib.Count.{{count_leading_zeros}}
 use Rattle.lua_number.specs.Numerals.{{decimal_of, numeral_of, trimmed, digits_of_base, read_number_of, read_in_base_of}}
+use Rattle.lua_pattern.specs.Texts.{{point_code}}
+use Rattle.lua_format.specs.Directives.{{directive_of}}
+use Rattle.lua_format.specs.Layouts.{{filled}}
+use Rattle.lua_format.specs.Format.{{formatted}}
+use Rattle.mw_text.specs.References.{{numbered}}
+use Rattle.mw_text.specs.Split.{{parts_of}}
 use Rattle.lua_meaning.specs.{module}.{{{names}}}
 """
 
 UNFOLDING = "unfolding perform digits title_text prefix_of decimal_of numeral_of trimmed digits_of_base read_number_of read_in_base_of"
 TITLES = " title_of namespace_named prefixed_namespaces is_utf8 chars encode"
+LIBRARIES = " formatted directive_of filled count_leading_zeros is_utf8 chars encode_utf8 point_code numbered parts_of"
 
 
 def codes(text):
@@ -138,7 +147,7 @@ def write(module, subject, examples):
         specs.append(text)
         titles.append(title)
         proof = "refl" if count == 1 else "(" + ", ".join(["refl"] * count) + ")"
-        unfolding = UNFOLDING + (TITLES if example["cases"] else "")
+        unfolding = UNFOLDING + (TITLES if example["cases"] else LIBRARIES if module == "ExampleLibraries" else "")
         proofs.append(f"\n{example['name']} : {title}\n{unfolding}\n{example['name']} = {proof}\n")
     every = "All" + module.removeprefix("Example")
     specs.append(f"-- ALL OF THEM\nabbrev pub {every} : Type 0\n{every} =\n    " + "\n    × ".join(titles) + "\n")

@@ -275,6 +275,8 @@ def f_load(run):
 
 
 def mw(run):
+    from machine_texts import text_functions, ustring_functions
+
     def current_title(args, ls):
         run.tick(8 + 3 * 4)
         page = run.world.page
@@ -285,15 +287,18 @@ def mw(run):
         return [run.frames[0].table if run.frames else None]
     title = Table(builtins([(b"getCurrentTitle", current_title)]))
     return Table(builtins([(b"clone", f_clone(run)), (b"log", lambda args, ls: [])]) + [(b"title", title)]
-                 + builtins([(b"loadData", f_load(run)), (b"getCurrentFrame", current_frame)]))
+                 + builtins([(b"loadData", f_load(run)), (b"getCurrentFrame", current_frame)])
+                 + [(b"ustring", Table(builtins(ustring_functions(run)))), (b"text", Table(builtins(text_functions(run))))])
 
 
 def home(run):
     """A fresh environment: the tables of global variables and of the functions for strings."""
-    strings = Table()
+    from machine_texts import math_functions, string_functions, table_functions
+    strings, tables, math = (Table(builtins(group(run))) for group in (string_functions, table_functions, math_functions))
     table = Table([(b"_VERSION", b"Lua 5.1")])
     table.places, table.slots = {}, []
-    for key, value in [(b"_G", table), (b"_VERSION", b"Lua 5.1"), *builtins(basic(run)), (b"string", strings), (b"mw", mw(run))]:
+    for key, value in [(b"_G", table), (b"_VERSION", b"Lua 5.1"), *builtins(basic(run)), (b"string", strings), (b"table", tables),
+                       (b"math", math), (b"mw", mw(run))]:
         table.set(key, value)
     return table, strings
 
@@ -448,12 +453,14 @@ def attribute(run, ls, key, value):
 
 
 def tag(run, args, ls):
-    charge = sum(len(v) for v in args if isinstance(v, bytes))
-    run.tick(charge)
+    """Of `extensionTag`: with a name, content and attributes, or these as fields."""
+    run.tick(sum(len(v) for v in args if isinstance(v, bytes)))
     if isinstance(first(args), Table):
-        names, attrs, content = [args[0].get(b"name")], args[0].get(b"args"), args[0].get(b"content")
-    else:
-        names, attrs, content = args, nth(args, 2), nth(args, 1)
+        return tag_by(run, [args[0].get(b"name")], args[0].get(b"args"), args[0].get(b"content"), ls)
+    return tag_by(run, args, nth(args, 2), nth(args, 1), ls)
+
+
+def tag_by(run, names, attrs, content, ls):
     name = a_text(run, ls, names, 1, b"tag")
     if attrs is not None and not isinstance(attrs, Table):
         bad(run, ls, 2, b"tag", b"table expected, got " + kind_of(attrs))

@@ -4,8 +4,8 @@
     machine_rows.py            writes both files, next to this checkout's crates
     machine_rows.py --check    compares the ends of the cases with `machine_reference.py`, and with `lua5.1` where it is to be the same
 
-The cases are the worked examples of `lua_chunks.py`, with the ends and steps that are said there, and those of `machine_cases.py`, whose
-ends were worked out by hand from the manual. How many steps and calls a case needs is what `machine_reference.py` says.
+The cases are the worked examples of `lua_chunks.py`, with the ends and steps that are said there, and those of `machine_cases.py` and
+`machine_text_cases.py`, whose ends were worked out by hand from the manual. How many steps and calls a case needs is what `machine_reference.py` says.
 """
 import pathlib
 import re
@@ -150,7 +150,7 @@ def in_bytes(told):
     def plain(text):
         return text if text == "@" else int(text[1:]) if text.startswith("#") else text.encode()
     if told[0] == "table":
-        return ("table", [(k.encode(), plain(v)) for k, v in told[1]])
+        return ("table", [(plain(k), plain(v)) for k, v in told[1]])
     return (told[0], told[1].encode()) if len(told) > 1 else told
 
 
@@ -193,7 +193,7 @@ def many_runs(case, word, steps, calls, replies=()):
 
 
 def all_cases():
-    from machine_cases import CASES
+    from machine_text_cases import CASES
     found = [of_example(example) for _, _, examples in FILES for example in examples]
     for case in found:
         if case.work == "invoke" and not case.parent and case.runs and "spends" not in case.runs[0][4]:

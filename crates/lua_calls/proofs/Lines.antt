@@ -1,35 +1,80 @@
--- Each function that is neither plain nor of the frames is a line of the table of the library.
-use Rattle.std.proofs.Common.{◌≡◌, refl, None}
+-- Each function that is in no group and none of the frames is a line of the table of the library.
+use Rattle.std.proofs.Common.{◌≡◌, refl, Some, None}
 use Rattle.lua_heap.specs.declared.library.Library.{Library}
-use Rattle.lua_heap.specs.declared.library.Library.TheVariants.{BasicAssert, BasicError, BasicGetMetatable, BasicSetMetatable, BasicNext, BasicRawEqual, BasicRawGet, BasicRawSet, BasicSelect, BasicToNumber, BasicType, BasicUnpack, MwLog, ArgumentExpand, StrictIndex, StrictNewIndex, MwGetCurrentFrame, FrameGetParent, FrameExpandTemplate, FramePreprocess, FrameGetArgument, FrameArgumentPairs, FrameNewChild, FrameGetTitle, FrameExtensionTag}
-use Rattle.lua_libs.specs.Table.{plain_in}
+use Rattle.lua_heap.specs.declared.library.Library.TheVariants.{BasicAssert, BasicError, BasicGetMetatable, BasicSetMetatable, BasicNext, BasicRawEqual, BasicRawGet, BasicRawSet, BasicSelect, BasicToNumber, BasicType, BasicUnpack, MwLog, ArgumentExpand, StrictIndex, StrictNewIndex, StringByte, StringChar, StringFind, StringMatch, StringFormat, StringLen, StringLower, StringUpper, StringRep, StringReverse, StringSub, MathAbs, MathCeil, MathFloor, MathFmod, MathMax, MathMin, MathPow, TableConcat, TableInsert, TableMaxn, TableRemove, TableSort, UstringChar, UstringCodepoint, UstringByteOffset, UstringFind, UstringMatch, UstringLen, UstringSub, UstringIsUtf8, UstringToNfc, UstringToNfd, UstringToNfkc, UstringToNfkd, TextTrim, TextSplit, TextEncode, TextDecode, TextListToText, TextNowiki, TextTag, TextTruncate, MwGetCurrentFrame, FrameGetParent, FrameExpandTemplate, FramePreprocess, FrameGetArgument, FrameArgumentPairs, FrameNewChild, FrameGetTitle, FrameExtensionTag}
 use Rattle.mw_frame_calls.specs.Table.{frame_in}
-use Rattle.lua_calls.specs.Table.{other_in, IsLine}
+use Rattle.lua_calls.specs.Table.{other_in, InNoGroup, IsLine}
 
-pub other_line : (which : Library) → plain_in which ≡ None → frame_in which ≡ None → IsLine which (other_in which)
-other_line BasicAssert p f = absurd cc
-other_line BasicError p f = absurd cc
-other_line BasicGetMetatable p f = absurd cc
-other_line BasicSetMetatable p f = absurd cc
-other_line BasicNext p f = absurd cc
-other_line BasicRawEqual p f = absurd cc
-other_line BasicRawGet p f = absurd cc
-other_line BasicRawSet p f = absurd cc
-other_line BasicSelect p f = absurd cc
-other_line BasicToNumber p f = absurd cc
-other_line BasicType p f = absurd cc
-other_line BasicUnpack p f = absurd cc
-other_line MwLog p f = absurd cc
-other_line ArgumentExpand p f = absurd cc
-other_line StrictIndex p f = absurd cc
-other_line StrictNewIndex p f = absurd cc
-other_line MwGetCurrentFrame p f = absurd cc
-other_line FrameGetParent p f = absurd cc
-other_line FrameExpandTemplate p f = absurd cc
-other_line FramePreprocess p f = absurd cc
-other_line FrameGetArgument p f = absurd cc
-other_line FrameArgumentPairs p f = absurd cc
-other_line FrameNewChild p f = absurd cc
-other_line FrameGetTitle p f = absurd cc
-other_line FrameExtensionTag p f = absurd cc
+there : {A : Type 0} (x : A) → Some x ≡ None → ⊥
+there x e = absurd cc
+
+pub other_line : (which : Library) → InNoGroup which → frame_in which ≡ None → IsLine which (other_in which)
+other_line BasicAssert p f = absurd (there _ p.not_basic)
+other_line BasicError p f = absurd (there _ p.not_basic)
+other_line BasicGetMetatable p f = absurd (there _ p.not_basic)
+other_line BasicSetMetatable p f = absurd (there _ p.not_basic)
+other_line BasicNext p f = absurd (there _ p.not_basic)
+other_line BasicRawEqual p f = absurd (there _ p.not_basic)
+other_line BasicRawGet p f = absurd (there _ p.not_basic)
+other_line BasicRawSet p f = absurd (there _ p.not_basic)
+other_line BasicSelect p f = absurd (there _ p.not_basic)
+other_line BasicToNumber p f = absurd (there _ p.not_basic)
+other_line BasicType p f = absurd (there _ p.not_basic)
+other_line BasicUnpack p f = absurd (there _ p.not_basic)
+other_line MwLog p f = absurd (there _ p.not_basic)
+other_line ArgumentExpand p f = absurd (there _ p.not_basic)
+other_line StrictIndex p f = absurd (there _ p.not_basic)
+other_line StrictNewIndex p f = absurd (there _ p.not_basic)
+other_line StringByte p f = absurd (there _ p.not_strings)
+other_line StringChar p f = absurd (there _ p.not_strings)
+other_line StringFind p f = absurd (there _ p.not_strings)
+other_line StringMatch p f = absurd (there _ p.not_strings)
+other_line StringFormat p f = absurd (there _ p.not_strings)
+other_line StringLen p f = absurd (there _ p.not_strings)
+other_line StringLower p f = absurd (there _ p.not_strings)
+other_line StringUpper p f = absurd (there _ p.not_strings)
+other_line StringRep p f = absurd (there _ p.not_strings)
+other_line StringReverse p f = absurd (there _ p.not_strings)
+other_line StringSub p f = absurd (there _ p.not_strings)
+other_line MathAbs p f = absurd (there _ p.not_strings)
+other_line MathCeil p f = absurd (there _ p.not_strings)
+other_line MathFloor p f = absurd (there _ p.not_strings)
+other_line MathFmod p f = absurd (there _ p.not_strings)
+other_line MathMax p f = absurd (there _ p.not_strings)
+other_line MathMin p f = absurd (there _ p.not_strings)
+other_line MathPow p f = absurd (there _ p.not_strings)
+other_line TableConcat p f = absurd (there _ p.not_tables)
+other_line TableInsert p f = absurd (there _ p.not_tables)
+other_line TableMaxn p f = absurd (there _ p.not_tables)
+other_line TableRemove p f = absurd (there _ p.not_tables)
+other_line TableSort p f = absurd (there _ p.not_tables)
+other_line UstringChar p f = absurd (there _ p.not_ustrings)
+other_line UstringCodepoint p f = absurd (there _ p.not_ustrings)
+other_line UstringByteOffset p f = absurd (there _ p.not_ustrings)
+other_line UstringFind p f = absurd (there _ p.not_ustrings)
+other_line UstringMatch p f = absurd (there _ p.not_ustrings)
+other_line UstringLen p f = absurd (there _ p.not_ustrings)
+other_line UstringSub p f = absurd (there _ p.not_ustrings)
+other_line UstringIsUtf8 p f = absurd (there _ p.not_ustrings)
+other_line UstringToNfc p f = absurd (there _ p.not_ustrings)
+other_line UstringToNfd p f = absurd (there _ p.not_ustrings)
+other_line UstringToNfkc p f = absurd (there _ p.not_ustrings)
+other_line UstringToNfkd p f = absurd (there _ p.not_ustrings)
+other_line TextTrim p f = absurd (there _ p.not_texts)
+other_line TextSplit p f = absurd (there _ p.not_texts)
+other_line TextEncode p f = absurd (there _ p.not_texts)
+other_line TextDecode p f = absurd (there _ p.not_texts)
+other_line TextListToText p f = absurd (there _ p.not_texts)
+other_line TextNowiki p f = absurd (there _ p.not_texts)
+other_line TextTag p f = absurd (there _ p.not_texts)
+other_line TextTruncate p f = absurd (there _ p.not_texts)
+other_line MwGetCurrentFrame p f = absurd (there _ f)
+other_line FrameGetParent p f = absurd (there _ f)
+other_line FrameExpandTemplate p f = absurd (there _ f)
+other_line FramePreprocess p f = absurd (there _ f)
+other_line FrameGetArgument p f = absurd (there _ f)
+other_line FrameArgumentPairs p f = absurd (there _ f)
+other_line FrameNewChild p f = absurd (there _ f)
+other_line FrameGetTitle p f = absurd (there _ f)
+other_line FrameExtensionTag p f = absurd (there _ f)
 other_line which p f = λ world args h frames. refl

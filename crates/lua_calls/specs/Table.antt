@@ -1,5 +1,5 @@
 -- THE TABLE OF THE LIBRARY as code goes through it: what each function is, and what is done with it.
-use Rattle.std.specs.Prelude.{◌≡◌, List}
+use Rattle.std.specs.Prelude.{◌≡◌, List, None}
 use Rattle.lua_heap.specs.Proc.{Proc}
 use Rattle.lua_heap.specs.Value.{Value}
 use Rattle.lua_heap.specs.Heap.{Heap}
@@ -7,12 +7,19 @@ use Rattle.lua_heap.specs.declared.library.Library.{Library}
 use Rattle.lua_heap.specs.declared.library.Library.TheVariants.{MwClone, MwGetCurrentTitle, ArgsIndex, BasicPcall, BasicXpcall, BasicToString, BasicPairs, BasicIpairs, IpairsStep, BasicRequire, MwLoadData}
 use Rattle.lua_meaning.specs.World.{World}
 use Rattle.lua_meaning.specs.Acts.{Frame}
+use Rattle.lua_meaning.specs.Arguments.{Plain}
 use Rattle.lua_meaning.specs.Mw.{clone, get_current_title}
 use Rattle.lua_meaning.specs.Frames.{args_index}
 use Rattle.lua_meaning.specs.Libraries as meaning
 use Rattle.lua_meaning.specs.Libraries.{Form, Answers, InFrames, CallsBack, form}
-use Rattle.lua_libs.specs.Table.{answer_of}
+use Rattle.lua_libs.specs.Table as basic
+use Rattle.lua_strings.specs.Table as strings
+use Rattle.lua_tables.specs.Table as tables
+use Rattle.mw_ustrings.specs.Table as ustrings
+use Rattle.mw_texts.specs.Table as texts
 use Rattle.mw_frame_calls.specs.Table.{framed_of}
+use Rattle.lua_calls.specs.declared.table.AtOnce.{AtOnce}
+use Rattle.lua_calls.specs.declared.table.AtOnce.TheVariants as once
 use Rattle.lua_calls.specs.declared.table.CallBack.{CallBack}
 use Rattle.lua_calls.specs.declared.table.CallBack.TheVariants as call_back
 use Rattle.lua_calls.specs.declared.table.Act.{Act}
@@ -28,9 +35,17 @@ caller_seen call_back.NextPlace = meaning.NextPlace
 caller_seen call_back.Require = meaning.Require
 caller_seen call_back.LoadData = meaning.LoadData
 
+-- what a function gives that answers at once
+abbrev pub once_seen : {X : Type 0} → AtOnce → List Value → Heap X → Plain X
+once_seen (once.Basic f) args h = basic.answer_of f args h
+once_seen (once.Strings f) args h = strings.answer_of f args h
+once_seen (once.Tables f) args h = tables.answer_of f args h
+once_seen (once.Ustrings f) args h = ustrings.answer_of f args h
+once_seen (once.Texts f) args h = texts.answer_of f args h
+
 -- what an act does with its arguments
 abbrev pub act_seen : World → Act → List Value → Heap Proc → List Frame → Form Proc
-act_seen world (act.Plain f) args h frames = Answers (answer_of f args h)
+act_seen world (act.Answers f) args h frames = Answers (once_seen f args h)
 act_seen world (act.Framed f) args h frames = InFrames (framed_of f args h frames)
 act_seen world act.Clone args h frames = Answers (clone args h)
 act_seen world act.CurrentTitle args h frames = Answers (get_current_title world.page h)
@@ -38,7 +53,15 @@ act_seen world act.ArgsIndex args h frames = Answers (args_index args h)
 act_seen world (act.Calls caller) args h frames = CallsBack (caller_seen caller)
 act_seen world act.NotBuilt args h frames = meaning.NotBuilt
 
--- the functions that are neither plain nor of the frames
+-- a function that is in no group of those that answer at once
+pub record InNoGroup (which : Library) : Type 0 where
+  pub not_basic : basic.plain_in which ≡ None
+  pub not_strings : strings.string_function_in which ≡ None
+  pub not_tables : tables.table_function_in which ≡ None
+  pub not_ustrings : ustrings.ustring_function_in which ≡ None
+  pub not_texts : texts.text_function_in which ≡ None
+
+-- the functions that are in no group and none of the frames
 abbrev pub other_in : Library → Act
 other_in MwClone = act.Clone
 other_in MwGetCurrentTitle = act.CurrentTitle

@@ -84,7 +84,7 @@ pub fn call_act<'m>(
         (values_seen store.old.texts arguments) line (frames_of store.old state.old) (slots_of store.old state.old)) r) }
 {
     match act {
-        Act::Plain(function) => plain(alloc, store, left, state, function, arguments, line),
+        Act::Answers(function) => plain(alloc, store, left, state, function, arguments, line),
         Act::Framed(function) => framed(alloc, store, left, state, function, arguments, line),
         Act::Clone => clone(alloc, store, left, state, arguments, line),
         Act::CurrentTitle => current_title(alloc, store, left, state, line),

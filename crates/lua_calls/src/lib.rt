@@ -1,6 +1,7 @@
 //! Functions of the library that are entered, and what waits for a call or an answer (manual 5; Scribunto).
 //!
 //! - `table`: what each function of the library is
+//! - `answering`: what a function gives that answers at once
 //! - `plain`: functions that call back nobody
 //! - `framed`: functions that see the frames
 //! - `calling`: functions that call back, or see more of a run
@@ -11,6 +12,7 @@
 //! says that code makes a move. `specs/Table.antt` is the table of the library as code goes through it.
 #![tactic(auto)]
 
+pub mod answering;
 pub mod calling;
 pub mod entering;
 pub mod framed;

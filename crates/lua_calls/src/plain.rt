@@ -4,7 +4,6 @@ ghost use Rattle.lua_meaning.specs.Frames.{args_index as plain_args_index};
 ghost use Rattle.lua_meaning.specs.Mw as mw;
 ghost use Rattle.lua_slots.specs.Libraries as machine;
 ghost use Rattle.lua_basic.specs.Seen.{AnswerOf};
-ghost use Rattle.lua_libs.specs.Table.{answer_of};
 ghost use Rattle.lua_stack.specs.Of.{ValuesOf};
 ghost use Rattle.lua_stack.specs.Seen.{values_seen};
 ghost use Rattle.lua_state.specs.Makes.{LateMakes};
@@ -12,11 +11,14 @@ ghost use Rattle.lua_state.specs.Of.{StateOf};
 ghost use Rattle.lua_state.specs.Seen.{frames_of, slots_of};
 ghost use Rattle.lua_state.specs.Worlds.{world_seen};
 ghost use Rattle.lua_calls.specs.Ends.{EndsAs};
+ghost use Rattle.lua_calls.specs.Table.{once_seen};
 
+use crate::answering::once_call;
+use crate::table::AtOnce;
 use lua_acts::exits::give_all;
 use lua_acts::refuse;
 use lua_basic::Stop;
-use lua_libs::{PlainFunction, mw_clone, mw_get_current_title, plain_call};
+use lua_libs::{mw_clone, mw_get_current_title};
 use lua_stack::Values;
 use lua_state::{State, Turn};
 use lua_store::{Store, Value};
@@ -43,23 +45,24 @@ fn end_plain<'m>(
     }
 }
 
-/// A plain function.
+/// A function that answers at once.
 pub fn plain<'m>(
     alloc: Global,
     store: &mut Store,
     left: &mut Left,
     state: &State<'m>,
-    function: PlainFunction,
+    function: AtOnce,
     arguments: Values,
     line: Option<u32>,
 ) -> Result<Turn<'m>, NoMemory>
     requires state { StateOf store.old state.now }
     requires arguments { ValuesOf store.old arguments }
     ensures { IfOk result (λ r. LateMakes store.old state.now left.old store.new state.now left.new
-        (machine.plain (answer_of function (values_seen store.old.texts arguments) store.old.heap) line (frames_of store.old state.now) (slots_of store.old state.now)) r) }
+        (machine.plain (once_seen function (values_seen store.old.texts arguments) store.old.heap) line (frames_of store.old state.now) (slots_of store.old state.now)) r) }
 {
     let list = arguments.into_list();
-    let answer = plain_call(alloc, store, left, function, list.as_slice());
+    let names = state.scenes.names();
+    let answer = once_call(alloc, store, left, names, function, list.as_slice());
     let turn = end_plain(alloc, store, left, state, answer, line)?;
     Ok(turn)
 }

@@ -1,12 +1,26 @@
 //! What each function of the library is (manual 5; Scribunto).
-ghost use Rattle.std.specs.Prelude.{◌≡◌, None};
-ghost use Rattle.lua_libs.specs.Table.{plain_in};
-ghost use Rattle.mw_frame_calls.specs.Table.{frame_in};
-ghost use Rattle.lua_calls.specs.Table.{other_in, IsLine};
+ghost use Rattle.std.specs.Prelude.{◌≡◌, MatchOption};
+ghost use Rattle.lua_calls.specs.Table.{other_in, InNoGroup, IsLine};
+ghost use Rattle.lua_calls.specs.declared.table.Act.TheVariants as act;
 
 use lua_libs::{PlainFunction, plain_function};
 use lua_store::Library;
+use lua_strings::{StringFunction, string_function};
+use lua_tables::{TableFunction, table_function};
 use mw_frame_calls::{FrameFunction, frame_function};
+use mw_texts::{TextFunction, text_function};
+use mw_ustrings::{UstringFunction, ustring_function};
+
+/// A function that answers at once: it sees nothing but its arguments and the heap.
+#[derive(Clone, Copy, Debug, PartialEq, Eq)]
+pub enum AtOnce {
+    Basic(PlainFunction),
+    /// of `string` or `math`
+    Strings(StringFunction),
+    Tables(TableFunction),
+    Ustrings(UstringFunction),
+    Texts(TextFunction),
+}
 
 /// A function that calls back, or that sees more of a run than its heap and its frames.
 #[derive(Clone, Copy, Debug, PartialEq, Eq)]
@@ -24,7 +38,7 @@ pub enum CallBack {
 /// What a function of the library is.
 #[derive(Clone, Copy, Debug, PartialEq, Eq)]
 pub enum Act {
-    Plain(PlainFunction),
+    Answers(AtOnce),
     Framed(FrameFunction),
     Clone,
     CurrentTitle,
@@ -33,7 +47,29 @@ pub enum Act {
     NotBuilt,
 }
 
-/// What a function is that is neither plain nor one of the frames.
+/// The function that answers at once which this one is, where it is in a group of them.
+fn at_once(which: Library) -> Option<AtOnce>
+    ensures { MatchOption result (InNoGroup which) (λ f. IsLine which (act.Answers f)) }
+{
+    match plain_function(which) {
+        Some(function) => Some(AtOnce::Basic(function)),
+        None => match string_function(which) {
+            Some(function) => Some(AtOnce::Strings(function)),
+            None => match table_function(which) {
+                Some(function) => Some(AtOnce::Tables(function)),
+                None => match ustring_function(which) {
+                    Some(function) => Some(AtOnce::Ustrings(function)),
+                    None => match text_function(which) {
+                        Some(function) => Some(AtOnce::Texts(function)),
+                        None => None,
+                    },
+                },
+            },
+        },
+    }
+}
+
+/// What a function is that is in no group and none of the frames.
 fn other_act(which: Library) -> Act
     ensures { result ≡ other_in which }
 {
@@ -57,8 +93,8 @@ fn other_act(which: Library) -> Act
 pub fn act_of(which: Library) -> Act
     ensures { IsLine which result }
 {
-    match plain_function(which) {
-        Some(function) => Act::Plain(function),
+    match at_once(which) {
+        Some(function) => Act::Answers(function),
         None => match frame_function(which) {
             Some(function) => Act::Framed(function),
             None => other_act(which),

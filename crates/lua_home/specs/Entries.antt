@@ -1,8 +1,8 @@
 -- THE FIELDS of the tables of a fresh environment, where these are the tables. Joined they are the entries with which a run begins.
-use Rattle.std.specs.Prelude.{[], ◌∷◌, codes}
+use Rattle.std.specs.Prelude.{[], ◌∷◌, ◌++◌, codes}
 use Rattle.lua_heap.specs.Value.{Text, Table}
 use Rattle.lua_heap.specs.Table.{Entries}
-use Rattle.lua_heap.specs.declared.library.Library.TheVariants.{BasicAssert, BasicError, BasicGetMetatable, BasicSetMetatable, BasicIpairs, BasicPairs, BasicNext, BasicPcall, BasicXpcall, BasicRawEqual, BasicRawGet, BasicRawSet, BasicSelect, BasicToNumber, BasicToString, BasicType, BasicUnpack, BasicRequire, MwClone, MwLog, MwLoadData, MwGetCurrentFrame, MwGetCurrentTitle}
+use Rattle.lua_heap.specs.declared.library.Library.TheVariants.{BasicAssert, BasicError, BasicGetMetatable, BasicSetMetatable, BasicIpairs, BasicPairs, BasicNext, BasicPcall, BasicXpcall, BasicRawEqual, BasicRawGet, BasicRawSet, BasicSelect, BasicToNumber, BasicToString, BasicType, BasicUnpack, BasicRequire, StringByte, StringChar, StringFind, StringMatch, StringFormat, StringLen, StringLower, StringUpper, StringRep, StringReverse, StringSub, MwClone, MwLog, MwLoadData, MwGetCurrentFrame, MwGetCurrentTitle, TableConcat, TableInsert, TableMaxn, TableRemove, TableSort, MathAbs, MathCeil, MathFloor, MathFmod, MathMax, MathMin, MathPow, UstringChar, UstringCodepoint, UstringByteOffset, UstringFind, UstringMatch, UstringLen, UstringSub, UstringIsUtf8, UstringToNfc, UstringToNfd, UstringToNfkc, UstringToNfkd, TextTrim, TextSplit, TextEncode, TextDecode, TextListToText, TextNowiki, TextTag, TextTruncate}
 use Rattle.lua_meaning.specs.Frames.{function_entry}
 use Rattle.lua_home.specs.declared.made.Tables.{Tables}
 
@@ -27,17 +27,38 @@ middle_globals =
     ∷ function_entry (codes "rawget") BasicRawGet
     ∷ function_entry (codes "rawset") BasicRawSet
     ∷ function_entry (codes "select") BasicSelect
+    ∷ function_entry (codes "tonumber") BasicToNumber
     ∷ []
 
 abbrev pub last_globals : Tables → Entries
 last_globals t =
-    function_entry (codes "tonumber") BasicToNumber
-    ∷ function_entry (codes "tostring") BasicToString
+    function_entry (codes "tostring") BasicToString
     ∷ function_entry (codes "type") BasicType
     ∷ function_entry (codes "unpack") BasicUnpack
     ∷ function_entry (codes "require") BasicRequire
     ∷ (Text (codes "string"), Table t.strings.at)
+    ∷ (Text (codes "table"), Table t.tables.at)
+    ∷ (Text (codes "math"), Table t.math.at)
     ∷ (Text (codes "mw"), Table t.mw.at)
+    ∷ []
+
+abbrev pub first_strings : Entries
+first_strings =
+    function_entry (codes "byte") StringByte
+    ∷ function_entry (codes "char") StringChar
+    ∷ function_entry (codes "find") StringFind
+    ∷ function_entry (codes "match") StringMatch
+    ∷ function_entry (codes "format") StringFormat
+    ∷ function_entry (codes "len") StringLen
+    ∷ function_entry (codes "lower") StringLower
+    ∷ function_entry (codes "upper") StringUpper
+    ∷ []
+
+abbrev pub last_strings : Entries
+last_strings =
+    function_entry (codes "rep") StringRep
+    ∷ function_entry (codes "reverse") StringReverse
+    ∷ function_entry (codes "sub") StringSub
     ∷ []
 
 abbrev pub mw_fields : Tables → Entries
@@ -47,9 +68,73 @@ mw_fields t =
     ∷ (Text (codes "title"), Table t.title.at)
     ∷ function_entry (codes "loadData") MwLoadData
     ∷ function_entry (codes "getCurrentFrame") MwGetCurrentFrame
+    ∷ (Text (codes "ustring"), Table t.ustring.at)
+    ∷ (Text (codes "text"), Table t.text.at)
     ∷ []
 
 abbrev pub title_fields : Entries
 title_fields =
     function_entry (codes "getCurrentTitle") MwGetCurrentTitle
     ∷ []
+
+abbrev pub table_fields : Entries
+table_fields =
+    function_entry (codes "concat") TableConcat
+    ∷ function_entry (codes "insert") TableInsert
+    ∷ function_entry (codes "maxn") TableMaxn
+    ∷ function_entry (codes "remove") TableRemove
+    ∷ function_entry (codes "sort") TableSort
+    ∷ []
+
+abbrev pub math_fields : Entries
+math_fields =
+    function_entry (codes "abs") MathAbs
+    ∷ function_entry (codes "ceil") MathCeil
+    ∷ function_entry (codes "floor") MathFloor
+    ∷ function_entry (codes "fmod") MathFmod
+    ∷ function_entry (codes "max") MathMax
+    ∷ function_entry (codes "min") MathMin
+    ∷ function_entry (codes "pow") MathPow
+    ∷ []
+
+abbrev pub first_ustring : Entries
+first_ustring =
+    function_entry (codes "char") UstringChar
+    ∷ function_entry (codes "codepoint") UstringCodepoint
+    ∷ function_entry (codes "byteoffset") UstringByteOffset
+    ∷ function_entry (codes "find") UstringFind
+    ∷ function_entry (codes "match") UstringMatch
+    ∷ function_entry (codes "len") UstringLen
+    ∷ function_entry (codes "sub") UstringSub
+    ∷ function_entry (codes "isutf8") UstringIsUtf8
+    ∷ []
+
+abbrev pub last_ustring : Entries
+last_ustring =
+    function_entry (codes "toNFC") UstringToNfc
+    ∷ function_entry (codes "toNFD") UstringToNfd
+    ∷ function_entry (codes "toNFKC") UstringToNfkc
+    ∷ function_entry (codes "toNFKD") UstringToNfkd
+    ∷ []
+
+abbrev pub text_fields : Entries
+text_fields =
+    function_entry (codes "trim") TextTrim
+    ∷ function_entry (codes "split") TextSplit
+    ∷ function_entry (codes "encode") TextEncode
+    ∷ function_entry (codes "decode") TextDecode
+    ∷ function_entry (codes "listToText") TextListToText
+    ∷ function_entry (codes "nowiki") TextNowiki
+    ∷ function_entry (codes "tag") TextTag
+    ∷ function_entry (codes "truncate") TextTruncate
+    ∷ []
+
+-- those of one table, together
+abbrev pub global_fields : Tables → Entries
+global_fields t = first_globals t ++ (middle_globals ++ last_globals t)
+
+abbrev pub string_fields : Entries
+string_fields = first_strings ++ last_strings
+
+abbrev pub ustring_fields : Entries
+ustring_fields = first_ustring ++ last_ustring

@@ -2,38 +2,51 @@
 ghost use Rattle.std.specs.Prelude.{◌≡◌, ℕ, length, IfOk, OnOk};
 ghost use Rattle.lua_graph.specs.Put.{grown, filled};
 ghost use Rattle.lua_store.specs.Parts.{IsLater};
-ghost use Rattle.lua_home.specs.Entries.{first_globals, middle_globals, last_globals, mw_fields, title_fields};
+ghost use Rattle.lua_home.specs.Entries.{first_globals, middle_globals, last_globals, first_strings, last_strings, mw_fields, title_fields, table_fields, math_fields, first_ustring, last_ustring, text_fields, global_fields, string_fields, ustring_fields};
 ghost use Rattle.lua_home.specs.Made.{with_home, AreAt, AreTablesOf, HomeIsHome};
 
 use crate::fields::{Field, Item, fill};
 use lua_store::{Library, Store, TableId};
 use wk_base::NoMemory;
 
-/// The tables of a fresh environment: those of the global variables, of the functions for strings, `mw`, and `mw.title`.
+/// The tables of a fresh environment: those of the global variables, of the functions for strings, `mw`, `mw.title`, `table`, `math`,
+/// `mw.ustring`, and `mw.text`.
 #[derive(Clone, Copy)]
 pub struct Tables {
     pub globals: TableId,
     pub strings: TableId,
     pub mw: TableId,
     pub title: TableId,
+    pub tables: TableId,
+    pub math: TableId,
+    pub ustring: TableId,
+    pub text: TableId,
 }
 
-/// Four new tables.
+/// Eight new tables.
 fn new_tables(store: &mut Store) -> Result<Tables, NoMemory>
     ensures at { IfOk result (AreAt (length store.old.heap.tables)) }
     ensures of { IfOk result (AreTablesOf store.new) }
-    ensures put { OnOk result (store.new.heap ≡ grown 4 store.old.heap) }
+    ensures put { OnOk result (store.new.heap ≡ grown 8 store.old.heap) }
     ensures later { IsLater store.old store.new }
 {
     let globals = store.new_table()?;
     let strings = store.new_table()?;
     let mw = store.new_table()?;
     let title = store.new_table()?;
+    let tables = store.new_table()?;
+    let math = store.new_table()?;
+    let ustring = store.new_table()?;
+    let text = store.new_table()?;
     Ok(Tables {
         globals,
         strings,
         mw,
         title,
+        tables,
+        math,
+        ustring,
+        text,
     })
 }
 
@@ -115,6 +128,10 @@ fn fill_middle(store: &mut Store, tables: &Tables) -> Result<(), NoMemory>
             name: b"select",
             value: Item::Function(Library::BasicSelect),
         },
+        Field {
+            name: b"tonumber",
+            value: Item::Function(Library::BasicToNumber),
+        },
     ];
     fill(store, tables.globals, &fields)
 }
@@ -126,10 +143,6 @@ fn fill_last(store: &mut Store, tables: &Tables) -> Result<(), NoMemory>
     ensures later { IsLater store.old store.new }
 {
     let fields = [
-        Field {
-            name: b"tonumber",
-            value: Item::Function(Library::BasicToNumber),
-        },
         Field {
             name: b"tostring",
             value: Item::Function(Library::BasicToString),
@@ -151,11 +164,85 @@ fn fill_last(store: &mut Store, tables: &Tables) -> Result<(), NoMemory>
             value: Item::Table(tables.strings),
         },
         Field {
+            name: b"table",
+            value: Item::Table(tables.tables),
+        },
+        Field {
+            name: b"math",
+            value: Item::Table(tables.math),
+        },
+        Field {
             name: b"mw",
             value: Item::Table(tables.mw),
         },
     ];
     fill(store, tables.globals, &fields)
+}
+
+/// The first fields of `string`.
+fn fill_first_strings(store: &mut Store, tables: &Tables) -> Result<(), NoMemory>
+    requires { AreTablesOf store.old tables.now }
+    ensures put { OnOk result (store.new.heap ≡ filled tables.now.strings.at first_strings store.old.heap) }
+    ensures later { IsLater store.old store.new }
+{
+    let fields = [
+        Field {
+            name: b"byte",
+            value: Item::Function(Library::StringByte),
+        },
+        Field {
+            name: b"char",
+            value: Item::Function(Library::StringChar),
+        },
+        Field {
+            name: b"find",
+            value: Item::Function(Library::StringFind),
+        },
+        Field {
+            name: b"match",
+            value: Item::Function(Library::StringMatch),
+        },
+        Field {
+            name: b"format",
+            value: Item::Function(Library::StringFormat),
+        },
+        Field {
+            name: b"len",
+            value: Item::Function(Library::StringLen),
+        },
+        Field {
+            name: b"lower",
+            value: Item::Function(Library::StringLower),
+        },
+        Field {
+            name: b"upper",
+            value: Item::Function(Library::StringUpper),
+        },
+    ];
+    fill(store, tables.strings, &fields)
+}
+
+/// Those behind them.
+fn fill_last_strings(store: &mut Store, tables: &Tables) -> Result<(), NoMemory>
+    requires { AreTablesOf store.old tables.now }
+    ensures put { OnOk result (store.new.heap ≡ filled tables.now.strings.at last_strings store.old.heap) }
+    ensures later { IsLater store.old store.new }
+{
+    let fields = [
+        Field {
+            name: b"rep",
+            value: Item::Function(Library::StringRep),
+        },
+        Field {
+            name: b"reverse",
+            value: Item::Function(Library::StringReverse),
+        },
+        Field {
+            name: b"sub",
+            value: Item::Function(Library::StringSub),
+        },
+    ];
+    fill(store, tables.strings, &fields)
 }
 
 /// The fields of `mw`.
@@ -185,6 +272,14 @@ fn fill_mw(store: &mut Store, tables: &Tables) -> Result<(), NoMemory>
             name: b"getCurrentFrame",
             value: Item::Function(Library::MwGetCurrentFrame),
         },
+        Field {
+            name: b"ustring",
+            value: Item::Table(tables.ustring),
+        },
+        Field {
+            name: b"text",
+            value: Item::Table(tables.text),
+        },
     ];
     fill(store, tables.mw, &fields)
 }
@@ -202,6 +297,223 @@ fn fill_title(store: &mut Store, tables: &Tables) -> Result<(), NoMemory>
     fill(store, tables.title, &fields)
 }
 
+/// The fields of `table`.
+fn fill_tables(store: &mut Store, tables: &Tables) -> Result<(), NoMemory>
+    requires { AreTablesOf store.old tables.now }
+    ensures put { OnOk result (store.new.heap ≡ filled tables.now.tables.at table_fields store.old.heap) }
+    ensures later { IsLater store.old store.new }
+{
+    let fields = [
+        Field {
+            name: b"concat",
+            value: Item::Function(Library::TableConcat),
+        },
+        Field {
+            name: b"insert",
+            value: Item::Function(Library::TableInsert),
+        },
+        Field {
+            name: b"maxn",
+            value: Item::Function(Library::TableMaxn),
+        },
+        Field {
+            name: b"remove",
+            value: Item::Function(Library::TableRemove),
+        },
+        Field {
+            name: b"sort",
+            value: Item::Function(Library::TableSort),
+        },
+    ];
+    fill(store, tables.tables, &fields)
+}
+
+/// The fields of `math`.
+fn fill_math(store: &mut Store, tables: &Tables) -> Result<(), NoMemory>
+    requires { AreTablesOf store.old tables.now }
+    ensures put { OnOk result (store.new.heap ≡ filled tables.now.math.at math_fields store.old.heap) }
+    ensures later { IsLater store.old store.new }
+{
+    let fields = [
+        Field {
+            name: b"abs",
+            value: Item::Function(Library::MathAbs),
+        },
+        Field {
+            name: b"ceil",
+            value: Item::Function(Library::MathCeil),
+        },
+        Field {
+            name: b"floor",
+            value: Item::Function(Library::MathFloor),
+        },
+        Field {
+            name: b"fmod",
+            value: Item::Function(Library::MathFmod),
+        },
+        Field {
+            name: b"max",
+            value: Item::Function(Library::MathMax),
+        },
+        Field {
+            name: b"min",
+            value: Item::Function(Library::MathMin),
+        },
+        Field {
+            name: b"pow",
+            value: Item::Function(Library::MathPow),
+        },
+    ];
+    fill(store, tables.math, &fields)
+}
+
+/// The first fields of `mw.ustring`.
+fn fill_first_ustring(store: &mut Store, tables: &Tables) -> Result<(), NoMemory>
+    requires { AreTablesOf store.old tables.now }
+    ensures put { OnOk result (store.new.heap ≡ filled tables.now.ustring.at first_ustring store.old.heap) }
+    ensures later { IsLater store.old store.new }
+{
+    let fields = [
+        Field {
+            name: b"char",
+            value: Item::Function(Library::UstringChar),
+        },
+        Field {
+            name: b"codepoint",
+            value: Item::Function(Library::UstringCodepoint),
+        },
+        Field {
+            name: b"byteoffset",
+            value: Item::Function(Library::UstringByteOffset),
+        },
+        Field {
+            name: b"find",
+            value: Item::Function(Library::UstringFind),
+        },
+        Field {
+            name: b"match",
+            value: Item::Function(Library::UstringMatch),
+        },
+        Field {
+            name: b"len",
+            value: Item::Function(Library::UstringLen),
+        },
+        Field {
+            name: b"sub",
+            value: Item::Function(Library::UstringSub),
+        },
+        Field {
+            name: b"isutf8",
+            value: Item::Function(Library::UstringIsUtf8),
+        },
+    ];
+    fill(store, tables.ustring, &fields)
+}
+
+/// Those behind them: the normal forms.
+fn fill_forms(store: &mut Store, tables: &Tables) -> Result<(), NoMemory>
+    requires { AreTablesOf store.old tables.now }
+    ensures put { OnOk result (store.new.heap ≡ filled tables.now.ustring.at last_ustring store.old.heap) }
+    ensures later { IsLater store.old store.new }
+{
+    let fields = [
+        Field {
+            name: b"toNFC",
+            value: Item::Function(Library::UstringToNfc),
+        },
+        Field {
+            name: b"toNFD",
+            value: Item::Function(Library::UstringToNfd),
+        },
+        Field {
+            name: b"toNFKC",
+            value: Item::Function(Library::UstringToNfkc),
+        },
+        Field {
+            name: b"toNFKD",
+            value: Item::Function(Library::UstringToNfkd),
+        },
+    ];
+    fill(store, tables.ustring, &fields)
+}
+
+/// The fields of `mw.text`.
+fn fill_text(store: &mut Store, tables: &Tables) -> Result<(), NoMemory>
+    requires { AreTablesOf store.old tables.now }
+    ensures put { OnOk result (store.new.heap ≡ filled tables.now.text.at text_fields store.old.heap) }
+    ensures later { IsLater store.old store.new }
+{
+    let fields = [
+        Field {
+            name: b"trim",
+            value: Item::Function(Library::TextTrim),
+        },
+        Field {
+            name: b"split",
+            value: Item::Function(Library::TextSplit),
+        },
+        Field {
+            name: b"encode",
+            value: Item::Function(Library::TextEncode),
+        },
+        Field {
+            name: b"decode",
+            value: Item::Function(Library::TextDecode),
+        },
+        Field {
+            name: b"listToText",
+            value: Item::Function(Library::TextListToText),
+        },
+        Field {
+            name: b"nowiki",
+            value: Item::Function(Library::TextNowiki),
+        },
+        Field {
+            name: b"tag",
+            value: Item::Function(Library::TextTag),
+        },
+        Field {
+            name: b"truncate",
+            value: Item::Function(Library::TextTruncate),
+        },
+    ];
+    fill(store, tables.text, &fields)
+}
+
+/// The global variables.
+fn fill_globals(store: &mut Store, tables: &Tables) -> Result<(), NoMemory>
+    requires { AreTablesOf store.old tables.now }
+    ensures put { OnOk result (store.new.heap ≡ filled tables.now.globals.at (global_fields tables.now) store.old.heap) }
+    ensures later { IsLater store.old store.new }
+{
+    fill_first(store, tables)?;
+    fill_middle(store, tables)?;
+    fill_last(store, tables)?;
+    Ok(())
+}
+
+/// The fields of `string`.
+fn fill_strings(store: &mut Store, tables: &Tables) -> Result<(), NoMemory>
+    requires { AreTablesOf store.old tables.now }
+    ensures put { OnOk result (store.new.heap ≡ filled tables.now.strings.at string_fields store.old.heap) }
+    ensures later { IsLater store.old store.new }
+{
+    fill_first_strings(store, tables)?;
+    fill_last_strings(store, tables)?;
+    Ok(())
+}
+
+/// The fields of `mw.ustring`.
+fn fill_ustring(store: &mut Store, tables: &Tables) -> Result<(), NoMemory>
+    requires { AreTablesOf store.old tables.now }
+    ensures put { OnOk result (store.new.heap ≡ filled tables.now.ustring.at ustring_fields store.old.heap) }
+    ensures later { IsLater store.old store.new }
+{
+    fill_first_ustring(store, tables)?;
+    fill_forms(store, tables)?;
+    Ok(())
+}
+
 /// A fresh environment, in new tables (manual 5; Scribunto, "Lua environment"). Nothing that was there is changed.
 pub fn fresh(store: &mut Store) -> Result<Tables, NoMemory>
     ensures at { IfOk result (AreAt (length store.old.heap.tables)) }
@@ -210,11 +522,14 @@ pub fn fresh(store: &mut Store) -> Result<Tables, NoMemory>
     ensures later { IsLater store.old store.new }
 {
     let tables = new_tables(store)?;
-    fill_first(store, &tables)?;
-    fill_middle(store, &tables)?;
-    fill_last(store, &tables)?;
+    fill_globals(store, &tables)?;
+    fill_strings(store, &tables)?;
     fill_mw(store, &tables)?;
     fill_title(store, &tables)?;
+    fill_tables(store, &tables)?;
+    fill_math(store, &tables)?;
+    fill_ustring(store, &tables)?;
+    fill_text(store, &tables)?;
     Ok(tables)
 }
 

@@ -4,19 +4,30 @@ use Rattle.lua_heap.specs.Value.{Value}
 use Rattle.lua_heap.specs.Heap.{Heap}
 use Rattle.lua_heap.specs.Related.{Map, GrowsWith, Each, Same, Stands}
 use Rattle.lua_heap.specs.declared.library.Library.{Library}
-use Rattle.lua_heap.specs.declared.library.Library.TheVariants.{BasicAssert, BasicError, BasicGetMetatable, BasicSetMetatable, BasicIpairs, BasicPairs, BasicNext, BasicPcall, BasicXpcall, BasicRawEqual, BasicRawGet, BasicRawSet, BasicSelect, BasicToNumber, BasicToString, BasicType, BasicUnpack, BasicRequire, MwClone, MwLog, MwGetCurrentTitle, MwLoadData, MwGetCurrentFrame, FrameGetParent, FrameExpandTemplate, FramePreprocess, FrameGetArgument, FrameArgumentPairs, FrameNewChild, FrameGetTitle, FrameExtensionTag, ArgsIndex, ArgumentExpand, StrictIndex, StrictNewIndex, IpairsStep}
+use Rattle.lua_heap.specs.declared.library.Library.TheVariants.{BasicAssert, BasicError, BasicGetMetatable, BasicSetMetatable, BasicIpairs, BasicPairs, BasicNext, BasicPcall, BasicXpcall, BasicRawEqual, BasicRawGet, BasicRawSet, BasicSelect, BasicToNumber, BasicToString, BasicType, BasicUnpack, BasicRequire, StringByte, StringChar, StringFind, StringMatch, StringFormat, StringLen, StringLower, StringUpper, StringRep, StringReverse, StringSub, TableConcat, TableInsert, TableMaxn, TableRemove, TableSort, MathAbs, MathCeil, MathFloor, MathFmod, MathMax, MathMin, MathPow, MwClone, MwLog, MwGetCurrentTitle, MwLoadData, MwGetCurrentFrame, UstringChar, UstringCodepoint, UstringByteOffset, UstringFind, UstringMatch, UstringLen, UstringSub, UstringIsUtf8, UstringToNfc, UstringToNfd, UstringToNfkc, UstringToNfkd, TextTrim, TextSplit, TextEncode, TextDecode, TextListToText, TextNowiki, TextTag, TextTruncate, FrameGetParent, FrameExpandTemplate, FramePreprocess, FrameGetArgument, FrameArgumentPairs, FrameNewChild, FrameGetTitle, FrameExtensionTag, ArgsIndex, ArgumentExpand, StrictIndex, StrictNewIndex, IpairsStep}
 use Rattle.lua_meaning.specs.World.{World}
 use Rattle.lua_meaning.specs.Acts.{Frame}
+use Rattle.lua_meaning.specs.Arguments.{Plain, with_charge, text_charge}
 use Rattle.lua_meaning.specs.Mw.{get_current_title}
 use Rattle.lua_meaning.specs.Libraries.{Answers, form}
-use Rattle.lua_library_agree.specs.Same.{SameFrame, SameForm, both_answer, both_see, both_call, neither_built}
+use Rattle.lua_library_agree.specs.Same.{SameFrame, SamePlain, SameForm, both_answer, both_see, both_call, neither_built}
+use Rattle.lua_library_agree.proofs.Values.{text_charge-same}
+use Rattle.lua_library_agree.proofs.Heaps.{charging}
 use Rattle.lua_library_agree.proofs.Basics.{assert-same, error-same, get_metatable-same, set_metatable-same, raw_equal-same, raw_get-same, raw_set-same, select-same, to_number-same, kind_is-same, unpack-same, next-same}
 use Rattle.lua_library_agree.proofs.FrameTables.{args_index-same, argument_expand-same}
 use Rattle.lua_library_agree.proofs.Methods.{get_current_frame-same, get_title-same, get_parent-same, argument_pairs-same, get_argument-same, preprocess-same, frame_extension_tag-same, expand_template-same, new_child-same}
+use Rattle.lua_library_agree.proofs.StringsAgree as strings
+use Rattle.lua_library_agree.proofs.TableAgree as tables
+use Rattle.lua_library_agree.proofs.UstringAgree as ustring
+use Rattle.lua_library_agree.proofs.TextsAgree as texts
 use Rattle.lua_library_agree.proofs.MwFunctions.{log-same, strict_index-same, strict_new_index-same, clone-same, get_current_title-same}
 
 module _ {X Y : Type 0} (R : Map → X → Y → Type 0) (up : GrowsWith R) (m : Map) (h : Heap X) (s : Heap Y) (st : Stands R m h s) (world other : World)
     (vs ws : List Value) (e : Each (Same m) vs ws) (fs gs : List Frame) (ef : Each (SameFrame m) fs gs) where
+  -- a function of texts, behind the charge of its arguments
+  behind_texts : {a : Plain X} {b : Plain Y} → SamePlain R m h s a b → SamePlain R m h s (with_charge (text_charge vs) a) (with_charge (text_charge ws) b)
+  behind_texts {a} {b} k = charging R m h s st _ _ (text_charge-same e) a b k
+
   pub all-agree : world.page ≡ other.page → (which : Library) → SameForm R m h s (form world which vs h fs) (form other which ws s gs)
   all-agree page BasicAssert = both_answer _ _ (assert-same R m h s st vs ws e)
   all-agree page BasicError = both_answer _ _ (error-same R m h s st vs ws e)
@@ -36,11 +47,54 @@ module _ {X Y : Type 0} (R : Map → X → Y → Type 0) (up : GrowsWith R) (m :
   all-agree page BasicType = both_answer _ _ (kind_is-same R m h s st vs ws e)
   all-agree page BasicUnpack = both_answer _ _ (unpack-same R m h s st vs ws e)
   all-agree page BasicRequire = both_call _
+  all-agree page StringByte = both_answer _ _ (strings.byte-same R m h s st vs ws e)
+  all-agree page StringChar = both_answer _ _ (strings.char-same R m h s st vs ws e)
+  all-agree page StringFind = both_answer _ _ (strings.find-same R m h s st vs ws e)
+  all-agree page StringMatch = both_answer _ _ (strings.match-same R m h s st vs ws e)
+  all-agree page StringFormat = both_answer _ _ (strings.format-same R m h s st vs ws e)
+  all-agree page StringLen = both_answer _ _ (strings.len-same R m h s st vs ws e)
+  all-agree page StringLower = both_answer _ _ (strings.lower-same R m h s st vs ws e)
+  all-agree page StringUpper = both_answer _ _ (strings.upper-same R m h s st vs ws e)
+  all-agree page StringRep = both_answer _ _ (strings.rep-same R m h s st vs ws e)
+  all-agree page StringReverse = both_answer _ _ (strings.reverse-same R m h s st vs ws e)
+  all-agree page StringSub = both_answer _ _ (strings.sub-same R m h s st vs ws e)
+  all-agree page TableConcat = both_answer _ _ (tables.concat-same R m h s st vs ws e)
+  all-agree page TableInsert = both_answer _ _ (tables.insert-same R m h s st vs ws e)
+  all-agree page TableMaxn = both_answer _ _ (tables.maxn-same R m h s st vs ws e)
+  all-agree page TableRemove = both_answer _ _ (tables.remove-same R m h s st vs ws e)
+  all-agree page TableSort = both_answer _ _ (tables.sort-same R m h s st vs ws e)
+  all-agree page MathAbs = both_answer _ _ (strings.abs-same R m h s st vs ws e)
+  all-agree page MathCeil = both_answer _ _ (strings.ceil-same R m h s st vs ws e)
+  all-agree page MathFloor = both_answer _ _ (strings.floor-same R m h s st vs ws e)
+  all-agree page MathFmod = both_answer _ _ (strings.fmod-same R m h s st vs ws e)
+  all-agree page MathMax = both_answer _ _ (strings.max-same R m h s st vs ws e)
+  all-agree page MathMin = both_answer _ _ (strings.min-same R m h s st vs ws e)
+  all-agree page MathPow = both_answer _ _ (strings.pow-same R m h s st vs ws e)
   all-agree page MwClone = both_answer _ _ (clone-same R m h s st up vs ws e)
   all-agree page MwLog = both_answer _ _ (log-same R m h s st vs ws)
   all-agree page MwGetCurrentTitle = subst (λ p. SameForm R m h s (Answers (get_current_title world.page h)) (Answers (get_current_title p s))) page (both_answer _ _ (get_current_title-same R m h s st up world.page))
   all-agree page MwLoadData = both_call _
   all-agree page MwGetCurrentFrame = both_see _ _ (get_current_frame-same R up m h s st fs gs ef)
+  all-agree page UstringChar = both_answer _ _ (behind_texts (ustring.char-same R m h s st vs ws e))
+  all-agree page UstringCodepoint = both_answer _ _ (behind_texts (ustring.codepoint-same R m h s st vs ws e))
+  all-agree page UstringByteOffset = both_answer _ _ (behind_texts (ustring.byteoffset-same R m h s st vs ws e))
+  all-agree page UstringFind = both_answer _ _ (behind_texts (ustring.find-same R m h s st vs ws e))
+  all-agree page UstringMatch = both_answer _ _ (behind_texts (ustring.match_from-same R m h s st vs ws e))
+  all-agree page UstringLen = both_answer _ _ (behind_texts (ustring.len-same R m h s st vs ws e))
+  all-agree page UstringSub = both_answer _ _ (behind_texts (ustring.sub-same R m h s st vs ws e))
+  all-agree page UstringIsUtf8 = both_answer _ _ (behind_texts (ustring.isutf8-same R m h s st vs ws e))
+  all-agree page UstringToNfc = both_answer _ _ (behind_texts (ustring.to_nfc-same R m h s st vs ws e))
+  all-agree page UstringToNfd = both_answer _ _ (behind_texts (ustring.to_nfd-same R m h s st vs ws e))
+  all-agree page UstringToNfkc = both_answer _ _ (behind_texts (ustring.to_nfkc-same R m h s st vs ws e))
+  all-agree page UstringToNfkd = both_answer _ _ (behind_texts (ustring.to_nfkd-same R m h s st vs ws e))
+  all-agree page TextTrim = both_answer _ _ (behind_texts (texts.trim-same R m h s st vs ws e))
+  all-agree page TextSplit = both_answer _ _ (behind_texts (texts.split-same R m h s st vs ws e up))
+  all-agree page TextEncode = both_answer _ _ (behind_texts (texts.encode-same R m h s st vs ws e))
+  all-agree page TextDecode = both_answer _ _ (behind_texts (texts.decode-same R m h s st vs ws e))
+  all-agree page TextListToText = both_answer _ _ (behind_texts (texts.list_to_text-same R m h s st vs ws e))
+  all-agree page TextNowiki = both_answer _ _ (behind_texts (texts.nowiki-same R m h s st vs ws e))
+  all-agree page TextTag = both_answer _ _ (behind_texts (texts.tag-same R m h s st vs ws e))
+  all-agree page TextTruncate = both_answer _ _ (behind_texts (texts.truncate-same R m h s st vs ws e))
   all-agree page FrameGetParent = both_see _ _ (get_parent-same R up m h s st fs gs ef vs ws e)
   all-agree page FrameExpandTemplate = both_see _ _ (expand_template-same R up m h s st fs gs ef vs ws e)
   all-agree page FramePreprocess = both_see _ _ (preprocess-same R up m h s st fs gs ef vs ws e)

@@ -163,7 +163,7 @@ module _ {X Y : Type 0} (R : Map → X → Y → Type 0) (m : Map) (h : Heap X) 
   to_number-same vs ws e = with-equal R m h s st _ _ _ _ (number_or-same (pos 10) (pos 10) refl 2 (codes "tonumber") (rest-same e)) (λ base. in_base-same vs ws e base)
 
   -- WALKS
-  entries_from-same : (n : ℕ) (i : ℤ) (es fs : Entries) → SameEntries m es fs → Each (Same m) (entries_from n i es) (entries_from n i fs)
+  pub entries_from-same : (n : ℕ) (i : ℤ) (es fs : Entries) → SameEntries m es fs → Each (Same m) (entries_from n i es) (entries_from n i fs)
   entries_from-same zero i es fs e = none
   entries_from-same (suc n) i es fs e = more _ _ _ _ (get-related m (one-one R m h s st) es fs _ _ e (number i)) (entries_from-same n (i +ℤ pos 1) es fs e)
 

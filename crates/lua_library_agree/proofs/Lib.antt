@@ -5,6 +5,11 @@ pub mod FrameTables
 pub mod Tags
 pub mod Methods
 pub mod MwFunctions
+pub mod StringsAgree
+pub mod IteratorsAgree
+pub mod TableAgree
+pub mod UstringAgree
+pub mod TextsAgree
 pub mod Agreements
 pub mod Homes
 pub mod Joins

@@ -1,4 +1,4 @@
--- The tag of HTML that `frame:extensionTag` gives (Scribunto, mw.text.tag).
+-- The tag of HTML that `mw.text.tag` and `frame:extensionTag` give (Scribunto, mw.text.tag).
 use Rattle.std.proofs.Common.{◌≡◌, true, false, List, ◌++◌, Option, Some, None, refl, ◌∙◌, ap}
 use Rattle.std.specs.Prelude.{Err, codes}
 use Rattle.lua_heap.specs.Value.{Value, is_nil}
@@ -54,7 +54,7 @@ closed_by-same name (builtin b) = refl
 closed_by-same name (markup a b e) = refl
 
 -- the parts of a tag, on both sides
-record SameParts (m : Map) (p q : TagParts) : Type 0 where
+pub record SameParts (m : Map) (p q : TagParts) : Type 0 where
   pub name : Each (Same m) p.name q.name
   pub attrs : Same m p.attrs q.attrs
   pub content : Same m p.content q.content
@@ -85,7 +85,7 @@ module _ {X Y : Type 0} (R : Map → X → Y → Type 0) (m : Map) (h : Heap X) 
   parts-same _ _ (more _ _ xs ys (builtin b) e) = let all = more _ _ xs ys (builtin b) e in record { name = all; attrs = third-same all; content = second-same all }
   parts-same _ _ (more _ _ xs ys (markup a b x) e) = let all = more _ _ xs ys (markup a b x) e in record { name = all; attrs = third-same all; content = second-same all }
 
-  tag_of-same : (p q : TagParts) → SameParts m p q → SamePlain R m h s (tag_of p h) (tag_of q s)
+  pub tag_of-same : (p q : TagParts) → SameParts m p q → SamePlain R m h s (tag_of p h) (tag_of q s)
   tag_of-same p q e =
       with-equal R m h s st _ _ _ _ (a_text-same 1 (codes "tag") e.name) (λ name.
       with-equal R m h s st _ _ _ _ (ap (λ a. and_then a (closed_by name p.content)) (attributes_in-same _ _ e.attrs) ∙ ap (and_then (attributes_in s q.attrs)) (closed_by-same name e.content)) (λ behind.

@@ -8,6 +8,7 @@ use Rattle.lua_meaning.specs.Scope.{Bytes}
 use Rattle.lua_meaning.specs.Values.{kind_of, first, rest, second, third, number_in, text_in, is_function}
 use Rattle.lua_meaning.specs.Messages.{bad_argument, expected}
 use Rattle.lua_meaning.specs.Arguments.{text_charge, a_table, some_value, some_number, a_number, number_or, some_text, a_text}
+use Rattle.lua_meaning.specs.Checks.{fourth, text_or}
 use Rattle.lua_meaning.specs.CallBacks.{text_of}
 use Rattle.lua_library_agree.specs.Same.{SameArgument, both_ok, both_err}
 
@@ -28,6 +29,9 @@ second-same e = first-same (rest-same e)
 
 pub third-same : {m : Map} {vs ws : List Value} → Each (Same m) vs ws → Same m (third vs) (third ws)
 third-same e = second-same (rest-same e)
+
+pub fourth-same : {m : Map} {vs ws : List Value} → Each (Same m) vs ws → Same m (fourth vs) (fourth ws)
+fourth-same e = third-same (rest-same e)
 
 pub drop-same : {m : Map} (n : ℕ) {vs ws : List Value} → Each (Same m) vs ws → Each (Same m) (drop n vs) (drop n ws)
 drop-same zero e = e
@@ -180,6 +184,17 @@ some_text-same n name e None = ap Err (bad-same n name (codes "string") e)
 
 pub a_text-same : {m : Map} (n : ℕ) (name : Bytes) {vs ws : List Value} → Each (Same m) vs ws → a_text n name vs ≡ a_text n name ws
 a_text-same n name {vs} {ws} e = ap (some_text n name vs) (text_in-same (first-same e)) ∙ some_text-same n name e (text_in (first ws))
+
+pub text_or-same : {m : Map} (default : Bytes) (n : ℕ) (name : Bytes) {vs ws : List Value} → Each (Same m) vs ws → text_or default n name vs ≡ text_or default n name ws
+text_or-same d n name none = refl
+text_or-same d n name (more _ _ _ _ nil e) = refl
+text_or-same d n name (more _ _ xs ys (truth b) e) = a_text-same n name (more _ _ xs ys (truth b) e)
+text_or-same d n name (more _ _ xs ys (number b) e) = a_text-same n name (more _ _ xs ys (number b) e)
+text_or-same d n name (more _ _ xs ys (text b) e) = a_text-same n name (more _ _ xs ys (text b) e)
+text_or-same d n name (more _ _ xs ys (table a b x) e) = a_text-same n name (more _ _ xs ys (table a b x) e)
+text_or-same d n name (more _ _ xs ys (closure a b x) e) = a_text-same n name (more _ _ xs ys (closure a b x) e)
+text_or-same d n name (more _ _ xs ys (builtin b) e) = a_text-same n name (more _ _ xs ys (builtin b) e)
+text_or-same d n name (more _ _ xs ys (markup a b x) e) = a_text-same n name (more _ _ xs ys (markup a b x) e)
 
 pub text_charge-same : {m : Map} {vs ws : List Value} → Each (Same m) vs ws → text_charge vs ≡ text_charge ws
 text_charge-same none = refl

@@ -254,7 +254,7 @@ fn complaint(alloc: Global, word: &[u8]) -> Result<String, NoMemory> {
 /// - `parent TITLE`: the invocation stands in the body of that template; `of NAME VALUE`: an argument of it
 /// - `text TEXT LEFT`, `none LEFT`, `failed MESSAGE LEFT`, `table LEFT`: an answer to a question, for the next run alone: an expanded
 ///   text, that there is no such page, that a load failed, and a read-only table with the entries `entry KEY VALUE` before it (`#5` is
-///   a number, `@` the table itself, all else a text). LEFT is how many steps are left behind it, or with `-` in front what it takes
+///   a number, also as a key, `@` the table itself, all else a text). LEFT is how many steps are left behind it, or with `-` in front what it takes
 /// - `run STEPS CALLS`: runs it, and tells its end; `exact STEPS CALLS`: and the steps that are left; `took STEPS CALLS`: and the
 ///   steps that it took
 /// - `every STEPS CALLS`: runs it with those, then with numbers of steps below what it took, with as many, and with some more

@@ -18,7 +18,7 @@ pub enum Told {
     Table(List<Entry>),
 }
 
-/// An entry of a table: its key, and `#` with a number, `@` for the table itself, or a text.
+/// An entry of a table: its key and its value, each `#` with a number, `@` for the table itself, or a text.
 #[derive(Drop)]
 pub struct Entry {
     pub key: Vec<u8>,
@@ -77,7 +77,7 @@ fn text_value(store: &mut Store, text: &[u8]) -> Result<Value, NoMemory>
     Ok(Value::Text(id))
 }
 
-/// The value of an entry.
+/// The key or the value of an entry.
 fn entry_value(store: &mut Store, table: TableId, text: &[u8]) -> Result<Value, NoMemory>
     requires { IsTableOf store.old table }
     ensures of { IfOk result (IsOf store.new) }
@@ -108,7 +108,7 @@ fn set_entry(store: &mut Store, table: TableId, entry: &Entry) -> Result<(), NoM
     requires { IsTableOf store.old table }
     ensures { OnOk result (IsLater store.old store.new) }
 {
-    let key = text_value(store, entry.key.as_slice())?;
+    let key = entry_value(store, table, entry.key.as_slice())?;
     let value = entry_value(store, table, entry.value.as_slice())?;
     set(store, table, key, value)?;
     Ok(())

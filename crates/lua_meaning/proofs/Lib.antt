@@ -8,3 +8,4 @@ pub mod ExampleFunctionsLaws
 pub mod ExampleHandlersLaws
 pub mod ExampleFramesLaws
 pub mod ExampleModulesLaws
+pub mod ExampleLibrariesLaws

@@ -22,6 +22,16 @@ pub mod Frames
 pub mod Tag
 pub mod FrameMethods
 pub mod Mw
+pub mod Checks
+pub mod Strings
+pub mod Searches
+pub mod Formats
+pub mod Numbers
+pub mod Iterators
+pub mod TableLibrary
+pub mod TextArguments
+pub mod Ustring
+pub mod Texts
 pub mod Waiting
 pub mod CallBacks
 pub mod Modules
@@ -40,3 +50,4 @@ pub mod ExampleFunctions
 pub mod ExampleHandlers
 pub mod ExampleFrames
 pub mod ExampleModules
+pub mod ExampleLibraries

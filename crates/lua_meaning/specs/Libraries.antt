@@ -12,6 +12,14 @@ use Rattle.lua_meaning.specs.Messages.{fail, not_built}
 use Rattle.lua_meaning.specs.Arguments.{Plain, plain_act, end_act}
 use Rattle.lua_meaning.specs.Basic.{assert, error, get_metatable, set_metatable, raw_equal, raw_get, raw_set, select, to_number, kind, unpack, next}
 use Rattle.lua_meaning.specs.Mw.{log, clone, get_current_title}
+use Rattle.lua_meaning.specs.Strings as strings
+use Rattle.lua_meaning.specs.Searches as searches
+use Rattle.lua_meaning.specs.Formats as formats
+use Rattle.lua_meaning.specs.Numbers as numbers
+use Rattle.lua_meaning.specs.TableLibrary as tables
+use Rattle.lua_meaning.specs.TextArguments.{of_texts}
+use Rattle.lua_meaning.specs.Ustring as ustring
+use Rattle.lua_meaning.specs.Texts as texts
 use Rattle.lua_meaning.specs.Frames.{args_index, argument_expand}
 use Rattle.lua_meaning.specs.FrameMethods.{FramedEnd, FrameEnds, FrameAsks, FrameWalks, Framed, get_current_frame, get_title, get_parent, argument_pairs, get_argument, preprocess, frame_extension_tag, expand_template, new_child}
 use Rattle.lua_meaning.specs.Waiting.{asking}
@@ -54,60 +62,60 @@ form world BasicToString args h frames = CallsBack ToString
 form world BasicType args h frames = Answers (kind args h)
 form world BasicUnpack args h frames = Answers (unpack args h)
 form world BasicRequire args h frames = CallsBack Require
-form world StringByte args h frames = NotBuilt
-form world StringChar args h frames = NotBuilt
-form world StringFind args h frames = NotBuilt
-form world StringMatch args h frames = NotBuilt
+form world StringByte args h frames = Answers (strings.byte args h)
+form world StringChar args h frames = Answers (strings.char_of args h)
+form world StringFind args h frames = Answers (searches.find args h)
+form world StringMatch args h frames = Answers (searches.match_from args h)
 form world StringGmatch args h frames = NotBuilt
 form world StringGsub args h frames = NotBuilt
-form world StringFormat args h frames = NotBuilt
-form world StringLen args h frames = NotBuilt
-form world StringLower args h frames = NotBuilt
-form world StringUpper args h frames = NotBuilt
-form world StringRep args h frames = NotBuilt
-form world StringReverse args h frames = NotBuilt
-form world StringSub args h frames = NotBuilt
-form world TableConcat args h frames = NotBuilt
-form world TableInsert args h frames = NotBuilt
-form world TableMaxn args h frames = NotBuilt
-form world TableRemove args h frames = NotBuilt
-form world TableSort args h frames = NotBuilt
-form world MathAbs args h frames = NotBuilt
-form world MathCeil args h frames = NotBuilt
-form world MathFloor args h frames = NotBuilt
-form world MathFmod args h frames = NotBuilt
-form world MathMax args h frames = NotBuilt
-form world MathMin args h frames = NotBuilt
-form world MathPow args h frames = NotBuilt
+form world StringFormat args h frames = Answers (formats.format args h)
+form world StringLen args h frames = Answers (strings.len args h)
+form world StringLower args h frames = Answers (strings.lower args h)
+form world StringUpper args h frames = Answers (strings.upper args h)
+form world StringRep args h frames = Answers (strings.rep args h)
+form world StringReverse args h frames = Answers (strings.reverse args h)
+form world StringSub args h frames = Answers (strings.sub args h)
+form world TableConcat args h frames = Answers (tables.concat args h)
+form world TableInsert args h frames = Answers (tables.insert args h)
+form world TableMaxn args h frames = Answers (tables.maxn args h)
+form world TableRemove args h frames = Answers (tables.remove args h)
+form world TableSort args h frames = Answers (tables.sort args h)
+form world MathAbs args h frames = Answers (numbers.abs args h)
+form world MathCeil args h frames = Answers (numbers.ceil args h)
+form world MathFloor args h frames = Answers (numbers.floor args h)
+form world MathFmod args h frames = Answers (numbers.fmod args h)
+form world MathMax args h frames = Answers (numbers.max args h)
+form world MathMin args h frames = Answers (numbers.min args h)
+form world MathPow args h frames = Answers (numbers.pow args h)
 form world MwClone args h frames = Answers (clone args h)
 form world MwLog args h frames = Answers (log args h)
 form world MwGetCurrentTitle args h frames = Answers (get_current_title world.page h)
 form world MwLoadData args h frames = CallsBack LoadData
 form world MwGetCurrentFrame args h frames = InFrames (get_current_frame h frames)
-form world UstringChar args h frames = NotBuilt
-form world UstringCodepoint args h frames = NotBuilt
+form world UstringChar args h frames = Answers (of_texts ustring.char args h)
+form world UstringCodepoint args h frames = Answers (of_texts ustring.codepoint args h)
 form world UstringGcodepoint args h frames = NotBuilt
-form world UstringByteOffset args h frames = NotBuilt
-form world UstringFind args h frames = NotBuilt
-form world UstringMatch args h frames = NotBuilt
+form world UstringByteOffset args h frames = Answers (of_texts ustring.byteoffset args h)
+form world UstringFind args h frames = Answers (of_texts ustring.find args h)
+form world UstringMatch args h frames = Answers (of_texts ustring.match_from args h)
 form world UstringGmatch args h frames = NotBuilt
 form world UstringGsub args h frames = NotBuilt
-form world UstringLen args h frames = NotBuilt
-form world UstringSub args h frames = NotBuilt
-form world UstringIsUtf8 args h frames = NotBuilt
-form world UstringToNfc args h frames = NotBuilt
-form world UstringToNfd args h frames = NotBuilt
-form world UstringToNfkc args h frames = NotBuilt
-form world UstringToNfkd args h frames = NotBuilt
-form world TextTrim args h frames = NotBuilt
-form world TextSplit args h frames = NotBuilt
+form world UstringLen args h frames = Answers (of_texts ustring.len args h)
+form world UstringSub args h frames = Answers (of_texts ustring.sub args h)
+form world UstringIsUtf8 args h frames = Answers (of_texts ustring.isutf8 args h)
+form world UstringToNfc args h frames = Answers (of_texts ustring.to_nfc args h)
+form world UstringToNfd args h frames = Answers (of_texts ustring.to_nfd args h)
+form world UstringToNfkc args h frames = Answers (of_texts ustring.to_nfkc args h)
+form world UstringToNfkd args h frames = Answers (of_texts ustring.to_nfkd args h)
+form world TextTrim args h frames = Answers (of_texts texts.trim args h)
+form world TextSplit args h frames = Answers (of_texts texts.split args h)
 form world TextGsplit args h frames = NotBuilt
-form world TextEncode args h frames = NotBuilt
-form world TextDecode args h frames = NotBuilt
-form world TextListToText args h frames = NotBuilt
-form world TextNowiki args h frames = NotBuilt
-form world TextTag args h frames = NotBuilt
-form world TextTruncate args h frames = NotBuilt
+form world TextEncode args h frames = Answers (of_texts texts.encode args h)
+form world TextDecode args h frames = Answers (of_texts texts.decode args h)
+form world TextListToText args h frames = Answers (of_texts texts.list_to_text args h)
+form world TextNowiki args h frames = Answers (of_texts texts.nowiki args h)
+form world TextTag args h frames = Answers (of_texts texts.tag args h)
+form world TextTruncate args h frames = Answers (of_texts texts.truncate args h)
 form world HtmlCreate args h frames = NotBuilt
 form world HtmlNode args h frames = NotBuilt
 form world HtmlWikitext args h frames = NotBuilt

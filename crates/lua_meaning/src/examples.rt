@@ -8,6 +8,7 @@ ghost use Rattle.lua_meaning.specs.ExampleFunctions.{AllFunctions};
 ghost use Rattle.lua_meaning.specs.ExampleHandlers.{AllHandlers};
 ghost use Rattle.lua_meaning.specs.ExampleFrames.{AllFrames};
 ghost use Rattle.lua_meaning.specs.ExampleModules.{AllModules};
+ghost use Rattle.lua_meaning.specs.ExampleLibraries.{AllLibraries};
 
 /// Charges of whole runs, worked out by hand, and how runs end.
 pub fn charges()
@@ -47,4 +48,9 @@ pub fn frames()
 /// Modules that ask for modules, and data modules.
 pub fn modules()
     ensures { AllModules }
+{}
+
+/// The libraries, through the environment.
+pub fn libraries()
+    ensures { AllLibraries }
 {}

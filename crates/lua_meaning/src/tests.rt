@@ -22,5 +22,6 @@ fn laws_are_called(_rt: HostRuntime) -> Result<(), Fail> {
     examples::handlers();
     examples::frames();
     examples::modules();
+    examples::libraries();
     Ok(())
 }

@@ -59,6 +59,7 @@ module _ (s t : StoreView) (l : IsLater s t) where
       name = name_later x.names.name _ h.names.name;
       text = name_later x.names.text _ h.names.text;
       content = name_later x.names.content _ h.names.content;
+      attrs = name_later x.names.attrs _ h.names.attrs;
     };
   }
 

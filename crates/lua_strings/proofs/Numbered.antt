@@ -7,7 +7,7 @@ use Rattle.lua_meaning.specs.Scope.{Bytes}
 use Rattle.lua_meaning.specs.Values.{number_in}
 use Rattle.lua_meaning.specs.Messages.{bad_argument, expected}
 use Rattle.lua_meaning.specs.Arguments.{Argument, some_number}
-use Rattle.lua_strings.specs.Checks.{out_of_range, code_in, and_those, codes_from, numbers_from}
+use Rattle.lua_meaning.specs.Checks.{out_of_range, code_in, and_those, codes_from, numbers_from}
 
 -- those that were read, in front of those that are still to read
 abbrev pub behind : {A : Type 0} → List A → Argument (List A) → Argument (List A)

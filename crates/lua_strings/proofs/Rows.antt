@@ -5,7 +5,7 @@ use Rattle.lua_number.specs.Numerals.{decimal_of, numeral_of, trimmed, digits_of
 use Rattle.lua_format.specs.Directives.{directive_of}
 use Rattle.lua_format.specs.Layouts.{filled}
 use Rattle.lua_format.specs.Format.{formatted}
-use Rattle.lua_strings.specs.Examples.{Parts, Made, Searched, LaidOut, Calculated, Walked}
+use Rattle.lua_strings.specs.Examples.{Parts, Made, Searched, LaidOut, Calculated}
 
 pub parts : Parts
 unfolding digits trimmed numeral_of decimal_of digits_of_base read_number_of read_in_base_of formatted directive_of filled
@@ -26,7 +26,3 @@ laid_out = (refl, refl, refl, refl, refl, refl)
 pub calculated : Calculated
 unfolding digits trimmed numeral_of decimal_of digits_of_base read_number_of read_in_base_of formatted directive_of filled
 calculated = (refl, refl, refl, refl, refl, refl, refl, refl, refl, refl, refl, refl)
-
-pub walked : Walked
-unfolding digits trimmed numeral_of decimal_of digits_of_base read_number_of read_in_base_of formatted directive_of filled
-walked = refl

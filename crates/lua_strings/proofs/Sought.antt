@@ -19,7 +19,7 @@ use Rattle.lua_meaning.specs.Arguments.{Plain, costs}
 use Rattle.lua_basic.specs.declared.stop.Stop.TheVariants as stop
 use Rattle.lua_basic.specs.Seen.{Paid}
 use Rattle.lua_store.specs.Seen.{StoreView}
-use Rattle.lua_strings.specs.Searches.{place_value, captures_given, find_values, answered, by_pattern, plain_values}
+use Rattle.lua_meaning.specs.Searches.{place_value, captures_given, find_values, answered, by_pattern, plain_values}
 use Rattle.lua_strings.specs.Found.{IsCovered}
 
 -- a match is the one that the answer tells

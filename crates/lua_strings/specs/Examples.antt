@@ -1,15 +1,14 @@
 -- EXAMPLES of calls, with what they give or raise and what they cost. Results are those of Lua 5.1; charges are counted by hand.
-use Rattle.std.specs.Prelude.{◌≡◌, ℕ, zero, suc, ◌+◌, pos, negsuc, true, List, [], ◌∷◌, codes}
+use Rattle.std.specs.Prelude.{◌≡◌, ℕ, zero, ◌+◌, pos, negsuc, true, List, [], ◌∷◌, codes}
 use Rattle.lua_heap.specs.Proc.{Proc}
-use Rattle.lua_heap.specs.Value.{Value, Nil, Truth, Number, Text, Table, Closure}
+use Rattle.lua_heap.specs.Value.{Value, Nil, Truth, Number, Text, Table}
 use Rattle.lua_heap.specs.Heap.{Heap, empty}
 use Rattle.lua_meaning.specs.Scope.{Bytes}
-use Rattle.lua_meaning.specs.Arguments.{Plain, PlainEnd, Gives as Given, costs, fails, with_charge}
-use Rattle.lua_strings.specs.Strings.{byte, char_of, len, lower, upper, rep, reverse, sub}
-use Rattle.lua_strings.specs.Searches.{find, match_from}
-use Rattle.lua_strings.specs.Formats.{format}
-use Rattle.lua_strings.specs.Iterators.{gmatch, gmatch_step}
-use Rattle.lua_strings.specs.Numbers.{abs, ceil, floor, fmod, max, min, pow}
+use Rattle.lua_meaning.specs.Arguments.{Plain, costs, fails, with_charge}
+use Rattle.lua_meaning.specs.Strings.{byte, char_of, len, lower, upper, rep, reverse, sub}
+use Rattle.lua_meaning.specs.Searches.{find, match_from}
+use Rattle.lua_meaning.specs.Formats.{format}
+use Rattle.lua_meaning.specs.Numbers.{abs, ceil, floor, fmod, max, min, pow}
 
 abbrev here : Heap Proc
 here = empty
@@ -95,23 +94,3 @@ Calculated =
     × Raises (max [] here) 0 (codes "bad argument #1 to 'max' (number expected, got no value)")
     × Raises (min (num 1 ∷ num 2 ∷ Nil ∷ []) here) 0 (codes "bad argument #3 to 'min' (number expected, got nil)")
     × Gives (pow (num 2 ∷ num 10 ∷ []) here) 0 (num 1024 ∷ [])
-
--- `gmatch` makes a closure, and its first steps give these, with the sum of their charges
-abbrev and_then : ℕ → PlainEnd → List PlainEnd × ℕ → List PlainEnd × ℕ
-and_then charge end (ends, more) = (end ∷ ends, charge + more)
-
-abbrev steps_of : ℕ → Heap Proc → List PlainEnd × ℕ
-steps_of zero h = ([], 0)
-steps_of (suc n) h = let p = gmatch_step (Closure 0 ∷ []) h in and_then p.charge p.end (steps_of n p.heap)
-
-abbrev walked : ℕ → Bytes → Bytes → List PlainEnd × ℕ
-walked n s pattern = let p = gmatch (text s ∷ text pattern ∷ []) here in and_then p.charge p.end (steps_of n p.heap)
-
--- `b*` in `abbc`: an empty match, `bb`, and two empty ones; 5 readings of 2 bytes, 5 comparisons (a; b, b, c; c; none behind the last), and 2
--- bytes that are given, beside 8 for the closure
-abbrev pub Walked : Type 0
-Walked =
-    walked 5 (codes "abbc") (codes "b*") ≡ (
-      Given (Closure 0 ∷ []) ∷ Given (text [] ∷ []) ∷ Given (text (codes "bb") ∷ []) ∷ Given (text [] ∷ []) ∷ Given (text [] ∷ []) ∷ Given (Nil ∷ []) ∷ [],
-      25,
-    )

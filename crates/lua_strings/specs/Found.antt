@@ -13,9 +13,9 @@ use Rattle.lua_meaning.specs.Scope.{Bytes}
 use Rattle.lua_meaning.specs.Messages.{bad_argument, expected}
 use Rattle.lua_meaning.specs.Arguments.{Argument}
 use Rattle.lua_basic.specs.Seen.{values_seen}
-use Rattle.lua_strings.specs.Checks.{out_of_range}
-use Rattle.lua_strings.specs.Numbers.{itself}
-use Rattle.lua_strings.specs.Searches as searches
+use Rattle.lua_meaning.specs.Checks.{out_of_range}
+use Rattle.lua_meaning.specs.Numbers.{itself}
+use Rattle.lua_meaning.specs.Searches as searches
 use Rattle.lua_strings.specs.declared.arguments.NumbersRead.{NumbersRead}
 use Rattle.lua_strings.specs.declared.arguments.NumbersRead.TheVariants as numbers
 use Rattle.lua_strings.specs.declared.arguments.CodesRead.{CodesRead}

@@ -1,9 +1,3 @@
-pub mod Checks
-pub mod Strings
-pub mod Searches
-pub mod Formats
-pub mod Iterators
-pub mod Numbers
 pub mod Table
 pub mod Costs
 pub mod Found

@@ -1,14 +1,18 @@
 -- THE FUNCTIONS of `string` and `math` that call back nobody and make no iterator, and what each gives.
-use Rattle.std.specs.Prelude.{List, Option, Some, None}
+use Rattle.std.specs.Prelude.{◌≡◌, List, Option, Some, None}
+use Rattle.lua_heap.specs.Proc.{Proc}
 use Rattle.lua_heap.specs.Value.{Value}
 use Rattle.lua_heap.specs.Heap.{Heap}
 use Rattle.lua_heap.specs.declared.library.Library.{Library}
 use Rattle.lua_heap.specs.declared.library.Library.TheVariants.{StringByte, StringChar, StringFind, StringMatch, StringFormat, StringLen, StringLower, StringUpper, StringRep, StringReverse, StringSub, MathAbs, MathCeil, MathFloor, MathFmod, MathMax, MathMin, MathPow}
+use Rattle.lua_meaning.specs.World.{World}
+use Rattle.lua_meaning.specs.Acts.{Frame}
 use Rattle.lua_meaning.specs.Arguments.{Plain}
-use Rattle.lua_strings.specs.Strings as strings
-use Rattle.lua_strings.specs.Searches as searches
-use Rattle.lua_strings.specs.Formats as formats
-use Rattle.lua_strings.specs.Numbers as numbers
+use Rattle.lua_meaning.specs.Strings as strings
+use Rattle.lua_meaning.specs.Searches as searches
+use Rattle.lua_meaning.specs.Formats as formats
+use Rattle.lua_meaning.specs.Numbers as numbers
+use Rattle.lua_meaning.specs.Libraries.{Answers, form}
 use Rattle.lua_strings.specs.declared.table.StringFunction.{StringFunction}
 use Rattle.lua_strings.specs.declared.table.StringFunction.TheVariants as own
 
@@ -52,3 +56,8 @@ answer_of own.Fmod args h = numbers.fmod args h
 answer_of own.Max args h = numbers.max args h
 answer_of own.Min args h = numbers.min args h
 answer_of own.Pow args h = numbers.pow args h
+
+-- each is a line of the table of the library
+abbrev pub AreInTable : Type 0
+AreInTable = (which : Library) (f : StringFunction) → string_function_in which ≡ Some f → (world : World) (args : List Value) (h : Heap Proc) (frames : List Frame)
+    → form world which args h frames ≡ Answers (answer_of f args h)

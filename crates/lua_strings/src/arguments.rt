@@ -5,7 +5,7 @@ ghost use Rattle.lua_meaning.specs.Scope.{Bytes};
 ghost use Rattle.lua_store.specs.Parts.{IsLater};
 ghost use Rattle.lua_string.specs.Texts.{is_code};
 ghost use Rattle.lua_basic.specs.Seen.{values_seen, AllOf, StopOf, Refuses};
-ghost use Rattle.lua_strings.specs.Checks.{codes_from, numbers_from};
+ghost use Rattle.lua_meaning.specs.Checks.{codes_from, numbers_from};
 ghost use Rattle.lua_strings.specs.Found.{found_numbers, found_codes};
 
 use crate::messages::{refuse, refuse_kind};

@@ -7,7 +7,7 @@ ghost use Rattle.lua_store.specs.Seen.{StoreView, seen};
 ghost use Rattle.lua_store.specs.Parts.{IsOf, IsLater};
 ghost use Rattle.lua_store.specs.declared.value.Value.TheVariants as own;
 ghost use Rattle.lua_basic.specs.Seen.{values_seen, AllOf};
-ghost use Rattle.lua_strings.specs.Searches as meaning;
+ghost use Rattle.lua_meaning.specs.Searches as meaning;
 
 use lua_basic::values::{pair, single};
 use lua_pattern::{Capture, Match};

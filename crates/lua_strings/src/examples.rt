@@ -1,5 +1,5 @@
 //! Worked examples: calls, with what they give or raise and what they cost. Where Lua 5.1 has the same numbers, the results are its own.
-ghost use Rattle.lua_strings.specs.Examples.{Parts, Made, Searched, LaidOut, Calculated, Walked};
+ghost use Rattle.lua_strings.specs.Examples.{Parts, Made, Searched, LaidOut, Calculated};
 
 /// Texts and their parts.
 pub fn parts()
@@ -24,9 +24,4 @@ pub fn laid_out()
 /// Numbers.
 pub fn calculated()
     ensures { Calculated }
-{}
-
-/// Steps of `gmatch`, which is a definition without code yet.
-pub fn walked()
-    ensures { Walked }
 {}

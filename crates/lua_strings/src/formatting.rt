@@ -7,8 +7,8 @@ ghost use Rattle.lua_meaning.specs.Arguments.{fails};
 ghost use Rattle.lua_store.specs.Seen.{seen};
 ghost use Rattle.lua_store.specs.Parts.{IsOf, IsLater};
 ghost use Rattle.lua_basic.specs.Seen.{values_seen, AllOf, Stops, StopOf, Paid, AnswerOf};
-ghost use Rattle.lua_strings.specs.Checks.{out_of_range};
-ghost use Rattle.lua_strings.specs.Formats as meaning;
+ghost use Rattle.lua_meaning.specs.Checks.{out_of_range};
+ghost use Rattle.lua_meaning.specs.Formats as meaning;
 
 use crate::messages::{refuse, refuse_kind};
 use crate::paying::{split_values, take, take_texts, text_value};

@@ -1,7 +1,7 @@
 //! The functions of `string` and `math` that call back nobody and make no iterator, over the store of a page (manual 5.4, 5.6).
 //!
-//! What they give stands in `specs/Strings.antt`, `specs/Searches.antt`, `specs/Formats.antt` and `specs/Numbers.antt`, with their checks of
-//! arguments in `specs/Checks.antt`. Read these first, then `call`.
+//! What they give stands in `lua_meaning`: `specs/Strings.antt`, `specs/Searches.antt`, `specs/Formats.antt` and `specs/Numbers.antt`, with
+//! their checks of arguments in `specs/Checks.antt`. Read these first, then `call`.
 //!
 //! - `table`: which functions they are
 //! - `paying`: steps that are taken, and texts that are paid for

@@ -4,7 +4,7 @@ ghost use Rattle.lua_meaning.specs.Arguments.{gives_text};
 ghost use Rattle.lua_store.specs.Parts.{IsLater};
 ghost use Rattle.lua_string.specs.Texts.{rep_of};
 ghost use Rattle.lua_basic.specs.Seen.{values_seen, AllOf, Free, Paid, AnswerOf};
-ghost use Rattle.lua_strings.specs.Strings as meaning;
+ghost use Rattle.lua_meaning.specs.Strings as meaning;
 ghost use Rattle.lua_strings.specs.Found.{change_of};
 
 use crate::arguments::all_codes;

@@ -4,7 +4,7 @@ ghost use Rattle.lua_meaning.specs.Messages as meaning;
 ghost use Rattle.lua_meaning.specs.Arguments.{fails};
 ghost use Rattle.lua_store.specs.Parts.{IsLater};
 ghost use Rattle.lua_basic.specs.Seen.{values_seen, Stops, StopOf};
-ghost use Rattle.lua_strings.specs.Searches.{malformed};
+ghost use Rattle.lua_meaning.specs.Checks.{malformed};
 
 use itoa::Buffer;
 use lua_basic::Stop;

@@ -4,7 +4,7 @@ ghost use Rattle.lua_number.specs.declared.arithmetic.NumberFault.{NumberFault a
 ghost use Rattle.lua_meaning.specs.Messages.{number_fault};
 ghost use Rattle.lua_store.specs.Parts.{IsLater};
 ghost use Rattle.lua_basic.specs.Seen.{values_seen, AllOf, Free, AnswerOf};
-ghost use Rattle.lua_strings.specs.Numbers as meaning;
+ghost use Rattle.lua_meaning.specs.Numbers as meaning;
 ghost use Rattle.lua_strings.specs.Found.{one_of, two_of, all_of};
 
 use crate::arguments::all_numbers;

@@ -4,7 +4,7 @@ ghost use Rattle.lua_store.specs.Seen.{StoreView};
 ghost use Rattle.lua_store.specs.Parts.{IsLater};
 ghost use Rattle.lua_store.specs.declared.value.Value.TheVariants as own;
 ghost use Rattle.lua_basic.specs.Seen.{values_seen, AllOf, Paid, AnswerOf};
-ghost use Rattle.lua_strings.specs.Strings as meaning;
+ghost use Rattle.lua_meaning.specs.Strings as meaning;
 
 use crate::paying::{give_text, take};
 use lua_basic::Stop;

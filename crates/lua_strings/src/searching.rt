@@ -12,7 +12,7 @@ ghost use Rattle.lua_meaning.specs.Arguments.{costs};
 ghost use Rattle.lua_store.specs.Seen.{StoreView};
 ghost use Rattle.lua_store.specs.Parts.{IsLater};
 ghost use Rattle.lua_basic.specs.Seen.{values_seen, AllOf, Paid, AnswerOf};
-ghost use Rattle.lua_strings.specs.Searches as meaning;
+ghost use Rattle.lua_meaning.specs.Searches as meaning;
 ghost use Rattle.lua_strings.specs.Found.{bytes_of, values_of, IsCovered};
 
 use crate::captures::{captures_size, find_values, match_size, match_values};

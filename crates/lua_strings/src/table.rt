@@ -1,6 +1,6 @@
 //! Which functions of the library they are.
 ghost use Rattle.std.specs.Prelude.{◌≡◌};
-ghost use Rattle.lua_strings.specs.Table.{string_function_in};
+ghost use Rattle.lua_strings.specs.Table.{string_function_in, AreInTable};
 
 use lua_store::Library;
 
@@ -53,3 +53,8 @@ pub fn string_function(which: Library) -> Option<StringFunction>
         _ => None,
     }
 }
+
+/// What each gives is what the meaning says of it.
+pub fn string_functions_are_in_the_table()
+    ensures { AreInTable }
+{}

@@ -6,7 +6,7 @@ use Rattle.lua_meaning.specs.Scope.{Bytes}
 use Rattle.lua_meaning.specs.Values.{first}
 use Rattle.lua_meaning.specs.Messages.{bad_argument, expected}
 use Rattle.lua_meaning.specs.Arguments.{a_text}
-use Rattle.lua_tables.specs.ArgumentChecks.{text_or, a_nil}
+use Rattle.lua_meaning.specs.Checks.{text_or, a_nil}
 
 pub left_out : (default : Bytes) (n : ℕ) (function : Bytes) (given : List Value) → is_nil (first given) ≡ true → text_or default n function given ≡ Ok default
 left_out default n function [] h = refl

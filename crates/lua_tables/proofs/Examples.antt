@@ -10,7 +10,7 @@ use Rattle.lua_heap.specs.Table.{Entries}
 use Rattle.lua_heap.specs.Heap.{Heap}
 use Rattle.lua_meaning.specs.Scope.{Bytes}
 use Rattle.lua_meaning.specs.Arguments.{Plain, Gives, Fails}
-use Rattle.lua_tables.specs.TableLibrary.{concat, insert, maxn, remove, sort, binary_digits}
+use Rattle.lua_meaning.specs.TableLibrary.{concat, insert, maxn, remove, sort, binary_digits}
 
 -- a heap with one table, which can be written or not
 abbrev heap : Entries → Heap ℕ

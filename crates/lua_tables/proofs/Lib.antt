@@ -1,3 +1,4 @@
+pub mod Lines
 pub mod Checked
 pub mod Taken
 pub mod Put
@@ -7,4 +8,3 @@ pub mod Orders
 pub mod Listed
 pub mod Moved
 pub mod Examples
-pub mod TableAgree

@@ -20,7 +20,7 @@ use Rattle.lua_store.specs.Seen.{StoreView, seen}
 use Rattle.lua_basic.specs.Seen.{values_seen, ends}
 use Rattle.lua_basic.proofs.Lists.{seen-with}
 use Rattle.lua_tables.specs.Walked.{walk_charge}
-use Rattle.lua_tables.specs.TableLibrary.{Walk, PassedAll, Refused, walk, may_stand, wanted_kind, put_from, put_charge, insert_fitting, insert_values, insert_at, append, value_cmp, in_order, binary_digits, order_charge, sort_values, sort_walked, sort_table}
+use Rattle.lua_meaning.specs.TableLibrary.{Walk, PassedAll, Refused, walk, may_stand, wanted_kind, put_from, put_charge, insert_fitting, insert_values, insert_at, append, value_cmp, in_order, binary_digits, order_charge, sort_values, sort_walked, sort_table}
 use Rattle.lua_tables.specs.Moves.{last_put}
 use Rattle.lua_tables.proofs.Put.{in_count, count_in, count_from_one, length-entries, there, put_there, put_inserted}
 use Rattle.lua_tables.proofs.Orders.{length-in_order}

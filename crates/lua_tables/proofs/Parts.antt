@@ -11,7 +11,7 @@ use Rattle.lua_store.specs.declared.value.Value.{Value}
 use Rattle.lua_store.specs.Seen.{seen}
 use Rattle.lua_basic.specs.Seen.{values_seen}
 use Rattle.lua_tables.specs.Walked.{walk_charge}
-use Rattle.lua_tables.specs.TableLibrary.{Walk, PassedAll, Refused, one_passed, walk, is_part, part, behind_parts, joined, invalid_item, concat_values, concat_between}
+use Rattle.lua_meaning.specs.TableLibrary.{Walk, PassedAll, Refused, one_passed, walk, is_part, part, behind_parts, joined, invalid_item, concat_values, concat_between}
 
 -- one more part stands behind the others
 pub parts-length : (texts : List (List ℕ)) (sep : Bytes) (rest more : List Value) (v : Value) → rest ≡ v ∷ more

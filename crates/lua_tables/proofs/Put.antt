@@ -15,7 +15,7 @@ use Rattle.lua_store.specs.Parts.{IsOf, IsLater}
 use Rattle.lua_store.proofs.Lists.{all-to}
 use Rattle.lua_store.proofs.Later.{of-later, seen-later, later-itself, later-then}
 use Rattle.lua_basic.specs.Seen.{values_seen, AllOf}
-use Rattle.lua_tables.specs.TableLibrary.{put_from, put_charge}
+use Rattle.lua_meaning.specs.TableLibrary.{put_from, put_charge}
 use Rattle.lua_tables.specs.Moves.{last_put}
 
 -- WHAT A SET LEAVES

@@ -17,7 +17,7 @@ use Rattle.lua_heap.specs.Proc.{Proc}
 use Rattle.lua_meaning.specs.Arguments.{Plain}
 use Rattle.lua_basic.proofs.Lists.{all-with, seen-with}
 use Rattle.lua_basic.proofs.Counts.{entry-read}
-use Rattle.lua_tables.specs.TableLibrary.{Walk, PassedAll, Refused, one_passed, walk, greater_key, greatest_key}
+use Rattle.lua_meaning.specs.TableLibrary.{Walk, PassedAll, Refused, one_passed, walk, greater_key, greatest_key}
 use Rattle.lua_tables.specs.declared.walking.Walked.{Walked}
 use Rattle.lua_tables.specs.declared.walking.Walked.TheVariants as walked
 use Rattle.lua_tables.specs.Paying.{IsTaken, Takes}

@@ -4,7 +4,7 @@ use Rattle.wk_base.specs.declared.left.Left.{Left}
 use Rattle.lua_heap.specs.Table.{Entries}
 use Rattle.lua_basic.specs.declared.stop.Stop.{Stop}
 use Rattle.lua_basic.specs.declared.stop.Stop.TheVariants as stop
-use Rattle.lua_tables.specs.TableLibrary.{greatest_key}
+use Rattle.lua_meaning.specs.TableLibrary.{greatest_key}
 use Rattle.lua_tables.specs.Paying.{IsTaken, IsOver}
 
 abbrev pub Counts : Entries → Left → Left → Result ℤ Stop → Type 0

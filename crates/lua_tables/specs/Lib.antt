@@ -1,6 +1,4 @@
-pub mod ArgumentChecks
-pub mod TableLibrary
-pub mod Group
+pub mod Table
 pub mod Paying
 pub mod Kinds
 pub mod Walked

@@ -7,7 +7,7 @@ use Rattle.lua_store.specs.Parts.{IsOf}
 use Rattle.lua_basic.specs.declared.stop.Stop.{Stop}
 use Rattle.lua_basic.specs.declared.stop.Stop.TheVariants as stop
 use Rattle.lua_basic.specs.Seen.{values_seen, AllOf}
-use Rattle.lua_tables.specs.TableLibrary.{Walk, PassedAll, Refused, is_part, may_stand}
+use Rattle.lua_meaning.specs.TableLibrary.{Walk, PassedAll, Refused, is_part, may_stand}
 use Rattle.lua_tables.specs.declared.walking.Wanted.{Wanted}
 use Rattle.lua_tables.specs.declared.walking.Wanted.TheVariants as wanted
 use Rattle.lua_tables.specs.declared.walking.Walked.{Walked}

@@ -1,27 +1,18 @@
 //! A function of `table` is called.
 ghost use Rattle.lua_store.specs.Parts.{IsLater};
 ghost use Rattle.lua_basic.specs.Seen.{values_seen, AllOf, Paid, AnswerOf};
-ghost use Rattle.lua_tables.specs.Group.{answer_of};
+ghost use Rattle.lua_tables.specs.Table.{answer_of};
 
 use crate::counting::maxn;
 use crate::inserting::insert;
 use crate::joining::concat;
 use crate::removing::remove;
 use crate::sorting::sort;
+use crate::table::TableFunction;
 use lua_basic::Stop;
 use lua_store::{Store, Value};
 use std::alloc::Global;
 use wk_base::{Left, List};
-
-/// A function of `table` (manual 5.5).
-#[derive(Clone, Copy, Debug, PartialEq, Eq)]
-pub enum TableFunction {
-    Concat,
-    Insert,
-    Maxn,
-    Remove,
-    Sort,
-}
 
 /// What a function of `table` gives for these arguments, after its charge.
 ///

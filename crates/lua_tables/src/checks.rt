@@ -4,7 +4,7 @@ ghost use Rattle.lua_heap.specs.Value as kind;
 ghost use Rattle.lua_store.specs.Parts.{IsLater};
 ghost use Rattle.lua_basic.specs.Arguments.{text_bytes};
 ghost use Rattle.lua_basic.specs.Seen.{values_seen, AllOf, StopOf, Refuses};
-ghost use Rattle.lua_tables.specs.ArgumentChecks as meaning;
+ghost use Rattle.lua_meaning.specs.Checks as meaning;
 
 use lua_basic::Stop;
 use lua_basic::arguments::a_text;

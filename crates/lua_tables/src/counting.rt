@@ -5,7 +5,7 @@ ghost use Rattle.lua_store.specs.Seen.{seen};
 ghost use Rattle.lua_store.specs.Parts.{IsTableOf, IsLater};
 ghost use Rattle.lua_basic.specs.Seen.{values_seen, AllOf, Paid, AnswerOf};
 ghost use Rattle.lua_tables.specs.Counted.{Counts};
-ghost use Rattle.lua_tables.specs.TableLibrary as meaning;
+ghost use Rattle.lua_meaning.specs.TableLibrary as meaning;
 
 use crate::paying::take;
 use lua_basic::Stop;

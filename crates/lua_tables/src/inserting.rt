@@ -6,7 +6,7 @@ ghost use Rattle.lua_meaning.specs.Basic.{count_between, entries_from};
 ghost use Rattle.lua_store.specs.Seen.{seen};
 ghost use Rattle.lua_store.specs.Parts.{IsOf, IsTableOf, IsLater};
 ghost use Rattle.lua_basic.specs.Seen.{values_seen, AllOf, Paid, AnswerOf};
-ghost use Rattle.lua_tables.specs.TableLibrary as meaning;
+ghost use Rattle.lua_meaning.specs.TableLibrary as meaning;
 ghost use Rattle.lua_tables.specs.Moves.{last_put};
 
 use crate::paying::take_both;

@@ -7,7 +7,7 @@ ghost use Rattle.lua_store.specs.Parts.{IsOf, IsTableOf, IsLater};
 ghost use Rattle.lua_basic.specs.Seen.{values_seen, AllOf, Paid, Stops, StopOf, AnswerOf};
 ghost use Rattle.lua_basic.specs.Arguments.{text_bytes};
 ghost use Rattle.lua_tables.specs.Paying.{Takes};
-ghost use Rattle.lua_tables.specs.TableLibrary as meaning;
+ghost use Rattle.lua_meaning.specs.TableLibrary as meaning;
 
 use crate::checks::text_or;
 use crate::paying::take_both;

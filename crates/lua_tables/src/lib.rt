@@ -1,6 +1,6 @@
 //! The functions of Lua's `table` (manual 5.5), over the store of a page: `concat`, `insert`, `maxn`, `remove`, `sort`.
 //!
-//! Read `specs/TableLibrary.antt` first: what each function gives, and its charge.
+//! Read `specs/TableLibrary.antt` of `lua_meaning` first: what each function gives, and its charge.
 //!
 //! - `checks`: further arguments of functions
 //! - `paying`: charges of several parts
@@ -12,7 +12,8 @@
 //! - `removing`: `remove`
 //! - `ordering`: values are put in order
 //! - `sorting`: `sort`
-//! - `call`: a function of the group is called
+//! - `table`: which functions they are
+//! - `call`: one of them is called
 #![tactic(auto)]
 
 pub mod call;
@@ -25,8 +26,10 @@ pub mod paying;
 pub mod places;
 pub mod removing;
 pub mod sorting;
+pub mod table;
 #[cfg(test)]
 mod tests;
 pub mod walking;
 
-pub use call::{TableFunction, table_call};
+pub use call::table_call;
+pub use table::{TableFunction, table_function};

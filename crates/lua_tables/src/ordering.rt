@@ -9,7 +9,7 @@ ghost use Rattle.lua_store.specs.Parts.{IsOf, IsLater};
 ghost use Rattle.lua_store.specs.Seen.{StoreView, seen};
 ghost use Rattle.lua_basic.specs.Seen.{values_seen, AllOf};
 ghost use Rattle.lua_tables.specs.Kinds as kinds;
-ghost use Rattle.lua_tables.specs.TableLibrary as meaning;
+ghost use Rattle.lua_meaning.specs.TableLibrary as meaning;
 
 use crate::places::split;
 use crate::walking::is_number;

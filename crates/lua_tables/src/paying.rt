@@ -1,7 +1,7 @@
 //! Charges of several parts.
 ghost use Rattle.std.specs.Prelude.{◌≡◌, ◌+◌, ◌^◌, ◌<◌};
 ghost use Rattle.lua_tables.specs.Paying.{Takes};
-ghost use Rattle.lua_tables.specs.TableLibrary as meaning;
+ghost use Rattle.lua_meaning.specs.TableLibrary as meaning;
 
 use lua_basic::Stop;
 use lua_basic::stop::pay;

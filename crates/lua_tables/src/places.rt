@@ -8,7 +8,7 @@ ghost use Rattle.lua_meaning.specs.Basic.{set_charge, entries_from, count_betwee
 ghost use Rattle.lua_store.specs.Seen.{seen};
 ghost use Rattle.lua_store.specs.Parts.{IsOf, IsTableOf, IsLater};
 ghost use Rattle.lua_basic.specs.Seen.{values_seen, AllOf};
-ghost use Rattle.lua_tables.specs.TableLibrary as meaning;
+ghost use Rattle.lua_meaning.specs.TableLibrary as meaning;
 
 use lua_basic::values::is_nil;
 use lua_store::{Store, TableId, Value};

@@ -5,7 +5,7 @@ ghost use Rattle.lua_heap.specs.Table as entries;
 ghost use Rattle.lua_meaning.specs.Basic.{count_between, entries_from};
 ghost use Rattle.lua_store.specs.Parts.{IsTableOf, IsLater};
 ghost use Rattle.lua_basic.specs.Seen.{values_seen, AllOf, Paid, AnswerOf};
-ghost use Rattle.lua_tables.specs.TableLibrary as meaning;
+ghost use Rattle.lua_meaning.specs.TableLibrary as meaning;
 
 use crate::paying::take_both;
 use crate::places::{count_to, put_from, read_onto, value_behind};

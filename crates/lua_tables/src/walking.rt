@@ -4,7 +4,7 @@ ghost use Rattle.lua_heap.specs.Heap.{table_at};
 ghost use Rattle.lua_meaning.specs.Basic.{entries_from, count_between};
 ghost use Rattle.lua_store.specs.Seen.{seen};
 ghost use Rattle.lua_store.specs.Parts.{IsTableOf};
-ghost use Rattle.lua_tables.specs.TableLibrary as meaning;
+ghost use Rattle.lua_meaning.specs.TableLibrary as meaning;
 ghost use Rattle.lua_tables.specs.Walked.{test_of, Walks};
 
 use crate::paying::take;

@@ -1,4 +1,4 @@
-//! Texts that methods of frames make, over the store of a page: tags of HTML (Scribunto, `frame:extensionTag`).
+//! Tags of HTML over the store of a page (Scribunto, `frame:extensionTag`, `mw.text.tag`).
 //!
 //! What a tag is stands in `lua_meaning` (`specs/Tag`). Read `specs/Written.antt` first: what is written of attributes that are read.
 //!

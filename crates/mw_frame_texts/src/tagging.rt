@@ -1,4 +1,4 @@
-//! A tag of HTML as a text (Scribunto, `frame:extensionTag`).
+//! A tag of HTML as a text (Scribunto, `frame:extensionTag`, `mw.text.tag`).
 ghost use Rattle.std.specs.Prelude.{◌≡◌, List as Items, ℕ, IfSome};
 ghost use Rattle.lua_heap.specs.Heap.{Heap};
 ghost use Rattle.lua_heap.specs.Proc.{Proc};
@@ -45,7 +45,7 @@ fn give_tag(
 }
 
 /// A tag of a name, attributes and content. The name is the first of a list, if it is there.
-fn tag_of(
+pub fn tag_of(
     alloc: Global,
     store: &mut Store,
     left: &mut Left,

@@ -22,6 +22,7 @@ names_later s t n l h = record {
   name = name_later s t n.name _ l h.name;
   text = name_later s t n.text _ l h.text;
   content = name_later s t n.content _ l h.content;
+  attrs = name_later s t n.attrs _ l h.attrs;
 }
 
 pub scenes_later : ScenesStay

@@ -44,7 +44,7 @@ pub record FrameOf (s : StoreView) (f : SceneFrame) : Type 0 where
 abbrev pub FramesOf : StoreView → List SceneFrame → Type 0
 FramesOf s fs = AllByRecursion (FrameOf s) fs
 
--- the names of fields that methods read
+-- the names of fields that methods read, and `mw.text.tag`
 abbrev pub IsNameOf : StoreView → TextId → List ℕ → Type 0
 IsNameOf s id bytes = IsTextOf s id × (text_at s.texts id.at ≡ bytes)
 
@@ -54,6 +54,7 @@ pub record NamesOf (s : StoreView) (n : FieldNames) : Type 0 where
   pub name : IsNameOf s n.name (codes "name")
   pub text : IsNameOf s n.text (codes "text")
   pub content : IsNameOf s n.content (codes "content")
+  pub attrs : IsNameOf s n.attrs (codes "attrs")
 
 pub record ScenesOf (s : StoreView) (x : Scenes) : Type 0 where
   pub frames : FramesOf s (made x)

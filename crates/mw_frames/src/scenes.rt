@@ -33,7 +33,7 @@ pub struct SceneFrame {
     pub parent: Parent,
 }
 
-/// The names of the fields that methods of frames read, as texts of a store.
+/// The names of the fields that methods of frames and `mw.text.tag` read, as texts of a store.
 #[derive(Clone, Copy)]
 pub struct FieldNames {
     pub args: TextId,
@@ -41,6 +41,7 @@ pub struct FieldNames {
     pub name: TextId,
     pub text: TextId,
     pub content: TextId,
+    pub attrs: TextId,
 }
 
 /// The frames of a run by number, the names that their methods read, and a seed from which names of arguments are hashed.
@@ -62,12 +63,14 @@ fn names_in(store: &mut Store) -> Result<FieldNames, NoMemory>
     let name = store.text(b"name")?;
     let text = store.text(b"text")?;
     let content = store.text(b"content")?;
+    let attrs = store.text(b"attrs")?;
     Ok(FieldNames {
         args,
         title,
         name,
         text,
         content,
+        attrs,
     })
 }
 

@@ -12,7 +12,7 @@ use Rattle.mw_text.specs.Answers.{total}
 use Rattle.mw_text.specs.Joined.{glue, joined}
 use Rattle.mw_ustrings.proofs.ReadArguments.{refuses_through}
 use Rattle.mw_texts.specs.Costs.{glue_charge}
-use Rattle.mw_texts.specs.Texts.{item_then}
+use Rattle.lua_meaning.specs.Texts.{item_then}
 
 -- items behind those that were read
 abbrev pub onto : List Bytes → Argument (List Bytes) → Argument (List Bytes)

@@ -1,8 +1,8 @@
+pub mod Lines
 pub mod SetAnswers
 pub mod SplitAnswers
 pub mod TextTables
 pub mod NewTables
 pub mod PaidParts
 pub mod ItemLists
-pub mod TextsAgree
 mod Examples

@@ -14,7 +14,7 @@ use Rattle.lua_store.specs.Seen.{StoreView}
 use Rattle.lua_basic.specs.Seen.{values_seen, Covers}
 use Rattle.mw_frames.specs.Costs.{Took}
 use Rattle.mw_ustrings.proofs.Costs.{values_cover}
-use Rattle.mw_texts.specs.Texts.{parts_charge, text_entries, gives_parts}
+use Rattle.lua_meaning.specs.Texts.{parts_charge, text_entries, gives_parts}
 
 -- the table with the parts of a text
 pub table_covers : (h : Heap Proc) (t : StoreView) (l m : Left) (tries : ℕ) (parts : List Bytes) (vs : List Value) (id : TableId) → Took (tries + 8 + parts_charge parts) l m → vs ≡ own.Table id ∷ [] → id.at ≡ length h.tables

@@ -19,7 +19,7 @@ use Rattle.lua_store.specs.Seen.{StoreView}
 use Rattle.lua_basic.specs.declared.stop.Stop.{Stop}
 use Rattle.lua_basic.specs.Seen.{Stops, Paid}
 use Rattle.mw_ustrings.specs.Faults.{FaultStops}
-use Rattle.mw_texts.specs.Texts.{gives_tried, by_set, trims, encodes}
+use Rattle.lua_meaning.specs.Texts.{gives_tried, by_set, trims, encodes}
 
 module _ (h : Heap Proc) (s : StoreView) (l : Left) (t : StoreView) (m : Left) (r : Result (List Value) Stop) (budget : ℕ) (text : Bytes) (answer : TextAnswer)
     (gives : (tries : ℕ) (made : Bytes) → IsText budget tries made answer → Paid (gives_tried h tries made) s l t m r) where

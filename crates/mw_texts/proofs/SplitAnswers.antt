@@ -14,7 +14,7 @@ use Rattle.lua_store.specs.Seen.{StoreView}
 use Rattle.lua_basic.specs.declared.stop.Stop.{Stop}
 use Rattle.lua_basic.specs.Seen.{Stops}
 use Rattle.mw_ustrings.specs.Faults.{FaultStops}
-use Rattle.mw_texts.specs.Texts.{parts_charge, gives_parts, splits}
+use Rattle.lua_meaning.specs.Texts.{parts_charge, gives_parts, splits}
 
 bytes_within : (ts : List Bytes) → total ts ≤ parts_charge ts
 bytes_within [] = omega arith

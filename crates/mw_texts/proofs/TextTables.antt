@@ -14,7 +14,7 @@ use Rattle.lua_graph.specs.Put.{grown, filled}
 use Rattle.lua_graph.proofs.Joining.{all_set, joined}
 use Rattle.lua_graph.proofs.Distinct.{IsLive, all_set-is}
 use Rattle.lua_basic.proofs.Counts.{int-differs}
-use Rattle.mw_texts.specs.Texts.{text_entries}
+use Rattle.lua_meaning.specs.Texts.{text_entries}
 
 still : (k n : ℕ) (ts : List Bytes) → shift_entries k (text_entries n ts) ≡ text_entries n ts
 still k n [] = refl

@@ -1,4 +1,3 @@
-pub mod Texts
 pub mod Table
-pub mod Names
+pub mod Found
 pub mod Costs

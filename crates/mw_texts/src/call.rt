@@ -1,7 +1,7 @@
 //! A function of `mw.text` is called.
 ghost use Rattle.lua_store.specs.Parts.{IsLater};
 ghost use Rattle.lua_basic.specs.Seen.{values_seen, AllOf, Paid, AnswerOf};
-ghost use Rattle.mw_texts.specs.Names.{TagNamesOf};
+ghost use Rattle.mw_frames.specs.Scenes.{NamesOf};
 ghost use Rattle.mw_texts.specs.Table.{given_by, answer_of};
 
 use crate::listing::list_to_text;
@@ -9,10 +9,11 @@ use crate::plain::{decode, nowiki, truncate};
 use crate::sets::{encode, trim};
 use crate::splitting::split;
 use crate::table::TextFunction;
-use crate::tagging::{TagNames, tag};
+use crate::tagging::tag;
 use lua_basic::Stop;
 use lua_store::{Store, Value};
 use mw_frame_texts::costs::pay_given;
+use mw_frames::FieldNames;
 use std::alloc::Global;
 use wk_base::{Left, List};
 
@@ -21,12 +22,12 @@ fn give(
     alloc: Global,
     store: &mut Store,
     left: &mut Left,
-    names: TagNames,
+    names: FieldNames,
     which: TextFunction,
     args: &[Value],
 ) -> Result<List<Value>, Stop>
     requires args { AllOf store.old args.now }
-    requires names { TagNamesOf store.old names }
+    requires names { NamesOf store.old names }
     ensures answer { Paid (given_by which (values_seen store.old.texts args.now) store.old.heap) store.old left.old store.new left.new result }
     ensures of { AnswerOf store.new result }
     ensures later { IsLater store.old store.new }
@@ -52,12 +53,12 @@ pub fn text_call(
     alloc: Global,
     store: &mut Store,
     left: &mut Left,
-    names: TagNames,
+    names: FieldNames,
     which: TextFunction,
     args: &[Value],
 ) -> Result<List<Value>, Stop>
     requires args { AllOf store.old args.now }
-    requires names { TagNamesOf store.old names }
+    requires names { NamesOf store.old names }
     ensures answer { Paid (answer_of which (values_seen store.old.texts args.now) store.old.heap) store.old left.old store.new left.new result }
     ensures of { AnswerOf store.new result }
     ensures later { IsLater store.old store.new }

@@ -1,6 +1,6 @@
 //! The functions of `mw.text` that call back nobody, over the store of a page (Scribunto, Text library).
 //!
-//! What each function gives stands in `specs/Texts.antt`; begin there.
+//! What each function gives stands in `specs/Texts.antt` of `lua_meaning`; begin there.
 //!
 //! - `sets`: `trim` and `encode`
 //! - `splitting`: `split`
@@ -8,7 +8,7 @@
 //! - `plain`: `decode`, `nowiki` and `truncate`
 //! - `listing`: `listToText`
 //! - `tagging`: `tag`
-//! - `table`: the functions by name
+//! - `table`: which functions they are
 //! - `call`: a function is called
 #![tactic(auto)]
 
@@ -24,5 +24,4 @@ pub mod tagging;
 mod tests;
 
 pub use call::text_call;
-pub use table::TextFunction;
-pub use tagging::TagNames;
+pub use table::{TextFunction, text_function};

@@ -13,7 +13,7 @@ ghost use Rattle.lua_basic.specs.Arguments.{text_bytes};
 ghost use Rattle.lua_basic.specs.Seen.{values_seen, AllOf, Paid, StopOf, AnswerOf, Refuses};
 ghost use Rattle.mw_frames.specs.Costs.{Pays};
 ghost use Rattle.mw_texts.specs.Costs.{glue_charge};
-ghost use Rattle.mw_texts.specs.Texts as meaning;
+ghost use Rattle.lua_meaning.specs.Texts as meaning;
 
 use lua_basic::Stop;
 use lua_basic::arguments::{a_table, a_text};

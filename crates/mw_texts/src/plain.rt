@@ -4,7 +4,7 @@ ghost use Rattle.lua_basic.specs.Seen.{values_seen, AllOf, Paid, AnswerOf};
 ghost use Rattle.std.specs.Prelude.{IsUtf8, chars, encode_utf8_all};
 ghost use Rattle.mw_text.specs.Joined.{truncated};
 ghost use Rattle.lua_meaning.specs.Arguments.{gives_text};
-ghost use Rattle.mw_texts.specs.Texts as meaning;
+ghost use Rattle.lua_meaning.specs.Texts as meaning;
 
 use lua_basic::Stop;
 use lua_basic::arguments::{a_number, a_text};

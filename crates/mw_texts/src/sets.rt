@@ -8,7 +8,7 @@ ghost use Rattle.lua_meaning.specs.Scope.{Bytes};
 ghost use Rattle.lua_store.specs.Parts.{IsLater};
 ghost use Rattle.lua_basic.specs.Arguments.{text_bytes};
 ghost use Rattle.lua_basic.specs.Seen.{values_seen, AllOf, Paid, AnswerOf};
-ghost use Rattle.mw_texts.specs.Texts as meaning;
+ghost use Rattle.lua_meaning.specs.Texts as meaning;
 
 use lua_basic::Stop;
 use lua_basic::texts::TextIn;

@@ -4,7 +4,7 @@ ghost use Rattle.mw_text.specs.Split.{sought_by};
 ghost use Rattle.lua_store.specs.Parts.{IsLater};
 ghost use Rattle.lua_basic.specs.Seen.{values_seen, AllOf, Paid, AnswerOf};
 ghost use Rattle.mw_frames.specs.Costs.{Pays};
-ghost use Rattle.mw_texts.specs.Texts as meaning;
+ghost use Rattle.lua_meaning.specs.Texts as meaning;
 
 use crate::tables::{split_texts, text_table};
 use lua_basic::Stop;

@@ -5,7 +5,7 @@ ghost use Rattle.lua_heap.specs.Heap.{set_in};
 ghost use Rattle.lua_heap.specs.Value as kind;
 ghost use Rattle.lua_meaning.specs.Frames.{with_table};
 ghost use Rattle.lua_store.specs.Parts.{IsTableOf, IsLater};
-ghost use Rattle.mw_texts.specs.Texts as meaning;
+ghost use Rattle.lua_meaning.specs.Texts as meaning;
 
 use lua_store::{Store, TableId, Value};
 use mw_ustrings::giving::number;

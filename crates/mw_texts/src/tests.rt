@@ -3,14 +3,16 @@
 ghost use Rattle.std.specs.Prelude.{IfOk};
 ghost use Rattle.lua_store.specs.Parts.{IsOf, IsTableOf, IsLater};
 ghost use Rattle.lua_basic.specs.Seen.{AllOf, AnswerOf};
+ghost use Rattle.mw_frames.specs.Scenes.{NamesOf};
 
-use crate::{TagNames, TextFunction, text_call};
+use crate::{TextFunction, text_call};
 use bumpalo::Bump;
 use case_text::unescaped;
 use lua_basic::Stop;
 use lua_basic::unpacking::unpack;
 use lua_basic::values::first;
 use lua_store::{Store, TableId, Value};
+use mw_frames::{FieldNames, Scenes};
 use std::alloc::Global;
 use std::hash::RandomState;
 use std::io;
@@ -171,6 +173,20 @@ fn is_text(
     }
 }
 
+/// The names of the fields that `tag` reads, in a store.
+fn names_in(alloc: Global, store: &mut Store) -> Result<FieldNames, NoMemory>
+    ensures names { IfOk result (NamesOf store.new) }
+    ensures later { IsLater store.old store.new }
+{
+    match fixed_seed() {
+        Ok(seed) => {
+            let scenes = Scenes::new(alloc, store, seed)?;
+            Ok(scenes.names())
+        }
+        Err(_) => Err(NoMemory),
+    }
+}
+
 /// A call with ample steps.
 fn called(
     alloc: Global,
@@ -181,7 +197,7 @@ fn called(
     ensures { AnswerOf store.new result }
 {
     let args = values(alloc, store, args)?;
-    let names = TagNames::of(store)?;
+    let names = names_in(alloc, store)?;
     text_call(
         alloc,
         store,

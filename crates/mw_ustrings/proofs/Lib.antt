@@ -1,8 +1,8 @@
+pub mod Lines
 pub mod ReadArguments
 pub mod Values
 pub mod Utf8
 pub mod Costs
 pub mod Searches
 pub mod Points
-pub mod UstringAgree
 mod Examples

@@ -11,7 +11,7 @@ use Rattle.lua_meaning.specs.Arguments.{Argument, a_number}
 use Rattle.lua_meaning.specs.Tag.{and_then}
 use Rattle.mw_frame_texts.proofs.Charged.{refuses_first}
 use Rattle.mw_ustrings.proofs.ReadArguments.{refuses_through}
-use Rattle.mw_ustrings.specs.Ustring.{point_text, points_text}
+use Rattle.lua_meaning.specs.Ustring.{point_text, points_text}
 
 abbrev pub point_at : ℕ → List Value → Argument Bytes
 point_at n given = point_text n (a_number n (codes "char") given)

@@ -16,7 +16,8 @@ use Rattle.lua_store.specs.Seen.{StoreView}
 use Rattle.lua_basic.specs.declared.stop.Stop.{Stop}
 use Rattle.lua_basic.specs.Seen.{values_seen, Stops, Free, Paid, Refuses}
 use Rattle.lua_basic.proofs.Found.{stopped, for_nothing}
-use Rattle.mw_ustrings.specs.TextArguments.{in_utf8, utf8_text, text_or, as_some, utf8_text_if_any}
+use Rattle.lua_meaning.specs.TextArguments.{in_utf8, utf8_text, as_some, utf8_text_if_any}
+use Rattle.lua_meaning.specs.Checks.{text_or}
 
 -- AN ARGUMENT, read of a store that is as it was, is refused
 pub refuses_now : {Y : Type 0} (a b : Argument Y) (s u t : StoreView) (e : Stop) → u ≡ s → Refuses a u t e → a ≡ b → Refuses b s t e

@@ -26,8 +26,8 @@ use Rattle.lua_basic.specs.declared.stop.Stop.{Stop}
 use Rattle.lua_basic.specs.declared.stop.Stop.TheVariants as stop
 use Rattle.lua_basic.specs.Seen.{Stops}
 use Rattle.mw_ustrings.specs.Faults.{FaultStops}
-use Rattle.mw_ustrings.specs.TextArguments.{malformed}
-use Rattle.mw_ustrings.specs.Ustring.{place_value, last_value, capture_value, whole_or_captures, gives_match, searches, plain_values}
+use Rattle.lua_meaning.specs.Checks.{malformed}
+use Rattle.lua_meaning.specs.Ustring.{place_value, last_value, capture_value, whole_or_captures, gives_match, searches, plain_values}
 
 -- a match by its parts
 same_match : {a b c d : ℕ} {cs ds : List Capture} → a ≡ b → c ≡ d → cs ≡ ds

@@ -12,7 +12,7 @@ use Rattle.lua_heap.specs.Value.{Nil, Number}
 use Rattle.lua_meaning.specs.Scope.{Bytes}
 use Rattle.lua_meaning.specs.Arguments.{gives_text}
 use Rattle.mw_ustrings.specs.Forms.{form_given}
-use Rattle.mw_ustrings.specs.Ustring.{in_form, length_in}
+use Rattle.lua_meaning.specs.Ustring.{in_form, length_in}
 
 pub test_agrees : {A B : Type 0} (bs : List ℕ) (P : A → Type 0) (Q : B → Type 0) (r : Result A B)
     → MatchResult r (λ a. P a × IsUtf8 bs) (λ b. ¬ (IsUtf8 bs) × Q b) → is_ok r ≡ is_utf8 bs

@@ -7,7 +7,7 @@ use Rattle.lua_store.specs.Seen.{StoreView}
 use Rattle.lua_basic.specs.declared.stop.Stop.{Stop}
 use Rattle.lua_basic.specs.declared.stop.Stop.TheVariants as stop
 use Rattle.lua_basic.specs.Seen.{Stops}
-use Rattle.mw_ustrings.specs.TextArguments.{malformed}
+use Rattle.lua_meaning.specs.Checks.{malformed}
 
 abbrev pub FaultStops : StoreView → StoreView → PatternFault → Stop → Type 0
 FaultStops s t (fault.At n) e = Stops (fails s.heap (malformed n)) t e

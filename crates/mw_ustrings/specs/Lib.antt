@@ -1,5 +1,3 @@
-pub mod TextArguments
-pub mod Ustring
 pub mod Table
 pub mod Faults
 pub mod Forms

@@ -8,7 +8,8 @@ ghost use Rattle.lua_store.specs.Parts.{IsLater};
 ghost use Rattle.lua_basic.specs.Arguments.{text_bytes};
 ghost use Rattle.lua_basic.specs.Seen.{values_seen, AllOf, Stops, StopOf, Refuses};
 ghost use Rattle.mw_ustrings.specs.Faults.{FaultStops};
-ghost use Rattle.mw_ustrings.specs.TextArguments as meaning;
+ghost use Rattle.lua_meaning.specs.Checks as checks;
+ghost use Rattle.lua_meaning.specs.TextArguments as meaning;
 
 use lua_basic::Stop;
 use lua_basic::arguments::a_text;
@@ -81,9 +82,9 @@ pub fn text_or<'b>(
     given: &[Value],
 ) -> Result<TextIn<'b>, Stop>
     requires { AllOf store.old given.now }
-    ensures found { IfOk result (λ text. meaning.text_or default.now n function.now (values_seen store.old.texts given.now) ≡ Ok (text_bytes text)) }
+    ensures found { IfOk result (λ text. checks.text_or default.now n function.now (values_seen store.old.texts given.now) ≡ Ok (text_bytes text)) }
     ensures same { OnOk result (store.new ≡ store.old) }
-    ensures refused { IfErr result (Refuses (meaning.text_or default.now n function.now (values_seen store.old.texts given.now)) store.old store.new) }
+    ensures refused { IfErr result (Refuses (checks.text_or default.now n function.now (values_seen store.old.texts given.now)) store.old store.new) }
     ensures of { IfErr result (StopOf store.new) }
     ensures later { IsLater store.old store.new }
 {
@@ -192,7 +193,7 @@ pub fn refuse_kind_at(
 
 /// That a pattern has this fault.
 fn malformed(alloc: Global, n: u8) -> Result<Vec<u8>, NoMemory>
-    ensures { IfOk result (λ text. text.items ≡ meaning.malformed n) }
+    ensures { IfOk result (λ text. text.items ≡ checks.malformed n) }
 {
     let mut text = Vec::new(alloc);
     push_all(&mut text, b"malformed pattern (")?;

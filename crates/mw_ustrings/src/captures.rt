@@ -7,7 +7,7 @@ ghost use Rattle.lua_store.specs.Seen.{StoreView, seen};
 ghost use Rattle.lua_store.specs.Parts.{IsOf, IsLater};
 ghost use Rattle.lua_basic.specs.Seen.{values_seen, AllOf};
 ghost use Rattle.mw_frames.specs.Costs.{Pays};
-ghost use Rattle.mw_ustrings.specs.Ustring as meaning;
+ghost use Rattle.lua_meaning.specs.Ustring as meaning;
 
 use crate::giving::number;
 use lua_basic::Stop;

@@ -5,7 +5,7 @@ ghost use Rattle.mw_ustring.specs.Texts.{text_of_codes};
 ghost use Rattle.lua_meaning.specs.Arguments.{a_number};
 ghost use Rattle.lua_store.specs.Parts.{IsLater};
 ghost use Rattle.lua_basic.specs.Seen.{values_seen, AllOf, Paid, StopOf, AnswerOf, Refuses};
-ghost use Rattle.mw_ustrings.specs.Ustring as meaning;
+ghost use Rattle.lua_meaning.specs.Ustring as meaning;
 
 use crate::arguments::{refuse_at, refuse_kind_at};
 use crate::giving::give_text;

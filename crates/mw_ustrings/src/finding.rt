@@ -8,7 +8,7 @@ ghost use Rattle.mw_ustring.specs.Finds.{start_of};
 ghost use Rattle.lua_meaning.specs.Arguments.{costs};
 ghost use Rattle.lua_store.specs.Parts.{IsLater};
 ghost use Rattle.lua_basic.specs.Seen.{values_seen, AllOf, Paid, AnswerOf};
-ghost use Rattle.mw_ustrings.specs.Ustring as meaning;
+ghost use Rattle.lua_meaning.specs.Ustring as meaning;
 
 use crate::arguments::{refuse_pattern, utf8_text};
 use crate::captures::{find_values, match_places, match_values, pay_captures, pay_match};

@@ -1,6 +1,7 @@
 //! The functions of `mw.ustring` that call back nobody, over the store of a page (Scribunto, Ustring library).
 //!
-//! What each function gives stands in `specs/Ustring.antt`; begin there. `specs/TextArguments.antt` has the arguments that are texts.
+//! What each function gives stands in `specs/Ustring.antt` of `lua_meaning`; begin there. `specs/TextArguments.antt` has the arguments that
+//! are texts.
 //!
 //! - `arguments`: arguments that are texts in UTF-8
 //! - `giving`: texts and numbers that are given, after what they cost
@@ -9,7 +10,7 @@
 //! - `wholes`: `len`, `isutf8` and the normal forms
 //! - `captures`: what a match gives, and what that costs
 //! - `finding`: `find` and `match`
-//! - `table`: the functions by name
+//! - `table`: which functions they are
 //! - `call`: a function is called
 #![tactic(auto)]
 
@@ -26,4 +27,4 @@ mod tests;
 pub mod wholes;
 
 pub use call::ustring_call;
-pub use table::UstringFunction;
+pub use table::{UstringFunction, ustring_function};

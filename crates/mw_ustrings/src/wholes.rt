@@ -5,7 +5,7 @@ ghost use Rattle.lua_store.specs.Seen.{StoreView, seen};
 ghost use Rattle.lua_store.specs.Parts.{IsOf, IsLater};
 ghost use Rattle.lua_basic.specs.Seen.{values_seen, AllOf, Free, Paid, AnswerOf};
 ghost use Rattle.mw_ustrings.specs.Forms.{form_given};
-ghost use Rattle.mw_ustrings.specs.Ustring as meaning;
+ghost use Rattle.lua_meaning.specs.Ustring as meaning;
 
 use crate::arguments::is_utf8;
 use crate::giving::{give_nothing, give_text, number};

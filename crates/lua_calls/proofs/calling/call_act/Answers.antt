@@ -1,8 +1,8 @@
 use Rattle.lua_state.proofs.Making.{makes_late}
 use Rattle.lua_calls.proofs.calling.call_act.Goals as goal
 
-pub returns-in-Plain : goal.returns-in-Plain
-returns-in-Plain c = rw c.in-Plain.is c.plain.ensures
+pub returns-in-Answers : goal.returns-in-Answers
+returns-in-Answers c = rw c.in-Answers.is c.plain.ensures
 
 pub returns-in-Framed : goal.returns-in-Framed
 returns-in-Framed c = rw c.in-Framed.is c.framed.ensures

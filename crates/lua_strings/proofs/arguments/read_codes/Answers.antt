@@ -2,7 +2,7 @@ use Rattle.std.proofs.Common.{◌≡◌, ◌∙◌, ap, subst, sym, true, false,
 use Rattle.lua_string.specs.Texts.{is_code}
 use Rattle.lua_store.specs.Seen.{seen}
 use Rattle.lua_basic.specs.Seen.{values_seen, AllOf}
-use Rattle.lua_strings.specs.Checks.{codes_from}
+use Rattle.lua_meaning.specs.Checks.{codes_from}
 use Rattle.lua_strings.proofs.Numbered.{behind, all-read, code-read, code-missing, code-outside}
 use Rattle.lua_strings.proofs.arguments.read_codes.Goals as goal
 

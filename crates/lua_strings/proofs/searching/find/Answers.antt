@@ -6,7 +6,7 @@ use Rattle.lua_basic.specs.Arguments.{text_bytes}
 use Rattle.lua_strings.proofs.Given.{past, ended}
 use Rattle.lua_heap.specs.Value.{is_true}
 use Rattle.lua_basic.specs.Seen.{values_seen}
-use Rattle.lua_strings.specs.Checks.{fourth}
+use Rattle.lua_meaning.specs.Checks.{fourth}
 use Rattle.lua_strings.proofs.searching.find.Goals as goal
 
 pub a_text-requires-2 : goal.a_text-requires-2

@@ -6,7 +6,7 @@ use Rattle.lua_meaning.specs.Arguments.{costs}
 use Rattle.lua_store.specs.Seen.{StoreView}
 use Rattle.lua_basic.specs.Seen.{values_seen, Paid}
 use Rattle.lua_basic.proofs.Found.{stopped, found, for_nothing}
-use Rattle.lua_tables.specs.TableLibrary.{greatest_key, maxn}
+use Rattle.lua_meaning.specs.TableLibrary.{greatest_key, maxn}
 use Rattle.lua_tables.proofs.Taken.{paid-values}
 use Rattle.lua_tables.proofs.Moved.{put-gives}
 use Rattle.lua_tables.proofs.Reading.{paid-counted}

@@ -6,7 +6,7 @@ use Rattle.lua_meaning.specs.Values as meaning
 use Rattle.lua_store.specs.Seen.{StoreView, seen}
 use Rattle.lua_basic.specs.Seen.{values_seen, Free, Paid}
 use Rattle.lua_basic.proofs.Found.{stopped, found, for_nothing}
-use Rattle.lua_tables.specs.TableLibrary.{insert_at}
+use Rattle.lua_meaning.specs.TableLibrary.{insert_at}
 use Rattle.lua_tables.proofs.Moved.{insert_form, two-arguments, three-arguments}
 use Rattle.lua_tables.proofs.inserting.insert.Goals as goal
 

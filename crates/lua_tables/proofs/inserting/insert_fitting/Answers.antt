@@ -5,7 +5,7 @@ use Rattle.lua_heap.specs.Heap.{table_at}
 use Rattle.lua_meaning.specs.Basic.{entries_from}
 use Rattle.lua_store.specs.Seen.{StoreView, seen}
 use Rattle.lua_basic.specs.Seen.{values_seen}
-use Rattle.lua_tables.specs.TableLibrary.{put_charge, insert_fitting}
+use Rattle.lua_meaning.specs.TableLibrary.{put_charge, insert_fitting}
 use Rattle.lua_tables.proofs.Taken.{paid-short, paid-values}
 use Rattle.lua_tables.proofs.Moved.{insert-charge, put-gives}
 use Rattle.lua_tables.proofs.inserting.insert_fitting.Goals as goal

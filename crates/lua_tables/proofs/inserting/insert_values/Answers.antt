@@ -4,7 +4,7 @@ use Rattle.lua_number.proofs.Operations.{does_fit, not_fits}
 use Rattle.lua_store.specs.Seen.{seen}
 use Rattle.lua_basic.specs.Seen.{Free, Paid}
 use Rattle.lua_basic.proofs.Found.{for_nothing}
-use Rattle.lua_tables.specs.TableLibrary.{insert_values}
+use Rattle.lua_meaning.specs.TableLibrary.{insert_values}
 use Rattle.lua_tables.proofs.Moved.{insert-fits, insert-far}
 use Rattle.lua_tables.proofs.inserting.insert_values.Goals as goal
 

@@ -7,8 +7,8 @@ use Rattle.lua_meaning.specs.Arguments.{number_or}
 use Rattle.lua_basic.specs.Seen.{values_seen, Free, Paid}
 use Rattle.lua_basic.specs.Arguments.{text_bytes}
 use Rattle.lua_basic.proofs.Found.{stopped, found, for_nothing}
-use Rattle.lua_tables.specs.ArgumentChecks.{text_or}
-use Rattle.lua_tables.specs.TableLibrary.{concat_between}
+use Rattle.lua_meaning.specs.Checks.{text_or}
+use Rattle.lua_meaning.specs.TableLibrary.{concat_between}
 use Rattle.lua_tables.proofs.joining.concat.Goals as goal
 
 pub text_or-requires : goal.text_or-requires

@@ -6,7 +6,7 @@ use Rattle.lua_meaning.specs.Arguments.{fails, gives_text}
 use Rattle.lua_meaning.specs.Basic.{count_between, entries_from}
 use Rattle.lua_basic.specs.Seen.{values_seen, AllOf, Stops, Paid}
 use Rattle.lua_basic.proofs.Found.{for_nothing}
-use Rattle.lua_tables.specs.TableLibrary.{PassedAll, walk, is_part, joined, invalid_item, concat_between}
+use Rattle.lua_meaning.specs.TableLibrary.{PassedAll, walk, is_part, joined, invalid_item, concat_between}
 use Rattle.lua_tables.specs.Walked.{walk_charge}
 use Rattle.lua_tables.specs.Paying.{IsTaken}
 use Rattle.lua_tables.proofs.Put.{in_count, length-entries}

@@ -4,7 +4,7 @@ use Rattle.lua_heap.specs.Value as kind
 use Rattle.lua_meaning.specs.Arguments.{gives_text}
 use Rattle.lua_store.specs.Seen.{StoreView}
 use Rattle.lua_basic.specs.Seen.{values_seen}
-use Rattle.lua_tables.specs.TableLibrary.{joined}
+use Rattle.lua_meaning.specs.TableLibrary.{joined}
 use Rattle.lua_tables.proofs.Taken.{paid-short, paid-values}
 use Rattle.lua_tables.proofs.Moved.{put-gives}
 use Rattle.lua_tables.proofs.joining.join_values.Goals as goal

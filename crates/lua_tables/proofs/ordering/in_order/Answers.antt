@@ -4,7 +4,7 @@ use Rattle.lua_meaning.specs.Values.{first}
 use Rattle.lua_store.specs.Seen.{seen}
 use Rattle.lua_basic.specs.Seen.{values_seen}
 use Rattle.lua_basic.proofs.Lists.{tested}
-use Rattle.lua_tables.specs.TableLibrary.{walk, may_stand, is_number}
+use Rattle.lua_meaning.specs.TableLibrary.{walk, may_stand, is_number}
 use Rattle.lua_tables.proofs.Orders.{number_list, text_list}
 use Rattle.lua_tables.proofs.ordering.in_order.Goals as goal
 

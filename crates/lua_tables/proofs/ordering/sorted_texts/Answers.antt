@@ -3,7 +3,7 @@ use Rattle.std.specs.Borrow.{Bor}
 use Rattle.std.specs.Ordering.{nat_cmp}
 use Rattle.std.specs.Cmp.Lexicographic.{slice_cmp}
 use Rattle.lua_heap.specs.Value.{Text}
-use Rattle.lua_tables.specs.TableLibrary.{in_order}
+use Rattle.lua_meaning.specs.TableLibrary.{in_order}
 use Rattle.lua_tables.proofs.Orders.{texts_sorted}
 use Rattle.lua_tables.proofs.ordering.sorted_texts.Goals as goal
 

@@ -5,7 +5,7 @@ use Rattle.lua_heap.specs.Table.{border}
 use Rattle.lua_meaning.specs.Arguments.{number_or}
 use Rattle.lua_basic.specs.Seen.{values_seen, Free, Paid}
 use Rattle.lua_basic.proofs.Found.{stopped, found, for_nothing}
-use Rattle.lua_tables.specs.TableLibrary.{remove_at}
+use Rattle.lua_meaning.specs.TableLibrary.{remove_at}
 use Rattle.lua_tables.proofs.removing.remove.Goals as goal
 
 pub number_or-requires : goal.number_or-requires

@@ -7,7 +7,7 @@ use Rattle.lua_meaning.specs.Basic.{entries_from}
 use Rattle.lua_store.specs.Seen.{StoreView, seen}
 use Rattle.lua_basic.specs.Seen.{values_seen, AllOf}
 use Rattle.lua_basic.proofs.Lists.{all-with}
-use Rattle.lua_tables.specs.TableLibrary.{remove_values}
+use Rattle.lua_meaning.specs.TableLibrary.{remove_values}
 use Rattle.lua_tables.proofs.Taken.{paid-short, paid-values}
 use Rattle.lua_tables.proofs.Moved.{put-gives, remove-charge, moved-seen, moved-length, first-read}
 use Rattle.lua_tables.proofs.removing.remove_values.Goals as goal

@@ -3,8 +3,8 @@ use Rattle.std.proofs.lemmas.Result.{err_from_is_err_and}
 use Rattle.lua_heap.specs.Value as kind
 use Rattle.lua_basic.specs.Seen.{Free, Paid}
 use Rattle.lua_basic.proofs.Found.{stopped, found, for_nothing}
-use Rattle.lua_tables.specs.ArgumentChecks.{a_nil}
-use Rattle.lua_tables.specs.TableLibrary.{sort_table}
+use Rattle.lua_meaning.specs.Checks.{a_nil}
+use Rattle.lua_meaning.specs.TableLibrary.{sort_table}
 use Rattle.lua_tables.proofs.sorting.sort.Goals as goal
 
 pub a_nil-requires : goal.a_nil-requires

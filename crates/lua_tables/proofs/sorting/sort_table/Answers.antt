@@ -11,7 +11,7 @@ use Rattle.lua_meaning.specs.Arguments.{fails}
 use Rattle.lua_store.specs.Seen.{seen}
 use Rattle.lua_basic.specs.Seen.{values_seen, AllOf, Stops, Paid}
 use Rattle.lua_basic.proofs.Found.{for_nothing}
-use Rattle.lua_tables.specs.TableLibrary.{walk, may_stand, wanted_kind, sort_values, sort_table}
+use Rattle.lua_meaning.specs.TableLibrary.{walk, may_stand, wanted_kind, sort_values, sort_table}
 use Rattle.lua_tables.specs.Walked.{walk_charge}
 use Rattle.lua_tables.specs.Paying.{IsTaken}
 use Rattle.lua_tables.proofs.Put.{count_from_one}

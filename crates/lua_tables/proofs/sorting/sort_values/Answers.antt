@@ -4,7 +4,7 @@ use Rattle.std.proofs.lemmas.List.{length-map}
 use Rattle.lua_heap.specs.Heap.{table_at}
 use Rattle.lua_store.specs.Seen.{StoreView, seen}
 use Rattle.lua_basic.specs.Seen.{values_seen, Paid}
-use Rattle.lua_tables.specs.TableLibrary.{order_charge, put_from, put_charge, in_order, value_cmp}
+use Rattle.lua_meaning.specs.TableLibrary.{order_charge, put_from, put_charge, in_order, value_cmp}
 use Rattle.lua_tables.proofs.Taken.{paid-short, paid-values}
 use Rattle.lua_tables.proofs.Moved.{put-gives, sort-charge, sort-writable}
 use Rattle.lua_tables.proofs.sorting.sort_values.Goals as goal

@@ -6,8 +6,8 @@ use Rattle.lua_meaning.specs.Arguments.{a_table}
 use Rattle.lua_store.specs.Seen.{StoreView}
 use Rattle.lua_basic.specs.Arguments.{text_bytes}
 use Rattle.lua_basic.specs.Seen.{values_seen}
-use Rattle.mw_ustrings.specs.TextArguments.{text_or}
-use Rattle.mw_texts.specs.Texts.{items_of, list_values}
+use Rattle.lua_meaning.specs.Checks.{text_or}
+use Rattle.lua_meaning.specs.Texts.{items_of, list_values}
 use Rattle.lua_heap.specs.Heap.{table_at}
 use Rattle.mw_ustrings.proofs.ReadArguments.{behind_one, behind_two, handed_on, turned_down}
 use Rattle.std.proofs.Common.{map}

@@ -5,7 +5,7 @@ use Rattle.lua_store.specs.Seen.{seen}
 use Rattle.lua_store.proofs.Later.{later-itself}
 use Rattle.lua_basic.specs.Arguments.{text_bytes}
 use Rattle.lua_basic.specs.Seen.{values_seen, AllOf}
-use Rattle.mw_texts.specs.Texts.{items_of}
+use Rattle.lua_meaning.specs.Texts.{items_of}
 use Rattle.mw_texts.proofs.ItemLists.{onto, none_yet, item_read, item_refused}
 use Rattle.mw_texts.proofs.listing.the_items.Goals as goal
 

@@ -6,7 +6,7 @@ use Rattle.lua_meaning.specs.Arguments.{a_number}
 use Rattle.lua_heap.specs.Value.{is_true}
 use Rattle.lua_basic.specs.Arguments.{text_bytes}
 use Rattle.lua_basic.specs.Seen.{values_seen}
-use Rattle.mw_ustrings.specs.TextArguments.{utf8_text, utf8_text_or}
+use Rattle.lua_meaning.specs.TextArguments.{utf8_text, utf8_text_or}
 use Rattle.mw_ustrings.proofs.ReadArguments.{behind_one, behind_two, handed_on, turned_down}
 use Rattle.mw_texts.proofs.plain.truncate.Goals as goal
 

@@ -4,7 +4,7 @@ use Rattle.lua_meaning.specs.Arguments.{gives_text}
 use Rattle.lua_basic.specs.Seen.{Paid}
 use Rattle.mw_frame_texts.proofs.Charged.{charged, lacked}
 use Rattle.mw_ustrings.proofs.Costs.{exceeded}
-use Rattle.mw_texts.specs.Texts.{gives_tried}
+use Rattle.lua_meaning.specs.Texts.{gives_tried}
 use Rattle.mw_texts.proofs.sets.give_answer.Goals as goal
 
 pub returns-in-Spent-clause-answer : goal.returns-in-Spent-clause-answer

@@ -4,7 +4,7 @@ use Rattle.std.proofs.lemmas.Result.{err_from_is_err_and}
 use Rattle.lua_meaning.specs.Values.{rest}
 use Rattle.lua_basic.specs.Arguments.{text_bytes}
 use Rattle.lua_basic.specs.Seen.{values_seen}
-use Rattle.mw_ustrings.specs.TextArguments.{utf8_text, utf8_text_if_any}
+use Rattle.lua_meaning.specs.TextArguments.{utf8_text, utf8_text_if_any}
 use Rattle.std.specs.Option.{option_map}
 use Rattle.mw_ustrings.proofs.ReadArguments.{behind_one, handed_on, turned_down}
 use Rattle.mw_texts.proofs.sets.trim.Goals as goal

@@ -5,7 +5,7 @@ use Rattle.lua_meaning.specs.Frames.{with_table}
 use Rattle.mw_frames.proofs.Sums.{took_then}
 use Rattle.mw_frame_texts.proofs.Charged.{lacked}
 use Rattle.mw_ustrings.proofs.Costs.{lacked_second}
-use Rattle.mw_texts.specs.Texts.{parts_charge, text_entries}
+use Rattle.lua_meaning.specs.Texts.{parts_charge, text_entries}
 use Rattle.mw_texts.proofs.NewTables.{table_covers}
 use Rattle.mw_texts.proofs.splitting.give_parts.Goals as goal
 

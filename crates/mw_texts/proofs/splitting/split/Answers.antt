@@ -5,7 +5,7 @@ use Rattle.lua_meaning.specs.Values.{rest, second}
 use Rattle.lua_heap.specs.Value.{is_true}
 use Rattle.lua_basic.specs.Arguments.{text_bytes}
 use Rattle.lua_basic.specs.Seen.{values_seen}
-use Rattle.mw_ustrings.specs.TextArguments.{utf8_text}
+use Rattle.lua_meaning.specs.TextArguments.{utf8_text}
 use Rattle.mw_ustrings.proofs.ReadArguments.{behind_one, handed_on, turned_down}
 use Rattle.mw_texts.proofs.splitting.split.Goals as goal
 

@@ -4,7 +4,7 @@ use Rattle.lua_heap.specs.Heap.{set_in}
 use Rattle.lua_heap.specs.Value.{Number, Text}
 use Rattle.lua_graph.specs.Put.{filled}
 use Rattle.lua_store.proofs.Later.{later-then, later-itself}
-use Rattle.mw_texts.specs.Texts.{text_entries}
+use Rattle.lua_meaning.specs.Texts.{text_entries}
 use Rattle.mw_texts.proofs.tables.fill.Goals as goal
 
 pub each-init : goal.each-init

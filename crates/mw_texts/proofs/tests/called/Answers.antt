@@ -5,4 +5,4 @@ use Rattle.mw_texts.proofs.tests.called.Goals as goal
 
 pub text_call-requires-clause-args : goal.text_call-requires-clause-args
 text_call-requires-clause-args c =
-    all_of_later c.values.new.store c.of.new.store c.as_slice.result.now c.of.ensures.later (subst (AllOf c.values.new.store) (sym c.as_slice.ensures) c.in_ok-args.ensures)
+    all_of_later c.values.new.store c.names_in.new.store c.as_slice.result.now c.names_in.ensures.later (subst (AllOf c.values.new.store) (sym c.as_slice.ensures) c.in_ok-args.ensures)

@@ -2,7 +2,7 @@ use Rattle.std.proofs.Common.{◌≡◌, sym, subst, refl, Ok}
 use Rattle.std.specs.Result.{IfOk, IfErr}
 use Rattle.lua_basic.specs.Arguments.{text_bytes}
 use Rattle.lua_basic.specs.Seen.{Refuses}
-use Rattle.mw_ustrings.specs.TextArguments.{in_utf8}
+use Rattle.lua_meaning.specs.TextArguments.{in_utf8}
 use Rattle.mw_ustrings.proofs.ReadArguments.{refuses_through}
 use Rattle.mw_ustrings.proofs.arguments.utf8_text.Goals as goal
 

@@ -3,7 +3,7 @@ use Rattle.std.specs.List.{AllByRecursion}
 use Rattle.lua_pattern.specs.Places.{IsCaptureAt}
 use Rattle.lua_store.proofs.Later.{later-then, later-itself}
 use Rattle.lua_basic.specs.Seen.{values_seen}
-use Rattle.mw_ustrings.specs.Ustring.{capture_value}
+use Rattle.lua_meaning.specs.Ustring.{capture_value}
 use Rattle.mw_ustrings.proofs.Values.{one_more_of, one_more_seen}
 use Rattle.mw_ustrings.proofs.captures.add_captures.Goals as goal
 

@@ -5,7 +5,7 @@ use Rattle.lua_meaning.specs.Values.{number_in}
 use Rattle.lua_meaning.specs.Arguments.{some_number, some_value}
 use Rattle.lua_basic.specs.Seen.{values_seen}
 use Rattle.lua_basic.proofs.Found.{refused}
-use Rattle.mw_ustrings.specs.Ustring.{point_text}
+use Rattle.lua_meaning.specs.Ustring.{point_text}
 use Rattle.mw_ustrings.proofs.char_of.a_point.Goals as goal
 
 pub number_in-requires : goal.number_in-requires

@@ -2,7 +2,7 @@ use Rattle.std.proofs.Common.{◌∙◌, ap, refl, Err}
 use Rattle.std.proofs.lemmas.Result.{err_from_is_err_and}
 use Rattle.lua_basic.specs.Seen.{values_seen}
 use Rattle.mw_ustrings.proofs.ReadArguments.{handed_on, turned_down}
-use Rattle.mw_ustrings.specs.Ustring.{points_text}
+use Rattle.lua_meaning.specs.Ustring.{points_text}
 use Rattle.mw_ustrings.proofs.char_of.char.Goals as goal
 
 pub returns-in_err-text-clause-answer : goal.returns-in_err-text-clause-answer

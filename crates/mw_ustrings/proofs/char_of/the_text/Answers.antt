@@ -3,7 +3,7 @@ use Rattle.std.proofs.lemmas.List.{drop-map, length-map}
 use Rattle.lua_store.specs.Seen.{seen}
 use Rattle.lua_store.proofs.Later.{later-itself}
 use Rattle.lua_basic.specs.Seen.{values_seen}
-use Rattle.mw_ustrings.specs.Ustring.{points_text}
+use Rattle.lua_meaning.specs.Ustring.{points_text}
 use Rattle.mw_ustrings.proofs.Values.{all_drop}
 use Rattle.mw_ustrings.proofs.Points.{nothing_made, one_made, none_made, all_made}
 use Rattle.mw_ustrings.proofs.char_of.the_text.Goals as goal

@@ -1,6 +1,6 @@
 use Rattle.std.proofs.Common.{◌≡◌}
 use Rattle.lua_basic.specs.Seen.{values_seen}
-use Rattle.mw_ustrings.specs.Ustring.{points_text}
+use Rattle.lua_meaning.specs.Ustring.{points_text}
 use Rattle.mw_ustrings.proofs.Points.{SoFar}
 use Rattle.mw_ustrings.proofs.char_of.the_text.Given as goal
 

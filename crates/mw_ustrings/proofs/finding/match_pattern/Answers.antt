@@ -7,7 +7,7 @@ use Rattle.lua_store.proofs.Later.{later-itself}
 use Rattle.lua_basic.specs.Seen.{Paid}
 use Rattle.lua_basic.proofs.Found.{for_nothing}
 use Rattle.mw_ustring.specs.Finds.{start_of}
-use Rattle.mw_ustrings.specs.Ustring.{match_values, searches}
+use Rattle.lua_meaning.specs.Ustring.{match_values, searches}
 use Rattle.mw_ustrings.proofs.Costs.{exceeded}
 use Rattle.mw_ustrings.proofs.Searches.{search_found, search_none, search_spent, search_fault}
 use Rattle.mw_ustrings.proofs.finding.match_pattern.Goals as goal

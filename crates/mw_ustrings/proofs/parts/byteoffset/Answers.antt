@@ -5,12 +5,12 @@ use Rattle.lua_meaning.specs.Values.{rest}
 use Rattle.lua_meaning.specs.Arguments.{number_or}
 use Rattle.lua_basic.specs.Arguments.{text_bytes}
 use Rattle.lua_basic.specs.Seen.{values_seen}
-use Rattle.mw_ustrings.specs.TextArguments.{utf8_text}
+use Rattle.lua_meaning.specs.TextArguments.{utf8_text}
 use Rattle.mw_ustrings.proofs.ReadArguments.{behind_one, behind_two, handed_on_free, turned_down_free}
 use Rattle.lua_meaning.specs.Arguments.{gives}
 use Rattle.mw_ustring.specs.Texts.{byteoffset_of}
 use Rattle.lua_basic.specs.Seen.{Free}
-use Rattle.mw_ustrings.specs.Ustring.{place_or_nil}
+use Rattle.lua_meaning.specs.Ustring.{place_or_nil}
 use Rattle.mw_ustrings.proofs.parts.byteoffset.Goals as goal
 
 pub returns-in_err-text-clause-answer : goal.returns-in_err-text-clause-answer

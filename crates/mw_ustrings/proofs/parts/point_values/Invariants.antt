@@ -1,7 +1,7 @@
 use Rattle.std.proofs.Common.{◌≡◌, ◌++◌, ℕ, List, length}
 use Rattle.lua_store.specs.Seen.{StoreView}
 use Rattle.lua_basic.specs.Seen.{values_seen, AllOf}
-use Rattle.mw_ustrings.specs.Ustring.{point_values}
+use Rattle.lua_meaning.specs.Ustring.{point_values}
 use Rattle.mw_ustrings.proofs.parts.point_values.Given as goal
 
 -- what is made and what is still to make are all

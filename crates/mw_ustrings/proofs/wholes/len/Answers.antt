@@ -6,7 +6,7 @@ use Rattle.lua_basic.specs.Seen.{values_seen}
 use Rattle.mw_ustrings.proofs.ReadArguments.{handed_on_free, turned_down_free}
 use Rattle.lua_meaning.specs.Arguments.{a_text, gives}
 use Rattle.lua_basic.specs.Seen.{Free}
-use Rattle.mw_ustrings.specs.Ustring.{length_in}
+use Rattle.lua_meaning.specs.Ustring.{length_in}
 use Rattle.mw_ustrings.proofs.wholes.len.Goals as goal
 
 pub returns-in_err-text-clause-answer : goal.returns-in_err-text-clause-answer
