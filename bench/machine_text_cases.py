@@ -83,8 +83,8 @@ body("wrong_codes", "A number that is no code, and of two wrong ones the first."
 body("wrong_kinds_of_texts", "Each kind where a text is wanted.", TRY + "local u=string.upper\nreturn try(u,nil),try(u,true),try(u,{}),try(u,u)",
      "".join(f"bad argument #1 to 'upper' (string expected, got {kind});" for kind in ("nil", "boolean", "table", "function")), profile=True)
 body("method_with_a_wrong_argument", "The place of a method's call.", "local s='ab'\nreturn s:rep({})", fails="Lua error: Module:X:3: bad argument #2 to 'rep' (number expected, got table)", profile=True)
-refuses("string_without_arguments", "The functions of `string` without an argument.", "string", [*wanting("string", "byte"), ("char", ""), *wanting("string", "find match format len lower upper rep reverse sub")])
-body("order_of_string", "The names of `string`, in order.", "local s='' for k,v in pairs(string) do s=s..k..' ' end return s", "byte char find match format len lower upper rep reverse sub ", profile=True)
+refuses("string_without_arguments", "The functions of `string` without an argument.", "string", [*wanting("string", "byte"), ("char", ""), *wanting("string", "find match gmatch format len lower upper rep reverse sub")])
+body("order_of_string", "The names of `string`, in order.", "local s='' for k,v in pairs(string) do s=s..k..' ' end return s", "byte char find match gmatch format len lower upper rep reverse sub ", profile=True)
 body("index_of_a_text", "A text has the functions of `string` as fields, and no others.", SAY + "local s='x'\nreturn say(s.upper==string.upper,s.absent,s.len(s))", "true nil 1")
 body("changed_string", "What is put into `string` is a method.", "function string.twice(s) return s..s end\nreturn ('ab'):twice()", "abab")
 
@@ -141,7 +141,7 @@ says("ustring_forms", "An accent that is put together, and apart.", "#mw.ustring
 says("ustring_of_any_bytes", "`len` and `isutf8` take any bytes.", "mw.ustring.len('\\255'),mw.ustring.isutf8('\\255'),mw.ustring.isutf8('\xc3\xa9'),mw.ustring.isutf8('\\237\\160\\128')", "nil false true false", profile=True)
 body("ustring_refuses", "Bytes that aren't UTF-8, and numbers of no code point.", TRY + "local u=mw.ustring\nreturn try(u.sub,'\\255',1),try(u.find,'a','\\255',1,true),try(u.match,'\\255','a'),try(u.codepoint,'\\255'),try(u.char,55296),try(u.char,97,1114112),try(u.find,'a','%')",
      "bad argument #1 to 'sub' (not UTF-8);bad argument #2 to 'find' (not UTF-8);bad argument #1 to 'match' (not UTF-8);bad argument #1 to 'codepoint' (not UTF-8);bad argument #1 to 'char' (out of range);bad argument #2 to 'char' (out of range);malformed pattern (1);", profile=True)
-refuses("ustring_without_arguments", "The functions of `mw.ustring` without an argument.", "mw.ustring", [("char", ""), *wanting("string", "codepoint byteoffset find match len sub isutf8 toNFC toNFD toNFKC toNFKD")])
+refuses("ustring_without_arguments", "The functions of `mw.ustring` without an argument.", "mw.ustring", [("char", ""), *wanting("string", "codepoint gcodepoint byteoffset find match gmatch len sub isutf8 toNFC toNFD toNFKC toNFKD")])
 body("ustring_maybe_forty_times", "`a?` forty times over code points.", "local s=('a'):rep(40)\nreturn mw.ustring.find(s,('a?'):rep(40)..s)", more=(), profile=True, runs=[("exact", AMPLE, CALLS, [], "spends steps, 0 left")])
 
 
@@ -157,19 +157,19 @@ says("text_tags", "Elements of HTML.", "mw.text.tag('b',{x=1},'t'),mw.text.tag('
 says("text_truncates", "From both ends, with an ellipsis that counts.", "mw.text.truncate('abcdefghij',5),mw.text.truncate('abcdefghij',-5),mw.text.truncate('abcdefghij',5,nil,true),mw.text.truncate('abc',5)", "abcde... ...fghij ab... abc", profile=True)
 body("text_refuses", "Wrong arguments.", TRY + "local m=mw.text\nreturn try(m.trim,'x','a]b'),try(m.trim,'\\255'),try(m.split,'a','%'),try(m.listToText,{1,{}}),try(m.tag,'b',5),try(m.tag,'b',{},true),try(m.tag,'b',{[{}]=1}),try(m.truncate,'a')",
      "malformed pattern (2);bad argument #1 to 'trim' (not UTF-8);malformed pattern (1);bad argument #1 to 'listToText' (string expected, got table);bad argument #2 to 'tag' (table expected, got number);bad argument #3 to 'tag' (string expected, got boolean);bad argument #2 to 'tag' (string expected, got table);bad argument #2 to 'truncate' (number expected, got no value);", profile=True)
-refuses("text_without_arguments", "The functions of `mw.text` without an argument.", "mw.text", [*wanting("string", "trim split encode decode"), *wanting("table", "listToText"), *wanting("string", "nowiki tag truncate")])
-body("order_of_text", "The names of `mw.text`, in order.", "local s='' for k,v in pairs(mw.text) do s=s..k..' ' end return s", "trim split encode decode listToText nowiki tag truncate ", profile=True)
+refuses("text_without_arguments", "The functions of `mw.text` without an argument.", "mw.text", [*wanting("string", "trim split gsplit encode decode"), *wanting("table", "listToText"), *wanting("string", "nowiki tag truncate")])
+body("order_of_text", "The names of `mw.text`, in order.", "local s='' for k,v in pairs(mw.text) do s=s..k..' ' end return s", "trim split gsplit encode decode listToText nowiki tag truncate ", profile=True)
 body("order_of_mw", "The names of `mw`, in order.", "local s='' for k,v in pairs(mw) do s=s..k..' ' end return s", "clone log title loadData getCurrentFrame ustring text ", profile=True)
 
 
 # ---- each function with each kind of value in each place. `s` is a text, `n` a number, `t` a table, `-` what must be nil; behind `?` a value
 # may be left out, or be nil.
 SIGNATURES = {
-    "string": "byte=sn?n? char=nn find=ssn? match=ssn? format=s len=s lower=s upper=s rep=sn reverse=s sub=snn?",
+    "string": "byte=sn?n? char=nn find=ssn? match=ssn? gmatch=ss format=s len=s lower=s upper=s rep=sn reverse=s sub=snn?",
     "math": "abs=n ceil=n floor=n fmod=nn max=nn min=nn pow=nn",
     "table": "concat=ts?n?n? insert=tnt maxn=t remove=tn? sort=t-",
-    "mw.ustring": "char=nn codepoint=sn?n? byteoffset=sn?n? find=ssn? match=ssn? len=s sub=snn? isutf8=s toNFC=s toNFD=s toNFKC=s toNFKD=s",
-    "mw.text": "trim=ss? split=ss encode=ss? decode=s listToText=ts?s? nowiki=s tag=st? truncate=sns?",
+    "mw.ustring": "char=nn codepoint=sn?n? gcodepoint=sn?n? byteoffset=sn?n? find=ssn? match=ssn? gmatch=ss len=s sub=snn? isutf8=s toNFC=s toNFD=s toNFKC=s toNFKD=s",
+    "mw.text": "trim=ss? split=ss gsplit=ss encode=ss? decode=s listToText=ts?s? nowiki=s tag=st? truncate=sns?",
 }
 KINDS = {"s": "string", "n": "number", "t": "table", "-": "nil"}
 GOOD = {"s": "'a'", "n": "1", "t": "{}"}
