@@ -513,7 +513,7 @@ LIBRARIES = [
     cost("gmatch_costs", "An iterator costs as a closure. A step of `gmatch` costs the bytes of the pattern, a try at `a` and one at `1`, and the byte that it gives.",
          "return ('a1'):gmatch('%d')()", [1 + 1 + 1 + 1 + 1 + 1, 1 + 8, 1 + 2 + 2 + 1], "1"),
     cost("gsplit_costs", "`mw.text.gsplit` costs first the bytes of its arguments; a step of it the pattern's, the tries, and the part's.",
-         "return mw.text.gsplit('ab,c',',')()", [1 + 1 + 1 + 1 + 1 + 2 + 2, 1 + 5 + 8, 1 + 1 + 3 + 2], "ab", profile=True),
+         "return mw.text.gsplit('ab,c',',')()", [1 + 1 + 1 + 5 + 2, 1 + 5 + 8, 1 + 1 + 3 + 2], "ab", profile=True),
     body("methods_of_texts", "Functions of `string` are the methods of texts.",
          "local s='aBc'\nreturn s:upper():reverse():sub(1,2),s:lower(),s:len(),s:byte(2),string.char(72,105)", "CBabc366Hi"),
     body("searches_of_texts", "`find` gives places, `match` gives captures, and nil where there is none.",

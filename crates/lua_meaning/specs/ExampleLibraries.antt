@@ -92,7 +92,7 @@ gsplit_costs = stats_of (ReturnS 1 (exps_of (TableE 1 (fields_of (Pair (TextE 1 
     ∷ [])) ∷ [])))) ∷ [])) ∷ [])) ∷ [])
 
 abbrev pub GsplitCosts : Type 0
-GsplitCosts = (invoke_module (codes "X") 64 gsplit_costs 1122 ≡ Gives (codes "ab") 0) × (invoke_module (codes "X") 64 gsplit_costs 1121 ≡ Spends Steps 0)
+GsplitCosts = (invoke_module (codes "X") 64 gsplit_costs 1123 ≡ Gives (codes "ab") 0) × (invoke_module (codes "X") 64 gsplit_costs 1122 ≡ Spends Steps 0)
 
 -- Functions of `string` are the methods of texts.
 --     return {f=function(...)
