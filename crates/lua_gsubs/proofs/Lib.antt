@@ -1,0 +1,2 @@
+pub mod GsubAgree
+pub mod Rows
