@@ -4,12 +4,18 @@ from machine_cases import AMPLE, CALLS, CASES, body, hand
 
 SAY = "local function say(...) local s='' for i=1,select('#',...) do s=s..(i>1 and ' ' or '')..tostring((select(i,...))) end return s end\n"
 TRY = "local function try(f,...) return tostring(select(2,pcall(f,...)))..';' end\n"
+ALL = "local function all(...) local s='' for a,b,c in ... do s=s..'['..tostring(a)..(b and ' '..b or '')..(c and ' '..c or '')..']' end return s end\n"
 READ_ONLY = "table from mw.loadData is read-only"
 
 
 def says(name, said, text, gives, **more):
     """What some values are, with spaces between."""
     body(name, said, SAY + "return say(" + text + ")", gives, **more)
+
+
+def gives_all(name, said, iterators, gives, **more):
+    """All that some iterators give, each in brackets; a line between two iterators."""
+    body(name, said, ALL + "return " + "..'|'..".join(f"all({one})" for one in iterators), "|".join(gives), **more)
 
 
 def refuses(name, said, library, pairs, **more):
@@ -41,6 +47,10 @@ counted("steps_of_concat", "The constructor with 8 and two items of 4; two reads
 counted("steps_of_upper_point", "The bytes that are given come first: 2, and then one number.", "mw.ustring.codepoint('\xc3\xa9')", "233", 1 + 2 + 2 + 1 + 1 + 1 + 2 + 1)
 counted("steps_of_trim", "Three bytes; a try at the space, at x, at the space behind it, and at x; a byte.", "mw.text.trim(' x ')", "x", 1 + 2 + 2 + 1 + 1 + 1 + 3 + 4 + 1)
 counted("steps_of_split", "The bytes that are given, the pattern's, three tries, the table, and two parts; `#` is a node.", "#mw.text.split('a,b',',')", "2", 1 + 1 + 2 + 2 + 1 + 2 + 1 + 4 + 1 + 3 + 8 + 2 * 5)
+counted("steps_of_gmatch", "The iterator costs 8; its step the bytes of the pattern, a try at a and one at 1, and a byte.", "('a1'):gmatch('%d')()", "1", 1 + 1 + 1 + 1 + 1 + 1 + 8 + 1 + 2 + 2 + 1)
+counted("steps_of_gcodepoint", "The bytes that are given, and the iterator; a step costs nothing but its call.", "mw.ustring.gcodepoint('\xc3\xa9')()", "233", 1 + 1 + 2 + 2 + 1 + 1 + 1 + 2 + 8 + 1)
+counted("steps_of_gsplit", "The bytes that are given, and the iterator; then the pattern's, two tries, and those of the part.", "mw.text.gsplit('a,b',',')()", "a", 1 + 1 + 2 + 2 + 1 + 2 + 1 + 4 + 8 + 1 + 1 + 2 + 1)
+counted("steps_of_ustring_gmatch", "A step costs first the bytes of what it is given, used or not: here 3.", "mw.ustring.gmatch('ab','.')('xyz')", "a", 1 + 1 + 2 + 2 + 1 + 2 + 1 + 1 + 3 + 8 + 1 + 3 + 1 + 1 + 1)
 
 
 # ---- `string`
@@ -83,8 +93,8 @@ body("wrong_codes", "A number that is no code, and of two wrong ones the first."
 body("wrong_kinds_of_texts", "Each kind where a text is wanted.", TRY + "local u=string.upper\nreturn try(u,nil),try(u,true),try(u,{}),try(u,u)",
      "".join(f"bad argument #1 to 'upper' (string expected, got {kind});" for kind in ("nil", "boolean", "table", "function")), profile=True)
 body("method_with_a_wrong_argument", "The place of a method's call.", "local s='ab'\nreturn s:rep({})", fails="Lua error: Module:X:3: bad argument #2 to 'rep' (number expected, got table)", profile=True)
-refuses("string_without_arguments", "The functions of `string` without an argument.", "string", [*wanting("string", "byte"), ("char", ""), *wanting("string", "find match format len lower upper rep reverse sub")])
-body("order_of_string", "The names of `string`, in order.", "local s='' for k,v in pairs(string) do s=s..k..' ' end return s", "byte char find match format len lower upper rep reverse sub ", profile=True)
+refuses("string_without_arguments", "The functions of `string` without an argument.", "string", [*wanting("string", "byte"), ("char", ""), *wanting("string", "find match gmatch format len lower upper rep reverse sub")])
+body("order_of_string", "The names of `string`, in order.", "local s='' for k,v in pairs(string) do s=s..k..' ' end return s", "byte char find match gmatch format len lower upper rep reverse sub ", profile=True)
 body("index_of_a_text", "A text has the functions of `string` as fields, and no others.", SAY + "local s='x'\nreturn say(s.upper==string.upper,s.absent,s.len(s))", "true nil 1")
 body("changed_string", "What is put into `string` is a method.", "function string.twice(s) return s..s end\nreturn ('ab'):twice()", "abab")
 
@@ -141,7 +151,7 @@ says("ustring_forms", "An accent that is put together, and apart.", "#mw.ustring
 says("ustring_of_any_bytes", "`len` and `isutf8` take any bytes.", "mw.ustring.len('\\255'),mw.ustring.isutf8('\\255'),mw.ustring.isutf8('\xc3\xa9'),mw.ustring.isutf8('\\237\\160\\128')", "nil false true false", profile=True)
 body("ustring_refuses", "Bytes that aren't UTF-8, and numbers of no code point.", TRY + "local u=mw.ustring\nreturn try(u.sub,'\\255',1),try(u.find,'a','\\255',1,true),try(u.match,'\\255','a'),try(u.codepoint,'\\255'),try(u.char,55296),try(u.char,97,1114112),try(u.find,'a','%')",
      "bad argument #1 to 'sub' (not UTF-8);bad argument #2 to 'find' (not UTF-8);bad argument #1 to 'match' (not UTF-8);bad argument #1 to 'codepoint' (not UTF-8);bad argument #1 to 'char' (out of range);bad argument #2 to 'char' (out of range);malformed pattern (1);", profile=True)
-refuses("ustring_without_arguments", "The functions of `mw.ustring` without an argument.", "mw.ustring", [("char", ""), *wanting("string", "codepoint byteoffset find match len sub isutf8 toNFC toNFD toNFKC toNFKD")])
+refuses("ustring_without_arguments", "The functions of `mw.ustring` without an argument.", "mw.ustring", [("char", ""), *wanting("string", "codepoint gcodepoint byteoffset find match gmatch len sub isutf8 toNFC toNFD toNFKC toNFKD")])
 body("ustring_maybe_forty_times", "`a?` forty times over code points.", "local s=('a'):rep(40)\nreturn mw.ustring.find(s,('a?'):rep(40)..s)", more=(), profile=True, runs=[("exact", AMPLE, CALLS, [], "spends steps, 0 left")])
 
 
@@ -157,19 +167,51 @@ says("text_tags", "Elements of HTML.", "mw.text.tag('b',{x=1},'t'),mw.text.tag('
 says("text_truncates", "From both ends, with an ellipsis that counts.", "mw.text.truncate('abcdefghij',5),mw.text.truncate('abcdefghij',-5),mw.text.truncate('abcdefghij',5,nil,true),mw.text.truncate('abc',5)", "abcde... ...fghij ab... abc", profile=True)
 body("text_refuses", "Wrong arguments.", TRY + "local m=mw.text\nreturn try(m.trim,'x','a]b'),try(m.trim,'\\255'),try(m.split,'a','%'),try(m.listToText,{1,{}}),try(m.tag,'b',5),try(m.tag,'b',{},true),try(m.tag,'b',{[{}]=1}),try(m.truncate,'a')",
      "malformed pattern (2);bad argument #1 to 'trim' (not UTF-8);malformed pattern (1);bad argument #1 to 'listToText' (string expected, got table);bad argument #2 to 'tag' (table expected, got number);bad argument #3 to 'tag' (string expected, got boolean);bad argument #2 to 'tag' (string expected, got table);bad argument #2 to 'truncate' (number expected, got no value);", profile=True)
-refuses("text_without_arguments", "The functions of `mw.text` without an argument.", "mw.text", [*wanting("string", "trim split encode decode"), *wanting("table", "listToText"), *wanting("string", "nowiki tag truncate")])
-body("order_of_text", "The names of `mw.text`, in order.", "local s='' for k,v in pairs(mw.text) do s=s..k..' ' end return s", "trim split encode decode listToText nowiki tag truncate ", profile=True)
+refuses("text_without_arguments", "The functions of `mw.text` without an argument.", "mw.text", [*wanting("string", "trim split gsplit encode decode"), *wanting("table", "listToText"), *wanting("string", "nowiki tag truncate")])
+body("order_of_text", "The names of `mw.text`, in order.", "local s='' for k,v in pairs(mw.text) do s=s..k..' ' end return s", "trim split gsplit encode decode listToText nowiki tag truncate ", profile=True)
 body("order_of_mw", "The names of `mw`, in order.", "local s='' for k,v in pairs(mw) do s=s..k..' ' end return s", "clone log title loadData getCurrentFrame ustring text ", profile=True)
+
+
+# ---- iterators
+gives_all("gmatch_matches", "One match after another; behind an empty one the search goes on one byte later.",
+          ["('hello world from Lua'):gmatch('%a+')", "('abbc'):gmatch('b*')", "('abc'):gmatch('')", "(''):gmatch('')", "(''):gmatch('x')", "('a,b,,c'):gmatch('([^,]*)')", "('aaa'):gmatch('a-')"],
+          ["[hello][world][from][Lua]", "[][bb][][]", "[][][][]", "[]", "", "[a][][b][][][c][]", "[][][][]"])
+gives_all("gmatch_captures", "Captures, places, and texts that stand twice.",
+          ["('k=v, a=b'):gmatch('(%w+)=(%w+)')", "('abc'):gmatch('()')", "('x1y22'):gmatch('()(%d+)()')", "('aXbX'):gmatch('(.)X')", "('aa bb ab'):gmatch('(%w)%1')"],
+          ["[k v][a b]", "[1][2][3][4]", "[2 1 3][4 22 6]", "[a][b]", "[a][b]"])
+gives_all("gmatch_anchors", "A first `^` is plain; the end, brackets that pair, and a frontier.",
+          ["('a^a'):gmatch('^a')", "('one two'):gmatch('%w+$')", "('(a)(b)'):gmatch('%b()')", "('THE (quick) fox'):gmatch('%f[%a]%a+')", "string.gmatch(1203,'[^0]')"],
+          ["[^a]", "[two]", "[(a)][(b)]", "[THE][quick][fox]", "[1][2][3]"])
+body("gmatch_by_hand", "An iterator is a function; it looks at no argument, and goes on where it was.",
+     SAY + "local f,g=('abc'):gmatch('.'),('xy'):gmatch('.')\nfor c in f do break end\nreturn say(type(f),f(5,{}),g(),f('x'),g(nil),f==f,f==g)", "function b x c y true false")
+body("gmatch_at_its_end", "At its end nil, again and again.", SAY + "local f=('a'):gmatch('a')\nreturn say(f(),(f()),(f()),select('#',f()))", "a nil nil 1", profile=True)
+body("gmatch_reads_late", "A pattern is read at each step and not before.", TRY + "local f=('a'):gmatch('%')\nreturn try(f),try(f)", "malformed pattern (1);malformed pattern (1);", profile=True)
+body("gmatch_pattern_place", "With the place of the loop.", "for x in ('a'):gmatch('[') do end", fails="Lua error: Module:X:2: malformed pattern (2)", profile=True)
+body("gmatch_in_a_gmatch", "Lines, and the words of each.", "local s=''\nfor l in ('a b\\nc'):gmatch('[^\\n]+') do for w in l:gmatch('%a') do s=s..w end s=s..';' end\nreturn s", "ab;c;")
+body("iterator_has_no_fields", "An iterator can't be indexed.", "local f=('a'):gmatch('.')\nreturn f.x", fails="Lua error: Module:X:3: attempt to index a function value", profile=True)
+body("gmatch_maybe_forty_times", "`a?` forty times, and then `a` forty times.", "local s=('a'):rep(40)\nreturn s:gmatch(('a?'):rep(40)..s)()", more=(), profile=True, runs=[("exact", AMPLE, CALLS, [], "spends steps, 0 left")])
+body("gmatch_of_a_long_pattern", "A pattern of a million bytes is paid for at each step.", "local p=('a'):rep(1000000)\nfor i=1,1000 do local x=('b'):gmatch(p)() end", more=(), profile=True, runs=[("exact", AMPLE, CALLS, [], "spends steps, 0 left")])
+gives_all("ustring_gmatch_matches", "Symbols and places of code points, and classes by category.",
+          ["mw.ustring.gmatch('\xc3\xa4b\xc3\xa4','.')", "mw.ustring.gmatch('\xc3\xa4b\xc3\xa4','()\xc3\xa4()')", "mw.ustring.gmatch('\xc3\xa4b','')", "mw.ustring.gmatch('\xc3\xa4b','()')", "mw.ustring.gmatch('\xd0\x90\xd0\xb1 c','%a+')"],
+          ["[\\xc3\\xa4][b][\\xc3\\xa4]", "[1 2][3 4]", "[][][]", "[1][2][3]", "[\\xd0\\x90\\xd0\\xb1][c]"], profile=True)
+gives_all("gcodepoint_numbers", "Code points, all of them, from a place on, from the end, from one to another, and none.",
+          ["mw.ustring.gcodepoint('a\xc3\xa4\xe2\x82\xac')", "mw.ustring.gcodepoint('a\xc3\xa4\xe2\x82\xac',2)", "mw.ustring.gcodepoint('a\xc3\xa4\xe2\x82\xac',-1)", "mw.ustring.gcodepoint('a\xc3\xa4\xe2\x82\xac',1,2)", "mw.ustring.gcodepoint('abc',3,2)", "mw.ustring.gcodepoint('')", "mw.ustring.gcodepoint(42)"],
+          ["[97][228][8364]", "[228][8364]", "[8364]", "[97][228]", "", "", "[52][50]"], profile=True)
+gives_all("gsplit_parts", "The parts that `split` puts into a table.",
+          ["mw.text.gsplit('abc','')", "mw.text.gsplit('','')", "mw.text.gsplit('a,b,',',')", "mw.text.gsplit('abc','b*')", "mw.text.gsplit('bab','b*')", "mw.text.gsplit('abc','$')", "mw.text.gsplit('aaa','^a')", "mw.text.gsplit('a.b','.',true)", "mw.text.gsplit('\xc3\xa9x','x')"],
+          ["[a][b][c]", "[]", "[a][b][]", "[a][][c]", "[][a][][]", "[abc]", "[][][][]", "[a][b]", "[\\xc3\\xa9][]"], profile=True)
+body("iterators_refuse", "Arguments that are none, and patterns that are read late.", TRY + "local u,m=mw.ustring,mw.text\nreturn try(u.gmatch,'\\255','a'),try(u.gmatch,'a','\\255'),try(u.gcodepoint,'\\255'),try(m.gsplit,'a','\\255',true),try(m.gsplit('a','%')),try(u.gmatch('a','['))",
+     "bad argument #1 to 'gmatch' (not UTF-8);bad argument #2 to 'gmatch' (not UTF-8);bad argument #1 to 'gcodepoint' (not UTF-8);bad argument #2 to 'gsplit' (not UTF-8);malformed pattern (1);malformed pattern (2);", profile=True)
 
 
 # ---- each function with each kind of value in each place. `s` is a text, `n` a number, `t` a table, `-` what must be nil; behind `?` a value
 # may be left out, or be nil.
 SIGNATURES = {
-    "string": "byte=sn?n? char=nn find=ssn? match=ssn? format=s len=s lower=s upper=s rep=sn reverse=s sub=snn?",
+    "string": "byte=sn?n? char=nn find=ssn? match=ssn? gmatch=ss format=s len=s lower=s upper=s rep=sn reverse=s sub=snn?",
     "math": "abs=n ceil=n floor=n fmod=nn max=nn min=nn pow=nn",
     "table": "concat=ts?n?n? insert=tnt maxn=t remove=tn? sort=t-",
-    "mw.ustring": "char=nn codepoint=sn?n? byteoffset=sn?n? find=ssn? match=ssn? len=s sub=snn? isutf8=s toNFC=s toNFD=s toNFKC=s toNFKD=s",
-    "mw.text": "trim=ss? split=ss encode=ss? decode=s listToText=ts?s? nowiki=s tag=st? truncate=sns?",
+    "mw.ustring": "char=nn codepoint=sn?n? gcodepoint=sn?n? byteoffset=sn?n? find=ssn? match=ssn? gmatch=ss len=s sub=snn? isutf8=s toNFC=s toNFD=s toNFKC=s toNFKD=s",
+    "mw.text": "trim=ss? split=ss gsplit=ss encode=ss? decode=s listToText=ts?s? nowiki=s tag=st? truncate=sns?",
 }
 KINDS = {"s": "string", "n": "number", "t": "table", "-": "nil"}
 GOOD = {"s": "'a'", "n": "1", "t": "{}"}

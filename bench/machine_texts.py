@@ -67,9 +67,9 @@ class Found:
         self.start, self.end, self.captures, self.tries = start, end, captures, tries
 
 
-def reader_of(run, ls, pattern, points):
+def reader_of(run, ls, pattern, points, anchors=True):
     try:
-        return Reader(symbols(pattern, points)[0], points, True)
+        return Reader(symbols(pattern, points)[0], points, anchors)
     except Fault as fault:
         return run.raise_at(ls, b"malformed pattern (%d)" % fault.args[0])
 
@@ -198,6 +198,8 @@ def formatted(run, ls, args):
 
 # ---- `string` and `math`
 def string_functions(run):
+    from machine_iterators import gmatch
+
     def byte(args, ls):
         s = a_text(run, ls, args, 1, b"byte")
         i = a_number(run, ls, args, 2, b"byte", 1)
@@ -232,7 +234,7 @@ def string_functions(run):
 
     def changed(name, change):
         return lambda args, ls: giving(run, change(a_text(run, ls, args, 1, name)))
-    return [(b"byte", byte), (b"char", char), (b"find", find), (b"match", match), (b"format", form), (b"len", size),
+    return [(b"byte", byte), (b"char", char), (b"find", find), (b"match", match), (b"gmatch", gmatch(run, False)), (b"format", form), (b"len", size),
             (b"lower", changed(b"lower", bytes.lower)), (b"upper", changed(b"upper", bytes.upper)), (b"rep", rep),
             (b"reverse", changed(b"reverse", lambda s: s[::-1])), (b"sub", sub)]
 
@@ -357,6 +359,8 @@ def begins(text):
 
 
 def ustring_functions(run):
+    from machine_iterators import gcodepoint, gmatch
+
     def char(args, ls):
         found = numbers(run, ls, args, b"char", lambda n: 0 <= n < 0xD800 or 0xE000 <= n <= 0x10FFFF)
         return giving(run, "".join(map(chr, found)).encode())
@@ -405,7 +409,8 @@ def ustring_functions(run):
             text = decoded_in(args, ls, b"to" + name)
             return [None] if text is None else giving(run, unicodedata.normalize(name.decode(), text).encode())
         return b"to" + name, does
-    return of_texts(run, [(b"char", char), (b"codepoint", codepoint), (b"byteoffset", byteoffset), (b"find", find), (b"match", match),
+    return of_texts(run, [(b"char", char), (b"codepoint", codepoint), (b"gcodepoint", gcodepoint(run)), (b"byteoffset", byteoffset),
+                          (b"find", find), (b"match", match), (b"gmatch", gmatch(run, True)),
                           (b"len", size), (b"sub", sub), (b"isutf8", isutf8), *map(form, (b"NFC", b"NFD", b"NFKC", b"NFKD"))])
 
 
@@ -433,25 +438,32 @@ def referred(m):
     return chr(n).encode() if n < 0xD800 or 0xE000 <= n <= 0x10FFFF else m[0]
 
 
+def part_from(subject, pattern, reader, at):
+    """The part that begins at a byte, the tries, and where the next one begins, if there is one. Without a reader it is a plain search."""
+    found = search(reader, subject, at) if reader else plain_found(subject, pattern, at)
+    stop, behind = found.start, found.end
+    if stop is None:
+        stop, behind = len(subject), None
+    elif stop == behind:
+        ends = [n for n in begins(subject) + [len(subject)] if n > stop] or [stop]
+        stop, behind = ends[0], ends[0] if ends[0] < len(subject) else None
+    return subject[at:stop], found.tries, behind
+
+
 def cuts(run, ls, subject, pattern, plain):
     """The parts of a text, and the tries."""
     reader = None if plain else reader_of(run, ls, pattern, True)
     parts, tries, at = [], 0, 0
     while at is not None:
-        found = plain_found(subject, pattern, at) if plain else search(reader, subject, at)
-        tries += found.tries
-        stop, behind = found.start, found.end
-        if stop is None:
-            stop, behind = len(subject), None
-        elif stop == behind:
-            ends = [n for n in begins(subject) + [len(subject)] if n > stop] or [stop]
-            stop, behind = ends[0], ends[0] if ends[0] < len(subject) else None
-        parts.append(subject[at:stop])
-        at = behind
+        text, more, at = part_from(subject, pattern, reader, at)
+        parts.append(text)
+        tries += more
     return parts, tries
 
 
 def text_functions(run):
+    from machine_iterators import gsplit
+
     def trim(args, ls):
         s = list(map(ord, utf8_text(run, ls, args, 1, b"trim").decode()))
         goes, tries = set_in(run, ls, args, b"trim", "\t\n\f\r "), 0
@@ -508,5 +520,5 @@ def text_functions(run):
             return giving(run, s.encode())
         room = max(abs(n) - len(dots), 0) if is_true(nth(args, 3)) else abs(n)
         return giving(run, (s[:room] + dots if n >= 0 else dots + s[len(s) - room:]).encode())
-    return of_texts(run, [(b"trim", trim), (b"split", split), (b"encode", encode), (b"decode", decode), (b"listToText", list_to_text),
-                          (b"nowiki", nowiki), (b"tag", tag), (b"truncate", truncate)])
+    return of_texts(run, [(b"trim", trim), (b"split", split), (b"gsplit", gsplit(run)), (b"encode", encode), (b"decode", decode),
+                          (b"listToText", list_to_text), (b"nowiki", nowiki), (b"tag", tag), (b"truncate", truncate)])

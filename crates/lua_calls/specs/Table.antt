@@ -17,6 +17,7 @@ use Rattle.lua_strings.specs.Table as strings
 use Rattle.lua_tables.specs.Table as tables
 use Rattle.mw_ustrings.specs.Table as ustrings
 use Rattle.mw_texts.specs.Table as texts
+use Rattle.lua_iterators.specs.Table as iterators
 use Rattle.mw_frame_calls.specs.Table.{framed_of}
 use Rattle.lua_calls.specs.declared.table.AtOnce.{AtOnce}
 use Rattle.lua_calls.specs.declared.table.AtOnce.TheVariants as once
@@ -42,6 +43,7 @@ once_seen (once.Strings f) args h = strings.answer_of f args h
 once_seen (once.Tables f) args h = tables.answer_of f args h
 once_seen (once.Ustrings f) args h = ustrings.answer_of f args h
 once_seen (once.Texts f) args h = texts.answer_of f args h
+once_seen (once.Iterators f) args h = iterators.answer_of f args h
 
 -- what an act does with its arguments
 abbrev pub act_seen : World → Act → List Value → Heap Proc → List Frame → Form Proc
@@ -60,6 +62,7 @@ pub record InNoGroup (which : Library) : Type 0 where
   pub not_tables : tables.table_function_in which ≡ None
   pub not_ustrings : ustrings.ustring_function_in which ≡ None
   pub not_texts : texts.text_function_in which ≡ None
+  pub not_iterators : iterators.iterator_function_in which ≡ None
 
 -- the functions that are in no group and none of the frames
 abbrev pub other_in : Library → Act

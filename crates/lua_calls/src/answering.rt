@@ -6,6 +6,7 @@ ghost use Rattle.lua_calls.specs.Table.{once_seen};
 
 use crate::table::AtOnce;
 use lua_basic::Stop;
+use lua_iterators::iterator_call;
 use lua_libs::plain_call;
 use lua_store::{Store, Value};
 use lua_strings::string_call;
@@ -40,5 +41,6 @@ pub fn once_call(
         AtOnce::Tables(function) => table_call(alloc, store, left, function, args),
         AtOnce::Ustrings(function) => ustring_call(alloc, store, left, function, args),
         AtOnce::Texts(function) => text_call(alloc, store, left, names, function, args),
+        AtOnce::Iterators(function) => iterator_call(alloc, store, left, function, args),
     }
 }

@@ -3,6 +3,7 @@ ghost use Rattle.std.specs.Prelude.{◌≡◌, MatchOption};
 ghost use Rattle.lua_calls.specs.Table.{other_in, InNoGroup, IsLine};
 ghost use Rattle.lua_calls.specs.declared.table.Act.TheVariants as act;
 
+use lua_iterators::{IteratorFunction, iterator_function};
 use lua_libs::{PlainFunction, plain_function};
 use lua_store::Library;
 use lua_strings::{StringFunction, string_function};
@@ -20,6 +21,8 @@ pub enum AtOnce {
     Tables(TableFunction),
     Ustrings(UstringFunction),
     Texts(TextFunction),
+    /// that make iterators, and the steps of these
+    Iterators(IteratorFunction),
 }
 
 /// A function that calls back, or that sees more of a run than its heap and its frames.
@@ -61,7 +64,10 @@ fn at_once(which: Library) -> Option<AtOnce>
                     Some(function) => Some(AtOnce::Ustrings(function)),
                     None => match text_function(which) {
                         Some(function) => Some(AtOnce::Texts(function)),
-                        None => None,
+                        None => match iterator_function(which) {
+                            Some(function) => Some(AtOnce::Iterators(function)),
+                            None => None,
+                        },
                     },
                 },
             },

@@ -2,7 +2,7 @@
 use Rattle.std.specs.Prelude.{[], ◌∷◌, ◌++◌, codes}
 use Rattle.lua_heap.specs.Value.{Text, Table}
 use Rattle.lua_heap.specs.Table.{Entries}
-use Rattle.lua_heap.specs.declared.library.Library.TheVariants.{BasicAssert, BasicError, BasicGetMetatable, BasicSetMetatable, BasicIpairs, BasicPairs, BasicNext, BasicPcall, BasicXpcall, BasicRawEqual, BasicRawGet, BasicRawSet, BasicSelect, BasicToNumber, BasicToString, BasicType, BasicUnpack, BasicRequire, StringByte, StringChar, StringFind, StringMatch, StringFormat, StringLen, StringLower, StringUpper, StringRep, StringReverse, StringSub, MwClone, MwLog, MwLoadData, MwGetCurrentFrame, MwGetCurrentTitle, TableConcat, TableInsert, TableMaxn, TableRemove, TableSort, MathAbs, MathCeil, MathFloor, MathFmod, MathMax, MathMin, MathPow, UstringChar, UstringCodepoint, UstringByteOffset, UstringFind, UstringMatch, UstringLen, UstringSub, UstringIsUtf8, UstringToNfc, UstringToNfd, UstringToNfkc, UstringToNfkd, TextTrim, TextSplit, TextEncode, TextDecode, TextListToText, TextNowiki, TextTag, TextTruncate}
+use Rattle.lua_heap.specs.declared.library.Library.TheVariants.{BasicAssert, BasicError, BasicGetMetatable, BasicSetMetatable, BasicIpairs, BasicPairs, BasicNext, BasicPcall, BasicXpcall, BasicRawEqual, BasicRawGet, BasicRawSet, BasicSelect, BasicToNumber, BasicToString, BasicType, BasicUnpack, BasicRequire, StringByte, StringChar, StringFind, StringMatch, StringGmatch, StringFormat, StringLen, StringLower, StringUpper, StringRep, StringReverse, StringSub, MwClone, MwLog, MwLoadData, MwGetCurrentFrame, MwGetCurrentTitle, TableConcat, TableInsert, TableMaxn, TableRemove, TableSort, MathAbs, MathCeil, MathFloor, MathFmod, MathMax, MathMin, MathPow, UstringChar, UstringCodepoint, UstringGcodepoint, UstringByteOffset, UstringFind, UstringMatch, UstringGmatch, UstringLen, UstringSub, UstringIsUtf8, UstringToNfc, UstringToNfd, UstringToNfkc, UstringToNfkd, TextTrim, TextSplit, TextGsplit, TextEncode, TextDecode, TextListToText, TextNowiki, TextTag, TextTruncate}
 use Rattle.lua_meaning.specs.Frames.{function_entry}
 use Rattle.lua_home.specs.declared.made.Tables.{Tables}
 
@@ -48,15 +48,16 @@ first_strings =
     ∷ function_entry (codes "char") StringChar
     ∷ function_entry (codes "find") StringFind
     ∷ function_entry (codes "match") StringMatch
+    ∷ function_entry (codes "gmatch") StringGmatch
     ∷ function_entry (codes "format") StringFormat
     ∷ function_entry (codes "len") StringLen
     ∷ function_entry (codes "lower") StringLower
-    ∷ function_entry (codes "upper") StringUpper
     ∷ []
 
 abbrev pub last_strings : Entries
 last_strings =
-    function_entry (codes "rep") StringRep
+    function_entry (codes "upper") StringUpper
+    ∷ function_entry (codes "rep") StringRep
     ∷ function_entry (codes "reverse") StringReverse
     ∷ function_entry (codes "sub") StringSub
     ∷ []
@@ -101,29 +102,36 @@ abbrev pub first_ustring : Entries
 first_ustring =
     function_entry (codes "char") UstringChar
     ∷ function_entry (codes "codepoint") UstringCodepoint
+    ∷ function_entry (codes "gcodepoint") UstringGcodepoint
     ∷ function_entry (codes "byteoffset") UstringByteOffset
     ∷ function_entry (codes "find") UstringFind
     ∷ function_entry (codes "match") UstringMatch
+    ∷ function_entry (codes "gmatch") UstringGmatch
     ∷ function_entry (codes "len") UstringLen
-    ∷ function_entry (codes "sub") UstringSub
-    ∷ function_entry (codes "isutf8") UstringIsUtf8
     ∷ []
 
 abbrev pub last_ustring : Entries
 last_ustring =
-    function_entry (codes "toNFC") UstringToNfc
+    function_entry (codes "sub") UstringSub
+    ∷ function_entry (codes "isutf8") UstringIsUtf8
+    ∷ function_entry (codes "toNFC") UstringToNfc
     ∷ function_entry (codes "toNFD") UstringToNfd
     ∷ function_entry (codes "toNFKC") UstringToNfkc
     ∷ function_entry (codes "toNFKD") UstringToNfkd
     ∷ []
 
-abbrev pub text_fields : Entries
-text_fields =
+abbrev pub first_text : Entries
+first_text =
     function_entry (codes "trim") TextTrim
     ∷ function_entry (codes "split") TextSplit
+    ∷ function_entry (codes "gsplit") TextGsplit
     ∷ function_entry (codes "encode") TextEncode
     ∷ function_entry (codes "decode") TextDecode
-    ∷ function_entry (codes "listToText") TextListToText
+    ∷ []
+
+abbrev pub last_text : Entries
+last_text =
+    function_entry (codes "listToText") TextListToText
     ∷ function_entry (codes "nowiki") TextNowiki
     ∷ function_entry (codes "tag") TextTag
     ∷ function_entry (codes "truncate") TextTruncate
@@ -138,3 +146,6 @@ string_fields = first_strings ++ last_strings
 
 abbrev pub ustring_fields : Entries
 ustring_fields = first_ustring ++ last_ustring
+
+abbrev pub text_fields : Entries
+text_fields = first_text ++ last_text

@@ -2,7 +2,7 @@
 ghost use Rattle.std.specs.Prelude.{◌≡◌, ℕ, length, IfOk, OnOk};
 ghost use Rattle.lua_graph.specs.Put.{grown, filled};
 ghost use Rattle.lua_store.specs.Parts.{IsLater};
-ghost use Rattle.lua_home.specs.Entries.{first_globals, middle_globals, last_globals, first_strings, last_strings, mw_fields, title_fields, table_fields, math_fields, first_ustring, last_ustring, text_fields, global_fields, string_fields, ustring_fields};
+ghost use Rattle.lua_home.specs.Entries.{first_globals, middle_globals, last_globals, first_strings, last_strings, mw_fields, title_fields, table_fields, math_fields, first_ustring, last_ustring, first_text, last_text, global_fields, string_fields, ustring_fields, text_fields};
 ghost use Rattle.lua_home.specs.Made.{with_home, AreAt, AreTablesOf, HomeIsHome};
 
 use crate::fields::{Field, Item, fill};
@@ -203,6 +203,10 @@ fn fill_first_strings(store: &mut Store, tables: &Tables) -> Result<(), NoMemory
             value: Item::Function(Library::StringMatch),
         },
         Field {
+            name: b"gmatch",
+            value: Item::Function(Library::StringGmatch),
+        },
+        Field {
             name: b"format",
             value: Item::Function(Library::StringFormat),
         },
@@ -213,10 +217,6 @@ fn fill_first_strings(store: &mut Store, tables: &Tables) -> Result<(), NoMemory
         Field {
             name: b"lower",
             value: Item::Function(Library::StringLower),
-        },
-        Field {
-            name: b"upper",
-            value: Item::Function(Library::StringUpper),
         },
     ];
     fill(store, tables.strings, &fields)
@@ -229,6 +229,10 @@ fn fill_last_strings(store: &mut Store, tables: &Tables) -> Result<(), NoMemory>
     ensures later { IsLater store.old store.new }
 {
     let fields = [
+        Field {
+            name: b"upper",
+            value: Item::Function(Library::StringUpper),
+        },
         Field {
             name: b"rep",
             value: Item::Function(Library::StringRep),
@@ -383,6 +387,10 @@ fn fill_first_ustring(store: &mut Store, tables: &Tables) -> Result<(), NoMemory
             value: Item::Function(Library::UstringCodepoint),
         },
         Field {
+            name: b"gcodepoint",
+            value: Item::Function(Library::UstringGcodepoint),
+        },
+        Field {
             name: b"byteoffset",
             value: Item::Function(Library::UstringByteOffset),
         },
@@ -395,9 +403,24 @@ fn fill_first_ustring(store: &mut Store, tables: &Tables) -> Result<(), NoMemory
             value: Item::Function(Library::UstringMatch),
         },
         Field {
+            name: b"gmatch",
+            value: Item::Function(Library::UstringGmatch),
+        },
+        Field {
             name: b"len",
             value: Item::Function(Library::UstringLen),
         },
+    ];
+    fill(store, tables.ustring, &fields)
+}
+
+/// Those behind them.
+fn fill_last_ustring(store: &mut Store, tables: &Tables) -> Result<(), NoMemory>
+    requires { AreTablesOf store.old tables.now }
+    ensures put { OnOk result (store.new.heap ≡ filled tables.now.ustring.at last_ustring store.old.heap) }
+    ensures later { IsLater store.old store.new }
+{
+    let fields = [
         Field {
             name: b"sub",
             value: Item::Function(Library::UstringSub),
@@ -406,17 +429,6 @@ fn fill_first_ustring(store: &mut Store, tables: &Tables) -> Result<(), NoMemory
             name: b"isutf8",
             value: Item::Function(Library::UstringIsUtf8),
         },
-    ];
-    fill(store, tables.ustring, &fields)
-}
-
-/// Those behind them: the normal forms.
-fn fill_forms(store: &mut Store, tables: &Tables) -> Result<(), NoMemory>
-    requires { AreTablesOf store.old tables.now }
-    ensures put { OnOk result (store.new.heap ≡ filled tables.now.ustring.at last_ustring store.old.heap) }
-    ensures later { IsLater store.old store.new }
-{
-    let fields = [
         Field {
             name: b"toNFC",
             value: Item::Function(Library::UstringToNfc),
@@ -437,10 +449,10 @@ fn fill_forms(store: &mut Store, tables: &Tables) -> Result<(), NoMemory>
     fill(store, tables.ustring, &fields)
 }
 
-/// The fields of `mw.text`.
-fn fill_text(store: &mut Store, tables: &Tables) -> Result<(), NoMemory>
+/// The first fields of `mw.text`.
+fn fill_first_text(store: &mut Store, tables: &Tables) -> Result<(), NoMemory>
     requires { AreTablesOf store.old tables.now }
-    ensures put { OnOk result (store.new.heap ≡ filled tables.now.text.at text_fields store.old.heap) }
+    ensures put { OnOk result (store.new.heap ≡ filled tables.now.text.at first_text store.old.heap) }
     ensures later { IsLater store.old store.new }
 {
     let fields = [
@@ -453,6 +465,10 @@ fn fill_text(store: &mut Store, tables: &Tables) -> Result<(), NoMemory>
             value: Item::Function(Library::TextSplit),
         },
         Field {
+            name: b"gsplit",
+            value: Item::Function(Library::TextGsplit),
+        },
+        Field {
             name: b"encode",
             value: Item::Function(Library::TextEncode),
         },
@@ -460,6 +476,17 @@ fn fill_text(store: &mut Store, tables: &Tables) -> Result<(), NoMemory>
             name: b"decode",
             value: Item::Function(Library::TextDecode),
         },
+    ];
+    fill(store, tables.text, &fields)
+}
+
+/// Those behind them.
+fn fill_last_text(store: &mut Store, tables: &Tables) -> Result<(), NoMemory>
+    requires { AreTablesOf store.old tables.now }
+    ensures put { OnOk result (store.new.heap ≡ filled tables.now.text.at last_text store.old.heap) }
+    ensures later { IsLater store.old store.new }
+{
+    let fields = [
         Field {
             name: b"listToText",
             value: Item::Function(Library::TextListToText),
@@ -510,7 +537,18 @@ fn fill_ustring(store: &mut Store, tables: &Tables) -> Result<(), NoMemory>
     ensures later { IsLater store.old store.new }
 {
     fill_first_ustring(store, tables)?;
-    fill_forms(store, tables)?;
+    fill_last_ustring(store, tables)?;
+    Ok(())
+}
+
+/// The fields of `mw.text`.
+fn fill_text(store: &mut Store, tables: &Tables) -> Result<(), NoMemory>
+    requires { AreTablesOf store.old tables.now }
+    ensures put { OnOk result (store.new.heap ≡ filled tables.now.text.at text_fields store.old.heap) }
+    ensures later { IsLater store.old store.new }
+{
+    fill_first_text(store, tables)?;
+    fill_last_text(store, tables)?;
     Ok(())
 }
 

@@ -3,3 +3,4 @@ pub mod Walks
 pub mod Parted
 pub mod Made
 pub mod Rows
+pub mod Lines

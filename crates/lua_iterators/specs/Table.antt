@@ -1,12 +1,16 @@
 -- THE FUNCTIONS of the library that make iterators, and the steps of these; and what each gives.
-use Rattle.std.specs.Prelude.{ℕ, List, Option, Some, None}
+use Rattle.std.specs.Prelude.{◌≡◌, ℕ, List, Option, Some, None}
 use Rattle.lua_pattern.specs.Texts.{bytes, points}
+use Rattle.lua_heap.specs.Proc.{Proc}
 use Rattle.lua_heap.specs.Value.{Value}
 use Rattle.lua_heap.specs.Heap.{Heap}
 use Rattle.lua_heap.specs.declared.library.Library.{Library}
 use Rattle.lua_heap.specs.declared.library.Library.TheVariants.{StringGmatch, UstringGmatch, UstringGcodepoint, TextGsplit, GmatchStep, UstringGmatchStep, GcodepointStep, GsplitStep}
+use Rattle.lua_meaning.specs.World.{World}
+use Rattle.lua_meaning.specs.Acts.{Frame}
 use Rattle.lua_meaning.specs.Arguments.{Plain, with_charge, text_charge}
 use Rattle.lua_meaning.specs.Iterators.{Cells, iterator_step, match_step, point_step, part_step, gmatch, ustring_gmatch, gcodepoint, gsplit}
+use Rattle.lua_meaning.specs.Libraries.{Answers, form}
 use Rattle.lua_iterators.specs.declared.table.Maker.{Maker}
 use Rattle.lua_iterators.specs.declared.table.Maker.TheVariants as maker
 use Rattle.lua_iterators.specs.declared.table.Stepper.{Stepper}
@@ -51,3 +55,8 @@ args_charge f args = text_charge args
 
 abbrev pub answer_of : {X : Type 0} → IteratorFunction → List Value → Heap X → Plain X
 answer_of f args h = with_charge (args_charge f args) (given_by f args h)
+
+-- each is a line of the table of the library
+abbrev pub AreInTable : Type 0
+AreInTable = (which : Library) (f : IteratorFunction) → iterator_function_in which ≡ Some f → (world : World) (args : List Value) (h : Heap Proc) (frames : List Frame)
+    → form world which args h frames ≡ Answers (answer_of f args h)

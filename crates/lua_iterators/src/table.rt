@@ -1,6 +1,6 @@
 //! Which functions of the library they are.
 ghost use Rattle.std.specs.Prelude.{◌≡◌};
-ghost use Rattle.lua_iterators.specs.Table.{iterator_function_in};
+ghost use Rattle.lua_iterators.specs.Table.{iterator_function_in, AreInTable};
 
 use lua_store::Library;
 
@@ -45,3 +45,8 @@ pub fn iterator_function(which: Library) -> Option<IteratorFunction>
         _ => None,
     }
 }
+
+/// What each gives is what the meaning says of it.
+pub fn iterator_functions_are_in_the_table()
+    ensures { AreInTable }
+{}

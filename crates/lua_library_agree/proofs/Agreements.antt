@@ -4,7 +4,7 @@ use Rattle.lua_heap.specs.Value.{Value}
 use Rattle.lua_heap.specs.Heap.{Heap}
 use Rattle.lua_heap.specs.Related.{Map, GrowsWith, Each, Same, Stands}
 use Rattle.lua_heap.specs.declared.library.Library.{Library}
-use Rattle.lua_heap.specs.declared.library.Library.TheVariants.{BasicAssert, BasicError, BasicGetMetatable, BasicSetMetatable, BasicIpairs, BasicPairs, BasicNext, BasicPcall, BasicXpcall, BasicRawEqual, BasicRawGet, BasicRawSet, BasicSelect, BasicToNumber, BasicToString, BasicType, BasicUnpack, BasicRequire, StringByte, StringChar, StringFind, StringMatch, StringFormat, StringLen, StringLower, StringUpper, StringRep, StringReverse, StringSub, TableConcat, TableInsert, TableMaxn, TableRemove, TableSort, MathAbs, MathCeil, MathFloor, MathFmod, MathMax, MathMin, MathPow, MwClone, MwLog, MwGetCurrentTitle, MwLoadData, MwGetCurrentFrame, UstringChar, UstringCodepoint, UstringByteOffset, UstringFind, UstringMatch, UstringLen, UstringSub, UstringIsUtf8, UstringToNfc, UstringToNfd, UstringToNfkc, UstringToNfkd, TextTrim, TextSplit, TextEncode, TextDecode, TextListToText, TextNowiki, TextTag, TextTruncate, FrameGetParent, FrameExpandTemplate, FramePreprocess, FrameGetArgument, FrameArgumentPairs, FrameNewChild, FrameGetTitle, FrameExtensionTag, ArgsIndex, ArgumentExpand, StrictIndex, StrictNewIndex, IpairsStep}
+use Rattle.lua_heap.specs.declared.library.Library.TheVariants.{BasicAssert, BasicError, BasicGetMetatable, BasicSetMetatable, BasicIpairs, BasicPairs, BasicNext, BasicPcall, BasicXpcall, BasicRawEqual, BasicRawGet, BasicRawSet, BasicSelect, BasicToNumber, BasicToString, BasicType, BasicUnpack, BasicRequire, StringByte, StringChar, StringFind, StringMatch, StringGmatch, StringFormat, StringLen, StringLower, StringUpper, StringRep, StringReverse, StringSub, TableConcat, TableInsert, TableMaxn, TableRemove, TableSort, MathAbs, MathCeil, MathFloor, MathFmod, MathMax, MathMin, MathPow, MwClone, MwLog, MwGetCurrentTitle, MwLoadData, MwGetCurrentFrame, UstringChar, UstringCodepoint, UstringGcodepoint, UstringByteOffset, UstringFind, UstringMatch, UstringGmatch, UstringLen, UstringSub, UstringIsUtf8, UstringToNfc, UstringToNfd, UstringToNfkc, UstringToNfkd, TextTrim, TextSplit, TextGsplit, TextEncode, TextDecode, TextListToText, TextNowiki, TextTag, TextTruncate, FrameGetParent, FrameExpandTemplate, FramePreprocess, FrameGetArgument, FrameArgumentPairs, FrameNewChild, FrameGetTitle, FrameExtensionTag, ArgsIndex, ArgumentExpand, StrictIndex, StrictNewIndex, IpairsStep, GmatchStep, UstringGmatchStep, GcodepointStep, GsplitStep}
 use Rattle.lua_meaning.specs.World.{World}
 use Rattle.lua_meaning.specs.Acts.{Frame}
 use Rattle.lua_meaning.specs.Arguments.{Plain, with_charge, text_charge}
@@ -20,6 +20,7 @@ use Rattle.lua_library_agree.proofs.StringsAgree as strings
 use Rattle.lua_library_agree.proofs.TableAgree as tables
 use Rattle.lua_library_agree.proofs.UstringAgree as ustring
 use Rattle.lua_library_agree.proofs.TextsAgree as texts
+use Rattle.lua_library_agree.proofs.IteratorsAgree as iterators
 use Rattle.lua_library_agree.proofs.MwFunctions.{log-same, strict_index-same, strict_new_index-same, clone-same, get_current_title-same}
 
 module _ {X Y : Type 0} (R : Map → X → Y → Type 0) (up : GrowsWith R) (m : Map) (h : Heap X) (s : Heap Y) (st : Stands R m h s) (world other : World)
@@ -51,6 +52,7 @@ module _ {X Y : Type 0} (R : Map → X → Y → Type 0) (up : GrowsWith R) (m :
   all-agree page StringChar = both_answer _ _ (strings.char-same R m h s st vs ws e)
   all-agree page StringFind = both_answer _ _ (strings.find-same R m h s st vs ws e)
   all-agree page StringMatch = both_answer _ _ (strings.match-same R m h s st vs ws e)
+  all-agree page StringGmatch = both_answer _ _ (iterators.gmatch-same R up m h s st vs ws e)
   all-agree page StringFormat = both_answer _ _ (strings.format-same R m h s st vs ws e)
   all-agree page StringLen = both_answer _ _ (strings.len-same R m h s st vs ws e)
   all-agree page StringLower = both_answer _ _ (strings.lower-same R m h s st vs ws e)
@@ -77,9 +79,11 @@ module _ {X Y : Type 0} (R : Map → X → Y → Type 0) (up : GrowsWith R) (m :
   all-agree page MwGetCurrentFrame = both_see _ _ (get_current_frame-same R up m h s st fs gs ef)
   all-agree page UstringChar = both_answer _ _ (behind_texts (ustring.char-same R m h s st vs ws e))
   all-agree page UstringCodepoint = both_answer _ _ (behind_texts (ustring.codepoint-same R m h s st vs ws e))
+  all-agree page UstringGcodepoint = both_answer _ _ (behind_texts (iterators.gcodepoint-same R up m h s st vs ws e))
   all-agree page UstringByteOffset = both_answer _ _ (behind_texts (ustring.byteoffset-same R m h s st vs ws e))
   all-agree page UstringFind = both_answer _ _ (behind_texts (ustring.find-same R m h s st vs ws e))
   all-agree page UstringMatch = both_answer _ _ (behind_texts (ustring.match_from-same R m h s st vs ws e))
+  all-agree page UstringGmatch = both_answer _ _ (behind_texts (iterators.ustring_gmatch-same R up m h s st vs ws e))
   all-agree page UstringLen = both_answer _ _ (behind_texts (ustring.len-same R m h s st vs ws e))
   all-agree page UstringSub = both_answer _ _ (behind_texts (ustring.sub-same R m h s st vs ws e))
   all-agree page UstringIsUtf8 = both_answer _ _ (behind_texts (ustring.isutf8-same R m h s st vs ws e))
@@ -89,6 +93,7 @@ module _ {X Y : Type 0} (R : Map → X → Y → Type 0) (up : GrowsWith R) (m :
   all-agree page UstringToNfkd = both_answer _ _ (behind_texts (ustring.to_nfkd-same R m h s st vs ws e))
   all-agree page TextTrim = both_answer _ _ (behind_texts (texts.trim-same R m h s st vs ws e))
   all-agree page TextSplit = both_answer _ _ (behind_texts (texts.split-same R m h s st vs ws e up))
+  all-agree page TextGsplit = both_answer _ _ (behind_texts (iterators.gsplit-same R up m h s st vs ws e))
   all-agree page TextEncode = both_answer _ _ (behind_texts (texts.encode-same R m h s st vs ws e))
   all-agree page TextDecode = both_answer _ _ (behind_texts (texts.decode-same R m h s st vs ws e))
   all-agree page TextListToText = both_answer _ _ (behind_texts (texts.list_to_text-same R m h s st vs ws e))
@@ -108,4 +113,8 @@ module _ {X Y : Type 0} (R : Map → X → Y → Type 0) (up : GrowsWith R) (m :
   all-agree page StrictIndex = both_answer _ _ (strict_index-same R m h s st vs ws e)
   all-agree page StrictNewIndex = both_answer _ _ (strict_new_index-same R m h s st vs ws e)
   all-agree page IpairsStep = both_call _
+  all-agree page GmatchStep = both_answer _ _ (iterators.gmatch_step-same R m h s st vs ws e)
+  all-agree page UstringGmatchStep = both_answer _ _ (behind_texts (iterators.ustring_gmatch_step-same R m h s st vs ws e))
+  all-agree page GcodepointStep = both_answer _ _ (behind_texts (iterators.gcodepoint_step-same R m h s st vs ws e))
+  all-agree page GsplitStep = both_answer _ _ (behind_texts (iterators.gsplit_step-same R m h s st vs ws e))
   all-agree page which = neither_built

@@ -13,7 +13,7 @@ use Rattle.lua_format.specs.Layouts.{filled}
 use Rattle.lua_format.specs.Format.{formatted}
 use Rattle.mw_text.specs.References.{numbered}
 use Rattle.mw_text.specs.Split.{parts_of}
-use Rattle.lua_meaning.specs.ExampleLibraries.{RepCosts, FormatCosts, ConcatCosts, MaxCosts, SplitCosts, MethodsOfTexts, SearchesOfTexts, AllOfASearch, Formats, TablesAreChanged, WholeNumbers, CodePoints, TextsOfPages, WrongArguments, NamesInOrder, AllLibraries}
+use Rattle.lua_meaning.specs.ExampleLibraries.{RepCosts, FormatCosts, ConcatCosts, MaxCosts, SplitCosts, GmatchCosts, GsplitCosts, MethodsOfTexts, SearchesOfTexts, AllOfASearch, Iterators, IteratorsOfCodePoints, Formats, TablesAreChanged, WholeNumbers, CodePoints, TextsOfPages, WrongArguments, NamesInOrder, AllLibraries}
 
 rep_costs : RepCosts
 unfolding perform digits title_text prefix_of decimal_of numeral_of trimmed digits_of_base read_number_of read_in_base_of formatted directive_of filled count_leading_zeros is_utf8 chars encode_utf8 point_code numbered parts_of
@@ -35,6 +35,14 @@ split_costs : SplitCosts
 unfolding perform digits title_text prefix_of decimal_of numeral_of trimmed digits_of_base read_number_of read_in_base_of formatted directive_of filled count_leading_zeros is_utf8 chars encode_utf8 point_code numbered parts_of
 split_costs = (refl, refl)
 
+gmatch_costs : GmatchCosts
+unfolding perform digits title_text prefix_of decimal_of numeral_of trimmed digits_of_base read_number_of read_in_base_of formatted directive_of filled count_leading_zeros is_utf8 chars encode_utf8 point_code numbered parts_of
+gmatch_costs = (refl, refl)
+
+gsplit_costs : GsplitCosts
+unfolding perform digits title_text prefix_of decimal_of numeral_of trimmed digits_of_base read_number_of read_in_base_of formatted directive_of filled count_leading_zeros is_utf8 chars encode_utf8 point_code numbered parts_of
+gsplit_costs = (refl, refl)
+
 methods_of_texts : MethodsOfTexts
 unfolding perform digits title_text prefix_of decimal_of numeral_of trimmed digits_of_base read_number_of read_in_base_of formatted directive_of filled count_leading_zeros is_utf8 chars encode_utf8 point_code numbered parts_of
 methods_of_texts = refl
@@ -46,6 +54,14 @@ searches_of_texts = refl
 all_of_a_search : AllOfASearch
 unfolding perform digits title_text prefix_of decimal_of numeral_of trimmed digits_of_base read_number_of read_in_base_of formatted directive_of filled count_leading_zeros is_utf8 chars encode_utf8 point_code numbered parts_of
 all_of_a_search = refl
+
+iterators : Iterators
+unfolding perform digits title_text prefix_of decimal_of numeral_of trimmed digits_of_base read_number_of read_in_base_of formatted directive_of filled count_leading_zeros is_utf8 chars encode_utf8 point_code numbered parts_of
+iterators = refl
+
+iterators_of_code_points : IteratorsOfCodePoints
+unfolding perform digits title_text prefix_of decimal_of numeral_of trimmed digits_of_base read_number_of read_in_base_of formatted directive_of filled count_leading_zeros is_utf8 chars encode_utf8 point_code numbered parts_of
+iterators_of_code_points = refl
 
 formats : Formats
 unfolding perform digits title_text prefix_of decimal_of numeral_of trimmed digits_of_base read_number_of read_in_base_of formatted directive_of filled count_leading_zeros is_utf8 chars encode_utf8 point_code numbered parts_of
@@ -76,4 +92,4 @@ unfolding perform digits title_text prefix_of decimal_of numeral_of trimmed digi
 names_in_order = refl
 
 pub all_libraries : AllLibraries
-all_libraries = (rep_costs, format_costs, concat_costs, max_costs, split_costs, methods_of_texts, searches_of_texts, all_of_a_search, formats, tables_are_changed, whole_numbers, code_points, texts_of_pages, wrong_arguments, names_in_order)
+all_libraries = (rep_costs, format_costs, concat_costs, max_costs, split_costs, gmatch_costs, gsplit_costs, methods_of_texts, searches_of_texts, all_of_a_search, iterators, iterators_of_code_points, formats, tables_are_changed, whole_numbers, code_points, texts_of_pages, wrong_arguments, names_in_order)

@@ -2,7 +2,7 @@
 use Rattle.std.specs.Prelude.{◌≡◌, pos, true, false, [], ◌∷◌, codes}
 use Rattle.lua_syntax.specs.declared.BinaryOp.TheVariants as op
 use Rattle.lua_syntax.specs.declared.UnaryOp.TheVariants as sign
-use Rattle.lua_syntax.specs.Tree.{TrueE, NumberE, TextE, FunctionE, NameE, IndexE, CallE, MethodE, TableE, BinaryE, UnaryE, ParenE}
+use Rattle.lua_syntax.specs.Tree.{NilE, TrueE, NumberE, TextE, FunctionE, NameE, IndexE, CallE, MethodE, TableE, BinaryE, UnaryE, ParenE}
 use Rattle.lua_syntax.specs.Tree.{NoExp, NoField, Item, Pair, Lambda, Block}
 use Rattle.lua_syntax.specs.Tree.{AssignS, CallS, EachS, LocalS, ReturnS}
 use Rattle.lua_syntax.specs.View.{exps_of, fields_of, stats_of}
@@ -70,6 +70,30 @@ split_costs = stats_of (ReturnS 1 (exps_of (TableE 1 (fields_of (Pair (TextE 1 (
 abbrev pub SplitCosts : Type 0
 SplitCosts = (invoke_module (codes "X") 64 split_costs 1135 ≡ Gives (codes "b") 0) × (invoke_module (codes "X") 64 split_costs 1134 ≡ Spends Steps 0)
 
+-- An iterator costs as a closure. A step of `gmatch` costs the bytes of the pattern, a try at `a` and one at `1`, and the byte that it gives.
+--     return {f=function(...)
+--     return ('a1'):gmatch('%d')()
+--     end}
+abbrev pub gmatch_costs : Block
+gmatch_costs = stats_of (ReturnS 1 (exps_of (TableE 1 (fields_of (Pair (TextE 1 (codes "f")) (FunctionE 1 (Lambda [] true (stats_of (ReturnS 2 (exps_of (
+    CallE 2 (MethodE 2 (ParenE 2 (TextE 2 (codes "a1"))) (codes "gmatch") (exps_of (TextE 2 (codes "%d") ∷ []))) NoExp
+    ∷ [])) ∷ [])))) ∷ [])) ∷ [])) ∷ [])
+
+abbrev pub GmatchCosts : Type 0
+GmatchCosts = (invoke_module (codes "X") 57 gmatch_costs 1105 ≡ Gives (codes "1") 0) × (invoke_module (codes "X") 57 gmatch_costs 1104 ≡ Spends Steps 0)
+
+-- `mw.text.gsplit` costs first the bytes of its arguments; a step of it the pattern's, the tries, and the part's.
+--     return {f=function(...)
+--     return mw.text.gsplit('ab,c',',')()
+--     end}
+abbrev pub gsplit_costs : Block
+gsplit_costs = stats_of (ReturnS 1 (exps_of (TableE 1 (fields_of (Pair (TextE 1 (codes "f")) (FunctionE 1 (Lambda [] true (stats_of (ReturnS 2 (exps_of (
+    CallE 2 (CallE 2 (IndexE 2 (IndexE 2 (NameE 2 (codes "mw")) (TextE 2 (codes "text"))) (TextE 2 (codes "gsplit"))) (exps_of (TextE 2 (codes "ab,c") ∷ TextE 2 (codes ",") ∷ []))) NoExp
+    ∷ [])) ∷ [])))) ∷ [])) ∷ [])) ∷ [])
+
+abbrev pub GsplitCosts : Type 0
+GsplitCosts = (invoke_module (codes "X") 64 gsplit_costs 1123 ≡ Gives (codes "ab") 0) × (invoke_module (codes "X") 64 gsplit_costs 1122 ≡ Spends Steps 0)
+
 -- Functions of `string` are the methods of texts.
 --     return {f=function(...)
 --     local s='aBc'
@@ -116,6 +140,61 @@ all_of_a_search = stats_of (ReturnS 1 (exps_of (TableE 1 (fields_of (Pair (TextE
 
 abbrev pub AllOfASearch : Type 0
 AllOfASearch = without_steps (invoke_module (codes "X") 60 all_of_a_search 6000) ≡ Gives (codes "34ll") 0
+
+-- `gmatch` gives the captures of one match after another.
+--     return {f=function(...)
+--     local n='' for k,v in ('a=1,b=2'):gmatch('(%w)=(%w)') do n=n..k..v..';' end
+--     return n,(('x'):gmatch('y'))()==nil
+--     end}
+abbrev pub iterators : Block
+iterators = stats_of (ReturnS 1 (exps_of (TableE 1 (fields_of (Pair (TextE 1 (codes "f")) (FunctionE 1 (Lambda [] true (stats_of (
+    LocalS 2 (codes "n" ∷ []) (exps_of (TextE 2 [] ∷ []))
+    ∷ EachS 2 (codes "k" ∷ codes "v" ∷ []) (exps_of (MethodE 2 (ParenE 2 (TextE 2 (codes "a=1,b=2"))) (codes "gmatch") (exps_of (TextE 2 (codes "(%w)=(%w)") ∷ [])) ∷ [])) (stats_of (AssignS 2 (exps_of (NameE 2 (codes "n") ∷ [])) (exps_of (
+    BinaryE 2 op.Concat (NameE 2 (codes "n")) (BinaryE 2 op.Concat (NameE 2 (codes "k")) (BinaryE 2 op.Concat (NameE 2 (codes "v")) (TextE 2 (codes ";"))))
+    ∷ [])) ∷ []))
+    ∷ ReturnS 3 (exps_of (
+    NameE 3 (codes "n")
+    ∷ BinaryE 3 op.Eq (CallE 3 (ParenE 3 (MethodE 3 (ParenE 3 (TextE 3 (codes "x"))) (codes "gmatch") (exps_of (TextE 3 (codes "y") ∷ [])))) NoExp) (NilE 3)
+    ∷ []))
+    ∷ [])))) ∷ [])) ∷ [])) ∷ [])
+
+abbrev pub Iterators : Type 0
+Iterators = without_steps (invoke_module (codes "X") 140 iterators 6000) ≡ Gives (codes "a1;b2;true") 0
+
+-- Iterators of `mw.ustring` and `mw.text`.
+--     return {f=function(...)
+--     local s,n=mw.ustring.char(233,97),''
+--     for c in mw.ustring.gcodepoint(s) do n=n..c..' ' end
+--     for p,c in mw.ustring.gmatch(s,'()(.)') do n=n..p..#c..' ' end
+--     for p in mw.text.gsplit('x,y',',') do n=n..p..' ' end
+--     return n
+--     end}
+abbrev pub iterators_of_code_points : Block
+iterators_of_code_points = stats_of (ReturnS 1 (exps_of (TableE 1 (fields_of (Pair (TextE 1 (codes "f")) (FunctionE 1 (Lambda [] true (stats_of (
+    LocalS 2 (codes "s" ∷ codes "n" ∷ []) (exps_of (
+    CallE 2 (IndexE 2 (IndexE 2 (NameE 2 (codes "mw")) (TextE 2 (codes "ustring"))) (TextE 2 (codes "char"))) (exps_of (NumberE 2 (pos 233) ∷ NumberE 2 (pos 97) ∷ []))
+    ∷ TextE 2 []
+    ∷ []))
+    ∷ EachS 3 (codes "c" ∷ []) (exps_of (
+    CallE 3 (IndexE 3 (IndexE 3 (NameE 3 (codes "mw")) (TextE 3 (codes "ustring"))) (TextE 3 (codes "gcodepoint"))) (exps_of (NameE 3 (codes "s") ∷ []))
+    ∷ [])) (stats_of (
+    AssignS 3 (exps_of (NameE 3 (codes "n") ∷ [])) (exps_of (BinaryE 3 op.Concat (NameE 3 (codes "n")) (BinaryE 3 op.Concat (NameE 3 (codes "c")) (TextE 3 (codes " "))) ∷ []))
+    ∷ []))
+    ∷ EachS 4 (codes "p" ∷ codes "c" ∷ []) (exps_of (
+    CallE 4 (IndexE 4 (IndexE 4 (NameE 4 (codes "mw")) (TextE 4 (codes "ustring"))) (TextE 4 (codes "gmatch"))) (exps_of (NameE 4 (codes "s") ∷ TextE 4 (codes "()(.)") ∷ []))
+    ∷ [])) (stats_of (AssignS 4 (exps_of (NameE 4 (codes "n") ∷ [])) (exps_of (
+    BinaryE 4 op.Concat (NameE 4 (codes "n")) (BinaryE 4 op.Concat (NameE 4 (codes "p")) (BinaryE 4 op.Concat (UnaryE 4 sign.Len (NameE 4 (codes "c"))) (TextE 4 (codes " "))))
+    ∷ [])) ∷ []))
+    ∷ EachS 5 (codes "p" ∷ []) (exps_of (
+    CallE 5 (IndexE 5 (IndexE 5 (NameE 5 (codes "mw")) (TextE 5 (codes "text"))) (TextE 5 (codes "gsplit"))) (exps_of (TextE 5 (codes "x,y") ∷ TextE 5 (codes ",") ∷ []))
+    ∷ [])) (stats_of (
+    AssignS 5 (exps_of (NameE 5 (codes "n") ∷ [])) (exps_of (BinaryE 5 op.Concat (NameE 5 (codes "n")) (BinaryE 5 op.Concat (NameE 5 (codes "p")) (TextE 5 (codes " "))) ∷ []))
+    ∷ []))
+    ∷ ReturnS 6 (exps_of (NameE 6 (codes "n") ∷ []))
+    ∷ [])))) ∷ [])) ∷ [])) ∷ [])
+
+abbrev pub IteratorsOfCodePoints : Type 0
+IteratorsOfCodePoints = without_steps (invoke_module (codes "X") 244 iterators_of_code_points 6000) ≡ Gives (codes "233 97 12 21 x y ") 0
 
 -- Directives of `string.format`.
 --     return {f=function(...)
@@ -282,9 +361,13 @@ AllLibraries =
     × ConcatCosts
     × MaxCosts
     × SplitCosts
+    × GmatchCosts
+    × GsplitCosts
     × MethodsOfTexts
     × SearchesOfTexts
     × AllOfASearch
+    × Iterators
+    × IteratorsOfCodePoints
     × Formats
     × TablesAreChanged
     × WholeNumbers

@@ -4,7 +4,7 @@ use Rattle.std.specs.Prelude.{List, [], ◌∷◌, codes}
 use Rattle.lua_heap.specs.Value.{Nil, Text, Table}
 use Rattle.lua_heap.specs.Table.{Entries}
 use Rattle.lua_heap.specs.Heap.{Heap, empty}
-use Rattle.lua_heap.specs.declared.library.Library.TheVariants.{BasicAssert, BasicError, BasicGetMetatable, BasicSetMetatable, BasicIpairs, BasicPairs, BasicNext, BasicPcall, BasicXpcall, BasicRawEqual, BasicRawGet, BasicRawSet, BasicSelect, BasicToNumber, BasicToString, BasicType, BasicUnpack, BasicRequire, StringByte, StringChar, StringFind, StringMatch, StringFormat, StringLen, StringLower, StringUpper, StringRep, StringReverse, StringSub, TableConcat, TableInsert, TableMaxn, TableRemove, TableSort, MathAbs, MathCeil, MathFloor, MathFmod, MathMax, MathMin, MathPow, UstringChar, UstringCodepoint, UstringByteOffset, UstringFind, UstringMatch, UstringLen, UstringSub, UstringIsUtf8, UstringToNfc, UstringToNfd, UstringToNfkc, UstringToNfkd, TextTrim, TextSplit, TextEncode, TextDecode, TextListToText, TextNowiki, TextTag, TextTruncate, MwClone, MwLog, MwGetCurrentTitle, MwLoadData, MwGetCurrentFrame}
+use Rattle.lua_heap.specs.declared.library.Library.TheVariants.{BasicAssert, BasicError, BasicGetMetatable, BasicSetMetatable, BasicIpairs, BasicPairs, BasicNext, BasicPcall, BasicXpcall, BasicRawEqual, BasicRawGet, BasicRawSet, BasicSelect, BasicToNumber, BasicToString, BasicType, BasicUnpack, BasicRequire, StringByte, StringChar, StringFind, StringMatch, StringGmatch, StringFormat, StringLen, StringLower, StringUpper, StringRep, StringReverse, StringSub, TableConcat, TableInsert, TableMaxn, TableRemove, TableSort, MathAbs, MathCeil, MathFloor, MathFmod, MathMax, MathMin, MathPow, UstringChar, UstringCodepoint, UstringGcodepoint, UstringByteOffset, UstringFind, UstringMatch, UstringGmatch, UstringLen, UstringSub, UstringIsUtf8, UstringToNfc, UstringToNfd, UstringToNfkc, UstringToNfkd, TextTrim, TextSplit, TextGsplit, TextEncode, TextDecode, TextListToText, TextNowiki, TextTag, TextTruncate, MwClone, MwLog, MwGetCurrentTitle, MwLoadData, MwGetCurrentFrame}
 use Rattle.lua_meaning.specs.Acts.{State}
 use Rattle.lua_meaning.specs.Frames.{function_entry, with_table}
 
@@ -44,6 +44,7 @@ strings =
     ∷ function_entry (codes "char") StringChar
     ∷ function_entry (codes "find") StringFind
     ∷ function_entry (codes "match") StringMatch
+    ∷ function_entry (codes "gmatch") StringGmatch
     ∷ function_entry (codes "format") StringFormat
     ∷ function_entry (codes "len") StringLen
     ∷ function_entry (codes "lower") StringLower
@@ -96,9 +97,11 @@ abbrev pub ustring : Entries
 ustring =
     function_entry (codes "char") UstringChar
     ∷ function_entry (codes "codepoint") UstringCodepoint
+    ∷ function_entry (codes "gcodepoint") UstringGcodepoint
     ∷ function_entry (codes "byteoffset") UstringByteOffset
     ∷ function_entry (codes "find") UstringFind
     ∷ function_entry (codes "match") UstringMatch
+    ∷ function_entry (codes "gmatch") UstringGmatch
     ∷ function_entry (codes "len") UstringLen
     ∷ function_entry (codes "sub") UstringSub
     ∷ function_entry (codes "isutf8") UstringIsUtf8
@@ -113,6 +116,7 @@ abbrev pub text : Entries
 text =
     function_entry (codes "trim") TextTrim
     ∷ function_entry (codes "split") TextSplit
+    ∷ function_entry (codes "gsplit") TextGsplit
     ∷ function_entry (codes "encode") TextEncode
     ∷ function_entry (codes "decode") TextDecode
     ∷ function_entry (codes "listToText") TextListToText

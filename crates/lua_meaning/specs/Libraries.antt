@@ -20,6 +20,7 @@ use Rattle.lua_meaning.specs.TableLibrary as tables
 use Rattle.lua_meaning.specs.TextArguments.{of_texts}
 use Rattle.lua_meaning.specs.Ustring as ustring
 use Rattle.lua_meaning.specs.Texts as texts
+use Rattle.lua_meaning.specs.Iterators as iterators
 use Rattle.lua_meaning.specs.Frames.{args_index, argument_expand}
 use Rattle.lua_meaning.specs.FrameMethods.{FramedEnd, FrameEnds, FrameAsks, FrameWalks, Framed, get_current_frame, get_title, get_parent, argument_pairs, get_argument, preprocess, frame_extension_tag, expand_template, new_child}
 use Rattle.lua_meaning.specs.Waiting.{asking}
@@ -66,7 +67,7 @@ form world StringByte args h frames = Answers (strings.byte args h)
 form world StringChar args h frames = Answers (strings.char_of args h)
 form world StringFind args h frames = Answers (searches.find args h)
 form world StringMatch args h frames = Answers (searches.match_from args h)
-form world StringGmatch args h frames = NotBuilt
+form world StringGmatch args h frames = Answers (iterators.gmatch args h)
 form world StringGsub args h frames = NotBuilt
 form world StringFormat args h frames = Answers (formats.format args h)
 form world StringLen args h frames = Answers (strings.len args h)
@@ -94,11 +95,11 @@ form world MwLoadData args h frames = CallsBack LoadData
 form world MwGetCurrentFrame args h frames = InFrames (get_current_frame h frames)
 form world UstringChar args h frames = Answers (of_texts ustring.char args h)
 form world UstringCodepoint args h frames = Answers (of_texts ustring.codepoint args h)
-form world UstringGcodepoint args h frames = NotBuilt
+form world UstringGcodepoint args h frames = Answers (of_texts iterators.gcodepoint args h)
 form world UstringByteOffset args h frames = Answers (of_texts ustring.byteoffset args h)
 form world UstringFind args h frames = Answers (of_texts ustring.find args h)
 form world UstringMatch args h frames = Answers (of_texts ustring.match_from args h)
-form world UstringGmatch args h frames = NotBuilt
+form world UstringGmatch args h frames = Answers (of_texts iterators.ustring_gmatch args h)
 form world UstringGsub args h frames = NotBuilt
 form world UstringLen args h frames = Answers (of_texts ustring.len args h)
 form world UstringSub args h frames = Answers (of_texts ustring.sub args h)
@@ -109,7 +110,7 @@ form world UstringToNfkc args h frames = Answers (of_texts ustring.to_nfkc args 
 form world UstringToNfkd args h frames = Answers (of_texts ustring.to_nfkd args h)
 form world TextTrim args h frames = Answers (of_texts texts.trim args h)
 form world TextSplit args h frames = Answers (of_texts texts.split args h)
-form world TextGsplit args h frames = NotBuilt
+form world TextGsplit args h frames = Answers (of_texts iterators.gsplit args h)
 form world TextEncode args h frames = Answers (of_texts texts.encode args h)
 form world TextDecode args h frames = Answers (of_texts texts.decode args h)
 form world TextListToText args h frames = Answers (of_texts texts.list_to_text args h)
@@ -141,10 +142,10 @@ form world ArgumentExpand args h frames = Answers (argument_expand args h)
 form world StrictIndex args h frames = Answers (strict_index args h)
 form world StrictNewIndex args h frames = Answers (strict_new_index args h)
 form world IpairsStep args h frames = CallsBack NextPlace
-form world GmatchStep args h frames = NotBuilt
-form world UstringGmatchStep args h frames = NotBuilt
-form world GcodepointStep args h frames = NotBuilt
-form world GsplitStep args h frames = NotBuilt
+form world GmatchStep args h frames = Answers (iterators.gmatch_step args h)
+form world UstringGmatchStep args h frames = Answers (of_texts iterators.ustring_gmatch_step args h)
+form world GcodepointStep args h frames = Answers (of_texts iterators.gcodepoint_step args h)
+form world GsplitStep args h frames = Answers (of_texts iterators.gsplit_step args h)
 
 -- a function that sees the frames
 abbrev pub framed_end : FramedEnd → Levels → Act (List Value)

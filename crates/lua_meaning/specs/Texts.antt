@@ -1,6 +1,6 @@
 -- FUNCTIONS OF `mw.text` that call back nobody (Scribunto, Text library), behind the charge of their arguments (`of_texts`). A text that
 -- is given costs its bytes.
-use Rattle.std.specs.Prelude.{ℕ, suc, ◌+◌, ℤ, pos, Bool, true, false, List, [], ◌∷◌, length, Option, Some, None, Result, Ok, Err, codes, chars, encode_utf8_all}
+use Rattle.std.specs.Prelude.{ℕ, suc, ◌+◌, pos, Bool, true, false, List, [], ◌∷◌, length, Option, Some, None, Result, Ok, Err, codes, chars, encode_utf8_all}
 use Rattle.lua_pattern.specs.declared.item.Set.{Set}
 use Rattle.mw_text.specs.Sets.{chosen_set, member}
 use Rattle.mw_text.specs.Trim.{is_space, trimmed, trim_tries}

@@ -14,3 +14,6 @@ returns-in-Ustrings-clause-answer c = rw c.in-Ustrings.is c.ustring_call.ensures
 
 pub returns-in-Texts-clause-answer : goal.returns-in-Texts-clause-answer
 returns-in-Texts-clause-answer c = rw c.in-Texts.is c.text_call.ensures.answer
+
+pub returns-in-Iterators-clause-answer : goal.returns-in-Iterators-clause-answer
+returns-in-Iterators-clause-answer c = rw c.in-Iterators.is c.iterator_call.ensures.answer

@@ -1,0 +1,23 @@
+-- Each of these functions is a line of the table of the library.
+use Rattle.std.proofs.Common.{◌≡◌, ap, Some}
+use Rattle.lua_heap.specs.declared.library.Library.TheVariants.{StringGmatch, UstringGmatch, UstringGcodepoint, TextGsplit, GmatchStep, UstringGmatchStep, GcodepointStep, GsplitStep}
+use Rattle.lua_meaning.specs.Libraries.{Answers}
+use Rattle.lua_iterators.specs.declared.table.Maker.TheVariants as maker
+use Rattle.lua_iterators.specs.declared.table.Stepper.TheVariants as stepper
+use Rattle.lua_iterators.specs.declared.table.IteratorFunction.{IteratorFunction}
+use Rattle.lua_iterators.specs.declared.table.IteratorFunction.TheVariants as own
+use Rattle.lua_iterators.specs.Table.{answer_of, AreInTable}
+
+same : (f g : IteratorFunction) → Some f ≡ Some g → f ≡ g
+same f g e = cc
+
+pub in-table : AreInTable
+in-table StringGmatch f e = λ world args h frames. ap (λ g. Answers (answer_of g args h)) (same (own.Makes maker.Gmatch) f e)
+in-table UstringGmatch f e = λ world args h frames. ap (λ g. Answers (answer_of g args h)) (same (own.Makes maker.UstringGmatch) f e)
+in-table UstringGcodepoint f e = λ world args h frames. ap (λ g. Answers (answer_of g args h)) (same (own.Makes maker.Gcodepoint) f e)
+in-table TextGsplit f e = λ world args h frames. ap (λ g. Answers (answer_of g args h)) (same (own.Makes maker.Gsplit) f e)
+in-table GmatchStep f e = λ world args h frames. ap (λ g. Answers (answer_of g args h)) (same (own.Steps stepper.Gmatch) f e)
+in-table UstringGmatchStep f e = λ world args h frames. ap (λ g. Answers (answer_of g args h)) (same (own.Steps stepper.UstringGmatch) f e)
+in-table GcodepointStep f e = λ world args h frames. ap (λ g. Answers (answer_of g args h)) (same (own.Steps stepper.Gcodepoint) f e)
+in-table GsplitStep f e = λ world args h frames. ap (λ g. Answers (answer_of g args h)) (same (own.Steps stepper.Gsplit) f e)
+in-table which f e = absurd cc
