@@ -78,17 +78,17 @@ module _ {X Y : Type 0} (R : Map → X → Y → Type 0) (m : Map) (h : Heap X) 
   replaced-same (Made n t count) = costing R m h s st n n refl (more _ _ _ _ (text t) (one-each (number (pos count))))
   replaced-same (Faulty n fault) = failing-behind n (malformed fault)
 
-  by_replacement-same : (a : Alphabet) (n : ℕ) (t p : Bytes) (limit : ℕ) (anchored : Bool) (items : List Item) (slots : List Slot) {x y u v : Replacement} → SameReplacement m x y
+  by_replacement-same : (a : Alphabet) (n : ℕ) (t p : Bytes) (limit : ℕ) (anchored : Bool) (items : List Item) (slots : List Slot) (u v : Replacement) {x y : Replacement} → SameReplacement m x y
       → Alike (by_replacement a h n (given_of t p u limit) anchored items slots x) (by_replacement a s n (given_of t p v limit) anchored items slots y)
-  by_replacement-same a n t p limit anchored items slots (same_text r) =
+  by_replacement-same a n t p limit anchored items slots u v (same_text r) =
       both_answer _ _ (charging R m h s st n n refl _ _ (replaced-same (replaced_from (letters a) anchored items slots t r limit 0 (Some at_head))))
-  by_replacement-same a n t p limit anchored items slots (same_table i j e) = both_ask n a t anchored items slots limit _ _ (same_table i j e)
-  by_replacement-same a n t p limit anchored items slots (same_function f g e) = both_ask n a t anchored items slots limit _ _ (same_function f g e)
+  by_replacement-same a n t p limit anchored items slots u v (same_table i j e) = both_ask n a t anchored items slots limit _ _ (same_table i j e)
+  by_replacement-same a n t p limit anchored items slots u v (same_function f g e) = both_ask n a t anchored items slots limit _ _ (same_function f g e)
 
   by_pattern-same : (a : Alphabet) (n : ℕ) (t p : Bytes) (limit : ℕ) {x y : Replacement} → SameReplacement m x y → (read : Read)
       → Alike (by_pattern a h n (given_of t p x limit) read) (by_pattern a s n (given_of t p y limit) read)
   by_pattern-same a n t p limit e (Fault fault) = both_answer _ _ (failing-behind n (malformed fault))
-  by_pattern-same a n t p limit e (Fine anchored items slots) = by_replacement-same a n t p limit anchored items slots e
+  by_pattern-same a n t p limit {x} {y} e (Fine anchored items slots) = by_replacement-same a n t p limit anchored items slots x y e
 
   by_given-same : (a : Alphabet) (n : ℕ) {c d : Argument Given} → SameArgument (SameGiven m) c d → Alike (by_given a h n c) (by_given a s n d)
   by_given-same a n (both_err message) = both_answer _ _ (failing-behind n message)

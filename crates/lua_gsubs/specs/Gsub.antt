@@ -212,7 +212,7 @@ asks_on callers job far k more (Stops tries) = tick tries >> finish job far
 asks_on callers job far k more (Meets tries step next) =
     let m = match_of job.slots step.start step.end step.marks in
     tick tries >> asks job.by (match_given (letters job.alphabet) job.subject k m)
-        (for_values (with_replacement callers (up_to job far k m next) (span job.subject m.start m.end) more))
+    (for_values (with_replacement callers (up_to job far k m next) (span job.subject m.start m.end) more))
 
 abbrev pub asks_from : Levels → Job → Far → (Far → Act (List Value)) → Option Stand → Act (List Value)
 asks_from callers job far more None = finish job far

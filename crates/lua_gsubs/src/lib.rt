@@ -6,6 +6,5 @@
 
 pub mod examples;
 pub mod laws;
-
 #[cfg(test)]
 mod tests;
