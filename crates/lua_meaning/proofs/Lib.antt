@@ -1,5 +1,6 @@
 pub mod MeaningLaws
 pub mod FrameLaws
+pub mod HtmlRoots
 pub mod ExampleChargesLaws
 pub mod ExampleCostsLaws
 pub mod ExampleValuesLaws
@@ -9,3 +10,4 @@ pub mod ExampleHandlersLaws
 pub mod ExampleFramesLaws
 pub mod ExampleModulesLaws
 pub mod ExampleLibrariesLaws
+pub mod ExampleHtmlLaws

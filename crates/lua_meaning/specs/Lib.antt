@@ -32,6 +32,8 @@ pub mod TableLibrary
 pub mod TextArguments
 pub mod Ustring
 pub mod Texts
+pub mod HtmlNodes
+pub mod Html
 pub mod Waiting
 pub mod CallBacks
 pub mod Modules
@@ -51,3 +53,4 @@ pub mod ExampleHandlers
 pub mod ExampleFrames
 pub mod ExampleModules
 pub mod ExampleLibraries
+pub mod ExampleHtml

@@ -9,6 +9,7 @@ ghost use Rattle.lua_meaning.specs.ExampleHandlers.{AllHandlers};
 ghost use Rattle.lua_meaning.specs.ExampleFrames.{AllFrames};
 ghost use Rattle.lua_meaning.specs.ExampleModules.{AllModules};
 ghost use Rattle.lua_meaning.specs.ExampleLibraries.{AllLibraries};
+ghost use Rattle.lua_meaning.specs.ExampleHtml.{AllObjects};
 
 /// Charges of whole runs, worked out by hand, and how runs end.
 pub fn charges()
@@ -53,4 +54,9 @@ pub fn modules()
 /// The libraries, through the environment.
 pub fn libraries()
     ensures { AllLibraries }
+{}
+
+/// Objects of `mw.html`, by calls of their functions.
+pub fn objects()
+    ensures { AllObjects }
 {}

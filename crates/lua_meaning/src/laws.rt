@@ -1,5 +1,6 @@
 //! The laws of the meaning: `specs/Laws.antt` says them.
 ghost use Rattle.lua_meaning.specs.Laws.{ThingsUnfold, ExpressionsAreNodes, StatementsAreNodes, TargetNamesAreNone, TurnsAreCounted, EntriesAreCounted, CallsAreGivenBack, MoreChangesNothing, EndsAreTold, CallsAreNamed, ModulesAreNamed, QuestionsAreNamed, TablesAreJoined, FramesAreNeeded};
+ghost use Rattle.lua_meaning.specs.HtmlNodes.{RootsAreFound};
 
 /// A thing that begins takes one step and does what it means; where no step is left, the run is spent. This is the meaning of
 /// loops, of functions and of chains of handlers, said without a bound on their number.
@@ -61,4 +62,9 @@ pub fn ends_are_told()
 /// frame.
 pub fn frames_are_needed()
     ensures { FramesAreNeeded }
+{}
+
+/// The root above an object of `mw.html` is what any walk from parent to parent comes to.
+pub fn roots_are_found()
+    ensures { RootsAreFound }
 {}

@@ -14,6 +14,7 @@ fn laws_are_called(_rt: HostRuntime) -> Result<(), Fail> {
     laws::tables_are_joined();
     laws::frames_are_needed();
     laws::ends_are_told();
+    laws::roots_are_found();
     examples::charges();
     examples::costs();
     examples::values();
@@ -23,5 +24,6 @@ fn laws_are_called(_rt: HostRuntime) -> Result<(), Fail> {
     examples::frames();
     examples::modules();
     examples::libraries();
+    examples::objects();
     Ok(())
 }

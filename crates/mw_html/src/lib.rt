@@ -6,7 +6,7 @@
 //! - `names`: names of tags and attributes, classes, and the escapes of a value
 //! - `plain`: markup objects as plain data
 //! - `placed`: whether what nodes name is there
-//! - `sheet`: what was given so far, within a budget
+//! - `sheet`: what was given so far, within a budget, also for renderings of objects that are kept elsewhere
 //! - `rendering`: the rendering
 //! - `laws`: renderings by other numbers (`Laws`)
 #![tactic(auto)]
@@ -16,7 +16,7 @@ pub mod names;
 mod placed;
 pub mod plain;
 pub mod rendering;
-mod sheet;
+pub mod sheet;
 
 pub use names::{add_class, closes_itself, escape, is_attribute_name, is_name};
 pub use placed::are_placed;
