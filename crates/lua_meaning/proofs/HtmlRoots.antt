@@ -81,4 +81,3 @@ module _ (nodes : List MarkupNode) (root : ℕ) where
 -- whatever room it was found with
 pub found-of : RootsAreFound
 found-of nodes n at root e = let b = found-below nodes root n at e in comes-to nodes root b.0 at b.1 [] tt distinct-none tt (suc (length nodes)) (omega arith)
-
