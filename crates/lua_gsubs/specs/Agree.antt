@@ -1,11 +1,13 @@
 -- LAWS of `gsub`. It does the same to two heaps, of which the first stands in the second under a map of names. R relates what functions hold.
-use Rattle.std.specs.Prelude.{◌≡◌, ℕ, Bool, List, Option}
+use Rattle.std.specs.Prelude.{◌≡◌, ℕ, Bool, List, map, Option}
 use Rattle.page_run.specs.Outcome.{◌>>◌, tick}
 use Rattle.lua_pattern.specs.declared.pattern.Match.{Match}
 use Rattle.lua_pattern.specs.declared.item.Item.{Item}
 use Rattle.lua_pattern.specs.declared.slots.Slot.{Slot}
 use Rattle.lua_string.specs.Finds.{match_of}
 use Rattle.lua_string.specs.Walk.{Step, Meets, span}
+use Rattle.lua_string.specs.Replacements.{text_of, replaced_of}
+use Rattle.lua_string.specs.declared.replacing.CaptureText.{CaptureText}
 use Rattle.lua_heap.specs.Value.{Value, Table}
 use Rattle.lua_heap.specs.Heap.{Heap}
 use Rattle.lua_heap.specs.Related.{Map, Each, Same, Stands}
@@ -13,7 +15,7 @@ use Rattle.lua_meaning.specs.Scope.{Bytes, Levels}
 use Rattle.lua_meaning.specs.Arguments.{Plain}
 use Rattle.lua_meaning.specs.Iterators.{Stand, match_given}
 use Rattle.lua_library_agree.specs.Same.{SamePlain}
-use Rattle.lua_gsubs.specs.Gsub.{Alphabet, letters, Replacement, ByText, ByTable, ByFunction, Given, Job, Far, asks, up_to, asks_on, goes, GsubWaits, gsub_answer, GsubForm, GsubAnswers, GsubAsks, gsub_form}
+use Rattle.lua_gsubs.specs.Gsub.{Alphabet, letters, Replacement, ByText, ByTable, ByFunction, Given, filled_in, Job, Far, asks, up_to, asks_on, goes, GsubWaits, gsub_answer, GsubForm, GsubAnswers, GsubAsks, gsub_form}
 
 pub data SameReplacement (m : Map) : Replacement → Replacement → Type 0 where
   same_text : (t : Bytes) → SameReplacement m (ByText t) (ByText t)
@@ -51,3 +53,7 @@ WaitsAreNamed =
     → asks_on callers job far k (goes callers job limit) (Meets tries step next)
     ≡ (let m = match_of job.slots step.start step.end step.marks in
     tick tries >> asks job.by (match_given (letters job.alphabet) job.subject k m) (gsub_answer (waits_at job limit far k m next) callers))
+
+-- WHAT A TEXT STANDS FOR at a match is what it stands for in `lua_string`, where captures are texts and numbers.
+abbrev pub FilledIsReplaced : Type 0
+FilledIsReplaced = (whole : Bytes) (captures : List CaptureText) (text : Bytes) → filled_in whole (map text_of captures) text ≡ replaced_of whole captures text

@@ -1,7 +1,7 @@
 -- REPLACING (manual 5.4, `string.gsub`; Scribunto, `mw.ustring.gsub`). `gsub(s, pattern, r, n)` gives `s` with each match of a pattern, or
 -- each of the first n, replaced, and how many they were. With a text as r it calls back nobody; with a table or a function each match is
 -- asked for in turn, and what waits has a name.
-use Rattle.std.specs.Prelude.{ℕ, zero, suc, ◌+◌, ◌-◌, ◌==◌, ℤ, pos, Bool, true, false, if◌then◌else◌, List, [], ◌∷◌, ◌++◌, length, map, drop, slice_get, Option, Some, None, Result, Ok, Err, codes}
+use Rattle.std.specs.Prelude.{ℕ, zero, suc, ◌+◌, ◌-◌, ◌==◌, ◌&&◌, ℤ, pos, Bool, true, false, if◌then◌else◌, List, [], ◌∷◌, ◌++◌, length, map, drop, slice_get, Option, Some, None, Result, Ok, Err, codes}
 use Rattle.std.specs.Char.{is_ascii_digit}
 use Rattle.std.specs.Fmt.{decimal, signed_decimal}
 use Rattle.std.specs.Option.{option_map}
@@ -88,17 +88,20 @@ abbrev pub capture_text : Letters → Bytes → Stand → Capture → Bytes
 capture_text a s k (Span from to) = span s from to
 capture_text a s k (Place at) = decimal (suc (symbols_before a s k at))
 
-abbrev pub nth_text : Bytes → List Bytes → ℕ → Option Bytes
-nth_text whole captures zero = Some whole
-nth_text whole [] (suc zero) = Some whole
-nth_text whole captures (suc n) = slice_get captures n
-
 abbrev pub or_fault : Option Bytes → Result Bytes ℕ
 or_fault (Some text) = Ok text
 or_fault None = Err 7
 
+abbrev pub are_none : List Bytes → Bool
+are_none [] = true
+are_none (c ∷ cs) = false
+
+abbrev pub nth_text : Bytes → List Bytes → ℕ → Result Bytes ℕ
+nth_text whole captures d =
+    if d == 0 then Ok whole else (if d == 1 && are_none captures then Ok whole else or_fault (slice_get captures (d - 1)))
+
 abbrev pub behind_percent : Bytes → List Bytes → ℕ → Result Bytes ℕ
-behind_percent whole captures c = if is_ascii_digit c then or_fault (nth_text whole captures (c - 48)) else Ok (c ∷ [])
+behind_percent whole captures c = if is_ascii_digit c then nth_text whole captures (c - 48) else Ok (c ∷ [])
 
 abbrev pub filled_in : Bytes → List Bytes → Bytes → Result Bytes ℕ
 filled_in whole captures [] = Ok []

@@ -1,5 +1,5 @@
 //! `gsub` does the same to two heaps, and what waits has a name (`specs/Agree.antt`).
-ghost use Rattle.lua_gsubs.specs.Agree.{GsubAgrees, WaitsAreNamed};
+ghost use Rattle.lua_gsubs.specs.Agree.{FilledIsReplaced, GsubAgrees, WaitsAreNamed};
 
 use lua_heap::Content;
 
@@ -11,4 +11,9 @@ pub fn gsub_agrees<X: Content<Y>, Y>()
 /// What waits for the replacement of a match is what its name says.
 pub fn waits_are_named()
     ensures { WaitsAreNamed }
+{}
+
+/// What a replacement text stands for is what `lua_string` makes of it.
+pub fn filled_is_replaced()
+    ensures { FilledIsReplaced }
 {}
