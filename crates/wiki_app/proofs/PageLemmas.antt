@@ -12,7 +12,7 @@ use Rattle.wiki_app.specs.Report.{unless_missing}
 
 first_held : (map : Pages) (title : Title) (titles : List Title) (o : Option Entry) → find_page map title ≡ o → (if is_some o then first_missing map titles else Some title) ≡ None → IsSome (find_page map title) × (first_missing map titles ≡ None)
 first_held map title titles None s e = absurd cc
-first_held map title titles (Some entry) s e = (subst (λ (o : Option Entry). IsSome o) (sym s) tt, e)
+first_held map title titles (Some entry) s e = (subst (λ (o : Option Entry). IsSome o) (sym s) refl, e)
 
 -- where no title is missing, each is held
 pub all_held : (map : Pages) (titles : List Title) → first_missing map titles ≡ None → All (λ title. IsSome (find_page map title)) titles

@@ -1,5 +1,5 @@
 -- What a run leaves, whatever modules the texts mean.
-use Rattle.std.proofs.Common.{◌≡◌, ◌∙◌, ℕ, Bool, true, false, ◌⊎◌, inl, inr, List, [], refl, sym, ap, subst, append-nil, true≢false}
+use Rattle.std.proofs.Common.{◌≡◌, ◌∙◌, ℕ, Bool, true, false, ◌⊎◌, inl, inr, List, [], refl, sym, ap, subst, append-nil, true≢false, arith}
 use Rattle.std.specs.Prelude.{Option, Some, None, IfSome, option_map, Result, Ok, Err, OnOk, OnErr, is_ok, if◌then◌else◌}
 use Rattle.wk_shelf.specs.declared.folder.FolderPage.{FolderPage}
 use Rattle.wk_shelf.specs.Files.{StoredFile}
@@ -88,6 +88,11 @@ IsBehind put code status = status ≡ (if put then code else 5)
 pub never : {A : Type 0} (put : Bool) (code status : ℕ) → IsBehind put code status → is_answer code ≡ false → is_answer status ≡ true → A
 never true code status e n h = no_answer status code e n h
 never false code status e n h = no_answer status 5 e refl h
+
+-- the put before status 4 was taken
+pub put_was : {T E : Type 0} (put : Result T E) (status : ℕ) (P : Type 0) → IsBehind (is_ok put) 4 status → status ≡ 4 → OnOk put P → P
+put_was (Ok x) status P e n h = h
+put_was (Err x) status P e n h = let wrong : 5 ≡ 4 = sym e ∙ n in absurd (omega (arith, wrong))
 
 -- ---- puts
 

@@ -114,6 +114,15 @@ pub fn command_report<R: Threads + Sync, G: Gate + Sync>(
     let titles = titles_of(alloc, &command.work, pages.as_slice())?;
     let raw = raw_pages(alloc, pages)?;
     let form = form_of(&command.work);
-    let report = wiki_report(rt, alloc, seed, &command.settings, form, titles.as_slice(), raw, gate)?;
+    let report = wiki_report(
+        rt,
+        alloc,
+        seed,
+        &command.settings,
+        form,
+        titles.as_slice(),
+        raw,
+        gate,
+    )?;
     Ok(report)
 }

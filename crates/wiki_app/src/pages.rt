@@ -123,11 +123,7 @@ fn used_of(limits: &Limits, left: &Left) -> Used
 }
 
 /// What is told of pages that were expanded.
-pub fn made_pages(
-    alloc: Global,
-    limits: &Limits,
-    pages: List<Page>,
-) -> Result<List<Made>, NoMemory>
+pub fn made_pages(alloc: Global, limits: &Limits, pages: List<Page>) -> Result<List<Made>, NoMemory>
     ensures { IfOk result (λ made. made ≡ map (made_page limits.now) pages) }
 {
     let mut made = List::new(alloc);

@@ -110,14 +110,7 @@ fn outcome<R: Threads + Sync>(
     let mut out = MemorySink::new(alloc, List::new(alloc), 10_000)?;
     let mut err = MemorySink::new(alloc, List::new(alloc), 1000)?;
     let status = run(
-        rt,
-        alloc,
-        seed,
-        words,
-        &mut shelf,
-        &mut out,
-        &mut err,
-        &OpenGate,
+        rt, alloc, seed, words, &mut shelf, &mut out, &mut err, &OpenGate,
     );
     Ok(Ran { status, out, err })
 }

@@ -87,7 +87,12 @@ pub fn missing_report(alloc: Global, title: &Title) -> Result<Report, NoMemory>
     ensures { IfOk result (λ report. report ≡ missing_report title.now) }
 {
     let text = title.text()?;
-    refusal(alloc, Status::NoSuchPage, b"no such page: ", text.as_slice())
+    refusal(
+        alloc,
+        Status::NoSuchPage,
+        b"no such page: ",
+        text.as_slice(),
+    )
 }
 
 /// What pages give that were expanded.

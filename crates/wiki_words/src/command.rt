@@ -141,11 +141,7 @@ fn work_from<'w>(
 }
 
 /// The work that the items ask, if they do.
-fn work_of<'w>(
-    alloc: Global,
-    verb: Verb,
-    items: &[Item<'w>],
-) -> Result<Option<Work<'w>>, NoMemory>
+fn work_of<'w>(alloc: Global, verb: Verb, items: &[Item<'w>]) -> Result<Option<Work<'w>>, NoMemory>
     ensures { IfOk result (λ work. work ≡ work_of verb items.now) }
 {
     let Some(all) = flag_of(OptionName::All, items) else {

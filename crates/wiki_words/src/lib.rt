@@ -15,6 +15,3 @@ mod settings;
 
 pub use command::{Asked, Command, FolderPages, Work, read_command};
 pub use settings::Settings;
-
-
-

@@ -62,10 +62,7 @@ pub fn same_option(a: Option<OptionName>, b: Option<OptionName>) -> bool
 }
 
 /// The first text that is given for an option, and the items behind it.
-fn next_text<'i, 'w>(
-    name: OptionName,
-    items: &'i [Item<'w>],
-) -> Option<(&'w str, &'i [Item<'w>])>
+fn next_text<'i, 'w>(name: OptionName, items: &'i [Item<'w>]) -> Option<(&'w str, &'i [Item<'w>])>
     ensures { MatchOption result (texts_for (Some name) items.now ≡ []) (λ x. texts_for (Some name) items.now ≡ x.0.now ∷ texts_for (Some name) x.1.now) }
 {
     let mut rest = items;
@@ -79,13 +76,7 @@ fn next_text<'i, 'w>(
 }
 
 /// The number that is given for an option, or else `unsaid`. None where there are two, or one that is not `least` to `most`.
-fn setting(
-    name: OptionName,
-    least: u64,
-    most: u64,
-    unsaid: u64,
-    items: &[Item<'_>],
-) -> Option<u64>
+fn setting(name: OptionName, least: u64, most: u64, unsaid: u64, items: &[Item<'_>]) -> Option<u64>
     requires { (least ≤ unsaid) × (unsaid ≤ most) }
     ensures setting { result ≡ setting least most unsaid (texts_for (Some name) items.now) }
     ensures range { IfSome result (λ number. (least ≤ number) × (number ≤ most)) }
@@ -118,9 +109,27 @@ pub fn settings_of(items: &[Item<'_>]) -> Option<Settings>
     ensures countable { IfSome result (λ settings. IsCountable settings.limits) }
     ensures jobs { IfSome result (λ settings. 1 ≤ settings.jobs) }
 {
-    let steps = setting(OptionName::Steps, 0, MOST_STEPS, DEFAULT_LIMITS.steps, items)?;
-    let nodes = setting(OptionName::Nodes, 0, MOST_NODES, DEFAULT_LIMITS.nodes, items)?;
-    let bytes = setting(OptionName::Bytes, 0, MOST_BYTES, DEFAULT_LIMITS.bytes, items)?;
+    let steps = setting(
+        OptionName::Steps,
+        0,
+        MOST_STEPS,
+        DEFAULT_LIMITS.steps,
+        items,
+    )?;
+    let nodes = setting(
+        OptionName::Nodes,
+        0,
+        MOST_NODES,
+        DEFAULT_LIMITS.nodes,
+        items,
+    )?;
+    let bytes = setting(
+        OptionName::Bytes,
+        0,
+        MOST_BYTES,
+        DEFAULT_LIMITS.bytes,
+        items,
+    )?;
     let jobs = setting(OptionName::Jobs, 1, MOST_JOBS, 1, items)?;
     let stats = flag_of(OptionName::Stats, items)?;
     let limits = Limits {

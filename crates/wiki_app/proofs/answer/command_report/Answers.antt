@@ -16,10 +16,10 @@ returns-clause-report g c = λ modules mean.
     let work = c.args.command.now.work in
     let raw : c.in_ok-raw.raw ≡ raw_pages c.args.pages = c.in_ok-raw.ensures in
     let form : c.form_of-form.result ≡ form_of work = c.form_of-form.ensures in
-    let titles : c.as_slice-in_ok.result.now ≡ titles_of work c.args.pages = search rules in
+    let titles : c.as_slice-2.result.now ≡ titles_of work c.args.pages = search rules in
     c.in_ok-report.ensures.report modules (subst (λ (ps : List RawPage). AreMeantBy ps modules) (sym raw) mean)
-    ∙ ap (λ (ps : List RawPage). wiki_report modules settings c.form_of-form.result c.as_slice-in_ok.result.now ps) raw
-    ∙ ap (λ (f : Form). wiki_report modules settings f c.as_slice-in_ok.result.now (raw_pages c.args.pages)) form
+    ∙ ap (λ (ps : List RawPage). wiki_report modules settings c.form_of-form.result c.as_slice-2.result.now ps) raw
+    ∙ ap (λ (f : Form). wiki_report modules settings f c.as_slice-2.result.now (raw_pages c.args.pages)) form
     ∙ ap (λ (ts : List Title). wiki_report modules settings (form_of work) ts (raw_pages c.args.pages)) titles
 
 pub returns-clause-meant : goal.returns-clause-meant

@@ -14,9 +14,9 @@ returns-in_ok-report-in-Some-clause-report g c = λ modules are.
 pub expanded_report-requires : goal.expanded_report-requires
 expanded_report-requires g c =
     let none : first_missing c.args.wiki.now.pages c.args.titles.now ≡ None = search rules in
-    record { held = all_held c.args.wiki.now.pages c.args.titles.now none; countable = c.requires.countable; jobs = c.requires.jobs }
+    search (rules, all_held c.args.wiki.now.pages c.args.titles.now none)
 
-pub returns-clause-report : goal.returns-clause-report
-returns-clause-report g c = λ modules are.
+pub returns-in_ok-report-in-None-clause-report : goal.returns-in_ok-report-in-None-clause-report
+returns-in_ok-report-in-None-clause-report g c = λ modules are.
     let none : first_missing c.args.wiki.now.pages c.args.titles.now ≡ None = search rules in
-    done_case _ _ _ (c.in_ok-report.ensures.report modules are) none
+    done_case _ _ _ (c.in_ok-report-in-None.ensures.report modules are) none
