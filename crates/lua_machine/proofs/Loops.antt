@@ -1,5 +1,5 @@
 -- MOVES ONE AFTER ANOTHER, in the forms of the loops.
-use Rattle.std.proofs.Common.{◌≡◌, ℕ, ◌+◌, ◌-◌, ◌<◌, ◌≤◌, ◌∙◌, ◌⊎◌, inl, inr, Bool, true, false, List, [], ◌∷◌, absurd, refl, sym, subst, arith, cc}
+use Rattle.std.proofs.Common.{◌≡◌, ℕ, ◌+◌, ◌-◌, ◌<◌, ◌≤◌, ◌∙◌, ◌⊎◌, inl, inr, Bool, true, false, List, [], ◌∷◌, refl, sym, subst, arith}
 use Rattle.wk_base.specs.declared.left.Left.{Left}
 use Rattle.page_run.specs.State.{Tally, no_tally}
 use Rattle.page_run.specs.Outcome.{Outcome as PlainOutcome, Goes, Jumps}
@@ -134,8 +134,8 @@ some_frame b [] o e = absurd cc
 some_frame b (f ∷ fs) o e = tt
 
 goes_on : (b : StoreView) (m : State) (y : Focus) → is_event m.frames y ≡ false → GoesOnFrom (point_of b m y)
-goes_on b m (focus.Gives values) e = some_frame b m.frames _ e
-goes_on b m (focus.Jumps jump) e = some_frame b m.frames _ e
+goes_on b m (focus.Gives values) e = some_frame b m.frames (Goes (given_seen b.texts values)) e
+goes_on b m (focus.Jumps jump) e = some_frame b m.frames (Jumps (jump_seen b.texts jump)) e
 goes_on b m (focus.Asks question) e = absurd cc
 goes_on b m y e = tt
 

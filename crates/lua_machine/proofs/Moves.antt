@@ -1,5 +1,5 @@
 -- A PART OF THE MACHINE MAKES A MOVE: from what it says of its own to what is said of the whole.
-use Rattle.std.proofs.Common.{◌≡◌, ◌∙◌, ℕ, ◌+◌, ◌-◌, ◌<◌, ◌≤◌, List, [], ◌∷◌, absurd, refl, sym, ap, subst, arith, cc}
+use Rattle.std.proofs.Common.{◌≡◌, ◌∙◌, ℕ, ◌+◌, ◌-◌, ◌<◌, ◌≤◌, List, [], ◌∷◌, refl, sym, ap, subst, arith}
 use Rattle.wk_base.specs.declared.left.Left.{Left}
 use Rattle.page_run.specs.State.{Tally}
 use Rattle.page_run.specs.declared.which.Which.TheVariants.{Steps}

@@ -25,5 +25,5 @@ returns-in-Waits c = rw c.in-Waits.is (IfOk-weaker c.resume.result _ _ (λ r e w
 pub returns-in-Hears : goal.returns-in-Hears
 returns-in-Hears c = rw c.in-Hears.is (IfOk-weaker c.hear.result _ _ (λ r e world. e) c.hear.ensures)
 
-pub returns : goal.returns
-returns c = rw c.in-Run.is c.give_run.ensures
+pub returns-in-Run : goal.returns-in-Run
+returns-in-Run c = rw c.in-Run.is c.give_run.ensures

@@ -10,6 +10,6 @@ returns-in-Some c = IfOk-weaker c.pass_frame.result _ _
     (λ r e k. jump_passed c.args.store.now c.args.state.now c.args.left.now k c.in-Some.frame c.pop.new.self c.pass_frame.new.store c.pass_frame.new.state c.pass_frame.new.left r c.in-Some.ensures c.args.jump e)
     c.pass_frame.ensures
 
-pub returns : goal.returns
-returns c = λ k. at_end c.args.store.now c.args.state.now c.pop.new.self (focus.Jumps c.args.jump) c.args.left.now k c.in-None.ensures.0 c.in-None.ensures.1 c.requires.state c.requires.jump
+pub returns-in-None : goal.returns-in-None
+returns-in-None c = λ k. at_end c.args.store.now c.args.state.now c.pop.new.self (focus.Jumps c.args.jump) c.args.left.now k c.in-None.ensures.0 c.in-None.ensures.1 c.requires.state c.requires.jump
     (end_stays (world_seen c.args.state.now.codes.world) c.args.store.now c.args.state.now.frames _ (slots_of c.args.store.now c.args.state.now) c.in-None.ensures.0)

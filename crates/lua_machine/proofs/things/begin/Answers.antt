@@ -32,5 +32,5 @@ returns-in-IndexLink g c = rw c.in-IndexLink.is (IfOk-weaker c.link_index.result
 pub returns-in-SetLink : goal.returns-in-SetLink
 returns-in-SetLink g c = rw c.in-SetLink.is (IfOk-weaker c.link_set.result _ _ (λ r e. counted_late c.args.store.now c.args.state.now c.args.left.now c.args.turns.now c.link_set.new.store c.link_set.new.state c.link_set.new.left _ r e) c.link_set.ensures)
 
-pub returns : goal.returns
-returns g c = rw c.in-CallLink.is (IfOk-weaker c.link_call.result _ _ (λ r e. counted_late c.args.store.now c.args.state.now c.args.left.now c.args.turns.now c.link_call.new.store c.link_call.new.state c.link_call.new.left _ r e) c.link_call.ensures)
+pub returns-in-CallLink : goal.returns-in-CallLink
+returns-in-CallLink g c = rw c.in-CallLink.is (IfOk-weaker c.link_call.result _ _ (λ r e. counted_late c.args.store.now c.args.state.now c.args.left.now c.args.turns.now c.link_call.new.store c.link_call.new.state c.link_call.new.left _ r e) c.link_call.ensures)
