@@ -1,0 +1,3 @@
+pub mod GsubAgree
+pub mod Filled
+pub mod Rows

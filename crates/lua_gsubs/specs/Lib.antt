@@ -1,0 +1,3 @@
+pub mod Gsub
+pub mod Agree
+pub mod Examples
