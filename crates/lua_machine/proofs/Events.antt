@@ -14,9 +14,9 @@ use Rattle.lua_state.specs.Of.{StateOf}
 use Rattle.lua_state.specs.Worlds.{world_seen}
 use Rattle.lua_machine.specs.declared.event.Event.{Event}
 use Rattle.lua_machine.specs.declared.event.Event.TheVariants as event
-use Rattle.lua_machine.specs.Moved.{point_of, MovedOf}
-use Rattle.lua_machine.specs.Going.{LeadsTo, moved_for}
-use Rattle.lua_machine.specs.Events.{stop_seen, funds_after, EventOf, BackAt, TakesItsOwn, Settles}
+use Rattle.lua_machine.specs.Moved.{point_of}
+use Rattle.lua_machine.specs.Going.{EndsIn}
+use Rattle.lua_machine.specs.Events.{stop_seen, funds_after, BackAt, TakesItsOwn, Settles}
 use Rattle.lua_machine.proofs.Rest.{comes_takes}
 
 from_nothing : (l : Left) (m : State) → m.height ≡ 0 → funds_of l m no_tally 0 ≡ fund l m.calls no_tally
@@ -24,7 +24,7 @@ from_nothing l m h = rw h refl
 
 module _ (a : StoreView) (m : State) (x : Focus) (l : Left) (k : ℕ) (b : StoreView) (m' : State) (l' : Left) (k' : ℕ) where
   -- THE EVENT that the machine comes to, counted from nothing
-  pub comes : (e : Event) (l'' : Left) (m'' : State) (n : ℕ) → m.height ≡ 0 → LeadsTo a m x l k b m' l' k' (moved_for e) → Settles e l' m' l'' m'' → k' ≡ k + n
+  pub comes : (e : Event) (l'' : Left) (m'' : State) (n : ℕ) → m.height ≡ 0 → EndsIn a m x l k b m' l' k' e → Settles e l' m' l'' m'' → k' ≡ k + n
       → Comes (world_seen m.codes.world) (point_of a m x) (slots_of a m) (fund l m.calls no_tally) (stop_seen b m'' e (funds_after l'' m'' n))
   comes (event.Over o) l'' m'' n h c s q = rw (s.0, s.1)
       (subst (λ (f : Funds). Comes (world_seen m.codes.world) (point_of a m x) (slots_of a m) f (Over (outcome_seen b.texts o) (slots_of b m') (all_given_back (funds_of l' m' no_tally n)))) (from_nothing l m h) (is_over _ _ _ (c.led no_tally 0 n (omega (arith, q)))))
@@ -34,7 +34,7 @@ module _ (a : StoreView) (m : State) (x : Focus) (l : Left) (k : ℕ) (b : Store
       (subst (λ (f : Funds). Comes (world_seen m.codes.world) (point_of a m x) (slots_of a m) f (Waiting o (frames_of b m') (slots_of b m') (funds_of l' m' no_tally n))) (from_nothing l m h) (is_asking _ _ _ _ (c.led no_tally 0 n (omega (arith, q)))))
 
   -- what is counted is paid for
-  pub paid_for : (e : Event) (l'' : Left) (m'' : State) → m.height ≡ 0 → LeadsTo a m x l k b m' l' k' (moved_for e) → Settles e l' m' l'' m'' → (k ≤ k') × (k' + l''.steps ≤ k + l.steps)
+  pub paid_for : (e : Event) (l'' : Left) (m'' : State) → m.height ≡ 0 → EndsIn a m x l k b m' l' k' e → Settles e l' m' l'' m'' → (k ≤ k') × (k' + l''.steps ≤ k + l.steps)
   paid_for e l'' m'' h c s =
       let n : ℕ = k' - k in
       let p = nodes_are_paid (world_seen m.codes.world) (point_of a m x) (slots_of a m) (fund l m.calls no_tally) (stop_seen b m'' e (funds_after l'' m'' n)) (comes e l'' m'' n h c s (omega (arith, c.rises))) in
@@ -46,7 +46,7 @@ module _ (a : StoreView) (m : State) (x : Focus) (l : Left) (k : ℕ) (b : Store
       sum (event.Asks q) p = omega (arith, p, c.rises)
 
   -- steps and calls alone are taken
-  pub takes_its_own : (e : Event) (l'' : Left) (m'' : State) → m.height ≡ 0 → LeadsTo a m x l k b m' l' k' (moved_for e) → Settles e l' m' l'' m'' → TakesItsOwn l l''
+  pub takes_its_own : (e : Event) (l'' : Left) (m'' : State) → m.height ≡ 0 → EndsIn a m x l k b m' l' k' e → Settles e l' m' l'' m'' → TakesItsOwn l l''
   takes_its_own e l'' m'' h c s =
       let n : ℕ = k' - k in
       taken e (comes_takes (world_seen m.codes.world) (point_of a m x) (slots_of a m) (fund l m.calls no_tally) (comes e l'' m'' n h c s (omega (arith, c.rises))))
@@ -57,13 +57,13 @@ module _ (a : StoreView) (m : State) (x : Focus) (l : Left) (k : ℕ) (b : Store
       taken (event.Asks q) t = t
 
   -- where it stopped, calls left and calls in progress are as many as they were
-  pub calls_at : (e : Event) → m.height ≡ 0 → LeadsTo a m x l k b m' l' k' (moved_for e) → l'.calls + m'.calls ≡ l.calls + m.calls
+  pub calls_at : (e : Event) → m.height ≡ 0 → EndsIn a m x l k b m' l' k' e → l'.calls + m'.calls ≡ l.calls + m.calls
   calls_at (event.Over o) h c = kept-reached (world_seen m.codes.world) (point_of a m x) (slots_of a m) (funds_of l m no_tally 0) (c.led no_tally 0 (k' - k) (omega (arith, c.rises)))
   calls_at (event.Asks q) h c = kept-reached (world_seen m.codes.world) (point_of a m x) (slots_of a m) (funds_of l m no_tally 0) (c.led no_tally 0 (k' - k) (omega (arith, c.rises)))
   calls_at (event.Spent w) h c = (calls_are_back (world_seen m.codes.world) (point_of a m x) (slots_of a m) (funds_of l m no_tally 0) _ (c.led no_tally 0 (k' - k) (omega (arith, c.rises)))).0
 
   -- calls are back
-  pub calls_back : (e : Event) (l'' : Left) (m'' : State) → m.height ≡ 0 → LeadsTo a m x l k b m' l' k' (moved_for e) → Settles e l' m' l'' m'' → BackAt e l m.calls l'' m''.calls
+  pub calls_back : (e : Event) (l'' : Left) (m'' : State) → m.height ≡ 0 → EndsIn a m x l k b m' l' k' e → Settles e l' m' l'' m'' → BackAt e l m.calls l'' m''.calls
   calls_back (event.Asks q) l'' m'' h c s = rw (s.0, s.1) (calls_at (event.Asks q) h c)
   calls_back (event.Over o) l'' m'' h c s = rw (s.0, s.1) (calls_at (event.Over o) h c, refl)
   calls_back (event.Spent w) l'' m'' h c s = rw (s.0, s.1) (calls_at (event.Spent w) h c, refl)
@@ -78,8 +78,3 @@ pub settled_world : (e : Event) (l l' : Left) (m m' : State) → Settles e l m l
 settled_world (event.Over o) l l' m m' s = rw s.0 refl
 settled_world (event.Spent w) l l' m m' s = rw s.0 refl
 settled_world (event.Asks q) l l' m m' s = rw s.0 refl
-
-pub event_of : (b : StoreView) (e : Event) → MovedOf b (moved_for e) → EventOf b e
-event_of b (event.Over o) h = h
-event_of b (event.Spent w) h = h
-event_of b (event.Asks q) h = h

@@ -3,17 +3,18 @@ use Rattle.std.proofs.Common.{◌≡◌, ◌∙◌, ℕ, ◌+◌, ◌-◌, ◌<�
 use Rattle.wk_base.specs.declared.left.Left.{Left}
 use Rattle.page_run.specs.State.{Tally}
 use Rattle.page_run.specs.declared.which.Which.TheVariants.{Steps}
-use Rattle.page_run.specs.Outcome.{Goes, Jumps}
+use Rattle.page_run.specs.Outcome.{Outcome, Goes, Jumps}
+use Rattle.lua_heap.specs.Value.{Value}
+use Rattle.lua_meaning.specs.Acts.{Jump as PlainJump}
 use Rattle.lua_store.specs.Seen.{StoreView}
 use Rattle.lua_store.proofs.Later.{later-itself}
 use Rattle.lua_slots.specs.Code.{CWorld, CExp, ConstantC, DotsC, FunctionC, LocalC, GlobalC, IndexC, CallC, MethodC, TableC, AndC, OrC, OperateC, UnaryC, ParenC}
 use Rattle.lua_slots.specs.Slots.{Slots}
-use Rattle.lua_slots.specs.Points.{SFrame, Point, Gives, Move, Costs, Marks}
+use Rattle.lua_slots.specs.Points.{SFrame, Point, Gives, Move, Costs, Marks, Now}
 use Rattle.lua_slots.specs.Errors.{node}
 use Rattle.lua_slots.specs.Expressions.{evals}
 use Rattle.lua_slots.specs.Moves.{moves, goes, passes}
-use Rattle.lua_slots.specs.Enact.{Enacted, enact}
-use Rattle.lua_goes.specs.Laws.{GoesOnFrom}
+use Rattle.lua_slots.specs.Enact.{Stands, enact}
 use Rattle.lua_arms.specs.declared.step.Step.TheVariants as step
 use Rattle.lua_arms.specs.declared.step.Paid.{Paid}
 use Rattle.lua_arms.specs.declared.step.Paid.TheVariants as paid
@@ -24,17 +25,17 @@ use Rattle.lua_stack.specs.declared.focus.Focus.TheVariants as focus
 use Rattle.lua_stack.specs.declared.focus.Jump.{Jump}
 use Rattle.lua_stack.specs.declared.values.Given.{Given}
 use Rattle.lua_stack.specs.Seen.{frame_seen, frames_seen, given_seen, jump_seen}
-use Rattle.lua_stack.specs.Of.{FrameOf}
+use Rattle.lua_stack.specs.Of.{FrameOf, FocusOf}
 use Rattle.lua_stack.proofs.Raises.{pays, spends}
 use Rattle.lua_state.specs.declared.state.State.{State}
 use Rattle.lua_state.specs.declared.turn.Turn.{Turn}
 use Rattle.lua_state.specs.declared.turn.Turn.TheVariants as turn
-use Rattle.lua_state.specs.Seen.{slots_of, frames_of, funds_of, turn_seen}
+use Rattle.lua_state.specs.Seen.{slots_of, funds_of, turn_seen}
 use Rattle.lua_state.specs.Of.{StateOf}
 use Rattle.lua_state.specs.Worlds.{world_seen}
-use Rattle.lua_state.specs.Makes.{IsStill, Makes, Counts, LateCounts}
+use Rattle.lua_state.specs.Makes.{Makes, Counts, LateCounts}
 use Rattle.lua_state.proofs.Making.{UnlessOn, counts_late}
-use Rattle.lua_machine.specs.Moved.{point_of, moved_of, moved_seen, MovesTo}
+use Rattle.lua_machine.specs.Moved.{point_of, MovesTo}
 use Rattle.lua_machine.proofs.Loops.{as_many}
 
 -- A MOVE THAT COUNTS NOTHING
@@ -118,32 +119,20 @@ pub as_move : (s : StoreView) (m : State) (l : Left) (k : ℕ) (t : StoreView) (
 as_move s m l k t m' l' k' mv mv' r e c = subst (λ (x : Move). Counts s m l k t m' l' k' x r) e c
 
 -- OF THE WHOLE MACHINE
-pub late_moved_by : (s : StoreView) (m : State) (f : Focus) (l : Left) (k : ℕ) (t : StoreView) (m' : State) (l' : Left) (k' : ℕ) (mv : Move) (r : Turn) → GoesOnFrom (point_of s m f) → moves (world_seen m.codes.world) (point_of s m f) (slots_of s m) ≡ mv
-    → LateCounts s m l k t m' l' k' mv r → MovesTo s m f l k t m' l' k' (moved_of r)
-late_moved_by s m f l k t m' l' k' mv (turn.On y) on is e = record {
-  state = e.state;
-  world = e.world;
-  of = e.of;
-  later = e.later;
-  still = tt;
-  rises = e.rises;
-  on = on;
-  makes = λ told n n' h. ap (λ (x : Move). enact x (funds_of l m told n)) is ∙ e.makes told n n' h;
-}
-late_moved_by s m f l k t m' l' k' mv (turn.Spent w) on is e = record {
-  state = e.state;
-  world = e.world;
-  of = tt;
-  later = e.later;
-  still = subst (λ (x : Move). IsStill s t x) (sym is) e.still;
-  rises = e.rises;
-  on = tt;
-  makes = λ told n n' h. ap (λ (x : Move). enact x (funds_of l m told n)) is ∙ e.makes told n n' h;
-}
+pub counted_late : (s : StoreView) (m : State) (l : Left) (k : ℕ) (t : StoreView) (m' : State) (l' : Left) (mv : Move) (r : Turn) → Makes s m l t m' l' mv r → LateCounts s m l k t m' l' k mv r
+counted_late s m l k t m' l' mv r e = counts_late s t m m' l l' k k mv r (counted s m l k t m' l' mv r e)
 
-pub moved_by : (s : StoreView) (m : State) (f : Focus) (l : Left) (k : ℕ) (t : StoreView) (m' : State) (l' : Left) (k' : ℕ) (mv : Move) (r : Turn) → GoesOnFrom (point_of s m f) → moves (world_seen m.codes.world) (point_of s m f) (slots_of s m) ≡ mv
-    → Counts s m l k t m' l' k' mv r → MovesTo s m f l k t m' l' k' (moved_of r)
-moved_by s m f l k t m' l' k' mv r on is e = late_moved_by s m f l k t m' l' k' mv r on is (counts_late s t m m' l l' k k' mv r e)
+-- where it moves no more it stays
+pub stays : (s : StoreView) (m : State) (f : Focus) (l : Left) (k : ℕ) → StateOf s m → FocusOf s f → moves (world_seen m.codes.world) (point_of s m f) (slots_of s m) ≡ Now (point_of s m f) (slots_of s m) → MovesTo s m f l k s m l k (turn.On f)
+stays s m f l k state of is = record {
+  state = state;
+  world = refl;
+  of = of;
+  later = later-itself s;
+  still = tt;
+  rises = omega arith;
+  makes = λ told n n' h. ap (λ (x : Move). enact x (funds_of l m told n)) is ∙ ap (λ (i : ℕ). Stands (point_of s m f) (slots_of s m) (funds_of l m told i)) (as_many k n n' h);
+}
 
 -- A FRAME IS TAKEN
 abbrev pub with_frames : State → List Frame → State
@@ -154,16 +143,26 @@ popped s m frame rest e o =
     let f = rw e at o.frames in
     (record { frames = f.1; regs = o.regs; functions = o.functions; env = o.env; modules = o.modules; loaded = o.loaded; scenes = o.scenes; codes = o.codes }, f.0)
 
-module _ (s : StoreView) (m : State) (l : Left) (k : ℕ) (frame : Frame) (rest : List Frame) (t : StoreView) (m' : State) (l' : Left) (r : Turn) (is : m.frames ≡ frame ∷ rest) where
-  over_frames : (mv : Move) → Makes s (with_frames m rest) l t m' l' mv r → Counts s m l k t m' l' k mv r
-  over_frames mv e = counted s m l k t m' l' mv r (record { state = e.state; world = e.world; of = e.of; later = e.later; still = e.still; makes = e.makes })
+pub end_stays : (world : CWorld) (s : StoreView) (fs : List Frame) (o : Outcome (List Value) PlainJump) (t : Slots) → fs ≡ [] → moves world (Gives o (frames_seen s.texts fs)) t ≡ Now (Gives o (frames_seen s.texts fs)) t
+end_stays world s [] o t e = refl
+end_stays world s (f ∷ fs) o t e = absurd cc
 
-  pub values_given : (values : Given) → ((world : CWorld) → Makes s (with_frames m rest) l t m' l' (goes world (frame_seen s.texts frame) (given_seen s.texts values) (frames_seen s.texts rest) (slots_of s m)) r) → MovesTo s m (focus.Gives values) l k t m' l' k (moved_of r)
-  values_given values e =
-      moved_by s m (focus.Gives values) l k t m' l' k _ r
-      (subst (λ (fs : List Frame). GoesOnFrom (Gives (Goes (given_seen s.texts values)) (frames_seen s.texts fs))) (sym is) tt)
-      (ap (λ (fs : List Frame). moves (world_seen m.codes.world) (Gives (Goes (given_seen s.texts values)) (frames_seen s.texts fs)) (slots_of s m)) is)
-      (over_frames _ (e (world_seen m.codes.world)))
+pub at_end : (s : StoreView) (m : State) (frames : List Frame) (f : Focus) (l : Left) (k : ℕ) → m.frames ≡ [] → frames ≡ [] → StateOf s m → FocusOf s f
+    → moves (world_seen m.codes.world) (point_of s m f) (slots_of s m) ≡ Now (point_of s m f) (slots_of s m) → MovesTo s m f l k s (with_frames m frames) l k (turn.On f)
+at_end s m frames f l k old new state of is = subst (λ (fs : List Frame). MovesTo s m f l k s (with_frames m fs) l k (turn.On f)) (old ∙ sym new) (stays s m f l k state of is)
+
+module _ (s : StoreView) (m : State) (l : Left) (k : ℕ) (frame : Frame) (rest : List Frame) (t : StoreView) (m' : State) (l' : Left) (r : Turn) (is : m.frames ≡ frame ∷ rest) where
+  over_frames : (mv : Move) → Makes s (with_frames m rest) l t m' l' mv r → LateCounts s m l k t m' l' k mv r
+  over_frames mv e = counted_late s m l k t m' l' mv r (record { state = e.state; world = e.world; of = e.of; later = e.later; still = e.still; makes = e.makes })
+
+  with_frame : (o : Outcome (List Value) PlainJump) → LateCounts s m l k t m' l' k (moves (world_seen m.codes.world) (Gives o (frames_seen s.texts (frame ∷ rest))) (slots_of s m)) r → LateCounts s m l k t m' l' k (moves (world_seen m.codes.world) (Gives o (frames_seen s.texts m.frames)) (slots_of s m)) r
+  with_frame o e = subst (λ (fs : List Frame). LateCounts s m l k t m' l' k (moves (world_seen m.codes.world) (Gives o (frames_seen s.texts fs)) (slots_of s m)) r) (sym is) e
+
+  pub values_given : (values : Given) → ((world : CWorld) → Makes s (with_frames m rest) l t m' l' (goes world (frame_seen s.texts frame) (given_seen s.texts values) (frames_seen s.texts rest) (slots_of s m)) r) → MovesTo s m (focus.Gives values) l k t m' l' k r
+  values_given values e = with_frame (Goes (given_seen s.texts values)) (over_frames _ (e (world_seen m.codes.world)))
+
+  pub jump_passed : (jump : Jump) → Makes s (with_frames m rest) l t m' l' (passes (frame_seen s.texts frame) (jump_seen s.texts jump) (frames_seen s.texts rest) (slots_of s m)) r → MovesTo s m (focus.Jumps jump) l k t m' l' k r
+  jump_passed jump e = with_frame (Jumps (jump_seen s.texts jump)) (over_frames _ e)
 
 -- WHERE AN ARM DOES NOT GO ON, the store's objects are as they were.
 pub unless_on : (s u : StoreView) (p : Paid) → IfSpent p (u ≡ s) → UnlessOn p (u.heap ≡ s.heap)

@@ -20,6 +20,7 @@ use std::alloc::Global;
 use wk_base::{Left, NoMemory};
 
 /// A frame that waited gets values. It is taken from the frames already.
+#[inline(always)]
 pub fn give_frame<'m>(
     alloc: Global,
     store: &mut Store,
@@ -35,58 +36,31 @@ pub fn give_frame<'m>(
     ensures { IfOk result (λ r. (world : CWorld) → Makes store.old state.old left.old store.new state.new left.new (goes world (frame_seen store.old.texts frame.entry) (given_seen store.old.texts values) (frames_of store.old state.old) (slots_of store.old state.old)) r) }
 {
     match frame {
-        Frame::Expression(frame) => {
-            let turn = give_expression(alloc, store, left, state, frame, values)?;
-            Ok(turn)
-        }
-        Frame::Constructor(frame) => {
-            let turn = give_constructor(alloc, store, left, state, frame, values)?;
-            Ok(turn)
-        }
-        Frame::Assignment(frame) => {
-            let turn = give_assignment(alloc, store, left, state, frame, values)?;
-            Ok(turn)
-        }
-        Frame::Statement(frame) => {
-            let turn = give_statement(alloc, store, left, state, frame, values)?;
-            Ok(turn)
-        }
-        Frame::Loop(frame) => {
-            let turn = give_loop(alloc, store, left, state, frame, values)?;
-            Ok(turn)
-        }
-        Frame::End(frame) => {
-            let turn = give_end(alloc, store, left, state, frame, values)?;
-            Ok(turn)
-        }
-        Frame::Waits(pending, line) => {
-            let turn = resume(
-                alloc,
-                store,
-                left,
-                state,
-                pending,
-                Outcome::Goes(values),
-                line,
-            )?;
-            Ok(turn)
-        }
-        Frame::Hears(asked, line) => {
-            let turn = hear(
-                alloc,
-                store,
-                left,
-                state,
-                asked,
-                Outcome::Goes(values),
-                line,
-            )?;
-            Ok(turn)
-        }
-        Frame::Run(frame) => {
-            let turn = give_run(alloc, store, left, state, frame, values)?;
-            Ok(turn)
-        }
+        Frame::Expression(frame) => give_expression(alloc, store, left, state, frame, values),
+        Frame::Constructor(frame) => give_constructor(alloc, store, left, state, frame, values),
+        Frame::Assignment(frame) => give_assignment(alloc, store, left, state, frame, values),
+        Frame::Statement(frame) => give_statement(alloc, store, left, state, frame, values),
+        Frame::Loop(frame) => give_loop(alloc, store, left, state, frame, values),
+        Frame::End(frame) => give_end(alloc, store, left, state, frame, values),
+        Frame::Waits(pending, line) => resume(
+            alloc,
+            store,
+            left,
+            state,
+            pending,
+            Outcome::Goes(values),
+            line,
+        ),
+        Frame::Hears(asked, line) => hear(
+            alloc,
+            store,
+            left,
+            state,
+            asked,
+            Outcome::Goes(values),
+            line,
+        ),
+        Frame::Run(frame) => give_run(alloc, store, left, state, frame, values),
     }
 }
 
@@ -111,29 +85,25 @@ pub fn pass_frame<'m>(
         Frame::Assignment(_) => Ok(Turn::On(Focus::Jumps(jump))),
         Frame::Statement(_) => Ok(Turn::On(Focus::Jumps(jump))),
         Frame::Loop(_) => Ok(Turn::On(Focus::Jumps(jump))),
-        Frame::End(frame) => {
-            let turn = pass_end(alloc, store, left, state, frame, jump)?;
-            Ok(turn)
-        }
-        Frame::Waits(pending, line) => {
-            let turn = resume(
-                alloc,
-                store,
-                left,
-                state,
-                pending,
-                Outcome::Jumps(jump),
-                line,
-            )?;
-            Ok(turn)
-        }
-        Frame::Hears(asked, line) => {
-            let turn = hear(alloc, store, left, state, asked, Outcome::Jumps(jump), line)?;
-            Ok(turn)
-        }
-        Frame::Run(frame) => {
-            let turn = pass_run(alloc, store, left, state, frame, jump)?;
-            Ok(turn)
-        }
+        Frame::End(frame) => pass_end(alloc, store, left, state, frame, jump),
+        Frame::Waits(pending, line) => resume(
+            alloc,
+            store,
+            left,
+            state,
+            pending,
+            Outcome::Jumps(jump),
+            line,
+        ),
+        Frame::Hears(asked, line) => hear(
+            alloc,
+            store,
+            left,
+            state,
+            asked,
+            Outcome::Jumps(jump),
+            line,
+        ),
+        Frame::Run(frame) => pass_run(alloc, store, left, state, frame, jump),
     }
 }

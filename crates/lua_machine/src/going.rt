@@ -1,53 +1,60 @@
-//! Moves one after another, until a step is paid, and until an event.
-ghost use Rattle.std.specs.Prelude.{◌≡◌, ◌+◌, ◌<◌, ◌^◌, IfOk};
+//! Moves one after another, until an event.
+ghost use Rattle.std.specs.Prelude.{◌≡◌, ◌+◌, ◌<◌, ◌^◌, true, [], IfOk};
 ghost use Rattle.lua_stack.specs.Of.{FocusOf};
 ghost use Rattle.lua_state.specs.Of.{StateOf};
-ghost use Rattle.lua_machine.specs.Moved.{IfOn};
-ghost use Rattle.lua_machine.specs.Going.{LeadsTo, moved_for};
+ghost use Rattle.lua_machine.specs.Moved.{is_event, IsEventAt};
+ghost use Rattle.lua_machine.specs.Going.{EndsIn};
 
 use crate::event::Event;
-use crate::moving::{Moved, turn};
+use crate::moving::turn;
 use lua_stack::Focus;
-use lua_state::State;
+use lua_state::{Outcome, State, Turn};
 use lua_store::Store;
 use std::alloc::Global;
 use std::sync::ledger::Ledger;
 use wk_base::{Left, NoMemory, Steps};
 
-/// Moves until a step is paid, or until an event.
-fn pay<'m, L: Ledger>(
-    alloc: Global,
-    store: &mut Store,
-    left: &mut Left,
-    state: &mut State<'m>,
-    focus: Focus<'m>,
-    turns: &mut Steps<L>,
-) -> Result<Moved<'m>, NoMemory>
-    requires state { StateOf store.old state.old }
-    requires calls { left.old.calls + state.old.calls < 2 ^ 64 }
-    requires focus { FocusOf store.old focus }
-    ensures leads { IfOk result (λ r. LeadsTo store.old state.old focus.entry left.old turns.old store.new state.new left.new turns.new r) }
-    ensures falls { IfOk result (λ r. IfOn r (left.new.steps < left.old.steps)) }
+/// Whether the machine moves no more: it stands at a question, or at its end, where no frame waits.
+#[inline(always)]
+fn stands(state: &State<'_>, next: &Focus<'_>) -> bool
+    ensures { result ≡ is_event state.now.frames next.now }
 {
-    let before = left.steps;
-    let mut next = focus;
-    'moves: loop {
-        let moved = turn(alloc, store, left, state, next, turns)?;
-        match moved {
-            Moved::On(after) => {
-                if left.steps < before {
-                    return Ok(Moved::On(after));
-                }
-                next = after;
-            }
-            Moved::Over(outcome) => return Ok(Moved::Over(outcome)),
-            Moved::Spent(which) => return Ok(Moved::Spent(which)),
-            Moved::Asks(question) => return Ok(Moved::Asks(question)),
-        }
+    match next {
+        Focus::Gives(_) => state.frames.len() == 0,
+        Focus::Jumps(_) => state.frames.len() == 0,
+        Focus::Asks(_) => true,
+        Focus::Evaluates(_) => false,
+        Focus::Lists(_, _) => false,
+        Focus::Finds(_, _, _) => false,
+        Focus::Sets(_) => false,
+        Focus::Runs(_) => false,
+        Focus::Starts(_) => false,
+        Focus::Texts(_, _) => false,
+        Focus::Works(_) => false,
     }
 }
 
-/// Moves until an event.
+/// The event where the machine moves no more.
+fn event_at(next: Focus<'_>) -> Event
+    requires { is_event [] next ≡ true }
+    ensures { IsEventAt next.entry result }
+{
+    match next {
+        Focus::Gives(values) => Event::Over(Outcome::Goes(values)),
+        Focus::Jumps(jump) => Event::Over(Outcome::Jumps(jump)),
+        Focus::Asks(question) => Event::Asks(question),
+        Focus::Evaluates(_) => unreachable!(),
+        Focus::Lists(_, _) => unreachable!(),
+        Focus::Finds(_, _, _) => unreachable!(),
+        Focus::Sets(_) => unreachable!(),
+        Focus::Runs(_) => unreachable!(),
+        Focus::Starts(_) => unreachable!(),
+        Focus::Texts(_, _) => unreachable!(),
+        Focus::Works(_) => unreachable!(),
+    }
+}
+
+/// Moves until an event. What is next is handed from arm to arm: each move is one turn of the loop inside, which ends where a step is paid.
 pub fn advance<'m, L: Ledger>(
     alloc: Global,
     store: &mut Store,
@@ -59,16 +66,25 @@ pub fn advance<'m, L: Ledger>(
     requires state { StateOf store.old state.old }
     requires calls { left.old.calls + state.old.calls < 2 ^ 64 }
     requires focus { FocusOf store.old focus }
-    ensures { IfOk result (λ e. LeadsTo store.old state.old focus.entry left.old turns.old store.new state.new left.new turns.new (moved_for e)) }
+    ensures { IfOk result (λ e. EndsIn store.old state.old focus.entry left.old turns.old store.new state.new left.new turns.new e) }
 {
     let mut next = focus;
     'steps: loop {
-        let moved = pay(alloc, store, left, state, next, turns)?;
-        match moved {
-            Moved::On(after) => next = after,
-            Moved::Over(outcome) => return Ok(Event::Over(outcome)),
-            Moved::Spent(which) => return Ok(Event::Spent(which)),
-            Moved::Asks(question) => return Ok(Event::Asks(question)),
+        let before = left.steps;
+        'moves: loop {
+            if stands(state, &next) {
+                return Ok(event_at(next));
+            }
+            let turned = turn(alloc, store, left, state, next, turns)?;
+            match turned {
+                Turn::On(after) => {
+                    next = after;
+                    if left.steps < before {
+                        continue 'steps;
+                    }
+                }
+                Turn::Spent(which) => return Ok(Event::Spent(which)),
+            }
         }
     }
 }

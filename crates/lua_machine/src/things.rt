@@ -111,47 +111,34 @@ pub fn begin<'m, L: Ledger>(
     ensures { IfOk result (λ r. LateCounts store.old state.old left.old turns.old store.new state.new left.new turns.new (begins (world_seen state.old.codes.world) (thing_seen store.old thing.entry) (frames_of store.old state.old) (slots_of store.old state.old)) r) }
 {
     match thing {
-        Thing::WhileTurn(test, body) => {
-            let turn = while_turn(alloc, store, left, state, test, body, turns)?;
-            Ok(turn)
-        }
-        Thing::RepeatTurn(body, test) => {
-            let turn = repeat_turn(alloc, store, left, state, body, test, turns)?;
-            Ok(turn)
-        }
+        Thing::WhileTurn(test, body) => while_turn(alloc, store, left, state, test, body, turns),
+        Thing::RepeatTurn(body, test) => repeat_turn(alloc, store, left, state, body, test, turns),
         Thing::CountTurn(boxed, index, limit, step, body) => {
             let range = (index, limit, step);
-            let turn = count_turn(alloc, store, left, state, boxed, range, body, turns)?;
-            Ok(turn)
+            count_turn(alloc, store, left, state, boxed, range, body, turns)
         }
         Thing::EachTurn(flags, iterator, by, results, body, line) => {
             let values = (iterator, by);
-            let turn = each_turn(
+            each_turn(
                 alloc, store, left, state, flags, values, results, body, line, turns,
-            )?;
-            Ok(turn)
+            )
         }
-        Thing::Body(callee, arguments, line) => {
-            let turn = enter_body(alloc, store, left, state, callee, arguments, line, turns)?;
-            Ok(turn)
-        }
-        Thing::Library(which, arguments, line) => {
-            let turn = enter_library(alloc, store, left, state, which, arguments, line, turns)?;
-            Ok(turn)
-        }
+        Thing::Body(callee, arguments, line) => enter_body(
+            alloc, store, left, state, callee, arguments, line, turns,
+        ),
+        Thing::Library(which, arguments, line) => enter_library(
+            alloc, store, left, state, which, arguments, line, turns,
+        ),
         Thing::IndexLink(object, handler, key, line) => {
             let link = (object, handler, key);
-            let turn = link_index(alloc, store, left, state, link, line)?;
-            Ok(turn)
+            link_index(alloc, store, left, state, link, line)
         }
         Thing::SetLink(object, handler, key, value, line) => {
             let link = (object, handler, key, value);
-            let turn = link_set(alloc, store, left, state, link, line)?;
-            Ok(turn)
+            link_set(alloc, store, left, state, link, line)
         }
-        Thing::CallLink(handler, arguments, line) => {
-            let turn = link_call(alloc, store, left, state, handler, arguments, line)?;
-            Ok(turn)
-        }
+        Thing::CallLink(handler, arguments, line) => link_call(
+            alloc, store, left, state, handler, arguments, line,
+        ),
     }
 }

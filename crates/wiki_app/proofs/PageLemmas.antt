@@ -1,32 +1,30 @@
--- The text of a page of a wiki.
-use Rattle.std.proofs.Common.{◌≡◌, ℕ, option_map, false, refl, sym, ap, is_some}
-use Rattle.std.specs.Prelude.{Option, Some, None}
-use Rattle.wk_base.specs.declared.left.Limits.{Limits}
+-- Titles that are held, and the report of all of them.
+use Rattle.std.proofs.Common.{◌≡◌, ◌∙◌, Bool, List, [], ◌∷◌, refl, sym, ap, subst, is_some, if◌then◌else◌}
+use Rattle.std.specs.Prelude.{Option, Some, None, All, IsSome}
+use Rattle.std.proofs.lemmas.List.Elements.{All-nil, All-cons}
 use Rattle.wk_base.specs.declared.title.Title.{Title}
-use Rattle.wiki_markup.specs.Trees.{Trees}
 use Rattle.wiki_expand.specs.declared.pages.Entry.{Entry}
-use Rattle.wiki_expand.specs.Pages.{Pages, find_page, direct_of, direct_in}
-use Rattle.lua_meaning.specs.World.{Modules}
-use Rattle.page_meaning.specs.Page.{page}
-use Rattle.page_driver.specs.Ground.{wiki_in}
-use Rattle.page_driver.specs.Page.{full_of, IsHeldPage}
-use Rattle.page_driver.specs.declared.wiki.Page.{Page}
-use Rattle.wiki_app.specs.Page.{text_of}
+use Rattle.wiki_expand.specs.Pages.{Pages, find_page}
+use Rattle.wiki_output.specs.declared.report.Report.{Report}
+use Rattle.wiki_output.specs.Report.{missing_report}
+use Rattle.wiki_app.specs.Pages.{first_missing}
+use Rattle.wiki_app.specs.Report.{unless_missing}
 
--- that of a page that was expanded
-pub text_is : (modules : Modules) (map : Pages) (limits : Limits) (title : Title) (k k' : ℕ) (p : Page) → IsHeldPage (wiki_in map modules) title (direct_in map title) (full_of limits) k k' p → text_of modules map limits title ≡ Some p.text
-unfolding text_of
-text_is modules map limits title k k' p h = go (direct_in map title) h
-  where
-    go : (trees : Option Trees) → IsHeldPage (wiki_in map modules) title trees (full_of limits) k k' p → option_map (λ t. (page (wiki_in map modules) title t (full_of limits)).text) trees ≡ Some p.text
-    go (Some t) h = ap Some (sym h.text_is)
-    go None h = absurd h
+first_held : (map : Pages) (title : Title) (titles : List Title) (o : Option Entry) → find_page map title ≡ o → (if is_some o then first_missing map titles else Some title) ≡ None → IsSome (find_page map title) × (first_missing map titles ≡ None)
+first_held map title titles None s e = absurd cc
+first_held map title titles (Some entry) s e = (subst (λ (o : Option Entry). IsSome o) (sym s) refl, e)
 
--- a page that is not held has none
-pub unheld : (modules : Modules) (map : Pages) (limits : Limits) (title : Title) → is_some (find_page map title) ≡ false → text_of modules map limits title ≡ None
-unfolding text_of
-unheld modules map limits title h = go (find_page map title) h
-  where
-    go : (entry : Option Entry) → is_some entry ≡ false → option_map (λ t. (page (wiki_in map modules) title t (full_of limits)).text) (option_map direct_of entry) ≡ None
-    go None h = refl
-    go (Some entry) h = absurd cc
+-- where no title is missing, each is held
+pub all_held : (map : Pages) (titles : List Title) → first_missing map titles ≡ None → All (λ title. IsSome (find_page map title)) titles
+all_held map [] e = All-nil (λ title. IsSome (find_page map title))
+all_held map (title ∷ titles) e =
+    let both : IsSome (find_page map title) × (first_missing map titles ≡ None) = first_held map title titles (find_page map title) refl e in
+    All-cons (λ title. IsSome (find_page map title)) title titles both.0 (all_held map titles both.1)
+
+-- a title that is missing
+pub missing_case : (report other : Report) (missing : Option Title) (title : Title) → report ≡ missing_report title → missing ≡ Some title → report ≡ unless_missing missing other
+missing_case report other missing title r e = r ∙ ap (λ (o : Option Title). unless_missing o other) (sym e)
+
+-- none is
+pub done_case : (report other : Report) (missing : Option Title) → report ≡ other → missing ≡ None → report ≡ unless_missing missing other
+done_case report other missing r e = r ∙ ap (λ (o : Option Title). unless_missing o other) (sym e)

@@ -1,19 +1,18 @@
 -- What a run leaves, whatever modules the texts mean.
-use Rattle.std.proofs.Common.{◌≡◌, ◌∙◌, ℕ, Bool, true, false, ◌⊎◌, inl, inr, List, [], refl, sym, ap, subst, append-nil, true≢false}
-use Rattle.std.specs.Prelude.{Option, Some, None, IfSome, Result, Ok, Err, OnOk, OnErr, is_ok, if◌then◌else◌}
-use Rattle.wk_base.specs.declared.left.Limits.{Limits}
-use Rattle.wk_base.specs.declared.title.Title.{Title}
+use Rattle.std.proofs.Common.{◌≡◌, ◌∙◌, ℕ, Bool, true, false, ◌⊎◌, inl, inr, List, [], refl, sym, ap, subst, append-nil, true≢false, arith}
+use Rattle.std.specs.Prelude.{Option, Some, None, IfSome, option_map, Result, Ok, Err, OnOk, OnErr, is_ok, if◌then◌else◌}
 use Rattle.wk_shelf.specs.declared.folder.FolderPage.{FolderPage}
 use Rattle.wk_shelf.specs.Files.{StoredFile}
-use Rattle.wk_shelf.specs.Folder.{files_of, wiki_of}
 use Rattle.wk_shelf.specs.Put.{Puts, PutsSome}
+use Rattle.wiki_words.specs.declared.command.Command.{Command}
+use Rattle.wiki_words.specs.Command.{command_of}
+use Rattle.wiki_output.specs.declared.report.Report.{Report}
+use Rattle.wiki_output.specs.Report.{status_code, read_line, usage_line, usage_report, fault_report}
 use Rattle.lua_meaning.specs.World.{Modules}
 use Rattle.wiki_texts.specs.Modules.{AreMeantBy}
-use Rattle.wiki_app.specs.Command.{Command, command_of}
-use Rattle.wiki_app.specs.Page.{raw_pages}
-use Rattle.wiki_app.specs.Report.{status_code, read_line, usage_line, usage_report, fault_report, wiki_report, report_of, expected, expected_for, AreMeantIn, AreMeantFor, AreMeant, IfExpected}
-use Rattle.wiki_app.specs.Outcome.{is_answer, Answers, Begins, Completes}
-use Rattle.wiki_app.specs.declared.report.Report.{Report}
+use Rattle.wiki_app.specs.Pages.{wiki_for, raw_pages}
+use Rattle.wiki_app.specs.Report.{report_of, expected, expected_for, AreMeantIn, AreMeantFor, AreMeant, IfExpected}
+use Rattle.wiki_app.specs.Outcome.{is_answer, Answers, Begins, Completes, IsOfFolder, ReadsFolder}
 
 -- ---- the report that is due
 
@@ -38,16 +37,24 @@ for_any words files P p modules mean = go (expected modules words files)
 pub usage_due : (words : List (List ℕ)) (files : Option (List StoredFile)) → None ≡ command_of words → IsDue words files usage_report
 usage_due words files e = subst (λ (o : Option Command). (modules : Modules) → AreMeantFor o files modules → IfSome (expected_for modules o files) (λ due. due ≡ usage_report)) e (λ modules mean. refl)
 
--- what is known of a command's report
-abbrev pub IsReportOf : Command → Report → List StoredFile → Type 0
-IsReportOf c report known = (modules : Modules) → AreMeantIn (wiki_of (files_of c.folder known)) modules → report ≡ report_of modules c (wiki_of (files_of c.folder known))
+-- the pages of a wiki, or a fault
+abbrev pub Found : Type 0
+Found = Result (List FolderPage) (List ℕ)
 
-pub command_due : (words : List (List ℕ)) (files : Option (List StoredFile)) (c : Command) (report : Report) → Some c ≡ command_of words → IfSome files (IsReportOf c report) → IsDue words files report
-command_due words files c report e h = subst (λ (o : Option Command). (modules : Modules) → AreMeantFor o files modules → IfSome (expected_for modules o files) (λ due. due ≡ report)) e (go files h)
+-- what is known of a command's report
+abbrev pub IsReportOf : Command → Report → Found → Type 0
+IsReportOf c report wiki = (modules : Modules) → AreMeantIn wiki modules → report ≡ report_of modules c wiki
+
+pub command_due : (words : List (List ℕ)) (files : Option (List StoredFile)) (c : Command) (report : Report) → Some c ≡ command_of words → IfSome (wiki_for c.work files) (IsReportOf c report) → IsDue words files report
+command_due words files c report e h = subst (λ (o : Option Command). (modules : Modules) → AreMeantFor o files modules → IfSome (expected_for modules o files) (λ due. due ≡ report)) e (go (wiki_for c.work files) h)
   where
-    go : (files : Option (List StoredFile)) → IfSome files (IsReportOf c report) → (modules : Modules) → AreMeantFor (Some c) files modules → IfSome (expected_for modules (Some c) files) (λ due. due ≡ report)
+    go : (wiki : Option Found) → IfSome wiki (IsReportOf c report) → (modules : Modules) → IfSome wiki (λ w. AreMeantIn w modules) → IfSome (option_map (report_of modules c) wiki) (λ due. due ≡ report)
     go None h modules mean = tt
-    go (Some known) h modules mean = sym (h modules mean)
+    go (Some w) h modules mean = sym (h modules mean)
+
+-- the words read a folder
+pub reads_folder : (words : List (List ℕ)) (c : Command) → Some c ≡ command_of words → IsOfFolder c.work → ReadsFolder (command_of words)
+reads_folder words c e h = subst (λ (o : Option Command). ReadsFolder o) e h
 
 -- ---- there are such modules
 
@@ -57,15 +64,15 @@ no_modules title = None
 pub usage_meant : (words : List (List ℕ)) (files : Option (List StoredFile)) → None ≡ command_of words → (modules : Modules) × AreMeant words files modules
 usage_meant words files e = (no_modules, subst (λ (o : Option Command). AreMeantFor o files no_modules) e tt)
 
-abbrev pub AreThere : Command → List StoredFile → Type 0
-AreThere c known = (modules : Modules) × AreMeantIn (wiki_of (files_of c.folder known)) modules
+abbrev pub AreThere : Found → Type 0
+AreThere wiki = (modules : Modules) × AreMeantIn wiki modules
 
-pub command_meant : (words : List (List ℕ)) (files : Option (List StoredFile)) (c : Command) → Some c ≡ command_of words → IfSome files (AreThere c) → (modules : Modules) × AreMeant words files modules
-command_meant words files c e h = let found = go files h in (found.0, subst (λ (o : Option Command). AreMeantFor o files found.0) e found.1)
+pub command_meant : (words : List (List ℕ)) (files : Option (List StoredFile)) (c : Command) → Some c ≡ command_of words → IfSome (wiki_for c.work files) AreThere → (modules : Modules) × AreMeant words files modules
+command_meant words files c e h = let found = go (wiki_for c.work files) h in (found.0, subst (λ (o : Option Command). AreMeantFor o files found.0) e found.1)
   where
-    go : (files : Option (List StoredFile)) → IfSome files (AreThere c) → (modules : Modules) × AreMeantFor (Some c) files modules
+    go : (wiki : Option Found) → IfSome wiki AreThere → (modules : Modules) × IfSome wiki (λ w. AreMeantIn w modules)
     go None h = (no_modules, tt)
-    go (Some known) h = h
+    go (Some w) h = h
 
 -- ---- statuses
 
@@ -81,6 +88,11 @@ IsBehind put code status = status ≡ (if put then code else 5)
 pub never : {A : Type 0} (put : Bool) (code status : ℕ) → IsBehind put code status → is_answer code ≡ false → is_answer status ≡ true → A
 never true code status e n h = no_answer status code e n h
 never false code status e n h = no_answer status 5 e refl h
+
+-- the put before status 4 was taken
+pub put_was : {T E : Type 0} (put : Result T E) (status : ℕ) (P : Type 0) → IsBehind (is_ok put) 4 status → status ≡ 4 → OnOk put P → P
+put_was (Ok x) status P e n h = h
+put_was (Err x) status P e n h = let wrong : 5 ≡ 4 = sym e ∙ n in absurd (omega (arith, wrong))
 
 -- ---- puts
 
@@ -131,34 +143,31 @@ neither a b x y (inr h) = y h
 
 -- ---- a command's report, from what the folder gave
 
-module _ (files : Option (List StoredFile)) (folder : List ℕ) (title : Title) (limits : Limits) (report : Report) where
-  abbrev asked : Command
-  asked = record { folder = folder; page = title; limits = limits }
-
-  pub of_pages : (pages : List FolderPage) → IfSome files (λ known. wiki_of (files_of folder known) ≡ Ok pages) → ((modules : Modules) → AreMeantBy (raw_pages pages) modules → report ≡ wiki_report modules limits title (raw_pages pages)) → IfSome files (IsReportOf asked report)
-  of_pages pages is h = go files is
+module _ (wiki : Option Found) (command : Command) (report : Report) where
+  pub of_pages : (pages : List FolderPage) → IfSome wiki (λ w. w ≡ Ok pages) → ((modules : Modules) → AreMeantBy (raw_pages pages) modules → report ≡ report_of modules command (Ok pages)) → IfSome wiki (IsReportOf command report)
+  of_pages pages is h = go wiki is
     where
-      go : (files : Option (List StoredFile)) → IfSome files (λ known. wiki_of (files_of folder known) ≡ Ok pages) → IfSome files (IsReportOf asked report)
+      go : (wiki : Option Found) → IfSome wiki (λ w. w ≡ Ok pages) → IfSome wiki (IsReportOf command report)
       go None is = tt
-      go (Some known) is = λ modules mean. h modules (subst (λ (r : Result (List FolderPage) (List ℕ)). AreMeantIn r modules) is mean) ∙ sym (ap (report_of modules asked) is)
+      go (Some w) is = λ modules mean. h modules (subst (λ (r : Found). AreMeantIn r modules) is mean) ∙ sym (ap (report_of modules command) is)
 
-  pub meant_by_pages : (pages : List FolderPage) → IfSome files (λ known. wiki_of (files_of folder known) ≡ Ok pages) → (modules : Modules) × AreMeantBy (raw_pages pages) modules → IfSome files (AreThere asked)
-  meant_by_pages pages is h = go files is
+  pub meant_by_pages : (pages : List FolderPage) → IfSome wiki (λ w. w ≡ Ok pages) → (modules : Modules) × AreMeantBy (raw_pages pages) modules → IfSome wiki AreThere
+  meant_by_pages pages is h = go wiki is
     where
-      go : (files : Option (List StoredFile)) → IfSome files (λ known. wiki_of (files_of folder known) ≡ Ok pages) → IfSome files (AreThere asked)
+      go : (wiki : Option Found) → IfSome wiki (λ w. w ≡ Ok pages) → IfSome wiki AreThere
       go None is = tt
-      go (Some known) is = (h.0, subst (λ (r : Result (List FolderPage) (List ℕ)). AreMeantIn r h.0) (sym is) h.1)
+      go (Some w) is = (h.0, subst (λ (r : Found). AreMeantIn r h.0) (sym is) h.1)
 
-  pub of_fault : (line : List ℕ) → IfSome files (λ known. wiki_of (files_of folder known) ≡ Err line) → report ≡ fault_report line → IfSome files (IsReportOf asked report)
-  of_fault line is e = go files is
+  pub of_fault : (line : List ℕ) → IfSome wiki (λ w. w ≡ Err line) → report ≡ fault_report line → IfSome wiki (IsReportOf command report)
+  of_fault line is e = go wiki is
     where
-      go : (files : Option (List StoredFile)) → IfSome files (λ known. wiki_of (files_of folder known) ≡ Err line) → IfSome files (IsReportOf asked report)
+      go : (wiki : Option Found) → IfSome wiki (λ w. w ≡ Err line) → IfSome wiki (IsReportOf command report)
       go None is = tt
-      go (Some known) is = λ modules mean. e ∙ sym (ap (report_of modules asked) is)
+      go (Some w) is = λ modules mean. e ∙ sym (ap (report_of modules command) is)
 
-  pub meant_by_none : (line : List ℕ) → IfSome files (λ known. wiki_of (files_of folder known) ≡ Err line) → IfSome files (AreThere asked)
-  meant_by_none line is = go files is
+  pub meant_by_none : (line : List ℕ) → IfSome wiki (λ w. w ≡ Err line) → IfSome wiki AreThere
+  meant_by_none line is = go wiki is
     where
-      go : (files : Option (List StoredFile)) → IfSome files (λ known. wiki_of (files_of folder known) ≡ Err line) → IfSome files (AreThere asked)
+      go : (wiki : Option Found) → IfSome wiki (λ w. w ≡ Err line) → IfSome wiki AreThere
       go None is = tt
-      go (Some known) is = (no_modules, subst (λ (r : Result (List FolderPage) (List ℕ)). AreMeantIn r no_modules) (sym is) tt)
+      go (Some w) is = (no_modules, subst (λ (r : Found). AreMeantIn r no_modules) (sym is) tt)

@@ -1,5 +1,3 @@
-pub mod Command
-pub mod Items
 pub mod Outcome
-pub mod Page
+pub mod Pages
 pub mod Report

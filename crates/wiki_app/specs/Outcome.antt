@@ -1,11 +1,14 @@
 -- What a run leaves.
-use Rattle.std.specs.Prelude.{◌≡◌, ℕ, Bool, ◌==◌, List, [], ◌∷◌, Option, ◌⊎◌}
+use Rattle.std.specs.Prelude.{◌≡◌, ℕ, Bool, ◌==◌, List, [], ◌∷◌, Option, Some, None, ◌⊎◌}
 use Rattle.std.specs.List.{list_any}
 use Rattle.wk_shelf.specs.Put.{Puts, PutsSome}
-use Rattle.wiki_app.specs.declared.report.Report.{Report}
-use Rattle.wiki_app.specs.declared.report.Status.{Status}
-use Rattle.wiki_app.specs.declared.report.Status.TheVariants.{Done, NoSuchPage, SourceFault}
-use Rattle.wiki_app.specs.Report.{status_code, read_line}
+use Rattle.wiki_words.specs.declared.command.Command.{Command}
+use Rattle.wiki_words.specs.declared.command.Work.{Work}
+use Rattle.wiki_words.specs.declared.command.Work.TheVariants.{Folder, Made}
+use Rattle.wiki_output.specs.declared.report.Report.{Report}
+use Rattle.wiki_output.specs.declared.report.Status.{Status}
+use Rattle.wiki_output.specs.declared.report.Status.TheVariants.{Done, NoSuchPage, SourceFault}
+use Rattle.wiki_output.specs.Report.{status_code, read_line}
 
 -- a status that comes with the whole expected report: 0 done, 1 no such page, 2 no command, 3 source fault
 abbrev pub is_answer : ℕ → Bool
@@ -36,3 +39,12 @@ IsWork Done = Unit {0}
 IsWork NoSuchPage = Unit {0}
 IsWork SourceFault = Unit {0}
 IsWork _ = ⊥
+
+-- the words are a command that reads a folder
+abbrev pub IsOfFolder : Work → Type 0
+IsOfFolder (Folder pages) = Unit {0}
+IsOfFolder (Made count) = ⊥
+
+abbrev pub ReadsFolder : Option Command → Type 0
+ReadsFolder None = ⊥
+ReadsFolder (Some command) = IsOfFolder command.work

@@ -1,68 +1,46 @@
 -- What a run is to answer and to write.
-use Rattle.std.specs.Prelude.{ℕ, List, [], ◌∷◌, ◌++◌, Option, Some, None, IfSome, option_map, Result, Ok, Err, codes}
-use Rattle.wk_base.specs.declared.left.Limits.{Limits}
+use Rattle.std.specs.Prelude.{ℕ, List, Option, Some, None, IfSome, option_map, Result, Ok, Err}
 use Rattle.wk_base.specs.declared.title.Title.{Title}
-use Rattle.wk_base.specs.Titles.{title_text}
 use Rattle.wk_shelf.specs.declared.folder.FolderPage.{FolderPage}
 use Rattle.wk_shelf.specs.Files.{StoredFile}
-use Rattle.wk_shelf.specs.Folder.{files_of, wiki_of}
+use Rattle.wiki_words.specs.declared.command.Command.{Command}
+use Rattle.wiki_words.specs.declared.settings.Settings.{Settings}
+use Rattle.wiki_words.specs.Command.{command_of}
+use Rattle.wiki_output.specs.declared.made.Form.{Form}
+use Rattle.wiki_output.specs.declared.report.Report.{Report}
+use Rattle.wiki_output.specs.Report.{usage_report, fault_report, missing_report, done_report}
+use Rattle.wiki_expand.specs.Pages.{Pages}
 use Rattle.lua_meaning.specs.World.{Modules}
 use Rattle.wiki_texts.specs.declared.raw.RawPage.{RawPage}
 use Rattle.wiki_texts.specs.Pages.{page_map}
 use Rattle.wiki_texts.specs.Modules.{AreMeantBy}
-use Rattle.wiki_app.specs.Command.{Command, command_of}
-use Rattle.wiki_app.specs.Page.{raw_pages, text_of}
-use Rattle.wiki_app.specs.declared.report.Status.{Status}
-use Rattle.wiki_app.specs.declared.report.Status.TheVariants.{Done, NoSuchPage, Usage, SourceFault, ReadFault, WriteFault, NoMemory}
-use Rattle.wiki_app.specs.declared.report.Report.{Report}
+use Rattle.wiki_batch.specs.Batch.{pages_of}
+use Rattle.wiki_app.specs.Pages.{wiki_for, titles_of, form_of, raw_pages, first_missing, made_pages}
 
--- the exit status
-abbrev pub status_code : Status → ℕ
-status_code Done = 0
-status_code NoSuchPage = 1
-status_code Usage = 2
-status_code SourceFault = 3
-status_code ReadFault = 4
-status_code WriteFault = 5
-status_code NoMemory = 6
+abbrev pub unless_missing : Option Title → Report → Report
+unless_missing None report = report
+unless_missing (Some title) report = missing_report title
 
--- ---- the lines on standard error
+-- THE PAGES OF THESE TITLES on a wiki, each expanded by itself with all of its limits left, where each invocation gives what these modules mean
+-- by it; or the first title that no page has
+abbrev pub titles_report : Modules → Pages → Settings → Form → List Title → Report
+titles_report modules map settings form titles =
+    unless_missing (first_missing map titles) (done_report form settings.stats (made_pages settings.limits (pages_of modules map settings.limits titles)))
 
-abbrev pub line : List ℕ → List ℕ
-line text = codes "wikiexpand: " ++ text ++ 10 ∷ []
+abbrev pub wiki_report : Modules → Settings → Form → List Title → List RawPage → Report
+wiki_report modules settings form titles pages = titles_report modules (page_map pages) settings form titles
 
-abbrev pub usage_line : List ℕ
-usage_line = codes "usage: wikiexpand expand DIR PAGE [PAGE ...] | expand DIR --all | demo N" ++ 10 ∷ []
-
-abbrev pub read_line : List ℕ
-read_line = codes "wikiexpand: cannot read" ++ 10 ∷ []
-
--- ---- the answer
-
-abbrev pub page_report : Title → Option (List ℕ) → Report
-page_report title None = record { status = NoSuchPage; out = []; err = line (codes "no such page: " ++ title_text title) }
-page_report title (Some text) = record { status = Done; out = text; err = [] }
-
--- what a title gives on the pages of a wiki
-abbrev pub wiki_report : Modules → Limits → Title → List RawPage → Report
-wiki_report modules limits title pages = page_report title (text_of modules (page_map pages) limits title)
-
-abbrev pub fault_report : List ℕ → Report
-fault_report fault = record { status = SourceFault; out = []; err = line (codes "source fault: " ++ fault) }
-
--- what a command gives on a wiki, or on a folder with a source fault
+-- what a command gives on the pages of a folder, or on its fault; the number of jobs changes nothing
 abbrev pub report_of : Modules → Command → Result (List FolderPage) (List ℕ) → Report
 report_of modules command (Err fault) = fault_report fault
-report_of modules command (Ok pages) = wiki_report modules command.limits command.page (raw_pages pages)
-
-abbrev pub usage_report : Report
-usage_report = record { status = Usage; out = []; err = usage_line }
+report_of modules command (Ok pages) = wiki_report modules command.settings (form_of command.work) (titles_of command.work pages) (raw_pages pages)
 
 abbrev pub expected_for : Modules → Option Command → Option (List StoredFile) → Option Report
 expected_for modules None files = Some usage_report
-expected_for modules (Some command) files = option_map (λ known. report_of modules command (wiki_of (files_of command.folder known))) files
+expected_for modules (Some command) files = option_map (report_of modules command) (wiki_for command.work files)
 
--- what the words are to give where the shelf tells its files; words that are no command need none
+-- WHAT THE WORDS ARE TO GIVE where the shelf tells its files; words that are no command, and those that ask for pages that the program makes,
+-- need none
 abbrev pub expected : Modules → List (List ℕ) → Option (List StoredFile) → Option Report
 expected modules words files = expected_for modules (command_of words) files
 
@@ -74,7 +52,7 @@ AreMeantIn (Ok pages) modules = AreMeantBy (raw_pages pages) modules
 
 abbrev pub AreMeantFor : Option Command → Option (List StoredFile) → Modules → Type 0
 AreMeantFor None files modules = Unit {0}
-AreMeantFor (Some command) files modules = IfSome files (λ known. AreMeantIn (wiki_of (files_of command.folder known)) modules)
+AreMeantFor (Some command) files modules = IfSome (wiki_for command.work files) (λ wiki. AreMeantIn wiki modules)
 
 abbrev pub AreMeant : List (List ℕ) → Option (List StoredFile) → Modules → Type 0
 AreMeant words files modules = AreMeantFor (command_of words) files modules

@@ -1,118 +1,128 @@
-//! What a title gives on the pages of a folder.
-ghost use Rattle.std.specs.Prelude.{◌≡◌, ◌++◌, [], map, IfOk};
+//! What titles give on the pages of a wiki.
+ghost use Rattle.std.specs.Prelude.{◌≡◌, ◌≤◌, All, Ok, IfOk, IsSome};
 ghost use Rattle.wk_base.specs.Allowances.{IsCountable};
 ghost use Rattle.lua_meaning.specs.World.{Modules as PlainModules};
-ghost use Rattle.page_driver.specs.Ground.{AreModulesIn};
 ghost use Rattle.wiki_texts.specs.Modules.{AreMeantBy};
-ghost use Rattle.wiki_app.specs.Page.{raw_page, text_of};
-ghost use Rattle.wiki_app.specs.Report.{line, page_report, wiki_report, fault_report};
+ghost use Rattle.wiki_expand.specs.Pages.{find_page};
+ghost use Rattle.wiki_batch.specs.Batch.{AreOf, pages_of};
+ghost use Rattle.wiki_output.specs.Report.{done_report};
+ghost use Rattle.wiki_app.specs.Pages.{raw_pages, made_pages};
+ghost use Rattle.wiki_app.specs.Report.{titles_report, wiki_report, report_of};
 ghost use Rattle.wiki_app.specs.Outcome.{IsWork};
 
-use crate::expanding::text_of;
-use crate::report::{Report, Status};
+use crate::pages::{first_missing, form_of, made_pages, raw_pages, titles_of};
 use page_driver::Wiki;
 use std::alloc::Global;
 use std::hash::RandomState;
-use wiki_batch::load;
+use std::thread::Threads;
+use wiki_batch::{Gate, expand_all, load};
+use wiki_output::{Form, Report, done_report, missing_report};
 use wiki_texts::RawPage;
-use wk_base::{Bytes, Limits, List, NoMemory, Title};
+use wiki_words::{Command, Settings};
+use wk_base::{List, NoMemory, Title};
 use wk_shelf::FolderPage;
 
-/// The pages of a folder, as pages of a wiki.
-pub fn raw_pages(alloc: Global, pages: List<FolderPage>) -> Result<List<RawPage>, NoMemory>
-    ensures { IfOk result (λ raw. raw ≡ map raw_page pages) }
-{
-    let mut raw = List::new(alloc);
-    for page in pages.into_vec() {
-        raw.push(RawPage {
-            title: page.title,
-            bytes: page.bytes,
-        })?;
-    }
-    Ok(raw)
-}
-
-/// A line on standard error: the program's name, then what it says of what.
-fn line(alloc: Global, saying: &[u8], of: &[u8]) -> Result<Bytes, NoMemory>
-    ensures { IfOk result (λ text. text ≡ line (saying.now ++ of.now)) }
-{
-    let mut text = b"wikiexpand: ".to_vec(alloc)?;
-    text.extend_from_slice(saying)?;
-    text.extend_from_slice(of)?;
-    text.extend_from_slice(b"\n")?;
-    Ok(Bytes::of_vec(text))
-}
-
-/// The report of a status that prints nothing, with its line.
-fn refusal(alloc: Global, status: Status, saying: &[u8], of: &[u8]) -> Result<Report, NoMemory>
-    ensures { IfOk result (λ report. report ≡ record { status = status; out = []; err = line (saying.now ++ of.now) }) }
-{
-    let err = line(alloc, saying, of)?;
-    Ok(Report {
-        status,
-        out: Bytes::of_vec(Vec::new(alloc)),
-        err,
-    })
-}
-
-/// What a folder's source fault gives.
-pub fn fault_report(alloc: Global, fault: &[u8]) -> Result<Report, NoMemory>
-    ensures { IfOk result (λ report. report ≡ fault_report fault.now) }
-{
-    refusal(alloc, Status::SourceFault, b"source fault: ", fault)
-}
-
-/// The report of a page that is printed.
-fn printed(alloc: Global, text: Bytes) -> Report
-    ensures { result ≡ record { status = Status.Done; out = text; err = [] } }
-{
-    Report {
-        status: Status::Done,
-        out: text,
-        err: Bytes::of_vec(Vec::new(alloc)),
-    }
-}
-
-/// What a title gives on a wiki: the page's text, or that no page has the title.
-fn page_report(
+/// What held titles give on a wiki: their pages in this form.
+fn expanded_report<R: Threads + Sync, G: Gate + Sync>(
+    rt: &R,
     alloc: Global,
     seed: RandomState,
-    limits: &Limits,
-    title: &Title,
+    settings: &Settings,
+    form: Form,
+    titles: &[Title],
     wiki: &Wiki,
+    gate: &G,
 ) -> Result<Report, NoMemory>
-    requires countable { IsCountable limits.now }
-    ensures report { IfOk result (λ report. (modules : PlainModules) → AreModulesIn title.now wiki.now.modules modules → report ≡ page_report title.now (text_of modules wiki.now.pages limits.now title.now)) }
+    requires held { All (λ title. IsSome (find_page wiki.now.pages title)) titles.now }
+    requires countable { IsCountable settings.now.limits }
+    requires jobs { 1 ≤ settings.now.jobs }
+    ensures report { IfOk result (λ report. (modules : PlainModules) → AreOf wiki.now modules → report ≡ done_report form settings.now.stats (made_pages settings.now.limits (pages_of modules wiki.now.pages settings.now.limits titles.now))) }
     ensures work { IfOk result (λ report. IsWork report.status) }
 {
-    if !wiki.pages.holds(title) {
-        let text = title.text()?;
-        let report = refusal(
-            alloc,
-            Status::NoSuchPage,
-            b"no such page: ",
-            text.as_slice(),
-        )?;
-        return Ok(report);
-    }
-    let text = text_of(alloc, seed, wiki, limits, title)?;
-    Ok(printed(alloc, text))
+    let jobs = settings.jobs as usize;
+    let pages = expand_all(rt, alloc, seed, wiki, titles, &settings.limits, jobs, gate)?;
+    let made = made_pages(alloc, &settings.limits, pages)?;
+    let report = done_report(alloc, form, settings.stats, made.as_slice())?;
+    Ok(report)
 }
 
-/// What a title gives on these pages. Titles are hashed from the seed.
-pub fn wiki_report(
+/// What these titles give on a wiki: the pages in this form, or the first of the titles that no page has.
+fn titles_report<R: Threads + Sync, G: Gate + Sync>(
+    rt: &R,
     alloc: Global,
     seed: RandomState,
-    limits: &Limits,
-    title: &Title,
-    pages: List<RawPage>,
+    settings: &Settings,
+    form: Form,
+    titles: &[Title],
+    wiki: &Wiki,
+    gate: &G,
 ) -> Result<Report, NoMemory>
-    requires countable { IsCountable limits.now }
-    ensures report { IfOk result (λ report. (modules : PlainModules) → AreMeantBy pages modules → report ≡ wiki_report modules limits.now title.now pages) }
+    requires countable { IsCountable settings.now.limits }
+    requires jobs { 1 ≤ settings.now.jobs }
+    ensures report { IfOk result (λ report. (modules : PlainModules) → AreOf wiki.now modules → report ≡ titles_report modules wiki.now.pages settings.now form titles.now) }
+    ensures work { IfOk result (λ report. IsWork report.status) }
+{
+    match first_missing(&wiki.pages, titles) {
+        Some(title) => {
+            let report = missing_report(alloc, title)?;
+            Ok(report)
+        }
+        None => {
+            let report = expanded_report(rt, alloc, seed, settings, form, titles, wiki, gate)?;
+            Ok(report)
+        }
+    }
+}
+
+/// What these titles give on a wiki of these pages. Titles are hashed from the seed.
+fn wiki_report<R: Threads + Sync, G: Gate + Sync>(
+    rt: &R,
+    alloc: Global,
+    seed: RandomState,
+    settings: &Settings,
+    form: Form,
+    titles: &[Title],
+    pages: List<RawPage>,
+    gate: &G,
+) -> Result<Report, NoMemory>
+    requires countable { IsCountable settings.now.limits }
+    requires jobs { 1 ≤ settings.now.jobs }
+    ensures report { IfOk result (λ report. (modules : PlainModules) → AreMeantBy pages modules → report ≡ wiki_report modules settings.now form titles.now pages) }
     ensures meant { IfOk result (λ _. (modules : PlainModules) × AreMeantBy pages modules) }
     ensures work { IfOk result (λ report. IsWork report.status) }
 {
     let wiki = load(alloc, seed, pages)?;
-    let report = page_report(alloc, seed, limits, title, &wiki)?;
+    let report = titles_report(rt, alloc, seed, settings, form, titles, &wiki, gate)?;
+    Ok(report)
+}
+
+/// What a command gives on these pages.
+pub fn command_report<R: Threads + Sync, G: Gate + Sync>(
+    rt: &R,
+    alloc: Global,
+    seed: RandomState,
+    command: &Command<'_>,
+    pages: List<FolderPage>,
+    gate: &G,
+) -> Result<Report, NoMemory>
+    requires countable { IsCountable command.now.settings.limits }
+    requires jobs { 1 ≤ command.now.settings.jobs }
+    ensures report { IfOk result (λ report. (modules : PlainModules) → AreMeantBy (raw_pages pages) modules → report ≡ report_of modules command.now (Ok pages)) }
+    ensures meant { IfOk result (λ _. (modules : PlainModules) × AreMeantBy (raw_pages pages) modules) }
+    ensures work { IfOk result (λ report. IsWork report.status) }
+{
+    let titles = titles_of(alloc, &command.work, pages.as_slice())?;
+    let raw = raw_pages(alloc, pages)?;
+    let form = form_of(&command.work);
+    let report = wiki_report(
+        rt,
+        alloc,
+        seed,
+        &command.settings,
+        form,
+        titles.as_slice(),
+        raw,
+        gate,
+    )?;
     Ok(report)
 }

@@ -1,25 +1,23 @@
-//! What the program does with its words: pages of a folder of wiki files are rendered.
+//! What the program does with its words: pages of a folder of wiki files are rendered, or pages that it makes itself.
 //!
-//! Read `specs/Report.antt` first: what the words are to give, with the lines on standard error and the statuses. Then
-//! `specs/Outcome.antt`: what a run leaves on the two streams.
+//! Read `specs/Report.antt` first: what the words are to give. Which command they are is said in `wiki_words`, the bytes that are written in
+//! `wiki_output`, what a page of a wiki comes to in `wiki_batch`. Then `specs/Outcome.antt`: what a run leaves on the two streams.
 //!
-//! - `items`: the words of the command line as texts, some of them given for an option
-//! - `command`: the command that the words are
-//! - `answer`: what a title gives on the pages of a folder
-//! - `expanding`: the text of a page of a wiki
-//! - `report`: what a run is to answer
+//! - `pages`: the pages that a command is about, and what is told of those that are expanded
+//! - `answer`: what titles give on the pages of a wiki
 //! - `put`: putting a report to the two streams
 //! - `top_call`: `run`, over any shelf and any two sinks
+//! - `laws`: the number of jobs changes nothing
 #![tactic(auto)]
 
 mod answer;
-mod command;
-mod expanding;
-mod items;
+mod laws;
+mod pages;
 mod put;
-mod report;
 mod top_call;
 
+pub use laws::jobs_change_nothing;
 pub use put::put_piece;
-pub use report::Status;
 pub use top_call::{CANNOT_READ, after_put, run};
+pub use wiki_batch::{Gate, OpenGate};
+pub use wiki_output::Status;

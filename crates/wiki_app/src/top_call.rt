@@ -1,23 +1,26 @@
 //! The top call: what the program does with its words, over any shelf and any two sinks.
-ghost use Rattle.std.specs.Prelude.{◌≡◌, ◌⊎◌, true, false, None, Err, IfOk, IfSome, IsSome, map, string_bytes, is_ok, if◌then◌else◌};
+ghost use Rattle.std.specs.Prelude.{◌≡◌, ◌≤◌, ◌⊎◌, true, false, None, Err, IfOk, IfSome, map, string_bytes, is_ok, if◌then◌else◌};
 ghost use Rattle.wk_base.specs.Allowances.{IsCountable};
 ghost use Rattle.wk_shelf.specs.Causes.{Rose};
 ghost use Rattle.wk_shelf.specs.Put.{Puts, PutsSome};
-ghost use Rattle.wk_shelf.specs.Folder.{files_of, wiki_of};
 ghost use Rattle.lua_meaning.specs.World.{Modules as PlainModules};
-ghost use Rattle.wiki_app.specs.Command.{command_of, begins_command};
-ghost use Rattle.wiki_app.specs.Report.{report_of, AreMeantIn, AreMeant, IfExpected, status_code, read_line, usage_line};
-ghost use Rattle.wiki_app.specs.Outcome.{is_answer, is_status, Answers, Begins, Completes, IsWork};
+ghost use Rattle.wiki_words.specs.Command.{command_of, begins_command};
+ghost use Rattle.wiki_output.specs.Report.{status_code, read_line, usage_line};
+ghost use Rattle.wiki_app.specs.Pages.{wiki_for};
+ghost use Rattle.wiki_app.specs.Report.{report_of, AreMeantIn, AreMeant, IfExpected};
+ghost use Rattle.wiki_app.specs.Outcome.{is_answer, is_status, Answers, Begins, Completes, IsOfFolder, IsWork, ReadsFolder};
 
-use crate::answer::{fault_report, raw_pages, wiki_report};
-use crate::command::{Command, read_command};
+use crate::answer::command_report;
+use crate::pages::pages_for;
 use crate::put::{put_both, put_piece};
-use crate::report::{Report, Status};
 use std::alloc::Global;
 use std::hash::RandomState;
 use std::thread::Threads;
+use wiki_batch::Gate;
+use wiki_output::{Report, Status, fault_report};
+use wiki_words::{Command, read_command};
 use wk_base::NoMemory;
-use wk_shelf::{FolderFault, Shelf, Sink, SinkFailed, read_folder};
+use wk_shelf::{FolderFault, Shelf, Sink, SinkFailed};
 
 const USAGE: &[u8] = b"usage: wikiexpand expand DIR PAGE [PAGE ...] | expand DIR --all | demo N\n";
 
@@ -43,23 +46,25 @@ impl From<NoMemory> for Unread {
     }
 }
 
-/// Reads the folder, and makes what the command is to answer.
-fn prepare<S: Shelf>(
+/// Gets the pages of the wiki, and makes what the command is to answer.
+fn prepare<R: Threads + Sync, S: Shelf, G: Gate + Sync>(
+    rt: &R,
     alloc: Global,
     seed: RandomState,
     command: &Command<'_>,
     shelf: &mut S,
+    gate: &G,
 ) -> Result<Report, Unread>
-    requires countable { IsCountable command.now.limits }
-    ensures report { IfOk result (λ report. IfSome (S.files shelf.old) (λ files. (modules : PlainModules) → AreMeantIn (wiki_of (files_of command.now.folder.now files)) modules → report ≡ report_of modules (record { folder = command.now.folder.now; page = command.now.page; limits = command.now.limits }) (wiki_of (files_of command.now.folder.now files)))) }
-    ensures meant { IfOk result (λ _. IfSome (S.files shelf.old) (λ files. (modules : PlainModules) × AreMeantIn (wiki_of (files_of command.now.folder.now files)) modules)) }
+    requires countable { IsCountable command.now.settings.limits }
+    requires jobs { 1 ≤ command.now.settings.jobs }
+    ensures report { IfOk result (λ report. IfSome (wiki_for command.now.work (S.files shelf.old)) (λ wiki. (modules : PlainModules) → AreMeantIn wiki modules → report ≡ report_of modules command.now wiki)) }
+    ensures meant { IfOk result (λ _. IfSome (wiki_for command.now.work (S.files shelf.old)) (λ wiki. (modules : PlainModules) × AreMeantIn wiki modules)) }
     ensures work { IfOk result (λ report. IsWork report.status) }
-    ensures cause { result ≡ Err Unread.Failed → Rose (S.faults shelf.old) (S.faults shelf.new) }
+    ensures cause { result ≡ Err Unread.Failed → IsOfFolder command.now.work × Rose (S.faults shelf.old) (S.faults shelf.new) }
 {
-    match read_folder(alloc, seed, shelf, command.folder) {
+    match pages_for(alloc, seed, &command.work, shelf) {
         Ok(pages) => {
-            let raw = raw_pages(alloc, pages)?;
-            let report = wiki_report(alloc, seed, &command.limits, &command.page, raw)?;
+            let report = command_report(rt, alloc, seed, command, pages, gate)?;
             Ok(report)
         }
         Err(FolderFault::Source(fault)) => {
@@ -84,8 +89,8 @@ pub fn after_put(put: Result<(), SinkFailed>, status: Status) -> u8
 /// Does what the words ask, over a shelf, with `out` and `err` for the two streams. The answer is the exit status.
 ///
 /// The seed is drawn anew for each run of the program: who does not know it can't choose titles that collide. Nothing that is
-/// answered or put depends on it.
-pub fn run<R: Threads + Sync, S: Shelf, O: Sink, E: Sink>(
+/// answered or put depends on it, nor on the gate, which is told as each page begins, nor on the number of jobs that the words name.
+pub fn run<R: Threads + Sync, S: Shelf, O: Sink, E: Sink, G: Gate + Sync>(
     rt: &R,
     alloc: Global,
     seed: RandomState,
@@ -93,10 +98,11 @@ pub fn run<R: Threads + Sync, S: Shelf, O: Sink, E: Sink>(
     shelf: &mut S,
     out: &mut O,
     err: &mut E,
+    gate: &G,
 ) -> u8
     ensures answered { is_answer result ≡ true → IfExpected (map string_bytes words.now) (S.files shelf.old) (Answers result (O.contents out.old) (O.contents out.new) (E.contents err.old) (E.contents err.new)) }
     ensures meant { is_answer result ≡ true → (modules : PlainModules) × AreMeant (map string_bytes words.now) (S.files shelf.old) modules }
-    ensures read_fault { result ≡ 4 → IsSome (command_of (map string_bytes words.now)) × Rose (S.faults shelf.old) (S.faults shelf.new) × (out.new ≡ out.old) × Puts (E.contents err.old) (E.contents err.new) read_line }
+    ensures read_fault { result ≡ 4 → ReadsFolder (command_of (map string_bytes words.now)) × Rose (S.faults shelf.old) (S.faults shelf.new) × (out.new ≡ out.old) × Puts (E.contents err.old) (E.contents err.new) read_line }
     ensures write_fault { result ≡ 5 → Rose (O.faults out.old) (O.faults out.new) ⊎ Rose (E.faults err.old) (E.faults err.new) }
     ensures cut_off { (result ≡ 5) ⊎ (result ≡ 6) → IfExpected (map string_bytes words.now) (S.files shelf.old) (Begins (Rose (S.faults shelf.old) (S.faults shelf.new)) (O.contents out.old) (O.contents out.new) (E.contents err.old) (E.contents err.new)) }
     ensures statuses { is_status result ≡ true }
@@ -105,13 +111,12 @@ pub fn run<R: Threads + Sync, S: Shelf, O: Sink, E: Sink>(
     ensures complete { (Rose (S.faults shelf.old) (S.faults shelf.new) → ⊥) → (Rose (O.faults out.old) (O.faults out.new) → ⊥) → (Rose (E.faults err.old) (E.faults err.new) → ⊥) → IfExpected (map string_bytes words.now) (S.files shelf.old) (Completes result) }
     ensures other_word { begins_command (map string_bytes words.now) ≡ false → (result ≡ 2) ⊎ (result ≡ 5) }
 {
-    let _ = rt;
     let command = match read_command(alloc, words) {
         Ok(Some(command)) => command,
         Ok(None) => return after_put(put_piece(err, USAGE), Status::Usage),
         Err(NoMemory) => return Status::NoMemory.code(),
     };
-    match prepare(alloc, seed, &command, shelf) {
+    match prepare(rt, alloc, seed, &command, shelf, gate) {
         Ok(report) => after_put(
             put_both(out, report.out.as_slice(), err, report.err.as_slice()),
             report.status,

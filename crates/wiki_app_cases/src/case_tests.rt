@@ -1,6 +1,6 @@
-//! The cases of `cases` and `invocations`, each a run of the top call over a folder in memory.
+//! The cases of `cases`, `invocations` and `many`, each a run of the top call over a folder in memory.
 
-use crate::{cases, invocations};
+use crate::{cases, invocations, many};
 use case_text::unescaped;
 use std::alloc::{AllocError, Global};
 use std::hash::RandomState;
@@ -8,7 +8,7 @@ use std::io;
 use std::random::RandomSource;
 use std::test::Fail;
 use std::thread::Threads;
-use wiki_app::run;
+use wiki_app::{OpenGate, run};
 use wk_base::{Bytes, List, NoMemory};
 use wk_shelf::{MemoryFile, MemoryShelf, MemorySink, can_hold};
 
@@ -108,8 +108,10 @@ fn outcome<R: Threads + Sync>(
     }
     let mut shelf = MemoryShelf::new(alloc, files, List::new(alloc));
     let mut out = MemorySink::new(alloc, List::new(alloc), 10_000)?;
-    let mut err = MemorySink::new(alloc, List::new(alloc), 100)?;
-    let status = run(rt, alloc, seed, words, &mut shelf, &mut out, &mut err);
+    let mut err = MemorySink::new(alloc, List::new(alloc), 1000)?;
+    let status = run(
+        rt, alloc, seed, words, &mut shelf, &mut out, &mut err, &OpenGate,
+    );
     Ok(Ran { status, out, err })
 }
 
@@ -125,21 +127,31 @@ fn add(texts: &mut Vec<String>, text: String) -> Result<(), AllocError> {
     Ok(())
 }
 
-/// Whether a run of the words over the pages printed this text; if not, what it printed.
+/// What a run is to leave on the two streams, as the table writes it.
+#[derive(Clone, Copy)]
+struct Wanted<'t> {
+    out: &'t str,
+    err: &'t str,
+}
+
+/// Whether a run of the words over the pages printed these texts; if not, what it printed.
 fn differs<R: Threads + Sync>(
     rt: &R,
     alloc: Global,
     seed: RandomState,
     words: &[String],
     pages: &[Page<'_>],
-    wanted: &str,
+    wanted: Wanted<'_>,
 ) -> Result<Option<String>, NoMemory> {
-    let text = unescaped(alloc, wanted.as_bytes())?;
+    let out = unescaped(alloc, wanted.out.as_bytes())?;
+    let err = unescaped(alloc, wanted.err.as_bytes())?;
     let ran = outcome(rt, alloc, seed, words, pages)?;
-    if ran.is(0, text.as_slice(), b"") {
+    if ran.is(0, out.as_slice(), err.as_slice()) {
         return Ok(None);
     }
-    Ok(Some(String::from_utf8_lossy(alloc, ran.out.bytes())?))
+    let mut printed = Bytes::of(alloc, ran.out.bytes())?.into_vec();
+    printed.extend_from_slice(ran.err.bytes())?;
+    Ok(Some(String::from_utf8_lossy(alloc, printed.as_slice())?))
 }
 
 fn tried<R: Threads + Sync>(
@@ -150,27 +162,31 @@ fn tried<R: Threads + Sync>(
 ) -> Result<Tally, NoMemory> {
     let mut pages = Vec::new(alloc);
     let mut words = words_of(alloc, "expand d P")?;
+    let mut err = "";
     let mut tally = Tally {
         count: 0,
         wrong: Vec::new(alloc),
     };
     for line in table.split('\n') {
-        if let Some(wanted) = line.strip_prefix('>') {
+        if let Some(out) = line.strip_prefix('>') {
             if let Some(other) = differs(
                 rt,
                 alloc,
                 seed,
                 words.as_slice(),
                 pages.as_slice(),
-                wanted,
+                Wanted { out, err },
             )? {
                 add(&mut tally.wrong, String::from_str(alloc, line)?)?;
                 add(&mut tally.wrong, other)?;
             }
             words = words_of(alloc, "expand d P")?;
+            err = "";
             tally.count = tally.count.saturating_add(1);
         } else if let Some(given) = line.strip_prefix('$') {
             words = words_of(alloc, given)?;
+        } else if let Some(lines) = line.strip_prefix('!') {
+            err = lines;
         } else if line.is_empty() {
             pages.clear();
         } else if let Some((title, text)) = line.split_once('|') {
@@ -193,6 +209,14 @@ fn each_page_with_invocations_has_its_text(rt: HostRuntime) -> Result<(), Fail> 
     let tally = tried(&rt, rt.alloc(), fixed_seed()?, invocations::table())?;
     assert!(rt; tally.wrong.is_empty(), "{:?}", tally.wrong);
     assert_eq!(rt; tally.count, invocations::COUNT);
+    Ok(())
+}
+
+#[test]
+fn many_pages_have_their_texts_and_what_they_used(rt: HostRuntime) -> Result<(), Fail> {
+    let tally = tried(&rt, rt.alloc(), fixed_seed()?, many::table())?;
+    assert!(rt; tally.wrong.is_empty(), "{:?}", tally.wrong);
+    assert_eq!(rt; tally.count, many::COUNT);
     Ok(())
 }
 

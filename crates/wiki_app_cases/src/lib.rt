@@ -2,6 +2,7 @@
 //!
 //! - `cases`, `case_tests`: small folders of pages with the text of one of them
 //! - `invocations`: small folders with modules
+//! - `many`: several pages, with what they used
 //! - `tests`: statuses, the limits of a folder, and runs in which a read or a put fails
 #![tactic(auto)]
 
@@ -11,5 +12,7 @@ mod case_tests;
 mod cases;
 #[cfg(test)]
 mod invocations;
+#[cfg(test)]
+mod many;
 #[cfg(test)]
 mod tests;

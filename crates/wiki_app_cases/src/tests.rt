@@ -8,7 +8,7 @@ use std::marker::Brand;
 use std::sync::ledger::{Blank, Ledger};
 use std::test::Fail;
 use std::thread::Threads;
-use wiki_app::run;
+use wiki_app::{OpenGate, run};
 use wk_base::{Bytes, List, NoMemory, Steps};
 use wk_shelf::{MemoryFile, MemoryShelf, MemorySink, Shelf, ShelfFault, can_hold};
 
@@ -66,9 +66,18 @@ fn ran_over<R: Threads + Sync, S: Shelf>(
     err_fails: u64,
 ) -> Result<Ran, NoMemory> {
     let words = words_of(alloc, words)?;
-    let mut out = MemorySink::new(alloc, one(alloc, out_fails)?, 100)?;
-    let mut err = MemorySink::new(alloc, one(alloc, err_fails)?, 100)?;
-    let status = run(rt, alloc, seed, words.as_slice(), shelf, &mut out, &mut err);
+    let mut out = MemorySink::new(alloc, one(alloc, out_fails)?, 1000)?;
+    let mut err = MemorySink::new(alloc, one(alloc, err_fails)?, 1000)?;
+    let status = run(
+        rt,
+        alloc,
+        seed,
+        words.as_slice(),
+        shelf,
+        &mut out,
+        &mut err,
+        &OpenGate,
+    );
     Ok(Ran { status, out, err })
 }
 
@@ -285,6 +294,169 @@ const CASES: &[Case<'static>] = &[
         err_fails: 0,
         status: 0,
         out: b"no Lua",
+        err: b"",
+    },
+    // Several pages, in the order of the words; one may be named twice.
+    Case {
+        words: &["expand", "d", "talk:q", "P", "p"],
+        files: TWO,
+        shelf_fails: NEVER,
+        out_fails: NEVER,
+        err_fails: 0,
+        status: 0,
+        out: b"page Talk:Q 0\n\npage P 5\ntext\n\npage P 5\ntext\n\n",
+        err: b"",
+    },
+    Case {
+        words: &["expand", "d", "P", "Q", "R"],
+        files: TWO,
+        shelf_fails: NEVER,
+        out_fails: 0,
+        err_fails: NEVER,
+        status: 1,
+        out: b"",
+        err: b"wikiexpand: no such page: Q\n",
+    },
+    Case {
+        words: &["expand", "d", "P", "P", "--stats"],
+        files: TWO,
+        shelf_fails: NEVER,
+        out_fails: NEVER,
+        err_fails: NEVER,
+        status: 0,
+        out: b"page P 5\ntext\n\npage P 5\ntext\n\n",
+        err: b"P steps 0 nodes 0 bytes 0\nP steps 0 nodes 0 bytes 0\n",
+    },
+    // All pages, in the order of their titles' texts, templates and modules left out.
+    Case {
+        words: &["expand", "d", "--all"],
+        files: &[
+            ("B.wiki", b"b"),
+            ("Module:M.lua", b"m"),
+            ("Template:T.wiki", b"t"),
+            ("Talk%3aA.wiki", b"{{T}}"),
+            ("a b.wiki", b""),
+            ("Module talk:M.wiki", b"x"),
+            ("A.wiki", b"a"),
+        ],
+        shelf_fails: NEVER,
+        out_fails: NEVER,
+        err_fails: 0,
+        status: 0,
+        out: b"page A 1\na\npage A b 0\n\npage B 1\nb\npage Module talk:M 1\nx\npage Talk:A 1\nt\n",
+        err: b"",
+    },
+    Case {
+        words: &["expand", "--all", "--", "d"],
+        files: &[("B.wiki", b"")],
+        shelf_fails: NEVER,
+        out_fails: NEVER,
+        err_fails: 0,
+        status: 0,
+        out: b"page B 0\n\n",
+        err: b"",
+    },
+    Case {
+        words: &["expand", "d", "--all", "--stats"],
+        files: &[("Module:M.lua", b"m"), ("notes.txt", b"n")],
+        shelf_fails: NEVER,
+        out_fails: 0,
+        err_fails: 0,
+        status: 0,
+        out: b"",
+        err: b"",
+    },
+    // Standard output first, then the lines of what was used.
+    Case {
+        words: &["expand", "d", "P", "--stats"],
+        files: TWO,
+        shelf_fails: NEVER,
+        out_fails: NEVER,
+        err_fails: 0,
+        status: 5,
+        out: b"text\n",
+        err: b"",
+    },
+    Case {
+        words: &["expand", "d", "P", "--stats"],
+        files: TWO,
+        shelf_fails: NEVER,
+        out_fails: 0,
+        err_fails: NEVER,
+        status: 5,
+        out: b"",
+        err: b"",
+    },
+    // Two causes at once: the words, then the list, then the names, then what is read, then the pages.
+    Case {
+        words: &["expand", "d", "P", "--all"],
+        files: &[("A.wiki", b""), ("a.wiki", b"")],
+        shelf_fails: 0,
+        out_fails: 0,
+        err_fails: NEVER,
+        status: 2,
+        out: b"",
+        err: USAGE,
+    },
+    Case {
+        words: &["expand", "d", "Q"],
+        files: &[("A.wiki", b""), ("a.wiki", b"")],
+        shelf_fails: 0,
+        out_fails: 0,
+        err_fails: NEVER,
+        status: 4,
+        out: b"",
+        err: b"wikiexpand: cannot read\n",
+    },
+    Case {
+        words: &["expand", "d", "Q"],
+        files: &[("A.wiki", b""), ("a.wiki", b"")],
+        shelf_fails: 1,
+        out_fails: 0,
+        err_fails: NEVER,
+        status: 3,
+        out: b"",
+        err: b"wikiexpand: source fault: a.wiki: title is taken\n",
+    },
+    Case {
+        words: &["expand", "d", "Q", "P"],
+        files: TWO,
+        shelf_fails: 1,
+        out_fails: 0,
+        err_fails: NEVER,
+        status: 4,
+        out: b"",
+        err: b"wikiexpand: cannot read\n",
+    },
+    // Pages that the program makes: no shelf is asked.
+    Case {
+        words: &["demo", "3"],
+        files: &[],
+        shelf_fails: 0,
+        out_fails: NEVER,
+        err_fails: 0,
+        status: 0,
+        out: b"pages 3 bytes 19\n",
+        err: b"",
+    },
+    Case {
+        words: &["demo", "--jobs", "64", "100"],
+        files: &[],
+        shelf_fails: 0,
+        out_fails: NEVER,
+        err_fails: 0,
+        status: 0,
+        out: b"pages 100 bytes 798\n",
+        err: b"",
+    },
+    Case {
+        words: &["demo", "3"],
+        files: &[],
+        shelf_fails: 0,
+        out_fails: 0,
+        err_fails: NEVER,
+        status: 5,
+        out: b"",
         err: b"",
     },
 ];

@@ -7,7 +7,7 @@
 use std::hash::RandomState;
 use std::process::ExitCode;
 use std::{env, io};
-use wiki_app::{CANNOT_READ, Status, after_put, put_piece, run};
+use wiki_app::{CANNOT_READ, OpenGate, Status, after_put, put_piece, run};
 use wk_shelf::{FolderShelf, StreamSink};
 
 /// The words after the program's name.
@@ -47,5 +47,6 @@ fn main(rt: HostRuntime) -> ExitCode {
         &mut shelf,
         &mut out,
         &mut err,
+        &OpenGate,
     ))
 }

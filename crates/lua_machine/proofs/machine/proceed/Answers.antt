@@ -4,14 +4,14 @@ use Rattle.lua_state.specs.Seen.{slots_of}
 use Rattle.lua_state.specs.Worlds.{world_seen}
 use Rattle.lua_machine.specs.Moved.{point_of}
 use Rattle.lua_machine.specs.Events.{stop_seen, funds_after}
-use Rattle.lua_machine.proofs.Events.{comes, paid_for, takes_its_own, calls_back, settled_of, settled_world, event_of, calls_at}
+use Rattle.lua_machine.proofs.Events.{comes, paid_for, takes_its_own, calls_back, settled_of, settled_world, calls_at}
 use Rattle.lua_machine.proofs.machine.proceed.Goals as goal
 
 pub settle-requires : goal.settle-requires
 settle-requires g c = let k = calls_at c.args.store.now (record c.args.state.now { height = 0 }) c.args.focus c.args.left.now c.args.turns.now c.advance.new.store c.advance.new.state c.advance.new.left c.advance.new.turns c.in_ok-event.event refl c.in_ok-event.ensures in omega (arith, k, c.requires.calls)
 
 pub returns-clause-of : goal.returns-clause-of
-returns-clause-of g c = (settled_of c.advance.new.store c.in_ok-event.event c.advance.new.left c.settle.new.left c.advance.new.state c.settle.new.state c.in_ok-event.ensures.state c.settle.ensures, event_of c.advance.new.store c.in_ok-event.event c.in_ok-event.ensures.of)
+returns-clause-of g c = (settled_of c.advance.new.store c.in_ok-event.event c.advance.new.left c.settle.new.left c.advance.new.state c.settle.new.state c.in_ok-event.ensures.state c.settle.ensures, c.in_ok-event.ensures.of)
 
 pub returns-clause-world : goal.returns-clause-world
 returns-clause-world g c = settled_world c.in_ok-event.event c.advance.new.left c.settle.new.left c.advance.new.state c.settle.new.state c.settle.ensures ∙ c.in_ok-event.ensures.world

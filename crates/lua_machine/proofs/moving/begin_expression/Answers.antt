@@ -1,3 +1,4 @@
+use Rattle.std.proofs.lemmas.Result.{IfOk-weaker}
 use Rattle.std.proofs.Common.{refl, sym}
 use Rattle.lua_code.specs.Seen.{expression_seen}
 use Rattle.lua_state.specs.Seen.{slots_of, frames_of}
@@ -6,8 +7,10 @@ use Rattle.lua_machine.proofs.moving.begin_expression.Goals as goal
 
 pub returns : goal.returns
 returns g c = rw c.tick.ensures
-    (as_move c.args.store.now c.args.state.now c.args.left.now c.args.turns.now c.evaluate.new.store c.evaluate.new.state c.evaluate.new.left _ _ _ c.in_ok-turn.turn
+    (IfOk-weaker c.evaluate.result _ _
+    (λ r e. as_move c.args.store.now c.args.state.now c.args.left.now c.args.turns.now c.evaluate.new.store c.evaluate.new.state c.evaluate.new.left _ _ _ r
     (sym (begins_with_node (expression_seen c.args.expression.now) (frames_of c.args.store.now c.args.state.now) (slots_of c.args.store.now c.args.state.now)))
-    (step_paid c.args.store.now c.args.state.now c.args.left.now c.take_steps.new.self c.args.turns.now c.evaluate.new.store c.evaluate.new.state c.evaluate.new.left _ _ c.in_ok-turn.turn
+    (step_paid c.args.store.now c.args.state.now c.args.left.now c.take_steps.new.self c.args.turns.now c.evaluate.new.store c.evaluate.new.state c.evaluate.new.left _ _ r
     (c.if-not-take_steps.ensures.covered.0 refl) c.take_steps.ensures.rest
-    (mark_counted c.args.store.now c.args.state.now c.take_steps.new.self c.args.turns.now c.evaluate.new.store c.evaluate.new.state c.evaluate.new.left _ c.in_ok-turn.turn c.in_ok-turn.ensures)))
+    (mark_counted c.args.store.now c.args.state.now c.take_steps.new.self c.args.turns.now c.evaluate.new.store c.evaluate.new.state c.evaluate.new.left _ r e)))
+    c.evaluate.ensures)

@@ -1,6 +1,15 @@
-use Rattle.lua_machine.proofs.Moves.{values_given}
+use Rattle.std.proofs.lemmas.Result.{IfOk-weaker}
+use Rattle.lua_stack.specs.declared.focus.Focus.TheVariants as focus
+use Rattle.lua_state.specs.Seen.{slots_of}
+use Rattle.lua_state.specs.Worlds.{world_seen}
+use Rattle.lua_machine.proofs.Moves.{values_given, at_end, end_stays}
 use Rattle.lua_machine.proofs.moving.give.Goals as goal
 
-pub returns : goal.returns
-returns c = λ k. rw c.of_turn.ensures
-    (values_given c.args.store.now c.args.state.now c.args.left.now k c.in-Some.frame c.pop.new.self c.give_frame.new.store c.give_frame.new.state c.give_frame.new.left c.in_ok-turn.turn c.in-Some.ensures c.args.values c.in_ok-turn.ensures)
+pub returns-in-Some : goal.returns-in-Some
+returns-in-Some c = IfOk-weaker c.give_frame.result _ _
+    (λ r e k. values_given c.args.store.now c.args.state.now c.args.left.now k c.in-Some.frame c.pop.new.self c.give_frame.new.store c.give_frame.new.state c.give_frame.new.left r c.in-Some.ensures c.args.values e)
+    c.give_frame.ensures
+
+pub returns-in-None : goal.returns-in-None
+returns-in-None c = λ k. at_end c.args.store.now c.args.state.now c.pop.new.self (focus.Gives c.args.values) c.args.left.now k c.in-None.ensures.0 c.in-None.ensures.1 c.requires.state c.requires.values
+    (end_stays (world_seen c.args.state.now.codes.world) c.args.store.now c.args.state.now.frames _ (slots_of c.args.store.now c.args.state.now) c.in-None.ensures.0)

@@ -1,7 +1,7 @@
 use Rattle.std.proofs.Common.{refl, inr, rules, []}
 use Rattle.std.specs.Prelude.{None, Some, is_ok}
-use Rattle.wiki_app.specs.Report.{usage_report}
-use Rattle.wiki_app.proofs.RunLemmas.{for_due, for_any, usage_due, command_due, usage_meant, command_meant, no_answer, never, nothing, answers, usage_answers, begins, begins_nothing, begins_with_read_line, completes, neither}
+use Rattle.wiki_output.specs.Report.{usage_report}
+use Rattle.wiki_app.proofs.RunLemmas.{for_due, for_any, usage_due, command_due, usage_meant, command_meant, no_answer, never, nothing, answers, usage_answers, begins, begins_nothing, begins_with_read_line, completes, neither, reads_folder, put_was}
 use Rattle.wiki_app.proofs.top_call.run.Goals as goal
 
 -- ---- no command
@@ -50,6 +50,10 @@ returns-in-Ok-clause-complete g c = λ a b e. for_due _ _ c.in-Ok.report _ (comm
     (completes c.put_both.result _ c.in-Ok.report _ c.after_put-in-Ok.ensures c.put_both.ensures.cause (neither _ _ b e))
 
 -- ---- a read failed
+
+pub returns-in-Err-Failed-clause-read_fault : goal.returns-in-Err-Failed-clause-read_fault
+returns-in-Err-Failed-clause-read_fault g c = λ is.
+    (reads_folder _ _ (rw c.in-Ok-Some.field-0-is at c.in-Ok-Some.ensures.command) (search rules), search rules, search rules, put_was c.put_piece-in-Err-Failed.result _ _ c.after_put-in-Err-Failed.ensures is c.put_piece-in-Err-Failed.ensures.ok)
 
 pub returns-in-Err-Failed-clause-answered : goal.returns-in-Err-Failed-clause-answered
 returns-in-Err-Failed-clause-answered g c = λ is. never (is_ok c.put_piece-in-Err-Failed.result) 4 _ c.after_put-in-Err-Failed.ensures refl is

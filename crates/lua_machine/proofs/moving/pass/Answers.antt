@@ -1,0 +1,15 @@
+use Rattle.std.proofs.lemmas.Result.{IfOk-weaker}
+use Rattle.lua_stack.specs.declared.focus.Focus.TheVariants as focus
+use Rattle.lua_state.specs.Seen.{slots_of}
+use Rattle.lua_state.specs.Worlds.{world_seen}
+use Rattle.lua_machine.proofs.Moves.{jump_passed, at_end, end_stays}
+use Rattle.lua_machine.proofs.moving.pass.Goals as goal
+
+pub returns-in-Some : goal.returns-in-Some
+returns-in-Some c = IfOk-weaker c.pass_frame.result _ _
+    (λ r e k. jump_passed c.args.store.now c.args.state.now c.args.left.now k c.in-Some.frame c.pop.new.self c.pass_frame.new.store c.pass_frame.new.state c.pass_frame.new.left r c.in-Some.ensures c.args.jump e)
+    c.pass_frame.ensures
+
+pub returns-in-None : goal.returns-in-None
+returns-in-None c = λ k. at_end c.args.store.now c.args.state.now c.pop.new.self (focus.Jumps c.args.jump) c.args.left.now k c.in-None.ensures.0 c.in-None.ensures.1 c.requires.state c.requires.jump
+    (end_stays (world_seen c.args.state.now.codes.world) c.args.store.now c.args.state.now.frames _ (slots_of c.args.store.now c.args.state.now) c.in-None.ensures.0)

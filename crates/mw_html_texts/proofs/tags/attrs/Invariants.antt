@@ -1,0 +1,15 @@
+use Rattle.std.proofs.Common.{length, map}
+use Rattle.std.specs.List.{AllByRecursion, flat_map}
+use Rattle.mw_html.specs.declared.sheet.Sheet.{Sheet}
+use Rattle.mw_html.specs.Render as spec
+use Rattle.mw_html.specs.Render.{given}
+use Rattle.mw_html.specs.Sheet.{Leads}
+use Rattle.lua_store.specs.Seen.{seen_pair}
+use Rattle.lua_store.specs.Parts.{IsPairOf}
+use Rattle.mw_html_texts.proofs.tags.attrs.Given as goal
+
+abbrev pub invariant-loop-rest : goal.invariant-loop-rest
+invariant-loop-rest l = AllByRecursion (IsPairOf l.store) l.rest × ((t : Sheet) → Leads l.sheet t (given (flat_map spec.attr (map (seen_pair l.store.texts) l.rest))) → Leads l.initial.sheet t (given (flat_map spec.attr (map (seen_pair l.store.texts) l.pairs))))
+
+abbrev pub decreases-loop-rest : goal.decreases-loop-rest
+decreases-loop-rest l = length l.rest

@@ -1,0 +1,8 @@
+pub mod Given
+pub mod Changed
+pub mod Texts
+pub mod Settled
+pub mod Climbs
+pub mod Valued
+pub mod Tables
+pub mod Lines

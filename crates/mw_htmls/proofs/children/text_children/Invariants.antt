@@ -1,0 +1,14 @@
+use Rattle.std.proofs.Common.{◌≡◌, map, take}
+use Rattle.std.specs.List.{AllByRecursion}
+use Rattle.lua_heap.specs.Heap.{ChildText}
+use Rattle.lua_store.specs.Seen.{seen_child}
+use Rattle.lua_store.specs.Parts.{IsChildOf, IsLater}
+use Rattle.lua_basic.specs.Arguments.{text_bytes}
+use Rattle.mw_htmls.proofs.children.text_children.Given as goal
+
+abbrev pub invariant-each : goal.invariant-each
+invariant-each l =
+    AllByRecursion (IsChildOf l.store) l.children
+    × (map (seen_child l.store.texts) l.children ≡ map ChildText (map text_bytes (take l.text-index l.texts)))
+    × (l.store.heap ≡ l.initial.store.heap)
+    × IsLater l.initial.store l.store

@@ -1,0 +1,12 @@
+use Rattle.std.proofs.Common.{◌≡◌, length, map}
+use Rattle.std.specs.List.{AllByRecursion}
+use Rattle.lua_meaning.specs.HtmlNodes as nodes
+use Rattle.lua_store.specs.Seen.{seen_pair}
+use Rattle.lua_store.specs.Parts.{IsPairOf}
+use Rattle.mw_htmls.proofs.classes.value_of.Given as goal
+
+abbrev pub invariant-each : goal.invariant-each
+invariant-each l = AllByRecursion (IsPairOf l.store) l.rest × (nodes.value_of l.name (map (seen_pair l.store.texts) l.rest) ≡ nodes.value_of l.name (map (seen_pair l.store.texts) l.pairs))
+
+abbrev pub decreases-each : goal.decreases-each
+decreases-each l = length l.rest

@@ -1,0 +1,41 @@
+use Rattle.std.proofs.Common.{◌≡◌, ◌∙◌, ap, refl, Err}
+use Rattle.std.specs.Prelude.{codes}
+use Rattle.std.proofs.lemmas.Result.{err_from_is_err_and}
+use Rattle.lua_meaning.specs.Values.{rest}
+use Rattle.lua_meaning.specs.Html.{a_tag_name, closing_option}
+use Rattle.lua_store.specs.Seen.{StoreView}
+use Rattle.lua_basic.specs.Arguments.{text_bytes}
+use Rattle.lua_basic.specs.Seen.{values_seen}
+use Rattle.lua_basic.proofs.Found.{stopped}
+use Rattle.lua_strings.proofs.Given.{past_free}
+use Rattle.mw_htmls.proofs.making.create.Goals as goal
+
+pub returns-in_err-name-clause-answer : goal.returns-in_err-name-clause-answer
+returns-in_err-name-clause-answer c =
+    let p = err_from_is_err_and c.from_residual.result c.from_residual.ensures.1 in
+    let s = c.args.store.now in
+    stopped _ (a_tag_name 1 (codes "create") (values_seen s.texts c.args.args.now)) _ s c.a_tag_name.new.store c.in_err-name.field-0.0 c.from_residual.result c.in_err-name.ensures.refused refl (p.1 ∙ ap Err p.2)
+
+pub closing_option-requires : goal.closing_option-requires
+closing_option-requires c = rw c.in_ok-name.ensures.same (c.rest.ensures.of c.args.store.now c.requires)
+
+pub returns-in_err-closed-clause-answer : goal.returns-in_err-closed-clause-answer
+returns-in_err-closed-clause-answer c =
+    let p = err_from_is_err_and c.from_residual-in_err-closed.result c.from_residual-in_err-closed.ensures.1 in
+    let s = c.args.store.now in
+    let given = values_seen s.texts c.args.args.now in
+    let same = rw c.in_ok-name.ensures.same at c.in_err-closed.ensures.refused in
+    let none = rw (c.rest.ensures.values s.texts) at same in
+    past_free _ (a_tag_name 1 (codes "create") given) (text_bytes c.in_ok-name.name) _ s c.closing_option.new.store c.from_residual-in_err-closed.result c.in_ok-name.ensures.found refl
+    (stopped _ (closing_option s.heap 2 (codes "create") (rest given)) _ s c.closing_option.new.store c.in_err-closed.field-0.0 c.from_residual-in_err-closed.result none refl (p.1 ∙ ap Err p.2))
+
+pub returns-clause-answer : goal.returns-clause-answer
+returns-clause-answer c =
+    let s = c.args.store.now in
+    let given = values_seen s.texts c.args.args.now in
+    let same = rw c.in_ok-name.ensures.same at c.in_ok-closed.ensures.found in
+    let found = rw (c.rest.ensures.values s.texts) at same in
+    let heap : c.closing_option.new.store.heap ≡ s.heap = c.in_ok-closed.ensures.heap ∙ ap (λ (x : StoreView). x.heap) c.in_ok-name.ensures.same in
+    let answer = rw (heap, c.as_slice.ensures) at c.give_new.ensures.answer in
+    past_free _ (a_tag_name 1 (codes "create") given) (text_bytes c.in_ok-name.name) _ s c.give_new.new.store c.give_new.result c.in_ok-name.ensures.found refl
+    (past_free _ (closing_option s.heap 2 (codes "create") (rest given)) c.in_ok-closed.closed _ s c.give_new.new.store c.give_new.result found refl answer)

@@ -1,0 +1,119 @@
+-- THE FUNCTIONS of `mw.html`, and what each gives. A method is read after its object, which is its first argument.
+use Rattle.std.specs.Prelude.{◌≡◌, ℕ, List, [], ◌∷◌, Option, Some, None, codes}
+use Rattle.lua_heap.specs.Proc.{Proc}
+use Rattle.lua_heap.specs.Value.{Value}
+use Rattle.lua_heap.specs.Heap.{Heap, markup_at}
+use Rattle.lua_heap.specs.declared.library.Library.{Library}
+use Rattle.lua_heap.specs.declared.library.Library.TheVariants.{HtmlCreate, HtmlNode, HtmlWikitext, HtmlNewline, HtmlAttr, HtmlAddClass, HtmlCss, HtmlCssText, HtmlTag, HtmlDone, HtmlAllDone, HtmlGetAttr}
+use Rattle.lua_meaning.specs.Scope.{Bytes}
+use Rattle.lua_meaning.specs.Values.{rest}
+use Rattle.lua_meaning.specs.Arguments.{Plain, gives, with_argument, a_text}
+use Rattle.lua_meaning.specs.TextArguments.{of_texts}
+use Rattle.lua_meaning.specs.HtmlNodes as nodes
+use Rattle.lua_meaning.specs.Html as html
+use Rattle.mw_htmls.specs.declared.table.Method.{Method}
+use Rattle.mw_htmls.specs.declared.table.Method.TheVariants as own
+use Rattle.mw_htmls.specs.declared.table.HtmlFunction.{HtmlFunction}
+use Rattle.mw_htmls.specs.declared.table.HtmlFunction.TheVariants as function
+
+abbrev pub html_function_in : Library → Option HtmlFunction
+html_function_in HtmlCreate = Some function.Create
+html_function_in HtmlNode = Some (function.Method own.Node)
+html_function_in HtmlWikitext = Some (function.Method own.Wikitext)
+html_function_in HtmlNewline = Some (function.Method own.Newline)
+html_function_in HtmlAttr = Some (function.Method own.Attr)
+html_function_in HtmlAddClass = Some (function.Method own.AddClass)
+html_function_in HtmlCss = Some (function.Method own.Css)
+html_function_in HtmlCssText = Some (function.Method own.CssText)
+html_function_in HtmlTag = Some (function.Method own.Tag)
+html_function_in HtmlDone = Some (function.Method own.Done)
+html_function_in HtmlAllDone = Some (function.Method own.AllDone)
+html_function_in HtmlGetAttr = Some (function.Method own.GetAttr)
+html_function_in which = None
+
+abbrev pub name_of : Method → Bytes
+name_of own.Node = codes "node"
+name_of own.Wikitext = codes "wikitext"
+name_of own.Newline = codes "newline"
+name_of own.Attr = codes "attr"
+name_of own.AddClass = codes "addClass"
+name_of own.Css = codes "css"
+name_of own.CssText = codes "cssText"
+name_of own.Tag = codes "tag"
+name_of own.Done = codes "done"
+name_of own.AllDone = codes "allDone"
+name_of own.GetAttr = codes "getAttr"
+
+-- a method of an object, with the arguments behind it
+abbrev pub tag_on : {X : Type 0} → ℕ → List Value → Heap X → Plain X
+tag_on m given h =
+    with_argument h (html.a_tag_name 2 (codes "tag") given) (λ name.
+    with_argument h (html.closing_option h 3 (codes "tag") (rest given)) (λ closed.
+    html.makes_in h m (nodes.new_node name closed (Some m))))
+
+abbrev pub node_on : {X : Type 0} → ℕ → List Value → Heap X → Plain X
+node_on m given h = with_argument h (html.a_child given) (λ children. html.changes h m (nodes.add_children children))
+
+abbrev pub wikitext_on : {X : Type 0} → ℕ → List Value → Heap X → Plain X
+wikitext_on m given h = with_argument h (html.texts_from 2 given) (λ texts. html.changes h m (nodes.add_texts texts))
+
+abbrev pub newline_on : {X : Type 0} → ℕ → Heap X → Plain X
+newline_on m h = html.changes h m (nodes.add_texts ((10 ∷ []) ∷ []))
+
+abbrev pub css_text_on : {X : Type 0} → ℕ → List Value → Heap X → Plain X
+css_text_on m given h = with_argument h (a_text 2 (codes "cssText") given) (λ text. html.changes h m (nodes.add_style_text text))
+
+abbrev pub add_class_on : {X : Type 0} → ℕ → List Value → Heap X → Plain X
+add_class_on m given h = with_argument h (html.text_if_any 2 (codes "addClass") given) (λ class. html.adds_class h m class)
+
+abbrev pub get_attr_on : {X : Type 0} → ℕ → List Value → Heap X → Plain X
+get_attr_on m given h = with_argument h (a_text 2 (codes "getAttr") given) (λ name. html.gives_value h (nodes.value_of name (markup_at h m).attrs))
+
+abbrev pub done_on : {X : Type 0} → ℕ → Heap X → Plain X
+done_on m h = gives h (html.found_or m (markup_at h m).parent ∷ [])
+
+abbrev pub all_done_on : {X : Type 0} → ℕ → Heap X → Plain X
+all_done_on m h = gives h (html.found_or m (nodes.root_of h.markup m) ∷ [])
+
+abbrev pub method_on : {X : Type 0} → Method → ℕ → List Value → Heap X → Plain X
+method_on own.Node m given h = node_on m given h
+method_on own.Wikitext m given h = wikitext_on m given h
+method_on own.Newline m given h = newline_on m h
+method_on own.Attr m given h = html.set_given html.attributes h m given
+method_on own.AddClass m given h = add_class_on m given h
+method_on own.Css m given h = html.set_given html.styles h m given
+method_on own.CssText m given h = css_text_on m given h
+method_on own.Tag m given h = tag_on m given h
+method_on own.Done m given h = done_on m h
+method_on own.AllDone m given h = all_done_on m h
+method_on own.GetAttr m given h = get_attr_on m given h
+
+abbrev pub method_by : {X : Type 0} → Method → List Value → Heap X → Plain X
+method_by which args h = with_argument h (html.an_object 1 (name_of which) args) (λ m. method_on which m (rest args) h)
+
+-- behind the charge of its arguments
+abbrev pub given_by : {X : Type 0} → HtmlFunction → List Value → Heap X → Plain X
+given_by function.Create args h = html.create args h
+given_by (function.Method which) args h = method_by which args h
+
+abbrev pub answer_of : {X : Type 0} → HtmlFunction → List Value → Heap X → Plain X
+answer_of f args h = of_texts (given_by f) args h
+
+-- WHAT IS MEANT by each name of the library
+abbrev pub meant : Library → Option (List Value → Heap Proc → Plain Proc)
+meant HtmlCreate = Some html.create
+meant HtmlNode = Some html.node
+meant HtmlWikitext = Some html.wikitext
+meant HtmlNewline = Some html.newline
+meant HtmlAttr = Some html.attr
+meant HtmlAddClass = Some html.add_class
+meant HtmlCss = Some html.css
+meant HtmlCssText = Some html.css_text
+meant HtmlTag = Some html.tag
+meant HtmlDone = Some html.done
+meant HtmlAllDone = Some html.all_done
+meant HtmlGetAttr = Some html.get_attr
+meant which = None
+
+abbrev pub AreTheMethods : Type 0
+AreTheMethods = (which : Library) (f : HtmlFunction) → html_function_in which ≡ Some f → meant which ≡ Some (given_by f)

@@ -1,0 +1,29 @@
+use Rattle.std.proofs.Common.{◌≡◌, ◌∙◌, List, ap, sym, subst, map, rules}
+use Rattle.std.specs.Prelude.{Ok}
+use Rattle.wk_base.specs.declared.title.Title.{Title}
+use Rattle.wk_shelf.specs.declared.folder.FolderPage.{FolderPage}
+use Rattle.wiki_output.specs.declared.made.Form.{Form}
+use Rattle.lua_meaning.specs.World.{Modules}
+use Rattle.wiki_texts.specs.declared.raw.RawPage.{RawPage}
+use Rattle.wiki_texts.specs.Modules.{AreMeantBy}
+use Rattle.wiki_app.specs.Pages.{raw_pages, titles_of, form_of}
+use Rattle.wiki_app.specs.Report.{wiki_report}
+use Rattle.wiki_app.proofs.answer.command_report.Goals as goal
+
+pub returns-clause-report : goal.returns-clause-report
+returns-clause-report g c = λ modules mean.
+    let settings = c.args.command.now.settings in
+    let work = c.args.command.now.work in
+    let raw : c.in_ok-raw.raw ≡ raw_pages c.args.pages = c.in_ok-raw.ensures in
+    let form : c.form_of-form.result ≡ form_of work = c.form_of-form.ensures in
+    let titles : c.as_slice-2.result.now ≡ titles_of work c.args.pages = search rules in
+    c.in_ok-report.ensures.report modules (subst (λ (ps : List RawPage). AreMeantBy ps modules) (sym raw) mean)
+    ∙ ap (λ (ps : List RawPage). wiki_report modules settings c.form_of-form.result c.as_slice-2.result.now ps) raw
+    ∙ ap (λ (f : Form). wiki_report modules settings f c.as_slice-2.result.now (raw_pages c.args.pages)) form
+    ∙ ap (λ (ts : List Title). wiki_report modules settings (form_of work) ts (raw_pages c.args.pages)) titles
+
+pub returns-clause-meant : goal.returns-clause-meant
+returns-clause-meant g c =
+    let raw : c.in_ok-raw.raw ≡ raw_pages c.args.pages = c.in_ok-raw.ensures in
+    let found = c.in_ok-report.ensures.meant in
+    (found.0, subst (λ (ps : List RawPage). AreMeantBy ps found.0) raw found.1)

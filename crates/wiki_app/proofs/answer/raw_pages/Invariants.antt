@@ -1,6 +1,0 @@
-use Rattle.std.proofs.Common.{◌≡◌, map}
-use Rattle.wiki_app.specs.Page.{raw_page}
-use Rattle.wiki_app.proofs.answer.raw_pages.Given as goal
-
-abbrev pub invariant-loop-page : goal.invariant-loop-page
-invariant-loop-page l = l.raw ≡ map raw_page l.yielded

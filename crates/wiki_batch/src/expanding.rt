@@ -1,0 +1,96 @@
+//! Many pages of a wiki, each expanded by itself.
+ghost use Rattle.std.specs.Prelude.{◌≡◌, ◌≤◌, All, IfOk, IsSome};
+ghost use Rattle.wk_base.specs.Allowances.{IsCountable};
+ghost use Rattle.wiki_expand.specs.Pages.{find_page};
+ghost use Rattle.wiki_batch.specs.Batch.{IsPage, ArePages};
+
+use crate::gate::Gate;
+use page_driver::{Page, Wiki, expand_page};
+use std::alloc::Global;
+use std::hash::RandomState;
+use std::marker::Brand;
+use std::sync::ledger::{Blank, Ledger};
+use std::thread::Threads;
+use wk_base::{Limits, List, NoMemory, Steps, Title};
+
+/// A held page, with a counter of turns that nobody reads.
+fn counted<L: Ledger>(
+    alloc: Global,
+    seed: RandomState,
+    blank: Blank,
+    wiki: &Wiki,
+    limits: &Limits,
+    title: &Title,
+) -> Result<Page, NoMemory>
+    requires name { blank.name ≡ L.name }
+    requires parts { blank.parts ≡ L.parts }
+    requires one { blank.parts ≡ 1 }
+    requires held { IsSome (find_page wiki.now.pages title.now) }
+    requires countable { IsCountable limits.now }
+    ensures { IfOk result (λ page. IsPage wiki.now limits.now title.now page) }
+{
+    let mut turns = Steps::<L>::open(blank);
+    let page = expand_page(alloc, seed, wiki, title, limits, &mut turns)?;
+    Ok(page)
+}
+
+/// A held page, with all of its limits left.
+fn expanded(
+    alloc: Global,
+    seed: RandomState,
+    wiki: &Wiki,
+    limits: &Limits,
+    title: &Title,
+) -> Result<Page, NoMemory>
+    requires held { IsSome (find_page wiki.now.pages title.now) }
+    requires countable { IsCountable limits.now }
+    ensures { IfOk result (λ page. IsPage wiki.now limits.now title.now page) }
+{
+    counted::<Brand>(alloc, seed, Blank::new(1), wiki, limits, title)
+}
+
+/// The pages of the titles of a share, whose first has the place `start` among all.
+fn expand_share<G: Gate>(
+    alloc: Global,
+    seed: RandomState,
+    wiki: &Wiki,
+    titles: &[Title],
+    start: usize,
+    limits: &Limits,
+    gate: &G,
+) -> Result<List<Page>, NoMemory>
+    requires held { All (λ title. IsSome (find_page wiki.now.pages title)) titles.now }
+    requires countable { IsCountable limits.now }
+    ensures { IfOk result (λ pages. ArePages wiki.now limits.now titles.now pages) }
+{
+    let mut pages = List::new(alloc);
+    let mut place = start;
+    for title in titles {
+        gate.started(place);
+        place = place.saturating_add(1);
+        let page = expanded(alloc, seed, wiki, limits, title)?;
+        pages.push(page)?;
+    }
+    Ok(pages)
+}
+
+/// The pages of these titles, in their order, each with all of its limits left. Neither the number of jobs nor the gate changes an answer.
+pub fn expand_all<R: Threads + Sync, G: Gate + Sync>(
+    rt: &R,
+    alloc: Global,
+    seed: RandomState,
+    wiki: &Wiki,
+    titles: &[Title],
+    limits: &Limits,
+    jobs: usize,
+    gate: &G,
+) -> Result<List<Page>, NoMemory>
+    requires held { All (λ title. IsSome (find_page wiki.now.pages title)) titles.now }
+    requires countable { IsCountable limits.now }
+    requires jobs { 1 ≤ jobs }
+    ensures { IfOk result (λ pages. ArePages wiki.now limits.now titles.now pages) }
+{
+    let _ = rt;
+    let _ = jobs;
+    expand_share(alloc, seed, wiki, titles, 0, limits, gate)
+}

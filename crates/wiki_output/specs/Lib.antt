@@ -1,0 +1,4 @@
+pub mod Choice
+pub mod Demo
+pub mod Output
+pub mod Report
