@@ -1,5 +1,5 @@
 -- What a replacement text stands for: the same as in `lua_string`.
-use Rattle.std.proofs.Common.{◌≡◌, ◌∙◌, ap, refl, sym, ℕ, zero, suc, Bool, true, false, List, [], ◌∷◌, map, Option, Some, None, Ok, Err}
+use Rattle.std.proofs.Common.{◌≡◌, ◌∙◌, ap, refl, ℕ, zero, suc, Bool, List, [], ◌∷◌, map, Ok}
 use Rattle.std.specs.Prelude.{◌==◌, ◌&&◌, ◌-◌, if◌then◌else◌, Result, slice_get}
 use Rattle.std.specs.Char.{is_ascii_digit}
 use Rattle.lua_meaning.specs.Scope.{Bytes}

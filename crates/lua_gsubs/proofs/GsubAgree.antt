@@ -1,5 +1,5 @@
 -- `gsub` does the same to two heaps, of which the first stands in the second: it answers alike, or asks alike behind the same charge.
-use Rattle.std.proofs.Common.{◌≡◌, ℕ, ◌+◌, pos, Bool, List, [], ◌∷◌, length, Option, Some, None, Ok, Err, refl, ap, subst}
+use Rattle.std.proofs.Common.{◌≡◌, ℕ, ◌+◌, pos, Bool, List, [], length, Some, Ok, Err, refl, subst}
 use Rattle.std.specs.Prelude.{codes}
 use Rattle.lua_pattern.specs.declared.item.Item.{Item}
 use Rattle.lua_pattern.specs.declared.slots.Slot.{Slot}
@@ -9,15 +9,14 @@ use Rattle.lua_heap.specs.Value.{Value, Closure, Builtin}
 use Rattle.lua_heap.specs.Heap.{Heap}
 use Rattle.lua_heap.specs.Related.{Map, Each, none, more, Same, nil, truth, number, text, table, closure, builtin, markup, Stands}
 use Rattle.lua_meaning.specs.Scope.{Bytes}
-use Rattle.lua_meaning.specs.Values.{rest}
-use Rattle.lua_meaning.specs.Arguments.{Plain, Argument, with_charge, fails, number_or}
+use Rattle.lua_meaning.specs.Arguments.{Argument, with_charge, fails}
 use Rattle.lua_meaning.specs.Checks.{malformed}
 use Rattle.lua_library_agree.specs.Same.{SamePlain, SameArgument, both_ok, both_err}
 use Rattle.lua_library_agree.proofs.Values.{one-each, rest-same, a_text-same, number_or-same, text_charge-same}
 use Rattle.lua_library_agree.proofs.Heaps.{costing, failing, charging}
 use Rattle.lua_library_agree.proofs.UstringAgree.{utf8_text-same}
-use Rattle.lua_gsubs.specs.Gsub.{Alphabet, OfBytes, OfPoints, letters, Replacement, ByText, ByTable, ByFunction, text_in_alphabet, by_text, a_replacement, all_of, Given, then_by, given_in, Replaced, Made, Faulty, replaced_from, at_head, replaced_answer, Job, GsubForm, GsubAnswers, GsubAsks, args_charge, by_replacement, by_pattern, by_given, gsub_form}
-use Rattle.lua_gsubs.specs.Agree.{SameReplacement, same_text, same_table, same_function, given_of, SameGiven, same_given, job_of, SameGsub, both_answer, both_ask}
+use Rattle.lua_gsubs.specs.Gsub.{Alphabet, OfBytes, OfPoints, letters, Replacement, text_in_alphabet, by_text, a_replacement, all_of, Given, then_by, given_in, Replaced, Made, Faulty, replaced_from, at_head, replaced_answer, GsubForm, args_charge, by_replacement, by_pattern, by_given, gsub_form}
+use Rattle.lua_gsubs.specs.Agree.{SameReplacement, same_text, same_table, same_function, given_of, SameGiven, same_given, SameGsub, both_answer, both_ask}
 
 -- ARGUMENTS
 text_in_alphabet-same : {m : Map} (a : Alphabet) (n : ℕ) {vs ws : List Value} → Each (Same m) vs ws → text_in_alphabet a n vs ≡ text_in_alphabet a n ws

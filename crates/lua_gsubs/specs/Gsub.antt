@@ -23,12 +23,11 @@ use Rattle.lua_heap.specs.Heap.{Heap}
 use Rattle.lua_meaning.specs.Scope.{Bytes, Levels, Function}
 use Rattle.lua_meaning.specs.Values.{kind_of, first, rest}
 use Rattle.lua_meaning.specs.Acts.{Act}
-use Rattle.lua_meaning.specs.Messages.{bad_argument, expected}
 use Rattle.lua_meaning.specs.Index.{index_all}
 use Rattle.lua_meaning.specs.Arguments.{Plain, Gives, plain_act, with_charge, fails, text_charge, Argument, a_text, number_or}
 use Rattle.lua_meaning.specs.Checks.{malformed}
-use Rattle.lua_meaning.specs.TextArguments.{in_utf8, utf8_text}
-use Rattle.lua_meaning.specs.Waiting.{Waits, calling, for_values, argument, text_value}
+use Rattle.lua_meaning.specs.TextArguments.{utf8_text}
+use Rattle.lua_meaning.specs.Waiting.{Waits, calling, for_values, argument}
 use Rattle.lua_meaning.specs.Iterators.{Stand, symbols_before, match_given}
 
 -- OVER BYTES OR CODE POINTS, by name
