@@ -1,5 +1,5 @@
 -- Titles that are held, and the report of all of them.
-use Rattle.std.proofs.Common.{◌≡◌, ◌∙◌, Bool, List, [], ◌∷◌, refl, sym, ap, subst, is_some, if◌then◌else◌}
+use Rattle.std.proofs.Common.{◌≡◌, ◌∙◌, List, [], ◌∷◌, refl, sym, ap, subst, is_some, if◌then◌else◌}
 use Rattle.std.specs.Prelude.{Option, Some, None, All, IsSome}
 use Rattle.std.proofs.lemmas.List.Elements.{All-nil, All-cons}
 use Rattle.wk_base.specs.declared.title.Title.{Title}

@@ -1,5 +1,5 @@
 -- The pages that a command is about, and what is told of those that are expanded.
-use Rattle.std.specs.Prelude.{ℕ, ◌-◌, if◌then◌else◌, is_some, List, [], ◌∷◌, map, Option, Some, None, option_map, Result, Ok, Err}
+use Rattle.std.specs.Prelude.{ℕ, ◌-◌, if◌then◌else◌, is_some, List, [], ◌∷◌, map, Option, Some, None, option_map, Result, Ok}
 use Rattle.wk_base.specs.declared.left.Left.{Left}
 use Rattle.wk_base.specs.declared.left.Limits.{Limits}
 use Rattle.wk_base.specs.declared.title.Title.{Title}

@@ -13,7 +13,7 @@ use Rattle.page_driver.specs.Ground.{wiki_in}
 use Rattle.page_driver.specs.Page.{full_of, IsHeldPage}
 use Rattle.page_driver.specs.declared.wiki.Page.{Page}
 use Rattle.page_driver.specs.declared.wiki.Wiki.{Wiki}
-use Rattle.wiki_batch.specs.Batch.{page_with, page_of, pages_of, IsPage, ArePages}
+use Rattle.wiki_batch.specs.Batch.{page_with, page_of, IsPage, ArePages}
 
 abbrev made : Title → List ℕ → Left → ℕ → Page
 made title text left kept = record { title = title; text = text; left = left; kept = kept }

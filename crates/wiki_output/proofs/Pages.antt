@@ -1,5 +1,5 @@
 -- Pages and titles one behind another.
-use Rattle.std.proofs.Common.{◌≡◌, ℕ, ◌+◌, ◌++◌, suc, List, [], ◌∷◌, refl, ap, add-one}
+use Rattle.std.proofs.Common.{◌≡◌, ℕ, ◌+◌, ◌++◌, List, [], ◌∷◌, refl, add-one}
 use Rattle.std.specs.BTreeSet.{insert_key}
 use Rattle.wk_base.specs.declared.title.Title.{Title}
 use Rattle.wiki_output.specs.declared.choice.Titled.{Titled}

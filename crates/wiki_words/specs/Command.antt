@@ -20,7 +20,6 @@ use Rattle.wiki_words.specs.declared.command.Verb.{Verb}
 use Rattle.wiki_words.specs.declared.command.Verb.TheVariants.{Expand, Demo}
 use Rattle.wiki_words.specs.declared.command.Work.{Work}
 use Rattle.wiki_words.specs.declared.command.Work.TheVariants.{Folder, Made}
-use Rattle.wiki_words.specs.Folders.{FolderPages}
 use Rattle.wiki_words.specs.Items.{Item, items_of}
 
 -- how much a page may use where no option says otherwise

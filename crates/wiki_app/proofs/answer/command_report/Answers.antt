@@ -1,9 +1,6 @@
-use Rattle.std.proofs.Common.{◌≡◌, ◌∙◌, List, ap, sym, subst, map, rules}
-use Rattle.std.specs.Prelude.{Ok}
+use Rattle.std.proofs.Common.{◌≡◌, ◌∙◌, List, ap, sym, subst, rules}
 use Rattle.wk_base.specs.declared.title.Title.{Title}
-use Rattle.wk_shelf.specs.declared.folder.FolderPage.{FolderPage}
 use Rattle.wiki_output.specs.declared.made.Form.{Form}
-use Rattle.lua_meaning.specs.World.{Modules}
 use Rattle.wiki_texts.specs.declared.raw.RawPage.{RawPage}
 use Rattle.wiki_texts.specs.Modules.{AreMeantBy}
 use Rattle.wiki_app.specs.Pages.{raw_pages, titles_of, form_of}

@@ -1,8 +1,6 @@
-use Rattle.std.proofs.Common.{◌≡◌, ◌∙◌, ap, sym, option_map, rules}
+use Rattle.std.proofs.Common.{◌≡◌, rules}
 use Rattle.std.specs.Prelude.{Some, None}
-use Rattle.wiki_output.specs.Report.{missing_report, done_report}
-use Rattle.wiki_batch.specs.Batch.{pages_of}
-use Rattle.wiki_app.specs.Pages.{first_missing, made_pages}
+use Rattle.wiki_app.specs.Pages.{first_missing}
 use Rattle.wiki_app.proofs.PageLemmas.{all_held, missing_case, done_case}
 use Rattle.wiki_app.proofs.answer.titles_report.Goals as goal
 

@@ -1,5 +1,5 @@
 use Rattle.std.proofs.Common.{refl, inr, rules, []}
-use Rattle.std.specs.Prelude.{None, Some, is_ok}
+use Rattle.std.specs.Prelude.{is_ok}
 use Rattle.wiki_output.specs.Report.{usage_report}
 use Rattle.wiki_app.proofs.RunLemmas.{for_due, for_any, usage_due, command_due, usage_meant, command_meant, no_answer, never, nothing, answers, usage_answers, begins, begins_nothing, begins_with_read_line, completes, neither, reads_folder, put_was}
 use Rattle.wiki_app.proofs.top_call.run.Goals as goal

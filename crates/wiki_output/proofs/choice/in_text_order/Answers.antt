@@ -1,4 +1,4 @@
-use Rattle.std.proofs.Common.{◌≡◌, ◌∙◌, List, [], ap}
+use Rattle.std.proofs.Common.{◌∙◌, List, [], ap}
 use Rattle.std.specs.BTreeSet.{insert_key}
 use Rattle.wiki_output.specs.declared.choice.Titled.{Titled}
 use Rattle.wiki_output.specs.Choice.{by_text, titled}

@@ -1,7 +1,7 @@
 use Rattle.std.proofs.Common.{◌≡◌, ◌∙◌, ◌+◌, ◌∷◌, List, ap, sym, map, drop, rules, string_bytes, String, Global}
 use Rattle.std.specs.Prelude.{Option, Some}
 use Rattle.std.proofs.lemmas.List.{at_drop_more}
-use Rattle.wiki_words.specs.Items.{Item, WordMeaning, meaning_of, items_from}
+use Rattle.wiki_words.specs.Items.{Item, meaning_of, items_from}
 use Rattle.wiki_words.proofs.ItemLemmas.{behind, word_more}
 use Rattle.wiki_words.proofs.items.items_of.Goals as goal
 
