@@ -1,7 +1,6 @@
 -- A PART OF THE MACHINE MAKES A MOVE: from what it says of its own to what is said of the whole.
 use Rattle.std.proofs.Common.{◌≡◌, ◌∙◌, ℕ, ◌+◌, ◌-◌, ◌<◌, ◌≤◌, List, [], ◌∷◌, refl, sym, ap, subst, arith}
 use Rattle.wk_base.specs.declared.left.Left.{Left}
-use Rattle.page_run.specs.State.{Tally}
 use Rattle.page_run.specs.declared.which.Which.TheVariants.{Steps}
 use Rattle.page_run.specs.Outcome.{Outcome, Goes, Jumps}
 use Rattle.lua_heap.specs.Value.{Value}
@@ -10,7 +9,7 @@ use Rattle.lua_store.specs.Seen.{StoreView}
 use Rattle.lua_store.proofs.Later.{later-itself}
 use Rattle.lua_slots.specs.Code.{CWorld, CExp, ConstantC, DotsC, FunctionC, LocalC, GlobalC, IndexC, CallC, MethodC, TableC, AndC, OrC, OperateC, UnaryC, ParenC}
 use Rattle.lua_slots.specs.Slots.{Slots}
-use Rattle.lua_slots.specs.Points.{SFrame, Point, Gives, Move, Costs, Marks, Now}
+use Rattle.lua_slots.specs.Points.{SFrame, Gives, Move, Costs, Marks, Now}
 use Rattle.lua_slots.specs.Errors.{node}
 use Rattle.lua_slots.specs.Expressions.{evals}
 use Rattle.lua_slots.specs.Moves.{moves, goes, passes}

@@ -7,7 +7,7 @@ use Rattle.lua_slots.specs.Slots.{Slots}
 use Rattle.lua_slots.specs.Points.{Point, Move, Costs, Marks, Enters, Exits, Now}
 use Rattle.lua_slots.specs.Moves.{moves}
 use Rattle.lua_slots.specs.Enact.{Funds, all_given_back, Enacted, Stands, Short, paid, calling, called, marked, back, enact}
-use Rattle.lua_goes.specs.Going.{Stop, Over, Lacks, Waiting, funds_at, Reaches, here, further, Comes, is_over, is_short, is_short_late, is_asking}
+use Rattle.lua_goes.specs.Going.{Stop, funds_at, Reaches, here, further, Comes, is_over, is_short, is_short_late, is_asking}
 use Rattle.lua_machine.specs.Events.{TakesItsOwn}
 
 abbrev TakesAt : Left → Enacted → Type 0
