@@ -8,7 +8,5 @@
 
 pub mod fields;
 pub mod made;
-#[cfg(test)]
-mod tests;
 
 pub use made::{Tables, fresh};

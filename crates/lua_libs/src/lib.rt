@@ -13,8 +13,6 @@ pub mod call;
 pub mod copying;
 pub mod mw;
 pub mod table;
-#[cfg(test)]
-mod tests;
 pub mod titles;
 
 pub use call::plain_call;

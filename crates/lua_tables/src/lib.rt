@@ -27,8 +27,6 @@ pub mod places;
 pub mod removing;
 pub mod sorting;
 pub mod table;
-#[cfg(test)]
-mod tests;
 pub mod walking;
 
 pub use call::table_call;

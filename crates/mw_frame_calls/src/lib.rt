@@ -25,8 +25,6 @@ pub mod reading;
 pub mod requests;
 pub mod table;
 pub mod tags;
-#[cfg(test)]
-mod tests;
 
 pub use answer::{Awaited, FrameAnswer};
 pub use call::frame_call;

@@ -20,8 +20,6 @@ pub mod splitting;
 pub mod table;
 pub mod tables;
 pub mod tagging;
-#[cfg(test)]
-mod tests;
 
 pub use call::text_call;
 pub use table::{TextFunction, text_function};

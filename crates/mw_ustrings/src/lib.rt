@@ -22,8 +22,6 @@ pub mod finding;
 pub mod giving;
 pub mod parts;
 pub mod table;
-#[cfg(test)]
-mod tests;
 pub mod wholes;
 
 pub use call::ustring_call;

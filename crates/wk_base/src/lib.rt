@@ -39,8 +39,3 @@ impl From<AllocError> for NoMemory {
         NoMemory
     }
 }
-
-#[cfg(test)]
-mod tests;
-#[cfg(test)]
-mod title_tests;

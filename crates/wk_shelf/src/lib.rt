@@ -28,6 +28,3 @@ pub use shelf::{Shelf, ShelfFault};
 pub use sink::{Sink, SinkFailed};
 pub use sorted::sorted_names;
 pub use stream_sink::StreamSink;
-
-#[cfg(test)]
-mod tests;

@@ -1,0 +1,16 @@
+//! Tests of the floor, which stand apart since a crate's tests are proved together with all of it, and together since each check
+//! costs a start.
+//!
+//! - `plain`: `wk_base`, byte strings, lists, titles, allowances and white space
+//! - `titles`: `wk_base`, texts with their titles, as MediaWiki's rules read
+//! - `shelves`: `wk_shelf`, the kinds in memory by tables, and each adapter over the real thing
+//!
+//! There are no definitions here.
+#![tactic(auto)]
+
+#[cfg(test)]
+mod plain;
+#[cfg(test)]
+mod shelves;
+#[cfg(test)]
+mod titles;
