@@ -1,8 +1,7 @@
 //! The pages that a command is about, and what is told of those that are expanded.
-ghost use Rattle.std.specs.Prelude.{◌≡◌, All, map, option_map, Ok, Err, IfOk, IfErr, IfNone, IfSome, IsSome};
+ghost use Rattle.std.specs.Prelude.{◌≡◌, map, option_map, Ok, Err, IfOk, IfErr, IfSome};
 ghost use Rattle.wk_shelf.specs.Causes.{Rose};
 ghost use Rattle.wk_shelf.specs.FolderFaults.{source_line};
-ghost use Rattle.wiki_expand.specs.Pages.{find_page};
 ghost use Rattle.wiki_app.specs.Outcome.{IsOfFolder};
 ghost use Rattle.wiki_app.specs.Pages.{wiki_for, titles_of, form_asked, form_of, raw_page, first_missing, used_of, made_page};
 

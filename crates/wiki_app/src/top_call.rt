@@ -2,10 +2,10 @@
 ghost use Rattle.std.specs.Prelude.{◌≡◌, ◌≤◌, ◌⊎◌, true, false, None, Err, IfOk, IfSome, map, string_bytes, is_ok, if◌then◌else◌};
 ghost use Rattle.wk_base.specs.Allowances.{IsCountable};
 ghost use Rattle.wk_shelf.specs.Causes.{Rose};
-ghost use Rattle.wk_shelf.specs.Put.{Puts, PutsSome};
+ghost use Rattle.wk_shelf.specs.Put.{Puts};
 ghost use Rattle.lua_meaning.specs.World.{Modules as PlainModules};
 ghost use Rattle.wiki_words.specs.Command.{command_of, begins_command};
-ghost use Rattle.wiki_output.specs.Report.{status_code, read_line, usage_line};
+ghost use Rattle.wiki_output.specs.Report.{status_code, read_line};
 ghost use Rattle.wiki_app.specs.Pages.{wiki_for};
 ghost use Rattle.wiki_app.specs.Report.{report_of, AreMeantIn, AreMeant, IfExpected};
 ghost use Rattle.wiki_app.specs.Outcome.{is_answer, is_status, Answers, Begins, Completes, IsOfFolder, IsWork, ReadsFolder};

@@ -1,6 +1,5 @@
 //! A wiki that the program makes itself, so that its work can be tried at any size.
-ghost use Rattle.std.specs.Prelude.{◌≡◌, ◌≤◌, ◌++◌, IfOk, OnOk};
-ghost use Rattle.std.specs.Fmt.{decimal};
+ghost use Rattle.std.specs.Prelude.{◌≡◌, IfOk};
 ghost use Rattle.wiki_output.specs.Demo.{demo_text, demo_page, first_pages, demo_pages};
 
 use crate::putting::{put, put_number};

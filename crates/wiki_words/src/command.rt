@@ -1,8 +1,7 @@
 //! The command that the words of a command line are.
-ghost use Rattle.std.specs.Prelude.{◌≡◌, ◌≤◌, [], true, false, Some, IfOk, IfSome, IsOk, IsSome, map, string_bytes, option_map};
+ghost use Rattle.std.specs.Prelude.{◌≡◌, ◌≤◌, true, false, None, IfOk, IfSome, IsOk, IsSome, map, string_bytes};
 ghost use Rattle.wk_base.specs.Allowances.{IsCountable};
 ghost use Rattle.wiki_words.specs.Command.{texts_for, titles_from, asked_from, expand_from, demo_from, work_from, work_of, command_from, command_of, verb_of, begins_command};
-ghost use Rattle.std.specs.Prelude.{None};
 
 use crate::items::{Item, OptionName, items_of};
 use crate::numbers::number_between;

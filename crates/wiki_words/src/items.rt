@@ -1,8 +1,8 @@
 //! The words of a command line as texts, some of them given for an option.
-ghost use Rattle.std.specs.Prelude.{◌≡◌, ◌++◌, [], Option, MatchOption, IfOk, OnOk, map, string_bytes, option_map, Some};
+ghost use Rattle.std.specs.Prelude.{◌≡◌, ◌++◌, [], IfOk, OnOk, map, string_bytes, option_map};
 ghost use Rattle.std.specs.List.{before_first, cons_option};
 ghost use Rattle.std.specs.Option.{option_and_then};
-ghost use Rattle.wiki_words.specs.Items.{is_option, is_end, is_equals, is_flag, option_named, with_text, alone, meaning_of, items_of, given, value, option_meaning};
+ghost use Rattle.wiki_words.specs.Items.{is_option, is_equals, is_flag, option_named, with_text, alone, meaning_of, items_of, given, value, option_meaning};
 
 use std::alloc::Global;
 use std::marker::Model;

@@ -1,7 +1,7 @@
 //! The options that any command takes: how much a page may use, how many jobs there are, and whether what was used is told.
 ghost use Rattle.std.specs.Prelude.{◌≡◌, ◌≤◌, ◌∷◌, [], Some, MatchOption, IfSome};
 ghost use Rattle.wk_base.specs.Allowances.{IsCountable};
-ghost use Rattle.wiki_words.specs.Command.{same_name, same_option, texts_for, setting, flag_of, settings_of, default_limits};
+ghost use Rattle.wiki_words.specs.Command.{same_name, same_option, texts_for, setting, flag_of, settings_of};
 
 use crate::items::{Item, OptionName};
 use crate::numbers::number_between;
