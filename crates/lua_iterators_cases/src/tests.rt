@@ -96,12 +96,7 @@ fn told(
 }
 
 /// A new iterator.
-fn made(
-    alloc: Global,
-    store: &mut Store,
-    which: Library,
-    args: &[Value],
-) -> Result<Value, NoMemory>
+fn made(alloc: Global, store: &mut Store, which: Library, args: &[Value]) -> Result<Value, NoMemory>
     requires { AllOf store.old args.now }
     ensures { IfOk result (IsOf store.new) }
 {
