@@ -20,7 +20,7 @@ pub struct Case {
 /// A number that is not told.
 pub const ANY: u64 = 1_000_000_001;
 
-pub const MODULES: [Source; 22] = [
+pub const MODULES: [Source; 26] = [
     // It counts its calls in a global variable.
     Source {
         name: "C",
@@ -126,6 +126,26 @@ pub const MODULES: [Source; 22] = [
         name: "Deep",
         text: "local p={} function p.f(frame) local n=tonumber(frame.args[1]) if n==0 then return '.' end return n..frame:preprocess('{{#invoke:Deep|f|'..(n-1)..'}}') end return p",
     },
+    // It adds a dot before the text of a template that it is told.
+    Source {
+        name: "Nest",
+        text: "return {f=function(frame) return '.'..frame:expandTemplate{title=frame.args[1]} end}",
+    },
+    // Data that is made by calls inside calls.
+    Source {
+        name: "HD",
+        text: "local function r(n) if n==0 then return 'v' end return (r(n-1)) end return {x=r(20)}",
+    },
+    // It reads that datum at once, and inside as many calls.
+    Source {
+        name: "HM",
+        text: "local p={} function p.f() return mw.loadData('Module:HD').x end function p.g() local function r(n) if n==0 then return p.f() end return (r(n-1)) end return (r(20)) end return p",
+    },
+    // It has an invocation expanded that spends the calls, and then calls a function.
+    Source {
+        name: "In",
+        text: "local p={} function p.r() return (p.r()) end function p.g() return 'g' end function p.f(frame) return frame:preprocess('{{#invoke:In|r}}')..p.g() end return p",
+    },
     // It is no Lua.
     Source {
         name: "No",
@@ -133,7 +153,7 @@ pub const MODULES: [Source; 22] = [
     },
 ];
 
-pub const TEMPLATES: [Source; 4] = [
+pub const TEMPLATES: [Source; 15] = [
     Source {
         name: "T",
         text: "t",
@@ -150,9 +170,54 @@ pub const TEMPLATES: [Source; 4] = [
         name: "V",
         text: "{{#invoke:Args|f|b}}",
     },
+    // Frames that ask for the next one, inside one another.
+    Source {
+        name: "N0",
+        text: "{{#invoke:Nest|f|N1}}",
+    },
+    Source {
+        name: "N1",
+        text: "{{#invoke:Nest|f|N2}}",
+    },
+    Source {
+        name: "N2",
+        text: "{{#invoke:Nest|f|N3}}",
+    },
+    Source {
+        name: "N3",
+        text: "{{#invoke:Nest|f|N4}}",
+    },
+    Source {
+        name: "N4",
+        text: "{{#invoke:Nest|f|N5}}",
+    },
+    Source {
+        name: "N5",
+        text: "{{#invoke:Nest|f|N6}}",
+    },
+    Source {
+        name: "N6",
+        text: "{{#invoke:Nest|f|N7}}",
+    },
+    Source {
+        name: "N7",
+        text: "{{#invoke:Nest|f|N8}}",
+    },
+    Source {
+        name: "N8",
+        text: "{{#invoke:Nest|f|N9}}",
+    },
+    Source {
+        name: "N9",
+        text: "{{#invoke:Nest|f|N10}}",
+    },
+    Source {
+        name: "N10",
+        text: "x",
+    },
 ];
 
-pub const CASES: [Case; 25] = [
+pub const CASES: [Case; 29] = [
     // no module is called
     Case {
         page: "a{{T}}b",
@@ -366,5 +431,40 @@ pub const CASES: [Case; 25] = [
         text: "321.",
         left: ANY,
         kept: ANY,
+    },
+    // ten templates fit inside one another, also where frames ask for them; the next one gives the text that says so
+    Case {
+        page: "{{N1}}",
+        steps: 30000,
+        calls: 200,
+        text: ".........x",
+        left: ANY,
+        kept: 0,
+    },
+    Case {
+        page: "{{N0}}",
+        steps: 30000,
+        calls: 200,
+        text: "..........<span class=\"error\">Expansion depth limit exceeded</span>",
+        left: ANY,
+        kept: 0,
+    },
+    // what is kept of a load serves only where its calls fit; else it is run anew, and spent; and it serves again
+    Case {
+        page: "{{#invoke:HM|f}};{{#invoke:HM|g}};{{#invoke:HM|f}}",
+        steps: 30000,
+        calls: 30,
+        text: "v;<strong class=\"error\">Script error: The allowance of nested calls is spent.</strong>;v",
+        left: ANY,
+        kept: ANY,
+    },
+    // calls that are spent inside an expansion inside a call are given back
+    Case {
+        page: "{{#invoke:In|f}}",
+        steps: 8000,
+        calls: 50,
+        text: "<strong class=\"error\">Script error: The allowance of nested calls is spent.</strong>g",
+        left: ANY,
+        kept: 0,
     },
 ];

@@ -3,7 +3,7 @@
 //! Lines are those of `cases`. What is expected was worked out by hand from the manuals and from docs/RULES.md.
 
 /// How many cases there are.
-pub const COUNT: u32 = 44;
+pub const COUNT: u32 = 49;
 
 pub fn table() -> &'static str {
     TABLE
@@ -147,6 +147,22 @@ P|{{#invoke:Try|f|Module:DE}};{{#invoke:Try|f|Module:DE}}
 >false Module:DE:1: x;false Module:DE:1: x
 P|{{#invoke:Try|f|Module:DF}};{{#invoke:Try|f|DF}}
 >false data module holds a function;false data module 'DF' not found
+# a title that is no title
+P|{{#invoke:Try|f|a<b}}
+>false data module 'a<b' not found
+# texts that a module has expanded take the page's bytes, as its own text does
+Module:Cut|return {f=function(frame) return frame:preprocess('{{T}}'):sub(1,5) end}
+Template:T|abcdef
+P|{{#invoke:Cut|f}};
+$expand d P --bytes 11
+>abcde;
+$expand d P --bytes 10
+><span class="error">Include size exceeded</span>;
+$expand d P --bytes 5
+><span class="error">Include size exceeded</span>;
+Module:Big|return {f=function(frame) return #frame:preprocess(string.rep('x',1048576)) end}
+P|{{#invoke:Big|f}}
+>1048576
 Module:Ring|require('Module:Ring') return {}
 P|{{#invoke:Ring|f}}
 ><strong class="error">Lua error: Module:Ring:1: loop in require of 'Module:Ring'</strong>
