@@ -3,7 +3,10 @@
 //! - `cases`, `case_tests`: small folders of pages with the text of one of them
 //! - `invocations`: small folders with modules
 //! - `many`: several pages, with what they used
+//! - `meeting`: two pages at once
 //! - `tests`: statuses, the limits of a folder, and runs in which a read or a put fails
+//!
+//! There are no definitions here.
 #![tactic(auto)]
 
 #[cfg(test)]
@@ -14,5 +17,7 @@ mod cases;
 mod invocations;
 #[cfg(test)]
 mod many;
+#[cfg(test)]
+mod meeting;
 #[cfg(test)]
 mod tests;

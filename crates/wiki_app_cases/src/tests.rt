@@ -29,7 +29,7 @@ const NEVER: u64 = u64::MAX;
 
 const USAGE: &[u8] = b"usage: wikiexpand expand DIR PAGE [PAGE ...] | expand DIR --all | demo N\n";
 
-fn words_of(alloc: Global, words: &[&str]) -> Result<Vec<String>, AllocError> {
+pub fn words_of(alloc: Global, words: &[&str]) -> Result<Vec<String>, AllocError> {
     let mut all = Vec::new(alloc);
     for word in words {
         all.push(String::from_str(alloc, word)?)?;
@@ -37,7 +37,7 @@ fn words_of(alloc: Global, words: &[&str]) -> Result<Vec<String>, AllocError> {
     Ok(all)
 }
 
-fn files_of(alloc: Global, files: &[(&str, &[u8])]) -> Result<List<MemoryFile>, NoMemory> {
+pub fn files_of(alloc: Global, files: &[(&str, &[u8])]) -> Result<List<MemoryFile>, NoMemory> {
     let mut all = List::new(alloc);
     for (name, bytes) in files {
         all.push(MemoryFile {

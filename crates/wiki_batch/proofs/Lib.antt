@@ -1,2 +1,4 @@
+pub mod Crossing
+pub mod Joins
 pub mod Meanings
 pub mod Shares

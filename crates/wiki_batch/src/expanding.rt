@@ -1,8 +1,8 @@
 //! Many pages of a wiki, each expanded by itself.
-ghost use Rattle.std.specs.Prelude.{◌≡◌, ◌≤◌, All, IfOk, IsSome};
+ghost use Rattle.std.specs.Prelude.{◌≡◌, ℕ, ◌≤◌, ◌<◌, ◌*◌, ◌++◌, All, IfOk, IsSome, OnOk, length, slice_index_or, drop, take};
 ghost use Rattle.wk_base.specs.Allowances.{IsCountable};
 ghost use Rattle.wiki_expand.specs.Pages.{find_page};
-ghost use Rattle.wiki_batch.specs.Batch.{IsPage, ArePages};
+ghost use Rattle.wiki_batch.specs.Batch.{IsPage, ArePages, Joined};
 
 use crate::gate::Gate;
 use page_driver::{Page, Wiki, expand_page};
@@ -10,6 +10,7 @@ use std::alloc::Global;
 use std::hash::RandomState;
 use std::marker::Brand;
 use std::sync::ledger::{Blank, Ledger};
+use std::thread;
 use std::thread::Threads;
 use wk_base::{Limits, List, NoMemory, Steps, Title};
 
@@ -74,6 +75,101 @@ fn expand_share<G: Gate>(
     Ok(pages)
 }
 
+/// The titles of the share with the number j, where a share has `size` titles.
+fn share_of(titles: &[Title], size: usize, j: usize) -> &[Title]
+    requires { j * size ≤ length titles.now }
+    ensures { result.now ≡ take size (drop (j * size) titles.now) }
+{
+    let rest = &titles[j * size..];
+    &rest[..rest.len().min(size)]
+}
+
+/// Adds the pages of a part.
+fn append(all: &mut List<Page>, part: List<Page>) -> Result<(), NoMemory>
+    ensures { OnOk result (all.new ≡ all.old ++ part) }
+{
+    for page in part.into_vec() {
+        all.push(page)?;
+    }
+    Ok(())
+}
+
+/// The pages of all shares, where none lacked memory.
+fn gathered(alloc: Global, parts: Vec<Result<List<Page>, NoMemory>>) -> Result<List<Page>, NoMemory>
+    ensures { IfOk result (λ pages. Joined parts.items pages) }
+{
+    let mut all = List::new(alloc);
+    for part in parts {
+        append(&mut all, part?)?;
+    }
+    Ok(all)
+}
+
+/// The pages of the share with the number j.
+fn expand_numbered<G: Gate>(
+    alloc: Global,
+    seed: RandomState,
+    wiki: &Wiki,
+    titles: &[Title],
+    size: usize,
+    j: usize,
+    limits: &Limits,
+    gate: &G,
+) -> Result<List<Page>, NoMemory>
+    requires held { All (λ title. IsSome (find_page wiki.now.pages title)) titles.now }
+    requires countable { IsCountable limits.now }
+    requires within { j * size ≤ length titles.now }
+    ensures { IfOk result (λ pages. ArePages wiki.now limits.now (take size (drop (j * size) titles.now)) pages) }
+{
+    let share = share_of(titles, size, j);
+    expand_share(alloc, seed, wiki, share, j * size, limits, gate)
+}
+
+/// The pages of each share, in as many threads as there are shares.
+fn expand_shares<R: Threads + Sync, G: Gate + Sync>(
+    rt: &R,
+    alloc: Global,
+    seed: RandomState,
+    wiki: &Wiki,
+    titles: &[Title],
+    limits: &Limits,
+    size: usize,
+    shares: usize,
+    gate: &G,
+) -> Result<Vec<Result<List<Page>, NoMemory>>, NoMemory>
+    requires held { All (λ title. IsSome (find_page wiki.now.pages title)) titles.now }
+    requires countable { IsCountable limits.now }
+    requires within { (j : ℕ) → j < shares → j * size ≤ length titles.now }
+    ensures { IfOk result (λ parts. (length parts.items ≡ shares) × ((j : ℕ) (d : _) → j < shares → IfOk (slice_index_or parts.items j d) (λ pages. ArePages wiki.now limits.now (take size (drop (j * size) titles.now)) pages))) }
+{
+    match thread::map_indices(
+        rt,
+        alloc,
+        shares,
+        &|j| expand_numbered(alloc, seed, wiki, titles, size, j, limits, gate),
+    ) {
+        Ok(parts) => Ok(parts),
+        Err(_) => Err(NoMemory),
+    }
+}
+
+/// How many titles a share has, where `count` titles are shared among `jobs` threads.
+fn share_size(count: usize, jobs: usize) -> usize
+    requires { 1 ≤ jobs }
+    ensures { 0 < result }
+{
+    count.saturating_sub(1) / jobs + 1
+}
+
+/// How many shares of `size` titles there are.
+fn share_count(count: usize, size: usize) -> usize
+    requires { 0 < size }
+    ensures within { (j : ℕ) → j < result → j * size ≤ count }
+    ensures whole { count ≤ result * size }
+{
+    count.div_ceil(size)
+}
+
 /// The pages of these titles, in their order, each with all of its limits left. Neither the number of jobs nor the gate changes an answer.
 pub fn expand_all<R: Threads + Sync, G: Gate + Sync>(
     rt: &R,
@@ -90,7 +186,8 @@ pub fn expand_all<R: Threads + Sync, G: Gate + Sync>(
     requires jobs { 1 ≤ jobs }
     ensures { IfOk result (λ pages. ArePages wiki.now limits.now titles.now pages) }
 {
-    let _ = rt;
-    let _ = jobs;
-    expand_share(alloc, seed, wiki, titles, 0, limits, gate)
+    let size = share_size(titles.len(), jobs);
+    let shares = share_count(titles.len(), size);
+    let parts = expand_shares(rt, alloc, seed, wiki, titles, limits, size, shares, gate)?;
+    gathered(alloc, parts)
 }

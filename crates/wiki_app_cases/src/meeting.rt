@@ -1,0 +1,84 @@
+//! Two pages that are expanded at once: the worker of the first waits until the second has begun, so with one worker for both it
+//! would wait in vain, for as many turns as it may.
+
+use crate::case_tests::{Ran, fixed_seed};
+use crate::tests::{files_of, words_of};
+use std::alloc::Global;
+use std::hash::RandomState;
+use std::hint::spin_loop;
+use std::sync::atomic::{AtomicU64, Ordering};
+use std::test::Fail;
+use std::thread::Threads;
+use wiki_app::{Gate, run};
+use wk_base::{List, NoMemory};
+use wk_shelf::{MemoryShelf, MemorySink, can_hold};
+
+/// How many turns a worker waits at most.
+const PATIENCE: u64 = 1_000_000_000;
+
+const PAGES: &[(&str, &[u8])] = &[("P.wiki", b"one"), ("Q.wiki", b"two")];
+
+/// A gate that holds page 0 until page 1 has begun: whether that has, and whether page 0 waited in vain.
+#[derive(Drop)]
+struct Meeting {
+    begun: AtomicU64,
+    in_vain: AtomicU64,
+}
+
+impl Gate for Meeting {
+    fn started(&self, page: usize) {
+        if page == 1 {
+            self.begun.store(1, Ordering::SeqCst);
+            return;
+        }
+        for _ in 0..PATIENCE {
+            if self.begun.load(Ordering::SeqCst) == 1 {
+                return;
+            }
+            spin_loop();
+        }
+        self.in_vain.store(1, Ordering::SeqCst);
+    }
+}
+
+/// Runs the words over a folder of two pages.
+fn ran_through<R: Threads + Sync>(
+    rt: &R,
+    alloc: Global,
+    seed: RandomState,
+    words: &[&str],
+    gate: &Meeting,
+) -> Result<Ran, NoMemory> {
+    let words = words_of(alloc, words)?;
+    let files = files_of(alloc, PAGES)?;
+    if !can_hold(files.as_slice()) {
+        return Err(NoMemory);
+    }
+    let mut shelf = MemoryShelf::new(alloc, files, List::new(alloc));
+    let mut out = MemorySink::new(alloc, List::new(alloc), 1000)?;
+    let mut err = MemorySink::new(alloc, List::new(alloc), 1000)?;
+    let status = run(
+        rt,
+        alloc,
+        seed,
+        words.as_slice(),
+        &mut shelf,
+        &mut out,
+        &mut err,
+        gate,
+    );
+    Ok(Ran { status, out, err })
+}
+
+#[test]
+fn two_pages_are_expanded_at_once(rt: HostRuntime) -> Result<(), Fail> {
+    let gate = Meeting {
+        begun: AtomicU64::new(0),
+        in_vain: AtomicU64::new(0),
+    };
+    let words = ["expand", "d", "--all", "--jobs", "2"];
+    let ran = ran_through(&rt, rt.alloc(), fixed_seed()?, &words, &gate)?;
+    assert_eq!(rt; gate.in_vain.load(Ordering::SeqCst), 0);
+    assert!(rt; ran.is(0, b"page P 3\none\npage Q 3\ntwo\n", b""));
+    Ok(())
+}

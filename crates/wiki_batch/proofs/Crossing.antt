@@ -1,0 +1,79 @@
+-- What workers share may be lent to threads: a wiki, from its parts; and what a closure captures, where each part may be.
+use Rattle.std.specs.Prelude.{ℕ, List}
+use denote.RattleType.{RattleType}
+use denote.Param.Send.{IsSync, AllSync, recorded_sync, struct_sync, sendable}
+use denote.Struct.Declared.{shape}
+use denote.Struct.Tuple.{TupleAt, field_at, type_at}
+use Rattle.std.proofs.Crossing.{crosses}
+use Rattle.lua_code.proofs.expression.Entry.TheLaws.TheKnot as expressions
+use Rattle.lua_code.proofs.statement.Statement.TheLaws.TheKnot as statements
+use Rattle.lua_code.specs.contracts.expression.Expression as Expression
+use Rattle.lua_code.specs.contracts.statement.Target as Target
+use Rattle.lua_code.specs.contracts.statement.Statement as Statement
+use Rattle.lua_code.specs.contracts.proto.Proto as Proto
+use Rattle.lua_code.specs.contracts.proto.Protos as Protos
+use Rattle.lua_code.specs.contracts.modules.Module as Module
+use Rattle.lua_code.specs.contracts.modules.Modules as Modules
+use Rattle.wiki_expand.specs.contracts.pages.Entry as Entry
+use Rattle.wiki_expand.specs.contracts.pages.PageMap as PageMap
+use Rattle.page_driver.specs.contracts.wiki.Wiki as Wiki
+
+-- ---- code, whose expressions and statements reach themselves through boxes and lists
+
+pub Expression-field : IsSync (Expression.the_field).row
+Expression-field = search (crosses, expressions.crosses, sendable) depth 60 fits 20000
+
+pub Expression-sync : IsSync Expression.the_row
+Expression-sync = let f = Expression-field in search sendable
+
+pub Target-field : IsSync (Target.the_field).row
+Target-field = let e = Expression-field in let r = Expression-sync in search (crosses, sendable) depth 60 fits 20000
+
+pub Target-sync : IsSync Target.the_row
+Target-sync = let f = Target-field in search sendable
+
+pub Statement-field : IsSync (Statement.the_field).row
+Statement-field = let e = Expression-field in let r = Expression-sync in let t = Target-field in let u = Target-sync in search (crosses, statements.crosses, sendable) depth 60 fits 20000
+
+pub Statement-sync : IsSync Statement.the_row
+Statement-sync = let f = Statement-field in search sendable
+
+pub Proto-field : IsSync (Proto.the_field).row
+Proto-field = let e = Statement-field in let r = Statement-sync in search (crosses, sendable) depth 60 fits 20000
+
+pub Proto-sync : IsSync Proto.the_row
+Proto-sync = let f = Proto-field in search sendable
+
+pub Protos-field : IsSync (Protos.the_field).row
+Protos-field = let e = Proto-field in let r = Proto-sync in search (crosses, sendable) depth 60 fits 20000
+
+pub Protos-sync : IsSync Protos.the_row
+Protos-sync = let f = Protos-field in search sendable
+
+pub Module-field : IsSync (Module.the_field).row
+Module-field = let e = Protos-field in let r = Protos-sync in search (crosses, sendable) depth 60 fits 20000
+
+pub Module-sync : IsSync Module.the_row
+Module-sync = let f = Module-field in search sendable
+
+pub Modules-sync : IsSync Modules.the_row
+Modules-sync = let e = Module-field in let r = Module-sync in search (crosses, sendable) depth 60 fits 20000
+
+-- ---- pages
+
+pub Entry-field : IsSync (Entry.the_field).row
+Entry-field = search (crosses, sendable) depth 60 fits 20000
+
+pub Entry-sync : IsSync Entry.the_row
+Entry-sync = let f = Entry-field in search sendable
+
+pub PageMap-sync : IsSync PageMap.the_row
+PageMap-sync = let e = Entry-field in let r = Entry-sync in search (crosses, sendable) depth 60 fits 20000
+
+pub Wiki-sync : IsSync Wiki.the_row
+Wiki-sync = let p = PageMap-sync in let m = Modules-sync in search sendable depth 60 fits 20000
+
+-- ---- a closure, by what it captures
+
+pub captured-sync : (name : List ℕ) (parts : List RattleType) → AllSync (shape (type_at name parts)).fields → IsSync (TupleAt name parts)
+captured-sync name parts each = recorded_sync (field_at name parts).row _ _ (type_at name parts).to_one (struct_sync (shape (type_at name parts)) each)
