@@ -8,10 +8,9 @@ long double, whose 64 bits hold it, for a C of which this is so (x86-64).
 """
 import ctypes
 import itertools
-import os
-import sys
 
-FILE = os.path.join(os.path.dirname(os.path.dirname(os.path.abspath(__file__))), "crates/lua_format/src/rows.rt")
+from written import give
+
 libc = ctypes.CDLL(None)
 NUMBERS = [0, 7, -5, 42, 255, -1, 9223372036854775807, -9223372036854775808]
 FLAGS = ["", "-", "0", "+", " ", "#", "-0", "+0", " 0", "#0", "-#", "+-"]
@@ -51,12 +50,4 @@ def text():
             '    r#"' + "\n".join(lines) + '"#\n}\n')
 
 
-def main():
-    if sys.argv[1:] == ["--write"]:
-        with open(FILE, "w", encoding="utf-8") as file:
-            file.write(text())
-    else:
-        print(text(), end="")
-
-
-main()
+give("crates/plain_library_cases/src/format_rows.rt", text())

@@ -1,8 +1,8 @@
 #!/usr/bin/env python3
 """Works out anew what the tables of tests of `lua_number` and `lua_lexer` expect, and tells each row that expects something else.
 
-  bench/lua_rows.py numbers crates/lua_number/src/tests.rt
-  bench/lua_rows.py tokens crates/lua_lexer/src/tests.rt
+  bench/lua_rows.py numbers crates/lua_lexis_cases/src/numbers.rt
+  bench/lua_rows.py tokens crates/lua_lexis_cases/src/tokens.rt
 
 The rows themselves are chosen by hand. Numbers are Python's whole numbers, which have no bound, and fractions; tokens are
 those of `lua_reference.py`. Nothing here knows the crates.

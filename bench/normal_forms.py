@@ -1,5 +1,5 @@
 #!/usr/bin/env python3
-"""Writes the table of crates/mw_ustring/src/normal_rows.rt: 200 lines of Unicode's own conformance test.
+"""Writes the table of crates/plain_library_cases/src/normal_rows.rt: 200 lines of Unicode's own conformance test.
 
 Of each part of NormalizationTest.txt (Debian's package unicode-data) lines are taken at even distances. A line has five
 fields, code points in hexadecimal: a text, and its normal forms C, D, KC and KD.
@@ -7,10 +7,9 @@ fields, code points in hexadecimal: a text, and its normal forms C, D, KC and KD
     bench/normal_forms.py [--write]     prints the file, or writes it into the crate
 """
 import bz2
-import os
-import sys
 
-FILE = os.path.join(os.path.dirname(os.path.dirname(os.path.abspath(__file__))), "crates/mw_ustring/src/normal_rows.rt")
+from written import give
+
 FROM = "/usr/share/unicode/NormalizationTest.txt.bz2"
 COUNTS = {"@Part0": 24, "@Part1": 96, "@Part2": 50, "@Part3": 30}
 
@@ -38,12 +37,4 @@ def text():
             '    "\\\n' + "\n".join(rows) + '\n"\n}\n')
 
 
-def main():
-    if sys.argv[1:] == ["--write"]:
-        with open(FILE, "w", encoding="utf-8") as file:
-            file.write(text())
-    else:
-        print(text(), end="")
-
-
-main()
+give("crates/plain_library_cases/src/normal_rows.rt", text())

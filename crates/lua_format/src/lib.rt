@@ -21,8 +21,3 @@ pub mod value;
 
 pub use formatting::{format, format_length};
 pub use value::{FormatFault, FormatValue, Want};
-
-#[cfg(test)]
-mod rows;
-#[cfg(test)]
-mod tests;

@@ -6,6 +6,8 @@
 //! - `shared`: tables that are taken out and put in again
 //! - `copied`: copies and what they cost
 //! - `large`: very many tables, and very many cleared keys
+//!
+//! There are no definitions here.
 #![tactic(auto)]
 
 #[cfg(test)]

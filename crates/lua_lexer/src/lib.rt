@@ -21,6 +21,3 @@ pub mod token;
 
 pub use lexer::{is_lexed_once, lex};
 pub use token::{Token, TokenKind};
-
-#[cfg(test)]
-mod tests;

@@ -1,6 +1,7 @@
 //! Modules that are run in the machine of Lua from their texts: what the program of its cases and the one that is timed share.
 //!
-//! Nothing is claimed of what a run comes to, but that it ends and never panics; `lua_machine` says what the machine does.
+//! There are no definitions here: nothing is claimed of what a run comes to, but that it ends and never panics; `lua_machine` says what
+//! the machine does. Begin with `take_line` in `lines`.
 //!
 //! - `case`: modules, and what is to be done with one of them
 //! - `replies`: answers to questions, written by hand

@@ -14,6 +14,3 @@ pub mod reading;
 pub use arithmetic::{NumberFault, add, div, mul, neg, pow, rem, sub};
 pub use printing::{reads_back, text};
 pub use reading::{read_in_base, read_number, read_numeral};
-
-#[cfg(test)]
-mod tests;

@@ -4,6 +4,8 @@
 //! - `tree_tests`: texts with their trees and faults from `bench/lua_reference.py`, a parser of its own that knows nothing of this one
 //! - `parts`: the public parts of `lua_reading`
 //! - `laws`: the laws of `lua_grammar`, `lua_grammar_laws` and `lua_parser` are called
+//!
+//! There are no definitions here.
 #![tactic(auto)]
 
 #[cfg(test)]

@@ -32,6 +32,3 @@ pub use pattern::{Capture, Match, Pattern, Search};
 pub use prepared::PreparedSet;
 pub use read::{PatternFault, read_set};
 pub use steps::{symbol_at, text_from};
-
-#[cfg(test)]
-mod tests;

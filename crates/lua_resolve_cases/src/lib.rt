@@ -1,4 +1,9 @@
 //! Tests of `lua_resolve` on texts: how many local variables have cells, and how many stand in plain registers.
+//!
+//! - `count`: the counts of a text
+//! - `tests`: texts with their counts
+//!
+//! There are no definitions here.
 #![tactic(auto)]
 
 mod count;

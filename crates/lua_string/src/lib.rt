@@ -24,6 +24,3 @@ pub use replacing::{CaptureText, replaced, replaced_length};
 pub use text::{char_of, len, lower, rep, rep_length, reverse, upper};
 pub use walking::going_on;
 pub use whole::{abs, ceil, floor, fmod, max, min, pow};
-
-#[cfg(test)]
-mod tests;

@@ -164,8 +164,3 @@ pub enum UnaryOp {
     Len,
     Minus,
 }
-
-#[cfg(test)]
-mod function_tests;
-#[cfg(test)]
-mod tests;

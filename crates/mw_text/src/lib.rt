@@ -36,6 +36,3 @@ pub use references::{encode, nowiki};
 pub use splitting::{Part, PartAnswer, next_part, split};
 pub use tagging::{TagAttr, TagContent, TagValue, tag};
 pub use trimming::trim;
-
-#[cfg(test)]
-mod tests;

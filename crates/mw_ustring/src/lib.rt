@@ -24,8 +24,3 @@ pub use parts::{char_of, codepoint, part, sub};
 pub use points::{
     count_points, first_points, isutf8, len, offset, point_place, points_behind, text_of,
 };
-
-#[cfg(test)]
-mod normal_rows;
-#[cfg(test)]
-mod tests;

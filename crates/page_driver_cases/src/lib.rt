@@ -3,6 +3,8 @@
 //! - `cases`: a wiki, and pages with their texts
 //! - `wikis`: how a wiki is made of texts
 //! - `tests`: the pages, one after another
+//!
+//! There are no definitions here.
 #![tactic(auto)]
 
 #[cfg(test)]

@@ -1,11 +1,11 @@
 //! Values from Lua 5.1, and each function once.
 
-use crate::{
+use lua_number::NumberFault;
+use lua_pattern::{OneByte, PatternFault, Search};
+use lua_string::{
     CaptureText, abs, byte, ceil, char_of, find, floor, fmod, going_on, len, lower, match_from,
     max, min, part, pow, rep, rep_length, replaced, replaced_length, reverse, sub, upper,
 };
-use lua_number::NumberFault;
-use lua_pattern::{OneByte, PatternFault, Search};
 use std::alloc::Global;
 use std::process::Abort;
 use wk_base::{List, NoMemory};

@@ -1,6 +1,6 @@
 //! The functions of a tree, against the order in which its text begins them. Each has another number of parameters.
-use crate::tests::{block, name, one};
-use crate::{Block, Chunk, Expr, ExprKind, Field, Function, Stat, StatKind, nested_functions};
+use crate::lines::{block, name, one};
+use lua_syntax::{Block, Chunk, Expr, ExprKind, Field, Function, Stat, StatKind, nested_functions};
 use std::alloc::Global;
 use std::test::Fail;
 use wk_base::{Bytes, List, NoMemory};

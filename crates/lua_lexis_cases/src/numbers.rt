@@ -1,5 +1,5 @@
 //! Tables of values that were computed outside, by Python's unbounded integers and fractions.
-use crate::{
+use lua_number::{
     NumberFault, add, div, mul, neg, pow, read_in_base, read_number, read_numeral, rem, sub, text,
 };
 use std::test::Fail;

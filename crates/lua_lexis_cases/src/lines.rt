@@ -1,5 +1,5 @@
 //! The lines of a tree, against the order in which its text has them.
-use crate::{
+use lua_syntax::{
     Arm, BinaryOp, Block, Chunk, Expr, ExprKind, Field, Function, Stat, StatKind, node_lines,
 };
 use std::alloc::Global;

@@ -1,7 +1,7 @@
 //! What C's `printf` makes of numbers, and what Lua 5.1 makes of texts; the faults.
 
-use crate::rows::printf_rows;
-use crate::{FormatFault, FormatValue, Want, format, format_length};
+use crate::format_rows::printf_rows;
+use lua_format::{FormatFault, FormatValue, Want, format, format_length};
 use std::test::Fail;
 use wk_base::Bytes;
 
@@ -59,8 +59,13 @@ fn texts_as_in_lua(rt: HostRuntime) {
     }
 }
 
+/// Whether a format of one value has this fault.
+fn fails(rt: &HostRuntime, spec: &[u8], value: FormatValue, fault: FormatFault) -> bool {
+    shown(rt, spec, value).err() == Some(fault)
+}
+
 #[test]
-fn faults(rt: HostRuntime) {
+fn bad_options(rt: HostRuntime) {
     let bad: [&[u8]; 7] = [
         b"%",
         b"%y",
@@ -71,27 +76,20 @@ fn faults(rt: HostRuntime) {
         b"a%s%l",
     ];
     for spec in bad {
-        let fault = shown(&rt, spec, FormatValue::Number(1)).err();
-        assert_eq!(rt; fault, Some(FormatFault::BadOption));
+        let value = FormatValue::Number(1);
+        assert!(rt; fails(&rt, spec, value, FormatFault::BadOption), "{spec:?}");
     }
-    assert_eq!(rt;
-        shown(&rt, b"%d", text(&rt, b"x")).err(),
-        Some(FormatFault::WrongKind(0, Want::Number))
-    );
-    assert_eq!(rt;
-        shown(&rt, b"%s", FormatValue::Other).err(),
-        Some(FormatFault::WrongKind(0, Want::Text))
-    );
-    assert_eq!(rt;
-        shown(&rt, b"%d %s", FormatValue::Number(1)).err(),
-        Some(FormatFault::Missing(1, Want::Text))
-    );
-    assert_eq!(rt;
-        shown(&rt, b"%c", FormatValue::Number(-1)).err(),
-        Some(FormatFault::OutOfRange(0))
-    );
-    assert_eq!(rt;
-        shown(&rt, b"%c", FormatValue::Number(256)).err(),
-        Some(FormatFault::OutOfRange(0))
-    );
+}
+
+#[test]
+fn faults_of_values(rt: HostRuntime) {
+    let no_number = FormatFault::WrongKind(0, Want::Number);
+    assert!(rt; fails(&rt, b"%d", text(&rt, b"x"), no_number));
+    let no_text = FormatFault::WrongKind(0, Want::Text);
+    assert!(rt; fails(&rt, b"%s", FormatValue::Other, no_text));
+    let missing = FormatFault::Missing(1, Want::Text);
+    assert!(rt; fails(&rt, b"%d %s", FormatValue::Number(1), missing));
+    let no_char = FormatFault::OutOfRange(0);
+    assert!(rt; fails(&rt, b"%c", FormatValue::Number(-1), no_char));
+    assert!(rt; fails(&rt, b"%c", FormatValue::Number(256), no_char));
 }

@@ -1,5 +1,5 @@
 //! Texts with their tokens and faults, as a lexer of its own in Python gives them from the manual's rules.
-use crate::{Token, TokenKind, lex};
+use lua_lexer::{Token, TokenKind, lex};
 use lua_syntax::SyntaxFault;
 use std::alloc::Global;
 use std::process::Abort;
