@@ -2,13 +2,14 @@
 it is given, and what is seen at those. `profile` marks what Lua 5.1 does otherwise."""
 
 
-def chunk(name, said, text, gives=None, fails=None, module="X", steps=6000, seen=None, profile=False, calls=None, args=None, how="invoke_module", fault=None, others=None, cases=False, invoked=None):
+def chunk(name, said, text, gives=None, fails=None, module="X", steps=6000, seen=None, profile=False, calls=None, args=None, how="invoke_module", fault=None, others=None, cases=False, invoked=None, block=None):
+    """An example. `block` names its tree, where that isn't named as the example is; a line break in `said` breaks the comment."""
     if seen is None:
         seen = [("Gives", gives) if gives is not None else ("Fails", fails)]
     if not isinstance(steps, list):
         steps = [steps]
     return dict(name=name, said=said, text=text, module=module, steps=steps, seen=seen, profile=profile, calls=calls,
-                args=args, how=how, fault=fault, others=others, cases=cases, invoked=invoked)
+                args=args, how=how, fault=fault, others=others, cases=cases, invoked=invoked, block=block or name)
 
 
 def quoted(text):
@@ -543,6 +544,85 @@ LIBRARIES = [
          "local n='' for k in pairs(math) do n=n..k..' ' end\nreturn n", "abs ceil floor fmod max min pow ", profile=True),
 ]
 
+# 1,026 and the text of the module, up to `f` entered; then its nodes, functions entered, the bytes of arguments that are strings, and the
+# renderings: 9 of `<b>x</b>`, 8 of `<b></b>`, 201 + 603 of what is inside itself; and the bytes of the answer.
+MARKUP = [
+    body("rendering_costs", "`create` and `node` cost the bytes that they are given, a rendering a step for the object and for each byte.",
+         "return tostring(mw.html.create('b'):node('x'))", steps=[1135, 1134], seen=[("Gives", "<b>x</b>", 0), ("Spends", "Steps", 0)], profile=True),
+    body("answer_costs", "In an answer an object costs its rendering too.",
+         "return mw.html.create('b'),'y'", steps=[1112, 1111], seen=[("Gives", "<b></b>y", 0), ("Spends", "Steps", 0)], profile=True),
+    body("answer_inside_itself", "An object inside itself gives no answer: 201 objects are begun, each with three bytes.",
+         "local a=mw.html.create('b')\nreturn a:node(a)", steps=[1918, 1917],
+         seen=[("Fails", "Lua error: html tree nested too deeply", 0), ("Spends", "Steps", 0)], profile=True),
+    body("inside_itself", "Nor is it a text: the error has the place of the call of `tostring`.",
+         "local a=mw.html.create('b')\na:node(a)\nreturn select(2,pcall(function()\n local s=tostring(a) end)),select(2,pcall(tostring,a))",
+         "Module:X:5: html tree nested too deeplyhtml tree nested too deeply", profile=True),
+    body("a_tree", "A method gives the object, but `tag` the new one. Attributes stand in the order in which they were set, styles behind them.",
+         "local b=mw.html.create('div'):addClass('box'):css('width','20em')\nb:attr{title='x<'}:tag('p'):wikitext('a',1):done():newline()\nreturn b",
+         "<div class=\"box\" title=\"x&lt;\" style=\"width:20em\"><p>a1</p>\n</div>", profile=True),
+    body("up_and_down", "`done` gives the parent, `allDone` the root.",
+         "local r=mw.html.create()\nlocal i=r:tag('p'):tag('i')\nreturn tostring(i:allDone()==r),i:done(),r:node(mw.html.create('br'))",
+         "true<p><i></i></p><p><i></i></p><br />", profile=True),
+    body("closed", "A tag closes itself by its name, or since it is made so; none of its children is given.",
+         "return mw.html.create('br'):node('x'),mw.html.create('b',{selfClosing=true}):tag('i',{}):allDone()", "<br /><b />", profile=True),
+    body("set_and_asked", "An attribute is set, asked for, and removed.",
+         "local b=mw.html.create('b'):attr('id',7)\nlocal was=b:getAttr('id')\nreturn was,tostring(b),tostring(b:attr('id',nil):getAttr('id')),b",
+         "7<b id=\"7\"></b>nil<b></b>", profile=True),
+    body("as_values", "An object is a table for `type`, equal to itself alone. Its fields are its methods, and are not written; it has no metatable.",
+         "local b=mw.html.create('b')\nlocal function e(f) return select(2,pcall(f))..';' end\n"
+         "return type(b),b==mw.clone(b),b==mw.html.create('b'),b.node==mw.html.create('i').node,type(b.tag),b.create==nil,b[1]==nil,getmetatable(b)==nil,e(function()\n"
+         " b.x=1 end),e(function()\n local n=#b end)",
+         "tabletruefalsetruefunctiontruetruetrueModule:X:5: attempt to index a table value;Module:X:6: attempt to get length of a table value;", profile=True),
+    body("bad_names", "A name that is none, and what is no object.",
+         "local function e(f,...) return select(2,pcall(f,...))..';' end\nlocal b=mw.html.create('b')\n"
+         "return e(mw.html.create,'1'),e(b.attr,b,'a b','x'),e(b.node,1),e(function()\n b.tag('i') end)",
+         "bad html name;bad html name;bad argument #1 to 'node' (table expected, got number);Module:X:5: bad argument #1 to 'tag' (table expected, got string);", profile=True),
+    body("names_of_mw", "The names of `mw` in their order, `html` last; it has one function.",
+         "local n='' for k in pairs(mw) do n=n..k..' ' end\nfor k in pairs(mw.html) do n=n..k end\nreturn n",
+         "clone log title loadData getCurrentFrame ustring text html create", profile=True),
+]
+
+# `gsub`: behind its entry the bytes of the pattern, for each search the tries, and the bytes of the text piece by piece. With a table or a
+# function these are charged when they come: those before a match with its search, those of a replacement when it is known, and the rest in
+# the end; what a handler or a function does is between them.
+REPLACING = [
+    cost("gsub_by_text_costs", "The pattern has a byte; two tries, and three bytes for the piece with the match; one try more, and one byte of the rest.",
+         "return ('abc'):gsub('b','%0x')", [1 + 1 + 1 + 1 + 2, 1 + 1, 2 + 3, 1 + 1], "abxc1"),
+    cost("gsub_by_function_costs", "A try for each letter, and a call that joins two bytes; in the end the four bytes.",
+         "return ('ab'):gsub('%w',function(c) return c..c end)", [1 + 1 + 1 + 1 + 1 + 9, 1 + 2, 2 * (1 + 1 + 4 + 2), 4], "aabb2"),
+    cost("gsub_by_table_costs", "An entry that is there costs nothing: one try, then two, as the space is none.",
+         "return ('a b'):gsub('%w',{a='x',b=false})", [1 + 1 + 1 + 1 + 1, 9 + 2 * (1 + 1 + 4), 1 + 2, 1 + 2, 3], "x b2"),
+    cost("gsub_by_handler_costs", "One that is absent is asked for by a link and a call.",
+         "return ('ab'):gsub('%w',setmetatable({a='A'},{__index=function(t,k) return k..k end}))",
+         [1 + 1 + 1 + 1 + 1, 1 + 1 + 9 + 6 + 9 + 1 + 9 + 4 + 1, 1 + 2, 1, 1 + 1 + 1 + 4 + 2, 3], "Abb2"),
+    cost("gsub_of_nothing_costs", "A search for the empty text costs no try.", "return ('ab'):gsub('',{['']='-'})", [1 + 1 + 1 + 1 + 1, 9 + 1 + 1 + 4, 1, 5], "-a-b-3"),
+    body("gsub_is_paid_by_pieces", "A replacement is paid before the next match is looked for: its three bytes, then a try, then the 49 bytes of the error. 1128 steps are\n"
+         "one too few for its three bytes.", "return ('ab'):gsub('%w',{a='xyz',b=true})", steps=[1179, 1128], block="gsub_by_pieces",
+         seen=[("Fails", "Lua error: Module:X:2: invalid replacement value (a boolean)", 0), ("Spends", "Steps", 0)]),
+    body("texts_with_captures", "`%0` is the whole match, `%1` and `%2` are captures, `%%` is `%`.", "return ('x=1, y=2'):gsub('(%w)=(%w)','%2=%1(%0)%%')", "1=x(x=1)%, 2=y(y=2)%2"),
+    body("functions_with_captures", "A function gets the captures; where it gives nothing, nil or false, the match stays; a number is its digits.",
+         "return ('k=v'):gsub('(%w)=(%w)',function(a,b,c) return b..a..tostring(c) end),(('abcd'):gsub('%w',function(c) if c=='b' then return 7 end if c=='c' then return false end end))", "vknila7cd"),
+    body("tables_with_captures", "A table is asked for the first capture, which may be a place.",
+         "return ('abc'):gsub('()',{'x','y',[4]='z'})", "xaybcz4"),
+    body("tables_with_handlers", "And by its handlers: a function, and a table behind a table.",
+         "local t=setmetatable({},{__index={b='B'}})\nreturn (('ab'):gsub('%w',t)),(('ab'):gsub('(%w)',setmetatable({},{__index=function(t,k) return '<'..k..'>' end})))", "aB<a><b>"),
+    body("anchors_and_limits", "`^` matches at the start alone. No more matches are replaced than are asked for; below 1 there are none.",
+         "return ('aaa'):gsub('^a',{a='x'}),(('aaa'):gsub('a',{a='x'},2)),('aaa'):gsub('a',error,0)", "xaaxxaaaa0"),
+    body("empty_matches", "An empty match behind another counts.", "return ('abc'):gsub('b*',function(s) return '['..s..']' end)", "[]a[b][]c[]4"),
+    body("gsub_in_gsub", "A function may call `gsub` itself.", "return ('a.b'):gsub('%w',function(c) return (('xx'):gsub('x',c)) end)", "aa.bb2"),
+    body("errors_of_functions", "An error of the function, or of a handler, goes through `gsub` to `pcall`.",
+         "local function no(c) error('no '..c,0) end\nlocal t=setmetatable({},{__index=function(t,k) no(k) end})\n"
+         "local a,b=pcall(string.gsub,'ab','%w',no)\nlocal c,d=pcall(string.gsub,'ab','b',t)\nreturn tostring(a),b,tostring(c),d", "falseno afalseno b"),
+    body("invalid_replacements", "Other values are errors, with the place of the call.",
+         "return select(2,pcall(function() local s=('a'):gsub('a',function() return {} end) end)),';',select(2,pcall(string.gsub,'a','a',{a=true}))",
+         "Module:X:2: invalid replacement value (a table);invalid replacement value (a boolean)"),
+    body("wrong_arguments_of_gsub", "The fault of a replacement text comes at a match, that of a pattern at once.",
+         "return (('abc'):gsub('x','%2')),select(2,pcall(string.gsub,'abc','b','%2')),select(2,pcall(string.gsub,'a','%',{})),select(2,pcall(string.gsub,'a','a'))",
+         "abcmalformed pattern (7)malformed pattern (1)bad argument #3 to 'gsub' (string expected, got no value)", profile=True),
+    body("replaced_code_points", "`mw.ustring.gsub` goes by code points, and counts places in them.",
+         "local u=mw.ustring\nlocal s=u.char(228,98)\nreturn (u.gsub(s,'.',function(c) return #c end)),#(u.gsub(s,'()',{'x','y','z'})),(u.gsub('ab','.','%0%0')),select(2,u.gsub(s,'[^b]',{}))", "216aabb1", profile=True),
+]
+
 FILES = [
     ("ExampleCharges", "EXAMPLES of charges, and of how runs end.", CHARGES),
     ("ExampleCosts", "EXAMPLES of single charges, worked out by hand.", COSTS),
@@ -553,4 +633,6 @@ FILES = [
     ("ExampleFrames", "EXAMPLES of frames and their questions, in the body of template T.", FRAMES),
     ("ExampleModules", "EXAMPLES of modules that ask for modules, and of data modules.", MODULES),
     ("ExampleLibraries", "EXAMPLES of the libraries `string`, `table`, `math`, `mw.ustring` and `mw.text`.", LIBRARIES),
+    ("ExampleReplacing", "EXAMPLES of `gsub` in modules.", REPLACING),
+    ("ExampleMarkup", "EXAMPLES of `mw.html`, as modules use it.", MARKUP),
 ]

@@ -53,12 +53,18 @@ use Rattle.lua_format.specs.Layouts.{{filled}}
 use Rattle.lua_format.specs.Format.{{formatted}}
 use Rattle.mw_text.specs.References.{{numbered}}
 use Rattle.mw_text.specs.Split.{{parts_of}}
+use Rattle.mw_html.specs.Names.{{closes_itself}}
+use Rattle.mw_html.specs.Render.{{node}}
+use Rattle.lua_meaning.specs.HtmlNodes.{{root_by}}
 use Rattle.lua_meaning.specs.{module}.{{{names}}}
 """
 
 UNFOLDING = "unfolding perform digits title_text prefix_of decimal_of numeral_of trimmed digits_of_base read_number_of read_in_base_of"
 TITLES = " title_of namespace_named prefixed_namespaces is_utf8 chars encode"
+MARKUP = " closes_itself node root_by"
 LIBRARIES = " formatted directive_of filled count_leading_zeros is_utf8 chars encode_utf8 point_code numbered parts_of"
+
+FURTHER = {"ExampleLibraries": LIBRARIES, "ExampleReplacing": LIBRARIES, "ExampleMarkup": MARKUP}
 
 
 def codes(text):
@@ -82,9 +88,9 @@ def shown(end):
 
 
 def called(example, step):
-    title, size, name = codes(example["module"]), len(example["text"].encode()), example["name"]
+    title, size, name = codes(example["module"]), len(example["text"].encode()), example["block"]
     if example["cases"]:
-        texts = rows(f"module_text {codes(k)} {len(v.encode())} {example['name']}{n or ''}" for n, (k, v) in enumerate(modules_of(example)))
+        texts = rows(f"module_text {codes(k)} {len(v.encode())} {name}{n or ''}" for n, (k, v) in enumerate(modules_of(example)))
         args = rows(f"arg {codes(k)} {codes(v)}" for k, v in example["args"] or [])
         return f"invoke_in_template {texts} {args} {codes(example['invoked'] or example['module'])} {step[0]} {rows(step[1])}"
     if example["fault"]:
@@ -103,15 +109,15 @@ def modules_of(example):
 
 
 def spec(example):
-    name = example["name"]
-    title = name.replace("_", " ").title().replace(" ", "")
+    name, title = example["block"], example["name"].replace("_", " ").title().replace(" ", "")
     claims = []
     for step, end in zip(example["steps"], example["seen"]):
         exact = end[0] in ("Spends", "Loads", "Counts", "Asks") or len(end) > 2
         call = called(example, step)
         claims.append(f"{call} ≡ {shown(end)}" if exact else f"without_steps ({call}) ≡ {shown(end)}")
     claim = claims[0] if len(claims) == 1 else " × ".join(f"({c})" for c in claims)
-    head = f"-- {example['said']}\n{comment(example['text'])}\n"
+    said = example["said"].replace("\n", "\n-- ")
+    head = f"-- {said}\n{comment(example['text'])}\n"
     term = "" if example["fault"] else f"abbrev pub {name} : Block\n{name} = {tree(example['text'])}\n\n"
     for n, (module, text) in enumerate(modules_of(example)):
         if n:
@@ -147,7 +153,7 @@ def write(module, subject, examples):
         specs.append(text)
         titles.append(title)
         proof = "refl" if count == 1 else "(" + ", ".join(["refl"] * count) + ")"
-        unfolding = UNFOLDING + (TITLES if example["cases"] else LIBRARIES if module == "ExampleLibraries" else "")
+        unfolding = UNFOLDING + (TITLES if example["cases"] else FURTHER.get(module, ""))
         proofs.append(f"\n{example['name']} : {title}\n{unfolding}\n{example['name']} = {proof}\n")
     every = "All" + module.removeprefix("Example")
     specs.append(f"-- ALL OF THEM\nabbrev pub {every} : Type 0\n{every} =\n    " + "\n    × ".join(titles) + "\n")

@@ -2,7 +2,7 @@
 import re
 
 from expand_reference import title_of, title_text
-from machine_values import (MOST, Builtin, Raised, Table, digits_in, first, handler, is_true, kind_of, nth, number_in, raw_field, same,
+from machine_values import (MOST, Builtin, Markup, Raised, Table, digits_in, first, handler, is_true, kind_of, nth, number_in, raw_field, same,
                             signed, text_in, text_of)
 
 
@@ -163,6 +163,9 @@ def basic(run):
             return [False, b"error in error handling"]
 
     def f_tostring(args, ls):
+        if isinstance(first(args), Markup):
+            from machine_html import TOO_DEEP, rendered
+            return [rendered(run, args[0], lambda: run.raise_at(ls, TOO_DEEP))]
         by = handler(first(args), b"__tostring")
         text = text_of(first(args)) if by is None else text_in(first(run.call(by, [first(args)], None)))
         if text is None:
@@ -275,6 +278,7 @@ def f_load(run):
 
 
 def mw(run):
+    from machine_html import html
     from machine_texts import text_functions, ustring_functions
 
     def current_title(args, ls):
@@ -288,7 +292,8 @@ def mw(run):
     title = Table(builtins([(b"getCurrentTitle", current_title)]))
     return Table(builtins([(b"clone", f_clone(run)), (b"log", lambda args, ls: [])]) + [(b"title", title)]
                  + builtins([(b"loadData", f_load(run)), (b"getCurrentFrame", current_frame)])
-                 + [(b"ustring", Table(builtins(ustring_functions(run)))), (b"text", Table(builtins(text_functions(run))))])
+                 + [(b"ustring", Table(builtins(ustring_functions(run)))), (b"text", Table(builtins(text_functions(run)))),
+                    (b"html", Table(builtins(html(run))))])
 
 
 def home(run):

@@ -13,7 +13,7 @@ import sys
 import threading
 
 from lua_reference import Fault, answer
-from machine_values import (LEAST, MOST, Asked, Builtin, Closure, Raised, Spent, Table, first, handler, is_function, is_true, kind_of,
+from machine_values import (LEAST, MOST, Asked, Builtin, Closure, Markup, Raised, Spent, Table, first, handler, is_function, is_true, kind_of,
                             nth, number_in, raw_field, same, text_in, text_of)
 
 FAULTS = ["unfinished string", "unfinished long bracket", "escape out of range", "unexpected byte", "unexpected token",
@@ -188,6 +188,8 @@ class Run:
     # ---- indices
     def index_all(self, v, key, levels):
         while True:
+            if isinstance(v, Markup):
+                return [self.methods.get(key) if isinstance(key, bytes) else None]
             if isinstance(v, bytes):
                 table, own = self.strings, self.strings
             elif isinstance(v, Table):
@@ -570,6 +572,9 @@ def in_html(text):
 
 
 def answer_text(run, value):
+    if isinstance(value, Markup):
+        from machine_html import TOO_DEEP, rendered
+        return rendered(run, value, lambda: run.raise_at(None, TOO_DEEP))
     by = handler(value, b"__tostring")
     if by is None:
         return text_of(value)

@@ -4,8 +4,9 @@
     machine_rows.py            writes both files, next to this checkout's crates
     machine_rows.py --check    compares the ends of the cases with `machine_reference.py`, and with `lua5.1` where it is to be the same
 
-The cases are the worked examples of `lua_chunks.py`, with the ends and steps that are said there, and those of `machine_cases.py` and
-`machine_text_cases.py`, whose ends were worked out by hand from the manual. How many steps and calls a case needs is what `machine_reference.py` says.
+The cases are the worked examples of `lua_chunks.py`, with the ends and steps that are said there, and those of `machine_cases.py`,
+`machine_text_cases.py`, `machine_html_cases.py` and `machine_gsub_cases.py`, whose ends were worked out by hand from the manual. How many
+steps and calls a case needs is what `machine_reference.py` says.
 """
 import pathlib
 import re
@@ -194,6 +195,8 @@ def many_runs(case, word, steps, calls, replies=()):
 
 def all_cases():
     from machine_text_cases import CASES
+    import machine_html_cases  # noqa: F401 (adds its cases)
+    import machine_gsub_cases  # noqa: F401 (adds its cases)
     found = [of_example(example) for _, _, examples in FILES for example in examples]
     for case in found:
         if case.work == "invoke" and not case.parent and case.runs and "spends" not in case.runs[0][4]:
@@ -221,7 +224,7 @@ def write():
     cases = all_cases()
     lines, printed = ["# Written by bench/machine_rows.py."], []
     for case in cases:
-        lines += ["", f"# {case.said}"] + case.lines()
+        lines += ["", "# " + case.said.replace("\n", " ")] + case.lines()
         printed += [said for *_, said in case.runs]
     (CRATE / "stdin").write_text("\n".join(lines) + "\n")
     (CRATE / "stdout").write_text("\n".join(printed) + "\n")

@@ -94,7 +94,7 @@ body("wrong_kinds_of_texts", "Each kind where a text is wanted.", TRY + "local u
      "".join(f"bad argument #1 to 'upper' (string expected, got {kind});" for kind in ("nil", "boolean", "table", "function")), profile=True)
 body("method_with_a_wrong_argument", "The place of a method's call.", "local s='ab'\nreturn s:rep({})", fails="Lua error: Module:X:3: bad argument #2 to 'rep' (number expected, got table)", profile=True)
 refuses("string_without_arguments", "The functions of `string` without an argument.", "string", [*wanting("string", "byte"), ("char", ""), *wanting("string", "find match gmatch format len lower upper rep reverse sub")])
-body("order_of_string", "The names of `string`, in order.", "local s='' for k,v in pairs(string) do s=s..k..' ' end return s", "byte char find match gmatch format len lower upper rep reverse sub ", profile=True)
+body("order_of_string", "The names of `string`, in order.", "local s='' for k,v in pairs(string) do s=s..k..' ' end return s", "byte char find match gmatch gsub format len lower upper rep reverse sub ", profile=True)
 body("index_of_a_text", "A text has the functions of `string` as fields, and no others.", SAY + "local s='x'\nreturn say(s.upper==string.upper,s.absent,s.len(s))", "true nil 1")
 body("changed_string", "What is put into `string` is a method.", "function string.twice(s) return s..s end\nreturn ('ab'):twice()", "abab")
 
@@ -169,7 +169,7 @@ body("text_refuses", "Wrong arguments.", TRY + "local m=mw.text\nreturn try(m.tr
      "malformed pattern (2);bad argument #1 to 'trim' (not UTF-8);malformed pattern (1);bad argument #1 to 'listToText' (string expected, got table);bad argument #2 to 'tag' (table expected, got number);bad argument #3 to 'tag' (string expected, got boolean);bad argument #2 to 'tag' (string expected, got table);bad argument #2 to 'truncate' (number expected, got no value);", profile=True)
 refuses("text_without_arguments", "The functions of `mw.text` without an argument.", "mw.text", [*wanting("string", "trim split gsplit encode decode"), *wanting("table", "listToText"), *wanting("string", "nowiki tag truncate")])
 body("order_of_text", "The names of `mw.text`, in order.", "local s='' for k,v in pairs(mw.text) do s=s..k..' ' end return s", "trim split gsplit encode decode listToText nowiki tag truncate ", profile=True)
-body("order_of_mw", "The names of `mw`, in order.", "local s='' for k,v in pairs(mw) do s=s..k..' ' end return s", "clone log title loadData getCurrentFrame ustring text ", profile=True)
+body("order_of_mw", "The names of `mw`, in order.", "local s='' for k,v in pairs(mw) do s=s..k..' ' end return s", "clone log title loadData getCurrentFrame ustring text html ", profile=True)
 
 
 # ---- iterators

@@ -198,6 +198,7 @@ def formatted(run, ls, args):
 
 # ---- `string` and `math`
 def string_functions(run):
+    from machine_gsub import gsub
     from machine_iterators import gmatch
 
     def byte(args, ls):
@@ -234,7 +235,7 @@ def string_functions(run):
 
     def changed(name, change):
         return lambda args, ls: giving(run, change(a_text(run, ls, args, 1, name)))
-    return [(b"byte", byte), (b"char", char), (b"find", find), (b"match", match), (b"gmatch", gmatch(run, False)), (b"format", form), (b"len", size),
+    return [(b"byte", byte), (b"char", char), (b"find", find), (b"match", match), (b"gmatch", gmatch(run, False)), (b"gsub", gsub(run, False)), (b"format", form), (b"len", size),
             (b"lower", changed(b"lower", bytes.lower)), (b"upper", changed(b"upper", bytes.upper)), (b"rep", rep),
             (b"reverse", changed(b"reverse", lambda s: s[::-1])), (b"sub", sub)]
 
@@ -359,6 +360,7 @@ def begins(text):
 
 
 def ustring_functions(run):
+    from machine_gsub import gsub
     from machine_iterators import gcodepoint, gmatch
 
     def char(args, ls):
@@ -410,7 +412,7 @@ def ustring_functions(run):
             return [None] if text is None else giving(run, unicodedata.normalize(name.decode(), text).encode())
         return b"to" + name, does
     return of_texts(run, [(b"char", char), (b"codepoint", codepoint), (b"gcodepoint", gcodepoint(run)), (b"byteoffset", byteoffset),
-                          (b"find", find), (b"match", match), (b"gmatch", gmatch(run, True)),
+                          (b"find", find), (b"match", match), (b"gmatch", gmatch(run, True)), (b"gsub", gsub(run, True)),
                           (b"len", size), (b"sub", sub), (b"isutf8", isutf8), *map(form, (b"NFC", b"NFD", b"NFKC", b"NFKD"))])
 
 

@@ -75,12 +75,19 @@ class Builtin:
         self.name, self.does = name, does
 
 
+class Markup:
+    """An object of `mw.html`. Attributes and styles stand in order; a text of styles has no name."""
+
+    def __init__(self, name, closed, parent):
+        self.name, self.closed, self.parent, self.attrs, self.styles, self.children = name, closed, parent, {}, [], []
+
+
 def kind_of(value):
     if value is None:
         return b"nil"
     if isinstance(value, bool):
         return b"boolean"
-    return {int: b"number", bytes: b"string", Table: b"table"}.get(type(value), b"function")
+    return {int: b"number", bytes: b"string", Table: b"table", Markup: b"table"}.get(type(value), b"function")
 
 
 def is_true(value):
@@ -92,7 +99,8 @@ def is_function(value):
 
 
 def same(a, b):
-    if isinstance(a, (Table, Closure, Builtin)) or isinstance(b, (Table, Closure, Builtin)):
+    objects = (Table, Closure, Builtin, Markup)
+    if isinstance(a, objects) or isinstance(b, objects):
         return a is b
     return type(a) is type(b) and a == b
 

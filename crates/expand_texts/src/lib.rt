@@ -19,6 +19,4 @@ pub mod kind;
 pub mod rope;
 pub mod space;
 pub mod stack;
-#[cfg(test)]
-mod tests;
 pub mod texts;

@@ -4,3 +4,5 @@ pub mod Refusing
 pub mod Handlers
 pub mod Levels
 pub mod Next
+pub mod Paying
+pub mod Objects

@@ -1,9 +1,11 @@
 //! `tostring` (manual 5.1).
 ghost use Rattle.std.specs.Prelude.{codes, IfOk};
+ghost use Rattle.lua_meaning.specs.Html.{text_of_object};
 ghost use Rattle.lua_meaning.specs.Metatables.{handler as handler_of};
 ghost use Rattle.lua_meaning.specs.Values as plain;
 ghost use Rattle.lua_slots.specs.CallBacks as machine;
-ghost use Rattle.lua_store.specs.Parts.{IsOf};
+ghost use Rattle.lua_slots.specs.Errors as errors;
+ghost use Rattle.lua_store.specs.Parts.{IsMarkupOf, IsOf};
 ghost use Rattle.lua_store.specs.Seen.{seen};
 ghost use Rattle.lua_stack.specs.Of.{ValuesOf};
 ghost use Rattle.lua_stack.specs.Seen.{values_seen};
@@ -11,19 +13,22 @@ ghost use Rattle.lua_state.specs.Makes.{Makes};
 ghost use Rattle.lua_state.specs.Of.{OutcomeOf, StateOf};
 ghost use Rattle.lua_state.specs.Seen.{frames_of, outcome_seen, slots_of};
 
-use crate::exits::{call_and_wait, one, pass};
+use crate::exits::{call_and_wait, give_all, one, pass};
+use crate::raising::refuse;
 use crate::texts::{give_text, give_text_of};
 use lua_arms::tables::handler;
+use lua_basic::objects::object;
 use lua_basic::texts::text_in;
 use lua_stack::values::is_nil;
 use lua_stack::{Pending, Values};
 use lua_state::{Outcome, State, Turn, fail};
-use lua_store::{Store, Value};
+use lua_store::{MarkupId, Store, Value};
+use mw_html_texts::give_object_text;
 use std::alloc::Global;
 use wk_base::{Left, NoMemory};
 
-/// The text of a value: its handler is asked, if it has one.
-fn string_of<'m>(
+/// The text of a value that is no object: its handler is asked, if it has one.
+fn string_by<'m>(
     alloc: Global,
     store: &mut Store,
     left: &mut Left,
@@ -47,7 +52,50 @@ fn string_of<'m>(
     Ok(turn)
 }
 
-/// `tostring(v)`: what its handler gives, or its own text.
+/// The text of an object of `mw.html`.
+fn give_object<'m>(
+    alloc: Global,
+    store: &mut Store,
+    left: &mut Left,
+    state: &State<'m>,
+    id: MarkupId,
+    line: Option<u32>,
+) -> Result<Turn<'m>, NoMemory>
+    requires state { StateOf store.old state.now }
+    requires id { IsMarkupOf store.old id }
+    ensures { IfOk result (λ r. Makes store.old state.now left.old store.new state.now left.new
+        (errors.plain (text_of_object id.at store.old.heap) line (frames_of store.old state.now) (slots_of store.old state.now)) r) }
+{
+    match give_object_text(alloc, store, left, id) {
+        Ok(values) => Ok(give_all(store, state, Values::of_list(values))),
+        Err(stop) => {
+            let turn = refuse(alloc, store, left, state, line, stop)?;
+            Ok(turn)
+        }
+    }
+}
+
+/// The text of a value: an object's, what its handler gives, or its own.
+fn string_of<'m>(
+    alloc: Global,
+    store: &mut Store,
+    left: &mut Left,
+    state: &mut State<'m>,
+    value: Value,
+    line: Option<u32>,
+) -> Result<Turn<'m>, NoMemory>
+    requires state { StateOf store.old state.old }
+    requires value { IsOf store.old value }
+    ensures { IfOk result (λ r. Makes store.old state.old left.old store.new state.new left.new
+        (machine.to_string_of (seen store.old.texts value) line (frames_of store.old state.old) (slots_of store.old state.old)) r) }
+{
+    match object(value) {
+        Some(id) => give_object(alloc, store, left, state, id, line),
+        None => string_by(alloc, store, left, state, value, line),
+    }
+}
+
+/// `tostring(v)`
 pub fn to_string<'m>(
     alloc: Global,
     store: &mut Store,

@@ -12,13 +12,15 @@ use Rattle.lua_heap.proofs.Entries.{nil-related}
 use Rattle.lua_meaning.specs.Scope.{Bytes, Levels}
 use Rattle.lua_meaning.specs.Values.{first, rest, text_in}
 use Rattle.lua_meaning.specs.Acts.{Act, Jump, State, choose, see_heap}
+use Rattle.lua_meaning.specs.Metatables.{handler}
 use Rattle.lua_meaning.specs.World.{World}
 use Rattle.lua_meaning.specs.Arguments.{Argument, a_table, a_number}
 use Rattle.lua_meaning.specs.Waiting.{argument, calling, for_values, text_value}
 use Rattle.lua_meaning.specs.Pending.{Pending, resumes, PcallWaits, XpcallWaits, HandlerWaits, ToStringWaits, PairsWaits}
-use Rattle.lua_meaning.specs.CallBacks.{pcall_answer, pcall, handler_answer, xpcall_answer, xpcall, text_of, string_or_fail, string_given, to_string_by, to_string, three_of, pairs_by, pairs, ipairs_by, ipairs, place_and_value, ipairs_step}
+use Rattle.lua_meaning.specs.CallBacks.{pcall_answer, pcall, handler_answer, xpcall_answer, xpcall, text_of, string_or_fail, string_given, to_string_by, to_string_of, to_string, three_of, pairs_by, pairs, ipairs_by, ipairs, place_and_value, ipairs_step}
 use Rattle.lua_library_agree.specs.Same.{SameArgument, both_ok, both_err}
 use Rattle.lua_library_agree.proofs.Values.{a_table-same, a_number-same}
+use Rattle.lua_library_agree.proofs.HtmlAgree.{text_of_object-same}
 use Rattle.lua_slots.specs.Code.{CWorld}
 use Rattle.lua_slots.specs.Slots.{Activation, Slots, levels_at}
 use Rattle.lua_slots.specs.Points.{SFrame, Waits, Move}
@@ -27,10 +29,12 @@ use Rattle.lua_slots.specs.Calls as machine_calls
 use Rattle.lua_slots.specs.CallBacks as machine_library
 use Rattle.lua_agree.specs.Variables.{Var}
 use Rattle.lua_agree.specs.Values.{returned, broke, raised, SameOutcome, values_, jumps_, SamePending, pcalls, xpcalls, handlers, to_strings, walks}
+use Rattle.lua_agree.specs.Functions.{SameFunction}
 use Rattle.lua_agree.specs.Rests.{After, SameRest, at_wait}
 use Rattle.lua_agree.specs.Agree.{Base, Rel}
 use Rattle.lua_agree.specs.Follows.{Follows, takes, sees}
 use Rattle.lua_agree.proofs.Parts.{first-same, rest-same, second-same, third-same, one-value, two-values, text-same, text-of-same, no-levels, handler-same, entry-same, OnJump, rest-jumps, branches, values-on, passes-on, fails, calls}
+use Rattle.lua_agree.proofs.Plain.{plain-on}
 
 -- a jump goes past what waits for a value
 pub value-jumps : (code : CWorld) {m : Map} {vars : List Var} {fns : List Activation} {A Y : Type 0} (f : A → Act Y) {k : After Y} {fs : List SFrame} → OnJump code m vars fns Y k fs → OnJump code m vars fns A (on_value f k) fs
@@ -121,8 +125,21 @@ module _ (world : World) (code : CWorld) (B : Base) {m : Map} {vars : List Var} 
         branches world code B (text_value (text_of v)) (calling i (v ∷ []) (for_values (string_given ls))) _ _ (nil-related m _ _ x)
         (λ _. text-on g _ _ (text-of-same e)) (λ _. calling-on ToStringWaits ToStringWaits to_strings x (one-value e))
 
+    asks-handler : {v w : Value} → Same m v w → Follows world code B (to_string_by (handler h.heap v (codes "__tostring")) v ls k) h (machine_library.to_string_by (handler s.heap w (codes "__tostring")) w line fs s)
+    asks-handler e = to_string-by (handler-same code m h.heap s.heap r.stands (codes "__tostring") e) e
+
+    to_string-of : {v w : Value} → Same m v w → Follows world code B (to_string_of v ls k) h (machine_library.to_string_of w line fs s)
+    to_string-of (markup a b e) = sees _ _ _ (plain-on world code B r g ls line l _ _ (text_of_object-same (SameFunction code) m h.heap s.heap r.stands a b e))
+    to_string-of nil = sees _ _ _ (asks-handler nil)
+    to_string-of (truth b) = sees _ _ _ (asks-handler (truth b))
+    to_string-of (number n) = sees _ _ _ (asks-handler (number n))
+    to_string-of (text t) = sees _ _ _ (asks-handler (text t))
+    to_string-of (table a b e) = sees _ _ _ (asks-handler (table a b e))
+    to_string-of (closure a b e) = sees _ _ _ (asks-handler (closure a b e))
+    to_string-of (builtin b) = sees _ _ _ (asks-handler (builtin b))
+
     pub to_string-on : {vs ws : List Value} → Each (Same m) vs ws → Follows world code B (to_string vs ls k) h (machine_library.to_string ws line fs s)
-    to_string-on es = sees _ _ _ (to_string-by (handler-same code m h.heap s.heap r.stands (codes "__tostring") (first-same es)) (first-same es))
+    to_string-on es = to_string-of (first-same es)
 
     -- WALKS
     pub three-answers : {o o' : Outcome (List Value) Jump} → SameOutcome m o o' → Follows world code B (for_values three_of o k) h (machine_library.three_answer o' fs s)

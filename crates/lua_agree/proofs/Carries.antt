@@ -14,6 +14,7 @@ use Rattle.lua_heap.proofs.Carried.{value-carried, values-carried}
 use Rattle.lua_meaning.specs.Scope.{Scope, Function}
 use Rattle.lua_meaning.specs.Acts.{Jump, Thing, LuaRun, Progress, Frame}
 use Rattle.lua_meaning.specs.Parts.{Target}
+use Rattle.lua_meaning.specs.Gsub.{Replacement, replacement_value, Job}
 use Rattle.lua_meaning.specs.Pending.{Pending}
 use Rattle.lua_meaning.specs.Titled.{ByTitle}
 use Rattle.lua_slots.specs.Code.{Place, CExp, CWorld}
@@ -21,8 +22,9 @@ use Rattle.lua_slots.specs.Sight.{Sight}
 use Rattle.lua_slots.specs.Slots.{Activation, newest_function}
 use Rattle.lua_slots.specs.Points.{STarget, SThing, SFrame, Point}
 use Rattle.lua_library_agree.specs.Same.{SameFrame}
+use Rattle.lua_library_agree.specs.SameGsub.{SameReplacement, same_text, same_table, same_function, SameJob, same_job}
 use Rattle.lua_agree.specs.Variables.{Var, Held, HeldFunction, SameVar, at_reg, at_box, at_up, Inside}
-use Rattle.lua_agree.specs.Values.{SameJump, returned, broke, raised, SameOutcome, values_, jumps_, SameTarget, places, globals_, entries_, SameSet, SamePending, pcalls, xpcalls, handlers, to_strings, walks, modules, SameProgress, running, finished, SameTitled}
+use Rattle.lua_agree.specs.Values.{SameJump, returned, broke, raised, SameOutcome, values_, jumps_, SameTarget, places, globals_, entries_, SameSet, SamePending, pcalls, xpcalls, handlers, to_strings, walks, replacings, modules, SameProgress, running, finished, SameTitled}
 use Rattle.lua_agree.specs.Functions.{SameFunction}
 use Rattle.lua_agree.specs.Rests.{After, SameRest, SameEnd, at_end, at_first, at_verdict, at_key, at_index, at_decide, at_operand, at_operate, at_unary, at_arguments, at_call, at_method_of, at_method, at_last, at_more, at_last_item, at_item, at_pair, at_pair_value, at_fields, at_items, at_target_key, at_target, at_assign, at_sets, at_declare, at_stats, at_branch, at_return, at_while, at_test, at_count_from, at_count_to, at_count_by, at_each_values, at_each_next, at_library, at_wait, at_hearing, at_module, at_function, at_answer, at_text, at_data, ends_block, ends_body, ends_while, ends_repeat, ends_count, ends_each}
 use Rattle.lua_agree.specs.Agree.{SameThing, while_turns, repeat_turns, count_turns, each_turns, bodies, texts_of, libraries, index_links, set_links, call_links, SamePoint, gives, jumps, ends, evaluates, lists, finds, sets, runs, starts, texts, asks, works}
@@ -98,12 +100,21 @@ module _ (m n : Map) (S : Set) (f : (q r : Ref) → m.to q ≡ Some r → IsTrue
   outcome-carried (values_ vs ws e) i = values_ vs ws (values-carried m n S f vs ws e i)
   outcome-carried (jumps_ j j' e) i = jumps_ j j' (jump-carried e i)
 
+  replacement-carried : {x y : Replacement} → SameReplacement m x y → AllIn S (value_names (replacement_value y)) → SameReplacement n x y
+  replacement-carried (same_text t) i = same_text t
+  replacement-carried (same_table a b e) i = same_table a b (value-carried m n S f (Table a) (Table b) e i)
+  replacement-carried (same_function v w e) i = same_function v w (value-carried m n S f v w e i)
+
+  job-carried : {x y : Job} → SameJob m x y → AllIn S (value_names (replacement_value y.by)) → SameJob n x y
+  job-carried (same_job a t anchored items slots x y e) i = same_job a t anchored items slots x y (replacement-carried e i)
+
   pending-carried : {p q : Pending} → SamePending m p q → AllIn S (pending_names q) → SamePending n p q
   pending-carried pcalls i = pcalls
   pending-carried (xpcalls h h' e) i = xpcalls h h' (value-carried m n S f h h' e i)
   pending-carried handlers i = handlers
   pending-carried to_strings i = to_strings
   pending-carried walks i = walks
+  pending-carried (replacings x y limit far whole e) i = replacings x y limit far whole (job-carried e i)
   pending-carried (modules title) i = modules title
 
   -- what is kept of the run

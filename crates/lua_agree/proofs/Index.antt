@@ -1,10 +1,11 @@
 -- READING AND SETTING an index, and their links.
-use Rattle.std.proofs.Common.{◌≡◌, ℕ, Bool, false, ◌||◌, List, [], ◌∷◌, Option, Some, refl, sym, ◌∙◌, subst}
+use Rattle.std.proofs.Common.{◌≡◌, ℕ, Bool, false, ◌||◌, List, [], ◌∷◌, Option, Some, None, refl, sym, ◌∙◌, subst}
 use Rattle.std.specs.Prelude.{codes}
 use Rattle.page_run.specs.Outcome.{Goes, Jumps, on_value, ◌>>◌, give, begin}
 use Rattle.lua_heap.specs.Value.{Value, Nil, Table}
 use Rattle.lua_heap.specs.Heap.{tab, table_at, set_in}
-use Rattle.lua_heap.specs.Related.{Map, none, more, Same, nil, text, table, markup}
+use Rattle.lua_heap.specs.declared.library.Library.{Library}
+use Rattle.lua_heap.specs.Related.{Map, none, more, Same, nil, text, table, builtin, markup}
 use Rattle.lua_heap.proofs.Entries.{nil-related, has-related}
 use Rattle.lua_heap.proofs.Steps.{one_to_one}
 use Rattle.lua_heap.proofs.Stood.{stood-table}
@@ -13,6 +14,7 @@ use Rattle.lua_meaning.specs.Scope.{Levels}
 use Rattle.lua_meaning.specs.Acts.{Jump, State, IndexLink, SetLink}
 use Rattle.lua_meaning.specs.Messages.{nil_key, read_only}
 use Rattle.lua_meaning.specs.Calls as names_calls
+use Rattle.lua_meaning.specs.Html.{method_named, builtin_or_nil, field_of_object}
 use Rattle.lua_meaning.specs.Index.{index_by, index_table, index_all, index_link, set_entry, set_by, set_all, set_link, set_index}
 use Rattle.lua_meaning.specs.World.{World}
 use Rattle.lua_slots.specs.Code.{CWorld}
@@ -26,6 +28,15 @@ use Rattle.lua_agree.specs.Rests.{After, dropped, SameRest}
 use Rattle.lua_agree.specs.Agree.{index_links, set_links, SamePoint, starts, Base, Rel}
 use Rattle.lua_agree.specs.Follows.{Follows, takes, sees, changes}
 use Rattle.lua_agree.proofs.Parts.{function-same, handler-same, entry-same, OnJump, rest-jumps, rel-moved, branches, here-now, values-on, one-value, fails, fails-with, calls}
+
+-- a field of an object of mw.html
+builtin-same : {m : Map} (o : Option Library) → Same m (builtin_or_nil o) (builtin_or_nil o)
+builtin-same (Some which) = builtin which
+builtin-same None = nil
+
+method-same : {m : Map} {c d : Value} → Same m c d → Same m (field_of_object c) (field_of_object d)
+method-same (text name) = builtin-same (method_named name)
+method-same e = nil
 
 module _ (world : World) (code : CWorld) (B : Base) {m : Map} {vars : List Var} {h : State} {s : Slots} (r : Rel code B m vars h s) {k : After (List Value)} {fs : List SFrame} (g : SameRest code m vars s.functions k fs) where
   -- READING an index
@@ -45,7 +56,7 @@ module _ (world : World) (code : CWorld) (B : Base) {m : Map} {vars : List Var} 
     pub indexes : {a b c d : Value} → Same m a b → Same m c d → Follows world code B (index_all a c ls k) h (machine_index.index b d line fs s)
     indexes (text x) f = sees _ _ _ (indexes-table h.strings s.strings r.strings f)
     indexes (table a b e) f = indexes-table a b e f
-    indexes (markup x y z) f = values-on world code B r g (one-value nil)
+    indexes (markup x y z) f = values-on world code B r g (one-value (method-same f))
     indexes e f = fails-with world code B r line (rest-jumps code g) l refl
 
     pub index-links-on : {a b i i' c d : Value} → Same m a b → Same m i i' → Same m c d → Follows world code B (index_link a i c ls k) h (machine_index.index_link b i' d line fs s)

@@ -10,7 +10,9 @@ pub mod Expressions
 pub mod Calls
 pub mod Statements
 pub mod Loops
+pub mod Plain
 pub mod CallBacks
+pub mod Replacing
 pub mod Modules
 pub mod Libraries
 pub mod Starts

@@ -5,17 +5,19 @@ use Rattle.lua_heap.specs.Proc.{Proc}
 use Rattle.lua_heap.specs.Value.{Value, Text}
 use Rattle.lua_heap.specs.declared.library.Library.{Library}
 use Rattle.lua_heap.specs.Related.{Map, Each, none, more, Same, nil, truth, number, text, table, closure, builtin, markup}
-use Rattle.lua_meaning.specs.Scope.{Bytes, Place as TextPlace, Function, Levels}
+use Rattle.lua_meaning.specs.Scope.{Bytes, Function, Levels}
 use Rattle.lua_meaning.specs.World.{World}
 use Rattle.lua_meaning.specs.Questions.{Asked, TemplateAsked, TextAsked, DataAsked}
 use Rattle.lua_meaning.specs.Acts.{Jump, State, Raised}
-use Rattle.lua_meaning.specs.Messages.{place_at, raise_at, not_built, no_template, wrong_answer}
-use Rattle.lua_meaning.specs.Arguments.{Plain, PlainEnd, plain_act, end_act}
+use Rattle.lua_meaning.specs.Messages.{no_template, wrong_answer}
 use Rattle.lua_meaning.specs.FrameMethods.{FramedEnd, Framed}
+use Rattle.lua_meaning.specs.Gsub.{Alphabet, nothing_yet, GsubForm, does_gsub, gsub}
 use Rattle.lua_meaning.specs.Pending.{Pending, resumes, text_answer, template_answer, hears}
-use Rattle.lua_meaning.specs.Libraries.{Caller, Pcall, Xpcall, ToString, Pairs, Ipairs, NextPlace, Require, LoadData, Form, framed_end, framed_act, call_back, do_form}
+use Rattle.lua_meaning.specs.Libraries.{Caller, Pcall, Xpcall, ToString, Pairs, Ipairs, NextPlace, Require, LoadData, Gsub, Form, framed_end, framed_act, call_back, do_form}
 use Rattle.lua_meaning.specs.Things.{enter_library}
-use Rattle.lua_library_agree.specs.Same.{SameEnd, both_give, both_fail, SameFramedEnd, both_end, both_ask, both_walk, SamePlain, SameFramed, SameForm, both_answer, both_see, both_call, neither_built}
+use Rattle.lua_library_agree.specs.Same.{SameFramedEnd, both_end, both_ask, both_walk, SameFramed, SameForm, both_answer, both_see, both_call}
+use Rattle.lua_library_agree.specs.SameGsub.{SameGsub, alike_answers, alike_asks}
+use Rattle.lua_library_agree.proofs.GsubAgree.{gsub_agrees}
 use Rattle.lua_library_agree.proofs.LibraryLaws.{library_agrees}
 use Rattle.lua_slots.specs.Code.{CWorld}
 use Rattle.lua_slots.specs.IsCode.{Agrees}
@@ -24,14 +26,16 @@ use Rattle.lua_slots.specs.Points.{SFrame, Costs}
 use Rattle.lua_slots.specs.Errors as machine
 use Rattle.lua_slots.specs.Libraries as machine_library
 use Rattle.lua_agree.specs.Variables.{Var}
-use Rattle.lua_agree.specs.Values.{raised, SameOutcome, values_, jumps_, SamePending, pcalls, xpcalls, handlers, to_strings, walks, modules}
+use Rattle.lua_agree.specs.Values.{raised, SameOutcome, values_, jumps_, SamePending, pcalls, xpcalls, handlers, to_strings, walks, replacings, modules}
 use Rattle.lua_agree.specs.Functions.{SameFunction}
 use Rattle.lua_agree.specs.Rests.{After, SameRest, at_library, at_hearing}
 use Rattle.lua_agree.specs.Agree.{asks, Base, Rel}
 use Rattle.lua_agree.specs.Follows.{Follows, takes, counts, calls, sees, changes}
 use Rattle.lua_agree.proofs.Carries.{rest-grows, function-grows}
-use Rattle.lua_agree.proofs.Parts.{one-value, rest-jumps, rel-moved, rel-frames, here-now, values-on, passes-on, raises, fails}
+use Rattle.lua_agree.proofs.Parts.{one-value, rest-jumps, rel-moved, rel-frames, here-now, passes-on, fails}
+use Rattle.lua_agree.proofs.Plain.{ends-on, plain-on}
 use Rattle.lua_agree.proofs.CallBacks.{text-on, pcall-on, xpcall-on, to_string-on, pairs-on, ipairs-on, ipairs_step-on, pcall-answers, xpcall-answers, handler-answers, string-answers, three-answers}
+use Rattle.lua_agree.proofs.Replacing.{replaces-on, gsub-answers}
 use Rattle.lua_agree.proofs.Modules.{requires, loads, module-answers, data-answers}
 
 module _ (world : World) (code : CWorld) (B : Base) {m : Map} {vars : List Var} {h : State} {s : Slots} (r : Rel code B m vars h s) where
@@ -43,6 +47,7 @@ module _ (world : World) (code : CWorld) (B : Base) {m : Map} {vars : List Var} 
     waits-on handlers e = handler-answers world code B r g ls line l e
     waits-on to_strings e = string-answers world code B r g ls line l e
     waits-on walks e = three-answers world code B r g ls line l e
+    waits-on (replacings x y limit far whole j) e = gsub-answers world code B r g ls line l j limit far whole e
     waits-on (modules title) e = module-answers world code B r g title e
 
     -- and for an answer
@@ -73,39 +78,26 @@ module _ (world : World) (code : CWorld) (B : Base) {m : Map} {vars : List Var} 
     hears-on (DataAsked bytes title) e = data-answers world code B r g ls line l bytes title e
 
   -- HOW A FUNCTION ENDS
-  raises-value : {k : After (List Value)} {fs : List SFrame} {v w : Value} → SameRest code m vars s.functions k fs → (p : Option TextPlace) → Same m v w → Follows world code B (raise_at p v k) h (machine.raises_value p w fs s)
-  raises-value g p (text t) = raises world code B r (rest-jumps code g) p t
-  raises-value g p nil = passes-on world code B r g (raised _ _ nil)
-  raises-value g p (truth b) = passes-on world code B r g (raised _ _ (truth b))
-  raises-value g p (number n) = passes-on world code B r g (raised _ _ (number n))
-  raises-value g p (table a b e) = passes-on world code B r g (raised _ _ (table a b e))
-  raises-value g p (closure a b e) = passes-on world code B r g (raised _ _ (closure a b e))
-  raises-value g p (builtin b) = passes-on world code B r g (raised _ _ (builtin b))
-  raises-value g p (markup a b e) = passes-on world code B r g (raised _ _ (markup a b e))
-
   module _ {k : After (List Value)} {fs : List SFrame} (g : SameRest code m vars s.functions k fs) (ls : Levels) (line : Option ℕ) (l : ls ≡ levels_at s.functions line) where
-    ends-on : {a b : PlainEnd} → SameEnd m a b → Follows world code B (end_act a ls k) h (machine.ends b line fs s)
-    ends-on (both_give vs ws e) = values-on world code B r g e
-    ends-on (both_fail v w level e) = subst (λ (z : Levels). Follows world code B (raise_at (place_at z level) v k) h (machine.raises_value (place_at (levels_at s.functions line) level) w fs s)) (sym l) (raises-value g _ e)
-
     framed-ends-on : {a b : FramedEnd} → SameFramedEnd m a b → Follows world code B (framed_end a ls k) h (machine_library.framed_end b line fs s)
-    framed-ends-on (both_end a b e) = ends-on e
+    framed-ends-on (both_end a b e) = ends-on world code B r g ls line l e
     framed-ends-on (both_ask question asked) = here-now world code B r (asks question _ _ (at_hearing vars s.functions asked ls line k fs l g))
     framed-ends-on (both_walk v w e) = pairs-on world code B r g ls line l (one-value e)
 
 -- WHAT A FUNCTION DOES
 module _ (world : World) (code : CWorld) (B : Base) {m : Map} {vars : List Var} {h : State} {s : Slots} (r : Rel code B m vars h s) {k : After (List Value)} {fs : List SFrame} (g : SameRest code m vars s.functions k fs) (ls : Levels) (line : Option ℕ) (l : ls ≡ levels_at s.functions line) where
-  plain-on : (a : Plain Function) (b : Plain Proc) → SamePlain (SameFunction code) m h.heap s.heap a b → Follows world code B (plain_act a ls k) h (machine_library.plain b line fs s)
-  plain-on a b e =
-      subst (λ (n : ℕ). Follows world code B (plain_act a ls k) h (Costs n (machine.ends b.end line fs (record s { heap = b.heap })))) e.charge
-      (takes _ _ _ _ (sees _ _ _ (changes _ _ _ _
-      (ends-on world code B (rel-moved code r e.moved) (rest-grows code e.moved.later.grows g) ls line l e.end))))
-
   framed-on : (a : Framed Function) (b : Framed Proc) → SameFramed (SameFunction code) m h.heap s.heap a b → Follows world code B (framed_act a ls k) h (machine_library.framed b line fs s)
   framed-on a b e =
       subst (λ (n : ℕ). Follows world code B (framed_act a ls k) h (Costs n (machine_library.framed_end b.end line fs (machine_library.with_frames b s)))) e.charge
       (takes _ _ _ _ (sees _ _ _ (changes _ _ _ _
       (framed-ends-on world code B (rel-frames code (rel-moved code r e.moved) e.frames) (rest-grows code e.moved.later.grows g) ls line l e.end))))
+
+  does-gsub-on : {a : GsubForm Function} {b : GsubForm Proc} → SameGsub (SameFunction code) m h.heap s.heap a b → Follows world code B (does_gsub a ls k) h (machine_library.gsub b line fs s)
+  does-gsub-on (alike_answers a b e) = plain-on world code B r g ls line l a b e
+  does-gsub-on (alike_asks n x y limit e) = takes _ _ _ _ (replaces-on world code B r g ls line l e limit nothing_yet)
+
+  gsub-on : (a : Alphabet) {vs ws : List Value} → Each (Same m) vs ws → Follows world code B (gsub a vs ls k) h (machine_library.call_back code (Gsub a) ws line fs s)
+  gsub-on a {vs} {ws} es = sees _ _ _ (does-gsub-on (gsub_agrees (SameFunction code) m h.heap s.heap r.stands a vs ws es))
 
   calls-back-on : Agrees world code → (caller : Caller) {vs ws : List Value} → Each (Same m) vs ws → Follows world code B (call_back world caller vs ls k) h (machine_library.call_back code caller ws line fs s)
   calls-back-on w Pcall es = pcall-on world code B r g ls line l es
@@ -116,13 +108,13 @@ module _ (world : World) (code : CWorld) (B : Base) {m : Map} {vars : List Var} 
   calls-back-on w NextPlace es = ipairs_step-on world code B r g ls line l es
   calls-back-on w Require es = requires world code B r g ls line l w es
   calls-back-on w LoadData es = loads world code B r g ls line l es
+  calls-back-on w (Gsub a) es = gsub-on a es
 
   form-on : Agrees world code → {a : Form Function} {b : Form Proc} {vs ws : List Value} → SameForm (SameFunction code) m h.heap s.heap a b → Each (Same m) vs ws
       → Follows world code B (do_form world a vs ls k) h (machine_library.does code b ws line fs s)
-  form-on w (both_answer a b e) es = plain-on a b e
+  form-on w (both_answer a b e) es = plain-on world code B r g ls line l a b e
   form-on w (both_see a b e) es = framed-on a b e
   form-on w (both_call caller) es = calls-back-on w caller es
-  form-on w neither_built es = fails world code B r line (rest-jumps code g) l not_built
 
 -- A FUNCTION OF THE LIBRARY IS ENTERED
 pub library-on : (world : World) (code : CWorld) (B : Base) {m : Map} {vars : List Var} {h : State} {s : Slots} → Rel code B m vars h s → Agrees world code → (which : Library)

@@ -5,6 +5,8 @@ use Rattle.wk_base.specs.declared.title.Title.{Title}
 use Rattle.wk_base.specs.Titles.{title_text}
 use Rattle.page_run.specs.Run.{Ends}
 use Rattle.page_run.specs.Outcome.{Outcome, Goes, Jumps, on_value, give, ◌>>=◌}
+use Rattle.mw_html.specs.Render.{Piece, Whole, Deep}
+use Rattle.mw_html.proofs.Renumbered.{stands_is_rendered}
 use Rattle.lua_heap.specs.Value.{Value}
 use Rattle.lua_heap.specs.Related.{Map, Each, none, more, Same, nil, truth, number, text, table, closure, builtin, markup}
 use Rattle.lua_heap.proofs.Entries.{nil-related}
@@ -13,10 +15,12 @@ use Rattle.lua_meaning.specs.World.{Module, World}
 use Rattle.lua_meaning.specs.Values.{first, text_in}
 use Rattle.lua_meaning.specs.Acts.{Jump, State, Unmade}
 use Rattle.lua_meaning.specs.Messages.{no_data_module}
+use Rattle.lua_meaning.specs.Metatables.{handler}
+use Rattle.lua_meaning.specs.Html.{nested_too_deeply}
 use Rattle.lua_meaning.specs.Calls.{call}
 use Rattle.lua_meaning.specs.Frames.{frame_table}
 use Rattle.lua_meaning.specs.CallBacks.{text_of, string_or_fail}
-use Rattle.lua_meaning.specs.Start.{Work, Invoke, DataOf, Failed, text_by, answer_texts, answer, shown_error, error_text, invoke_function, invoke_in, data_value, run_data_module, invoke_outcome, data_outcome, run_of}
+use Rattle.lua_meaning.specs.Start.{Work, Invoke, DataOf, Failed, text_by, whole_or_fail, rendered, answer_text, answer_texts, answer, shown_error, error_text, invoke_function, invoke_in, data_value, run_data_module, invoke_outcome, data_outcome, run_of}
 use Rattle.lua_library_agree.proofs.LibraryLaws.{made_frames_agree}
 use Rattle.lua_slots.specs.Code.{CModule, CWorld}
 use Rattle.lua_slots.specs.IsCode.{IsModule, Agrees}
@@ -92,9 +96,31 @@ module _ (world : World) (code : CWorld) (B : Base) {m : Map} {vars : List Var} 
       (λ _. here-now world code B r (texts-point _ _ (ap (λ (t : Bytes). before ++ t) (text-of-same e)) es))
       (λ _. calls world code B r (at_text vars s.functions vs ws before open_ running es) [] None (no-levels s.functions) x (one-value e))
 
+  whole-or-fail : {vs ws : List Value} (before : Bytes) → Each (Same m) vs ws → (p : Piece) → Follows world code B (whole_or_fail p (then_texts vs before)) h (machine_starts.whole_or_fail p ws before [] s)
+  whole-or-fail before es (Whole bytes begun) = here-now world code B r (texts-point _ _ refl es)
+  whole-or-fail before es (Deep bytes begun) = run-ends (invoke-jumps (raised _ _ (text nested_too_deeply)))
+
+  rendered-on : {vs ws : List Value} (before : Bytes) → Each (Same m) vs ws → (p q : Piece) → p ≡ q → Follows world code B (rendered p (then_texts vs before)) h (machine_starts.rendered q ws before [] s)
+  rendered-on {vs} {ws} before es p q e =
+      subst (λ z. Follows world code B (rendered p (then_texts vs before)) h (machine_starts.rendered z ws before [] s)) e (takes _ _ _ _ (whole-or-fail before es p))
+
+  asks-handler : {v w : Value} {vs ws : List Value} (before : Bytes) → Same m v w → Each (Same m) vs ws
+      → Follows world code B (text_by (handler h.heap v (codes "__tostring")) v (then_texts vs before)) h (machine_starts.text_by (handler s.heap w (codes "__tostring")) w ws before [] s)
+  asks-handler before e es = text-by before (handler-same code m h.heap s.heap r.stands (codes "__tostring") e) e es
+
+  next-text : {v w : Value} {vs ws : List Value} (before : Bytes) → Same m v w → Each (Same m) vs ws → Follows world code B (answer_text v (then_texts vs before)) h (machine_starts.next_text w ws before [] s)
+  next-text before (markup a b e) es = sees _ _ _ (rendered-on before es _ _ (stands_is_rendered (SameFunction code) m h.heap s.heap r.stands a b e))
+  next-text before nil es = sees _ _ _ (asks-handler before nil es)
+  next-text before (truth b) es = sees _ _ _ (asks-handler before (truth b) es)
+  next-text before (number n) es = sees _ _ _ (asks-handler before (number n) es)
+  next-text before (text t) es = sees _ _ _ (asks-handler before (text t) es)
+  next-text before (table a b e) es = sees _ _ _ (asks-handler before (table a b e) es)
+  next-text before (closure a b e) es = sees _ _ _ (asks-handler before (closure a b e) es)
+  next-text before (builtin b) es = sees _ _ _ (asks-handler before (builtin b) es)
+
   pub texts-on : {vs ws : List Value} (before : Bytes) → Each (Same m) vs ws → Follows world code B (answer_texts vs before told) h (machine_starts.texts ws before [] s)
   texts-on before none = takes _ _ _ _ (run-ends (values_ _ _ (one-value (text before))))
-  texts-on before (more v w vs ws e es) = sees _ _ _ (text-by before (handler-same code m h.heap s.heap r.stands (codes "__tostring") e) e es)
+  texts-on before (more v w vs ws e es) = next-text before e es
 
   text-given : {vs ws : List Value} (before : Bytes) → Each (Same m) vs ws → (o : Option Bytes) → Follows world code B (string_or_fail [] o (then_texts vs before)) h (machine_starts.text_given o ws before [] s)
   text-given before es (Some t) = here-now world code B r (texts-point _ _ refl es)

@@ -9,7 +9,8 @@ use Rattle.lua_heap.specs.Reach.{value_names, values_names}
 use Rattle.lua_heap.specs.Proc.{proc_names}
 use Rattle.lua_meaning.specs.Acts.{Jump, Returned, Broke, Raised, Progress, Running, Finished, Frame}
 use Rattle.lua_meaning.specs.Titled.{Titled}
-use Rattle.lua_meaning.specs.Pending.{Pending, XpcallWaits}
+use Rattle.lua_meaning.specs.Gsub.{replacement_value}
+use Rattle.lua_meaning.specs.Pending.{Pending, XpcallWaits, GsubWaits}
 use Rattle.lua_slots.specs.Slots.{Slot, Plain, Boxed, Activation, Slots}
 use Rattle.lua_slots.specs.Points.{STarget, EntryS, SThing, WhileTurnS, RepeatTurnS, CountTurnS, EachTurnS, BodyS, LibraryS, IndexLinkS, SetLinkS, CallLinkS}
 use Rattle.lua_slots.specs.Points.{SFrame, IndexNow, OperateNow, CallNow, MethodNow, MoreNext, ItemNow, PairNext, PairNow, FieldsNext, ItemsNext, TargetKey, TargetNow, AssignNow, SetsNext, CountTo, CountBy, EachNext, EachEnd, Waits, ModuleFound, FunctionFound, TextNow}
@@ -39,6 +40,7 @@ set_names p = target_names p.0 ++ value_names p.1
 
 abbrev pub pending_names : Pending → List Ref
 pending_names (XpcallWaits h) = value_names h
+pending_names (GsubWaits w) = value_names (replacement_value w.job.by)
 pending_names _ = []
 
 -- FRAMES

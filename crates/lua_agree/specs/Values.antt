@@ -8,8 +8,10 @@ use Rattle.lua_heap.specs.Related.{Map, Each, Same}
 use Rattle.lua_meaning.specs.Scope.{Bytes, Levels}
 use Rattle.lua_meaning.specs.Acts.{Jump, Returned, Broke, Raised, Progress, Running, Finished}
 use Rattle.lua_meaning.specs.Parts.{Target, Local, Global, Entry}
-use Rattle.lua_meaning.specs.Pending.{Pending, PcallWaits, XpcallWaits, HandlerWaits, ToStringWaits, PairsWaits, ModuleWaits}
+use Rattle.lua_meaning.specs.Gsub.{Job, Far}
+use Rattle.lua_meaning.specs.Pending.{Pending, PcallWaits, XpcallWaits, HandlerWaits, ToStringWaits, PairsWaits, GsubWaits, ModuleWaits}
 use Rattle.lua_meaning.specs.Titled.{Titled}
+use Rattle.lua_library_agree.specs.SameGsub.{SameJob, replacing_of}
 use Rattle.lua_slots.specs.Code.{Place}
 use Rattle.lua_slots.specs.Slots.{Activation, levels_at, newest_function}
 use Rattle.lua_slots.specs.Points.{STarget, PlaceS, GlobalS, EntryS}
@@ -35,13 +37,14 @@ pub record SameSet (m : Map) (vars : List Var) (fns : List Activation) (p : Targ
   pub target : SameTarget m vars fns p.0 q.0
   pub value : Same m p.1 q.1
 
--- WHAT WAITS FOR A CALL: it has the same name, and its handler stands for the handler
+-- WHAT WAITS FOR A CALL: it has the same name, its handler stands for the handler, and the job of a `gsub` for the job
 pub data SamePending (m : Map) : Pending → Pending → Type 0 where
   pcalls : SamePending m PcallWaits PcallWaits
   xpcalls : (h i : Value) → Same m h i → SamePending m (XpcallWaits h) (XpcallWaits i)
   handlers : SamePending m HandlerWaits HandlerWaits
   to_strings : SamePending m ToStringWaits ToStringWaits
   walks : SamePending m PairsWaits PairsWaits
+  replacings : (x y : Job) (limit : ℕ) (far : Far) (whole : Bytes) → SameJob m x y → SamePending m (GsubWaits (replacing_of x limit far whole)) (GsubWaits (replacing_of y limit far whole))
   modules : (title : Title) → SamePending m (ModuleWaits title) (ModuleWaits title)
 
 -- WHAT IS KEPT OF A RUN by title: modules that were required, and tables of loaded data

@@ -11,6 +11,7 @@ ghost use Rattle.lua_arms.specs.Steps.{step_seen, StepOf};
 use crate::calls::call;
 use crate::step::{Failure, Step};
 use crate::tables::handler;
+use lua_basic::objects::object_field;
 use lua_stack::values::{is_function, is_nil};
 use lua_stack::{Environment, Focus, Given, Thing, Values};
 use lua_store::{Store, TableId, Value};
@@ -61,7 +62,7 @@ pub fn index<'m>(
     match of {
         Value::Table(table) => index_table(store, env, table, key, line),
         Value::Text(_) => index_table(store, env, env.strings, key, line),
-        Value::Markup(_) => Step::On(Focus::Gives(Given::One(Value::Nil))),
+        Value::Markup(_) => Step::On(Focus::Gives(Given::One(object_field(store, key)))),
         Value::Nil => Step::Fails(line, Failure::CannotIndex(of)),
         Value::Bool(_) => Step::Fails(line, Failure::CannotIndex(of)),
         Value::Number(_) => Step::Fails(line, Failure::CannotIndex(of)),

@@ -2,3 +2,4 @@ pub mod Lists
 pub mod Found
 pub mod Basic
 pub mod Counts
+pub mod Markup

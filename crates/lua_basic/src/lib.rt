@@ -15,6 +15,7 @@
 //! - `choosing`: `select` and `type`
 //! - `unpacking`: `unpack`
 //! - `numbers`: `tonumber`
+//! - `objects`: objects of `mw.html`, and their fields
 #![tactic(auto)]
 
 pub mod arguments;
@@ -23,6 +24,7 @@ pub mod fields;
 pub mod handlers;
 pub mod messages;
 pub mod numbers;
+pub mod objects;
 pub mod raising;
 pub mod raw;
 pub mod stop;

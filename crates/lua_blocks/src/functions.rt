@@ -56,7 +56,7 @@ fn new_function(
         (proc_at (text_at store.old.texts proto.title.at) proto.index (map place_seen places.now) (captured_by store.old.heap closure) (registers_seen store.old.texts regs.now)))).0) }
 {
     let cells = captures(alloc, store, regs, closure, places)?;
-    let id = store.new_closure(ClosureKind::Function(proto), 0, cells)?;
+    let id = store.new_closure(ClosureKind::Function(proto), cells)?;
     Ok(id)
 }
 

@@ -4,3 +4,5 @@ pub mod Paying
 pub mod Framing
 pub mod Enters
 pub mod Heard
+pub mod Replaces
+pub mod Beginning

@@ -1,7 +1,7 @@
 -- Each function that is in no group and none of the frames is a line of the table of the library.
 use Rattle.std.proofs.Common.{◌≡◌, refl, Some, None}
 use Rattle.lua_heap.specs.declared.library.Library.{Library}
-use Rattle.lua_heap.specs.declared.library.Library.TheVariants.{BasicAssert, BasicError, BasicGetMetatable, BasicSetMetatable, BasicNext, BasicRawEqual, BasicRawGet, BasicRawSet, BasicSelect, BasicToNumber, BasicType, BasicUnpack, MwLog, ArgumentExpand, StrictIndex, StrictNewIndex, StringByte, StringChar, StringFind, StringMatch, StringFormat, StringLen, StringLower, StringUpper, StringRep, StringReverse, StringSub, MathAbs, MathCeil, MathFloor, MathFmod, MathMax, MathMin, MathPow, TableConcat, TableInsert, TableMaxn, TableRemove, TableSort, UstringChar, UstringCodepoint, UstringByteOffset, UstringFind, UstringMatch, UstringLen, UstringSub, UstringIsUtf8, UstringToNfc, UstringToNfd, UstringToNfkc, UstringToNfkd, TextTrim, TextSplit, TextEncode, TextDecode, TextListToText, TextNowiki, TextTag, TextTruncate, StringGmatch, UstringGmatch, UstringGcodepoint, TextGsplit, GmatchStep, UstringGmatchStep, GcodepointStep, GsplitStep, MwGetCurrentFrame, FrameGetParent, FrameExpandTemplate, FramePreprocess, FrameGetArgument, FrameArgumentPairs, FrameNewChild, FrameGetTitle, FrameExtensionTag}
+use Rattle.lua_heap.specs.declared.library.Library.TheVariants.{BasicAssert, BasicError, BasicGetMetatable, BasicSetMetatable, BasicNext, BasicRawEqual, BasicRawGet, BasicRawSet, BasicSelect, BasicToNumber, BasicType, BasicUnpack, MwLog, ArgumentExpand, StrictIndex, StrictNewIndex, StringByte, StringChar, StringFind, StringMatch, StringFormat, StringLen, StringLower, StringUpper, StringRep, StringReverse, StringSub, MathAbs, MathCeil, MathFloor, MathFmod, MathMax, MathMin, MathPow, TableConcat, TableInsert, TableMaxn, TableRemove, TableSort, UstringChar, UstringCodepoint, UstringByteOffset, UstringFind, UstringMatch, UstringLen, UstringSub, UstringIsUtf8, UstringToNfc, UstringToNfd, UstringToNfkc, UstringToNfkd, TextTrim, TextSplit, TextEncode, TextDecode, TextListToText, TextNowiki, TextTag, TextTruncate, StringGmatch, UstringGmatch, UstringGcodepoint, TextGsplit, GmatchStep, UstringGmatchStep, GcodepointStep, GsplitStep, HtmlCreate, HtmlNode, HtmlWikitext, HtmlNewline, HtmlAttr, HtmlAddClass, HtmlCss, HtmlCssText, HtmlTag, HtmlDone, HtmlAllDone, HtmlGetAttr, MwGetCurrentFrame, FrameGetParent, FrameExpandTemplate, FramePreprocess, FrameGetArgument, FrameArgumentPairs, FrameNewChild, FrameGetTitle, FrameExtensionTag}
 use Rattle.mw_frame_calls.specs.Table.{frame_in}
 use Rattle.lua_calls.specs.Table.{other_in, InNoGroup, IsLine}
 
@@ -76,6 +76,18 @@ other_line GmatchStep p f = absurd (there _ p.not_iterators)
 other_line UstringGmatchStep p f = absurd (there _ p.not_iterators)
 other_line GcodepointStep p f = absurd (there _ p.not_iterators)
 other_line GsplitStep p f = absurd (there _ p.not_iterators)
+other_line HtmlCreate p f = absurd (there _ p.not_html)
+other_line HtmlNode p f = absurd (there _ p.not_html)
+other_line HtmlWikitext p f = absurd (there _ p.not_html)
+other_line HtmlNewline p f = absurd (there _ p.not_html)
+other_line HtmlAttr p f = absurd (there _ p.not_html)
+other_line HtmlAddClass p f = absurd (there _ p.not_html)
+other_line HtmlCss p f = absurd (there _ p.not_html)
+other_line HtmlCssText p f = absurd (there _ p.not_html)
+other_line HtmlTag p f = absurd (there _ p.not_html)
+other_line HtmlDone p f = absurd (there _ p.not_html)
+other_line HtmlAllDone p f = absurd (there _ p.not_html)
+other_line HtmlGetAttr p f = absurd (there _ p.not_html)
 other_line MwGetCurrentFrame p f = absurd (there _ f)
 other_line FrameGetParent p f = absurd (there _ f)
 other_line FrameExpandTemplate p f = absurd (there _ f)

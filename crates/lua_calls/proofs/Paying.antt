@@ -10,12 +10,8 @@ use Rattle.lua_store.specs.Seen.{StoreView, seen}
 use Rattle.lua_store.specs.Parts.{IsLater}
 use Rattle.lua_store.proofs.Later.{later-itself}
 use Rattle.lua_slots.specs.Slots.{Slots, with_heap}
-use Rattle.lua_slots.specs.Points.{SFrame, Move}
-use Rattle.lua_slots.specs.Enact.{all_given_back, Short, enact}
-use Rattle.lua_slots.specs.Errors.{ends}
-use Rattle.lua_slots.specs.Libraries.{plain}
+use Rattle.lua_slots.specs.Errors.{ends, plain}
 use Rattle.lua_stack.specs.Seen.{values_seen}
-use Rattle.lua_stack.proofs.Raises.{pays, spends as falls_short}
 use Rattle.lua_basic.specs.declared.stop.Stop.{Stop}
 use Rattle.lua_basic.specs.declared.stop.Stop.TheVariants as stop
 use Rattle.lua_basic.specs.Seen.{Covers, IsShort, Paid}
@@ -25,35 +21,23 @@ use Rattle.lua_state.specs.declared.turn.Turn.TheVariants as turn
 use Rattle.lua_state.specs.Seen.{slots_of, frames_of, funds_of}
 use Rattle.lua_state.specs.Of.{StateOf}
 use Rattle.lua_state.specs.Makes.{Makes, LateMakes}
-use Rattle.lua_state.proofs.Staying.{frames_stay, slots_stay}
 use Rattle.lua_state.proofs.Making.{spends, makes_late, late_changed}
+use Rattle.lua_acts.proofs.Paying.{enacted, lacked}
 use Rattle.lua_calls.specs.Ends.{EndsAs}
 use Rattle.lua_calls.proofs.Led.{led_ends}
 
 module _ (s u t : StoreView) (m : State) (l k l' : Left) (line : Option ℕ) (p : Plain Proc) (r : Turn) (of : StateOf s m) (later : IsLater s u) where
-  same_end : (end : PlainEnd) → Covers p l u k end → ends p.end line (frames_of s m) (with_heap p.heap (slots_of s m)) ≡ ends end line (frames_of u m) (slots_of u m)
-  same_end end paid =
-      ap (λ (q : Plain Proc). ends q.end line (frames_of s m) (with_heap q.heap (slots_of s m))) paid.answer
-      ∙ ap (λ (fs : List SFrame). ends end line fs (with_heap u.heap (slots_of s m))) (sym (frames_stay s u later m of))
-      ∙ ap (λ (x : Slots). ends end line (frames_of u m) x) (sym (slots_stay s u later m of))
-
   covered : (end : PlainEnd) → Covers p l u k end → Makes u m k t m l' (ends end line (frames_of u m) (slots_of u m)) r → LateMakes s m l t m l' (plain p line (frames_of s m) (slots_of s m)) r
   covered end paid made =
       late_changed s u t m m m l k l' (plain p line (frames_of s m) (slots_of s m)) (ends end line (frames_of u m) (slots_of u m)) r refl later
       (sym (ap (λ (x : Slots). x.heap) (led_ends p.end line (frames_of s m) (with_heap p.heap (slots_of s m))) ∙ ap (λ (q : Plain Proc). q.heap) paid.answer))
-      (λ told i.
-      pays p.charge (ends p.end line (frames_of s m) (with_heap p.heap (slots_of s m))) (funds_of l m told i) paid.covered
-      ∙ ap (λ (x : Left). enact (ends p.end line (frames_of s m) (with_heap p.heap (slots_of s m))) (funds_of x m told i)) (sym paid.rest)
-      ∙ ap (λ (mv : Move). enact mv (funds_of k m told i)) (same_end end paid)) made
+      (enacted s u m l k line p of later end paid) made
 
   -- the charge is not covered, and the turn is that the steps are spent
   short_at : IsShort p s l u k → LateMakes s m l s m k (plain p line (frames_of s m) (slots_of s m)) (turn.Spent Steps)
   short_at short =
       makes_late s s m m l k (plain p line (frames_of s m) (slots_of s m)) (turn.Spent Steps)
-      (spends s s m l k (plain p line (frames_of s m) (slots_of s m)) Steps of (later-itself s) refl
-      (λ told i.
-      falls_short p.charge (ends p.end line (frames_of s m) (with_heap p.heap (slots_of s m))) (funds_of l m told i) short.short
-      ∙ ap (λ (x : Left). Short Steps (all_given_back (funds_of x m told i))) (sym short.rest)))
+      (spends s s m l k (plain p line (frames_of s m) (slots_of s m)) Steps of (later-itself s) refl (lacked s u m l k line p of later short))
 
   short : IsShort p s l u k → (r ≡ turn.Spent Steps) × (t ≡ u) × (l' ≡ k) → LateMakes s m l t m l' (plain p line (frames_of s m) (slots_of s m)) r
   short lacks stops =

@@ -13,6 +13,11 @@ use Rattle.lua_state.specs.declared.turn.Turn.{Turn}
 use Rattle.lua_state.specs.Seen.{slots_of, frames_of}
 use Rattle.lua_state.specs.Makes.{Makes}
 use Rattle.lua_acts.specs.Stops.{StopsAs}
+use Rattle.lua_meaning.specs.Gsub.{nothing_yet}
+use Rattle.lua_slots.specs.Gsub.{replaces}
+use Rattle.lua_replacing.specs.Seen.{job_seen}
+use Rattle.lua_gsubs.specs.declared.beginning.Begun.{Begun}
+use Rattle.lua_gsubs.specs.declared.beginning.Begun.TheVariants as begun
 use Rattle.mw_frame_calls.specs.declared.answer.FrameAnswer.{FrameAnswer}
 use Rattle.mw_frame_calls.specs.Seen.{end_seen}
 
@@ -25,3 +30,9 @@ EndsAs s m l line (Err e) t l' r = StopsAs s m l line e t l' r
 abbrev pub FramedEndsAs : StoreView → State → Left → Option ℕ → Result FrameAnswer Stop → StoreView → State → Left → Turn → Type 0
 FramedEndsAs s m l line (Ok a) t m' l' r = Makes s m l t m' l' (framed_end (end_seen s.texts a) line (frames_of s m) (slots_of s m)) r
 FramedEndsAs s m l line (Err e) t m' l' r = (m' ≡ m) × StopsAs s m l line e t l' r
+
+-- a call of `gsub`, which has answered, or asks a table or a function from there on
+abbrev pub BegunMakes : StoreView → State → Left → Option ℕ → Result Begun Stop → StoreView → State → Left → Turn → Type 0
+BegunMakes s m l line (Ok (begun.Answers vs)) t m' l' r = (m' ≡ m) × EndsAs s m l line (Ok vs) t l' r
+BegunMakes s m l line (Ok (begun.Asks j limit)) t m' l' r = Makes s m l t m' l' (replaces (job_seen s.texts j) limit nothing_yet line (frames_of s m) (slots_of s m)) r
+BegunMakes s m l line (Err e) t m' l' r = (m' ≡ m) × StopsAs s m l line e t l' r

@@ -4,7 +4,7 @@ use Rattle.lua_heap.specs.Proc.{Proc}
 use Rattle.lua_heap.specs.Value.{Value}
 use Rattle.lua_heap.specs.Heap.{Heap}
 use Rattle.lua_heap.specs.declared.library.Library.{Library}
-use Rattle.lua_heap.specs.declared.library.Library.TheVariants.{MwClone, MwGetCurrentTitle, ArgsIndex, BasicPcall, BasicXpcall, BasicToString, BasicPairs, BasicIpairs, IpairsStep, BasicRequire, MwLoadData}
+use Rattle.lua_heap.specs.declared.library.Library.TheVariants.{MwClone, MwGetCurrentTitle, ArgsIndex, BasicPcall, BasicXpcall, BasicToString, BasicPairs, BasicIpairs, IpairsStep, BasicRequire, MwLoadData, StringGsub}
 use Rattle.lua_meaning.specs.World.{World}
 use Rattle.lua_meaning.specs.Acts.{Frame}
 use Rattle.lua_meaning.specs.Arguments.{Plain}
@@ -18,7 +18,10 @@ use Rattle.lua_tables.specs.Table as tables
 use Rattle.mw_ustrings.specs.Table as ustrings
 use Rattle.mw_texts.specs.Table as texts
 use Rattle.lua_iterators.specs.Table as iterators
+use Rattle.mw_htmls.specs.Table as html
 use Rattle.mw_frame_calls.specs.Table.{framed_of}
+use Rattle.lua_gsubs.specs.declared.table.GsubFunction.TheVariants as gsubs
+use Rattle.lua_gsubs.specs.Table.{alphabet_of}
 use Rattle.lua_calls.specs.declared.table.AtOnce.{AtOnce}
 use Rattle.lua_calls.specs.declared.table.AtOnce.TheVariants as once
 use Rattle.lua_calls.specs.declared.table.CallBack.{CallBack}
@@ -44,6 +47,7 @@ once_seen (once.Tables f) args h = tables.answer_of f args h
 once_seen (once.Ustrings f) args h = ustrings.answer_of f args h
 once_seen (once.Texts f) args h = texts.answer_of f args h
 once_seen (once.Iterators f) args h = iterators.answer_of f args h
+once_seen (once.Html f) args h = html.answer_of f args h
 
 -- what an act does with its arguments
 abbrev pub act_seen : World → Act → List Value → Heap Proc → List Frame → Form Proc
@@ -53,7 +57,7 @@ act_seen world act.Clone args h frames = Answers (clone args h)
 act_seen world act.CurrentTitle args h frames = Answers (get_current_title world.page h)
 act_seen world act.ArgsIndex args h frames = Answers (args_index args h)
 act_seen world (act.Calls caller) args h frames = CallsBack (caller_seen caller)
-act_seen world act.NotBuilt args h frames = meaning.NotBuilt
+act_seen world (act.Gsub f) args h frames = CallsBack (meaning.Gsub (alphabet_of f))
 
 -- a function that is in no group of those that answer at once
 pub record InNoGroup (which : Library) : Type 0 where
@@ -63,6 +67,7 @@ pub record InNoGroup (which : Library) : Type 0 where
   pub not_ustrings : ustrings.ustring_function_in which ≡ None
   pub not_texts : texts.text_function_in which ≡ None
   pub not_iterators : iterators.iterator_function_in which ≡ None
+  pub not_html : html.html_function_in which ≡ None
 
 -- the functions that are in no group and none of the frames
 abbrev pub other_in : Library → Act
@@ -77,7 +82,8 @@ other_in BasicIpairs = act.Calls call_back.Ipairs
 other_in IpairsStep = act.Calls call_back.NextPlace
 other_in BasicRequire = act.Calls call_back.Require
 other_in MwLoadData = act.Calls call_back.LoadData
-other_in which = act.NotBuilt
+other_in StringGsub = act.Gsub gsubs.OfBytes
+other_in which = act.Gsub gsubs.OfPoints
 
 -- THE LINE of a function in the meaning's table is what this act does
 abbrev pub IsLine : Library → Act → Type 0

@@ -12,6 +12,7 @@ use lua_store::{Store, Value};
 use lua_strings::string_call;
 use lua_tables::table_call;
 use mw_frames::FieldNames;
+use mw_htmls::html_call;
 use mw_texts::text_call;
 use mw_ustrings::ustring_call;
 use std::alloc::Global;
@@ -42,5 +43,6 @@ pub fn once_call(
         AtOnce::Ustrings(function) => ustring_call(alloc, store, left, function, args),
         AtOnce::Texts(function) => text_call(alloc, store, left, names, function, args),
         AtOnce::Iterators(function) => iterator_call(alloc, store, left, function, args),
+        AtOnce::Html(function) => html_call(alloc, store, left, function, args),
     }
 }

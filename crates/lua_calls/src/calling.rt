@@ -1,8 +1,6 @@
 //! What a function of the library does that is entered.
 ghost use Rattle.std.specs.Prelude.{IfOk};
 ghost use Rattle.lua_slots.specs.Libraries as machine;
-ghost use Rattle.lua_meaning.specs.Messages.{not_built as plain_not_built};
-ghost use Rattle.lua_slots.specs.Errors.{fails};
 ghost use Rattle.lua_stack.specs.Of.{ValuesOf};
 ghost use Rattle.lua_stack.specs.Seen.{values_seen};
 ghost use Rattle.lua_state.specs.Makes.{LateMakes, Makes};
@@ -12,12 +10,13 @@ ghost use Rattle.lua_state.specs.Worlds.{world_seen};
 ghost use Rattle.lua_calls.specs.Table.{act_seen, caller_seen};
 
 use crate::framed::framed;
+use crate::gsubs::gsub;
 use crate::plain::{clone, current_title, index_args, plain};
 use crate::table::{Act, CallBack};
 use lua_acts::{ipairs, ipairs_step, pairs, pcall, to_string, xpcall};
 use lua_modules::{load_data, require};
 use lua_stack::Values;
-use lua_state::{State, Turn, fail};
+use lua_state::{State, Turn};
 use lua_store::Store;
 use std::alloc::Global;
 use wk_base::{Left, NoMemory};
@@ -49,23 +48,6 @@ fn call_back<'m>(
     }
 }
 
-/// A function that is not built.
-fn not_built<'m>(
-    alloc: Global,
-    store: &mut Store,
-    left: &mut Left,
-    state: &State<'m>,
-    line: Option<u32>,
-) -> Result<Turn<'m>, NoMemory>
-    requires { StateOf store.old state.now }
-    ensures { IfOk result (λ r. Makes store.old state.now left.old store.new state.now left.new
-        (fails line plain_not_built (frames_of store.old state.now) (slots_of store.old state.now)) r) }
-{
-    let message = b"this function is not built";
-    let turn = fail(alloc, store, left, state, line, message)?;
-    Ok(turn)
-}
-
 /// What a function of the library does.
 pub fn call_act<'m>(
     alloc: Global,
@@ -93,9 +75,6 @@ pub fn call_act<'m>(
             let turn = call_back(alloc, store, left, state, caller, arguments, line)?;
             Ok(turn)
         }
-        Act::NotBuilt => {
-            let turn = not_built(alloc, store, left, state, line)?;
-            Ok(turn)
-        }
+        Act::Gsub(function) => gsub(alloc, store, left, state, function, arguments, line),
     }
 }

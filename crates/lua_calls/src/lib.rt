@@ -4,6 +4,7 @@
 //! - `answering`: what a function gives that answers at once
 //! - `plain`: functions that call back nobody
 //! - `framed`: functions that see the frames
+//! - `gsubs`: `gsub`, at once or by asking
 //! - `calling`: functions that call back, or see more of a run
 //! - `entering`: a function of the library is entered
 //! - `waiting`: what waits for a call, or for an answer
@@ -16,6 +17,7 @@ pub mod answering;
 pub mod calling;
 pub mod entering;
 pub mod framed;
+pub mod gsubs;
 pub mod plain;
 pub mod table;
 pub mod waiting;

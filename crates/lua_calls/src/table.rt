@@ -3,12 +3,14 @@ ghost use Rattle.std.specs.Prelude.{◌≡◌, MatchOption};
 ghost use Rattle.lua_calls.specs.Table.{other_in, InNoGroup, IsLine};
 ghost use Rattle.lua_calls.specs.declared.table.Act.TheVariants as act;
 
+use lua_gsubs::GsubFunction;
 use lua_iterators::{IteratorFunction, iterator_function};
 use lua_libs::{PlainFunction, plain_function};
 use lua_store::Library;
 use lua_strings::{StringFunction, string_function};
 use lua_tables::{TableFunction, table_function};
 use mw_frame_calls::{FrameFunction, frame_function};
+use mw_htmls::{HtmlFunction, html_function};
 use mw_texts::{TextFunction, text_function};
 use mw_ustrings::{UstringFunction, ustring_function};
 
@@ -23,6 +25,8 @@ pub enum AtOnce {
     Texts(TextFunction),
     /// that make iterators, and the steps of these
     Iterators(IteratorFunction),
+    /// of `mw.html`, and the methods of its objects
+    Html(HtmlFunction),
 }
 
 /// A function that calls back, or that sees more of a run than its heap and its frames.
@@ -47,7 +51,7 @@ pub enum Act {
     CurrentTitle,
     ArgsIndex,
     Calls(CallBack),
-    NotBuilt,
+    Gsub(GsubFunction),
 }
 
 /// The function that answers at once which this one is, where it is in a group of them.
@@ -66,7 +70,10 @@ fn at_once(which: Library) -> Option<AtOnce>
                         Some(function) => Some(AtOnce::Texts(function)),
                         None => match iterator_function(which) {
                             Some(function) => Some(AtOnce::Iterators(function)),
-                            None => None,
+                            None => match html_function(which) {
+                                Some(function) => Some(AtOnce::Html(function)),
+                                None => None,
+                            },
                         },
                     },
                 },
@@ -91,7 +98,9 @@ fn other_act(which: Library) -> Act
         Library::IpairsStep => Act::Calls(CallBack::NextPlace),
         Library::BasicRequire => Act::Calls(CallBack::Require),
         Library::MwLoadData => Act::Calls(CallBack::LoadData),
-        _ => Act::NotBuilt,
+        Library::StringGsub => Act::Gsub(GsubFunction::OfBytes),
+        // `mw.ustring.gsub` is left
+        _ => Act::Gsub(GsubFunction::OfPoints),
     }
 }
 

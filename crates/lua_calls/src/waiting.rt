@@ -18,6 +18,7 @@ ghost use Rattle.lua_state.specs.Of.{OutcomeOf, StateOf};
 ghost use Rattle.lua_state.specs.Seen.{frames_of, outcome_seen, slots_of};
 ghost use Rattle.lua_calls.specs.Answers.{answer_in, one_answer_in};
 
+use crate::gsubs::gsub_answer;
 use lua_acts::{
     give_text, handler_answer, pcall_answer, raise, string_answer, three_answer, xpcall_answer,
 };
@@ -267,6 +268,7 @@ pub fn resume<'m>(
         Pending::Handler => handler_answer(alloc, store, state, outcome),
         Pending::ToString => string_answer(alloc, store, left, state, outcome, line),
         Pending::Pairs => three_answer(alloc, store, state, outcome),
+        Pending::Gsub(waits) => gsub_answer(alloc, store, left, state, waits, outcome, line),
         Pending::Module(title) => module_answer(alloc, store, left, state, title, outcome),
     }
 }

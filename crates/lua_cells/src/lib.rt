@@ -16,6 +16,3 @@ mod statements;
 mod watch;
 
 pub use functions::has_no_idle_cell;
-
-#[cfg(test)]
-mod tests;

@@ -24,6 +24,3 @@ pub use operator::{Arithmetic, Operator};
 pub use place::Place;
 pub use proto::{Proto, Protos};
 pub use statement::{Branch, Statement, Target};
-
-#[cfg(test)]
-mod tests;

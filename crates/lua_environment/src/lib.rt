@@ -8,7 +8,5 @@
 
 pub mod names;
 pub mod start;
-#[cfg(test)]
-mod tests;
 
 pub use start::environment;

@@ -43,7 +43,7 @@ fn closure_in<'m>(
         title: source,
         index,
     };
-    let id = store.new_closure(ClosureKind::Function(title), 0, cells)?;
+    let id = store.new_closure(ClosureKind::Function(title), cells)?;
     Ok(Turn::On(Focus::Gives(Given::One(Value::Closure(id)))))
 }
 

@@ -1,25 +1,31 @@
 -- What waits in functions of the library, and at the bottom of a run, leads below its weight with the outcome.
-use Rattle.std.proofs.Common.{ℕ, ◌+◌, ◌*◌, List, [], ◌∷◌, ◌++◌, length, Option, Some, None, arith}
-use Rattle.std.specs.Prelude.{codes}
+use Rattle.std.proofs.Common.{◌≡◌, ℕ, zero, suc, ◌+◌, ◌*◌, List, [], ◌∷◌, ◌++◌, length, Option, Some, None, arith}
+use Rattle.std.specs.Prelude.{Ok, Err, codes}
 use Rattle.wk_base.specs.declared.title.Title.{Title}
 use Rattle.page_run.specs.Outcome.{Outcome, Goes, Jumps}
-use Rattle.lua_heap.specs.Value.{Value, Text, Table, is_nil}
+use Rattle.mw_html.specs.Render.{Piece, Whole, Deep, render}
+use Rattle.lua_heap.specs.Value.{Value, Text, Table, Markup, is_nil}
 use Rattle.lua_meaning.specs.Scope.{Bytes}
 use Rattle.lua_meaning.specs.Questions.{Asked, TemplateAsked, TextAsked, DataAsked}
 use Rattle.lua_meaning.specs.Values.{first, text_in, is_function}
 use Rattle.lua_meaning.specs.Acts.{Jump, Returned, Broke, Raised}
 use Rattle.lua_meaning.specs.Metatables.{handler}
 use Rattle.lua_meaning.specs.CallBacks.{text_of}
-use Rattle.lua_meaning.specs.Pending.{Pending, PcallWaits, XpcallWaits, HandlerWaits, ToStringWaits, PairsWaits, ModuleWaits}
+use Rattle.lua_meaning.specs.Arguments.{Argument}
+use Rattle.lua_meaning.specs.Gsub.{Replacement, ByText, ByTable, ByFunction, Job, Far, Replacing, Search, NoMatch, Matched, search, GoesOnWith, replacement_given, with_piece}
+use Rattle.lua_meaning.specs.Pending.{Pending, PcallWaits, XpcallWaits, HandlerWaits, ToStringWaits, PairsWaits, GsubWaits, ModuleWaits}
 use Rattle.lua_meaning.specs.Start.{Failed, data_value}
+use Rattle.lua_meaning.proofs.GsubLaws.{matches_go_on}
 use Rattle.lua_slots.specs.Slots.{Slots}
-use Rattle.lua_slots.specs.Points.{SFrame, Texts, Now}
+use Rattle.lua_slots.specs.Points.{SFrame, Waits, Texts, Now}
 use Rattle.lua_slots.specs.CallBacks as callbacks
+use Rattle.lua_slots.specs.Errors as errors
+use Rattle.lua_slots.specs.Gsub as gsubs
 use Rattle.lua_slots.specs.Modules as modules
 use Rattle.lua_slots.specs.Libraries as libraries
 use Rattle.lua_slots.specs.Starts as starts
 use Rattle.lua_goes.specs.Weight.{of_outcome, of_texts, of_pending, of_frames}
-use Rattle.lua_goes.proofs.LowValues.{IsLow, now, below, pays, both, fails, call, index_table}
+use Rattle.lua_goes.proofs.LowValues.{IsLow, now, below, pays, both, fails, call, index, index_table}
 
 -- FUNCTIONS THAT CALL BACK
 pcall_answer : (o : Outcome (List Value) Jump) (fs : List SFrame) (s : Slots) → IsLow (callbacks.pcall_answer o fs s) (of_outcome o + (5 + of_frames fs))
@@ -52,6 +58,35 @@ three_answer : (o : Outcome (List Value) Jump) (fs : List SFrame) (s : Slots) �
 three_answer (Goes vs) fs s = now (omega arith)
 three_answer (Jumps j) fs s = now (omega arith)
 
+-- `gsub`: a search that costs nothing leads to one with fewer matches behind it
+asks : (by : Replacement) (captures : List Value) (fs : List SFrame) (s : Slots) → IsLow (gsubs.asks by captures fs s) (4 + of_frames fs)
+asks (ByFunction f) captures fs s = below (omega arith) (call f captures None fs s)
+asks (ByTable t) captures fs s = index (Table t) (first captures) None fs s
+asks (ByText text) captures fs s = now (omega arith)
+
+finish : (job : Job) (far : Far) (n : ℕ) (fs : List SFrame) (s : Slots) → IsLow (gsubs.finish job far fs s) (6 + (n + of_frames fs))
+finish job far n fs s = pays _ _ (now (omega arith))
+
+asks_on : (job : Job) (limit : ℕ) (far : Far) (found : Search) → GoesOnWith job limit found → (line : Option ℕ) (fs : List SFrame) (s : Slots)
+    → IsLow (gsubs.asks_on job far found line fs s) (9 + (3 * limit + of_frames fs))
+asks_on job limit far (NoMatch tries) behind line fs s = pays _ _ (below (omega arith) (finish job far (3 * limit) fs s))
+asks_on job limit far (Matched tries captures w) behind line fs s =
+    let e : w.limit ≡ limit = behind.1 in
+    pays _ _ (below (omega (arith, e)) (asks w.job.by captures (Waits (GsubWaits w) line ∷ fs) s))
+
+replaces : (job : Job) (limit : ℕ) (far : Far) (line : Option ℕ) (fs : List SFrame) (s : Slots) → IsLow (gsubs.replaces job limit far line fs s) (6 + (3 * limit + of_frames fs))
+replaces job zero far line fs s = finish job far 0 fs s
+replaces job (suc limit) far line fs s = below (omega arith) (asks_on job limit far (search job limit far) (matches_go_on job limit far) line fs s)
+
+piece_given : (w : Replacing) (a : Argument Bytes) (line : Option ℕ) (fs : List SFrame) (s : Slots)
+    → IsLow (errors.with_argument a line fs s (λ piece. gsubs.puts w piece line fs s)) (6 + (3 * w.limit + of_frames fs))
+piece_given w (Ok piece) line fs s = pays _ _ (replaces w.job w.limit (with_piece w.far piece) line fs s)
+piece_given w (Err message) line fs s = below (omega arith) (fails line message fs s)
+
+gsub_answer : (w : Replacing) (o : Outcome (List Value) Jump) (line : Option ℕ) (fs : List SFrame) (s : Slots) → IsLow (gsubs.gsub_answer w o line fs s) (of_outcome o + (3 * w.limit + 5 + of_frames fs))
+gsub_answer w (Goes vs) line fs s = below (omega arith) (piece_given w (replacement_given w.whole (first vs)) line fs s)
+gsub_answer w (Jumps j) line fs s = now (omega arith)
+
 module_answer : (title : Title) (o : Outcome (List Value) Jump) (fs : List SFrame) (s : Slots) → IsLow (modules.module_answer title o fs s) (of_outcome o + (3 + of_frames fs))
 module_answer title (Goes vs) fs s = now (omega arith)
 module_answer title (Jumps j) fs s = now (omega arith)
@@ -62,6 +97,7 @@ resumes (XpcallWaits h) o line fs s = xpcall_answer h o line fs s
 resumes HandlerWaits o line fs s = handler_answer o fs s
 resumes ToStringWaits o line fs s = string_answer o line fs s
 resumes PairsWaits o line fs s = three_answer o fs s
+resumes (GsubWaits w) o line fs s = gsub_answer w o line fs s
 resumes (ModuleWaits title) o line fs s = module_answer title o fs s
 
 -- ANSWERS
@@ -103,11 +139,20 @@ pub data_given : (v : Value) (n : ℕ) (fs : List SFrame) (s : Slots) → IsLow 
 data_given (Table t) n fs s = now (omega arith)
 data_given v n fs s = now (omega arith)
 
+whole_or_fail : (p : Piece) (vs : List Value) (before : Bytes) (fs : List SFrame) (s : Slots) → IsLow (starts.whole_or_fail p vs before fs s) (2 + of_texts (length vs) + of_frames fs)
+whole_or_fail (Whole bytes begun) vs before fs s = now (omega arith)
+whole_or_fail (Deep bytes begun) vs before fs s = now (omega arith)
+
+text_by : (h v : Value) (vs : List Value) (before : Bytes) (fs : List SFrame) (s : Slots) → IsLow (starts.text_by h v vs before fs s) (2 + of_texts (length vs) + of_frames fs)
+text_by h v vs before fs s = both (is_nil h) (Now (Texts vs (before ++ text_of v) fs) s) _ (now (omega arith)) (below (omega arith) (call h (v ∷ []) None _ s))
+
+next_text : (v : Value) (vs : List Value) (before : Bytes) (fs : List SFrame) (s : Slots) → IsLow (starts.next_text v vs before fs s) (2 + of_texts (length vs) + of_frames fs)
+next_text (Markup m) vs before fs s = pays _ _ (whole_or_fail (render s.heap.markup m) vs before fs s)
+next_text v vs before fs s = text_by (handler s.heap v (codes "__tostring")) v vs before fs s
+
 pub texts : (vs : List Value) (before : Bytes) (fs : List SFrame) (s : Slots) → IsLow (starts.texts vs before fs s) (of_texts (length vs) + of_frames fs)
 texts [] before fs s = pays _ _ (now (omega arith))
-texts (v ∷ vs) before fs s =
-    both (is_nil (handler s.heap v (codes "__tostring"))) (Now (Texts vs (before ++ text_of v) fs) s) _ (now (omega arith))
-    (below (omega arith) (call (handler s.heap v (codes "__tostring")) (v ∷ []) None _ s))
+texts (v ∷ vs) before fs s = below (omega arith) (next_text v vs before fs s)
 
 pub text_given : (t : Option Bytes) (n : ℕ) (vs : List Value) (before : Bytes) (fs : List SFrame) (s : Slots) → IsLow (starts.text_given t vs before fs s) (n + (1 + of_texts (length vs) + of_frames fs))
 text_given (Some t) n vs before fs s = now (omega arith)

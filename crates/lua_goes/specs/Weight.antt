@@ -4,7 +4,7 @@ use Rattle.std.specs.Prelude.{ℕ, ◌+◌, ◌*◌, List, [], ◌∷◌, length
 use Rattle.page_run.specs.Outcome.{Outcome, Goes, Jumps}
 use Rattle.lua_heap.specs.Value.{Value}
 use Rattle.lua_meaning.specs.Acts.{Jump, Returned}
-use Rattle.lua_meaning.specs.Pending.{Pending, PcallWaits, XpcallWaits, HandlerWaits, ToStringWaits, PairsWaits, ModuleWaits}
+use Rattle.lua_meaning.specs.Pending.{Pending, PcallWaits, XpcallWaits, HandlerWaits, ToStringWaits, PairsWaits, GsubWaits, ModuleWaits}
 use Rattle.lua_slots.specs.Points.{SFrame, First, Verdict, IndexNow, DecideNext, OperateNow, UnaryNow, ArgumentsNext, MethodNext, MethodNow, MoreNext, ItemNow, PairNow, FieldsNext, ItemsNext, TargetNow, AssignNow, SetsNext, DeclareNow, StatsNext, BranchNext, EachValues, EachEnd, Waits, Hears, ModuleFound, FunctionFound, AnswerNow, TextNow, DataNow}
 use Rattle.lua_slots.specs.Points.{Point, Gives, Evals, Lists, Finds, Sets, Runs, Starts, Texts, Asking, Works, Move, Costs, Marks, Enters, Exits, Now}
 
@@ -25,12 +25,14 @@ of_finds left before = 3 * left + 2 * before + 5
 abbrev pub of_texts : ℕ → ℕ
 of_texts n = 2 * n + 4
 
+-- a search for the empty text may cost nothing: there are so many more matches at most
 abbrev pub of_pending : Pending → ℕ
 of_pending PcallWaits = 5
 of_pending (XpcallWaits h) = 6
 of_pending HandlerWaits = 5
 of_pending ToStringWaits = 3
 of_pending PairsWaits = 7
+of_pending (GsubWaits w) = 3 * w.limit + 5
 of_pending (ModuleWaits title) = 3
 
 -- FRAMES: more than what their moves without charge lead to

@@ -23,6 +23,6 @@ put_all frozen g s0 s1 s2 s3 n texts e1 en e2 et w e3 =
     e3
     ∙ ap (λ (u : StoreView). record u { heap = all_filled frozen (length s1.heap.tables) (map (shift_entries (length s1.heap.tables)) (plain_nodes texts g.nodes)) u.heap }) e2
     ∙ ap (λ (u : StoreView). record u { heap = all_filled frozen (length u.heap.tables) (map (shift_entries (length u.heap.tables)) (plain_nodes texts g.nodes)) (grown n u.heap) }) e1
-    ∙ ap (λ t. record { texts = with_texts s0.texts g.texts; heap = all_filled frozen k (map (shift_entries k) (plain_nodes t g.nodes)) (grown n s0.heap); envs = s0.envs }) et
-    ∙ ap (λ m. record { texts = with_texts s0.texts g.texts; heap = all_filled frozen k (map (shift_entries k) (plain_graph g)) (grown m s0.heap); envs = s0.envs }) size
-    ∙ ap (λ h. record { texts = with_texts s0.texts g.texts; heap = h; envs = s0.envs }) (joined s0.heap frozen (plain_graph g) (graph-set k (plain_graph g) w))
+    ∙ ap (λ t. record { texts = with_texts s0.texts g.texts; heap = all_filled frozen k (map (shift_entries k) (plain_nodes t g.nodes)) (grown n s0.heap); envs = s0.envs; env = s0.env }) et
+    ∙ ap (λ m. record { texts = with_texts s0.texts g.texts; heap = all_filled frozen k (map (shift_entries k) (plain_graph g)) (grown m s0.heap); envs = s0.envs; env = s0.env }) size
+    ∙ ap (λ h. record { texts = with_texts s0.texts g.texts; heap = h; envs = s0.envs; env = s0.env }) (joined s0.heap frozen (plain_graph g) (graph-set k (plain_graph g) w))

@@ -28,7 +28,7 @@ with_texts held (t ∷ ts) = with_texts (with_text held t) ts
 
 -- the texts of the graph are there, its tables stand behind those that were there, and nothing else changed
 abbrev pub put : Bool → Graph → StoreView → StoreView
-put frozen g s = record { texts = with_texts s.texts g.texts; heap = join frozen (plain_graph g) s.heap; envs = s.envs }
+put frozen g s = record { texts = with_texts s.texts g.texts; heap = join frozen (plain_graph g) s.heap; envs = s.envs; env = s.env }
 
 -- THE STEPS, one change of a heap after another
 -- so many new tables

@@ -42,29 +42,93 @@ fn copy_with(alloc: Global, store: &mut Store, value: Value, left: &mut Left) ->
     }
 }
 
+/// `t[1] = t; t[2] = next`
+fn hold_itself(store: &mut Store, table: TableId) -> Result<(), NoMemory>
+    requires { IsTableOf store.old table }
+    ensures { IsLater store.old store.new }
+{
+    put(store, table, ONE, Value::Table(table))?;
+    put(store, table, TWO, FUNCTION)
+}
+
+/// `t[3] = 0; t[3] = nil`
+fn clear_three(store: &mut Store, table: TableId) -> Result<(), NoMemory>
+    requires { IsTableOf store.old table }
+    ensures { IsLater store.old store.new }
+{
+    put(store, table, THREE, Value::Number(0))?;
+    put(store, table, THREE, Value::Nil)
+}
+
+/// `t[1] = t; t[2] = next; t[3] = 0; t[3] = nil`
+fn fill_numbers(store: &mut Store, table: TableId) -> Result<(), NoMemory>
+    requires { IsTableOf store.old table }
+    ensures { IsLater store.old store.new }
+{
+    hold_itself(store, table)?;
+    clear_three(store, table)
+}
+
+/// `t[1] = t; t[2] = next; t[3] = 0; t[3] = nil; t[key] = 3`
 fn fill(store: &mut Store, table: TableId, key: Value) -> Result<(), NoMemory>
     requires table { IsTableOf store.old table }
     requires key { IsOf store.old key }
     ensures { IsLater store.old store.new }
 {
-    put(store, table, ONE, Value::Table(table))?;
-    put(store, table, TWO, FUNCTION)?;
-    put(store, table, THREE, Value::Number(0))?;
-    put(store, table, THREE, Value::Nil)?;
+    fill_numbers(store, table)?;
     put(store, table, key, THREE)
 }
 
-/// `t = {}; t[1] = t; t[2] = next; t[3] = 0; t[3] = nil; t[key] = 3; setmetatable(t, {t})`; and then t is made read-only.
-fn entangled(store: &mut Store, key: Value) -> Result<TableId, NoMemory>
+/// A new table that is filled.
+fn filled(store: &mut Store, key: Value) -> Result<TableId, NoMemory>
     requires { IsOf store.old key }
     ensures table { IfOk result (IsTableOf store.new) }
     ensures later { IsLater store.old store.new }
 {
     let table = store.new_table()?;
     fill(store, table, key)?;
+    Ok(table)
+}
+
+/// A new table that holds another one at 1.
+fn holder(store: &mut Store, table: TableId) -> Result<Value, NoMemory>
+    requires { IsTableOf store.old table }
+    ensures of { IfOk result (IsOf store.new) }
+    ensures later { IsLater store.old store.new }
+{
     let meta = store.new_table()?;
     put(store, meta, ONE, Value::Table(table))?;
-    give_meta(store, table, Value::Table(meta));
+    Ok(Value::Table(meta))
+}
+
+/// `setmetatable(t, {t})`
+fn give_holder(store: &mut Store, table: TableId) -> Result<(), NoMemory>
+    requires { IsTableOf store.old table }
+    ensures { IsLater store.old store.new }
+{
+    let meta = holder(store, table)?;
+    give_meta(store, table, meta);
+    Ok(())
+}
+
+/// `t = {}; t[1] = t; t[2] = next; t[3] = 0; t[3] = nil; t[key] = 3; setmetatable(t, {t})`
+fn entangled(store: &mut Store, key: Value) -> Result<TableId, NoMemory>
+    requires { IsOf store.old key }
+    ensures table { IfOk result (IsTableOf store.new) }
+    ensures later { IsLater store.old store.new }
+{
+    let table = filled(store, key)?;
+    give_holder(store, table)?;
+    Ok(table)
+}
+
+/// Such a table, which then is made read-only.
+fn frozen(store: &mut Store, key: Value) -> Result<TableId, NoMemory>
+    requires { IsOf store.old key }
+    ensures table { IfOk result (IsTableOf store.new) }
+    ensures later { IsLater store.old store.new }
+{
+    let table = entangled(store, key)?;
     store.freeze(table);
     Ok(table)
 }
@@ -101,7 +165,7 @@ fn is_fresh(rt: &impl Abort, store: &Store, copy: Value)
 /// Two tables with three entries and one cost 32 steps, and are not copied for 31.
 fn tables(rt: &impl Abort, alloc: Global, store: &mut Store) -> Result<(), NoMemory> {
     let key = Value::Table(store.new_table()?);
-    let table = Value::Table(entangled(store, key)?);
+    let table = Value::Table(frozen(store, key)?);
     let count = store.table_count();
     let mut few = left(31);
     assert!(rt; copy_with(alloc, store, table, &mut few) == None);

@@ -70,13 +70,22 @@ fn new_object(alloc: Global, store: &mut Store) -> Result<Value, NoMemory>
     Ok(Value::Markup(store.new_markup(object(alloc, name))?))
 }
 
+/// Gives a table a metatable of its own.
+fn give_class(store: &mut Store, table: TableId) -> Result<(), NoMemory>
+    requires { IsTableOf store.old table }
+    ensures { IsLater store.old store.new }
+{
+    let meta = store.new_table()?;
+    give_meta(store, table, Value::Table(meta));
+    Ok(())
+}
+
 fn classed(store: &mut Store) -> Result<Value, NoMemory>
     ensures of { IfOk result (IsOf store.new) }
     ensures later { IsLater store.old store.new }
 {
     let table = store.new_table()?;
-    let meta = Value::Table(store.new_table()?);
-    give_meta(store, table, meta);
+    give_class(store, table)?;
     Ok(Value::Table(table))
 }
 
@@ -94,7 +103,26 @@ fn value_of(alloc: Global, store: &mut Store, made: Made) -> Result<Value, NoMem
     }
 }
 
-/// Sets an entry. A key that is nil sets nothing.
+/// Sets a key to a value that is made. A key that is nil sets nothing.
+fn put_value(
+    alloc: Global,
+    store: &mut Store,
+    table: TableId,
+    key: Value,
+    made: Made,
+) -> Result<(), NoMemory>
+    requires table { IsTableOf store.old table }
+    requires key { IsOf store.old key }
+    ensures { IsLater store.old store.new }
+{
+    let value = value_of(alloc, store, made)?;
+    if key == Value::Nil {
+        return Ok(());
+    }
+    put(store, table, key, value)
+}
+
+/// Sets an entry.
 fn put_made(
     alloc: Global,
     store: &mut Store,
@@ -105,11 +133,7 @@ fn put_made(
     ensures { IsLater store.old store.new }
 {
     let key = value_of(alloc, store, entry.0)?;
-    let value = value_of(alloc, store, entry.1)?;
-    if key == Value::Nil {
-        return Ok(());
-    }
-    put(store, table, key, value)
+    put_value(alloc, store, table, key, entry.1)
 }
 
 /// The fault of the row's table.

@@ -1,3 +1,6 @@
-pub mod GsubAgree
+pub mod Searches
 pub mod Filled
-pub mod Rows
+pub mod Walked
+pub mod Ends
+pub mod GivenArguments
+pub mod Sights

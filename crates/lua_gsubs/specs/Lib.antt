@@ -1,3 +1,7 @@
-pub mod Gsub
-pub mod Agree
-pub mod Examples
+pub mod Table
+pub mod Given
+pub mod Met
+pub mod Parts
+pub mod Begun
+pub mod Sought
+pub mod Resumed

@@ -45,6 +45,3 @@ pub mod whole;
 
 pub use content::Content;
 pub use library::Library;
-
-#[cfg(test)]
-mod tests;

@@ -43,7 +43,7 @@ pub globals_are : (k : ℕ) (t : Tables) → AreAt k t → global_fields t ≡ s
 globals_are k t at = rw (at.globals, at.strings, at.tables, at.math, at.mw) refl
 
 pub mw_is : (k : ℕ) (t : Tables) → AreAt k t → mw_fields t ≡ shift_entries k mw
-mw_is k t at = rw (at.title, at.ustring, at.text) refl
+mw_is k t at = rw (at.title, at.ustring, at.text, at.html) refl
 
 -- tables stay
 pub still_of : {s u : StoreView} {t : Tables} → IsLater s u → AreTablesOf s t → AreTablesOf u t
@@ -56,4 +56,5 @@ still_of later of = record {
   math = omega (arith, of.math, later.tables);
   ustring = omega (arith, of.ustring, later.tables);
   text = omega (arith, of.text, later.tables);
+  html = omega (arith, of.html, later.tables);
 }

@@ -2,7 +2,7 @@
 use Rattle.std.specs.Prelude.{[], ◌∷◌, ◌++◌, codes}
 use Rattle.lua_heap.specs.Value.{Text, Table}
 use Rattle.lua_heap.specs.Table.{Entries}
-use Rattle.lua_heap.specs.declared.library.Library.TheVariants.{BasicAssert, BasicError, BasicGetMetatable, BasicSetMetatable, BasicIpairs, BasicPairs, BasicNext, BasicPcall, BasicXpcall, BasicRawEqual, BasicRawGet, BasicRawSet, BasicSelect, BasicToNumber, BasicToString, BasicType, BasicUnpack, BasicRequire, StringByte, StringChar, StringFind, StringMatch, StringGmatch, StringFormat, StringLen, StringLower, StringUpper, StringRep, StringReverse, StringSub, MwClone, MwLog, MwLoadData, MwGetCurrentFrame, MwGetCurrentTitle, TableConcat, TableInsert, TableMaxn, TableRemove, TableSort, MathAbs, MathCeil, MathFloor, MathFmod, MathMax, MathMin, MathPow, UstringChar, UstringCodepoint, UstringGcodepoint, UstringByteOffset, UstringFind, UstringMatch, UstringGmatch, UstringLen, UstringSub, UstringIsUtf8, UstringToNfc, UstringToNfd, UstringToNfkc, UstringToNfkd, TextTrim, TextSplit, TextGsplit, TextEncode, TextDecode, TextListToText, TextNowiki, TextTag, TextTruncate}
+use Rattle.lua_heap.specs.declared.library.Library.TheVariants.{BasicAssert, BasicError, BasicGetMetatable, BasicSetMetatable, BasicIpairs, BasicPairs, BasicNext, BasicPcall, BasicXpcall, BasicRawEqual, BasicRawGet, BasicRawSet, BasicSelect, BasicToNumber, BasicToString, BasicType, BasicUnpack, BasicRequire, StringByte, StringChar, StringFind, StringMatch, StringGmatch, StringGsub, StringFormat, StringLen, StringLower, StringUpper, StringRep, StringReverse, StringSub, MwClone, MwLog, MwLoadData, MwGetCurrentFrame, MwGetCurrentTitle, TableConcat, TableInsert, TableMaxn, TableRemove, TableSort, MathAbs, MathCeil, MathFloor, MathFmod, MathMax, MathMin, MathPow, UstringChar, UstringCodepoint, UstringGcodepoint, UstringByteOffset, UstringFind, UstringMatch, UstringGmatch, UstringGsub, UstringLen, UstringSub, UstringIsUtf8, UstringToNfc, UstringToNfd, UstringToNfkc, UstringToNfkd, TextTrim, TextSplit, TextGsplit, TextEncode, TextDecode, TextListToText, TextNowiki, TextTag, TextTruncate, HtmlCreate}
 use Rattle.lua_meaning.specs.Frames.{function_entry}
 use Rattle.lua_home.specs.declared.made.Tables.{Tables}
 
@@ -49,14 +49,15 @@ first_strings =
     ∷ function_entry (codes "find") StringFind
     ∷ function_entry (codes "match") StringMatch
     ∷ function_entry (codes "gmatch") StringGmatch
+    ∷ function_entry (codes "gsub") StringGsub
     ∷ function_entry (codes "format") StringFormat
     ∷ function_entry (codes "len") StringLen
-    ∷ function_entry (codes "lower") StringLower
     ∷ []
 
 abbrev pub last_strings : Entries
 last_strings =
-    function_entry (codes "upper") StringUpper
+    function_entry (codes "lower") StringLower
+    ∷ function_entry (codes "upper") StringUpper
     ∷ function_entry (codes "rep") StringRep
     ∷ function_entry (codes "reverse") StringReverse
     ∷ function_entry (codes "sub") StringSub
@@ -71,6 +72,7 @@ mw_fields t =
     ∷ function_entry (codes "getCurrentFrame") MwGetCurrentFrame
     ∷ (Text (codes "ustring"), Table t.ustring.at)
     ∷ (Text (codes "text"), Table t.text.at)
+    ∷ (Text (codes "html"), Table t.html.at)
     ∷ []
 
 abbrev pub title_fields : Entries
@@ -107,12 +109,13 @@ first_ustring =
     ∷ function_entry (codes "find") UstringFind
     ∷ function_entry (codes "match") UstringMatch
     ∷ function_entry (codes "gmatch") UstringGmatch
-    ∷ function_entry (codes "len") UstringLen
+    ∷ function_entry (codes "gsub") UstringGsub
     ∷ []
 
 abbrev pub last_ustring : Entries
 last_ustring =
-    function_entry (codes "sub") UstringSub
+    function_entry (codes "len") UstringLen
+    ∷ function_entry (codes "sub") UstringSub
     ∷ function_entry (codes "isutf8") UstringIsUtf8
     ∷ function_entry (codes "toNFC") UstringToNfc
     ∷ function_entry (codes "toNFD") UstringToNfd
@@ -136,6 +139,9 @@ last_text =
     ∷ function_entry (codes "tag") TextTag
     ∷ function_entry (codes "truncate") TextTruncate
     ∷ []
+
+abbrev pub html_fields : Entries
+html_fields = function_entry (codes "create") HtmlCreate ∷ []
 
 -- those of one table, together
 abbrev pub global_fields : Tables → Entries

@@ -15,7 +15,7 @@ with_home h = join false home_tables h
 abbrev pub HomeIsHome : Type 0
 HomeIsHome = graph_heap false home_tables ≡ home_heap
 
--- the numbers of the eight tables, where so many stand before them
+-- the numbers of the nine tables, where so many stand before them
 pub record AreAt (k : ℕ) (t : Tables) : Type 0 where
   pub globals : t.globals.at ≡ k + 0
   pub strings : t.strings.at ≡ k + 1
@@ -25,6 +25,7 @@ pub record AreAt (k : ℕ) (t : Tables) : Type 0 where
   pub math : t.math.at ≡ k + 5
   pub ustring : t.ustring.at ≡ k + 6
   pub text : t.text.at ≡ k + 7
+  pub html : t.html.at ≡ k + 8
 
 -- those of the two tables that a run keeps at hand
 pub record IsHomeAt (k first second : ℕ) : Type 0 where
@@ -40,3 +41,4 @@ pub record AreTablesOf (s : StoreView) (t : Tables) : Type 0 where
   pub math : IsTableOf s t.math
   pub ustring : IsTableOf s t.ustring
   pub text : IsTableOf s t.text
+  pub html : IsTableOf s t.html

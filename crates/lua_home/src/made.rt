@@ -2,7 +2,7 @@
 ghost use Rattle.std.specs.Prelude.{◌≡◌, ℕ, length, IfOk, OnOk};
 ghost use Rattle.lua_graph.specs.Put.{grown, filled};
 ghost use Rattle.lua_store.specs.Parts.{IsLater};
-ghost use Rattle.lua_home.specs.Entries.{first_globals, middle_globals, last_globals, first_strings, last_strings, mw_fields, title_fields, table_fields, math_fields, first_ustring, last_ustring, first_text, last_text, global_fields, string_fields, ustring_fields, text_fields};
+ghost use Rattle.lua_home.specs.Entries.{first_globals, middle_globals, last_globals, first_strings, last_strings, mw_fields, title_fields, table_fields, math_fields, first_ustring, last_ustring, first_text, last_text, html_fields, global_fields, string_fields, ustring_fields, text_fields};
 ghost use Rattle.lua_home.specs.Made.{with_home, AreAt, AreTablesOf, HomeIsHome};
 
 use crate::fields::{Field, Item, fill};
@@ -10,7 +10,7 @@ use lua_store::{Library, Store, TableId};
 use wk_base::NoMemory;
 
 /// The tables of a fresh environment: those of the global variables, of the functions for strings, `mw`, `mw.title`, `table`, `math`,
-/// `mw.ustring`, and `mw.text`.
+/// `mw.ustring`, `mw.text`, and `mw.html`.
 #[derive(Clone, Copy)]
 pub struct Tables {
     pub globals: TableId,
@@ -21,13 +21,14 @@ pub struct Tables {
     pub math: TableId,
     pub ustring: TableId,
     pub text: TableId,
+    pub html: TableId,
 }
 
-/// Eight new tables.
+/// Nine new tables.
 fn new_tables(store: &mut Store) -> Result<Tables, NoMemory>
     ensures at { IfOk result (AreAt (length store.old.heap.tables)) }
     ensures of { IfOk result (AreTablesOf store.new) }
-    ensures put { OnOk result (store.new.heap ≡ grown 8 store.old.heap) }
+    ensures put { OnOk result (store.new.heap ≡ grown 9 store.old.heap) }
     ensures later { IsLater store.old store.new }
 {
     let globals = store.new_table()?;
@@ -38,6 +39,7 @@ fn new_tables(store: &mut Store) -> Result<Tables, NoMemory>
     let math = store.new_table()?;
     let ustring = store.new_table()?;
     let text = store.new_table()?;
+    let html = store.new_table()?;
     Ok(Tables {
         globals,
         strings,
@@ -47,6 +49,7 @@ fn new_tables(store: &mut Store) -> Result<Tables, NoMemory>
         math,
         ustring,
         text,
+        html,
     })
 }
 
@@ -207,16 +210,16 @@ fn fill_first_strings(store: &mut Store, tables: &Tables) -> Result<(), NoMemory
             value: Item::Function(Library::StringGmatch),
         },
         Field {
+            name: b"gsub",
+            value: Item::Function(Library::StringGsub),
+        },
+        Field {
             name: b"format",
             value: Item::Function(Library::StringFormat),
         },
         Field {
             name: b"len",
             value: Item::Function(Library::StringLen),
-        },
-        Field {
-            name: b"lower",
-            value: Item::Function(Library::StringLower),
         },
     ];
     fill(store, tables.strings, &fields)
@@ -229,6 +232,10 @@ fn fill_last_strings(store: &mut Store, tables: &Tables) -> Result<(), NoMemory>
     ensures later { IsLater store.old store.new }
 {
     let fields = [
+        Field {
+            name: b"lower",
+            value: Item::Function(Library::StringLower),
+        },
         Field {
             name: b"upper",
             value: Item::Function(Library::StringUpper),
@@ -283,6 +290,10 @@ fn fill_mw(store: &mut Store, tables: &Tables) -> Result<(), NoMemory>
         Field {
             name: b"text",
             value: Item::Table(tables.text),
+        },
+        Field {
+            name: b"html",
+            value: Item::Table(tables.html),
         },
     ];
     fill(store, tables.mw, &fields)
@@ -407,8 +418,8 @@ fn fill_first_ustring(store: &mut Store, tables: &Tables) -> Result<(), NoMemory
             value: Item::Function(Library::UstringGmatch),
         },
         Field {
-            name: b"len",
-            value: Item::Function(Library::UstringLen),
+            name: b"gsub",
+            value: Item::Function(Library::UstringGsub),
         },
     ];
     fill(store, tables.ustring, &fields)
@@ -421,6 +432,10 @@ fn fill_last_ustring(store: &mut Store, tables: &Tables) -> Result<(), NoMemory>
     ensures later { IsLater store.old store.new }
 {
     let fields = [
+        Field {
+            name: b"len",
+            value: Item::Function(Library::UstringLen),
+        },
         Field {
             name: b"sub",
             value: Item::Function(Library::UstringSub),
@@ -507,6 +522,19 @@ fn fill_last_text(store: &mut Store, tables: &Tables) -> Result<(), NoMemory>
     fill(store, tables.text, &fields)
 }
 
+/// The field of `mw.html`.
+fn fill_html(store: &mut Store, tables: &Tables) -> Result<(), NoMemory>
+    requires { AreTablesOf store.old tables.now }
+    ensures put { OnOk result (store.new.heap ≡ filled tables.now.html.at html_fields store.old.heap) }
+    ensures later { IsLater store.old store.new }
+{
+    let fields = [Field {
+        name: b"create",
+        value: Item::Function(Library::HtmlCreate),
+    }];
+    fill(store, tables.html, &fields)
+}
+
 /// The global variables.
 fn fill_globals(store: &mut Store, tables: &Tables) -> Result<(), NoMemory>
     requires { AreTablesOf store.old tables.now }
@@ -568,6 +596,7 @@ pub fn fresh(store: &mut Store) -> Result<Tables, NoMemory>
     fill_math(store, &tables)?;
     fill_ustring(store, &tables)?;
     fill_text(store, &tables)?;
+    fill_html(store, &tables)?;
     Ok(tables)
 }
 

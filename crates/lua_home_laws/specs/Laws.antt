@@ -1,4 +1,4 @@
--- THE LAWS OF A FRESH ENVIRONMENT (manual 5; Scribunto, "Lua environment"). It was made in some heap: the eight tables stand behind those that
+-- THE LAWS OF A FRESH ENVIRONMENT (manual 5; Scribunto, "Lua environment"). It was made in some heap: the nine tables stand behind those that
 -- were there (`with_home`), at these numbers.
 use Rattle.std.specs.Prelude.{◌≡◌, ℕ, false, length}
 use Rattle.lua_heap.specs.Proc.{Proc}

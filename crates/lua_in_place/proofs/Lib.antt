@@ -4,3 +4,4 @@ pub mod Reading
 pub mod Listing
 pub mod Nodes
 pub mod Computed
+pub mod Statements

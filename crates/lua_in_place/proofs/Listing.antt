@@ -41,7 +41,7 @@ module _ (world : CWorld) (s : Slots) where
       reach_then (free_move world s (Gives (Goes (v ∷ [])) (MoreNext (MoreC e2 es2) before ∷ fs)) (Lists (MoreC e2 es2) (before ++ v ∷ []) fs) (with_count f i c) refl)
       (subst (λ (x : List Value). Reaches world (Lists (MoreC e2 es2) (before ++ v ∷ []) fs) s (with_count f i c) (Gives (Goes x) fs) s (with_count f k d)) (append_assoc before (v ∷ []) ws) (rest (before ++ v ∷ []) fs f i k c d p q))
 
-  list_reads : (es : CExps) (vs : List Value) (n : ℕ) → all_in_place es s ≡ Some (vs, n) → ListReads world s es vs n
+  pub list_reads : (es : CExps) (vs : List Value) (n : ℕ) → all_in_place es s ≡ Some (vs, n) → ListReads world s es vs n
   list_reads NoC vs n e before fs f i k c d p q =
       let none = none_read s vs n e in
       same_move (Lists NoC before fs) (Gives (Goes (before ++ vs)) fs) f i k c d

@@ -40,7 +40,7 @@ Makes world s frame w v = (fs : List SFrame) (g : Funds) → Reaches world (Give
 
 module _ (world : CWorld) (s : Slots) where
   -- A MOVE that begins a node, and one that costs nothing
-  node_move : (p q : Point) (f : Funds) (i k c d : ℕ) → moves world p s ≡ node (Now q s) → i ≡ 1 + k → d ≡ c + 1 → Reaches world p s (with_count f i c) q s (with_count f k d)
+  pub node_move : (p q : Point) (f : Funds) (i k c d : ℕ) → moves world p s ≡ node (Now q s) → i ≡ 1 + k → d ≡ c + 1 → Reaches world p s (with_count f i c) q s (with_count f k d)
   node_move p q f i k c d e h g =
       further p s (with_count f i c) q s (with_count f k d) here
       (ap (λ (m : Move). enact m (with_count f i c)) e ∙ ap (λ (o : Option ℕ). paid o (with_count f i c) (enact (Marks (Now q s)))) (one_less i k h) ∙ ap (λ (x : ℕ). Stands q s (with_count f k x)) (sym g))

@@ -86,7 +86,7 @@ fn new_iterator(
     ensures later { IsLater store.old store.new }
 {
     let ids = cell_list(alloc, cells)?;
-    store.new_closure(ClosureKind::Iterator(step), 0, ids)
+    store.new_closure(ClosureKind::Iterator(step), ids)
 }
 
 /// A new iterator with these values in its cells is given. It is paid for already.

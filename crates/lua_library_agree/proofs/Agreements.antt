@@ -4,13 +4,13 @@ use Rattle.lua_heap.specs.Value.{Value}
 use Rattle.lua_heap.specs.Heap.{Heap}
 use Rattle.lua_heap.specs.Related.{Map, GrowsWith, Each, Same, Stands}
 use Rattle.lua_heap.specs.declared.library.Library.{Library}
-use Rattle.lua_heap.specs.declared.library.Library.TheVariants.{BasicAssert, BasicError, BasicGetMetatable, BasicSetMetatable, BasicIpairs, BasicPairs, BasicNext, BasicPcall, BasicXpcall, BasicRawEqual, BasicRawGet, BasicRawSet, BasicSelect, BasicToNumber, BasicToString, BasicType, BasicUnpack, BasicRequire, StringByte, StringChar, StringFind, StringMatch, StringGmatch, StringFormat, StringLen, StringLower, StringUpper, StringRep, StringReverse, StringSub, TableConcat, TableInsert, TableMaxn, TableRemove, TableSort, MathAbs, MathCeil, MathFloor, MathFmod, MathMax, MathMin, MathPow, MwClone, MwLog, MwGetCurrentTitle, MwLoadData, MwGetCurrentFrame, UstringChar, UstringCodepoint, UstringGcodepoint, UstringByteOffset, UstringFind, UstringMatch, UstringGmatch, UstringLen, UstringSub, UstringIsUtf8, UstringToNfc, UstringToNfd, UstringToNfkc, UstringToNfkd, TextTrim, TextSplit, TextGsplit, TextEncode, TextDecode, TextListToText, TextNowiki, TextTag, TextTruncate, FrameGetParent, FrameExpandTemplate, FramePreprocess, FrameGetArgument, FrameArgumentPairs, FrameNewChild, FrameGetTitle, FrameExtensionTag, ArgsIndex, ArgumentExpand, StrictIndex, StrictNewIndex, IpairsStep, GmatchStep, UstringGmatchStep, GcodepointStep, GsplitStep}
+use Rattle.lua_heap.specs.declared.library.Library.TheVariants.{BasicAssert, BasicError, BasicGetMetatable, BasicSetMetatable, BasicIpairs, BasicPairs, BasicNext, BasicPcall, BasicXpcall, BasicRawEqual, BasicRawGet, BasicRawSet, BasicSelect, BasicToNumber, BasicToString, BasicType, BasicUnpack, BasicRequire, StringByte, StringChar, StringFind, StringMatch, StringGmatch, StringGsub, StringFormat, StringLen, StringLower, StringUpper, StringRep, StringReverse, StringSub, TableConcat, TableInsert, TableMaxn, TableRemove, TableSort, MathAbs, MathCeil, MathFloor, MathFmod, MathMax, MathMin, MathPow, MwClone, MwLog, MwGetCurrentTitle, MwLoadData, MwGetCurrentFrame, UstringChar, UstringCodepoint, UstringGcodepoint, UstringByteOffset, UstringFind, UstringMatch, UstringGmatch, UstringGsub, UstringLen, UstringSub, UstringIsUtf8, UstringToNfc, UstringToNfd, UstringToNfkc, UstringToNfkd, TextTrim, TextSplit, TextGsplit, TextEncode, TextDecode, TextListToText, TextNowiki, TextTag, TextTruncate, HtmlCreate, HtmlNode, HtmlWikitext, HtmlNewline, HtmlAttr, HtmlAddClass, HtmlCss, HtmlCssText, HtmlTag, HtmlDone, HtmlAllDone, HtmlGetAttr, FrameGetParent, FrameExpandTemplate, FramePreprocess, FrameGetArgument, FrameArgumentPairs, FrameNewChild, FrameGetTitle, FrameExtensionTag, ArgsIndex, ArgumentExpand, StrictIndex, StrictNewIndex, IpairsStep, GmatchStep, UstringGmatchStep, GcodepointStep, GsplitStep}
 use Rattle.lua_meaning.specs.World.{World}
 use Rattle.lua_meaning.specs.Acts.{Frame}
 use Rattle.lua_meaning.specs.Arguments.{Plain, with_charge, text_charge}
 use Rattle.lua_meaning.specs.Mw.{get_current_title}
 use Rattle.lua_meaning.specs.Libraries.{Answers, form}
-use Rattle.lua_library_agree.specs.Same.{SameFrame, SamePlain, SameForm, both_answer, both_see, both_call, neither_built}
+use Rattle.lua_library_agree.specs.Same.{SameFrame, SamePlain, SameForm, both_answer, both_see, both_call}
 use Rattle.lua_library_agree.proofs.Values.{text_charge-same}
 use Rattle.lua_library_agree.proofs.Heaps.{charging}
 use Rattle.lua_library_agree.proofs.Basics.{assert-same, error-same, get_metatable-same, set_metatable-same, raw_equal-same, raw_get-same, raw_set-same, select-same, to_number-same, kind_is-same, unpack-same, next-same}
@@ -20,6 +20,7 @@ use Rattle.lua_library_agree.proofs.StringsAgree as strings
 use Rattle.lua_library_agree.proofs.TableAgree as tables
 use Rattle.lua_library_agree.proofs.UstringAgree as ustring
 use Rattle.lua_library_agree.proofs.TextsAgree as texts
+use Rattle.lua_library_agree.proofs.HtmlAgree as html
 use Rattle.lua_library_agree.proofs.IteratorsAgree as iterators
 use Rattle.lua_library_agree.proofs.MwFunctions.{log-same, strict_index-same, strict_new_index-same, clone-same, get_current_title-same}
 
@@ -53,6 +54,7 @@ module _ {X Y : Type 0} (R : Map → X → Y → Type 0) (up : GrowsWith R) (m :
   all-agree page StringFind = both_answer _ _ (strings.find-same R m h s st vs ws e)
   all-agree page StringMatch = both_answer _ _ (strings.match-same R m h s st vs ws e)
   all-agree page StringGmatch = both_answer _ _ (iterators.gmatch-same R up m h s st vs ws e)
+  all-agree page StringGsub = both_call _
   all-agree page StringFormat = both_answer _ _ (strings.format-same R m h s st vs ws e)
   all-agree page StringLen = both_answer _ _ (strings.len-same R m h s st vs ws e)
   all-agree page StringLower = both_answer _ _ (strings.lower-same R m h s st vs ws e)
@@ -84,6 +86,7 @@ module _ {X Y : Type 0} (R : Map → X → Y → Type 0) (up : GrowsWith R) (m :
   all-agree page UstringFind = both_answer _ _ (behind_texts (ustring.find-same R m h s st vs ws e))
   all-agree page UstringMatch = both_answer _ _ (behind_texts (ustring.match_from-same R m h s st vs ws e))
   all-agree page UstringGmatch = both_answer _ _ (behind_texts (iterators.ustring_gmatch-same R up m h s st vs ws e))
+  all-agree page UstringGsub = both_call _
   all-agree page UstringLen = both_answer _ _ (behind_texts (ustring.len-same R m h s st vs ws e))
   all-agree page UstringSub = both_answer _ _ (behind_texts (ustring.sub-same R m h s st vs ws e))
   all-agree page UstringIsUtf8 = both_answer _ _ (behind_texts (ustring.isutf8-same R m h s st vs ws e))
@@ -100,6 +103,18 @@ module _ {X Y : Type 0} (R : Map → X → Y → Type 0) (up : GrowsWith R) (m :
   all-agree page TextNowiki = both_answer _ _ (behind_texts (texts.nowiki-same R m h s st vs ws e))
   all-agree page TextTag = both_answer _ _ (behind_texts (texts.tag-same R m h s st vs ws e))
   all-agree page TextTruncate = both_answer _ _ (behind_texts (texts.truncate-same R m h s st vs ws e))
+  all-agree page HtmlCreate = both_answer _ _ (behind_texts (html.create-same R up m h s st vs ws e))
+  all-agree page HtmlNode = both_answer _ _ (behind_texts (html.node-same R m h s st vs ws e))
+  all-agree page HtmlWikitext = both_answer _ _ (behind_texts (html.wikitext-same R m h s st vs ws e))
+  all-agree page HtmlNewline = both_answer _ _ (behind_texts (html.newline-same R m h s st vs ws e))
+  all-agree page HtmlAttr = both_answer _ _ (behind_texts (html.attr-same R m h s st vs ws e))
+  all-agree page HtmlAddClass = both_answer _ _ (behind_texts (html.add_class-same R m h s st vs ws e))
+  all-agree page HtmlCss = both_answer _ _ (behind_texts (html.css-same R m h s st vs ws e))
+  all-agree page HtmlCssText = both_answer _ _ (behind_texts (html.css_text-same R m h s st vs ws e))
+  all-agree page HtmlTag = both_answer _ _ (behind_texts (html.tag-same R up m h s st vs ws e))
+  all-agree page HtmlDone = both_answer _ _ (behind_texts (html.done-same R m h s st vs ws e))
+  all-agree page HtmlAllDone = both_answer _ _ (behind_texts (html.all_done-same R m h s st vs ws e))
+  all-agree page HtmlGetAttr = both_answer _ _ (behind_texts (html.get_attr-same R m h s st vs ws e))
   all-agree page FrameGetParent = both_see _ _ (get_parent-same R up m h s st fs gs ef vs ws e)
   all-agree page FrameExpandTemplate = both_see _ _ (expand_template-same R up m h s st fs gs ef vs ws e)
   all-agree page FramePreprocess = both_see _ _ (preprocess-same R up m h s st fs gs ef vs ws e)
@@ -117,4 +132,3 @@ module _ {X Y : Type 0} (R : Map → X → Y → Type 0) (up : GrowsWith R) (m :
   all-agree page UstringGmatchStep = both_answer _ _ (behind_texts (iterators.ustring_gmatch_step-same R m h s st vs ws e))
   all-agree page GcodepointStep = both_answer _ _ (behind_texts (iterators.gcodepoint_step-same R m h s st vs ws e))
   all-agree page GsplitStep = both_answer _ _ (behind_texts (iterators.gsplit_step-same R m h s st vs ws e))
-  all-agree page which = neither_built

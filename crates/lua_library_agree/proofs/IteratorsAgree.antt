@@ -142,7 +142,7 @@ captures-same : {m : Map} (a : Letters) (t : Bytes) (k : Stand) (cs : List Captu
 captures-same a t k [] = none
 captures-same a t k (c ∷ cs) = more _ _ _ _ (capture-same a t k c) (captures-same a t k cs)
 
-whole-same : {m : Map} (a : Letters) (t : Bytes) (k : Stand) (whole : Bytes) (cs : List Capture) → Each (Same m) (whole_or a t k whole cs) (whole_or a t k whole cs)
+pub whole-same : {m : Map} (a : Letters) (t : Bytes) (k : Stand) (whole : Bytes) (cs : List Capture) → Each (Same m) (whole_or a t k whole cs) (whole_or a t k whole cs)
 whole-same a t k whole [] = one-each (text whole)
 whole-same a t k whole (c ∷ cs) = captures-same a t k (c ∷ cs)
 

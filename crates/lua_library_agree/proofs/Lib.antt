@@ -10,6 +10,7 @@ pub mod IteratorsAgree
 pub mod TableAgree
 pub mod UstringAgree
 pub mod TextsAgree
+pub mod GsubAgree
 pub mod HtmlAgree
 pub mod Agreements
 pub mod Homes

@@ -11,7 +11,7 @@ use Rattle.lua_meaning.specs.Acts.{Frame}
 use Rattle.lua_meaning.specs.Arguments.{PlainEnd, Gives, Fails, Plain, Argument}
 use Rattle.lua_meaning.specs.Frames.{Numbered}
 use Rattle.lua_meaning.specs.FrameMethods.{FramedEnd, FrameEnds, FrameAsks, FrameWalks, Framed}
-use Rattle.lua_meaning.specs.Libraries.{Caller, Form, Answers, InFrames, CallsBack, NotBuilt}
+use Rattle.lua_meaning.specs.Libraries.{Caller, Form, Answers, InFrames, CallsBack}
 
 -- the same frame: its table stands for the first one's
 pub record SameFrame (m : Map) (a b : Frame) : Type 0 where
@@ -61,4 +61,3 @@ module _ {X Y : Type 0} (R : Map → X → Y → Type 0) (m : Map) (h : Heap X) 
     both_answer : (a : Plain X) (b : Plain Y) → SamePlain a b → SameForm (Answers a) (Answers b)
     both_see : (a : Framed X) (b : Framed Y) → SameFramed a b → SameForm (InFrames a) (InFrames b)
     both_call : (caller : Caller) → SameForm (CallsBack caller) (CallsBack caller)
-    neither_built : SameForm NotBuilt NotBuilt

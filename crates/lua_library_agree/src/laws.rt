@@ -1,5 +1,6 @@
 //! The library does the same to two heaps (`specs/Laws.antt`).
 ghost use Rattle.lua_library_agree.specs.Laws.{LibraryAgrees, FieldsAgree, MetatablesAgree, HandlersAgree, EitherHandlersAgree, CommonHandlersAgree, MadeFramesAgree, HomesAgree, StrictAgrees, GraphsJoin};
+ghost use Rattle.lua_library_agree.specs.SameGsub.{GsubAgrees, SearchesAgree};
 
 use lua_heap::Content;
 
@@ -30,6 +31,12 @@ pub fn homes_agree<X: Content<Y>, Y>()
 /// `require('strict')` changes both heaps alike (Scribunto, strict).
 pub fn strict_agrees<X: Content<Y>, Y>()
     ensures { StrictAgrees X.stands_for }
+{}
+
+/// `gsub` answers alike in two heaps, or asks alike behind the same charge (manual 5.4).
+pub fn gsub_agrees<X: Content<Y>, Y>()
+    ensures forms { GsubAgrees X.stands_for }
+    ensures searches { SearchesAgree }
 {}
 
 /// The tables of a data module are put into both heaps (Scribunto, mw.loadData).

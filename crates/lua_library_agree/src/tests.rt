@@ -22,6 +22,7 @@ fn laws_are_called(_rt: HostRuntime) -> Result<(), Fail> {
     laws::made_frames_agree::<OneObject, OneObject>();
     laws::homes_agree::<OneObject, OneObject>();
     laws::strict_agrees::<OneObject, OneObject>();
+    laws::gsub_agrees::<OneObject, OneObject>();
     laws::graphs_join::<OneObject, OneObject>();
     Ok(())
 }

@@ -1,6 +1,7 @@
 pub mod MeaningLaws
 pub mod FrameLaws
 pub mod HtmlRoots
+pub mod GsubLaws
 pub mod ExampleChargesLaws
 pub mod ExampleCostsLaws
 pub mod ExampleValuesLaws
@@ -10,4 +11,7 @@ pub mod ExampleHandlersLaws
 pub mod ExampleFramesLaws
 pub mod ExampleModulesLaws
 pub mod ExampleLibrariesLaws
+pub mod ExampleGsubLaws
+pub mod ExampleReplacingLaws
 pub mod ExampleHtmlLaws
+pub mod ExampleMarkupLaws

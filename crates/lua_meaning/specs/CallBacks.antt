@@ -4,7 +4,7 @@ use Rattle.std.specs.Prelude.{ℤ, pos, ◌+ℤ◌, true, false, List, [], ◌�
 use Rattle.std.specs.Fmt.{signed_decimal}
 use Rattle.page_run.specs.Outcome.{Goes, Jumps, ◌>>=◌, give, jump}
 use Rattle.lua_number.specs.Whole.{fits}
-use Rattle.lua_heap.specs.Value.{Value, Nil, Truth, Number, Text, Table, Builtin, is_nil}
+use Rattle.lua_heap.specs.Value.{Value, Nil, Truth, Number, Text, Table, Builtin, Markup, is_nil}
 use Rattle.lua_heap.specs.Table.{get}
 use Rattle.lua_heap.specs.Heap.{table_at}
 use Rattle.lua_heap.specs.declared.library.Library.TheVariants.{BasicNext, IpairsStep}
@@ -13,7 +13,8 @@ use Rattle.lua_meaning.specs.Values.{kind_of, first, rest, second, third, text_i
 use Rattle.lua_meaning.specs.Acts.{Act, Raised, choose, see_heap}
 use Rattle.lua_meaning.specs.Messages.{fail}
 use Rattle.lua_meaning.specs.Metatables.{handler}
-use Rattle.lua_meaning.specs.Arguments.{a_table, a_number}
+use Rattle.lua_meaning.specs.Arguments.{plain_act, a_table, a_number}
+use Rattle.lua_meaning.specs.Html.{text_of_object}
 use Rattle.lua_meaning.specs.Waiting.{Waits, calling, for_values, argument, text_value}
 
 -- PROTECTED CALLS: `pcall(f, ...)`
@@ -61,10 +62,17 @@ string_given callers vs = do
 abbrev pub to_string_by : Value → Value → Levels → Act (List Value)
 to_string_by h v callers = choose (is_nil h) (text_value (text_of v)) (calling h (v ∷ []) (for_values (string_given callers)))
 
-abbrev pub to_string : List Value → Levels → Act (List Value)
-to_string args callers = do
+-- an object of mw.html is rendered
+abbrev pub to_string_of : Value → Levels → Act (List Value)
+to_string_of (Markup m) callers = do
   h ← see_heap
-  to_string_by (handler h (first args) (codes "__tostring")) (first args) callers
+  plain_act (text_of_object m h) callers
+to_string_of v callers = do
+  h ← see_heap
+  to_string_by (handler h v (codes "__tostring")) v callers
+
+abbrev pub to_string : List Value → Levels → Act (List Value)
+to_string args callers = to_string_of (first args) callers
 
 -- WALKS: `pairs(t)` and `ipairs(t)` give an iterator, a state and a first value
 abbrev pub three_of : List Value → Act (List Value)

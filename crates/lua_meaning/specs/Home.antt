@@ -1,10 +1,10 @@
 -- A FRESH ENVIRONMENT (manual 5; Scribunto, "Lua environment"): the heap with which each run begins, and nothing else in it.
--- The names stand in the order in which `next` goes through them. What is not built yet is absent.
+-- The names stand in the order in which `next` goes through them.
 use Rattle.std.specs.Prelude.{List, [], ◌∷◌, codes}
 use Rattle.lua_heap.specs.Value.{Nil, Text, Table}
 use Rattle.lua_heap.specs.Table.{Entries}
 use Rattle.lua_heap.specs.Heap.{Heap, empty}
-use Rattle.lua_heap.specs.declared.library.Library.TheVariants.{BasicAssert, BasicError, BasicGetMetatable, BasicSetMetatable, BasicIpairs, BasicPairs, BasicNext, BasicPcall, BasicXpcall, BasicRawEqual, BasicRawGet, BasicRawSet, BasicSelect, BasicToNumber, BasicToString, BasicType, BasicUnpack, BasicRequire, StringByte, StringChar, StringFind, StringMatch, StringGmatch, StringFormat, StringLen, StringLower, StringUpper, StringRep, StringReverse, StringSub, TableConcat, TableInsert, TableMaxn, TableRemove, TableSort, MathAbs, MathCeil, MathFloor, MathFmod, MathMax, MathMin, MathPow, UstringChar, UstringCodepoint, UstringGcodepoint, UstringByteOffset, UstringFind, UstringMatch, UstringGmatch, UstringLen, UstringSub, UstringIsUtf8, UstringToNfc, UstringToNfd, UstringToNfkc, UstringToNfkd, TextTrim, TextSplit, TextGsplit, TextEncode, TextDecode, TextListToText, TextNowiki, TextTag, TextTruncate, MwClone, MwLog, MwGetCurrentTitle, MwLoadData, MwGetCurrentFrame}
+use Rattle.lua_heap.specs.declared.library.Library.TheVariants.{BasicAssert, BasicError, BasicGetMetatable, BasicSetMetatable, BasicIpairs, BasicPairs, BasicNext, BasicPcall, BasicXpcall, BasicRawEqual, BasicRawGet, BasicRawSet, BasicSelect, BasicToNumber, BasicToString, BasicType, BasicUnpack, BasicRequire, StringByte, StringChar, StringFind, StringMatch, StringGmatch, StringGsub, StringFormat, StringLen, StringLower, StringUpper, StringRep, StringReverse, StringSub, TableConcat, TableInsert, TableMaxn, TableRemove, TableSort, MathAbs, MathCeil, MathFloor, MathFmod, MathMax, MathMin, MathPow, UstringChar, UstringCodepoint, UstringGcodepoint, UstringByteOffset, UstringFind, UstringMatch, UstringGmatch, UstringGsub, UstringLen, UstringSub, UstringIsUtf8, UstringToNfc, UstringToNfd, UstringToNfkc, UstringToNfkd, TextTrim, TextSplit, TextGsplit, TextEncode, TextDecode, TextListToText, TextNowiki, TextTag, TextTruncate, HtmlCreate, MwClone, MwLog, MwGetCurrentTitle, MwLoadData, MwGetCurrentFrame}
 use Rattle.lua_meaning.specs.Acts.{State}
 use Rattle.lua_meaning.specs.Frames.{function_entry, with_table}
 
@@ -45,6 +45,7 @@ strings =
     ∷ function_entry (codes "find") StringFind
     ∷ function_entry (codes "match") StringMatch
     ∷ function_entry (codes "gmatch") StringGmatch
+    ∷ function_entry (codes "gsub") StringGsub
     ∷ function_entry (codes "format") StringFormat
     ∷ function_entry (codes "len") StringLen
     ∷ function_entry (codes "lower") StringLower
@@ -64,6 +65,7 @@ mw =
     ∷ function_entry (codes "getCurrentFrame") MwGetCurrentFrame
     ∷ (Text (codes "ustring"), Table 6)
     ∷ (Text (codes "text"), Table 7)
+    ∷ (Text (codes "html"), Table 8)
     ∷ []
 
 -- `mw.title`: table 3
@@ -102,6 +104,7 @@ ustring =
     ∷ function_entry (codes "find") UstringFind
     ∷ function_entry (codes "match") UstringMatch
     ∷ function_entry (codes "gmatch") UstringGmatch
+    ∷ function_entry (codes "gsub") UstringGsub
     ∷ function_entry (codes "len") UstringLen
     ∷ function_entry (codes "sub") UstringSub
     ∷ function_entry (codes "isutf8") UstringIsUtf8
@@ -125,6 +128,10 @@ text =
     ∷ function_entry (codes "truncate") TextTruncate
     ∷ []
 
+-- `mw.html`: table 8
+abbrev pub html : Entries
+html = function_entry (codes "create") HtmlCreate ∷ []
+
 -- these tables one after another, with no metatables
 abbrev pub with_tables : {X : Type 0} → Heap X → List Entries → Heap X
 with_tables h [] = h
@@ -132,7 +139,7 @@ with_tables h (es ∷ more) = with_tables (with_table h es Nil) more
 
 -- all of them
 abbrev pub home_tables : List Entries
-home_tables = globals ∷ strings ∷ mw ∷ mw_title ∷ tables ∷ math ∷ ustring ∷ text ∷ []
+home_tables = globals ∷ strings ∷ mw ∷ mw_title ∷ tables ∷ math ∷ ustring ∷ text ∷ html ∷ []
 
 abbrev pub home_heap : {X : Type 0} → Heap X
 home_heap = with_tables empty home_tables

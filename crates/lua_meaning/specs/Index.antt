@@ -13,6 +13,7 @@ use Rattle.lua_meaning.specs.Acts.{Act, IndexLink, SetLink, choose, one, see_hea
 use Rattle.lua_meaning.specs.Messages.{fail, cannot_index, nil_key, read_only}
 use Rattle.lua_meaning.specs.Metatables.{handler}
 use Rattle.lua_meaning.specs.Calls.{call}
+use Rattle.lua_meaning.specs.Html.{field_of_object}
 
 -- READING. Where the key is absent, the handler is asked, which is a link of a chain.
 abbrev pub index_by : Value → Value → Value → Levels → Act (List Value)
@@ -25,13 +26,13 @@ index_table t key ls = do
       (index_by (handler h (Table t) (codes "__index")) (Table t) key ls)
       (give (get (table_at h t).entries key ∷ []))
 
--- A string is indexed in the table of the functions for strings. The fields of an object of mw.html are its methods, none so far.
+-- A string is indexed in the table of the functions for strings. The fields of an object of mw.html are its methods.
 abbrev pub index_all : Value → Value → Levels → Act (List Value)
 index_all (Table t) key ls = index_table t key ls
 index_all (Text text) key ls = do
   s ← see
   index_table s.strings key ls
-index_all (Markup m) key ls = give (Nil ∷ [])
+index_all (Markup m) key ls = give (field_of_object key ∷ [])
 index_all v key ls = fail ls (cannot_index v)
 
 -- what a link means: a handler that is a function is called with the object and the key, another one is indexed in turn

@@ -36,6 +36,7 @@ pub mod HtmlNodes
 pub mod Html
 pub mod Waiting
 pub mod CallBacks
+pub mod Gsub
 pub mod Modules
 pub mod Pending
 pub mod Libraries
@@ -53,4 +54,7 @@ pub mod ExampleHandlers
 pub mod ExampleFrames
 pub mod ExampleModules
 pub mod ExampleLibraries
+pub mod ExampleGsub
+pub mod ExampleReplacing
 pub mod ExampleHtml
+pub mod ExampleMarkup

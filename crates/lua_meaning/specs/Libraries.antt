@@ -8,7 +8,6 @@ use Rattle.lua_heap.specs.declared.library.Library.TheVariants.{BasicAssert, Bas
 use Rattle.lua_meaning.specs.World.{World}
 use Rattle.lua_meaning.specs.Scope.{Function, Levels}
 use Rattle.lua_meaning.specs.Acts.{Act, Frame}
-use Rattle.lua_meaning.specs.Messages.{fail, not_built}
 use Rattle.lua_meaning.specs.Arguments.{Plain, plain_act, end_act}
 use Rattle.lua_meaning.specs.Basic.{assert, error, get_metatable, set_metatable, raw_equal, raw_get, raw_set, select, to_number, kind, unpack, next}
 use Rattle.lua_meaning.specs.Mw.{log, clone, get_current_title}
@@ -20,17 +19,20 @@ use Rattle.lua_meaning.specs.TableLibrary as tables
 use Rattle.lua_meaning.specs.TextArguments.{of_texts}
 use Rattle.lua_meaning.specs.Ustring as ustring
 use Rattle.lua_meaning.specs.Texts as texts
+use Rattle.lua_meaning.specs.Html as html
 use Rattle.lua_meaning.specs.Iterators as iterators
 use Rattle.lua_meaning.specs.Frames.{args_index, argument_expand}
 use Rattle.lua_meaning.specs.FrameMethods.{FramedEnd, FrameEnds, FrameAsks, FrameWalks, Framed, get_current_frame, get_title, get_parent, argument_pairs, get_argument, preprocess, frame_extension_tag, expand_template, new_child}
 use Rattle.lua_meaning.specs.Waiting.{asking}
 use Rattle.lua_meaning.specs.CallBacks.{pcall, xpcall, to_string, pairs, ipairs, ipairs_step}
+use Rattle.lua_meaning.specs.Gsub.{Alphabet, OfBytes, OfPoints, gsub}
 use Rattle.lua_meaning.specs.Modules.{strict_index, strict_new_index, require, load_data}
 use Rattle.lua_meaning.specs.Pending.{hears}
 
 -- the functions that call back, or see more of a run than its heap and its frames
 pub data Caller : Type 0 where
   Pcall Xpcall ToString Pairs Ipairs NextPlace Require LoadData : Caller
+  Gsub : (alphabet : Alphabet) → Caller
 
 -- WHAT A FUNCTION DOES with its arguments, in a heap and with the frames of a run, whatever the functions in the heap hold
 pub data Form (X : Type 0) : Type 0 where
@@ -40,8 +42,6 @@ pub data Form (X : Type 0) : Type 0 where
   InFrames : (framed : Framed X) → Form X
   -- it is said below
   CallsBack : (caller : Caller) → Form X
-  -- it is not built yet: it stands in no environment, and is refused
-  NotBuilt : Form X
 
 -- THE TABLE
 abbrev pub form : {X : Type 0} → World → Library → List Value → Heap X → List Frame → Form X
@@ -68,7 +68,7 @@ form world StringChar args h frames = Answers (strings.char_of args h)
 form world StringFind args h frames = Answers (searches.find args h)
 form world StringMatch args h frames = Answers (searches.match_from args h)
 form world StringGmatch args h frames = Answers (iterators.gmatch args h)
-form world StringGsub args h frames = NotBuilt
+form world StringGsub args h frames = CallsBack (Gsub OfBytes)
 form world StringFormat args h frames = Answers (formats.format args h)
 form world StringLen args h frames = Answers (strings.len args h)
 form world StringLower args h frames = Answers (strings.lower args h)
@@ -100,7 +100,7 @@ form world UstringByteOffset args h frames = Answers (of_texts ustring.byteoffse
 form world UstringFind args h frames = Answers (of_texts ustring.find args h)
 form world UstringMatch args h frames = Answers (of_texts ustring.match_from args h)
 form world UstringGmatch args h frames = Answers (of_texts iterators.ustring_gmatch args h)
-form world UstringGsub args h frames = NotBuilt
+form world UstringGsub args h frames = CallsBack (Gsub OfPoints)
 form world UstringLen args h frames = Answers (of_texts ustring.len args h)
 form world UstringSub args h frames = Answers (of_texts ustring.sub args h)
 form world UstringIsUtf8 args h frames = Answers (of_texts ustring.isutf8 args h)
@@ -117,18 +117,18 @@ form world TextListToText args h frames = Answers (of_texts texts.list_to_text a
 form world TextNowiki args h frames = Answers (of_texts texts.nowiki args h)
 form world TextTag args h frames = Answers (of_texts texts.tag args h)
 form world TextTruncate args h frames = Answers (of_texts texts.truncate args h)
-form world HtmlCreate args h frames = NotBuilt
-form world HtmlNode args h frames = NotBuilt
-form world HtmlWikitext args h frames = NotBuilt
-form world HtmlNewline args h frames = NotBuilt
-form world HtmlAttr args h frames = NotBuilt
-form world HtmlAddClass args h frames = NotBuilt
-form world HtmlCss args h frames = NotBuilt
-form world HtmlCssText args h frames = NotBuilt
-form world HtmlTag args h frames = NotBuilt
-form world HtmlDone args h frames = NotBuilt
-form world HtmlAllDone args h frames = NotBuilt
-form world HtmlGetAttr args h frames = NotBuilt
+form world HtmlCreate args h frames = Answers (of_texts html.create args h)
+form world HtmlNode args h frames = Answers (of_texts html.node args h)
+form world HtmlWikitext args h frames = Answers (of_texts html.wikitext args h)
+form world HtmlNewline args h frames = Answers (of_texts html.newline args h)
+form world HtmlAttr args h frames = Answers (of_texts html.attr args h)
+form world HtmlAddClass args h frames = Answers (of_texts html.add_class args h)
+form world HtmlCss args h frames = Answers (of_texts html.css args h)
+form world HtmlCssText args h frames = Answers (of_texts html.css_text args h)
+form world HtmlTag args h frames = Answers (of_texts html.tag args h)
+form world HtmlDone args h frames = Answers (of_texts html.done args h)
+form world HtmlAllDone args h frames = Answers (of_texts html.all_done args h)
+form world HtmlGetAttr args h frames = Answers (of_texts html.get_attr args h)
 form world FrameGetParent args h frames = InFrames (get_parent h frames args)
 form world FrameExpandTemplate args h frames = InFrames (expand_template h frames args)
 form world FramePreprocess args h frames = InFrames (preprocess h frames args)
@@ -170,13 +170,13 @@ call_back world Ipairs args callers = ipairs args callers
 call_back world NextPlace args callers = ipairs_step args callers
 call_back world Require args callers = require world args callers
 call_back world LoadData args callers = load_data args callers
+call_back world (Gsub alphabet) args callers = gsub alphabet args callers
 
 -- A FUNCTION OF THE LIBRARY, with the levels of an error at its entry
 abbrev pub do_form : World → Form Function → List Value → Levels → Act (List Value)
 do_form world (Answers plain) args callers = plain_act plain callers
 do_form world (InFrames framed) args callers = framed_act framed callers
 do_form world (CallsBack caller) args callers = call_back world caller args callers
-do_form world NotBuilt args callers = fail callers not_built
 
 abbrev pub library : World → Library → List Value → Levels → Act (List Value)
 library world which args callers = do

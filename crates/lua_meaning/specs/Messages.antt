@@ -72,9 +72,6 @@ nil_key = codes "table index is nil"
 abbrev pub read_only : Bytes
 read_only = codes "table from mw.loadData is read-only"
 
-abbrev pub not_built : Bytes
-not_built = codes "this function is not built"
-
 abbrev pub no_target : Bytes
 no_target = codes "cannot assign to this expression"
 

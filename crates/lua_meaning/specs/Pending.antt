@@ -8,6 +8,7 @@ use Rattle.lua_meaning.specs.Questions.{Asked, TemplateAsked, TextAsked, DataAsk
 use Rattle.lua_meaning.specs.Messages.{fail, no_template}
 use Rattle.lua_meaning.specs.Waiting.{Waits, for_values, refuse_answer, text_value}
 use Rattle.lua_meaning.specs.CallBacks.{pcall_answer, xpcall_answer, handler_answer, string_given, three_of}
+use Rattle.lua_meaning.specs.Gsub.{Replacing, gsub_answer}
 use Rattle.lua_meaning.specs.Modules.{module_answer, data_answer}
 
 -- WHAT WAITS FOR A CALL
@@ -19,6 +20,8 @@ pub data Pending : Type 0 where
   -- `__tostring`; `__pairs` and `__ipairs`
   ToStringWaits : Pending
   PairsWaits : Pending
+  -- the replacement of a match in `gsub`
+  GsubWaits : (replacing : Replacing) → Pending
   -- the text of a module
   ModuleWaits : (title : Title) → Pending
 
@@ -29,6 +32,7 @@ resumes (XpcallWaits h) callers = xpcall_answer h
 resumes HandlerWaits callers = handler_answer
 resumes ToStringWaits callers = for_values (string_given callers)
 resumes PairsWaits callers = for_values three_of
+resumes (GsubWaits w) callers = gsub_answer w callers
 resumes (ModuleWaits title) callers = module_answer title
 
 -- WHAT WAITS FOR AN ANSWER. A text costs its bytes.

@@ -7,7 +7,8 @@ use Rattle.page_run.specs.Run.{Ends}
 use Rattle.page_run.specs.Outcome.{Outcome, Goes, Jumps, ◌>>=◌, ◌>>◌, give, tick, see, change}
 use Rattle.page_run.specs.State.{Reply, Event, start}
 use Rattle.page_run.specs.Perform.{perform, wait}
-use Rattle.lua_heap.specs.Value.{Value, Text, Table, is_nil}
+use Rattle.mw_html.specs.Render.{Piece, Whole, Deep, count, render}
+use Rattle.lua_heap.specs.Value.{Value, Text, Table, Markup, is_nil}
 use Rattle.lua_meaning.specs.Charges.{run_charge}
 use Rattle.lua_meaning.specs.Scope.{Bytes}
 use Rattle.lua_meaning.specs.World.{Module, World}
@@ -19,6 +20,7 @@ use Rattle.lua_meaning.specs.Acts.{Act, LuaRun, Jump, Raised, State, Unmade, cho
 use Rattle.lua_meaning.specs.Messages.{fail, no_data_module}
 use Rattle.lua_meaning.specs.Metatables.{handler}
 use Rattle.lua_meaning.specs.Calls.{call}
+use Rattle.lua_meaning.specs.Html.{nested_too_deeply}
 use Rattle.lua_meaning.specs.Index.{index}
 use Rattle.lua_meaning.specs.CallBacks.{text_of, string_or_fail}
 use Rattle.lua_meaning.specs.Frames.{args_charge, make_frame, frame_table, new_frame}
@@ -44,13 +46,26 @@ begin_frame job = do
   change (record s { heap = make_frame job.scene 0 s.heap; frames = new_frame s.heap job.scene (Unmade job.parent) ∷ [] })
   give (frame_table s.heap)
 
--- THE ANSWER: each value's text, as `tostring` gives it and without its charge, one after another; the whole costs its length
+-- THE ANSWER: each value's text, as `tostring` gives it and without its charge, one after another; the whole costs its length. The
+-- rendering of an object of mw.html costs what it does in `tostring`.
 abbrev pub text_by : Value → Value → Act Bytes
 text_by h v = choose (is_nil h) (give (text_of v)) (do
   vs ← call h (v ∷ []) []
   string_or_fail [] (text_in (first vs)))
 
+abbrev pub whole_or_fail : Piece → Act Bytes
+whole_or_fail (Whole bytes begun) = give bytes
+whole_or_fail (Deep bytes begun) = fail [] nested_too_deeply
+
+abbrev pub rendered : Piece → Act Bytes
+rendered p = do
+  tick (count p)
+  whole_or_fail p
+
 abbrev pub answer_text : Value → Act Bytes
+answer_text (Markup m) = do
+  h ← see_heap
+  rendered (render h.markup m)
 answer_text v = do
   h ← see_heap
   text_by (handler h v (codes "__tostring")) v

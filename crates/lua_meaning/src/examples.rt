@@ -9,7 +9,10 @@ ghost use Rattle.lua_meaning.specs.ExampleHandlers.{AllHandlers};
 ghost use Rattle.lua_meaning.specs.ExampleFrames.{AllFrames};
 ghost use Rattle.lua_meaning.specs.ExampleModules.{AllModules};
 ghost use Rattle.lua_meaning.specs.ExampleLibraries.{AllLibraries};
+ghost use Rattle.lua_meaning.specs.ExampleGsub.{AllReplacements};
+ghost use Rattle.lua_meaning.specs.ExampleReplacing.{AllReplacing};
 ghost use Rattle.lua_meaning.specs.ExampleHtml.{AllObjects};
+ghost use Rattle.lua_meaning.specs.ExampleMarkup.{AllMarkup};
 
 /// Charges of whole runs, worked out by hand, and how runs end.
 pub fn charges()
@@ -56,7 +59,22 @@ pub fn libraries()
     ensures { AllLibraries }
 {}
 
+/// Calls of `gsub` with a text, with their charges.
+pub fn replacements()
+    ensures { AllReplacements }
+{}
+
+/// Modules that use `gsub`, and what that costs.
+pub fn replacing()
+    ensures { AllReplacing }
+{}
+
 /// Objects of `mw.html`, by calls of their functions.
 pub fn objects()
     ensures { AllObjects }
+{}
+
+/// Objects of `mw.html`, through the environment.
+pub fn markup()
+    ensures { AllMarkup }
 {}

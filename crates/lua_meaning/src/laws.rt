@@ -1,5 +1,6 @@
 //! The laws of the meaning: `specs/Laws.antt` says them.
 ghost use Rattle.lua_meaning.specs.Laws.{ThingsUnfold, ExpressionsAreNodes, StatementsAreNodes, TargetNamesAreNone, TurnsAreCounted, EntriesAreCounted, CallsAreGivenBack, MoreChangesNothing, EndsAreTold, CallsAreNamed, ModulesAreNamed, QuestionsAreNamed, TablesAreJoined, FramesAreNeeded};
+ghost use Rattle.lua_meaning.specs.Gsub.{FilledIsReplaced, GsubIsNamed, MatchesGoOn};
 ghost use Rattle.lua_meaning.specs.HtmlNodes.{RootsAreFound};
 
 /// A thing that begins takes one step and does what it means; where no step is left, the run is spent. This is the meaning of
@@ -44,6 +45,7 @@ pub fn more_changes_nothing()
 pub fn waits_are_named()
     ensures calls { CallsAreNamed }
     ensures modules { ModulesAreNamed }
+    ensures replacements { GsubIsNamed }
     ensures questions { QuestionsAreNamed }
 {}
 
@@ -67,4 +69,15 @@ pub fn frames_are_needed()
 /// The root above an object of `mw.html` is what any walk from parent to parent comes to.
 pub fn roots_are_found()
     ensures { RootsAreFound }
+{}
+
+/// What a replacement text stands for in `gsub` is what `lua_string` makes of it.
+pub fn filled_is_replaced()
+    ensures { FilledIsReplaced }
+{}
+
+/// What waits for a match of `gsub` goes on with its job, and with one match fewer.
+#[tactic(auto, using(crate::proofs::GsubLaws::matches_go_on))]
+pub fn matches_go_on()
+    ensures { MatchesGoOn }
 {}

@@ -13,11 +13,13 @@
 //! - `Arguments`, `Basic`, `Frames`, `Tag`, `FrameMethods`, `Mw`: functions of the library over any heap
 //! - `Checks`, `Strings`, `Searches`, `Formats`, `Numbers`, `Iterators`, `TableLibrary`, `TextArguments`, `Ustring`, `Texts`: those of
 //!   `string`, `math`, `table`, `mw.ustring` and `mw.text`
-//! - `Waiting`, `CallBacks`, `Modules`, `Pending`: functions that call, ask or run modules, and the tables of what waits
+//! - `HtmlNodes`, `Html`: objects of `mw.html`
+//! - `Waiting`, `CallBacks`, `Gsub`, `Modules`, `Pending`: functions that call, ask or run modules, and the tables of what waits
 //! - `Libraries`, `Home`, `Things`: a line for each function of the library, the fresh environment, a line for each thing
 //! - `Start`: a whole run from its start to its end
 //! - `Laws`, and the worked examples `ExampleCharges`, `ExampleCosts`, `ExampleValues`, `ExampleStatements`,
-//!   `ExampleFunctions`, `ExampleHandlers`, `ExampleFrames`, `ExampleModules`, `ExampleLibraries`, which are written with `Trial`
+//!   `ExampleFunctions`, `ExampleHandlers`, `ExampleFrames`, `ExampleModules`, `ExampleLibraries`, `ExampleReplacing`, `ExampleMarkup`, which
+//!   are written with `Trial`; `ExampleGsub` and `ExampleHtml`: calls of `gsub`, and of the functions of `mw.html`
 //!
 //! In a `do` block each line is one step: `x ← part` names the value that a part gives. Where a part jumps (an error, a
 //! `return`, a `break`), the lines after it are passed over, up to what catches the jump.

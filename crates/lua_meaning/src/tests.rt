@@ -15,6 +15,8 @@ fn laws_are_called(_rt: HostRuntime) -> Result<(), Fail> {
     laws::frames_are_needed();
     laws::ends_are_told();
     laws::roots_are_found();
+    laws::filled_is_replaced();
+    laws::matches_go_on();
     examples::charges();
     examples::costs();
     examples::values();
@@ -24,6 +26,9 @@ fn laws_are_called(_rt: HostRuntime) -> Result<(), Fail> {
     examples::frames();
     examples::modules();
     examples::libraries();
+    examples::replacements();
+    examples::replacing();
     examples::objects();
+    examples::markup();
     Ok(())
 }

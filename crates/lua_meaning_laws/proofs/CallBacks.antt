@@ -2,7 +2,7 @@
 use Rattle.std.specs.Prelude.{ℤ, pos, ◌+ℤ◌, codes, true, List, [], ◌∷◌, Option, Some, None, Ok, Err}
 use Rattle.page_run.specs.Outcome.{Outcome, Goes, Jumps}
 use Rattle.mw_frame.specs.declared.question.Ask.{Ask}
-use Rattle.lua_heap.specs.Value.{Value, Nil, Number, Table, Builtin}
+use Rattle.lua_heap.specs.Value.{Value, Nil, Number, Table, Builtin, Markup}
 use Rattle.lua_heap.specs.declared.library.Library.TheVariants.{BasicNext, IpairsStep}
 use Rattle.lua_heap.specs.Graph.{join, joined_root}
 use Rattle.lua_heap.specs.Table.{get}
@@ -14,6 +14,7 @@ use Rattle.lua_meaning.specs.Metatables.{handler}
 use Rattle.lua_number.specs.Whole.{fits}
 use Rattle.lua_meaning.specs.Acts.{Act, Jump, Raised}
 use Rattle.lua_meaning.specs.Arguments.{Argument, a_table, a_number}
+use Rattle.lua_meaning.specs.Html.{text_of_object}
 use Rattle.lua_meaning.specs.Waiting as waiting
 use Rattle.lua_meaning.specs.Waiting.{Waits}
 use Rattle.lua_meaning.specs.CallBacks as functions
@@ -21,12 +22,13 @@ use Rattle.lua_meaning_laws.specs.Laws.{IsForData}
 use Rattle.lua_meaning_laws.proofs.OnlyData.{Quiet, ◌>>=◌, ◌>>◌, give, jump, catch, raise, tick, ask, choose}
 use Rattle.lua_meaning_laws.proofs.Heaps.{see_heap, change_heap, fail}
 use Rattle.lua_meaning_laws.proofs.Calls.{call}
+use Rattle.lua_meaning_laws.proofs.Answers.{plain_act}
 
 -- WHAT WAITS
 pub calling : {waits : Waits} → (f : Value) (args : List Value) → ((o : Outcome (List Value) Jump) → Quiet (waits o)) → Quiet (waiting.calling f args waits)
 calling f args waits = catch (call f args []) waits
 
-for_values : {f : List Value → Act (List Value)} → ((vs : List Value) → Quiet (f vs)) → (o : Outcome (List Value) Jump) → Quiet (waiting.for_values f o)
+pub for_values : {f : List Value → Act (List Value)} → ((vs : List Value) → Quiet (f vs)) → (o : Outcome (List Value) Jump) → Quiet (waiting.for_values f o)
 for_values f (Goes vs) = f vs
 for_values f (Jumps j) = jump j
 
@@ -92,10 +94,16 @@ string_given callers vs = do
 to_string_by : (h v : Value) (callers : Levels) → Quiet (functions.to_string_by h v callers)
 to_string_by h v callers = choose _ (text_value _) (calling h _ (for_values (string_given callers)))
 
-pub to_string : (args : List Value) (callers : Levels) → Quiet (functions.to_string args callers)
-to_string args callers = do
+to_string_of : (v : Value) (callers : Levels) → Quiet (functions.to_string_of v callers)
+to_string_of (Markup m) callers = do
   h ← see_heap
-  to_string_by (handler h (first args) (codes "__tostring")) (first args) callers
+  plain_act (text_of_object m h) callers
+to_string_of v callers = do
+  h ← see_heap
+  to_string_by (handler h v (codes "__tostring")) v callers
+
+pub to_string : (args : List Value) (callers : Levels) → Quiet (functions.to_string args callers)
+to_string args callers = to_string_of (first args) callers
 
 -- WALKS
 three_of : (vs : List Value) → Quiet (functions.three_of vs)

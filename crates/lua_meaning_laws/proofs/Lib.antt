@@ -6,7 +6,9 @@ pub mod Expressions
 pub mod Statements
 pub mod Loops
 pub mod Tree
+pub mod Answers
 pub mod CallBacks
+pub mod Replacing
 pub mod Modules
 pub mod Things
 pub mod Runs

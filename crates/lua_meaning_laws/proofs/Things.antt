@@ -6,38 +6,27 @@ use Rattle.lua_syntax.specs.Tree.{Block}
 use Rattle.lua_heap.specs.declared.library.Library.{Library}
 use Rattle.lua_heap.specs.Value.{Value}
 use Rattle.lua_meaning.specs.Scope.{Bytes, Scope, Function, Levels}
-use Rattle.lua_meaning.specs.Messages.{place_at, not_built}
 use Rattle.lua_meaning.specs.World.{World}
 use Rattle.lua_meaning.specs.Acts.{Jump, Returned, Frame, Thing, WhileTurn, RepeatTurn, CountTurn, EachTurn, Body, LibraryBody, ChunkBody, IndexLink, SetLink, CallLink}
-use Rattle.lua_meaning.specs.Arguments as arguments
-use Rattle.lua_meaning.specs.Arguments.{Plain, PlainEnd, Gives, Fails}
 use Rattle.lua_meaning.specs.FrameMethods.{Framed, FramedEnd, FrameEnds, FrameAsks, FrameWalks}
 use Rattle.lua_meaning.specs.Laws.{AsksNothing, NeedsNoFrame}
 use Rattle.lua_meaning.specs.Libraries as libraries
-use Rattle.lua_meaning.specs.Libraries.{Caller, Pcall, Xpcall, ToString, Pairs, Ipairs, NextPlace, Require, LoadData, Form, Answers, InFrames, CallsBack, NotBuilt, form}
+use Rattle.lua_meaning.specs.Libraries.{Caller, Pcall, Xpcall, ToString, Pairs, Ipairs, NextPlace, Require, LoadData, Gsub, Form, Answers, InFrames, CallsBack, form}
 use Rattle.lua_meaning.specs.Meaning.{params_of, exp_part, block_part}
 use Rattle.lua_meaning.specs.Things as things
 use Rattle.lua_meaning.specs.Things.{body_scope, chunk_scope}
 use Rattle.lua_meaning.proofs.FrameLaws.{frames_are_needed}
 use Rattle.lua_meaning_laws.proofs.OnlyData.{Quiet, ◌>>=◌, ◌>>◌, give, jump, catch, tick, count, in_call, look, change}
-use Rattle.lua_meaning_laws.proofs.Heaps.{change_heap, raise_at, fail, declare}
+use Rattle.lua_meaning_laws.proofs.Heaps.{declare}
 use Rattle.lua_meaning_laws.proofs.Calls.{call, index_link, set_link}
 use Rattle.lua_meaning_laws.proofs.Loops.{while_turn, repeat_turn, count_turn, each_turn}
 use Rattle.lua_meaning_laws.proofs.Tree.{expression, block, body_of}
 use Rattle.lua_meaning_laws.proofs.CallBacks.{pcall, xpcall, to_string, pairs, ipairs, ipairs_step}
+use Rattle.lua_meaning_laws.proofs.Answers.{end_act, plain_act}
+use Rattle.lua_meaning_laws.proofs.Replacing.{gsub}
 use Rattle.lua_meaning_laws.proofs.Modules.{require, load_data}
 
 -- FUNCTIONS OF THE LIBRARY
-end_act : (end : PlainEnd) (callers : Levels) → Quiet (arguments.end_act end callers)
-end_act (Gives vs) callers = give vs
-end_act (Fails v level) callers = raise_at (place_at callers level) v
-
-plain_act : (p : Plain Function) (callers : Levels) → Quiet (arguments.plain_act p callers)
-plain_act p callers = do
-  tick p.charge
-  change_heap p.heap
-  end_act p.end callers
-
 framed_end : (end : FramedEnd) → AsksNothing end → (callers : Levels) → Quiet (libraries.framed_end end callers)
 framed_end (FrameEnds end) nothing callers = end_act end callers
 framed_end (FrameAsks question asked) nothing callers = absurd nothing
@@ -57,12 +46,12 @@ call_back world Ipairs args callers = ipairs args callers
 call_back world NextPlace args callers = ipairs_step args callers
 call_back world Require args callers = require world args callers
 call_back world LoadData args callers = load_data args callers
+call_back world (Gsub alphabet) args callers = gsub alphabet args callers
 
 do_form : (world : World) (f : Form Function) → NeedsNoFrame f → (args : List Value) (callers : Levels) → Quiet (libraries.do_form world f args callers)
 do_form world (Answers plain) needs args callers = plain_act plain callers
 do_form world (InFrames framed) needs args callers = framed_act framed needs callers
 do_form world (CallsBack caller) needs args callers = call_back world caller args callers
-do_form world NotBuilt needs args callers = fail callers not_built
 
 library : (world : World) (which : Library) (args : List Value) (callers : Levels) → Quiet (libraries.library world which args callers)
 library world which args callers =

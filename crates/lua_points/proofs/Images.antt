@@ -13,14 +13,16 @@ use Rattle.lua_heap.proofs.Carried.{each-names, value-image, values-image}
 use Rattle.lua_meaning.specs.Scope.{Scope, Function}
 use Rattle.lua_meaning.specs.Acts.{Jump, Thing, LuaRun, Progress, Frame}
 use Rattle.lua_meaning.specs.Parts.{Target}
+use Rattle.lua_meaning.specs.Gsub.{Replacement, replacement_value, Job}
 use Rattle.lua_meaning.specs.Pending.{Pending}
 use Rattle.lua_meaning.specs.Titled.{ByTitle}
 use Rattle.lua_slots.specs.Code.{CExp, CWorld}
 use Rattle.lua_slots.specs.Slots.{Slot, Activation}
 use Rattle.lua_slots.specs.Points.{STarget, SThing, SFrame, Point}
 use Rattle.lua_library_agree.specs.Same.{SameFrame}
+use Rattle.lua_library_agree.specs.SameGsub.{SameReplacement, same_text, same_table, same_function, SameJob, same_job}
 use Rattle.lua_agree.specs.Variables.{Var, Vars, vnone, vplain, vboxed, Held, HeldFunction}
-use Rattle.lua_agree.specs.Values.{SameJump, returned, broke, raised, SameOutcome, values_, jumps_, SameTarget, places, globals_, entries_, SameSet, SamePending, pcalls, xpcalls, handlers, to_strings, walks, modules, SameProgress, running, finished, SameTitled}
+use Rattle.lua_agree.specs.Values.{SameJump, returned, broke, raised, SameOutcome, values_, jumps_, SameTarget, places, globals_, entries_, SameSet, SamePending, pcalls, xpcalls, handlers, to_strings, walks, replacings, modules, SameProgress, running, finished, SameTitled}
 use Rattle.lua_agree.specs.Functions.{SameFunction}
 use Rattle.lua_agree.specs.Rests.{After, SameRest, SameEnd, at_end, at_first, at_verdict, at_key, at_index, at_decide, at_operand, at_operate, at_unary, at_arguments, at_call, at_method_of, at_method, at_last, at_more, at_last_item, at_item, at_pair, at_pair_value, at_fields, at_items, at_target_key, at_target, at_assign, at_sets, at_declare, at_stats, at_branch, at_return, at_while, at_test, at_count_from, at_count_to, at_count_by, at_each_values, at_each_next, at_library, at_wait, at_hearing, at_module, at_function, at_answer, at_text, at_data, ends_block, ends_body, ends_while, ends_repeat, ends_count, ends_each}
 use Rattle.lua_agree.specs.Agree.{SameThing, while_turns, repeat_turns, count_turns, each_turns, bodies, texts_of, libraries, index_links, set_links, call_links, SamePoint, gives, jumps, ends, evaluates, lists, finds, sets, runs, starts, texts, asks, works}
@@ -65,12 +67,21 @@ module _ (m : Map) (S : Set) (f : (q r : Ref) → m.to q ≡ Some r → IsTrue (
   outcome-image (values_ vs ws e) = values-image m S f vs ws e
   outcome-image (jumps_ j j' e) = jump-image e
 
+  replacement-image : {x y : Replacement} → SameReplacement m x y → AllIn S (value_names (replacement_value y))
+  replacement-image (same_text t) = tt
+  replacement-image (same_table a b e) = value-image m S f (Table a) (Table b) e
+  replacement-image (same_function v w e) = value-image m S f v w e
+
+  job-image : {x y : Job} → SameJob m x y → AllIn S (value_names (replacement_value y.by))
+  job-image (same_job a t anchored items slots x y e) = replacement-image e
+
   pending-image : {p q : Pending} → SamePending m p q → AllIn S (pending_names q)
   pending-image pcalls = tt
   pending-image (xpcalls h h' e) = value-image m S f h h' e
   pending-image handlers = tt
   pending-image to_strings = tt
   pending-image walks = tt
+  pending-image (replacings x y limit far whole e) = job-image e
   pending-image (modules title) = tt
 
   -- what is kept of the run

@@ -1,4 +1,5 @@
 pub mod Parts
 pub mod Behind
+pub mod Objects
 pub mod Sums
 pub mod Starting

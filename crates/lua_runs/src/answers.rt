@@ -1,13 +1,15 @@
 //! The text of an answer (Scribunto, "Invoking modules"): each value's text as `tostring` gives it, one after another.
-ghost use Rattle.std.specs.Prelude.{◌≡◌, ◌++◌, ◌∷◌, [], None, length, IfOk, MatchOption};
+ghost use Rattle.std.specs.Prelude.{◌≡◌, ◌++◌, ◌∷◌, [], None, codes, length, IfOk, MatchOption};
 ghost use Rattle.page_run.specs.Outcome.{Goes};
 ghost use Rattle.wk_base.specs.declared.left.Left.{Left as Allowance};
+ghost use Rattle.mw_html.specs.Render.{render};
 ghost use Rattle.lua_meaning.specs.CallBacks.{text_of as plain_text};
+ghost use Rattle.lua_meaning.specs.Metatables.{handler as handler_of};
 ghost use Rattle.lua_meaning.specs.Start.{Done};
 ghost use Rattle.lua_slots.specs.Calls as calls;
 ghost use Rattle.lua_slots.specs.Points as point;
 ghost use Rattle.lua_slots.specs.Starts as starts;
-ghost use Rattle.lua_store.specs.Parts.{IsOf, IsTextOf};
+ghost use Rattle.lua_store.specs.Parts.{IsMarkupOf, IsOf, IsTextOf};
 ghost use Rattle.lua_store.specs.Seen.{seen, text_at};
 ghost use Rattle.lua_stack.specs.Of.{ValuesOf, TextsOf};
 ghost use Rattle.lua_stack.specs.Seen.{values_seen, joined_seen};
@@ -16,14 +18,16 @@ ghost use Rattle.lua_state.specs.Makes.{Makes};
 ghost use Rattle.lua_state.specs.Of.{StateOf};
 ghost use Rattle.lua_state.specs.Seen.{frames_of, slots_of};
 
-use crate::ends::done;
+use crate::ends::{done, too_deep};
 use crate::html::append;
 use lua_arms::calls::call;
 use lua_arms::tables::handler;
+use lua_basic::objects::object;
 use lua_stack::values::is_nil;
 use lua_stack::{Focus, Frame, InRun, Values};
 use lua_state::{State, Turn, finish, pay};
-use lua_store::{Store, TextId, Value};
+use lua_store::{MarkupId, Store, TextId, Value};
+use mw_html_texts::{ObjectText, object_text};
 use page_run::Which;
 use std::alloc::Global;
 use wk_base::{Left, List, NoMemory};
@@ -137,7 +141,65 @@ fn ask<'m>(
     Ok(turn)
 }
 
-/// The first of some values, in its place: its handler is called, or its own text is taken.
+/// The first of some values, in its place, where it is no object: its handler is called, or its own text is taken.
+fn text_by<'m>(
+    alloc: Global,
+    store: &mut Store,
+    left: &mut Left,
+    state: &mut State<'m>,
+    value: Value,
+    values: Values,
+    before: List<TextId>,
+) -> Result<Turn<'m>, NoMemory>
+    requires state { StateOf store.old state.old }
+    requires value { IsOf store.old value }
+    requires values { ValuesOf store.old values }
+    requires before { TextsOf store.old before }
+    ensures { IfOk result (λ r. Makes store.old state.old left.old store.new state.new left.new
+        (starts.text_by (handler_of store.old.heap (seen store.old.texts value) (codes "__tostring")) (seen store.old.texts value) (values_seen store.old.texts values) (joined_seen store.old.texts before) (frames_of store.old state.old) (slots_of store.old state.old)) r) }
+{
+    let handler = handler(store, value, state.env.to_string);
+    if is_nil(handler) {
+        let turn = with_plain(alloc, store, state, value, values, before)?;
+        return Ok(turn);
+    }
+    let asked = (handler, value);
+    let turn = ask(alloc, store, left, state, asked, values, before)?;
+    Ok(turn)
+}
+
+/// The first of some values is an object of `mw.html`: its text is taken, once it is paid for.
+fn object_next<'m>(
+    alloc: Global,
+    store: &mut Store,
+    left: &mut Left,
+    state: &State<'m>,
+    id: MarkupId,
+    values: Values,
+    before: List<TextId>,
+) -> Result<Turn<'m>, NoMemory>
+    requires state { StateOf store.old state.now }
+    requires id { IsMarkupOf store.old id }
+    requires values { ValuesOf store.old values }
+    requires before { TextsOf store.old before }
+    ensures { IfOk result (λ r. Makes store.old state.now left.old store.new state.now left.new
+        (starts.rendered (render store.old.heap.markup id.at) (values_seen store.old.texts values) (joined_seen store.old.texts before) (frames_of store.old state.now) (slots_of store.old state.now)) r) }
+{
+    let text = object_text(alloc, store, left, id)?;
+    match text {
+        ObjectText::Text(bytes) => {
+            let turn = follow_made(store, state, bytes.as_slice(), values, before)?;
+            Ok(turn)
+        }
+        ObjectText::TooDeep => {
+            let turn = too_deep(store, state)?;
+            Ok(turn)
+        }
+        ObjectText::Spent => Ok(Turn::Spent(Which::Steps)),
+    }
+}
+
+/// The first of some values, in its place: the text of an object, or what its handler gives, or its own.
 fn next_text<'m>(
     alloc: Global,
     store: &mut Store,
@@ -152,16 +214,12 @@ fn next_text<'m>(
     requires values { ValuesOf store.old values }
     requires before { TextsOf store.old before }
     ensures { IfOk result (λ r. Makes store.old state.old left.old store.new state.new left.new
-        (starts.texts (seen store.old.texts value ∷ values_seen store.old.texts values) (joined_seen store.old.texts before) (frames_of store.old state.old) (slots_of store.old state.old)) r) }
+        (starts.next_text (seen store.old.texts value) (values_seen store.old.texts values) (joined_seen store.old.texts before) (frames_of store.old state.old) (slots_of store.old state.old)) r) }
 {
-    let handler = handler(store, value, state.env.to_string);
-    if is_nil(handler) {
-        let turn = with_plain(alloc, store, state, value, values, before)?;
-        return Ok(turn);
+    match object(value) {
+        Some(id) => object_next(alloc, store, left, state, id, values, before),
+        None => text_by(alloc, store, left, state, value, values, before),
     }
-    let asked = (handler, value);
-    let turn = ask(alloc, store, left, state, asked, values, before)?;
-    Ok(turn)
 }
 
 /// The first of these texts and those behind it.

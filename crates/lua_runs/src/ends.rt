@@ -4,6 +4,7 @@ ghost use Rattle.page_run.specs.Outcome.{Goes, Jumps};
 ghost use Rattle.wk_base.specs.declared.left.Left.{Left as Allowance};
 ghost use Rattle.lua_heap.specs.Value as kind;
 ghost use Rattle.lua_meaning.specs.Acts as act;
+ghost use Rattle.lua_meaning.specs.Html.{nested_too_deeply};
 ghost use Rattle.lua_meaning.specs.Start.{Done, Failed, data_value};
 ghost use Rattle.lua_slots.specs.Errors.{jumps};
 ghost use Rattle.lua_slots.specs.Starts.{invoke_ends, data_ends};
@@ -100,6 +101,16 @@ pub fn no_string<'m>(store: &mut Store, state: &State<'m>) -> Result<Turn<'m>, N
         (invoke_ends (Jumps (act.Raised (kind.Text (codes "'tostring' must return a string")))) (frames_of store.old state.now) (slots_of store.old state.now)) r) }
 {
     let turn = raise(store, state, b"Lua error: 'tostring' must return a string")?;
+    Ok(turn)
+}
+
+/// An object of `mw.html` among the values of the answer stands too deep.
+pub fn too_deep<'m>(store: &mut Store, state: &State<'m>) -> Result<Turn<'m>, NoMemory>
+    requires { StateOf store.old state.now }
+    ensures { (l : Allowance) → IfOk result (λ r. Makes store.old state.now l store.new state.now l
+        (invoke_ends (Jumps (act.Raised (kind.Text nested_too_deeply))) (frames_of store.old state.now) (slots_of store.old state.now)) r) }
+{
+    let turn = raise(store, state, b"Lua error: html tree nested too deeply")?;
     Ok(turn)
 }
 

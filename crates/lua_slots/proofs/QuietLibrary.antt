@@ -1,5 +1,5 @@
 -- What functions of the library do has no mark, and neither has the start of a run.
-use Rattle.std.proofs.Common.{ℕ, true, List, [], ◌∷◌, ◌++◌, Option, Some, None, refl}
+use Rattle.std.proofs.Common.{ℕ, zero, suc, true, List, [], ◌∷◌, ◌++◌, Option, Some, None, refl}
 use Rattle.std.specs.Prelude.{ℤ, pos, ◌+ℤ◌, Result, Ok, Err, bytes_eq, codes}
 use Rattle.wk_base.specs.declared.title.Title.{Title}
 use Rattle.wk_base.specs.declared.title.Namespace.TheVariants.{Main}
@@ -8,8 +8,9 @@ use Rattle.wk_base.specs.Titles.{title_text, title_of}
 use Rattle.lua_syntax.specs.declared.fault.FaultAt.{FaultAt}
 use Rattle.page_run.specs.Outcome.{Outcome, Goes, Jumps}
 use Rattle.lua_number.specs.Whole.{fits}
+use Rattle.mw_html.specs.Render.{Piece, Whole, Deep, render}
 use Rattle.lua_heap.specs.Proc.{Proc}
-use Rattle.lua_heap.specs.Value.{Value, Nil, Truth, Number, Text, Table, Builtin, is_nil}
+use Rattle.lua_heap.specs.Value.{Value, Nil, Truth, Number, Text, Table, Builtin, Markup, is_nil}
 use Rattle.lua_heap.specs.Table.{get}
 use Rattle.lua_heap.specs.Heap.{table_at}
 use Rattle.lua_heap.specs.declared.library.Library.TheVariants.{BasicNext, IpairsStep}
@@ -19,21 +20,24 @@ use Rattle.lua_meaning.specs.Questions.{Asked, TemplateAsked, TextAsked, DataAsk
 use Rattle.lua_meaning.specs.Values.{first, rest, text_in, is_function}
 use Rattle.lua_meaning.specs.Acts.{Jump, Raised, Progress, Running, Finished}
 use Rattle.lua_meaning.specs.Metatables.{handler}
-use Rattle.lua_meaning.specs.Arguments.{a_table, a_number, a_text}
+use Rattle.lua_meaning.specs.Arguments.{Plain, a_table, a_number, a_text}
+use Rattle.lua_meaning.specs.Html.{text_of_object}
 use Rattle.lua_meaning.specs.CallBacks.{text_of}
 use Rattle.lua_meaning.specs.FrameMethods.{FramedEnd, FrameEnds, FrameAsks, FrameWalks}
-use Rattle.lua_meaning.specs.Pending.{Pending, PcallWaits, XpcallWaits, HandlerWaits, ToStringWaits, PairsWaits, ModuleWaits}
-use Rattle.lua_meaning.specs.Libraries.{Caller, Pcall, Xpcall, ToString, Pairs, Ipairs, NextPlace, Require, LoadData, Form, Answers, InFrames, CallsBack, NotBuilt}
+use Rattle.lua_meaning.specs.Gsub.{Replacement, ByText, ByTable, ByFunction, Job, Far, Replacing, Search, NoMatch, Matched, search, replacement_given, with_piece, nothing_yet, GsubForm, GsubAnswers, GsubAsks, gsub_form}
+use Rattle.lua_meaning.specs.Pending.{Pending, PcallWaits, XpcallWaits, HandlerWaits, ToStringWaits, PairsWaits, GsubWaits, ModuleWaits}
+use Rattle.lua_meaning.specs.Libraries.{Caller, Pcall, Xpcall, ToString, Pairs, Ipairs, NextPlace, Require, LoadData, Gsub, Form, Answers, InFrames, CallsBack}
 use Rattle.lua_meaning.specs.Start.{Work, Invoke, DataOf, Failed}
 use Rattle.lua_slots.specs.Code.{Protos, CModule, CWorld}
 use Rattle.lua_slots.specs.Slots.{Slots, with_heap}
-use Rattle.lua_slots.specs.Points.{SFrame, DataNow, Texts, Costs, Now}
+use Rattle.lua_slots.specs.Points.{SFrame, Waits, DataNow, Texts, Costs, Now}
 use Rattle.lua_slots.specs.Errors as errors
 use Rattle.lua_slots.specs.CallBacks as callbacks
+use Rattle.lua_slots.specs.Gsub as gsubs
 use Rattle.lua_slots.specs.Modules as modules
 use Rattle.lua_slots.specs.Libraries as libraries
 use Rattle.lua_slots.specs.Starts as starts
-use Rattle.lua_slots.proofs.QuietValues.{IsQuiet, still, both, fails, ends, with_argument, call, index_table}
+use Rattle.lua_slots.proofs.QuietValues.{IsQuiet, still, both, fails, ends, with_argument, call, index, index_table}
 
 -- FUNCTIONS THAT CALL BACK
 pub pcall_answer : (o : Outcome (List Value) Jump) (fs : List SFrame) (s : Slots) → IsQuiet (callbacks.pcall_answer o fs s)
@@ -53,6 +57,14 @@ handler_answer (Jumps j) fs s = still refl
 
 to_string_by : (h v : Value) (line : Option ℕ) (fs : List SFrame) (s : Slots) → IsQuiet (callbacks.to_string_by h v line fs s)
 to_string_by h v line fs s = both (is_nil h) (callbacks.gives_text (text_of v) fs s) _ (still refl) (call h (v ∷ []) None _ s)
+
+-- a function that calls back nobody
+plain : (p : Plain Proc) (line : Option ℕ) (fs : List SFrame) (s : Slots) → IsQuiet (errors.plain p line fs s)
+plain p line fs s = still (ends p.end line fs (with_heap p.heap s)).none
+
+to_string_of : (v : Value) (line : Option ℕ) (fs : List SFrame) (s : Slots) → IsQuiet (callbacks.to_string_of v line fs s)
+to_string_of (Markup m) line fs s = plain (text_of_object m s.heap) line fs s
+to_string_of v line fs s = to_string_by (handler s.heap v (codes "__tostring")) v line fs s
 
 string_given : (t : Option Bytes) (line : Option ℕ) (fs : List SFrame) (s : Slots) → IsQuiet (callbacks.string_given t line fs s)
 string_given (Some t) line fs s = still refl
@@ -82,6 +94,28 @@ ipairs_step : (args : List Value) (line : Option ℕ) (fs : List SFrame) (s : Sl
 ipairs_step args line fs s =
     with_argument (a_table 1 (codes "ipairs") args) line fs s _ (λ t.
     with_argument (a_number 2 (codes "ipairs") (rest args)) line fs s _ (λ n. next_place t n fs s))
+
+-- `gsub`
+asks : (by : Replacement) (captures : List Value) (fs : List SFrame) (s : Slots) → IsQuiet (gsubs.asks by captures fs s)
+asks (ByFunction f) captures fs s = call f captures None fs s
+asks (ByTable t) captures fs s = index (Table t) (first captures) None fs s
+asks (ByText text) captures fs s = still refl
+
+asks_on : (job : Job) (far : Far) (found : Search) (line : Option ℕ) (fs : List SFrame) (s : Slots) → IsQuiet (gsubs.asks_on job far found line fs s)
+asks_on job far (NoMatch tries) line fs s = still refl
+asks_on job far (Matched tries captures w) line fs s = still (asks w.job.by captures (Waits (GsubWaits w) line ∷ fs) s).none
+
+replaces : (job : Job) (limit : ℕ) (far : Far) (line : Option ℕ) (fs : List SFrame) (s : Slots) → IsQuiet (gsubs.replaces job limit far line fs s)
+replaces job zero far line fs s = still refl
+replaces job (suc limit) far line fs s = asks_on job far (search job limit far) line fs s
+
+gsub_answer : (w : Replacing) (o : Outcome (List Value) Jump) (line : Option ℕ) (fs : List SFrame) (s : Slots) → IsQuiet (gsubs.gsub_answer w o line fs s)
+gsub_answer w (Goes vs) line fs s = with_argument (replacement_given w.whole (first vs)) line fs s _ (λ piece. still (replaces w.job w.limit (with_piece w.far piece) line fs s).none)
+gsub_answer w (Jumps j) line fs s = still refl
+
+gsub : (f : GsubForm Proc) (line : Option ℕ) (fs : List SFrame) (s : Slots) → IsQuiet (libraries.gsub f line fs s)
+gsub (GsubAnswers p) line fs s = still (ends p.end line fs (with_heap p.heap s)).none
+gsub (GsubAsks charge job limit) line fs s = still (replaces job limit nothing_yet line fs s).none
 
 -- MODULES
 begins_text : (title : Title) (code : Result Protos FaultAt) (fs : List SFrame) (s : Slots) → IsQuiet (modules.begins_text title code fs s)
@@ -140,18 +174,18 @@ framed_end (FrameWalks v) line fs s = pairs (v ∷ []) line fs s
 call_back : (world : CWorld) (c : Caller) (args : List Value) (line : Option ℕ) (fs : List SFrame) (s : Slots) → IsQuiet (libraries.call_back world c args line fs s)
 call_back world Pcall args line fs s = call (first args) (rest args) None _ s
 call_back world Xpcall args line fs s = call (first args) [] None _ s
-call_back world ToString args line fs s = to_string_by (handler s.heap (first args) (codes "__tostring")) (first args) line fs s
+call_back world ToString args line fs s = to_string_of (first args) line fs s
 call_back world Pairs args line fs s = pairs args line fs s
 call_back world Ipairs args line fs s = ipairs_by (handler s.heap (first args) (codes "__ipairs")) args line fs s
 call_back world NextPlace args line fs s = ipairs_step args line fs s
 call_back world Require args line fs s = require world args line fs s
 call_back world LoadData args line fs s = load_data args line fs s
+call_back world (Gsub alphabet) args line fs s = gsub (gsub_form alphabet args s.heap) line fs s
 
 pub does : (world : CWorld) (f : Form Proc) (args : List Value) (line : Option ℕ) (fs : List SFrame) (s : Slots) → IsQuiet (libraries.does world f args line fs s)
-does world (Answers p) args line fs s = still (ends p.end line fs (with_heap p.heap s)).none
+does world (Answers p) args line fs s = plain p line fs s
 does world (InFrames f) args line fs s = still (framed_end f.end line fs (libraries.with_frames f s)).none
 does world (CallsBack caller) args line fs s = call_back world caller args line fs s
-does world NotBuilt args line fs s = fails line _ fs s
 
 pub resumes : (p : Pending) (o : Outcome (List Value) Jump) (line : Option ℕ) (fs : List SFrame) (s : Slots) → IsQuiet (libraries.resumes p o line fs s)
 resumes PcallWaits o line fs s = pcall_answer o fs s
@@ -159,6 +193,7 @@ resumes (XpcallWaits h) o line fs s = xpcall_answer h o line fs s
 resumes HandlerWaits o line fs s = handler_answer o fs s
 resumes ToStringWaits o line fs s = string_answer o line fs s
 resumes PairsWaits o line fs s = three_answer o fs s
+resumes (GsubWaits w) o line fs s = gsub_answer w o line fs s
 resumes (ModuleWaits title) o line fs s = module_answer title o fs s
 
 text_answer : (o : Outcome (List Value) Jump) (fs : List SFrame) (s : Slots) → IsQuiet (libraries.text_answer o fs s)
@@ -176,9 +211,20 @@ hears TextAsked o line fs s = text_answer o fs s
 hears (DataAsked text title) o line fs s = data_answer text title o line fs s
 
 -- THE START AND THE END OF A RUN
+whole_or_fail : (p : Piece) (vs : List Value) (before : Bytes) (fs : List SFrame) (s : Slots) → IsQuiet (starts.whole_or_fail p vs before fs s)
+whole_or_fail (Whole bytes begun) vs before fs s = still refl
+whole_or_fail (Deep bytes begun) vs before fs s = still refl
+
+text_by : (h v : Value) (vs : List Value) (before : Bytes) (fs : List SFrame) (s : Slots) → IsQuiet (starts.text_by h v vs before fs s)
+text_by h v vs before fs s = both (is_nil h) (Now (Texts vs (before ++ text_of v) fs) s) _ (still refl) (call h (v ∷ []) None _ s)
+
+next_text : (v : Value) (vs : List Value) (before : Bytes) (fs : List SFrame) (s : Slots) → IsQuiet (starts.next_text v vs before fs s)
+next_text (Markup m) vs before fs s = still (whole_or_fail (render s.heap.markup m) vs before fs s).none
+next_text v vs before fs s = text_by (handler s.heap v (codes "__tostring")) v vs before fs s
+
 pub texts : (vs : List Value) (before : Bytes) (fs : List SFrame) (s : Slots) → IsQuiet (starts.texts vs before fs s)
 texts [] before fs s = still refl
-texts (v ∷ vs) before fs s = both (is_nil (handler s.heap v (codes "__tostring"))) (Now (Texts vs (before ++ text_of v) fs) s) _ (still refl) (call (handler s.heap v (codes "__tostring")) (v ∷ []) None _ s)
+texts (v ∷ vs) before fs s = next_text v vs before fs s
 
 pub text_given : (t : Option Bytes) (vs : List Value) (before : Bytes) (fs : List SFrame) (s : Slots) → IsQuiet (starts.text_given t vs before fs s)
 text_given (Some t) vs before fs s = still refl

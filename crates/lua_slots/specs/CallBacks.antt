@@ -3,7 +3,7 @@
 use Rattle.std.specs.Prelude.{ℕ, ℤ, pos, ◌+ℤ◌, true, false, List, [], ◌∷◌, length, Option, Some, None, codes}
 use Rattle.page_run.specs.Outcome.{Outcome, Goes, Jumps}
 use Rattle.lua_number.specs.Whole.{fits}
-use Rattle.lua_heap.specs.Value.{Value, Nil, Truth, Number, Text, Table, Builtin, is_nil}
+use Rattle.lua_heap.specs.Value.{Value, Nil, Truth, Number, Text, Table, Builtin, Markup, is_nil}
 use Rattle.lua_heap.specs.Table.{get}
 use Rattle.lua_heap.specs.Heap.{table_at}
 use Rattle.lua_heap.specs.declared.library.Library.TheVariants.{BasicNext, IpairsStep}
@@ -12,11 +12,12 @@ use Rattle.lua_meaning.specs.Values.{first, rest, second, third, text_in}
 use Rattle.lua_meaning.specs.Acts.{Jump, Raised}
 use Rattle.lua_meaning.specs.Metatables.{handler}
 use Rattle.lua_meaning.specs.Arguments.{a_table, a_number}
+use Rattle.lua_meaning.specs.Html.{text_of_object}
 use Rattle.lua_meaning.specs.CallBacks.{text_of}
 use Rattle.lua_meaning.specs.Pending.{PcallWaits, XpcallWaits, HandlerWaits, ToStringWaits, PairsWaits}
 use Rattle.lua_slots.specs.Slots.{Slots}
 use Rattle.lua_slots.specs.Points.{SFrame, Waits, Move, Costs}
-use Rattle.lua_slots.specs.Errors.{choose, gives, jumps, fails, with_argument}
+use Rattle.lua_slots.specs.Errors.{choose, gives, jumps, fails, plain, with_argument}
 use Rattle.lua_slots.specs.Calls.{call}
 
 -- `pcall(f, ...)`
@@ -49,8 +50,13 @@ gives_text t fs s = Costs (length t) (gives (Text t ∷ []) fs s)
 abbrev pub to_string_by : Value → Value → Option ℕ → List SFrame → Slots → Move
 to_string_by h v line fs s = choose (is_nil h) (gives_text (text_of v) fs s) (call h (v ∷ []) None (Waits ToStringWaits line ∷ fs) s)
 
+-- an object of mw.html is rendered
+abbrev pub to_string_of : Value → Option ℕ → List SFrame → Slots → Move
+to_string_of (Markup m) line fs s = plain (text_of_object m s.heap) line fs s
+to_string_of v line fs s = to_string_by (handler s.heap v (codes "__tostring")) v line fs s
+
 abbrev pub to_string : List Value → Option ℕ → List SFrame → Slots → Move
-to_string args line fs s = to_string_by (handler s.heap (first args) (codes "__tostring")) (first args) line fs s
+to_string args line fs s = to_string_of (first args) line fs s
 
 -- what `__tostring` gave
 abbrev pub string_given : Option Bytes → Option ℕ → List SFrame → Slots → Move

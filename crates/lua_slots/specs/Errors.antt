@@ -1,13 +1,14 @@
 -- HOW A MOVE ENDS: with values or a jump for the frames, and errors with their messages (manual 2.7, and 5.1 under `error`).
 -- A message costs its bytes, as in the meaning.
-use Rattle.std.specs.Prelude.{ℕ, Bool, true, false, List, [], ◌∷◌, ◌++◌, length, Option, Some, None, Ok, Err}
+use Rattle.std.specs.Prelude.{ℕ, Bool, true, false, List, ◌++◌, length, Option, Some, None, Ok, Err}
 use Rattle.page_run.specs.Outcome.{Goes, Jumps}
+use Rattle.lua_heap.specs.Proc.{Proc}
 use Rattle.lua_heap.specs.Value.{Value, Text}
 use Rattle.lua_meaning.specs.Scope.{Bytes, Place as TextPlace}
 use Rattle.lua_meaning.specs.Acts.{Jump, Raised}
 use Rattle.lua_meaning.specs.Messages.{place_text, nth_level, place_at}
-use Rattle.lua_meaning.specs.Arguments.{PlainEnd, Gives as PlainGives, Fails as PlainFails, Argument}
-use Rattle.lua_slots.specs.Slots.{Slots, levels_at}
+use Rattle.lua_meaning.specs.Arguments.{Plain, PlainEnd, Gives as PlainGives, Fails as PlainFails, Argument}
+use Rattle.lua_slots.specs.Slots.{Slots, levels_at, with_heap}
 use Rattle.lua_slots.specs.Points.{SFrame, Gives, Move, Costs, Marks, Now}
 
 -- a node of the tree begins
@@ -43,6 +44,10 @@ fails line text fs s = raises (nth_level (levels_at s.functions line) 1) text fs
 abbrev pub ends : PlainEnd → Option ℕ → List SFrame → Slots → Move
 ends (PlainGives vs) line fs s = gives vs fs s
 ends (PlainFails v level) line fs s = raises_value (place_at (levels_at s.functions line) level) v fs s
+
+-- what a function does that calls back nobody
+abbrev pub plain : Plain Proc → Option ℕ → List SFrame → Slots → Move
+plain p line fs s = Costs p.charge (ends p.end line fs (with_heap p.heap s))
 
 -- what is done with an argument, or its message
 abbrev pub with_argument : {X : Type 0} → Argument X → Option ℕ → List SFrame → Slots → (X → Move) → Move

@@ -7,6 +7,7 @@ use Rattle.lua_heap.specs.Heap.{table_at, set_in}
 use Rattle.lua_meaning.specs.Values.{is_function}
 use Rattle.lua_meaning.specs.Messages.{cannot_index, nil_key, read_only}
 use Rattle.lua_meaning.specs.Metatables.{handler}
+use Rattle.lua_meaning.specs.Html.{field_of_object}
 use Rattle.lua_slots.specs.Slots.{Slots, with_heap}
 use Rattle.lua_slots.specs.Points.{IndexLinkS, SetLinkS, SFrame, Starts, Move, Costs, Now}
 use Rattle.lua_slots.specs.Errors.{choose, gives, fails}
@@ -25,7 +26,7 @@ index_table t key line fs s =
 abbrev pub index : Value → Value → Option ℕ → List SFrame → Slots → Move
 index (Table t) key line fs s = index_table t key line fs s
 index (Text text) key line fs s = index_table s.strings key line fs s
-index (Markup m) key line fs s = gives (Nil ∷ []) fs s
+index (Markup m) key line fs s = gives (field_of_object key ∷ []) fs s
 index v key line fs s = fails line (cannot_index v) fs s
 
 abbrev pub index_link : Value → Value → Value → Option ℕ → List SFrame → Slots → Move

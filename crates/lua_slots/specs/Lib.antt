@@ -11,6 +11,7 @@ pub mod Expressions
 pub mod Statements
 pub mod Loops
 pub mod CallBacks
+pub mod Gsub
 pub mod Modules
 pub mod Libraries
 pub mod Starts

@@ -9,25 +9,23 @@ use Rattle.lua_meaning.specs.Scope.{Bytes}
 use Rattle.lua_meaning.specs.World.{World}
 use Rattle.lua_meaning.specs.Questions.{Asked, TemplateAsked, TextAsked, DataAsked}
 use Rattle.lua_meaning.specs.Acts.{Jump, Raised}
-use Rattle.lua_meaning.specs.Messages.{not_built, no_template, wrong_answer}
-use Rattle.lua_meaning.specs.Arguments.{Plain}
+use Rattle.lua_meaning.specs.Messages.{no_template, wrong_answer}
 use Rattle.lua_meaning.specs.FrameMethods.{FramedEnd, FrameEnds, FrameAsks, FrameWalks, Framed}
-use Rattle.lua_meaning.specs.Pending.{Pending, PcallWaits, XpcallWaits, HandlerWaits, ToStringWaits, PairsWaits, ModuleWaits}
-use Rattle.lua_meaning.specs.Libraries.{Caller, Pcall, Xpcall, ToString, Pairs, Ipairs, NextPlace, Require, LoadData, Form, Answers, InFrames, CallsBack, NotBuilt, form}
+use Rattle.lua_meaning.specs.Gsub.{nothing_yet, GsubForm, GsubAnswers, GsubAsks, gsub_form}
+use Rattle.lua_meaning.specs.Pending.{Pending, PcallWaits, XpcallWaits, HandlerWaits, ToStringWaits, PairsWaits, GsubWaits, ModuleWaits}
+use Rattle.lua_meaning.specs.Libraries.{Caller, Pcall, Xpcall, ToString, Pairs, Ipairs, NextPlace, Require, LoadData, Gsub, Form, Answers, InFrames, CallsBack, form}
 use Rattle.lua_slots.specs.Code.{CWorld}
-use Rattle.lua_slots.specs.Slots.{Slots, with_heap}
+use Rattle.lua_slots.specs.Slots.{Slots}
 use Rattle.lua_slots.specs.Points.{SFrame, LibraryEnd, Hears, Asking, Move, Costs, Marks, Enters, Now}
+pub use Rattle.lua_slots.specs.Errors.{plain}
 use Rattle.lua_slots.specs.Errors.{jumps, fails, ends}
 use Rattle.lua_slots.specs.CallBacks.{pcall, pcall_answer, xpcall, xpcall_answer, handler_answer, gives_text, to_string, string_answer, pairs, ipairs, three_answer, ipairs_step}
+use Rattle.lua_slots.specs.Gsub.{replaces, gsub_answer}
 use Rattle.lua_slots.specs.Modules.{require, module_answer, load_data, data_answer}
 
 -- of the world such a function sees the page alone
 abbrev pub page_alone : CWorld → World
 page_alone world = record { page = world.page; modules = λ title. None }
-
--- a function that calls back nobody
-abbrev pub plain : Plain Proc → Option ℕ → List SFrame → Slots → Move
-plain p line fs s = Costs p.charge (ends p.end line fs (with_heap p.heap s))
 
 -- a function that sees the frames
 abbrev pub framed_end : FramedEnd → Option ℕ → List SFrame → Slots → Move
@@ -41,6 +39,11 @@ with_frames f s = record s { heap = f.heap; frames = f.frames }
 abbrev pub framed : Framed Proc → Option ℕ → List SFrame → Slots → Move
 framed f line fs s = Costs f.charge (framed_end f.end line fs (with_frames f s))
 
+-- `gsub` answers at once, or asks behind its charge
+abbrev pub gsub : GsubForm Proc → Option ℕ → List SFrame → Slots → Move
+gsub (GsubAnswers p) line fs s = plain p line fs s
+gsub (GsubAsks charge job limit) line fs s = Costs charge (replaces job limit nothing_yet line fs s)
+
 -- a function that calls back, or sees more of a run
 abbrev pub call_back : CWorld → Caller → List Value → Option ℕ → List SFrame → Slots → Move
 call_back world Pcall args line fs s = pcall args line fs s
@@ -51,12 +54,12 @@ call_back world Ipairs args line fs s = ipairs args line fs s
 call_back world NextPlace args line fs s = ipairs_step args line fs s
 call_back world Require args line fs s = require world args line fs s
 call_back world LoadData args line fs s = load_data args line fs s
+call_back world (Gsub alphabet) args line fs s = gsub (gsub_form alphabet args s.heap) line fs s
 
 abbrev pub does : CWorld → Form Proc → List Value → Option ℕ → List SFrame → Slots → Move
 does world (Answers p) args line fs s = plain p line fs s
 does world (InFrames f) args line fs s = framed f line fs s
 does world (CallsBack caller) args line fs s = call_back world caller args line fs s
-does world NotBuilt args line fs s = fails line not_built fs s
 
 -- A FUNCTION OF THE LIBRARY IS ENTERED, at this line
 abbrev pub enters_library : CWorld → Library → List Value → Option ℕ → List SFrame → Slots → Move
@@ -69,6 +72,7 @@ resumes (XpcallWaits h) o line fs s = xpcall_answer h o line fs s
 resumes HandlerWaits o line fs s = handler_answer o fs s
 resumes ToStringWaits o line fs s = string_answer o line fs s
 resumes PairsWaits o line fs s = three_answer o fs s
+resumes (GsubWaits w) o line fs s = gsub_answer w o line fs s
 resumes (ModuleWaits title) o line fs s = module_answer title o fs s
 
 -- WHAT WAITS FOR AN ANSWER

@@ -1,16 +1,18 @@
 -- A WHOLE RUN (Scribunto, "Invoking modules" and mw.loadData): its start with its charges, and its end. What is still to be done
 -- waits at the bottom of the frames; an error that reaches it ends the run.
-use Rattle.std.specs.Prelude.{ℕ, List, [], ◌∷◌, ◌++◌, length, Option, Some, None, codes}
+use Rattle.std.specs.Prelude.{List, [], ◌∷◌, ◌++◌, length, Option, Some, None, codes}
 use Rattle.wk_base.specs.declared.title.Title.{Title}
 use Rattle.wk_base.specs.Titles.{title_text}
 use Rattle.mw_frame.specs.declared.scene.Job.{Job}
 use Rattle.page_run.specs.Outcome.{Outcome, Goes, Jumps}
-use Rattle.lua_heap.specs.Value.{Value, Text, Table, is_nil}
+use Rattle.mw_html.specs.Render.{Piece, Whole, Deep, count, render}
+use Rattle.lua_heap.specs.Value.{Value, Text, Table, Markup, is_nil}
 use Rattle.lua_meaning.specs.Scope.{Bytes}
 use Rattle.lua_meaning.specs.Values.{is_function}
 use Rattle.lua_meaning.specs.Acts.{Jump, Raised, Unmade}
 use Rattle.lua_meaning.specs.Messages.{no_data_module}
 use Rattle.lua_meaning.specs.Metatables.{handler}
+use Rattle.lua_meaning.specs.Html.{nested_too_deeply}
 use Rattle.lua_meaning.specs.CallBacks.{text_of}
 use Rattle.lua_meaning.specs.Frames.{args_charge, make_frame, frame_table, new_frame}
 use Rattle.lua_meaning.specs.Start.{Work, Invoke, DataOf, End, Done, Failed, invoke_outcome, data_outcome}
@@ -29,13 +31,24 @@ invoke_ends o fs s = Now (Gives (invoke_outcome o) fs) s
 abbrev pub data_ends : Outcome End Jump → List SFrame → Slots → Move
 data_ends o fs s = Now (Gives (data_outcome o) fs) s
 
--- THE ANSWER: the texts of the values, one after another; the whole costs its length
+-- THE ANSWER: the texts of the values, one after another; the whole costs its length, and an object of mw.html its rendering
 abbrev pub text_by : Value → Value → List Value → Bytes → List SFrame → Slots → Move
 text_by h v vs before fs s = choose (is_nil h) (Now (Texts vs (before ++ text_of v) fs) s) (call h (v ∷ []) None (TextNow vs before ∷ fs) s)
 
+abbrev pub whole_or_fail : Piece → List Value → Bytes → List SFrame → Slots → Move
+whole_or_fail (Whole bytes begun) vs before fs s = Now (Texts vs (before ++ bytes) fs) s
+whole_or_fail (Deep bytes begun) vs before fs s = invoke_ends (Jumps (Raised (Text nested_too_deeply))) fs s
+
+abbrev pub rendered : Piece → List Value → Bytes → List SFrame → Slots → Move
+rendered p vs before fs s = Costs (count p) (whole_or_fail p vs before fs s)
+
+abbrev pub next_text : Value → List Value → Bytes → List SFrame → Slots → Move
+next_text (Markup m) vs before fs s = rendered (render s.heap.markup m) vs before fs s
+next_text v vs before fs s = text_by (handler s.heap v (codes "__tostring")) v vs before fs s
+
 abbrev pub texts : List Value → Bytes → List SFrame → Slots → Move
 texts [] before fs s = Costs (length before) (invoke_ends (Goes (Done before)) fs s)
-texts (v ∷ vs) before fs s = text_by (handler s.heap v (codes "__tostring")) v vs before fs s
+texts (v ∷ vs) before fs s = next_text v vs before fs s
 
 -- what `__tostring` gave
 abbrev pub text_given : Option Bytes → List Value → Bytes → List SFrame → Slots → Move

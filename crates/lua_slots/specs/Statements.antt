@@ -1,5 +1,5 @@
 -- STATEMENTS (manual 2.4). Each begins with its node, and gives no values.
-use Rattle.std.specs.Prelude.{ℕ, List, [], ◌∷◌, ◌++◌, length, Option, Some, None}
+use Rattle.std.specs.Prelude.{List, [], ◌∷◌, ◌++◌, length, Option, Some, None}
 use Rattle.lua_heap.specs.Value.{Value, Text, Table}
 use Rattle.lua_meaning.specs.Values.{first, rest}
 use Rattle.lua_meaning.specs.Acts.{Broke, Raised}

@@ -10,6 +10,8 @@ use Rattle.lua_store.proofs.Later.{of-later, seen-later}
 use Rattle.lua_store.proofs.Lists.{all-to, map-alike}
 use Rattle.lua_slots.specs.Points.{SFrame}
 use Rattle.lua_slots.specs.Slots as slots
+use Rattle.lua_meaning.specs.Pending as waiting
+use Rattle.lua_replacing.proofs.Stays.{replacing_later, replacing_stays}
 use Rattle.lua_stack.specs.declared.frame.Found.{Found}
 use Rattle.lua_stack.specs.declared.frame.Found.TheVariants as found
 use Rattle.lua_stack.specs.declared.frame.Setting.{Setting}
@@ -149,10 +151,12 @@ module _ (s t : StoreView) (l : IsLater s t) where
   -- FRAMES
   pending_later : (p : Pending) → PendingOf s p → PendingOf t p
   pending_later (pending.Xpcall h) o = value_later h o
+  pending_later (pending.Gsub w) o = replacing_later s t l w.value o
   pending_later p o = tt
 
   pending_stays : (p : Pending) → PendingOf s p → pending_seen t.texts p ≡ pending_seen s.texts p
   pending_stays (pending.Xpcall h) o = rw (value_stays h o) refl
+  pending_stays (pending.Gsub w) o = ap waiting.GsubWaits (replacing_stays s t l w.value o)
   pending_stays p o = refl
 
   asked_later : (a : Asked) → AskedOf s a → AskedOf t a

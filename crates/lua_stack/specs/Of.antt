@@ -9,6 +9,7 @@ use Rattle.lua_store.specs.Seen.{StoreView, text_at}
 use Rattle.lua_store.specs.Parts.{IsOf, IsTextOf, IsTableOf, IsCellOf, IsClosureOf}
 use Rattle.mw_frame.specs.Scenes.{HaveNames}
 use Rattle.lua_meaning.specs.Operators as plain
+use Rattle.lua_replacing.specs.Seen.{ReplacingOf}
 use Rattle.lua_stack.specs.declared.values.Given.{Given}
 use Rattle.lua_stack.specs.declared.frame.Found.{Found}
 use Rattle.lua_stack.specs.declared.frame.Found.TheVariants as found
@@ -104,6 +105,7 @@ SettingOf s p = FoundOf s p.target × IsOf s p.value
 -- FRAMES
 abbrev pub PendingOf : StoreView → Pending → Type 0
 PendingOf s (pending.Xpcall h) = IsOf s h
+PendingOf s (pending.Gsub w) = ReplacingOf s w.value
 PendingOf s _ = Unit {0}
 
 abbrev pub AskedOf : StoreView → Asked → Type 0

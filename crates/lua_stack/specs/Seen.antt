@@ -18,6 +18,7 @@ use Rattle.lua_slots.specs.Slots as slots
 use Rattle.lua_slots.specs.Points.{SFrame, SThing, STarget, Point}
 use Rattle.lua_slots.specs.Points as point
 use Rattle.lua_code.specs.Seen.{place_seen, operator_seen, expression_seen, expressions_seen, entries_seen, target_seen, block_seen, branches_seen}
+use Rattle.lua_replacing.specs.Seen.{replacing_seen}
 use Rattle.lua_stack.specs.declared.values.Given.{Given}
 use Rattle.lua_stack.specs.declared.frame.Found.{Found}
 use Rattle.lua_stack.specs.declared.frame.Found.TheVariants as found
@@ -128,6 +129,7 @@ pending_seen texts (pending.Xpcall h) = waiting.XpcallWaits (seen texts h)
 pending_seen texts pending.Handler = waiting.HandlerWaits
 pending_seen texts pending.ToString = waiting.ToStringWaits
 pending_seen texts pending.Pairs = waiting.PairsWaits
+pending_seen texts (pending.Gsub w) = waiting.GsubWaits (replacing_seen texts w.value)
 pending_seen texts (pending.Module title) = waiting.ModuleWaits title
 
 abbrev pub asked_seen : Texts → Asked → asking.Asked

@@ -3,6 +3,7 @@ use crate::activation::Callee;
 use crate::stack::Stack;
 use crate::values::{Given, Values};
 use lua_code::{Branch, Entry, Expression, Operator, Place, Statement, Target};
+use lua_replacing::Replacing;
 use lua_store::{Library, TableId, TextId, Value};
 use lua_syntax::UnaryOp;
 use wk_base::{Bytes, List, Title};
@@ -33,6 +34,8 @@ pub enum Pending {
     Handler,
     ToString,
     Pairs,
+    /// `gsub` that waits for the replacement of a match.
+    Gsub(Box<Replacing>),
     /// The text of a module of this title is run.
     Module(Title),
 }

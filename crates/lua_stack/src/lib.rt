@@ -37,6 +37,3 @@ pub use raising::Raising;
 pub use register::Slot;
 pub use stack::Stack;
 pub use values::{Given, Values};
-
-#[cfg(test)]
-mod tests;

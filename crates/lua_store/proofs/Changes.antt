@@ -1,5 +1,5 @@
 -- WHAT EACH CALL MAKES OF A STORE: of what is kept, and of what is seen.
-use Rattle.std.proofs.Common.{◌≡◌, ◌≢◌, ℕ, zero, suc, ◌<◌, ◌≤◌, Bool, true, false, true≢false, cond, List, [], ◌∷◌, ◌++◌, length, map, refl, sym, ap, ◌∙◌, arith, subst, slice_get, slice_set, Some}
+use Rattle.std.proofs.Common.{◌≡◌, ◌≢◌, ℕ, zero, suc, ◌<◌, ◌≤◌, ◌-◌, Bool, true, false, true≢false, cond, List, [], ◌∷◌, ◌++◌, length, map, refl, sym, ap, ◌∙◌, arith, subst, slice_get, slice_set, Some}
 use Rattle.std.specs.Option.{option_map}
 use Rattle.std.proofs.lemmas.Option.{slice_get-map, get_or_from_slice_get, slice_get_within}
 use Rattle.std.proofs.lemmas.Bool.{or_parts}
@@ -7,7 +7,7 @@ use Rattle.std.proofs.lemmas.Slice.Eq.{bytes_eq-Decides}
 use Rattle.std.proofs.lemmas.List.{length-append, length-set, length-map, map-append, map-set}
 use Rattle.std.proofs.Math.ListN.{get_or-map}
 use Rattle.std.specs.List.{IsDistinct, list_any}
-use Rattle.std.specs.Prelude.{Result, Ok, Err, OnOk, OnErr, ◌↔◌}
+use Rattle.std.specs.Prelude.{Result, Ok, Err, OnOk, OnErr, ◌↔◌, replicate}
 use Rattle.std.specs.Str.{bytes_eq}
 use Rattle.lua_table.specs.Entries.{Contents, is_there}
 use Rattle.lua_table.specs.declared.table.SetFault.{SetFault}
@@ -31,7 +31,7 @@ use Rattle.lua_store.proofs.Lists.{all-at, all-set, all-push, map-alike}
 use Rattle.lua_store.proofs.EntryMaps.{set_at-seen, set_at-holds, is_there-seen}
 use Rattle.lua_table.proofs.SetLemmas.{HasKeys-set, HasKeys-empty}
 use Rattle.lua_store.proofs.Equal.{eq-seen, eq-laws, one_place}
-use Rattle.lua_store.proofs.Later.{longer-itself, longer-push, later-itself, are_of-later, contents_of-later, table-later, content_of-later, closure-later, of-later, seen-later, node_of-later, node-later}
+use Rattle.lua_store.proofs.Later.{none_made, longer-itself, longer-push, later-itself, are_of-later, contents_of-later, table-later, content_of-later, closure-later, of-later, seen-later, node_of-later, node-later}
 
 -- what is kept is whole afterwards, and shows what the definitions of the heap say
 pub record Became (p q : Parts) (s : StoreView) : Type 0 where
@@ -60,23 +60,31 @@ at_before (y ∷ xs) x (suc i) h = at_before xs x i (omega (arith, h))
 -- at other tables, cells, closures, markup objects a store is later where there are no fewer of them
 
 tables-later : (s : StoreView) (ts : List (Contents heap.Value)) → length s.heap.tables ≤ length ts → IsLater s (record s { heap = record s.heap { tables = ts } })
-tables-later s ts h = record { texts = longer-itself s.texts; tables = h; cells = omega arith; closures = omega arith; markup = omega arith; closures_same = λ id h. refl }
+tables-later s ts h = record { texts = longer-itself s.texts; tables = h; cells = omega arith; closures = omega arith; markup = omega arith; closures_same = λ id h. refl; env = refl; envs = none_made s.env s.envs (length s.heap.closures) }
 
 cells-later : (s : StoreView) (cs : List heap.Value) → length s.heap.cells ≤ length cs → IsLater s (record s { heap = record s.heap { cells = cs } })
-cells-later s cs h = record { texts = longer-itself s.texts; tables = omega arith; cells = h; closures = omega arith; markup = omega arith; closures_same = λ id h. refl }
+cells-later s cs h = record { texts = longer-itself s.texts; tables = omega arith; cells = h; closures = omega arith; markup = omega arith; closures_same = λ id h. refl; env = refl; envs = none_made s.env s.envs (length s.heap.closures) }
 
-closures-later : (s : StoreView) (c : Closed Proc) (envs : List ℕ) → IsLater s (record { texts = s.texts; heap = record s.heap { closures = s.heap.closures ++ c ∷ [] }; envs = envs })
-closures-later s c envs = record {
+one_made : (env : ℕ) (envs : List ℕ) (cs : List (Closed Proc)) (c : Closed Proc) → envs ++ env ∷ [] ≡ envs ++ replicate (length (cs ++ c ∷ []) - length cs) env
+one_made env envs cs c =
+    let e = length-append cs (c ∷ []) in
+    let one : 1 ≡ length (cs ++ c ∷ []) - length cs = omega (arith, e) in
+    ap (λ n. envs ++ replicate n env) one
+
+closures-later : (s : StoreView) (c : Closed Proc) → IsLater s (record { texts = s.texts; heap = record s.heap { closures = s.heap.closures ++ c ∷ [] }; envs = s.envs ++ s.env ∷ []; env = s.env })
+closures-later s c = record {
   texts = longer-itself s.texts;
   tables = omega arith;
   cells = omega arith;
   closures = more s.heap.closures c;
   markup = omega arith;
   closures_same = at_before s.heap.closures c;
+  env = refl;
+  envs = one_made s.env s.envs s.heap.closures c;
 }
 
 markup-later : (s : StoreView) (ns : List HeapNode) → length s.heap.markup ≤ length ns → IsLater s (record s { heap = record s.heap { markup = ns } })
-markup-later s ns h = record { texts = longer-itself s.texts; tables = omega arith; cells = omega arith; closures = omega arith; markup = h; closures_same = λ id h. refl }
+markup-later s ns h = record { texts = longer-itself s.texts; tables = omega arith; cells = omega arith; closures = omega arith; markup = h; closures_same = λ id h. refl; env = refl; envs = none_made s.env s.envs (length s.heap.closures) }
 
 as_many : {A : Type 0} (xs : List A) (i : ℕ) (x : A) → length xs ≤ length (slice_set xs i x)
 as_many xs i x = let e = length-set xs i x in omega (arith, e)
@@ -168,13 +176,13 @@ module _ (p : Parts) (w : IsWhole p) where
       (λ own. record { tables = own.tables; cells = all-set (IsOf (record (view_of p) { heap = set_cell_in (view_of p).heap id (seen p.texts value) })) p.cells id value own.cells (of-later (view_of p) _ later value of); closures = own.closures; markup = own.markup })
 
   -- CLOSURES
-  pub made_closure : (c : Closure) → IsContentOf (view_of p) c
-      → Became p (record p { closures = p.closures ++ c ∷ [] }) (record { texts = p.texts; heap = (new_closure (view_of p).heap (seen_closure p.texts c)).0; envs = (view_of p).envs ++ c.env ∷ [] })
-  made_closure c of =
-      let later = closures-later (view_of p) (seen_closure p.texts c) ((view_of p).envs ++ c.env ∷ []) in
-      became p (record p { closures = p.closures ++ c ∷ [] }) (record { texts = p.texts; heap = (new_closure (view_of p).heap (seen_closure p.texts c)).0; envs = (view_of p).envs ++ c.env ∷ [] }) w w.distinct
-      (ap (λ cs. let s : StoreView = record { texts = p.texts; heap = record (view_of p).heap { closures = cs }; envs = envs_of (p.closures ++ c ∷ []) } in s) (map-append (seen_closure p.texts) p.closures (c ∷ []))
-      ∙ ap (λ es. let s : StoreView = record { texts = p.texts; heap = (new_closure (view_of p).heap (seen_closure p.texts c)).0; envs = es } in s) (map-append (λ (c : Closure). c.env) p.closures (c ∷ [])))
+  pub made_closure : (c : Closure) → IsContentOf (view_of p) c → c.env ≡ p.env
+      → Became p (record p { closures = p.closures ++ c ∷ [] }) (record { texts = p.texts; heap = (new_closure (view_of p).heap (seen_closure p.texts c)).0; envs = (view_of p).envs ++ p.env ∷ []; env = p.env })
+  made_closure c of env =
+      let later = closures-later (view_of p) (seen_closure p.texts c) in
+      became p (record p { closures = p.closures ++ c ∷ [] }) (record { texts = p.texts; heap = (new_closure (view_of p).heap (seen_closure p.texts c)).0; envs = (view_of p).envs ++ p.env ∷ []; env = p.env }) w w.distinct
+      (ap (λ cs. let s : StoreView = record { texts = p.texts; heap = record (view_of p).heap { closures = cs }; envs = envs_of (p.closures ++ c ∷ []); env = p.env } in s) (map-append (seen_closure p.texts) p.closures (c ∷ []))
+      ∙ ap (λ es. let s : StoreView = record { texts = p.texts; heap = (new_closure (view_of p).heap (seen_closure p.texts c)).0; envs = es; env = p.env } in s) (map-append (λ (c : Closure). c.env) p.closures (c ∷ []) ∙ ap (λ n. envs_of p.closures ++ n ∷ []) env))
       later
       (λ own. record { tables = own.tables; cells = own.cells; closures = all-push (IsContentOf _) p.closures c own.closures (content_of-later (view_of p) _ later c of); markup = own.markup })
 
@@ -204,7 +212,7 @@ module _ (p : Parts) (w : IsWhole p) where
   added_text bytes new =
       let texts = p.texts ++ bytes ∷ [] in
       let s : StoreView = record (view_of p) { texts = texts } in
-      let later : IsLater (view_of p) s = record { texts = longer-push p.texts bytes; tables = omega arith; cells = omega arith; closures = omega arith; markup = omega arith; closures_same = λ id h. refl } in
+      let later : IsLater (view_of p) s = record { texts = longer-push p.texts bytes; tables = omega arith; cells = omega arith; closures = omega arith; markup = omega arith; closures_same = λ id h. refl; env = refl; envs = none_made p.env (envs_of p.closures) (length (map (seen_closure p.texts) p.closures)) } in
       became p (record p { texts = texts }) s w (distinct-push p.texts bytes w.distinct new)
       (let a = map-alike (IsContentsOf (view_of p)) (seen_table texts) (seen_table p.texts) (table-later (view_of p) s later) p.tables w.own.tables in
       let b = map-alike (IsOf (view_of p)) (seen texts) (seen p.texts) (seen-later (view_of p) s later) p.cells w.own.cells in
@@ -222,7 +230,7 @@ module _ (p : Parts) (w : IsWhole p) where
       by true h = record { whole = w; shown = refl; later = later-itself (view_of p) }
       by false h = added_text bytes h
 
-pub whole-nothing : IsWhole (record { texts = []; tables = []; cells = []; closures = []; markup = [] })
+pub whole-nothing : IsWhole (record { texts = []; tables = []; cells = []; closures = []; markup = []; env = 0 })
 unfolding IsDistinct
 whole-nothing = record { distinct = tt; own = record { tables = tt; cells = tt; closures = tt; markup = tt } }
 

@@ -3,7 +3,7 @@ use Rattle.std.proofs.Common.{◌≡◌, ◌≢◌, ℕ, zero, suc, false, List,
 use Rattle.std.specs.List.{AllByRecursion, IsDistinct}
 use Rattle.std.specs.Map.{keys_of}
 use Rattle.std.specs.Str.{bytes_eq}
-use Rattle.lua_table.specs.Entries.{Contents, HasKeys}
+use Rattle.lua_table.specs.Entries.{Contents}
 use Rattle.lua_table.proofs.SetLemmas.{HasKeys-empty}
 use Rattle.lua_heap.specs.Value as heap
 use Rattle.lua_heap.specs.Value.{same}

@@ -1,7 +1,8 @@
 -- What a store has, a later one has too, and sees alike.
-use Rattle.std.proofs.Common.{◌≡◌, ℕ, List, [], ◌∷◌, ◌++◌, Option, Some, None, refl, ap, ◌∙◌, arith, map}
+use Rattle.std.proofs.Common.{◌≡◌, ℕ, ◌≤◌, ◌+◌, ◌-◌, List, [], ◌∷◌, ◌++◌, length, Option, Some, None, refl, sym, ap, ◌∙◌, arith, map}
 use Rattle.std.proofs.Math.ListN.{get_or-append}
-use Rattle.std.proofs.lemmas.List.{length-append}
+use Rattle.std.proofs.lemmas.List.{length-append, append-nil, append_assoc, replicate-append-replicate}
+use Rattle.std.specs.Prelude.{replicate}
 use Rattle.lua_table.specs.Entries.{Contents}
 use Rattle.lua_heap.specs.Value as heap
 use Rattle.lua_heap.specs.Value.{Value as HeapValue}
@@ -22,7 +23,7 @@ use Rattle.lua_store.specs.declared.markup.MarkupChild.{MarkupChild}
 use Rattle.lua_store.specs.declared.markup.MarkupChild.TheVariants.{Text as ChildText, Node as ChildNode}
 use Rattle.lua_store.specs.declared.markup.MarkupNode.{MarkupNode}
 use Rattle.lua_store.specs.Seen.{StoreView, text_at, seen, seen_entry, seen_table, seen_closure, places_of, closed_of, seen_pair, seen_style, seen_child, seen_node}
-use Rattle.lua_store.specs.Parts.{Parts, IsOf, IsTextOf, IsCellOf, IsEntryOf, IsContentsOf, IsKindOf, IsContentOf, IsPairOf, IsStyleOf, IsChildOf, IsParentOf, IsNodeOf, AreOf, IsLonger, IsLater}
+use Rattle.lua_store.specs.Parts.{Parts, IsOf, IsTextOf, IsCellOf, IsEntryOf, IsContentsOf, IsKindOf, IsContentOf, IsPairOf, IsStyleOf, IsChildOf, IsParentOf, IsNodeOf, AreOf, IsLonger, IsLater, IsGrown}
 use Rattle.lua_store.proofs.Lists.{all-to, map-alike}
 
 -- IsLonger and IsLater go from any store to itself, and compose
@@ -42,8 +43,21 @@ longer-push texts bytes = record {
   same = λ id h. get_or-append texts (bytes ∷ []) [] id h;
 }
 
+-- numbers of closures, where none was made, and where some were made behind others
+pub none_made : (env : ℕ) (envs : List ℕ) (n : ℕ) → envs ≡ envs ++ replicate (n - n) env
+none_made env envs n =
+    let none : n - n ≡ 0 = omega arith in
+    sym (ap (λ k. envs ++ replicate k env) none ∙ append-nil envs)
+
+pub all_made : (env env' : ℕ) (xs ys zs : List ℕ) (a b c : ℕ) → a ≤ b → b ≤ c → env' ≡ env → ys ≡ xs ++ replicate (b - a) env → zs ≡ ys ++ replicate (c - b) env' → zs ≡ xs ++ replicate (c - a) env
+all_made env env' xs ys zs a b c h k same made then =
+    let sum : (b - a) + (c - b) ≡ c - a = omega (arith, h, k) in
+    then ∙ ap (λ e. ys ++ replicate (c - b) e) same ∙ ap (λ ns. ns ++ replicate (c - b) env) made
+    ∙ append_assoc xs (replicate (b - a) env) (replicate (c - b) env)
+    ∙ ap (λ ns. xs ++ ns) (replicate-append-replicate (b - a) (c - b) env ∙ ap (λ n. replicate n env) sum)
+
 pub later-itself : (s : StoreView) → IsLater s s
-later-itself s = record { texts = longer-itself s.texts; tables = omega arith; cells = omega arith; closures = omega arith; markup = omega arith; closures_same = λ id h. refl }
+later-itself s = record { texts = longer-itself s.texts; tables = omega arith; cells = omega arith; closures = omega arith; markup = omega arith; closures_same = λ id h. refl; env = refl; envs = none_made s.env s.envs (length s.heap.closures) }
 
 pub later-then : (s t u : StoreView) → IsLater s t → IsLater t u → IsLater s u
 later-then s t u l m = record {
@@ -53,7 +67,26 @@ later-then s t u l m = record {
   closures = omega (arith, l.closures, m.closures);
   markup = omega (arith, l.markup, m.markup);
   closures_same = λ id h. m.closures_same id (omega (arith, h, l.closures)) ∙ l.closures_same id h;
+  env = m.env ∙ l.env;
+  envs = all_made s.env t.env s.envs t.envs u.envs (length s.heap.closures) (length t.heap.closures) (length u.heap.closures) l.closures m.closures l.env l.envs m.envs;
 }
+
+-- later, whatever the numbers
+pub later-grown : (s t : StoreView) → IsLater s t → IsGrown s t
+later-grown s t l =
+    let a = length s.heap.closures in
+    let b = length t.heap.closures in
+    let sum : a + (b - a) ≡ b = let h = l.closures in omega (arith, h) in
+    record {
+      texts = l.texts;
+      tables = l.tables;
+      cells = l.cells;
+      closures = l.closures;
+      markup = l.markup;
+      closures_same = l.closures_same;
+      env = refl;
+      envs = sym (replicate-append-replicate a (b - a) 0 ∙ ap (λ n. replicate n 0) sum);
+    }
 
 module _ (s t : StoreView) (l : IsLater s t) where
   -- what is of the earlier store is of the later one

@@ -11,7 +11,7 @@ use Rattle.lua_store.specs.declared.value.Value.{Value}
 use Rattle.lua_store.specs.declared.closure.Closure.{Closure}
 use Rattle.lua_store.specs.declared.markup.MarkupNode.{MarkupNode}
 use Rattle.lua_store.specs.Seen.{StoreView, seen, seen_table, seen_closure, seen_node}
-use Rattle.lua_store.specs.Parts.{IsOf, IsContentsOf, IsContentOf, IsNodeOf, IsLater}
+use Rattle.lua_store.specs.Parts.{IsOf, IsContentsOf, IsContentOf, IsNodeOf, IsLater, IsGrown}
 
 abbrev pub ValuesStay : Type 0
 ValuesStay = (s t : StoreView) (v : Value) → IsLater s t → IsOf s v → IsOf t v × (seen t.texts v ≡ seen s.texts v)
@@ -27,6 +27,9 @@ NodesStay = (s t : StoreView) (n : MarkupNode) → IsLater s t → IsNodeOf s n 
 
 abbrev pub LaterGoesOn : Type 0
 LaterGoesOn = (s t u : StoreView) → IsLater s t → IsLater t u → IsLater s u
+
+abbrev pub LaterIsGrown : Type 0
+LaterIsGrown = (s t : StoreView) → IsLater s t → IsGrown s t
 
 -- where no text is kept twice, two values that are seen alike are one
 abbrev pub SeenOnce : Type 0

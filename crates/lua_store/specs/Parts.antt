@@ -1,5 +1,5 @@
 -- WHAT A STORE KEEPS: texts, and objects whose values name a text by its place among the texts.
-use Rattle.std.specs.Prelude.{◌≡◌, ℕ, ◌<◌, ◌≤◌, false, List, [], ◌∷◌, ◌++◌, map, length, if◌then◌else◌, Option, Some, None, slice_index_or}
+use Rattle.std.specs.Prelude.{◌≡◌, ℕ, ◌<◌, ◌≤◌, ◌-◌, false, List, [], ◌∷◌, ◌++◌, map, length, replicate, if◌then◌else◌, Option, Some, None, slice_index_or}
 use Rattle.std.specs.List.{list_any, AllByRecursion, IsDistinct}
 use Rattle.std.specs.Str.{bytes_eq}
 use Rattle.lua_table.specs.Entries.{Contents, set_at, HasKeys}
@@ -30,6 +30,7 @@ pub record Parts : Type 0 where
   pub cells : List Value
   pub closures : List Closure
   pub markup : List MarkupNode
+  pub env : ℕ
 
 abbrev pub view_of : Parts → StoreView
 view_of p = record {
@@ -41,6 +42,7 @@ view_of p = record {
     markup = map (seen_node p.texts) p.markup;
   };
   envs = envs_of p.closures;
+  env = p.env;
 }
 
 -- ids of a store
@@ -144,7 +146,8 @@ pub record IsLonger (old new : List (List ℕ)) : Type 0 where
   pub length_ : length old ≤ length new
   pub same : (id : ℕ) → id < length old → text_at new id ≡ text_at old id
 
--- whatever the earlier store has, the later one has; texts and closures are as they were
+-- whatever the earlier store has, the later one has; texts and closures are as they were, the invocation at work is the same, and each closure that
+-- was made since has its number
 pub record IsLater (old new : StoreView) : Type 0 where
   pub texts : IsLonger old.texts new.texts
   pub tables : length old.heap.tables ≤ length new.heap.tables
@@ -152,7 +155,17 @@ pub record IsLater (old new : StoreView) : Type 0 where
   pub closures : length old.heap.closures ≤ length new.heap.closures
   pub markup : length old.heap.markup ≤ length new.heap.markup
   pub closures_same : (id : ℕ) → id < length old.heap.closures → closure_at new.heap id ≡ closure_at old.heap id
+  pub env : new.env ≡ old.env
+  pub envs : new.envs ≡ old.envs ++ replicate (length new.heap.closures - length old.heap.closures) old.env
+
+-- the store, whatever the numbers
+abbrev pub unnumbered : StoreView → StoreView
+unnumbered s = record s { envs = replicate (length s.heap.closures) 0; env = 0 }
+
+-- whatever the earlier store has, the later one has, and texts and closures are as they were, whatever the numbers
+abbrev pub IsGrown : StoreView → StoreView → Type 0
+IsGrown old new = IsLater (unnumbered old) (unnumbered new)
 
 -- a store with nothing in it
 abbrev pub nothing : StoreView
-nothing = record { texts = []; heap = empty; envs = [] }
+nothing = record { texts = []; heap = empty; envs = []; env = 0 }

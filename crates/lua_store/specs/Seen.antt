@@ -1,5 +1,5 @@
 -- WHAT IS SEEN OF A STORE: its texts, and its objects as a heap of Lua. In the heap a text is its bytes and never its number.
-use Rattle.std.specs.Prelude.{ℕ, List, [], ◌∷◌, map, Option, Some, None, slice_index_or}
+use Rattle.std.specs.Prelude.{ℕ, List, [], map, Option, Some, None, slice_index_or}
 use Rattle.std.specs.Option.{option_map}
 use Rattle.lua_table.specs.Entries.{Contents}
 use Rattle.lua_table.specs.declared.table.Step.{Step}
@@ -22,11 +22,13 @@ use Rattle.lua_store.specs.declared.markup.MarkupChild.{MarkupChild as StoredChi
 use Rattle.lua_store.specs.declared.markup.MarkupChild.TheVariants.{Text as StoredChildText, Node as StoredChildNode}
 use Rattle.lua_store.specs.declared.markup.MarkupNode.{MarkupNode as StoredNode}
 
--- a store: the texts in the order in which they were made, the objects, and for each closure the number of its invocation
+-- a store: the texts in the order in which they were made, the objects, for each closure the number of its invocation, and the number of the
+-- invocation at work
 pub record StoreView : Type 0 where
   pub texts : List (List ℕ)
   pub heap : Heap Proc
   pub envs : List ℕ
+  pub env : ℕ
 
 -- the bytes of a text
 abbrev pub text_at : List (List ℕ) → ℕ → List ℕ

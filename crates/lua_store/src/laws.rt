@@ -1,7 +1,7 @@
 //! Laws of stores. Each is the contract of a function that does nothing.
 ghost use Rattle.std.specs.List.{IsDistinct};
 ghost use Rattle.std.specs.Str.{bytes_eq};
-ghost use Rattle.lua_store.specs.Laws.{ValuesStay, TablesStay, ClosuresStay, NodesStay, LaterGoesOn, SeenOnce, KeysAreOnce, NamesWhatIsThere};
+ghost use Rattle.lua_store.specs.Laws.{ValuesStay, TablesStay, ClosuresStay, NodesStay, LaterGoesOn, LaterIsGrown, SeenOnce, KeysAreOnce, NamesWhatIsThere};
 
 use crate::store::Store;
 
@@ -28,6 +28,11 @@ pub fn nodes_stay()
 /// What is later than a later store is later.
 pub fn later_goes_on()
     ensures { LaterGoesOn }
+{}
+
+/// A later store is grown, whatever the numbers of closures.
+pub fn later_is_grown()
+    ensures { LaterIsGrown }
 {}
 
 /// Values of one store that are seen alike are the same value.

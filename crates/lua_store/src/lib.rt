@@ -20,8 +20,6 @@ pub mod laws;
 pub mod markup;
 pub mod store;
 mod tables;
-#[cfg(test)]
-mod tests;
 mod texts;
 pub mod value;
 mod vectors;

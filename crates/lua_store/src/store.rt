@@ -6,7 +6,7 @@ ghost use Rattle.lua_heap.specs.Value.{same};
 ghost use Rattle.lua_store.specs.declared.ids.TextId.{TextId};
 ghost use Rattle.lua_store.specs.Envs.{is_among};
 ghost use Rattle.lua_store.specs.Seen.{text_at, seen, places_of, closed_of, seen_closure, seen_node};
-ghost use Rattle.lua_store.specs.Parts.{nothing, with_text, IsTextOf, IsCellOf, IsClosureOf, IsMarkupOf, IsOf, AreCellsOf, IsKindOf, IsContentOf, IsNodeOf, IsLater};
+ghost use Rattle.lua_store.specs.Parts.{nothing, with_text, IsTextOf, IsCellOf, IsClosureOf, IsMarkupOf, IsOf, AreCellsOf, IsKindOf, IsContentOf, IsNodeOf, IsLater, IsGrown};
 
 use crate::closure::{Closure, ClosureKind};
 use crate::closures::Closures;
@@ -35,6 +35,8 @@ pub struct Store<'b> {
     pub(crate) cells: Vec<Value>,
     pub(crate) closures: Closures,
     pub(crate) markup: Vec<MarkupNode>,
+    /// The number of the invocation at work.
+    pub(crate) env: u32,
 }
 
 impl<'b> Model for Store<'b> {
@@ -43,9 +45,9 @@ impl<'b> Model for Store<'b> {
 
     ghost Value = { StoreView };
 
-    ghost view = { λ s. view_of (record { texts = s.texts; tables = s.tables.items; cells = s.cells.items; closures = s.closures; markup = s.markup.items }) };
+    ghost view = { λ s. view_of (record { texts = s.texts; tables = s.tables.items; cells = s.cells.items; closures = s.closures; markup = s.markup.items; env = s.env }) };
 
-    ghost invariant = { λ s. IsWhole (record { texts = s.texts; tables = s.tables.items; cells = s.cells.items; closures = s.closures; markup = s.markup.items }) };
+    ghost invariant = { λ s. IsWhole (record { texts = s.texts; tables = s.tables.items; cells = s.cells.items; closures = s.closures; markup = s.markup.items; env = s.env }) };
 }
 
 impl<'b> Store<'b> {
@@ -64,6 +66,7 @@ impl<'b> Store<'b> {
             cells: Vec::new(alloc),
             closures: Closures::new(alloc),
             markup: Vec::new(alloc),
+            env: 0,
         }
     }
 
@@ -129,11 +132,18 @@ impl<'b> Store<'b> {
         self.cells[at] = value;
     }
 
-    /// A new closure, made in the invocation with that number.
+    /// From here on the invocation with that number is at work: each closure that is made has it. In a new store that is 0.
+    pub fn begin_env(&mut self, env: u32)
+        ensures begun { self.new ≡ record self.old { env = env } }
+        ensures grown { IsGrown self.old self.new }
+    {
+        self.env = env;
+    }
+
+    /// A new closure, made in the invocation at work.
     pub fn new_closure(
         &mut self,
         kind: ClosureKind,
-        env: u32,
         cells: List<CellId>,
     ) -> Result<ClosureId, NoMemory>
         requires kind { IsKindOf self.old kind }
@@ -143,12 +153,17 @@ impl<'b> Store<'b> {
         ensures made { OnOk result (self.new ≡ record {
           texts = self.old.texts;
           heap = (heap.new_closure self.old.heap (closed_of self.old.texts kind (places_of cells))).0;
-          envs = self.old.envs ++ env ∷ [];
+          envs = self.old.envs ++ self.old.env ∷ [];
+          env = self.old.env;
         }) }
         ensures later { IsLater self.old self.new }
         ensures err { OnErr result (self.new ≡ self.old) }
     {
-        let closure = Closure { kind, env, cells };
+        let closure = Closure {
+            kind,
+            env: self.env,
+            cells,
+        };
         Ok(ClosureId::of_place(self.closures.push(closure)?))
     }
 

@@ -1,13 +1,12 @@
 //! Tests of `lua_strings`, which stand apart since a crate's tests are proved together with all of it.
 //!
 //! - `rows`: calls with what they give; those without an error are of Lua 5.1 itself (`bench/string_rows.lua`)
-//! - `values`: values as rows write them
 //! - `tests`: each row is called
+//!
+//! There are no definitions here.
 #![tactic(auto)]
 
 #[cfg(test)]
 mod rows;
 #[cfg(test)]
 mod tests;
-#[cfg(test)]
-mod values;

@@ -3,42 +3,19 @@ ghost use Rattle.std.specs.Prelude.{IfOk};
 ghost use Rattle.lua_basic.specs.Seen.{AllOf};
 
 use crate::rows::rows;
-use crate::values::{add_value, message, written};
 use bumpalo::Bump;
 use case_text::unescaped;
 use lua_basic::Stop;
 use lua_store::{Library, Store, Value};
 use lua_strings::{StringFunction, string_call, string_function};
 use std::alloc::Global;
-use std::hash::RandomState;
-use std::io;
-use std::random::RandomSource;
 use std::test::Fail;
+use value_rows::start::{fixed_seed, steps};
+use value_rows::words::{add_value, message, written};
 use wk_base::{Left, List, NoMemory};
 
-/// A source whose bytes are all 5, so that each run of the tests is the same.
-struct Fives;
-
-impl RandomSource for Fives {
-    fn fill_bytes(&self, bytes: &mut [u8]) -> io::Result<()> {
-        bytes.fill(5);
-        Ok(())
-    }
-}
-
-fn fixed_seed() -> io::Result<RandomState> {
-    RandomState::new(&Fives)
-}
-
 fn ample_steps() -> Left {
-    Left {
-        steps: 1_000_000,
-        nodes: 0,
-        bytes: 0,
-        calls: 0,
-        depth: 0,
-        templates: 0,
-    }
+    steps(1_000_000)
 }
 
 /// The function of the library that a row names.

@@ -12,8 +12,6 @@ ghost use Rattle.std.specs.Prelude.{◌≡◌, ◌↔◌, ℤ, Option, Some, Non
 mod entries;
 mod holes;
 pub mod table;
-#[cfg(test)]
-mod tests;
 
 // A crate can name a table in a contract only if the types of its fields are exported.
 #[doc(hidden)]

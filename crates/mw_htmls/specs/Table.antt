@@ -6,11 +6,14 @@ use Rattle.lua_heap.specs.Heap.{Heap, markup_at}
 use Rattle.lua_heap.specs.declared.library.Library.{Library}
 use Rattle.lua_heap.specs.declared.library.Library.TheVariants.{HtmlCreate, HtmlNode, HtmlWikitext, HtmlNewline, HtmlAttr, HtmlAddClass, HtmlCss, HtmlCssText, HtmlTag, HtmlDone, HtmlAllDone, HtmlGetAttr}
 use Rattle.lua_meaning.specs.Scope.{Bytes}
+use Rattle.lua_meaning.specs.World.{World}
+use Rattle.lua_meaning.specs.Acts.{Frame}
 use Rattle.lua_meaning.specs.Values.{rest}
 use Rattle.lua_meaning.specs.Arguments.{Plain, gives, with_argument, a_text}
 use Rattle.lua_meaning.specs.TextArguments.{of_texts}
 use Rattle.lua_meaning.specs.HtmlNodes as nodes
 use Rattle.lua_meaning.specs.Html as html
+use Rattle.lua_meaning.specs.Libraries.{Answers, form}
 use Rattle.mw_htmls.specs.declared.table.Method.{Method}
 use Rattle.mw_htmls.specs.declared.table.Method.TheVariants as own
 use Rattle.mw_htmls.specs.declared.table.HtmlFunction.{HtmlFunction}
@@ -99,21 +102,7 @@ given_by (function.Method which) args h = method_by which args h
 abbrev pub answer_of : {X : Type 0} → HtmlFunction → List Value → Heap X → Plain X
 answer_of f args h = of_texts (given_by f) args h
 
--- WHAT IS MEANT by each name of the library
-abbrev pub meant : Library → Option (List Value → Heap Proc → Plain Proc)
-meant HtmlCreate = Some html.create
-meant HtmlNode = Some html.node
-meant HtmlWikitext = Some html.wikitext
-meant HtmlNewline = Some html.newline
-meant HtmlAttr = Some html.attr
-meant HtmlAddClass = Some html.add_class
-meant HtmlCss = Some html.css
-meant HtmlCssText = Some html.css_text
-meant HtmlTag = Some html.tag
-meant HtmlDone = Some html.done
-meant HtmlAllDone = Some html.all_done
-meant HtmlGetAttr = Some html.get_attr
-meant which = None
-
-abbrev pub AreTheMethods : Type 0
-AreTheMethods = (which : Library) (f : HtmlFunction) → html_function_in which ≡ Some f → meant which ≡ Some (given_by f)
+-- each is a line of the table of the library
+abbrev pub AreInTable : Type 0
+AreInTable = (which : Library) (f : HtmlFunction) → html_function_in which ≡ Some f → (world : World) (args : List Value) (h : Heap Proc) (frames : List Frame)
+    → form world which args h frames ≡ Answers (answer_of f args h)

@@ -1,6 +1,6 @@
 //! The functions of `mw.html` over the store of a page: `create`, and the methods of its objects (Scribunto, HTML library).
 //!
-//! - `table`: which functions of the library they are, and the fields of an object
+//! - `table`: which functions of the library they are
 //! - `arguments`: what they are given
 //! - `nodes`: an object of the store is changed
 //! - `making`: `create` and `tag`
@@ -28,4 +28,4 @@ pub mod table;
 pub mod tabled;
 
 pub use call::html_call;
-pub use table::{HtmlFunction, Method, html_function, method_named};
+pub use table::{HtmlFunction, Method, html_function};

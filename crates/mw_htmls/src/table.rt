@@ -1,7 +1,6 @@
 //! Which functions of the library they are.
 ghost use Rattle.std.specs.Prelude.{◌≡◌};
-ghost use Rattle.lua_meaning.specs.Html as meaning;
-ghost use Rattle.mw_htmls.specs.Table.{html_function_in, name_of, AreTheMethods};
+ghost use Rattle.mw_htmls.specs.Table.{html_function_in, name_of, AreInTable};
 
 use lua_store::Library;
 
@@ -68,38 +67,7 @@ pub fn name(which: Method) -> &'static [u8]
     }
 }
 
-/// The method of this name: a field of each object.
-pub fn method_named(name: &[u8]) -> Option<Library>
-    ensures { result ≡ meaning.method_named name.now }
-{
-    if name == b"node".as_slice() {
-        Some(Library::HtmlNode)
-    } else if name == b"wikitext".as_slice() {
-        Some(Library::HtmlWikitext)
-    } else if name == b"newline".as_slice() {
-        Some(Library::HtmlNewline)
-    } else if name == b"tag".as_slice() {
-        Some(Library::HtmlTag)
-    } else if name == b"attr".as_slice() {
-        Some(Library::HtmlAttr)
-    } else if name == b"getAttr".as_slice() {
-        Some(Library::HtmlGetAttr)
-    } else if name == b"addClass".as_slice() {
-        Some(Library::HtmlAddClass)
-    } else if name == b"css".as_slice() {
-        Some(Library::HtmlCss)
-    } else if name == b"cssText".as_slice() {
-        Some(Library::HtmlCssText)
-    } else if name == b"done".as_slice() {
-        Some(Library::HtmlDone)
-    } else if name == b"allDone".as_slice() {
-        Some(Library::HtmlAllDone)
-    } else {
-        None
-    }
-}
-
-/// Each of them does what the meaning says of it.
-pub fn functions_are_what_is_meant()
-    ensures { AreTheMethods }
+/// What each gives is what the meaning says of it.
+pub fn html_functions_are_in_the_table()
+    ensures { AreInTable }
 {}

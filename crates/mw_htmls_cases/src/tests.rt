@@ -4,44 +4,22 @@ ghost use Rattle.lua_store.specs.Parts.{IsOf};
 ghost use Rattle.lua_basic.specs.Seen.{AllOf};
 
 use crate::rows::rows;
-use crate::values::{add_value, message, written};
 use bumpalo::Bump;
 use case_text::unescaped;
 use lua_basic::Stop;
+use lua_basic::objects::method_named;
 use lua_basic::values::first;
 use lua_store::{Library, Store, Value};
 use mw_html_texts::give_object_text;
-use mw_htmls::{HtmlFunction, html_call, html_function, method_named};
+use mw_htmls::{HtmlFunction, html_call, html_function};
 use std::alloc::Global;
-use std::hash::RandomState;
-use std::io;
-use std::random::RandomSource;
 use std::test::Fail;
+use value_rows::start::{fixed_seed, steps};
+use value_rows::words::{add_value, message, written};
 use wk_base::{Left, List, NoMemory};
 
-/// A source whose bytes are all 5, so that each run of the tests is the same.
-struct Fives;
-
-impl RandomSource for Fives {
-    fn fill_bytes(&self, bytes: &mut [u8]) -> io::Result<()> {
-        bytes.fill(5);
-        Ok(())
-    }
-}
-
-fn fixed_seed() -> io::Result<RandomState> {
-    RandomState::new(&Fives)
-}
-
 fn ample_steps() -> Left {
-    Left {
-        steps: 1_000_000,
-        nodes: 0,
-        bytes: 0,
-        calls: 0,
-        depth: 0,
-        templates: 0,
-    }
+    steps(1_000_000)
 }
 
 /// The function that a row names.

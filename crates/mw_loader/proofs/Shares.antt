@@ -48,7 +48,7 @@ pub shared : (s t : StoreView) (v root : Value) (g : Graph) → NamesWhatIsThere
 shared s t v root g names of e texts is root_ = record {
   graph = plain_graph g;
   taken_is = e;
-  store = is ∙ ap (λ ts. record { texts = with_texts s.texts ts; heap = join true (plain_graph g) s.heap; envs = s.envs }) texts;
+  store = is ∙ ap (λ ts. record { texts = with_texts s.texts ts; heap = join true (plain_graph g) s.heap; envs = s.envs; env = s.env }) texts;
   root_is = root_;
   reached = new_reached s t (plain_graph g) names (ap (λ (x : StoreView). x.heap) is) v of e;
 }

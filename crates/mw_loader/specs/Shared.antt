@@ -20,6 +20,6 @@ kept_for kept title = lookup (titles.ghosts.eq title) kept
 pub record IsSharedData (old : StoreView) (value : Value) (new : StoreView) (root : Value) : Type 0 where
   pub graph : Graph
   pub taken_is : taken old.heap (seen old.texts value) ≡ Ok graph
-  pub store : new ≡ record { texts = with_texts old.texts (texts_of graph); heap = join true graph old.heap; envs = old.envs }
+  pub store : new ≡ record { texts = with_texts old.texts (texts_of graph); heap = join true graph old.heap; envs = old.envs; env = old.env }
   pub root_is : seen new.texts root ≡ joined_root old.heap
   pub reached : (n : ℕ) → length old.heap.tables ≤ n → n < length new.heap.tables → Leads new.heap (length old.heap.tables) n

@@ -8,8 +8,6 @@
 
 pub mod keep;
 mod sharing;
-#[cfg(test)]
-mod tests;
 
 pub use keep::{DataKeep, Kept};
 pub use lua_graph::DataFault;

@@ -1,16 +1,1 @@
-pub mod Waiting
-pub mod Goings
-pub mod Hands
-pub mod Asks
-pub mod KeepLaws
-pub mod MachineEnds
-pub mod Halting
-pub mod Expanding
-pub mod DataPut
-pub mod Answering
-pub mod Steps
-pub mod Starts
 pub mod Whole
-pub mod Sinking
-pub mod Drives
-pub mod Beginnings

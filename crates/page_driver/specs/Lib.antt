@@ -1,12 +1,2 @@
 pub mod Ground
-pub mod Seen
-pub mod Ending
-pub mod Tasks
-pub mod Going
-pub mod Calls
-pub mod Falling
-pub mod Kept
-pub mod Beginning
-pub mod Driven
-pub mod Moving
 pub mod Page

@@ -1,35 +1,19 @@
 //! A page in progress: what a task that has halted leads to, and the loop until the page is expanded.
 ghost use Rattle.std.specs.Prelude.{IfOk};
-ghost use Rattle.page_driver.specs.Ground.{ground_of};
-ghost use Rattle.page_driver.specs.Driven.{InProgress, IsStarting, MovesOn, ComesTo};
-ghost use Rattle.page_driver.specs.Moving.{Sinks, SinksToQuestion, IsQuestionIf, TakesSteps};
+ghost use Rattle.page_ground.specs.Ground.{ground_of};
+ghost use Rattle.page_replies.specs.Driven.{InProgress, IsStarting, MovesOn, ComesTo};
+ghost use Rattle.page_replies.specs.Moving.{Sinks, SinksToQuestion, IsQuestionIf, TakesSteps};
 
-use crate::asking::answer_question;
-use crate::beginning::Around;
-use crate::going::go_on;
-use crate::handing::hand_over;
-use crate::keep::Keep;
-use crate::stacking::invoke;
-use crate::task::{Halt, Halted, Reply, Task};
-use lua_stack::Stack;
 use lua_store::Store;
+use page_ground::around::Around;
+use page_replies::asking::answer_question;
+use page_replies::handing::hand_over;
+use page_replies::stacking::invoke;
+use page_replies::tower::{Next, Tower};
+use page_tasks::going::go_on;
+use page_tasks::task::{Halt, Halted, Reply, Task};
 use std::sync::ledger::Ledger;
 use wk_base::{Left, NoMemory, Steps};
-
-/// The tasks that wait, the data that is kept, and the steps of loads that were found kept.
-#[derive(Drop)]
-pub struct Tower<'w> {
-    pub stack: Stack<Task<'w>>,
-    pub keep: Keep,
-    pub kept: u64,
-}
-
-/// What is next: the page is expanded, or a task has halted.
-#[derive(Drop)]
-pub enum Next<'w> {
-    Over(Reply),
-    On(Halted<'w>),
-}
 
 /// A page moves on, from a task that has halted to the next that halts.
 pub fn move_on<'w, L: Ledger>(
@@ -46,17 +30,10 @@ pub fn move_on<'w, L: Ledger>(
 {
     let Halted { task, halt } = halted;
     match halt {
-        Halt::Comes(reply) => {
-            let next = hand_over(around, store, left, tower, task, reply, turns)?;
-            Ok(next)
-        }
-        Halt::Invokes(job) => {
-            let next = invoke(around, store, left, tower, task, job, turns)?;
-            Ok(next)
-        }
+        Halt::Comes(reply) => hand_over(around, store, left, tower, task, reply, turns),
+        Halt::Invokes(job) => invoke(around, store, left, tower, task, job, turns),
         Halt::Asks(question) => {
-            let next = answer_question(around, store, left, tower, task, question, turns)?;
-            Ok(next)
+            answer_question(around, store, left, tower, task, question, turns)
         }
     }
 }
@@ -131,7 +108,7 @@ pub fn drive<'w, L: Ledger>(
     turns: &mut Steps<L>,
 ) -> Result<Reply, NoMemory>
     requires { IsStarting (ground_of around.now) store.old left.old turns.old tower.old task }
-    ensures { IfOk result (λ r. ComesTo (ground_of around.now) store.old left.old turns.old tower.old task.entry left.new turns.new tower.new r) }
+    ensures { IfOk result (λ r. ComesTo (ground_of around.now) store.old left.old turns.old tower.old task.entry store.new left.new turns.new tower.new r) }
 {
     let mut halted = go_on(around.alloc, store, left, task, turns)?;
     'questions: loop {

@@ -5,23 +5,28 @@ ghost use Rattle.wiki_expand.specs.Pages.{find_page, direct_in};
 ghost use Rattle.lua_meaning.specs.World.{Modules as PlainModules};
 ghost use Rattle.expand_meaning.specs.Outcome.{Reading, page_scene};
 ghost use Rattle.lua_store.specs.Seen.{StoreView};
+ghost use Rattle.lua_store.specs.Parts.{nothing};
 ghost use Rattle.page_meaning.specs.Tasks.{Expanding, given_text};
 ghost use Rattle.page_driver.specs.declared.wiki.Page.{Page as PageValue};
-ghost use Rattle.page_driver.specs.Beginning.{Begins};
-ghost use Rattle.page_driver.specs.Ground.{AreModulesIn, AreModulesOf, ground_of, page_of, wiki_in, wiki_of};
-ghost use Rattle.page_driver.specs.Seen.{reply_seen};
-ghost use Rattle.page_driver.specs.Driven.{Fits};
+ghost use Rattle.page_tasks.specs.Beginning.{Begins};
+ghost use Rattle.page_ground.specs.Ground.{AreModulesIn, AreModulesOf, ground_of, page_of, wiki_in, wiki_of};
+ghost use Rattle.page_ground.specs.Numbered.{none_started};
+ghost use Rattle.page_tasks.specs.Seen.{reply_seen};
+ghost use Rattle.page_replies.specs.Driven.{Fits};
 ghost use Rattle.page_driver.specs.Page.{full_of, IsHeldPage};
 
-use crate::beginning::{Around, begin_page};
-use crate::driving::{Tower, drive};
-use crate::keep::Keep;
-use crate::task::{Reply, Task};
+use crate::driving::drive;
 use crate::wiki::{Page, Wiki};
 use bumpalo::Bump;
 use lua_stack::Stack;
 use lua_state::World;
 use lua_store::Store;
+use page_ground::around::Around;
+use page_ground::keep::Keep;
+use page_ground::numbers::Numbers;
+use page_replies::tower::Tower;
+use page_tasks::beginning::begin_page;
+use page_tasks::task::{Reply, Task};
 use std::alloc::Global;
 use std::hash::RandomState;
 use std::sync::ledger::Ledger;
@@ -44,16 +49,18 @@ fn text_in(alloc: Global, reply: Reply) -> Result<Bytes, NoMemory>
     }
 }
 
-/// Nothing waits, and nothing is kept.
+/// Nothing waits, nothing is kept, and no run has started.
 fn empty_tower<'w>(alloc: Global, seed: RandomState) -> Tower<'w>
     ensures stack { result.stack ≡ [] }
     ensures keep { result.keep ≡ [] }
     ensures kept { result.kept ≡ 0 }
+    ensures numbers { result.numbers ≡ none_started }
 {
     Tower {
         stack: Stack::new(alloc),
         keep: Keep::new(alloc, seed),
         kept: 0,
+        numbers: Numbers::new(alloc),
     }
 }
 
@@ -75,13 +82,15 @@ struct Came {
     kept: u64,
 }
 
-/// Goes on with the page's own expansion, in a store of its own, which is given back at once.
+/// Goes on with the page's own expansion, with all that the page may use.
 fn come_from<'w, L: Ledger>(
     around: &Around<'w>,
+    store: &mut Store,
     limits: &Limits,
     root: Task<'w>,
     turns: &mut Steps<L>,
 ) -> Result<Came, NoMemory>
+    requires fresh { store.old ≡ nothing }
     requires held { IsSome (find_page (ground_of around.now).pages (page_of (ground_of around.now))) }
     requires countable { IsCountable limits.now }
     requires root { IfSome (direct_in (ground_of around.now).pages (page_of (ground_of around.now))) (λ trees. (s : StoreView) → Begins (ground_of around.now) (Expanding (Reading trees (page_scene (page_of (ground_of around.now))))) s s root) }
@@ -91,9 +100,7 @@ fn come_from<'w, L: Ledger>(
 {
     let mut left = full_left(limits);
     let mut tower = empty_tower(around.alloc, around.seed);
-    let arena = Bump::new(around.alloc);
-    let mut store = Store::new(around.alloc, &arena, around.seed);
-    let reply = drive(around, &mut store, &mut left, &mut tower, root, turns)?;
+    let reply = drive(around, store, &mut left, &mut tower, root, turns)?;
     Ok(Came {
         reply,
         left,
@@ -104,9 +111,11 @@ fn come_from<'w, L: Ledger>(
 /// Expands the page.
 fn expand_within<L: Ledger>(
     around: &Around<'_>,
+    store: &mut Store,
     limits: &Limits,
     turns: &mut Steps<L>,
 ) -> Result<Page, NoMemory>
+    requires fresh { store.old ≡ nothing }
     requires held { IsSome (find_page (ground_of around.now).pages (page_of (ground_of around.now))) }
     requires countable { IsCountable limits.now }
     ensures page { IfOk result (λ p. (modules : PlainModules) → AreModulesOf (ground_of around.now) modules → IsHeldPage (wiki_of (ground_of around.now) modules) (page_of (ground_of around.now)) (direct_in (ground_of around.now).pages (page_of (ground_of around.now))) (full_of limits.now) turns.old turns.new p) }
@@ -114,7 +123,7 @@ fn expand_within<L: Ledger>(
     ensures paid { IfOk result (λ p. turns.new + p.left.steps + p.kept ≤ turns.old + limits.now.steps) }
 {
     let root = begin_page(around)?;
-    let came = come_from(around, limits, root, turns)?;
+    let came = come_from(around, store, limits, root, turns)?;
     let Came { reply, left, kept } = came;
     let text = text_in(around.alloc, reply)?;
     let title = around.world.page.copy()?;
@@ -124,6 +133,39 @@ fn expand_within<L: Ledger>(
         left,
         kept,
     })
+}
+
+/// Expands a page of a wiki in a new store, which holds all that its modules make. The runs of the page are numbered from 0 in the order in which
+/// they start, invocations and loads of data alike; each function that a run makes has its number.
+pub fn expand_page_in<L: Ledger>(
+    alloc: Global,
+    seed: RandomState,
+    store: &mut Store,
+    wiki: &Wiki,
+    title: &Title,
+    limits: &Limits,
+    turns: &mut Steps<L>,
+) -> Result<Page, NoMemory>
+    requires fresh { store.old ≡ nothing }
+    requires held { IsSome (find_page wiki.now.pages title.now) }
+    requires countable { IsCountable limits.now }
+    // For all modules whose code is held, it is the page of the wiki that has them.
+    ensures page { IfOk result (λ p. (modules : PlainModules) → AreModulesIn title.now wiki.now.modules modules → IsHeldPage (wiki_in wiki.now.pages modules) title.now (direct_in wiki.now.pages title.now) (full_of limits.now) turns.old turns.new p) }
+    ensures rises { OnOk result (turns.old ≤ turns.new) }
+    ensures paid { IfOk result (λ p. turns.new + p.left.steps + p.kept ≤ turns.old + limits.now.steps) }
+{
+    let world = World {
+        page: title,
+        modules: &wiki.modules,
+    };
+    let around = Around {
+        alloc,
+        seed,
+        pages: &wiki.pages,
+        world,
+    };
+    let page = expand_within(&around, store, limits, turns)?;
+    Ok(page)
 }
 
 /// Expands a page of a wiki (MediaWiki, Help:Templates; Extension:Scribunto). Each invocation runs in a fresh environment; a data module is
@@ -144,16 +186,7 @@ pub fn expand_page<L: Ledger>(
     ensures rises { OnOk result (turns.old ≤ turns.new) }
     ensures paid { IfOk result (λ p. turns.new + p.left.steps + p.kept ≤ turns.old + limits.now.steps) }
 {
-    let world = World {
-        page: title,
-        modules: &wiki.modules,
-    };
-    let around = Around {
-        alloc,
-        seed,
-        pages: &wiki.pages,
-        world,
-    };
-    let page = expand_within(&around, limits, turns)?;
-    Ok(page)
+    let arena = Bump::new(alloc);
+    let mut store = Store::new(alloc, &arena, seed);
+    expand_page_in(alloc, seed, &mut store, wiki, title, limits, turns)
 }

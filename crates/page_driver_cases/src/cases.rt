@@ -20,7 +20,7 @@ pub struct Case {
 /// A number that is not told.
 pub const ANY: u64 = 1_000_000_001;
 
-pub const MODULES: [Source; 26] = [
+pub const MODULES: [Source; 28] = [
     // It counts its calls in a global variable.
     Source {
         name: "C",
@@ -35,6 +35,16 @@ pub const MODULES: [Source; 26] = [
     Source {
         name: "M",
         text: "return {f=function() return mw.loadData('Module:D').x end}",
+    },
+    // Data that a function of its own gives.
+    Source {
+        name: "Made",
+        text: "local function f() return 'v' end return {x=f()}",
+    },
+    // It reads that datum.
+    Source {
+        name: "Reads",
+        text: "return {f=function() return mw.loadData('Module:Made').x end}",
     },
     // Data that reads data.
     Source {

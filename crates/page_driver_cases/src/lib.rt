@@ -2,6 +2,7 @@
 //!
 //! - `cases`: a wiki, and pages with their texts
 //! - `wikis`: how a wiki is made of texts
+//! - `numbers`: the numbers of the runs of a page, as the functions of its store have them
 //! - `tests`: the pages, one after another
 //!
 //! There are no definitions here.
@@ -9,6 +10,8 @@
 
 #[cfg(test)]
 mod cases;
+#[cfg(test)]
+mod numbers;
 #[cfg(test)]
 mod tests;
 #[cfg(test)]

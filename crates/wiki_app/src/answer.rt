@@ -91,7 +91,7 @@ fn wiki_report<R: Threads + Sync, G: Gate + Sync>(
     ensures meant { IfOk result (λ _. (modules : PlainModules) × AreMeantBy pages modules) }
     ensures work { IfOk result (λ report. IsWork report.status) }
 {
-    let wiki = load(alloc, seed, pages)?;
+    let wiki = load(rt, alloc, seed, pages, settings.jobs as usize)?;
     let report = titles_report(rt, alloc, seed, settings, form, titles, &wiki, gate)?;
     Ok(report)
 }

@@ -1,7 +1,8 @@
--- What workers share may be lent to threads: a wiki, from its parts; and what a closure captures, where each part may be.
+-- What workers share may be lent to threads: a wiki, from its parts; and what a closure captures, where each part may be. What they give back may
+-- go from thread to thread: what is prepared of a page, from its parts.
 use Rattle.std.specs.Prelude.{ℕ, List}
 use denote.RattleType.{RattleType}
-use denote.Param.Send.{IsSync, AllSync, recorded_sync, struct_sync, sendable}
+use denote.Param.Send.{IsSend, IsSync, AllSync, recorded_sync, struct_sync, sendable}
 use denote.Struct.Declared.{shape}
 use denote.Struct.Tuple.{TupleAt, field_at, type_at}
 use Rattle.std.proofs.Crossing.{crosses}
@@ -16,6 +17,7 @@ use Rattle.lua_code.specs.contracts.modules.Module as Module
 use Rattle.lua_code.specs.contracts.modules.Modules as Modules
 use Rattle.wiki_expand.specs.contracts.pages.Entry as Entry
 use Rattle.wiki_expand.specs.contracts.pages.PageMap as PageMap
+use Rattle.wiki_texts.specs.contracts.prepared.Prepared as Prepared
 use Rattle.page_driver.specs.contracts.wiki.Wiki as Wiki
 
 -- ---- code, whose expressions and statements reach themselves through boxes and lists
@@ -77,3 +79,41 @@ Wiki-sync = let p = PageMap-sync in let m = Modules-sync in search sendable dept
 
 pub captured-sync : (name : List ℕ) (parts : List RattleType) → AllSync (shape (type_at name parts)).fields → IsSync (TupleAt name parts)
 captured-sync name parts each = recorded_sync (field_at name parts).row _ _ (type_at name parts).to_one (struct_sync (shape (type_at name parts)) each)
+
+-- ---- what is given back
+
+pub Expression-field-send : IsSend (Expression.the_field).row
+Expression-field-send = search (crosses, expressions.crosses, sendable) depth 60 fits 20000
+
+pub Expression-send : IsSend Expression.the_row
+Expression-send = let f = Expression-field-send in search sendable
+
+pub Target-field-send : IsSend (Target.the_field).row
+Target-field-send = let e = Expression-field-send in let r = Expression-send in search (crosses, sendable) depth 60 fits 20000
+
+pub Target-send : IsSend Target.the_row
+Target-send = let f = Target-field-send in search sendable
+
+pub Statement-field-send : IsSend (Statement.the_field).row
+Statement-field-send = let e = Expression-field-send in let r = Expression-send in let t = Target-field-send in let u = Target-send in search (crosses, statements.crosses, sendable) depth 60 fits 20000
+
+pub Statement-send : IsSend Statement.the_row
+Statement-send = let f = Statement-field-send in search sendable
+
+pub Proto-field-send : IsSend (Proto.the_field).row
+Proto-field-send = let e = Statement-field-send in let r = Statement-send in search (crosses, sendable) depth 60 fits 20000
+
+pub Proto-send : IsSend Proto.the_row
+Proto-send = let f = Proto-field-send in search sendable
+
+pub Protos-field-send : IsSend (Protos.the_field).row
+Protos-field-send = let e = Proto-field-send in let r = Proto-send in search (crosses, sendable) depth 60 fits 20000
+
+pub Protos-send : IsSend Protos.the_row
+Protos-send = let f = Protos-field-send in search sendable
+
+pub Prepared-field-send : IsSend (Prepared.the_field).row
+Prepared-field-send = let e = Protos-field-send in let r = Protos-send in search (crosses, sendable) depth 60 fits 20000
+
+pub Prepared-send : IsSend Prepared.the_row
+Prepared-send = let f = Prepared-field-send in search sendable

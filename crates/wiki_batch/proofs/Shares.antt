@@ -51,3 +51,11 @@ with_page wiki limits titles title pages p h k modules are =
     ap (λ (qs : List Page). qs ++ p ∷ []) (h modules are)
     ∙ ap (λ (qs : List Page). filter_map f titles ++ qs) (sym (one f title p (k modules are)))
     ∙ sym (filter_map-append f titles (title ∷ []))
+
+-- pages of two lists of titles, one behind the other
+pub both_pages : (wiki : Wiki) (limits : Limits) (titles more : List Title) (ps qs : List Page) → ArePages wiki limits titles ps → ArePages wiki limits more qs → ArePages wiki limits (titles ++ more) (ps ++ qs)
+both_pages wiki limits titles more ps qs h k modules are =
+    let f = page_of modules wiki.pages limits in
+    ap (λ (rs : List Page). rs ++ qs) (h modules are)
+    ∙ ap (λ (rs : List Page). filter_map f titles ++ rs) (k modules are)
+    ∙ sym (filter_map-append f titles more)

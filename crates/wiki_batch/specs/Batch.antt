@@ -1,6 +1,5 @@
 -- WHAT THE PAGES OF A WIKI BECOME, each by itself.
-use Rattle.std.specs.Prelude.{◌≡◌, List, [], ◌∷◌, ◌++◌, Option, Some, option_map, Result, Ok, Err}
-use Rattle.wk_base.specs.declared.NoMemory.{NoMemory}
+use Rattle.std.specs.Prelude.{◌≡◌, List, Option, Some, option_map}
 use Rattle.std.specs.List.{filter_map}
 use Rattle.wk_base.specs.declared.left.Limits.{Limits}
 use Rattle.wk_base.specs.declared.title.Title.{Title}
@@ -36,9 +35,3 @@ IsPage wiki limits title page = (modules : Modules) → AreOf wiki modules → p
 
 abbrev pub ArePages : Wiki → Limits → List Title → List Page → Type 0
 ArePages wiki limits titles pages = (modules : Modules) → AreOf wiki modules → pages ≡ pages_of modules wiki.pages limits titles
-
--- no part failed, and the pages are those of the parts, in order
-abbrev pub Joined : List (Result (List Page) NoMemory) → List Page → Type 0
-Joined [] pages = pages ≡ []
-Joined (Err e ∷ parts) pages = ⊥
-Joined (Ok ps ∷ parts) pages = (rest : List Page) × (pages ≡ ps ++ rest) × Joined parts rest

@@ -1,10 +1,11 @@
 //! Many pages of a wiki, each expanded by itself.
-ghost use Rattle.std.specs.Prelude.{◌≡◌, ℕ, ◌≤◌, ◌<◌, ◌*◌, ◌++◌, All, IfOk, IsSome, OnOk, length, slice_index_or, drop, take};
+ghost use Rattle.std.specs.Prelude.{◌≡◌, ℕ, ◌≤◌, ◌<◌, ◌*◌, All, IfOk, IsSome, length, slice_index_or, drop, take};
 ghost use Rattle.wk_base.specs.Allowances.{IsCountable};
 ghost use Rattle.wiki_expand.specs.Pages.{find_page};
-ghost use Rattle.wiki_batch.specs.Batch.{IsPage, ArePages, Joined};
+ghost use Rattle.wiki_batch.specs.Batch.{IsPage, ArePages};
 
 use crate::gate::Gate;
+use crate::sharing::{gathered, share_count, share_of, share_size};
 use page_driver::{Page, Wiki, expand_page};
 use std::alloc::Global;
 use std::hash::RandomState;
@@ -75,36 +76,6 @@ fn expand_share<G: Gate>(
     Ok(pages)
 }
 
-/// The titles of the share with the number j, where a share has `size` titles.
-fn share_of(titles: &[Title], size: usize, j: usize) -> &[Title]
-    requires { j * size ≤ length titles.now }
-    ensures { result.now ≡ take size (drop (j * size) titles.now) }
-{
-    let rest = &titles[j * size..];
-    &rest[..rest.len().min(size)]
-}
-
-/// Adds the pages of a part.
-fn append(all: &mut List<Page>, part: List<Page>) -> Result<(), NoMemory>
-    ensures { OnOk result (all.new ≡ all.old ++ part) }
-{
-    for page in part.into_vec() {
-        all.push(page)?;
-    }
-    Ok(())
-}
-
-/// The pages of all shares, where none lacked memory.
-fn gathered(alloc: Global, parts: Vec<Result<List<Page>, NoMemory>>) -> Result<List<Page>, NoMemory>
-    ensures { IfOk result (λ pages. Joined parts.items pages) }
-{
-    let mut all = List::new(alloc);
-    for part in parts {
-        append(&mut all, part?)?;
-    }
-    Ok(all)
-}
-
 /// The pages of the share with the number j.
 fn expand_numbered<G: Gate>(
     alloc: Global,
@@ -151,23 +122,6 @@ fn expand_shares<R: Threads + Sync, G: Gate + Sync>(
         Ok(parts) => Ok(parts),
         Err(_) => Err(NoMemory),
     }
-}
-
-/// How many titles a share has, where `count` titles are shared among `jobs` threads.
-fn share_size(count: usize, jobs: usize) -> usize
-    requires { 1 ≤ jobs }
-    ensures { 0 < result }
-{
-    count.saturating_sub(1) / jobs + 1
-}
-
-/// How many shares of `size` titles there are.
-fn share_count(count: usize, size: usize) -> usize
-    requires { 0 < size }
-    ensures within { (j : ℕ) → j < result → j * size ≤ count }
-    ensures whole { count ≤ result * size }
-{
-    count.div_ceil(size)
 }
 
 /// The pages of these titles, in their order, each with all of its limits left. Neither the number of jobs nor the gate changes an answer.

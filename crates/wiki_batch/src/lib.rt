@@ -2,6 +2,7 @@
 //!
 //! - `loading`: a wiki from the texts of its pages
 //! - `expanding`: pages of a wiki, each expanded by itself
+//! - `sharing`: shares of a list, and what is made of them, put together
 //! - `gate`: what is told as a page begins
 //!
 //! What texts mean stands in `wiki_texts` (`specs/Modules.antt`, `specs/Pages.antt`), what a page of a wiki comes to in `page_driver`
@@ -11,6 +12,7 @@
 pub mod expanding;
 pub mod gate;
 pub mod loading;
+mod sharing;
 
 pub use expanding::expand_all;
 pub use gate::{Gate, OpenGate};

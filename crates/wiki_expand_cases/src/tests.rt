@@ -1,7 +1,8 @@
 //! The cases of `cases`, and each kind of source once.
-ghost use Rattle.std.specs.Prelude.{◌≡◌, IfOk};
+ghost use Rattle.std.specs.Prelude.{◌+◌, ◌<◌, ◌^◌, IfOk};
+ghost use Rattle.mw_frame.specs.Scenes.{NamesDiffer};
 ghost use Rattle.wiki_markup.specs.Formed.{IsMarked};
-ghost use Rattle.wiki_expand.specs.Standing.{IsHeldSource};
+ghost use Rattle.wiki_expand.specs.Standing.{IsHeldSource, IsReady, depth_in, templates_in};
 
 use crate::cases::{CASES, Case};
 use mw_frame::{Job, Scene};
@@ -54,16 +55,48 @@ fn ended(last: Move) -> Result<Bytes, NoMemory> {
     }
 }
 
-/// The text of a source; the first invocation is answered with the name of its function.
+/// What an expander comes to next.
+fn next(expander: &mut Expander<'_>, left: &mut Left) -> Result<Bytes, NoMemory>
+    requires ready { IsReady expander.old }
+    requires depth { left.old.depth + depth_in expander.old < 2 ^ 64 }
+    requires templates { left.old.templates + templates_in expander.old < 2 ^ 64 }
+{
+    let last = expander.go(left)?;
+    ended(last)
+}
+
+/// The text that an expander comes to; the first invocation is answered with the name of its function.
+fn answered(expander: &mut Expander<'_>, left: &mut Left) -> Result<Bytes, NoMemory>
+    requires ready { IsReady expander.old }
+    requires depth { left.old.depth + depth_in expander.old < 2 ^ 64 }
+    requires templates { left.old.templates + templates_in expander.old < 2 ^ 64 }
+{
+    match expander.go(left)? {
+        Move::Text(text) => Ok(text),
+        Move::Invoke(job) => {
+            expander.answer(left, job.function)?;
+            next(expander, left)
+        }
+    }
+}
+
+/// A scene of a page without arguments.
+fn bare_scene(alloc: Global, page: &Title) -> Result<Scene, NoMemory>
+    ensures { IfOk result (λ scene. NamesDiffer scene.args) }
+{
+    Ok(Scene {
+        title: page.copy()?,
+        args: List::new(alloc),
+        chain: List::new(alloc),
+    })
+}
+
+/// The text of a source.
 fn text_of(alloc: Global, pages: &PageMap, source: Source) -> Result<Bytes, NoMemory>
     requires { IsHeldSource pages.now source }
 {
     let page = titled(alloc, Namespace::Main, b"P")?;
-    let scene = Scene {
-        title: page.copy()?,
-        args: List::new(alloc),
-        chain: List::new(alloc),
-    };
+    let scene = bare_scene(alloc, &page)?;
     let mut left = Left {
         steps: 0,
         nodes: 9,
@@ -73,13 +106,7 @@ fn text_of(alloc: Global, pages: &PageMap, source: Source) -> Result<Bytes, NoMe
         templates: 9,
     };
     let mut expander = Expander::start(alloc, pages, &page, source, scene)?;
-    match expander.go(&mut left)? {
-        Move::Text(text) => Ok(text),
-        Move::Invoke(job) => {
-            expander.answer(&mut left, job.function)?;
-            ended(expander.go(&mut left)?)
-        }
-    }
+    answered(&mut expander, &mut left)
 }
 
 fn page_text(alloc: Global, pages: &PageMap) -> Result<Bytes, NoMemory> {

@@ -1,3 +1,4 @@
 pub mod PageLaws
 pub mod ModuleLaws
 pub mod MeaningLaws
+pub mod PreparedLaws

@@ -1,3 +1,4 @@
 pub mod Pages
 pub mod Modules
 pub mod Code
+pub mod Prepared

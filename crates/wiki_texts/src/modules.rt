@@ -1,7 +1,9 @@
 //! The modules of a wiki, from the texts of its pages.
-ghost use Rattle.std.specs.Prelude.{◌≡◌, IfOk, OnOk};
+ghost use Rattle.std.specs.Prelude.{◌≡◌, true, IfOk, OnOk};
+ghost use Rattle.wk_base.specs.Titles.{is_module};
 ghost use Rattle.lua_code.specs.Held.{code_seen};
-ghost use Rattle.wiki_texts.specs.Code.{IsCodeOf, Adds, AreCodeOf};
+ghost use Rattle.wiki_texts.specs.Code.{IsCodeOf, Adds};
+ghost use Rattle.wiki_texts.specs.Prepared.{IsCodeOfPage};
 
 use crate::raw::RawPage;
 use lua_code::{Modules, Protos};
@@ -36,35 +38,50 @@ fn code_of(
     }
 }
 
-/// Adds the module that a page is, where it is one and none of its title is there.
-fn add_module(
+/// The code of a page of namespace Module. Such a page may hold anything, wikitext too, and hurts nothing until it is called.
+pub(crate) fn code_of_page(
     alloc: Global,
     seed: RandomState,
-    modules: &mut Modules,
     page: &RawPage,
-) -> Result<(), NoMemory>
-    ensures { OnOk result (Adds page.now modules.old modules.new) }
+) -> Result<Option<Result<Protos, FaultAt>>, NoMemory>
+    ensures { IfOk result (λ code. IsCodeOfPage (is_module page.now.title.ns) page.now.bytes code) }
 {
     if !page.title.ns.is_module() {
-        return Ok(());
+        return Ok(None);
     }
+    let code = code_of(alloc, seed, page.bytes.as_slice())?;
+    Ok(Some(code))
+}
+
+/// Adds a module, where none of its title is there.
+fn add_module(
+    modules: &mut Modules,
+    page: &RawPage,
+    code: Result<Protos, FaultAt>,
+) -> Result<(), NoMemory>
+    requires namespace { is_module page.now.title.ns ≡ true }
+    requires code { IsCodeOf page.now.bytes (code_seen code) }
+    ensures { OnOk result (Adds page.now modules.old modules.new) }
+{
     if modules.get(&page.title).is_some() {
         return Ok(());
     }
     let text = page.bytes.as_slice();
-    let code = code_of(alloc, seed, text)?;
     let title = page.title.copy()?;
     modules.add(title, text.len() as u64, code)
 }
 
-/// The modules of a wiki, by title: of each page of namespace Module the code of its text, or the text's first fault. Such a page may hold
-/// anything, wikitext too, and hurts nothing until it is called. Titles and names are hashed from the seed.
-pub fn modules_of(alloc: Global, seed: RandomState, pages: &[RawPage]) -> Result<Modules, NoMemory>
-    ensures { IfOk result (λ modules. AreCodeOf pages.now modules) }
+/// Adds the module that a page is, where it is one and none of its title is there.
+pub(crate) fn add_code(
+    modules: &mut Modules,
+    page: &RawPage,
+    code: Option<Result<Protos, FaultAt>>,
+) -> Result<(), NoMemory>
+    requires { IsCodeOfPage (is_module page.now.title.ns) page.now.bytes code }
+    ensures { OnOk result (Adds page.now modules.old modules.new) }
 {
-    let mut modules = Modules::new(alloc, seed);
-    for page in pages {
-        add_module(alloc, seed, &mut modules, page)?;
+    match code {
+        None => Ok(()),
+        Some(code) => add_module(modules, page, code),
     }
-    Ok(modules)
 }

@@ -1,31 +1,21 @@
-use Rattle.std.proofs.Common.{refl, None}
-use Rattle.std.specs.Prelude.{◌∷◌, []}
-use Rattle.lua_store.specs.Seen.{seen}
-use Rattle.lua_meaning.specs.CallBacks.{text_of}
-use Rattle.lua_meaning.specs.Pending.{ToStringWaits}
-use Rattle.lua_slots.specs.CallBacks.{gives_text}
-use Rattle.lua_slots.specs.Calls.{call}
-use Rattle.lua_slots.specs.Points.{Waits}
+use Rattle.std.proofs.Common.{◌∙◌, sym, subst}
+use Rattle.std.specs.Prelude.{IfOk}
+use Rattle.lua_store.specs.Parts.{IsOf}
+use Rattle.lua_state.specs.Makes.{Makes}
 use Rattle.lua_state.specs.Seen.{slots_of, frames_of}
-use Rattle.lua_acts.proofs.Handlers.{without, asked}
+use Rattle.lua_basic.proofs.Markup.{object_is}
+use Rattle.lua_acts.proofs.Objects.{no_object}
 use Rattle.lua_acts.proofs.strings.string_of.Goals as goal
 
-pub handler-found-requires-clause-name : goal.handler-found-requires-clause-name
-handler-found-requires-clause-name c = c.requires.state.env.to_string.0
+pub give_object-requires-clause-id : goal.give_object-requires-clause-id
+give_object-requires-clause-id c = subst (IsOf c.args.store.now) (object_is c.args.value c.in-Some.id (sym c.object.ensures ∙ c.in-Some.is)) c.requires.value
 
-pub returns-then-is_nil : goal.returns-then-is_nil
-returns-then-is_nil c =
-    let v = seen c.args.store.now.texts c.args.value in
-    let fs = frames_of c.args.store.now c.args.state.now in
-    let s = slots_of c.args.store.now c.args.state.now in
-    without c.args.store.now c.give_text_of.new.store c.args.state.now c.args.state.now c.args.left.now c.give_text_of.new.left c.in_ok-turn.turn c.handler-found.result c.args.value v _ _
-    (λ h. call h (v ∷ []) None (Waits ToStringWaits c.args.line ∷ fs) s) (gives_text (text_of v) fs s) refl c.handler-found.ensures.value c.requires.state.env.to_string.1 (c.if-is_nil.ensures c.args.store.now.texts) c.in_ok-turn.ensures
+pub returns-in-Some : goal.returns-in-Some
+returns-in-Some c = rw (object_is c.args.value c.in-Some.id (sym c.object.ensures ∙ c.in-Some.is)) c.give_object.ensures
 
-pub returns : goal.returns
-returns c =
-    let v = seen c.args.store.now.texts c.args.value in
-    let fs = frames_of c.args.store.now c.args.state.now in
-    let s = slots_of c.args.store.now c.args.state.now in
-    asked c.args.store.now c.call_and_wait.new.store c.args.state.now c.call_and_wait.new.state c.args.left.now c.call_and_wait.new.left c.in_ok-turn-2.turn c.handler-found.result c.args.value v _ _
-    (λ h. call h (v ∷ []) None (Waits ToStringWaits c.args.line ∷ fs) s) (gives_text (text_of v) fs s) refl c.handler-found.ensures.value c.requires.state.env.to_string.1 (c.if-is_nil.ensures c.args.store.now.texts)
-    (rw c.in_ok-arguments.ensures at c.in_ok-turn-2.ensures)
+pub returns-in-None : goal.returns-in-None
+returns-in-None c =
+    let s = c.args.store.now in
+    let m = c.args.state.now in
+    subst (λ mv. IfOk c.string_by.result (λ r. Makes s m c.args.left.now c.string_by.new.store c.string_by.new.state c.string_by.new.left mv r))
+    (sym (no_object s.texts c.args.value c.args.line (frames_of s m) (slots_of s m) (sym c.object.ensures ∙ c.in-None.is))) c.string_by.ensures

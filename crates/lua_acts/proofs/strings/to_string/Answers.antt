@@ -1,6 +1,4 @@
-use Rattle.std.specs.Prelude.{codes}
-use Rattle.lua_meaning.specs.Metatables.{handler}
-use Rattle.lua_slots.specs.CallBacks.{to_string_by}
+use Rattle.lua_slots.specs.CallBacks.{to_string_of}
 use Rattle.lua_stack.proofs.Openings.{first_of}
 use Rattle.lua_state.specs.Seen.{slots_of, frames_of}
 use Rattle.lua_acts.proofs.Lists.{with_first}
@@ -12,4 +10,4 @@ string_of-requires-clause-value c = first_of c.args.store.now c.args.arguments c
 pub returns : goal.returns
 returns c =
     with_first c.args.store.now c.string_of.new.store c.args.state.now c.string_of.new.state c.args.left.now c.string_of.new.left c.in_ok-turn.turn c.args.arguments c.first-value.result
-    (λ v. to_string_by (handler c.args.store.now.heap v (codes "__tostring")) v c.args.line (frames_of c.args.store.now c.args.state.now) (slots_of c.args.store.now c.args.state.now)) c.first-value.ensures c.in_ok-turn.ensures
+    (λ v. to_string_of v c.args.line (frames_of c.args.store.now c.args.state.now) (slots_of c.args.store.now c.args.state.now)) c.first-value.ensures c.in_ok-turn.ensures

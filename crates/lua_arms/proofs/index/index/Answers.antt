@@ -15,3 +15,6 @@ returns-in-Closure-clause-move_ c = λ fs s h k. rw c.in-Closure.is refl
 
 pub returns-in-Builtin-clause-move_ : goal.returns-in-Builtin-clause-move_
 returns-in-Builtin-clause-move_ c = λ fs s h k. rw c.in-Builtin.is refl
+
+pub returns-in-Markup-clause-move_ : goal.returns-in-Markup-clause-move_
+returns-in-Markup-clause-move_ c = λ fs s h k. rw (c.in-Markup.is, c.object_field.ensures.value) refl

@@ -17,3 +17,6 @@ returns-in-Texts-clause-answer c = rw c.in-Texts.is c.text_call.ensures.answer
 
 pub returns-in-Iterators-clause-answer : goal.returns-in-Iterators-clause-answer
 returns-in-Iterators-clause-answer c = rw c.in-Iterators.is c.iterator_call.ensures.answer
+
+pub returns-in-Html-clause-answer : goal.returns-in-Html-clause-answer
+returns-in-Html-clause-answer c = rw c.in-Html.is c.html_call.ensures.answer

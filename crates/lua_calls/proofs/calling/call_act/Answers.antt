@@ -19,5 +19,5 @@ returns-in-ArgsIndex c = rw c.in-ArgsIndex.is c.index_args.ensures
 pub returns-in_ok-turn-in-Calls : goal.returns-in_ok-turn-in-Calls
 returns-in_ok-turn-in-Calls c = rw c.in-Calls.is (makes_late c.args.store.now c.call_back.new.store c.args.state.now c.call_back.new.state c.args.left.now c.call_back.new.left _ c.in_ok-turn-in-Calls.turn c.in_ok-turn-in-Calls.ensures)
 
-pub returns-in_ok-turn-in-NotBuilt : goal.returns-in_ok-turn-in-NotBuilt
-returns-in_ok-turn-in-NotBuilt c = rw c.in-NotBuilt.is (makes_late c.args.store.now c.not_built.new.store c.args.state.now c.args.state.now c.args.left.now c.not_built.new.left _ c.in_ok-turn-in-NotBuilt.turn c.in_ok-turn-in-NotBuilt.ensures)
+pub returns-in-Gsub : goal.returns-in-Gsub
+returns-in-Gsub c = rw c.in-Gsub.is c.gsub.ensures

@@ -15,5 +15,8 @@ returns-in-ToString c = rw c.in-ToString.is c.string_answer.ensures
 pub returns-in-Pairs : goal.returns-in-Pairs
 returns-in-Pairs c = rw c.in-Pairs.is (c.three_answer.ensures c.args.left.now)
 
+pub returns-in-Gsub : goal.returns-in-Gsub
+returns-in-Gsub c = rw c.in-Gsub.is c.gsub_answer.ensures
+
 pub returns-in-Module : goal.returns-in-Module
 returns-in-Module c = rw c.in-Module.is c.module_answer.ensures

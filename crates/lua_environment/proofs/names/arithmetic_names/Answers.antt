@@ -18,3 +18,40 @@ returns-clause-of c =
       modulo = name-later c.name-5.new.store s c.in_ok-modulo.modulo (codes "__mod") from_modulo c.in_ok-modulo.ensures.of;
       power = c.in_ok-power.ensures.of;
     }
+
+pub returns-in_err-subtract-clause-later : goal.returns-in_err-subtract-clause-later
+returns-in_err-subtract-clause-later c = later-then c.args.store.now c.name.new.store c.name-2.new.store c.in_ok-add.ensures.later c.in_err-subtract.ensures.later
+
+pub returns-in_err-multiply-clause-later : goal.returns-in_err-multiply-clause-later
+returns-in_err-multiply-clause-later c =
+    let to_subtract = later-then c.args.store.now c.name.new.store c.name-2.new.store c.in_ok-add.ensures.later c.in_ok-subtract.ensures.later in
+    later-then c.args.store.now c.name-2.new.store c.name-3.new.store to_subtract c.in_err-multiply.ensures.later
+
+pub returns-in_err-divide-clause-later : goal.returns-in_err-divide-clause-later
+returns-in_err-divide-clause-later c =
+    let to_subtract = later-then c.args.store.now c.name.new.store c.name-2.new.store c.in_ok-add.ensures.later c.in_ok-subtract.ensures.later in
+    let to_multiply = later-then c.args.store.now c.name-2.new.store c.name-3.new.store to_subtract c.in_ok-multiply.ensures.later in
+    later-then c.args.store.now c.name-3.new.store c.name-4.new.store to_multiply c.in_err-divide.ensures.later
+
+pub returns-in_err-modulo-clause-later : goal.returns-in_err-modulo-clause-later
+returns-in_err-modulo-clause-later c =
+    let to_subtract = later-then c.args.store.now c.name.new.store c.name-2.new.store c.in_ok-add.ensures.later c.in_ok-subtract.ensures.later in
+    let to_multiply = later-then c.args.store.now c.name-2.new.store c.name-3.new.store to_subtract c.in_ok-multiply.ensures.later in
+    let to_divide = later-then c.args.store.now c.name-3.new.store c.name-4.new.store to_multiply c.in_ok-divide.ensures.later in
+    later-then c.args.store.now c.name-4.new.store c.name-5.new.store to_divide c.in_err-modulo.ensures.later
+
+pub returns-in_err-power-clause-later : goal.returns-in_err-power-clause-later
+returns-in_err-power-clause-later c =
+    let to_subtract = later-then c.args.store.now c.name.new.store c.name-2.new.store c.in_ok-add.ensures.later c.in_ok-subtract.ensures.later in
+    let to_multiply = later-then c.args.store.now c.name-2.new.store c.name-3.new.store to_subtract c.in_ok-multiply.ensures.later in
+    let to_divide = later-then c.args.store.now c.name-3.new.store c.name-4.new.store to_multiply c.in_ok-divide.ensures.later in
+    let to_modulo = later-then c.args.store.now c.name-4.new.store c.name-5.new.store to_divide c.in_ok-modulo.ensures.later in
+    later-then c.args.store.now c.name-5.new.store c.name-6.new.store to_modulo c.in_err-power.ensures.later
+
+pub returns-clause-later : goal.returns-clause-later
+returns-clause-later c =
+    let to_subtract = later-then c.args.store.now c.name.new.store c.name-2.new.store c.in_ok-add.ensures.later c.in_ok-subtract.ensures.later in
+    let to_multiply = later-then c.args.store.now c.name-2.new.store c.name-3.new.store to_subtract c.in_ok-multiply.ensures.later in
+    let to_divide = later-then c.args.store.now c.name-3.new.store c.name-4.new.store to_multiply c.in_ok-divide.ensures.later in
+    let to_modulo = later-then c.args.store.now c.name-4.new.store c.name-5.new.store to_divide c.in_ok-modulo.ensures.later in
+    later-then c.args.store.now c.name-5.new.store c.name-6.new.store to_modulo c.in_ok-power.ensures.later

@@ -45,3 +45,17 @@ returns-clause-later c =
     let from_access = later-then c.access_names.new.store c.arithmetic_names.new.store s c.in_ok-arithmetic.ensures.later c.in_ok-others.ensures.later in
     let from_tables = later-then c.fresh.new.store c.access_names.new.store s c.in_ok-access.ensures.later from_access in
     later-then c.args.store.now c.fresh.new.store s c.in_ok-tables.ensures.later from_tables
+
+pub returns-in_err-access-clause-later : goal.returns-in_err-access-clause-later
+returns-in_err-access-clause-later c = later-then c.args.store.now c.fresh.new.store c.access_names.new.store c.in_ok-tables.ensures.later c.in_err-access.ensures.later
+
+pub returns-in_err-arithmetic-clause-later : goal.returns-in_err-arithmetic-clause-later
+returns-in_err-arithmetic-clause-later c =
+    let to_access = later-then c.args.store.now c.fresh.new.store c.access_names.new.store c.in_ok-tables.ensures.later c.in_ok-access.ensures.later in
+    later-then c.args.store.now c.access_names.new.store c.arithmetic_names.new.store to_access c.in_err-arithmetic.ensures.later
+
+pub returns-in_err-others-clause-later : goal.returns-in_err-others-clause-later
+returns-in_err-others-clause-later c =
+    let to_access = later-then c.args.store.now c.fresh.new.store c.access_names.new.store c.in_ok-tables.ensures.later c.in_ok-access.ensures.later in
+    let to_arithmetic = later-then c.args.store.now c.access_names.new.store c.arithmetic_names.new.store to_access c.in_ok-arithmetic.ensures.later in
+    later-then c.args.store.now c.arithmetic_names.new.store c.other_names.new.store to_arithmetic c.in_err-others.ensures.later

@@ -21,3 +21,6 @@ fill_last-requires c = still_of c.in_ok-fill_middle.ensures.later (still_of c.in
 
 pub returns-clause-later : goal.returns-clause-later
 returns-clause-later c = later-then c.args.store.now c.fill_first.new.store c.fill_last.new.store c.in_ok-fill_first.ensures.later (later-then c.fill_first.new.store c.fill_middle.new.store c.fill_last.new.store c.in_ok-fill_middle.ensures.later c.in_ok-fill_last.ensures.later)
+
+pub returns-in_err-fill_last-clause-later : goal.returns-in_err-fill_last-clause-later
+returns-in_err-fill_last-clause-later c = later-then c.args.store.now c.fill_first.new.store c.fill_last.new.store c.in_ok-fill_first.ensures.later (later-then c.fill_first.new.store c.fill_middle.new.store c.fill_last.new.store c.in_ok-fill_middle.ensures.later c.in_err-fill_last.ensures.later)

@@ -1,5 +1,6 @@
 use Rattle.std.proofs.Common.{refl, [], ◌∷◌}
 use Rattle.lua_store.specs.Seen.{seen}
+use Rattle.lua_store.proofs.Later.{later-then}
 use Rattle.lua_iterators.proofs.making.four_cells.Goals as goal
 
 pub returns-clause-made : goal.returns-clause-made
@@ -13,3 +14,12 @@ returns-clause-made c =
     let two = c.in_ok-pattern.ensures.made (seen v.texts c.args.place ∷ seen w.texts c.args.other ∷ []) h (c.in_ok-place.place.at ∷ c.in_ok-other.other.at ∷ []) three in
     let one = c.in_ok-subject.ensures.made (seen u.texts c.args.pattern ∷ seen v.texts c.args.place ∷ seen w.texts c.args.other ∷ []) h (c.in_ok-pattern.pattern.at ∷ c.in_ok-place.place.at ∷ c.in_ok-other.other.at ∷ []) two in
     rw (c.add_cell-3.ensures.texts, c.add_cell-2.ensures.texts, c.add_cell.ensures.texts) at one
+
+pub returns-in_err-place-clause-later : goal.returns-in_err-place-clause-later
+returns-in_err-place-clause-later c = later-then _ _ _ c.in_ok-subject.ensures.later (later-then _ _ _ c.in_ok-pattern.ensures.later c.in_err-place.ensures.later)
+
+pub returns-in_err-other-clause-later : goal.returns-in_err-other-clause-later
+returns-in_err-other-clause-later c = later-then _ _ _ c.in_ok-subject.ensures.later (later-then _ _ _ c.in_ok-pattern.ensures.later (later-then _ _ _ c.in_ok-place.ensures.later c.in_err-other.ensures.later))
+
+pub returns-clause-later : goal.returns-clause-later
+returns-clause-later c = later-then _ _ _ c.in_ok-subject.ensures.later (later-then _ _ _ c.in_ok-pattern.ensures.later (later-then _ _ _ c.in_ok-place.ensures.later c.in_ok-other.ensures.later))

@@ -1,6 +1,7 @@
 use Rattle.std.proofs.Common.{◌∙◌}
 use Rattle.lua_home_laws.proofs.Homes.{made_is_home, made_starts}
 use Rattle.lua_slots.specs.Code.{CWorld}
+use Rattle.lua_store.proofs.Later.{later-then}
 use Rattle.lua_stack.proofs.Stay.{environment_later}
 use Rattle.lua_state.specs.Worlds.{world_seen}
 use Rattle.lua_machine.proofs.machine.fresh_state.Goals as goal
@@ -27,3 +28,6 @@ pub returns-clause-frame : goal.returns-clause-frame
 returns-clause-frame c =
     let code : CWorld = world_seen c.args.world in
     (made_is_home code c.args.store.now.heap c.new.new.store.heap c.in_ok-env.env.globals.at c.in_ok-env.env.strings.at (c.in_ok-scenes.ensures.heap ∙ c.in_ok-env.ensures.made) c.in_ok-env.ensures.at).frame
+
+pub returns-clause-later : goal.returns-clause-later
+returns-clause-later c = later-then c.args.store.now c.environment.new.store c.new.new.store c.in_ok-env.ensures.later c.in_ok-scenes.ensures.later

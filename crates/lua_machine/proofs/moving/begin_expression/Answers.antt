@@ -1,7 +1,8 @@
 use Rattle.std.proofs.lemmas.Result.{IfOk-weaker}
-use Rattle.std.proofs.Common.{refl, sym}
+use Rattle.std.proofs.Common.{rules, refl, sym}
 use Rattle.lua_code.specs.Seen.{expression_seen}
 use Rattle.lua_state.specs.Seen.{slots_of, frames_of}
+use Rattle.lua_store.proofs.Later.{later-itself}
 use Rattle.lua_machine.proofs.Moves.{as_move, begins_with_node, step_paid, mark_counted}
 use Rattle.lua_machine.proofs.moving.begin_expression.Goals as goal
 
@@ -14,3 +15,7 @@ returns g c = rw c.tick.ensures
     (c.if-not-take_steps.ensures.covered.0 refl) c.take_steps.ensures.rest
     (mark_counted c.args.store.now c.args.state.now c.take_steps.new.self c.args.turns.now c.evaluate.new.store c.evaluate.new.state c.evaluate.new.left _ r e)))
     c.evaluate.ensures)
+
+-- (nothing has changed)
+pub returns-then-not-take_steps : goal.returns-then-not-take_steps
+returns-then-not-take_steps g c = let same = later-itself c.args.store.now in search rules

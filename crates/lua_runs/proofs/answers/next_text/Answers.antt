@@ -1,32 +1,22 @@
-use Rattle.std.specs.Prelude.{◌∷◌, [], ◌++◌, None}
-use Rattle.lua_heap.specs.Value.{is_nil}
-use Rattle.lua_meaning.specs.CallBacks.{text_of}
-use Rattle.lua_store.specs.Seen.{seen}
-use Rattle.lua_slots.specs.Points.{Now, Texts, TextNow}
-use Rattle.lua_slots.specs.Calls.{call}
+use Rattle.std.proofs.Common.{◌∙◌, sym, subst}
+use Rattle.std.specs.Prelude.{IfOk}
+use Rattle.lua_store.specs.Parts.{IsOf}
 use Rattle.lua_stack.specs.Seen.{values_seen, joined_seen}
+use Rattle.lua_state.specs.Makes.{Makes}
 use Rattle.lua_state.specs.Seen.{slots_of, frames_of}
-use Rattle.lua_runs.proofs.Behind.{by_handler}
-use Rattle.lua_runs.proofs.Parts.{chosen, other}
+use Rattle.lua_basic.proofs.Markup.{object_is}
+use Rattle.lua_runs.proofs.Objects.{no_object}
 use Rattle.lua_runs.proofs.answers.next_text.Goals as goal
 
-pub handler-handler-requires-clause-name : goal.handler-handler-requires-clause-name
-handler-handler-requires-clause-name c = c.requires.state.env.to_string.0
+pub object_next-requires-clause-id : goal.object_next-requires-clause-id
+object_next-requires-clause-id c = subst (IsOf c.args.store.now) (object_is c.args.value c.in-Some.id (sym c.object.ensures ∙ c.in-Some.is)) c.requires.value
 
-pub returns-then-is_nil : goal.returns-then-is_nil
-returns-then-is_nil c =
-    by_handler c.args.store.now c.with_plain.new.store c.args.state.now c.args.state.now c.args.left.now c.args.left.now c.in_ok-turn.turn c.handler-handler.result c.args.value c.args.values c.args.before _ _
-    c.handler-handler.ensures.value c.requires.state.env.to_string.1
-    (chosen c.args.store.now c.with_plain.new.store c.args.state.now c.args.state.now c.args.left.now c.args.left.now (is_nil (seen c.args.store.now.texts c.handler-handler.result))
-    (Now (Texts (values_seen c.args.store.now.texts c.args.values) (joined_seen c.args.store.now.texts c.args.before ++ text_of (seen c.args.store.now.texts c.args.value)) (frames_of c.args.store.now c.args.state.now)) (slots_of c.args.store.now c.args.state.now))
-    (call (seen c.args.store.now.texts c.handler-handler.result) (seen c.args.store.now.texts c.args.value ∷ []) None (TextNow (values_seen c.args.store.now.texts c.args.values) (joined_seen c.args.store.now.texts c.args.before) ∷ frames_of c.args.store.now c.args.state.now) (slots_of c.args.store.now c.args.state.now))
-    c.in_ok-turn.turn (c.if-is_nil.ensures c.args.store.now.texts) (c.in_ok-turn.ensures c.args.left.now))
+pub returns-in-Some : goal.returns-in-Some
+returns-in-Some c = rw (object_is c.args.value c.in-Some.id (sym c.object.ensures ∙ c.in-Some.is)) c.object_next.ensures
 
-pub returns : goal.returns
-returns c =
-    by_handler c.args.store.now c.ask.new.store c.args.state.now c.ask.new.state c.args.left.now c.ask.new.left c.in_ok-turn-2.turn c.handler-handler.result c.args.value c.args.values c.args.before _ _
-    c.handler-handler.ensures.value c.requires.state.env.to_string.1
-    (other c.args.store.now c.ask.new.store c.args.state.now c.ask.new.state c.args.left.now c.ask.new.left (is_nil (seen c.args.store.now.texts c.handler-handler.result))
-    (Now (Texts (values_seen c.args.store.now.texts c.args.values) (joined_seen c.args.store.now.texts c.args.before ++ text_of (seen c.args.store.now.texts c.args.value)) (frames_of c.args.store.now c.args.state.now)) (slots_of c.args.store.now c.args.state.now))
-    (call (seen c.args.store.now.texts c.handler-handler.result) (seen c.args.store.now.texts c.args.value ∷ []) None (TextNow (values_seen c.args.store.now.texts c.args.values) (joined_seen c.args.store.now.texts c.args.before) ∷ frames_of c.args.store.now c.args.state.now) (slots_of c.args.store.now c.args.state.now))
-    c.in_ok-turn-2.turn (c.if-is_nil.ensures c.args.store.now.texts) c.in_ok-turn-2.ensures)
+pub returns-in-None : goal.returns-in-None
+returns-in-None c =
+    let s = c.args.store.now in
+    let m = c.args.state.now in
+    subst (λ mv. IfOk c.text_by.result (λ r. Makes s m c.args.left.now c.text_by.new.store c.text_by.new.state c.text_by.new.left mv r))
+    (sym (no_object s.texts c.args.value (values_seen s.texts c.args.values) (joined_seen s.texts c.args.before) (frames_of s m) (slots_of s m) (sym c.object.ensures ∙ c.in-None.is))) c.text_by.ensures

@@ -2,6 +2,7 @@ use Rattle.std.proofs.Common.{◌∙◌, ap, arith, map}
 use Rattle.lua_heap.specs.Heap.{Heap}
 use Rattle.lua_meaning.specs.Frames.{args_meta, frame_entries, frame_meta}
 use Rattle.lua_graph.specs.Put.{filled}
+use Rattle.lua_store.proofs.Later.{later-then}
 use Rattle.mw_frames.specs.Making.{arg_entry, with_pair}
 use Rattle.mw_frames.proofs.Tables.{frame_made, pair_longer}
 use Rattle.mw_frames.proofs.making.make_frame.Goals as goal
@@ -23,3 +24,12 @@ returns-clause-made c =
 
 pub returns-clause-at : goal.returns-clause-at
 returns-clause-at c = c.in_ok-frame.ensures.table ∙ pair_longer c.args.store.now.heap _ c.in_ok-args.ensures.made
+
+pub returns-in_err-fill_args_meta-clause-later : goal.returns-in_err-fill_args_meta-clause-later
+returns-in_err-fill_args_meta-clause-later c = later-then _ _ _ c.in_ok-args.ensures.later (later-then _ _ _ c.in_ok-frame.ensures.later (later-then _ _ _ c.in_ok-fill_args.ensures.later c.in_err-fill_args_meta.ensures.later))
+
+pub returns-in_err-fill_frame-clause-later : goal.returns-in_err-fill_frame-clause-later
+returns-in_err-fill_frame-clause-later c = later-then _ _ _ c.in_ok-args.ensures.later (later-then _ _ _ c.in_ok-frame.ensures.later (later-then _ _ _ c.in_ok-fill_args.ensures.later (later-then _ _ _ c.in_ok-fill_args_meta.ensures.later c.in_err-fill_frame.ensures.later)))
+
+pub returns-in_err-fill_frame_meta-clause-later : goal.returns-in_err-fill_frame_meta-clause-later
+returns-in_err-fill_frame_meta-clause-later c = later-then _ _ _ c.in_ok-args.ensures.later (later-then _ _ _ c.in_ok-frame.ensures.later (later-then _ _ _ c.in_ok-fill_args.ensures.later (later-then _ _ _ c.in_ok-fill_args_meta.ensures.later (later-then _ _ _ c.in_ok-fill_frame.ensures.later c.in_err-fill_frame_meta.ensures.later))))

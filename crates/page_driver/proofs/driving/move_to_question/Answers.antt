@@ -1,11 +1,11 @@
-use Rattle.std.proofs.Common.{arith}
-use Rattle.page_driver.specs.Ground.{ground_of}
-use Rattle.page_driver.proofs.Drives.{in_progress, one_after_another}
-use Rattle.page_driver.proofs.Sinking.{not_asked}
+use Rattle.page_ground.specs.Ground.{ground_of}
+use Rattle.page_replies.proofs.Drives.{in_progress, one_after_another, same_fits, no_more}
+use Rattle.page_replies.specs.Moving.{steps_at}
+use Rattle.page_replies.proofs.Sinking.{not_asked}
 use Rattle.page_driver.proofs.driving.move_to_question.Goals as goal
 
 pub moves-init : goal.moves-init
-moves-init g c = (λ work first start fits d. d, omega arith)
+moves-init g c = (λ work first start fits d. d, same_fits (steps_at c.args.left.now c.args.halted.halt))
 
 pub move_on-requires : goal.move_on-requires
 move_on-requires g c = in_progress (ground_of c.args.around.now) c.args.store.now c.args.left.now c.args.turns.now c.args.tower.now c.args.halted c.moves.store c.moves.left c.moves.turns c.moves.tower c.moves.now c.requires c.moves.invariant.0
@@ -17,7 +17,7 @@ pub moves-preserved : goal.moves-preserved
 moves-preserved g c =
     let k = not_asked c.moves.now.halt _ _ _ _ (rw c.if-asks_lua.false at c.asks_lua.ensures) (rw c.in-On.is at c.in_ok-moved.ensures.sinks) in (
       rw c.in-On.is at (one_after_another (ground_of c.args.around.now) c.args.store.now c.args.left.now c.args.turns.now c.args.tower.now c.args.halted c.moves.store c.moves.left c.moves.turns c.moves.tower c.moves.now c.move_on.new.store c.move_on.new.left c.move_on.new.turns c.move_on.new.tower c.in_ok-moved.moved c.moves.invariant.0 c.in_ok-moved.ensures.moves),
-      omega (arith, k.0, c.moves.invariant.1),
+      no_more _ _ _ k.0 c.moves.invariant.1,
     )
 
 pub returns-then-asks_lua-clause-moves : goal.returns-then-asks_lua-clause-moves

@@ -1,6 +1,6 @@
-use Rattle.page_driver.specs.Ground.{ground_of}
-use Rattle.page_driver.proofs.Drives.{in_progress, one_after_another}
-use Rattle.page_driver.proofs.Sinking.{asked_then}
+use Rattle.page_ground.specs.Ground.{ground_of}
+use Rattle.page_replies.proofs.Drives.{in_progress, one_after_another}
+use Rattle.page_replies.proofs.Sinking.{asked_then}
 use Rattle.page_driver.proofs.driving.pass_question.Goals as goal
 
 pub move_on-requires : goal.move_on-requires

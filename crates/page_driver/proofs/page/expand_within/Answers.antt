@@ -1,6 +1,9 @@
 use Rattle.std.proofs.Common.{refl}
 use Rattle.page_driver.proofs.page.expand_within.Goals as goal
 
+pub come_from-requires-clause-fresh : goal.come_from-requires-clause-fresh
+come_from-requires-clause-fresh g c = c.requires.fresh
+
 pub come_from-requires-clause-held : goal.come_from-requires-clause-held
 come_from-requires-clause-held g c = c.requires.held
 

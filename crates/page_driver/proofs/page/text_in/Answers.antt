@@ -1,5 +1,5 @@
 use Rattle.std.proofs.Common.{◌∙◌, sym}
-use Rattle.page_driver.proofs.Answering.{no_text}
+use Rattle.page_tasks.proofs.Answering.{no_text}
 use Rattle.page_driver.proofs.page.text_in.Goals as goal
 
 pub returns-in-Data : goal.returns-in-Data

@@ -1,0 +1,18 @@
+use Rattle.std.proofs.Common.{◌∙◌, refl, sym, ap, ◌∷◌, List}
+use Rattle.lua_slots.specs.Points.{Waits}
+use Rattle.lua_stack.specs.declared.frame.Frame.{Frame}
+use Rattle.lua_stack.specs.Seen.{frames_seen, pending_seen}
+use Rattle.lua_arms.specs.Steps.{step_seen}
+use Rattle.lua_state.specs.Seen.{slots_of, frames_of}
+use Rattle.lua_acts.proofs.Parts.{with_frames_of, stepped}
+use Rattle.lua_calls.proofs.gsubs.index_and_wait.Goals as goal
+
+pub finish-requires-clause-state : goal.finish-requires-clause-state
+finish-requires-clause-state c = rw c.in_ok-push.ensures.ok (with_frames_of c.args.store.now c.args.state.now _ c.requires.state (c.requires.pending, c.requires.state.frames))
+
+pub returns : goal.returns
+returns c =
+    stepped c.args.store.now c.finish.new.store c.args.state.now c.push.new.self c.args.left.now c.finish.new.left _ c.index_table-step.result _
+    (c.index_table-step.ensures.move_ (Waits (pending_seen c.args.store.now.texts c.args.pending) c.args.line ∷ frames_of c.args.store.now c.args.state.now) (slots_of c.args.store.now c.args.state.now) refl
+    ∙ ap (λ (fs : List Frame). step_seen c.args.store.now c.index_table-step.result (frames_seen c.args.store.now.texts fs) (slots_of c.args.store.now c.args.state.now)) (sym c.in_ok-push.ensures.ok))
+    c.in_ok-turn.ensures.makes

@@ -1,0 +1,16 @@
+-- THE TWO FUNCTIONS, by the alphabet over which they go.
+use Rattle.std.specs.Prelude.{Option, Some, None}
+use Rattle.lua_heap.specs.declared.library.Library.{Library}
+use Rattle.lua_heap.specs.declared.library.Library.TheVariants.{StringGsub, UstringGsub}
+use Rattle.lua_meaning.specs.Gsub.{Alphabet, OfBytes, OfPoints}
+use Rattle.lua_gsubs.specs.declared.table.GsubFunction.{GsubFunction}
+use Rattle.lua_gsubs.specs.declared.table.GsubFunction.TheVariants as own
+
+abbrev pub gsub_function_in : Library → Option GsubFunction
+gsub_function_in StringGsub = Some own.OfBytes
+gsub_function_in UstringGsub = Some own.OfPoints
+gsub_function_in which = None
+
+abbrev pub alphabet_of : GsubFunction → Alphabet
+alphabet_of own.OfBytes = OfBytes
+alphabet_of own.OfPoints = OfPoints

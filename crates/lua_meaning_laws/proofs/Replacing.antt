@@ -1,0 +1,42 @@
+-- `gsub`.
+use Rattle.std.specs.Prelude.{zero, suc, ℕ, List, []}
+use Rattle.page_run.specs.Outcome.{Outcome}
+use Rattle.lua_heap.specs.Value.{Value, Table}
+use Rattle.lua_meaning.specs.Scope.{Bytes, Function, Levels}
+use Rattle.lua_meaning.specs.Values.{first}
+use Rattle.lua_meaning.specs.Acts.{Act, Jump}
+use Rattle.lua_meaning.specs.Waiting.{Waits}
+use Rattle.lua_meaning.specs.Gsub as gsubs
+use Rattle.lua_meaning.specs.Gsub.{Alphabet, Replacement, ByText, ByTable, ByFunction, Job, Far, Search, NoMatch, Matched, search, replacement_given, with_piece, nothing_yet, GsubForm, GsubAnswers, GsubAsks, gsub_form}
+use Rattle.lua_meaning_laws.proofs.OnlyData.{Quiet, ◌>>=◌, ◌>>◌, give, catch, tick, look}
+use Rattle.lua_meaning_laws.proofs.Calls.{index_all}
+use Rattle.lua_meaning_laws.proofs.Answers.{plain_act}
+use Rattle.lua_meaning_laws.proofs.CallBacks.{calling, for_values, argument}
+
+finish : (job : Job) (far : Far) → Quiet (gsubs.finish job far)
+finish job far = tick _ >> give _
+
+asks : {waits : Waits} → (by : Replacement) (captures : List Value) → ((o : Outcome (List Value) Jump) → Quiet (waits o)) → Quiet (gsubs.asks by captures waits)
+asks (ByFunction f) captures waits = calling f captures waits
+asks (ByTable t) captures waits = catch (index_all (Table t) (first captures) []) waits
+asks (ByText text) captures waits = catch (give _) waits
+
+with_replacement : {go : Far → Act (List Value)} → (callers : Levels) (far : Far) (whole : Bytes) → ((f : Far) → Quiet (go f)) → (vs : List Value) → Quiet (gsubs.with_replacement callers far whole go vs)
+with_replacement callers far whole go vs = do
+  piece ← argument callers (replacement_given whole (first vs))
+  tick _ >> go (with_piece far piece)
+
+asks_on : {go : Far → Act (List Value)} → (callers : Levels) (job : Job) (far : Far) → ((f : Far) → Quiet (go f)) → (found : Search) → Quiet (gsubs.asks_on callers job far go found)
+asks_on callers job far go (NoMatch tries) = tick tries >> finish job far
+asks_on callers job far go (Matched tries captures w) = tick tries >> asks job.by captures (for_values (with_replacement callers w.far w.whole go))
+
+goes : (callers : Levels) (job : Job) (limit : ℕ) (far : Far) → Quiet (gsubs.goes callers job limit far)
+goes callers job zero far = finish job far
+goes callers job (suc limit) far = asks_on callers job far (goes callers job limit) (search job limit far)
+
+does_gsub : (f : GsubForm Function) (callers : Levels) → Quiet (gsubs.does_gsub f callers)
+does_gsub (GsubAnswers plain) callers = plain_act plain callers
+does_gsub (GsubAsks charge job limit) callers = tick charge >> goes callers job limit nothing_yet
+
+pub gsub : (a : Alphabet) (args : List Value) (callers : Levels) → Quiet (gsubs.gsub a args callers)
+gsub a args callers = look (λ s e. does_gsub (gsub_form a args s.heap) callers)

@@ -1,6 +1,0 @@
-use Rattle.std.proofs.Common.{◌≡◌, take}
-use Rattle.mw_frame.specs.Scenes.{NamesDiffer}
-use Rattle.page_driver.proofs.beginning.check_names.Given as goal
-
-abbrev pub invariant-loop-arg : goal.invariant-loop-arg
-invariant-loop-arg l = (l.names ≡ take l.arg-index l.args) × NamesDiffer l.names

@@ -1,0 +1,4 @@
+pub mod KeepLaws
+pub mod MachineEnds
+pub mod NameLaws
+pub mod Numbering

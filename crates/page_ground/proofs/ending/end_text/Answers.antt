@@ -1,0 +1,30 @@
+use Rattle.std.proofs.Common.{◌∙◌, ap, sym, subst, Option}
+use Rattle.std.specs.Prelude.{IfSome}
+use Rattle.lua_store.specs.declared.ids.TextId.{TextId}
+use Rattle.lua_store.specs.Parts.{IsTextOf}
+use Rattle.lua_stack.specs.Lists.{given_values}
+use Rattle.lua_state.specs.Of.{OutcomeOf}
+use Rattle.page_meaning.specs.Told.{end_text, failure_text}
+use Rattle.page_ground.specs.Ending.{text_or_none}
+use Rattle.page_ground.proofs.MachineEnds.{only_text_of, raised_text_of, given_text, jump_end}
+use Rattle.page_ground.proofs.ending.end_text.Goals as goal
+
+pub copied_text-requires : goal.copied_text-requires
+copied_text-requires c =
+    subst (λ (o : Option TextId). IfSome o (IsTextOf c.args.store.now)) (sym c.only_text-found.ensures)
+    (only_text_of c.args.store.now (given_values c.in-Goes.given) (subst (OutcomeOf c.args.store.now) c.in-Goes.is c.requires))
+
+pub copied_text-requires-in-Jumps : goal.copied_text-requires-in-Jumps
+copied_text-requires-in-Jumps c =
+    subst (λ (o : Option TextId). IfSome o (IsTextOf c.args.store.now)) (sym c.raised_text-found.ensures)
+    (raised_text_of c.args.store.now c.in-Jumps.jump (subst (OutcomeOf c.args.store.now) c.in-Jumps.is c.requires))
+
+pub returns-in_ok-text-in-Goes : goal.returns-in_ok-text-in-Goes
+returns-in_ok-text-in-Goes c = rw c.in-Goes.is (c.in_ok-text-in-Goes.ensures ∙ ap (text_or_none c.args.store.now.texts) c.only_text-found.ensures ∙ given_text c.args.store.now.texts (given_values c.in-Goes.given))
+
+pub returns-in_ok-shown-in-Jumps : goal.returns-in_ok-shown-in-Jumps
+returns-in_ok-shown-in-Jumps c =
+    rw c.in-Jumps.is
+    (c.of_vec.ensures ∙ c.in_ok-shown-in-Jumps.ensures
+    ∙ ap failure_text (c.as_slice-bytes.ensures ∙ c.in_ok-message-in-Jumps.ensures ∙ ap (text_or_none c.args.store.now.texts) c.raised_text-found.ensures)
+    ∙ sym (ap end_text (jump_end c.args.store.now.texts c.in-Jumps.jump)))

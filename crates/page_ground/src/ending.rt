@@ -1,0 +1,183 @@
+//! What is read off a run of Lua that is over or spent: the text of an invocation, the data of a load.
+ghost use Rattle.std.specs.Prelude.{◌≡◌, IfOk, IfSome};
+ghost use Rattle.lua_heap.specs.Graph.{Graph as PlainGraph};
+ghost use Rattle.lua_walk.specs.Data.{Checked, taken};
+ghost use Rattle.lua_meaning.specs.Questions.{LoadFailed};
+ghost use Rattle.lua_meaning.specs.Start.{end_of};
+ghost use Rattle.lua_store.specs.Seen.{seen};
+ghost use Rattle.lua_store.specs.Parts.{IsOf, IsTextOf};
+ghost use Rattle.lua_graph.specs.Taken.{IsFault};
+ghost use Rattle.lua_stack.specs.Lists.{given_values};
+ghost use Rattle.lua_state.specs.Of.{OutcomeOf};
+ghost use Rattle.lua_state.specs.Seen.{outcome_seen};
+ghost use Rattle.page_meaning.specs.Told.{end_text, spent_text, graph_answer};
+ghost use Rattle.page_points.specs.Machines.{data_told};
+ghost use Rattle.page_ground.specs.Seen.{data_seen, CanBePut};
+ghost use Rattle.page_ground.specs.Ending.{text_in_value, only_text_in, raised_text_in, text_or_none};
+
+use crate::data::Data;
+use expand_texts::texts::joined;
+use lua_graph::{DataFault, take_out};
+use lua_stack::{Given, Jump, Values};
+use lua_state::Outcome;
+use lua_store::{Store, TextId, Value};
+use page_run::Which;
+use std::alloc::Global;
+use wk_base::{Bytes, NoMemory};
+
+/// The text that a value is.
+fn text_in(value: Value) -> Option<TextId>
+    ensures { result ≡ text_in_value value }
+{
+    match value {
+        Value::Text(id) => Some(id),
+        Value::Nil => None,
+        Value::Bool(_) => None,
+        Value::Number(_) => None,
+        Value::Table(_) => None,
+        Value::Closure(_) => None,
+        Value::Builtin(_) => None,
+        Value::Markup(_) => None,
+    }
+}
+
+/// The text that the only value of a list is.
+fn text_in_list(values: &Values) -> Option<TextId>
+    ensures { result ≡ only_text_in values.now }
+{
+    let count = values.len();
+    if count == 1 {
+        return text_in(values.first());
+    }
+    None
+}
+
+/// The text that the only one of some values is.
+fn only_text(given: &Given) -> Option<TextId>
+    ensures { result ≡ only_text_in (given_values given.now) }
+{
+    match given {
+        Given::One(value) => text_in(*value),
+        Given::Many(values) => text_in_list(values),
+    }
+}
+
+/// The text that the value of an error is.
+fn raised_text(jump: &Jump) -> Option<TextId>
+    ensures { result ≡ raised_text_in jump.now }
+{
+    match jump {
+        Jump::Raised(value) => text_in(*value),
+        Jump::Returned(_) => None,
+        Jump::Broke => None,
+    }
+}
+
+/// A copy of a text of the store, or no bytes.
+fn copied_text(alloc: Global, store: &Store, text: Option<TextId>) -> Result<Bytes, NoMemory>
+    requires { IfSome text (IsTextOf store.now) }
+    ensures { IfOk result (λ made. made ≡ text_or_none store.now.texts text) }
+{
+    match text {
+        Some(id) => {
+            let made = Bytes::of(alloc, store.bytes(id))?;
+            Ok(made)
+        }
+        None => Ok(Bytes::of_vec(Vec::new(alloc))),
+    }
+}
+
+/// The text of an invocation that is over (Extension:Scribunto, "Script error"): what it gave, or the text of its failure, which is written
+/// without marks of HTML already.
+pub fn end_text(alloc: Global, store: &Store, outcome: &Outcome) -> Result<Bytes, NoMemory>
+    requires { OutcomeOf store.now outcome.now }
+    ensures { IfOk result (λ text. text ≡ end_text (end_of (outcome_seen store.now.texts outcome.now))) }
+{
+    match outcome {
+        Outcome::Goes(given) => {
+            let found = only_text(given);
+            let text = copied_text(alloc, store, found)?;
+            Ok(text)
+        }
+        Outcome::Jumps(jump) => {
+            let found = raised_text(jump);
+            let message = copied_text(alloc, store, found)?;
+            let bytes = message.as_slice();
+            let shown = joined(alloc, b"<strong class=\"error\">", bytes, b"</strong>")?;
+            Ok(Bytes::of_vec(shown))
+        }
+    }
+}
+
+/// The text of an invocation that spent an allowance.
+pub fn spent_text(alloc: Global, which: Which) -> Result<Bytes, NoMemory>
+    ensures { IfOk result (λ text. text ≡ spent_text which) }
+{
+    match which {
+        Which::Steps => {
+            let text = Bytes::of(
+                alloc,
+                b"<strong class=\"error\">Script error: The allowance of steps is spent.</strong>",
+            )?;
+            Ok(text)
+        }
+        Which::Calls => {
+            let text = Bytes::of(
+                alloc,
+                b"<strong class=\"error\">Script error: The allowance of nested calls is spent.</strong>",
+            )?;
+            Ok(text)
+        }
+    }
+}
+
+/// Why a value is no data, as the message of the load (Scribunto, `mw.loadData`); want of memory has none.
+fn fault_message(fault: DataFault) -> Option<&'static [u8]>
+    ensures { IfSome result (λ message. (r : Checked PlainGraph) → IsFault r fault → graph_answer r ≡ LoadFailed message.now) }
+{
+    match fault {
+        DataFault::NotATable => Some(b"data module returned no table"),
+        DataFault::HasFunction => Some(b"data module holds a function"),
+        DataFault::HasMetatable => Some(b"data module holds a metatable"),
+        DataFault::BadKey => Some(b"data module holds a bad key"),
+        DataFault::NoMemory => None,
+    }
+}
+
+/// The data of a value, or why it has none.
+fn value_data(alloc: Global, store: &Store, value: Value) -> Result<Data, NoMemory>
+    requires { IsOf store.now value }
+    ensures data { IfOk result (λ d. data_seen d ≡ graph_answer (taken store.now.heap (seen store.now.texts value))) }
+    ensures put { IfOk result CanBePut }
+{
+    match take_out(alloc, store, value) {
+        Ok(graph) => Ok(Data::Tables(graph)),
+        Err(fault) => match fault_message(fault) {
+            Some(message) => {
+                let copy = Bytes::of(alloc, message)?;
+                Ok(Data::Failed(copy))
+            }
+            None => Err(NoMemory),
+        },
+    }
+}
+
+/// What the load of a data module gave that is over (Scribunto, `mw.loadData`): the tables of its value, or why there are none.
+pub fn end_data(alloc: Global, store: &Store, outcome: &Outcome) -> Result<Data, NoMemory>
+    requires { OutcomeOf store.now outcome.now }
+    ensures data { IfOk result (λ d. data_seen d ≡ data_told store.now.heap (end_of (outcome_seen store.now.texts outcome.now))) }
+    ensures put { IfOk result CanBePut }
+{
+    match outcome {
+        Outcome::Goes(given) => {
+            let value = given.first();
+            let data = value_data(alloc, store, value)?;
+            Ok(data)
+        }
+        Outcome::Jumps(jump) => {
+            let found = raised_text(jump);
+            let message = copied_text(alloc, store, found)?;
+            Ok(Data::Failed(message))
+        }
+    }
+}

@@ -1,0 +1,21 @@
+//! What the tasks of a page stand on (MediaWiki, Extension:Scribunto): what nothing on a page changes, what runs of Lua come to, and the data that
+//! is kept.
+//!
+//! - `around`: what nothing on a page changes
+//! - `data`: what the load of a data module gave
+//! - `ending`: the text or the data that a run of Lua came to
+//! - `held`: whether a module is held
+//! - `keep`: what the loads of a page gave
+//! - `numbers`: the numbers of the runs of a page
+//! - `scenes`: texts and scenes from which expansions begin
+//!
+//! Begin with `specs/Ground.antt`, then `specs/Kept.antt`.
+#![tactic(auto)]
+
+pub mod around;
+pub mod data;
+pub mod ending;
+pub mod held;
+pub mod keep;
+pub mod numbers;
+pub mod scenes;

@@ -1,0 +1,54 @@
+use Rattle.std.proofs.Common.{◌∙◌, refl, sym}
+use Rattle.lua_store.specs.Seen.{StoreView}
+use Rattle.mw_frame.specs.declared.question.Ask.TheVariants.{Template}
+use Rattle.wiki_markup.specs.Trees.{Trees}
+use Rattle.wiki_expand.specs.Pages.{included_of, included_in, find_page}
+use Rattle.expand_meaning.specs.Outcome.{Including}
+use Rattle.page_meaning.specs.Tasks.{Expanding}
+use Rattle.page_ground.specs.Ground.{ground_of}
+use Rattle.page_tasks.specs.Beginning.{Begins}
+use Rattle.page_replies.specs.Moving.{asks_with}
+use Rattle.page_replies.proofs.Steps.{template_starts, none_moves, no_template}
+use Rattle.page_replies.proofs.Drives.{held_has_trees, above_starts, above_moves, asking_fits, lacks_page, with_trees, same_fits}
+use Rattle.page_replies.proofs.Sinking.{answered_on, answered_sinks}
+use Rattle.page_replies.proofs.asking.ask_template.Goals as goal
+
+-- THERE IS c.if-held.false such page
+pub tell_none-requires-clause-of : goal.tell_none-requires-clause-of
+tell_none-requires-clause-of g c = c.requires.driven.of
+
+pub tell_none-requires-clause-waits : goal.tell_none-requires-clause-waits
+tell_none-requires-clause-waits g c = c.requires.driven.halts
+
+pub tell_none-requires-clause-back : goal.tell_none-requires-clause-back
+tell_none-requires-clause-back g c = asking_fits (ground_of c.args.around.now) c.args.store.now c.args.left.now c.args.turns.now c.args.tower.now (asks_with c.args.task (Template c.args.scene c.args.title c.args.args)) (λ n. refl) c.requires
+
+pub returns-clause-moves : goal.returns-clause-moves
+returns-clause-moves g c =
+    none_moves (ground_of c.args.around.now) c.args.store.now c.args.left.now c.args.turns.now c.args.tower.now c.args.task (Template c.args.scene c.args.title c.args.args)
+    (λ modules agree. no_template (ground_of c.args.around.now) c.args.store.now c.args.left.now c.args.turns.now c.args.tower.now c.args.task c.args.scene c.args.title c.args.args (lacks_page c.args.around.now.pages.now c.args.title (sym c.holds-held.ensures ∙ c.if-held.false)) modules)
+    c.tell_none.new.store c.tell_none.new.left c.tell_none.new.turns c.in_ok-halted.halted c.in_ok-halted.ensures.halts c.in_ok-halted.ensures.goes
+
+pub returns-clause-sinks : goal.returns-clause-sinks
+returns-clause-sinks g c = answered_sinks c.args.left.now c.args.left.now c.args.task (Template c.args.scene c.args.title c.args.args) c.args.task c.args.tower.now c.args.tower.now c.tell_none.new.left c.in_ok-halted.halted (same_fits c.args.left.now.steps) c.in_ok-halted.ensures.falls
+
+-- IT BEGINS
+pub begin_template-requires : goal.begin_template-requires
+begin_template-requires g c = sym c.holds-held.ensures ∙ c.if-held.true
+
+pub go_above-requires : goal.go_above-requires
+go_above-requires g c =
+    let held = held_has_trees included_of (find_page c.args.around.now.pages.now c.args.title) (sym c.holds-held.ensures ∙ c.if-held.true) in
+    let t = with_trees (λ (trees : Trees). (s : StoreView) → Begins (ground_of c.args.around.now) (Expanding (Including trees c.args.title record c.args.scene { args = c.args.args })) s s c.in_ok-inner.inner) (included_in c.args.around.now.pages.now c.args.title) held c.in_ok-inner.ensures in
+    above_starts (ground_of c.args.around.now) c.args.store.now c.args.left.now c.args.turns.now c.args.tower.now c.args.task (asks_with c.args.task (Template c.args.scene c.args.title c.args.args)) c.args.store.now c.in_ok-inner.inner c.push_task.new.tower c.in_ok-push_task.ensures
+    (λ work first start d. template_starts (ground_of c.args.around.now) c.args.store.now c.args.left.now c.args.turns.now c.args.tower.now c.args.task c.args.scene c.args.title c.args.args t.0 c.in_ok-inner.inner t.1 (t.2 c.args.store.now) work first start d) c.requires
+
+pub returns-then-held-clause-moves : goal.returns-then-held-clause-moves
+returns-then-held-clause-moves g c =
+    let held = held_has_trees included_of (find_page c.args.around.now.pages.now c.args.title) (sym c.holds-held.ensures ∙ c.if-held.true) in
+    let t = with_trees (λ (trees : Trees). (s : StoreView) → Begins (ground_of c.args.around.now) (Expanding (Including trees c.args.title record c.args.scene { args = c.args.args })) s s c.in_ok-inner.inner) (included_in c.args.around.now.pages.now c.args.title) held c.in_ok-inner.ensures in
+    above_moves (ground_of c.args.around.now) c.args.store.now c.args.left.now c.args.turns.now c.args.tower.now c.args.task (asks_with c.args.task (Template c.args.scene c.args.title c.args.args)) c.args.store.now c.in_ok-inner.inner c.push_task.new.tower c.in_ok-push_task.ensures
+    (λ work first start d. template_starts (ground_of c.args.around.now) c.args.store.now c.args.left.now c.args.turns.now c.args.tower.now c.args.task c.args.scene c.args.title c.args.args t.0 c.in_ok-inner.inner t.1 (t.2 c.args.store.now) work first start d) c.go_above.new.store c.go_above.new.left c.go_above.new.turns c.in_ok-next.next c.in_ok-next.ensures.on
+
+pub returns-then-held-clause-sinks : goal.returns-then-held-clause-sinks
+returns-then-held-clause-sinks g c = answered_on c.args.left.now c.args.task (Template c.args.scene c.args.title c.args.args) c.in_ok-inner.inner c.args.tower.now c.push_task.new.tower c.go_above.new.left c.in_ok-next.next c.in_ok-next.ensures.falls

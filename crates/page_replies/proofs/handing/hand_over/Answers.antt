@@ -1,0 +1,36 @@
+use Rattle.std.proofs.Common.{List, refl, sym, ◌∙◌, subst}
+use Rattle.page_tasks.specs.declared.task.Task.{Task}
+use Rattle.page_ground.specs.Ground.{ground_of}
+use Rattle.page_replies.specs.Driven.{InProgress, MovesOn}
+use Rattle.page_replies.specs.Moving.{comes_with, Sinks}
+use Rattle.page_replies.proofs.Renumbering.{driven_renumbered, progress_renumbered, moves_renumbered}
+use Rattle.page_replies.proofs.Hands.{page_is_expanded}
+use Rattle.page_replies.proofs.handing.hand_over.Goals as goal
+
+-- THE PAGE IS EXPANDED
+pub returns-in-None-clause-moves : goal.returns-in-None-clause-moves
+returns-in-None-clause-moves g c = λ work first start fits d.
+    page_is_expanded (ground_of c.args.around.now) work first start c.leave_run.new.store c.args.left.now c.args.turns.now (record c.args.tower.now { numbers = c.leave_run.new.numbers }) (record c.args.tower.now { stack = c.pop.new.self; numbers = c.leave_run.new.numbers }) c.args.task c.args.reply c.in-None.ensures.0 refl refl
+    (driven_renumbered (ground_of c.args.around.now) c.args.store.now c.args.left.now c.args.turns.now c.args.tower.now c.leave_run.new.store c.leave_run.new.numbers c.leave_run.ensures.renumbers work first start (comes_with c.args.task c.args.reply) d)
+
+pub returns-in-None-clause-sinks : goal.returns-in-None-clause-sinks
+returns-in-None-clause-sinks g c = tt
+
+pub returns-in-None-clause-numbers : goal.returns-in-None-clause-numbers
+returns-in-None-clause-numbers g c = c.leave_run.ensures.numbers
+
+-- ONE THAT WAITS is told it
+pub hand_down-requires : goal.hand_down-requires
+hand_down-requires g c = subst (λ (ts : List Task). InProgress (ground_of c.args.around.now) c.leave_run.new.store c.args.left.now c.args.turns.now (record c.args.tower.now { stack = ts; numbers = c.leave_run.new.numbers }) (comes_with c.args.task c.args.reply)) c.in-Some.ensures
+    (progress_renumbered (ground_of c.args.around.now) c.args.store.now c.args.left.now c.args.turns.now c.args.tower.now c.leave_run.new.store c.leave_run.new.numbers c.leave_run.ensures.renumbers (comes_with c.args.task c.args.reply) c.requires)
+
+pub returns-in_ok-next-in-Some-clause-moves : goal.returns-in_ok-next-in-Some-clause-moves
+returns-in_ok-next-in-Some-clause-moves g c =
+    moves_renumbered (ground_of c.args.around.now) c.args.store.now c.args.left.now c.args.turns.now c.args.tower.now c.leave_run.new.store c.leave_run.new.numbers c.leave_run.ensures.renumbers (comes_with c.args.task c.args.reply) c.hand_down.new.store c.hand_down.new.left c.hand_down.new.turns c.hand_down.new.tower c.in_ok-next-in-Some.next
+    (subst (λ (ts : List Task). MovesOn (ground_of c.args.around.now) c.leave_run.new.store c.args.left.now c.args.turns.now (record c.args.tower.now { stack = ts; numbers = c.leave_run.new.numbers }) (comes_with c.args.task c.args.reply) c.hand_down.new.store c.hand_down.new.left c.hand_down.new.turns c.hand_down.new.tower c.in_ok-next-in-Some.next) (sym c.in-Some.ensures) c.in_ok-next-in-Some.ensures.moves)
+
+pub returns-in_ok-next-in-Some-clause-sinks : goal.returns-in_ok-next-in-Some-clause-sinks
+returns-in_ok-next-in-Some-clause-sinks g c = subst (λ (ts : List Task). Sinks c.args.left.now (record c.args.tower.now { stack = ts }) (comes_with c.args.task c.args.reply) c.hand_down.new.left c.hand_down.new.tower c.in_ok-next-in-Some.next) (sym c.in-Some.ensures) c.in_ok-next-in-Some.ensures.sinks
+
+pub returns-in_ok-next-in-Some-clause-numbers : goal.returns-in_ok-next-in-Some-clause-numbers
+returns-in_ok-next-in-Some-clause-numbers g c = c.in_ok-next-in-Some.ensures.numbers ∙ c.leave_run.ensures.numbers

@@ -1,0 +1,9 @@
+pub mod Answering
+pub mod Beginnings
+pub mod DataPut
+pub mod Expanding
+pub mod Halting
+pub mod Starts
+pub mod Waiting
+pub mod Passing
+pub mod Renumbered

@@ -1,0 +1,87 @@
+-- Tasks begin.
+use Rattle.std.proofs.Common.{◌≡◌, ℕ, true, [], Option, Some, None, refl, sym, ap, ◌∙◌, subst}
+use Rattle.std.specs.Prelude.{IfSome, option_map}
+use Rattle.wk_base.specs.declared.left.Left.{Left}
+use Rattle.wk_base.specs.declared.title.Title.{Title}
+use Rattle.wk_base.specs.Titles.{is_module}
+use Rattle.mw_frame.specs.declared.scene.Job.{Job}
+use Rattle.lua_heap.specs.Reach.{nowhere, with_new, Frame}
+use Rattle.expand_meaning.specs.Outcome.{Work as PageWork}
+use Rattle.wiki_expand.specs.declared.expander.Expander.{Expander}
+use Rattle.wiki_expand.specs.Pages.{setting_in}
+use Rattle.wiki_expand.specs.Standing.{At, IsReady, setting_of, depth_in, templates_in}
+use Rattle.lua_meaning.specs.Start.{Invoke, DataOf}
+use Rattle.lua_slots.specs.Code.{CWorld}
+use Rattle.lua_slots.specs.Points.{Works}
+use Rattle.lua_points.specs.Clauses.{Starts}
+use Rattle.lua_store.specs.Seen.{StoreView}
+use Rattle.lua_store.specs.Parts.{IsLater}
+use Rattle.lua_store.proofs.Later.{later-itself}
+use Rattle.lua_stack.specs.declared.focus.Work.{Work as CodeWork}
+use Rattle.lua_stack.specs.declared.focus.Focus.{Focus}
+use Rattle.lua_stack.specs.declared.focus.Focus.TheVariants as focus
+use Rattle.lua_stack.specs.Seen.{work_seen}
+use Rattle.lua_state.specs.Worlds.{world_seen}
+use Rattle.lua_state.specs.Seen.{slots_of}
+use Rattle.lua_machine.specs.declared.machine.Machine.{Machine}
+use Rattle.lua_machine.specs.Moved.{point_of}
+use Rattle.lua_machine.specs.Events.{MachineOf}
+use Rattle.page_meaning.specs.Wiki.{world}
+use Rattle.page_meaning.specs.Tasks.{Running, Expanding}
+use Rattle.page_points.specs.Places.{Place, beginning}
+use Rattle.page_points.specs.Machines.{Stood}
+use Rattle.page_points.proofs.Machines.{machine_starts}
+use Rattle.page_points.proofs.Apart.{nothing_changes, going_leaves}
+use Rattle.page_tasks.specs.declared.task.Begun.{Begun}
+use Rattle.page_tasks.specs.declared.task.Task.TheVariants as task
+use Rattle.page_ground.specs.Ground.{Ground, page_of, wiki_of}
+use Rattle.page_tasks.specs.Beginning.{MachineBegins, Begins, BeginsWith}
+
+-- A MACHINE
+pub machine_begins : (g : Ground) (w : CodeWork) (s t : StoreView) (m : Machine) → MachineOf t m → m.state.codes.world ≡ g.world → m.next ≡ focus.Works w → ((code : CWorld) → Starts code (work_seen w) s.heap (slots_of t m.state)) → (m.state.calls ≡ 0) × (m.height ≡ 0) → Frame nowhere s.heap t.heap → IsLater s t
+    → MachineBegins g (work_seen w) s t m
+machine_begins g w s t m of on next starts idle frame later = record {
+  of = of;
+  world = on;
+  calls = idle.0;
+  later = later;
+  starts = λ modules agree l began.
+      let place : Place = record (beginning (Running (work_seen w)) l began) { within = with_new nowhere s.heap t.heap } in
+      let x = machine_starts (world_seen g.world) (wiki_of g modules) (page_of g) (work_seen w) s.heap (slots_of t m.state) (starts (world_seen g.world)) agree.agree l began in (
+        with_new nowhere s.heap t.heap,
+        subst (λ (f : Focus). Stood (world_seen g.world) (world (wiki_of g modules) (page_of g)) place (point_of t m.state f) (slots_of t m.state) l m.state.calls m.height) (sym next)
+            (subst (λ n. Stood (world_seen g.world) (world (wiki_of g modules) (page_of g)) place (Works (work_seen w)) (slots_of t m.state) l n m.height) (sym idle.0)
+            (subst (λ n. Stood (world_seen g.world) (world (wiki_of g modules) (page_of g)) place (Works (work_seen w)) (slots_of t m.state) l 0 n) (sym idle.1) x)),
+        going_leaves nowhere s.heap t.heap frame,
+      );
+}
+
+pub invocation_begins : (g : Ground) (job : Job) (s t : StoreView) (m : Machine) → MachineBegins g (Invoke job) s t m → Begins g (Running (Invoke job)) s t (task.Invocation m)
+invocation_begins g job s t m b = record {
+  begins = record { of = b.of; can = tt; ground = b.world; calls = b.calls; depth = refl; templates = refl; later = b.later };
+  starts = λ modules agree l began. let x = b.starts modules agree l began in record { within = x.0; ready = record { task = (job, refl); stands = x.1 }; alone = x.2 };
+}
+
+pub load_begins : (g : Ground) (title : Title) (steps : ℕ) (s t : StoreView) (b : Begun) (m : Machine) → is_module title.ns ≡ true → b.title ≡ title → b.steps ≡ steps → MachineBegins g (DataOf title) s t m → BeginsWith g (Running (DataOf title)) steps s t (task.Load b m)
+load_begins g title steps s t b m named same count i = record {
+  begins = record { of = (i.of, ap (λ (x : Title). is_module x.ns) same ∙ named); can = tt; ground = i.world; calls = i.calls; depth = refl; templates = refl; later = i.later };
+  starts = λ modules agree l began e. let x = i.starts modules agree l began in record { within = x.0; ready = record { task = (ap (λ y. Running (DataOf y)) (sym same), e ∙ sym count); stands = x.1 }; alone = x.2 };
+}
+
+-- AN EXPANSION
+pub expansion_begins : (g : Ground) (work : PageWork) (e : Expander) → ((l : Left) → At e work l [] l) → setting_of e ≡ setting_in g.pages (page_of g) → IsReady e → (depth_in e ≡ 0) × (templates_in e ≡ 0) → (s : StoreView) → Begins g (Expanding work) s s (task.Expansion e)
+expansion_begins g work e at on ready rests s = record {
+  begins = record { of = tt; can = ready; ground = on; calls = refl; depth = rests.0; templates = rests.1; later = later-itself s };
+  starts = λ modules agree l began. record { within = nowhere; ready = record { task = (work, refl); stands = λ v i. subst (λ x. At e x l [] l) (work_is work v i) (at l) }; alone = nothing_changes nowhere s.heap };
+}
+  where
+    work_is : (v w : PageWork) → Expanding v ≡ Expanding w → v ≡ w
+    work_is v w i = cc
+
+pub if_some : {A : Type 0} (P Q : A → Type 0) (o : Option A) → ((a : A) → P a → Q a) → IfSome o P → IfSome o Q
+if_some P Q (Some a) f p = f a p
+if_some P Q None f p = p
+
+pub if_mapped : {A B : Type 0} (f : A → B) (P : B → Type 0) (o : Option A) → IfSome (option_map f o) P → IfSome o (λ a. P (f a))
+if_mapped f P (Some a) p = p
+if_mapped f P None p = p

@@ -1,0 +1,15 @@
+use Rattle.std.proofs.Common.{sym, subst}
+use Rattle.std.specs.Prelude.{IsSome}
+use Rattle.wk_base.specs.declared.title.Title.{Title}
+use Rattle.wiki_expand.specs.Pages.{find_page}
+use Rattle.page_ground.specs.Ground.{ground_of}
+use Rattle.page_tasks.proofs.Beginnings.{page_begins_with}
+use Rattle.page_tasks.proofs.beginning.begin_page.Goals as goal
+
+pub start-requires-clause-held : goal.start-requires-clause-held
+start-requires-clause-held c = subst (λ (t : Title). IsSome (find_page c.args.around.now.pages.now t)) (sym c.in_ok-title.ensures) c.requires
+
+pub returns : goal.returns
+returns c =
+    let e = c.in_ok-expander.ensures in
+    page_begins_with (ground_of c.args.around.now) c.in_ok-title.title c.in_ok-scene.scene c.in_ok-expander.expander c.in_ok-title.ensures c.in_ok-scene.ensures e.at e.setting e.ready e.rests

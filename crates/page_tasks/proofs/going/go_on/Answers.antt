@@ -1,0 +1,49 @@
+use Rattle.std.proofs.Common.{subst}
+use Rattle.page_tasks.specs.Tasks.{TaskIn, CanGo}
+use Rattle.page_tasks.specs.Falling.{CanGiveBack}
+use Rattle.page_tasks.proofs.going.go_on.Goals as goal
+
+pub go_expansion-requires-clause-can : goal.go_expansion-requires-clause-can
+go_expansion-requires-clause-can g c = subst CanGo c.in-Expansion.is c.requires.can
+
+pub go_expansion-requires-clause-back : goal.go_expansion-requires-clause-back
+go_expansion-requires-clause-back g c = subst (CanGiveBack c.args.left.now) c.in-Expansion.is c.requires.back
+
+pub go_invocation-requires-clause-of : goal.go_invocation-requires-clause-of
+go_invocation-requires-clause-of g c = subst (TaskIn c.args.store.now) c.in-Invocation.is c.requires.of
+
+pub go_invocation-requires-clause-back : goal.go_invocation-requires-clause-back
+go_invocation-requires-clause-back g c = subst (CanGiveBack c.args.left.now) c.in-Invocation.is c.requires.back
+
+pub go_load-requires-clause-of : goal.go_load-requires-clause-of
+go_load-requires-clause-of g c = subst (TaskIn c.args.store.now) c.in-Load.is c.requires.of
+
+pub go_load-requires-clause-back : goal.go_load-requires-clause-back
+go_load-requires-clause-back g c = subst (CanGiveBack c.args.left.now) c.in-Load.is c.requires.back
+
+pub returns-in_ok-halted-in-Expansion-clause-halts : goal.returns-in_ok-halted-in-Expansion-clause-halts
+returns-in_ok-halted-in-Expansion-clause-halts g c = rw c.in-Expansion.is (c.in_ok-halted-in-Expansion.ensures.halts c.args.store.now c.args.turns.now)
+
+pub returns-in_ok-halted-in-Expansion-clause-goes : goal.returns-in_ok-halted-in-Expansion-clause-goes
+returns-in_ok-halted-in-Expansion-clause-goes g c = λ n e. rw c.in-Expansion.is (c.in_ok-halted-in-Expansion.ensures.goes c.args.store.now n)
+
+pub returns-in_ok-halted-in-Expansion-clause-falls : goal.returns-in_ok-halted-in-Expansion-clause-falls
+returns-in_ok-halted-in-Expansion-clause-falls g c = rw c.in-Expansion.is c.in_ok-halted-in-Expansion.ensures.falls
+
+pub returns-in_ok-halted-in-Invocation-clause-halts : goal.returns-in_ok-halted-in-Invocation-clause-halts
+returns-in_ok-halted-in-Invocation-clause-halts g c = rw c.in-Invocation.is c.in_ok-halted-in-Invocation.ensures.halts
+
+pub returns-in_ok-halted-in-Invocation-clause-goes : goal.returns-in_ok-halted-in-Invocation-clause-goes
+returns-in_ok-halted-in-Invocation-clause-goes g c = rw c.in-Invocation.is c.in_ok-halted-in-Invocation.ensures.goes
+
+pub returns-in_ok-halted-in-Invocation-clause-falls : goal.returns-in_ok-halted-in-Invocation-clause-falls
+returns-in_ok-halted-in-Invocation-clause-falls g c = rw c.in-Invocation.is c.in_ok-halted-in-Invocation.ensures.falls
+
+pub returns-in_ok-halted-in-Load-clause-halts : goal.returns-in_ok-halted-in-Load-clause-halts
+returns-in_ok-halted-in-Load-clause-halts g c = rw c.in-Load.is c.in_ok-halted-in-Load.ensures.halts
+
+pub returns-in_ok-halted-in-Load-clause-goes : goal.returns-in_ok-halted-in-Load-clause-goes
+returns-in_ok-halted-in-Load-clause-goes g c = rw c.in-Load.is c.in_ok-halted-in-Load.ensures.goes
+
+pub returns-in_ok-halted-in-Load-clause-falls : goal.returns-in_ok-halted-in-Load-clause-falls
+returns-in_ok-halted-in-Load-clause-falls g c = rw c.in-Load.is c.in_ok-halted-in-Load.ensures.falls

@@ -1,0 +1,44 @@
+use Rattle.std.proofs.Common.{subst}
+use Rattle.page_tasks.specs.Tasks.{CanBeTold}
+use Rattle.page_tasks.specs.Falling.{CanGiveBack}
+use Rattle.page_tasks.proofs.Answering.{expansion_not_refused}
+use Rattle.page_tasks.proofs.telling.tell_spent.Goals as goal
+
+pub tell_expansion-requires-clause-waits : goal.tell_expansion-requires-clause-waits
+tell_expansion-requires-clause-waits c = subst CanBeTold c.in-Expansion.is c.requires.waits
+
+pub tell_expansion-requires-clause-back : goal.tell_expansion-requires-clause-back
+tell_expansion-requires-clause-back c = subst (CanGiveBack c.args.left.now) c.in-Expansion.is c.requires.back
+
+pub spend_invocation-requires : goal.spend_invocation-requires
+spend_invocation-requires c = record { back = subst (CanGiveBack c.args.left.now) c.in-Invocation.is c.requires.back }
+
+pub spend_load-requires : goal.spend_load-requires
+spend_load-requires c = record { back = subst (CanGiveBack c.args.left.now) c.in-Load.is c.requires.back }
+
+pub returns-in_ok-halted-in-Expansion-clause-halts : goal.returns-in_ok-halted-in-Expansion-clause-halts
+returns-in_ok-halted-in-Expansion-clause-halts c = λ s k of. rw c.in-Expansion.is (c.in_ok-halted-in-Expansion.ensures.halts s k)
+
+pub returns-in_ok-halted-in-Expansion-clause-goes : goal.returns-in_ok-halted-in-Expansion-clause-goes
+returns-in_ok-halted-in-Expansion-clause-goes c = λ s high. rw c.in-Expansion.is (expansion_not_refused c.in-Expansion.expander c.args.which s c.args.left.now high s c.tell_expansion.new.left 0 c.in_ok-halted-in-Expansion.halted)
+
+pub returns-in_ok-halted-in-Expansion-clause-falls : goal.returns-in_ok-halted-in-Expansion-clause-falls
+returns-in_ok-halted-in-Expansion-clause-falls c = rw c.in-Expansion.is c.in_ok-halted-in-Expansion.ensures.falls
+
+pub returns-in_ok-halted-in-Invocation-clause-halts : goal.returns-in_ok-halted-in-Invocation-clause-halts
+returns-in_ok-halted-in-Invocation-clause-halts c = rw c.in-Invocation.is c.in_ok-halted-in-Invocation.ensures.halts
+
+pub returns-in_ok-halted-in-Invocation-clause-goes : goal.returns-in_ok-halted-in-Invocation-clause-goes
+returns-in_ok-halted-in-Invocation-clause-goes c = rw c.in-Invocation.is c.in_ok-halted-in-Invocation.ensures.goes
+
+pub returns-in_ok-halted-in-Invocation-clause-falls : goal.returns-in_ok-halted-in-Invocation-clause-falls
+returns-in_ok-halted-in-Invocation-clause-falls c = rw c.in-Invocation.is c.in_ok-halted-in-Invocation.ensures.falls
+
+pub returns-in-Load-clause-halts : goal.returns-in-Load-clause-halts
+returns-in-Load-clause-halts c = rw c.in-Load.is c.spend_load.ensures.halts
+
+pub returns-in-Load-clause-goes : goal.returns-in-Load-clause-goes
+returns-in-Load-clause-goes c = rw c.in-Load.is c.spend_load.ensures.goes
+
+pub returns-in-Load-clause-falls : goal.returns-in-Load-clause-falls
+returns-in-Load-clause-falls c = rw c.in-Load.is c.spend_load.ensures.falls

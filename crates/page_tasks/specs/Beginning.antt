@@ -1,0 +1,50 @@
+-- A TASK BEGINS, in a store of its own making or in the store as it is.
+use Rattle.std.specs.Prelude.{◌≡◌, ℕ}
+use Rattle.wk_base.specs.declared.left.Left.{Left}
+use Rattle.page_run.specs.Walk.{WalkState}
+use Rattle.lua_heap.specs.Reach.{Set, nowhere}
+use Rattle.lua_meaning.specs.World.{Modules}
+use Rattle.lua_meaning.specs.Start.{Work}
+use Rattle.lua_store.specs.Seen.{StoreView}
+use Rattle.lua_store.specs.Parts.{IsLater}
+use Rattle.lua_machine.specs.declared.machine.Machine.{Machine}
+use Rattle.lua_machine.specs.Events.{MachineOf}
+use Rattle.page_meaning.specs.Tasks.{Task as PlainTask, Running}
+use Rattle.page_points.specs.Places.{beginning}
+use Rattle.page_points.specs.Apart.{LeavesAlone}
+use Rattle.page_tasks.specs.declared.task.Task.{Task}
+use Rattle.page_ground.specs.Ground.{Ground, AreModulesOf}
+use Rattle.page_tasks.specs.Tasks.{TaskIn, OnGround, CanGo, calls_in, depth_of, templates_of, MachineReady, Ready}
+
+-- it stands at its start, whatever is left, in a set of its own
+pub record StartsAt (g : Ground) (modules : Modules) (s t : StoreView) (x : Task) (task : PlainTask) (l : Left) (began : WalkState) : Type 0 where
+  pub within : Set
+  pub ready : Ready g modules t l x (record (beginning task l began) { within = within })
+  pub alone : LeavesAlone nowhere s.heap t.heap within
+
+-- nothing is in progress yet
+pub record BeginsIn (g : Ground) (s t : StoreView) (x : Task) : Type 0 where
+  pub of : TaskIn t x
+  pub can : CanGo x
+  pub ground : OnGround g x
+  pub calls : calls_in x ≡ 0
+  pub depth : depth_of x ≡ 0
+  pub templates : templates_of x ≡ 0
+  pub later : IsLater s t
+
+pub record Begins (g : Ground) (task : PlainTask) (s t : StoreView) (x : Task) : Type 0 where
+  pub begins : BeginsIn g s t x
+  pub starts : (modules : Modules) → AreModulesOf g modules → (l : Left) (began : WalkState) → StartsAt g modules s t x task l began
+
+-- where so many steps are left
+pub record BeginsWith (g : Ground) (task : PlainTask) (steps : ℕ) (s t : StoreView) (x : Task) : Type 0 where
+  pub begins : BeginsIn g s t x
+  pub starts : (modules : Modules) → AreModulesOf g modules → (l : Left) (began : WalkState) → l.steps ≡ steps → StartsAt g modules s t x task l began
+
+-- the same of a machine
+pub record MachineBegins (g : Ground) (work : Work) (s t : StoreView) (m : Machine) : Type 0 where
+  pub of : MachineOf t m
+  pub world : m.state.codes.world ≡ g.world
+  pub calls : m.state.calls ≡ 0
+  pub later : IsLater s t
+  pub starts : (modules : Modules) → AreModulesOf g modules → (l : Left) (began : WalkState) → (within : Set) × MachineReady g modules t l m (record (beginning (Running work) l began) { within = within }) × LeavesAlone nowhere s.heap t.heap within

@@ -1,0 +1,19 @@
+-- WHAT A TASK CAME TO, as the meaning has it, and what an expansion is told for an answer.
+use Rattle.std.specs.Prelude.{ℕ, List, []}
+use Rattle.page_run.specs.State.{Response, Gives, Exhausts}
+use Rattle.lua_meaning.specs.Questions.{Answer, Expanded}
+use Rattle.page_ground.specs.Seen.{data_seen}
+use Rattle.page_tasks.specs.declared.task.Reply.{Reply}
+use Rattle.page_tasks.specs.declared.task.Reply.TheVariants as reply
+use Rattle.lua_machine.specs.declared.event.Answer.{Answer as Told}
+use Rattle.lua_machine.specs.declared.event.Answer.TheVariants as answer
+
+abbrev pub reply_seen : Reply → Response Answer
+reply_seen (reply.Text text) = Gives (Expanded text)
+reply_seen (reply.Data d) = Gives (data_seen d)
+reply_seen (reply.Spent which) = Exhausts which
+
+-- no answer but a text is one to an expansion
+abbrev pub answered_text : Told → List ℕ
+answered_text (answer.Expanded text) = text
+answered_text _ = []

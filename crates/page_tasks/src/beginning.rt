@@ -1,0 +1,131 @@
+//! How the tasks of a page begin.
+ghost use Rattle.std.specs.Prelude.{◌≡◌, true, IsSome, IfSome, IfOk};
+ghost use Rattle.mw_frame.specs.Scenes.{HaveNames};
+ghost use Rattle.wk_base.specs.Titles.{is_module};
+ghost use Rattle.expand_meaning.specs.Outcome.{Reading, Including, page_scene};
+ghost use Rattle.wiki_expand.specs.Pages.{find_page, direct_in, included_in};
+ghost use Rattle.lua_meaning.specs.Start.{Invoke, DataOf};
+ghost use Rattle.lua_stack.specs.Of.{WorkOf};
+ghost use Rattle.lua_stack.specs.Seen.{work_seen};
+ghost use Rattle.lua_store.specs.Seen.{StoreView};
+ghost use Rattle.page_meaning.specs.Wiki.{read};
+ghost use Rattle.page_meaning.specs.Tasks.{Running, Expanding};
+ghost use Rattle.page_ground.specs.Ground.{ground_of, page_of};
+ghost use Rattle.page_tasks.specs.Falling.{chances_of};
+ghost use Rattle.page_tasks.specs.Beginning.{MachineBegins, Begins, BeginsWith};
+
+use crate::task::{Begun, Task};
+use lua_machine::Machine;
+use lua_stack::Work;
+use lua_store::Store;
+use mw_frame::{Arg, Job, Scene};
+use page_ground::around::Around;
+use page_ground::scenes::{bare_scene, check_names, read_text};
+use wiki_expand::{Expander, Source};
+use wk_base::{Bytes, List, NoMemory, Title};
+
+/// A run of Lua begins, in a fresh environment of its own.
+fn begin_run<'w>(
+    around: &Around<'w>,
+    store: &mut Store,
+    work: Work,
+) -> Result<Machine<'w>, NoMemory>
+    requires { WorkOf work }
+    ensures { IfOk result (λ m. MachineBegins (ground_of around.now) (work_seen work) store.old store.new m) }
+{
+    let machine = Machine::start(around.alloc, store, around.seed, around.world, work)?;
+    Ok(machine)
+}
+
+/// An invocation begins (Extension:Scribunto, `#invoke`).
+pub fn begin_invocation<'w>(
+    around: &Around<'w>,
+    store: &mut Store,
+    job: Job,
+) -> Result<Task<'w>, NoMemory>
+    requires { HaveNames job }
+    ensures begins { IfOk result (λ t. Begins (ground_of around.now) (Running (Invoke job)) store.old store.new t) }
+    ensures chances { IfOk result (λ t. chances_of t ≡ 0) }
+{
+    let machine = begin_run(around, store, Work::Invoke(job))?;
+    Ok(Task::Invocation(machine))
+}
+
+/// The load of a data module begins, where so many steps are left (Scribunto, `mw.loadData`).
+pub fn begin_load<'w>(
+    around: &Around<'w>,
+    store: &mut Store,
+    title: Title,
+    steps: u64,
+) -> Result<Task<'w>, NoMemory>
+    requires { is_module title.ns ≡ true }
+    ensures { IfOk result (λ t. BeginsWith (ground_of around.now) (Running (DataOf title)) steps store.old store.new t) }
+{
+    let module = title.copy()?;
+    let machine = begin_run(around, store, Work::Data(title))?;
+    let begun = Begun {
+        title: module,
+        steps,
+    };
+    Ok(Task::Load(begun, machine))
+}
+
+/// The expansion of a text in the scene of a frame begins (Scribunto, `frame:preprocess`).
+pub fn begin_text<'w>(around: &Around<'w>, scene: Scene, text: &Bytes) -> Result<Task<'w>, NoMemory>
+    ensures { IfOk result (λ t. (s : StoreView) → Begins (ground_of around.now) (Expanding (Reading (read text.now) scene)) s s t) }
+{
+    check_names(around, scene.args.as_slice())?;
+    let marked = read_text(around.alloc, text)?;
+    let expander = Expander::start(
+        around.alloc,
+        around.pages,
+        around.world.page,
+        Source::Text(marked),
+        scene,
+    )?;
+    Ok(Task::Expansion(expander))
+}
+
+/// The expansion of a template with these arguments begins, as that of the text of the scene includes it (Scribunto,
+/// `frame:expandTemplate`).
+pub fn begin_template<'w>(
+    around: &Around<'w>,
+    scene: Scene,
+    title: Title,
+    args: List<Arg>,
+) -> Result<Task<'w>, NoMemory>
+    requires { IsSome (find_page (ground_of around.now).pages title) }
+    ensures { IfOk result (λ t. IfSome (included_in (ground_of around.now).pages title) (λ trees. (s : StoreView) → Begins (ground_of around.now) (Expanding (Including trees title record scene { args = args })) s s t)) }
+{
+    check_names(around, args.as_slice())?;
+    let Scene {
+        title: asking,
+        args: _,
+        chain,
+    } = scene;
+    let scene = Scene {
+        title: asking,
+        args,
+        chain,
+    };
+    let expander = Expander::start(
+        around.alloc,
+        around.pages,
+        around.world.page,
+        Source::Template(title),
+        scene,
+    )?;
+    Ok(Task::Expansion(expander))
+}
+
+/// The expansion of the page itself begins.
+pub fn begin_page<'w>(around: &Around<'w>) -> Result<Task<'w>, NoMemory>
+    requires { IsSome (find_page (ground_of around.now).pages (page_of (ground_of around.now))) }
+    ensures { IfOk result (λ t. IfSome (direct_in (ground_of around.now).pages (page_of (ground_of around.now))) (λ trees. (s : StoreView) → Begins (ground_of around.now) (Expanding (Reading trees (page_scene (page_of (ground_of around.now))))) s s t)) }
+{
+    let page = around.world.page;
+    let scene = bare_scene(around.alloc, page)?;
+    let title = page.copy()?;
+    let expander = Expander::start(around.alloc, around.pages, page, Source::Page(title), scene)?;
+    Ok(Task::Expansion(expander))
+}

@@ -1,0 +1,256 @@
+//! A task that can go on goes on until it halts.
+ghost use Rattle.std.specs.Prelude.{◌≡◌, ◌+◌, ◌<◌, ◌^◌, ℕ, false, IfOk};
+ghost use Rattle.lua_store.specs.Seen.{StoreView};
+ghost use Rattle.wiki_expand.specs.Standing.{IsReady, depth_in, templates_in};
+ghost use Rattle.lua_machine.specs.Events.{MachineOf, EventOf};
+ghost use Rattle.page_tasks.specs.declared.task.Task.TheVariants as task_kind;
+ghost use Rattle.page_tasks.specs.Tasks.{TaskIn, CanGo};
+ghost use Rattle.page_tasks.specs.Going.{Halts, GoesOn, MachineGoes, IsInvocationHalt, IsLoadHalt, halt_of};
+ghost use Rattle.page_tasks.specs.Calls.{ExpanderGoes, RunsTo};
+ghost use Rattle.page_tasks.specs.Falling.{CanGiveBack, StepsFall, Falls};
+
+use crate::task::{Begun, Halt, Halted, Reply, Task};
+use lua_machine::{Event, Machine};
+use lua_store::Store;
+use page_ground::ending::{end_data, end_text, spent_text};
+use std::alloc::Global;
+use std::sync::ledger::Ledger;
+use wiki_expand::{Expander, Move};
+use wk_base::{Left, NoMemory, Steps};
+
+/// How an expansion halts.
+fn move_halt(next: Move) -> Halt
+    ensures { result ≡ halt_of next }
+{
+    match next {
+        Move::Text(text) => Halt::Comes(Reply::Text(text)),
+        Move::Invoke(job) => Halt::Invokes(job),
+    }
+}
+
+/// Goes on with an expansion up to its move.
+fn go_expander<'w>(left: &mut Left, expander: &mut Expander<'w>) -> Result<Move, NoMemory>
+    requires can { IsReady expander.old }
+    requires depth { left.old.depth + depth_in expander.old < 2 ^ 64 }
+    requires templates { left.old.templates + templates_in expander.old < 2 ^ 64 }
+    ensures { IfOk result (λ m. ExpanderGoes expander.old left.old m expander.new left.new) }
+{
+    let next = expander.go(left)?;
+    Ok(next)
+}
+
+/// Goes on with an expansion.
+pub(crate) fn go_expansion<'w>(
+    left: &mut Left,
+    expander: Expander<'w>,
+) -> Result<Halted<'w>, NoMemory>
+    requires can { IsReady expander }
+    requires back { CanGiveBack left.old (task_kind.Expansion expander) }
+    ensures halts { IfOk result (λ x. (s : StoreView) (k : ℕ) → Halts s left.old k (task_kind.Expansion expander.entry) s left.new k x) }
+    ensures goes { IfOk result (λ x. (s : StoreView) (n : ℕ) → GoesOn s left.old (task_kind.Expansion expander.entry) s left.new n x) }
+    ensures falls { IfOk result (λ x. Falls left.old (task_kind.Expansion expander.entry) left.new x) }
+{
+    let mut expander = expander;
+    match go_expander(left, &mut expander) {
+        Ok(next) => {
+            let halt = move_halt(next);
+            Ok(Halted {
+                task: Task::Expansion(expander),
+                halt,
+            })
+        }
+        // let go by a call, here and below, since the drop in place of what goes on is long to prove
+        Err(_) => {
+            drop(expander);
+            Err(NoMemory)
+        }
+    }
+}
+
+/// Whether a run of Lua asks that has taken no step.
+fn is_idle(event: &Event, before: u64, after: u64) -> bool
+    ensures { result ≡ false → StepsFall event.now before after }
+{
+    match event {
+        Event::Asks(_) => after >= before,
+        Event::Over(_) => false,
+        Event::Spent(_) => false,
+    }
+}
+
+/// Goes on with a run of Lua up to its event. One that asks has called a function since it began or was told a reply, and so has taken a step:
+/// that pages come to an end rests on it. A machine does not promise it, so it is tested.
+fn go_machine<'w, L: Ledger>(
+    store: &mut Store,
+    left: &mut Left,
+    machine: &mut Machine<'w>,
+    turns: &mut Steps<L>,
+) -> Result<Event, NoMemory>
+    requires of { MachineOf store.old machine.old }
+    requires calls { left.old.calls + machine.old.state.calls < 2 ^ 64 }
+    ensures went { IfOk result (λ e. MachineGoes store.old left.old turns.old machine.old store.new left.new turns.new machine.new e) }
+    ensures falls { IfOk result (λ e. StepsFall e left.old.steps left.new.steps) }
+{
+    let before = left.steps;
+    let event = machine.go(store, left, turns)?;
+    let idle = is_idle(&event, before, left.steps);
+    if idle {
+        return Err(NoMemory);
+    }
+    Ok(event)
+}
+
+/// How an invocation halts: it has come to its text in any case, or asks. An allowance that is spent ends the invocation, and not the page.
+fn invocation_halt(alloc: Global, store: &Store, event: Event) -> Result<Halt, NoMemory>
+    requires { EventOf store.now event }
+    ensures { IfOk result (λ h. IsInvocationHalt store.now event h) }
+{
+    match event {
+        Event::Over(outcome) => {
+            let text = end_text(alloc, store, &outcome)?;
+            Ok(Halt::Comes(Reply::Text(text)))
+        }
+        Event::Spent(which) => {
+            let text = spent_text(alloc, which)?;
+            Ok(Halt::Comes(Reply::Text(text)))
+        }
+        Event::Asks(question) => Ok(Halt::Asks(question)),
+    }
+}
+
+/// How the load of a data module halts: with data, spent, or it asks.
+fn load_halt(alloc: Global, store: &Store, event: Event) -> Result<Halt, NoMemory>
+    requires { EventOf store.now event }
+    ensures { IfOk result (λ h. IsLoadHalt store.now event h) }
+{
+    match event {
+        Event::Over(outcome) => {
+            let data = end_data(alloc, store, &outcome)?;
+            Ok(Halt::Comes(Reply::Data(data)))
+        }
+        Event::Spent(which) => Ok(Halt::Comes(Reply::Spent(which))),
+        Event::Asks(question) => Ok(Halt::Asks(question)),
+    }
+}
+
+/// Goes on with the run of an invocation.
+fn run_invocation<'w, L: Ledger>(
+    alloc: Global,
+    store: &mut Store,
+    left: &mut Left,
+    machine: &mut Machine<'w>,
+    turns: &mut Steps<L>,
+) -> Result<Halt, NoMemory>
+    requires of { MachineOf store.old machine.old }
+    requires calls { left.old.calls + machine.old.state.calls < 2 ^ 64 }
+    ensures { IfOk result (λ h. RunsTo IsInvocationHalt store.old left.old turns.old machine.old store.new left.new turns.new machine.new h) }
+{
+    let event = go_machine(store, left, machine, turns)?;
+    let halt = invocation_halt(alloc, store, event)?;
+    Ok(halt)
+}
+
+/// Goes on with the run of a load.
+fn run_load<'w, L: Ledger>(
+    alloc: Global,
+    store: &mut Store,
+    left: &mut Left,
+    machine: &mut Machine<'w>,
+    turns: &mut Steps<L>,
+) -> Result<Halt, NoMemory>
+    requires of { MachineOf store.old machine.old }
+    requires calls { left.old.calls + machine.old.state.calls < 2 ^ 64 }
+    ensures { IfOk result (λ h. RunsTo IsLoadHalt store.old left.old turns.old machine.old store.new left.new turns.new machine.new h) }
+{
+    let event = go_machine(store, left, machine, turns)?;
+    let halt = load_halt(alloc, store, event)?;
+    Ok(halt)
+}
+
+/// Goes on with an invocation.
+pub(crate) fn go_invocation<'w, L: Ledger>(
+    alloc: Global,
+    store: &mut Store,
+    left: &mut Left,
+    machine: Machine<'w>,
+    turns: &mut Steps<L>,
+) -> Result<Halted<'w>, NoMemory>
+    requires of { MachineOf store.old machine }
+    requires back { CanGiveBack left.old (task_kind.Invocation machine) }
+    ensures halts { IfOk result (λ x. Halts store.old left.old turns.old (task_kind.Invocation machine.entry) store.new left.new turns.new x) }
+    ensures goes { IfOk result (λ x. (n : ℕ) → turns.new ≡ turns.old + n → GoesOn store.old left.old (task_kind.Invocation machine.entry) store.new left.new n x) }
+    ensures falls { IfOk result (λ x. Falls left.old (task_kind.Invocation machine.entry) left.new x) }
+{
+    let mut machine = machine;
+    match run_invocation(alloc, store, left, &mut machine, turns) {
+        Ok(halt) => Ok(Halted {
+            task: Task::Invocation(machine),
+            halt,
+        }),
+        Err(_) => {
+            drop(machine);
+            Err(NoMemory)
+        }
+    }
+}
+
+/// Goes on with the load of a data module.
+pub(crate) fn go_load<'w, L: Ledger>(
+    alloc: Global,
+    store: &mut Store,
+    left: &mut Left,
+    begun: Begun,
+    machine: Machine<'w>,
+    turns: &mut Steps<L>,
+) -> Result<Halted<'w>, NoMemory>
+    requires of { TaskIn store.old (task_kind.Load begun machine) }
+    requires back { CanGiveBack left.old (task_kind.Load begun machine) }
+    ensures halts { IfOk result (λ x. Halts store.old left.old turns.old (task_kind.Load begun machine.entry) store.new left.new turns.new x) }
+    ensures goes { IfOk result (λ x. (n : ℕ) → turns.new ≡ turns.old + n → GoesOn store.old left.old (task_kind.Load begun machine.entry) store.new left.new n x) }
+    ensures falls { IfOk result (λ x. Falls left.old (task_kind.Load begun machine.entry) left.new x) }
+{
+    let mut machine = machine;
+    match run_load(alloc, store, left, &mut machine, turns) {
+        Ok(halt) => Ok(Halted {
+            task: Task::Load(begun, machine),
+            halt,
+        }),
+        Err(_) => {
+            drop(begun);
+            drop(machine);
+            Err(NoMemory)
+        }
+    }
+}
+
+/// Goes on with a task until it has come to its reply, or asks. `left` is what is left of the page's allowances; the counter of turns rises by
+/// what a run of Lua counts.
+pub fn go_on<'w, L: Ledger>(
+    alloc: Global,
+    store: &mut Store,
+    left: &mut Left,
+    task: Task<'w>,
+    turns: &mut Steps<L>,
+) -> Result<Halted<'w>, NoMemory>
+    requires of { TaskIn store.old task }
+    requires can { CanGo task }
+    requires back { CanGiveBack left.old task }
+    ensures halts { IfOk result (λ x. Halts store.old left.old turns.old task.entry store.new left.new turns.new x) }
+    ensures goes { IfOk result (λ x. (n : ℕ) → turns.new ≡ turns.old + n → GoesOn store.old left.old task.entry store.new left.new n x) }
+    ensures falls { IfOk result (λ x. Falls left.old task.entry left.new x) }
+{
+    match task {
+        Task::Expansion(expander) => {
+            let halted = go_expansion(left, expander)?;
+            Ok(halted)
+        }
+        Task::Invocation(machine) => {
+            let halted = go_invocation(alloc, store, left, machine, turns)?;
+            Ok(halted)
+        }
+        Task::Load(begun, machine) => {
+            let halted = go_load(alloc, store, left, begun, machine, turns)?;
+            Ok(halted)
+        }
+    }
+}

@@ -1,6 +1,0 @@
-use Rattle.std.proofs.Common.{rules}
-use Rattle.wiki_batch.proofs.Joins.{Joined-push}
-use Rattle.wiki_batch.proofs.expanding.gathered.Goals as goal
-
-pub loop-part-preserved : goal.loop-part-preserved
-loop-part-preserved c = search (rules, Joined-push)
