@@ -5,8 +5,8 @@
 
 For each text: the seconds of processor time of the machine and of `lua5.1` (the best of some rounds each, and what the programs take to
 start is taken off), how much longer the machine takes, the steps that it takes, millions of steps a second, and the most memory of both in MiB. Then
-what a start with its fresh environment takes, in one store and in a store of its own; and texts that are made to take long, at two sizes:
-how much longer the larger one takes, which is twice as large.
+calls of the library, without the loop around them; what a start with its fresh environment takes, in one store and in a store of its own;
+and texts that are made to take long, at two sizes: how much longer the larger one takes, which is twice as large.
 """
 import re
 import shutil
@@ -38,6 +38,17 @@ ATTACKS = {
     "errors in deep calls": ("return {f=function() local function g(n) if n==0 then error('x') end g(n-1) end return #select(2,pcall(g,%d)) end}", 50000, False),
     "a text that doubles": ("return {f=function() local s='x' for i=1,%d do s=(s..s..'y') if #s>1000000 then s='x' end end return #s end}", 400, False),
     "keys cleared and walked": ("return {f=function() local t={} for i=1,%d do t[i..'']=1 end for k in pairs(t) do t[k]=nil end local n=0 for i=1,20 do if next(t)==nil then n=n+1 end end return n end}", 50000, False),
+}
+
+# Calls of the library, and the same text without the call, whose time is taken off.
+LOOP = "return {f=function() local n=0 for i=1,%d do %s end return n end}"
+FILLED = "return {f=function() local t={} for i=1,1000000 do t[i]=%s end %s end}"
+LIBRARY = {
+    "300,000 gsub": (LOOP % (300000, "local s,k=string.gsub('hello world','o','0') n=n+k"), LOOP % (300000, "local s,k='hello world',2 n=n+k")),
+    "300,000 format": (LOOP % (300000, "n=n+#string.format('%d %s %05d',i,'x',i)"), LOOP % (300000, "n=n+#'1 x 00001'")),
+    "1,000,000 sub": (LOOP % (1000000, "local s='hello world' n=n+#s:sub(3,7)"), LOOP % (1000000, "local s='hello world' n=n+#s")),
+    "concat of 1,000,000": (FILLED % ("'x'", "return #table.concat(t,',')"), FILLED % ("'x'", "return #t")),
+    "sort of 1,000,000": (FILLED % ("i*7919%1000003", "table.sort(t) return t[500000]"), FILLED % ("i*7919%1000003", "return t[500000]")),
 }
 
 LUA = "local m=loadstring(io.read('*a'),'=Module:X')() io.write(tostring((m.f({}))))"
@@ -80,6 +91,22 @@ def beside_lua(program):
             print(f"{line}{'':8} {'':6} {steps:12} {steps / took / 1e6:6.1f} {mine.memory / 2 ** 20:5.0f}", flush=True)
 
 
+def library(program):
+    lua = shutil.which("lua5.1")
+    print(f"\n{'calls of the library':26} {'machine':>8} {'lua5.1':>8} {'ratio':>6}")
+    for name, texts in LIBRARY.items():
+        mine = [best(ROUNDS, [program], given(text)) for text in texts]
+        took = mine[0].processor - mine[1].processor
+        line = f"{name:26} {took:7.2f}s "
+        if lua:
+            other = [best(ROUNDS, [lua, "-e", LUA], text.encode()) for text in texts]
+            if other[0].printed.decode() != ended(mine[0].printed)[0]:
+                sys.exit(f"{name}: {ended(mine[0].printed)[0]} here, {other[0].printed.decode()} in lua5.1")
+            theirs = max(other[0].processor - other[1].processor, 1e-3)
+            line += f"{theirs:7.2f}s {took / theirs:5.1f}x"
+        print(line, flush=True)
+
+
 def starts(program):
     print(f"\n{'starts':26} {'each':>10} {'MiB':>5}")
     for name, word in (("in one store", "starts"), ("in stores of their own", "stores")):
@@ -102,6 +129,7 @@ def main():
     program = sys.argv[1]
     run([program])
     beside_lua(program)
+    library(program)
     starts(program)
     attacks(program)
 

@@ -1,10 +1,11 @@
 -- MOVES ONE AFTER ANOTHER, in the forms of the loops.
-use Rattle.std.proofs.Common.{◌≡◌, ℕ, ◌+◌, ◌-◌, ◌<◌, ◌≤◌, ◌∙◌, inl, inr, true, false, List, [], ◌∷◌, refl, sym, subst, arith}
+use Rattle.std.proofs.Common.{◌≡◌, ℕ, ◌+◌, ◌-◌, ◌<◌, ◌≤◌, ◌∙◌, inl, inr, true, false, List, [], ◌∷◌, refl, sym, ap, subst, arith}
 use Rattle.wk_base.specs.declared.left.Left.{Left}
 use Rattle.page_run.specs.State.{Tally, no_tally}
 use Rattle.page_run.specs.Outcome.{Outcome as PlainOutcome, Goes, Jumps}
 use Rattle.page_run.specs.declared.which.Which.{Which}
 use Rattle.lua_store.specs.Seen.{StoreView}
+use Rattle.lua_store.specs.Parts.{IsLater}
 use Rattle.lua_store.proofs.Later.{later-itself, later-then}
 use Rattle.lua_heap.specs.Proc.{Proc}
 use Rattle.lua_heap.specs.Heap.{Heap}
@@ -16,32 +17,44 @@ use Rattle.lua_slots.specs.Points.{Point, Gives}
 use Rattle.lua_slots.specs.Moves.{moves}
 use Rattle.lua_slots.specs.Enact.{Funds, all_given_back, Stands, Short, enact}
 use Rattle.lua_goes.specs.Weight.{weight}
-use Rattle.lua_goes.specs.Going.{Lacks, Reaches, here, further, Comes, is_short, is_short_late}
+use Rattle.lua_goes.specs.Going.{Stop, Lacks, Reaches, here, further, Comes, is_over, is_short, is_short_late, is_asking}
 use Rattle.lua_goes.specs.Laws.{GoesOnFrom}
 use Rattle.lua_goes.proofs.Counts.{kept-reached}
 use Rattle.lua_goes.proofs.Events.{steps_or_weight_fall}
+use Rattle.lua_in_place.proofs.Reading.{reach_then}
 use Rattle.lua_stack.specs.declared.focus.Focus.{Focus}
 use Rattle.lua_stack.specs.declared.focus.Focus.TheVariants as focus
 use Rattle.lua_stack.specs.declared.frame.Frame.{Frame}
-use Rattle.lua_stack.specs.Seen.{frames_seen, given_seen, jump_seen}
+use Rattle.lua_stack.specs.Seen.{focus_seen, frames_seen, given_seen, jump_seen}
+use Rattle.lua_stack.proofs.Stay.{focus_later, focus_as}
 use Rattle.lua_stack.specs.Of.{FocusOf}
 use Rattle.lua_state.specs.declared.state.State.{State}
 use Rattle.lua_state.specs.declared.codes.World.{World}
+use Rattle.lua_state.specs.declared.turn.Turn.{Turn}
 use Rattle.lua_state.specs.declared.turn.Turn.TheVariants as turn
-use Rattle.lua_state.specs.Seen.{slots_of, funds_of}
+use Rattle.lua_state.specs.Seen.{slots_of, frames_of, funds_of}
 use Rattle.lua_state.specs.Of.{StateOf}
 use Rattle.lua_state.specs.Worlds.{world_seen}
 use Rattle.lua_state.specs.Makes.{IsStill}
+use Rattle.lua_state.proofs.Staying.{state_later, frames_stay, slots_same}
+use Rattle.lua_strides.specs.Strides.{Strides, Idles}
 use Rattle.lua_machine.specs.declared.event.Event.{Event}
 use Rattle.lua_machine.specs.declared.event.Event.TheVariants as event
 use Rattle.lua_machine.specs.Moved.{point_of, MovesTo, is_none, is_event, IsEventAt}
-use Rattle.lua_machine.specs.Going.{LeadsTo, EndsIn}
+use Rattle.lua_machine.specs.Going.{LeadsTo, EndsIn, GoesTo}
 
 -- a last move, in which an allowance is spent
 spent : (world : CWorld) (p : Point) (s : Slots) (f : Funds) (a : StoreView) (m : State) (x : Focus) (g : Funds) (b : StoreView) (w : Which) (g' : Funds) → Reaches world p s f (point_of a m x) (slots_of a m) g
     → IsStill a b (moves world (point_of a m x) (slots_of a m)) → enact (moves world (point_of a m x) (slots_of a m)) g ≡ Short w (all_given_back g') → Comes world p s f (Lacks w b.heap (all_given_back g'))
 spent world p s f a m x g b w g' c (inl st) e = subst (λ (h : Heap Proc). Comes world p s f (Lacks w h (all_given_back g'))) (sym st) (is_short _ _ _ w (all_given_back g') c e)
 spent world p s f a m x g b w g' c (inr st) e = subst (λ (h : Heap Proc). Comes world p s f (Lacks w h (all_given_back g'))) (sym st) (is_short_late _ _ _ w (all_given_back g') c e)
+
+-- an event behind moves
+comes_then : {world : CWorld} {p : Point} {s : Slots} {f : Funds} {q : Point} {t : Slots} {g : Funds} {e : Stop} → Reaches world p s f q t g → Comes world q t g e → Comes world p s f e
+comes_then c (is_over o u h d) = is_over o u h (reach_then c d)
+comes_then c (is_short r u h w h' d e) = is_short r u h w h' (reach_then c d) e
+comes_then c (is_short_late r u h w h' d e) = is_short_late r u h w h' (reach_then c d) e
+comes_then c (is_asking q fs u h d) = is_asking q fs u h (reach_then c d)
 
 -- FROM ONE STATE OF THE CODE TO ANOTHER
 pub as_many : (k n n' : ℕ) → k + n ≡ k + n' → n ≡ n'
@@ -71,6 +84,55 @@ module _ (a : StoreView) (m : State) (x : Focus) (l : Left) (k : ℕ) (b : Store
         further _ _ _ _ _ _ (c.led told n j (omega (arith, c.rises)))
         (subst (λ (w : World). enact (moves (world_seen w) (point_of b m' y) (slots_of b m')) (funds_of l' m' told j) ≡ Stands (point_of d m'' z) (slots_of d m'') (funds_of l'' m'' told n')) c.world (e.makes told j n' (omega (arith, c.rises, h))));
   }
+
+  -- moves that lead on from there
+  pub leads_then : (d : StoreView) (m'' : State) (l'' : Left) (k'' : ℕ) (z : Focus) → LeadsTo b m' y l' k' d m'' l'' k'' z → LeadsTo a m x l k d m'' l'' k'' z
+  leads_then d m'' l'' k'' z e = record {
+    state = e.state;
+    world = e.world ∙ c.world;
+    of = e.of;
+    later = later-then a b d c.later e.later;
+    rises = omega (arith, c.rises, e.rises);
+    led = λ told n n' h.
+        let j : ℕ = k' + n - k in
+        reach_then (c.led told n j (omega (arith, c.rises)))
+        (subst (λ (w : World). Reaches (world_seen w) (point_of b m' y) (slots_of b m') (funds_of l' m' told j) (point_of d m'' z) (slots_of d m'') (funds_of l'' m'' told n')) c.world (e.led told j n' (omega (arith, c.rises, h))));
+  }
+
+  pub then_spent : (d : StoreView) (m'' : State) (l'' : Left) (k'' : ℕ) (w : Which) → EndsIn b m' y l' k' d m'' l'' k'' (event.Spent w) → EndsIn a m x l k d m'' l'' k'' (event.Spent w)
+  then_spent d m'' l'' k'' which e = record {
+    state = e.state;
+    world = e.world ∙ c.world;
+    of = tt;
+    later = later-then a b d c.later e.later;
+    rises = omega (arith, c.rises, e.rises);
+    led = λ told n n' h.
+        let j : ℕ = k' + n - k in
+        comes_then (c.led told n j (omega (arith, c.rises)))
+        (subst (λ (w : World). Comes (world_seen w) (point_of b m' y) (slots_of b m') (funds_of l' m' told j) (Lacks which d.heap (all_given_back (funds_of l'' m'' told n')))) c.world (e.led told j n' (omega (arith, c.rises, h))));
+  }
+
+  -- nothing but that texts were made
+  same_point : (d : StoreView) → IsLater b d → point_of d m' y ≡ point_of b m' y
+  same_point d later = ap (focus_seen d y) (frames_stay b d later m' c.state) ∙ focus_as b d later y (frames_of b m') c.of
+
+  idle_at : (d : StoreView) → IsLater b d → d.heap ≡ b.heap → LeadsTo a m x l k d m' l' k' y
+  idle_at d later same = record {
+    state = state_later b d later m' c.state;
+    world = c.world;
+    of = focus_later b d later y c.of;
+    later = later-then a b d c.later later;
+    rises = c.rises;
+    led = λ told n n' h.
+        subst (λ (p : Point). Reaches (world_seen m.codes.world) (point_of a m x) (slots_of a m) (funds_of l m told n) p (slots_of d m') (funds_of l' m' told n')) (sym (same_point d later))
+        (subst (λ (s : Slots). Reaches (world_seen m.codes.world) (point_of a m x) (slots_of a m) (funds_of l m told n) (point_of b m' y) s (funds_of l' m' told n')) (sym (slots_same b d later m' c.state same)) (c.led told n n' h));
+  }
+
+  pub idle_leads : (d : StoreView) (m'' : State) (l'' : Left) (k'' : ℕ) → Idles b m' l' k' d m'' l'' k'' → LeadsTo a m x l k d m'' l'' k'' y
+  idle_leads d m'' l'' k'' e = rw (e.state, e.left, e.counter) (idle_at d e.later e.heap)
+
+  pub idle_weighs : (d : StoreView) (m'' : State) (l'' : Left) (k'' : ℕ) → Idles b m' l' k' d m'' l'' k'' → weight (point_of d m'' y) ≡ weight (point_of b m' y)
+  idle_weighs d m'' l'' k'' e = rw e.state (ap weight (same_point d e.later))
 
   pub turn_ends : (d : StoreView) (m'' : State) (l'' : Left) (k'' : ℕ) (w : Which) → MovesTo b m' y l' k' d m'' l'' k'' (turn.Spent w) → EndsIn a m x l k d m'' l'' k'' (event.Spent w)
   turn_ends d m'' l'' k'' which e = record {
@@ -144,3 +206,21 @@ pub turn_falls : (a : StoreView) (m : State) (x : Focus) (l : Left) (k : ℕ) (b
     → (l'.steps ≤ l.steps) × (l'.steps ≡ l.steps → weight (point_of b m' y) < weight (point_of a m x))
 turn_falls a m x l k b m' l' k' y moving e =
     steps_or_weight_fall (world_seen m.codes.world) (point_of a m x) (slots_of a m) (funds_of l m no_tally k) (point_of b m' y) (slots_of b m') (funds_of l' m' no_tally k') (goes_on a m x moving) (e.makes no_tally k k' (omega arith))
+
+-- SEVERAL MOVES AT ONCE, or one where nothing was done but that texts were made
+pub strode_goes : (s : StoreView) (m : State) (x : Focus) (l : Left) (k : ℕ) (t : StoreView) (m' : State) (l' : Left) (k' : ℕ) (y : Focus) → Strides s m (point_of s m x) l k t m' l' k' y → GoesTo s m x l k t m' l' k' (turn.On y)
+strode_goes s m x l k t m' l' k' y e =
+    (record { state = e.state; world = e.world; of = e.of; later = e.later; rises = e.rises; led = e.led }, omega (arith, e.falls), λ same. absurd (omega (arith, e.falls, same)))
+
+pub turned_goes : (s : StoreView) (m : State) (x : Focus) (l : Left) (k : ℕ) (d : StoreView) (n : State) (i : Left) (j : ℕ) (t : StoreView) (m' : State) (l' : Left) (k' : ℕ) (r : Turn) → StateOf s m → FocusOf s x → is_event m.frames x ≡ false
+    → Idles s m l k d n i j → MovesTo d n x i j t m' l' k' r → GoesTo s m x l k t m' l' k' r
+turned_goes s m x l k d n i j t m' l' k' (turn.On y) state of moving idle e =
+    let start : LeadsTo s m x l k s m l k x = at_start s m x l k state of in
+    let falls = turn_falls d n x i j t m' l' k' y (ap (λ (o : State). is_event o.frames x) idle.state ∙ moving) e in
+    let steps : i.steps ≡ l.steps = ap (λ (o : Left). o.steps) idle.left in (
+      turn_leads s m x l k d n i j x (idle_leads s m x l k s m l k x start d n i j idle) t m' l' k' y e,
+      omega (arith, falls.0, steps),
+      λ same. subst (λ (o : ℕ). weight (point_of t m' y) < o) (idle_weighs s m x l k s m l k x start d n i j idle) (falls.1 (same ∙ sym steps)),
+    )
+turned_goes s m x l k d n i j t m' l' k' (turn.Spent w) state of moving idle e =
+    turn_ends s m x l k d n i j x (idle_leads s m x l k s m l k x (at_start s m x l k state of) d n i j idle) t m' l' k' w e

@@ -1,5 +1,5 @@
 -- WHERE A MACHINE'S MOVES HAVE LED, in code.
-use Rattle.std.specs.Prelude.{◌≡◌, ◌≤◌, ◌+◌, ℕ, []}
+use Rattle.std.specs.Prelude.{◌≡◌, ◌≤◌, ◌<◌, ◌+◌, ℕ, []}
 use Rattle.wk_base.specs.declared.left.Left.{Left}
 use Rattle.page_run.specs.State.{Tally}
 use Rattle.lua_store.specs.Seen.{StoreView}
@@ -8,10 +8,13 @@ use Rattle.lua_slots.specs.Code.{CWorld}
 use Rattle.lua_slots.specs.Slots.{Slots}
 use Rattle.lua_slots.specs.Points.{Point, Gives, Asking}
 use Rattle.lua_slots.specs.Enact.{Funds, all_given_back}
+use Rattle.lua_goes.specs.Weight.{weight}
 use Rattle.lua_goes.specs.Going.{Lacks, Reaches, Comes}
 use Rattle.lua_stack.specs.declared.focus.Focus.{Focus}
 use Rattle.lua_stack.specs.Of.{FocusOf}
 use Rattle.lua_state.specs.declared.state.State.{State}
+use Rattle.lua_state.specs.declared.turn.Turn.{Turn}
+use Rattle.lua_state.specs.declared.turn.Turn.TheVariants as turn
 use Rattle.lua_state.specs.Seen.{slots_of, frames_of, funds_of, outcome_seen}
 use Rattle.lua_state.specs.Of.{StateOf}
 use Rattle.lua_state.specs.Worlds.{world_seen}
@@ -43,3 +46,8 @@ pub record EndsIn (s : StoreView) (m : State) (f : Focus) (l : Left) (k : ℕ) (
   pub later : IsLater s t
   pub rises : k ≤ k'
   pub led : (told : Tally) (n n' : ℕ) → k' + n ≡ k + n' → Led (world_seen m.codes.world) (point_of s m f) (slots_of s m) (funds_of l m told n) t m' e (funds_of l' m' told n')
+
+-- one move or more from there: steps never rise, and where they stay the weight falls; or an allowance is spent
+abbrev pub GoesTo : StoreView → State → Focus → Left → ℕ → StoreView → State → Left → ℕ → Turn → Type 0
+GoesTo s m x l k t m' l' k' (turn.On y) = LeadsTo s m x l k t m' l' k' y × (l'.steps ≤ l.steps) × (l'.steps ≡ l.steps → weight (point_of t m' y) < weight (point_of s m x))
+GoesTo s m x l k t m' l' k' (turn.Spent w) = EndsIn s m x l k t m' l' k' (event.Spent w)

@@ -1,15 +1,16 @@
 //! Moves one after another, until an event.
-ghost use Rattle.std.specs.Prelude.{◌≡◌, ◌+◌, ◌<◌, ◌^◌, true, [], IfOk};
+ghost use Rattle.std.specs.Prelude.{◌≡◌, ◌+◌, ◌<◌, ◌^◌, true, false, [], IfOk};
 ghost use Rattle.lua_stack.specs.Of.{FocusOf};
 ghost use Rattle.lua_state.specs.Of.{StateOf};
 ghost use Rattle.lua_machine.specs.Moved.{is_event, IsEventAt};
-ghost use Rattle.lua_machine.specs.Going.{EndsIn};
+ghost use Rattle.lua_machine.specs.Going.{EndsIn, GoesTo};
 
 use crate::event::Event;
 use crate::moving::turn;
 use lua_stack::Focus;
 use lua_state::{Outcome, State, Turn};
 use lua_store::Store;
+use lua_strides::stride;
 use std::alloc::Global;
 use std::sync::ledger::Ledger;
 use wk_base::{Left, NoMemory, Steps};
@@ -54,7 +55,31 @@ fn event_at(next: Focus<'_>) -> Event
     }
 }
 
-/// Moves until an event. What is next is handed from arm to arm: each move is one turn of the loop inside, which ends where a step is paid.
+/// Several moves at once, where expressions are read in place and the steps of their nodes are left; else one move.
+#[inline(always)]
+fn go_on<'m, L: Ledger>(
+    alloc: Global,
+    store: &mut Store,
+    left: &mut Left,
+    state: &mut State<'m>,
+    next: Focus<'m>,
+    turns: &mut Steps<L>,
+) -> Result<Turn<'m>, NoMemory>
+    requires state { StateOf store.old state.old }
+    requires calls { left.old.calls + state.old.calls < 2 ^ 64 }
+    requires focus { FocusOf store.old next }
+    requires moving { is_event state.old.frames next ≡ false }
+    ensures { IfOk result (λ r. GoesTo store.old state.old next.entry left.old turns.old store.new state.new left.new turns.new r) }
+{
+    let strode = stride(alloc, store, left, state, &next, turns)?;
+    match strode {
+        Some(after) => Ok(Turn::On(after)),
+        None => turn(alloc, store, left, state, next, turns),
+    }
+}
+
+/// Moves until an event. What is next is handed from arm to arm: each move, or each row of moves that are made at once, is one turn of the
+/// loop inside, which ends where a step is paid.
 pub fn advance<'m, L: Ledger>(
     alloc: Global,
     store: &mut Store,
@@ -75,7 +100,7 @@ pub fn advance<'m, L: Ledger>(
             if stands(state, &next) {
                 return Ok(event_at(next));
             }
-            let turned = turn(alloc, store, left, state, next, turns)?;
+            let turned = go_on(alloc, store, left, state, next, turns)?;
             match turned {
                 Turn::On(after) => {
                     next = after;

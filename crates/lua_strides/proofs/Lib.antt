@@ -1,0 +1,7 @@
+pub mod Codes
+pub mod Newest
+pub mod Places
+pub mod Found
+pub mod Paths
+pub mod Written
+pub mod Branching

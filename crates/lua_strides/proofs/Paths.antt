@@ -1,0 +1,84 @@
+-- Several moves at once in code, from the moves of `lua_in_place`.
+use Rattle.std.proofs.Common.{◌≡◌, ◌∙◌, ◌≤◌, ◌<◌, ◌-◌, ◌+◌, ℕ, true, false, List, refl, sym, ap, subst, arith}
+use Rattle.wk_base.specs.declared.left.Left.{Left}
+use Rattle.page_run.specs.State.{Tally}
+use Rattle.lua_store.specs.Seen.{StoreView}
+use Rattle.lua_store.specs.Parts.{IsLater}
+use Rattle.lua_store.proofs.Later.{later-itself}
+use Rattle.lua_slots.specs.Code.{CWorld}
+use Rattle.lua_slots.specs.Slots.{Slots}
+use Rattle.lua_slots.specs.Points.{SFrame, Point}
+use Rattle.lua_slots.specs.Enact.{Funds}
+use Rattle.lua_goes.specs.Going.{Reaches}
+use Rattle.lua_in_place.specs.Laws.{after_nodes}
+use Rattle.lua_in_place.proofs.Statements.{Leads}
+use Rattle.lua_stack.specs.declared.focus.Focus.{Focus}
+use Rattle.lua_stack.specs.declared.frame.Frame.{Frame}
+use Rattle.lua_stack.specs.Seen.{focus_seen, frames_seen}
+use Rattle.lua_stack.specs.Of.{FocusOf, FramesOf}
+use Rattle.lua_state.specs.declared.state.State.{State}
+use Rattle.lua_state.specs.Seen.{slots_of, frames_of, funds_of}
+use Rattle.lua_state.specs.Of.{StateOf}
+use Rattle.lua_state.specs.Worlds.{world_seen}
+use Rattle.lua_state.proofs.Staying.{state_later, frames_stay, slots_same}
+use Rattle.lua_strides.specs.Strides.{PaysNodes, Strides, Idles, LeadsAt, Ready}
+
+abbrev pub with_frames : State → List Frame → State
+with_frames m fs = record m { frames = fs }
+
+pub with_frames_of : (s : StoreView) (m : State) (fs : List Frame) → StateOf s m → FramesOf s fs → StateOf s (with_frames m fs)
+with_frames_of s m fs h k = record { frames = k; regs = h.regs; functions = h.functions; env = h.env; modules = h.modules; loaded = h.loaded; scenes = h.scenes; codes = h.codes }
+
+-- nodes that are paid
+pub funds_after : (n : ℕ) (l l' : Left) (k k' : ℕ) (m : State) (told : Tally) (a b : ℕ) → PaysNodes n l k l' k' true → k' + a ≡ k + b → after_nodes n (funds_of l m told a) ≡ funds_of l' m told b
+funds_after n l l' k k' m told a b e h =
+    let x : a + n ≡ b = omega (arith, e.2, h) in
+    ap (λ (i : ℕ). funds_of (record l { steps = l.steps - n }) m told i) x ∙ ap (λ (z : Left). funds_of z m told b) (sym e.1)
+
+pub steps_fall : (n : ℕ) (l l' : Left) (k k' : ℕ) → 1 ≤ n → PaysNodes n l k l' k' true → l'.steps < l.steps
+steps_fall n l l' k k' some e =
+    let x : l'.steps ≡ l.steps - n = ap (λ (z : Left). z.steps) e.1 in
+    omega (arith, x, e.0, some)
+
+pub strode : (s : StoreView) (m : State) (p : Point) (n : ℕ) (t : StoreView) (y : Focus) (fs : List Frame) (l l' : Left) (k k' : ℕ) → Ready s m p n t y fs → PaysNodes n l k l' k' true → Strides s m p l k t (with_frames m fs) l' k' y
+strode s m p n t y fs l l' k k' r e = record {
+  state = with_frames_of t m fs (state_later s t r.later m r.state) r.frames;
+  world = refl;
+  of = r.of;
+  later = r.later;
+  rises = omega (arith, e.2);
+  falls = steps_fall n l l' k k' r.some e;
+  led = λ told a b h.
+      subst (λ (g : Funds). Reaches (world_seen m.codes.world) p (slots_of s m) (funds_of l m told a) (focus_seen t y (frames_seen t.texts fs)) (slots_of t m) g) (funds_after n l l' k k' m told a b e h)
+      (subst (λ (x : Slots). Reaches (world_seen m.codes.world) p (slots_of s m) (funds_of l m told a) (focus_seen t y (frames_seen t.texts fs)) x (after_nodes n (funds_of l m told a))) (sym (slots_same s t r.later m r.state r.heap))
+      (r.leads (world_seen m.codes.world) (funds_of l m told a) e.0));
+}
+
+-- where fewer steps are left, or nothing is read
+pub unpaid : (s t : StoreView) (m : State) (n : ℕ) (l l' : Left) (k k' : ℕ) → IsLater s t → t.heap ≡ s.heap → PaysNodes n l k l' k' false → Idles s m l k t m l' k'
+unpaid s t m n l l' k k' later same e = record { later = later; heap = same; state = refl; left = e.0; counter = e.1 }
+
+pub idle : (s t : StoreView) (m : State) (l : Left) (k : ℕ) → IsLater s t → t.heap ≡ s.heap → Idles s m l k t m l k
+idle s t m l k later same = record { later = later; heap = same; state = refl; left = refl; counter = refl }
+
+pub idle_here : (s : StoreView) (m : State) (l : Left) (k : ℕ) → Idles s m l k s m l k
+idle_here s m l k = idle s s m l k (later-itself s) refl
+
+pub at_once : (world : CWorld) (p : Point) (s : Slots) (n : ℕ) (q : Point) (t : Slots) → Leads world p s n q t → LeadsAt world p s n q t
+at_once world p s n q t x f le = x f f.left.steps (f.left.steps - n) f.tally.nodes (f.tally.nodes + n) (omega (arith, le)) refl
+
+-- all but the charge is known, from where the moves lead above the frames that wait
+pub ready : (s : StoreView) (m : State) (p : Point) (n : ℕ) (t : StoreView) (y : Focus) (fs : List Frame) (q : List SFrame → Point) → StateOf s m → IsLater s t → t.heap ≡ s.heap → FocusOf t y → FramesOf t fs → 1 ≤ n
+    → ((world : CWorld) → LeadsAt world p (slots_of s m) n (q (frames_of s m)) (slots_of s m)) → q (frames_of t m) ≡ focus_seen t y (frames_seen t.texts fs) → Ready s m p n t y fs
+ready s m p n t y fs q state later same of frames some law e = record {
+  state = state;
+  later = later;
+  heap = same;
+  of = of;
+  frames = frames;
+  some = some;
+  leads = λ world. subst (λ (z : Point). LeadsAt world p (slots_of s m) n z (slots_of s m)) (ap q (sym (frames_stay s t later m state)) ∙ e) (law world);
+}
+
+pub frames_kept : (s t : StoreView) (m : State) → StateOf s m → IsLater s t → FramesOf t m.frames
+frames_kept s t m of later = (state_later s t later m of).frames

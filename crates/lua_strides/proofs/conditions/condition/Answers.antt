@@ -1,0 +1,5 @@
+use Rattle.lua_strides.proofs.Paths.{idle_here}
+use Rattle.lua_strides.proofs.conditions.condition.Goals as goal
+
+pub returns-in-None : goal.returns-in-None
+returns-in-None g c = idle_here c.args.store.now c.args.state.now c.args.left.now c.args.turns.now

@@ -1,0 +1,3 @@
+pub mod Reads
+pub mod Strides
+pub mod Conditions

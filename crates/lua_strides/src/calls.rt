@@ -1,0 +1,103 @@
+//! Calls whose function and arguments are read in place (manual 2.5.8): the frame that calls has its arguments.
+ghost use Rattle.std.specs.Prelude.{IfOk};
+ghost use Rattle.lua_code.specs.Seen.{expression_seen, expressions_seen, block_seen};
+ghost use Rattle.lua_slots.specs.Code.{CallC, CallStatC, ThenC};
+ghost use Rattle.lua_slots.specs.Points.{Evals, Runs};
+ghost use Rattle.lua_state.specs.Of.{StateOf};
+ghost use Rattle.lua_state.specs.Seen.{frames_of};
+ghost use Rattle.lua_strides.specs.Reads.{ReadsCall};
+ghost use Rattle.lua_strides.specs.Strides.{MayStride};
+
+use crate::ending::{pay_nodes, wait_for, wait_within};
+use crate::reading::{LEVELS, ListRead, ValueRead, read, read_all};
+use lua_code::{Expression, Statement};
+use lua_stack::{Focus, Frame, Given, InExpression, InStatement};
+use lua_state::State;
+use lua_store::Store;
+use std::alloc::Global;
+use std::sync::ledger::Ledger;
+use wk_base::{Left, NoMemory, Steps};
+
+/// A function and its arguments.
+fn read_call<'m>(
+    alloc: Global,
+    store: &mut Store,
+    state: &State<'m>,
+    called: &'m Expression,
+    arguments: &'m [Expression],
+) -> Result<Option<(ValueRead, ListRead)>, NoMemory>
+    requires { StateOf store.old state.now }
+    ensures { IfOk result (ReadsCall store.old state.now (expression_seen called.now) (expressions_seen arguments.now) store.new) }
+{
+    let first = read(store, state, called, LEVELS)?;
+    match first {
+        Some(called) => {
+            let all = read_all(alloc, store, state, arguments)?;
+            match all {
+                Some(arguments) => Ok(Some((called, arguments))),
+                None => Ok(None),
+            }
+        }
+        None => Ok(None),
+    }
+}
+
+/// A call begins.
+pub fn call<'m, L: Ledger>(
+    alloc: Global,
+    store: &mut Store,
+    left: &mut Left,
+    state: &mut State<'m>,
+    called: &'m Expression,
+    arguments: &'m [Expression],
+    line: u32,
+    turns: &mut Steps<L>,
+) -> Result<Option<Focus<'m>>, NoMemory>
+    requires { StateOf store.old state.old }
+    ensures { IfOk result (MayStride store.old state.old (Evals (CallC (expression_seen called.now) (expressions_seen arguments.now) line) (frames_of store.old state.old)) left.old turns.old store.new state.new left.new turns.new) }
+{
+    let known = read_call(alloc, store, state, called, arguments)?;
+    match known {
+        Some((called, arguments)) => {
+            let nodes = 1 + (called.nodes + arguments.nodes);
+            if !pay_nodes(left, turns, nodes) {
+                return Ok(None);
+            }
+            let frame = Frame::Expression(InExpression::CallNow(called.value, line));
+            let focus = Focus::Gives(Given::Many(arguments.values));
+            wait_for(state, frame, focus)
+        }
+        None => Ok(None),
+    }
+}
+
+/// A call that is a statement begins, before others.
+pub fn call_before<'m, L: Ledger>(
+    alloc: Global,
+    store: &mut Store,
+    left: &mut Left,
+    state: &mut State<'m>,
+    called: &'m Expression,
+    arguments: &'m [Expression],
+    line: u32,
+    rest: &'m [Statement],
+    turns: &mut Steps<L>,
+) -> Result<Option<Focus<'m>>, NoMemory>
+    requires { StateOf store.old state.old }
+    ensures { IfOk result (MayStride store.old state.old (Runs (ThenC (CallStatC (CallC (expression_seen called.now) (expressions_seen arguments.now) line)) (block_seen rest.now)) (frames_of store.old state.old)) left.old turns.old store.new state.new left.new turns.new) }
+{
+    let known = read_call(alloc, store, state, called, arguments)?;
+    match known {
+        Some((called, arguments)) => {
+            let nodes = 1 + (1 + (called.nodes + arguments.nodes));
+            if !pay_nodes(left, turns, nodes) {
+                return Ok(None);
+            }
+            let outer = Frame::Statement(InStatement::StatsNext(rest));
+            let inner = Frame::Expression(InExpression::CallNow(called.value, line));
+            let focus = Focus::Gives(Given::Many(arguments.values));
+            wait_within(state, outer, inner, focus)
+        }
+        None => Ok(None),
+    }
+}

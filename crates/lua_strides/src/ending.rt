@@ -1,0 +1,59 @@
+//! How several moves at once end: their nodes are paid and counted together, and then what is next is made. What is made before they are
+//! paid is only what was read.
+ghost use Rattle.std.specs.Prelude.{◌≡◌, ◌+◌, ◌∷◌, ℕ, true, IfOk};
+ghost use Rattle.lua_slots.specs.Points.{Point};
+ghost use Rattle.lua_store.specs.Seen.{StoreView};
+ghost use Rattle.lua_strides.specs.Strides.{PaysNodes, MayStride, Ready};
+ghost use Rattle.wk_base.specs.declared.left.Left.{Left as Allowance};
+
+use lua_stack::{Focus, Frame};
+use lua_state::State;
+use std::sync::ledger::Ledger;
+use wk_base::{Left, NoMemory, Steps};
+
+/// So many turns are counted.
+fn tick_all<L: Ledger>(turns: &mut Steps<L>, count: u64)
+    ensures { turns.new ≡ turns.old + count }
+{
+    'ticks: for at in 0..count {
+        turns.tick();
+    }
+}
+
+/// Takes a step for each of so many nodes, and counts them. Where fewer steps are left, the answer is false and nothing changes.
+pub fn pay_nodes<L: Ledger>(left: &mut Left, turns: &mut Steps<L>, nodes: u64) -> bool
+    ensures { PaysNodes nodes left.old turns.old left.new turns.new result }
+{
+    if left.steps < nodes {
+        return false;
+    }
+    left.steps -= nodes;
+    tick_all(turns, nodes);
+    true
+}
+
+/// What is paid so: this is next, and a frame waits for it.
+pub fn wait_for<'m>(
+    state: &mut State<'m>,
+    frame: Frame<'m>,
+    focus: Focus<'m>,
+) -> Result<Option<Focus<'m>>, NoMemory>
+    ensures { (s t : StoreView) (p : Point) (n : ℕ) (l l' : Allowance) (k k' : ℕ) → Ready s state.old p n t focus.entry (frame.entry ∷ state.old.frames) → PaysNodes n l k l' k' true → IfOk result (MayStride s state.old p l k t state.new l' k') }
+{
+    state.frames.push(frame)?;
+    Ok(Some(focus))
+}
+
+/// The same, and a frame waits for it, for which another one waits.
+pub fn wait_within<'m>(
+    state: &mut State<'m>,
+    outer: Frame<'m>,
+    inner: Frame<'m>,
+    focus: Focus<'m>,
+) -> Result<Option<Focus<'m>>, NoMemory>
+    ensures { (s t : StoreView) (p : Point) (n : ℕ) (l l' : Allowance) (k k' : ℕ) → Ready s state.old p n t focus.entry (inner.entry ∷ outer.entry ∷ state.old.frames) → PaysNodes n l k l' k' true → IfOk result (MayStride s state.old p l k t state.new l' k') }
+{
+    state.frames.push(outer)?;
+    state.frames.push(inner)?;
+    Ok(Some(focus))
+}

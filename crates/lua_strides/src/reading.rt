@@ -1,0 +1,266 @@
+//! Expressions that are read where they stand (manual 2.5).
+ghost use Rattle.std.specs.Prelude.{◌≡◌, ◌<◌, ◌^◌, ◌++◌, ◌∷◌, [], ℕ, Option as MayBe, List as Items, Some, IfOk, IfSome, MatchOption};
+ghost use Rattle.lua_code.specs.Seen.{expression_seen, expressions_seen, operator_seen};
+ghost use Rattle.lua_heap.specs.Value.{Value as Plain, Text};
+ghost use Rattle.lua_in_place.specs.InPlace as places;
+ghost use Rattle.lua_slots.specs.Code.{ConstantC, GlobalC};
+ghost use Rattle.lua_stack.specs.Of.{EnvironmentOf, ValuesOf};
+ghost use Rattle.lua_state.specs.Of.{StateOf};
+ghost use Rattle.lua_store.specs.Parts.{IsOf};
+ghost use Rattle.lua_store.specs.Seen.{StoreView, seen};
+ghost use Rattle.lua_strides.specs.Reads.{BothRead, IsRead, ReadsTo, ReadsTwo, ReadsAll};
+
+use crate::operators::{applied, entry, indexed, operated};
+use crate::running::variable;
+use lua_code::{Expression, Operator};
+use lua_stack::{Environment, Values};
+use lua_state::State;
+use lua_store::{Store, Value};
+use lua_syntax::UnaryOp;
+use std::alloc::Global;
+use wk_base::NoMemory;
+
+/// What is read in place: a value, and how many nodes its expression has.
+#[derive(Clone, Copy)]
+pub struct ValueRead {
+    pub value: Value,
+    pub nodes: u64,
+}
+
+/// The values of a list that is read in place, and how many nodes its expressions have.
+#[derive(Drop)]
+pub struct ListRead {
+    pub values: Values,
+    pub nodes: u64,
+}
+
+/// What an assignment to an entry is made of, read in place: the table, the key and the value.
+#[derive(Clone, Copy)]
+pub struct EntryRead {
+    pub of: ValueRead,
+    pub key: ValueRead,
+    pub value: ValueRead,
+}
+
+/// How many operators one in the other are read in place. What is read in vain is read again by the moves, so these are few.
+pub const LEVELS: u64 = 3;
+
+/// A value with so many nodes, if 32 bits hold their number.
+fn read_with(value: Option<Value>, nodes: u64) -> Option<ValueRead>
+    ensures { (s : StoreView) (w : MayBe Plain) → IfSome value (λ v. IsOf s v × (w ≡ Some (seen s.texts v))) → IfSome result (IsRead s (places.with_nodes nodes w)) }
+{
+    if nodes >= 1 << 32 {
+        return None;
+    }
+    match value {
+        Some(value) => Some(ValueRead { value, nodes }),
+        None => None,
+    }
+}
+
+/// An index of what is read in place.
+fn read_index(
+    store: &Store,
+    env: &Environment,
+    parts: Option<(ValueRead, ValueRead)>,
+) -> Option<ValueRead>
+    requires parts { IfSome parts (BothRead store.now) }
+    requires env { EnvironmentOf store.now env.now }
+    ensures { (x y : MayBe (Plain × ℕ)) → IfSome parts (λ r. IsRead store.now x r.0 × IsRead store.now y r.1) → IfSome result (IsRead store.now (places.around_both (places.indexed store.now.heap) x y)) }
+{
+    match parts {
+        Some((of, key)) => {
+            let value = indexed(store, env, of.value, key.value);
+            read_with(value, 1 + of.nodes + key.nodes)
+        }
+        None => None,
+    }
+}
+
+/// An operator on what is read in place.
+fn read_operator(
+    store: &Store,
+    env: &Environment,
+    op: Operator,
+    parts: Option<(ValueRead, ValueRead)>,
+) -> Option<ValueRead>
+    requires parts { IfSome parts (BothRead store.now) }
+    requires env { EnvironmentOf store.now env.now }
+    ensures { (x y : MayBe (Plain × ℕ)) → IfSome parts (λ r. IsRead store.now x r.0 × IsRead store.now y r.1) → IfSome result (IsRead store.now (places.around_both (places.operated store.now.heap (operator_seen op)) x y)) }
+{
+    match parts {
+        Some((a, b)) => {
+            let value = operated(store, env, op, a.value, b.value);
+            read_with(value, 1 + a.nodes + b.nodes)
+        }
+        None => None,
+    }
+}
+
+/// An operator on its one operand, where that is read in place.
+fn read_unary(op: UnaryOp, part: Option<ValueRead>) -> Option<ValueRead>
+    requires { IfSome part (λ r. r.nodes < 2 ^ 32) }
+    ensures { (s : StoreView) (x : MayBe (Plain × ℕ)) → IfSome part (IsRead s x) → IfSome result (IsRead s (places.around (places.applied s.heap op) x)) }
+{
+    match part {
+        Some(a) => {
+            let value = applied(op, a.value);
+            read_with(value, 1 + a.nodes)
+        }
+        None => None,
+    }
+}
+
+/// A text.
+fn read_text<'m>(
+    store: &mut Store,
+    state: &State<'m>,
+    bytes: &[u8],
+) -> Result<Option<ValueRead>, NoMemory>
+    requires { StateOf store.old state.now }
+    ensures { IfOk result (ReadsTo store.old state.now (ConstantC (Text bytes.now)) store.new) }
+{
+    let text = store.text(bytes)?;
+    Ok(read_with(Some(Value::Text(text)), 1))
+}
+
+/// A global variable.
+fn read_global<'m>(
+    store: &mut Store,
+    state: &State<'m>,
+    name: &[u8],
+    line: u32,
+) -> Result<Option<ValueRead>, NoMemory>
+    requires { StateOf store.old state.now }
+    ensures { IfOk result (ReadsTo store.old state.now (GlobalC name.now line) store.new) }
+{
+    let text = store.text(name)?;
+    let value = entry(store, &state.env, state.env.globals, Value::Text(text));
+    Ok(read_with(value, 1))
+}
+
+/// An expression, where so many levels of operators may be looked at.
+#[cycle(reading)]
+#[tactic(auto, using(crate::proofs::Codes::codes))]
+pub fn read<'m>(
+    store: &mut Store,
+    state: &State<'m>,
+    e: &'m Expression,
+    levels: u64,
+) -> Result<Option<ValueRead>, NoMemory>
+    requires { StateOf store.old state.now }
+    ensures { IfOk result (ReadsTo store.old state.now (expression_seen e.now) store.new) }
+{
+    match e {
+        Expression::Nil => Ok(read_with(Some(Value::Nil), 1)),
+        Expression::Truth(truth) => Ok(read_with(Some(Value::Bool(*truth)), 1)),
+        Expression::Number(number) => Ok(read_with(Some(Value::Number(*number)), 1)),
+        Expression::Text(bytes) => read_text(store, state, bytes.as_slice()),
+        Expression::Local(place) => {
+            let value = variable(store, state, *place);
+            Ok(read_with(Some(value), 1))
+        }
+        Expression::Global(name, line) => read_global(store, state, name.as_slice(), *line),
+        Expression::Index(of, key, _) => {
+            let parts = read_two(store, state, of, key, levels)?;
+            Ok(read_index(store, &state.env, parts))
+        }
+        Expression::Operate(op, a, b, _) => {
+            let parts = read_two(store, state, a, b, levels)?;
+            Ok(read_operator(store, &state.env, *op, parts))
+        }
+        Expression::Unary(op, a, _) => {
+            let part = read_one(store, state, a, levels)?;
+            Ok(read_unary(*op, part))
+        }
+        _ => Ok(None),
+    }
+}
+
+/// An operand, one level deeper.
+#[cycle(reading)]
+fn read_one<'m>(
+    store: &mut Store,
+    state: &State<'m>,
+    a: &'m Expression,
+    levels: u64,
+) -> Result<Option<ValueRead>, NoMemory>
+    requires { StateOf store.old state.now }
+    ensures { IfOk result (ReadsTo store.old state.now (expression_seen a.now) store.new) }
+{
+    if levels == 0 {
+        return Ok(None);
+    }
+    read(store, state, a, levels - 1)
+}
+
+/// Two operands, one level deeper.
+#[cycle(reading)]
+fn read_two<'m>(
+    store: &mut Store,
+    state: &State<'m>,
+    a: &'m Expression,
+    b: &'m Expression,
+    levels: u64,
+) -> Result<Option<(ValueRead, ValueRead)>, NoMemory>
+    requires { StateOf store.old state.now }
+    ensures { IfOk result (ReadsTwo store.old state.now (expression_seen a.now) (expression_seen b.now) store.new) }
+{
+    let read_a = read_one(store, state, a, levels)?;
+    match read_a {
+        Some(first) => {
+            let read_b = read_one(store, state, b, levels)?;
+            match read_b {
+                Some(second) => Ok(Some((first, second))),
+                None => Ok(None),
+            }
+        }
+        None => Ok(None),
+    }
+}
+
+/// The first of some expressions, and those behind it.
+#[derive(Clone, Copy)]
+struct Front<'m> {
+    first: &'m Expression,
+    rest: &'m [Expression],
+}
+
+fn front_of<'m>(expressions: &'m [Expression]) -> Option<Front<'m>>
+    ensures { MatchOption result (expressions.now ≡ []) (λ f. expressions.now ≡ f.first.now ∷ f.rest.now) }
+{
+    match expressions {
+        [first, rest @ ..] => Some(Front { first, rest }),
+        [] => None,
+    }
+}
+
+/// All of a list.
+pub fn read_all<'m>(
+    alloc: Global,
+    store: &mut Store,
+    state: &State<'m>,
+    list: &'m [Expression],
+) -> Result<Option<ListRead>, NoMemory>
+    requires { StateOf store.old state.now }
+    ensures { IfOk result (ReadsAll store.old state.now (expressions_seen list.now) store.new) }
+{
+    let mut values = Values::new(alloc);
+    let mut nodes = 0;
+    let mut left = list;
+    'items: while let Some(front) = front_of(left) {
+        let read_item = read(store, state, front.first, LEVELS)?;
+        match read_item {
+            Some(found) => {
+                if nodes + found.nodes >= 1 << 32 {
+                    return Ok(None);
+                }
+                values.add(found.value)?;
+                nodes += found.nodes;
+                left = front.rest;
+            }
+            None => return Ok(None),
+        }
+    }
+    Ok(Some(ListRead { values, nodes }))
+}

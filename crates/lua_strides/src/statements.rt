@@ -1,0 +1,181 @@
+//! Statements whose expressions are read in place (manual 2.4.3, 2.4.4 and 2.4.7).
+ghost use Rattle.std.specs.Prelude.{◌≡◌, ◌∷◌, [], IfOk};
+ghost use Rattle.lua_code.specs.Seen.{block_seen, expression_seen, place_seen};
+ghost use Rattle.lua_slots.specs.Code.{AssignC, DeclareC, EntryC, MoreC, NoC, PlaceC, ReturnC, ThenC};
+ghost use Rattle.lua_slots.specs.Points.{Runs};
+ghost use Rattle.lua_state.specs.Of.{StateOf};
+ghost use Rattle.lua_state.specs.Seen.{frames_of};
+ghost use Rattle.lua_strides.specs.Reads.{ReadsEntry, ReadsTwo};
+ghost use Rattle.lua_strides.specs.Strides.{MayStride};
+
+use crate::ending::{pay_nodes, wait_for};
+use crate::reading::{EntryRead, LEVELS, ValueRead, read};
+use crate::running::running_closure;
+use lua_code::{Expression, Place, Statement};
+use lua_stack::opening::open;
+use lua_stack::register::write;
+use lua_stack::{Focus, Found, Frame, Given, InStatement, Jump, Setting, Stack};
+use lua_state::State;
+use lua_store::Store;
+use std::alloc::Global;
+use std::sync::ledger::Ledger;
+use wk_base::{Left, NoMemory, Steps};
+
+/// A value to a local variable, before these statements.
+pub fn assign<'m, L: Ledger>(
+    store: &mut Store,
+    left: &mut Left,
+    state: &mut State<'m>,
+    place: Place,
+    value: &'m Expression,
+    rest: &'m [Statement],
+    turns: &mut Steps<L>,
+) -> Result<Option<Focus<'m>>, NoMemory>
+    requires { StateOf store.old state.old }
+    ensures { IfOk result (MayStride store.old state.old (Runs (ThenC (AssignC (PlaceC (place_seen place) ∷ []) (MoreC (expression_seen value.now) NoC)) (block_seen rest.now)) (frames_of store.old state.old)) left.old turns.old store.new state.new left.new turns.new) }
+{
+    let known = read(store, state, value, LEVELS)?;
+    match known {
+        Some(found) => {
+            if !pay_nodes(left, turns, 1 + found.nodes) {
+                return Ok(None);
+            }
+            let closure = running_closure(&state.functions);
+            write(store, &mut state.regs, closure, place, found.value);
+            Ok(Some(Focus::Runs(rest)))
+        }
+        None => Ok(None),
+    }
+}
+
+/// A new local variable with a value, before these statements.
+pub fn declare<'m, L: Ledger>(
+    store: &mut Store,
+    left: &mut Left,
+    state: &mut State<'m>,
+    boxed: bool,
+    value: &'m Expression,
+    rest: &'m [Statement],
+    turns: &mut Steps<L>,
+) -> Result<Option<Focus<'m>>, NoMemory>
+    requires { StateOf store.old state.old }
+    ensures { IfOk result (MayStride store.old state.old (Runs (DeclareC (boxed ∷ []) (MoreC (expression_seen value.now) NoC) (block_seen rest.now)) (frames_of store.old state.old)) left.old turns.old store.new state.new left.new turns.new) }
+{
+    let known = read(store, state, value, LEVELS)?;
+    match known {
+        Some(found) => {
+            if !pay_nodes(left, turns, 1 + found.nodes) {
+                return Ok(None);
+            }
+            open(store, &mut state.regs, boxed, found.value)?;
+            Ok(Some(Focus::Runs(rest)))
+        }
+        None => Ok(None),
+    }
+}
+
+/// A value that is returned. What follows the statement is passed by.
+pub fn return_value<'m, L: Ledger>(
+    store: &mut Store,
+    left: &mut Left,
+    state: &State<'m>,
+    value: &'m Expression,
+    rest: &'m [Statement],
+    turns: &mut Steps<L>,
+) -> Result<Option<Focus<'m>>, NoMemory>
+    requires { StateOf store.old state.now }
+    ensures { IfOk result (MayStride store.old state.now (Runs (ThenC (ReturnC (MoreC (expression_seen value.now) NoC)) (block_seen rest.now)) (frames_of store.old state.now)) left.old turns.old store.new state.now left.new turns.new) }
+{
+    let known = read(store, state, value, LEVELS)?;
+    match known {
+        Some(found) => {
+            if !pay_nodes(left, turns, 1 + found.nodes) {
+                return Ok(None);
+            }
+            let jump = Jump::Returned(Given::One(found.value));
+            Ok(Some(Focus::Jumps(jump)))
+        }
+        None => Ok(None),
+    }
+}
+
+/// A key and a value.
+fn read_key<'m>(
+    store: &mut Store,
+    state: &State<'m>,
+    key: &'m Expression,
+    value: &'m Expression,
+) -> Result<Option<(ValueRead, ValueRead)>, NoMemory>
+    requires { StateOf store.old state.now }
+    ensures { IfOk result (ReadsTwo store.old state.now (expression_seen key.now) (expression_seen value.now) store.new) }
+{
+    let read_key = read(store, state, key, LEVELS)?;
+    match read_key {
+        Some(key) => {
+            let read_value = read(store, state, value, LEVELS)?;
+            match read_value {
+                Some(value) => Ok(Some((key, value))),
+                None => Ok(None),
+            }
+        }
+        None => Ok(None),
+    }
+}
+
+/// What an assignment to an entry is made of: a table, a key, and the value.
+fn read_entry<'m>(
+    store: &mut Store,
+    state: &State<'m>,
+    of: &'m Expression,
+    key: &'m Expression,
+    value: &'m Expression,
+) -> Result<Option<EntryRead>, NoMemory>
+    requires { StateOf store.old state.now }
+    ensures { IfOk result (ReadsEntry store.old state.now (expression_seen of.now) (expression_seen key.now) (expression_seen value.now) store.new) }
+{
+    let read_of = read(store, state, of, LEVELS)?;
+    match read_of {
+        Some(of) => {
+            let behind = read_key(store, state, key, value)?;
+            match behind {
+                Some((key, value)) => Ok(Some(EntryRead { of, key, value })),
+                None => Ok(None),
+            }
+        }
+        None => Ok(None),
+    }
+}
+
+/// A value to an entry, before these statements: it is still to be set.
+pub fn assign_entry<'m, L: Ledger>(
+    alloc: Global,
+    store: &mut Store,
+    left: &mut Left,
+    state: &mut State<'m>,
+    target: (&'m Expression, &'m Expression, u32),
+    value: &'m Expression,
+    rest: &'m [Statement],
+    turns: &mut Steps<L>,
+) -> Result<Option<Focus<'m>>, NoMemory>
+    requires { StateOf store.old state.old }
+    ensures { IfOk result (MayStride store.old state.old (Runs (ThenC (AssignC (EntryC (expression_seen target.entry.0.now) (expression_seen target.entry.1.now) target.entry.2 ∷ []) (MoreC (expression_seen value.now) NoC)) (block_seen rest.now)) (frames_of store.old state.old)) left.old turns.old store.new state.new left.new turns.new) }
+{
+    let (of, key, line) = target;
+    let known = read_entry(store, state, of, key, value)?;
+    match known {
+        Some(found) => {
+            let nodes = 1 + (1 + (found.of.nodes + (found.key.nodes + found.value.nodes)));
+            if !pay_nodes(left, turns, nodes) {
+                return Ok(None);
+            }
+            let mut sets = Stack::new(alloc);
+            sets.push(Setting {
+                target: Found::At(found.of.value, found.key.value, line),
+                value: found.value.value,
+            })?;
+            let frame = Frame::Statement(InStatement::StatsNext(rest));
+            wait_for(state, frame, Focus::Sets(sets))
+        }
+        None => Ok(None),
+    }
+}
