@@ -4,6 +4,7 @@
 //! - `plain`: `wk_base`, byte strings, lists, titles, allowances and white space
 //! - `titles`: `wk_base`, texts with their titles, as MediaWiki's rules read
 //! - `shelves`: `wk_shelf`, the kinds in memory by tables, and each adapter over the real thing
+//! - `workers`: `wk_workers`, calls that workers share
 //!
 //! There are no definitions here.
 #![tactic(auto)]
@@ -14,3 +15,5 @@ mod plain;
 mod shelves;
 #[cfg(test)]
 mod titles;
+#[cfg(test)]
+mod workers;

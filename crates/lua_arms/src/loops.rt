@@ -10,7 +10,7 @@ ghost use Rattle.lua_slots.specs.Points.{SFrame};
 ghost use Rattle.lua_slots.specs.Loops as machine;
 ghost use Rattle.lua_slots.specs.Errors.{gives};
 ghost use Rattle.lua_stack.specs.Seen.{frames_seen, given_seen};
-ghost use Rattle.lua_stack.specs.Of.{FramesOf, GivenOf, EnvironmentOf};
+ghost use Rattle.lua_stack.specs.Of.{EachOf, FramesOf, GivenOf, EnvironmentOf};
 ghost use Rattle.lua_arms.specs.Steps.{step_seen, StepOf};
 
 use crate::calls::call;
@@ -20,7 +20,7 @@ use crate::step::{Failure, Step};
 use lua_code::{Expression, Statement};
 use lua_number::add;
 use lua_stack::values::{is_nil, is_true};
-use lua_stack::{Environment, Focus, Frame, Given, InLoop, Stack, Thing, Values};
+use lua_stack::{EachLoop, Environment, Focus, Frame, Given, InLoop, Stack, Thing, Values};
 use lua_store::{Store, Value};
 use std::alloc::Global;
 use wk_base::{List, NoMemory};
@@ -182,23 +182,22 @@ pub fn each_from<'m>(
     store: &Store,
     env: &Environment,
     frames: &mut Stack<Frame<'m>>,
-    flags: &'m [bool],
-    values: (Value, Value, Value),
-    body: &'m List<Statement>,
-    line: u32,
+    each: Box<EachLoop<'m>>,
+    before: Value,
 ) -> Result<Step<'m>, NoMemory>
-    requires iterator { IsOf store.now values.0 }
-    requires state { IsOf store.now values.1 }
-    requires before { IsOf store.now values.2 }
+    requires each { EachOf store.now each.value }
+    requires before { IsOf store.now before }
     requires env { EnvironmentOf store.now env.now }
     requires frames { FramesOf store.now frames.old }
     ensures of { IfOk result (λ r. StepOf store.now r × FramesOf store.now frames.new) }
     ensures move_ { IfOk result (λ r. (s : Slots) → s.heap ≡ store.now.heap
-        → machine.each_from flags.now (seen store.now.texts values.0) (seen store.now.texts values.1) (seen store.now.texts values.2) (block_seen body.now) line (frames_seen store.now.texts frames.old) s
+        → machine.each_from each.entry.value.flags.now (seen store.now.texts each.entry.value.iterator) (seen store.now.texts each.entry.value.state) (seen store.now.texts before) (block_seen each.entry.value.body.now) each.entry.value.line (frames_seen store.now.texts frames.old) s
         ≡ step_seen store.now r (frames_seen store.now.texts frames.new) s) }
 {
-    let (iterator, state, before) = values;
-    frames.push(Frame::Loop(InLoop::EachNext(flags, iterator, state, body, line)))?;
+    let iterator = each.iterator;
+    let state = each.state;
+    let line = each.line;
+    frames.push(Frame::Loop(InLoop::EachNext(each)))?;
     let arguments = two(alloc, state, before)?;
     let step = call(store, env, iterator, arguments, Some(line))?;
     Ok(step)
@@ -208,22 +207,17 @@ pub fn each_from<'m>(
 pub fn each_next<'m>(
     alloc: Global,
     store: &Store,
-    flags: &'m [bool],
-    values: (Value, Value),
+    each: Box<EachLoop<'m>>,
     results: Given,
-    body: &'m List<Statement>,
-    line: u32,
 ) -> Step<'m>
-    requires iterator { IsOf store.now values.0 }
-    requires state { IsOf store.now values.1 }
+    requires each { EachOf store.now each.value }
     requires results { GivenOf store.now results }
     ensures of { StepOf store.now result }
     ensures move_ { (fs : List SFrame) (s : Slots)
-        → machine.each_next flags.now (seen store.now.texts values.0) (seen store.now.texts values.1) (given_seen store.now.texts results) (block_seen body.now) line fs s ≡ step_seen store.now result fs s }
+        → machine.each_next each.entry.value.flags.now (seen store.now.texts each.entry.value.iterator) (seen store.now.texts each.entry.value.state) (given_seen store.now.texts results) (block_seen each.entry.value.body.now) each.entry.value.line fs s ≡ step_seen store.now result fs s }
 {
-    let (iterator, state) = values;
     if is_nil(results.first()) {
         return nothing(alloc);
     }
-    Step::On(Focus::Starts(Thing::EachTurn(flags, iterator, state, results, body, line)))
+    Step::On(Focus::Starts(Thing::EachTurn(each, results)))
 }

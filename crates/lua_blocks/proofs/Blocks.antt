@@ -1,6 +1,8 @@
 -- How a block begins: its first statement is a node.
 use Rattle.std.proofs.Common.{◌≡◌, ◌∙◌, ℕ, Bool, List, ◌∷◌, Option, Some, None, refl, sym, ap, subst}
 use Rattle.std.specs.Option.{option_map}
+use Rattle.std.specs.declared.alloc.Global.{Global}
+use Rattle.std.specs.declared.boxed.Box.{Box}
 use Rattle.lua_code.specs.declared.expression.Expression.{Expression}
 use Rattle.lua_code.specs.declared.statement.Statement.{Statement}
 use Rattle.lua_code.specs.declared.statement.Statement.TheVariants as statement
@@ -51,8 +53,8 @@ pub if_begins : (arms : List Branch) (other : Option (List Statement)) (rest : L
 if_begins arms None rest fs s = ap (λ b. behind_node (runs b fs s)) (statement-If arms (block_seen rest))
 if_begins arms (Some b) rest fs s = ap (λ y. behind_node (runs y fs s)) (statement-IfElse arms b (block_seen rest))
 
-pub count_begins : (boxed : Bool) (from to : Expression) (by : Option Expression) (b : List Statement) (line : ℕ) (rest : List Statement) (fs : List SFrame) (s : Slots)
+pub count_begins : (boxed : Bool) (from to : Box Expression Global) (by : Option (Box Expression Global)) (b : List Statement) (line : ℕ) (rest : List Statement) (fs : List SFrame) (s : Slots)
     → behind_node (runs (statement_seen (statement.Count boxed from to by b line) (block_seen rest)) fs s)
-    ≡ Now (Evals (expression_seen from) (CountFrom boxed (expression_seen to) (option_map expression_seen by) (block_seen b) line ∷ StatsNext (block_seen rest) ∷ fs)) s
+    ≡ Now (Evals (expression_seen from.value) (CountFrom boxed (expression_seen to.value) (option_map (λ c. expression_seen c.value) by) (block_seen b) line ∷ StatsNext (block_seen rest) ∷ fs)) s
 count_begins boxed from to None b line rest fs s = ap (λ y. behind_node (runs y fs s)) (statement-Count boxed from to b line (block_seen rest))
 count_begins boxed from to (Some by) b line rest fs s = ap (λ y. behind_node (runs y fs s)) (statement-CountBy boxed from to by b line (block_seen rest))

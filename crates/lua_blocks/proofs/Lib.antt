@@ -3,3 +3,4 @@ pub mod Newest
 pub mod Changes
 pub mod Pairs
 pub mod Blocks
+pub mod Worlds

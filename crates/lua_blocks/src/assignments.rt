@@ -17,7 +17,7 @@ ghost use Rattle.lua_state.specs.Seen.{frames_of, slots_of};
 
 use crate::exits::wait;
 use crate::targets::found;
-use lua_stack::{Focus, Found, Frame, Given, InAssignment, Setting, Stack, Values};
+use lua_stack::{Finding, Focus, Found, Frame, Given, InAssignment, Setting, Stack, Values};
 use lua_state::{State, Turn};
 use lua_store::{Store, Value};
 use std::alloc::Global;
@@ -94,8 +94,8 @@ fn give_first<'m>(
         (goes world (in_assignment_seen store.now.texts frame.entry) (given_seen store.now.texts values) (frames_of store.now state.old) (slots_of store.now state.old)) r) }
 {
     match frame {
-        InAssignment::TargetKey(key, line, rest, before, list) => {
-            let frame = InAssignment::TargetNow(first, line, rest, before, list);
+        InAssignment::TargetKey(key, line, finding) => {
+            let frame = InAssignment::TargetNow(first, line, finding);
             wait(
                 store,
                 state,
@@ -103,8 +103,13 @@ fn give_first<'m>(
                 Focus::Evaluates(key),
             )
         }
-        InAssignment::TargetNow(of, line, rest, before, list) => {
+        InAssignment::TargetNow(of, line, finding) => {
             let target = Found::At(of, first, line);
+            let Finding {
+                rest,
+                before,
+                values: list,
+            } = Box::into_inner(finding);
             found(store, state, target, rest, before, list)
         }
         InAssignment::AssignNow(targets) => assigned(alloc, store, state, targets, values),
@@ -127,6 +132,5 @@ pub fn give_assignment<'m>(
     ensures { IfOk result (λ r. (world : CWorld) → Makes store.old state.old left.old store.new state.new left.new (goes world (in_assignment_seen store.old.texts frame.entry) (given_seen store.old.texts values) (frames_of store.old state.old) (slots_of store.old state.old)) r) }
 {
     let first = values.first();
-    let turn = give_first(alloc, store, state, frame, first, values)?;
-    Ok(turn)
+    give_first(alloc, store, state, frame, first, values)
 }

@@ -76,8 +76,7 @@ pub fn tested<'m>(
         other,
         value,
     )?;
-    let turn = finish(alloc, store, left, state, step)?;
-    Ok(turn)
+    finish(alloc, store, left, state, step)
 }
 
 /// The first test of an `if` is next, or its `else`.
@@ -95,8 +94,7 @@ fn first_test<'m>(
 {
     let arms = arms.as_slice();
     let step = branches(alloc, store, &mut state.frames, &state.regs, arms, other)?;
-    let turn = finish(alloc, store, left, state, step)?;
-    Ok(turn)
+    finish(alloc, store, left, state, step)
 }
 
 /// The `else` of an `if`, if it has one.
@@ -127,6 +125,5 @@ pub fn condition<'m>(
         .frames
         .push(Frame::Statement(InStatement::StatsNext(rest)))?;
     let last = other_of(other);
-    let turn = first_test(alloc, store, left, state, arms, last)?;
-    Ok(turn)
+    first_test(alloc, store, left, state, arms, last)
 }

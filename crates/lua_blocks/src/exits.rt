@@ -9,7 +9,7 @@ ghost use Rattle.lua_state.specs.Makes.{Makes};
 ghost use Rattle.lua_state.specs.Of.{StateOf};
 ghost use Rattle.lua_state.specs.Seen.{frames_of, slots_of};
 
-use lua_stack::{Focus, Frame, Given, Values};
+use lua_stack::{Focus, Frame, Given, Values, give_up};
 use lua_state::{State, Turn};
 use lua_store::Store;
 use std::alloc::Global;
@@ -36,8 +36,10 @@ pub fn wait<'m>(
     ensures { (l : Allowance) → IfOk result (λ r. Makes store.now state.old l store.now state.new l
         (Now (focus_seen store.now focus.entry (frame_seen store.now.texts frame.entry ∷ frames_of store.now state.old)) (slots_of store.now state.old)) r) }
 {
-    state.frames.push(frame)?;
-    Ok(Turn::On(focus))
+    match state.frames.push(frame) {
+        Ok(_) => Ok(Turn::On(focus)),
+        Err(_) => Err(give_up(focus)),
+    }
 }
 
 /// This is next, and two more frames wait: the inner one for it, and the outer one for what follows.
@@ -55,7 +57,11 @@ pub fn wait_within<'m>(
     ensures { (l : Allowance) → IfOk result (λ r. Makes store.now state.old l store.now state.new l
         (Now (focus_seen store.now focus.entry (frame_seen store.now.texts inner.entry ∷ frame_seen store.now.texts outer.entry ∷ frames_of store.now state.old)) (slots_of store.now state.old)) r) }
 {
-    state.frames.push(outer)?;
-    state.frames.push(inner)?;
-    Ok(Turn::On(focus))
+    match state.frames.push(outer) {
+        Ok(_) => match state.frames.push(inner) {
+            Ok(_) => Ok(Turn::On(focus)),
+            Err(_) => Err(give_up(focus)),
+        },
+        Err(_) => Err(give_up((inner, focus))),
+    }
 }

@@ -109,8 +109,8 @@ pub fn repeat<'m>(
 }
 
 /// The step of a counting loop, if one is given.
-fn step_of<'m>(by: &'m Option<Expression>) -> Option<&'m Expression>
-    ensures { option_map (λ e. expression_seen e.now) result ≡ option_map expression_seen by.now }
+fn step_of<'m>(by: &'m Option<Box<Expression>>) -> Option<&'m Expression>
+    ensures { option_map (λ e. expression_seen e.now) result ≡ option_map (λ b. expression_seen b.value) by.now }
 {
     match by {
         Some(by) => Some(by),
@@ -123,15 +123,15 @@ pub fn count<'m>(
     store: &Store,
     state: &mut State<'m>,
     boxed: bool,
-    bounds: (&'m Expression, &'m Expression),
-    by: &'m Option<Expression>,
+    bounds: (&'m Box<Expression>, &'m Box<Expression>),
+    by: &'m Option<Box<Expression>>,
     body: &'m List<Statement>,
     line: u32,
     rest: &'m [Statement],
 ) -> Result<Turn<'m>, NoMemory>
     requires state { StateOf store.now state.old }
     ensures { (l : Allowance) → IfOk result (λ r. Makes store.now state.old l store.now state.new l
-        (Now (point.Evals (expression_seen bounds.entry.0.now) (point.CountFrom boxed (expression_seen bounds.entry.1.now) (option_map expression_seen by.now) (block_seen body.now) line ∷ StatsNext (block_seen rest.now) ∷ frames_of store.now state.old)) (slots_of store.now state.old)) r) }
+        (Now (point.Evals (expression_seen bounds.entry.0.now.value) (point.CountFrom boxed (expression_seen bounds.entry.1.now.value) (option_map (λ b. expression_seen b.value) by.now) (block_seen body.now) line ∷ StatsNext (block_seen rest.now) ∷ frames_of store.now state.old)) (slots_of store.now state.old)) r) }
 {
     let (from, to) = bounds;
     let step = step_of(by);

@@ -148,8 +148,7 @@ fn declare_function<'m>(
         (Now (Runs (block_seen rest.now) (frames_of store.old state.old)) (with_function_named function.0 function.1 (map place_seen places.now) (slots_of store.old state.old))) r) }
 {
     let source = running_source(store, &state.functions)?;
-    let turn = function_of_module(alloc, store, state, source, function, places, rest)?;
-    Ok(turn)
+    function_of_module(alloc, store, state, source, function, places, rest)
 }
 
 /// A local function, at 8 steps for its closure, and the statements behind it. `function` is the flag of its variable and its number.
@@ -169,6 +168,5 @@ pub fn local_function<'m>(
     if !pay(left, 8) {
         return Ok(Turn::Spent(Which::Steps));
     }
-    let turn = declare_function(alloc, store, state, function, places, rest)?;
-    Ok(turn)
+    declare_function(alloc, store, state, function, places, rest)
 }

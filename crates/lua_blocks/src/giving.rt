@@ -81,6 +81,5 @@ pub fn give_statement<'m>(
     requires values { GivenOf store.old values }
     ensures { IfOk result (λ r. (world : CWorld) → Makes store.old state.old left.old store.new state.new left.new (goes world (in_statement_seen store.old.texts frame.entry) (given_seen store.old.texts values) (frames_of store.old state.old) (slots_of store.old state.old)) r) }
 {
-    let turn = go_on(alloc, store, left, state, frame, values)?;
-    Ok(turn)
+    go_on(alloc, store, left, state, frame, values)
 }

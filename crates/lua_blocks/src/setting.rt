@@ -85,8 +85,7 @@ fn set_global_named<'m>(
 {
     let globals = Value::Table(state.env.globals);
     let entry = (Value::Text(name), value);
-    let turn = set_entry(alloc, store, left, state, globals, entry, line)?;
-    Ok(turn)
+    set_entry(alloc, store, left, state, globals, entry, line)
 }
 
 /// A global variable gets a value.
@@ -105,8 +104,7 @@ fn set_global<'m>(
         (indices.set_index (kind.Table (slots_of store.old state.now).globals) (kind.Text name.now) (seen store.old.texts value) (Some line) (frames_of store.old state.now) (slots_of store.old state.now)) r) }
 {
     let id = store.text(name)?;
-    let turn = set_global_named(alloc, store, left, state, id, value, line)?;
-    Ok(turn)
+    set_global_named(alloc, store, left, state, id, value, line)
 }
 
 /// A target gets its value.
@@ -127,7 +125,7 @@ fn set_one<'m>(
     match target {
         Found::Variable(place) => Ok(set_place(alloc, store, state, place, value)),
         Found::Global(name, line) => set_global(alloc, store, left, state, name, value, line),
-        Found::At(of, key, line) => { set_entry(alloc, store, left, state, of, (key, value), line) }
+        Found::At(of, key, line) => set_entry(alloc, store, left, state, of, (key, value), line),
     }
 }
 
@@ -150,8 +148,7 @@ pub fn set<'m>(
             state
                 .frames
                 .push(Frame::Assignment(InAssignment::SetsNext(pairs)))?;
-            let turn = set_one(alloc, store, left, state, next.target, next.value)?;
-            Ok(turn)
+            set_one(alloc, store, left, state, next.target, next.value)
         }
     }
 }

@@ -92,8 +92,7 @@ pub fn run<'m, L: Ledger>(
             if !pay_node(left, turns) {
                 return Ok(Turn::Spent(Which::Steps));
             }
-            let turn = begin(alloc, store, left, state, front.first, front.rest)?;
-            Ok(turn)
+            begin(alloc, store, left, state, front.first, front.rest)
         }
     }
 }

@@ -18,7 +18,7 @@ ghost use Rattle.lua_state.specs.Seen.{frames_of, slots_of};
 
 use crate::exits::wait;
 use lua_code::{Expression, Target};
-use lua_stack::{Focus, Found, Frame, InAssignment, Jump, Values};
+use lua_stack::{Finding, Focus, Found, Frame, InAssignment, Jump, Values, boxed};
 use lua_state::{State, Turn, pay_node};
 use lua_store::{Store, Value};
 use page_run::Which;
@@ -97,13 +97,12 @@ fn entry<'m, L: Ledger>(
     if !pay_node(left, turns) {
         return Ok(Turn::Spent(Which::Steps));
     }
-    let turn = wait(
+    wait(
         store,
         state,
         Frame::Assignment(waiting),
         Focus::Evaluates(of),
-    )?;
-    Ok(turn)
+    )
 }
 
 /// An error whose value is this text.
@@ -120,12 +119,12 @@ fn refuse<'m>(store: &mut Store, state: &State<'m>) -> Result<Turn<'m>, NoMemory
     requires { StateOf store.old state.now }
     ensures { (l : Allowance) → IfOk result (λ r. Makes store.old state.now l store.new state.now l (jumps (act.Raised (kind.Text no_target)) (frames_of store.old state.now) (slots_of store.old state.now)) r) }
 {
-    let turn = raise(store, state, b"cannot assign to this expression")?;
-    Ok(turn)
+    raise(store, state, b"cannot assign to this expression")
 }
 
 /// The first of some targets, and what follows it.
 fn find_first<'m, L: Ledger>(
+    alloc: Global,
     store: &mut Store,
     left: &mut Left,
     state: &mut State<'m>,
@@ -152,7 +151,13 @@ fn find_first<'m, L: Ledger>(
             Ok(turn)
         }
         Target::At(of, key, line) => {
-            let waiting = InAssignment::TargetKey(key, *line, rest, before, values);
+            let whole = Finding {
+                rest,
+                before,
+                values,
+            };
+            let finding = boxed(alloc, whole)?;
+            let waiting = InAssignment::TargetKey(key, *line, finding);
             entry(store, left, state, of, waiting, turns)
         }
         Target::Refused => {
@@ -178,12 +183,10 @@ pub fn find<'m, L: Ledger>(
     ensures { IfOk result (λ r. Counts store.old state.old left.old turns.old store.new state.new left.new turns.new (machine.finds (map target_seen targets.now) (map (found_seen store.old.texts) before.entry) (expressions_seen values.now) (frames_of store.old state.old) (slots_of store.old state.old)) r) }
 {
     match front_of(targets) {
-        None => {
-            let turn = all_found(alloc, store, state, before, values)?;
-            Ok(turn)
-        }
+        None => all_found(alloc, store, state, before, values),
         Some(front) => {
             find_first(
+                alloc,
                 store,
                 left,
                 state,

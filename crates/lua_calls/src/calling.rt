@@ -71,10 +71,7 @@ pub fn call_act<'m>(
         Act::Clone => clone(alloc, store, left, state, arguments, line),
         Act::CurrentTitle => current_title(alloc, store, left, state, line),
         Act::ArgsIndex => index_args(alloc, store, left, state, arguments, line),
-        Act::Calls(caller) => {
-            let turn = call_back(alloc, store, left, state, caller, arguments, line)?;
-            Ok(turn)
-        }
+        Act::Calls(caller) => call_back(alloc, store, left, state, caller, arguments, line),
         Act::Gsub(function) => gsub(alloc, store, left, state, function, arguments, line),
     }
 }

@@ -39,8 +39,7 @@ fn do_library<'m>(
 {
     state.frames.push(Frame::End(Ending::LibraryEnd))?;
     let act = act_of(which);
-    let turn = call_act(alloc, store, left, state, act, arguments, line)?;
-    Ok(turn)
+    call_act(alloc, store, left, state, act, arguments, line)
 }
 
 /// A function of the library is entered, called from this line. It takes a call and is counted; a frame below it ends its call.
@@ -64,6 +63,5 @@ pub fn enter_library<'m, L: Ledger>(
         return Ok(Turn::Spent(Which::Calls));
     }
     turns.tick();
-    let turn = do_library(alloc, store, left, state, which, arguments, line)?;
-    Ok(turn)
+    do_library(alloc, store, left, state, which, arguments, line)
 }

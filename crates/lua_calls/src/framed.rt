@@ -16,7 +16,7 @@ ghost use Rattle.lua_calls.specs.Ends.{FramedEndsAs};
 use lua_acts::exits::{give_all, one};
 use lua_acts::{pairs, refuse};
 use lua_basic::Stop;
-use lua_stack::{Asked, Focus, Frame, Values};
+use lua_stack::{Asked, Focus, Frame, Values, boxed};
 use lua_state::{State, Turn};
 use lua_store::Store;
 use mw_frame::Ask;
@@ -37,6 +37,7 @@ fn asked_of(awaited: Awaited) -> Asked
 
 /// A question is asked, and a function of the library that was called from this line waits for its answer.
 fn ask<'m>(
+    alloc: Global,
     store: &Store,
     state: &mut State<'m>,
     question: Ask,
@@ -50,6 +51,7 @@ fn ask<'m>(
 {
     let asked = asked_of(awaited);
     state.frames.push(Frame::Hears(asked, line))?;
+    let question = boxed(alloc, question)?;
     Ok(Turn::On(Focus::Asks(question)))
 }
 
@@ -69,7 +71,7 @@ fn give_answer<'m>(
 {
     match answer {
         FrameAnswer::Gives(values) => Ok(give_all(store, state, Values::of_list(values))),
-        FrameAnswer::Asks(question, awaited) => ask(store, state, question, awaited, line),
+        FrameAnswer::Asks(question, awaited) => ask(alloc, store, state, question, awaited, line),
         FrameAnswer::Walks(value) => {
             let arguments = one(alloc, value)?;
             let turn = pairs(alloc, store, left, state, arguments, line)?;

@@ -105,8 +105,8 @@ expression-Index a b line = expression_at (expression.Index a b line) (outs-Inde
 pub expression-Call : (a : Box Expression Global) (es : List Expression) (line : ℕ) → expression_seen (expression.Call a es line) ≡ CallC (expression_seen a.value) (expressions_seen es) line
 expression-Call a es line = expression_at (expression.Call a es line) (outs-Call a es line) ∙ ap (λ y. CallC (expression_seen a.value) y line) (codes_level es)
 
-pub expression-Method : (a : Box Expression Global) (name : Bytes) (es : List Expression) (line : ℕ) → expression_seen (expression.Method a name es line) ≡ MethodC (expression_seen a.value) name (expressions_seen es) line
-expression-Method a name es line = expression_at (expression.Method a name es line) (outs-Method a name es line) ∙ ap (λ y. MethodC (expression_seen a.value) name y line) (codes_level es)
+pub expression-Method : (a : Box Expression Global) (name : Box Bytes Global) (es : List Expression) (line : ℕ) → expression_seen (expression.Method a name es line) ≡ MethodC (expression_seen a.value) name.value (expressions_seen es) line
+expression-Method a name es line = expression_at (expression.Method a name es line) (outs-Method a name es line) ∙ ap (λ y. MethodC (expression_seen a.value) name.value y line) (codes_level es)
 
 pub expression-Table : (es : List Entry) (line : ℕ) → expression_seen (expression.Table es line) ≡ TableC (entries_seen es) line
 expression-Table es line = expression_at (expression.Table es line) (outs-Table es line) ∙ ap (λ y. TableC y line) (entries_level es)
@@ -153,11 +153,11 @@ statement-If arms rest = statement_at (statement.If arms None) (outs-If arms Non
 pub statement-IfElse : (arms : List Branch) (b : List Statement) (rest : CBlock) → statement_seen (statement.If arms (Some b)) rest ≡ ThenC (IfElseC (branches_seen arms) (block_seen b)) rest
 statement-IfElse arms b rest = statement_at (statement.If arms (Some b)) (outs-If arms (Some b)) rest ∙ ap (λ y. ThenC (IfElseC y (block_of (map statement_seen b))) rest) (arms_level arms) ∙ ap (λ y. ThenC (IfElseC (branches_seen arms) y) rest) (block_level b)
 
-pub statement-Count : (boxed : Bool) (from : Expression) (to : Expression) (b : List Statement) (line : ℕ) (rest : CBlock) → statement_seen (statement.Count boxed from to None b line) rest ≡ ThenC (CountC boxed (expression_seen from) (expression_seen to) (block_seen b) line) rest
-statement-Count boxed from to b line rest = statement_at (statement.Count boxed from to None b line) (outs-Count boxed from to None b line) rest ∙ ap (λ y. ThenC (CountC boxed (expression_seen from) (expression_seen to) y line) rest) (block_level b)
+pub statement-Count : (boxed : Bool) (from : Box Expression Global) (to : Box Expression Global) (b : List Statement) (line : ℕ) (rest : CBlock) → statement_seen (statement.Count boxed from to None b line) rest ≡ ThenC (CountC boxed (expression_seen from.value) (expression_seen to.value) (block_seen b) line) rest
+statement-Count boxed from to b line rest = statement_at (statement.Count boxed from to None b line) (outs-Count boxed from to None b line) rest ∙ ap (λ y. ThenC (CountC boxed (expression_seen from.value) (expression_seen to.value) y line) rest) (block_level b)
 
-pub statement-CountBy : (boxed : Bool) (from : Expression) (to : Expression) (by : Expression) (b : List Statement) (line : ℕ) (rest : CBlock) → statement_seen (statement.Count boxed from to (Some by) b line) rest ≡ ThenC (CountByC boxed (expression_seen from) (expression_seen to) (expression_seen by) (block_seen b) line) rest
-statement-CountBy boxed from to by b line rest = statement_at (statement.Count boxed from to (Some by) b line) (outs-Count boxed from to (Some by) b line) rest ∙ ap (λ y. ThenC (CountByC boxed (expression_seen from) (expression_seen to) (expression_seen by) y line) rest) (block_level b)
+pub statement-CountBy : (boxed : Bool) (from : Box Expression Global) (to : Box Expression Global) (by : Box Expression Global) (b : List Statement) (line : ℕ) (rest : CBlock) → statement_seen (statement.Count boxed from to (Some by) b line) rest ≡ ThenC (CountByC boxed (expression_seen from.value) (expression_seen to.value) (expression_seen by.value) (block_seen b) line) rest
+statement-CountBy boxed from to by b line rest = statement_at (statement.Count boxed from to (Some by) b line) (outs-Count boxed from to (Some by) b line) rest ∙ ap (λ y. ThenC (CountByC boxed (expression_seen from.value) (expression_seen to.value) (expression_seen by.value) y line) rest) (block_level b)
 
 pub statement-Each : (flags : List Bool) (es : List Expression) (b : List Statement) (line : ℕ) (rest : CBlock) → statement_seen (statement.Each flags es b line) rest ≡ ThenC (EachC flags (expressions_seen es) (block_seen b) line) rest
 statement-Each flags es b line rest = statement_at (statement.Each flags es b line) (outs-Each flags es b line) rest ∙ ap (λ y. ThenC (EachC flags (expressions_seen es) y line) rest) (block_level b)

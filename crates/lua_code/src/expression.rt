@@ -22,8 +22,8 @@ pub enum Expression {
     Index(Box<Expression>, Box<Expression>, u32),
     /// `called(arguments)`
     Call(Box<Expression>, List<Expression>, u32),
-    /// `of:name(arguments)`
-    Method(Box<Expression>, Bytes, List<Expression>, u32),
+    /// `of:name(arguments)`. The name is in a box, so that other expressions don't take the room of it.
+    Method(Box<Expression>, Box<Bytes>, List<Expression>, u32),
     /// `{ entries }`
     Table(List<Entry>, u32),
     And(Box<Expression>, Box<Expression>),

@@ -28,8 +28,9 @@ pub enum Statement {
     Repeat(List<Statement>, Expression),
     /// `if`, its `elseif`s, and its `else`.
     If(List<Branch>, Option<List<Statement>>),
-    /// `for name = first, last, step do .. end`, with the line of an error.
-    Count(bool, Expression, Expression, Option<Expression>, List<Statement>, u32),
+    /// `for name = first, last, step do .. end`, with the line of an error. The three are in boxes, so that other statements don't
+    /// take the room of them.
+    Count(bool, Box<Expression>, Box<Expression>, Option<Box<Expression>>, List<Statement>, u32),
     /// `for names in values do .. end`, with the line of an error.
     Each(List<bool>, List<Expression>, List<Statement>, u32),
     Return(List<Expression>),

@@ -5,3 +5,4 @@ pub mod Tables
 pub mod Newest
 pub mod Places
 pub mod Items
+pub mod Worlds

@@ -61,14 +61,10 @@ fn new_closure<'m>(
         (with_closure (proc_of index (map place_seen places.now) (slots_of store.old state.now)) (slots_of store.old state.now))) r) }
 {
     match state.functions.newest() {
-        Some(newest) => {
-            let turn = closure_in(alloc, store, state, newest.source, index, places)?;
-            Ok(turn)
-        }
+        Some(newest) => closure_in(alloc, store, state, newest.source, index, places),
         None => {
             let source = store.text(&[])?;
-            let turn = closure_in(alloc, store, state, source, index, places)?;
-            Ok(turn)
+            closure_in(alloc, store, state, source, index, places)
         }
     }
 }
@@ -90,6 +86,5 @@ pub fn closure<'m>(
     if !pay(left, 8) {
         return Ok(Turn::Spent(Which::Steps));
     }
-    let turn = new_closure(alloc, store, state, index, places)?;
-    Ok(turn)
+    new_closure(alloc, store, state, index, places)
 }

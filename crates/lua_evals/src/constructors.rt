@@ -144,8 +144,7 @@ fn set_first<'m>(
     let key = key_at(place)?;
     let next = behind(place)?;
     let frame = InConstructor::ItemsNext(table, next, values, line);
-    let turn = set(alloc, store, left, state, frame, table, (key, value), line)?;
-    Ok(turn)
+    set(alloc, store, left, state, frame, table, (key, value), line)
 }
 
 /// The values that the last item has left.
@@ -168,8 +167,7 @@ fn items<'m>(
     if values.len() == 0 {
         return Ok(give(store, state, Value::Table(table)));
     }
-    let turn = set_first(alloc, store, left, state, table, place, values, line)?;
-    Ok(turn)
+    set_first(alloc, store, left, state, table, place, values, line)
 }
 
 /// The first value of an item before other entries is set, and the entries wait.
@@ -195,8 +193,7 @@ fn set_item<'m>(
     let key = key_at(at)?;
     let next = behind(at)?;
     let frame = InConstructor::FieldsNext(table, next, entries, line);
-    let turn = set(alloc, store, left, state, frame, table, (key, first), line)?;
-    Ok(turn)
+    set(alloc, store, left, state, frame, table, (key, first), line)
 }
 
 /// An item is evaluated: all its values where it is the last entry, else the first of them.
@@ -220,8 +217,7 @@ fn item<'m>(
         None => {
             let (table, at) = place;
             let values = values.into_values(alloc)?;
-            let turn = items(alloc, store, left, state, table, at, values, line)?;
-            Ok(turn)
+            items(alloc, store, left, state, table, at, values, line)
         }
         Some(front) => {
             let first = values.first();
@@ -314,6 +310,5 @@ pub fn give_constructor<'m>(
         (goes world (in_constructor_seen store.old.texts frame.entry) (given_seen store.old.texts values) (frames_of store.old state.old) (slots_of store.old state.old)) r) }
 {
     let first = values.first();
-    let turn = give_first(alloc, store, left, state, frame, first, values)?;
-    Ok(turn)
+    give_first(alloc, store, left, state, frame, first, values)
 }

@@ -77,6 +77,5 @@ pub fn list<'m>(
     ensures { IfOk result (λ r. Makes store.old state.old left.old store.new state.new left.new (machine.lists (expressions_seen expressions.now) (values_seen store.old.texts before) (frames_of store.old state.old) (slots_of store.old state.old)) r) }
 {
     let step = lists::list(store, &mut state.frames, expressions, before)?;
-    let turn = finish(alloc, store, left, state, step)?;
-    Ok(turn)
+    finish(alloc, store, left, state, step)
 }

@@ -11,7 +11,7 @@ ghost use Rattle.lua_state.specs.Makes.{Makes};
 ghost use Rattle.lua_state.specs.Of.{StateOf};
 ghost use Rattle.lua_state.specs.Seen.{frames_of, slots_of};
 
-use lua_stack::{Focus, Frame, Given};
+use lua_stack::{Focus, Frame, Given, give_up};
 use lua_state::{State, Turn};
 use lua_store::{Store, Value};
 use wk_base::NoMemory;
@@ -38,6 +38,8 @@ pub fn wait<'m>(
     ensures { (l : Allowance) → IfOk result (λ r. Makes store.now state.old l store.now state.new l
         (Now (focus_seen store.now focus.entry (frame_seen store.now.texts frame.entry ∷ frames_of store.now state.old)) (slots_of store.now state.old)) r) }
 {
-    state.frames.push(frame)?;
-    Ok(Turn::On(focus))
+    match state.frames.push(frame) {
+        Ok(_) => Ok(Turn::On(focus)),
+        Err(_) => Err(give_up(focus)),
+    }
 }

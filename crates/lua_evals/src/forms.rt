@@ -64,8 +64,7 @@ pub fn dots<'m>(
     if !pay(left, count as u64) {
         return Ok(Turn::Spent(Which::Steps));
     }
-    let turn = copied_dots(alloc, store, state)?;
-    Ok(turn)
+    copied_dots(alloc, store, state)
 }
 
 /// A global variable whose name is this text: an index of the table of global variables (manual 2.3).
@@ -90,8 +89,7 @@ fn global_named<'m>(
         Value::Text(name),
         Some(line),
     );
-    let turn = finish(alloc, store, left, state, step)?;
-    Ok(turn)
+    finish(alloc, store, left, state, step)
 }
 
 /// A global variable.
@@ -108,8 +106,7 @@ pub fn global<'m>(
         (indexes (slots_of store.old state.old).globals (kind.Text name.now) (Some line) (First ∷ frames_of store.old state.old) (slots_of store.old state.old)) r) }
 {
     let id = store.text(name)?;
-    let turn = global_named(alloc, store, left, state, id, line)?;
-    Ok(turn)
+    global_named(alloc, store, left, state, id, line)
 }
 
 /// The first entry of a new table.
@@ -143,8 +140,7 @@ pub fn constructor<'m>(
     if !pay(left, 8) {
         return Ok(Turn::Spent(Which::Steps));
     }
-    let turn = new_table(store, state, entries, line)?;
-    Ok(turn)
+    new_table(store, state, entries, line)
 }
 
 /// The first operand of an expression that has some.
@@ -160,6 +156,5 @@ pub fn operands<'m>(
     ensures { IfOk result (λ r. Makes store.old state.old left.old store.new state.new left.new (behind_node (machine.evals (expression_seen code.now) (frames_of store.old state.old) (slots_of store.old state.old))) r) }
 {
     let step = begin_operands(store, &mut state.frames, code)?;
-    let turn = finish(alloc, store, left, state, step)?;
-    Ok(turn)
+    finish(alloc, store, left, state, step)
 }

@@ -121,7 +121,7 @@ fn give_first<'m>(
         InExpression::OperateNow(op, a, line) => {
             operate_on(alloc, store, left, state, op, (a, first), line)
         }
-        InExpression::UnaryNow(op, line) => { apply_to(alloc, store, left, state, op, first, line) }
+        InExpression::UnaryNow(op, line) => apply_to(alloc, store, left, state, op, first, line),
         InExpression::ArgumentsNext(list, line) => {
             arguments(alloc, store, state, first, list, line)
         }
@@ -156,6 +156,5 @@ pub fn give_expression<'m>(
         (goes world (in_expression_seen store.old.texts frame.entry) (given_seen store.old.texts values) (frames_of store.old state.old) (slots_of store.old state.old)) r) }
 {
     let first = values.first();
-    let turn = give_first(alloc, store, left, state, frame, first, values)?;
-    Ok(turn)
+    give_first(alloc, store, left, state, frame, first, values)
 }

@@ -45,8 +45,7 @@ pub fn index_at<'m>(
 {
     state.frames.push(Frame::Expression(InExpression::First))?;
     let step = index(store, &state.env, of, key, Some(line));
-    let turn = finish(alloc, store, left, state, step)?;
-    Ok(turn)
+    finish(alloc, store, left, state, step)
 }
 
 /// The first operand of `and` or `or`: it is the value, or the second operand is.
@@ -65,8 +64,7 @@ pub fn decide<'m>(
         (machine.choose_operand deciding (expression_seen other.now) (seen store.old.texts value) (frames_of store.old state.old) (slots_of store.old state.old)) r) }
 {
     let step = lists::choose_operand(store, &mut state.frames, deciding, other, value)?;
-    let turn = finish(alloc, store, left, state, step)?;
-    Ok(turn)
+    finish(alloc, store, left, state, step)
 }
 
 /// An operator whose two operands are evaluated.
@@ -146,8 +144,7 @@ pub fn call_with<'m>(
 {
     let arguments = arguments.into_values(alloc)?;
     let step = call(store, &state.env, called, arguments, Some(line))?;
-    let turn = finish(alloc, store, left, state, step)?;
-    Ok(turn)
+    finish(alloc, store, left, state, step)
 }
 
 /// A method whose name is this text: an index of its object, which waits to be the first argument (manual 2.5.8).
@@ -170,8 +167,7 @@ fn method_named<'m>(
     let frame = InExpression::MethodNow(object, arguments, line);
     state.frames.push(Frame::Expression(frame))?;
     let step = index(store, &state.env, object, Value::Text(name), Some(line));
-    let turn = finish(alloc, store, left, state, step)?;
-    Ok(turn)
+    finish(alloc, store, left, state, step)
 }
 
 /// A method of an object.
@@ -191,8 +187,7 @@ pub fn method<'m>(
         (indices.index (seen store.old.texts object) (kind.Text name.now) (Some line) (MethodNow (seen store.old.texts object) (expressions_seen arguments.now) line ∷ frames_of store.old state.old) (slots_of store.old state.old)) r) }
 {
     let id = store.text(name)?;
-    let turn = method_named(alloc, store, left, state, object, id, arguments, line)?;
-    Ok(turn)
+    method_named(alloc, store, left, state, object, id, arguments, line)
 }
 
 /// An expression of a list is evaluated.
@@ -212,6 +207,5 @@ pub fn more<'m>(
         (machine.more_values (expressions_seen expressions.now) (values_seen store.old.texts before) (given_seen store.old.texts values) (frames_of store.old state.now) (slots_of store.old state.now)) r) }
 {
     let step = lists::more_values(store, expressions, before, values)?;
-    let turn = finish(alloc, store, left, state, step)?;
-    Ok(turn)
+    finish(alloc, store, left, state, step)
 }

@@ -125,8 +125,7 @@ fn enter_found<'m, L: Ledger>(
         return Ok(Turn::Spent(Which::Calls));
     }
     turns.tick();
-    let turn = begin_body(alloc, store, state, proto, callee, arguments, line)?;
-    Ok(turn)
+    begin_body(alloc, store, state, proto, callee, arguments, line)
 }
 
 /// A function of Lua is entered, called by this line of the newest one, if a place of its text did. One whose code isn't there gives
@@ -152,10 +151,9 @@ pub fn enter_body<'m, L: Ledger>(
         .function(alloc, store, callee.source, callee.index)?;
     match found {
         Some(proto) => {
-            let turn = enter_found(
+            enter_found(
                 alloc, store, left, state, proto, callee, arguments, line, turns,
-            )?;
-            Ok(turn)
+            )
         }
         None => {
             let focus = nothing(alloc);

@@ -5,7 +5,7 @@ ghost use Rattle.lua_meaning.specs.Values as plain;
 ghost use Rattle.lua_slots.specs.Loops as loops;
 ghost use Rattle.lua_store.specs.Parts.{IsOf};
 ghost use Rattle.lua_store.specs.Seen.{StoreView, seen};
-ghost use Rattle.lua_stack.specs.Of.{GivenOf};
+ghost use Rattle.lua_stack.specs.Of.{EachOf, GivenOf};
 ghost use Rattle.lua_stack.specs.Seen.{given_seen};
 ghost use Rattle.lua_state.specs.Makes.{Makes};
 ghost use Rattle.lua_state.specs.Of.{StateOf};
@@ -13,7 +13,7 @@ ghost use Rattle.lua_state.specs.Seen.{frames_of, slots_of};
 
 use lua_arms::loops as arms;
 use lua_code::{Expression, Statement};
-use lua_stack::Given;
+use lua_stack::{EachLoop, Given};
 use lua_state::{State, Turn, finish};
 use lua_store::{Store, Value};
 use std::alloc::Global;
@@ -34,8 +34,7 @@ pub fn test_while<'m>(
         (loops.while_next (expression_seen test.now) (block_seen body.now) (seen store.old.texts value) (frames_of store.old state.now) (slots_of store.old state.now)) r) }
 {
     let step = arms::while_next(alloc, test, body, value);
-    let turn = finish(alloc, store, left, state, step)?;
-    Ok(turn)
+    finish(alloc, store, left, state, step)
 }
 
 /// The test of a `repeat` has this value.
@@ -53,8 +52,7 @@ pub fn test_repeat<'m>(
         (loops.repeat_next (block_seen body.now) (expression_seen test.now) (seen store.old.texts value) (frames_of store.old state.now) (slots_of store.old state.now)) r) }
 {
     let step = arms::repeat_next(alloc, body, test, value);
-    let turn = finish(alloc, store, left, state, step)?;
-    Ok(turn)
+    finish(alloc, store, left, state, step)
 }
 
 /// A counting loop has its first two bounds: the step is evaluated, or is 1.
@@ -85,8 +83,7 @@ pub fn two_bounds<'m>(
         body,
         line,
     )?;
-    let turn = finish(alloc, store, left, state, step)?;
-    Ok(turn)
+    finish(alloc, store, left, state, step)
 }
 
 /// A counting loop has its three bounds.
@@ -108,8 +105,7 @@ pub fn three_bounds<'m>(
         (loops.counting boxed (seen store.old.texts bounds.0) (seen store.old.texts bounds.1) (seen store.old.texts bounds.2) (block_seen body.now) line (frames_of store.old state.now) (slots_of store.old state.now)) r) }
 {
     let step = arms::counting(alloc, store, boxed, bounds, body, line);
-    let turn = finish(alloc, store, left, state, step)?;
-    Ok(turn)
+    finish(alloc, store, left, state, step)
 }
 
 /// A turn of a counting loop is over: it goes on at the next index. The range is the index, the limit and the step.
@@ -127,8 +123,7 @@ pub fn next_index<'m>(
         (loops.count_next boxed range.0 range.1 range.2 (block_seen body.now) (frames_of store.old state.now) (slots_of store.old state.now)) r) }
 {
     let step = arms::count_next(alloc, boxed, range.0, range.1, range.2, body);
-    let turn = finish(alloc, store, left, state, step)?;
-    Ok(turn)
+    finish(alloc, store, left, state, step)
 }
 
 /// A generic loop calls its iterator. The values are the iterator, the state, and the value before.
@@ -137,30 +132,17 @@ pub fn call_iterator<'m>(
     store: &mut Store,
     left: &mut Left,
     state: &mut State<'m>,
-    flags: &'m [bool],
-    values: (Value, Value, Value),
-    body: &'m List<Statement>,
-    line: u32,
+    each: Box<EachLoop<'m>>,
+    before: Value,
 ) -> Result<Turn<'m>, NoMemory>
     requires state { StateOf store.old state.old }
-    requires iterator { IsOf store.old values.0 }
-    requires state_ { IsOf store.old values.1 }
-    requires before { IsOf store.old values.2 }
+    requires each { EachOf store.old each.value }
+    requires before { IsOf store.old before }
     ensures { IfOk result (λ r. Makes store.old state.old left.old store.new state.new left.new
-        (loops.each_from flags.now (seen store.old.texts values.0) (seen store.old.texts values.1) (seen store.old.texts values.2) (block_seen body.now) line (frames_of store.old state.old) (slots_of store.old state.old)) r) }
+        (loops.each_from each.entry.value.flags.now (seen store.old.texts each.entry.value.iterator) (seen store.old.texts each.entry.value.state) (seen store.old.texts before) (block_seen each.entry.value.body.now) each.entry.value.line (frames_of store.old state.old) (slots_of store.old state.old)) r) }
 {
-    let step = arms::each_from(
-        alloc,
-        store,
-        &state.env,
-        &mut state.frames,
-        flags,
-        values,
-        body,
-        line,
-    )?;
-    let turn = finish(alloc, store, left, state, step)?;
-    Ok(turn)
+    let step = arms::each_from(alloc, store, &state.env, &mut state.frames, each, before)?;
+    finish(alloc, store, left, state, step)
 }
 
 /// The iterator of a generic loop gave results. The values are the iterator and the state.
@@ -169,22 +151,17 @@ pub fn next_results<'m>(
     store: &mut Store,
     left: &mut Left,
     state: &State<'m>,
-    flags: &'m [bool],
-    values: (Value, Value),
+    each: Box<EachLoop<'m>>,
     results: Given,
-    body: &'m List<Statement>,
-    line: u32,
 ) -> Result<Turn<'m>, NoMemory>
     requires state { StateOf store.old state.now }
-    requires iterator { IsOf store.old values.0 }
-    requires state_ { IsOf store.old values.1 }
+    requires each { EachOf store.old each.value }
     requires results { GivenOf store.old results }
     ensures { IfOk result (λ r. Makes store.old state.now left.old store.new state.now left.new
-        (loops.each_next flags.now (seen store.old.texts values.0) (seen store.old.texts values.1) (given_seen store.old.texts results) (block_seen body.now) line (frames_of store.old state.now) (slots_of store.old state.now)) r) }
+        (loops.each_next each.entry.value.flags.now (seen store.old.texts each.entry.value.iterator) (seen store.old.texts each.entry.value.state) (given_seen store.old.texts results) (block_seen each.entry.value.body.now) each.entry.value.line (frames_of store.old state.now) (slots_of store.old state.now)) r) }
 {
-    let step = arms::each_next(alloc, store, flags, values, results, body, line);
-    let turn = finish(alloc, store, left, state, step)?;
-    Ok(turn)
+    let step = arms::each_next(alloc, store, each, results);
+    finish(alloc, store, left, state, step)
 }
 
 /// The first three of some values; what is absent is nil.

@@ -12,7 +12,7 @@ ghost use Rattle.lua_slots.specs.Slots.{cut};
 ghost use Rattle.lua_store.specs.Parts.{IsOf};
 ghost use Rattle.lua_store.specs.Seen.{seen};
 ghost use Rattle.lua_stack.specs.Lists.{first_stored, given_values};
-ghost use Rattle.lua_stack.specs.Of.{EndingOf, GivenOf};
+ghost use Rattle.lua_stack.specs.Of.{EachOf, EndingOf, GivenOf};
 ghost use Rattle.lua_stack.specs.Seen.{ending_seen, given_seen};
 ghost use Rattle.lua_state.specs.Makes.{Makes};
 ghost use Rattle.lua_state.specs.Of.{StateOf};
@@ -22,7 +22,7 @@ use crate::bounds::{call_iterator, next_index, test_repeat};
 use crate::exits::{nothing, wait};
 use crate::leaving::{go_below, keep_oldest, leave_body_for, leave_for};
 use lua_code::{Expression, Statement};
-use lua_stack::{Ending, Focus, Frame, Given, InLoop};
+use lua_stack::{EachLoop, Ending, Focus, Frame, Given, InLoop};
 use lua_state::{State, Turn};
 use lua_store::{Store, Value};
 use std::alloc::Global;
@@ -49,8 +49,7 @@ fn end_function<'m>(
         (Exits (gives [] (frames_of store.now state.old) (calls.left_function (slots_of store.now state.old)))) r) }
 {
     let focus = nothing(alloc);
-    let turn = leave_body_for(store, left, state, focus)?;
-    Ok(turn)
+    leave_body_for(store, left, state, focus)
 }
 
 /// A turn of a `while` is over: its test is next.
@@ -67,8 +66,7 @@ fn end_while<'m>(
 {
     keep_oldest(&mut state.regs, depth);
     let frame = Frame::Loop(InLoop::WhileTest(test, body));
-    let turn = wait(store, state, frame, Focus::Evaluates(test))?;
-    Ok(turn)
+    wait(store, state, frame, Focus::Evaluates(test))
 }
 
 /// The body of a `repeat` is over: its test is next, which sees the variables of the body.
@@ -84,8 +82,7 @@ fn end_body<'m>(
         (Now (Evals (expression_seen test.now) (TestNow (expression_seen test.now) depth (block_seen body.now) ∷ frames_of store.now state.old)) (slots_of store.now state.old)) r) }
 {
     let frame = Frame::End(Ending::TestNow(test, depth, body));
-    let turn = wait(store, state, frame, Focus::Evaluates(test))?;
-    Ok(turn)
+    wait(store, state, frame, Focus::Evaluates(test))
 }
 
 /// A turn of a `repeat` is over: its test has this value.
@@ -104,8 +101,7 @@ fn end_repeat<'m>(
         (loops.repeat_next (block_seen body.now) (expression_seen test.now) (seen store.old.texts value) (frames_of store.old state.old) (cut depth (slots_of store.old state.old))) r) }
 {
     keep_oldest(&mut state.regs, depth);
-    let turn = test_repeat(alloc, store, left, state, body, test, value)?;
-    Ok(turn)
+    test_repeat(alloc, store, left, state, body, test, value)
 }
 
 /// A turn of a counting loop is over. The range is the index, the limit and the step.
@@ -124,8 +120,7 @@ fn end_count<'m>(
         (loops.count_next boxed range.0 range.1 range.2 (block_seen body.now) (frames_of store.old state.old) (cut depth (slots_of store.old state.old))) r) }
 {
     keep_oldest(&mut state.regs, depth);
-    let turn = next_index(alloc, store, left, state, boxed, range, body)?;
-    Ok(turn)
+    next_index(alloc, store, left, state, boxed, range, body)
 }
 
 /// A turn of a generic loop is over. The values are the iterator, the state, and the value before.
@@ -135,21 +130,17 @@ fn end_each<'m>(
     left: &mut Left,
     state: &mut State<'m>,
     depth: usize,
-    flags: &'m [bool],
-    values: (Value, Value, Value),
-    body: &'m List<Statement>,
-    line: u32,
+    each: Box<EachLoop<'m>>,
+    before: Value,
 ) -> Result<Turn<'m>, NoMemory>
     requires state { StateOf store.old state.old }
-    requires iterator { IsOf store.old values.0 }
-    requires state_ { IsOf store.old values.1 }
-    requires before { IsOf store.old values.2 }
+    requires each { EachOf store.old each.value }
+    requires before { IsOf store.old before }
     ensures { IfOk result (λ r. Makes store.old state.old left.old store.new state.new left.new
-        (loops.each_from flags.now (seen store.old.texts values.0) (seen store.old.texts values.1) (seen store.old.texts values.2) (block_seen body.now) line (frames_of store.old state.old) (cut depth (slots_of store.old state.old))) r) }
+        (loops.each_from each.entry.value.flags.now (seen store.old.texts each.entry.value.iterator) (seen store.old.texts each.entry.value.state) (seen store.old.texts before) (block_seen each.entry.value.body.now) each.entry.value.line (frames_of store.old state.old) (cut depth (slots_of store.old state.old))) r) }
 {
     keep_oldest(&mut state.regs, depth);
-    let turn = call_iterator(alloc, store, left, state, flags, values, body, line)?;
-    Ok(turn)
+    call_iterator(alloc, store, left, state, each, before)
 }
 
 /// What is done at an end that is come to with values, of which this is the first.
@@ -182,9 +173,8 @@ fn give_first<'m>(
             let range = (index, limit, step);
             end_count(alloc, store, left, state, depth, boxed, range, body)
         }
-        Ending::EachEnd(depth, flags, iterator, by, before, body, line) => {
-            let kept = (iterator, by, before);
-            end_each(alloc, store, left, state, depth, flags, kept, body, line)
+        Ending::EachEnd(depth, each, before) => {
+            end_each(alloc, store, left, state, depth, each, before)
         }
     }
 }
@@ -205,6 +195,5 @@ pub fn give_end<'m>(
     ensures { IfOk result (λ r. (world : CWorld) → Makes store.old state.old left.old store.new state.new left.new (goes world (ending_seen store.old.texts frame.entry) (given_seen store.old.texts values) (frames_of store.old state.old) (slots_of store.old state.old)) r) }
 {
     let first = values.first();
-    let turn = give_first(alloc, store, left, state, frame, first, values)?;
-    Ok(turn)
+    give_first(alloc, store, left, state, frame, first, values)
 }

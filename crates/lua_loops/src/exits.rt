@@ -12,7 +12,7 @@ ghost use Rattle.lua_state.specs.Of.{StateOf};
 ghost use Rattle.lua_state.specs.Seen.{frames_of, slots_of};
 
 use lua_code::Statement;
-use lua_stack::{Ending, Focus, Frame, Given, Stack, Values};
+use lua_stack::{Ending, Focus, Frame, Given, Stack, Values, give_up};
 use lua_state::{State, Turn};
 use lua_store::Store;
 use std::alloc::Global;
@@ -48,8 +48,10 @@ pub fn wait<'m>(
     ensures { (l : Allowance) → IfOk result (λ r. Makes store.now state.old l store.now state.new l
         (Now (focus_seen store.now focus.entry (frame_seen store.now.texts frame.entry ∷ frames_of store.now state.old)) (slots_of store.now state.old)) r) }
 {
-    state.frames.push(frame)?;
-    Ok(Turn::On(focus))
+    match state.frames.push(frame) {
+        Ok(_) => Ok(Turn::On(focus)),
+        Err(_) => Err(give_up(focus)),
+    }
 }
 
 /// A body runs, and this is done at its end.

@@ -18,7 +18,7 @@ use crate::bounds::{
 };
 use crate::exits::wait;
 use lua_code::Statement;
-use lua_stack::{Focus, Frame, Given, InLoop};
+use lua_stack::{EachLoop, Focus, Frame, Given, InLoop, boxed};
 use lua_state::{State, Turn};
 use lua_store::{Store, Value};
 use std::alloc::Global;
@@ -41,8 +41,15 @@ fn begin_each<'m>(
         (loops.each_from flags.now (plain.first (given_seen store.old.texts values)) (plain.second (given_seen store.old.texts values)) (plain.third (given_seen store.old.texts values)) (block_seen body.now) line (frames_of store.old state.old) (slots_of store.old state.old)) r) }
 {
     let three = first_three(values);
-    let turn = call_iterator(alloc, store, left, state, flags, three, body, line)?;
-    Ok(turn)
+    let begun = EachLoop {
+        flags,
+        iterator: three.0,
+        state: three.1,
+        body,
+        line,
+    };
+    let each = boxed(alloc, begun)?;
+    call_iterator(alloc, store, left, state, each, three.2)
 }
 
 /// What a frame in a loop does with values, of which this is the first.
@@ -82,10 +89,7 @@ fn give_first<'m>(
         InLoop::EachValues(flags, body, line) => {
             begin_each(alloc, store, left, state, flags, values, body, line)
         }
-        InLoop::EachNext(flags, iterator, by, body, line) => {
-            let kept = (iterator, by);
-            next_results(alloc, store, left, state, flags, kept, values, body, line)
-        }
+        InLoop::EachNext(each) => next_results(alloc, store, left, state, each, values),
     }
 }
 
@@ -104,6 +108,5 @@ pub fn give_loop<'m>(
     ensures { IfOk result (λ r. (world : CWorld) → Makes store.old state.old left.old store.new state.new left.new (goes world (in_loop_seen store.old.texts frame.entry) (given_seen store.old.texts values) (frames_of store.old state.old) (slots_of store.old state.old)) r) }
 {
     let first = values.first();
-    let turn = give_first(alloc, store, left, state, frame, first, values)?;
-    Ok(turn)
+    give_first(alloc, store, left, state, frame, first, values)
 }

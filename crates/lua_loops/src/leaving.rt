@@ -95,8 +95,7 @@ pub fn leave_body_for<'m>(
         (Exits (Now (focus_seen store.now focus.entry (frames_of store.now state.old)) (calls.left_function (slots_of store.now state.old)))) r) }
 {
     leave_function(&mut state.regs, &mut state.functions);
-    let turn = leave_for(store, left, state, focus)?;
-    Ok(turn)
+    leave_for(store, left, state, focus)
 }
 
 /// What follows a jump out of a turn of a loop: nothing after a `break`, and any other jump goes on.

@@ -58,8 +58,7 @@ fn pass_body<'m>(
         (Exits (calls.after_body (jump_seen store.now.texts jump) (frames_of store.now state.old) (calls.left_function (slots_of store.now state.old)))) r) }
 {
     let focus = after_body(jump);
-    let turn = leave_body_for(store, left, state, focus)?;
-    Ok(turn)
+    leave_body_for(store, left, state, focus)
 }
 
 /// A function of the library is jumped out of.
@@ -74,8 +73,7 @@ fn pass_library<'m>(
     ensures { IfOk result (λ r. Makes store.now state.old left.old store.now state.new left.new
         (Exits (jumps (jump_seen store.now.texts jump) (frames_of store.now state.old) (slots_of store.now state.old))) r) }
 {
-    let turn = leave_for(store, left, state, Focus::Jumps(jump))?;
-    Ok(turn)
+    leave_for(store, left, state, Focus::Jumps(jump))
 }
 
 /// What is done at an end that is jumped out of.
@@ -103,7 +101,8 @@ pub fn pass_end<'m>(
         Ending::CountEnd(depth, _, _, _, _, _) => {
             Ok(pass_turn(alloc, store, state, depth, jump))
         }
-        Ending::EachEnd(depth, _, _, _, _, _, _) => {
+        Ending::EachEnd(depth, each, _) => {
+            drop(each);
             Ok(pass_turn(alloc, store, state, depth, jump))
         }
     }

@@ -2,9 +2,8 @@
 ghost use Rattle.std.specs.Prelude.{◌≡◌, ℕ, List as Items, length, IfOk};
 ghost use Rattle.lua_code.specs.Seen.{expression_seen, block_seen};
 ghost use Rattle.lua_slots.specs.Loops as loops;
-ghost use Rattle.lua_store.specs.Parts.{IsOf};
 ghost use Rattle.lua_store.specs.Seen.{seen};
-ghost use Rattle.lua_stack.specs.Of.{GivenOf};
+ghost use Rattle.lua_stack.specs.Of.{EachOf, GivenOf};
 ghost use Rattle.lua_stack.specs.Seen.{given_seen, registers_seen};
 ghost use Rattle.lua_state.specs.Makes.{Counts};
 ghost use Rattle.lua_state.specs.Of.{StateOf};
@@ -13,7 +12,7 @@ ghost use Rattle.lua_state.specs.Seen.{frames_of, slots_of};
 use crate::exits::run_body;
 use lua_code::{Expression, Statement};
 use lua_stack::opening::{open, open_all};
-use lua_stack::{Ending, Given, Slot, Stack};
+use lua_stack::{EachLoop, Ending, Given, Slot, Stack};
 use lua_state::{State, Turn};
 use lua_store::{Store, Value};
 use std::alloc::Global;
@@ -96,25 +95,22 @@ pub fn each_turn<'m, L: Ledger>(
     store: &mut Store,
     left: &mut Left,
     state: &mut State<'m>,
-    flags: &'m [bool],
-    values: (Value, Value),
+    each: Box<EachLoop<'m>>,
     results: Given,
-    body: &'m List<Statement>,
-    line: u32,
     turns: &mut Steps<L>,
 ) -> Result<Turn<'m>, NoMemory>
     requires state { StateOf store.old state.old }
-    requires iterator { IsOf store.old values.0 }
-    requires by { IsOf store.old values.1 }
+    requires each { EachOf store.old each.value }
     requires results { GivenOf store.old results }
-    ensures { IfOk result (λ r. Counts store.old state.old left.old turns.old store.new state.new left.new turns.new (loops.each_turn flags.now (seen store.old.texts values.0) (seen store.old.texts values.1) (given_seen store.old.texts results) (block_seen body.now) line (frames_of store.old state.old) (slots_of store.old state.old)) r) }
+    ensures { IfOk result (λ r. Counts store.old state.old left.old turns.old store.new state.new left.new turns.new (loops.each_turn each.entry.value.flags.now (seen store.old.texts each.entry.value.iterator) (seen store.old.texts each.entry.value.state) (given_seen store.old.texts results) (block_seen each.entry.value.body.now) each.entry.value.line (frames_of store.old state.old) (slots_of store.old state.old)) r) }
 {
     turns.tick();
     let depth = depth_of(&state.regs);
     let first = results.first();
     let mut opened = results.into_values(alloc)?;
-    open_all(store, &mut state.regs, flags, &mut opened)?;
-    let ending = Ending::EachEnd(depth, flags, values.0, values.1, first, body, line);
+    open_all(store, &mut state.regs, each.flags, &mut opened)?;
+    let body = each.body;
+    let ending = Ending::EachEnd(depth, each, first);
     let focus = run_body(&mut state.frames, ending, body)?;
     Ok(Turn::On(focus))
 }

@@ -40,5 +40,5 @@ is_event fs _ = false
 abbrev pub IsEventAt : Focus → Event → Type 0
 IsEventAt (focus.Gives values) e = e ≡ event.Over (outcome.Goes values)
 IsEventAt (focus.Jumps jump) e = e ≡ event.Over (outcome.Jumps jump)
-IsEventAt (focus.Asks question) e = e ≡ event.Asks question
+IsEventAt (focus.Asks question) e = e ≡ event.Asks question.value
 IsEventAt _ e = ⊥

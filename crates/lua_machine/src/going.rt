@@ -10,7 +10,8 @@ use crate::moving::turn;
 use lua_stack::Focus;
 use lua_state::{Outcome, State, Turn};
 use lua_store::Store;
-use lua_strides::stride;
+use lua_strides::focus_for;
+use lua_turns::strides;
 use std::alloc::Global;
 use std::sync::ledger::Ledger;
 use wk_base::{Left, NoMemory, Steps};
@@ -43,7 +44,7 @@ fn event_at(next: Focus<'_>) -> Event
     match next {
         Focus::Gives(values) => Event::Over(Outcome::Goes(values)),
         Focus::Jumps(jump) => Event::Over(Outcome::Jumps(jump)),
-        Focus::Asks(question) => Event::Asks(question),
+        Focus::Asks(question) => Event::Asks(Box::into_inner(question)),
         Focus::Evaluates(_) => unreachable!(),
         Focus::Lists(_, _) => unreachable!(),
         Focus::Finds(_, _, _) => unreachable!(),
@@ -55,7 +56,7 @@ fn event_at(next: Focus<'_>) -> Event
     }
 }
 
-/// Several moves at once, where expressions are read in place and the steps of their nodes are left; else one move.
+/// Strides in a row, where expressions are read in place and the steps of their nodes are left; else one move.
 #[inline(always)]
 fn go_on<'m, L: Ledger>(
     alloc: Global,
@@ -71,9 +72,12 @@ fn go_on<'m, L: Ledger>(
     requires moving { is_event state.old.frames next ≡ false }
     ensures { IfOk result (λ r. GoesTo store.old state.old next.entry left.old turns.old store.new state.new left.new turns.new r) }
 {
-    let strode = stride(alloc, store, left, state, &next, turns)?;
+    let strode = strides(alloc, store, left, state, &next, turns)?;
     match strode {
-        Some(after) => Ok(Turn::On(after)),
+        Some(after) => {
+            let focus = focus_for(alloc, after)?;
+            Ok(Turn::On(focus))
+        }
         None => turn(alloc, store, left, state, next, turns),
     }
 }

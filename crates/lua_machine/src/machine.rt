@@ -5,9 +5,8 @@ ghost use Rattle.lua_heap.specs.Reach.{nowhere, Frame};
 ghost use Rattle.lua_meaning.specs.Questions.{Answer as PlainAnswer};
 ghost use Rattle.lua_meaning.specs.Start.{Work as PlainWork};
 ghost use Rattle.lua_slots.specs.Code.{CWorld};
-ghost use Rattle.lua_slots.specs.Points.{SFrame, Gives};
+ghost use Rattle.lua_slots.specs.Points.{SFrame, Gives, Works};
 ghost use Rattle.lua_points.specs.Clauses.{Starts, GoesOnWith};
-ghost use Rattle.lua_stack.specs.declared.focus.Focus.TheVariants as focus_kind;
 ghost use Rattle.lua_stack.specs.Seen.{focus_seen, work_seen};
 ghost use Rattle.lua_state.specs.Seen.{slots_of, frames_of};
 ghost use Rattle.lua_machine.specs.Moved.{point_of};
@@ -19,7 +18,7 @@ ghost use Rattle.lua_machine.specs.Events.{MachineOf, GoesFrom, TakesItsOwn, sto
 use crate::event::{Answer, Event};
 use crate::going::advance;
 use lua_environment::environment;
-use lua_stack::{Activations, Focus, Given, Jump, Stack, Values, Work};
+use lua_stack::{Activations, Focus, Given, Jump, Stack, Values, Work, boxed};
 use lua_state::{Codes, State, World};
 use lua_store::{Store, Value};
 use lua_titled::ByTitle;
@@ -162,13 +161,14 @@ impl<'m> Machine<'m> {
         requires work { WorkOf work }
         ensures of { IfOk result (MachineOf store.new) }
         ensures world { IfOk result (λ m. m.state.codes.world ≡ world.entry) }
-        ensures next { IfOk result (λ m. m.next ≡ focus_kind.Works work) }
+        ensures next { IfOk result (λ m. point_of store.new m.state m.next ≡ Works (work_seen work)) }
         ensures starts { IfOk result (λ m. (code : CWorld) → Starts code (work_seen work) store.old.heap (slots_of store.new m.state)) }
         ensures idle { IfOk result (λ m. (m.state.calls ≡ 0) × (m.height ≡ 0)) }
         ensures frame { OnOk result (Frame nowhere store.old.heap store.new.heap) }
         ensures later { OnOk result (IsLater store.old store.new) }
     {
         let state = fresh_state(alloc, store, seed, world)?;
+        let work = boxed(alloc, work)?;
         Ok(Machine {
             alloc,
             state,

@@ -139,6 +139,6 @@ pub fn turn<'m, L: Ledger>(
         Focus::Starts(thing) => begin_thing(alloc, store, left, state, thing, turns),
         Focus::Texts(values, before) => texts(alloc, store, left, state, values, before),
         Focus::Asks(question) => Ok(Turn::On(Focus::Asks(question))),
-        Focus::Works(work) => begin_work(alloc, store, left, state, work),
+        Focus::Works(work) => begin_work(alloc, store, left, state, Box::into_inner(work)),
     }
 }

@@ -117,12 +117,9 @@ pub fn begin<'m, L: Ledger>(
             let range = (index, limit, step);
             count_turn(alloc, store, left, state, boxed, range, body, turns)
         }
-        Thing::EachTurn(flags, iterator, by, results, body, line) => {
-            let values = (iterator, by);
-            each_turn(
-                alloc, store, left, state, flags, values, results, body, line, turns,
-            )
-        }
+        Thing::EachTurn(each, results) => each_turn(
+            alloc, store, left, state, each, results, turns,
+        ),
         Thing::Body(callee, arguments, line) => enter_body(
             alloc, store, left, state, callee, arguments, line, turns,
         ),

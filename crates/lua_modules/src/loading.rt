@@ -25,7 +25,7 @@ ghost use Rattle.lua_modules.specs.Answers.{one_answer_in, answer_in, data_move,
 use crate::raising::{lacks_data, wrong_answer};
 use crate::texts::{read_title, refuse};
 use lua_basic::texts::text_in;
-use lua_stack::{Asked, Focus, Frame, Given, Jump, Values};
+use lua_stack::{Asked, Focus, Frame, Given, Jump, Values, boxed};
 use lua_state::{Outcome, State, Turn};
 use lua_store::{Store, TableId, TextId, Value};
 use mw_frame::Ask;
@@ -55,6 +55,7 @@ fn wait_for(
 
 /// The tables of a data module are asked for, of which messages say the text of this name.
 fn ask_named<'m>(
+    alloc: Global,
     store: &Store,
     state: &mut State<'m>,
     text: TextId,
@@ -67,11 +68,13 @@ fn ask_named<'m>(
         (point.Now (point.Asking (ask.Data title) (point.Hears (asking.DataAsked (text_at store.now.texts text.at) title) line ∷ frames_of store.now state.old)) (slots_of store.now state.old)) r) }
 {
     wait_for(store, state, text, &title, line)?;
-    Ok(Turn::On(Focus::Asks(Ask::Data(title))))
+    let question = boxed(alloc, Ask::Data(title))?;
+    Ok(Turn::On(Focus::Asks(question)))
 }
 
 /// The tables of a data module are asked for, of which messages say this text.
 fn ask_data<'m>(
+    alloc: Global,
     store: &mut Store,
     state: &mut State<'m>,
     text: &[u8],
@@ -83,12 +86,13 @@ fn ask_data<'m>(
         (point.Now (point.Asking (ask.Data title) (point.Hears (asking.DataAsked text.now title) line ∷ frames_of store.old state.old)) (slots_of store.old state.old)) r) }
 {
     let id = store.text(text)?;
-    let turn = ask_named(store, state, id, title, line)?;
+    let turn = ask_named(alloc, store, state, id, title, line)?;
     Ok(turn)
 }
 
 /// The tables of the data module of a title: they are kept, or they are asked for.
 fn load_titled<'m>(
+    alloc: Global,
     store: &mut Store,
     state: &mut State<'m>,
     text: &[u8],
@@ -103,7 +107,7 @@ fn load_titled<'m>(
     match found {
         Some(value) => Ok(Turn::On(Focus::Gives(Given::One(value)))),
         None => {
-            let turn = ask_data(store, state, text, title, line)?;
+            let turn = ask_data(alloc, store, state, text, title, line)?;
             Ok(turn)
         }
     }
@@ -125,7 +129,7 @@ fn load_text<'m>(
     let read = read_title(alloc, text)?;
     match read {
         Some(title) => {
-            let turn = load_titled(store, state, text, title, line)?;
+            let turn = load_titled(alloc, store, state, text, title, line)?;
             Ok(turn)
         }
         None => {

@@ -1,6 +1,8 @@
 -- Forms of expressions and statements put together from their parts.
 use Rattle.std.proofs.Common.{◌≡◌, ◌∙◌, ℕ, zero, suc, Bool, true, false, refl, sym, ap, subst, List, [], ◌∷◌, ◌++◌, map, length, drop, get_or, ◌<◌, ◌+◌, slice_get, Option, Some, None, option_map, Result, IfOk}
 use Rattle.std.proofs.lemmas.List.{drop_more}
+use Rattle.std.specs.declared.alloc.Global.{Global}
+use Rattle.std.specs.declared.boxed.Box.{Box}
 use Rattle.lua_syntax.specs.Tree.{Exp, Fields, Arms, Block, Stat, MoreStat}
 use Rattle.lua_syntax.specs.declared.BinaryOp.{BinaryOp}
 use Rattle.lua_syntax.specs.declared.BinaryOp.TheVariants as op
@@ -151,8 +153,8 @@ if_part s t line arms None cs (Some c) next first last = plain_part s t _ _ next
 if_part s t line arms (Some b) cs None next first last = plain_part s t _ _ next (λ at see l tail left rest h. absurd (last at see l))
 
 -- the loop that counts, with and without a step
-pub count_part : (s t : State) (line : ℕ) (x : Bytes) (from to : ExprNode) (by : Option ExprNode) (b : BlockNode) (boxed : Bool) (c d : Expression) (e : Option Expression) (cs : List Statement) → Next s t
-    → ((at : Protos) (see : Sight) → Later t at see → IsExp at see (expr_view from) (expression_seen c)) → ((at : Protos) (see : Sight) → Later t at see → IsExp at see (expr_view to) (expression_seen d))
+pub count_part : (s t : State) (line : ℕ) (x : Bytes) (from to : ExprNode) (by : Option ExprNode) (b : BlockNode) (boxed : Bool) (c d : Box Expression Global) (e : Option (Box Expression Global)) (cs : List Statement) → Next s t
+    → ((at : Protos) (see : Sight) → Later t at see → IsExp at see (expr_view from) (expression_seen c.value)) → ((at : Protos) (see : Sight) → Later t at see → IsExp at see (expr_view to) (expression_seen d.value))
     → ((at : Protos) (see : Sight) → Later t at see → IsStep at see by e) → ((at : Protos) (see : Sight) → Later t at see → IsBlock at any_sight (with_local x boxed see) (block_view b) (block_seen cs))
     → IsPart s t (stat_kind_view (stats.Count x from to by b) line) (statement_seen (codes.Count boxed c d e cs line))
 count_part s t line x from to None b boxed c d None cs next first second third body =

@@ -1,6 +1,8 @@
 -- A TEXT THAT IS GONE OVER: what is made of its parts is code of these (`lua_slots`, `IsCode`), whatever comes later. Later on more names
 -- may be captured and more functions be there; nothing is said where a captured variable turned out to have no cell.
 use Rattle.std.specs.Prelude.{◌≡◌, ℕ, suc, Bool, true, List, [], ◌∷◌, ◌++◌, map, slice_get, Option, Some, None}
+use Rattle.std.specs.declared.alloc.Global.{Global}
+use Rattle.std.specs.declared.boxed.Box.{Box}
 use Rattle.lua_syntax.specs.Tree.{Exp, Exps, Fields, Arms, Block, Stat, MoreStat}
 use Rattle.lua_syntax.specs.declared.Expr.{Expr as ExprNode}
 use Rattle.lua_syntax.specs.declared.Block.{Block as BlockNode}
@@ -122,9 +124,9 @@ pub record NamesSoFar (s t : State) (whole left : List Bytes) (flags : List Bool
   pub locals : (more : List Bool) → with_names left more t.scopes.level.locals ≡ with_names whole (flags ++ more) s.scopes.level.locals
 
 -- the step of a loop and the block behind `else`, which may be left out
-abbrev pub IsStep : Protos → Sight → Option ExprNode → Option Expression → Type 0
+abbrev pub IsStep : Protos → Sight → Option ExprNode → Option (Box Expression Global) → Type 0
 IsStep at see None None = Unit {0}
-IsStep at see (Some e) (Some c) = IsExp at see (expr_view e) (expression_seen c)
+IsStep at see (Some e) (Some c) = IsExp at see (expr_view e) (expression_seen c.value)
 IsStep at see e c = ⊥
 
 abbrev pub IsOther : Protos → Sight → Option BlockNode → Option (List Statement) → Type 0

@@ -15,7 +15,7 @@ use crate::resolver::Resolver;
 use lua_code::{Entry, Expression, Place, Proto, Target};
 use lua_syntax::{Expr, ExprKind, Field, Function};
 use std::alloc::Global;
-use wk_base::{List, NoMemory};
+use wk_base::{Bytes, List, NoMemory};
 
 /// A function that is done: its number, and from where it captures.
 #[derive(Drop)]
@@ -34,6 +34,17 @@ fn boxed(alloc: Global, code: Expression) -> Result<Box<Expression>, NoMemory>
     }
 }
 
+/// A copy of a name, in a box.
+fn boxed_name(alloc: Global, name: &Bytes) -> Result<Box<Bytes>, NoMemory>
+    ensures { IfOk result (λ b. b.value ≡ name.now) }
+{
+    let name = name.copy()?;
+    match Box::new(alloc, name) {
+        Ok(name) => Ok(name),
+        Err(_) => Err(NoMemory),
+    }
+}
+
 impl<'t> Resolver<'t> {
     /// Code of an expression.
     #[cycle(parts)]
@@ -46,7 +57,7 @@ impl<'t> Resolver<'t> {
 
     /// Code of an expression, in a box.
     #[cycle(parts)]
-    fn operand(&mut self, e: &'t Expr) -> Result<Box<Expression>, NoMemory>
+    pub(crate) fn operand(&mut self, e: &'t Expr) -> Result<Box<Expression>, NoMemory>
         ensures next { OnOk result (Next (state_of self.old) (state_of self.new)) }
         ensures code { IfOk result (λ c. (at : PlainProtos) (see : Sight) → Later (state_of self.new) at see → IsExp at see (expr_view e.now) (expression_seen c.value)) }
     {
@@ -85,7 +96,8 @@ impl<'t> Resolver<'t> {
             ExprKind::Method(of, name, arguments) => {
                 let of = self.operand(of)?;
                 let arguments = self.expressions(arguments.as_slice())?;
-                Ok(Expression::Method(of, name.copy()?, arguments, line))
+                let name = boxed_name(self.alloc, name)?;
+                Ok(Expression::Method(of, name, arguments, line))
             }
             ExprKind::Table(fields) => {
                 let entries = self.entries(fields.as_slice())?;

@@ -127,8 +127,8 @@ impl<'t> Resolver<'t> {
                 Ok(Statement::Repeat(body, test))
             }
             StatKind::Count(name, from, to, by, body) => {
-                let from = self.expression(from)?;
-                let to = self.expression(to)?;
+                let from = self.operand(from)?;
+                let to = self.operand(to)?;
                 let by = self.step(by)?;
                 let Counted { boxed, body } = self.counted(name, body)?;
                 Ok(Statement::Count(boxed, from, to, by, body, line))
@@ -179,14 +179,14 @@ impl<'t> Resolver<'t> {
 
     /// Code of the step of a loop, if it has one.
     #[cycle(parts)]
-    fn step(&mut self, by: &'t Option<Expr>) -> Result<Option<Expression>, NoMemory>
+    fn step(&mut self, by: &'t Option<Expr>) -> Result<Option<Box<Expression>>, NoMemory>
         ensures next { OnOk result (Next (state_of self.old) (state_of self.new)) }
         ensures code { IfOk result (λ c. (at : PlainProtos) (see : Sight) → Later (state_of self.new) at see → IsStep at see by.now c) }
     {
         match by {
             None => Ok(None),
             Some(e) => {
-                let code = self.expression(e)?;
+                let code = self.operand(e)?;
                 Ok(Some(code))
             }
         }

@@ -52,13 +52,13 @@ impl<'t> Names<'t> {
 /// The numbers of the names of a text, in the order in which they stand there. A number may be wrong, or none be left.
 #[derive(Drop)]
 pub(crate) struct Numbers {
-    numbers: Vec<usize>,
+    numbers: Vec<u32>,
     next: usize,
 }
 
 impl Numbers {
     /// In front of a text whose names have these numbers.
-    pub(crate) fn new(numbers: Vec<usize>) -> Numbers {
+    pub(crate) fn new(numbers: Vec<u32>) -> Numbers {
         Numbers { numbers, next: 0 }
     }
 
@@ -67,7 +67,7 @@ impl Numbers {
         ensures { result.name.now ≡ name.now }
     {
         let number = match self.numbers.get(self.next) {
-            Some(number) => *number,
+            Some(number) => *number as usize,
             None => usize::MAX,
         };
         self.next = self.next.saturating_add(1);

@@ -11,7 +11,7 @@ use wk_base::{Bytes, NoMemory};
 #[derive(Drop)]
 pub struct Sketch<'t> {
     pub(crate) names: Names<'t>,
-    pub(crate) numbers: Vec<usize>,
+    pub(crate) numbers: Vec<u32>,
     pub(crate) captured: Vec<bool>,
 }
 
@@ -100,7 +100,7 @@ impl<'t> Sketching<'t> {
     /// The number of the next name of the text.
     fn number(&mut self, name: &'t Bytes) -> Result<usize, NoMemory> {
         let number = self.number_of(name)?;
-        push(&mut self.sketch.numbers, number)?;
+        push(&mut self.sketch.numbers, short(number))?;
         if number >= self.newest.len() {
             push(&mut self.newest, None)?;
         }
@@ -161,6 +161,15 @@ impl<'t> Sketching<'t> {
     /// It ends.
     pub(crate) fn leave(&mut self) {
         self.depth = self.depth.saturating_sub(1);
+    }
+}
+
+/// A number in half the room. One that is too large becomes a wrong number.
+fn short(number: usize) -> u32 {
+    if number < 4000000000 {
+        number as u32
+    } else {
+        u32::MAX
     }
 }
 

@@ -19,6 +19,7 @@ use Rattle.lua_stack.specs.declared.frame.Pending.{Pending}
 use Rattle.lua_stack.specs.declared.frame.Pending.TheVariants as pending
 use Rattle.lua_stack.specs.declared.frame.Asked.{Asked}
 use Rattle.lua_stack.specs.declared.frame.Asked.TheVariants as asked
+use Rattle.lua_stack.specs.declared.frame.EachLoop.{EachLoop}
 use Rattle.lua_stack.specs.declared.frame.Thing.{Thing}
 use Rattle.lua_stack.specs.declared.frame.Thing.TheVariants as thing
 use Rattle.lua_stack.specs.declared.frame.InExpression.{InExpression}
@@ -48,7 +49,7 @@ use Rattle.lua_stack.specs.declared.activation.Activation.{Activation}
 use Rattle.lua_stack.specs.declared.environment.Environment.{Environment}
 use Rattle.lua_stack.specs.Lists.{given_values}
 use Rattle.lua_stack.specs.Seen.{values_seen, joined_seen, slot_seen, registers_seen, captured_by, closed_cells, callee_seen, activation_seen, activations_seen, found_seen, setting_seen, pending_seen, asked_seen, in_expression_seen, in_constructor_seen, in_assignment_seen, in_statement_seen, in_loop_seen, ending_seen, in_run_seen, frame_seen, frames_seen, thing_seen, jump_seen, focus_seen}
-use Rattle.lua_stack.specs.Of.{ValuesOf, TextsOf, SlotOf, RegistersOf, MayBeClosureOf, CalleeOf, ActivationOf, ActivationsOf, FoundOf, SettingOf, PendingOf, AskedOf, InExpressionOf, InConstructorOf, InAssignmentOf, InStatementOf, InLoopOf, EndingOf, InRunOf, FrameOf, FramesOf, ThingOf, JumpOf, FocusOf, IsNameOf, EnvironmentOf}
+use Rattle.lua_stack.specs.Of.{ValuesOf, TextsOf, SlotOf, RegistersOf, MayBeClosureOf, CalleeOf, ActivationOf, ActivationsOf, FoundOf, SettingOf, PendingOf, AskedOf, InExpressionOf, InConstructorOf, InAssignmentOf, InStatementOf, EachOf, InLoopOf, EndingOf, InRunOf, FrameOf, FramesOf, ThingOf, JumpOf, FocusOf, IsNameOf, EnvironmentOf}
 
 module _ (s t : StoreView) (l : IsLater s t) where
   -- VALUES
@@ -185,22 +186,25 @@ module _ (s t : StoreView) (l : IsLater s t) where
   in_constructor_later (in_constructor.ItemsNext t n left line) h = (omega (arith, h.0, l.tables), values_later left h.1)
 
   in_assignment_later : (f : InAssignment) → InAssignmentOf s f → InAssignmentOf t f
-  in_assignment_later (in_assignment.TargetKey key line more before values) h = founds_later before h
-  in_assignment_later (in_assignment.TargetNow of line more before values) h = (value_later of h.0, founds_later before h.1)
+  in_assignment_later (in_assignment.TargetKey key line finding) h = founds_later finding.value.before h
+  in_assignment_later (in_assignment.TargetNow of line finding) h = (value_later of h.0, founds_later finding.value.before h.1)
   in_assignment_later (in_assignment.AssignNow targets) h = founds_later targets h
   in_assignment_later (in_assignment.SetsNext pairs) h = settings_later pairs h
 
   in_statement_later : (f : InStatement) → InStatementOf s f → InStatementOf t f
   in_statement_later f h = tt
 
+  each_later : (each : EachLoop) → EachOf s each → EachOf t each
+  each_later each h = (value_later each.iterator h.0, value_later each.state h.1)
+
   in_loop_later : (f : InLoop) → InLoopOf s f → InLoopOf t f
   in_loop_later (in_loop.CountTo boxed from by b line) h = value_later from h
   in_loop_later (in_loop.CountBy boxed from to b line) h = (value_later from h.0, value_later to h.1)
-  in_loop_later (in_loop.EachNext flags iterator state b line) h = (value_later iterator h.0, value_later state h.1)
+  in_loop_later (in_loop.EachNext each) h = each_later each.value h
   in_loop_later f h = tt
 
   ending_later : (f : Ending) → EndingOf s f → EndingOf t f
-  ending_later (ending.EachEnd depth flags iterator state before b line) h = (value_later iterator h.0, value_later state h.1, value_later before h.2)
+  ending_later (ending.EachEnd depth each before) h = (each_later each.value h.0, value_later before h.1)
   ending_later f h = tt
 
   in_run_later : (f : InRun) → InRunOf s f → InRunOf t f
@@ -234,8 +238,8 @@ module _ (s t : StoreView) (l : IsLater s t) where
   in_constructor_stays f h = refl
 
   in_assignment_stays : (f : InAssignment) → InAssignmentOf s f → in_assignment_seen t.texts f ≡ in_assignment_seen s.texts f
-  in_assignment_stays (in_assignment.TargetKey key line more before values) h = rw (founds_stay before h) refl
-  in_assignment_stays (in_assignment.TargetNow of line more before values) h = rw (value_stays of h.0, founds_stay before h.1) refl
+  in_assignment_stays (in_assignment.TargetKey key line finding) h = rw (founds_stay finding.value.before h) refl
+  in_assignment_stays (in_assignment.TargetNow of line finding) h = rw (value_stays of h.0, founds_stay finding.value.before h.1) refl
   in_assignment_stays (in_assignment.AssignNow targets) h = rw (founds_stay targets h) refl
   in_assignment_stays (in_assignment.SetsNext pairs) h = rw (settings_stay pairs h) refl
 
@@ -245,11 +249,11 @@ module _ (s t : StoreView) (l : IsLater s t) where
   in_loop_stays : (f : InLoop) → InLoopOf s f → in_loop_seen t.texts f ≡ in_loop_seen s.texts f
   in_loop_stays (in_loop.CountTo boxed from by b line) h = rw (value_stays from h) refl
   in_loop_stays (in_loop.CountBy boxed from to b line) h = rw (value_stays from h.0, value_stays to h.1) refl
-  in_loop_stays (in_loop.EachNext flags iterator state b line) h = rw (value_stays iterator h.0, value_stays state h.1) refl
+  in_loop_stays (in_loop.EachNext each) h = rw (value_stays each.value.iterator h.0, value_stays each.value.state h.1) refl
   in_loop_stays f h = refl
 
   ending_stays : (f : Ending) → EndingOf s f → ending_seen t.texts f ≡ ending_seen s.texts f
-  ending_stays (ending.EachEnd depth flags iterator state before b line) h = rw (value_stays iterator h.0, value_stays state h.1, value_stays before h.2) refl
+  ending_stays (ending.EachEnd depth each before) h = rw (value_stays each.value.iterator h.0.0, value_stays each.value.state h.0.1, value_stays before h.1) refl
   ending_stays f h = refl
 
   in_run_stays : (f : InRun) → InRunOf s f → in_run_seen t.texts f ≡ in_run_seen s.texts f
@@ -277,7 +281,7 @@ module _ (s t : StoreView) (l : IsLater s t) where
 
   -- WHAT IS NEXT
   thing_later : (x : Thing) → ThingOf s x → ThingOf t x
-  thing_later (thing.EachTurn flags iterator state results b line) h = (value_later iterator h.0, value_later state h.1, values_later (given_values results) h.2)
+  thing_later (thing.EachTurn each results) h = (each_later each.value h.0, values_later (given_values results) h.1)
   thing_later (thing.Body f args line) h = (callee_later f h.0, values_later args h.1)
   thing_later (thing.Library which args line) h = values_later args h
   thing_later (thing.IndexLink object f key line) h = (value_later object h.0, value_later f h.1, value_later key h.2)
@@ -286,7 +290,7 @@ module _ (s t : StoreView) (l : IsLater s t) where
   thing_later x h = tt
 
   thing_stays : (x : Thing) → ThingOf s x → thing_seen t x ≡ thing_seen s x
-  thing_stays (thing.EachTurn flags iterator state results b line) h = rw (value_stays iterator h.0, value_stays state h.1, values_stay (given_values results) h.2) refl
+  thing_stays (thing.EachTurn each results) h = rw (value_stays each.value.iterator h.0.0, value_stays each.value.state h.0.1, values_stay (given_values results) h.1) refl
   thing_stays (thing.Body f args line) h = rw (callee_stays f h.0, values_stay args h.1) refl
   thing_stays (thing.Library which args line) h = rw (values_stay args h) refl
   thing_stays (thing.IndexLink object f key line) h = rw (value_stays object h.0, value_stays f h.1, value_stays key h.2) refl

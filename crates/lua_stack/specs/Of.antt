@@ -18,6 +18,7 @@ use Rattle.lua_stack.specs.declared.frame.Pending.{Pending}
 use Rattle.lua_stack.specs.declared.frame.Pending.TheVariants as pending
 use Rattle.lua_stack.specs.declared.frame.Asked.{Asked}
 use Rattle.lua_stack.specs.declared.frame.Asked.TheVariants as asked
+use Rattle.lua_stack.specs.declared.frame.EachLoop.{EachLoop}
 use Rattle.lua_stack.specs.declared.frame.Thing.{Thing}
 use Rattle.lua_stack.specs.declared.frame.Thing.TheVariants as thing
 use Rattle.lua_stack.specs.declared.frame.InExpression.{InExpression}
@@ -129,22 +130,26 @@ InConstructorOf s (in_constructor.FieldsNext t n es line) = IsTableOf s t
 InConstructorOf s (in_constructor.ItemsNext t n left line) = IsTableOf s t × ValuesOf s left
 
 abbrev pub InAssignmentOf : StoreView → InAssignment → Type 0
-InAssignmentOf s (in_assignment.TargetKey key line more before values) = AllByRecursion (FoundOf s) before
-InAssignmentOf s (in_assignment.TargetNow of line more before values) = IsOf s of × AllByRecursion (FoundOf s) before
+InAssignmentOf s (in_assignment.TargetKey key line finding) = AllByRecursion (FoundOf s) finding.value.before
+InAssignmentOf s (in_assignment.TargetNow of line finding) = IsOf s of × AllByRecursion (FoundOf s) finding.value.before
 InAssignmentOf s (in_assignment.AssignNow targets) = AllByRecursion (FoundOf s) targets
 InAssignmentOf s (in_assignment.SetsNext pairs) = AllByRecursion (SettingOf s) pairs
 
 abbrev pub InStatementOf : StoreView → InStatement → Type 0
 InStatementOf s _ = Unit {0}
 
+-- a generic loop: its iterator and its state
+abbrev pub EachOf : StoreView → EachLoop → Type 0
+EachOf s each = IsOf s each.iterator × IsOf s each.state
+
 abbrev pub InLoopOf : StoreView → InLoop → Type 0
 InLoopOf s (in_loop.CountTo boxed from by b line) = IsOf s from
 InLoopOf s (in_loop.CountBy boxed from to b line) = IsOf s from × IsOf s to
-InLoopOf s (in_loop.EachNext flags iterator state b line) = IsOf s iterator × IsOf s state
+InLoopOf s (in_loop.EachNext each) = EachOf s each.value
 InLoopOf s _ = Unit {0}
 
 abbrev pub EndingOf : StoreView → Ending → Type 0
-EndingOf s (ending.EachEnd depth flags iterator state before b line) = IsOf s iterator × IsOf s state × IsOf s before
+EndingOf s (ending.EachEnd depth each before) = EachOf s each.value × IsOf s before
 EndingOf s _ = Unit {0}
 
 abbrev pub InRunOf : StoreView → InRun → Type 0
@@ -169,7 +174,7 @@ FramesOf s frames = AllByRecursion (FrameOf s) frames
 
 -- WHAT IS NEXT
 abbrev pub ThingOf : StoreView → Thing → Type 0
-ThingOf s (thing.EachTurn flags iterator state results b line) = IsOf s iterator × IsOf s state × GivenOf s results
+ThingOf s (thing.EachTurn each results) = EachOf s each.value × GivenOf s results
 ThingOf s (thing.Body f args line) = CalleeOf s f × ValuesOf s args
 ThingOf s (thing.Library which args line) = ValuesOf s args
 ThingOf s (thing.IndexLink object h key line) = IsOf s object × IsOf s h × IsOf s key
@@ -195,7 +200,7 @@ FocusOf s (focus.Finds targets before values) = AllByRecursion (FoundOf s) befor
 FocusOf s (focus.Sets pairs) = AllByRecursion (SettingOf s) pairs
 FocusOf s (focus.Starts t) = ThingOf s t
 FocusOf s (focus.Texts values before) = ValuesOf s values × TextsOf s before
-FocusOf s (focus.Works work) = WorkOf work
+FocusOf s (focus.Works work) = WorkOf work.value
 FocusOf s _ = Unit {0}
 
 -- THE ENVIRONMENT of a run, whose names of handlers are what the manual calls them (2.8)

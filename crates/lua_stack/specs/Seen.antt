@@ -160,8 +160,8 @@ in_constructor_seen texts (in_constructor.FieldsNext t n es line) = point.Fields
 in_constructor_seen texts (in_constructor.ItemsNext t n left line) = point.ItemsNext t.at n (values_seen texts left) line
 
 abbrev pub in_assignment_seen : Texts → InAssignment → SFrame
-in_assignment_seen texts (in_assignment.TargetKey key line more before values) = point.TargetKey (expression_seen key.now) line (map target_seen more.now) (map (found_seen texts) before) (expressions_seen values.now)
-in_assignment_seen texts (in_assignment.TargetNow of line more before values) = point.TargetNow (seen texts of) line (map target_seen more.now) (map (found_seen texts) before) (expressions_seen values.now)
+in_assignment_seen texts (in_assignment.TargetKey key line finding) = point.TargetKey (expression_seen key.now) line (map target_seen finding.value.rest.now) (map (found_seen texts) finding.value.before) (expressions_seen finding.value.values.now)
+in_assignment_seen texts (in_assignment.TargetNow of line finding) = point.TargetNow (seen texts of) line (map target_seen finding.value.rest.now) (map (found_seen texts) finding.value.before) (expressions_seen finding.value.values.now)
 in_assignment_seen texts (in_assignment.AssignNow targets) = point.AssignNow (map (found_seen texts) targets)
 in_assignment_seen texts (in_assignment.SetsNext pairs) = point.SetsNext (settings_seen texts pairs)
 
@@ -177,7 +177,7 @@ in_loop_seen texts (in_loop.CountFrom boxed to by b line) = point.CountFrom boxe
 in_loop_seen texts (in_loop.CountTo boxed from by b line) = point.CountTo boxed (seen texts from) (option_map (λ e. expression_seen e.now) by) (block_seen b.now) line
 in_loop_seen texts (in_loop.CountBy boxed from to b line) = point.CountBy boxed (seen texts from) (seen texts to) (block_seen b.now) line
 in_loop_seen texts (in_loop.EachValues flags b line) = point.EachValues flags.now (block_seen b.now) line
-in_loop_seen texts (in_loop.EachNext flags iterator state b line) = point.EachNext flags.now (seen texts iterator) (seen texts state) (block_seen b.now) line
+in_loop_seen texts (in_loop.EachNext each) = point.EachNext each.value.flags.now (seen texts each.value.iterator) (seen texts each.value.state) (block_seen each.value.body.now) each.value.line
 
 abbrev pub ending_seen : Texts → Ending → SFrame
 ending_seen texts (ending.BlockEnd depth) = point.BlockEnd depth
@@ -187,7 +187,7 @@ ending_seen texts (ending.WhileEnd depth test b) = point.WhileEnd depth (express
 ending_seen texts (ending.TestNext test depth b) = point.TestNext (expression_seen test.now) depth (block_seen b.now)
 ending_seen texts (ending.TestNow test depth b) = point.TestNow (expression_seen test.now) depth (block_seen b.now)
 ending_seen texts (ending.CountEnd depth boxed index limit step b) = point.CountEnd depth boxed index limit step (block_seen b.now)
-ending_seen texts (ending.EachEnd depth flags iterator state before b line) = point.EachEnd depth flags.now (seen texts iterator) (seen texts state) (seen texts before) (block_seen b.now) line
+ending_seen texts (ending.EachEnd depth each before) = point.EachEnd depth each.value.flags.now (seen texts each.value.iterator) (seen texts each.value.state) (seen texts before) (block_seen each.value.body.now) each.value.line
 
 abbrev pub in_run_seen : Texts → InRun → SFrame
 in_run_seen texts (in_run.ModuleFound name f) = point.ModuleFound name (seen texts f)
@@ -215,7 +215,7 @@ abbrev pub thing_seen : StoreView → Thing → SThing
 thing_seen s (thing.WhileTurn test b) = point.WhileTurnS (expression_seen test.now) (block_seen b.now)
 thing_seen s (thing.RepeatTurn b test) = point.RepeatTurnS (block_seen b.now) (expression_seen test.now)
 thing_seen s (thing.CountTurn boxed index limit step b) = point.CountTurnS boxed index limit step (block_seen b.now)
-thing_seen s (thing.EachTurn flags iterator state results b line) = point.EachTurnS flags.now (seen s.texts iterator) (seen s.texts state) (given_seen s.texts results) (block_seen b.now) line
+thing_seen s (thing.EachTurn each results) = point.EachTurnS each.value.flags.now (seen s.texts each.value.iterator) (seen s.texts each.value.state) (given_seen s.texts results) (block_seen each.value.body.now) each.value.line
 thing_seen s (thing.Body f args line) = point.BodyS (callee_seen s f) (values_seen s.texts args) line
 thing_seen s (thing.Library which args line) = point.LibraryS which (values_seen s.texts args) line
 thing_seen s (thing.IndexLink object h key line) = point.IndexLinkS (seen s.texts object) (seen s.texts h) (seen s.texts key) line
@@ -242,5 +242,5 @@ focus_seen s (focus.Sets pairs) fs = point.Sets (settings_seen s.texts pairs) fs
 focus_seen s (focus.Runs b) fs = point.Runs (block_seen b.now) fs
 focus_seen s (focus.Starts t) fs = point.Starts (thing_seen s t) fs
 focus_seen s (focus.Texts values before) fs = point.Texts (values_seen s.texts values) (joined_seen s.texts before) fs
-focus_seen s (focus.Asks q) fs = point.Asking q fs
-focus_seen s (focus.Works w) fs = point.Works (work_seen w)
+focus_seen s (focus.Asks q) fs = point.Asking q.value fs
+focus_seen s (focus.Works w) fs = point.Works (work_seen w.value)

@@ -41,7 +41,7 @@ pub enum Focus<'m> {
     /// The texts of these values, behind the texts before.
     Texts(Values, List<TextId>),
     /// It stands at a question.
-    Asks(Ask),
+    Asks(Box<Ask>),
     /// A run is to begin.
-    Works(Work),
+    Works(Box<Work>),
 }

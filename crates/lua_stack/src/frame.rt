@@ -17,6 +17,14 @@ pub enum Found<'m> {
     At(Value, Value, u32),
 }
 
+/// What waits for a target of an assignment: the targets behind it, those that are found, and the values.
+#[derive(Drop)]
+pub struct Finding<'m> {
+    pub rest: &'m [Target],
+    pub before: List<Found<'m>>,
+    pub values: &'m List<Expression>,
+}
+
 /// A target with the value that it is to get.
 #[derive(Clone, Copy)]
 pub struct Setting<'m> {
@@ -51,6 +59,16 @@ pub enum Asked {
     Data(TextId, Title),
 }
 
+/// A generic loop (manual 2.4.5): the flags of its variables, its iterator and its state, its body, and its line.
+#[derive(Clone, Copy)]
+pub struct EachLoop<'m> {
+    pub flags: &'m [bool],
+    pub iterator: Value,
+    pub state: Value,
+    pub body: &'m List<Statement>,
+    pub line: u32,
+}
+
 /// What begins at a step of its own. A line is given where a place of the newest function's text asks for it.
 #[derive(Drop)]
 pub enum Thing<'m> {
@@ -58,8 +76,8 @@ pub enum Thing<'m> {
     RepeatTurn(&'m List<Statement>, &'m Expression),
     /// The flag of the variable, the index, the limit, the step, and the body.
     CountTurn(bool, i64, i64, i64, &'m List<Statement>),
-    /// The flags of the variables, the iterator, the state, the iterator's results, the body, and the loop's line.
-    EachTurn(&'m [bool], Value, Value, Given, &'m List<Statement>, u32),
+    /// A turn of a generic loop with the iterator's results.
+    EachTurn(Box<EachLoop<'m>>, Given),
     /// A function of Lua with its arguments.
     Body(Callee, Values, Option<u32>),
     /// A function of the library with its arguments.
@@ -112,10 +130,10 @@ pub enum InConstructor<'m> {
 /// An assignment that waits for a part of a target, for its values, or for a target that is set (manual 2.4.3).
 #[derive(Drop)]
 pub enum InAssignment<'m> {
-    /// The table of a target is evaluated, and then its key; the targets behind it, those that are found, and the values.
-    TargetKey(&'m Expression, u32, &'m [Target], List<Found<'m>>, &'m List<Expression>),
+    /// The table of a target is evaluated, and then its key.
+    TargetKey(&'m Expression, u32, Box<Finding<'m>>),
     /// The key of a target in this table is evaluated.
-    TargetNow(Value, u32, &'m [Target], List<Found<'m>>, &'m List<Expression>),
+    TargetNow(Value, u32, Box<Finding<'m>>),
     /// The values for these targets are evaluated.
     AssignNow(List<Found<'m>>),
     /// A target is set, and these are still to be set.
@@ -140,7 +158,7 @@ pub enum InLoop<'m> {
     CountTo(bool, Value, Option<&'m Expression>, &'m List<Statement>, u32),
     CountBy(bool, Value, Value, &'m List<Statement>, u32),
     EachValues(&'m [bool], &'m List<Statement>, u32),
-    EachNext(&'m [bool], Value, Value, &'m List<Statement>, u32),
+    EachNext(Box<EachLoop<'m>>),
 }
 
 /// What is done at an end, whether it is come to or jumped out of: of a block, a function, or a turn of a loop.
@@ -155,7 +173,8 @@ pub enum Ending<'m> {
     TestNext(&'m Expression, usize, &'m List<Statement>),
     TestNow(&'m Expression, usize, &'m List<Statement>),
     CountEnd(usize, bool, i64, i64, i64, &'m List<Statement>),
-    EachEnd(usize, &'m [bool], Value, Value, Value, &'m List<Statement>, u32),
+    /// The value is the one before.
+    EachEnd(usize, Box<EachLoop<'m>>, Value),
 }
 
 /// A whole run that waits for its module, its function, or what that gives (Scribunto, "Invoking modules" and mw.loadData).

@@ -4,6 +4,7 @@
 //! - `values`: values in flight
 //! - `frame`: what waits, and what begins
 //! - `focus`: what the machine does next
+//! - `boxes`: a box for what is rare or large, so that what is handed from move to move stays small
 //! - `register`: local variables, in registers and in cells
 //! - `opening`: new local variables
 //! - `activation`: functions in progress, and the places of their errors
@@ -16,6 +17,7 @@
 #![tactic(auto)]
 
 pub mod activation;
+pub mod boxes;
 pub mod environment;
 pub mod focus;
 pub mod frame;
@@ -27,11 +29,12 @@ pub mod stack;
 pub mod values;
 
 pub use activation::{Activation, Activations, Callee, Level};
+pub use boxes::{boxed, give_up};
 pub use environment::Environment;
 pub use focus::{Focus, Jump, Work};
 pub use frame::{
-    Asked, Ending, Found, Frame, InAssignment, InConstructor, InExpression, InLoop, InRun,
-    InStatement, Pending, Setting, Thing,
+    Asked, EachLoop, Ending, Finding, Found, Frame, InAssignment, InConstructor, InExpression,
+    InLoop, InRun, InStatement, Pending, Setting, Thing,
 };
 pub use raising::Raising;
 pub use register::Slot;

@@ -1,3 +1,4 @@
 pub mod Reads
 pub mod Strides
 pub mod Conditions
+pub mod Next

@@ -18,6 +18,8 @@ use Rattle.lua_state.specs.declared.state.State.{State}
 use Rattle.lua_state.specs.Seen.{slots_of, frames_of, funds_of}
 use Rattle.lua_state.specs.Of.{StateOf}
 use Rattle.lua_state.specs.Worlds.{world_seen}
+use Rattle.lua_strides.specs.declared.next.Next.{Next}
+use Rattle.lua_strides.specs.Next.{focus_of}
 
 -- so many nodes are paid and counted; or fewer steps are left, and nothing changes
 abbrev pub PaysNodes : ℕ → Left → ℕ → Left → ℕ → Bool → Type 0
@@ -43,8 +45,8 @@ pub record Idles (s : StoreView) (m : State) (l : Left) (k : ℕ) (t : StoreView
   pub counter : k' ≡ k
 
 -- the one or the other
-abbrev pub MayStride : StoreView → State → Point → Left → ℕ → StoreView → State → Left → ℕ → Option Focus → Type 0
-MayStride s m p l k t m' l' k' (Some y) = Strides s m p l k t m' l' k' y
+abbrev pub MayStride : StoreView → State → Point → Left → ℕ → StoreView → State → Left → ℕ → Option Next → Type 0
+MayStride s m p l k t m' l' k' (Some y) = Strides s m p l k t m' l' k' (focus_of y)
 MayStride s m p l k t m' l' k' None = Idles s m l k t m' l' k'
 
 -- moves that lead from a point to another one, at so many nodes

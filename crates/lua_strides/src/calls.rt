@@ -9,9 +9,10 @@ ghost use Rattle.lua_strides.specs.Reads.{ReadsCall};
 ghost use Rattle.lua_strides.specs.Strides.{MayStride};
 
 use crate::ending::{pay_nodes, wait_for, wait_within};
+use crate::next::Next;
 use crate::reading::{LEVELS, ListRead, ValueRead, read, read_all};
 use lua_code::{Expression, Statement};
-use lua_stack::{Focus, Frame, Given, InExpression, InStatement};
+use lua_stack::{Frame, InExpression, InStatement};
 use lua_state::State;
 use lua_store::Store;
 use std::alloc::Global;
@@ -52,7 +53,7 @@ pub fn call<'m, L: Ledger>(
     arguments: &'m [Expression],
     line: u32,
     turns: &mut Steps<L>,
-) -> Result<Option<Focus<'m>>, NoMemory>
+) -> Result<Option<Next<'m>>, NoMemory>
     requires { StateOf store.old state.old }
     ensures { IfOk result (MayStride store.old state.old (Evals (CallC (expression_seen called.now) (expressions_seen arguments.now) line) (frames_of store.old state.old)) left.old turns.old store.new state.new left.new turns.new) }
 {
@@ -64,8 +65,8 @@ pub fn call<'m, L: Ledger>(
                 return Ok(None);
             }
             let frame = Frame::Expression(InExpression::CallNow(called.value, line));
-            let focus = Focus::Gives(Given::Many(arguments.values));
-            wait_for(state, frame, focus)
+            let next = Next::GivesAll(arguments.values);
+            wait_for(state, frame, next)
         }
         None => Ok(None),
     }
@@ -82,7 +83,7 @@ pub fn call_before<'m, L: Ledger>(
     line: u32,
     rest: &'m [Statement],
     turns: &mut Steps<L>,
-) -> Result<Option<Focus<'m>>, NoMemory>
+) -> Result<Option<Next<'m>>, NoMemory>
     requires { StateOf store.old state.old }
     ensures { IfOk result (MayStride store.old state.old (Runs (ThenC (CallStatC (CallC (expression_seen called.now) (expressions_seen arguments.now) line)) (block_seen rest.now)) (frames_of store.old state.old)) left.old turns.old store.new state.new left.new turns.new) }
 {
@@ -95,8 +96,8 @@ pub fn call_before<'m, L: Ledger>(
             }
             let outer = Frame::Statement(InStatement::StatsNext(rest));
             let inner = Frame::Expression(InExpression::CallNow(called.value, line));
-            let focus = Focus::Gives(Given::Many(arguments.values));
-            wait_within(state, outer, inner, focus)
+            let next = Next::GivesAll(arguments.values);
+            wait_within(state, outer, inner, next)
         }
         None => Ok(None),
     }

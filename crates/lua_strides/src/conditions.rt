@@ -9,11 +9,12 @@ ghost use Rattle.lua_strides.specs.Conditions.{if_seen, IsChosen};
 ghost use Rattle.lua_strides.specs.Strides.{MayStride};
 
 use crate::ending::{pay_nodes, wait_within};
+use crate::next::Next;
 use crate::reading::{LEVELS, read};
 use crate::running::depth_of;
 use lua_code::{Branch, Expression, Statement};
 use lua_stack::values::is_true;
-use lua_stack::{Ending, Focus, Frame, InStatement};
+use lua_stack::{Ending, Frame, InStatement};
 use lua_state::State;
 use lua_store::Store;
 use std::sync::ledger::Ledger;
@@ -81,7 +82,7 @@ fn test_first<'m, L: Ledger>(
     other: &'m Option<List<Statement>>,
     rest: &'m [Statement],
     turns: &mut Steps<L>,
-) -> Result<Option<Focus<'m>>, NoMemory>
+) -> Result<Option<Next<'m>>, NoMemory>
     requires { StateOf store.old state.old }
     ensures { IfOk result (MayStride store.old state.old (Runs (ThenC (if_seen (ArmC (expression_seen test.now) (block_seen body.now) (branches_seen more.now)) (option_map block_seen other.now)) (block_seen rest.now)) (frames_of store.old state.old)) left.old turns.old store.new state.new left.new turns.new) }
 {
@@ -96,14 +97,13 @@ fn test_first<'m, L: Ledger>(
                 let block = block.as_slice();
                 let outer = Frame::Statement(InStatement::StatsNext(rest));
                 let inner = Frame::End(Ending::BlockEnd(depth));
-                let focus = Focus::Runs(block);
-                wait_within(state, outer, inner, focus)
+                wait_within(state, outer, inner, Next::Runs(block))
             }
             Choice::Rest => {
                 if !pay_nodes(left, turns, 1 + found.nodes) {
                     return Ok(None);
                 }
-                Ok(Some(Focus::Runs(rest)))
+                Ok(Some(Next::Runs(rest)))
             }
             Choice::Later => Ok(None),
         },
@@ -121,7 +121,7 @@ pub fn condition<'m, L: Ledger>(
     other: &'m Option<List<Statement>>,
     rest: &'m [Statement],
     turns: &mut Steps<L>,
-) -> Result<Option<Focus<'m>>, NoMemory>
+) -> Result<Option<Next<'m>>, NoMemory>
     requires { StateOf store.old state.old }
     ensures { IfOk result (MayStride store.old state.old (Runs (ThenC (if_seen (branches_seen branches.now) (option_map block_seen other.now)) (block_seen rest.now)) (frames_of store.old state.old)) left.old turns.old store.new state.new left.new turns.new) }
 {

@@ -3,10 +3,12 @@
 ghost use Rattle.std.specs.Prelude.{◌≡◌, ◌+◌, ◌∷◌, ℕ, true, IfOk};
 ghost use Rattle.lua_slots.specs.Points.{Point};
 ghost use Rattle.lua_store.specs.Seen.{StoreView};
+ghost use Rattle.lua_strides.specs.Next.{focus_of};
 ghost use Rattle.lua_strides.specs.Strides.{PaysNodes, MayStride, Ready};
 ghost use Rattle.wk_base.specs.declared.left.Left.{Left as Allowance};
 
-use lua_stack::{Focus, Frame};
+use crate::next::Next;
+use lua_stack::Frame;
 use lua_state::State;
 use std::sync::ledger::Ledger;
 use wk_base::{Left, NoMemory, Steps};
@@ -36,12 +38,12 @@ pub fn pay_nodes<L: Ledger>(left: &mut Left, turns: &mut Steps<L>, nodes: u64) -
 pub fn wait_for<'m>(
     state: &mut State<'m>,
     frame: Frame<'m>,
-    focus: Focus<'m>,
-) -> Result<Option<Focus<'m>>, NoMemory>
-    ensures { (s t : StoreView) (p : Point) (n : ℕ) (l l' : Allowance) (k k' : ℕ) → Ready s state.old p n t focus.entry (frame.entry ∷ state.old.frames) → PaysNodes n l k l' k' true → IfOk result (MayStride s state.old p l k t state.new l' k') }
+    next: Next<'m>,
+) -> Result<Option<Next<'m>>, NoMemory>
+    ensures { (s t : StoreView) (p : Point) (n : ℕ) (l l' : Allowance) (k k' : ℕ) → Ready s state.old p n t (focus_of next.entry) (frame.entry ∷ state.old.frames) → PaysNodes n l k l' k' true → IfOk result (MayStride s state.old p l k t state.new l' k') }
 {
     state.frames.push(frame)?;
-    Ok(Some(focus))
+    Ok(Some(next))
 }
 
 /// The same, and a frame waits for it, for which another one waits.
@@ -49,11 +51,11 @@ pub fn wait_within<'m>(
     state: &mut State<'m>,
     outer: Frame<'m>,
     inner: Frame<'m>,
-    focus: Focus<'m>,
-) -> Result<Option<Focus<'m>>, NoMemory>
-    ensures { (s t : StoreView) (p : Point) (n : ℕ) (l l' : Allowance) (k k' : ℕ) → Ready s state.old p n t focus.entry (inner.entry ∷ outer.entry ∷ state.old.frames) → PaysNodes n l k l' k' true → IfOk result (MayStride s state.old p l k t state.new l' k') }
+    next: Next<'m>,
+) -> Result<Option<Next<'m>>, NoMemory>
+    ensures { (s t : StoreView) (p : Point) (n : ℕ) (l l' : Allowance) (k k' : ℕ) → Ready s state.old p n t (focus_of next.entry) (inner.entry ∷ outer.entry ∷ state.old.frames) → PaysNodes n l k l' k' true → IfOk result (MayStride s state.old p l k t state.new l' k') }
 {
     state.frames.push(outer)?;
     state.frames.push(inner)?;
-    Ok(Some(focus))
+    Ok(Some(next))
 }

@@ -3,6 +3,7 @@
 //! - `running`: what the running function has: its variables
 //! - `operators`: what operators and indices give in place
 //! - `reading`: the value of an expression that is read in place, and how many nodes it has
+//! - `next`: what is next behind them
 //! - `ending`: how several moves at once end: their nodes are paid together
 //! - `calls`: calls whose function and arguments are read in place
 //! - `conditions`: an `if` whose first test is read in place
@@ -16,10 +17,12 @@
 pub mod calls;
 pub mod conditions;
 pub mod ending;
+pub mod next;
 pub mod operators;
 pub mod reading;
 pub mod running;
 pub mod statements;
 pub mod striding;
 
+pub use next::{Next, focus_for};
 pub use striding::stride;

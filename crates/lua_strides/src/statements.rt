@@ -9,12 +9,13 @@ ghost use Rattle.lua_strides.specs.Reads.{ReadsEntry, ReadsTwo};
 ghost use Rattle.lua_strides.specs.Strides.{MayStride};
 
 use crate::ending::{pay_nodes, wait_for};
+use crate::next::Next;
 use crate::reading::{EntryRead, LEVELS, ValueRead, read};
 use crate::running::running_closure;
 use lua_code::{Expression, Place, Statement};
 use lua_stack::opening::open;
 use lua_stack::register::write;
-use lua_stack::{Focus, Found, Frame, Given, InStatement, Jump, Setting, Stack};
+use lua_stack::{Found, Frame, InStatement, Setting};
 use lua_state::State;
 use lua_store::Store;
 use std::alloc::Global;
@@ -30,7 +31,7 @@ pub fn assign<'m, L: Ledger>(
     value: &'m Expression,
     rest: &'m [Statement],
     turns: &mut Steps<L>,
-) -> Result<Option<Focus<'m>>, NoMemory>
+) -> Result<Option<Next<'m>>, NoMemory>
     requires { StateOf store.old state.old }
     ensures { IfOk result (MayStride store.old state.old (Runs (ThenC (AssignC (PlaceC (place_seen place) ∷ []) (MoreC (expression_seen value.now) NoC)) (block_seen rest.now)) (frames_of store.old state.old)) left.old turns.old store.new state.new left.new turns.new) }
 {
@@ -42,7 +43,7 @@ pub fn assign<'m, L: Ledger>(
             }
             let closure = running_closure(&state.functions);
             write(store, &mut state.regs, closure, place, found.value);
-            Ok(Some(Focus::Runs(rest)))
+            Ok(Some(Next::Runs(rest)))
         }
         None => Ok(None),
     }
@@ -57,7 +58,7 @@ pub fn declare<'m, L: Ledger>(
     value: &'m Expression,
     rest: &'m [Statement],
     turns: &mut Steps<L>,
-) -> Result<Option<Focus<'m>>, NoMemory>
+) -> Result<Option<Next<'m>>, NoMemory>
     requires { StateOf store.old state.old }
     ensures { IfOk result (MayStride store.old state.old (Runs (DeclareC (boxed ∷ []) (MoreC (expression_seen value.now) NoC) (block_seen rest.now)) (frames_of store.old state.old)) left.old turns.old store.new state.new left.new turns.new) }
 {
@@ -68,7 +69,7 @@ pub fn declare<'m, L: Ledger>(
                 return Ok(None);
             }
             open(store, &mut state.regs, boxed, found.value)?;
-            Ok(Some(Focus::Runs(rest)))
+            Ok(Some(Next::Runs(rest)))
         }
         None => Ok(None),
     }
@@ -82,7 +83,7 @@ pub fn return_value<'m, L: Ledger>(
     value: &'m Expression,
     rest: &'m [Statement],
     turns: &mut Steps<L>,
-) -> Result<Option<Focus<'m>>, NoMemory>
+) -> Result<Option<Next<'m>>, NoMemory>
     requires { StateOf store.old state.now }
     ensures { IfOk result (MayStride store.old state.now (Runs (ThenC (ReturnC (MoreC (expression_seen value.now) NoC)) (block_seen rest.now)) (frames_of store.old state.now)) left.old turns.old store.new state.now left.new turns.new) }
 {
@@ -92,8 +93,7 @@ pub fn return_value<'m, L: Ledger>(
             if !pay_nodes(left, turns, 1 + found.nodes) {
                 return Ok(None);
             }
-            let jump = Jump::Returned(Given::One(found.value));
-            Ok(Some(Focus::Jumps(jump)))
+            Ok(Some(Next::Returns(found.value)))
         }
         None => Ok(None),
     }
@@ -156,7 +156,7 @@ pub fn assign_entry<'m, L: Ledger>(
     value: &'m Expression,
     rest: &'m [Statement],
     turns: &mut Steps<L>,
-) -> Result<Option<Focus<'m>>, NoMemory>
+) -> Result<Option<Next<'m>>, NoMemory>
     requires { StateOf store.old state.old }
     ensures { IfOk result (MayStride store.old state.old (Runs (ThenC (AssignC (EntryC (expression_seen target.entry.0.now) (expression_seen target.entry.1.now) target.entry.2 ∷ []) (MoreC (expression_seen value.now) NoC)) (block_seen rest.now)) (frames_of store.old state.old)) left.old turns.old store.new state.new left.new turns.new) }
 {
@@ -168,13 +168,12 @@ pub fn assign_entry<'m, L: Ledger>(
             if !pay_nodes(left, turns, nodes) {
                 return Ok(None);
             }
-            let mut sets = Stack::new(alloc);
-            sets.push(Setting {
+            let setting = Setting {
                 target: Found::At(found.of.value, found.key.value, line),
                 value: found.value.value,
-            })?;
+            };
             let frame = Frame::Statement(InStatement::StatsNext(rest));
-            wait_for(state, frame, Focus::Sets(sets))
+            wait_for(state, frame, Next::Sets(setting))
         }
         None => Ok(None),
     }

@@ -11,10 +11,11 @@ ghost use Rattle.lua_strides.specs.Strides.{MayStride};
 use crate::calls::{call, call_before};
 use crate::conditions::condition;
 use crate::ending::pay_nodes;
+use crate::next::Next;
 use crate::reading::{LEVELS, read};
 use crate::statements::{assign, assign_entry, declare, return_value};
 use lua_code::{Expression, Statement, Target};
-use lua_stack::{Focus, Given};
+use lua_stack::Focus;
 use lua_state::State;
 use lua_store::Store;
 use std::alloc::Global;
@@ -28,7 +29,7 @@ fn give_value<'m, L: Ledger>(
     state: &State<'m>,
     e: &'m Expression,
     turns: &mut Steps<L>,
-) -> Result<Option<Focus<'m>>, NoMemory>
+) -> Result<Option<Next<'m>>, NoMemory>
     requires { StateOf store.old state.now }
     ensures { IfOk result (MayStride store.old state.now (Evals (expression_seen e.now) (frames_of store.old state.now)) left.old turns.old store.new state.now left.new turns.new) }
 {
@@ -38,7 +39,7 @@ fn give_value<'m, L: Ledger>(
             if !pay_nodes(left, turns, found.nodes) {
                 return Ok(None);
             }
-            Ok(Some(Focus::Gives(Given::One(found.value))))
+            Ok(Some(Next::Gives(found.value)))
         }
         None => Ok(None),
     }
@@ -46,14 +47,14 @@ fn give_value<'m, L: Ledger>(
 
 /// An expression: a call begins, or a value is read.
 #[tactic(auto, using(crate::proofs::Codes::codes))]
-fn expression<'m, L: Ledger>(
+pub fn expression<'m, L: Ledger>(
     alloc: Global,
     store: &mut Store,
     left: &mut Left,
     state: &mut State<'m>,
     e: &'m Expression,
     turns: &mut Steps<L>,
-) -> Result<Option<Focus<'m>>, NoMemory>
+) -> Result<Option<Next<'m>>, NoMemory>
     requires { StateOf store.old state.old }
     ensures { IfOk result (MayStride store.old state.old (Evals (expression_seen e.now) (frames_of store.old state.old)) left.old turns.old store.new state.new left.new turns.new) }
 {
@@ -67,7 +68,7 @@ fn expression<'m, L: Ledger>(
 }
 
 /// The one item of a list that has just one.
-fn only<'m, T>(items: &'m [T]) -> Option<&'m T>
+pub fn only<'m, T>(items: &'m [T]) -> Option<&'m T>
     ensures { IfSome result (λ x. items.now ≡ x.now ∷ []) }
 {
     match items {
@@ -86,7 +87,7 @@ fn assign_to<'m, L: Ledger>(
     value: &'m Expression,
     rest: &'m [Statement],
     turns: &mut Steps<L>,
-) -> Result<Option<Focus<'m>>, NoMemory>
+) -> Result<Option<Next<'m>>, NoMemory>
     requires { StateOf store.old state.old }
     ensures { IfOk result (MayStride store.old state.old (Runs (ThenC (AssignC (target_seen target.now ∷ []) (MoreC (expression_seen value.now) NoC)) (block_seen rest.now)) (frames_of store.old state.old)) left.old turns.old store.new state.new left.new turns.new) }
 {
@@ -110,7 +111,7 @@ fn assign_only<'m, L: Ledger>(
     values: &'m [Expression],
     rest: &'m [Statement],
     turns: &mut Steps<L>,
-) -> Result<Option<Focus<'m>>, NoMemory>
+) -> Result<Option<Next<'m>>, NoMemory>
     requires { StateOf store.old state.old }
     ensures { IfOk result (MayStride store.old state.old (Runs (ThenC (AssignC (map target_seen targets.now) (expressions_seen values.now)) (block_seen rest.now)) (frames_of store.old state.old)) left.old turns.old store.new state.new left.new turns.new) }
 {
@@ -132,7 +133,7 @@ fn declare_only<'m, L: Ledger>(
     values: &'m [Expression],
     rest: &'m [Statement],
     turns: &mut Steps<L>,
-) -> Result<Option<Focus<'m>>, NoMemory>
+) -> Result<Option<Next<'m>>, NoMemory>
     requires { StateOf store.old state.old }
     ensures { IfOk result (MayStride store.old state.old (Runs (DeclareC flags.now (expressions_seen values.now) (block_seen rest.now)) (frames_of store.old state.old)) left.old turns.old store.new state.new left.new turns.new) }
 {
@@ -153,7 +154,7 @@ fn return_only<'m, L: Ledger>(
     values: &'m [Expression],
     rest: &'m [Statement],
     turns: &mut Steps<L>,
-) -> Result<Option<Focus<'m>>, NoMemory>
+) -> Result<Option<Next<'m>>, NoMemory>
     requires { StateOf store.old state.now }
     ensures { IfOk result (MayStride store.old state.now (Runs (ThenC (ReturnC (expressions_seen values.now)) (block_seen rest.now)) (frames_of store.old state.now)) left.old turns.old store.new state.now left.new turns.new) }
 {
@@ -173,7 +174,7 @@ fn call_only<'m, L: Ledger>(
     e: &'m Expression,
     rest: &'m [Statement],
     turns: &mut Steps<L>,
-) -> Result<Option<Focus<'m>>, NoMemory>
+) -> Result<Option<Next<'m>>, NoMemory>
     requires { StateOf store.old state.old }
     ensures { IfOk result (MayStride store.old state.old (Runs (ThenC (CallStatC (expression_seen e.now)) (block_seen rest.now)) (frames_of store.old state.old)) left.old turns.old store.new state.new left.new turns.new) }
 {
@@ -195,7 +196,7 @@ fn call_only<'m, L: Ledger>(
 
 /// A statement, before others.
 #[tactic(auto, using(crate::proofs::Codes::codes))]
-fn statement<'m, L: Ledger>(
+pub fn statement<'m, L: Ledger>(
     alloc: Global,
     store: &mut Store,
     left: &mut Left,
@@ -203,7 +204,7 @@ fn statement<'m, L: Ledger>(
     first: &'m Statement,
     rest: &'m [Statement],
     turns: &mut Steps<L>,
-) -> Result<Option<Focus<'m>>, NoMemory>
+) -> Result<Option<Next<'m>>, NoMemory>
     requires { StateOf store.old state.old }
     ensures { IfOk result (MayStride store.old state.old (Runs (statement_seen first.now (block_seen rest.now)) (frames_of store.old state.old)) left.old turns.old store.new state.new left.new turns.new) }
 {
@@ -229,12 +230,13 @@ fn statement<'m, L: Ledger>(
 
 /// The first of some statements, and those behind it.
 #[derive(Clone, Copy)]
-struct Front<'m> {
-    first: &'m Statement,
-    rest: &'m [Statement],
+pub struct Front<'m> {
+    pub first: &'m Statement,
+    pub rest: &'m [Statement],
 }
 
-fn front_of<'m>(statements: &'m [Statement]) -> Option<Front<'m>>
+/// They are taken apart, if there are any.
+pub fn front_of<'m>(statements: &'m [Statement]) -> Option<Front<'m>>
     ensures { MatchOption result (statements.now ≡ []) (λ f. statements.now ≡ f.first.now ∷ f.rest.now) }
 {
     match statements {
@@ -251,7 +253,7 @@ fn block<'m, L: Ledger>(
     state: &mut State<'m>,
     statements: &'m [Statement],
     turns: &mut Steps<L>,
-) -> Result<Option<Focus<'m>>, NoMemory>
+) -> Result<Option<Next<'m>>, NoMemory>
     requires { StateOf store.old state.old }
     ensures { IfOk result (MayStride store.old state.old (Runs (block_seen statements.now) (frames_of store.old state.old)) left.old turns.old store.new state.new left.new turns.new) }
 {
@@ -270,7 +272,7 @@ pub fn stride<'m, L: Ledger>(
     state: &mut State<'m>,
     next: &Focus<'m>,
     turns: &mut Steps<L>,
-) -> Result<Option<Focus<'m>>, NoMemory>
+) -> Result<Option<Next<'m>>, NoMemory>
     requires { StateOf store.old state.old }
     ensures { IfOk result (MayStride store.old state.old (focus_seen store.old next.now (frames_of store.old state.old)) left.old turns.old store.new state.new left.new turns.new) }
 {

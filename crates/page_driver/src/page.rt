@@ -1,5 +1,5 @@
 //! The expansion of a page.
-ghost use Rattle.std.specs.Prelude.{◌≡◌, ◌+◌, ◌≤◌, [], IsSome, IfSome, IfOk, OnOk};
+ghost use Rattle.std.specs.Prelude.{◌≡◌, ◌+◌, ◌≤◌, IsSome, IfSome, IfOk, OnOk};
 ghost use Rattle.wk_base.specs.Allowances.{IsCountable};
 ghost use Rattle.wiki_expand.specs.Pages.{find_page, direct_in};
 ghost use Rattle.lua_meaning.specs.World.{Modules as PlainModules};
@@ -10,21 +10,18 @@ ghost use Rattle.page_meaning.specs.Tasks.{Expanding, given_text};
 ghost use Rattle.page_driver.specs.declared.wiki.Page.{Page as PageValue};
 ghost use Rattle.page_tasks.specs.Beginning.{Begins};
 ghost use Rattle.page_ground.specs.Ground.{AreModulesIn, AreModulesOf, ground_of, page_of, wiki_in, wiki_of};
-ghost use Rattle.page_ground.specs.Numbered.{none_started};
 ghost use Rattle.page_tasks.specs.Seen.{reply_seen};
-ghost use Rattle.page_replies.specs.Driven.{Fits};
 ghost use Rattle.page_driver.specs.Page.{full_of, IsHeldPage};
 
+use crate::begin::{empty_tower, full_left};
 use crate::driving::drive;
 use crate::wiki::{Page, Wiki};
 use bumpalo::Bump;
-use lua_stack::Stack;
 use lua_state::World;
 use lua_store::Store;
 use page_ground::around::Around;
-use page_ground::keep::Keep;
+use page_ground::ending::outcome_text;
 use page_ground::numbers::Numbers;
-use page_replies::tower::Tower;
 use page_tasks::beginning::begin_page;
 use page_tasks::task::{Reply, Task};
 use std::alloc::Global;
@@ -37,7 +34,10 @@ fn text_in(alloc: Global, reply: Reply) -> Result<Bytes, NoMemory>
     ensures { IfOk result (λ text. text ≡ given_text (reply_seen reply)) }
 {
     match reply {
-        Reply::Text(text) => Ok(text),
+        Reply::Ended(so) => {
+            let text = outcome_text(alloc, so)?;
+            Ok(text)
+        }
         Reply::Data(_) => {
             let nothing = Bytes::of(alloc, b"")?;
             Ok(nothing)
@@ -47,31 +47,6 @@ fn text_in(alloc: Global, reply: Reply) -> Result<Bytes, NoMemory>
             Ok(nothing)
         }
     }
-}
-
-/// Nothing waits, nothing is kept, and no run has started.
-fn empty_tower<'w>(alloc: Global, seed: RandomState) -> Tower<'w>
-    ensures stack { result.stack ≡ [] }
-    ensures keep { result.keep ≡ [] }
-    ensures kept { result.kept ≡ 0 }
-    ensures numbers { result.numbers ≡ none_started }
-{
-    Tower {
-        stack: Stack::new(alloc),
-        keep: Keep::new(alloc, seed),
-        kept: 0,
-        numbers: Numbers::new(alloc),
-    }
-}
-
-/// All that a page may use.
-fn full_left(limits: &Limits) -> Left
-    requires { IsCountable limits.now }
-    ensures full { result ≡ full_of limits.now }
-    ensures fits { Fits result }
-{
-    let limits = *limits;
-    Left::full(&limits)
 }
 
 /// What the expansion of the page came to, what is left, and the steps of loads that were found kept.
@@ -99,7 +74,8 @@ fn come_from<'w, L: Ledger>(
     ensures paid { IfOk result (λ x. turns.new + x.left.steps + x.kept ≤ turns.old + limits.now.steps) }
 {
     let mut left = full_left(limits);
-    let mut tower = empty_tower(around.alloc, around.seed);
+    let numbers = Numbers::new(around.alloc);
+    let mut tower = empty_tower(around.alloc, around.seed, numbers);
     let reply = drive(around, store, &mut left, &mut tower, root, turns)?;
     Ok(Came {
         reply,

@@ -20,7 +20,7 @@ pub struct Case {
 /// A number that is not told.
 pub const ANY: u64 = 1_000_000_001;
 
-pub const MODULES: [Source; 28] = [
+pub const MODULES: [Source; 31] = [
     // It counts its calls in a global variable.
     Source {
         name: "C",
@@ -155,6 +155,21 @@ pub const MODULES: [Source; 28] = [
     Source {
         name: "In",
         text: "local p={} function p.r() return (p.r()) end function p.g() return 'g' end function p.f(frame) return frame:preprocess('{{#invoke:In|r}}')..p.g() end return p",
+    },
+    // It fails in several ways.
+    Source {
+        name: "Fails",
+        text: "local p={} function p.text() error('no') end function p.value() error({}) end function p.run() return nil..'x' end return p",
+    },
+    // It gives what looks like a failure.
+    Source {
+        name: "Looks",
+        text: "return {f=function() return '<strong class=\"error\">Lua error: no</strong>' end}",
+    },
+    // It gives no table.
+    Source {
+        name: "Flat",
+        text: "return 1",
     },
     // It is no Lua.
     Source {

@@ -2,7 +2,7 @@
 ghost use Rattle.std.specs.Prelude.{◌≡◌};
 
 use crate::cases::{ANY, CASES, Case};
-use crate::wikis::{titled, wiki_with};
+use crate::wikis::{allowing, titled, wiki_with};
 use page_driver::{Page, Wiki, expand_page};
 use std::alloc::Global;
 use std::hash::RandomState;
@@ -11,18 +11,6 @@ use std::process::Abort;
 use std::sync::ledger::{Blank, Ledger};
 use std::test::Fail;
 use wk_base::{Limits, Namespace, NoMemory, Steps, Title};
-
-/// So many steps and nested calls, and enough of all else.
-fn allowing(steps: u64, calls: u64) -> Limits {
-    Limits {
-        steps,
-        nodes: 50,
-        bytes: 1000,
-        calls,
-        depth: 40,
-        templates: 10,
-    }
-}
 
 fn expanded<L: Ledger>(
     alloc: Global,

@@ -12,7 +12,19 @@ use std::alloc::Global;
 use std::hash::RandomState;
 use wiki_expand::PageMap;
 use wiki_markup::{Marked, Mode, markup, shown};
-use wk_base::{Bytes, Namespace, NoMemory, Title};
+use wk_base::{Bytes, Limits, Namespace, NoMemory, Title};
+
+/// So many steps and nested calls, and enough of all else.
+pub fn allowing(steps: u64, calls: u64) -> Limits {
+    Limits {
+        steps,
+        nodes: 50,
+        bytes: 1000,
+        calls,
+        depth: 40,
+        templates: 10,
+    }
+}
 
 fn paired(alloc: Global, text: &[u8], mode: Mode) -> Result<Marked, NoMemory>
     ensures { IfOk result (λ m. IsMarked m.nodes) }

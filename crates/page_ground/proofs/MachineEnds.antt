@@ -17,7 +17,9 @@ use Rattle.lua_stack.specs.Lists.{first_stored}
 use Rattle.lua_stack.specs.Of.{ValuesOf, JumpOf}
 use Rattle.lua_stack.specs.Seen.{values_seen, jump_seen}
 use Rattle.expand_meaning.specs.Texts.{escape_byte, error_text}
-use Rattle.page_meaning.specs.Told.{end_text, spent_text, graph_answer}
+use Rattle.page_meaning.specs.declared.outcome.JobOutcome.TheVariants as ending
+use Rattle.page_meaning.specs.Told.{spent_text, graph_answer}
+use Rattle.page_meaning.specs.Outcomes.{end_outcome}
 use Rattle.page_points.specs.Machines.{data_told}
 use Rattle.page_ground.specs.Ending.{text_in_value, only_text_in, raised_text_in, text_or_none}
 
@@ -58,24 +60,24 @@ first_of s [] h = tt
 first_of s (v ∷ vs) h = h.0
 
 -- THE END
-pub given_text : (texts : List (List ℕ)) (vs : List Value) → text_or_none texts (only_text_in vs) ≡ end_text (end_of (Goes (values_seen texts vs)))
-given_text texts [] = refl
-given_text texts (own.Nil ∷ []) = refl
-given_text texts (own.Bool b ∷ []) = refl
-given_text texts (own.Number n ∷ []) = refl
-given_text texts (own.Text id ∷ []) = refl
-given_text texts (own.Table id ∷ []) = refl
-given_text texts (own.Closure id ∷ []) = refl
-given_text texts (own.Builtin f ∷ []) = refl
-given_text texts (own.Markup id ∷ []) = refl
-given_text texts (own.Nil ∷ w ∷ vs) = refl
-given_text texts (own.Bool b ∷ w ∷ vs) = refl
-given_text texts (own.Number n ∷ w ∷ vs) = refl
-given_text texts (own.Text id ∷ w ∷ vs) = refl
-given_text texts (own.Table id ∷ w ∷ vs) = refl
-given_text texts (own.Closure id ∷ w ∷ vs) = refl
-given_text texts (own.Builtin f ∷ w ∷ vs) = refl
-given_text texts (own.Markup id ∷ w ∷ vs) = refl
+pub given_outcome : (texts : List (List ℕ)) (vs : List Value) → ending.Done (text_or_none texts (only_text_in vs)) ≡ end_outcome (end_of (Goes (values_seen texts vs)))
+given_outcome texts [] = refl
+given_outcome texts (own.Nil ∷ []) = refl
+given_outcome texts (own.Bool b ∷ []) = refl
+given_outcome texts (own.Number n ∷ []) = refl
+given_outcome texts (own.Text id ∷ []) = refl
+given_outcome texts (own.Table id ∷ []) = refl
+given_outcome texts (own.Closure id ∷ []) = refl
+given_outcome texts (own.Builtin f ∷ []) = refl
+given_outcome texts (own.Markup id ∷ []) = refl
+given_outcome texts (own.Nil ∷ w ∷ vs) = refl
+given_outcome texts (own.Bool b ∷ w ∷ vs) = refl
+given_outcome texts (own.Number n ∷ w ∷ vs) = refl
+given_outcome texts (own.Text id ∷ w ∷ vs) = refl
+given_outcome texts (own.Table id ∷ w ∷ vs) = refl
+given_outcome texts (own.Closure id ∷ w ∷ vs) = refl
+given_outcome texts (own.Builtin f ∷ w ∷ vs) = refl
+given_outcome texts (own.Markup id ∷ w ∷ vs) = refl
 
 pub given_data : (texts : List (List ℕ)) (h : Heap Proc) (vs : List Value) → graph_answer (taken h (seen texts (first_stored vs))) ≡ data_told h (end_of (Goes (values_seen texts vs)))
 given_data texts h [] = refl

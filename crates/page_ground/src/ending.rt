@@ -1,4 +1,4 @@
-//! What is read off a run of Lua that is over or spent: the text of an invocation, the data of a load.
+//! What is read off a run of Lua that is over: how an invocation ended, the data of a load; and the text that stands for such an end on a page.
 ghost use Rattle.std.specs.Prelude.{◌≡◌, IfOk, IfSome};
 ghost use Rattle.lua_heap.specs.Graph.{Graph as PlainGraph};
 ghost use Rattle.lua_walk.specs.Data.{Checked, taken};
@@ -10,7 +10,8 @@ ghost use Rattle.lua_graph.specs.Taken.{IsFault};
 ghost use Rattle.lua_stack.specs.Lists.{given_values};
 ghost use Rattle.lua_state.specs.Of.{OutcomeOf};
 ghost use Rattle.lua_state.specs.Seen.{outcome_seen};
-ghost use Rattle.page_meaning.specs.Told.{end_text, spent_text, graph_answer};
+ghost use Rattle.page_meaning.specs.Told.{spent_text, graph_answer};
+ghost use Rattle.page_meaning.specs.Outcomes.{end_outcome, outcome_text};
 ghost use Rattle.page_points.specs.Machines.{data_told};
 ghost use Rattle.page_ground.specs.Seen.{data_seen, CanBePut};
 ghost use Rattle.page_ground.specs.Ending.{text_in_value, only_text_in, raised_text_in, text_or_none};
@@ -21,6 +22,7 @@ use lua_graph::{DataFault, take_out};
 use lua_stack::{Given, Jump, Values};
 use lua_state::Outcome;
 use lua_store::{Store, TextId, Value};
+use page_meaning::JobOutcome;
 use page_run::Which;
 use std::alloc::Global;
 use wk_base::{Bytes, NoMemory};
@@ -87,30 +89,28 @@ fn copied_text(alloc: Global, store: &Store, text: Option<TextId>) -> Result<Byt
     }
 }
 
-/// The text of an invocation that is over (Extension:Scribunto, "Script error"): what it gave, or the text of its failure, which is written
-/// without marks of HTML already.
-pub fn end_text(alloc: Global, store: &Store, outcome: &Outcome) -> Result<Bytes, NoMemory>
+/// How an invocation ended that is over (Extension:Scribunto, "Script error"): with the text that it gave, or with the message of its failure,
+/// which is written without marks of HTML already.
+pub fn end_outcome(alloc: Global, store: &Store, outcome: &Outcome) -> Result<JobOutcome, NoMemory>
     requires { OutcomeOf store.now outcome.now }
-    ensures { IfOk result (λ text. text ≡ end_text (end_of (outcome_seen store.now.texts outcome.now))) }
+    ensures { IfOk result (λ so. so ≡ end_outcome (end_of (outcome_seen store.now.texts outcome.now))) }
 {
     match outcome {
         Outcome::Goes(given) => {
             let found = only_text(given);
             let text = copied_text(alloc, store, found)?;
-            Ok(text)
+            Ok(JobOutcome::Done(text))
         }
         Outcome::Jumps(jump) => {
             let found = raised_text(jump);
             let message = copied_text(alloc, store, found)?;
-            let bytes = message.as_slice();
-            let shown = joined(alloc, b"<strong class=\"error\">", bytes, b"</strong>")?;
-            Ok(Bytes::of_vec(shown))
+            Ok(JobOutcome::Failed(message))
         }
     }
 }
 
 /// The text of an invocation that spent an allowance.
-pub fn spent_text(alloc: Global, which: Which) -> Result<Bytes, NoMemory>
+fn spent_text(alloc: Global, which: Which) -> Result<Bytes, NoMemory>
     ensures { IfOk result (λ text. text ≡ spent_text which) }
 {
     match which {
@@ -126,6 +126,24 @@ pub fn spent_text(alloc: Global, which: Which) -> Result<Bytes, NoMemory>
                 alloc,
                 b"<strong class=\"error\">Script error: The allowance of nested calls is spent.</strong>",
             )?;
+            Ok(text)
+        }
+    }
+}
+
+/// The text that stands on a page for an invocation that ended so (Extension:Scribunto, "Script error").
+pub fn outcome_text(alloc: Global, outcome: JobOutcome) -> Result<Bytes, NoMemory>
+    ensures { IfOk result (λ text. text ≡ outcome_text outcome) }
+{
+    match outcome {
+        JobOutcome::Done(text) => Ok(text),
+        JobOutcome::Failed(message) => {
+            let bytes = message.as_slice();
+            let shown = joined(alloc, b"<strong class=\"error\">", bytes, b"</strong>")?;
+            Ok(Bytes::of_vec(shown))
+        }
+        JobOutcome::Spent(which) => {
+            let text = spent_text(alloc, which)?;
             Ok(text)
         }
     }

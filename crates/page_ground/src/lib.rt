@@ -3,7 +3,7 @@
 //!
 //! - `around`: what nothing on a page changes
 //! - `data`: what the load of a data module gave
-//! - `ending`: the text or the data that a run of Lua came to
+//! - `ending`: how an invocation ended and its text, or the data that a load gave
 //! - `held`: whether a module is held
 //! - `keep`: what the loads of a page gave
 //! - `numbers`: the numbers of the runs of a page

@@ -6,4 +6,5 @@ pub mod DataRuns
 pub mod KeptLaws
 pub mod PaidLaws
 pub mod TaskLaws
+pub mod OutcomeLaws
 pub mod Rows

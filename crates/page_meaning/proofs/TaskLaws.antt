@@ -60,15 +60,15 @@ module _ (wiki : Wiki) (page : Title) where
   lua_goes work first given (Ended outcome m) f = ap (lua_reply work first) f
   lua_goes work first given (Spent which m) f = ap (lua_reply work first) f
   lua_goes work first given (Asked question m) f =
-      ap (lua_reply work first) f ∙ ap (λ r. lua_reply work first (drive_after wiki page work first (given ++ r ∷ []))) (reply_is question m.left)
+      f ∙ ap (λ r. drive_after wiki page work first (given ++ r ∷ [])) (reply_is question m.left)
 
   page_goes : (work : PageWork) (first : Left) (given : List (Reply Answer)) (e : PageSeen) → Follows e (λ job l. invoked (drive wiki page (Invoke job) l)) (expand_after wiki page work first) (map as_text given) → GoesOn wiki page (Expanding work) first given (page_progress e)
   page_goes work first given (Ended text m) f = ap expanded f
   page_goes work first given (Spent which m) f = ap expanded f
   page_goes work first given (Asked job m) f =
-      ap expanded f
-      ∙ ap (λ r. expanded (expand_after wiki page work first (map as_text given ++ r ∷ []))) (invocation_is job m.left)
-      ∙ ap (λ rs. expanded (expand_after wiki page work first rs)) (sym (map-append as_text given (answer_to wiki page (OfPage job) m.left ∷ [])))
+      f
+      ∙ ap (λ r. expand_after wiki page work first (map as_text given ++ r ∷ [])) (invocation_is job m.left)
+      ∙ ap (expand_after wiki page work first) (sym (map-append as_text given (answer_to wiki page (OfPage job) m.left ∷ [])))
 
   goes_on : (task : Task) (first : Left) (given : List (Reply Answer)) → GoesOn wiki page task first given (progress wiki page task first given)
   goes_on (Running work) first given = lua_goes work first given (lua (world wiki page) work first given) (runs_go_on wiki page work first given)

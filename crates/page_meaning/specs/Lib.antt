@@ -1,5 +1,6 @@
 pub mod Wiki
 pub mod Told
+pub mod Outcomes
 pub mod Drive
 pub mod Page
 pub mod Points

@@ -28,6 +28,11 @@ pub data Question : Type 0 where
   OfLua : (question : Ask) → Question
   OfPage : (job : Job) → Question
 
+-- what is seen of a task: of a run of Lua, or of an expansion
+abbrev pub Sight : Task → Type 0
+Sight (Running work) = Seen
+Sight (Expanding work) = PageSeen
+
 -- after the replies that it was given, a task has come to its own reply, or it wants another
 pub data Progress : Type 0 where
   Comes : (reply : Reply Answer) → Progress
@@ -88,7 +93,12 @@ module _ (wiki : Wiki) (page : Title) where
   progress (Running work) first given = lua_progress work first (lua (world wiki page) work first given)
   progress (Expanding work) first given = page_progress (next_event (setting wiki page) work first (map as_text given))
 
-  -- WHAT IT COMES TO, with the questions beyond them answered
+  -- WHAT IS SEEN of it in the end, with the questions beyond them answered,
+  abbrev pub sight : (task : Task) → Left → List (Reply Answer) → Sight task
+  sight (Running work) first given = drive_after wiki page work first given
+  sight (Expanding work) first given = expand_after wiki page work first (map as_text given)
+
+  -- and WHAT IT COMES TO
   abbrev pub total : Task → Left → List (Reply Answer) → Reply Answer
   total (Running work) first given = lua_reply work first (drive_after wiki page work first given)
   total (Expanding work) first given = expanded (expand_after wiki page work first (map as_text given))
@@ -106,10 +116,10 @@ module _ (wiki : Wiki) (page : Title) where
   loads_so_far (Running work) first given = (tally_of (lua (world wiki page) work first given)).loads
   loads_so_far (Expanding work) first given = (tally_of (next_event (setting wiki page) work first (map as_text given))).loads
 
--- A TASK GOES ON: what it comes to is what it has come to, or what it comes to with the answer to its question.
+-- A TASK GOES ON: what it comes to is what it has come to; or the same is seen of it in the end with the answer to its question.
 abbrev pub GoesOn : Wiki → Title → Task → Left → List (Reply Answer) → Progress → Type 0
 GoesOn wiki page task first given (Comes reply) = total wiki page task first given ≡ reply
-GoesOn wiki page task first given (Wants question left) = total wiki page task first given ≡ total wiki page task first (given ++ answer_to wiki page question left ∷ [])
+GoesOn wiki page task first given (Wants question left) = sight wiki page task first given ≡ sight wiki page task first (given ++ answer_to wiki page question left ∷ [])
 
 abbrev pub TasksGoOn : Type 0
 TasksGoOn = (wiki : Wiki) (page : Title) (task : Task) (first : Left) (given : List (Reply Answer)) → GoesOn wiki page task first given (progress wiki page task first given)

@@ -1,5 +1,6 @@
 //! What runs inside one another come to, and what they leave.
 ghost use Rattle.page_meaning.specs.Laws.{DriveIsOneRun, RepliesOnlyTake, RepliesGiveCallsBack, RunsComeToAnEnd, ExpansionsComeToTexts, RunsGoOn, ExpansionsGoOn};
+ghost use Rattle.page_meaning.specs.Outcomes.{OutcomesAreTold};
 
 /// A run with its questions answered is one run whose replies are computed by such runs: each run takes steps when it
 /// starts, so no bound on runs inside one another is seen.
@@ -25,6 +26,11 @@ pub fn runs_come_to_an_end()
 /// Each expansion, and so each page, comes to a text: nothing that is spent inside it spends it.
 pub fn expansions_come_to_texts()
     ensures { ExpansionsComeToTexts }
+{}
+
+/// Each way in which an invocation ends by itself is told as its text.
+pub fn outcomes_are_told()
+    ensures { OutcomesAreTold }
 {}
 
 /// Where a run of Lua waits, it comes to what it comes to with the reply to its question; where it is over, to that end.

@@ -5,6 +5,7 @@
 //!
 //! - `Wiki`: pages and modules by title
 //! - `Told`: how a run ends, as it is told to the run that asked for it
+//! - `Outcomes`: how an invocation ends by itself
 //! - `Drive`: the replies to the three questions; a run with its questions answered; an invocation, and a load of data
 //! - `Page`: the text of a page, what is left, what is kept and what is begun
 //! - `Points`: a run after some replies, and what it comes to
@@ -18,11 +19,16 @@
 //! - `kept`: what a data module's load gives elsewhere
 //! - `tasks`: runs of Lua and expansions alike go on, and tell their loads
 //! - `examples`: worked pages come to what `Examples` says
+//! - `outcome`: how an invocation ends by itself, the one type of code here
 #![tactic(auto)]
 
 pub mod drive;
 pub mod examples;
 pub mod kept;
+pub mod outcome;
 pub mod tasks;
+
+pub use outcome::JobOutcome;
+
 #[cfg(test)]
 mod tests;

@@ -2,8 +2,8 @@
 //! loads they tell.
 ghost use Rattle.page_meaning.specs.Tasks.{TasksGoOn, TasksTellLoads, PagesAreTasks};
 
-/// What a task comes to is the reply to which it has come, or what it comes to with the answer to its question; the answer
-/// is what another task comes to.
+/// What a task comes to is the reply to which it has come; where it asks, the same is seen of it in the end with the answer to
+/// its question, which is what another task comes to.
 pub fn tasks_go_on()
     ensures { TasksGoOn }
 {}

@@ -9,6 +9,7 @@ fn laws_are_called(_rt: HostRuntime) -> Result<(), Fail> {
     drive::replies_give_calls_back();
     drive::runs_come_to_an_end();
     drive::expansions_come_to_texts();
+    drive::outcomes_are_told();
     drive::runs_go_on();
     drive::expansions_go_on();
     kept::loads_are_covered();

@@ -20,6 +20,7 @@ use Rattle.lua_agree.specs.Functions.{SameFunction}
 use Rattle.page_meaning.specs.Wiki.{Wiki, world}
 use Rattle.wk_base.specs.declared.title.Title.{Title}
 use Rattle.page_meaning.specs.Told.{Seen, data_answer, graph_answer, end_text}
+use Rattle.page_meaning.specs.Outcomes.{end_outcome}
 use Rattle.page_meaning.specs.Tasks.{Running, Comes, lua_reply, lua_progress}
 use Rattle.page_points.specs.Places.{Place, TellsAll, HasCome}
 use Rattle.page_points.specs.Machines.{data_told, end_told, spent_told}
@@ -93,6 +94,15 @@ module _ (m : Map) where
   same_text _ _ (done t) = refl
   same_text _ _ (done_data v w e) = refl
   same_text _ _ (failed t) = refl
+
+  same_outcome_end : (e e' : End) → SameEnd m e e' → end_outcome e ≡ end_outcome e'
+  same_outcome_end _ _ (done t) = refl
+  same_outcome_end _ _ (done_data v w e) = refl
+  same_outcome_end _ _ (failed t) = refl
+
+  -- so the run ended as its machine
+  pub same_outcome : (o o' : Outcome (List Value) Jump) → SameOutcome m o o' → end_outcome (end_of o) ≡ end_outcome (end_of o')
+  same_outcome o o' e = same_outcome_end (end_of o) (end_of o') (same_end o o' e)
 
   module _ (code : CWorld) (h : Heap Function) (s : Heap Proc) (st : Stands (SameFunction code) m h s) where
     same_data : (e e' : End) → SameEnd m e e' → data_answer h e ≡ data_told s e'

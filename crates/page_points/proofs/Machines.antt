@@ -14,7 +14,7 @@ use Rattle.lua_heap.specs.Heap.{Heap, Ref, Obj, look}
 use Rattle.lua_heap.specs.Reach.{Set, nowhere, union, with_new, Frame}
 use Rattle.lua_meaning.specs.Questions.{Answer}
 use Rattle.lua_meaning.specs.Acts.{Jump}
-use Rattle.lua_meaning.specs.Start.{Work, Invoke, DataOf, lua}
+use Rattle.lua_meaning.specs.Start.{Work, Invoke, DataOf, end_of, lua}
 use Rattle.lua_slots.specs.Code.{CWorld}
 use Rattle.lua_slots.specs.IsCode.{Agrees}
 use Rattle.lua_slots.specs.Slots.{Slots, with_heap}
@@ -29,11 +29,13 @@ use Rattle.lua_points.specs.Clauses.{fund, Starts, GoesOnWith, GoIs}
 use Rattle.lua_points.proofs.Points.{point_looks_at_set}
 use Rattle.lua_points.proofs.Answers.{question_is_asked, end_is_met, spent_answer_is_met}
 use Rattle.page_meaning.specs.Wiki.{Wiki, world}
+use Rattle.page_meaning.specs.declared.outcome.JobOutcome.TheVariants as ending
 use Rattle.page_meaning.specs.Told.{Seen}
+use Rattle.page_meaning.specs.Outcomes.{end_outcome}
 use Rattle.page_meaning.specs.Tasks.{Running, OfLua, Wants, lua_reply, lua_progress, progress}
 use Rattle.page_points.specs.Places.{Place, beginning, replied, next_of}
 use Rattle.page_points.specs.Machines.{KnowsHeight, Stood, counts, gone, end_told, spent_told, EndsAs}
-use Rattle.page_points.proofs.Ends.{has_ended, is_spent, same_told, spent_response, left_after}
+use Rattle.page_points.proofs.Ends.{has_ended, is_spent, same_outcome, same_told, spent_response, left_after}
 
 -- HEIGHTS
 height_goes : (work : Work) (told height high : ℕ) → KnowsHeight work told height → KnowsHeight work (max told high) (max height high)
@@ -69,7 +71,7 @@ module _ (code : CWorld) (wiki : Wiki) (page : Title) where
 
     -- IT IS OVER
     pub machine_ends : (o : Outcome (List Value) Jump) (t : Slots) (left' : Left) (calls' high n : ℕ) → GoIs code point s left calls (Over o t (counts left' calls' high n))
-        → EndsAs wiki page (gone p s.heap t.heap n) m.work (Says (end_told m.work t.heap o)) (record left' { calls = left'.calls + calls' }) (max height high) × Frame p.within s.heap t.heap
+        → EndsAs wiki page (gone p s.heap t.heap n) m.work (end_outcome (end_of o)) (Says (end_told m.work t.heap o)) (record left' { calls = left'.calls + calls' }) (max height high) × Frame p.within s.heap t.heap
     machine_ends o t left' calls' high n g =
         let e = g.goes_to p.within (world wiki page) m.work p.first p.given m.told m.at in
         let f = telling m.told (counts left' calls' high n) in
@@ -82,13 +84,14 @@ module _ (code : CWorld) (wiki : Wiki) (page : Title) where
             says_so = same_told d.map code d.state.heap t.heap d.stands m.work p.first d.outcome o (moment_with d.state (all_given_back f)) d.same refl;
             leaves = left_after m.work p.first (Ended d.outcome (moment_with d.state (all_given_back f)));
             height = height_told m.work p.first (Ended d.outcome (moment_with d.state (all_given_back f))) (max height high) (height_goes m.work m.told.height height high m.knows);
+            ended = record { seen = Ended d.outcome (moment_with d.state (all_given_back f)); is_seen = h; over = tt; outcome_is = same_outcome d.map d.outcome o d.same };
           },
           e.frame,
         )
 
     -- IT IS SPENT
     pub machine_is_spent : (w : Which) (t : Heap Proc) (left' : Left) (calls' high n : ℕ) → GoIs code point s left calls (Lacks w t (counts left' calls' high n))
-        → EndsAs wiki page (gone p s.heap t n) m.work (spent_told m.work w) left' (max height high) × Frame p.within s.heap t
+        → EndsAs wiki page (gone p s.heap t n) m.work (ending.Spent w) (spent_told m.work w) left' (max height high) × Frame p.within s.heap t
     machine_is_spent w t left' calls' high n g =
         let e = g.goes_to p.within (world wiki page) m.work p.first p.given m.told m.at in
         let f = telling m.told (counts left' calls' high n) in
@@ -100,6 +103,7 @@ module _ (code : CWorld) (wiki : Wiki) (page : Title) where
             says_so = spent_response m.work p.first w (moment_with e.event.0 f);
             leaves = left_after m.work p.first (Spent w (moment_with e.event.0 f));
             height = height_told m.work p.first (Spent w (moment_with e.event.0 f)) (max height high) (height_goes m.work m.told.height height high m.knows);
+            ended = record { seen = Spent w (moment_with e.event.0 f); is_seen = h; over = tt; outcome_is = refl };
           },
           e.frame,
         )
@@ -131,7 +135,7 @@ module _ (code : CWorld) (wiki : Wiki) (page : Title) where
 
     -- IT IS SPENT with the answer
     pub machine_is_refused : (w : Which) (r : Reply Answer) → r.response ≡ Exhausts w
-        → (high : ℕ) × EndsAs wiki page (replied p r) m.work (spent_told m.work w) (record r.left { calls = r.left.calls + calls }) high
+        → (high : ℕ) × EndsAs wiki page (replied p r) m.work (ending.Spent w) (spent_told m.work w) (record r.left { calls = r.left.calls + calls }) high
     machine_is_refused w r e =
         let d = spent_answer_is_met code p.within (world wiki page) m.work p.first p.given q fs s (fund left calls m.told) m.at w r.left r.tally in
         let f = all_given_back (with_reply (spent_reply w r.left r.tally) (fund left calls m.told)) in
@@ -146,6 +150,7 @@ module _ (code : CWorld) (wiki : Wiki) (page : Title) where
             says_so = spent_response m.work p.first w (moment_with d.0 f);
             leaves = left_after m.work p.first (Spent w (moment_with d.0 f));
             height = height_told m.work p.first (Spent w (moment_with d.0 f)) f.tally.height (knows m.work f.tally.height);
+            ended = record { seen = Spent w (moment_with d.0 f); is_seen = h; over = tt; outcome_is = refl };
           },
         )
       where

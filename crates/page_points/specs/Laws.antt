@@ -8,38 +8,44 @@ use Rattle.page_run.specs.Walk.{WalkState, empty_walk, walk, is_in}
 use Rattle.mw_frame.specs.declared.question.Ask.TheVariants.{Data}
 use Rattle.lua_meaning.specs.World.{Module}
 use Rattle.lua_meaning.specs.Questions.{Answer}
-use Rattle.lua_meaning.specs.Start.{DataOf}
-use Rattle.page_meaning.specs.Wiki.{Wiki}
-use Rattle.page_meaning.specs.Drive.{load}
-use Rattle.page_meaning.specs.Laws.{IsKept}
+use Rattle.lua_meaning.specs.Start.{Work, DataOf, lua}
+use Rattle.page_meaning.specs.Wiki.{Wiki, world}
+use Rattle.page_meaning.specs.Told.{Seen}
+use Rattle.page_meaning.specs.Drive.{drive, load}
+use Rattle.page_meaning.specs.Laws.{IsOver, IsKept}
 use Rattle.page_meaning.specs.Page.{kept_in, begun_in}
 use Rattle.page_meaning.specs.Tasks.{Task, Running, Question, OfLua, Wants, task_of, total, answer_to}
 use Rattle.page_points.specs.Places.{Place, beginning, replied, EndsWalk, from_start, next_of, IsFresh, Going, begun_so_far, HasCome}
 use Rattle.page_points.specs.Loads.{IsServed, IsPaid}
 
--- THE PAGE'S OWN TASK BEGINS: what it comes to is the goal.
+-- THE ROOT BEGINS: the page's own task, or one by itself.
 abbrev pub PageBegins : Type 0
-PageBegins = (wiki : Wiki) (page : Title) (task : Task) (first : Left) → IsFresh wiki page task first empty_walk → Going wiki page (total wiki page task first []) (beginning task first empty_walk) [] empty_walk
+PageBegins = (wiki : Wiki) (page : Title) (task : Task) (first : Left) → IsFresh wiki page task first empty_walk → Going wiki page task first (beginning task first empty_walk) [] empty_walk
 
 -- THE TOP ONE ASKS, and the task that answers it begins above it.
 abbrev pub OneBegins : Type 0
-OneBegins = (wiki : Wiki) (page : Title) (goal : Reply Answer) (top : Place) (below : List Place) (now : WalkState) (q : Question) (l : Left) (task : Task) → Going wiki page goal top below now
-    → next_of wiki page top ≡ Wants q l → task_of wiki q ≡ Some task → IsFresh wiki page task l now → Going wiki page goal (beginning task l now) (top ∷ below) now
+OneBegins = (wiki : Wiki) (page : Title) (root : Task) (full : Left) (top : Place) (below : List Place) (now : WalkState) (q : Question) (l : Left) (task : Task) → Going wiki page root full top below now
+    → next_of wiki page top ≡ Wants q l → task_of wiki q ≡ Some task → IsFresh wiki page task l now → Going wiki page root full (beginning task l now) (top ∷ below) now
 
 -- It is told the answer at once.
 abbrev pub OneIsTold : Type 0
-OneIsTold = (wiki : Wiki) (page : Title) (goal : Reply Answer) (top : Place) (below : List Place) (now : WalkState) (q : Question) (l : Left) (r : Reply Answer) → Going wiki page goal top below now
-    → next_of wiki page top ≡ Wants q l → answer_to wiki page q l ≡ r → Going wiki page goal (replied top r) below (walk r.tally.loads now)
+OneIsTold = (wiki : Wiki) (page : Title) (root : Task) (full : Left) (top : Place) (below : List Place) (now : WalkState) (q : Question) (l : Left) (r : Reply Answer) → Going wiki page root full top below now
+    → next_of wiki page top ≡ Wants q l → answer_to wiki page q l ≡ r → Going wiki page root full (replied top r) below (walk r.tally.loads now)
 
 -- IT HAS COME to its reply, and the one below is told: nothing that was begun is forgotten, and none is told twice.
 abbrev pub OneEnds : Type 0
-OneEnds = (wiki : Wiki) (page : Title) (goal : Reply Answer) (top p : Place) (below : List Place) (now : WalkState) (r : Reply Answer) → Going wiki page goal top (p ∷ below) now → HasCome wiki page top r
-    → (next : WalkState) × Going wiki page goal (replied p r) below next × EndsWalk top.task r now next × (begun_so_far wiki page (replied p r) below next ≤ begun_so_far wiki page top (p ∷ below) now)
+OneEnds = (wiki : Wiki) (page : Title) (root : Task) (full : Left) (top p : Place) (below : List Place) (now : WalkState) (r : Reply Answer) → Going wiki page root full top (p ∷ below) now → HasCome wiki page top r
+    → (next : WalkState) × Going wiki page root full (replied p r) below next × EndsWalk top.task r now next × (begun_so_far wiki page (replied p r) below next ≤ begun_so_far wiki page top (p ∷ below) now)
 
--- THE PAGE ENDS with what its own task comes to.
+-- THE PAGE ENDS with what the root comes to.
 abbrev pub PageEnds : Type 0
-PageEnds = (wiki : Wiki) (page : Title) (goal : Reply Answer) (top : Place) (now : WalkState) (r : Reply Answer) → Going wiki page goal top [] now → HasCome wiki page top r
-    → (goal ≡ r) × (kept_in r.tally ≡ now.repeat_charges) × (begun_in r.tally ≤ begun_so_far wiki page top [] now)
+PageEnds = (wiki : Wiki) (page : Title) (root : Task) (full : Left) (top : Place) (now : WalkState) (r : Reply Answer) → Going wiki page root full top [] now → HasCome wiki page top r
+    → (total wiki page root full [] ≡ r) × (kept_in r.tally ≡ now.repeat_charges) × (begun_in r.tally ≤ begun_so_far wiki page top [] now)
+
+-- Where the root is a run of Lua, what is seen of it when it is over is its run with all questions answered.
+abbrev pub RootIsSeen : Type 0
+RootIsSeen = (wiki : Wiki) (page : Title) (root : Task) (full : Left) (top : Place) (now : WalkState) (work : Work) (e : Seen) → Going wiki page root full top [] now → top.task ≡ Running work
+    → lua (world wiki page) work top.first top.given ≡ e → IsOver e → (root ≡ Running work) × (drive wiki page work full ≡ e)
 
 -- LOADS: the answer for a module that is held is its load; what was kept serves, as a repeat, where it is covered; and what is kept of a
 -- load that completed.

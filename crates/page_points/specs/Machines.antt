@@ -12,7 +12,7 @@ use Rattle.lua_walk.specs.Data.{taken}
 use Rattle.lua_meaning.specs.Questions.{Answer, Expanded, LoadFailed}
 use Rattle.lua_meaning.specs.Acts.{Jump}
 use Rattle.lua_meaning.specs.World.{World}
-use Rattle.lua_meaning.specs.Start.{Work, Invoke, DataOf, End, Done, DoneData, Failed, end_of}
+use Rattle.lua_meaning.specs.Start.{Work, Invoke, DataOf, End, Done, DoneData, Failed, end_of, lua}
 use Rattle.lua_slots.specs.Code.{CWorld}
 use Rattle.lua_slots.specs.Slots.{Slots}
 use Rattle.lua_slots.specs.Points.{Point}
@@ -20,8 +20,11 @@ use Rattle.lua_slots.specs.Enact.{Funds}
 use Rattle.lua_points.specs.At.{At}
 use Rattle.lua_points.specs.Clauses.{fund}
 use Rattle.wk_base.specs.declared.title.Title.{Title}
-use Rattle.page_meaning.specs.Wiki.{Wiki}
-use Rattle.page_meaning.specs.Told.{graph_answer, end_text, spent_text}
+use Rattle.page_meaning.specs.Wiki.{Wiki, world}
+use Rattle.page_meaning.specs.declared.outcome.JobOutcome.{JobOutcome}
+use Rattle.page_meaning.specs.Told.{Seen, graph_answer, end_text, spent_text}
+use Rattle.page_meaning.specs.Outcomes.{job_outcome}
+use Rattle.page_meaning.specs.Laws.{IsOver}
 use Rattle.page_meaning.specs.Tasks.{Running}
 use Rattle.page_points.specs.Places.{Place, HasCome}
 
@@ -63,14 +66,22 @@ counts left calls high n = record { left = left; in_progress = calls; tally = re
 abbrev pub gone : Place → Heap Proc → Heap Proc → ℕ → Place
 gone p s t n = record p { nodes = p.nodes + n; within = with_new p.within s t }
 
--- THE RUN OF A PLACE HAS COME to a reply that says this and leaves so much; the height is known of a data module
-pub record EndsAs (wiki : Wiki) (page : Title) (p : Place) (work : Work) (says : Response Answer) (left : Left) (high : ℕ) : Type 0 where
+-- THE RUN OF A PLACE IS OVER, and so it ended
+pub record EndedSo (wiki : Wiki) (page : Title) (p : Place) (work : Work) (so : JobOutcome) : Type 0 where
+  pub seen : Seen
+  pub is_seen : lua (world wiki page) work p.first p.given ≡ seen
+  pub over : IsOver seen
+  pub outcome_is : job_outcome seen ≡ so
+
+-- IT HAS COME to a reply that says this and leaves so much; the height is known of a data module
+pub record EndsAs (wiki : Wiki) (page : Title) (p : Place) (work : Work) (so : JobOutcome) (says : Response Answer) (left : Left) (high : ℕ) : Type 0 where
   pub is : p.task ≡ Running work
   pub reply : Reply Answer
   pub comes : HasCome wiki page p reply
   pub says_so : reply.response ≡ says
   pub leaves : reply.left ≡ left
   pub height : KnowsHeight work reply.tally.height high
+  pub ended : EndedSo wiki page p work so
 
 -- and an expansion, to its text
 pub record EndsText (wiki : Wiki) (page : Title) (p : Place) (text : List ℕ) (left : Left) : Type 0 where

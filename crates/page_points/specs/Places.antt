@@ -11,7 +11,7 @@ use Rattle.lua_meaning.specs.Questions.{Answer}
 use Rattle.lua_meaning.specs.Start.{Invoke, DataOf, lua}
 use Rattle.page_meaning.specs.Wiki.{Wiki, setting, world}
 use Rattle.page_meaning.specs.Told.{completes}
-use Rattle.page_meaning.specs.Tasks.{Task, Running, Expanding, Question, Progress, Comes, Wants, as_text, progress, total, answer_to, loads_so_far}
+use Rattle.page_meaning.specs.Tasks.{Task, Running, Expanding, Question, Progress, Comes, Wants, as_text, progress, sight, total, answer_to, loads_so_far}
 
 -- A PLACE on the stack: a task, from its first allowances and after its replies; the walk over the data loads of the page up to its start;
 -- the nodes that were counted in its own run; and what a machine has of the store.
@@ -76,27 +76,28 @@ module _ (wiki : Wiki) (page : Title) where
   IsFresh (Running (DataOf title)) first began = (completes (total wiki page (Running (DataOf title)) first []).response && is_in (title_text title) began.completed_modules) ≡ false
   IsFresh (Expanding work) first began = Unit {0}
 
-  -- A PLACE WAITS for the reply r to its question, where the walk has come to w
+  -- A PLACE WAITS for the reply r to its question, where the walk has come to w: with that reply the same is seen of it as from its start
   pub record WaitsFor (p : Place) (r : Reply Answer) (w : WalkState) : Type 0 where
     pub question : Question
     pub left : Left
     pub wants : next_of p ≡ Wants question left
     pub answer : answer_to wiki page question left ≡ r
-    pub answered : total wiki page p.task p.first (p.given ++ r ∷ []) ≡ from_start p
+    pub answered : sight wiki page p.task p.first (p.given ++ r ∷ []) ≡ sight wiki page p.task p.first []
     pub walked : walk (loads_of p) p.began ≡ w
     pub fresh : IsFresh p.task p.first p.began
 
-  -- THOSE BELOW, the newest first, wait one for another; what the page's own task comes to is the goal
-  abbrev pub Chain : Reply Answer → List Place → Reply Answer → WalkState → Type 0
-  Chain goal [] r w = (r ≡ goal) × (w ≡ empty_walk)
-  Chain goal (p ∷ ps) r w = WaitsFor p r w × Chain goal ps (from_start p) p.began
+  -- THOSE BELOW, the newest first, wait one for another, the first of them for this task; the last one is the root, from all that there was
+  abbrev pub Chain : Task → Left → List Place → Task → Left → WalkState → Type 0
+  Chain root full [] task first w = (task ≡ root) × (first ≡ full) × (w ≡ empty_walk)
+  Chain root full (p ∷ ps) task first w = WaitsFor p (total wiki page task first []) w × Chain root full ps p.task p.first p.began
 
-  -- THE STACK: the top one goes on, and where the others get what it comes to, the page comes to the goal. So far the walk has come to now.
-  pub record Going (goal : Reply Answer) (top : Place) (below : List Place) (now : WalkState) : Type 0 where
-    pub comes : from_here top ≡ from_start top
+  -- THE STACK: the top one goes on, and in the end the same is seen of it as from its start; where the others get what it comes to, so it is
+  -- of them, and of the root. So far the walk has come to now.
+  pub record Going (root : Task) (full : Left) (top : Place) (below : List Place) (now : WalkState) : Type 0 where
+    pub same : sight wiki page top.task top.first top.given ≡ sight wiki page top.task top.first []
     pub walked : walk (loads_of top) top.began ≡ now
     pub fresh : IsFresh top.task top.first top.began
-    pub chain : Chain goal below (from_start top) top.began
+    pub chain : Chain root full below top.task top.first top.began
 
   -- the nodes begun so far on the page, where nothing is evaluated twice
   abbrev pub begun_so_far : Place → List Place → WalkState → ℕ

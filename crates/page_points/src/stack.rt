@@ -1,7 +1,7 @@
 //! The laws of the stack: `specs/Laws.antt` says them. Each is the contract of a function that does nothing.
-ghost use Rattle.page_points.specs.Laws.{PageBegins, OneBegins, OneIsTold, OneEnds, PageEnds, AnswerIsLoad, KeptIsServed, LoadIsKept};
+ghost use Rattle.page_points.specs.Laws.{PageBegins, OneBegins, OneIsTold, OneEnds, PageEnds, RootIsSeen, AnswerIsLoad, KeptIsServed, LoadIsKept};
 
-/// The page's own task begins: what it comes to is the goal.
+/// The root begins: the page's own task, or one by itself.
 pub fn page_begins()
     ensures { PageBegins }
 {}
@@ -21,9 +21,14 @@ pub fn one_ends()
     ensures { OneEnds }
 {}
 
-/// Where nobody waits, what the task has come to is the goal, with what was kept and begun.
+/// Where nobody waits, the task has come to what the root comes to, with what was kept and begun.
 pub fn page_ends()
     ensures { PageEnds }
+{}
+
+/// Where a run of Lua is over and nobody waits, what is seen of it is the root's run with its questions answered.
+pub fn root_is_seen()
+    ensures { RootIsSeen }
 {}
 
 /// The answer for a module that is held is its load.

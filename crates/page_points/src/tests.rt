@@ -9,6 +9,7 @@ fn laws_are_called(_rt: HostRuntime) -> Result<(), Fail> {
     stack::one_is_told();
     stack::one_ends();
     stack::page_ends();
+    stack::root_is_seen();
     stack::answer_is_load();
     stack::kept_is_served();
     stack::load_is_kept();

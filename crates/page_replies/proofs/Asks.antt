@@ -6,7 +6,6 @@ use Rattle.wk_base.specs.declared.left.Left.{Left}
 use Rattle.page_run.specs.State.{Response, Reply as PlainReply}
 use Rattle.page_run.specs.Walk.{WalkState, walk, pass_repeat}
 use Rattle.lua_heap.specs.Reach.{nowhere}
-use Rattle.expand_meaning.specs.Outcome.{Work as PageWork}
 use Rattle.lua_meaning.specs.World.{Modules}
 use Rattle.lua_meaning.specs.Questions.{Answer}
 use Rattle.lua_store.specs.Seen.{StoreView}
@@ -22,7 +21,7 @@ use Rattle.page_tasks.specs.Tasks.{CanBeTold, Waits, HasHalted, at_halt, calls_i
 use Rattle.page_tasks.specs.Going.{IsToldWell}
 use Rattle.page_tasks.specs.Beginning.{BeginsIn, StartsAt}
 use Rattle.page_ground.specs.Kept.{KeepOf, Keeps}
-use Rattle.page_replies.specs.Driven.{set_of, sum_of, goal_of, AllWait, IsBelow, IsHalted, IsReady, IsTold, Driven, Starting, Telling}
+use Rattle.page_replies.specs.Driven.{set_of, sum_of, AllWait, IsBelow, IsHalted, IsReady, IsTold, Driven, Starting, Telling}
 use Rattle.page_ground.specs.Numbered.{IsNumbered}
 use Rattle.page_ground.proofs.Numbering.{numbered_later}
 use Rattle.page_replies.proofs.Below.{below_later, all_wait_later}
@@ -43,25 +42,25 @@ pub record IsAnswered (g : Ground) (modules : Modules) (left : Left) (q : Questi
   pub walks : walk reply.tally.loads now ≡ pass_repeat charge now
   pub well : IsToldWell t reply high
 
-module _ (g : Ground) (work : PageWork) (first : Left) (k₀ : ℕ) (s : StoreView) (left : Left) (k : ℕ) (tower tower' : Tower) (t : Task) (h : Halt) (q : Question) (a : AsksFor g s left t h q) (d : Driven g work first k₀ s left k tower (record { task = t; halt = h })) where
+module _ (g : Ground) (root : PlainTask) (first : Left) (k₀ : ℕ) (s : StoreView) (left : Left) (k : ℕ) (tower tower' : Tower) (t : Task) (h : Halt) (q : Question) (a : AsksFor g s left t h q) (d : Driven g root first k₀ s left k tower (record { task = t; halt = h })) where
   -- A TASK BEGINS that answers it
   module _ (inner : Task) (s' : StoreView) (task : PlainTask) (b : BeginsIn g s s' inner) (e : tower'.stack ≡ t ∷ tower.stack) (e' : tower'.keep ≡ tower.keep) (e'' : tower'.kept ≡ tower.kept) (e''' : tower'.numbers ≡ tower.numbers) where
     below : AllByRecursion (IsBelow g s) (t ∷ tower.stack)
     below = (record { of = d.of; ground = d.ground; waits = a.waits }, d.accounts.below)
 
-    is_ready : (modules : Modules) → ((began : WalkState) → StartsAt g modules s s' inner task left began) → task_of (wiki_of g modules) q ≡ Some task → (x : IsHalted g modules work first k₀ s left k tower (record { task = t; halt = h })) → IsFresh (wiki_of g modules) (page_of g) task left x.now → IsReady g modules work first k₀ s' left k tower' inner
+    is_ready : (modules : Modules) → ((began : WalkState) → StartsAt g modules s s' inner task left began) → task_of (wiki_of g modules) q ≡ Some task → (x : IsHalted g modules root first k₀ s left k tower (record { task = t; halt = h })) → IsFresh (wiki_of g modules) (page_of g) task left x.now → IsReady g modules root first k₀ s' left k tower' inner
     is_ready modules starts is x fresh =
         let st = x.standing in
         let w = a.asks modules x.top x.halted in
         let i = starts x.now in
         let apart = nobody_is_there s.heap (x.top.within ∷ map set_of x.below) st.apart in
-        let going = one_begins (wiki_of g modules) (page_of g) (goal_of g modules work first) x.top x.below x.now q left task st.going w.0 is fresh in
+        let going = one_begins (wiki_of g modules) (page_of g) root first x.top x.below x.now q left task st.going w.0 is fresh in
         record {
           top = _;
           below = x.top ∷ x.below;
           now = x.now;
           standing = record {
-            going = going_with (wiki_of g modules) (page_of g) (goal_of g modules work first) _ (x.top ∷ x.below) x.now 0 i.within going;
+            going = going_with (wiki_of g modules) (page_of g) root first _ (x.top ∷ x.below) x.now 0 i.within going;
             others = subst (λ ts. AllWait g modules s' ts (x.top ∷ x.below)) (sym e) (all_wait_later g modules s s' b.later nowhere i.within i.alone (t ∷ tower.stack) (x.top ∷ x.below) below apart (w.1, st.others));
             apart = i.alone.apart (x.top.within ∷ map set_of x.below) apart;
             keeps = subst (λ keep. Keeps g modules keep x.now) (sym e') st.keeps;
@@ -72,7 +71,7 @@ module _ (g : Ground) (work : PageWork) (first : Left) (k₀ : ℕ) (s : StoreVi
         }
 
     pub driven_begins : ((modules : Modules) → AreModulesOf g modules → (began : WalkState) → StartsAt g modules s s' inner task left began) → ((modules : Modules) → AreModulesOf g modules → task_of (wiki_of g modules) q ≡ Some task)
-        → ((modules : Modules) → AreModulesOf g modules → (now : WalkState) → Keeps g modules tower.keep now → IsFresh (wiki_of g modules) (page_of g) task left now) → Starting g work first k₀ s' left k tower' inner
+        → ((modules : Modules) → AreModulesOf g modules → (now : WalkState) → Keeps g modules tower.keep now → IsFresh (wiki_of g modules) (page_of g) task left now) → Starting g root first k₀ s' left k tower' inner
     driven_begins starts is fresh = record {
       of = b.of;
       ground = b.ground;
@@ -92,7 +91,7 @@ module _ (g : Ground) (work : PageWork) (first : Left) (k₀ : ℕ) (s : StoreVi
 
   -- IT IS TOLD the answer at once
   module _ (left' : Left) (charge : ℕ) (says : Response Answer) (high : ℕ) (e : tower'.stack ≡ tower.stack) (e' : tower'.keep ≡ tower.keep) (e'' : tower'.kept ≡ tower.kept + charge) (e''' : tower'.numbers ≡ tower.numbers) (f : left' ≡ record left { steps = left.steps - charge }) (c : charge ≤ left.steps) where
-    is_told : (modules : Modules) → (x : IsHalted g modules work first k₀ s left k tower (record { task = t; halt = h })) → IsAnswered g modules left q t x.now left' charge says high → IsTold g modules work first k₀ s left' k tower' t says high
+    is_told : (modules : Modules) → (x : IsHalted g modules root first k₀ s left k tower (record { task = t; halt = h })) → IsAnswered g modules left q t x.now left' charge says high → IsTold g modules root first k₀ s left' k tower' t says high
     is_told modules x i =
         let st = x.standing in
         let w = a.asks modules x.top x.halted in
@@ -103,7 +102,7 @@ module _ (g : Ground) (work : PageWork) (first : Left) (k₀ : ℕ) (s : StoreVi
           now = next;
           reply = i.reply;
           standing = record {
-            going = one_is_told (wiki_of g modules) (page_of g) (goal_of g modules work first) x.top x.below x.now q left i.reply st.going w.0 i.is;
+            going = one_is_told (wiki_of g modules) (page_of g) root first x.top x.below x.now q left i.reply st.going w.0 i.is;
             others = subst (λ ts. AllWait g modules s ts x.below) (sym e) st.others;
             apart = st.apart;
             keeps = subst (λ keep. Keeps g modules keep next) (sym e') (subst (λ v. Keeps g modules tower.keep v) (sym i.walks) (record { all = st.keeps.all; names = st.keeps.names }));
@@ -116,7 +115,7 @@ module _ (g : Ground) (work : PageWork) (first : Left) (k₀ : ℕ) (s : StoreVi
           well = i.well;
         }
 
-    pub driven_answers : ((modules : Modules) → AreModulesOf g modules → (now : WalkState) → Keeps g modules tower.keep now → IsAnswered g modules left q t now left' charge says high) → Telling g work first k₀ s left' k tower' t says high
+    pub driven_answers : ((modules : Modules) → AreModulesOf g modules → (now : WalkState) → Keeps g modules tower.keep now → IsAnswered g modules left q t now left' charge says high) → Telling g root first k₀ s left' k tower' t says high
     driven_answers i = record {
       of = d.of;
       ground = d.ground;

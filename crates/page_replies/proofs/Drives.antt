@@ -5,10 +5,10 @@ use Rattle.wk_base.specs.declared.left.Left.{Left}
 use Rattle.wk_base.specs.declared.title.Title.{Title}
 use Rattle.wiki_expand.specs.Pages.{Pages, find_page, included_of, included_in}
 use Rattle.wiki_expand.specs.declared.pages.Entry.{Entry}
-use Rattle.expand_meaning.specs.Outcome.{Work as PageWork}
 use Rattle.lua_store.specs.Seen.{StoreView}
 use Rattle.page_run.specs.State.{Gives}
 use Rattle.lua_machine.specs.declared.machine.Machine.{Machine}
+use Rattle.page_meaning.specs.Tasks.{Task as PlainTask}
 use Rattle.page_tasks.specs.declared.task.Begun.{Begun}
 use Rattle.page_ground.specs.declared.data.Data.{Data as Given}
 use Rattle.page_ground.specs.declared.keep.Kept.{Kept}
@@ -63,23 +63,23 @@ module _ (g : Ground) (s : StoreView) (left : Left) (k : ℕ) (tower : Tower) wh
   kept_fits x charge le p = omega (arith, p.driven.accounts.paid, p.driven.accounts.rises, p.fits.steps, le)
 
   -- A TASK BEGINS where a page is in progress
-  pub is_starting : (x : Halted) (s' : StoreView) (left' : Left) (k' : ℕ) (tower' : Tower) (t : Task) (p : InProgress g s left k tower x) → Starting g p.work p.first p.start s' left' k' tower' t → IsStarting g s' left' k' tower' t
-  is_starting x s' left' k' tower' t p st = record { work = p.work; first = p.first; start = p.start; fits = p.fits; starting = st }
+  pub is_starting : (x : Halted) (s' : StoreView) (left' : Left) (k' : ℕ) (tower' : Tower) (t : Task) (p : InProgress g s left k tower x) → Starting g p.root p.first p.start s' left' k' tower' t → IsStarting g s' left' k' tower' t
+  is_starting x s' left' k' tower' t p st = record { root = p.root; first = p.first; start = p.start; fits = p.fits; starting = st }
 
   -- MOVES, one after another
   pub in_progress : (x : Halted) (s' : StoreView) (left' : Left) (k' : ℕ) (tower' : Tower) (y : Halted) → InProgress g s left k tower x → MovesOn g s left k tower x s' left' k' tower' (next.On y) → InProgress g s' left' k' tower' y
-  in_progress x s' left' k' tower' y p m = record { work = p.work; first = p.first; start = p.start; fits = p.fits; driven = m p.work p.first p.start p.fits p.driven }
+  in_progress x s' left' k' tower' y p m = record { root = p.root; first = p.first; start = p.start; fits = p.fits; driven = m p.root p.first p.start p.fits p.driven }
 
   pub one_after_another : (x : Halted) (s₁ : StoreView) (left₁ : Left) (k₁ : ℕ) (tower₁ : Tower) (y : Halted) (s₂ : StoreView) (left₂ : Left) (k₂ : ℕ) (tower₂ : Tower) (n : Next)
       → MovesOn g s left k tower x s₁ left₁ k₁ tower₁ (next.On y) → MovesOn g s₁ left₁ k₁ tower₁ y s₂ left₂ k₂ tower₂ n → MovesOn g s left k tower x s₂ left₂ k₂ tower₂ n
-  one_after_another x s₁ left₁ k₁ tower₁ y s₂ left₂ k₂ tower₂ n a b work first k₀ fits d = b work first k₀ fits (a work first k₀ fits d)
+  one_after_another x s₁ left₁ k₁ tower₁ y s₂ left₂ k₂ tower₂ n a b root first k₀ fits d = b root first k₀ fits (a root first k₀ fits d)
 
   pub start_then : (t : Task) (s₁ : StoreView) (left₁ : Left) (k₁ : ℕ) (tower₁ : Tower) (y : Halted) (s₂ : StoreView) (left₂ : Left) (k₂ : ℕ) (tower₂ : Tower) (n : Next)
       → StartsOn g s left k tower t s₁ left₁ k₁ tower₁ (next.On y) → MovesOn g s₁ left₁ k₁ tower₁ y s₂ left₂ k₂ tower₂ n → StartsOn g s left k tower t s₂ left₂ k₂ tower₂ n
-  start_then t s₁ left₁ k₁ tower₁ y s₂ left₂ k₂ tower₂ n a b work first k₀ fits d = b work first k₀ fits (a work first k₀ fits d)
+  start_then t s₁ left₁ k₁ tower₁ y s₂ left₂ k₂ tower₂ n a b root first k₀ fits d = b root first k₀ fits (a root first k₀ fits d)
 
   pub started : (t : Task) (s₁ : StoreView) (left₁ : Left) (k₁ : ℕ) (tower₁ : Tower) (y : Halted) → IsStarting g s left k tower t → StartsOn g s left k tower t s₁ left₁ k₁ tower₁ (next.On y) → InProgress g s₁ left₁ k₁ tower₁ y
-  started t s₁ left₁ k₁ tower₁ y p m = record { work = p.work; first = p.first; start = p.start; fits = p.fits; driven = m p.work p.first p.start p.fits p.starting }
+  started t s₁ left₁ k₁ tower₁ y p m = record { root = p.root; first = p.first; start = p.start; fits = p.fits; driven = m p.root p.first p.start p.fits p.starting }
 
 -- NUMBERS, by name: in the functions that need them a search would go through all that is known there
 pub least_fits : (a b n : ℕ) → n ≡ min a b → n ≤ b
@@ -122,12 +122,12 @@ module _ (g : Ground) (s : StoreView) (left : Left) (k : ℕ) (tower : Tower) (p
       (subst (λ n. LoadMoves n height) (sym e) (subst (LoadMoves (b.steps - left.steps)) (sym e') moves))
 
 -- A TASK BEGINS above the one that asks: the tower has that one on top
-module _ (g : Ground) (s : StoreView) (left : Left) (k : ℕ) (tower : Tower) (t : Task) (x : Halted) (s₁ : StoreView) (inner : Task) (tower₁ : Tower) (e : tower₁ ≡ tower_with t tower) (starts : (work : PageWork) (first : Left) (k₀ : ℕ) → Driven g work first k₀ s left k tower x → Starting g work first k₀ s₁ left k (tower_with t tower) inner) where
+module _ (g : Ground) (s : StoreView) (left : Left) (k : ℕ) (tower : Tower) (t : Task) (x : Halted) (s₁ : StoreView) (inner : Task) (tower₁ : Tower) (e : tower₁ ≡ tower_with t tower) (starts : (root : PlainTask) (first : Left) (k₀ : ℕ) → Driven g root first k₀ s left k tower x → Starting g root first k₀ s₁ left k (tower_with t tower) inner) where
   pub above_starts : InProgress g s left k tower x → IsStarting g s₁ left k tower₁ inner
-  above_starts p = subst (λ (w : Tower). IsStarting g s₁ left k w inner) (sym e) (is_starting g s left k tower x s₁ left k (tower_with t tower) inner p (starts p.work p.first p.start p.driven))
+  above_starts p = subst (λ (w : Tower). IsStarting g s₁ left k w inner) (sym e) (is_starting g s left k tower x s₁ left k (tower_with t tower) inner p (starts p.root p.first p.start p.driven))
 
   pub above_moves : (s' : StoreView) (left' : Left) (k' : ℕ) (n : Next) → StartsOn g s₁ left k tower₁ inner s' left' k' tower₁ n → MovesOn g s left k tower x s' left' k' tower₁ n
-  above_moves s' left' k' n on work first start fits d = on work first start fits (subst (λ (w : Tower). Starting g work first start s₁ left k w inner) (sym e) (starts work first start d))
+  above_moves s' left' k' n on root first start fits d = on root first start fits (subst (λ (w : Tower). Starting g root first start s₁ left k w inner) (sym e) (starts root first start d))
 
 -- a page that is held has its trees
 pub held_has_trees : {A B : Type 0} (f : A → B) (o : Option A) → IsSome o → IsSome (option_map f o)

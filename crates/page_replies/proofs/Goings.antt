@@ -5,10 +5,10 @@ use Rattle.wk_base.specs.declared.left.Left.{Left}
 use Rattle.page_run.specs.State.{Response}
 use Rattle.page_run.specs.Walk.{WalkState}
 use Rattle.lua_heap.specs.Reach.{Set}
-use Rattle.expand_meaning.specs.Outcome.{Work as PageWork}
 use Rattle.lua_meaning.specs.World.{Modules}
 use Rattle.lua_meaning.specs.Questions.{Answer}
 use Rattle.lua_store.specs.Seen.{StoreView}
+use Rattle.page_meaning.specs.Tasks.{Task as PlainTask}
 use Rattle.page_points.specs.Places.{Place, replied}
 use Rattle.page_points.specs.Apart.{LeavesAlone}
 use Rattle.page_points.proofs.Moves.{going_with}
@@ -18,11 +18,11 @@ use Rattle.page_replies.specs.declared.tower.Tower.{Tower}
 use Rattle.page_ground.specs.Ground.{Ground, page_of, wiki_of}
 use Rattle.page_tasks.specs.Tasks.{calls_in, depth_of, templates_of, at_halt}
 use Rattle.page_tasks.specs.Going.{Halts, GoesOn, GoesOnWith}
-use Rattle.page_replies.specs.Driven.{set_of, goal_of, Standing, Accounts, Driven, Starting, Telling}
+use Rattle.page_replies.specs.Driven.{set_of, Standing, Accounts, Driven, Starting, Telling}
 use Rattle.page_ground.proofs.Numbering.{numbered_later}
 use Rattle.page_replies.proofs.Below.{below_later, all_wait_later}
 
-module _ (g : Ground) (work : PageWork) (first : Left) (k₀ : ℕ) (s : StoreView) (left : Left) (k : ℕ) (tower : Tower) (s' : StoreView) (left' : Left) (k' : ℕ) (x : Halted) where
+module _ (g : Ground) (root : PlainTask) (first : Left) (k₀ : ℕ) (s : StoreView) (left : Left) (k : ℕ) (tower : Tower) (s' : StoreView) (left' : Left) (k' : ℕ) (x : Halted) where
   accounts_go : (t : Task) → Accounts g first k₀ s left k tower (calls_in t) (depth_of t) (templates_of t) → Halts s left k t s' left' k' x
       → Accounts g first k₀ s' left' k' tower (at_halt x.halt (calls_in x.task)) (at_halt x.halt (depth_of x.task)) (at_halt x.halt (templates_of x.task))
   accounts_go t a h = record {
@@ -37,9 +37,9 @@ module _ (g : Ground) (work : PageWork) (first : Left) (k₀ : ℕ) (s : StoreVi
 
   -- the others stay where they are, and the top one has another set and has counted more
   standing_goes : (modules : Modules) (t : Task) (top : Place) (below : List Place) (now : WalkState) (n : ℕ) (S : Set) → Accounts g first k₀ s left k tower (calls_in t) (depth_of t) (templates_of t) → Halts s left k t s' left' k' x → k' ≡ k + n → LeavesAlone top.within s.heap s'.heap S
-      → Standing g modules work first k₀ s k tower top below now → Standing g modules work first k₀ s' k' tower (record top { nodes = top.nodes + n; within = S }) below now
+      → Standing g modules root first k₀ s k tower top below now → Standing g modules root first k₀ s' k' tower (record top { nodes = top.nodes + n; within = S }) below now
   standing_goes modules t top below now n S a h e alone d = record {
-    going = going_with (wiki_of g modules) (page_of g) (goal_of g modules work first) top below now (top.nodes + n) S d.going;
+    going = going_with (wiki_of g modules) (page_of g) root first top below now (top.nodes + n) S d.going;
     others = all_wait_later g modules s s' h.later top.within S alone tower.stack below a.below d.apart d.others;
     apart = alone.apart (map set_of below) d.apart;
     keeps = d.keeps;
@@ -47,7 +47,7 @@ module _ (g : Ground) (work : PageWork) (first : Left) (k₀ : ℕ) (s : StoreVi
     begun = omega (arith, d.begun, e);
   }
 
-  pub driven_goes : (t : Task) → Starting g work first k₀ s left k tower t → Halts s left k t s' left' k' x → ((n : ℕ) → k' ≡ k + n → GoesOn s left t s' left' n x) → Driven g work first k₀ s' left' k' tower x
+  pub driven_goes : (t : Task) → Starting g root first k₀ s left k tower t → Halts s left k t s' left' k' x → ((n : ℕ) → k' ≡ k + n → GoesOn s left t s' left' n x) → Driven g root first k₀ s' left' k' tower x
   driven_goes t st h goes = record {
     of = h.of;
     ground = h.ground g st.ground;
@@ -62,7 +62,7 @@ module _ (g : Ground) (work : PageWork) (first : Left) (k₀ : ℕ) (s : StoreVi
         record { top = _; below = p.below; now = p.now; standing = standing_goes modules t p.top p.below p.now n _ st.accounts h e halted.alone p.standing; halted = halted.halted };
   }
 
-  pub driven_told : (t : Task) (says : Response Answer) (high : ℕ) → Telling g work first k₀ s left k tower t says high → Halts s left k t s' left' k' x → ((n : ℕ) → k' ≡ k + n → GoesOnWith s left t says high s' left' n x) → Driven g work first k₀ s' left' k' tower x
+  pub driven_told : (t : Task) (says : Response Answer) (high : ℕ) → Telling g root first k₀ s left k tower t says high → Halts s left k t s' left' k' x → ((n : ℕ) → k' ≡ k + n → GoesOnWith s left t says high s' left' n x) → Driven g root first k₀ s' left' k' tower x
   driven_told t says high st h goes = record {
     of = h.of;
     ground = h.ground g st.ground;

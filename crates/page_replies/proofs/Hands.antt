@@ -8,17 +8,20 @@ use Rattle.wk_base.specs.Titles.{title_text}
 use Rattle.page_run.specs.State.{Gives, Exhausts, Reply as PlainReply}
 use Rattle.page_run.specs.declared.which.Which.{Which}
 use Rattle.page_run.specs.Walk.{WalkState, add_if, is_in}
+use Rattle.mw_frame.specs.declared.scene.Job.{Job}
 use Rattle.expand_meaning.specs.Outcome.{Work as PageWork}
 use Rattle.lua_meaning.specs.World.{Modules}
 use Rattle.lua_meaning.specs.Questions.{Answer, Expanded}
-use Rattle.lua_meaning.specs.Start.{DataOf}
+use Rattle.lua_meaning.specs.Start.{Invoke, DataOf}
 use Rattle.lua_points.specs.Families.{AreApart}
 use Rattle.lua_store.specs.Seen.{StoreView}
 use Rattle.page_meaning.specs.Told.{completes}
+use Rattle.page_meaning.specs.Outcomes.{job_outcome}
+use Rattle.page_meaning.specs.Drive.{drive}
 use Rattle.page_meaning.specs.Page.{kept_in, begun_in}
-use Rattle.page_meaning.specs.Tasks.{Running}
+use Rattle.page_meaning.specs.Tasks.{Task as PlainTask, Running, Expanding}
 use Rattle.page_points.specs.Places.{Place, WaitsFor, EndsWalk, Going, begun_so_far}
-use Rattle.page_points.proofs.Moves.{come_to, kept_same, one_ends, page_ends}
+use Rattle.page_points.proofs.Moves.{come_to, kept_same, one_ends, page_ends, root_is_seen}
 use Rattle.page_points.proofs.Expansions.{expansion_is_answered}
 use Rattle.page_points.proofs.Loads.{load_gets_data}
 use Rattle.page_tasks.specs.declared.task.Task.{Task}
@@ -29,40 +32,60 @@ use Rattle.page_tasks.specs.declared.task.Halt.TheVariants as halt
 use Rattle.page_replies.specs.declared.tower.Tower.{Tower}
 use Rattle.page_ground.specs.Ground.{Ground, page_of, wiki_of, AreModulesOf}
 use Rattle.page_tasks.specs.Seen.{reply_seen}
-use Rattle.page_tasks.specs.Tasks.{IsTask, ReplyBy, IsNoData, calls_in, depth_of, templates_of}
+use Rattle.page_tasks.specs.Tasks.{IsTask, EndsWith, ReplyBy, IsNoData, calls_in, depth_of, templates_of}
 use Rattle.page_tasks.specs.Going.{IsToldWell, HeightTold}
 use Rattle.page_ground.specs.Kept.{Keeps, KeepOf}
 use Rattle.page_ground.specs.declared.keep.Kept.{Kept}
 use Rattle.page_ground.specs.Numbered.{IsNumbered}
-use Rattle.page_replies.specs.Driven.{sum_of, IsBelow, goal_of, set_of, AllWait, IsHalted, IsTold, IsExpanded, Driven, Telling, Expanded as PageExpanded}
+use Rattle.page_replies.specs.Driven.{sum_of, IsBelow, EndsSo, set_of, AllWait, IsHalted, IsTold, IsExpanded, Driven, Telling, Expanded as PageExpanded}
 
-module _ (g : Ground) (work : PageWork) (first : Left) (k₀ : ℕ) (s : StoreView) (left : Left) (k : ℕ) where
+job_is : (a b : Job) → Running (Invoke a) ≡ Running (Invoke b) → a ≡ b
+job_is a b e = cc
+
+-- AN INVOCATION BY ITSELF has come to its reply, and so it ended
+ends_so : (g : Ground) (first : Left) (modules : Modules) (root : PlainTask) (t : Task) (r : Reply) (top : Place) (now : WalkState) → IsTask t top → EndsWith g modules t top r → Going (wiki_of g modules) (page_of g) root first top [] now → EndsSo g modules root first r
+ends_so g first modules (Expanding work) t r top now is w going = tt
+ends_so g first modules (Running (DataOf title)) t r top now is w going = tt
+ends_so g first modules (Running (Invoke job)) (task.Invocation m) r top now is w going =
+    let x = root_is_seen (wiki_of g modules) (page_of g) (Running (Invoke job)) first top now (Invoke w.0) w.2.seen going w.1 w.2.is_seen w.2.over in
+    ap (λ j. job_outcome (drive (wiki_of g modules) (page_of g) (Invoke j) first)) (job_is job w.0 x.0) ∙ ap job_outcome x.1 ∙ w.2.outcome_is
+ends_so g first modules (Running (Invoke job)) (task.Expansion e) r top now is w going = absurd (no_expansion is.0 (sym is.1 ∙ going.chain.0))
+  where
+    no_expansion : (v : PageWork) → Expanding v ≡ Running (Invoke job) → ⊥
+    no_expansion v i = absurd cc
+ends_so g first modules (Running (Invoke job)) (task.Load b m) r top now is w going = absurd (no_load (sym is.0 ∙ going.chain.0))
+  where
+    no_load : Running (DataOf b.title) ≡ Running (Invoke job) → ⊥
+    no_load i = absurd cc
+
+module _ (g : Ground) (root : PlainTask) (first : Left) (k₀ : ℕ) (s : StoreView) (left : Left) (k : ℕ) where
   -- THE PAGE IS EXPANDED where nobody waits
   lone : (modules : Modules) (ts : List Task) (ps : List Place) → ts ≡ [] → AllWait g modules s ts ps → ps ≡ []
   lone modules [] [] e w = refl
   lone modules [] (p ∷ ps) e w = absurd w
   lone modules (t ∷ ts) ps e w = absurd cc
 
-  is_expanded : (modules : Modules) (tower : Tower) (t : Task) (r : Reply) → tower.stack ≡ [] → IsHalted g modules work first k₀ s left k tower (record { task = t; halt = halt.Comes r }) → IsExpanded g modules work first k₀ left k tower.kept r
+  is_expanded : (modules : Modules) (tower : Tower) (t : Task) (r : Reply) → tower.stack ≡ [] → IsHalted g modules root first k₀ s left k tower (record { task = t; halt = halt.Comes r }) → IsExpanded g modules root first k₀ left k tower.kept r
   is_expanded modules tower t r e h =
       let d = h.standing in
       let none = lone modules tower.stack h.below e d.others in
-      let going = subst (λ ps. Going (wiki_of g modules) (page_of g) (goal_of g modules work first) h.top ps h.now) none d.going in
+      let going = subst (λ ps. Going (wiki_of g modules) (page_of g) root first h.top ps h.now) none d.going in
       let begun = subst (λ ps. k₀ + begun_so_far (wiki_of g modules) (page_of g) h.top ps h.now ≤ k) none d.begun in
-      let x = page_ends (wiki_of g modules) (page_of g) (goal_of g modules work first) h.top h.now h.halted.reply going h.halted.comes in
+      let x = page_ends (wiki_of g modules) (page_of g) root first h.top h.now h.halted.reply going h.halted.comes in
       record {
         says = ap (λ (y : PlainReply Answer). y.response) x.0 ∙ h.halted.says;
         leaves = ap (λ (y : PlainReply Answer). y.left) x.0 ∙ h.halted.leaves;
         keeps = ap (λ (y : PlainReply Answer). kept_in y.tally) x.0 ∙ x.1 ∙ d.kept;
         begun = omega (arith, x.2, begun, ap (λ (y : PlainReply Answer). begun_in y.tally) x.0);
+        ends = ends_so g first modules root t r h.top h.now h.halted.task h.halted.ended going;
       }
 
-  pub page_is_expanded : (tower tower' : Tower) (t : Task) (r : Reply) → tower.stack ≡ [] → tower'.kept ≡ tower.kept → tower'.numbers ≡ tower.numbers → Driven g work first k₀ s left k tower (record { task = t; halt = halt.Comes r }) → PageExpanded g work first k₀ s left k tower' r
+  pub page_is_expanded : (tower tower' : Tower) (t : Task) (r : Reply) → tower.stack ≡ [] → tower'.kept ≡ tower.kept → tower'.numbers ≡ tower.numbers → Driven g root first k₀ s left k tower (record { task = t; halt = halt.Comes r }) → PageExpanded g root first k₀ s left k tower' r
   page_is_expanded tower tower' t r e same numbers d = record {
     numbered = subst (IsNumbered s) (sym numbers) d.numbered;
     rises = d.accounts.rises;
     paid = omega (arith, d.accounts.paid, same);
-    expanded = λ modules agree. subst (λ n. IsExpanded g modules work first k₀ left k n r) (sym same) (is_expanded modules tower t r e (d.placed modules agree));
+    expanded = λ modules agree. subst (λ n. IsExpanded g modules root first k₀ left k n r) (sym same) (is_expanded modules tower t r e (d.placed modules agree));
   }
 
   -- WHAT THE ONE BELOW IS TOLD
@@ -73,21 +96,21 @@ module _ (g : Ground) (work : PageWork) (first : Left) (k₀ : ℕ) (s : StoreVi
 
   module _ (tower tower' : Tower) (t p : Task) (r : Reply) (rest : List Task) (high : ℕ) where
     hands : (modules : Modules) → tower.stack ≡ p ∷ rest → tower'.stack ≡ rest → tower'.kept ≡ tower.kept
-        → (h : IsHalted g modules work first k₀ s left k tower (record { task = t; halt = halt.Comes r }))
+        → (h : IsHalted g modules root first k₀ s left k tower (record { task = t; halt = halt.Comes r }))
         → ((next : WalkState) → EndsWalk h.top.task h.halted.reply h.now next → Keeps g modules tower'.keep next)
         → ((q : Place) (title : Title) (w : WalkState) → q.task ≡ Running (DataOf title) → WaitsFor (wiki_of g modules) (page_of g) q h.halted.reply w → HeightTold h.halted.reply.response h.halted.reply.tally.height high)
-        → IsTold g modules work first k₀ s left k tower' p (reply_seen r) high
+        → IsTold g modules root first k₀ s left k tower' p (reply_seen r) high
     hands modules e e' same h keeps height = placed h.below refl (subst (λ ts. AllWait g modules s ts h.below) e h.standing.others)
       where
-        placed : (ps : List Place) → h.below ≡ ps → AllWait g modules s (p ∷ rest) ps → IsTold g modules work first k₀ s left k tower' p (reply_seen r) high
+        placed : (ps : List Place) → h.below ≡ ps → AllWait g modules s (p ∷ rest) ps → IsTold g modules root first k₀ s left k tower' p (reply_seen r) high
         placed [] i w = absurd w
         placed (q ∷ qs) i w =
             let d = h.standing in
-            let going = subst (λ ps. Going (wiki_of g modules) (page_of g) (goal_of g modules work first) h.top ps h.now) i d.going in
+            let going = subst (λ ps. Going (wiki_of g modules) (page_of g) root first h.top ps h.now) i d.going in
             let begun = subst (λ ps. k₀ + begun_so_far (wiki_of g modules) (page_of g) h.top ps h.now ≤ k) i d.begun in
             let apart = subst (λ ps. AreApart s.heap (h.top.within ∷ map set_of ps)) i d.apart in
-            let x = one_ends (wiki_of g modules) (page_of g) (goal_of g modules work first) h.top q qs h.now h.halted.reply going h.halted.comes in
-            let waits_for = subst (λ y. WaitsFor (wiki_of g modules) (page_of g) q y h.top.began) (come_to (wiki_of g modules) (page_of g) (goal_of g modules work first) h.top (q ∷ qs) h.now h.halted.reply going h.halted.comes) going.chain.0 in
+            let x = one_ends (wiki_of g modules) (page_of g) root first h.top q qs h.now h.halted.reply going h.halted.comes in
+            let waits_for = subst (λ y. WaitsFor (wiki_of g modules) (page_of g) q y h.top.began) (come_to (wiki_of g modules) (page_of g) root first h.top (q ∷ qs) h.now h.halted.reply going h.halted.comes) going.chain.0 in
             record {
               top = q;
               below = qs;
@@ -108,9 +131,9 @@ module _ (g : Ground) (work : PageWork) (first : Left) (k₀ : ℕ) (s : StoreVi
             }
 
     pub driven_hands : tower.stack ≡ p ∷ rest → tower'.stack ≡ rest → tower'.kept ≡ tower.kept → tower'.numbers ≡ tower.numbers → KeepOf tower'.keep
-        → ((modules : Modules) → AreModulesOf g modules → (h : IsHalted g modules work first k₀ s left k tower (record { task = t; halt = halt.Comes r })) → (next : WalkState) → EndsWalk h.top.task h.halted.reply h.now next → Keeps g modules tower'.keep next)
-        → ((modules : Modules) → AreModulesOf g modules → (h : IsHalted g modules work first k₀ s left k tower (record { task = t; halt = halt.Comes r })) → (q : Place) (title : Title) (w : WalkState) → q.task ≡ Running (DataOf title) → WaitsFor (wiki_of g modules) (page_of g) q h.halted.reply w → HeightTold h.halted.reply.response h.halted.reply.tally.height high)
-        → Driven g work first k₀ s left k tower (record { task = t; halt = halt.Comes r }) → Telling g work first k₀ s left k tower' p (reply_seen r) high
+        → ((modules : Modules) → AreModulesOf g modules → (h : IsHalted g modules root first k₀ s left k tower (record { task = t; halt = halt.Comes r })) → (next : WalkState) → EndsWalk h.top.task h.halted.reply h.now next → Keeps g modules tower'.keep next)
+        → ((modules : Modules) → AreModulesOf g modules → (h : IsHalted g modules root first k₀ s left k tower (record { task = t; halt = halt.Comes r })) → (q : Place) (title : Title) (w : WalkState) → q.task ≡ Running (DataOf title) → WaitsFor (wiki_of g modules) (page_of g) q h.halted.reply w → HeightTold h.halted.reply.response h.halted.reply.tally.height high)
+        → Driven g root first k₀ s left k tower (record { task = t; halt = halt.Comes r }) → Telling g root first k₀ s left k tower' p (reply_seen r) high
     driven_hands e e' same numbers keep keeps height d =
         let all = subst (AllByRecursion (IsBelow g s)) e d.accounts.below in
         record {
@@ -134,7 +157,7 @@ module _ (g : Ground) (work : PageWork) (first : Left) (k₀ : ℕ) (s : StoreVi
   keeps_same : (modules : Modules) (keep : List (Title × Kept)) (t : Task) (r : Reply) (p : Place) (answer : PlainReply Answer) (now next : WalkState) → ReplyBy t r → IsNoData r → IsTask t p → answer.response ≡ reply_seen r → EndsWalk p.task answer now next → Keeps g modules keep now → Keeps g modules keep next
   keeps_same modules keep (task.Expansion e) r p answer now next by bare is says w k = subst (Keeps g modules keep) (sym (subst (λ x. EndsWalk x answer now next) is.1 w)) k
   keeps_same modules keep (task.Invocation m) r p answer now next by bare is says w k = subst (Keeps g modules keep) (sym (subst (λ x. EndsWalk x answer now next) is.1 w)) k
-  keeps_same modules keep (task.Load b m) (reply.Text text) p answer now next by bare is says w k = absurd by
+  keeps_same modules keep (task.Load b m) (reply.Ended so) p answer now next by bare is says w k = absurd by
   keeps_same modules keep (task.Load b m) (reply.Data d) p answer now next by bare is says w k = absurd bare
   keeps_same modules keep (task.Load b m) (reply.Spent which) p answer now next by bare is says w k =
       let e = subst (λ x. EndsWalk x answer now next) is.0 w in
@@ -143,7 +166,7 @@ module _ (g : Ground) (work : PageWork) (first : Left) (k₀ : ℕ) (s : StoreVi
         names = λ t i. ap (is_in (title_text t)) (e.1 ∙ ap (λ x. add_if (completes x) (title_text b.title) now.completed_modules) says) ∙ k.names t i;
       }
 
-  pub no_data_keeps : (modules : Modules) (tower tower' : Tower) (t : Task) (r : Reply) → tower'.keep ≡ tower.keep → ReplyBy t r → IsNoData r → (h : IsHalted g modules work first k₀ s left k tower (record { task = t; halt = halt.Comes r })) → (next : WalkState) → EndsWalk h.top.task h.halted.reply h.now next → Keeps g modules tower'.keep next
+  pub no_data_keeps : (modules : Modules) (tower tower' : Tower) (t : Task) (r : Reply) → tower'.keep ≡ tower.keep → ReplyBy t r → IsNoData r → (h : IsHalted g modules root first k₀ s left k tower (record { task = t; halt = halt.Comes r })) → (next : WalkState) → EndsWalk h.top.task h.halted.reply h.now next → Keeps g modules tower'.keep next
   no_data_keeps modules tower tower' t r e by bare h next w = subst (λ keep. Keeps g modules keep next) (sym e) (keeps_same modules tower.keep t r h.top h.halted.reply h.now next by bare h.halted.task h.halted.says w h.standing.keeps)
 
   -- the height that is told: a text tells none, and no load is told one; where an allowance is spent none is asked for

@@ -2,10 +2,10 @@
 use Rattle.std.proofs.Common.{ℕ, List, [], ◌∷◌, sym, subst}
 use Rattle.std.specs.List.{AllByRecursion}
 use Rattle.wk_base.specs.declared.left.Left.{Left}
-use Rattle.expand_meaning.specs.Outcome.{Work as PageWork}
 use Rattle.lua_meaning.specs.World.{Modules}
 use Rattle.lua_store.specs.Seen.{StoreView}
 use Rattle.lua_store.proofs.Lists.{all-to}
+use Rattle.page_meaning.specs.Tasks.{Task as PlainTask}
 use Rattle.page_points.specs.Places.{Place}
 use Rattle.page_tasks.specs.declared.task.Task.{Task}
 use Rattle.page_tasks.specs.declared.task.Halt.{Halt}
@@ -41,8 +41,8 @@ module _ (g : Ground) (s : StoreView) (n : ℕ) (left : Left) (k : ℕ) (tower :
   halted modules x p (halt.Invokes job) h = (h.0, waits_renumbered s n g modules x p h.1)
   halted modules x p (halt.Asks q) h = (h.0, waits_renumbered s n g modules x p h.1)
 
-  is_halted : (modules : Modules) (work : PageWork) (first : Left) (k₀ : ℕ) (x : Halted) → IsHalted g modules work first k₀ s left k tower x → IsHalted g modules work first k₀ t left k after x
-  is_halted modules work first k₀ x h =
+  is_halted : (modules : Modules) (root : PlainTask) (first : Left) (k₀ : ℕ) (x : Halted) → IsHalted g modules root first k₀ s left k tower x → IsHalted g modules root first k₀ t left k after x
+  is_halted modules root first k₀ x h =
       let st = h.standing in
       record {
         top = h.top;
@@ -52,8 +52,8 @@ module _ (g : Ground) (s : StoreView) (n : ℕ) (left : Left) (k : ℕ) (tower :
         halted = halted modules x.task h.top x.halt h.halted;
       }
 
-  driven_after : (work : PageWork) (first : Left) (k₀ : ℕ) (x : Halted) → (IsNumbered s tower.numbers → IsNumbered t ns) → Driven g work first k₀ s left k tower x → Driven g work first k₀ t left k after x
-  driven_after work first k₀ x numbered d =
+  driven_after : (root : PlainTask) (first : Left) (k₀ : ℕ) (x : Halted) → (IsNumbered s tower.numbers → IsNumbered t ns) → Driven g root first k₀ s left k tower x → Driven g root first k₀ t left k after x
+  driven_after root first k₀ x numbered d =
       let a = d.accounts in
       record {
         of = task_renumbered s n x.task d.of;
@@ -61,17 +61,17 @@ module _ (g : Ground) (s : StoreView) (n : ℕ) (left : Left) (k : ℕ) (tower :
         halts = d.halts;
         numbered = numbered d.numbered;
         accounts = record { below = below_renumbered tower.stack a.below; keep = a.keep; calls_are = a.calls_are; depth_is = a.depth_is; templates_are = a.templates_are; rises = a.rises; paid = a.paid };
-        placed = λ modules agree. is_halted modules work first k₀ x (d.placed modules agree);
+        placed = λ modules agree. is_halted modules root first k₀ x (d.placed modules agree);
       }
 
 module _ (g : Ground) (s : StoreView) (left : Left) (k : ℕ) (tower : Tower) (s' : StoreView) (ns : Numbers) (r : Renumbers s tower.numbers s' ns) where
-  pub driven_renumbered : (work : PageWork) (first : Left) (k₀ : ℕ) (x : Halted) → Driven g work first k₀ s left k tower x → Driven g work first k₀ s' left k (record tower { numbers = ns }) x
-  driven_renumbered work first k₀ x d =
-      subst (λ (u : StoreView). Driven g work first k₀ u left k (record tower { numbers = ns }) x) (sym r.store)
-      (driven_after g s r.env left k tower ns work first k₀ x (λ h. subst (λ (u : StoreView). IsNumbered u ns) r.store (r.numbered h)) d)
+  pub driven_renumbered : (root : PlainTask) (first : Left) (k₀ : ℕ) (x : Halted) → Driven g root first k₀ s left k tower x → Driven g root first k₀ s' left k (record tower { numbers = ns }) x
+  driven_renumbered root first k₀ x d =
+      subst (λ (u : StoreView). Driven g root first k₀ u left k (record tower { numbers = ns }) x) (sym r.store)
+      (driven_after g s r.env left k tower ns root first k₀ x (λ h. subst (λ (u : StoreView). IsNumbered u ns) r.store (r.numbered h)) d)
 
   pub progress_renumbered : (x : Halted) → InProgress g s left k tower x → InProgress g s' left k (record tower { numbers = ns }) x
-  progress_renumbered x p = record { work = p.work; first = p.first; start = p.start; fits = p.fits; driven = driven_renumbered p.work p.first p.start x p.driven }
+  progress_renumbered x p = record { root = p.root; first = p.first; start = p.start; fits = p.fits; driven = driven_renumbered p.root p.first p.start x p.driven }
 
   pub moves_renumbered : (x : Halted) (s₁ : StoreView) (left₁ : Left) (k₁ : ℕ) (tower₁ : Tower) (next : Next) → MovesOn g s' left k (record tower { numbers = ns }) x s₁ left₁ k₁ tower₁ next → MovesOn g s left k tower x s₁ left₁ k₁ tower₁ next
-  moves_renumbered x s₁ left₁ k₁ tower₁ next m work first k₀ fits d = m work first k₀ fits (driven_renumbered work first k₀ x d)
+  moves_renumbered x s₁ left₁ k₁ tower₁ next m root first k₀ fits d = m root first k₀ fits (driven_renumbered root first k₀ x d)

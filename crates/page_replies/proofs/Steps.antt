@@ -13,7 +13,7 @@ use Rattle.mw_frame.specs.declared.scene.Job.{Job}
 use Rattle.mw_frame.specs.declared.question.Ask.{Ask}
 use Rattle.mw_frame.specs.declared.question.Ask.TheVariants.{Template, Preprocess, Data}
 use Rattle.wiki_markup.specs.Trees.{Trees}
-use Rattle.expand_meaning.specs.Outcome.{Work as PageWork, Reading, Including}
+use Rattle.expand_meaning.specs.Outcome.{Reading, Including}
 use Rattle.wiki_expand.specs.Pages.{included_in}
 use Rattle.lua_meaning.specs.World.{Module, Modules}
 use Rattle.lua_meaning.specs.Questions.{Answer, Expanded, NoPage}
@@ -24,10 +24,12 @@ use Rattle.lua_code.specs.Held.{modules_seen}
 use Rattle.lua_store.specs.Seen.{StoreView}
 use Rattle.lua_machine.specs.declared.machine.Machine.{Machine}
 use Rattle.page_meaning.specs.Wiki.{read}
+use Rattle.page_meaning.specs.declared.outcome.JobOutcome.{JobOutcome}
 use Rattle.page_meaning.specs.Told.{absent, completes}
+use Rattle.page_meaning.specs.Outcomes.{outcome_text}
 use Rattle.page_meaning.specs.Laws.{IsKept}
 use Rattle.page_meaning.specs.Drive.{load}
-use Rattle.page_meaning.specs.Tasks.{Running, Expanding, OfLua, OfPage, including, loading, total_or_absent, answer_to}
+use Rattle.page_meaning.specs.Tasks.{Task as PlainTask, Running, Expanding, OfLua, OfPage, including, loading, total_or_absent, answer_to}
 use Rattle.page_points.specs.Loads.{IsPaid}
 use Rattle.page_points.specs.Places.{EndsWalk, IsFresh}
 use Rattle.page_points.proofs.Moves.{come_to}
@@ -47,7 +49,7 @@ use Rattle.page_ground.specs.Seen.{data_seen}
 use Rattle.page_tasks.specs.Going.{HeightTold, IsToldWell, Halts, GoesOn, GoesOnWith}
 use Rattle.page_tasks.specs.Beginning.{Begins, BeginsWith}
 use Rattle.page_ground.specs.Kept.{kept_for, keep_with, KeepOf, IsEntry, Keeps, IsShort}
-use Rattle.page_replies.specs.Driven.{goal_of, IsHalted, Driven, Starting, Telling, MovesOn, StartsOn}
+use Rattle.page_replies.specs.Driven.{IsHalted, Driven, Starting, Telling, MovesOn, StartsOn}
 use Rattle.page_replies.proofs.Goings.{driven_goes, driven_told}
 use Rattle.page_replies.proofs.Hands.{driven_hands, no_data_keeps, text_height, spent_height}
 use Rattle.page_replies.proofs.Asks.{AsksFor, driven_begins, driven_answers}
@@ -58,13 +60,13 @@ module _ (g : Ground) (s : StoreView) (left : Left) (k : ℕ) (tower : Tower) (p
   abbrev full : Tower
   full = record tower { stack = p ∷ tower.stack }
 
-  pub text_moves : (top : Task) (text : List ℕ) (s' : StoreView) (left' : Left) (k' : ℕ) (x : Halted) → Halts s left k p s' left' k' x → ((n : ℕ) → k' ≡ k + n → GoesOnWith s left p (Gives (Expanded text)) 0 s' left' n x)
-      → MovesOn g s left k full (record { task = top; halt = halt.Comes (reply.Text text) }) s' left' k' tower (next.On x)
-  text_moves top text s' left' k' x h goes work first k₀ fits d =
-      driven_told g work first k₀ s left k tower s' left' k' x p (Gives (Expanded text)) 0
-      (driven_hands g work first k₀ s left k full tower top p (reply.Text text) tower.stack 0 refl refl refl refl d.accounts.keep
-      (λ modules agree i next w. no_data_keeps g work first k₀ s left k modules full tower top (reply.Text text) refl d.halts tt i next w)
-      (λ modules agree i q title w is f. text_height g work first k₀ s left k modules text q title i.halted.reply w i.halted.says is f) d)
+  pub text_moves : (top : Task) (so : JobOutcome) (s' : StoreView) (left' : Left) (k' : ℕ) (x : Halted) → Halts s left k p s' left' k' x → ((n : ℕ) → k' ≡ k + n → GoesOnWith s left p (Gives (Expanded (outcome_text so))) 0 s' left' n x)
+      → MovesOn g s left k full (record { task = top; halt = halt.Comes (reply.Ended so) }) s' left' k' tower (next.On x)
+  text_moves top so s' left' k' x h goes root first k₀ fits d =
+      driven_told g root first k₀ s left k tower s' left' k' x p (Gives (Expanded (outcome_text so))) 0
+      (driven_hands g root first k₀ s left k full tower top p (reply.Ended so) tower.stack 0 refl refl refl refl d.accounts.keep
+      (λ modules agree i next w. no_data_keeps g root first k₀ s left k modules full tower top (reply.Ended so) refl d.halts tt i next w)
+      (λ modules agree i q title w is f. text_height g root first k₀ s left k modules (outcome_text so) q title i.halted.reply w i.halted.says is f) d)
       h goes
 
   none_counted : (n : ℕ) → k ≡ k + n → n ≡ 0
@@ -72,11 +74,11 @@ module _ (g : Ground) (s : StoreView) (left : Left) (k : ℕ) (tower : Tower) (p
 
   pub spent_moves : (top : Task) (which : Which) (left' : Left) (x : Halted) → Halts s left k p s left' k x → ((high : ℕ) → GoesOnWith s left p (Exhausts which) high s left' 0 x)
       → MovesOn g s left k full (record { task = top; halt = halt.Comes (reply.Spent which) }) s left' k tower (next.On x)
-  spent_moves top which left' x h goes work first k₀ fits d =
-      driven_told g work first k₀ s left k tower s left' k x p (Exhausts which) 0
-      (driven_hands g work first k₀ s left k full tower top p (reply.Spent which) tower.stack 0 refl refl refl refl d.accounts.keep
-      (λ modules agree i next w. no_data_keeps g work first k₀ s left k modules full tower top (reply.Spent which) refl d.halts tt i next w)
-      (λ modules agree i q title w is f. spent_height g work first k₀ s left k which i.halted.reply 0 i.halted.says) d)
+  spent_moves top which left' x h goes root first k₀ fits d =
+      driven_told g root first k₀ s left k tower s left' k x p (Exhausts which) 0
+      (driven_hands g root first k₀ s left k full tower top p (reply.Spent which) tower.stack 0 refl refl refl refl d.accounts.keep
+      (λ modules agree i next w. no_data_keeps g root first k₀ s left k modules full tower top (reply.Spent which) refl d.halts tt i next w)
+      (λ modules agree i q title w is f. spent_height g root first k₀ s left k which i.halted.reply 0 i.halted.says) d)
       h (λ n e. subst (λ c. GoesOnWith s left p (Exhausts which) 0 s left' c x) (sym (none_counted n e)) (goes 0))
 
   -- data is kept
@@ -90,10 +92,10 @@ module _ (g : Ground) (s : StoreView) (left : Left) (k : ℕ) (tower : Tower) (p
     least : (a c : ℕ) → a ≤ c → min a c ≡ a
     least a c le = grind (arith, le)
 
-    module _ (work : PageWork) (first : Left) (k₀ : ℕ) (modules : Modules) (i : IsHalted g modules work first k₀ s left k full (record { task = task.Load b m; halt = halt.Comes (reply.Data given) })) where
+    module _ (root : PlainTask) (first : Left) (k₀ : ℕ) (modules : Modules) (i : IsHalted g modules root first k₀ s left k full (record { task = task.Load b m; halt = halt.Comes (reply.Data given) })) where
       paid : IsKept (wiki_of g modules) (page_of g) b.title (data_seen given) (i.top.first.steps - i.halted.reply.left.steps) i.halted.reply.tally.height × IsPaid i.top.first i.halted.reply
       paid = load_is_kept (wiki_of g modules) (page_of g) b.title i.top i.halted.reply (data_seen given) i.halted.task.0
-          (come_to (wiki_of g modules) (page_of g) (goal_of g modules work first) i.top i.below i.now i.halted.reply i.standing.going i.halted.comes) i.halted.says
+          (come_to (wiki_of g modules) (page_of g) root first i.top i.below i.now i.halted.reply i.standing.going i.halted.comes) i.halted.says
 
       height_is : min m.height left.calls ≡ i.halted.reply.tally.height
       height_is =
@@ -117,41 +119,41 @@ module _ (g : Ground) (s : StoreView) (left : Left) (k : ℕ) (tower : Tower) (p
 
     pub data_moves : (s' : StoreView) (left' : Left) (k' : ℕ) (x : Halted) → Halts s left k p s' left' k' x → ((n : ℕ) → k' ≡ k + n → GoesOnWith s left p (Gives (data_seen given)) (min m.height left.calls) s' left' n x)
         → MovesOn g s left k full (record { task = task.Load b m; halt = halt.Comes (reply.Data given) }) s' left' k' tower' (next.On x)
-    data_moves s' left' k' x h goes work first k₀ fits d =
-        driven_told g work first k₀ s left k tower' s' left' k' x p (Gives (data_seen given)) (min m.height left.calls)
-        (driven_hands g work first k₀ s left k full tower' (task.Load b m) p (reply.Data given) tower.stack (min m.height left.calls) refl refl refl refl (keep_with_of tower.keep b.title kept d.accounts.keep (d.of.1, d.halts))
-        (λ modules agree i next w. keeps work first k₀ modules i d.of.1 next w)
-        (λ modules agree i q title w is f. told work first k₀ modules i) d)
+    data_moves s' left' k' x h goes root first k₀ fits d =
+        driven_told g root first k₀ s left k tower' s' left' k' x p (Gives (data_seen given)) (min m.height left.calls)
+        (driven_hands g root first k₀ s left k full tower' (task.Load b m) p (reply.Data given) tower.stack (min m.height left.calls) refl refl refl refl (keep_with_of tower.keep b.title kept d.accounts.keep (d.of.1, d.halts))
+        (λ modules agree i next w. keeps root first k₀ modules i d.of.1 next w)
+        (λ modules agree i q title w is f. told root first k₀ modules i) d)
         h goes
 
 -- A TASK BEGINS above the one that asks
 pub starts_on : (g : Ground) (s : StoreView) (left : Left) (k : ℕ) (tower : Tower) (t : Task) (s' : StoreView) (left' : Left) (k' : ℕ) (x : Halted) → Halts s left k t s' left' k' x → ((n : ℕ) → k' ≡ k + n → GoesOn s left t s' left' n x) → StartsOn g s left k tower t s' left' k' tower (next.On x)
-starts_on g s left k tower t s' left' k' x h goes work first k₀ fits st = driven_goes g work first k₀ s left k tower s' left' k' x t st h goes
+starts_on g s left k tower t s' left' k' x h goes root first k₀ fits st = driven_goes g root first k₀ s left k tower s' left' k' x t st h goes
 
 module _ (g : Ground) (s : StoreView) (left : Left) (k : ℕ) (tower : Tower) (t : Task) where
   abbrev with_top : Tower
   with_top = record tower { stack = t ∷ tower.stack }
 
-  pub asks_job : (job : Job) (work : PageWork) (first : Left) (k₀ : ℕ) → Driven g work first k₀ s left k tower (record { task = t; halt = halt.Invokes job }) → AsksFor g s left t (halt.Invokes job) (OfPage job)
-  asks_job job work first k₀ d = record { counts = λ n. refl; waits = d.halts.0; asks = λ modules p h. h }
+  pub asks_job : (job : Job) (root : PlainTask) (first : Left) (k₀ : ℕ) → Driven g root first k₀ s left k tower (record { task = t; halt = halt.Invokes job }) → AsksFor g s left t (halt.Invokes job) (OfPage job)
+  asks_job job root first k₀ d = record { counts = λ n. refl; waits = d.halts.0; asks = λ modules p h. h }
 
-  pub asks_lua : (q : Ask) (work : PageWork) (first : Left) (k₀ : ℕ) → Driven g work first k₀ s left k tower (record { task = t; halt = halt.Asks q }) → AsksFor g s left t (halt.Asks q) (OfLua q)
-  asks_lua q work first k₀ d = record { counts = λ n. refl; waits = d.halts; asks = λ modules p h. h }
+  pub asks_lua : (q : Ask) (root : PlainTask) (first : Left) (k₀ : ℕ) → Driven g root first k₀ s left k tower (record { task = t; halt = halt.Asks q }) → AsksFor g s left t (halt.Asks q) (OfLua q)
+  asks_lua q root first k₀ d = record { counts = λ n. refl; waits = d.halts; asks = λ modules p h. h }
 
-  pub invocation_starts : (job : Job) (inner : Task) (s' : StoreView) → Begins g (Running (Invoke job)) s s' inner → (work : PageWork) (first : Left) (k₀ : ℕ) → Driven g work first k₀ s left k tower (record { task = t; halt = halt.Invokes job }) → Starting g work first k₀ s' left k with_top inner
-  invocation_starts job inner s' b work first k₀ d =
-      driven_begins g work first k₀ s left k tower with_top t (halt.Invokes job) (OfPage job) (asks_job job work first k₀ d) d inner s' (Running (Invoke job)) b.begins refl refl refl refl
+  pub invocation_starts : (job : Job) (inner : Task) (s' : StoreView) → Begins g (Running (Invoke job)) s s' inner → (root : PlainTask) (first : Left) (k₀ : ℕ) → Driven g root first k₀ s left k tower (record { task = t; halt = halt.Invokes job }) → Starting g root first k₀ s' left k with_top inner
+  invocation_starts job inner s' b root first k₀ d =
+      driven_begins g root first k₀ s left k tower with_top t (halt.Invokes job) (OfPage job) (asks_job job root first k₀ d) d inner s' (Running (Invoke job)) b.begins refl refl refl refl
       (λ modules agree began. b.starts modules agree left began) (λ modules agree. refl) (λ modules agree now keeps. tt)
 
-  pub text_starts : (scene : Scene) (text : List ℕ) (inner : Task) → Begins g (Expanding (Reading (read text) scene)) s s inner → (work : PageWork) (first : Left) (k₀ : ℕ) → Driven g work first k₀ s left k tower (record { task = t; halt = halt.Asks (Preprocess scene text) }) → Starting g work first k₀ s left k with_top inner
-  text_starts scene text inner b work first k₀ d =
-      driven_begins g work first k₀ s left k tower with_top t (halt.Asks (Preprocess scene text)) (OfLua (Preprocess scene text)) (asks_lua (Preprocess scene text) work first k₀ d) d inner s (Expanding (Reading (read text) scene)) b.begins refl refl refl refl
+  pub text_starts : (scene : Scene) (text : List ℕ) (inner : Task) → Begins g (Expanding (Reading (read text) scene)) s s inner → (root : PlainTask) (first : Left) (k₀ : ℕ) → Driven g root first k₀ s left k tower (record { task = t; halt = halt.Asks (Preprocess scene text) }) → Starting g root first k₀ s left k with_top inner
+  text_starts scene text inner b root first k₀ d =
+      driven_begins g root first k₀ s left k tower with_top t (halt.Asks (Preprocess scene text)) (OfLua (Preprocess scene text)) (asks_lua (Preprocess scene text) root first k₀ d) d inner s (Expanding (Reading (read text) scene)) b.begins refl refl refl refl
       (λ modules agree began. b.starts modules agree left began) (λ modules agree. refl) (λ modules agree now keeps. tt)
 
-  pub template_starts : (scene : Scene) (title : Title) (args : List Arg) (trees : Trees) (inner : Task) → included_in g.pages title ≡ Some trees → Begins g (Expanding (Including trees title record scene { args = args })) s s inner → (work : PageWork) (first : Left) (k₀ : ℕ)
-      → Driven g work first k₀ s left k tower (record { task = t; halt = halt.Asks (Template scene title args) }) → Starting g work first k₀ s left k with_top inner
-  template_starts scene title args trees inner e b work first k₀ d =
-      driven_begins g work first k₀ s left k tower with_top t (halt.Asks (Template scene title args)) (OfLua (Template scene title args)) (asks_lua (Template scene title args) work first k₀ d) d inner s (Expanding (Including trees title record scene { args = args })) b.begins refl refl refl refl
+  pub template_starts : (scene : Scene) (title : Title) (args : List Arg) (trees : Trees) (inner : Task) → included_in g.pages title ≡ Some trees → Begins g (Expanding (Including trees title record scene { args = args })) s s inner → (root : PlainTask) (first : Left) (k₀ : ℕ)
+      → Driven g root first k₀ s left k tower (record { task = t; halt = halt.Asks (Template scene title args) }) → Starting g root first k₀ s left k with_top inner
+  template_starts scene title args trees inner e b root first k₀ d =
+      driven_begins g root first k₀ s left k tower with_top t (halt.Asks (Template scene title args)) (OfLua (Template scene title args)) (asks_lua (Template scene title args) root first k₀ d) d inner s (Expanding (Including trees title record scene { args = args })) b.begins refl refl refl refl
       (λ modules agree began. b.starts modules agree left began) (λ modules agree. ap (λ o. including o title scene args) e) (λ modules agree now keeps. tt)
 
   -- THERE IS NO SUCH PAGE
@@ -163,17 +165,17 @@ module _ (g : Ground) (s : StoreView) (left : Left) (k : ℕ) (tower : Tower) (t
   no_charge : (w : WalkState) → w ≡ pass_repeat 0 w
   no_charge w = let z : w.repeat_charges ≡ w.repeat_charges + 0 = omega arith in ap (λ n. record w { repeat_charges = n }) z
 
-  none_told : (q : Ask) → ((modules : Modules) → AreModulesOf g modules → answer_to (wiki_of g modules) (page_of g) (OfLua q) left ≡ absent left) → (work : PageWork) (first : Left) (k₀ : ℕ)
-      → Driven g work first k₀ s left k tower (record { task = t; halt = halt.Asks q }) → Telling g work first k₀ s left k tower t (Gives NoPage) 0
-  none_told q bare work first k₀ d =
+  none_told : (q : Ask) → ((modules : Modules) → AreModulesOf g modules → answer_to (wiki_of g modules) (page_of g) (OfLua q) left ≡ absent left) → (root : PlainTask) (first : Left) (k₀ : ℕ)
+      → Driven g root first k₀ s left k tower (record { task = t; halt = halt.Asks q }) → Telling g root first k₀ s left k tower t (Gives NoPage) 0
+  none_told q bare root first k₀ d =
       let kept : tower.kept ≡ tower.kept + 0 = omega arith in
       let steps : left.steps ≡ left.steps - 0 = omega arith in
-      driven_answers g work first k₀ s left k tower tower t (halt.Asks q) (OfLua q) (asks_lua q work first k₀ d) d left 0 (Gives NoPage) 0 refl refl kept refl (ap (λ n. record left { steps = n }) steps) (omega arith)
+      driven_answers g root first k₀ s left k tower tower t (halt.Asks q) (OfLua q) (asks_lua q root first k₀ d) d left 0 (Gives NoPage) 0 refl refl kept refl (ap (λ n. record left { steps = n }) steps) (omega arith)
       (λ modules agree now keeps. record { reply = absent left; is = bare modules agree; says_so = refl; leaves = refl; invokes = refl; walks = no_charge now; well = well_none t })
 
   pub none_moves : (q : Ask) → ((modules : Modules) → AreModulesOf g modules → answer_to (wiki_of g modules) (page_of g) (OfLua q) left ≡ absent left) → (s' : StoreView) (left' : Left) (k' : ℕ) (x : Halted) → Halts s left k t s' left' k' x → ((n : ℕ) → k' ≡ k + n → GoesOnWith s left t (Gives NoPage) 0 s' left' n x)
       → MovesOn g s left k tower (record { task = t; halt = halt.Asks q }) s' left' k' tower (next.On x)
-  none_moves q bare s' left' k' x h goes work first k₀ fits d = driven_told g work first k₀ s left k tower s' left' k' x t (Gives NoPage) 0 (none_told q bare work first k₀ d) h goes
+  none_moves q bare s' left' k' x h goes root first k₀ fits d = driven_told g root first k₀ s left k tower s' left' k' x t (Gives NoPage) 0 (none_told q bare root first k₀ d) h goes
 
   pub no_template : (scene : Scene) (title : Title) (args : List Arg) → included_in g.pages title ≡ None → (modules : Modules) → answer_to (wiki_of g modules) (page_of g) (OfLua (Template scene title args)) left ≡ absent left
   no_template scene title args e modules = ap (λ o. total_or_absent (wiki_of g modules) (page_of g) (including o title scene args) left) e
@@ -204,10 +206,10 @@ module _ (g : Ground) (s : StoreView) (left : Left) (k : ℕ) (tower : Tower) (t
   fresh_by title modules now named of keeps None e short = new_is_fresh (wiki_of g modules) (page_of g) title left now (keeps.names title named ∙ ap is_some e)
   fresh_by title modules now named of keeps (Some x) e short = short_is_fresh (wiki_of g modules) (page_of g) title (data_seen x.given) x.charge x.height left now (entry_is g modules tower.keep now title x named of keeps e) short
 
-  pub load_starts : (title : Title) (inner : Task) (s' : StoreView) → is_module title.ns ≡ true → IsTrue (is_some (modules_seen g.world.modules.now (title_text title))) → IsShort (kept_for tower.keep title) left → BeginsWith g (Running (DataOf title)) left.steps s s' inner → (work : PageWork) (first : Left) (k₀ : ℕ)
-      → Driven g work first k₀ s left k tower (record { task = t; halt = halt.Asks (Data title) }) → Starting g work first k₀ s' left k with_top inner
-  load_starts title inner s' named there short b work first k₀ d =
-      driven_begins g work first k₀ s left k tower with_top t (halt.Asks (Data title)) (OfLua (Data title)) (asks_lua (Data title) work first k₀ d) d inner s' (Running (DataOf title)) b.begins refl refl refl refl
+  pub load_starts : (title : Title) (inner : Task) (s' : StoreView) → is_module title.ns ≡ true → IsTrue (is_some (modules_seen g.world.modules.now (title_text title))) → IsShort (kept_for tower.keep title) left → BeginsWith g (Running (DataOf title)) left.steps s s' inner → (root : PlainTask) (first : Left) (k₀ : ℕ)
+      → Driven g root first k₀ s left k tower (record { task = t; halt = halt.Asks (Data title) }) → Starting g root first k₀ s' left k with_top inner
+  load_starts title inner s' named there short b root first k₀ d =
+      driven_begins g root first k₀ s left k tower with_top t (halt.Asks (Data title)) (OfLua (Data title)) (asks_lua (Data title) root first k₀ d) d inner s' (Running (DataOf title)) b.begins refl refl refl refl
       (λ modules agree began. b.starts modules agree left began refl)
       (λ modules agree. ap (λ o. loading o title) (module_held title modules agree there).1)
       (λ modules agree now keeps. fresh_by title modules now named d.accounts.keep keeps (kept_for tower.keep title) refl short)
@@ -225,9 +227,9 @@ module _ (g : Ground) (s : StoreView) (left : Left) (k : ℕ) (tower : Tower) (t
     abbrev tower_after : Tower
     tower_after = record tower { kept = tower.kept + kept.charge }
 
-    kept_told : (work : PageWork) (first : Left) (k₀ : ℕ) → Driven g work first k₀ s left k tower (record { task = t; halt = halt.Asks (Data title) }) → Telling g work first k₀ s left_after k tower_after t (Gives (data_seen kept.given)) kept.height
-    kept_told work first k₀ d =
-        driven_answers g work first k₀ s left k tower tower_after t (halt.Asks (Data title)) (OfLua (Data title)) (asks_lua (Data title) work first k₀ d) d left_after kept.charge (Gives (data_seen kept.given)) kept.height refl refl refl refl refl paid
+    kept_told : (root : PlainTask) (first : Left) (k₀ : ℕ) → Driven g root first k₀ s left k tower (record { task = t; halt = halt.Asks (Data title) }) → Telling g root first k₀ s left_after k tower_after t (Gives (data_seen kept.given)) kept.height
+    kept_told root first k₀ d =
+        driven_answers g root first k₀ s left k tower tower_after t (halt.Asks (Data title)) (OfLua (Data title)) (asks_lua (Data title) root first k₀ d) d left_after kept.charge (Gives (data_seen kept.given)) kept.height refl refl refl refl refl paid
         (λ modules agree now keeps.
         let m = module_held title modules agree there in
         let entry = entry_is g modules tower.keep now title kept named d.accounts.keep keeps found in
@@ -245,4 +247,4 @@ module _ (g : Ground) (s : StoreView) (left : Left) (k : ℕ) (tower : Tower) (t
 
     pub kept_moves : (s' : StoreView) (left' : Left) (k' : ℕ) (x : Halted) → Halts s left_after k t s' left' k' x → ((n : ℕ) → k' ≡ k + n → GoesOnWith s left_after t (Gives (data_seen kept.given)) kept.height s' left' n x)
         → MovesOn g s left k tower (record { task = t; halt = halt.Asks (Data title) }) s' left' k' tower_after (next.On x)
-    kept_moves s' left' k' x h goes work first k₀ fits d = driven_told g work first k₀ s left_after k tower_after s' left' k' x t (Gives (data_seen kept.given)) kept.height (kept_told work first k₀ d) h goes
+    kept_moves s' left' k' x h goes root first k₀ fits d = driven_told g root first k₀ s left_after k tower_after s' left' k' x t (Gives (data_seen kept.given)) kept.height (kept_told root first k₀ d) h goes

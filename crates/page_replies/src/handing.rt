@@ -150,9 +150,9 @@ fn hand_down<'w, L: Ledger>(
     ensures numbers { OnOk result (tower.new.numbers ≡ tower.old.numbers) }
 {
     match reply {
-        Reply::Text(text) => {
+        Reply::Ended(so) => {
             drop(task);
-            let halted = tell_text(around.alloc, store, left, waiting, text, turns)?;
+            let halted = tell_text(around.alloc, store, left, waiting, so, turns)?;
             Ok(Next::On(halted))
         }
         Reply::Data(data) => hand_data(around, store, left, tower, task, data, waiting, turns),

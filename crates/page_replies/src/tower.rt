@@ -13,7 +13,7 @@ pub struct Tower<'w> {
     pub numbers: Numbers,
 }
 
-/// What is next: the page is expanded, or a task has halted.
+/// What is next: the page is expanded, with what its root came to, or a task has halted.
 #[derive(Drop)]
 pub enum Next<'w> {
     Over(Reply),

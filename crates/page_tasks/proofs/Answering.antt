@@ -10,7 +10,7 @@ use Rattle.lua_heap.specs.Value.{Value}
 use Rattle.lua_heap.specs.Heap.{Heap}
 use Rattle.lua_heap.specs.Reach.{Set, union}
 use Rattle.lua_meaning.specs.World.{Modules}
-use Rattle.lua_meaning.specs.Questions.{Answer, Expanded}
+use Rattle.lua_meaning.specs.Questions.{Answer}
 use Rattle.lua_meaning.specs.Acts.{Jump}
 use Rattle.lua_meaning.specs.Start.{Work, Invoke, DataOf}
 use Rattle.lua_slots.specs.Slots.{Slots}
@@ -29,10 +29,10 @@ use Rattle.lua_machine.specs.Moved.{point_of}
 use Rattle.lua_machine.specs.Events.{MachineOf}
 use Rattle.page_meaning.specs.Wiki.{world}
 use Rattle.wiki_expand.specs.declared.expander.Expander.{Expander}
-use Rattle.page_meaning.specs.Told.{spent_text}
+use Rattle.page_meaning.specs.declared.outcome.JobOutcome.TheVariants as ending
 use Rattle.page_meaning.specs.Tasks.{Running, text_of}
 use Rattle.page_points.specs.Places.{Place, replied}
-use Rattle.page_points.specs.Machines.{KnowsHeight, Stood, spent_told, EndsAs}
+use Rattle.page_points.specs.Machines.{KnowsHeight, Stood, spent_told, EndedSo, EndsAs}
 use Rattle.page_points.specs.Apart.{LeavesAlone}
 use Rattle.page_points.proofs.Machines.{machine_is_answered, machine_is_refused}
 use Rattle.page_points.proofs.Apart.{nothing_changes, answering_leaves, one_after_another}
@@ -167,8 +167,8 @@ calls_fit calls left high a b = omega (arith, a, b)
 
 -- IT IS SPENT with the answer
 module _ (m : Machine) (l l' : Left) (back : l' ≡ record l { calls = l.calls + m.state.calls }) where
-  pub invocation_refused_falls : (text : List ℕ) → Falls l (task.Invocation m) l' (record { task = task.Invocation m; halt = halt.Comes (reply.Text text) })
-  invocation_refused_falls text = (omega (arith, ap (λ (v : Left). v.steps) back), omega (arith, ap (λ (v : Left). v.nodes) back))
+  pub invocation_refused_falls : (which : Which) → Falls l (task.Invocation m) l' (record { task = task.Invocation m; halt = halt.Comes (reply.Ended (ending.Spent which)) })
+  invocation_refused_falls which = (omega (arith, ap (λ (v : Left). v.steps) back), omega (arith, ap (λ (v : Left). v.nodes) back))
 
   pub load_refused_falls : (b : Begun) (which : Which) → Falls l (task.Load b m) l' (record { task = task.Load b m; halt = halt.Comes (reply.Spent which) })
   load_refused_falls b which = (omega (arith, ap (λ (v : Left). v.steps) back), omega (arith, ap (λ (v : Left). v.nodes) back))
@@ -178,12 +178,12 @@ module _ (m : Machine) (which : Which) (s : StoreView) (l l' : Left) (back : l' 
   done p r = record (replied p r) { nodes = p.nodes + 0; within = p.within }
 
   refused : (g : Ground) (modules : Modules) (p : Place) → MachineWaits g modules s m p → (r : PlainReply Answer) → r.response ≡ Exhausts which → r.left ≡ l
-      → (work : Work) × (p.task ≡ Running work) × ((high : ℕ) × EndsAs (wiki_of g modules) (page_of g) (done p r) work (spent_told work which) l' high)
+      → (work : Work) × (p.task ≡ Running work) × ((high : ℕ) × EndsAs (wiki_of g modules) (page_of g) (done p r) work (ending.Spent which) (spent_told work which) l' high)
   refused g modules p w r says leaves =
       let x = machine_is_refused (world_seen g.world) (wiki_of g modules) (page_of g) p w.question (frames_of s m.state) (slots_of s m.state) w.left m.state.calls m.height w.stood which r says in
       let same : record r.left { calls = r.left.calls + m.state.calls } ≡ l' = ap (λ (v : Left). record v { calls = v.calls + m.state.calls }) leaves ∙ sym back in
       let zero : p.nodes + 0 ≡ p.nodes = omega arith in
-      (w.stood.work, w.stood.is, (x.0, subst (λ n. EndsAs (wiki_of g modules) (page_of g) (record (replied p r) { nodes = n }) w.stood.work (spent_told w.stood.work which) l' x.0) (sym zero) (subst (λ (v : Left). EndsAs (wiki_of g modules) (page_of g) (replied p r) w.stood.work (spent_told w.stood.work which) v x.0) same x.1)))
+      (w.stood.work, w.stood.is, (x.0, subst (λ n. EndsAs (wiki_of g modules) (page_of g) (record (replied p r) { nodes = n }) w.stood.work (ending.Spent which) (spent_told w.stood.work which) l' x.0) (sym zero) (subst (λ (v : Left). EndsAs (wiki_of g modules) (page_of g) (replied p r) w.stood.work (ending.Spent which) (spent_told w.stood.work which) v x.0) same x.1)))
 
   sums : (n : ℕ) → l'.calls + 0 ≡ l.calls + m.state.calls
   sums n = omega (arith, ap (λ (v : Left). v.calls) back)
@@ -197,8 +197,8 @@ module _ (m : Machine) (which : Which) (s : StoreView) (l l' : Left) (back : l' 
   steps_same : l'.steps ≡ l.steps
   steps_same = ap (λ (v : Left). v.steps) back
 
-  pub invocation_refused_halts : (k : ℕ) (text : List ℕ) → MachineOf s m → Halts s l k (task.Invocation m) s l' k (record { task = task.Invocation m; halt = halt.Comes (reply.Text text) })
-  invocation_refused_halts k text of = record {
+  pub invocation_refused_halts : (k : ℕ) → MachineOf s m → Halts s l k (task.Invocation m) s l' k (record { task = task.Invocation m; halt = halt.Comes (reply.Ended (ending.Spent which)) })
+  invocation_refused_halts k of = record {
     of = of;
     halts = tt;
     ground = λ g i. i;
@@ -219,8 +219,8 @@ module _ (m : Machine) (which : Which) (s : StoreView) (l l' : Left) (back : l' 
     paid = omega (arith, steps_same);
   }
 
-  pub invocation_refused : (high : ℕ) (text : List ℕ) → text ≡ spent_text which → GoesOnWith s l (task.Invocation m) (Exhausts which) high s l' 0 (record { task = task.Invocation m; halt = halt.Comes (reply.Text text) })
-  invocation_refused high text e g ground modules agree p w _ r says leaves well =
+  pub invocation_refused : (high : ℕ) → GoesOnWith s l (task.Invocation m) (Exhausts which) high s l' 0 (record { task = task.Invocation m; halt = halt.Comes (reply.Ended (ending.Spent which)) })
+  invocation_refused high g ground modules agree p w _ r says leaves well =
       let x = refused g modules p w.waits r says leaves in
       let work = work_is x.0 (Invoke w.task.0) (sym x.1 ∙ w.task.1) in
       let y = x.2.1 in (
@@ -230,9 +230,10 @@ module _ (m : Machine) (which : Which) (s : StoreView) (l l' : Left) (back : l' 
             task = w.task;
             reply = y.reply;
             comes = y.comes;
-            says = y.says_so ∙ ap (λ v. spent_told v which) work ∙ ap (λ t. Says (Expanded t)) (sym e);
+            says = y.says_so ∙ ap (λ v. spent_told v which) work;
             leaves = y.leaves;
             height = tt;
+            ended = (w.task.0, w.task.1, subst (λ v. EndedSo (wiki_of g modules) (page_of g) (done p r) v (ending.Spent which)) work y.ended);
           };
           alone = nothing_changes p.within s.heap;
         },
@@ -252,6 +253,7 @@ module _ (m : Machine) (which : Which) (s : StoreView) (l l' : Left) (back : l' 
             says = y.says_so ∙ ap (λ v. spent_told v which) work;
             leaves = y.leaves;
             height = tt;
+            ended = tt;
           };
           alone = nothing_changes p.within s.heap;
         },

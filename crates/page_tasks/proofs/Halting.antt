@@ -5,9 +5,9 @@ use Rattle.wk_base.specs.Titles.{is_module}
 use Rattle.mw_frame.specs.declared.scene.Job.{Job}
 use Rattle.page_run.specs.State.{Response, Gives}
 use Rattle.lua_meaning.specs.World.{Modules}
-use Rattle.lua_meaning.specs.Questions.{Answer}
+use Rattle.lua_meaning.specs.Questions.{Answer, Expanded}
 use Rattle.lua_slots.specs.Points.{Asking}
-use Rattle.lua_meaning.specs.Start.{Work, Invoke, DataOf}
+use Rattle.lua_meaning.specs.Start.{Work, Invoke, DataOf, end_of}
 use Rattle.lua_points.specs.Clauses.{CanGo as MachineCanGo, GoIs}
 use Rattle.lua_store.specs.Seen.{StoreView}
 use Rattle.lua_state.specs.declared.codes.World.{World}
@@ -19,9 +19,13 @@ use Rattle.lua_machine.specs.declared.event.Event.TheVariants as event
 use Rattle.lua_machine.specs.Moved.{point_of}
 use Rattle.lua_machine.specs.Events.{BackAt, stop_seen, funds_after}
 use Rattle.page_meaning.specs.Wiki.{world}
+use Rattle.page_meaning.specs.declared.outcome.JobOutcome.{JobOutcome}
+use Rattle.page_meaning.specs.declared.outcome.JobOutcome.TheVariants as ending
+use Rattle.page_meaning.specs.Outcomes.{end_outcome}
 use Rattle.page_meaning.specs.Tasks.{Running, OfLua, Wants}
+use Rattle.page_meaning.proofs.OutcomeLaws.{end_is_told}
 use Rattle.page_points.specs.Places.{Place, next_of}
-use Rattle.page_points.specs.Machines.{KnowsHeight, Stood, gone, end_told, spent_told, EndsAs}
+use Rattle.page_points.specs.Machines.{KnowsHeight, Stood, gone, end_told, spent_told, EndedSo, EndsAs}
 use Rattle.page_points.specs.Apart.{LeavesAlone}
 use Rattle.page_points.proofs.Machines.{machine_asks, machine_ends, machine_is_spent}
 use Rattle.page_points.proofs.Apart.{going_leaves}
@@ -126,12 +130,12 @@ module _ (s : StoreView) (left : Left) (k : ℕ) (m : Machine) (s' : StoreView) 
     abbrev there : Place
     there = gone p s.heap s'.heap n
 
-    abbrev Ended : Response Answer → Left → ℕ → Type 0
-    Ended says l high = EndsAs (wiki_of g modules) (page_of g) there stood.work says l high
+    abbrev Ended : JobOutcome → Response Answer → Left → ℕ → Type 0
+    Ended so says l high = EndsAs (wiki_of g modules) (page_of g) there stood.work so says l high
 
     abbrev Came : Event → Type 0
-    Came (event.Over o) = Ended (Gives (end_told stood.work s'.heap (outcome_seen s'.texts o))) left' m'.height
-    Came (event.Spent w) = Ended (spent_told stood.work w) left' m'.height
+    Came (event.Over o) = Ended (end_outcome (end_of (outcome_seen s'.texts o))) (Gives (end_told stood.work s'.heap (outcome_seen s'.texts o))) left' m'.height
+    Came (event.Spent w) = Ended (ending.Spent w) (spent_told stood.work w) left' m'.height
     Came (event.Asks q) = (next_of (wiki_of g modules) (page_of g) there ≡ Wants (OfLua q) left') × MachineWaits g modules s' m' there
 
     goes_to : GoIs (world_seen g.world) (point_of s m.state m.next) (slots_of s m.state) left m.state.calls (stop_seen s' m'.state e (funds_after left' m'.state n))
@@ -145,13 +149,13 @@ module _ (s : StoreView) (left : Left) (k : ℕ) (m : Machine) (s' : StoreView) 
     comes_by : (e : Event) → GoIs (world_seen g.world) (point_of s m.state m.next) (slots_of s m.state) left m.state.calls (stop_seen s' m'.state e (funds_after left' m'.state n)) → BackAt e left m.state.calls left' m'.state.calls → Came e × LeavesAlone p.within s.heap s'.heap there.within
     comes_by (event.Over o) i back =
         let x = machine_ends (world_seen g.world) (wiki_of g modules) (page_of g) p (point_of s m.state m.next) (slots_of s m.state) left m.state.calls m.height stood (outcome_seen s'.texts o) (slots_of s' m'.state) left' m'.state.calls m'.state.height n i in (
-          subst (λ (l : Left). Ended (Gives (end_told stood.work s'.heap (outcome_seen s'.texts o))) l m'.height) (all_back left' m'.state.calls back.1)
-              (subst (Ended (Gives (end_told stood.work s'.heap (outcome_seen s'.texts o))) (record left' { calls = left'.calls + m'.state.calls })) (sym c.height) x.0),
+          subst (λ (l : Left). Ended (end_outcome (end_of (outcome_seen s'.texts o))) (Gives (end_told stood.work s'.heap (outcome_seen s'.texts o))) l m'.height) (all_back left' m'.state.calls back.1)
+              (subst (Ended (end_outcome (end_of (outcome_seen s'.texts o))) (Gives (end_told stood.work s'.heap (outcome_seen s'.texts o))) (record left' { calls = left'.calls + m'.state.calls })) (sym c.height) x.0),
           going_leaves p.within s.heap s'.heap x.1,
         )
     comes_by (event.Spent w) i back =
         let x = machine_is_spent (world_seen g.world) (wiki_of g modules) (page_of g) p (point_of s m.state m.next) (slots_of s m.state) left m.state.calls m.height stood w s'.heap left' m'.state.calls m'.state.height n i in
-        (subst (Ended (spent_told stood.work w) left') (sym c.height) x.0, going_leaves p.within s.heap s'.heap x.1)
+        (subst (Ended (ending.Spent w) (spent_told stood.work w) left') (sym c.height) x.0, going_leaves p.within s.heap s'.heap x.1)
     comes_by (event.Asks q) i back =
         let x = machine_asks (world_seen g.world) (wiki_of g modules) (page_of g) p (point_of s m.state m.next) (slots_of s m.state) left m.state.calls m.height stood q (frames_of s' m'.state) (slots_of s' m'.state) left' m'.state.calls m'.state.height n i in
         ((x.1, record { question = q; left = left'; stood = subst (Stood (world_seen g.world) (world (wiki_of g modules) (page_of g)) there (Asking q (frames_of s' m'.state)) (slots_of s' m'.state) left' m'.state.calls) (sym c.height) x.0 }), going_leaves p.within s.heap s'.heap x.2)
@@ -162,10 +166,26 @@ module _ (s : StoreView) (left : Left) (k : ℕ) (m : Machine) (s' : StoreView) 
     invocation_at : (job : Job) → p.task ≡ Running (Invoke job) → (h : Halt) (e : Event) → IsInvocationHalt s' e h → Came e → HasHalted g modules s' left' (task.Invocation m') there h
     invocation_at job is h (event.Over o) i x =
         let work : stood.work ≡ Invoke job = work_is stood.work (Invoke job) (sym stood.is ∙ is) in
-        rw i (record { task = (job, is); reply = x.reply; comes = x.comes; says = x.says_so ∙ ap (λ w. Gives (end_told w s'.heap (outcome_seen s'.texts o))) work; leaves = x.leaves; height = tt })
+        rw i (record {
+          task = (job, is);
+          reply = x.reply;
+          comes = x.comes;
+          says = x.says_so ∙ ap (λ w. Gives (end_told w s'.heap (outcome_seen s'.texts o))) work ∙ ap (λ t. Gives (Expanded t)) (end_is_told (end_of (outcome_seen s'.texts o)));
+          leaves = x.leaves;
+          height = tt;
+          ended = (job, is, subst (λ w. EndedSo (wiki_of g modules) (page_of g) there w (end_outcome (end_of (outcome_seen s'.texts o)))) work x.ended);
+        })
     invocation_at job is h (event.Spent w) i x =
         let work : stood.work ≡ Invoke job = work_is stood.work (Invoke job) (sym stood.is ∙ is) in
-        rw i (record { task = (job, is); reply = x.reply; comes = x.comes; says = x.says_so ∙ ap (λ v. spent_told v w) work; leaves = x.leaves; height = tt })
+        rw i (record {
+          task = (job, is);
+          reply = x.reply;
+          comes = x.comes;
+          says = x.says_so ∙ ap (λ v. spent_told v w) work;
+          leaves = x.leaves;
+          height = tt;
+          ended = (job, is, subst (λ v. EndedSo (wiki_of g modules) (page_of g) there v (ending.Spent w)) work x.ended);
+        })
     invocation_at job is h (event.Asks q) i x = rw i (x.0, record { task = (job, is); waits = x.1 })
 
     load_at : (b : Begun) → p.task ≡ Running (DataOf b.title) → p.first.steps ≡ b.steps → (h : Halt) (e : Event) → IsLoadHalt s' e h → Came e → HasHalted g modules s' left' (task.Load b m') there h
@@ -178,10 +198,11 @@ module _ (s : StoreView) (left : Left) (k : ℕ) (m : Machine) (s' : StoreView) 
           says = x.says_so ∙ ap (λ w. Gives (end_told w s'.heap (outcome_seen s'.texts o))) work ∙ ap Gives (sym i.2);
           leaves = x.leaves;
           height = subst (λ w. KnowsHeight w x.reply.tally.height m'.height) work x.height;
+          ended = tt;
         })
     load_at b is steps h (event.Spent w) i x =
         let work : stood.work ≡ DataOf b.title = work_is stood.work (DataOf b.title) (sym stood.is ∙ is) in
-        rw i (record { task = (is, steps); reply = x.reply; comes = x.comes; says = x.says_so ∙ ap (λ v. spent_told v w) work; leaves = x.leaves; height = tt })
+        rw i (record { task = (is, steps); reply = x.reply; comes = x.comes; says = x.says_so ∙ ap (λ v. spent_told v w) work; leaves = x.leaves; height = tt; ended = tt })
     load_at b is steps h (event.Asks q) i x = rw i (x.0, record { task = (is, steps); waits = x.1 })
 
   pub invocation_goes : (h : Halt) → IsInvocationHalt s' e h → (n : ℕ) → k' ≡ k + n → GoesOn s left (task.Invocation m) s' left' n (record { task = task.Invocation m'; halt = h })

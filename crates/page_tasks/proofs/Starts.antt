@@ -12,14 +12,12 @@ use Rattle.wiki_expand.specs.Pages.{setting_in}
 use Rattle.wiki_expand.specs.Standing.{At, IsReady, setting_of, depth_in, templates_in}
 use Rattle.lua_meaning.specs.Start.{Invoke, DataOf}
 use Rattle.lua_slots.specs.Code.{CWorld}
-use Rattle.lua_slots.specs.Points.{Works}
+use Rattle.lua_slots.specs.Points.{Point, Works}
 use Rattle.lua_points.specs.Clauses.{Starts}
 use Rattle.lua_store.specs.Seen.{StoreView}
 use Rattle.lua_store.specs.Parts.{IsLater}
 use Rattle.lua_store.proofs.Later.{later-itself}
 use Rattle.lua_stack.specs.declared.focus.Work.{Work as CodeWork}
-use Rattle.lua_stack.specs.declared.focus.Focus.{Focus}
-use Rattle.lua_stack.specs.declared.focus.Focus.TheVariants as focus
 use Rattle.lua_stack.specs.Seen.{work_seen}
 use Rattle.lua_state.specs.Worlds.{world_seen}
 use Rattle.lua_state.specs.Seen.{slots_of}
@@ -38,7 +36,7 @@ use Rattle.page_ground.specs.Ground.{Ground, page_of, wiki_of}
 use Rattle.page_tasks.specs.Beginning.{MachineBegins, Begins, BeginsWith}
 
 -- A MACHINE
-pub machine_begins : (g : Ground) (w : CodeWork) (s t : StoreView) (m : Machine) → MachineOf t m → m.state.codes.world ≡ g.world → m.next ≡ focus.Works w → ((code : CWorld) → Starts code (work_seen w) s.heap (slots_of t m.state)) → (m.state.calls ≡ 0) × (m.height ≡ 0) → Frame nowhere s.heap t.heap → IsLater s t
+pub machine_begins : (g : Ground) (w : CodeWork) (s t : StoreView) (m : Machine) → MachineOf t m → m.state.codes.world ≡ g.world → point_of t m.state m.next ≡ Works (work_seen w) → ((code : CWorld) → Starts code (work_seen w) s.heap (slots_of t m.state)) → (m.state.calls ≡ 0) × (m.height ≡ 0) → Frame nowhere s.heap t.heap → IsLater s t
     → MachineBegins g (work_seen w) s t m
 machine_begins g w s t m of on next starts idle frame later = record {
   of = of;
@@ -49,7 +47,7 @@ machine_begins g w s t m of on next starts idle frame later = record {
       let place : Place = record (beginning (Running (work_seen w)) l began) { within = with_new nowhere s.heap t.heap } in
       let x = machine_starts (world_seen g.world) (wiki_of g modules) (page_of g) (work_seen w) s.heap (slots_of t m.state) (starts (world_seen g.world)) agree.agree l began in (
         with_new nowhere s.heap t.heap,
-        subst (λ (f : Focus). Stood (world_seen g.world) (world (wiki_of g modules) (page_of g)) place (point_of t m.state f) (slots_of t m.state) l m.state.calls m.height) (sym next)
+        subst (λ (p : Point). Stood (world_seen g.world) (world (wiki_of g modules) (page_of g)) place p (slots_of t m.state) l m.state.calls m.height) (sym next)
             (subst (λ n. Stood (world_seen g.world) (world (wiki_of g modules) (page_of g)) place (Works (work_seen w)) (slots_of t m.state) l n m.height) (sym idle.0)
             (subst (λ n. Stood (world_seen g.world) (world (wiki_of g modules) (page_of g)) place (Works (work_seen w)) (slots_of t m.state) l 0 n) (sym idle.1) x)),
         going_leaves nowhere s.heap t.heap frame,

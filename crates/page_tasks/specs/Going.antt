@@ -22,7 +22,8 @@ use Rattle.lua_machine.specs.declared.machine.Machine.{Machine}
 use Rattle.lua_machine.specs.declared.event.Event.{Event}
 use Rattle.lua_machine.specs.declared.event.Event.TheVariants as event
 use Rattle.lua_machine.specs.Events.{MachineOf, EventOf, GoesFrom, BackAt, TakesItsOwn, stop_seen, funds_after}
-use Rattle.page_meaning.specs.Told.{end_text, spent_text}
+use Rattle.page_meaning.specs.declared.outcome.JobOutcome.TheVariants as ending
+use Rattle.page_meaning.specs.Outcomes.{end_outcome}
 use Rattle.page_points.specs.Places.{Place, replied}
 use Rattle.page_points.specs.Machines.{gone, data_told}
 use Rattle.page_points.specs.Apart.{LeavesAlone}
@@ -95,13 +96,13 @@ pub record MachineGoes (s : StoreView) (left : Left) (k : ℕ) (m : Machine) (s'
 
 -- what a move of an expansion is told as
 abbrev pub halt_of : Move → Halt
-halt_of (Came text) = halt.Comes (reply.Text text)
+halt_of (Came text) = halt.Comes (reply.Ended (ending.Done text))
 halt_of (Invokes job) = halt.Invokes job
 
 -- what an event of a machine is told as
 abbrev pub IsInvocationHalt : StoreView → Event → Halt → Type 0
-IsInvocationHalt s (event.Over o) h = h ≡ halt.Comes (reply.Text (end_text (end_of (outcome_seen s.texts o))))
-IsInvocationHalt s (event.Spent w) h = h ≡ halt.Comes (reply.Text (spent_text w))
+IsInvocationHalt s (event.Over o) h = h ≡ halt.Comes (reply.Ended (end_outcome (end_of (outcome_seen s.texts o))))
+IsInvocationHalt s (event.Spent w) h = h ≡ halt.Comes (reply.Ended (ending.Spent w))
 IsInvocationHalt s (event.Asks q) h = h ≡ halt.Asks q
 
 abbrev pub IsLoadHalt : StoreView → Event → Halt → Type 0

@@ -23,7 +23,7 @@ use Rattle.lua_machine.specs.Events.{MachineOf}
 use Rattle.page_meaning.specs.Wiki.{world}
 use Rattle.page_meaning.specs.Tasks.{Running, Expanding, OfLua, OfPage, Wants, as_text}
 use Rattle.page_points.specs.Places.{Place, HasCome, next_of}
-use Rattle.page_points.specs.Machines.{Stood}
+use Rattle.page_points.specs.Machines.{Stood, EndedSo}
 use Rattle.page_tasks.specs.declared.task.Task.{Task}
 use Rattle.page_tasks.specs.declared.task.Task.TheVariants as task
 use Rattle.page_tasks.specs.declared.task.Reply.{Reply}
@@ -32,7 +32,7 @@ use Rattle.page_tasks.specs.declared.task.Halt.{Halt}
 use Rattle.page_tasks.specs.declared.task.Halt.TheVariants as halt
 use Rattle.page_tasks.specs.declared.task.Halted.{Halted}
 use Rattle.page_ground.specs.Ground.{Ground, page_of, wiki_of}
-use Rattle.page_tasks.specs.Seen.{reply_seen}
+use Rattle.page_tasks.specs.Seen.{reply_seen, outcome_of}
 use Rattle.page_ground.specs.Seen.{CanBePut}
 
 -- WHAT IT HAS IN PROGRESS
@@ -82,7 +82,7 @@ CanBeTold _ = Unit {0}
 -- a load gives data, and nothing else does
 abbrev pub ReplyBy : Task → Reply → Type 0
 ReplyBy (task.Load b m) (reply.Data d) = CanBePut d
-ReplyBy (task.Load b m) (reply.Text text) = ⊥
+ReplyBy (task.Load b m) (reply.Ended so) = ⊥
 ReplyBy (task.Load b m) (reply.Spent which) = Unit {0}
 ReplyBy t (reply.Data d) = ⊥
 ReplyBy t r = Unit {0}
@@ -142,6 +142,11 @@ module _ (g : Ground) (modules : Modules) where
     pub task : IsTask t p
     pub waits : WaitsAt s t p
 
+  -- a run of an invocation that has come to this reply ended so
+  abbrev pub EndsWith : Task → Place → Reply → Type 0
+  EndsWith (task.Invocation m) p r = (job : Job) × (p.task ≡ Running (Invoke job)) × EndedSo (wiki_of g modules) (page_of g) p (Invoke job) (outcome_of r)
+  EndsWith _ p r = Unit {0}
+
   -- IT HAS HALTED: it has come to its reply, or it waits at the question that the meaning asks
   pub record HasReply (t : Task) (p : Place) (r : Reply) (left : Left) : Type 0 where
     pub task : IsTask t p
@@ -150,6 +155,7 @@ module _ (g : Ground) (modules : Modules) where
     pub says : reply.response ≡ reply_seen r
     pub leaves : reply.left ≡ left
     pub height : HeightIs t r reply.tally.height
+    pub ended : EndsWith t p r
 
   abbrev pub HasHalted : StoreView → Left → Task → Place → Halt → Type 0
   HasHalted s left t p (halt.Comes r) = HasReply t p r left

@@ -12,7 +12,8 @@ ghost use Rattle.page_tasks.specs.Falling.{CanGiveBack, StepsFall, Falls};
 use crate::task::{Begun, Halt, Halted, Reply, Task};
 use lua_machine::{Event, Machine};
 use lua_store::Store;
-use page_ground::ending::{end_data, end_text, spent_text};
+use page_ground::ending::{end_data, end_outcome};
+use page_meaning::JobOutcome;
 use std::alloc::Global;
 use std::sync::ledger::Ledger;
 use wiki_expand::{Expander, Move};
@@ -23,7 +24,7 @@ fn move_halt(next: Move) -> Halt
     ensures { result ≡ halt_of next }
 {
     match next {
-        Move::Text(text) => Halt::Comes(Reply::Text(text)),
+        Move::Text(text) => Halt::Comes(Reply::Ended(JobOutcome::Done(text))),
         Move::Invoke(job) => Halt::Invokes(job),
     }
 }
@@ -100,20 +101,17 @@ fn go_machine<'w, L: Ledger>(
     Ok(event)
 }
 
-/// How an invocation halts: it has come to its text in any case, or asks. An allowance that is spent ends the invocation, and not the page.
+/// How an invocation halts: it has ended by itself in any case, or asks. An allowance that is spent ends the invocation, and not the page.
 fn invocation_halt(alloc: Global, store: &Store, event: Event) -> Result<Halt, NoMemory>
     requires { EventOf store.now event }
     ensures { IfOk result (λ h. IsInvocationHalt store.now event h) }
 {
     match event {
         Event::Over(outcome) => {
-            let text = end_text(alloc, store, &outcome)?;
-            Ok(Halt::Comes(Reply::Text(text)))
+            let so = end_outcome(alloc, store, &outcome)?;
+            Ok(Halt::Comes(Reply::Ended(so)))
         }
-        Event::Spent(which) => {
-            let text = spent_text(alloc, which)?;
-            Ok(Halt::Comes(Reply::Text(text)))
-        }
+        Event::Spent(which) => Ok(Halt::Comes(Reply::Ended(JobOutcome::Spent(which)))),
         Event::Asks(question) => Ok(Halt::Asks(question)),
     }
 }

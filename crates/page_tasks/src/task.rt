@@ -2,9 +2,10 @@
 use lua_machine::Machine;
 use mw_frame::{Ask, Job};
 use page_ground::data::Data;
+use page_meaning::JobOutcome;
 use page_run::Which;
 use wiki_expand::Expander;
-use wk_base::{Bytes, Title};
+use wk_base::Title;
 
 /// A data load that has begun: its module, and the steps that were left.
 #[derive(Drop)]
@@ -21,11 +22,14 @@ pub enum Task<'w> {
     Load(Begun, Machine<'w>),
 }
 
-/// What a task came to: a text, data, or that an allowance is spent.
+/// What a task came to: an expansion to its text, with which it is done, and an invocation to any of its ends; a load to data, or to an allowance
+/// that is spent.
 #[derive(Drop)]
 pub enum Reply {
-    Text(Bytes),
+    /// What stands as a text on a page.
+    Ended(JobOutcome),
     Data(Data),
+    /// Who asked for the load is spent with it.
     Spent(Which),
 }
 

@@ -9,6 +9,7 @@ ghost use Rattle.lua_store.specs.Seen.{StoreView};
 ghost use Rattle.lua_store.specs.Parts.{IsLater};
 ghost use Rattle.lua_machine.specs.Events.{MachineOf, AnswerOf, answer_outcome};
 ghost use Rattle.wiki_expand.specs.Standing.{IsReady, IsWaiting};
+ghost use Rattle.page_meaning.specs.Outcomes.{outcome_text};
 ghost use Rattle.page_meaning.specs.Tasks.{text_of};
 ghost use Rattle.page_tasks.specs.declared.task.Task.TheVariants as task_kind;
 ghost use Rattle.page_ground.specs.Seen.{data_seen, CanBePut};
@@ -24,7 +25,8 @@ use lua_graph::put_in;
 use lua_machine::{Answer, Machine};
 use lua_store::Store;
 use page_ground::data::Data;
-use page_ground::ending::spent_text;
+use page_ground::ending::outcome_text;
+use page_meaning::JobOutcome;
 use page_run::Which;
 use std::alloc::Global;
 use std::sync::ledger::Ledger;
@@ -207,24 +209,32 @@ fn tell<'w, L: Ledger>(
     }
 }
 
-/// A task is told a text.
+/// A task is told the text of what it asked for, which ended so.
 pub fn tell_text<'w, L: Ledger>(
     alloc: Global,
     store: &mut Store,
     left: &mut Left,
     task: Task<'w>,
-    text: Bytes,
+    so: JobOutcome,
     turns: &mut Steps<L>,
 ) -> Result<Halted<'w>, NoMemory>
     requires of { TaskIn store.old task }
     requires waits { CanBeTold task }
     requires back { CanGiveBack left.old task }
     ensures halts { IfOk result (λ x. Halts store.old left.old turns.old task.entry store.new left.new turns.new x) }
-    ensures goes { IfOk result (λ x. (n : ℕ) → turns.new ≡ turns.old + n → GoesOnWith store.old left.old task.entry (Gives (Expanded text)) 0 store.new left.new n x) }
+    ensures goes { IfOk result (λ x. (n : ℕ) → turns.new ≡ turns.old + n → GoesOnWith store.old left.old task.entry (Gives (Expanded (outcome_text so))) 0 store.new left.new n x) }
     ensures falls { IfOk result (λ x. Falls left.old task.entry left.new x) }
 {
-    let halted = tell(alloc, store, left, task, Answer::Expanded(text), 0, turns)?;
-    Ok(halted)
+    match outcome_text(alloc, so) {
+        Ok(text) => {
+            let halted = tell(alloc, store, left, task, Answer::Expanded(text), 0, turns)?;
+            Ok(halted)
+        }
+        Err(_) => {
+            drop(task);
+            Err(NoMemory)
+        }
+    }
 }
 
 /// A task is told that there is no such page or module.
@@ -307,30 +317,17 @@ fn give_back<'w>(left: &mut Left, machine: &Machine<'w>)
     left.calls += calls;
 }
 
-/// An invocation is told that an allowance is spent: it gives back its calls, and comes to the text that says so.
-fn spend_invocation<'w>(
-    alloc: Global,
-    left: &mut Left,
-    machine: Machine<'w>,
-    which: Which,
-) -> Result<Halted<'w>, NoMemory>
+/// An invocation is told that an allowance is spent: it gives back its calls, and ends so.
+fn spend_invocation<'w>(left: &mut Left, machine: Machine<'w>, which: Which) -> Halted<'w>
     requires back { CanGiveBack left.old (task_kind.Invocation machine) }
-    ensures halts { IfOk result (λ x. (s : StoreView) (k : ℕ) → MachineOf s machine.entry → Halts s left.old k (task_kind.Invocation machine.entry) s left.new k x) }
-    ensures goes { IfOk result (λ x. (s : StoreView) (high : ℕ) → GoesOnWith s left.old (task_kind.Invocation machine.entry) (Exhausts which) high s left.new 0 x) }
-    ensures falls { IfOk result (λ x. Falls left.old (task_kind.Invocation machine.entry) left.new x) }
+    ensures halts { (s : StoreView) (k : ℕ) → MachineOf s machine.entry → Halts s left.old k (task_kind.Invocation machine.entry) s left.new k result }
+    ensures goes { (s : StoreView) (high : ℕ) → GoesOnWith s left.old (task_kind.Invocation machine.entry) (Exhausts which) high s left.new 0 result }
+    ensures falls { Falls left.old (task_kind.Invocation machine.entry) left.new result }
 {
-    match spent_text(alloc, which) {
-        Ok(text) => {
-            give_back(left, &machine);
-            Ok(Halted {
-                task: Task::Invocation(machine),
-                halt: Halt::Comes(Reply::Text(text)),
-            })
-        }
-        Err(_) => {
-            drop(machine);
-            Err(NoMemory)
-        }
+    give_back(left, &machine);
+    Halted {
+        task: Task::Invocation(machine),
+        halt: Halt::Comes(Reply::Ended(JobOutcome::Spent(which))),
     }
 }
 
@@ -348,7 +345,7 @@ fn spend_load<'w>(left: &mut Left, begun: Begun, machine: Machine<'w>, which: Wh
     }
 }
 
-/// A task is told that an allowance of Lua is spent, in a load that it asked for: an invocation comes to the text that says so, and a load is
+/// A task is told that an allowance of Lua is spent, in a load that it asked for: an invocation ends so, and a load is
 /// spent too. Neither the store nor the counter of turns changes. An expansion is never told so.
 pub fn tell_spent<'w>(
     alloc: Global,
@@ -368,10 +365,7 @@ pub fn tell_spent<'w>(
             let halted = tell_expansion(left, expander, text)?;
             Ok(halted)
         }
-        Task::Invocation(machine) => {
-            let halted = spend_invocation(alloc, left, machine, which)?;
-            Ok(halted)
-        }
+        Task::Invocation(machine) => Ok(spend_invocation(left, machine, which)),
         Task::Load(begun, machine) => Ok(spend_load(left, begun, machine, which)),
     }
 }

@@ -14,6 +14,7 @@ use crate::pages::{first_missing, form_of, made_pages, raw_pages, titles_of};
 use page_driver::Wiki;
 use std::alloc::Global;
 use std::hash::RandomState;
+use std::mem;
 use std::thread::Threads;
 use wiki_batch::{Gate, expand_all, load};
 use wiki_output::{Form, Report, done_report, missing_report};
@@ -93,6 +94,8 @@ fn wiki_report<R: Threads + Sync, G: Gate + Sync>(
 {
     let wiki = load(rt, alloc, seed, pages, settings.jobs as usize)?;
     let report = titles_report(rt, alloc, seed, settings, form, titles, &wiki, gate)?;
+    // The program ends with this report, and the wiki with it: giving it back part by part takes longer than reading the folder.
+    mem::forget(wiki);
     Ok(report)
 }
 

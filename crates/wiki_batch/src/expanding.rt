@@ -11,9 +11,9 @@ use std::alloc::Global;
 use std::hash::RandomState;
 use std::marker::Brand;
 use std::sync::ledger::{Blank, Ledger};
-use std::thread;
 use std::thread::Threads;
 use wk_base::{Limits, List, NoMemory, Steps, Title};
+use wk_workers::map_by_workers;
 
 /// A held page, with a counter of turns that nobody reads.
 fn counted<L: Ledger>(
@@ -96,7 +96,7 @@ fn expand_numbered<G: Gate>(
     expand_share(alloc, seed, wiki, share, j * size, limits, gate)
 }
 
-/// The pages of each share, in as many threads as there are shares.
+/// The pages of each share. Each job takes the next share that nobody has begun.
 fn expand_shares<R: Threads + Sync, G: Gate + Sync>(
     rt: &R,
     alloc: Global,
@@ -106,6 +106,7 @@ fn expand_shares<R: Threads + Sync, G: Gate + Sync>(
     limits: &Limits,
     size: usize,
     shares: usize,
+    jobs: usize,
     gate: &G,
 ) -> Result<Vec<Result<List<Page>, NoMemory>>, NoMemory>
     requires held { All (λ title. IsSome (find_page wiki.now.pages title)) titles.now }
@@ -113,15 +114,14 @@ fn expand_shares<R: Threads + Sync, G: Gate + Sync>(
     requires within { (j : ℕ) → j < shares → j * size ≤ length titles.now }
     ensures { IfOk result (λ parts. (length parts.items ≡ shares) × ((j : ℕ) (d : _) → j < shares → IfOk (slice_index_or parts.items j d) (λ pages. ArePages wiki.now limits.now (take size (drop (j * size) titles.now)) pages))) }
 {
-    match thread::map_indices(
+    let parts = map_by_workers(
         rt,
         alloc,
+        jobs,
         shares,
-        &|j| expand_numbered(alloc, seed, wiki, titles, size, j, limits, gate),
-    ) {
-        Ok(parts) => Ok(parts),
-        Err(_) => Err(NoMemory),
-    }
+        &|j| { expand_numbered(alloc, seed, wiki, titles, size, j, limits, gate) },
+    )?;
+    Ok(parts)
 }
 
 /// The pages of these titles, in their order, each with all of its limits left. Neither the number of jobs nor the gate changes an answer.
@@ -142,6 +142,8 @@ pub fn expand_all<R: Threads + Sync, G: Gate + Sync>(
 {
     let size = share_size(titles.len(), jobs);
     let shares = share_count(titles.len(), size);
-    let parts = expand_shares(rt, alloc, seed, wiki, titles, limits, size, shares, gate)?;
+    let parts = expand_shares(
+        rt, alloc, seed, wiki, titles, limits, size, shares, jobs, gate,
+    )?;
     gathered(alloc, parts)
 }

@@ -12,10 +12,10 @@ use crate::sharing::{gathered, share_count, share_of, share_size};
 use page_driver::Wiki;
 use std::alloc::Global;
 use std::hash::RandomState;
-use std::thread;
 use std::thread::Threads;
 use wiki_texts::{Prepared, RawPage, by_title, prepare_all};
 use wk_base::{List, NoMemory};
+use wk_workers::map_by_workers;
 
 /// What is prepared of the pages of the share with the number j.
 fn prepare_numbered(
@@ -32,7 +32,7 @@ fn prepare_numbered(
     prepare_all(alloc, seed, share)
 }
 
-/// What is prepared of the pages of each share, in as many threads as there are shares.
+/// What is prepared of the pages of each share. Each job takes the next share that nobody has begun.
 fn prepare_shares<R: Threads + Sync>(
     rt: &R,
     alloc: Global,
@@ -40,19 +40,19 @@ fn prepare_shares<R: Threads + Sync>(
     pages: &[RawPage],
     size: usize,
     shares: usize,
+    jobs: usize,
 ) -> Result<Vec<Result<List<Prepared>, NoMemory>>, NoMemory>
     requires within { (j : ℕ) → j < shares → j * size ≤ length pages.now }
     ensures { IfOk result (λ parts. (length parts.items ≡ shares) × ((j : ℕ) (d : _) → j < shares → IfOk (slice_index_or parts.items j d) (λ prepared. ArePrepared (take size (drop (j * size) pages.now)) prepared))) }
 {
-    match thread::map_indices(
+    let parts = map_by_workers(
         rt,
         alloc,
+        jobs,
         shares,
-        &|j| prepare_numbered(alloc, seed, pages, size, j),
-    ) {
-        Ok(parts) => Ok(parts),
-        Err(_) => Err(NoMemory),
-    }
+        &|j| { prepare_numbered(alloc, seed, pages, size, j) },
+    )?;
+    Ok(parts)
 }
 
 /// What is prepared of these pages, in their order.
@@ -68,13 +68,13 @@ fn all_prepared<R: Threads + Sync>(
 {
     let size = share_size(pages.len(), jobs);
     let shares = share_count(pages.len(), size);
-    let parts = prepare_shares(rt, alloc, seed, pages, size, shares)?;
+    let parts = prepare_shares(rt, alloc, seed, pages, size, shares, jobs)?;
     gathered(alloc, parts)
 }
 
 /// The wiki of these pages: their texts cut and paired, and of each page of namespace Module the code of its text, or the text's first fault.
-/// The pages are prepared in shares, each by a thread of its own, and put together in their order: the number of jobs changes nothing. Titles and
-/// names are hashed from the seed, which changes nothing else.
+/// The pages are prepared in shares, by as many threads as there are jobs, and put together in their order: the number of jobs changes nothing.
+/// Titles and names are hashed from the seed, which changes nothing else.
 pub fn load<R: Threads + Sync>(
     rt: &R,
     alloc: Global,

@@ -5,12 +5,16 @@ ghost use Rattle.wiki_batch.specs.Shares.{Joined};
 use std::alloc::Global;
 use wk_base::{List, NoMemory};
 
-/// How many items a share has, where `count` items are shared among `jobs` threads.
+/// How many shares there are for a job, where there are as many items. Jobs take shares in turn, and one of them waits for the others' last
+/// share at the end.
+const SHARES_FOR_JOB: usize = 128;
+
+/// How many items a share has, where `count` items are made by `jobs` threads.
 pub(crate) fn share_size(count: usize, jobs: usize) -> usize
     requires { 1 ≤ jobs }
     ensures { 0 < result }
 {
-    count.saturating_sub(1) / jobs + 1
+    count.saturating_sub(1) / jobs.saturating_mul(SHARES_FOR_JOB) + 1
 }
 
 /// How many shares of `size` items there are.

@@ -61,11 +61,14 @@ fn first_bytes<F: Files + AllocGlobal + Clone + Drop>(
     most: usize,
 ) -> io::Result<Vec<u8>> {
     let path = format!(in files.alloc(); "{folder}/{name}")?;
-    if !fs::metadata(files, path.as_str())?.is_file() {
+    let metadata = fs::metadata(files, path.as_str())?;
+    if !metadata.is_file() {
         return Err(io::Error::from(io::ErrorKind::InvalidInput));
     }
     let file = fs::open(files, path.as_str())?;
-    let mut bytes = Vec::new(files.alloc());
+    // With room for one byte more than there are, the end is found without growing.
+    let size = usize::try_from(metadata.len()).unwrap_or(most).min(most);
+    let mut bytes = Vec::with_capacity(files.alloc(), size.saturating_add(1))?;
     file.take(u64::try_from(most).unwrap_or(u64::MAX))
         .read_to_end(&mut bytes)?;
     Ok(bytes)

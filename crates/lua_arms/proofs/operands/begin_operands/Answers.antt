@@ -8,4 +8,4 @@ returns-in_ok-push-in-Call-clause-move_ c = λ s.
 
 pub returns-in_ok-push-in-Method-clause-move_ : goal.returns-in_ok-push-in-Method-clause-move_
 returns-in_ok-push-in-Method-clause-move_ c = λ s.
-    rw (c.in-Method.is, expression-Method c.in-Method.of c.in-Method.name c.in-Method.arguments c.in-Method.line, c.in_ok-push-in-Method.ensures.ok, c.deref-in-Method.ensures, c.as_slice.ensures) refl
+    rw (c.in-Method.is, expression-Method c.in-Method.of c.in-Method.name c.in-Method.arguments c.in-Method.line, c.in_ok-push-in-Method.ensures.ok, c.as_slice.ensures, c.deref-in-Method.ensures, c.deref-in-Method-2.ensures) refl

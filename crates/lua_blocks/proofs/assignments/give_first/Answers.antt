@@ -7,7 +7,7 @@ pub returns-in-TargetKey : goal.returns-in-TargetKey
 returns-in-TargetKey c = λ world l. rw (c.in-TargetKey.is, ← seen_first c.args.store.now.texts c.args.values c.args.first c.requires.same) (c.wait.ensures l)
 
 pub returns-in-TargetNow : goal.returns-in-TargetNow
-returns-in-TargetNow c = λ world l. rw (c.in-TargetNow.is, ← seen_first c.args.store.now.texts c.args.values c.args.first c.requires.same) (c.found.ensures l)
+returns-in-TargetNow c = λ world l. rw (c.in-TargetNow.is, ← c.into_inner-before.ensures, ← seen_first c.args.store.now.texts c.args.values c.args.first c.requires.same) (c.found.ensures l)
 
 pub returns-in-AssignNow : goal.returns-in-AssignNow
 returns-in-AssignNow c = λ world l. rw c.in-AssignNow.is (c.assigned.ensures l)

@@ -1,3 +1,4 @@
+use Rattle.std.proofs.lemmas.Result.{IfOk-weaker}
 use Rattle.lua_code.specs.Seen.{branches_seen, block_seen}
 use Rattle.lua_slots.specs.Statements.{branches}
 use Rattle.std.specs.Prelude.{option_map}
@@ -11,5 +12,5 @@ first_test-requires c = record { state = above_of c.args.store.now c.args.state.
 
 pub returns : goal.returns
 returns c =
-    above c.args.store.now c.first_test.new.store c.args.state.now c.first_test.new.state c.push.new.self (frame.Statement (in_statement.StatsNext c.args.rest)) c.args.left.now c.first_test.new.left
-    (λ fs s. branches (branches_seen c.args.arms.now) (option_map block_seen c.args.other.now) fs s) _ c.in_ok-push.ensures.ok (rw c.other_of-last.ensures at c.in_ok-turn.ensures)
+    IfOk-weaker c.first_test.result _ _ (λ r e. above c.args.store.now c.first_test.new.store c.args.state.now c.first_test.new.state c.push.new.self (frame.Statement (in_statement.StatsNext c.args.rest)) c.args.left.now c.first_test.new.left
+    (λ fs s. branches (branches_seen c.args.arms.now) (option_map block_seen c.args.other.now) fs s) _ c.in_ok-push.ensures.ok e) (rw c.other_of-last.ensures at c.first_test.ensures)

@@ -1,3 +1,4 @@
+use Rattle.std.proofs.lemmas.Result.{IfOk-weaker}
 use Rattle.std.proofs.Common.{◌∙◌, ap, sym, refl, List}
 use Rattle.std.specs.Prelude.{option_map}
 use Rattle.lua_code.specs.declared.statement.Branch.{Branch}
@@ -12,6 +13,6 @@ finish-requires-clause-state c = with_frames_of c.args.store.now c.args.state.no
 
 pub returns : goal.returns
 returns c =
-    stepped c.args.store.now c.finish.new.store c.args.state.now c.branches.new.frames c.args.left.now c.finish.new.left _ c.in_ok-step.step _
+    IfOk-weaker c.finish.result _ _ (λ r e. stepped c.args.store.now c.finish.new.store c.args.state.now c.branches.new.frames c.args.left.now c.finish.new.left _ c.in_ok-step.step _
     (ap (λ (x : List Branch). branches (branches_seen x) (option_map (λ b. block_seen b.now) c.args.other) (frames_of c.args.store.now c.args.state.now) (slots_of c.args.store.now c.args.state.now)) (sym c.as_slice-arms.ensures)
-    ∙ c.in_ok-step.ensures.move_ (slots_of c.args.store.now c.args.state.now) refl) c.in_ok-turn.ensures.makes
+    ∙ c.in_ok-step.ensures.move_ (slots_of c.args.store.now c.args.state.now) refl) e) c.finish.ensures.makes

@@ -2,5 +2,5 @@ use Rattle.std.specs.Prelude.{◌∷◌}
 use Rattle.lua_blocks.proofs.Parts.{on}
 use Rattle.lua_blocks.proofs.exits.wait.Goals as goal
 
-pub returns : goal.returns
-returns c = λ l. rw c.in_ok-push.ensures.ok (on c.args.store.now c.args.state.now (c.args.frame ∷ c.args.state.now.frames) l c.args.focus c.requires.state (c.requires.frame, c.requires.state.frames) c.requires.focus)
+pub returns-in-Ok : goal.returns-in-Ok
+returns-in-Ok c = λ l. rw c.in-Ok.ensures.ok (on c.args.store.now c.args.state.now (c.args.frame ∷ c.args.state.now.frames) l c.args.focus c.requires.state (c.requires.frame, c.requires.state.frames) c.requires.focus)

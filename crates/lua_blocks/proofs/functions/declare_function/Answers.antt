@@ -1,3 +1,4 @@
+use Rattle.std.proofs.lemmas.Result.{IfOk-weaker}
 use Rattle.std.proofs.Common.{◌∙◌, ap, sym}
 use Rattle.std.specs.Prelude.{map}
 use Rattle.lua_code.specs.Seen.{place_seen, block_seen}
@@ -16,5 +17,5 @@ function_of_module-requires-clause-title c =
 
 pub returns : goal.returns
 returns c = λ l.
-    over_text c.args.store.now c.running_source.new.store c.function_of_module.new.store c.args.state.now c.function_of_module.new.state l l _
-    (λ fs s. Now (Runs (block_seen c.args.rest.now) fs) (with_function_named c.args.function.0 c.args.function.1 (map place_seen c.args.places.now) s)) c.requires.state c.in_ok-source.ensures.later c.in_ok-source.ensures.heap (c.in_ok-turn.ensures l)
+    IfOk-weaker c.function_of_module.result _ _ (λ r e. over_text c.args.store.now c.running_source.new.store c.function_of_module.new.store c.args.state.now c.function_of_module.new.state l l _
+    (λ fs s. Now (Runs (block_seen c.args.rest.now) fs) (with_function_named c.args.function.0 c.args.function.1 (map place_seen c.args.places.now) s)) c.requires.state c.in_ok-source.ensures.later c.in_ok-source.ensures.heap e) (c.function_of_module.ensures l)

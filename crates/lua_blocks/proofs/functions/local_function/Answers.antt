@@ -1,3 +1,4 @@
+use Rattle.std.proofs.lemmas.Result.{IfOk-weaker}
 use Rattle.lua_blocks.proofs.Parts.{costs, short}
 use Rattle.lua_blocks.proofs.functions.local_function.Goals as goal
 
@@ -6,4 +7,4 @@ returns-then-not-pay c = short c.args.store.now c.args.state.now c.args.left.now
 
 pub returns : goal.returns
 returns c =
-    costs c.args.store.now c.declare_function.new.store c.args.state.now c.declare_function.new.state c.args.left.now c.pay.new.left c.pay.new.left 8 _ _ c.if-not-pay.ensures (c.in_ok-turn.ensures c.pay.new.left)
+    IfOk-weaker c.declare_function.result _ _ (λ r e. costs c.args.store.now c.declare_function.new.store c.args.state.now c.declare_function.new.state c.args.left.now c.pay.new.left c.pay.new.left 8 _ _ c.if-not-pay.ensures e) (c.declare_function.ensures c.pay.new.left)

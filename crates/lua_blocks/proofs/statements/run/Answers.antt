@@ -1,3 +1,4 @@
+use Rattle.std.proofs.lemmas.Result.{IfOk-weaker}
 use Rattle.std.proofs.Common.{refl}
 use Rattle.lua_state.specs.Seen.{slots_of, frames_of}
 use Rattle.lua_state.proofs.Making.{counts_none}
@@ -14,8 +15,8 @@ returns-then-not-pay_node g c =
     (block_begins c.args.statements.now c.in-Some.front.rest.now c.in-Some.front.first.now (frames_of c.args.store.now c.args.state.now) (slots_of c.args.store.now c.args.state.now) c.in-Some.ensures) c.requires.state
     c.if-not-pay_node.ensures.pays c.if-not-pay_node.ensures.counts
 
-pub returns-in_ok-turn-in-Some : goal.returns-in_ok-turn-in-Some
-returns-in_ok-turn-in-Some g c =
-    node_paid c.args.store.now c.begin.new.store c.args.state.now c.begin.new.state c.args.left.now c.pay_node.new.left c.begin.new.left _ _ _ _ _
+pub returns-else-not-pay_node : goal.returns-else-not-pay_node
+returns-else-not-pay_node g c =
+    IfOk-weaker c.begin.result _ _ (λ r e. node_paid c.args.store.now c.begin.new.store c.args.state.now c.begin.new.state c.args.left.now c.pay_node.new.left c.begin.new.left _ _ _ _ _
     (block_begins c.args.statements.now c.in-Some.front.rest.now c.in-Some.front.first.now (frames_of c.args.store.now c.args.state.now) (slots_of c.args.store.now c.args.state.now) c.in-Some.ensures)
-    c.if-not-pay_node.ensures.pays c.if-not-pay_node.ensures.counts c.in_ok-turn-in-Some.ensures
+    c.if-not-pay_node.ensures.pays c.if-not-pay_node.ensures.counts e) c.begin.ensures

@@ -8,8 +8,11 @@ returns-in-Variable g c = rw c.in-Variable.is (counts_none _ _ _ _ _ _ _ _ _ _ r
 pub returns-in-Global : goal.returns-in-Global
 returns-in-Global g c = rw (c.in-Global.is, ← c.as_slice.ensures) (counts_none _ _ _ _ _ _ _ _ _ _ refl (c.in_ok-turn-in-Global.ensures c.args.left.now))
 
+pub entry-requires-clause-waiting : goal.entry-requires-clause-waiting
+entry-requires-clause-waiting g c = rw c.in_ok-finding-in-At.ensures c.requires.before
+
 pub returns-in-At : goal.returns-in-At
-returns-in-At g c = rw c.in-At.is c.entry.ensures
+returns-in-At g c = rw c.in-At.is (rw c.in_ok-finding-in-At.ensures at c.entry.ensures)
 
 pub returns : goal.returns
 returns g c = rw c.in-Refused.is (counts_none _ _ _ _ _ _ _ _ _ _ refl (c.in_ok-turn-in-Refused.ensures c.args.left.now))

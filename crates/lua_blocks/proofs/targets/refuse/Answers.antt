@@ -1,4 +1,4 @@
 use Rattle.lua_blocks.proofs.targets.refuse.Goals as goal
 
 pub returns : goal.returns
-returns c = λ l. c.in_ok-turn.ensures l
+returns c = λ l. c.raise.ensures l

@@ -1,3 +1,4 @@
+use Rattle.std.proofs.lemmas.Result.{IfOk-weaker}
 use Rattle.lua_state.proofs.Making.{makes_late}
 use Rattle.lua_calls.proofs.calling.call_act.Goals as goal
 
@@ -16,8 +17,8 @@ returns-in-CurrentTitle c = rw c.in-CurrentTitle.is c.current_title.ensures
 pub returns-in-ArgsIndex : goal.returns-in-ArgsIndex
 returns-in-ArgsIndex c = rw c.in-ArgsIndex.is c.index_args.ensures
 
-pub returns-in_ok-turn-in-Calls : goal.returns-in_ok-turn-in-Calls
-returns-in_ok-turn-in-Calls c = rw c.in-Calls.is (makes_late c.args.store.now c.call_back.new.store c.args.state.now c.call_back.new.state c.args.left.now c.call_back.new.left _ c.in_ok-turn-in-Calls.turn c.in_ok-turn-in-Calls.ensures)
+pub returns-in-Calls : goal.returns-in-Calls
+returns-in-Calls c = rw c.in-Calls.is (IfOk-weaker c.call_back.result _ _ (λ r e. makes_late c.args.store.now c.call_back.new.store c.args.state.now c.call_back.new.state c.args.left.now c.call_back.new.left _ r e) c.call_back.ensures)
 
 pub returns-in-Gsub : goal.returns-in-Gsub
 returns-in-Gsub c = rw c.in-Gsub.is c.gsub.ensures

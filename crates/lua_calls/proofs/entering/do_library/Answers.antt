@@ -1,3 +1,4 @@
+use Rattle.std.proofs.lemmas.Result.{IfOk-weaker}
 use Rattle.std.proofs.Common.{◌∙◌, ap, sym, ◌∷◌, List}
 use Rattle.lua_slots.specs.Libraries.{page_alone, does}
 use Rattle.lua_slots.specs.Points.{LibraryEnd}
@@ -19,7 +20,7 @@ returns c =
     let m = c.args.state.now in
     let world = world_seen m.codes.world in
     let args = values_seen s.texts c.args.arguments in
-    late_above s c.call_act.new.store m c.call_act.new.state c.push.new.self c.args.left.now c.call_act.new.left _ _ c.in_ok-turn.turn
+    IfOk-weaker c.call_act.result _ _ (λ r e. late_above s c.call_act.new.store m c.call_act.new.state c.push.new.self c.args.left.now c.call_act.new.left _ _ r
     (ap (λ form. does world form args c.args.line (LibraryEnd ∷ frames_of s m) (slots_of s m)) (c.act_of-act.ensures (page_alone world) args (slots_of s m).heap (slots_of s m).frames)
     ∙ ap (λ (fs : List Frame). does world (act_seen (page_alone world) c.act_of-act.result args (slots_of s m).heap (slots_of s m).frames) args c.args.line (frames_seen s.texts fs) (slots_of s m)) (sym c.in_ok-push.ensures.ok))
-    c.in_ok-turn.ensures
+    e) c.call_act.ensures

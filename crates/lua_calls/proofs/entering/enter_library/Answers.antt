@@ -1,3 +1,4 @@
+use Rattle.std.proofs.lemmas.Result.{IfOk-weaker}
 use Rattle.std.proofs.Common.{refl, subst}
 use Rattle.lua_meaning.specs.Libraries.{form}
 use Rattle.std.specs.Prelude.{◌∷◌}
@@ -23,6 +24,6 @@ pub returns : goal.returns
 returns g c =
     let s = c.args.store.now in
     let args = values_seen s.texts c.args.arguments in
-    entered s c.do_library.new.store c.args.state.now c.enter_call.new.state c.do_library.new.state c.args.left.now c.enter_call.new.left c.do_library.new.left c.args.turns.now c.tick.new.self c.in_ok-turn.turn c.in_ok-entered.ensures.same
+    IfOk-weaker c.do_library.result _ _ (λ r e. entered s c.do_library.new.store c.args.state.now c.enter_call.new.state c.do_library.new.state c.args.left.now c.enter_call.new.left c.do_library.new.left c.args.turns.now c.tick.new.self r c.in_ok-entered.ensures.same
     (λ (m : State). does (world_seen m.codes.world) (form (page_alone (world_seen m.codes.world)) c.args.which args (slots_of s m).heap (slots_of s m).frames) args c.args.line (LibraryEnd ∷ frames_of s m) (slots_of s m))
-    (λ calls height. refl) (subst (EntersCall c.args.state.now c.args.left.now c.enter_call.new.state c.enter_call.new.left) c.if-not-entered.false c.in_ok-entered.ensures.enters) c.tick.ensures c.in_ok-turn.ensures
+    (λ calls height. refl) (subst (EntersCall c.args.state.now c.args.left.now c.enter_call.new.state c.enter_call.new.left) c.if-not-entered.false c.in_ok-entered.ensures.enters) c.tick.ensures e) c.do_library.ensures

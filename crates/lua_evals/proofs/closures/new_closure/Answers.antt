@@ -1,3 +1,4 @@
+use Rattle.std.proofs.lemmas.Result.{IfOk-weaker}
 use Rattle.std.proofs.Common.{◌∙◌, ap, sym}
 use Rattle.std.specs.Option.{option_copied}
 use Rattle.std.specs.Prelude.{◌∷◌, [], map}
@@ -23,11 +24,11 @@ pub closure_in-requires-in-None-clause-title : goal.closure_in-requires-in-None-
 closure_in-requires-in-None-clause-title c =
     c.in_ok-source-in-None.ensures.there ∙ sym (ap (λ (a : Activation). a.source) (absent c.text.new.self c.args.state.now.functions (ap option_copied (sym c.in-None.is) ∙ c.newest.ensures)))
 
-pub returns-in_ok-turn-in-Some : goal.returns-in_ok-turn-in-Some
-returns-in_ok-turn-in-Some c = c.in_ok-turn-in-Some.ensures
+pub returns-in-Some : goal.returns-in-Some
+returns-in-Some c = c.closure_in.ensures
 
-pub returns-in_ok-turn-in-None : goal.returns-in_ok-turn-in-None
-returns-in_ok-turn-in-None c = λ l.
-    over_text c.args.store.now c.text.new.self c.closure_in-in-None.new.store c.args.state.now c.args.state.now l l _
+pub returns-in_ok-source-in-None : goal.returns-in_ok-source-in-None
+returns-in_ok-source-in-None c = λ l.
+    IfOk-weaker c.closure_in-in-None.result _ _ (λ r e. over_text c.args.store.now c.text.new.self c.closure_in-in-None.new.store c.args.state.now c.args.state.now l l _
     (λ fs s. gives (next_closure s ∷ []) fs (with_closure (proc_of c.args.index (map place_seen c.args.places.now) s) s)) c.requires.state c.in_ok-source-in-None.ensures.later
-    (ap (λ (x : StoreView). x.heap) c.in_ok-source-in-None.ensures.added) (c.in_ok-turn-in-None.ensures l)
+    (ap (λ (x : StoreView). x.heap) c.in_ok-source-in-None.ensures.added) e) (c.closure_in-in-None.ensures l)

@@ -1,3 +1,4 @@
+use Rattle.std.proofs.lemmas.Result.{IfOk-weaker}
 use Rattle.std.proofs.Common.{subst, sym}
 use Rattle.lua_state.specs.Seen.{slots_of, frames_of}
 use Rattle.lua_state.specs.Makes.{Makes}
@@ -9,7 +10,7 @@ set-requires-clause-key c = c.in_ok-key.ensures.of c.args.store.now
 
 pub returns : goal.returns
 returns c =
-    subst (λ mv. Makes c.args.store.now c.args.state.now c.args.left.now c.set.new.store c.set.new.state c.set.new.left mv c.in_ok-turn.turn)
+    IfOk-weaker c.set.result _ _ (λ r e. subst (λ mv. Makes c.args.store.now c.args.state.now c.args.left.now c.set.new.store c.set.new.state c.set.new.left mv r)
     (sym (first_item c.args.store.now.texts c.args.values c.take_first-value.new.self c.in_ok-key.key c.take_first-value.result c.args.table.at c.args.place c.in_ok-next.next c.args.line (frames_of c.args.store.now c.args.state.now) (slots_of c.args.store.now c.args.state.now)
     c.requires.some (c.in_ok-key.ensures.value c.args.store.now.texts) c.take_first-value.ensures.first c.take_first-value.ensures.rest c.in_ok-next.ensures))
-    c.in_ok-turn.ensures
+    e) c.set.ensures

@@ -1,3 +1,4 @@
+use Rattle.std.proofs.lemmas.Result.{IfOk-weaker}
 use Rattle.lua_evals.proofs.Ends.{costs, short}
 use Rattle.lua_evals.proofs.forms.constructor.Goals as goal
 
@@ -6,5 +7,5 @@ returns-then-not-pay c = short c.args.store.now c.args.state.now c.args.left.now
 
 pub returns : goal.returns
 returns c =
-    costs c.args.store.now c.new_table.new.store c.args.state.now c.new_table.new.state c.args.left.now c.pay.new.left c.pay.new.left 8 _ _
-    c.if-not-pay.ensures (c.in_ok-turn.ensures c.pay.new.left)
+    IfOk-weaker c.new_table.result _ _ (λ r e. costs c.args.store.now c.new_table.new.store c.args.state.now c.new_table.new.state c.args.left.now c.pay.new.left c.pay.new.left 8 _ _
+    c.if-not-pay.ensures e) (c.new_table.ensures c.pay.new.left)

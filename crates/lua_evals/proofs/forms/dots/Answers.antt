@@ -1,3 +1,4 @@
+use Rattle.std.proofs.lemmas.Result.{IfOk-weaker}
 use Rattle.std.proofs.Common.{ℕ, subst}
 use Rattle.page_run.specs.declared.which.Which.TheVariants.{Steps}
 use Rattle.lua_slots.specs.Slots.{function_of}
@@ -18,8 +19,8 @@ returns-then-not-pay c =
 
 pub returns : goal.returns
 returns c =
-    subst (λ (n : ℕ). Makes c.args.store.now c.args.state.now c.args.left.now c.args.store.now c.args.state.now c.pay.new.left
-    (Costs n (gives (function_of (slots_of c.args.store.now c.args.state.now)).dots (frames_of c.args.store.now c.args.state.now) (slots_of c.args.store.now c.args.state.now))) c.in_ok-turn.turn)
+    IfOk-weaker c.copied_dots.result _ _ (λ r e. subst (λ (n : ℕ). Makes c.args.store.now c.args.state.now c.args.left.now c.args.store.now c.args.state.now c.pay.new.left
+    (Costs n (gives (function_of (slots_of c.args.store.now c.args.state.now)).dots (frames_of c.args.store.now c.args.state.now) (slots_of c.args.store.now c.args.state.now))) r)
     (c.count_dots-count.ensures c.args.store.now)
     (costs c.args.store.now c.args.store.now c.args.state.now c.args.state.now c.args.left.now c.pay.new.left c.pay.new.left c.count_dots-count.result _ _
-    c.if-not-pay.ensures (c.in_ok-turn.ensures c.pay.new.left))
+    c.if-not-pay.ensures e)) (c.copied_dots.ensures c.pay.new.left)

@@ -1,3 +1,4 @@
+use Rattle.std.proofs.lemmas.Result.{IfOk-weaker}
 use Rattle.lua_state.specs.Seen.{slots_of}
 use Rattle.lua_evals.proofs.Ends.{with_frames_of, stepped}
 use Rattle.lua_evals.proofs.operands.decide.Goals as goal
@@ -7,5 +8,5 @@ finish-requires-clause-state c = with_frames_of c.args.store.now c.args.state.no
 
 pub returns : goal.returns
 returns c =
-    stepped c.args.store.now c.finish.new.store c.args.state.now c.choose_operand.new.frames c.args.left.now c.finish.new.left _ c.in_ok-step.step _
-    (c.in_ok-step.ensures.move_ (slots_of c.args.store.now c.args.state.now)) c.in_ok-turn.ensures.makes
+    IfOk-weaker c.finish.result _ _ (λ r e. stepped c.args.store.now c.finish.new.store c.args.state.now c.choose_operand.new.frames c.args.left.now c.finish.new.left _ c.in_ok-step.step _
+    (c.in_ok-step.ensures.move_ (slots_of c.args.store.now c.args.state.now)) e) c.finish.ensures.makes

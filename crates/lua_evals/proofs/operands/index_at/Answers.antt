@@ -1,3 +1,4 @@
+use Rattle.std.proofs.lemmas.Result.{IfOk-weaker}
 use Rattle.std.proofs.Common.{◌∙◌, refl, sym, ap, ◌∷◌, List}
 use Rattle.lua_slots.specs.Points.{First}
 use Rattle.lua_stack.specs.declared.frame.Frame.{Frame}
@@ -12,7 +13,7 @@ finish-requires-clause-state c = rw c.in_ok-push.ensures.ok (with_frames_of c.ar
 
 pub returns : goal.returns
 returns c =
-    stepped c.args.store.now c.finish.new.store c.args.state.now c.push.new.self c.args.left.now c.finish.new.left _ c.index-step.result _
+    IfOk-weaker c.finish.result _ _ (λ r e. stepped c.args.store.now c.finish.new.store c.args.state.now c.push.new.self c.args.left.now c.finish.new.left _ c.index-step.result _
     (c.index-step.ensures.move_ (First ∷ frames_of c.args.store.now c.args.state.now) (slots_of c.args.store.now c.args.state.now) refl refl
     ∙ ap (λ (fs : List Frame). step_seen c.args.store.now c.index-step.result (frames_seen c.args.store.now.texts fs) (slots_of c.args.store.now c.args.state.now)) (sym c.in_ok-push.ensures.ok))
-    c.in_ok-turn.ensures.makes
+    e) c.finish.ensures.makes

@@ -1,3 +1,4 @@
+use Rattle.std.proofs.lemmas.Result.{IfOk-weaker}
 use Rattle.std.proofs.Common.{subst}
 use Rattle.std.specs.Prelude.{◌∷◌, Some}
 use Rattle.lua_heap.specs.Value as kind
@@ -20,9 +21,9 @@ method_named-requires-clause-object c = of-later c.args.store.now c.text.new.sel
 
 pub returns : goal.returns
 returns c =
-    named c.args.store.now c.text.new.self c.method_named.new.store c.args.state.now c.method_named.new.state c.args.left.now c.method_named.new.left _ _ c.in_ok-id.id.at c.args.name.now
+    IfOk-weaker c.method_named.result _ _ (λ r e. named c.args.store.now c.text.new.self c.method_named.new.store c.args.state.now c.method_named.new.state c.args.left.now c.method_named.new.left _ _ c.in_ok-id.id.at c.args.name.now
     (λ b fs s. index (seen c.args.store.now.texts c.args.object) (kind.Text b) (Some c.args.line) (MethodNow (seen c.args.store.now.texts c.args.object) (expressions_seen c.args.arguments.now) c.args.line ∷ fs) s)
     c.requires.state c.in_ok-id.ensures.later c.in_ok-id.ensures.added c.in_ok-id.ensures.there
     (subst (λ o. Makes c.text.new.self c.args.state.now c.args.left.now c.method_named.new.store c.method_named.new.state c.method_named.new.left
-    (index o (kind.Text (text_at c.text.new.self.texts c.in_ok-id.id.at)) (Some c.args.line) (MethodNow o (expressions_seen c.args.arguments.now) c.args.line ∷ frames_of c.text.new.self c.args.state.now) (slots_of c.text.new.self c.args.state.now)) c.in_ok-turn.turn)
-    (seen-later c.args.store.now c.text.new.self c.in_ok-id.ensures.later c.args.object c.requires.object) c.in_ok-turn.ensures)
+    (index o (kind.Text (text_at c.text.new.self.texts c.in_ok-id.id.at)) (Some c.args.line) (MethodNow o (expressions_seen c.args.arguments.now) c.args.line ∷ frames_of c.text.new.self c.args.state.now) (slots_of c.text.new.self c.args.state.now)) r)
+    (seen-later c.args.store.now c.text.new.self c.in_ok-id.ensures.later c.args.object c.requires.object) e)) c.method_named.ensures

@@ -1,8 +1,9 @@
+use Rattle.std.proofs.lemmas.Result.{IfOk-weaker}
 use Rattle.lua_state.specs.Seen.{slots_of, frames_of}
 use Rattle.lua_evals.proofs.Ends.{stepped}
 use Rattle.lua_evals.proofs.operands.more.Goals as goal
 
 pub returns : goal.returns
 returns c =
-    stepped c.args.store.now c.finish.new.store c.args.state.now c.args.state.now.frames c.args.left.now c.finish.new.left _ c.in_ok-step.step _
-    (c.in_ok-step.ensures.move_ (frames_of c.args.store.now c.args.state.now) (slots_of c.args.store.now c.args.state.now)) c.in_ok-turn.ensures.makes
+    IfOk-weaker c.finish.result _ _ (λ r e. stepped c.args.store.now c.finish.new.store c.args.state.now c.args.state.now.frames c.args.left.now c.finish.new.left _ c.in_ok-step.step _
+    (c.in_ok-step.ensures.move_ (frames_of c.args.store.now c.args.state.now) (slots_of c.args.store.now c.args.state.now)) e) c.finish.ensures.makes

@@ -1,3 +1,4 @@
+use Rattle.std.proofs.lemmas.Result.{IfOk-weaker}
 use Rattle.std.proofs.Common.{◌∙◌, sym, ap, refl, Option}
 use Rattle.lua_slots.specs.Code.{CProto}
 use Rattle.lua_slots.specs.Calls.{body_of}
@@ -17,11 +18,11 @@ go-requires-clause-state g c = with_codes_of c.args.store.now c.args.state.now c
 pub go-requires-clause-focus : goal.go-requires-clause-focus
 go-requires-clause-focus g c = c.nothing-focus.ensures.of c.args.store.now
 
-pub returns-in_ok-turn-in-Some : goal.returns-in_ok-turn-in-Some
-returns-in_ok-turn-in-Some g c =
-    found c.args.store.now c.enter_found.new.store c.args.state.now c.enter_found.new.state c.function.new.self c.args.left.now c.enter_found.new.left c.args.turns.now c.enter_found.new.turns _ _ _ c.in_ok-found.ensures.world
+pub returns-in-Some : goal.returns-in-Some
+returns-in-Some g c =
+    IfOk-weaker c.enter_found.result _ _ (λ r e. found c.args.store.now c.enter_found.new.store c.args.state.now c.enter_found.new.state c.function.new.self c.args.left.now c.enter_found.new.left c.args.turns.now c.enter_found.new.turns _ _ _ c.in_ok-found.ensures.world
     (ap (λ (p : Option CProto). body_of p (callee_seen c.args.store.now c.args.callee) (values_seen c.args.store.now.texts c.args.arguments) c.args.line (frames_of c.args.store.now c.args.state.now) (slots_of c.args.store.now c.args.state.now))
-    (sym (rw c.in-Some.is at c.in_ok-found.ensures.found))) c.in_ok-turn-in-Some.ensures
+    (sym (rw c.in-Some.is at c.in_ok-found.ensures.found))) e) c.enter_found.ensures
 
 pub returns-in-None : goal.returns-in-None
 returns-in-None g c =

@@ -1,3 +1,4 @@
+use Rattle.std.proofs.lemmas.Result.{IfOk-weaker}
 use Rattle.std.proofs.Common.{subst}
 use Rattle.std.specs.Prelude.{◌∷◌}
 use Rattle.lua_code.specs.Seen.{block_seen, proto_seen}
@@ -18,7 +19,7 @@ returns-then-not-entered g c =
 
 pub returns : goal.returns
 returns g c =
-    enters c.args.store.now c.begin_body.new.store c.args.state.now c.enter_call.new.state c.begin_body.new.state c.args.left.now c.enter_call.new.left c.args.turns.now c.tick.new.self
+    IfOk-weaker c.begin_body.result _ _ (λ r e. enters c.args.store.now c.begin_body.new.store c.args.state.now c.enter_call.new.state c.begin_body.new.state c.args.left.now c.enter_call.new.left c.args.turns.now c.tick.new.self
     (λ fs x. Now (Runs (block_seen c.args.proto.now.body) (BodyEnd ∷ fs)) (slots_in_body (callee_seen c.args.store.now c.args.callee) (proto_seen c.args.proto.now) (values_seen c.args.store.now.texts c.args.arguments) c.args.line x)) _
     c.in_ok-entered.ensures.same (subst (EntersCall c.args.state.now c.args.left.now c.enter_call.new.state c.enter_call.new.left) c.if-not-entered.false c.in_ok-entered.ensures.enters)
-    c.tick.ensures (c.in_ok-turn.ensures c.enter_call.new.left)
+    c.tick.ensures e) (c.begin_body.ensures c.enter_call.new.left)

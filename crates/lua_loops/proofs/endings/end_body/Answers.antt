@@ -1,4 +1,4 @@
 use Rattle.lua_loops.proofs.endings.end_body.Goals as goal
 
 pub returns : goal.returns
-returns c = λ l. c.in_ok-turn.ensures l
+returns c = λ l. c.wait.ensures l

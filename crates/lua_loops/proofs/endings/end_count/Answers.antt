@@ -1,3 +1,4 @@
+use Rattle.std.proofs.lemmas.Result.{IfOk-weaker}
 use Rattle.lua_code.specs.Seen.{block_seen}
 use Rattle.lua_slots.specs.Loops.{count_next}
 use Rattle.lua_state.specs.Seen.{frames_of}
@@ -9,6 +10,6 @@ next_index-requires c = record { state = with_regs_of c.args.store.now c.args.st
 
 pub returns : goal.returns
 returns c =
-    after_cut c.args.store.now c.next_index.new.store c.args.state.now _ c.keep_oldest.new.regs c.args.depth c.args.left.now c.next_index.new.left
+    IfOk-weaker c.next_index.result _ _ (λ r e. after_cut c.args.store.now c.next_index.new.store c.args.state.now _ c.keep_oldest.new.regs c.args.depth c.args.left.now c.next_index.new.left
     (λ x. count_next c.args.boxed c.args.range.0 c.args.range.1 c.args.range.2 (block_seen c.args.body.now) (frames_of c.args.store.now c.args.state.now) x) _
-    (c.keep_oldest.ensures.kept c.args.store.now.texts) c.in_ok-turn.ensures
+    (c.keep_oldest.ensures.kept c.args.store.now.texts) e) c.next_index.ensures

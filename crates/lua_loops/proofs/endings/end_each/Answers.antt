@@ -1,3 +1,4 @@
+use Rattle.std.proofs.lemmas.Result.{IfOk-weaker}
 use Rattle.lua_code.specs.Seen.{block_seen}
 use Rattle.lua_slots.specs.Loops.{each_from}
 use Rattle.lua_store.specs.Seen.{seen}
@@ -10,6 +11,6 @@ call_iterator-requires-clause-state c = with_regs_of c.args.store.now c.args.sta
 
 pub returns : goal.returns
 returns c =
-    after_cut c.args.store.now c.call_iterator.new.store c.args.state.now c.call_iterator.new.state c.keep_oldest.new.regs c.args.depth c.args.left.now c.call_iterator.new.left
-    (λ x. each_from c.args.flags.now (seen c.args.store.now.texts c.args.values.0) (seen c.args.store.now.texts c.args.values.1) (seen c.args.store.now.texts c.args.values.2) (block_seen c.args.body.now) c.args.line (frames_of c.args.store.now c.args.state.now) x) _
-    (c.keep_oldest.ensures.kept c.args.store.now.texts) c.in_ok-turn.ensures
+    IfOk-weaker c.call_iterator.result _ _ (λ r e. after_cut c.args.store.now c.call_iterator.new.store c.args.state.now c.call_iterator.new.state c.keep_oldest.new.regs c.args.depth c.args.left.now c.call_iterator.new.left
+    (λ x. each_from c.args.each.value.flags.now (seen c.args.store.now.texts c.args.each.value.iterator) (seen c.args.store.now.texts c.args.each.value.state) (seen c.args.store.now.texts c.args.before) (block_seen c.args.each.value.body.now) c.args.each.value.line (frames_of c.args.store.now c.args.state.now) x) _
+    (c.keep_oldest.ensures.kept c.args.store.now.texts) e) c.call_iterator.ensures

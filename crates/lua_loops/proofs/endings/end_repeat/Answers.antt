@@ -1,3 +1,4 @@
+use Rattle.std.proofs.lemmas.Result.{IfOk-weaker}
 use Rattle.lua_code.specs.Seen.{expression_seen, block_seen}
 use Rattle.lua_slots.specs.Loops.{repeat_next}
 use Rattle.lua_store.specs.Seen.{seen}
@@ -10,6 +11,6 @@ test_repeat-requires c = record { state = with_regs_of c.args.store.now c.args.s
 
 pub returns : goal.returns
 returns c =
-    after_cut c.args.store.now c.test_repeat.new.store c.args.state.now _ c.keep_oldest.new.regs c.args.depth c.args.left.now c.test_repeat.new.left
+    IfOk-weaker c.test_repeat.result _ _ (λ r e. after_cut c.args.store.now c.test_repeat.new.store c.args.state.now _ c.keep_oldest.new.regs c.args.depth c.args.left.now c.test_repeat.new.left
     (λ x. repeat_next (block_seen c.args.body.now) (expression_seen c.args.test.now) (seen c.args.store.now.texts c.args.value) (frames_of c.args.store.now c.args.state.now) x) _
-    (c.keep_oldest.ensures.kept c.args.store.now.texts) c.in_ok-turn.ensures
+    (c.keep_oldest.ensures.kept c.args.store.now.texts) e) c.test_repeat.ensures

@@ -1,3 +1,4 @@
+use Rattle.std.proofs.lemmas.Result.{IfOk-weaker}
 use Rattle.std.specs.Prelude.{◌∷◌}
 use Rattle.lua_code.specs.Seen.{expression_seen, block_seen}
 use Rattle.lua_slots.specs.Points.{WhileTest, Evals, Now}
@@ -10,6 +11,6 @@ wait-requires-clause-state c = with_regs_of c.args.store.now c.args.state.now c.
 
 pub returns : goal.returns
 returns c = λ l.
-    after_cut c.args.store.now c.args.store.now c.args.state.now c.wait.new.state c.keep_oldest.new.regs c.args.depth l l
+    IfOk-weaker c.wait.result _ _ (λ r e. after_cut c.args.store.now c.args.store.now c.args.state.now c.wait.new.state c.keep_oldest.new.regs c.args.depth l l
     (λ x. Now (Evals (expression_seen c.args.test.now) (WhileTest (expression_seen c.args.test.now) (block_seen c.args.body.now) ∷ frames_of c.args.store.now c.args.state.now)) x) _
-    (c.keep_oldest.ensures.kept c.args.store.now.texts) (c.in_ok-turn.ensures l)
+    (c.keep_oldest.ensures.kept c.args.store.now.texts) e) (c.wait.ensures l)

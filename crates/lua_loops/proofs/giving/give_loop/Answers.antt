@@ -1,9 +1,10 @@
 use Rattle.lua_stack.specs.Lists.{given_values}
 use Rattle.lua_stack.proofs.Openings.{first_of}
+use Rattle.lua_loops.proofs.Worlds.{for_each}
 use Rattle.lua_loops.proofs.giving.give_loop.Goals as goal
 
 pub give_first-requires-clause-first : goal.give_first-requires-clause-first
 give_first-requires-clause-first c = first_of c.args.store.now (given_values c.args.values) c.first-first.result c.first-first.ensures c.requires.values
 
 pub returns : goal.returns
-returns c = λ world. c.in_ok-turn.ensures world
+returns c = for_each _ c.give_first.result (λ world. c.give_first.ensures world)

@@ -1,3 +1,4 @@
+use Rattle.std.proofs.lemmas.Result.{IfOk-weaker}
 use Rattle.lua_slots.specs.Points.{Exits, Now}
 use Rattle.lua_stack.specs.Seen.{focus_seen}
 use Rattle.lua_state.specs.Seen.{frames_of}
@@ -11,6 +12,6 @@ leave_for-requires-clause-state c =
 
 pub returns : goal.returns
 returns c =
-    after_function c.args.store.now c.args.store.now c.args.state.now c.leave_for.new.state c.leave_function.new.regs c.leave_function.new.functions c.args.left.now c.leave_for.new.left
+    IfOk-weaker c.leave_for.result _ _ (λ r e. after_function c.args.store.now c.args.store.now c.args.state.now c.leave_for.new.state c.leave_function.new.regs c.leave_function.new.functions c.args.left.now c.leave_for.new.left
     (λ x. Exits (Now (focus_seen c.args.store.now c.args.focus (frames_of c.args.store.now c.args.state.now)) x)) _
-    (c.leave_function.ensures.kept c.args.store.now) (c.leave_function.ensures.rest c.args.store.now) c.in_ok-turn.ensures
+    (c.leave_function.ensures.kept c.args.store.now) (c.leave_function.ensures.rest c.args.store.now) e) c.leave_for.ensures

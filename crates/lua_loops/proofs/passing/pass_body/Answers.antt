@@ -1,3 +1,4 @@
+use Rattle.std.proofs.lemmas.Result.{IfOk-weaker}
 use Rattle.std.proofs.Common.{sym, ap}
 use Rattle.lua_slots.specs.Points.{Exits}
 use Rattle.lua_slots.specs.Calls.{left_function}
@@ -10,5 +11,5 @@ leave_body_for-requires-clause-focus c = c.after_body-focus.ensures.of c.args.st
 
 pub returns : goal.returns
 returns c =
-    same_move c.args.store.now c.args.store.now c.args.state.now c.leave_body_for.new.state c.args.left.now c.leave_body_for.new.left _ _ _
-    (ap Exits (sym (c.after_body-focus.ensures.move_ c.args.store.now (frames_of c.args.store.now c.args.state.now) (left_function (slots_of c.args.store.now c.args.state.now))))) c.in_ok-turn.ensures
+    IfOk-weaker c.leave_body_for.result _ _ (λ r e. same_move c.args.store.now c.args.store.now c.args.state.now c.leave_body_for.new.state c.args.left.now c.leave_body_for.new.left _ _ _
+    (ap Exits (sym (c.after_body-focus.ensures.move_ c.args.store.now (frames_of c.args.store.now c.args.state.now) (left_function (slots_of c.args.store.now c.args.state.now))))) e) c.leave_body_for.ensures

@@ -5,13 +5,14 @@ use Rattle.lua_stack.proofs.Stay.{focus_later}
 use Rattle.lua_state.specs.declared.state.State.{State}
 use Rattle.lua_state.specs.Of.{StateOf}
 use Rattle.lua_state.proofs.Staying.{state_later}
+use Rattle.lua_strides.specs.Next.{focus_of}
 use Rattle.lua_machine.proofs.Loops.{strode_goes, turned_goes}
 use Rattle.lua_machine.proofs.going.go_on.Goals as goal
 
 pub turn-requires-clause-state : goal.turn-requires-clause-state
 turn-requires-clause-state g c =
     let idle = rw c.in-None.is at c.in_ok-strode.ensures in
-    subst (λ (m : State). StateOf c.stride.new.store m) (sym idle.state) (state_later c.args.store.now c.stride.new.store idle.later c.args.state.now c.requires.state)
+    subst (λ (m : State). StateOf c.strides.new.store m) (sym idle.state) (state_later c.args.store.now c.strides.new.store idle.later c.args.state.now c.requires.state)
 
 pub turn-requires-clause-calls : goal.turn-requires-clause-calls
 turn-requires-clause-calls g c =
@@ -21,13 +22,15 @@ turn-requires-clause-calls g c =
     omega (arith, left, calls, c.requires.calls)
 
 pub turn-requires-clause-focus : goal.turn-requires-clause-focus
-turn-requires-clause-focus g c = focus_later c.args.store.now c.stride.new.store (rw c.in-None.is at c.in_ok-strode.ensures).later c.args.next c.requires.focus
+turn-requires-clause-focus g c = focus_later c.args.store.now c.strides.new.store (rw c.in-None.is at c.in_ok-strode.ensures).later c.args.next c.requires.focus
 
 pub returns-in-Some : goal.returns-in-Some
-returns-in-Some g c = strode_goes c.args.store.now c.args.state.now c.args.next c.args.left.now c.args.turns.now c.stride.new.store c.stride.new.state c.stride.new.left c.stride.new.turns c.in-Some.after (rw c.in-Some.is at c.in_ok-strode.ensures)
+returns-in-Some g c =
+    rw c.in_ok-focus-in-Some.ensures
+    (strode_goes c.args.store.now c.args.state.now c.args.next c.args.left.now c.args.turns.now c.strides.new.store c.strides.new.state c.strides.new.left c.strides.new.turns (focus_of c.in-Some.after) (rw c.in-Some.is at c.in_ok-strode.ensures))
 
 pub returns : goal.returns
 returns g c =
     IfOk-weaker c.turn.result _ _
-    (λ r moved. turned_goes c.args.store.now c.args.state.now c.args.next c.args.left.now c.args.turns.now c.stride.new.store c.stride.new.state c.stride.new.left c.stride.new.turns c.turn.new.store c.turn.new.state c.turn.new.left c.turn.new.turns r
+    (λ r moved. turned_goes c.args.store.now c.args.state.now c.args.next c.args.left.now c.args.turns.now c.strides.new.store c.strides.new.state c.strides.new.left c.strides.new.turns c.turn.new.store c.turn.new.state c.turn.new.left c.turn.new.turns r
     c.requires.state c.requires.focus c.requires.moving (rw c.in-None.is at c.in_ok-strode.ensures) moved) c.turn.ensures

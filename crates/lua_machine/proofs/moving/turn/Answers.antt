@@ -36,4 +36,4 @@ pub returns-in-Asks : goal.returns-in-Asks
 returns-in-Asks g c = rw c.in-Asks.is (stays c.args.store.now c.args.state.now (focus.Asks c.in-Asks.question) c.args.left.now c.args.turns.now c.requires.state tt refl)
 
 pub returns-in-Works : goal.returns-in-Works
-returns-in-Works g c = rw c.in-Works.is (IfOk-weaker c.begin_work.result _ _ (λ r e. late_counts_none c.args.store.now c.begin_work.new.store c.args.state.now c.begin_work.new.state c.args.left.now c.begin_work.new.left c.args.turns.now c.args.turns.now _ r refl e) c.begin_work.ensures)
+returns-in-Works g c = rw c.in-Works.is (IfOk-weaker c.begin_work.result _ _ (λ r e. late_counts_none c.args.store.now c.begin_work.new.store c.args.state.now c.begin_work.new.state c.args.left.now c.begin_work.new.left c.args.turns.now c.args.turns.now _ r refl e) (rw c.into_inner.ensures at c.begin_work.ensures))

@@ -16,8 +16,8 @@ use Rattle.lua_strides.proofs.statements.assign_entry.Goals as goal
 pub returns-then-not-pay_nodes : goal.returns-then-not-pay_nodes
 returns-then-not-pay_nodes g c = unpaid c.args.store.now c.read_entry.new.store c.args.state.now (1 + (1 + (c.in-Some.found.of.nodes + (c.in-Some.found.key.nodes + c.in-Some.found.value.nodes)))) c.args.left.now c.pay_nodes.new.left c.args.turns.now c.pay_nodes.new.turns c.in_ok-known.ensures.later c.in_ok-known.ensures.heap c.if-not-pay_nodes.ensures
 
-pub returns-in_ok-push-in-Some : goal.returns-in_ok-push-in-Some
-returns-in_ok-push-in-Some g c =
+pub returns-else-not-pay_nodes : goal.returns-else-not-pay_nodes
+returns-else-not-pay_nodes g c =
     let k = rw c.in-Some.is at c.in_ok-known.ensures in
     let s = c.args.store.now in
     let t = c.read_entry.new.store in
@@ -28,7 +28,6 @@ returns-in_ok-push-in-Some g c =
     let line = c.args.target.2 in
     let n = 1 + (1 + (o.nodes + (key.nodes + v.nodes))) in
     let pair : Setting = record { target = found.At o.value key.value line; value = v.value } in
-    rw (c.in_ok-push-in-Some.ensures.ok, c.new-sets.ensures) at
     c.wait_for.ensures s t (Runs (ThenC (AssignC (EntryC (expression_seen c.args.target.0.now) (expression_seen c.args.target.1.now) line ∷ []) (MoreC (expression_seen c.args.value.now) NoC)) (block_seen c.args.rest.now)) (frames_of s m)) n c.args.left.now c.pay_nodes.new.left c.args.turns.now c.pay_nodes.new.turns
     (ready s m _ n t (focus.Sets (pair ∷ [])) (frame.Statement (in_statement.StatsNext c.args.rest) ∷ m.frames) (λ fs. Sets ((EntryS (seen t.texts o.value) (seen t.texts key.value) line, seen t.texts v.value) ∷ []) (StatsNext (block_seen c.args.rest.now) ∷ fs))
     c.requires k.later k.heap (((k.read.0.of, k.read.1.of), k.read.2.of), tt) (tt, frames_kept s t m c.requires k.later) (omega arith)

@@ -5,7 +5,7 @@ use Rattle.page_replies.proofs.Sinking.{not_asked}
 use Rattle.page_driver.proofs.driving.move_to_question.Goals as goal
 
 pub moves-init : goal.moves-init
-moves-init g c = (λ work first start fits d. d, same_fits (steps_at c.args.left.now c.args.halted.halt))
+moves-init g c = (λ root first start fits d. d, same_fits (steps_at c.args.left.now c.args.halted.halt))
 
 pub move_on-requires : goal.move_on-requires
 move_on-requires g c = in_progress (ground_of c.args.around.now) c.args.store.now c.args.left.now c.args.turns.now c.args.tower.now c.args.halted c.moves.store c.moves.left c.moves.turns c.moves.tower c.moves.now c.requires c.moves.invariant.0

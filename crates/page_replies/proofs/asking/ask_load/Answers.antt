@@ -19,7 +19,7 @@ go_above-requires g c =
     let w = ground_of c.args.around.now in
     let r = start_renumbers c.args.store.now c.args.tower.now.numbers c.push_run.new.store (after_start c.args.tower.now.numbers) refl c.in_ok-push_run.ensures.store in
     above_starts w c.push_run.new.store c.args.left.now c.args.turns.now (record c.args.tower.now { numbers = after_start c.args.tower.now.numbers }) c.args.task (asks_with c.args.task (Data c.args.title)) c.begin_load.new.store c.in_ok-inner.inner c.push_run.new.tower c.in_ok-push_run.ensures.tower
-    (λ work first start d. load_starts w c.push_run.new.store c.args.left.now c.args.turns.now (record c.args.tower.now { numbers = after_start c.args.tower.now.numbers }) c.args.task c.args.title c.in_ok-inner.inner c.begin_load.new.store c.requires.held.1 c.requires.held.0 c.requires.short c.in_ok-inner.ensures work first start d)
+    (λ root first start d. load_starts w c.push_run.new.store c.args.left.now c.args.turns.now (record c.args.tower.now { numbers = after_start c.args.tower.now.numbers }) c.args.task c.args.title c.in_ok-inner.inner c.begin_load.new.store c.requires.held.1 c.requires.held.0 c.requires.short c.in_ok-inner.ensures root first start d)
     (progress_renumbered w c.args.store.now c.args.left.now c.args.turns.now c.args.tower.now c.push_run.new.store (after_start c.args.tower.now.numbers) r (asks_with c.args.task (Data c.args.title)) c.requires.progress)
 
 pub returns-clause-moves : goal.returns-clause-moves
@@ -28,7 +28,7 @@ returns-clause-moves g c =
     let r = start_renumbers c.args.store.now c.args.tower.now.numbers c.push_run.new.store (after_start c.args.tower.now.numbers) refl c.in_ok-push_run.ensures.store in
     moves_renumbered w c.args.store.now c.args.left.now c.args.turns.now c.args.tower.now c.push_run.new.store (after_start c.args.tower.now.numbers) r (asks_with c.args.task (Data c.args.title)) c.go_above.new.store c.go_above.new.left c.go_above.new.turns c.push_run.new.tower c.in_ok-next.next
     (above_moves w c.push_run.new.store c.args.left.now c.args.turns.now (record c.args.tower.now { numbers = after_start c.args.tower.now.numbers }) c.args.task (asks_with c.args.task (Data c.args.title)) c.begin_load.new.store c.in_ok-inner.inner c.push_run.new.tower c.in_ok-push_run.ensures.tower
-    (λ work first start d. load_starts w c.push_run.new.store c.args.left.now c.args.turns.now (record c.args.tower.now { numbers = after_start c.args.tower.now.numbers }) c.args.task c.args.title c.in_ok-inner.inner c.begin_load.new.store c.requires.held.1 c.requires.held.0 c.requires.short c.in_ok-inner.ensures work first start d) c.go_above.new.store c.go_above.new.left c.go_above.new.turns c.in_ok-next.next c.in_ok-next.ensures.on)
+    (λ root first start d. load_starts w c.push_run.new.store c.args.left.now c.args.turns.now (record c.args.tower.now { numbers = after_start c.args.tower.now.numbers }) c.args.task c.args.title c.in_ok-inner.inner c.begin_load.new.store c.requires.held.1 c.requires.held.0 c.requires.short c.in_ok-inner.ensures root first start d) c.go_above.new.store c.go_above.new.left c.go_above.new.turns c.in_ok-next.next c.in_ok-next.ensures.on)
 
 pub returns-clause-sinks : goal.returns-clause-sinks
 returns-clause-sinks g c = answered_on c.args.left.now c.args.task (Data c.args.title) c.in_ok-inner.inner (record c.args.tower.now { numbers = after_start c.args.tower.now.numbers }) c.push_run.new.tower c.go_above.new.left c.in_ok-next.next c.in_ok-next.ensures.falls

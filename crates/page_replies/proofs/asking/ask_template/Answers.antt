@@ -41,14 +41,14 @@ go_above-requires g c =
     let held = held_has_trees included_of (find_page c.args.around.now.pages.now c.args.title) (sym c.holds-held.ensures ∙ c.if-held.true) in
     let t = with_trees (λ (trees : Trees). (s : StoreView) → Begins (ground_of c.args.around.now) (Expanding (Including trees c.args.title record c.args.scene { args = c.args.args })) s s c.in_ok-inner.inner) (included_in c.args.around.now.pages.now c.args.title) held c.in_ok-inner.ensures in
     above_starts (ground_of c.args.around.now) c.args.store.now c.args.left.now c.args.turns.now c.args.tower.now c.args.task (asks_with c.args.task (Template c.args.scene c.args.title c.args.args)) c.args.store.now c.in_ok-inner.inner c.push_task.new.tower c.in_ok-push_task.ensures
-    (λ work first start d. template_starts (ground_of c.args.around.now) c.args.store.now c.args.left.now c.args.turns.now c.args.tower.now c.args.task c.args.scene c.args.title c.args.args t.0 c.in_ok-inner.inner t.1 (t.2 c.args.store.now) work first start d) c.requires
+    (λ root first start d. template_starts (ground_of c.args.around.now) c.args.store.now c.args.left.now c.args.turns.now c.args.tower.now c.args.task c.args.scene c.args.title c.args.args t.0 c.in_ok-inner.inner t.1 (t.2 c.args.store.now) root first start d) c.requires
 
 pub returns-then-held-clause-moves : goal.returns-then-held-clause-moves
 returns-then-held-clause-moves g c =
     let held = held_has_trees included_of (find_page c.args.around.now.pages.now c.args.title) (sym c.holds-held.ensures ∙ c.if-held.true) in
     let t = with_trees (λ (trees : Trees). (s : StoreView) → Begins (ground_of c.args.around.now) (Expanding (Including trees c.args.title record c.args.scene { args = c.args.args })) s s c.in_ok-inner.inner) (included_in c.args.around.now.pages.now c.args.title) held c.in_ok-inner.ensures in
     above_moves (ground_of c.args.around.now) c.args.store.now c.args.left.now c.args.turns.now c.args.tower.now c.args.task (asks_with c.args.task (Template c.args.scene c.args.title c.args.args)) c.args.store.now c.in_ok-inner.inner c.push_task.new.tower c.in_ok-push_task.ensures
-    (λ work first start d. template_starts (ground_of c.args.around.now) c.args.store.now c.args.left.now c.args.turns.now c.args.tower.now c.args.task c.args.scene c.args.title c.args.args t.0 c.in_ok-inner.inner t.1 (t.2 c.args.store.now) work first start d) c.go_above.new.store c.go_above.new.left c.go_above.new.turns c.in_ok-next.next c.in_ok-next.ensures.on
+    (λ root first start d. template_starts (ground_of c.args.around.now) c.args.store.now c.args.left.now c.args.turns.now c.args.tower.now c.args.task c.args.scene c.args.title c.args.args t.0 c.in_ok-inner.inner t.1 (t.2 c.args.store.now) root first start d) c.go_above.new.store c.go_above.new.left c.go_above.new.turns c.in_ok-next.next c.in_ok-next.ensures.on
 
 pub returns-then-held-clause-sinks : goal.returns-then-held-clause-sinks
 returns-then-held-clause-sinks g c = answered_on c.args.left.now c.args.task (Template c.args.scene c.args.title c.args.args) c.in_ok-inner.inner c.args.tower.now c.push_task.new.tower c.go_above.new.left c.in_ok-next.next c.in_ok-next.ensures.falls

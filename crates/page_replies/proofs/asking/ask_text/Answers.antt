@@ -9,12 +9,12 @@ use Rattle.page_replies.proofs.asking.ask_text.Goals as goal
 pub go_above-requires : goal.go_above-requires
 go_above-requires g c =
     above_starts (ground_of c.args.around.now) c.args.store.now c.args.left.now c.args.turns.now c.args.tower.now c.args.task (asks_with c.args.task (Preprocess c.args.scene c.args.text)) c.args.store.now c.in_ok-inner.inner c.push_task.new.tower c.in_ok-push_task.ensures
-    (λ work first start d. text_starts (ground_of c.args.around.now) c.args.store.now c.args.left.now c.args.turns.now c.args.tower.now c.args.task c.args.scene c.args.text c.in_ok-inner.inner (c.in_ok-inner.ensures c.args.store.now) work first start d) c.requires
+    (λ root first start d. text_starts (ground_of c.args.around.now) c.args.store.now c.args.left.now c.args.turns.now c.args.tower.now c.args.task c.args.scene c.args.text c.in_ok-inner.inner (c.in_ok-inner.ensures c.args.store.now) root first start d) c.requires
 
 pub returns-clause-moves : goal.returns-clause-moves
 returns-clause-moves g c =
     above_moves (ground_of c.args.around.now) c.args.store.now c.args.left.now c.args.turns.now c.args.tower.now c.args.task (asks_with c.args.task (Preprocess c.args.scene c.args.text)) c.args.store.now c.in_ok-inner.inner c.push_task.new.tower c.in_ok-push_task.ensures
-    (λ work first start d. text_starts (ground_of c.args.around.now) c.args.store.now c.args.left.now c.args.turns.now c.args.tower.now c.args.task c.args.scene c.args.text c.in_ok-inner.inner (c.in_ok-inner.ensures c.args.store.now) work first start d) c.go_above.new.store c.go_above.new.left c.go_above.new.turns c.in_ok-next.next c.in_ok-next.ensures.on
+    (λ root first start d. text_starts (ground_of c.args.around.now) c.args.store.now c.args.left.now c.args.turns.now c.args.tower.now c.args.task c.args.scene c.args.text c.in_ok-inner.inner (c.in_ok-inner.ensures c.args.store.now) root first start d) c.go_above.new.store c.go_above.new.left c.go_above.new.turns c.in_ok-next.next c.in_ok-next.ensures.on
 
 pub returns-clause-sinks : goal.returns-clause-sinks
 returns-clause-sinks g c = answered_on c.args.left.now c.args.task (Preprocess c.args.scene c.args.text) c.in_ok-inner.inner c.args.tower.now c.push_task.new.tower c.go_above.new.left c.in_ok-next.next c.in_ok-next.ensures.falls

@@ -18,15 +18,15 @@ tell_text-requires-clause-waits g c = (below_of (ground_of c.args.around.now) c.
 pub tell_text-requires-clause-back : goal.tell_text-requires-clause-back
 tell_text-requires-clause-back g c = below_fits (ground_of c.args.around.now) c.args.store.now c.args.left.now c.args.turns.now c.args.tower.now c.args.waiting c.args.task c.args.reply c.requires
 
-pub returns-in_ok-halted-in-Text-clause-moves : goal.returns-in_ok-halted-in-Text-clause-moves
-returns-in_ok-halted-in-Text-clause-moves g c = rw c.in-Text.is
-    (text_moves (ground_of c.args.around.now) c.args.store.now c.args.left.now c.args.turns.now c.args.tower.now c.args.waiting c.args.task c.in-Text.text c.tell_text.new.store c.tell_text.new.left c.tell_text.new.turns c.in_ok-halted-in-Text.halted c.in_ok-halted-in-Text.ensures.halts c.in_ok-halted-in-Text.ensures.goes)
+pub returns-in_ok-halted-in-Ended-clause-moves : goal.returns-in_ok-halted-in-Ended-clause-moves
+returns-in_ok-halted-in-Ended-clause-moves g c = rw c.in-Ended.is
+    (text_moves (ground_of c.args.around.now) c.args.store.now c.args.left.now c.args.turns.now c.args.tower.now c.args.waiting c.args.task c.in-Ended.so c.tell_text.new.store c.tell_text.new.left c.tell_text.new.turns c.in_ok-halted-in-Ended.halted c.in_ok-halted-in-Ended.ensures.halts c.in_ok-halted-in-Ended.ensures.goes)
 
-pub returns-in_ok-halted-in-Text-clause-sinks : goal.returns-in_ok-halted-in-Text-clause-sinks
-returns-in_ok-halted-in-Text-clause-sinks g c = told_sinks c.args.left.now c.args.task c.args.reply c.args.waiting c.args.tower.now c.args.tower.now c.tell_text.new.left c.in_ok-halted-in-Text.halted refl c.in_ok-halted-in-Text.ensures.falls
+pub returns-in_ok-halted-in-Ended-clause-sinks : goal.returns-in_ok-halted-in-Ended-clause-sinks
+returns-in_ok-halted-in-Ended-clause-sinks g c = told_sinks c.args.left.now c.args.task c.args.reply c.args.waiting c.args.tower.now c.args.tower.now c.tell_text.new.left c.in_ok-halted-in-Ended.halted refl c.in_ok-halted-in-Ended.ensures.falls
 
-pub returns-in_ok-halted-in-Text-clause-numbers : goal.returns-in_ok-halted-in-Text-clause-numbers
-returns-in_ok-halted-in-Text-clause-numbers g c = refl
+pub returns-in_ok-halted-in-Ended-clause-numbers : goal.returns-in_ok-halted-in-Ended-clause-numbers
+returns-in_ok-halted-in-Ended-clause-numbers g c = refl
 
 -- DATA
 pub hand_data-requires : goal.hand_data-requires

@@ -9,9 +9,9 @@ use Rattle.page_replies.proofs.handing.hand_over.Goals as goal
 
 -- THE PAGE IS EXPANDED
 pub returns-in-None-clause-moves : goal.returns-in-None-clause-moves
-returns-in-None-clause-moves g c = λ work first start fits d.
-    page_is_expanded (ground_of c.args.around.now) work first start c.leave_run.new.store c.args.left.now c.args.turns.now (record c.args.tower.now { numbers = c.leave_run.new.numbers }) (record c.args.tower.now { stack = c.pop.new.self; numbers = c.leave_run.new.numbers }) c.args.task c.args.reply c.in-None.ensures.0 refl refl
-    (driven_renumbered (ground_of c.args.around.now) c.args.store.now c.args.left.now c.args.turns.now c.args.tower.now c.leave_run.new.store c.leave_run.new.numbers c.leave_run.ensures.renumbers work first start (comes_with c.args.task c.args.reply) d)
+returns-in-None-clause-moves g c = λ root first start fits d.
+    page_is_expanded (ground_of c.args.around.now) root first start c.leave_run.new.store c.args.left.now c.args.turns.now (record c.args.tower.now { numbers = c.leave_run.new.numbers }) (record c.args.tower.now { stack = c.pop.new.self; numbers = c.leave_run.new.numbers }) c.args.task c.args.reply c.in-None.ensures.0 refl refl
+    (driven_renumbered (ground_of c.args.around.now) c.args.store.now c.args.left.now c.args.turns.now c.args.tower.now c.leave_run.new.store c.leave_run.new.numbers c.leave_run.ensures.renumbers root first start (comes_with c.args.task c.args.reply) d)
 
 pub returns-in-None-clause-sinks : goal.returns-in-None-clause-sinks
 returns-in-None-clause-sinks g c = tt

@@ -25,14 +25,14 @@ returns-in_ok-halted-in-Expansion-clause-goes c = λ s high. rw c.in-Expansion.i
 pub returns-in_ok-halted-in-Expansion-clause-falls : goal.returns-in_ok-halted-in-Expansion-clause-falls
 returns-in_ok-halted-in-Expansion-clause-falls c = rw c.in-Expansion.is c.in_ok-halted-in-Expansion.ensures.falls
 
-pub returns-in_ok-halted-in-Invocation-clause-halts : goal.returns-in_ok-halted-in-Invocation-clause-halts
-returns-in_ok-halted-in-Invocation-clause-halts c = rw c.in-Invocation.is c.in_ok-halted-in-Invocation.ensures.halts
+pub returns-in-Invocation-clause-halts : goal.returns-in-Invocation-clause-halts
+returns-in-Invocation-clause-halts c = rw c.in-Invocation.is c.spend_invocation.ensures.halts
 
-pub returns-in_ok-halted-in-Invocation-clause-goes : goal.returns-in_ok-halted-in-Invocation-clause-goes
-returns-in_ok-halted-in-Invocation-clause-goes c = rw c.in-Invocation.is c.in_ok-halted-in-Invocation.ensures.goes
+pub returns-in-Invocation-clause-goes : goal.returns-in-Invocation-clause-goes
+returns-in-Invocation-clause-goes c = rw c.in-Invocation.is c.spend_invocation.ensures.goes
 
-pub returns-in_ok-halted-in-Invocation-clause-falls : goal.returns-in_ok-halted-in-Invocation-clause-falls
-returns-in_ok-halted-in-Invocation-clause-falls c = rw c.in-Invocation.is c.in_ok-halted-in-Invocation.ensures.falls
+pub returns-in-Invocation-clause-falls : goal.returns-in-Invocation-clause-falls
+returns-in-Invocation-clause-falls c = rw c.in-Invocation.is c.spend_invocation.ensures.falls
 
 pub returns-in-Load-clause-halts : goal.returns-in-Load-clause-halts
 returns-in-Load-clause-halts c = rw c.in-Load.is c.spend_load.ensures.halts

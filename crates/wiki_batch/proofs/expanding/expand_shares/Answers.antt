@@ -18,16 +18,16 @@ use Rattle.page_driver.specs.contracts.wiki.Wiki as Wiki
 use Rattle.wiki_batch.proofs.Crossing.{Wiki-sync, captured-sync}
 use Rattle.wiki_batch.proofs.expanding.expand_shares.Goals as goal
 
-pub map_indices-requires-sync-F : goal.map_indices-requires-sync-F
-map_indices-requires-sync-F g c κs within =
+pub map_by_workers-requires-sync-F : goal.map_by_workers-requires-sync-F
+map_by_workers-requires-sync-F g c κs within =
     let parts : List RattleType =
-    (shr_ref_field (record { mir = named 6; lft = κs.1.1.1.1.1.1.0 }) Global.the_row tt).row
-    ∷ (shr_ref_field (record { mir = named 7; lft = κs.1.1.1.1.1.1.1.0 }) RandomState.the_row tt).row
-    ∷ (shr_ref_field (record { mir = named 8; lft = κs.1.1.1.1.1.1.1.1.0 }) Wiki.the_row tt).row
-    ∷ (shr_slice_field (record { mir = named 9; lft = κs.1.1.1.1.1.1.1.1.1.0 }) Title.the_row tt).row
-    ∷ (shr_ref_field (record { mir = named 10; lft = κs.1.1.1.1.1.1.1.1.1.1.0 }) usize-field.row tt).row
-    ∷ (shr_ref_field (record { mir = named 11; lft = κs.1.1.1.1.1.1.1.1.1.1.1.0 }) Limits.the_row tt).row
-    ∷ (shr_ref_field (record { mir = named 12; lft = κs.1.1.1.1.1.1.1.1.1.1.1.1.0 }) (param 1 g.row.G) tt).row
+    (shr_ref_field (record { mir = named 5; lft = κs.1.1.1.1.1.0 }) Global.the_row tt).row
+    ∷ (shr_ref_field (record { mir = named 6; lft = κs.1.1.1.1.1.1.0 }) RandomState.the_row tt).row
+    ∷ (shr_ref_field (record { mir = named 7; lft = κs.1.1.1.1.1.1.1.0 }) Wiki.the_row tt).row
+    ∷ (shr_slice_field (record { mir = named 8; lft = κs.1.1.1.1.1.1.1.1.0 }) Title.the_row tt).row
+    ∷ (shr_ref_field (record { mir = named 9; lft = κs.1.1.1.1.1.1.1.1.1.0 }) usize-field.row tt).row
+    ∷ (shr_ref_field (record { mir = named 10; lft = κs.1.1.1.1.1.1.1.1.1.1.0 }) Limits.the_row tt).row
+    ∷ (shr_ref_field (record { mir = named 11; lft = κs.1.1.1.1.1.1.1.1.1.1.1.0 }) (param 1 g.row.G) tt).row
     ∷ [] in
     let each : AllSync (shape (type_at [] parts)).fields = (
       shr_sync _ _ _ alloc.the_sync,

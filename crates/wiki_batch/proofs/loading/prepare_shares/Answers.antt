@@ -3,5 +3,5 @@ use Rattle.std.proofs.Crossing.{crosses}
 use Rattle.wiki_batch.proofs.Crossing.{Prepared-field-send, Prepared-send}
 use Rattle.wiki_batch.proofs.loading.prepare_shares.Goals as goal
 
-pub map_indices-requires-send-X : goal.map_indices-requires-send-X
-map_indices-requires-send-X g c κs within = let f = Prepared-field-send in let r = Prepared-send in search (crosses, sendable) depth 60 fits 20000
+pub map_by_workers-requires-send-X : goal.map_by_workers-requires-send-X
+map_by_workers-requires-send-X g c κs within = let f = Prepared-field-send in let r = Prepared-send in search (crosses, sendable) depth 60 fits 20000

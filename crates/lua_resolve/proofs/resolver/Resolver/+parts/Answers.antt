@@ -70,11 +70,11 @@ kind-returns-in_ok-arguments-in-Call-clause-next t c = next_trans _ _ _ c.in_ok-
 pub kind-returns-in_ok-arguments-in-Call-clause-code : goal.kind-returns-in_ok-arguments-in-Call-clause-code
 kind-returns-in_ok-arguments-in-Call-clause-code t c = λ at see l. exp_as at see (ap (λ k. kind_view k c.args.line) c.in-Call.is ∙ kind-Call _ _ _) (expression-Call _ _ _) (refl, exp_of at see _ c.deref-in-Call.ensures (c.in_ok-called-in-Call.ensures.code at see (later _ _ at see (c.in_ok-arguments-in-Call.ensures.next) l)), exps_of at see _ c.as_slice.ensures (c.in_ok-arguments-in-Call.ensures.code at see l))
 
-pub kind-returns-in_ok-copy-in-Method-clause-next : goal.kind-returns-in_ok-copy-in-Method-clause-next
-kind-returns-in_ok-copy-in-Method-clause-next t c = next_trans _ _ _ c.in_ok-of-in-Method.ensures.next c.in_ok-arguments-in-Method.ensures.next
+pub kind-returns-in_ok-name-in-Method-clause-next : goal.kind-returns-in_ok-name-in-Method-clause-next
+kind-returns-in_ok-name-in-Method-clause-next t c = next_trans _ _ _ c.in_ok-of-in-Method.ensures.next c.in_ok-arguments-in-Method.ensures.next
 
-pub kind-returns-in_ok-copy-in-Method-clause-code : goal.kind-returns-in_ok-copy-in-Method-clause-code
-kind-returns-in_ok-copy-in-Method-clause-code t c = λ at see l. exp_as at see (ap (λ k. kind_view k c.args.line) c.in-Method.is ∙ kind-Method _ _ _ _) (expression-Method _ _ _ _) (refl, c.in_ok-copy-in-Method.ensures, exp_of at see _ c.deref-in-Method.ensures (c.in_ok-of-in-Method.ensures.code at see (later _ _ at see (c.in_ok-arguments-in-Method.ensures.next) l)), exps_of at see _ c.as_slice-in-Method.ensures (c.in_ok-arguments-in-Method.ensures.code at see l))
+pub kind-returns-in_ok-name-in-Method-clause-code : goal.kind-returns-in_ok-name-in-Method-clause-code
+kind-returns-in_ok-name-in-Method-clause-code t c = λ at see l. exp_as at see (ap (λ k. kind_view k c.args.line) c.in-Method.is ∙ kind-Method _ _ _ _) (expression-Method _ _ _ _) (refl, c.in_ok-name-in-Method.ensures, exp_of at see _ c.deref-in-Method.ensures (c.in_ok-of-in-Method.ensures.code at see (later _ _ at see (c.in_ok-arguments-in-Method.ensures.next) l)), exps_of at see _ c.as_slice-in-Method.ensures (c.in_ok-arguments-in-Method.ensures.code at see l))
 
 pub kind-returns-in_ok-entries-in-Table-clause-code : goal.kind-returns-in_ok-entries-in-Table-clause-code
 kind-returns-in_ok-entries-in-Table-clause-code t c = λ at see l. exp_as at see (ap (λ k. kind_view k c.args.line) c.in-Table.is ∙ kind-Table _ _) (expression-Table _ _) (refl, fields_of_list at see _ c.as_slice-in-Table.ensures (c.in_ok-entries-in-Table.ensures.code at see l))

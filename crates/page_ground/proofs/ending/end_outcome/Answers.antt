@@ -1,13 +1,14 @@
-use Rattle.std.proofs.Common.{◌∙◌, ap, sym, subst, Option}
+use Rattle.std.proofs.Common.{◌∙◌, ap, sym, subst, Option, List, ℕ}
 use Rattle.std.specs.Prelude.{IfSome}
 use Rattle.lua_store.specs.declared.ids.TextId.{TextId}
 use Rattle.lua_store.specs.Parts.{IsTextOf}
 use Rattle.lua_stack.specs.Lists.{given_values}
 use Rattle.lua_state.specs.Of.{OutcomeOf}
-use Rattle.page_meaning.specs.Told.{end_text, failure_text}
+use Rattle.page_meaning.specs.declared.outcome.JobOutcome.TheVariants as ending
+use Rattle.page_meaning.specs.Outcomes.{end_outcome}
 use Rattle.page_ground.specs.Ending.{text_or_none}
-use Rattle.page_ground.proofs.MachineEnds.{only_text_of, raised_text_of, given_text, jump_end}
-use Rattle.page_ground.proofs.ending.end_text.Goals as goal
+use Rattle.page_ground.proofs.MachineEnds.{only_text_of, raised_text_of, given_outcome, jump_end}
+use Rattle.page_ground.proofs.ending.end_outcome.Goals as goal
 
 pub copied_text-requires : goal.copied_text-requires
 copied_text-requires c =
@@ -20,11 +21,13 @@ copied_text-requires-in-Jumps c =
     (raised_text_of c.args.store.now c.in-Jumps.jump (subst (OutcomeOf c.args.store.now) c.in-Jumps.is c.requires))
 
 pub returns-in_ok-text-in-Goes : goal.returns-in_ok-text-in-Goes
-returns-in_ok-text-in-Goes c = rw c.in-Goes.is (c.in_ok-text-in-Goes.ensures ∙ ap (text_or_none c.args.store.now.texts) c.only_text-found.ensures ∙ given_text c.args.store.now.texts (given_values c.in-Goes.given))
+returns-in_ok-text-in-Goes c =
+    rw c.in-Goes.is
+    (ap (λ (t : List ℕ). ending.Done t) (c.in_ok-text-in-Goes.ensures ∙ ap (text_or_none c.args.store.now.texts) c.only_text-found.ensures)
+    ∙ given_outcome c.args.store.now.texts (given_values c.in-Goes.given))
 
-pub returns-in_ok-shown-in-Jumps : goal.returns-in_ok-shown-in-Jumps
-returns-in_ok-shown-in-Jumps c =
+pub returns-in_ok-message-in-Jumps : goal.returns-in_ok-message-in-Jumps
+returns-in_ok-message-in-Jumps c =
     rw c.in-Jumps.is
-    (c.of_vec.ensures ∙ c.in_ok-shown-in-Jumps.ensures
-    ∙ ap failure_text (c.as_slice-bytes.ensures ∙ c.in_ok-message-in-Jumps.ensures ∙ ap (text_or_none c.args.store.now.texts) c.raised_text-found.ensures)
-    ∙ sym (ap end_text (jump_end c.args.store.now.texts c.in-Jumps.jump)))
+    (ap (λ (t : List ℕ). ending.Failed t) (c.in_ok-message-in-Jumps.ensures ∙ ap (text_or_none c.args.store.now.texts) c.raised_text-found.ensures)
+    ∙ sym (ap end_outcome (jump_end c.args.store.now.texts c.in-Jumps.jump)))

@@ -1,0 +1,25 @@
+//! What is rare or large stands behind a box, so that what is handed from move to move stays small.
+ghost use Rattle.std.specs.Prelude.{◌≡◌, IfOk};
+
+use std::alloc::Global;
+use wk_base::NoMemory;
+
+/// A box for a value.
+pub fn boxed<T: Drop>(alloc: Global, value: T) -> Result<Box<T>, NoMemory>
+    ensures { IfOk result (λ b. b.value ≡ value) }
+{
+    match Box::new(alloc, value) {
+        Ok(held) => Ok(held),
+        Err(_) => Err(NoMemory),
+    }
+}
+
+/// Memory ran out, and a value is let go of. (Where a `?` is passed while a large value is held, each of its parts would be a local of the
+/// function, cleared at each call.)
+#[cold]
+#[inline(never)]
+pub fn give_up<T: Drop>(value: T) -> NoMemory
+    ensures { result ≡ record {} }
+{
+    NoMemory
+}

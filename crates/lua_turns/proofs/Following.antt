@@ -1,0 +1,176 @@
+-- Moves in a row in code: none, more, and those of which the machine's law is known.
+use Rattle.std.proofs.Common.{◌≡◌, ◌∙◌, ◌≤◌, ◌<◌, ◌-◌, ◌+◌, ℕ, true, List, [], ◌∷◌, Option, Some, None, refl, sym, ap, subst, arith}
+use Rattle.wk_base.specs.declared.left.Left.{Left}
+use Rattle.page_run.specs.State.{Tally}
+use Rattle.lua_store.specs.Seen.{StoreView}
+use Rattle.lua_store.specs.Parts.{IsLater}
+use Rattle.lua_store.proofs.Later.{later-itself, later-then}
+use Rattle.page_run.specs.Outcome.{Goes}
+use Rattle.lua_slots.specs.Code.{CWorld, EndC}
+use Rattle.lua_slots.specs.Slots.{Slots}
+use Rattle.lua_slots.specs.Points.{SFrame, Point, Gives, Runs}
+use Rattle.lua_slots.specs.Enact.{Funds}
+use Rattle.lua_goes.specs.Going.{Reaches, here}
+use Rattle.lua_in_place.specs.Laws.{after_nodes}
+use Rattle.lua_in_place.proofs.Reading.{reach_then}
+use Rattle.lua_in_place.proofs.Statements.{LeadsFree, free}
+use Rattle.lua_loops.proofs.Beginning.{with_parts, with_parts_of}
+use Rattle.lua_stack.specs.declared.activation.Activation.{Activation}
+use Rattle.lua_stack.specs.declared.focus.Focus.{Focus}
+use Rattle.lua_stack.specs.declared.frame.Frame.{Frame}
+use Rattle.lua_stack.specs.declared.register.Slot.{Slot}
+use Rattle.lua_stack.specs.Seen.{focus_seen, frames_seen}
+use Rattle.lua_stack.specs.Of.{ActivationsOf, FocusOf, FramesOf, RegistersOf}
+use Rattle.lua_stack.proofs.Stay.{focus_later, focus_as}
+use Rattle.lua_state.specs.declared.state.State.{State}
+use Rattle.lua_state.specs.declared.codes.World.{World}
+use Rattle.lua_state.specs.Seen.{slots_of, frames_of, funds_of}
+use Rattle.lua_state.specs.Of.{StateOf}
+use Rattle.lua_state.specs.Worlds.{world_seen}
+use Rattle.lua_state.proofs.Staying.{state_later, frames_stay, slots_same}
+use Rattle.lua_strides.specs.declared.next.Next.{Next}
+use Rattle.lua_strides.specs.Next.{focus_of}
+use Rattle.lua_strides.specs.Strides.{PaysNodes, LeadsAt, Strides, Idles, MayStride}
+use Rattle.lua_strides.proofs.Paths.{funds_after}
+use Rattle.lua_turns.specs.Rows.{Follows, MayFollow}
+
+as_many : (k n n' : ℕ) → k + n ≡ k + n' → n ≡ n'
+as_many k n n' e = omega (arith, e)
+
+-- NONE
+pub follows_none : (s : StoreView) (m : State) (y : Focus) (l : Left) (k : ℕ) → StateOf s m → FocusOf s y → Follows s m (focus_seen s y (frames_of s m)) l k s m l k y
+follows_none s m y l k state of = record {
+  state = state;
+  world = refl;
+  of = of;
+  later = later-itself s;
+  rises = omega arith;
+  sinks = omega arith;
+  led = λ told n n' e.
+      subst (λ (i : ℕ). Reaches (world_seen m.codes.world) (focus_seen s y (frames_of s m)) (slots_of s m) (funds_of l m told n) (focus_seen s y (frames_of s m)) (slots_of s m) (funds_of l m told i)) (as_many k n n' e) here;
+}
+
+-- A STRIDE leads somewhere
+pub strode_follows : (s : StoreView) (m : State) (p : Point) (l : Left) (k : ℕ) (t : StoreView) (m' : State) (l' : Left) (k' : ℕ) (r : Option Next) → MayStride s m p l k t m' l' k' r → MayFollow s m p l k t m' l' k' r
+strode_follows s m p l k t m' l' k' (Some y) e = record { state = e.state; world = e.world; of = e.of; later = e.later; rises = e.rises; sinks = omega (arith, e.falls); led = e.led }
+strode_follows s m p l k t m' l' k' None e = e
+
+-- A BLOCK at its end gives nothing
+pub at_end : (s : StoreView) (m : State) (l : Left) (k : ℕ) (t : StoreView) (m' : State) (l' : Left) (k' : ℕ) (r : Option Next) → MayFollow s m (Gives (Goes []) (frames_of s m)) l k t m' l' k' r → MayFollow s m (Runs EndC (frames_of s m)) l k t m' l' k' r
+at_end s m l k t m' l' k' (Some y) e = record {
+  state = e.state;
+  world = e.world;
+  of = e.of;
+  later = e.later;
+  rises = e.rises;
+  sinks = e.sinks;
+  led = λ told n n' h. reach_then (free (world_seen m.codes.world) (Runs EndC (frames_of s m)) (slots_of s m) (Gives (Goes []) (frames_of s m)) (slots_of s m) refl (funds_of l m told n)) (e.led told n n' h);
+}
+at_end s m l k t m' l' k' None e = e
+
+-- MORE behind some
+module _ (a : StoreView) (m : State) (p : Point) (l : Left) (k : ℕ) (b : StoreView) (m' : State) (l' : Left) (k' : ℕ) (y : Focus) where
+  led_then : (d : StoreView) (m'' : State) (l'' : Left) (k'' : ℕ) (z : Focus) → m'.codes.world ≡ m.codes.world → k ≤ k' → k' ≤ k''
+      → ((told : Tally) (n n' : ℕ) → k' + n ≡ k + n' → Reaches (world_seen m.codes.world) p (slots_of a m) (funds_of l m told n) (focus_seen b y (frames_of b m')) (slots_of b m') (funds_of l' m' told n'))
+      → ((told : Tally) (n n' : ℕ) → k'' + n ≡ k' + n' → Reaches (world_seen m'.codes.world) (focus_seen b y (frames_of b m')) (slots_of b m') (funds_of l' m' told n) (focus_seen d z (frames_of d m'')) (slots_of d m'') (funds_of l'' m'' told n'))
+      → (told : Tally) (n n' : ℕ) → k'' + n ≡ k + n' → Reaches (world_seen m.codes.world) p (slots_of a m) (funds_of l m told n) (focus_seen d z (frames_of d m'')) (slots_of d m'') (funds_of l'' m'' told n')
+  led_then d m'' l'' k'' z w r r' x x' told n n' h =
+      let j : ℕ = k' + n - k in
+      reach_then (x told n j (omega (arith, r)))
+      (subst (λ (o : World). Reaches (world_seen o) (focus_seen b y (frames_of b m')) (slots_of b m') (funds_of l' m' told j) (focus_seen d z (frames_of d m'')) (slots_of d m'') (funds_of l'' m'' told n')) w (x' told j n' (omega (arith, r, h))))
+
+  pub follows_then : (d : StoreView) (m'' : State) (l'' : Left) (k'' : ℕ) (z : Focus) → Follows a m p l k b m' l' k' y → Follows b m' (focus_seen b y (frames_of b m')) l' k' d m'' l'' k'' z → Follows a m p l k d m'' l'' k'' z
+  follows_then d m'' l'' k'' z c e = record {
+    state = e.state;
+    world = e.world ∙ c.world;
+    of = e.of;
+    later = later-then a b d c.later e.later;
+    rises = omega (arith, c.rises, e.rises);
+    sinks = omega (arith, c.sinks, e.sinks);
+    led = led_then d m'' l'' k'' z c.world c.rises e.rises c.led e.led;
+  }
+
+  pub strides_then : (d : StoreView) (m'' : State) (l'' : Left) (k'' : ℕ) (z : Focus) → Strides a m p l k b m' l' k' y → Follows b m' (focus_seen b y (frames_of b m')) l' k' d m'' l'' k'' z → Strides a m p l k d m'' l'' k'' z
+  strides_then d m'' l'' k'' z c e = record {
+    state = e.state;
+    world = e.world ∙ c.world;
+    of = e.of;
+    later = later-then a b d c.later e.later;
+    rises = omega (arith, c.rises, e.rises);
+    falls = omega (arith, c.falls, e.sinks);
+    led = led_then d m'' l'' k'' z c.world c.rises e.rises c.led e.led;
+  }
+
+  -- nothing but that texts were made
+  same_point : (d : StoreView) → IsLater b d → StateOf b m' → FocusOf b y → focus_seen d y (frames_of d m') ≡ focus_seen b y (frames_of b m')
+  same_point d later of focus = ap (focus_seen d y) (frames_stay b d later m' of) ∙ focus_as b d later y (frames_of b m') focus
+
+  idle_at : (d : StoreView) → IsLater b d → d.heap ≡ b.heap → Follows a m p l k b m' l' k' y → Follows a m p l k d m' l' k' y
+  idle_at d later same c = record {
+    state = state_later b d later m' c.state;
+    world = c.world;
+    of = focus_later b d later y c.of;
+    later = later-then a b d c.later later;
+    rises = c.rises;
+    sinks = c.sinks;
+    led = λ told n n' h.
+        subst (λ (o : Point). Reaches (world_seen m.codes.world) p (slots_of a m) (funds_of l m told n) o (slots_of d m') (funds_of l' m' told n')) (sym (same_point d later c.state c.of))
+        (subst (λ (s : Slots). Reaches (world_seen m.codes.world) p (slots_of a m) (funds_of l m told n) (focus_seen b y (frames_of b m')) s (funds_of l' m' told n')) (sym (slots_same b d later m' c.state same)) (c.led told n n' h));
+  }
+
+  pub follows_idle : (d : StoreView) (m'' : State) (l'' : Left) (k'' : ℕ) → Follows a m p l k b m' l' k' y → Idles b m' l' k' d m'' l'' k'' → Follows a m p l k d m'' l'' k'' y
+  follows_idle d m'' l'' k'' c e = rw (e.state, e.left, e.counter) (idle_at d e.later e.heap c)
+
+-- WHAT THE LAW OF THE MACHINE IS KNOWN OF, from what is held to what is held then: other frames, registers and functions
+module _ (s u : StoreView) (m : State) (fs : List Frame) (regs : List Slot) (fns : List Activation) (p q : Point) (z : Slots) (y : Focus) (of : StateOf s m) (later : IsLater s u) where
+  -- at no cost
+  pub follows_free : (l : Left) (k : ℕ) → FramesOf u fs → RegistersOf u regs → ActivationsOf u fns → FocusOf u y → ((world : CWorld) → LeadsFree world p (slots_of s m) q z)
+      → q ≡ focus_seen u y (frames_seen u.texts fs) → z ≡ slots_of u (with_parts m fs regs fns) → Follows s m p l k u (with_parts m fs regs fns) l k y
+  follows_free l k a b c focus law e h = record {
+    state = with_parts_of u m fs regs fns (state_later s u later m of) a b c;
+    world = refl;
+    of = focus;
+    later = later;
+    rises = omega arith;
+    sinks = omega arith;
+    led = λ told n n' i.
+        subst (λ (j : ℕ). Reaches (world_seen m.codes.world) p (slots_of s m) (funds_of l m told n) (focus_seen u y (frames_seen u.texts fs)) (slots_of u (with_parts m fs regs fns)) (funds_of l m told j)) (as_many k n n' i)
+        (subst (λ (o : Slots). Reaches (world_seen m.codes.world) p (slots_of s m) (funds_of l m told n) (focus_seen u y (frames_seen u.texts fs)) o (funds_of l m told n)) h
+        (subst (λ (o : Point). Reaches (world_seen m.codes.world) p (slots_of s m) (funds_of l m told n) o z (funds_of l m told n)) e (law (world_seen m.codes.world) (funds_of l m told n))));
+  }
+
+  -- at so many nodes
+  pub follows_paid : (n : ℕ) (l l' : Left) (k k' : ℕ) → FramesOf u fs → RegistersOf u regs → ActivationsOf u fns → FocusOf u y → PaysNodes n l k l' k' true → ((world : CWorld) → LeadsAt world p (slots_of s m) n q z)
+      → q ≡ focus_seen u y (frames_seen u.texts fs) → z ≡ slots_of u (with_parts m fs regs fns) → Follows s m p l k u (with_parts m fs regs fns) l' k' y
+  follows_paid n l l' k k' a b c focus pays law e h =
+      let less : l'.steps ≡ l.steps - n = ap (λ (o : Left). o.steps) pays.1 in
+      record {
+        state = with_parts_of u m fs regs fns (state_later s u later m of) a b c;
+        world = refl;
+        of = focus;
+        later = later;
+        rises = omega (arith, pays.2);
+        sinks = omega (arith, less);
+        led = λ told i j x.
+            subst (λ (g : Funds). Reaches (world_seen m.codes.world) p (slots_of s m) (funds_of l m told i) (focus_seen u y (frames_seen u.texts fs)) (slots_of u (with_parts m fs regs fns)) g) (funds_after n l l' k k' m told i j pays x)
+            (subst (λ (o : Slots). Reaches (world_seen m.codes.world) p (slots_of s m) (funds_of l m told i) (focus_seen u y (frames_seen u.texts fs)) o (after_nodes n (funds_of l m told i))) h
+            (subst (λ (o : Point). Reaches (world_seen m.codes.world) p (slots_of s m) (funds_of l m told i) o z (after_nodes n (funds_of l m told i))) e (law (world_seen m.codes.world) (funds_of l m told i) pays.0)));
+      }
+
+-- Nothing was done first but that texts were made
+idle_at_point : (s t u : StoreView) (m m' : State) (l l' : Left) (k k' : ℕ) (q : List SFrame → Point) (r : Option Next) → StateOf s m → IsLater s t → t.heap ≡ s.heap → MayFollow t m (q (frames_of t m)) l k u m' l' k' r → MayFollow s m (q (frames_of s m)) l k u m' l' k' r
+idle_at_point s t u m m' l l' k k' q (Some y) of later same e = record {
+  state = e.state;
+  world = e.world;
+  of = e.of;
+  later = later-then s t u later e.later;
+  rises = e.rises;
+  sinks = e.sinks;
+  led = λ told n n' h.
+      subst (λ (o : Point). Reaches (world_seen m.codes.world) o (slots_of s m) (funds_of l m told n) (focus_seen u (focus_of y) (frames_of u m')) (slots_of u m') (funds_of l' m' told n')) (ap q (frames_stay s t later m of))
+      (subst (λ (x : Slots). Reaches (world_seen m.codes.world) (q (frames_of t m)) x (funds_of l m told n) (focus_seen u (focus_of y) (frames_of u m')) (slots_of u m') (funds_of l' m' told n')) (slots_same s t later m of same) (e.led told n n' h));
+}
+idle_at_point s t u m m' l l' k k' q None of later same e = record { later = later-then s t u later e.later; heap = e.heap ∙ same; state = e.state; left = e.left; counter = e.counter }
+
+pub idle_first : (s t u : StoreView) (m m1 m' : State) (l l1 l' : Left) (k k1 k' : ℕ) (q : List SFrame → Point) (r : Option Next) → StateOf s m → Idles s m l k t m1 l1 k1 → MayFollow t m1 (q (frames_of t m1)) l1 k1 u m' l' k' r → MayFollow s m (q (frames_of s m)) l k u m' l' k' r
+idle_first s t u m m1 m' l l1 l' k k1 k' q r of idle e = idle_at_point s t u m m' l l' k k' q r of idle.later idle.heap (rw (idle.state, idle.left, idle.counter) at e)

@@ -1,0 +1,4 @@
+pub mod Following
+pub mod Freely
+pub mod Turning
+pub mod Entries

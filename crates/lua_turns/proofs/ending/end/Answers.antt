@@ -1,0 +1,30 @@
+use Rattle.std.proofs.Common.{[]}
+use Rattle.lua_strides.proofs.Paths.{idle_here}
+use Rattle.lua_turns.proofs.ending.end.Goals as goal
+
+pub go_on-requires : goal.go_on-requires
+go_on-requires g c = rw c.in-Statements.is at c.of_newest.ensures
+
+pub returns-in-Statements : goal.returns-in-Statements
+returns-in-Statements g c = c.go_on.ensures c.args.store.now c.args.left.now c.args.turns.now [] c.requires
+
+pub end_block-requires : goal.end_block-requires
+end_block-requires g c = rw c.in-Block.is at c.of_newest.ensures
+
+pub returns-in-Block : goal.returns-in-Block
+returns-in-Block g c = c.end_block.ensures c.args.store.now c.args.left.now c.args.turns.now [] c.requires
+
+pub end_body-requires : goal.end_body-requires
+end_body-requires g c = rw c.in-Body.is at c.of_newest.ensures
+
+pub returns-in_ok-next-in-Body : goal.returns-in_ok-next-in-Body
+returns-in_ok-next-in-Body g c = c.in_ok-next-in-Body.ensures c.args.store.now c.args.turns.now [] c.requires
+
+pub end_count-requires-clause-newest : goal.end_count-requires-clause-newest
+end_count-requires-clause-newest g c = rw c.in-Counts.is at c.of_newest.ensures
+
+pub returns-in-Counts : goal.returns-in-Counts
+returns-in-Counts g c = c.end_count.ensures []
+
+pub returns-in_default : goal.returns-in_default
+returns-in_default g c = idle_here c.args.store.now c.args.state.now c.args.left.now c.args.turns.now

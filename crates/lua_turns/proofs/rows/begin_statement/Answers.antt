@@ -1,0 +1,12 @@
+use Rattle.lua_code.proofs.Views.{statement-Return}
+use Rattle.lua_strides.proofs.Paths.{idle_here}
+use Rattle.lua_turns.proofs.rows.begin_statement.Goals as goal
+
+pub returns-in-Some : goal.returns-in-Some
+returns-in-Some g c = λ s of. rw (c.in-Return.is, statement-Return, ← c.as_slice.ensures, c.in-Some.ensures) (c.begin_return.ensures s of)
+
+pub returns-in-None : goal.returns-in-None
+returns-in-None g c = λ s of. idle_here s c.args.state.now c.args.left.now c.args.turns.now
+
+pub returns-in_default : goal.returns-in_default
+returns-in_default g c = λ s of. idle_here s c.args.state.now c.args.left.now c.args.turns.now

@@ -1,0 +1,32 @@
+use Rattle.lua_strides.proofs.Paths.{idle_here}
+use Rattle.lua_turns.proofs.rows.follow.Goals as goal
+
+pub give-requires-clause-value : goal.give-requires-clause-value
+give-requires-clause-value g c = (rw c.in-Gives.is at c.requires.next).0
+
+pub returns-in-Gives : goal.returns-in-Gives
+returns-in-Gives g c = rw c.in-Gives.is (c.give.ensures c.args.left.now c.args.turns.now)
+
+pub returns-in-GivesAll : goal.returns-in-GivesAll
+returns-in-GivesAll g c = idle_here c.args.store.now c.args.state.now c.args.left.now c.args.turns.now
+
+pub returns-in-GivesNone : goal.returns-in-GivesNone
+returns-in-GivesNone g c = rw c.in-GivesNone.is c.end.ensures
+
+pub pass-requires-clause-value : goal.pass-requires-clause-value
+pass-requires-clause-value g c = (rw c.in-Returns.is at c.requires.next).0
+
+pub returns-in-Returns : goal.returns-in-Returns
+returns-in-Returns g c = rw c.in-Returns.is (c.pass.ensures c.args.turns.now)
+
+pub returns-in-Evaluates : goal.returns-in-Evaluates
+returns-in-Evaluates g c = rw c.in-Evaluates.is c.evaluate.ensures
+
+pub set-requires-clause-setting : goal.set-requires-clause-setting
+set-requires-clause-setting g c = (rw c.in-Sets.is at c.requires.next).0
+
+pub returns-in-Sets : goal.returns-in-Sets
+returns-in-Sets g c = rw c.in-Sets.is (c.set.ensures c.args.turns.now)
+
+pub returns-in-Runs : goal.returns-in-Runs
+returns-in-Runs g c = rw c.in-Runs.is c.run.ensures

@@ -1,0 +1,13 @@
+use Rattle.lua_turns.proofs.waiting.of_expression.Goals as goal
+
+pub returns-in-OperandNext : goal.returns-in-OperandNext
+returns-in-OperandNext c = λ fs h. rw c.in-OperandNext.is at h
+
+pub returns-in-OperateNow : goal.returns-in-OperateNow
+returns-in-OperateNow c = λ fs h. rw c.in-OperateNow.is at h
+
+pub returns-in-MoreNext : goal.returns-in-MoreNext
+returns-in-MoreNext c = λ fs h. c.of_list.ensures fs (rw c.in-MoreNext.is at h)
+
+pub returns-in_default : goal.returns-in_default
+returns-in_default c = λ fs h. tt

@@ -1,0 +1,13 @@
+use Rattle.lua_turns.proofs.waiting.of_frame.Goals as goal
+
+pub returns-in-Statement : goal.returns-in-Statement
+returns-in-Statement c = λ fs h. c.of_statement.ensures fs (rw c.in-Statement.is at h)
+
+pub returns-in-End : goal.returns-in-End
+returns-in-End c = λ fs h. c.of_ending.ensures fs (rw c.in-End.is at h)
+
+pub returns-in-Expression : goal.returns-in-Expression
+returns-in-Expression c = λ fs h. c.of_expression.ensures fs (rw c.in-Expression.is at h)
+
+pub returns-in_default : goal.returns-in_default
+returns-in_default c = λ fs h. tt

@@ -1,0 +1,38 @@
+-- MOVES IN A ROW in code.
+use Rattle.std.specs.Prelude.{◌≡◌, ◌≤◌, ◌+◌, ℕ, List, ◌∷◌, Option, Some, None}
+use Rattle.wk_base.specs.declared.left.Left.{Left}
+use Rattle.page_run.specs.State.{Tally}
+use Rattle.lua_store.specs.Seen.{StoreView}
+use Rattle.lua_store.specs.Parts.{IsLater}
+use Rattle.lua_slots.specs.Points.{Point}
+use Rattle.lua_goes.specs.Going.{Reaches}
+use Rattle.lua_stack.specs.declared.focus.Focus.{Focus}
+use Rattle.lua_stack.specs.declared.frame.Frame.{Frame}
+use Rattle.lua_stack.specs.Seen.{focus_seen}
+use Rattle.lua_stack.specs.Of.{FocusOf}
+use Rattle.lua_state.specs.declared.state.State.{State}
+use Rattle.lua_state.specs.Seen.{slots_of, frames_of, funds_of}
+use Rattle.lua_state.specs.Of.{StateOf}
+use Rattle.lua_state.specs.Worlds.{world_seen}
+use Rattle.lua_strides.specs.declared.next.Next.{Next}
+use Rattle.lua_strides.specs.Next.{focus_of}
+use Rattle.lua_strides.specs.Strides.{Idles}
+
+-- From a point, with what is held, what is left and the counter of turns, to those to which some moves lead. They may take no step.
+pub record Follows (s : StoreView) (m : State) (p : Point) (l : Left) (k : ℕ) (t : StoreView) (m' : State) (l' : Left) (k' : ℕ) (y : Focus) : Type 0 where
+  pub state : StateOf t m'
+  pub world : m'.codes.world ≡ m.codes.world
+  pub of : FocusOf t y
+  pub later : IsLater s t
+  pub rises : k ≤ k'
+  pub sinks : l'.steps ≤ l.steps
+  pub led : (told : Tally) (n n' : ℕ) → k' + n ≡ k + n' → Reaches (world_seen m.codes.world) p (slots_of s m) (funds_of l m told n) (focus_seen t y (frames_of t m')) (slots_of t m') (funds_of l' m' told n')
+
+-- such moves, or nothing but that texts were made
+abbrev pub MayFollow : StoreView → State → Point → Left → ℕ → StoreView → State → Left → ℕ → Option Next → Type 0
+MayFollow s m p l k t m' l' k' (Some y) = Follows s m p l k t m' l' k' (focus_of y)
+MayFollow s m p l k t m' l' k' None = Idles s m l k t m' l' k'
+
+-- this frame is the newest
+abbrev pub IsNewest : List Frame → Frame → Type 0
+IsNewest fs f = (more : List Frame) × (fs ≡ f ∷ more)

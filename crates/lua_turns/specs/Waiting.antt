@@ -1,0 +1,22 @@
+-- THE NEWEST FRAME, where it is gone on with in place.
+use Rattle.std.specs.Prelude.{◌≡◌, List, []}
+use Rattle.lua_stack.specs.declared.frame.Frame.{Frame}
+use Rattle.lua_stack.specs.declared.frame.Frame.TheVariants as frame
+use Rattle.lua_stack.specs.declared.frame.InExpression.TheVariants as in_expression
+use Rattle.lua_stack.specs.declared.frame.InStatement.TheVariants as in_statement
+use Rattle.lua_stack.specs.declared.frame.Ending.TheVariants as ending
+use Rattle.lua_turns.specs.declared.waiting.Waiting.{Waiting}
+use Rattle.lua_turns.specs.declared.waiting.Waiting.TheVariants as waiting
+use Rattle.lua_turns.specs.Rows.{IsNewest}
+
+abbrev pub Waits : List Frame → Waiting → Type 0
+Waits fs (waiting.Statements rest) = IsNewest fs (frame.Statement (in_statement.StatsNext rest))
+Waits fs (waiting.Declares flags rest) = IsNewest fs (frame.Statement (in_statement.DeclareNow flags rest))
+Waits fs waiting.Returns = IsNewest fs (frame.Statement in_statement.ReturnNow)
+Waits fs (waiting.Operand op b line) = IsNewest fs (frame.Expression (in_expression.OperandNext op b line))
+Waits fs (waiting.Operates op a line) = IsNewest fs (frame.Expression (in_expression.OperateNow op a line))
+Waits fs (waiting.Last rest) = (rest.now ≡ []) × IsNewest fs (frame.Expression (in_expression.MoreNext rest []))
+Waits fs (waiting.Block depth) = IsNewest fs (frame.End (ending.BlockEnd depth))
+Waits fs waiting.Body = IsNewest fs (frame.End ending.BodyEnd)
+Waits fs (waiting.Counts c) = IsNewest fs (frame.End (ending.CountEnd c.depth c.boxed c.index c.limit c.step c.body))
+Waits fs waiting.Other = Unit {0}

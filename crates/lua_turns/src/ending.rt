@@ -1,0 +1,67 @@
+//! What waits is gone on with where nothing is given: a block, a turn or a function's body is at its end.
+ghost use Rattle.std.specs.Prelude.{◌≡◌, [], ℕ, List as Items, IfOk};
+ghost use Rattle.page_run.specs.Outcome.{Goes};
+ghost use Rattle.wk_base.specs.declared.left.Left.{Left as Allowance};
+ghost use Rattle.lua_heap.specs.Value.{Value as Plain};
+ghost use Rattle.lua_slots.specs.Points.{Gives};
+ghost use Rattle.lua_stack.specs.declared.frame.Ending.TheVariants as ending_kind;
+ghost use Rattle.lua_stack.specs.declared.frame.Frame.TheVariants as frame_kind;
+ghost use Rattle.lua_state.specs.Of.{StateOf};
+ghost use Rattle.lua_state.specs.Seen.{frames_of};
+ghost use Rattle.lua_store.specs.Seen.{StoreView};
+ghost use Rattle.lua_strides.specs.Next.{focus_of};
+ghost use Rattle.lua_turns.specs.Rows.{Follows, IsNewest, MayFollow};
+
+use crate::counting::end_count;
+use crate::giving::go_on;
+use crate::leaving::leave_function;
+use crate::waiting::{Waiting, drop_newest, of_newest};
+use lua_loops::leaving::keep_oldest;
+use lua_state::{State, leave_call};
+use lua_store::Store;
+use lua_strides::Next;
+use std::sync::ledger::Ledger;
+use wk_base::{Left, NoMemory, Steps};
+
+/// A block is at its end.
+fn end_block<'m>(state: &mut State<'m>, depth: usize) -> Next<'m>
+    requires { IsNewest state.old.frames (frame_kind.End (ending_kind.BlockEnd depth)) }
+    ensures { (s : StoreView) (l : Allowance) (k : ℕ) (values : Items Plain) → StateOf s state.old → Follows s state.old (Gives (Goes values) (frames_of s state.old)) l k s state.new l k (focus_of result) }
+{
+    keep_oldest(&mut state.regs, depth);
+    drop_newest(&mut state.frames);
+    Next::GivesNone
+}
+
+/// The body of a function is at its end.
+fn end_body<'m>(left: &mut Left, state: &mut State<'m>) -> Result<Next<'m>, NoMemory>
+    requires { IsNewest state.old.frames (frame_kind.End ending_kind.BodyEnd) }
+    ensures { (s : StoreView) (k : ℕ) (values : Items Plain) → StateOf s state.old → IfOk result (λ r. Follows s state.old (Gives (Goes values) (frames_of s state.old)) left.old k s state.new left.new k (focus_of r)) }
+{
+    drop_newest(&mut state.frames);
+    leave_function(&mut state.regs, &mut state.functions);
+    leave_call(state, left)?;
+    Ok(Next::GivesNone)
+}
+
+/// Nothing reaches the newest frame.
+pub fn end<'m, L: Ledger>(
+    store: &mut Store,
+    left: &mut Left,
+    state: &mut State<'m>,
+    turns: &mut Steps<L>,
+) -> Result<Option<Next<'m>>, NoMemory>
+    requires { StateOf store.old state.old }
+    ensures { IfOk result (MayFollow store.old state.old (Gives (Goes []) (frames_of store.old state.old)) left.old turns.old store.new state.new left.new turns.new) }
+{
+    match of_newest(&state.frames) {
+        Waiting::Statements(rest) => Ok(Some(go_on(state, rest))),
+        Waiting::Block(depth) => Ok(Some(end_block(state, depth))),
+        Waiting::Body => {
+            let next = end_body(left, state)?;
+            Ok(Some(next))
+        }
+        Waiting::Counts(count) => end_count(store, left, state, count, turns),
+        _ => Ok(None),
+    }
+}

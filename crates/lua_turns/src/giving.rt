@@ -1,0 +1,137 @@
+//! A value reaches what waits for it.
+ghost use Rattle.std.specs.Prelude.{◌≡◌, ◌∷◌, [], ℕ, List as Items, IfOk};
+ghost use Rattle.page_run.specs.Outcome.{Goes};
+ghost use Rattle.wk_base.specs.declared.left.Left.{Left as Allowance};
+ghost use Rattle.lua_heap.specs.Value.{Value as Plain};
+ghost use Rattle.lua_slots.specs.Points.{Gives};
+ghost use Rattle.lua_stack.specs.declared.frame.Frame.TheVariants as frame_kind;
+ghost use Rattle.lua_stack.specs.declared.frame.InExpression.TheVariants as in_expression;
+ghost use Rattle.lua_stack.specs.declared.frame.InStatement.TheVariants as in_statement;
+ghost use Rattle.lua_state.specs.Of.{StateOf};
+ghost use Rattle.lua_state.specs.Seen.{frames_of};
+ghost use Rattle.lua_store.specs.Parts.{IsOf};
+ghost use Rattle.lua_store.specs.Seen.{StoreView, seen};
+ghost use Rattle.lua_strides.specs.Next.{focus_of};
+ghost use Rattle.lua_turns.specs.Rows.{Follows, IsNewest, MayFollow};
+
+use crate::waiting::{Waiting, drop_newest, of_newest, swap_newest};
+use lua_code::{Expression, Operator, Statement};
+use lua_stack::opening::open;
+use lua_stack::{Frame, InExpression};
+use lua_state::State;
+use lua_store::{Store, Value};
+use lua_strides::Next;
+use lua_strides::operators::operated;
+use lua_strides::striding::only;
+use wk_base::NoMemory;
+
+/// The statements behind one go on, whatever it gave.
+pub fn go_on<'m>(state: &mut State<'m>, rest: &'m [Statement]) -> Next<'m>
+    requires { IsNewest state.old.frames (frame_kind.Statement (in_statement.StatsNext rest)) }
+    ensures { (s : StoreView) (l : Allowance) (k : ℕ) (values : Items Plain) → StateOf s state.old → Follows s state.old (Gives (Goes values) (frames_of s state.old)) l k s state.new l k (focus_of result) }
+{
+    drop_newest(&mut state.frames);
+    Next::Runs(rest)
+}
+
+/// An operator has its first operand.
+fn take_operand<'m>(
+    state: &mut State<'m>,
+    op: Operator,
+    b: &'m Expression,
+    line: u32,
+    value: Value,
+) -> Next<'m>
+    requires { IsNewest state.old.frames (frame_kind.Expression (in_expression.OperandNext op b line)) }
+    ensures { (s : StoreView) (l : Allowance) (k : ℕ) → StateOf s state.old → IsOf s value → Follows s state.old (Gives (Goes (seen s.texts value ∷ [])) (frames_of s state.old)) l k s state.new l k (focus_of result) }
+{
+    let frame = Frame::Expression(InExpression::OperateNow(op, value, line));
+    swap_newest(&mut state.frames, frame);
+    Next::Evaluates(b)
+}
+
+/// An operator has its second operand.
+fn operate<'m>(
+    store: &Store,
+    state: &mut State<'m>,
+    op: Operator,
+    a: Value,
+    line: u32,
+    value: Value,
+) -> Option<Next<'m>>
+    requires state { StateOf store.now state.old }
+    requires newest { IsNewest state.old.frames (frame_kind.Expression (in_expression.OperateNow op a line)) }
+    requires value { IsOf store.now value }
+    ensures { (l : Allowance) (k : ℕ) → MayFollow store.now state.old (Gives (Goes (seen store.now.texts value ∷ [])) (frames_of store.now state.old)) l k store.now state.new l k result }
+{
+    match operated(store, &state.env, op, a, value) {
+        Some(value) => {
+            drop_newest(&mut state.frames);
+            Some(Next::Gives(value))
+        }
+        None => None,
+    }
+}
+
+/// A list has its one value.
+fn end_list<'m>(state: &mut State<'m>, rest: &'m [Expression], value: Value) -> Next<'m>
+    requires none { rest.now ≡ [] }
+    requires newest { IsNewest state.old.frames (frame_kind.Expression (in_expression.MoreNext rest [])) }
+    ensures { (s : StoreView) (l : Allowance) (k : ℕ) → StateOf s state.old → IsOf s value → Follows s state.old (Gives (Goes (seen s.texts value ∷ [])) (frames_of s state.old)) l k s state.new l k (focus_of result) }
+{
+    drop_newest(&mut state.frames);
+    Next::Gives(value)
+}
+
+/// A `return` has its value.
+fn begin_return<'m>(state: &mut State<'m>, value: Value) -> Next<'m>
+    requires { IsNewest state.old.frames (frame_kind.Statement in_statement.ReturnNow) }
+    ensures { (s : StoreView) (l : Allowance) (k : ℕ) → StateOf s state.old → IsOf s value → Follows s state.old (Gives (Goes (seen s.texts value ∷ [])) (frames_of s state.old)) l k s state.new l k (focus_of result) }
+{
+    drop_newest(&mut state.frames);
+    Next::Returns(value)
+}
+
+/// A declaration of one variable has its value.
+fn declare<'m>(
+    store: &mut Store,
+    state: &mut State<'m>,
+    flags: &'m [bool],
+    rest: &'m [Statement],
+    value: Value,
+) -> Result<Option<Next<'m>>, NoMemory>
+    requires state { StateOf store.old state.old }
+    requires newest { IsNewest state.old.frames (frame_kind.Statement (in_statement.DeclareNow flags rest)) }
+    requires value { IsOf store.old value }
+    ensures { (l : Allowance) (k : ℕ) → IfOk result (MayFollow store.old state.old (Gives (Goes (seen store.old.texts value ∷ [])) (frames_of store.old state.old)) l k store.new state.new l k) }
+{
+    match only(flags) {
+        Some(boxed) => {
+            open(store, &mut state.regs, *boxed, value)?;
+            drop_newest(&mut state.frames);
+            Ok(Some(Next::Runs(rest)))
+        }
+        None => Ok(None),
+    }
+}
+
+/// A value reaches the newest frame.
+pub fn give<'m>(
+    store: &mut Store,
+    state: &mut State<'m>,
+    value: Value,
+) -> Result<Option<Next<'m>>, NoMemory>
+    requires state { StateOf store.old state.old }
+    requires value { IsOf store.old value }
+    ensures { (l : Allowance) (k : ℕ) → IfOk result (MayFollow store.old state.old (Gives (Goes (seen store.old.texts value ∷ [])) (frames_of store.old state.old)) l k store.new state.new l k) }
+{
+    match of_newest(&state.frames) {
+        Waiting::Statements(rest) => Ok(Some(go_on(state, rest))),
+        Waiting::Declares(flags, rest) => declare(store, state, flags, rest, value),
+        Waiting::Returns => Ok(Some(begin_return(state, value))),
+        Waiting::Operand(op, b, line) => Ok(Some(take_operand(state, op, b, line, value))),
+        Waiting::Operates(op, a, line) => Ok(operate(store, state, op, a, line, value)),
+        Waiting::Last(rest) => Ok(Some(end_list(state, rest, value))),
+        _ => Ok(None),
+    }
+}

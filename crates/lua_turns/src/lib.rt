@@ -1,0 +1,27 @@
+//! Strides of the machine of Lua in a row: values and jumps reach what waits for them, blocks, turns of loops and functions end, and
+//! what follows is strode on from, without the whole of what is next being handed from move to move.
+//!
+//! - `waiting`: the newest frame, where it is gone on with here
+//! - `leaving`: blocks and functions that are left
+//! - `counting`: the next turn of a counting loop
+//! - `giving`: a value reaches what waits for it
+//! - `ending`: no value does
+//! - `passing`: a `return` does
+//! - `setting`: an entry that is set
+//! - `beginning`: an operator or a `return` whose operands are not read in place
+//! - `rows`: strides in a row
+//!
+//! Begin with `specs/Rows.antt`: what moves in a row are.
+#![tactic(auto)]
+
+pub mod beginning;
+pub mod counting;
+pub mod ending;
+pub mod giving;
+pub mod leaving;
+pub mod passing;
+pub mod rows;
+pub mod setting;
+pub mod waiting;
+
+pub use rows::strides;

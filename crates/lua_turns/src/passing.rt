@@ -1,0 +1,87 @@
+//! A `return` of one value reaches what waits (manual 2.4.4).
+ghost use Rattle.std.specs.Prelude.{◌≡◌, ◌∷◌, [], ℕ, IfOk};
+ghost use Rattle.page_run.specs.Outcome.{Jumps};
+ghost use Rattle.wk_base.specs.declared.left.Left.{Left as Allowance};
+ghost use Rattle.lua_meaning.specs.Acts.{Returned};
+ghost use Rattle.lua_slots.specs.Points.{Gives};
+ghost use Rattle.lua_stack.specs.declared.frame.Ending.TheVariants as ending_kind;
+ghost use Rattle.lua_stack.specs.declared.frame.Frame.TheVariants as frame_kind;
+ghost use Rattle.lua_stack.specs.declared.frame.InStatement.TheVariants as in_statement;
+ghost use Rattle.lua_state.specs.Of.{StateOf};
+ghost use Rattle.lua_state.specs.Seen.{frames_of};
+ghost use Rattle.lua_store.specs.Parts.{IsOf};
+ghost use Rattle.lua_store.specs.Seen.{StoreView, seen};
+ghost use Rattle.lua_strides.specs.Next.{focus_of};
+ghost use Rattle.lua_turns.specs.Rows.{Follows, IsNewest, MayFollow};
+
+use crate::leaving::leave_function;
+use crate::waiting::{Count, Waiting, drop_newest, of_newest};
+use lua_code::Statement;
+use lua_loops::leaving::keep_oldest;
+use lua_state::{State, leave_call};
+use lua_store::{Store, Value};
+use lua_strides::Next;
+use wk_base::{Left, NoMemory};
+
+/// The statements behind are passed by.
+fn pass_statements<'m>(state: &mut State<'m>, rest: &'m [Statement], value: Value) -> Next<'m>
+    requires { IsNewest state.old.frames (frame_kind.Statement (in_statement.StatsNext rest)) }
+    ensures { (s : StoreView) (l : Allowance) (k : ℕ) → StateOf s state.old → IsOf s value → Follows s state.old (Gives (Jumps (Returned (seen s.texts value ∷ []))) (frames_of s state.old)) l k s state.new l k (focus_of result) }
+{
+    drop_newest(&mut state.frames);
+    Next::Returns(value)
+}
+
+/// A block is left.
+fn pass_block<'m>(state: &mut State<'m>, depth: usize, value: Value) -> Next<'m>
+    requires { IsNewest state.old.frames (frame_kind.End (ending_kind.BlockEnd depth)) }
+    ensures { (s : StoreView) (l : Allowance) (k : ℕ) → StateOf s state.old → IsOf s value → Follows s state.old (Gives (Jumps (Returned (seen s.texts value ∷ []))) (frames_of s state.old)) l k s state.new l k (focus_of result) }
+{
+    keep_oldest(&mut state.regs, depth);
+    drop_newest(&mut state.frames);
+    Next::Returns(value)
+}
+
+/// A counting loop is left.
+fn pass_count<'m>(state: &mut State<'m>, count: Count<'m>, value: Value) -> Next<'m>
+    requires { IsNewest state.old.frames (frame_kind.End (ending_kind.CountEnd count.depth count.boxed count.index count.limit count.step count.body)) }
+    ensures { (s : StoreView) (l : Allowance) (k : ℕ) → StateOf s state.old → IsOf s value → Follows s state.old (Gives (Jumps (Returned (seen s.texts value ∷ []))) (frames_of s state.old)) l k s state.new l k (focus_of result) }
+{
+    keep_oldest(&mut state.regs, count.depth);
+    drop_newest(&mut state.frames);
+    Next::Returns(value)
+}
+
+/// A function is left: it gives the value.
+fn pass_body<'m>(left: &mut Left, state: &mut State<'m>, value: Value) -> Result<Next<'m>, NoMemory>
+    requires { IsNewest state.old.frames (frame_kind.End ending_kind.BodyEnd) }
+    ensures { (s : StoreView) (k : ℕ) → StateOf s state.old → IsOf s value → IfOk result (λ r. Follows s state.old (Gives (Jumps (Returned (seen s.texts value ∷ []))) (frames_of s state.old)) left.old k s state.new left.new k (focus_of r)) }
+{
+    drop_newest(&mut state.frames);
+    leave_function(&mut state.regs, &mut state.functions);
+    leave_call(state, left)?;
+    Ok(Next::Gives(value))
+}
+
+/// A `return` of this value reaches the newest frame.
+pub fn pass<'m>(
+    store: &Store,
+    left: &mut Left,
+    state: &mut State<'m>,
+    value: Value,
+) -> Result<Option<Next<'m>>, NoMemory>
+    requires state { StateOf store.now state.old }
+    requires value { IsOf store.now value }
+    ensures { (k : ℕ) → IfOk result (MayFollow store.now state.old (Gives (Jumps (Returned (seen store.now.texts value ∷ []))) (frames_of store.now state.old)) left.old k store.now state.new left.new k) }
+{
+    match of_newest(&state.frames) {
+        Waiting::Statements(rest) => Ok(Some(pass_statements(state, rest, value))),
+        Waiting::Block(depth) => Ok(Some(pass_block(state, depth, value))),
+        Waiting::Counts(count) => Ok(Some(pass_count(state, count, value))),
+        Waiting::Body => {
+            let next = pass_body(left, state, value)?;
+            Ok(Some(next))
+        }
+        _ => Ok(None),
+    }
+}

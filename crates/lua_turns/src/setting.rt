@@ -1,0 +1,143 @@
+//! An entry of a table that is set in place (manual 2.3): where no handler is asked, the table is not read-only, and the key is not nil.
+ghost use Rattle.std.specs.Prelude.{◌≡◌, ◌||◌, ◌∷◌, [], ℕ, true, not, List as Items, Option as MayBe, IfOk, OnOk};
+ghost use Rattle.lua_heap.specs.Heap.{set_in, table_at};
+ghost use Rattle.lua_heap.specs.Table.{has};
+ghost use Rattle.lua_heap.specs.Value as kind;
+ghost use Rattle.lua_slots.specs.Index as machine;
+ghost use Rattle.lua_slots.specs.Points.{EntryS, SFrame, Sets};
+ghost use Rattle.lua_slots.specs.Slots.{Slots};
+ghost use Rattle.lua_stack.specs.Of.{EnvironmentOf, SettingOf};
+ghost use Rattle.lua_stack.specs.Seen.{setting_seen};
+ghost use Rattle.lua_state.specs.Of.{StateOf};
+ghost use Rattle.lua_state.specs.Seen.{frames_of};
+ghost use Rattle.lua_store.specs.Parts.{IsLater, IsOf, IsTableOf};
+ghost use Rattle.lua_store.specs.Seen.{seen};
+ghost use Rattle.lua_turns.specs.Rows.{MayFollow};
+ghost use Rattle.lua_turns.specs.Setting.{Puts};
+
+use lua_arms::tables::handler;
+use lua_stack::values::is_nil;
+use lua_stack::{Environment, Found, Setting};
+use lua_state::State;
+use lua_store::{Store, TableId, Value};
+use lua_strides::Next;
+use wk_base::{Left, NoMemory};
+
+/// Whether an assignment to this entry asks nobody, and may change the table.
+fn is_plain(store: &Store, env: &Environment, table: TableId, key: Value) -> bool
+    requires table { IsTableOf store.now table }
+    requires key { IsOf store.now key }
+    requires env { EnvironmentOf store.now env.now }
+    ensures { result ≡ true → (value : kind.Value) (line : MayBe ℕ) (fs : Items SFrame) (s : Slots) → s.heap ≡ store.now.heap
+        → machine.set_table table.at (seen store.now.texts key) value line fs s ≡ machine.put_entry table.at (seen store.now.texts key) value fs s }
+{
+    if store.is_frozen(table) {
+        return false;
+    }
+    if is_nil(key) {
+        return false;
+    }
+    if is_nil(store.get(table, key)) {
+        return is_nil(handler(store, Value::Table(table), env.set_index));
+    }
+    true
+}
+
+/// Whether a set makes a new entry.
+fn is_new(store: &Store, table: TableId, key: Value, value: Value) -> bool
+    requires table { IsTableOf store.now table }
+    requires key { IsOf store.now key }
+    ensures { not result ≡ (has (table_at store.now.heap table.at).entries (seen store.now.texts key) || kind.is_nil (seen store.now.texts value)) }
+{
+    if store.has(table, key) {
+        return false;
+    }
+    !is_nil(value)
+}
+
+/// An entry is set.
+fn put(store: &mut Store, table: TableId, key: Value, value: Value) -> Result<(), NoMemory>
+    requires table { IsTableOf store.old table }
+    requires key { IsOf store.old key }
+    requires value { IsOf store.old value }
+    ensures set { OnOk result (store.new ≡ record store.old { heap = set_in store.old.heap table.at (seen store.old.texts key) (seen store.old.texts value) }) }
+    ensures later { IsLater store.old store.new }
+{
+    match store.set(table, key, value) {
+        Ok(_) => Ok(()),
+        Err(_) => Err(NoMemory),
+    }
+}
+
+/// An entry is set, and paid for where it is new. Where the steps of a new one are not left, the answer is false and nothing changes.
+fn put_paid(
+    store: &mut Store,
+    left: &mut Left,
+    table: TableId,
+    key: Value,
+    value: Value,
+) -> Result<bool, NoMemory>
+    requires table { IsTableOf store.old table }
+    requires key { IsOf store.old key }
+    requires value { IsOf store.old value }
+    ensures { IfOk result (Puts store.old table.at (seen store.old.texts key) (seen store.old.texts value) left.old store.new left.new) }
+{
+    if is_new(store, table, key, value) {
+        if left.steps < 4 {
+            return Ok(false);
+        }
+        left.steps -= 4;
+        put(store, table, key, value)?;
+        return Ok(true);
+    }
+    put(store, table, key, value)?;
+    Ok(true)
+}
+
+/// An entry of a table is set, where that is plain and paid.
+fn set_table<'m>(
+    store: &mut Store,
+    left: &mut Left,
+    state: &State<'m>,
+    table: TableId,
+    key: Value,
+    line: u32,
+    value: Value,
+) -> Result<Option<Next<'m>>, NoMemory>
+    requires state { StateOf store.old state.now }
+    requires table { IsTableOf store.old table }
+    requires key { IsOf store.old key }
+    requires value { IsOf store.old value }
+    ensures { (k : ℕ) → IfOk result (MayFollow store.old state.now (Sets ((EntryS (kind.Table table.at) (seen store.old.texts key) line, seen store.old.texts value) ∷ []) (frames_of store.old state.now)) left.old k store.new state.now left.new k) }
+{
+    if !is_plain(store, &state.env, table, key) {
+        return Ok(None);
+    }
+    let done = put_paid(store, left, table, key, value)?;
+    if done {
+        return Ok(Some(Next::GivesNone));
+    }
+    Ok(None)
+}
+
+/// One target gets its value, if it is an entry that can be set in place.
+pub fn set<'m>(
+    store: &mut Store,
+    left: &mut Left,
+    state: &State<'m>,
+    setting: &Setting<'m>,
+) -> Result<Option<Next<'m>>, NoMemory>
+    requires state { StateOf store.old state.now }
+    requires setting { SettingOf store.old setting.now }
+    ensures { (k : ℕ) → IfOk result (MayFollow store.old state.now (Sets (setting_seen store.old.texts setting.now ∷ []) (frames_of store.old state.now)) left.old k store.new state.now left.new k) }
+{
+    match setting.target {
+        Found::At(of, key, line) => match of {
+            Value::Table(table) => {
+                set_table(store, left, state, table, key, line, setting.value)
+            }
+            _ => Ok(None),
+        },
+        _ => Ok(None),
+    }
+}

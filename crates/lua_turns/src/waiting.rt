@@ -1,0 +1,140 @@
+//! The newest frame, where it is gone on with in place.
+ghost use Rattle.std.specs.Prelude.{◌≡◌, ◌∷◌, [], List as Items, IfSome};
+ghost use Rattle.lua_stack.specs.declared.frame.Ending.{Ending as EndingValue};
+ghost use Rattle.lua_stack.specs.declared.frame.Frame.{Frame as FrameValue};
+ghost use Rattle.lua_stack.specs.declared.frame.Frame.TheVariants as frame_kind;
+ghost use Rattle.lua_stack.specs.declared.frame.InExpression.TheVariants as in_expression;
+ghost use Rattle.lua_turns.specs.Rows.{IsNewest};
+ghost use Rattle.lua_turns.specs.Waiting.{Waits};
+
+use lua_code::{Expression, Operator, Statement};
+use lua_stack::{Ending, Frame, InExpression, InStatement, Stack, Values};
+use lua_store::Value;
+use wk_base::List;
+
+/// A counting loop in one of its turns: how many registers are below those of the turn, whether the variable has a cell, the index, the
+/// limit, the step, and the body.
+#[derive(Clone, Copy)]
+pub struct Count<'m> {
+    pub depth: usize,
+    pub boxed: bool,
+    pub index: i64,
+    pub limit: i64,
+    pub step: i64,
+    pub body: &'m List<Statement>,
+}
+
+/// What waits in the newest frame.
+#[derive(Clone, Copy)]
+pub enum Waiting<'m> {
+    /// The statements behind one.
+    Statements(&'m [Statement]),
+    /// A declaration, and the statements behind it.
+    Declares(&'m [bool], &'m [Statement]),
+    /// A `return` of the values that are given.
+    Returns,
+    /// An operator for its first operand; the second one is evaluated then.
+    Operand(Operator, &'m Expression, u32),
+    /// An operator for its second operand.
+    Operates(Operator, Value, u32),
+    /// A list with nothing before, for its last expression.
+    Last(&'m [Expression]),
+    /// The end of a block that has so many registers below it.
+    Block(usize),
+    /// The end of a function's body.
+    Body,
+    /// The end of a turn.
+    Counts(Count<'m>),
+    /// Another frame, or none.
+    Other,
+}
+
+/// What waits at an end.
+fn of_ending<'m>(ending: &Ending<'m>) -> Waiting<'m>
+    ensures { (fs : Items FrameValue) → IsNewest fs (frame_kind.End ending.now) → Waits fs result }
+{
+    match ending {
+        Ending::BlockEnd(depth) => Waiting::Block(*depth),
+        Ending::BodyEnd => Waiting::Body,
+        Ending::CountEnd(depth, boxed, index, limit, step, body) => Waiting::Counts(Count {
+            depth: *depth,
+            boxed: *boxed,
+            index: *index,
+            limit: *limit,
+            step: *step,
+            body: *body,
+        }),
+        _ => Waiting::Other,
+    }
+}
+
+/// Whether a list has one more expression, or values before.
+fn of_list<'m>(rest: &'m [Expression], before: &Values) -> Waiting<'m>
+    ensures { (fs : Items FrameValue) → IsNewest fs (frame_kind.Expression (in_expression.MoreNext rest.entry before.now)) → Waits fs result }
+{
+    if rest.len() == 0 && before.len() == 0 {
+        return Waiting::Last(rest);
+    }
+    Waiting::Other
+}
+
+/// What waits in an expression.
+fn of_expression<'m>(frame: &InExpression<'m>) -> Waiting<'m>
+    ensures { (fs : Items FrameValue) → IsNewest fs (frame_kind.Expression frame.now) → Waits fs result }
+{
+    match frame {
+        InExpression::OperandNext(op, b, line) => Waiting::Operand(*op, *b, *line),
+        InExpression::OperateNow(op, a, line) => Waiting::Operates(*op, *a, *line),
+        InExpression::MoreNext(rest, before) => of_list(*rest, before),
+        _ => Waiting::Other,
+    }
+}
+
+/// What waits in a statement.
+fn of_statement<'m>(frame: &InStatement<'m>) -> Waiting<'m>
+    ensures { (fs : Items FrameValue) → IsNewest fs (frame_kind.Statement frame.now) → Waits fs result }
+{
+    match frame {
+        InStatement::StatsNext(rest) => Waiting::Statements(*rest),
+        InStatement::DeclareNow(flags, rest) => Waiting::Declares(*flags, *rest),
+        InStatement::ReturnNow => Waiting::Returns,
+        _ => Waiting::Other,
+    }
+}
+
+/// What waits in a frame.
+fn of_frame<'m>(frame: &Frame<'m>) -> Waiting<'m>
+    ensures { (fs : Items FrameValue) → IsNewest fs frame.now → Waits fs result }
+{
+    match frame {
+        Frame::Statement(frame) => of_statement(frame),
+        Frame::End(ending) => of_ending(ending),
+        Frame::Expression(frame) => of_expression(frame),
+        _ => Waiting::Other,
+    }
+}
+
+/// What waits in the newest frame.
+pub fn of_newest<'m>(frames: &Stack<Frame<'m>>) -> Waiting<'m>
+    ensures { Waits frames.now result }
+{
+    match frames.get(0) {
+        Some(frame) => of_frame(frame),
+        None => Waiting::Other,
+    }
+}
+
+/// The newest frame waits no more.
+pub fn drop_newest<'m>(frames: &mut Stack<Frame<'m>>)
+    ensures { (f : FrameValue) (more : Items FrameValue) → frames.old ≡ f ∷ more → frames.new ≡ more }
+{
+    let count = frames.len();
+    frames.cut(count.saturating_sub(1));
+}
+
+/// Another frame waits in the place of the newest one.
+pub fn swap_newest<'m>(frames: &mut Stack<Frame<'m>>, frame: Frame<'m>)
+    ensures { (f : FrameValue) (more : Items FrameValue) → frames.old ≡ f ∷ more → frames.new ≡ frame.entry ∷ more }
+{
+    frames.set(0, frame);
+}

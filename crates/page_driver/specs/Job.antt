@@ -1,0 +1,19 @@
+-- WHAT `run_job` ENSURES: it is the drive of one invocation.
+use Rattle.std.specs.Prelude.{◌≡◌, ℕ, ◌+◌, ◌≤◌}
+use Rattle.wk_base.specs.declared.left.Left.{Left}
+use Rattle.wk_base.specs.declared.title.Title.{Title}
+use Rattle.mw_frame.specs.declared.scene.Job.{Job}
+use Rattle.lua_meaning.specs.Start.{Invoke}
+use Rattle.page_meaning.specs.Wiki.{Wiki}
+use Rattle.page_meaning.specs.Outcomes.{job_outcome}
+use Rattle.page_meaning.specs.Drive.{drive, invoke}
+use Rattle.page_meaning.specs.Page.{kept_in, begun_in}
+use Rattle.page_driver.specs.declared.job.JobEnd.{JobEnd}
+
+-- AN INVOCATION BY ITSELF ends as its run does with all questions answered, and leaves what that leaves. At least the nodes that are begun were
+-- counted from k on, and at most the steps that were taken, those for kept data left out.
+pub record IsJob (wiki : Wiki) (page : Title) (job : Job) (full : Left) (k k' : ℕ) (e : JobEnd) : Type 0 where
+  pub outcome_is : e.outcome ≡ job_outcome (drive wiki page (Invoke job) full)
+  pub left_is : e.left ≡ (invoke wiki page job full).left
+  pub begun : k + begun_in (invoke wiki page job full).tally ≤ k'
+  pub paid : k' + e.left.steps + kept_in (invoke wiki page job full).tally ≤ k + full.steps

@@ -1,0 +1,127 @@
+//! One invocation by itself.
+ghost use Rattle.std.specs.Prelude.{◌≡◌, ◌+◌, ◌≤◌, IfOk, OnOk};
+ghost use Rattle.wk_base.specs.Allowances.{IsCountable};
+ghost use Rattle.mw_frame.specs.Scenes.{HaveNames};
+ghost use Rattle.lua_meaning.specs.World.{Modules as PlainModules};
+ghost use Rattle.lua_store.specs.Parts.{nothing};
+ghost use Rattle.page_ground.specs.Ground.{AreModulesIn, AreModulesOf, ground_of, page_of, wiki_in, wiki_of};
+ghost use Rattle.page_tasks.specs.Seen.{outcome_of};
+ghost use Rattle.page_driver.specs.Page.{full_of};
+ghost use Rattle.page_driver.specs.Job.{IsJob};
+
+use crate::begin::{empty_tower, full_left};
+use crate::driving::drive;
+use crate::wiki::Wiki;
+use bumpalo::Bump;
+use lua_state::World;
+use lua_store::Store;
+use mw_frame::Job;
+use page_ground::around::Around;
+use page_ground::numbers::Numbers;
+use page_meaning::JobOutcome;
+use page_tasks::beginning::begin_invocation;
+use page_tasks::task::Reply;
+use std::alloc::Global;
+use std::hash::RandomState;
+use std::sync::ledger::Ledger;
+use wk_base::{Bytes, Left, Limits, NoMemory, Steps, Title};
+
+/// How an invocation by itself ended, and what is left of its allowances.
+#[derive(Drop)]
+pub struct JobEnd {
+    pub outcome: JobOutcome,
+    pub left: Left,
+}
+
+/// How an invocation ended that came to this reply. It comes to no data.
+fn outcome_in(alloc: Global, reply: Reply) -> JobOutcome
+    ensures { result ≡ outcome_of reply }
+{
+    match reply {
+        Reply::Ended(so) => so,
+        Reply::Data(_) => JobOutcome::Done(Bytes::of_vec(Vec::new(alloc))),
+        Reply::Spent(which) => JobOutcome::Spent(which),
+    }
+}
+
+/// Runs an invocation as the first run in a new store.
+fn run_within<L: Ledger>(
+    around: &Around<'_>,
+    store: &mut Store,
+    job: Job,
+    limits: &Limits,
+    turns: &mut Steps<L>,
+) -> Result<JobEnd, NoMemory>
+    requires fresh { store.old ≡ nothing }
+    requires names { HaveNames job }
+    requires countable { IsCountable limits.now }
+    ensures ends { IfOk result (λ e. (modules : PlainModules) → AreModulesOf (ground_of around.now) modules → IsJob (wiki_of (ground_of around.now) modules) (page_of (ground_of around.now)) job (full_of limits.now) turns.old turns.new e) }
+    ensures rises { OnOk result (turns.old ≤ turns.new) }
+    ensures paid { IfOk result (λ e. turns.new + e.left.steps ≤ turns.old + limits.now.steps) }
+{
+    let mut numbers = Numbers::new(around.alloc);
+    numbers.start(store)?;
+    let root = begin_invocation(around, store, job)?;
+    let mut tower = empty_tower(around.alloc, around.seed, numbers);
+    let mut left = full_left(limits);
+    let reply = drive(around, store, &mut left, &mut tower, root, turns)?;
+    let outcome = outcome_in(around.alloc, reply);
+    Ok(JobEnd { outcome, left })
+}
+
+/// Runs an invocation in a new store.
+fn run_in<L: Ledger>(
+    alloc: Global,
+    seed: RandomState,
+    store: &mut Store,
+    wiki: &Wiki,
+    page: &Title,
+    job: Job,
+    limits: &Limits,
+    turns: &mut Steps<L>,
+) -> Result<JobEnd, NoMemory>
+    requires fresh { store.old ≡ nothing }
+    requires names { HaveNames job }
+    requires countable { IsCountable limits.now }
+    ensures ends { IfOk result (λ e. (modules : PlainModules) → AreModulesIn page.now wiki.now.modules modules → IsJob (wiki_in wiki.now.pages modules) page.now job (full_of limits.now) turns.old turns.new e) }
+    ensures rises { OnOk result (turns.old ≤ turns.new) }
+    ensures paid { IfOk result (λ e. turns.new + e.left.steps ≤ turns.old + limits.now.steps) }
+{
+    let world = World {
+        page,
+        modules: &wiki.modules,
+    };
+    let around = Around {
+        alloc,
+        seed,
+        pages: &wiki.pages,
+        world,
+    };
+    let end = run_within(&around, store, job, limits, turns)?;
+    Ok(end)
+}
+
+/// Runs one invocation by itself (Extension:Scribunto, `#invoke`), with all that the limits allow and in an environment of its own, as if the page of
+/// this title invoked it: its questions are answered as on that page, and it sees nothing of any other run. Where it fails, the message is what stands
+/// between the tags of the error's text on a page; a module that is not held fails as `require` of it does. The counter of turns rises by the nodes of
+/// Lua that are begun, and by no more than the steps that are taken, those for kept data left out.
+pub fn run_job<L: Ledger>(
+    alloc: Global,
+    seed: RandomState,
+    wiki: &Wiki,
+    page: &Title,
+    job: Job,
+    limits: &Limits,
+    turns: &mut Steps<L>,
+) -> Result<JobEnd, NoMemory>
+    requires names { HaveNames job }
+    requires countable { IsCountable limits.now }
+    // For all modules whose code is held, it is the run of the wiki that has them.
+    ensures ends { IfOk result (λ e. (modules : PlainModules) → AreModulesIn page.now wiki.now.modules modules → IsJob (wiki_in wiki.now.pages modules) page.now job (full_of limits.now) turns.old turns.new e) }
+    ensures rises { OnOk result (turns.old ≤ turns.new) }
+    ensures paid { IfOk result (λ e. turns.new + e.left.steps ≤ turns.old + limits.now.steps) }
+{
+    let arena = Bump::new(alloc);
+    let mut store = Store::new(alloc, &arena, seed);
+    run_in(alloc, seed, &mut store, wiki, page, job, limits, turns)
+}
