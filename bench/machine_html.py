@@ -26,34 +26,57 @@ def tag(node, shut):
     return b"<" + node.name + attributes + (b' style="%s"' % styles if node.styles else b"") + (b" />" if shut else b">")
 
 
+class Unpaid(Exception):
+    pass
+
+
+class Pieces:
+    """What is given so far, of which no more is made than can be paid for: a step for each object begun, and each byte."""
+
+    def __init__(self, most):
+        self.most, self.taken, self.texts = most, 0, []
+
+    def pay(self, steps):
+        self.taken += steps
+        if self.taken > self.most:
+            raise Unpaid()
+
+    def add(self, text):
+        self.pay(len(text))
+        self.texts.append(text)
+
+
 def put(node, above, out):
-    """`out` gets the pieces; each object begun puts one that is empty."""
     if above > 200:
         raise Deep()
     shut = node.closed or node.name in CLOSE_THEMSELVES
-    out += [None] + [tag(node, shut)] * (node.name != b"")
+    out.pay(1)
+    if node.name:
+        out.add(tag(node, shut))
     if shut and node.name:
         return
     for child in node.children:
         if isinstance(child, Markup):
             put(child, above + 1, out)
         else:
-            out.append(child)
+            out.add(child)
     if node.name:
-        out.append(b"</%s>" % node.name)
+        out.add(b"</%s>" % node.name)
 
 
 def rendered(run, node, refuse):
-    """Its text, which costs a step for each object begun and each byte, up to where it ends."""
-    out, deep = [], False
+    """Its text, which is paid for up to where it ends."""
+    out, deep = Pieces(run.steps), False
     try:
         put(node, 0, out)
     except Deep:
         deep = True
-    run.tick(sum(1 if piece is None else len(piece) for piece in out))
+    except Unpaid:
+        pass
+    run.tick(out.taken)
     if deep:
         refuse()
-    return b"".join(piece for piece in out if piece is not None)
+    return b"".join(out.texts)
 
 
 # ---- arguments

@@ -104,3 +104,16 @@ hand("steps_of_a_cleared_entry", "A cleared entry costs a step.", "return {f=fun
      runs=[("took", AMPLE, CALLS, [], "gives <b></b>, %d taken" % (1000 + 84 + 1 + 24 + 1 + (1 + 1 + 8 + 1 + 1 + 4) + (1 + 1 + 1 + 1 + 1) + 1 + ANY + (1 + 1 + 1 + 1) + 1 + 7 + 7))])
 body("html_of_many_classes", "Classes are paid for at each addition, so a long list spends its steps.", "local x=mw.html.create('b')\nlocal s=('a'):rep(1000)\nwhile true do x:addClass(s) end", more=(), profile=True,
      runs=[("exact", AMPLE, CALLS, [], "spends steps, 0 left")])
+
+
+# ---- one object that is rendered again and again
+MANY = MAKE + "local x,q,p=H('b'),H('b'),H('b')\nfor i=1,1000 do q:node(x) end\nfor i=1,500 do p:node(q) end\nreturn #tostring(p)"
+# 500,501 objects are begun, of seven bytes each
+RENDERED = 500501 * 8
+# what begins a run with its module; `f`, the locals, both loops with five steps and a turn each time, `return`, and seven bytes of the answer
+MANY_TAKEN = (1000 + len("return {f=function(frame)\n" + MANY + "\nend}") + 1 + 24) + 1 + 6 + (1 + 3 * 5) + (3 + 1000 * 6) + (3 + 500 * 6) + 6 + RENDERED + 7
+body("html_of_half_a_million", "An object stands in another 1,000 times, and that one in a third 500 times: it is rendered 500,000 times.", MANY, more=(), profile=True, runs=[
+    ("took", AMPLE, CALLS, [], f"gives {500501 * 7}, {MANY_TAKEN} taken"), ("exact", MANY_TAKEN - 1, CALLS, [], "spends steps, 0 left"),
+    ("exact", 2_000_000, CALLS, [], "spends steps, 0 left")])
+body("html_doubled", "Each of 100 objects has the one before twice: the steps are spent long before the end.", MAKE + "local x=H('b')\nfor i=1,100 do x=H('b'):node(x):node(x) end\nreturn x", more=(), profile=True, runs=[
+    ("exact", 2_000_000, CALLS, [], "spends steps, 0 left"), ("exact", 20_000, CALLS, [], "spends steps, 0 left")])

@@ -1,5 +1,6 @@
-"""Cases by hand of `string`, `math`, `table`, `mw.ustring` and `mw.text`, behind those of `machine_cases.py`. Ends are those of the manual,
-of Lua 5.1 (all that aren't marked `profile`), and of Scribunto; steps are counted by docs/RULES.md. Bytes of texts are written as such."""
+"""Cases by hand of `string`, `math`, `table`, `mw.ustring` and `mw.text`, and the arguments of all functions of the library, behind the cases
+of `machine_cases.py`. Ends are those of the manual, of Lua 5.1 (all that aren't marked `profile`), and of Scribunto; steps are counted by
+docs/RULES.md. Bytes of texts are written as such."""
 from machine_cases import AMPLE, CALLS, CASES, body, hand
 
 SAY = "local function say(...) local s='' for i=1,select('#',...) do s=s..(i>1 and ' ' or '')..tostring((select(i,...))) end return s end\n"
@@ -18,9 +19,14 @@ def gives_all(name, said, iterators, gives, **more):
     body(name, said, ALL + "return " + "..'|'..".join(f"all({one})" for one in iterators), "|".join(gives), **more)
 
 
+def named(library, function):
+    """A function by its name in a module; the basic functions have no library."""
+    return f"{library}.{function}" if library else function
+
+
 def refuses(name, said, library, pairs, **more):
     """Each function without an argument: its name and its message."""
-    calls = ",".join(f"try({library}.{function})" for function, _ in pairs)
+    calls = ",".join(f"try({named(library, function)})" for function, _ in pairs)
     body(name, said, TRY + "return " + calls, ";".join(told for _, told in pairs) + ";", profile=True, **more)
 
 
@@ -204,26 +210,30 @@ body("iterators_refuse", "Arguments that are none, and patterns that are read la
      "bad argument #1 to 'gmatch' (not UTF-8);bad argument #2 to 'gmatch' (not UTF-8);bad argument #1 to 'gcodepoint' (not UTF-8);bad argument #2 to 'gsplit' (not UTF-8);malformed pattern (1);malformed pattern (2);", profile=True)
 
 
-# ---- each function with each kind of value in each place. `s` is a text, `n` a number, `t` a table, `-` what must be nil; behind `?` a value
-# may be left out, or be nil.
+# ---- each function with each kind of value in each place. `s` is a text, `n` a number, `t` a table, `-` what must be nil, `v` any value; behind
+# `?` a value may be left out, or be nil.
 SIGNATURES = {
+    "": "error=vn? setmetatable=tt? ipairs=t pairs=t next=t rawget=t rawset=t select=n tonumber=sn? unpack=tn?n? require=s",
     "string": "byte=sn?n? char=nn find=ssn? match=ssn? gmatch=ss format=s len=s lower=s upper=s rep=sn reverse=s sub=snn?",
     "math": "abs=n ceil=n floor=n fmod=nn max=nn min=nn pow=nn",
     "table": "concat=ts?n?n? insert=tnt maxn=t remove=tn? sort=t-",
+    "mw": "loadData=s",
     "mw.ustring": "char=nn codepoint=sn?n? gcodepoint=sn?n? byteoffset=sn?n? find=ssn? match=ssn? gmatch=ss len=s sub=snn? isutf8=s toNFC=s toNFD=s toNFKC=s toNFKD=s",
     "mw.text": "trim=ss? split=ss gsplit=ss encode=ss? decode=s listToText=ts?s? nowiki=s tag=st? truncate=sns?",
 }
 KINDS = {"s": "string", "n": "number", "t": "table", "-": "nil"}
-GOOD = {"s": "'a'", "n": "1", "t": "{}"}
+GOOD = {"s": "'a'", "n": "1", "t": "{}", "v": "1"}
 VALUES = {"nil": "nil", "boolean": "true", "number": "5", "string": "'x'", "table": "{}", "function": "error"}
 
 
 def is_taken(want, optional, kind):
-    return kind == KINDS[want] or want == "s" and kind == "number" or optional and kind == "nil"
+    return want == "v" or kind == KINDS[want] or want == "s" and kind == "number" or optional and kind == "nil"
 
 
 # the third argument of `insert` may be anything, and a table as the first one of `tag` has the others as fields
 LEFT_OUT = {("insert", 2): VALUES, ("tag", 0): ["table"]}
+# what has to stand behind a value for it to be looked at
+BEHIND = {("insert", 1): ["{}"], ("tonumber", 0): ["2"]}
 
 
 def sweep(library, signatures):
@@ -232,14 +242,48 @@ def sweep(library, signatures):
         name, letters = signature.split("=")
         wants = [(c, letters[at + 1:at + 2] == "?") for at, c in enumerate(letters) if c != "?"]
         for at, (want, optional) in enumerate(wants):
-            before, behind = [GOOD[c] for c, _ in wants[:at]], ["{}"] * ((name, at) == ("insert", 1))
+            before, behind = [GOOD[c] for c, _ in wants[:at]], BEHIND.get((name, at), [])
             for kind, value in VALUES.items():
                 if not is_taken(want, optional, kind) and kind not in LEFT_OUT.get((name, at), []):
-                    calls.append(f"try({library}.{name},{','.join([*before, value, *behind])})")
+                    calls.append(f"try({named(library, name)},{','.join([*before, value, *behind])})")
                     told.append(f"bad argument #{at + 1} to '{name}' ({KINDS[want]} expected, got {kind});")
     return calls, "".join(told)
 
 
 for library, signatures in SIGNATURES.items():
     calls, told = sweep(library, signatures)
-    body(f"sweep_of_{library}", "Each kind of value in each place where it is wrong.", TRY + "return " + ",".join(calls), told, profile=True)
+    body(f"sweep_of_{library or 'basic'}", "Each kind of value in each place where it is wrong.", TRY + "return " + ",".join(calls), told, profile=True)
+
+
+# ---- the basic functions that take any value, with each kind of it, and all of them without a value
+def each_kind(form, kinds=VALUES):
+    """A call for each kind of value, which stands for `~`."""
+    return ",".join(form.replace("~", VALUES[kind]) for kind in kinds)
+
+
+OF_EACH = [kind for kind in VALUES if kind != "function"]
+says("kinds_of_values", "`type` of each kind of value.", each_kind("type(~)"), "nil boolean number string table function")
+says("numbers_of_values", "`tonumber`, which takes any value where it has no base.", each_kind("tonumber(~)"), "nil nil 5 nil nil nil")
+says("values_themselves", "`rawequal`: two tables differ, all other values are themselves.", each_kind("rawequal(~,~)"), "true true true true false true")
+says("values_among_others", "`select` looks at none of the values that it counts or gives.", each_kind("select('#',~)") + "," + each_kind("type((select(2,1,~)))"),
+     "1 1 1 1 1 1 nil boolean number string table function")
+says("texts_of_values", "`tostring`: a table and a function have their kinds.", each_kind("tostring(~)"), "nil true 5 x table function", profile=True)
+says("metatables_of_values", "Only tables have one.", each_kind("getmetatable(~)") + ",getmetatable(setmetatable({},{__metatable=false}))", "nil nil nil nil nil nil false", profile=True)
+says("copies_of_values", "`mw.clone` copies any value, and `mw.log` gives nothing.", each_kind("type(mw.clone(~))") + "," + each_kind("select('#',mw.log(~))"),
+     "nil boolean number string table function 0 0 0 0 0 0", profile=True)
+says("values_as_keys", "`rawget` looks for any key.", each_kind("rawget({},~)") + "," + each_kind("rawget({[~]=1},~)", ["boolean", "number", "string", "function"]), "nil nil nil nil nil nil 1 1 1 1")
+body("keys_refused", "`rawset` takes any key but nil, and `next` those that are there.", TRY + "return " + each_kind("try(rawset,{},~,1)") + "," + each_kind("try(next,{},~)"),
+     "table index is nil;" + "table;" * 5 + "nil;" + "invalid key to 'next';" * 5, profile=True)
+body("values_raised", "`error` raises any value, and `assert` gives any that counts as true.", TRY + "return " + each_kind("try(error,~)") + "," + each_kind("try(assert,~)"),
+     "nil;true;5;x;table;function;assertion failed!;true;5;x;table;function;", profile=True)
+body("messages_of_assert", "A value of each kind in place of the message; nil has the message that is there without one.", TRY + "return " + each_kind("try(assert,false,~)"),
+     "assertion failed!;true;5;x;table;function;", profile=True)
+body("values_called", "What is no function can't be called, by `pcall` and by `xpcall`.", TRY + "local function same(m) return m end\nreturn " + each_kind("try(~)", OF_EACH) + ","
+     + each_kind("tostring(select(2,xpcall(~,same)))..';'", OF_EACH), "".join(f"attempt to call a {kind} value;" for kind in OF_EACH) * 2, profile=True)
+body("values_as_handlers", "Nor can it handle an error.", "return " + each_kind("tostring(select(2,xpcall(error,~)))..';'", OF_EACH) + ",tostring(select(2,xpcall(error)))",
+     "error in error handling;" * 5 + "error in error handling", profile=True)
+refuses("basic_without_arguments", "The basic functions without an argument: absent is nil where any value may stand.", "", [
+    ("assert", "assertion failed!"), ("error", "nil"), ("getmetatable", "nil"), *wanting("table", "setmetatable ipairs pairs next"), ("pcall", "false"), ("xpcall", "false"),
+    ("rawequal", "true"), *wanting("table", "rawget rawset"), *wanting("number", "select"), ("tonumber", "nil"), ("tostring", "nil"), ("type", "nil"), *wanting("table", "unpack"),
+    *wanting("string", "require")])
+refuses("mw_without_arguments", "Those of `mw`.", "mw", [("clone", "nil"), ("log", "nil"), ("title.getCurrentTitle", "table"), *wanting("string", "loadData"), ("getCurrentFrame", "table")])

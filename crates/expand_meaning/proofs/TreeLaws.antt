@@ -1,7 +1,7 @@
 -- The first of the trees that nodes in preorder stand for.
 use Rattle.std.proofs.Common.{◌≡◌, ℕ, zero, suc, ◌+◌, ◌≤◌, List, [], ◌∷◌, take, drop, length, refl, ap, ◌∙◌, arith}
 use Rattle.std.proofs.lemmas.List.{length-take, length-drop}
-use Rattle.wiki_markup.specs.declared.marked.Node.{Node}
+use Rattle.wiki_markup.specs.Nodes.{Node}
 use Rattle.wiki_markup.specs.Trees.{done}
 use Rattle.expand_meaning.specs.Places.{planted, reach, trees_by, trees_at}
 

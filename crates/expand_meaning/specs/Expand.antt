@@ -7,8 +7,7 @@ use Rattle.wk_base.specs.Titles.{is_module}
 use Rattle.wk_base.specs.declared.title.Namespace.TheVariants.{Module}
 use Rattle.wk_base.specs.declared.title.Title.{Title}
 use Rattle.wk_base.specs.contracts.title.TitlePartialEq.TheImpl as titles
-use Rattle.wiki_markup.specs.declared.marked.NodeKind.{NodeKind}
-use Rattle.wiki_markup.specs.declared.marked.NodeKind.TheVariants.{Construct, Parameter}
+use Rattle.wiki_markup.specs.Nodes.{NodeKind, Construct, Parameter}
 use Rattle.wiki_markup.specs.Trees.{Trees, done, text, equals, node}
 use Rattle.mw_frame.specs.declared.scene.Arg.{Arg}
 use Rattle.mw_frame.specs.declared.scene.Scene.{Scene}

@@ -1,8 +1,6 @@
 -- The trees that a list of nodes in preorder stands for, and the parts of a construct or parameter.
 use Rattle.std.specs.Prelude.{◌≡◌, ℕ, zero, suc, ◌+◌, ◌-◌, Bool, true, false, List, [], ◌∷◌, take, drop, length, Option, Some, None}
-use Rattle.wiki_markup.specs.declared.marked.Node.{Node}
-use Rattle.wiki_markup.specs.declared.marked.NodeKind.{NodeKind}
-use Rattle.wiki_markup.specs.declared.marked.NodeKind.TheVariants.{Text, Construct, Parameter, Part, Equals}
+use Rattle.wiki_markup.specs.Nodes.{Node, NodeKind, Text, Construct, Parameter, Part, Equals}
 use Rattle.wiki_markup.specs.Trees.{Trees, done, text, equals, node, preorder}
 use Rattle.wiki_markup.specs.Formed.{IsMarked}
 

@@ -31,7 +31,7 @@ use Rattle.lua_slots.specs.Moves as machine_moves
 use Rattle.lua_agree.specs.Variables.{Var}
 use Rattle.lua_agree.specs.Values.{SameJump, returned, broke, raised, SameOutcome, values_, jumps_}
 use Rattle.lua_agree.specs.Functions.{SameFunction}
-use Rattle.lua_agree.specs.Rests.{first_of, told, invoked, data_loaded, then_texts, at_end, at_module, at_function, at_answer, at_text, at_data}
+use Rattle.lua_agree.specs.Rests.{first_of, paid_text, invoked, data_loaded, then_texts, at_end, at_module, at_function, at_answer, at_text, at_data}
 use Rattle.lua_agree.specs.Agree.{SamePoint, Base, Rel}
 use Rattle.lua_agree.specs.Agree as points
 use Rattle.lua_agree.specs.Follows.{Follows, takes, sees, changes}
@@ -86,8 +86,8 @@ module _ (world : World) (code : CWorld) (B : Base) {m : Map} {vars : List Var} 
   run-ends e = outcome-on world code B r (at_end vars s.functions open_ running) e
 
   -- THE TEXTS OF AN ANSWER
-  texts-point : {vs ws : List Value} (t u : Bytes) → t ≡ u → Each (Same m) vs ws → SamePoint code m vars s.functions (answer_texts vs t told) (Texts ws u [])
-  texts-point {vs} {ws} t u e es = subst (λ u. SamePoint code m vars s.functions (answer_texts vs t told) (Texts ws u [])) e (points.texts vs ws t open_ running es)
+  texts-point : {vs ws : List Value} (t u : Bytes) → t ≡ u → Each (Same m) vs ws → SamePoint code m vars s.functions (answer_texts vs t paid_text) (Texts ws u [])
+  texts-point {vs} {ws} t u e es = subst (λ u. SamePoint code m vars s.functions (answer_texts vs t paid_text) (Texts ws u [])) e (points.texts vs ws t open_ running es)
 
   text-by : {i i' v w : Value} {vs ws : List Value} (before : Bytes) → Same m i i' → Same m v w → Each (Same m) vs ws
       → Follows world code B (text_by i v (then_texts vs before)) h (machine_starts.text_by i' w ws before [] s)
@@ -118,7 +118,7 @@ module _ (world : World) (code : CWorld) (B : Base) {m : Map} {vars : List Var} 
   next-text before (closure a b e) es = sees _ _ _ (asks-handler before (closure a b e) es)
   next-text before (builtin b) es = sees _ _ _ (asks-handler before (builtin b) es)
 
-  pub texts-on : {vs ws : List Value} (before : Bytes) → Each (Same m) vs ws → Follows world code B (answer_texts vs before told) h (machine_starts.texts ws before [] s)
+  pub texts-on : {vs ws : List Value} (before : Bytes) → Each (Same m) vs ws → Follows world code B (answer_texts vs before paid_text) h (machine_starts.texts ws before [] s)
   texts-on before none = takes _ _ _ _ (run-ends (values_ _ _ (one-value (text before))))
   texts-on before (more v w vs ws e es) = next-text before e es
 

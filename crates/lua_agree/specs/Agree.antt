@@ -28,7 +28,7 @@ use Rattle.lua_library_agree.specs.Same.{SameFrame}
 use Rattle.lua_agree.specs.Variables.{Var, Vars, Inside}
 use Rattle.lua_agree.specs.Values.{SameJump, SameOutcome, SameTarget, SameSet, SameProgress, SameTitled}
 use Rattle.lua_agree.specs.Functions.{SameFunction, here, end_of}
-use Rattle.lua_agree.specs.Rests.{After, stays, all_targets, told, SameRest, SameEnd}
+use Rattle.lua_agree.specs.Rests.{After, stays, all_targets, paid_text, SameRest, SameEnd}
 
 module _ (code : CWorld) where
   -- THINGS that begin
@@ -70,7 +70,7 @@ module _ (code : CWorld) where
     runs : (tail : Option (Exp × CExp)) (b : Block) (c : CBlock) (see : Sight) (scope : Scope) (k : After Scope) (fs : List SFrame) → IsBlock (here code fns) (end_of code fns tail) see b c → Inside m vars fns see scope → SameEnd code m tail vars fns k fs
         → SamePoint m vars fns (block b scope k) (Runs c fs)
     starts : (t : Thing) (t' : SThing) (k : After (List Value)) (fs : List SFrame) → SameThing m vars fns t t' → SameRest code m vars fns k fs → SamePoint m vars fns (Begins t k) (Starts t' fs)
-    texts : (vs ws : List Value) (before : Bytes) → vars ≡ [] → fns ≡ [] → Each (Same m) vs ws → SamePoint m vars fns (answer_texts vs before told) (Texts ws before [])
+    texts : (vs ws : List Value) (before : Bytes) → vars ≡ [] → fns ≡ [] → Each (Same m) vs ws → SamePoint m vars fns (answer_texts vs before paid_text) (Texts ws before [])
     asks : (q : Ask) (k : After (List Value)) (fs : List SFrame) → SameRest code m vars fns k fs → SamePoint m vars fns (Asks q (λ a. receive a k)) (Asking q fs)
     -- before the first event, in any world whose modules have this code
     works : (world : World) (work : Work) → Agrees world code → vars ≡ [] → fns ≡ [] → SamePoint m vars fns (run_of world work) (Works work)

@@ -101,11 +101,11 @@ invoked o = Ends (invoke_outcome o)
 abbrev pub data_loaded : After End
 data_loaded o = Ends (data_outcome o)
 
-abbrev pub told : After Bytes
-told = on_value (λ t. tick (length t) >> give (Done t)) invoked
+abbrev pub paid_text : After Bytes
+paid_text = on_value (λ t. tick (length t) >> give (Done t)) invoked
 
 abbrev pub then_texts : List Value → Bytes → After Bytes
-then_texts vs before = on_value (λ t. answer_texts vs (before ++ t)) told
+then_texts vs before = on_value (λ t. answer_texts vs (before ++ t)) paid_text
 
 -- a truth that is given as it is; or the negation of one, for `~=`, and for `<=` by a handler of `<`
 pub data SameTruth (k : After (List Value)) : Bool → After Bool → Type 0 where

@@ -1,4 +1,5 @@
 //! Texts with their counts, worked out by hand.
+use crate::modules::{BOOK, DATA, INFOBOX, LANGUAGES, TEXT};
 use crate::{Counts, counts_of};
 use lua_parser::parse;
 use lua_resolve::resolve;
@@ -17,7 +18,7 @@ struct Row {
     functions: usize,
 }
 
-const ROWS: [Row; 13] = [
+const ROWS: [Row; 18] = [
     // the value is global: its name is not local yet
     Row {
         text: "local x = x",
@@ -104,6 +105,41 @@ const ROWS: [Row; 13] = [
         plain: 3,
         functions: 1,
     },
+    // p; list, between, text, i and item; text and class
+    Row {
+        text: TEXT,
+        boxed: 0,
+        plain: 8,
+        functions: 2,
+    },
+    // data with a cell, since both functions read it; p; code and language; names, code and language
+    Row {
+        text: LANGUAGES,
+        boxed: 1,
+        plain: 6,
+        functions: 2,
+    },
+    // text and languages with cells; p; frame, args and cells; frame, links, i and title
+    Row {
+        text: BOOK,
+        boxed: 2,
+        plain: 8,
+        functions: 2,
+    },
+    // a table alone
+    Row {
+        text: DATA,
+        boxed: 0,
+        plain: 0,
+        functions: 0,
+    },
+    // row with a cell, since main calls it; p; box, label, value and tr; frame, args and box
+    Row {
+        text: INFOBOX,
+        boxed: 1,
+        plain: 8,
+        functions: 2,
+    },
 ];
 
 fn counted(alloc: Global, seed: RandomState, text: &[u8]) -> Result<Counts, Fail> {
@@ -115,12 +151,10 @@ fn counted(alloc: Global, seed: RandomState, text: &[u8]) -> Result<Counts, Fail
     Ok(counts_of(&protos))
 }
 
-fn check(rt: &impl Abort, alloc: Global, seed: RandomState, row: &Row) -> Result<(), Fail> {
-    let counts = counted(alloc, seed, row.text.as_bytes())?;
-    assert_eq!(rt; counts.boxed, row.boxed);
-    assert_eq!(rt; counts.plain, row.plain);
-    assert_eq!(rt; counts.functions, row.functions);
-    Ok(())
+fn check(rt: &impl Abort, counts: Counts, expected: Counts) {
+    assert_eq!(rt; counts.boxed, expected.boxed);
+    assert_eq!(rt; counts.plain, expected.plain);
+    assert_eq!(rt; counts.functions, expected.functions);
 }
 
 #[test]
@@ -128,21 +162,66 @@ fn texts_are_resolved(rt: HostRuntime) -> Result<(), Fail> {
     let alloc = rt.alloc();
     let seed = RandomState::new(&rt)?;
     for row in ROWS.iter() {
-        check(&rt, alloc, seed, row)?;
+        let counts = counted(alloc, seed, row.text.as_bytes())?;
+        let expected = Counts {
+            boxed: row.boxed,
+            plain: row.plain,
+            functions: row.functions,
+        };
+        check(&rt, counts, expected);
     }
     Ok(())
 }
 
-/// A text in front, some texts many times, and a text behind.
-fn repeated(alloc: Global, parts: [&str; 4], times: usize) -> Result<Vec<u8>, Fail> {
+/// A text of many pieces: what stands in front, a piece and how often it stands, what is in the middle, and a piece that stands as often behind.
+struct Long {
+    pieces: [&'static str; 4],
+    times: usize,
+    counts: Counts,
+}
+
+const LONG: [Long; 3] = [
+    // one name, shadowed many times, each time by a value of the one before
+    Long {
+        pieces: ["", "local x = x ", "return x", ""],
+        times: 200000,
+        counts: Counts {
+            boxed: 0,
+            plain: 200000,
+            functions: 0,
+        },
+    },
+    // a variable that many functions capture, each through all those around it: 199 nodes stand above its use, and 201 would above the next
+    Long {
+        pieces: ["local x = 1 ", "return function() ", "return x", " end"],
+        times: 99,
+        counts: Counts {
+            boxed: 1,
+            plain: 0,
+            functions: 99,
+        },
+    },
+    // the same with local functions, each a single node: 200 nodes stand above the use, as many as may
+    Long {
+        pieces: ["local x = 1 ", "local function f() ", "return x", " end"],
+        times: 199,
+        counts: Counts {
+            boxed: 1,
+            plain: 199,
+            functions: 199,
+        },
+    },
+];
+
+fn text_of(alloc: Global, long: &Long) -> Result<Vec<u8>, Fail> {
     let mut text = Vec::new(alloc);
-    text.extend_from_slice(parts[0].as_bytes())?;
-    for _ in 0..times {
-        text.extend_from_slice(parts[1].as_bytes())?;
+    text.extend_from_slice(long.pieces[0].as_bytes())?;
+    for _ in 0..long.times {
+        text.extend_from_slice(long.pieces[1].as_bytes())?;
     }
-    text.extend_from_slice(parts[2].as_bytes())?;
-    for _ in 0..times {
-        text.extend_from_slice(parts[3].as_bytes())?;
+    text.extend_from_slice(long.pieces[2].as_bytes())?;
+    for _ in 0..long.times {
+        text.extend_from_slice(long.pieces[3].as_bytes())?;
     }
     Ok(text)
 }
@@ -151,18 +230,43 @@ fn repeated(alloc: Global, parts: [&str; 4], times: usize) -> Result<Vec<u8>, Fa
 fn long_texts_are_resolved(rt: HostRuntime) -> Result<(), Fail> {
     let alloc = rt.alloc();
     let seed = RandomState::new(&rt)?;
-    // one name, shadowed many times, each time by a value of the one before
-    let shadowed = repeated(alloc, ["", "local x = x ", "return x", ""], 200000)?;
-    let counts = counted(alloc, seed, shadowed.as_slice())?;
-    assert_eq!(rt; counts.plain, 200000);
-    // a variable that many functions capture, each through all those around it
-    let deep = repeated(
-        alloc,
-        ["local x = 1 ", "return function() ", "return x", " end"],
-        60,
-    )?;
-    let counts = counted(alloc, seed, deep.as_slice())?;
-    assert_eq!(rt; counts.boxed, 1);
-    assert_eq!(rt; counts.functions, 60);
+    for long in LONG.iter() {
+        let text = text_of(alloc, long)?;
+        let counts = counted(alloc, seed, text.as_slice())?;
+        check(&rt, counts, long.counts);
+    }
+    Ok(())
+}
+
+/// Functions inside one another, each with a parameter; the innermost gives all of them.
+fn with_parameters(alloc: Global, levels: usize) -> Result<Vec<u8>, Fail> {
+    let mut text = Vec::new(alloc);
+    for level in 0..levels {
+        let head = format!(in alloc; "local function f(a{level}) ")?;
+        text.extend_from_slice(head.as_bytes())?;
+    }
+    text.extend_from_slice(b"return 0")?;
+    for level in 0..levels {
+        let item = format!(in alloc; ",a{level}")?;
+        text.extend_from_slice(item.as_bytes())?;
+    }
+    for _ in 0..levels {
+        text.extend_from_slice(b" end")?;
+    }
+    Ok(text)
+}
+
+#[test]
+fn parameters_of_all_levels_are_captured(rt: HostRuntime) -> Result<(), Fail> {
+    let alloc = rt.alloc();
+    let text = with_parameters(alloc, 199)?;
+    let counts = counted(alloc, RandomState::new(&rt)?, text.as_slice())?;
+    // the innermost function's own parameter is plain, as is each function
+    let expected = Counts {
+        boxed: 198,
+        plain: 200,
+        functions: 199,
+    };
+    check(&rt, counts, expected);
     Ok(())
 }

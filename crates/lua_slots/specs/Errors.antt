@@ -5,6 +5,7 @@ use Rattle.page_run.specs.Outcome.{Goes, Jumps}
 use Rattle.lua_heap.specs.Proc.{Proc}
 use Rattle.lua_heap.specs.Value.{Value, Text}
 use Rattle.lua_meaning.specs.Scope.{Bytes, Place as TextPlace}
+use Rattle.lua_meaning.specs.Charges.{node_charge}
 use Rattle.lua_meaning.specs.Acts.{Jump, Raised}
 use Rattle.lua_meaning.specs.Messages.{place_text, nth_level, place_at}
 use Rattle.lua_meaning.specs.Arguments.{Plain, PlainEnd, Gives as PlainGives, Fails as PlainFails, Argument}
@@ -13,7 +14,7 @@ use Rattle.lua_slots.specs.Points.{SFrame, Gives, Move, Costs, Marks, Now}
 
 -- a node of the tree begins
 abbrev pub node : Move → Move
-node mv = Costs 1 (Marks mv)
+node mv = Costs node_charge (Marks mv)
 
 -- one move or the other
 abbrev pub choose : Bool → Move → Move → Move

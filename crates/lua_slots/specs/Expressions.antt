@@ -2,6 +2,7 @@
 use Rattle.std.specs.Prelude.{ℕ, ◌+◌, pos, Bool, true, false, not, List, [], ◌∷◌, ◌++◌, length, Some}
 use Rattle.lua_heap.specs.Value.{Value, Number, Text, Table, is_true}
 use Rattle.lua_heap.specs.Heap.{new_table}
+use Rattle.lua_meaning.specs.Charges.{table_charge, closure_charge}
 use Rattle.lua_meaning.specs.Values.{first}
 use Rattle.lua_slots.specs.Code.{CExp, ConstantC, DotsC, FunctionC, LocalC, GlobalC, IndexC, CallC, MethodC, TableC, AndC, OrC, OperateC, UnaryC, ParenC, CExps, NoC, MoreC, CFields, NoFieldC, ItemC, PairC}
 use Rattle.lua_slots.specs.Slots.{Slots, function_of, read_place, proc_of, with_closure, next_closure, with_heap}
@@ -40,13 +41,13 @@ with_table s = with_heap (new_table s.heap).0 s
 abbrev pub evals : CExp → List SFrame → Slots → Move
 evals (ConstantC v) fs s = node (gives (v ∷ []) fs s)
 evals DotsC fs s = node (Costs (length (function_of s).dots) (gives (function_of s).dots fs s))
-evals (FunctionC index places) fs s = node (Costs 8 (gives (next_closure s ∷ []) fs (with_closure (proc_of index places s) s)))
+evals (FunctionC index places) fs s = node (Costs closure_charge (gives (next_closure s ∷ []) fs (with_closure (proc_of index places s) s)))
 evals (LocalC p) fs s = node (gives (read_place s p ∷ []) fs s)
 evals (GlobalC x line) fs s = node (index_table s.globals (Text x) (Some line) (First ∷ fs) s)
 evals (IndexC of key line) fs s = node (Now (Evals of (KeyNext key line ∷ fs)) s)
 evals (CallC f args line) fs s = node (Now (Evals f (ArgumentsNext args line ∷ fs)) s)
 evals (MethodC of x args line) fs s = node (Now (Evals of (MethodNext x args line ∷ fs)) s)
-evals (TableC cs line) fs s = node (Costs 8 (fields (new_table s.heap).1 1 cs line fs (with_table s)))
+evals (TableC cs line) fs s = node (Costs table_charge (fields (new_table s.heap).1 1 cs line fs (with_table s)))
 evals (AndC a b) fs s = node (Now (Evals a (DecideNext false b ∷ fs)) s)
 evals (OrC a b) fs s = node (Now (Evals a (DecideNext true b ∷ fs)) s)
 evals (OperateC o a b line) fs s = node (Now (Evals a (OperandNext o b line ∷ fs)) s)

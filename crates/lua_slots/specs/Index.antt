@@ -4,6 +4,7 @@ use Rattle.std.specs.Prelude.{ℕ, ◌||◌, List, [], ◌∷◌, Option, codes}
 use Rattle.lua_heap.specs.Value.{Value, Nil, Text, Table, Markup, is_nil}
 use Rattle.lua_heap.specs.Table.{get, has}
 use Rattle.lua_heap.specs.Heap.{table_at, set_in}
+use Rattle.lua_meaning.specs.Charges.{entry_charge}
 use Rattle.lua_meaning.specs.Values.{is_function}
 use Rattle.lua_meaning.specs.Messages.{cannot_index, nil_key, read_only}
 use Rattle.lua_meaning.specs.Metatables.{handler}
@@ -40,7 +41,7 @@ abbrev pub put_entry : ℕ → Value → Value → List SFrame → Slots → Mov
 put_entry t key value fs s =
     choose (has (table_at s.heap t).entries key || is_nil value)
     (gives [] fs (with_entry t key value s))
-    (Costs 4 (gives [] fs (with_entry t key value s)))
+    (Costs entry_charge (gives [] fs (with_entry t key value s)))
 
 abbrev pub set_entry : ℕ → Value → Value → Option ℕ → List SFrame → Slots → Move
 set_entry t key value line fs s =

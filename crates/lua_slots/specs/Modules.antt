@@ -9,6 +9,7 @@ use Rattle.lua_syntax.specs.declared.fault.FaultAt.{FaultAt}
 use Rattle.page_run.specs.Outcome.{Outcome, Goes, Jumps}
 use Rattle.lua_heap.specs.Value.{Value, Nil, Truth, Text, Table}
 use Rattle.lua_heap.specs.Heap.{set_meta_in}
+use Rattle.lua_meaning.specs.Charges.{filled_table_charge}
 use Rattle.lua_meaning.specs.Scope.{Bytes}
 use Rattle.lua_meaning.specs.Titled.{item_of, with_item, without_item}
 use Rattle.lua_meaning.specs.Questions.{DataAsked}
@@ -68,7 +69,7 @@ require_titled world text (Err fault) line fs s = fails line (no_module text) fs
 abbrev pub require_text : CWorld → Bytes → Option ℕ → List SFrame → Slots → Move
 require_text world text line fs s =
     choose (bytes_eq text (codes "strict"))
-    (Costs 16 (gives (Truth true ∷ []) fs (with_strict s)))
+    (Costs (filled_table_charge 2) (gives (Truth true ∷ []) fs (with_strict s)))
     (require_titled world text (title_of text Main) line fs s)
 
 abbrev pub require : CWorld → List Value → Option ℕ → List SFrame → Slots → Move

@@ -7,6 +7,7 @@ use Rattle.mw_frame.specs.declared.scene.Job.{Job}
 use Rattle.page_run.specs.Outcome.{Outcome, Goes, Jumps}
 use Rattle.mw_html.specs.Render.{Piece, Whole, Deep, count, render}
 use Rattle.lua_heap.specs.Value.{Value, Text, Table, Markup, is_nil}
+use Rattle.lua_meaning.specs.Charges.{run_charge}
 use Rattle.lua_meaning.specs.Scope.{Bytes}
 use Rattle.lua_meaning.specs.Values.{is_function}
 use Rattle.lua_meaning.specs.Acts.{Jump, Raised, Unmade}
@@ -61,7 +62,7 @@ with_frame job s = record s { heap = make_frame job.scene 0 s.heap; frames = new
 
 abbrev pub invokes : CWorld → Job → List SFrame → Slots → Move
 invokes world job fs s =
-    Costs 1000 (Costs (args_charge job.scene.args)
+    Costs run_charge (Costs (args_charge job.scene.args)
     (require_module world (title_text job.«module») job.«module» None (ModuleFound job.function (frame_table s.heap) ∷ fs) (with_frame job s)))
 
 abbrev pub invoke_in : Bytes → Value → Value → List SFrame → Slots → Move
@@ -81,4 +82,4 @@ runs_data title None fs s = fails None (no_data_module (title_text title)) fs s
 
 abbrev pub works : CWorld → Work → Slots → Move
 works world (Invoke job) s = invokes world job [] s
-works world (DataOf title) s = Costs 1000 (runs_data title (world.modules (title_text title)) (DataNow ∷ []) s)
+works world (DataOf title) s = Costs run_charge (runs_data title (world.modules (title_text title)) (DataNow ∷ []) s)

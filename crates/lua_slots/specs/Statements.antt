@@ -1,6 +1,7 @@
 -- STATEMENTS (manual 2.4). Each begins with its node, and gives no values.
 use Rattle.std.specs.Prelude.{List, [], ◌∷◌, ◌++◌, length, Option, Some, None}
 use Rattle.lua_heap.specs.Value.{Value, Text, Table}
+use Rattle.lua_meaning.specs.Charges.{closure_charge}
 use Rattle.lua_meaning.specs.Values.{first, rest}
 use Rattle.lua_meaning.specs.Acts.{Broke, Raised}
 use Rattle.lua_meaning.specs.Messages.{no_target}
@@ -65,5 +66,5 @@ executes BreakC fs s = node (jumps Broke fs s)
 abbrev pub runs : CBlock → List SFrame → Slots → Move
 runs EndC fs s = gives [] fs s
 runs (DeclareC flags values more) fs s = node (Now (Lists values [] (DeclareNow flags more ∷ fs)) s)
-runs (LocalFunctionC boxed index places more) fs s = node (Costs 8 (Now (Runs more fs) (with_function_named boxed index places s)))
+runs (LocalFunctionC boxed index places more) fs s = node (Costs closure_charge (Now (Runs more fs) (with_function_named boxed index places s)))
 runs (ThenC c more) fs s = executes c (StatsNext more ∷ fs) s

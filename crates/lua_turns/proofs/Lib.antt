@@ -2,3 +2,4 @@ pub mod Following
 pub mod Freely
 pub mod Turning
 pub mod Entries
+pub mod Entered

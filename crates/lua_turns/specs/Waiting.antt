@@ -15,6 +15,7 @@ Waits fs (waiting.Declares flags rest) = IsNewest fs (frame.Statement (in_statem
 Waits fs waiting.Returns = IsNewest fs (frame.Statement in_statement.ReturnNow)
 Waits fs (waiting.Operand op b line) = IsNewest fs (frame.Expression (in_expression.OperandNext op b line))
 Waits fs (waiting.Operates op a line) = IsNewest fs (frame.Expression (in_expression.OperateNow op a line))
+Waits fs (waiting.Calls f line) = IsNewest fs (frame.Expression (in_expression.CallNow f line))
 Waits fs (waiting.Last rest) = (rest.now ≡ []) × IsNewest fs (frame.Expression (in_expression.MoreNext rest []))
 Waits fs (waiting.Block depth) = IsNewest fs (frame.End (ending.BlockEnd depth))
 Waits fs waiting.Body = IsNewest fs (frame.End ending.BodyEnd)

@@ -7,6 +7,8 @@
 //! - `giving`: a value reaches what waits for it
 //! - `ending`: no value does
 //! - `passing`: a `return` does
+//! - `entering`: a function of Lua is entered
+//! - `calling`: arguments reach the frame that calls
 //! - `setting`: an entry that is set
 //! - `beginning`: an operator or a `return` whose operands are not read in place
 //! - `rows`: strides in a row
@@ -15,8 +17,10 @@
 #![tactic(auto)]
 
 pub mod beginning;
+pub mod calling;
 pub mod counting;
 pub mod ending;
+pub mod entering;
 pub mod giving;
 pub mod leaving;
 pub mod passing;

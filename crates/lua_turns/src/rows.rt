@@ -12,6 +12,7 @@ ghost use Rattle.lua_strides.specs.Strides.{MayStride};
 ghost use Rattle.lua_turns.specs.Rows.{Follows, MayFollow};
 
 use crate::beginning::{begin_operator, begin_return};
+use crate::calling::call;
 use crate::ending::end;
 use crate::giving::give;
 use crate::passing::pass;
@@ -138,7 +139,7 @@ fn follow<'m, L: Ledger>(
 {
     match next {
         Next::Gives(value) => give(store, state, *value),
-        Next::GivesAll(_) => Ok(None),
+        Next::GivesAll(arguments) => call(alloc, store, left, state, arguments, turns),
         Next::GivesNone => end(store, left, state, turns),
         Next::Returns(value) => pass(store, left, state, *value),
         Next::Evaluates(e) => evaluate(alloc, store, left, state, *e, turns),

@@ -37,6 +37,8 @@ pub enum Waiting<'m> {
     Operand(Operator, &'m Expression, u32),
     /// An operator for its second operand.
     Operates(Operator, Value, u32),
+    /// A call of this value, for its arguments.
+    Calls(Value, u32),
     /// A list with nothing before, for its last expression.
     Last(&'m [Expression]),
     /// The end of a block that has so many registers below it.
@@ -85,6 +87,7 @@ fn of_expression<'m>(frame: &InExpression<'m>) -> Waiting<'m>
     match frame {
         InExpression::OperandNext(op, b, line) => Waiting::Operand(*op, *b, *line),
         InExpression::OperateNow(op, a, line) => Waiting::Operates(*op, *a, *line),
+        InExpression::CallNow(called, line) => Waiting::Calls(*called, *line),
         InExpression::MoreNext(rest, before) => of_list(*rest, before),
         _ => Waiting::Other,
     }

@@ -19,7 +19,7 @@ fn count(alloc: Global, text: &[u8]) -> Result<Counts, NoMemory> {
     let marked = markup(alloc, &page)?;
     Ok(Counts {
         bytes: page.bytes.as_slice().len(),
-        nodes: marked.nodes.as_slice().len(),
+        nodes: marked.len(),
     })
 }
 

@@ -3,6 +3,8 @@
 //! - `tags`: the tag of an object
 //! - `levels`: an object with all that is in it, at most 200 objects down
 //! - `giving`: what is given, and what it costs
+//!
+//! Begin with `specs/Given.antt`.
 #![tactic(auto)]
 
 pub mod giving;

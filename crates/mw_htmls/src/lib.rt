@@ -12,6 +12,8 @@
 //! - `classes`: `addClass`, `getAttr` and `cssText`
 //! - `above`: `done` and `allDone`
 //! - `call`: a function is called
+//!
+//! Begin with `specs/Table.antt`, then `specs/Nodes.antt`. What each function gives stands in `specs/Html.antt` of `lua_meaning`.
 #![tactic(auto)]
 
 pub mod above;

@@ -5,7 +5,7 @@ ghost use Rattle.page_replies.specs.Driven.{InProgress, IsStarting, MovesOn, Com
 ghost use Rattle.page_replies.specs.Moving.{Sinks, SinksToQuestion, IsQuestionIf, TakesSteps};
 
 use lua_store::Store;
-use page_ground::around::Around;
+use page_ground::context::Context;
 use page_replies::asking::answer_question;
 use page_replies::handing::hand_over;
 use page_replies::stacking::invoke;
@@ -17,7 +17,7 @@ use wk_base::{Left, NoMemory, Steps};
 
 /// A page moves on, from a task that has halted to the next that halts.
 pub fn move_on<'w, L: Ledger>(
-    around: &Around<'w>,
+    around: &Context<'w>,
     store: &mut Store,
     left: &mut Left,
     tower: &mut Tower<'w>,
@@ -51,7 +51,7 @@ fn asks_lua(halted: &Halted<'_>) -> bool
 
 /// Moves on until a run of Lua asks, or until the page is expanded.
 fn move_to_question<'w, L: Ledger>(
-    around: &Around<'w>,
+    around: &Context<'w>,
     store: &mut Store,
     left: &mut Left,
     tower: &mut Tower<'w>,
@@ -77,7 +77,7 @@ fn move_to_question<'w, L: Ledger>(
 
 /// Moves on past the next question of Lua.
 fn pass_question<'w, L: Ledger>(
-    around: &Around<'w>,
+    around: &Context<'w>,
     store: &mut Store,
     left: &mut Left,
     tower: &mut Tower<'w>,
@@ -100,7 +100,7 @@ fn pass_question<'w, L: Ledger>(
 
 /// Goes on with the first task of a page, and with all that it leads to, until the page is expanded.
 pub fn drive<'w, L: Ledger>(
-    around: &Around<'w>,
+    around: &Context<'w>,
     store: &mut Store,
     left: &mut Left,
     tower: &mut Tower<'w>,

@@ -16,7 +16,7 @@ use bumpalo::Bump;
 use lua_state::World;
 use lua_store::Store;
 use mw_frame::Job;
-use page_ground::around::Around;
+use page_ground::context::Context;
 use page_ground::numbers::Numbers;
 use page_meaning::JobOutcome;
 use page_tasks::beginning::begin_invocation;
@@ -46,7 +46,7 @@ fn outcome_in(alloc: Global, reply: Reply) -> JobOutcome
 
 /// Runs an invocation as the first run in a new store.
 fn run_within<L: Ledger>(
-    around: &Around<'_>,
+    around: &Context<'_>,
     store: &mut Store,
     job: Job,
     limits: &Limits,
@@ -91,7 +91,7 @@ fn run_in<L: Ledger>(
         page,
         modules: &wiki.modules,
     };
-    let around = Around {
+    let around = Context {
         alloc,
         seed,
         pages: &wiki.pages,

@@ -19,7 +19,7 @@ use crate::wiki::{Page, Wiki};
 use bumpalo::Bump;
 use lua_state::World;
 use lua_store::Store;
-use page_ground::around::Around;
+use page_ground::context::Context;
 use page_ground::ending::outcome_text;
 use page_ground::numbers::Numbers;
 use page_tasks::beginning::begin_page;
@@ -59,7 +59,7 @@ struct Came {
 
 /// Goes on with the page's own expansion, with all that the page may use.
 fn come_from<'w, L: Ledger>(
-    around: &Around<'w>,
+    around: &Context<'w>,
     store: &mut Store,
     limits: &Limits,
     root: Task<'w>,
@@ -86,7 +86,7 @@ fn come_from<'w, L: Ledger>(
 
 /// Expands the page.
 fn expand_within<L: Ledger>(
-    around: &Around<'_>,
+    around: &Context<'_>,
     store: &mut Store,
     limits: &Limits,
     turns: &mut Steps<L>,
@@ -134,7 +134,7 @@ pub fn expand_page_in<L: Ledger>(
         page: title,
         modules: &wiki.modules,
     };
-    let around = Around {
+    let around = Context {
         alloc,
         seed,
         pages: &wiki.pages,

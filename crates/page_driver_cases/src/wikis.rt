@@ -10,7 +10,7 @@ use lua_syntax::{FaultAt, SyntaxFault};
 use page_driver::Wiki;
 use std::alloc::Global;
 use std::hash::RandomState;
-use wiki_expand::PageMap;
+use wiki_expand::{Entry, PageMap};
 use wiki_markup::{Marked, Mode, markup, shown};
 use wk_base::{Bytes, Limits, Namespace, NoMemory, Title};
 
@@ -46,7 +46,7 @@ fn add_page(alloc: Global, pages: &mut PageMap, title: Title, text: &[u8]) -> Re
     if pages.holds(&title) {
         return Ok(());
     }
-    pages.add(title, direct, transcluded)
+    pages.add(title, Entry::apart(direct, transcluded))
 }
 
 /// The code of a text, or its first fault.

@@ -8,14 +8,14 @@ use Rattle.lua_meaning.specs.World.{Modules}
 use Rattle.lua_slots.specs.IsCode.{Agrees}
 use Rattle.lua_state.specs.declared.codes.World.{World}
 use Rattle.lua_code.specs.Held.{Held, modules_seen}
-use Rattle.page_ground.specs.declared.around.Around.{Around}
+use Rattle.page_ground.specs.declared.context.Context.{Context}
 use Rattle.page_meaning.specs.Wiki.{Wiki}
 
 pub record Ground : Type 0 where
   pub world : World
   pub pages : Pages
 
-abbrev pub ground_of : Around → Ground
+abbrev pub ground_of : Context → Ground
 ground_of a = record { world = a.world; pages = a.pages.now }
 
 abbrev pub page_of : Ground → Title

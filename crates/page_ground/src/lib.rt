@@ -1,7 +1,7 @@
 //! What the tasks of a page stand on (MediaWiki, Extension:Scribunto): what nothing on a page changes, what runs of Lua come to, and the data that
 //! is kept.
 //!
-//! - `around`: what nothing on a page changes
+//! - `context`: what nothing on a page changes
 //! - `data`: what the load of a data module gave
 //! - `ending`: how an invocation ended and its text, or the data that a load gave
 //! - `held`: whether a module is held
@@ -12,7 +12,7 @@
 //! Begin with `specs/Ground.antt`, then `specs/Kept.antt`.
 #![tactic(auto)]
 
-pub mod around;
+pub mod context;
 pub mod data;
 pub mod ending;
 pub mod held;

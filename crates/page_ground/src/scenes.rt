@@ -6,7 +6,7 @@ ghost use Rattle.expand_meaning.specs.Expand.{found};
 ghost use Rattle.expand_meaning.specs.Outcome.{page_scene};
 ghost use Rattle.page_meaning.specs.Wiki.{read};
 
-use crate::around::Around;
+use crate::context::Context;
 use expand_texts::arguments::Arguments;
 use mw_frame::{Arg, Scene};
 use std::alloc::Global;
@@ -30,7 +30,7 @@ fn add_named(names: &mut Arguments, arg: &Arg) -> Result<(), NoMemory>
 }
 
 /// These are arguments of a frame: no two have one name.
-pub fn check_names(around: &Around<'_>, args: &[Arg]) -> Result<(), NoMemory>
+pub fn check_names(around: &Context<'_>, args: &[Arg]) -> Result<(), NoMemory>
     ensures { OnOk result (NamesDiffer args.now) }
 {
     let mut names = Arguments::new(around.alloc, around.seed);

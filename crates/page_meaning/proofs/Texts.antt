@@ -6,8 +6,7 @@ use Rattle.wk_base.specs.Space.{trim}
 use Rattle.wk_base.specs.declared.left.Left.{Left}
 use Rattle.wk_base.specs.declared.title.Title.{Title}
 use Rattle.wk_base.specs.declared.title.Namespace.TheVariants.{Module}
-use Rattle.wiki_markup.specs.declared.marked.NodeKind.{NodeKind}
-use Rattle.wiki_markup.specs.declared.marked.NodeKind.TheVariants.{Text, Construct, Parameter, Part, Equals}
+use Rattle.wiki_markup.specs.Nodes.{NodeKind, Text, Construct, Parameter, Part, Equals}
 use Rattle.wiki_markup.specs.Trees.{Trees, done, text, equals, node}
 use Rattle.mw_frame.specs.declared.scene.Arg.{Arg}
 use Rattle.mw_frame.specs.declared.scene.Scene.{Scene}

@@ -34,7 +34,7 @@ use Rattle.page_meaning.specs.Told.{Seen}
 use Rattle.page_meaning.specs.Outcomes.{end_outcome}
 use Rattle.page_meaning.specs.Tasks.{Running, OfLua, Wants, lua_reply, lua_progress, progress}
 use Rattle.page_points.specs.Places.{Place, beginning, replied, next_of}
-use Rattle.page_points.specs.Machines.{KnowsHeight, Stood, counts, gone, end_told, spent_told, EndsAs}
+use Rattle.page_points.specs.Machines.{KnowsHeight, MachineStands, counts, gone, end_told, spent_told, EndsAs}
 use Rattle.page_points.proofs.Ends.{has_ended, is_spent, same_outcome, same_told, spent_response, left_after}
 
 -- HEIGHTS
@@ -49,17 +49,17 @@ height_told (DataOf title) first e n k = k
 module _ (code : CWorld) (wiki : Wiki) (page : Title) where
   -- IT IS STARTED
   pub machine_starts : (work : Work) (before : Heap Proc) (s : Slots) → Starts code work before s → Agrees (world wiki page) code → (first : Left) (began : WalkState)
-      → Stood code (world wiki page) (record (beginning (Running work) first began) { within = with_new nowhere before s.heap }) (Works work) s first 0 0
+      → MachineStands code (world wiki page) (record (beginning (Running work) first began) { within = with_new nowhere before s.heap }) (Works work) s first 0 0
   machine_starts work before s st agrees first began = record { work = work; is = refl; told = no_tally; at = st (world wiki page) agrees first; nodes = refl; knows = begins work }
     where
       begins : (work : Work) → KnowsHeight work 0 0
       begins (Invoke job) = tt
       begins (DataOf title) = refl
 
-  module _ (p : Place) (point : Point) (s : Slots) (left : Left) (calls height : ℕ) (m : Stood code (world wiki page) p point s left calls height) where
+  module _ (p : Place) (point : Point) (s : Slots) (left : Left) (calls height : ℕ) (m : MachineStands code (world wiki page) p point s left calls height) where
     -- IT ASKS
     pub machine_asks : (q : Ask) (fs : List SFrame) (t : Slots) (left' : Left) (calls' high n : ℕ) → GoIs code point s left calls (Waiting q fs t (counts left' calls' high n))
-        → Stood code (world wiki page) (gone p s.heap t.heap n) (Asking q fs) t left' calls' (max height high) × (next_of wiki page p ≡ Wants (OfLua q) left') × Frame p.within s.heap t.heap
+        → MachineStands code (world wiki page) (gone p s.heap t.heap n) (Asking q fs) t left' calls' (max height high) × (next_of wiki page p ≡ Wants (OfLua q) left') × Frame p.within s.heap t.heap
     machine_asks q fs t left' calls' high n g =
         let e = g.goes_to p.within (world wiki page) m.work p.first p.given m.told m.at in
         let f = telling m.told (counts left' calls' high n) in
@@ -109,13 +109,13 @@ module _ (code : CWorld) (wiki : Wiki) (page : Title) where
         )
 
     -- IT WAITS while another one goes on, which leaves its set alone
-    pub machine_waits : (t : Heap Proc) → ((r : Ref) (o : Obj Proc) → IsTrue (p.within r) → look s.heap r ≡ Some o → look t r ≡ Some o) → Stood code (world wiki page) p point (with_heap t s) left calls height
+    pub machine_waits : (t : Heap Proc) → ((r : Ref) (o : Obj Proc) → IsTrue (p.within r) → look s.heap r ≡ Some o → look t r ≡ Some o) → MachineStands code (world wiki page) p point (with_heap t s) left calls height
     machine_waits t same = record { work = m.work; is = m.is; told = m.told; at = point_looks_at_set code p.within (world wiki page) m.work p.first p.given point s (fund left calls m.told) t m.at same; nodes = m.nodes; knows = m.knows }
 
-  module _ (p : Place) (q : Ask) (fs : List SFrame) (s : Slots) (left : Left) (calls height : ℕ) (m : Stood code (world wiki page) p (Asking q fs) s left calls height) where
+  module _ (p : Place) (q : Ask) (fs : List SFrame) (s : Slots) (left : Left) (calls height : ℕ) (m : MachineStands code (world wiki page) p (Asking q fs) s left calls height) where
     -- IT IS ANSWERED
     pub machine_is_answered : (a : Answer) (o : Outcome (List Value) Jump) (K : Set) → GoesOnWith code q fs s a o → IsToldAs K p.within s.heap a o → (r : Reply Answer) → r.response ≡ Says a → (high : ℕ) → KnowsHeight m.work r.tally.height high
-        → Stood code (world wiki page) (record (replied p r) { within = union p.within K }) (Gives o fs) s r.left calls (max height (calls + high))
+        → MachineStands code (world wiki page) (record (replied p r) { within = union p.within K }) (Gives o fs) s r.left calls (max height (calls + high))
     machine_is_answered a o K g k r e high h =
         let at = g p.within K (world wiki page) m.work p.first p.given (fund left calls m.told) m.at k r.left r.tally in
         let f = with_reply (reply a r.left r.tally) (fund left calls m.told) in

@@ -35,7 +35,7 @@ KnowsHeight (DataOf title) told height = told ≡ height
 
 -- A machine with this code stands at the point of the place's run, with so much left and so many calls in progress; its counts are those
 -- that were told of the run.
-pub record Stood (code : CWorld) (world : World) (p : Place) (point : Point) (s : Slots) (left : Left) (calls height : ℕ) : Type 0 where
+pub record MachineStands (code : CWorld) (world : World) (p : Place) (point : Point) (s : Slots) (left : Left) (calls height : ℕ) : Type 0 where
   pub work : Work
   pub is : p.task ≡ Running work
   pub told : Tally

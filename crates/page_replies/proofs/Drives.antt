@@ -4,7 +4,7 @@ use Rattle.std.specs.Prelude.{min, IsSome, IfSome, is_some, option_map}
 use Rattle.wk_base.specs.declared.left.Left.{Left}
 use Rattle.wk_base.specs.declared.title.Title.{Title}
 use Rattle.wiki_expand.specs.Pages.{Pages, find_page, included_of, included_in}
-use Rattle.wiki_expand.specs.declared.pages.Entry.{Entry}
+use Rattle.wiki_expand.specs.Entries.{Entry}
 use Rattle.lua_store.specs.Seen.{StoreView}
 use Rattle.page_run.specs.State.{Gives}
 use Rattle.lua_machine.specs.declared.machine.Machine.{Machine}

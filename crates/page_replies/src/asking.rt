@@ -17,7 +17,7 @@ use crate::stacking::{go_above, push_run, push_task};
 use crate::tower::{Next, Tower};
 use lua_store::Store;
 use mw_frame::{Arg, Ask, Scene};
-use page_ground::around::Around;
+use page_ground::context::Context;
 use page_ground::held::is_held;
 use page_ground::keep::{Kept, find_covered};
 use page_tasks::beginning::{begin_load, begin_template, begin_text};
@@ -29,7 +29,7 @@ use wk_base::{Bytes, Left, List, NoMemory, Steps, Title};
 
 /// A template is expanded above the task that asks; where there is none of that title, the task is told so.
 fn ask_template<'w, L: Ledger>(
-    around: &Around<'w>,
+    around: &Context<'w>,
     store: &mut Store,
     left: &mut Left,
     tower: &mut Tower<'w>,
@@ -56,7 +56,7 @@ fn ask_template<'w, L: Ledger>(
 
 /// A text is expanded above the task that asks.
 fn ask_text<'w, L: Ledger>(
-    around: &Around<'w>,
+    around: &Context<'w>,
     store: &mut Store,
     left: &mut Left,
     tower: &mut Tower<'w>,
@@ -100,7 +100,7 @@ fn serve_kept<'w, L: Ledger>(
 
 /// A module of data is loaded above the task that asks, in a run with the next number.
 fn ask_load<'w, L: Ledger>(
-    around: &Around<'w>,
+    around: &Context<'w>,
     store: &mut Store,
     left: &mut Left,
     tower: &mut Tower<'w>,
@@ -123,7 +123,7 @@ fn ask_load<'w, L: Ledger>(
 
 /// Data of a module that is held is served from what is kept, where that is covered; else the module is loaded above the task that asks.
 fn ask_held_data<'w, L: Ledger>(
-    around: &Around<'w>,
+    around: &Context<'w>,
     store: &mut Store,
     left: &mut Left,
     tower: &mut Tower<'w>,
@@ -149,7 +149,7 @@ fn ask_held_data<'w, L: Ledger>(
 
 /// Data of a module. Where none of that title is held, the task that asks is told so.
 fn ask_known_data<'w, L: Ledger>(
-    around: &Around<'w>,
+    around: &Context<'w>,
     store: &mut Store,
     left: &mut Left,
     tower: &mut Tower<'w>,
@@ -172,7 +172,7 @@ fn ask_known_data<'w, L: Ledger>(
 
 /// Data of a module.
 fn ask_data<'w, L: Ledger>(
-    around: &Around<'w>,
+    around: &Context<'w>,
     store: &mut Store,
     left: &mut Left,
     tower: &mut Tower<'w>,
@@ -195,7 +195,7 @@ fn ask_data<'w, L: Ledger>(
 
 /// A question is answered at once, or a task begins that answers it.
 pub fn answer_question<'w, L: Ledger>(
-    around: &Around<'w>,
+    around: &Context<'w>,
     store: &mut Store,
     left: &mut Left,
     tower: &mut Tower<'w>,

@@ -15,7 +15,7 @@ ghost use Rattle.page_replies.specs.Moving.{comes_with, loads_with, tower_with, 
 use crate::tower::{Next, Tower};
 use lua_machine::Machine;
 use lua_store::Store;
-use page_ground::around::Around;
+use page_ground::context::Context;
 use page_ground::data::Data;
 use page_ground::keep::{Keep, Kept, keep_first};
 use page_ground::numbers::Numbers;
@@ -72,7 +72,7 @@ fn tell_kept<'w, L: Ledger>(
 
 /// What a load gave is kept, and told to the task that asked for it.
 fn hand_loaded<'w, L: Ledger>(
-    around: &Around<'w>,
+    around: &Context<'w>,
     store: &mut Store,
     left: &mut Left,
     tower: &mut Tower<'w>,
@@ -110,7 +110,7 @@ fn hand_loaded<'w, L: Ledger>(
 
 /// Data, to which only a load comes.
 fn hand_data<'w, L: Ledger>(
-    around: &Around<'w>,
+    around: &Context<'w>,
     store: &mut Store,
     left: &mut Left,
     tower: &mut Tower<'w>,
@@ -135,7 +135,7 @@ fn hand_data<'w, L: Ledger>(
 
 /// The newest of those that wait is told the reply, and goes on until it halts.
 fn hand_down<'w, L: Ledger>(
-    around: &Around<'w>,
+    around: &Context<'w>,
     store: &mut Store,
     left: &mut Left,
     tower: &mut Tower<'w>,
@@ -178,7 +178,7 @@ fn leave_run(store: &mut Store, numbers: &mut Numbers, task: &Task<'_>)
 
 /// A task has come to its reply, and is left: where nobody waits the page is expanded.
 pub fn hand_over<'w, L: Ledger>(
-    around: &Around<'w>,
+    around: &Context<'w>,
     store: &mut Store,
     left: &mut Left,
     tower: &mut Tower<'w>,

@@ -8,7 +8,7 @@ ghost use Rattle.page_replies.specs.Moving.{invokes_with, tower_with, GoesDown, 
 use crate::tower::{Next, Tower};
 use lua_store::Store;
 use mw_frame::Job;
-use page_ground::around::Around;
+use page_ground::context::Context;
 use page_tasks::beginning::begin_invocation;
 use page_tasks::going::go_on;
 use page_tasks::task::Task;
@@ -39,7 +39,7 @@ pub(crate) fn push_run<'w>(
 
 /// Goes on with a task that has begun above all that wait.
 pub(crate) fn go_above<'w, L: Ledger>(
-    around: &Around<'w>,
+    around: &Context<'w>,
     store: &mut Store,
     left: &mut Left,
     tower: &Tower<'w>,
@@ -57,7 +57,7 @@ pub(crate) fn go_above<'w, L: Ledger>(
 
 /// An expansion asks for an invocation, which begins above it, with the next number.
 pub fn invoke<'w, L: Ledger>(
-    around: &Around<'w>,
+    around: &Context<'w>,
     store: &mut Store,
     left: &mut Left,
     tower: &mut Tower<'w>,

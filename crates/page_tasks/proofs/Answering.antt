@@ -32,7 +32,7 @@ use Rattle.wiki_expand.specs.declared.expander.Expander.{Expander}
 use Rattle.page_meaning.specs.declared.outcome.JobOutcome.TheVariants as ending
 use Rattle.page_meaning.specs.Tasks.{Running, text_of}
 use Rattle.page_points.specs.Places.{Place, replied}
-use Rattle.page_points.specs.Machines.{KnowsHeight, Stood, spent_told, EndedSo, EndsAs}
+use Rattle.page_points.specs.Machines.{KnowsHeight, MachineStands, spent_told, EndedSo, EndsAs}
 use Rattle.page_points.specs.Apart.{LeavesAlone}
 use Rattle.page_points.proofs.Machines.{machine_is_answered, machine_is_refused}
 use Rattle.page_points.proofs.Apart.{nothing_changes, answering_leaves, one_after_another}
@@ -97,7 +97,7 @@ module _ (s : StoreView) (m : Machine) (o : Outcome (List Value) Jump) (high : �
     there = record (replied p r) { within = union p.within K }
 
     abbrev StoodAt : Point → Slots → Left → ℕ → ℕ → Type 0
-    StoodAt point slots left calls height = Stood (world_seen g.world) (world (wiki_of g modules) (page_of g)) there point slots left calls height
+    StoodAt point slots left calls height = MachineStands (world_seen g.world) (world (wiki_of g modules) (page_of g)) there point slots left calls height
 
     answers : AnswersWith (world_seen g.world) w.question (frames_of s m.state) (slots_of s m.state) a o
     answers =

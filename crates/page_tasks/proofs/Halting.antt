@@ -25,7 +25,7 @@ use Rattle.page_meaning.specs.Outcomes.{end_outcome}
 use Rattle.page_meaning.specs.Tasks.{Running, OfLua, Wants}
 use Rattle.page_meaning.proofs.OutcomeLaws.{end_is_told}
 use Rattle.page_points.specs.Places.{Place, next_of}
-use Rattle.page_points.specs.Machines.{KnowsHeight, Stood, gone, end_told, spent_told, EndedSo, EndsAs}
+use Rattle.page_points.specs.Machines.{KnowsHeight, MachineStands, gone, end_told, spent_told, EndedSo, EndsAs}
 use Rattle.page_points.specs.Apart.{LeavesAlone}
 use Rattle.page_points.proofs.Machines.{machine_asks, machine_ends, machine_is_spent}
 use Rattle.page_points.proofs.Apart.{going_leaves}
@@ -158,7 +158,7 @@ module _ (s : StoreView) (left : Left) (k : ℕ) (m : Machine) (s' : StoreView) 
         (subst (Ended (ending.Spent w) (spent_told stood.work w) left') (sym c.height) x.0, going_leaves p.within s.heap s'.heap x.1)
     comes_by (event.Asks q) i back =
         let x = machine_asks (world_seen g.world) (wiki_of g modules) (page_of g) p (point_of s m.state m.next) (slots_of s m.state) left m.state.calls m.height stood q (frames_of s' m'.state) (slots_of s' m'.state) left' m'.state.calls m'.state.height n i in
-        ((x.1, record { question = q; left = left'; stood = subst (Stood (world_seen g.world) (world (wiki_of g modules) (page_of g)) there (Asking q (frames_of s' m'.state)) (slots_of s' m'.state) left' m'.state.calls) (sym c.height) x.0 }), going_leaves p.within s.heap s'.heap x.2)
+        ((x.1, record { question = q; left = left'; stood = subst (MachineStands (world_seen g.world) (world (wiki_of g modules) (page_of g)) there (Asking q (frames_of s' m'.state)) (slots_of s' m'.state) left' m'.state.calls) (sym c.height) x.0 }), going_leaves p.within s.heap s'.heap x.2)
 
     comes : Came e × LeavesAlone p.within s.heap s'.heap there.within
     comes = comes_by e goes_to c.back

@@ -27,7 +27,7 @@ use Rattle.lua_machine.specs.Events.{MachineOf}
 use Rattle.page_meaning.specs.Wiki.{world}
 use Rattle.page_meaning.specs.Tasks.{Running, Expanding}
 use Rattle.page_points.specs.Places.{Place, beginning}
-use Rattle.page_points.specs.Machines.{Stood}
+use Rattle.page_points.specs.Machines.{MachineStands}
 use Rattle.page_points.proofs.Machines.{machine_starts}
 use Rattle.page_points.proofs.Apart.{nothing_changes, going_leaves}
 use Rattle.page_tasks.specs.declared.task.Begun.{Begun}
@@ -47,9 +47,9 @@ machine_begins g w s t m of on next starts idle frame later = record {
       let place : Place = record (beginning (Running (work_seen w)) l began) { within = with_new nowhere s.heap t.heap } in
       let x = machine_starts (world_seen g.world) (wiki_of g modules) (page_of g) (work_seen w) s.heap (slots_of t m.state) (starts (world_seen g.world)) agree.agree l began in (
         with_new nowhere s.heap t.heap,
-        subst (λ (p : Point). Stood (world_seen g.world) (world (wiki_of g modules) (page_of g)) place p (slots_of t m.state) l m.state.calls m.height) (sym next)
-            (subst (λ n. Stood (world_seen g.world) (world (wiki_of g modules) (page_of g)) place (Works (work_seen w)) (slots_of t m.state) l n m.height) (sym idle.0)
-            (subst (λ n. Stood (world_seen g.world) (world (wiki_of g modules) (page_of g)) place (Works (work_seen w)) (slots_of t m.state) l 0 n) (sym idle.1) x)),
+        subst (λ (p : Point). MachineStands (world_seen g.world) (world (wiki_of g modules) (page_of g)) place p (slots_of t m.state) l m.state.calls m.height) (sym next)
+            (subst (λ n. MachineStands (world_seen g.world) (world (wiki_of g modules) (page_of g)) place (Works (work_seen w)) (slots_of t m.state) l n m.height) (sym idle.0)
+            (subst (λ n. MachineStands (world_seen g.world) (world (wiki_of g modules) (page_of g)) place (Works (work_seen w)) (slots_of t m.state) l 0 n) (sym idle.1) x)),
         going_leaves nowhere s.heap t.heap frame,
       );
 }

@@ -15,7 +15,7 @@ use Rattle.lua_machine.specs.declared.machine.Machine.{Machine}
 use Rattle.lua_machine.specs.Events.{MachineOf}
 use Rattle.page_meaning.specs.Wiki.{world}
 use Rattle.page_points.specs.Places.{Place}
-use Rattle.page_points.specs.Machines.{Stood}
+use Rattle.page_points.specs.Machines.{MachineStands}
 use Rattle.page_points.proofs.Machines.{machine_waits}
 use Rattle.page_tasks.specs.declared.task.Task.{Task}
 use Rattle.page_tasks.specs.declared.task.Task.TheVariants as task
@@ -37,8 +37,8 @@ module _ (g : Ground) (modules : Modules) (s t : StoreView) (l : IsLater s t) wh
     left = w.left;
     stood =
         let stood = machine_waits (world_seen g.world) (wiki_of g modules) (page_of g) p (Asking w.question (frames_of s m.state)) (slots_of s m.state) w.left m.state.calls m.height w.stood t.heap same in
-        subst (λ (fs : List SFrame). Stood (world_seen g.world) (world (wiki_of g modules) (page_of g)) p (Asking w.question fs) (slots_of t m.state) w.left m.state.calls m.height) (sym (frames_stay s t l m.state h.state))
-        (subst (λ (x : Slots). Stood (world_seen g.world) (world (wiki_of g modules) (page_of g)) p (Asking w.question (frames_of s m.state)) x w.left m.state.calls m.height) (sym (slots_stay s t l m.state h.state)) stood);
+        subst (λ (fs : List SFrame). MachineStands (world_seen g.world) (world (wiki_of g modules) (page_of g)) p (Asking w.question fs) (slots_of t m.state) w.left m.state.calls m.height) (sym (frames_stay s t l m.state h.state))
+        (subst (λ (x : Slots). MachineStands (world_seen g.world) (world (wiki_of g modules) (page_of g)) p (Asking w.question (frames_of s m.state)) x w.left m.state.calls m.height) (sym (slots_stay s t l m.state h.state)) stood);
   }
 
   pub waits_later : (x : Task) (p : Place) → TaskIn s x → ((r : Ref) (o : Obj Proc) → IsTrue (p.within r) → look s.heap r ≡ Some o → look t.heap r ≡ Some o) → Waits g modules s x p → Waits g modules t x p

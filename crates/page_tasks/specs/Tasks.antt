@@ -23,7 +23,7 @@ use Rattle.lua_machine.specs.Events.{MachineOf}
 use Rattle.page_meaning.specs.Wiki.{world}
 use Rattle.page_meaning.specs.Tasks.{Running, Expanding, OfLua, OfPage, Wants, as_text}
 use Rattle.page_points.specs.Places.{Place, HasCome, next_of}
-use Rattle.page_points.specs.Machines.{Stood, EndedSo}
+use Rattle.page_points.specs.Machines.{MachineStands, EndedSo}
 use Rattle.page_tasks.specs.declared.task.Task.{Task}
 use Rattle.page_tasks.specs.declared.task.Task.TheVariants as task
 use Rattle.page_tasks.specs.declared.task.Reply.{Reply}
@@ -110,7 +110,7 @@ HeightIs _ _ n = Unit {0}
 module _ (g : Ground) (modules : Modules) where
   -- IT STANDS where it can go on
   abbrev pub MachineReady : StoreView → Left → Machine → Place → Type 0
-  MachineReady s left m p = Stood (world_seen g.world) (world (wiki_of g modules) (page_of g)) p (point_of s m.state m.next) (slots_of s m.state) left m.state.calls m.height
+  MachineReady s left m p = MachineStands (world_seen g.world) (world (wiki_of g modules) (page_of g)) p (point_of s m.state m.next) (slots_of s m.state) left m.state.calls m.height
 
   abbrev pub ExpanderReady : Left → Expander → Place → Type 0
   ExpanderReady left e p = (work : PageWork) → p.task ≡ Expanding work → At e work p.first (map as_text p.given) left
@@ -128,7 +128,7 @@ module _ (g : Ground) (modules : Modules) where
   pub record MachineWaits (s : StoreView) (m : Machine) (p : Place) : Type 0 where
     pub question : Ask
     pub left : Left
-    pub stood : Stood (world_seen g.world) (world (wiki_of g modules) (page_of g)) p (Asking question (frames_of s m.state)) (slots_of s m.state) left m.state.calls m.height
+    pub stood : MachineStands (world_seen g.world) (world (wiki_of g modules) (page_of g)) p (Asking question (frames_of s m.state)) (slots_of s m.state) left m.state.calls m.height
 
   abbrev pub ExpanderWaitsAt : Expander → Place → Type 0
   ExpanderWaitsAt e p = (work : PageWork) → p.task ≡ Expanding work → ExpanderWaits e work p.first (map as_text p.given)

@@ -19,14 +19,14 @@ use lua_machine::Machine;
 use lua_stack::Work;
 use lua_store::Store;
 use mw_frame::{Arg, Job, Scene};
-use page_ground::around::Around;
+use page_ground::context::Context;
 use page_ground::scenes::{bare_scene, check_names, read_text};
 use wiki_expand::{Expander, Source};
 use wk_base::{Bytes, List, NoMemory, Title};
 
 /// A run of Lua begins, in a fresh environment of its own.
 fn begin_run<'w>(
-    around: &Around<'w>,
+    around: &Context<'w>,
     store: &mut Store,
     work: Work,
 ) -> Result<Machine<'w>, NoMemory>
@@ -39,7 +39,7 @@ fn begin_run<'w>(
 
 /// An invocation begins (Extension:Scribunto, `#invoke`).
 pub fn begin_invocation<'w>(
-    around: &Around<'w>,
+    around: &Context<'w>,
     store: &mut Store,
     job: Job,
 ) -> Result<Task<'w>, NoMemory>
@@ -53,7 +53,7 @@ pub fn begin_invocation<'w>(
 
 /// The load of a data module begins, where so many steps are left (Scribunto, `mw.loadData`).
 pub fn begin_load<'w>(
-    around: &Around<'w>,
+    around: &Context<'w>,
     store: &mut Store,
     title: Title,
     steps: u64,
@@ -71,7 +71,11 @@ pub fn begin_load<'w>(
 }
 
 /// The expansion of a text in the scene of a frame begins (Scribunto, `frame:preprocess`).
-pub fn begin_text<'w>(around: &Around<'w>, scene: Scene, text: &Bytes) -> Result<Task<'w>, NoMemory>
+pub fn begin_text<'w>(
+    around: &Context<'w>,
+    scene: Scene,
+    text: &Bytes,
+) -> Result<Task<'w>, NoMemory>
     ensures { IfOk result (λ t. (s : StoreView) → Begins (ground_of around.now) (Expanding (Reading (read text.now) scene)) s s t) }
 {
     check_names(around, scene.args.as_slice())?;
@@ -89,7 +93,7 @@ pub fn begin_text<'w>(around: &Around<'w>, scene: Scene, text: &Bytes) -> Result
 /// The expansion of a template with these arguments begins, as that of the text of the scene includes it (Scribunto,
 /// `frame:expandTemplate`).
 pub fn begin_template<'w>(
-    around: &Around<'w>,
+    around: &Context<'w>,
     scene: Scene,
     title: Title,
     args: List<Arg>,
@@ -119,7 +123,7 @@ pub fn begin_template<'w>(
 }
 
 /// The expansion of the page itself begins.
-pub fn begin_page<'w>(around: &Around<'w>) -> Result<Task<'w>, NoMemory>
+pub fn begin_page<'w>(around: &Context<'w>) -> Result<Task<'w>, NoMemory>
     requires { IsSome (find_page (ground_of around.now).pages (page_of (ground_of around.now))) }
     ensures { IfOk result (λ t. IfSome (direct_in (ground_of around.now).pages (page_of (ground_of around.now))) (λ trees. (s : StoreView) → Begins (ground_of around.now) (Expanding (Reading trees (page_scene (page_of (ground_of around.now))))) s s t)) }
 {

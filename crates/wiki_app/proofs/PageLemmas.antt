@@ -3,7 +3,7 @@ use Rattle.std.proofs.Common.{◌≡◌, ◌∙◌, List, [], ◌∷◌, refl, s
 use Rattle.std.specs.Prelude.{Option, Some, None, All, IsSome}
 use Rattle.std.proofs.lemmas.List.Elements.{All-nil, All-cons}
 use Rattle.wk_base.specs.declared.title.Title.{Title}
-use Rattle.wiki_expand.specs.declared.pages.Entry.{Entry}
+use Rattle.wiki_expand.specs.Entries.{Entry}
 use Rattle.wiki_expand.specs.Pages.{Pages, find_page}
 use Rattle.wiki_output.specs.declared.report.Report.{Report}
 use Rattle.wiki_output.specs.Report.{missing_report}

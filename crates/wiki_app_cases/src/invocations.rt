@@ -3,7 +3,7 @@
 //! Lines are those of `cases`. What is expected was worked out by hand from the manuals and from docs/RULES.md.
 
 /// How many cases there are.
-pub const COUNT: u32 = 49;
+pub const COUNT: u32 = 58;
 
 pub fn table() -> &'static str {
     TABLE
@@ -92,6 +92,29 @@ Module:Meta|local p={} function p.f() local m={__index=function(t,k) return k..k
 P|{{#invoke:Meta|f}}
 >zzzzfalse7
 
+# functions of the libraries
+Module:Q|local p={} function p.f() local a,b,c=('THE (quick) fox'):find('%((%a+)%)') local r,n=string.gsub('hello','l*','x') return a..' '..b..' '..c..' '..r..' '..n end return p
+P|{{#invoke:Q|f}}
+>5 11 quick xhxexxox 5
+Module:W|return {f=function() return mw.ustring.len('é')..' '..#'é'..' '..tostring(mw.ustring.toNFC('\\255')) end}
+P|{{#invoke:W|f}}
+>1 2 nil
+Module:F|return {f=function() return string.format('%5d|%-4s|%x|%q|%.2f',42,'ab',255,'a"b',3) end}
+P|{{#invoke:F|f}}
+>   42|ab  |ff|"a\\"b"|3.00
+Module:T|return {f=function() return mw.text.encode('<a&b>')..'/'..mw.text.trim(' x ')..'/'..#mw.text.split('abc','')..'/'..mw.text.truncate('abcdef',3) end}
+P|{{#invoke:T|f}}
+>&lt;a&amp;b&gt;/x/3/abc...
+Module:Cl|return {f=function() local t={} t.a=t local c=mw.clone(t) return tostring(c.a==c)..tostring(c==t) end}
+P|{{#invoke:Cl|f}}
+>truefalse
+Module:S|local p={} function p.f() local a,b=string.find('aXb','%u') local c,n=('x=1, y=2'):gsub('(%w)=(%w)','%2=%1') local t={3,1,2} table.sort(t) local d,e=('THE (quick)'):find('%f[%a]%a+%f[%A]',4) local _,m=pcall(table.sort,{1,'a'}) local _,k=pcall(table.sort,{},type) return a..b..' '..c..' '..n..' '..('f(a(b)c)d'):match('%b()')..' '..d..e..' '..table.concat(t)..' '..m..' '..k end return p
+P|{{#invoke:S|f}}
+>22 1=x, 2=y 2 (a(b)c) 610 123 bad argument #1 to 'sort' (number expected, got string) bad argument #2 to 'sort' (nil expected, got function)
+Module:B|return {f=function() local b=mw.html.create('b') b:attr('id','x<'):wikitext('t'):tag('br') return tostring(b)..mw.text.listToText({'a'})..mw.text.listToText({}) end}
+P|{{#invoke:B|f}}
+><b id="x&lt;">t<br /></b>a
+
 # an allowance that is spent ends one invocation, and the page goes on
 Module:C|n=0 local p={} function p.f() n=n+1 return n end return p
 Module:H|local p={} function p.f() return p.f() end return p
@@ -103,6 +126,11 @@ P|{{#invoke:L|f}} and {{#invoke:C|f}}
 Module:L|local p={} function p.f() while true do pcall(p.f) end end return p
 P|{{#invoke:L|f}}{{#invoke:C|f}}
 ><strong class="error">Script error: The allowance of nested calls is spent.</strong>1
+# with 5,000 steps for the page they are spent first
+Template:T|t
+P|{{#invoke:C|f}} {{#invoke:L|f}} {{T}}{{#invoke:C|f}}
+$expand d P --steps 5000
+>1 <strong class="error">Script error: The allowance of steps is spent.</strong> t<strong class="error">Script error: The allowance of steps is spent.</strong>
 
 # frames
 Template:T|<noinclude>d</noinclude>[{{{1|x}}}|{{{n}}}]
@@ -134,6 +162,52 @@ P|{{#invoke:Self|f}}
 Module:Deep|return {f=function(frame) return frame:preprocess('{{#invoke:Deep|f}}') end}
 P|{{#invoke:Deep|f}}
 ><span class="error">Expansion depth limit exceeded</span>
+
+# 40 templates fit inside one another, each asked for by the frame of the one around it; the next one gives the text that says so
+Module:Nest|return {f=function(frame) local n=frame:getParent():getTitle():match('%d+') or 0 return '.'..frame:expandTemplate{title='N'..n+1} end}
+Template:N0|{{#invoke:Nest|f}}
+Template:N1|{{#invoke:Nest|f}}
+Template:N2|{{#invoke:Nest|f}}
+Template:N3|{{#invoke:Nest|f}}
+Template:N4|{{#invoke:Nest|f}}
+Template:N5|{{#invoke:Nest|f}}
+Template:N6|{{#invoke:Nest|f}}
+Template:N7|{{#invoke:Nest|f}}
+Template:N8|{{#invoke:Nest|f}}
+Template:N9|{{#invoke:Nest|f}}
+Template:N10|{{#invoke:Nest|f}}
+Template:N11|{{#invoke:Nest|f}}
+Template:N12|{{#invoke:Nest|f}}
+Template:N13|{{#invoke:Nest|f}}
+Template:N14|{{#invoke:Nest|f}}
+Template:N15|{{#invoke:Nest|f}}
+Template:N16|{{#invoke:Nest|f}}
+Template:N17|{{#invoke:Nest|f}}
+Template:N18|{{#invoke:Nest|f}}
+Template:N19|{{#invoke:Nest|f}}
+Template:N20|{{#invoke:Nest|f}}
+Template:N21|{{#invoke:Nest|f}}
+Template:N22|{{#invoke:Nest|f}}
+Template:N23|{{#invoke:Nest|f}}
+Template:N24|{{#invoke:Nest|f}}
+Template:N25|{{#invoke:Nest|f}}
+Template:N26|{{#invoke:Nest|f}}
+Template:N27|{{#invoke:Nest|f}}
+Template:N28|{{#invoke:Nest|f}}
+Template:N29|{{#invoke:Nest|f}}
+Template:N30|{{#invoke:Nest|f}}
+Template:N31|{{#invoke:Nest|f}}
+Template:N32|{{#invoke:Nest|f}}
+Template:N33|{{#invoke:Nest|f}}
+Template:N34|{{#invoke:Nest|f}}
+Template:N35|{{#invoke:Nest|f}}
+Template:N36|{{#invoke:Nest|f}}
+Template:N37|{{#invoke:Nest|f}}
+Template:N38|{{#invoke:Nest|f}}
+Template:N39|{{#invoke:Nest|f}}
+Template:N40|x
+P|{{#invoke:Nest|f}};{{N0}};{{N1}}
+>\(40:.)x;\(40:.)<span class="error">Expansion depth limit exceeded</span>;\(39:.)x
 
 # modules that are loaded
 Module:D|local t={v=5} t.me=t return t

@@ -4,7 +4,7 @@
 //! docs/RULES.md.
 
 /// How many cases there are.
-pub const COUNT: u32 = 14;
+pub const COUNT: u32 = 18;
 
 pub fn table() -> &'static str {
     TABLE
@@ -43,6 +43,17 @@ $expand d Q P Q --stats --steps=4250
 !Q steps 2125 nodes 1 bytes 1\nP steps 4250 nodes 2 bytes 2\nQ steps 2125 nodes 1 bytes 1\n
 >page Q 1\nv\npage P 2\nvv\npage Q 1\nv\n
 
+# two calls of one function take twice the steps of one
+Module:Sum|return {f=function(frame) local n=0 for i=1,frame.args[1] do n=n+i end return n end}
+P|{{#invoke:Sum|f|10}}
+Q|{{#invoke:Sum|f|10}}{{#invoke:Sum|f|10}}
+$expand d P --steps 1180 --stats
+!P steps 1180 nodes 1 bytes 2\n
+>55
+$expand d Q --steps 2360 --stats
+!Q steps 2360 nodes 2 bytes 4\n
+>5555
+
 # an allowance that is spent is used whole
 Template:T|abcd
 P|{{T}}{{T}}
@@ -67,6 +78,12 @@ $expand d --all --jobs 7
 >page P1 1\n1\npage P2 1\n2\npage P3 1\n3\npage P4 1\n4\npage P5 1\n5\n
 $expand d P5 p1 --jobs 64
 >page P5 1\n5\npage P1 1\n1\n
+
+# no pages
+$expand d --all
+>
+$expand d --all --stats --jobs 3
+>
 
 # pages that are made
 $demo 2 --nodes 0 --stats

@@ -1,15 +1,16 @@
 -- The trees of nodes in preorder, and how a forest is split.
-use Rattle.std.proofs.Common.{◌≡◌, ℕ, zero, suc, ◌+◌, ◌-◌, ◌<◌, ◌≤◌, min, max, List, [], ◌∷◌, take, drop, length, Some, ◌⊎◌, inl, inr, refl, sym, ap, ◌∙◌, arith}
+use Rattle.std.proofs.Common.{◌≡◌, ℕ, zero, suc, ◌+◌, ◌-◌, ◌<◌, ◌≤◌, min, max, List, [], ◌∷◌, take, drop, length, Some, None, ◌⊎◌, inl, inr, refl, sym, ap, ◌∙◌, arith}
 use Rattle.std.proofs.lemmas.List.{length-take, take_all, take-take, drop-drop, drop-take}
 use Rattle.std.proofs.lemmas.Bool.{cases_lt}
 use Rattle.std.proofs.Math.ListN.{drop_of_length-le}
 use Rattle.std.specs.List.{slice_get}
-use Rattle.wiki_markup.specs.declared.marked.Node.{Node}
+use Rattle.wiki_markup.specs.Nodes.{Node}
 use Rattle.wiki_markup.specs.Trees.{done}
 use Rattle.expand_meaning.specs.Places.{planted, reach, trees_at}
 use Rattle.expand_meaning.proofs.TreeLaws.{trees_first, no_trees}
 use Rattle.wiki_expand.specs.Forests.{nodes_in, between, trees_in}
 use Rattle.wiki_expand.specs.declared.forest.Forest.{Forest}
+use Rattle.wiki_expand.specs.declared.forest.Nodes.{Nodes}
 
 drop_here : (xs : List Node) (at : ℕ) (x : Node) → slice_get xs at ≡ Some x → drop at xs ≡ x ∷ drop (suc at) xs
 drop_here [] zero x e = absurd cc
@@ -91,11 +92,16 @@ pub over_is : (f : Forest) → f.end ≤ f.at → trees_in f ≡ done
 unfolding trees_in
 over_is f h = ap (trees_at f.at) (between_over (nodes_in f.nodes) f.at f.end h) ∙ no_trees f.at
 
--- a forest whose place is behind all nodes
-pub past_is : (f : Forest) → length (nodes_in f.nodes) ≤ f.at → trees_in f ≡ done
+none_left : (nodes : List Node) (at : ℕ) → None ≡ slice_get nodes at → length nodes ≤ at
+none_left [] at e = omega arith
+none_left (x ∷ xs) zero e = absurd cc
+none_left (x ∷ xs) (suc at) e = omega (arith, none_left xs at e)
+
+-- a forest without a node at its place, in whichever way its nodes are held
+pub past_is : (f : Forest) (nodes : Nodes) → f.nodes ≡ nodes → None ≡ slice_get (nodes_in nodes) f.at → trees_in f ≡ done
 unfolding trees_in
-past_is f h =
-    ap (λ ns. trees_at f.at (take (f.end - f.at) ns)) (drop_of_length-le (nodes_in f.nodes) h)
+past_is f nodes is e =
+    ap (λ ns. trees_at f.at (take (f.end - f.at) ns)) (drop_of_length-le (nodes_in f.nodes) (none_left (nodes_in f.nodes) f.at (e ∙ ap (λ ns. slice_get (nodes_in ns) f.at) (sym is))))
     ∙ ap (trees_at f.at) (take_all (f.end - f.at) [] (omega arith))
     ∙ no_trees f.at
 

@@ -6,7 +6,7 @@ use Rattle.wk_base.specs.declared.title.Title.{Title}
 use Rattle.wk_base.specs.contracts.title.TitlePartialEq.TheImpl as titles
 use Rattle.wiki_markup.specs.declared.marked.ShownText.{ShownText}
 use Rattle.wiki_markup.specs.Trees.{pairing, marked_of}
-use Rattle.wiki_expand.specs.declared.pages.Entry.{Entry}
+use Rattle.wiki_expand.specs.Entries.{Entry}
 use Rattle.expand_meaning.specs.Places.{trees_at}
 use Rattle.wiki_expand.specs.Pages.{Pages, find_page, direct_of, included_of, direct_in, included_in}
 use Rattle.expand_meaning.proofs.ReadLaws.{pairing_back}

@@ -3,7 +3,7 @@ use Rattle.std.proofs.Common.{◌≡◌, ℕ, Bool, true, false, cond, List, [],
 use Rattle.wk_base.specs.Space.{trim}
 use Rattle.page_run.specs.Part.{open_or}
 use Rattle.wiki_markup.specs.Trees.{Trees, node}
-use Rattle.wiki_markup.specs.declared.marked.NodeKind.TheVariants.{Construct as ConstructKind, Parameter as ParameterKind}
+use Rattle.wiki_markup.specs.Nodes.{Construct as ConstructKind, Parameter as ParameterKind}
 use Rattle.expand_meaning.specs.Texts.{node_text}
 use Rattle.mw_frame.specs.declared.scene.Scene.{Scene}
 use Rattle.expand_meaning.specs.Kind.{kind_of}

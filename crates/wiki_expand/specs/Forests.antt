@@ -1,8 +1,6 @@
 -- What a forest of the code stands for.
 use Rattle.std.specs.Prelude.{◌≡◌, ℕ, ◌+◌, ◌-◌, ◌<◌, List, [], take, drop, Option, Some, None}
-use Rattle.wiki_markup.specs.declared.marked.Node.{Node}
-use Rattle.wiki_markup.specs.declared.marked.NodeKind.{NodeKind}
-use Rattle.wiki_markup.specs.declared.marked.NodeKind.TheVariants.{Text as TextKind, Equals as EqualsKind, Construct as ConstructKind, Parameter as ParameterKind, Part as PartKind}
+use Rattle.wiki_markup.specs.Nodes.{Node, NodeKind, Text as TextKind, Equals as EqualsKind, Construct as ConstructKind, Parameter as ParameterKind, Part as PartKind}
 use Rattle.expand_texts.specs.Ropes.{bytes_of}
 use Rattle.wiki_markup.specs.Trees.{Trees, done, text, equals, node}
 use Rattle.expand_meaning.specs.Places.{trees_at, parts_in, value_in}
@@ -15,8 +13,8 @@ use Rattle.wiki_expand.specs.declared.forest.Split.{Split}
 use Rattle.wiki_expand.specs.declared.forest.Split.TheVariants.{Nothing, Text, Equals, Construct, Parameter, Part}
 
 abbrev pub nodes_in : Nodes → List Node
-nodes_in (Held nodes) = nodes.now
-nodes_in (Own nodes) = nodes.value.nodes
+nodes_in (Held marked) = marked.now.nodes
+nodes_in (Own marked) = marked.value.nodes
 
 -- the text that a node is, if it is one
 abbrev pub text_in : NodeKind → List ℕ

@@ -1,4 +1,5 @@
 pub mod Forests
+pub mod Entries
 pub mod Pages
 pub mod Points
 pub mod Weights

@@ -4,7 +4,7 @@ use Rattle.std.specs.Map.{lookup}
 use Rattle.wk_base.specs.declared.title.Title.{Title}
 use Rattle.wk_base.specs.contracts.title.TitlePartialEq.TheImpl as titles
 use Rattle.wiki_markup.specs.Trees.{Trees}
-use Rattle.wiki_expand.specs.declared.pages.Entry.{Entry}
+use Rattle.wiki_expand.specs.Entries.{Entry}
 use Rattle.expand_meaning.specs.Places.{trees_at}
 use Rattle.expand_meaning.specs.Expand.{Setting}
 

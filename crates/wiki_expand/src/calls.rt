@@ -255,7 +255,7 @@ fn included<'w>(pages: &'w PageMap, title: &Title) -> Option<Forest<'w>>
     ensures { option_trees result ≡ included_in pages.now title.now }
 {
     match pages.get(title) {
-        Some(entry) => Some(Forest::all(Nodes::Held(entry.transcluded.nodes.as_slice()))),
+        Some(entry) => Some(Forest::all(Nodes::Held(entry.transcluded()))),
         None => None,
     }
 }

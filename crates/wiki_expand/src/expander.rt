@@ -172,14 +172,14 @@ fn read_source<'w>(
         Source::Page(title) => match pages.get(&title) {
             None => unreachable!(),
             Some(entry) => {
-                let nodes = Nodes::Held(entry.direct.nodes.as_slice());
+                let nodes = Nodes::Held(entry.direct());
                 Ok((Forest::all(nodes), None))
             }
         },
         Source::Template(title) => match pages.get(&title) {
             None => unreachable!(),
             Some(entry) => {
-                let nodes = Nodes::Held(entry.transcluded.nodes.as_slice());
+                let nodes = Nodes::Held(entry.transcluded());
                 Ok((Forest::all(nodes), Some(title)))
             }
         },

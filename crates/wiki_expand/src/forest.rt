@@ -1,20 +1,22 @@
 //! Trees side by side, as a stretch of the nodes that they are read from.
-ghost use Rattle.std.specs.Prelude.{◌≡◌, ◌+◌, ◌-◌, ◌<◌, ◌≤◌, [], ◌∷◌, cond, min, max, slice_get, MatchOption, None, Some, IfOk, IfSome};
+ghost use Rattle.std.specs.Prelude.{◌≡◌, ◌+◌, ◌-◌, ◌<◌, ◌≤◌, [], ◌∷◌, length, cond, min, max, slice_get, MatchOption, None, Some, IfOk, IfSome};
 ghost use Rattle.std.specs.Option.{option_copied};
 ghost use Rattle.wiki_markup.specs.Trees.{done};
+ghost use Rattle.wiki_markup.specs.Views.{kind_seen, node_seen};
 ghost use Rattle.expand_meaning.specs.Places.{trees_at, part_in, first_in, others_in, no_part, value_in};
 ghost use Rattle.expand_texts.specs.Ropes.{bytes_of};
 ghost use Rattle.wiki_expand.specs.Forests.{nodes_in, trees_in, text_in, size, parts, Splits, Falls, option_trees, option_size, GoesPast, PastFalls};
 
 use expand_texts::rope::Piece;
+use std::alloc::Global;
 use std::rc::Rc;
-use wiki_markup::{Marked, Node, NodeKind};
+use wiki_markup::{KindView, Marked, NodeView};
 use wk_base::NoMemory;
 
 /// The nodes of a page that is held, or of a text of its own.
 #[derive(Drop)]
 pub enum Nodes<'w> {
-    Held(&'w [Node]),
+    Held(&'w Marked),
     Own(Rc<Marked>),
 }
 
@@ -46,12 +48,12 @@ enum Past<'w> {
 }
 
 impl<'w> Nodes<'w> {
-    fn as_slice(&self) -> &[Node]
-        ensures { result.now ≡ nodes_in self.now }
+    fn len(&self) -> usize
+        ensures { result ≡ length (nodes_in self.now) }
     {
         match self {
-            Nodes::Held(nodes) => nodes,
-            Nodes::Own(marked) => marked.as_ref().nodes.as_slice(),
+            Nodes::Held(marked) => marked.len(),
+            Nodes::Own(marked) => marked.as_ref().len(),
         }
     }
 
@@ -59,7 +61,7 @@ impl<'w> Nodes<'w> {
         ensures { IfOk result (λ copy. nodes_in copy ≡ nodes_in self.now) }
     {
         match self {
-            Nodes::Held(nodes) => Ok(Nodes::Held(nodes)),
+            Nodes::Held(marked) => Ok(Nodes::Held(marked)),
             Nodes::Own(marked) => match marked.clone() {
                 Ok(marked) => Ok(Nodes::Own(marked)),
                 Err(_) => Err(NoMemory),
@@ -76,21 +78,24 @@ fn clamped(end: usize, first: usize, last: usize) -> usize
 }
 
 /// The text of a node of a page, which stays where it is.
-fn borrowed<'w>(node: &'w Node) -> Piece<'w>
-    ensures { bytes_of result ≡ text_in node.now.kind }
+fn borrowed<'w>(kind: KindView<'w>) -> Piece<'w>
+    ensures { bytes_of result ≡ text_in (kind_seen kind.entry) }
 {
-    match &node.kind {
-        NodeKind::Text(bytes) => Piece::Borrowed(bytes.as_slice()),
+    match kind {
+        KindView::Text(bytes) => Piece::Borrowed(bytes),
         _ => Piece::Borrowed(b""),
     }
 }
 
 /// A copy of the text of a node.
-fn copied<'w>(node: &Node) -> Result<Piece<'w>, NoMemory>
-    ensures { IfOk result (λ text. bytes_of text ≡ text_in node.now.kind) }
+fn copied<'w>(alloc: Global, kind: KindView<'_>) -> Result<Piece<'w>, NoMemory>
+    ensures { IfOk result (λ text. bytes_of text ≡ text_in (kind_seen kind.entry)) }
 {
-    match &node.kind {
-        NodeKind::Text(bytes) => Ok(Piece::Owned(bytes.copy()?.into_vec())),
+    match kind {
+        KindView::Text(bytes) => match bytes.to_vec(alloc) {
+            Ok(bytes) => Ok(Piece::Owned(bytes)),
+            Err(_) => Err(NoMemory),
+        },
         _ => Ok(Piece::Borrowed(b"")),
     }
 }
@@ -100,7 +105,7 @@ impl<'w> Forest<'w> {
     pub fn all(nodes: Nodes<'w>) -> Forest<'w>
         ensures trees { trees_in result ≡ trees_at 0 (nodes_in nodes.entry) }
     {
-        let end = nodes.as_slice().len();
+        let end = nodes.len();
         Forest { nodes, at: 0, end }
     }
 
@@ -123,22 +128,22 @@ impl<'w> Forest<'w> {
             return Ok(Split::Nothing);
         }
         match &self.nodes {
-            Nodes::Held(nodes) => match nodes.get(self.at) {
+            Nodes::Held(marked) => match marked.node(self.at) {
                 None => Ok(Split::Nothing),
-                Some(node) => self.split_at(node, borrowed(node)),
+                Some(node) => self.split_at(node, borrowed(node.kind)),
             },
-            Nodes::Own(marked) => match marked.as_ref().nodes.as_slice().get(self.at) {
+            Nodes::Own(marked) => match marked.as_ref().node(self.at) {
                 None => Ok(Split::Nothing),
-                Some(node) => self.split_at(node, copied(node)?),
+                Some(node) => self.split_at(node, copied(marked.as_ref().alloc(), node.kind)?),
             },
         }
     }
 
     /// The tree of the first node, whose text is given where it is one.
-    fn split_at(&self, node: &Node, text: Piece<'w>) -> Result<Split<'w>, NoMemory>
+    fn split_at(&self, node: NodeView<'_>, text: Piece<'w>) -> Result<Split<'w>, NoMemory>
         requires some { self.now.at < self.now.end }
-        requires first { slice_get (nodes_in self.now.nodes) self.now.at ≡ Some node.now }
-        requires text { bytes_of text ≡ text_in node.now.kind }
+        requires first { slice_get (nodes_in self.now.nodes) self.now.at ≡ Some (node_seen node) }
+        requires text { bytes_of text ≡ text_in (kind_seen node.kind) }
         ensures splits { IfOk result (λ s. Splits s (trees_in self.now)) }
         ensures falls { IfOk result (λ s. Falls s (size self.now)) }
     {
@@ -146,12 +151,12 @@ impl<'w> Forest<'w> {
         let cut = clamped(node.end, self.at + 1, end);
         let inside = self.part(self.at + 1, cut)?;
         let rest = self.part(cut, end)?;
-        match &node.kind {
-            NodeKind::Text(_) => Ok(Split::Text(text, rest)),
-            NodeKind::Equals => Ok(Split::Equals(rest)),
-            NodeKind::Construct => Ok(Split::Construct(inside, rest)),
-            NodeKind::Parameter => Ok(Split::Parameter(inside, rest)),
-            NodeKind::Part => Ok(Split::Part(inside, rest)),
+        match node.kind {
+            KindView::Text(_) => Ok(Split::Text(text, rest)),
+            KindView::Equals => Ok(Split::Equals(rest)),
+            KindView::Construct => Ok(Split::Construct(inside, rest)),
+            KindView::Parameter => Ok(Split::Parameter(inside, rest)),
+            KindView::Part => Ok(Split::Part(inside, rest)),
         }
     }
 

@@ -3,7 +3,7 @@ ghost use Rattle.std.specs.Prelude.{◌≡◌, [], ◌∷◌, ◌++◌, Some, No
 ghost use Rattle.wk_base.specs.declared.title.Title.{Title};
 ghost use Rattle.wiki_markup.specs.declared.marked.ShownText.{ShownText};
 ghost use Rattle.wiki_markup.specs.Trees.{pairing, marked_of};
-ghost use Rattle.wiki_expand.specs.declared.pages.Entry.{Entry};
+ghost use Rattle.wiki_expand.specs.Entries.{Entry};
 ghost use Rattle.wiki_expand.specs.Pages.{Pages, find_page, direct_in, included_in};
 
 /// A page that is added with the nodes of two shown texts is read, for itself and where it is included, as their pairings.

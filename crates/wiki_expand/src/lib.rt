@@ -28,4 +28,4 @@ mod resume;
 mod walk;
 
 pub use expander::{Expander, Move, Source};
-pub use pages::PageMap;
+pub use pages::{Entry, PageMap};

@@ -11,11 +11,61 @@ use std::marker::Model;
 use wiki_markup::Marked;
 use wk_base::{NoMemory, Title};
 
-/// The text of a page, paired: as it is read for the page itself, and as it is included in other pages.
+/// The text of a page, paired: as it is read for the page itself, and as it is included in other pages. Where both pairings are the same, it is held
+/// once.
 #[derive(Drop)]
 pub struct Entry {
-    pub direct: Marked,
-    pub transcluded: Marked,
+    direct: Marked,
+    /// As it is included in other pages, where it is held by itself.
+    apart: Option<Marked>,
+}
+
+impl Model for Entry {
+    ghost use Rattle.std.specs.Prelude.{unwrap_or};
+    ghost use Rattle.wiki_expand.specs.Entries.{Entry as Pairings};
+
+    ghost Value = { Pairings };
+
+    ghost view = { λ e. record { direct = e.direct; transcluded = unwrap_or e.apart e.direct } };
+}
+
+impl Entry {
+    /// A page that is read and included alike.
+    pub fn same(both: Marked) -> Entry
+        ensures { result ≡ record { direct = both; transcluded = both } }
+    {
+        Entry {
+            direct: both,
+            apart: None,
+        }
+    }
+
+    /// A page, as it is read for itself and as it is included.
+    pub fn apart(direct: Marked, transcluded: Marked) -> Entry
+        ensures { result ≡ record { direct = direct; transcluded = transcluded } }
+    {
+        Entry {
+            direct,
+            apart: Some(transcluded),
+        }
+    }
+
+    /// As it is read for the page itself.
+    pub fn direct(&self) -> &Marked
+        ensures { result.now ≡ self.now.direct }
+    {
+        &self.direct
+    }
+
+    /// As it is included in other pages.
+    pub fn transcluded(&self) -> &Marked
+        ensures { result.now ≡ self.now.transcluded }
+    {
+        match &self.apart {
+            Some(transcluded) => transcluded,
+            None => &self.direct,
+        }
+    }
 }
 
 /// A finite map from the titles of pages to their texts.
@@ -27,7 +77,7 @@ pub struct PageMap {
 impl Model for PageMap {
     ghost use Rattle.std.specs.Prelude.{List};
     ghost use Rattle.wk_base.specs.declared.title.Title.{Title as TitleValue};
-    ghost use Rattle.wiki_expand.specs.declared.pages.Entry.{Entry as EntryValue};
+    ghost use Rattle.wiki_expand.specs.Entries.{Entry as EntryValue};
     ghost use Rattle.std.specs.Coded.{coded_list, coded×};
     ghost use Rattle.wk_base.specs.contracts.title.Title as title;
     ghost use Rattle.wiki_expand.specs.contracts.pages.Entry as entry;
@@ -56,17 +106,13 @@ impl PageMap {
     }
 
     /// A page that isn't held yet is held.
-    pub fn add(&mut self, title: Title, direct: Marked, transcluded: Marked) -> Result<(), NoMemory>
+    pub fn add(&mut self, title: Title, entry: Entry) -> Result<(), NoMemory>
         requires fresh { find_page self.old title ≡ None }
-        requires direct { IsMarked direct.nodes }
-        requires transcluded { IsMarked transcluded.nodes }
-        ensures ok { OnOk result (self.new ≡ self.old ++ (title, record { direct = direct; transcluded = transcluded }) ∷ []) }
+        requires direct { IsMarked entry.direct.nodes }
+        requires transcluded { IsMarked entry.transcluded.nodes }
+        ensures ok { OnOk result (self.new ≡ self.old ++ (title, entry) ∷ []) }
         ensures err { OnErr result (self.new ≡ self.old) }
     {
-        let entry = Entry {
-            direct,
-            transcluded,
-        };
         match self.map.insert(title, entry) {
             Ok(_) => Ok(()),
             Err(_) => Err(NoMemory),

@@ -9,7 +9,7 @@ use mw_frame::{Job, Scene};
 use std::alloc::Global;
 use std::hash::RandomState;
 use std::test::Fail;
-use wiki_expand::{Expander, Move, PageMap, Source, laws};
+use wiki_expand::{Entry, Expander, Move, PageMap, Source, laws};
 use wiki_markup::{Marked, Mode, markup, shown};
 use wk_base::{Bytes, Left, List, Namespace, NoMemory, Title};
 
@@ -33,7 +33,7 @@ fn add(alloc: Global, pages: &mut PageMap, title: Title, text: &[u8]) -> Result<
     if pages.holds(&title) {
         return Ok(());
     }
-    pages.add(title, direct, transcluded)
+    pages.add(title, Entry::apart(direct, transcluded))
 }
 
 /// The page `P`, a template `T` and a module `M`.

@@ -2,9 +2,7 @@
 use Rattle.std.proofs.Common.{◌≡◌, ℕ, List, [], ◌∷◌, refl, codes}
 use Rattle.wiki_markup.specs.declared.marked.Mode.{Mode}
 use Rattle.wiki_markup.specs.declared.marked.Mode.TheVariants.{Direct, Transcluded}
-use Rattle.wiki_markup.specs.declared.marked.Node.{Node}
-use Rattle.wiki_markup.specs.declared.marked.NodeKind.{NodeKind}
-use Rattle.wiki_markup.specs.declared.marked.NodeKind.TheVariants.{Text, Construct, Parameter, Part, Equals}
+use Rattle.wiki_markup.specs.Nodes.{Node, NodeKind, Text, Construct, Parameter, Part, Equals}
 use Rattle.wiki_markup.specs.declared.marked.ShownText.{ShownText}
 use Rattle.wiki_markup.specs.Shown.{shown_of, pieces_of, has_parts, behind, past, behind_next, opening, closing, self_closing, comment, more_comments, comment_line, attributes, after_name, literal_tag, literal, tag, element, include_tags, self_closing_include, at_place, pieces, before_next, parts, shown_bytes, kept_spans, cut_places}
 use Rattle.wiki_markup.specs.Items.{some_of, letters_from, run, items_from}

@@ -13,3 +13,5 @@ pub mod PlaceLaws
 pub mod ScanLaws
 pub mod ShownBounds
 pub mod Examples
+pub mod HeldLaws
+pub mod ShownSame

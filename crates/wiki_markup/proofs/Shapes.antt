@@ -1,7 +1,7 @@
 -- What is paired has the form of a page's trees.
 use Rattle.std.proofs.Common.{◌≡◌, ℕ, suc, zero, List, refl, sym, ◌∙◌, subst}
 use Rattle.wiki_markup.specs.declared.cells.Shape.TheVariants.{Double, Triple, Square}
-use Rattle.wiki_markup.specs.declared.marked.NodeKind.TheVariants.{Construct, Parameter}
+use Rattle.wiki_markup.specs.Nodes.{Construct, Parameter}
 use Rattle.wiki_markup.specs.Items.{Opening, Closing, Split, Assign, Byte, Items, none, one, group, items_from}
 use Rattle.wiki_markup.specs.Pairing.{opening_byte, closing_byte, rewrite_all}
 use Rattle.wiki_markup.specs.declared.cells.Letter.{Letter}

@@ -1,6 +1,7 @@
 pub mod Shown
 pub mod Items
 pub mod Pairing
+pub mod Nodes
 pub mod Trees
 pub mod Work
 pub mod Roles
@@ -8,3 +9,5 @@ pub mod Formed
 pub mod Build
 pub mod Order
 pub mod Places
+pub mod Held
+pub mod Views

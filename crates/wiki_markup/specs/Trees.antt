@@ -1,9 +1,7 @@
 -- The tree of a list of items, and its preorder. MediaWiki's manual, "Preprocessor ABNF", on parts and their names.
 use Rattle.std.specs.Prelude.{ℕ, suc, zero, ◌+◌, Bool, true, false, List, [], ◌∷◌, ◌++◌, cond}
 use Rattle.wiki_markup.specs.declared.cells.Shape.TheVariants.{Double, Triple, Square}
-use Rattle.wiki_markup.specs.declared.marked.Node.{Node}
-use Rattle.wiki_markup.specs.declared.marked.NodeKind.{NodeKind}
-use Rattle.wiki_markup.specs.declared.marked.NodeKind.TheVariants.{Text, Construct, Parameter, Part, Equals}
+use Rattle.wiki_markup.specs.Nodes.{Node, NodeKind, Text, Construct, Parameter, Part, Equals}
 pub use Rattle.wiki_markup.specs.declared.cells.Place.{Place as Where}
 pub use Rattle.wiki_markup.specs.declared.cells.Place.TheVariants.{Outside, FirstPart, LaterPart, BehindEquals}
 use Rattle.wiki_markup.specs.Items.{Opening, Closing, Split, Assign, Byte, Items, none, one, group, letters_from, items_from}

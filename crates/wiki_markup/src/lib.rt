@@ -9,7 +9,8 @@
 //! - `pairing`: `markup`, over the letters of a shown text
 //! - `pass`: one pass over the letters, with the opening runs that wait on a stack
 //! - `roles`: each `|` and `=` settled by what it stands in
-//! - `build`: the nodes put together from the right
+//! - `build`: the nodes put together from the right, in `growing`
+//! - `held`: a node as it is held; `texts`: many texts as one
 //! - `cells`: letters, and what pairing makes of them
 //!
 //! The tests are the crate `wiki_markup_cases`.
@@ -18,6 +19,8 @@
 mod build;
 mod cells;
 mod comments;
+mod growing;
+mod held;
 mod literals;
 mod marked;
 mod pairing;
@@ -26,8 +29,9 @@ mod roles;
 mod rules;
 mod showing;
 mod tags;
+mod texts;
 mod words;
 
-pub use marked::{Marked, Mode, Node, NodeKind, ShownText, Span};
+pub use marked::{KindView, Marked, Mode, NodeView, ShownText, Span};
 pub use pairing::markup;
 pub use showing::shown;

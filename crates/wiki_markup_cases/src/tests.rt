@@ -5,7 +5,7 @@ ghost use Rattle.std.specs.Prelude.{◌<◌, length};
 use case_text::unescaped;
 use std::alloc::Global;
 use std::test::Fail;
-use wiki_markup::{Marked, Mode, NodeKind, ShownText, markup, shown};
+use wiki_markup::{KindView, Marked, Mode, ShownText, markup, shown};
 use wk_base::{Bytes, List, NoMemory};
 
 mod table;
@@ -50,27 +50,30 @@ fn open_node(open: &mut Vec<Open>, end: usize, mark: u8) -> Result<(), NoMemory>
 fn nested(alloc: Global, marked: &Marked) -> Result<Vec<u8>, NoMemory> {
     let mut out = Vec::new(alloc);
     let mut open = Vec::new(alloc);
-    for (place, node) in marked.nodes.as_slice().iter().enumerate() {
+    for place in 0..marked.len() {
+        let Some(node) = marked.node(place) else {
+            continue;
+        };
         close_up_to(&mut out, &mut open, place)?;
-        match &node.kind {
-            NodeKind::Text(bytes) => {
+        match node.kind {
+            KindView::Text(bytes) => {
                 put(&mut out, b"'")?;
-                put(&mut out, bytes.as_slice())?;
+                put(&mut out, bytes)?;
                 put(&mut out, b"'")?;
             }
-            NodeKind::Equals => put(&mut out, b"~")?,
-            NodeKind::Part => open_node(&mut open, node.end, b';')?,
-            NodeKind::Construct => {
+            KindView::Equals => put(&mut out, b"~")?,
+            KindView::Part => open_node(&mut open, node.end, b';')?,
+            KindView::Construct => {
                 put(&mut out, b"C(")?;
                 open_node(&mut open, node.end, b')')?;
             }
-            NodeKind::Parameter => {
+            KindView::Parameter => {
                 put(&mut out, b"P(")?;
                 open_node(&mut open, node.end, b')')?;
             }
         }
     }
-    close_up_to(&mut out, &mut open, marked.nodes.as_slice().len())?;
+    close_up_to(&mut out, &mut open, marked.len())?;
     Ok(out)
 }
 

@@ -2,3 +2,4 @@ pub mod PageLaws
 pub mod ModuleLaws
 pub mod MeaningLaws
 pub mod PreparedLaws
+pub mod EntryLaws

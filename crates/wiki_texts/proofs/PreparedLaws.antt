@@ -3,7 +3,7 @@ use Rattle.std.proofs.Common.{◌≡◌, ◌∙◌, refl, sym, ap, subst, ℕ, �
 use Rattle.std.specs.Prelude.{Some, None, Result}
 use Rattle.std.proofs.lemmas.List.{take_all, take_more}
 use Rattle.lua_syntax.specs.declared.fault.FaultAt.{FaultAt}
-use Rattle.wiki_markup.specs.declared.marked.Marked.{Marked}
+use Rattle.wiki_markup.specs.Nodes.{Marked}
 use Rattle.wiki_markup.specs.declared.marked.Mode.{Mode}
 use Rattle.wiki_markup.specs.Formed.{IsMarked}
 use Rattle.wiki_markup.proofs.Shapes.{letters_marked}

@@ -3,12 +3,12 @@ use Rattle.std.specs.Prelude.{ℕ, Bool, if◌then◌else◌, is_some, List, [],
 use Rattle.std.specs.List.{list_any}
 use Rattle.wk_base.specs.declared.title.Title.{Title}
 use Rattle.wk_base.specs.contracts.title.TitlePartialEq.TheImpl as titles
-use Rattle.wiki_markup.specs.declared.marked.Marked.{Marked}
+use Rattle.wiki_markup.specs.Nodes.{Marked}
 use Rattle.wiki_markup.specs.declared.marked.Mode.{Mode}
 use Rattle.wiki_markup.specs.declared.marked.Mode.TheVariants.{Direct, Transcluded}
 use Rattle.wiki_markup.specs.Shown.{shown_of}
 use Rattle.wiki_markup.specs.Trees.{marked_of}
-use Rattle.wiki_expand.specs.declared.pages.Entry.{Entry}
+use Rattle.wiki_expand.specs.Entries.{Entry}
 use Rattle.wiki_expand.specs.Pages.{Pages, find_page}
 use Rattle.wiki_texts.specs.declared.raw.RawPage.{RawPage}
 

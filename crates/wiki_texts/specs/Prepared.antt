@@ -3,12 +3,11 @@
 use Rattle.std.specs.Prelude.{◌≡◌, ℕ, Bool, true, false, List, [], ◌∷◌, Option, Some, None, Result}
 use Rattle.wk_base.specs.Titles.{is_module}
 use Rattle.lua_syntax.specs.declared.fault.FaultAt.{FaultAt}
-use Rattle.wiki_markup.specs.declared.marked.Mode.TheVariants.{Direct, Transcluded}
 use Rattle.lua_code.specs.declared.proto.Protos.{Protos}
 use Rattle.lua_code.specs.Held.{code_seen}
 use Rattle.wiki_texts.specs.declared.raw.RawPage.{RawPage}
 use Rattle.wiki_texts.specs.declared.prepared.Prepared.{Prepared}
-use Rattle.wiki_texts.specs.Pages.{marked_in}
+use Rattle.wiki_texts.specs.Pages.{entry_of}
 use Rattle.wiki_texts.specs.Code.{IsCodeOf}
 
 -- a page of another namespace has no code
@@ -18,8 +17,7 @@ IsCodeOfPage true text (Some code) = IsCodeOf text (code_seen code)
 IsCodeOfPage _ _ _ = ⊥
 
 pub record IsPrepared (page : RawPage) (p : Prepared) : Type 0 where
-  pub direct : p.direct ≡ marked_in Direct page.bytes
-  pub transcluded : p.transcluded ≡ marked_in Transcluded page.bytes
+  pub entry : p.entry ≡ entry_of page.bytes
   pub code : IsCodeOfPage (is_module page.title.ns) page.bytes p.code
 
 -- of each page of a list, in order

@@ -5,28 +5,22 @@ ghost use Rattle.wiki_texts.specs.Code.{Adds, AreCodeOf};
 ghost use Rattle.wiki_texts.specs.Prepared.{IsPrepared, ArePrepared};
 
 use crate::modules::{add_code, code_of_page};
-use crate::pages::{add_page, marked};
+use crate::pages::{add_page, paired};
 use crate::prepared::Prepared;
 use crate::raw::RawPage;
 use lua_code::Modules;
 use std::alloc::Global;
 use std::hash::RandomState;
 use wiki_expand::PageMap;
-use wiki_markup::Mode;
 use wk_base::{List, NoMemory};
 
 /// A page, prepared.
 fn prepare(alloc: Global, seed: RandomState, page: &RawPage) -> Result<Prepared, NoMemory>
     ensures { IfOk result (λ prepared. IsPrepared page.now prepared) }
 {
-    let direct = marked(alloc, page.bytes.as_slice(), Mode::Direct)?;
-    let transcluded = marked(alloc, page.bytes.as_slice(), Mode::Transcluded)?;
+    let entry = paired(alloc, page.bytes.as_slice())?;
     let code = code_of_page(alloc, seed, page)?;
-    Ok(Prepared {
-        direct,
-        transcluded,
-        code,
-    })
+    Ok(Prepared { entry, code })
 }
 
 /// Pages, prepared, each by itself. Names are hashed from the seed, which changes nothing else.
@@ -57,7 +51,7 @@ fn add(
     ensures code { OnOk result (Adds page.now modules.old modules.new) }
 {
     add_code(modules, page, prepared.code)?;
-    add_page(map, page, prepared.direct, prepared.transcluded)
+    add_page(map, page, prepared.entry)
 }
 
 /// The pages and the modules of a wiki, by title, from its pages in their order and what was prepared of each; of two with one title the first

@@ -8,7 +8,10 @@ pub returns-in-Gives : goal.returns-in-Gives
 returns-in-Gives g c = rw c.in-Gives.is (c.give.ensures c.args.left.now c.args.turns.now)
 
 pub returns-in-GivesAll : goal.returns-in-GivesAll
-returns-in-GivesAll g c = idle_here c.args.store.now c.args.state.now c.args.left.now c.args.turns.now
+returns-in-GivesAll g c = rw c.in-GivesAll.is c.call.ensures
+
+pub call-requires-clause-arguments : goal.call-requires-clause-arguments
+call-requires-clause-arguments g c = rw c.in-GivesAll.is at c.requires.next
 
 pub returns-in-GivesNone : goal.returns-in-GivesNone
 returns-in-GivesNone g c = rw c.in-GivesNone.is c.end.ensures

@@ -6,6 +6,9 @@ returns-in-OperandNext c = λ fs h. rw c.in-OperandNext.is at h
 pub returns-in-OperateNow : goal.returns-in-OperateNow
 returns-in-OperateNow c = λ fs h. rw c.in-OperateNow.is at h
 
+pub returns-in-CallNow : goal.returns-in-CallNow
+returns-in-CallNow c = λ fs h. rw c.in-CallNow.is at h
+
 pub returns-in-MoreNext : goal.returns-in-MoreNext
 returns-in-MoreNext c = λ fs h. c.of_list.ensures fs (rw c.in-MoreNext.is at h)
 

@@ -1,5 +1,6 @@
 use Rattle.std.proofs.Common.{◌∙◌, ap, sym}
 use Rattle.wiki_markup.specs.Trees.{text}
+use Rattle.wiki_markup.specs.Views.{kind_seen, node_seen}
 use Rattle.expand_meaning.specs.Places.{planted}
 use Rattle.wiki_expand.specs.Forests.{trees_in, text_in}
 use Rattle.wiki_expand.proofs.ForestLaws.{first_is}
@@ -7,36 +8,36 @@ use Rattle.wiki_expand.proofs.forest.Forest.split_at.Goals as goal
 
 pub returns-in-Text-clause-splits : goal.returns-in-Text-clause-splits
 returns-in-Text-clause-splits c =
-    first_is c.args.self.now c.in_ok-inside.inside c.in_ok-rest.rest c.args.node.now _ c.requires.some c.requires.first c.clamped-cut.ensures
+    first_is c.args.self.now c.in_ok-inside.inside c.in_ok-rest.rest (node_seen c.args.node) _ c.requires.some c.requires.first c.clamped-cut.ensures
     c.in_ok-inside.ensures.nodes c.in_ok-inside.ensures.at c.in_ok-inside.ensures.end
     c.in_ok-rest.ensures.nodes c.in_ok-rest.ensures.at c.in_ok-rest.ensures.end
-    ∙ ap (λ k. planted k (trees_in c.in_ok-inside.inside) (trees_in c.in_ok-rest.rest)) c.in-Text.is
-    ∙ ap (λ bytes. text bytes (trees_in c.in_ok-rest.rest)) (sym (c.requires.text ∙ ap text_in c.in-Text.is))
+    ∙ ap (λ k. planted (kind_seen k) (trees_in c.in_ok-inside.inside) (trees_in c.in_ok-rest.rest)) c.in-Text.is
+    ∙ ap (λ bytes. text bytes (trees_in c.in_ok-rest.rest)) (sym (c.requires.text ∙ ap (λ k. text_in (kind_seen k)) c.in-Text.is))
 
 pub returns-in-Equals-clause-splits : goal.returns-in-Equals-clause-splits
 returns-in-Equals-clause-splits c =
-    first_is c.args.self.now c.in_ok-inside.inside c.in_ok-rest.rest c.args.node.now _ c.requires.some c.requires.first c.clamped-cut.ensures
+    first_is c.args.self.now c.in_ok-inside.inside c.in_ok-rest.rest (node_seen c.args.node) _ c.requires.some c.requires.first c.clamped-cut.ensures
     c.in_ok-inside.ensures.nodes c.in_ok-inside.ensures.at c.in_ok-inside.ensures.end
     c.in_ok-rest.ensures.nodes c.in_ok-rest.ensures.at c.in_ok-rest.ensures.end
-    ∙ ap (λ k. planted k (trees_in c.in_ok-inside.inside) (trees_in c.in_ok-rest.rest)) c.in-Equals.is
+    ∙ ap (λ k. planted (kind_seen k) (trees_in c.in_ok-inside.inside) (trees_in c.in_ok-rest.rest)) c.in-Equals.is
 
 pub returns-in-Construct-clause-splits : goal.returns-in-Construct-clause-splits
 returns-in-Construct-clause-splits c =
-    first_is c.args.self.now c.in_ok-inside.inside c.in_ok-rest.rest c.args.node.now _ c.requires.some c.requires.first c.clamped-cut.ensures
+    first_is c.args.self.now c.in_ok-inside.inside c.in_ok-rest.rest (node_seen c.args.node) _ c.requires.some c.requires.first c.clamped-cut.ensures
     c.in_ok-inside.ensures.nodes c.in_ok-inside.ensures.at c.in_ok-inside.ensures.end
     c.in_ok-rest.ensures.nodes c.in_ok-rest.ensures.at c.in_ok-rest.ensures.end
-    ∙ ap (λ k. planted k (trees_in c.in_ok-inside.inside) (trees_in c.in_ok-rest.rest)) c.in-Construct.is
+    ∙ ap (λ k. planted (kind_seen k) (trees_in c.in_ok-inside.inside) (trees_in c.in_ok-rest.rest)) c.in-Construct.is
 
 pub returns-in-Parameter-clause-splits : goal.returns-in-Parameter-clause-splits
 returns-in-Parameter-clause-splits c =
-    first_is c.args.self.now c.in_ok-inside.inside c.in_ok-rest.rest c.args.node.now _ c.requires.some c.requires.first c.clamped-cut.ensures
+    first_is c.args.self.now c.in_ok-inside.inside c.in_ok-rest.rest (node_seen c.args.node) _ c.requires.some c.requires.first c.clamped-cut.ensures
     c.in_ok-inside.ensures.nodes c.in_ok-inside.ensures.at c.in_ok-inside.ensures.end
     c.in_ok-rest.ensures.nodes c.in_ok-rest.ensures.at c.in_ok-rest.ensures.end
-    ∙ ap (λ k. planted k (trees_in c.in_ok-inside.inside) (trees_in c.in_ok-rest.rest)) c.in-Parameter.is
+    ∙ ap (λ k. planted (kind_seen k) (trees_in c.in_ok-inside.inside) (trees_in c.in_ok-rest.rest)) c.in-Parameter.is
 
 pub returns-clause-splits : goal.returns-clause-splits
 returns-clause-splits c =
-    first_is c.args.self.now c.in_ok-inside.inside c.in_ok-rest.rest c.args.node.now _ c.requires.some c.requires.first c.clamped-cut.ensures
+    first_is c.args.self.now c.in_ok-inside.inside c.in_ok-rest.rest (node_seen c.args.node) _ c.requires.some c.requires.first c.clamped-cut.ensures
     c.in_ok-inside.ensures.nodes c.in_ok-inside.ensures.at c.in_ok-inside.ensures.end
     c.in_ok-rest.ensures.nodes c.in_ok-rest.ensures.at c.in_ok-rest.ensures.end
-    ∙ ap (λ k. planted k (trees_in c.in_ok-inside.inside) (trees_in c.in_ok-rest.rest)) c.in-Part.is
+    ∙ ap (λ k. planted (kind_seen k) (trees_in c.in_ok-inside.inside) (trees_in c.in_ok-rest.rest)) c.in-Part.is

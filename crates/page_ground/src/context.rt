@@ -6,7 +6,7 @@ use wiki_expand::PageMap;
 
 /// What nothing on a page changes.
 #[derive(Drop)]
-pub struct Around<'w> {
+pub struct Context<'w> {
     pub alloc: Global,
     pub seed: RandomState,
     pub pages: &'w PageMap,

@@ -1,0 +1,36 @@
+use Rattle.std.proofs.Common.{◌∙◌, sym, ap, subst, List, Some, arith}
+use Rattle.lua_slots.specs.Points.{Gives}
+use Rattle.lua_store.specs.declared.value.Value.{Value}
+use Rattle.lua_stack.specs.declared.frame.Frame.TheVariants as frame
+use Rattle.lua_stack.specs.declared.frame.InExpression.TheVariants as in_expression
+use Rattle.lua_stack.specs.Of.{ValuesOf}
+use Rattle.lua_stack.specs.Seen.{values_seen}
+use Rattle.lua_strides.proofs.Paths.{idle_here}
+use Rattle.lua_turns.proofs.Freely.{newest_of}
+use Rattle.lua_turns.proofs.calling.call.Goals as goal
+
+pub callee_of-requires : goal.callee_of-requires
+callee_of-requires g c =
+    let newest = rw c.in-Calls.is at c.of_newest.ensures in
+    newest_of c.args.store.now c.args.state.now.frames newest.0 (frame.Expression (in_expression.CallNow c.in-Calls.called c.in-Calls.line)) newest.1 c.requires.state.frames
+
+pub enter-requires-clause-newest : goal.enter-requires-clause-newest
+enter-requires-clause-newest g c = rw c.in-Calls.is at c.of_newest.ensures
+
+pub enter-requires-clause-callee : goal.enter-requires-clause-callee
+enter-requires-clause-callee g c = rw c.in-Some.is at c.callee_of.ensures.of
+
+pub enter-requires-clause-arguments : goal.enter-requires-clause-arguments
+enter-requires-clause-arguments g c = rw c.in_ok-arguments-in-Some.ensures c.requires.arguments
+
+pub enter-requires-clause-call : goal.enter-requires-clause-call
+enter-requires-clause-call g c = λ fs s h. rw c.in-Some.is at (c.callee_of.ensures.call (values_seen c.args.store.now.texts c.in_ok-arguments-in-Some.arguments) (Some c.in-Calls.line) fs s h)
+
+pub returns-in_ok-next-in-Some : goal.returns-in_ok-next-in-Some
+returns-in_ok-next-in-Some g c = rw (← c.in_ok-arguments-in-Some.ensures) c.in_ok-next-in-Some.ensures
+
+pub returns-in-None : goal.returns-in-None
+returns-in-None g c = idle_here c.args.store.now c.args.state.now c.args.left.now c.args.turns.now
+
+pub returns-in_default : goal.returns-in_default
+returns-in_default g c = idle_here c.args.store.now c.args.state.now c.args.left.now c.args.turns.now

@@ -1,0 +1,53 @@
+//! Arguments reach the frame that calls (manual 2.5.8).
+ghost use Rattle.std.specs.Prelude.{◌≡◌, IfOk};
+ghost use Rattle.page_run.specs.Outcome.{Goes};
+ghost use Rattle.lua_slots.specs.Points.{Gives};
+ghost use Rattle.lua_stack.specs.Of.{ValuesOf};
+ghost use Rattle.lua_stack.specs.Seen.{values_seen};
+ghost use Rattle.lua_state.specs.Of.{StateOf};
+ghost use Rattle.lua_state.specs.Seen.{frames_of};
+ghost use Rattle.lua_turns.specs.Rows.{MayFollow};
+
+use crate::entering::{callee_of, enter};
+use crate::waiting::{Waiting, of_newest};
+use lua_stack::Values;
+use lua_state::State;
+use lua_store::Store;
+use lua_strides::Next;
+use std::alloc::Global;
+use std::sync::ledger::Ledger;
+use wk_base::{Left, NoMemory, Steps};
+
+/// Arguments reach the newest frame: if it calls a function of Lua, and a step and a call are left, that is entered.
+pub fn call<'m, L: Ledger>(
+    alloc: Global,
+    store: &mut Store,
+    left: &mut Left,
+    state: &mut State<'m>,
+    arguments: &Values,
+    turns: &mut Steps<L>,
+) -> Result<Option<Next<'m>>, NoMemory>
+    requires state { StateOf store.old state.old }
+    requires arguments { ValuesOf store.old arguments.now }
+    ensures { IfOk result (MayFollow store.old state.old (Gives (Goes (values_seen store.old.texts arguments.now)) (frames_of store.old state.old)) left.old turns.old store.new state.new left.new turns.new) }
+{
+    if left.steps == 0 {
+        return Ok(None);
+    }
+    if left.calls == 0 {
+        return Ok(None);
+    }
+    match of_newest(&state.frames) {
+        Waiting::Calls(called, line) => match callee_of(store, called) {
+            Some(callee) => {
+                let arguments = arguments.copy(alloc)?;
+                let next = enter(
+                    alloc, store, left, state, called, callee, arguments, line, turns,
+                )?;
+                Ok(Some(next))
+            }
+            None => Ok(None),
+        },
+        _ => Ok(None),
+    }
+}
