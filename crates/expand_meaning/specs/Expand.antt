@@ -1,5 +1,5 @@
 -- THE EXPANSION of a text as its events (MediaWiki, Help:Templates, Help:Extension:ParserFunctions; Extension:Scribunto, "#invoke").
--- A construct or a parameter is not entered where it stands: it is opened, at one node, and `meant` says what then stands for it.
+-- A construct or a parameter is not entered where it stands: it is opened, at one node, and `thing_text` says what then stands for it.
 use Rattle.std.specs.Prelude.{ℕ, ◌+◌, Bool, true, false, cond, ◌||◌, List, [], ◌∷◌, ◌++◌, length, codes, decimal, bytes_eq, Option, Some, None}
 use Rattle.std.specs.List.{list_any}
 use Rattle.wk_base.specs.Space.{trim}
@@ -258,8 +258,8 @@ abbrev pub unless_looped : Title → Scene → Doing (List ℕ) → Doing (List 
 unless_looped title sc m = choice (is_in title sc.chain) (give (loop_text title)) m
 
 -- the text of a page in a frame with these arguments, unless it is being expanded already or no level is left
-abbrev pub body : Trees → Title → List Arg → Scene → Doing (List ℕ)
-body trees title args sc = unless_looped title sc (do
+abbrev pub template_body : Trees → Title → List Arg → Scene → Doing (List ℕ)
+template_body trees title args sc = unless_looped title sc (do
   enough ← try_use tt EnterTemplate
   choice enough
       (giving_back LeaveTemplate (expand trees record { title = title; args = args; chain = title ∷ sc.chain }))
@@ -272,7 +272,7 @@ template (Some trees) title parts sc = unless_looped title sc (do
   enough ← try_use tt HasTemplate
   choice enough (do
     args ← arguments parts sc none_given
-    body trees title args sc) (give depth_text))
+    template_body trees title args sc) (give depth_text))
 
 -- ---- constructs
 
@@ -294,6 +294,6 @@ construct w parts sc = do
   by_kind w (kind_of (no_part (others_in parts)) w.page (trim first)) first (others_in parts) sc
 
 -- what stands for a construct or parameter once its node is taken
-abbrev pub meant : Setting → Thing → Doing (List ℕ)
-meant w (AConstruct parts sc) = sized (deeper (construct w parts sc))
-meant w (AParameter parts sc) = sized (deeper (parameter parts sc))
+abbrev pub thing_text : Setting → Thing → Doing (List ℕ)
+thing_text w (AConstruct parts sc) = sized (deeper (construct w parts sc))
+thing_text w (AParameter parts sc) = sized (deeper (parameter parts sc))

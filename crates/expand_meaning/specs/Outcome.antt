@@ -8,7 +8,7 @@ use Rattle.mw_frame.specs.declared.scene.Job.{Job}
 use Rattle.page_run.specs.Run.{Ends}
 use Rattle.page_run.specs.State.{Reply, Event, Ended, Spent, Asked, start}
 use Rattle.page_run.specs.Perform.{perform, wait}
-use Rattle.expand_meaning.specs.Expand.{Setting, Page, expand, body, meant}
+use Rattle.expand_meaning.specs.Expand.{Setting, Page, expand, template_body, thing_text}
 
 -- AN EXPANSION that is a run of its own: of trees in a scene; or of a page that is included, with the arguments of the scene,
 -- from a text with its chain
@@ -18,11 +18,11 @@ pub data Work : Type 0 where
 
 abbrev pub expansion : Work → Page
 expansion (Reading trees sc) = expand trees sc Ends
-expansion (Including trees title sc) = body trees title sc.args sc Ends
+expansion (Including trees title sc) = template_body trees title sc.args sc Ends
 
 -- the next event, after these replies
 unfoldable pub next_event : Setting → Work → Left → List (Reply (List ℕ)) → Event (Unit {0}) Job (List ℕ)
-next_event w work first given = perform (meant w) wait (expansion work) (start tt first given)
+next_event w work first given = perform (thing_text w) wait (expansion work) (start tt first given)
 
 -- it has come to this text, and so much is left
 abbrev pub Comes : Event (Unit {0}) Job (List ℕ) → List ℕ → Left → Type 0

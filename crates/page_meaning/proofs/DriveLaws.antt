@@ -12,7 +12,7 @@ use Rattle.page_run.specs.Perform.{size, to_come, perform, NoRise}
 use Rattle.page_run.proofs.Enough.{after_steps_agree, perform_agree, perform-Takes}
 use Rattle.page_run.proofs.ChargeLaws.{nothing_rises}
 use Rattle.wiki_markup.specs.Trees.{Trees}
-use Rattle.expand_meaning.specs.Expand.{meant}
+use Rattle.expand_meaning.specs.Expand.{thing_text}
 use Rattle.expand_meaning.specs.Outcome.{Work as PageWork, Reading, Including, expansion}
 use Rattle.lua_meaning.specs.World.{Module}
 use Rattle.lua_meaning.specs.Charges.{run_charge}
@@ -43,7 +43,7 @@ module _ (wiki : Wiki) (page : Title) where
         subst (λ x. size x.left ≤ size l) same (calm (Invoke job) l)
 
     calm-expansion : (work : PageWork) (l : Left) → size (expansion_reply wiki page runs work l).left ≤ size l
-    calm-expansion work l = omega (arith, nothing_rises (meant (setting wiki page)) (invocation_reply wiki page runs) calm-invocation (expansion work) (start tt l []))
+    calm-expansion work l = omega (arith, nothing_rises (thing_text (setting wiki page)) (invocation_reply wiki page runs) calm-invocation (expansion work) (start tt l []))
 
     calm-template : (held : Option Trees) (title : Title) (scene : Scene) (args : List Arg) (l : Left) → size (template_reply wiki page runs held title scene args l).left ≤ size l
     calm-template (Some trees) title scene args l = calm-expansion (Including trees title record scene { args = args }) l
@@ -84,7 +84,7 @@ module _ (wiki : Wiki) (page : Title) where
   module _ (k : ℕ) (runs others : Runs) (calm : Calm runs) (agree : Agree k runs others) where
     expansions_agree : (work : PageWork) (l : Left) → size l ≤ k → expansion_reply wiki page runs work l ≡ expansion_reply wiki page others work l
     expansions_agree work l le =
-        ap expanded (perform_agree (meant (setting wiki page)) (invocation_reply wiki page runs) (invocation_reply wiki page others) (calm-invocation runs calm) (expansion work) (start tt l []) (λ job now le'. ap (λ e. Some (invoked e)) (agree (Invoke job) now (omega arith))))
+        ap expanded (perform_agree (thing_text (setting wiki page)) (invocation_reply wiki page runs) (invocation_reply wiki page others) (calm-invocation runs calm) (expansion work) (start tt l []) (λ job now le'. ap (λ e. Some (invoked e)) (agree (Invoke job) now (omega arith))))
 
     templates_agree : (held : Option Trees) (title : Title) (scene : Scene) (args : List Arg) (l : Left) → size l ≤ k → template_reply wiki page runs held title scene args l ≡ template_reply wiki page others held title scene args l
     templates_agree (Some trees) title scene args l le = expansions_agree (Including trees title record scene { args = args }) l le

@@ -12,7 +12,7 @@ use Rattle.page_run.specs.Perform.{less, apply_use, after_use, with_steps, enter
 use Rattle.page_run.specs.Charges.{KeepsCalls, GivenBack}
 use Rattle.page_run.proofs.ChargeLaws.{calls_come_back}
 use Rattle.wiki_markup.specs.Trees.{Trees}
-use Rattle.expand_meaning.specs.Expand.{meant}
+use Rattle.expand_meaning.specs.Expand.{thing_text}
 use Rattle.expand_meaning.specs.Outcome.{Work as PageWork, Reading, Including, expansion}
 use Rattle.lua_meaning.specs.World.{Module}
 use Rattle.lua_meaning.specs.Things.{meaning_of}
@@ -105,7 +105,7 @@ module _ (wiki : Wiki) (page : Title) where
 
     expansion_keeps : (work : PageWork) (l : Left) → (expansion_reply wiki page runs work l).left.calls ≡ l.calls
     expansion_keeps work l =
-        let meaning = meant (setting wiki page) in
+        let meaning = thing_text (setting wiki page) in
         let b = invocation_reply wiki page runs in
         left_calls (l.calls + 0) (perform meaning b (expansion work) (start tt l [])) (perform_end meaning b (invocations_answer runs) (expansion work) (start tt l [])) (calls_come_back meaning b invocation_keeps (expansion work) (start tt l []) refl) ∙ no_more l.calls
 

@@ -15,7 +15,7 @@ use Rattle.page_run.specs.Walk.{WalkState, empty_walk, is_in, walk_load, walk}
 use Rattle.page_run.proofs.Less.{less_some}
 use Rattle.page_run.proofs.ChargeLaws.{back_replies}
 use Rattle.wiki_markup.specs.Trees.{Trees}
-use Rattle.expand_meaning.specs.Expand.{meant}
+use Rattle.expand_meaning.specs.Expand.{thing_text}
 use Rattle.expand_meaning.specs.Outcome.{Work as PageWork, Reading, Including, expansion, page_scene}
 use Rattle.lua_meaning.specs.World.{Module}
 use Rattle.lua_meaning.specs.Things.{meaning_of}
@@ -172,7 +172,7 @@ module _ (wiki : Wiki) (page : Title) where
 
     expansions_pay : (work : PageWork) (l : Left) → PaysReply l (expansion_reply wiki page runs work l)
     expansions_pay work l =
-        let m = run_paid (meant (setting wiki page)) (invocation_reply wiki page runs) invocations_pay (expansion work) tt l in
+        let m = run_paid (thing_text (setting wiki page)) (invocation_reply wiki page runs) invocations_pay (expansion work) tt l in
         record { steps = m.steps; cover = m.cover }
 
     templates_pay : (held : Option Trees) (title : Title) (scene : Scene) (args : List Arg) (l : Left) → PaysReply l (template_reply wiki page runs held title scene args l)
@@ -208,6 +208,6 @@ module _ (wiki : Wiki) (page : Title) where
 
 pub kept_is_paid : KeptIsPaid
 kept_is_paid wiki title trees full =
-    let m = run_paid (meant (setting wiki title)) (invocation_reply wiki title (drive wiki title)) (invocations_pay wiki title (drive wiki title) (drive_paid wiki title)) (expansion (Reading trees (page_scene title))) tt full in
+    let m = run_paid (thing_text (setting wiki title)) (invocation_reply wiki title (drive wiki title)) (invocations_pay wiki title (drive wiki title) (drive_paid wiki title)) (expansion (Reading trees (page_scene title))) tt full in
     let w = walked (moment_of (page_event wiki title trees full)).tally.loads m.cover empty_walk in
     omega (arith, m.steps, w)

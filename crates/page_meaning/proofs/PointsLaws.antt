@@ -5,7 +5,7 @@ use Rattle.page_run.specs.Run.{Run, Meaning}
 use Rattle.page_run.specs.State.{Reply, Replier, Event, Ended, Spent, Asked, start}
 use Rattle.page_run.specs.Perform.{perform, wait, NoRise}
 use Rattle.page_run.proofs.ReplyLaws.{end_stands, spent_stands, computed_is_given, add_no_replies}
-use Rattle.expand_meaning.specs.Expand.{meant}
+use Rattle.expand_meaning.specs.Expand.{thing_text}
 use Rattle.expand_meaning.specs.Outcome.{expansion, next_event}
 use Rattle.lua_meaning.specs.Things.{meaning_of}
 use Rattle.lua_meaning.specs.Home.{home}
@@ -30,4 +30,4 @@ runs_go_on wiki page work first given =
 pub expansions_go_on : ExpansionsGoOn
 unfolding next_event
 expansions_go_on wiki page work first given =
-    goes_on (meant (setting wiki page)) (λ job l. invoked (drive wiki page (Invoke job) l)) (invocation_reply wiki page (drive wiki page)) (drive-invocation wiki page) (λ q l. refl) (expansion work) tt first given (perform (meant (setting wiki page)) wait (expansion work) (start tt first given)) refl
+    goes_on (thing_text (setting wiki page)) (λ job l. invoked (drive wiki page (Invoke job) l)) (invocation_reply wiki page (drive wiki page)) (drive-invocation wiki page) (λ q l. refl) (expansion work) tt first given (perform (thing_text (setting wiki page)) wait (expansion work) (start tt first given)) refl

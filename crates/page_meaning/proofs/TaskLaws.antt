@@ -13,7 +13,7 @@ use Rattle.mw_frame.specs.declared.scene.Job.{Job}
 use Rattle.mw_frame.specs.declared.question.Ask.{Ask}
 use Rattle.mw_frame.specs.declared.question.Ask.TheVariants.{Template, Preprocess, Data}
 use Rattle.wiki_markup.specs.Trees.{Trees}
-use Rattle.expand_meaning.specs.Expand.{meant}
+use Rattle.expand_meaning.specs.Expand.{thing_text}
 use Rattle.expand_meaning.specs.Outcome.{Work as PageWork, expansion, next_event}
 use Rattle.lua_meaning.specs.World.{Module}
 use Rattle.lua_meaning.specs.Questions.{Answer}
@@ -78,7 +78,7 @@ module _ (wiki : Wiki) (page : Title) where
   none_told : (task : Task) (first : Left) → loads_so_far wiki page task first [] ≡ NoLoads
   unfolding next_event
   none_told (Running work) first = (tells_none (meaning_of (world wiki page)) (run_of (world wiki page) work) (start home first []) refl).0
-  none_told (Expanding work) first = (tells_none (meant (setting wiki page)) (expansion work) (start tt first []) refl).0
+  none_told (Expanding work) first = (tells_none (thing_text (setting wiki page)) (expansion work) (start tt first []) refl).0
 
   lua_tells_more : (work : Work) (first : Left) (given : List (Reply Answer)) (e : Seen) (question : Question) (left : Left) → lua (world wiki page) work first given ≡ e → lua_progress work first e ≡ Wants question left → (r : Reply Answer) → (tally_of (lua (world wiki page) work first (given ++ r ∷ []))).loads ≡ join_loads (tally_of e).loads r.tally.loads
   lua_tells_more work first given (Ended outcome m) question left e i r = absurd cc
@@ -89,7 +89,7 @@ module _ (wiki : Wiki) (page : Title) where
   unfolding next_event
   page_tells_more work first given (Ended text m) question left e i r = absurd cc
   page_tells_more work first given (Spent which m) question left e i r = absurd cc
-  page_tells_more work first given (Asked job m) question left e i r = (tells_reply (meant (setting wiki page)) (expansion work) (start tt first given) job m e r).0
+  page_tells_more work first given (Asked job m) question left e i r = (tells_reply (thing_text (setting wiki page)) (expansion work) (start tt first given) job m e r).0
 
   more_told : (task : Task) (first : Left) (given : List (Reply Answer)) (question : Question) (left : Left) → progress wiki page task first given ≡ Wants question left → (r : Reply Answer) → loads_so_far wiki page task first (given ++ r ∷ []) ≡ join_loads (loads_so_far wiki page task first given) r.tally.loads
   more_told (Running work) first given question left i r = lua_tells_more work first given (lua (world wiki page) work first given) question left refl i r

@@ -189,8 +189,8 @@ invoke w name (p ∷ rest) sc = do
 unless_looped : {m : Doing (List ℕ)} → (title : Title) (sc : Scene) → Fine m → Fine (spec.unless_looped title sc m)
 unless_looped title sc q = choice (is_in title sc.chain) (give (loop_text title)) q
 
-body : (trees : Trees) (title : Title) (args : List Arg) (sc : Scene) → Fine (spec.body trees title args sc)
-body trees title args sc = unless_looped title sc (do
+template_body : (trees : Trees) (title : Title) (args : List Arg) (sc : Scene) → Fine (spec.template_body trees title args sc)
+template_body trees title args sc = unless_looped title sc (do
   enough ← try_use _
   choice enough (giving_back _ (expand trees _)) (give depth_text))
 
@@ -200,7 +200,7 @@ template (Some trees) title parts sc = unless_looped title sc (do
   enough ← try_use _
   choice enough (do
     args ← arguments parts sc none_given
-    body trees title args sc) (give depth_text))
+    template_body trees title args sc) (give depth_text))
 
 -- CONSTRUCTS
 by_kind : (w : Setting) (kind : Kind) (first : List ℕ) (parts : List Trees) (sc : Scene) → Fine (spec.by_kind w kind first parts sc)
@@ -219,13 +219,13 @@ construct w parts sc = do
   first ← expand (first_in parts) sc
   by_kind w (kind_of (no_part (others_in parts)) w.page (trim first)) first (others_in parts) sc
 
-meant : (w : Setting) (t : Thing) → Fine (spec.meant w t)
-meant w (AConstruct parts sc) = sized (deeper (construct w parts sc))
-meant w (AParameter parts sc) = sized (deeper (parameter parts sc))
+thing_text : (w : Setting) (t : Thing) → Fine (spec.thing_text w t)
+thing_text w (AConstruct parts sc) = sized (deeper (construct w parts sc))
+thing_text w (AParameter parts sc) = sized (deeper (parameter parts sc))
 
 expansion_is : (work : Work) → OnlyExpands (expansion work)
 expansion_is (Reading trees sc) = (expand trees sc).before (λ x. Ends x) (λ x. tt)
-expansion_is (Including trees title sc) = (body trees title sc.args sc).before (λ x. Ends x) (λ x. tt)
+expansion_is (Including trees title sc) = (template_body trees title sc.args sc).before (λ x. Ends x) (λ x. tt)
 
 -- FROM RUNS TO WHAT THEY COME TO
 abbrev Now : Type 0
@@ -252,7 +252,7 @@ abbrev Always : ℕ → (Page → Now → Seen) → Type 0
 Always k go = (p : Page) → OnlyExpands p → (s : Now) → s.replies ≡ [] → to_come s ≤ k → IsText (go p s)
 
 module _ (w : Setting) (b : Replier Job (List ℕ)) (nr : NoRise b) (gives : Gives_all b) where
-  with_text : (g : Page → Now → Seen) (k : ℕ) → ((p : Page) → OnlyExpands p → (s : Now) → s.replies ≡ [] → suc (to_come s) ≤ k → IsText (g p s)) → Always k (perform_with (spec.meant w) b g)
+  with_text : (g : Page → Now → Seen) (k : ℕ) → ((p : Page) → OnlyExpands p → (s : Now) → s.replies ≡ [] → suc (to_come s) ≤ k → IsText (g p s)) → Always k (perform_with (spec.thing_text w) b g)
   with_text g k h (Ends outcome) only s e le = tt
   with_text g k h (Takes n p) only s e le = absurd only
   with_text g k h (Counts p) only s e le = with_text g k h p only (count_node s) e le
@@ -263,14 +263,14 @@ module _ (w : Setting) (b : Replier Job (List ℕ)) (nr : NoRise b) (gives : Giv
   with_text g k h (Uses v u f) only s e le = with_text g k h (f (apply_use u s.left).0) (only (apply_use u s.left).0) (after_use u s) e (omega (arith, used_size u s.left))
   with_text g k h (Begins t f) only s e le = absurd only
   with_text g k h (Opens v t p f) (without, only) s e le =
-      node_text_of (less 1 s.left.nodes) s (g (spec.meant w t f)) (perform_with (spec.meant w) b g p) refl (λ r i. h (spec.meant w t f) ((meant w t).before f only) record s { left = record s.left { nodes = r } } e (omega arith)) (with_text g k h p without s e le)
+      node_text_of (less 1 s.left.nodes) s (g (spec.thing_text w t f)) (perform_with (spec.thing_text w) b g p) refl (λ r i. h (spec.thing_text w t f) ((thing_text w t).before f only) record s { left = record s.left { nodes = r } } e (omega arith)) (with_text g k h p without s e le)
   with_text g k h (Asks job f) only s e le =
-      subst (λ rs. IsText (with_reply b rs job s (λ x. perform_with (spec.meant w) b g (f x)))) (sym e) (computed_text b job s (λ x. perform_with (spec.meant w) b g (f x)) k nr gives (omega arith) (λ x t i le'. with_text g k h (f x) (only x) t i le'))
+      subst (λ rs. IsText (with_reply b rs job s (λ x. perform_with (spec.thing_text w) b g (f x)))) (sym e) (computed_text b job s (λ x. perform_with (spec.thing_text w) b g (f x)) k nr gives (omega arith) (λ x t i le'. with_text g k h (f x) (only x) t i le'))
 
-  by_text : (n : ℕ) → Always n (perform_by (spec.meant w) b n)
+  by_text : (n : ℕ) → Always n (perform_by (spec.thing_text w) b n)
   by_text zero = with_text nothing_begins 0 (λ p only s e le. absurd (omega arith))
-  by_text (suc n) = with_text (perform_by (spec.meant w) b n) (suc n) (λ p only s e le. by_text n p only s e (omega arith))
+  by_text (suc n) = with_text (perform_by (spec.thing_text w) b n) (suc n) (λ p only s e le. by_text n p only s e (omega arith))
 
-  pub comes_to_text : (work : Work) (l : Left) → IsText (perform (spec.meant w) b (expansion work) (start tt l []))
+  pub comes_to_text : (work : Work) (l : Left) → IsText (perform (spec.thing_text w) b (expansion work) (start tt l []))
   unfolding perform
   comes_to_text work l = by_text (size l + 0) (expansion work) (expansion_is work) (start tt l []) refl (omega arith)

@@ -12,7 +12,7 @@ use Rattle.mw_frame.specs.declared.scene.Job.{Job}
 use Rattle.mw_frame.specs.declared.question.Ask.{Ask}
 use Rattle.mw_frame.specs.declared.question.Ask.TheVariants.{Template, Preprocess, Data}
 use Rattle.wiki_markup.specs.Trees.{Trees}
-use Rattle.expand_meaning.specs.Expand.{meant}
+use Rattle.expand_meaning.specs.Expand.{thing_text}
 use Rattle.expand_meaning.specs.Outcome.{Work as PageWork, Reading, Including, expansion}
 use Rattle.lua_meaning.specs.World.{Module}
 use Rattle.lua_meaning.specs.Questions.{Answer}
@@ -35,7 +35,7 @@ module _ (wiki : Wiki) (page : Title) where
 
     -- a run of Lua asks for an expansion,
     abbrev pub expansion_reply : PageWork → Left → Reply Answer
-    expansion_reply work l = expanded (perform (meant (setting wiki page)) invocation_reply (expansion work) (start tt l []))
+    expansion_reply work l = expanded (perform (thing_text (setting wiki page)) invocation_reply (expansion work) (start tt l []))
 
     -- for the text of a template in a frame with these arguments,
     abbrev pub template_reply : Option Trees → Title → Scene → List Arg → Left → Reply Answer

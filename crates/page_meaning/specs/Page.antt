@@ -6,7 +6,7 @@ use Rattle.page_run.specs.State.{Tally, moment_of, start}
 use Rattle.page_run.specs.Perform.{perform}
 use Rattle.page_run.specs.Walk.{WalkState, empty_walk, walk}
 use Rattle.wiki_markup.specs.Trees.{Trees}
-use Rattle.expand_meaning.specs.Expand.{meant}
+use Rattle.expand_meaning.specs.Expand.{thing_text}
 use Rattle.expand_meaning.specs.Outcome.{Reading, expansion, page_scene, text_in}
 use Rattle.page_meaning.specs.Wiki.{Wiki, setting}
 use Rattle.page_meaning.specs.Told.{PageSeen}
@@ -35,7 +35,7 @@ page_of e = record { text = text_in e; left = (moment_of e).left; kept = kept_in
 
 -- the page's own text, expanded in a scene without arguments, with its invocations answered
 abbrev pub page_event : Wiki → Title → Trees → Left → PageSeen
-page_event wiki title trees full = perform (meant (setting wiki title)) (invocation_reply wiki title (drive wiki title)) (expansion (Reading trees (page_scene title))) (start tt full [])
+page_event wiki title trees full = perform (thing_text (setting wiki title)) (invocation_reply wiki title (drive wiki title)) (expansion (Reading trees (page_scene title))) (start tt full [])
 
 -- THE PAGE of this title, whose own text has these trees
 abbrev pub page : Wiki → Title → Trees → Left → Page

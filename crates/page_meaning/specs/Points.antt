@@ -4,7 +4,7 @@ use Rattle.wk_base.specs.declared.title.Title.{Title}
 use Rattle.wk_base.specs.declared.left.Left.{Left}
 use Rattle.page_run.specs.State.{Reply, Event, Ended, Spent, Asked, start}
 use Rattle.page_run.specs.Perform.{perform}
-use Rattle.expand_meaning.specs.Expand.{meant}
+use Rattle.expand_meaning.specs.Expand.{thing_text}
 use Rattle.expand_meaning.specs.Outcome.{Work as PageWork, expansion}
 use Rattle.lua_meaning.specs.Questions.{Answer}
 use Rattle.lua_meaning.specs.Things.{meaning_of}
@@ -20,7 +20,7 @@ module _ (wiki : Wiki) (page : Title) where
   drive_after work first given = perform (meaning_of (world wiki page)) (replies wiki page (drive wiki page)) (run_of (world wiki page) work) (start home first given)
 
   abbrev pub expand_after : PageWork → Left → List (Reply (List ℕ)) → PageSeen
-  expand_after work first given = perform (meant (setting wiki page)) (invocation_reply wiki page (drive wiki page)) (expansion work) (start tt first given)
+  expand_after work first given = perform (thing_text (setting wiki page)) (invocation_reply wiki page (drive wiki page)) (expansion work) (start tt first given)
 
 -- With the event that is seen of a run, what it comes to: that event, where it is over; and else what it comes to with the reply to its
 -- question, computed from what is left there.

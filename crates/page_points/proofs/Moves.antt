@@ -9,7 +9,7 @@ use Rattle.page_run.specs.State.{Loads, Reply, Ended, Spent, Asked, start}
 use Rattle.page_run.specs.Walk.{WalkState, empty_walk, walk, walk_load, count_fresh, is_in, tally_of}
 use Rattle.page_run.proofs.LoadLaws.{tells_none, tells_reply, walk_of_joined}
 use Rattle.lua_heap.specs.Reach.{Set}
-use Rattle.expand_meaning.specs.Expand.{meant}
+use Rattle.expand_meaning.specs.Expand.{thing_text}
 use Rattle.expand_meaning.specs.Outcome.{Work as PageWork, expansion, next_event}
 use Rattle.lua_meaning.specs.Questions.{Answer}
 use Rattle.lua_meaning.specs.Things.{meaning_of}
@@ -32,7 +32,7 @@ module _ (wiki : Wiki) (page : Title) where
   none_invoked : (task : Task) (first : Left) → invoked_so_far wiki page task first [] ≡ 0
   unfolding next_event
   none_invoked (Running work) first = (tells_none (meaning_of (world wiki page)) (run_of (world wiki page) work) (start home first []) refl).1
-  none_invoked (Expanding work) first = (tells_none (meant (setting wiki page)) (expansion work) (start tt first []) refl).1
+  none_invoked (Expanding work) first = (tells_none (thing_text (setting wiki page)) (expansion work) (start tt first []) refl).1
 
   lua_invokes : (work : Work) (first : Left) (given : List (Reply Answer)) (e : Seen) (question : Question) (left : Left) → lua (world wiki page) work first given ≡ e → lua_progress work first e ≡ Wants question left → (r : Reply Answer) → (tally_of (lua (world wiki page) work first (given ++ r ∷ []))).invoked_nodes ≡ (tally_of e).invoked_nodes + r.tally.invoked_nodes
   lua_invokes work first given (Ended outcome m) question left e i r = absurd cc
@@ -43,7 +43,7 @@ module _ (wiki : Wiki) (page : Title) where
   unfolding next_event
   page_invokes work first given (Ended text m) question left e i r = absurd cc
   page_invokes work first given (Spent which m) question left e i r = absurd cc
-  page_invokes work first given (Asked job m) question left e i r = (tells_reply (meant (setting wiki page)) (expansion work) (start tt first given) job m e r).1
+  page_invokes work first given (Asked job m) question left e i r = (tells_reply (thing_text (setting wiki page)) (expansion work) (start tt first given) job m e r).1
 
   more_invoked : (task : Task) (first : Left) (given : List (Reply Answer)) (question : Question) (left : Left) → progress wiki page task first given ≡ Wants question left → (r : Reply Answer) → invoked_so_far wiki page task first (given ++ r ∷ []) ≡ invoked_so_far wiki page task first given + r.tally.invoked_nodes
   more_invoked (Running work) first given question left i r = lua_invokes work first given (lua (world wiki page) work first given) question left refl i r

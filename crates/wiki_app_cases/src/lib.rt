@@ -5,6 +5,7 @@
 //! - `many`: several pages, with what they used
 //! - `meeting`: two pages at once
 //! - `tests`: statuses, the limits of a folder, and runs in which a read or a put fails
+//! - `failing`: each read and each put that fails, in turn
 //!
 //! There are no definitions here.
 #![tactic(auto)]
@@ -13,6 +14,8 @@
 mod case_tests;
 #[cfg(test)]
 mod cases;
+#[cfg(test)]
+mod failing;
 #[cfg(test)]
 mod invocations;
 #[cfg(test)]

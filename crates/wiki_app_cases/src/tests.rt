@@ -25,7 +25,7 @@ struct Case<'c> {
     err: &'c [u8],
 }
 
-const NEVER: u64 = u64::MAX;
+pub const NEVER: u64 = u64::MAX;
 
 const USAGE: &[u8] = b"usage: wikiexpand expand DIR PAGE [PAGE ...] | expand DIR --all | demo N\n";
 
@@ -82,7 +82,7 @@ fn ran_over<R: Threads + Sync, S: Shelf>(
 }
 
 /// Runs the words over these files; a folder that a shelf in memory can't hold counts as want of memory.
-fn ran_in_memory<R: Threads + Sync>(
+pub fn ran_in_memory<R: Threads + Sync>(
     rt: &R,
     alloc: Global,
     seed: RandomState,

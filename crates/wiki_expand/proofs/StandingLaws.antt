@@ -7,7 +7,7 @@ use Rattle.page_run.specs.State.{no_tally, join, Gives, Reply}
 use Rattle.page_run.specs.Perform.{perform, wait}
 use Rattle.page_run.proofs.ReplyLaws.{no_rise-wait}
 use Rattle.page_run.proofs.EventLaws.{ends_is, asks_is}
-use Rattle.expand_meaning.specs.Expand.{Setting, Page, meant}
+use Rattle.expand_meaning.specs.Expand.{Setting, Page, thing_text}
 use Rattle.expand_meaning.specs.Outcome.{Work, Reading, Including, next_event, Comes, Asks}
 use Rattle.wiki_expand.specs.Points.{wiki_setting, scene_in, waiting, state, Leads}
 use Rattle.wiki_expand.specs.declared.frame.Wiki.{Wiki}
@@ -19,23 +19,23 @@ use Rattle.wiki_expand.specs.declared.expander.Move.TheVariants.{Text as Came, I
 use Rattle.wiki_expand.specs.declared.expander.Doing.{Doing}
 
 -- the event at a point, with no more replies
-pub now_is : (w : Setting) (p q : Page) (work : Work) (first l l' : Left) (given : List (Reply (List ℕ))) (at : AtPoint w p work first given l) → Leads w p l q l' → next_event w work first given ≡ perform (meant w) wait q (state l' at.tally [])
+pub now_is : (w : Setting) (p q : Page) (work : Work) (first l l' : Left) (given : List (Reply (List ℕ))) (at : AtPoint w p work first given l) → Leads w p l q l' → next_event w work first given ≡ perform (thing_text w) wait q (state l' at.tally [])
 now_is w p q work first l l' given at h = ap (next_event w work first) (sym (append-nil given)) ∙ sym (at.goes_on []) ∙ h.runs at.tally []
 
 pub text_is : (w : Setting) (p : Page) (work : Work) (first l l' : Left) (given : List (Reply (List ℕ))) (x : List ℕ) → AtPoint w p work first given l → Leads w p l (Ends x) l' → Comes (next_event w work first given) x l'
 text_is w p work first l l' given x at h =
     let back : l'.calls + 0 ≡ l'.calls = omega arith in
-    subst (λ e. Comes e x l') (sym (now_is w p (Ends x) work first l l' given at h ∙ ends_is (meant w) wait no_rise-wait x (state l' at.tally []))) (refl, ap (λ n. record l' { calls = n }) back)
+    subst (λ e. Comes e x l') (sym (now_is w p (Ends x) work first l l' given at h ∙ ends_is (thing_text w) wait no_rise-wait x (state l' at.tally []))) (refl, ap (λ n. record l' { calls = n }) back)
 
 pub question_is : (w : Setting) (p : Page) (k : List ℕ → Page) (work : Work) (first l l' : Left) (given : List (Reply (List ℕ))) (job : Job) → AtPoint w p work first given l → Leads w p l (Run.Asks job k) l' → Asks (next_event w work first given) job l'
 question_is w p k work first l l' given job at h =
-    subst (λ e. Asks e job l') (sym (now_is w p (Run.Asks job k) work first l l' given at h ∙ (asks_is (meant w) wait no_rise-wait job k (state l' at.tally [])).2 refl refl)) (refl, refl)
+    subst (λ e. Asks e job l') (sym (now_is w p (Run.Asks job k) work first l l' given at h ∙ (asks_is (thing_text w) wait no_rise-wait job k (state l' at.tally [])).2 refl refl)) (refl, refl)
 
 pub waits_is : (w : Setting) (p : Page) (k : List ℕ → Page) (work : Work) (first l l' : Left) (given : List (Reply (List ℕ))) (job : Job) → AtPoint w p work first given l → Leads w p l (Run.Asks job k) l' → (r : Reply (List ℕ)) (x : List ℕ) → r.response ≡ Gives x → AtPoint w (k x) work first (given ++ r ∷ []) r.left
 waits_is w p k work first l l' given job at h r x said = record {
   tally = join 0 at.tally r.tally;
   goes_on = λ more.
-      sym (((asks_is (meant w) wait no_rise-wait job k (state l' at.tally (r ∷ more))).0 r more refl).0 x said)
+      sym (((asks_is (thing_text w) wait no_rise-wait job k (state l' at.tally (r ∷ more))).0 r more refl).0 x said)
       ∙ sym (h.runs at.tally (r ∷ more))
       ∙ at.goes_on (r ∷ more)
       ∙ ap (next_event w work first) (sym (append_assoc given (r ∷ []) more));
@@ -44,8 +44,8 @@ waits_is w p k work first l l' given job at h r x said = record {
 -- a run at its beginning
 pub begins_is : (w : Setting) (p : Page) (work : Work) (l : Left) → p ≡ work_page work Ends → AtPoint w p work l [] l
 unfolding next_event
-begins_is w p (Reading trees sc) l e = record { tally = no_tally; goes_on = λ more. ap (λ q. perform (meant w) wait q (state l no_tally more)) e }
-begins_is w p (Including trees title sc) l e = record { tally = no_tally; goes_on = λ more. ap (λ q. perform (meant w) wait q (state l no_tally more)) e }
+begins_is w p (Reading trees sc) l e = record { tally = no_tally; goes_on = λ more. ap (λ q. perform (thing_text w) wait q (state l no_tally more)) e }
+begins_is w p (Including trees title sc) l e = record { tally = no_tally; goes_on = λ more. ap (λ q. perform (thing_text w) wait q (state l no_tally more)) e }
 
 -- the point that a run comes to
 at_point : (w : Setting) (p q : Page) (work : Work) (first l l' : Left) (given : List (Reply (List ℕ))) → AtPoint w p work first given l → Leads w p l q l' → AtPoint w q work first given l'

@@ -14,7 +14,7 @@ use Rattle.page_run.specs.Perform.{perform, wait}
 use Rattle.expand_meaning.specs.Texts.{node_text, size_text, are_equal}
 use Rattle.expand_meaning.specs.Kind.{kind_of, title_named}
 use Rattle.expand_meaning.specs.Places.{part_in, no_part, name_in}
-use Rattle.expand_meaning.specs.Expand.{Setting, Thing, Page, Doing, Given, Looking, onward, expand, all_parts, put, found, arguments, value_or, either, by_name, valueless, after_turn, switch, module_titled, invocation, body, by_kind, meant}
+use Rattle.expand_meaning.specs.Expand.{Setting, Thing, Page, Doing, Given, Looking, onward, expand, all_parts, put, found, arguments, value_or, either, by_name, valueless, after_turn, switch, module_titled, invocation, template_body, by_kind, thing_text}
 use Rattle.wiki_expand.specs.Forests.{trees_in, parts}
 use Rattle.wiki_expand.specs.Pages.{setting_in}
 use Rattle.wiki_expand.specs.declared.frame.Wiki.{Wiki}
@@ -51,7 +51,7 @@ seen_in s = record { met = s.met; waits = s.waits; default = trees_in s.default 
 -- what arguments are handed to
 abbrev pub finish : Setting → Purpose → Scene → (List ℕ → Page) → List Arg → Page
 finish w (ForModule name function) sc k args = invocation (module_titled w (title_named name Module)) name function args sc k
-finish w (ForPage title page) sc k args = body (trees_in page) title args sc k
+finish w (ForPage title page) sc k args = template_body (trees_in page) title args sc k
 
 -- the parts to come, with these arguments so far
 abbrev pub calling : Setting → Call → Given → Scene → (List ℕ → Page) → Page
@@ -109,7 +109,7 @@ state l t more = record { heap = tt; left = l; in_progress = 0; tally = t; repli
 
 -- a run from here goes on as one from there, whatever was told and whatever replies come
 pub record Leads (w : Setting) (p : Page) (l : Left) (q : Page) (l' : Left) : Type 0 where
-  pub runs : (t : Tally) (more : List (Reply (List ℕ))) → perform (meant w) wait p (state l t more) ≡ perform (meant w) wait q (state l' t more)
+  pub runs : (t : Tally) (more : List (Reply (List ℕ))) → perform (thing_text w) wait p (state l t more) ≡ perform (thing_text w) wait q (state l' t more)
 
 -- the run at a focus of a machine, and the run in which what waits on top of it goes on with a text
 abbrev pub run_at : Wiki → Machine → Focus → Page

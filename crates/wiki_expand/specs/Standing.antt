@@ -9,7 +9,7 @@ use Rattle.page_run.specs.Run.{Run, Ends}
 use Rattle.page_run.specs.State.{Tally, Gives, Reply}
 use Rattle.page_run.specs.Perform.{perform, wait}
 use Rattle.expand_meaning.specs.Places.{trees_at}
-use Rattle.expand_meaning.specs.Expand.{Setting, Page, expand, body, meant}
+use Rattle.expand_meaning.specs.Expand.{Setting, Page, expand, template_body, thing_text}
 use Rattle.expand_meaning.specs.Outcome.{Work, Reading, Including, next_event, Comes, Asks}
 use Rattle.wiki_expand.specs.Pages.{Pages, find_page, direct_in, included_in}
 use Rattle.wiki_expand.specs.Forests.{trees_in}
@@ -47,7 +47,7 @@ work_from trees (Some title) sc = Including trees title sc
 
 abbrev pub work_page : Work → (List ℕ → Page) → Page
 work_page (Reading trees sc) k = expand trees sc k
-work_page (Including trees title sc) k = body trees title sc.args sc k
+work_page (Including trees title sc) k = template_body trees title sc.args sc k
 
 -- its title is held
 abbrev pub IsHeldSource : Pages → Source → Type 0
@@ -91,12 +91,12 @@ IsWaiting e = waiting e.doing
 -- the run of a work stands here after these replies, whatever replies follow
 pub record AtPoint (w : Setting) (p : Page) (work : Work) (first : Left) (given : List (Reply (List ℕ))) (left : Left) : Type 0 where
   pub tally : Tally
-  pub goes_on : (more : List (Reply (List ℕ))) → perform (meant w) wait p (state left tally more) ≡ next_event w work first (given ++ more)
+  pub goes_on : (more : List (Reply (List ℕ))) → perform (thing_text w) wait p (state left tally more) ≡ next_event w work first (given ++ more)
 
 -- where it goes on
 abbrev pub doing_point : Doing → Setting → List Frame → Scene → Option Page
 doing_point (Ready f) w fs sc = Some (point w f fs sc)
-doing_point (Begins title trees args) w fs sc = Some (body (trees_in trees) title args sc (plug w fs sc))
+doing_point (Begins title trees args) w fs sc = Some (template_body (trees_in trees) title args sc (plug w fs sc))
 doing_point Waiting w fs sc = None
 doing_point Over w fs sc = None
 

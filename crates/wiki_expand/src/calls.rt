@@ -6,7 +6,7 @@ ghost use Rattle.wk_base.specs.declared.left.Left.{Left as LeftOver};
 ghost use Rattle.wk_base.specs.declared.title.Title.{Title as TitleValue};
 ghost use Rattle.wk_base.specs.Space.{trim};
 ghost use Rattle.expand_meaning.specs.Kind.{title_named as title_at};
-ghost use Rattle.expand_meaning.specs.Expand.{Setting, Page, Given, none_given, expand, arguments as arguments_of, invocation as invocation_of, invoke as invoke_of, job_of as job_with, module_titled, body as body_of, template as template_of};
+ghost use Rattle.expand_meaning.specs.Expand.{Setting, Page, Given, none_given, expand, arguments as arguments_of, invocation as invocation_of, invoke as invoke_of, job_of as job_with, module_titled, template_body as body_of, template as template_of};
 ghost use Rattle.wiki_expand.specs.declared.frame.Frame.{Frame as Waiting};
 ghost use Rattle.wiki_expand.specs.Forests.{trees_in, parts, size, option_trees};
 ghost use Rattle.wiki_expand.specs.Pages.{Pages, find_page, included_in, setting_in};

@@ -5,7 +5,7 @@ ghost use Rattle.page_run.specs.Run.{TakeBytes, Uses};
 ghost use Rattle.page_run.specs.Part.{open_or};
 ghost use Rattle.expand_meaning.specs.Texts.{node_text as no_node, size_text as no_bytes};
 ghost use Rattle.expand_meaning.specs.Places.{name_in};
-ghost use Rattle.expand_meaning.specs.Expand.{Setting, Thing, AConstruct, AParameter, Page, Doing, expand, onward, sized as sized_part, deeper, meant};
+ghost use Rattle.expand_meaning.specs.Expand.{Setting, Thing, AConstruct, AParameter, Page, Doing, expand, onward, sized as sized_part, deeper, thing_text};
 ghost use Rattle.wiki_expand.specs.Forests.{trees_in, parts, size};
 ghost use Rattle.wiki_expand.specs.Points.{Leads, Opens_to, Takes_of, Goes, waiting, scene_in, ahead};
 ghost use Rattle.wiki_expand.specs.Asked.{AsksWell};
@@ -40,7 +40,7 @@ pub fn sized<'w>(alloc: Global, left: &mut Left, text: Rope<'w>) -> Result<Rope<
 
 /// Takes a node and enters a level.
 pub fn enter<'w>(alloc: Global, left: &mut Left) -> Result<Entry<'w>, NoMemory>
-    ensures opens { IfOk result (λ entry. (w : Setting) (t : Thing) (m : Doing (List ℕ)) (k : List ℕ → Page) → meant w t ≡ sized_part (deeper m) → Opens_to w t m k left.old entry left.new) }
+    ensures opens { IfOk result (λ entry. (w : Setting) (t : Thing) (m : Doing (List ℕ)) (k : List ℕ → Page) → thing_text w t ≡ sized_part (deeper m) → Opens_to w t m k left.old entry left.new) }
     ensures takes { IfOk result (λ entry. Takes_of left.old entry left.new) }
 {
     if !take_node(left) {
