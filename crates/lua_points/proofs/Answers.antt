@@ -44,7 +44,7 @@ use Rattle.lua_points.proofs.Standings.{apart, standing-wider, image-inside, in-
 
 module _ (code : CWorld) (S : Set) (world : World) (work : Work) (first : Left) (given : List (Reply Answer)) {point : Point} {s : Slots} {f : Funds} (a : At code S world work first given point s f) where
   now-meant : lua world work first given ≡ comes_to world a.run a.state f []
-  now-meant = sym (ap (λ xs. lua world work first xs) (append-none given)) ∙ a.meant []
+  now-meant = sym (ap (λ xs. lua world work first xs) (append-none given)) ∙ a.means []
 
 pub question_is_asked : QuestionIsAsked
 question_is_asked code S world work first given q fs s f a =
@@ -58,7 +58,7 @@ end_is_met code S world work first given o s f a =
       outcome = k.0;
       map = a.standing.map;
       state = a.state;
-      is_end = λ later. a.meant later ∙ ap (λ p. comes_to world p a.state f later) k.1 ∙ end-comes world k.0 a.state f later;
+      is_end = λ later. a.means later ∙ ap (λ p. comes_to world p a.state f later) k.1 ∙ end-comes world k.0 a.state f later;
       stands = a.standing.stands;
       same = k.2;
       inside = a.standing.inside;
@@ -131,7 +131,7 @@ module _ (code : CWorld) (S : Set) (world : World) (work : Work) (first : Left) 
   goes-on : (x : Answer) (l : Left) (y : Tally) (later : List (Reply Answer)) → lua world work first ((given ++ reply x l y ∷ []) ++ later) ≡ comes_to world (receive x waiting.0) a.state (replied (reply x l y) f) later
   goes-on x l y later =
       ap (λ xs. lua world work first xs) (append-one given (reply x l y) later)
-      ∙ a.meant (reply x l y ∷ later)
+      ∙ a.means (reply x l y ∷ later)
       ∙ ap (λ p. comes_to world p a.state f (reply x l y ∷ later)) waiting.1
       ∙ perform-Asks (meaning_of world) wait no-replies q (λ z. receive z waiting.0) (state_of a.state f (reply x l y ∷ later))
 
@@ -157,7 +157,7 @@ module _ (code : CWorld) (S : Set) (world : World) (work : Work) (first : Left) 
       deep = a.standing.deep;
       same = gives o o' waiting.0 fs so waiting.2;
     });
-    meant = λ later. goes-on x l y later ∙ ap (λ p. comes_to world p a.state (replied (reply x l y) f) later) e;
+    means = λ later. goes-on x l y later ∙ ap (λ p. comes_to world p a.state (replied (reply x l y) f) later) e;
   }
 
   tables-answer : (K : Set) (g : Graph) (value : Value) (l : Left) (y : Tally) → IsKept K S g value s.heap
@@ -171,7 +171,7 @@ module _ (code : CWorld) (S : Set) (world : World) (work : Work) (first : Left) 
         state = to;
         run = rest;
         standing = standing-joined code S K g value a.state a.run (Asking q fs) s a.standing k (gives _ _ waiting.0 fs (values_ _ _ (more _ _ _ _ j.root_at none)) (rest-grows code j.grows waiting.2));
-        meant = λ later.
+        means = λ later.
             goes-on (Loaded g) l y later
             ∙ perform-Sees (meaning_of world) wait no-replies _ (state_of a.state (replied (reply (Loaded g) l y) f) later)
             ∙ perform-Sees (meaning_of world) wait no-replies _ (state_of a.state (replied (reply (Loaded g) l y) f) later)
@@ -190,7 +190,7 @@ spent_answer_is_met code S world work first given q fs s f a w l y =
     let r : Reply Answer = spent_reply w l y in (
       a.state,
       λ later. ap (λ xs. lua world work first xs) (append-one given r later)
-          ∙ a.meant (r ∷ later)
+          ∙ a.means (r ∷ later)
           ∙ ap (λ p. comes_to world p a.state f (r ∷ later)) k.1
           ∙ perform-Asks (meaning_of world) wait no-replies q (λ z. receive z k.0) (state_of a.state f (r ∷ later)),
     )

@@ -48,10 +48,10 @@ module _ (code : CWorld) (world : World) (w : Agrees world code) where
     state : State
     rel : Rel code B map vars state u
     same : SamePoint code map vars u.functions run q
-    meant : (replies : List (Reply Answer)) → past replies ≡ comes_to world run state g replies
+    means : (replies : List (Reply Answer)) → past replies ≡ comes_to world run state g replies
 
   met-stands : {B : Base} {past : Past} {q : Point} {u : Slots} {g : Funds} → Met world code B past (StandsThere q u g) → Led B past q u g
-  met-stands (goes_to m vars p h q u g r x e) = record { map = m; vars = vars; run = p; state = h; rel = r; same = x; meant = e }
+  met-stands (goes_to m vars p h q u g r x e) = record { map = m; vars = vars; run = p; state = h; rel = r; same = x; means = e }
 
   met-short : {B : Base} {past : Past} {which : Which} {g : Funds} → Met world code B past (Short which g) → (h : State) × ((replies : List (Reply Answer)) → past replies ≡ Spent which (moment_with h g))
   met-short (is_spent h which g e) = (h, e)
@@ -65,7 +65,7 @@ module _ (code : CWorld) (world : World) (w : Agrees world code) where
   goes-led k (further p t g q u h l e) =
       let a = goes-led k l in
       let b = met-stands (steps (StandsThere q u h) a e) in
-      record { map = b.map; vars = b.vars; run = b.run; state = b.state; rel = b.rel; same = b.same; meant = λ replies. a.meant replies ∙ b.meant replies }
+      record { map = b.map; vars = b.vars; run = b.run; state = b.state; rel = b.rel; same = b.same; means = λ replies. a.means replies ∙ b.means replies }
 
   -- what a move leads to stands in the store, whatever is left of the allowances
   led-later : {B : Base} {p : LuaRun} {h : State} {mv : Move} → Follows world code B p h mv → (m : Map) × (i : State) × Later B.map m B.heap i.heap B.store (led mv).heap
@@ -126,7 +126,7 @@ module _ (code : CWorld) (world : World) (w : Agrees world code) where
 pub at-back : (code : CWorld) (S : Set) (world : World) (work : Work) (first : Left) (given : List (Reply Answer)) (o : Outcome (List Value) Jump) (s : Slots) (f : Funds) → At code S world work first given (Gives o []) s f → At code S world work first given (Gives o []) s (all_given_back f)
 at-back code S world work first given o s f a =
     let k = ended-point a.standing.same in
-    record { agrees = a.agrees; state = a.state; run = a.run; standing = a.standing; meant = λ later. a.meant later ∙ end-is-back world a.run k.0 a.state f later k.1 }
+    record { agrees = a.agrees; state = a.state; run = a.run; standing = a.standing; means = λ later. a.means later ∙ end-is-back world a.run k.0 a.state f later k.1 }
 
 -- THE CALL
 module _ (code : CWorld) (S : Set) (world : World) (work : Work) (first : Left) (given : List (Reply Answer)) (point : Point) (s : Slots) (f : Funds) where
@@ -135,7 +135,7 @@ module _ (code : CWorld) (S : Set) (world : World) (work : Work) (first : Left) 
     B = base code world a.agrees S a.state a.run point s a.standing
 
     at-start : Led code world a.agrees B (comes_to world a.run a.state f) point s f
-    at-start = record { map = a.standing.map; vars = a.standing.vars; run = a.run; state = a.state; rel = starts-here code world a.agrees S a.state a.run point s a.standing; same = a.standing.same; meant = λ replies. refl }
+    at-start = record { map = a.standing.map; vars = a.standing.vars; run = a.run; state = a.state; rel = starts-here code world a.agrees S a.state a.run point s a.standing; same = a.standing.same; means = λ replies. refl }
 
     -- where it stands after its moves
     at-later : (q : Point) (u : Slots) (g : Funds) → Reaches code point s f q u g → At code (with_new S s.heap u.heap) world work first given q u g
@@ -146,7 +146,7 @@ module _ (code : CWorld) (S : Set) (world : World) (work : Work) (first : Left) 
           state = k.state;
           run = k.run;
           standing = stands-later code world a.agrees S a.state a.run point s a.standing k;
-          meant = λ later. a.meant later ∙ k.meant later;
+          means = λ later. a.means later ∙ k.means later;
         }
 
     go : (e : Stop) → Comes code point s f e → Gone code S world work first given s.heap e
@@ -168,7 +168,7 @@ module _ (code : CWorld) (S : Set) (world : World) (work : Work) (first : Left) 
         let k = goes-led code world a.agrees at-start l in
         let n = met-short code world a.agrees (steps code world a.agrees (Short which h) k e) in
         record {
-          event = (n.0, λ later. a.meant later ∙ k.meant later ∙ n.1 later);
+          event = (n.0, λ later. a.means later ∙ k.means later ∙ n.1 later);
           frame = frame-later S a.standing.map k.map a.state.heap k.state.heap s.heap t.heap a.standing.inside k.rel.later;
           freezes_none = k.rel.later.freezes_none;
         }
@@ -177,7 +177,7 @@ module _ (code : CWorld) (S : Set) (world : World) (work : Work) (first : Left) 
         let n = met-short code world a.agrees (steps code world a.agrees (Short which h) k e) in
         let v = led-later code world a.agrees (goes_on world code a.agrees B k.map k.vars k.run k.state p t k.rel k.same) in
         record {
-          event = (n.0, λ later. a.meant later ∙ k.meant later ∙ n.1 later);
+          event = (n.0, λ later. a.means later ∙ k.means later ∙ n.1 later);
           frame = frame-later S a.standing.map v.0 a.state.heap v.1.heap s.heap (led (moves code p t)).heap a.standing.inside v.2;
           freezes_none = v.2.freezes_none;
         }

@@ -24,23 +24,23 @@ use Rattle.lua_points.proofs.Standings.{and-split, standing-wider, standing-imag
 
 module _ (code : CWorld) (S : Set) (world : World) (work : Work) (first : Left) (given : List (Reply Answer)) (point : Point) (s : Slots) (f : Funds) (a : At code S world work first given point s f) where
   pub at-wider : (T : Set) → ((r : Ref) → IsTrue (S r) → IsTrue (T r)) → At code T world work first given point s f
-  at-wider T g = record { agrees = a.agrees; state = a.state; run = a.run; standing = standing-wider code a.state a.run point s S T g a.standing; meant = a.meant }
+  at-wider T g = record { agrees = a.agrees; state = a.state; run = a.run; standing = standing-wider code a.state a.run point s S T g a.standing; means = a.means }
 
   pub at-image : At code (image a.standing.map) world work first given point s f
-  at-image = record { agrees = a.agrees; state = a.state; run = a.run; standing = standing-image code a.state a.run point s S a.standing; meant = a.meant }
+  at-image = record { agrees = a.agrees; state = a.state; run = a.run; standing = standing-image code a.state a.run point s S a.standing; means = a.means }
 
   pub at-cut : (T : Set) → IsClosed proc_names T s.heap → AllIn T (roots point s) → At code T world work first given point s f
-  at-cut T c i = record { agrees = a.agrees; state = a.state; run = a.run; standing = standing-cut code a.state a.run point s S a.standing T c i; meant = a.meant }
+  at-cut T c i = record { agrees = a.agrees; state = a.state; run = a.run; standing = standing-cut code a.state a.run point s S a.standing T c i; means = a.means }
 
   pub at-frame : (t : Heap Proc) → ((r : Ref) (o : Obj Proc) → IsTrue (S r) → look s.heap r ≡ Some o → look t r ≡ Some o) → At code S world work first given point (with_heap t s) f
-  at-frame t g = record { agrees = a.agrees; state = a.state; run = a.run; standing = standing-frame code a.state a.run point s S a.standing t g; meant = a.meant }
+  at-frame t g = record { agrees = a.agrees; state = a.state; run = a.run; standing = standing-frame code a.state a.run point s S a.standing t g; means = a.means }
 
   pub own_of : Set → Set
   own_of T = own_part code a.state a.run point s S a.standing T
 
   pub at-own : (T : Set) → IsOwnSet proc_names T s.heap → AllIn (with_shared T s.heap) (roots point s) → At code (own_of T) world work first given point s f
   unfolding own_of
-  at-own T c i = record { agrees = a.agrees; state = a.state; run = a.run; standing = standing-own code a.state a.run point s S a.standing T c i; meant = a.meant }
+  at-own T c i = record { agrees = a.agrees; state = a.state; run = a.run; standing = standing-own code a.state a.run point s S a.standing T c i; means = a.means }
 
   pub own-inside : (T : Set) (r : Ref) → IsTrue (own_of T r) → IsTrue (with_shared T s.heap r)
   unfolding own_of

@@ -112,7 +112,7 @@ start_is_at code world agrees work first globals strings s t i = record {
         apart (is_shared b) y (subst (λ (o : Obj Proc). is_shared o ≡ false) (some_back (sym v.3 ∙ f)) (made-plain code globals strings s t i q r e));
     same = works world work agrees refl refl;
   };
-  meant = λ later. refl;
+  means = λ later. refl;
 }
 
 pub start_owns_new : StartOwnsNew

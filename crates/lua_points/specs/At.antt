@@ -51,7 +51,7 @@ module _ (code : CWorld) where
     pub state : State
     pub run : LuaRun
     pub standing : Standing S state run point s
-    pub meant : (more : List (Reply Answer)) → lua world work first (given ++ more) ≡ comes_to world run state f more
+    pub means : (more : List (Reply Answer)) → lua world work first (given ++ more) ≡ comes_to world run state f more
 
   -- what is true of the run at an event of a machine: it is at its end, or at a question, as the machine is; or it is spent with the same
   -- allowance, and as much is left, whatever replies would have come
