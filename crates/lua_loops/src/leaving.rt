@@ -22,7 +22,7 @@ use wk_base::{Left, NoMemory};
 /// The oldest so many registers stay.
 pub fn keep_oldest(regs: &mut Stack<Slot>, depth: usize)
     ensures of { (s : StoreView) → RegistersOf s regs.old → RegistersOf s regs.new }
-    ensures kept { (texts : Items (Items ℕ)) → registers_seen texts regs.new ≡ cut_to depth (registers_seen texts regs.old) }
+    ensures cuts { (texts : Items (Items ℕ)) → registers_seen texts regs.new ≡ cut_to depth (registers_seen texts regs.old) }
 {
     regs.cut(depth);
 }
@@ -43,7 +43,7 @@ fn leave_newest(functions: &mut Activations) -> usize
 fn leave_function(regs: &mut Stack<Slot>, functions: &mut Activations)
     ensures registers { (s : StoreView) → RegistersOf s regs.old → RegistersOf s regs.new }
     ensures functions { (s : StoreView) → ActivationsOf s functions.old → ActivationsOf s functions.new }
-    ensures kept { (s : StoreView) → registers_seen s.texts regs.new ≡ cut_to (newest_function (activations_seen s functions.old)).base (registers_seen s.texts regs.old) }
+    ensures cuts { (s : StoreView) → registers_seen s.texts regs.new ≡ cut_to (newest_function (activations_seen s functions.old)).base (registers_seen s.texts regs.old) }
     ensures rest { (s : StoreView) → activations_seen s functions.new ≡ calls.rest_of (activations_seen s functions.old) }
 {
     let base = leave_newest(functions);

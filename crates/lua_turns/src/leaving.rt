@@ -25,7 +25,7 @@ fn leave_newest(functions: &mut Activations) -> usize
 pub fn leave_function(regs: &mut Stack<Slot>, functions: &mut Activations)
     ensures registers { (s : StoreView) → RegistersOf s regs.old → RegistersOf s regs.new }
     ensures functions { (s : StoreView) → ActivationsOf s functions.old → ActivationsOf s functions.new }
-    ensures kept { (s : StoreView) → registers_seen s.texts regs.new ≡ cut_to (newest_function (activations_seen s functions.old)).base (registers_seen s.texts regs.old) }
+    ensures cuts { (s : StoreView) → registers_seen s.texts regs.new ≡ cut_to (newest_function (activations_seen s functions.old)).base (registers_seen s.texts regs.old) }
     ensures rest { (s : StoreView) → activations_seen s functions.new ≡ calls.rest_of (activations_seen s functions.old) }
 {
     let base = leave_newest(functions);

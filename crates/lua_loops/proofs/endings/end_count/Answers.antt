@@ -12,4 +12,4 @@ pub returns : goal.returns
 returns c =
     IfOk-weaker c.next_index.result _ _ (λ r e. after_cut c.args.store.now c.next_index.new.store c.args.state.now _ c.keep_oldest.new.regs c.args.depth c.args.left.now c.next_index.new.left
     (λ x. count_next c.args.boxed c.args.range.0 c.args.range.1 c.args.range.2 (block_seen c.args.body.now) (frames_of c.args.store.now c.args.state.now) x) _
-    (c.keep_oldest.ensures.kept c.args.store.now.texts) e) c.next_index.ensures
+    (c.keep_oldest.ensures.cuts c.args.store.now.texts) e) c.next_index.ensures

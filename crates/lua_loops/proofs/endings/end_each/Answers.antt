@@ -13,4 +13,4 @@ pub returns : goal.returns
 returns c =
     IfOk-weaker c.call_iterator.result _ _ (λ r e. after_cut c.args.store.now c.call_iterator.new.store c.args.state.now c.call_iterator.new.state c.keep_oldest.new.regs c.args.depth c.args.left.now c.call_iterator.new.left
     (λ x. each_from c.args.each.value.flags.now (seen c.args.store.now.texts c.args.each.value.iterator) (seen c.args.store.now.texts c.args.each.value.state) (seen c.args.store.now.texts c.args.before) (block_seen c.args.each.value.body.now) c.args.each.value.line (frames_of c.args.store.now c.args.state.now) x) _
-    (c.keep_oldest.ensures.kept c.args.store.now.texts) e) c.call_iterator.ensures
+    (c.keep_oldest.ensures.cuts c.args.store.now.texts) e) c.call_iterator.ensures

@@ -13,4 +13,4 @@ pub returns : goal.returns
 returns c =
     IfOk-weaker c.test_repeat.result _ _ (λ r e. after_cut c.args.store.now c.test_repeat.new.store c.args.state.now _ c.keep_oldest.new.regs c.args.depth c.args.left.now c.test_repeat.new.left
     (λ x. repeat_next (block_seen c.args.body.now) (expression_seen c.args.test.now) (seen c.args.store.now.texts c.args.value) (frames_of c.args.store.now c.args.state.now) x) _
-    (c.keep_oldest.ensures.kept c.args.store.now.texts) e) c.test_repeat.ensures
+    (c.keep_oldest.ensures.cuts c.args.store.now.texts) e) c.test_repeat.ensures

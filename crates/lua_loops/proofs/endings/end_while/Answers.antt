@@ -13,4 +13,4 @@ pub returns : goal.returns
 returns c = λ l.
     IfOk-weaker c.wait.result _ _ (λ r e. after_cut c.args.store.now c.args.store.now c.args.state.now c.wait.new.state c.keep_oldest.new.regs c.args.depth l l
     (λ x. Now (Evals (expression_seen c.args.test.now) (WhileTest (expression_seen c.args.test.now) (block_seen c.args.body.now) ∷ frames_of c.args.store.now c.args.state.now)) x) _
-    (c.keep_oldest.ensures.kept c.args.store.now.texts) e) (c.wait.ensures l)
+    (c.keep_oldest.ensures.cuts c.args.store.now.texts) e) (c.wait.ensures l)

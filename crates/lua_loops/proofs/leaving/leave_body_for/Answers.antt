@@ -14,4 +14,4 @@ pub returns : goal.returns
 returns c =
     IfOk-weaker c.leave_for.result _ _ (λ r e. after_function c.args.store.now c.args.store.now c.args.state.now c.leave_for.new.state c.leave_function.new.regs c.leave_function.new.functions c.args.left.now c.leave_for.new.left
     (λ x. Exits (Now (focus_seen c.args.store.now c.args.focus (frames_of c.args.store.now c.args.state.now)) x)) _
-    (c.leave_function.ensures.kept c.args.store.now) (c.leave_function.ensures.rest c.args.store.now) e) c.leave_for.ensures
+    (c.leave_function.ensures.cuts c.args.store.now) (c.leave_function.ensures.rest c.args.store.now) e) c.leave_for.ensures

@@ -3,5 +3,5 @@ use Rattle.lua_slots.specs.Slots.{cut_to}
 use Rattle.lua_stack.specs.Seen.{registers_seen}
 use Rattle.lua_loops.proofs.leaving.leave_function.Goals as goal
 
-pub returns-clause-kept : goal.returns-clause-kept
-returns-clause-kept c = λ s. c.keep_oldest.ensures.kept s.texts ∙ ap (λ (d : ℕ). cut_to d (registers_seen s.texts c.args.regs.now)) (c.leave_newest-base.ensures.base s)
+pub returns-clause-cuts : goal.returns-clause-cuts
+returns-clause-cuts c = λ s. c.keep_oldest.ensures.cuts s.texts ∙ ap (λ (d : ℕ). cut_to d (registers_seen s.texts c.args.regs.now)) (c.leave_newest-base.ensures.base s)

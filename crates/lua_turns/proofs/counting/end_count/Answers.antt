@@ -42,7 +42,7 @@ returns-in_ok-open-in-Some g c = λ values.
     c.requires.newest.0 f _ (focus.Runs c.as_slice.result) count.depth count.boxed count.index c.in-Some.index count.limit count.step (block_seen count.body.now)
     c.requires.state c.requires.newest.1 (c.swap_newest.ensures f c.requires.newest.0 c.requires.newest.1) c.if-not-pay_nodes.ensures
     (λ gs x. told count.boxed (block_seen count.body.now) gs x)
-    (c.keep_oldest.ensures.kept s.texts) c.open.ensures.later c.open.ensures.texts c.in_ok-open-in-Some.ensures.of
+    (c.keep_oldest.ensures.cuts s.texts) c.open.ensures.later c.open.ensures.texts c.in_ok-open-in-Some.ensures.of
     (opened_number count.boxed _ c.in-Some.index (s.heap, registers_seen s.texts c.keep_oldest.new.regs) _ (to_z-of_z w64 c.in-Some.index index) c.in_ok-open-in-Some.ensures.opened)
     refl
     (counts_at_end c.depth_of-depth.result _ count.boxed _ c.in-Some.index _ count.limit _ count.step (block_seen count.body.now) (c.depth_of-depth.ensures s.texts) (to_z-of_z w64 c.in-Some.index index) (to_z-of_z w64 count.limit limit) (to_z-of_z w64 count.step step))
@@ -61,4 +61,4 @@ returns-in-None g c = λ values.
     popped_here s m c.args.left.now c.args.turns.now (Goes values) f c.requires.newest.0 c.drop_newest.new.frames c.keep_oldest-in-None.new.regs (focus.Gives (given.Many [])) (cut count.depth (slots_of s m)) c.requires.state c.requires.newest.1
     (c.drop_newest.ensures f c.requires.newest.0 c.requires.newest.1) (c.keep_oldest-in-None.ensures.of s c.requires.state.regs) tt
     (λ world gs. told count.boxed (block_seen count.body.now) gs (cut count.depth (slots_of s m)))
-    (sym (cut_slots s m c.keep_oldest-in-None.new.regs count.depth (c.keep_oldest-in-None.ensures.kept s.texts)))
+    (sym (cut_slots s m c.keep_oldest-in-None.new.regs count.depth (c.keep_oldest-in-None.ensures.cuts s.texts)))

@@ -15,4 +15,4 @@ returns c = λ s l k values of.
     let m = c.args.state.now in
     let f = frame.End (ending.BlockEnd c.args.depth) in
     popped_here s m l k (Goes values) f c.requires.0 c.drop_newest.new.frames c.keep_oldest.new.regs (focus.Gives (given.Many [])) (cut c.args.depth (slots_of s m)) of c.requires.1
-    (c.drop_newest.ensures f c.requires.0 c.requires.1) (c.keep_oldest.ensures.of s of.regs) tt (λ world gs. refl) (sym (cut_slots s m c.keep_oldest.new.regs c.args.depth (c.keep_oldest.ensures.kept s.texts)))
+    (c.drop_newest.ensures f c.requires.0 c.requires.1) (c.keep_oldest.ensures.of s of.regs) tt (λ world gs. refl) (sym (cut_slots s m c.keep_oldest.new.regs c.args.depth (c.keep_oldest.ensures.cuts s.texts)))

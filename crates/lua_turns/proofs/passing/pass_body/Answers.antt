@@ -14,4 +14,4 @@ returns c = λ s k of known.
     let f = frame.End ending.BodyEnd in
     left_body s c.args.state.now c.leave_call.new.state c.args.left.now c.leave_call.new.left k (Jumps (Returned (seen s.texts c.args.value ∷ []))) f c.requires.0 c.drop_newest.new.frames c.leave_function.new.regs c.leave_function.new.functions (focus.Gives (given.One c.args.value)) of c.requires.1
     (c.drop_newest.ensures f c.requires.0 c.requires.1) (c.leave_function.ensures.registers s of.regs) (c.leave_function.ensures.functions s of.functions) (known, tt)
-    c.in_ok-leave_call.ensures.leaves c.in_ok-leave_call.ensures.same (λ world gs. refl) (c.leave_function.ensures.kept s) (c.leave_function.ensures.rest s)
+    c.in_ok-leave_call.ensures.leaves c.in_ok-leave_call.ensures.same (λ world gs. refl) (c.leave_function.ensures.cuts s) (c.leave_function.ensures.rest s)
