@@ -39,7 +39,7 @@ fn hold_match<A: Alphabet>(
     next: Option<usize>,
 ) -> Result<Sought, NoMemory>
     requires { PlaceWithin (length s.now) next }
-    ensures held { IfOk result (IsHeld A.letters s.now (stand_seen stand) found.now next store.new far.old far.new) }
+    ensures holds_match { IfOk result (IsHeld A.letters s.now (stand_seen stand) found.now next store.new far.old far.new) }
     ensures of { IfOk result (SoughtOf store.new) }
     ensures within { OnOk result (StandWithin (length s.now) far.new.next) }
     ensures heap { store.new.heap ≡ store.old.heap }

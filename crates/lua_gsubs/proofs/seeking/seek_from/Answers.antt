@@ -37,4 +37,4 @@ returns-in_ok-sought-in-Ok-Found-clause-walked g c =
     let p = c.args.pattern.now in
     let is = rw c.in-Ok-Found.field-0-is at c.in-Ok-Found.ensures.met in
     walked_held a c.args.s.now (stand_seen c.args.stand) p.slots (walk a p.anchored p.items c.args.s.now c.args.stand.at) c.in-Ok-Found.found c.in-Ok-Found.next c.span-between.result.now c.args.store.now c.hold_match.new.store
-    c.args.far.now c.hold_match.new.far c.args.left.now c.meet.new.left c.pay.new.left c.in_ok-sought-in-Ok-Found.sought is c.span-between.ensures c.in_ok-pay-in-Ok-Found.ensures c.in_ok-sought-in-Ok-Found.ensures.held
+    c.args.far.now c.hold_match.new.far c.args.left.now c.meet.new.left c.pay.new.left c.in_ok-sought-in-Ok-Found.sought is c.span-between.ensures c.in_ok-pay-in-Ok-Found.ensures c.in_ok-sought-in-Ok-Found.ensures.holds_match
