@@ -41,7 +41,7 @@ use Rattle.std.specs.List.{AllByRecursion}
 
 -- ANY ROOT starts where nothing waits and nothing is kept
 module _ (g : Ground) (root : PlainTask) (s s' : StoreView) (left : Left) (k : ℕ) (tower : Tower) (task : Task) where
-  module _ (fresh : (modules : Modules) → IsFresh (wiki_of g modules) (page_of g) root left empty_walk) (b : Begins g root s s' task) (e : tower.stack ≡ []) (e' : tower.keep ≡ []) (e'' : tower.kept ≡ 0) (n : IsNumbered s tower.numbers) where
+  module _ (fresh : (modules : Modules) → IsFresh (wiki_of g modules) (page_of g) root left empty_walk) (b : Begins g root s s' task) (e : tower.stack ≡ []) (e' : tower.keep ≡ []) (e'' : tower.repeat_charges ≡ 0) (n : IsNumbered s tower.numbers) where
     nothing_kept : (modules : Modules) → Keeps g modules [] empty_walk
     nothing_kept modules = record { all = tt; names = λ t i. refl }
 
@@ -57,7 +57,7 @@ module _ (g : Ground) (root : PlainTask) (s s' : StoreView) (left : Left) (k : �
             others = subst (λ ts. AllWait g modules s' ts []) (sym e) tt;
             apart = x.alone.apart [] (nobody_is_there s.heap [] tt);
             keeps = subst (λ keep. Keeps g modules keep empty_walk) (sym e') (nothing_kept modules);
-            kept = sym e'';
+            charges = sym e'';
             begun = omega (arith, nothing_begun (wiki_of g modules) (page_of g) root left);
           };
           ready = x.ready;
@@ -82,7 +82,7 @@ module _ (g : Ground) (root : PlainTask) (s s' : StoreView) (left : Left) (k : �
     }
 
 -- a page's own expansion
-page_starts : (g : Ground) (trees : Trees) (s : StoreView) (left : Left) (k : ℕ) (tower : Tower) (root : Task) → Begins g (Expanding (Reading trees (page_scene (page_of g)))) s s root → tower.stack ≡ [] → tower.keep ≡ [] → tower.kept ≡ 0 → IsNumbered s tower.numbers
+page_starts : (g : Ground) (trees : Trees) (s : StoreView) (left : Left) (k : ℕ) (tower : Tower) (root : Task) → Begins g (Expanding (Reading trees (page_scene (page_of g)))) s s root → tower.stack ≡ [] → tower.keep ≡ [] → tower.repeat_charges ≡ 0 → IsNumbered s tower.numbers
     → Starting g (Expanding (Reading trees (page_scene (page_of g)))) left k s left k tower root
 page_starts g trees s left k tower root b e e' e'' n = root_starts g (Expanding (Reading trees (page_scene (page_of g)))) s s left k tower root (λ modules. tt) b e e' e'' n
 
@@ -101,19 +101,19 @@ pub paid_within : (k' steps kept k s m : ℕ) → k' + steps + kept ≤ k + s �
 paid_within k' steps kept k s m a e = omega (arith, a, e)
 
 -- THE PAGE
-pub is_page : (g : Ground) (modules : Modules) (trees : Trees) (full left : Left) (k k' kept : ℕ) (r : Reply) (p : Page) → p.title ≡ page_of g → p.text ≡ given_text (reply_seen r) → p.left ≡ left → p.kept ≡ kept → IsExpanded g modules (Expanding (Reading trees (page_scene (page_of g)))) full k left k' kept r → IsPage (wiki_of g modules) (page_of g) trees full k k' p
+pub is_page : (g : Ground) (modules : Modules) (trees : Trees) (full left : Left) (k k' kept : ℕ) (r : Reply) (p : Page) → p.title ≡ page_of g → p.text ≡ given_text (reply_seen r) → p.left ≡ left → p.repeat_charges ≡ kept → IsExpanded g modules (Expanding (Reading trees (page_scene (page_of g)))) full k left k' kept r → IsPage (wiki_of g modules) (page_of g) trees full k k' p
 is_page g modules trees full left k k' kept r p title text is same x =
     let told = pages_are_tasks (wiki_of g modules) (page_of g) trees full in
     record {
       title_is = title;
       text_is = text ∙ ap given_text (sym x.says) ∙ ap (λ (v : PlainPage). v.text) (sym told);
       left_is = is ∙ sym x.leaves ∙ ap (λ (v : PlainPage). v.left) (sym told);
-      kept_is = same ∙ sym x.keeps ∙ ap (λ (v : PlainPage). v.kept) (sym told);
+      repeat_charges_are = same ∙ sym x.keeps ∙ ap (λ (v : PlainPage). v.repeat_charges) (sym told);
       begun = omega (arith, x.begun, ap (λ (v : PlainPage). v.begun) told);
     }
 
 -- of a page that is held
-module _ (g : Ground) (s : StoreView) (left : Left) (k : ℕ) (tower : Tower) (root : Task) (e : tower.stack ≡ []) (e' : tower.keep ≡ []) (e'' : tower.kept ≡ 0) (n : IsNumbered s tower.numbers) (f : Fits left) where
+module _ (g : Ground) (s : StoreView) (left : Left) (k : ℕ) (tower : Tower) (root : Task) (e : tower.stack ≡ []) (e' : tower.keep ≡ []) (e'' : tower.repeat_charges ≡ 0) (n : IsNumbered s tower.numbers) (f : Fits left) where
   abbrev Root : Option Trees → Type 0
   Root o = IfSome o (λ trees. (s : StoreView) → Begins g (Expanding (Reading trees (page_scene (page_of g)))) s s root)
 
@@ -125,13 +125,13 @@ module _ (g : Ground) (s : StoreView) (left : Left) (k : ℕ) (tower : Tower) (r
     expanded : (trees : Trees) → Root (Some trees) → Expanded g (Expanding (Reading trees (page_scene (page_of g)))) left k s' left' k' tower' r
     expanded trees b = comes (Expanding (Reading trees (page_scene (page_of g)))) left k f (page_starts g trees s left k tower root (b s) e e' e'' n)
 
-    pub page_held : (o : Option Trees) → IsSome o → Root o → (modules : Modules) → AreModulesOf g modules → (p : Page) → p.title ≡ page_of g → p.text ≡ given_text (reply_seen r) → p.left ≡ left' → p.kept ≡ tower'.kept → (full : Left) → left ≡ full
+    pub page_held : (o : Option Trees) → IsSome o → Root o → (modules : Modules) → AreModulesOf g modules → (p : Page) → p.title ≡ page_of g → p.text ≡ given_text (reply_seen r) → p.left ≡ left' → p.repeat_charges ≡ tower'.repeat_charges → (full : Left) → left ≡ full
         → IsHeldPage (wiki_of g modules) (page_of g) o full k k' p
     page_held (Some trees) h b modules agree p title text is same full i =
-        subst (λ l. IsPage (wiki_of g modules) (page_of g) trees l k k' p) i (is_page g modules trees left left' k k' tower'.kept r p title text is same ((expanded trees b).expanded modules agree))
+        subst (λ l. IsPage (wiki_of g modules) (page_of g) trees l k k' p) i (is_page g modules trees left left' k k' tower'.repeat_charges r p title text is same ((expanded trees b).expanded modules agree))
     page_held None h b modules agree p title text is same full i = absurd cc
 
-    pub turns_held : (o : Option Trees) → IsSome o → Root o → (k ≤ k') × (k' + left'.steps + tower'.kept ≤ k + left.steps)
+    pub turns_held : (o : Option Trees) → IsSome o → Root o → (k ≤ k') × (k' + left'.steps + tower'.repeat_charges ≤ k + left.steps)
     turns_held (Some trees) h b = ((expanded trees b).rises, (expanded trees b).paid)
     turns_held None h b = absurd cc
 
@@ -153,7 +153,7 @@ is_job g modules job full left k k' kept r e so is paid x =
 pub first_number : (s t : StoreView) (ns ms : Numbers) → s ≡ nothing → ns ≡ none_started → ms ≡ after_start ns → t ≡ record s { env = ns.started } → IsNumbered t ms
 first_number s t ns ms e e' e'' e''' = (start_renumbers s ns t ms e'' e''').numbered (numbers_none s ns e e')
 
-module _ (g : Ground) (job : Job) (s s₁ : StoreView) (left : Left) (k : ℕ) (tower : Tower) (root : Task) (b : Begins g (Running (Invoke job)) s s₁ root) (e : tower.stack ≡ []) (e' : tower.keep ≡ []) (e'' : tower.kept ≡ 0) (n : IsNumbered s tower.numbers) (f : Fits left) where
+module _ (g : Ground) (job : Job) (s s₁ : StoreView) (left : Left) (k : ℕ) (tower : Tower) (root : Task) (b : Begins g (Running (Invoke job)) s s₁ root) (e : tower.stack ≡ []) (e' : tower.keep ≡ []) (e'' : tower.repeat_charges ≡ 0) (n : IsNumbered s tower.numbers) (f : Fits left) where
   job_starts : Starting g (Running (Invoke job)) left k s₁ left k tower root
   job_starts = root_starts g (Running (Invoke job)) s s₁ left k tower root (λ modules. tt) b e e' e'' n
 
@@ -166,7 +166,7 @@ module _ (g : Ground) (job : Job) (s s₁ : StoreView) (left : Left) (k : ℕ) (
 
     pub job_ends : (modules : Modules) → AreModulesOf g modules → (x : JobEnd) → x.outcome ≡ outcome_of r → x.left ≡ left' → IsJob (wiki_of g modules) (page_of g) job full k k' x
     job_ends modules agree x so is =
-        subst (λ l. IsJob (wiki_of g modules) (page_of g) job l k k' x) i (is_job g modules job left left' k k' tower'.kept r x so is ended.paid (ended.expanded modules agree))
+        subst (λ l. IsJob (wiki_of g modules) (page_of g) job l k k' x) i (is_job g modules job left left' k k' tower'.repeat_charges r x so is ended.paid (ended.expanded modules agree))
 
     pub job_rises : k ≤ k'
     job_rises = ended.rises

@@ -18,7 +18,7 @@ pub record IsPage (wiki : Wiki) (title : Title) (trees : Trees) (full : Left) (k
   pub title_is : p.title ≡ title
   pub text_is : p.text ≡ (page wiki title trees full).text
   pub left_is : p.left ≡ (page wiki title trees full).left
-  pub kept_is : p.kept ≡ (page wiki title trees full).kept
+  pub repeat_charges_are : p.repeat_charges ≡ (page wiki title trees full).repeat_charges
   pub begun : k + (page wiki title trees full).begun ≤ k'
 
 -- of a page that is held

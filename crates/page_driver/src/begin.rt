@@ -16,13 +16,13 @@ use wk_base::{Left, Limits};
 pub(crate) fn empty_tower<'w>(alloc: Global, seed: RandomState, numbers: Numbers) -> Tower<'w>
     ensures stack { result.stack ≡ [] }
     ensures keep { result.keep ≡ [] }
-    ensures kept { result.kept ≡ 0 }
+    ensures repeat_charges { result.repeat_charges ≡ 0 }
     ensures numbers { result.numbers ≡ numbers }
 {
     Tower {
         stack: Stack::new(alloc),
         keep: Keep::new(alloc, seed),
-        kept: 0,
+        repeat_charges: 0,
         numbers,
     }
 }

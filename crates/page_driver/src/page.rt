@@ -54,7 +54,7 @@ fn text_in(alloc: Global, reply: Reply) -> Result<Bytes, NoMemory>
 struct Came {
     reply: Reply,
     left: Left,
-    kept: u64,
+    repeat_charges: u64,
 }
 
 /// Goes on with the page's own expansion, with all that the page may use.
@@ -69,9 +69,9 @@ fn come_from<'w, L: Ledger>(
     requires held { IsSome (find_page (ground_of around.now).pages (page_of (ground_of around.now))) }
     requires countable { IsCountable limits.now }
     requires root { IfSome (direct_in (ground_of around.now).pages (page_of (ground_of around.now))) (λ trees. (s : StoreView) → Begins (ground_of around.now) (Expanding (Reading trees (page_scene (page_of (ground_of around.now))))) s s root) }
-    ensures page { IfOk result (λ x. (p : PageValue) → p.title ≡ page_of (ground_of around.now) → p.text ≡ given_text (reply_seen x.reply) → p.left ≡ x.left → p.kept ≡ x.kept → (modules : PlainModules) → AreModulesOf (ground_of around.now) modules → IsHeldPage (wiki_of (ground_of around.now) modules) (page_of (ground_of around.now)) (direct_in (ground_of around.now).pages (page_of (ground_of around.now))) (full_of limits.now) turns.old turns.new p) }
+    ensures page { IfOk result (λ x. (p : PageValue) → p.title ≡ page_of (ground_of around.now) → p.text ≡ given_text (reply_seen x.reply) → p.left ≡ x.left → p.repeat_charges ≡ x.repeat_charges → (modules : PlainModules) → AreModulesOf (ground_of around.now) modules → IsHeldPage (wiki_of (ground_of around.now) modules) (page_of (ground_of around.now)) (direct_in (ground_of around.now).pages (page_of (ground_of around.now))) (full_of limits.now) turns.old turns.new p) }
     ensures rises { OnOk result (turns.old ≤ turns.new) }
-    ensures paid { IfOk result (λ x. turns.new + x.left.steps + x.kept ≤ turns.old + limits.now.steps) }
+    ensures paid { IfOk result (λ x. turns.new + x.left.steps + x.repeat_charges ≤ turns.old + limits.now.steps) }
 {
     let mut left = full_left(limits);
     let numbers = Numbers::new(around.alloc);
@@ -80,7 +80,7 @@ fn come_from<'w, L: Ledger>(
     Ok(Came {
         reply,
         left,
-        kept: tower.kept,
+        repeat_charges: tower.repeat_charges,
     })
 }
 
@@ -96,18 +96,22 @@ fn expand_within<L: Ledger>(
     requires countable { IsCountable limits.now }
     ensures page { IfOk result (λ p. (modules : PlainModules) → AreModulesOf (ground_of around.now) modules → IsHeldPage (wiki_of (ground_of around.now) modules) (page_of (ground_of around.now)) (direct_in (ground_of around.now).pages (page_of (ground_of around.now))) (full_of limits.now) turns.old turns.new p) }
     ensures rises { OnOk result (turns.old ≤ turns.new) }
-    ensures paid { IfOk result (λ p. turns.new + p.left.steps + p.kept ≤ turns.old + limits.now.steps) }
+    ensures paid { IfOk result (λ p. turns.new + p.left.steps + p.repeat_charges ≤ turns.old + limits.now.steps) }
 {
     let root = begin_page(around)?;
     let came = come_from(around, store, limits, root, turns)?;
-    let Came { reply, left, kept } = came;
+    let Came {
+        reply,
+        left,
+        repeat_charges,
+    } = came;
     let text = text_in(around.alloc, reply)?;
     let title = around.world.page.copy()?;
     Ok(Page {
         title,
         text,
         left,
-        kept,
+        repeat_charges,
     })
 }
 
@@ -128,7 +132,7 @@ pub fn expand_page_in<L: Ledger>(
     // For all modules whose code is held, it is the page of the wiki that has them.
     ensures page { IfOk result (λ p. (modules : PlainModules) → AreModulesIn title.now wiki.now.modules modules → IsHeldPage (wiki_in wiki.now.pages modules) title.now (direct_in wiki.now.pages title.now) (full_of limits.now) turns.old turns.new p) }
     ensures rises { OnOk result (turns.old ≤ turns.new) }
-    ensures paid { IfOk result (λ p. turns.new + p.left.steps + p.kept ≤ turns.old + limits.now.steps) }
+    ensures paid { IfOk result (λ p. turns.new + p.left.steps + p.repeat_charges ≤ turns.old + limits.now.steps) }
 {
     let world = World {
         page: title,
@@ -160,7 +164,7 @@ pub fn expand_page<L: Ledger>(
     // For all modules whose code is held, it is the page of the wiki that has them.
     ensures page { IfOk result (λ p. (modules : PlainModules) → AreModulesIn title.now wiki.now.modules modules → IsHeldPage (wiki_in wiki.now.pages modules) title.now (direct_in wiki.now.pages title.now) (full_of limits.now) turns.old turns.new p) }
     ensures rises { OnOk result (turns.old ≤ turns.new) }
-    ensures paid { IfOk result (λ p. turns.new + p.left.steps + p.kept ≤ turns.old + limits.now.steps) }
+    ensures paid { IfOk result (λ p. turns.new + p.left.steps + p.repeat_charges ≤ turns.old + limits.now.steps) }
 {
     let arena = Bump::new(alloc);
     let mut store = Store::new(alloc, &arena, seed);

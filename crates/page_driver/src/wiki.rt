@@ -17,6 +17,6 @@ pub struct Page {
     pub text: Bytes,
     /// What is left of the allowances of the page.
     pub left: Left,
-    /// The steps of data loads that were found kept: they are charged, and nothing was run for them.
-    pub kept: u64,
+    /// The charges of repeated data loads, in steps: these were found kept, and nothing was run for them.
+    pub repeat_charges: u64,
 }

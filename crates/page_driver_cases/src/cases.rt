@@ -14,7 +14,7 @@ pub struct Case {
     pub calls: u64,
     pub text: &'static str,
     pub left: u64,
-    pub kept: u64,
+    pub repeat_charges: u64,
 }
 
 /// A number that is not told.
@@ -250,7 +250,7 @@ pub const CASES: [Case; 29] = [
         calls: 0,
         text: "atb",
         left: 0,
-        kept: 0,
+        repeat_charges: 0,
     },
     // each invocation has an environment of its own
     Case {
@@ -259,7 +259,7 @@ pub const CASES: [Case; 29] = [
         calls: 200,
         text: "11",
         left: ANY,
-        kept: 0,
+        repeat_charges: 0,
     },
     // a failure stands in the page, without marks of HTML
     Case {
@@ -268,7 +268,7 @@ pub const CASES: [Case; 29] = [
         calls: 200,
         text: "<strong class=\"error\">Lua error: Module:Bad:1: a&lt;b</strong>.",
         left: ANY,
-        kept: ANY,
+        repeat_charges: ANY,
     },
     Case {
         page: "{{#invoke:Bad|g<}}",
@@ -276,7 +276,7 @@ pub const CASES: [Case; 29] = [
         calls: 200,
         text: "<strong class=\"error\">Script error: The function \"g&lt;\" does not exist.</strong>",
         left: ANY,
-        kept: ANY,
+        repeat_charges: ANY,
     },
     Case {
         page: "{{#invoke:Nope|f}}",
@@ -284,7 +284,7 @@ pub const CASES: [Case; 29] = [
         calls: 200,
         text: "<strong class=\"error\">Lua error: Module:Nope:1: template 'Nope' does not exist</strong>",
         left: ANY,
-        kept: ANY,
+        repeat_charges: ANY,
     },
     // what a function gives is not expanded again
     Case {
@@ -293,7 +293,7 @@ pub const CASES: [Case; 29] = [
         calls: 200,
         text: "{{T}}",
         left: ANY,
-        kept: ANY,
+        repeat_charges: ANY,
     },
     // a spent invocation ends, and the page goes on with what is left; nested calls are given back
     Case {
@@ -302,7 +302,7 @@ pub const CASES: [Case; 29] = [
         calls: 20000,
         text: "<strong class=\"error\">Script error: The allowance of steps is spent.</strong> and <strong class=\"error\">Script error: The allowance of steps is spent.</strong>",
         left: 0,
-        kept: 0,
+        repeat_charges: 0,
     },
     Case {
         page: "{{#invoke:L|f}} and {{#invoke:C|f}}",
@@ -310,7 +310,7 @@ pub const CASES: [Case; 29] = [
         calls: 50,
         text: "<strong class=\"error\">Script error: The allowance of nested calls is spent.</strong> and 1",
         left: ANY,
-        kept: ANY,
+        repeat_charges: ANY,
     },
     // a text is expanded in the frame of the invocation, and not in that of the template around it
     Case {
@@ -319,7 +319,7 @@ pub const CASES: [Case; 29] = [
         calls: 200,
         text: "at",
         left: ANY,
-        kept: ANY,
+        repeat_charges: ANY,
     },
     Case {
         page: "{{U|a}}",
@@ -327,7 +327,7 @@ pub const CASES: [Case; 29] = [
         calls: 200,
         text: "bt",
         left: ANY,
-        kept: ANY,
+        repeat_charges: ANY,
     },
     Case {
         page: "{{#invoke:Self|f}}",
@@ -335,7 +335,7 @@ pub const CASES: [Case; 29] = [
         calls: 200,
         text: "g1",
         left: ANY,
-        kept: ANY,
+        repeat_charges: ANY,
     },
     // a frame's own arguments, and those of the frame around it
     Case {
@@ -344,7 +344,7 @@ pub const CASES: [Case; 29] = [
         calls: 200,
         text: "ba",
         left: ANY,
-        kept: ANY,
+        repeat_charges: ANY,
     },
     // a template is expanded with the arguments that it is given
     Case {
@@ -353,7 +353,7 @@ pub const CASES: [Case; 29] = [
         calls: 200,
         text: "[p|q]",
         left: ANY,
-        kept: ANY,
+        repeat_charges: ANY,
     },
     // data is loaded once, and charged each time; where a load does not fit what is left, it is spent
     Case {
@@ -362,7 +362,7 @@ pub const CASES: [Case; 29] = [
         calls: 200,
         text: "vv",
         left: 0,
-        kept: 1031,
+        repeat_charges: 1031,
     },
     Case {
         page: "{{#invoke:M|f}}{{#invoke:M|f}}",
@@ -370,7 +370,7 @@ pub const CASES: [Case; 29] = [
         calls: 200,
         text: "v<strong class=\"error\">Script error: The allowance of steps is spent.</strong>",
         left: 0,
-        kept: 1031,
+        repeat_charges: 1031,
     },
     Case {
         page: "{{#invoke:M|f}}{{#invoke:M|f}}",
@@ -378,7 +378,7 @@ pub const CASES: [Case; 29] = [
         calls: 200,
         text: "v<strong class=\"error\">Script error: The allowance of steps is spent.</strong>",
         left: 0,
-        kept: 1031,
+        repeat_charges: 1031,
     },
     Case {
         page: "{{#invoke:M|f}}{{#invoke:M|f}}",
@@ -386,7 +386,7 @@ pub const CASES: [Case; 29] = [
         calls: 200,
         text: "v<strong class=\"error\">Script error: The allowance of steps is spent.</strong>",
         left: 0,
-        kept: 0,
+        repeat_charges: 0,
     },
     // data that loads data
     Case {
@@ -395,7 +395,7 @@ pub const CASES: [Case; 29] = [
         calls: 200,
         text: "vv",
         left: ANY,
-        kept: 1031,
+        repeat_charges: 1031,
     },
     // a run keeps what it loaded by itself
     Case {
@@ -404,7 +404,7 @@ pub const CASES: [Case; 29] = [
         calls: 200,
         text: "vv",
         left: ANY,
-        kept: 0,
+        repeat_charges: 0,
     },
     // loads that fail
     Case {
@@ -413,7 +413,7 @@ pub const CASES: [Case; 29] = [
         calls: 200,
         text: "falseModule:DE:1: x",
         left: ANY,
-        kept: ANY,
+        repeat_charges: ANY,
     },
     Case {
         page: "{{#invoke:Try|f|Module:DF}}",
@@ -421,7 +421,7 @@ pub const CASES: [Case; 29] = [
         calls: 200,
         text: "falsedata module holds a function",
         left: ANY,
-        kept: ANY,
+        repeat_charges: ANY,
     },
     Case {
         page: "{{#invoke:Try|f|Module:Gone}}",
@@ -429,7 +429,7 @@ pub const CASES: [Case; 29] = [
         calls: 200,
         text: "falsedata module 'Module:Gone' not found",
         left: ANY,
-        kept: ANY,
+        repeat_charges: ANY,
     },
     // data that loads itself, and two that load each other, spend what there is
     Case {
@@ -438,7 +438,7 @@ pub const CASES: [Case; 29] = [
         calls: 200,
         text: "<strong class=\"error\">Script error: The allowance of steps is spent.</strong>",
         left: ANY,
-        kept: ANY,
+        repeat_charges: ANY,
     },
     Case {
         page: "{{#invoke:Try|f|Module:Two}}",
@@ -446,7 +446,7 @@ pub const CASES: [Case; 29] = [
         calls: 200,
         text: "<strong class=\"error\">Script error: The allowance of steps is spent.</strong>",
         left: ANY,
-        kept: ANY,
+        repeat_charges: ANY,
     },
     // invocations inside invocations
     Case {
@@ -455,7 +455,7 @@ pub const CASES: [Case; 29] = [
         calls: 200,
         text: "321.",
         left: ANY,
-        kept: ANY,
+        repeat_charges: ANY,
     },
     // ten templates fit inside one another, also where frames ask for them; the next one gives the text that says so
     Case {
@@ -464,7 +464,7 @@ pub const CASES: [Case; 29] = [
         calls: 200,
         text: ".........x",
         left: ANY,
-        kept: 0,
+        repeat_charges: 0,
     },
     Case {
         page: "{{N0}}",
@@ -472,7 +472,7 @@ pub const CASES: [Case; 29] = [
         calls: 200,
         text: "..........<span class=\"error\">Expansion depth limit exceeded</span>",
         left: ANY,
-        kept: 0,
+        repeat_charges: 0,
     },
     // what is kept of a load serves only where its calls fit; else it is run anew, and spent; and it serves again
     Case {
@@ -481,7 +481,7 @@ pub const CASES: [Case; 29] = [
         calls: 30,
         text: "v;<strong class=\"error\">Script error: The allowance of nested calls is spent.</strong>;v",
         left: ANY,
-        kept: ANY,
+        repeat_charges: ANY,
     },
     // calls that are spent inside an expansion inside a call are given back
     Case {
@@ -490,6 +490,6 @@ pub const CASES: [Case; 29] = [
         calls: 50,
         text: "<strong class=\"error\">Script error: The allowance of nested calls is spent.</strong>g",
         left: ANY,
-        kept: 0,
+        repeat_charges: 0,
     },
 ];

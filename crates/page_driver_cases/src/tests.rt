@@ -52,7 +52,7 @@ fn check(rt: &impl Abort, alloc: Global, seed: RandomState, case: &Case) -> Resu
     let page = page_of(alloc, seed, case)?;
     assert_eq!(rt; page.text.as_slice(), case.text.as_bytes());
     assert!(rt; is_told(page.left.steps, case.left));
-    assert!(rt; is_told(page.kept, case.kept));
+    assert!(rt; is_told(page.repeat_charges, case.repeat_charges));
     Ok(())
 }
 

@@ -4,7 +4,7 @@
 //! - `context`: what nothing on a page changes
 //! - `data`: what the load of a data module gave
 //! - `ending`: how an invocation ended and its text, or the data that a load gave
-//! - `held`: whether a module is held
+//! - `held_modules`: whether a module is held
 //! - `keep`: what the loads of a page gave
 //! - `numbers`: the numbers of the runs of a page
 //! - `scenes`: texts and scenes from which expansions begin
@@ -15,7 +15,7 @@
 pub mod context;
 pub mod data;
 pub mod ending;
-pub mod held;
+pub mod held_modules;
 pub mod keep;
 pub mod numbers;
 pub mod scenes;

@@ -164,7 +164,7 @@ kept_serves wiki page title answer charge height k l steps calls =
       height_is = ap (λ (r : Reply Answer). r.tally.height) e ∙ sym k.height_is;
       nodes = (moment_of (drive wiki page (DataOf title) l)).tally.nodes;
       inner = (moment_of (drive wiki page (DataOf title) l)).tally.loads;
-      told =
+      loads =
           ap (λ c. Load (title_text title) c (moment_of (drive wiki page (DataOf title) l)).tally.nodes (completes (load wiki page title l).response) (moment_of (drive wiki page (DataOf title) l)).tally.loads NoLoads) same
           ∙ ap (λ x. Load (title_text title) charge (moment_of (drive wiki page (DataOf title) l)).tally.nodes (completes x) (moment_of (drive wiki page (DataOf title) l)).tally.loads NoLoads) gives;
     }

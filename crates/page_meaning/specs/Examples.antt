@@ -52,19 +52,19 @@ reads steps = seen (shown [] (m_module ∷ d_module ∷ []) (allowing steps 200)
 
 abbrev pub LoadsAreKept : Type 0
 LoadsAreKept =
-    (reads 4250 ≡ record { text = codes "vv"; steps = 0; kept = 1031; begun = 35 })
-    × (reads 4249 ≡ record { text = codes "v" ++ steps_spent; steps = 0; kept = 1031; begun = 35 })
-    × (reads 4248 ≡ record { text = codes "v" ++ steps_spent; steps = 0; kept = 1031; begun = 34 })
+    (reads 4250 ≡ record { text = codes "vv"; steps = 0; repeat_charges = 1031; begun = 35 })
+    × (reads 4249 ≡ record { text = codes "v" ++ steps_spent; steps = 0; repeat_charges = 1031; begun = 35 })
+    × (reads 4248 ≡ record { text = codes "v" ++ steps_spent; steps = 0; repeat_charges = 1031; begun = 34 })
 
 -- A load that does not fit what is left is spent, and is no repeat.
 abbrev pub ShortLoadsAreFresh : Type 0
-ShortLoadsAreFresh = reads 4247 ≡ record { text = codes "v" ++ steps_spent; steps = 0; kept = 0; begun = 39 }
+ShortLoadsAreFresh = reads 4247 ≡ record { text = codes "v" ++ steps_spent; steps = 0; repeat_charges = 0; begun = 39 }
 
 -- N loads D in its own run; then D is kept.
 abbrev pub InnerLoadsAreKept : Type 0
 InnerLoadsAreKept =
     ((shown [] (o_module ∷ n_module ∷ d_module ∷ []) (allowing 8000 200) (codes "{{#invoke:O|f}}")).text ≡ codes "vv")
-    × ((shown [] (o_module ∷ n_module ∷ d_module ∷ []) (allowing 8000 200) (codes "{{#invoke:O|f}}")).kept ≡ 1031)
+    × ((shown [] (o_module ∷ n_module ∷ d_module ∷ []) (allowing 8000 200) (codes "{{#invoke:O|f}}")).repeat_charges ≡ 1031)
 
 -- A load that fails raises its message, and is kept too: twice is twice the steps. What can't be data fails; a module that is not there is
 -- not begun. Data that loads itself spends what there is.

@@ -100,7 +100,7 @@ module _ (wiki : Wiki) (page : Title) where
     pub height_is : (load wiki page title l).tally.height ≡ height
     pub nodes : ℕ
     pub inner : Loads
-    pub told : (load wiki page title l).tally.loads ≡ Load (title_text title) charge nodes true inner NoLoads
+    pub loads : (load wiki page title l).tally.loads ≡ Load (title_text title) charge nodes true inner NoLoads
 
 -- What is kept stands for a fresh load wherever it is covered.
 abbrev pub KeptServes : Type 0
@@ -109,4 +109,4 @@ KeptServes = (wiki : Wiki) (page title : Title) (answer : Answer) (charge height
 
 -- The charges that are kept on a page are paid: with what is left they are no more than the steps that there were.
 abbrev pub KeptIsPaid : Type 0
-KeptIsPaid = (wiki : Wiki) (title : Title) (trees : Trees) (full : Left) → (page wiki title trees full).kept + (page wiki title trees full).left.steps ≤ full.steps
+KeptIsPaid = (wiki : Wiki) (title : Title) (trees : Trees) (full : Left) → (page wiki title trees full).repeat_charges + (page wiki title trees full).left.steps ≤ full.steps

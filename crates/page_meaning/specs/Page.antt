@@ -27,11 +27,11 @@ begun_in t = t.invoked_nodes + (walked t).fresh_nodes
 pub record Page : Type 0 where
   pub text : List ℕ
   pub left : Left
-  pub kept : ℕ
+  pub repeat_charges : ℕ
   pub begun : ℕ
 
 abbrev pub page_of : PageSeen → Page
-page_of e = record { text = text_in e; left = (moment_of e).left; kept = kept_in (moment_of e).tally; begun = begun_in (moment_of e).tally }
+page_of e = record { text = text_in e; left = (moment_of e).left; repeat_charges = kept_in (moment_of e).tally; begun = begun_in (moment_of e).tally }
 
 -- the page's own text, expanded in a scene without arguments, with its invocations answered
 abbrev pub page_event : Wiki → Title → Trees → Left → PageSeen

@@ -143,7 +143,7 @@ given_text (Gives answer) = text_of answer
 given_text (Exhausts which) = []
 
 abbrev pub page_told : Reply Answer → Page
-page_told r = record { text = given_text r.response; left = r.left; kept = kept_in r.tally; begun = begun_in r.tally }
+page_told r = record { text = given_text r.response; left = r.left; repeat_charges = kept_in r.tally; begun = begun_in r.tally }
 
 abbrev pub PagesAreTasks : Type 0
 PagesAreTasks = (wiki : Wiki) (title : Title) (trees : Trees) (full : Left) → page wiki title trees full ≡ page_told (total wiki title (Expanding (Reading trees (page_scene title))) full [])

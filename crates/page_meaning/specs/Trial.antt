@@ -47,12 +47,12 @@ text_of templates texts text = (shown templates texts (allowing 8000 200) text).
 abbrev pub steps_of : List (Title × Trees) → List ModuleText → ℕ → Bytes → ℕ
 steps_of templates texts steps text = steps - (shown templates texts (allowing steps 200) text).left.steps
 
--- its text, the steps left, what is kept and what is begun
+-- its text, the steps left, the charges of repeated loads and what is begun
 pub record Seen : Type 0 where
   pub text : Bytes
   pub steps : ℕ
-  pub kept : ℕ
+  pub repeat_charges : ℕ
   pub begun : ℕ
 
 abbrev pub seen : Page → Seen
-seen p = record { text = p.text; steps = p.left.steps; kept = p.kept; begun = p.begun }
+seen p = record { text = p.text; steps = p.left.steps; repeat_charges = p.repeat_charges; begun = p.begun }

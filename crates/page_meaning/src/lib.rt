@@ -7,7 +7,7 @@
 //! - `Told`: how a run ends, as it is told to the run that asked for it
 //! - `Outcomes`: how an invocation ends by itself
 //! - `Drive`: the replies to the three questions; a run with its questions answered; an invocation, and a load of data
-//! - `Page`: the text of a page, what is left, what is kept and what is begun
+//! - `Page`: the text of a page, what is left, the charges of repeated loads and what is begun
 //! - `Points`: a run after some replies, and what it comes to
 //! - `Tasks`: runs of Lua and expansions alike
 //! - `Laws`

@@ -49,7 +49,7 @@ module _ (wiki : Wiki) (page : Title) where
         leaves = s.left;
         height_is = s.height_is;
         invokes = refl;
-        walks = ap (λ v. walk v now) s.told ∙ ap (λ b. walk_load b (title_text title) charge s.nodes true (walk s.inner) now) found;
+        walks = ap (λ v. walk v now) s.loads ∙ ap (λ b. walk_load b (title_text title) charge s.nodes true (walk s.inner) now) found;
       }
 
   -- ELSEWHERE a load is fresh: it was not kept, or it doesn't complete

@@ -38,10 +38,10 @@ KnowsHeight (DataOf title) told height = told ≡ height
 pub record MachineStands (code : CWorld) (world : World) (p : Place) (point : Point) (s : Slots) (left : Left) (calls height : ℕ) : Type 0 where
   pub work : Work
   pub is : p.task ≡ Running work
-  pub told : Tally
-  pub at : At code p.within world work p.first p.given point s (fund left calls told)
-  pub nodes : told.nodes ≡ p.nodes
-  pub knows : KnowsHeight work told.height height
+  pub tally : Tally
+  pub at : At code p.within world work p.first p.given point s (fund left calls tally)
+  pub nodes : tally.nodes ≡ p.nodes
+  pub knows : KnowsHeight work tally.height height
 
 -- THE END of a run, from the outcome that reaches nobody: an invocation's text; of a data module the graph of its table, or its failure
 abbrev pub data_told : {X : Type 0} → Heap X → End → Answer
@@ -81,7 +81,7 @@ pub record EndsAs (wiki : Wiki) (page : Title) (p : Place) (work : Work) (so : J
   pub says_so : reply.response ≡ says
   pub leaves : reply.left ≡ left
   pub height : KnowsHeight work reply.tally.height high
-  pub ended : EndedSo wiki page p work so
+  pub ends_so : EndedSo wiki page p work so
 
 -- and an expansion, to its text
 pub record EndsText (wiki : Wiki) (page : Title) (p : Place) (text : List ℕ) (left : Left) : Type 0 where

@@ -44,7 +44,7 @@ pub record IsAnswered (g : Ground) (modules : Modules) (left : Left) (q : Questi
 
 module _ (g : Ground) (root : PlainTask) (first : Left) (k₀ : ℕ) (s : StoreView) (left : Left) (k : ℕ) (tower tower' : Tower) (t : Task) (h : Halt) (q : Question) (a : AsksFor g s left t h q) (d : Driven g root first k₀ s left k tower (record { task = t; halt = h })) where
   -- A TASK BEGINS that answers it
-  module _ (inner : Task) (s' : StoreView) (task : PlainTask) (b : BeginsIn g s s' inner) (e : tower'.stack ≡ t ∷ tower.stack) (e' : tower'.keep ≡ tower.keep) (e'' : tower'.kept ≡ tower.kept) (e''' : tower'.numbers ≡ tower.numbers) where
+  module _ (inner : Task) (s' : StoreView) (task : PlainTask) (b : BeginsIn g s s' inner) (e : tower'.stack ≡ t ∷ tower.stack) (e' : tower'.keep ≡ tower.keep) (e'' : tower'.repeat_charges ≡ tower.repeat_charges) (e''' : tower'.numbers ≡ tower.numbers) where
     below : AllByRecursion (IsBelow g s) (t ∷ tower.stack)
     below = (record { of = d.of; ground = d.ground; waits = a.waits }, d.accounts.below)
 
@@ -64,7 +64,7 @@ module _ (g : Ground) (root : PlainTask) (first : Left) (k₀ : ℕ) (s : StoreV
             others = subst (λ ts. AllWait g modules s' ts (x.top ∷ x.below)) (sym e) (all_wait_later g modules s s' b.later nowhere i.within i.alone (t ∷ tower.stack) (x.top ∷ x.below) below apart (w.1, st.others));
             apart = i.alone.apart (x.top.within ∷ map set_of x.below) apart;
             keeps = subst (λ keep. Keeps g modules keep x.now) (sym e') st.keeps;
-            kept = st.kept ∙ sym e'';
+            charges = st.charges ∙ sym e'';
             begun = omega (arith, st.begun, begin_counts (wiki_of g modules) (page_of g) x.top x.below x.now task left);
           };
           ready = i.ready;
@@ -90,7 +90,7 @@ module _ (g : Ground) (root : PlainTask) (first : Left) (k₀ : ℕ) (s : StoreV
     }
 
   -- IT IS TOLD the answer at once
-  module _ (left' : Left) (charge : ℕ) (says : Response Answer) (high : ℕ) (e : tower'.stack ≡ tower.stack) (e' : tower'.keep ≡ tower.keep) (e'' : tower'.kept ≡ tower.kept + charge) (e''' : tower'.numbers ≡ tower.numbers) (f : left' ≡ record left { steps = left.steps - charge }) (c : charge ≤ left.steps) where
+  module _ (left' : Left) (charge : ℕ) (says : Response Answer) (high : ℕ) (e : tower'.stack ≡ tower.stack) (e' : tower'.keep ≡ tower.keep) (e'' : tower'.repeat_charges ≡ tower.repeat_charges + charge) (e''' : tower'.numbers ≡ tower.numbers) (f : left' ≡ record left { steps = left.steps - charge }) (c : charge ≤ left.steps) where
     is_told : (modules : Modules) → (x : IsHalted g modules root first k₀ s left k tower (record { task = t; halt = h })) → IsAnswered g modules left q t x.now left' charge says high → IsTold g modules root first k₀ s left' k tower' t says high
     is_told modules x i =
         let st = x.standing in
@@ -106,7 +106,7 @@ module _ (g : Ground) (root : PlainTask) (first : Left) (k₀ : ℕ) (s : StoreV
             others = subst (λ ts. AllWait g modules s ts x.below) (sym e) st.others;
             apart = st.apart;
             keeps = subst (λ keep. Keeps g modules keep next) (sym e') (subst (λ v. Keeps g modules tower.keep v) (sym i.walks) (record { all = st.keeps.all; names = st.keeps.names }));
-            kept = ap (λ (v : WalkState). v.repeat_charges) i.walks ∙ ap (λ n. n + charge) st.kept ∙ sym e'';
+            charges = ap (λ (v : WalkState). v.repeat_charges) i.walks ∙ ap (λ n. n + charge) st.charges ∙ sym e'';
             begun = omega (arith, st.begun, told_counts (wiki_of g modules) (page_of g) x.top x.below x.now q left i.reply w.0 i.invokes (ap (λ (v : WalkState). v.fresh_nodes) i.walks));
           };
           waits = w.1;

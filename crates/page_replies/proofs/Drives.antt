@@ -59,7 +59,7 @@ module _ (g : Ground) (s : StoreView) (left : Left) (k : ℕ) (tower : Tower) wh
   }
 
   -- what is kept and what is left are no more than there was
-  pub kept_fits : (x : Halted) (charge : ℕ) → charge ≤ left.steps → InProgress g s left k tower x → tower.kept + charge < 2 ^ 64
+  pub kept_fits : (x : Halted) (charge : ℕ) → charge ≤ left.steps → InProgress g s left k tower x → tower.repeat_charges + charge < 2 ^ 64
   kept_fits x charge le p = omega (arith, p.driven.accounts.paid, p.driven.accounts.rises, p.fits.steps, le)
 
   -- A TASK BEGINS where a page is in progress

@@ -43,7 +43,7 @@ module _ (g : Ground) (root : PlainTask) (first : Left) (k₀ : ℕ) (s : StoreV
     others = all_wait_later g modules s s' h.later top.within S alone tower.stack below a.below d.apart d.others;
     apart = alone.apart (map set_of below) d.apart;
     keeps = d.keeps;
-    kept = d.kept;
+    charges = d.charges;
     begun = omega (arith, d.begun, e);
   }
 

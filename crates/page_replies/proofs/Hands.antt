@@ -65,7 +65,7 @@ module _ (g : Ground) (root : PlainTask) (first : Left) (k₀ : ℕ) (s : StoreV
   lone modules [] (p ∷ ps) e w = absurd w
   lone modules (t ∷ ts) ps e w = absurd cc
 
-  is_expanded : (modules : Modules) (tower : Tower) (t : Task) (r : Reply) → tower.stack ≡ [] → IsHalted g modules root first k₀ s left k tower (record { task = t; halt = halt.Comes r }) → IsExpanded g modules root first k₀ left k tower.kept r
+  is_expanded : (modules : Modules) (tower : Tower) (t : Task) (r : Reply) → tower.stack ≡ [] → IsHalted g modules root first k₀ s left k tower (record { task = t; halt = halt.Comes r }) → IsExpanded g modules root first k₀ left k tower.repeat_charges r
   is_expanded modules tower t r e h =
       let d = h.standing in
       let none = lone modules tower.stack h.below e d.others in
@@ -75,12 +75,12 @@ module _ (g : Ground) (root : PlainTask) (first : Left) (k₀ : ℕ) (s : StoreV
       record {
         says = ap (λ (y : PlainReply Answer). y.response) x.0 ∙ h.halted.says;
         leaves = ap (λ (y : PlainReply Answer). y.left) x.0 ∙ h.halted.leaves;
-        keeps = ap (λ (y : PlainReply Answer). kept_in y.tally) x.0 ∙ x.1 ∙ d.kept;
+        keeps = ap (λ (y : PlainReply Answer). kept_in y.tally) x.0 ∙ x.1 ∙ d.charges;
         begun = omega (arith, x.2, begun, ap (λ (y : PlainReply Answer). begun_in y.tally) x.0);
-        ends = ends_so g first modules root t r h.top h.now h.halted.task h.halted.ended going;
+        ends = ends_so g first modules root t r h.top h.now h.halted.task h.halted.ends_with going;
       }
 
-  pub page_is_expanded : (tower tower' : Tower) (t : Task) (r : Reply) → tower.stack ≡ [] → tower'.kept ≡ tower.kept → tower'.numbers ≡ tower.numbers → Driven g root first k₀ s left k tower (record { task = t; halt = halt.Comes r }) → PageExpanded g root first k₀ s left k tower' r
+  pub page_is_expanded : (tower tower' : Tower) (t : Task) (r : Reply) → tower.stack ≡ [] → tower'.repeat_charges ≡ tower.repeat_charges → tower'.numbers ≡ tower.numbers → Driven g root first k₀ s left k tower (record { task = t; halt = halt.Comes r }) → PageExpanded g root first k₀ s left k tower' r
   page_is_expanded tower tower' t r e same numbers d = record {
     numbered = subst (IsNumbered s) (sym numbers) d.numbered;
     rises = d.accounts.rises;
@@ -95,7 +95,7 @@ module _ (g : Ground) (root : PlainTask) (first : Left) (k₀ : ℕ) (s : StoreV
   well modules (task.Load b m) p r w high is k h = h b.title is.0
 
   module _ (tower tower' : Tower) (t p : Task) (r : Reply) (rest : List Task) (high : ℕ) where
-    hands : (modules : Modules) → tower.stack ≡ p ∷ rest → tower'.stack ≡ rest → tower'.kept ≡ tower.kept
+    hands : (modules : Modules) → tower.stack ≡ p ∷ rest → tower'.stack ≡ rest → tower'.repeat_charges ≡ tower.repeat_charges
         → (h : IsHalted g modules root first k₀ s left k tower (record { task = t; halt = halt.Comes r }))
         → ((next : WalkState) → EndsWalk h.top.task h.halted.reply h.now next → Keeps g modules tower'.keep next)
         → ((q : Place) (title : Title) (w : WalkState) → q.task ≡ Running (DataOf title) → WaitsFor (wiki_of g modules) (page_of g) q h.halted.reply w → HeightTold h.halted.reply.response h.halted.reply.tally.height high)
@@ -121,7 +121,7 @@ module _ (g : Ground) (root : PlainTask) (first : Left) (k₀ : ℕ) (s : StoreV
                 others = subst (λ ts. AllWait g modules s ts qs) (sym e') w.1;
                 apart = apart.2;
                 keeps = keeps x.0 x.2;
-                kept = kept_same (wiki_of g modules) (page_of g) h.top.task h.halted.reply h.now x.0 x.2 ∙ d.kept ∙ sym same;
+                charges = kept_same (wiki_of g modules) (page_of g) h.top.task h.halted.reply h.now x.0 x.2 ∙ d.charges ∙ sym same;
                 begun = omega (arith, x.3, begun);
               };
               waits = w.0;
@@ -130,7 +130,7 @@ module _ (g : Ground) (root : PlainTask) (first : Left) (k₀ : ℕ) (s : StoreV
               well = well modules p q h.halted.reply h.top.began high w.0.task waits_for (λ title is. height q title h.top.began is waits_for);
             }
 
-    pub driven_hands : tower.stack ≡ p ∷ rest → tower'.stack ≡ rest → tower'.kept ≡ tower.kept → tower'.numbers ≡ tower.numbers → KeepOf tower'.keep
+    pub driven_hands : tower.stack ≡ p ∷ rest → tower'.stack ≡ rest → tower'.repeat_charges ≡ tower.repeat_charges → tower'.numbers ≡ tower.numbers → KeepOf tower'.keep
         → ((modules : Modules) → AreModulesOf g modules → (h : IsHalted g modules root first k₀ s left k tower (record { task = t; halt = halt.Comes r })) → (next : WalkState) → EndsWalk h.top.task h.halted.reply h.now next → Keeps g modules tower'.keep next)
         → ((modules : Modules) → AreModulesOf g modules → (h : IsHalted g modules root first k₀ s left k tower (record { task = t; halt = halt.Comes r })) → (q : Place) (title : Title) (w : WalkState) → q.task ≡ Running (DataOf title) → WaitsFor (wiki_of g modules) (page_of g) q h.halted.reply w → HeightTold h.halted.reply.response h.halted.reply.tally.height high)
         → Driven g root first k₀ s left k tower (record { task = t; halt = halt.Comes r }) → Telling g root first k₀ s left k tower' p (reply_seen r) high

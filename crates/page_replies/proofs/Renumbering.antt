@@ -48,7 +48,7 @@ module _ (g : Ground) (s : StoreView) (n : ℕ) (left : Left) (k : ℕ) (tower :
         top = h.top;
         below = h.below;
         now = h.now;
-        standing = record { going = st.going; others = all_wait modules tower.stack h.below st.others; apart = st.apart; keeps = st.keeps; kept = st.kept; begun = st.begun };
+        standing = record { going = st.going; others = all_wait modules tower.stack h.below st.others; apart = st.apart; keeps = st.keeps; charges = st.charges; begun = st.begun };
         halted = halted modules x.task h.top x.halt h.halted;
       }
 

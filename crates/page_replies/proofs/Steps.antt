@@ -168,7 +168,7 @@ module _ (g : Ground) (s : StoreView) (left : Left) (k : ℕ) (tower : Tower) (t
   none_told : (q : Ask) → ((modules : Modules) → AreModulesOf g modules → answer_to (wiki_of g modules) (page_of g) (OfLua q) left ≡ absent left) → (root : PlainTask) (first : Left) (k₀ : ℕ)
       → Driven g root first k₀ s left k tower (record { task = t; halt = halt.Asks q }) → Telling g root first k₀ s left k tower t (Gives NoPage) 0
   none_told q bare root first k₀ d =
-      let kept : tower.kept ≡ tower.kept + 0 = omega arith in
+      let kept : tower.repeat_charges ≡ tower.repeat_charges + 0 = omega arith in
       let steps : left.steps ≡ left.steps - 0 = omega arith in
       driven_answers g root first k₀ s left k tower tower t (halt.Asks q) (OfLua q) (asks_lua q root first k₀ d) d left 0 (Gives NoPage) 0 refl refl kept refl (ap (λ n. record left { steps = n }) steps) (omega arith)
       (λ modules agree now keeps. record { reply = absent left; is = bare modules agree; says_so = refl; leaves = refl; invokes = refl; walks = no_charge now; well = well_none t })
@@ -225,7 +225,7 @@ module _ (g : Ground) (s : StoreView) (left : Left) (k : ℕ) (tower : Tower) (t
     left_after = record left { steps = left.steps - kept.charge }
 
     abbrev tower_after : Tower
-    tower_after = record tower { kept = tower.kept + kept.charge }
+    tower_after = record tower { repeat_charges = tower.repeat_charges + kept.charge }
 
     kept_told : (root : PlainTask) (first : Left) (k₀ : ℕ) → Driven g root first k₀ s left k tower (record { task = t; halt = halt.Asks (Data title) }) → Telling g root first k₀ s left_after k tower_after t (Gives (data_seen kept.given)) kept.height
     kept_told root first k₀ d =

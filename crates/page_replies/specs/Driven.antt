@@ -64,7 +64,7 @@ module _ (g : Ground) (modules : Modules) where
     pub others : AllWait s tower.stack below
     pub apart : AreApart s.heap (top.within ∷ map set_of below)
     pub keeps : Keeps g modules tower.keep now
-    pub kept : now.repeat_charges ≡ tower.kept
+    pub charges : now.repeat_charges ≡ tower.repeat_charges
     pub begun : k₀ + begun_so_far (wiki_of g modules) (page_of g) top below now ≤ k
 
   -- the top one has halted; it can go on; or it is to be told a reply that says this
@@ -94,10 +94,10 @@ module _ (g : Ground) (modules : Modules) where
     pub well : IsToldWell t reply high
 
   -- THE PAGE IS EXPANDED: the root comes to this reply
-  pub record IsExpanded (root : PlainTask) (first : Left) (k₀ : ℕ) (left : Left) (k kept : ℕ) (r : Reply) : Type 0 where
+  pub record IsExpanded (root : PlainTask) (first : Left) (k₀ : ℕ) (left : Left) (k repeat_charges : ℕ) (r : Reply) : Type 0 where
     pub says : (goal_of root first).response ≡ reply_seen r
     pub leaves : (goal_of root first).left ≡ left
-    pub keeps : kept_in (goal_of root first).tally ≡ kept
+    pub keeps : kept_in (goal_of root first).tally ≡ repeat_charges
     pub begun : k₀ + begun_in (goal_of root first).tally ≤ k
     pub ends : EndsSo root first r
 
@@ -109,7 +109,7 @@ pub record Accounts (g : Ground) (first : Left) (k₀ : ℕ) (s : StoreView) (le
   pub depth_is : left.depth + depth + sum_of depth_of tower.stack ≡ first.depth
   pub templates_are : left.templates + templates + sum_of templates_of tower.stack ≡ first.templates
   pub rises : k₀ ≤ k
-  pub paid : k + left.steps + tower.kept ≤ k₀ + first.steps
+  pub paid : k + left.steps + tower.repeat_charges ≤ k₀ + first.steps
 
 -- ALL OF IT, whatever the trees of the modules are: the top one has halted,
 pub record Driven (g : Ground) (root : PlainTask) (first : Left) (k₀ : ℕ) (s : StoreView) (left : Left) (k : ℕ) (tower : Tower) (x : Halted) : Type 0 where
@@ -149,8 +149,8 @@ pub record Fits (first : Left) : Type 0 where
 pub record Expanded (g : Ground) (root : PlainTask) (first : Left) (k₀ : ℕ) (s : StoreView) (left : Left) (k : ℕ) (tower : Tower) (r : Reply) : Type 0 where
   pub numbered : IsNumbered s tower.numbers
   pub rises : k₀ ≤ k
-  pub paid : k + left.steps + tower.kept ≤ k₀ + first.steps
-  pub expanded : (modules : Modules) → AreModulesOf g modules → IsExpanded g modules root first k₀ left k tower.kept r
+  pub paid : k + left.steps + tower.repeat_charges ≤ k₀ + first.steps
+  pub expanded : (modules : Modules) → AreModulesOf g modules → IsExpanded g modules root first k₀ left k tower.repeat_charges r
 
 abbrev pub Moves : Ground → PlainTask → Left → ℕ → StoreView → Left → ℕ → Tower → Next → Type 0
 Moves g root first k₀ s left k tower (next.Over r) = Expanded g root first k₀ s left k tower r

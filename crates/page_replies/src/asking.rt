@@ -18,7 +18,7 @@ use crate::tower::{Next, Tower};
 use lua_store::Store;
 use mw_frame::{Arg, Ask, Scene};
 use page_ground::context::Context;
-use page_ground::held::is_held;
+use page_ground::held_modules::is_held;
 use page_ground::keep::{Kept, find_covered};
 use page_tasks::beginning::{begin_load, begin_template, begin_text};
 use page_tasks::task::{Halted, Task};
@@ -140,7 +140,7 @@ fn ask_held_data<'w, L: Ledger>(
         Some(kept) => {
             let charge = kept.charge;
             let halted = serve_kept(around.alloc, store, left, task, kept, turns)?;
-            tower.kept += charge;
+            tower.repeat_charges += charge;
             Ok(Next::On(halted))
         }
         None => ask_load(around, store, left, tower, task, title, turns),

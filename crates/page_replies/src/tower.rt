@@ -9,7 +9,7 @@ use page_tasks::task::{Halted, Reply, Task};
 pub struct Tower<'w> {
     pub stack: Stack<Task<'w>>,
     pub keep: Keep,
-    pub kept: u64,
+    pub repeat_charges: u64,
     pub numbers: Numbers,
 }
 

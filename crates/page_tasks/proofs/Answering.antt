@@ -233,7 +233,7 @@ module _ (m : Machine) (which : Which) (s : StoreView) (l l' : Left) (back : l' 
             says = y.says_so ∙ ap (λ v. spent_told v which) work;
             leaves = y.leaves;
             height = tt;
-            ended = (w.task.0, w.task.1, subst (λ v. EndedSo (wiki_of g modules) (page_of g) (done p r) v (ending.Spent which)) work y.ended);
+            ends_with = (w.task.0, w.task.1, subst (λ v. EndedSo (wiki_of g modules) (page_of g) (done p r) v (ending.Spent which)) work y.ends_so);
           };
           alone = nothing_changes p.within s.heap;
         },
@@ -253,7 +253,7 @@ module _ (m : Machine) (which : Which) (s : StoreView) (l l' : Left) (back : l' 
             says = y.says_so ∙ ap (λ v. spent_told v which) work;
             leaves = y.leaves;
             height = tt;
-            ended = tt;
+            ends_with = tt;
           };
           alone = nothing_changes p.within s.heap;
         },

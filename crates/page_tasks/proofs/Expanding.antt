@@ -79,7 +79,7 @@ module _ (e : Expander) (l : Left) (m : Move) (e' : Expander) (l' : Left) (c : E
     halted_at work is at (Came text) goes =
         let came = goes work p.first (map as_text p.given) (at work is) in
         let x = expansion_ends (wiki_of g modules) (page_of g) there work text l' is (subst (λ (w : Setting). Comes (next_event w work p.first (map as_text p.given)) text l') here came) in
-        record { task = (work, is); reply = x.reply; comes = x.comes; says = x.says_so; leaves = x.leaves; height = tt; ended = tt }
+        record { task = (work, is); reply = x.reply; comes = x.comes; says = x.says_so; leaves = x.leaves; height = tt; ends_with = tt }
     halted_at work is at (Invokes job) goes =
         let asks = (goes work p.first (map as_text p.given) (at work is)).0 in (
           expansion_asks (wiki_of g modules) (page_of g) there work job l' is (subst (λ (w : Setting). Asks (next_event w work p.first (map as_text p.given)) job l') here asks),

@@ -141,7 +141,7 @@ module _ (s : StoreView) (left : Left) (k : ℕ) (m : Machine) (s' : StoreView) 
     goes_to : GoIs (world_seen g.world) (point_of s m.state m.next) (slots_of s m.state) left m.state.calls (stop_seen s' m'.state e (funds_after left' m'.state n))
     goes_to =
         (subst (λ (w : World). MachineCanGo (world_seen w) (point_of s m.state m.next) (slots_of s m.state) left m.state.calls → GoIs (world_seen w) (point_of s m.state m.next) (slots_of s m.state) left m.state.calls (stop_seen s' m'.state e (funds_after left' m'.state n))) same (c.goes n counted))
-        (stood.told, record { within = p.within; world = world (wiki_of g modules) (page_of g); work = stood.work; first = p.first; given = p.given; at = stood.at })
+        (stood.tally, record { within = p.within; world = world (wiki_of g modules) (page_of g); work = stood.work; first = p.first; given = p.given; at = stood.at })
 
     all_back : (l : Left) (n : ℕ) → n ≡ 0 → record l { calls = l.calls + n } ≡ l
     all_back l n e = let z : l.calls + n ≡ l.calls = omega (arith, e) in ap (λ x. record l { calls = x }) z
@@ -173,7 +173,7 @@ module _ (s : StoreView) (left : Left) (k : ℕ) (m : Machine) (s' : StoreView) 
           says = x.says_so ∙ ap (λ w. Gives (end_told w s'.heap (outcome_seen s'.texts o))) work ∙ ap (λ t. Gives (Expanded t)) (end_is_told (end_of (outcome_seen s'.texts o)));
           leaves = x.leaves;
           height = tt;
-          ended = (job, is, subst (λ w. EndedSo (wiki_of g modules) (page_of g) there w (end_outcome (end_of (outcome_seen s'.texts o)))) work x.ended);
+          ends_with = (job, is, subst (λ w. EndedSo (wiki_of g modules) (page_of g) there w (end_outcome (end_of (outcome_seen s'.texts o)))) work x.ends_so);
         })
     invocation_at job is h (event.Spent w) i x =
         let work : stood.work ≡ Invoke job = work_is stood.work (Invoke job) (sym stood.is ∙ is) in
@@ -184,7 +184,7 @@ module _ (s : StoreView) (left : Left) (k : ℕ) (m : Machine) (s' : StoreView) 
           says = x.says_so ∙ ap (λ v. spent_told v w) work;
           leaves = x.leaves;
           height = tt;
-          ended = (job, is, subst (λ v. EndedSo (wiki_of g modules) (page_of g) there v (ending.Spent w)) work x.ended);
+          ends_with = (job, is, subst (λ v. EndedSo (wiki_of g modules) (page_of g) there v (ending.Spent w)) work x.ends_so);
         })
     invocation_at job is h (event.Asks q) i x = rw i (x.0, record { task = (job, is); waits = x.1 })
 
@@ -198,11 +198,11 @@ module _ (s : StoreView) (left : Left) (k : ℕ) (m : Machine) (s' : StoreView) 
           says = x.says_so ∙ ap (λ w. Gives (end_told w s'.heap (outcome_seen s'.texts o))) work ∙ ap Gives (sym i.2);
           leaves = x.leaves;
           height = subst (λ w. KnowsHeight w x.reply.tally.height m'.height) work x.height;
-          ended = tt;
+          ends_with = tt;
         })
     load_at b is steps h (event.Spent w) i x =
         let work : stood.work ≡ DataOf b.title = work_is stood.work (DataOf b.title) (sym stood.is ∙ is) in
-        rw i (record { task = (is, steps); reply = x.reply; comes = x.comes; says = x.says_so ∙ ap (λ v. spent_told v w) work; leaves = x.leaves; height = tt; ended = tt })
+        rw i (record { task = (is, steps); reply = x.reply; comes = x.comes; says = x.says_so ∙ ap (λ v. spent_told v w) work; leaves = x.leaves; height = tt; ends_with = tt })
     load_at b is steps h (event.Asks q) i x = rw i (x.0, record { task = (is, steps); waits = x.1 })
 
   pub invocation_goes : (h : Halt) → IsInvocationHalt s' e h → (n : ℕ) → k' ≡ k + n → GoesOn s left (task.Invocation m) s' left' n (record { task = task.Invocation m'; halt = h })

@@ -155,7 +155,7 @@ module _ (g : Ground) (modules : Modules) where
     pub says : reply.response ≡ reply_seen r
     pub leaves : reply.left ≡ left
     pub height : HeightIs t r reply.tally.height
-    pub ended : EndsWith t p r
+    pub ends_with : EndsWith t p r
 
   abbrev pub HasHalted : StoreView → Left → Task → Place → Halt → Type 0
   HasHalted s left t p (halt.Comes r) = HasReply t p r left

@@ -59,7 +59,7 @@ fn answer_expander<'w>(
     text: Bytes,
 ) -> Result<(), NoMemory>
     requires { IsWaiting expander.old }
-    ensures told { OnOk result (ExpanderIsTold expander.old left.old text expander.new left.new) }
+    ensures answers { OnOk result (ExpanderIsTold expander.old left.old text expander.new left.new) }
     ensures can { OnOk result (IsReady expander.new) }
 {
     expander.answer(left, text)?;
@@ -102,7 +102,7 @@ fn answer_machine<'w>(
     requires of { MachineOf store.old machine.old }
     requires answer { AnswerOf store.old answer }
     requires height { machine.old.state.calls + height < 2 ^ 64 }
-    ensures told { OnOk result (MachineIsTold store.old machine.old (answer_outcome store.old.texts answer) height store.new machine.new) }
+    ensures answers { OnOk result (MachineIsTold store.old machine.old (answer_outcome store.old.texts answer) height store.new machine.new) }
     ensures of { OnOk result (MachineOf store.new machine.new) }
 {
     machine.answer(store, answer, height)?;

@@ -16,14 +16,14 @@ use Rattle.page_driver.specs.declared.wiki.Wiki.{Wiki}
 use Rattle.wiki_batch.specs.Batch.{page_with, page_of, IsPage, ArePages}
 
 abbrev made : Title → List ℕ → Left → ℕ → Page
-made title text left kept = record { title = title; text = text; left = left; kept = kept }
+made title text left kept = record { title = title; text = text; left = left; repeat_charges = kept }
 
 -- a page of these parts
-same_page : (p : Page) (title : Title) (text : List ℕ) (left : Left) (kept : ℕ) → p.title ≡ title → p.text ≡ text → p.left ≡ left → p.kept ≡ kept → p ≡ made title text left kept
+same_page : (p : Page) (title : Title) (text : List ℕ) (left : Left) (kept : ℕ) → p.title ≡ title → p.text ≡ text → p.left ≡ left → p.repeat_charges ≡ kept → p ≡ made title text left kept
 same_page p title text left kept title_is text_is left_is kept_is =
-    ap (λ (t : Title). made t p.text p.left p.kept) title_is
-    ∙ ap (λ (t : List ℕ). made title t p.left p.kept) text_is
-    ∙ ap (λ (l : Left). made title text l p.kept) left_is
+    ap (λ (t : Title). made t p.text p.left p.repeat_charges) title_is
+    ∙ ap (λ (t : List ℕ). made title t p.left p.repeat_charges) text_is
+    ∙ ap (λ (l : Left). made title text l p.repeat_charges) left_is
     ∙ ap (λ (k : ℕ). made title text left k) kept_is
 
 -- a page that was expanded
@@ -32,7 +32,7 @@ unfolding page_of
 page_is modules map limits title k k' p h = go (direct_in map title) h
   where
     go : (trees : Option Trees) → IsHeldPage (wiki_in map modules) title trees (full_of limits) k k' p → option_map (page_with modules map limits title) trees ≡ Some p
-    go (Some t) h = ap Some (sym (same_page p title _ _ _ h.title_is h.text_is h.left_is h.kept_is))
+    go (Some t) h = ap Some (sym (same_page p title _ _ _ h.title_is h.text_is h.left_is h.repeat_charges_are))
     go None h = absurd h
 
 -- ---- lists

@@ -16,7 +16,7 @@ use Rattle.page_driver.specs.Page.{full_of}
 abbrev pub page_with : Modules → Pages → Limits → Title → Trees → Page
 page_with modules map limits title trees =
     let expanded = page (wiki_in map modules) title trees (full_of limits) in
-    record { title = title; text = expanded.text; left = expanded.left; kept = expanded.kept }
+    record { title = title; text = expanded.text; left = expanded.left; repeat_charges = expanded.repeat_charges }
 
 -- the page of a title, if it is held, where each invocation gives what these modules mean by it
 unfoldable pub page_of : Modules → Pages → Limits → Title → Option Page

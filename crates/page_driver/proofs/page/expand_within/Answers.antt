@@ -14,7 +14,7 @@ pub come_from-requires-clause-root : goal.come_from-requires-clause-root
 come_from-requires-clause-root g c = c.in_ok-root.ensures
 
 pub returns-clause-page : goal.returns-clause-page
-returns-clause-page g c = c.in_ok-came.ensures.page (record { title = c.in_ok-title.title; text = c.in_ok-text.text; left = c.in_ok-came.came.left; kept = c.in_ok-came.came.kept }) c.in_ok-title.ensures c.in_ok-text.ensures refl refl
+returns-clause-page g c = c.in_ok-came.ensures.page (record { title = c.in_ok-title.title; text = c.in_ok-text.text; left = c.in_ok-came.came.left; repeat_charges = c.in_ok-came.came.repeat_charges }) c.in_ok-title.ensures c.in_ok-text.ensures refl refl
 
 pub returns-clause-rises : goal.returns-clause-rises
 returns-clause-rises g c = c.in_ok-came.ensures.rises

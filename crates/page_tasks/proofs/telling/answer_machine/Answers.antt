@@ -9,8 +9,8 @@ answer-requires-clause-answer c = c.requires.answer
 pub answer-requires-clause-height : goal.answer-requires-clause-height
 answer-requires-clause-height c = c.requires.height
 
-pub returns-clause-told : goal.returns-clause-told
-returns-clause-told c = record {
+pub returns-clause-answers : goal.returns-clause-answers
+returns-clause-answers c = record {
   later = c.in_ok-answer.ensures.later;
   heap = c.in_ok-answer.ensures.heap;
   state = c.in_ok-answer.ensures.state;

@@ -16,16 +16,16 @@ answer_machine-requires-clause-height g c = calls_fit c.args.machine.state.calls
 
 pub go_invocation-requires-clause-back : goal.go_invocation-requires-clause-back
 go_invocation-requires-clause-back g c =
-    invocation_told_back c.args.store.now c.args.machine (answer_outcome c.args.store.now.texts c.args.answer) c.args.height c.answer_machine.new.store c.answer_machine.new.machine c.requires.of (rw c.in-Ok.is at c.answer_machine.ensures.told) c.args.left.now c.requires.back
+    invocation_told_back c.args.store.now c.args.machine (answer_outcome c.args.store.now.texts c.args.answer) c.args.height c.answer_machine.new.store c.answer_machine.new.machine c.requires.of (rw c.in-Ok.is at c.answer_machine.ensures.answers) c.args.left.now c.requires.back
 
 pub returns-in_ok-halted-in-Ok-clause-halts : goal.returns-in_ok-halted-in-Ok-clause-halts
 returns-in_ok-halted-in-Ok-clause-halts g c =
-    invocation_told_halts c.args.store.now c.args.machine (answer_outcome c.args.store.now.texts c.args.answer) c.args.height c.answer_machine.new.store c.answer_machine.new.machine c.requires.of (rw c.in-Ok.is at c.answer_machine.ensures.told)
+    invocation_told_halts c.args.store.now c.args.machine (answer_outcome c.args.store.now.texts c.args.answer) c.args.height c.answer_machine.new.store c.answer_machine.new.machine c.requires.of (rw c.in-Ok.is at c.answer_machine.ensures.answers)
     c.args.left.now c.go_invocation.new.left c.args.turns.now c.go_invocation.new.turns c.go_invocation.new.store c.in_ok-halted-in-Ok.halted c.in_ok-halted-in-Ok.ensures.halts
 
 pub returns-in_ok-halted-in-Ok-clause-goes : goal.returns-in_ok-halted-in-Ok-clause-goes
 returns-in_ok-halted-in-Ok-clause-goes g c = λ n e a.
-    invocation_told_goes c.args.store.now c.args.machine (answer_outcome c.args.store.now.texts c.args.answer) c.args.height c.answer_machine.new.store c.answer_machine.new.machine c.requires.of (rw c.in-Ok.is at c.answer_machine.ensures.told)
+    invocation_told_goes c.args.store.now c.args.machine (answer_outcome c.args.store.now.texts c.args.answer) c.args.height c.answer_machine.new.store c.answer_machine.new.machine c.requires.of (rw c.in-Ok.is at c.answer_machine.ensures.answers)
     c.args.left.now c.go_invocation.new.left n c.go_invocation.new.store c.in_ok-halted-in-Ok.halted a (c.in_ok-halted-in-Ok.ensures.goes n e)
 
 pub returns-in_ok-halted-in-Ok-clause-falls : goal.returns-in_ok-halted-in-Ok-clause-falls

@@ -16,16 +16,16 @@ go_load-requires-clause-of g c = ((rw c.in-Ok.is at c.answer_machine.ensures.of)
 
 pub go_load-requires-clause-back : goal.go_load-requires-clause-back
 go_load-requires-clause-back g c =
-    load_told_back c.args.store.now c.args.machine (answer_outcome c.args.store.now.texts c.args.answer) c.args.height c.answer_machine.new.store c.answer_machine.new.machine c.requires.of.0 (rw c.in-Ok.is at c.answer_machine.ensures.told) c.args.begun c.args.left.now c.requires.back
+    load_told_back c.args.store.now c.args.machine (answer_outcome c.args.store.now.texts c.args.answer) c.args.height c.answer_machine.new.store c.answer_machine.new.machine c.requires.of.0 (rw c.in-Ok.is at c.answer_machine.ensures.answers) c.args.begun c.args.left.now c.requires.back
 
 pub returns-in_ok-halted-in-Ok-clause-halts : goal.returns-in_ok-halted-in-Ok-clause-halts
 returns-in_ok-halted-in-Ok-clause-halts g c =
-    load_told_halts c.args.store.now c.args.machine (answer_outcome c.args.store.now.texts c.args.answer) c.args.height c.answer_machine.new.store c.answer_machine.new.machine c.requires.of.0 (rw c.in-Ok.is at c.answer_machine.ensures.told)
+    load_told_halts c.args.store.now c.args.machine (answer_outcome c.args.store.now.texts c.args.answer) c.args.height c.answer_machine.new.store c.answer_machine.new.machine c.requires.of.0 (rw c.in-Ok.is at c.answer_machine.ensures.answers)
     c.args.begun c.args.left.now c.go_load.new.left c.args.turns.now c.go_load.new.turns c.go_load.new.store c.in_ok-halted-in-Ok.halted c.in_ok-halted-in-Ok.ensures.halts
 
 pub returns-in_ok-halted-in-Ok-clause-goes : goal.returns-in_ok-halted-in-Ok-clause-goes
 returns-in_ok-halted-in-Ok-clause-goes g c = λ n e a.
-    load_told_goes c.args.store.now c.args.machine (answer_outcome c.args.store.now.texts c.args.answer) c.args.height c.answer_machine.new.store c.answer_machine.new.machine c.requires.of.0 (rw c.in-Ok.is at c.answer_machine.ensures.told)
+    load_told_goes c.args.store.now c.args.machine (answer_outcome c.args.store.now.texts c.args.answer) c.args.height c.answer_machine.new.store c.answer_machine.new.machine c.requires.of.0 (rw c.in-Ok.is at c.answer_machine.ensures.answers)
     c.args.begun c.args.left.now c.go_load.new.left n c.go_load.new.store c.in_ok-halted-in-Ok.halted a (c.in_ok-halted-in-Ok.ensures.goes n e)
 
 pub returns-in_ok-halted-in-Ok-clause-falls : goal.returns-in_ok-halted-in-Ok-clause-falls

@@ -2,7 +2,7 @@ use Rattle.std.proofs.Common.{◌∙◌, sym, ap, inl}
 use Rattle.std.specs.Prelude.{◌==◌, codes}
 use Rattle.std.specs.List.{starts_with}
 use Rattle.page_ground.proofs.KeepLaws.{tells_held, held_seen}
-use Rattle.page_ground.proofs.held.is_held.Goals as goal
+use Rattle.page_ground.proofs.held_modules.is_held.Goals as goal
 
 pub returns-then-is_module : goal.returns-then-is_module
 returns-then-is_module c =
