@@ -1,6 +1,6 @@
 //! Code of a text of Lua: each name gets its place (manual 2.6, local variables and upvalues).
 //!
-//! - `rounds`: `resolve`, the public call
+//! - `rounds`: `resolve`, the public call, and `is_made_once`, which tests ask
 //! - `expressions`, `statements`: code of the parts of a tree
 //! - `operators`: code of operators
 //! - `resolver`: names and declarations
@@ -19,4 +19,4 @@ mod resolver;
 mod rounds;
 mod statements;
 
-pub use rounds::resolve;
+pub use rounds::{is_made_once, resolve};

@@ -49,6 +49,14 @@ pub fn resolve(alloc: Global, seed: RandomState, chunk: &Chunk) -> Result<Protos
     Err(NoMemory)
 }
 
+/// Whether code of a text is made once: the first look at it told what its functions capture. Only tests ask this, since code that is made
+/// again is the same.
+pub fn is_made_once(alloc: Global, seed: RandomState, chunk: &Chunk) -> Result<bool, NoMemory> {
+    let sketch = first_look(alloc, seed, chunk)?;
+    let gone = round(alloc, chunk, sketch)?;
+    Ok(gone.scopes.is_clean() && gone.tight)
+}
+
 /// Goes over the text once.
 fn round<'t>(alloc: Global, chunk: &'t Chunk, sketch: Sketch<'t>) -> Result<Gone<'t>, NoMemory>
     ensures code { IfOk result (λ r. r.scopes.clean ≡ true → IsProtos (protos_seen r.protos) (chunk_view chunk.now)) }
