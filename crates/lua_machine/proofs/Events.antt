@@ -7,6 +7,8 @@ use Rattle.lua_slots.specs.Enact.{Funds, all_given_back}
 use Rattle.lua_goes.specs.Going.{Over, Lacks, Waiting, Comes, is_over, is_asking, funds_at}
 use Rattle.lua_goes.proofs.Counts.{nodes_are_paid, calls_are_back, kept-reached}
 use Rattle.lua_points.specs.Clauses.{fund}
+use Rattle.lua_points.specs.Laws.{TakesItsOwn}
+use Rattle.lua_points.proofs.Allowances.{other_allowances_stay}
 use Rattle.lua_stack.specs.declared.focus.Focus.{Focus}
 use Rattle.lua_state.specs.declared.state.State.{State}
 use Rattle.lua_state.specs.Seen.{slots_of, frames_of, funds_of, outcome_seen}
@@ -16,8 +18,7 @@ use Rattle.lua_machine.specs.declared.event.Event.{Event}
 use Rattle.lua_machine.specs.declared.event.Event.TheVariants as event
 use Rattle.lua_machine.specs.Moved.{point_of}
 use Rattle.lua_machine.specs.Going.{EndsIn}
-use Rattle.lua_machine.specs.Events.{stop_seen, funds_after, BackAt, TakesItsOwn, Settles}
-use Rattle.lua_machine.proofs.Rest.{comes_takes}
+use Rattle.lua_machine.specs.Events.{stop_seen, funds_after, BackAt, Settles}
 
 from_nothing : (l : Left) (m : State) → m.height ≡ 0 → funds_of l m no_tally 0 ≡ fund l m.calls no_tally
 from_nothing l m h = rw h refl
@@ -49,7 +50,7 @@ module _ (a : StoreView) (m : State) (x : Focus) (l : Left) (k : ℕ) (b : Store
   pub takes_its_own : (e : Event) (l'' : Left) (m'' : State) → m.height ≡ 0 → EndsIn a m x l k b m' l' k' e → Settles e l' m' l'' m'' → TakesItsOwn l l''
   takes_its_own e l'' m'' h c s =
       let n : ℕ = k' - k in
-      taken e (comes_takes (world_seen m.codes.world) (point_of a m x) (slots_of a m) (fund l m.calls no_tally) (comes e l'' m'' n h c s (omega (arith, c.rises))))
+      taken e (other_allowances_stay (world_seen m.codes.world) (point_of a m x) (slots_of a m) (fund l m.calls no_tally) (stop_seen b m'' e (funds_after l'' m'' n)) (comes e l'' m'' n h c s (omega (arith, c.rises))))
     where
       taken : (e : Event) → TakesItsOwn l (funds_at (stop_seen b m'' e (funds_after l'' m'' (k' - k)))).left → TakesItsOwn l l''
       taken (event.Over o) t = t

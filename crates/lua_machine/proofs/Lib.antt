@@ -1,4 +1,3 @@
 pub mod Loops
 pub mod Moves
-pub mod Rest
 pub mod Events

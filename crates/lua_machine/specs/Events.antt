@@ -54,10 +54,6 @@ abbrev pub BackAt : Event → Left → ℕ → Left → ℕ → Type 0
 BackAt (event.Asks q) old calls new calls' = new.calls + calls' ≡ old.calls + calls
 BackAt _ old calls new calls' = (new.calls ≡ old.calls + calls) × (calls' ≡ 0)
 
--- Steps and calls are taken, and no other allowance.
-abbrev pub TakesItsOwn : Left → Left → Type 0
-TakesItsOwn l l' = l' ≡ record l { steps = l'.steps; calls = l'.calls }
-
 -- calls are given back at an end alone, and nothing else changes
 abbrev pub GivesBack : Left → State → Left → State → Type 0
 GivesBack l m l' m' = (m' ≡ record m { calls = 0 }) × (l' ≡ record l { calls = l.calls + m.calls })

@@ -7,13 +7,14 @@ ghost use Rattle.lua_meaning.specs.Start.{Work as PlainWork};
 ghost use Rattle.lua_slots.specs.Code.{CWorld};
 ghost use Rattle.lua_slots.specs.Points.{SFrame, Gives, Works};
 ghost use Rattle.lua_points.specs.Clauses.{Starts, GoesOnWith};
+ghost use Rattle.lua_points.specs.Laws.{TakesItsOwn};
 ghost use Rattle.lua_stack.specs.Seen.{focus_seen, work_seen};
 ghost use Rattle.lua_state.specs.Seen.{slots_of, frames_of};
 ghost use Rattle.lua_machine.specs.Moved.{point_of};
 ghost use Rattle.lua_store.specs.Parts.{IsLater};
 ghost use Rattle.lua_stack.specs.Of.{FocusOf, WorkOf};
 ghost use Rattle.lua_state.specs.Of.{StateOf};
-ghost use Rattle.lua_machine.specs.Events.{MachineOf, GoesFrom, TakesItsOwn, stop_seen, funds_after, EventOf, BackAt, Settles, AnswerOf, answer_outcome};
+ghost use Rattle.lua_machine.specs.Events.{MachineOf, GoesFrom, stop_seen, funds_after, EventOf, BackAt, Settles, AnswerOf, answer_outcome};
 
 use crate::event::{Answer, Event};
 use crate::going::advance;

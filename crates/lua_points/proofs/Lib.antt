@@ -8,6 +8,7 @@ pub mod Starts
 pub mod Answers
 pub mod Loads
 pub mod Tallies
+pub mod Allowances
 pub mod Clauses
 pub mod Chains
 pub mod Families

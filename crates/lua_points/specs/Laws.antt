@@ -21,7 +21,7 @@ use Rattle.lua_slots.specs.IsCode.{Agrees}
 use Rattle.lua_slots.specs.Slots.{Slots, with_heap}
 use Rattle.lua_slots.specs.Points.{SFrame, Point, Gives, Asking, Works}
 use Rattle.lua_slots.specs.Enact.{Funds, funds, all_given_back, replied}
-use Rattle.lua_goes.specs.Going.{Stop, Over, Lacks, Waiting, heap_at, Comes}
+use Rattle.lua_goes.specs.Going.{Stop, Over, Lacks, Waiting, funds_at, heap_at, Comes}
 use Rattle.lua_agree.specs.Values.{SameOutcome}
 use Rattle.lua_agree.specs.Functions.{SameFunction}
 use Rattle.lua_agree.specs.Named.{roots}
@@ -179,3 +179,10 @@ TallyIsCarried = (code : CWorld) (point : Point) (s : Slots) (f : Funds) (e : St
 
 abbrev pub NothingTold : Type 0
 NothingTold = (told : Tally) → told_after told no_tally ≡ told
+
+-- ALLOWANCES: a call takes steps and calls of what is left, and leaves all other allowances as they are.
+abbrev pub TakesItsOwn : Left → Left → Type 0
+TakesItsOwn l l' = l' ≡ record l { steps = l'.steps; calls = l'.calls }
+
+abbrev pub OtherAllowancesStay : Type 0
+OtherAllowancesStay = (code : CWorld) (point : Point) (s : Slots) (f : Funds) (e : Stop) → Comes code point s f e → TakesItsOwn f.left (funds_at e).left

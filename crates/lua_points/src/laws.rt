@@ -1,7 +1,7 @@
 //! The laws of points: `specs/Laws.antt` says them. Each is the contract of a function that does nothing.
 ghost use Rattle.lua_points.specs.Clauses.{ClauseOfStart, ClauseOfAnswer, ClausesOfGo, GoCanBe};
 ghost use Rattle.lua_points.specs.Families.{OneMore, OneGoes, OneIsAnswered, DataIsPut, OrderIsFree};
-ghost use Rattle.lua_points.specs.Laws.{ThereIsAHome, StartIsAt, CallIsMet, QuestionIsAsked, EndIsMet, AnswerIsAt, SpentAnswerIsMet, PointIsCut, PointHasImage, PointLooksAtSet, PointLooksAtOwn, PointLooksAtOwned, OthersStay, UnownedStays, ReachStays, StartOwnsNew, AnswerOwnsNothing, NeighbourWaits, NeighboursStayApart, SetStaysThere, AnswersAreThere, AnswersStayApart, LoadIsAnswer, AnswersWait, TallyIsCarried, NothingTold};
+ghost use Rattle.lua_points.specs.Laws.{ThereIsAHome, StartIsAt, CallIsMet, QuestionIsAsked, EndIsMet, AnswerIsAt, SpentAnswerIsMet, PointIsCut, PointHasImage, PointLooksAtSet, PointLooksAtOwn, PointLooksAtOwned, OthersStay, UnownedStays, ReachStays, StartOwnsNew, AnswerOwnsNothing, NeighbourWaits, NeighboursStayApart, SetStaysThere, AnswersAreThere, AnswersStayApart, LoadIsAnswer, AnswersWait, TallyIsCarried, NothingTold, OtherAllowancesStay};
 
 /// A fresh environment is there in a store that had nothing.
 pub fn there_is_a_home()
@@ -132,6 +132,11 @@ pub fn tally_is_carried()
 /// Where nothing new is told, what was told stays.
 pub fn nothing_told()
     ensures { NothingTold }
+{}
+
+/// A call takes steps and calls, and leaves all other allowances as they are.
+pub fn other_allowances_stay()
+    ensures { OtherAllowancesStay }
 {}
 
 /// The clause of `start`, from a fresh environment.

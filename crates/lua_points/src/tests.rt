@@ -30,6 +30,7 @@ fn laws_of_points_are_called(_rt: HostRuntime) -> Result<(), Fail> {
     laws::answers_wait();
     laws::tally_is_carried();
     laws::nothing_told();
+    laws::other_allowances_stay();
     laws::clause_of_start();
     laws::clause_of_answer();
     laws::clauses_of_go();

@@ -12,7 +12,7 @@ use Rattle.lua_meaning.specs.Questions.{Answer}
 use Rattle.lua_meaning.specs.Acts.{Jump}
 use Rattle.lua_meaning.specs.Start.{end_of}
 use Rattle.lua_points.specs.Told.{IsToldAs}
-use Rattle.lua_points.specs.Laws.{IsThere}
+use Rattle.lua_points.specs.Laws.{IsThere, TakesItsOwn}
 use Rattle.wiki_expand.specs.declared.expander.Move.{Move}
 use Rattle.wiki_expand.specs.declared.expander.Move.TheVariants.{Text as Came, Invoke as Invokes}
 use Rattle.lua_store.specs.Seen.{StoreView}
@@ -21,7 +21,7 @@ use Rattle.lua_state.specs.Seen.{outcome_seen}
 use Rattle.lua_machine.specs.declared.machine.Machine.{Machine}
 use Rattle.lua_machine.specs.declared.event.Event.{Event}
 use Rattle.lua_machine.specs.declared.event.Event.TheVariants as event
-use Rattle.lua_machine.specs.Events.{MachineOf, EventOf, GoesFrom, BackAt, TakesItsOwn, stop_seen, funds_after}
+use Rattle.lua_machine.specs.Events.{MachineOf, EventOf, GoesFrom, BackAt, stop_seen, funds_after}
 use Rattle.page_meaning.specs.declared.outcome.JobOutcome.TheVariants as ending
 use Rattle.page_meaning.specs.Outcomes.{end_outcome}
 use Rattle.page_points.specs.Places.{Place, replied}

@@ -8,7 +8,7 @@ use Rattle.lua_slots.specs.Points.{Point, Move, Costs, Marks, Enters, Exits, Now
 use Rattle.lua_slots.specs.Moves.{moves}
 use Rattle.lua_slots.specs.Enact.{Funds, all_given_back, Enacted, Stands, Short, paid, calling, called, marked, back, enact}
 use Rattle.lua_goes.specs.Going.{Stop, funds_at, Reaches, here, further, Comes, is_over, is_short, is_short_late, is_asking}
-use Rattle.lua_machine.specs.Events.{TakesItsOwn}
+use Rattle.lua_points.specs.Laws.{TakesItsOwn, OtherAllowancesStay}
 
 abbrev TakesAt : Left → Enacted → Type 0
 TakesAt l (Stands p s g) = TakesItsOwn l g.left
@@ -54,8 +54,11 @@ module _ (world : CWorld) (p : Point) (s : Slots) (f : Funds) where
   reached_takes here = refl
   reached_takes (further q t g q' t' g' r e) = further_takes f.left g.left g'.left (reached_takes r) (subst (TakesAt g.left) e (move_takes (moves world q t) g))
 
-  pub comes_takes : {e : Stop} → Comes world p s f e → TakesItsOwn f.left (funds_at e).left
+  comes_takes : {e : Stop} → Comes world p s f e → TakesItsOwn f.left (funds_at e).left
   comes_takes (is_over o t g r) = further_takes f.left g.left (all_given_back g).left (reached_takes r) refl
   comes_takes (is_short q t g w g' r e) = further_takes f.left g.left g'.left (reached_takes r) (subst (TakesAt g.left) e (move_takes (moves world q t) g))
   comes_takes (is_short_late q t g w g' r e) = further_takes f.left g.left g'.left (reached_takes r) (subst (TakesAt g.left) e (move_takes (moves world q t) g))
   comes_takes (is_asking q fs t g r) = reached_takes r
+
+pub other_allowances_stay : OtherAllowancesStay
+other_allowances_stay code point s f e c = comes_takes code point s f c
