@@ -1,0 +1,2 @@
+pub mod ClosureRuns
+pub mod LoadRuns
