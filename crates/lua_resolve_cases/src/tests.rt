@@ -2,7 +2,7 @@
 use crate::modules::{BOOK, DATA, INFOBOX, LANGUAGES, TEXT};
 use crate::{Counts, counts_of};
 use lua_parser::parse;
-use lua_resolve::resolve;
+use lua_resolve::{is_made_once, resolve};
 use lua_syntax::SyntaxFault;
 use std::alloc::Global;
 use std::hash::RandomState;
@@ -142,19 +142,25 @@ const ROWS: [Row; 18] = [
     },
 ];
 
-fn counted(alloc: Global, seed: RandomState, text: &[u8]) -> Result<Counts, Fail> {
+/// A text has these counts, and its code is made once.
+fn check(
+    rt: &impl Abort,
+    alloc: Global,
+    seed: RandomState,
+    text: &[u8],
+    expected: Counts,
+) -> Result<(), Fail> {
     if text.len() >= 4000000000 {
         return Err(Fail::from(NoMemory));
     }
     let chunk = parse(alloc, text)?;
-    let protos = resolve(alloc, seed, &chunk)?;
-    Ok(counts_of(&protos))
-}
-
-fn check(rt: &impl Abort, counts: Counts, expected: Counts) {
+    let counts = counts_of(&resolve(alloc, seed, &chunk)?);
     assert_eq!(rt; counts.boxed, expected.boxed);
     assert_eq!(rt; counts.plain, expected.plain);
     assert_eq!(rt; counts.functions, expected.functions);
+    let is_once = is_made_once(alloc, seed, &chunk)?;
+    assert_eq!(rt; is_once, true);
+    Ok(())
 }
 
 #[test]
@@ -162,13 +168,12 @@ fn texts_are_resolved(rt: HostRuntime) -> Result<(), Fail> {
     let alloc = rt.alloc();
     let seed = RandomState::new(&rt)?;
     for row in ROWS.iter() {
-        let counts = counted(alloc, seed, row.text.as_bytes())?;
         let expected = Counts {
             boxed: row.boxed,
             plain: row.plain,
             functions: row.functions,
         };
-        check(&rt, counts, expected);
+        check(&rt, alloc, seed, row.text.as_bytes(), expected)?;
     }
     Ok(())
 }
@@ -232,8 +237,7 @@ fn long_texts_are_resolved(rt: HostRuntime) -> Result<(), Fail> {
     let seed = RandomState::new(&rt)?;
     for long in LONG.iter() {
         let text = text_of(alloc, long)?;
-        let counts = counted(alloc, seed, text.as_slice())?;
-        check(&rt, counts, long.counts);
+        check(&rt, alloc, seed, text.as_slice(), long.counts)?;
     }
     Ok(())
 }
@@ -259,14 +263,38 @@ fn with_parameters(alloc: Global, levels: usize) -> Result<Vec<u8>, Fail> {
 #[test]
 fn parameters_of_all_levels_are_captured(rt: HostRuntime) -> Result<(), Fail> {
     let alloc = rt.alloc();
+    let seed = RandomState::new(&rt)?;
     let text = with_parameters(alloc, 199)?;
-    let counts = counted(alloc, RandomState::new(&rt)?, text.as_slice())?;
     // the innermost function's own parameter is plain, as is each function
     let expected = Counts {
         boxed: 198,
         plain: 200,
         functions: 199,
     };
-    check(&rt, counts, expected);
-    Ok(())
+    check(&rt, alloc, seed, text.as_slice(), expected)
+}
+
+/// Variables with names of their own, and a function that captures the first of them.
+fn with_names(alloc: Global, count: usize) -> Result<Vec<u8>, Fail> {
+    let mut text = Vec::new(alloc);
+    for n in 0..count {
+        let item = format!(in alloc; "local v{n} = 1 ")?;
+        text.extend_from_slice(item.as_bytes())?;
+    }
+    text.extend_from_slice(b"return function() return v0 end")?;
+    Ok(text)
+}
+
+#[test]
+fn many_variables_are_resolved(rt: HostRuntime) -> Result<(), Fail> {
+    let alloc = rt.alloc();
+    let seed = RandomState::new(&rt)?;
+    let text = with_names(alloc, 200000)?;
+    // all but the first are plain
+    let expected = Counts {
+        boxed: 1,
+        plain: 199999,
+        functions: 1,
+    };
+    check(&rt, alloc, seed, text.as_slice(), expected)
 }
