@@ -84,10 +84,10 @@ pub fn load<R: Threads + Sync>(
 ) -> Result<Wiki, NoMemory>
     requires jobs { 1 ≤ jobs }
     ensures pages { IfOk result (λ wiki. wiki.pages ≡ page_map pages) }
-    ensures held { IfOk result (λ wiki. HoldsModules wiki.pages wiki.modules) }
+    ensures has_each_module { IfOk result (λ wiki. HoldsModules wiki.pages wiki.modules) }
     // Whatever modules the texts mean, the code is theirs; and there are such modules.
     ensures code { IfOk result (λ wiki. (modules : PlainModules) → AreMeantBy pages modules → (page : PlainTitle) → AreModulesIn page wiki.modules modules) }
-    ensures meant { IfOk result (λ _. (modules : PlainModules) × AreMeantBy pages modules) }
+    ensures has_modules { IfOk result (λ _. (modules : PlainModules) × AreMeantBy pages modules) }
 {
     let texts = pages.as_slice();
     let prepared = all_prepared(rt, alloc, seed, texts, jobs)?;
