@@ -1,5 +1,5 @@
 -- What a run leaves, whatever modules the texts mean.
-use Rattle.std.proofs.Common.{◌≡◌, ◌∙◌, ℕ, Bool, true, false, ◌⊎◌, inl, inr, List, [], refl, sym, ap, subst, append-nil, true≢false, arith}
+use Rattle.std.proofs.Common.{◌≡◌, ◌∙◌, ℕ, ◌==◌, Bool, true, false, ◌⊎◌, inl, inr, List, [], refl, sym, ap, subst, append-nil, true≢false, arith}
 use Rattle.std.specs.Prelude.{Option, Some, None, IfSome, option_map, Result, Ok, Err, OnOk, OnErr, is_ok, if◌then◌else◌}
 use Rattle.wk_shelf.specs.declared.folder.FolderPage.{FolderPage}
 use Rattle.wk_shelf.specs.Files.{StoredFile}
@@ -7,12 +7,14 @@ use Rattle.wk_shelf.specs.Put.{Puts, PutsSome}
 use Rattle.wiki_words.specs.declared.command.Command.{Command}
 use Rattle.wiki_words.specs.Command.{command_of}
 use Rattle.wiki_output.specs.declared.report.Report.{Report}
+use Rattle.wiki_output.specs.declared.report.Status.{Status}
+use Rattle.wiki_output.specs.declared.report.Status.TheVariants.{Done, NoSuchPage, SourceFault}
 use Rattle.wiki_output.specs.Report.{status_code, read_line, usage_line, usage_report, fault_report}
 use Rattle.lua_meaning.specs.World.{Modules}
 use Rattle.wiki_texts.specs.Modules.{AreMeantBy}
 use Rattle.wiki_app.specs.Pages.{wiki_for, raw_pages}
 use Rattle.wiki_app.specs.Report.{report_of, expected, expected_for, AreMeantIn, AreMeantFor, AreMeant, IfExpected}
-use Rattle.wiki_app.specs.Outcome.{is_answer, Answers, Begins, Completes, IsOfFolder, ReadsFolder}
+use Rattle.wiki_app.specs.Outcome.{is_answer, Answers, Begins, Completes, IsOfFolder, IsWork, ReadsFolder}
 
 -- ---- the report that is due
 
@@ -88,6 +90,22 @@ IsBehind put code status = status ≡ (if put then code else 5)
 pub never : {A : Type 0} (put : Bool) (code status : ℕ) → IsBehind put code status → is_answer code ≡ false → is_answer status ≡ true → A
 never true code status e n h = no_answer status code e n h
 never false code status e n h = no_answer status 5 e refl h
+
+-- want of memory is no fault of a put
+pub no_write_fault : {A : Type 0} (status : ℕ) → status ≡ 6 → status ≡ 5 → A
+no_write_fault status e h = let wrong : 6 ≡ 5 = sym e ∙ h in absurd (omega (arith, wrong))
+
+-- it comes behind no put
+pub never_memory : {A : Type 0} (put : Bool) (code status : ℕ) → IsBehind put code status → (code == 6) ≡ false → status ≡ 6 → A
+never_memory true code status e n h = absurd (true≢false (sym (ap (λ (k : ℕ). k == 6) (sym e ∙ h)) ∙ n))
+never_memory false code status e n h = let wrong : 5 ≡ 6 = sym e ∙ h in absurd (omega (arith, wrong))
+
+-- the work on a command never ends with it
+pub work_status : (status : Status) → IsWork status → (status_code status == 6) ≡ false
+work_status Done w = refl
+work_status NoSuchPage w = refl
+work_status SourceFault w = refl
+work_status other w = absurd w
 
 -- the put before status 4 was taken
 pub put_was : {T E : Type 0} (put : Result T E) (status : ℕ) (P : Type 0) → IsBehind (is_ok put) 4 status → status ≡ 4 → OnOk put P → P

@@ -89,7 +89,7 @@ fn wiki_report<R: Threads + Sync, G: Gate + Sync>(
     requires countable { IsCountable settings.now.limits }
     requires jobs { 1 ≤ settings.now.jobs }
     ensures report { IfOk result (λ report. (modules : PlainModules) → AreMeantBy pages modules → report ≡ wiki_report modules settings.now form titles.now pages) }
-    ensures meant { IfOk result (λ _. (modules : PlainModules) × AreMeantBy pages modules) }
+    ensures has_modules { IfOk result (λ _. (modules : PlainModules) × AreMeantBy pages modules) }
     ensures work { IfOk result (λ report. IsWork report.status) }
 {
     let wiki = load(rt, alloc, seed, pages, settings.jobs as usize)?;
@@ -111,7 +111,7 @@ pub fn command_report<R: Threads + Sync, G: Gate + Sync>(
     requires countable { IsCountable command.now.settings.limits }
     requires jobs { 1 ≤ command.now.settings.jobs }
     ensures report { IfOk result (λ report. (modules : PlainModules) → AreMeantBy (raw_pages pages) modules → report ≡ report_of modules command.now (Ok pages)) }
-    ensures meant { IfOk result (λ _. (modules : PlainModules) × AreMeantBy (raw_pages pages) modules) }
+    ensures has_modules { IfOk result (λ _. (modules : PlainModules) × AreMeantBy (raw_pages pages) modules) }
     ensures work { IfOk result (λ report. IsWork report.status) }
 {
     let titles = titles_of(alloc, &command.work, pages.as_slice())?;

@@ -2,7 +2,7 @@
 ghost use Rattle.std.specs.Prelude.{◌≡◌, ◌≤◌, ◌⊎◌, true, false, None, Err, IfOk, IfSome, map, string_bytes, is_ok, if◌then◌else◌};
 ghost use Rattle.wk_base.specs.Allowances.{IsCountable};
 ghost use Rattle.wk_shelf.specs.Causes.{Rose};
-ghost use Rattle.wk_shelf.specs.Put.{Puts};
+ghost use Rattle.wk_shelf.specs.Put.{Puts, PutsSome};
 ghost use Rattle.lua_meaning.specs.World.{Modules as PlainModules};
 ghost use Rattle.wiki_words.specs.Command.{command_of, begins_command};
 ghost use Rattle.wiki_output.specs.Report.{status_code, read_line};
@@ -58,7 +58,7 @@ fn prepare<R: Threads + Sync, S: Shelf, G: Gate + Sync>(
     requires countable { IsCountable command.now.settings.limits }
     requires jobs { 1 ≤ command.now.settings.jobs }
     ensures report { IfOk result (λ report. IfSome (wiki_for command.now.work (S.files shelf.old)) (λ wiki. (modules : PlainModules) → AreMeantIn wiki modules → report ≡ report_of modules command.now wiki)) }
-    ensures meant { IfOk result (λ _. IfSome (wiki_for command.now.work (S.files shelf.old)) (λ wiki. (modules : PlainModules) × AreMeantIn wiki modules)) }
+    ensures has_modules { IfOk result (λ _. IfSome (wiki_for command.now.work (S.files shelf.old)) (λ wiki. (modules : PlainModules) × AreMeantIn wiki modules)) }
     ensures work { IfOk result (λ report. IsWork report.status) }
     ensures cause { result ≡ Err Unread.Failed → IsOfFolder command.now.work × Rose (S.faults shelf.old) (S.faults shelf.new) }
 {
@@ -101,10 +101,13 @@ pub fn run<R: Threads + Sync, S: Shelf, O: Sink, E: Sink, G: Gate + Sync>(
     gate: &G,
 ) -> u8
     ensures answered { is_answer result ≡ true → IfExpected (map string_bytes words.now) (S.files shelf.old) (Answers result (O.contents out.old) (O.contents out.new) (E.contents err.old) (E.contents err.new)) }
-    ensures meant { is_answer result ≡ true → (modules : PlainModules) × AreMeant (map string_bytes words.now) (S.files shelf.old) modules }
+    ensures has_modules { is_answer result ≡ true → (modules : PlainModules) × AreMeant (map string_bytes words.now) (S.files shelf.old) modules }
     ensures read_fault { result ≡ 4 → ReadsFolder (command_of (map string_bytes words.now)) × Rose (S.faults shelf.old) (S.faults shelf.new) × (out.new ≡ out.old) × Puts (E.contents err.old) (E.contents err.new) read_line }
     ensures write_fault { result ≡ 5 → Rose (O.faults out.old) (O.faults out.new) ⊎ Rose (E.faults err.old) (E.faults err.new) }
     ensures cut_off { (result ≡ 5) ⊎ (result ≡ 6) → IfExpected (map string_bytes words.now) (S.files shelf.old) (Begins (Rose (S.faults shelf.old) (S.faults shelf.new)) (O.contents out.old) (O.contents out.new) (E.contents err.old) (E.contents err.new)) }
+    // After status 5 the report that was cut off is one of modules that there are, or it is the line of a read that failed.
+    ensures cut_meant { result ≡ 5 → ((modules : PlainModules) × AreMeant (map string_bytes words.now) (S.files shelf.old) modules) ⊎ (ReadsFolder (command_of (map string_bytes words.now)) × Rose (S.faults shelf.old) (S.faults shelf.new) × (out.new ≡ out.old) × PutsSome (E.contents err.old) (E.contents err.new) read_line) }
+    ensures nothing_put { result ≡ 6 → (out.new ≡ out.old) × (err.new ≡ err.old) }
     ensures statuses { is_status result ≡ true }
     ensures usage { result ≡ 2 → command_of (map string_bytes words.now) ≡ None }
     ensures no_command { command_of (map string_bytes words.now) ≡ None → (result ≡ 2) ⊎ (result ≡ 5) ⊎ (result ≡ 6) }

@@ -19,8 +19,8 @@ returns-clause-report g c = λ modules mean.
     ∙ ap (λ (f : Form). wiki_report modules settings f c.as_slice-2.result.now (raw_pages c.args.pages)) form
     ∙ ap (λ (ts : List Title). wiki_report modules settings (form_of work) ts (raw_pages c.args.pages)) titles
 
-pub returns-clause-meant : goal.returns-clause-meant
-returns-clause-meant g c =
+pub returns-clause-has_modules : goal.returns-clause-has_modules
+returns-clause-has_modules g c =
     let raw : c.in_ok-raw.raw ≡ raw_pages c.args.pages = c.in_ok-raw.ensures in
-    let found = c.in_ok-report.ensures.meant in
+    let found = c.in_ok-report.ensures.has_modules in
     (found.0, subst (λ (ps : List RawPage). AreMeantBy ps found.0) raw found.1)

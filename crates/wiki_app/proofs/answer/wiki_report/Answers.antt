@@ -8,5 +8,5 @@ returns-clause-report g c = λ modules mean.
     c.in_ok-report.ensures.report modules (c.in_ok-wiki.ensures.code modules mean)
     ∙ ap (λ (map : Pages). titles_report modules map c.args.settings.now c.args.form c.args.titles.now) c.in_ok-wiki.ensures.pages
 
-pub returns-clause-meant : goal.returns-clause-meant
-returns-clause-meant g c = c.in_ok-wiki.ensures.meant
+pub returns-clause-has_modules : goal.returns-clause-has_modules
+returns-clause-has_modules g c = c.in_ok-wiki.ensures.has_modules

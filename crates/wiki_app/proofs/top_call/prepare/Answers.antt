@@ -6,13 +6,13 @@ use Rattle.wiki_app.proofs.top_call.prepare.Goals as goal
 pub returns-in_ok-report-in-Ok-clause-report : goal.returns-in_ok-report-in-Ok-clause-report
 returns-in_ok-report-in-Ok-clause-report g c = of_pages _ c.args.command.now c.in_ok-report-in-Ok.report c.in-Ok.pages c.in-Ok.ensures.pages c.in_ok-report-in-Ok.ensures.report
 
-pub returns-in_ok-report-in-Ok-clause-meant : goal.returns-in_ok-report-in-Ok-clause-meant
-returns-in_ok-report-in-Ok-clause-meant g c = meant_by_pages _ c.args.command.now c.in_ok-report-in-Ok.report c.in-Ok.pages c.in-Ok.ensures.pages c.in_ok-report-in-Ok.ensures.meant
+pub returns-in_ok-report-in-Ok-clause-has_modules : goal.returns-in_ok-report-in-Ok-clause-has_modules
+returns-in_ok-report-in-Ok-clause-has_modules g c = meant_by_pages _ c.args.command.now c.in_ok-report-in-Ok.report c.in-Ok.pages c.in-Ok.ensures.pages c.in_ok-report-in-Ok.ensures.has_modules
 
 pub returns-in_ok-report-in-Err-Source-clause-report : goal.returns-in_ok-report-in-Err-Source-clause-report
 returns-in_ok-report-in-Err-Source-clause-report g c =
     let same : c.as_slice.result.now ≡ c.in-Err-Source.fault = search rules in
     of_fault _ c.args.command.now c.in_ok-report-in-Err-Source.report c.in-Err-Source.fault (rw c.in-Err-Source.field-0-is at c.in-Err-Source.ensures.fault) (c.in_ok-report-in-Err-Source.ensures ∙ ap fault_report same)
 
-pub returns-in_ok-report-in-Err-Source-clause-meant : goal.returns-in_ok-report-in-Err-Source-clause-meant
-returns-in_ok-report-in-Err-Source-clause-meant g c = meant_by_none _ c.args.command.now c.in_ok-report-in-Err-Source.report c.in-Err-Source.fault (rw c.in-Err-Source.field-0-is at c.in-Err-Source.ensures.fault)
+pub returns-in_ok-report-in-Err-Source-clause-has_modules : goal.returns-in_ok-report-in-Err-Source-clause-has_modules
+returns-in_ok-report-in-Err-Source-clause-has_modules g c = meant_by_none _ c.args.command.now c.in_ok-report-in-Err-Source.report c.in-Err-Source.fault (rw c.in-Err-Source.field-0-is at c.in-Err-Source.ensures.fault)
