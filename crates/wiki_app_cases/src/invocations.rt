@@ -3,7 +3,7 @@
 //! Lines are those of `cases`. What is expected was worked out by hand from the manuals and from docs/RULES.md.
 
 /// How many cases there are.
-pub const COUNT: u32 = 58;
+pub const COUNT: u32 = 63;
 
 pub fn table() -> &'static str {
     TABLE
@@ -35,6 +35,9 @@ $expand d module:c
 >n=0 local p={} function p.f() n=n+1 return n end return p
 P|{{Module:C}}
 >n=0 local p={} function p.f() n=n+1 return n end return p
+Module:Br|return {{1}}
+$expand d Module:Br
+>return [[:Template:1]]
 # nodes and bytes are the page's
 P|{{#invoke:C|f}}{{#invoke:C|f}}
 $expand d P --nodes 1
@@ -108,9 +111,9 @@ P|{{#invoke:T|f}}
 Module:Cl|return {f=function() local t={} t.a=t local c=mw.clone(t) return tostring(c.a==c)..tostring(c==t) end}
 P|{{#invoke:Cl|f}}
 >truefalse
-Module:S|local p={} function p.f() local a,b=string.find('aXb','%u') local c,n=('x=1, y=2'):gsub('(%w)=(%w)','%2=%1') local t={3,1,2} table.sort(t) local d,e=('THE (quick)'):find('%f[%a]%a+%f[%A]',4) local _,m=pcall(table.sort,{1,'a'}) local _,k=pcall(table.sort,{},type) return a..b..' '..c..' '..n..' '..('f(a(b)c)d'):match('%b()')..' '..d..e..' '..table.concat(t)..' '..m..' '..k end return p
+Module:S|local p={} function p.f() local a,b=string.find('aXb','%u') local c,n=('x=1, y=2'):gsub('(%w)=(%w)','%2=%1') local t={3,1,2} table.sort(t) local d,e=('THE (quick)'):find('%f[%a]%a+%f[%A]',4) local o,m=pcall(table.sort,{1,'a'}) local q,k=pcall(table.sort,{},type) return a..b..' '..c..' '..n..' '..('f(a(b)c)d'):match('%b()')..' '..d..e..' '..table.concat(t)..' '..tostring(o)..' '..m..' '..tostring(q)..' '..k end return p
 P|{{#invoke:S|f}}
->22 1=x, 2=y 2 (a(b)c) 610 123 bad argument #1 to 'sort' (number expected, got string) bad argument #2 to 'sort' (nil expected, got function)
+>22 1=x, 2=y 2 (a(b)c) 610 123 false bad argument #1 to 'sort' (number expected, got string) false bad argument #2 to 'sort' (nil expected, got function)
 Module:B|return {f=function() local b=mw.html.create('b') b:attr('id','x<'):wikitext('t'):tag('br') return tostring(b)..mw.text.listToText({'a'})..mw.text.listToText({}) end}
 P|{{#invoke:B|f}}
 ><b id="x&lt;">t<br /></b>a
@@ -127,6 +130,9 @@ Module:L|local p={} function p.f() while true do pcall(p.f) end end return p
 P|{{#invoke:L|f}}{{#invoke:C|f}}
 ><strong class="error">Script error: The allowance of nested calls is spent.</strong>1
 # with 5,000 steps for the page they are spent first
+P|{{#invoke:L|f}} and {{#invoke:C|f}}
+$expand d P --steps 5000
+><strong class="error">Script error: The allowance of steps is spent.</strong> and <strong class="error">Script error: The allowance of steps is spent.</strong>
 Template:T|t
 P|{{#invoke:C|f}} {{#invoke:L|f}} {{T}}{{#invoke:C|f}}
 $expand d P --steps 5000
@@ -162,6 +168,13 @@ P|{{#invoke:Self|f}}
 Module:Deep|return {f=function(frame) return frame:preprocess('{{#invoke:Deep|f}}') end}
 P|{{#invoke:Deep|f}}
 ><span class="error">Expansion depth limit exceeded</span>
+Module:Self|local p={} x=1 function p.g() x=2 string.len=nil return 'g' end function p.f(frame) local s=frame:preprocess('{{#invoke:Self|g}}') return s..x..string.len('ab') end return p
+P|{{#invoke:Self|f}}
+>g12
+Template:T|t
+Module:Pre|return {f=function(frame) return frame:preprocess('{{{1}}}{{T}}') end}
+P|{{#invoke:Pre|f|a}}
+>at
 
 # 40 templates fit inside one another, each asked for by the frame of the one around it; the next one gives the text that says so
 Module:Nest|return {f=function(frame) local n=frame:getParent():getTitle():match('%d+') or 0 return '.'..frame:expandTemplate{title='N'..n+1} end}
@@ -214,6 +227,11 @@ Module:D|local t={v=5} t.me=t return t
 Module:R|local p={} function p.f() local d=mw.loadData('Module:D') local ok,e=pcall(function() d.v=6 end) return d.me.me.v..' '..tostring(ok)..' '..e end return p
 P|{{#invoke:R|f}};{{#invoke:R|f}}
 >5 false Module:R:1: table from mw.loadData is read-only;5 false Module:R:1: table from mw.loadData is read-only
+# 100,000 tables, one inside the other
+Module:Ch|local t={v='end'} for i=1,100000 do t={n=t} end return t
+Module:RC|return {f=function() local t=mw.loadData('Module:Ch') while t.n do t=t.n end return t.v end}
+P|{{#invoke:RC|f}}
+>end
 Module:DE|error('x')
 Module:DF|return {f=function() end}
 Module:Try|return {f=function(frame) local ok,e=pcall(mw.loadData,frame.args[1]) return tostring(ok)..' '..e end}

@@ -4,7 +4,7 @@
 //! docs/RULES.md.
 
 /// How many cases there are.
-pub const COUNT: u32 = 18;
+pub const COUNT: u32 = 20;
 
 pub fn table() -> &'static str {
     TABLE
@@ -42,6 +42,18 @@ $expand d P --steps 4249 --stats
 $expand d Q P Q --stats --steps=4250
 !Q steps 2125 nodes 1 bytes 1\nP steps 4250 nodes 2 bytes 2\nQ steps 2125 nodes 1 bytes 1\n
 >page Q 1\nv\npage P 2\nvv\npage Q 1\nv\n
+
+# a load that fails costs what it cost the first time, too
+Module:DE|error('x')
+Module:Try|return {f=function() local ok,e=pcall(mw.loadData,'Module:DE') return tostring(ok)..e end}
+P|{{#invoke:Try|f}}
+Q|{{#invoke:Try|f}}{{#invoke:Try|f}}
+$expand d P --steps 2205 --stats
+!P steps 2205 nodes 1 bytes 19\n
+>falseModule:DE:1: x
+$expand d Q --steps 4410 --stats
+!Q steps 4410 nodes 2 bytes 38\n
+>falseModule:DE:1: xfalseModule:DE:1: x
 
 # two calls of one function take twice the steps of one
 Module:Sum|return {f=function(frame) local n=0 for i=1,frame.args[1] do n=n+i end return n end}
