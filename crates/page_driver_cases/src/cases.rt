@@ -242,7 +242,7 @@ pub const TEMPLATES: [Source; 15] = [
     },
 ];
 
-pub const CASES: [Case; 29] = [
+pub const CASES: [Case; 31] = [
     // no module is called
     Case {
         page: "a{{T}}b",
@@ -431,6 +431,15 @@ pub const CASES: [Case; 29] = [
         left: ANY,
         repeat_charges: ANY,
     },
+    // one that fails is kept too
+    Case {
+        page: "{{#invoke:Try|f|Module:DE}}{{#invoke:Try|f|Module:DE}}",
+        steps: 8000,
+        calls: 200,
+        text: "falseModule:DE:1: xfalseModule:DE:1: x",
+        left: 3540,
+        repeat_charges: 1030,
+    },
     // data that loads itself, and two that load each other, spend what there is
     Case {
         page: "{{#invoke:Try|f|Module:Own}}",
@@ -480,8 +489,17 @@ pub const CASES: [Case; 29] = [
         steps: 30000,
         calls: 30,
         text: "v;<strong class=\"error\">Script error: The allowance of nested calls is spent.</strong>;v",
-        left: ANY,
-        repeat_charges: ANY,
+        left: 22148,
+        repeat_charges: 1359,
+    },
+    // a load that is spent is not kept
+    Case {
+        page: "{{#invoke:HM|g}};{{#invoke:HM|f}}",
+        steps: 30000,
+        calls: 30,
+        text: "<strong class=\"error\">Script error: The allowance of nested calls is spent.</strong>;v",
+        left: 24741,
+        repeat_charges: 0,
     },
     // calls that are spent inside an expansion inside a call are given back
     Case {
