@@ -41,6 +41,7 @@ const COMMAND_LINES: &str = r#"
 0 expand d --all --stats --jobs 7
 0 expand d P --jobs 1
 0 expand d P --jobs=64
+0 expand d P --jobs +64
 0 expand d --steps=1065 P
 0 expand d P --steps 100000000
 0 expand d P --steps 0
@@ -52,11 +53,17 @@ const COMMAND_LINES: &str = r#"
 1 expand d -- --all
 1 expand d --nodes 1 -- --nodes
 1 expand - P
+1 expand -- -d P
+1 expand d -
+1 expand d P -
+1 expand d P -- --stats
 1 expand d P Q
 1 expand d Q P
 2 expand
 2 expand d
 2 expand --
+2 expand d --
+2 expand d ---
 2 expand d --stats
 2 expand --all
 2 expand d P --all
@@ -65,6 +72,7 @@ const COMMAND_LINES: &str = r#"
 2 expand d --all=
 2 expand d --all=1
 2 expand d P --stats=1
+2 expand d P --stats=
 2 expand d P --stats --stats
 2 expand d P --nodes
 2 expand d P --nodes --
@@ -72,6 +80,7 @@ const COMMAND_LINES: &str = r#"
 2 expand d P --bytes 16000001
 2 expand d P --steps 100000001
 2 expand d P --steps
+2 expand d P --bytes
 2 expand d P --steps=1 --steps=1
 2 expand d P --steps --stats
 2 expand d P --jobs 0
@@ -86,6 +95,7 @@ const COMMAND_LINES: &str = r#"
 2 expand d P --nodes 1x
 2 expand d P --nodes 0x10
 2 expand d P --nodes=1=1
+2 expand d P --=1
 2 expand d P --nodes 99999999999999999999
 2 expand d P --nodes 1 --nodes 1
 2 expand d P --bytes=1 --nodes=1 --bytes=1
@@ -98,13 +108,19 @@ const COMMAND_LINES: &str = r#"
 2 Expand d P
 2 expand d #
 2 expand d P #
+2 expand d P :
+2 expand d Template:
 2 demo
 2 demo 0
 2 demo 50001
 2 demo 1 1
 2 demo 1 --all
+2 demo 1 --stats --stats
+2 demo 1 -- --stats
+2 demo 1 --steps 100000001
 2 demo x
 2 demo -1
+2 demo -- -1
 2 demo --steps 1
 2 Demo 1
 "#;

@@ -152,6 +152,47 @@ const CASES: &[Case<'static>] = &[
         out: b"",
         err: b"",
     },
+    // Empty words: no verb, no title, no number. As a folder it is one that holds nothing.
+    Case {
+        words: &[""],
+        files: TWO,
+        shelf_fails: 0,
+        out_fails: 0,
+        err_fails: NEVER,
+        status: 2,
+        out: b"",
+        err: USAGE,
+    },
+    Case {
+        words: &["expand", "d", ""],
+        files: TWO,
+        shelf_fails: 0,
+        out_fails: 0,
+        err_fails: NEVER,
+        status: 2,
+        out: b"",
+        err: USAGE,
+    },
+    Case {
+        words: &["expand", "d", "P", "--nodes", ""],
+        files: TWO,
+        shelf_fails: 0,
+        out_fails: 0,
+        err_fails: NEVER,
+        status: 2,
+        out: b"",
+        err: USAGE,
+    },
+    Case {
+        words: &["expand", "", "P"],
+        files: TWO,
+        shelf_fails: NEVER,
+        out_fails: 0,
+        err_fails: NEVER,
+        status: 1,
+        out: b"",
+        err: b"wikiexpand: no such page: P\n",
+    },
     // A page, an empty page, and one under another spelling of its title.
     Case {
         words: &["expand", "d", "P"],
@@ -213,6 +254,16 @@ const CASES: &[Case<'static>] = &[
         status: 3,
         out: b"",
         err: b"wikiexpand: source fault: [.wiki: not a title\n",
+    },
+    Case {
+        words: &["expand", "d", "P"],
+        files: &[("a.wiki", b""), ("A.wiki", b"")],
+        shelf_fails: NEVER,
+        out_fails: NEVER,
+        err_fails: 0,
+        status: 5,
+        out: b"",
+        err: b"",
     },
     // Failing reads and puts.
     Case {
@@ -308,14 +359,14 @@ const CASES: &[Case<'static>] = &[
         err: b"",
     },
     Case {
-        words: &["expand", "d", "P", "Q", "R"],
+        words: &["expand", "d", "P", "Q9", "R"],
         files: TWO,
         shelf_fails: NEVER,
         out_fails: 0,
         err_fails: NEVER,
         status: 1,
         out: b"",
-        err: b"wikiexpand: no such page: Q\n",
+        err: b"wikiexpand: no such page: Q9\n",
     },
     Case {
         words: &["expand", "d", "P", "P", "--stats"],
@@ -472,10 +523,11 @@ fn each_run_has_its_status_and_its_bytes(rt: HostRuntime) -> Result<(), Fail> {
     Ok(())
 }
 
-/// A folder of many empty pages, of which no content is message.
+/// A folder of many empty pages, whose names end in the tail. It doesn't tell what it holds.
 #[derive(Drop)]
 struct Crowd {
     pages: u32,
+    tail: &'static str,
 }
 
 impl Shelf for Crowd {
@@ -485,8 +537,9 @@ impl Shelf for Crowd {
 
     fn list(&mut self, alloc: Global, _folder: &str) -> Result<Vec<String>, ShelfFault> {
         let mut names = Vec::new(alloc);
+        let tail = self.tail;
         for page in 0..self.pages {
-            let Ok(name) = format!(in alloc; "{page}.wiki") else {
+            let Ok(name) = format!(in alloc; "{page}{tail}.wiki") else {
                 return Err(ShelfFault::NoMemory);
             };
             let Ok(()) = names.push(name) else {
@@ -507,55 +560,177 @@ impl Shelf for Crowd {
     }
 }
 
+/// How many pages a folder has, how their names end, the words, and what comes of them.
+struct CrowdCase {
+    pages: u32,
+    tail: &'static str,
+    words: &'static [&'static str],
+    status: u8,
+    err: &'static [u8],
+}
+
+// The texts of all pages are more than the sink has room for.
+const CROWD_CASES: &[CrowdCase] = &[
+    CrowdCase {
+        pages: 100_000,
+        tail: "",
+        words: &["expand", "d", "P"],
+        status: 1,
+        err: b"wikiexpand: no such page: P\n",
+    },
+    CrowdCase {
+        pages: 100_000,
+        tail: "",
+        words: &["expand", "d", "--all"],
+        status: 5,
+        err: b"",
+    },
+    CrowdCase {
+        pages: 100_001,
+        tail: "",
+        words: &["expand", "d", "P"],
+        status: 3,
+        err: b"wikiexpand: source fault: too many files\n",
+    },
+    CrowdCase {
+        pages: 100_001,
+        tail: "[",
+        words: &["expand", "d", "P"],
+        status: 3,
+        err: b"wikiexpand: source fault: too many files\n",
+    },
+];
+
 #[test]
 fn a_folder_has_a_most_number_of_pages(rt: HostRuntime) -> Result<(), Fail> {
-    let cases: [(u32, u8, &[u8]); 2] = [
-        (100_000, 1, b"wikiexpand: no such page: P\n"),
-        (100_001, 3, b"wikiexpand: source fault: too many files\n"),
-    ];
-    for (pages, expected, message) in cases {
-        let mut shelf = Crowd { pages };
-        let words = ["expand", "d", "P"];
+    for case in CROWD_CASES {
+        let mut shelf = Crowd {
+            pages: case.pages,
+            tail: case.tail,
+        };
         let ran = ran_over(
             &rt,
             rt.alloc(),
             fixed_seed()?,
-            &words,
+            case.words,
             &mut shelf,
             NEVER,
             NEVER,
         )?;
-        assert!(rt; ran.is(expected, b"", message));
+        assert!(rt;
+            ran.is(case.status, b"", case.err),
+            "{} {:?}",
+            case.pages,
+            case.words
+        );
     }
     Ok(())
 }
 
-/// As many full pages as the number says, up to `Z`.
-fn full_pages(alloc: Global, count: usize, size: usize) -> Result<List<MemoryFile>, NoMemory> {
+/// A file of this many bytes.
+fn file_of_size(alloc: Global, name: &[u8], size: usize) -> Result<MemoryFile, NoMemory> {
+    Ok(MemoryFile {
+        folder: Bytes::of(alloc, b"d")?,
+        name: Bytes::of(alloc, name)?,
+        bytes: Bytes::of_vec(vec![in alloc; b'x'; size]?),
+    })
+}
+
+/// As many pages of one size as the number says, up to `Z`.
+fn pages_of_size(alloc: Global, count: usize, size: usize) -> Result<List<MemoryFile>, NoMemory> {
     let mut files = List::new(alloc);
     for first in b"0123456789ABCDEFGHIJKLMNOPQRSTUVWXYZ".iter().take(count) {
         let mut name = Bytes::of(alloc, &[*first])?.into_vec();
         name.extend_from_slice(b".wiki")?;
-        files.push(MemoryFile {
-            folder: Bytes::of(alloc, b"d")?,
-            name: Bytes::of_vec(name),
-            bytes: Bytes::of_vec(vec![in alloc; b'x'; size]?),
-        })?;
+        files.push(file_of_size(alloc, name.as_slice(), size)?)?;
     }
     Ok(files)
 }
 
+/// A folder of pages of one size, and of other files, with the call of the shelf that fails, and what comes of it.
+struct SizeCase {
+    count: usize,
+    size: usize,
+    others: &'static [(&'static str, usize)],
+    shelf_fails: u64,
+    status: u8,
+    err: &'static [u8],
+}
+
+/// The most bytes of a page; a folder may hold 32 such pages.
+const MOST: usize = 2_097_152;
+
+const TOO_MANY: usize = 2_097_153;
+
+// All bytes that a folder may hold, and one page more. Then two causes at once: a name comes before what is read, one page before
+// the next, and a page's own limit before that of all.
+const SIZE_CASES: &[SizeCase] = &[
+    SizeCase {
+        count: 32,
+        size: MOST,
+        others: &[],
+        shelf_fails: NEVER,
+        status: 1,
+        err: b"wikiexpand: no such page: P9\n",
+    },
+    SizeCase {
+        count: 33,
+        size: MOST,
+        others: &[],
+        shelf_fails: NEVER,
+        status: 3,
+        err: b"wikiexpand: source fault: too many bytes\n",
+    },
+    SizeCase {
+        count: 1,
+        size: TOO_MANY,
+        others: &[("[.wiki", 0)],
+        shelf_fails: NEVER,
+        status: 3,
+        err: b"wikiexpand: source fault: [.wiki: not a title\n",
+    },
+    SizeCase {
+        count: 2,
+        size: TOO_MANY,
+        others: &[],
+        shelf_fails: 2,
+        status: 3,
+        err: b"wikiexpand: source fault: 0.wiki: too long\n",
+    },
+    SizeCase {
+        count: 2,
+        size: TOO_MANY,
+        others: &[],
+        shelf_fails: 1,
+        status: 4,
+        err: b"wikiexpand: cannot read\n",
+    },
+    SizeCase {
+        count: 32,
+        size: MOST,
+        others: &[("Z.wiki", TOO_MANY)],
+        shelf_fails: NEVER,
+        status: 3,
+        err: b"wikiexpand: source fault: Z.wiki: too long\n",
+    },
+];
+
 #[test]
 fn a_folder_has_a_most_number_of_bytes(rt: HostRuntime) -> Result<(), Fail> {
-    let cases: [(usize, u8, &[u8]); 2] = [
-        (32, 1, b"wikiexpand: no such page: P9\n"),
-        (33, 3, b"wikiexpand: source fault: too many bytes\n"),
-    ];
-    for (count, expected, message) in cases {
-        let files = full_pages(rt.alloc(), count, 2_097_152)?;
+    for case in SIZE_CASES {
+        let mut files = pages_of_size(rt.alloc(), case.count, case.size)?;
+        for (name, size) in case.others {
+            files.push(file_of_size(rt.alloc(), name.as_bytes(), *size)?)?;
+        }
         let words = ["expand", "d", "P9"];
-        let ran = ran_in_memory(&rt, rt.alloc(), fixed_seed()?, &words, files, [NEVER; 3])?;
-        assert!(rt; ran.is(expected, b"", message));
+        let fails = [case.shelf_fails, NEVER, NEVER];
+        let ran = ran_in_memory(&rt, rt.alloc(), fixed_seed()?, &words, files, fails)?;
+        assert!(rt;
+            ran.is(case.status, b"", case.err),
+            "{} of {}",
+            case.count,
+            case.size
+        );
     }
     Ok(())
 }
