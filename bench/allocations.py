@@ -4,11 +4,12 @@
   bench/allocations.py [PROGRAM [STEP]]
 
 PROGRAM is crates/wikiexpand/out/wikiexpand where it isn't named. The wiki is examples/third (modules, frames, templates, a data module), all of its
-pages, with one job and with three. Of each STEP allocations (1 where it isn't named) one run refuses one, from the first that the program itself
-makes on. The refusal is a library of a few lines that stands before the C library's `malloc`, made by the machine's `cc`.
+pages, with one job and with three; then a page that it doesn't have, words that are no command, and `demo`. Of each STEP allocations (1 where it isn't
+named) one run refuses one, from the first that the program itself makes on. The refusal is a library of a few lines that stands before the C library's
+`malloc`, made by the machine's `cc`.
 
-What is proved says this of the program over memory that may lack at any place. This looks at the program that was built, with its threads and the
-C library's own tables.
+It is proved of `run` (`wiki_app`) that with this status nothing was written, wherever memory lacks. This looks at the program that was built, with its
+threads and the C library's own tables.
 """
 import os
 import subprocess
@@ -76,15 +77,16 @@ def run(program, words, **more):
     return ran.returncode, ran.stdout, ran.stderr
 
 
-def swept(program, words, library, room, step):
-    """Refuses allocations in turn, and tells how many runs there were and what came of each otherwise than is wanted."""
+def swept(program, status, words, library, room, step):
+    """Refuses allocations in turn of a run that else ends with this status, and tells how many runs there were and what came of each otherwise than is
+    wanted."""
     count = os.path.join(room, "count")
     with open(count, "wb") as file:
         file.write(bytes(8))
     good = run(program, words, LD_PRELOAD=library, COUNT=count)
     with open(count, "rb") as file:
         allocations = int.from_bytes(file.read(), sys.byteorder)
-    if good[0] != 0 or not good[1]:
+    if good[0] != status or not good[1] + good[2]:
         sys.exit(f"without a refusal: {good}")
     whole = without = 0
     for number in range(1, allocations + 1, step):
@@ -104,8 +106,11 @@ def main(words):
     program, step = (words + [PROGRAM])[0], int((words + [PROGRAM, "1"])[1]) if len(words) > 1 else 1
     with tempfile.TemporaryDirectory() as room:
         library = made_refusal(room)
-        each = [["expand", WIKI, "--all", "--stats"], ["expand", WIKI, "--all", "--jobs", "3"], ["demo", "3", "--jobs", "3"]]
-        return 1 if sum([swept(program, it, library, room, step) for it in each]) else 0
+        each = [
+            (0, ["expand", WIKI, "--all", "--stats"]), (0, ["expand", WIKI, "--all", "--jobs", "3"]), (1, ["expand", WIKI, "Gone"]),
+            (2, ["expand", WIKI]), (0, ["demo", "3", "--jobs", "3"]),
+        ]
+        return 1 if sum([swept(program, status, it, library, room, step) for status, it in each]) else 0
 
 
 if __name__ == "__main__":
