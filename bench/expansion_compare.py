@@ -1,6 +1,7 @@
 #!/usr/bin/env python3
 """Compares the built program with `expand_reference.py`, which follows the same rules by itself.
 
+  bench/expansion_compare.py PROGRAM                    the cases of the table, and 1,500 folders of random pages
   bench/expansion_compare.py PROGRAM table              the cases of crates/wiki_app_cases/src/cases.rt, as folders on disk
   bench/expansion_compare.py PROGRAM random COUNT SEED  that many folders of random pages
 
@@ -68,14 +69,22 @@ def printed(program, words, files):
     return (done.returncode, done.stdout, done.stderr)
 
 
+def cases_of_table():
+    table = os.path.join(os.path.dirname(os.path.abspath(__file__)), "../crates/wiki_app_cases/src/cases.rt")
+    return [(words, dict(files), wanted) for _, words, files, wanted in reference.each_case(reference.table_in(table))]
+
+
+def random_cases(count, seed):
+    pick = random.Random(seed)
+    return [(*random_folder(pick), None) for _ in range(count)]
+
+
 def main():
-    program = os.path.abspath(sys.argv[1])
-    if sys.argv[2] == "table":
-        table = os.path.join(os.path.dirname(os.path.abspath(__file__)), "../crates/wiki_app_cases/src/cases.rt")
-        cases = [(words, dict(files), wanted) for _, words, files, wanted in reference.each_case(reference.table_in(table))]
+    program, words = os.path.abspath(sys.argv[1]), sys.argv[2:]
+    if words[:1] == ["random"]:
+        cases = random_cases(int(words[1]), int(words[2]))
     else:
-        pick = random.Random(int(sys.argv[4]))
-        cases = [(*random_folder(pick), None) for _ in range(int(sys.argv[3]))]
+        cases = cases_of_table() + ([] if words == ["table"] else random_cases(1500, 42))
     wrong = 0
     for words, files, wanted in cases:
         if wanted is None:

@@ -1,10 +1,11 @@
 #!/usr/bin/env python3
 """A parser of Lua of its own, from the manual's grammar (2.1 and 8), to which `lua_parser` is compared.
 
-    lua_reference.py            reads a chunk from standard input, and prints its tree or its fault
-    lua_reference.py --write    writes the tables of `lua_parser_cases` from the chunks of `parser_chunks.py`, and
-                                prints the numbers of rows and the sums of its answers
-    lua_reference.py --judge    compares those answers with `bench/lua_trees.py` and with `luac5.1 -p`
+    lua_reference.py                     reads a chunk from standard input, and prints its tree or its fault
+    lua_reference.py --write             writes the tables of `lua_parser_cases` from the chunks of `parser_chunks.py`, and
+                                         prints the numbers of rows and the sums of its answers
+    lua_reference.py --constants FILE    compares these numbers and sums with the constants of a file of tests
+    lua_reference.py --judge             compares those answers with `bench/lua_trees.py` and with `luac5.1 -p`
 
 A tree is printed as an S-expression in which each node has its line, as `(assign@1 ((name@1 x)) ((number@1 1)))`. A fault is
 printed as `fault K line L`; K is 1 to 4 for the lexis, and for the grammar 5 unexpected token, 6 numeral without a value, 7 more
@@ -27,6 +28,8 @@ LEVELS = [(["or"], LEFT), (["and"], LEFT), (["<", ">", "<=", ">=", "~=", "=="], 
           (["*", "/", "%"], LEFT)]
 UNARY = ["not", "#", "-"]
 DEEPEST = 200
+# How many of the chunks `luac5.1` judges otherwise, since numbers are whole and a `(` is looked at wherever it stands (docs/DECISIONS.md).
+PROFILE = 22
 
 
 class Fault(Exception):
@@ -648,20 +651,23 @@ def other_tree(text):
 
 
 def judge(chunks):
-    same = taken = 0
+    """Whether a chunk is judged otherwise that the profile doesn't; each that is judged otherwise is printed."""
+    trees = same = unread = otherwise = 0
     for text in chunks:
         mine, other = answer(text), other_tree(text)
         luac = subprocess.run(["luac5.1", "-p", "-"], input=text.encode("latin-1"), capture_output=True)
-        if (luac.returncode == 0) == (not mine.startswith("fault")):
-            taken += 1
-        else:
+        if (luac.returncode == 0) == mine.startswith("fault"):
+            otherwise += 1
             print(f"luac5.1 judges otherwise: {escaped(text)[:100]} => {mine[:100]}; {luac.stderr.decode('latin-1').strip()[:100]}")
         if not mine.startswith("fault"):
-            if mine == other:
-                same += 1
-            else:
+            trees += 1
+            same += mine == other
+            unread += other is None
+            if other not in (mine, None):
                 print(f"lua_trees reads otherwise: {escaped(text)[:100]}\n  {mine[:400]}\n  {str(other)[:400]}")
-    print(f"{len(chunks)} chunks; luac5.1 judges {taken} alike; lua_trees gives {same} trees alike")
+    print(f"{len(chunks)} chunks; luac5.1 judges {otherwise} otherwise, {PROFILE} of them by the profile; "
+          f"of {trees} trees lua_trees gives {same} alike, and {unread} not at all")
+    return otherwise != PROFILE or same + unread != trees
 
 
 # The tables of the tests
@@ -687,7 +693,6 @@ def write(folder, chunks, repeated, module):
     ]:
         with open(os.path.join(folder, name + ".rt"), "w") as file:
             file.write(table(about, function, text))
-    print(f"ROWS {len(rows)}, REPEATED_ROWS {len(repeated)}")
 
 
 def mixed(total, text):
@@ -696,16 +701,22 @@ def mixed(total, text):
     return (total ^ 256) * 1099511628211 % 2 ** 64
 
 
-def sums(module, pieces, length):
+def sum_of(texts):
+    """One number for the answers to some texts."""
     total = 14695981039346656037
-    for end in range(len(module) + 1):
-        total = mixed(total, answer(module[:end]))
-    print(f"BEGINNINGS_SUM {total}")
-    total = 14695981039346656037
-    for count in range(length + 1):
-        for digits in itertools.product(pieces, repeat=count):
-            total = mixed(total, answer("".join(digits[::-1])))
-    print(f"PIECES_SUM {total}")
+    for text in texts:
+        total = mixed(total, answer(text))
+    return total
+
+
+def constants(chunks, repeated, module, pieces, length):
+    """The numbers of rows, and the sums over each beginning of a module and over all texts of some pieces."""
+    return {
+        "ROWS": len(chunks),
+        "REPEATED_ROWS": len(repeated),
+        "BEGINNINGS_SUM": sum_of(module[:end] for end in range(len(module) + 1)),
+        "PIECES_SUM": sum_of("".join(digits[::-1]) for count in range(length + 1) for digits in itertools.product(pieces, repeat=count)),
+    }
 
 
 def main():
@@ -715,12 +726,15 @@ def main():
         return
     here = os.path.dirname(os.path.abspath(__file__))
     sys.path.insert(0, here)
+    from constants import differ
     from parser_chunks import CHUNKS, LENGTH, MODULE, PIECES, REPEATED
     if sys.argv[1] == "--judge":
-        judge(CHUNKS)
+        sys.exit(judge(CHUNKS))
     elif sys.argv[1] == "--write":
         write(os.path.join(here, "../crates/lua_parser_cases/src/tree_tests"), CHUNKS, REPEATED, MODULE)
-        sums(MODULE, PIECES, LENGTH)
+        print("\n".join(f"{name} {number}" for name, number in constants(CHUNKS, REPEATED, MODULE, PIECES, LENGTH).items()))
+    elif sys.argv[1] == "--constants":
+        sys.exit(differ(sys.argv[2], constants(CHUNKS, REPEATED, MODULE, PIECES, LENGTH)))
     else:
         sys.exit(__doc__)
 

@@ -4,13 +4,16 @@
 It knows nothing of the crate `wiki_markup`: the list of items is rewritten, leftmost closing run first. The tests of that
 crate take their expected values from here.
 
-  markup_reference.py table FILE     for each line `MODE text` of FILE: the line with its tree, as the tests have it
-  markup_reference.py check FILE     tells each line `MODE text => tree` of a table of the tests whose tree is another
-  markup_reference.py pairing        the number that the test on all texts of up to 7 items expects
-  markup_reference.py shown          the number that the test on all texts of up to 4 pieces in both modes expects
+  markup_reference.py table FILE      for each line `MODE text` of FILE: the line with its tree, as the tests have it
+  markup_reference.py check FILE      tells each line `MODE text => tree` of a table of the tests whose tree is another
+  markup_reference.py pairing         the number that the test on all texts of up to 7 items expects
+  markup_reference.py shown           the number that the test on all texts of up to 4 pieces in both modes expects
+  markup_reference.py constants FILE  compares these two numbers with the constants of a file of tests
 """
 import re
 import sys
+
+from constants import differ
 
 WHITE = rb"[ \t-\r]*"
 
@@ -274,9 +277,27 @@ def row(line):
     return line + b" => " + escaped(marked(*shown(text, mode))).encode()
 
 
+def pairing_sum():
+    """one number for the pairings of all texts of up to 7 items"""
+    total = 14695981039346656037
+    for text in texts(PAIRING_ITEMS, 7):
+        total = mixed(total, marked(text, [], []))
+    return total
+
+
+def shown_sum():
+    """one number for what is shown of all texts of up to 4 pieces"""
+    total = 14695981039346656037
+    for text in texts(SHOWN_ITEMS, 4):
+        for mode in "DT":
+            data, kept, cuts = shown(text, mode)
+            for numbers in (data, [place for span in kept for place in span], cuts):
+                total = mixed(total, numbers)
+    return total
+
+
 if __name__ == "__main__":
     command = sys.argv[1]
-    total = 14695981039346656037
     if command == "table":
         for line in open(sys.argv[2], "rb").read().split(b"\n"):
             if line:
@@ -287,14 +308,7 @@ if __name__ == "__main__":
         wrong = [line for line in lines if row(line.partition(b" => ")[0]) != line]
         print(f"{len(lines)} lines, {len(wrong)} with another tree", *wrong, sep="\n")
         sys.exit(bool(wrong))
-    elif command == "pairing":
-        for text in texts(PAIRING_ITEMS, 7):
-            total = mixed(total, marked(text, [], []))
-        print(total)
+    elif command == "constants":
+        sys.exit(differ(sys.argv[2], {"PAIRING_SUM": pairing_sum(), "SHOWN_SUM": shown_sum()}))
     else:
-        for text in texts(SHOWN_ITEMS, 4):
-            for mode in "DT":
-                data, kept, cuts = shown(text, mode)
-                for numbers in (data, [place for span in kept for place in span], cuts):
-                    total = mixed(total, numbers)
-        print(total)
+        print(pairing_sum() if command == "pairing" else shown_sum())

@@ -1,5 +1,11 @@
--- Writes the rows of crates/lua_strings_cases/src/rows.rt whose values are Lua 5.1's own: lua5.1 bench/string_rows.lua
--- A row is a function, its arguments, and what it gives; a text stands in quotes, with escapes of crates/case_text.
+-- The rows of crates/lua_strings_cases/src/rows.rt whose values are Lua 5.1's own.
+--
+--   lua5.1 bench/string_rows.lua             prints them
+--   lua5.1 bench/string_rows.lua check FILE  compares them with those with which the table of that file begins
+--
+-- A row is a function, its arguments, and what it gives, `(none)` for no value; a text stands in quotes, with escapes of crates/case_text.
+local rows = {}
+
 local function escaped(text)
   return (text:gsub("[%c%s\128-\255\\']", function(c)
     if c == "\\" then return "\\\\" end
@@ -20,9 +26,9 @@ local function row(name, ...)
   local function results(...)
     local out = {}
     for i = 1, select("#", ...) do out[#out + 1] = written((select(i, ...))) end
-    return table.concat(out, " ")
+    return #out == 0 and "(none)" or table.concat(out, " ")
   end
-  print(table.concat(given, " ") .. " => " .. results(library[name](...)))
+  rows[#rows + 1] = table.concat(given, " ") .. " => " .. results(library[name](...))
 end
 
 for _, s in ipairs {"hello", "", "a\0b", "x"} do
@@ -110,3 +116,19 @@ row("max", "3", "12", -5)
 row("min", 3, 12, 5)
 row("min", 3, -12, -12)
 row("min", -1)
+
+if arg[1] == "check" then
+  local text = assert(io.open(arg[2])):read("*a"):match('r#"(.-)"#')
+  local at, wrong = 0, 0
+  for line in text:gmatch("[^\n]+") do
+    at = at + 1
+    if rows[at] and rows[at] ~= line then
+      wrong = wrong + 1
+      print(line .. " stands there, and Lua 5.1 has " .. rows[at])
+    end
+  end
+  wrong = wrong + math.max(0, #rows - at)
+  print(#rows .. " rows, " .. wrong .. " differ; " .. at - #rows .. " more are worked out by the rules")
+  os.exit(wrong == 0 and 0 or 1)
+end
+print(table.concat(rows, "\n"))
