@@ -25,6 +25,7 @@ BINARY = {
     "^": (10, 9, "Pow"),
 }
 UNARY = {"not": "Not", "#": "Len", "-": "Minus"}
+ESCAPES = {"n": "\n", "t": "\t", "\\": "\\", '"': '"', "'": "'"}
 WIDTH = 130
 
 
@@ -264,7 +265,9 @@ class Parser:
 
     def text(self):
         _, word, line = self.take()
-        plain = re.sub(r"\\(.)", lambda m: {"n": "\n", "t": "\t"}.get(m.group(1), m.group(1)), word[1:-1], flags=re.S)
+        if not set(re.findall(r"\\(.)", word, re.S)) <= ESCAPES.keys():
+            raise SyntaxError(f"line {line}: {word}")
+        plain = re.sub(r"\\(.)", lambda m: ESCAPES[m.group(1)], word[1:-1], flags=re.S)
         return f"TextE {line} {string(plain)}"
 
     def table(self):
