@@ -18,17 +18,6 @@ pub enum Found {
 /// Numbers of steps and calls that are left over.
 const MORE: [u64; 5] = [0, 1, 2, 7, 1000];
 
-/// So many numbers of steps below the one that is needed are tried without a gap; of the others, which a start takes for
-/// itself, every so many one is.
-const WITHOUT_GAP: u64 = 500;
-
-const GAP: u64 = 61;
-
-/// Whether a number of steps is tried.
-fn is_tried(steps: u64, need: u64) -> bool {
-    need.saturating_sub(steps) <= WITHOUT_GAP || steps % GAP == 0
-}
-
 /// Whether a run was spent for want of steps, and none are left.
 fn wants_steps(end: &Ended) -> bool {
     matches!(end.spent, Some(Which::Steps)) && end.steps == 0
@@ -65,7 +54,7 @@ fn same_above(
     Ok(true)
 }
 
-/// Runs a case with numbers of steps below what it needs, and with some more.
+/// Runs a case with each number of steps below what it needs, and with some more.
 pub fn every_step(
     alloc: Global,
     seed: RandomState,
@@ -79,9 +68,6 @@ pub fn every_step(
     let need = allowed.steps.saturating_sub(whole.steps);
     let calls = allowed.calls;
     for steps in 0..need {
-        if !is_tried(steps, need) {
-            continue;
-        }
         let end = end_of(alloc, seed, case, Allowed { steps, calls })?;
         if !wants_steps(&end) {
             return Ok(Found::Differs(steps));

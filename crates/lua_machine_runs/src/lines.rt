@@ -257,7 +257,7 @@ fn complaint(alloc: Global, word: &[u8]) -> Result<String, NoMemory> {
 ///   a number, also as a key, `@` the table itself, all else a text). LEFT is how many steps are left behind it, or with `-` in front what it takes
 /// - `run STEPS CALLS`: runs it, and tells its end; `exact STEPS CALLS`: and the steps that are left; `took STEPS CALLS`: and the
 ///   steps that it took
-/// - `every STEPS CALLS`: runs it with those, then with numbers of steps below what it took, with as many, and with some more
+/// - `every STEPS CALLS`: runs it with those, then with each number of steps below what it took, with as many, and with some more
 /// - `levels STEPS CALLS`: the least number of calls with which it isn't spent, and whether all above it give the same end
 /// - `starts COUNT`, `stores COUNT`: starts so many machines, in one store, and each in a store of its own
 pub fn take_line(
