@@ -18,6 +18,17 @@ pub enum Found {
 /// Numbers of steps and calls that are left over.
 const MORE: [u64; 5] = [0, 1, 2, 7, 1000];
 
+/// What a start takes at once.
+pub const START: u64 = 1000;
+
+/// Of the numbers of steps below the first that is tried without a gap, every so many one is tried.
+const GAP: u64 = 61;
+
+/// Whether a number of steps is tried.
+fn is_tried(steps: u64, first: u64) -> bool {
+    steps >= first || steps % GAP == 0
+}
+
 /// Whether a run was spent for want of steps, and none are left.
 fn wants_steps(end: &Ended) -> bool {
     matches!(end.spent, Some(Which::Steps)) && end.steps == 0
@@ -54,12 +65,14 @@ fn same_above(
     Ok(true)
 }
 
-/// Runs a case with each number of steps below what it needs, and with some more.
+/// Runs a case with each number of steps from the first one on up to what it needs, with some numbers below the first one, and with some
+/// steps more than it needs.
 pub fn every_step(
     alloc: Global,
     seed: RandomState,
     case: &Case,
     allowed: Allowed,
+    first: u64,
 ) -> Result<Found, NoMemory> {
     let whole = end_of(alloc, seed, case, allowed)?;
     if matches!(whole.spent, Some(Which::Steps)) {
@@ -68,6 +81,9 @@ pub fn every_step(
     let need = allowed.steps.saturating_sub(whole.steps);
     let calls = allowed.calls;
     for steps in 0..need {
+        if !is_tried(steps, first) {
+            continue;
+        }
         let end = end_of(alloc, seed, case, Allowed { steps, calls })?;
         if !wants_steps(&end) {
             return Ok(Found::Differs(steps));

@@ -1,6 +1,6 @@
 //! The lines of a table of cases, in bytes: a word and texts, with tabs between. The texts have the escapes of `case_text`.
 use crate::case::{Aim, Case, argument};
-use crate::every::{Found, every_step, least_calls};
+use crate::every::{Found, START, every_step, least_calls};
 use crate::replies::{Change, Entry, Reply, Told};
 use crate::runs::{Allowed, end_of};
 use crate::shown::{add_bytes, add_number, add_words};
@@ -21,6 +21,8 @@ enum Run {
     /// Its end, and the steps that it took.
     Took,
     /// Runs with each number of steps.
+    All,
+    /// Runs with each number of steps that a start lets be, and with some below.
     Every,
     /// Runs with each number of calls.
     Levels,
@@ -36,6 +38,7 @@ fn run_named(word: &[u8]) -> Option<Run> {
         b"run" => Some(Run::Once),
         b"exact" => Some(Run::Exact),
         b"took" => Some(Run::Took),
+        b"all" => Some(Run::All),
         b"every" => Some(Run::Every),
         b"levels" => Some(Run::Levels),
         b"starts" => Some(Run::Starts),
@@ -215,8 +218,12 @@ fn said_of(
     add_bytes(&mut out, case.name.as_slice())?;
     add_words(&mut out, ": ")?;
     match run {
+        Run::All => {
+            let found = every_step(alloc, seed, case, allowed, 0)?;
+            add_found(&mut out, "all", found)?;
+        }
         Run::Every => {
-            let found = every_step(alloc, seed, case, allowed)?;
+            let found = every_step(alloc, seed, case, allowed, START)?;
             add_found(&mut out, "every", found)?;
         }
         Run::Levels => {
@@ -257,7 +264,8 @@ fn complaint(alloc: Global, word: &[u8]) -> Result<String, NoMemory> {
 ///   a number, also as a key, `@` the table itself, all else a text). LEFT is how many steps are left behind it, or with `-` in front what it takes
 /// - `run STEPS CALLS`: runs it, and tells its end; `exact STEPS CALLS`: and the steps that are left; `took STEPS CALLS`: and the
 ///   steps that it took
-/// - `every STEPS CALLS`: runs it with those, then with each number of steps below what it took, with as many, and with some more
+/// - `all STEPS CALLS`: runs it with those, then with each number of steps below what it took, with as many, and with some more
+/// - `every STEPS CALLS`: so with each number of steps from 1,000 on, which a start takes at once, and with some below them
 /// - `levels STEPS CALLS`: the least number of calls with which it isn't spent, and whether all above it give the same end
 /// - `starts COUNT`, `stores COUNT`: starts so many machines, in one store, and each in a store of its own
 pub fn take_line(
