@@ -37,6 +37,7 @@ ATTACKS = {
     "locals in a row": ("return {f=function() local n=0 for i=1,%d do local a,b,c,d,e,f,g,h=1,2,3,4,5,6,7,8 n=n+a end return n end}", 200000, False),
     "errors in deep calls": ("return {f=function() local function g(n) if n==0 then error('x') end g(n-1) end return #select(2,pcall(g,%d)) end}", 50000, False),
     "a text that doubles": ("return {f=function() local s='x' for i=1,%d do s=(s..s..'y') if #s>1000000 then s='x' end end return #s end}", 400, False),
+    "a long constant": ("return {f=function() local n=0 for i=1,%d do local s='" + "x" * 100000 + "' n=n+#s end return n end}", 5000, False),
     "keys cleared and walked": ("return {f=function() local t={} for i=1,%d do t[i..'']=1 end for k in pairs(t) do t[k]=nil end local n=0 for i=1,20 do if next(t)==nil then n=n+1 end end return n end}", 50000, False),
 }
 

@@ -6,9 +6,9 @@ AMPLE, CALLS = 10_000_000, 20000
 CASES = []
 
 
-def hand(name, said, text, end, steps=AMPLE, calls=CALLS, more=None, others=(), args=(), parent=False, replies=(), profile=False, runs=None):
-    """One case. Without `more` every number of steps, and the least number of calls, are tried where they are small."""
-    CASES.append(dict(name=name, said=said, modules=[("X", text), *others], args=list(args), parent=parent, profile=profile, more=more,
+def hand(name, said, text, end, steps=AMPLE, calls=CALLS, levels=True, others=(), args=(), parent=False, replies=(), profile=False, runs=None):
+    """One case. The least number of calls is looked for where it is small, unless `levels` is false."""
+    CASES.append(dict(name=name, said=said, modules=[("X", text), *others], args=list(args), parent=parent, profile=profile, levels=levels,
                       runs=runs or [("run", steps, calls, list(replies), end)]))
 
 
@@ -21,49 +21,55 @@ def body(name, said, text, gives=None, fails=None, **more):
 def deep(name, said, text, height, gives="end", profile=True, steps=AMPLE):
     """A recursion that has so many calls in progress: with one fewer it is spent."""
     whole = "return {f=function(frame)\n" + text + "\nend}"
-    hand(name, said, whole, None, profile=profile, more=(), runs=[
+    hand(name, said, whole, None, profile=profile, levels=False, runs=[
         ("run", steps, height, [], f"gives {gives}"), ("run", steps, height - 1, [], "spends calls"), ("run", steps, CALLS, [], f"gives {gives}")])
+
+
+def down(name, said, text, each, top, gives="end"):
+    """A recursion through `~` levels of so many calls each, with others at its top: through some, and through as many as 20,000 calls let be."""
+    few = 18 // each
+    for levels, ending in ((few, ""), ((CALLS - top) // each, "_to_the_last")):
+        deep(name + ending, said, text.replace("~", str(levels)), each * levels + top, gives.replace("~", str(levels)))
 
 
 # ---- recursion to the last call, and beyond it. `f` itself is one call; then come those of the recursion.
 DOWN = "if n==0 then return 'end' end "
-deep("deep_function", "A function that calls itself 18 times: itself, 19 of its calls.", "local function g(n) " + DOWN + "return g(n-1) end\nreturn g(18)", 20)
-deep("deep_to_the_last", "The last of 20,000 calls.", "local function g(n) " + DOWN + "return g(n-1) end\nreturn g(19998)", 20000)
+down("deep_function", "A function that calls itself: itself, and its calls.", "local function g(n) " + DOWN + "return g(n-1) end\nreturn g(~)", 1, 2)
 hand("deep_beyond", "One call beyond the last of 20,000.", "return {f=function(frame)\nlocal function g(n) " + DOWN + "return g(n-1) end\nreturn g(19999)\nend}",
-     "spends calls", more=(), profile=True)
-deep("deep_sum", "A call that is no tail call takes no more.", "local function g(n) if n==0 then return 0 end return 1+g(n-1) end\nreturn g(18)", 20, gives="18")
-deep("deep_mutual", "Two functions that call each other.", "local odd\nlocal function even(n) if n==0 then return 'end' end return odd(n-1) end\nfunction odd(n) return even(n-1) end\nreturn even(18)", 20)
-deep("deep_method", "A method.", "local o={}\nfunction o:g(n) " + DOWN + "return self:g(n-1) end\nreturn o:g(18)", 20)
-deep("deep_index", "A handler of `__index` that indexes.", "local t=setmetatable({},{__index=function(t,n) " + DOWN + "return t[n-1] end})\nreturn t[18]", 20)
-deep("deep_set_index", "A handler of `__newindex` that assigns.", "local t=setmetatable({},{__newindex=function(t,n,v) if n>0 then t[n-1]=v end end})\nt[18]=1\nreturn 'end'", 20)
-deep("deep_call", "A handler of `__call` that calls its object.", "local t=setmetatable({},{__call=function(t,n) " + DOWN + "return t(n-1) end})\nreturn t(18)", 20)
+     "spends calls", levels=False, profile=True)
+down("deep_sum", "A call that is no tail call takes no more.", "local function g(n) if n==0 then return 0 end return 1+g(n-1) end\nreturn g(~)", 1, 2, gives="~")
+down("deep_mutual", "Two functions that call each other.", "local odd\nlocal function even(n) if n==0 then return 'end' end return odd(n-1) end\nfunction odd(n) return even(n-1) end\nreturn even(~)", 1, 2)
+down("deep_method", "A method.", "local o={}\nfunction o:g(n) " + DOWN + "return self:g(n-1) end\nreturn o:g(~)", 1, 2)
+down("deep_index", "A handler of `__index` that indexes.", "local t=setmetatable({},{__index=function(t,n) " + DOWN + "return t[n-1] end})\nreturn t[~]", 1, 2)
+down("deep_set_index", "A handler of `__newindex` that assigns.", "local t=setmetatable({},{__newindex=function(t,n,v) if n>0 then t[n-1]=v end end})\nt[~]=1\nreturn 'end'", 1, 2)
+down("deep_call", "A handler of `__call` that calls its object.", "local t=setmetatable({},{__call=function(t,n) " + DOWN + "return t(n-1) end})\nreturn t(~)", 1, 2)
 for event, expression in (("add", "t+(n-1)"), ("sub", "t-(n-1)"), ("mul", "t*(n-1)"), ("div", "t/(n-1)"), ("mod", "t%(n-1)"), ("pow", "t^(n-1)"), ("concat", "t..(n-1)")):
-    start = expression.replace("(n-1)", "18")
-    deep(f"deep_{event}", f"A handler of `__{event}` that has its operator.", f"local m={{}}\nlocal t=setmetatable({{}},m)\nm.__{event}=function(t,n) {DOWN}return {expression} end\nreturn {start}", 20)
-deep("deep_minus", "A handler of `__unm`.", "local n=18\nlocal m={}\nlocal t=setmetatable({},m)\nm.__unm=function(t) if n==0 then return 'end' end n=n-1 return -t end\nreturn -t", 20)
+    start = expression.replace("(n-1)", "(~)")
+    down(f"deep_{event}", f"A handler of `__{event}` that has its operator.", f"local m={{}}\nlocal t=setmetatable({{}},m)\nm.__{event}=function(t,n) {DOWN}return {expression} end\nreturn {start}", 1, 2)
+down("deep_minus", "A handler of `__unm`.", "local n=~\nlocal m={}\nlocal t=setmetatable({},m)\nm.__unm=function(t) if n==0 then return 'end' end n=n-1 return -t end\nreturn -t", 1, 2)
 for event, sign in (("eq", "=="), ("lt", "<"), ("le", "<=")):
-    deep(f"deep_{event}", f"A handler of `__{event}`.", f"local n=18\nlocal m={{}}\nlocal a,b=setmetatable({{}},m),setmetatable({{}},m)\nm.__{event}=function(a,b) if n==0 then return true end n=n-1 return a{sign}b end\nreturn tostring(a{sign}b)", 20, gives="true")
-deep("deep_pcall", "`pcall` is a call too.", "local function g(n) " + DOWN + "local ok,v=pcall(g,n-1) return v end\nreturn g(9)", 20)
-deep("deep_xpcall", "So is `xpcall`; its handler is called once the calls inside are given back. The last call is that of `error`.",
-     "local n=9\nlocal function g() if n==0 then error('end',0) end n=n-1 local ok,v=xpcall(g,function(m) return m end) return v end\nreturn g()", 21)
-deep("deep_tostring", "`tostring` and a handler of `__tostring`.", "local n=9\nlocal t=setmetatable({},{__tostring=function(t) if n==0 then return 'end' end n=n-1 return tostring(t) end})\nreturn (tostring(t))", 21)
-deep("deep_iterator", "An iterator whose function has a loop with it.", "local function g(n) " + DOWN + "for v in function() return g(n-1) end do return v end end\nreturn g(9)", 20)
-deep("deep_pairs", "`pairs` and a handler of `__pairs` that walks: `pairs` is two calls a level.", "local n=9\nlocal t=setmetatable({},{__pairs=function(t) if n==0 then return function() return nil end end n=n-1 return pairs(t) end})\nfor k in pairs(t) do end\nreturn 'end'", 21)
-deep("deep_xpcall_handler", "A handler of `xpcall` that has an `xpcall` of its own.",
-     "local n=9\nlocal function h(m) if n==0 then return 'end' end n=n-1 return select(2,xpcall(error,h)) end\nreturn select(2,xpcall(error,h))", 21)
-body("no_pcall_of_calls", "`pcall` doesn't catch that calls are spent.", "local function g() return g() end\nreturn pcall(g)", steps=AMPLE, more=(), profile=True,
+    down(f"deep_{event}", f"A handler of `__{event}`.", f"local n=~\nlocal m={{}}\nlocal a,b=setmetatable({{}},m),setmetatable({{}},m)\nm.__{event}=function(a,b) if n==0 then return true end n=n-1 return a{sign}b end\nreturn tostring(a{sign}b)", 1, 2, gives="true")
+down("deep_pcall", "`pcall` is a call too.", "local function g(n) " + DOWN + "local ok,v=pcall(g,n-1) return v end\nreturn g(~)", 2, 2)
+down("deep_xpcall", "So is `xpcall`; its handler is called once the calls inside are given back. The last call is that of `error`.",
+     "local n=~\nlocal function g() if n==0 then error('end',0) end n=n-1 local ok,v=xpcall(g,function(m) return m end) return v end\nreturn g()", 2, 3)
+down("deep_tostring", "`tostring` and a handler of `__tostring`.", "local n=~\nlocal t=setmetatable({},{__tostring=function(t) if n==0 then return 'end' end n=n-1 return tostring(t) end})\nreturn (tostring(t))", 2, 3)
+down("deep_iterator", "An iterator whose function has a loop with it.", "local function g(n) " + DOWN + "for v in function() return g(n-1) end do return v end end\nreturn g(~)", 2, 2)
+down("deep_pairs", "`pairs` and a handler of `__pairs` that walks: `pairs` is two calls a level.", "local n=~\nlocal t=setmetatable({},{__pairs=function(t) if n==0 then return function() return nil end end n=n-1 return pairs(t) end})\nfor k in pairs(t) do end\nreturn 'end'", 2, 3)
+down("deep_xpcall_handler", "A handler of `xpcall` that has an `xpcall` of its own.",
+     "local n=~\nlocal function h(m) if n==0 then return 'end' end n=n-1 return select(2,xpcall(error,h)) end\nreturn select(2,xpcall(error,h))", 2, 3)
+body("no_pcall_of_calls", "`pcall` doesn't catch that calls are spent.", "local function g() return g() end\nreturn pcall(g)", steps=AMPLE, levels=False, profile=True,
      runs=[("run", AMPLE, 100, [], "spends calls")])
 hand("deep_require", "Modules that require one another: each is the call of `require` and that of its text.",
-     "return {f=function(frame)\nreturn require('Module:A')\nend}", None, more=(), others=[("A", "return require('Module:B')"), ("B", "return require('Module:C')"), ("C", "return 'end'")], profile=True,
+     "return {f=function(frame)\nreturn require('Module:A')\nend}", None, levels=False, others=[("A", "return require('Module:B')"), ("B", "return require('Module:C')"), ("C", "return 'end'")], profile=True,
      runs=[("run", AMPLE, 7, [], "gives end"), ("run", AMPLE, 6, [], "spends calls")])
-hand("no_calls", "Without a call the text of the module can't begin.", "return {f=function() return 1 end}", None, more=(), profile=True,
+hand("no_calls", "Without a call the text of the module can't begin.", "return {f=function() return 1 end}", None, levels=False, profile=True,
      runs=[("run", AMPLE, 0, [], "spends calls"), ("run", AMPLE, 1, [], "gives 1")])
 
 
 # ---- 200 nodes above a node, and one more. `return`, the constructor, the function and its `return` stand above what is nested.
 def nested(name, said, opening, inside, closing, most, gives, head="return ", **more):
     for count, end in ((most, f"gives {gives}"), (most + 1, "fails Lua error: Module:X:1: nested too deeply")):
-        hand(f"{name}_{count}", said, "return {f=function(frame) " + head + opening * count + inside + closing * count + " end}", end, more=(), profile=True, **more)
+        hand(f"{name}_{count}", said, "return {f=function(frame) " + head + opening * count + inside + closing * count + " end}", end, levels=False, profile=True, **more)
 
 
 nested("parentheses", "196 parentheses round a number, which has 200 nodes above it.", "(", "1", ")", 196, "1")
@@ -77,6 +83,7 @@ nested("conditions", "The same with `if`, whose tests are not deeper.", "if 1 th
 nested("whiles", "The same with `while`.", "while 1 do ", "return 1", " end", 196, "1", head="")
 nested("repeats", "The same with `repeat`.", "repeat ", "return 1", " until 1", 196, "1", head="")
 nested("counts", "The same with counting loops.", "for i=1,1 do ", "return 1", " end", 196, "1", head="")
+nested("eaches", "The same with generic loops; the item of the last constructor has 200 nodes above it.", "for v in next,{1} do ", "return 1", " end", 196, "1", head="")
 nested("functions", "Functions in one another: `return` and the function are two nodes; the last `return` has a number.", "return (function() ", "return 1", " end)()", 49, "1", head="")
 for name, count, text, end in (
         ("sums", 196, "1" + "+1" * 196, "gives 197"), ("sums", 197, "1" + "+1" * 197, "fails Lua error: Module:X:1: nested too deeply"),
@@ -85,25 +92,33 @@ for name, count, text, end in (
         ("calls", 197, "g" + "()" * 197, "fails Lua error: Module:X:1: nested too deeply"), ("methods", 196, "t" + ":m()" * 196, "gives table")):
     hand(f"{name}_in_a_row_{count}", "A chain to the left: its first operand has 200 nodes above it.",
          "local t={} t.t=t function t:m() return self end local function g() return g end return {f=function(frame) return " + text + " end}",
-         end, more=(), profile=True)
-hand("wide", "10,000 statements in a row are no nesting.", "return {f=function(frame) local n=0 " + "n=n+1 " * 10000 + "return n end}", "gives 10000", more=())
-hand("many_items", "A constructor of 2,000 items, and its length.", "return {f=function(frame) return #{" + "1," * 2000 + "} end}", "gives 2000", more=())
-hand("many_arguments_given", "250 arguments.", "return {f=function(frame) return select('#'" + ",nil" * 250 + ") end}", "gives 250", more=(), profile=True)
+         end, levels=False, profile=True)
+for name, said, opening, closing in (("arguments", "Calls as arguments of calls.", "g(", ")"), ("brackets", "Indices in brackets of indices.", "t[", "]")):
+    for count, end in ((196, "gives 1"), (197, "fails Lua error: Module:X:1: nested too deeply")):
+        hand(f"{name}_{count}", said, "local t={1} local function g(x) return x end return {f=function(frame) return " + opening * count + "1" + closing * count + " end}", end, levels=False, profile=True)
+for word, first in (("and", "1"), ("or", "nil")):
+    for count, end in ((196, "gives 1"), (197, "fails Lua error: Module:X:1: nested too deeply")):
+        hand(f"{word}_in_a_row_{count}", f"`{word}` groups to the left.", "return {f=function(frame) return " + f"{first} {word} " * count + "1 end}", end, levels=False, profile=True)
+hand("wide", "10,000 statements in a row are no nesting.", "return {f=function(frame) local n=0 " + "n=n+1 " * 10000 + "return n end}", "gives 10000", levels=False)
+hand("many_items", "A constructor of 2,000 items, and its length.", "return {f=function(frame) return #{" + "1," * 2000 + "} end}", "gives 2000", levels=False)
+hand("many_arguments_given", "250 arguments.", "return {f=function(frame) return select('#'" + ",nil" * 250 + ") end}", "gives 250", levels=False, profile=True)
 
 
 # ---- a table as its own metatable
 body("own_index", "A table that is its own metatable and its own `__index`: an absent key is looked for without end.",
-     "local t={} t.__index=t setmetatable(t,t) return t.x", more=(), profile=True, runs=[("exact", 5000, CALLS, [], "spends steps, 0 left")])
+     "local t={} t.__index=t setmetatable(t,t) return t.x", levels=False, profile=True, runs=[("exact", 5000, CALLS, [], "spends steps, 0 left")])
+hand("own_handler", "The text of a module that indexes a table which is the handler of its metatable.", "local t={} setmetatable(t,{__index=t}) return t.x", None, levels=False, profile=True,
+     runs=[("exact", 5000, CALLS, [], "spends steps, 0 left"), ("exact", 200000, CALLS, [], "spends steps, 0 left")])
 body("own_index_there", "A key that is there is found at once.", "local t={x=5} t.__index=t setmetatable(t,t) return t.x", "5")
-body("own_new_index", "Its own `__newindex`: a new key has no place.", "local t={} t.__newindex=t setmetatable(t,t) t.x=1", more=(), profile=True,
+body("own_new_index", "Its own `__newindex`: a new key has no place.", "local t={} t.__newindex=t setmetatable(t,t) t.x=1", levels=False, profile=True,
      runs=[("exact", 5000, CALLS, [], "spends steps, 0 left")])
-body("own_call", "Its own `__call`: a call gets one more argument with each link.", "local t={} t.__call=t setmetatable(t,t) return t()", more=(), profile=True,
+body("own_call", "Its own `__call`: a call gets one more argument with each link.", "local t={} t.__call=t setmetatable(t,t) return t()", levels=False, profile=True,
      runs=[("exact", 5000, CALLS, [], "spends steps, 0 left")])
 body("own_functions", "Its own handlers, as functions.",
      "local t={n=3}\nsetmetatable(t,t)\nt.__index=function(s,k) return k..'?' end\nt.__call=function(s,x) return x+s.n end\nt.__tostring=function(s) return 'T'..s.n end\nt.__unm=function(s) return -s.n end\nreturn t.zz,t(4),tostring(t),-t",
      "zz?7T3-3")
 body("own_metatable_is_seen", "It is its own metatable.", "local t=setmetatable({},{})\nsetmetatable(t,t)\nreturn tostring(getmetatable(t)==t)", "true")
-body("two_in_a_ring", "Two tables that are each other's `__index`.", "local a,b={},{}\na.__index=a b.__index=b\nsetmetatable(a,b) setmetatable(b,a)\nreturn a.x", more=(), profile=True,
+body("two_in_a_ring", "Two tables that are each other's `__index`.", "local a,b={},{}\na.__index=a b.__index=b\nsetmetatable(a,b) setmetatable(b,a)\nreturn a.x", levels=False, profile=True,
      runs=[("exact", 5000, CALLS, [], "spends steps, 0 left")])
 body("globals_as_own", "The globals as their own metatable.", "_G.__index=function(t,k) return k..k end\nsetmetatable(_G,_G)\nreturn abc,x", "abcabcxx")
 body("metatable_of_itself_as_key", "A table as a key of itself.", "local t={} t[t]=t\nlocal n=0\nfor k,v in pairs(t) do if k==t and v==t then n=n+1 end end\nreturn n,tostring(t[t][t]==t)", "1true")
@@ -138,7 +153,7 @@ KINDS = [
     ("pairs_nil", "pairs(nil)", "bad argument #1 to 'pairs' (table expected, got nil)"), ("ipairs_nothing", "ipairs()", "bad argument #1 to 'ipairs' (table expected, got no value)"),
     ("protected", "setmetatable(setmetatable({},{__metatable=1}),{})", "cannot change a protected metatable"),
     ("own_error", "error('m')", "m"), ("no_text_given", "tostring(setmetatable({},{__tostring=function() end}))", "'tostring' must return a string"),
-    ("not_found", "require('Module:Z')", "module 'Module:Z' not found"), ("loop", "require('Module:L')", None), ("unpack_nil", "unpack(nil)", "bad argument #1 to 'unpack' (table expected, got nil)"),
+    ("not_found", "require('Module:Z')", "module 'Module:Z' not found"), ("unpack_nil", "unpack(nil)", "bad argument #1 to 'unpack' (table expected, got nil)"),
 ]
 # SETTINGS: the text round a statement that stands on its line, the line, and how the message comes out
 SETTINGS = [
@@ -151,14 +166,11 @@ SETTINGS = [
     ("in_xpcall", "return {f=function(frame)\nlocal ok,v=xpcall(function()\n%s\nend,function(m) return '<'..m..'>' end)\nreturn v\nend}", 3, "gives <{}>"),
     ("in_xpcall_handler", "return {f=function(frame)\nlocal ok,v=xpcall(error,function()\n%s\nend)\nreturn v\nend}", 3, "gives error in error handling"),
 ]
-for at, (kind, statement, message) in enumerate(KINDS):
-    for n, (setting, text, line, form) in enumerate(SETTINGS):
-        # the first two places for each kind, and the others in turn
-        if message is not None and (n < 2 or (at + n) % 3 == 0):
-            html = message if form.startswith("gives") else message.replace("&", "&amp;").replace("<", "&lt;").replace(">", "&gt;")
-            # a `return` of a library's call gives what it gives, and stands at the same line
-            hand(f"{kind}_{setting}", f"The error of `{statement}`, {setting.replace('_', ' ')}.", text % statement, form.format(f"Module:X:{line}: {html}"), profile=True,
-                 more=("every",) if (at + n) % 5 == 0 else ())
+for kind, statement, message in KINDS:
+    for setting, text, line, form in SETTINGS:
+        html = message if form.startswith("gives") else message.replace("&", "&amp;").replace("<", "&lt;").replace(">", "&gt;")
+        # a `return` of a library's call gives what it gives, and stands at the same line
+        hand(f"{kind}_{setting}", f"The error of `{statement}`, {setting.replace('_', ' ')}.", text % statement, form.format(f"Module:X:{line}: {html}"), profile=True, levels=False)
 for level, place in ((0, ""), (1, "Module:X:3: "), (2, "Module:X:6: "), (3, "Module:X:9: "), (4, ""), (9, ""), (-1, "")):
     hand(f"error_level_{level}".replace("-", "minus_"), "`error` with a level: the place of `error`, of the call of its function, of the call of that one's, or none.",
          f"return {{f=function(frame)\nlocal function a()\nerror('m',{level})\nend\nlocal function b()\na()\nend\nlocal ok,v=pcall(function()\nb()\nend)\nreturn v\nend}}", f"gives {place}m", profile=True)
@@ -168,6 +180,9 @@ for level, place in ((1, "Module:X:4: "), (2, "Module:X:7: "), (3, "")):
 for level, place in ((1, "Module:X:4: "), (2, "Module:X:6: "), (3, "Module:X:9: ")):
     hand(f"level_{level}_in_iterator", "A generic loop is the place that calls its iterator.",
          f"return {{f=function(frame)\nlocal function g()\nlocal function step()\nerror('m',{level})\nend\nfor v in step do end\nend\nlocal ok,v=pcall(function()\ng()\nend)\nreturn v\nend}}", f"gives {place}m", profile=True)
+body("levels_of_values", "A place is put before a text alone: other values stay themselves at each level.",
+     "local s=''\nfor l=-1,4 do for _,v in ipairs({true,false,42,{},error}) do local ok,e=pcall(function() error(v,l) end) s=s..tostring(e==v) end end\nreturn s", "true" * 30, profile=True)
+body("levels_at_the_ends", "There is no place at the ends of the numbers.", "local s=''\nfor _,l in ipairs({9223372036854775807,-9223372036854775807-1}) do local ok,e=pcall(function() error('m',l) end) s=s..e end\nreturn s", "mm", profile=True)
 hand("levels_through_tail_call", "A tail call keeps its places.", "return {f=function(frame)\nlocal function a() error('m',2) end\nlocal function b()\nreturn a()\nend\nlocal ok,v=pcall(function()\nreturn b()\nend)\nreturn v\nend}",
      "gives Module:X:4: m", profile=True)
 for value, said in (("nil", "nil"), ("true", "boolean"), ("{}", "table"), ("error", "function")):
@@ -175,12 +190,13 @@ for value, said in (("nil", "nil"), ("true", "boolean"), ("{}", "table"), ("erro
 body("uncaught_number", "A number has its digits.", "error(42)", fails="Lua error: 42", profile=True)
 body("uncaught_with_marks", "Marks of HTML are written out in a failure.", "error('<b>&</b>',0)", fails="Lua error: &lt;b&gt;&amp;&lt;/b&gt;", profile=True)
 body("caught_with_marks", "A text that is given has them as they are.", "return '<b>&</b>'", "<b>&</b>")
+hand("no_byte_of_lua", "Bytes that begin no token: 255, 0 and 254.", "\xff\0\xfe", "fails Lua error: Module:X:1: unexpected byte", profile=True)
 for fault, text, line, message in ((1, "return {\n'x", 2, "unfinished string"), (2, "\n\nlocal x = [[", 3, "unfinished long bracket"), (3, "return '\\300'", 1, "escape out of range"),
                                    (4, "return $", 1, "unexpected byte"), (5, "return {\nf=", 2, "unexpected token"), (6, "return 1.5", 1, "numeral is not a whole number in range"),
                                    (8, "do\nbreak\nend", 2, "break outside a loop"), (9, "local f=error\nf\n(1)", 3, "call on a new line"), (10, "return {f=function()\nreturn ...\nend}", 2, "... outside a vararg function")):
     hand(f"fault_{fault}", "A text that is no chunk fails where it would begin.", text, f"fails Lua error: Module:X:{line}: {message}", profile=True)
     hand(f"fault_{fault}_required", "So does a module that is required; `pcall` catches it.", "return {f=function() return select(2,pcall(require,'Module:B')) end}", f"gives Module:B:{line}: {message}",
-         others=[("B", text)], profile=True, more=())
+         others=[("B", text)], profile=True, levels=False)
 
 
 # ---- closures of loops: a cell for each turn
@@ -231,11 +247,11 @@ body("false_index", "`__index` that is false is asked, and can't be indexed.", "
 
 # ---- `unpack` and other ranges
 for name, call in (("all", "-9223372036854775807-1,9223372036854775807"), ("upper", "1,9223372036854775807"), ("lower", "-9223372036854775807-1,0"), ("long", "1,1000000000")):
-    body(f"unpack_{name}", "So many values can't be paid.", f"return unpack({{}},{call})", more=(), profile=True, runs=[("exact", AMPLE, CALLS, [], "spends steps, 0 left")])
+    body(f"unpack_{name}", "So many values can't be paid.", f"return unpack({{}},{call})", levels=False, profile=True, runs=[("exact", AMPLE, CALLS, [], "spends steps, 0 left")])
 body("unpack_nothing", "From 2 to 1 there is nothing.", "return select('#',unpack({1,2,3},2,1)),select('#',unpack({})),select('#',unpack({1},9223372036854775807,-9223372036854775807))", "000", profile=True)
 body("unpack_at_the_end", "The last numbers.", "return select('#',unpack({},9223372036854775806,9223372036854775807))", "2", profile=True)
 body("unpack_backwards", "Places below 1.", "local t={[0]='z',[-1]='y',n=1}\nreturn unpack(t,-1,0)", "yz")
-body("unpack_many", "5,000 values.", "local t={}\nfor i=1,5000 do t[i]=i end\nlocal a={unpack(t)}\nreturn #a,select('#',unpack(t)),(select(5000,unpack(t)))", "500050005000", more=())
+body("unpack_many", "5,000 values.", "local t={}\nfor i=1,5000 do t[i]=i end\nlocal a={unpack(t)}\nreturn #a,select('#',unpack(t)),(select(5000,unpack(t)))", "500050005000", levels=False)
 body("select_ends", "Places of `select`.", "return select('#'),select('#',nil),select(3,1,2),select(2,1,2),select(-2,1,2)", "01nil212")
 
 
@@ -246,17 +262,17 @@ for n, (expression, value) in enumerate([
         ("3037000499*3037000499", "9223372030926249001"), ("2^62", "4611686018427387904"), ("(-2)^63", "-9223372036854775808"), ("(-1)^-3", "-1"), ("1^-5", "1"),
         ("0^0", "1"), ("-2^2", "-4"), ("2^2^3", "256"), ("-7%3", "2"), ("7%-3", "-2"), ("-7%-3", "-1"), ("-6/3", "-2"), ("6/-3", "-2"), ("0x7fffffffffffffff", "9223372036854775807"),
         ("'10'+'0x10'", "26"), ("' 7 '*2", "14"), ("'-8'/2", "-4"), ("10 ..20", "1020"), ("-'5'", "-5"), ("1e3+.5e1", "1005"), ("5%3^2", "5"), ("2*3%4", "2"), ("-0", "0")]):
-    body(f"number_{n}", f"`{expression}`.", f"return ({expression})", value, profile=True, more=("every",) if n % 4 == 0 else ())
+    body(f"number_{n}", f"`{expression}`.", f"return ({expression})", value, profile=True, levels=False)
 for n, (test, value) in enumerate([("1<2", "true"), ("2<=2", "true"), ("-1<-2", "false"), ("'a'<'b'", "true"), ("'a'<'A'", "false"), ("''<'a'", "true"), ("'a'<''", "false"), ("'ab'<='aa'", "false"),
                                    ("'10'<'9'", "true"), ("1==1", "true"), ("1=='1'", "false"), ("nil==false", "false"), ("{}=={}", "false"), ("'a\\0b'<'a\\0c'", "true"), ("'\\200'>'z'", "true"),
                                    ("not nil==true", "true"), ("1<2==true", "true")]):
-    body(f"order_{n}", f"`{test}`.", f"return tostring({test})", value, more=())
+    body(f"order_{n}", f"`{test}`.", f"return tostring({test})", value, levels=False)
 for n, (text, value) in enumerate([("12", "12"), (" 0x1F ", "31"), ("1e2", "100"), ("1.0", "1"), ("-5", "-5"), ("", "nil"), ("1 2", "nil"), ("0x", "nil"), ("9223372036854775807", "9223372036854775807"),
                                    ("9223372036854775808", "nil"), ("-9223372036854775808", "-9223372036854775808"), ("1.5", "nil"), ("abc", "nil"), ("1e", "nil"), ("--1", "nil"), ("+3", "3")]):
-    body(f"to_number_{n}", f"`tonumber` of '{text}'.", f"return tostring(tonumber('{text}'))", value, profile=True, more=())
+    body(f"to_number_{n}", f"`tonumber` of '{text}'.", f"return tostring(tonumber('{text}'))", value, profile=True, levels=False)
 for n, (call, value) in enumerate([("'ff',16", "255"), ("'FF',16", "255"), ("'0xff',16", "255"), ("'zz',36", "1295"), ("'102',2", "nil"), ("'-101',2", "-5"), ("'7fffffffffffffff',16", "9223372036854775807"),
                                    ("'8000000000000000',16", "nil"), ("'-8000000000000000',16", "-9223372036854775808"), ("10,10", "10"), ("'10','10'", "10"), ("10,2", "2")]):
-    body(f"to_number_in_base_{n}", f"`tonumber({call})`.", f"return tostring(tonumber({call}))", value, profile=True, more=())
+    body(f"to_number_in_base_{n}", f"`tonumber({call})`.", f"return tostring(tonumber({call}))", value, profile=True, levels=False)
 
 
 # ---- statements, in the order in which things happen
@@ -315,30 +331,33 @@ body("error_keeps_value", "A table as an error is that table.", "local t={}\nloc
 body("error_from_pcall", "What is done before an error stays.", "local t={}\npcall(function() t.x=1 error('m') t.y=2 end)\nreturn t.x,tostring(t.y)", "1nil")
 body("concat_kinds", "Numbers and texts are joined.", "return 1 ..2,'a'..1,-1 ..'',''..''", "12a1-1")
 body("raw_functions", "`rawget`, `rawset`, `rawequal`.", "local t=setmetatable({},{__index=function() return 'i' end,__newindex=function() end})\nt.x=1\nrawset(t,'y',2)\nreturn tostring(rawget(t,'x')),t.x,t.y,tostring(rawequal(t,t)),tostring(rawequal(1,'1'))", "nili2truefalse")
-body("long_loop", "A hundred thousand turns.", "local n=0\nfor i=1,100000 do n=n+i end\nreturn n", "5000050000", more=())
-body("endless_while", "A loop without end.", "while true do end", more=(), profile=True, runs=[("exact", 200000, CALLS, [], "spends steps, 0 left"), ("exact", 0, CALLS, [], "spends steps, 0 left"), ("exact", 999, CALLS, [], "spends steps, 0 left")])
-body("endless_repeat", "And `repeat`.", "repeat until nil", more=(), profile=True, runs=[("exact", 100000, CALLS, [], "spends steps, 0 left")])
-body("endless_each", "A generic loop without end.", "for i in function() return 1 end do end", more=(), profile=True, runs=[("exact", 100000, CALLS, [], "spends steps, 0 left")])
-body("endless_joins", "Texts that double.", "local s='x' while true do s=s..s end", more=(), profile=True, runs=[("exact", AMPLE, CALLS, [], "spends steps, 0 left")])
+body("long_loop", "A hundred thousand turns.", "local n=0\nfor i=1,100000 do n=n+i end\nreturn n", "5000050000", levels=False)
+body("endless_while", "A loop without end.", "while true do end", levels=False, profile=True, runs=[("exact", 200000, CALLS, [], "spends steps, 0 left"), ("exact", 0, CALLS, [], "spends steps, 0 left"), ("exact", 999, CALLS, [], "spends steps, 0 left")])
+body("endless_repeat", "And `repeat`.", "repeat until nil", levels=False, profile=True, runs=[("exact", 100000, CALLS, [], "spends steps, 0 left")])
+body("endless_each", "A generic loop without end.", "for i in function() return 1 end do end", levels=False, profile=True, runs=[("exact", 100000, CALLS, [], "spends steps, 0 left")])
+body("endless_joins", "Texts that double.", "local s='x' while true do s=s..s end", levels=False, profile=True, runs=[("exact", AMPLE, CALLS, [], "spends steps, 0 left")])
 
 
 # ---- questions, answered by hand
 ASKS = "local s=''\nfor i=1,3 do s=s..frame:preprocess('{{{'..i..'}}}') end\nreturn s"
-body("asks_in_a_loop", "Three questions, each of which takes steps.", ASKS, "abcd", replies=[(("text", "a"), "-5"), (("text", "bc"), "-0"), (("text", "d"), "-7")], parent=True, profile=True, more=("every",))
-body("first_question", "Without a reply it stands at the first.", ASKS, parent=True, profile=True, more=(), runs=[("run", AMPLE, CALLS, [], "asks preprocess {{{1}}} in Module:X under Template:T")])
-body("second_question", "With one at the second.", ASKS, parent=True, profile=True, more=(), runs=[("run", AMPLE, CALLS, [(("text", "a"), "-5")], "asks preprocess {{{2}}} in Module:X under Template:T")])
-body("answer_takes_all", "An answer that takes more than there is.", ASKS, parent=True, profile=True, more=(), runs=[("exact", 5000, CALLS, [(("text", "a"), "-9999")], "spends steps, 0 left")])
-body("answer_leaves_none", "An answer that leaves no steps.", ASKS, parent=True, profile=True, more=(), runs=[("exact", 5000, CALLS, [(("text", "a"), "0")], "spends steps, 0 left")])
+body("asks_in_a_loop", "Three questions, each of which takes steps.", ASKS, "abcd", replies=[(("text", "a"), "-5"), (("text", "bc"), "-0"), (("text", "d"), "-7")], parent=True, profile=True, levels=False)
+body("first_question", "Without a reply it stands at the first.", ASKS, parent=True, profile=True, levels=False, runs=[("run", AMPLE, CALLS, [], "asks preprocess {{{1}}} in Module:X under Template:T")])
+body("second_question", "With one at the second.", ASKS, parent=True, profile=True, levels=False, runs=[("run", AMPLE, CALLS, [(("text", "a"), "-5")], "asks preprocess {{{2}}} in Module:X under Template:T")])
+hand("another_invocation", "What another invocation of the module does to its globals and to `string` is not seen.",
+     "local p={} x=1 function p.g() x=2 string.len=nil return 'g' end function p.f(frame) local s=frame:preprocess('{{#invoke:Self|g}}') return s..x..string.len('ab') end return p",
+     "gives g12", replies=[(("text", "g"), "-0")], profile=True)
+body("answer_takes_all", "An answer that takes more than there is.", ASKS, parent=True, profile=True, levels=False, runs=[("exact", 5000, CALLS, [(("text", "a"), "-9999")], "spends steps, 0 left")])
+body("answer_leaves_none", "An answer that leaves no steps.", ASKS, parent=True, profile=True, levels=False, runs=[("exact", 5000, CALLS, [(("text", "a"), "0")], "spends steps, 0 left")])
 body("asked_in_a_handler", "A question out of a handler, in a protected call.", "local t=setmetatable({},{__index=function(t,k) return frame:preprocess(k) end})\nlocal ok,v=pcall(function() return t.a..t.b end)\nreturn tostring(ok),v", "truexy",
-     replies=[(("text", "x"), "-1"), (("text", "y"), "-1")], parent=True, profile=True, more=("every",))
-body("asked_in_tostring", "A question out of `__tostring` in the answer.", "return setmetatable({},{__tostring=function() return frame:preprocess('q') end})", "x", replies=[(("text", "x"), "-1")], parent=True, profile=True, more=("every",))
-body("asked_in_an_iterator", "And out of an iterator.", "local n,s=0,''\nfor v in function() n=n+1 if n<3 then return frame:preprocess('q'..n) end end do s=s..v end\nreturn s", "xy", replies=[(("text", "x"), "-1"), (("text", "y"), "-1")], parent=True, profile=True, more=("every",))
-body("template_with_arguments", "A template with arguments of each kind.", "return frame:expandTemplate{title='U',args={'a',x='b',y=1,z=true,w=false}}", parent=True, profile=True, args=[("1", "own")], more=(),
+     replies=[(("text", "x"), "-1"), (("text", "y"), "-1")], parent=True, profile=True, levels=False)
+body("asked_in_tostring", "A question out of `__tostring` in the answer.", "return setmetatable({},{__tostring=function() return frame:preprocess('q') end})", "x", replies=[(("text", "x"), "-1")], parent=True, profile=True, levels=False)
+body("asked_in_an_iterator", "And out of an iterator.", "local n,s=0,''\nfor v in function() n=n+1 if n<3 then return frame:preprocess('q'..n) end end do s=s..v end\nreturn s", "xy", replies=[(("text", "x"), "-1"), (("text", "y"), "-1")], parent=True, profile=True, levels=False)
+body("template_with_arguments", "A template with arguments of each kind.", "return frame:expandTemplate{title='U',args={'a',x='b',y=1,z=true,w=false}}", parent=True, profile=True, args=[("1", "own")], levels=False,
      runs=[("run", AMPLE, CALLS, [], "asks template Template:U|1=a|x=b|y=1|z=1|w= in Module:X|1=own under Template:T"), ("run", AMPLE, CALLS, [(("text", "t"), "-3")], "gives t"),
            ("run", AMPLE, CALLS, [(("none",), "-3")], "fails Lua error: Module:X:2: template 'U' does not exist")])
-body("template_caught", "That there is no template is caught.", "local ok,v=pcall(function() return frame:expandTemplate{title='U'} end)\nreturn v", "Module:X:2: template 'U' does not exist", replies=[(("none",), "-1")], parent=True, profile=True, more=("every",))
+body("template_caught", "That there is no template is caught.", "local ok,v=pcall(function() return frame:expandTemplate{title='U'} end)\nreturn v", "Module:X:2: template 'U' does not exist", replies=[(("none",), "-1")], parent=True, profile=True, levels=False)
 body("data_once", "A data module is asked for once.", "local a,b=mw.loadData('Module:D'),mw.loadData('Module:D')\nreturn a.x,tostring(a==b),a.me.me.n", "vtrue7",
-     replies=[(("table", [("x", "v"), ("n", "#7"), ("me", "@")]), "-20")], parent=True, profile=True, more=("every",))
+     replies=[(("table", [("x", "v"), ("n", "#7"), ("me", "@")]), "-20")], parent=True, profile=True, levels=False)
 body("data_is_read_only", "It can't be written, not by `rawset` and not in what it holds.", "local d=mw.loadData('Module:D')\nlocal function e(f,...) return select(2,pcall(f,...))..';' end\nreturn e(function() d.x=1 end),e(rawset,d,'y',1),e(setmetatable,d,{}),d.x",
-     "Module:X:4: table from mw.loadData is read-only;table from mw.loadData is read-only;table from mw.loadData is read-only;v", replies=[(("table", [("x", "v")]), "-2")], parent=True, profile=True, more=("every",))
-body("data_fails", "A load that fails, and one that works then.", "local ok,v=pcall(mw.loadData,'Module:D')\nreturn v,mw.loadData('Module:D').x", "mv", replies=[(("failed", "m"), "-4"), (("table", [("x", "v")]), "-2")], parent=True, profile=True, more=("every",))
+     "Module:X:4: table from mw.loadData is read-only;table from mw.loadData is read-only;table from mw.loadData is read-only;v", replies=[(("table", [("x", "v")]), "-2")], parent=True, profile=True, levels=False)
+body("data_fails", "A load that fails, and one that works then.", "local ok,v=pcall(mw.loadData,'Module:D')\nreturn v,mw.loadData('Module:D').x", "mv", replies=[(("failed", "m"), "-4"), (("table", [("x", "v")]), "-2")], parent=True, profile=True, levels=False)

@@ -85,9 +85,9 @@ renders("html_after_an_error", "What was set before a wrong entry stays; of wron
 
 # ---- an object may stand below 200 others
 CHAIN = MAKE + "local r=H('b')\nlocal x=r\nfor i=1,%d do x=x:tag('b') end\n"
-body("html_down_to_the_last", "200 objects above one.", CHAIN % 200 + "return #tostring(r)", str(201 * 7), profile=True, more=("every",))
-body("html_too_deep", "One more, for an answer; its error has no place.", CHAIN % 201 + "return r", fails="Lua error: html tree nested too deeply", profile=True, more=("every",))
-body("html_too_deep_by_tostring", "And for `tostring`.", CHAIN % 201 + "return tostring(r)", fails="Lua error: Module:X:6: html tree nested too deeply", profile=True, more=("every",))
+body("html_down_to_the_last", "200 objects above one.", CHAIN % 200 + "return #tostring(r)", str(201 * 7), profile=True, levels=False)
+body("html_too_deep", "One more, for an answer; its error has no place.", CHAIN % 201 + "return r", fails="Lua error: html tree nested too deeply", profile=True, levels=False)
+body("html_too_deep_by_tostring", "And for `tostring`.", CHAIN % 201 + "return tostring(r)", fails="Lua error: Module:X:6: html tree nested too deeply", profile=True, levels=False)
 body("html_in_itself", "An object in itself is too deep.", MAKE + "local x=H('b')\nx:node(x):wikitext('t')\nreturn x", fails="Lua error: html tree nested too deeply", profile=True)
 
 
@@ -100,9 +100,9 @@ counted("steps_of_classes", "The bytes that are given, the classes, and the valu
         ANY + (1 + 1 + 1 + 2 + 2) + (1 + 1 + 1 + 1 + 4) + (1 + 1 + 1 + 5 + 4))
 counted("steps_of_entries", "Each entry costs the bytes of both its parts; the constructor costs 8, and an item 4.", "mw.html.create('b'):attr{a='x'}", '<b a="x"></b>',
         ANY + 1 + (1 + 8 + 1 + 1 + 4) + 1 + 2 + 1 + 13)
-hand("steps_of_a_cleared_entry", "A cleared entry costs a step.", "return {f=function() local t={a='x'} t.a=nil return mw.html.create('b'):attr(t) end}", None, profile=True, more=("every",),
+hand("steps_of_a_cleared_entry", "A cleared entry costs a step.", "return {f=function() local t={a='x'} t.a=nil return mw.html.create('b'):attr(t) end}", None, profile=True, levels=False,
      runs=[("took", AMPLE, CALLS, [], "gives <b></b>, %d taken" % (1000 + 84 + 1 + 24 + 1 + (1 + 1 + 8 + 1 + 1 + 4) + (1 + 1 + 1 + 1 + 1) + 1 + ANY + (1 + 1 + 1 + 1) + 1 + 7 + 7))])
-body("html_of_many_classes", "Classes are paid for at each addition, so a long list spends its steps.", "local x=mw.html.create('b')\nlocal s=('a'):rep(1000)\nwhile true do x:addClass(s) end", more=(), profile=True,
+body("html_of_many_classes", "Classes are paid for at each addition, so a long list spends its steps.", "local x=mw.html.create('b')\nlocal s=('a'):rep(1000)\nwhile true do x:addClass(s) end", levels=False, profile=True,
      runs=[("exact", AMPLE, CALLS, [], "spends steps, 0 left")])
 
 
@@ -112,8 +112,8 @@ MANY = MAKE + "local x,q,p=H('b'),H('b'),H('b')\nfor i=1,1000 do q:node(x) end\n
 RENDERED = 500501 * 8
 # what begins a run with its module; `f`, the locals, both loops with five steps and a turn each time, `return`, and seven bytes of the answer
 MANY_TAKEN = (1000 + len("return {f=function(frame)\n" + MANY + "\nend}") + 1 + 24) + 1 + 6 + (1 + 3 * 5) + (3 + 1000 * 6) + (3 + 500 * 6) + 6 + RENDERED + 7
-body("html_of_half_a_million", "An object stands in another 1,000 times, and that one in a third 500 times: it is rendered 500,000 times.", MANY, more=(), profile=True, runs=[
+body("html_of_half_a_million", "An object stands in another 1,000 times, and that one in a third 500 times: it is rendered 500,000 times.", MANY, levels=False, profile=True, runs=[
     ("took", AMPLE, CALLS, [], f"gives {500501 * 7}, {MANY_TAKEN} taken"), ("exact", MANY_TAKEN - 1, CALLS, [], "spends steps, 0 left"),
     ("exact", 2_000_000, CALLS, [], "spends steps, 0 left")])
-body("html_doubled", "Each of 100 objects has the one before twice: the steps are spent long before the end.", MAKE + "local x=H('b')\nfor i=1,100 do x=H('b'):node(x):node(x) end\nreturn x", more=(), profile=True, runs=[
+body("html_doubled", "Each of 100 objects has the one before twice: the steps are spent long before the end.", MAKE + "local x=H('b')\nfor i=1,100 do x=H('b'):node(x):node(x) end\nreturn x", levels=False, profile=True, runs=[
     ("exact", 2_000_000, CALLS, [], "spends steps, 0 left"), ("exact", 20_000, CALLS, [], "spends steps, 0 left")])

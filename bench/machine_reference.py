@@ -134,8 +134,8 @@ class Run:
     # ---- errors
     def raise_at(self, levels, value, level=1):
         at = levels
-        for _ in range(level - 1):
-            at = at and at[2]
+        while level > 1 and at:
+            level, at = level - 1, at[2]
         if isinstance(value, bytes) and level > 0 and at:
             value = b"%s:%d: %s" % (at[0], at[1], value)
             self.tick(len(value))

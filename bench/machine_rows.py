@@ -5,8 +5,8 @@
     machine_rows.py --check    compares the ends of the cases with `machine_reference.py`, and with `lua5.1` where it is to be the same
 
 The cases are the worked examples of `lua_chunks.py`, with the ends and steps that are said there, and those of `machine_cases.py`,
-`machine_text_cases.py`, `machine_html_cases.py` and `machine_gsub_cases.py`, whose ends were worked out by hand from the manual. How many
-steps and calls a case needs is what `machine_reference.py` says.
+`machine_text_cases.py`, `machine_html_cases.py`, `machine_gsub_cases.py` and `machine_argument_cases.py`, whose ends were worked out by hand
+from the manual. How many steps and calls a case needs is what `machine_reference.py` says.
 """
 import pathlib
 import re
@@ -20,6 +20,8 @@ from machine_reference import World, in_thread, run_of, shown
 CRATE = pathlib.Path(__file__).resolve().parent.parent / "crates" / "lua_machine_cases"
 CALLS = 20000
 AMPLE = 10_000_000
+# a case that takes no more steps is run with each number of them
+FEW = 5000
 
 HARNESS = """
 local name = ...
@@ -93,10 +95,10 @@ def item(term):
 
 
 def reply_in(term):
-    """What is told, and the steps that are left; None where the reply spends the run."""
+    """What is told, and the steps that are left, or behind a `-` those that it takes; None where the page spends the calls, of which no machine is told."""
     if term.startswith("exhausts"):
-        return None
-    left = int(term.rsplit(" ", 1)[1])
+        return (("text", ""), f"-{AMPLE}") if term.endswith("Steps") else None
+    left = term.rsplit(" ", 1)[1]
     if "NoPage" in term:
         return ("none",), left
     if "Loaded" in term:
@@ -120,7 +122,7 @@ class Case:
 
     def __init__(self, name, modules, said="", work="invoke", invoked=None, args=(), parent=False, profile=True):
         self.name, self.modules, self.said, self.work, self.args = name, modules, said, work, list(args)
-        self.invoked, self.parent, self.profile, self.runs = invoked or modules[0][0], parent, profile, []
+        self.invoked, self.parent, self.profile, self.runs, self.nodes = invoked or modules[0][0], parent, profile, [], None
 
     def scenes(self):
         chain = [b"Template:T"] if self.parent else []
@@ -172,8 +174,10 @@ def of_example(example):
     for step, end in zip(example["steps"], example["seen"]):
         steps, replies = step if example["cases"] else (step, [])
         read = [reply_in(term) for term in replies]
-        if None in read or end[0] == "Counts":
+        if None in read:
             continue
+        if end[0] == "Counts":
+            case.nodes, end = end[1], ("Gives", "")
         exact = end[0] in ("Spends", "Loads", "Asks") or len(end) > 2
         left = end[2] if end[0] in ("Spends", "Asks", "Gives", "Fails") and len(end) > 2 else end[1] if end[0] == "Loads" else 0
         said = f"{case.name}: {end_words(end)}" + (f", {left} left" if exact else "")
@@ -187,36 +191,39 @@ def by_reference(case, word, steps, calls, replies):
     return f"{case.name}: {end.words()}" + (f", {end.left} left" if word == "exact" else f", {end.taken} taken" if word == "took" else "")
 
 
-def many_runs(case, word, steps, calls, replies=()):
-    """What `every` and `levels` are to print: from where on there is enough."""
-    end = case.reference(steps, calls, replies)
-    return f"{case.name}: {word}: from {end.taken if word == 'every' else end.height} on"
-
-
 def all_cases():
     from machine_text_cases import CASES
     import machine_html_cases  # noqa: F401 (adds its cases)
     import machine_gsub_cases  # noqa: F401 (adds its cases)
-    found = [of_example(example) for _, _, examples in FILES for example in examples]
-    for case in found:
-        if case.work == "invoke" and not case.parent and case.runs and "spends" not in case.runs[0][4]:
-            steps, calls = case.runs[0][1:3]
-            case.runs.append(("every", steps, calls, [], many_runs(case, "every", steps, calls)))
-    return [case for case in found if case.runs] + [of_hand(hand) for hand in CASES]
+    import machine_argument_cases  # noqa: F401 (adds its cases)
+    examples = [of_example(example) for _, _, examples in FILES for example in examples]
+    return [with_every(case, "all") for case in examples] + [with_every(of_hand(hand), "every") for hand in CASES]
 
 
 def of_hand(hand):
-    """A case of `machine_cases.py`; then every number of steps, and the least number of calls, where it asks for them or they are few."""
+    """A case of `machine_cases.py` and the like; then the least number of calls, where that is wanted and small."""
     case = Case(hand["name"], hand["modules"], hand["said"], args=hand["args"], parent=hand["parent"], profile=hand["profile"])
     for word, steps, calls, replies, end in hand["runs"]:
         case.runs.append((word, steps, calls, replies, f"{case.name}: {end}"))
-    word, steps, calls, replies, said = case.runs[0]
-    more = hand["more"]
-    if more is None:
-        end = case.reference(steps, calls, replies)
-        more = ["every"] * (end.taken <= 2000) + ["levels"] * (end.height <= 30)
-    for word in more:
-        case.runs.append((word, steps, calls, replies, many_runs(case, word, steps, calls, replies)))
+    _, steps, calls, replies, _ = case.runs[0]
+    end = case.reference(steps, calls, replies) if hand["levels"] else None
+    if end and end.height <= 30:
+        case.runs.append(("levels", steps, calls, replies, f"{case.name}: levels: from {end.height} on"))
+    return case
+
+
+def with_every(case, word):
+    """The case with a line for each row of replies: runs with each number of steps, from 0 (`all`) or from 1,000 on (`every`), where it comes
+    to an end within few. An answer that leaves a number of steps takes one step there."""
+    seen = []
+    for _, _, calls, replies, said in list(case.runs):
+        told = [told for told, _ in replies]
+        if told not in seen and "spends steps" not in said:
+            seen.append(told)
+            replies = [(told, left if left.startswith("-") else "-1") for told, left in replies]
+            taken = case.reference(AMPLE, calls, replies).taken
+            if taken <= FEW:
+                case.runs.append((word, AMPLE, calls, replies, f"{case.name}: {word}: from {taken} on"))
     return case
 
 
@@ -243,9 +250,12 @@ def check():
     compared = 0
     for case in cases:
         for word, steps, calls, replies, said in case.runs:
-            if word not in ("every", "levels") and by_reference(case, word, steps, calls, replies) != said:
+            if word not in ("all", "every", "levels") and by_reference(case, word, steps, calls, replies) != said:
                 wrong += 1
                 print(f"{said}\n    by machine_reference.py {by_reference(case, word, steps, calls, replies)}")
+        if case.nodes is not None and case.reference().nodes != case.nodes:
+            wrong += 1
+            print(f"{case.name}: {case.nodes} nodes here, {case.reference().nodes} by machine_reference.py")
         if not case.profile:
             compared += 1
             words, steps, calls, replies, said = case.runs[0]

@@ -1,5 +1,4 @@
-"""Cases by hand of `string`, `math`, `table`, `mw.ustring` and `mw.text`, and the arguments of all functions of the library, behind the cases
-of `machine_cases.py`. Ends are those of the manual, of Lua 5.1 (all that aren't marked `profile`), and of Scribunto; steps are counted by
+"""Cases by hand of `string`, `math`, `table`, `mw.ustring` and `mw.text`, behind the cases of `machine_cases.py`. Ends are those of the manual, of Lua 5.1 (all that aren't marked `profile`), and of Scribunto; steps are counted by
 docs/RULES.md. Bytes of texts are written as such."""
 from machine_cases import AMPLE, CALLS, CASES, body, hand
 
@@ -39,7 +38,7 @@ def wanting(kind, functions):
 def counted(name, said, expression, gives, steps):
     text = "return {f=function() return " + expression + " end}"
     taken = 1000 + len(text) + 1 + 24 + 2 + steps + len(gives)
-    hand(name, said, text, None, profile=True, more=("every",), runs=[("took", AMPLE, CALLS, [], f"gives {gives}, {taken} taken")])
+    hand(name, said, text, None, profile=True, levels=False, runs=[("took", AMPLE, CALLS, [], f"gives {gives}, {taken} taken")])
 
 
 counted("steps_of_rep", "The call, its text, the number, the function entered, and 6 bytes.", "('ab'):rep(3)", "ababab", 1 + 1 + 1 + 1 + 1 + 6)
@@ -85,12 +84,12 @@ says("texts_as_numbers", "A text that reads as a number is one where a number is
 body("length_of_a_number", "A number has no methods of strings, but the function takes it.", "return string.len(12345)", "5")
 body("method_of_a_number", "A number can't be indexed.", "local n=5\nreturn n:rep(2)", fails="Lua error: Module:X:3: attempt to index a number value", profile=True)
 says("string_of_nul", "NUL is a byte as any other.", "#('a\\0b'):rep(2),('a\\0b'):find('\\0',1,true)", "6 2 2")
-body("rep_beyond_all", "A text of 9 times 10^18 bytes is paid for before it is made.", "return ('x'):rep(9*10^18)", more=(), profile=True, runs=[("exact", AMPLE, CALLS, [], "spends steps, 0 left"), ("exact", 2000, CALLS, [], "spends steps, 0 left")])
-body("rep_beyond_numbers", "And one of 4 times 9 times 10^18 bytes.", "return ('abcd'):rep(9*10^18)", more=(), profile=True, runs=[("exact", AMPLE, CALLS, [], "spends steps, 0 left")])
-body("maybe_forty_times", "`a?` forty times, and then `a` forty times.", "local s=('a'):rep(40)\nreturn s:find(('a?'):rep(40)..s)", more=(), profile=True, runs=[("exact", AMPLE, CALLS, [], "spends steps, 0 left")])
-body("many_stars", "A search that goes back at each place.", "return (('a'):rep(200)..'b'):match(('a*'):rep(8)..'c')", more=(), profile=True, runs=[("exact", AMPLE, CALLS, [], "spends steps, 0 left")])
-body("malformed_patterns", "Patterns that are none, each with its number.", TRY + "return try(string.find,'a','%'),try(string.find,'a','[a'),try(string.match,'a','%f'),try(string.match,'a','('),try(string.find,'a',')'),try(string.match,'a','%1'),try(string.find,'a','%b')",
-     "".join(f"malformed pattern ({n});" for n in (1, 2, 3, 4, 5, 7, 8)), profile=True)
+body("rep_beyond_all", "A text of 9 times 10^18 bytes is paid for before it is made.", "return ('x'):rep(9*10^18)", levels=False, profile=True, runs=[("exact", AMPLE, CALLS, [], "spends steps, 0 left"), ("exact", 2000, CALLS, [], "spends steps, 0 left")])
+body("rep_beyond_numbers", "And one of 4 times 9 times 10^18 bytes.", "return ('abcd'):rep(9*10^18)", levels=False, profile=True, runs=[("exact", AMPLE, CALLS, [], "spends steps, 0 left")])
+body("maybe_forty_times", "`a?` forty times, and then `a` forty times.", "local s=('a'):rep(40)\nreturn s:find(('a?'):rep(40)..s)", levels=False, profile=True, runs=[("exact", AMPLE, CALLS, [], "spends steps, 0 left")])
+body("many_stars", "A search that goes back at each place.", "return (('a'):rep(200)..'b'):match(('a*'):rep(8)..'c')", levels=False, profile=True, runs=[("exact", AMPLE, CALLS, [], "spends steps, 0 left")])
+body("malformed_patterns", "Patterns that are none, each with its number.", TRY + "return try(string.find,'a','%'),try(string.find,'a','[a'),try(string.match,'a','%f'),try(string.match,'a','('),try(string.find,'a',')'),try(string.find,'a',('()'):rep(33)),try(string.match,'a','%1'),try(string.find,'a','%b')",
+     "".join(f"malformed pattern ({n});" for n in range(1, 9)), profile=True)
 body("malformed_pattern_place", "With the place of the call.", "return ('a'):find('%')", fails="Lua error: Module:X:2: malformed pattern (1)", profile=True)
 body("wrong_formats", "Faults of formats.", TRY + "local f=string.format\nreturn try(f,'%y'),try(f,'%'),try(f,'%d'),try(f,'%d','x'),try(f,'%s',{}),try(f,'%c',256),try(f,'%d %s',1),try(f)",
      "invalid option to 'format';invalid option to 'format';bad argument #2 to 'format' (number expected, got no value);bad argument #2 to 'format' (number expected, got string);bad argument #2 to 'format' (string expected, got table);bad argument #2 to 'format' (out of range);bad argument #3 to 'format' (string expected, got no value);bad argument #1 to 'format' (string expected, got no value);", profile=True)
@@ -132,12 +131,13 @@ body("insert_where_it_is_refused", "A place below 1, and no place at all.", TRY 
      "bad argument #2 to 'insert' (out of range);bad argument #2 to 'insert' (number expected, got string);bad argument #1 to 'insert' (table expected, got number);nil;", profile=True)
 body("concat_names_the_place", "The first entry that is no text.", TRY + "return try(table.concat,{'a',{},'b'}),try(table.concat,{'a'},',',1,2),try(table.concat,{},true)",
      "invalid value (at index 2) in table for 'concat';invalid value (at index 2) in table for 'concat';bad argument #2 to 'concat' (string expected, got boolean);", profile=True)
-body("concat_beyond_all", "A million texts of a million bytes.", "local s,t=('x'):rep(1000000),{}\nfor i=1,1000 do t[i]=s end\nreturn #table.concat(t)", more=(), profile=True, runs=[("exact", AMPLE, CALLS, [], "spends steps, 0 left")])
+body("concat_beyond_all", "A million texts of a million bytes.", "local s,t=('x'):rep(1000000),{}\nfor i=1,1000000 do t[i]=s end\nreturn #table.concat(t)", levels=False, profile=True,
+     runs=[("exact", 2 * AMPLE, CALLS, [], "spends steps, 0 left")])
 body("concat_of_no_end", "Nothing stands there.", "return table.concat({},',',1,9*10^18)", fails="Lua error: Module:X:2: invalid value (at index 1) in table for 'concat'", profile=True)
 body("insert_past_all_numbers", "Behind the greatest number there is no place; one past the end stands alone.", "local t={}\ntable.insert(t,9223372036854775807,'x')\nreturn #t,t[9223372036854775807]", "0x", profile=True)
 refuses("table_without_arguments", "The functions of `table` without an argument.", "table", wanting("table", "concat insert maxn remove sort"))
 body("order_of_table", "The names of `table`, in order.", "local s='' for k,v in pairs(table) do s=s..k..' ' end return s", "concat insert maxn remove sort ", profile=True)
-DATA = dict(replies=[(("table", [("#1", "b"), ("#2", "a"), ("x", "v")]), "-2")], parent=True, profile=True, more=("every",))
+DATA = dict(replies=[(("table", [("#1", "b"), ("#2", "a"), ("x", "v")]), "-2")], parent=True, profile=True, levels=False)
 body("read_only_tables", "No function of `table` writes into loaded data.", TRY + "local d=mw.loadData('Module:D')\nreturn try(table.insert,d,'c'),try(table.insert,d,1,'c'),try(table.remove,d),try(table.sort,d),table.concat(d,' '),#d,d.x",
      f"{READ_ONLY};" * 4 + "b a2v", **DATA)
 body("read_only_where_nothing_is_written", "What would write nothing is not refused, but nil that is inserted.", TRY + "local d=mw.loadData('Module:D')\nreturn try(table.remove,d,7),try(table.insert,d,nil),table.maxn(d)", f"nil;{READ_ONLY};2", **DATA)
@@ -158,7 +158,7 @@ says("ustring_of_any_bytes", "`len` and `isutf8` take any bytes.", "mw.ustring.l
 body("ustring_refuses", "Bytes that aren't UTF-8, and numbers of no code point.", TRY + "local u=mw.ustring\nreturn try(u.sub,'\\255',1),try(u.find,'a','\\255',1,true),try(u.match,'\\255','a'),try(u.codepoint,'\\255'),try(u.char,55296),try(u.char,97,1114112),try(u.find,'a','%')",
      "bad argument #1 to 'sub' (not UTF-8);bad argument #2 to 'find' (not UTF-8);bad argument #1 to 'match' (not UTF-8);bad argument #1 to 'codepoint' (not UTF-8);bad argument #1 to 'char' (out of range);bad argument #2 to 'char' (out of range);malformed pattern (1);", profile=True)
 refuses("ustring_without_arguments", "The functions of `mw.ustring` without an argument.", "mw.ustring", [("char", ""), *wanting("string", "codepoint gcodepoint byteoffset find match gmatch len sub isutf8 toNFC toNFD toNFKC toNFKD")])
-body("ustring_maybe_forty_times", "`a?` forty times over code points.", "local s=('a'):rep(40)\nreturn mw.ustring.find(s,('a?'):rep(40)..s)", more=(), profile=True, runs=[("exact", AMPLE, CALLS, [], "spends steps, 0 left")])
+body("ustring_maybe_forty_times", "`a?` forty times over code points.", "local s=('a'):rep(40)\nreturn mw.ustring.find(s,('a?'):rep(40)..s)", levels=False, profile=True, runs=[("exact", AMPLE, CALLS, [], "spends steps, 0 left")])
 
 
 # ---- `mw.text`
@@ -174,6 +174,10 @@ says("text_truncates", "From both ends, with an ellipsis that counts.", "mw.text
 body("text_refuses", "Wrong arguments.", TRY + "local m=mw.text\nreturn try(m.trim,'x','a]b'),try(m.trim,'\\255'),try(m.split,'a','%'),try(m.listToText,{1,{}}),try(m.tag,'b',5),try(m.tag,'b',{},true),try(m.tag,'b',{[{}]=1}),try(m.truncate,'a')",
      "malformed pattern (2);bad argument #1 to 'trim' (not UTF-8);malformed pattern (1);bad argument #1 to 'listToText' (string expected, got table);bad argument #2 to 'tag' (table expected, got number);bad argument #3 to 'tag' (string expected, got boolean);bad argument #2 to 'tag' (string expected, got table);bad argument #2 to 'truncate' (number expected, got no value);", profile=True)
 refuses("text_without_arguments", "The functions of `mw.text` without an argument.", "mw.text", [*wanting("string", "trim split gsplit encode decode"), *wanting("table", "listToText"), *wanting("string", "nowiki tag truncate")])
+body("order_of_ustring", "The names of `mw.ustring`, in order.", "local s='' for k,v in pairs(mw.ustring) do s=s..k..' ' end return s",
+     "char codepoint gcodepoint byteoffset find match gmatch gsub len sub isutf8 toNFC toNFD toNFKC toNFKD ", profile=True)
+body("order_of_globals", "The names of a fresh environment, in order.", "local s='' for k,v in pairs(_G) do s=s..k..' ' end return s",
+     "_G _VERSION assert error getmetatable setmetatable ipairs pairs next pcall xpcall rawequal rawget rawset select tonumber tostring type unpack require string table math mw ", profile=True)
 body("order_of_text", "The names of `mw.text`, in order.", "local s='' for k,v in pairs(mw.text) do s=s..k..' ' end return s", "trim split gsplit encode decode listToText nowiki tag truncate ", profile=True)
 body("order_of_mw", "The names of `mw`, in order.", "local s='' for k,v in pairs(mw) do s=s..k..' ' end return s", "clone log title loadData getCurrentFrame ustring text html ", profile=True)
 
@@ -195,8 +199,8 @@ body("gmatch_reads_late", "A pattern is read at each step and not before.", TRY 
 body("gmatch_pattern_place", "With the place of the loop.", "for x in ('a'):gmatch('[') do end", fails="Lua error: Module:X:2: malformed pattern (2)", profile=True)
 body("gmatch_in_a_gmatch", "Lines, and the words of each.", "local s=''\nfor l in ('a b\\nc'):gmatch('[^\\n]+') do for w in l:gmatch('%a') do s=s..w end s=s..';' end\nreturn s", "ab;c;")
 body("iterator_has_no_fields", "An iterator can't be indexed.", "local f=('a'):gmatch('.')\nreturn f.x", fails="Lua error: Module:X:3: attempt to index a function value", profile=True)
-body("gmatch_maybe_forty_times", "`a?` forty times, and then `a` forty times.", "local s=('a'):rep(40)\nreturn s:gmatch(('a?'):rep(40)..s)()", more=(), profile=True, runs=[("exact", AMPLE, CALLS, [], "spends steps, 0 left")])
-body("gmatch_of_a_long_pattern", "A pattern of a million bytes is paid for at each step.", "local p=('a'):rep(1000000)\nfor i=1,1000 do local x=('b'):gmatch(p)() end", more=(), profile=True, runs=[("exact", AMPLE, CALLS, [], "spends steps, 0 left")])
+body("gmatch_maybe_forty_times", "`a?` forty times, and then `a` forty times.", "local s=('a'):rep(40)\nreturn s:gmatch(('a?'):rep(40)..s)()", levels=False, profile=True, runs=[("exact", AMPLE, CALLS, [], "spends steps, 0 left")])
+body("gmatch_of_a_long_pattern", "A pattern of a million bytes is paid for at each step.", "local p=('a'):rep(1000000)\nfor i=1,1000 do local x=('b'):gmatch(p)() end", levels=False, profile=True, runs=[("exact", AMPLE, CALLS, [], "spends steps, 0 left")])
 gives_all("ustring_gmatch_matches", "Symbols and places of code points, and classes by category.",
           ["mw.ustring.gmatch('\xc3\xa4b\xc3\xa4','.')", "mw.ustring.gmatch('\xc3\xa4b\xc3\xa4','()\xc3\xa4()')", "mw.ustring.gmatch('\xc3\xa4b','')", "mw.ustring.gmatch('\xc3\xa4b','()')", "mw.ustring.gmatch('\xd0\x90\xd0\xb1 c','%a+')"],
           ["[\\xc3\\xa4][b][\\xc3\\xa4]", "[1 2][3 4]", "[][][]", "[1][2][3]", "[\\xd0\\x90\\xd0\\xb1][c]"], profile=True)
@@ -208,82 +212,3 @@ gives_all("gsplit_parts", "The parts that `split` puts into a table.",
           ["[a][b][c]", "[]", "[a][b][]", "[a][][c]", "[][a][][]", "[abc]", "[][][][]", "[a][b]", "[\\xc3\\xa9][]"], profile=True)
 body("iterators_refuse", "Arguments that are none, and patterns that are read late.", TRY + "local u,m=mw.ustring,mw.text\nreturn try(u.gmatch,'\\255','a'),try(u.gmatch,'a','\\255'),try(u.gcodepoint,'\\255'),try(m.gsplit,'a','\\255',true),try(m.gsplit('a','%')),try(u.gmatch('a','['))",
      "bad argument #1 to 'gmatch' (not UTF-8);bad argument #2 to 'gmatch' (not UTF-8);bad argument #1 to 'gcodepoint' (not UTF-8);bad argument #2 to 'gsplit' (not UTF-8);malformed pattern (1);malformed pattern (2);", profile=True)
-
-
-# ---- each function with each kind of value in each place. `s` is a text, `n` a number, `t` a table, `-` what must be nil, `v` any value; behind
-# `?` a value may be left out, or be nil.
-SIGNATURES = {
-    "": "error=vn? setmetatable=tt? ipairs=t pairs=t next=t rawget=t rawset=t select=n tonumber=sn? unpack=tn?n? require=s",
-    "string": "byte=sn?n? char=nn find=ssn? match=ssn? gmatch=ss format=s len=s lower=s upper=s rep=sn reverse=s sub=snn?",
-    "math": "abs=n ceil=n floor=n fmod=nn max=nn min=nn pow=nn",
-    "table": "concat=ts?n?n? insert=tnt maxn=t remove=tn? sort=t-",
-    "mw": "loadData=s",
-    "mw.ustring": "char=nn codepoint=sn?n? gcodepoint=sn?n? byteoffset=sn?n? find=ssn? match=ssn? gmatch=ss len=s sub=snn? isutf8=s toNFC=s toNFD=s toNFKC=s toNFKD=s",
-    "mw.text": "trim=ss? split=ss gsplit=ss encode=ss? decode=s listToText=ts?s? nowiki=s tag=st? truncate=sns?",
-}
-KINDS = {"s": "string", "n": "number", "t": "table", "-": "nil"}
-GOOD = {"s": "'a'", "n": "1", "t": "{}", "v": "1"}
-VALUES = {"nil": "nil", "boolean": "true", "number": "5", "string": "'x'", "table": "{}", "function": "error"}
-
-
-def is_taken(want, optional, kind):
-    return want == "v" or kind == KINDS[want] or want == "s" and kind == "number" or optional and kind == "nil"
-
-
-# the third argument of `insert` may be anything, and a table as the first one of `tag` has the others as fields
-LEFT_OUT = {("insert", 2): VALUES, ("tag", 0): ["table"]}
-# what has to stand behind a value for it to be looked at
-BEHIND = {("insert", 1): ["{}"], ("tonumber", 0): ["2"]}
-
-
-def sweep(library, signatures):
-    calls, told = [], []
-    for signature in signatures.split():
-        name, letters = signature.split("=")
-        wants = [(c, letters[at + 1:at + 2] == "?") for at, c in enumerate(letters) if c != "?"]
-        for at, (want, optional) in enumerate(wants):
-            before, behind = [GOOD[c] for c, _ in wants[:at]], BEHIND.get((name, at), [])
-            for kind, value in VALUES.items():
-                if not is_taken(want, optional, kind) and kind not in LEFT_OUT.get((name, at), []):
-                    calls.append(f"try({named(library, name)},{','.join([*before, value, *behind])})")
-                    told.append(f"bad argument #{at + 1} to '{name}' ({KINDS[want]} expected, got {kind});")
-    return calls, "".join(told)
-
-
-for library, signatures in SIGNATURES.items():
-    calls, told = sweep(library, signatures)
-    body(f"sweep_of_{library or 'basic'}", "Each kind of value in each place where it is wrong.", TRY + "return " + ",".join(calls), told, profile=True)
-
-
-# ---- the basic functions that take any value, with each kind of it, and all of them without a value
-def each_kind(form, kinds=VALUES):
-    """A call for each kind of value, which stands for `~`."""
-    return ",".join(form.replace("~", VALUES[kind]) for kind in kinds)
-
-
-OF_EACH = [kind for kind in VALUES if kind != "function"]
-says("kinds_of_values", "`type` of each kind of value.", each_kind("type(~)"), "nil boolean number string table function")
-says("numbers_of_values", "`tonumber`, which takes any value where it has no base.", each_kind("tonumber(~)"), "nil nil 5 nil nil nil")
-says("values_themselves", "`rawequal`: two tables differ, all other values are themselves.", each_kind("rawequal(~,~)"), "true true true true false true")
-says("values_among_others", "`select` looks at none of the values that it counts or gives.", each_kind("select('#',~)") + "," + each_kind("type((select(2,1,~)))"),
-     "1 1 1 1 1 1 nil boolean number string table function")
-says("texts_of_values", "`tostring`: a table and a function have their kinds.", each_kind("tostring(~)"), "nil true 5 x table function", profile=True)
-says("metatables_of_values", "Only tables have one.", each_kind("getmetatable(~)") + ",getmetatable(setmetatable({},{__metatable=false}))", "nil nil nil nil nil nil false", profile=True)
-says("copies_of_values", "`mw.clone` copies any value, and `mw.log` gives nothing.", each_kind("type(mw.clone(~))") + "," + each_kind("select('#',mw.log(~))"),
-     "nil boolean number string table function 0 0 0 0 0 0", profile=True)
-says("values_as_keys", "`rawget` looks for any key.", each_kind("rawget({},~)") + "," + each_kind("rawget({[~]=1},~)", ["boolean", "number", "string", "function"]), "nil nil nil nil nil nil 1 1 1 1")
-body("keys_refused", "`rawset` takes any key but nil, and `next` those that are there.", TRY + "return " + each_kind("try(rawset,{},~,1)") + "," + each_kind("try(next,{},~)"),
-     "table index is nil;" + "table;" * 5 + "nil;" + "invalid key to 'next';" * 5, profile=True)
-body("values_raised", "`error` raises any value, and `assert` gives any that counts as true.", TRY + "return " + each_kind("try(error,~)") + "," + each_kind("try(assert,~)"),
-     "nil;true;5;x;table;function;assertion failed!;true;5;x;table;function;", profile=True)
-body("messages_of_assert", "A value of each kind in place of the message; nil has the message that is there without one.", TRY + "return " + each_kind("try(assert,false,~)"),
-     "assertion failed!;true;5;x;table;function;", profile=True)
-body("values_called", "What is no function can't be called, by `pcall` and by `xpcall`.", TRY + "local function same(m) return m end\nreturn " + each_kind("try(~)", OF_EACH) + ","
-     + each_kind("tostring(select(2,xpcall(~,same)))..';'", OF_EACH), "".join(f"attempt to call a {kind} value;" for kind in OF_EACH) * 2, profile=True)
-body("values_as_handlers", "Nor can it handle an error.", "return " + each_kind("tostring(select(2,xpcall(error,~)))..';'", OF_EACH) + ",tostring(select(2,xpcall(error)))",
-     "error in error handling;" * 5 + "error in error handling", profile=True)
-refuses("basic_without_arguments", "The basic functions without an argument: absent is nil where any value may stand.", "", [
-    ("assert", "assertion failed!"), ("error", "nil"), ("getmetatable", "nil"), *wanting("table", "setmetatable ipairs pairs next"), ("pcall", "false"), ("xpcall", "false"),
-    ("rawequal", "true"), *wanting("table", "rawget rawset"), *wanting("number", "select"), ("tonumber", "nil"), ("tostring", "nil"), ("type", "nil"), *wanting("table", "unpack"),
-    *wanting("string", "require")])
-refuses("mw_without_arguments", "Those of `mw`.", "mw", [("clone", "nil"), ("log", "nil"), ("title.getCurrentTitle", "table"), *wanting("string", "loadData"), ("getCurrentFrame", "table")])
