@@ -23,12 +23,12 @@ abbrev pub levels : List Frame → ℕ
 levels fs = sum_of level fs
 
 -- bodies in progress
-abbrev pub body : Frame → ℕ
-body (Body title args) = 1
-body _ = 0
+abbrev pub body_count : Frame → ℕ
+body_count (Body title args) = 1
+body_count _ = 0
 
 abbrev pub bodies : List Frame → ℕ
-bodies fs = sum_of body fs
+bodies fs = sum_of body_count fs
 
 -- constructs that may still begin a body or ask
 abbrev pub chance : Frame → ℕ

@@ -181,7 +181,7 @@ pub fn invoke<'w>(
 /// The held page of namespace Module that a text names.
 fn module_named(alloc: Global, pages: &PageMap, name: &[u8]) -> Result<Option<Title>, NoMemory>
     ensures title { IfOk result (λ title. (page : TitleValue) → title ≡ module_titled (setting_in pages.now page) (title_at name.now Namespace.Module)) }
-    ensures held { IfOk result (λ title. IfSome title (λ t. (t.ns ≡ Namespace.Module) × IsSome (find_page pages.now t))) }
+    ensures held_module { IfOk result (λ title. IfSome title (λ t. (t.ns ≡ Namespace.Module) × IsSome (find_page pages.now t))) }
 {
     let Some(title) = title_named(alloc, name, Namespace::Module)? else {
         return Ok(None);

@@ -5,7 +5,7 @@ ghost use Rattle.expand_texts.specs.Kinds.{kind_in};
 ghost use Rattle.expand_texts.specs.Ropes.{bytes_of};
 ghost use Rattle.wiki_expand.specs.Forests.{parts, size};
 ghost use Rattle.wiki_expand.specs.Points.{wiki_setting, scene_in, behind_first, leaving, waiting, resumed, Leads, Goes};
-ghost use Rattle.wiki_expand.specs.Weights.{level, body, chance, chances, allowed, weight, weights, Keeps, Falls};
+ghost use Rattle.wiki_expand.specs.Weights.{level, body_count, chance, chances, allowed, weight, weights, Keeps, Falls};
 ghost use Rattle.wiki_expand.specs.declared.frame.Frame.{Frame as Waiting};
 ghost use Rattle.wiki_expand.specs.Asked.{AsksWell};
 
@@ -177,7 +177,7 @@ impl<'w> Machine<'w> {
         text: Rope<'w>,
     ) -> Result<Progress<'w>, NoMemory>
         requires depth { left.old.depth + level top < 2 ^ 64 }
-        requires templates { left.old.templates + body top < 2 ^ 64 }
+        requires templates { left.old.templates + body_count top < 2 ^ 64 }
         ensures goes { IfOk result (λ r. Goes wiki.now (resumed wiki.now self.old top.entry text.entry) left.old r self.new left.new) }
         ensures keeps { OnOk result (Keeps left.old (top.entry ∷ self.old.stack) left.new self.new.stack) }
         ensures falls { IfOk result (λ r. Falls (2 + (weight top.entry + weights self.old.stack)) (2 * left.old.nodes + (chance top.entry + chances self.old.stack)) r self.new.stack left.new) }
