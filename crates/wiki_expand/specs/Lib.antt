@@ -4,4 +4,5 @@ pub mod Pages
 pub mod Points
 pub mod Weights
 pub mod Asked
+pub mod Steps
 pub mod Standing

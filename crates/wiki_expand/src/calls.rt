@@ -1,5 +1,5 @@
 //! Arguments, templates and invocations.
-ghost use Rattle.std.specs.Prelude.{◌≡◌, ◌+◌, ◌*◌, ◌<◌, ◌≤◌, ◌∷◌, [], ℕ, List, decimal, IsSome, IfSome, IfOk, OnOk};
+ghost use Rattle.std.specs.Prelude.{◌≡◌, ◌+◌, ◌*◌, ◌≤◌, ◌∷◌, [], ℕ, List, decimal, IsSome, IfSome, IfOk, OnOk};
 ghost use Rattle.mw_frame.specs.declared.scene.Scene.{Scene as SceneValue};
 ghost use Rattle.mw_frame.specs.Scenes.{HaveNames};
 ghost use Rattle.wk_base.specs.declared.left.Left.{Left as LeftOver};
@@ -10,9 +10,9 @@ ghost use Rattle.expand_meaning.specs.Expand.{Setting, Page, Given, none_given, 
 ghost use Rattle.wiki_expand.specs.declared.frame.Frame.{Frame as Waiting};
 ghost use Rattle.wiki_expand.specs.Forests.{trees_in, parts, size, option_trees};
 ghost use Rattle.wiki_expand.specs.Pages.{Pages, find_page, included_in, setting_in};
-ghost use Rattle.wiki_expand.specs.Points.{plug, point, waiting, run_at, scene_in, wiki_setting, finish as finish_of, calling, given_in, unnamed as unnamed_of, with_name, Leads, Goes};
-ghost use Rattle.wiki_expand.specs.Weights.{allowed, weights, point_weight, Calm, Keeps, Falls};
-ghost use Rattle.wiki_expand.specs.Asked.{AsksWell};
+ghost use Rattle.wiki_expand.specs.Points.{plug, waiting, run_at, scene_in, wiki_setting, finish as finish_of, calling, given_in, unnamed as unnamed_of, with_name, Leads};
+ghost use Rattle.wiki_expand.specs.Weights.{allowed, weights, Keeps};
+ghost use Rattle.wiki_expand.specs.Steps.{StepIs, Puts};
 
 use crate::allowances::{enter_body, has_template};
 use crate::forest::{Forest, Nodes};
@@ -45,9 +45,7 @@ fn begin_argument<'w>(
     call: Call<'w>,
     part: Forest<'w>,
 ) -> Result<Focus<'w>, NoMemory>
-    ensures same { IfOk result (λ f. (w : Setting) (sc : SceneValue) → arguments_of (trees_in part.entry ∷ parts call.entry.rest) sc (given_in call.entry) (finish_of w call.entry.purpose sc (plug w stack.old sc)) ≡ point w f stack.new sc) }
-    ensures calm { OnOk result (Calm 1 stack.old stack.new) }
-    ensures light { IfOk result (λ f. point_weight f stack.new ≤ 16 * size call.entry.rest + 16 * size part.entry + 28 + weights stack.old) }
+    ensures { IfOk result (λ f. Puts (λ w sc k. arguments_of (trees_in part.entry ∷ parts call.entry.rest) sc (given_in call.entry) (finish_of w call.entry.purpose sc k)) 1 (16 * size call.entry.rest + 16 * size part.entry + 29 + weights stack.old) stack.old f stack.new) }
 {
     match part.value()? {
         None => {
@@ -144,9 +142,7 @@ pub fn name<'w>(
     value: Forest<'w>,
     text: Rope<'w>,
 ) -> Result<Focus<'w>, NoMemory>
-    ensures same { IfOk result (λ f. (w : Setting) (sc : SceneValue) → expand (trees_in value.entry) sc (λ v. calling w call.entry (with_name call.entry (trim text.entry) (trim v)) sc (plug w stack.old sc)) ≡ point w f stack.new sc) }
-    ensures calm { OnOk result (Calm 1 stack.old stack.new) }
-    ensures light { IfOk result (λ f. point_weight f stack.new ≤ 16 * size call.entry.rest + 8 * size value.entry + 20 + weights stack.old) }
+    ensures { IfOk result (λ f. Puts (λ w sc k. expand (trees_in value.entry) sc (λ v. calling w call.entry (with_name call.entry (trim text.entry) (trim v)) sc k)) 1 (16 * size call.entry.rest + 8 * size value.entry + 21 + weights stack.old) stack.old f stack.new) }
 {
     let text = text.trimmed(alloc)?;
     let name = text.into_vec(alloc)?;
@@ -161,9 +157,7 @@ pub fn invoke<'w>(
     name: Vec<u8>,
     rest: Forest<'w>,
 ) -> Result<Focus<'w>, NoMemory>
-    ensures same { IfOk result (λ f. (w : Setting) (sc : SceneValue) → invoke_of w name.items (parts rest.entry) sc (plug w stack.old sc) ≡ point w f stack.new sc) }
-    ensures calm { OnOk result (Calm 1 stack.old stack.new) }
-    ensures light { IfOk result (λ f. point_weight f stack.new ≤ 16 * size rest.entry + 16 + weights stack.old) }
+    ensures { IfOk result (λ f. Puts (λ w sc k. invoke_of w name.items (parts rest.entry) sc k) 1 (16 * size rest.entry + 17 + weights stack.old) stack.old f stack.new) }
 {
     match rest.take_part()? {
         None => {
@@ -232,9 +226,7 @@ fn invocation<'w>(
     function: Bytes,
     args: Arguments,
 ) -> Result<Progress<'w>, NoMemory>
-    ensures goes { IfOk result (λ r. (stack : List Waiting) (l : LeftOver) → Goes wiki.now (invocation_of (module_titled (wiki_setting wiki.now) (title_at name Namespace.Module)) name function args (scene_in scene.now) (plug (wiki_setting wiki.now) stack (scene_in scene.now))) l r (record { scene = scene.now; stack = stack }) l) }
-    ensures falls { IfOk result (λ r. (stack : List Waiting) (l : LeftOver) → Falls (3 + weights stack) (allowed l stack + 1) r stack l) }
-    ensures asks { IfOk result (λ r. AsksWell wiki.now.pages.now r) }
+    ensures { IfOk result (λ r. (stack : List Waiting) (l : LeftOver) → StepIs wiki.now (invocation_of (module_titled (wiki_setting wiki.now) (title_at name Namespace.Module)) name function args (scene_in scene.now) (plug (wiki_setting wiki.now) stack (scene_in scene.now))) l stack (3 + weights stack) (allowed l stack + 1) r (record { scene = scene.now; stack = stack }) l) }
 {
     let alloc = wiki.alloc;
     match module_named(alloc, wiki.pages, name.as_slice())? {
@@ -299,10 +291,7 @@ impl<'w> Machine<'w> {
         purpose: Purpose<'w>,
         args: Arguments,
     ) -> Result<Progress<'w>, NoMemory>
-        ensures goes { IfOk result (λ r. Goes wiki.now (finish_of (wiki_setting wiki.now) purpose.entry (scene_in self.old.scene) (waiting wiki.now self.old) args) left.old r self.new left.new) }
-        ensures keeps { OnOk result (Keeps left.old self.old.stack left.new self.new.stack) }
-        ensures falls { IfOk result (λ r. Falls (3 + weights self.old.stack) (allowed left.old self.old.stack + 1) r self.new.stack left.new) }
-        ensures asks { IfOk result (λ r. AsksWell wiki.now.pages.now r) }
+        ensures { IfOk result (λ r. StepIs wiki.now (finish_of (wiki_setting wiki.now) purpose.entry (scene_in self.old.scene) (waiting wiki.now self.old) args) left.old self.old.stack (3 + weights self.old.stack) (allowed left.old self.old.stack + 1) r self.new left.new) }
     {
         match purpose {
             Purpose::Invoke(name, function) => {
@@ -323,10 +312,7 @@ impl<'w> Machine<'w> {
         left: &mut Left,
         call: Call<'w>,
     ) -> Result<Progress<'w>, NoMemory>
-        ensures goes { IfOk result (λ r. Goes wiki.now (calling (wiki_setting wiki.now) call.entry (given_in call.entry) (scene_in self.old.scene) (waiting wiki.now self.old)) left.old r self.new left.new) }
-        ensures keeps { OnOk result (Keeps left.old self.old.stack left.new self.new.stack) }
-        ensures falls { IfOk result (λ r. Falls (16 * size call.entry.rest + 16 + weights self.old.stack) (allowed left.old self.old.stack + 1) r self.new.stack left.new) }
-        ensures asks { IfOk result (λ r. AsksWell wiki.now.pages.now r) }
+        ensures { IfOk result (λ r. StepIs wiki.now (calling (wiki_setting wiki.now) call.entry (given_in call.entry) (scene_in self.old.scene) (waiting wiki.now self.old)) left.old self.old.stack (16 * size call.entry.rest + 16 + weights self.old.stack) (allowed left.old self.old.stack + 1) r self.new left.new) }
     {
         let Call {
             purpose,
@@ -360,10 +346,7 @@ impl<'w> Machine<'w> {
         call: Call<'w>,
         text: Rope<'w>,
     ) -> Result<Progress<'w>, NoMemory>
-        ensures goes { IfOk result (λ r. Goes wiki.now (calling (wiki_setting wiki.now) call.entry (unnamed_of call.entry text.entry) (scene_in self.old.scene) (waiting wiki.now self.old)) left.old r self.new left.new) }
-        ensures keeps { OnOk result (Keeps left.old self.old.stack left.new self.new.stack) }
-        ensures falls { IfOk result (λ r. Falls (16 * size call.entry.rest + 16 + weights self.old.stack) (allowed left.old self.old.stack + 1) r self.new.stack left.new) }
-        ensures asks { IfOk result (λ r. AsksWell wiki.now.pages.now r) }
+        ensures { IfOk result (λ r. StepIs wiki.now (calling (wiki_setting wiki.now) call.entry (unnamed_of call.entry text.entry) (scene_in self.old.scene) (waiting wiki.now self.old)) left.old self.old.stack (16 * size call.entry.rest + 16 + weights self.old.stack) (allowed left.old self.old.stack + 1) r self.new left.new) }
     {
         let call = add_unnamed(wiki.alloc, call, text)?;
         let progress = self.arguments(wiki, left, call)?;
@@ -379,10 +362,7 @@ impl<'w> Machine<'w> {
         name: Bytes,
         text: Rope<'w>,
     ) -> Result<Progress<'w>, NoMemory>
-        ensures goes { IfOk result (λ r. Goes wiki.now (calling (wiki_setting wiki.now) call.entry (with_name call.entry name (trim text.entry)) (scene_in self.old.scene) (waiting wiki.now self.old)) left.old r self.new left.new) }
-        ensures keeps { OnOk result (Keeps left.old self.old.stack left.new self.new.stack) }
-        ensures falls { IfOk result (λ r. Falls (16 * size call.entry.rest + 16 + weights self.old.stack) (allowed left.old self.old.stack + 1) r self.new.stack left.new) }
-        ensures asks { IfOk result (λ r. AsksWell wiki.now.pages.now r) }
+        ensures { IfOk result (λ r. StepIs wiki.now (calling (wiki_setting wiki.now) call.entry (with_name call.entry name (trim text.entry)) (scene_in self.old.scene) (waiting wiki.now self.old)) left.old self.old.stack (16 * size call.entry.rest + 16 + weights self.old.stack) (allowed left.old self.old.stack + 1) r self.new left.new) }
     {
         let call = add_named(wiki.alloc, call, name, text)?;
         let progress = self.arguments(wiki, left, call)?;
@@ -397,10 +377,7 @@ impl<'w> Machine<'w> {
         title: Title,
         rest: Forest<'w>,
     ) -> Result<Progress<'w>, NoMemory>
-        ensures goes { IfOk result (λ r. Goes wiki.now (template_of (included_in wiki.now.pages.now title) title (parts rest.entry) (scene_in self.old.scene) (waiting wiki.now self.old)) left.old r self.new left.new) }
-        ensures keeps { OnOk result (Keeps left.old self.old.stack left.new self.new.stack) }
-        ensures falls { IfOk result (λ r. Falls (16 * size rest.entry + 16 + weights self.old.stack) (allowed left.old self.old.stack + 1) r self.new.stack left.new) }
-        ensures asks { IfOk result (λ r. AsksWell wiki.now.pages.now r) }
+        ensures { IfOk result (λ r. StepIs wiki.now (template_of (included_in wiki.now.pages.now title) title (parts rest.entry) (scene_in self.old.scene) (waiting wiki.now self.old)) left.old self.old.stack (16 * size rest.entry + 16 + weights self.old.stack) (allowed left.old self.old.stack + 1) r self.new left.new) }
     {
         let alloc = wiki.alloc;
         let Some(trees) = included(wiki.pages, &title) else {
@@ -436,10 +413,7 @@ impl<'w> Machine<'w> {
         rest: Forest<'w>,
         text: Rope<'w>,
     ) -> Result<Progress<'w>, NoMemory>
-        ensures goes { IfOk result (λ r. Goes wiki.now (arguments_of (parts rest.entry) (scene_in self.old.scene) none_given (λ args. invocation_of (module_titled (wiki_setting wiki.now) (title_at name Namespace.Module)) name (trim text.entry) args (scene_in self.old.scene) (waiting wiki.now self.old))) left.old r self.new left.new) }
-        ensures keeps { OnOk result (Keeps left.old self.old.stack left.new self.new.stack) }
-        ensures falls { IfOk result (λ r. Falls (16 * size rest.entry + 16 + weights self.old.stack) (allowed left.old self.old.stack + 1) r self.new.stack left.new) }
-        ensures asks { IfOk result (λ r. AsksWell wiki.now.pages.now r) }
+        ensures { IfOk result (λ r. StepIs wiki.now (arguments_of (parts rest.entry) (scene_in self.old.scene) none_given (λ args. invocation_of (module_titled (wiki_setting wiki.now) (title_at name Namespace.Module)) name (trim text.entry) args (scene_in self.old.scene) (waiting wiki.now self.old))) left.old self.old.stack (16 * size rest.entry + 16 + weights self.old.stack) (allowed left.old self.old.stack + 1) r self.new left.new) }
     {
         let text = text.trimmed(wiki.alloc)?;
         let function = text.into_vec(wiki.alloc)?;

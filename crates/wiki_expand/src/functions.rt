@@ -1,14 +1,14 @@
 //! The parser functions `#if`, `#ifeq` and `#switch`, and constructs that stand as they are written.
-ghost use Rattle.std.specs.Prelude.{◌≡◌, ◌+◌, ◌*◌, ◌<◌, ◌≤◌, ◌∷◌, ◌++◌, false, cond, codes, IfOk, OnOk};
-ghost use Rattle.mw_frame.specs.declared.scene.Scene.{Scene};
+ghost use Rattle.std.specs.Prelude.{◌≡◌, ◌+◌, ◌*◌, ◌≤◌, ◌∷◌, ◌++◌, false, cond, codes, IfOk};
 ghost use Rattle.wk_base.specs.Space.{trim};
 ghost use Rattle.expand_meaning.specs.Texts.{are_equal as are_equal_to};
-ghost use Rattle.expand_meaning.specs.Expand.{Setting, expand, trimmed, either as either_of, is_text as is_text_of, if_equal as if_equal_of, is_default as is_default_of, by_name, after_turn, valueless as valueless_of, switch as switch_of, nothing_seen, all_parts};
+ghost use Rattle.expand_meaning.specs.Expand.{expand, trimmed, either as either_of, is_text as is_text_of, if_equal as if_equal_of, is_default as is_default_of, by_name, after_turn, valueless as valueless_of, switch as switch_of, nothing_seen, all_parts};
 ghost use Rattle.expand_meaning.specs.Places.{no_part};
 ghost use Rattle.expand_texts.specs.Ropes.{bytes_of};
 ghost use Rattle.wiki_expand.specs.Forests.{trees_in, parts, size};
-ghost use Rattle.wiki_expand.specs.Points.{plug, point, seen_in};
-ghost use Rattle.wiki_expand.specs.Weights.{weights, point_weight, Calm};
+ghost use Rattle.wiki_expand.specs.Points.{seen_in};
+ghost use Rattle.wiki_expand.specs.Weights.{weights};
+ghost use Rattle.wiki_expand.specs.Steps.{Puts};
 
 use crate::forest::Forest;
 use crate::frame::{Focus, Frame, Seen, Switch, Walk};
@@ -27,9 +27,7 @@ fn trimmed_part<'w>(
     stack: &mut Stack<Frame<'w>>,
     part: Forest<'w>,
 ) -> Result<Focus<'w>, NoMemory>
-    ensures same { IfOk result (λ f. (w : Setting) (sc : Scene) → trimmed (expand (trees_in part.entry) sc) (plug w stack.old sc) ≡ point w f stack.new sc) }
-    ensures calm { OnOk result (Calm 0 stack.old stack.new) }
-    ensures light { IfOk result (λ f. point_weight f stack.new ≤ 8 * size part.entry + 5 + weights stack.old) }
+    ensures { IfOk result (λ f. Puts (λ w sc k. trimmed (expand (trees_in part.entry) sc) k) 0 (8 * size part.entry + 6 + weights stack.old) stack.old f stack.new) }
 {
     stack.push(Frame::Trim)?;
     Ok(Focus::Walk(walk(alloc, part)))
@@ -42,9 +40,7 @@ pub fn either<'w>(
     first: bool,
     branches: Forest<'w>,
 ) -> Result<Focus<'w>, NoMemory>
-    ensures same { IfOk result (λ f. (w : Setting) (sc : Scene) → either_of first (parts branches.entry) sc (plug w stack.old sc) ≡ point w f stack.new sc) }
-    ensures calm { OnOk result (Calm 0 stack.old stack.new) }
-    ensures light { IfOk result (λ f. point_weight f stack.new ≤ 8 * size branches.entry + 5 + weights stack.old) }
+    ensures { IfOk result (λ f. Puts (λ w sc k. either_of first (parts branches.entry) sc k) 0 (8 * size branches.entry + 6 + weights stack.old) stack.old f stack.new) }
 {
     let chosen = branches.either(first)?;
     let (part, _) = chosen.head()?;
@@ -69,9 +65,7 @@ pub fn if_equal<'w>(
     left: Vec<u8>,
     rest: Forest<'w>,
 ) -> Result<Focus<'w>, NoMemory>
-    ensures same { IfOk result (λ f. (w : Setting) (sc : Scene) → if_equal_of left.items (parts rest.entry) sc (plug w stack.old sc) ≡ point w f stack.new sc) }
-    ensures calm { OnOk result (Calm 0 stack.old stack.new) }
-    ensures light { IfOk result (λ f. point_weight f stack.new ≤ 16 * size rest.entry + 12 + weights stack.old) }
+    ensures { IfOk result (λ f. Puts (λ w sc k. if_equal_of left.items (parts rest.entry) sc k) 0 (16 * size rest.entry + 13 + weights stack.old) stack.old f stack.new) }
 {
     let (right, branches) = rest.head()?;
     stack.push(Frame::Compare(left, branches))?;
@@ -86,9 +80,7 @@ pub fn compare<'w>(
     branches: Forest<'w>,
     text: Rope<'w>,
 ) -> Result<Focus<'w>, NoMemory>
-    ensures same { IfOk result (λ f. (w : Setting) (sc : Scene) → either_of (are_equal_to left.now (trim text.entry)) (parts branches.entry) sc (plug w stack.old sc) ≡ point w f stack.new sc) }
-    ensures calm { OnOk result (Calm 0 stack.old stack.new) }
-    ensures light { IfOk result (λ f. point_weight f stack.new ≤ 8 * size branches.entry + 5 + weights stack.old) }
+    ensures { IfOk result (λ f. Puts (λ w sc k. either_of (are_equal_to left.now (trim text.entry)) (parts branches.entry) sc k) 0 (8 * size branches.entry + 6 + weights stack.old) stack.old f stack.new) }
 {
     let right = text.into_piece(alloc)?;
     let first = are_equal(left, trim(right.as_slice()));
@@ -102,9 +94,7 @@ pub fn switch<'w>(
     stack: &mut Stack<Frame<'w>>,
     state: Switch<'w>,
 ) -> Result<Focus<'w>, NoMemory>
-    ensures same { IfOk result (λ f. (w : Setting) (sc : Scene) → switch_of state.entry.value.items (parts state.entry.rest) sc (seen_in state.entry.seen) (plug w stack.old sc) ≡ point w f stack.new sc) }
-    ensures calm { OnOk result (Calm 0 stack.old stack.new) }
-    ensures light { IfOk result (λ f. point_weight f stack.new < 16 * size state.entry.rest + 8 * size state.entry.seen.default + 16 + weights stack.old) }
+    ensures { IfOk result (λ f. Puts (λ w sc k. switch_of state.entry.value.items (parts state.entry.rest) sc (seen_in state.entry.seen) k) 0 (16 * size state.entry.rest + 8 * size state.entry.seen.default + 16 + weights stack.old) stack.old f stack.new) }
 {
     let Switch { value, rest, seen } = state;
     match rest.take_part()? {
@@ -127,9 +117,7 @@ fn look_at<'w>(
     state: Switch<'w>,
     part: Forest<'w>,
 ) -> Result<Focus<'w>, NoMemory>
-    ensures same { IfOk result (λ f. (w : Setting) (sc : Scene) → switch_of state.entry.value.items (trees_in part.entry ∷ parts state.entry.rest) sc (seen_in state.entry.seen) (plug w stack.old sc) ≡ point w f stack.new sc) }
-    ensures calm { OnOk result (Calm 0 stack.old stack.new) }
-    ensures light { IfOk result (λ f. point_weight f stack.new ≤ 16 * size state.entry.rest + 16 * size part.entry + 8 * size state.entry.seen.default + 20 + weights stack.old) }
+    ensures { IfOk result (λ f. Puts (λ w sc k. switch_of state.entry.value.items (trees_in part.entry ∷ parts state.entry.rest) sc (seen_in state.entry.seen) k) 0 (16 * size state.entry.rest + 16 * size part.entry + 8 * size state.entry.seen.default + 21 + weights stack.old) stack.old f stack.new) }
 {
     match part.value()? {
         None => {
@@ -197,9 +185,7 @@ pub fn case<'w>(
     value: Forest<'w>,
     text: Rope<'w>,
 ) -> Result<Focus<'w>, NoMemory>
-    ensures same { IfOk result (λ f. (w : Setting) (sc : Scene) → by_name state.entry.value.items (trim text.entry) (trees_in value.entry) sc (seen_in state.entry.seen) (λ t. after_turn t (switch_of state.entry.value.items (parts state.entry.rest) sc) (plug w stack.old sc)) ≡ point w f stack.new sc) }
-    ensures calm { OnOk result (Calm 0 stack.old stack.new) }
-    ensures light { IfOk result (λ f. point_weight f stack.new < 16 * size state.entry.rest + 8 * size value.entry + 8 * size state.entry.seen.default + 16 + weights stack.old) }
+    ensures { IfOk result (λ f. Puts (λ w sc k. by_name state.entry.value.items (trim text.entry) (trees_in value.entry) sc (seen_in state.entry.seen) (λ t. after_turn t (switch_of state.entry.value.items (parts state.entry.rest) sc) k)) 0 (16 * size state.entry.rest + 8 * size value.entry + 8 * size state.entry.seen.default + 16 + weights stack.old) stack.old f stack.new) }
 {
     let text = text.into_piece(alloc)?;
     let name = trim(text.as_slice());
@@ -220,9 +206,7 @@ pub fn valueless<'w>(
     state: Switch<'w>,
     text: Rope<'w>,
 ) -> Result<Focus<'w>, NoMemory>
-    ensures same { IfOk result (λ f. (w : Setting) (sc : Scene) → after_turn (valueless_of state.entry.value.items (trim text.entry) (no_part (parts state.entry.rest)) (seen_in state.entry.seen)) (switch_of state.entry.value.items (parts state.entry.rest) sc) (plug w stack.old sc) ≡ point w f stack.new sc) }
-    ensures calm { OnOk result (Calm 0 stack.old stack.new) }
-    ensures light { IfOk result (λ f. point_weight f stack.new < 16 * size state.entry.rest + 8 * size state.entry.seen.default + 16 + weights stack.old) }
+    ensures { IfOk result (λ f. Puts (λ w sc k. after_turn (valueless_of state.entry.value.items (trim text.entry) (no_part (parts state.entry.rest)) (seen_in state.entry.seen)) (switch_of state.entry.value.items (parts state.entry.rest) sc) k) 0 (16 * size state.entry.rest + 8 * size state.entry.seen.default + 16 + weights stack.old) stack.old f stack.new) }
 {
     let text = text.trimmed(alloc)?;
     let waits = state.seen.waits || text.is(b"#default");
@@ -252,9 +236,7 @@ pub fn written<'w>(
     rest: Forest<'w>,
     out: Rope<'w>,
 ) -> Result<Focus<'w>, NoMemory>
-    ensures same { IfOk result (λ f. (w : Setting) (sc : Scene) → all_parts (parts rest.entry) sc out.entry (λ text. plug w stack.old sc (text ++ codes "}}")) ≡ point w f stack.new sc) }
-    ensures calm { OnOk result (Calm 0 stack.old stack.new) }
-    ensures light { IfOk result (λ f. point_weight f stack.new < 16 * size rest.entry + 8 + weights stack.old) }
+    ensures { IfOk result (λ f. Puts (λ w sc k. all_parts (parts rest.entry) sc out.entry (λ text. k (text ++ codes "}}"))) 0 (16 * size rest.entry + 8 + weights stack.old) stack.old f stack.new) }
 {
     let mut out = out;
     match rest.take_part()? {
@@ -281,9 +263,7 @@ pub fn begin_written<'w>(
     rest: Forest<'w>,
     first: Piece<'w>,
 ) -> Result<Focus<'w>, NoMemory>
-    ensures same { IfOk result (λ f. (w : Setting) (sc : Scene) → all_parts (parts rest.entry) sc (codes "{{" ++ bytes_of first.entry) (λ out. plug w stack.old sc (out ++ codes "}}")) ≡ point w f stack.new sc) }
-    ensures calm { OnOk result (Calm 0 stack.old stack.new) }
-    ensures light { IfOk result (λ f. point_weight f stack.new < 16 * size rest.entry + 8 + weights stack.old) }
+    ensures { IfOk result (λ f. Puts (λ w sc k. all_parts (parts rest.entry) sc (codes "{{" ++ bytes_of first.entry) (λ out. k (out ++ codes "}}"))) 0 (16 * size rest.entry + 8 + weights stack.old) stack.old f stack.new) }
 {
     let mut out = fixed(alloc, b"{{")?;
     out.push(first)?;
@@ -298,9 +278,7 @@ pub fn begin_switch<'w>(
     rest: Forest<'w>,
     text: &[u8],
 ) -> Result<Focus<'w>, NoMemory>
-    ensures same { IfOk result (λ f. (w : Setting) (sc : Scene) → switch_of (trim text.now) (parts rest.entry) sc nothing_seen (plug w stack.old sc) ≡ point w f stack.new sc) }
-    ensures calm { OnOk result (Calm 0 stack.old stack.new) }
-    ensures light { IfOk result (λ f. point_weight f stack.new < 16 * size rest.entry + 16 + weights stack.old) }
+    ensures { IfOk result (λ f. Puts (λ w sc k. switch_of (trim text.now) (parts rest.entry) sc nothing_seen k) 0 (16 * size rest.entry + 16 + weights stack.old) stack.old f stack.new) }
 {
     let value = trimmed(alloc, text)?;
     let default = rest.none()?;

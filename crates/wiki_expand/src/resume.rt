@@ -4,10 +4,10 @@ ghost use Rattle.expand_meaning.specs.Expand.{Setting, Page, by_kind as kind_par
 ghost use Rattle.expand_texts.specs.Kinds.{kind_in};
 ghost use Rattle.expand_texts.specs.Ropes.{bytes_of};
 ghost use Rattle.wiki_expand.specs.Forests.{parts, size};
-ghost use Rattle.wiki_expand.specs.Points.{wiki_setting, scene_in, behind_first, leaving, waiting, resumed, Leads, Goes};
-ghost use Rattle.wiki_expand.specs.Weights.{level, body_count, chance, chances, allowed, weight, weights, Keeps, Falls};
+ghost use Rattle.wiki_expand.specs.Points.{wiki_setting, scene_in, behind_first, leaving, waiting, resumed, Leads};
+ghost use Rattle.wiki_expand.specs.Weights.{level, body_count, chance, chances, allowed, weight, weights};
 ghost use Rattle.wiki_expand.specs.declared.frame.Frame.{Frame as Waiting};
-ghost use Rattle.wiki_expand.specs.Asked.{AsksWell};
+ghost use Rattle.wiki_expand.specs.Steps.{StepIs};
 
 use crate::calls::{invoke, made, name};
 use crate::forest::Forest;
@@ -80,10 +80,7 @@ impl<'w> Machine<'w> {
         text: Rope<'w>,
     ) -> Result<Progress<'w>, NoMemory>
         requires { left.old.depth + 1 < 2 ^ 64 }
-        ensures goes { IfOk result (λ r. Goes wiki.now (resumed wiki.now self.old (Waiting.Parameter rest.entry) text.entry) left.old r self.new left.new) }
-        ensures keeps { OnOk result (Keeps left.old (Waiting.Parameter rest.entry ∷ self.old.stack) left.new self.new.stack) }
-        ensures falls { IfOk result (λ r. Falls (16 * size rest.entry + 10 + weights self.old.stack) (allowed left.old self.old.stack) r self.new.stack left.new) }
-        ensures asks { IfOk result (λ r. AsksWell wiki.now.pages.now r) }
+        ensures { IfOk result (λ r. StepIs wiki.now (resumed wiki.now self.old (Waiting.Parameter rest.entry) text.entry) left.old (Waiting.Parameter rest.entry ∷ self.old.stack) (16 * size rest.entry + 10 + weights self.old.stack) (allowed left.old self.old.stack) r self.new left.new) }
     {
         let alloc = wiki.alloc;
         let name = text.into_piece(alloc)?;
@@ -111,10 +108,7 @@ impl<'w> Machine<'w> {
         rest: Forest<'w>,
         first: &Piece<'w>,
     ) -> Result<Progress<'w>, NoMemory>
-        ensures goes { IfOk result (λ r. Goes wiki.now (kind_part (wiki_setting wiki.now) (kind_in kind.entry) (bytes_of first.now) (parts rest.entry) (scene_in self.old.scene) (waiting wiki.now self.old)) left.old r self.new left.new) }
-        ensures keeps { OnOk result (Keeps left.old self.old.stack left.new self.new.stack) }
-        ensures falls { IfOk result (λ r. Falls (16 * size rest.entry + 17 + weights self.old.stack) (allowed left.old self.old.stack + 1) r self.new.stack left.new) }
-        ensures asks { IfOk result (λ r. AsksWell wiki.now.pages.now r) }
+        ensures { IfOk result (λ r. StepIs wiki.now (kind_part (wiki_setting wiki.now) (kind_in kind.entry) (bytes_of first.now) (parts rest.entry) (scene_in self.old.scene) (waiting wiki.now self.old)) left.old self.old.stack (16 * size rest.entry + 17 + weights self.old.stack) (allowed left.old self.old.stack + 1) r self.new left.new) }
     {
         let alloc = wiki.alloc;
         match kind {
@@ -156,10 +150,7 @@ impl<'w> Machine<'w> {
         rest: Forest<'w>,
         text: Rope<'w>,
     ) -> Result<Progress<'w>, NoMemory>
-        ensures goes { IfOk result (λ r. Goes wiki.now (resumed wiki.now self.old (Waiting.First rest.entry) text.entry) left.old r self.new left.new) }
-        ensures keeps { OnOk result (Keeps left.old self.old.stack left.new self.new.stack) }
-        ensures falls { IfOk result (λ r. Falls (16 * size rest.entry + 17 + weights self.old.stack) (allowed left.old self.old.stack + 1) r self.new.stack left.new) }
-        ensures asks { IfOk result (λ r. AsksWell wiki.now.pages.now r) }
+        ensures { IfOk result (λ r. StepIs wiki.now (resumed wiki.now self.old (Waiting.First rest.entry) text.entry) left.old self.old.stack (16 * size rest.entry + 17 + weights self.old.stack) (allowed left.old self.old.stack + 1) r self.new left.new) }
     {
         let alone = rest.is_over()?;
         let first = text.into_piece(wiki.alloc)?;
@@ -178,10 +169,7 @@ impl<'w> Machine<'w> {
     ) -> Result<Progress<'w>, NoMemory>
         requires depth { left.old.depth + level top < 2 ^ 64 }
         requires templates { left.old.templates + body_count top < 2 ^ 64 }
-        ensures goes { IfOk result (λ r. Goes wiki.now (resumed wiki.now self.old top.entry text.entry) left.old r self.new left.new) }
-        ensures keeps { OnOk result (Keeps left.old (top.entry ∷ self.old.stack) left.new self.new.stack) }
-        ensures falls { IfOk result (λ r. Falls (2 + (weight top.entry + weights self.old.stack)) (2 * left.old.nodes + (chance top.entry + chances self.old.stack)) r self.new.stack left.new) }
-        ensures asks { IfOk result (λ r. AsksWell wiki.now.pages.now r) }
+        ensures { IfOk result (λ r. StepIs wiki.now (resumed wiki.now self.old top.entry text.entry) left.old (top.entry ∷ self.old.stack) (2 + (weight top.entry + weights self.old.stack)) (2 * left.old.nodes + (chance top.entry + chances self.old.stack)) r self.new left.new) }
     {
         let alloc = wiki.alloc;
         match top {

@@ -1,5 +1,5 @@
 //! Going through trees from the left, and opening the constructs and parameters that stand in them.
-ghost use Rattle.std.specs.Prelude.{◌≡◌, ◌+◌, ◌*◌, ◌++◌, ℕ, List, cond, length, IfOk, OnOk};
+ghost use Rattle.std.specs.Prelude.{◌≡◌, ◌+◌, ◌*◌, ◌++◌, ℕ, List, cond, length, IfOk};
 ghost use Rattle.mw_frame.specs.declared.scene.Scene.{Scene};
 ghost use Rattle.page_run.specs.Run.{TakeBytes, Uses};
 ghost use Rattle.page_run.specs.Part.{open_or};
@@ -7,9 +7,9 @@ ghost use Rattle.expand_meaning.specs.Texts.{node_text as no_node, size_text as 
 ghost use Rattle.expand_meaning.specs.Places.{name_in};
 ghost use Rattle.expand_meaning.specs.Expand.{Setting, Thing, AConstruct, AParameter, Page, Doing, expand, onward, sized as sized_part, deeper, thing_text};
 ghost use Rattle.wiki_expand.specs.Forests.{trees_in, parts, size};
-ghost use Rattle.wiki_expand.specs.Points.{Leads, Opens_to, Takes_of, Goes, waiting, scene_in, ahead};
-ghost use Rattle.wiki_expand.specs.Asked.{AsksWell};
-ghost use Rattle.wiki_expand.specs.Weights.{allowed, weights, Keeps, Falls};
+ghost use Rattle.wiki_expand.specs.Points.{Leads, Opens_to, Takes_of, waiting, scene_in, ahead};
+ghost use Rattle.wiki_expand.specs.Steps.{StepIs};
+ghost use Rattle.wiki_expand.specs.Weights.{allowed, weights};
 
 use crate::allowances::{enter_level, take_bytes, take_node};
 use crate::forest::{Forest, Split};
@@ -101,10 +101,7 @@ impl<'w> Machine<'w> {
         left: &mut Left,
         inside: Forest<'w>,
     ) -> Result<Progress<'w>, NoMemory>
-        ensures goes { IfOk result (λ r. Goes wiki.now (open_or tt no_node (AConstruct (parts inside.entry) (scene_in self.old.scene)) (waiting wiki.now self.old)) left.old r self.new left.new) }
-        ensures keeps { OnOk result (Keeps left.old self.old.stack left.new self.new.stack) }
-        ensures falls { IfOk result (λ r. Falls (3 + weights self.old.stack) (allowed left.old self.old.stack) r self.new.stack left.new) }
-        ensures asks { IfOk result (λ r. AsksWell wiki.now.pages.now r) }
+        ensures { IfOk result (λ r. StepIs wiki.now (open_or tt no_node (AConstruct (parts inside.entry) (scene_in self.old.scene)) (waiting wiki.now self.old)) left.old self.old.stack (3 + weights self.old.stack) (allowed left.old self.old.stack) r self.new left.new) }
     {
         match enter(wiki.alloc, left)? {
             Entry::NoNode(text) => Ok(Progress::On(Focus::Text(text))),
@@ -125,10 +122,7 @@ impl<'w> Machine<'w> {
         left: &mut Left,
         inside: Forest<'w>,
     ) -> Result<Progress<'w>, NoMemory>
-        ensures goes { IfOk result (λ r. Goes wiki.now (open_or tt no_node (AParameter (parts inside.entry) (scene_in self.old.scene)) (waiting wiki.now self.old)) left.old r self.new left.new) }
-        ensures keeps { OnOk result (Keeps left.old self.old.stack left.new self.new.stack) }
-        ensures falls { IfOk result (λ r. Falls (3 + weights self.old.stack) (allowed left.old self.old.stack) r self.new.stack left.new) }
-        ensures asks { IfOk result (λ r. AsksWell wiki.now.pages.now r) }
+        ensures { IfOk result (λ r. StepIs wiki.now (open_or tt no_node (AParameter (parts inside.entry) (scene_in self.old.scene)) (waiting wiki.now self.old)) left.old self.old.stack (3 + weights self.old.stack) (allowed left.old self.old.stack) r self.new left.new) }
     {
         match enter(wiki.alloc, left)? {
             Entry::NoNode(text) => Ok(Progress::On(Focus::Text(text))),
@@ -148,10 +142,7 @@ impl<'w> Machine<'w> {
         left: &mut Left,
         walk: Walk<'w>,
     ) -> Result<Progress<'w>, NoMemory>
-        ensures goes { IfOk result (λ r. Goes wiki.now (onward (ahead walk.entry) (scene_in self.old.scene) walk.entry.out (waiting wiki.now self.old)) left.old r self.new left.new) }
-        ensures keeps { OnOk result (Keeps left.old self.old.stack left.new self.new.stack) }
-        ensures falls { IfOk result (λ r. Falls (8 * size walk.entry.rest + 4 + weights self.old.stack) (allowed left.old self.old.stack) r self.new.stack left.new) }
-        ensures asks { IfOk result (λ r. AsksWell wiki.now.pages.now r) }
+        ensures { IfOk result (λ r. StepIs wiki.now (onward (ahead walk.entry) (scene_in self.old.scene) walk.entry.out (waiting wiki.now self.old)) left.old self.old.stack (8 * size walk.entry.rest + 4 + weights self.old.stack) (allowed left.old self.old.stack) r self.new left.new) }
     {
         let Walk { rest, named, out } = walk;
         let mut out = out;

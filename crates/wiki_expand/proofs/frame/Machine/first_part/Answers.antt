@@ -1,4 +1,4 @@
-use Rattle.std.proofs.Common.{◌≡◌, ◌∙◌, ap, sym}
+use Rattle.std.proofs.Common.{◌≡◌, ◌∙◌, ap, sym, arith}
 use Rattle.wk_base.specs.Space.{trim}
 use Rattle.expand_meaning.specs.Kind.{kind_of}
 use Rattle.expand_meaning.specs.Places.{no_part}
@@ -7,16 +7,17 @@ use Rattle.expand_texts.specs.Kinds.{kind_in}
 use Rattle.expand_texts.specs.Ropes.{bytes_of}
 use Rattle.wiki_expand.specs.Forests.{parts}
 use Rattle.wiki_expand.specs.Points.{wiki_setting, scene_in, waiting}
-use Rattle.wiki_expand.proofs.Moves.{goes_on, stays}
+use Rattle.wiki_expand.proofs.Moves.{stays}
+use Rattle.wiki_expand.proofs.StepLaws.{step_from}
 use Rattle.wiki_expand.proofs.frame.Machine.first_part.Goals as goal
 
-pub returns-clause-goes : goal.returns-clause-goes
-returns-clause-goes c =
+pub returns : goal.returns
+returns c =
     let text : c.trim.result.now ≡ trim c.args.text = c.trim.ensures ∙ ap trim (c.as_slice.ensures ∙ c.in_ok-first.ensures) in
     let kind : kind_in c.in_ok-kind.kind ≡ kind_of (no_part (parts c.args.rest)) c.args.wiki.now.page (trim c.args.text) =
     c.in_ok-kind.ensures ∙ ap (λ b. kind_of b c.args.wiki.now.page c.trim.result.now) c.in_ok-alone.ensures ∙ ap (kind_of (no_part (parts c.args.rest)) c.args.wiki.now.page) text in
-    goes_on (wiki_setting c.args.wiki.now) _ _ c.args.left.now c.args.left.now c.by_kind.new.left c.in_ok-progress.progress c.by_kind.new.self.stack (scene_in c.by_kind.new.self.scene)
+    step_from c.args.wiki.now _ _ c.args.left.now _ _ _ _ _ _ _ _
     (stays (wiki_setting c.args.wiki.now) _ _ c.args.left.now (sym (
     ap (λ k. by_kind (wiki_setting c.args.wiki.now) k (bytes_of c.in_ok-first.first) (parts c.args.rest) (scene_in c.args.self.now.scene) (waiting c.args.wiki.now c.args.self.now)) kind
     ∙ ap (λ x. by_kind (wiki_setting c.args.wiki.now) (kind_of (no_part (parts c.args.rest)) c.args.wiki.now.page (trim c.args.text)) x (parts c.args.rest) (scene_in c.args.self.now.scene) (waiting c.args.wiki.now c.args.self.now)) c.in_ok-first.ensures)))
-    c.in_ok-progress.ensures.goes
+    (omega arith) (omega arith) c.in_ok-progress.ensures

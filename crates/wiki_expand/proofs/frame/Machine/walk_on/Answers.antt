@@ -1,16 +1,20 @@
-use Rattle.wiki_expand.specs.Points.{wiki_setting, scene_in, waiting}
-use Rattle.wiki_expand.proofs.Moves.{goes_on, stays}
+use Rattle.std.proofs.Common.{◌+◌, ◌<◌, refl, arith}
+use Rattle.wiki_expand.specs.Forests.{size}
+use Rattle.wiki_expand.specs.Points.{scene_in, waiting}
+use Rattle.wiki_expand.proofs.StepLaws.{step_inside}
 use Rattle.wiki_expand.proofs.PointLaws.{walk_construct, walk_parameter}
 use Rattle.wiki_expand.proofs.frame.Machine.walk_on.Goals as goal
 
-pub returns-in-Construct-clause-goes : goal.returns-in-Construct-clause-goes
-returns-in-Construct-clause-goes c =
-    goes_on (wiki_setting c.args.wiki.now) _ _ c.args.left.now c.args.left.now c.open_construct.new.left c.in_ok-progress-in-Construct.progress c.open_construct.new.self.stack (scene_in c.open_construct.new.self.scene)
-    (stays (wiki_setting c.args.wiki.now) _ _ c.args.left.now (walk_construct c.args.walk.named _ _ _ (scene_in c.args.self.now.scene) c.args.walk.out (waiting c.args.wiki.now c.args.self.now) (rw c.in-Construct.is at c.in_ok-split.ensures.splits)))
-    (rw c.in_ok-push-in-Construct.ensures at c.in_ok-progress-in-Construct.ensures.goes)
+pub returns-in-Construct : goal.returns-in-Construct
+returns-in-Construct c =
+    let falls : size c.in-Construct.inside + size c.in-Construct.rest < size c.args.walk.rest = rw c.in-Construct.is at c.in_ok-split.ensures.falls in
+    step_inside c.args.wiki.now _ _ c.args.left.now _ _ _ _ (size c.args.walk.rest) _ _
+    (walk_construct c.args.walk.named _ _ _ (scene_in c.args.self.now.scene) c.args.walk.out (waiting c.args.wiki.now c.args.self.now) (rw c.in-Construct.is at c.in_ok-split.ensures.splits)) refl (omega (arith, falls))
+    (rw c.in_ok-push-in-Construct.ensures at c.in_ok-progress-in-Construct.ensures)
 
-pub returns-clause-goes : goal.returns-clause-goes
-returns-clause-goes c =
-    goes_on (wiki_setting c.args.wiki.now) _ _ c.args.left.now c.args.left.now c.open_parameter.new.left c.in_ok-progress-in-Parameter.progress c.open_parameter.new.self.stack (scene_in c.open_parameter.new.self.scene)
-    (stays (wiki_setting c.args.wiki.now) _ _ c.args.left.now (walk_parameter c.args.walk.named _ _ _ (scene_in c.args.self.now.scene) c.args.walk.out (waiting c.args.wiki.now c.args.self.now) (rw c.in-Parameter.is at c.in_ok-split.ensures.splits)))
-    (rw c.in_ok-push-in-Parameter.ensures at c.in_ok-progress-in-Parameter.ensures.goes)
+pub returns : goal.returns
+returns c =
+    let falls : size c.in-Parameter.inside + size c.in-Parameter.rest < size c.args.walk.rest = rw c.in-Parameter.is at c.in_ok-split.ensures.falls in
+    step_inside c.args.wiki.now _ _ c.args.left.now _ _ _ _ (size c.args.walk.rest) _ _
+    (walk_parameter c.args.walk.named _ _ _ (scene_in c.args.self.now.scene) c.args.walk.out (waiting c.args.wiki.now c.args.self.now) (rw c.in-Parameter.is at c.in_ok-split.ensures.splits)) refl (omega (arith, falls))
+    (rw c.in_ok-push-in-Parameter.ensures at c.in_ok-progress-in-Parameter.ensures)
