@@ -1,5 +1,5 @@
 -- The points that a construct goes through.
-use Rattle.std.proofs.Common.{◌≡◌, ℕ, Bool, true, false, cond, List, [], ◌∷◌, ◌++◌, refl, sym, ap, ◌∙◌}
+use Rattle.std.proofs.Common.{◌≡◌, ℕ, Bool, true, false, cond, List, ◌∷◌, ◌++◌, refl, sym, ap, ◌∙◌}
 use Rattle.wk_base.specs.Space.{trim}
 use Rattle.page_run.specs.Part.{open_or}
 use Rattle.wiki_markup.specs.Trees.{Trees, node}

@@ -1,5 +1,5 @@
 -- The find_page pages, by title.
-use Rattle.std.specs.Prelude.{ℕ, List, Option, option_map}
+use Rattle.std.specs.Prelude.{List, Option, option_map}
 use Rattle.std.specs.Map.{lookup}
 use Rattle.wk_base.specs.declared.title.Title.{Title}
 use Rattle.wk_base.specs.contracts.title.TitlePartialEq.TheImpl as titles

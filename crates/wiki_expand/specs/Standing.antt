@@ -1,5 +1,5 @@
 -- An expander at a point of a run.
-use Rattle.std.specs.Prelude.{◌≡◌, ℕ, ◌+◌, ◌<◌, ◌≤◌, List, [], ◌∷◌, ◌++◌, Option, Some, None, IsSome, option_map}
+use Rattle.std.specs.Prelude.{◌≡◌, ℕ, ◌<◌, ◌≤◌, List, [], ◌∷◌, ◌++◌, Option, Some, None, IsSome, option_map}
 use Rattle.wk_base.specs.declared.left.Left.{Left}
 use Rattle.wk_base.specs.declared.title.Title.{Title}
 use Rattle.mw_frame.specs.declared.scene.Scene.{Scene}
