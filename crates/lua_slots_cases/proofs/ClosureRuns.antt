@@ -45,8 +45,10 @@ counters_is_code = (
                         (
                           (
                             ((codes "n") ∷ [], counters_3, refl, (more _ _ _ _ (record { here = refl; celled = refl }) none), (refl, tt, (((refl, tt), ((refl, refl, refl, refl), tt)), ((refl, tt), tt)))),
-                            ((codes "n") ∷ [], counters_4, refl, (more _ _ _ _ (record { here = refl; celled = refl }) none), (refl, tt, ((refl, tt), tt))),
-                            tt,
+                            (
+                              ((codes "n") ∷ [], counters_4, refl, (more _ _ _ _ (record { here = refl; celled = refl }) none), (refl, tt, ((refl, tt), tt))),
+                              tt,
+                            ),
                           ),
                           tt,
                         ),
