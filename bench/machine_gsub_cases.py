@@ -1,6 +1,6 @@
 """Cases by hand of `string.gsub` and `mw.ustring.gsub`, behind those of `machine_text_cases.py`. Ends are those of the manual, of Lua 5.1 (all
 that aren't marked `profile`), and of Scribunto; steps are counted by docs/RULES.md. Bytes of texts are written as such."""
-from machine_cases import AMPLE, CALLS, body, deep
+from machine_cases import AMPLE, CALLS, body, down
 from machine_text_cases import TRY, counted, says
 
 SPENT = [("exact", AMPLE, CALLS, [], "spends steps, 0 left")]
@@ -52,7 +52,7 @@ body("gsub_of_what_changes", "The table that is asked may change, and the subjec
 body("gsub_of_an_object", "A table that can be called is a table here.", "return (('ab'):gsub('.',setmetatable({a='x'},{__call=function() return 'y' end})))", "xb")
 body("gsub_changes_globals", "What a function does stays where a later one has an error.", "local n=0\nlocal ok=pcall(string.gsub,'aaa','a',function() n=n+1 if n==2 then error('') end end)\nreturn n", "2")
 body("gsub_return_in_a_loop", "A loop in the function ends with its return.", "return (('abc'):gsub('.',function(c) for i=1,3 do if i==2 then return c..i end end end))", "a2b2c2")
-deep("deep_gsub", "`gsub` and the function that it calls: two calls a level.", "local n=9\nlocal function g() if n==0 then return 'end' end n=n-1 return (('x'):gsub('x',g)) end\nreturn g()", 20)
+down("deep_gsub", "`gsub` and the function that it calls: two calls a level.", "local n=~\nlocal function g() if n==0 then return 'end' end n=n-1 return (('x'):gsub('x',g)) end\nreturn g()", 2, 2)
 
 # ---- over code points
 says("ustring_gsub_matches", "Code points, classes by category, and places that count code points.",

@@ -20,8 +20,8 @@ from machine_reference import World, in_thread, run_of, shown
 CRATE = pathlib.Path(__file__).resolve().parent.parent / "crates" / "lua_machine_cases"
 CALLS = 20000
 AMPLE = 10_000_000
-# a case that takes no more steps is run with each number of them
-FEW = 5000
+# a case by hand that takes no more steps is run with each number of them
+FEW = 2500
 
 HARNESS = """
 local name = ...
@@ -122,7 +122,7 @@ class Case:
 
     def __init__(self, name, modules, said="", work="invoke", invoked=None, args=(), parent=False, profile=True):
         self.name, self.modules, self.said, self.work, self.args = name, modules, said, work, list(args)
-        self.invoked, self.parent, self.profile, self.runs, self.nodes = invoked or modules[0][0], parent, profile, [], None
+        self.invoked, self.parent, self.profile, self.runs, self.nodes, self.ends = invoked or modules[0][0], parent, profile, [], None, {}
 
     def scenes(self):
         chain = [b"Template:T"] if self.parent else []
@@ -131,6 +131,13 @@ class Case:
         return own, around
 
     def reference(self, steps=AMPLE, calls=CALLS, replies=()):
+        """What `machine_reference.py` comes to, once for the same allowances and replies."""
+        asked = (steps, calls, repr(replies))
+        if asked not in self.ends:
+            self.ends[asked] = self.run(steps, calls, replies)
+        return self.ends[asked]
+
+    def run(self, steps, calls, replies):
         if not hasattr(self, "world"):
             self.world = World({b"Module:" + n.encode(): t.encode("latin-1") for n, t in self.modules})
         title = b"Module:" + self.invoked.encode()
@@ -197,7 +204,7 @@ def all_cases():
     import machine_gsub_cases  # noqa: F401 (adds its cases)
     import machine_argument_cases  # noqa: F401 (adds its cases)
     examples = [of_example(example) for _, _, examples in FILES for example in examples]
-    return [with_every(case, "all") for case in examples] + [with_every(of_hand(hand), "every") for hand in CASES]
+    return [with_every(case, "all", AMPLE) for case in examples] + [with_every(of_hand(hand), "every", AMPLE if hand["every"] else FEW) for hand in CASES]
 
 
 def of_hand(hand):
@@ -212,9 +219,9 @@ def of_hand(hand):
     return case
 
 
-def with_every(case, word):
+def with_every(case, word, most):
     """The case with a line for each row of replies: runs with each number of steps, from 0 (`all`) or from 1,000 on (`every`), where it comes
-    to an end within few. An answer that leaves a number of steps takes one step there."""
+    to an end within so many. An answer that leaves a number of steps takes one step there."""
     seen = []
     for _, _, calls, replies, said in list(case.runs):
         told = [told for told, _ in replies]
@@ -222,7 +229,7 @@ def with_every(case, word):
             seen.append(told)
             replies = [(told, left if left.startswith("-") else "-1") for told, left in replies]
             taken = case.reference(AMPLE, calls, replies).taken
-            if taken <= FEW:
+            if taken <= most:
                 case.runs.append((word, AMPLE, calls, replies, f"{case.name}: {word}: from {taken} on"))
     return case
 

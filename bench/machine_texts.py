@@ -291,7 +291,8 @@ def table_functions(run):
             parts.append(text_in(t.get(n)))
             if parts[-1] is None:
                 run.raise_at(ls, b"invalid value (at index %d) in table for 'concat'" % n)
-        return giving(run, between.join(parts))
+        run.tick(sum(map(len, parts)) + len(between) * max(len(parts) - 1, 0))
+        return [between.join(parts)]
 
     def insert_at(t, place, moved, value, ls):
         if place + moved > MOST:
