@@ -2,7 +2,7 @@
 the ends of the numbers, bytes that are no UTF-8, NUL, and tables with themselves in them. What is told of a wrong argument follows from
 docs/RULES.md."""
 from machine_cases import body
-from machine_text_cases import SAY, TRY, refuses, says, wanting
+from machine_text_cases import TRY, refuses, says, wanting
 
 # ---- each function with each kind of value in each place. What a place wants: `s` a text, `n` a number, `t` a table, `o` an object of
 # `mw.html`, `f` a frame, `r` what `gsub` puts in the place of a match, `-` nil, `v` any value; behind `?` a value may be left out, or be nil.

@@ -6,7 +6,7 @@ import functools
 import re
 import unicodedata
 
-from machine_library import a_number, a_table, a_text, bad, got, tag_by, want
+from machine_library import a_number, a_table, a_text, bad, tag_by, want
 from machine_values import LEAST, MOST, Table, first, is_true, kind_of, nth, number_in, text_in
 from pattern_reference import Fault, Reader, Search, symbols
 
