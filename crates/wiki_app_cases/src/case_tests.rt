@@ -1,6 +1,6 @@
 //! The cases of `cases`, `invocations` and `many`, each a run of the top call over a folder in memory.
 
-use crate::{cases, invocations, many};
+use crate::{cases, command_lines, invocations, many};
 use case_text::unescaped;
 use std::alloc::{AllocError, Global};
 use std::hash::RandomState;
@@ -226,7 +226,7 @@ fn each_command_line_has_its_status(rt: HostRuntime) -> Result<(), Fail> {
         title: "P",
         text: "{{!}}",
     }];
-    for line in cases::command_lines().split('\n') {
+    for line in command_lines::table().split('\n') {
         if let Some((status, words)) = line.split_once(' ') {
             let words = words_of(rt.alloc(), words)?;
             let ran = outcome(&rt, rt.alloc(), fixed_seed()?, words.as_slice(), &pages)?;

@@ -1,6 +1,7 @@
 //! Tests of the program's top call, apart from it since tests are proved together with the whole of their crate.
 //!
 //! - `cases`, `case_tests`: small folders of pages with the text of one of them
+//! - `command_lines`: the words of a command line in their forms
 //! - `invocations`: small folders with modules
 //! - `many`: several pages, with what they used
 //! - `meeting`: two pages at once
@@ -14,6 +15,8 @@
 mod case_tests;
 #[cfg(test)]
 mod cases;
+#[cfg(test)]
+mod command_lines;
 #[cfg(test)]
 mod failing;
 #[cfg(test)]
