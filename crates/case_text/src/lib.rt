@@ -1,6 +1,9 @@
 //! The texts of tables of test cases, in which any byte can be written.
 //!
-//! Read `specs/Escapes.antt` first: it says what each escape stands for. `escapes` reads them.
+//! Read `specs/Escapes.antt` first: it says what each escape stands for.
+//!
+//! - `escapes`: the escapes are read
+//! - `tests`: the escapes, written out by hand
 #![tactic(auto)]
 
 mod escapes;

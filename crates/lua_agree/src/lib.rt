@@ -12,6 +12,11 @@
 //! - `Met`: where a move leaves a run, with what is left of the allowances
 //! - `Laws`: each move follows the run, so it is met by it
 //! - `Named`: the objects that a machine names
+//!
+//! Each function has an empty body, and its contract is a law about those definitions:
+//!
+//! - `laws`: the laws of the simulation, as `Laws` says them
+//! - `tests`: each law is called once
 #![tactic(auto)]
 
 pub mod laws;

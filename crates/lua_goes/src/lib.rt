@@ -5,6 +5,11 @@
 //! - `Going`: moves one after another, and the event that they come to
 //! - `Weight`: of what is next and of what waits; it falls in each move that costs no step
 //! - `Laws`
+//!
+//! Each function has an empty body, and its contract is a law about those definitions:
+//!
+//! - `laws`: the laws, as `Laws` says them
+//! - `tests`: each law is called once
 #![tactic(auto)]
 
 pub mod laws;

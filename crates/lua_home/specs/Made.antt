@@ -1,4 +1,4 @@
--- A FRESH ENVIRONMENT IN A HEAP (manual 5; Scribunto, "Lua environment"): the eight tables with which each run of Lua begins stand behind
+-- A FRESH ENVIRONMENT IN A HEAP (manual 5; Scribunto, "Lua environment"): the nine tables with which each run of Lua begins stand behind
 -- those that were there, in the same order, and name each other by their new numbers.
 use Rattle.std.specs.Prelude.{◌≡◌, ℕ, ◌+◌, false}
 use Rattle.lua_heap.specs.Heap.{Heap}

@@ -3,6 +3,7 @@
 //! Read `specs/Laws.antt` first.
 //!
 //! - `laws`: functions with an empty body, whose contracts are the laws
+//! - `tests`: each law is called once
 #![tactic(auto)]
 
 pub mod laws;

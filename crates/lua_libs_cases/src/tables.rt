@@ -1,4 +1,5 @@
-//! Each function is called. The results are those of the program of Lua 5.1, the charges are counted by hand.
+//! Each function is called. The results are those of the program of Lua 5.1, but for `insert` of nothing, which it refuses; the charges are
+//! counted by hand.
 ghost use Rattle.std.specs.Prelude.{IfOk};
 ghost use Rattle.lua_store.specs.Parts.{IsTableOf, IsLater};
 

@@ -2,6 +2,7 @@
 //! definitions of `lua_meaning`.
 //!
 //! - `laws`: what the run of a data module asks
+//! - `tests`: each law is called once
 //!
 //! Of the definitions read `specs/Laws.antt` first.
 #![tactic(auto)]

@@ -2,6 +2,10 @@
 //!
 //! A line is `all`, or has an alphabet (`bytes`, `points`, or `plain ^` for bytes with a first `^` as a plain character),
 //! the place from which the search goes, the pattern and the subject, with tabs between.
+//!
+//! - `all`: all patterns of up to four items against all small subjects
+//! - `cases`: one line, run
+//! - `plain`: the definition of a match as a plain program, to compare with
 #![tactic(auto)]
 
 mod all;

@@ -8,6 +8,11 @@
 //! - `Laws`: what holds of `start`, `go` and `answer`, and of points that wait
 //! - `Clauses`: the same as code cites it, for all runs at once
 //! - `Families`: many machines of one store
+//!
+//! Each function has an empty body, and its contract is a law about those definitions:
+//!
+//! - `laws`: the laws, as `Laws`, `Clauses` and `Families` say them
+//! - `tests`: each law is called once
 #![tactic(auto)]
 
 pub mod laws;

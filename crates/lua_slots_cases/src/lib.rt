@@ -4,6 +4,9 @@
 //! - `Loads`: a data module is loaded, and a load is spent
 //!
 //! They are written as those of `lua_slots` are (`Trial` there).
+//!
+//! - `examples`: functions with an empty body, whose contracts are the examples
+//! - `tests`: each list of examples is called once
 #![tactic(auto)]
 
 pub mod examples;

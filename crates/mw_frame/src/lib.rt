@@ -3,6 +3,7 @@
 //!
 //! - `scene`: arguments, the scene of a frame, and the job of an invocation
 //! - `question`: what a run of Lua asks from outside
+//! - `tests`: an argument is copied, and a job is put together
 //!
 //! `specs/Scenes.antt` says when the names of arguments differ. Definitions of other crates cite the types as they are
 //! declared here.

@@ -9,6 +9,7 @@
 //! - `sheet`: what was given so far, within a budget, also for renderings of objects that are kept elsewhere
 //! - `rendering`: the rendering
 //! - `laws`: renderings by other numbers (`Laws`)
+//! - `tests`: values from MediaWiki's own library, and counts by hand
 #![tactic(auto)]
 
 pub mod laws;

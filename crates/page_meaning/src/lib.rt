@@ -20,6 +20,7 @@
 //! - `tasks`: runs of Lua and expansions alike go on, and tell their loads
 //! - `examples`: worked pages come to what `Examples` says
 //! - `outcome`: how an invocation ends by itself, the one type of code here
+//! - `tests`: each law and each group of worked pages is called once
 #![tactic(auto)]
 
 pub mod drive;

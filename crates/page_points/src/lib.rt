@@ -8,8 +8,12 @@
 //! - `Apart`: what one machine does leaves the others alone
 //! - `Laws`
 //!
-//! Each function of `stack` has an empty body, and its contract is a law about those definitions. Who drives machines and expanders cites
-//! the lemmas of `proofs/`: `Moves`, `Loads`, `Machines`, `Expansions`, `Apart`.
+//! Each function has an empty body, and its contract is a law about those definitions:
+//!
+//! - `stack`: the laws of the stack, as `Laws` says them
+//! - `tests`: each law is called once
+//!
+//! Who drives machines and expanders cites the lemmas of `proofs/`: `Moves`, `Loads`, `Machines`, `Expansions`, `Apart`.
 #![tactic(auto)]
 
 pub mod stack;
