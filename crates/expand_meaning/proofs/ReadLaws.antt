@@ -176,4 +176,4 @@ laid_of w (group Triple inside rest) p l = laid_node Parameter _ _ tt (laid_of F
 
 -- the trees of a paired text are its pairing
 pub pairing_back : (s : ShownText) → trees_at 0 (marked_of s) ≡ pairing s
-pairing_back s = read_laid (pairing s) 0 (laid_of Outside (rewrite_all (items_from 0 (letters_from s.kept s.cuts 0 s.bytes))) nothing laid_nothing).0
+pairing_back s = read_laid (pairing s) 0 (laid_of Outside (rewrite_all (items_from 0 (letters_from s.literals s.cuts 0 s.bytes))) nothing laid_nothing).0

@@ -11,7 +11,7 @@ use Rattle.expand_meaning.specs.Outcome.{page_text}
 
 -- plain text without tags, paired
 abbrev pub tree : List ℕ → Trees
-tree text = pairing (record { bytes = text; kept = []; cuts = [] })
+tree text = pairing (record { bytes = text; literals = []; cuts = [] })
 
 abbrev pub template : List ℕ → List ℕ → Title × Trees
 template name text = (record { ns = Template; name = name }, tree text)

@@ -226,10 +226,10 @@ items_unpaired (suc k) [] = tt
 items_unpaired (suc k) (x ∷ s) = items_unpaired k s
 items_unpaired zero (x ∷ s) = items_unpaired (size_of (leaf_of x s) - 1) s
 
-pub letters_length : (kept : List Span) (cuts : List ℕ) (at : ℕ) (bs : List ℕ) → length (letters_from kept cuts at bs) ≡ length bs
+pub letters_length : (literals : List Span) (cuts : List ℕ) (at : ℕ) (bs : List ℕ) → length (letters_from literals cuts at bs) ≡ length bs
 unfolding letters_from
-letters_length kept cuts at [] = refl
-letters_length kept cuts at (b ∷ bs) = ap suc (letters_length kept cuts (at + 1) bs)
+letters_length literals cuts at [] = refl
+letters_length literals cuts at (b ∷ bs) = ap suc (letters_length literals cuts (at + 1) bs)
 
 -- There are at most as many nodes as letters.
 pub letters_most : (s : List Letter) → length (preorder 0 (trees_of Outside (rewrite_all (items_from 0 s)) nothing).here) ≤ length s

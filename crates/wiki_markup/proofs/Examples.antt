@@ -37,7 +37,7 @@ line_removed : (show Direct (codes "a\n <!-- x --> \nb")).bytes ≡ codes "a\nb"
 unfolding show
 line_removed = refl
 
-kept : show Direct (codes "<nowiki>{{T}}</nowiki>{{!}}") ≡ record { bytes = codes "<nowiki>{{T}}</nowiki>{{!}}"; kept = record { start = 0; end = 22 } ∷ []; cuts = [] }
+kept : show Direct (codes "<nowiki>{{T}}</nowiki>{{!}}") ≡ record { bytes = codes "<nowiki>{{T}}</nowiki>{{!}}"; literals = record { start = 0; end = 22 } ∷ []; cuts = [] }
 unfolding show
 kept = refl
 

@@ -89,24 +89,24 @@ parts_more mode (suc n) s r front at end target w next shown h same c e f g p l 
 -- all pieces at once
 put_all : (ps : List Piece) (w : ShownText) → put_pieces ps w ≡ record {
   bytes = w.bytes ++ shown_bytes ps;
-  kept = w.kept ++ kept_spans (length w.bytes) ps;
+  literals = w.literals ++ kept_spans (length w.bytes) ps;
   cuts = w.cuts ++ cut_places (length w.bytes) ps;
 }
 unfolding put_pieces shown_bytes kept_spans cut_places
-put_all [] w = rw (append-nil w.bytes, append-nil w.kept, append-nil w.cuts) refl
+put_all [] w = rw (append-nil w.bytes, append-nil w.literals, append-nil w.cuts) refl
 put_all (KeptPiece bs ∷ ps) w =
     let span : Span = record { start = length w.bytes; end = length w.bytes + length bs } in
     put_all ps (put_piece (KeptPiece bs) w)
     ∙ rw (
       length-append w.bytes bs,
       append_assoc w.bytes bs (shown_bytes ps),
-      append_assoc w.kept (record { start = length w.bytes; end = length w.bytes + length bs } ∷ []) (kept_spans (length w.bytes + length bs) ps),
+      append_assoc w.literals (record { start = length w.bytes; end = length w.bytes + length bs } ∷ []) (kept_spans (length w.bytes + length bs) ps),
     ) refl
 put_all (PlainPiece bs ∷ ps) w =
     put_all ps (put_piece (PlainPiece bs) w) ∙ rw (length-append w.bytes bs, append_assoc w.bytes bs (shown_bytes ps)) refl
 put_all (Cut ∷ ps) w =
     put_all ps (put_piece Cut w) ∙ rw (append_assoc w.cuts (length w.bytes ∷ []) (cut_places (length w.bytes) ps)) refl
 
-pub shown_all : (mode : Mode) (text : Text) (s : ShownText) → s ≡ put_pieces (pieces_of mode text) (record { bytes = []; kept = []; cuts = [] }) → s ≡ shown_of mode text
+pub shown_all : (mode : Mode) (text : Text) (s : ShownText) → s ≡ put_pieces (pieces_of mode text) (record { bytes = []; literals = []; cuts = [] }) → s ≡ shown_of mode text
 unfolding shown_of
-shown_all mode text s e = e ∙ put_all (pieces_of mode text) (record { bytes = []; kept = []; cuts = [] })
+shown_all mode text s e = e ∙ put_all (pieces_of mode text) (record { bytes = []; literals = []; cuts = [] })

@@ -21,7 +21,7 @@ cuts_rising (PlainPiece bs ∷ ps) from at h = cuts_rising ps from (at + length 
 cuts_rising (Cut ∷ ps) from at h = (h, cuts_rising ps at at (omega arith))
 
 -- what pairing asks for
-pub shown_in_order : (mode : Mode) (text : Text) → Ordered 0 (shown_of mode text).kept × Rising 0 (shown_of mode text).cuts
+pub shown_in_order : (mode : Mode) (text : Text) → Ordered 0 (shown_of mode text).literals × Rising 0 (shown_of mode text).cuts
 unfolding shown_of
 shown_in_order mode text = (spans_ordered (pieces_of mode text) 0 0 (omega arith), cuts_rising (pieces_of mode text) 0 0 (omega arith))
 

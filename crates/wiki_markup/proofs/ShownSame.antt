@@ -19,13 +19,13 @@ span_decides a b =
     decides_too (spans.ghosts.eq a b) (same_span a b) (λ e. (ap (λ (s : Span). s.start) e, ap (λ (s : Span). s.end) e))
     (Decides-and _ _ (Decides-eqb a.start b.start) (Decides-eqb a.end b.end))
 
-same_text : (a b : ShownText) → (a.bytes ≡ b.bytes) × ((a.kept ≡ b.kept) × (a.cuts ≡ b.cuts)) → a ≡ b
+same_text : (a b : ShownText) → (a.bytes ≡ b.bytes) × ((a.literals ≡ b.literals) × (a.cuts ≡ b.cuts)) → a ≡ b
 same_text a b e =
-    ap (λ (x : List ℕ). let s : ShownText = record { bytes = x; kept = a.kept; cuts = a.cuts } in s) e.0
-    ∙ ap (λ (x : List Span). let s : ShownText = record { bytes = b.bytes; kept = x; cuts = a.cuts } in s) e.1.0
-    ∙ ap (λ (x : List ℕ). let s : ShownText = record { bytes = b.bytes; kept = b.kept; cuts = x } in s) e.1.1
+    ap (λ (x : List ℕ). let s : ShownText = record { bytes = x; literals = a.literals; cuts = a.cuts } in s) e.0
+    ∙ ap (λ (x : List Span). let s : ShownText = record { bytes = b.bytes; literals = x; cuts = a.cuts } in s) e.1.0
+    ∙ ap (λ (x : List ℕ). let s : ShownText = record { bytes = b.bytes; literals = b.literals; cuts = x } in s) e.1.1
 
-pub text_decides : (a b : ShownText) (x y z : Bool) → Decides x (a.bytes ≡ b.bytes) → Decides y (a.kept ≡ b.kept) → Decides z (a.cuts ≡ b.cuts) → Decides (x && (y && z)) (a ≡ b)
+pub text_decides : (a b : ShownText) (x y z : Bool) → Decides x (a.bytes ≡ b.bytes) → Decides y (a.literals ≡ b.literals) → Decides z (a.cuts ≡ b.cuts) → Decides (x && (y && z)) (a ≡ b)
 text_decides a b x y z f g h =
-    decides_too (x && (y && z)) (same_text a b) (λ e. (ap (λ (s : ShownText). s.bytes) e, (ap (λ (s : ShownText). s.kept) e, ap (λ (s : ShownText). s.cuts) e)))
+    decides_too (x && (y && z)) (same_text a b) (λ e. (ap (λ (s : ShownText). s.bytes) e, (ap (λ (s : ShownText). s.literals) e, ap (λ (s : ShownText). s.cuts) e)))
     (Decides-and x (y && z) f (Decides-and y z g h))

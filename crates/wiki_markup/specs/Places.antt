@@ -57,7 +57,7 @@ pub record AreLastEnds (text : Text) (ends : LastEnds) : Type 0 where
 -- A piece behind what was shown before.
 abbrev pub put_piece : Piece → ShownText → ShownText
 put_piece (KeptPiece bs) s =
-    record s { bytes = s.bytes ++ bs; kept = s.kept ++ record { start = length s.bytes; end = length s.bytes + length bs } ∷ [] }
+    record s { bytes = s.bytes ++ bs; literals = s.literals ++ record { start = length s.bytes; end = length s.bytes + length bs } ∷ [] }
 put_piece (PlainPiece bs) s = record s { bytes = s.bytes ++ bs }
 put_piece Cut s = record s { cuts = s.cuts ++ length s.bytes ∷ [] }
 

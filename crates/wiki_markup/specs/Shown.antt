@@ -249,7 +249,7 @@ cut_places at (PlainPiece bs ∷ rest) = cut_places (at + length bs) rest
 cut_places at (Cut ∷ rest) = at ∷ cut_places at rest
 
 abbrev pub join_pieces : List Piece → ShownText
-join_pieces all = record { bytes = shown_bytes all; kept = kept_spans 0 all; cuts = cut_places 0 all }
+join_pieces all = record { bytes = shown_bytes all; literals = kept_spans 0 all; cuts = cut_places 0 all }
 
 unfoldable pub shown_of : Mode → Text → ShownText
 shown_of mode text = join_pieces (pieces_of mode text)

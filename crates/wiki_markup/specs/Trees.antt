@@ -87,7 +87,7 @@ preorder at (node kind inside rest) =
 
 -- The pairing of a shown text.
 abbrev pub pairing : ShownText → Trees
-pairing s = (trees_of Outside (rewrite_all (items_from 0 (letters_from s.kept s.cuts 0 s.bytes))) nothing).here
+pairing s = (trees_of Outside (rewrite_all (items_from 0 (letters_from s.literals s.cuts 0 s.bytes))) nothing).here
 
 abbrev pub marked_of : ShownText → List Node
 marked_of s = preorder 0 (pairing s)

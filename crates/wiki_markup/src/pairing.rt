@@ -35,13 +35,13 @@ fn mark_of(b: u8) -> Mark
     Mark::Plain
 }
 
-fn span_passed(kept: &[Span], k: usize, at: usize) -> bool
-    ensures { result ≡ span_passed_lem (drop k kept.now) at }
+fn span_passed(literals: &[Span], k: usize, at: usize) -> bool
+    ensures { result ≡ span_passed_lem (drop k literals.now) at }
 {
-    if k >= kept.len() {
+    if k >= literals.len() {
         return false;
     }
-    kept[k].end <= at
+    literals[k].end <= at
 }
 
 fn cut_passed(cuts: &[usize], c: usize, at: usize) -> bool
@@ -53,22 +53,22 @@ fn cut_passed(cuts: &[usize], c: usize, at: usize) -> bool
     cuts[c] <= at
 }
 
-fn kept_head(kept: &[Span], k: usize, at: usize) -> bool
-    ensures { result ≡ kept_head_lem (drop k kept.now) at }
+fn kept_head(literals: &[Span], k: usize, at: usize) -> bool
+    ensures { result ≡ kept_head_lem (drop k literals.now) at }
 {
-    if k >= kept.len() {
+    if k >= literals.len() {
         return false;
     }
-    kept[k].start <= at
+    literals[k].start <= at
 }
 
-fn span_apart(kept: &[Span], k: usize, p: usize) -> bool
-    ensures { result ≡ span_apart_lem (drop k kept.now) p }
+fn span_apart(literals: &[Span], k: usize, p: usize) -> bool
+    ensures { result ≡ span_apart_lem (drop k literals.now) p }
 {
-    if k >= kept.len() {
+    if k >= literals.len() {
         return false;
     }
-    kept[k].start == p || kept[k].end == p
+    literals[k].start == p || literals[k].end == p
 }
 
 fn cut_apart(cuts: &[usize], c: usize, p: usize) -> bool
@@ -80,17 +80,17 @@ fn cut_apart(cuts: &[usize], c: usize, p: usize) -> bool
     cuts[c] == p
 }
 
-fn letter_of(b: u8, kept: &[Span], k: usize, cuts: &[usize], c: usize, at: usize) -> Letter
+fn letter_of(b: u8, literals: &[Span], k: usize, cuts: &[usize], c: usize, at: usize) -> Letter
     requires { at + 1 < 18446744073709551616 }
-    ensures { result ≡ letter_of_lem b (drop k kept.now) (drop c cuts.now) at }
+    ensures { result ≡ letter_of_lem b (drop k literals.now) (drop c cuts.now) at }
 {
-    let mark = if kept_head(kept, k, at) {
+    let mark = if kept_head(literals, k, at) {
         Mark::Plain
     } else {
         mark_of(b)
     };
     let cut = cut_apart(cuts, c, at + 1);
-    let span = span_apart(kept, k, at + 1);
+    let span = span_apart(literals, k, at + 1);
     Letter {
         byte: b,
         mark,
@@ -102,19 +102,19 @@ fn letter_of(b: u8, kept: &[Span], k: usize, cuts: &[usize], c: usize, at: usize
 fn letters(
     alloc: Global,
     bytes: &[u8],
-    kept: &[Span],
+    literals: &[Span],
     cuts: &[usize],
 ) -> Result<Vec<Letter>, NoMemory>
-    requires spans { Ordered 0 kept.now }
+    requires spans { Ordered 0 literals.now }
     requires cuts { Rising 0 cuts.now }
-    ensures { IfOk result (λ out. out.items ≡ letters_from kept.now cuts.now 0 bytes.now) }
+    ensures { IfOk result (λ out. out.items ≡ letters_from literals.now cuts.now 0 bytes.now) }
 {
     let mut out = Vec::new(alloc);
     let mut k = 0;
     let mut c = 0;
     let mut at = 0;
     while at < bytes.len() {
-        if span_passed(kept, k, at) {
+        if span_passed(literals, k, at) {
             k += 1;
             continue;
         }
@@ -122,7 +122,7 @@ fn letters(
             c += 1;
             continue;
         }
-        let letter = letter_of(bytes[at], kept, k, cuts, c, at);
+        let letter = letter_of(bytes[at], literals, k, cuts, c, at);
         match out.push(letter) {
             Ok(_) => {}
             Err(_) => return Err(NoMemory),
@@ -138,7 +138,7 @@ fn letters(
 /// error. It takes time in proportion to the text, and its stack doesn't grow with what the text nests. The pairing follows
 /// MediaWiki's manual, "Preprocessor ABNF", "Ideal precedence"; docs/RULES.md says where this profile chooses.
 pub fn markup(alloc: Global, text: &ShownText) -> Result<Marked, NoMemory>
-    requires spans { Ordered 0 text.now.kept }
+    requires spans { Ordered 0 text.now.literals }
     requires cuts { Rising 0 text.now.cuts }
     // The nodes are the preorder of what is left where the leftmost closing run is rewritten until there is none.
     ensures paired { IfOk result (λ m. m.nodes ≡ marked_of text.now) }
@@ -149,7 +149,7 @@ pub fn markup(alloc: Global, text: &ShownText) -> Result<Marked, NoMemory>
     let letters = letters(
         alloc,
         text.bytes.as_slice(),
-        text.kept.as_slice(),
+        text.literals.as_slice(),
         text.cuts.as_slice(),
     )?;
     let marked = mark_letters(alloc, letters.as_slice())?;

@@ -16,7 +16,7 @@ use wk_base::{Bytes, List, NoMemory};
 #[derive(Drop)]
 struct Showing {
     bytes: Vec<u8>,
-    kept: Vec<Span>,
+    literals: Vec<Span>,
     cuts: Vec<usize>,
 }
 
@@ -25,16 +25,16 @@ impl Model for Showing {
 
     ghost Value = { ShownText };
 
-    ghost view = { λ s. record { bytes = s.bytes.items; kept = s.kept.items; cuts = s.cuts.items } };
+    ghost view = { λ s. record { bytes = s.bytes.items; literals = s.literals.items; cuts = s.cuts.items } };
 }
 
 impl Showing {
     fn new(alloc: Global) -> Showing
-        ensures { result ≡ record { bytes = []; kept = []; cuts = [] } }
+        ensures { result ≡ record { bytes = []; literals = []; cuts = [] } }
     {
         Showing {
             bytes: Vec::new(alloc),
-            kept: Vec::new(alloc),
+            literals: Vec::new(alloc),
             cuts: Vec::new(alloc),
         }
     }
@@ -44,7 +44,7 @@ impl Showing {
     {
         ShownText {
             bytes: Bytes::of_vec(self.bytes),
-            kept: List::of_vec(self.kept),
+            literals: List::of_vec(self.literals),
             cuts: List::of_vec(self.cuts),
         }
     }
@@ -69,7 +69,7 @@ impl Showing {
             Err(_) => return Err(NoMemory),
         }
         let end = self.bytes.len();
-        match self.kept.push(Span { start, end }) {
+        match self.literals.push(Span { start, end }) {
             Ok(_) => Ok(()),
             Err(_) => Err(NoMemory),
         }
@@ -177,7 +177,7 @@ fn has_parts(text: &[u8], mode: Mode) -> bool
 pub fn shown(alloc: Global, text: &[u8], mode: Mode) -> Result<ShownText, NoMemory>
     ensures shown { IfOk result (λ s. s ≡ shown_of mode text.now) }
     // `markup` takes such a text.
-    ensures spans { IfOk result (λ s. Ordered 0 s.kept) }
+    ensures spans { IfOk result (λ s. Ordered 0 s.literals) }
     ensures cuts { IfOk result (λ s. Rising 0 s.cuts) }
     ensures few { IfOk result (λ s. length s.bytes ≤ length text.now) }
 {

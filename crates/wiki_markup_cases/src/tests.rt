@@ -148,7 +148,7 @@ fn all_texts_of_seven_items_pair_as_the_reference_says(rt: HostRuntime) -> Resul
         for number in 0..texts {
             let text = ShownText {
                 bytes: Bytes::of_vec(spelled(alloc, &items, count, number)?),
-                kept: List::new(alloc),
+                literals: List::new(alloc),
                 cuts: List::new(alloc),
             };
             for b in nested(alloc, &markup(alloc, &text)?)? {
@@ -204,7 +204,7 @@ fn mixed_page(sum: u64, page: &ShownText) -> u64 {
         sum = mixed(sum, u64::from(*b));
     }
     sum = mixed(sum, 256);
-    for span in page.kept.as_slice() {
+    for span in page.literals.as_slice() {
         sum = mixed(mixed(sum, span.start as u64), span.end as u64);
     }
     sum = mixed(sum, 256);

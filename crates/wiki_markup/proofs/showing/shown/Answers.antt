@@ -12,7 +12,7 @@ returns c =
     let e : c.into_shown.result ≡ shown_of c.args.mode c.args.text.now = shown_all c.args.mode c.args.text.now c.into_shown.result (c.into_shown.ensures ∙ c.in_ok-show.ensures ∙ ap (put_pieces (pieces_of c.args.mode c.args.text.now)) c.new-showing.ensures) in
     record {
       shown = e;
-      spans = (let P : ShownText → Type 0 = λ s. Ordered 0 s.kept in subst P (sym e) (shown_in_order c.args.mode c.args.text.now).0);
+      spans = (let P : ShownText → Type 0 = λ s. Ordered 0 s.literals in subst P (sym e) (shown_in_order c.args.mode c.args.text.now).0);
       cuts = (let P : ShownText → Type 0 = λ s. Rising 0 s.cuts in subst P (sym e) (shown_in_order c.args.mode c.args.text.now).1);
       few = omega (arith, shown_most c.args.mode c.args.text.now, ap (λ (s : ShownText). length s.bytes) e);
     }
