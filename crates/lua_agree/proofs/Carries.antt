@@ -23,7 +23,7 @@ use Rattle.lua_slots.specs.Slots.{Activation, newest_function}
 use Rattle.lua_slots.specs.Points.{STarget, SThing, SFrame, Point}
 use Rattle.lua_library_agree.specs.Same.{SameFrame}
 use Rattle.lua_library_agree.specs.SameGsub.{SameReplacement, same_text, same_table, same_function, SameJob, same_job}
-use Rattle.lua_agree.specs.Variables.{Var, Held, HeldFunction, SameVar, at_reg, at_box, at_up, Inside}
+use Rattle.lua_agree.specs.Variables.{Var, HasCells, HeldFunction, SameVar, at_reg, at_box, at_up, Inside}
 use Rattle.lua_agree.specs.Values.{SameJump, returned, broke, raised, SameOutcome, values_, jumps_, SameTarget, places, globals_, entries_, SameSet, SamePending, pcalls, xpcalls, handlers, to_strings, walks, replacings, modules, SameProgress, running, finished, SameTitled}
 use Rattle.lua_agree.specs.Functions.{SameFunction}
 use Rattle.lua_agree.specs.Rests.{After, SameRest, SameEnd, at_end, at_first, at_verdict, at_key, at_index, at_decide, at_operand, at_operate, at_unary, at_arguments, at_call, at_method_of, at_method, at_last, at_more, at_last_item, at_item, at_pair, at_pair_value, at_fields, at_items, at_target_key, at_target, at_assign, at_sets, at_declare, at_stats, at_branch, at_return, at_while, at_test, at_count_from, at_count_to, at_count_by, at_each_values, at_each_next, at_library, at_wait, at_hearing, at_module, at_function, at_answer, at_text, at_data, ends_block, ends_body, ends_while, ends_repeat, ends_count, ends_each}
@@ -48,7 +48,7 @@ module _ (m n : Map) (S : Set) (f : (q r : Ref) → m.to q ≡ Some r → IsTrue
   var-carried (at_box i c e) a = at_box i c e
   var-carried {cells = cells} (at_up i c r e g) a = at_up i c r e (f _ _ g (cell-in cells i r e a))
 
-  held-carried : (cs : List ℕ) → Held m cs → AllIn S (map cel cs) → Held n cs
+  held-carried : (cs : List ℕ) → HasCells m cs → AllIn S (map cel cs) → HasCells n cs
   held-carried [] h a = tt
   held-carried (c ∷ cs) h a = ((h.0.0, f _ _ h.0.1 a.0), held-carried cs h.1 a.1)
 

@@ -27,7 +27,7 @@ use Rattle.lua_slots.specs.IsCode.{is_plain, IsCaptured}
 use Rattle.lua_slots.specs.Slots.{Slot, Plain, Activation, Slots, newest_function, function_of, slot_value, slot_cell, place_cell, cell_value, with_cell, and_cell, cells_at, read_place, write_place, opened, all_opened}
 use Rattle.lua_slots.specs.Points.{SFrame, Point, Now}
 use Rattle.lua_slots.specs.Errors as machine
-use Rattle.lua_agree.specs.Variables.{Var, boxed, Vars, vnone, vplain, vboxed, Opens, as_many, one_more, SameVar, at_reg, at_box, at_up, Held, Inside}
+use Rattle.lua_agree.specs.Variables.{Var, boxed, Vars, vnone, vplain, vboxed, Opens, as_many, one_more, SameVar, at_reg, at_box, at_up, HasCells, Inside}
 use Rattle.lua_agree.specs.Functions.{SameFunction}
 use Rattle.lua_agree.specs.Rests.{After, alone, dropped, SameRest}
 use Rattle.lua_agree.specs.Agree.{Base, Rel}
@@ -161,11 +161,11 @@ module _ (m : Map) (h : Heap Function) (vars : List Var) (regs : List Slot) (fns
           let u = suc-back (up_of names x) j f in
           subst (λ z. SameVar m [] (d ∷ cells_of places) (Up z) (cell_of scope.names x)) (sym u.2) (next-up d u.0 (cells_of places) _ (rec u.0 u.1))
 
-  pub captures-held : (names : List Bytes) (places : List Place) → Each (IsCaptured see) names places → Held m (cells_of places)
+  pub captures-held : (names : List Bytes) (places : List Place) → Each (IsCaptured see) names places → HasCells m (cells_of places)
   captures-held _ _ none = tt
   captures-held _ _ (more n p names places q es) =
       let c = captured-at n p q in
-      subst (λ o. Held m (and_cell o (cells_of places))) (sym c.3) ((c.0, c.4), captures-held names places es)
+      subst (λ o. HasCells m (and_cell o (cells_of places))) (sym c.3) ((c.0, c.4), captures-held names places es)
 
 -- OPENING
 var-deeper : {m : Map} {v : Var} {vars : List Var} {cells : List ℕ} {p q : Place} {o : Option ℕ} → deeper (Here p) ≡ Here q → SameVar m vars cells p o → SameVar m (v ∷ vars) cells q o

@@ -12,7 +12,7 @@ use Rattle.lua_slots.specs.Sight.{Sight, Everywhere, up_of, inside}
 use Rattle.lua_slots.specs.IsCode.{EndSight, any_sight, IsExp, IsFields, IsFun, IsBlock}
 use Rattle.lua_slots.specs.Slots.{Activation, newest_function}
 use Rattle.lua_slots.specs.Calls.{code_of}
-use Rattle.lua_agree.specs.Variables.{Held, SameVar}
+use Rattle.lua_agree.specs.Variables.{HasCells, SameVar}
 
 -- the meanings of parts of the tree that may be absent, and which code is theirs: the last block of an `if`, the step of a loop
 abbrev pub other_of : Option Block → Option Statement
@@ -49,7 +49,7 @@ module _ (code : CWorld) where
     pub code_ : IsFun (code_of (code.modules b.title)) (inside names see) a.node proto
     pub cells : (x : Bytes) (i : ℕ) → up_of names x ≡ Some i → SameVar m [] b.cells (Up i) (cell_of a.names x)
     pub globals : (x : Bytes) → see x ≡ Everywhere → up_of names x ≡ None → cell_of a.names x ≡ None
-    pub held : Held m b.cells
+    pub held : HasCells m b.cells
 
   -- the functions of the running module
   abbrev pub here : List Activation → Protos

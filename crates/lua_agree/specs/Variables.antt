@@ -44,13 +44,13 @@ pub data SameVar (m : Map) (vars : List Var) (cells : List ℕ) : Place → Opti
   at_up : (i c r : ℕ) → slice_get cells i ≡ Some r → m.to (cel c) ≡ Some (cel r) → SameVar m vars cells (Up i) (Some c)
 
 -- each of these cells stands for one
-abbrev pub Held : Map → List ℕ → Type 0
-Held m [] = Unit {0}
-Held m (r ∷ rs) = ((c : ℕ) × (m.to (cel c) ≡ Some (cel r))) × Held m rs
+abbrev pub HasCells : Map → List ℕ → Type 0
+HasCells m [] = Unit {0}
+HasCells m (r ∷ rs) = ((c : ℕ) × (m.to (cel c) ≡ Some (cel r))) × HasCells m rs
 
 -- a function in progress: each cell that it captured stands for one, and each value of `...` for a value
 pub record HeldFunction (m : Map) (a : Activation) : Type 0 where
-  pub cells : Held m a.cells
+  pub cells : HasCells m a.cells
   pub values : List Value
   pub dots : Each (Same m) values a.dots
 

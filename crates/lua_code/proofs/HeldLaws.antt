@@ -10,7 +10,7 @@ use Rattle.wk_base.specs.declared.title.Title.{Title}
 use Rattle.wk_base.specs.contracts.title.TitlePartialEq.TheImpl as titles
 use Rattle.wk_base.specs.Titles.{is_module, title_text, prefix_of}
 use Rattle.lua_code.specs.declared.modules.Module.{Module}
-use Rattle.lua_code.specs.Held.{Held, find_module, module_seen, modules_seen, AreModules}
+use Rattle.lua_code.specs.Held.{TitledModules, find_module, module_seen, modules_seen, AreModules}
 
 is_of_modules : (ns : Namespace) → is_module ns ≡ true → ns ≡ ModuleNs
 is_of_modules ModuleNs h = refl
@@ -32,7 +32,7 @@ same_titles a b h k =
     subst (λ (t : Title). bytes_eq (title_text t) (title_text b) ≡ titles.ghosts.eq t b) (sym (is_named a h))
     (subst (λ (t : Title). bytes_eq (title_text (named a.name)) (title_text t) ≡ titles.ghosts.eq (named a.name) t) (sym (is_named b k)) (same_names a.name b.name))
 
-found : (held : Held) (t : Title) → AreModules held → is_module t.ns ≡ true → lookup (bytes_eq (title_text t)) (map (λ e. (title_text e.0, e.1)) held) ≡ find_module held t
+found : (held : TitledModules) (t : Title) → AreModules held → is_module t.ns ≡ true → lookup (bytes_eq (title_text t)) (map (λ e. (title_text e.0, e.1)) held) ≡ find_module held t
 found [] t all h = refl
 found (e ∷ es) t all h =
     ap (λ b. cond b (Some e.1) (lookup (bytes_eq (title_text t)) (map (λ e. (title_text e.0, e.1)) es))) (same_titles t e.0 h all.0)
@@ -42,14 +42,14 @@ copied : (m : Option (Bor Module)) → option_map (λ x. module_seen x.now) m �
 copied None = refl
 copied (Some x) = refl
 
-pub seen : (held : Held) (t : Title) (m : Option (Bor Module)) → option_copied m ≡ find_module held t → AreModules held → is_module t.ns ≡ true → option_map (λ x. module_seen x.now) m ≡ modules_seen held (title_text t)
+pub seen : (held : TitledModules) (t : Title) (m : Option (Bor Module)) → option_copied m ≡ find_module held t → AreModules held → is_module t.ns ≡ true → option_map (λ x. module_seen x.now) m ≡ modules_seen held (title_text t)
 seen held t m e all h = copied m ∙ ap (option_map module_seen) (e ∙ sym (found held t all h))
 
-more : (held : Held) (t : Title) (m : Module) → AreModules held → is_module t.ns ≡ true → AreModules (held ++ (t, m) ∷ [])
+more : (held : TitledModules) (t : Title) (m : Module) → AreModules held → is_module t.ns ≡ true → AreModules (held ++ (t, m) ∷ [])
 more [] t m all h = (h, tt)
 more (e ∷ es) t m all h = (all.0, more es t m all.1 h)
 
-pub added : (held new : Held) (t : Title) (m : Module) → new ≡ held ++ (t, m) ∷ [] → AreModules held → is_module t.ns ≡ true → AreModules new
+pub added : (held new : TitledModules) (t : Title) (m : Module) → new ≡ held ++ (t, m) ∷ [] → AreModules held → is_module t.ns ≡ true → AreModules new
 added held new t m e all h = subst AreModules (sym e) (more held t m all h)
 
 -- BY A TEXT: one that begins as no title of a module is of none
@@ -60,7 +60,7 @@ begins_named n = refl
 begins_so : (text : List ℕ) (t : Title) → is_module t.ns ≡ true → text ≡ title_text t → bytes_eq (take 7 text) (codes "Module:") ≡ true
 begins_so text t h e = ap (λ x. bytes_eq (take 7 x) (codes "Module:")) (e ∙ ap title_text (is_named t h)) ∙ begins_named t.name
 
-lacked : (held : Held) (text : List ℕ) → AreModules held → bytes_eq (take 7 text) (codes "Module:") ≡ false → lookup (bytes_eq text) (map (λ e. (title_text e.0, e.1)) held) ≡ None
+lacked : (held : TitledModules) (text : List ℕ) → AreModules held → bytes_eq (take 7 text) (codes "Module:") ≡ false → lookup (bytes_eq text) (map (λ e. (title_text e.0, e.1)) held) ≡ None
 lacked [] text all h = refl
 lacked (e ∷ es) text all h = by (bytes_eq text (title_text e.0)) refl (lacked es text all.1 h)
   where
@@ -68,7 +68,7 @@ lacked (e ∷ es) text all h = by (bytes_eq text (title_text e.0)) refl (lacked 
     by true p later = absurd (true≢false (sym (begins_so text e.0 all.0 ((bytes_eq-Decides text (title_text e.0)).0 p)) ∙ h))
     by false p later = later
 
-pub lacking : (held : Held) (text : List ℕ) → AreModules held → bytes_eq (take 7 text) (codes "Module:") ≡ false → None ≡ modules_seen held text
+pub lacking : (held : TitledModules) (text : List ℕ) → AreModules held → bytes_eq (take 7 text) (codes "Module:") ≡ false → None ≡ modules_seen held text
 lacking held text all h = sym (ap (option_map module_seen) (lacked held text all h))
 
 -- and one that begins so is the text of a title of a module

@@ -12,10 +12,10 @@ use Rattle.lua_code.specs.declared.proto.Protos.{Protos}
 use Rattle.lua_code.specs.Seen.{protos_seen}
 
 -- modules with their titles
-abbrev pub Held : Type 0
-Held = List (Title × Module)
+abbrev pub TitledModules : Type 0
+TitledModules = List (Title × Module)
 
-abbrev pub find_module : Held → Title → Option Module
+abbrev pub find_module : TitledModules → Title → Option Module
 find_module held title = lookup (titles.ghosts.eq title) held
 
 abbrev pub code_seen : Result Protos FaultAt → Result PlainProtos FaultAt
@@ -26,10 +26,10 @@ abbrev pub module_seen : Module → CModule
 module_seen m = record { size = m.size; code = code_seen m.code }
 
 -- the modules of a machine's world, by the texts of their titles
-abbrev pub modules_seen : Held → List ℕ → Option CModule
+abbrev pub modules_seen : TitledModules → List ℕ → Option CModule
 modules_seen held text = option_map module_seen (lookup (bytes_eq text) (map (λ e. (title_text e.0, e.1)) held))
 
 -- all titles are of modules
-abbrev pub AreModules : Held → Type 0
+abbrev pub AreModules : TitledModules → Type 0
 AreModules [] = Unit {0}
 AreModules (e ∷ es) = (is_module e.0.ns ≡ true) × AreModules es

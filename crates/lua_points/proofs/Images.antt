@@ -21,7 +21,7 @@ use Rattle.lua_slots.specs.Slots.{Slot, Activation}
 use Rattle.lua_slots.specs.Points.{STarget, SThing, SFrame, Point}
 use Rattle.lua_library_agree.specs.Same.{SameFrame}
 use Rattle.lua_library_agree.specs.SameGsub.{SameReplacement, same_text, same_table, same_function, SameJob, same_job}
-use Rattle.lua_agree.specs.Variables.{Var, Vars, vnone, vplain, vboxed, Held, HeldFunction}
+use Rattle.lua_agree.specs.Variables.{Var, Vars, vnone, vplain, vboxed, HasCells, HeldFunction}
 use Rattle.lua_agree.specs.Values.{SameJump, returned, broke, raised, SameOutcome, values_, jumps_, SameTarget, places, globals_, entries_, SameSet, SamePending, pcalls, xpcalls, handlers, to_strings, walks, replacings, modules, SameProgress, running, finished, SameTitled}
 use Rattle.lua_agree.specs.Functions.{SameFunction}
 use Rattle.lua_agree.specs.Rests.{After, SameRest, SameEnd, at_end, at_first, at_verdict, at_key, at_index, at_decide, at_operand, at_operate, at_unary, at_arguments, at_call, at_method_of, at_method, at_last, at_more, at_last_item, at_item, at_pair, at_pair_value, at_fields, at_items, at_target_key, at_target, at_assign, at_sets, at_declare, at_stats, at_branch, at_return, at_while, at_test, at_count_from, at_count_to, at_count_by, at_each_values, at_each_next, at_library, at_wait, at_hearing, at_module, at_function, at_answer, at_text, at_data, ends_block, ends_body, ends_while, ends_repeat, ends_count, ends_each}
@@ -32,7 +32,7 @@ pub join : (S : Set) (xs ys : List Ref) → AllIn S xs → AllIn S ys → AllIn 
 join S xs ys a b = all-join (λ r. IsTrue (S r)) xs ys a b
 
 module _ (m : Map) (S : Set) (f : (q r : Ref) → m.to q ≡ Some r → IsTrue (S r)) where
-  held-image : (cs : List ℕ) → Held m cs → AllIn S (map cel cs)
+  held-image : (cs : List ℕ) → HasCells m cs → AllIn S (map cel cs)
   held-image [] h = tt
   held-image (c ∷ cs) h = (f _ _ h.0.1, held-image cs h.1)
 

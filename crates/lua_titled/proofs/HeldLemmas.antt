@@ -8,7 +8,7 @@ use Rattle.wk_base.specs.declared.title.Title.{Title}
 use Rattle.wk_base.specs.contracts.bytes.BytesPartialEq.TheImpl as bytes
 use Rattle.wk_base.specs.Titles.{title_text}
 use Rattle.lua_meaning.specs.Titled.{same_title, item_of, with_item, without_item}
-use Rattle.lua_titled.specs.Held.{Held, items_in, title_kept, AreNamed}
+use Rattle.lua_titled.specs.Held.{ItemsByText, items_in, title_kept, AreNamed}
 use Rattle.lua_titled.specs.Seen.{titled}
 
 turned : (a b : List ℕ) → bytes_eq a b ≡ bytes_eq b a
@@ -24,7 +24,7 @@ test : {X : Type 0} (text : List ℕ) (title : Title) (e : List ℕ × (Title ×
 test text title e t k = turned text e.0 ∙ ap (λ x. bytes_eq x text) k ∙ ap (bytes_eq (title_text e.1.0)) t
 
 module _ {X : Type 0} (text : List ℕ) (title : Title) (t : text ≡ title_text title) where
-  pub found : (es : Held X) → AreNamed es → option_map (λ x. x.1) (lookup (bytes.ghosts.eq text) es) ≡ item_of (titled (items_in es)) title
+  pub found : (es : ItemsByText X) → AreNamed es → option_map (λ x. x.1) (lookup (bytes.ghosts.eq text) es) ≡ item_of (titled (items_in es)) title
   found [] all = refl
   found (e ∷ es) all =
       pick (bytes.ghosts.eq text e.0) ∙ ap (λ b. cond b (Some e.1.1) (option_map (λ x. x.1) (lookup (bytes.ghosts.eq text) es))) (test text title e t all.0)
@@ -34,7 +34,7 @@ module _ {X : Type 0} (text : List ℕ) (title : Title) (t : text ≡ title_text
       pick true = refl
       pick false = refl
 
-  pub taken_out : (es : Held X) → AreNamed es → titled (items_in (remove_entry (bytes.ghosts.eq text) es)) ≡ without_item (titled (items_in es)) title
+  pub taken_out : (es : ItemsByText X) → AreNamed es → titled (items_in (remove_entry (bytes.ghosts.eq text) es)) ≡ without_item (titled (items_in es)) title
   taken_out [] all = refl
   taken_out (e ∷ es) all =
       pick (bytes.ghosts.eq text e.0) ∙ ap (λ b. cond b (titled (items_in es)) (record { title = e.1.0; item = e.1.1 } ∷ titled (items_in (remove_entry (bytes.ghosts.eq text) es)))) (test text title e t all.0)
@@ -44,7 +44,7 @@ module _ {X : Type 0} (text : List ℕ) (title : Title) (t : text ≡ title_text
       pick true = refl
       pick false = refl
 
-  pub out_named : (es : Held X) → AreNamed es → AreNamed (remove_entry (bytes.ghosts.eq text) es)
+  pub out_named : (es : ItemsByText X) → AreNamed es → AreNamed (remove_entry (bytes.ghosts.eq text) es)
   out_named [] all = tt
   out_named (e ∷ es) all = by (bytes.ghosts.eq text e.0) (out_named es all.1)
     where
@@ -54,10 +54,10 @@ module _ {X : Type 0} (text : List ℕ) (title : Title) (t : text ≡ title_text
 
   module _ (item : X) where
     -- the item goes where the text is, with the title that is there
-    abbrev pub kept : Held X → Title × X
+    abbrev pub kept : ItemsByText X → Title × X
     kept es = (title_kept (lookup (bytes.ghosts.eq text) es) title, item)
 
-    pub inserted : (es : Held X) → AreNamed es → titled (items_in (insert_entry bytes.ghosts.eq es text (kept es))) ≡ with_item (titled (items_in es)) title item
+    pub inserted : (es : ItemsByText X) → AreNamed es → titled (items_in (insert_entry bytes.ghosts.eq es text (kept es))) ≡ with_item (titled (items_in es)) title item
     inserted [] all = refl
     inserted (e ∷ es) all = by (bytes.ghosts.eq text e.0) (same_title e.1.0 title) (test text title e t all.0) (inserted es all.1)
       where
@@ -69,7 +69,7 @@ module _ {X : Type 0} (text : List ℕ) (title : Title) (t : text ≡ title_text
         by false true p later = cc
         by false false p later = ap (λ o. record { title = e.1.0; item = e.1.1 } ∷ o) later
 
-    pub in_named : (es : Held X) → AreNamed es → AreNamed (insert_entry bytes.ghosts.eq es text (kept es))
+    pub in_named : (es : ItemsByText X) → AreNamed es → AreNamed (insert_entry bytes.ghosts.eq es text (kept es))
     in_named [] all = (t, tt)
     in_named (e ∷ es) all = by (bytes.ghosts.eq text e.0) (in_named es all.1)
       where

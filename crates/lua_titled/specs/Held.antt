@@ -3,14 +3,14 @@ use Rattle.std.specs.Prelude.{◌≡◌, ℕ, List, [], ◌∷◌, map, Option, 
 use Rattle.wk_base.specs.declared.title.Title.{Title}
 use Rattle.wk_base.specs.Titles.{title_text}
 
-abbrev pub Held : Type 0 → Type 0
-Held X = List (List ℕ × (Title × X))
+abbrev pub ItemsByText : Type 0 → Type 0
+ItemsByText X = List (List ℕ × (Title × X))
 
-abbrev pub items_in : {X : Type 0} → Held X → List (Title × X)
+abbrev pub items_in : {X : Type 0} → ItemsByText X → List (Title × X)
 items_in held = map (λ e. e.1) held
 
 -- each stands under the text of its title
-abbrev pub AreNamed : {X : Type 0} → Held X → Type 0
+abbrev pub AreNamed : {X : Type 0} → ItemsByText X → Type 0
 AreNamed [] = Unit {0}
 AreNamed (e ∷ es) = (e.0 ≡ title_text e.1.0) × AreNamed es
 

@@ -12,7 +12,7 @@ use Rattle.page_run.specs.Walk.{WalkState, is_in}
 use Rattle.lua_meaning.specs.World.{Modules}
 use Rattle.page_ground.specs.declared.keep.Kept.{Kept}
 use Rattle.wk_base.specs.declared.left.Left.{Left}
-use Rattle.lua_code.specs.Held.{Held, modules_seen}
+use Rattle.lua_code.specs.Held.{TitledModules, modules_seen}
 use Rattle.page_ground.specs.Ground.{Ground, TellsHeld}
 use Rattle.page_ground.specs.Kept.{kept_for, kept_beside, keep_with, EntryOf, KeepOf, IsShort, IsEntry, Keeps}
 use Rattle.std.specs.Borrow.{Bor}
@@ -113,7 +113,7 @@ nothing_is : {A : Type 0} (o : Option A) → false ≡ is_some o → o ≡ None
 nothing_is None e = refl
 nothing_is (Some a) e = absurd cc
 
-pub tells_held : (held : Held) (title : Title) (b : Bool) → b ≡ is_some (modules_seen held (title_text title)) → is_module title.ns ≡ true → TellsHeld held title b
+pub tells_held : (held : TitledModules) (title : Title) (b : Bool) → b ≡ is_some (modules_seen held (title_text title)) → is_module title.ns ≡ true → TellsHeld held title b
 tells_held held title true e m = (sym e, m)
 tells_held held title false e m = inr (nothing_is (modules_seen held (title_text title)) e)
 

@@ -7,7 +7,7 @@ use Rattle.wiki_expand.specs.Pages.{Pages, included_in}
 use Rattle.lua_meaning.specs.World.{Modules}
 use Rattle.lua_slots.specs.IsCode.{Agrees}
 use Rattle.lua_state.specs.declared.codes.World.{World}
-use Rattle.lua_code.specs.Held.{Held, modules_seen}
+use Rattle.lua_code.specs.Held.{TitledModules, modules_seen}
 use Rattle.page_ground.specs.declared.context.Context.{Context}
 use Rattle.page_meaning.specs.Wiki.{Wiki}
 
@@ -33,7 +33,7 @@ abbrev pub named_module : List ℕ → Bool
 named_module text = starts_with ◌==◌ text (codes "Module:")
 
 -- MODULES whose code is that of the modules that are held, each named as a module is
-pub record AreModulesIn (page : Title) (held : Held) (modules : Modules) : Type 0 where
+pub record AreModulesIn (page : Title) (held : TitledModules) (modules : Modules) : Type 0 where
   pub agree : Agrees (record { page = page; modules = modules }) (record { page = page; modules = modules_seen held })
   pub named : (title : Title) → named_module (title_text title) ≡ false → modules title ≡ None
 
@@ -41,6 +41,6 @@ abbrev pub AreModulesOf : Ground → Modules → Type 0
 AreModulesOf g modules = AreModulesIn (page_of g) g.world.modules.now modules
 
 -- whether a module of a title is held: it is, and the title is that of a module; or it is not named as one, or none is held of that name
-abbrev pub TellsHeld : Held → Title → Bool → Type 0
+abbrev pub TellsHeld : TitledModules → Title → Bool → Type 0
 TellsHeld held title true = IsTrue (is_some (modules_seen held (title_text title))) × (is_module title.ns ≡ true)
 TellsHeld held title false = (named_module (title_text title) ≡ false) ⊎ (modules_seen held (title_text title) ≡ None)

@@ -4,7 +4,7 @@ use Rattle.wk_base.specs.declared.title.Title.{Title}
 use Rattle.wk_base.specs.Titles.{title_text}
 use Rattle.wiki_expand.specs.Pages.{Pages, find_page}
 use Rattle.lua_meaning.specs.World.{Modules}
-use Rattle.lua_code.specs.Held.{Held, modules_seen}
+use Rattle.lua_code.specs.Held.{TitledModules, modules_seen}
 use Rattle.page_driver.specs.Ground.{AreModulesIn}
 use Rattle.wiki_texts.specs.declared.raw.RawPage.{RawPage}
 use Rattle.wiki_texts.specs.Pages.{page_map}
@@ -14,7 +14,7 @@ use Rattle.wiki_texts.proofs.PageLaws.{map_holds}
 use Rattle.wiki_texts.proofs.MeaningLaws.{module_agrees, unnamed, lacks}
 use Rattle.wiki_batch.specs.Wikis.{HoldsModules}
 
-pub agrees : (pages : List RawPage) (held : Held) (modules : Modules) (page : Title) → AreCodeOf pages held → AreMeantBy pages modules → AreModulesIn page held modules
+pub agrees : (pages : List RawPage) (held : TitledModules) (modules : Modules) (page : Title) → AreCodeOf pages held → AreMeantBy pages modules → AreModulesIn page held modules
 agrees pages held modules page code mean = record {
   agree = record {
     page = refl;
@@ -23,5 +23,5 @@ agrees pages held modules page code mean = record {
   named = λ title h. lacks (module_text pages (title_text title)) (modules title) (mean title) (unnamed pages (title_text title) h);
 }
 
-pub holds : (pages : List RawPage) (map : Pages) (held : Held) → map ≡ page_map pages → AreCodeOf pages held → HoldsModules map held
+pub holds : (pages : List RawPage) (map : Pages) (held : TitledModules) → map ≡ page_map pages → AreCodeOf pages held → HoldsModules map held
 holds pages map held is code title h = code.names title h ∙ sym (ap (λ (m : Pages). is_some (find_page m title)) is ∙ map_holds pages title)

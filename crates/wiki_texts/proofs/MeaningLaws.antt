@@ -19,7 +19,7 @@ use Rattle.lua_parser.proofs.lemmas.AnsweredOnce.{one_fault}
 use Rattle.lua_meaning.specs.World.{Module, Modules}
 use Rattle.lua_slots.specs.Code.{Protos, CModule}
 use Rattle.lua_slots.specs.IsCode.{IsProtos, IsCodeOrFault, IsModule}
-use Rattle.lua_code.specs.Held.{Held, modules_seen}
+use Rattle.lua_code.specs.Held.{TitledModules, modules_seen}
 use Rattle.wiki_texts.specs.declared.raw.RawPage.{RawPage}
 use Rattle.wiki_texts.specs.Modules.{module_text, IsTree, IsMeantBy, AreMeantBy}
 use Rattle.wiki_texts.specs.Code.{IsCodeOf, IsCodeOfModule, AreCodeOf}
@@ -125,7 +125,7 @@ is_meant None None h = tt
 is_meant (Some text) None h = absurd h
 is_meant None (Some c) h = absurd h
 
-pub there_are : (pages : List RawPage) (held : Held) → AreCodeOf pages held → (modules : Modules) × AreMeantBy pages modules
+pub there_are : (pages : List RawPage) (held : TitledModules) → AreCodeOf pages held → (modules : Modules) × AreMeantBy pages modules
 there_are pages held all = (
   λ title. meant_in (module_text pages (title_text title)) (modules_seen held (title_text title)) (all.code (title_text title)),
   λ title. is_meant (module_text pages (title_text title)) (modules_seen held (title_text title)) (all.code (title_text title)),

@@ -11,7 +11,7 @@ use Rattle.wk_base.specs.Titles.{is_module, title_text}
 use Rattle.wk_base.proofs.TitleLaws.{same_title}
 use Rattle.lua_slots.specs.Code.{CModule}
 use Rattle.lua_code.specs.declared.modules.Module.{Module}
-use Rattle.lua_code.specs.Held.{Held, find_module, code_seen, module_seen, modules_seen}
+use Rattle.lua_code.specs.Held.{TitledModules, find_module, code_seen, module_seen, modules_seen}
 use Rattle.wiki_texts.specs.declared.raw.RawPage.{RawPage}
 use Rattle.wiki_texts.specs.Pages.{is_held}
 use Rattle.wiki_texts.specs.Modules.{module_text}
@@ -33,7 +33,7 @@ text_more (p ∷ pages) page name = go (is_module p.title.ns && bytes_eq name (t
     go true later = refl
     go false later = later
 
-seen_more : (held : Held) (t : Title) (m : Module) (name : List ℕ) → modules_seen (held ++ (t, m) ∷ []) name ≡ or_else (modules_seen held name) (if bytes_eq name (title_text t) then Some (module_seen m) else None)
+seen_more : (held : TitledModules) (t : Title) (m : Module) (name : List ℕ) → modules_seen (held ++ (t, m) ∷ []) name ≡ or_else (modules_seen held name) (if bytes_eq name (title_text t) then Some (module_seen m) else None)
 seen_more [] t m name = go (bytes_eq name (title_text t))
   where
     go : (b : Bool) → option_map module_seen (if b then Some m else None) ≡ (if b then Some (module_seen m) else None)
@@ -72,14 +72,14 @@ grows None None text m false h new = tt
 grows (Some x) None text m b h new = absurd h
 grows None (Some y) text m b h new = absurd h
 
-code_stays : (earlier : List RawPage) (page : RawPage) (held : Held) (name : List ℕ) → (module_text (page ∷ []) name ≡ None) ⊎ (is_some (modules_seen held name) ≡ true) → IsCodeOfModule (module_text earlier name) (modules_seen held name) → IsCodeOfModule (module_text (earlier ++ page ∷ []) name) (modules_seen held name)
+code_stays : (earlier : List RawPage) (page : RawPage) (held : TitledModules) (name : List ℕ) → (module_text (page ∷ []) name ≡ None) ⊎ (is_some (modules_seen held name) ≡ true) → IsCodeOfModule (module_text earlier name) (modules_seen held name) → IsCodeOfModule (module_text (earlier ++ page ∷ []) name) (modules_seen held name)
 code_stays earlier page held name why h =
     subst (λ (o : Option (List ℕ)). IsCodeOfModule o (modules_seen held name)) (sym (text_more earlier page name))
     (stays (module_text earlier name) (module_text (page ∷ []) name) (modules_seen held name) why h)
 
 -- ---- a page that is no module
 
-pub passed_over : (page : RawPage) (held : Held) → is_module page.title.ns ≡ false → Adds page held held
+pub passed_over : (page : RawPage) (held : TitledModules) → is_module page.title.ns ≡ false → Adds page held held
 passed_over page held n earlier all = record {
   code = λ name. code_stays earlier page held name (inl (of_no_module page name n)) (all.code name);
   names = λ title h. all.names title h ∙ or_kept (is_held earlier title) (titles.ghosts.eq title page.title) (λ e. absurd (other_space title page.title h n e)) ∙ sym (held_more earlier page title);
@@ -95,7 +95,7 @@ is_copied : {A : Type 0} (r : Option (Bor A)) → is_some (option_copied r) ≡ 
 is_copied (Some x) = refl
 is_copied None = refl
 
-module _ (page : RawPage) (held : Held) (r : Option (Bor Module)) (h : is_module page.title.ns ≡ true) (found : option_copied r ≡ find_module held page.title) (seen : is_module page.title.ns ≡ true → option_map (λ m. module_seen m.now) r ≡ modules_seen held (title_text page.title)) (some : is_some r ≡ true) where
+module _ (page : RawPage) (held : TitledModules) (r : Option (Bor Module)) (h : is_module page.title.ns ≡ true) (found : option_copied r ≡ find_module held page.title) (seen : is_module page.title.ns ≡ true → option_map (λ m. module_seen m.now) r ≡ modules_seen held (title_text page.title)) (some : is_some r ≡ true) where
   is_found : is_some (find_module held page.title) ≡ true
   is_found = ap is_some (sym found) ∙ is_copied r ∙ some
 
@@ -120,7 +120,7 @@ module _ (page : RawPage) (held : Held) (r : Option (Bor Module)) (h : is_module
 
 -- ---- and one that is added
 
-added_itself : (page : RawPage) (held : Held) (m : Module) → is_module page.title.ns ≡ true → m.size ≡ length page.bytes → IsCodeOf page.bytes (code_seen m.code) → Adds page held (held ++ (page.title, m) ∷ [])
+added_itself : (page : RawPage) (held : TitledModules) (m : Module) → is_module page.title.ns ≡ true → m.size ≡ length page.bytes → IsCodeOf page.bytes (code_seen m.code) → Adds page held (held ++ (page.title, m) ∷ [])
 added_itself page held m h size code earlier all = record {
   code = λ name.
       subst (λ (o : Option (List ℕ)). IsCodeOfModule o (modules_seen (held ++ (page.title, m) ∷ []) name)) (sym (text_more earlier page name ∙ ap (or_else (module_text earlier name)) (of_module page name h)))
@@ -132,7 +132,7 @@ added_itself page held m h size code earlier all = record {
       ∙ sym (held_more earlier page title);
 }
 
-pub added : (page : RawPage) (held more : Held) (title : Title) (m : Module) → title ≡ page.title → more ≡ held ++ (title, m) ∷ [] → is_module page.title.ns ≡ true → m.size ≡ length page.bytes → IsCodeOf page.bytes (code_seen m.code) → Adds page held more
+pub added : (page : RawPage) (held more : TitledModules) (title : Title) (m : Module) → title ≡ page.title → more ≡ held ++ (title, m) ∷ [] → is_module page.title.ns ≡ true → m.size ≡ length page.bytes → IsCodeOf page.bytes (code_seen m.code) → Adds page held more
 added page held more title m same is h size code =
     subst (Adds page held) (sym (is ∙ ap (λ (t : Title). held ++ (t, m) ∷ []) same)) (added_itself page held m h size code)
 

@@ -9,7 +9,7 @@ use Rattle.wiki_markup.specs.Formed.{IsMarked}
 use Rattle.wiki_markup.proofs.Shapes.{letters_marked}
 use Rattle.wiki_expand.specs.Pages.{Pages}
 use Rattle.lua_code.specs.declared.proto.Protos.{Protos}
-use Rattle.lua_code.specs.Held.{Held, code_seen}
+use Rattle.lua_code.specs.Held.{TitledModules, code_seen}
 use Rattle.wiki_texts.specs.declared.raw.RawPage.{RawPage}
 use Rattle.wiki_texts.specs.declared.prepared.Prepared.{Prepared}
 use Rattle.wiki_texts.specs.Pages.{marked_in, with_page, with_pages, page_map}
@@ -78,14 +78,14 @@ same_length (r ∷ pages) (q ∷ ps) are = ap suc (same_length pages ps are.1)
 
 -- ---- what is held of the first n pages
 
-pub record AreHeld (pages : List RawPage) (n : ℕ) (map : Pages) (held : Held) : Type 0 where
+pub record AreHeld (pages : List RawPage) (n : ℕ) (map : Pages) (held : TitledModules) : Type 0 where
   pub pages_are : map ≡ page_map (take n pages)
   pub code_is : AreCodeOf (take n pages) held
 
 pub nothing_held : (pages : List RawPage) → AreHeld pages 0 [] []
 nothing_held pages = record { pages_are = sym map_of_none; code_is = none_yet }
 
-pub one_held : (pages : List RawPage) (n : ℕ) (page : RawPage) (map : Pages) (held more : Held) → n < length pages → page ≡ get_or pages n page → AreHeld pages n map held → Adds page held more → AreHeld pages (n + 1) (with_page map page) more
+pub one_held : (pages : List RawPage) (n : ℕ) (page : RawPage) (map : Pages) (held more : TitledModules) → n < length pages → page ≡ get_or pages n page → AreHeld pages n map held → Adds page held more → AreHeld pages (n + 1) (with_page map page) more
 one_held pages n page map held more less is h adds =
     let longer : take (n + 1) pages ≡ take n pages ++ page ∷ [] = take_more pages n page less ∙ ap (λ (p : RawPage). take n pages ++ p ∷ []) (sym is) in
     record {
@@ -93,7 +93,7 @@ one_held pages n page map held more less is h adds =
       code_is = subst (λ (ps : List RawPage). AreCodeOf ps more) (sym longer) (adds (take n pages) h.code_is);
     }
 
-pub all_held : (pages : List RawPage) (n : ℕ) (map : Pages) (held : Held) → AreHeld pages n map held → length pages ≤ n → (map ≡ page_map pages) × AreCodeOf pages held
+pub all_held : (pages : List RawPage) (n : ℕ) (map : Pages) (held : TitledModules) → AreHeld pages n map held → length pages ≤ n → (map ≡ page_map pages) × AreCodeOf pages held
 all_held pages n map held h all =
     let whole : take n pages ≡ pages = take_all n pages all in
     (h.pages_are ∙ ap page_map whole, subst (λ (ps : List RawPage). AreCodeOf ps held) whole h.code_is)

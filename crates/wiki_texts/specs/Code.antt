@@ -6,7 +6,7 @@ use Rattle.lua_syntax.specs.declared.fault.FaultAt.{FaultAt}
 use Rattle.lua_syntax.specs.Tree.{Block}
 use Rattle.lua_slots.specs.Code.{Protos, CModule}
 use Rattle.lua_slots.specs.IsCode.{IsProtos}
-use Rattle.lua_code.specs.Held.{Held, find_module, modules_seen}
+use Rattle.lua_code.specs.Held.{TitledModules, find_module, modules_seen}
 use Rattle.wiki_texts.specs.declared.raw.RawPage.{RawPage}
 use Rattle.wiki_texts.specs.Pages.{is_held}
 use Rattle.wiki_texts.specs.Modules.{module_text, IsTree}
@@ -22,10 +22,10 @@ IsCodeOfModule (Some text) (Some m) = (m.size ≡ length text) × IsCodeOf text 
 IsCodeOfModule _ _ = ⊥
 
 -- of each module its code, and of each page of namespace Module one module
-pub record AreCodeOf (pages : List RawPage) (held : Held) : Type 0 where
+pub record AreCodeOf (pages : List RawPage) (held : TitledModules) : Type 0 where
   pub code : (name : List ℕ) → IsCodeOfModule (module_text pages name) (modules_seen held name)
   pub names : (title : Title) → is_module title.ns ≡ true → is_some (find_module held title) ≡ is_held pages title
 
 -- with one page more
-abbrev pub Adds : RawPage → Held → Held → Type 0
+abbrev pub Adds : RawPage → TitledModules → TitledModules → Type 0
 Adds page held more = (earlier : List RawPage) → AreCodeOf earlier held → AreCodeOf (earlier ++ page ∷ []) more
