@@ -21,7 +21,7 @@
 //! - `moves`: what may be done to two heaps at once (`MoveLaws`)
 //! - `closed_sets`: closed sets and what stands (`SetLaws`)
 //! - `reach`: what is reached and what is owned (`ReachLaws`)
-//! - `whole`: heaps in which whatever is named is there (`WholeLaws`)
+//! - `closed`: heaps in which whatever is named is there (`WholeLaws`)
 //! - `framing`: what a call leaves as it was (`FrameLaws`)
 //! - `graphs`: graphs that are put, kept and joined (`GraphLaws`)
 //! - `examples`: the small heaps are what `Examples` says
@@ -30,6 +30,7 @@
 //! of what functions hold.
 #![tactic(auto)]
 
+pub mod closed;
 pub mod closed_sets;
 pub mod content;
 pub mod equality;
@@ -41,7 +42,6 @@ pub mod moves;
 pub mod objects;
 pub mod reach;
 pub mod standing;
-pub mod whole;
 
 pub use content::Content;
 pub use library::Library;

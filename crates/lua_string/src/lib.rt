@@ -5,22 +5,22 @@
 //! - `finding`: `find` and `match`, within a budget of steps
 //! - `replacing`: what a replacement text of `gsub` stands for
 //! - `walking`: the law that `gsub` may search on in place of going from place to place
-//! - `whole`: the functions of `math`
+//! - `math`: the functions of `math`, over whole numbers
 //!
 //! The definitions stand in `specs/Places.antt`, `specs/Texts.antt`, `specs/Finds.antt`, `specs/Replacements.antt`,
 //! `specs/Walk.antt` (the way of `gsub` and `gmatch`) and `specs/Whole.antt`.
 #![tactic(auto)]
 
 pub mod finding;
+pub mod math;
 pub mod place;
 pub mod replacing;
 pub mod text;
 pub mod walking;
-pub mod whole;
 
 pub use finding::{find, match_from};
+pub use math::{abs, ceil, floor, fmod, max, min, pow};
 pub use place::{byte, part, sub};
 pub use replacing::{CaptureText, replaced, replaced_length};
 pub use text::{char_of, len, lower, rep, rep_length, reverse, upper};
 pub use walking::going_on;
-pub use whole::{abs, ceil, floor, fmod, max, min, pow};

@@ -3,8 +3,8 @@ ghost use Rattle.std.specs.Prelude.{◌≡◌, Some, [], ◌∷◌};
 ghost use Rattle.lua_heap.specs.Heap.{cel};
 
 use lua_heap::{
-    Content, Library, closed_sets, equality, examples, framing, graphs, moves, objects, reach,
-    standing, whole,
+    Content, Library, closed, closed_sets, equality, examples, framing, graphs, moves, objects,
+    reach, standing,
 };
 use std::test::Fail;
 
@@ -105,14 +105,14 @@ fn laws_of_reach_are_called(_rt: HostRuntime) -> Result<(), Fail> {
 }
 
 #[test]
-fn laws_of_whole_are_called(_rt: HostRuntime) -> Result<(), Fail> {
-    whole::empty_is_whole::<OneCell>();
-    whole::add_keeps_whole::<OneCell>();
-    whole::put_keeps_whole::<OneCell>();
-    whole::set_keeps_whole::<OneCell>();
-    whole::set_meta_keeps_whole::<OneCell>();
-    whole::freeze_keeps_whole::<OneCell>();
-    whole::set_cell_keeps_whole::<OneCell>();
+fn laws_of_closed_are_called(_rt: HostRuntime) -> Result<(), Fail> {
+    closed::empty_is_whole::<OneCell>();
+    closed::add_keeps_whole::<OneCell>();
+    closed::put_keeps_whole::<OneCell>();
+    closed::set_keeps_whole::<OneCell>();
+    closed::set_meta_keeps_whole::<OneCell>();
+    closed::freeze_keeps_whole::<OneCell>();
+    closed::set_cell_keeps_whole::<OneCell>();
     Ok(())
 }
 

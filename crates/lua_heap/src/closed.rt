@@ -1,4 +1,4 @@
-//! Whole heaps, in which whatever is named is there.
+//! Closed heaps: whatever is named in them is there, and so each is whole (`IsWhole`).
 ghost use Rattle.lua_heap.specs.WholeLaws.{EmptyIsWhole, AddKeepsWhole, PutKeepsWhole, SetKeepsWhole, SetMetaKeepsWhole, FreezeKeepsWhole, SetCellKeepsWhole};
 
 /// The empty heap is whole.
