@@ -7,7 +7,7 @@ use Rattle.lua_slots.specs.Code.{CExps, NoC, MoreC, CFields, NoFieldC, ItemC, Pa
 use Rattle.lua_slots.specs.Code.{CStat, AssignC, CallStatC, DoC, WhileC, RepeatC, IfC, IfElseC, CountC, CountByC, EachC, ReturnC, BreakC, CBlock, EndC, DeclareC, LocalFunctionC, ThenC, CArms, NoArmC, ArmC, CProto}
 use Rattle.lua_cells.specs.declared.registers.Registers.{Registers}
 use Rattle.lua_cells.specs.Cells.{is_cell, lists, expression_captures, expressions_capture, fields_capture, target_captures, targets_capture, opens, statement_captures, block_captures, arms_capture, AreNeeded, nothing, in_block, IsTightStat, IsTightBlock, AreTightArms, HasNoIdleCell}
-use Rattle.lua_cells.specs.Registers.{captured, all_captured, opened_one, opened, ended, closed, scoped, expression_gone, expressions_gone, fields_gone, target_gone, targets_gone, statement_gone, block_gone, arms_gone, function_gone}
+use Rattle.lua_cells.specs.Registers.{captured, all_captured, opened_one, opened, newest_ended, closed, scoped, expression_gone, expressions_gone, fields_gone, target_gone, targets_gone, statement_gone, block_gone, arms_gone, function_gone}
 
 -- THE REGISTER that is `i` from the newest, if it names a cell that nothing captured so far
 abbrev idle_at : Registers → ℕ → Bool
@@ -161,7 +161,7 @@ one_free : (n : ℕ) (bs : List Bool) → ((i : ℕ) → i < n → get_or bs i f
 one_free n bs h zero l = refl
 one_free n bs h (suc i) l = h i (omega (arith, l))
 
-ends : (n : ℕ) (bs : List Bool) (needed : Bool) → Ends n bs needed (ended n bs needed)
+ends : (n : ℕ) (bs : List Bool) (needed : Bool) → Ends n bs needed (newest_ended n bs needed)
 ends zero bs needed = record { before = λ e. e; as_many = λ h. omega arith; none = λ e i h. absurd (omega (arith, h)); left = λ i k e. let f : i ≡ k = omega (arith, e) in ap (λ m. get_or bs m false) f }
 ends (suc n) [] needed = record { before = λ e. e; as_many = λ h. absurd (omega (arith, h)); none = λ e i h. refl; left = λ i k e. refl }
 ends (suc n) (true ∷ bs) needed =
@@ -170,7 +170,7 @@ ends (suc n) (true ∷ bs) needed =
       before = λ e. absurd (true≢false (sym (rest.before e)));
       as_many = λ h. fewer _ _ _ (rest.as_many (omega (arith, h)));
       none = λ e i h. absurd (true≢false (sym (rest.before e)));
-      left = shifted n true bs (ended n bs false) rest.left;
+      left = shifted n true bs (newest_ended n bs false) rest.left;
     }
 ends (suc n) (false ∷ bs) needed =
     let rest = ends n bs needed in
@@ -178,7 +178,7 @@ ends (suc n) (false ∷ bs) needed =
       before = rest.before;
       as_many = λ h. fewer _ _ _ (rest.as_many (omega (arith, h)));
       none = λ e. one_free n bs (rest.none e);
-      left = shifted n false bs (ended n bs needed) rest.left;
+      left = shifted n false bs (newest_ended n bs needed) rest.left;
     }
 
 -- variables that were opened since then end
@@ -369,7 +369,7 @@ needed_opened : (bs : List Bool) (r : Registers) → r.needed ≡ true → (open
 needed_opened [] r e = e
 needed_opened (b ∷ bs) r e = needed_opened bs (opened_one b r) e
 
-needed_ended : (n : ℕ) (bs : List Bool) (needed : Bool) → needed ≡ true → ((i : ℕ) → i < n → get_or bs i false ≡ false) → (ended n bs needed).needed ≡ true
+needed_ended : (n : ℕ) (bs : List Bool) (needed : Bool) → needed ≡ true → ((i : ℕ) → i < n → get_or bs i false ≡ false) → (newest_ended n bs needed).needed ≡ true
 needed_ended zero bs needed e h = e
 needed_ended (suc n) [] needed e h = e
 needed_ended (suc n) (true ∷ bs) needed e h = absurd (true≢false (h 0 (omega arith)))

@@ -3,7 +3,7 @@ use Rattle.std.proofs.Common.{◌≡◌, ◌∙◌, ℕ, zero, suc, Bool, true, 
 use Rattle.lua_slots.specs.Code.{Place, Reg, Box, Up, CExp, ConstantC, DotsC, FunctionC, LocalC, GlobalC, IndexC, CallC, MethodC, TableC, AndC, OrC, OperateC, UnaryC, ParenC}
 use Rattle.lua_slots.specs.Code.{CExps, NoC, MoreC, CFields, NoFieldC, ItemC, PairC, CTarget, PlaceC, GlobalTargetC, EntryC, RefusedC}
 use Rattle.lua_cells.specs.declared.registers.Registers.{Registers}
-use Rattle.lua_cells.specs.Registers.{NoneIdle, captured, all_captured, opened_one, ended, closed, expression_gone, expressions_gone, fields_gone, target_gone, targets_gone}
+use Rattle.lua_cells.specs.Registers.{NoneIdle, captured, all_captured, opened_one, newest_ended, closed, expression_gone, expressions_gone, fields_gone, target_gone, targets_gone}
 
 -- PLACES
 set_free : (bs : List Bool) (i : ℕ) → NoneIdle bs → slice_set bs i false ≡ bs
@@ -74,7 +74,7 @@ no_targets ts r s e h = sym (targets ts s (subst (λ k. NoneIdle k.idle) e h))
 pub opens_free : (b : Bool) (r s : Registers) → NoneIdle r.idle → s ≡ opened_one b r → b ≡ false → NoneIdle s.idle
 opens_free b r s h e f = subst (λ k. NoneIdle k.idle) (sym e) (f, h)
 
-ends_free : (n : ℕ) (bs : List Bool) (needed : Bool) → NoneIdle bs → NoneIdle (ended n bs needed).idle
+ends_free : (n : ℕ) (bs : List Bool) (needed : Bool) → NoneIdle bs → NoneIdle (newest_ended n bs needed).idle
 ends_free zero bs needed h = h
 ends_free (suc n) [] needed h = tt
 ends_free (suc n) (true ∷ bs) needed h = absurd (true≢false h.0)

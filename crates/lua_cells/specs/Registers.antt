@@ -23,13 +23,13 @@ opened [] r = r
 opened (b ∷ bs) r = opened bs (opened_one b r)
 
 -- the newest so many end
-abbrev pub ended : ℕ → List Bool → Bool → Registers
-ended zero bs needed = record { idle = bs; needed = needed }
-ended (suc n) [] needed = record { idle = []; needed = needed }
-ended (suc n) (b ∷ bs) needed = ended n bs (if b then false else needed)
+abbrev pub newest_ended : ℕ → List Bool → Bool → Registers
+newest_ended zero bs needed = record { idle = bs; needed = needed }
+newest_ended (suc n) [] needed = record { idle = []; needed = needed }
+newest_ended (suc n) (b ∷ bs) needed = newest_ended n bs (if b then false else needed)
 
 abbrev pub closed : ℕ → Registers → Registers
-closed n r = ended (length r.idle - n) r.idle r.needed
+closed n r = newest_ended (length r.idle - n) r.idle r.needed
 
 abbrev pub scoped : (Registers → Registers) → Registers → Registers
 scoped f r = closed (length r.idle) (f r)

@@ -1,7 +1,7 @@
 //! The registers of a function whose code is gone over.
 ghost use Rattle.std.specs.Prelude.{◌≡◌, [], true, length, map, OnOk};
 ghost use Rattle.lua_code.specs.Seen.{place_seen};
-ghost use Rattle.lua_cells.specs.Registers.{captured, all_captured, opened_one, ended, closed};
+ghost use Rattle.lua_cells.specs.Registers.{captured, all_captured, opened_one, newest_ended, closed};
 
 use lua_code::Place;
 use lua_stack::Stack;
@@ -62,7 +62,7 @@ impl Registers {
 
     /// The newest variable ends.
     fn end_one(&mut self)
-        ensures { self.new ≡ ended 1 self.old.idle self.old.needed }
+        ensures { self.new ≡ newest_ended 1 self.old.idle self.old.needed }
     {
         match self.idle.pop() {
             None => {}
