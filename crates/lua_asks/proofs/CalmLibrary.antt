@@ -114,7 +114,7 @@ replaces job zero far line fs s = still (refl, tt)
 replaces job (suc limit) far line fs s = asks_on job far (search job limit far) line fs s
 
 gsub_answer : (w : Replacing) (o : Outcome (List Value) Jump) (line : Option ℕ) (fs : List SFrame) (s : Slots) → IsCalm s.data_ (gsubs.gsub_answer w o line fs s)
-gsub_answer w (Goes vs) line fs s = with_argument (replacement_given w.whole (first vs)) line fs s _ (λ piece. still (replaces w.job w.limit (with_piece w.far piece) line fs s).stays)
+gsub_answer w (Goes vs) line fs s = with_argument (replacement_given w.matched (first vs)) line fs s _ (λ piece. still (replaces w.job w.limit (with_piece w.far piece) line fs s).stays)
 gsub_answer w (Jumps j) line fs s = still (refl, tt)
 
 gsub : (f : GsubForm Proc) (line : Option ℕ) (fs : List SFrame) (s : Slots) → IsCalm s.data_ (libraries.gsub f line fs s)

@@ -74,7 +74,7 @@ module _ (s t : StoreView) (m : State) (of : StateOf s m) (later : IsLater s t) 
 
   -- a match
   match_turn : (x : Search) (limit : ℕ) (subject : Bytes) (u : StoreView) (m' : State) (f g : Far) (values : List Value) (start end : ℕ) (v : Replacing) (l k l' : Left) (r : Turn)
-      → IsSought x subject s t f g l k (Ok (sought.Matched values start end)) → GoesOnWith job limit x → ((w : Replacing) → w.job ≡ job → w.limit ≡ limit → far_seen g ≡ w.far → span subject start end ≡ w.whole → v ≡ w)
+      → IsSought x subject s t f g l k (Ok (sought.Matched values start end)) → GoesOnWith job limit x → ((w : Replacing) → w.job ≡ job → w.limit ≡ limit → far_seen g ≡ w.far → span subject start end ≡ w.matched → v ≡ w)
       → Makes t m k u m' l' (asks v.job.by (values_seen t.texts values) (Waits (GsubWaits v) line ∷ frames_of t m) (slots_of t m)) r → Makes s m l u m' l' (asks_on job (far_seen f) x line (frames_of s m) (slots_of s m)) r
   match_turn (NoMatch n) limit subject u m' f g values start end v l k l' r p on is made = absurd p
   match_turn (Matched n captures w) limit subject u m' f g values start end v l k l' r (took, seen, far, whole) on is made =
@@ -84,14 +84,14 @@ module _ (s t : StoreView) (m : State) (of : StateOf s m) (later : IsLater s t) 
       (subst (λ vs. Makes t m k u m' l' (asks v.job.by vs (Waits (GsubWaits v) line ∷ frames_of t m) (slots_of t m)) r) seen made)))
 
   pub seek_matched : {E : Type 0} (x : Search) (limit : ℕ) (subject : Bytes) (u : StoreView) (m' : State) (f g : Far) (values : List Value) (start end : ℕ) (v : Replacing) (l k l' : Left) (r : Result Turn E)
-      → IsSought x subject s t f g l k (Ok (sought.Matched values start end)) → GoesOnWith job limit x → ((w : Replacing) → w.job ≡ job → w.limit ≡ limit → far_seen g ≡ w.far → span subject start end ≡ w.whole → v ≡ w)
+      → IsSought x subject s t f g l k (Ok (sought.Matched values start end)) → GoesOnWith job limit x → ((w : Replacing) → w.job ≡ job → w.limit ≡ limit → far_seen g ≡ w.far → span subject start end ≡ w.matched → v ≡ w)
       → IfOk r (Makes t m k u m' l' (asks v.job.by (values_seen t.texts values) (Waits (GsubWaits v) line ∷ frames_of t m) (slots_of t m))) → IfOk r (Makes s m l u m' l' (asks_on job (far_seen f) x line (frames_of s m) (slots_of s m)))
   seek_matched x limit subject u m' f g values start end v l k l' (Ok r) p on is made = match_turn x limit subject u m' f g values start end v l k l' r p on is made
   seek_matched x limit subject u m' f g values start end v l k l' (Err e) p on is made = tt
 
 -- what waits, by its parts
-pub waits_is : (w : Replacing) (job : Job) (limit : ℕ) (far : meaning.Far) (whole : Bytes) → w.job ≡ job → w.limit ≡ limit → far ≡ w.far → whole ≡ w.whole
-    → (let v : Replacing = record { job = job; limit = limit; far = far; whole = whole } in v) ≡ w
+pub waits_is : (w : Replacing) (job : Job) (limit : ℕ) (far : meaning.Far) (whole : Bytes) → w.job ≡ job → w.limit ≡ limit → far ≡ w.far → whole ≡ w.matched
+    → (let v : Replacing = record { job = job; limit = limit; far = far; matched = whole } in v) ≡ w
 waits_is w job limit far whole a b c d = rw (sym a, sym b, c, d) refl
 
 -- WHAT WAS GIVEN for a match is put in its place for its bytes, or is refused

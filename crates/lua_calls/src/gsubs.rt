@@ -173,7 +173,7 @@ fn go_on<'m>(
     requires waits { ReplacingOf store.old waits }
     requires value { IsOf store.old value }
     ensures { IfOk result (λ r. Makes store.old state.old left.old store.new state.new left.new
-        (with_argument (replacement_given (replacing_seen store.old.texts waits).whole (seen store.old.texts value)) line (frames_of store.old state.old) (slots_of store.old state.old)
+        (with_argument (replacement_given (replacing_seen store.old.texts waits).matched (seen store.old.texts value)) line (frames_of store.old state.old) (slots_of store.old state.old)
         (λ piece. machine.puts (replacing_seen store.old.texts waits) piece line (frames_of store.old state.old) (slots_of store.old state.old))) r) }
 {
     let Replacing {

@@ -84,7 +84,7 @@ piece_given w (Ok piece) line fs s = pays _ _ (replaces w.job w.limit (with_piec
 piece_given w (Err message) line fs s = below (omega arith) (fails line message fs s)
 
 gsub_answer : (w : Replacing) (o : Outcome (List Value) Jump) (line : Option ℕ) (fs : List SFrame) (s : Slots) → IsLow (gsubs.gsub_answer w o line fs s) (of_outcome o + (3 * w.limit + 5 + of_frames fs))
-gsub_answer w (Goes vs) line fs s = below (omega arith) (piece_given w (replacement_given w.whole (first vs)) line fs s)
+gsub_answer w (Goes vs) line fs s = below (omega arith) (piece_given w (replacement_given w.matched (first vs)) line fs s)
 gsub_answer w (Jumps j) line fs s = now (omega arith)
 
 module_answer : (title : Title) (o : Outcome (List Value) Jump) (fs : List SFrame) (s : Slots) → IsLow (modules.module_answer title o fs s) (of_outcome o + (3 + of_frames fs))

@@ -49,7 +49,7 @@ search_charge (Matched n captures w) = n
 abbrev pub IsSought : Search → Bytes → StoreView → StoreView → Far → Far → Left → Left → Result Sought Stop → Type 0
 IsSought (NoMatch n) s u t f g l m (Ok sought.NoMatch) = Took n l m × (g ≡ f)
 IsSought (Matched n captures w) s u t f g l m (Ok (sought.Matched values start end)) =
-    Took n l m × (values_seen t.texts values ≡ captures) × (far_seen g ≡ w.far) × (span s start end ≡ w.whole)
+    Took n l m × (values_seen t.texts values ≡ captures) × (far_seen g ≡ w.far) × (span s start end ≡ w.matched)
 IsSought search s u t f g l m (Err stop.Spent) = Lacked (search_charge search) l m × (t ≡ u)
 IsSought search s u t f g l m (Err stop.NoMemory) = Unit {0}
 IsSought search s u t f g l m r = ⊥

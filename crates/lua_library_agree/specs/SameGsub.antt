@@ -36,7 +36,7 @@ pub data SameGsub {X Y : Type 0} (R : Map → X → Y → Type 0) (m : Map) (h :
 
 -- THE SAME SEARCH: what waits goes on with the job of its side
 abbrev pub replacing_of : Job → ℕ → Far → Bytes → Replacing
-replacing_of job limit far whole = record { job = job; limit = limit; far = far; whole = whole }
+replacing_of job limit far matched = record { job = job; limit = limit; far = far; matched = matched }
 
 pub data SameSearch (m : Map) (x y : Job) (limit : ℕ) : Search → Search → Type 0 where
   no_match : (tries : ℕ) → SameSearch m x y limit (NoMatch tries) (NoMatch tries)

@@ -188,7 +188,7 @@ pub record Replacing : Type 0 where
   pub job : Job
   pub limit : ℕ
   pub far : Far
-  pub whole : Bytes
+  pub matched : Bytes
 
 abbrev pub nothing_yet : Far
 nothing_yet = record { text = []; copied = 0; count = 0; next = Some at_head }
@@ -199,7 +199,7 @@ up_to job far k m next =
     record far { text = far.text ++ span job.subject far.copied m.start; copied = m.end; next = next_stand (letters job.alphabet) job.subject k next }
 
 abbrev pub replacing_at : Job → ℕ → Far → Stand → Match → Option ℕ → Replacing
-replacing_at job limit far k m next = record { job = job; limit = limit; far = up_to job far k m next; whole = span job.subject m.start m.end }
+replacing_at job limit far k m next = record { job = job; limit = limit; far = up_to job far k m next; matched = span job.subject m.start m.end }
 
 -- A SEARCH with its charge: there is no match, or a match with its captures (the whole of it where there are none), and what waits. Its
 -- tries are paid, and the bytes before a match, which are put behind the text.
@@ -259,7 +259,7 @@ with_replacement callers far whole more vs = do
 
 abbrev pub asks_on : Levels → Job → Far → (Far → Act (List Value)) → Search → Act (List Value)
 asks_on callers job far more (NoMatch charge) = tick charge >> finish job far
-asks_on callers job far more (Matched charge captures w) = tick charge >> asks job.by captures (for_values (with_replacement callers w.far w.whole more))
+asks_on callers job far more (Matched charge captures w) = tick charge >> asks job.by captures (for_values (with_replacement callers w.far w.matched more))
 
 -- from where it is on, with at most so many matches
 abbrev pub goes : Levels → Job → ℕ → Far → Act (List Value)
@@ -268,7 +268,7 @@ goes callers job (suc limit) far = asks_on callers job far (goes callers job lim
 
 -- what waits does with an outcome
 abbrev pub gsub_answer : Replacing → Levels → Waits
-gsub_answer w callers = for_values (with_replacement callers w.far w.whole (goes callers w.job w.limit))
+gsub_answer w callers = for_values (with_replacement callers w.far w.matched (goes callers w.job w.limit))
 
 -- ---- THE FUNCTION: it answers at once, or asks behind its charge
 pub data GsubForm (X : Type 0) : Type 0 where

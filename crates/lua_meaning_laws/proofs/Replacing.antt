@@ -28,7 +28,7 @@ with_replacement callers far whole go vs = do
 
 asks_on : {go : Far → Act (List Value)} → (callers : Levels) (job : Job) (far : Far) → ((f : Far) → Quiet (go f)) → (found : Search) → Quiet (gsubs.asks_on callers job far go found)
 asks_on callers job far go (NoMatch tries) = tick tries >> finish job far
-asks_on callers job far go (Matched tries captures w) = tick tries >> asks job.by captures (for_values (with_replacement callers w.far w.whole go))
+asks_on callers job far go (Matched tries captures w) = tick tries >> asks job.by captures (for_values (with_replacement callers w.far w.matched go))
 
 goes : (callers : Levels) (job : Job) (limit : ℕ) (far : Far) → Quiet (gsubs.goes callers job limit far)
 goes callers job zero far = finish job far

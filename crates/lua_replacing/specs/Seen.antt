@@ -58,7 +58,7 @@ replacing_seen texts w = record {
   job = job_seen texts w.job;
   limit = w.limit;
   far = far_seen w.far;
-  whole = span (text_at texts w.job.subject.at) w.start w.end;
+  matched = span (text_at texts w.job.subject.at) w.start w.end;
 }
 
 -- WHAT IT HOLDS IS OF A STORE, and the next search begins within a text of so many bytes

@@ -110,7 +110,7 @@ replaces job zero far line fs s = still refl
 replaces job (suc limit) far line fs s = asks_on job far (search job limit far) line fs s
 
 gsub_answer : (w : Replacing) (o : Outcome (List Value) Jump) (line : Option ℕ) (fs : List SFrame) (s : Slots) → IsQuiet (gsubs.gsub_answer w o line fs s)
-gsub_answer w (Goes vs) line fs s = with_argument (replacement_given w.whole (first vs)) line fs s _ (λ piece. still (replaces w.job w.limit (with_piece w.far piece) line fs s).none)
+gsub_answer w (Goes vs) line fs s = with_argument (replacement_given w.matched (first vs)) line fs s _ (λ piece. still (replaces w.job w.limit (with_piece w.far piece) line fs s).none)
 gsub_answer w (Jumps j) line fs s = still refl
 
 gsub : (f : GsubForm Proc) (line : Option ℕ) (fs : List SFrame) (s : Slots) → IsQuiet (libraries.gsub f line fs s)

@@ -40,5 +40,5 @@ puts w piece line fs s = Costs (length piece) (replaces w.job w.limit (with_piec
 
 -- what waits for a replacement
 abbrev pub gsub_answer : Replacing → Outcome (List Value) Jump → Option ℕ → List SFrame → Slots → Move
-gsub_answer w (Goes vs) line fs s = with_argument (replacement_given w.whole (first vs)) line fs s (λ piece. puts w piece line fs s)
+gsub_answer w (Goes vs) line fs s = with_argument (replacement_given w.matched (first vs)) line fs s (λ piece. puts w piece line fs s)
 gsub_answer w (Jumps j) line fs s = jumps j fs s
