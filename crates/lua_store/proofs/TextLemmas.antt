@@ -6,6 +6,7 @@ use Rattle.std.specs.List.{list_any, find}
 use Rattle.std.specs.Option.{option_map}
 use Rattle.std.specs.Str.{bytes_eq}
 use Rattle.std.specs.Cmp.Lexicographic.{same_text}
+use Rattle.std.proofs.lemmas.Map.Keys.{any_passes_from_place}
 use Rattle.std.proofs.lemmas.Option.{slice_get-map}
 use Rattle.indexmap.specs.IndexSet.{insert_key}
 use Rattle.lua_store.specs.Texts.{texts_of}
@@ -31,6 +32,10 @@ any_text bs (k ∷ ks) = ap (λ b. bytes_eq bs k.now || b) (any_text bs ks)
 
 pub with_text-there : (bs : List ℕ) (ks : List Key) → true ≡ list_any (λ k. bytes_eq bs k.now) ks → with_text (texts_of ks) bs ≡ texts_of ks
 with_text-there bs ks h = ap (λ b. cond b (texts_of ks) (texts_of ks ++ bs ∷ [])) (any_text bs ks ∙ sym h)
+
+-- a text that stands at a place is one of the texts
+pub with_text-at : (bs : List ℕ) (ks : List Key) (at : ℕ) (k : Key) → slice_get ks at ≡ Some k → true ≡ bytes_eq bs k.now → with_text (texts_of ks) bs ≡ texts_of ks
+with_text-at bs ks at k h e = with_text-there bs ks (sym (any_passes_from_place (λ k. bytes_eq bs k.now) ks at k h (sym e)))
 
 texts_of-push : (ks : List Key) (k : Key) → texts_of (ks ++ k ∷ []) ≡ texts_of ks ++ k.now ∷ []
 texts_of-push [] k = refl

@@ -10,11 +10,19 @@ use std::hash::RandomState;
 use std::marker::Model;
 use wk_base::NoMemory;
 
+/// How many slots remember the text that was asked for last.
+const LATELY: usize = 256;
+
 /// Byte strings, all different, in the order in which they were made. Their bytes stand in the arena.
+///
+/// A text that is asked for again and again, as the constants and names of a module are, is hashed once: later its bytes are compared with
+/// those of the text that was last asked for among those of the same slot.
 #[derive(Drop)]
 pub struct Texts<'b> {
     arena: &'b Bump,
     items: IndexSet<&'b [u8], RandomState>,
+    /// For each slot the place of the text of that slot that was asked for last; where there was none, some place.
+    lately: [u32; LATELY],
 }
 
 impl<'b> Model for Texts<'b> {
@@ -37,6 +45,7 @@ impl<'b> Texts<'b> {
         Texts {
             arena,
             items: IndexSet::with_hasher(alloc, seed),
+            lately: [0; LATELY],
         }
     }
 
@@ -46,14 +55,16 @@ impl<'b> Texts<'b> {
         ensures added { OnOk result (self.new ≡ with_text self.old bytes.now) }
         ensures err { OnErr result (self.new ≡ self.old) }
     {
-        if let Some(id) = find(&self.items, bytes) {
-            return Ok(id);
+        let slot = usize::from(slot_of(bytes));
+        let place = self.lately.get(slot).copied().unwrap_or(0);
+        if let Some(at) = asked_lately(&self.items, place, bytes) {
+            return Ok(at);
         }
-        let bytes: &'b [u8] = match self.arena.try_alloc_slice_copy(bytes) {
-            Ok(bytes) => bytes,
-            Err(_) => return Err(NoMemory),
-        };
-        add(&mut self.items, bytes)
+        let at = find_or_add(self.arena, &mut self.items, bytes)?;
+        if let Some(place) = self.lately.get_mut(slot) {
+            *place = u32::try_from(at).unwrap_or(0);
+        }
+        Ok(at)
     }
 
     /// The bytes of the text at a place.
@@ -69,6 +80,55 @@ impl<'b> Texts<'b> {
 }
 
 ghost use Rattle.lua_store.specs.Texts.{texts_of};
+
+/// The slot of a text, by its length and three of its bytes: enough to tell the names of a module apart.
+fn slot_of(bytes: &[u8]) -> u8 {
+    let length = bytes.len();
+    if length == 0 {
+        return 0;
+    }
+    let ends = bytes[0].wrapping_mul(7).wrapping_add(bytes[length - 1]);
+    let middle = bytes[length / 2].wrapping_mul(31);
+    let size = ((length % 256) as u8).wrapping_mul(67);
+    size.wrapping_add(ends).wrapping_add(middle)
+}
+
+/// This place, if the text there has these bytes.
+fn asked_lately(texts: &IndexSet<&[u8], RandomState>, place: u32, bytes: &[u8]) -> Option<usize>
+    ensures there { IfSome result (λ id. slice_get (texts_of texts.now.keys) id ≡ Some bytes.now) }
+    ensures added { IfSome result (λ _. with_text (texts_of texts.now.keys) bytes.now ≡ texts_of texts.now.keys) }
+{
+    let at = place as usize;
+    match texts.get_index(at) {
+        Some(text) => {
+            if bytes == *text {
+                return Some(at);
+            }
+            None
+        }
+        None => None,
+    }
+}
+
+/// The place of the text with these bytes, which is found by its hash, or made.
+fn find_or_add<'b>(
+    arena: &'b Bump,
+    texts: &mut IndexSet<&'b [u8], RandomState>,
+    bytes: &[u8],
+) -> Result<usize, NoMemory>
+    ensures there { IfOk result (λ id. slice_get (texts_of texts.new.keys) id ≡ Some bytes.now) }
+    ensures added { OnOk result (texts_of texts.new.keys ≡ with_text (texts_of texts.old.keys) bytes.now) }
+    ensures err { OnErr result (texts.new.keys ≡ texts.old.keys) }
+{
+    if let Some(at) = find(texts, bytes) {
+        return Ok(at);
+    }
+    let bytes: &'b [u8] = match arena.try_alloc_slice_copy(bytes) {
+        Ok(bytes) => bytes,
+        Err(_) => return Err(NoMemory),
+    };
+    add(texts, bytes)
+}
 
 fn find(texts: &IndexSet<&[u8], RandomState>, bytes: &[u8]) -> Option<usize>
     ensures there { IfSome result (λ id. slice_get (texts_of texts.now.keys) id ≡ Some bytes.now) }

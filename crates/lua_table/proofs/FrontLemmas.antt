@@ -168,6 +168,14 @@ module _ {V : Type 0} (eq : V → V → Bool) (nil : V) where
       let P : Bool → Type 0 = λ b. cond b (let s = first_live eq nil es in record s { passed = s.passed + 1 }) (record { key = e.0; value = e.1; passed = 0 }) ≡ (let s = first_live eq nil es in record s { passed = s.passed + 1 }) in
       subst P cleared refl
 
+  -- what is found from a place of the list on
+  pub lookup_met : (p : V → Bool) (es : List (V × V)) (at : ℕ) (e : V × V) → slice_get es at ≡ Some e → true ≡ p e.0 → lookup p (drop at es) ≡ Some e.1
+  lookup_met p es at e there met = ap (lookup p) (drop_there es at e there) ∙ ap (λ b. cond b (Some e.1) (lookup p (drop (suc at) es))) (sym met)
+
+  pub lookup_passed : (p : V → Bool) (es : List (V × V)) (at : ℕ) (e : V × V) → slice_get es at ≡ Some e → false ≡ p e.0 → lookup p (drop at es) ≡ lookup p (drop (at + 1) es)
+  lookup_passed p es at e there other =
+      ap (lookup p) (drop_there es at e there) ∙ ap (λ b. cond b (Some e.1) (lookup p (drop (suc at) es))) (sym other) ∙ ap (λ m. lookup p (drop m es)) (sym (add-one at))
+
   -- at a place of the list
   pub live_at : (es : List (V × V)) (at : ℕ) (e : V × V) → slice_get es at ≡ Some e → false ≡ eq e.1 nil
       → first_live eq nil (drop at es) ≡ record { key = e.0; value = e.1; passed = 0 }

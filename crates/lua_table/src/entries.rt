@@ -11,6 +11,9 @@ use std::alloc::{AllocError, Global};
 use std::hash::RandomState;
 use std::marker::Model;
 
+/// With so few entries it takes less time to compare each key than to hash the one that is looked for.
+const FEW: usize = 8;
+
 /// Entries in order of first insertion.
 ///
 /// While the keys are 1, 2, 3 and so on in this order, only their values are kept, in `front`. From the first other key on,
@@ -155,7 +158,23 @@ fn item_at<V: Slot>(items: &[V], at: usize) -> V
 fn value_in<V: Slot>(rest: &IndexMap<V, V, RandomState>, key: &V) -> Option<V>
     ensures { result ≡ lookup (V.eq key.now) rest.now.entries }
 {
+    if rest.len() <= FEW {
+        return value_among(rest, key);
+    }
     rest.get(key).copied()
+}
+
+/// The value at `key`, which is compared with each key in turn.
+fn value_among<V: Slot>(rest: &IndexMap<V, V, RandomState>, key: &V) -> Option<V>
+    ensures { result ≡ lookup (V.eq key.now) rest.now.entries }
+{
+    for at in 0..rest.len() {
+        let (other, value) = entry_at(rest, at);
+        if *key == other {
+            return Some(value);
+        }
+    }
+    None
 }
 
 fn entry_at<V: Slot>(rest: &IndexMap<V, V, RandomState>, at: usize) -> (V, V)
