@@ -72,7 +72,7 @@ module _ (world : World) (code : CWorld) (B : Base) {m : Map} {vars : List Var} 
         levels = λ at. rw (e.title, l) refl;
         source = e.title;
       } in
-      let held : HeldFunction m act = record { cells = e.held; values = _; dots = there.dots } in
+      let held : HeldFunction m act = record { cells = e.has_cells; values = _; dots = there.dots } in
       let o : Follows world code B (enter_function (record { node = Lambda params vararg blk; names = a.names; source = a.source }) vs ls k) h (body_of (Some e.proto) b ws line fs s) =
       calls _ _ _ (counts _ _ _ (opens world code B params e.proto.flags _ _ (all_opened e.proto.flags ws (with_function act s)) x.1 (with-functions code fns r) there es refl
       (λ p all j scope' up op r' i'. here-now world code B r' (runs None blk e.proto.body _ scope' _ (BodyEnd ∷ fs) x.2 i'

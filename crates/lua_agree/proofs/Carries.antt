@@ -149,7 +149,7 @@ module _ (m n : Map) (S : Set) (f : (q r : Ref) → m.to q ≡ Some r → IsTrue
       code_ = s.code_;
       cells = λ x k e. var-carried (s.cells x k e) i;
       globals = s.globals;
-      held = held-carried b.cells s.held i;
+      has_cells = held-carried b.cells s.has_cells i;
     }
 
     thing-carried : {vars : List Var} {fns : List Activation} {t : Thing} {u : SThing} → SameThing code m vars fns t u → AllIn S (thing_names u) → AllIn S (functions_names fns) → SameThing code n vars fns t u

@@ -51,7 +51,7 @@ module _ (world : World) (code : CWorld) (B : Base) {m : Map} {vars : List Var} 
       code_ = e.4;
       cells = λ x j q. captures m h.heap vars s.regs s.functions see scope r.open_ i e.0 held e.3 x j q;
       globals = λ x q n. i.globals x q;
-      held = captures-held m h.heap vars s.regs s.functions see scope r.open_ i e.0 held e.3;
+      has_cells = captures-held m h.heap vars s.regs s.functions see scope r.open_ i e.0 held e.3;
     }
 
   pub makes-on : (index : ℕ) (held : List Place) (f : Fun) (scope : Scope) (k : After Value) {mv : Move} → SameFunction code m (record { node = f; names = scope.names; source = scope.source }) (proc_of index held s)

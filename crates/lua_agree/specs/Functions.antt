@@ -49,7 +49,7 @@ module _ (code : CWorld) where
     pub code_ : IsFun (code_of (code.modules b.title)) (inside names see) a.node proto
     pub cells : (x : Bytes) (i : ℕ) → up_of names x ≡ Some i → SameVar m [] b.cells (Up i) (cell_of a.names x)
     pub globals : (x : Bytes) → see x ≡ Everywhere → up_of names x ≡ None → cell_of a.names x ≡ None
-    pub held : HasCells m b.cells
+    pub has_cells : HasCells m b.cells
 
   -- the functions of the running module
   abbrev pub here : List Activation → Protos

@@ -14,6 +14,7 @@ ghost use Rattle.lua_state.specs.Makes.{Makes};
 ghost use Rattle.lua_state.specs.Of.{StateOf};
 ghost use Rattle.lua_state.specs.Seen.{frames_of, slots_of};
 ghost use Rattle.lua_blocks.specs.Named.{proc_at, closure_named, function_named};
+ghost use Rattle.lua_meaning.specs.Charges.{closure_charge};
 
 use crate::running::{running_closure, running_source};
 use lua_code::{Place, Statement};
@@ -163,7 +164,7 @@ pub fn local_function<'m>(
 ) -> Result<Turn<'m>, NoMemory>
     requires state { StateOf store.old state.old }
     ensures { IfOk result (λ r. Makes store.old state.old left.old store.new state.new left.new
-        (Costs 8 (Now (Runs (block_seen rest.now) (frames_of store.old state.old)) (with_function_named function.0 function.1 (map place_seen places.now) (slots_of store.old state.old)))) r) }
+        (Costs closure_charge (Now (Runs (block_seen rest.now) (frames_of store.old state.old)) (with_function_named function.0 function.1 (map place_seen places.now) (slots_of store.old state.old)))) r) }
 {
     if !pay(left, 8) {
         return Ok(Turn::Spent(Which::Steps));

@@ -10,6 +10,7 @@ ghost use Rattle.lua_store.specs.Seen.{text_at};
 ghost use Rattle.lua_state.specs.Makes.{Makes};
 ghost use Rattle.lua_state.specs.Of.{StateOf};
 ghost use Rattle.lua_state.specs.Seen.{frames_of, slots_of};
+ghost use Rattle.lua_meaning.specs.Charges.{closure_charge};
 
 use crate::running::running_closure;
 use lua_code::Place;
@@ -80,7 +81,7 @@ pub fn closure<'m>(
 ) -> Result<Turn<'m>, NoMemory>
     requires state { StateOf store.old state.now }
     ensures { IfOk result (λ r. Makes store.old state.now left.old store.new state.now left.new
-        (Costs 8 (gives (next_closure (slots_of store.old state.now) ∷ []) (frames_of store.old state.now)
+        (Costs closure_charge (gives (next_closure (slots_of store.old state.now) ∷ []) (frames_of store.old state.now)
         (with_closure (proc_of index (map place_seen places.now) (slots_of store.old state.now)) (slots_of store.old state.now)))) r) }
 {
     if !pay(left, 8) {

@@ -16,6 +16,7 @@ ghost use Rattle.lua_arms.specs.Paid.{behind_node};
 ghost use Rattle.lua_state.specs.Makes.{Makes};
 ghost use Rattle.lua_state.specs.Of.{StateOf};
 ghost use Rattle.lua_state.specs.Seen.{frames_of, slots_of};
+ghost use Rattle.lua_meaning.specs.Charges.{table_charge};
 
 use crate::constructors::fields;
 use crate::exits::give;
@@ -135,7 +136,7 @@ pub fn constructor<'m>(
 ) -> Result<Turn<'m>, NoMemory>
     requires state { StateOf store.old state.old }
     ensures { IfOk result (λ r. Makes store.old state.old left.old store.new state.new left.new
-        (Costs 8 (machine.fields (one_more_table (slots_of store.old state.old).heap).1 1 (entries_seen entries.now) line (frames_of store.old state.old) (machine.with_table (slots_of store.old state.old)))) r) }
+        (Costs table_charge (machine.fields (one_more_table (slots_of store.old state.old).heap).1 1 (entries_seen entries.now) line (frames_of store.old state.old) (machine.with_table (slots_of store.old state.old)))) r) }
 {
     if !pay(left, 8) {
         return Ok(Turn::Spent(Which::Steps));

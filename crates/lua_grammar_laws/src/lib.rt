@@ -2,6 +2,8 @@
 //! statements about the definitions of `lua_grammar`.
 //!
 //! - `laws`: a list of tokens, and so a text, spells one chunk at most
+//!
+//! Read `lua_grammar/specs/Grammar.antt` first; no definitions stand here.
 #![tactic(auto)]
 
 pub mod laws;

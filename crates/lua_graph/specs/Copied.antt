@@ -8,7 +8,7 @@ use Rattle.lua_heap.specs.Table.{Entries, empty_table}
 use Rattle.lua_heap.specs.Heap.{Heap, table_at}
 use Rattle.lua_walk.specs.Order.{live}
 use Rattle.lua_walk.specs.Laws.{links}
-use Rattle.lua_walk.specs.Copy.{copy_of, copies, copied}
+use Rattle.lua_walk.specs.Copy.{copy_of, copies, copied, copied_table_charge, copied_entry_charge}
 use Rattle.lua_store.specs.declared.value.Value.{Value}
 use Rattle.lua_store.specs.Seen.{StoreView, seen}
 
@@ -32,7 +32,7 @@ IsClosedAt h order n = AllByRecursion (Contains order) (links (table_at h n))
 
 -- WHAT IS PAID for an entry, and for a table
 abbrev pub entry_cost : heap.Value → ℕ
-entry_cost v = if is_nil v then 0 else 4
+entry_cost v = if is_nil v then 0 else copied_entry_charge
 
 abbrev pub table_cost : Contents heap.Value → ℕ
-table_cost t = 8 + 4 * length (live t.entries)
+table_cost t = copied_table_charge + copied_entry_charge * length (live t.entries)

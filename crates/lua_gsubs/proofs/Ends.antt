@@ -21,10 +21,10 @@ use Rattle.mw_ustrings.proofs.Costs.{values_cover, exceeded}
 use Rattle.lua_replacing.specs.declared.far.Far.{Far}
 use Rattle.lua_gsubs.specs.declared.filling.Halt.{Halt}
 use Rattle.lua_gsubs.specs.declared.filling.Halt.TheVariants as halt
-use Rattle.lua_gsubs.specs.Parts.{charge_of, Halts, IsWhole, HaltStops}
+use Rattle.lua_gsubs.specs.Parts.{charge_of, Halts, IsPaidText, HaltStops}
 
 -- THE TEXT is given
-pub made_covers : (whole : Replaced) (s t : StoreView) (l m : Left) (f : Far) (vs : List Value) → IsWhole whole l m (Ok f) → t.heap ≡ s.heap → values_seen t.texts vs ≡ kind.Text f.text.items ∷ kind.Number (pos f.count) ∷ []
+pub made_covers : (whole : Replaced) (s t : StoreView) (l m : Left) (f : Far) (vs : List Value) → IsPaidText whole l m (Ok f) → t.heap ≡ s.heap → values_seen t.texts vs ≡ kind.Text f.text.items ∷ kind.Number (pos f.count) ∷ []
     → Covers (replaced_answer s.heap whole) l t m (Gives (values_seen t.texts vs))
 made_covers whole s t l m f vs (n, took, is) heap seen =
     subst (λ x. Covers (replaced_answer s.heap x) l t m (Gives (values_seen t.texts vs))) (sym is) (values_cover n s.heap t l m (kind.Text f.text.items ∷ kind.Number (pos f.count) ∷ []) vs took heap seen)

@@ -21,7 +21,7 @@ use Rattle.lua_gsubs.specs.declared.filling.Halt.{Halt}
 use Rattle.lua_gsubs.specs.declared.filling.Halt.TheVariants as halt
 use Rattle.lua_gsubs.specs.declared.meeting.Met.TheVariants as met
 use Rattle.lua_gsubs.specs.Met.{IsMet, tries_in}
-use Rattle.lua_gsubs.specs.Parts.{charge_of, after, IsPart, Halts, IsReplaced, GoesOn, halt_in, IsRest, IsTail, IsWhole}
+use Rattle.lua_gsubs.specs.Parts.{charge_of, after, IsPart, Halts, IsReplaced, GoesOn, halt_in, IsRest, IsTail, IsPaidText}
 
 abbrev made : ℕ → Bytes → ℕ → Replaced
 made n text count = Made n text count
@@ -155,14 +155,14 @@ module _ (a : Letters) (anchored : Bool) (items : List Item) (slots : List Slot)
 
 -- THE REST of the subject behind it
 tail_made : (whole : Replaced) (s : Bytes) (l m k : Left) (f g : Far) → IsPart whole l m f (rest_of s f.copied) → IsTail (drop f.copied s) f.text.items m g.text.items k (Ok tt) → g.count ≡ f.count
-    → IsWhole whole l k (Ok g)
+    → IsPaidText whole l k (Ok g)
 tail_made whole s l m k f g (i, took, e) (paid, text) count =
     let tail = drop f.copied s in
     let none : f.count + 0 ≡ f.count = omega arith in
     (i + length tail, took_then i (length tail) l m k took paid, sym e ∙ ap (λ c. made (i + length tail) (f.text.items ++ tail) c) (none ∙ sym count) ∙ ap (λ t. made (i + length tail) t g.count) (sym text))
 
 pub whole_made : (whole : Replaced) (s tail : Bytes) (l m k : Left) (f g : Far) → tail ≡ drop f.copied s → IsPart whole l m f (rest_of s f.copied) → IsTail tail f.text.items m g.text.items k (Ok tt) → g.count ≡ f.count
-    → IsWhole whole l k (Ok g)
+    → IsPaidText whole l k (Ok g)
 whole_made whole s tail l m k f g is part paid count = tail_made whole s l m k f g part (subst (λ x. IsTail x f.text.items m g.text.items k (Ok tt)) is paid) count
 
 tail_halted : (whole : Replaced) (s made : Bytes) (l m k : Left) (f : Far) (h : Halt) → IsPart whole l m f (rest_of s f.copied) → IsTail (drop f.copied s) f.text.items m made k (Err h) → Halts whole l k h

@@ -79,9 +79,9 @@ IsTail tail text l made m (Err halt.NoMemory) = Unit {0}
 IsTail tail text l made m (Err halt.NoCapture) = ⊥
 
 -- the whole text, paid for
-abbrev pub IsWhole : Replaced → Left → Left → Result Far Halt → Type 0
-IsWhole whole l m (Ok f) = (n : ℕ) × Took n l m × (whole ≡ Made n f.text.items f.count)
-IsWhole whole l m (Err e) = Halts whole l m e
+abbrev pub IsPaidText : Replaced → Left → Left → Result Far Halt → Type 0
+IsPaidText whole l m (Ok f) = (n : ℕ) × Took n l m × (whole ≡ Made n f.text.items f.count)
+IsPaidText whole l m (Err e) = Halts whole l m e
 
 -- how the function ends then
 abbrev pub HaltStops : StoreView → StoreView → Halt → Stop → Type 0

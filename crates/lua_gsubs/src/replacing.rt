@@ -7,7 +7,7 @@ ghost use Rattle.lua_string.specs.Walk.{span as span_of};
 ghost use Rattle.lua_meaning.specs.Gsub as meaning;
 ghost use Rattle.lua_replacing.specs.Seen.{stand_seen, StandWithin};
 ghost use Rattle.lua_gsubs.specs.Met.{PlaceWithin};
-ghost use Rattle.lua_gsubs.specs.Parts.{halt_in, IsPart, IsReplaced, GoesOn, IsRest, IsTail, IsWhole};
+ghost use Rattle.lua_gsubs.specs.Parts.{halt_in, IsPart, IsReplaced, GoesOn, IsRest, IsTail, IsPaidText};
 
 use crate::filling::{Halt, capture_texts, put_filled};
 use crate::meeting::{Met, meet, next_stand};
@@ -157,7 +157,7 @@ pub fn replace_all<A: Alphabet>(
     replacement: &[u8],
     limit: u64,
 ) -> Result<Far, Halt>
-    ensures { IsWhole (meaning.replaced_from A.letters pattern.now.anchored pattern.now.items pattern.now.slots s.now replacement.now limit 0 (Some meaning.at_head)) left.old left.new result }
+    ensures { IsPaidText (meaning.replaced_from A.letters pattern.now.anchored pattern.now.items pattern.now.slots s.now replacement.now limit 0 (Some meaning.at_head)) left.old left.new result }
 {
     let mut far = replace_matches::<A>(alloc, left, pattern, s, replacement, limit)?;
     put_rest(left, &mut far.text, behind(s, far.copied))?;

@@ -24,4 +24,4 @@ pub mod FrameLaws
 pub mod ReachLaws
 pub mod GraphLaws
 pub mod ExampleLaws
-pub mod Wholes
+pub mod ClosedHeaps

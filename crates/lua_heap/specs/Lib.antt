@@ -14,4 +14,4 @@ pub mod ReachLaws
 pub mod FrameLaws
 pub mod GraphLaws
 pub mod Examples
-pub mod WholeLaws
+pub mod ClosedLaws

@@ -118,8 +118,8 @@ module _ {X : Type 0} (names : X → List Ref) where
     pub there : (r : Ref) → IsTrue (S r) → (a : Obj X) × (look s r ≡ Some a) × AllIn S (obj_names names a)
 
   -- whatever an object of the heap names is there
-  abbrev pub IsWhole : Heap X → Type 0
-  IsWhole s = IsClosed (is_there s) s
+  abbrev pub IsClosedHeap : Heap X → Type 0
+  IsClosedHeap s = IsClosed (is_there s) s
 
   -- WHAT IS REACHED from the roots, through read-only tables too: it is in every closed set that has the roots.
   abbrev pub IsReached : Heap X → List Ref → Ref → Type 0

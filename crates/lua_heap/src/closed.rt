@@ -1,43 +1,43 @@
-//! Closed heaps: whatever is named in them is there, and so each is whole (`IsWhole`).
-ghost use Rattle.lua_heap.specs.WholeLaws.{EmptyIsWhole, AddKeepsWhole, PutKeepsWhole, SetKeepsWhole, SetMetaKeepsWhole, FreezeKeepsWhole, SetCellKeepsWhole};
+//! Closed heaps: whatever is named in them is there, so that their own objects are a closed set (`IsClosedHeap`).
+ghost use Rattle.lua_heap.specs.ClosedLaws.{EmptyIsClosed, AddKeepsClosed, PutKeepsClosed, SetKeepsClosed, SetMetaKeepsClosed, FreezeKeepsClosed, SetCellKeepsClosed};
 
-/// The empty heap is whole.
-#[tactic(auto, using(crate::proofs::Wholes::empty_is_whole))]
-pub fn empty_is_whole<X>()
-    ensures { EmptyIsWhole X }
+/// The empty heap is closed.
+#[tactic(auto, using(crate::proofs::ClosedHeaps::empty_is_closed))]
+pub fn empty_is_closed<X>()
+    ensures { EmptyIsClosed X }
 {}
 
-/// It stays whole when an object is added that names only what is there afterwards.
-pub fn add_keeps_whole<X>()
-    ensures { AddKeepsWhole X }
+/// It stays closed when an object is added that names only what is there afterwards.
+pub fn add_keeps_closed<X>()
+    ensures { AddKeepsClosed X }
 {}
 
 /// And when an object is put in place of one that names only what is there.
-#[tactic(auto, using(crate::proofs::Wholes::put_keeps_whole))]
-pub fn put_keeps_whole<X>()
-    ensures { PutKeepsWhole X }
+#[tactic(auto, using(crate::proofs::ClosedHeaps::put_keeps_closed))]
+pub fn put_keeps_closed<X>()
+    ensures { PutKeepsClosed X }
 {}
 
 /// `rawset` of a key and a value that name what is there.
-#[tactic(auto, using(crate::proofs::Wholes::set_keeps_whole))]
-pub fn set_keeps_whole<X>()
-    ensures { SetKeepsWhole X }
+#[tactic(auto, using(crate::proofs::ClosedHeaps::set_keeps_closed))]
+pub fn set_keeps_closed<X>()
+    ensures { SetKeepsClosed X }
 {}
 
 /// `setmetatable` with a metatable that is there.
-#[tactic(auto, using(crate::proofs::Wholes::set_meta_keeps_whole))]
-pub fn set_meta_keeps_whole<X>()
-    ensures { SetMetaKeepsWhole X }
+#[tactic(auto, using(crate::proofs::ClosedHeaps::set_meta_keeps_closed))]
+pub fn set_meta_keeps_closed<X>()
+    ensures { SetMetaKeepsClosed X }
 {}
 
 /// A table that becomes read-only.
-#[tactic(auto, using(crate::proofs::Wholes::freeze_keeps_whole))]
-pub fn freeze_keeps_whole<X>()
-    ensures { FreezeKeepsWhole X }
+#[tactic(auto, using(crate::proofs::ClosedHeaps::freeze_keeps_closed))]
+pub fn freeze_keeps_closed<X>()
+    ensures { FreezeKeepsClosed X }
 {}
 
 /// A cell that gets a value that names what is there.
-#[tactic(auto, using(crate::proofs::Wholes::set_cell_keeps_whole))]
-pub fn set_cell_keeps_whole<X>()
-    ensures { SetCellKeepsWhole X }
+#[tactic(auto, using(crate::proofs::ClosedHeaps::set_cell_keeps_closed))]
+pub fn set_cell_keeps_closed<X>()
+    ensures { SetCellKeepsClosed X }
 {}

@@ -21,7 +21,7 @@
 //! - `moves`: what may be done to two heaps at once (`MoveLaws`)
 //! - `closed_sets`: closed sets and what stands (`SetLaws`)
 //! - `reach`: what is reached and what is owned (`ReachLaws`)
-//! - `closed`: heaps in which whatever is named is there (`WholeLaws`)
+//! - `closed`: heaps in which whatever is named is there (`ClosedLaws`)
 //! - `framing`: what a call leaves as it was (`FrameLaws`)
 //! - `graphs`: graphs that are put, kept and joined (`GraphLaws`)
 //! - `examples`: the small heaps are what `Examples` says

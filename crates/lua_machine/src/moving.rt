@@ -13,6 +13,7 @@ ghost use Rattle.lua_state.specs.Of.{StateOf};
 ghost use Rattle.lua_state.specs.Worlds.{world_seen};
 ghost use Rattle.lua_state.specs.Makes.{Counts, LateCounts};
 ghost use Rattle.lua_machine.specs.Moved.{MovesTo};
+ghost use Rattle.lua_meaning.specs.Charges.{node_charge};
 
 use crate::frames::{give_frame, pass_frame};
 use crate::things::begin;
@@ -101,7 +102,7 @@ fn begin_thing<'m, L: Ledger>(
     requires state { StateOf store.old state.old }
     requires calls { left.old.calls + state.old.calls < 2 ^ 64 }
     requires thing { ThingOf store.old thing }
-    ensures { IfOk result (λ r. LateCounts store.old state.old left.old turns.old store.new state.new left.new turns.new (Costs 1 (begins (world_seen state.old.codes.world) (thing_seen store.old thing.entry) (frames_of store.old state.old) (slots_of store.old state.old))) r) }
+    ensures { IfOk result (λ r. LateCounts store.old state.old left.old turns.old store.new state.new left.new turns.new (Costs node_charge (begins (world_seen state.old.codes.world) (thing_seen store.old thing.entry) (frames_of store.old state.old) (slots_of store.old state.old))) r) }
 {
     if !left.take_steps(1) {
         return Ok(Turn::Spent(Which::Steps));

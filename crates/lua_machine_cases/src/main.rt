@@ -1,5 +1,7 @@
 //! Runs cases of the machine of Lua from a table on standard input, and prints how each ended. `lua_machine_runs` says what a line of
 //! the table may be (`take_line`), `bench/machine_rows.py` writes it, and `bench/machine.py` has the program timed.
+//!
+//! There are no definitions here.
 #![tactic(auto)]
 
 use lua_machine_runs::{Case, take_line};

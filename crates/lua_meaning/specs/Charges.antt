@@ -1,6 +1,7 @@
 -- CHARGES in steps: each number once. Besides these each value of `...`, each thing that begins, and each entry that `next` passes or
 -- `unpack` reads costs 1, and a text that is made, a message with its place, and a module's text cost their bytes.
 use Rattle.std.specs.Prelude.{ℕ, ◌+◌, ◌*◌}
+use Rattle.lua_walk.specs.Copy.{copied_table_charge, copied_entry_charge}
 
 -- the start of an invocation, with its frame, and of a data module
 abbrev pub run_charge : ℕ
@@ -10,15 +11,15 @@ run_charge = 1000
 abbrev pub node_charge : ℕ
 node_charge = 1
 
--- a table or a closure that is made, and a new entry in a table
+-- a table or a closure that is made, and a new entry in a table: as `mw.clone` pays for its tables and entries
 abbrev pub table_charge : ℕ
-table_charge = 8
+table_charge = copied_table_charge
 
 abbrev pub closure_charge : ℕ
 closure_charge = 8
 
 abbrev pub entry_charge : ℕ
-entry_charge = 4
+entry_charge = copied_entry_charge
 
 -- a table that a function of the library makes, with so many entries
 abbrev pub filled_table_charge : ℕ → ℕ

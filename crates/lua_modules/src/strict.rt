@@ -13,6 +13,7 @@ ghost use Rattle.lua_store.specs.Parts.{IsLater, IsTableOf};
 ghost use Rattle.lua_state.specs.Makes.{Makes};
 ghost use Rattle.lua_state.specs.Of.{StateOf};
 ghost use Rattle.lua_state.specs.Seen.{frames_of, slots_of};
+ghost use Rattle.lua_meaning.specs.Charges.{filled_table_charge};
 
 use lua_home::fields::{Field, Item, fill};
 use lua_stack::{Focus, Given};
@@ -74,7 +75,7 @@ pub fn require_strict<'m>(
 ) -> Result<Turn<'m>, NoMemory>
     requires { StateOf store.old state.now }
     ensures { IfOk result (λ r. Makes store.old state.now left.old store.new state.now left.new
-        (Costs 16 (gives (kind.Truth true ∷ []) (frames_of store.old state.now) (with_strict (slots_of store.old state.now)))) r) }
+        (Costs (filled_table_charge 2) (gives (kind.Truth true ∷ []) (frames_of store.old state.now) (with_strict (slots_of store.old state.now)))) r) }
 {
     if !pay(left, 16) {
         return Ok(Turn::Spent(Which::Steps));

@@ -6,6 +6,8 @@
 //! - `all`: all patterns of up to four items against all small subjects
 //! - `cases`: one line, run
 //! - `plain`: the definition of a match as a plain program, to compare with
+//!
+//! There are no definitions here.
 #![tactic(auto)]
 
 mod all;

@@ -106,7 +106,7 @@ module _ (m : Map) (S : Set) (f : (q r : Ref) → m.to q ≡ Some r → IsTrue (
     thing-image (each_turns names flags g h t u vs ws b c line see scope x y k e e' es) =
         join S (value_names h) (value_names u ++ values_names ws) (value-image m S f _ _ e) (join S (value_names u) (values_names ws) (value-image m S f _ _ e') (values-image m S f _ _ es))
     thing-image (texts_of source b p x) = tt
-    thing-image (bodies a b vs ws ls line s es l) = join S (proc_names b) (values_names ws) (held-image b.cells s.held) (values-image m S f _ _ es)
+    thing-image (bodies a b vs ws ls line s es l) = join S (proc_names b) (values_names ws) (held-image b.cells s.has_cells) (values-image m S f _ _ es)
     thing-image (libraries which vs ws ls line es l) = values-image m S f _ _ es
     thing-image (index_links a b h h' k l ls line x y z e) =
         join S (value_names b) (value_names h' ++ value_names l) (value-image m S f _ _ x) (join S (value_names h') (value_names l) (value-image m S f _ _ y) (value-image m S f _ _ z))
@@ -190,4 +190,4 @@ module _ (m : Map) (S : Set) (f : (q r : Ref) → m.to q ≡ Some r → IsTrue (
     point-image (works world work w x y) = (tt, no-functions _ y)
 
 pub function-names_stand : (code : CWorld) → NamesStand (SameFunction code) proc_names
-function-names_stand code m S f a b s = held-image m S f b.cells s.held
+function-names_stand code m S f a b s = held-image m S f b.cells s.has_cells

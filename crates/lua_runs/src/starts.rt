@@ -17,6 +17,7 @@ ghost use Rattle.lua_state.specs.Makes.{Makes, LateMakes};
 ghost use Rattle.lua_state.specs.Of.{StateOf};
 ghost use Rattle.lua_state.specs.Seen.{frames_of, slots_of};
 ghost use Rattle.lua_state.specs.Worlds.{world_seen};
+ghost use Rattle.lua_meaning.specs.Charges.{run_charge};
 
 use lua_modules::messages::no_data_module;
 use lua_modules::{require_module, run_text};
@@ -215,7 +216,7 @@ fn load<'m>(
 ) -> Result<Turn<'m>, NoMemory>
     requires { StateOf store.old state.old }
     ensures { IfOk result (λ r. Makes store.old state.old left.old store.new state.new left.new
-        (point.Costs 1000 (starts.runs_data title.now ((world_seen state.old.codes.world).modules (title_text title.now)) (point.DataNow ∷ []) (slots_of store.old state.old))) r) }
+        (point.Costs run_charge (starts.runs_data title.now ((world_seen state.old.codes.world).modules (title_text title.now)) (point.DataNow ∷ []) (slots_of store.old state.old))) r) }
 {
     if !pay(left, 1000) {
         return Ok(Turn::Spent(Which::Steps));

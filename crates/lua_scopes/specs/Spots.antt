@@ -84,8 +84,8 @@ pub record IsRight (ls : List Held) (spots : Spots) : Type 0 where
   pub shadowed : AreAllShadowed ls
 
 -- what is captured stands in cells, and the map is right
-abbrev pub AreWhole : List Held → Spots → Type 0
-AreWhole ls spots = AreCaptured (map level_seen ls) × IsRight ls spots
+abbrev pub AreSound : List Held → Spots → Type 0
+AreSound ls spots = AreCaptured (map level_seen ls) × IsRight ls spots
 
 -- WHAT HAPPENS to a function: one more variable; the newest one ends; all but the oldest end
 abbrev pub IsDeclared : Held → Held → Variable → ℕ → Spots → Spots → Type 0

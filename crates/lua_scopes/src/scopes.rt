@@ -34,13 +34,13 @@ pub struct Scopes<'t> {
 impl<'t> Model for Scopes<'t> {
     ghost use Rattle.std.specs.Prelude.{◌≡◌, ◌∷◌, true, map};
     ghost use Rattle.lua_scopes.specs.Scopes.{Scopes as ScopesSeen};
-    ghost use Rattle.lua_scopes.specs.Spots.{level_seen, AreWhole};
+    ghost use Rattle.lua_scopes.specs.Spots.{level_seen, AreSound};
 
     ghost Value = { ScopesSeen };
 
     ghost view = { λ s. record { clean = s.cells.clean; level = level_seen s.level; outer = map level_seen s.outer } };
 
-    ghost invariant = { λ s. s.cells.clean ≡ true → AreWhole (s.level ∷ s.outer) s.spots.entries };
+    ghost invariant = { λ s. s.cells.clean ≡ true → AreSound (s.level ∷ s.outer) s.spots.entries };
 }
 
 impl<'t> Scopes<'t> {

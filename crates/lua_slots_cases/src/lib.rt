@@ -3,7 +3,7 @@
 //! - `Closures`: closures of one call that share a cell, and closures that a loop with `while` makes
 //! - `Loads`: a data module is loaded, and a load is spent
 //!
-//! They are written as those of `lua_slots` are (`Trial` there).
+//! Read `specs/Closures.antt` first. They are written as those of `lua_slots` are (`Trial` there).
 //!
 //! - `examples`: functions with an empty body, whose contracts are the examples
 //! - `tests`: each list of examples is called once

@@ -1,6 +1,7 @@
 //! Charges: steps that are taken, and calls that are entered and left.
 ghost use Rattle.std.specs.Prelude.{◌≡◌, ◌+◌, true, false, if◌then◌else◌, IfOk, OnOk};
 ghost use Rattle.lua_state.specs.Charges.{Pays, EntersCall, LeavesCall};
+ghost use Rattle.lua_meaning.specs.Charges.{node_charge};
 
 use crate::state::State;
 use std::sync::ledger::Ledger;
@@ -15,7 +16,7 @@ pub fn pay(left: &mut Left, steps: u64) -> bool
 
 /// The step of a node of a syntax tree, which is counted. Where no step is left, the answer is false.
 pub fn pay_node<L: Ledger>(left: &mut Left, turns: &mut Steps<L>) -> bool
-    ensures pays { Pays 1 left.old left.new result }
+    ensures pays { Pays node_charge left.old left.new result }
     ensures counts { turns.new ≡ (if result then turns.old + 1 else turns.old) }
 {
     if pay(left, 1) {

@@ -26,7 +26,7 @@ use Rattle.lua_store.specs.declared.markup.MarkupNode.{MarkupNode}
 use Rattle.lua_store.specs.Envs.{envs_of}
 use Rattle.lua_heap.specs.Proc.{Proc}
 use Rattle.lua_store.specs.Seen.{StoreView, text_at, seen, seen_table, seen_closure, seen_node}
-use Rattle.lua_store.specs.Parts.{Parts, view_of, IsTableOf, IsOf, IsContentsOf, IsContentOf, IsNodeOf, AreOf, IsWhole, no_contents, table_in, with_entry, with_text, IsLater}
+use Rattle.lua_store.specs.Parts.{Parts, view_of, IsTableOf, IsOf, IsContentsOf, IsContentOf, IsNodeOf, AreOf, IsSound, no_contents, table_in, with_entry, with_text, IsLater}
 use Rattle.lua_store.proofs.Lists.{all-at, all-set, all-push, map-alike}
 use Rattle.lua_store.proofs.EntryMaps.{set_at-seen, set_at-holds, is_there-seen}
 use Rattle.lua_table.proofs.SetLemmas.{HasKeys-set, HasKeys-empty}
@@ -35,11 +35,11 @@ use Rattle.lua_store.proofs.Later.{none_made, longer-itself, longer-push, later-
 
 -- what is kept is whole afterwards, and shows what the definitions of the heap say
 pub record Became (p q : Parts) (s : StoreView) : Type 0 where
-  pub whole : IsWhole q
+  pub whole : IsSound q
   pub shown : view_of q ≡ s
   pub later : IsLater (view_of p) s
 
-became : (p q : Parts) (s : StoreView) → IsWhole p → IsDistinct bytes_eq q.texts → view_of q ≡ s → IsLater (view_of p) s → (AreOf s p → AreOf s q) → Became p q s
+became : (p q : Parts) (s : StoreView) → IsSound p → IsDistinct bytes_eq q.texts → view_of q ≡ s → IsLater (view_of p) s → (AreOf s p → AreOf s q) → Became p q s
 became p q s w distinct shown later own = record {
   whole = record { distinct = distinct; own = subst (λ t. AreOf t q) (sym shown) (own (are_of-later (view_of p) s later p w.own)) };
   shown = shown;
@@ -104,7 +104,7 @@ distinct-push (t ∷ texts) bytes d new =
     let parts = or_parts (bytes_eq bytes t) (list_any (bytes_eq bytes) texts) new in
     (all-push (λ u. bytes_eq t u ≡ false) texts bytes d.0 (turned bytes t parts.0), distinct-push texts bytes d.1 parts.1)
 
-module _ (p : Parts) (w : IsWhole p) where
+module _ (p : Parts) (w : IsSound p) where
   -- TABLES
   pub made_table : Became p (record p { tables = p.tables ++ no_contents ∷ [] }) (record (view_of p) { heap = (new_table (view_of p).heap).0 })
   made_table = became p (record p { tables = p.tables ++ no_contents ∷ [] }) (record (view_of p) { heap = (new_table (view_of p).heap).0 }) w w.distinct
@@ -230,7 +230,7 @@ module _ (p : Parts) (w : IsWhole p) where
       by true h = record { whole = w; shown = refl; later = later-itself (view_of p) }
       by false h = added_text bytes h
 
-pub whole-nothing : IsWhole (record { texts = []; tables = []; cells = []; closures = []; markup = []; env = 0 })
+pub whole-nothing : IsSound (record { texts = []; tables = []; cells = []; closures = []; markup = []; env = 0 })
 unfolding IsDistinct
 whole-nothing = record { distinct = tt; own = record { tables = tt; cells = tt; closures = tt; markup = tt } }
 
@@ -269,18 +269,18 @@ pub nil-seen : (texts : List (List ℕ)) (v : Value) → is_nil (seen texts v) �
 nil-seen texts Nil = refl
 nil-seen texts _ = refl
 
-pub has-seen : (p : Parts) → IsWhole p → (id : ℕ) (key : Value) → id < length p.tables → IsOf (view_of p) key
+pub has-seen : (p : Parts) → IsSound p → (id : ℕ) (key : Value) → id < length p.tables → IsOf (view_of p) key
     → has (table_at (view_of p).heap id).entries (seen p.texts key) ≡ is_there ghosts.eq Nil (table_in p.tables id).entries key
 has-seen p w id key h k =
     ap (λ (t : Contents heap.Value). has t.entries (seen p.texts key)) (table_in-seen p w id)
     ∙ is_there-seen ghosts.eq same (seen p.texts) (IsOf (view_of p)) (eq-seen (view_of p) w.distinct) Nil tt (table_in p.tables id).entries key (table_in-of p w id h).entries k
 
 -- the markup object at a place
-pub markup-seen : (p : Parts) → IsWhole p → (id : ℕ) (n : MarkupNode) → slice_get p.markup id ≡ Some n → seen_node p.texts n ≡ markup_at (view_of p).heap id
+pub markup-seen : (p : Parts) → IsSound p → (id : ℕ) (n : MarkupNode) → slice_get p.markup id ≡ Some n → seen_node p.texts n ≡ markup_at (view_of p).heap id
 markup-seen p w id n h = sym (get_or_from_slice_get (map (seen_node p.texts) p.markup) id (seen_node p.texts n) no_markup (slice_get-map (seen_node p.texts) p.markup id ∙ ap (option_map (seen_node p.texts)) h))
 
 -- a text that is found at one place is at no other
-pub one_text : (p : Parts) → IsWhole p → (bytes : List ℕ) (other id : TextId) → other.at < length p.texts → text_at p.texts other.at ≡ bytes → slice_get p.texts id.at ≡ Some bytes → other ≡ id
+pub one_text : (p : Parts) → IsSound p → (bytes : List ℕ) (other id : TextId) → other.at < length p.texts → text_at p.texts other.at ≡ bytes → slice_get p.texts id.at ≡ Some bytes → other ≡ id
 one_text p w bytes other id h is there =
     let e = one_place p.texts other.at id.at w.distinct h (slice_get_within p.texts id.at bytes there) (is ∙ sym (get_or_from_slice_get p.texts id.at bytes [] there)) in
     ap (λ n. let x : TextId = record { at = n } in x) e

@@ -12,7 +12,7 @@ use Rattle.lua_store.specs.declared.value.Value.{Value}
 use Rattle.lua_store.specs.declared.value.Value.TheVariants.{Nil}
 use Rattle.lua_store.specs.contracts.value.ValuePartialEq.TheImpl.{ghosts}
 use Rattle.lua_store.specs.Seen.{StoreView, seen, seen_entry, seen_table}
-use Rattle.lua_store.specs.Parts.{Parts, view_of, IsOf, IsEntryOf, IsContentsOf, IsWhole}
+use Rattle.lua_store.specs.Parts.{Parts, view_of, IsOf, IsEntryOf, IsContentsOf, IsSound}
 use Rattle.lua_store.specs.Laws.{KeysAreOnce}
 use Rattle.lua_store.proofs.Equal.{eq-seen}
 use Rattle.lua_store.proofs.Walks.{only_nil}
@@ -37,5 +37,5 @@ module _ (s : StoreView) (once : IsDistinct bytes_eq s.texts) where
   keys-at (t ∷ ts) zero all = record { distinct = distinct-seen t.entries all.0.entries all.0.keys.distinct; keys = none-nil t.entries all.0.keys.keys }
   keys-at (t ∷ ts) (suc n) all = keys-at ts n all.1
 
-pub keys-once : (p : Parts) → IsWhole p → KeysAreOnce (view_of p)
+pub keys-once : (p : Parts) → IsSound p → KeysAreOnce (view_of p)
 keys-once p w n = keys-at (view_of p) w.distinct p.tables n w.own.tables

@@ -14,7 +14,7 @@ use Rattle.lua_store.specs.declared.markup.MarkupChild.{MarkupChild}
 use Rattle.lua_store.specs.declared.markup.MarkupChild.TheVariants.{Text as ChildText, Node as ChildNode}
 use Rattle.lua_store.specs.declared.markup.MarkupNode.{MarkupNode}
 use Rattle.lua_store.specs.Seen.{StoreView, seen, seen_entry, seen_table, seen_closure, closed_of, places_of, seen_child, seen_node}
-use Rattle.lua_store.specs.Parts.{Parts, view_of, IsOf, IsCellOf, IsEntryOf, IsContentsOf, IsContentOf, IsChildOf, IsParentOf, IsNodeOf, IsWhole}
+use Rattle.lua_store.specs.Parts.{Parts, view_of, IsOf, IsCellOf, IsEntryOf, IsContentsOf, IsContentOf, IsChildOf, IsParentOf, IsNodeOf, IsSound}
 use Rattle.lua_heap.specs.Proc.{Proc, proc_names}
 use Rattle.lua_store.specs.declared.closure.ClosureKind.{ClosureKind}
 use Rattle.lua_store.specs.declared.closure.ClosureKind.TheVariants.{Function, Iterator}
@@ -83,7 +83,7 @@ module _ (s : StoreView) where
   node-there n h =
       both (is_there s.heap) (parent_names (option_map (λ id. id.at) n.parent)) (flat_map child_names (map (seen_child s.texts) n.children)) (parent-there n.parent h.parent) (children-there n.children h.children)
 
-pub names-there : (p : Parts) → IsWhole p → NamesWhatIsThere (view_of p)
+pub names-there : (p : Parts) → IsSound p → NamesWhatIsThere (view_of p)
 names-there p w = record { there = by }
   where
     by : (r : Ref) → IsTrue (is_there (view_of p).heap r) → (a : Obj Proc) × (look (view_of p).heap r ≡ Some a) × AllIn (is_there (view_of p).heap) (obj_names proc_names a)

@@ -122,7 +122,7 @@ pub record AreOf (s : StoreView) (p : Parts) : Type 0 where
   pub markup : AllByRecursion (IsNodeOf s) p.markup
 
 -- no text is kept twice, and whatever is kept names only what is there
-pub record IsWhole (p : Parts) : Type 0 where
+pub record IsSound (p : Parts) : Type 0 where
   pub distinct : IsDistinct bytes_eq p.texts
   pub own : AreOf (view_of p) p
 

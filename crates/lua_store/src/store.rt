@@ -41,13 +41,13 @@ pub struct Store<'b> {
 
 impl<'b> Model for Store<'b> {
     ghost use Rattle.lua_store.specs.Seen.{StoreView};
-    ghost use Rattle.lua_store.specs.Parts.{view_of, IsWhole};
+    ghost use Rattle.lua_store.specs.Parts.{view_of, IsSound};
 
     ghost Value = { StoreView };
 
     ghost view = { λ s. view_of (record { texts = s.texts; tables = s.tables.items; cells = s.cells.items; closures = s.closures; markup = s.markup.items; env = s.env }) };
 
-    ghost invariant = { λ s. IsWhole (record { texts = s.texts; tables = s.tables.items; cells = s.cells.items; closures = s.closures; markup = s.markup.items; env = s.env }) };
+    ghost invariant = { λ s. IsSound (record { texts = s.texts; tables = s.tables.items; cells = s.cells.items; closures = s.closures; markup = s.markup.items; env = s.env }) };
 }
 
 impl<'b> Store<'b> {

@@ -22,10 +22,16 @@ abbrev pub copied : {X : Type 0} → Heap X → Value → Heap X × Value
 copied h (Table t) = (record h { tables = h.tables ++ copies h (reached h t) }, Table (length h.tables))
 copied h v = (h, v)
 
--- ITS COST in steps: 8 for each new table, and 4 for each of its entries
+-- ITS COST in steps for each new table, and for each of its entries
+abbrev pub copied_table_charge : ℕ
+copied_table_charge = 8
+
+abbrev pub copied_entry_charge : ℕ
+copied_entry_charge = 4
+
 abbrev pub tables_cost : {X : Type 0} → Heap X → List ℕ → ℕ
 tables_cost h [] = 0
-tables_cost h (t ∷ ts) = 8 + 4 * length (live (table_at h t).entries) + tables_cost h ts
+tables_cost h (t ∷ ts) = copied_table_charge + copied_entry_charge * length (live (table_at h t).entries) + tables_cost h ts
 
 abbrev pub copy_cost : {X : Type 0} → Heap X → Value → ℕ
 copy_cost h (Table t) = tables_cost h (reached h t)

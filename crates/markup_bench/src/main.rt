@@ -1,5 +1,7 @@
 //! Reads a page from standard input, and prints how many bytes are shown of it and how many nodes its pairing has.
 //! `bench/markup.py` times it over hostile pages of two sizes.
+//!
+//! There are no definitions here.
 #![tactic(auto)]
 
 use std::alloc::Global;

@@ -9,6 +9,7 @@ ghost use Rattle.mw_frames.specs.Scenes.{made, parent_seen, ScenesOf};
 ghost use Rattle.mw_frames.specs.declared.scenes.SceneFrame.{SceneFrame as SceneFrameValue};
 ghost use Rattle.mw_frame_calls.specs.Seen.{scenes_seen, Paid, AnswerOf};
 ghost use Rattle.mw_frame_calls.specs.Parts.{numbered};
+ghost use Rattle.lua_meaning.specs.Charges.{frame_charge};
 
 use crate::answer::{FrameAnswer, one};
 use crate::finding::a_frame;
@@ -29,7 +30,7 @@ fn make_paid(
     number: usize,
 ) -> Result<TableId, Stop>
     requires { number < 2 ^ 63 }
-    ensures made { IsMade (16 + args_charge scene.now.args) scene.now number store.old left.old store.new left.new result }
+    ensures made { IsMade (frame_charge + args_charge scene.now.args) scene.now number store.old left.old store.new left.new result }
     ensures later { IsLater store.old store.new }
 {
     pay(left, 16)?;

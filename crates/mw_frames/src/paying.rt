@@ -2,6 +2,7 @@
 ghost use Rattle.std.specs.Prelude.{◌≡◌, ◌+◌, ◌∷◌, [], length, MatchOption};
 ghost use Rattle.lua_meaning.specs.Frames.{args_charge};
 ghost use Rattle.mw_frames.specs.Costs.{Pays};
+ghost use Rattle.lua_meaning.specs.Charges.{argument_charge};
 
 use lua_basic::{Stop, stop};
 use mw_frame::Arg;
@@ -24,7 +25,7 @@ pub fn pay_texts(left: &mut Left, a: &[u8], b: &[u8]) -> Result<(), Stop>
 
 /// Takes what an argument of a frame costs.
 fn pay_arg(left: &mut Left, arg: &Arg) -> Result<(), Stop>
-    ensures { Pays (4 + length arg.now.name + length arg.now.value) left.old left.new result }
+    ensures { Pays (argument_charge + length arg.now.name + length arg.now.value) left.old left.new result }
 {
     pay(left, 4)?;
     pay_texts(left, arg.name.as_slice(), arg.value.as_slice())

@@ -10,6 +10,7 @@ ghost use Rattle.lua_basic.specs.Arguments.{text_bytes};
 ghost use Rattle.std.specs.Option.{option_map};
 ghost use Rattle.mw_frames.specs.Costs.{Pays};
 ghost use Rattle.mw_frames.specs.Reading.{arg_seen, args_seen, found_arg, found_args, IsRead};
+ghost use Rattle.lua_meaning.specs.Charges.{argument_charge};
 
 use crate::paying::{pay, pay_texts};
 use lua_basic::Stop;
@@ -136,7 +137,7 @@ pub fn pay_bytes(left: &mut Left, args: &[ArgText]) -> Result<(), Stop>
 
 /// Takes what an argument of a frame costs.
 fn pay_one(left: &mut Left, arg: &ArgText) -> Result<(), Stop>
-    ensures { Pays (4 + length (arg_seen arg.now).name + length (arg_seen arg.now).value) left.old left.new result }
+    ensures { Pays (argument_charge + length (arg_seen arg.now).name + length (arg_seen arg.now).value) left.old left.new result }
 {
     pay(left, 4)?;
     pay_texts(left, arg.name.as_slice(), arg.value.as_slice())

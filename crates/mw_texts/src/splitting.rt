@@ -5,6 +5,7 @@ ghost use Rattle.lua_store.specs.Parts.{IsLater};
 ghost use Rattle.lua_basic.specs.Seen.{values_seen, AllOf, Paid, AnswerOf};
 ghost use Rattle.mw_frames.specs.Costs.{Pays};
 ghost use Rattle.lua_meaning.specs.Texts as meaning;
+ghost use Rattle.lua_meaning.specs.Charges.{entry_charge};
 
 use crate::tables::{split_texts, text_table};
 use lua_basic::Stop;
@@ -19,7 +20,7 @@ use wk_base::{Bytes, Left, List};
 
 /// Takes what a part costs: its entry and its bytes.
 fn pay_part(left: &mut Left, part: &[u8]) -> Result<(), Stop>
-    ensures { Pays (4 + length part.now) left.old left.new result }
+    ensures { Pays (entry_charge + length part.now) left.old left.new result }
 {
     pay(left, 4)?;
     pay(left, part.len() as u64)

@@ -16,7 +16,7 @@
 //! Each function has an empty body, and its contract is a law about those definitions:
 //!
 //! - `drive`: what runs inside one another come to, and what they leave
-//! - `kept`: what a data module's load gives elsewhere
+//! - `kept_loads`: what a data module's load gives elsewhere
 //! - `tasks`: runs of Lua and expansions alike go on, and tell their loads
 //! - `examples`: worked pages come to what `Examples` says
 //! - `outcome`: how an invocation ends by itself, the one type of code here
@@ -25,7 +25,7 @@
 
 pub mod drive;
 pub mod examples;
-pub mod kept;
+pub mod kept_loads;
 pub mod outcome;
 pub mod tasks;
 

@@ -1,5 +1,5 @@
 //! Each law, and each group of worked pages, is called once.
-use crate::{drive, examples, kept, tasks};
+use crate::{drive, examples, kept_loads, tasks};
 use std::test::Fail;
 
 #[test]
@@ -12,11 +12,11 @@ fn laws_are_called(_rt: HostRuntime) -> Result<(), Fail> {
     drive::outcomes_are_told();
     drive::runs_go_on();
     drive::expansions_go_on();
-    kept::loads_are_covered();
-    kept::kept_is_fresh();
-    kept::short_is_spent();
-    kept::kept_serves();
-    kept::kept_is_paid();
+    kept_loads::loads_are_covered();
+    kept_loads::kept_is_fresh();
+    kept_loads::short_is_spent();
+    kept_loads::kept_serves();
+    kept_loads::kept_is_paid();
     tasks::tasks_go_on();
     tasks::tasks_tell_loads();
     tasks::pages_are_tasks();

@@ -1,5 +1,7 @@
 //! Reads a Lua text from standard input, behind a line `lex`, `parse` or `resolve`, and prints how many tokens, statements or
 //! functions it has, or its fault. `bench/parser.py` times it.
+//!
+//! There are no definitions here.
 #![tactic(auto)]
 
 use lua_lexer::lex;

@@ -106,13 +106,13 @@ fn laws_of_reach_are_called(_rt: HostRuntime) -> Result<(), Fail> {
 
 #[test]
 fn laws_of_closed_are_called(_rt: HostRuntime) -> Result<(), Fail> {
-    closed::empty_is_whole::<OneCell>();
-    closed::add_keeps_whole::<OneCell>();
-    closed::put_keeps_whole::<OneCell>();
-    closed::set_keeps_whole::<OneCell>();
-    closed::set_meta_keeps_whole::<OneCell>();
-    closed::freeze_keeps_whole::<OneCell>();
-    closed::set_cell_keeps_whole::<OneCell>();
+    closed::empty_is_closed::<OneCell>();
+    closed::add_keeps_closed::<OneCell>();
+    closed::put_keeps_closed::<OneCell>();
+    closed::set_keeps_closed::<OneCell>();
+    closed::set_meta_keeps_closed::<OneCell>();
+    closed::freeze_keeps_closed::<OneCell>();
+    closed::set_cell_keeps_closed::<OneCell>();
     Ok(())
 }
 

@@ -2,6 +2,8 @@
 //! sum of the places found. A line of standard input says what, and behind a space how often. `format`, `plain`, `rep`, `sub`
 //! and `find` are calls of `lua_format` and `lua_string` over 2 MiB, which `bench/strings.py` times; those of `points` have a
 //! third word, the bytes of the text, and are timed by `bench/texts.py`.
+//!
+//! There are no definitions here.
 #![tactic(auto)]
 
 mod points;

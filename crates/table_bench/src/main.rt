@@ -5,6 +5,8 @@
 //! `bench/attack_keys.py` time it.
 //!
 //! - `linked`: tables one inside the other
+//!
+//! There are no definitions here.
 #![tactic(auto)]
 
 ghost use Rattle.lua_store.specs.Parts.{IsTableOf};

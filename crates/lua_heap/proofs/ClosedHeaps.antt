@@ -1,12 +1,12 @@
--- Whole heaps stay whole.
+-- Closed heaps stay closed.
 use Rattle.std.proofs.Common.{◌≡◌, ℕ, Bool, true, false, cond, List, [], ◌∷◌, ◌++◌, Some, IsTrue, is_some, sym, ◌∙◌, ap, subst, inl, inr}
 use Rattle.std.specs.List.{flat_map}
 use Rattle.lua_heap.specs.Value.{Value, Nil, same}
 use Rattle.lua_heap.specs.Table.{Entries, set}
 use Rattle.lua_heap.specs.Heap.{Heap, Ref, tab, cel, clo, mar, Obj, TableObj, CellObj, look, add, put, empty, table_at, with_entry}
 use Rattle.lua_heap.specs.Related.{Fits, of_table, of_cell}
-use Rattle.lua_heap.specs.Reach.{Set, AllIn, value_names, entry_names, table_names, obj_names, is_there, IsWhole}
-use Rattle.lua_heap.specs.WholeLaws.{EmptyIsWhole, AddKeepsWhole, PutKeepsWhole, SetKeepsWhole, SetMetaKeepsWhole, FreezeKeepsWhole, SetCellKeepsWhole}
+use Rattle.lua_heap.specs.Reach.{Set, AllIn, value_names, entry_names, table_names, obj_names, is_there, IsClosedHeap}
+use Rattle.lua_heap.specs.ClosedLaws.{EmptyIsClosed, AddKeepsClosed, PutKeepsClosed, SetKeepsClosed, SetMetaKeepsClosed, FreezeKeepsClosed, SetCellKeepsClosed}
 use Rattle.lua_heap.proofs.Places.{some_back, some-is, is-some}
 use Rattle.lua_heap.proofs.Names.{all-split, all-join, all-map}
 use Rattle.lua_heap.proofs.LookLaws.{look-old, look-back, look-put, look-put_other, same_ref}
@@ -44,8 +44,8 @@ set-names S (e ∷ es) key value i k v =
     go false p q rest = all-join (λ r. IsTrue (S r)) (entry_names e) (flat_map entry_names (set es key value)) p.0 rest
 
 module _ {X : Type 0} where
-  pub empty_is_whole : EmptyIsWhole X
-  empty_is_whole names = record { there = at }
+  pub empty_is_closed : EmptyIsClosed X
+  empty_is_closed names = record { there = at }
     where
       at : (r : Ref) → IsTrue (is_there {X = X} empty r) → (a : Obj X) × (look empty r ≡ Some a) × AllIn (is_there {X = X} empty) (obj_names names a)
       at (tab n) e = cc
@@ -53,8 +53,8 @@ module _ {X : Type 0} where
       at (clo n) e = cc
       at (mar n) e = cc
 
-  pub add_keeps_whole : AddKeepsWhole X
-  add_keeps_whole names h o whole i = record { there = at }
+  pub add_keeps_closed : AddKeepsClosed X
+  add_keeps_closed names h o closed i = record { there = at }
     where
       at : (r : Ref) → IsTrue (is_there (add h o) r) → (a : Obj X) × (look (add h o) r ≡ Some a) × AllIn (is_there (add h o)) (obj_names names a)
       at r e =
@@ -64,49 +64,49 @@ module _ {X : Type 0} where
             elim (look-back h o r a.0 a.1) [
               | inl p ↦ subst (λ z. AllIn (is_there (add h o)) (obj_names names z)) p.1 i
               | inr p ↦
-                  let v = whole.there r (some-is _ a.0 p) in
+                  let v = closed.there r (some-is _ a.0 p) in
                   names-there h (is_there (add h o)) (there-add h o) (obj_names names a.0) (subst (λ z. AllIn (is_there h) (obj_names names z)) (some_back (sym v.1 ∙ p)) v.2)
             ],
           )
 
-  pub put_keeps_whole : PutKeepsWhole X
-  put_keeps_whole names h r x o whole e f i = record { there = at }
+  pub put_keeps_closed : PutKeepsClosed X
+  put_keeps_closed names h r x o closed e f i = record { there = at }
     where
       at : (q : Ref) → IsTrue (is_there (put h r o) q) → (a : Obj X) × (look (put h r o) q ≡ Some a) × AllIn (is_there (put h r o)) (obj_names names a)
       at q g = elim (same_ref q r) [
         | inl s ↦ (o, subst (λ z. look (put h r o) z ≡ Some o) (sym s) (look-put h r x o f e), names-there h (is_there (put h r o)) (there-put h r x o f e) (obj_names names o) i)
         | inr d ↦
-            let v = whole.there q (subst (λ z. IsTrue (is_some z)) (look-put_other h r q o d) g) in
+            let v = closed.there q (subst (λ z. IsTrue (is_some z)) (look-put_other h r q o d) g) in
             (v.0, look-put_other h r q o d ∙ v.1, names-there h (is_there (put h r o)) (there-put h r x o f e) (obj_names names v.0) v.2)
       ]
 
   -- the table that is there, with what it names
-  table-there : (names : X → List Ref) (h : Heap X) (t : ℕ) → IsWhole names h → IsTrue (is_there h (tab t))
+  table-there : (names : X → List Ref) (h : Heap X) (t : ℕ) → IsClosedHeap names h → IsTrue (is_there h (tab t))
       → (look h (tab t) ≡ Some (TableObj (table_at h t))) × AllIn (is_there h) (flat_map entry_names (table_at h t).entries) × AllIn (is_there h) (value_names (table_at h t).meta)
-  table-there names h t whole e =
-      let v = whole.there (tab t) e in
+  table-there names h t closed e =
+      let v = closed.there (tab t) e in
       let x = look-table h t v.0 v.1 in
       let i : AllIn (is_there h) (table_names (table_at h t)) = subst (λ z. AllIn (is_there h) (obj_names names z)) (sym x) v.2 in
       let p = all-split (λ r. IsTrue (is_there h r)) (flat_map entry_names (table_at h t).entries) (value_names (table_at h t).meta) i in
       (v.1 ∙ ap Some (sym x), p.0, p.1)
 
-  pub set_keeps_whole : SetKeepsWhole X
-  set_keeps_whole names h t key value whole e k v =
-      let a = table-there names h t whole e in
-      put_keeps_whole names h (tab t) _ (TableObj (with_entry (table_at h t) key value)) whole a.0 (of_table t _)
+  pub set_keeps_closed : SetKeepsClosed X
+  set_keeps_closed names h t key value closed e k v =
+      let a = table-there names h t closed e in
+      put_keeps_closed names h (tab t) _ (TableObj (with_entry (table_at h t) key value)) closed a.0 (of_table t _)
       (all-join (λ r. IsTrue (is_there h r)) (flat_map entry_names (set (table_at h t).entries key value)) (value_names (table_at h t).meta) (set-names (is_there h) (table_at h t).entries key value a.1 k v) a.2)
 
-  pub set_meta_keeps_whole : SetMetaKeepsWhole X
-  set_meta_keeps_whole names h t meta whole e m =
-      let a = table-there names h t whole e in
-      put_keeps_whole names h (tab t) _ (TableObj (record (table_at h t) { meta = meta })) whole a.0 (of_table t _)
+  pub set_meta_keeps_closed : SetMetaKeepsClosed X
+  set_meta_keeps_closed names h t meta closed e m =
+      let a = table-there names h t closed e in
+      put_keeps_closed names h (tab t) _ (TableObj (record (table_at h t) { meta = meta })) closed a.0 (of_table t _)
       (all-join (λ r. IsTrue (is_there h r)) (flat_map entry_names (table_at h t).entries) (value_names meta) a.1 m)
 
-  pub freeze_keeps_whole : FreezeKeepsWhole X
-  freeze_keeps_whole names h t whole e =
-      let a = table-there names h t whole e in
-      put_keeps_whole names h (tab t) _ (TableObj (record (table_at h t) { frozen = true })) whole a.0 (of_table t _)
+  pub freeze_keeps_closed : FreezeKeepsClosed X
+  freeze_keeps_closed names h t closed e =
+      let a = table-there names h t closed e in
+      put_keeps_closed names h (tab t) _ (TableObj (record (table_at h t) { frozen = true })) closed a.0 (of_table t _)
       (all-join (λ r. IsTrue (is_there h r)) (flat_map entry_names (table_at h t).entries) (value_names (table_at h t).meta) a.1 a.2)
 
-  pub set_cell_keeps_whole : SetCellKeepsWhole X
-  set_cell_keeps_whole names h c value whole e i = let a = is-some (look h (cel c)) e in put_keeps_whole names h (cel c) a.0 (CellObj value) whole a.1 (of_cell c _) i
+  pub set_cell_keeps_closed : SetCellKeepsClosed X
+  set_cell_keeps_closed names h c value closed e i = let a = is-some (look h (cel c)) e in put_keeps_closed names h (cel c) a.0 (CellObj value) closed a.1 (of_cell c _) i
