@@ -663,7 +663,7 @@ const MOST: usize = 2_097_152;
 const TOO_MANY: usize = 2_097_153;
 
 // All bytes that a folder may hold, and one page more. Then two causes at once: a name comes before what is read, one page before
-// the next, and a page's own limit before that of all.
+// the next, and a page's own limit before that of all. The page with which all have too many bytes is read, and the next one is not.
 const SIZE_CASES: &[SizeCase] = &[
     SizeCase {
         count: 32,
@@ -712,6 +712,22 @@ const SIZE_CASES: &[SizeCase] = &[
         shelf_fails: NEVER,
         status: 3,
         err: b"wikiexpand: source fault: Z.wiki: too long\n",
+    },
+    SizeCase {
+        count: 34,
+        size: MOST,
+        others: &[],
+        shelf_fails: 34,
+        status: 3,
+        err: b"wikiexpand: source fault: too many bytes\n",
+    },
+    SizeCase {
+        count: 33,
+        size: MOST,
+        others: &[],
+        shelf_fails: 33,
+        status: 4,
+        err: b"wikiexpand: cannot read\n",
     },
 ];
 
