@@ -94,6 +94,32 @@ body("fields_wanted", "Where a table has the text as a field, the kind of that f
      "bad argument #2 to 'preprocess' (string expected, got nil);bad argument #2 to 'preprocess' (string expected, got table);", profile=True)
 body("template_arguments_refused", "What is no table with a title.", TRY + "return " + each_kind("try(frame.expandTemplate,frame,~)") + "," + each_kind("try(frame.newChild,frame,~)", [kind for kind in VALUES if kind != "table"]),
      "bad template arguments;" * 11, profile=True)
+
+
+def refused(form, place, function, wanted, kinds):
+    """A call with each of these kinds of value for `~`, and what is told of it."""
+    return [(f"try({form.replace('~', VALUES[kind])})", f"bad argument #{place} to '{function}' ({wanted} expected, got {kind})") for kind in kinds]
+
+
+def refuses_each(name, said, rows):
+    body(name, said, TRY + "return " + ",".join(call for call, _ in rows), "".join(told + ";" for _, told in rows), profile=True)
+
+
+def not_taken(want):
+    return [kind for kind in VALUES if kind not in TAKEN[want]]
+
+
+for letters, want in (("dc", "n"), ("xf", "n"), ("sq", "s")):
+    refuses_each(f"values_of_format_{letters}", "Each kind of value that a directive doesn't take.",
+                 [row for letter in letters for row in refused(f"string.format,'%{letter}',~", 2, "format", KINDS[want], not_taken(want))])
+NO_CONTENT, NO_NAME, NO_ATTRIBUTES = ["boolean", "table", "function"], ["nil", "boolean", "function"], ["boolean", "number", "string", "function"]
+refuses_each("parts_of_tags_refused", "Contents, names and attributes of each kind that they are not; the names and places are those of `tag`.",
+             refused("mw.text.tag,'b',{},~", 3, "tag", "string", NO_CONTENT) + refused("frame.extensionTag,frame,'b',~", 3, "tag", "string", NO_CONTENT)
+             + refused("frame.extensionTag,frame,~", 1, "tag", "string", NO_NAME) + refused("frame.extensionTag,frame,'b','t',~", 2, "tag", "table", NO_ATTRIBUTES))
+body("fields_of_requests_refused", "Titles that are no texts, and arguments that are no tables.",
+     TRY + "return " + ",".join(each_kind(f"try(frame.{name},frame,{{title=~}})", ["boolean", "table", "function"]) for name in ("expandTemplate", "newChild")) + ","
+     + ",".join(each_kind(f"try(frame.{name},frame,{{title='T',args=~}})", ["boolean", "number", "string", "function"]) for name in ("expandTemplate", "newChild")),
+     "bad template arguments;" * 14, profile=True)
 body("strict_of_values", "The handlers of `strict` take any key.", TRY + "require('strict')\nlocal m=getmetatable(_G)\nreturn " + each_kind("try(m.__index,_G,~)") + "," + each_kind("try(m.__newindex,_G,~)"),
      "".join(f"variable '{value}' is not declared;" for value in TEXTS) + "".join(f"assign to undeclared variable '{value}';" for value in TEXTS), profile=True)
 
@@ -150,11 +176,11 @@ body("any_bytes_in_names", "Names are ASCII; a title is UTF-8, and has no byte b
 
 # ---- NUL is a byte as any other
 says("nul_in_strings", "In `string`.",
-     "(function(s) return #s,(select(2,s:byte(1,-1))),s:find('b',1,true),s:find('%z'),s:match('a.b'),s:gmatch('%z')(),s:gsub('%z','-'),s:upper(),s:reverse(),s:sub(2,2),s:rep(2),('%s|%q'):format(s,s),string.char(97,0) end)('a\\0b')",
-     "3 0 3 2 a\\x00b \\x00 a-b A\\x00B b\\x00a \\x00 a\\x00ba\\x00b a\\x00b|\"a\\\\000b\" a\\x00", profile=True)
+     "(function(s) return #s,(select(2,s:byte(1,-1))),s:find('b',1,true),s:find('%z'),s:match('a.b'),s:gmatch('%z')(),s:gsub('%z','-'),s:upper(),s:lower(),s:reverse(),s:sub(2,2),s:rep(2),('%s|%q'):format(s,s),string.char(97,0) end)('a\\0b')",
+     "3 0 3 2 a\\x00b \\x00 a-b A\\x00B a\\x00b b\\x00a \\x00 a\\x00ba\\x00b a\\x00b|\"a\\\\000b\" a\\x00", profile=True)
 says("nul_in_ustring", "In `mw.ustring`.",
-     "(function(u,s) return u.len(s),u.codepoint(s,2),u.char(97,0),u.find(s,'b'),u.find(s,'%z'),u.match(s,'.b'),u.gmatch(s,'%z')(),u.gsub(s,'%z','-'),u.sub(s,2,2),u.byteoffset(s,3),u.isutf8(s),u.toNFC(s),u.toNFKD(s),u.gcodepoint('\\0')() end)"
-     "(mw.ustring,'a\\0b')", "3 0 a\\x00 3 2 \\x00b \\x00 a-b \\x00 3 true a\\x00b a\\x00b 0", profile=True)
+     "(function(u,s) return u.len(s),u.codepoint(s,2),u.char(97,0),u.find(s,'b'),u.find(s,'%z'),u.match(s,'.b'),u.gmatch(s,'%z')(),u.gsub(s,'%z','-'),u.sub(s,2,2),u.byteoffset(s,3),u.isutf8(s),u.toNFC(s),u.toNFD(s),u.toNFKC(s),u.toNFKD(s),u.gcodepoint('\\0')() end)"
+     "(mw.ustring,'a\\0b')", "3 0 a\\x00 3 2 \\x00b \\x00 a-b \\x00 3 true a\\x00b a\\x00b a\\x00b a\\x00b 0", profile=True)
 says("nul_in_text", "In `mw.text` and `mw.html`.",
      "(function(m,s) return m.trim('\\0a\\0'),#m.split(s,'%z'),#m.split(s,'\\0',true),m.gsplit(s,'\\0')(),m.encode('\\0<'),m.encode(s,'%z'),m.decode('&#0;'),m.nowiki('\\0['),m.tag('b',{x='\\0'}),m.listToText({s,s}),m.truncate(s,2),"
      "mw.html.create('b'):attr('x',s):css('y',s):wikitext(s) end)(mw.text,'a\\0b')",
@@ -166,9 +192,10 @@ says("nul_elsewhere", "As a key, in order, in numerals and in messages.", "({['a
 # ---- tables with themselves in them, and with holes
 body("tables_of_themselves", "A table in itself is a table as any other, which no function takes for a text.",
      TRY + "local t={} t[1]=t t[2]=t t.x=t\nlocal m,b=mw.text,mw.html.create('b')\nreturn try(table.concat,t),try(table.sort,t),try(m.listToText,t),try(m.tag,'b',t),try(b.attr,b,t),try(b.css,b,t),try(string.gsub,'x','x',t),"
-     "try(frame.expandTemplate,frame,{title='T',args=t}),try(frame.newChild,frame,{args=t}),try(unpack,t),tostring(mw.html.create('b',t)),table.maxn(t),tostring(table.remove(t)==t),#t,try(table.insert,t,t),#t",
+     "try(frame.expandTemplate,frame,{title='T',args=t}),try(frame.newChild,frame,{args=t}),try(frame.extensionTag,frame,t),try(frame.extensionTag,frame,'b',t),try(frame.extensionTag,frame,'b','t',t),try(unpack,t),tostring(mw.html.create('b',t)),table.maxn(t),tostring(table.remove(t)==t),#t,try(table.insert,t,t),#t",
      "invalid value (at index 1) in table for 'concat';bad argument #1 to 'sort' (string expected, got table);bad argument #1 to 'listToText' (string expected, got table);bad argument #2 to 'tag' (string expected, got table);"
-     "bad html name;bad argument #3 to 'css' (string expected, got table);invalid replacement value (a table);bad template arguments;bad template arguments;table;<b></b>2true1nil;2", profile=True)
+     "bad html name;bad argument #3 to 'css' (string expected, got table);invalid replacement value (a table);bad template arguments;bad template arguments;"
+     "bad argument #1 to 'tag' (string expected, got nil);bad argument #3 to 'tag' (string expected, got table);bad argument #2 to 'tag' (string expected, got table);table;<b></b>2true1nil;2", profile=True)
 body("tables_with_holes", "A cleared entry is absent, and no handler is asked.",
      "local t=setmetatable({'a','b','c',x='d'},{__index=function() return 'i' end,__newindex=function() end})\nt[2]=nil t.x=nil\n"
      "return table.concat(t,','),#t,table.maxn(t),select('#',unpack(t)),table.remove(t),#t,mw.text.listToText(t),mw.text.tag('b',t)", "a131a0<b 3=\"c\">", profile=True)

@@ -88,9 +88,10 @@ nested("eaches", "The same with generic loops; the item of the last constructor 
 nested("functions", "Functions in one another: `return` and the function are two nodes; the last `return` has a number.", "return (function() ", "return 1", " end)()", 49, "1", head="")
 for name, count, text, end in (
         ("sums", 196, "1" + "+1" * 196, "gives 197"), ("sums", 197, "1" + "+1" * 197, "fails Lua error: Module:X:1: nested too deeply"),
-        ("comparisons", 196, "1" + "==1" * 196, "gives false"), ("fields", 196, "t" + ".t" * 196, "gives table"),
-        ("fields", 197, "t" + ".t" * 197, "fails Lua error: Module:X:1: nested too deeply"), ("calls", 196, "g" + "()" * 196, "gives function"),
-        ("calls", 197, "g" + "()" * 197, "fails Lua error: Module:X:1: nested too deeply"), ("methods", 196, "t" + ":m()" * 196, "gives table")):
+        ("comparisons", 196, "1" + "==1" * 196, "gives false"), ("comparisons", 197, "1" + "==1" * 197, "fails Lua error: Module:X:1: nested too deeply"),
+        ("fields", 196, "t" + ".t" * 196, "gives table"), ("fields", 197, "t" + ".t" * 197, "fails Lua error: Module:X:1: nested too deeply"),
+        ("calls", 196, "g" + "()" * 196, "gives function"), ("calls", 197, "g" + "()" * 197, "fails Lua error: Module:X:1: nested too deeply"),
+        ("methods", 196, "t" + ":m()" * 196, "gives table"), ("methods", 197, "t" + ":m()" * 197, "fails Lua error: Module:X:1: nested too deeply")):
     hand(f"{name}_in_a_row_{count}", "A chain to the left: its first operand has 200 nodes above it.",
          "local t={} t.t=t function t:m() return self end local function g() return g end return {f=function(frame) return " + text + " end}",
          end, levels=False, profile=True)

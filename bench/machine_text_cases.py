@@ -157,7 +157,7 @@ says("ustring_forms", "An accent that is put together, and apart.", "#mw.ustring
 says("ustring_of_any_bytes", "`len` and `isutf8` take any bytes.", "mw.ustring.len('\\255'),mw.ustring.isutf8('\\255'),mw.ustring.isutf8('\xc3\xa9'),mw.ustring.isutf8('\\237\\160\\128')", "nil false true false", profile=True)
 body("ustring_refuses", "Bytes that aren't UTF-8, and numbers of no code point.", TRY + "local u=mw.ustring\nreturn try(u.sub,'\\255',1),try(u.find,'a','\\255',1,true),try(u.match,'\\255','a'),try(u.codepoint,'\\255'),try(u.char,55296),try(u.char,97,1114112),try(u.find,'a','%')",
      "bad argument #1 to 'sub' (not UTF-8);bad argument #2 to 'find' (not UTF-8);bad argument #1 to 'match' (not UTF-8);bad argument #1 to 'codepoint' (not UTF-8);bad argument #1 to 'char' (out of range);bad argument #2 to 'char' (out of range);malformed pattern (1);", profile=True)
-refuses("ustring_without_arguments", "The functions of `mw.ustring` without an argument.", "mw.ustring", [("char", ""), *wanting("string", "codepoint gcodepoint byteoffset find match gmatch len sub isutf8 toNFC toNFD toNFKC toNFKD")])
+refuses("ustring_without_arguments", "The functions of `mw.ustring` without an argument.", "mw.ustring", [("char", ""), *wanting("string", "codepoint gcodepoint byteoffset find match gmatch gsub len sub isutf8 toNFC toNFD toNFKC toNFKD")])
 body("ustring_maybe_forty_times", "`a?` forty times over code points.", "local s=('a'):rep(40)\nreturn mw.ustring.find(s,('a?'):rep(40)..s)", levels=False, profile=True, runs=[("exact", AMPLE, CALLS, [], "spends steps, 0 left")])
 
 
