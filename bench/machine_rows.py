@@ -21,7 +21,7 @@ CRATE = pathlib.Path(__file__).resolve().parent.parent / "crates" / "lua_machine
 CALLS = 20000
 AMPLE = 10_000_000
 # a case by hand that takes no more steps is run with each number of them
-FEW = 5000
+FEW = 2500
 
 HARNESS = """
 local name = ...
@@ -204,7 +204,7 @@ def all_cases():
     import machine_gsub_cases  # noqa: F401 (adds its cases)
     import machine_argument_cases  # noqa: F401 (adds its cases)
     examples = [of_example(example) for _, _, examples in FILES for example in examples]
-    return [with_all(case, AMPLE) for case in examples] + [with_all(of_hand(hand), FEW) for hand in CASES]
+    return [with_every(case, "all", AMPLE) for case in examples] + [with_every(of_hand(hand), "every", AMPLE if hand["every"] else FEW) for hand in CASES]
 
 
 def of_hand(hand):
@@ -219,9 +219,9 @@ def of_hand(hand):
     return case
 
 
-def with_all(case, most):
-    """The case with a line for each row of replies: runs with each number of steps from 0 on, where it comes to an end within so many. An
-    answer that leaves a number of steps takes one step there."""
+def with_every(case, word, most):
+    """The case with a line for each row of replies: runs with each number of steps, from 0 (`all`) or from 1,000 on (`every`), where it comes
+    to an end within so many. An answer that leaves a number of steps takes one step there."""
     seen = []
     for _, _, calls, replies, said in list(case.runs):
         told = [told for told, _ in replies]
@@ -230,7 +230,7 @@ def with_all(case, most):
             replies = [(told, left if left.startswith("-") else "-1") for told, left in replies]
             taken = case.reference(AMPLE, calls, replies).taken
             if taken <= most:
-                case.runs.append(("all", AMPLE, calls, replies, f"{case.name}: all: from {taken} on"))
+                case.runs.append((word, AMPLE, calls, replies, f"{case.name}: {word}: from {taken} on"))
     return case
 
 
@@ -257,7 +257,7 @@ def check():
     compared = 0
     for case in cases:
         for word, steps, calls, replies, said in case.runs:
-            if word not in ("all", "levels") and by_reference(case, word, steps, calls, replies) != said:
+            if word not in ("all", "every", "levels") and by_reference(case, word, steps, calls, replies) != said:
                 wrong += 1
                 print(f"{said}\n    by machine_reference.py {by_reference(case, word, steps, calls, replies)}")
         if case.nodes is not None and case.reference().nodes != case.nodes:
