@@ -174,3 +174,11 @@ idle_at_point s t u m m' l l' k k' q None of later same e = record { later = lat
 
 pub idle_first : (s t u : StoreView) (m m1 m' : State) (l l1 l' : Left) (k k1 k' : ℕ) (q : List SFrame → Point) (r : Option Next) → StateOf s m → Idles s m l k t m1 l1 k1 → MayFollow t m1 (q (frames_of t m1)) l1 k1 u m' l' k' r → MayFollow s m (q (frames_of s m)) l k u m' l' k' r
 idle_first s t u m m1 m' l l1 l' k k1 k' q r of idle e = idle_at_point s t u m m' l l' k k' q r of idle.later idle.heap (rw (idle.state, idle.left, idle.counter) at e)
+
+-- the same before a stride
+pub idle_before : (s t u : StoreView) (m m1 m' : State) (l l1 l' : Left) (k k1 k' : ℕ) (q : List SFrame → Point) (r : Option Next) → StateOf s m → Idles s m l k t m1 l1 k1 → MayStride t m1 (q (frames_of t m1)) l1 k1 u m' l' k' r → MayStride s m (q (frames_of s m)) l k u m' l' k' r
+idle_before s t u m m1 m' l l1 l' k k1 k' q (Some y) of idle e =
+    let f : Follows s m (q (frames_of s m)) l k u m' l' k' (focus_of y) = idle_first s t u m m1 m' l l1 l' k k1 k' q (Some y) of idle (strode_follows t m1 (q (frames_of t m1)) l1 k1 u m' l' k' (Some y) e) in
+    let same : l1.steps ≡ l.steps = ap (λ (o : Left). o.steps) idle.left in
+    record { state = f.state; world = f.world; of = f.of; later = f.later; rises = f.rises; falls = omega (arith, same, e.falls); led = f.led }
+idle_before s t u m m1 m' l l1 l' k k1 k' q None of idle e = idle_first s t u m m1 m' l l1 l' k k1 k' q None of idle e

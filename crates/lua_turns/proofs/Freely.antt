@@ -87,6 +87,20 @@ swapped s m l k o f g more fs y of e n known focus law =
     (λ world. free world (Gives o (frames_of s m)) (slots_of s m) (focus_seen s y (frame_seen s.texts g ∷ frames_seen s.texts more)) (slots_of s m) (from_newest s m o f more world (Now (focus_seen s y (frame_seen s.texts g ∷ frames_seen s.texts more)) (slots_of s m)) e (law world (frames_seen s.texts more))))
     (ap (λ (x : List Frame). focus_seen s y (frames_seen s.texts x)) (sym n)) refl
 
+-- the same, with other registers
+pub below_with : (s : StoreView) (all fs more : List Frame) (f g : Frame) → all ≡ f ∷ more → fs ≡ g ∷ more → FramesOf s all → FrameOf s g → FramesOf s fs
+below_with s all fs more f g e n h known = subst (FramesOf s) (sym n) (known, (subst (FramesOf s) e h).1)
+
+pub swapped_at : (s : StoreView) (m : State) (l : Left) (k : ℕ) (o : Outcome (List Value) Jump) (f g : Frame) (more fs : List Frame) (regs : List Slot) (y : Focus) (z : Slots) → StateOf s m → m.frames ≡ f ∷ more → fs ≡ g ∷ more
+    → FrameOf s g → RegistersOf s regs → FocusOf s y
+    → ((world : CWorld) (gs : List SFrame) → moves world (Gives o (frame_seen s.texts f ∷ gs)) (slots_of s m) ≡ Now (focus_seen s y (frame_seen s.texts g ∷ gs)) z) → z ≡ slots_of s (with_parts m fs regs m.functions)
+    → Follows s m (Gives o (frames_of s m)) l k s (with_parts m fs regs m.functions) l k y
+swapped_at s m l k o f g more fs regs y z of e n known r focus law held =
+    follows_free s s m fs regs m.functions (Gives o (frames_of s m)) (focus_seen s y (frame_seen s.texts g ∷ frames_seen s.texts more)) z y of (later-itself s) l k
+    (below_with s m.frames fs more f g e n of.frames known) r of.functions focus
+    (λ world. free world (Gives o (frames_of s m)) (slots_of s m) (focus_seen s y (frame_seen s.texts g ∷ frames_seen s.texts more)) z (from_newest s m o f more world (Now (focus_seen s y (frame_seen s.texts g ∷ frames_seen s.texts more)) z) e (law world (frames_seen s.texts more))))
+    (ap (λ (x : List Frame). focus_seen s y (frames_seen s.texts x)) (sym n)) held
+
 -- A FUNCTION IS LEFT: its registers, and its call
 abbrev pub with_call : State → List Frame → List Slot → List Activation → ℕ → State
 with_call m fs regs fns calls = record m { frames = fs; regs = regs; functions = fns; calls = calls }

@@ -3,3 +3,9 @@ pub mod Freely
 pub mod Turning
 pub mod Entries
 pub mod Entered
+pub mod Codes
+pub mod Begun
+pub mod Chosen
+pub mod Listed
+pub mod Named
+pub mod Joins

@@ -1,7 +1,11 @@
 -- THE NEWEST FRAME, where it is gone on with in place.
-use Rattle.std.specs.Prelude.{◌≡◌, List, []}
+use Rattle.std.specs.Prelude.{◌≡◌, List, [], ◌∷◌}
+use Rattle.lua_code.specs.declared.operator.Operator.TheVariants as operator
 use Rattle.lua_stack.specs.declared.frame.Frame.{Frame}
 use Rattle.lua_stack.specs.declared.frame.Frame.TheVariants as frame
+use Rattle.lua_store.specs.declared.value.Value.{Value}
+use Rattle.lua_stack.specs.declared.frame.InAssignment.TheVariants as in_assignment
+use Rattle.lua_stack.specs.declared.frame.InLoop.TheVariants as in_loop
 use Rattle.lua_stack.specs.declared.frame.InExpression.TheVariants as in_expression
 use Rattle.lua_stack.specs.declared.frame.InStatement.TheVariants as in_statement
 use Rattle.lua_stack.specs.declared.frame.Ending.TheVariants as ending
@@ -17,6 +21,17 @@ Waits fs (waiting.Operand op b line) = IsNewest fs (frame.Expression (in_express
 Waits fs (waiting.Operates op a line) = IsNewest fs (frame.Expression (in_expression.OperateNow op a line))
 Waits fs (waiting.Calls f line) = IsNewest fs (frame.Expression (in_expression.CallNow f line))
 Waits fs (waiting.Last rest) = (rest.now ≡ []) × IsNewest fs (frame.Expression (in_expression.MoreNext rest []))
+Waits fs (waiting.Joins a line) = IsNewest fs (frame.Expression (in_expression.OperateNow operator.Concatenate a line))
+Waits fs (waiting.Callee args line) = IsNewest fs (frame.Expression (in_expression.ArgumentsNext args line))
+Waits fs (waiting.Object name args line) = IsNewest fs (frame.Expression (in_expression.MethodNext name args line))
+Waits fs (waiting.Item rest) = (before : List Value) × IsNewest fs (frame.Expression (in_expression.MoreNext rest before))
+Waits fs waiting.First = IsNewest fs (frame.Expression in_expression.First)
+Waits fs (waiting.Decides deciding b) = IsNewest fs (frame.Expression (in_expression.DecideNext deciding b))
+Waits fs (waiting.Applies op line) = IsNewest fs (frame.Expression (in_expression.UnaryNow op line))
+Waits fs (waiting.Assigns target) = IsNewest fs (frame.Assignment (in_assignment.AssignNow (target ∷ [])))
+Waits fs (waiting.Branches body arms other) = IsNewest fs (frame.Statement (in_statement.BranchNext body arms other))
+Waits fs (waiting.Tests test body) = IsNewest fs (frame.Loop (in_loop.WhileTest test body))
+Waits fs (waiting.Repeats depth test body) = IsNewest fs (frame.End (ending.WhileEnd depth test body))
 Waits fs (waiting.Block depth) = IsNewest fs (frame.End (ending.BlockEnd depth))
 Waits fs waiting.Body = IsNewest fs (frame.End ending.BodyEnd)
 Waits fs (waiting.Counts c) = IsNewest fs (frame.End (ending.CountEnd c.depth c.boxed c.index c.limit c.step c.body))

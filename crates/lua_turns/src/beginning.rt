@@ -1,22 +1,22 @@
 //! An operator and a `return` begin whose operands are not read in place: frames wait for these.
 ghost use Rattle.std.specs.Prelude.{◌≡◌, ◌∷◌, [], IfOk};
-ghost use Rattle.lua_code.specs.Seen.{block_seen, expression_seen, operator_seen};
-ghost use Rattle.lua_slots.specs.Code.{MoreC, NoC, OperateC, ReturnC, ThenC};
+ghost use Rattle.lua_code.specs.Seen.{block_seen, expression_seen, expressions_seen, operator_seen};
+ghost use Rattle.lua_slots.specs.Code.{AndC, CallC, MethodC, MoreC, NoC, OperateC, OrC, ParenC, ReturnC, ThenC, UnaryC};
 ghost use Rattle.lua_slots.specs.Points.{Evals, Runs};
 ghost use Rattle.lua_state.specs.Of.{StateOf};
 ghost use Rattle.lua_state.specs.Seen.{frames_of};
 ghost use Rattle.lua_store.specs.Seen.{StoreView};
 ghost use Rattle.lua_strides.specs.Strides.{MayStride};
-ghost use Rattle.lua_turns.specs.Rows.{MayFollow};
 
 use lua_code::{Expression, Operator, Statement};
 use lua_stack::{Frame, InExpression, InStatement, Values};
 use lua_state::State;
 use lua_strides::Next;
 use lua_strides::ending::{pay_nodes, wait_for};
+use lua_syntax::UnaryOp;
 use std::alloc::Global;
 use std::sync::ledger::Ledger;
-use wk_base::{Left, NoMemory, Steps};
+use wk_base::{Left, List, NoMemory, Steps};
 
 /// An operator begins with its first operand, where its step is left.
 pub fn begin_operator<'m, L: Ledger>(
@@ -48,7 +48,7 @@ pub fn begin_return<'m, L: Ledger>(
     turns: &mut Steps<L>,
 ) -> Result<Option<Next<'m>>, NoMemory>
     requires { none.now ≡ [] }
-    ensures { (s : StoreView) → StateOf s state.old → IfOk result (MayFollow s state.old (Runs (ThenC (ReturnC (MoreC (expression_seen value.now) NoC)) (block_seen rest.now)) (frames_of s state.old)) left.old turns.old s state.new left.new turns.new) }
+    ensures { (s : StoreView) → StateOf s state.old → IfOk result (MayStride s state.old (Runs (ThenC (ReturnC (MoreC (expression_seen value.now) NoC)) (block_seen rest.now)) (frames_of s state.old)) left.old turns.old s state.new left.new turns.new) }
 {
     if !pay_nodes(left, turns, 1) {
         return Ok(None);
@@ -62,4 +62,109 @@ pub fn begin_return<'m, L: Ledger>(
         .frames
         .push(Frame::Expression(InExpression::MoreNext(none, values)))?;
     Ok(Some(Next::Evaluates(value)))
+}
+
+/// An operator with one operand begins, where its step is left.
+pub fn begin_unary<'m, L: Ledger>(
+    left: &mut Left,
+    state: &mut State<'m>,
+    op: UnaryOp,
+    a: &'m Expression,
+    line: u32,
+    turns: &mut Steps<L>,
+) -> Result<Option<Next<'m>>, NoMemory>
+    ensures { (s : StoreView) → StateOf s state.old → IfOk result (MayStride s state.old (Evals (UnaryC op (expression_seen a.now) line) (frames_of s state.old)) left.old turns.old s state.new left.new turns.new) }
+{
+    if !pay_nodes(left, turns, 1) {
+        return Ok(None);
+    }
+    let frame = Frame::Expression(InExpression::UnaryNow(op, line));
+    wait_for(state, frame, Next::Evaluates(a))
+}
+
+/// `and` begins with its first operand, where its step is left.
+pub fn begin_and<'m, L: Ledger>(
+    left: &mut Left,
+    state: &mut State<'m>,
+    a: &'m Expression,
+    b: &'m Expression,
+    turns: &mut Steps<L>,
+) -> Result<Option<Next<'m>>, NoMemory>
+    ensures { (s : StoreView) → StateOf s state.old → IfOk result (MayStride s state.old (Evals (AndC (expression_seen a.now) (expression_seen b.now)) (frames_of s state.old)) left.old turns.old s state.new left.new turns.new) }
+{
+    if !pay_nodes(left, turns, 1) {
+        return Ok(None);
+    }
+    let frame = Frame::Expression(InExpression::DecideNext(false, b));
+    wait_for(state, frame, Next::Evaluates(a))
+}
+
+/// `or` begins with its first operand, where its step is left.
+pub fn begin_or<'m, L: Ledger>(
+    left: &mut Left,
+    state: &mut State<'m>,
+    a: &'m Expression,
+    b: &'m Expression,
+    turns: &mut Steps<L>,
+) -> Result<Option<Next<'m>>, NoMemory>
+    ensures { (s : StoreView) → StateOf s state.old → IfOk result (MayStride s state.old (Evals (OrC (expression_seen a.now) (expression_seen b.now)) (frames_of s state.old)) left.old turns.old s state.new left.new turns.new) }
+{
+    if !pay_nodes(left, turns, 1) {
+        return Ok(None);
+    }
+    let frame = Frame::Expression(InExpression::DecideNext(true, b));
+    wait_for(state, frame, Next::Evaluates(a))
+}
+
+/// An expression in parentheses begins, where its step is left.
+pub fn begin_paren<'m, L: Ledger>(
+    left: &mut Left,
+    state: &mut State<'m>,
+    a: &'m Expression,
+    turns: &mut Steps<L>,
+) -> Result<Option<Next<'m>>, NoMemory>
+    ensures { (s : StoreView) → StateOf s state.old → IfOk result (MayStride s state.old (Evals (ParenC (expression_seen a.now)) (frames_of s state.old)) left.old turns.old s state.new left.new turns.new) }
+{
+    if !pay_nodes(left, turns, 1) {
+        return Ok(None);
+    }
+    let frame = Frame::Expression(InExpression::First);
+    wait_for(state, frame, Next::Evaluates(a))
+}
+
+/// A call begins with what is called, where its step is left.
+pub fn begin_call<'m, L: Ledger>(
+    left: &mut Left,
+    state: &mut State<'m>,
+    a: &'m Expression,
+    arguments: &'m List<Expression>,
+    line: u32,
+    turns: &mut Steps<L>,
+) -> Result<Option<Next<'m>>, NoMemory>
+    ensures { (s : StoreView) → StateOf s state.old → IfOk result (MayStride s state.old (Evals (CallC (expression_seen a.now) (expressions_seen arguments.now) line) (frames_of s state.old)) left.old turns.old s state.new left.new turns.new) }
+{
+    if !pay_nodes(left, turns, 1) {
+        return Ok(None);
+    }
+    let frame = Frame::Expression(InExpression::ArgumentsNext(arguments, line));
+    wait_for(state, frame, Next::Evaluates(a))
+}
+
+/// A method begins with its object, where its step is left.
+pub fn begin_method<'m, L: Ledger>(
+    left: &mut Left,
+    state: &mut State<'m>,
+    a: &'m Expression,
+    name: &'m [u8],
+    arguments: &'m List<Expression>,
+    line: u32,
+    turns: &mut Steps<L>,
+) -> Result<Option<Next<'m>>, NoMemory>
+    ensures { (s : StoreView) → StateOf s state.old → IfOk result (MayStride s state.old (Evals (MethodC (expression_seen a.now) name.now (expressions_seen arguments.now) line) (frames_of s state.old)) left.old turns.old s state.new left.new turns.new) }
+{
+    if !pay_nodes(left, turns, 1) {
+        return Ok(None);
+    }
+    let frame = Frame::Expression(InExpression::MethodNext(name, arguments, line));
+    wait_for(state, frame, Next::Evaluates(a))
 }

@@ -1,18 +1,22 @@
 //! Arguments reach the frame that calls (manual 2.5.8).
-ghost use Rattle.std.specs.Prelude.{◌≡◌, IfOk};
+ghost use Rattle.std.specs.Prelude.{◌≡◌, ◌∷◌, [], IfOk};
 ghost use Rattle.page_run.specs.Outcome.{Goes};
 ghost use Rattle.lua_slots.specs.Points.{Gives};
+ghost use Rattle.lua_stack.specs.declared.frame.Frame.TheVariants as frame_kind;
+ghost use Rattle.lua_stack.specs.declared.frame.InExpression.TheVariants as in_expression;
 ghost use Rattle.lua_stack.specs.Of.{ValuesOf};
 ghost use Rattle.lua_stack.specs.Seen.{values_seen};
 ghost use Rattle.lua_state.specs.Of.{StateOf};
 ghost use Rattle.lua_state.specs.Seen.{frames_of};
-ghost use Rattle.lua_turns.specs.Rows.{MayFollow};
+ghost use Rattle.lua_store.specs.Parts.{IsOf};
+ghost use Rattle.lua_store.specs.Seen.{seen};
+ghost use Rattle.lua_turns.specs.Rows.{IsNewest, MayFollow};
 
 use crate::entering::{callee_of, enter};
 use crate::waiting::{Waiting, of_newest};
 use lua_stack::Values;
 use lua_state::State;
-use lua_store::Store;
+use lua_store::{Store, Value};
 use lua_strides::Next;
 use std::alloc::Global;
 use std::sync::ledger::Ledger;
@@ -49,5 +53,40 @@ pub fn call<'m, L: Ledger>(
             None => Ok(None),
         },
         _ => Ok(None),
+    }
+}
+
+/// One argument reaches the newest frame, a call: if a function of Lua is called, and a step and a call are left, that is entered.
+pub fn call_one<'m, L: Ledger>(
+    alloc: Global,
+    store: &mut Store,
+    left: &mut Left,
+    state: &mut State<'m>,
+    called: Value,
+    line: u32,
+    argument: Value,
+    turns: &mut Steps<L>,
+) -> Result<Option<Next<'m>>, NoMemory>
+    requires state { StateOf store.old state.old }
+    requires newest { IsNewest state.old.frames (frame_kind.Expression (in_expression.CallNow called line)) }
+    requires argument { IsOf store.old argument }
+    ensures { IfOk result (MayFollow store.old state.old (Gives (Goes (seen store.old.texts argument ∷ [])) (frames_of store.old state.old)) left.old turns.old store.new state.new left.new turns.new) }
+{
+    if left.steps == 0 {
+        return Ok(None);
+    }
+    if left.calls == 0 {
+        return Ok(None);
+    }
+    match callee_of(store, called) {
+        Some(callee) => {
+            let mut arguments = Values::new(alloc);
+            arguments.add(argument)?;
+            let next = enter(
+                alloc, store, left, state, called, callee, arguments, line, turns,
+            )?;
+            Ok(Some(next))
+        }
+        None => Ok(None),
     }
 }

@@ -12,6 +12,7 @@ ghost use Rattle.lua_store.specs.Seen.{StoreView};
 ghost use Rattle.lua_strides.specs.Next.{focus_of};
 ghost use Rattle.lua_turns.specs.Rows.{Follows, IsNewest, MayFollow};
 
+use crate::branching::end_while;
 use crate::counting::end_count;
 use crate::giving::go_on;
 use crate::leaving::leave_function;
@@ -61,6 +62,7 @@ pub fn end<'m, L: Ledger>(
             let next = end_body(left, state)?;
             Ok(Some(next))
         }
+        Waiting::Repeats(depth, test, body) => Ok(Some(end_while(state, depth, test, body))),
         Waiting::Counts(count) => end_count(store, left, state, count, turns),
         _ => Ok(None),
     }

@@ -5,6 +5,7 @@ ghost use Rattle.wk_base.specs.declared.left.Left.{Left as Allowance};
 ghost use Rattle.lua_heap.specs.Value.{Value as Plain};
 ghost use Rattle.lua_slots.specs.Points.{Gives};
 ghost use Rattle.lua_stack.specs.declared.frame.Frame.TheVariants as frame_kind;
+ghost use Rattle.lua_stack.specs.declared.frame.InAssignment.TheVariants as in_assignment;
 ghost use Rattle.lua_stack.specs.declared.frame.InExpression.TheVariants as in_expression;
 ghost use Rattle.lua_stack.specs.declared.frame.InStatement.TheVariants as in_statement;
 ghost use Rattle.lua_state.specs.Of.{StateOf};
@@ -13,17 +14,26 @@ ghost use Rattle.lua_store.specs.Parts.{IsOf};
 ghost use Rattle.lua_store.specs.Seen.{StoreView, seen};
 ghost use Rattle.lua_strides.specs.Next.{focus_of};
 ghost use Rattle.lua_turns.specs.Rows.{Follows, IsNewest, MayFollow};
+ghost use Rattle.lua_turns.specs.Waiting.{Waits};
 
+use crate::branching::{choose, take_test};
+use crate::calling::call_one;
+use crate::deciding::{apply, decide, give_first};
+use crate::joining::join;
+use crate::listing::{take_callee, take_item};
+use crate::methods::take_object;
 use crate::waiting::{Waiting, drop_newest, of_newest, swap_newest};
 use lua_code::{Expression, Operator, Statement};
 use lua_stack::opening::open;
-use lua_stack::{Frame, InExpression};
+use lua_stack::{Found, Frame, InExpression, Setting};
 use lua_state::State;
 use lua_store::{Store, Value};
 use lua_strides::Next;
 use lua_strides::operators::operated;
 use lua_strides::striding::only;
-use wk_base::NoMemory;
+use std::alloc::Global;
+use std::sync::ledger::Ledger;
+use wk_base::{Left, NoMemory, Steps};
 
 /// The statements behind one go on, whatever it gave.
 pub fn go_on<'m>(state: &mut State<'m>, rest: &'m [Statement]) -> Next<'m>
@@ -115,23 +125,77 @@ fn declare<'m>(
     }
 }
 
-/// A value reaches the newest frame.
-pub fn give<'m>(
+/// The one target of an assignment has its value, which is still to be set.
+fn assign<'m>(state: &mut State<'m>, target: Found<'m>, value: Value) -> Next<'m>
+    requires { IsNewest state.old.frames (frame_kind.Assignment (in_assignment.AssignNow (target ∷ []))) }
+    ensures { (s : StoreView) (l : Allowance) (k : ℕ) → StateOf s state.old → IsOf s value → Follows s state.old (Gives (Goes (seen s.texts value ∷ [])) (frames_of s state.old)) l k s state.new l k (focus_of result) }
+{
+    drop_newest(&mut state.frames);
+    Next::Sets(Setting { target, value })
+}
+
+/// A value reaches the newest frame, where that waits in an expression.
+fn give_operand<'m, L: Ledger>(
+    alloc: Global,
     store: &mut Store,
+    left: &mut Left,
+    state: &mut State<'m>,
+    waits: Waiting<'m>,
+    value: Value,
+    turns: &mut Steps<L>,
+) -> Result<Option<Next<'m>>, NoMemory>
+    requires state { StateOf store.old state.old }
+    requires waits { Waits state.old.frames waits }
+    requires value { IsOf store.old value }
+    ensures { IfOk result (MayFollow store.old state.old (Gives (Goes (seen store.old.texts value ∷ [])) (frames_of store.old state.old)) left.old turns.old store.new state.new left.new turns.new) }
+{
+    match waits {
+        Waiting::Operand(op, b, line) => Ok(Some(take_operand(state, op, b, line, value))),
+        Waiting::Joins(a, line) => join(alloc, store, left, state, a, line, value),
+        Waiting::Operates(op, a, line) => Ok(operate(store, state, op, a, line, value)),
+        Waiting::Last(rest) => Ok(Some(end_list(state, rest, value))),
+        Waiting::Item(rest) => {
+            let next = take_item(state, rest, value)?;
+            Ok(Some(next))
+        }
+        Waiting::First => Ok(Some(give_first(state, value))),
+        Waiting::Decides(deciding, b) => Ok(Some(decide(state, deciding, b, value))),
+        Waiting::Applies(op, line) => Ok(apply(store, state, op, line, value)),
+        Waiting::Callee(arguments, line) => {
+            let next = take_callee(alloc, state, arguments, line, value)?;
+            Ok(Some(next))
+        }
+        Waiting::Object(name, list, line) => {
+            take_object(alloc, store, left, state, name, list, line, value)
+        }
+        Waiting::Calls(called, line) => {
+            call_one(alloc, store, left, state, called, line, value, turns)
+        }
+        _ => Ok(None),
+    }
+}
+
+/// A value reaches the newest frame.
+pub fn give<'m, L: Ledger>(
+    alloc: Global,
+    store: &mut Store,
+    left: &mut Left,
     state: &mut State<'m>,
     value: Value,
+    turns: &mut Steps<L>,
 ) -> Result<Option<Next<'m>>, NoMemory>
     requires state { StateOf store.old state.old }
     requires value { IsOf store.old value }
-    ensures { (l : Allowance) (k : ℕ) → IfOk result (MayFollow store.old state.old (Gives (Goes (seen store.old.texts value ∷ [])) (frames_of store.old state.old)) l k store.new state.new l k) }
+    ensures { IfOk result (MayFollow store.old state.old (Gives (Goes (seen store.old.texts value ∷ [])) (frames_of store.old state.old)) left.old turns.old store.new state.new left.new turns.new) }
 {
-    match of_newest(&state.frames) {
+    let waits = of_newest(&state.frames);
+    match waits {
         Waiting::Statements(rest) => Ok(Some(go_on(state, rest))),
         Waiting::Declares(flags, rest) => declare(store, state, flags, rest, value),
         Waiting::Returns => Ok(Some(begin_return(state, value))),
-        Waiting::Operand(op, b, line) => Ok(Some(take_operand(state, op, b, line, value))),
-        Waiting::Operates(op, a, line) => Ok(operate(store, state, op, a, line, value)),
-        Waiting::Last(rest) => Ok(Some(end_list(state, rest, value))),
-        _ => Ok(None),
+        Waiting::Assigns(target) => Ok(Some(assign(state, target, value))),
+        Waiting::Branches(body, more, other) => Ok(Some(choose(state, body, more, other, value))),
+        Waiting::Tests(e, body) => Ok(take_test(left, state, e, body, value, turns)),
+        _ => give_operand(alloc, store, left, state, waits, value, turns),
     }
 }

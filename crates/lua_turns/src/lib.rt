@@ -10,22 +10,34 @@
 //! - `entering`: a function of Lua is entered
 //! - `calling`: arguments reach the frame that calls
 //! - `setting`: an entry that is set
-//! - `beginning`: an operator or a `return` whose operands are not read in place
+//! - `beginning`: an expression or a `return` whose operands are not read in place
+//! - `statements`: statements whose expressions are not read in place
+//! - `deciding`: operands of `and`, `or`, and of operators with one operand
+//! - `joining`: two texts become one
+//! - `branching`: tests of `if` and `while`
+//! - `listing`: lists of expressions
+//! - `methods`: methods that are found at once
 //! - `rows`: strides in a row
 //!
 //! Begin with `specs/Rows.antt`: what moves in a row are.
 #![tactic(auto)]
 
 pub mod beginning;
+pub mod branching;
 pub mod calling;
 pub mod counting;
+pub mod deciding;
 pub mod ending;
 pub mod entering;
 pub mod giving;
+pub mod joining;
 pub mod leaving;
+pub mod listing;
+pub mod methods;
 pub mod passing;
 pub mod rows;
 pub mod setting;
+pub mod statements;
 pub mod waiting;
 
 pub use rows::strides;

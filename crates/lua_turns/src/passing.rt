@@ -16,12 +16,12 @@ ghost use Rattle.lua_turns.specs.Rows.{Follows, IsNewest, MayFollow};
 
 use crate::leaving::leave_function;
 use crate::waiting::{Count, Waiting, drop_newest, of_newest};
-use lua_code::Statement;
+use lua_code::{Expression, Statement};
 use lua_loops::leaving::keep_oldest;
 use lua_state::{State, leave_call};
 use lua_store::{Store, Value};
 use lua_strides::Next;
-use wk_base::{Left, NoMemory};
+use wk_base::{Left, List, NoMemory};
 
 /// The statements behind are passed by.
 fn pass_statements<'m>(state: &mut State<'m>, rest: &'m [Statement], value: Value) -> Next<'m>
@@ -52,6 +52,22 @@ fn pass_count<'m>(state: &mut State<'m>, count: Count<'m>, value: Value) -> Next
     Next::Returns(value)
 }
 
+/// A `while` is left.
+fn pass_while<'m>(
+    state: &mut State<'m>,
+    depth: usize,
+    test: &'m Expression,
+    body: &'m List<Statement>,
+    value: Value,
+) -> Next<'m>
+    requires { IsNewest state.old.frames (frame_kind.End (ending_kind.WhileEnd depth test body)) }
+    ensures { (s : StoreView) (l : Allowance) (k : ℕ) → StateOf s state.old → IsOf s value → Follows s state.old (Gives (Jumps (Returned (seen s.texts value ∷ []))) (frames_of s state.old)) l k s state.new l k (focus_of result) }
+{
+    keep_oldest(&mut state.regs, depth);
+    drop_newest(&mut state.frames);
+    Next::Returns(value)
+}
+
 /// A function is left: it gives the value.
 fn pass_body<'m>(left: &mut Left, state: &mut State<'m>, value: Value) -> Result<Next<'m>, NoMemory>
     requires { IsNewest state.old.frames (frame_kind.End ending_kind.BodyEnd) }
@@ -77,6 +93,9 @@ pub fn pass<'m>(
     match of_newest(&state.frames) {
         Waiting::Statements(rest) => Ok(Some(pass_statements(state, rest, value))),
         Waiting::Block(depth) => Ok(Some(pass_block(state, depth, value))),
+        Waiting::Repeats(depth, test, body) => {
+            Ok(Some(pass_while(state, depth, test, body, value)))
+        }
         Waiting::Counts(count) => Ok(Some(pass_count(state, count, value))),
         Waiting::Body => {
             let next = pass_body(left, state, value)?;

@@ -1,36 +1,130 @@
 //! Strides in a row.
-ghost use Rattle.std.specs.Prelude.{◌≡◌, IfOk};
-ghost use Rattle.lua_code.specs.Seen.{block_seen, expression_seen, statement_seen};
+ghost use Rattle.std.specs.Prelude.{◌≡◌, ◌∷◌, [], map, option_map, IfOk};
+ghost use Rattle.lua_code.specs.Seen.{block_seen, branches_seen, expression_seen, expressions_seen, statement_seen, target_seen};
+ghost use Rattle.lua_slots.specs.Code.{AssignC, DeclareC, MoreC, NoC, ThenC};
 ghost use Rattle.lua_slots.specs.Points.{Evals, Runs};
 ghost use Rattle.lua_stack.specs.Of.{FocusOf};
 ghost use Rattle.lua_stack.specs.Seen.{focus_seen};
 ghost use Rattle.lua_state.specs.Of.{StateOf};
 ghost use Rattle.lua_state.specs.Seen.{frames_of};
 ghost use Rattle.lua_store.specs.Seen.{StoreView};
+ghost use Rattle.lua_strides.specs.Conditions.{if_seen};
 ghost use Rattle.lua_strides.specs.Next.{focus_of};
 ghost use Rattle.lua_strides.specs.Strides.{MayStride};
 ghost use Rattle.lua_turns.specs.Rows.{Follows, MayFollow};
 
-use crate::beginning::{begin_operator, begin_return};
+use crate::beginning::{
+    begin_and, begin_call, begin_method, begin_operator, begin_or, begin_paren, begin_return, begin_unary,
+};
+use crate::branching::front_branch;
 use crate::calling::call;
 use crate::ending::end;
 use crate::giving::give;
 use crate::passing::pass;
 use crate::setting::set;
-use lua_code::{Expression, Statement};
-use lua_stack::Focus;
+use crate::statements::{
+    begin_assign, begin_call_statement, begin_declare, begin_if, begin_while, else_of,
+};
+use lua_code::{Branch, Expression, Statement, Target};
+use lua_stack::{Focus, Found};
 use lua_state::State;
 use lua_store::Store;
 use lua_strides::striding::{expression, front_of, only, statement};
-use lua_strides::{Next, stride};
+use lua_strides::Next;
 use std::alloc::Global;
 use std::sync::ledger::Ledger;
-use wk_base::{Left, NoMemory, Steps};
+use wk_base::{Left, List, NoMemory, Steps};
 
 /// How many strides there are in a row at most.
 const MOST: u64 = 1 << 20;
 
-/// A statement that is not read in place begins, if it is a `return` of one value.
+/// A declaration of one value begins.
+fn begin_local<'m, L: Ledger>(
+    alloc: Global,
+    left: &mut Left,
+    state: &mut State<'m>,
+    flags: &'m [bool],
+    values: &'m [Expression],
+    rest: &'m [Statement],
+    turns: &mut Steps<L>,
+) -> Result<Option<Next<'m>>, NoMemory>
+    ensures { (s : StoreView) → StateOf s state.old → IfOk result (MayStride s state.old (Runs (DeclareC flags.now (expressions_seen values.now) (block_seen rest.now)) (frames_of s state.old)) left.old turns.old s state.new left.new turns.new) }
+{
+    match only(values) {
+        Some(value) => begin_declare(alloc, left, state, flags, value, &[], rest, turns),
+        None => Ok(None),
+    }
+}
+
+/// An assignment of this value to this target begins, if that is a variable or a global variable.
+fn begin_set<'m, L: Ledger>(
+    alloc: Global,
+    left: &mut Left,
+    state: &mut State<'m>,
+    target: &'m Target,
+    value: &'m Expression,
+    rest: &'m [Statement],
+    turns: &mut Steps<L>,
+) -> Result<Option<Next<'m>>, NoMemory>
+    ensures { (s : StoreView) → StateOf s state.old → IfOk result (MayStride s state.old (Runs (ThenC (AssignC (target_seen target.now ∷ []) (MoreC (expression_seen value.now) NoC)) (block_seen rest.now)) (frames_of s state.old)) left.old turns.old s state.new left.new turns.new) }
+{
+    match target {
+        Target::Variable(place) => {
+            let found = Found::Variable(*place);
+            begin_assign(alloc, left, state, found, value, &[], rest, turns)
+        }
+        Target::Global(name, line) => {
+            let found = Found::Global(name.as_slice(), *line);
+            begin_assign(alloc, left, state, found, value, &[], rest, turns)
+        }
+        _ => Ok(None),
+    }
+}
+
+/// An assignment begins, if it has one target and one value.
+fn begin_assignment<'m, L: Ledger>(
+    alloc: Global,
+    left: &mut Left,
+    state: &mut State<'m>,
+    targets: &'m [Target],
+    values: &'m [Expression],
+    rest: &'m [Statement],
+    turns: &mut Steps<L>,
+) -> Result<Option<Next<'m>>, NoMemory>
+    ensures { (s : StoreView) → StateOf s state.old → IfOk result (MayStride s state.old (Runs (ThenC (AssignC (map target_seen targets.now) (expressions_seen values.now)) (block_seen rest.now)) (frames_of s state.old)) left.old turns.old s state.new left.new turns.new) }
+{
+    match only(targets) {
+        Some(target) => match only(values) {
+            Some(value) => begin_set(alloc, left, state, target, value, rest, turns),
+            None => Ok(None),
+        },
+        None => Ok(None),
+    }
+}
+
+/// An `if` begins with its first test.
+fn begin_condition<'m, L: Ledger>(
+    left: &mut Left,
+    state: &mut State<'m>,
+    branches: &'m [Branch],
+    other: &'m Option<List<Statement>>,
+    rest: &'m [Statement],
+    turns: &mut Steps<L>,
+) -> Result<Option<Next<'m>>, NoMemory>
+    ensures { (s : StoreView) → StateOf s state.old → IfOk result (MayStride s state.old (Runs (ThenC (if_seen (branches_seen branches.now) (option_map block_seen other.now)) (block_seen rest.now)) (frames_of s state.old)) left.old turns.old s state.new left.new turns.new) }
+{
+    match front_branch(branches) {
+        Some(front) => {
+            let other = else_of(other);
+            begin_if(
+                left, state, front.test, front.body, front.rest, other, rest, turns,
+            )
+        }
+        None => Ok(None),
+    }
+}
+
+/// A statement that is not read in place begins, where its step is left.
 fn begin_statement<'m, L: Ledger>(
     alloc: Global,
     left: &mut Left,
@@ -39,13 +133,26 @@ fn begin_statement<'m, L: Ledger>(
     rest: &'m [Statement],
     turns: &mut Steps<L>,
 ) -> Result<Option<Next<'m>>, NoMemory>
-    ensures { (s : StoreView) → StateOf s state.old → IfOk result (MayFollow s state.old (Runs (statement_seen first.now (block_seen rest.now)) (frames_of s state.old)) left.old turns.old s state.new left.new turns.new) }
+    ensures { (s : StoreView) → StateOf s state.old → IfOk result (MayStride s state.old (Runs (statement_seen first.now (block_seen rest.now)) (frames_of s state.old)) left.old turns.old s state.new left.new turns.new) }
 {
     match first {
         Statement::Return(values) => match only(values.as_slice()) {
             Some(value) => begin_return(alloc, left, state, value, &[], rest, turns),
             None => Ok(None),
         },
+        Statement::Call(e) => begin_call_statement(left, state, e, rest, turns),
+        Statement::While(test, body) => begin_while(left, state, test, body, rest, turns),
+        Statement::If(branches, other) => {
+            begin_condition(left, state, branches.as_slice(), other, rest, turns)
+        }
+        Statement::Declare(flags, values) => {
+            let (flags, values) = (flags.as_slice(), values.as_slice());
+            begin_local(alloc, left, state, flags, values, rest, turns)
+        }
+        Statement::Assign(targets, values) => {
+            let (targets, values) = (targets.as_slice(), values.as_slice());
+            begin_assignment(alloc, left, state, targets, values, rest, turns)
+        }
         _ => Ok(None),
     }
 }
@@ -61,12 +168,30 @@ fn execute<'m, L: Ledger>(
     turns: &mut Steps<L>,
 ) -> Result<Option<Next<'m>>, NoMemory>
     requires { StateOf store.old state.old }
-    ensures { IfOk result (MayFollow store.old state.old (Runs (statement_seen first.now (block_seen rest.now)) (frames_of store.old state.old)) left.old turns.old store.new state.new left.new turns.new) }
+    ensures { IfOk result (MayStride store.old state.old (Runs (statement_seen first.now (block_seen rest.now)) (frames_of store.old state.old)) left.old turns.old store.new state.new left.new turns.new) }
 {
     let strode = statement(alloc, store, left, state, first, rest, turns)?;
     match strode {
         Some(next) => Ok(Some(next)),
         None => begin_statement(alloc, left, state, first, rest, turns),
+    }
+}
+
+/// A block that has a statement goes on.
+fn run_some<'m, L: Ledger>(
+    alloc: Global,
+    store: &mut Store,
+    left: &mut Left,
+    state: &mut State<'m>,
+    statements: &'m [Statement],
+    turns: &mut Steps<L>,
+) -> Result<Option<Next<'m>>, NoMemory>
+    requires { StateOf store.old state.old }
+    ensures { IfOk result (MayStride store.old state.old (Runs (block_seen statements.now) (frames_of store.old state.old)) left.old turns.old store.new state.new left.new turns.new) }
+{
+    match front_of(statements) {
+        Some(front) => execute(alloc, store, left, state, front.first, front.rest, turns),
+        None => Ok(None),
     }
 }
 
@@ -88,24 +213,35 @@ fn run<'m, L: Ledger>(
     }
 }
 
-/// An expression that is not read in place begins, if it is an operator.
+/// An expression that is not read in place begins, where its step is left.
 fn begin_expression<'m, L: Ledger>(
     left: &mut Left,
     state: &mut State<'m>,
     e: &'m Expression,
     turns: &mut Steps<L>,
 ) -> Result<Option<Next<'m>>, NoMemory>
-    ensures { (s : StoreView) → StateOf s state.old → IfOk result (MayFollow s state.old (Evals (expression_seen e.now) (frames_of s state.old)) left.old turns.old s state.new left.new turns.new) }
+    ensures { (s : StoreView) → StateOf s state.old → IfOk result (MayStride s state.old (Evals (expression_seen e.now) (frames_of s state.old)) left.old turns.old s state.new left.new turns.new) }
 {
     match e {
         Expression::Operate(op, a, b, line) => {
             begin_operator(left, state, *op, a, b, *line, turns)
         }
+        Expression::Unary(op, a, line) => begin_unary(left, state, *op, a, *line, turns),
+        Expression::And(a, b) => begin_and(left, state, a, b, turns),
+        Expression::Or(a, b) => begin_or(left, state, a, b, turns),
+        Expression::Paren(a) => begin_paren(left, state, a, turns),
+        Expression::Call(a, arguments, line) => {
+            begin_call(left, state, a, arguments, *line, turns)
+        }
+        Expression::Method(a, name, arguments, line) => {
+            let name = name.as_slice();
+            begin_method(left, state, a, name, arguments, *line, turns)
+        }
         _ => Ok(None),
     }
 }
 
-/// An expression: it is read in place, a call begins, or an operator does.
+/// An expression: it is read in place, a call begins whose arguments are, or it begins with its first operand.
 fn evaluate<'m, L: Ledger>(
     alloc: Global,
     store: &mut Store,
@@ -115,7 +251,7 @@ fn evaluate<'m, L: Ledger>(
     turns: &mut Steps<L>,
 ) -> Result<Option<Next<'m>>, NoMemory>
     requires { StateOf store.old state.old }
-    ensures { IfOk result (MayFollow store.old state.old (Evals (expression_seen e.now) (frames_of store.old state.old)) left.old turns.old store.new state.new left.new turns.new) }
+    ensures { IfOk result (MayStride store.old state.old (Evals (expression_seen e.now) (frames_of store.old state.old)) left.old turns.old store.new state.new left.new turns.new) }
 {
     let strode = expression(alloc, store, left, state, e, turns)?;
     match strode {
@@ -138,7 +274,7 @@ fn follow<'m, L: Ledger>(
     ensures { IfOk result (MayFollow store.old state.old (focus_seen store.old (focus_of next.now) (frames_of store.old state.old)) left.old turns.old store.new state.new left.new turns.new) }
 {
     match next {
-        Next::Gives(value) => give(store, state, *value),
+        Next::Gives(value) => give(alloc, store, left, state, *value, turns),
         Next::GivesAll(arguments) => call(alloc, store, left, state, arguments, turns),
         Next::GivesNone => end(store, left, state, turns),
         Next::Returns(value) => pass(store, left, state, *value),
@@ -174,6 +310,25 @@ fn row<'m, L: Ledger>(
     Ok(next)
 }
 
+/// Where the first of several strides leads from what is next.
+fn begin_row<'m, L: Ledger>(
+    alloc: Global,
+    store: &mut Store,
+    left: &mut Left,
+    state: &mut State<'m>,
+    next: &Focus<'m>,
+    turns: &mut Steps<L>,
+) -> Result<Option<Next<'m>>, NoMemory>
+    requires { StateOf store.old state.old }
+    ensures { IfOk result (MayStride store.old state.old (focus_seen store.old next.now (frames_of store.old state.old)) left.old turns.old store.new state.new left.new turns.new) }
+{
+    match next {
+        Focus::Evaluates(e) => evaluate(alloc, store, left, state, *e, turns),
+        Focus::Runs(statements) => run_some(alloc, store, left, state, *statements, turns),
+        _ => Ok(None),
+    }
+}
+
 /// A stride, and what follows it in a row.
 fn go_on<'m, L: Ledger>(
     alloc: Global,
@@ -186,7 +341,7 @@ fn go_on<'m, L: Ledger>(
     requires { StateOf store.old state.old }
     ensures { IfOk result (MayStride store.old state.old (focus_seen store.old next.now (frames_of store.old state.old)) left.old turns.old store.new state.new left.new turns.new) }
 {
-    let strode = stride(alloc, store, left, state, next, turns)?;
+    let strode = begin_row(alloc, store, left, state, next, turns)?;
     match strode {
         Some(first) => {
             let last = row(alloc, store, left, state, first, turns)?;

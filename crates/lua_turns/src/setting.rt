@@ -1,10 +1,11 @@
 //! An entry of a table that is set in place (manual 2.3): where no handler is asked, the table is not read-only, and the key is not nil.
 ghost use Rattle.std.specs.Prelude.{◌≡◌, ◌||◌, ◌∷◌, [], ℕ, true, not, List as Items, Option as MayBe, IfOk, OnOk};
+ghost use Rattle.lua_code.specs.Seen.{place_seen};
 ghost use Rattle.lua_heap.specs.Heap.{set_in, table_at};
 ghost use Rattle.lua_heap.specs.Table.{has};
 ghost use Rattle.lua_heap.specs.Value as kind;
 ghost use Rattle.lua_slots.specs.Index as machine;
-ghost use Rattle.lua_slots.specs.Points.{EntryS, SFrame, Sets};
+ghost use Rattle.lua_slots.specs.Points.{EntryS, PlaceS, SFrame, Sets};
 ghost use Rattle.lua_slots.specs.Slots.{Slots};
 ghost use Rattle.lua_stack.specs.Of.{EnvironmentOf, SettingOf};
 ghost use Rattle.lua_stack.specs.Seen.{setting_seen};
@@ -12,15 +13,20 @@ ghost use Rattle.lua_state.specs.Of.{StateOf};
 ghost use Rattle.lua_state.specs.Seen.{frames_of};
 ghost use Rattle.lua_store.specs.Parts.{IsLater, IsOf, IsTableOf};
 ghost use Rattle.lua_store.specs.Seen.{seen};
-ghost use Rattle.lua_turns.specs.Rows.{MayFollow};
+ghost use Rattle.lua_strides.specs.declared.next.Next.TheVariants as next_kind;
+ghost use Rattle.lua_strides.specs.Next.{focus_of};
+ghost use Rattle.lua_turns.specs.Rows.{Follows, MayFollow};
 ghost use Rattle.lua_turns.specs.Setting.{Puts};
 
 use lua_arms::tables::handler;
+use lua_code::Place;
+use lua_stack::register::write;
 use lua_stack::values::is_nil;
 use lua_stack::{Environment, Found, Setting};
 use lua_state::State;
 use lua_store::{Store, TableId, Value};
 use lua_strides::Next;
+use lua_strides::running::running_closure;
 use wk_base::{Left, NoMemory};
 
 /// Whether an assignment to this entry asks nobody, and may change the table.
@@ -120,16 +126,26 @@ fn set_table<'m>(
     Ok(None)
 }
 
-/// One target gets its value, if it is an entry that can be set in place.
+/// A variable gets its value.
+fn set_variable<'m>(store: &mut Store, state: &mut State<'m>, place: Place, value: Value)
+    requires state { StateOf store.old state.old }
+    requires value { IsOf store.old value }
+    ensures { (l : Allowance) (k : ℕ) → Follows store.old state.old (Sets ((PlaceS (place_seen place), seen store.old.texts value) ∷ []) (frames_of store.old state.old)) l k store.new state.new l k (focus_of next_kind.GivesNone) }
+{
+    let closure = running_closure(&state.functions);
+    write(store, &mut state.regs, closure, place, value);
+}
+
+/// One target gets its value, if it is a variable or an entry that can be set in place.
 pub fn set<'m>(
     store: &mut Store,
     left: &mut Left,
-    state: &State<'m>,
+    state: &mut State<'m>,
     setting: &Setting<'m>,
 ) -> Result<Option<Next<'m>>, NoMemory>
-    requires state { StateOf store.old state.now }
+    requires state { StateOf store.old state.old }
     requires setting { SettingOf store.old setting.now }
-    ensures { (k : ℕ) → IfOk result (MayFollow store.old state.now (Sets (setting_seen store.old.texts setting.now ∷ []) (frames_of store.old state.now)) left.old k store.new state.now left.new k) }
+    ensures { (k : ℕ) → IfOk result (MayFollow store.old state.old (Sets (setting_seen store.old.texts setting.now ∷ []) (frames_of store.old state.old)) left.old k store.new state.new left.new k) }
 {
     match setting.target {
         Found::At(of, key, line) => match of {
@@ -138,6 +154,10 @@ pub fn set<'m>(
             }
             _ => Ok(None),
         },
+        Found::Variable(place) => {
+            set_variable(store, state, place, setting.value);
+            Ok(Some(Next::GivesNone))
+        }
         _ => Ok(None),
     }
 }

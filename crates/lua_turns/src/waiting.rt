@@ -3,13 +3,17 @@ ghost use Rattle.std.specs.Prelude.{◌≡◌, ◌∷◌, [], List as Items, IfS
 ghost use Rattle.lua_stack.specs.declared.frame.Ending.{Ending as EndingValue};
 ghost use Rattle.lua_stack.specs.declared.frame.Frame.{Frame as FrameValue};
 ghost use Rattle.lua_stack.specs.declared.frame.Frame.TheVariants as frame_kind;
+ghost use Rattle.lua_stack.specs.declared.frame.InAssignment.TheVariants as in_assignment;
 ghost use Rattle.lua_stack.specs.declared.frame.InExpression.TheVariants as in_expression;
 ghost use Rattle.lua_turns.specs.Rows.{IsNewest};
 ghost use Rattle.lua_turns.specs.Waiting.{Waits};
 
-use lua_code::{Expression, Operator, Statement};
-use lua_stack::{Ending, Frame, InExpression, InStatement, Stack, Values};
+use lua_code::{Branch, Expression, Operator, Statement};
+use lua_stack::{
+    Ending, Found, Frame, InAssignment, InExpression, InLoop, InStatement, Stack, Values,
+};
 use lua_store::Value;
+use lua_syntax::UnaryOp;
 use wk_base::List;
 
 /// A counting loop in one of its turns: how many registers are below those of the turn, whether the variable has a cell, the index, the
@@ -37,10 +41,32 @@ pub enum Waiting<'m> {
     Operand(Operator, &'m Expression, u32),
     /// An operator for its second operand.
     Operates(Operator, Value, u32),
+    /// An operator that joins texts, for its second operand.
+    Joins(Value, u32),
+    /// A call, for what is called; its arguments are evaluated then.
+    Callee(&'m List<Expression>, u32),
+    /// A call of the method of this name, for its object; its arguments are evaluated then.
+    Object(&'m [u8], &'m List<Expression>, u32),
     /// A call of this value, for its arguments.
     Calls(Value, u32),
     /// A list with nothing before, for its last expression.
     Last(&'m [Expression]),
+    /// A list for one of its expressions; these are behind it.
+    Item(&'m [Expression]),
+    /// What gives the first value.
+    First,
+    /// `and` or `or` for its first operand, with the truth of it that makes the second one unneeded.
+    Decides(bool, &'m Expression),
+    /// An operator for its one operand.
+    Applies(UnaryOp, u32),
+    /// One target for its value.
+    Assigns(Found<'m>),
+    /// An `if` for a test, with what follows its `then`, the branches behind it, and the `else`.
+    Branches(&'m List<Statement>, &'m [Branch], Option<&'m List<Statement>>),
+    /// A `while` for its test.
+    Tests(&'m Expression, &'m List<Statement>),
+    /// The end of a turn of a `while`.
+    Repeats(usize, &'m Expression, &'m List<Statement>),
     /// The end of a block that has so many registers below it.
     Block(usize),
     /// The end of a function's body.
@@ -58,6 +84,7 @@ fn of_ending<'m>(ending: &Ending<'m>) -> Waiting<'m>
     match ending {
         Ending::BlockEnd(depth) => Waiting::Block(*depth),
         Ending::BodyEnd => Waiting::Body,
+        Ending::WhileEnd(depth, test, body) => Waiting::Repeats(*depth, *test, *body),
         Ending::CountEnd(depth, boxed, index, limit, step, body) => Waiting::Counts(Count {
             depth: *depth,
             boxed: *boxed,
@@ -77,7 +104,17 @@ fn of_list<'m>(rest: &'m [Expression], before: &Values) -> Waiting<'m>
     if rest.len() == 0 && before.len() == 0 {
         return Waiting::Last(rest);
     }
-    Waiting::Other
+    Waiting::Item(rest)
+}
+
+/// What waits for a second operand.
+fn of_operator<'m>(op: Operator, a: Value, line: u32) -> Waiting<'m>
+    ensures { (fs : Items FrameValue) → IsNewest fs (frame_kind.Expression (in_expression.OperateNow op a line)) → Waits fs result }
+{
+    match op {
+        Operator::Concatenate => Waiting::Joins(a, line),
+        _ => Waiting::Operates(op, a, line),
+    }
 }
 
 /// What waits in an expression.
@@ -86,9 +123,14 @@ fn of_expression<'m>(frame: &InExpression<'m>) -> Waiting<'m>
 {
     match frame {
         InExpression::OperandNext(op, b, line) => Waiting::Operand(*op, *b, *line),
-        InExpression::OperateNow(op, a, line) => Waiting::Operates(*op, *a, *line),
+        InExpression::OperateNow(op, a, line) => of_operator(*op, *a, *line),
         InExpression::CallNow(called, line) => Waiting::Calls(*called, *line),
         InExpression::MoreNext(rest, before) => of_list(*rest, before),
+        InExpression::First => Waiting::First,
+        InExpression::DecideNext(deciding, b) => Waiting::Decides(*deciding, *b),
+        InExpression::UnaryNow(op, line) => Waiting::Applies(*op, *line),
+        InExpression::ArgumentsNext(list, line) => Waiting::Callee(*list, *line),
+        InExpression::MethodNext(name, list, line) => Waiting::Object(*name, *list, *line),
         _ => Waiting::Other,
     }
 }
@@ -101,6 +143,36 @@ fn of_statement<'m>(frame: &InStatement<'m>) -> Waiting<'m>
         InStatement::StatsNext(rest) => Waiting::Statements(*rest),
         InStatement::DeclareNow(flags, rest) => Waiting::Declares(*flags, *rest),
         InStatement::ReturnNow => Waiting::Returns,
+        InStatement::BranchNext(body, more, other) => Waiting::Branches(*body, *more, *other),
+    }
+}
+
+/// The one target of an assignment that has just one.
+fn of_targets<'m>(targets: &List<Found<'m>>) -> Waiting<'m>
+    ensures { (fs : Items FrameValue) → IsNewest fs (frame_kind.Assignment (in_assignment.AssignNow targets.now)) → Waits fs result }
+{
+    match targets.as_slice() {
+        [target] => Waiting::Assigns(*target),
+        _ => Waiting::Other,
+    }
+}
+
+/// What waits in an assignment.
+fn of_assignment<'m>(frame: &InAssignment<'m>) -> Waiting<'m>
+    ensures { (fs : Items FrameValue) → IsNewest fs (frame_kind.Assignment frame.now) → Waits fs result }
+{
+    match frame {
+        InAssignment::AssignNow(targets) => of_targets(targets),
+        _ => Waiting::Other,
+    }
+}
+
+/// What waits in a loop.
+fn of_loop<'m>(frame: &InLoop<'m>) -> Waiting<'m>
+    ensures { (fs : Items FrameValue) → IsNewest fs (frame_kind.Loop frame.now) → Waits fs result }
+{
+    match frame {
+        InLoop::WhileTest(test, body) => Waiting::Tests(*test, *body),
         _ => Waiting::Other,
     }
 }
@@ -113,6 +185,8 @@ fn of_frame<'m>(frame: &Frame<'m>) -> Waiting<'m>
         Frame::Statement(frame) => of_statement(frame),
         Frame::End(ending) => of_ending(ending),
         Frame::Expression(frame) => of_expression(frame),
+        Frame::Assignment(frame) => of_assignment(frame),
+        Frame::Loop(frame) => of_loop(frame),
         _ => Waiting::Other,
     }
 }

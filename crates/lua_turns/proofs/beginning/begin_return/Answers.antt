@@ -1,10 +1,8 @@
-use Rattle.std.proofs.Common.{◌≡◌, ◌∙◌, ◌∷◌, ◌+◌, ◌-◌, [], ℕ, refl, ap, sym, List, arith}
+use Rattle.std.proofs.Common.{◌≡◌, ◌∙◌, ◌∷◌, [], refl, ap, sym, List}
 use Rattle.lua_code.specs.declared.expression.Expression.{Expression}
 use Rattle.lua_code.specs.Seen.{expression_seen, expressions_seen, block_seen}
 use Rattle.lua_slots.specs.Code.{MoreC, NoC, ReturnC, ThenC}
 use Rattle.lua_slots.specs.Points.{MoreNext, ReturnNow, StatsNext, Evals, Lists, Runs}
-use Rattle.lua_in_place.specs.Laws.{after_nodes}
-use Rattle.lua_in_place.proofs.Reading.{node_move, reach_then}
 use Rattle.lua_in_place.proofs.Statements.{free}
 use Rattle.lua_store.proofs.Later.{later-itself}
 use Rattle.lua_stack.specs.declared.focus.Focus.TheVariants as focus
@@ -14,7 +12,7 @@ use Rattle.lua_stack.specs.declared.frame.InExpression.TheVariants as in_express
 use Rattle.lua_stack.specs.declared.frame.InStatement.TheVariants as in_statement
 use Rattle.lua_state.specs.Seen.{slots_of, frames_of}
 use Rattle.lua_strides.proofs.Paths.{unpaid}
-use Rattle.lua_turns.proofs.Following.{follows_paid}
+use Rattle.lua_turns.proofs.Begun.{strode_begun}
 use Rattle.lua_turns.proofs.beginning.begin_return.Goals as goal
 
 pub returns-then-not-pay_nodes : goal.returns-then-not-pay_nodes
@@ -34,7 +32,6 @@ returns g c = λ s of.
     let q = Evals e (MoreNext NoC [] ∷ ReturnNow ∷ StatsNext rest ∷ fs) in
     let made = frame.Expression (in_expression.MoreNext c.args.none c.new-values.result) in
     rw (c.in_ok-push-3.ensures.ok ∙ ap (λ (x : List Frame). made ∷ x) (c.in_ok-push-2.ensures.ok ∙ ap (λ (x : List Frame). outer ∷ x) c.in_ok-push.ensures.ok), c.new-values.ensures)
-    (follows_paid s s m (inner ∷ outer ∷ stats ∷ m.frames) m.regs m.functions p q (slots_of s m) (focus.Evaluates c.args.value) of (later-itself s) 1 c.args.left.now c.pay_nodes.new.left c.args.turns.now c.pay_nodes.new.turns
-    (tt, (tt, (tt, of.frames))) of.regs of.functions tt c.if-not-pay_nodes.ensures
-    (λ world f le. reach_then (node_move world (slots_of s m) p mid f f.left.steps (f.left.steps - 1) f.tally.nodes (f.tally.nodes + 1) refl (omega (arith, le)) refl) (free world mid (slots_of s m) q (slots_of s m) refl (after_nodes 1 f)))
-    (ap (λ (es : List Expression). Evals e (MoreNext (expressions_seen es) [] ∷ ReturnNow ∷ StatsNext rest ∷ fs)) (sym c.requires)) refl)
+    (strode_begun s m p mid q (focus.Evaluates c.args.value) (inner ∷ outer ∷ stats ∷ m.frames) c.args.left.now c.pay_nodes.new.left c.args.turns.now c.pay_nodes.new.turns of (tt, (tt, (tt, of.frames))) tt c.if-not-pay_nodes.ensures
+    (λ world. refl) (λ world. free world mid (slots_of s m) q (slots_of s m) refl)
+    (ap (λ (es : List Expression). Evals e (MoreNext (expressions_seen es) [] ∷ ReturnNow ∷ StatsNext rest ∷ fs)) (sym c.requires)))

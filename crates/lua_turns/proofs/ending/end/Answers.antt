@@ -20,6 +20,12 @@ end_body-requires g c = rw c.in-Body.is at c.of_newest.ensures
 pub returns-in_ok-next-in-Body : goal.returns-in_ok-next-in-Body
 returns-in_ok-next-in-Body g c = c.in_ok-next-in-Body.ensures c.args.store.now c.args.turns.now [] c.requires
 
+pub end_while-requires : goal.end_while-requires
+end_while-requires g c = rw c.in-Repeats.is at c.of_newest.ensures
+
+pub returns-in-Repeats : goal.returns-in-Repeats
+returns-in-Repeats g c = c.end_while.ensures c.args.store.now c.args.left.now c.args.turns.now [] c.requires
+
 pub end_count-requires-clause-newest : goal.end_count-requires-clause-newest
 end_count-requires-clause-newest g c = rw c.in-Counts.is at c.of_newest.ensures
 

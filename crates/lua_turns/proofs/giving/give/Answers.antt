@@ -1,44 +1,43 @@
-use Rattle.lua_strides.proofs.Paths.{idle_here}
 use Rattle.lua_turns.proofs.giving.give.Goals as goal
 
 pub go_on-requires : goal.go_on-requires
-go_on-requires c = rw c.in-Statements.is at c.of_newest.ensures
+go_on-requires g c = rw c.in-Statements.is at c.of_newest-waits.ensures
 
 pub returns-in-Statements : goal.returns-in-Statements
-returns-in-Statements c = λ l k. c.go_on.ensures c.args.store.now l k _ c.requires.state
+returns-in-Statements g c = c.go_on.ensures c.args.store.now c.args.left.now c.args.turns.now _ c.requires.state
 
 pub declare-requires-clause-newest : goal.declare-requires-clause-newest
-declare-requires-clause-newest c = rw c.in-Declares.is at c.of_newest.ensures
+declare-requires-clause-newest g c = rw c.in-Declares.is at c.of_newest-waits.ensures
 
 pub returns-in-Declares : goal.returns-in-Declares
-returns-in-Declares c = λ l k. c.declare.ensures l k
+returns-in-Declares g c = c.declare.ensures c.args.left.now c.args.turns.now
 
 pub begin_return-requires : goal.begin_return-requires
-begin_return-requires c = rw c.in-Returns.is at c.of_newest.ensures
+begin_return-requires g c = rw c.in-Returns.is at c.of_newest-waits.ensures
 
 pub returns-in-Returns : goal.returns-in-Returns
-returns-in-Returns c = λ l k. c.begin_return.ensures c.args.store.now l k c.requires.state c.requires.value
+returns-in-Returns g c = c.begin_return.ensures c.args.store.now c.args.left.now c.args.turns.now c.requires.state c.requires.value
 
-pub take_operand-requires : goal.take_operand-requires
-take_operand-requires c = rw c.in-Operand.is at c.of_newest.ensures
+pub assign-requires : goal.assign-requires
+assign-requires g c = rw c.in-Assigns.is at c.of_newest-waits.ensures
 
-pub returns-in-Operand : goal.returns-in-Operand
-returns-in-Operand c = λ l k. c.take_operand.ensures c.args.store.now l k c.requires.state c.requires.value
+pub returns-in-Assigns : goal.returns-in-Assigns
+returns-in-Assigns g c = c.assign.ensures c.args.store.now c.args.left.now c.args.turns.now c.requires.state c.requires.value
 
-pub operate-requires-clause-newest : goal.operate-requires-clause-newest
-operate-requires-clause-newest c = rw c.in-Operates.is at c.of_newest.ensures
+pub choose-requires : goal.choose-requires
+choose-requires g c = rw c.in-Branches.is at c.of_newest-waits.ensures
 
-pub returns-in-Operates : goal.returns-in-Operates
-returns-in-Operates c = λ l k. c.operate.ensures l k
+pub returns-in-Branches : goal.returns-in-Branches
+returns-in-Branches g c = c.choose.ensures c.args.store.now c.args.left.now c.args.turns.now c.requires.state c.requires.value
 
-pub end_list-requires-clause-none : goal.end_list-requires-clause-none
-end_list-requires-clause-none c = (rw c.in-Last.is at c.of_newest.ensures).0
+pub take_test-requires : goal.take_test-requires
+take_test-requires g c = rw c.in-Tests.is at c.of_newest-waits.ensures
 
-pub end_list-requires-clause-newest : goal.end_list-requires-clause-newest
-end_list-requires-clause-newest c = (rw c.in-Last.is at c.of_newest.ensures).1
+pub returns-in-Tests : goal.returns-in-Tests
+returns-in-Tests g c = c.take_test.ensures c.args.store.now c.requires.state c.requires.value
 
-pub returns-in-Last : goal.returns-in-Last
-returns-in-Last c = λ l k. c.end_list.ensures c.args.store.now l k c.requires.state c.requires.value
+pub give_operand-requires-clause-waits : goal.give_operand-requires-clause-waits
+give_operand-requires-clause-waits g c = c.of_newest-waits.ensures
 
 pub returns-in_default : goal.returns-in_default
-returns-in_default c = λ l k. idle_here c.args.store.now c.args.state.now l k
+returns-in_default g c = c.give_operand.ensures

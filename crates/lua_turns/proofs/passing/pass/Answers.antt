@@ -19,6 +19,12 @@ pass_count-requires c = rw c.in-Counts.is at c.of_newest.ensures
 pub returns-in-Counts : goal.returns-in-Counts
 returns-in-Counts c = λ k. c.pass_count.ensures c.args.store.now c.args.left.now k c.requires.state c.requires.value
 
+pub pass_while-requires : goal.pass_while-requires
+pass_while-requires c = rw c.in-Repeats.is at c.of_newest.ensures
+
+pub returns-in-Repeats : goal.returns-in-Repeats
+returns-in-Repeats c = λ k. c.pass_while.ensures c.args.store.now c.args.left.now k c.requires.state c.requires.value
+
 pub pass_body-requires : goal.pass_body-requires
 pass_body-requires c = rw c.in-Body.is at c.of_newest.ensures
 

@@ -6,3 +6,6 @@ returns-in_default c = λ k. idle_here c.args.store.now c.args.state.now c.args.
 
 pub returns-in-Table : goal.returns-in-Table
 returns-in-Table c = λ k. rw (c.in-At.is, c.in-Table.is) (c.set_table.ensures k)
+
+pub returns-in-Variable : goal.returns-in-Variable
+returns-in-Variable c = λ k. rw c.in-Variable.is (c.set_variable.ensures c.args.left.now k)

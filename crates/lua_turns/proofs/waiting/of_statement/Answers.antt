@@ -9,5 +9,5 @@ returns-in-DeclareNow c = λ fs h. rw c.in-DeclareNow.is at h
 pub returns-in-ReturnNow : goal.returns-in-ReturnNow
 returns-in-ReturnNow c = λ fs h. rw c.in-ReturnNow.is at h
 
-pub returns-in_default : goal.returns-in_default
-returns-in_default c = λ fs h. tt
+pub returns-in-BranchNext : goal.returns-in-BranchNext
+returns-in-BranchNext c = λ fs h. rw c.in-BranchNext.is at h

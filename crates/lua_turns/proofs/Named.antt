@@ -1,0 +1,156 @@
+-- A METHOD IS FOUND, and its arguments are next.
+use Rattle.std.proofs.Common.{◌≡◌, ◌∙◌, ◌≤◌, ◌-◌, ◌+◌, ℕ, Bool, true, false, List, [], ◌∷◌, Option, Some, None, refl, sym, ap, subst, arith}
+use Rattle.std.specs.Prelude.{codes, IfSome}
+use Rattle.wk_base.specs.declared.left.Left.{Left}
+use Rattle.page_run.specs.Outcome.{Goes}
+use Rattle.page_run.specs.Perform.{less}
+use Rattle.page_run.specs.State.{Tally}
+use Rattle.page_run.proofs.Less.{less_of}
+use Rattle.lua_heap.specs.Proc.{Proc}
+use Rattle.lua_heap.specs.Heap.{Heap, table_at}
+use Rattle.lua_heap.specs.Table.{get}
+use Rattle.lua_heap.specs.Value.{Value as Plain, Text, Table, is_nil}
+use Rattle.lua_meaning.specs.Metatables.{handler}
+use Rattle.lua_slots.specs.Code.{CExps, CWorld}
+use Rattle.lua_slots.specs.Enact.{Funds, Stands, paid, enact}
+use Rattle.lua_slots.specs.Errors.{choose, gives}
+use Rattle.lua_slots.specs.Index.{index, index_by, index_table, index_link}
+use Rattle.lua_slots.specs.Moves.{moves, begins}
+use Rattle.lua_slots.specs.Points.{IndexLinkS, SThing, CallNow, MethodNext, MethodNow, SFrame, Point, Gives, Lists, Starts, Move, Costs, Now}
+use Rattle.lua_slots.specs.Slots.{Slots}
+use Rattle.lua_goes.specs.Going.{Reaches, here, further}
+use Rattle.lua_in_place.specs.InPlace.{entry}
+use Rattle.lua_in_place.proofs.Plain.{entry_is}
+use Rattle.lua_in_place.proofs.Reading.{reach_then}
+use Rattle.lua_store.specs.declared.value.Value.{Value}
+use Rattle.lua_store.specs.declared.ids.TextId.{TextId}
+use Rattle.lua_store.specs.Parts.{IsLater, IsOf}
+use Rattle.lua_store.specs.Seen.{StoreView, seen, text_at}
+use Rattle.lua_store.proofs.Later.{later-itself}
+use Rattle.lua_stack.specs.declared.focus.Focus.{Focus}
+use Rattle.lua_stack.specs.declared.focus.Focus.TheVariants as focus
+use Rattle.lua_stack.specs.declared.values.Given.TheVariants as given
+use Rattle.lua_stack.proofs.Stay.{focus_as}
+use Rattle.lua_stack.specs.declared.frame.Frame.{Frame}
+use Rattle.lua_stack.specs.Of.{FocusOf, FrameOf, FramesOf}
+use Rattle.lua_stack.specs.Seen.{focus_seen, frame_seen, frames_seen}
+use Rattle.lua_state.specs.declared.state.State.{State}
+use Rattle.lua_state.specs.Of.{StateOf}
+use Rattle.lua_state.specs.Seen.{slots_of, frames_of, funds_of}
+use Rattle.lua_state.specs.Worlds.{world_seen}
+use Rattle.lua_strides.specs.declared.next.Next.{Next}
+use Rattle.lua_strides.specs.Strides.{Idles}
+use Rattle.lua_strides.proofs.Paths.{idle}
+use Rattle.lua_turns.specs.Methods.{GivesBehind, PaysLink}
+use Rattle.lua_turns.specs.Rows.{Follows, MayFollow}
+use Rattle.lua_turns.specs.declared.methods.Method.{Method}
+use Rattle.lua_turns.proofs.Following.{idle_first}
+use Rattle.lua_turns.proofs.Freely.{below_with}
+
+-- WHERE IT IS FOUND
+module _ (h : Heap Proc) (t : ℕ) (key v : Plain) (line : Option ℕ) (fs : List SFrame) (s : Slots) (same : s.heap ≡ h) where
+  pub found_here : v ≡ get (table_at h t).entries key → is_nil v ≡ false → GivesBehind false (index_table t key line fs s) v fs s
+  found_here is some =
+      let n : is_nil (get (table_at s.heap t).entries key) ≡ false = ap (λ (x : Heap Proc). is_nil (get (table_at x t).entries key)) same ∙ ap is_nil (sym is) ∙ some in
+      ap (λ (b : Bool). choose b (index_by (handler s.heap (Table t) (codes "__index")) (Table t) key line fs s) (gives (get (table_at s.heap t).entries key ∷ []) fs s)) n
+      ∙ ap (λ (x : Heap Proc). gives (get (table_at x t).entries key ∷ []) fs s) same ∙ ap (λ (x : Plain). gives (x ∷ []) fs s) (sym is)
+
+  pub found_behind : (b : ℕ) → is_nil (get (table_at h t).entries key) ≡ true → handler h (Table t) (codes "__index") ≡ Table b → entry h b key ≡ Some v → GivesBehind true (index_table t key line fs s) v fs s
+  found_behind b none names is =
+      let n : is_nil (get (table_at s.heap t).entries key) ≡ true = ap (λ (x : Heap Proc). is_nil (get (table_at x t).entries key)) same ∙ none in
+      let g : handler s.heap (Table t) (codes "__index") ≡ Table b = ap (λ (x : Heap Proc). handler x (Table t) (codes "__index")) same ∙ names in
+      let e : entry s.heap b key ≡ Some v = ap (λ (x : Heap Proc). entry x b key) same ∙ is in
+      (IndexLinkS (Table t) (Table b) key line,
+      ap (λ (c : Bool). choose c (index_by (handler s.heap (Table t) (codes "__index")) (Table t) key line fs s) (gives (get (table_at s.heap t).entries key ∷ []) fs s)) n
+      ∙ ap (λ (x : Plain). index_by x (Table t) key line fs s) g,
+      λ (world : CWorld). entry_is line fs s b key v e)
+
+-- a text has its methods in the table of strings
+pub of_strings : (linked : Bool) (bytes : List ℕ) (key v : Plain) (line : Option ℕ) (fs : List SFrame) (s : Slots) (t : ℕ) → s.strings ≡ t → GivesBehind linked (index_table t key line fs s) v fs s → GivesBehind linked (index (Text bytes) key line fs s) v fs s
+of_strings linked bytes key v line fs s t e h = subst (λ (x : ℕ). GivesBehind linked (index_table x key line fs s) v fs s) (sym e) h
+
+-- FROM ITS OBJECT to its arguments
+abbrev after_link : Bool → Funds → Funds
+after_link false f = f
+after_link true f = record f { left = record f.left { steps = f.left.steps - 1 } }
+
+abbrev IsLeft : Bool → Funds → Type 0
+IsLeft false f = Unit {0}
+IsLeft true f = 1 ≤ f.left.steps
+
+module _ (world : CWorld) (name : List ℕ) (o v : Plain) (args : CExps) (line : ℕ) (gs : List SFrame) (s : Slots) where
+  abbrev at_object : Point
+  at_object = Gives (Goes (o ∷ [])) (MethodNext name args line ∷ gs)
+
+  abbrev at_method : Point
+  at_method = Gives (Goes (v ∷ [])) (MethodNow o args line ∷ gs)
+
+  abbrev at_arguments : Point
+  at_arguments = Lists args (o ∷ []) (CallNow v line ∷ gs)
+
+  found : (linked : Bool) (f : Funds) → GivesBehind linked (index o (Text name) (Some line) (MethodNow o args line ∷ gs) s) v (MethodNow o args line ∷ gs) s → IsLeft linked f → Reaches world at_object s f at_method s (after_link linked f)
+  found false f is some = further at_object s f at_method s f here (ap (λ (mv : Move). enact mv f) is)
+  found true f is some =
+      let b : Point = Starts is.0 (MethodNow o args line ∷ gs) in
+      further b s f at_method s (after_link true f) (further at_object s f b s f here (ap (λ (mv : Move). enact mv f) is.1))
+      (ap (λ (mv : Move). enact (Costs 1 mv) f) (is.2 world) ∙ ap (λ (x : Option ℕ). paid x f (enact (Now at_method s))) (less_of 1 f.left.steps some))
+
+  pub named : (linked : Bool) (f : Funds) → GivesBehind linked (index o (Text name) (Some line) (MethodNow o args line ∷ gs) s) v (MethodNow o args line ∷ gs) s → IsLeft linked f → Reaches world at_object s f at_arguments s (after_link linked f)
+  named linked f is some = reach_then (found linked f is some) (further at_method s (after_link linked f) at_arguments s (after_link linked f) here refl)
+
+left_after : (linked : Bool) (l l' : Left) (m : State) (told : Tally) (i : ℕ) → PaysLink linked l l' true → after_link linked (funds_of l m told i) ≡ funds_of l' m told i
+left_after false l l' m told i e = ap (λ (x : Left). funds_of x m told i) (sym e)
+left_after true l l' m told i e = ap (λ (x : Left). funds_of x m told i) (sym e.1)
+
+is_left : (linked : Bool) (l l' : Left) (m : State) (told : Tally) (i : ℕ) → PaysLink linked l l' true → IsLeft linked (funds_of l m told i)
+is_left false l l' m told i e = tt
+is_left true l l' m told i e = e.0
+
+sinks_by : (linked : Bool) (l l' : Left) → PaysLink linked l l' true → l'.steps ≤ l.steps
+sinks_by false l l' e = let n : l'.steps ≡ l.steps = ap (λ (x : Left). x.steps) e in omega (arith, n)
+sinks_by true l l' e = let n : l'.steps ≡ l.steps - 1 = ap (λ (x : Left). x.steps) e.1 in omega (arith, n)
+
+-- the same in code
+pub method_follows : (s : StoreView) (m : State) (linked : Bool) (l l' : Left) (k : ℕ) (f g : Frame) (more fs : List Frame) (y : Focus) (name : List ℕ) (o v : Plain) (args : CExps) (line : ℕ) → StateOf s m → m.frames ≡ f ∷ more → fs ≡ g ∷ more
+    → frame_seen s.texts f ≡ MethodNext name args line → frame_seen s.texts g ≡ CallNow v line → FrameOf s g → FocusOf s y → ((gs : List SFrame) → focus_seen s y gs ≡ Lists args (o ∷ []) gs) → PaysLink linked l l' true
+    → ((gs : List SFrame) → GivesBehind linked (index o (Text name) (Some line) gs (slots_of s m)) v gs (slots_of s m))
+    → Follows s m (Gives (Goes (o ∷ [])) (frames_of s m)) l k s (let z : State = record m { frames = fs } in z) l' k y
+method_follows s m linked l l' k f g more fs y name o v args line of e n f_is g_is known kept point pays is =
+    let x : Slots = slots_of s m in
+    let gs : List SFrame = frames_seen s.texts more in
+    let q : Point = Lists args (o ∷ []) (CallNow v line ∷ gs) in
+    let was : frames_of s m ≡ MethodNext name args line ∷ gs = ap (frames_seen s.texts) e ∙ ap (λ (z : SFrame). z ∷ gs) f_is in
+    let there : focus_seen s y (frames_seen s.texts fs) ≡ q = point (frames_seen s.texts fs) ∙ ap (λ (z : List Frame). Lists args (o ∷ []) (frames_seen s.texts z)) n ∙ ap (λ (z : SFrame). Lists args (o ∷ []) (z ∷ gs)) g_is in
+    record {
+      state = record { frames = below_with s m.frames fs more f g e n of.frames known; regs = of.regs; functions = of.functions; env = of.env; modules = of.modules; loaded = of.loaded; scenes = of.scenes; codes = of.codes };
+      world = refl;
+      of = kept;
+      later = later-itself s;
+      rises = omega arith;
+      sinks = sinks_by linked l l' pays;
+      led = λ told i j h.
+          let w : CWorld = world_seen m.codes.world in
+          let one : i ≡ j = omega (arith, h) in
+          let start : Funds = funds_of l m told i in
+          subst (λ (d : ℕ). Reaches w (Gives (Goes (o ∷ [])) (frames_of s m)) x start (focus_seen s y (frames_seen s.texts fs)) x (funds_of l' m told d)) one
+          (subst (λ (z : Funds). Reaches w (Gives (Goes (o ∷ [])) (frames_of s m)) x start (focus_seen s y (frames_seen s.texts fs)) x z) (left_after linked l l' m told i pays)
+          (subst (λ (z : Point). Reaches w (Gives (Goes (o ∷ [])) (frames_of s m)) x start z x (after_link linked start)) (sym there)
+          (subst (λ (z : List SFrame). Reaches w (Gives (Goes (o ∷ [])) z) x start q x (after_link linked start)) (sym was)
+          (named w name o v args line gs x linked start (is (MethodNow o args line ∷ gs)) (is_left linked l l' m told i pays)))));
+    }
+
+pub not_paid : (s : StoreView) (m : State) (linked : Bool) (l l' : Left) (k : ℕ) → PaysLink linked l l' false → Idles s m l k s m l' k
+not_paid s m false l l' k e = record { later = later-itself s; heap = refl; state = refl; left = e; counter = refl }
+not_paid s m true l l' k e = record { later = later-itself s; heap = refl; state = refl; left = e; counter = refl }
+
+pub method_of_strings : (st : StoreView) (r : Option Method) (id : TextId) (key : Plain) (line : Option ℕ) (fs : List SFrame) (s : Slots) (t : ℕ) → s.strings ≡ t
+    → IfSome r (λ x. GivesBehind x.linked (index_table t key line fs s) (seen st.texts x.value) fs s) → IfSome r (λ x. GivesBehind x.linked (index (Text (text_at st.texts id.at)) key line fs s) (seen st.texts x.value) fs s)
+method_of_strings st (Some x) id key line fs s t e h = of_strings x.linked (text_at st.texts id.at) key (seen st.texts x.value) line fs s t e h
+method_of_strings st None id key line fs s t e h = tt
+
+-- the text of its name was made first
+pub named_later : (s t : StoreView) (m m' : State) (l l' : Left) (k : ℕ) (o : Value) (r : Option Next) → StateOf s m → IsOf s o → IsLater s t → t.heap ≡ s.heap
+    → MayFollow t m (Gives (Goes (seen t.texts o ∷ [])) (frames_of t m)) l k t m' l' k r → MayFollow s m (Gives (Goes (seen s.texts o ∷ [])) (frames_of s m)) l k t m' l' k r
+named_later s t m m' l l' k o r of known later same e =
+    idle_first s t t m m m' l l l' k k k (λ fs. Gives (Goes (seen s.texts o ∷ [])) fs) r of (idle s t m l k later same)
+    (subst (λ (p : Point). MayFollow t m p l k t m' l' k r) (focus_as s t later (focus.Gives (given.One o)) (frames_of t m) (known, tt)) e)

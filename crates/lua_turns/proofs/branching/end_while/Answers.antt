@@ -1,0 +1,18 @@
+use Rattle.std.proofs.Common.{refl, sym}
+use Rattle.page_run.specs.Outcome.{Goes}
+use Rattle.lua_slots.specs.Slots.{cut}
+use Rattle.lua_stack.specs.declared.focus.Focus.TheVariants as focus
+use Rattle.lua_stack.specs.declared.frame.Frame.TheVariants as frame
+use Rattle.lua_stack.specs.declared.frame.Ending.TheVariants as ending
+use Rattle.lua_stack.specs.declared.frame.InLoop.TheVariants as in_loop
+use Rattle.lua_loops.proofs.Left.{cut_slots}
+use Rattle.lua_state.specs.Seen.{slots_of}
+use Rattle.lua_turns.proofs.Freely.{swapped_at}
+use Rattle.lua_turns.proofs.branching.end_while.Goals as goal
+
+pub returns : goal.returns
+returns c = λ s l k values of.
+    let m = c.args.state.now in
+    let f = frame.End (ending.WhileEnd c.args.depth c.args.test c.args.body) in
+    swapped_at s m l k (Goes values) f (frame.Loop (in_loop.WhileTest c.args.test c.args.body)) c.requires.0 c.swap_newest.new.frames c.keep_oldest.new.regs (focus.Evaluates c.args.test) (cut c.args.depth (slots_of s m)) of c.requires.1
+    (c.swap_newest.ensures f c.requires.0 c.requires.1) tt (c.keep_oldest.ensures.of s of.regs) tt (λ world gs. refl) (sym (cut_slots s m c.keep_oldest.new.regs c.args.depth (c.keep_oldest.ensures.cuts s.texts)))

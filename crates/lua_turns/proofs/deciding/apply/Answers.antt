@@ -1,0 +1,26 @@
+use Rattle.std.proofs.Common.{refl, [], ◌∷◌, Some}
+use Rattle.page_run.specs.Outcome.{Goes}
+use Rattle.lua_in_place.proofs.Plain.{applied_is}
+use Rattle.lua_store.specs.Seen.{seen}
+use Rattle.lua_stack.specs.declared.focus.Focus.TheVariants as focus
+use Rattle.lua_stack.specs.declared.frame.Frame.TheVariants as frame
+use Rattle.lua_stack.specs.declared.frame.InExpression.TheVariants as in_expression
+use Rattle.lua_stack.specs.declared.values.Given.TheVariants as given
+use Rattle.lua_state.specs.Seen.{slots_of}
+use Rattle.lua_strides.proofs.Paths.{idle_here}
+use Rattle.lua_turns.proofs.Freely.{popped_here}
+use Rattle.lua_turns.proofs.deciding.apply.Goals as goal
+
+pub returns-in-Some : goal.returns-in-Some
+returns-in-Some c = λ l k.
+    let s = c.args.store.now in
+    let m = c.args.state.now in
+    let f = frame.Expression (in_expression.UnaryNow c.args.op c.args.line) in
+    let of = rw c.in-Some.is at c.result_of.ensures.of in
+    let is = rw c.in-Some.is at c.result_of.ensures.value in
+    popped_here s m l k (Goes (seen s.texts c.args.value ∷ [])) f c.requires.newest.0 c.drop_newest.new.frames m.regs (focus.Gives (given.One c.in-Some.value)) (slots_of s m) c.requires.state c.requires.newest.1
+    (c.drop_newest.ensures f c.requires.newest.0 c.requires.newest.1) c.requires.state.regs (of s, tt)
+    (λ world gs. applied_is (Some c.args.line) gs (slots_of s m) c.args.op (seen s.texts c.args.value) (seen s.texts c.in-Some.value) is) refl
+
+pub returns-in-None : goal.returns-in-None
+returns-in-None c = λ l k. idle_here c.args.store.now c.args.state.now l k

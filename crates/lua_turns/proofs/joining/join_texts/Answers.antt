@@ -1,0 +1,33 @@
+use Rattle.std.proofs.Common.{◌≡◌, ◌∙◌, ◌∷◌, ◌++◌, ◌+◌, [], refl, sym, ap, Some, length, List, ℕ, arith}
+use Rattle.std.proofs.lemmas.List.{length-append}
+use Rattle.lua_heap.specs.Value.{Text}
+use Rattle.lua_slots.specs.Errors.{gives}
+use Rattle.lua_slots.specs.Points.{Costs}
+use Rattle.lua_store.specs.declared.value.Value.TheVariants as value
+use Rattle.lua_store.specs.Seen.{StoreView, seen}
+use Rattle.lua_code.specs.declared.operator.Operator.TheVariants as operator
+use Rattle.lua_stack.specs.declared.focus.Focus.TheVariants as focus
+use Rattle.lua_stack.specs.declared.frame.Frame.TheVariants as frame
+use Rattle.lua_stack.specs.declared.frame.InExpression.TheVariants as in_expression
+use Rattle.lua_stack.specs.declared.values.Given.TheVariants as given
+use Rattle.lua_state.specs.Seen.{slots_of}
+use Rattle.lua_strides.proofs.Paths.{idle_here}
+use Rattle.lua_turns.proofs.Joins.{joins, popped_at_cost}
+use Rattle.lua_turns.proofs.joining.join_texts.Goals as goal
+
+pub returns-then-left-cost : goal.returns-then-left-cost
+returns-then-left-cost c = λ k. idle_here c.args.store.now c.args.state.now c.args.left.now k
+
+pub returns-in_ok-text : goal.returns-in_ok-text
+returns-in_ok-text c = λ k.
+    let s = c.args.store.now in
+    let u = c.text.new.self in
+    let m = c.args.state.now in
+    let x = slots_of s m in
+    let f = frame.Expression (in_expression.OperateNow operator.Concatenate c.args.first c.args.line) in
+    let both = c.args.a.now ++ c.args.b.now in
+    let made : seen u.texts (value.Text c.in_ok-text.text) ≡ Text both = ap Text (c.in_ok-text.ensures.there ∙ c.as_slice.ensures ∙ c.in_ok-bytes.ensures) in
+    popped_at_cost s u m (length c.args.a.now + length c.args.b.now) c.args.left.now _ k (seen s.texts c.args.second) f c.requires.newest.0 c.drop_newest.new.frames (focus.Gives (given.One (value.Text c.in_ok-text.text))) c.requires.state c.in_ok-text.ensures.later (ap (λ (z : StoreView). z.heap) c.in_ok-text.ensures.added) c.requires.newest.1
+    (c.drop_newest.ensures f c.requires.newest.0 c.requires.newest.1) (c.in_ok-text.ensures.of, tt) (omega (arith, c.if-left-cost.false)) refl
+    (λ world gs. joins (seen s.texts c.args.first) (seen s.texts c.args.second) c.args.a.now c.args.b.now (Some c.args.line) gs x c.requires.first c.requires.second
+    ∙ ap (λ (n : ℕ). Costs n (gives (Text both ∷ []) gs x)) (length-append c.args.a.now c.args.b.now) ∙ ap (λ v. Costs (length c.args.a.now + length c.args.b.now) (gives (v ∷ []) gs x)) (sym made))

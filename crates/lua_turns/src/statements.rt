@@ -1,0 +1,166 @@
+//! Statements begin whose expressions are not read in place: frames wait for these (manual 2.4).
+ghost use Rattle.std.specs.Prelude.{◌≡◌, ◌∷◌, [], option_map, IfOk, OnOk};
+ghost use Rattle.lua_code.specs.Seen.{block_seen, branches_seen, expression_seen};
+ghost use Rattle.lua_slots.specs.Code.{ArmC, AssignC, CTarget, CallStatC, DeclareC, MoreC, NoC, ThenC, WhileC};
+ghost use Rattle.lua_slots.specs.Points.{Runs};
+ghost use Rattle.lua_stack.specs.declared.frame.Frame.TheVariants as frame_kind;
+ghost use Rattle.lua_stack.specs.declared.frame.InExpression.TheVariants as in_expression;
+ghost use Rattle.lua_stack.specs.Of.{FoundOf};
+ghost use Rattle.lua_stack.specs.Seen.{found_seen};
+ghost use Rattle.lua_state.specs.Of.{StateOf};
+ghost use Rattle.lua_state.specs.Seen.{frames_of};
+ghost use Rattle.lua_store.specs.Seen.{StoreView};
+ghost use Rattle.lua_strides.specs.Conditions.{if_seen};
+ghost use Rattle.lua_strides.specs.Strides.{MayStride};
+ghost use Rattle.lua_turns.specs.Assigning.{IsFoundAt};
+
+use lua_code::{Branch, Expression, Statement};
+use lua_stack::{Found, Frame, InAssignment, InExpression, InLoop, InStatement, Stack, Values};
+use lua_state::State;
+use lua_strides::Next;
+use lua_strides::ending::{pay_nodes, wait_for, wait_within};
+use std::alloc::Global;
+use std::sync::ledger::Ledger;
+use wk_base::{Left, List, NoMemory, Steps};
+
+/// A call that is a statement begins, where its step is left.
+pub fn begin_call_statement<'m, L: Ledger>(
+    left: &mut Left,
+    state: &mut State<'m>,
+    e: &'m Expression,
+    rest: &'m [Statement],
+    turns: &mut Steps<L>,
+) -> Result<Option<Next<'m>>, NoMemory>
+    ensures { (s : StoreView) → StateOf s state.old → IfOk result (MayStride s state.old (Runs (ThenC (CallStatC (expression_seen e.now)) (block_seen rest.now)) (frames_of s state.old)) left.old turns.old s state.new left.new turns.new) }
+{
+    if !pay_nodes(left, turns, 1) {
+        return Ok(None);
+    }
+    let frame = Frame::Statement(InStatement::StatsNext(rest));
+    wait_for(state, frame, Next::Evaluates(e))
+}
+
+/// A `while` begins with its test, where its step is left.
+pub fn begin_while<'m, L: Ledger>(
+    left: &mut Left,
+    state: &mut State<'m>,
+    test: &'m Expression,
+    body: &'m List<Statement>,
+    rest: &'m [Statement],
+    turns: &mut Steps<L>,
+) -> Result<Option<Next<'m>>, NoMemory>
+    ensures { (s : StoreView) → StateOf s state.old → IfOk result (MayStride s state.old (Runs (ThenC (WhileC (expression_seen test.now) (block_seen body.now)) (block_seen rest.now)) (frames_of s state.old)) left.old turns.old s state.new left.new turns.new) }
+{
+    if !pay_nodes(left, turns, 1) {
+        return Ok(None);
+    }
+    let outer = Frame::Statement(InStatement::StatsNext(rest));
+    let inner = Frame::Loop(InLoop::WhileTest(test, body));
+    wait_within(state, outer, inner, Next::Evaluates(test))
+}
+
+/// The `else` of an `if`.
+pub fn else_of<'m>(other: &'m Option<List<Statement>>) -> Option<&'m List<Statement>>
+    ensures { option_map (λ b. block_seen b.now) result ≡ option_map block_seen other.now }
+{
+    match other {
+        Some(body) => Some(body),
+        None => None,
+    }
+}
+
+/// An `if` begins with its first test, where its step is left.
+pub fn begin_if<'m, L: Ledger>(
+    left: &mut Left,
+    state: &mut State<'m>,
+    test: &'m Expression,
+    body: &'m List<Statement>,
+    more: &'m [Branch],
+    other: Option<&'m List<Statement>>,
+    rest: &'m [Statement],
+    turns: &mut Steps<L>,
+) -> Result<Option<Next<'m>>, NoMemory>
+    ensures { (s : StoreView) → StateOf s state.old → IfOk result (MayStride s state.old (Runs (ThenC (if_seen (ArmC (expression_seen test.now) (block_seen body.now) (branches_seen more.now)) (option_map (λ b. block_seen b.now) other.entry)) (block_seen rest.now)) (frames_of s state.old)) left.old turns.old s state.new left.new turns.new) }
+{
+    if !pay_nodes(left, turns, 1) {
+        return Ok(None);
+    }
+    let outer = Frame::Statement(InStatement::StatsNext(rest));
+    let inner = Frame::Statement(InStatement::BranchNext(body, more, other));
+    wait_within(state, outer, inner, Next::Evaluates(test))
+}
+
+/// A list of one value begins, for which this frame waits.
+fn wait_for_one<'m>(
+    alloc: Global,
+    frames: &mut Stack<Frame<'m>>,
+    none: &'m [Expression],
+) -> Result<(), NoMemory>
+    ensures { OnOk result (frames.new ≡ frame_kind.Expression (in_expression.MoreNext none []) ∷ frames.old) }
+{
+    let values = Values::new(alloc);
+    frames.push(Frame::Expression(InExpression::MoreNext(none, values)))
+}
+
+/// A declaration with one value begins, where its step is left. `none` is the end of its list.
+pub fn begin_declare<'m, L: Ledger>(
+    alloc: Global,
+    left: &mut Left,
+    state: &mut State<'m>,
+    flags: &'m [bool],
+    value: &'m Expression,
+    none: &'m [Expression],
+    rest: &'m [Statement],
+    turns: &mut Steps<L>,
+) -> Result<Option<Next<'m>>, NoMemory>
+    requires { none.now ≡ [] }
+    ensures { (s : StoreView) → StateOf s state.old → IfOk result (MayStride s state.old (Runs (DeclareC flags.now (MoreC (expression_seen value.now) NoC) (block_seen rest.now)) (frames_of s state.old)) left.old turns.old s state.new left.new turns.new) }
+{
+    if !pay_nodes(left, turns, 1) {
+        return Ok(None);
+    }
+    state
+        .frames
+        .push(Frame::Statement(InStatement::DeclareNow(flags, rest)))?;
+    wait_for_one(alloc, &mut state.frames, none)?;
+    Ok(Some(Next::Evaluates(value)))
+}
+
+/// A list of one target.
+fn one_target<'m>(alloc: Global, target: Found<'m>) -> Result<List<Found<'m>>, NoMemory>
+    ensures { IfOk result (λ list. list ≡ target.entry ∷ []) }
+{
+    let mut targets = Vec::new(alloc);
+    match targets.push(target) {
+        Ok(_) => Ok(List::of_vec(targets)),
+        Err(_) => Err(NoMemory),
+    }
+}
+
+/// An assignment of one value to a variable or a global variable begins, where its step is left. `none` is the end of its list.
+pub fn begin_assign<'m, L: Ledger>(
+    alloc: Global,
+    left: &mut Left,
+    state: &mut State<'m>,
+    target: Found<'m>,
+    value: &'m Expression,
+    none: &'m [Expression],
+    rest: &'m [Statement],
+    turns: &mut Steps<L>,
+) -> Result<Option<Next<'m>>, NoMemory>
+    requires { none.now ≡ [] }
+    ensures { (s : StoreView) (c : CTarget) → StateOf s state.old → FoundOf s target.entry → IsFoundAt c (found_seen s.texts target.entry) → IfOk result (MayStride s state.old (Runs (ThenC (AssignC (c ∷ []) (MoreC (expression_seen value.now) NoC)) (block_seen rest.now)) (frames_of s state.old)) left.old turns.old s state.new left.new turns.new) }
+{
+    if !pay_nodes(left, turns, 1) {
+        return Ok(None);
+    }
+    let targets = one_target(alloc, target)?;
+    state
+        .frames
+        .push(Frame::Statement(InStatement::StatsNext(rest)))?;
+    state
+        .frames
+        .push(Frame::Assignment(InAssignment::AssignNow(targets)))?;
+    wait_for_one(alloc, &mut state.frames, none)?;
+    Ok(Some(Next::Evaluates(value)))
+}
