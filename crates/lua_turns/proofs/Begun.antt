@@ -1,11 +1,11 @@
 -- WHAT BEGINS WITH A NODE, and waits for an expression.
-use Rattle.std.proofs.Common.{◌≡◌, ◌-◌, ◌+◌, ℕ, true, List, [], ◌∷◌, refl, subst, arith}
+use Rattle.std.proofs.Common.{◌≡◌, ◌-◌, ◌+◌, ℕ, Bool, true, false, List, [], ◌∷◌, refl, subst, arith}
 use Rattle.wk_base.specs.declared.left.Left.{Left}
 use Rattle.lua_store.specs.Seen.{StoreView}
 use Rattle.lua_store.proofs.Later.{later-itself}
 use Rattle.lua_slots.specs.Code.{CExp, NoC, MoreC, CTarget, CWorld}
 use Rattle.lua_slots.specs.Slots.{Slots}
-use Rattle.lua_slots.specs.Points.{STarget, SFrame, MoreNext, AssignNow, Point, Evals, Lists, Finds, Now}
+use Rattle.lua_slots.specs.Points.{STarget, SFrame, DecideNext, MoreNext, AssignNow, Point, Evals, Lists, Finds, Now}
 use Rattle.lua_slots.specs.Errors.{node}
 use Rattle.lua_slots.specs.Moves.{moves}
 use Rattle.lua_in_place.specs.Laws.{after_nodes}
@@ -21,6 +21,7 @@ use Rattle.lua_state.specs.Of.{StateOf}
 use Rattle.lua_strides.specs.Strides.{PaysNodes, LeadsAt, Ready, Strides}
 use Rattle.lua_strides.proofs.Paths.{with_frames, ready, at_once, strode}
 use Rattle.lua_turns.specs.Assigning.{IsFoundAt}
+use Rattle.lua_turns.specs.Deciding.{deciding_with}
 
 -- A NODE, and a frame waits, or two
 pub begun : (s : StoreView) (m : State) (p : Point) (y : Focus) (f : Frame) → StateOf s m → FocusOf s y → FrameOf s f
@@ -53,6 +54,11 @@ strode_begun s m p q r y fs l l' k k' of frames known pays law free_law is =
       leads = λ world. subst (λ (z : Point). LeadsAt world p (slots_of s m) 1 z (slots_of s m)) is
           (λ f le. reach_then (node_move world (slots_of s m) p q f f.left.steps (f.left.steps - 1) f.tally.nodes (f.tally.nodes + 1) (law world) (omega (arith, le)) refl) (free_law world (after_nodes 1 f)));
     }) pays
+
+-- `and` and `or`
+pub decides_begins : (world : CWorld) (deciding : Bool) (a b : CExp) (fs : List SFrame) (s : Slots) → moves world (Evals (deciding_with deciding a b) fs) s ≡ node (Now (Evals a (DecideNext deciding b ∷ fs)) s)
+decides_begins world false a b fs s = refl
+decides_begins world true a b fs s = refl
 
 -- the target of an assignment is found, and its one value is next
 pub assigning : (world : CWorld) (c : CTarget) (t : STarget) (e : CExp) (fs : List SFrame) (s : Slots) → IsFoundAt c t

@@ -1,5 +1,7 @@
 -- Moves in a row in code: none, more, and those of which the machine's law is known.
 use Rattle.std.proofs.Common.{◌≡◌, ◌∙◌, ◌≤◌, ◌<◌, ◌-◌, ◌+◌, ℕ, true, List, [], ◌∷◌, Option, Some, None, refl, sym, ap, subst, arith}
+use Rattle.std.specs.Prelude.{Result, IfOk}
+use Rattle.std.proofs.lemmas.Result.{IfOk-weaker}
 use Rattle.wk_base.specs.declared.left.Left.{Left}
 use Rattle.page_run.specs.State.{Tally}
 use Rattle.lua_store.specs.Seen.{StoreView}
@@ -32,7 +34,7 @@ use Rattle.lua_strides.specs.declared.next.Next.{Next}
 use Rattle.lua_strides.specs.Next.{focus_of}
 use Rattle.lua_strides.specs.Strides.{PaysNodes, LeadsAt, Strides, Idles, MayStride}
 use Rattle.lua_strides.proofs.Paths.{funds_after}
-use Rattle.lua_turns.specs.Rows.{Follows, MayFollow}
+use Rattle.lua_turns.specs.Rows.{Follows, MayFollow, MustFollow}
 
 as_many : (k n n' : ℕ) → k + n ≡ k + n' → n ≡ n'
 as_many k n n' e = omega (arith, e)
@@ -54,6 +56,17 @@ follows_none s m y l k state of = record {
 pub strode_follows : (s : StoreView) (m : State) (p : Point) (l : Left) (k : ℕ) (t : StoreView) (m' : State) (l' : Left) (k' : ℕ) (r : Option Next) → MayStride s m p l k t m' l' k' r → MayFollow s m p l k t m' l' k' r
 strode_follows s m p l k t m' l' k' (Some y) e = record { state = e.state; world = e.world; of = e.of; later = e.later; rises = e.rises; sinks = omega (arith, e.falls); led = e.led }
 strode_follows s m p l k t m' l' k' None e = e
+
+pub strides_follow : (s : StoreView) (m : State) (p : Point) (l : Left) (k : ℕ) (t : StoreView) (m' : State) (l' : Left) (k' : ℕ) (y : Focus) → Strides s m p l k t m' l' k' y → Follows s m p l k t m' l' k' y
+strides_follow s m p l k t m' l' k' y e = record { state = e.state; world = e.world; of = e.of; later = e.later; rises = e.rises; sinks = omega (arith, e.falls); led = e.led }
+
+-- MOVES FOLLOW whatever the answer is
+must_may_at : (s : StoreView) (m : State) (p : Point) (l : Left) (k : ℕ) (t : StoreView) (m' : State) (l' : Left) (k' : ℕ) (r : Option Next) → MustFollow s m p l k t m' l' k' r → MayFollow s m p l k t m' l' k' r
+must_may_at s m p l k t m' l' k' (Some y) e = e
+must_may_at s m p l k t m' l' k' None e = absurd e
+
+pub must_may : {E : Type 0} (s : StoreView) (m : State) (p : Point) (l : Left) (k : ℕ) (t : StoreView) (m' : State) (l' : Left) (k' : ℕ) (r : Result (Option Next) E) → IfOk r (MustFollow s m p l k t m' l' k') → IfOk r (MayFollow s m p l k t m' l' k')
+must_may s m p l k t m' l' k' r h = IfOk-weaker r (MustFollow s m p l k t m' l' k') (MayFollow s m p l k t m' l' k') (λ x e. must_may_at s m p l k t m' l' k' x e) h
 
 -- A BLOCK at its end gives nothing
 pub at_end : (s : StoreView) (m : State) (l : Left) (k : ℕ) (t : StoreView) (m' : State) (l' : Left) (k' : ℕ) (r : Option Next) → MayFollow s m (Gives (Goes []) (frames_of s m)) l k t m' l' k' r → MayFollow s m (Runs EndC (frames_of s m)) l k t m' l' k' r
@@ -100,6 +113,21 @@ module _ (a : StoreView) (m : State) (p : Point) (l : Left) (k : ℕ) (b : Store
     falls = omega (arith, c.falls, e.sinks);
     led = led_then d m'' l'' k'' z c.world c.rises e.rises c.led e.led;
   }
+
+  -- the same, where an answer tells what is next
+  then_must_at : (d : StoreView) (m'' : State) (l'' : Left) (k'' : ℕ) (r : Option Next) → Follows a m p l k b m' l' k' y → MustFollow b m' (focus_seen b y (frames_of b m')) l' k' d m'' l'' k'' r → MustFollow a m p l k d m'' l'' k'' r
+  then_must_at d m'' l'' k'' (Some z) c e = follows_then d m'' l'' k'' (focus_of z) c e
+  then_must_at d m'' l'' k'' None c e = absurd e
+
+  pub then_must : {E : Type 0} (d : StoreView) (m'' : State) (l'' : Left) (k'' : ℕ) (r : Result (Option Next) E) → Follows a m p l k b m' l' k' y → IfOk r (MustFollow b m' (focus_seen b y (frames_of b m')) l' k' d m'' l'' k'') → IfOk r (MustFollow a m p l k d m'' l'' k'')
+  then_must d m'' l'' k'' r c h = IfOk-weaker r (MustFollow b m' (focus_seen b y (frames_of b m')) l' k' d m'' l'' k'') (MustFollow a m p l k d m'' l'' k'') (λ x e. then_must_at d m'' l'' k'' x c e) h
+
+  strides_must_at : (d : StoreView) (m'' : State) (l'' : Left) (k'' : ℕ) (r : Option Next) → Strides a m p l k b m' l' k' y → MustFollow b m' (focus_seen b y (frames_of b m')) l' k' d m'' l'' k'' r → MayStride a m p l k d m'' l'' k'' r
+  strides_must_at d m'' l'' k'' (Some z) c e = strides_then d m'' l'' k'' (focus_of z) c e
+  strides_must_at d m'' l'' k'' None c e = absurd e
+
+  pub strides_must : {E : Type 0} (d : StoreView) (m'' : State) (l'' : Left) (k'' : ℕ) (r : Result (Option Next) E) → Strides a m p l k b m' l' k' y → IfOk r (MustFollow b m' (focus_seen b y (frames_of b m')) l' k' d m'' l'' k'') → IfOk r (MayStride a m p l k d m'' l'' k'')
+  strides_must d m'' l'' k'' r c h = IfOk-weaker r (MustFollow b m' (focus_seen b y (frames_of b m')) l' k' d m'' l'' k'') (MayStride a m p l k d m'' l'' k'') (λ x e. strides_must_at d m'' l'' k'' x c e) h
 
   -- nothing but that texts were made
   same_point : (d : StoreView) → IsLater b d → StateOf b m' → FocusOf b y → focus_seen d y (frames_of d m') ≡ focus_seen b y (frames_of b m')
@@ -182,3 +210,6 @@ idle_before s t u m m1 m' l l1 l' k k1 k' q (Some y) of idle e =
     let same : l1.steps ≡ l.steps = ap (λ (o : Left). o.steps) idle.left in
     record { state = f.state; world = f.world; of = f.of; later = f.later; rises = f.rises; falls = omega (arith, same, e.falls); led = f.led }
 idle_before s t u m m1 m' l l1 l' k k1 k' q None of idle e = idle_first s t u m m1 m' l l1 l' k k1 k' q None of idle e
+
+pub idle_begins : {E : Type 0} (s t u : StoreView) (m m' : State) (l l' : Left) (k k' : ℕ) (q : List SFrame → Point) (r : Result (Option Next) E) → StateOf s m → Idles s m l k t m l k → IfOk r (MayStride t m (q (frames_of t m)) l k u m' l' k') → IfOk r (MayStride s m (q (frames_of s m)) l k u m' l' k')
+idle_begins s t u m m' l l' k k' q r of idle h = IfOk-weaker r (MayStride t m (q (frames_of t m)) l k u m' l' k') (MayStride s m (q (frames_of s m)) l k u m' l' k') (λ x e. idle_before s t u m m m' l l l' k k k' q x of idle e) h

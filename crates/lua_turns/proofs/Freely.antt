@@ -17,7 +17,7 @@ use Rattle.lua_slots.specs.Moves.{moves}
 use Rattle.lua_slots.specs.Enact.{Funds, Enacted, Stands, Short, back, enact}
 use Rattle.lua_goes.specs.Going.{Reaches, here, further}
 use Rattle.lua_in_place.proofs.Statements.{free}
-use Rattle.lua_loops.proofs.Beginning.{with_parts}
+use Rattle.lua_loops.proofs.Beginning.{with_parts, with_parts_of}
 use Rattle.lua_loops.proofs.Left.{left_slots}
 use Rattle.lua_stack.specs.declared.activation.Activation.{Activation}
 use Rattle.lua_stack.specs.declared.focus.Focus.{Focus}
@@ -86,6 +86,9 @@ swapped s m l k o f g more fs y of e n known focus law =
     (subst (FramesOf s) (sym n) (known, (subst (FramesOf s) e of.frames).1)) of.regs of.functions focus
     (λ world. free world (Gives o (frames_of s m)) (slots_of s m) (focus_seen s y (frame_seen s.texts g ∷ frames_seen s.texts more)) (slots_of s m) (from_newest s m o f more world (Now (focus_seen s y (frame_seen s.texts g ∷ frames_seen s.texts more)) (slots_of s m)) e (law world (frames_seen s.texts more))))
     (ap (λ (x : List Frame). focus_seen s y (frames_seen s.texts x)) (sym n)) refl
+
+pub swapped_of : (s : StoreView) (m : State) (f g : Frame) (more fs : List Frame) → StateOf s m → m.frames ≡ f ∷ more → fs ≡ g ∷ more → FrameOf s g → StateOf s (with_parts m fs m.regs m.functions)
+swapped_of s m f g more fs of e n known = with_parts_of s m fs m.regs m.functions of (subst (FramesOf s) (sym n) (known, (subst (FramesOf s) e of.frames).1)) of.regs of.functions
 
 -- the same, with other registers
 pub below_with : (s : StoreView) (all fs more : List Frame) (f g : Frame) → all ≡ f ∷ more → fs ≡ g ∷ more → FramesOf s all → FrameOf s g → FramesOf s fs

@@ -1,33 +1,43 @@
--- AN EXPRESSION OF A LIST has its value: the next one is evaluated, or the list has its values.
-use Rattle.std.proofs.Common.{◌≡◌, ◌∙◌, ◌++◌, ℕ, List, [], ◌∷◌, map, refl, sym, ap, subst}
+-- AN EXPRESSION OF A LIST has its value, or is read in place: what is left of the list is next, or the list has its values.
+use Rattle.std.proofs.Common.{◌≡◌, ◌∙◌, ◌++◌, ℕ, true, List, [], ◌∷◌, Some, refl, sym, ap, subst}
 use Rattle.page_run.specs.Outcome.{Goes}
 use Rattle.wk_base.specs.declared.left.Left.{Left}
 use Rattle.std.specs.Borrow.{Bor}
 use Rattle.lua_heap.specs.Value.{Value as Plain}
 use Rattle.lua_code.specs.declared.expression.Expression.{Expression}
 use Rattle.lua_code.specs.Seen.{expression_seen, expressions_seen}
-use Rattle.lua_slots.specs.Code.{CExps, NoC, MoreC, CWorld}
+use Rattle.lua_slots.specs.Code.{CExp, CExps, CWorld}
+use Rattle.lua_slots.specs.Expressions.{more_values}
 use Rattle.lua_slots.specs.Slots.{Slots}
-use Rattle.lua_slots.specs.Points.{MoreNext, SFrame, Point, Gives, Evals, Lists, Now}
+use Rattle.lua_slots.specs.Points.{CallNow, MoreNext, SFrame, Point, Gives, Evals, Lists, Now}
 use Rattle.lua_slots.specs.Moves.{moves}
-use Rattle.lua_in_place.proofs.Statements.{LeadsFree, free, free_then}
+use Rattle.lua_in_place.proofs.Nodes.{nodes_are_some}
+use Rattle.lua_in_place.proofs.Reading.{reads}
+use Rattle.lua_in_place.proofs.Statements.{free, free_first, free_last}
 use Rattle.lua_loops.proofs.Beginning.{with_parts}
 use Rattle.lua_store.specs.declared.value.Value.{Value}
 use Rattle.lua_store.specs.Seen.{StoreView, seen}
 use Rattle.lua_store.specs.Parts.{IsOf}
 use Rattle.lua_store.proofs.Later.{later-itself}
+use Rattle.lua_stack.specs.declared.focus.Focus.{Focus}
 use Rattle.lua_stack.specs.declared.focus.Focus.TheVariants as focus
 use Rattle.lua_stack.specs.declared.frame.Frame.{Frame}
 use Rattle.lua_stack.specs.declared.frame.Frame.TheVariants as frame
 use Rattle.lua_stack.specs.declared.frame.InExpression.TheVariants as in_expression
 use Rattle.lua_stack.specs.declared.values.Given.TheVariants as given
-use Rattle.lua_stack.specs.Of.{FramesOf, ValuesOf}
-use Rattle.lua_stack.specs.Seen.{frames_seen, values_seen}
+use Rattle.lua_stack.specs.Of.{FocusOf, FramesOf, ValuesOf}
+use Rattle.lua_stack.specs.Seen.{focus_seen, frames_seen, values_seen}
 use Rattle.lua_state.specs.declared.state.State.{State}
 use Rattle.lua_state.specs.Seen.{slots_of, frames_of}
 use Rattle.lua_state.specs.Of.{StateOf}
+use Rattle.lua_strides.specs.declared.reading.ValueRead.{ValueRead}
+use Rattle.lua_strides.specs.Reads.{ReadsTo}
+use Rattle.lua_strides.specs.Strides.{PaysNodes}
+use Rattle.lua_strides.proofs.Found.{values_as, values_later}
+use Rattle.lua_strides.proofs.Paths.{at_once, frames_kept, ready, strode}
 use Rattle.lua_turns.specs.Rows.{Follows}
-use Rattle.lua_turns.proofs.Following.{follows_free}
+use Rattle.lua_turns.proofs.Following.{follows_free, strides_follow}
+use Rattle.lua_turns.proofs.Freely.{swapped}
 
 -- one value more
 values_of : (s : StoreView) (vs : List Value) (v : Value) → ValuesOf s vs → IsOf s v → ValuesOf s (vs ++ v ∷ [])
@@ -38,27 +48,43 @@ values_one_more : (texts : List (List ℕ)) (vs : List Value) (v : Value) → va
 values_one_more texts [] v = refl
 values_one_more texts (w ∷ vs) v = ap (λ (z : List Plain). seen texts w ∷ z) (values_one_more texts vs v)
 
+-- what a list does with a value, where there are expressions behind it, and where there are none
+next_item : (es : List Expression) (first : Expression) (behind : List Expression) (vs : List Plain) (w : Plain) (gs : List SFrame) (x : Slots) → es ≡ first ∷ behind → more_values (expressions_seen es) vs (w ∷ []) gs x ≡ Now (Lists (expressions_seen es) (vs ++ w ∷ []) gs) x
+next_item es first behind vs w gs x e = ap (λ (z : List Expression). more_values (expressions_seen z) vs (w ∷ []) gs x) e ∙ ap (λ (z : List Expression). Now (Lists (expressions_seen z) (vs ++ w ∷ []) gs) x) (sym e)
+
+last_item : (es : List Expression) (vs : List Plain) (w : Plain) (gs : List SFrame) (x : Slots) → es ≡ [] → more_values (expressions_seen es) vs (w ∷ []) gs x ≡ Now (Gives (Goes (vs ++ w ∷ [])) gs) x
+last_item es vs w gs x e = ap (λ (z : List Expression). more_values (expressions_seen z) vs (w ∷ []) gs x) e
+
+-- WHAT IS CALLED has its value: its arguments are next
+pub callee_taken : (s : StoreView) (m : State) (l : Left) (k : ℕ) (args slice : Bor (List Expression)) (line : ℕ) (v : Value) (none : List Value) (more fs : List Frame) → StateOf s m → IsOf s v
+    → m.frames ≡ frame.Expression (in_expression.ArgumentsNext args line) ∷ more → fs ≡ frame.Expression (in_expression.CallNow v line) ∷ more → slice.now ≡ args.now → none ≡ []
+    → Follows s m (Gives (Goes (seen s.texts v ∷ [])) (frames_of s m)) l k s (with_parts m fs m.regs m.functions) l k (focus.Lists slice none)
+callee_taken s m l k args slice line v none more fs of known e n same nothing =
+    let w : Plain = seen s.texts v in
+    swapped s m l k (Goes (w ∷ [])) (frame.Expression (in_expression.ArgumentsNext args line)) (frame.Expression (in_expression.CallNow v line)) more fs (focus.Lists slice none) of e n known (subst (ValuesOf s) (sym nothing) tt)
+    (λ (world : CWorld) gs. ap (λ (es : List Expression). Now (Lists (expressions_seen es) [] (CallNow w line ∷ gs)) (slots_of s m)) (sym same) ∙ ap (λ (vs : List Value). Now (Lists (expressions_seen slice.now) (values_seen s.texts vs) (CallNow w line ∷ gs)) (slots_of s m)) (sym nothing))
+
+-- AN EXPRESSION OF A LIST has its value
 module _ (s : StoreView) (m : State) (l : Left) (k : ℕ) (rest : Bor (List Expression)) (v : Value) (before all : List Value) (more : List Frame) where
   abbrev newest : Frame
   newest = frame.Expression (in_expression.MoreNext rest before)
 
-  pub item_taken : (first : Bor Expression) (behind : Bor (List Expression)) → StateOf s m → IsOf s v → m.frames ≡ newest ∷ more → all ≡ before ++ v ∷ [] → rest.now ≡ first.now ∷ behind.now
-      → Follows s m (Gives (Goes (seen s.texts v ∷ [])) (frames_of s m)) l k s (with_parts m (frame.Expression (in_expression.MoreNext behind all) ∷ more) m.regs m.functions) l k (focus.Evaluates first)
+  -- the others are next
+  pub item_taken : (first : Expression) (behind : List Expression) → StateOf s m → IsOf s v → m.frames ≡ newest ∷ more → all ≡ before ++ v ∷ [] → rest.now ≡ first ∷ behind
+      → Follows s m (Gives (Goes (seen s.texts v ∷ [])) (frames_of s m)) l k s (with_parts m more m.regs m.functions) l k (focus.Lists rest all)
   item_taken first behind of known e added front =
       let x : Slots = slots_of s m in
       let gs : List SFrame = frames_seen s.texts more in
       let vs : List Plain = values_seen s.texts before in
       let w : Plain = seen s.texts v in
-      let es : CExps = expressions_seen behind.now in
       let p : Point = Gives (Goes (w ∷ [])) (frames_of s m) in
-      let mid : Point = Lists (MoreC (expression_seen first.now) es) (vs ++ w ∷ []) gs in
-      let q : Point = Evals (expression_seen first.now) (MoreNext es (vs ++ w ∷ []) ∷ gs) in
+      let q : Point = Lists (expressions_seen rest.now) (vs ++ w ∷ []) gs in
       let was : FramesOf s (newest ∷ more) = subst (FramesOf s) e of.frames in
-      follows_free s s m (frame.Expression (in_expression.MoreNext behind all) ∷ more) m.regs m.functions p q x (focus.Evaluates first) of (later-itself s) l k
-      (subst (ValuesOf s) (sym added) (values_of s before v was.0 known), was.1) of.regs of.functions tt
-      (λ (world : CWorld). free_then world (free world p x mid x (ap (λ (fs : List Frame). moves world (Gives (Goes (w ∷ [])) (frames_seen s.texts fs)) x) e ∙ ap (λ (z : List Expression). moves world (Gives (Goes (w ∷ [])) (MoreNext (expressions_seen z) vs ∷ gs)) x) front)) (free world mid x q x refl))
-      (ap (λ (z : List Plain). Evals (expression_seen first.now) (MoreNext es z ∷ gs)) (sym (ap (values_seen s.texts) added ∙ values_one_more s.texts before v))) refl
+      follows_free s s m more m.regs m.functions p q x (focus.Lists rest all) of (later-itself s) l k was.1 of.regs of.functions (subst (ValuesOf s) (sym added) (values_of s before v was.0 known))
+      (λ (world : CWorld). free world p x q x (ap (λ (fs : List Frame). moves world (Gives (Goes (w ∷ [])) (frames_seen s.texts fs)) x) e ∙ next_item rest.now first behind vs w gs x front))
+      (ap (λ (z : List Plain). Lists (expressions_seen rest.now) z gs) (sym (ap (values_seen s.texts) added ∙ values_one_more s.texts before v))) refl
 
+  -- the list has its values
   pub items_taken : StateOf s m → IsOf s v → m.frames ≡ newest ∷ more → all ≡ before ++ v ∷ [] → rest.now ≡ []
       → Follows s m (Gives (Goes (seen s.texts v ∷ [])) (frames_of s m)) l k s (with_parts m more m.regs m.functions) l k (focus.Gives (given.Many all))
   items_taken of known e added none =
@@ -71,5 +97,45 @@ module _ (s : StoreView) (m : State) (l : Left) (k : ℕ) (rest : Bor (List Expr
       let was : FramesOf s (newest ∷ more) = subst (FramesOf s) e of.frames in
       follows_free s s m more m.regs m.functions p q x (focus.Gives (given.Many all)) of (later-itself s) l k was.1 of.regs of.functions
       (subst (ValuesOf s) (sym added) (values_of s before v was.0 known))
-      (λ (world : CWorld). free world p x q x (ap (λ (fs : List Frame). moves world (Gives (Goes (w ∷ [])) (frames_seen s.texts fs)) x) e ∙ ap (λ (z : List Expression). moves world (Gives (Goes (w ∷ [])) (MoreNext (expressions_seen z) vs ∷ gs)) x) none))
+      (λ (world : CWorld). free world p x q x (ap (λ (fs : List Frame). moves world (Gives (Goes (w ∷ [])) (frames_seen s.texts fs)) x) e ∙ last_item rest.now vs w gs x none))
       (ap (λ (z : List Plain). Gives (Goes z) gs) (sym (ap (values_seen s.texts) added ∙ values_one_more s.texts before v))) refl
+
+-- THE FIRST OF A LIST is read in place
+module _ (s t : StoreView) (m : State) (l l' : Left) (k k' : ℕ) (es : List Expression) (first : Expression) (rest : Bor (List Expression)) (before all : List Value) (r : ValueRead) (of : StateOf s m) (values : ValuesOf s before)
+    (got : ReadsTo s m (expression_seen first) t (Some r)) (front : es ≡ first ∷ rest.now) (added : all ≡ before ++ r.value ∷ []) (pays : PaysNodes r.nodes l k l' k' true) where
+  abbrev start : Point
+  start = Lists (expressions_seen es) (values_seen s.texts before) (frames_of s m)
+
+  item_read : (y : Focus) → FocusOf t y
+      → ((gs : List SFrame) (x : Slots) → more_values (expressions_seen rest.now) (values_seen s.texts before) (seen t.texts r.value ∷ []) gs x ≡ Now (focus_seen t y gs) x)
+      → Follows s m start l k t m l' k' y
+  item_read y known law =
+      let x : Slots = slots_of s m in
+      let n : ℕ = r.nodes in
+      let w : Plain = seen t.texts r.value in
+      let vs : List Plain = values_seen s.texts before in
+      let e : CExp = expression_seen first in
+      let behind : CExps = expressions_seen rest.now in
+      let fs : List SFrame = frames_of s m in
+      strides_follow s m start l k t m l' k' y
+      (strode s m start n t y m.frames l l' k k'
+      (ready s m start n t y m.frames (λ gs. focus_seen t y gs) of got.later got.heap known (frames_kept s t m of got.later) (nodes_are_some e x w n got.read.is)
+      (λ world. at_once world start x n (focus_seen t y fs) x
+      (free_first world n (free world start x (Evals e (MoreNext behind vs ∷ fs)) x (ap (λ (z : List Expression). moves world (Lists (expressions_seen z) vs fs) x) front))
+      (free_last world n (reads world x e w n got.read.is (MoreNext behind vs ∷ fs)) (free world (Gives (Goes (w ∷ [])) (MoreNext behind vs ∷ fs)) x (focus_seen t y fs) x (law fs x))))) refl) pays)
+
+  values_now : values_seen t.texts all ≡ values_seen s.texts before ++ seen t.texts r.value ∷ []
+  values_now = ap (values_seen t.texts) added ∙ values_one_more t.texts before r.value ∙ ap (λ (z : List Plain). z ++ seen t.texts r.value ∷ []) (values_as s t before got.later values)
+
+  all_of : ValuesOf t all
+  all_of = subst (ValuesOf t) (sym added) (values_of t before r.value (values_later s t before got.later values) got.read.of)
+
+  pub one_read : (next : Expression) (behind : List Expression) → rest.now ≡ next ∷ behind → Follows s m start l k t m l' k' (focus.Lists rest all)
+  one_read next behind more =
+      item_read (focus.Lists rest all) all_of
+      (λ gs x. next_item rest.now next behind (values_seen s.texts before) (seen t.texts r.value) gs x more ∙ ap (λ (z : List Plain). Now (Lists (expressions_seen rest.now) z gs) x) (sym values_now))
+
+  pub last_read : rest.now ≡ [] → Follows s m start l k t m l' k' (focus.Gives (given.Many all))
+  last_read none =
+      item_read (focus.Gives (given.Many all)) all_of
+      (λ gs x. last_item rest.now (values_seen s.texts before) (seen t.texts r.value) gs x none ∙ ap (λ (z : List Plain). Now (Gives (Goes z) gs) x) (sym values_now))

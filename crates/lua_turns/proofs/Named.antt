@@ -1,6 +1,7 @@
 -- A METHOD IS FOUND, and its arguments are next.
 use Rattle.std.proofs.Common.{◌≡◌, ◌∙◌, ◌≤◌, ◌-◌, ◌+◌, ℕ, Bool, true, false, List, [], ◌∷◌, Option, Some, None, refl, sym, ap, subst, arith}
-use Rattle.std.specs.Prelude.{codes, IfSome}
+use Rattle.std.specs.Prelude.{codes, IfOk, IfSome, Result}
+use Rattle.std.proofs.lemmas.Result.{IfOk-weaker}
 use Rattle.wk_base.specs.declared.left.Left.{Left}
 use Rattle.page_run.specs.Outcome.{Goes}
 use Rattle.page_run.specs.Perform.{less}
@@ -16,11 +17,11 @@ use Rattle.lua_slots.specs.Enact.{Funds, Stands, paid, enact}
 use Rattle.lua_slots.specs.Errors.{choose, gives}
 use Rattle.lua_slots.specs.Index.{index, index_by, index_table, index_link}
 use Rattle.lua_slots.specs.Moves.{moves, begins}
-use Rattle.lua_slots.specs.Points.{IndexLinkS, SThing, CallNow, MethodNext, MethodNow, SFrame, Point, Gives, Lists, Starts, Move, Costs, Now}
+use Rattle.lua_slots.specs.Points.{IndexLinkS, SThing, First, IndexNow, CallNow, MethodNext, MethodNow, SFrame, Point, Gives, Lists, Starts, Move, Costs, Now}
 use Rattle.lua_slots.specs.Slots.{Slots}
 use Rattle.lua_goes.specs.Going.{Reaches, here, further}
-use Rattle.lua_in_place.specs.InPlace.{entry}
-use Rattle.lua_in_place.proofs.Plain.{entry_is}
+use Rattle.lua_in_place.specs.InPlace.{entry, indexed}
+use Rattle.lua_in_place.proofs.Plain.{entry_is, indexed_is}
 use Rattle.lua_in_place.proofs.Reading.{reach_then}
 use Rattle.lua_store.specs.declared.value.Value.{Value}
 use Rattle.lua_store.specs.declared.ids.TextId.{TextId}
@@ -32,6 +33,8 @@ use Rattle.lua_stack.specs.declared.focus.Focus.TheVariants as focus
 use Rattle.lua_stack.specs.declared.values.Given.TheVariants as given
 use Rattle.lua_stack.proofs.Stay.{focus_as}
 use Rattle.lua_stack.specs.declared.frame.Frame.{Frame}
+use Rattle.lua_stack.specs.declared.frame.Frame.TheVariants as frame
+use Rattle.lua_stack.specs.declared.frame.InExpression.TheVariants as in_expression
 use Rattle.lua_stack.specs.Of.{FocusOf, FrameOf, FramesOf}
 use Rattle.lua_stack.specs.Seen.{focus_seen, frame_seen, frames_seen}
 use Rattle.lua_state.specs.declared.state.State.{State}
@@ -40,12 +43,12 @@ use Rattle.lua_state.specs.Seen.{slots_of, frames_of, funds_of}
 use Rattle.lua_state.specs.Worlds.{world_seen}
 use Rattle.lua_strides.specs.declared.next.Next.{Next}
 use Rattle.lua_strides.specs.Strides.{Idles}
-use Rattle.lua_strides.proofs.Paths.{idle}
+use Rattle.lua_strides.proofs.Paths.{idle, with_frames, with_frames_of}
 use Rattle.lua_turns.specs.Methods.{GivesBehind, PaysLink}
 use Rattle.lua_turns.specs.Rows.{Follows, MayFollow}
 use Rattle.lua_turns.specs.declared.methods.Method.{Method}
 use Rattle.lua_turns.proofs.Following.{idle_first}
-use Rattle.lua_turns.proofs.Freely.{below_with}
+use Rattle.lua_turns.proofs.Freely.{below_of, below_with}
 
 -- WHERE IT IS FOUND
 module _ (h : Heap Proc) (t : ℕ) (key v : Plain) (line : Option ℕ) (fs : List SFrame) (s : Slots) (same : s.heap ≡ h) where
@@ -59,17 +62,22 @@ module _ (h : Heap Proc) (t : ℕ) (key v : Plain) (line : Option ℕ) (fs : Lis
   found_behind b none names is =
       let n : is_nil (get (table_at s.heap t).entries key) ≡ true = ap (λ (x : Heap Proc). is_nil (get (table_at x t).entries key)) same ∙ none in
       let g : handler s.heap (Table t) (codes "__index") ≡ Table b = ap (λ (x : Heap Proc). handler x (Table t) (codes "__index")) same ∙ names in
-      let e : entry s.heap b key ≡ Some v = ap (λ (x : Heap Proc). entry x b key) same ∙ is in
-      (IndexLinkS (Table t) (Table b) key line,
-      ap (λ (c : Bool). choose c (index_by (handler s.heap (Table t) (codes "__index")) (Table t) key line fs s) (gives (get (table_at s.heap t).entries key ∷ []) fs s)) n
-      ∙ ap (λ (x : Plain). index_by x (Table t) key line fs s) g,
-      λ (world : CWorld). entry_is line fs s b key v e)
+      let e : entry s.heap b key ≡ Some v = ap (λ (x : Heap Proc). entry x b key) same ∙ is in (
+        IndexLinkS (Table t) (Table b) key line,
+        ap (λ (c : Bool). choose c (index_by (handler s.heap (Table t) (codes "__index")) (Table t) key line fs s) (gives (get (table_at s.heap t).entries key ∷ []) fs s)) n
+            ∙ ap (λ (x : Plain). index_by x (Table t) key line fs s) g,
+        λ (world : CWorld). entry_is line fs s b key v e,
+      )
 
 -- a text has its methods in the table of strings
 pub of_strings : (linked : Bool) (bytes : List ℕ) (key v : Plain) (line : Option ℕ) (fs : List SFrame) (s : Slots) (t : ℕ) → s.strings ≡ t → GivesBehind linked (index_table t key line fs s) v fs s → GivesBehind linked (index (Text bytes) key line fs s) v fs s
 of_strings linked bytes key v line fs s t e h = subst (λ (x : ℕ). GivesBehind linked (index_table x key line fs s) v fs s) (sym e) h
 
--- FROM ITS OBJECT to its arguments
+-- an entry, or nil where nobody is asked
+pub found_at_once : (h : Heap Proc) (o key v : Plain) (line : Option ℕ) (fs : List SFrame) (s : Slots) → s.heap ≡ h → indexed h o key ≡ Some v → GivesBehind false (index o key line fs s) v fs s
+found_at_once h o key v line fs s same is = indexed_is line fs s o key v (ap (λ (x : Heap Proc). indexed x o key) same ∙ is)
+
+-- THE MOVES to what is found
 abbrev after_link : Bool → Funds → Funds
 after_link false f = f
 after_link true f = record f { left = record f.left { steps = f.left.steps - 1 } }
@@ -78,25 +86,26 @@ abbrev IsLeft : Bool → Funds → Type 0
 IsLeft false f = Unit {0}
 IsLeft true f = 1 ≤ f.left.steps
 
-module _ (world : CWorld) (name : List ℕ) (o v : Plain) (args : CExps) (line : ℕ) (gs : List SFrame) (s : Slots) where
-  abbrev at_object : Point
-  at_object = Gives (Goes (o ∷ [])) (MethodNext name args line ∷ gs)
+found : (world : CWorld) (s : Slots) (p : Point) (mv : Move) (v : Plain) (fs : List SFrame) (linked : Bool) (f : Funds) → moves world p s ≡ mv → GivesBehind linked mv v fs s → IsLeft linked f → Reaches world p s f (Gives (Goes (v ∷ [])) fs) s (after_link linked f)
+found world s p mv v fs false f e is some = further p s f (Gives (Goes (v ∷ [])) fs) s f here (ap (λ (x : Move). enact x f) (e ∙ is))
+found world s p mv v fs true f e is some =
+    let b : Point = Starts is.0 fs in
+    let q : Point = Gives (Goes (v ∷ [])) fs in
+    further b s f q s (after_link true f) (further p s f b s f here (ap (λ (x : Move). enact x f) (e ∙ is.1)))
+    (ap (λ (x : Move). enact (Costs 1 x) f) (is.2 world) ∙ ap (λ (x : Option ℕ). paid x f (enact (Now q s))) (less_of 1 f.left.steps some))
 
-  abbrev at_method : Point
-  at_method = Gives (Goes (v ∷ [])) (MethodNow o args line ∷ gs)
+-- from the object of a method to its arguments, and from the key of an index to the entry
+named : (world : CWorld) (name : List ℕ) (o v : Plain) (args : CExps) (line : ℕ) (gs : List SFrame) (s : Slots) (linked : Bool) (f : Funds) → GivesBehind linked (index o (Text name) (Some line) (MethodNow o args line ∷ gs) s) v (MethodNow o args line ∷ gs) s → IsLeft linked f
+    → Reaches world (Gives (Goes (o ∷ [])) (MethodNext name args line ∷ gs)) s f (Lists args (o ∷ []) (CallNow v line ∷ gs)) s (after_link linked f)
+named world name o v args line gs s linked f is some =
+    reach_then (found world s (Gives (Goes (o ∷ [])) (MethodNext name args line ∷ gs)) (index o (Text name) (Some line) (MethodNow o args line ∷ gs) s) v (MethodNow o args line ∷ gs) linked f refl is some)
+    (further (Gives (Goes (v ∷ [])) (MethodNow o args line ∷ gs)) s (after_link linked f) (Lists args (o ∷ []) (CallNow v line ∷ gs)) s (after_link linked f) here refl)
 
-  abbrev at_arguments : Point
-  at_arguments = Lists args (o ∷ []) (CallNow v line ∷ gs)
-
-  found : (linked : Bool) (f : Funds) → GivesBehind linked (index o (Text name) (Some line) (MethodNow o args line ∷ gs) s) v (MethodNow o args line ∷ gs) s → IsLeft linked f → Reaches world at_object s f at_method s (after_link linked f)
-  found false f is some = further at_object s f at_method s f here (ap (λ (mv : Move). enact mv f) is)
-  found true f is some =
-      let b : Point = Starts is.0 (MethodNow o args line ∷ gs) in
-      further b s f at_method s (after_link true f) (further at_object s f b s f here (ap (λ (mv : Move). enact mv f) is.1))
-      (ap (λ (mv : Move). enact (Costs 1 mv) f) (is.2 world) ∙ ap (λ (x : Option ℕ). paid x f (enact (Now at_method s))) (less_of 1 f.left.steps some))
-
-  pub named : (linked : Bool) (f : Funds) → GivesBehind linked (index o (Text name) (Some line) (MethodNow o args line ∷ gs) s) v (MethodNow o args line ∷ gs) s → IsLeft linked f → Reaches world at_object s f at_arguments s (after_link linked f)
-  named linked f is some = reach_then (found linked f is some) (further at_method s (after_link linked f) at_arguments s (after_link linked f) here refl)
+keyed : (world : CWorld) (o key v : Plain) (line : ℕ) (gs : List SFrame) (s : Slots) (linked : Bool) (f : Funds) → GivesBehind linked (index o key (Some line) (First ∷ gs) s) v (First ∷ gs) s → IsLeft linked f
+    → Reaches world (Gives (Goes (key ∷ [])) (IndexNow o line ∷ gs)) s f (Gives (Goes (v ∷ [])) gs) s (after_link linked f)
+keyed world o key v line gs s linked f is some =
+    reach_then (found world s (Gives (Goes (key ∷ [])) (IndexNow o line ∷ gs)) (index o key (Some line) (First ∷ gs) s) v (First ∷ gs) linked f refl is some)
+    (further (Gives (Goes (v ∷ [])) (First ∷ gs)) s (after_link linked f) (Gives (Goes (v ∷ [])) gs) s (after_link linked f) here refl)
 
 left_after : (linked : Bool) (l l' : Left) (m : State) (told : Tally) (i : ℕ) → PaysLink linked l l' true → after_link linked (funds_of l m told i) ≡ funds_of l' m told i
 left_after false l l' m told i e = ap (λ (x : Left). funds_of x m told i) (sym e)
@@ -110,34 +119,50 @@ sinks_by : (linked : Bool) (l l' : Left) → PaysLink linked l l' true → l'.st
 sinks_by false l l' e = let n : l'.steps ≡ l.steps = ap (λ (x : Left). x.steps) e in omega (arith, n)
 sinks_by true l l' e = let n : l'.steps ≡ l.steps - 1 = ap (λ (x : Left). x.steps) e.1 in omega (arith, n)
 
--- the same in code
+-- THE SAME IN CODE: where the link is paid, other frames wait
+linked_follows : (s : StoreView) (m : State) (linked : Bool) (l l' : Left) (k : ℕ) (fs : List Frame) (y : Focus) (p q : Point) → StateOf s m → FramesOf s fs → FocusOf s y → PaysLink linked l l' true
+    → ((world : CWorld) (f : Funds) → IsLeft linked f → Reaches world p (slots_of s m) f q (slots_of s m) (after_link linked f)) → q ≡ focus_seen s y (frames_seen s.texts fs)
+    → Follows s m p l k s (with_frames m fs) l' k y
+linked_follows s m linked l l' k fs y p q of frames known pays law is = record {
+  state = with_frames_of s m fs of frames;
+  world = refl;
+  of = known;
+  later = later-itself s;
+  rises = omega arith;
+  sinks = sinks_by linked l l' pays;
+  led = λ told i j h.
+      let w : CWorld = world_seen m.codes.world in
+      let x : Slots = slots_of s m in
+      let one : i ≡ j = omega (arith, h) in
+      let start : Funds = funds_of l m told i in
+      subst (λ (d : ℕ). Reaches w p x start (focus_seen s y (frames_seen s.texts fs)) x (funds_of l' m told d)) one
+      (subst (λ (z : Funds). Reaches w p x start (focus_seen s y (frames_seen s.texts fs)) x z) (left_after linked l l' m told i pays)
+      (subst (λ (z : Point). Reaches w p x start z x (after_link linked start)) is (law w start (is_left linked l l' m told i pays))));
+}
+
 pub method_follows : (s : StoreView) (m : State) (linked : Bool) (l l' : Left) (k : ℕ) (f g : Frame) (more fs : List Frame) (y : Focus) (name : List ℕ) (o v : Plain) (args : CExps) (line : ℕ) → StateOf s m → m.frames ≡ f ∷ more → fs ≡ g ∷ more
     → frame_seen s.texts f ≡ MethodNext name args line → frame_seen s.texts g ≡ CallNow v line → FrameOf s g → FocusOf s y → ((gs : List SFrame) → focus_seen s y gs ≡ Lists args (o ∷ []) gs) → PaysLink linked l l' true
     → ((gs : List SFrame) → GivesBehind linked (index o (Text name) (Some line) gs (slots_of s m)) v gs (slots_of s m))
-    → Follows s m (Gives (Goes (o ∷ [])) (frames_of s m)) l k s (let z : State = record m { frames = fs } in z) l' k y
+    → Follows s m (Gives (Goes (o ∷ [])) (frames_of s m)) l k s (with_frames m fs) l' k y
 method_follows s m linked l l' k f g more fs y name o v args line of e n f_is g_is known kept point pays is =
     let x : Slots = slots_of s m in
     let gs : List SFrame = frames_seen s.texts more in
     let q : Point = Lists args (o ∷ []) (CallNow v line ∷ gs) in
     let was : frames_of s m ≡ MethodNext name args line ∷ gs = ap (frames_seen s.texts) e ∙ ap (λ (z : SFrame). z ∷ gs) f_is in
     let there : focus_seen s y (frames_seen s.texts fs) ≡ q = point (frames_seen s.texts fs) ∙ ap (λ (z : List Frame). Lists args (o ∷ []) (frames_seen s.texts z)) n ∙ ap (λ (z : SFrame). Lists args (o ∷ []) (z ∷ gs)) g_is in
-    record {
-      state = record { frames = below_with s m.frames fs more f g e n of.frames known; regs = of.regs; functions = of.functions; env = of.env; modules = of.modules; loaded = of.loaded; scenes = of.scenes; codes = of.codes };
-      world = refl;
-      of = kept;
-      later = later-itself s;
-      rises = omega arith;
-      sinks = sinks_by linked l l' pays;
-      led = λ told i j h.
-          let w : CWorld = world_seen m.codes.world in
-          let one : i ≡ j = omega (arith, h) in
-          let start : Funds = funds_of l m told i in
-          subst (λ (d : ℕ). Reaches w (Gives (Goes (o ∷ [])) (frames_of s m)) x start (focus_seen s y (frames_seen s.texts fs)) x (funds_of l' m told d)) one
-          (subst (λ (z : Funds). Reaches w (Gives (Goes (o ∷ [])) (frames_of s m)) x start (focus_seen s y (frames_seen s.texts fs)) x z) (left_after linked l l' m told i pays)
-          (subst (λ (z : Point). Reaches w (Gives (Goes (o ∷ [])) (frames_of s m)) x start z x (after_link linked start)) (sym there)
-          (subst (λ (z : List SFrame). Reaches w (Gives (Goes (o ∷ [])) z) x start q x (after_link linked start)) (sym was)
-          (named w name o v args line gs x linked start (is (MethodNow o args line ∷ gs)) (is_left linked l l' m told i pays)))));
-    }
+    linked_follows s m linked l l' k fs y (Gives (Goes (o ∷ [])) (frames_of s m)) q of (below_with s m.frames fs more f g e n of.frames known) kept pays
+    (λ world z some. subst (λ (c : List SFrame). Reaches world (Gives (Goes (o ∷ [])) c) x z q x (after_link linked z)) (sym was) (named world name o v args line gs x linked z (is (MethodNow o args line ∷ gs)) some)) (sym there)
+
+pub key_follows : (s : StoreView) (m : State) (linked : Bool) (l l' : Left) (k : ℕ) (o key v : Value) (line : ℕ) (more fs : List Frame) → StateOf s m → m.frames ≡ frame.Expression (in_expression.IndexNow o line) ∷ more → fs ≡ more → IsOf s v → PaysLink linked l l' true
+    → ((gs : List SFrame) → GivesBehind linked (index (seen s.texts o) (seen s.texts key) (Some line) gs (slots_of s m)) (seen s.texts v) gs (slots_of s m))
+    → Follows s m (Gives (Goes (seen s.texts key ∷ [])) (frames_of s m)) l k s (with_frames m fs) l' k (focus.Gives (given.One v))
+key_follows s m linked l l' k o key v line more fs of e n known pays is =
+    let x : Slots = slots_of s m in
+    let gs : List SFrame = frames_seen s.texts more in
+    let q : Point = Gives (Goes (seen s.texts v ∷ [])) gs in
+    linked_follows s m linked l l' k fs (focus.Gives (given.One v)) (Gives (Goes (seen s.texts key ∷ [])) (frames_of s m)) q of (below_of s m.frames fs more (frame.Expression (in_expression.IndexNow o line)) e n of.frames) (known, tt) pays
+    (λ world z some. subst (λ (c : List SFrame). Reaches world (Gives (Goes (seen s.texts key ∷ [])) c) x z q x (after_link linked z)) (sym (ap (frames_seen s.texts) e)) (keyed world (seen s.texts o) (seen s.texts key) (seen s.texts v) line gs x linked z (is (First ∷ gs)) some))
+    (ap (λ (z : List Frame). Gives (Goes (seen s.texts v ∷ [])) (frames_seen s.texts z)) (sym n))
 
 pub not_paid : (s : StoreView) (m : State) (linked : Bool) (l l' : Left) (k : ℕ) → PaysLink linked l l' false → Idles s m l k s m l' k
 not_paid s m false l l' k e = record { later = later-itself s; heap = refl; state = refl; left = e; counter = refl }
@@ -149,8 +174,9 @@ method_of_strings st (Some x) id key line fs s t e h = of_strings x.linked (text
 method_of_strings st None id key line fs s t e h = tt
 
 -- the text of its name was made first
-pub named_later : (s t : StoreView) (m m' : State) (l l' : Left) (k : ℕ) (o : Value) (r : Option Next) → StateOf s m → IsOf s o → IsLater s t → t.heap ≡ s.heap
-    → MayFollow t m (Gives (Goes (seen t.texts o ∷ [])) (frames_of t m)) l k t m' l' k r → MayFollow s m (Gives (Goes (seen s.texts o ∷ [])) (frames_of s m)) l k t m' l' k r
-named_later s t m m' l l' k o r of known later same e =
-    idle_first s t t m m m' l l l' k k k (λ fs. Gives (Goes (seen s.texts o ∷ [])) fs) r of (idle s t m l k later same)
-    (subst (λ (p : Point). MayFollow t m p l k t m' l' k r) (focus_as s t later (focus.Gives (given.One o)) (frames_of t m) (known, tt)) e)
+pub named_later : {E : Type 0} (s t u : StoreView) (m m' : State) (l l' : Left) (k k' : ℕ) (o : Value) (r : Result (Option Next) E) → StateOf s m → IsOf s o → IsLater s t → t.heap ≡ s.heap
+    → IfOk r (MayFollow t m (Gives (Goes (seen t.texts o ∷ [])) (frames_of t m)) l k u m' l' k') → IfOk r (MayFollow s m (Gives (Goes (seen s.texts o ∷ [])) (frames_of s m)) l k u m' l' k')
+named_later s t u m m' l l' k k' o r of known later same h =
+    IfOk-weaker r (MayFollow t m (Gives (Goes (seen t.texts o ∷ [])) (frames_of t m)) l k u m' l' k') (MayFollow s m (Gives (Goes (seen s.texts o ∷ [])) (frames_of s m)) l k u m' l' k')
+    (λ x e. idle_first s t u m m m' l l l' k k k' (λ fs. Gives (Goes (seen s.texts o ∷ [])) fs) x of (idle s t m l k later same)
+    (subst (λ (p : Point). MayFollow t m p l k u m' l' k' x) (focus_as s t later (focus.Gives (given.One o)) (frames_of t m) (known, tt)) e)) h

@@ -5,3 +5,5 @@ pub mod Setting
 pub mod Branching
 pub mod Assigning
 pub mod Methods
+pub mod Deciding
+pub mod Listing

@@ -33,6 +33,11 @@ abbrev pub MayFollow : StoreView → State → Point → Left → ℕ → StoreV
 MayFollow s m p l k t m' l' k' (Some y) = Follows s m p l k t m' l' k' (focus_of y)
 MayFollow s m p l k t m' l' k' None = Idles s m l k t m' l' k'
 
+-- such moves, whatever the answer is
+abbrev pub MustFollow : StoreView → State → Point → Left → ℕ → StoreView → State → Left → ℕ → Option Next → Type 0
+MustFollow s m p l k t m' l' k' (Some y) = Follows s m p l k t m' l' k' (focus_of y)
+MustFollow s m p l k t m' l' k' None = ⊥
+
 -- this frame is the newest
 abbrev pub IsNewest : List Frame → Frame → Type 0
 IsNewest fs f = (more : List Frame) × (fs ≡ f ∷ more)

@@ -1,12 +1,13 @@
-//! An operator and a `return` begin whose operands are not read in place: frames wait for these.
+//! Expressions and a `return` begin whose first operand is not read in place: frames wait for it.
 ghost use Rattle.std.specs.Prelude.{◌≡◌, ◌∷◌, [], IfOk};
 ghost use Rattle.lua_code.specs.Seen.{block_seen, expression_seen, expressions_seen, operator_seen};
-ghost use Rattle.lua_slots.specs.Code.{AndC, CallC, MethodC, MoreC, NoC, OperateC, OrC, ParenC, ReturnC, ThenC, UnaryC};
+ghost use Rattle.lua_slots.specs.Code.{CallC, IndexC, MethodC, MoreC, NoC, OperateC, ParenC, ReturnC, ThenC, UnaryC};
 ghost use Rattle.lua_slots.specs.Points.{Evals, Runs};
 ghost use Rattle.lua_state.specs.Of.{StateOf};
 ghost use Rattle.lua_state.specs.Seen.{frames_of};
 ghost use Rattle.lua_store.specs.Seen.{StoreView};
 ghost use Rattle.lua_strides.specs.Strides.{MayStride};
+ghost use Rattle.lua_turns.specs.Deciding.{deciding_with};
 
 use lua_code::{Expression, Operator, Statement};
 use lua_stack::{Frame, InExpression, InStatement, Values};
@@ -82,37 +83,21 @@ pub fn begin_unary<'m, L: Ledger>(
     wait_for(state, frame, Next::Evaluates(a))
 }
 
-/// `and` begins with its first operand, where its step is left.
-pub fn begin_and<'m, L: Ledger>(
+/// `and` or `or` begins with its first operand, where its step is left.
+pub fn begin_deciding<'m, L: Ledger>(
     left: &mut Left,
     state: &mut State<'m>,
+    deciding: bool,
     a: &'m Expression,
     b: &'m Expression,
     turns: &mut Steps<L>,
 ) -> Result<Option<Next<'m>>, NoMemory>
-    ensures { (s : StoreView) → StateOf s state.old → IfOk result (MayStride s state.old (Evals (AndC (expression_seen a.now) (expression_seen b.now)) (frames_of s state.old)) left.old turns.old s state.new left.new turns.new) }
+    ensures { (s : StoreView) → StateOf s state.old → IfOk result (MayStride s state.old (Evals (deciding_with deciding (expression_seen a.now) (expression_seen b.now)) (frames_of s state.old)) left.old turns.old s state.new left.new turns.new) }
 {
     if !pay_nodes(left, turns, 1) {
         return Ok(None);
     }
-    let frame = Frame::Expression(InExpression::DecideNext(false, b));
-    wait_for(state, frame, Next::Evaluates(a))
-}
-
-/// `or` begins with its first operand, where its step is left.
-pub fn begin_or<'m, L: Ledger>(
-    left: &mut Left,
-    state: &mut State<'m>,
-    a: &'m Expression,
-    b: &'m Expression,
-    turns: &mut Steps<L>,
-) -> Result<Option<Next<'m>>, NoMemory>
-    ensures { (s : StoreView) → StateOf s state.old → IfOk result (MayStride s state.old (Evals (OrC (expression_seen a.now) (expression_seen b.now)) (frames_of s state.old)) left.old turns.old s state.new left.new turns.new) }
-{
-    if !pay_nodes(left, turns, 1) {
-        return Ok(None);
-    }
-    let frame = Frame::Expression(InExpression::DecideNext(true, b));
+    let frame = Frame::Expression(InExpression::DecideNext(deciding, b));
     wait_for(state, frame, Next::Evaluates(a))
 }
 
@@ -167,4 +152,22 @@ pub fn begin_method<'m, L: Ledger>(
     }
     let frame = Frame::Expression(InExpression::MethodNext(name, arguments, line));
     wait_for(state, frame, Next::Evaluates(a))
+}
+
+/// An index begins with its object, where its step is left.
+pub fn begin_index<'m, L: Ledger>(
+    left: &mut Left,
+    state: &mut State<'m>,
+    of: &'m Expression,
+    key: &'m Expression,
+    line: u32,
+    turns: &mut Steps<L>,
+) -> Result<Option<Next<'m>>, NoMemory>
+    ensures { (s : StoreView) → StateOf s state.old → IfOk result (MayStride s state.old (Evals (IndexC (expression_seen of.now) (expression_seen key.now) line) (frames_of s state.old)) left.old turns.old s state.new left.new turns.new) }
+{
+    if !pay_nodes(left, turns, 1) {
+        return Ok(None);
+    }
+    let frame = Frame::Expression(InExpression::KeyNext(key, line));
+    wait_for(state, frame, Next::Evaluates(of))
 }

@@ -131,6 +131,9 @@ pub fn end_while<'m>(
     ensures { (s : StoreView) (l : Allowance) (k : ℕ) (values : Items Plain) → StateOf s state.old → Follows s state.old (Gives (Goes values) (frames_of s state.old)) l k s state.new l k (focus_of result) }
 {
     keep_oldest(&mut state.regs, depth);
-    swap_newest(&mut state.frames, Frame::Loop(InLoop::WhileTest(test, body)));
+    swap_newest(
+        &mut state.frames,
+        Frame::Loop(InLoop::WhileTest(test, body)),
+    );
     Next::Evaluates(test)
 }

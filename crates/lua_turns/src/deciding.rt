@@ -26,7 +26,7 @@ use lua_strides::operators::applied;
 use lua_syntax::UnaryOp;
 
 /// Whether the first operand decides, by being true or by being false.
-fn decides(deciding: bool, value: Value) -> bool
+pub fn decides(deciding: bool, value: Value) -> bool
     ensures { (texts : Items (Items ℕ)) → result ≡ machine.decides deciding (is_true_value (seen texts value)) }
 {
     let truth = is_true(value);
@@ -80,7 +80,7 @@ fn length_of(store: &Store, value: Value) -> Option<Value>
 }
 
 /// What an operator gives for its one operand.
-fn result_of(store: &Store, op: UnaryOp, value: Value) -> Option<Value>
+pub fn result_of(store: &Store, op: UnaryOp, value: Value) -> Option<Value>
     requires { IsOf store.now value }
     ensures of { (s : StoreView) → IfSome result (IsOf s) }
     ensures value { IfSome result (λ v. places.applied store.now.heap op (seen store.now.texts value) ≡ Some (seen store.now.texts v)) }

@@ -13,15 +13,16 @@ ghost use Rattle.lua_state.specs.Seen.{frames_of};
 ghost use Rattle.lua_store.specs.Parts.{IsOf};
 ghost use Rattle.lua_store.specs.Seen.{StoreView, seen};
 ghost use Rattle.lua_strides.specs.Next.{focus_of};
-ghost use Rattle.lua_turns.specs.Rows.{Follows, IsNewest, MayFollow};
+ghost use Rattle.lua_turns.specs.Rows.{Follows, IsNewest, MayFollow, MustFollow};
 ghost use Rattle.lua_turns.specs.Waiting.{Waits};
 
+use crate::at_hand::next_of;
 use crate::branching::{choose, take_test};
 use crate::calling::call_one;
 use crate::deciding::{apply, decide, give_first};
 use crate::joining::join;
 use crate::listing::{take_callee, take_item};
-use crate::methods::take_object;
+use crate::methods::{take_key, take_object, take_of};
 use crate::waiting::{Waiting, drop_newest, of_newest, swap_newest};
 use lua_code::{Expression, Operator, Statement};
 use lua_stack::opening::open;
@@ -45,19 +46,24 @@ pub fn go_on<'m>(state: &mut State<'m>, rest: &'m [Statement]) -> Next<'m>
 }
 
 /// An operator has its first operand.
-fn take_operand<'m>(
+fn take_operand<'m, L: Ledger>(
+    store: &mut Store,
+    left: &mut Left,
     state: &mut State<'m>,
     op: Operator,
     b: &'m Expression,
     line: u32,
     value: Value,
-) -> Next<'m>
-    requires { IsNewest state.old.frames (frame_kind.Expression (in_expression.OperandNext op b line)) }
-    ensures { (s : StoreView) (l : Allowance) (k : ℕ) → StateOf s state.old → IsOf s value → Follows s state.old (Gives (Goes (seen s.texts value ∷ [])) (frames_of s state.old)) l k s state.new l k (focus_of result) }
+    turns: &mut Steps<L>,
+) -> Result<Option<Next<'m>>, NoMemory>
+    requires state { StateOf store.old state.old }
+    requires newest { IsNewest state.old.frames (frame_kind.Expression (in_expression.OperandNext op b line)) }
+    requires value { IsOf store.old value }
+    ensures { IfOk result (MustFollow store.old state.old (Gives (Goes (seen store.old.texts value ∷ [])) (frames_of store.old state.old)) left.old turns.old store.new state.new left.new turns.new) }
 {
     let frame = Frame::Expression(InExpression::OperateNow(op, value, line));
     swap_newest(&mut state.frames, frame);
-    Next::Evaluates(b)
+    next_of(store, left, state, b, turns)
 }
 
 /// An operator has its second operand.
@@ -150,24 +156,24 @@ fn give_operand<'m, L: Ledger>(
     ensures { IfOk result (MayFollow store.old state.old (Gives (Goes (seen store.old.texts value ∷ [])) (frames_of store.old state.old)) left.old turns.old store.new state.new left.new turns.new) }
 {
     match waits {
-        Waiting::Operand(op, b, line) => Ok(Some(take_operand(state, op, b, line, value))),
+        Waiting::Operand(op, b, line) => {
+            take_operand(store, left, state, op, b, line, value, turns)
+        }
         Waiting::Joins(a, line) => join(alloc, store, left, state, a, line, value),
         Waiting::Operates(op, a, line) => Ok(operate(store, state, op, a, line, value)),
         Waiting::Last(rest) => Ok(Some(end_list(state, rest, value))),
-        Waiting::Item(rest) => {
-            let next = take_item(state, rest, value)?;
-            Ok(Some(next))
-        }
+        Waiting::Item(rest) => take_item(store, left, state, rest, value, turns),
         Waiting::First => Ok(Some(give_first(state, value))),
         Waiting::Decides(deciding, b) => Ok(Some(decide(state, deciding, b, value))),
         Waiting::Applies(op, line) => Ok(apply(store, state, op, line, value)),
-        Waiting::Callee(arguments, line) => {
-            let next = take_callee(alloc, state, arguments, line, value)?;
-            Ok(Some(next))
-        }
-        Waiting::Object(name, list, line) => {
-            take_object(alloc, store, left, state, name, list, line, value)
-        }
+        Waiting::Key(key, line) => take_of(store, left, state, key, line, value, turns),
+        Waiting::Indexes(of, line) => Ok(take_key(store, left, state, of, line, value)),
+        Waiting::Callee(arguments, line) => take_callee(
+            alloc, store, left, state, arguments, line, value, turns,
+        ),
+        Waiting::Object(name, list, line) => take_object(
+            alloc, store, left, state, name, list, line, value, turns,
+        ),
         Waiting::Calls(called, line) => {
             call_one(alloc, store, left, state, called, line, value, turns)
         }

@@ -10,18 +10,21 @@
 //! - `entering`: a function of Lua is entered
 //! - `calling`: arguments reach the frame that calls
 //! - `setting`: an entry that is set
-//! - `beginning`: an expression or a `return` whose operands are not read in place
+//! - `at_hand`: an expression that is read where it comes up
+//! - `beginning`: an expression or a `return` whose first operand is not read in place
+//! - `operands`: an expression that begins with its first operand
 //! - `statements`: statements whose expressions are not read in place
 //! - `deciding`: operands of `and`, `or`, and of operators with one operand
 //! - `joining`: two texts become one
 //! - `branching`: tests of `if` and `while`
 //! - `listing`: lists of expressions
-//! - `methods`: methods that are found at once
+//! - `methods`: methods and entries that are found at once
 //! - `rows`: strides in a row
 //!
 //! Begin with `specs/Rows.antt`: what moves in a row are.
 #![tactic(auto)]
 
+pub mod at_hand;
 pub mod beginning;
 pub mod branching;
 pub mod calling;
@@ -34,6 +37,7 @@ pub mod joining;
 pub mod leaving;
 pub mod listing;
 pub mod methods;
+pub mod operands;
 pub mod passing;
 pub mod rows;
 pub mod setting;

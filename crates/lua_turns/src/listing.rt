@@ -16,17 +16,21 @@ ghost use Rattle.lua_state.specs.Seen.{frames_of};
 ghost use Rattle.lua_store.specs.declared.value.Value.{Value as Stored};
 ghost use Rattle.lua_store.specs.Parts.{IsOf};
 ghost use Rattle.lua_store.specs.Seen.{StoreView, seen};
-ghost use Rattle.lua_strides.specs.Next.{focus_of};
-ghost use Rattle.lua_turns.specs.Rows.{Follows, IsNewest};
+ghost use Rattle.lua_turns.specs.Listing.{left_of};
+ghost use Rattle.lua_turns.specs.Rows.{Follows, IsNewest, MustFollow};
 
+use crate::at_hand::AT_HAND;
 use crate::waiting::swap_newest;
 use lua_code::Expression;
 use lua_stack::{Frame, InExpression, Stack, Values};
 use lua_state::State;
-use lua_store::Value;
+use lua_store::{Store, Value};
 use lua_strides::Next;
+use lua_strides::ending::pay_nodes;
+use lua_strides::reading::read;
 use std::alloc::Global;
-use wk_base::{List, NoMemory};
+use std::sync::ledger::Ledger;
+use wk_base::{Left, List, NoMemory, Steps};
 
 /// The first of some expressions, and those behind it.
 #[derive(Clone, Copy)]
@@ -44,39 +48,101 @@ fn front_of<'m>(expressions: &'m [Expression]) -> Option<Front<'m>>
     }
 }
 
-/// What is left of a list goes on, with the values before.
-pub fn list<'m>(
+/// What is left of a list waits for its first expression, with the values before.
+fn wait_for_item<'m>(
     state: &mut State<'m>,
     expressions: &'m [Expression],
     before: Values,
-) -> Result<Next<'m>, NoMemory>
-    ensures { (s : StoreView) (l : Allowance) (k : ℕ) → StateOf s state.old → ValuesOf s before → IfOk result (λ r. Follows s state.old (Lists (expressions_seen expressions.now) (values_seen s.texts before) (frames_of s state.old)) l k s state.new l k (focus_of r)) }
+) -> Result<Option<Next<'m>>, NoMemory>
+    ensures { (s : StoreView) (l : Allowance) (k : ℕ) → StateOf s state.old → ValuesOf s before → IfOk result (MustFollow s state.old (Lists (expressions_seen expressions.now) (values_seen s.texts before) (frames_of s state.old)) l k s state.new l k) }
 {
     match front_of(expressions) {
         Some(front) => {
             let frame = InExpression::MoreNext(front.rest, before);
             state.frames.push(Frame::Expression(frame))?;
-            Ok(Next::Evaluates(front.first))
+            Ok(Some(Next::Evaluates(front.first)))
         }
-        None => Ok(Next::GivesAll(before)),
+        None => Ok(Some(Next::GivesAll(before))),
+    }
+}
+
+/// The values of the first expressions of a list, as long as they are at hand and their steps are left, go behind those before. The answer is
+/// what is left of the list, or nothing, where all of its values are there.
+fn read_front<'m, L: Ledger>(
+    store: &mut Store,
+    left: &mut Left,
+    state: &State<'m>,
+    expressions: &'m [Expression],
+    before: &mut Values,
+    turns: &mut Steps<L>,
+) -> Result<Option<&'m [Expression]>, NoMemory>
+    requires state { StateOf store.old state.now }
+    requires before { ValuesOf store.old before.old }
+    ensures { IfOk result (λ r. Follows store.old state.now (Lists (expressions_seen expressions.now) (values_seen store.old.texts before.old) (frames_of store.old state.now)) left.old turns.old store.new state.now left.new turns.new (left_of r before.new)) }
+{
+    let mut rest = expressions;
+    'items: while let Some(front) = front_of(rest) {
+        let known = read(store, state, front.first, AT_HAND)?;
+        match known {
+            Some(found) => {
+                if !pay_nodes(left, turns, found.nodes) {
+                    return Ok(Some(rest));
+                }
+                before.add(found.value)?;
+                match front_of(front.rest) {
+                    Some(_) => {
+                        rest = front.rest;
+                    }
+                    None => return Ok(None),
+                }
+            }
+            None => return Ok(Some(rest)),
+        }
+    }
+    Ok(Some(rest))
+}
+
+/// What is left of a list goes on, with the values before.
+pub fn list<'m, L: Ledger>(
+    store: &mut Store,
+    left: &mut Left,
+    state: &mut State<'m>,
+    expressions: &'m [Expression],
+    before: Values,
+    turns: &mut Steps<L>,
+) -> Result<Option<Next<'m>>, NoMemory>
+    requires state { StateOf store.old state.old }
+    requires before { ValuesOf store.old before }
+    ensures { IfOk result (MustFollow store.old state.old (Lists (expressions_seen expressions.now) (values_seen store.old.texts before) (frames_of store.old state.old)) left.old turns.old store.new state.new left.new turns.new) }
+{
+    let mut values = before;
+    let behind = read_front(store, left, state, expressions, &mut values, turns)?;
+    match behind {
+        Some(rest) => wait_for_item(state, rest, values),
+        None => Ok(Some(Next::GivesAll(values))),
     }
 }
 
 /// What is called has its value: its arguments are next.
-pub fn take_callee<'m>(
+pub fn take_callee<'m, L: Ledger>(
     alloc: Global,
+    store: &mut Store,
+    left: &mut Left,
     state: &mut State<'m>,
     arguments: &'m List<Expression>,
     line: u32,
     called: Value,
-) -> Result<Next<'m>, NoMemory>
-    requires { IsNewest state.old.frames (frame_kind.Expression (in_expression.ArgumentsNext arguments line)) }
-    ensures { (s : StoreView) (l : Allowance) (k : ℕ) → StateOf s state.old → IsOf s called → IfOk result (λ r. Follows s state.old (Gives (Goes (seen s.texts called ∷ [])) (frames_of s state.old)) l k s state.new l k (focus_of r)) }
+    turns: &mut Steps<L>,
+) -> Result<Option<Next<'m>>, NoMemory>
+    requires state { StateOf store.old state.old }
+    requires newest { IsNewest state.old.frames (frame_kind.Expression (in_expression.ArgumentsNext arguments line)) }
+    requires called { IsOf store.old called }
+    ensures { IfOk result (MustFollow store.old state.old (Gives (Goes (seen store.old.texts called ∷ [])) (frames_of store.old state.old)) left.old turns.old store.new state.new left.new turns.new) }
 {
     let frame = Frame::Expression(InExpression::CallNow(called, line));
     swap_newest(&mut state.frames, frame);
-    let next = list(state, arguments.as_slice(), Values::new(alloc))?;
-    Ok(next)
+    let none = Values::new(alloc);
+    list(store, left, state, arguments.as_slice(), none, turns)
 }
 
 /// The values before of the list that waits in the newest frame, which waits no more.
@@ -91,22 +157,23 @@ fn take_before<'m>(frames: &mut Stack<Frame<'m>>) -> Values
 }
 
 /// An expression of a list has its value: the next one is evaluated, or the list has its values.
-pub fn take_item<'m>(
+pub fn take_item<'m, L: Ledger>(
+    store: &mut Store,
+    left: &mut Left,
     state: &mut State<'m>,
     rest: &'m [Expression],
     value: Value,
-) -> Result<Next<'m>, NoMemory>
-    requires { (before : Items Stored) × IsNewest state.old.frames (frame_kind.Expression (in_expression.MoreNext rest before)) }
-    ensures { (s : StoreView) (l : Allowance) (k : ℕ) → StateOf s state.old → IsOf s value → IfOk result (λ r. Follows s state.old (Gives (Goes (seen s.texts value ∷ [])) (frames_of s state.old)) l k s state.new l k (focus_of r)) }
+    turns: &mut Steps<L>,
+) -> Result<Option<Next<'m>>, NoMemory>
+    requires state { StateOf store.old state.old }
+    requires newest { (before : Items Stored) × IsNewest state.old.frames (frame_kind.Expression (in_expression.MoreNext rest before)) }
+    requires value { IsOf store.old value }
+    ensures { IfOk result (MustFollow store.old state.old (Gives (Goes (seen store.old.texts value ∷ [])) (frames_of store.old state.old)) left.old turns.old store.new state.new left.new turns.new) }
 {
     let mut before = take_before(&mut state.frames);
     before.add(value)?;
     match front_of(rest) {
-        Some(front) => {
-            let frame = InExpression::MoreNext(front.rest, before);
-            state.frames.push(Frame::Expression(frame))?;
-            Ok(Next::Evaluates(front.first))
-        }
-        None => Ok(Next::GivesAll(before)),
+        Some(_) => list(store, left, state, rest, before, turns),
+        None => Ok(Some(Next::GivesAll(before))),
     }
 }

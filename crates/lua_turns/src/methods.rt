@@ -1,4 +1,4 @@
-//! Methods that are found at once: in their object, or in the table that its metatable names (manual 2.3 and 2.5.8).
+//! Methods and entries that are found at once: in their object, or in the table that its metatable names (manual 2.3 and 2.5.8).
 ghost use Rattle.std.specs.Prelude.{◌≡◌, ◌∷◌, [], ℕ, true, List as Items, Option as MayBe, IfOk, IfSome};
 ghost use Rattle.page_run.specs.Outcome.{Goes};
 ghost use Rattle.lua_heap.specs.Heap.{table_at};
@@ -15,10 +15,11 @@ ghost use Rattle.lua_state.specs.Seen.{frames_of};
 ghost use Rattle.lua_store.specs.Parts.{IsOf, IsTableOf, IsTextOf};
 ghost use Rattle.lua_store.specs.Seen.{seen, text_at};
 ghost use Rattle.lua_turns.specs.Methods.{GivesBehind, PaysLink};
-ghost use Rattle.lua_turns.specs.Rows.{IsNewest, MayFollow};
+ghost use Rattle.lua_turns.specs.Rows.{IsNewest, MayFollow, MustFollow};
 
+use crate::at_hand::next_of;
 use crate::listing::list;
-use crate::waiting::swap_newest;
+use crate::waiting::{drop_newest, swap_newest};
 use lua_arms::tables::handler;
 use lua_code::Expression;
 use lua_stack::values::is_nil;
@@ -26,9 +27,10 @@ use lua_stack::{Environment, Frame, InExpression, Values};
 use lua_state::State;
 use lua_store::{Store, TableId, TextId, Value};
 use lua_strides::Next;
-use lua_strides::operators::entry;
+use lua_strides::operators::{entry, indexed};
 use std::alloc::Global;
-use wk_base::{Left, List, NoMemory};
+use std::sync::ledger::Ledger;
+use wk_base::{Left, List, NoMemory, Steps};
 
 /// A method that is found, and whether it is behind a link.
 #[derive(Clone, Copy)]
@@ -90,6 +92,23 @@ fn method_of(store: &Store, env: &Environment, object: Value, key: Value) -> Opt
     }
 }
 
+/// An entry of a table, nil where there is none and nobody is asked; else what `method_of` finds.
+fn entry_of(store: &Store, env: &Environment, of: Value, key: Value) -> Option<Method>
+    requires object { IsOf store.now of }
+    requires key { IsOf store.now key }
+    requires env { EnvironmentOf store.now env.now }
+    ensures of { IfSome result (λ r. IsOf store.now r.value) }
+    ensures found { (line : MayBe ℕ) (fs : Items SFrame) (s : Slots) → s.heap ≡ store.now.heap → s.strings ≡ env.now.strings.at → IfSome result (λ r. GivesBehind r.linked (index (seen store.now.texts of) (seen store.now.texts key) line fs s) (seen store.now.texts r.value) fs s) }
+{
+    match indexed(store, env, of, key) {
+        Some(value) => Some(Method {
+            value,
+            linked: false,
+        }),
+        None => method_of(store, env, of, key),
+    }
+}
+
 /// The step of a link is taken. Where none is left, the answer is false and nothing changes.
 fn pay_link(left: &mut Left, linked: bool) -> bool
     ensures { PaysLink linked left.old left.new result }
@@ -105,9 +124,9 @@ fn pay_link(left: &mut Left, linked: bool) -> bool
 }
 
 /// The method of an object with this name is found, and its arguments are next.
-fn take_method<'m>(
+fn take_method<'m, L: Ledger>(
     alloc: Global,
-    store: &Store,
+    store: &mut Store,
     left: &mut Left,
     state: &mut State<'m>,
     key: TextId,
@@ -115,13 +134,14 @@ fn take_method<'m>(
     arguments: &'m List<Expression>,
     line: u32,
     object: Value,
+    turns: &mut Steps<L>,
 ) -> Result<Option<Next<'m>>, NoMemory>
-    requires state { StateOf store.now state.old }
+    requires state { StateOf store.old state.old }
     requires newest { IsNewest state.old.frames (frame_kind.Expression (in_expression.MethodNext name arguments line)) }
-    requires key { IsTextOf store.now key }
-    requires name { text_at store.now.texts key.at ≡ name.now }
-    requires object { IsOf store.now object }
-    ensures { (k : ℕ) → IfOk result (MayFollow store.now state.old (Gives (Goes (seen store.now.texts object ∷ [])) (frames_of store.now state.old)) left.old k store.now state.new left.new k) }
+    requires key { IsTextOf store.old key }
+    requires name { text_at store.old.texts key.at ≡ name.now }
+    requires object { IsOf store.old object }
+    ensures { IfOk result (MayFollow store.old state.old (Gives (Goes (seen store.old.texts object ∷ [])) (frames_of store.old state.old)) left.old turns.old store.new state.new left.new turns.new) }
 {
     match method_of(store, &state.env, object, Value::Text(key)) {
         Some(method) => {
@@ -132,15 +152,14 @@ fn take_method<'m>(
             before.add(object)?;
             let frame = InExpression::CallNow(method.value, line);
             swap_newest(&mut state.frames, Frame::Expression(frame));
-            let next = list(state, arguments.as_slice(), before)?;
-            Ok(Some(next))
+            list(store, left, state, arguments.as_slice(), before, turns)
         }
         None => Ok(None),
     }
 }
 
 /// The object of a method has its value: the method is found at once, and its arguments are next.
-pub fn take_object<'m>(
+pub fn take_object<'m, L: Ledger>(
     alloc: Global,
     store: &mut Store,
     left: &mut Left,
@@ -149,14 +168,61 @@ pub fn take_object<'m>(
     arguments: &'m List<Expression>,
     line: u32,
     object: Value,
+    turns: &mut Steps<L>,
 ) -> Result<Option<Next<'m>>, NoMemory>
     requires state { StateOf store.old state.old }
     requires newest { IsNewest state.old.frames (frame_kind.Expression (in_expression.MethodNext name arguments line)) }
     requires object { IsOf store.old object }
-    ensures { (k : ℕ) → IfOk result (MayFollow store.old state.old (Gives (Goes (seen store.old.texts object ∷ [])) (frames_of store.old state.old)) left.old k store.new state.new left.new k) }
+    ensures { IfOk result (MayFollow store.old state.old (Gives (Goes (seen store.old.texts object ∷ [])) (frames_of store.old state.old)) left.old turns.old store.new state.new left.new turns.new) }
 {
     let key = store.text(name)?;
     take_method(
-        alloc, store, left, state, key, name, arguments, line, object,
+        alloc, store, left, state, key, name, arguments, line, object, turns,
     )
+}
+
+/// The object of an index has its value: its key is next.
+pub fn take_of<'m, L: Ledger>(
+    store: &mut Store,
+    left: &mut Left,
+    state: &mut State<'m>,
+    key: &'m Expression,
+    line: u32,
+    of: Value,
+    turns: &mut Steps<L>,
+) -> Result<Option<Next<'m>>, NoMemory>
+    requires state { StateOf store.old state.old }
+    requires newest { IsNewest state.old.frames (frame_kind.Expression (in_expression.KeyNext key line)) }
+    requires of { IsOf store.old of }
+    ensures { IfOk result (MustFollow store.old state.old (Gives (Goes (seen store.old.texts of ∷ [])) (frames_of store.old state.old)) left.old turns.old store.new state.new left.new turns.new) }
+{
+    let frame = InExpression::IndexNow(of, line);
+    swap_newest(&mut state.frames, Frame::Expression(frame));
+    next_of(store, left, state, key, turns)
+}
+
+/// The key of an index has its value: the entry is found at once.
+pub fn take_key<'m>(
+    store: &Store,
+    left: &mut Left,
+    state: &mut State<'m>,
+    of: Value,
+    line: u32,
+    key: Value,
+) -> Option<Next<'m>>
+    requires state { StateOf store.now state.old }
+    requires newest { IsNewest state.old.frames (frame_kind.Expression (in_expression.IndexNow of line)) }
+    requires key { IsOf store.now key }
+    ensures { (k : ℕ) → MayFollow store.now state.old (Gives (Goes (seen store.now.texts key ∷ [])) (frames_of store.now state.old)) left.old k store.now state.new left.new k result }
+{
+    match entry_of(store, &state.env, of, key) {
+        Some(entry) => {
+            if !pay_link(left, entry.linked) {
+                return None;
+            }
+            drop_newest(&mut state.frames);
+            Some(Next::Gives(entry.value))
+        }
+        None => None,
+    }
 }

@@ -13,24 +13,23 @@ ghost use Rattle.lua_strides.specs.Next.{focus_of};
 ghost use Rattle.lua_strides.specs.Strides.{MayStride};
 ghost use Rattle.lua_turns.specs.Rows.{Follows, MayFollow};
 
-use crate::beginning::{
-    begin_and, begin_call, begin_method, begin_operator, begin_or, begin_paren, begin_return, begin_unary,
-};
+use crate::beginning::{begin_paren, begin_return};
 use crate::branching::front_branch;
 use crate::calling::call;
 use crate::ending::end;
 use crate::giving::give;
+use crate::operands::{call_of, deciding, index, method, operator, unary};
 use crate::passing::pass;
 use crate::setting::set;
 use crate::statements::{
     begin_assign, begin_call_statement, begin_declare, begin_if, begin_while, else_of,
 };
-use lua_code::{Branch, Expression, Statement, Target};
+use lua_code::{Branch, Expression, Operator, Statement, Target};
 use lua_stack::{Focus, Found};
 use lua_state::State;
 use lua_store::Store;
-use lua_strides::striding::{expression, front_of, only, statement};
 use lua_strides::Next;
+use lua_strides::striding::{expression, front_of, only, statement};
 use std::alloc::Global;
 use std::sync::ledger::Ledger;
 use wk_base::{Left, List, NoMemory, Steps};
@@ -213,31 +212,43 @@ fn run<'m, L: Ledger>(
     }
 }
 
-/// An expression that is not read in place begins, where its step is left.
+/// An expression that is not read in place begins with its first operand, where its step is left.
 fn begin_expression<'m, L: Ledger>(
+    alloc: Global,
+    store: &mut Store,
     left: &mut Left,
     state: &mut State<'m>,
     e: &'m Expression,
     turns: &mut Steps<L>,
 ) -> Result<Option<Next<'m>>, NoMemory>
-    ensures { (s : StoreView) → StateOf s state.old → IfOk result (MayStride s state.old (Evals (expression_seen e.now) (frames_of s state.old)) left.old turns.old s state.new left.new turns.new) }
+    requires { StateOf store.old state.old }
+    ensures { IfOk result (MayStride store.old state.old (Evals (expression_seen e.now) (frames_of store.old state.old)) left.old turns.old store.new state.new left.new turns.new) }
 {
     match e {
         Expression::Operate(op, a, b, line) => {
-            begin_operator(left, state, *op, a, b, *line, turns)
+            operator(store, left, state, *op, a, b, *line, turns)
         }
-        Expression::Unary(op, a, line) => begin_unary(left, state, *op, a, *line, turns),
-        Expression::And(a, b) => begin_and(left, state, a, b, turns),
-        Expression::Or(a, b) => begin_or(left, state, a, b, turns),
+        Expression::Unary(op, a, line) => unary(store, left, state, *op, a, *line, turns),
+        Expression::And(a, b) => deciding(store, left, state, false, a, b, turns),
+        Expression::Or(a, b) => deciding(store, left, state, true, a, b, turns),
         Expression::Paren(a) => begin_paren(left, state, a, turns),
+        Expression::Index(of, key, line) => index(store, left, state, of, key, *line, turns),
         Expression::Call(a, arguments, line) => {
-            begin_call(left, state, a, arguments, *line, turns)
+            call_of(alloc, store, left, state, a, arguments, *line, turns)
         }
         Expression::Method(a, name, arguments, line) => {
             let name = name.as_slice();
-            begin_method(left, state, a, name, arguments, *line, turns)
+            method(store, left, state, a, name, arguments, *line, turns)
         }
         _ => Ok(None),
+    }
+}
+
+/// Whether an expression is looked at as a whole: texts are not joined in place, so their operands would be read in vain.
+fn is_whole(e: &Expression) -> bool {
+    match e {
+        Expression::Operate(Operator::Concatenate, _, _, _) => false,
+        _ => true,
     }
 }
 
@@ -253,10 +264,13 @@ fn evaluate<'m, L: Ledger>(
     requires { StateOf store.old state.old }
     ensures { IfOk result (MayStride store.old state.old (Evals (expression_seen e.now) (frames_of store.old state.old)) left.old turns.old store.new state.new left.new turns.new) }
 {
+    if !is_whole(e) {
+        return begin_expression(alloc, store, left, state, e, turns);
+    }
     let strode = expression(alloc, store, left, state, e, turns)?;
     match strode {
         Some(next) => Ok(Some(next)),
-        None => begin_expression(left, state, e, turns),
+        None => begin_expression(alloc, store, left, state, e, turns),
     }
 }
 

@@ -59,6 +59,10 @@ pub enum Waiting<'m> {
     Decides(bool, &'m Expression),
     /// An operator for its one operand.
     Applies(UnaryOp, u32),
+    /// An index for its object; its key is evaluated then.
+    Key(&'m Expression, u32),
+    /// An index of this object, for its key.
+    Indexes(Value, u32),
     /// One target for its value.
     Assigns(Found<'m>),
     /// An `if` for a test, with what follows its `then`, the branches behind it, and the `else`.
@@ -129,6 +133,8 @@ fn of_expression<'m>(frame: &InExpression<'m>) -> Waiting<'m>
         InExpression::First => Waiting::First,
         InExpression::DecideNext(deciding, b) => Waiting::Decides(*deciding, *b),
         InExpression::UnaryNow(op, line) => Waiting::Applies(*op, *line),
+        InExpression::KeyNext(key, line) => Waiting::Key(*key, *line),
+        InExpression::IndexNow(of, line) => Waiting::Indexes(*of, *line),
         InExpression::ArgumentsNext(list, line) => Waiting::Callee(*list, *line),
         InExpression::MethodNext(name, list, line) => Waiting::Object(*name, *list, *line),
         _ => Waiting::Other,

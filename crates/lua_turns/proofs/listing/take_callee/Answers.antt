@@ -1,31 +1,32 @@
-use Rattle.std.proofs.Common.{◌≡◌, ◌∙◌, ◌∷◌, [], refl, ap, sym, subst, List}
-use Rattle.std.proofs.lemmas.Result.{IfOk-weaker}
+use Rattle.std.proofs.Common.{[], ◌∷◌, sym, subst}
 use Rattle.page_run.specs.Outcome.{Goes}
-use Rattle.lua_code.specs.declared.expression.Expression.{Expression}
-use Rattle.lua_code.specs.Seen.{expressions_seen}
-use Rattle.lua_slots.specs.Points.{CallNow, Gives, Lists, Now}
-use Rattle.lua_store.specs.declared.value.Value.{Value}
+use Rattle.lua_slots.specs.Points.{Gives}
 use Rattle.lua_store.specs.Seen.{seen}
 use Rattle.lua_stack.specs.declared.focus.Focus.TheVariants as focus
 use Rattle.lua_stack.specs.declared.frame.Frame.TheVariants as frame
 use Rattle.lua_stack.specs.declared.frame.InExpression.TheVariants as in_expression
 use Rattle.lua_stack.specs.Of.{ValuesOf}
-use Rattle.lua_stack.specs.Seen.{values_seen}
-use Rattle.lua_state.specs.Seen.{slots_of, frames_of}
-use Rattle.lua_strides.specs.Next.{focus_of}
-use Rattle.lua_turns.proofs.Following.{follows_then}
-use Rattle.lua_turns.proofs.Freely.{swapped}
+use Rattle.lua_state.specs.Seen.{frames_of}
+use Rattle.lua_loops.proofs.Beginning.{with_parts}
+use Rattle.lua_turns.proofs.Following.{then_must}
+use Rattle.lua_turns.proofs.Listed.{callee_taken}
 use Rattle.lua_turns.proofs.listing.take_callee.Goals as goal
 
-pub returns : goal.returns
-returns c = λ s l k of known.
-    let m = c.args.state.now in
-    let x = slots_of s m in
-    let v = seen s.texts c.args.called in
+pub list-requires-clause-state : goal.list-requires-clause-state
+list-requires-clause-state g c =
     let f = frame.Expression (in_expression.ArgumentsNext c.args.arguments c.args.line) in
-    let g = frame.Expression (in_expression.CallNow c.args.called c.args.line) in
-    let y = focus.Lists c.as_slice.result c.new.result in
-    let none : ValuesOf s c.new.result = subst (ValuesOf s) (sym c.new.ensures) tt in
-    let first = swapped s m l k (Goes (v ∷ [])) f g c.requires.0 c.swap_newest.new.frames y of c.requires.1 (c.swap_newest.ensures f c.requires.0 c.requires.1) known none
-        (λ world gs. ap (λ (es : List Expression). Now (Lists (expressions_seen es) [] (CallNow v c.args.line ∷ gs)) x) (sym c.as_slice.ensures) ∙ ap (λ (vs : List Value). Now (Lists (expressions_seen c.as_slice.result.now) (values_seen s.texts vs) (CallNow v c.args.line ∷ gs)) x) (sym c.new.ensures)) in
-    follows_then s m (Gives (Goes (v ∷ [])) (frames_of s m)) l k s _ l k y s c.list.new.state l k (focus_of c.in_ok-next.next) first (c.in_ok-next.ensures s l k first.state none)
+    (callee_taken c.args.store.now c.args.state.now c.args.left.now c.args.turns.now c.args.arguments c.as_slice.result c.args.line c.args.called c.new-none.result c.requires.newest.0 c.swap_newest.new.frames c.requires.state c.requires.called c.requires.newest.1
+    (c.swap_newest.ensures f c.requires.newest.0 c.requires.newest.1) c.as_slice.ensures c.new-none.ensures).state
+
+pub list-requires-clause-before : goal.list-requires-clause-before
+list-requires-clause-before g c = subst (ValuesOf c.args.store.now) (sym c.new-none.ensures) tt
+
+pub returns : goal.returns
+returns g c =
+    let s = c.args.store.now in
+    let m = c.args.state.now in
+    let f = frame.Expression (in_expression.ArgumentsNext c.args.arguments c.args.line) in
+    then_must s m (Gives (Goes (seen s.texts c.args.called ∷ [])) (frames_of s m)) c.args.left.now c.args.turns.now s (with_parts m c.swap_newest.new.frames m.regs m.functions) c.args.left.now c.args.turns.now (focus.Lists c.as_slice.result c.new-none.result)
+    c.list.new.store c.list.new.state c.list.new.left c.list.new.turns c.list.result
+    (callee_taken s m c.args.left.now c.args.turns.now c.args.arguments c.as_slice.result c.args.line c.args.called c.new-none.result c.requires.newest.0 c.swap_newest.new.frames c.requires.state c.requires.called c.requires.newest.1
+    (c.swap_newest.ensures f c.requires.newest.0 c.requires.newest.1) c.as_slice.ensures c.new-none.ensures) c.list.ensures

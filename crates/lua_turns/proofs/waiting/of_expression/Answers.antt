@@ -21,6 +21,12 @@ returns-in-DecideNext c = λ fs h. rw c.in-DecideNext.is at h
 pub returns-in-UnaryNow : goal.returns-in-UnaryNow
 returns-in-UnaryNow c = λ fs h. rw c.in-UnaryNow.is at h
 
+pub returns-in-KeyNext : goal.returns-in-KeyNext
+returns-in-KeyNext c = λ fs h. rw c.in-KeyNext.is at h
+
+pub returns-in-IndexNow : goal.returns-in-IndexNow
+returns-in-IndexNow c = λ fs h. rw c.in-IndexNow.is at h
+
 pub returns-in-ArgumentsNext : goal.returns-in-ArgumentsNext
 returns-in-ArgumentsNext c = λ fs h. rw c.in-ArgumentsNext.is at h
 

@@ -1,6 +1,6 @@
-use Rattle.std.proofs.Common.{false, refl}
+use Rattle.std.proofs.Common.{refl}
 use Rattle.lua_code.specs.Seen.{expression_seen}
-use Rattle.lua_slots.specs.Code.{AndC}
+use Rattle.lua_slots.specs.Code.{IndexC}
 use Rattle.lua_slots.specs.Points.{Evals}
 use Rattle.lua_store.proofs.Later.{later-itself}
 use Rattle.lua_stack.specs.declared.focus.Focus.TheVariants as focus
@@ -9,13 +9,13 @@ use Rattle.lua_stack.specs.declared.frame.InExpression.TheVariants as in_express
 use Rattle.lua_state.specs.Seen.{frames_of}
 use Rattle.lua_strides.proofs.Paths.{unpaid}
 use Rattle.lua_turns.proofs.Begun.{begun}
-use Rattle.lua_turns.proofs.beginning.begin_and.Goals as goal
+use Rattle.lua_turns.proofs.beginning.begin_index.Goals as goal
 
 pub returns-then-not-pay_nodes : goal.returns-then-not-pay_nodes
 returns-then-not-pay_nodes g c = λ s of. unpaid s s c.args.state.now 1 c.args.left.now c.pay_nodes.new.left c.args.turns.now c.pay_nodes.new.turns (later-itself s) refl c.if-not-pay_nodes.ensures
 
 pub returns : goal.returns
 returns g c = λ s of.
-    let p = Evals (AndC (expression_seen c.args.a.now) (expression_seen c.args.b.now)) (frames_of s c.args.state.now) in
+    let p = Evals (IndexC (expression_seen c.args.of.now) (expression_seen c.args.key.now) c.args.line) (frames_of s c.args.state.now) in
     c.wait_for.ensures s s p 1 c.args.left.now c.pay_nodes.new.left c.args.turns.now c.pay_nodes.new.turns
-    (begun s c.args.state.now p (focus.Evaluates c.args.a) (frame.Expression (in_expression.DecideNext false c.args.b)) of tt tt (λ world. refl)) c.if-not-pay_nodes.ensures
+    (begun s c.args.state.now p (focus.Evaluates c.args.of) (frame.Expression (in_expression.KeyNext c.args.key c.args.line)) of tt tt (λ world. refl)) c.if-not-pay_nodes.ensures

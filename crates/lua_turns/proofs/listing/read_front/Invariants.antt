@@ -1,0 +1,15 @@
+use Rattle.std.proofs.Common.{length}
+use Rattle.lua_code.specs.Seen.{expressions_seen}
+use Rattle.lua_slots.specs.Points.{Lists}
+use Rattle.lua_stack.specs.declared.focus.Focus.TheVariants as focus
+use Rattle.lua_stack.specs.Seen.{values_seen}
+use Rattle.lua_state.specs.Seen.{frames_of}
+use Rattle.lua_turns.specs.Rows.{Follows}
+use Rattle.lua_turns.proofs.listing.read_front.Given as goal
+
+-- what is left of the list is next, with the values that were read
+abbrev pub invariant-items : goal.invariant-items
+invariant-items g l = Follows l.fn.store l.fn.state (Lists (expressions_seen l.fn.expressions) (values_seen l.fn.store.texts l.fn.before) (frames_of l.fn.store l.fn.state)) l.fn.left l.fn.turns l.store l.fn.state l.left l.turns (focus.Lists l.rest l.before)
+
+abbrev pub decreases-items : goal.decreases-items
+decreases-items g l = length l.rest.now
