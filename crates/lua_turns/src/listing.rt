@@ -19,7 +19,6 @@ ghost use Rattle.lua_store.specs.Seen.{StoreView, seen};
 ghost use Rattle.lua_turns.specs.Listing.{left_of};
 ghost use Rattle.lua_turns.specs.Rows.{Follows, IsNewest, MustFollow};
 
-use crate::at_hand::AT_HAND;
 use crate::waiting::swap_newest;
 use lua_code::Expression;
 use lua_stack::{Frame, InExpression, Stack, Values};
@@ -27,7 +26,7 @@ use lua_state::State;
 use lua_store::{Store, Value};
 use lua_strides::Next;
 use lua_strides::ending::pay_nodes;
-use lua_strides::reading::read;
+use lua_strides::reading::{LEVELS, read};
 use std::alloc::Global;
 use std::sync::ledger::Ledger;
 use wk_base::{Left, List, NoMemory, Steps};
@@ -66,8 +65,8 @@ fn wait_for_item<'m>(
     }
 }
 
-/// The values of the first expressions of a list, as long as they are at hand and their steps are left, go behind those before. The answer is
-/// what is left of the list, or nothing, where all of its values are there.
+/// The values of the first expressions of a list, as long as they are read in place and their steps are left, go behind those before. The answer
+/// is what is left of the list, or nothing, where all of its values are there.
 fn read_front<'m, L: Ledger>(
     store: &mut Store,
     left: &mut Left,
@@ -82,7 +81,7 @@ fn read_front<'m, L: Ledger>(
 {
     let mut rest = expressions;
     'items: while let Some(front) = front_of(rest) {
-        let known = read(store, state, front.first, AT_HAND)?;
+        let known = read(store, state, front.first, LEVELS)?;
         match known {
             Some(found) => {
                 if !pay_nodes(left, turns, found.nodes) {

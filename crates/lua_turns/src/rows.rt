@@ -244,15 +244,17 @@ fn begin_expression<'m, L: Ledger>(
     }
 }
 
-/// Whether an expression is looked at as a whole: texts are not joined in place, so their operands would be read in vain.
+/// Whether an expression is looked at as a whole first. The operands of a join would be read in vain, since texts are not joined in place, and
+/// what is called and its arguments are read one after another.
 fn is_whole(e: &Expression) -> bool {
     match e {
         Expression::Operate(Operator::Concatenate, _, _, _) => false,
+        Expression::Call(_, _, _) => false,
         _ => true,
     }
 }
 
-/// An expression: it is read in place, a call begins whose arguments are, or it begins with its first operand.
+/// An expression: it is read in place, or begins with its first operand.
 fn evaluate<'m, L: Ledger>(
     alloc: Global,
     store: &mut Store,
