@@ -1,5 +1,5 @@
 //! Arguments reach the frame that calls (manual 2.5.8).
-ghost use Rattle.std.specs.Prelude.{◌≡◌, ◌∷◌, [], IfOk};
+ghost use Rattle.std.specs.Prelude.{◌≡◌, ◌≤◌, ◌∷◌, [], true, IfOk};
 ghost use Rattle.page_run.specs.Outcome.{Goes};
 ghost use Rattle.lua_slots.specs.Points.{Gives};
 ghost use Rattle.lua_stack.specs.declared.frame.Frame.TheVariants as frame_kind;
@@ -10,7 +10,7 @@ ghost use Rattle.lua_state.specs.Of.{StateOf};
 ghost use Rattle.lua_state.specs.Seen.{frames_of};
 ghost use Rattle.lua_store.specs.Parts.{IsOf};
 ghost use Rattle.lua_store.specs.Seen.{seen};
-ghost use Rattle.lua_turns.specs.Rows.{IsNewest, MayFollow};
+ghost use Rattle.lua_turns.specs.Rows.{IsNewest, MayFollow, MustFollow};
 
 use crate::entering::{callee_of, enter};
 use crate::waiting::{Waiting, of_newest};
@@ -21,6 +21,49 @@ use lua_strides::Next;
 use std::alloc::Global;
 use std::sync::ledger::Ledger;
 use wk_base::{Left, NoMemory, Steps};
+
+/// Whether a step and a call are left.
+fn may_enter(left: &Left) -> bool
+    ensures { result ≡ true → (1 ≤ left.now.steps) × (1 ≤ left.now.calls) }
+{
+    if left.steps == 0 {
+        return false;
+    }
+    if left.calls == 0 {
+        return false;
+    }
+    true
+}
+
+/// Arguments are there: if the newest frame calls a function of Lua, and a step and a call are left, that is entered. Else they are given.
+pub fn give_all<'m, L: Ledger>(
+    alloc: Global,
+    store: &mut Store,
+    left: &mut Left,
+    state: &mut State<'m>,
+    arguments: Values,
+    turns: &mut Steps<L>,
+) -> Result<Option<Next<'m>>, NoMemory>
+    requires state { StateOf store.old state.old }
+    requires arguments { ValuesOf store.old arguments }
+    ensures { IfOk result (MustFollow store.old state.old (Gives (Goes (values_seen store.old.texts arguments)) (frames_of store.old state.old)) left.old turns.old store.new state.new left.new turns.new) }
+{
+    if !may_enter(left) {
+        return Ok(Some(Next::GivesAll(arguments)));
+    }
+    match of_newest(&state.frames) {
+        Waiting::Calls(called, line) => match callee_of(store, called) {
+            Some(callee) => {
+                let next = enter(
+                    alloc, store, left, state, called, callee, arguments, line, turns,
+                )?;
+                Ok(Some(next))
+            }
+            None => Ok(Some(Next::GivesAll(arguments))),
+        },
+        _ => Ok(Some(Next::GivesAll(arguments))),
+    }
+}
 
 /// Arguments reach the newest frame: if it calls a function of Lua, and a step and a call are left, that is entered.
 pub fn call<'m, L: Ledger>(

@@ -162,7 +162,7 @@ fn give_operand<'m, L: Ledger>(
         Waiting::Joins(a, line) => join(alloc, store, left, state, a, line, value),
         Waiting::Operates(op, a, line) => Ok(operate(store, state, op, a, line, value)),
         Waiting::Last(rest) => Ok(Some(end_list(state, rest, value))),
-        Waiting::Item(rest) => take_item(store, left, state, rest, value, turns),
+        Waiting::Item(rest) => take_item(alloc, store, left, state, rest, value, turns),
         Waiting::First => Ok(Some(give_first(state, value))),
         Waiting::Decides(deciding, b) => Ok(Some(decide(state, deciding, b, value))),
         Waiting::Applies(op, line) => Ok(apply(store, state, op, line, value)),

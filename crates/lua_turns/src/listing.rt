@@ -1,7 +1,6 @@
 //! Lists of expressions that are not read in place, as arguments of a call (manual 2.5 and 2.5.8).
-ghost use Rattle.std.specs.Prelude.{◌≡◌, ◌∷◌, [], ℕ, List as Items, IfOk, MatchOption};
+ghost use Rattle.std.specs.Prelude.{◌≡◌, ◌∷◌, [], List as Items, IfOk, MatchOption};
 ghost use Rattle.page_run.specs.Outcome.{Goes};
-ghost use Rattle.wk_base.specs.declared.left.Left.{Left as Allowance};
 ghost use Rattle.std.specs.Borrow.{Bor};
 ghost use Rattle.lua_code.specs.declared.expression.Expression.{Expression as ExpressionValue};
 ghost use Rattle.lua_code.specs.Seen.{expressions_seen};
@@ -15,10 +14,11 @@ ghost use Rattle.lua_state.specs.Of.{StateOf};
 ghost use Rattle.lua_state.specs.Seen.{frames_of};
 ghost use Rattle.lua_store.specs.declared.value.Value.{Value as Stored};
 ghost use Rattle.lua_store.specs.Parts.{IsOf};
-ghost use Rattle.lua_store.specs.Seen.{StoreView, seen};
+ghost use Rattle.lua_store.specs.Seen.{seen};
 ghost use Rattle.lua_turns.specs.Listing.{left_of};
 ghost use Rattle.lua_turns.specs.Rows.{Follows, IsNewest, MustFollow};
 
+use crate::calling::give_all;
 use crate::waiting::swap_newest;
 use lua_code::Expression;
 use lua_stack::{Frame, InExpression, Stack, Values};
@@ -47,13 +47,19 @@ fn front_of<'m>(expressions: &'m [Expression]) -> Option<Front<'m>>
     }
 }
 
-/// What is left of a list waits for its first expression, with the values before.
-fn wait_for_item<'m>(
+/// What is left of a list waits for its first expression, with the values before. Where nothing is left, all of its values are there.
+fn wait_for_item<'m, L: Ledger>(
+    alloc: Global,
+    store: &mut Store,
+    left: &mut Left,
     state: &mut State<'m>,
     expressions: &'m [Expression],
     before: Values,
+    turns: &mut Steps<L>,
 ) -> Result<Option<Next<'m>>, NoMemory>
-    ensures { (s : StoreView) (l : Allowance) (k : ℕ) → StateOf s state.old → ValuesOf s before → IfOk result (MustFollow s state.old (Lists (expressions_seen expressions.now) (values_seen s.texts before) (frames_of s state.old)) l k s state.new l k) }
+    requires state { StateOf store.old state.old }
+    requires before { ValuesOf store.old before }
+    ensures { IfOk result (MustFollow store.old state.old (Lists (expressions_seen expressions.now) (values_seen store.old.texts before) (frames_of store.old state.old)) left.old turns.old store.new state.new left.new turns.new) }
 {
     match front_of(expressions) {
         Some(front) => {
@@ -61,7 +67,7 @@ fn wait_for_item<'m>(
             state.frames.push(Frame::Expression(frame))?;
             Ok(Some(Next::Evaluates(front.first)))
         }
-        None => Ok(Some(Next::GivesAll(before))),
+        None => give_all(alloc, store, left, state, before, turns),
     }
 }
 
@@ -103,6 +109,7 @@ fn read_front<'m, L: Ledger>(
 
 /// What is left of a list goes on, with the values before.
 pub fn list<'m, L: Ledger>(
+    alloc: Global,
     store: &mut Store,
     left: &mut Left,
     state: &mut State<'m>,
@@ -117,8 +124,8 @@ pub fn list<'m, L: Ledger>(
     let mut values = before;
     let behind = read_front(store, left, state, expressions, &mut values, turns)?;
     match behind {
-        Some(rest) => wait_for_item(state, rest, values),
-        None => Ok(Some(Next::GivesAll(values))),
+        Some(rest) => wait_for_item(alloc, store, left, state, rest, values, turns),
+        None => give_all(alloc, store, left, state, values, turns),
     }
 }
 
@@ -141,7 +148,7 @@ pub fn take_callee<'m, L: Ledger>(
     let frame = Frame::Expression(InExpression::CallNow(called, line));
     swap_newest(&mut state.frames, frame);
     let none = Values::new(alloc);
-    list(store, left, state, arguments.as_slice(), none, turns)
+    list(alloc, store, left, state, arguments.as_slice(), none, turns)
 }
 
 /// The values before of the list that waits in the newest frame, which waits no more.
@@ -157,6 +164,7 @@ fn take_before<'m>(frames: &mut Stack<Frame<'m>>) -> Values
 
 /// An expression of a list has its value: the next one is evaluated, or the list has its values.
 pub fn take_item<'m, L: Ledger>(
+    alloc: Global,
     store: &mut Store,
     left: &mut Left,
     state: &mut State<'m>,
@@ -172,7 +180,7 @@ pub fn take_item<'m, L: Ledger>(
     let mut before = take_before(&mut state.frames);
     before.add(value)?;
     match front_of(rest) {
-        Some(_) => list(store, left, state, rest, before, turns),
-        None => Ok(Some(Next::GivesAll(before))),
+        Some(_) => list(alloc, store, left, state, rest, before, turns),
+        None => give_all(alloc, store, left, state, before, turns),
     }
 }

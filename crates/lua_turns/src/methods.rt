@@ -152,7 +152,15 @@ fn take_method<'m, L: Ledger>(
             before.add(object)?;
             let frame = InExpression::CallNow(method.value, line);
             swap_newest(&mut state.frames, Frame::Expression(frame));
-            list(store, left, state, arguments.as_slice(), before, turns)
+            list(
+                alloc,
+                store,
+                left,
+                state,
+                arguments.as_slice(),
+                before,
+                turns,
+            )
         }
         None => Ok(None),
     }

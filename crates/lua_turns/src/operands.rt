@@ -165,7 +165,7 @@ pub fn call_of<'m, L: Ledger>(
             let frame = InExpression::CallNow(called.value, line);
             state.frames.push(Frame::Expression(frame))?;
             let none = Values::new(alloc);
-            list(store, left, state, arguments.as_slice(), none, turns)
+            list(alloc, store, left, state, arguments.as_slice(), none, turns)
         }
         None => begin_call(left, state, a, arguments, line, turns),
     }

@@ -1,0 +1,41 @@
+use Rattle.std.proofs.Common.{Some}
+use Rattle.lua_stack.specs.declared.focus.Focus.TheVariants as focus
+use Rattle.lua_stack.specs.declared.frame.Frame.TheVariants as frame
+use Rattle.lua_stack.specs.declared.frame.InExpression.TheVariants as in_expression
+use Rattle.lua_stack.specs.declared.values.Given.TheVariants as given
+use Rattle.lua_stack.specs.Seen.{values_seen}
+use Rattle.lua_turns.proofs.Following.{follows_none}
+use Rattle.lua_turns.proofs.Freely.{newest_of}
+use Rattle.lua_turns.proofs.calling.give_all.Goals as goal
+
+pub returns-then-not-may_enter : goal.returns-then-not-may_enter
+returns-then-not-may_enter g c = follows_none c.args.store.now c.args.state.now (focus.Gives (given.Many c.args.arguments)) c.args.left.now c.args.turns.now c.requires.state c.requires.arguments
+
+pub callee_of-requires : goal.callee_of-requires
+callee_of-requires g c =
+    let newest = rw c.in-Calls.is at c.of_newest.ensures in
+    newest_of c.args.store.now c.args.state.now.frames newest.0 (frame.Expression (in_expression.CallNow c.in-Calls.called c.in-Calls.line)) newest.1 c.requires.state.frames
+
+pub enter-requires-clause-newest : goal.enter-requires-clause-newest
+enter-requires-clause-newest g c = rw c.in-Calls.is at c.of_newest.ensures
+
+pub enter-requires-clause-callee : goal.enter-requires-clause-callee
+enter-requires-clause-callee g c = rw c.in-Some.is at c.callee_of.ensures.of
+
+pub enter-requires-clause-call : goal.enter-requires-clause-call
+enter-requires-clause-call g c = λ fs s h. rw c.in-Some.is at (c.callee_of.ensures.call (values_seen c.args.store.now.texts c.args.arguments) (Some c.in-Calls.line) fs s h)
+
+pub enter-requires-clause-steps : goal.enter-requires-clause-steps
+enter-requires-clause-steps g c = (c.may_enter.ensures c.if-not-may_enter.false).0
+
+pub enter-requires-clause-calls : goal.enter-requires-clause-calls
+enter-requires-clause-calls g c = (c.may_enter.ensures c.if-not-may_enter.false).1
+
+pub returns-in_ok-next-in-Some : goal.returns-in_ok-next-in-Some
+returns-in_ok-next-in-Some g c = c.in_ok-next-in-Some.ensures
+
+pub returns-in-None : goal.returns-in-None
+returns-in-None g c = follows_none c.args.store.now c.args.state.now (focus.Gives (given.Many c.args.arguments)) c.args.left.now c.args.turns.now c.requires.state c.requires.arguments
+
+pub returns-in_default : goal.returns-in_default
+returns-in_default g c = follows_none c.args.store.now c.args.state.now (focus.Gives (given.Many c.args.arguments)) c.args.left.now c.args.turns.now c.requires.state c.requires.arguments
