@@ -47,6 +47,12 @@ fn front_of<'m>(expressions: &'m [Expression]) -> Option<Front<'m>>
     }
 }
 
+/// What is left of a list.
+#[derive(Clone, Copy)]
+struct Rest<'m> {
+    items: &'m [Expression],
+}
+
 /// What is left of a list waits for its first expression, with the values before. Where nothing is left, all of its values are there.
 fn wait_for_item<'m, L: Ledger>(
     alloc: Global,
@@ -85,26 +91,26 @@ fn read_front<'m, L: Ledger>(
     requires before { ValuesOf store.old before.old }
     ensures { IfOk result (λ r. Follows store.old state.now (Lists (expressions_seen expressions.now) (values_seen store.old.texts before.old) (frames_of store.old state.now)) left.old turns.old store.new state.now left.new turns.new (left_of r before.new)) }
 {
-    let mut rest = expressions;
-    'items: while let Some(front) = front_of(rest) {
+    let mut rest = Rest { items: expressions };
+    'items: while let Some(front) = front_of(rest.items) {
         let known = read(store, state, front.first, LEVELS)?;
         match known {
             Some(found) => {
                 if !pay_nodes(left, turns, found.nodes) {
-                    return Ok(Some(rest));
+                    return Ok(Some(rest.items));
                 }
                 before.add(found.value)?;
                 match front_of(front.rest) {
                     Some(_) => {
-                        rest = front.rest;
+                        rest = Rest { items: front.rest };
                     }
                     None => return Ok(None),
                 }
             }
-            None => return Ok(Some(rest)),
+            None => return Ok(Some(rest.items)),
         }
     }
-    Ok(Some(rest))
+    Ok(Some(rest.items))
 }
 
 /// What is left of a list goes on, with the values before.
