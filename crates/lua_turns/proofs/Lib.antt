@@ -9,4 +9,4 @@ pub mod Chosen
 pub mod Listed
 pub mod Named
 pub mod Joins
-pub mod Operands
+pub mod ReadFirst

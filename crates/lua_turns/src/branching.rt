@@ -32,6 +32,22 @@ use lua_strides::ending::pay_nodes;
 use std::sync::ledger::Ledger;
 use wk_base::{Left, List, NoMemory, Steps};
 
+/// The first of some branches, and those behind it.
+#[derive(Clone, Copy)]
+struct FirstBranch<'m> {
+    first: &'m Branch,
+    rest: &'m [Branch],
+}
+
+fn first_branch<'m>(branches: &'m [Branch]) -> Option<FirstBranch<'m>>
+    ensures { MatchOption result (branches.now ≡ []) (λ f. branches.now ≡ f.first.now ∷ f.rest.now) }
+{
+    match branches {
+        [first, rest @ ..] => Some(FirstBranch { first, rest }),
+        [] => None,
+    }
+}
+
 /// The first of some branches, a test and what follows its `then`, and those behind it.
 #[derive(Clone, Copy)]
 pub struct FrontBranch<'m> {
@@ -45,12 +61,16 @@ pub struct FrontBranch<'m> {
 pub fn front_branch<'m>(branches: &'m [Branch]) -> Option<FrontBranch<'m>>
     ensures { MatchOption result (branches_seen branches.now ≡ NoArmC) (λ f. branches_seen branches.now ≡ ArmC (expression_seen f.test.now) (block_seen f.body.now) (branches_seen f.rest.now)) }
 {
-    match branches {
-        [first, rest @ ..] => {
-            let Branch { test, body } = first;
-            Some(FrontBranch { test, body, rest })
+    match first_branch(branches) {
+        Some(front) => {
+            let Branch { test, body } = front.first;
+            Some(FrontBranch {
+                test,
+                body,
+                rest: front.rest,
+            })
         }
-        [] => None,
+        None => None,
     }
 }
 

@@ -1,5 +1,6 @@
 //! An entry of a table that is set in place (manual 2.3): where no handler is asked, the table is not read-only, and the key is not nil.
 ghost use Rattle.std.specs.Prelude.{◌≡◌, ◌||◌, ◌∷◌, [], ℕ, true, not, List as Items, Option as MayBe, IfOk, OnOk};
+ghost use Rattle.wk_base.specs.declared.left.Left.{Left as Allowance};
 ghost use Rattle.lua_code.specs.Seen.{place_seen};
 ghost use Rattle.lua_heap.specs.Heap.{set_in, table_at};
 ghost use Rattle.lua_heap.specs.Table.{has};

@@ -96,7 +96,7 @@ fn wait_for_one<'m>(
     frames: &mut Stack<Frame<'m>>,
     none: &'m [Expression],
 ) -> Result<(), NoMemory>
-    ensures { OnOk result (frames.new ≡ frame_kind.Expression (in_expression.MoreNext none []) ∷ frames.old) }
+    ensures { OnOk result (frames.new ≡ frame_kind.Expression (in_expression.MoreNext none.entry []) ∷ frames.old) }
 {
     let values = Values::new(alloc);
     frames.push(Frame::Expression(InExpression::MoreNext(none, values)))

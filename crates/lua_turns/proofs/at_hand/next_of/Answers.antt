@@ -5,7 +5,7 @@ use Rattle.lua_stack.specs.declared.values.Given.TheVariants as given
 use Rattle.lua_state.specs.Seen.{frames_of}
 use Rattle.lua_strides.proofs.Paths.{idle, unpaid}
 use Rattle.lua_turns.proofs.Following.{strides_follow}
-use Rattle.lua_turns.proofs.Operands.{value_given, not_read}
+use Rattle.lua_turns.proofs.ReadFirst.{value_given, not_read}
 use Rattle.lua_turns.proofs.at_hand.next_of.Goals as goal
 
 pub returns-then-not-pay_nodes : goal.returns-then-not-pay_nodes

@@ -1,3 +1,4 @@
+use Rattle.std.proofs.Common.{refl}
 use Rattle.lua_code.specs.Seen.{expression_seen}
 use Rattle.lua_slots.specs.Points.{Evals}
 use Rattle.lua_store.proofs.Later.{later-itself}

@@ -14,5 +14,5 @@ join_texts-requires-clause-first c = text_is _ c.in-Some.a _ _ c.in_ok-text_in.e
 pub join_texts-requires-clause-second : goal.join_texts-requires-clause-second
 join_texts-requires-clause-second c = text_is _ c.in-Some-2.b _ _ c.in_ok-text_in-in-Some.ensures c.in-Some-2.is c.as_slice-in-Some-2.ensures
 
-pub returns-in-Some-2 : goal.returns-in-Some-2
-returns-in-Some-2 c = c.join_texts.ensures
+pub returns : goal.returns
+returns c = c.join_texts.ensures

@@ -18,8 +18,8 @@ use Rattle.lua_turns.proofs.joining.join_texts.Goals as goal
 pub returns-then-left-cost : goal.returns-then-left-cost
 returns-then-left-cost c = λ k. idle_here c.args.store.now c.args.state.now c.args.left.now k
 
-pub returns-in_ok-text : goal.returns-in_ok-text
-returns-in_ok-text c = λ k.
+pub returns : goal.returns
+returns c = λ k.
     let s = c.args.store.now in
     let u = c.text.new.self in
     let m = c.args.state.now in

@@ -1,5 +1,5 @@
 use Rattle.std.proofs.Common.{◌≡◌, ◌∷◌, List}
 use Rattle.lua_turns.proofs.listing.take_before.Goals as goal
 
-pub returns-in-Some-Expression-MoreNext : goal.returns-in-Some-Expression-MoreNext
-returns-in-Some-Expression-MoreNext c = λ rest before more h. let e = rw c.in-Some-Expression-MoreNext.is at c.pop.ensures in (cc, cc)
+pub returns : goal.returns
+returns c = λ rest before more h. let e = rw c.in-Some-Expression-MoreNext.is at c.pop.ensures in (cc, cc)

@@ -1,4 +1,4 @@
-use Rattle.std.proofs.Common.{sym, subst}
+use Rattle.std.proofs.Common.{◌+◌, sym, subst}
 use Rattle.lua_code.specs.Seen.{expression_seen, expressions_seen}
 use Rattle.lua_slots.specs.Code.{CallC}
 use Rattle.lua_slots.specs.Points.{Evals}
@@ -10,7 +10,7 @@ use Rattle.lua_state.specs.Seen.{frames_of}
 use Rattle.lua_state.proofs.Staying.{state_later}
 use Rattle.lua_strides.proofs.Paths.{with_frames, idle, unpaid}
 use Rattle.lua_turns.proofs.Following.{strides_must, idle_begins}
-use Rattle.lua_turns.proofs.Operands.{call_first, waits_of}
+use Rattle.lua_turns.proofs.ReadFirst.{call_first, waits_of}
 use Rattle.lua_turns.proofs.operands.call_of.Goals as goal
 
 pub returns-then-not-pay_nodes : goal.returns-then-not-pay_nodes

@@ -1,4 +1,4 @@
-use Rattle.std.proofs.Common.{◌≡◌, ◌∙◌, ◌∷◌, [], Bool, true, false, refl, sym, arith}
+use Rattle.std.proofs.Common.{◌+◌, ◌≡◌, ◌∙◌, ◌∷◌, [], Bool, true, false, refl, sym, arith}
 use Rattle.page_run.specs.Outcome.{Goes}
 use Rattle.lua_heap.specs.Value.{is_true}
 use Rattle.lua_code.specs.Seen.{expression_seen}
@@ -14,7 +14,7 @@ use Rattle.lua_turns.specs.Deciding.{deciding_with}
 use Rattle.lua_turns.proofs.Begun.{decides_begins}
 use Rattle.lua_turns.proofs.Chosen.{decided}
 use Rattle.lua_turns.proofs.Following.{idle_begins}
-use Rattle.lua_turns.proofs.Operands.{strode_first, unpaid_first}
+use Rattle.lua_turns.proofs.ReadFirst.{strode_first, unpaid_first}
 use Rattle.lua_turns.proofs.operands.deciding.Goals as goal
 
 pub second-requires-clause-state : goal.second-requires-clause-state

@@ -1,4 +1,4 @@
-use Rattle.std.proofs.Common.{◌∷◌, refl}
+use Rattle.std.proofs.Common.{◌+◌, ◌∷◌, refl}
 use Rattle.lua_code.specs.Seen.{expression_seen}
 use Rattle.lua_slots.specs.Code.{IndexC}
 use Rattle.lua_slots.specs.Points.{Evals, KeyNext, IndexNow}
@@ -10,7 +10,7 @@ use Rattle.lua_state.specs.Seen.{frames_of}
 use Rattle.lua_state.proofs.Staying.{state_later}
 use Rattle.lua_strides.proofs.Paths.{with_frames, frames_kept, idle, unpaid}
 use Rattle.lua_turns.proofs.Following.{strides_must, idle_begins}
-use Rattle.lua_turns.proofs.Operands.{strode_first, waits_of}
+use Rattle.lua_turns.proofs.ReadFirst.{strode_first, waits_of}
 use Rattle.lua_turns.proofs.operands.index.Goals as goal
 
 pub returns-then-not-pay_nodes : goal.returns-then-not-pay_nodes

@@ -1,4 +1,4 @@
-use Rattle.std.proofs.Common.{refl}
+use Rattle.std.proofs.Common.{◌+◌, refl}
 use Rattle.lua_code.specs.Seen.{expression_seen, expressions_seen}
 use Rattle.lua_slots.specs.Code.{MethodC}
 use Rattle.lua_slots.specs.Points.{Evals, MethodNext}
@@ -8,7 +8,7 @@ use Rattle.lua_state.specs.Seen.{frames_of}
 use Rattle.lua_state.proofs.Staying.{state_later}
 use Rattle.lua_strides.proofs.Paths.{idle, unpaid}
 use Rattle.lua_turns.proofs.Following.{idle_begins}
-use Rattle.lua_turns.proofs.Operands.{given_first}
+use Rattle.lua_turns.proofs.ReadFirst.{given_first}
 use Rattle.lua_turns.proofs.operands.method.Goals as goal
 
 pub returns-then-not-pay_nodes : goal.returns-then-not-pay_nodes

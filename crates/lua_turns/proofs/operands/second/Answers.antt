@@ -1,4 +1,4 @@
-use Rattle.std.proofs.Common.{◌∷◌, refl}
+use Rattle.std.proofs.Common.{◌+◌, ◌∷◌, refl}
 use Rattle.lua_code.specs.Seen.{expression_seen}
 use Rattle.lua_slots.specs.Points.{First, Evals}
 use Rattle.lua_stack.specs.declared.focus.Focus.TheVariants as focus
@@ -6,7 +6,7 @@ use Rattle.lua_stack.specs.declared.frame.Frame.TheVariants as frame
 use Rattle.lua_stack.specs.declared.frame.InExpression.TheVariants as in_expression
 use Rattle.lua_stack.specs.declared.values.Given.TheVariants as given
 use Rattle.lua_strides.proofs.Paths.{frames_kept, ready, strode, unpaid}
-use Rattle.lua_turns.proofs.Operands.{second_read}
+use Rattle.lua_turns.proofs.ReadFirst.{second_read}
 use Rattle.lua_turns.proofs.operands.second.Goals as goal
 
 pub returns-then-not-pay_nodes : goal.returns-then-not-pay_nodes

@@ -1,4 +1,4 @@
-use Rattle.std.proofs.Common.{refl, [], ◌∷◌}
+use Rattle.std.proofs.Common.{◌+◌, refl, [], ◌∷◌}
 use Rattle.page_run.specs.Outcome.{Goes}
 use Rattle.lua_code.specs.Seen.{expression_seen}
 use Rattle.lua_slots.specs.Code.{UnaryC}
@@ -10,7 +10,7 @@ use Rattle.lua_state.specs.Seen.{frames_of}
 use Rattle.lua_state.proofs.Staying.{state_later}
 use Rattle.lua_strides.proofs.Paths.{frames_kept, idle, unpaid}
 use Rattle.lua_turns.proofs.Following.{idle_begins}
-use Rattle.lua_turns.proofs.Operands.{applied_at, strode_first}
+use Rattle.lua_turns.proofs.ReadFirst.{applied_at, strode_first}
 use Rattle.lua_turns.proofs.operands.unary.Goals as goal
 
 pub result_of-requires : goal.result_of-requires

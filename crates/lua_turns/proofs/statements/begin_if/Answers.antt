@@ -1,3 +1,4 @@
+use Rattle.std.proofs.Common.{refl}
 use Rattle.std.specs.Prelude.{option_map}
 use Rattle.lua_code.specs.Seen.{block_seen, branches_seen, expression_seen}
 use Rattle.lua_slots.specs.Code.{ArmC, ThenC}
