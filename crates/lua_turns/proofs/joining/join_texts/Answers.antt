@@ -26,7 +26,7 @@ returns c = λ k.
     let x = slots_of s m in
     let f = frame.Expression (in_expression.OperateNow operator.Concatenate c.args.first c.args.line) in
     let both = c.args.a.now ++ c.args.b.now in
-    let made : seen u.texts (value.Text c.in_ok-text.text) ≡ Text both = ap Text (c.in_ok-text.ensures.there ∙ c.as_slice.ensures ∙ c.in_ok-bytes.ensures) in
+    let made : seen u.texts (value.Text c.in_ok-text.text) ≡ Text both = ap Text (c.in_ok-text.ensures.there ∙ c.as_slice.ensures.value ∙ c.in_ok-bytes.ensures) in
     popped_at_cost s u m (length c.args.a.now + length c.args.b.now) c.args.left.now _ k (seen s.texts c.args.second) f c.requires.newest.0 c.drop_newest.new.frames (focus.Gives (given.One (value.Text c.in_ok-text.text))) c.requires.state c.in_ok-text.ensures.later (ap (λ (z : StoreView). z.heap) c.in_ok-text.ensures.added) c.requires.newest.1
     (c.drop_newest.ensures f c.requires.newest.0 c.requires.newest.1) (c.in_ok-text.ensures.of, tt) (omega (arith, c.if-left-cost.false)) refl
     (λ world gs. joins (seen s.texts c.args.first) (seen s.texts c.args.second) c.args.a.now c.args.b.now (Some c.args.line) gs x c.requires.first c.requires.second
