@@ -85,9 +85,9 @@ renders("html_after_an_error", "What was set before a wrong entry stays; of wron
 
 # ---- an object may stand below 200 others
 CHAIN = MAKE + "local r=H('b')\nlocal x=r\nfor i=1,%d do x=x:tag('b') end\n"
-body("html_down_to_the_last", "200 objects above one.", CHAIN % 200 + "return #tostring(r)", str(201 * 7), profile=True, levels=False)
-body("html_too_deep", "One more, for an answer; its error has no place.", CHAIN % 201 + "return r", fails="Lua error: html tree nested too deeply", profile=True, levels=False)
-body("html_too_deep_by_tostring", "And for `tostring`.", CHAIN % 201 + "return tostring(r)", fails="Lua error: Module:X:6: html tree nested too deeply", profile=True, levels=False)
+body("html_down_to_the_last", "200 objects above one.", CHAIN % 200 + "return #tostring(r)", str(201 * 7), profile=True, levels=False, every=True)
+body("html_too_deep", "One more, for an answer; its error has no place.", CHAIN % 201 + "return r", fails="Lua error: html tree nested too deeply", profile=True, levels=False, every=True)
+body("html_too_deep_by_tostring", "And for `tostring`.", CHAIN % 201 + "return tostring(r)", fails="Lua error: Module:X:6: html tree nested too deeply", profile=True, levels=False, every=True)
 body("html_in_itself", "An object in itself is too deep.", MAKE + "local x=H('b')\nx:node(x):wikitext('t')\nreturn x", fails="Lua error: html tree nested too deeply", profile=True)
 
 

@@ -21,7 +21,7 @@ CRATE = pathlib.Path(__file__).resolve().parent.parent / "crates" / "lua_machine
 CALLS = 20000
 AMPLE = 10_000_000
 # a case by hand that takes no more steps is run with each number of them
-FEW = 1500
+FEW = 2500
 
 HARNESS = """
 local name = ...
