@@ -15,7 +15,7 @@ const LATELY: usize = 256;
 
 /// Byte strings, all different, in the order in which they were made. Their bytes stand in the arena.
 ///
-/// A text that is asked for again and again, as the constants and names of a module are, is hashed once: later its bytes are compared with
+/// A text that is asked for again and again, as the constants and names of a module are, is seldom hashed: its bytes are compared with
 /// those of the text that was last asked for among those of the same slot.
 #[derive(Drop)]
 pub struct Texts<'b> {
