@@ -1,7 +1,7 @@
 #!/usr/bin/env python3
-"""The table of cases of `lua_machine_cases`: its `stdin`, and the `stdout` that it is to print.
+"""The table of cases of `lua_machine_cases`: its `stdin`, and the `stdout` that it is to print; and the table of `tests/long_runs`.
 
-    machine_rows.py            writes both files, next to this checkout's crates
+    machine_rows.py            writes these files, in this checkout's crates and tests
     machine_rows.py --check    compares the ends of the cases with `machine_reference.py`, and with `lua5.1` where it is to be the same
 
 The cases are the worked examples of `lua_chunks.py`, with the ends and steps that are said there, and those of `machine_cases.py`,
@@ -17,11 +17,16 @@ from lua_chunks import FILES
 from machine_library import plain_scene
 from machine_reference import World, in_thread, run_of, shown
 
-CRATE = pathlib.Path(__file__).resolve().parent.parent / "crates" / "lua_machine_cases"
+TOP = pathlib.Path(__file__).resolve().parent.parent
+CRATE = TOP / "crates" / "lua_machine_cases"
+LONG_RUNS = TOP / "tests" / "long_runs.table"
 CALLS = 20000
 AMPLE = 10_000_000
-# a case by hand that takes no more steps is run with each number of them
+# a case by hand that takes no more steps is run with each number of them in the gate, where a program has two minutes
 FEW = 2500
+# one that takes more, but no more than so many, is run so by `tests/long_runs`; and one that takes still more there with the last few
+# numbers below what it takes, and with some others at even distances
+MANY, LAST, OTHERS = 50_000, 10, 30
 
 HARNESS = """
 local name = ...
@@ -198,13 +203,18 @@ def by_reference(case, word, steps, calls, replies):
     return f"{case.name}: {end.words()}" + (f", {end.left} left" if word == "exact" else f", {end.taken} taken" if word == "took" else "")
 
 
-def all_cases():
+def hands():
+    """The cases that were worked out by hand."""
     from machine_text_cases import CASES
     import machine_html_cases  # noqa: F401 (adds its cases)
     import machine_gsub_cases  # noqa: F401 (adds its cases)
     import machine_argument_cases  # noqa: F401 (adds its cases)
+    return CASES
+
+
+def all_cases():
     examples = [of_example(example) for _, _, examples in FILES for example in examples]
-    return [with_every(case, "all", AMPLE) for case in examples] + [with_every(of_hand(hand), "every", AMPLE if hand["every"] else FEW) for hand in CASES]
+    return [with_every(case, "all", AMPLE) for case in examples] + [with_every(of_hand(hand), "every", AMPLE if hand["every"] else FEW) for hand in hands()]
 
 
 def of_hand(hand):
@@ -234,15 +244,53 @@ def with_every(case, word, most):
     return case
 
 
+def numbers_below(need):
+    """The last few numbers of steps below what is needed, and some others behind the 1,000 that a start takes at once."""
+    last = need - LAST
+    return sorted({1000 + (last - 1000) * at // OTHERS for at in range(OTHERS)} | set(range(last, need)))
+
+
+def long_case(hand):
+    """The case with its runs by many numbers of steps, for each row of replies with which it takes more than `FEW` of them."""
+    case, runs, seen = of_hand(hand), [], []
+    for _, _, calls, replies, said in case.runs:
+        told = [told for told, _ in replies]
+        if told in seen or "spends steps" in said:
+            continue
+        seen.append(told)
+        replies = [(told, left if left.startswith("-") else "-1") for told, left in replies]
+        end = case.reference(AMPLE, calls, replies)
+        if FEW < end.taken <= MANY:
+            runs.append(("every", AMPLE, calls, replies, f"{case.name}: every: from {end.taken} on"))
+        elif end.taken > MANY:
+            runs += [("exact", steps, calls, replies, f"{case.name}: spends steps, 0 left") for steps in numbers_below(end.taken)]
+            runs.append(("exact", end.taken, calls, replies, f"{case.name}: {end.words()}, 0 left"))
+    case.runs = runs
+    return case
+
+
+def long_cases():
+    """The cases by hand that take more than `FEW` steps, but for those that the gate runs with each number of them all the same."""
+    return [case for hand in hands() if not hand["every"] for case in [long_case(hand)] if case.runs]
+
+
+def tables():
+    """Both tables, each with its file, and what is said of it there, and what its runs are to print."""
+    yield all_cases(), CRATE / "stdin", CRATE / "stdout"
+    yield long_cases(), LONG_RUNS, LONG_RUNS.with_suffix(".printed")
+
+
 def write():
-    cases = all_cases()
-    lines, printed = ["# Written by bench/machine_rows.py."], []
-    for case in cases:
-        lines += ["", "# " + case.said.replace("\n", " ")] + case.lines()
-        printed += [said for *_, said in case.runs]
-    (CRATE / "stdin").write_text("\n".join(lines) + "\n")
-    (CRATE / "stdout").write_text("\n".join(printed) + "\n")
-    return len(cases), len(printed)
+    counts = []
+    for cases, table, answers in tables():
+        lines, printed = ["# Written by bench/machine_rows.py."], []
+        for case in cases:
+            lines += ["", "# " + case.said.replace("\n", " ")] + case.lines()
+            printed += [said for *_, said in case.runs]
+        table.write_text("\n".join(lines) + "\n")
+        answers.write_text("\n".join(printed) + "\n")
+        counts.append((len(cases), len(printed)))
+    return counts
 
 
 # ---- other judges
@@ -281,7 +329,8 @@ def check_examples():
 def main():
     if "--check" in sys.argv:
         return int(check() > 0)
-    print("%d cases, %d lines" % write())
+    for count in write():
+        print("%d cases, %d lines" % count)
     return 0
 
 
