@@ -229,18 +229,24 @@ def of_hand(hand):
     return case
 
 
-def with_every(case, word, most):
-    """The case with a line for each row of replies: runs with each number of steps, from 0 (`all`) or from 1,000 on (`every`), where it comes
-    to an end within so many. An answer that leaves a number of steps takes one step there."""
+def different_replies(case):
+    """For each row of replies with which a case is not spent: the calls, the replies, and how it ends with ample steps. An answer that leaves
+    a number of steps takes one step there."""
     seen = []
     for _, _, calls, replies, said in list(case.runs):
         told = [told for told, _ in replies]
         if told not in seen and "spends steps" not in said:
             seen.append(told)
             replies = [(told, left if left.startswith("-") else "-1") for told, left in replies]
-            taken = case.reference(AMPLE, calls, replies).taken
-            if taken <= most:
-                case.runs.append((word, AMPLE, calls, replies, f"{case.name}: {word}: from {taken} on"))
+            yield calls, replies, case.reference(AMPLE, calls, replies)
+
+
+def with_every(case, word, most):
+    """The case with a line for each row of replies: runs with each number of steps, from 0 (`all`) or from 1,000 on (`every`), where it comes
+    to an end within so many."""
+    for calls, replies, end in different_replies(case):
+        if end.taken <= most:
+            case.runs.append((word, AMPLE, calls, replies, f"{case.name}: {word}: from {end.taken} on"))
     return case
 
 
@@ -252,14 +258,8 @@ def numbers_below(need):
 
 def long_case(hand):
     """The case with its runs by many numbers of steps, for each row of replies with which it takes more than `FEW` of them."""
-    case, runs, seen = of_hand(hand), [], []
-    for _, _, calls, replies, said in case.runs:
-        told = [told for told, _ in replies]
-        if told in seen or "spends steps" in said:
-            continue
-        seen.append(told)
-        replies = [(told, left if left.startswith("-") else "-1") for told, left in replies]
-        end = case.reference(AMPLE, calls, replies)
+    case, runs = of_hand(hand), []
+    for calls, replies, end in different_replies(case):
         if FEW < end.taken <= MANY:
             runs.append(("every", AMPLE, calls, replies, f"{case.name}: every: from {end.taken} on"))
         elif end.taken > MANY:
