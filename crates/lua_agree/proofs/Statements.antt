@@ -20,7 +20,8 @@ use Rattle.lua_slots.specs.Code.{CStat, AssignC, CallStatC, DoC, WhileC, RepeatC
 use Rattle.lua_slots.specs.Sight.{Sight, newest, with_local, with_locals, AreAsMany}
 use Rattle.lua_slots.specs.IsCode.{any_sight, IsExp, IsExps, IsFun, IsTarget, IsTargets, IsArms, IsStat, IsBlock, IsClosure}
 use Rattle.lua_slots.specs.Slots.{Activation, Slots, newest_function, opened, all_opened}
-use Rattle.lua_slots.specs.Points.{STarget, PlaceS, SFrame, TargetKey, TargetNow, AssignNow, SetsNext, DeclareNow, StatsNext, BranchNext, BlockEnd, BodyEnd, ReturnNow, Runs}
+use Rattle.lua_slots.specs.Points.{STarget, PlaceS, GlobalS, SFrame, TargetKey, TargetNow, AssignNow, SetsNext, DeclareNow, StatsNext, BranchNext, BlockEnd, BodyEnd, ReturnNow, Finds, Runs, Now}
+use Rattle.lua_slots.specs.Calls.{constants_of}
 use Rattle.lua_slots.specs.Statements as machine
 use Rattle.lua_slots.specs.Moves as moves
 use Rattle.lua_agree.specs.Variables.{Var, Opens, as_many, one_more, SameVar, at_reg, at_box, at_up, HeldFunction, Inside}
@@ -57,17 +58,18 @@ module _ (world : World) (code : CWorld) (B : Base) {m : Map} {vars : List Var} 
     local-target x ls _ _ (at_up j c q e f) = places c _ (at_up j c q e f)
 
     pub finds-on : (left : Exps) (ts : List CTarget) {found : List Target} {sfound : List STarget} (right : Exps) (cs : CExps) → IsTargets (here code s.functions) see left ts → Each (SameTarget m vars s.functions) found sfound
-        → IsExps (here code s.functions) see right cs → Follows world code B (meaning.targets (targets_of left) scope found (all_targets right scope k)) h (machine.finds ts sfound cs fs s)
+        → IsExps (here code s.functions) see right cs → Follows world code B (meaning.targets (targets_of left) scope found (all_targets right scope k)) h (machine.finds (constants_of code s) ts sfound cs fs s)
     finds-on NoExp [] {found} {sfound} right cs a b c = here-now world code B r (lists right cs [] [] see scope _ _ c i none (at_assign vars s.functions found sfound scope k fs b g))
     finds-on (MoreExp e es) (t ∷ ts) {found} {sfound} right cs a b c = one e t a.0
       where
-        one : (e : Exp) (t : CTarget) → IsTarget (here code s.functions) see e t → Follows world code B (meaning.targets (targets_of (MoreExp e es)) scope found (all_targets right scope k)) h (machine.finds (t ∷ ts) sfound cs fs s)
+        one : (e : Exp) (t : CTarget) → IsTarget (here code s.functions) see e t → Follows world code B (meaning.targets (targets_of (MoreExp e es)) scope found (all_targets right scope k)) h (machine.finds (constants_of code s) (t ∷ ts) sfound cs fs s)
         one (NameE line x) (PlaceC p) u =
             here-now world code B r (finds es ts _ _ right cs see scope k fs a.1 (each-join b (more _ _ _ _ (local-target x (levels scope line) p (cell_of scope.names x) (i.locals x p u)) none)) c i g)
         one (NameE line x) (GlobalTargetC y l) u =
-            rw (u.1, u.2)
-            (subst (λ o. Follows world code B (more_targets es found right scope k (Goes (name_target o x (levels scope line)))) h (machine.finds (GlobalTargetC x line ∷ ts) sfound cs fs s)) (sym (i.globals x u.0))
-            (here-now world code B r (finds es ts _ _ right cs see scope k fs a.1 (each-join b (more _ _ _ _ (globals_ x (levels scope line) line (i.levels line)) none)) c i g)))
+            rw u.2
+            (subst (λ y. Follows world code B (meaning.targets (targets_of (MoreExp (NameE line x) es)) scope found (all_targets right scope k)) h (Now (Finds ts (sfound ++ GlobalS y line ∷ []) cs fs) s)) (sym u.1)
+            (subst (λ o. Follows world code B (more_targets es found right scope k (Goes (name_target o x (levels scope line)))) h (Now (Finds ts (sfound ++ GlobalS x line ∷ []) cs fs) s)) (sym (i.globals x u.0))
+            (here-now world code B r (finds es ts _ _ right cs see scope k fs a.1 (each-join b (more _ _ _ _ (globals_ x (levels scope line) line (i.levels line)) none)) c i g))))
         one (IndexE line of key) (EntryC d f l) u =
             rw u.0
             (takes _ _ _ _ (counts _ _ _ (here-now world code B r (evaluates of d see scope _ _ u.1 i (at_target_key vars s.functions key f line es ts found sfound right cs see scope k fs u.2 a.1 b c i g)))))

@@ -45,13 +45,13 @@ module _ (code : CWorld) where
     pub see : Sight
     pub names : List Bytes
     pub proto : CProto
-    pub found : code_of (code.modules b.title) b.index ≡ Some proto
+    pub found : (code_of (code.modules b.title)).function b.index ≡ Some proto
     pub code_ : IsFun (code_of (code.modules b.title)) (inside names see) a.node proto
     pub cells : (x : Bytes) (i : ℕ) → up_of names x ≡ Some i → SameVar m [] b.cells (Up i) (cell_of a.names x)
     pub globals : (x : Bytes) → see x ≡ Everywhere → up_of names x ≡ None → cell_of a.names x ≡ None
     pub has_cells : HasCells m b.cells
 
-  -- the functions of the running module
+  -- the functions and constants of the running module
   abbrev pub here : List Activation → Protos
   here fns = code_of (code.modules (newest_function fns).source)
 

@@ -10,7 +10,7 @@ use Rattle.lua_meaning.specs.Values.{first, second, third, number_in, text_in}
 use Rattle.lua_meaning.specs.Acts.{Jump, Broke}
 use Rattle.lua_meaning.specs.Loops.{is_within}
 use Rattle.lua_meaning.specs.Libraries.{form}
-use Rattle.lua_slots.specs.Code.{CExp, ConstantC, DotsC, FunctionC, LocalC, GlobalC, IndexC, CallC, MethodC, TableC, AndC, OrC, OperateC, UnaryC, ParenC}
+use Rattle.lua_slots.specs.Code.{Constants, CExp, ConstantC, TextC, DotsC, FunctionC, LocalC, GlobalC, IndexC, CallC, MethodC, TableC, AndC, OrC, OperateC, UnaryC, ParenC}
 use Rattle.lua_slots.specs.Code.{CExps, NoC, MoreC, CFields, NoFieldC, ItemC, PairC, PlaceC, GlobalTargetC, EntryC, RefusedC}
 use Rattle.lua_slots.specs.Code.{CStat, AssignC, CallStatC, DoC, WhileC, RepeatC, IfC, IfElseC, CountC, CountByC, EachC, ReturnC, BreakC, CBlock, EndC, DeclareC, LocalFunctionC, ThenC, CArms, NoArmC, ArmC, CProto, CWorld}
 use Rattle.lua_slots.specs.Sight.{newest}
@@ -161,21 +161,22 @@ passes (Hears asked line) j fs s = hears asked (Jumps j) line fs s
 passes f j fs s = calm (still (refl, tt))
 
 -- POINTS
-evals : (e : CExp) (fs : List SFrame) (s : Slots) → IsCalm s.data_ (expressions.evals e fs s)
-evals (ConstantC v) fs s = still (refl, tt)
-evals DotsC fs s = still (refl, tt)
-evals (FunctionC i ps) fs s = still (refl, tt)
-evals (LocalC p) fs s = still (refl, tt)
-evals (GlobalC x line) fs s = still (index_table s.globals (Text x) (Some line) (First ∷ fs) s).stays
-evals (IndexC of key line) fs s = still (refl, tt)
-evals (CallC f args line) fs s = still (refl, tt)
-evals (MethodC of x args line) fs s = still (refl, tt)
-evals (TableC cs line) fs s = still (fields (new_table s.heap).1 1 cs line fs (expressions.with_table s)).stays
-evals (AndC a b) fs s = still (refl, tt)
-evals (OrC a b) fs s = still (refl, tt)
-evals (OperateC o a b line) fs s = still (refl, tt)
-evals (UnaryC o a line) fs s = still (refl, tt)
-evals (ParenC a) fs s = still (refl, tt)
+evals : (constants : Constants) (e : CExp) (fs : List SFrame) (s : Slots) → IsCalm s.data_ (expressions.evals constants e fs s)
+evals constants (ConstantC v) fs s = still (refl, tt)
+evals constants (TextC n) fs s = still (refl, tt)
+evals constants DotsC fs s = still (refl, tt)
+evals constants (FunctionC i ps) fs s = still (refl, tt)
+evals constants (LocalC p) fs s = still (refl, tt)
+evals constants (GlobalC x line) fs s = still (index_table s.globals (Text (constants x)) (Some line) (First ∷ fs) s).stays
+evals constants (IndexC of key line) fs s = still (refl, tt)
+evals constants (CallC f args line) fs s = still (refl, tt)
+evals constants (MethodC of x args line) fs s = still (refl, tt)
+evals constants (TableC cs line) fs s = still (fields (new_table s.heap).1 1 cs line fs (expressions.with_table s)).stays
+evals constants (AndC a b) fs s = still (refl, tt)
+evals constants (OrC a b) fs s = still (refl, tt)
+evals constants (OperateC o a b line) fs s = still (refl, tt)
+evals constants (UnaryC o a line) fs s = still (refl, tt)
+evals constants (ParenC a) fs s = still (refl, tt)
 
 executes : (c : CStat) (fs : List SFrame) (s : Slots) → IsCalm s.data_ (statements.executes c fs s)
 executes (AssignC ts es) fs s = still (refl, tt)
@@ -200,7 +201,7 @@ begins world (WhileTurnS e b) fs s = calm (still (refl, tt))
 begins world (RepeatTurnS b e) fs s = calm (still (refl, tt))
 begins world (CountTurnS boxed i l st b) fs s = calm (still (refl, tt))
 begins world (EachTurnS flags f st vs b line) fs s = calm (still (refl, tt))
-begins world (BodyS f args line) fs s = calm (still (body_of (calls.code_of (world.modules f.title) f.index) f args line fs s).stays)
+begins world (BodyS f args line) fs s = calm (still (body_of ((calls.code_of (world.modules f.title)).function f.index) f args line fs s).stays)
 begins world (LibraryS which args line) fs s = good (does world (form (libraries.page_alone world) which args s.heap s.frames) args line (LibraryEnd ∷ fs) s (needs_no_data s.heap s.frames (libraries.page_alone world) which args)).leads
 begins world (IndexLinkS o h k line) fs s = calm (still (index_link o h k line fs s).stays)
 begins world (SetLinkS o h k v line) fs s = calm (still (set_link o h k v line fs s).stays)
@@ -211,7 +212,7 @@ moves_good world (Gives (Goes vs) []) s a = calm (still (refl, tt))
 moves_good world (Gives (Jumps j) []) s a = calm (still (refl, tt))
 moves_good world (Gives (Goes vs) (f ∷ fs)) s a = goes world f vs fs s
 moves_good world (Gives (Jumps j) (f ∷ fs)) s a = passes f j fs s
-moves_good world (Evals e fs) s a = calm (evals e fs s)
+moves_good world (Evals e fs) s a = calm (evals (calls.constants_of world s) e fs s)
 moves_good world (Lists NoC before fs) s a = calm (still (refl, tt))
 moves_good world (Lists (MoreC e es) before fs) s a = calm (still (refl, tt))
 moves_good world (Finds [] before es fs) s a = calm (still (refl, tt))

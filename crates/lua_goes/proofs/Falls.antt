@@ -8,13 +8,14 @@ use Rattle.lua_heap.specs.Value.{Value, Number, Text, Table, is_true, is_nil}
 use Rattle.lua_meaning.specs.Values.{first, rest, second, third, number_in, text_in}
 use Rattle.lua_meaning.specs.Acts.{Jump, Returned, Broke, Raised}
 use Rattle.lua_meaning.specs.Loops.{is_within}
-use Rattle.lua_slots.specs.Code.{CExp, DotsC, CExps, NoC, MoreC, CFields, NoFieldC, ItemC, PairC, PlaceC, GlobalTargetC, EntryC, RefusedC}
+use Rattle.lua_slots.specs.Code.{Constants, CExp, DotsC, CExps, NoC, MoreC, CFields, NoFieldC, ItemC, PairC, PlaceC, GlobalTargetC, EntryC, RefusedC}
 use Rattle.lua_slots.specs.Code.{CStat, BreakC, CBlock, EndC, DeclareC, LocalFunctionC, ThenC, CArms, NoArmC, ArmC, CWorld}
 use Rattle.lua_slots.specs.Slots.{Slots, cut}
 use Rattle.lua_slots.specs.Points.{STarget, PlaceS, GlobalS, EntryS, WhileTurnS, RepeatTurnS, CountTurnS, EachTurnS}
 use Rattle.lua_slots.specs.Points.{SFrame, First, Verdict, KeyNext, IndexNow, DecideNext, OperandNext, OperateNow, UnaryNow, ArgumentsNext, CallNow, MethodNext, MethodNow, MoreNext, ItemNow, PairNext, PairNow, FieldsNext, ItemsNext, TargetKey, TargetNow, AssignNow, SetsNext, DeclareNow, StatsNext, BranchNext, BlockEnd, BodyEnd, LibraryEnd, WhileTest, WhileEnd, TestNext, TestNow, CountFrom, CountTo, CountBy, CountEnd, EachValues, EachNext, EachEnd, ReturnNow, Waits, Hears, ModuleFound, FunctionFound, AnswerNow, TextNow, DataNow}
 use Rattle.lua_slots.specs.Points.{Gives, Evals, Lists, Finds, Sets, Runs, Starts, Texts, Asking, Works, Now}
 use Rattle.lua_meaning.specs.Start.{Work, Invoke, DataOf}
+use Rattle.lua_slots.specs.Calls.{constants_of}
 use Rattle.lua_slots.specs.Errors as errors
 use Rattle.lua_slots.specs.Expressions as expressions
 use Rattle.lua_slots.specs.Statements as statements
@@ -171,9 +172,9 @@ passes DataNow j fs s = data_jumps j fs s
 passes f j fs s = now (omega arith)
 
 -- WHAT TAKES A STEP in each move
-evals-pay : (e : CExp) (fs : List SFrame) (s : Slots) → 0 < costs_of (expressions.evals e fs s)
-evals-pay DotsC fs s = omega arith
-evals-pay e fs s = omega arith
+evals-pay : (constants : Constants) (e : CExp) (fs : List SFrame) (s : Slots) → 0 < costs_of (expressions.evals constants e fs s)
+evals-pay constants DotsC fs s = omega arith
+evals-pay constants e fs s = omega arith
 
 executes-pay : (c : CStat) (fs : List SFrame) (s : Slots) → 0 < costs_of (statements.executes c fs s)
 executes-pay BreakC fs s = omega arith
@@ -188,12 +189,12 @@ free_moves_fall world (Gives (Goes vs) []) s w e = absurd w
 free_moves_fall world (Gives (Jumps j) []) s w e = absurd w
 free_moves_fall world (Gives (Goes vs) (f ∷ fs)) s w e = (goes world f vs fs s).lower e
 free_moves_fall world (Gives (Jumps j) (f ∷ fs)) s w e = (passes f j fs s).lower e
-free_moves_fall world (Evals c fs) s w e = let h = evals-pay c fs s in absurd (omega (arith, e, h))
+free_moves_fall world (Evals c fs) s w e = let h = evals-pay (constants_of world s) c fs s in absurd (omega (arith, e, h))
 free_moves_fall world (Lists NoC before fs) s w e = omega arith
 free_moves_fall world (Lists (MoreC c es) before fs) s w e = omega arith
 free_moves_fall world (Finds [] before es fs) s w e = omega arith
 free_moves_fall world (Finds (PlaceC p ∷ ts) before es fs) s w e = let l = length-append before (PlaceS p ∷ []) in omega (arith, l)
-free_moves_fall world (Finds (GlobalTargetC x line ∷ ts) before es fs) s w e = let l = length-append before (GlobalS x line ∷ []) in omega (arith, l)
+free_moves_fall world (Finds (GlobalTargetC x line ∷ ts) before es fs) s w e = let l = length-append before (GlobalS (constants_of world s x) line ∷ []) in omega (arith, l)
 free_moves_fall world (Finds (EntryC of key line ∷ ts) before es fs) s w e = absurd (omega (arith, e))
 free_moves_fall world (Finds (RefusedC ∷ ts) before es fs) s w e = omega arith
 free_moves_fall world (Sets [] fs) s w e = omega arith

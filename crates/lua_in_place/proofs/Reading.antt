@@ -6,10 +6,11 @@ use Rattle.page_run.proofs.Less.{less_of}
 use Rattle.lua_heap.specs.Value.{Value, Text, is_true}
 use Rattle.lua_syntax.specs.declared.UnaryOp.{UnaryOp}
 use Rattle.lua_meaning.specs.Operators.{Operator}
-use Rattle.lua_slots.specs.Code.{CExp, ConstantC, LocalC, GlobalC, IndexC, AndC, OrC, OperateC, UnaryC, ParenC, CWorld}
+use Rattle.lua_slots.specs.Code.{CExp, ConstantC, TextC, LocalC, GlobalC, IndexC, AndC, OrC, OperateC, UnaryC, ParenC, CWorld}
 use Rattle.lua_slots.specs.Slots.{Slots, read_place}
 use Rattle.lua_slots.specs.Points.{SFrame, First, KeyNext, IndexNow, DecideNext, OperandNext, OperateNow, UnaryNow, Point, Gives, Evals, Move, Marks, Now}
 use Rattle.lua_slots.specs.Errors.{node, choose, gives}
+use Rattle.lua_slots.specs.Calls.{constants_of}
 use Rattle.lua_slots.specs.Expressions.{decides, choose_operand}
 use Rattle.lua_slots.specs.Moves.{moves}
 use Rattle.lua_slots.specs.Enact.{Funds, Stands, paid, enact}
@@ -90,7 +91,7 @@ module _ (world : CWorld) (s : Slots) where
   passed deciding b a fs e = ap (λ (t : Bool). choose t (gives (a ∷ []) fs s) (Now (Evals b (First ∷ fs)) s)) e
 
   decided_reads : (e a b : CExp) (deciding : Bool) (w v : Value) (m n : ℕ) → ((fs : List SFrame) → moves world (Evals e fs) s ≡ node (Now (Evals a (DecideNext deciding b ∷ fs)) s)) → Reads world s a w m
-      → ((l : ℕ) → in_place b s ≡ Some (v, l) → Reads world s b v l) → Decided (decides deciding (is_true w)) w m (in_place b s) v n → Reads world s e v n
+      → ((l : ℕ) → in_place (constants_of world s) b s ≡ Some (v, l) → Reads world s b v l) → Decided (decides deciding (is_true w)) w m (in_place (constants_of world s) b s) v n → Reads world s e v n
   decided_reads e a b deciding w v m n start reads_a reads_b (by_first t same all) =
       around_one e a w v m n (DecideNext deciding b) start reads_a
       (λ fs g. free_move (Gives (Goes (w ∷ [])) (DecideNext deciding b ∷ fs)) (Gives (Goes (v ∷ [])) fs) g (chosen deciding b w fs t ∙ ap (λ (x : Value). gives (x ∷ []) fs s) (sym same))) all
@@ -98,34 +99,35 @@ module _ (world : CWorld) (s : Slots) where
       around_two e a b w v v m l n (DecideNext deciding b) First start reads_a (λ fs. passed deciding b w fs t) (reads_b l is) (first_makes v) all
 
   -- EACH EXPRESSION
-  global_reads : (x : List ℕ) (line : ℕ) (v : Value) (n : ℕ) → entry s.heap s.globals (Text x) ≡ Some v → n ≡ 1 → Reads world s (GlobalC x line) v n
+  global_reads : (x line : ℕ) (v : Value) (n : ℕ) → entry s.heap s.globals (Text (constants_of world s x)) ≡ Some v → n ≡ 1 → Reads world s (GlobalC x line) v n
   global_reads x line v n e one fs f i k c d p q =
-      reach_then (node_move (Evals (GlobalC x line) fs) (Gives (Goes (v ∷ [])) (First ∷ fs)) f i k c d (ap node (entry_is (Some line) (First ∷ fs) s s.globals (Text x) v e)) (omega (arith, p, one)) (omega (arith, q, one)))
+      reach_then (node_move (Evals (GlobalC x line) fs) (Gives (Goes (v ∷ [])) (First ∷ fs)) f i k c d (ap node (entry_is (Some line) (First ∷ fs) s s.globals (Text (constants_of world s x)) v e)) (omega (arith, p, one)) (omega (arith, q, one)))
       (first_makes v fs (with_count f k d))
 
-  pub reads : (e : CExp) (v : Value) (n : ℕ) → in_place e s ≡ Some (v, n) → Reads world s e v n
+  pub reads : (e : CExp) (v : Value) (n : ℕ) → in_place (constants_of world s) e s ≡ Some (v, n) → Reads world s e v n
   reads (ConstantC w) v n e = let k = with_nodes_is 1 (Some w) v n e in leaf (ConstantC w) v n (λ fs. ap node (given None fs s w v k.0)) k.1
+  reads (TextC t) v n e = let k = with_nodes_is 1 (Some (Text (constants_of world s t))) v n e in leaf (TextC t) v n (λ fs. ap node (given None fs s (Text (constants_of world s t)) v k.0)) k.1
   reads (LocalC p) v n e = let k = with_nodes_is 1 (Some (read_place s p)) v n e in leaf (LocalC p) v n (λ fs. ap node (given None fs s (read_place s p) v k.0)) k.1
-  reads (GlobalC x line) v n e = let k = with_nodes_is 1 (entry s.heap s.globals (Text x)) v n e in global_reads x line v n k.0 k.1
+  reads (GlobalC x line) v n e = let k = with_nodes_is 1 (entry s.heap s.globals (Text (constants_of world s x))) v n e in global_reads x line v n k.0 k.1
   reads (IndexC of key line) v n e =
-      let k = two_read (indexed s.heap) (in_place of s) (in_place key s) v n e in
+      let k = two_read (indexed s.heap) (in_place (constants_of world s) of s) (in_place (constants_of world s) key s) v n e in
       around_two (IndexC of key line) of key k.a k.b v k.nodes_a k.nodes_b n (KeyNext key line) (IndexNow k.a line) (λ fs. refl) (reads of k.a k.nodes_a k.is_a) (λ fs. refl) (reads key k.b k.nodes_b k.is_b)
       (index_makes line k.a k.b v k.gives) k.all
   reads (AndC a b) v n e =
-      let k = and_parts (in_place a s) (in_place b s) v n e in
+      let k = and_parts (in_place (constants_of world s) a s) (in_place (constants_of world s) b s) v n e in
       decided_reads (AndC a b) a b false k.a v k.nodes n (λ fs. refl) (reads a k.a k.nodes k.is) (λ l is. reads b v l is) k.decided
   reads (OrC a b) v n e =
-      let k = or_parts (in_place a s) (in_place b s) v n e in
+      let k = or_parts (in_place (constants_of world s) a s) (in_place (constants_of world s) b s) v n e in
       decided_reads (OrC a b) a b true k.a v k.nodes n (λ fs. refl) (reads a k.a k.nodes k.is) (λ l is. reads b v l is) k.decided
   reads (OperateC o a b line) v n e =
-      let k = two_read (operated s.heap o) (in_place a s) (in_place b s) v n e in
+      let k = two_read (operated s.heap o) (in_place (constants_of world s) a s) (in_place (constants_of world s) b s) v n e in
       around_two (OperateC o a b line) a b k.a k.b v k.nodes_a k.nodes_b n (OperandNext o b line) (OperateNow o k.a line) (λ fs. refl) (reads a k.a k.nodes_a k.is_a) (λ fs. refl) (reads b k.b k.nodes_b k.is_b)
       (operate_makes o line k.a k.b v k.gives) k.all
   reads (UnaryC o a line) v n e =
-      let k = one_read (applied s.heap o) (in_place a s) v n e in
+      let k = one_read (applied s.heap o) (in_place (constants_of world s) a s) v n e in
       around_one (UnaryC o a line) a k.a v k.nodes n (UnaryNow o line) (λ fs. refl) (reads a k.a k.nodes k.is) (unary_makes o line k.a v k.gives) k.all
   reads (ParenC a) v n e =
-      let k = one_read (λ x. Some x) (in_place a s) v n e in
+      let k = one_read (λ x. Some x) (in_place (constants_of world s) a s) v n e in
       around_one (ParenC a) a k.a v k.nodes n First (λ fs. refl) (reads a k.a k.nodes k.is) (first_makes_given k.a v k.gives) k.all
   reads e v n x = absurd cc
 

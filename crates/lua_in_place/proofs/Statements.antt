@@ -7,6 +7,7 @@ use Rattle.lua_slots.specs.Code.{Place, CExp, CallC, CExps, NoC, MoreC, PlaceC, 
 use Rattle.lua_slots.specs.Slots.{Slots, write_place, opened}
 use Rattle.lua_slots.specs.Points.{PlaceS, EntryS, SFrame, ArgumentsNext, CallNow, MoreNext, TargetKey, TargetNow, AssignNow, SetsNext, DeclareNow, StatsNext, BranchNext, BlockEnd, ReturnNow, Point, Gives, Evals, Lists, Finds, Sets, Runs, Move, Now}
 use Rattle.lua_slots.specs.Errors.{node, choose, gives}
+use Rattle.lua_slots.specs.Calls.{constants_of}
 use Rattle.lua_slots.specs.Statements.{within, branches}
 use Rattle.lua_slots.specs.Moves.{moves}
 use Rattle.lua_slots.specs.Enact.{Funds, enact}
@@ -43,13 +44,13 @@ module _ (world : CWorld) where
 
   module _ (s : Slots) where
     -- a list of one expression
-    pub one_listed : (e : CExp) (v : Value) (n : ℕ) → in_place e s ≡ Some (v, n) → (fs : List SFrame) → Leads world (Lists (MoreC e NoC) [] fs) s n (Gives (Goes (v ∷ [])) fs) s
+    pub one_listed : (e : CExp) (v : Value) (n : ℕ) → in_place (constants_of world s) e s ≡ Some (v, n) → (fs : List SFrame) → Leads world (Lists (MoreC e NoC) [] fs) s n (Gives (Goes (v ∷ [])) fs) s
     one_listed e v n is fs =
         free_first _ (free (Lists (MoreC e NoC) [] fs) s (Evals e (MoreNext NoC [] ∷ fs)) s refl)
         (free_last _ (reads world s e v n is (MoreNext NoC [] ∷ fs)) (free (Gives (Goes (v ∷ [])) (MoreNext NoC [] ∷ fs)) s (Gives (Goes (v ∷ [])) fs) s refl))
 
     -- A CALL whose function and arguments are read in place: the frame that calls has its arguments
-    pub called : (e : CExp) (es : CExps) (line : ℕ) (v : Value) (vs : List Value) (m n : ℕ) → in_place e s ≡ Some (v, m) → all_in_place es s ≡ Some (vs, n) → (fs : List SFrame)
+    pub called : (e : CExp) (es : CExps) (line : ℕ) (v : Value) (vs : List Value) (m n : ℕ) → in_place (constants_of world s) e s ≡ Some (v, m) → all_in_place (constants_of world s) es s ≡ Some (vs, n) → (fs : List SFrame)
         → Leads world (Evals (CallC e es line) fs) s (1 + (m + n)) (Gives (Goes vs) (CallNow v line ∷ fs)) s
     called e es line v vs m n a b fs =
         behind_node (Evals (CallC e es line) fs) (Evals e (ArgumentsNext es line ∷ fs)) s (m + n) (Gives (Goes vs) (CallNow v line ∷ fs)) s refl
@@ -57,7 +58,7 @@ module _ (world : CWorld) where
         (free_first _ (free (Gives (Goes (v ∷ [])) (ArgumentsNext es line ∷ fs)) s (Lists es [] (CallNow v line ∷ fs)) s refl) (list_reads world s es vs n b [] (CallNow v line ∷ fs))))
 
     -- STATEMENTS. An assignment to a variable, a declaration of one, a value that is returned
-    pub assigned : (p : Place) (e : CExp) (v : Value) (n : ℕ) → in_place e s ≡ Some (v, n) → (rest : CBlock) (fs : List SFrame)
+    pub assigned : (p : Place) (e : CExp) (v : Value) (n : ℕ) → in_place (constants_of world s) e s ≡ Some (v, n) → (rest : CBlock) (fs : List SFrame)
         → Leads world (Runs (ThenC (AssignC (PlaceC p ∷ []) (MoreC e NoC)) rest) fs) s (1 + n) (Runs rest fs) (write_place s p v)
     assigned p e v n is rest fs =
         behind_node (Runs (ThenC (AssignC (PlaceC p ∷ []) (MoreC e NoC)) rest) fs) (Finds (PlaceC p ∷ []) [] (MoreC e NoC) (StatsNext rest ∷ fs)) s n (Runs rest fs) (write_place s p v) refl
@@ -70,13 +71,13 @@ module _ (world : CWorld) where
         (free_then (free (Sets [] (StatsNext rest ∷ fs)) (write_place s p v) (Gives (Goes []) (StatsNext rest ∷ fs)) (write_place s p v) refl)
         (free (Gives (Goes []) (StatsNext rest ∷ fs)) (write_place s p v) (Runs rest fs) (write_place s p v) refl))))))))
 
-    pub declared : (boxed : Bool) (e : CExp) (v : Value) (n : ℕ) → in_place e s ≡ Some (v, n) → (rest : CBlock) (fs : List SFrame)
+    pub declared : (boxed : Bool) (e : CExp) (v : Value) (n : ℕ) → in_place (constants_of world s) e s ≡ Some (v, n) → (rest : CBlock) (fs : List SFrame)
         → Leads world (Runs (DeclareC (boxed ∷ []) (MoreC e NoC) rest) fs) s (1 + n) (Runs rest fs) (opened boxed v s)
     declared boxed e v n is rest fs =
         behind_node (Runs (DeclareC (boxed ∷ []) (MoreC e NoC) rest) fs) (Lists (MoreC e NoC) [] (DeclareNow (boxed ∷ []) rest ∷ fs)) s n (Runs rest fs) (opened boxed v s) refl
         (free_last _ (one_listed e v n is (DeclareNow (boxed ∷ []) rest ∷ fs)) (free (Gives (Goes (v ∷ [])) (DeclareNow (boxed ∷ []) rest ∷ fs)) s (Runs rest fs) (opened boxed v s) refl))
 
-    pub returned : (e : CExp) (v : Value) (n : ℕ) → in_place e s ≡ Some (v, n) → (rest : CBlock) (fs : List SFrame)
+    pub returned : (e : CExp) (v : Value) (n : ℕ) → in_place (constants_of world s) e s ≡ Some (v, n) → (rest : CBlock) (fs : List SFrame)
         → Leads world (Runs (ThenC (ReturnC (MoreC e NoC)) rest) fs) s (1 + n) (Gives (Jumps (Returned (v ∷ []))) fs) s
     returned e v n is rest fs =
         behind_node (Runs (ThenC (ReturnC (MoreC e NoC)) rest) fs) (Lists (MoreC e NoC) [] (ReturnNow ∷ StatsNext rest ∷ fs)) s n (Gives (Jumps (Returned (v ∷ []))) fs) s refl
@@ -85,7 +86,7 @@ module _ (world : CWorld) where
         (free (Gives (Jumps (Returned (v ∷ []))) (StatsNext rest ∷ fs)) s (Gives (Jumps (Returned (v ∷ []))) fs) s refl)))
 
     -- an assignment to an entry of what is read in place: it is still to be set
-    pub entry_found : (of key e : CExp) (line : ℕ) (o k v : Value) (a b n : ℕ) → in_place of s ≡ Some (o, a) → in_place key s ≡ Some (k, b) → in_place e s ≡ Some (v, n) → (rest : CBlock) (fs : List SFrame)
+    pub entry_found : (of key e : CExp) (line : ℕ) (o k v : Value) (a b n : ℕ) → in_place (constants_of world s) of s ≡ Some (o, a) → in_place (constants_of world s) key s ≡ Some (k, b) → in_place (constants_of world s) e s ≡ Some (v, n) → (rest : CBlock) (fs : List SFrame)
         → Leads world (Runs (ThenC (AssignC (EntryC of key line ∷ []) (MoreC e NoC)) rest) fs) s (1 + (1 + (a + (b + n)))) (Sets ((EntryS o k line, v) ∷ []) (StatsNext rest ∷ fs)) s
     entry_found of key e line o k v a b n x y z rest fs =
         behind_node (Runs (ThenC (AssignC (EntryC of key line ∷ []) (MoreC e NoC)) rest) fs) (Finds (EntryC of key line ∷ []) [] (MoreC e NoC) (StatsNext rest ∷ fs)) s (1 + (a + (b + n)))
@@ -101,7 +102,7 @@ module _ (world : CWorld) where
         (free (Gives (Goes (v ∷ [])) (AssignNow (EntryS o k line ∷ []) ∷ StatsNext rest ∷ fs)) s (Sets ((EntryS o k line, v) ∷ []) (StatsNext rest ∷ fs)) s refl))))))))
 
     -- a call that is a statement
-    pub call_stated : (e : CExp) (es : CExps) (line : ℕ) (v : Value) (vs : List Value) (m n : ℕ) → in_place e s ≡ Some (v, m) → all_in_place es s ≡ Some (vs, n) → (rest : CBlock) (fs : List SFrame)
+    pub call_stated : (e : CExp) (es : CExps) (line : ℕ) (v : Value) (vs : List Value) (m n : ℕ) → in_place (constants_of world s) e s ≡ Some (v, m) → all_in_place (constants_of world s) es s ≡ Some (vs, n) → (rest : CBlock) (fs : List SFrame)
         → Leads world (Runs (ThenC (CallStatC (CallC e es line)) rest) fs) s (1 + (1 + (m + n))) (Gives (Goes vs) (CallNow v line ∷ StatsNext rest ∷ fs)) s
     call_stated e es line v vs m n a b rest fs =
         behind_node (Runs (ThenC (CallStatC (CallC e es line)) rest) fs) (Evals (CallC e es line) (StatsNext rest ∷ fs)) s (1 + (m + n)) (Gives (Goes vs) (CallNow v line ∷ StatsNext rest ∷ fs)) s refl
@@ -114,30 +115,30 @@ module _ (world : CWorld) where
     chosen_false : (v : Value) (x y : Move) → is_true v ≡ false → choose (is_true v) x y ≡ y
     chosen_false v x y e = ap (λ (t : Bool). choose t x y) e
 
-    tested : (test : CExp) (b : CBlock) (more : CArms) (other : Option CBlock) (v : Value) (n : ℕ) → in_place test s ≡ Some (v, n) → (fs : List SFrame) (q : Point)
+    tested : (test : CExp) (b : CBlock) (more : CArms) (other : Option CBlock) (v : Value) (n : ℕ) → in_place (constants_of world s) test s ≡ Some (v, n) → (fs : List SFrame) (q : Point)
         → choose (is_true v) (within b fs s) (branches more other fs s) ≡ Now q s → Leads world (Evals test (BranchNext b more other ∷ fs)) s n q s
     tested test b more other v n is fs q e = free_last _ (reads world s test v n is (BranchNext b more other ∷ fs)) (free (Gives (Goes (v ∷ [])) (BranchNext b more other ∷ fs)) s q s e)
 
-    pub taken : (test : CExp) (b : CBlock) (more : CArms) (v : Value) (n : ℕ) → in_place test s ≡ Some (v, n) → is_true v ≡ true → (rest : CBlock) (fs : List SFrame)
+    pub taken : (test : CExp) (b : CBlock) (more : CArms) (v : Value) (n : ℕ) → in_place (constants_of world s) test s ≡ Some (v, n) → is_true v ≡ true → (rest : CBlock) (fs : List SFrame)
         → Leads world (Runs (ThenC (IfC (ArmC test b more)) rest) fs) s (1 + n) (Runs b (BlockEnd (length s.regs) ∷ StatsNext rest ∷ fs)) s
     taken test b more v n is e rest fs =
         behind_node (Runs (ThenC (IfC (ArmC test b more)) rest) fs) (Evals test (BranchNext b more None ∷ StatsNext rest ∷ fs)) s n (Runs b (BlockEnd (length s.regs) ∷ StatsNext rest ∷ fs)) s refl
         (tested test b more None v n is (StatsNext rest ∷ fs) (Runs b (BlockEnd (length s.regs) ∷ StatsNext rest ∷ fs)) (chosen_true v _ _ e))
 
-    pub taken_before : (test : CExp) (b : CBlock) (more : CArms) (other : CBlock) (v : Value) (n : ℕ) → in_place test s ≡ Some (v, n) → is_true v ≡ true → (rest : CBlock) (fs : List SFrame)
+    pub taken_before : (test : CExp) (b : CBlock) (more : CArms) (other : CBlock) (v : Value) (n : ℕ) → in_place (constants_of world s) test s ≡ Some (v, n) → is_true v ≡ true → (rest : CBlock) (fs : List SFrame)
         → Leads world (Runs (ThenC (IfElseC (ArmC test b more) other) rest) fs) s (1 + n) (Runs b (BlockEnd (length s.regs) ∷ StatsNext rest ∷ fs)) s
     taken_before test b more other v n is e rest fs =
         behind_node (Runs (ThenC (IfElseC (ArmC test b more) other) rest) fs) (Evals test (BranchNext b more (Some other) ∷ StatsNext rest ∷ fs)) s n (Runs b (BlockEnd (length s.regs) ∷ StatsNext rest ∷ fs)) s refl
         (tested test b more (Some other) v n is (StatsNext rest ∷ fs) (Runs b (BlockEnd (length s.regs) ∷ StatsNext rest ∷ fs)) (chosen_true v _ _ e))
 
-    pub passed_by : (test : CExp) (b : CBlock) (v : Value) (n : ℕ) → in_place test s ≡ Some (v, n) → is_true v ≡ false → (rest : CBlock) (fs : List SFrame)
+    pub passed_by : (test : CExp) (b : CBlock) (v : Value) (n : ℕ) → in_place (constants_of world s) test s ≡ Some (v, n) → is_true v ≡ false → (rest : CBlock) (fs : List SFrame)
         → Leads world (Runs (ThenC (IfC (ArmC test b NoArmC)) rest) fs) s (1 + n) (Runs rest fs) s
     passed_by test b v n is e rest fs =
         behind_node (Runs (ThenC (IfC (ArmC test b NoArmC)) rest) fs) (Evals test (BranchNext b NoArmC None ∷ StatsNext rest ∷ fs)) s n (Runs rest fs) s refl
         (free_last _ (tested test b NoArmC None v n is (StatsNext rest ∷ fs) (Gives (Goes []) (StatsNext rest ∷ fs)) (chosen_false v _ _ e))
         (free (Gives (Goes []) (StatsNext rest ∷ fs)) s (Runs rest fs) s refl))
 
-    pub taken_else : (test : CExp) (b other : CBlock) (v : Value) (n : ℕ) → in_place test s ≡ Some (v, n) → is_true v ≡ false → (rest : CBlock) (fs : List SFrame)
+    pub taken_else : (test : CExp) (b other : CBlock) (v : Value) (n : ℕ) → in_place (constants_of world s) test s ≡ Some (v, n) → is_true v ≡ false → (rest : CBlock) (fs : List SFrame)
         → Leads world (Runs (ThenC (IfElseC (ArmC test b NoArmC) other) rest) fs) s (1 + n) (Runs other (BlockEnd (length s.regs) ∷ StatsNext rest ∷ fs)) s
     taken_else test b other v n is e rest fs =
         behind_node (Runs (ThenC (IfElseC (ArmC test b NoArmC) other) rest) fs) (Evals test (BranchNext b NoArmC (Some other) ∷ StatsNext rest ∷ fs)) s n (Runs other (BlockEnd (length s.regs) ∷ StatsNext rest ∷ fs)) s refl

@@ -11,7 +11,7 @@ use Rattle.lua_heap.specs.Table.{get, border}
 use Rattle.lua_heap.specs.Heap.{Heap, table_at}
 use Rattle.lua_meaning.specs.Metatables.{handler, common_handler}
 use Rattle.lua_meaning.specs.Operators.{Arithmetic, Operator, Less, Greater, AtMost, AtLeast, Equal, Unequal, Concatenate, Calculate, result_of}
-use Rattle.lua_slots.specs.Code.{CExp, ConstantC, LocalC, GlobalC, IndexC, AndC, OrC, OperateC, UnaryC, ParenC, CExps, NoC, MoreC}
+use Rattle.lua_slots.specs.Code.{Constants, CExp, ConstantC, TextC, LocalC, GlobalC, IndexC, AndC, OrC, OperateC, UnaryC, ParenC, CExps, NoC, MoreC}
 use Rattle.lua_slots.specs.Slots.{Slots, read_place}
 
 -- HANDLERS (2.8): a value where there is none to ask
@@ -106,24 +106,25 @@ abbrev pub or_read : Option (Value × ℕ) → Option (Value × ℕ) → Option 
 or_read (Some a) b = first_if (is_true a.0) a b
 or_read None b = None
 
--- AN EXPRESSION: its value, and the number of nodes that are evaluated
-abbrev pub in_place : CExp → Slots → Option (Value × ℕ)
-in_place (ConstantC v) s = Some (v, 1)
-in_place (LocalC p) s = Some (read_place s p, 1)
-in_place (GlobalC x line) s = with_nodes 1 (entry s.heap s.globals (Text x))
-in_place (IndexC of key line) s = around_both (indexed s.heap) (in_place of s) (in_place key s)
-in_place (AndC a b) s = and_read (in_place a s) (in_place b s)
-in_place (OrC a b) s = or_read (in_place a s) (in_place b s)
-in_place (OperateC o a b line) s = around_both (operated s.heap o) (in_place a s) (in_place b s)
-in_place (UnaryC o a line) s = around (applied s.heap o) (in_place a s)
-in_place (ParenC a) s = around (λ v. Some v) (in_place a s)
-in_place e s = None
+-- AN EXPRESSION, with the constants of its module: its value, and the number of nodes that are evaluated
+abbrev pub in_place : Constants → CExp → Slots → Option (Value × ℕ)
+in_place constants (ConstantC v) s = Some (v, 1)
+in_place constants (TextC n) s = Some (Text (constants n), 1)
+in_place constants (LocalC p) s = Some (read_place s p, 1)
+in_place constants (GlobalC x line) s = with_nodes 1 (entry s.heap s.globals (Text (constants x)))
+in_place constants (IndexC of key line) s = around_both (indexed s.heap) (in_place constants of s) (in_place constants key s)
+in_place constants (AndC a b) s = and_read (in_place constants a s) (in_place constants b s)
+in_place constants (OrC a b) s = or_read (in_place constants a s) (in_place constants b s)
+in_place constants (OperateC o a b line) s = around_both (operated s.heap o) (in_place constants a s) (in_place constants b s)
+in_place constants (UnaryC o a line) s = around (applied s.heap o) (in_place constants a s)
+in_place constants (ParenC a) s = around (λ v. Some v) (in_place constants a s)
+in_place constants e s = None
 
 -- A LIST (2.5), where each of its expressions is read in place: their values and all their nodes
 abbrev pub in_front : Option (Value × ℕ) → Option (List Value × ℕ) → Option (List Value × ℕ)
 in_front (Some a) (Some b) = Some (a.0 ∷ b.0, a.1 + b.1)
 in_front a b = None
 
-abbrev pub all_in_place : CExps → Slots → Option (List Value × ℕ)
-all_in_place NoC s = Some ([], 0)
-all_in_place (MoreC e es) s = in_front (in_place e s) (all_in_place es s)
+abbrev pub all_in_place : Constants → CExps → Slots → Option (List Value × ℕ)
+all_in_place constants NoC s = Some ([], 0)
+all_in_place constants (MoreC e es) s = in_front (in_place constants e s) (all_in_place constants es s)

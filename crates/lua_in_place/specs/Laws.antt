@@ -2,9 +2,10 @@
 use Rattle.std.specs.Prelude.{◌≡◌, ◌≤◌, ℕ, ◌+◌, ◌-◌, List, [], ◌∷◌, ◌++◌, Some}
 use Rattle.page_run.specs.Outcome.{Goes}
 use Rattle.lua_heap.specs.Value.{Value}
-use Rattle.lua_slots.specs.Code.{CExp, CExps, CWorld}
+use Rattle.lua_slots.specs.Code.{Constants, CExp, CExps, CWorld}
 use Rattle.lua_slots.specs.Slots.{Slots}
 use Rattle.lua_slots.specs.Points.{SFrame, Gives, Evals, Lists}
+use Rattle.lua_slots.specs.Calls.{constants_of}
 use Rattle.lua_slots.specs.Enact.{Funds}
 use Rattle.lua_goes.specs.Going.{Reaches}
 use Rattle.lua_in_place.specs.InPlace.{in_place, all_in_place}
@@ -16,14 +17,14 @@ after_nodes n f = record f { left = record f.left { steps = f.left.steps - n }; 
 -- Where a step for each node is left, a machine that is to evaluate the expression comes to where its value is given to the frames that
 -- wait, whichever they are, and holds what it held.
 abbrev pub ReadInPlace : Type 0
-ReadInPlace = (world : CWorld) (e : CExp) (s : Slots) (v : Value) (n : ℕ) → in_place e s ≡ Some (v, n) → (fs : List SFrame) (f : Funds) → n ≤ f.left.steps
+ReadInPlace = (world : CWorld) (e : CExp) (s : Slots) (v : Value) (n : ℕ) → in_place (constants_of world s) e s ≡ Some (v, n) → (fs : List SFrame) (f : Funds) → n ≤ f.left.steps
     → Reaches world (Evals e fs) s f (Gives (Goes (v ∷ [])) fs) s (after_nodes n f)
 
 -- The same of a list, whose values are given behind those that stand before.
 abbrev pub ListReadInPlace : Type 0
-ListReadInPlace = (world : CWorld) (es : CExps) (s : Slots) (vs : List Value) (n : ℕ) → all_in_place es s ≡ Some (vs, n) → (before : List Value) (fs : List SFrame) (f : Funds) → n ≤ f.left.steps
+ListReadInPlace = (world : CWorld) (es : CExps) (s : Slots) (vs : List Value) (n : ℕ) → all_in_place (constants_of world s) es s ≡ Some (vs, n) → (before : List Value) (fs : List SFrame) (f : Funds) → n ≤ f.left.steps
     → Reaches world (Lists es before fs) s f (Gives (Goes (before ++ vs)) fs) s (after_nodes n f)
 
 -- An expression has a node, so steps fall.
 abbrev pub NodesAreSome : Type 0
-NodesAreSome = (e : CExp) (s : Slots) (v : Value) (n : ℕ) → in_place e s ≡ Some (v, n) → 1 ≤ n
+NodesAreSome = (constants : Constants) (e : CExp) (s : Slots) (v : Value) (n : ℕ) → in_place constants e s ≡ Some (v, n) → 1 ≤ n

@@ -1,9 +1,10 @@
--- What is code stays so when there are more functions: by recursion on the tree.
+-- What is code stays so when there are more functions and each constant is what it was: by recursion on the tree.
 use Rattle.std.proofs.Common.{◌≡◌, ℕ, List, [], ◌∷◌, Option, Some, None}
 use Rattle.lua_syntax.specs.Tree.{Exp, NilE, TrueE, FalseE, NumberE, TextE, DotsE, FunctionE, NameE, IndexE, CallE, MethodE, TableE, BinaryE, UnaryE, ParenE}
 use Rattle.lua_syntax.specs.Tree.{Exps, NoExp, MoreExp, Fields, NoField, Item, Pair, Fun, Lambda, Block, NoStat, MoreStat, Arms, NoArm, Arm}
 use Rattle.lua_syntax.specs.Tree.{Stat, AssignS, CallS, DoS, WhileS, RepeatS, IfS, IfElseS, CountS, CountByS, EachS, LocalFunctionS, LocalS, ReturnS, BreakS}
-use Rattle.lua_slots.specs.Code.{CExp, ConstantC, DotsC, FunctionC, LocalC, GlobalC, IndexC, CallC, MethodC, TableC, AndC, OrC, OperateC, UnaryC, ParenC}
+use Rattle.lua_meaning.specs.Scope.{Bytes}
+use Rattle.lua_slots.specs.Code.{CExp, ConstantC, TextC, DotsC, FunctionC, LocalC, GlobalC, IndexC, CallC, MethodC, TableC, AndC, OrC, OperateC, UnaryC, ParenC}
 use Rattle.lua_slots.specs.Code.{CExps, NoC, MoreC, CFields, NoFieldC, ItemC, PairC, CTarget, PlaceC, GlobalTargetC, EntryC, RefusedC}
 use Rattle.lua_slots.specs.Code.{CStat, AssignC, CallStatC, DoC, WhileC, RepeatC, IfC, IfElseC, CountC, CountByC, EachC, ReturnC, BreakC, CBlock, EndC, DeclareC, LocalFunctionC, ThenC, CArms, NoArmC, ArmC}
 use Rattle.lua_slots.specs.Code.{CProto, Protos}
@@ -16,21 +17,21 @@ abbrev tail_of : Protos → Option (Exp × CExp) → EndSight
 tail_of at None = any_sight
 tail_of at (Some t) = λ see. IsExp at see t.0 t.1
 
-module _ (at more : Protos) (stay : (i : ℕ) (p : CProto) → at i ≡ Some p → more i ≡ Some p) where
+module _ (at more : Protos) (stay : (i : ℕ) (p : CProto) → at.function i ≡ Some p → more.function i ≡ Some p) (keep : (n : ℕ) (t : Bytes) → at.constant n ≡ t → more.constant n ≡ t) where
   mutual
     exp : (e : Exp) (c : CExp) (see : Sight) → IsExp at see e c → IsExp more see e c
     exp (NilE line) (ConstantC v) see x = x
     exp (TrueE line) (ConstantC v) see x = x
     exp (FalseE line) (ConstantC v) see x = x
     exp (NumberE line z) (ConstantC v) see x = x
-    exp (TextE line t) (ConstantC v) see x = x
+    exp (TextE line t) (TextC n) see x = keep n t x
     exp (DotsE line) DotsC see x = x
     exp (FunctionE line f) (FunctionC i ps) see x = (x.0, x.1, stay i x.1 x.2, x.3, fun f x.1 _ x.4)
     exp (NameE line n) (LocalC p) see x = x
-    exp (NameE line n) (GlobalC y l) see x = x
+    exp (NameE line n) (GlobalC y l) see x = (x.0, keep y n x.1, x.2)
     exp (IndexE line of key) (IndexC c d l) see x = (x.0, exp of c see x.1, exp key d see x.2)
     exp (CallE line f es) (CallC c cs l) see x = (x.0, exp f c see x.1, exps es cs see x.2)
-    exp (MethodE line of n es) (MethodC c y cs l) see x = (x.0, x.1, exp of c see x.2, exps es cs see x.3)
+    exp (MethodE line of n es) (MethodC c y cs l) see x = (x.0, keep y n x.1, exp of c see x.2, exps es cs see x.3)
     exp (TableE line fs) (TableC cs l) see x = (x.0, fields fs cs see x.1)
     exp (BinaryE line o a b) (AndC c d) see x = (x.0, exp a c see x.1, exp b d see x.2)
     exp (BinaryE line o a b) (OrC c d) see x = (x.0, exp a c see x.1, exp b d see x.2)
@@ -55,7 +56,7 @@ module _ (at more : Protos) (stay : (i : ℕ) (p : CProto) → at i ≡ Some p �
 
     target : (e : Exp) (t : CTarget) (see : Sight) → IsTarget at see e t → IsTarget more see e t
     target (NameE line n) (PlaceC p) see x = x
-    target (NameE line n) (GlobalTargetC y l) see x = x
+    target (NameE line n) (GlobalTargetC y l) see x = (x.0, keep y n x.1, x.2)
     target (IndexE line of key) (EntryC c d l) see x = (x.0, exp of c see x.1, exp key d see x.2)
     target e RefusedC see x = x
     target e t see x = absurd x
@@ -106,4 +107,4 @@ module _ (at more : Protos) (stay : (i : ℕ) (p : CProto) → at i ≡ Some p �
     block b c tail see up x = absurd x
 
 pub code_stays : CodeStays
-code_stays at more stay see b c x = block at more stay b c None see (λ s y. y) x
+code_stays at more stay keep see b c x = block at more stay keep b c None see (λ s y. y) x

@@ -10,7 +10,7 @@ use Rattle.lua_meaning.specs.Values.{first, second, third, number_in, text_in}
 use Rattle.lua_meaning.specs.Acts.{Jump, Broke}
 use Rattle.lua_meaning.specs.Loops.{is_within}
 use Rattle.lua_meaning.specs.Libraries.{form}
-use Rattle.lua_slots.specs.Code.{CExp, ConstantC, DotsC, FunctionC, LocalC, GlobalC, IndexC, CallC, MethodC, TableC, AndC, OrC, OperateC, UnaryC, ParenC}
+use Rattle.lua_slots.specs.Code.{Constants, CExp, ConstantC, TextC, DotsC, FunctionC, LocalC, GlobalC, IndexC, CallC, MethodC, TableC, AndC, OrC, OperateC, UnaryC, ParenC}
 use Rattle.lua_slots.specs.Code.{CExps, NoC, MoreC, CFields, NoFieldC, ItemC, PairC, PlaceC, GlobalTargetC, EntryC, RefusedC}
 use Rattle.lua_slots.specs.Code.{CStat, AssignC, CallStatC, DoC, WhileC, RepeatC, IfC, IfElseC, CountC, CountByC, EachC, ReturnC, BreakC, CBlock, EndC, DeclareC, LocalFunctionC, ThenC, CArms, NoArmC, ArmC, CProto, CWorld}
 use Rattle.lua_slots.specs.Slots.{Slots, cut}
@@ -168,21 +168,22 @@ quiet-ahead (Exits mv) c e = quiet-ahead mv c e
 ahead : {mv : Move} (c : ℕ) → IsQuiet mv → IsAhead c mv
 ahead {mv} c q = quiet-ahead mv c q.none
 
-evals-ahead : (e : CExp) (fs : List SFrame) (s : Slots) → IsAhead 0 (expressions.evals e fs s)
-evals-ahead (ConstantC v) fs s = (omega arith, tt)
-evals-ahead DotsC fs s = (omega arith, tt)
-evals-ahead (FunctionC i ps) fs s = (omega arith, tt)
-evals-ahead (LocalC p) fs s = (omega arith, tt)
-evals-ahead (GlobalC x line) fs s = let q = index_table s.globals (Text x) (Some line) (First ∷ fs) s in (omega arith, ahead 0 q)
-evals-ahead (IndexC of key line) fs s = (omega arith, tt)
-evals-ahead (CallC f args line) fs s = (omega arith, tt)
-evals-ahead (MethodC of x args line) fs s = (omega arith, tt)
-evals-ahead (TableC cs line) fs s = let q = fields (new_table s.heap).1 1 cs line fs (expressions.with_table s) in (omega arith, ahead 8 q)
-evals-ahead (AndC a b) fs s = (omega arith, tt)
-evals-ahead (OrC a b) fs s = (omega arith, tt)
-evals-ahead (OperateC o a b line) fs s = (omega arith, tt)
-evals-ahead (UnaryC o a line) fs s = (omega arith, tt)
-evals-ahead (ParenC a) fs s = (omega arith, tt)
+evals-ahead : (constants : Constants) (e : CExp) (fs : List SFrame) (s : Slots) → IsAhead 0 (expressions.evals constants e fs s)
+evals-ahead constants (ConstantC v) fs s = (omega arith, tt)
+evals-ahead constants (TextC n) fs s = (omega arith, tt)
+evals-ahead constants DotsC fs s = (omega arith, tt)
+evals-ahead constants (FunctionC i ps) fs s = (omega arith, tt)
+evals-ahead constants (LocalC p) fs s = (omega arith, tt)
+evals-ahead constants (GlobalC x line) fs s = let q = index_table s.globals (Text (constants x)) (Some line) (First ∷ fs) s in (omega arith, ahead 0 q)
+evals-ahead constants (IndexC of key line) fs s = (omega arith, tt)
+evals-ahead constants (CallC f args line) fs s = (omega arith, tt)
+evals-ahead constants (MethodC of x args line) fs s = (omega arith, tt)
+evals-ahead constants (TableC cs line) fs s = let q = fields (new_table s.heap).1 1 cs line fs (expressions.with_table s) in (omega arith, ahead 8 q)
+evals-ahead constants (AndC a b) fs s = (omega arith, tt)
+evals-ahead constants (OrC a b) fs s = (omega arith, tt)
+evals-ahead constants (OperateC o a b line) fs s = (omega arith, tt)
+evals-ahead constants (UnaryC o a line) fs s = (omega arith, tt)
+evals-ahead constants (ParenC a) fs s = (omega arith, tt)
 
 executes-ahead : (c : CStat) (fs : List SFrame) (s : Slots) → IsAhead 0 (statements.executes c fs s)
 executes-ahead (AssignC ts es) fs s = (omega arith, tt)
@@ -207,7 +208,7 @@ begins-ahead world (WhileTurnS e b) fs s = (omega arith, tt)
 begins-ahead world (RepeatTurnS b e) fs s = (omega arith, tt)
 begins-ahead world (CountTurnS boxed i l st b) fs s = (omega arith, tt)
 begins-ahead world (EachTurnS flags f st vs b line) fs s = (omega arith, tt)
-begins-ahead world (BodyS f args line) fs s = body-ahead (calls.code_of (world.modules f.title) f.index) f args line fs s
+begins-ahead world (BodyS f args line) fs s = body-ahead ((calls.code_of (world.modules f.title)).function f.index) f args line fs s
 begins-ahead world (LibraryS which args line) fs s = let q = does world (form (libraries.page_alone world) which args s.heap s.frames) args line (LibraryEnd ∷ fs) s in (omega arith, ahead 0 q)
 begins-ahead world (IndexLinkS o h k line) fs s = let q = index_link o h k line fs s in ahead 1 q
 begins-ahead world (SetLinkS o h k v line) fs s = let q = set_link o h k v line fs s in ahead 1 q
@@ -218,7 +219,7 @@ charges_come_first world (Gives (Goes vs) []) s = tt
 charges_come_first world (Gives (Jumps j) []) s = tt
 charges_come_first world (Gives (Goes vs) (f ∷ fs)) s = let q = goes world f vs fs s in ahead 0 q
 charges_come_first world (Gives (Jumps j) (f ∷ fs)) s = let q = passes f j fs s in ahead 0 q
-charges_come_first world (Evals e fs) s = evals-ahead e fs s
+charges_come_first world (Evals e fs) s = evals-ahead (calls.constants_of world s) e fs s
 charges_come_first world (Lists NoC before fs) s = tt
 charges_come_first world (Lists (MoreC e es) before fs) s = tt
 charges_come_first world (Finds [] before es fs) s = tt

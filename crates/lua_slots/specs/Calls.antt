@@ -8,7 +8,7 @@ use Rattle.lua_meaning.specs.Scope.{Bytes}
 use Rattle.lua_meaning.specs.Acts.{Jump, Returned}
 use Rattle.lua_meaning.specs.Messages.{cannot_call}
 use Rattle.lua_meaning.specs.Metatables.{handler}
-use Rattle.lua_slots.specs.Code.{CProto, Protos, CModule, CWorld}
+use Rattle.lua_slots.specs.Code.{CProto, Constants, Protos, CModule, CWorld}
 use Rattle.lua_slots.specs.Slots.{Activation, Slots, function_of, all_opened, cut}
 use Rattle.lua_slots.specs.Points.{BodyS, LibraryS, CallLinkS, SFrame, BodyEnd, Runs, Starts, Move, Marks, Enters, Now}
 use Rattle.lua_slots.specs.Errors.{choose, gives, jumps, fails}
@@ -48,17 +48,24 @@ abbrev pub body_of : Option CProto → Proc → List Value → Option ℕ → Li
 body_of None f args line fs s = gives [] fs s
 body_of (Some p) f args line fs s = Enters (Marks (Now (Runs p.body (BodyEnd ∷ fs)) (slots_in_body f p args line s)))
 
--- its code
-abbrev pub code_in : Result Protos FaultAt → ℕ → Option CProto
-code_in (Ok at) index = at index
-code_in (Err fault) index = None
+-- the code of a module; one that is not there or has a fault has none
+abbrev pub no_code : Protos
+no_code = record { function = λ index. None; constant = λ number. [] }
 
-abbrev pub code_of : Option CModule → ℕ → Option CProto
-code_of (Some m) index = code_in m.code index
-code_of None index = None
+abbrev pub code_in : Result Protos FaultAt → Protos
+code_in (Ok at) = at
+code_in (Err fault) = no_code
+
+abbrev pub code_of : Option CModule → Protos
+code_of (Some m) = code_in m.code
+code_of None = no_code
 
 abbrev pub enters_body : CWorld → Proc → List Value → Option ℕ → List SFrame → Slots → Move
-enters_body world f args line fs s = body_of (code_of (world.modules f.title) f.index) f args line fs s
+enters_body world f args line fs s = body_of ((code_of (world.modules f.title)).function f.index) f args line fs s
+
+-- the constants of the running function's module
+abbrev pub constants_of : CWorld → Slots → Constants
+constants_of world s = (code_of (world.modules (function_of s).source)).constant
 
 -- THE TEXT OF A MODULE is a function without parameters (2.4.1), which no place of a text calls
 abbrev pub text_of_module : Bytes → Proc

@@ -1,5 +1,6 @@
 -- RESOLVED CODE: the tree of a function in which each name has become a place (manual 2.6: local variables, upvalues and globals).
--- It is plain data; what a function has inside stands in the list of the module's functions, and is named by its number there.
+-- It is plain data; what a function has inside stands in the list of the module's functions, and is named by its number there; and so
+-- do texts and the names of global variables and methods among the module's constants.
 use Rattle.std.specs.Prelude.{ℕ, Bool, List, Option, Result}
 use Rattle.wk_base.specs.declared.title.Title.{Title}
 use Rattle.lua_syntax.specs.declared.UnaryOp.{UnaryOp}
@@ -17,15 +18,19 @@ pub data Place : Type 0 where
 -- EXPRESSIONS (2.5); a line is given where an error may name it
 mutual
   pub data CExp : Type 0 where
+    -- nil, a truth or a number
     ConstantC : (value : Value) → CExp
+    -- a text, by its number among the constants
+    TextC : (constant : ℕ) → CExp
     DotsC : CExp
     -- a function of the module, and the places of what it captures
     FunctionC : (index : ℕ) (places : List Place) → CExp
     LocalC : (place : Place) → CExp
-    GlobalC : (name : Bytes) (line : ℕ) → CExp
+    -- the name is a constant, by its number
+    GlobalC : (name : ℕ) (line : ℕ) → CExp
     IndexC : (of key : CExp) (line : ℕ) → CExp
     CallC : (function : CExp) (arguments : CExps) (line : ℕ) → CExp
-    MethodC : (of : CExp) (name : Bytes) (arguments : CExps) (line : ℕ) → CExp
+    MethodC : (of : CExp) (name : ℕ) (arguments : CExps) (line : ℕ) → CExp
     TableC : (fields : CFields) (line : ℕ) → CExp
     AndC : (a b : CExp) → CExp
     OrC : (a b : CExp) → CExp
@@ -47,7 +52,7 @@ mutual
 -- TARGETS of an assignment (2.4.3). No chunk has another one than a name or an index, and it is refused.
 pub data CTarget : Type 0 where
   PlaceC : (place : Place) → CTarget
-  GlobalTargetC : (name : Bytes) (line : ℕ) → CTarget
+  GlobalTargetC : (name : ℕ) (line : ℕ) → CTarget
   EntryC : (of key : CExp) (line : ℕ) → CTarget
   RefusedC : CTarget
 
@@ -84,9 +89,14 @@ pub record CProto : Type 0 where
   pub dots : Bool
   pub body : CBlock
 
--- THE FUNCTIONS of a module, by their numbers; number 0 is its text
-abbrev pub Protos : Type 0
-Protos = ℕ → Option CProto
+-- THE CONSTANTS of a module, by their numbers: the texts and names in its code
+abbrev pub Constants : Type 0
+Constants = ℕ → Bytes
+
+-- THE FUNCTIONS of a module, by their numbers (number 0 is its text), and its constants
+pub record Protos : Type 0 where
+  pub function : ℕ → Option CProto
+  pub constant : Constants
 
 -- A MODULE: the length of its text in bytes, and its functions or its first fault
 pub record CModule : Type 0 where

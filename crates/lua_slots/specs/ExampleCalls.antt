@@ -1,15 +1,15 @@
 -- CODE OF MODULES THAT CALL, and what comes of it: the same as of their trees, to the step.
-use Rattle.std.specs.Prelude.{◌≡◌, pos, true, false, List, [], ◌∷◌, codes}
+use Rattle.std.specs.Prelude.{◌≡◌, pos, true, false, [], ◌∷◌, codes}
 use Rattle.lua_syntax.specs.declared.UnaryOp.TheVariants as sign
 use Rattle.lua_heap.specs.Value.{Number, Text}
 use Rattle.lua_meaning.specs.Operators.{Add, Equal, Concatenate, Calculate}
 use Rattle.lua_meaning.specs.Questions.{Loaded, LoadFailed}
 use Rattle.lua_meaning.specs.Trial.{invoke_module, module_text, reply, invoke_in_template}
-use Rattle.lua_slots.specs.Code.{Reg, Box, Up, ConstantC, DotsC, FunctionC, LocalC, GlobalC, IndexC, CallC, TableC, OperateC, UnaryC}
+use Rattle.lua_slots.specs.Code.{Reg, Box, Up, ConstantC, TextC, DotsC, FunctionC, LocalC, GlobalC, IndexC, CallC, TableC, OperateC, UnaryC}
 use Rattle.lua_slots.specs.Code.{NoC, MoreC, NoFieldC, PairC, PlaceC, EntryC}
-use Rattle.lua_slots.specs.Code.{AssignC, CallStatC, ReturnC, EndC, DeclareC, LocalFunctionC, ThenC, CProto}
+use Rattle.lua_slots.specs.Code.{AssignC, CallStatC, ReturnC, EndC, DeclareC, LocalFunctionC, ThenC, CProto, Protos}
 use Rattle.lua_slots.specs.IsCode.{IsProtos}
-use Rattle.lua_slots.specs.Trial.{functions_in}
+use Rattle.lua_slots.specs.Trial.{code_with}
 use Rattle.lua_slots.specs.Trial as run
 use Rattle.lua_meaning.specs.ExampleFunctions.{protected, arithmetic_handlers, error_handlers, new_index, call_handlers}
 use Rattle.lua_meaning.specs.ExampleModules.{load_fails}
@@ -23,7 +23,7 @@ protected_0 = record {
   flags = [];
   dots = false;
   body =
-      (ThenC (ReturnC (MoreC (TableC (PairC (ConstantC (Text (codes "f"))) (FunctionC 1 []) NoFieldC) 1) NoC)) EndC);
+      (ThenC (ReturnC (MoreC (TableC (PairC (TextC 0) (FunctionC 1 []) NoFieldC) 1) NoC)) EndC);
 }
 
 abbrev pub protected_1 : CProto
@@ -31,11 +31,10 @@ protected_1 = record {
   flags = [];
   dots = true;
   body =
-      (ThenC (ReturnC (MoreC (CallC (GlobalC (codes "tostring") 2) (MoreC (CallC (GlobalC (codes "pcall") 2) (MoreC (GlobalC (codes "error") 2)
-      (MoreC (ConstantC (Text (codes "m"))) NoC)) 2) NoC) 2) (MoreC (CallC (GlobalC (codes "select") 2) (MoreC (ConstantC (Number (pos 2))) (MoreC
-      (CallC (GlobalC (codes "pcall") 2) (MoreC (GlobalC (codes "error") 2) (MoreC (ConstantC (Text (codes "m"))) NoC)) 2) NoC)) 2) (MoreC (CallC
-      (GlobalC (codes "pcall") 2) (MoreC (FunctionC 2 []) (MoreC (ConstantC (Number (pos 1))) (MoreC (ConstantC (Number (pos 2))) NoC))) 2)
-      NoC)))) EndC);
+      (ThenC (ReturnC (MoreC (CallC (GlobalC 1 2) (MoreC (CallC (GlobalC 2 2) (MoreC (GlobalC 3 2) (MoreC (TextC 4) NoC)) 2) NoC) 2) (MoreC (CallC
+      (GlobalC 5 2) (MoreC (ConstantC (Number (pos 2))) (MoreC (CallC (GlobalC 2 2) (MoreC (GlobalC 3 2) (MoreC (TextC 4) NoC)) 2) NoC)) 2) (MoreC
+      (CallC (GlobalC 2 2) (MoreC (FunctionC 2 []) (MoreC (ConstantC (Number (pos 1))) (MoreC (ConstantC (Number (pos 2))) NoC))) 2) NoC))))
+      EndC);
 }
 
 abbrev pub protected_2 : CProto
@@ -46,11 +45,14 @@ protected_2 = record {
       (ThenC (ReturnC (MoreC DotsC NoC)) EndC);
 }
 
-abbrev pub protected_code : List CProto
-protected_code = protected_0 ∷ protected_1 ∷ protected_2 ∷ []
+abbrev pub protected_code : Protos
+protected_code =
+    code_with
+    (codes "f" ∷ codes "tostring" ∷ codes "pcall" ∷ codes "error" ∷ codes "m" ∷ codes "select" ∷ [])
+    (protected_0 ∷ protected_1 ∷ protected_2 ∷ [])
 
 abbrev pub ProtectedIsCode : Type 0
-ProtectedIsCode = IsProtos (functions_in protected_code) protected
+ProtectedIsCode = IsProtos protected_code protected
 
 abbrev pub ProtectedAlike : Type 0
 ProtectedAlike = run.invoke_module (codes "X") 131 protected_code 6000 ≡ invoke_module (codes "X") 131 protected 6000
@@ -66,7 +68,7 @@ arithmetic_handlers_0 = record {
   flags = [];
   dots = false;
   body =
-      (ThenC (ReturnC (MoreC (TableC (PairC (ConstantC (Text (codes "f"))) (FunctionC 1 []) NoFieldC) 1) NoC)) EndC);
+      (ThenC (ReturnC (MoreC (TableC (PairC (TextC 0) (FunctionC 1 []) NoFieldC) 1) NoC)) EndC);
 }
 
 abbrev pub arithmetic_handlers_1 : CProto
@@ -74,12 +76,12 @@ arithmetic_handlers_1 = record {
   flags = [];
   dots = true;
   body =
-      (DeclareC (false ∷ []) (MoreC (TableC (PairC (ConstantC (Text (codes "__add"))) (FunctionC 2 []) (PairC (ConstantC (Text (codes
-      "__concat"))) (FunctionC 3 []) (PairC (ConstantC (Text (codes "__unm"))) (FunctionC 4 []) NoFieldC))) 2) NoC)
-      (DeclareC (false ∷ []) (MoreC (CallC (GlobalC (codes "setmetatable") 3) (MoreC (TableC NoFieldC 3) (MoreC (LocalC (Reg 0)) NoC)) 3) NoC)
+      (DeclareC (false ∷ []) (MoreC (TableC (PairC (TextC 1) (FunctionC 2 []) (PairC (TextC 2) (FunctionC 3 []) (PairC (TextC 3) (FunctionC 4 [])
+      NoFieldC))) 2) NoC)
+      (DeclareC (false ∷ []) (MoreC (CallC (GlobalC 4 3) (MoreC (TableC NoFieldC 3) (MoreC (LocalC (Reg 0)) NoC)) 3) NoC)
       (ThenC (ReturnC (MoreC (OperateC (Calculate Add) (LocalC (Reg 0)) (ConstantC (Number (pos 1))) 4) (MoreC (OperateC (Calculate Add)
-      (ConstantC (Number (pos 1))) (LocalC (Reg 0)) 4) (MoreC (OperateC Concatenate (LocalC (Reg 0)) (ConstantC (Text (codes "x"))) 4) (MoreC
-      (OperateC Concatenate (ConstantC (Text (codes "x"))) (LocalC (Reg 0)) 4) (MoreC (UnaryC sign.Minus (LocalC (Reg 0)) 4) NoC)))))) EndC)));
+      (ConstantC (Number (pos 1))) (LocalC (Reg 0)) 4) (MoreC (OperateC Concatenate (LocalC (Reg 0)) (TextC 5) 4) (MoreC (OperateC Concatenate
+      (TextC 5) (LocalC (Reg 0)) 4) (MoreC (UnaryC sign.Minus (LocalC (Reg 0)) 4) NoC)))))) EndC)));
 }
 
 abbrev pub arithmetic_handlers_2 : CProto
@@ -87,7 +89,7 @@ arithmetic_handlers_2 = record {
   flags = (false ∷ false ∷ []);
   dots = false;
   body =
-      (ThenC (ReturnC (MoreC (ConstantC (Text (codes "add"))) NoC)) EndC);
+      (ThenC (ReturnC (MoreC (TextC 6) NoC)) EndC);
 }
 
 abbrev pub arithmetic_handlers_3 : CProto
@@ -95,8 +97,8 @@ arithmetic_handlers_3 = record {
   flags = (false ∷ false ∷ []);
   dots = false;
   body =
-      (ThenC (ReturnC (MoreC (OperateC Concatenate (CallC (GlobalC (codes "type") 2) (MoreC (LocalC (Reg 1)) NoC) 2) (CallC (GlobalC (codes
-      "type") 2) (MoreC (LocalC (Reg 0)) NoC) 2) 2) NoC)) EndC);
+      (ThenC (ReturnC (MoreC (OperateC Concatenate (CallC (GlobalC 7 2) (MoreC (LocalC (Reg 1)) NoC) 2) (CallC (GlobalC 7 2) (MoreC (LocalC (Reg
+      0)) NoC) 2) 2) NoC)) EndC);
 }
 
 abbrev pub arithmetic_handlers_4 : CProto
@@ -104,14 +106,17 @@ arithmetic_handlers_4 = record {
   flags = (false ∷ false ∷ []);
   dots = false;
   body =
-      (ThenC (ReturnC (MoreC (CallC (GlobalC (codes "tostring") 2) (MoreC (OperateC Equal (LocalC (Reg 1)) (LocalC (Reg 0)) 2) NoC) 2) NoC)) EndC);
+      (ThenC (ReturnC (MoreC (CallC (GlobalC 8 2) (MoreC (OperateC Equal (LocalC (Reg 1)) (LocalC (Reg 0)) 2) NoC) 2) NoC)) EndC);
 }
 
-abbrev pub arithmetic_handlers_code : List CProto
-arithmetic_handlers_code = arithmetic_handlers_0 ∷ arithmetic_handlers_1 ∷ arithmetic_handlers_2 ∷ arithmetic_handlers_3 ∷ arithmetic_handlers_4 ∷ []
+abbrev pub arithmetic_handlers_code : Protos
+arithmetic_handlers_code =
+    code_with
+    (codes "f" ∷ codes "__add" ∷ codes "__concat" ∷ codes "__unm" ∷ codes "setmetatable" ∷ codes "x" ∷ codes "add" ∷ codes "type" ∷ codes "tostring" ∷ [])
+    (arithmetic_handlers_0 ∷ arithmetic_handlers_1 ∷ arithmetic_handlers_2 ∷ arithmetic_handlers_3 ∷ arithmetic_handlers_4 ∷ [])
 
 abbrev pub ArithmeticHandlersIsCode : Type 0
-ArithmeticHandlersIsCode = IsProtos (functions_in arithmetic_handlers_code) arithmetic_handlers
+ArithmeticHandlersIsCode = IsProtos arithmetic_handlers_code arithmetic_handlers
 
 abbrev pub ArithmeticHandlersAlike : Type 0
 ArithmeticHandlersAlike = run.invoke_module (codes "X") 231 arithmetic_handlers_code 6000 ≡ invoke_module (codes "X") 231 arithmetic_handlers 6000
@@ -128,7 +133,7 @@ error_handlers_0 = record {
   flags = [];
   dots = false;
   body =
-      (ThenC (ReturnC (MoreC (TableC (PairC (ConstantC (Text (codes "f"))) (FunctionC 1 []) NoFieldC) 1) NoC)) EndC);
+      (ThenC (ReturnC (MoreC (TableC (PairC (TextC 0) (FunctionC 1 []) NoFieldC) 1) NoC)) EndC);
 }
 
 abbrev pub error_handlers_1 : CProto
@@ -137,10 +142,10 @@ error_handlers_1 = record {
   dots = true;
   body =
       (LocalFunctionC false 2 []
-      (DeclareC (false ∷ false ∷ []) (MoreC (CallC (GlobalC (codes "xpcall") 3) (MoreC (FunctionC 3 []) (MoreC (LocalC (Reg 0)) NoC)) 3) NoC)
-      (DeclareC (false ∷ false ∷ []) (MoreC (CallC (GlobalC (codes "xpcall") 4) (MoreC (FunctionC 4 []) (MoreC (LocalC (Reg 2)) NoC)) 4) NoC)
-      (ThenC (ReturnC (MoreC (CallC (GlobalC (codes "tostring") 5) (MoreC (LocalC (Reg 3)) NoC) 5) (MoreC (LocalC (Reg 2)) (MoreC (CallC (GlobalC
-      (codes "tostring") 5) (MoreC (LocalC (Reg 1)) NoC) 5) (MoreC (LocalC (Reg 0)) NoC))))) EndC))));
+      (DeclareC (false ∷ false ∷ []) (MoreC (CallC (GlobalC 1 3) (MoreC (FunctionC 3 []) (MoreC (LocalC (Reg 0)) NoC)) 3) NoC)
+      (DeclareC (false ∷ false ∷ []) (MoreC (CallC (GlobalC 1 4) (MoreC (FunctionC 4 []) (MoreC (LocalC (Reg 2)) NoC)) 4) NoC)
+      (ThenC (ReturnC (MoreC (CallC (GlobalC 2 5) (MoreC (LocalC (Reg 3)) NoC) 5) (MoreC (LocalC (Reg 2)) (MoreC (CallC (GlobalC 2 5) (MoreC
+      (LocalC (Reg 1)) NoC) 5) (MoreC (LocalC (Reg 0)) NoC))))) EndC))));
 }
 
 abbrev pub error_handlers_2 : CProto
@@ -148,8 +153,7 @@ error_handlers_2 = record {
   flags = (false ∷ []);
   dots = false;
   body =
-      (ThenC (ReturnC (MoreC (OperateC Concatenate (ConstantC (Text (codes "h("))) (OperateC Concatenate (LocalC (Reg 0)) (ConstantC (Text (codes
-      ")"))) 2) 2) NoC)) EndC);
+      (ThenC (ReturnC (MoreC (OperateC Concatenate (TextC 3) (OperateC Concatenate (LocalC (Reg 0)) (TextC 4) 2) 2) NoC)) EndC);
 }
 
 abbrev pub error_handlers_3 : CProto
@@ -157,8 +161,7 @@ error_handlers_3 = record {
   flags = [];
   dots = false;
   body =
-      (ThenC (CallStatC (CallC (GlobalC (codes "error") 3) (MoreC (ConstantC (Text (codes "x"))) (MoreC (ConstantC (Number (pos 0))) NoC)) 3))
-      EndC);
+      (ThenC (CallStatC (CallC (GlobalC 5 3) (MoreC (TextC 6) (MoreC (ConstantC (Number (pos 0))) NoC)) 3)) EndC);
 }
 
 abbrev pub error_handlers_4 : CProto
@@ -169,11 +172,14 @@ error_handlers_4 = record {
       (ThenC (ReturnC (MoreC (ConstantC (Number (pos 5))) NoC)) EndC);
 }
 
-abbrev pub error_handlers_code : List CProto
-error_handlers_code = error_handlers_0 ∷ error_handlers_1 ∷ error_handlers_2 ∷ error_handlers_3 ∷ error_handlers_4 ∷ []
+abbrev pub error_handlers_code : Protos
+error_handlers_code =
+    code_with
+    (codes "f" ∷ codes "xpcall" ∷ codes "tostring" ∷ codes "h(" ∷ codes ")" ∷ codes "error" ∷ codes "x" ∷ [])
+    (error_handlers_0 ∷ error_handlers_1 ∷ error_handlers_2 ∷ error_handlers_3 ∷ error_handlers_4 ∷ [])
 
 abbrev pub ErrorHandlersIsCode : Type 0
-ErrorHandlersIsCode = IsProtos (functions_in error_handlers_code) error_handlers
+ErrorHandlersIsCode = IsProtos error_handlers_code error_handlers
 
 abbrev pub ErrorHandlersAlike : Type 0
 ErrorHandlersAlike = run.invoke_module (codes "X") 211 error_handlers_code 6000 ≡ invoke_module (codes "X") 211 error_handlers 6000
@@ -192,7 +198,7 @@ new_index_0 = record {
   flags = [];
   dots = false;
   body =
-      (ThenC (ReturnC (MoreC (TableC (PairC (ConstantC (Text (codes "f"))) (FunctionC 1 []) NoFieldC) 1) NoC)) EndC);
+      (ThenC (ReturnC (MoreC (TableC (PairC (TextC 0) (FunctionC 1 []) NoFieldC) 1) NoC)) EndC);
 }
 
 abbrev pub new_index_1 : CProto
@@ -200,21 +206,19 @@ new_index_1 = record {
   flags = [];
   dots = true;
   body =
-      (DeclareC (true ∷ []) (MoreC (ConstantC (Text [])) NoC)
+      (DeclareC (true ∷ []) (MoreC (TextC 1) NoC)
       (DeclareC (false ∷ []) (MoreC (TableC NoFieldC 3) NoC)
-      (DeclareC (false ∷ []) (MoreC (CallC (GlobalC (codes "setmetatable") 4) (MoreC (TableC (PairC (ConstantC (Text (codes "old"))) (ConstantC
-      (Number (pos 1))) NoFieldC) 4) (MoreC (TableC (PairC (ConstantC (Text (codes "__newindex"))) (FunctionC 2 ((Box 1) ∷ [])) NoFieldC) 4) NoC))
-      4) NoC)
-      (DeclareC (false ∷ []) (MoreC (CallC (GlobalC (codes "setmetatable") 5) (MoreC (TableC NoFieldC 5) (MoreC (TableC (PairC (ConstantC (Text
-      (codes "__newindex"))) (LocalC (Reg 1)) NoFieldC) 5) NoC)) 5) NoC)
-      (ThenC (AssignC (EntryC (LocalC (Reg 1)) (ConstantC (Text (codes "old"))) 6 ∷ []) (MoreC (ConstantC (Number (pos 2))) NoC))
-      (ThenC (AssignC (EntryC (LocalC (Reg 1)) (ConstantC (Text (codes "new"))) 6 ∷ []) (MoreC (ConstantC (Number (pos 3))) NoC))
-      (ThenC (AssignC (EntryC (LocalC (Reg 1)) (ConstantC (Text (codes "new"))) 6 ∷ []) (MoreC (ConstantC (Number (pos 4))) NoC))
-      (ThenC (AssignC (EntryC (LocalC (Reg 0)) (ConstantC (Text (codes "k"))) 6 ∷ []) (MoreC (ConstantC (Number (pos 5))) NoC))
-      (ThenC (ReturnC (MoreC (LocalC (Box 3)) (MoreC (IndexC (LocalC (Reg 1)) (ConstantC (Text (codes "old"))) 7) (MoreC (IndexC (LocalC (Reg 1))
-      (ConstantC (Text (codes "new"))) 7) (MoreC (CallC (GlobalC (codes "tostring") 7) (MoreC (CallC (GlobalC (codes "rawget") 7) (MoreC (LocalC
-      (Reg 0)) (MoreC (ConstantC (Text (codes "k"))) NoC)) 7) NoC) 7) (MoreC (IndexC (LocalC (Reg 2)) (ConstantC (Text (codes "k"))) 7) NoC))))))
-      EndC)))))))));
+      (DeclareC (false ∷ []) (MoreC (CallC (GlobalC 2 4) (MoreC (TableC (PairC (TextC 3) (ConstantC (Number (pos 1))) NoFieldC) 4) (MoreC (TableC
+      (PairC (TextC 4) (FunctionC 2 ((Box 1) ∷ [])) NoFieldC) 4) NoC)) 4) NoC)
+      (DeclareC (false ∷ []) (MoreC (CallC (GlobalC 2 5) (MoreC (TableC NoFieldC 5) (MoreC (TableC (PairC (TextC 4) (LocalC (Reg 1)) NoFieldC) 5)
+      NoC)) 5) NoC)
+      (ThenC (AssignC (EntryC (LocalC (Reg 1)) (TextC 3) 6 ∷ []) (MoreC (ConstantC (Number (pos 2))) NoC))
+      (ThenC (AssignC (EntryC (LocalC (Reg 1)) (TextC 5) 6 ∷ []) (MoreC (ConstantC (Number (pos 3))) NoC))
+      (ThenC (AssignC (EntryC (LocalC (Reg 1)) (TextC 5) 6 ∷ []) (MoreC (ConstantC (Number (pos 4))) NoC))
+      (ThenC (AssignC (EntryC (LocalC (Reg 0)) (TextC 6) 6 ∷ []) (MoreC (ConstantC (Number (pos 5))) NoC))
+      (ThenC (ReturnC (MoreC (LocalC (Box 3)) (MoreC (IndexC (LocalC (Reg 1)) (TextC 3) 7) (MoreC (IndexC (LocalC (Reg 1)) (TextC 5) 7) (MoreC
+      (CallC (GlobalC 7 7) (MoreC (CallC (GlobalC 8 7) (MoreC (LocalC (Reg 0)) (MoreC (TextC 6) NoC)) 7) NoC) 7) (MoreC (IndexC (LocalC (Reg 2))
+      (TextC 6) 7) NoC)))))) EndC)))))))));
 }
 
 abbrev pub new_index_2 : CProto
@@ -223,15 +227,17 @@ new_index_2 = record {
   dots = false;
   body =
       (ThenC (AssignC (PlaceC (Up 0) ∷ []) (MoreC (OperateC Concatenate (LocalC (Up 0)) (LocalC (Reg 1)) 4) NoC))
-      (ThenC (CallStatC (CallC (GlobalC (codes "rawset") 4) (MoreC (LocalC (Reg 2)) (MoreC (LocalC (Reg 1)) (MoreC (LocalC (Reg 0)) NoC))) 4))
-      EndC));
+      (ThenC (CallStatC (CallC (GlobalC 9 4) (MoreC (LocalC (Reg 2)) (MoreC (LocalC (Reg 1)) (MoreC (LocalC (Reg 0)) NoC))) 4)) EndC));
 }
 
-abbrev pub new_index_code : List CProto
-new_index_code = new_index_0 ∷ new_index_1 ∷ new_index_2 ∷ []
+abbrev pub new_index_code : Protos
+new_index_code =
+    code_with
+    (codes "f" ∷ [] ∷ codes "setmetatable" ∷ codes "old" ∷ codes "__newindex" ∷ codes "new" ∷ codes "k" ∷ codes "tostring" ∷ codes "rawget" ∷ codes "rawset" ∷ [])
+    (new_index_0 ∷ new_index_1 ∷ new_index_2 ∷ [])
 
 abbrev pub NewIndexIsCode : Type 0
-NewIndexIsCode = IsProtos (functions_in new_index_code) new_index
+NewIndexIsCode = IsProtos new_index_code new_index
 
 abbrev pub NewIndexAlike : Type 0
 NewIndexAlike = run.invoke_module (codes "X") 273 new_index_code 6000 ≡ invoke_module (codes "X") 273 new_index 6000
@@ -246,7 +252,7 @@ call_handlers_0 = record {
   flags = [];
   dots = false;
   body =
-      (ThenC (ReturnC (MoreC (TableC (PairC (ConstantC (Text (codes "f"))) (FunctionC 1 []) NoFieldC) 1) NoC)) EndC);
+      (ThenC (ReturnC (MoreC (TableC (PairC (TextC 0) (FunctionC 1 []) NoFieldC) 1) NoC)) EndC);
 }
 
 abbrev pub call_handlers_1 : CProto
@@ -254,11 +260,11 @@ call_handlers_1 = record {
   flags = [];
   dots = true;
   body =
-      (DeclareC (false ∷ []) (MoreC (CallC (GlobalC (codes "setmetatable") 2) (MoreC (TableC (PairC (ConstantC (Text (codes "n"))) (ConstantC
-      (Number (pos 2))) NoFieldC) 2) (MoreC (TableC (PairC (ConstantC (Text (codes "__call"))) (FunctionC 2 []) NoFieldC) 2) NoC)) 2) NoC)
+      (DeclareC (false ∷ []) (MoreC (CallC (GlobalC 1 2) (MoreC (TableC (PairC (TextC 2) (ConstantC (Number (pos 2))) NoFieldC) 2) (MoreC (TableC
+      (PairC (TextC 3) (FunctionC 2 []) NoFieldC) 2) NoC)) 2) NoC)
       (ThenC (ReturnC (MoreC (CallC (LocalC (Reg 0)) (MoreC (ConstantC (Number (pos 3))) (MoreC (ConstantC (Number (pos 4))) NoC)) 3) (MoreC
-      (CallC (GlobalC (codes "pcall") 3) (MoreC (LocalC (Reg 0)) (MoreC (ConstantC (Number (pos 1))) (MoreC (ConstantC (Number (pos 1))) NoC))) 3)
-      NoC))) EndC));
+      (CallC (GlobalC 4 3) (MoreC (LocalC (Reg 0)) (MoreC (ConstantC (Number (pos 1))) (MoreC (ConstantC (Number (pos 1))) NoC))) 3) NoC)))
+      EndC));
 }
 
 abbrev pub call_handlers_2 : CProto
@@ -266,15 +272,18 @@ call_handlers_2 = record {
   flags = (false ∷ false ∷ false ∷ []);
   dots = false;
   body =
-      (ThenC (ReturnC (MoreC (OperateC (Calculate Add) (OperateC (Calculate Add) (IndexC (LocalC (Reg 2)) (ConstantC (Text (codes "n"))) 2)
-      (LocalC (Reg 1)) 2) (LocalC (Reg 0)) 2) NoC)) EndC);
+      (ThenC (ReturnC (MoreC (OperateC (Calculate Add) (OperateC (Calculate Add) (IndexC (LocalC (Reg 2)) (TextC 2) 2) (LocalC (Reg 1)) 2) (LocalC
+      (Reg 0)) 2) NoC)) EndC);
 }
 
-abbrev pub call_handlers_code : List CProto
-call_handlers_code = call_handlers_0 ∷ call_handlers_1 ∷ call_handlers_2 ∷ []
+abbrev pub call_handlers_code : Protos
+call_handlers_code =
+    code_with
+    (codes "f" ∷ codes "setmetatable" ∷ codes "n" ∷ codes "__call" ∷ codes "pcall" ∷ [])
+    (call_handlers_0 ∷ call_handlers_1 ∷ call_handlers_2 ∷ [])
 
 abbrev pub CallHandlersIsCode : Type 0
-CallHandlersIsCode = IsProtos (functions_in call_handlers_code) call_handlers
+CallHandlersIsCode = IsProtos call_handlers_code call_handlers
 
 abbrev pub CallHandlersAlike : Type 0
 CallHandlersAlike = run.invoke_module (codes "X") 133 call_handlers_code 6000 ≡ invoke_module (codes "X") 133 call_handlers 6000
@@ -290,7 +299,7 @@ load_fails_0 = record {
   flags = [];
   dots = false;
   body =
-      (ThenC (ReturnC (MoreC (TableC (PairC (ConstantC (Text (codes "f"))) (FunctionC 1 []) NoFieldC) 1) NoC)) EndC);
+      (ThenC (ReturnC (MoreC (TableC (PairC (TextC 0) (FunctionC 1 []) NoFieldC) 1) NoC)) EndC);
 }
 
 abbrev pub load_fails_1 : CProto
@@ -298,19 +307,20 @@ load_fails_1 = record {
   flags = (false ∷ []);
   dots = false;
   body =
-      (DeclareC (false ∷ false ∷ []) (MoreC (CallC (GlobalC (codes "pcall") 2) (MoreC (IndexC (GlobalC (codes "mw") 2) (ConstantC (Text (codes
-      "loadData"))) 2) (MoreC (ConstantC (Text (codes "Module:D"))) NoC)) 2) NoC)
-      (DeclareC (false ∷ false ∷ []) (MoreC (CallC (GlobalC (codes "pcall") 3) (MoreC (IndexC (GlobalC (codes "mw") 3) (ConstantC (Text (codes
-      "loadData"))) 3) (MoreC (ConstantC (Text (codes "Module:D"))) NoC)) 3) NoC)
-      (ThenC (ReturnC (MoreC (LocalC (Reg 2)) (MoreC (CallC (GlobalC (codes "tostring") 4) (MoreC (LocalC (Reg 1)) NoC) 4) (MoreC (IndexC (LocalC
-      (Reg 0)) (ConstantC (Text (codes "x"))) 4) NoC)))) EndC)));
+      (DeclareC (false ∷ false ∷ []) (MoreC (CallC (GlobalC 1 2) (MoreC (IndexC (GlobalC 2 2) (TextC 3) 2) (MoreC (TextC 4) NoC)) 2) NoC)
+      (DeclareC (false ∷ false ∷ []) (MoreC (CallC (GlobalC 1 3) (MoreC (IndexC (GlobalC 2 3) (TextC 3) 3) (MoreC (TextC 4) NoC)) 3) NoC)
+      (ThenC (ReturnC (MoreC (LocalC (Reg 2)) (MoreC (CallC (GlobalC 5 4) (MoreC (LocalC (Reg 1)) NoC) 4) (MoreC (IndexC (LocalC (Reg 0)) (TextC
+      6) 4) NoC)))) EndC)));
 }
 
-abbrev pub load_fails_code : List CProto
-load_fails_code = load_fails_0 ∷ load_fails_1 ∷ []
+abbrev pub load_fails_code : Protos
+load_fails_code =
+    code_with
+    (codes "f" ∷ codes "pcall" ∷ codes "mw" ∷ codes "loadData" ∷ codes "Module:D" ∷ codes "tostring" ∷ codes "x" ∷ [])
+    (load_fails_0 ∷ load_fails_1 ∷ [])
 
 abbrev pub LoadFailsIsCode : Type 0
-LoadFailsIsCode = IsProtos (functions_in load_fails_code) load_fails
+LoadFailsIsCode = IsProtos load_fails_code load_fails
 
 abbrev pub LoadFailsAlike : Type 0
 LoadFailsAlike = run.invoke_in_template (run.module_text (codes "X") 142 load_fails_code ∷ []) [] (codes "X") 6000 (reply (LoadFailed (codes

@@ -1,15 +1,15 @@
 -- CODE OF SMALL MODULES, and what comes of it: the same as of their trees, to the step. Each text is an example of the meaning, where
 -- the values stand that come from outside.
-use Rattle.std.specs.Prelude.{◌≡◌, pos, true, false, List, [], ◌∷◌, codes}
+use Rattle.std.specs.Prelude.{◌≡◌, pos, true, false, [], ◌∷◌, codes}
 use Rattle.lua_syntax.specs.declared.UnaryOp.TheVariants as sign
-use Rattle.lua_heap.specs.Value.{Nil, Truth, Number, Text}
+use Rattle.lua_heap.specs.Value.{Nil, Truth, Number}
 use Rattle.lua_meaning.specs.Operators.{Add, Less, AtLeast, Equal, Concatenate, Calculate}
 use Rattle.lua_meaning.specs.Trial.{invoke_module}
-use Rattle.lua_slots.specs.Code.{Reg, Box, Up, ConstantC, FunctionC, LocalC, GlobalC, IndexC, CallC, TableC, AndC, OrC, OperateC, UnaryC}
+use Rattle.lua_slots.specs.Code.{Reg, Box, Up, ConstantC, TextC, FunctionC, LocalC, GlobalC, IndexC, CallC, TableC, AndC, OrC, OperateC, UnaryC}
 use Rattle.lua_slots.specs.Code.{NoC, MoreC, NoFieldC, ItemC, PairC, PlaceC, EntryC}
-use Rattle.lua_slots.specs.Code.{AssignC, RepeatC, IfElseC, CountC, ReturnC, EndC, DeclareC, LocalFunctionC, ThenC, NoArmC, ArmC, CProto}
+use Rattle.lua_slots.specs.Code.{AssignC, RepeatC, IfElseC, CountC, ReturnC, EndC, DeclareC, LocalFunctionC, ThenC, NoArmC, ArmC, CProto, Protos}
 use Rattle.lua_slots.specs.IsCode.{IsProtos}
-use Rattle.lua_slots.specs.Trial.{functions_in}
+use Rattle.lua_slots.specs.Trial.{code_with}
 use Rattle.lua_slots.specs.Trial as run
 use Rattle.lua_meaning.specs.ExampleCharges.{cells}
 use Rattle.lua_meaning.specs.ExampleStatements.{repeat_loop, branches, constructors}
@@ -23,7 +23,7 @@ cells_0 = record {
   dots = false;
   body =
       (DeclareC (false ∷ []) (MoreC (TableC NoFieldC 1) NoC)
-      (ThenC (AssignC (EntryC (LocalC (Reg 0)) (ConstantC (Text (codes "f"))) 1 ∷ []) (MoreC (FunctionC 1 []) NoC))
+      (ThenC (AssignC (EntryC (LocalC (Reg 0)) (TextC 0) 1 ∷ []) (MoreC (FunctionC 1 []) NoC))
       (ThenC (ReturnC (MoreC (LocalC (Reg 0)) NoC)) EndC)));
 }
 
@@ -49,11 +49,11 @@ cells_2 = record {
       (ThenC (ReturnC (MoreC (LocalC (Up 0)) NoC)) EndC));
 }
 
-abbrev pub cells_code : List CProto
-cells_code = cells_0 ∷ cells_1 ∷ cells_2 ∷ []
+abbrev pub cells_code : Protos
+cells_code = code_with (codes "f" ∷ []) (cells_0 ∷ cells_1 ∷ cells_2 ∷ [])
 
 abbrev pub CellsIsCode : Type 0
-CellsIsCode = IsProtos (functions_in cells_code) cells
+CellsIsCode = IsProtos cells_code cells
 
 abbrev pub CellsAlike : Type 0
 CellsAlike = run.invoke_module (codes "Slots") 137 cells_code 6000 ≡ invoke_module (codes "Slots") 137 cells 6000
@@ -69,7 +69,7 @@ repeat_loop_0 = record {
   flags = [];
   dots = false;
   body =
-      (ThenC (ReturnC (MoreC (TableC (PairC (ConstantC (Text (codes "f"))) (FunctionC 1 []) NoFieldC) 1) NoC)) EndC);
+      (ThenC (ReturnC (MoreC (TableC (PairC (TextC 0) (FunctionC 1 []) NoFieldC) 1) NoC)) EndC);
 }
 
 abbrev pub repeat_loop_1 : CProto
@@ -85,11 +85,11 @@ repeat_loop_1 = record {
       (ThenC (ReturnC (MoreC (LocalC (Reg 0)) NoC)) EndC)));
 }
 
-abbrev pub repeat_loop_code : List CProto
-repeat_loop_code = repeat_loop_0 ∷ repeat_loop_1 ∷ []
+abbrev pub repeat_loop_code : Protos
+repeat_loop_code = code_with (codes "f" ∷ []) (repeat_loop_0 ∷ repeat_loop_1 ∷ [])
 
 abbrev pub RepeatLoopIsCode : Type 0
-RepeatLoopIsCode = IsProtos (functions_in repeat_loop_code) repeat_loop
+RepeatLoopIsCode = IsProtos repeat_loop_code repeat_loop
 
 abbrev pub RepeatLoopAlike : Type 0
 RepeatLoopAlike = run.invoke_module (codes "X") 89 repeat_loop_code 6000 ≡ invoke_module (codes "X") 89 repeat_loop 6000
@@ -104,7 +104,7 @@ branches_0 = record {
   flags = [];
   dots = false;
   body =
-      (ThenC (ReturnC (MoreC (TableC (PairC (ConstantC (Text (codes "f"))) (FunctionC 1 []) NoFieldC) 1) NoC)) EndC);
+      (ThenC (ReturnC (MoreC (TableC (PairC (TextC 0) (FunctionC 1 []) NoFieldC) 1) NoC)) EndC);
 }
 
 abbrev pub branches_1 : CProto
@@ -123,16 +123,16 @@ branches_2 = record {
   dots = false;
   body =
       (ThenC (IfElseC (ArmC (OperateC Less (LocalC (Reg 0)) (ConstantC (Number (pos 0))) 2)
-      (ThenC (ReturnC (MoreC (ConstantC (Text (codes "neg"))) NoC)) EndC) (ArmC (OperateC Equal (LocalC (Reg 0)) (ConstantC (Number (pos 0))) 2)
-      (ThenC (ReturnC (MoreC (ConstantC (Text (codes "zero"))) NoC)) EndC) NoArmC))
-      (ThenC (ReturnC (MoreC (ConstantC (Text (codes "pos"))) NoC)) EndC)) EndC);
+      (ThenC (ReturnC (MoreC (TextC 1) NoC)) EndC) (ArmC (OperateC Equal (LocalC (Reg 0)) (ConstantC (Number (pos 0))) 2)
+      (ThenC (ReturnC (MoreC (TextC 2) NoC)) EndC) NoArmC))
+      (ThenC (ReturnC (MoreC (TextC 3) NoC)) EndC)) EndC);
 }
 
-abbrev pub branches_code : List CProto
-branches_code = branches_0 ∷ branches_1 ∷ branches_2 ∷ []
+abbrev pub branches_code : Protos
+branches_code = code_with (codes "f" ∷ codes "neg" ∷ codes "zero" ∷ codes "pos" ∷ []) (branches_0 ∷ branches_1 ∷ branches_2 ∷ [])
 
 abbrev pub BranchesIsCode : Type 0
-BranchesIsCode = IsProtos (functions_in branches_code) branches
+BranchesIsCode = IsProtos branches_code branches
 
 abbrev pub BranchesAlike : Type 0
 BranchesAlike = run.invoke_module (codes "X") 165 branches_code 6000 ≡ invoke_module (codes "X") 165 branches 6000
@@ -148,7 +148,7 @@ constructors_0 = record {
   flags = [];
   dots = false;
   body =
-      (ThenC (ReturnC (MoreC (TableC (PairC (ConstantC (Text (codes "f"))) (FunctionC 1 []) NoFieldC) 1) NoC)) EndC);
+      (ThenC (ReturnC (MoreC (TableC (PairC (TextC 0) (FunctionC 1 []) NoFieldC) 1) NoC)) EndC);
 }
 
 abbrev pub constructors_1 : CProto
@@ -157,13 +157,12 @@ constructors_1 = record {
   dots = true;
   body =
       (LocalFunctionC false 2 []
-      (DeclareC (false ∷ []) (MoreC (TableC (ItemC (CallC (LocalC (Reg 0)) NoC 3) (ItemC (CallC (LocalC (Reg 0)) NoC 3) (PairC (ConstantC (Text
-      (codes "k"))) (ConstantC (Number (pos 1))) (PairC (ConstantC (Text (codes "x"))) (ConstantC (Number (pos 2))) (ItemC (CallC (LocalC (Reg 0))
-      NoC 3) NoFieldC))))) 3) NoC)
+      (DeclareC (false ∷ []) (MoreC (TableC (ItemC (CallC (LocalC (Reg 0)) NoC 3) (ItemC (CallC (LocalC (Reg 0)) NoC 3) (PairC (TextC 1)
+      (ConstantC (Number (pos 1))) (PairC (TextC 2) (ConstantC (Number (pos 2))) (ItemC (CallC (LocalC (Reg 0)) NoC 3) NoFieldC))))) 3) NoC)
       (ThenC (ReturnC (MoreC (UnaryC sign.Len (LocalC (Reg 0)) 4) (MoreC (IndexC (LocalC (Reg 0)) (ConstantC (Number (pos 1))) 4) (MoreC (IndexC
       (LocalC (Reg 0)) (ConstantC (Number (pos 2))) 4) (MoreC (IndexC (LocalC (Reg 0)) (ConstantC (Number (pos 3))) 4) (MoreC (IndexC (LocalC (Reg
-      0)) (ConstantC (Number (pos 4))) 4) (MoreC (IndexC (LocalC (Reg 0)) (ConstantC (Text (codes "k"))) 4) (MoreC (IndexC (LocalC (Reg 0))
-      (ConstantC (Text (codes "x"))) 4) NoC)))))))) EndC)));
+      0)) (ConstantC (Number (pos 4))) 4) (MoreC (IndexC (LocalC (Reg 0)) (TextC 1) 4) (MoreC (IndexC (LocalC (Reg 0)) (TextC 2) 4) NoC))))))))
+      EndC)));
 }
 
 abbrev pub constructors_2 : CProto
@@ -171,14 +170,17 @@ constructors_2 = record {
   flags = [];
   dots = false;
   body =
-      (ThenC (ReturnC (MoreC (ConstantC (Text (codes "p"))) (MoreC (ConstantC (Text (codes "q"))) NoC))) EndC);
+      (ThenC (ReturnC (MoreC (TextC 3) (MoreC (TextC 4) NoC))) EndC);
 }
 
-abbrev pub constructors_code : List CProto
-constructors_code = constructors_0 ∷ constructors_1 ∷ constructors_2 ∷ []
+abbrev pub constructors_code : Protos
+constructors_code =
+    code_with
+    (codes "f" ∷ codes "k" ∷ codes "x" ∷ codes "p" ∷ codes "q" ∷ [])
+    (constructors_0 ∷ constructors_1 ∷ constructors_2 ∷ [])
 
 abbrev pub ConstructorsIsCode : Type 0
-ConstructorsIsCode = IsProtos (functions_in constructors_code) constructors
+ConstructorsIsCode = IsProtos constructors_code constructors
 
 abbrev pub ConstructorsAlike : Type 0
 ConstructorsAlike = run.invoke_module (codes "X") 146 constructors_code 6000 ≡ invoke_module (codes "X") 146 constructors 6000
@@ -192,7 +194,7 @@ and_or_0 = record {
   flags = [];
   dots = false;
   body =
-      (ThenC (ReturnC (MoreC (TableC (PairC (ConstantC (Text (codes "f"))) (FunctionC 1 []) NoFieldC) 1) NoC)) EndC);
+      (ThenC (ReturnC (MoreC (TableC (PairC (TextC 0) (FunctionC 1 []) NoFieldC) 1) NoC)) EndC);
 }
 
 abbrev pub and_or_1 : CProto
@@ -200,17 +202,17 @@ and_or_1 = record {
   flags = [];
   dots = true;
   body =
-      (ThenC (ReturnC (MoreC (CallC (GlobalC (codes "tostring") 2) (MoreC (AndC (ConstantC Nil) (ConstantC (Number (pos 1)))) NoC) 2) (MoreC
-      (CallC (GlobalC (codes "tostring") 2) (MoreC (OrC (ConstantC (Truth false)) (ConstantC Nil)) NoC) 2) (MoreC (AndC (ConstantC (Number (pos
-      1))) (ConstantC (Number (pos 2)))) (MoreC (OrC (ConstantC Nil) (ConstantC (Number (pos 3)))) (MoreC (OrC (AndC (ConstantC (Truth false))
-      (CallC (GlobalC (codes "error") 2) (MoreC (ConstantC (Text (codes "x"))) NoC) 2)) (ConstantC (Text (codes "y")))) NoC)))))) EndC);
+      (ThenC (ReturnC (MoreC (CallC (GlobalC 1 2) (MoreC (AndC (ConstantC Nil) (ConstantC (Number (pos 1)))) NoC) 2) (MoreC (CallC (GlobalC 1 2)
+      (MoreC (OrC (ConstantC (Truth false)) (ConstantC Nil)) NoC) 2) (MoreC (AndC (ConstantC (Number (pos 1))) (ConstantC (Number (pos 2))))
+      (MoreC (OrC (ConstantC Nil) (ConstantC (Number (pos 3)))) (MoreC (OrC (AndC (ConstantC (Truth false)) (CallC (GlobalC 2 2) (MoreC (TextC 3)
+      NoC) 2)) (TextC 4)) NoC)))))) EndC);
 }
 
-abbrev pub and_or_code : List CProto
-and_or_code = and_or_0 ∷ and_or_1 ∷ []
+abbrev pub and_or_code : Protos
+and_or_code = code_with (codes "f" ∷ codes "tostring" ∷ codes "error" ∷ codes "x" ∷ codes "y" ∷ []) (and_or_0 ∷ and_or_1 ∷ [])
 
 abbrev pub AndOrIsCode : Type 0
-AndOrIsCode = IsProtos (functions_in and_or_code) and_or
+AndOrIsCode = IsProtos and_or_code and_or
 
 abbrev pub AndOrAlike : Type 0
 AndOrAlike = run.invoke_module (codes "X") 127 and_or_code 6000 ≡ invoke_module (codes "X") 127 and_or 6000

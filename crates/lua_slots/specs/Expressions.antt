@@ -4,7 +4,7 @@ use Rattle.lua_heap.specs.Value.{Value, Number, Text, Table, is_true}
 use Rattle.lua_heap.specs.Heap.{new_table}
 use Rattle.lua_meaning.specs.Charges.{table_charge, closure_charge}
 use Rattle.lua_meaning.specs.Values.{first}
-use Rattle.lua_slots.specs.Code.{CExp, ConstantC, DotsC, FunctionC, LocalC, GlobalC, IndexC, CallC, MethodC, TableC, AndC, OrC, OperateC, UnaryC, ParenC, CExps, NoC, MoreC, CFields, NoFieldC, ItemC, PairC}
+use Rattle.lua_slots.specs.Code.{Constants, CExp, ConstantC, TextC, DotsC, FunctionC, LocalC, GlobalC, IndexC, CallC, MethodC, TableC, AndC, OrC, OperateC, UnaryC, ParenC, CExps, NoC, MoreC, CFields, NoFieldC, ItemC, PairC}
 use Rattle.lua_slots.specs.Slots.{Slots, function_of, read_place, proc_of, with_closure, next_closure, with_heap}
 use Rattle.lua_slots.specs.Points.{SFrame, First, KeyNext, DecideNext, OperandNext, UnaryNow, ArgumentsNext, MethodNext, MoreNext, ItemNow, PairNext, FieldsNext, ItemsNext, Evals, Lists, Move, Costs, Now}
 use Rattle.lua_slots.specs.Errors.{node, choose, gives}
@@ -37,22 +37,24 @@ item t n more vs line fs s = set_entry t (Number (pos n)) (first vs) (Some line)
 abbrev pub with_table : Slots → Slots
 with_table s = with_heap (new_table s.heap).0 s
 
--- a new table costs 8 steps, and so does a new closure; `...` costs a step for each of its values
-abbrev pub evals : CExp → List SFrame → Slots → Move
-evals (ConstantC v) fs s = node (gives (v ∷ []) fs s)
-evals DotsC fs s = node (Costs (length (function_of s).dots) (gives (function_of s).dots fs s))
-evals (FunctionC index places) fs s = node (Costs closure_charge (gives (next_closure s ∷ []) fs (with_closure (proc_of index places s) s)))
-evals (LocalC p) fs s = node (gives (read_place s p ∷ []) fs s)
-evals (GlobalC x line) fs s = node (index_table s.globals (Text x) (Some line) (First ∷ fs) s)
-evals (IndexC of key line) fs s = node (Now (Evals of (KeyNext key line ∷ fs)) s)
-evals (CallC f args line) fs s = node (Now (Evals f (ArgumentsNext args line ∷ fs)) s)
-evals (MethodC of x args line) fs s = node (Now (Evals of (MethodNext x args line ∷ fs)) s)
-evals (TableC cs line) fs s = node (Costs table_charge (fields (new_table s.heap).1 1 cs line fs (with_table s)))
-evals (AndC a b) fs s = node (Now (Evals a (DecideNext false b ∷ fs)) s)
-evals (OrC a b) fs s = node (Now (Evals a (DecideNext true b ∷ fs)) s)
-evals (OperateC o a b line) fs s = node (Now (Evals a (OperandNext o b line ∷ fs)) s)
-evals (UnaryC o a line) fs s = node (Now (Evals a (UnaryNow o line ∷ fs)) s)
-evals (ParenC a) fs s = node (Now (Evals a (First ∷ fs)) s)
+-- a new table costs 8 steps, and so does a new closure; `...` costs a step for each of its values. Texts and names are found among the
+-- constants of the running function's module.
+abbrev pub evals : Constants → CExp → List SFrame → Slots → Move
+evals constants (ConstantC v) fs s = node (gives (v ∷ []) fs s)
+evals constants (TextC n) fs s = node (gives (Text (constants n) ∷ []) fs s)
+evals constants DotsC fs s = node (Costs (length (function_of s).dots) (gives (function_of s).dots fs s))
+evals constants (FunctionC index places) fs s = node (Costs closure_charge (gives (next_closure s ∷ []) fs (with_closure (proc_of index places s) s)))
+evals constants (LocalC p) fs s = node (gives (read_place s p ∷ []) fs s)
+evals constants (GlobalC x line) fs s = node (index_table s.globals (Text (constants x)) (Some line) (First ∷ fs) s)
+evals constants (IndexC of key line) fs s = node (Now (Evals of (KeyNext key line ∷ fs)) s)
+evals constants (CallC f args line) fs s = node (Now (Evals f (ArgumentsNext args line ∷ fs)) s)
+evals constants (MethodC of x args line) fs s = node (Now (Evals of (MethodNext (constants x) args line ∷ fs)) s)
+evals constants (TableC cs line) fs s = node (Costs table_charge (fields (new_table s.heap).1 1 cs line fs (with_table s)))
+evals constants (AndC a b) fs s = node (Now (Evals a (DecideNext false b ∷ fs)) s)
+evals constants (OrC a b) fs s = node (Now (Evals a (DecideNext true b ∷ fs)) s)
+evals constants (OperateC o a b line) fs s = node (Now (Evals a (OperandNext o b line ∷ fs)) s)
+evals constants (UnaryC o a line) fs s = node (Now (Evals a (UnaryNow o line ∷ fs)) s)
+evals constants (ParenC a) fs s = node (Now (Evals a (First ∷ fs)) s)
 
 -- `and` and `or` give an operand: the first where it decides, by being false or true (2.5.3)
 abbrev pub decides : Bool → Bool → Bool

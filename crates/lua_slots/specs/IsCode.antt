@@ -1,5 +1,5 @@
--- WHICH CODE IS CODE OF A TREE, where names stand so. `at` gives the functions of the module by their numbers.
--- Nothing here says how a function is numbered, nor which variables beyond the captured ones have cells.
+-- WHICH CODE IS CODE OF A TREE, where names stand so. `at` gives the functions and the constants of the module by their numbers.
+-- Nothing here says how a function or a constant is numbered, nor which variables beyond the captured ones have cells.
 use Rattle.std.specs.Prelude.{◌≡◌, ℕ, Bool, true, false, List, [], ◌∷◌, Option, Some, None, Result, Ok, Err}
 use Rattle.wk_base.specs.declared.title.Title.{Title}
 use Rattle.wk_base.specs.Titles.{title_text}
@@ -9,12 +9,12 @@ use Rattle.lua_syntax.specs.declared.BinaryOp.TheVariants as op
 use Rattle.lua_syntax.specs.Tree.{Exp, NilE, TrueE, FalseE, NumberE, TextE, DotsE, FunctionE, NameE, IndexE, CallE, MethodE, TableE, BinaryE, UnaryE, ParenE}
 use Rattle.lua_syntax.specs.Tree.{Exps, NoExp, MoreExp, Fields, NoField, Item, Pair, Fun, Lambda, Block, NoStat, MoreStat, Arms, NoArm, Arm}
 use Rattle.lua_syntax.specs.Tree.{Stat, AssignS, CallS, DoS, WhileS, RepeatS, IfS, IfElseS, CountS, CountByS, EachS, LocalFunctionS, LocalS, ReturnS, BreakS}
-use Rattle.lua_heap.specs.Value.{Nil, Truth, Number, Text}
+use Rattle.lua_heap.specs.Value.{Nil, Truth, Number}
 use Rattle.lua_heap.specs.Related.{Each}
 use Rattle.lua_meaning.specs.Scope.{Bytes}
 use Rattle.lua_meaning.specs.World.{Module, World}
 use Rattle.lua_meaning.specs.Operators.{Add, Sub, Mul, Div, Mod, Pow, Operator, Less, Greater, AtMost, AtLeast, Equal, Unequal, Concatenate, Calculate}
-use Rattle.lua_slots.specs.Code.{Place, Reg, CExp, ConstantC, DotsC, FunctionC, LocalC, GlobalC, IndexC, CallC, MethodC, TableC, AndC, OrC, OperateC, UnaryC, ParenC}
+use Rattle.lua_slots.specs.Code.{Place, Reg, CExp, ConstantC, TextC, DotsC, FunctionC, LocalC, GlobalC, IndexC, CallC, MethodC, TableC, AndC, OrC, OperateC, UnaryC, ParenC}
 use Rattle.lua_slots.specs.Code.{CExps, NoC, MoreC, CFields, NoFieldC, ItemC, PairC, CTarget, PlaceC, GlobalTargetC, EntryC, RefusedC}
 use Rattle.lua_slots.specs.Code.{CStat, AssignC, CallStatC, DoC, WhileC, RepeatC, IfC, IfElseC, CountC, CountByC, EachC, ReturnC, BreakC, CBlock, EndC, DeclareC, LocalFunctionC, ThenC, CArms, NoArmC, ArmC}
 use Rattle.lua_slots.specs.Code.{CProto, Protos, CModule, CWorld}
@@ -55,7 +55,7 @@ IsNoTarget _ = Unit {0}
 
 -- a function of that number, which captures some names from these places; what is said of its code, and of what is seen inside it
 abbrev pub IsClosure : Protos → Sight → ℕ → List Place → (Sight → CProto → Type 0) → Type 0
-IsClosure at see index places IsCode = (names : List Bytes) × (p : CProto) × (at index ≡ Some p) × Each (IsCaptured see) names places × IsCode (inside names see) p
+IsClosure at see index places IsCode = (names : List Bytes) × (p : CProto) × (at.function index ≡ Some p) × Each (IsCaptured see) names places × IsCode (inside names see) p
 
 -- what is said of the sight at the end of a block, where its variables are still seen
 abbrev pub EndSight : Type 1
@@ -71,14 +71,14 @@ module _ (at : Protos) where
     IsExp see (TrueE line) (ConstantC v) = v ≡ Truth true
     IsExp see (FalseE line) (ConstantC v) = v ≡ Truth false
     IsExp see (NumberE line z) (ConstantC v) = v ≡ Number z
-    IsExp see (TextE line t) (ConstantC v) = v ≡ Text t
+    IsExp see (TextE line t) (TextC n) = at.constant n ≡ t
     IsExp see (DotsE line) DotsC = Unit {0}
     IsExp see (FunctionE line f) (FunctionC index places) = IsClosure at see index places (λ inner p. IsFun inner f p)
     IsExp see (NameE line x) (LocalC p) = see x ≡ Here p
-    IsExp see (NameE line x) (GlobalC y l) = (see x ≡ Everywhere) × (y ≡ x) × (l ≡ line)
+    IsExp see (NameE line x) (GlobalC y l) = (see x ≡ Everywhere) × (at.constant y ≡ x) × (l ≡ line)
     IsExp see (IndexE line of key) (IndexC c d l) = (l ≡ line) × IsExp see of c × IsExp see key d
     IsExp see (CallE line f es) (CallC c cs l) = (l ≡ line) × IsExp see f c × IsExps see es cs
-    IsExp see (MethodE line of x es) (MethodC c y cs l) = (l ≡ line) × (y ≡ x) × IsExp see of c × IsExps see es cs
+    IsExp see (MethodE line of x es) (MethodC c y cs l) = (l ≡ line) × (at.constant y ≡ x) × IsExp see of c × IsExps see es cs
     IsExp see (TableE line fields) (TableC cs l) = (l ≡ line) × IsFields see fields cs
     IsExp see (BinaryE line o a b) (AndC c d) = (o ≡ op.And) × IsExp see a c × IsExp see b d
     IsExp see (BinaryE line o a b) (OrC c d) = (o ≡ op.Or) × IsExp see a c × IsExp see b d
@@ -104,7 +104,7 @@ module _ (at : Protos) where
 
     pub IsTarget : Sight → Exp → CTarget → Type 0
     IsTarget see (NameE line x) (PlaceC p) = see x ≡ Here p
-    IsTarget see (NameE line x) (GlobalTargetC y l) = (see x ≡ Everywhere) × (y ≡ x) × (l ≡ line)
+    IsTarget see (NameE line x) (GlobalTargetC y l) = (see x ≡ Everywhere) × (at.constant y ≡ x) × (l ≡ line)
     IsTarget see (IndexE line of key) (EntryC c d l) = (l ≡ line) × IsExp see of c × IsExp see key d
     IsTarget see e RefusedC = IsNoTarget e
     IsTarget see e t = ⊥
@@ -144,7 +144,7 @@ module _ (at : Protos) where
 
 -- THE CODE OF A TEXT (2.4.1): number 0 of its functions is the text itself, which has no parameters
 pub record IsText (at : Protos) (b : Block) (p : CProto) : Type 0 where
-  pub first : at 0 ≡ Some p
+  pub first : at.function 0 ≡ Some p
   pub no_parameters : p.flags ≡ []
   pub no_dots : p.dots ≡ false
   pub body : IsBlock at any_sight nothing_local b p.body

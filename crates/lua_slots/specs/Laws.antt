@@ -1,6 +1,7 @@
 -- LAWS of code and of moves.
 use Rattle.std.specs.Prelude.{◌≡◌, ◌≤◌, ℕ, ◌+◌, ◌-◌, Some}
 use Rattle.lua_syntax.specs.Tree.{Block}
+use Rattle.lua_meaning.specs.Scope.{Bytes}
 use Rattle.lua_slots.specs.Code.{CBlock, CProto, Protos, CWorld}
 use Rattle.lua_slots.specs.Sight.{Sight}
 use Rattle.lua_slots.specs.IsCode.{any_sight, IsBlock}
@@ -9,9 +10,9 @@ use Rattle.lua_slots.specs.Points.{Point, Move, Costs, Marks, Enters, Exits, Now
 use Rattle.lua_slots.specs.Moves.{moves}
 use Rattle.lua_slots.specs.Enact.{Funds, Stands, enact}
 
--- CODE STAYS CODE when a module has more functions: where each that was there is there
+-- CODE STAYS CODE when a module has more functions: where each that was there is there, and each constant is what it was
 abbrev pub CodeStays : Type 0
-CodeStays = (at more : Protos) → ((i : ℕ) (p : CProto) → at i ≡ Some p → more i ≡ Some p) → (see : Sight) (b : Block) (c : CBlock) → IsBlock at any_sight see b c → IsBlock more any_sight see b c
+CodeStays = (at more : Protos) → ((i : ℕ) (p : CProto) → at.function i ≡ Some p → more.function i ≡ Some p) → ((n : ℕ) (t : Bytes) → at.constant n ≡ t → more.constant n ≡ t) → (see : Sight) (b : Block) (c : CBlock) → IsBlock at any_sight see b c → IsBlock more any_sight see b c
 
 -- THE STEPS that a move costs, and its MARKS
 abbrev pub costs_of : Move → ℕ

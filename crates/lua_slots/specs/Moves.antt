@@ -11,7 +11,7 @@ use Rattle.lua_slots.specs.Points.{EntryS, SThing, WhileTurnS, RepeatTurnS, Coun
 use Rattle.lua_slots.specs.Points.{SFrame, First, Verdict, KeyNext, IndexNow, DecideNext, OperandNext, OperateNow, UnaryNow, ArgumentsNext, CallNow, MethodNext, MethodNow, MoreNext, ItemNow, PairNext, PairNow, FieldsNext, ItemsNext, TargetKey, TargetNow, AssignNow, SetsNext, DeclareNow, StatsNext, BranchNext, BlockEnd, BodyEnd, LibraryEnd, WhileTest, WhileEnd, TestNext, TestNow, CountFrom, CountTo, CountBy, CountEnd, EachValues, EachNext, EachEnd, ReturnNow, Waits, Hears, ModuleFound, FunctionFound, AnswerNow, TextNow, DataNow}
 use Rattle.lua_slots.specs.Points.{Point, Gives, Evals, Lists, Finds, Sets, Runs, Starts, Texts, Asking, Works, Move, Costs, Exits, Now}
 use Rattle.lua_slots.specs.Errors.{choose, gives, jumps}
-use Rattle.lua_slots.specs.Calls.{call, enters_body, left_function, after_body}
+use Rattle.lua_slots.specs.Calls.{call, enters_body, constants_of, left_function, after_body}
 use Rattle.lua_slots.specs.Index.{index, index_link, set_entry, set_link}
 use Rattle.lua_slots.specs.Operators.{answers, operate, apply}
 use Rattle.lua_slots.specs.Expressions.{lists, more_values, fields, items, item, evals, choose_operand}
@@ -110,9 +110,9 @@ goes_on world (Jumps j) (f ∷ fs) s = passes f j fs s
 -- THE NEXT MOVE. At its end, and at a question, a machine stops.
 abbrev pub moves : CWorld → Point → Slots → Move
 moves world (Gives o fs) s = goes_on world o fs s
-moves world (Evals e fs) s = evals e fs s
+moves world (Evals e fs) s = evals (constants_of world s) e fs s
 moves world (Lists es before fs) s = lists es before fs s
-moves world (Finds targets before values fs) s = finds targets before values fs s
+moves world (Finds targets before values fs) s = finds (constants_of world s) targets before values fs s
 moves world (Sets pairs fs) s = sets pairs fs s
 moves world (Runs b fs) s = runs b fs s
 moves world (Starts t fs) s = Costs 1 (begins world t fs s)

@@ -5,7 +5,7 @@ use Rattle.lua_meaning.specs.Charges.{closure_charge}
 use Rattle.lua_meaning.specs.Values.{first, rest}
 use Rattle.lua_meaning.specs.Acts.{Broke, Raised}
 use Rattle.lua_meaning.specs.Messages.{no_target}
-use Rattle.lua_slots.specs.Code.{CExps, CTarget, PlaceC, GlobalTargetC, EntryC, RefusedC, CArms, NoArmC, ArmC}
+use Rattle.lua_slots.specs.Code.{Constants, CExps, CTarget, PlaceC, GlobalTargetC, EntryC, RefusedC, CArms, NoArmC, ArmC}
 use Rattle.lua_slots.specs.Code.{CStat, AssignC, CallStatC, DoC, WhileC, RepeatC, IfC, IfElseC, CountC, CountByC, EachC, ReturnC, BreakC, CBlock, EndC, DeclareC, LocalFunctionC, ThenC}
 use Rattle.lua_slots.specs.Slots.{Slots, write_place, with_function_named}
 use Rattle.lua_slots.specs.Points.{STarget, PlaceS, GlobalS, EntryS, RepeatTurnS, SFrame, TargetKey, AssignNow, SetsNext, DeclareNow, StatsNext, BranchNext, BlockEnd, WhileTest, CountFrom, EachValues, ReturnNow, Evals, Lists, Finds, Runs, Starts, Move, Costs, Now}
@@ -14,12 +14,12 @@ use Rattle.lua_slots.specs.Index.{set_index}
 
 -- ASSIGNMENT (2.4.3): the tables and keys of the targets, of which an index is a node; then the values; and then each target, from
 -- the last to the first
-abbrev pub finds : List CTarget → List STarget → CExps → List SFrame → Slots → Move
-finds [] before values fs s = Now (Lists values [] (AssignNow before ∷ fs)) s
-finds (PlaceC p ∷ more) before values fs s = Now (Finds more (before ++ PlaceS p ∷ []) values fs) s
-finds (GlobalTargetC x line ∷ more) before values fs s = Now (Finds more (before ++ GlobalS x line ∷ []) values fs) s
-finds (EntryC of key line ∷ more) before values fs s = node (Now (Evals of (TargetKey key line more before values ∷ fs)) s)
-finds (RefusedC ∷ more) before values fs s = jumps (Raised (Text no_target)) fs s
+abbrev pub finds : Constants → List CTarget → List STarget → CExps → List SFrame → Slots → Move
+finds constants [] before values fs s = Now (Lists values [] (AssignNow before ∷ fs)) s
+finds constants (PlaceC p ∷ more) before values fs s = Now (Finds more (before ++ PlaceS p ∷ []) values fs) s
+finds constants (GlobalTargetC x line ∷ more) before values fs s = Now (Finds more (before ++ GlobalS (constants x) line ∷ []) values fs) s
+finds constants (EntryC of key line ∷ more) before values fs s = node (Now (Evals of (TargetKey key line more before values ∷ fs)) s)
+finds constants (RefusedC ∷ more) before values fs s = jumps (Raised (Text no_target)) fs s
 
 -- each target with its value
 abbrev pub with_values : List STarget → List Value → List (STarget × Value)

@@ -17,12 +17,16 @@ use Rattle.lua_slots.specs.Points.{Gives, Asking, Works}
 use Rattle.lua_slots.specs.Moves.{moves}
 use Rattle.lua_slots.specs.Enact.{funds, Enacted, Stands, Short, enact, takes_reply}
 
--- the functions of a text in order, the text itself first
-abbrev pub functions_in : List CProto → Protos
-functions_in ps index = slice_get ps index
+-- the constants of a text, and its functions in order, the text itself first
+abbrev pub or_empty : Option Bytes → Bytes
+or_empty (Some t) = t
+or_empty None = []
 
-abbrev pub module_of : ℕ → List CProto → CModule
-module_of size ps = record { size = size; code = Ok (functions_in ps) }
+abbrev pub code_with : List Bytes → List CProto → Protos
+code_with constants ps = record { function = λ index. slice_get ps index; constant = λ number. or_empty (slice_get constants number) }
+
+abbrev pub module_of : ℕ → Protos → CModule
+module_of size at = record { size = size; code = Ok at }
 
 abbrev pub seen_end : Outcome (List Value) Jump → ℕ → Seen
 seen_end (Goes (Text t ∷ [])) steps = seen.Gives t steps
@@ -42,32 +46,32 @@ run (suc n) world (Stands p s f) replies = run n world (enact (moves world p s) 
 abbrev pub works_in : (Bytes → Option CModule) → Work → ℕ → ℕ → List (Reply Answer) → Seen
 works_in modules work steps calls replies = run 3000 (record { page = page; modules = modules }) (Stands (Works work) no_slots (funds (allowance steps calls))) replies
 
--- the function `f` of a module is invoked: the arguments, the calls, the module's name, the size of its text, its functions, and the steps
-abbrev pub invoke_with_args : List Arg → ℕ → Bytes → ℕ → List CProto → ℕ → Seen
-invoke_with_args args calls name size ps steps = works_in (λ title. Some (module_of size ps)) (Invoke (job name args)) steps calls []
+-- the function `f` of a module is invoked: the arguments, the calls, the module's name, the size of its text, its code, and the steps
+abbrev pub invoke_with_args : List Arg → ℕ → Bytes → ℕ → Protos → ℕ → Seen
+invoke_with_args args calls name size at steps = works_in (λ title. Some (module_of size at)) (Invoke (job name args)) steps calls []
 
-abbrev pub invoke_with_calls : ℕ → Bytes → ℕ → List CProto → ℕ → Seen
-invoke_with_calls calls name size ps steps = invoke_with_args [] calls name size ps steps
+abbrev pub invoke_with_calls : ℕ → Bytes → ℕ → Protos → ℕ → Seen
+invoke_with_calls calls name size at steps = invoke_with_args [] calls name size at steps
 
-abbrev pub invoke_module : Bytes → ℕ → List CProto → ℕ → Seen
-invoke_module name size ps steps = invoke_with_calls 20000 name size ps steps
+abbrev pub invoke_module : Bytes → ℕ → Protos → ℕ → Seen
+invoke_module name size at steps = invoke_with_calls 20000 name size at steps
 
 -- a module is loaded as data
-abbrev pub load_module : Bytes → ℕ → List CProto → ℕ → Seen
-load_module name size ps steps = works_in (λ title. Some (module_of size ps)) (DataOf (module_title name)) steps 20000 []
+abbrev pub load_module : Bytes → ℕ → Protos → ℕ → Seen
+load_module name size at steps = works_in (λ title. Some (module_of size at)) (DataOf (module_title name)) steps 20000 []
 
 -- several modules, and an invocation in the body of a template
 pub record ModuleCode : Type 0 where
   pub name : Bytes
   pub size : ℕ
-  pub functions : List CProto
+  pub code : Protos
 
-abbrev pub module_text : Bytes → ℕ → List CProto → ModuleCode
-module_text name size ps = record { name = name; size = size; functions = ps }
+abbrev pub module_text : Bytes → ℕ → Protos → ModuleCode
+module_text name size at = record { name = name; size = size; code = at }
 
 abbrev pub modules_of : List ModuleCode → Bytes → Option CModule
 modules_of [] title = None
-modules_of (m ∷ ms) title = if bytes_eq (title_text (module_title m.name)) title then Some (module_of m.size m.functions) else modules_of ms title
+modules_of (m ∷ ms) title = if bytes_eq (title_text (module_title m.name)) title then Some (module_of m.size m.code) else modules_of ms title
 
 abbrev pub invoke_in_template : List ModuleCode → List Arg → Bytes → ℕ → List (Reply Answer) → Seen
 invoke_in_template modules args name steps replies = works_in (modules_of modules) (Invoke (job_in_template name args)) steps 20000 replies

@@ -1,14 +1,14 @@
 -- CODE OF MODULES WHOSE CLOSURES OUTLIVE WHAT MADE THEM, and what comes of it: the same as of their trees, to the step.
-use Rattle.std.specs.Prelude.{◌≡◌, pos, true, false, List, [], ◌∷◌, codes}
-use Rattle.lua_heap.specs.Value.{Number, Text}
+use Rattle.std.specs.Prelude.{◌≡◌, pos, true, false, [], ◌∷◌, codes}
+use Rattle.lua_heap.specs.Value.{Number}
 use Rattle.lua_meaning.specs.Operators.{Add, AtMost, Calculate}
 use Rattle.lua_meaning.specs.Trial.{invoke_module}
 use Rattle.lua_meaning.specs.ExampleFunctions.{counters, while_cells}
-use Rattle.lua_slots.specs.Code.{Reg, Box, Up, ConstantC, FunctionC, LocalC, IndexC, CallC, TableC, OperateC}
+use Rattle.lua_slots.specs.Code.{Reg, Box, Up, ConstantC, TextC, FunctionC, LocalC, IndexC, CallC, TableC, OperateC}
 use Rattle.lua_slots.specs.Code.{NoC, MoreC, NoFieldC, PairC, PlaceC, EntryC}
-use Rattle.lua_slots.specs.Code.{AssignC, CallStatC, WhileC, ReturnC, EndC, DeclareC, LocalFunctionC, ThenC, CProto}
+use Rattle.lua_slots.specs.Code.{AssignC, CallStatC, WhileC, ReturnC, EndC, DeclareC, LocalFunctionC, ThenC, CProto, Protos}
 use Rattle.lua_slots.specs.IsCode.{IsProtos}
-use Rattle.lua_slots.specs.Trial.{functions_in}
+use Rattle.lua_slots.specs.Trial.{code_with}
 use Rattle.lua_slots.specs.Trial as run
 
 -- Two closures of one call have one cell, and those of another call have another.
@@ -24,7 +24,7 @@ counters_0 = record {
   flags = [];
   dots = false;
   body =
-      (ThenC (ReturnC (MoreC (TableC (PairC (ConstantC (Text (codes "f"))) (FunctionC 1 []) NoFieldC) 1) NoC)) EndC);
+      (ThenC (ReturnC (MoreC (TableC (PairC (TextC 0) (FunctionC 1 []) NoFieldC) 1) NoC)) EndC);
 }
 
 abbrev pub counters_1 : CProto
@@ -67,11 +67,11 @@ counters_4 = record {
       (ThenC (ReturnC (MoreC (LocalC (Up 0)) NoC)) EndC);
 }
 
-abbrev pub counters_code : List CProto
-counters_code = counters_0 ∷ counters_1 ∷ counters_2 ∷ counters_3 ∷ counters_4 ∷ []
+abbrev pub counters_code : Protos
+counters_code = code_with (codes "f" ∷ []) (counters_0 ∷ counters_1 ∷ counters_2 ∷ counters_3 ∷ counters_4 ∷ [])
 
 abbrev pub CountersIsCode : Type 0
-CountersIsCode = IsProtos (functions_in counters_code) counters
+CountersIsCode = IsProtos counters_code counters
 
 abbrev pub CountersAlike : Type 0
 CountersAlike = run.invoke_module (codes "X") 202 counters_code 6000 ≡ invoke_module (codes "X") 202 counters 6000
@@ -110,11 +110,11 @@ while_cells_2 = record {
       (ThenC (ReturnC (MoreC (LocalC (Up 0)) NoC)) EndC));
 }
 
-abbrev pub while_cells_code : List CProto
-while_cells_code = while_cells_0 ∷ while_cells_1 ∷ while_cells_2 ∷ []
+abbrev pub while_cells_code : Protos
+while_cells_code = code_with (codes "f" ∷ []) (while_cells_0 ∷ while_cells_1 ∷ while_cells_2 ∷ [])
 
 abbrev pub WhileCellsIsCode : Type 0
-WhileCellsIsCode = IsProtos (functions_in while_cells_code) while_cells
+WhileCellsIsCode = IsProtos while_cells_code while_cells
 
 abbrev pub WhileCellsAlike : Type 0
 WhileCellsAlike = run.invoke_module (codes "X") 151 while_cells_code 6000 ≡ invoke_module (codes "X") 151 while_cells 6000
