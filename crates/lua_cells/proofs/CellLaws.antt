@@ -2,7 +2,7 @@
 use Rattle.std.proofs.Common.{◌≡◌, ◌∙◌, ℕ, zero, suc, ◌+◌, ◌-◌, ◌<◌, ◌≤◌, Bool, true, false, true≢false, cond, ◌||◌, ◌==◌, refl, sym, ap, subst, List, [], ◌∷◌, length, slice_set, nat_lt, arith}
 use Rattle.std.proofs.lemmas.Bool.{eqb-true, eqb-false, eq-eqb, ne_eqb, ltb-true, ltb-false}
 use Rattle.std.proofs.Math.ListN.{get_or}
-use Rattle.lua_slots.specs.Code.{Place, Reg, Box, Up, CExp, ConstantC, DotsC, FunctionC, LocalC, GlobalC, IndexC, CallC, MethodC, TableC, AndC, OrC, OperateC, UnaryC, ParenC}
+use Rattle.lua_slots.specs.Code.{Place, Reg, Box, Up, CExp, ConstantC, TextC, DotsC, FunctionC, LocalC, GlobalC, IndexC, CallC, MethodC, TableC, AndC, OrC, OperateC, UnaryC, ParenC}
 use Rattle.lua_slots.specs.Code.{CExps, NoC, MoreC, CFields, NoFieldC, ItemC, PairC, CTarget, PlaceC, GlobalTargetC, EntryC, RefusedC}
 use Rattle.lua_slots.specs.Code.{CStat, AssignC, CallStatC, DoC, WhileC, RepeatC, IfC, IfElseC, CountC, CountByC, EachC, ReturnC, BreakC, CBlock, EndC, DeclareC, LocalFunctionC, ThenC, CArms, NoArmC, ArmC, CProto}
 use Rattle.lua_cells.specs.declared.registers.Registers.{Registers}
@@ -74,6 +74,7 @@ places (p ∷ ps) r = next (place p r) (places ps (captured p r))
 mutual
   expression : (c : CExp) (r : Registers) → Goes 0 (λ i. expression_captures i c) r (expression_gone c r)
   expression (ConstantC v) r = same r
+  expression (TextC n) r = same r
   expression DotsC r = same r
   expression (LocalC p) r = same r
   expression (GlobalC x l) r = same r
@@ -332,6 +333,7 @@ needed_places (p ∷ ps) r e = needed_places ps (captured p r) (needed_place p r
 mutual
   needed_expression : (c : CExp) (r : Registers) → r.needed ≡ true → (expression_gone c r).needed ≡ true
   needed_expression (ConstantC v) r e = e
+  needed_expression (TextC n) r e = e
   needed_expression DotsC r e = e
   needed_expression (LocalC p) r e = e
   needed_expression (GlobalC x l) r e = e

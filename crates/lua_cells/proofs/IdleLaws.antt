@@ -1,6 +1,6 @@
 -- As long as no register is idle, what is captured changes nothing.
 use Rattle.std.proofs.Common.{◌≡◌, ◌∙◌, ℕ, zero, suc, Bool, true, false, true≢false, refl, sym, ap, subst, List, [], ◌∷◌, slice_set}
-use Rattle.lua_slots.specs.Code.{Place, Reg, Box, Up, CExp, ConstantC, DotsC, FunctionC, LocalC, GlobalC, IndexC, CallC, MethodC, TableC, AndC, OrC, OperateC, UnaryC, ParenC}
+use Rattle.lua_slots.specs.Code.{Place, Reg, Box, Up, CExp, ConstantC, TextC, DotsC, FunctionC, LocalC, GlobalC, IndexC, CallC, MethodC, TableC, AndC, OrC, OperateC, UnaryC, ParenC}
 use Rattle.lua_slots.specs.Code.{CExps, NoC, MoreC, CFields, NoFieldC, ItemC, PairC, CTarget, PlaceC, GlobalTargetC, EntryC, RefusedC}
 use Rattle.lua_cells.specs.declared.registers.Registers.{Registers}
 use Rattle.lua_cells.specs.Registers.{NoneIdle, captured, all_captured, opened_one, newest_ended, closed, expression_gone, expressions_gone, fields_gone, target_gone, targets_gone}
@@ -24,6 +24,7 @@ places (p ∷ ps) r h = ap (all_captured ps) (place p r h) ∙ places ps r h
 mutual
   expression : (c : CExp) (r : Registers) → NoneIdle r.idle → expression_gone c r ≡ r
   expression (ConstantC v) r h = refl
+  expression (TextC n) r h = refl
   expression DotsC r h = refl
   expression (LocalC p) r h = refl
   expression (GlobalC x l) r h = refl

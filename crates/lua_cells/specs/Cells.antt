@@ -121,4 +121,4 @@ abbrev pub HasNoIdleCell : CProto → Type 0
 HasNoIdleCell p = AreNeeded (in_block nothing p.body) p.flags × IsTightBlock nothing p.body
 
 abbrev pub NoIdleCells : Protos → Type 0
-NoIdleCells at = (i : ℕ) (p : CProto) → at i ≡ Some p → HasNoIdleCell p
+NoIdleCells at = (i : ℕ) (p : CProto) → at.function i ≡ Some p → HasNoIdleCell p

@@ -4,10 +4,9 @@ use Rattle.std.proofs.Common.{◌≡◌, ◌∙◌, ℕ, Bool, refl, sym, ap, Li
 use Rattle.std.specs.Prelude.{ℤ}
 use Rattle.std.specs.declared.alloc.Global.{Global}
 use Rattle.std.specs.declared.boxed.Box.{Box}
-use Rattle.wk_base.specs.declared.bytes.Bytes.{Bytes}
 use Rattle.lua_heap.specs.Value as value
 use Rattle.lua_syntax.specs.declared.UnaryOp.{UnaryOp}
-use Rattle.lua_slots.specs.Code.{CExp, ConstantC, DotsC, FunctionC, LocalC, GlobalC, IndexC, CallC, MethodC, TableC, AndC, OrC, OperateC, UnaryC, ParenC}
+use Rattle.lua_slots.specs.Code.{CExp, ConstantC, TextC, DotsC, FunctionC, LocalC, GlobalC, IndexC, CallC, MethodC, TableC, AndC, OrC, OperateC, UnaryC, ParenC}
 use Rattle.lua_slots.specs.Code.{MoreC, CFields, ItemC, PairC}
 use Rattle.lua_slots.specs.Code.{AssignC, CallStatC, DoC, WhileC, RepeatC, IfC, IfElseC, CountC, CountByC, EachC, ReturnC, BreakC, CBlock, DeclareC, LocalFunctionC, ThenC, CArms, ArmC}
 use Rattle.lua_code.specs.declared.place.Place.{Place}
@@ -84,8 +83,8 @@ expression-Truth b = expression_at (expression.Truth b) (outs-Truth b)
 pub expression-Number : (z : ℤ) → expression_seen (expression.Number z) ≡ ConstantC (value.Number z)
 expression-Number z = expression_at (expression.Number z) (outs-Number z)
 
-pub expression-Text : (t : Bytes) → expression_seen (expression.Text t) ≡ ConstantC (value.Text t)
-expression-Text t = expression_at (expression.Text t) (outs-Text t)
+pub expression-Text : (n : ℕ) → expression_seen (expression.Text n) ≡ TextC n
+expression-Text n = expression_at (expression.Text n) (outs-Text n)
 
 pub expression-Dots : expression_seen expression.Dots ≡ DotsC
 expression-Dots = expression_at expression.Dots outs-Dots
@@ -96,7 +95,7 @@ expression-Function index places = expression_at (expression.Function index plac
 pub expression-Local : (p : Place) → expression_seen (expression.Local p) ≡ LocalC (place_seen p)
 expression-Local p = expression_at (expression.Local p) (outs-Local p)
 
-pub expression-Global : (name : Bytes) (line : ℕ) → expression_seen (expression.Global name line) ≡ GlobalC name line
+pub expression-Global : (name : ℕ) (line : ℕ) → expression_seen (expression.Global name line) ≡ GlobalC name line
 expression-Global name line = expression_at (expression.Global name line) (outs-Global name line)
 
 pub expression-Index : (a : Box Expression Global) (b : Box Expression Global) (line : ℕ) → expression_seen (expression.Index a b line) ≡ IndexC (expression_seen a.value) (expression_seen b.value) line
@@ -105,8 +104,8 @@ expression-Index a b line = expression_at (expression.Index a b line) (outs-Inde
 pub expression-Call : (a : Box Expression Global) (es : List Expression) (line : ℕ) → expression_seen (expression.Call a es line) ≡ CallC (expression_seen a.value) (expressions_seen es) line
 expression-Call a es line = expression_at (expression.Call a es line) (outs-Call a es line) ∙ ap (λ y. CallC (expression_seen a.value) y line) (codes_level es)
 
-pub expression-Method : (a : Box Expression Global) (name : Box Bytes Global) (es : List Expression) (line : ℕ) → expression_seen (expression.Method a name es line) ≡ MethodC (expression_seen a.value) name.value (expressions_seen es) line
-expression-Method a name es line = expression_at (expression.Method a name es line) (outs-Method a name es line) ∙ ap (λ y. MethodC (expression_seen a.value) name.value y line) (codes_level es)
+pub expression-Method : (a : Box Expression Global) (name : ℕ) (es : List Expression) (line : ℕ) → expression_seen (expression.Method a name es line) ≡ MethodC (expression_seen a.value) name (expressions_seen es) line
+expression-Method a name es line = expression_at (expression.Method a name es line) (outs-Method a name es line) ∙ ap (λ y. MethodC (expression_seen a.value) name y line) (codes_level es)
 
 pub expression-Table : (es : List Entry) (line : ℕ) → expression_seen (expression.Table es line) ≡ TableC (entries_seen es) line
 expression-Table es line = expression_at (expression.Table es line) (outs-Table es line) ∙ ap (λ y. TableC y line) (entries_level es)

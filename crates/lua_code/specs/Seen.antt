@@ -3,7 +3,8 @@
 use Rattle.std.specs.Prelude.{ℕ, zero, suc, Bool, List, [], ◌∷◌, map, slice_get, Option, Some, None, option_map}
 use Rattle.lua_heap.specs.Value as value
 use Rattle.lua_meaning.specs.Operators as plain
-use Rattle.lua_slots.specs.Code.{Place as PlaceC', Reg, Box as BoxP, Up, CExp, ConstantC, DotsC, FunctionC, LocalC, GlobalC, IndexC, CallC, MethodC, TableC, AndC, OrC, OperateC, UnaryC, ParenC}
+use Rattle.lua_meaning.specs.Scope.{Bytes}
+use Rattle.lua_slots.specs.Code.{Place as PlaceC', Reg, Box as BoxP, Up, CExp, ConstantC, TextC, DotsC, FunctionC, LocalC, GlobalC, IndexC, CallC, MethodC, TableC, AndC, OrC, OperateC, UnaryC, ParenC}
 use Rattle.lua_slots.specs.Code.{CExps, NoC, MoreC, CFields, NoFieldC, ItemC, PairC, CTarget, PlaceC, GlobalTargetC, EntryC, RefusedC}
 use Rattle.lua_slots.specs.Code.{CStat, AssignC, CallStatC, DoC, WhileC, RepeatC, IfC, IfElseC, CountC, CountByC, EachC, ReturnC, BreakC, CBlock, EndC, DeclareC, LocalFunctionC, ThenC, CArms, NoArmC, ArmC}
 use Rattle.lua_slots.specs.Code.{CProto, Protos as PlainProtos}
@@ -64,14 +65,14 @@ abbrev pub expression_step : Expression-F (CFields → CFields) CExp → CExp
 expression_step Nil = ConstantC value.Nil
 expression_step (Truth b) = ConstantC (value.Truth b)
 expression_step (Number z) = ConstantC (value.Number z)
-expression_step (Text t) = ConstantC (value.Text t)
+expression_step (Text n) = TextC n
 expression_step Dots = DotsC
 expression_step (Function index places) = FunctionC index (map place_seen places)
 expression_step (Local p) = LocalC (place_seen p)
 expression_step (Global name line) = GlobalC name line
 expression_step (Index of key line) = IndexC of.value key.value line
 expression_step (Call f args line) = CallC f.value (codes_of args) line
-expression_step (Method of name args line) = MethodC of.value name.value (codes_of args) line
+expression_step (Method of name args line) = MethodC of.value name (codes_of args) line
 expression_step (Table entries line) = TableC (entries_of entries) line
 expression_step (And a b) = AndC a.value b.value
 expression_step (Or a b) = OrC a.value b.value
@@ -152,6 +153,14 @@ abbrev pub proto_seen : Proto → CProto
 proto_seen p = record { flags = p.flags; dots = p.dots; body = block_seen p.body }
 
 -- number 0 is the text, and the others follow
+abbrev pub function_in : Proto → List Proto → ℕ → Option CProto
+function_in text functions zero = Some (proto_seen text)
+function_in text functions (suc i) = option_map proto_seen (slice_get functions i)
+
+-- a constant that is not there is empty
+abbrev pub or_empty : Option Bytes → Bytes
+or_empty None = []
+or_empty (Some t) = t
+
 abbrev pub protos_seen : Protos → PlainProtos
-protos_seen ps zero = Some (proto_seen ps.text)
-protos_seen ps (suc i) = option_map proto_seen (slice_get ps.functions i)
+protos_seen ps = record { function = function_in ps.text ps.functions; constant = λ n. or_empty (slice_get ps.constants n) }

@@ -1,8 +1,8 @@
-//! Code of expressions.
+//! Code of expressions. Texts and names stand among the constants of the module, and are named by their numbers there.
 use crate::operator::Operator;
 use crate::place::Place;
 use lua_syntax::UnaryOp;
-use wk_base::{Bytes, List};
+use wk_base::List;
 
 /// Code of an expression (manual 2.5). A line is given where an error may name it.
 #[cycle(expressions)]
@@ -11,19 +11,21 @@ pub enum Expression {
     Nil,
     Truth(bool),
     Number(i64),
-    Text(Bytes),
+    /// A text, by its number among the constants.
+    Text(u32),
     /// `...`
     Dots,
     /// A closure of this function of the module, with what it captures from these places.
     Function(u32, List<Place>),
     Local(Place),
-    Global(Bytes, u32),
+    /// A global variable, by the number of its name.
+    Global(u32, u32),
     /// `of[key]`
     Index(Box<Expression>, Box<Expression>, u32),
     /// `called(arguments)`
     Call(Box<Expression>, List<Expression>, u32),
-    /// `of:name(arguments)`. The name is in a box, so that other expressions don't take the room of it.
-    Method(Box<Expression>, Box<Bytes>, List<Expression>, u32),
+    /// `of:name(arguments)`, with the number of the name.
+    Method(Box<Expression>, u32, List<Expression>, u32),
     /// `{ entries }`
     Table(List<Entry>, u32),
     And(Box<Expression>, Box<Expression>),

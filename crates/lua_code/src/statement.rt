@@ -1,13 +1,14 @@
 //! Code of statements.
 use crate::expression::Expression;
 use crate::place::Place;
-use wk_base::{Bytes, List};
+use wk_base::List;
 
 /// What an assignment assigns to (manual 2.4.3).
 #[derive(Drop)]
 pub enum Target {
     Variable(Place),
-    Global(Bytes, u32),
+    /// A global variable, by the number of its name.
+    Global(u32, u32),
     /// `of[key]`
     At(Expression, Expression, u32),
     /// What no chunk assigns to.

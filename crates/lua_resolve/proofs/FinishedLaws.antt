@@ -1,8 +1,8 @@
 -- Functions that are done: one more of them, and all of a module.
 use Rattle.std.proofs.Common.{◌≡◌, ℕ, zero, suc, Bool, true, sym, subst, List, [], ◌∷◌, ◌++◌, Some, option_map, slice_get}
+use Rattle.lua_meaning.specs.Scope.{Bytes}
 use Rattle.lua_slots.specs.Code.{CProto}
 use Rattle.lua_code.specs.declared.proto.Proto.{Proto}
-use Rattle.lua_code.specs.declared.proto.Protos.{Protos}
 use Rattle.lua_code.specs.Seen.{proto_seen, protos_seen}
 use Rattle.lua_cells.specs.Cells.{HasNoIdleCell, NoIdleCells}
 use Rattle.lua_resolve.specs.Finished.{AllTight}
@@ -23,6 +23,6 @@ tight_at (x ∷ fs) f zero p e = subst HasNoIdleCell (same x p e) f.0
 tight_at (x ∷ fs) f (suc i) p e = tight_at fs f.1 i p e
 
 -- number 0 is the text
-pub all_cells : (ps : Protos) → HasNoIdleCell (proto_seen ps.text) → AllTight ps.functions → NoIdleCells (protos_seen ps)
-all_cells ps text rest zero p e = subst HasNoIdleCell (same ps.text p e) text
-all_cells ps text rest (suc i) p e = tight_at ps.functions rest i p e
+pub all_cells : (text : Proto) (functions : List Proto) (constants : List Bytes) → HasNoIdleCell (proto_seen text) → AllTight functions → NoIdleCells (protos_seen (record { text = text; functions = functions; constants = constants }))
+all_cells text functions constants h rest zero p e = subst HasNoIdleCell (same text p e) h
+all_cells text functions constants h rest (suc i) p e = tight_at functions rest i p e

@@ -24,10 +24,10 @@ use Rattle.lua_slots.specs.Code.{Place, CExp, CExps, CFields, CTarget, CArms, CB
 use Rattle.lua_slots.specs.Sight.{Everywhere, Sight, nothing_local, with_local, inside}
 use Rattle.lua_slots.specs.IsCode.{EndSight, any_sight, operator_of, IsExp, IsExps, IsFields, IsTarget, IsTargets, IsArms, IsBlock, IsProtos}
 use Rattle.lua_code.specs.declared.statement.Statement.{Statement}
-use Rattle.lua_code.specs.Seen.{expression_seen, target_seen, statement_seen, block_seen, branches_seen, proto_seen, protos_seen}
+use Rattle.lua_code.specs.Seen.{expression_seen, target_seen, statement_seen, block_seen, branches_seen, proto_seen, protos_seen, or_empty}
 use Rattle.lua_code.specs.declared.proto.Proto.{Proto}
 use Rattle.lua_scopes.specs.Scopes.{Level, Scopes, closed_to, entered, IsLeft, nothing_known, local_sight, stack, stack_sight, Covers, StaysAs, Grows}
-use Rattle.lua_resolve.specs.Parts.{State, locals, Holds, Later, Next, tail_of, IsPart, AreDeclared, IsStep, IsOther}
+use Rattle.lua_resolve.specs.Parts.{State, locals, Holds, Names, Later, Next, tail_of, IsPart, AreDeclared, IsStep, IsOther}
 use Rattle.lua_resolve.proofs.PartLaws.{plain_part, IsClosed, entered_state}
 
 -- CODE under other names of a tree and of its code
@@ -67,15 +67,16 @@ get_mapped [] i p e = cc
 get_mapped (q ∷ ps) zero p e = e
 get_mapped (q ∷ ps) (suc i) p e = get_mapped ps i p e
 
-pub text_code : (s t : State) (b : Block) (text : Proto) (functions : List Proto) (out : List Statement) → s.scopes.level ≡ nothing_known → s.scopes.outer ≡ [] → Next s t
-    → ((at : Protos) (see : Sight) → Later t at see → IsBlock at any_sight see b (block_seen out)) → t.functions ≡ map proto_seen functions → text.flags ≡ [] → text.dots ≡ false → text.body ≡ out → t.scopes.clean ≡ true
-    → IsProtos (protos_seen (record { text = text; functions = functions })) b
-text_code s t b text functions out level outer next code are flags dots body clean =
-    let at : Protos = protos_seen (record { text = text; functions = functions }) in
+pub text_code : (s t : State) (b : Block) (text : Proto) (functions : List Proto) (constants : List Bytes) (out : List Statement) → s.scopes.level ≡ nothing_known → s.scopes.outer ≡ [] → Next s t
+    → ((at : Protos) (see : Sight) → Later t at see → IsBlock at any_sight see b (block_seen out)) → t.functions ≡ map proto_seen functions → constants ≡ t.constants → text.flags ≡ [] → text.dots ≡ false → text.body ≡ out → t.scopes.clean ≡ true
+    → IsProtos (protos_seen (record { text = text; functions = functions; constants = constants })) b
+text_code s t b text functions constants out level outer next code are same flags dots body clean =
+    let at : Protos = protos_seen (record { text = text; functions = functions; constants = constants }) in
     let grown : Grows (s.scopes.level ∷ []) (stack t.scopes) = subst (λ o. Grows (s.scopes.level ∷ o) (stack t.scopes)) outer (next.went clean).grows in
     let covers : Covers (stack_sight (stack t.scopes)) nothing_local = nowhere s.scopes.level t.scopes.level t.scopes.outer level grown in
     let holds : Holds t.functions at = subst (λ ps. Holds ps at) (sym are) (get_mapped functions) in
-    let block : IsBlock at any_sight nothing_local b (block_seen out) = code at nothing_local (record { clean = clean; functions = holds; covers = covers }) in
+    let names : Names t.constants at = subst (λ cs. Names cs at) same (λ n x e. ap or_empty e) in
+    let block : IsBlock at any_sight nothing_local b (block_seen out) = code at nothing_local (record { clean = clean; functions = holds; constants = names; covers = covers }) in
     (proto_seen text, record { first = refl; no_parameters = flags; no_dots = dots; body = subst (λ ss. IsBlock at any_sight nothing_local b (block_seen ss)) (sym body) block })
 
 pub or_else : (o : BinaryOp) → operator_of o ≡ None → (o ≡ op.And → ⊥) → o ≡ op.Or
@@ -94,12 +95,12 @@ pub next_item : {A : Type 0} (xs : List A) (i : ℕ) (x : A) → x ≡ get_or xs
 next_item xs i x e h = drop_more xs i x h ∙ ap (λ y. y ∷ drop (i + 1) xs) (sym e)
 
 -- the code's own words for a state that was closed, entered, left
-pub closing : (s : State) (t u : Scopes) (fs gs : List Proto) (n : ℕ) → n ≡ length (locals s) → (u ≡ record t { level = closed_to n t.level }) × (gs ≡ fs)
-    → IsClosed s (record { scopes = t; functions = map proto_seen fs }) (record { scopes = u; functions = map proto_seen gs })
-closing s t u fs gs n e h = (h.0 ∙ ap (λ k. record t { level = closed_to k t.level }) e, ap (map proto_seen) h.1)
+pub closing : (s : State) (t u : Scopes) (fs gs : List Proto) (cs ds : List Bytes) (n : ℕ) → n ≡ length (locals s) → (u ≡ record t { level = closed_to n t.level }) × (gs ≡ fs) × (ds ≡ cs)
+    → IsClosed s (record { scopes = t; functions = map proto_seen fs; constants = cs }) (record { scopes = u; functions = map proto_seen gs; constants = ds })
+closing s t u fs gs cs ds n e h = (h.0 ∙ ap (λ k. record t { level = closed_to k t.level }) e, ap (map proto_seen) h.1, h.2)
 
-pub entering : (s : State) (k : Scopes) (d : State) (params : List Bytes) (flags : List Bool) → k ≡ entered s.scopes → AreDeclared (record { scopes = k; functions = s.functions }) d params flags → AreDeclared (entered_state s) d params flags
-entering s k d params flags e h = subst (λ j. AreDeclared (record { scopes = j; functions = s.functions }) d params flags) e h
+pub entering : (s : State) (k : Scopes) (d : State) (params : List Bytes) (flags : List Bool) → k ≡ entered s.scopes → AreDeclared (record { scopes = k; functions = s.functions; constants = s.constants }) d params flags → AreDeclared (entered_state s) d params flags
+entering s k d params flags e h = subst (λ j. AreDeclared (record { scopes = j; functions = s.functions; constants = s.constants }) d params flags) e h
 
 pub leaving : (t v w : Scopes) (places : List Place) → IsLeft t w places → v ≡ w → IsLeft t v places
 leaving t v w places h e = subst (λ k. IsLeft t k places) (sym e) h

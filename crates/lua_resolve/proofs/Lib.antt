@@ -1,3 +1,4 @@
+mod ConstantLaws
 mod FinishedLaws
 mod FormLaws
 mod PartLaws

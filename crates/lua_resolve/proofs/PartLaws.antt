@@ -14,25 +14,30 @@ use Rattle.lua_code.specs.declared.statement.Statement.{Statement}
 use Rattle.lua_code.specs.declared.statement.Branch.{Branch}
 use Rattle.lua_code.specs.Seen.{expression_seen, expressions_seen, entry_seen, entries_seen, target_seen, statement_seen, block_seen, branch_seen, branches_seen}
 use Rattle.lua_scopes.specs.Scopes.{Local, Level, stack, closed_to, local_sight, stack_sight, Covers, Grows, IsLeft, IsLeftTo, entered}
-use Rattle.lua_resolve.specs.Parts.{State, locals, with_locals_of, opened, Holds, Later, Went, Next, expressions_before, entries_before, branches_before, statements_before, ExpressionsSoFar, EntriesSoFar, TargetsSoFar, BranchesSoFar, tail_of, IsPart, BlockSoFar, with_names, AreDeclared, NamesSoFar}
+use Rattle.lua_resolve.specs.Parts.{State, locals, with_locals_of, opened, Holds, Names, Later, Went, Next, expressions_before, entries_before, branches_before, statements_before, ExpressionsSoFar, EntriesSoFar, TargetsSoFar, BranchesSoFar, tail_of, IsPart, BlockSoFar, with_names, AreDeclared, NamesSoFar}
+use Rattle.lua_resolve.specs.Constants.{StayNumbered}
 use Rattle.lua_scopes.proofs.SightLaws.{covers_trans, covers_local, covers_inside, grows_same, grows_trans, grows_covers, captured_on}
 
 -- STATES
 pub next_same : (s : State) → Next s s
-next_same s = record { went = λ clean. record { clean = clean; functions = λ at h. h; grows = grows_same (stack s.scopes) } }
+next_same s = record { went = λ clean. record { clean = clean; functions = λ at h. h; constants = λ at h. h; grows = grows_same (stack s.scopes) } }
+
+-- one more constant
+pub next_numbered : (s : State) (cs : List Bytes) → StayNumbered s.constants cs → Next s (record s { constants = cs })
+next_numbered s cs h = record { went = λ clean. record { clean = clean; functions = λ at k. k; constants = λ at k n t e. k n t (h n t e); grows = grows_same (stack s.scopes) } }
 
 pub next_trans : (s t u : State) → Next s t → Next t u → Next s u
 next_trans s t u h k = record {
   went = λ clean.
       let later = k.went clean in
       let before = h.went later.clean in
-      record { clean = before.clean; functions = λ at g. before.functions at (later.functions at g); grows = grows_trans (stack s.scopes) (stack t.scopes) (stack u.scopes) before.grows later.grows };
+      record { clean = before.clean; functions = λ at g. before.functions at (later.functions at g); constants = λ at g. before.constants at (later.constants at g); grows = grows_trans (stack s.scopes) (stack t.scopes) (stack u.scopes) before.grows later.grows };
 }
 
 pub later : (s t : State) (at : Protos) (see : Sight) → Next s t → Later t at see → Later s at see
 later s t at see h l =
     let went = h.went l.clean in
-    record { clean = went.clean; functions = went.functions at l.functions; covers = covers_trans (stack_sight (stack s.scopes)) (stack_sight (stack t.scopes)) see (grows_covers (stack s.scopes) (stack t.scopes) went.grows) l.covers }
+    record { clean = went.clean; functions = went.functions at l.functions; constants = went.constants at l.constants; covers = covers_trans (stack_sight (stack s.scopes)) (stack_sight (stack t.scopes)) see (grows_covers (stack s.scopes) (stack t.scopes) went.grows) l.covers }
 
 -- LISTS
 pub exps_start : (s : State) (whole : Exps) → ExpressionsSoFar s s whole whole []
@@ -126,7 +131,7 @@ local_sight_more (l ∷ p) b see = ap (with_local l.name l.boxed) (local_sight_m
 
 -- the same variables on both sides
 pub next_with : (s t : State) (ls ks : List Local) → Next s t → ks ≡ ls → Next (with_locals_of ls s) (with_locals_of ks t)
-next_with s t ls ks h e = record { went = λ clean. let w = h.went clean in record { clean = w.clean; functions = w.functions; grows = (e, w.grows.1, w.grows.2) } }
+next_with s t ls ks h e = record { went = λ clean. let w = h.went clean in record { clean = w.clean; functions = w.functions; constants = w.constants; grows = (e, w.grows.1, w.grows.2) } }
 
 -- the variables in front of those that were there
 locals_are : (s t : State) (d : List Local) → Next (opened d s) t → t.scopes.clean ≡ true → locals t ≡ d ++ locals s
@@ -137,7 +142,7 @@ next_opened : (s t : State) (p d : List Local) → Next (opened d s) t → Next 
 next_opened s t p d h = record {
   went = λ clean.
       let w = h.went clean in
-      record { clean = w.clean; functions = w.functions; grows = (ap (λ ls. p ++ ls) w.grows.0 ∙ sym (append_assoc p d (locals s)), w.grows.1, w.grows.2) };
+      record { clean = w.clean; functions = w.functions; constants = w.constants; grows = (ap (λ ls. p ++ ls) w.grows.0 ∙ sym (append_assoc p d (locals s)), w.grows.1, w.grows.2) };
 }
 
 -- what is seen under some open variables
@@ -145,14 +150,14 @@ pub later_open : (s t : State) (d : List Local) (at : Protos) (see : Sight) → 
 later_open s t d at see h l =
     let base : Sight = inside t.scopes.level.names (stack_sight t.scopes.outer) in
     let is : local_sight (locals t) base ≡ local_sight d (local_sight (locals s) base) = ap (λ ls. local_sight ls base) (locals_are s t d h l.clean) ∙ local_sight_more d (locals s) base in
-    record { clean = l.clean; functions = l.functions; covers = subst (λ a. Covers a (local_sight d see)) (sym is) (covers_local d _ _ l.covers) }
+    record { clean = l.clean; functions = l.functions; constants = l.constants; covers = subst (λ a. Covers a (local_sight d see)) (sym is) (covers_local d _ _ l.covers) }
 
 -- the same, where still more was open
 later_under : (s t u : State) (b : List Local) (at : Protos) (see : Sight) → Next (opened b s) t → t.scopes.clean ≡ true → Later (with_locals_of (locals s) u) at see → Later (with_locals_of (locals t) u) at (local_sight b see)
 later_under s t u b at see h clean l =
     let base : Sight = inside u.scopes.level.names (stack_sight u.scopes.outer) in
     let is : local_sight (locals t) base ≡ local_sight b (local_sight (locals s) base) = ap (λ ls. local_sight ls base) (locals_are s t b h clean) ∙ local_sight_more b (locals s) base in
-    record { clean = l.clean; functions = l.functions; covers = subst (λ a. Covers a (local_sight b see)) (sym is) (covers_local b _ _ l.covers) }
+    record { clean = l.clean; functions = l.functions; constants = l.constants; covers = subst (λ a. Covers a (local_sight b see)) (sym is) (covers_local b _ _ l.covers) }
 
 drop_front : (d ls : List Local) → drop (length (d ++ ls) - length ls) (d ++ ls) ≡ ls
 drop_front [] ls = let none : length ls - length ls ≡ 0 = omega arith in ap (λ n. drop n ls) none
@@ -167,11 +172,13 @@ drop_front (x ∷ d) ls =
 
 -- a state after variables were closed again
 abbrev pub IsClosed : State → State → State → Type 0
-IsClosed s t u = (u.scopes ≡ record t.scopes { level = closed_to (length (locals s)) t.scopes.level }) × (u.functions ≡ t.functions)
+IsClosed s t u = (u.scopes ≡ record t.scopes { level = closed_to (length (locals s)) t.scopes.level }) × (u.functions ≡ t.functions) × (u.constants ≡ t.constants)
 
 closed_is : (s t u : State) (d : List Local) → Next (opened d s) t → t.scopes.clean ≡ true → IsClosed s t u → u ≡ with_locals_of (locals s) t
 closed_is s t u d h clean e =
-    ap (λ k. record u { scopes = k }) e.0 ∙ ap (λ fs. record { scopes = record t.scopes { level = closed_to (length (locals s)) t.scopes.level }; functions = fs }) e.1
+    ap (λ k. record u { scopes = k }) e.0
+    ∙ ap (λ fs. record { scopes = record t.scopes { level = closed_to (length (locals s)) t.scopes.level }; functions = fs; constants = u.constants }) e.1
+    ∙ ap (λ cs. record { scopes = record t.scopes { level = closed_to (length (locals s)) t.scopes.level }; functions = t.functions; constants = cs }) e.2
     ∙ ap (λ ls. with_locals_of ls t) (ap (λ ls. drop (length ls - length (locals s)) ls) (locals_are s t d h clean) ∙ drop_front d (locals s))
 
 pub next_closed : (s t u : State) (d : List Local) → Next (opened d s) t → IsClosed s t u → Next s u
@@ -179,7 +186,7 @@ next_closed s t u d h e = record {
   went = λ clean.
       let was : t.scopes.clean ≡ true = sym (ap (λ k. k.clean) e.0) ∙ clean in
       let w = h.went was in
-      subst (Went s) (sym (closed_is s t u d h was e)) (record { clean = w.clean; functions = w.functions; grows = (refl, w.grows.1, w.grows.2) });
+      subst (Went s) (sym (closed_is s t u d h was e)) (record { clean = w.clean; functions = w.functions; constants = w.constants; grows = (refl, w.grows.1, w.grows.2) });
 }
 
 pub later_closed : (s t u : State) (d : List Local) (at : Protos) (see : Sight) → Next (opened d s) t → IsClosed s t u → Later u at see → Later (with_locals_of (locals s) t) at see
@@ -309,6 +316,7 @@ record Ended (s d t v : State) (params : List Bytes) (flags : List Bool) (p : CP
   next : Next d t
   left : IsLeft t.scopes v.scopes places
   added : v.functions ≡ t.functions ++ p ∷ []
+  same : v.constants ≡ t.constants
 
 went_in : (s d t v : State) (params : List Bytes) (flags : List Bool) (p : CProto) (places : List Place) → Ended s d t v params flags p places → t.scopes.clean ≡ true
     → Went (with_locals_of (with_names params flags []) (entered_state s)) t
@@ -331,21 +339,22 @@ left_clean t v places (m ∷ ms) l = ap (λ k. k.clean) l.0
 left_in : (s d t v : State) (params : List Bytes) (flags : List Bool) (p : CProto) (places : List Place) → Ended s d t v params flags p places → t.scopes.clean ≡ true → LeftIn s t v places
 left_in s d t v params flags p places h clean = left_to s t v places t.scopes.outer refl (went_in s d t v params flags p places h clean).grows.2 h.left
 
-pub function_next : (s d t v : State) (params : List Bytes) (flags : List Bool) (p : CProto) (places : List Place) → AreDeclared (entered_state s) d params flags → Next d t → IsLeft t.scopes v.scopes places → v.functions ≡ t.functions ++ p ∷ [] → Next s v
-function_next s d t v params flags p places declared next left added = record {
+pub function_next : (s d t v : State) (params : List Bytes) (flags : List Bool) (p : CProto) (places : List Place) → AreDeclared (entered_state s) d params flags → Next d t → IsLeft t.scopes v.scopes places → v.functions ≡ t.functions ++ p ∷ []
+    → v.constants ≡ t.constants → Next s v
+function_next s d t v params flags p places declared next left added same = record {
   went = λ clean.
-      let h : Ended s d t v params flags p places = record { declared = declared; next = next; left = left; added = added } in
+      let h : Ended s d t v params flags p places = record { declared = declared; next = next; left = left; added = added; same = same } in
       let was : t.scopes.clean ≡ true = sym (left_clean t v places t.scopes.outer left) ∙ clean in
       let w = went_in s d t v params flags p places h was in
-      record { clean = w.clean; functions = λ at g. w.functions at (holds_front t.functions v.functions p at added g); grows = (left_in s d t v params flags p places h was).1 };
+      record { clean = w.clean; functions = λ at g. w.functions at (holds_front t.functions v.functions p at added g); constants = λ at g. w.constants at (subst (λ cs. Names cs at) same g); grows = (left_in s d t v params flags p places h was).1 };
 }
 
 pub function_code : (s d t v : State) (params : List Bytes) (flags : List Bool) (dots : Bool) (body : Block) (out : List Statement) (p : CProto) (places : List Place) (index : ℕ)
-    → AreDeclared (entered_state s) d params flags → Next d t → ((at : Protos) (see : Sight) → Later t at see → IsBlock at any_sight see body (block_seen out)) → IsLeft t.scopes v.scopes places → v.functions ≡ t.functions ++ p ∷ []
+    → AreDeclared (entered_state s) d params flags → Next d t → ((at : Protos) (see : Sight) → Later t at see → IsBlock at any_sight see body (block_seen out)) → IsLeft t.scopes v.scopes places → v.functions ≡ t.functions ++ p ∷ [] → v.constants ≡ t.constants
     → p ≡ record { flags = flags; dots = dots; body = block_seen out } → index ≡ suc (length t.functions)
     → (at : Protos) (see : Sight) → Later v at see → IsClosure at see index places (λ inner q. IsFun at inner (Lambda params dots body) q)
-function_code s d t v params flags dots body out p places index declared next code left added is number at see l =
-    let h : Ended s d t v params flags p places = record { declared = declared; next = next; left = left; added = added } in
+function_code s d t v params flags dots body out p places index declared next code left added same is number at see l =
+    let h : Ended s d t v params flags p places = record { declared = declared; next = next; left = left; added = added; same = same } in
     let was : t.scopes.clean ≡ true = sym (left_clean t v places t.scopes.outer left) ∙ l.clean in
     let w = went_in s d t v params flags p places h was in
     let k = left_in s d t v params flags p places h was in
@@ -354,8 +363,8 @@ function_code s d t v params flags dots body out p places index declared next co
     let within : Sight = inside names see in
     let seen : Covers (stack_sight (stack t.scopes)) (local_sight (with_names params flags []) within) =
     subst (λ ls. Covers (local_sight ls (inside names (stack_sight t.scopes.outer))) (local_sight (with_names params flags []) within)) (sym w.grows.0) (covers_local (with_names params flags []) _ _ (covers_inside names _ _ around)) in
-    let inner : Later t at (local_sight (with_names params flags []) within) = record { clean = was; functions = holds_front t.functions v.functions p at added l.functions; covers = seen } in
-    let found : at index ≡ Some p = ap at number ∙ l.functions (length t.functions) p (subst (λ ps. slice_get ps (length t.functions) ≡ Some p) (sym added) (get_last t.functions p)) in
+    let inner : Later t at (local_sight (with_names params flags []) within) = record { clean = was; functions = holds_front t.functions v.functions p at added l.functions; constants = subst (λ cs. Names cs at) same l.constants; covers = seen } in
+    let found : at.function index ≡ Some p = ap at.function number ∙ l.functions (length t.functions) p (subst (λ ps. slice_get ps (length t.functions) ≡ Some p) (sym added) (get_last t.functions p)) in
     let cells : Each (IsCaptured see) names places = subst (Each (IsCaptured see) names) (sym k.3) (captured_on _ see names t.scopes.level.places l.covers (k.4 was)) in
     let block : IsBlock at any_sight (with_locals params flags within) body (block_seen out) = subst (λ a. IsBlock at any_sight a body (block_seen out)) (names_sight params flags [] within) (code at _ inner) in
     (names, p, found, cells, subst (IsFun at within (Lambda params dots body)) (sym is) (refl, declared.as_many, block))

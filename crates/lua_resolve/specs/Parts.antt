@@ -1,5 +1,5 @@
 -- A TEXT THAT IS GONE OVER: what is made of its parts is code of these (`lua_slots`, `IsCode`), whatever comes later. Later on more names
--- may be captured and more functions be there; nothing is said where a captured variable turned out to have no cell.
+-- may be captured and more functions and constants be there; nothing is said where a captured variable turned out to have no cell.
 use Rattle.std.specs.Prelude.{◌≡◌, ℕ, suc, Bool, true, List, [], ◌∷◌, ◌++◌, map, slice_get, Option, Some, None}
 use Rattle.std.specs.declared.alloc.Global.{Global}
 use Rattle.std.specs.declared.boxed.Box.{Box}
@@ -20,13 +20,14 @@ use Rattle.lua_code.specs.Seen.{expression_seen, entry_seen, target_seen, statem
 use Rattle.lua_scopes.specs.Scopes.{Local, Scopes, stack, local_sight, stack_sight, Covers, Grows}
 use Rattle.lua_resolve.specs.declared.resolver.Resolver.{Resolver}
 
--- the functions in progress, and those that are done, which are numbered from 1
+-- the functions in progress, those that are done, which are numbered from 1, and the constants that were met, which are numbered from 0
 pub record State : Type 0 where
   pub scopes : Scopes
   pub functions : List CProto
+  pub constants : List Bytes
 
 abbrev pub state_of : Resolver → State
-state_of r = record { scopes = r.scopes; functions = map proto_seen r.functions }
+state_of r = record { scopes = r.scopes; functions = map proto_seen r.functions; constants = r.constants }
 
 -- the local variables of the innermost function
 abbrev pub locals : State → List Local
@@ -41,18 +42,24 @@ opened d s = with_locals_of (d ++ locals s) s
 
 -- a module has these functions
 abbrev pub Holds : List CProto → Protos → Type 0
-Holds ps at = (i : ℕ) (p : CProto) → slice_get ps i ≡ Some p → at (suc i) ≡ Some p
+Holds ps at = (i : ℕ) (p : CProto) → slice_get ps i ≡ Some p → at.function (suc i) ≡ Some p
+
+-- and these constants
+abbrev pub Names : List Bytes → Protos → Type 0
+Names cs at = (n : ℕ) (t : Bytes) → slice_get cs n ≡ Some t → at.constant n ≡ t
 
 -- what may come to be after a state
 pub record Later (t : State) (at : Protos) (see : Sight) : Type 0 where
   pub clean : t.scopes.clean ≡ true
   pub functions : Holds t.functions at
+  pub constants : Names t.constants at
   pub covers : Covers (stack_sight (stack t.scopes)) see
 
 -- one state comes after another: all that was known is known
 pub record Went (s t : State) : Type 0 where
   pub clean : s.scopes.clean ≡ true
   pub functions : (at : Protos) → Holds t.functions at → Holds s.functions at
+  pub constants : (at : Protos) → Names t.constants at → Names s.constants at
   pub grows : Grows (stack s.scopes) (stack t.scopes)
 
 pub record Next (s t : State) : Type 0 where

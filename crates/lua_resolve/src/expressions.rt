@@ -15,7 +15,7 @@ use crate::resolver::Resolver;
 use lua_code::{Entry, Expression, Place, Proto, Target};
 use lua_syntax::{Expr, ExprKind, Field, Function};
 use std::alloc::Global;
-use wk_base::{Bytes, List, NoMemory};
+use wk_base::{List, NoMemory};
 
 /// A function that is done: its number, and from where it captures.
 #[derive(Drop)]
@@ -30,17 +30,6 @@ fn boxed(alloc: Global, code: Expression) -> Result<Box<Expression>, NoMemory>
 {
     match Box::new(alloc, code) {
         Ok(code) => Ok(code),
-        Err(_) => Err(NoMemory),
-    }
-}
-
-/// A copy of a name, in a box.
-fn boxed_name(alloc: Global, name: &Bytes) -> Result<Box<Bytes>, NoMemory>
-    ensures { IfOk result (λ b. b.value ≡ name.now) }
-{
-    let name = name.copy()?;
-    match Box::new(alloc, name) {
-        Ok(name) => Ok(name),
         Err(_) => Err(NoMemory),
     }
 }
@@ -76,7 +65,10 @@ impl<'t> Resolver<'t> {
             ExprKind::True => Ok(Expression::Truth(true)),
             ExprKind::False => Ok(Expression::Truth(false)),
             ExprKind::Number(n) => Ok(Expression::Number(*n)),
-            ExprKind::Text(text) => Ok(Expression::Text(text.copy()?)),
+            ExprKind::Text(text) => {
+                let number = self.constant(text)?;
+                Ok(Expression::Text(number))
+            }
             ExprKind::Dots => Ok(Expression::Dots),
             ExprKind::Function(f) => {
                 let Done { index, places } = self.function(f)?;
@@ -96,8 +88,8 @@ impl<'t> Resolver<'t> {
             ExprKind::Method(of, name, arguments) => {
                 let of = self.operand(of)?;
                 let arguments = self.expressions(arguments.as_slice())?;
-                let name = boxed_name(self.alloc, name)?;
-                Ok(Expression::Method(of, name, arguments, line))
+                let number = self.constant(name)?;
+                Ok(Expression::Method(of, number, arguments, line))
             }
             ExprKind::Table(fields) => {
                 let entries = self.entries(fields.as_slice())?;

@@ -3,7 +3,8 @@
 //! - `rounds`: `resolve`, the public call, and `is_made_once`, which tests ask
 //! - `expressions`, `statements`: code of the parts of a tree
 //! - `operators`: code of operators
-//! - `resolver`: names and declarations
+//! - `resolver`: names, constants and declarations
+//! - `constants`: texts and names that were met, by their numbers
 //! - `functions`: functions that are done, none of which has an idle cell
 //! - `lists`: lists with room
 //!
@@ -11,6 +12,7 @@
 //! `lua_scopes` (`specs/Scopes.antt`). Here begin with `specs/Parts.antt`: what each part of a tree leaves, as the cycle has it.
 #![tactic(auto)]
 
+mod constants;
 mod expressions;
 mod functions;
 mod lists;

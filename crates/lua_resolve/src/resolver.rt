@@ -1,4 +1,4 @@
-//! A text that is gone over: names, declarations, and functions that are done.
+//! A text that is gone over: names, constants, declarations, and functions that are done.
 ghost use Rattle.std.specs.Prelude.{◌≡◌, ◌∷◌, ◌++◌, [], true, suc, length, IfOk, IfSome, OnOk, option_map};
 ghost use Rattle.lua_syntax.specs.Tree.{Exp, NameE};
 ghost use Rattle.lua_slots.specs.Code.{Protos as PlainProtos};
@@ -8,31 +8,36 @@ ghost use Rattle.lua_code.specs.Seen.{place_seen, expression_seen, target_seen};
 ghost use Rattle.lua_scopes.specs.Scopes.{nothing_known, closed_to, IsSighted};
 ghost use Rattle.lua_resolve.specs.Parts.{state_of, Next, Later, AreDeclared};
 
+use crate::constants::Constants;
 use crate::functions::Functions;
 use crate::lists::with_room;
 use lua_code::{Expression, Place, Proto, Target};
 use lua_scopes::{Scopes, Sketch};
 use std::alloc::Global;
+use std::hash::RandomState;
 use wk_base::{Bytes, List, NoMemory};
 
-/// A text that is gone over: the functions in progress, and those that are done.
+/// A text that is gone over: the functions in progress, those that are done, and the constants that were met.
 #[derive(Drop)]
 pub(crate) struct Resolver<'t> {
     pub(crate) alloc: Global,
     pub(crate) scopes: Scopes<'t>,
     pub(crate) functions: Functions,
+    pub(crate) constants: Constants<'t>,
 }
 
 impl<'t> Resolver<'t> {
-    /// In front of a text of which a sketch was made.
-    pub(crate) fn new(alloc: Global, sketch: Sketch<'t>) -> Resolver<'t>
+    /// In front of a text of which a sketch was made. Its constants are hashed by the seed.
+    pub(crate) fn new(alloc: Global, seed: RandomState, sketch: Sketch<'t>) -> Resolver<'t>
         ensures scopes { result.scopes ≡ record { clean = true; level = nothing_known; outer = [] } }
         ensures functions { result.functions ≡ [] }
+        ensures constants { result.constants ≡ [] }
     {
         Resolver {
             alloc,
             scopes: Scopes::new(alloc, sketch),
             functions: Functions::new(alloc),
+            constants: Constants::new(alloc, seed),
         }
     }
 
@@ -45,6 +50,15 @@ impl<'t> Resolver<'t> {
         Ok(place)
     }
 
+    /// The number of a text or a name among the constants.
+    pub(crate) fn constant(&mut self, bytes: &'t Bytes) -> Result<u32, NoMemory>
+        ensures next { OnOk result (Next (state_of self.old) (state_of self.new)) }
+        ensures there { IfOk result (λ n. (at : PlainProtos) (see : Sight) → Later (state_of self.new) at see → at.constant n ≡ bytes.now) }
+    {
+        let number = self.constants.number(bytes)?;
+        Ok(number)
+    }
+
     /// Code of a name.
     pub(crate) fn name(&mut self, name: &'t Bytes, line: u32) -> Result<Expression, NoMemory>
         ensures next { OnOk result (Next (state_of self.old) (state_of self.new)) }
@@ -52,7 +66,10 @@ impl<'t> Resolver<'t> {
     {
         match self.variable(name)? {
             Some(place) => Ok(Expression::Local(place)),
-            None => Ok(Expression::Global(name.copy()?, line)),
+            None => {
+                let number = self.constant(name)?;
+                Ok(Expression::Global(number, line))
+            }
         }
     }
 
@@ -63,7 +80,10 @@ impl<'t> Resolver<'t> {
     {
         match self.variable(name)? {
             Some(place) => Ok(Target::Variable(place)),
-            None => Ok(Target::Global(name.copy()?, line)),
+            None => {
+                let number = self.constant(name)?;
+                Ok(Target::Global(number, line))
+            }
         }
     }
 
@@ -89,7 +109,7 @@ impl<'t> Resolver<'t> {
 
     /// Only the oldest so many local variables are left.
     pub(crate) fn close(&mut self, count: usize) -> Result<(), NoMemory>
-        ensures { OnOk result ((self.new.scopes ≡ record self.old.scopes { level = closed_to count self.old.scopes.level }) × (self.new.functions ≡ self.old.functions)) }
+        ensures { OnOk result ((self.new.scopes ≡ record self.old.scopes { level = closed_to count self.old.scopes.level }) × (self.new.functions ≡ self.old.functions) × (self.new.constants ≡ self.old.constants)) }
     {
         self.scopes.close(count)
     }
@@ -97,6 +117,7 @@ impl<'t> Resolver<'t> {
     /// A function that is done; its number.
     pub(crate) fn add(&mut self, proto: Proto) -> Result<u32, NoMemory>
         ensures scopes { self.new.scopes ≡ self.old.scopes }
+        ensures constants { self.new.constants ≡ self.old.constants }
         ensures functions { IfOk result (λ index. (index ≡ suc (length self.old.functions)) × (self.new.functions ≡ self.old.functions ++ proto ∷ [])) }
     {
         let Some(index) = number_of(self.functions.len()) else {

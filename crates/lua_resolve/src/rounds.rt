@@ -36,7 +36,7 @@ pub fn resolve(alloc: Global, seed: RandomState, chunk: &Chunk) -> Result<Protos
 {
     let mut sketch = first_look(alloc, seed, chunk)?;
     for _ in 0..usize::MAX {
-        let gone = round(alloc, chunk, sketch)?;
+        let gone = round(alloc, seed, chunk, sketch)?;
         if !gone.scopes.is_clean() {
             sketch = gone.scopes.into_sketch(seed);
             continue;
@@ -53,21 +53,27 @@ pub fn resolve(alloc: Global, seed: RandomState, chunk: &Chunk) -> Result<Protos
 /// again is the same.
 pub fn is_made_once(alloc: Global, seed: RandomState, chunk: &Chunk) -> Result<bool, NoMemory> {
     let sketch = first_look(alloc, seed, chunk)?;
-    let gone = round(alloc, chunk, sketch)?;
+    let gone = round(alloc, seed, chunk, sketch)?;
     Ok(gone.scopes.is_clean() && gone.tight)
 }
 
 /// Goes over the text once.
-fn round<'t>(alloc: Global, chunk: &'t Chunk, sketch: Sketch<'t>) -> Result<Gone<'t>, NoMemory>
+fn round<'t>(
+    alloc: Global,
+    seed: RandomState,
+    chunk: &'t Chunk,
+    sketch: Sketch<'t>,
+) -> Result<Gone<'t>, NoMemory>
     ensures code { IfOk result (λ r. r.scopes.clean ≡ true → IsProtos (protos_seen r.protos) (chunk_view chunk.now)) }
     ensures cells { IfOk result (λ r. r.tight ≡ true → NoIdleCells (protos_seen r.protos)) }
 {
-    let mut resolver = Resolver::new(alloc, sketch);
+    let mut resolver = Resolver::new(alloc, seed, sketch);
     let body = resolver.block(&chunk.body)?;
     let Resolver {
         alloc,
         scopes,
         functions,
+        constants: met,
     } = resolver;
     let text = Proto {
         flags: List::new(alloc),
@@ -79,9 +85,11 @@ fn round<'t>(alloc: Global, chunk: &'t Chunk, sketch: Sketch<'t>) -> Result<Gone
         tight: rest,
     } = functions.into_finished();
     let tight = with_one(alloc, &text, rest)?;
+    let constants = met.copied()?;
     let protos = Protos {
         text,
         functions: done,
+        constants,
     };
     Ok(Gone {
         protos,

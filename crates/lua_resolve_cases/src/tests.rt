@@ -1,6 +1,6 @@
-//! Texts with their counts, worked out by hand.
+//! Texts with their counts and their constants, worked out by hand.
 use crate::modules::{BOOK, DATA, INFOBOX, LANGUAGES, TEXT};
-use crate::{Counts, counts_of};
+use crate::{Counts, counts_of, has_constants, returns};
 use lua_parser::parse;
 use lua_resolve::{is_made_once, resolve};
 use lua_syntax::SyntaxFault;
@@ -297,4 +297,61 @@ fn many_variables_are_resolved(rt: HostRuntime) -> Result<(), Fail> {
         functions: 1,
     };
     check(&rt, alloc, seed, text.as_slice(), expected)
+}
+
+/// A text that returns three names and texts, the numbers of these, and the constants of its module.
+struct Named {
+    text: &'static str,
+    numbers: [u32; 3],
+    constants: [&'static str; 2],
+}
+
+const NAMED: [Named; 4] = [
+    // a name that is used twice has one number
+    Named {
+        text: "return x, y, x",
+        numbers: [0, 1, 0],
+        constants: ["x", "y"],
+    },
+    // and so has a text
+    Named {
+        text: "return 'a', 'b', 'a'",
+        numbers: [0, 1, 0],
+        constants: ["a", "b"],
+    },
+    // names and texts share numbers, those of methods and fields among them, and of what is assigned to
+    Named {
+        text: "a = a:b(a.b) return 'b', b, 'a'",
+        numbers: [1, 1, 0],
+        constants: ["a", "b"],
+    },
+    // functions share them with the text around; local variables have none
+    Named {
+        text: "local f = function(p) return p, y end return x, 'y', 'x'",
+        numbers: [1, 0, 1],
+        constants: ["y", "x"],
+    },
+];
+
+/// What the text of a row returns has the numbers of the row, and its module the constants.
+fn check_named(rt: &impl Abort, alloc: Global, seed: RandomState, row: &Named) -> Result<(), Fail> {
+    let text = row.text.as_bytes();
+    if text.len() >= 4000000000 {
+        return Err(Fail::from(NoMemory));
+    }
+    let chunk = parse(alloc, text)?;
+    let protos = resolve(alloc, seed, &chunk)?;
+    assert!(rt; returns(&protos, &row.numbers));
+    assert!(rt; has_constants(&protos, &row.constants));
+    Ok(())
+}
+
+#[test]
+fn constants_are_numbered(rt: HostRuntime) -> Result<(), Fail> {
+    let alloc = rt.alloc();
+    let seed = RandomState::new(&rt)?;
+    for row in NAMED.iter() {
+        check_named(&rt, alloc, seed, row)?;
+    }
+    Ok(())
 }

@@ -1,4 +1,4 @@
-//! Modules are found by their titles, and functions by their numbers.
+//! Modules are found by their titles, and functions and constants by their numbers.
 ghost use Rattle.std.specs.Prelude.{◌≡◌, true, IfOk};
 ghost use Rattle.wk_base.specs.Titles.{is_module};
 
@@ -27,13 +27,17 @@ fn proto(alloc: Global, dots: bool) -> Proto {
     }
 }
 
-// A text with one function, which takes `...`.
+// A text with one function, which takes `...`, and two constants.
 fn protos(alloc: Global) -> Result<Protos, NoMemory> {
     let mut functions = List::new(alloc);
     functions.push(proto(alloc, true))?;
+    let mut constants = List::new(alloc);
+    constants.push(Bytes::of(alloc, b"print")?)?;
+    constants.push(Bytes::of(alloc, b"n")?)?;
     Ok(Protos {
         text: proto(alloc, false),
         functions,
+        constants,
     })
 }
 
@@ -94,5 +98,19 @@ fn functions_are_numbered(rt: HostRuntime) -> Result<(), Fail> {
     assert_eq!(rt; takes_more(&protos, 0), Some(false));
     assert_eq!(rt; takes_more(&protos, 1), Some(true));
     assert_eq!(rt; takes_more(&protos, 2), None);
+    Ok(())
+}
+
+// Whether the constant of a number is this one.
+fn has_constant(protos: &Protos, number: u32, constant: &[u8]) -> bool {
+    protos.constant(number) == constant
+}
+
+#[test]
+fn constants_are_numbered(rt: HostRuntime) -> Result<(), Fail> {
+    let protos = protos(rt.alloc())?;
+    assert!(rt; has_constant(&protos, 0, b"print"));
+    assert!(rt; has_constant(&protos, 1, b"n"));
+    assert!(rt; has_constant(&protos, 2, b""));
     Ok(())
 }

@@ -3,7 +3,7 @@ use mir.Val.{SFits}
 use mir.Syntax.{w64}
 use Rattle.std.proofs.lemmas.Int.{to_z-of_z}
 use Rattle.std.proofs.lemmas.List.{drop_all}
-use Rattle.lua_heap.specs.Value.{Text, Number}
+use Rattle.lua_heap.specs.Value.{Number}
 use Rattle.lua_slots.specs.Code.{ConstantC}
 use Rattle.lua_code.specs.declared.statement.Statement.TheVariants as codes
 use Rattle.lua_slots.specs.IsCode.{any_sight, IsClosure, IsExp, IsFun, IsBlock}
@@ -46,11 +46,8 @@ kind-returns-in-Dots-clause-next t c = next_same _
 pub kind-returns-in-Dots-clause-code : goal.kind-returns-in-Dots-clause-code
 kind-returns-in-Dots-clause-code t c = λ at see l. exp_as at see (ap (λ k. kind_view k c.args.line) c.in-Dots.is ∙ kind-Dots _) (expression-Dots) tt
 
-pub kind-returns-in_ok-copy-in-Text-clause-next : goal.kind-returns-in_ok-copy-in-Text-clause-next
-kind-returns-in_ok-copy-in-Text-clause-next t c = next_same _
-
-pub kind-returns-in_ok-copy-in-Text-clause-code : goal.kind-returns-in_ok-copy-in-Text-clause-code
-kind-returns-in_ok-copy-in-Text-clause-code t c = λ at see l. exp_as at see (ap (λ k. kind_view k c.args.line) c.in-Text.is ∙ kind-Text _ _) (expression-Text _) (ap Text c.in_ok-copy-in-Text.ensures)
+pub kind-returns-in_ok-number-in-Text-clause-code : goal.kind-returns-in_ok-number-in-Text-clause-code
+kind-returns-in_ok-number-in-Text-clause-code t c = λ at see l. exp_as at see (ap (λ k. kind_view k c.args.line) c.in-Text.is ∙ kind-Text _ _) (expression-Text _) (c.in_ok-number-in-Text.ensures.there at see l)
 
 pub kind-returns-in_ok-index-in-Function-clause-code : goal.kind-returns-in_ok-index-in-Function-clause-code
 kind-returns-in_ok-index-in-Function-clause-code t c = λ at see l. exp_as at see (ap (λ k. kind_view k c.args.line) c.in-Function.is ∙ kind-Function _ _) (expression-Function _ _) (c.in_ok-index-in-Function.ensures.code at see l)
@@ -70,11 +67,13 @@ kind-returns-in_ok-arguments-in-Call-clause-next t c = next_trans _ _ _ c.in_ok-
 pub kind-returns-in_ok-arguments-in-Call-clause-code : goal.kind-returns-in_ok-arguments-in-Call-clause-code
 kind-returns-in_ok-arguments-in-Call-clause-code t c = λ at see l. exp_as at see (ap (λ k. kind_view k c.args.line) c.in-Call.is ∙ kind-Call _ _ _) (expression-Call _ _ _) (refl, exp_of at see _ c.deref-in-Call.ensures (c.in_ok-called-in-Call.ensures.code at see (later _ _ at see (c.in_ok-arguments-in-Call.ensures.next) l)), exps_of at see _ c.as_slice.ensures (c.in_ok-arguments-in-Call.ensures.code at see l))
 
-pub kind-returns-in_ok-name-in-Method-clause-next : goal.kind-returns-in_ok-name-in-Method-clause-next
-kind-returns-in_ok-name-in-Method-clause-next t c = next_trans _ _ _ c.in_ok-of-in-Method.ensures.next c.in_ok-arguments-in-Method.ensures.next
+pub kind-returns-in_ok-number-in-Method-clause-next : goal.kind-returns-in_ok-number-in-Method-clause-next
+kind-returns-in_ok-number-in-Method-clause-next t c = next_trans _ _ _ c.in_ok-of-in-Method.ensures.next (next_trans _ _ _ c.in_ok-arguments-in-Method.ensures.next c.in_ok-number-in-Method.ensures.next)
 
-pub kind-returns-in_ok-name-in-Method-clause-code : goal.kind-returns-in_ok-name-in-Method-clause-code
-kind-returns-in_ok-name-in-Method-clause-code t c = λ at see l. exp_as at see (ap (λ k. kind_view k c.args.line) c.in-Method.is ∙ kind-Method _ _ _ _) (expression-Method _ _ _ _) (refl, c.in_ok-name-in-Method.ensures, exp_of at see _ c.deref-in-Method.ensures (c.in_ok-of-in-Method.ensures.code at see (later _ _ at see (c.in_ok-arguments-in-Method.ensures.next) l)), exps_of at see _ c.as_slice-in-Method.ensures (c.in_ok-arguments-in-Method.ensures.code at see l))
+pub kind-returns-in_ok-number-in-Method-clause-code : goal.kind-returns-in_ok-number-in-Method-clause-code
+kind-returns-in_ok-number-in-Method-clause-code t c = λ at see l.
+    let before = later _ _ at see c.in_ok-number-in-Method.ensures.next l in
+    exp_as at see (ap (λ k. kind_view k c.args.line) c.in-Method.is ∙ kind-Method _ _ _ _) (expression-Method _ _ _ _) (refl, c.in_ok-number-in-Method.ensures.there at see l, exp_of at see _ c.deref-in-Method.ensures (c.in_ok-of-in-Method.ensures.code at see (later _ _ at see c.in_ok-arguments-in-Method.ensures.next before)), exps_of at see _ c.as_slice-in-Method.ensures (c.in_ok-arguments-in-Method.ensures.code at see before))
 
 pub kind-returns-in_ok-entries-in-Table-clause-code : goal.kind-returns-in_ok-entries-in-Table-clause-code
 kind-returns-in_ok-entries-in-Table-clause-code t c = λ at see l. exp_as at see (ap (λ k. kind_view k c.args.line) c.in-Table.is ∙ kind-Table _ _) (expression-Table _ _) (refl, fields_of_list at see _ c.as_slice-in-Table.ensures (c.in_ok-entries-in-Table.ensures.code at see l))
@@ -179,16 +178,16 @@ pub target-returns-in-Nil-clause-code : goal.target-returns-in-Nil-clause-code
 target-returns-in-Nil-clause-code t c = search (rules, views)
 
 pub function-returns-clause-next : goal.function-returns-clause-next
-function-returns-clause-next t c = function_next _ _ _ _ _ _ _ _ (entering (state_of c.args.self.now) _ _ _ _ c.in_ok-enter.ensures (names_of_list _ _ c.as_slice.ensures c.in_ok-flags.ensures)) c.in_ok-body.ensures.next (leaving _ _ _ _ c.in_ok-places.ensures c.in_ok-index.ensures.scopes) (adding _ _ _ c.in_ok-index.ensures.functions.1)
+function-returns-clause-next t c = function_next _ _ _ _ _ _ _ _ (entering (state_of c.args.self.now) _ _ _ _ c.in_ok-enter.ensures (names_of_list _ _ c.as_slice.ensures c.in_ok-flags.ensures)) c.in_ok-body.ensures.next (leaving _ _ _ _ c.in_ok-places.ensures c.in_ok-index.ensures.scopes) (adding _ _ _ c.in_ok-index.ensures.functions.1) c.in_ok-index.ensures.constants
 
 pub function-returns-clause-code : goal.function-returns-clause-code
-function-returns-clause-code t c = λ at see l. subst (λ k. IsClosure at see c.in_ok-index.index (map place_seen c.in_ok-places.places) (λ inner q. IsFun at inner k q)) (sym (function_opens c.args.f.now)) (function_code _ _ _ _ _ _ _ _ _ _ _ _ (entering (state_of c.args.self.now) _ _ _ _ c.in_ok-enter.ensures (names_of_list _ _ c.as_slice.ensures c.in_ok-flags.ensures)) c.in_ok-body.ensures.next c.in_ok-body.ensures.code (leaving _ _ _ _ c.in_ok-places.ensures c.in_ok-index.ensures.scopes) (adding _ _ _ c.in_ok-index.ensures.functions.1) refl (numbered _ _ c.in_ok-index.ensures.functions.0) at see l)
+function-returns-clause-code t c = λ at see l. subst (λ k. IsClosure at see c.in_ok-index.index (map place_seen c.in_ok-places.places) (λ inner q. IsFun at inner k q)) (sym (function_opens c.args.f.now)) (function_code _ _ _ _ _ _ _ _ _ _ _ _ (entering (state_of c.args.self.now) _ _ _ _ c.in_ok-enter.ensures (names_of_list _ _ c.as_slice.ensures c.in_ok-flags.ensures)) c.in_ok-body.ensures.next c.in_ok-body.ensures.code (leaving _ _ _ _ c.in_ok-places.ensures c.in_ok-index.ensures.scopes) (adding _ _ _ c.in_ok-index.ensures.functions.1) c.in_ok-index.ensures.constants refl (numbered _ _ c.in_ok-index.ensures.functions.0) at see l)
 
 pub block-returns-clause-next : goal.block-returns-clause-next
-block-returns-clause-next t c = block_next _ _ _ _ _ c.in_ok-out.ensures (closing (state_of c.args.self.now) _ _ _ _ _ c.len-count.ensures c.in_ok-close.ensures)
+block-returns-clause-next t c = block_next _ _ _ _ _ c.in_ok-out.ensures (closing (state_of c.args.self.now) _ _ _ _ _ _ _ c.len-count.ensures c.in_ok-close.ensures)
 
 pub block-returns-clause-code : goal.block-returns-clause-code
-block-returns-clause-code t c = λ at see l. subst (λ b. IsBlock at any_sight see b (block_seen c.in_ok-out.out)) (sym (block_opens c.args.b.now)) (stats_of_list at any_sight see _ c.as_slice.ensures (block_code _ _ _ _ _ c.in_ok-out.ensures (closing (state_of c.args.self.now) _ _ _ _ _ c.len-count.ensures c.in_ok-close.ensures) at see l))
+block-returns-clause-code t c = λ at see l. subst (λ b. IsBlock at any_sight see b (block_seen c.in_ok-out.out)) (sym (block_opens c.args.b.now)) (stats_of_list at any_sight see _ c.as_slice.ensures (block_code _ _ _ _ _ c.in_ok-out.ensures (closing (state_of c.args.self.now) _ _ _ _ _ _ _ c.len-count.ensures c.in_ok-close.ensures) at see l))
 
 pub branch-returns-clause-next : goal.branch-returns-clause-next
 branch-returns-clause-next t c = next_trans _ _ _ c.in_ok-test.ensures.next c.in_ok-body.ensures.next
@@ -221,7 +220,7 @@ pub stat_kind-returns-in_ok-other-in-If : goal.stat_kind-returns-in_ok-other-in-
 stat_kind-returns-in_ok-other-in-If t c = subst (λ k. IsPart (state_of c.args.self.now) (state_of c.otherwise.new.self) (stat_kind_view k c.args.line) (statement_seen (codes.If c.in_ok-arms-in-If.arms c.in_ok-other-in-If.other))) (sym c.in-If.is) (if_part _ _ _ _ _ _ _ (next_trans _ _ _ c.in_ok-arms-in-If.ensures.next c.in_ok-other-in-If.ensures.next) (λ at see l. arms_of_list at see _ c.as_slice-in-If.ensures (c.in_ok-arms-in-If.ensures.code at see (later _ _ at see c.in_ok-other-in-If.ensures.next l))) c.in_ok-other-in-If.ensures.code)
 
 pub loop_kind-returns-in_ok-close-in-Repeat : goal.loop_kind-returns-in_ok-close-in-Repeat
-loop_kind-returns-in_ok-close-in-Repeat t c = part_as _ _ (ap (λ k. stat_kind_view k c.args.line) c.in-Repeat.is ∙ stat-Repeat _ _ _) (statement-Repeat _ _) (plain_part _ _ _ _ (repeat_next _ _ _ _ _ _ c.in_ok-body-in-Repeat.ensures c.in_ok-test-in-Repeat.ensures.next (closing (state_of c.args.self.now) _ _ _ _ _ c.len-count.ensures c.in_ok-close-in-Repeat.ensures)) (λ at see l tail left rest h. (subst (λ b. IsBlock at (λ end. IsExp at end (expr_view c.in-Repeat.test) (expression_seen c.in_ok-test-in-Repeat.test)) see b (block_seen c.in_ok-body-in-Repeat.body)) (sym (block_opens c.in-Repeat.body)) (stats_of_list at (λ end. IsExp at end (expr_view c.in-Repeat.test) (expression_seen c.in_ok-test-in-Repeat.test)) see _ c.as_slice.ensures (repeat_code _ _ _ _ _ _ _ _ c.in_ok-body-in-Repeat.ensures c.in_ok-test-in-Repeat.ensures.next c.in_ok-test-in-Repeat.ensures.code (closing (state_of c.args.self.now) _ _ _ _ _ c.len-count.ensures c.in_ok-close-in-Repeat.ensures) at see l)), h)))
+loop_kind-returns-in_ok-close-in-Repeat t c = part_as _ _ (ap (λ k. stat_kind_view k c.args.line) c.in-Repeat.is ∙ stat-Repeat _ _ _) (statement-Repeat _ _) (plain_part _ _ _ _ (repeat_next _ _ _ _ _ _ c.in_ok-body-in-Repeat.ensures c.in_ok-test-in-Repeat.ensures.next (closing (state_of c.args.self.now) _ _ _ _ _ _ _ c.len-count.ensures c.in_ok-close-in-Repeat.ensures)) (λ at see l tail left rest h. (subst (λ b. IsBlock at (λ end. IsExp at end (expr_view c.in-Repeat.test) (expression_seen c.in_ok-test-in-Repeat.test)) see b (block_seen c.in_ok-body-in-Repeat.body)) (sym (block_opens c.in-Repeat.body)) (stats_of_list at (λ end. IsExp at end (expr_view c.in-Repeat.test) (expression_seen c.in_ok-test-in-Repeat.test)) see _ c.as_slice.ensures (repeat_code _ _ _ _ _ _ _ _ c.in_ok-body-in-Repeat.ensures c.in_ok-test-in-Repeat.ensures.next c.in_ok-test-in-Repeat.ensures.code (closing (state_of c.args.self.now) _ _ _ _ _ _ _ c.len-count.ensures c.in_ok-close-in-Repeat.ensures) at see l)), h)))
 
 pub stat_kind-returns-in_ok-index-in-LocalFunction : goal.stat_kind-returns-in_ok-index-in-LocalFunction
 stat_kind-returns-in_ok-index-in-LocalFunction t c = part_as _ _ (ap (λ k. stat_kind_view k c.args.line) c.in-LocalFunction.is ∙ stat-LocalFunction _ _ _) (statement-LocalFunction _ _ _) (local_function_part _ _ _ _ _ _ _ _ _ c.in_ok-boxed-in-LocalFunction.ensures c.in_ok-index-in-LocalFunction.ensures.next c.in_ok-index-in-LocalFunction.ensures.code)
@@ -236,19 +235,19 @@ pub loop_kind-returns-in_ok-boxed-in-Count : goal.loop_kind-returns-in_ok-boxed-
 loop_kind-returns-in_ok-boxed-in-Count t c = subst (λ k. IsPart (state_of c.args.self.now) (state_of c.counted.new.self) (stat_kind_view k c.args.line) (statement_seen (codes.Count c.in_ok-boxed-in-Count.field-0.boxed c.in_ok-from-in-Count.from c.in_ok-to-in-Count.to c.in_ok-by-in-Count.by c.in_ok-boxed-in-Count.field-0.body c.args.line))) (sym c.in-Count.is) (count_part _ _ _ _ _ _ _ _ _ _ _ _ _ (next_trans _ _ _ c.in_ok-from-in-Count.ensures.next (next_trans _ _ _ c.in_ok-to-in-Count.ensures.next (next_trans _ _ _ c.in_ok-by-in-Count.ensures.next c.in_ok-boxed-in-Count.ensures.next))) (λ at see l. c.in_ok-from-in-Count.ensures.code at see (later _ _ at see (next_trans _ _ _ c.in_ok-to-in-Count.ensures.next (next_trans _ _ _ c.in_ok-by-in-Count.ensures.next c.in_ok-boxed-in-Count.ensures.next)) l)) (λ at see l. c.in_ok-to-in-Count.ensures.code at see (later _ _ at see (next_trans _ _ _ c.in_ok-by-in-Count.ensures.next c.in_ok-boxed-in-Count.ensures.next) l)) (λ at see l. c.in_ok-by-in-Count.ensures.code at see (later _ _ at see c.in_ok-boxed-in-Count.ensures.next l)) c.in_ok-boxed-in-Count.ensures.code)
 
 pub counted-returns-clause-next : goal.counted-returns-clause-next
-counted-returns-clause-next t c = body_next _ _ _ _ _ _ c.in_ok-boxed.ensures c.in_ok-body.ensures.next (closing (state_of c.args.self.now) _ _ _ _ _ c.len-count.ensures c.in_ok-close.ensures)
+counted-returns-clause-next t c = body_next _ _ _ _ _ _ c.in_ok-boxed.ensures c.in_ok-body.ensures.next (closing (state_of c.args.self.now) _ _ _ _ _ _ _ c.len-count.ensures c.in_ok-close.ensures)
 
 pub counted-returns-clause-code : goal.counted-returns-clause-code
-counted-returns-clause-code t c = body_code _ _ _ _ _ _ _ _ c.in_ok-boxed.ensures c.in_ok-body.ensures.next c.in_ok-body.ensures.code (closing (state_of c.args.self.now) _ _ _ _ _ c.len-count.ensures c.in_ok-close.ensures)
+counted-returns-clause-code t c = body_code _ _ _ _ _ _ _ _ c.in_ok-boxed.ensures c.in_ok-body.ensures.next c.in_ok-body.ensures.code (closing (state_of c.args.self.now) _ _ _ _ _ _ _ c.len-count.ensures c.in_ok-close.ensures)
 
 pub scoped-returns-clause-as_many : goal.scoped-returns-clause-as_many
 scoped-returns-clause-as_many t c = (names_of_list _ _ c.as_slice.ensures c.in_ok-flags.ensures).as_many
 
 pub scoped-returns-clause-next : goal.scoped-returns-clause-next
-scoped-returns-clause-next t c = body_next _ _ _ _ _ _ (names_of_list _ _ c.as_slice.ensures c.in_ok-flags.ensures) c.in_ok-body.ensures.next (closing (state_of c.args.self.now) _ _ _ _ _ c.len-count.ensures c.in_ok-close.ensures)
+scoped-returns-clause-next t c = body_next _ _ _ _ _ _ (names_of_list _ _ c.as_slice.ensures c.in_ok-flags.ensures) c.in_ok-body.ensures.next (closing (state_of c.args.self.now) _ _ _ _ _ _ _ c.len-count.ensures c.in_ok-close.ensures)
 
 pub scoped-returns-clause-code : goal.scoped-returns-clause-code
-scoped-returns-clause-code t c = body_code _ _ _ _ _ _ _ _ (names_of_list _ _ c.as_slice.ensures c.in_ok-flags.ensures) c.in_ok-body.ensures.next c.in_ok-body.ensures.code (closing (state_of c.args.self.now) _ _ _ _ _ c.len-count.ensures c.in_ok-close.ensures)
+scoped-returns-clause-code t c = body_code _ _ _ _ _ _ _ _ (names_of_list _ _ c.as_slice.ensures c.in_ok-flags.ensures) c.in_ok-body.ensures.next c.in_ok-body.ensures.code (closing (state_of c.args.self.now) _ _ _ _ _ _ _ c.len-count.ensures c.in_ok-close.ensures)
 
 pub otherwise-returns-in-None-clause-next : goal.otherwise-returns-in-None-clause-next
 otherwise-returns-in-None-clause-next t c = next_same _
