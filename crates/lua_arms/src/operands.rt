@@ -1,6 +1,8 @@
-//! Expressions whose operands are evaluated (manual 2.5): the first of them is next, and a frame waits for it.
+//! Expressions whose operands are evaluated (manual 2.5): the first of them is next, and a frame waits for it. A method's call is none of
+//! these, since the text of its name is looked for first.
 ghost use Rattle.std.specs.Prelude.{◌≡◌, List, IfOk};
 ghost use Rattle.lua_code.specs.Seen.{expression_seen};
+ghost use Rattle.lua_slots.specs.Code.{Constants};
 ghost use Rattle.lua_slots.specs.Slots.{Slots};
 ghost use Rattle.lua_slots.specs.Expressions as machine;
 ghost use Rattle.lua_slots.specs.Errors.{node};
@@ -25,8 +27,8 @@ pub fn begin_operands<'m>(
     requires code { HasOperands (expression_seen code.now) }
     requires frames { FramesOf store.now frames.old }
     ensures of { IfOk result (λ r. StepOf store.now r × FramesOf store.now frames.new) }
-    ensures move_ { IfOk result (λ r. (s : Slots)
-        → machine.evals (expression_seen code.now) (frames_seen store.now.texts frames.old) s ≡ node (step_seen store.now r (frames_seen store.now.texts frames.new) s)) }
+    ensures move_ { IfOk result (λ r. (constants : Constants) (s : Slots)
+        → machine.evals constants (expression_seen code.now) (frames_seen store.now.texts frames.old) s ≡ node (step_seen store.now r (frames_seen store.now.texts frames.new) s)) }
 {
     match code {
         Expression::Index(of, key, line) => {
@@ -36,14 +38,6 @@ pub fn begin_operands<'m>(
         Expression::Call(called, arguments, line) => {
             frames.push(Frame::Expression(InExpression::ArgumentsNext(arguments, *line)))?;
             Ok(Step::On(Focus::Evaluates(called)))
-        }
-        Expression::Method(of, name, arguments, line) => {
-            frames.push(Frame::Expression(InExpression::MethodNext(
-                name.as_slice(),
-                arguments,
-                *line,
-            )))?;
-            Ok(Step::On(Focus::Evaluates(of)))
         }
         Expression::And(a, b) => {
             frames.push(Frame::Expression(InExpression::DecideNext(false, b)))?;
@@ -73,6 +67,7 @@ pub fn begin_operands<'m>(
         Expression::Function(_, _) => unreachable!(),
         Expression::Local(_) => unreachable!(),
         Expression::Global(_, _) => unreachable!(),
+        Expression::Method(_, _, _, _) => unreachable!(),
         Expression::Table(_, _) => unreachable!(),
     }
 }

@@ -1,5 +1,4 @@
 pub mod Parts
-pub mod Newest
 pub mod Changes
 pub mod Pairs
 pub mod Blocks

@@ -24,7 +24,7 @@ use std::alloc::Global;
 use wk_base::{Left, List, NoMemory};
 
 /// The target at this place of a list.
-fn target_at<'m>(targets: &[Found<'m>], at: usize) -> Option<Found<'m>>
+fn target_at<'m>(targets: &[Found], at: usize) -> Option<Found>
     ensures { result ≡ slice_get targets.now at }
 {
     targets.get(at).copied()
@@ -34,9 +34,9 @@ fn target_at<'m>(targets: &[Found<'m>], at: usize) -> Option<Found<'m>>
 fn settings<'m>(
     alloc: Global,
     store: &Store,
-    targets: &[Found<'m>],
+    targets: &[Found],
     values: Values,
-) -> Result<Stack<Setting<'m>>, NoMemory>
+) -> Result<Stack<Setting>, NoMemory>
     requires targets { AllByRecursion (FoundOf store.now) targets.now }
     requires values { ValuesOf store.now values }
     ensures of { IfOk result (λ pairs. AllByRecursion (SettingOf store.now) pairs) }
@@ -61,14 +61,14 @@ fn assigned<'m>(
     alloc: Global,
     store: &Store,
     state: &State<'m>,
-    targets: List<Found<'m>>,
+    targets: List<Found>,
     values: Given,
 ) -> Result<Turn<'m>, NoMemory>
     requires state { StateOf store.now state.now }
     requires targets { AllByRecursion (FoundOf store.now) targets }
     requires values { GivenOf store.now values }
     ensures { (l : Allowance) → IfOk result (λ r. Makes store.now state.now l store.now state.now l
-        (Now (point.Sets (reverse (with_values (map (found_seen store.now.texts) targets.entry) (given_seen store.now.texts values))) (frames_of store.now state.now)) (slots_of store.now state.now)) r) }
+        (Now (point.Sets (reverse (with_values (map (found_seen store.now.texts) targets) (given_seen store.now.texts values))) (frames_of store.now state.now)) (slots_of store.now state.now)) r) }
 {
     let values = values.into_values(alloc)?;
     let found = targets.as_slice();

@@ -16,12 +16,12 @@ ghost use Rattle.lua_state.specs.Seen.{frames_of, slots_of};
 ghost use Rattle.lua_blocks.specs.Named.{proc_at, closure_named, function_named};
 ghost use Rattle.lua_meaning.specs.Charges.{closure_charge};
 
-use crate::running::{running_closure, running_source};
+use crate::running::running_closure;
 use lua_code::{Place, Statement};
 use lua_stack::opening::open;
 use lua_stack::register::{captures, write};
 use lua_stack::{Focus, Slot, Stack};
-use lua_state::{State, Turn, pay};
+use lua_state::{State, Turn, pay, running_source};
 use lua_store::{ClosureId, ClosureKind, ProtoId, Store, TextId, Value};
 use page_run::Which;
 use std::alloc::Global;

@@ -2,7 +2,7 @@
 //! values (manual 2.4).
 //!
 //! - `exits`: ends of a move at which nothing can fail
-//! - `running`: what the running function has: its cells, and its module's title
+//! - `running`: what the running function has: its cells
 //! - `functions`: local functions
 //! - `conditions`: `if`
 //! - `forms`: how each other form of a statement begins

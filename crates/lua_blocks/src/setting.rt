@@ -67,8 +67,8 @@ fn set_entry<'m>(
     Ok(turn)
 }
 
-/// A global variable whose name is this text: an entry of the table of global variables (manual 2.3).
-fn set_global_named<'m>(
+/// A global variable whose name is this text gets a value: an entry of the table of global variables (manual 2.3).
+fn set_global<'m>(
     alloc: Global,
     store: &mut Store,
     left: &mut Left,
@@ -88,39 +88,20 @@ fn set_global_named<'m>(
     set_entry(alloc, store, left, state, globals, entry, line)
 }
 
-/// A global variable gets a value.
-fn set_global<'m>(
-    alloc: Global,
-    store: &mut Store,
-    left: &mut Left,
-    state: &State<'m>,
-    name: &[u8],
-    value: Value,
-    line: u32,
-) -> Result<Turn<'m>, NoMemory>
-    requires state { StateOf store.old state.now }
-    requires value { IsOf store.old value }
-    ensures { IfOk result (λ r. Makes store.old state.now left.old store.new state.now left.new
-        (indices.set_index (kind.Table (slots_of store.old state.now).globals) (kind.Text name.now) (seen store.old.texts value) (Some line) (frames_of store.old state.now) (slots_of store.old state.now)) r) }
-{
-    let id = store.text(name)?;
-    set_global_named(alloc, store, left, state, id, value, line)
-}
-
 /// A target gets its value.
 fn set_one<'m>(
     alloc: Global,
     store: &mut Store,
     left: &mut Left,
     state: &mut State<'m>,
-    target: Found<'m>,
+    target: Found,
     value: Value,
 ) -> Result<Turn<'m>, NoMemory>
     requires state { StateOf store.old state.old }
     requires target { FoundOf store.old target }
     requires value { IsOf store.old value }
     ensures { IfOk result (λ r. Makes store.old state.old left.old store.new state.new left.new
-        (machine.sets_one (found_seen store.old.texts target.entry) (seen store.old.texts value) (frames_of store.old state.old) (slots_of store.old state.old)) r) }
+        (machine.sets_one (found_seen store.old.texts target) (seen store.old.texts value) (frames_of store.old state.old) (slots_of store.old state.old)) r) }
 {
     match target {
         Found::Variable(place) => Ok(set_place(alloc, store, state, place, value)),
@@ -135,11 +116,11 @@ pub fn set<'m>(
     store: &mut Store,
     left: &mut Left,
     state: &mut State<'m>,
-    pairs: Stack<Setting<'m>>,
+    pairs: Stack<Setting>,
 ) -> Result<Turn<'m>, NoMemory>
     requires state { StateOf store.old state.old }
     requires pairs { AllByRecursion (SettingOf store.old) pairs }
-    ensures { IfOk result (λ r. Makes store.old state.old left.old store.new state.new left.new (machine.sets (settings_seen store.old.texts pairs.entry) (frames_of store.old state.old) (slots_of store.old state.old)) r) }
+    ensures { IfOk result (λ r. Makes store.old state.old left.old store.new state.new left.new (machine.sets (settings_seen store.old.texts pairs) (frames_of store.old state.old) (slots_of store.old state.old)) r) }
 {
     let mut pairs = pairs;
     match pairs.pop() {

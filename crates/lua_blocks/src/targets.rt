@@ -14,12 +14,12 @@ ghost use Rattle.lua_stack.specs.Of.{FoundOf, InAssignmentOf};
 ghost use Rattle.lua_stack.specs.Seen.{found_seen, in_assignment_seen};
 ghost use Rattle.lua_state.specs.Makes.{Makes, Counts};
 ghost use Rattle.lua_state.specs.Of.{StateOf};
-ghost use Rattle.lua_state.specs.Seen.{frames_of, slots_of};
+ghost use Rattle.lua_state.specs.Seen.{constants_in, frames_of, slots_of};
 
 use crate::exits::wait;
 use lua_code::{Expression, Target};
 use lua_stack::{Finding, Focus, Found, Frame, InAssignment, Jump, Values, boxed};
-use lua_state::{State, Turn, pay_node};
+use lua_state::{State, Turn, constant, pay_node};
 use lua_store::{Store, Value};
 use page_run::Which;
 use std::alloc::Global;
@@ -46,16 +46,16 @@ fn front_of<'m>(targets: &'m [Target]) -> Option<Front<'m>>
 pub fn found<'m>(
     store: &Store,
     state: &State<'m>,
-    target: Found<'m>,
+    target: Found,
     rest: &'m [Target],
-    before: List<Found<'m>>,
+    before: List<Found>,
     values: &'m List<Expression>,
 ) -> Result<Turn<'m>, NoMemory>
     requires state { StateOf store.now state.now }
     requires target { FoundOf store.now target }
     requires before { AllByRecursion (FoundOf store.now) before }
     ensures { (l : Allowance) → IfOk result (λ r. Makes store.now state.now l store.now state.now l
-        (Now (point.Finds (map target_seen rest.now) (map (found_seen store.now.texts) before.entry ++ found_seen store.now.texts target.entry ∷ []) (expressions_seen values.now) (frames_of store.now state.now)) (slots_of store.now state.now)) r) }
+        (Now (point.Finds (map target_seen rest.now) (map (found_seen store.now.texts) before ++ found_seen store.now.texts target ∷ []) (expressions_seen values.now) (frames_of store.now state.now)) (slots_of store.now state.now)) r) }
 {
     let mut before = before;
     before.push(target)?;
@@ -67,13 +67,13 @@ fn all_found<'m>(
     alloc: Global,
     store: &Store,
     state: &mut State<'m>,
-    targets: List<Found<'m>>,
+    targets: List<Found>,
     values: &'m List<Expression>,
 ) -> Result<Turn<'m>, NoMemory>
     requires state { StateOf store.now state.old }
     requires targets { AllByRecursion (FoundOf store.now) targets }
     ensures { (l : Allowance) → IfOk result (λ r. Makes store.now state.old l store.now state.new l
-        (Now (point.Lists (expressions_seen values.now) [] (point.AssignNow (map (found_seen store.now.texts) targets.entry) ∷ frames_of store.now state.old)) (slots_of store.now state.old)) r) }
+        (Now (point.Lists (expressions_seen values.now) [] (point.AssignNow (map (found_seen store.now.texts) targets) ∷ frames_of store.now state.old)) (slots_of store.now state.old)) r) }
 {
     let frame = Frame::Assignment(InAssignment::AssignNow(targets));
     let focus = Focus::Lists(values.as_slice(), Values::new(alloc));
@@ -122,6 +122,27 @@ fn refuse<'m>(store: &mut Store, state: &State<'m>) -> Result<Turn<'m>, NoMemory
     raise(store, state, b"cannot assign to this expression")
 }
 
+/// A global variable is found, by the number of its name.
+fn find_global<'m>(
+    alloc: Global,
+    store: &mut Store,
+    state: &mut State<'m>,
+    number: u32,
+    line: u32,
+    rest: &'m [Target],
+    before: List<Found>,
+    values: &'m List<Expression>,
+) -> Result<Turn<'m>, NoMemory>
+    requires state { StateOf store.old state.old }
+    requires before { AllByRecursion (FoundOf store.old) before }
+    ensures { (l : Allowance) → IfOk result (λ r. Makes store.old state.old l store.new state.new l
+        (Now (point.Finds (map target_seen rest.now) (map (found_seen store.old.texts) before ++ point.GlobalS (constants_in store.old state.old number) line ∷ []) (expressions_seen values.now) (frames_of store.old state.old)) (slots_of store.old state.old)) r) }
+{
+    let name = constant(alloc, store, state, number)?;
+    let target = Found::Global(name, line);
+    found(store, state, target, rest, before, values)
+}
+
 /// The first of some targets, and what follows it.
 fn find_first<'m, L: Ledger>(
     alloc: Global,
@@ -130,14 +151,14 @@ fn find_first<'m, L: Ledger>(
     state: &mut State<'m>,
     target: &'m Target,
     rest: &'m [Target],
-    before: List<Found<'m>>,
+    before: List<Found>,
     values: &'m List<Expression>,
     turns: &mut Steps<L>,
 ) -> Result<Turn<'m>, NoMemory>
     requires state { StateOf store.old state.old }
     requires before { AllByRecursion (FoundOf store.old) before }
     ensures { IfOk result (λ r. Counts store.old state.old left.old turns.old store.new state.new left.new turns.new
-        (machine.finds (target_seen target.now ∷ map target_seen rest.now) (map (found_seen store.old.texts) before.entry) (expressions_seen values.now) (frames_of store.old state.old) (slots_of store.old state.old)) r) }
+        (machine.finds (constants_in store.old state.old) (target_seen target.now ∷ map target_seen rest.now) (map (found_seen store.old.texts) before) (expressions_seen values.now) (frames_of store.old state.old) (slots_of store.old state.old)) r) }
 {
     match target {
         Target::Variable(place) => {
@@ -146,8 +167,7 @@ fn find_first<'m, L: Ledger>(
             Ok(turn)
         }
         Target::Global(name, line) => {
-            let target = Found::Global(name.as_slice(), *line);
-            let turn = found(store, state, target, rest, before, values)?;
+            let turn = find_global(alloc, store, state, *name, *line, rest, before, values)?;
             Ok(turn)
         }
         Target::At(of, key, line) => {
@@ -174,13 +194,13 @@ pub fn find<'m, L: Ledger>(
     left: &mut Left,
     state: &mut State<'m>,
     targets: &'m [Target],
-    before: List<Found<'m>>,
+    before: List<Found>,
     values: &'m List<Expression>,
     turns: &mut Steps<L>,
 ) -> Result<Turn<'m>, NoMemory>
     requires state { StateOf store.old state.old }
     requires before { AllByRecursion (FoundOf store.old) before }
-    ensures { IfOk result (λ r. Counts store.old state.old left.old turns.old store.new state.new left.new turns.new (machine.finds (map target_seen targets.now) (map (found_seen store.old.texts) before.entry) (expressions_seen values.now) (frames_of store.old state.old) (slots_of store.old state.old)) r) }
+    ensures { IfOk result (λ r. Counts store.old state.old left.old turns.old store.new state.new left.new turns.new (machine.finds (constants_in store.old state.old) (map target_seen targets.now) (map (found_seen store.old.texts) before) (expressions_seen values.now) (frames_of store.old state.old) (slots_of store.old state.old)) r) }
 {
     match front_of(targets) {
         None => all_found(alloc, store, state, before, values),

@@ -1,9 +1,9 @@
 -- How moves of expressions are made of parts.
-use Rattle.std.proofs.Common.{◌≡◌, ◌∙◌, true, false, refl, sym, ap, subst, ℕ, List}
+use Rattle.std.proofs.Common.{◌≡◌, ◌∙◌, true, false, refl, sym, ap, ℕ, List}
 use Rattle.wk_base.specs.declared.left.Left.{Left}
 use Rattle.page_run.specs.declared.which.Which.TheVariants.{Steps}
 use Rattle.page_run.specs.State.{Tally}
-use Rattle.lua_store.specs.Seen.{StoreView, text_at}
+use Rattle.lua_store.specs.Seen.{StoreView}
 use Rattle.lua_store.specs.Parts.{IsLater}
 use Rattle.lua_store.proofs.Later.{later-itself}
 use Rattle.lua_slots.specs.Slots.{Slots, with_heap}
@@ -79,10 +79,3 @@ paid_arm s u t m fs l k l' mv p r of later still e ended more same ends =
 pub stepped : (s t : StoreView) (m : State) (fs : List Frame) (l l' : Left) (mv : Move) (st : Step) (r : Turn) → mv ≡ step_seen s st (frames_of s (with_frames m fs)) (slots_of s m)
     → Makes s (with_frames m fs) l t (with_frames m fs) l' (step_seen s st (frames_of s (with_frames m fs)) (slots_of s (with_frames m fs))) r → Makes s m l t (with_frames m fs) l' mv r
 stepped s t m fs l l' mv st r e made = from_parts s t m (with_frames m fs) (with_frames m fs) l l' mv (step_seen s st (frames_of s (with_frames m fs)) (slots_of s m)) r refl refl refl e made
-
--- A TEXT is named first, and the move is the one of its name
-pub named : (s u t : StoreView) (m m' : State) (l l' : Left) (r : Turn) (texts : List (List ℕ)) (id : ℕ) (bytes : List ℕ) (f : List ℕ → List SFrame → Slots → Move) → StateOf s m → IsLater s u
-    → u ≡ record s { texts = texts } → text_at u.texts id ≡ bytes → Makes u m l t m' l' (f (text_at u.texts id) (frames_of u m) (slots_of u m)) r → Makes s m l t m' l' (f bytes (frames_of s m) (slots_of s m)) r
-named s u t m m' l l' r texts id bytes f of later same there made =
-    over_text s u t m m' l l' r (f bytes) of later (ap (λ (x : StoreView). x.heap) same)
-    (subst (λ b. Makes u m l t m' l' (f b (frames_of u m) (slots_of u m)) r) there made)

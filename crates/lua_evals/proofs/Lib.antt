@@ -2,7 +2,6 @@ pub mod Codes
 pub mod Ends
 pub mod NewClosure
 pub mod Tables
-pub mod Newest
 pub mod Places
 pub mod Items
 pub mod Worlds

@@ -7,11 +7,11 @@ ghost use Rattle.lua_stack.specs.Seen.{values_seen};
 ghost use Rattle.lua_arms.specs.Paid.{behind_node};
 ghost use Rattle.lua_state.specs.Makes.{Makes};
 ghost use Rattle.lua_state.specs.Of.{StateOf};
-ghost use Rattle.lua_state.specs.Seen.{frames_of, slots_of};
+ghost use Rattle.lua_state.specs.Seen.{constants_in, frames_of, slots_of};
 
 use crate::closures::closure;
 use crate::exits::give;
-use crate::forms::{constructor, dots, global, operands, text};
+use crate::forms::{constructor, dots, global, method_call, operands, text};
 use crate::running::variable;
 use lua_arms::lists;
 use lua_code::Expression;
@@ -31,13 +31,13 @@ pub fn evaluate<'m>(
     e: &'m Expression,
 ) -> Result<Turn<'m>, NoMemory>
     requires state { StateOf store.old state.old }
-    ensures { IfOk result (λ r. Makes store.old state.old left.old store.new state.new left.new (behind_node (machine.evals (expression_seen e.now) (frames_of store.old state.old) (slots_of store.old state.old))) r) }
+    ensures { IfOk result (λ r. Makes store.old state.old left.old store.new state.new left.new (behind_node (machine.evals (constants_in store.old state.old) (expression_seen e.now) (frames_of store.old state.old) (slots_of store.old state.old))) r) }
 {
     match e {
         Expression::Nil => Ok(give(store, state, Value::Nil)),
         Expression::Truth(truth) => Ok(give(store, state, Value::Bool(*truth))),
         Expression::Number(number) => Ok(give(store, state, Value::Number(*number))),
-        Expression::Text(bytes) => text(store, state, bytes.as_slice()),
+        Expression::Text(number) => text(alloc, store, state, *number),
         Expression::Dots => dots(alloc, store, left, state),
         Expression::Function(index, places) => {
             closure(alloc, store, left, state, *index, places.as_slice())
@@ -46,15 +46,15 @@ pub fn evaluate<'m>(
             let value = variable(store, state, *place);
             Ok(give(store, state, value))
         }
-        Expression::Global(name, line) => {
-            global(alloc, store, left, state, name.as_slice(), *line)
-        }
+        Expression::Global(name, line) => global(alloc, store, left, state, *name, *line),
         Expression::Table(entries, line) => {
             constructor(store, left, state, entries.as_slice(), *line)
         }
         Expression::Index(_, _, _) => operands(alloc, store, left, state, e),
         Expression::Call(_, _, _) => operands(alloc, store, left, state, e),
-        Expression::Method(_, _, _, _) => operands(alloc, store, left, state, e),
+        Expression::Method(of, name, arguments, line) => {
+            method_call(alloc, store, state, of, *name, arguments, *line)
+        }
         Expression::And(_, _) => operands(alloc, store, left, state, e),
         Expression::Or(_, _) => operands(alloc, store, left, state, e),
         Expression::Operate(_, _, _, _) => operands(alloc, store, left, state, e),

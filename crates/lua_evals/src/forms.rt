@@ -1,13 +1,14 @@
 //! How each form of an expression begins, whose node is paid and counted.
 ghost use Rattle.std.specs.Prelude.{◌∷◌, [], Some, length, IfOk};
 ghost use Rattle.wk_base.specs.declared.left.Left.{Left as Allowance};
-ghost use Rattle.lua_code.specs.Seen.{expression_seen, entries_seen};
+ghost use Rattle.lua_code.specs.Seen.{expression_seen, expressions_seen, entries_seen};
 ghost use Rattle.lua_heap.specs.Heap.{new_table as one_more_table};
 ghost use Rattle.lua_heap.specs.Value as kind;
 ghost use Rattle.lua_slots.specs.Errors.{gives};
 ghost use Rattle.lua_slots.specs.Expressions as machine;
 ghost use Rattle.lua_slots.specs.Index.{index_table as indexes};
-ghost use Rattle.lua_slots.specs.Points.{First, Costs};
+ghost use Rattle.lua_slots.specs.Points as point;
+ghost use Rattle.lua_slots.specs.Points.{First, Costs, Now};
 ghost use Rattle.lua_slots.specs.Slots.{function_of};
 ghost use Rattle.lua_store.specs.Parts.{IsTextOf};
 ghost use Rattle.lua_store.specs.Seen.{text_at};
@@ -15,28 +16,33 @@ ghost use Rattle.lua_arms.specs.Operands.{HasOperands};
 ghost use Rattle.lua_arms.specs.Paid.{behind_node};
 ghost use Rattle.lua_state.specs.Makes.{Makes};
 ghost use Rattle.lua_state.specs.Of.{StateOf};
-ghost use Rattle.lua_state.specs.Seen.{frames_of, slots_of};
+ghost use Rattle.lua_state.specs.Seen.{constants_in, frames_of, slots_of};
 ghost use Rattle.lua_meaning.specs.Charges.{table_charge};
 
 use crate::constructors::fields;
-use crate::exits::give;
+use crate::exits::{give, wait};
 use crate::running::{copy_dots, count_dots};
 use lua_arms::index::index_table;
 use lua_arms::operands::begin_operands;
 use lua_code::{Entry, Expression};
 use lua_stack::{Focus, Frame, Given, InExpression};
-use lua_state::{State, Turn, finish, pay};
+use lua_state::{State, Turn, constant, finish, pay};
 use lua_store::{Store, TextId, Value};
 use page_run::Which;
 use std::alloc::Global;
-use wk_base::{Left, NoMemory};
+use wk_base::{Left, List, NoMemory};
 
 /// A text. It is made in the store where it is not there yet, and nothing is charged for it.
-pub fn text<'m>(store: &mut Store, state: &State<'m>, bytes: &[u8]) -> Result<Turn<'m>, NoMemory>
-    requires { StateOf store.old state.now }
-    ensures { (l : Allowance) → IfOk result (λ r. Makes store.old state.now l store.new state.now l (gives (kind.Text bytes.now ∷ []) (frames_of store.old state.now) (slots_of store.old state.now)) r) }
+pub fn text<'m>(
+    alloc: Global,
+    store: &mut Store,
+    state: &mut State<'m>,
+    number: u32,
+) -> Result<Turn<'m>, NoMemory>
+    requires { StateOf store.old state.old }
+    ensures { (l : Allowance) → IfOk result (λ r. Makes store.old state.old l store.new state.new l (gives (kind.Text (constants_in store.old state.old number) ∷ []) (frames_of store.old state.old) (slots_of store.old state.old)) r) }
 {
-    let text = store.text(bytes)?;
+    let text = constant(alloc, store, state, number)?;
     Ok(give(store, state, Value::Text(text)))
 }
 
@@ -93,21 +99,40 @@ fn global_named<'m>(
     finish(alloc, store, left, state, step)
 }
 
-/// A global variable.
+/// A global variable, by the number of its name.
 pub fn global<'m>(
     alloc: Global,
     store: &mut Store,
     left: &mut Left,
     state: &mut State<'m>,
-    name: &[u8],
+    number: u32,
     line: u32,
 ) -> Result<Turn<'m>, NoMemory>
     requires state { StateOf store.old state.old }
     ensures { IfOk result (λ r. Makes store.old state.old left.old store.new state.new left.new
-        (indexes (slots_of store.old state.old).globals (kind.Text name.now) (Some line) (First ∷ frames_of store.old state.old) (slots_of store.old state.old)) r) }
+        (indexes (slots_of store.old state.old).globals (kind.Text (constants_in store.old state.old number)) (Some line) (First ∷ frames_of store.old state.old) (slots_of store.old state.old)) r) }
 {
-    let id = store.text(name)?;
-    global_named(alloc, store, left, state, id, line)
+    let name = constant(alloc, store, state, number)?;
+    global_named(alloc, store, left, state, name, line)
+}
+
+/// A method's call, by the number of the method's name (manual 2.5.8): its object is next, and the text of the name waits for it.
+pub fn method_call<'m>(
+    alloc: Global,
+    store: &mut Store,
+    state: &mut State<'m>,
+    of: &'m Expression,
+    number: u32,
+    arguments: &'m List<Expression>,
+    line: u32,
+) -> Result<Turn<'m>, NoMemory>
+    requires state { StateOf store.old state.old }
+    ensures { (l : Allowance) → IfOk result (λ r. Makes store.old state.old l store.new state.new l
+        (Now (point.Evals (expression_seen of.now) (point.MethodNext (constants_in store.old state.old number) (expressions_seen arguments.now) line ∷ frames_of store.old state.old)) (slots_of store.old state.old)) r) }
+{
+    let name = constant(alloc, store, state, number)?;
+    let frame = Frame::Expression(InExpression::MethodNext(name, arguments, line));
+    wait(store, state, frame, Focus::Evaluates(of))
 }
 
 /// The first entry of a new table.
@@ -154,7 +179,7 @@ pub fn operands<'m>(
 ) -> Result<Turn<'m>, NoMemory>
     requires state { StateOf store.old state.old }
     requires code { HasOperands (expression_seen code.now) }
-    ensures { IfOk result (λ r. Makes store.old state.old left.old store.new state.new left.new (behind_node (machine.evals (expression_seen code.now) (frames_of store.old state.old) (slots_of store.old state.old))) r) }
+    ensures { IfOk result (λ r. Makes store.old state.old left.old store.new state.new left.new (behind_node (machine.evals (constants_in store.old state.old) (expression_seen code.now) (frames_of store.old state.old) (slots_of store.old state.old))) r) }
 {
     let step = begin_operands(store, &mut state.frames, code)?;
     finish(alloc, store, left, state, step)

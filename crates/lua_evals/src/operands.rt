@@ -147,8 +147,8 @@ pub fn call_with<'m>(
     finish(alloc, store, left, state, step)
 }
 
-/// A method whose name is this text: an index of its object, which waits to be the first argument (manual 2.5.8).
-fn method_named<'m>(
+/// A method of an object: an index of it, while it waits to be the first argument (manual 2.5.8).
+pub fn method<'m>(
     alloc: Global,
     store: &mut Store,
     left: &mut Left,
@@ -168,26 +168,6 @@ fn method_named<'m>(
     state.frames.push(Frame::Expression(frame))?;
     let step = index(store, &state.env, object, Value::Text(name), Some(line));
     finish(alloc, store, left, state, step)
-}
-
-/// A method of an object.
-pub fn method<'m>(
-    alloc: Global,
-    store: &mut Store,
-    left: &mut Left,
-    state: &mut State<'m>,
-    object: Value,
-    name: &'m [u8],
-    arguments: &'m List<Expression>,
-    line: u32,
-) -> Result<Turn<'m>, NoMemory>
-    requires state { StateOf store.old state.old }
-    requires object { IsOf store.old object }
-    ensures { IfOk result (λ r. Makes store.old state.old left.old store.new state.new left.new
-        (indices.index (seen store.old.texts object) (kind.Text name.now) (Some line) (MethodNow (seen store.old.texts object) (expressions_seen arguments.now) line ∷ frames_of store.old state.old) (slots_of store.old state.old)) r) }
-{
-    let id = store.text(name)?;
-    method_named(alloc, store, left, state, object, id, arguments, line)
 }
 
 /// An expression of a list is evaluated.

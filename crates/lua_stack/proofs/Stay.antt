@@ -123,18 +123,18 @@ module _ (s t : StoreView) (l : IsLater s t) where
   -- TARGETS
   found_later : (p : Found) → FoundOf s p → FoundOf t p
   found_later (found.Variable p) h = tt
-  found_later (found.Global name line) h = tt
+  found_later (found.Global name line) h = text_later name h
   found_later (found.At of key line) h = (value_later of h.0, value_later key h.1)
 
   found_stays : (p : Found) → FoundOf s p → found_seen t.texts p ≡ found_seen s.texts p
   found_stays (found.Variable p) h = refl
-  found_stays (found.Global name line) h = refl
+  found_stays (found.Global name line) h = rw (text_stays name h) refl
   found_stays (found.At of key line) h = rw (value_stays of h.0, value_stays key h.1) refl
 
-  founds_later : (ps : List Found) → AllByRecursion (FoundOf s) ps → AllByRecursion (FoundOf t) ps
+  pub founds_later : (ps : List Found) → AllByRecursion (FoundOf s) ps → AllByRecursion (FoundOf t) ps
   founds_later ps h = all-to (FoundOf s) (FoundOf t) found_later ps h
 
-  founds_stay : (ps : List Found) → AllByRecursion (FoundOf s) ps → map (found_seen t.texts) ps ≡ map (found_seen s.texts) ps
+  pub founds_stay : (ps : List Found) → AllByRecursion (FoundOf s) ps → map (found_seen t.texts) ps ≡ map (found_seen s.texts) ps
   founds_stay ps h = map-alike (FoundOf s) (found_seen t.texts) (found_seen s.texts) found_stays ps h
 
   setting_later : (p : Setting) → SettingOf s p → SettingOf t p
@@ -174,6 +174,7 @@ module _ (s t : StoreView) (l : IsLater s t) where
   in_expression_later (in_expression.IndexNow of line) h = value_later of h
   in_expression_later (in_expression.OperateNow op a line) h = value_later a h
   in_expression_later (in_expression.CallNow f line) h = value_later f h
+  in_expression_later (in_expression.MethodNext name args line) h = text_later name h
   in_expression_later (in_expression.MethodNow object args line) h = value_later object h
   in_expression_later (in_expression.MoreNext es before) h = values_later before h
   in_expression_later f h = tt
@@ -228,6 +229,7 @@ module _ (s t : StoreView) (l : IsLater s t) where
   in_expression_stays (in_expression.IndexNow of line) h = rw (value_stays of h) refl
   in_expression_stays (in_expression.OperateNow op a line) h = rw (value_stays a h) refl
   in_expression_stays (in_expression.CallNow f line) h = rw (value_stays f h) refl
+  in_expression_stays (in_expression.MethodNext name args line) h = rw (text_stays name h) refl
   in_expression_stays (in_expression.MethodNow object args line) h = rw (value_stays object h) refl
   in_expression_stays (in_expression.MoreNext es before) h = rw (values_stay before h) refl
   in_expression_stays f h = refl

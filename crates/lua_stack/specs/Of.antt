@@ -97,7 +97,7 @@ ActivationsOf s activations = AllByRecursion (ActivationOf s) activations
 -- TARGETS
 abbrev pub FoundOf : StoreView → Found → Type 0
 FoundOf s (found.Variable p) = Unit {0}
-FoundOf s (found.Global name line) = Unit {0}
+FoundOf s (found.Global name line) = IsTextOf s name
 FoundOf s (found.At of key line) = IsOf s of × IsOf s key
 
 abbrev pub SettingOf : StoreView → Setting → Type 0
@@ -118,6 +118,7 @@ abbrev pub InExpressionOf : StoreView → InExpression → Type 0
 InExpressionOf s (in_expression.IndexNow of line) = IsOf s of
 InExpressionOf s (in_expression.OperateNow op a line) = IsOf s a
 InExpressionOf s (in_expression.CallNow f line) = IsOf s f
+InExpressionOf s (in_expression.MethodNext name args line) = IsTextOf s name
 InExpressionOf s (in_expression.MethodNow object args line) = IsOf s object
 InExpressionOf s (in_expression.MoreNext es before) = ValuesOf s before
 InExpressionOf s _ = Unit {0}

@@ -112,7 +112,7 @@ level_seen texts l = record { source = text_at texts l.source.at; line = l.line 
 -- TARGETS
 abbrev pub found_seen : Texts → Found → STarget
 found_seen texts (found.Variable p) = point.PlaceS (place_seen p)
-found_seen texts (found.Global name line) = point.GlobalS name.now line
+found_seen texts (found.Global name line) = point.GlobalS (text_at texts name.at) line
 found_seen texts (found.At of key line) = point.EntryS (seen texts of) (seen texts key) line
 
 abbrev pub setting_seen : Texts → Setting → STarget × Plain
@@ -148,7 +148,7 @@ in_expression_seen texts (in_expression.OperateNow op a line) = point.OperateNow
 in_expression_seen texts (in_expression.UnaryNow op line) = point.UnaryNow op line
 in_expression_seen texts (in_expression.ArgumentsNext args line) = point.ArgumentsNext (expressions_seen args.now) line
 in_expression_seen texts (in_expression.CallNow f line) = point.CallNow (seen texts f) line
-in_expression_seen texts (in_expression.MethodNext name args line) = point.MethodNext name.now (expressions_seen args.now) line
+in_expression_seen texts (in_expression.MethodNext name args line) = point.MethodNext (text_at texts name.at) (expressions_seen args.now) line
 in_expression_seen texts (in_expression.MethodNow object args line) = point.MethodNow (seen texts object) (expressions_seen args.now) line
 in_expression_seen texts (in_expression.MoreNext es before) = point.MoreNext (expressions_seen es.now) (values_seen texts before)
 

@@ -33,9 +33,9 @@ pub enum Focus<'m> {
     /// What is left of a list, and the values before.
     Lists(&'m [Expression], Values),
     /// What is left of the targets of an assignment, those that are found, and the values.
-    Finds(&'m [Target], List<Found<'m>>, &'m List<Expression>),
+    Finds(&'m [Target], List<Found>, &'m List<Expression>),
     /// What is still to be set, the last target first.
-    Sets(Stack<Setting<'m>>),
+    Sets(Stack<Setting>),
     Runs(&'m [Statement]),
     Starts(Thing<'m>),
     /// The texts of these values, behind the texts before.

@@ -10,9 +10,10 @@ use wk_base::{Bytes, List, Title};
 
 /// A target of an assignment that is found (manual 2.4.3).
 #[derive(Clone, Copy)]
-pub enum Found<'m> {
+pub enum Found {
     Variable(Place),
-    Global(&'m [u8], u32),
+    /// A global variable, by the text of its name.
+    Global(TextId, u32),
     /// The entry of a table or another value at a key.
     At(Value, Value, u32),
 }
@@ -21,14 +22,14 @@ pub enum Found<'m> {
 #[derive(Drop)]
 pub struct Finding<'m> {
     pub rest: &'m [Target],
-    pub before: List<Found<'m>>,
+    pub before: List<Found>,
     pub values: &'m List<Expression>,
 }
 
 /// A target with the value that it is to get.
 #[derive(Clone, Copy)]
-pub struct Setting<'m> {
-    pub target: Found<'m>,
+pub struct Setting {
+    pub target: Found,
     pub value: Value,
 }
 
@@ -106,7 +107,8 @@ pub enum InExpression<'m> {
     UnaryNow(UnaryOp, u32),
     ArgumentsNext(&'m List<Expression>, u32),
     CallNow(Value, u32),
-    MethodNext(&'m [u8], &'m List<Expression>, u32),
+    /// The text of the method's name, and the arguments.
+    MethodNext(TextId, &'m List<Expression>, u32),
     MethodNow(Value, &'m List<Expression>, u32),
     /// What is left of a list, and the values before.
     MoreNext(&'m [Expression], Values),
@@ -135,9 +137,9 @@ pub enum InAssignment<'m> {
     /// The key of a target in this table is evaluated.
     TargetNow(Value, u32, Box<Finding<'m>>),
     /// The values for these targets are evaluated.
-    AssignNow(List<Found<'m>>),
+    AssignNow(List<Found>),
     /// A target is set, and these are still to be set.
-    SetsNext(Stack<Setting<'m>>),
+    SetsNext(Stack<Setting>),
 }
 
 /// A block that waits for one of its statements, or a statement for what it evaluates first (manual 2.4).

@@ -1,5 +1,5 @@
 -- HOW A MOVE IS MADE OF PARTS: of what code did before, and of a move that is made from there.
-use Rattle.std.proofs.Common.{◌≡◌, ◌∙◌, refl, sym, ap, arith, ℕ, ◌+◌, ◌≤◌, ◌⊎◌, inl, inr}
+use Rattle.std.proofs.Common.{◌≡◌, ◌∙◌, refl, sym, ap, arith, ℕ, ◌+◌, inl, inr}
 use Rattle.wk_base.specs.declared.left.Left.{Left}
 use Rattle.page_run.specs.declared.which.Which.{Which}
 use Rattle.page_run.specs.State.{Tally, no_tally}
@@ -8,7 +8,7 @@ use Rattle.lua_store.specs.Parts.{IsLater}
 use Rattle.lua_store.proofs.Later.{later-itself, later-then}
 use Rattle.lua_slots.specs.Slots.{Slots, with_heap}
 use Rattle.lua_slots.specs.Points.{Move, Marks, Now}
-use Rattle.lua_slots.specs.Enact.{Funds, all_given_back, Enacted, Stands, Short, enact}
+use Rattle.lua_slots.specs.Enact.{Funds, all_given_back, Stands, Short, enact}
 use Rattle.lua_goes.specs.Going.{led}
 use Rattle.lua_stack.specs.declared.focus.Focus.{Focus}
 use Rattle.lua_stack.specs.Seen.{focus_seen}

@@ -3,10 +3,8 @@ use Rattle.std.proofs.Common.{◌≡◌, ◌∙◌, refl, sym, ap, subst, ℕ, L
 use Rattle.std.specs.Option.{option_map, IfSome}
 use Rattle.wk_base.specs.declared.left.Left.{Left}
 use Rattle.page_run.specs.State.{Tally}
-use Rattle.page_run.specs.declared.which.Which.{Which}
 use Rattle.lua_meaning.specs.Scope.{Bytes, Place}
 use Rattle.lua_meaning.specs.Messages.{nth_level}
-use Rattle.lua_store.specs.declared.value.Value.{Value}
 use Rattle.lua_store.specs.Seen.{StoreView}
 use Rattle.lua_store.specs.Parts.{IsLater, IsTextOf}
 use Rattle.lua_slots.specs.Slots.{Slots, levels_at}

@@ -1,5 +1,6 @@
 -- What a machine holds is of each later store, and is seen there as it was, but for the heap.
-use Rattle.std.proofs.Common.{◌≡◌, ◌∙◌, refl, ℕ, List, map, ap, arith}
+use Rattle.std.proofs.Common.{◌≡◌, ◌∙◌, refl, sym, ℕ, List, Option, Some, None, ap, arith}
+use Rattle.std.specs.Prelude.{IfSome}
 use Rattle.std.specs.List.{AllByRecursion}
 use Rattle.wk_base.specs.declared.title.Title.{Title}
 use Rattle.lua_heap.specs.Proc.{Proc}
@@ -7,25 +8,28 @@ use Rattle.lua_heap.specs.Heap.{Heap}
 use Rattle.lua_meaning.specs.Acts as act
 use Rattle.lua_store.specs.declared.value.Value.{Value}
 use Rattle.lua_store.specs.declared.ids.TextId.{TextId}
-use Rattle.lua_store.specs.Seen.{StoreView, seen, text_at}
-use Rattle.lua_store.specs.Parts.{IsOf, IsTextOf, IsLater}
+use Rattle.lua_store.specs.Seen.{StoreView, seen}
+use Rattle.lua_store.specs.Parts.{IsOf, IsLater}
 use Rattle.lua_store.proofs.Later.{of-later, seen-later, text_of-later}
 use Rattle.lua_store.proofs.Lists.{all-to, map-alike}
 use Rattle.lua_code.specs.declared.proto.Protos.{Protos}
 use Rattle.lua_slots.specs.Code.{CWorld}
-use Rattle.lua_slots.specs.Slots.{Slots, with_heap}
+use Rattle.lua_slots.specs.Calls.{code_of}
+use Rattle.lua_slots.specs.Slots.{with_heap}
 use Rattle.lua_stack.proofs.Stay.{registers_later, registers_as, activations_later, activations_as, frames_later, frames_as, environment_later}
 use Rattle.lua_titled.specs.Seen.{titled_by, by_title}
 use Rattle.mw_frames.specs.declared.scenes.SceneFrame.{SceneFrame}
 use Rattle.mw_frames.specs.declared.scenes.Scenes.{Scenes}
-use Rattle.mw_frames.specs.Scenes.{made, FrameOf, NamesOf, IsNameOf, ScenesOf}
+use Rattle.mw_frames.specs.Scenes.{made, FrameOf, IsNameOf, ScenesOf}
 use Rattle.lua_state.specs.declared.codes.Codes.{Codes}
+use Rattle.lua_state.specs.declared.codes.Recent.{Recent}
+use Rattle.lua_state.specs.declared.held.Held.{Held}
 use Rattle.lua_state.specs.declared.progress.Progress.{Progress}
 use Rattle.lua_state.specs.declared.progress.Progress.TheVariants as progress
 use Rattle.lua_state.specs.declared.state.State.{State}
 use Rattle.lua_state.specs.Seen.{progress_seen, slots_of, frames_of}
 use Rattle.lua_state.specs.Of.{ProgressOf, StateOf}
-use Rattle.lua_state.specs.Worlds.{world_seen, IsFound, CodesOf}
+use Rattle.lua_state.specs.Worlds.{world_seen, IsFound, IsRecent, IsHeld, CodesOf}
 use Rattle.lua_state.specs.Laws.{StateStays}
 
 module _ (s t : StoreView) (l : IsLater s t) where
@@ -63,12 +67,31 @@ module _ (s t : StoreView) (l : IsLater s t) where
     };
   }
 
-  -- CODE that was found
+  -- CODE and constants that were found
   found_later : (w : CWorld) (source : TextId) (functions : Protos) → IsFound w s source functions → IsFound w t source functions
-  found_later w source functions h = record { of = text_of-later s t l source h.of; size = h.size; code = ap w.modules (l.texts.same source.at h.of) ∙ h.code }
+  found_later w source functions h = record { of = text_of-later s t l source h.of; code = ap (λ title. code_of (w.modules title)) (l.texts.same source.at h.of) ∙ h.code }
 
-  codes_later : (c : Codes) → CodesOf s c → CodesOf t c
-  codes_later c h = record { all = all-to (λ e. IsFound (world_seen c.world) s e.0 e.1.now) (λ e. IsFound (world_seen c.world) t e.0 e.1.now) (λ e k. found_later (world_seen c.world) e.0 e.1.now k) c.known.entries h.all }
+  recent_later : (w : CWorld) (recent : Option Recent) → IsRecent w s recent → IsRecent w t recent
+  recent_later w None h = tt
+  recent_later w (Some r) h = found_later w r.source r.code.functions.now h
+
+  one_later : (w : CWorld) (one : Held) → IsHeld w s one → IsHeld w t one
+  one_later w one h = record {
+    of = text_of-later s t l one.source h.of;
+    text_of = text_of-later s t l one.text h.text_of;
+    same = l.texts.same one.text.at h.text_of ∙ h.same ∙ sym (ap (λ title. (code_of (w.modules title)).constant one.number) (l.texts.same one.source.at h.of));
+  }
+
+  place_later : (w : CWorld) (place : Option Held) → IfSome place (IsHeld w s) → IfSome place (IsHeld w t)
+  place_later w None h = tt
+  place_later w (Some one) h = one_later w one h
+
+  pub codes_later : (c : Codes) → CodesOf s c → CodesOf t c
+  codes_later c h = record {
+    all = all-to (λ e. IsFound (world_seen c.world) s e.0 e.1.functions.now) (λ e. IsFound (world_seen c.world) t e.0 e.1.functions.now) (λ e k. found_later (world_seen c.world) e.0 e.1.functions.now k) c.known.entries h.all;
+    recent = recent_later (world_seen c.world) c.recent h.recent;
+    held = all-to (λ place. IfSome place (IsHeld (world_seen c.world) s)) (λ place. IfSome place (IsHeld (world_seen c.world) t)) (place_later (world_seen c.world)) c.held.items h.held;
+  }
 
   pub state_later : (m : State) → StateOf s m → StateOf t m
   state_later m h = record {

@@ -1,8 +1,10 @@
 -- When all that a machine holds names only what a store has.
+use Rattle.std.specs.Prelude.{◌≡◌, ℕ}
 use Rattle.std.specs.List.{AllByRecursion}
+use Rattle.lua_store.specs.declared.ids.TextId.{TextId}
 use Rattle.lua_store.specs.declared.value.Value.{Value}
-use Rattle.lua_store.specs.Seen.{StoreView}
-use Rattle.lua_store.specs.Parts.{IsOf}
+use Rattle.lua_store.specs.Seen.{StoreView, text_at}
+use Rattle.lua_store.specs.Parts.{IsOf, IsTextOf}
 use Rattle.lua_stack.specs.Of.{FramesOf, RegistersOf, ActivationsOf, FocusOf, EnvironmentOf, GivenOf, JumpOf}
 use Rattle.lua_state.specs.declared.progress.Progress.{Progress}
 use Rattle.lua_state.specs.declared.progress.Progress.TheVariants as progress
@@ -13,6 +15,7 @@ use Rattle.mw_frames.specs.Scenes.{ScenesOf}
 use Rattle.wk_base.specs.declared.title.Title.{Title}
 use Rattle.lua_state.specs.declared.outcome.Outcome.{Outcome}
 use Rattle.lua_state.specs.declared.outcome.Outcome.TheVariants as outcome
+use Rattle.lua_state.specs.Seen.{constants_in}
 use Rattle.lua_state.specs.Worlds.{CodesOf}
 
 abbrev pub ProgressOf : StoreView → Progress → Type 0
@@ -36,3 +39,8 @@ TurnOf s (turn.Spent which) = Unit {0}
 abbrev pub OutcomeOf : StoreView → Outcome → Type 0
 OutcomeOf s (outcome.Goes g) = GivenOf s g
 OutcomeOf s (outcome.Jumps j) = JumpOf s j
+
+-- the constant of this number in the running function's module is a text of the store
+pub record IsConstant (s : StoreView) (m : State) (number : ℕ) (id : TextId) : Type 0 where
+  pub of : IsTextOf s id
+  pub is : text_at s.texts id.at ≡ constants_in s m number

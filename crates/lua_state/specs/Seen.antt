@@ -6,7 +6,9 @@ use Rattle.lua_heap.specs.Value.{Value as Plain}
 use Rattle.page_run.specs.Outcome.{Outcome as PlainOutcome, Goes, Jumps}
 use Rattle.lua_meaning.specs.Acts as act
 use Rattle.lua_store.specs.Seen.{StoreView, seen}
+use Rattle.lua_slots.specs.Code.{Constants}
 use Rattle.lua_slots.specs.Slots.{Slots}
+use Rattle.lua_slots.specs.Calls.{constants_of}
 use Rattle.lua_slots.specs.Points.{SFrame}
 use Rattle.lua_slots.specs.Enact.{Funds, all_given_back, Enacted, Stands, Short}
 use Rattle.lua_stack.specs.Seen.{Texts, given_seen, jump_seen, frames_seen, registers_seen, activations_seen, focus_seen}
@@ -19,6 +21,7 @@ use Rattle.lua_state.specs.declared.turn.Turn.{Turn}
 use Rattle.lua_state.specs.declared.turn.Turn.TheVariants as turn
 use Rattle.mw_frames.specs.Scenes.{made, frames_seen as scenes_seen}
 use Rattle.lua_titled.specs.Seen.{by_title}
+use Rattle.lua_state.specs.Worlds.{world_seen}
 
 -- MODULES that were required, and data that was loaded, by title
 abbrev pub progress_seen : Texts → Progress → act.Progress
@@ -40,6 +43,10 @@ slots_of s m = record {
 
 abbrev pub frames_of : StoreView → State → List SFrame
 frames_of s m = frames_seen s.texts m.frames
+
+-- the constants of the running function's module
+abbrev pub constants_in : StoreView → State → Constants
+constants_in s m = constants_of (world_seen m.codes.world) (slots_of s m)
 
 -- WHAT REACHES A FRAME
 abbrev pub outcome_seen : Texts → Outcome → PlainOutcome (List Plain) act.Jump

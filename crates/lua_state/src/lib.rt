@@ -1,6 +1,8 @@
 //! What a machine of Lua holds, together; and how a move ends.
 //!
 //! - `codes`: the modules of a run, and their code
+//! - `held`: constants that were found as texts
+//! - `constants`: those of the running function's module
 //! - `outcome`: what reaches a frame
 //! - `progress`: modules that were required
 //! - `state`: what a machine holds beside the store
@@ -16,7 +18,9 @@
 
 pub mod charges;
 pub mod codes;
+pub mod constants;
 pub mod ending;
+mod held;
 pub mod laws;
 mod messages;
 pub mod outcome;
@@ -26,6 +30,7 @@ pub mod turn;
 
 pub use charges::{enter_call, leave_call, pay, pay_node};
 pub use codes::{Codes, World};
+pub use constants::{constant, constant_at_hand, running_source};
 pub use ending::{fail, finish, finish_paid};
 pub use outcome::Outcome;
 pub use progress::Progress;

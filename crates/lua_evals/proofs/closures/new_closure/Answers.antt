@@ -6,7 +6,7 @@ use Rattle.lua_code.specs.Seen.{place_seen}
 use Rattle.lua_slots.specs.Errors.{gives}
 use Rattle.lua_slots.specs.Slots.{Activation, next_closure, proc_of, with_closure}
 use Rattle.lua_store.specs.Seen.{StoreView}
-use Rattle.lua_evals.proofs.Newest.{found, found_of, absent}
+use Rattle.lua_state.proofs.Newest.{found, found_of, absent}
 use Rattle.lua_state.proofs.Staying.{state_later}
 use Rattle.lua_evals.proofs.Ends.{over_text}
 use Rattle.lua_evals.proofs.closures.new_closure.Goals as goal

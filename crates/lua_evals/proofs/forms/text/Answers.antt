@@ -1,14 +1,10 @@
 use Rattle.std.specs.Prelude.{◌∷◌, []}
 use Rattle.lua_heap.specs.Value as kind
 use Rattle.lua_slots.specs.Errors.{gives}
-use Rattle.lua_state.proofs.Staying.{state_later}
-use Rattle.lua_evals.proofs.Ends.{named}
+use Rattle.lua_state.proofs.Looking.{over_constant}
 use Rattle.lua_evals.proofs.forms.text.Goals as goal
-
-pub give-requires-clause-state : goal.give-requires-clause-state
-give-requires-clause-state c = state_later c.args.store.now c.text.new.self c.in_ok-text.ensures.later c.args.state.now c.requires
 
 pub returns : goal.returns
 returns c = λ l.
-    named c.args.store.now c.text.new.self c.text.new.self c.args.state.now c.args.state.now l l _ _ c.in_ok-text.text.at c.args.bytes.now (λ b fs s. gives (kind.Text b ∷ []) fs s) c.requires c.in_ok-text.ensures.later
-    c.in_ok-text.ensures.added c.in_ok-text.ensures.there (c.give.ensures l)
+    over_constant c.args.store.now c.constant.new.store c.constant.new.store c.args.state.now c.constant.new.state l l _ c.constant.new.state c.in_ok-text.text.at _ (λ b fs s. gives (kind.Text b ∷ []) fs s) c.requires
+    c.in_ok-text.ensures.later c.in_ok-text.ensures.heap c.in_ok-text.ensures.world c.in_ok-text.ensures.kept c.in_ok-text.ensures.text (c.give.ensures l)

@@ -3,7 +3,7 @@ use Rattle.std.specs.Option.{option_copied}
 use Rattle.lua_slots.specs.Slots.{Activation}
 use Rattle.lua_stack.specs.Of.{ValuesOf}
 use Rattle.lua_stack.specs.Seen.{values_seen}
-use Rattle.lua_evals.proofs.Newest.{found, found_of, absent}
+use Rattle.lua_state.proofs.Newest.{found, found_of, absent}
 use Rattle.lua_evals.proofs.running.copy_dots.Goals as goal
 
 pub returns-in_ok-values-in-Some-clause-of : goal.returns-in_ok-values-in-Some-clause-of

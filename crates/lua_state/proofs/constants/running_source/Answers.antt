@@ -3,8 +3,8 @@ use Rattle.std.specs.Option.{option_copied}
 use Rattle.lua_store.specs.Seen.{StoreView}
 use Rattle.lua_store.proofs.Later.{later-itself}
 use Rattle.lua_slots.specs.Slots.{Activation}
-use Rattle.lua_blocks.proofs.Newest.{found, found_of, absent}
-use Rattle.lua_blocks.proofs.running.running_source.Goals as goal
+use Rattle.lua_state.proofs.Newest.{found, found_of, absent}
+use Rattle.lua_state.proofs.constants.running_source.Goals as goal
 
 pub returns-in-Some-clause-of : goal.returns-in-Some-clause-of
 returns-in-Some-clause-of c = (found_of c.args.store.now c.args.functions.now c.in-Some.newest.now (ap option_copied (sym c.in-Some.is) ∙ c.newest.ensures) c.requires).source

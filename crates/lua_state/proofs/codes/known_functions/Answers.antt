@@ -1,8 +1,0 @@
-use Rattle.std.proofs.Common.{◌∙◌, subst, sym}
-use Rattle.std.specs.Prelude.{IfSome}
-use Rattle.lua_state.specs.Worlds.{IsFound}
-use Rattle.lua_state.proofs.Found.{looked_up}
-use Rattle.lua_state.proofs.codes.known_functions.Goals as goal
-
-pub returns : goal.returns
-returns c = λ w s all. subst (λ o. IfSome o (λ f. IsFound w s c.args.source f.now)) (sym (c.copied.ensures ∙ c.get.ensures.value)) (looked_up w s c.args.known.now.entries c.args.source all)

@@ -1,0 +1,7 @@
+use Rattle.lua_slots.specs.Code.{CWorld}
+use Rattle.lua_store.specs.Seen.{StoreView}
+use Rattle.lua_state.specs.Worlds.{AreHeld}
+use Rattle.lua_state.proofs.held.make_room.Given as goal
+
+abbrev pub invariant-places : goal.invariant-places
+invariant-places l = (w : CWorld) (s : StoreView) → AreHeld w s l.fn.held.items → AreHeld w s l.held.items
