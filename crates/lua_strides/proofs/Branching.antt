@@ -3,6 +3,7 @@ use Rattle.std.proofs.Common.{◌≡◌, ◌+◌, ℕ, true, false, List, ◌∷
 use Rattle.lua_heap.specs.Value.{Value, is_true}
 use Rattle.lua_slots.specs.Code.{CWorld, CExp, CBlock, ThenC, CArms, NoArmC, ArmC}
 use Rattle.lua_slots.specs.Slots.{Slots}
+use Rattle.lua_slots.specs.Calls.{constants_of}
 use Rattle.lua_slots.specs.Points.{SFrame, BlockEnd, StatsNext, Runs}
 use Rattle.lua_in_place.specs.InPlace.{in_place}
 use Rattle.lua_in_place.proofs.Statements.{taken, taken_before, passed_by, taken_else}
@@ -16,16 +17,16 @@ use Rattle.lua_strides.specs.Strides.{LeadsAt}
 use Rattle.lua_strides.specs.Conditions.{if_seen}
 use Rattle.lua_strides.proofs.Paths.{at_once}
 
-pub chooses_body : (body : CBlock) (more : CArms) (other : Option CBlock) (world : CWorld) (test : CExp) (rest : CBlock) (s : Slots) (v : Value) (n : ℕ) (fs : List SFrame) → in_place test s ≡ Some (v, n) → is_true v ≡ true
+pub chooses_body : (body : CBlock) (more : CArms) (other : Option CBlock) (world : CWorld) (test : CExp) (rest : CBlock) (s : Slots) (v : Value) (n : ℕ) (fs : List SFrame) → in_place (constants_of world s) test s ≡ Some (v, n) → is_true v ≡ true
     → LeadsAt world (Runs (ThenC (if_seen (ArmC test body more) other) rest) fs) s (1 + n) (Runs body (BlockEnd (length s.regs) ∷ StatsNext rest ∷ fs)) s
 chooses_body body more None world test rest s v n fs is e = at_once world _ s (1 + n) _ s (taken world s test body more v n is e rest fs)
 chooses_body body more (Some b) world test rest s v n fs is e = at_once world _ s (1 + n) _ s (taken_before world s test body more b v n is e rest fs)
 
-pub chooses_rest : (body : CBlock) (world : CWorld) (test : CExp) (rest : CBlock) (s : Slots) (v : Value) (n : ℕ) (fs : List SFrame) → in_place test s ≡ Some (v, n) → is_true v ≡ false
+pub chooses_rest : (body : CBlock) (world : CWorld) (test : CExp) (rest : CBlock) (s : Slots) (v : Value) (n : ℕ) (fs : List SFrame) → in_place (constants_of world s) test s ≡ Some (v, n) → is_true v ≡ false
     → LeadsAt world (Runs (ThenC (if_seen (ArmC test body NoArmC) None) rest) fs) s (1 + n) (Runs rest fs) s
 chooses_rest body world test rest s v n fs is e = at_once world _ s (1 + n) _ s (passed_by world s test body v n is e rest fs)
 
-pub chooses_else : (body other : CBlock) (world : CWorld) (test : CExp) (rest : CBlock) (s : Slots) (v : Value) (n : ℕ) (fs : List SFrame) → in_place test s ≡ Some (v, n) → is_true v ≡ false
+pub chooses_else : (body other : CBlock) (world : CWorld) (test : CExp) (rest : CBlock) (s : Slots) (v : Value) (n : ℕ) (fs : List SFrame) → in_place (constants_of world s) test s ≡ Some (v, n) → is_true v ≡ false
     → LeadsAt world (Runs (ThenC (if_seen (ArmC test body NoArmC) (Some other)) rest) fs) s (1 + n) (Runs other (BlockEnd (length s.regs) ∷ StatsNext rest ∷ fs)) s
 chooses_else body other world test rest s v n fs is e = at_once world _ s (1 + n) _ s (taken_else world s test body other v n is e rest fs)
 

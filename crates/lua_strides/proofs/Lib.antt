@@ -1,5 +1,4 @@
 pub mod Codes
-pub mod Newest
 pub mod Places
 pub mod Found
 pub mod Paths

@@ -3,7 +3,6 @@ use Rattle.std.proofs.Common.{◌≡◌, ◌∙◌, ◌≤◌, ◌<◌, ◌-◌,
 use Rattle.wk_base.specs.declared.left.Left.{Left}
 use Rattle.page_run.specs.State.{Tally}
 use Rattle.lua_store.specs.Seen.{StoreView}
-use Rattle.lua_store.specs.Parts.{IsLater}
 use Rattle.lua_store.proofs.Later.{later-itself}
 use Rattle.lua_slots.specs.Code.{CWorld}
 use Rattle.lua_slots.specs.Slots.{Slots}
@@ -20,7 +19,6 @@ use Rattle.lua_state.specs.declared.state.State.{State}
 use Rattle.lua_state.specs.Seen.{slots_of, frames_of, funds_of}
 use Rattle.lua_state.specs.Of.{StateOf}
 use Rattle.lua_state.specs.Worlds.{world_seen}
-use Rattle.lua_state.proofs.Staying.{state_later, frames_stay, slots_same}
 use Rattle.lua_strides.specs.Strides.{PaysNodes, Strides, Idles, LeadsAt, Ready}
 
 abbrev pub with_frames : State → List Frame → State
@@ -40,45 +38,35 @@ steps_fall n l l' k k' some e =
     let x : l'.steps ≡ l.steps - n = ap (λ (z : Left). z.steps) e.1 in
     omega (arith, x, e.0, some)
 
-pub strode : (s : StoreView) (m : State) (p : Point) (n : ℕ) (t : StoreView) (y : Focus) (fs : List Frame) (l l' : Left) (k k' : ℕ) → Ready s m p n t y fs → PaysNodes n l k l' k' true → Strides s m p l k t (with_frames m fs) l' k' y
-strode s m p n t y fs l l' k k' r e = record {
-  state = with_frames_of t m fs (state_later s t r.later m r.state) r.frames;
+pub strode : (s : StoreView) (m : State) (p : Point) (n : ℕ) (y : Focus) (fs : List Frame) (l l' : Left) (k k' : ℕ) → Ready s m p n y fs → PaysNodes n l k l' k' true → Strides s m p l k s (with_frames m fs) l' k' y
+strode s m p n y fs l l' k k' r e = record {
+  state = with_frames_of s m fs r.state r.frames;
   world = refl;
   of = r.of;
-  later = r.later;
+  later = later-itself s;
   rises = omega (arith, e.2);
   falls = steps_fall n l l' k k' r.some e;
   led = λ told a b h.
-      subst (λ (g : Funds). Reaches (world_seen m.codes.world) p (slots_of s m) (funds_of l m told a) (focus_seen t y (frames_seen t.texts fs)) (slots_of t m) g) (funds_after n l l' k k' m told a b e h)
-      (subst (λ (x : Slots). Reaches (world_seen m.codes.world) p (slots_of s m) (funds_of l m told a) (focus_seen t y (frames_seen t.texts fs)) x (after_nodes n (funds_of l m told a))) (sym (slots_same s t r.later m r.state r.heap))
-      (r.leads (world_seen m.codes.world) (funds_of l m told a) e.0));
+      subst (λ (g : Funds). Reaches (world_seen m.codes.world) p (slots_of s m) (funds_of l m told a) (focus_seen s y (frames_seen s.texts fs)) (slots_of s m) g) (funds_after n l l' k k' m told a b e h) (r.leads (funds_of l m told a) e.0);
 }
 
 -- where fewer steps are left, or nothing is read
-pub unpaid : (s t : StoreView) (m : State) (n : ℕ) (l l' : Left) (k k' : ℕ) → IsLater s t → t.heap ≡ s.heap → PaysNodes n l k l' k' false → Idles s m l k t m l' k'
-unpaid s t m n l l' k k' later same e = record { later = later; heap = same; state = refl; left = e.0; counter = e.1 }
-
-pub idle : (s t : StoreView) (m : State) (l : Left) (k : ℕ) → IsLater s t → t.heap ≡ s.heap → Idles s m l k t m l k
-idle s t m l k later same = record { later = later; heap = same; state = refl; left = refl; counter = refl }
+pub unpaid : (s : StoreView) (m : State) (n : ℕ) (l l' : Left) (k k' : ℕ) → PaysNodes n l k l' k' false → Idles s m l k s m l' k'
+unpaid s m n l l' k k' e = record { store = refl; state = refl; left = e.0; counter = e.1 }
 
 pub idle_here : (s : StoreView) (m : State) (l : Left) (k : ℕ) → Idles s m l k s m l k
-idle_here s m l k = idle s s m l k (later-itself s) refl
+idle_here s m l k = record { store = refl; state = refl; left = refl; counter = refl }
 
 pub at_once : (world : CWorld) (p : Point) (s : Slots) (n : ℕ) (q : Point) (t : Slots) → Leads world p s n q t → LeadsAt world p s n q t
 at_once world p s n q t x f le = x f f.left.steps (f.left.steps - n) f.tally.nodes (f.tally.nodes + n) (omega (arith, le)) refl
 
 -- all but the charge is known, from where the moves lead above the frames that wait
-pub ready : (s : StoreView) (m : State) (p : Point) (n : ℕ) (t : StoreView) (y : Focus) (fs : List Frame) (q : List SFrame → Point) → StateOf s m → IsLater s t → t.heap ≡ s.heap → FocusOf t y → FramesOf t fs → 1 ≤ n
-    → ((world : CWorld) → LeadsAt world p (slots_of s m) n (q (frames_of s m)) (slots_of s m)) → q (frames_of t m) ≡ focus_seen t y (frames_seen t.texts fs) → Ready s m p n t y fs
-ready s m p n t y fs q state later same of frames some law e = record {
+pub ready : (s : StoreView) (m : State) (p : Point) (n : ℕ) (y : Focus) (fs : List Frame) (q : List SFrame → Point) → StateOf s m → FocusOf s y → FramesOf s fs → 1 ≤ n
+    → LeadsAt (world_seen m.codes.world) p (slots_of s m) n (q (frames_of s m)) (slots_of s m) → q (frames_of s m) ≡ focus_seen s y (frames_seen s.texts fs) → Ready s m p n y fs
+ready s m p n y fs q state of frames some law e = record {
   state = state;
-  later = later;
-  heap = same;
   of = of;
   frames = frames;
   some = some;
-  leads = λ world. subst (λ (z : Point). LeadsAt world p (slots_of s m) n z (slots_of s m)) (ap q (sym (frames_stay s t later m state)) ∙ e) (law world);
+  leads = subst (λ (z : Point). LeadsAt (world_seen m.codes.world) p (slots_of s m) n z (slots_of s m)) e law;
 }
-
-pub frames_kept : (s t : StoreView) (m : State) → StateOf s m → IsLater s t → FramesOf t m.frames
-frames_kept s t m of later = (state_later s t later m of).frames

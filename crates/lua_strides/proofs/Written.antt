@@ -1,13 +1,12 @@
 -- Several moves at once that end with another heap or other registers.
-use Rattle.std.proofs.Common.{◌≡◌, ◌∙◌, ◌≤◌, ℕ, Bool, true, List, Option, Some, None, refl, sym, ap, subst, arith}
+use Rattle.std.proofs.Common.{◌≡◌, ◌∙◌, ◌≤◌, ℕ, true, List, Option, Some, None, refl, sym, ap, subst, arith}
 use Rattle.wk_base.specs.declared.left.Left.{Left}
 use Rattle.lua_heap.specs.Proc.{Proc}
 use Rattle.lua_heap.specs.Heap.{Heap}
 use Rattle.lua_heap.specs.Value.{Value}
 use Rattle.lua_store.specs.Seen.{StoreView}
 use Rattle.lua_store.specs.Parts.{IsLater}
-use Rattle.lua_store.proofs.Later.{later-then}
-use Rattle.lua_slots.specs.Code.{Place, Reg, Box, Up, CWorld}
+use Rattle.lua_slots.specs.Code.{Place, Reg, Box, Up}
 use Rattle.lua_slots.specs.Slots as slots
 use Rattle.lua_slots.specs.Slots.{Slots, function_of, place_cell, with_cell, write_place, with_one, opened}
 use Rattle.lua_slots.specs.Points.{SFrame, Point}
@@ -37,29 +36,26 @@ abbrev pub with_both : Heap Proc × List slots.Slot → Slots → Slots
 with_both x s = record s { heap = x.0; regs = x.1 }
 
 -- what is held then, from what was held
-changed_slots : (s t u : StoreView) (m : State) (regs : List Slot) (x : Heap Proc × List slots.Slot) (z : Slots) → StateOf s m → IsLater s t → t.heap ≡ s.heap → IsLater t u → (u.heap, registers_seen u.texts regs) ≡ x
-    → with_both x (slots_of t m) ≡ z → slots_of u (with_regs m regs) ≡ z
-changed_slots s t u m regs x z of later same more e w =
-    ap (λ (y : Slots). with_both (u.heap, registers_seen u.texts regs) y) (slots_stay t u more m (state_later s t later m of))
-    ∙ ap (λ (y : Heap Proc × List slots.Slot). with_both y (slots_of t m)) e ∙ w
+changed_slots : (s u : StoreView) (m : State) (regs : List Slot) (x : Heap Proc × List slots.Slot) (z : Slots) → StateOf s m → IsLater s u → (u.heap, registers_seen u.texts regs) ≡ x → with_both x (slots_of s m) ≡ z → slots_of u (with_regs m regs) ≡ z
+changed_slots s u m regs x z of more e w =
+    ap (λ (y : Slots). with_both (u.heap, registers_seen u.texts regs) y) (slots_stay s u more m of) ∙ ap (λ (y : Heap Proc × List slots.Slot). with_both y (slots_of s m)) e ∙ w
 
-pub strode_changed : (s t u : StoreView) (m : State) (regs : List Slot) (p : Point) (n : ℕ) (y : Focus) (q : List SFrame → Point) (x : Heap Proc × List slots.Slot) (z : Slots) (l l' : Left) (k k' : ℕ) → StateOf s m → IsLater s t → t.heap ≡ s.heap
-    → IsLater t u → RegistersOf u regs → FocusOf u y → 1 ≤ n → PaysNodes n l k l' k' true → ((world : CWorld) → LeadsAt world p (slots_of s m) n (q (frames_of s m)) z) → ((fs : List SFrame) → q fs ≡ focus_seen u y fs)
-    → (u.heap, registers_seen u.texts regs) ≡ x → with_both x (slots_of t m) ≡ z → Strides s m p l k u (with_regs m regs) l' k' y
-strode_changed s t u m regs p n y q x z l l' k k' of later same more known focus some e law point is w =
-    let all : IsLater s u = later-then s t u later more in
+pub strode_changed : (s u : StoreView) (m : State) (regs : List Slot) (p : Point) (n : ℕ) (y : Focus) (q : List SFrame → Point) (x : Heap Proc × List slots.Slot) (z : Slots) (l l' : Left) (k k' : ℕ) → StateOf s m
+    → IsLater s u → RegistersOf u regs → FocusOf u y → 1 ≤ n → PaysNodes n l k l' k' true → LeadsAt (world_seen m.codes.world) p (slots_of s m) n (q (frames_of s m)) z → ((fs : List SFrame) → q fs ≡ focus_seen u y fs)
+    → (u.heap, registers_seen u.texts regs) ≡ x → with_both x (slots_of s m) ≡ z → Strides s m p l k u (with_regs m regs) l' k' y
+strode_changed s u m regs p n y q x z l l' k k' of more known focus some e law point is w =
     record {
-      state = with_regs_of u m regs (state_later s u all m of) known;
+      state = with_regs_of u m regs (state_later s u more m of) known;
       world = refl;
       of = focus;
-      later = all;
+      later = more;
       rises = omega (arith, e.2);
       falls = steps_fall n l l' k k' some e;
       led = λ told a b h.
           subst (λ (g : Funds). Reaches (world_seen m.codes.world) p (slots_of s m) (funds_of l m told a) (focus_seen u y (frames_of u m)) (slots_of u (with_regs m regs)) g) (funds_after n l l' k k' m told a b e h)
-          (subst (λ (o : Slots). Reaches (world_seen m.codes.world) p (slots_of s m) (funds_of l m told a) (focus_seen u y (frames_of u m)) o (after_nodes n (funds_of l m told a))) (sym (changed_slots s t u m regs x z of later same more is w))
-          (subst (λ (o : Point). Reaches (world_seen m.codes.world) p (slots_of s m) (funds_of l m told a) o z (after_nodes n (funds_of l m told a))) (point (frames_of s m) ∙ ap (focus_seen u y) (sym (frames_stay s u all m of)))
-          (law (world_seen m.codes.world) (funds_of l m told a) e.0)));
+          (subst (λ (o : Slots). Reaches (world_seen m.codes.world) p (slots_of s m) (funds_of l m told a) (focus_seen u y (frames_of u m)) o (after_nodes n (funds_of l m told a))) (sym (changed_slots s u m regs x z of more is w))
+          (subst (λ (o : Point). Reaches (world_seen m.codes.world) p (slots_of s m) (funds_of l m told a) o z (after_nodes n (funds_of l m told a))) (point (frames_of s m) ∙ ap (focus_seen u y) (sym (frames_stay s u more m of)))
+          (law (funds_of l m told a) e.0)));
     }
 
 -- A VALUE AT A PLACE
@@ -72,9 +68,5 @@ writes s (Reg i) v = refl
 writes s (Box i) v = in_cell s v (place_cell s.regs (function_of s).cells (Box i))
 writes s (Up i) v = in_cell s v (place_cell s.regs (function_of s).cells (Up i))
 
-pub writes_at : (s t : Slots) (cells : List ℕ) (p : Place) (v : Value) → cells ≡ (function_of s).cells → s ≡ t → with_both (written_at s.heap s.regs cells p v) s ≡ write_place t p v
-writes_at s t cells p v e w = ap (λ z. with_both (written_at s.heap s.regs z p v) s) e ∙ writes s p v ∙ ap (λ (x : Slots). write_place x p v) w
-
--- A NEW VARIABLE
-pub opens_at : (s t : Slots) (boxed : Bool) (v : Value) → s ≡ t → with_both (with_one boxed v (s.heap, s.regs)) s ≡ opened boxed v t
-opens_at s t boxed v w = ap (opened boxed v) w
+pub writes_at : (s : Slots) (cells : List ℕ) (p : Place) (v : Value) → cells ≡ (function_of s).cells → with_both (written_at s.heap s.regs cells p v) s ≡ write_place s p v
+writes_at s cells p v e = ap (λ z. with_both (written_at s.heap s.regs z p v) s) e ∙ writes s p v

@@ -4,6 +4,7 @@ use Rattle.lua_heap.specs.Value.{Value, is_true}
 use Rattle.lua_code.specs.Seen.{block_seen}
 use Rattle.lua_slots.specs.Code.{CWorld, CExp, CStat, IfC, IfElseC, CBlock, ThenC, CArms, ArmC}
 use Rattle.lua_slots.specs.Slots.{Slots}
+use Rattle.lua_slots.specs.Calls.{constants_of}
 use Rattle.lua_slots.specs.Points.{SFrame, BlockEnd, StatsNext, Runs}
 use Rattle.lua_in_place.specs.InPlace.{in_place}
 use Rattle.lua_strides.specs.declared.conditions.Choice.{Choice}
@@ -21,4 +22,4 @@ IsLed world test body more other rest s n fs chosen.Rest = LeadsAt world (Runs (
 IsLed world test body more other rest s n fs chosen.Later = Unit {0}
 
 abbrev pub IsChosen : Bool → CBlock → CArms → Option CBlock → Choice → Type 0
-IsChosen holds body more other r = (world : CWorld) (test : CExp) (rest : CBlock) (s : Slots) (v : Value) (n : ℕ) (fs : List SFrame) → in_place test s ≡ Some (v, n) → is_true v ≡ holds → IsLed world test body more other rest s n fs r
+IsChosen holds body more other r = (world : CWorld) (test : CExp) (rest : CBlock) (s : Slots) (v : Value) (n : ℕ) (fs : List SFrame) → in_place (constants_of world s) test s ≡ Some (v, n) → is_true v ≡ holds → IsLed world test body more other rest s n fs r

@@ -4,11 +4,11 @@ use Rattle.lua_heap.specs.Value.{Value as Plain}
 use Rattle.lua_slots.specs.Code.{CExp, CExps}
 use Rattle.lua_in_place.specs.InPlace.{in_place, all_in_place}
 use Rattle.lua_store.specs.Seen.{StoreView, seen}
-use Rattle.lua_store.specs.Parts.{IsOf, IsLater}
+use Rattle.lua_store.specs.Parts.{IsOf}
 use Rattle.lua_stack.specs.Of.{ValuesOf}
 use Rattle.lua_stack.specs.Seen.{values_seen}
 use Rattle.lua_state.specs.declared.state.State.{State}
-use Rattle.lua_state.specs.Seen.{slots_of}
+use Rattle.lua_state.specs.Seen.{slots_of, constants_in}
 use Rattle.lua_strides.specs.declared.reading.ValueRead.{ValueRead}
 use Rattle.lua_strides.specs.declared.reading.ListRead.{ListRead}
 use Rattle.lua_strides.specs.declared.reading.EntryRead.{EntryRead}
@@ -28,30 +28,20 @@ pub record AreRead (s : StoreView) (x : Option (List Plain × ℕ)) (r : ListRea
   pub few : r.nodes < 2 ^ 32
   pub is : x ≡ Some (values_seen s.texts r.values, r.nodes)
 
--- From a store to a later one with the same objects: texts alone are made. A value, if there is one, is that of the expression.
-pub record ReadsTo (s : StoreView) (m : State) (e : CExp) (t : StoreView) (r : Option ValueRead) : Type 0 where
-  pub later : IsLater s t
-  pub heap : t.heap ≡ s.heap
-  pub read : IfSome r (IsRead t (in_place e (slots_of s m)))
+-- a value, if there is one, is that of the expression
+abbrev pub ReadsTo : StoreView → State → CExp → Option ValueRead → Type 0
+ReadsTo s m e r = IfSome r (IsRead s (in_place (constants_in s m) e (slots_of s m)))
 
-pub record ReadsTwo (s : StoreView) (m : State) (a b : CExp) (t : StoreView) (r : Option (ValueRead × ValueRead)) : Type 0 where
-  pub later : IsLater s t
-  pub heap : t.heap ≡ s.heap
-  pub read : IfSome r (λ x. IsRead t (in_place a (slots_of s m)) x.0 × IsRead t (in_place b (slots_of s m)) x.1)
+abbrev pub ReadsTwo : StoreView → State → CExp → CExp → Option (ValueRead × ValueRead) → Type 0
+ReadsTwo s m a b r = IfSome r (λ x. IsRead s (in_place (constants_in s m) a (slots_of s m)) x.0 × IsRead s (in_place (constants_in s m) b (slots_of s m)) x.1)
 
-pub record ReadsAll (s : StoreView) (m : State) (es : CExps) (t : StoreView) (r : Option ListRead) : Type 0 where
-  pub later : IsLater s t
-  pub heap : t.heap ≡ s.heap
-  pub read : IfSome r (AreRead t (all_in_place es (slots_of s m)))
+abbrev pub ReadsAll : StoreView → State → CExps → Option ListRead → Type 0
+ReadsAll s m es r = IfSome r (AreRead s (all_in_place (constants_in s m) es (slots_of s m)))
 
 -- a function with its arguments
-pub record ReadsCall (s : StoreView) (m : State) (e : CExp) (es : CExps) (t : StoreView) (r : Option (ValueRead × ListRead)) : Type 0 where
-  pub later : IsLater s t
-  pub heap : t.heap ≡ s.heap
-  pub read : IfSome r (λ x. IsRead t (in_place e (slots_of s m)) x.0 × AreRead t (all_in_place es (slots_of s m)) x.1)
+abbrev pub ReadsCall : StoreView → State → CExp → CExps → Option (ValueRead × ListRead) → Type 0
+ReadsCall s m e es r = IfSome r (λ x. IsRead s (in_place (constants_in s m) e (slots_of s m)) x.0 × AreRead s (all_in_place (constants_in s m) es (slots_of s m)) x.1)
 
 -- what an assignment to an entry is made of
-pub record ReadsEntry (s : StoreView) (m : State) (of key e : CExp) (t : StoreView) (r : Option EntryRead) : Type 0 where
-  pub later : IsLater s t
-  pub heap : t.heap ≡ s.heap
-  pub read : IfSome r (λ x. IsRead t (in_place of (slots_of s m)) x.of × IsRead t (in_place key (slots_of s m)) x.key × IsRead t (in_place e (slots_of s m)) x.value)
+abbrev pub ReadsEntry : StoreView → State → CExp → CExp → CExp → Option EntryRead → Type 0
+ReadsEntry s m of key e r = IfSome r (λ x. IsRead s (in_place (constants_in s m) of (slots_of s m)) x.of × IsRead s (in_place (constants_in s m) key (slots_of s m)) x.key × IsRead s (in_place (constants_in s m) e (slots_of s m)) x.value)

@@ -36,10 +36,9 @@ pub record Strides (s : StoreView) (m : State) (p : Point) (l : Left) (k : ℕ) 
   pub falls : l'.steps < l.steps
   pub led : (told : Tally) (n n' : ℕ) → k' + n ≡ k + n' → Reaches (world_seen m.codes.world) p (slots_of s m) (funds_of l m told n) (focus_seen t y (frames_of t m')) (slots_of t m') (funds_of l' m' told n')
 
--- Nothing but that texts were made.
+-- Nothing changed.
 pub record Idles (s : StoreView) (m : State) (l : Left) (k : ℕ) (t : StoreView) (m' : State) (l' : Left) (k' : ℕ) : Type 0 where
-  pub later : IsLater s t
-  pub heap : t.heap ≡ s.heap
+  pub store : t ≡ s
   pub state : m' ≡ m
   pub left : l' ≡ l
   pub counter : k' ≡ k
@@ -53,12 +52,10 @@ MayStride s m p l k t m' l' k' None = Idles s m l k t m' l' k'
 abbrev pub LeadsAt : CWorld → Point → Slots → ℕ → Point → Slots → Type 0
 LeadsAt world p s n q t = (f : Funds) → n ≤ f.left.steps → Reaches world p s f q t (after_nodes n f)
 
--- All but the charge is known: so many nodes lead from a point to what is next, above these frames, and what is held stays but for texts.
-pub record Ready (s : StoreView) (m : State) (p : Point) (nodes : ℕ) (t : StoreView) (y : Focus) (fs : List Frame) : Type 0 where
+-- All but the charge is known: so many nodes lead from a point to what is next, above these frames, and what is held stays.
+pub record Ready (s : StoreView) (m : State) (p : Point) (nodes : ℕ) (y : Focus) (fs : List Frame) : Type 0 where
   pub state : StateOf s m
-  pub later : IsLater s t
-  pub heap : t.heap ≡ s.heap
-  pub of : FocusOf t y
-  pub frames : FramesOf t fs
+  pub of : FocusOf s y
+  pub frames : FramesOf s fs
   pub some : 1 ≤ nodes
-  pub leads : (world : CWorld) → LeadsAt world p (slots_of s m) nodes (focus_seen t y (frames_seen t.texts fs)) (slots_of s m)
+  pub leads : LeadsAt (world_seen m.codes.world) p (slots_of s m) nodes (focus_seen s y (frames_seen s.texts fs)) (slots_of s m)

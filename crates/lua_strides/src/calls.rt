@@ -22,16 +22,15 @@ use wk_base::{Left, NoMemory, Steps};
 /// A function and its arguments.
 fn read_call<'m>(
     alloc: Global,
-    store: &mut Store,
+    store: &Store,
     state: &State<'m>,
     called: &'m Expression,
     arguments: &'m [Expression],
 ) -> Result<Option<(ValueRead, ListRead)>, NoMemory>
-    requires { StateOf store.old state.now }
-    ensures { IfOk result (ReadsCall store.old state.now (expression_seen called.now) (expressions_seen arguments.now) store.new) }
+    requires { StateOf store.now state.now }
+    ensures { IfOk result (ReadsCall store.now state.now (expression_seen called.now) (expressions_seen arguments.now)) }
 {
-    let first = read(store, state, called, LEVELS)?;
-    match first {
+    match read(store, state, called, LEVELS) {
         Some(called) => {
             let all = read_all(alloc, store, state, arguments)?;
             match all {
@@ -46,7 +45,7 @@ fn read_call<'m>(
 /// A call begins.
 pub fn call<'m, L: Ledger>(
     alloc: Global,
-    store: &mut Store,
+    store: &Store,
     left: &mut Left,
     state: &mut State<'m>,
     called: &'m Expression,
@@ -54,8 +53,8 @@ pub fn call<'m, L: Ledger>(
     line: u32,
     turns: &mut Steps<L>,
 ) -> Result<Option<Next<'m>>, NoMemory>
-    requires { StateOf store.old state.old }
-    ensures { IfOk result (MayStride store.old state.old (Evals (CallC (expression_seen called.now) (expressions_seen arguments.now) line) (frames_of store.old state.old)) left.old turns.old store.new state.new left.new turns.new) }
+    requires { StateOf store.now state.old }
+    ensures { IfOk result (MayStride store.now state.old (Evals (CallC (expression_seen called.now) (expressions_seen arguments.now) line) (frames_of store.now state.old)) left.old turns.old store.now state.new left.new turns.new) }
 {
     let known = read_call(alloc, store, state, called, arguments)?;
     match known {
@@ -75,7 +74,7 @@ pub fn call<'m, L: Ledger>(
 /// A call that is a statement begins, before others.
 pub fn call_before<'m, L: Ledger>(
     alloc: Global,
-    store: &mut Store,
+    store: &Store,
     left: &mut Left,
     state: &mut State<'m>,
     called: &'m Expression,
@@ -84,8 +83,8 @@ pub fn call_before<'m, L: Ledger>(
     rest: &'m [Statement],
     turns: &mut Steps<L>,
 ) -> Result<Option<Next<'m>>, NoMemory>
-    requires { StateOf store.old state.old }
-    ensures { IfOk result (MayStride store.old state.old (Runs (ThenC (CallStatC (CallC (expression_seen called.now) (expressions_seen arguments.now) line)) (block_seen rest.now)) (frames_of store.old state.old)) left.old turns.old store.new state.new left.new turns.new) }
+    requires { StateOf store.now state.old }
+    ensures { IfOk result (MayStride store.now state.old (Runs (ThenC (CallStatC (CallC (expression_seen called.now) (expressions_seen arguments.now) line)) (block_seen rest.now)) (frames_of store.now state.old)) left.old turns.old store.now state.new left.new turns.new) }
 {
     let known = read_call(alloc, store, state, called, arguments)?;
     match known {

@@ -73,7 +73,7 @@ fn chosen<'m>(
 
 /// The first test of an `if`, with its body, what is behind it, and the statements that follow.
 fn test_first<'m, L: Ledger>(
-    store: &mut Store,
+    store: &Store,
     left: &mut Left,
     state: &mut State<'m>,
     test: &'m Expression,
@@ -83,11 +83,10 @@ fn test_first<'m, L: Ledger>(
     rest: &'m [Statement],
     turns: &mut Steps<L>,
 ) -> Result<Option<Next<'m>>, NoMemory>
-    requires { StateOf store.old state.old }
-    ensures { IfOk result (MayStride store.old state.old (Runs (ThenC (if_seen (ArmC (expression_seen test.now) (block_seen body.now) (branches_seen more.now)) (option_map block_seen other.now)) (block_seen rest.now)) (frames_of store.old state.old)) left.old turns.old store.new state.new left.new turns.new) }
+    requires { StateOf store.now state.old }
+    ensures { IfOk result (MayStride store.now state.old (Runs (ThenC (if_seen (ArmC (expression_seen test.now) (block_seen body.now) (branches_seen more.now)) (option_map block_seen other.now)) (block_seen rest.now)) (frames_of store.now state.old)) left.old turns.old store.now state.new left.new turns.new) }
 {
-    let known = read(store, state, test, LEVELS)?;
-    match known {
+    match read(store, state, test, LEVELS) {
         Some(found) => match chosen(is_true(found.value), body, more, other) {
             Choice::Block(block) => {
                 if !pay_nodes(left, turns, 1 + found.nodes) {
@@ -112,9 +111,8 @@ fn test_first<'m, L: Ledger>(
 }
 
 /// An `if` begins, before these statements.
-#[tactic(auto, using(crate::proofs::Codes::codes))]
 pub fn condition<'m, L: Ledger>(
-    store: &mut Store,
+    store: &Store,
     left: &mut Left,
     state: &mut State<'m>,
     branches: &'m [Branch],
@@ -122,8 +120,8 @@ pub fn condition<'m, L: Ledger>(
     rest: &'m [Statement],
     turns: &mut Steps<L>,
 ) -> Result<Option<Next<'m>>, NoMemory>
-    requires { StateOf store.old state.old }
-    ensures { IfOk result (MayStride store.old state.old (Runs (ThenC (if_seen (branches_seen branches.now) (option_map block_seen other.now)) (block_seen rest.now)) (frames_of store.old state.old)) left.old turns.old store.new state.new left.new turns.new) }
+    requires { StateOf store.now state.old }
+    ensures { IfOk result (MayStride store.now state.old (Runs (ThenC (if_seen (branches_seen branches.now) (option_map block_seen other.now)) (block_seen rest.now)) (frames_of store.now state.old)) left.old turns.old store.now state.new left.new turns.new) }
 {
     match front_branch(branches) {
         Some(front) => {

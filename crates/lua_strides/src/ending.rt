@@ -1,5 +1,5 @@
-//! How several moves at once end: their nodes are paid and counted together, and then what is next is made. What is made before they are
-//! paid is only what was read.
+//! How several moves at once end: their nodes are paid and counted together, and then what is next is made. Nothing is made before they
+//! are paid.
 ghost use Rattle.std.specs.Prelude.{◌≡◌, ◌+◌, ◌∷◌, ℕ, true, IfOk};
 ghost use Rattle.lua_slots.specs.Points.{Point};
 ghost use Rattle.lua_store.specs.Seen.{StoreView};
@@ -40,7 +40,7 @@ pub fn wait_for<'m>(
     frame: Frame<'m>,
     next: Next<'m>,
 ) -> Result<Option<Next<'m>>, NoMemory>
-    ensures { (s t : StoreView) (p : Point) (n : ℕ) (l l' : Allowance) (k k' : ℕ) → Ready s state.old p n t (focus_of next.entry) (frame.entry ∷ state.old.frames) → PaysNodes n l k l' k' true → IfOk result (MayStride s state.old p l k t state.new l' k') }
+    ensures { (s : StoreView) (p : Point) (n : ℕ) (l l' : Allowance) (k k' : ℕ) → Ready s state.old p n (focus_of next.entry) (frame.entry ∷ state.old.frames) → PaysNodes n l k l' k' true → IfOk result (MayStride s state.old p l k s state.new l' k') }
 {
     state.frames.push(frame)?;
     Ok(Some(next))
@@ -53,7 +53,7 @@ pub fn wait_within<'m>(
     inner: Frame<'m>,
     next: Next<'m>,
 ) -> Result<Option<Next<'m>>, NoMemory>
-    ensures { (s t : StoreView) (p : Point) (n : ℕ) (l l' : Allowance) (k k' : ℕ) → Ready s state.old p n t (focus_of next.entry) (inner.entry ∷ outer.entry ∷ state.old.frames) → PaysNodes n l k l' k' true → IfOk result (MayStride s state.old p l k t state.new l' k') }
+    ensures { (s : StoreView) (p : Point) (n : ℕ) (l l' : Allowance) (k k' : ℕ) → Ready s state.old p n (focus_of next.entry) (inner.entry ∷ outer.entry ∷ state.old.frames) → PaysNodes n l k l' k' true → IfOk result (MayStride s state.old p l k s state.new l' k') }
 {
     state.frames.push(outer)?;
     state.frames.push(inner)?;

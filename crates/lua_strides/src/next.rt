@@ -21,7 +21,7 @@ pub enum Next<'m> {
     Returns(Value),
     Evaluates(&'m Expression),
     /// An entry is to be set.
-    Sets(Setting<'m>),
+    Sets(Setting),
     Runs(&'m [Statement]),
 }
 

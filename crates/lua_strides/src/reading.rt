@@ -1,9 +1,9 @@
 //! Expressions that are read where they stand (manual 2.5).
 ghost use Rattle.std.specs.Prelude.{◌≡◌, ◌<◌, ◌^◌, ◌++◌, ◌∷◌, [], ℕ, Option as MayBe, List as Items, Some, IfOk, IfSome, MatchOption};
 ghost use Rattle.lua_code.specs.Seen.{expression_seen, expressions_seen, operator_seen};
-ghost use Rattle.lua_heap.specs.Value.{Value as Plain, Text};
+ghost use Rattle.lua_heap.specs.Value.{Value as Plain};
 ghost use Rattle.lua_in_place.specs.InPlace as places;
-ghost use Rattle.lua_slots.specs.Code.{ConstantC, GlobalC};
+ghost use Rattle.lua_slots.specs.Code.{GlobalC, TextC};
 ghost use Rattle.lua_stack.specs.Of.{EnvironmentOf, ValuesOf};
 ghost use Rattle.lua_state.specs.Of.{StateOf};
 ghost use Rattle.lua_store.specs.Parts.{IsOf};
@@ -14,7 +14,7 @@ use crate::operators::{applied, entry, indexed, operated};
 use crate::running::variable;
 use lua_code::{Expression, Operator};
 use lua_stack::{Environment, Values};
-use lua_state::State;
+use lua_state::{State, constant_at_hand};
 use lua_store::{Store, Value};
 use lua_syntax::UnaryOp;
 use std::alloc::Global;
@@ -111,112 +111,100 @@ fn read_unary(op: UnaryOp, part: Option<ValueRead>) -> Option<ValueRead>
     }
 }
 
-/// A text.
-fn read_text<'m>(
-    store: &mut Store,
-    state: &State<'m>,
-    bytes: &[u8],
-) -> Result<Option<ValueRead>, NoMemory>
-    requires { StateOf store.old state.now }
-    ensures { IfOk result (ReadsTo store.old state.now (ConstantC (Text bytes.now)) store.new) }
+/// A text, if it is at hand.
+fn read_text<'m>(state: &State<'m>, number: u32) -> Option<ValueRead>
+    ensures { (s : StoreView) → StateOf s state.now → ReadsTo s state.now (TextC number) result }
 {
-    let text = store.text(bytes)?;
-    Ok(read_with(Some(Value::Text(text)), 1))
+    match constant_at_hand(state, number) {
+        Some(text) => read_with(Some(Value::Text(text)), 1),
+        None => None,
+    }
 }
 
-/// A global variable.
-fn read_global<'m>(
-    store: &mut Store,
-    state: &State<'m>,
-    name: &[u8],
-    line: u32,
-) -> Result<Option<ValueRead>, NoMemory>
-    requires { StateOf store.old state.now }
-    ensures { IfOk result (ReadsTo store.old state.now (GlobalC name.now line) store.new) }
+/// A global variable, if its name is at hand.
+fn read_global<'m>(store: &Store, state: &State<'m>, name: u32, line: u32) -> Option<ValueRead>
+    requires { StateOf store.now state.now }
+    ensures { ReadsTo store.now state.now (GlobalC name line) result }
 {
-    let text = store.text(name)?;
-    let value = entry(store, &state.env, state.env.globals, Value::Text(text));
-    Ok(read_with(value, 1))
+    match constant_at_hand(state, name) {
+        Some(text) => {
+            let value = entry(store, &state.env, state.env.globals, Value::Text(text));
+            read_with(value, 1)
+        }
+        None => None,
+    }
 }
 
 /// An expression, where so many levels of operators may be looked at.
 #[cycle(reading)]
 #[tactic(auto, using(crate::proofs::Codes::codes))]
 pub fn read<'m>(
-    store: &mut Store,
+    store: &Store,
     state: &State<'m>,
     e: &'m Expression,
     levels: u64,
-) -> Result<Option<ValueRead>, NoMemory>
-    requires { StateOf store.old state.now }
-    ensures { IfOk result (ReadsTo store.old state.now (expression_seen e.now) store.new) }
+) -> Option<ValueRead>
+    requires { StateOf store.now state.now }
+    ensures { ReadsTo store.now state.now (expression_seen e.now) result }
 {
     match e {
-        Expression::Nil => Ok(read_with(Some(Value::Nil), 1)),
-        Expression::Truth(truth) => Ok(read_with(Some(Value::Bool(*truth)), 1)),
-        Expression::Number(number) => Ok(read_with(Some(Value::Number(*number)), 1)),
-        Expression::Text(bytes) => read_text(store, state, bytes.as_slice()),
+        Expression::Nil => read_with(Some(Value::Nil), 1),
+        Expression::Truth(truth) => read_with(Some(Value::Bool(*truth)), 1),
+        Expression::Number(number) => read_with(Some(Value::Number(*number)), 1),
+        Expression::Text(number) => read_text(state, *number),
         Expression::Local(place) => {
             let value = variable(store, state, *place);
-            Ok(read_with(Some(value), 1))
+            read_with(Some(value), 1)
         }
-        Expression::Global(name, line) => read_global(store, state, name.as_slice(), *line),
+        Expression::Global(name, line) => read_global(store, state, *name, *line),
         Expression::Index(of, key, _) => {
-            let parts = read_two(store, state, of, key, levels)?;
-            Ok(read_index(store, &state.env, parts))
+            let parts = read_two(store, state, of, key, levels);
+            read_index(store, &state.env, parts)
         }
         Expression::Operate(op, a, b, _) => {
-            let parts = read_two(store, state, a, b, levels)?;
-            Ok(read_operator(store, &state.env, *op, parts))
+            let parts = read_two(store, state, a, b, levels);
+            read_operator(store, &state.env, *op, parts)
         }
         Expression::Unary(op, a, _) => {
-            let part = read_one(store, state, a, levels)?;
-            Ok(read_unary(*op, part))
+            let part = read_one(store, state, a, levels);
+            read_unary(*op, part)
         }
-        _ => Ok(None),
+        _ => None,
     }
 }
 
 /// An operand, one level deeper.
 #[cycle(reading)]
 fn read_one<'m>(
-    store: &mut Store,
+    store: &Store,
     state: &State<'m>,
     a: &'m Expression,
     levels: u64,
-) -> Result<Option<ValueRead>, NoMemory>
-    requires { StateOf store.old state.now }
-    ensures { IfOk result (ReadsTo store.old state.now (expression_seen a.now) store.new) }
+) -> Option<ValueRead>
+    requires { StateOf store.now state.now }
+    ensures { ReadsTo store.now state.now (expression_seen a.now) result }
 {
     if levels == 0 {
-        return Ok(None);
+        return None;
     }
     read(store, state, a, levels - 1)
 }
 
 /// Two operands, one level deeper.
 #[cycle(reading)]
-fn read_two<'m>(
-    store: &mut Store,
+pub fn read_two<'m>(
+    store: &Store,
     state: &State<'m>,
     a: &'m Expression,
     b: &'m Expression,
     levels: u64,
-) -> Result<Option<(ValueRead, ValueRead)>, NoMemory>
-    requires { StateOf store.old state.now }
-    ensures { IfOk result (ReadsTwo store.old state.now (expression_seen a.now) (expression_seen b.now) store.new) }
+) -> Option<(ValueRead, ValueRead)>
+    requires { StateOf store.now state.now }
+    ensures { ReadsTwo store.now state.now (expression_seen a.now) (expression_seen b.now) result }
 {
-    let read_a = read_one(store, state, a, levels)?;
-    match read_a {
-        Some(first) => {
-            let read_b = read_one(store, state, b, levels)?;
-            match read_b {
-                Some(second) => Ok(Some((first, second))),
-                None => Ok(None),
-            }
-        }
-        None => Ok(None),
-    }
+    let first = read_one(store, state, a, levels)?;
+    let second = read_one(store, state, b, levels)?;
+    Some((first, second))
 }
 
 /// The first of some expressions, and those behind it.
@@ -238,19 +226,18 @@ fn front_of<'m>(expressions: &'m [Expression]) -> Option<Front<'m>>
 /// All of a list.
 pub fn read_all<'m>(
     alloc: Global,
-    store: &mut Store,
+    store: &Store,
     state: &State<'m>,
     list: &'m [Expression],
 ) -> Result<Option<ListRead>, NoMemory>
-    requires { StateOf store.old state.now }
-    ensures { IfOk result (ReadsAll store.old state.now (expressions_seen list.now) store.new) }
+    requires { StateOf store.now state.now }
+    ensures { IfOk result (ReadsAll store.now state.now (expressions_seen list.now)) }
 {
     let mut values = Values::new(alloc);
     let mut nodes = 0;
     let mut left = list;
     'items: while let Some(front) = front_of(left) {
-        let read_item = read(store, state, front.first, LEVELS)?;
-        match read_item {
+        match read(store, state, front.first, LEVELS) {
             Some(found) => {
                 if nodes + found.nodes >= 1 << 32 {
                     return Ok(None);

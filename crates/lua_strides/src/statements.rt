@@ -5,12 +5,12 @@ ghost use Rattle.lua_slots.specs.Code.{AssignC, DeclareC, EntryC, MoreC, NoC, Pl
 ghost use Rattle.lua_slots.specs.Points.{Runs};
 ghost use Rattle.lua_state.specs.Of.{StateOf};
 ghost use Rattle.lua_state.specs.Seen.{frames_of};
-ghost use Rattle.lua_strides.specs.Reads.{ReadsEntry, ReadsTwo};
+ghost use Rattle.lua_strides.specs.Reads.{ReadsEntry};
 ghost use Rattle.lua_strides.specs.Strides.{MayStride};
 
 use crate::ending::{pay_nodes, wait_for};
 use crate::next::Next;
-use crate::reading::{EntryRead, LEVELS, ValueRead, read};
+use crate::reading::{EntryRead, LEVELS, read};
 use crate::running::running_closure;
 use lua_code::{Expression, Place, Statement};
 use lua_stack::opening::open;
@@ -18,7 +18,6 @@ use lua_stack::register::write;
 use lua_stack::{Found, Frame, InStatement, Setting};
 use lua_state::State;
 use lua_store::Store;
-use std::alloc::Global;
 use std::sync::ledger::Ledger;
 use wk_base::{Left, NoMemory, Steps};
 
@@ -31,21 +30,20 @@ pub fn assign<'m, L: Ledger>(
     value: &'m Expression,
     rest: &'m [Statement],
     turns: &mut Steps<L>,
-) -> Result<Option<Next<'m>>, NoMemory>
+) -> Option<Next<'m>>
     requires { StateOf store.old state.old }
-    ensures { IfOk result (MayStride store.old state.old (Runs (ThenC (AssignC (PlaceC (place_seen place) ∷ []) (MoreC (expression_seen value.now) NoC)) (block_seen rest.now)) (frames_of store.old state.old)) left.old turns.old store.new state.new left.new turns.new) }
+    ensures { MayStride store.old state.old (Runs (ThenC (AssignC (PlaceC (place_seen place) ∷ []) (MoreC (expression_seen value.now) NoC)) (block_seen rest.now)) (frames_of store.old state.old)) left.old turns.old store.new state.new left.new turns.new result }
 {
-    let known = read(store, state, value, LEVELS)?;
-    match known {
+    match read(store, state, value, LEVELS) {
         Some(found) => {
             if !pay_nodes(left, turns, 1 + found.nodes) {
-                return Ok(None);
+                return None;
             }
             let closure = running_closure(&state.functions);
             write(store, &mut state.regs, closure, place, found.value);
-            Ok(Some(Next::Runs(rest)))
+            Some(Next::Runs(rest))
         }
-        None => Ok(None),
+        None => None,
     }
 }
 
@@ -62,8 +60,7 @@ pub fn declare<'m, L: Ledger>(
     requires { StateOf store.old state.old }
     ensures { IfOk result (MayStride store.old state.old (Runs (DeclareC (boxed ∷ []) (MoreC (expression_seen value.now) NoC) (block_seen rest.now)) (frames_of store.old state.old)) left.old turns.old store.new state.new left.new turns.new) }
 {
-    let known = read(store, state, value, LEVELS)?;
-    match known {
+    match read(store, state, value, LEVELS) {
         Some(found) => {
             if !pay_nodes(left, turns, 1 + found.nodes) {
                 return Ok(None);
@@ -77,78 +74,46 @@ pub fn declare<'m, L: Ledger>(
 
 /// A value that is returned. What follows the statement is passed by.
 pub fn return_value<'m, L: Ledger>(
-    store: &mut Store,
+    store: &Store,
     left: &mut Left,
     state: &State<'m>,
     value: &'m Expression,
     rest: &'m [Statement],
     turns: &mut Steps<L>,
-) -> Result<Option<Next<'m>>, NoMemory>
-    requires { StateOf store.old state.now }
-    ensures { IfOk result (MayStride store.old state.now (Runs (ThenC (ReturnC (MoreC (expression_seen value.now) NoC)) (block_seen rest.now)) (frames_of store.old state.now)) left.old turns.old store.new state.now left.new turns.new) }
+) -> Option<Next<'m>>
+    requires { StateOf store.now state.now }
+    ensures { MayStride store.now state.now (Runs (ThenC (ReturnC (MoreC (expression_seen value.now) NoC)) (block_seen rest.now)) (frames_of store.now state.now)) left.old turns.old store.now state.now left.new turns.new result }
 {
-    let known = read(store, state, value, LEVELS)?;
-    match known {
+    match read(store, state, value, LEVELS) {
         Some(found) => {
             if !pay_nodes(left, turns, 1 + found.nodes) {
-                return Ok(None);
+                return None;
             }
-            Ok(Some(Next::Returns(found.value)))
+            Some(Next::Returns(found.value))
         }
-        None => Ok(None),
-    }
-}
-
-/// A key and a value.
-fn read_key<'m>(
-    store: &mut Store,
-    state: &State<'m>,
-    key: &'m Expression,
-    value: &'m Expression,
-) -> Result<Option<(ValueRead, ValueRead)>, NoMemory>
-    requires { StateOf store.old state.now }
-    ensures { IfOk result (ReadsTwo store.old state.now (expression_seen key.now) (expression_seen value.now) store.new) }
-{
-    let read_key = read(store, state, key, LEVELS)?;
-    match read_key {
-        Some(key) => {
-            let read_value = read(store, state, value, LEVELS)?;
-            match read_value {
-                Some(value) => Ok(Some((key, value))),
-                None => Ok(None),
-            }
-        }
-        None => Ok(None),
+        None => None,
     }
 }
 
 /// What an assignment to an entry is made of: a table, a key, and the value.
 fn read_entry<'m>(
-    store: &mut Store,
+    store: &Store,
     state: &State<'m>,
     of: &'m Expression,
     key: &'m Expression,
     value: &'m Expression,
-) -> Result<Option<EntryRead>, NoMemory>
-    requires { StateOf store.old state.now }
-    ensures { IfOk result (ReadsEntry store.old state.now (expression_seen of.now) (expression_seen key.now) (expression_seen value.now) store.new) }
+) -> Option<EntryRead>
+    requires { StateOf store.now state.now }
+    ensures { ReadsEntry store.now state.now (expression_seen of.now) (expression_seen key.now) (expression_seen value.now) result }
 {
-    let read_of = read(store, state, of, LEVELS)?;
-    match read_of {
-        Some(of) => {
-            let behind = read_key(store, state, key, value)?;
-            match behind {
-                Some((key, value)) => Ok(Some(EntryRead { of, key, value })),
-                None => Ok(None),
-            }
-        }
-        None => Ok(None),
-    }
+    let of = read(store, state, of, LEVELS)?;
+    let key = read(store, state, key, LEVELS)?;
+    let value = read(store, state, value, LEVELS)?;
+    Some(EntryRead { of, key, value })
 }
 
 /// A value to an entry, before these statements: it is still to be set.
 pub fn assign_entry<'m, L: Ledger>(
-    alloc: Global,
     store: &mut Store,
     left: &mut Left,
     state: &mut State<'m>,
@@ -161,8 +126,7 @@ pub fn assign_entry<'m, L: Ledger>(
     ensures { IfOk result (MayStride store.old state.old (Runs (ThenC (AssignC (EntryC (expression_seen target.entry.0.now) (expression_seen target.entry.1.now) target.entry.2 ∷ []) (MoreC (expression_seen value.now) NoC)) (block_seen rest.now)) (frames_of store.old state.old)) left.old turns.old store.new state.new left.new turns.new) }
 {
     let (of, key, line) = target;
-    let known = read_entry(store, state, of, key, value)?;
-    match known {
+    match read_entry(store, state, of, key, value) {
         Some(found) => {
             let nodes = 1 + (1 + (found.of.nodes + (found.key.nodes + found.value.nodes)));
             if !pay_nodes(left, turns, nodes) {

@@ -24,24 +24,23 @@ use wk_base::{Left, List, NoMemory, Steps};
 
 /// An expression that is read in place.
 fn give_value<'m, L: Ledger>(
-    store: &mut Store,
+    store: &Store,
     left: &mut Left,
     state: &State<'m>,
     e: &'m Expression,
     turns: &mut Steps<L>,
-) -> Result<Option<Next<'m>>, NoMemory>
-    requires { StateOf store.old state.now }
-    ensures { IfOk result (MayStride store.old state.now (Evals (expression_seen e.now) (frames_of store.old state.now)) left.old turns.old store.new state.now left.new turns.new) }
+) -> Option<Next<'m>>
+    requires { StateOf store.now state.now }
+    ensures { MayStride store.now state.now (Evals (expression_seen e.now) (frames_of store.now state.now)) left.old turns.old store.now state.now left.new turns.new result }
 {
-    let known = read(store, state, e, LEVELS)?;
-    match known {
+    match read(store, state, e, LEVELS) {
         Some(found) => {
             if !pay_nodes(left, turns, found.nodes) {
-                return Ok(None);
+                return None;
             }
-            Ok(Some(Next::Gives(found.value)))
+            Some(Next::Gives(found.value))
         }
-        None => Ok(None),
+        None => None,
     }
 }
 
@@ -49,21 +48,21 @@ fn give_value<'m, L: Ledger>(
 #[tactic(auto, using(crate::proofs::Codes::codes))]
 pub fn expression<'m, L: Ledger>(
     alloc: Global,
-    store: &mut Store,
+    store: &Store,
     left: &mut Left,
     state: &mut State<'m>,
     e: &'m Expression,
     turns: &mut Steps<L>,
 ) -> Result<Option<Next<'m>>, NoMemory>
-    requires { StateOf store.old state.old }
-    ensures { IfOk result (MayStride store.old state.old (Evals (expression_seen e.now) (frames_of store.old state.old)) left.old turns.old store.new state.new left.new turns.new) }
+    requires { StateOf store.now state.old }
+    ensures { IfOk result (MayStride store.now state.old (Evals (expression_seen e.now) (frames_of store.now state.old)) left.old turns.old store.now state.new left.new turns.new) }
 {
     match e {
         Expression::Call(called, arguments, line) => {
             let arguments = arguments.as_slice();
             call(alloc, store, left, state, called, arguments, *line, turns)
         }
-        _ => give_value(store, left, state, e, turns),
+        _ => Ok(give_value(store, left, state, e, turns)),
     }
 }
 
@@ -79,7 +78,6 @@ pub fn only<'m, T>(items: &'m [T]) -> Option<&'m T>
 
 /// A value to a target, before these statements.
 fn assign_to<'m, L: Ledger>(
-    alloc: Global,
     store: &mut Store,
     left: &mut Left,
     state: &mut State<'m>,
@@ -92,10 +90,10 @@ fn assign_to<'m, L: Ledger>(
     ensures { IfOk result (MayStride store.old state.old (Runs (ThenC (AssignC (target_seen target.now ∷ []) (MoreC (expression_seen value.now) NoC)) (block_seen rest.now)) (frames_of store.old state.old)) left.old turns.old store.new state.new left.new turns.new) }
 {
     match target {
-        Target::Variable(place) => assign(store, left, state, *place, value, rest, turns),
+        Target::Variable(place) => Ok(assign(store, left, state, *place, value, rest, turns)),
         Target::At(of, key, line) => {
             let target = (of, key, *line);
-            assign_entry(alloc, store, left, state, target, value, rest, turns)
+            assign_entry(store, left, state, target, value, rest, turns)
         }
         _ => Ok(None),
     }
@@ -103,7 +101,6 @@ fn assign_to<'m, L: Ledger>(
 
 /// An assignment of one value to one target.
 fn assign_only<'m, L: Ledger>(
-    alloc: Global,
     store: &mut Store,
     left: &mut Left,
     state: &mut State<'m>,
@@ -117,7 +114,7 @@ fn assign_only<'m, L: Ledger>(
 {
     match only(targets) {
         Some(target) => match only(values) {
-            Some(value) => assign_to(alloc, store, left, state, target, value, rest, turns),
+            Some(value) => assign_to(store, left, state, target, value, rest, turns),
             None => Ok(None),
         },
         None => Ok(None),
@@ -148,19 +145,19 @@ fn declare_only<'m, L: Ledger>(
 
 /// A `return` of one value.
 fn return_only<'m, L: Ledger>(
-    store: &mut Store,
+    store: &Store,
     left: &mut Left,
     state: &State<'m>,
     values: &'m [Expression],
     rest: &'m [Statement],
     turns: &mut Steps<L>,
-) -> Result<Option<Next<'m>>, NoMemory>
-    requires { StateOf store.old state.now }
-    ensures { IfOk result (MayStride store.old state.now (Runs (ThenC (ReturnC (expressions_seen values.now)) (block_seen rest.now)) (frames_of store.old state.now)) left.old turns.old store.new state.now left.new turns.new) }
+) -> Option<Next<'m>>
+    requires { StateOf store.now state.now }
+    ensures { MayStride store.now state.now (Runs (ThenC (ReturnC (expressions_seen values.now)) (block_seen rest.now)) (frames_of store.now state.now)) left.old turns.old store.now state.now left.new turns.new result }
 {
     match only(values) {
         Some(value) => return_value(store, left, state, value, rest, turns),
-        None => Ok(None),
+        None => None,
     }
 }
 
@@ -168,15 +165,15 @@ fn return_only<'m, L: Ledger>(
 #[tactic(auto, using(crate::proofs::Codes::codes))]
 fn call_only<'m, L: Ledger>(
     alloc: Global,
-    store: &mut Store,
+    store: &Store,
     left: &mut Left,
     state: &mut State<'m>,
     e: &'m Expression,
     rest: &'m [Statement],
     turns: &mut Steps<L>,
 ) -> Result<Option<Next<'m>>, NoMemory>
-    requires { StateOf store.old state.old }
-    ensures { IfOk result (MayStride store.old state.old (Runs (ThenC (CallStatC (expression_seen e.now)) (block_seen rest.now)) (frames_of store.old state.old)) left.old turns.old store.new state.new left.new turns.new) }
+    requires { StateOf store.now state.old }
+    ensures { IfOk result (MayStride store.now state.old (Runs (ThenC (CallStatC (expression_seen e.now)) (block_seen rest.now)) (frames_of store.now state.old)) left.old turns.old store.now state.new left.new turns.new) }
 {
     match e {
         Expression::Call(called, arguments, line) => call_before(
@@ -211,18 +208,20 @@ pub fn statement<'m, L: Ledger>(
     match first {
         Statement::Assign(targets, values) => {
             let (targets, values) = (targets.as_slice(), values.as_slice());
-            assign_only(alloc, store, left, state, targets, values, rest, turns)
+            assign_only(store, left, state, targets, values, rest, turns)
         }
         Statement::Declare(flags, values) => {
             let (flags, values) = (flags.as_slice(), values.as_slice());
             declare_only(store, left, state, flags, values, rest, turns)
         }
         Statement::Return(values) => {
-            return_only(store, left, state, values.as_slice(), rest, turns)
+            let values = values.as_slice();
+            Ok(return_only(store, left, state, values, rest, turns))
         }
         Statement::Call(e) => call_only(alloc, store, left, state, e, rest, turns),
         Statement::If(branches, other) => {
-            condition(store, left, state, branches.as_slice(), other, rest, turns)
+            let branches = branches.as_slice();
+            condition(store, left, state, branches, other, rest, turns)
         }
         _ => Ok(None),
     }

@@ -2,9 +2,9 @@
 use Rattle.std.proofs.Common.{◌≡◌, ◌-◌, ◌+◌, ℕ, Bool, true, false, List, [], ◌∷◌, refl, subst, arith}
 use Rattle.wk_base.specs.declared.left.Left.{Left}
 use Rattle.lua_store.specs.Seen.{StoreView}
-use Rattle.lua_store.proofs.Later.{later-itself}
 use Rattle.lua_slots.specs.Code.{CExp, NoC, MoreC, CTarget, CWorld}
 use Rattle.lua_slots.specs.Slots.{Slots}
+use Rattle.lua_slots.specs.Calls.{constants_of}
 use Rattle.lua_slots.specs.Points.{STarget, SFrame, DecideNext, MoreNext, AssignNow, Point, Evals, Lists, Finds, Now}
 use Rattle.lua_slots.specs.Errors.{node}
 use Rattle.lua_slots.specs.Moves.{moves}
@@ -18,6 +18,7 @@ use Rattle.lua_stack.specs.Of.{FocusOf, FrameOf, FramesOf}
 use Rattle.lua_state.specs.declared.state.State.{State}
 use Rattle.lua_state.specs.Seen.{slots_of, frames_of}
 use Rattle.lua_state.specs.Of.{StateOf}
+use Rattle.lua_state.specs.Worlds.{world_seen}
 use Rattle.lua_strides.specs.Strides.{PaysNodes, LeadsAt, Ready, Strides}
 use Rattle.lua_strides.proofs.Paths.{with_frames, ready, at_once, strode}
 use Rattle.lua_turns.specs.Assigning.{IsFoundAt}
@@ -25,34 +26,32 @@ use Rattle.lua_turns.specs.Deciding.{deciding_with}
 
 -- A NODE, and a frame waits, or two
 pub begun : (s : StoreView) (m : State) (p : Point) (y : Focus) (f : Frame) → StateOf s m → FocusOf s y → FrameOf s f
-    → ((world : CWorld) → moves world p (slots_of s m) ≡ node (Now (focus_seen s y (frame_seen s.texts f ∷ frames_of s m)) (slots_of s m))) → Ready s m p 1 s y (f ∷ m.frames)
+    → moves (world_seen m.codes.world) p (slots_of s m) ≡ node (Now (focus_seen s y (frame_seen s.texts f ∷ frames_of s m)) (slots_of s m)) → Ready s m p 1 y (f ∷ m.frames)
 begun s m p y f of known waits law =
-    ready s m p 1 s y (f ∷ m.frames) (λ fs. focus_seen s y (frame_seen s.texts f ∷ fs)) of (later-itself s) refl known (waits, of.frames) (omega arith)
-    (λ world. at_once world p (slots_of s m) 1 (focus_seen s y (frame_seen s.texts f ∷ frames_of s m)) (slots_of s m)
-    (λ g i k c d h n. node_move world (slots_of s m) p (focus_seen s y (frame_seen s.texts f ∷ frames_of s m)) g i k c d (law world) h n)) refl
+    ready s m p 1 y (f ∷ m.frames) (λ fs. focus_seen s y (frame_seen s.texts f ∷ fs)) of known (waits, of.frames) (omega arith)
+    (at_once (world_seen m.codes.world) p (slots_of s m) 1 (focus_seen s y (frame_seen s.texts f ∷ frames_of s m)) (slots_of s m)
+    (λ g i k c d h n. node_move (world_seen m.codes.world) (slots_of s m) p (focus_seen s y (frame_seen s.texts f ∷ frames_of s m)) g i k c d law h n)) refl
 
 pub begun_within : (s : StoreView) (m : State) (p : Point) (y : Focus) (inner outer : Frame) → StateOf s m → FocusOf s y → FrameOf s inner → FrameOf s outer
-    → ((world : CWorld) → moves world p (slots_of s m) ≡ node (Now (focus_seen s y (frame_seen s.texts inner ∷ frame_seen s.texts outer ∷ frames_of s m)) (slots_of s m))) → Ready s m p 1 s y (inner ∷ outer ∷ m.frames)
+    → moves (world_seen m.codes.world) p (slots_of s m) ≡ node (Now (focus_seen s y (frame_seen s.texts inner ∷ frame_seen s.texts outer ∷ frames_of s m)) (slots_of s m)) → Ready s m p 1 y (inner ∷ outer ∷ m.frames)
 begun_within s m p y inner outer of known waits waits_too law =
-    ready s m p 1 s y (inner ∷ outer ∷ m.frames) (λ fs. focus_seen s y (frame_seen s.texts inner ∷ frame_seen s.texts outer ∷ fs)) of (later-itself s) refl known (waits, (waits_too, of.frames)) (omega arith)
-    (λ world. at_once world p (slots_of s m) 1 (focus_seen s y (frame_seen s.texts inner ∷ frame_seen s.texts outer ∷ frames_of s m)) (slots_of s m)
-    (λ g i k c d h n. node_move world (slots_of s m) p (focus_seen s y (frame_seen s.texts inner ∷ frame_seen s.texts outer ∷ frames_of s m)) g i k c d (law world) h n)) refl
+    ready s m p 1 y (inner ∷ outer ∷ m.frames) (λ fs. focus_seen s y (frame_seen s.texts inner ∷ frame_seen s.texts outer ∷ fs)) of known (waits, (waits_too, of.frames)) (omega arith)
+    (at_once (world_seen m.codes.world) p (slots_of s m) 1 (focus_seen s y (frame_seen s.texts inner ∷ frame_seen s.texts outer ∷ frames_of s m)) (slots_of s m)
+    (λ g i k c d h n. node_move (world_seen m.codes.world) (slots_of s m) p (focus_seen s y (frame_seen s.texts inner ∷ frame_seen s.texts outer ∷ frames_of s m)) g i k c d law h n)) refl
 
 -- A NODE, and moves without a charge behind it: these frames wait
 pub strode_begun : (s : StoreView) (m : State) (p q r : Point) (y : Focus) (fs : List Frame) (l l' : Left) (k k' : ℕ) → StateOf s m → FramesOf s fs → FocusOf s y → PaysNodes 1 l k l' k' true
-    → ((world : CWorld) → moves world p (slots_of s m) ≡ node (Now q (slots_of s m))) → ((world : CWorld) → LeadsFree world q (slots_of s m) r (slots_of s m)) → r ≡ focus_seen s y (frames_seen s.texts fs)
+    → moves (world_seen m.codes.world) p (slots_of s m) ≡ node (Now q (slots_of s m)) → LeadsFree (world_seen m.codes.world) q (slots_of s m) r (slots_of s m) → r ≡ focus_seen s y (frames_seen s.texts fs)
     → Strides s m p l k s (with_frames m fs) l' k' y
 strode_begun s m p q r y fs l l' k k' of frames known pays law free_law is =
-    strode s m p 1 s y fs l l' k k'
+    strode s m p 1 y fs l l' k k'
     (record {
       state = of;
-      later = later-itself s;
-      heap = refl;
       of = known;
       frames = frames;
       some = omega arith;
-      leads = λ world. subst (λ (z : Point). LeadsAt world p (slots_of s m) 1 z (slots_of s m)) is
-          (λ f le. reach_then (node_move world (slots_of s m) p q f f.left.steps (f.left.steps - 1) f.tally.nodes (f.tally.nodes + 1) (law world) (omega (arith, le)) refl) (free_law world (after_nodes 1 f)));
+      leads = subst (λ (z : Point). LeadsAt (world_seen m.codes.world) p (slots_of s m) 1 z (slots_of s m)) is
+          (λ f le. reach_then (node_move (world_seen m.codes.world) (slots_of s m) p q f f.left.steps (f.left.steps - 1) f.tally.nodes (f.tally.nodes + 1) law (omega (arith, le)) refl) (free_law (after_nodes 1 f)));
     }) pays
 
 -- `and` and `or`
@@ -61,7 +60,7 @@ decides_begins world false a b fs s = refl
 decides_begins world true a b fs s = refl
 
 -- the target of an assignment is found, and its one value is next
-pub assigning : (world : CWorld) (c : CTarget) (t : STarget) (e : CExp) (fs : List SFrame) (s : Slots) → IsFoundAt c t
+pub assigning : (world : CWorld) (c : CTarget) (t : STarget) (e : CExp) (fs : List SFrame) (s : Slots) → IsFoundAt (constants_of world s) c t
     → LeadsFree world (Finds (c ∷ []) [] (MoreC e NoC) fs) s (Evals e (MoreNext NoC [] ∷ AssignNow (t ∷ []) ∷ fs)) s
 assigning world c t e fs s found =
     free_then world (free world (Finds (c ∷ []) [] (MoreC e NoC) fs) s (Finds [] (t ∷ []) (MoreC e NoC) fs) s (found (MoreC e NoC) fs s))

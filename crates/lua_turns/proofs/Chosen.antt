@@ -11,7 +11,7 @@ use Rattle.lua_slots.specs.Errors.{node, choose, gives}
 use Rattle.lua_slots.specs.Expressions.{decides}
 use Rattle.lua_slots.specs.Moves.{moves}
 use Rattle.lua_slots.specs.Statements.{within, otherwise, branches}
-use Rattle.lua_slots.specs.Enact.{Funds, Stands, paid, enact}
+use Rattle.lua_slots.specs.Enact.{Stands, paid, enact}
 use Rattle.lua_goes.specs.Going.{here, further}
 use Rattle.lua_in_place.proofs.Reading.{with_count}
 use Rattle.lua_in_place.proofs.Statements.{Leads, free, free_first}

@@ -14,8 +14,8 @@ use Rattle.lua_store.specs.declared.value.Value.{Value}
 use Rattle.lua_store.specs.Seen.{StoreView}
 use Rattle.lua_store.specs.Parts.{IsLater}
 use Rattle.lua_slots.specs.Calls.{call, enter, enters_body, body_of, code_of, slots_in_body}
-use Rattle.lua_slots.specs.Code.{CBlock, CProto, CWorld}
-use Rattle.lua_slots.specs.Enact.{Funds, Enacted, Stands, Short, paid, called, calling, marked, enact}
+use Rattle.lua_slots.specs.Code.{CProto, CWorld}
+use Rattle.lua_slots.specs.Enact.{Funds, Enacted, Stands, Short, paid, calling, enact}
 use Rattle.lua_slots.specs.Errors.{gives}
 use Rattle.lua_slots.specs.Moves.{moves}
 use Rattle.lua_slots.specs.Points.{BodyS, BodyEnd, SFrame, Point, Gives, Runs, Starts, Move, Costs, Marks, Enters, Now}
@@ -36,7 +36,6 @@ use Rattle.lua_stack.specs.Of.{CalleeOf, FocusOf, FramesOf, RegistersOf, ValuesO
 use Rattle.lua_stack.specs.Seen.{callee_seen, focus_seen, frame_seen, frames_seen, registers_seen, values_seen}
 use Rattle.lua_stack.proofs.Stay.{frames_later}
 use Rattle.lua_state.specs.declared.codes.Codes.{Codes}
-use Rattle.lua_state.specs.declared.codes.World.{World}
 use Rattle.lua_state.specs.declared.state.State.{State}
 use Rattle.lua_state.specs.Charges.{EntersCall}
 use Rattle.lua_state.specs.Of.{StateOf}
@@ -107,7 +106,7 @@ module _ (s : StoreView) (m : State) (l : Left) (k : ℕ) (f : Callee) (args : L
       (ap (λ (mv : Move). enact (Costs 1 mv) fn) is ∙ ap (λ (o : Option ℕ). paid o fn (enact mv)) (less_of 1 l.steps some) ∙ done)
 
   -- its code is not there
-  pub no_body : (fs : List Frame) → fs ≡ more → CodesOf s codes → code_of ((world_seen m.codes.world).modules (callee_seen s f).title) (callee_seen s f).index ≡ None
+  pub no_body : (fs : List Frame) → fs ≡ more → CodesOf s codes → (code_of ((world_seen m.codes.world).modules (callee_seen s f).title)).function (callee_seen s f).index ≡ None
       → Follows s m (Gives (Goes vs) (frames_of s m)) l k s (record m { codes = codes; frames = fs }) less_one k (focus.Gives (given.Many []))
   no_body fs n known none =
       let w : CWorld = world_seen m.codes.world in
@@ -129,7 +128,7 @@ module _ (s : StoreView) (m : State) (l : Left) (k : ℕ) (f : Callee) (args : L
 
   -- it is: the body is next
   pub body_follows : (u : StoreView) (p : CProto) (m2 : State) (l2 : Left) (k' : ℕ) (fs : List Frame) (regs : List Slot) (fns : List Activation) (reach : ℕ) (y : Focus) → fs ≡ frame.End ending.BodyEnd ∷ more → CodesOf s codes
-      → code_of ((world_seen m.codes.world).modules (callee_seen s f).title) (callee_seen s f).index ≡ Some p
+      → (code_of ((world_seen m.codes.world).modules (callee_seen s f).title)).function (callee_seen s f).index ≡ Some p
       → EntersCall (with_codes m codes) less_one m2 l2 true → k' ≡ k + 1 → CalleeOf s f → ValuesOf s args → IsLater s u → u.texts ≡ s.texts → RegistersOf u regs
       → (u.heap, registers_seen u.texts regs) ≡ with_all p.flags vs (s.heap, registers_seen s.texts m.regs) → fns ≡ entered f p.dots (length p.flags) args (Some line) m.regs reach ∷ m.functions
       → FocusOf u y → ((gs : List SFrame) → focus_seen u y gs ≡ Runs p.body gs)

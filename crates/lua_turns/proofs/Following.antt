@@ -1,5 +1,5 @@
 -- Moves in a row in code: none, more, and those of which the machine's law is known.
-use Rattle.std.proofs.Common.{◌≡◌, ◌∙◌, ◌≤◌, ◌<◌, ◌-◌, ◌+◌, ℕ, true, List, [], ◌∷◌, Option, Some, None, refl, sym, ap, subst, arith}
+use Rattle.std.proofs.Common.{◌≡◌, ◌∙◌, ◌≤◌, ◌-◌, ◌+◌, ℕ, true, false, List, [], Option, Some, None, refl, ap, subst, arith}
 use Rattle.std.specs.Prelude.{Result, IfOk}
 use Rattle.std.proofs.lemmas.Result.{IfOk-weaker}
 use Rattle.wk_base.specs.declared.left.Left.{Left}
@@ -10,7 +10,7 @@ use Rattle.lua_store.proofs.Later.{later-itself, later-then}
 use Rattle.page_run.specs.Outcome.{Goes}
 use Rattle.lua_slots.specs.Code.{CWorld, EndC}
 use Rattle.lua_slots.specs.Slots.{Slots}
-use Rattle.lua_slots.specs.Points.{SFrame, Point, Gives, Runs}
+use Rattle.lua_slots.specs.Points.{Point, Gives, Runs}
 use Rattle.lua_slots.specs.Enact.{Funds}
 use Rattle.lua_goes.specs.Going.{Reaches, here}
 use Rattle.lua_in_place.specs.Laws.{after_nodes}
@@ -23,13 +23,12 @@ use Rattle.lua_stack.specs.declared.frame.Frame.{Frame}
 use Rattle.lua_stack.specs.declared.register.Slot.{Slot}
 use Rattle.lua_stack.specs.Seen.{focus_seen, frames_seen}
 use Rattle.lua_stack.specs.Of.{ActivationsOf, FocusOf, FramesOf, RegistersOf}
-use Rattle.lua_stack.proofs.Stay.{focus_later, focus_as}
 use Rattle.lua_state.specs.declared.state.State.{State}
 use Rattle.lua_state.specs.declared.codes.World.{World}
 use Rattle.lua_state.specs.Seen.{slots_of, frames_of, funds_of}
 use Rattle.lua_state.specs.Of.{StateOf}
 use Rattle.lua_state.specs.Worlds.{world_seen}
-use Rattle.lua_state.proofs.Staying.{state_later, frames_stay, slots_same}
+use Rattle.lua_state.proofs.Staying.{state_later}
 use Rattle.lua_strides.specs.declared.next.Next.{Next}
 use Rattle.lua_strides.specs.Next.{focus_of}
 use Rattle.lua_strides.specs.Strides.{PaysNodes, LeadsAt, Strides, Idles, MayStride}
@@ -129,25 +128,13 @@ module _ (a : StoreView) (m : State) (p : Point) (l : Left) (k : ℕ) (b : Store
   pub strides_must : {E : Type 0} (d : StoreView) (m'' : State) (l'' : Left) (k'' : ℕ) (r : Result (Option Next) E) → Strides a m p l k b m' l' k' y → IfOk r (MustFollow b m' (focus_seen b y (frames_of b m')) l' k' d m'' l'' k'') → IfOk r (MayStride a m p l k d m'' l'' k'')
   strides_must d m'' l'' k'' r c h = IfOk-weaker r (MustFollow b m' (focus_seen b y (frames_of b m')) l' k' d m'' l'' k'') (MayStride a m p l k d m'' l'' k'') (λ x e. strides_must_at d m'' l'' k'' x c e) h
 
-  -- nothing but that texts were made
-  same_point : (d : StoreView) → IsLater b d → StateOf b m' → FocusOf b y → focus_seen d y (frames_of d m') ≡ focus_seen b y (frames_of b m')
-  same_point d later of focus = ap (focus_seen d y) (frames_stay b d later m' of) ∙ focus_as b d later y (frames_of b m') focus
+  -- nodes for which steps were lacking
+  pub follows_unpaid : (n : ℕ) (l'' : Left) (k'' : ℕ) → Follows a m p l k b m' l' k' y → PaysNodes n l' k' l'' k'' false → Follows a m p l k b m' l'' k'' y
+  follows_unpaid n l'' k'' c e = rw (e.0, e.1) c
 
-  idle_at : (d : StoreView) → IsLater b d → d.heap ≡ b.heap → Follows a m p l k b m' l' k' y → Follows a m p l k d m' l' k' y
-  idle_at d later same c = record {
-    state = state_later b d later m' c.state;
-    world = c.world;
-    of = focus_later b d later y c.of;
-    later = later-then a b d c.later later;
-    rises = c.rises;
-    sinks = c.sinks;
-    led = λ told n n' h.
-        subst (λ (o : Point). Reaches (world_seen m.codes.world) p (slots_of a m) (funds_of l m told n) o (slots_of d m') (funds_of l' m' told n')) (sym (same_point d later c.state c.of))
-        (subst (λ (s : Slots). Reaches (world_seen m.codes.world) p (slots_of a m) (funds_of l m told n) (focus_seen b y (frames_of b m')) s (funds_of l' m' told n')) (sym (slots_same b d later m' c.state same)) (c.led told n n' h));
-  }
-
+  -- nothing
   pub follows_idle : (d : StoreView) (m'' : State) (l'' : Left) (k'' : ℕ) → Follows a m p l k b m' l' k' y → Idles b m' l' k' d m'' l'' k'' → Follows a m p l k d m'' l'' k'' y
-  follows_idle d m'' l'' k'' c e = rw (e.state, e.left, e.counter) (idle_at d e.later e.heap c)
+  follows_idle d m'' l'' k'' c e = rw (e.store, e.state, e.left, e.counter) c
 
 -- WHAT THE LAW OF THE MACHINE IS KNOWN OF, from what is held to what is held then: other frames, registers and functions
 module _ (s u : StoreView) (m : State) (fs : List Frame) (regs : List Slot) (fns : List Activation) (p q : Point) (z : Slots) (y : Focus) (of : StateOf s m) (later : IsLater s u) where
@@ -184,32 +171,3 @@ module _ (s u : StoreView) (m : State) (fs : List Frame) (regs : List Slot) (fns
             (subst (λ (o : Slots). Reaches (world_seen m.codes.world) p (slots_of s m) (funds_of l m told i) (focus_seen u y (frames_seen u.texts fs)) o (after_nodes n (funds_of l m told i))) h
             (subst (λ (o : Point). Reaches (world_seen m.codes.world) p (slots_of s m) (funds_of l m told i) o z (after_nodes n (funds_of l m told i))) e (law (world_seen m.codes.world) (funds_of l m told i) pays.0)));
       }
-
--- Nothing was done first but that texts were made
-idle_at_point : (s t u : StoreView) (m m' : State) (l l' : Left) (k k' : ℕ) (q : List SFrame → Point) (r : Option Next) → StateOf s m → IsLater s t → t.heap ≡ s.heap → MayFollow t m (q (frames_of t m)) l k u m' l' k' r → MayFollow s m (q (frames_of s m)) l k u m' l' k' r
-idle_at_point s t u m m' l l' k k' q (Some y) of later same e = record {
-  state = e.state;
-  world = e.world;
-  of = e.of;
-  later = later-then s t u later e.later;
-  rises = e.rises;
-  sinks = e.sinks;
-  led = λ told n n' h.
-      subst (λ (o : Point). Reaches (world_seen m.codes.world) o (slots_of s m) (funds_of l m told n) (focus_seen u (focus_of y) (frames_of u m')) (slots_of u m') (funds_of l' m' told n')) (ap q (frames_stay s t later m of))
-      (subst (λ (x : Slots). Reaches (world_seen m.codes.world) (q (frames_of t m)) x (funds_of l m told n) (focus_seen u (focus_of y) (frames_of u m')) (slots_of u m') (funds_of l' m' told n')) (slots_same s t later m of same) (e.led told n n' h));
-}
-idle_at_point s t u m m' l l' k k' q None of later same e = record { later = later-then s t u later e.later; heap = e.heap ∙ same; state = e.state; left = e.left; counter = e.counter }
-
-pub idle_first : (s t u : StoreView) (m m1 m' : State) (l l1 l' : Left) (k k1 k' : ℕ) (q : List SFrame → Point) (r : Option Next) → StateOf s m → Idles s m l k t m1 l1 k1 → MayFollow t m1 (q (frames_of t m1)) l1 k1 u m' l' k' r → MayFollow s m (q (frames_of s m)) l k u m' l' k' r
-idle_first s t u m m1 m' l l1 l' k k1 k' q r of idle e = idle_at_point s t u m m' l l' k k' q r of idle.later idle.heap (rw (idle.state, idle.left, idle.counter) at e)
-
--- the same before a stride
-pub idle_before : (s t u : StoreView) (m m1 m' : State) (l l1 l' : Left) (k k1 k' : ℕ) (q : List SFrame → Point) (r : Option Next) → StateOf s m → Idles s m l k t m1 l1 k1 → MayStride t m1 (q (frames_of t m1)) l1 k1 u m' l' k' r → MayStride s m (q (frames_of s m)) l k u m' l' k' r
-idle_before s t u m m1 m' l l1 l' k k1 k' q (Some y) of idle e =
-    let f : Follows s m (q (frames_of s m)) l k u m' l' k' (focus_of y) = idle_first s t u m m1 m' l l1 l' k k1 k' q (Some y) of idle (strode_follows t m1 (q (frames_of t m1)) l1 k1 u m' l' k' (Some y) e) in
-    let same : l1.steps ≡ l.steps = ap (λ (o : Left). o.steps) idle.left in
-    record { state = f.state; world = f.world; of = f.of; later = f.later; rises = f.rises; falls = omega (arith, same, e.falls); led = f.led }
-idle_before s t u m m1 m' l l1 l' k k1 k' q None of idle e = idle_first s t u m m1 m' l l1 l' k k1 k' q None of idle e
-
-pub idle_begins : {E : Type 0} (s t u : StoreView) (m m' : State) (l l' : Left) (k k' : ℕ) (q : List SFrame → Point) (r : Result (Option Next) E) → StateOf s m → Idles s m l k t m l k → IfOk r (MayStride t m (q (frames_of t m)) l k u m' l' k') → IfOk r (MayStride s m (q (frames_of s m)) l k u m' l' k')
-idle_begins s t u m m' l l' k k' q r of idle h = IfOk-weaker r (MayStride t m (q (frames_of t m)) l k u m' l' k') (MayStride s m (q (frames_of s m)) l k u m' l' k') (λ x e. idle_before s t u m m m' l l l' k k k' q x of idle e) h

@@ -1,9 +1,9 @@
 -- A value, or a jump, reaches the newest frame, and that frame waits no more or another one waits in its place: moves without a charge.
-use Rattle.std.proofs.Common.{◌≡◌, ◌∙◌, ◌-◌, ℕ, zero, suc, List, [], ◌∷◌, length, drop, Option, Some, None, refl, sym, ap, subst, slice_get, slice_set, arith}
+use Rattle.std.proofs.Common.{◌≡◌, ◌∙◌, ◌-◌, ℕ, zero, suc, List, [], ◌∷◌, length, drop, Some, refl, sym, ap, subst, slice_get, slice_set, arith}
 use Rattle.std.proofs.lemmas.Option.{none-some}
 use Rattle.wk_base.specs.declared.left.Left.{Left}
 use Rattle.page_run.specs.Outcome.{Outcome}
-use Rattle.page_run.specs.State.{Tally, no_tally}
+use Rattle.page_run.specs.State.{no_tally}
 use Rattle.lua_heap.specs.Value.{Value}
 use Rattle.lua_meaning.specs.Acts.{Jump}
 use Rattle.lua_store.specs.Seen.{StoreView}
@@ -119,13 +119,12 @@ steps_back : (n : ℕ) (f : Funds) → (back n f).left.steps ≡ f.left.steps
 steps_back zero f = refl
 steps_back (suc n) f = refl
 
-left : (s : StoreView) (m m' : State) (l l' : Left) (k : ℕ) (o : Outcome (List Value) Jump) (f : Frame) (more fs : List Frame) (regs : List Slot) (fns : List Activation) (y : Focus) → StateOf s m → l'.steps ≡ l.steps
+left : (s : StoreView) (m m' : State) (l l' : Left) (k : ℕ) (o : Outcome (List Value) Jump) (f : Frame) (more fs : List Frame) (regs : List Slot) (fns : List Activation) (y : Focus) (z : Slots) → StateOf s m → l'.steps ≡ l.steps
     → m.frames ≡ f ∷ more → fs ≡ more → RegistersOf s regs → ActivationsOf s fns → FocusOf s y → LeavesCall (with_parts m fs regs fns) l m' l' → m' ≡ with_call m fs regs fns m'.calls
-    → ((world : CWorld) (gs : List SFrame) → moves world (Gives o (frame_seen s.texts f ∷ gs)) (slots_of s m) ≡ Exits (Now (focus_seen s y gs) (left_function (slots_of s m)))) → slots_of s (with_parts m fs regs fns) ≡ left_function (slots_of s m)
+    → ((world : CWorld) (gs : List SFrame) → moves world (Gives o (frame_seen s.texts f ∷ gs)) (slots_of s m) ≡ Exits (Now (focus_seen s y gs) z)) → slots_of s (with_parts m fs regs fns) ≡ z
     → Follows s m (Gives o (frames_of s m)) l k s m' l' k y
-left s m m' l l' k o f more fs regs fns y of steps e n r a focus leaves same law held =
+left s m m' l l' k o f more fs regs fns y z of steps e n r a focus leaves same law held =
     let q : Point = focus_seen s y (frames_seen s.texts more) in
-    let z : Slots = left_function (slots_of s m) in
     let there : (w : State) → w ≡ with_call m fs regs fns m'.calls → focus_seen s y (frames_of s w) ≡ q = λ w i. ap (λ (x : State). focus_seen s y (frames_of s x)) i ∙ ap (λ (x : List Frame). focus_seen s y (frames_seen s.texts x)) n in
     record {
       state = subst (StateOf s) (sym same) (with_call_of s m fs regs fns m'.calls of (below_of s m.frames fs more f e n of.frames) r a);
@@ -151,4 +150,12 @@ pub left_body : (s : StoreView) (m m' : State) (l l' : Left) (k : ℕ) (o : Outc
     → Follows s m (Gives o (frames_of s m)) l k s m' l' k y
 left_body s m m' l l' k o f more fs regs fns y of e n r a focus leaves same law kept gone =
     let steps : l'.steps ≡ l.steps = sym (ap steps_there (leaves (Now (focus_seen s y (frames_seen s.texts more)) (slots_of s m)) no_tally 0)) ∙ steps_back m.calls (funds_of l m no_tally 0) in
-    left s m m' l l' k o f more fs regs fns y of steps e n r a focus leaves same law (left_slots s m regs fns kept gone)
+    left s m m' l l' k o f more fs regs fns y (left_function (slots_of s m)) of steps e n r a focus leaves same law (left_slots s m regs fns kept gone)
+
+-- A FUNCTION OF THE LIBRARY is left: its call
+pub left_library : (s : StoreView) (m m' : State) (l l' : Left) (k : ℕ) (o : Outcome (List Value) Jump) (f : Frame) (more fs : List Frame) (y : Focus) → StateOf s m → m.frames ≡ f ∷ more → fs ≡ more → FocusOf s y
+    → LeavesCall (with_parts m fs m.regs m.functions) l m' l' → m' ≡ with_call m fs m.regs m.functions m'.calls
+    → ((world : CWorld) (gs : List SFrame) → moves world (Gives o (frame_seen s.texts f ∷ gs)) (slots_of s m) ≡ Exits (Now (focus_seen s y gs) (slots_of s m))) → Follows s m (Gives o (frames_of s m)) l k s m' l' k y
+left_library s m m' l l' k o f more fs y of e n focus leaves same law =
+    let steps : l'.steps ≡ l.steps = sym (ap steps_there (leaves (Now (focus_seen s y (frames_seen s.texts more)) (slots_of s m)) no_tally 0)) ∙ steps_back m.calls (funds_of l m no_tally 0) in
+    left s m m' l l' k o f more fs m.regs m.functions y (slots_of s m) of steps e n of.regs of.functions focus leaves same law refl

@@ -1,9 +1,7 @@
 -- TWO TEXTS BECOME ONE, at the steps of their bytes.
-use Rattle.std.proofs.Common.{◌≡◌, ◌∙◌, ◌≤◌, ◌-◌, ◌+◌, ◌++◌, ℕ, List, [], ◌∷◌, length, Option, Some, None, refl, sym, ap, subst, arith}
+use Rattle.std.proofs.Common.{◌≡◌, ◌∙◌, ◌≤◌, ◌-◌, ◌++◌, ℕ, List, [], ◌∷◌, length, Option, Some, refl, sym, ap, subst, arith}
 use Rattle.wk_base.specs.declared.left.Left.{Left}
 use Rattle.page_run.specs.Outcome.{Goes}
-use Rattle.page_run.specs.Perform.{less}
-use Rattle.page_run.specs.State.{Tally}
 use Rattle.page_run.proofs.Less.{less_of}
 use Rattle.lua_heap.specs.Value.{Value as Plain, Text}
 use Rattle.lua_meaning.specs.Values.{text_in}

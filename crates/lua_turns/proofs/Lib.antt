@@ -1,10 +1,11 @@
 pub mod Following
 pub mod Freely
 pub mod Turning
-pub mod Entries
+pub mod EntrySet
 pub mod Entered
 pub mod Codes
 pub mod Begun
+pub mod EntryBegun
 pub mod Chosen
 pub mod Listed
 pub mod Named

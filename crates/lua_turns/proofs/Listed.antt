@@ -28,13 +28,13 @@ use Rattle.lua_stack.specs.declared.values.Given.TheVariants as given
 use Rattle.lua_stack.specs.Of.{FocusOf, FramesOf, ValuesOf}
 use Rattle.lua_stack.specs.Seen.{focus_seen, frames_seen, values_seen}
 use Rattle.lua_state.specs.declared.state.State.{State}
-use Rattle.lua_state.specs.Seen.{slots_of, frames_of}
+use Rattle.lua_state.specs.Seen.{slots_of, frames_of, constants_in}
 use Rattle.lua_state.specs.Of.{StateOf}
+use Rattle.lua_state.specs.Worlds.{world_seen}
 use Rattle.lua_strides.specs.declared.reading.ValueRead.{ValueRead}
 use Rattle.lua_strides.specs.Reads.{ReadsTo}
 use Rattle.lua_strides.specs.Strides.{PaysNodes}
-use Rattle.lua_strides.proofs.Found.{values_as, values_later}
-use Rattle.lua_strides.proofs.Paths.{at_once, frames_kept, ready, strode}
+use Rattle.lua_strides.proofs.Paths.{at_once, strode}
 use Rattle.lua_turns.specs.Rows.{Follows}
 use Rattle.lua_turns.proofs.Following.{follows_free, strides_follow}
 use Rattle.lua_turns.proofs.Freely.{swapped}
@@ -101,41 +101,47 @@ module _ (s : StoreView) (m : State) (l : Left) (k : ℕ) (rest : Bor (List Expr
       (ap (λ (z : List Plain). Gives (Goes z) gs) (sym (ap (values_seen s.texts) added ∙ values_one_more s.texts before v))) refl
 
 -- THE FIRST OF A LIST is read in place
-module _ (s t : StoreView) (m : State) (l l' : Left) (k k' : ℕ) (es : List Expression) (first : Expression) (rest : Bor (List Expression)) (before all : List Value) (r : ValueRead) (of : StateOf s m) (values : ValuesOf s before)
-    (got : ReadsTo s m (expression_seen first) t (Some r)) (front : es ≡ first ∷ rest.now) (added : all ≡ before ++ r.value ∷ []) (pays : PaysNodes r.nodes l k l' k' true) where
+module _ (s : StoreView) (m : State) (l l' : Left) (k k' : ℕ) (es : List Expression) (first : Expression) (rest : Bor (List Expression)) (before all : List Value) (r : ValueRead) (of : StateOf s m) (values : ValuesOf s before)
+    (got : ReadsTo s m (expression_seen first) (Some r)) (front : es ≡ first ∷ rest.now) (added : all ≡ before ++ r.value ∷ []) (pays : PaysNodes r.nodes l k l' k' true) where
   abbrev start : Point
   start = Lists (expressions_seen es) (values_seen s.texts before) (frames_of s m)
 
-  item_read : (y : Focus) → FocusOf t y
-      → ((gs : List SFrame) (x : Slots) → more_values (expressions_seen rest.now) (values_seen s.texts before) (seen t.texts r.value ∷ []) gs x ≡ Now (focus_seen t y gs) x)
-      → Follows s m start l k t m l' k' y
+  item_read : (y : Focus) → FocusOf s y → more_values (expressions_seen rest.now) (values_seen s.texts before) (seen s.texts r.value ∷ []) (frames_of s m) (slots_of s m) ≡ Now (focus_seen s y (frames_of s m)) (slots_of s m) → Follows s m start l k s m l' k' y
   item_read y known law =
+      let world : CWorld = world_seen m.codes.world in
       let x : Slots = slots_of s m in
       let n : ℕ = r.nodes in
-      let w : Plain = seen t.texts r.value in
+      let w : Plain = seen s.texts r.value in
       let vs : List Plain = values_seen s.texts before in
       let e : CExp = expression_seen first in
       let behind : CExps = expressions_seen rest.now in
       let fs : List SFrame = frames_of s m in
-      strides_follow s m start l k t m l' k' y
-      (strode s m start n t y m.frames l l' k k'
-      (ready s m start n t y m.frames (λ gs. focus_seen t y gs) of got.later got.heap known (frames_kept s t m of got.later) (nodes_are_some e x w n got.read.is)
-      (λ world. at_once world start x n (focus_seen t y fs) x
-      (free_first world n (free world start x (Evals e (MoreNext behind vs ∷ fs)) x (ap (λ (z : List Expression). moves world (Lists (expressions_seen z) vs fs) x) front))
-      (free_last world n (reads world x e w n got.read.is (MoreNext behind vs ∷ fs)) (free world (Gives (Goes (w ∷ [])) (MoreNext behind vs ∷ fs)) x (focus_seen t y fs) x (law fs x))))) refl) pays)
+      strides_follow s m start l k s m l' k' y
+      (strode s m start n y m.frames l l' k k'
+      (record {
+        state = of;
+        of = known;
+        frames = of.frames;
+        some = nodes_are_some (constants_in s m) e x w n got.is;
+        leads = at_once world start x n (focus_seen s y fs) x
+            (free_first world n (free world start x (Evals e (MoreNext behind vs ∷ fs)) x (ap (λ (z : List Expression). moves world (Lists (expressions_seen z) vs fs) x) front))
+            (free_last world n (reads world x e w n got.is (MoreNext behind vs ∷ fs)) (free world (Gives (Goes (w ∷ [])) (MoreNext behind vs ∷ fs)) x (focus_seen s y fs) x law)));
+      }) pays)
 
-  values_now : values_seen t.texts all ≡ values_seen s.texts before ++ seen t.texts r.value ∷ []
-  values_now = ap (values_seen t.texts) added ∙ values_one_more t.texts before r.value ∙ ap (λ (z : List Plain). z ++ seen t.texts r.value ∷ []) (values_as s t before got.later values)
+  values_now : values_seen s.texts all ≡ values_seen s.texts before ++ seen s.texts r.value ∷ []
+  values_now = ap (values_seen s.texts) added ∙ values_one_more s.texts before r.value
 
-  all_of : ValuesOf t all
-  all_of = subst (ValuesOf t) (sym added) (values_of t before r.value (values_later s t before got.later values) got.read.of)
+  all_of : ValuesOf s all
+  all_of = subst (ValuesOf s) (sym added) (values_of s before r.value values got.of)
 
-  pub one_read : (next : Expression) (behind : List Expression) → rest.now ≡ next ∷ behind → Follows s m start l k t m l' k' (focus.Lists rest all)
+  pub one_read : (next : Expression) (behind : List Expression) → rest.now ≡ next ∷ behind → Follows s m start l k s m l' k' (focus.Lists rest all)
   one_read next behind more =
-      item_read (focus.Lists rest all) all_of
-      (λ gs x. next_item rest.now next behind (values_seen s.texts before) (seen t.texts r.value) gs x more ∙ ap (λ (z : List Plain). Now (Lists (expressions_seen rest.now) z gs) x) (sym values_now))
+      let gs : List SFrame = frames_of s m in
+      let x : Slots = slots_of s m in
+      item_read (focus.Lists rest all) all_of (next_item rest.now next behind (values_seen s.texts before) (seen s.texts r.value) gs x more ∙ ap (λ (z : List Plain). Now (Lists (expressions_seen rest.now) z gs) x) (sym values_now))
 
-  pub last_read : rest.now ≡ [] → Follows s m start l k t m l' k' (focus.Gives (given.Many all))
+  pub last_read : rest.now ≡ [] → Follows s m start l k s m l' k' (focus.Gives (given.Many all))
   last_read none =
-      item_read (focus.Gives (given.Many all)) all_of
-      (λ gs x. last_item rest.now (values_seen s.texts before) (seen t.texts r.value) gs x none ∙ ap (λ (z : List Plain). Now (Gives (Goes z) gs) x) (sym values_now))
+      let gs : List SFrame = frames_of s m in
+      let x : Slots = slots_of s m in
+      item_read (focus.Gives (given.Many all)) all_of (last_item rest.now (values_seen s.texts before) (seen s.texts r.value) gs x none ∙ ap (λ (z : List Plain). Now (Gives (Goes z) gs) x) (sym values_now))

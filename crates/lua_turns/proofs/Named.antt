@@ -1,10 +1,8 @@
 -- A METHOD IS FOUND, and its arguments are next.
-use Rattle.std.proofs.Common.{◌≡◌, ◌∙◌, ◌≤◌, ◌-◌, ◌+◌, ℕ, Bool, true, false, List, [], ◌∷◌, Option, Some, None, refl, sym, ap, subst, arith}
-use Rattle.std.specs.Prelude.{codes, IfOk, IfSome, Result}
-use Rattle.std.proofs.lemmas.Result.{IfOk-weaker}
+use Rattle.std.proofs.Common.{◌≡◌, ◌∙◌, ◌≤◌, ◌-◌, ℕ, Bool, true, false, List, [], ◌∷◌, Option, Some, None, refl, sym, ap, subst, arith}
+use Rattle.std.specs.Prelude.{codes, IfSome}
 use Rattle.wk_base.specs.declared.left.Left.{Left}
 use Rattle.page_run.specs.Outcome.{Goes}
-use Rattle.page_run.specs.Perform.{less}
 use Rattle.page_run.specs.State.{Tally}
 use Rattle.page_run.proofs.Less.{less_of}
 use Rattle.lua_heap.specs.Proc.{Proc}
@@ -13,11 +11,11 @@ use Rattle.lua_heap.specs.Table.{get}
 use Rattle.lua_heap.specs.Value.{Value as Plain, Text, Table, is_nil}
 use Rattle.lua_meaning.specs.Metatables.{handler}
 use Rattle.lua_slots.specs.Code.{CExps, CWorld}
-use Rattle.lua_slots.specs.Enact.{Funds, Stands, paid, enact}
+use Rattle.lua_slots.specs.Enact.{Funds, paid, enact}
 use Rattle.lua_slots.specs.Errors.{choose, gives}
-use Rattle.lua_slots.specs.Index.{index, index_by, index_table, index_link}
-use Rattle.lua_slots.specs.Moves.{moves, begins}
-use Rattle.lua_slots.specs.Points.{IndexLinkS, SThing, First, IndexNow, CallNow, MethodNext, MethodNow, SFrame, Point, Gives, Lists, Starts, Move, Costs, Now}
+use Rattle.lua_slots.specs.Index.{index, index_by, index_table}
+use Rattle.lua_slots.specs.Moves.{moves}
+use Rattle.lua_slots.specs.Points.{IndexLinkS, First, IndexNow, CallNow, MethodNext, MethodNow, SFrame, Point, Gives, Lists, Starts, Move, Costs, Now}
 use Rattle.lua_slots.specs.Slots.{Slots}
 use Rattle.lua_goes.specs.Going.{Reaches, here, further}
 use Rattle.lua_in_place.specs.InPlace.{entry, indexed}
@@ -25,13 +23,12 @@ use Rattle.lua_in_place.proofs.Plain.{entry_is, indexed_is}
 use Rattle.lua_in_place.proofs.Reading.{reach_then}
 use Rattle.lua_store.specs.declared.value.Value.{Value}
 use Rattle.lua_store.specs.declared.ids.TextId.{TextId}
-use Rattle.lua_store.specs.Parts.{IsLater, IsOf}
+use Rattle.lua_store.specs.Parts.{IsOf}
 use Rattle.lua_store.specs.Seen.{StoreView, seen, text_at}
 use Rattle.lua_store.proofs.Later.{later-itself}
 use Rattle.lua_stack.specs.declared.focus.Focus.{Focus}
 use Rattle.lua_stack.specs.declared.focus.Focus.TheVariants as focus
 use Rattle.lua_stack.specs.declared.values.Given.TheVariants as given
-use Rattle.lua_stack.proofs.Stay.{focus_as}
 use Rattle.lua_stack.specs.declared.frame.Frame.{Frame}
 use Rattle.lua_stack.specs.declared.frame.Frame.TheVariants as frame
 use Rattle.lua_stack.specs.declared.frame.InExpression.TheVariants as in_expression
@@ -41,13 +38,11 @@ use Rattle.lua_state.specs.declared.state.State.{State}
 use Rattle.lua_state.specs.Of.{StateOf}
 use Rattle.lua_state.specs.Seen.{slots_of, frames_of, funds_of}
 use Rattle.lua_state.specs.Worlds.{world_seen}
-use Rattle.lua_strides.specs.declared.next.Next.{Next}
 use Rattle.lua_strides.specs.Strides.{Idles}
-use Rattle.lua_strides.proofs.Paths.{idle, with_frames, with_frames_of}
+use Rattle.lua_strides.proofs.Paths.{with_frames, with_frames_of}
 use Rattle.lua_turns.specs.Methods.{GivesBehind, PaysLink}
-use Rattle.lua_turns.specs.Rows.{Follows, MayFollow}
+use Rattle.lua_turns.specs.Rows.{Follows}
 use Rattle.lua_turns.specs.declared.methods.Method.{Method}
-use Rattle.lua_turns.proofs.Following.{idle_first}
 use Rattle.lua_turns.proofs.Freely.{below_of, below_with}
 
 -- WHERE IT IS FOUND
@@ -165,18 +160,10 @@ key_follows s m linked l l' k o key v line more fs of e n known pays is =
     (ap (λ (z : List Frame). Gives (Goes (seen s.texts v ∷ [])) (frames_seen s.texts z)) (sym n))
 
 pub not_paid : (s : StoreView) (m : State) (linked : Bool) (l l' : Left) (k : ℕ) → PaysLink linked l l' false → Idles s m l k s m l' k
-not_paid s m false l l' k e = record { later = later-itself s; heap = refl; state = refl; left = e; counter = refl }
-not_paid s m true l l' k e = record { later = later-itself s; heap = refl; state = refl; left = e; counter = refl }
+not_paid s m false l l' k e = record { store = refl; state = refl; left = e; counter = refl }
+not_paid s m true l l' k e = record { store = refl; state = refl; left = e; counter = refl }
 
 pub method_of_strings : (st : StoreView) (r : Option Method) (id : TextId) (key : Plain) (line : Option ℕ) (fs : List SFrame) (s : Slots) (t : ℕ) → s.strings ≡ t
     → IfSome r (λ x. GivesBehind x.linked (index_table t key line fs s) (seen st.texts x.value) fs s) → IfSome r (λ x. GivesBehind x.linked (index (Text (text_at st.texts id.at)) key line fs s) (seen st.texts x.value) fs s)
 method_of_strings st (Some x) id key line fs s t e h = of_strings x.linked (text_at st.texts id.at) key (seen st.texts x.value) line fs s t e h
 method_of_strings st None id key line fs s t e h = tt
-
--- the text of its name was made first
-pub named_later : {E : Type 0} (s t u : StoreView) (m m' : State) (l l' : Left) (k k' : ℕ) (o : Value) (r : Result (Option Next) E) → StateOf s m → IsOf s o → IsLater s t → t.heap ≡ s.heap
-    → IfOk r (MayFollow t m (Gives (Goes (seen t.texts o ∷ [])) (frames_of t m)) l k u m' l' k') → IfOk r (MayFollow s m (Gives (Goes (seen s.texts o ∷ [])) (frames_of s m)) l k u m' l' k')
-named_later s t u m m' l l' k k' o r of known later same h =
-    IfOk-weaker r (MayFollow t m (Gives (Goes (seen t.texts o ∷ [])) (frames_of t m)) l k u m' l' k') (MayFollow s m (Gives (Goes (seen s.texts o ∷ [])) (frames_of s m)) l k u m' l' k')
-    (λ x e. idle_first s t u m m m' l l l' k k k' (λ fs. Gives (Goes (seen s.texts o ∷ [])) fs) x of (idle s t m l k later same)
-    (subst (λ (p : Point). MayFollow t m p l k u m' l' k' x) (focus_as s t later (focus.Gives (given.One o)) (frames_of t m) (known, tt)) e)) h

@@ -1,5 +1,5 @@
 -- THE NEXT TURN of a counting loop, from where its last one is over.
-use Rattle.std.proofs.Common.{◌≡◌, ◌∙◌, ℕ, ◌+◌, ◌-◌, Bool, true, List, [], ◌∷◌, length, Option, Some, None, refl, sym, ap, subst, arith}
+use Rattle.std.proofs.Common.{◌≡◌, ◌∙◌, ℕ, ◌+◌, ◌-◌, Bool, true, List, ◌∷◌, length, Option, Some, sym, ap, subst, arith}
 use Rattle.std.specs.Prelude.{ℤ}
 use Rattle.page_run.specs.Outcome.{Goes}
 use Rattle.page_run.specs.Perform.{less}
@@ -10,7 +10,7 @@ use Rattle.lua_slots.specs.Slots as slots
 use Rattle.lua_slots.specs.Slots.{Slots, cut_to, cut, with_one, opened}
 use Rattle.lua_slots.specs.Points.{CountTurnS, SFrame, CountEnd, Point, Gives, Runs, Starts, Marks, Now}
 use Rattle.lua_slots.specs.Loops.{count_next}
-use Rattle.lua_slots.specs.Enact.{Funds, Stands, paid, enact}
+use Rattle.lua_slots.specs.Enact.{Stands, paid, enact}
 use Rattle.lua_goes.specs.Going.{here, further}
 use Rattle.lua_in_place.proofs.Reading.{with_count}
 use Rattle.lua_in_place.proofs.Statements.{Leads, free, free_first}

@@ -1,10 +1,9 @@
 -- WHERE A METHOD IS FOUND: in what is indexed itself, or, behind one link, in the table that its metatable names.
-use Rattle.std.specs.Prelude.{◌≡◌, ◌≤◌, ◌-◌, ℕ, Bool, true, false, List, [], ◌∷◌, Option}
+use Rattle.std.specs.Prelude.{◌≡◌, ◌≤◌, ◌-◌, Bool, true, false, List, [], ◌∷◌}
 use Rattle.wk_base.specs.declared.left.Left.{Left}
 use Rattle.lua_heap.specs.Value.{Value}
 use Rattle.lua_slots.specs.Code.{CWorld}
 use Rattle.lua_slots.specs.Errors.{gives}
-use Rattle.lua_slots.specs.Index.{index}
 use Rattle.lua_slots.specs.Moves.{begins}
 use Rattle.lua_slots.specs.Points.{SThing, SFrame, Move, Starts, Now}
 use Rattle.lua_slots.specs.Slots.{Slots}

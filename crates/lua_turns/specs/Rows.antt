@@ -28,7 +28,7 @@ pub record Follows (s : StoreView) (m : State) (p : Point) (l : Left) (k : ℕ) 
   pub sinks : l'.steps ≤ l.steps
   pub led : (told : Tally) (n n' : ℕ) → k' + n ≡ k + n' → Reaches (world_seen m.codes.world) p (slots_of s m) (funds_of l m told n) (focus_seen t y (frames_of t m')) (slots_of t m') (funds_of l' m' told n')
 
--- such moves, or nothing but that texts were made
+-- such moves, or nothing
 abbrev pub MayFollow : StoreView → State → Point → Left → ℕ → StoreView → State → Left → ℕ → Option Next → Type 0
 MayFollow s m p l k t m' l' k' (Some y) = Follows s m p l k t m' l' k' (focus_of y)
 MayFollow s m p l k t m' l' k' None = Idles s m l k t m' l' k'

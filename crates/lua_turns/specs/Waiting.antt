@@ -36,5 +36,6 @@ Waits fs (waiting.Tests test body) = IsNewest fs (frame.Loop (in_loop.WhileTest 
 Waits fs (waiting.Repeats depth test body) = IsNewest fs (frame.End (ending.WhileEnd depth test body))
 Waits fs (waiting.Block depth) = IsNewest fs (frame.End (ending.BlockEnd depth))
 Waits fs waiting.Body = IsNewest fs (frame.End ending.BodyEnd)
+Waits fs waiting.Library = IsNewest fs (frame.End ending.LibraryEnd)
 Waits fs (waiting.Counts c) = IsNewest fs (frame.End (ending.CountEnd c.depth c.boxed c.index c.limit c.step c.body))
 Waits fs waiting.Other = Unit {0}

@@ -1,11 +1,11 @@
 //! Expressions that are at hand: constants, variables, and operators and indices of these. Where one comes up beside others that are
 //! evaluated, its value is read at once.
-ghost use Rattle.std.specs.Prelude.{IfOk};
 ghost use Rattle.lua_code.specs.Seen.{expression_seen};
 ghost use Rattle.lua_slots.specs.Points.{Evals};
 ghost use Rattle.lua_state.specs.Of.{StateOf};
 ghost use Rattle.lua_state.specs.Seen.{frames_of};
-ghost use Rattle.lua_turns.specs.Rows.{MustFollow};
+ghost use Rattle.lua_strides.specs.Next.{focus_of};
+ghost use Rattle.lua_turns.specs.Rows.{Follows};
 
 use lua_code::Expression;
 use lua_state::State;
@@ -14,30 +14,29 @@ use lua_strides::Next;
 use lua_strides::ending::pay_nodes;
 use lua_strides::reading::read;
 use std::sync::ledger::Ledger;
-use wk_base::{Left, NoMemory, Steps};
+use wk_base::{Left, Steps};
 
 /// How many operators one in the other are looked at. What is read in vain is read again, so these are few.
 pub const AT_HAND: u64 = 1;
 
 /// An expression is next: its value, if it is at hand and its steps are left.
 pub fn next_of<'m, L: Ledger>(
-    store: &mut Store,
+    store: &Store,
     left: &mut Left,
     state: &State<'m>,
     e: &'m Expression,
     turns: &mut Steps<L>,
-) -> Result<Option<Next<'m>>, NoMemory>
-    requires { StateOf store.old state.now }
-    ensures { IfOk result (MustFollow store.old state.now (Evals (expression_seen e.now) (frames_of store.old state.now)) left.old turns.old store.new state.now left.new turns.new) }
+) -> Next<'m>
+    requires { StateOf store.now state.now }
+    ensures { Follows store.now state.now (Evals (expression_seen e.now) (frames_of store.now state.now)) left.old turns.old store.now state.now left.new turns.new (focus_of result) }
 {
-    let known = read(store, state, e, AT_HAND)?;
-    match known {
+    match read(store, state, e, AT_HAND) {
         Some(found) => {
             if !pay_nodes(left, turns, found.nodes) {
-                return Ok(Some(Next::Evaluates(e)));
+                return Next::Evaluates(e);
             }
-            Ok(Some(Next::Gives(found.value)))
+            Next::Gives(found.value)
         }
-        None => Ok(Some(Next::Evaluates(e))),
+        None => Next::Evaluates(e),
     }
 }

@@ -3,7 +3,7 @@ ghost use Rattle.std.specs.Prelude.{◌≡◌, ◌∷◌, [], IfOk};
 ghost use Rattle.lua_code.specs.Seen.{block_seen, expression_seen, expressions_seen, operator_seen};
 ghost use Rattle.lua_slots.specs.Code.{CallC, IndexC, MethodC, MoreC, NoC, OperateC, ParenC, ReturnC, ThenC, UnaryC};
 ghost use Rattle.lua_slots.specs.Points.{Evals, Runs};
-ghost use Rattle.lua_state.specs.Of.{StateOf};
+ghost use Rattle.lua_state.specs.Of.{IsConstant, StateOf};
 ghost use Rattle.lua_state.specs.Seen.{frames_of};
 ghost use Rattle.lua_store.specs.Seen.{StoreView};
 ghost use Rattle.lua_strides.specs.Strides.{MayStride};
@@ -12,6 +12,7 @@ ghost use Rattle.lua_turns.specs.Deciding.{deciding_with};
 use lua_code::{Expression, Operator, Statement};
 use lua_stack::{Frame, InExpression, InStatement, Values};
 use lua_state::State;
+use lua_store::TextId;
 use lua_strides::Next;
 use lua_strides::ending::{pay_nodes, wait_for};
 use lua_syntax::UnaryOp;
@@ -135,22 +136,23 @@ pub fn begin_call<'m, L: Ledger>(
     wait_for(state, frame, Next::Evaluates(a))
 }
 
-/// A method begins with its object, where its step is left.
+/// A method whose name has this text begins with its object, where its step is left.
 pub fn begin_method<'m, L: Ledger>(
     left: &mut Left,
     state: &mut State<'m>,
     a: &'m Expression,
-    name: &'m [u8],
+    name: u32,
+    text: TextId,
     arguments: &'m List<Expression>,
     line: u32,
     turns: &mut Steps<L>,
 ) -> Result<Option<Next<'m>>, NoMemory>
-    ensures { (s : StoreView) → StateOf s state.old → IfOk result (MayStride s state.old (Evals (MethodC (expression_seen a.now) name.now (expressions_seen arguments.now) line) (frames_of s state.old)) left.old turns.old s state.new left.new turns.new) }
+    ensures { (s : StoreView) → StateOf s state.old → IsConstant s state.old name text → IfOk result (MayStride s state.old (Evals (MethodC (expression_seen a.now) name (expressions_seen arguments.now) line) (frames_of s state.old)) left.old turns.old s state.new left.new turns.new) }
 {
     if !pay_nodes(left, turns, 1) {
         return Ok(None);
     }
-    let frame = Frame::Expression(InExpression::MethodNext(name, arguments, line));
+    let frame = Frame::Expression(InExpression::MethodNext(text, arguments, line));
     wait_for(state, frame, Next::Evaluates(a))
 }
 

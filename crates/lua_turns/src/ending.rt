@@ -45,6 +45,16 @@ fn end_body<'m>(left: &mut Left, state: &mut State<'m>) -> Result<Next<'m>, NoMe
     Ok(Next::GivesNone)
 }
 
+/// A function of the library has given nothing: its call ends.
+fn end_library<'m>(left: &mut Left, state: &mut State<'m>) -> Result<Next<'m>, NoMemory>
+    requires { IsNewest state.old.frames (frame_kind.End ending_kind.LibraryEnd) }
+    ensures { (s : StoreView) (k : ℕ) → StateOf s state.old → IfOk result (λ r. Follows s state.old (Gives (Goes []) (frames_of s state.old)) left.old k s state.new left.new k (focus_of r)) }
+{
+    drop_newest(&mut state.frames);
+    leave_call(state, left)?;
+    Ok(Next::GivesNone)
+}
+
 /// Nothing reaches the newest frame.
 pub fn end<'m, L: Ledger>(
     store: &mut Store,
@@ -60,6 +70,10 @@ pub fn end<'m, L: Ledger>(
         Waiting::Block(depth) => Ok(Some(end_block(state, depth))),
         Waiting::Body => {
             let next = end_body(left, state)?;
+            Ok(Some(next))
+        }
+        Waiting::Library => {
+            let next = end_library(left, state)?;
             Ok(Some(next))
         }
         Waiting::Repeats(depth, test, body) => Ok(Some(end_while(state, depth, test, body))),

@@ -4,6 +4,7 @@ ghost use Rattle.page_run.specs.Outcome.{Goes};
 ghost use Rattle.wk_base.specs.declared.left.Left.{Left as Allowance};
 ghost use Rattle.lua_heap.specs.Value.{Value as Plain};
 ghost use Rattle.lua_slots.specs.Points.{Gives};
+ghost use Rattle.lua_stack.specs.declared.frame.Ending.TheVariants as ending_kind;
 ghost use Rattle.lua_stack.specs.declared.frame.Frame.TheVariants as frame_kind;
 ghost use Rattle.lua_stack.specs.declared.frame.InAssignment.TheVariants as in_assignment;
 ghost use Rattle.lua_stack.specs.declared.frame.InExpression.TheVariants as in_expression;
@@ -13,7 +14,7 @@ ghost use Rattle.lua_state.specs.Seen.{frames_of};
 ghost use Rattle.lua_store.specs.Parts.{IsOf};
 ghost use Rattle.lua_store.specs.Seen.{StoreView, seen};
 ghost use Rattle.lua_strides.specs.Next.{focus_of};
-ghost use Rattle.lua_turns.specs.Rows.{Follows, IsNewest, MayFollow, MustFollow};
+ghost use Rattle.lua_turns.specs.Rows.{Follows, IsNewest, MayFollow};
 ghost use Rattle.lua_turns.specs.Waiting.{Waits};
 
 use crate::at_hand::next_of;
@@ -27,7 +28,7 @@ use crate::waiting::{Waiting, drop_newest, of_newest, swap_newest};
 use lua_code::{Expression, Operator, Statement};
 use lua_stack::opening::open;
 use lua_stack::{Found, Frame, InExpression, Setting};
-use lua_state::State;
+use lua_state::{State, leave_call};
 use lua_store::{Store, Value};
 use lua_strides::Next;
 use lua_strides::operators::operated;
@@ -47,7 +48,7 @@ pub fn go_on<'m>(state: &mut State<'m>, rest: &'m [Statement]) -> Next<'m>
 
 /// An operator has its first operand.
 fn take_operand<'m, L: Ledger>(
-    store: &mut Store,
+    store: &Store,
     left: &mut Left,
     state: &mut State<'m>,
     op: Operator,
@@ -55,11 +56,11 @@ fn take_operand<'m, L: Ledger>(
     line: u32,
     value: Value,
     turns: &mut Steps<L>,
-) -> Result<Option<Next<'m>>, NoMemory>
-    requires state { StateOf store.old state.old }
+) -> Next<'m>
+    requires state { StateOf store.now state.old }
     requires newest { IsNewest state.old.frames (frame_kind.Expression (in_expression.OperandNext op b line)) }
-    requires value { IsOf store.old value }
-    ensures { IfOk result (MustFollow store.old state.old (Gives (Goes (seen store.old.texts value ∷ [])) (frames_of store.old state.old)) left.old turns.old store.new state.new left.new turns.new) }
+    requires value { IsOf store.now value }
+    ensures { Follows store.now state.old (Gives (Goes (seen store.now.texts value ∷ [])) (frames_of store.now state.old)) left.old turns.old store.now state.new left.new turns.new (focus_of result) }
 {
     let frame = Frame::Expression(InExpression::OperateNow(op, value, line));
     swap_newest(&mut state.frames, frame);
@@ -132,12 +133,26 @@ fn declare<'m>(
 }
 
 /// The one target of an assignment has its value, which is still to be set.
-fn assign<'m>(state: &mut State<'m>, target: Found<'m>, value: Value) -> Next<'m>
+fn assign<'m>(state: &mut State<'m>, target: Found, value: Value) -> Next<'m>
     requires { IsNewest state.old.frames (frame_kind.Assignment (in_assignment.AssignNow (target ∷ []))) }
     ensures { (s : StoreView) (l : Allowance) (k : ℕ) → StateOf s state.old → IsOf s value → Follows s state.old (Gives (Goes (seen s.texts value ∷ [])) (frames_of s state.old)) l k s state.new l k (focus_of result) }
 {
     drop_newest(&mut state.frames);
     Next::Sets(Setting { target, value })
+}
+
+/// A function of the library has given its one value: its call ends.
+fn end_library<'m>(
+    left: &mut Left,
+    state: &mut State<'m>,
+    value: Value,
+) -> Result<Next<'m>, NoMemory>
+    requires { IsNewest state.old.frames (frame_kind.End ending_kind.LibraryEnd) }
+    ensures { (s : StoreView) (k : ℕ) → StateOf s state.old → IsOf s value → IfOk result (λ r. Follows s state.old (Gives (Goes (seen s.texts value ∷ [])) (frames_of s state.old)) left.old k s state.new left.new k (focus_of r)) }
+{
+    drop_newest(&mut state.frames);
+    leave_call(state, left)?;
+    Ok(Next::Gives(value))
 }
 
 /// A value reaches the newest frame, where that waits in an expression.
@@ -157,7 +172,8 @@ fn give_operand<'m, L: Ledger>(
 {
     match waits {
         Waiting::Operand(op, b, line) => {
-            take_operand(store, left, state, op, b, line, value, turns)
+            let next = take_operand(store, left, state, op, b, line, value, turns);
+            Ok(Some(next))
         }
         Waiting::Joins(a, line) => join(alloc, store, left, state, a, line, value),
         Waiting::Operates(op, a, line) => Ok(operate(store, state, op, a, line, value)),
@@ -166,7 +182,10 @@ fn give_operand<'m, L: Ledger>(
         Waiting::First => Ok(Some(give_first(state, value))),
         Waiting::Decides(deciding, b) => Ok(Some(decide(state, deciding, b, value))),
         Waiting::Applies(op, line) => Ok(apply(store, state, op, line, value)),
-        Waiting::Key(key, line) => take_of(store, left, state, key, line, value, turns),
+        Waiting::Key(key, line) => {
+            let next = take_of(store, left, state, key, line, value, turns);
+            Ok(Some(next))
+        }
         Waiting::Indexes(of, line) => Ok(take_key(store, left, state, of, line, value)),
         Waiting::Callee(arguments, line) => take_callee(
             alloc, store, left, state, arguments, line, value, turns,
@@ -202,6 +221,10 @@ pub fn give<'m, L: Ledger>(
         Waiting::Assigns(target) => Ok(Some(assign(state, target, value))),
         Waiting::Branches(body, more, other) => Ok(Some(choose(state, body, more, other, value))),
         Waiting::Tests(e, body) => Ok(take_test(left, state, e, body, value, turns)),
+        Waiting::Library => {
+            let next = end_library(left, state, value)?;
+            Ok(Some(next))
+        }
         _ => give_operand(alloc, store, left, state, waits, value, turns),
     }
 }

@@ -14,6 +14,7 @@
 //! - `beginning`: an expression or a `return` whose first operand is not read in place
 //! - `operands`: an expression that begins with its first operand
 //! - `statements`: statements whose expressions are not read in place
+//! - `entries`: an assignment to an entry whose value is not read in place
 //! - `deciding`: operands of `and`, `or`, and of operators with one operand
 //! - `joining`: two texts become one
 //! - `branching`: tests of `if` and `while`
@@ -32,6 +33,7 @@ pub mod counting;
 pub mod deciding;
 pub mod ending;
 pub mod entering;
+pub mod entries;
 pub mod giving;
 pub mod joining;
 pub mod leaving;
@@ -44,4 +46,4 @@ pub mod setting;
 pub mod statements;
 pub mod waiting;
 
-pub use rows::strides;
+pub use rows::{row, strides};

@@ -80,21 +80,20 @@ fn wait_for_item<'m, L: Ledger>(
 /// The values of the first expressions of a list, as long as they are read in place and their steps are left, go behind those before. The answer
 /// is what is left of the list, or nothing, where all of its values are there.
 fn read_front<'m, L: Ledger>(
-    store: &mut Store,
+    store: &Store,
     left: &mut Left,
     state: &State<'m>,
     expressions: &'m [Expression],
     before: &mut Values,
     turns: &mut Steps<L>,
 ) -> Result<Option<&'m [Expression]>, NoMemory>
-    requires state { StateOf store.old state.now }
-    requires before { ValuesOf store.old before.old }
-    ensures { IfOk result (λ r. Follows store.old state.now (Lists (expressions_seen expressions.now) (values_seen store.old.texts before.old) (frames_of store.old state.now)) left.old turns.old store.new state.now left.new turns.new (left_of r before.new)) }
+    requires state { StateOf store.now state.now }
+    requires before { ValuesOf store.now before.old }
+    ensures { IfOk result (λ r. Follows store.now state.now (Lists (expressions_seen expressions.now) (values_seen store.now.texts before.old) (frames_of store.now state.now)) left.old turns.old store.now state.now left.new turns.new (left_of r before.new)) }
 {
     let mut rest = Rest { items: expressions };
     'items: while let Some(front) = front_of(rest.items) {
-        let known = read(store, state, front.first, LEVELS)?;
-        match known {
+        match read(store, state, front.first, LEVELS) {
             Some(found) => {
                 if !pay_nodes(left, turns, found.nodes) {
                     return Ok(Some(rest.items));

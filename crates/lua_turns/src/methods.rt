@@ -12,10 +12,11 @@ ghost use Rattle.lua_stack.specs.declared.frame.InExpression.TheVariants as in_e
 ghost use Rattle.lua_stack.specs.Of.{EnvironmentOf};
 ghost use Rattle.lua_state.specs.Of.{StateOf};
 ghost use Rattle.lua_state.specs.Seen.{frames_of};
-ghost use Rattle.lua_store.specs.Parts.{IsOf, IsTableOf, IsTextOf};
-ghost use Rattle.lua_store.specs.Seen.{seen, text_at};
+ghost use Rattle.lua_store.specs.Parts.{IsOf, IsTableOf};
+ghost use Rattle.lua_store.specs.Seen.{seen};
+ghost use Rattle.lua_strides.specs.Next.{focus_of};
 ghost use Rattle.lua_turns.specs.Methods.{GivesBehind, PaysLink};
-ghost use Rattle.lua_turns.specs.Rows.{IsNewest, MayFollow, MustFollow};
+ghost use Rattle.lua_turns.specs.Rows.{Follows, IsNewest, MayFollow};
 
 use crate::at_hand::next_of;
 use crate::listing::list;
@@ -123,14 +124,13 @@ fn pay_link(left: &mut Left, linked: bool) -> bool
     true
 }
 
-/// The method of an object with this name is found, and its arguments are next.
-fn take_method<'m, L: Ledger>(
+/// The object of a method has its value: the method is found at once, and its arguments are next.
+pub fn take_object<'m, L: Ledger>(
     alloc: Global,
     store: &mut Store,
     left: &mut Left,
     state: &mut State<'m>,
-    key: TextId,
-    name: &'m [u8],
+    name: TextId,
     arguments: &'m List<Expression>,
     line: u32,
     object: Value,
@@ -138,12 +138,10 @@ fn take_method<'m, L: Ledger>(
 ) -> Result<Option<Next<'m>>, NoMemory>
     requires state { StateOf store.old state.old }
     requires newest { IsNewest state.old.frames (frame_kind.Expression (in_expression.MethodNext name arguments line)) }
-    requires key { IsTextOf store.old key }
-    requires name { text_at store.old.texts key.at ≡ name.now }
     requires object { IsOf store.old object }
     ensures { IfOk result (MayFollow store.old state.old (Gives (Goes (seen store.old.texts object ∷ [])) (frames_of store.old state.old)) left.old turns.old store.new state.new left.new turns.new) }
 {
-    match method_of(store, &state.env, object, Value::Text(key)) {
+    match method_of(store, &state.env, object, Value::Text(name)) {
         Some(method) => {
             if !pay_link(left, method.linked) {
                 return Ok(None);
@@ -166,43 +164,20 @@ fn take_method<'m, L: Ledger>(
     }
 }
 
-/// The object of a method has its value: the method is found at once, and its arguments are next.
-pub fn take_object<'m, L: Ledger>(
-    alloc: Global,
-    store: &mut Store,
-    left: &mut Left,
-    state: &mut State<'m>,
-    name: &'m [u8],
-    arguments: &'m List<Expression>,
-    line: u32,
-    object: Value,
-    turns: &mut Steps<L>,
-) -> Result<Option<Next<'m>>, NoMemory>
-    requires state { StateOf store.old state.old }
-    requires newest { IsNewest state.old.frames (frame_kind.Expression (in_expression.MethodNext name arguments line)) }
-    requires object { IsOf store.old object }
-    ensures { IfOk result (MayFollow store.old state.old (Gives (Goes (seen store.old.texts object ∷ [])) (frames_of store.old state.old)) left.old turns.old store.new state.new left.new turns.new) }
-{
-    let key = store.text(name)?;
-    take_method(
-        alloc, store, left, state, key, name, arguments, line, object, turns,
-    )
-}
-
 /// The object of an index has its value: its key is next.
 pub fn take_of<'m, L: Ledger>(
-    store: &mut Store,
+    store: &Store,
     left: &mut Left,
     state: &mut State<'m>,
     key: &'m Expression,
     line: u32,
     of: Value,
     turns: &mut Steps<L>,
-) -> Result<Option<Next<'m>>, NoMemory>
-    requires state { StateOf store.old state.old }
+) -> Next<'m>
+    requires state { StateOf store.now state.old }
     requires newest { IsNewest state.old.frames (frame_kind.Expression (in_expression.KeyNext key line)) }
-    requires of { IsOf store.old of }
-    ensures { IfOk result (MustFollow store.old state.old (Gives (Goes (seen store.old.texts of ∷ [])) (frames_of store.old state.old)) left.old turns.old store.new state.new left.new turns.new) }
+    requires of { IsOf store.now of }
+    ensures { Follows store.now state.old (Gives (Goes (seen store.now.texts of ∷ [])) (frames_of store.now state.old)) left.old turns.old store.now state.new left.new turns.new (focus_of result) }
 {
     let frame = InExpression::IndexNow(of, line);
     swap_newest(&mut state.frames, Frame::Expression(frame));

@@ -1,7 +1,7 @@
 //! Strides in a row.
 ghost use Rattle.std.specs.Prelude.{◌≡◌, ◌∷◌, [], map, option_map, IfOk};
 ghost use Rattle.lua_code.specs.Seen.{block_seen, branches_seen, expression_seen, expressions_seen, statement_seen, target_seen};
-ghost use Rattle.lua_slots.specs.Code.{AssignC, DeclareC, MoreC, NoC, ThenC};
+ghost use Rattle.lua_slots.specs.Code.{AssignC, DeclareC, GlobalTargetC, MoreC, NoC, ThenC};
 ghost use Rattle.lua_slots.specs.Points.{Evals, Runs};
 ghost use Rattle.lua_stack.specs.Of.{FocusOf};
 ghost use Rattle.lua_stack.specs.Seen.{focus_seen};
@@ -17,6 +17,7 @@ use crate::beginning::{begin_paren, begin_return};
 use crate::branching::front_branch;
 use crate::calling::call;
 use crate::ending::end;
+use crate::entries::begin_entry;
 use crate::giving::give;
 use crate::operands::{call_of, deciding, index, method, operator, unary};
 use crate::passing::pass;
@@ -26,7 +27,7 @@ use crate::statements::{
 };
 use lua_code::{Branch, Expression, Operator, Statement, Target};
 use lua_stack::{Focus, Found};
-use lua_state::State;
+use lua_state::{State, constant_at_hand};
 use lua_store::Store;
 use lua_strides::Next;
 use lua_strides::striding::{expression, front_of, only, statement};
@@ -55,9 +56,32 @@ fn begin_local<'m, L: Ledger>(
     }
 }
 
-/// An assignment of this value to this target begins, if that is a variable or a global variable.
+/// An assignment of this value to a global variable begins, if its name is held.
+fn begin_global<'m, L: Ledger>(
+    alloc: Global,
+    left: &mut Left,
+    state: &mut State<'m>,
+    name: u32,
+    line: u32,
+    value: &'m Expression,
+    rest: &'m [Statement],
+    turns: &mut Steps<L>,
+) -> Result<Option<Next<'m>>, NoMemory>
+    ensures { (s : StoreView) → StateOf s state.old → IfOk result (MayStride s state.old (Runs (ThenC (AssignC (GlobalTargetC name line ∷ []) (MoreC (expression_seen value.now) NoC)) (block_seen rest.now)) (frames_of s state.old)) left.old turns.old s state.new left.new turns.new) }
+{
+    match constant_at_hand(state, name) {
+        Some(text) => {
+            let found = Found::Global(text, line);
+            begin_assign(alloc, left, state, found, value, &[], rest, turns)
+        }
+        None => Ok(None),
+    }
+}
+
+/// An assignment of this value to this target begins, if no frame has to wait for a part of the target.
 fn begin_set<'m, L: Ledger>(
     alloc: Global,
+    store: &Store,
     left: &mut Left,
     state: &mut State<'m>,
     target: &'m Target,
@@ -65,7 +89,8 @@ fn begin_set<'m, L: Ledger>(
     rest: &'m [Statement],
     turns: &mut Steps<L>,
 ) -> Result<Option<Next<'m>>, NoMemory>
-    ensures { (s : StoreView) → StateOf s state.old → IfOk result (MayStride s state.old (Runs (ThenC (AssignC (target_seen target.now ∷ []) (MoreC (expression_seen value.now) NoC)) (block_seen rest.now)) (frames_of s state.old)) left.old turns.old s state.new left.new turns.new) }
+    requires { StateOf store.now state.old }
+    ensures { IfOk result (MayStride store.now state.old (Runs (ThenC (AssignC (target_seen target.now ∷ []) (MoreC (expression_seen value.now) NoC)) (block_seen rest.now)) (frames_of store.now state.old)) left.old turns.old store.now state.new left.new turns.new) }
 {
     match target {
         Target::Variable(place) => {
@@ -73,16 +98,20 @@ fn begin_set<'m, L: Ledger>(
             begin_assign(alloc, left, state, found, value, &[], rest, turns)
         }
         Target::Global(name, line) => {
-            let found = Found::Global(name.as_slice(), *line);
-            begin_assign(alloc, left, state, found, value, &[], rest, turns)
+            begin_global(alloc, left, state, *name, *line, value, rest, turns)
         }
-        _ => Ok(None),
+        Target::At(of, key, line) => {
+            let entry = (of, key, *line);
+            begin_entry(alloc, store, left, state, entry, value, &[], rest, turns)
+        }
+        Target::Refused => Ok(None),
     }
 }
 
 /// An assignment begins, if it has one target and one value.
 fn begin_assignment<'m, L: Ledger>(
     alloc: Global,
+    store: &Store,
     left: &mut Left,
     state: &mut State<'m>,
     targets: &'m [Target],
@@ -90,11 +119,12 @@ fn begin_assignment<'m, L: Ledger>(
     rest: &'m [Statement],
     turns: &mut Steps<L>,
 ) -> Result<Option<Next<'m>>, NoMemory>
-    ensures { (s : StoreView) → StateOf s state.old → IfOk result (MayStride s state.old (Runs (ThenC (AssignC (map target_seen targets.now) (expressions_seen values.now)) (block_seen rest.now)) (frames_of s state.old)) left.old turns.old s state.new left.new turns.new) }
+    requires { StateOf store.now state.old }
+    ensures { IfOk result (MayStride store.now state.old (Runs (ThenC (AssignC (map target_seen targets.now) (expressions_seen values.now)) (block_seen rest.now)) (frames_of store.now state.old)) left.old turns.old store.now state.new left.new turns.new) }
 {
     match only(targets) {
         Some(target) => match only(values) {
-            Some(value) => begin_set(alloc, left, state, target, value, rest, turns),
+            Some(value) => begin_set(alloc, store, left, state, target, value, rest, turns),
             None => Ok(None),
         },
         None => Ok(None),
@@ -126,13 +156,15 @@ fn begin_condition<'m, L: Ledger>(
 /// A statement that is not read in place begins, where its step is left.
 fn begin_statement<'m, L: Ledger>(
     alloc: Global,
+    store: &Store,
     left: &mut Left,
     state: &mut State<'m>,
     first: &'m Statement,
     rest: &'m [Statement],
     turns: &mut Steps<L>,
 ) -> Result<Option<Next<'m>>, NoMemory>
-    ensures { (s : StoreView) → StateOf s state.old → IfOk result (MayStride s state.old (Runs (statement_seen first.now (block_seen rest.now)) (frames_of s state.old)) left.old turns.old s state.new left.new turns.new) }
+    requires { StateOf store.now state.old }
+    ensures { IfOk result (MayStride store.now state.old (Runs (statement_seen first.now (block_seen rest.now)) (frames_of store.now state.old)) left.old turns.old store.now state.new left.new turns.new) }
 {
     match first {
         Statement::Return(values) => match only(values.as_slice()) {
@@ -150,7 +182,7 @@ fn begin_statement<'m, L: Ledger>(
         }
         Statement::Assign(targets, values) => {
             let (targets, values) = (targets.as_slice(), values.as_slice());
-            begin_assignment(alloc, left, state, targets, values, rest, turns)
+            begin_assignment(alloc, store, left, state, targets, values, rest, turns)
         }
         _ => Ok(None),
     }
@@ -172,7 +204,7 @@ fn execute<'m, L: Ledger>(
     let strode = statement(alloc, store, left, state, first, rest, turns)?;
     match strode {
         Some(next) => Ok(Some(next)),
-        None => begin_statement(alloc, left, state, first, rest, turns),
+        None => begin_statement(alloc, store, left, state, first, rest, turns),
     }
 }
 
@@ -237,8 +269,7 @@ fn begin_expression<'m, L: Ledger>(
             call_of(alloc, store, left, state, a, arguments, *line, turns)
         }
         Expression::Method(a, name, arguments, line) => {
-            let name = name.as_slice();
-            method(store, left, state, a, name, arguments, *line, turns)
+            method(store, left, state, a, *name, arguments, *line, turns)
         }
         _ => Ok(None),
     }
@@ -300,8 +331,8 @@ fn follow<'m, L: Ledger>(
     }
 }
 
-/// What follows in a row.
-fn row<'m, L: Ledger>(
+/// What follows this in a row: strides, as long as they can be made.
+pub fn row<'m, L: Ledger>(
     alloc: Global,
     store: &mut Store,
     left: &mut Left,

@@ -142,7 +142,7 @@ pub fn set<'m>(
     store: &mut Store,
     left: &mut Left,
     state: &mut State<'m>,
-    setting: &Setting<'m>,
+    setting: &Setting,
 ) -> Result<Option<Next<'m>>, NoMemory>
     requires state { StateOf store.old state.old }
     requires setting { SettingOf store.old setting.now }

@@ -4,11 +4,13 @@ ghost use Rattle.lua_code.specs.Seen.{block_seen, branches_seen, expression_seen
 ghost use Rattle.lua_slots.specs.Code.{ArmC, AssignC, CTarget, CallStatC, DeclareC, MoreC, NoC, ThenC, WhileC};
 ghost use Rattle.lua_slots.specs.Points.{Runs};
 ghost use Rattle.lua_stack.specs.declared.frame.Frame.TheVariants as frame_kind;
+ghost use Rattle.lua_stack.specs.declared.frame.InAssignment.TheVariants as in_assignment;
 ghost use Rattle.lua_stack.specs.declared.frame.InExpression.TheVariants as in_expression;
+ghost use Rattle.lua_stack.specs.declared.frame.InStatement.TheVariants as in_statement;
 ghost use Rattle.lua_stack.specs.Of.{FoundOf};
 ghost use Rattle.lua_stack.specs.Seen.{found_seen};
 ghost use Rattle.lua_state.specs.Of.{StateOf};
-ghost use Rattle.lua_state.specs.Seen.{frames_of};
+ghost use Rattle.lua_state.specs.Seen.{constants_in, frames_of};
 ghost use Rattle.lua_store.specs.Seen.{StoreView};
 ghost use Rattle.lua_strides.specs.Conditions.{if_seen};
 ghost use Rattle.lua_strides.specs.Strides.{MayStride};
@@ -127,8 +129,8 @@ pub fn begin_declare<'m, L: Ledger>(
 }
 
 /// A list of one target.
-fn one_target<'m>(alloc: Global, target: Found<'m>) -> Result<List<Found<'m>>, NoMemory>
-    ensures { IfOk result (λ list. list ≡ target.entry ∷ []) }
+fn one_target(alloc: Global, target: Found) -> Result<List<Found>, NoMemory>
+    ensures { IfOk result (λ list. list ≡ target ∷ []) }
 {
     let mut targets = Vec::new(alloc);
     match targets.push(target) {
@@ -137,30 +139,39 @@ fn one_target<'m>(alloc: Global, target: Found<'m>) -> Result<List<Found<'m>>, N
     }
 }
 
+/// One value is evaluated for this target, and then these statements follow. `none` is the end of the list of values.
+pub(crate) fn wait_to_assign<'m>(
+    alloc: Global,
+    frames: &mut Stack<Frame<'m>>,
+    target: Found,
+    none: &'m [Expression],
+    rest: &'m [Statement],
+) -> Result<(), NoMemory>
+    ensures { OnOk result (frames.new ≡ frame_kind.Expression (in_expression.MoreNext none.entry []) ∷ frame_kind.Assignment (in_assignment.AssignNow (target ∷ [])) ∷ frame_kind.Statement (in_statement.StatsNext rest.entry) ∷ frames.old) }
+{
+    let targets = one_target(alloc, target)?;
+    frames.push(Frame::Statement(InStatement::StatsNext(rest)))?;
+    frames.push(Frame::Assignment(InAssignment::AssignNow(targets)))?;
+    wait_for_one(alloc, frames, none)
+}
+
 /// An assignment of one value to a variable or a global variable begins, where its step is left. `none` is the end of its list.
 pub fn begin_assign<'m, L: Ledger>(
     alloc: Global,
     left: &mut Left,
     state: &mut State<'m>,
-    target: Found<'m>,
+    target: Found,
     value: &'m Expression,
     none: &'m [Expression],
     rest: &'m [Statement],
     turns: &mut Steps<L>,
 ) -> Result<Option<Next<'m>>, NoMemory>
     requires { none.now ≡ [] }
-    ensures { (s : StoreView) (c : CTarget) → StateOf s state.old → FoundOf s target.entry → IsFoundAt c (found_seen s.texts target.entry) → IfOk result (MayStride s state.old (Runs (ThenC (AssignC (c ∷ []) (MoreC (expression_seen value.now) NoC)) (block_seen rest.now)) (frames_of s state.old)) left.old turns.old s state.new left.new turns.new) }
+    ensures { (s : StoreView) (c : CTarget) → StateOf s state.old → FoundOf s target → IsFoundAt (constants_in s state.old) c (found_seen s.texts target) → IfOk result (MayStride s state.old (Runs (ThenC (AssignC (c ∷ []) (MoreC (expression_seen value.now) NoC)) (block_seen rest.now)) (frames_of s state.old)) left.old turns.old s state.new left.new turns.new) }
 {
     if !pay_nodes(left, turns, 1) {
         return Ok(None);
     }
-    let targets = one_target(alloc, target)?;
-    state
-        .frames
-        .push(Frame::Statement(InStatement::StatsNext(rest)))?;
-    state
-        .frames
-        .push(Frame::Assignment(InAssignment::AssignNow(targets)))?;
-    wait_for_one(alloc, &mut state.frames, none)?;
+    wait_to_assign(alloc, &mut state.frames, target, none, rest)?;
     Ok(Some(Next::Evaluates(value)))
 }

@@ -12,7 +12,7 @@ use lua_code::{Branch, Expression, Operator, Statement};
 use lua_stack::{
     Ending, Found, Frame, InAssignment, InExpression, InLoop, InStatement, Stack, Values,
 };
-use lua_store::Value;
+use lua_store::{TextId, Value};
 use lua_syntax::UnaryOp;
 use wk_base::List;
 
@@ -45,8 +45,8 @@ pub enum Waiting<'m> {
     Joins(Value, u32),
     /// A call, for what is called; its arguments are evaluated then.
     Callee(&'m List<Expression>, u32),
-    /// A call of the method of this name, for its object; its arguments are evaluated then.
-    Object(&'m [u8], &'m List<Expression>, u32),
+    /// A call of the method whose name has this text, for its object; its arguments are evaluated then.
+    Object(TextId, &'m List<Expression>, u32),
     /// A call of this value, for its arguments.
     Calls(Value, u32),
     /// A list with nothing before, for its last expression.
@@ -64,7 +64,7 @@ pub enum Waiting<'m> {
     /// An index of this object, for its key.
     Indexes(Value, u32),
     /// One target for its value.
-    Assigns(Found<'m>),
+    Assigns(Found),
     /// An `if` for a test, with what follows its `then`, the branches behind it, and the `else`.
     Branches(&'m List<Statement>, &'m [Branch], Option<&'m List<Statement>>),
     /// A `while` for its test.
@@ -75,6 +75,8 @@ pub enum Waiting<'m> {
     Block(usize),
     /// The end of a function's body.
     Body,
+    /// The end of a function of the library.
+    Library,
     /// The end of a turn.
     Counts(Count<'m>),
     /// Another frame, or none.
@@ -88,6 +90,7 @@ fn of_ending<'m>(ending: &Ending<'m>) -> Waiting<'m>
     match ending {
         Ending::BlockEnd(depth) => Waiting::Block(*depth),
         Ending::BodyEnd => Waiting::Body,
+        Ending::LibraryEnd => Waiting::Library,
         Ending::WhileEnd(depth, test, body) => Waiting::Repeats(*depth, *test, *body),
         Ending::CountEnd(depth, boxed, index, limit, step, body) => Waiting::Counts(Count {
             depth: *depth,
@@ -154,7 +157,7 @@ fn of_statement<'m>(frame: &InStatement<'m>) -> Waiting<'m>
 }
 
 /// The one target of an assignment that has just one.
-fn of_targets<'m>(targets: &List<Found<'m>>) -> Waiting<'m>
+fn of_targets<'m>(targets: &List<Found>) -> Waiting<'m>
     ensures { (fs : Items FrameValue) → IsNewest fs (frame_kind.Assignment (in_assignment.AssignNow targets.now)) → Waits fs result }
 {
     match targets.as_slice() {

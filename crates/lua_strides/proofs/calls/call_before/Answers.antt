@@ -1,7 +1,7 @@
 use Rattle.std.proofs.Common.{◌+◌, refl, ◌∷◌, arith}
 use Rattle.page_run.specs.Outcome.{Goes}
 use Rattle.lua_code.specs.Seen.{expression_seen, expressions_seen, block_seen}
-use Rattle.lua_slots.specs.Code.{CallC, CallStatC, ThenC}
+use Rattle.lua_slots.specs.Code.{CallC, CallStatC, ThenC, CWorld}
 use Rattle.lua_slots.specs.Points.{CallNow, StatsNext, Gives, Runs}
 use Rattle.lua_in_place.proofs.Statements.{call_stated}
 use Rattle.lua_store.specs.Seen.{seen}
@@ -12,26 +12,27 @@ use Rattle.lua_stack.specs.declared.frame.InStatement.TheVariants as in_statemen
 use Rattle.lua_stack.specs.declared.values.Given.TheVariants as given
 use Rattle.lua_stack.specs.Seen.{values_seen}
 use Rattle.lua_state.specs.Seen.{slots_of, frames_of}
-use Rattle.lua_strides.proofs.Paths.{ready, at_once, frames_kept, idle, unpaid}
+use Rattle.lua_state.specs.Worlds.{world_seen}
+use Rattle.lua_strides.proofs.Paths.{ready, at_once, idle_here, unpaid}
 use Rattle.lua_strides.proofs.calls.call_before.Goals as goal
 
 pub returns-then-not-pay_nodes : goal.returns-then-not-pay_nodes
-returns-then-not-pay_nodes g c = unpaid c.args.store.now c.read_call.new.store c.args.state.now (1 + (1 + (c.in-Some.called.nodes + c.in-Some.arguments.nodes))) c.args.left.now c.pay_nodes.new.left c.args.turns.now c.pay_nodes.new.turns c.in_ok-known.ensures.later c.in_ok-known.ensures.heap c.if-not-pay_nodes.ensures
+returns-then-not-pay_nodes g c = unpaid c.args.store.now c.args.state.now (1 + (1 + (c.in-Some.called.nodes + c.in-Some.arguments.nodes))) c.args.left.now c.pay_nodes.new.left c.args.turns.now c.pay_nodes.new.turns c.if-not-pay_nodes.ensures
 
 pub returns-else-not-pay_nodes : goal.returns-else-not-pay_nodes
 returns-else-not-pay_nodes g c =
     let k = rw c.in-Some.is at c.in_ok-known.ensures in
     let s = c.args.store.now in
-    let t = c.read_call.new.store in
     let m = c.args.state.now in
+    let world : CWorld = world_seen m.codes.world in
     let f = c.in-Some.called in
     let args = c.in-Some.arguments in
     let n = 1 + (1 + (f.nodes + args.nodes)) in
-    c.wait_within.ensures s t (Runs (ThenC (CallStatC (CallC (expression_seen c.args.called.now) (expressions_seen c.args.arguments.now) c.args.line)) (block_seen c.args.rest.now)) (frames_of s m)) n c.args.left.now c.pay_nodes.new.left c.args.turns.now c.pay_nodes.new.turns
-    (ready s m _ n t (focus.Gives (given.Many args.values)) (frame.Expression (in_expression.CallNow f.value c.args.line) ∷ frame.Statement (in_statement.StatsNext c.args.rest) ∷ m.frames)
-    (λ fs. Gives (Goes (values_seen t.texts args.values)) (CallNow (seen t.texts f.value) c.args.line ∷ StatsNext (block_seen c.args.rest.now) ∷ fs))
-    c.requires k.later k.heap k.read.1.of (k.read.0.of, (tt, frames_kept s t m c.requires k.later)) (omega arith)
-    (λ world. at_once world _ (slots_of s m) n _ (slots_of s m) (call_stated world (slots_of s m) (expression_seen c.args.called.now) (expressions_seen c.args.arguments.now) c.args.line (seen t.texts f.value) (values_seen t.texts args.values) f.nodes args.nodes k.read.0.is k.read.1.is (block_seen c.args.rest.now) (frames_of s m))) refl) c.if-not-pay_nodes.ensures
+    c.wait_within.ensures s (Runs (ThenC (CallStatC (CallC (expression_seen c.args.called.now) (expressions_seen c.args.arguments.now) c.args.line)) (block_seen c.args.rest.now)) (frames_of s m)) n c.args.left.now c.pay_nodes.new.left c.args.turns.now c.pay_nodes.new.turns
+    (ready s m _ n (focus.Gives (given.Many args.values)) (frame.Expression (in_expression.CallNow f.value c.args.line) ∷ frame.Statement (in_statement.StatsNext c.args.rest) ∷ m.frames)
+    (λ fs. Gives (Goes (values_seen s.texts args.values)) (CallNow (seen s.texts f.value) c.args.line ∷ StatsNext (block_seen c.args.rest.now) ∷ fs))
+    c.requires k.1.of (k.0.of, (tt, c.requires.frames)) (omega arith)
+    (at_once world _ (slots_of s m) n _ (slots_of s m) (call_stated world (slots_of s m) (expression_seen c.args.called.now) (expressions_seen c.args.arguments.now) c.args.line (seen s.texts f.value) (values_seen s.texts args.values) f.nodes args.nodes k.0.is k.1.is (block_seen c.args.rest.now) (frames_of s m))) refl) c.if-not-pay_nodes.ensures
 
 pub returns-in-None : goal.returns-in-None
-returns-in-None g c = idle c.args.store.now c.read_call.new.store c.args.state.now c.args.left.now c.args.turns.now c.in_ok-known.ensures.later c.in_ok-known.ensures.heap
+returns-in-None g c = idle_here c.args.store.now c.args.state.now c.args.left.now c.args.turns.now

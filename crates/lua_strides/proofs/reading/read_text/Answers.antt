@@ -1,11 +1,9 @@
 use Rattle.std.proofs.Common.{ap, sym, Some}
 use Rattle.lua_heap.specs.Value.{Text}
-use Rattle.lua_store.specs.Seen.{StoreView}
+use Rattle.lua_state.specs.Seen.{constants_in}
 use Rattle.lua_strides.proofs.reading.read_text.Goals as goal
 
-pub returns : goal.returns
-returns c = record {
-  later = c.in_ok-text.ensures.later;
-  heap = ap (λ (x : StoreView). x.heap) c.in_ok-text.ensures.added;
-  read = c.read_with.ensures c.text.new.self (Some (Text c.args.bytes.now)) (c.in_ok-text.ensures.of, ap (λ b. Some (Text b)) (sym c.in_ok-text.ensures.there));
-}
+pub returns-in-Some : goal.returns-in-Some
+returns-in-Some c s of =
+    let known = rw c.in-Some.is at (c.constant_at_hand.ensures s of) in
+    c.read_with.ensures s (Some (Text (constants_in s c.args.state.now c.args.number))) (known.of, ap (λ b. Some (Text b)) (sym known.is))

@@ -1,7 +1,7 @@
 use Rattle.std.proofs.Common.{◌∙◌, ap, sym}
 use Rattle.std.specs.Option.{option_copied}
 use Rattle.lua_slots.specs.Slots.{Activation}
-use Rattle.lua_strides.proofs.Newest.{found, found_of, absent}
+use Rattle.lua_state.proofs.Newest.{found, found_of, absent}
 use Rattle.lua_strides.proofs.running.running_closure.Goals as goal
 
 pub returns-in-Some-clause-of : goal.returns-in-Some-clause-of

@@ -1,39 +1,40 @@
 use Rattle.std.proofs.Common.{◌+◌, refl, arith}
 use Rattle.lua_code.specs.Seen.{expression_seen, block_seen, place_seen}
+use Rattle.lua_slots.specs.Code.{CWorld}
 use Rattle.lua_slots.specs.Slots.{write_place}
 use Rattle.lua_slots.specs.Points.{Runs}
 use Rattle.lua_in_place.proofs.Statements.{assigned}
 use Rattle.lua_store.specs.Seen.{seen}
 use Rattle.lua_stack.specs.declared.focus.Focus.TheVariants as focus
 use Rattle.lua_state.specs.Seen.{slots_of, frames_of}
-use Rattle.lua_state.proofs.Staying.{state_later, slots_same}
-use Rattle.lua_strides.proofs.Paths.{at_once, idle, unpaid}
+use Rattle.lua_state.specs.Worlds.{world_seen}
+use Rattle.lua_strides.proofs.Paths.{at_once, idle_here, unpaid}
 use Rattle.lua_strides.proofs.Written.{strode_changed, writes_at}
 use Rattle.lua_strides.proofs.statements.assign.Goals as goal
 
 pub write-requires-clause-registers : goal.write-requires-clause-registers
-write-requires-clause-registers g c = (state_later c.args.store.now c.read.new.store c.in_ok-known.ensures.later c.args.state.now c.requires).regs
+write-requires-clause-registers g c = c.requires.regs
 
 pub write-requires-clause-closure : goal.write-requires-clause-closure
-write-requires-clause-closure g c = c.running_closure-closure.ensures.of c.read.new.store (state_later c.args.store.now c.read.new.store c.in_ok-known.ensures.later c.args.state.now c.requires).functions
+write-requires-clause-closure g c = c.running_closure-closure.ensures.of c.args.store.now c.requires.functions
 
 pub write-requires-clause-value : goal.write-requires-clause-value
-write-requires-clause-value g c = (rw c.in-Some.is at c.in_ok-known.ensures).read.of
+write-requires-clause-value g c = (rw c.in-Some.is at c.read.ensures).of
 
 pub returns-then-not-pay_nodes : goal.returns-then-not-pay_nodes
-returns-then-not-pay_nodes g c = unpaid c.args.store.now c.read.new.store c.args.state.now (1 + c.in-Some.found.nodes) c.args.left.now c.pay_nodes.new.left c.args.turns.now c.pay_nodes.new.turns c.in_ok-known.ensures.later c.in_ok-known.ensures.heap c.if-not-pay_nodes.ensures
+returns-then-not-pay_nodes g c = unpaid c.args.store.now c.args.state.now (1 + c.in-Some.found.nodes) c.args.left.now c.pay_nodes.new.left c.args.turns.now c.pay_nodes.new.turns c.if-not-pay_nodes.ensures
 
 pub returns-else-not-pay_nodes : goal.returns-else-not-pay_nodes
 returns-else-not-pay_nodes g c =
-    let k = rw c.in-Some.is at c.in_ok-known.ensures in
+    let k = rw c.in-Some.is at c.read.ensures in
     let s = c.args.store.now in
-    let t = c.read.new.store in
     let m = c.args.state.now in
-    let v = seen t.texts c.in-Some.found.value in
-    strode_changed s t c.write.new.store m c.write.new.regs _ (1 + c.in-Some.found.nodes) (focus.Runs c.args.rest) (λ fs. Runs (block_seen c.args.rest.now) fs) _ (write_place (slots_of s m) (place_seen c.args.place) v) c.args.left.now c.pay_nodes.new.left c.args.turns.now c.pay_nodes.new.turns
-    c.requires k.later k.heap c.write.ensures.later c.write.ensures.of tt (omega arith) c.if-not-pay_nodes.ensures
-    (λ world. at_once world _ (slots_of s m) _ _ _ (assigned world (slots_of s m) (place_seen c.args.place) (expression_seen c.args.value.now) v c.in-Some.found.nodes k.read.is (block_seen c.args.rest.now) (frames_of s m))) (λ fs. refl)
-    c.write.ensures.written (writes_at (slots_of t m) (slots_of s m) _ (place_seen c.args.place) v (c.running_closure-closure.ensures.cells t) (slots_same s t k.later m c.requires k.heap))
+    let world : CWorld = world_seen m.codes.world in
+    let v = seen s.texts c.in-Some.found.value in
+    strode_changed s c.write.new.store m c.write.new.regs _ (1 + c.in-Some.found.nodes) (focus.Runs c.args.rest) (λ fs. Runs (block_seen c.args.rest.now) fs) _ (write_place (slots_of s m) (place_seen c.args.place) v) c.args.left.now c.pay_nodes.new.left c.args.turns.now c.pay_nodes.new.turns
+    c.requires c.write.ensures.later c.write.ensures.of tt (omega arith) c.if-not-pay_nodes.ensures
+    (at_once world _ (slots_of s m) _ _ _ (assigned world (slots_of s m) (place_seen c.args.place) (expression_seen c.args.value.now) v c.in-Some.found.nodes k.is (block_seen c.args.rest.now) (frames_of s m))) (λ fs. refl)
+    c.write.ensures.written (writes_at (slots_of s m) _ (place_seen c.args.place) v (c.running_closure-closure.ensures.cells s))
 
 pub returns-in-None : goal.returns-in-None
-returns-in-None g c = idle c.args.store.now c.read.new.store c.args.state.now c.args.left.now c.args.turns.now c.in_ok-known.ensures.later c.in_ok-known.ensures.heap
+returns-in-None g c = idle_here c.args.store.now c.args.state.now c.args.left.now c.args.turns.now

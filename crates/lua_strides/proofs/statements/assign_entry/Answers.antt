@@ -1,6 +1,6 @@
 use Rattle.std.proofs.Common.{◌+◌, refl, [], ◌∷◌, arith}
 use Rattle.lua_code.specs.Seen.{expression_seen, block_seen}
-use Rattle.lua_slots.specs.Code.{AssignC, EntryC, MoreC, NoC, ThenC}
+use Rattle.lua_slots.specs.Code.{AssignC, EntryC, MoreC, NoC, ThenC, CWorld}
 use Rattle.lua_slots.specs.Points.{EntryS, StatsNext, Runs, Sets}
 use Rattle.lua_in_place.proofs.Statements.{entry_found}
 use Rattle.lua_store.specs.Seen.{seen}
@@ -10,29 +10,30 @@ use Rattle.lua_stack.specs.declared.frame.Found.TheVariants as found
 use Rattle.lua_stack.specs.declared.frame.Setting.{Setting}
 use Rattle.lua_stack.specs.declared.frame.InStatement.TheVariants as in_statement
 use Rattle.lua_state.specs.Seen.{slots_of, frames_of}
-use Rattle.lua_strides.proofs.Paths.{ready, at_once, frames_kept, idle, unpaid}
+use Rattle.lua_state.specs.Worlds.{world_seen}
+use Rattle.lua_strides.proofs.Paths.{ready, at_once, idle_here, unpaid}
 use Rattle.lua_strides.proofs.statements.assign_entry.Goals as goal
 
 pub returns-then-not-pay_nodes : goal.returns-then-not-pay_nodes
-returns-then-not-pay_nodes g c = unpaid c.args.store.now c.read_entry.new.store c.args.state.now (1 + (1 + (c.in-Some.found.of.nodes + (c.in-Some.found.key.nodes + c.in-Some.found.value.nodes)))) c.args.left.now c.pay_nodes.new.left c.args.turns.now c.pay_nodes.new.turns c.in_ok-known.ensures.later c.in_ok-known.ensures.heap c.if-not-pay_nodes.ensures
+returns-then-not-pay_nodes g c = unpaid c.args.store.now c.args.state.now (1 + (1 + (c.in-Some.found.of.nodes + (c.in-Some.found.key.nodes + c.in-Some.found.value.nodes)))) c.args.left.now c.pay_nodes.new.left c.args.turns.now c.pay_nodes.new.turns c.if-not-pay_nodes.ensures
 
 pub returns-else-not-pay_nodes : goal.returns-else-not-pay_nodes
 returns-else-not-pay_nodes g c =
-    let k = rw c.in-Some.is at c.in_ok-known.ensures in
+    let k = rw c.in-Some.is at c.read_entry.ensures in
     let s = c.args.store.now in
-    let t = c.read_entry.new.store in
     let m = c.args.state.now in
+    let world : CWorld = world_seen m.codes.world in
     let o = c.in-Some.found.of in
     let key = c.in-Some.found.key in
     let v = c.in-Some.found.value in
     let line = c.args.target.2 in
     let n = 1 + (1 + (o.nodes + (key.nodes + v.nodes))) in
     let pair : Setting = record { target = found.At o.value key.value line; value = v.value } in
-    c.wait_for.ensures s t (Runs (ThenC (AssignC (EntryC (expression_seen c.args.target.0.now) (expression_seen c.args.target.1.now) line ∷ []) (MoreC (expression_seen c.args.value.now) NoC)) (block_seen c.args.rest.now)) (frames_of s m)) n c.args.left.now c.pay_nodes.new.left c.args.turns.now c.pay_nodes.new.turns
-    (ready s m _ n t (focus.Sets (pair ∷ [])) (frame.Statement (in_statement.StatsNext c.args.rest) ∷ m.frames) (λ fs. Sets ((EntryS (seen t.texts o.value) (seen t.texts key.value) line, seen t.texts v.value) ∷ []) (StatsNext (block_seen c.args.rest.now) ∷ fs))
-    c.requires k.later k.heap (((k.read.0.of, k.read.1.of), k.read.2.of), tt) (tt, frames_kept s t m c.requires k.later) (omega arith)
-    (λ world. at_once world _ (slots_of s m) n _ (slots_of s m) (entry_found world (slots_of s m) (expression_seen c.args.target.0.now) (expression_seen c.args.target.1.now) (expression_seen c.args.value.now) line (seen t.texts o.value) (seen t.texts key.value) (seen t.texts v.value) o.nodes key.nodes v.nodes
-    k.read.0.is k.read.1.is k.read.2.is (block_seen c.args.rest.now) (frames_of s m))) refl) c.if-not-pay_nodes.ensures
+    c.wait_for.ensures s (Runs (ThenC (AssignC (EntryC (expression_seen c.args.target.0.now) (expression_seen c.args.target.1.now) line ∷ []) (MoreC (expression_seen c.args.value.now) NoC)) (block_seen c.args.rest.now)) (frames_of s m)) n c.args.left.now c.pay_nodes.new.left c.args.turns.now c.pay_nodes.new.turns
+    (ready s m _ n (focus.Sets (pair ∷ [])) (frame.Statement (in_statement.StatsNext c.args.rest) ∷ m.frames) (λ fs. Sets ((EntryS (seen s.texts o.value) (seen s.texts key.value) line, seen s.texts v.value) ∷ []) (StatsNext (block_seen c.args.rest.now) ∷ fs))
+    c.requires (((k.0.of, k.1.of), k.2.of), tt) (tt, c.requires.frames) (omega arith)
+    (at_once world _ (slots_of s m) n _ (slots_of s m) (entry_found world (slots_of s m) (expression_seen c.args.target.0.now) (expression_seen c.args.target.1.now) (expression_seen c.args.value.now) line (seen s.texts o.value) (seen s.texts key.value) (seen s.texts v.value) o.nodes key.nodes v.nodes
+    k.0.is k.1.is k.2.is (block_seen c.args.rest.now) (frames_of s m))) refl) c.if-not-pay_nodes.ensures
 
 pub returns-in-None : goal.returns-in-None
-returns-in-None g c = idle c.args.store.now c.read_entry.new.store c.args.state.now c.args.left.now c.args.turns.now c.in_ok-known.ensures.later c.in_ok-known.ensures.heap
+returns-in-None g c = idle_here c.args.store.now c.args.state.now c.args.left.now c.args.turns.now

@@ -1,30 +1,32 @@
 use Rattle.std.proofs.Common.{refl, [], ◌∷◌}
 use Rattle.page_run.specs.Outcome.{Goes}
 use Rattle.lua_code.specs.Seen.{expression_seen}
+use Rattle.lua_slots.specs.Code.{CWorld}
 use Rattle.lua_slots.specs.Points.{Evals, Gives}
 use Rattle.lua_in_place.proofs.Nodes.{nodes_are_some}
 use Rattle.lua_in_place.proofs.Reading.{read_in_place}
 use Rattle.lua_store.specs.Seen.{seen}
 use Rattle.lua_stack.specs.declared.focus.Focus.TheVariants as focus
 use Rattle.lua_stack.specs.declared.values.Given.TheVariants as given
-use Rattle.lua_state.specs.Seen.{slots_of, frames_of}
-use Rattle.lua_strides.proofs.Paths.{ready, frames_kept, idle, strode, unpaid}
+use Rattle.lua_state.specs.Seen.{slots_of, frames_of, constants_in}
+use Rattle.lua_state.specs.Worlds.{world_seen}
+use Rattle.lua_strides.proofs.Paths.{ready, idle_here, strode, unpaid}
 use Rattle.lua_strides.proofs.striding.give_value.Goals as goal
 
 pub returns-then-not-pay_nodes : goal.returns-then-not-pay_nodes
-returns-then-not-pay_nodes g c = unpaid c.args.store.now c.read.new.store c.args.state.now c.in-Some.found.nodes c.args.left.now c.pay_nodes.new.left c.args.turns.now c.pay_nodes.new.turns c.in_ok-known.ensures.later c.in_ok-known.ensures.heap c.if-not-pay_nodes.ensures
+returns-then-not-pay_nodes g c = unpaid c.args.store.now c.args.state.now c.in-Some.found.nodes c.args.left.now c.pay_nodes.new.left c.args.turns.now c.pay_nodes.new.turns c.if-not-pay_nodes.ensures
 
 pub returns-else-not-pay_nodes : goal.returns-else-not-pay_nodes
 returns-else-not-pay_nodes g c =
-    let k = rw c.in-Some.is at c.in_ok-known.ensures in
+    let k = rw c.in-Some.is at c.read.ensures in
     let s = c.args.store.now in
-    let t = c.read.new.store in
     let m = c.args.state.now in
+    let world : CWorld = world_seen m.codes.world in
     let e = expression_seen c.args.e.now in
-    strode s m (Evals e (frames_of s m)) c.in-Some.found.nodes t (focus.Gives (given.One c.in-Some.found.value)) m.frames c.args.left.now c.pay_nodes.new.left c.args.turns.now c.pay_nodes.new.turns
-    (ready s m _ c.in-Some.found.nodes t (focus.Gives (given.One c.in-Some.found.value)) m.frames (λ fs. Gives (Goes (seen t.texts c.in-Some.found.value ∷ [])) fs) c.requires k.later k.heap (k.read.of, tt) (frames_kept s t m c.requires k.later)
-    (nodes_are_some e (slots_of s m) (seen t.texts c.in-Some.found.value) c.in-Some.found.nodes k.read.is)
-    (λ world f le. read_in_place world e (slots_of s m) (seen t.texts c.in-Some.found.value) c.in-Some.found.nodes k.read.is (frames_of s m) f le) refl) c.if-not-pay_nodes.ensures
+    strode s m (Evals e (frames_of s m)) c.in-Some.found.nodes (focus.Gives (given.One c.in-Some.found.value)) m.frames c.args.left.now c.pay_nodes.new.left c.args.turns.now c.pay_nodes.new.turns
+    (ready s m _ c.in-Some.found.nodes (focus.Gives (given.One c.in-Some.found.value)) m.frames (λ fs. Gives (Goes (seen s.texts c.in-Some.found.value ∷ [])) fs) c.requires (k.of, tt) c.requires.frames
+    (nodes_are_some (constants_in s m) e (slots_of s m) (seen s.texts c.in-Some.found.value) c.in-Some.found.nodes k.is)
+    (λ f le. read_in_place world e (slots_of s m) (seen s.texts c.in-Some.found.value) c.in-Some.found.nodes k.is (frames_of s m) f le) refl) c.if-not-pay_nodes.ensures
 
 pub returns-in-None : goal.returns-in-None
-returns-in-None g c = idle c.args.store.now c.read.new.store c.args.state.now c.args.left.now c.args.turns.now c.in_ok-known.ensures.later c.in_ok-known.ensures.heap
+returns-in-None g c = idle_here c.args.store.now c.args.state.now c.args.left.now c.args.turns.now

@@ -10,13 +10,13 @@ pub returns-in-Declare : goal.returns-in-Declare
 returns-in-Declare g c = rw (c.in-Declare.is, statement-Declare) (rw (c.as_slice-flags.ensures, c.as_slice-values-in-Declare.ensures) at c.declare_only.ensures)
 
 pub returns-in-Return : goal.returns-in-Return
-returns-in-Return g c = rw (c.in-Return.is, statement-Return) (rw c.as_slice.ensures at c.return_only.ensures)
+returns-in-Return g c = rw (c.in-Return.is, statement-Return) (rw c.as_slice-values-in-Return.ensures at c.return_only.ensures)
 
 pub returns-in-Call : goal.returns-in-Call
 returns-in-Call g c = rw (c.in-Call.is, statement-Call) c.call_only.ensures
 
 pub returns-in-If : goal.returns-in-If
-returns-in-If g c = rw (c.in-If.is, if_opens) (rw c.as_slice-in-If.ensures at c.condition.ensures)
+returns-in-If g c = rw (c.in-If.is, if_opens) (rw c.as_slice-branches.ensures at c.condition.ensures)
 
 pub returns-in_default : goal.returns-in_default
 returns-in_default g c = idle_here c.args.store.now c.args.state.now c.args.left.now c.args.turns.now

@@ -1,21 +1,20 @@
-use Rattle.std.proofs.Common.{refl}
 use Rattle.lua_code.specs.Seen.{expression_seen}
 use Rattle.lua_slots.specs.Points.{Evals}
-use Rattle.lua_store.proofs.Later.{later-itself}
 use Rattle.lua_stack.specs.declared.focus.Focus.TheVariants as focus
 use Rattle.lua_stack.specs.declared.frame.Frame.TheVariants as frame
 use Rattle.lua_stack.specs.declared.frame.InExpression.TheVariants as in_expression
 use Rattle.lua_state.specs.Seen.{slots_of, frames_of}
+use Rattle.lua_state.specs.Worlds.{world_seen}
 use Rattle.lua_strides.proofs.Paths.{unpaid}
 use Rattle.lua_turns.specs.Deciding.{deciding_with}
 use Rattle.lua_turns.proofs.Begun.{begun, decides_begins}
 use Rattle.lua_turns.proofs.beginning.begin_deciding.Goals as goal
 
 pub returns-then-not-pay_nodes : goal.returns-then-not-pay_nodes
-returns-then-not-pay_nodes g c = λ s of. unpaid s s c.args.state.now 1 c.args.left.now c.pay_nodes.new.left c.args.turns.now c.pay_nodes.new.turns (later-itself s) refl c.if-not-pay_nodes.ensures
+returns-then-not-pay_nodes g c = λ s of. unpaid s c.args.state.now 1 c.args.left.now c.pay_nodes.new.left c.args.turns.now c.pay_nodes.new.turns c.if-not-pay_nodes.ensures
 
 pub returns : goal.returns
 returns g c = λ s of.
     let p = Evals (deciding_with c.args.deciding (expression_seen c.args.a.now) (expression_seen c.args.b.now)) (frames_of s c.args.state.now) in
-    c.wait_for.ensures s s p 1 c.args.left.now c.pay_nodes.new.left c.args.turns.now c.pay_nodes.new.turns
-    (begun s c.args.state.now p (focus.Evaluates c.args.a) (frame.Expression (in_expression.DecideNext c.args.deciding c.args.b)) of tt tt (λ world. decides_begins world c.args.deciding (expression_seen c.args.a.now) (expression_seen c.args.b.now) (frames_of s c.args.state.now) (slots_of s c.args.state.now))) c.if-not-pay_nodes.ensures
+    c.wait_for.ensures s p 1 c.args.left.now c.pay_nodes.new.left c.args.turns.now c.pay_nodes.new.turns
+    (begun s c.args.state.now p (focus.Evaluates c.args.a) (frame.Expression (in_expression.DecideNext c.args.deciding c.args.b)) of tt tt (decides_begins (world_seen c.args.state.now.codes.world) c.args.deciding (expression_seen c.args.a.now) (expression_seen c.args.b.now) (frames_of s c.args.state.now) (slots_of s c.args.state.now))) c.if-not-pay_nodes.ensures

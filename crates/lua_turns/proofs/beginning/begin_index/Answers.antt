@@ -2,7 +2,6 @@ use Rattle.std.proofs.Common.{refl}
 use Rattle.lua_code.specs.Seen.{expression_seen}
 use Rattle.lua_slots.specs.Code.{IndexC}
 use Rattle.lua_slots.specs.Points.{Evals}
-use Rattle.lua_store.proofs.Later.{later-itself}
 use Rattle.lua_stack.specs.declared.focus.Focus.TheVariants as focus
 use Rattle.lua_stack.specs.declared.frame.Frame.TheVariants as frame
 use Rattle.lua_stack.specs.declared.frame.InExpression.TheVariants as in_expression
@@ -12,10 +11,10 @@ use Rattle.lua_turns.proofs.Begun.{begun}
 use Rattle.lua_turns.proofs.beginning.begin_index.Goals as goal
 
 pub returns-then-not-pay_nodes : goal.returns-then-not-pay_nodes
-returns-then-not-pay_nodes g c = λ s of. unpaid s s c.args.state.now 1 c.args.left.now c.pay_nodes.new.left c.args.turns.now c.pay_nodes.new.turns (later-itself s) refl c.if-not-pay_nodes.ensures
+returns-then-not-pay_nodes g c = λ s of. unpaid s c.args.state.now 1 c.args.left.now c.pay_nodes.new.left c.args.turns.now c.pay_nodes.new.turns c.if-not-pay_nodes.ensures
 
 pub returns : goal.returns
 returns g c = λ s of.
     let p = Evals (IndexC (expression_seen c.args.of.now) (expression_seen c.args.key.now) c.args.line) (frames_of s c.args.state.now) in
-    c.wait_for.ensures s s p 1 c.args.left.now c.pay_nodes.new.left c.args.turns.now c.pay_nodes.new.turns
-    (begun s c.args.state.now p (focus.Evaluates c.args.of) (frame.Expression (in_expression.KeyNext c.args.key c.args.line)) of tt tt (λ world. refl)) c.if-not-pay_nodes.ensures
+    c.wait_for.ensures s p 1 c.args.left.now c.pay_nodes.new.left c.args.turns.now c.pay_nodes.new.turns
+    (begun s c.args.state.now p (focus.Evaluates c.args.of) (frame.Expression (in_expression.KeyNext c.args.key c.args.line)) of tt tt refl) c.if-not-pay_nodes.ensures

@@ -1,21 +1,25 @@
-use Rattle.std.proofs.Common.{refl}
+use Rattle.std.proofs.Common.{sym, ap, ◌∷◌, List, ℕ}
 use Rattle.lua_code.specs.Seen.{expression_seen, expressions_seen}
 use Rattle.lua_slots.specs.Code.{MethodC}
-use Rattle.lua_slots.specs.Points.{Evals}
-use Rattle.lua_store.proofs.Later.{later-itself}
+use Rattle.lua_slots.specs.Errors.{node}
+use Rattle.lua_slots.specs.Points.{MethodNext, Evals, Now}
 use Rattle.lua_stack.specs.declared.focus.Focus.TheVariants as focus
 use Rattle.lua_stack.specs.declared.frame.Frame.TheVariants as frame
 use Rattle.lua_stack.specs.declared.frame.InExpression.TheVariants as in_expression
-use Rattle.lua_state.specs.Seen.{frames_of}
+use Rattle.lua_state.specs.Seen.{slots_of, frames_of}
 use Rattle.lua_strides.proofs.Paths.{unpaid}
 use Rattle.lua_turns.proofs.Begun.{begun}
 use Rattle.lua_turns.proofs.beginning.begin_method.Goals as goal
 
 pub returns-then-not-pay_nodes : goal.returns-then-not-pay_nodes
-returns-then-not-pay_nodes g c = λ s of. unpaid s s c.args.state.now 1 c.args.left.now c.pay_nodes.new.left c.args.turns.now c.pay_nodes.new.turns (later-itself s) refl c.if-not-pay_nodes.ensures
+returns-then-not-pay_nodes g c = λ s of named. unpaid s c.args.state.now 1 c.args.left.now c.pay_nodes.new.left c.args.turns.now c.pay_nodes.new.turns c.if-not-pay_nodes.ensures
 
 pub returns : goal.returns
-returns g c = λ s of.
-    let p = Evals (MethodC (expression_seen c.args.a.now) c.args.name.now (expressions_seen c.args.arguments.now) c.args.line) (frames_of s c.args.state.now) in
-    c.wait_for.ensures s s p 1 c.args.left.now c.pay_nodes.new.left c.args.turns.now c.pay_nodes.new.turns
-    (begun s c.args.state.now p (focus.Evaluates c.args.a) (frame.Expression (in_expression.MethodNext c.args.name c.args.arguments c.args.line)) of tt tt (λ world. refl)) c.if-not-pay_nodes.ensures
+returns g c = λ s of named.
+    let m = c.args.state.now in
+    let a = expression_seen c.args.a.now in
+    let args = expressions_seen c.args.arguments.now in
+    let p = Evals (MethodC a c.args.name args c.args.line) (frames_of s m) in
+    c.wait_for.ensures s p 1 c.args.left.now c.pay_nodes.new.left c.args.turns.now c.pay_nodes.new.turns
+    (begun s m p (focus.Evaluates c.args.a) (frame.Expression (in_expression.MethodNext c.args.text c.args.arguments c.args.line)) of tt named.of
+    (ap (λ (b : List ℕ). node (Now (Evals a (MethodNext b args c.args.line ∷ frames_of s m)) (slots_of s m))) (sym named.is))) c.if-not-pay_nodes.ensures

@@ -1,22 +1,22 @@
-use Rattle.std.proofs.Common.{◌≡◌, ◌∙◌, ◌∷◌, [], refl, ap, sym, List}
+use Rattle.std.proofs.Common.{◌∙◌, ◌∷◌, [], refl, ap, sym, List}
 use Rattle.lua_code.specs.declared.expression.Expression.{Expression}
 use Rattle.lua_code.specs.Seen.{expression_seen, expressions_seen, block_seen}
 use Rattle.lua_slots.specs.Code.{MoreC, NoC, ReturnC, ThenC}
 use Rattle.lua_slots.specs.Points.{MoreNext, ReturnNow, StatsNext, Evals, Lists, Runs}
 use Rattle.lua_in_place.proofs.Statements.{free}
-use Rattle.lua_store.proofs.Later.{later-itself}
 use Rattle.lua_stack.specs.declared.focus.Focus.TheVariants as focus
 use Rattle.lua_stack.specs.declared.frame.Frame.{Frame}
 use Rattle.lua_stack.specs.declared.frame.Frame.TheVariants as frame
 use Rattle.lua_stack.specs.declared.frame.InExpression.TheVariants as in_expression
 use Rattle.lua_stack.specs.declared.frame.InStatement.TheVariants as in_statement
 use Rattle.lua_state.specs.Seen.{slots_of, frames_of}
+use Rattle.lua_state.specs.Worlds.{world_seen}
 use Rattle.lua_strides.proofs.Paths.{unpaid}
 use Rattle.lua_turns.proofs.Begun.{strode_begun}
 use Rattle.lua_turns.proofs.beginning.begin_return.Goals as goal
 
 pub returns-then-not-pay_nodes : goal.returns-then-not-pay_nodes
-returns-then-not-pay_nodes g c = λ s of. unpaid s s c.args.state.now 1 c.args.left.now c.pay_nodes.new.left c.args.turns.now c.pay_nodes.new.turns (later-itself s) refl c.if-not-pay_nodes.ensures
+returns-then-not-pay_nodes g c = λ s of. unpaid s c.args.state.now 1 c.args.left.now c.pay_nodes.new.left c.args.turns.now c.pay_nodes.new.turns c.if-not-pay_nodes.ensures
 
 pub returns : goal.returns
 returns g c = λ s of.
@@ -33,5 +33,5 @@ returns g c = λ s of.
     let made = frame.Expression (in_expression.MoreNext c.args.none c.new-values.result) in
     rw (c.in_ok-push-3.ensures.ok ∙ ap (λ (x : List Frame). made ∷ x) (c.in_ok-push-2.ensures.ok ∙ ap (λ (x : List Frame). outer ∷ x) c.in_ok-push.ensures.ok), c.new-values.ensures)
     (strode_begun s m p mid q (focus.Evaluates c.args.value) (inner ∷ outer ∷ stats ∷ m.frames) c.args.left.now c.pay_nodes.new.left c.args.turns.now c.pay_nodes.new.turns of (tt, (tt, (tt, of.frames))) tt c.if-not-pay_nodes.ensures
-    (λ world. refl) (λ world. free world mid (slots_of s m) q (slots_of s m) refl)
+    refl (free (world_seen m.codes.world) mid (slots_of s m) q (slots_of s m) refl)
     (ap (λ (es : List Expression). Evals e (MoreNext (expressions_seen es) [] ∷ ReturnNow ∷ StatsNext rest ∷ fs)) (sym c.requires)))

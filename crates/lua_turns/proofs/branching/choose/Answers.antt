@@ -1,7 +1,6 @@
-use Rattle.std.proofs.Common.{◌≡◌, ◌∙◌, ◌∷◌, [], refl, sym, ap, true, false, Some, None, Option, List}
+use Rattle.std.proofs.Common.{◌∙◌, ◌∷◌, [], refl, sym}
 use Rattle.std.specs.Prelude.{option_map}
 use Rattle.page_run.specs.Outcome.{Goes}
-use Rattle.lua_heap.specs.Value.{is_true}
 use Rattle.lua_code.specs.Seen.{block_seen, branches_seen, expression_seen}
 use Rattle.lua_slots.specs.Errors.{gives}
 use Rattle.lua_slots.specs.Statements.{within, branches}

@@ -1,10 +1,9 @@
-use Rattle.std.proofs.Common.{◌≡◌, ◌∙◌, ◌∷◌, [], ℕ, refl, sym, ap, subst, true, false, length, List}
+use Rattle.std.proofs.Common.{◌∙◌, ◌∷◌, [], ℕ, refl, sym, ap, subst, length, List}
 use Rattle.page_run.specs.Outcome.{Goes}
-use Rattle.lua_heap.specs.Value.{is_true}
 use Rattle.lua_code.specs.declared.statement.Statement.{Statement}
 use Rattle.lua_code.specs.Seen.{block_seen, expression_seen}
 use Rattle.lua_slots.specs.Errors.{gives}
-use Rattle.lua_slots.specs.Points.{WhileEnd, WhileTest, WhileTurnS, SFrame, Gives, Runs, Starts, Now}
+use Rattle.lua_slots.specs.Points.{WhileEnd, WhileTurnS, SFrame, Gives, Runs, Starts, Now}
 use Rattle.lua_store.proofs.Later.{later-itself}
 use Rattle.lua_store.specs.Seen.{seen}
 use Rattle.lua_stack.specs.declared.focus.Focus.TheVariants as focus
@@ -13,7 +12,7 @@ use Rattle.lua_stack.specs.declared.frame.Frame.TheVariants as frame
 use Rattle.lua_stack.specs.declared.frame.Ending.TheVariants as ending
 use Rattle.lua_stack.specs.declared.frame.InLoop.TheVariants as in_loop
 use Rattle.lua_stack.specs.declared.values.Given.TheVariants as given
-use Rattle.lua_stack.specs.Seen.{frames_seen, registers_seen}
+use Rattle.lua_stack.specs.Seen.{frames_seen}
 use Rattle.lua_state.specs.Seen.{slots_of, frames_of}
 use Rattle.lua_strides.specs.Strides.{LeadsAt}
 use Rattle.lua_strides.proofs.Paths.{unpaid}
@@ -32,7 +31,7 @@ returns-then-not-is_true g c = λ s of known.
     (λ world gs. not_held v (Now (Starts (WhileTurnS (expression_seen c.args.test.now) (block_seen c.args.body.now)) gs) (slots_of s m)) (gives [] gs (slots_of s m)) (sym (c.is_true.ensures s.texts) ∙ c.if-not-is_true.true)) refl
 
 pub returns-then-not-pay_nodes : goal.returns-then-not-pay_nodes
-returns-then-not-pay_nodes g c = λ s of known. unpaid s s c.args.state.now 1 c.args.left.now c.pay_nodes.new.left c.args.turns.now c.pay_nodes.new.turns (later-itself s) refl c.if-not-pay_nodes.ensures
+returns-then-not-pay_nodes g c = λ s of known. unpaid s c.args.state.now 1 c.args.left.now c.pay_nodes.new.left c.args.turns.now c.pay_nodes.new.turns c.if-not-pay_nodes.ensures
 
 pub returns : goal.returns
 returns g c = λ s of known.

@@ -1,4 +1,4 @@
-use Rattle.std.proofs.Common.{◌≡◌, ◌∙◌, ℕ, refl, sym, ap, List, [], ◌∷◌, length}
+use Rattle.std.proofs.Common.{◌∙◌, ℕ, sym, ap, List, [], ◌∷◌}
 use Rattle.page_run.specs.Outcome.{Goes}
 use Rattle.lua_code.specs.declared.statement.Statement.{Statement}
 use Rattle.lua_code.specs.Seen.{block_seen}

@@ -1,9 +1,6 @@
-use Rattle.std.proofs.Common.{◌∙◌, sym, ap, subst, List, Some, arith}
-use Rattle.lua_slots.specs.Points.{Gives}
-use Rattle.lua_store.specs.declared.value.Value.{Value}
+use Rattle.std.proofs.Common.{Some}
 use Rattle.lua_stack.specs.declared.frame.Frame.TheVariants as frame
 use Rattle.lua_stack.specs.declared.frame.InExpression.TheVariants as in_expression
-use Rattle.lua_stack.specs.Of.{ValuesOf}
 use Rattle.lua_stack.specs.Seen.{values_seen}
 use Rattle.lua_strides.proofs.Paths.{idle_here}
 use Rattle.lua_turns.proofs.Freely.{newest_of}

@@ -1,4 +1,4 @@
-use Rattle.std.proofs.Common.{◌≡◌, ◌∙◌, refl, sym, ap, List, [], ◌∷◌, rules, w64, to_z, of_z}
+use Rattle.std.proofs.Common.{refl, sym, ap, List, [], rules, w64}
 use Rattle.std.proofs.lemmas.Int.{to_z-of_z}
 use mir.Val.{SFits}
 use Rattle.page_run.specs.Outcome.{Goes}
@@ -11,7 +11,6 @@ use Rattle.lua_stack.specs.declared.frame.Frame.TheVariants as frame
 use Rattle.lua_stack.specs.declared.frame.Ending.TheVariants as ending
 use Rattle.lua_stack.specs.declared.values.Given.TheVariants as given
 use Rattle.lua_stack.specs.Seen.{registers_seen}
-use Rattle.lua_store.proofs.Later.{later-itself}
 use Rattle.lua_loops.proofs.Beginning.{opened_number}
 use Rattle.lua_loops.proofs.Left.{cut_slots}
 use Rattle.lua_loops.proofs.Parts.{counts_at_end}
@@ -25,7 +24,7 @@ pub open-requires-clause-registers : goal.open-requires-clause-registers
 open-requires-clause-registers g c = c.keep_oldest.ensures.of c.args.store.now c.requires.state.regs
 
 pub returns-then-not-pay_nodes : goal.returns-then-not-pay_nodes
-returns-then-not-pay_nodes g c = λ values. unpaid c.args.store.now c.args.store.now c.args.state.now 1 c.args.left.now c.pay_nodes.new.left c.args.turns.now c.pay_nodes.new.turns (later-itself c.args.store.now) refl c.if-not-pay_nodes.ensures
+returns-then-not-pay_nodes g c = λ values. unpaid c.args.store.now c.args.state.now 1 c.args.left.now c.pay_nodes.new.left c.args.turns.now c.pay_nodes.new.turns c.if-not-pay_nodes.ensures
 
 pub returns-in_ok-open-in-Some : goal.returns-in_ok-open-in-Some
 returns-in_ok-open-in-Some g c = λ values.

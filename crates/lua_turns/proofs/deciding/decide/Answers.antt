@@ -1,9 +1,8 @@
-use Rattle.std.proofs.Common.{◌≡◌, ◌∙◌, true, false, Bool, refl, sym, ap, [], ◌∷◌}
+use Rattle.std.proofs.Common.{◌∙◌, true, false, refl, sym, [], ◌∷◌}
 use Rattle.page_run.specs.Outcome.{Goes}
 use Rattle.lua_heap.specs.Value.{is_true}
 use Rattle.lua_code.specs.Seen.{expression_seen}
-use Rattle.lua_slots.specs.Errors.{choose, gives}
-use Rattle.lua_slots.specs.Expressions.{decides}
+use Rattle.lua_slots.specs.Errors.{gives}
 use Rattle.lua_slots.specs.Points.{First, Evals, Now}
 use Rattle.lua_store.specs.Seen.{seen}
 use Rattle.lua_stack.specs.declared.focus.Focus.TheVariants as focus

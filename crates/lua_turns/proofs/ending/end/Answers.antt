@@ -20,6 +20,12 @@ end_body-requires g c = rw c.in-Body.is at c.of_newest.ensures
 pub returns-in_ok-next-in-Body : goal.returns-in_ok-next-in-Body
 returns-in_ok-next-in-Body g c = c.in_ok-next-in-Body.ensures c.args.store.now c.args.turns.now [] c.requires
 
+pub end_library-requires : goal.end_library-requires
+end_library-requires g c = rw c.in-Library.is at c.of_newest.ensures
+
+pub returns-in_ok-next-in-Library : goal.returns-in_ok-next-in-Library
+returns-in_ok-next-in-Library g c = c.in_ok-next-in-Library.ensures c.args.store.now c.args.turns.now c.requires
+
 pub end_while-requires : goal.end_while-requires
 end_while-requires g c = rw c.in-Repeats.is at c.of_newest.ensures
 

@@ -1,4 +1,4 @@
-use Rattle.std.proofs.Common.{◌≡◌, ◌∙◌, ◌∷◌, ◌-◌, refl, sym, ap, subst, length, List, Bool, Some, arith}
+use Rattle.std.proofs.Common.{◌≡◌, ◌∙◌, ◌∷◌, ◌-◌, refl, sym, ap, subst, length, List, Some}
 use Rattle.page_run.specs.Outcome.{Goes}
 use Rattle.lua_code.specs.Seen.{block_seen, proto_seen}
 use Rattle.lua_code.specs.declared.statement.Statement.{Statement}
@@ -6,7 +6,6 @@ use Rattle.lua_slots.specs.Points.{Gives, Runs}
 use Rattle.lua_slots.specs.Slots.{with_all}
 use Rattle.lua_stack.specs.declared.activation.Activation.{Activation}
 use Rattle.lua_stack.specs.declared.focus.Focus.TheVariants as focus
-use Rattle.lua_stack.specs.declared.frame.Frame.{Frame}
 use Rattle.lua_stack.specs.declared.frame.Frame.TheVariants as frame
 use Rattle.lua_stack.specs.declared.frame.InExpression.TheVariants as in_expression
 use Rattle.lua_stack.specs.declared.register.Slot.{Slot}

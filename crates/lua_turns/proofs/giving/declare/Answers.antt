@@ -1,4 +1,4 @@
-use Rattle.std.proofs.Common.{refl, sym, ap, [], ◌∷◌, Bool, List}
+use Rattle.std.proofs.Common.{sym, ap, [], ◌∷◌, Bool, List}
 use Rattle.page_run.specs.Outcome.{Goes}
 use Rattle.lua_code.specs.Seen.{block_seen}
 use Rattle.lua_slots.specs.Moves.{moves}

@@ -61,12 +61,11 @@ call_one-requires-clause-newest g c = rw c.in-Calls.is at c.requires.waits
 pub returns-in-Calls : goal.returns-in-Calls
 returns-in-Calls g c = c.call_one.ensures
 
-pub take_operand-requires-clause-newest : goal.take_operand-requires-clause-newest
-take_operand-requires-clause-newest g c = rw c.in-Operand.is at c.requires.waits
+pub take_operand-next-requires-clause-newest : goal.take_operand-next-requires-clause-newest
+take_operand-next-requires-clause-newest g c = rw c.in-Operand.is at c.requires.waits
 
 pub returns-in-Operand : goal.returns-in-Operand
-returns-in-Operand g c =
-    must_may c.args.store.now c.args.state.now (Gives (Goes (seen c.args.store.now.texts c.args.value ∷ [])) (frames_of c.args.store.now c.args.state.now)) c.args.left.now c.args.turns.now c.take_operand.new.store c.take_operand.new.state c.take_operand.new.left c.take_operand.new.turns c.take_operand.result c.take_operand.ensures
+returns-in-Operand g c = c.take_operand-next.ensures
 
 pub take_item-requires-clause-newest : goal.take_item-requires-clause-newest
 take_item-requires-clause-newest g c = rw c.in-Item.is at c.requires.waits
@@ -82,12 +81,11 @@ pub returns-in-Callee : goal.returns-in-Callee
 returns-in-Callee g c =
     must_may c.args.store.now c.args.state.now (Gives (Goes (seen c.args.store.now.texts c.args.value ∷ [])) (frames_of c.args.store.now c.args.state.now)) c.args.left.now c.args.turns.now c.take_callee.new.store c.take_callee.new.state c.take_callee.new.left c.take_callee.new.turns c.take_callee.result c.take_callee.ensures
 
-pub take_of-requires-clause-newest : goal.take_of-requires-clause-newest
-take_of-requires-clause-newest g c = rw c.in-Key.is at c.requires.waits
+pub take_of-next-requires-clause-newest : goal.take_of-next-requires-clause-newest
+take_of-next-requires-clause-newest g c = rw c.in-Key.is at c.requires.waits
 
 pub returns-in-Key : goal.returns-in-Key
-returns-in-Key g c =
-    must_may c.args.store.now c.args.state.now (Gives (Goes (seen c.args.store.now.texts c.args.value ∷ [])) (frames_of c.args.store.now c.args.state.now)) c.args.left.now c.args.turns.now c.take_of.new.store c.take_of.new.state c.take_of.new.left c.take_of.new.turns c.take_of.result c.take_of.ensures
+returns-in-Key g c = c.take_of-next.ensures
 
 pub take_key-requires-clause-newest : goal.take_key-requires-clause-newest
 take_key-requires-clause-newest g c = rw c.in-Indexes.is at c.requires.waits

@@ -6,8 +6,9 @@ use Rattle.lua_stack.specs.declared.focus.Focus.TheVariants as focus
 use Rattle.lua_stack.specs.declared.frame.Frame.TheVariants as frame
 use Rattle.lua_stack.specs.declared.frame.InExpression.TheVariants as in_expression
 use Rattle.lua_state.specs.Seen.{frames_of}
+use Rattle.lua_strides.specs.Next.{focus_of}
 use Rattle.lua_loops.proofs.Beginning.{with_parts}
-use Rattle.lua_turns.proofs.Following.{then_must}
+use Rattle.lua_turns.proofs.Following.{follows_then}
 use Rattle.lua_turns.proofs.Freely.{swapped, swapped_of}
 use Rattle.lua_turns.proofs.giving.take_operand.Goals as goal
 
@@ -21,7 +22,8 @@ returns g c =
     let s = c.args.store.now in
     let m = c.args.state.now in
     let f = frame.Expression (in_expression.OperandNext c.args.op c.args.b c.args.line) in
-    then_must s m (Gives (Goes (seen s.texts c.args.value ∷ [])) (frames_of s m)) c.args.left.now c.args.turns.now s (with_parts m c.swap_newest.new.frames m.regs m.functions) c.args.left.now c.args.turns.now (focus.Evaluates c.args.b)
-    c.next_of.new.store (with_parts m c.swap_newest.new.frames m.regs m.functions) c.next_of.new.left c.next_of.new.turns c.next_of.result
+    let held = with_parts m c.swap_newest.new.frames m.regs m.functions in
+    follows_then s m (Gives (Goes (seen s.texts c.args.value ∷ [])) (frames_of s m)) c.args.left.now c.args.turns.now s held c.args.left.now c.args.turns.now (focus.Evaluates c.args.b)
+    s held c.next_of.new.left c.next_of.new.turns (focus_of c.next_of.result)
     (swapped s m c.args.left.now c.args.turns.now (Goes (seen s.texts c.args.value ∷ [])) f (frame.Expression (in_expression.OperateNow c.args.op c.args.value c.args.line)) c.requires.newest.0 c.swap_newest.new.frames (focus.Evaluates c.args.b) c.requires.state c.requires.newest.1
     (c.swap_newest.ensures f c.requires.newest.0 c.requires.newest.1) c.requires.value tt (λ world gs. refl)) c.next_of.ensures

@@ -1,4 +1,4 @@
-use Rattle.std.proofs.Common.{◌≡◌, ◌∙◌, ◌∷◌, ◌++◌, ◌+◌, [], refl, sym, ap, Some, length, List, ℕ, arith}
+use Rattle.std.proofs.Common.{◌≡◌, ◌∙◌, ◌∷◌, ◌++◌, ◌+◌, [], refl, sym, ap, Some, length, ℕ, arith}
 use Rattle.std.proofs.lemmas.List.{length-append}
 use Rattle.lua_heap.specs.Value.{Text}
 use Rattle.lua_slots.specs.Errors.{gives}

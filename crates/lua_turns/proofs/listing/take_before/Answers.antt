@@ -1,4 +1,3 @@
-use Rattle.std.proofs.Common.{◌≡◌, ◌∷◌, List}
 use Rattle.lua_turns.proofs.listing.take_before.Goals as goal
 
 pub returns : goal.returns

@@ -1,4 +1,4 @@
-use Rattle.std.proofs.Common.{◌≡◌, ◌∙◌, ◌∷◌, ◌++◌, [], ap, List}
+use Rattle.std.proofs.Common.{◌∙◌, ◌∷◌, ◌++◌, [], ap, List}
 use Rattle.page_run.specs.Outcome.{Goes}
 use Rattle.lua_slots.specs.Points.{Gives}
 use Rattle.lua_store.specs.declared.value.Value.{Value}

@@ -1,13 +1,12 @@
-use Rattle.std.proofs.Common.{◌≡◌, ◌∷◌, refl, ap, sym, List}
+use Rattle.std.proofs.Common.{◌∷◌, refl, ap, List}
 use Rattle.page_run.specs.Outcome.{Goes}
 use Rattle.lua_code.specs.declared.expression.Expression.{Expression}
 use Rattle.lua_code.specs.Seen.{expression_seen, expressions_seen}
 use Rattle.lua_slots.specs.Moves.{moves}
-use Rattle.lua_slots.specs.Points.{MoreNext, Evals, Gives, Lists, Now}
+use Rattle.lua_slots.specs.Points.{MoreNext, Evals, Gives, Lists}
 use Rattle.lua_in_place.proofs.Statements.{free}
 use Rattle.lua_store.proofs.Later.{later-itself}
 use Rattle.lua_stack.specs.declared.focus.Focus.TheVariants as focus
-use Rattle.lua_stack.specs.declared.frame.Frame.{Frame}
 use Rattle.lua_stack.specs.declared.frame.Frame.TheVariants as frame
 use Rattle.lua_stack.specs.declared.frame.InExpression.TheVariants as in_expression
 use Rattle.lua_stack.specs.declared.values.Given.TheVariants as given

@@ -1,4 +1,4 @@
-use Rattle.std.proofs.Common.{◌≡◌, ◌∙◌, sym, ap}
+use Rattle.std.proofs.Common.{◌∙◌, sym, ap}
 use Rattle.lua_heap.specs.Value.{Table}
 use Rattle.lua_meaning.specs.Metatables.{handler}
 use Rattle.lua_store.specs.Seen.{seen}

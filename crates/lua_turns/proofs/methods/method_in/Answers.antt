@@ -1,4 +1,4 @@
-use Rattle.std.proofs.Common.{◌≡◌, ◌∙◌, sym, ap}
+use Rattle.std.proofs.Common.{◌∙◌, sym, ap}
 use Rattle.lua_heap.specs.Value.{is_nil}
 use Rattle.lua_store.specs.Seen.{seen}
 use Rattle.lua_turns.proofs.Named.{found_here}

@@ -1,5 +1,3 @@
-use Rattle.std.proofs.Common.{◌≡◌, ◌∙◌, sym, ap}
-use Rattle.std.specs.Prelude.{Some, None, Option}
 use Rattle.lua_store.specs.Seen.{seen}
 use Rattle.lua_turns.proofs.Named.{method_of_strings}
 use Rattle.lua_turns.proofs.methods.method_of.Goals as goal

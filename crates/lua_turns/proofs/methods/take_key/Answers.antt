@@ -1,4 +1,4 @@
-use Rattle.std.proofs.Common.{refl, subst, Bool, Some}
+use Rattle.std.proofs.Common.{refl, Some}
 use Rattle.lua_stack.specs.declared.frame.Frame.TheVariants as frame
 use Rattle.lua_stack.specs.declared.frame.InExpression.TheVariants as in_expression
 use Rattle.lua_state.specs.Seen.{slots_of}

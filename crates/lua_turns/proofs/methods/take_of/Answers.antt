@@ -7,7 +7,8 @@ use Rattle.lua_stack.specs.declared.frame.Frame.TheVariants as frame
 use Rattle.lua_stack.specs.declared.frame.InExpression.TheVariants as in_expression
 use Rattle.lua_state.specs.Seen.{frames_of}
 use Rattle.lua_loops.proofs.Beginning.{with_parts}
-use Rattle.lua_turns.proofs.Following.{then_must}
+use Rattle.lua_strides.specs.Next.{focus_of}
+use Rattle.lua_turns.proofs.Following.{follows_then}
 use Rattle.lua_turns.proofs.Freely.{swapped, swapped_of}
 use Rattle.lua_turns.proofs.methods.take_of.Goals as goal
 
@@ -21,7 +22,8 @@ returns g c =
     let s = c.args.store.now in
     let m = c.args.state.now in
     let f = frame.Expression (in_expression.KeyNext c.args.key c.args.line) in
-    then_must s m (Gives (Goes (seen s.texts c.args.of ∷ [])) (frames_of s m)) c.args.left.now c.args.turns.now s (with_parts m c.swap_newest.new.frames m.regs m.functions) c.args.left.now c.args.turns.now (focus.Evaluates c.args.key)
-    c.next_of.new.store (with_parts m c.swap_newest.new.frames m.regs m.functions) c.next_of.new.left c.next_of.new.turns c.next_of.result
-    (swapped s m c.args.left.now c.args.turns.now (Goes (seen s.texts c.args.of ∷ [])) f (frame.Expression (in_expression.IndexNow c.args.of c.args.line)) c.requires.newest.0 c.swap_newest.new.frames (focus.Evaluates c.args.key) c.requires.state c.requires.newest.1
+    let y = focus.Evaluates c.args.key in
+    let made = with_parts m c.swap_newest.new.frames m.regs m.functions in
+    follows_then s m (Gives (Goes (seen s.texts c.args.of ∷ [])) (frames_of s m)) c.args.left.now c.args.turns.now s made c.args.left.now c.args.turns.now y s made c.next_of.new.left c.next_of.new.turns (focus_of c.next_of.result)
+    (swapped s m c.args.left.now c.args.turns.now (Goes (seen s.texts c.args.of ∷ [])) f (frame.Expression (in_expression.IndexNow c.args.of c.args.line)) c.requires.newest.0 c.swap_newest.new.frames y c.requires.state c.requires.newest.1
     (c.swap_newest.ensures f c.requires.newest.0 c.requires.newest.1) c.requires.of tt (λ world gs. refl)) c.next_of.ensures

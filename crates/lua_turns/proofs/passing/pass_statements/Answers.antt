@@ -1,15 +1,12 @@
-use Rattle.std.proofs.Common.{refl, sym, [], ◌∷◌}
+use Rattle.std.proofs.Common.{refl, [], ◌∷◌}
 use Rattle.page_run.specs.Outcome.{Jumps}
 use Rattle.lua_meaning.specs.Acts.{Returned}
-use Rattle.lua_slots.specs.Slots.{cut}
 use Rattle.lua_store.specs.Seen.{seen}
 use Rattle.lua_stack.specs.declared.focus.Focus.TheVariants as focus
 use Rattle.lua_stack.specs.declared.focus.Jump.TheVariants as jump
 use Rattle.lua_stack.specs.declared.frame.Frame.TheVariants as frame
-use Rattle.lua_stack.specs.declared.frame.Ending.TheVariants as ending
 use Rattle.lua_stack.specs.declared.frame.InStatement.TheVariants as in_statement
 use Rattle.lua_stack.specs.declared.values.Given.TheVariants as given
-use Rattle.lua_loops.proofs.Left.{cut_slots}
 use Rattle.lua_state.specs.Seen.{slots_of}
 use Rattle.lua_turns.proofs.Freely.{popped_here}
 use Rattle.lua_turns.proofs.passing.pass_statements.Goals as goal

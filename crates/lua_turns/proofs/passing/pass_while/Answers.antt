@@ -7,7 +7,6 @@ use Rattle.lua_stack.specs.declared.focus.Focus.TheVariants as focus
 use Rattle.lua_stack.specs.declared.focus.Jump.TheVariants as jump
 use Rattle.lua_stack.specs.declared.frame.Frame.TheVariants as frame
 use Rattle.lua_stack.specs.declared.frame.Ending.TheVariants as ending
-use Rattle.lua_stack.specs.declared.frame.InStatement.TheVariants as in_statement
 use Rattle.lua_stack.specs.declared.values.Given.TheVariants as given
 use Rattle.lua_loops.proofs.Left.{cut_slots}
 use Rattle.lua_state.specs.Seen.{slots_of}

@@ -24,7 +24,7 @@ pub returns-in-Call : goal.returns-in-Call
 returns-in-Call g c = rw (c.in-Call.is, expression-Call) (rw c.deref-in-Call.ensures at c.call_of.ensures)
 
 pub returns-in-Method : goal.returns-in-Method
-returns-in-Method g c = rw (c.in-Method.is, expression-Method) (rw (c.as_slice-name.ensures, c.deref-in-Method.ensures, c.deref-in-Method-2.ensures) at c.method.ensures)
+returns-in-Method g c = rw (c.in-Method.is, expression-Method) (rw c.deref-in-Method.ensures at c.method.ensures)
 
 pub returns-in_default : goal.returns-in_default
 returns-in_default g c = idle_here c.args.store.now c.args.state.now c.args.left.now c.args.turns.now

@@ -1,4 +1,4 @@
-use Rattle.std.proofs.Common.{◌≡◌, ◌∙◌, sym, ap, true, false}
+use Rattle.std.proofs.Common.{◌∙◌, sym, ap}
 use Rattle.std.specs.Prelude.{codes}
 use Rattle.lua_heap.specs.Proc.{Proc}
 use Rattle.lua_heap.specs.Heap.{Heap, table_at}
@@ -6,7 +6,7 @@ use Rattle.lua_heap.specs.Table.{get}
 use Rattle.lua_heap.specs.Value.{Table, is_nil}
 use Rattle.lua_meaning.specs.Metatables.{handler}
 use Rattle.lua_store.specs.Seen.{seen}
-use Rattle.lua_turns.proofs.Entries.{there_plain, absent_plain}
+use Rattle.lua_turns.proofs.EntrySet.{there_plain, absent_plain}
 use Rattle.lua_turns.proofs.setting.is_plain.Goals as goal
 
 pub returns-then-is_nil-2 : goal.returns-then-is_nil-2

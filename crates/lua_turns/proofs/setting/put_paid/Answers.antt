@@ -1,8 +1,7 @@
-use Rattle.std.proofs.Common.{◌≡◌, ◌∙◌, sym, ap, refl, Bool, true, false, arith}
+use Rattle.std.proofs.Common.{◌∙◌, sym, ap, refl, arith}
 use Rattle.std.specs.Prelude.{not}
-use Rattle.lua_heap.specs.Proc.{Proc}
 use Rattle.lua_store.specs.Seen.{StoreView, seen}
-use Rattle.lua_turns.proofs.Entries.{puts_old, puts_new}
+use Rattle.lua_turns.proofs.EntrySet.{puts_old, puts_new}
 use Rattle.lua_turns.proofs.setting.put_paid.Goals as goal
 
 pub returns-then-is_new : goal.returns-then-is_new

@@ -1,10 +1,9 @@
-use Rattle.std.proofs.Common.{◌≡◌, ◌∙◌, sym, refl, subst}
+use Rattle.std.proofs.Common.{subst}
 use Rattle.std.specs.Prelude.{Some, Bool}
-use Rattle.lua_store.proofs.Later.{later-itself}
 use Rattle.lua_store.specs.Seen.{seen}
 use Rattle.lua_strides.proofs.Paths.{idle_here}
 use Rattle.lua_turns.specs.Setting.{Puts}
-use Rattle.lua_turns.proofs.Entries.{set_follows, not_put}
+use Rattle.lua_turns.proofs.EntrySet.{set_follows, not_put}
 use Rattle.lua_turns.proofs.setting.set_table.Goals as goal
 
 pub returns-then-not-is_plain : goal.returns-then-not-is_plain

@@ -1,4 +1,4 @@
-use Rattle.std.proofs.Common.{◌≡◌, ◌∙◌, ◌∷◌, [], refl, sym, ap}
+use Rattle.std.proofs.Common.{◌∙◌, ◌∷◌, [], refl, sym, ap}
 use Rattle.page_run.specs.Outcome.{Goes}
 use Rattle.lua_code.specs.Seen.{place_seen}
 use Rattle.lua_slots.specs.Points.{PlaceS, SetsNext, Gives, Sets}
@@ -7,7 +7,6 @@ use Rattle.lua_in_place.proofs.Statements.{free, free_then}
 use Rattle.lua_store.specs.Seen.{seen}
 use Rattle.lua_stack.specs.declared.focus.Focus.TheVariants as focus
 use Rattle.lua_stack.specs.declared.values.Given.TheVariants as given
-use Rattle.lua_stack.specs.Seen.{activations_seen, frames_seen}
 use Rattle.lua_stack.proofs.Stay.{frames_later}
 use Rattle.lua_loops.proofs.Beginning.{functions_stay, opened_slots}
 use Rattle.lua_state.specs.Seen.{slots_of, frames_of}
@@ -40,4 +39,4 @@ returns c = λ l k.
     (λ world. free_then world (free world at x (Gives (Goes []) (SetsNext [] ∷ fs)) z refl)
     (free_then world (free world (Gives (Goes []) (SetsNext [] ∷ fs)) z (Sets [] fs) z refl) (free world (Sets [] fs) z (Gives (Goes []) fs) z refl)))
     (ap (λ gs. Gives (Goes []) gs) (sym (frames_stay s u later m c.requires.state)))
-    (sym (opened_slots s u m m.frames c.write.new.regs m.functions _ _ c.requires.state later c.write.ensures.written kept.1 ∙ writes_at x x _ p v (c.running_closure-closure.ensures.cells s) refl))
+    (sym (opened_slots s u m m.frames c.write.new.regs m.functions _ _ c.requires.state later c.write.ensures.written kept.1 ∙ writes_at x _ p v (c.running_closure-closure.ensures.cells s)))

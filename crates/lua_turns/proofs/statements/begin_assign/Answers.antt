@@ -1,24 +1,22 @@
-use Rattle.std.proofs.Common.{◌≡◌, ◌∙◌, ◌∷◌, [], refl, ap, sym, List}
+use Rattle.std.proofs.Common.{◌∷◌, [], refl, ap, sym, List}
 use Rattle.lua_code.specs.declared.expression.Expression.{Expression}
 use Rattle.lua_code.specs.Seen.{block_seen, expression_seen, expressions_seen}
 use Rattle.lua_slots.specs.Code.{AssignC, MoreC, NoC, ThenC}
 use Rattle.lua_slots.specs.Points.{AssignNow, Evals, Finds, MoreNext, Runs, StatsNext}
-use Rattle.lua_store.proofs.Later.{later-itself}
 use Rattle.lua_stack.specs.declared.focus.Focus.TheVariants as focus
 use Rattle.lua_stack.specs.declared.frame.Frame.TheVariants as frame
-use Rattle.lua_stack.specs.declared.frame.Found.{Found}
-use Rattle.lua_stack.specs.declared.frame.Frame.{Frame}
 use Rattle.lua_stack.specs.declared.frame.InAssignment.TheVariants as in_assignment
 use Rattle.lua_stack.specs.declared.frame.InExpression.TheVariants as in_expression
 use Rattle.lua_stack.specs.declared.frame.InStatement.TheVariants as in_statement
 use Rattle.lua_stack.specs.Seen.{found_seen}
 use Rattle.lua_state.specs.Seen.{frames_of, slots_of}
+use Rattle.lua_state.specs.Worlds.{world_seen}
 use Rattle.lua_strides.proofs.Paths.{unpaid}
 use Rattle.lua_turns.proofs.Begun.{assigning, strode_begun}
 use Rattle.lua_turns.proofs.statements.begin_assign.Goals as goal
 
 pub returns-then-not-pay_nodes : goal.returns-then-not-pay_nodes
-returns-then-not-pay_nodes g c = λ s t of known found. unpaid s s c.args.state.now 1 c.args.left.now c.pay_nodes.new.left c.args.turns.now c.pay_nodes.new.turns (later-itself s) refl c.if-not-pay_nodes.ensures
+returns-then-not-pay_nodes g c = λ s t of known found. unpaid s c.args.state.now 1 c.args.left.now c.pay_nodes.new.left c.args.turns.now c.pay_nodes.new.turns c.if-not-pay_nodes.ensures
 
 pub returns : goal.returns
 returns g c = λ s t of known found.
@@ -33,7 +31,7 @@ returns g c = λ s t of known found.
     let p = Runs (ThenC (AssignC (t ∷ []) (MoreC e NoC)) rest) fs in
     let q = Finds (t ∷ []) [] (MoreC e NoC) (StatsNext rest ∷ fs) in
     let r = Evals e (MoreNext NoC [] ∷ AssignNow (at ∷ []) ∷ StatsNext rest ∷ fs) in
-    rw (c.in_ok-wait_for_one.ensures ∙ ap (λ (x : List Frame). inner ∷ x) (c.in_ok-push-2.ensures.ok ∙ ap (λ (x : List Found). frame.Assignment (in_assignment.AssignNow x) ∷ c.push.new.self) c.in_ok-targets.ensures ∙ ap (λ (x : List Frame). outer ∷ x) c.in_ok-push.ensures.ok))
+    rw c.in_ok-wait_to_assign.ensures
     (strode_begun s m p q r (focus.Evaluates c.args.value) (inner ∷ outer ∷ stats ∷ m.frames) c.args.left.now c.pay_nodes.new.left c.args.turns.now c.pay_nodes.new.turns of (tt, ((known, tt), (tt, of.frames))) tt c.if-not-pay_nodes.ensures
-    (λ world. refl) (λ world. assigning world t at e (StatsNext rest ∷ fs) (slots_of s m) found)
+    refl (assigning (world_seen m.codes.world) t at e (StatsNext rest ∷ fs) (slots_of s m) found)
     (ap (λ (es : List Expression). Evals e (MoreNext (expressions_seen es) [] ∷ AssignNow (at ∷ []) ∷ StatsNext rest ∷ fs)) (sym c.requires)))

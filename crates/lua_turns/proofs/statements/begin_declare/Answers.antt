@@ -1,22 +1,22 @@
-use Rattle.std.proofs.Common.{◌≡◌, ◌∙◌, ◌∷◌, [], refl, ap, sym, List}
+use Rattle.std.proofs.Common.{◌∙◌, ◌∷◌, [], refl, ap, sym, List}
 use Rattle.lua_code.specs.declared.expression.Expression.{Expression}
 use Rattle.lua_code.specs.Seen.{block_seen, expression_seen, expressions_seen}
 use Rattle.lua_slots.specs.Code.{DeclareC, MoreC, NoC}
 use Rattle.lua_slots.specs.Points.{DeclareNow, Evals, Lists, MoreNext, Runs}
 use Rattle.lua_in_place.proofs.Statements.{free}
-use Rattle.lua_store.proofs.Later.{later-itself}
 use Rattle.lua_stack.specs.declared.focus.Focus.TheVariants as focus
 use Rattle.lua_stack.specs.declared.frame.Frame.TheVariants as frame
 use Rattle.lua_stack.specs.declared.frame.Frame.{Frame}
 use Rattle.lua_stack.specs.declared.frame.InExpression.TheVariants as in_expression
 use Rattle.lua_stack.specs.declared.frame.InStatement.TheVariants as in_statement
 use Rattle.lua_state.specs.Seen.{frames_of, slots_of}
+use Rattle.lua_state.specs.Worlds.{world_seen}
 use Rattle.lua_strides.proofs.Paths.{unpaid}
 use Rattle.lua_turns.proofs.Begun.{strode_begun}
 use Rattle.lua_turns.proofs.statements.begin_declare.Goals as goal
 
 pub returns-then-not-pay_nodes : goal.returns-then-not-pay_nodes
-returns-then-not-pay_nodes g c = λ s of. unpaid s s c.args.state.now 1 c.args.left.now c.pay_nodes.new.left c.args.turns.now c.pay_nodes.new.turns (later-itself s) refl c.if-not-pay_nodes.ensures
+returns-then-not-pay_nodes g c = λ s of. unpaid s c.args.state.now 1 c.args.left.now c.pay_nodes.new.left c.args.turns.now c.pay_nodes.new.turns c.if-not-pay_nodes.ensures
 
 pub returns : goal.returns
 returns g c = λ s of.
@@ -31,5 +31,5 @@ returns g c = λ s of.
     let r = Evals e (MoreNext NoC [] ∷ DeclareNow c.args.flags.now rest ∷ fs) in
     rw (c.in_ok-wait_for_one.ensures ∙ ap (λ (x : List Frame). inner ∷ x) c.in_ok-push.ensures.ok)
     (strode_begun s m p q r (focus.Evaluates c.args.value) (inner ∷ outer ∷ m.frames) c.args.left.now c.pay_nodes.new.left c.args.turns.now c.pay_nodes.new.turns of (tt, (tt, of.frames)) tt c.if-not-pay_nodes.ensures
-    (λ world. refl) (λ world. free world q (slots_of s m) r (slots_of s m) refl)
+    refl (free (world_seen m.codes.world) q (slots_of s m) r (slots_of s m) refl)
     (ap (λ (es : List Expression). Evals e (MoreNext (expressions_seen es) [] ∷ DeclareNow c.args.flags.now rest ∷ fs)) (sym c.requires)))

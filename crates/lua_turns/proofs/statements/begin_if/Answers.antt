@@ -1,13 +1,12 @@
-use Rattle.std.proofs.Common.{refl}
 use Rattle.std.specs.Prelude.{option_map}
 use Rattle.lua_code.specs.Seen.{block_seen, branches_seen, expression_seen}
 use Rattle.lua_slots.specs.Code.{ArmC, ThenC}
 use Rattle.lua_slots.specs.Points.{Runs}
-use Rattle.lua_store.proofs.Later.{later-itself}
 use Rattle.lua_stack.specs.declared.focus.Focus.TheVariants as focus
 use Rattle.lua_stack.specs.declared.frame.Frame.TheVariants as frame
 use Rattle.lua_stack.specs.declared.frame.InStatement.TheVariants as in_statement
 use Rattle.lua_state.specs.Seen.{frames_of, slots_of}
+use Rattle.lua_state.specs.Worlds.{world_seen}
 use Rattle.lua_strides.specs.Conditions.{if_seen}
 use Rattle.lua_strides.proofs.Paths.{unpaid}
 use Rattle.lua_turns.proofs.Begun.{begun_within}
@@ -15,7 +14,7 @@ use Rattle.lua_turns.proofs.Chosen.{if_begins}
 use Rattle.lua_turns.proofs.statements.begin_if.Goals as goal
 
 pub returns-then-not-pay_nodes : goal.returns-then-not-pay_nodes
-returns-then-not-pay_nodes g c = λ s of. unpaid s s c.args.state.now 1 c.args.left.now c.pay_nodes.new.left c.args.turns.now c.pay_nodes.new.turns (later-itself s) refl c.if-not-pay_nodes.ensures
+returns-then-not-pay_nodes g c = λ s of. unpaid s c.args.state.now 1 c.args.left.now c.pay_nodes.new.left c.args.turns.now c.pay_nodes.new.turns c.if-not-pay_nodes.ensures
 
 pub returns : goal.returns
 returns g c = λ s of.
@@ -26,6 +25,6 @@ returns g c = λ s of.
     let other = option_map (λ b. block_seen b.now) c.args.other in
     let rest = block_seen c.args.rest.now in
     let p = Runs (ThenC (if_seen (ArmC test body more) other) rest) (frames_of s m) in
-    c.wait_within.ensures s s p 1 c.args.left.now c.pay_nodes.new.left c.args.turns.now c.pay_nodes.new.turns
+    c.wait_within.ensures s p 1 c.args.left.now c.pay_nodes.new.left c.args.turns.now c.pay_nodes.new.turns
     (begun_within s m p (focus.Evaluates c.args.test) (frame.Statement (in_statement.BranchNext c.args.body c.args.more c.args.other)) (frame.Statement (in_statement.StatsNext c.args.rest)) of tt tt tt
-    (λ world. if_begins world test body more other rest (frames_of s m) (slots_of s m))) c.if-not-pay_nodes.ensures
+    (if_begins (world_seen m.codes.world) test body more other rest (frames_of s m) (slots_of s m))) c.if-not-pay_nodes.ensures

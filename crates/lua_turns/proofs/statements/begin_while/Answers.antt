@@ -2,7 +2,6 @@ use Rattle.std.proofs.Common.{refl}
 use Rattle.lua_code.specs.Seen.{block_seen, expression_seen}
 use Rattle.lua_slots.specs.Code.{ThenC, WhileC}
 use Rattle.lua_slots.specs.Points.{Runs}
-use Rattle.lua_store.proofs.Later.{later-itself}
 use Rattle.lua_stack.specs.declared.focus.Focus.TheVariants as focus
 use Rattle.lua_stack.specs.declared.frame.Frame.TheVariants as frame
 use Rattle.lua_stack.specs.declared.frame.InLoop.TheVariants as in_loop
@@ -13,10 +12,10 @@ use Rattle.lua_turns.proofs.Begun.{begun_within}
 use Rattle.lua_turns.proofs.statements.begin_while.Goals as goal
 
 pub returns-then-not-pay_nodes : goal.returns-then-not-pay_nodes
-returns-then-not-pay_nodes g c = λ s of. unpaid s s c.args.state.now 1 c.args.left.now c.pay_nodes.new.left c.args.turns.now c.pay_nodes.new.turns (later-itself s) refl c.if-not-pay_nodes.ensures
+returns-then-not-pay_nodes g c = λ s of. unpaid s c.args.state.now 1 c.args.left.now c.pay_nodes.new.left c.args.turns.now c.pay_nodes.new.turns c.if-not-pay_nodes.ensures
 
 pub returns : goal.returns
 returns g c = λ s of.
     let p = Runs (ThenC (WhileC (expression_seen c.args.test.now) (block_seen c.args.body.now)) (block_seen c.args.rest.now)) (frames_of s c.args.state.now) in
-    c.wait_within.ensures s s p 1 c.args.left.now c.pay_nodes.new.left c.args.turns.now c.pay_nodes.new.turns
-    (begun_within s c.args.state.now p (focus.Evaluates c.args.test) (frame.Loop (in_loop.WhileTest c.args.test c.args.body)) (frame.Statement (in_statement.StatsNext c.args.rest)) of tt tt tt (λ world. refl)) c.if-not-pay_nodes.ensures
+    c.wait_within.ensures s p 1 c.args.left.now c.pay_nodes.new.left c.args.turns.now c.pay_nodes.new.turns
+    (begun_within s c.args.state.now p (focus.Evaluates c.args.test) (frame.Loop (in_loop.WhileTest c.args.test c.args.body)) (frame.Statement (in_statement.StatsNext c.args.rest)) of tt tt tt refl) c.if-not-pay_nodes.ensures

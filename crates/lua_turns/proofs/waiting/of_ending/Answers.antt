@@ -6,6 +6,9 @@ returns-in-BlockEnd c = λ fs h. rw c.in-BlockEnd.is at h
 pub returns-in-BodyEnd : goal.returns-in-BodyEnd
 returns-in-BodyEnd c = λ fs h. rw c.in-BodyEnd.is at h
 
+pub returns-in-LibraryEnd : goal.returns-in-LibraryEnd
+returns-in-LibraryEnd c = λ fs h. rw c.in-LibraryEnd.is at h
+
 pub returns-in-WhileEnd : goal.returns-in-WhileEnd
 returns-in-WhileEnd c = λ fs h. rw c.in-WhileEnd.is at h
 

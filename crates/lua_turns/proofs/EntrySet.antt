@@ -1,10 +1,8 @@
 -- AN ENTRY THAT IS SET, as the machine's moves set it.
 use Rattle.std.proofs.Common.{◌≡◌, ◌∙◌, ◌≤◌, ◌-◌, ℕ, Bool, true, false, List, [], ◌∷◌, Option, Some, refl, sym, ap, subst, arith}
-use Rattle.std.specs.Prelude.{◌||◌, codes, not}
+use Rattle.std.specs.Prelude.{◌||◌, codes}
 use Rattle.wk_base.specs.declared.left.Left.{Left}
 use Rattle.page_run.specs.Outcome.{Goes}
-use Rattle.page_run.specs.Perform.{less}
-use Rattle.page_run.specs.State.{Tally}
 use Rattle.page_run.proofs.Less.{less_of}
 use Rattle.lua_heap.specs.Proc.{Proc}
 use Rattle.lua_heap.specs.Heap.{Heap, set_in, table_at}
@@ -16,9 +14,8 @@ use Rattle.lua_store.specs.Parts.{IsLater}
 use Rattle.lua_slots.specs.Code.{CWorld}
 use Rattle.lua_slots.specs.Enact.{Funds, Stands, enact, paid}
 use Rattle.lua_slots.specs.Errors.{choose, gives}
-use Rattle.lua_slots.specs.Index.{put_entry, set_entry, set_by, set_table, with_entry}
-use Rattle.lua_slots.specs.Moves.{moves}
-use Rattle.lua_slots.specs.Points.{EntryS, SFrame, SetsNext, Point, Gives, Sets, Move, Costs, Now}
+use Rattle.lua_slots.specs.Index.{put_entry, set_entry, set_table, with_entry}
+use Rattle.lua_slots.specs.Points.{EntryS, SFrame, SetsNext, Point, Gives, Sets, Move}
 use Rattle.lua_slots.specs.Slots.{Slots, with_heap}
 use Rattle.lua_goes.specs.Going.{Reaches, here, further}
 use Rattle.lua_in_place.proofs.Reading.{reach_then}

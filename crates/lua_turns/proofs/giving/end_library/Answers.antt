@@ -1,0 +1,15 @@
+use Rattle.std.proofs.Common.{refl, [], ◌∷◌}
+use Rattle.page_run.specs.Outcome.{Goes}
+use Rattle.lua_store.specs.Seen.{seen}
+use Rattle.lua_stack.specs.declared.focus.Focus.TheVariants as focus
+use Rattle.lua_stack.specs.declared.frame.Frame.TheVariants as frame
+use Rattle.lua_stack.specs.declared.frame.Ending.TheVariants as ending
+use Rattle.lua_stack.specs.declared.values.Given.TheVariants as given
+use Rattle.lua_turns.proofs.Freely.{left_library}
+use Rattle.lua_turns.proofs.giving.end_library.Goals as goal
+
+pub returns : goal.returns
+returns c = λ s k of known.
+    let f = frame.End ending.LibraryEnd in
+    left_library s c.args.state.now c.leave_call.new.state c.args.left.now c.leave_call.new.left k (Goes (seen s.texts c.args.value ∷ [])) f c.requires.0 c.drop_newest.new.frames (focus.Gives (given.One c.args.value)) of c.requires.1
+    (c.drop_newest.ensures f c.requires.0 c.requires.1) (known, tt) c.in_ok-leave_call.ensures.leaves c.in_ok-leave_call.ensures.same (λ world gs. refl)
