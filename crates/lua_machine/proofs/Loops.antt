@@ -5,7 +5,6 @@ use Rattle.page_run.specs.State.{Tally, no_tally}
 use Rattle.page_run.specs.Outcome.{Outcome as PlainOutcome, Goes, Jumps}
 use Rattle.page_run.specs.declared.which.Which.{Which}
 use Rattle.lua_store.specs.Seen.{StoreView}
-use Rattle.lua_store.specs.Parts.{IsLater}
 use Rattle.lua_store.proofs.Later.{later-itself, later-then}
 use Rattle.lua_heap.specs.Proc.{Proc}
 use Rattle.lua_heap.specs.Heap.{Heap}
@@ -13,7 +12,7 @@ use Rattle.lua_heap.specs.Value.{Value as Plain}
 use Rattle.lua_meaning.specs.Acts.{Jump}
 use Rattle.lua_slots.specs.Code.{CWorld}
 use Rattle.lua_slots.specs.Slots.{Slots}
-use Rattle.lua_slots.specs.Points.{Point, Gives}
+use Rattle.lua_slots.specs.Points.{Point, Gives, Asking}
 use Rattle.lua_slots.specs.Moves.{moves}
 use Rattle.lua_slots.specs.Enact.{Funds, all_given_back, Stands, Short, enact}
 use Rattle.lua_goes.specs.Weight.{weight}
@@ -25,23 +24,22 @@ use Rattle.lua_in_place.proofs.Reading.{reach_then}
 use Rattle.lua_stack.specs.declared.focus.Focus.{Focus}
 use Rattle.lua_stack.specs.declared.focus.Focus.TheVariants as focus
 use Rattle.lua_stack.specs.declared.frame.Frame.{Frame}
-use Rattle.lua_stack.specs.Seen.{focus_seen, frames_seen, given_seen, jump_seen}
-use Rattle.lua_stack.proofs.Stay.{focus_later, focus_as}
+use Rattle.lua_stack.specs.Seen.{frames_seen, given_seen, jump_seen}
 use Rattle.lua_stack.specs.Of.{FocusOf}
 use Rattle.lua_state.specs.declared.state.State.{State}
 use Rattle.lua_state.specs.declared.codes.World.{World}
 use Rattle.lua_state.specs.declared.turn.Turn.{Turn}
 use Rattle.lua_state.specs.declared.turn.Turn.TheVariants as turn
-use Rattle.lua_state.specs.Seen.{slots_of, frames_of, funds_of}
+use Rattle.lua_state.specs.Seen.{slots_of, funds_of}
 use Rattle.lua_state.specs.Of.{StateOf}
 use Rattle.lua_state.specs.Worlds.{world_seen}
 use Rattle.lua_state.specs.Makes.{IsStill}
-use Rattle.lua_state.proofs.Staying.{state_later, frames_stay, slots_same}
 use Rattle.lua_strides.specs.Strides.{Strides, Idles}
 use Rattle.lua_machine.specs.declared.event.Event.{Event}
 use Rattle.lua_machine.specs.declared.event.Event.TheVariants as event
 use Rattle.lua_machine.specs.Moved.{point_of, MovesTo, is_none, is_event, IsEventAt}
-use Rattle.lua_machine.specs.Going.{LeadsTo, EndsIn, GoesTo}
+use Rattle.lua_machine.specs.Going.{LeadsTo, EndsIn, GoesTo, IsOn}
+use Rattle.lua_turns.specs.Rows.{Follows}
 
 -- a last move, in which an allowance is spent
 spent : (world : CWorld) (p : Point) (s : Slots) (f : Funds) (a : StoreView) (m : State) (x : Focus) (g : Funds) (b : StoreView) (w : Which) (g' : Funds) → Reaches world p s f (point_of a m x) (slots_of a m) g
@@ -112,27 +110,12 @@ module _ (a : StoreView) (m : State) (x : Focus) (l : Left) (k : ℕ) (b : Store
         (subst (λ (w : World). Comes (world_seen w) (point_of b m' y) (slots_of b m') (funds_of l' m' told j) (Lacks which d.heap (all_given_back (funds_of l'' m'' told n')))) c.world (e.led told j n' (omega (arith, c.rises, h))));
   }
 
-  -- nothing but that texts were made
-  same_point : (d : StoreView) → IsLater b d → point_of d m' y ≡ point_of b m' y
-  same_point d later = ap (focus_seen d y) (frames_stay b d later m' c.state) ∙ focus_as b d later y (frames_of b m') c.of
-
-  idle_at : (d : StoreView) → IsLater b d → d.heap ≡ b.heap → LeadsTo a m x l k d m' l' k' y
-  idle_at d later same = record {
-    state = state_later b d later m' c.state;
-    world = c.world;
-    of = focus_later b d later y c.of;
-    later = later-then a b d c.later later;
-    rises = c.rises;
-    led = λ told n n' h.
-        subst (λ (p : Point). Reaches (world_seen m.codes.world) (point_of a m x) (slots_of a m) (funds_of l m told n) p (slots_of d m') (funds_of l' m' told n')) (sym (same_point d later))
-        (subst (λ (s : Slots). Reaches (world_seen m.codes.world) (point_of a m x) (slots_of a m) (funds_of l m told n) (point_of b m' y) s (funds_of l' m' told n')) (sym (slots_same b d later m' c.state same)) (c.led told n n' h));
-  }
-
+  -- nothing changed
   pub idle_leads : (d : StoreView) (m'' : State) (l'' : Left) (k'' : ℕ) → Idles b m' l' k' d m'' l'' k'' → LeadsTo a m x l k d m'' l'' k'' y
-  idle_leads d m'' l'' k'' e = rw (e.state, e.left, e.counter) (idle_at d e.later e.heap)
+  idle_leads d m'' l'' k'' e = rw (e.store, e.state, e.left, e.counter) c
 
   pub idle_weighs : (d : StoreView) (m'' : State) (l'' : Left) (k'' : ℕ) → Idles b m' l' k' d m'' l'' k'' → weight (point_of d m'' y) ≡ weight (point_of b m' y)
-  idle_weighs d m'' l'' k'' e = rw e.state (ap weight (same_point d e.later))
+  idle_weighs d m'' l'' k'' e = rw (e.store, e.state) refl
 
   pub turn_ends : (d : StoreView) (m'' : State) (l'' : Left) (k'' : ℕ) (w : Which) → MovesTo b m' y l' k' d m'' l'' k'' (turn.Spent w) → EndsIn a m x l k d m'' l'' k'' (event.Spent w)
   turn_ends d m'' l'' k'' which e = record {
@@ -207,7 +190,7 @@ pub turn_falls : (a : StoreView) (m : State) (x : Focus) (l : Left) (k : ℕ) (b
 turn_falls a m x l k b m' l' k' y moving e =
     steps_or_weight_fall (world_seen m.codes.world) (point_of a m x) (slots_of a m) (funds_of l m no_tally k) (point_of b m' y) (slots_of b m') (funds_of l' m' no_tally k') (goes_on a m x moving) (e.makes no_tally k k' (omega arith))
 
--- SEVERAL MOVES AT ONCE, or one where nothing was done but that texts were made
+-- SEVERAL MOVES AT ONCE, or one where nothing was done
 pub strode_goes : (s : StoreView) (m : State) (x : Focus) (l : Left) (k : ℕ) (t : StoreView) (m' : State) (l' : Left) (k' : ℕ) (y : Focus) → Strides s m (point_of s m x) l k t m' l' k' y → GoesTo s m x l k t m' l' k' (turn.On y)
 strode_goes s m x l k t m' l' k' y e =
     (record { state = e.state; world = e.world; of = e.of; later = e.later; rises = e.rises; led = e.led }, omega (arith, e.falls), λ same. absurd (omega (arith, e.falls, same)))
@@ -224,3 +207,48 @@ turned_goes s m x l k d n i j t m' l' k' (turn.On y) state of moving idle e =
     )
 turned_goes s m x l k d n i j t m' l' k' (turn.Spent w) state of moving idle e =
     turn_ends s m x l k d n i j x (idle_leads s m x l k s m l k x (at_start s m x l k state of) d n i j idle) t m' l' k' w e
+
+-- MOVES IN A ROW behind one: steps never rise, and where they stay the weight does not
+abbrev Sinks : Point → Funds → Point → Funds → Type 0
+Sinks p f q g = (g.left.steps ≤ f.left.steps) × (g.left.steps ≡ f.left.steps → weight q ≤ weight p)
+
+-- (at its end, and at a question, a move leads nowhere else)
+same_point_and_funds : (p q : Point) (s t : Slots) (f g : Funds) → Stands p s f ≡ Stands q t g → (p ≡ q) × (f ≡ g)
+same_point_and_funds p q s t f g e = (cc, cc)
+
+stays_there : (p q : Point) (s t : Slots) (f g : Funds) → Stands p s f ≡ Stands q t g → Sinks p f q g
+stays_there p q s t f g e =
+    let same = same_point_and_funds p q s t f g e in
+    let steps : f.left.steps ≡ g.left.steps = ap (λ (x : Funds). x.left.steps) same.1 in
+    let weights : weight p ≡ weight q = ap weight same.0 in
+    (omega (arith, steps), λ h. omega (arith, weights))
+
+module _ (world : CWorld) where
+  falls_or_sinks : (p : Point) (s : Slots) (f : Funds) (q : Point) (t : Slots) (g : Funds) → GoesOnFrom p → enact (moves world p s) f ≡ Stands q t g → Sinks p f q g
+  falls_or_sinks p s f q t g on e = let k = steps_or_weight_fall world p s f q t g on e in (k.0, λ same. omega (arith, k.1 same))
+
+  move_sinks : (p : Point) (s : Slots) (f : Funds) (q : Point) (t : Slots) (g : Funds) → enact (moves world p s) f ≡ Stands q t g → Sinks p f q g
+  move_sinks (Gives o []) s f q t g e = stays_there (Gives o []) q s t f g e
+  move_sinks (Gives o (x ∷ fs)) s f q t g e = falls_or_sinks (Gives o (x ∷ fs)) s f q t g tt e
+  move_sinks (Asking a fs) s f q t g e = stays_there (Asking a fs) q s t f g e
+  move_sinks p s f q t g e = falls_or_sinks p s f q t g tt e
+
+  moves_sink : {p : Point} {s : Slots} {f : Funds} {q : Point} {t : Slots} {g : Funds} → Reaches world p s f q t g → Sinks p f q g
+  moves_sink here = (omega arith, λ same. omega arith)
+  moves_sink (further r u h q t g before last) =
+      let a = moves_sink before in
+      let b = move_sinks r u h q t g last in
+      (omega (arith, a.0, b.0), λ same. omega (arith, a.1 (omega (arith, a.0, b.0, same)), b.1 (omega (arith, a.0, b.0, same))))
+
+pub goes_behind : (s : StoreView) (m : State) (x : Focus) (l : Left) (k : ℕ) (t : StoreView) (m' : State) (l' : Left) (k' : ℕ) (y : Focus) (u : StoreView) (n : State) (i : Left) (j : ℕ) (z : Focus) → GoesTo s m x l k t m' l' k' (turn.On y) → Follows t m' (point_of t m' y) l' k' u n i j z
+    → GoesTo s m x l k u n i j (turn.On z)
+goes_behind s m x l k t m' l' k' y u n i j z goes e =
+    let sinks : (i.steps ≤ l'.steps) × (i.steps ≡ l'.steps → weight (point_of u n z) ≤ weight (point_of t m' y)) = moves_sink (world_seen m'.codes.world) (e.led no_tally k' j (omega arith)) in (
+      leads_then s m x l k t m' l' k' y goes.0 u n i j z (record { state = e.state; world = e.world; of = e.of; later = e.later; rises = e.rises; led = e.led }),
+      omega (arith, goes.1, sinks.0),
+      λ same. omega (arith, goes.2 (omega (arith, goes.1, sinks.0, same)), sinks.1 (omega (arith, goes.1, sinks.0, same))),
+    )
+
+pub is_on : (s : StoreView) (m : State) (x : Focus) (l : Left) (k : ℕ) (t : StoreView) (m' : State) (l' : Left) (k' : ℕ) (r : Turn) → GoesTo s m x l k t m' l' k' r → IsOn t m' r
+is_on s m x l k t m' l' k' (turn.On y) e = (e.0.state, e.0.of)
+is_on s m x l k t m' l' k' (turn.Spent w) e = tt

@@ -7,7 +7,7 @@ use Rattle.lua_heap.specs.Value.{Value}
 use Rattle.lua_meaning.specs.Acts.{Jump as PlainJump}
 use Rattle.lua_store.specs.Seen.{StoreView}
 use Rattle.lua_store.proofs.Later.{later-itself}
-use Rattle.lua_slots.specs.Code.{CWorld, CExp, ConstantC, DotsC, FunctionC, LocalC, GlobalC, IndexC, CallC, MethodC, TableC, AndC, OrC, OperateC, UnaryC, ParenC}
+use Rattle.lua_slots.specs.Code.{CWorld, Constants, CExp, ConstantC, TextC, DotsC, FunctionC, LocalC, GlobalC, IndexC, CallC, MethodC, TableC, AndC, OrC, OperateC, UnaryC, ParenC}
 use Rattle.lua_slots.specs.Slots.{Slots}
 use Rattle.lua_slots.specs.Points.{SFrame, Gives, Move, Costs, Marks, Now}
 use Rattle.lua_slots.specs.Errors.{node}
@@ -98,21 +98,22 @@ step_spent s m l l1 k mv of short rest = record {
 }
 
 -- each expression begins with its node
-pub begins_with_node : (e : CExp) (fs : List SFrame) (s : Slots) → evals e fs s ≡ node (behind_node (evals e fs s))
-begins_with_node (ConstantC v) fs s = refl
-begins_with_node DotsC fs s = refl
-begins_with_node (FunctionC index places) fs s = refl
-begins_with_node (LocalC p) fs s = refl
-begins_with_node (GlobalC x line) fs s = refl
-begins_with_node (IndexC of key line) fs s = refl
-begins_with_node (CallC f args line) fs s = refl
-begins_with_node (MethodC of x args line) fs s = refl
-begins_with_node (TableC cs line) fs s = refl
-begins_with_node (AndC a b) fs s = refl
-begins_with_node (OrC a b) fs s = refl
-begins_with_node (OperateC o a b line) fs s = refl
-begins_with_node (UnaryC o a line) fs s = refl
-begins_with_node (ParenC a) fs s = refl
+pub begins_with_node : (constants : Constants) (e : CExp) (fs : List SFrame) (s : Slots) → evals constants e fs s ≡ node (behind_node (evals constants e fs s))
+begins_with_node constants (ConstantC v) fs s = refl
+begins_with_node constants (TextC n) fs s = refl
+begins_with_node constants DotsC fs s = refl
+begins_with_node constants (FunctionC index places) fs s = refl
+begins_with_node constants (LocalC p) fs s = refl
+begins_with_node constants (GlobalC x line) fs s = refl
+begins_with_node constants (IndexC of key line) fs s = refl
+begins_with_node constants (CallC f args line) fs s = refl
+begins_with_node constants (MethodC of x args line) fs s = refl
+begins_with_node constants (TableC cs line) fs s = refl
+begins_with_node constants (AndC a b) fs s = refl
+begins_with_node constants (OrC a b) fs s = refl
+begins_with_node constants (OperateC o a b line) fs s = refl
+begins_with_node constants (UnaryC o a line) fs s = refl
+begins_with_node constants (ParenC a) fs s = refl
 
 pub as_move : (s : StoreView) (m : State) (l : Left) (k : ℕ) (t : StoreView) (m' : State) (l' : Left) (k' : ℕ) (mv mv' : Move) (r : Turn) → mv ≡ mv' → Counts s m l k t m' l' k' mv r → Counts s m l k t m' l' k' mv' r
 as_move s m l k t m' l' k' mv mv' r e c = subst (λ (x : Move). Counts s m l k t m' l' k' x r) e c

@@ -51,3 +51,8 @@ pub record EndsIn (s : StoreView) (m : State) (f : Focus) (l : Left) (k : ℕ) (
 abbrev pub GoesTo : StoreView → State → Focus → Left → ℕ → StoreView → State → Left → ℕ → Turn → Type 0
 GoesTo s m x l k t m' l' k' (turn.On y) = LeadsTo s m x l k t m' l' k' y × (l'.steps ≤ l.steps) × (l'.steps ≡ l.steps → weight (point_of t m' y) < weight (point_of s m x))
 GoesTo s m x l k t m' l' k' (turn.Spent w) = EndsIn s m x l k t m' l' k' (event.Spent w)
+
+-- what is next behind a move is of what is held
+abbrev pub IsOn : StoreView → State → Turn → Type 0
+IsOn t m (turn.On y) = StateOf t m × FocusOf t y
+IsOn t m (turn.Spent w) = Unit {0}

@@ -1,17 +1,23 @@
 //! Moves one after another, until an event.
-ghost use Rattle.std.specs.Prelude.{◌≡◌, ◌+◌, ◌<◌, ◌^◌, true, false, [], IfOk};
+ghost use Rattle.std.specs.Prelude.{◌≡◌, ◌+◌, ◌<◌, ◌^◌, ℕ, true, false, [], IfOk, IfSome};
+ghost use Rattle.wk_base.specs.declared.left.Left.{Left as Allowance};
+ghost use Rattle.lua_stack.specs.declared.focus.Focus.{Focus as FocusValue};
 ghost use Rattle.lua_stack.specs.Of.{FocusOf};
+ghost use Rattle.lua_state.specs.declared.state.State.{State as StateValue};
+ghost use Rattle.lua_state.specs.declared.turn.Turn.TheVariants as turn_kind;
 ghost use Rattle.lua_state.specs.Of.{StateOf};
+ghost use Rattle.lua_store.specs.Seen.{StoreView};
+ghost use Rattle.lua_strides.specs.Next.{focus_of};
 ghost use Rattle.lua_machine.specs.Moved.{is_event, IsEventAt};
-ghost use Rattle.lua_machine.specs.Going.{EndsIn, GoesTo};
+ghost use Rattle.lua_machine.specs.Going.{EndsIn, GoesTo, IsOn};
 
 use crate::event::Event;
 use crate::moving::turn;
-use lua_stack::Focus;
+use lua_stack::{Focus, Given};
 use lua_state::{Outcome, State, Turn};
 use lua_store::Store;
-use lua_strides::focus_for;
-use lua_turns::strides;
+use lua_strides::{Next, focus_for};
+use lua_turns::{row, strides};
 use std::alloc::Global;
 use std::sync::ledger::Ledger;
 use wk_base::{Left, NoMemory, Steps};
@@ -56,7 +62,39 @@ fn event_at(next: Focus<'_>) -> Event
     }
 }
 
-/// Strides in a row, where expressions are read in place and the steps of their nodes are left; else one move.
+/// What is next behind a move, if it is one value or none for the newest frame.
+fn given<'m>(turned: &Turn<'m>) -> Option<Next<'m>>
+    ensures { IfSome result (λ n. turned.now ≡ turn_kind.On (focus_of n)) }
+{
+    match turned {
+        Turn::On(Focus::Gives(Given::One(value))) => Some(Next::Gives(*value)),
+        _ => None,
+    }
+}
+
+/// Behind a move that gave a value, strides in a row.
+fn go_behind<'m, L: Ledger>(
+    alloc: Global,
+    store: &mut Store,
+    left: &mut Left,
+    state: &mut State<'m>,
+    turned: Turn<'m>,
+    turns: &mut Steps<L>,
+) -> Result<Turn<'m>, NoMemory>
+    requires { IsOn store.old state.old turned }
+    ensures { (s : StoreView) (m : StateValue) (f : FocusValue) (l : Allowance) (k : ℕ) → GoesTo s m f l k store.old state.old left.old turns.old turned.entry → IfOk result (GoesTo s m f l k store.new state.new left.new turns.new) }
+{
+    match given(&turned) {
+        Some(next) => {
+            let after = row(alloc, store, left, state, next, turns)?;
+            let focus = focus_for(alloc, after)?;
+            Ok(Turn::On(focus))
+        }
+        None => Ok(turned),
+    }
+}
+
+/// Strides in a row, where expressions are read in place and the steps of their nodes are left; else one move, and strides in a row behind it.
 #[inline(always)]
 fn go_on<'m, L: Ledger>(
     alloc: Global,
@@ -78,7 +116,10 @@ fn go_on<'m, L: Ledger>(
             let focus = focus_for(alloc, after)?;
             Ok(Turn::On(focus))
         }
-        None => turn(alloc, store, left, state, next, turns),
+        None => {
+            let turned = turn(alloc, store, left, state, next, turns)?;
+            go_behind(alloc, store, left, state, turned, turns)
+        }
     }
 }
 

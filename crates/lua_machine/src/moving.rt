@@ -8,7 +8,7 @@ ghost use Rattle.lua_slots.specs.Moves.{begins};
 ghost use Rattle.lua_code.specs.Seen.{expression_seen};
 ghost use Rattle.lua_stack.specs.Seen.{thing_seen};
 ghost use Rattle.lua_stack.specs.Of.{ThingOf};
-ghost use Rattle.lua_state.specs.Seen.{slots_of, frames_of};
+ghost use Rattle.lua_state.specs.Seen.{slots_of, frames_of, constants_in};
 ghost use Rattle.lua_state.specs.Of.{StateOf};
 ghost use Rattle.lua_state.specs.Worlds.{world_seen};
 ghost use Rattle.lua_state.specs.Makes.{Counts, LateCounts};
@@ -80,7 +80,7 @@ fn begin_expression<'m, L: Ledger>(
     turns: &mut Steps<L>,
 ) -> Result<Turn<'m>, NoMemory>
     requires state { StateOf store.old state.old }
-    ensures { IfOk result (λ r. Counts store.old state.old left.old turns.old store.new state.new left.new turns.new (evals (expression_seen expression.now) (frames_of store.old state.old) (slots_of store.old state.old)) r) }
+    ensures { IfOk result (λ r. Counts store.old state.old left.old turns.old store.new state.new left.new turns.new (evals (constants_in store.old state.old) (expression_seen expression.now) (frames_of store.old state.old) (slots_of store.old state.old)) r) }
 {
     if !left.take_steps(1) {
         return Ok(Turn::Spent(Which::Steps));

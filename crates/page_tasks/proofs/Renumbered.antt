@@ -1,5 +1,6 @@
 -- What a task holds is of the store whatever run is at work there.
-use Rattle.std.proofs.Common.{ℕ}
+use Rattle.std.proofs.Common.{ℕ, Option, Some, None}
+use Rattle.std.specs.Prelude.{IfSome}
 use Rattle.lua_code.specs.declared.proto.Protos.{Protos}
 use Rattle.lua_meaning.specs.World.{Modules}
 use Rattle.lua_slots.specs.Code.{CWorld}
@@ -15,9 +16,11 @@ use Rattle.lua_stack.specs.declared.focus.Focus.{Focus}
 use Rattle.lua_stack.specs.declared.focus.Focus.TheVariants as focus
 use Rattle.lua_stack.specs.Of.{CalleeOf, ActivationOf, ThingOf, FocusOf, EnvironmentOf}
 use Rattle.lua_state.specs.declared.codes.Codes.{Codes}
+use Rattle.lua_state.specs.declared.codes.Recent.{Recent}
+use Rattle.lua_state.specs.declared.held.Held.{Held}
 use Rattle.lua_state.specs.declared.state.State.{State}
 use Rattle.lua_state.specs.Of.{StateOf}
-use Rattle.lua_state.specs.Worlds.{world_seen, IsFound, CodesOf}
+use Rattle.lua_state.specs.Worlds.{world_seen, IsFound, IsRecent, IsHeld, CodesOf}
 use Rattle.mw_frames.specs.declared.scenes.SceneFrame.{SceneFrame}
 use Rattle.mw_frames.specs.declared.scenes.Scenes.{Scenes}
 use Rattle.mw_frames.specs.Scenes.{made, FrameOf, ScenesOf}
@@ -80,10 +83,22 @@ module _ (s : StoreView) (n : ℕ) where
   }
 
   found_of : (w : CWorld) (source : TextId) (functions : Protos) → IsFound w s source functions → IsFound w t source functions
-  found_of w source functions h = record { of = h.of; size = h.size; code = h.code }
+  found_of w source functions h = record { of = h.of; code = h.code }
+
+  recent_of : (w : CWorld) (recent : Option Recent) → IsRecent w s recent → IsRecent w t recent
+  recent_of w None h = tt
+  recent_of w (Some r) h = found_of w r.source r.code.functions.now h
+
+  held_of : (w : CWorld) (place : Option Held) → IfSome place (IsHeld w s) → IfSome place (IsHeld w t)
+  held_of w None h = tt
+  held_of w (Some one) h = record { of = h.of; text_of = h.text_of; same = h.same }
 
   codes_of : (c : Codes) → CodesOf s c → CodesOf t c
-  codes_of c h = record { all = all-to (λ e. IsFound (world_seen c.world) s e.0 e.1.now) (λ e. IsFound (world_seen c.world) t e.0 e.1.now) (λ e k. found_of (world_seen c.world) e.0 e.1.now k) c.known.entries h.all }
+  codes_of c h = record {
+    all = all-to (λ e. IsFound (world_seen c.world) s e.0 e.1.functions.now) (λ e. IsFound (world_seen c.world) t e.0 e.1.functions.now) (λ e k. found_of (world_seen c.world) e.0 e.1.functions.now k) c.known.entries h.all;
+    recent = recent_of (world_seen c.world) c.recent h.recent;
+    held = all-to (λ place. IfSome place (IsHeld (world_seen c.world) s)) (λ place. IfSome place (IsHeld (world_seen c.world) t)) (held_of (world_seen c.world)) c.held.items h.held;
+  }
 
   state_of : (m : State) → StateOf s m → StateOf t m
   state_of m h = record {
