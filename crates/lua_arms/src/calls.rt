@@ -2,7 +2,7 @@
 ghost use Rattle.std.specs.Prelude.{◌≡◌, List, IfOk};
 ghost use Rattle.lua_heap.specs.Heap.{closure_at};
 ghost use Rattle.lua_heap.specs.Value as kind;
-ghost use Rattle.lua_store.specs.Seen.{seen, text_at};
+ghost use Rattle.lua_store.specs.Seen.{seen};
 ghost use Rattle.lua_store.specs.Parts.{IsOf, IsTableOf, IsClosureOf};
 ghost use Rattle.lua_slots.specs.Slots.{Slots};
 ghost use Rattle.lua_slots.specs.Points.{SFrame};

@@ -1,6 +1,6 @@
 //! Expressions whose operands are evaluated (manual 2.5): the first of them is next, and a frame waits for it. A method's call is none of
 //! these, since the text of its name is looked for first.
-ghost use Rattle.std.specs.Prelude.{◌≡◌, List, IfOk};
+ghost use Rattle.std.specs.Prelude.{◌≡◌, IfOk};
 ghost use Rattle.lua_code.specs.Seen.{expression_seen};
 ghost use Rattle.lua_slots.specs.Code.{Constants};
 ghost use Rattle.lua_slots.specs.Slots.{Slots};

@@ -1,6 +1,6 @@
 -- What code is seen as, one level at a time: that of a part from those of its children. A proof that makes or reads such a part lists
 -- `seen`.
-use Rattle.std.proofs.Common.{◌≡◌, ◌∙◌, ℕ, Bool, refl, sym, ap, List, [], ◌∷◌, map, Option, Some, None}
+use Rattle.std.proofs.Common.{◌≡◌, ◌∙◌, ℕ, Bool, refl, ap, List, [], ◌∷◌, map, Some, None}
 use Rattle.std.specs.Prelude.{ℤ}
 use Rattle.std.specs.declared.alloc.Global.{Global}
 use Rattle.std.specs.declared.boxed.Box.{Box}
@@ -24,8 +24,8 @@ use Rattle.lua_code.specs.declared.statement.Statement.TheVariants as statement
 use Rattle.lua_code.specs.declared.statement.Branch.{Branch}
 use Rattle.lua_code.specs.declared.statement.Statement.TheOpen.{Statement-F}
 use Rattle.lua_code.specs.declared.statement.Statement.TheViews.{roll-Branch, out-Statement, out-Branch, outs-Assign, outs-Call as outs-CallStat, outs-Do, outs-While, outs-Repeat, outs-If, outs-Count, outs-Each, outs-Return, outs-Break, outs-Declare, outs-LocalFunction}
-use Rattle.lua_code.specs.declared.statement.Statement.TheFolds.{map-Statement, map-Branch, fold_out-Statement, fold_out-Branch, fold-roll-Branch}
-use Rattle.lua_code.specs.Seen.{place_seen, operator_seen, codes_of, entries_of, expression_step, entry_step, expression_seen, entry_seen, expressions_seen, entries_seen, target_seen, block_of, arms_of, statement_step, branch_step, statement_seen, branch_seen, block_seen, branches_seen}
+use Rattle.lua_code.specs.declared.statement.Statement.TheFolds.{map-Statement, fold_out-Statement, fold_out-Branch, fold-roll-Branch}
+use Rattle.lua_code.specs.Seen.{place_seen, operator_seen, codes_of, entries_of, expression_step, entry_step, expression_seen, entry_seen, expressions_seen, entries_seen, target_seen, block_of, arms_of, statement_step, statement_seen, branch_seen, block_seen, branches_seen}
 
 codes_level : (es : List Expression) → codes_of (map expression_seen es) ≡ expressions_seen es
 codes_level [] = refl

@@ -1,6 +1,6 @@
 -- What is found among modules, by titles and by the texts of titles (manual of MediaWiki, Extension:Scribunto: a module's page stands
 -- in a namespace of its own).
-use Rattle.std.specs.Prelude.{◌≡◌, ℕ, Bool, true, List, [], ◌∷◌, map, Option, Some, None, option_map, Result, Ok, Err, bytes_eq}
+use Rattle.std.specs.Prelude.{◌≡◌, ℕ, true, List, [], ◌∷◌, map, Option, option_map, Result, Ok, Err, bytes_eq}
 use Rattle.std.specs.Map.{lookup}
 use Rattle.wk_base.specs.declared.title.Title.{Title}
 use Rattle.wk_base.specs.contracts.title.TitlePartialEq.TheImpl as titles

@@ -1,5 +1,5 @@
 //! The functions of a module, and its constants.
-ghost use Rattle.std.specs.Prelude.{◌≡◌, option_map, MatchOption};
+ghost use Rattle.std.specs.Prelude.{◌≡◌, option_map};
 ghost use Rattle.lua_code.specs.Seen.{proto_seen, protos_seen};
 
 use crate::statement::Statement;

@@ -1,6 +1,6 @@
 //! A text that is gone over: names, constants, declarations, and functions that are done.
 ghost use Rattle.std.specs.Prelude.{◌≡◌, ◌∷◌, ◌++◌, [], true, suc, length, IfOk, IfSome, OnOk, option_map};
-ghost use Rattle.lua_syntax.specs.Tree.{Exp, NameE};
+ghost use Rattle.lua_syntax.specs.Tree.{NameE};
 ghost use Rattle.lua_slots.specs.Code.{Protos as PlainProtos};
 ghost use Rattle.lua_slots.specs.Sight.{Sight};
 ghost use Rattle.lua_slots.specs.IsCode.{IsExp, IsTarget};

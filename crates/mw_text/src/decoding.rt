@@ -83,7 +83,7 @@ fn longer(count: usize, found: Option<(char, usize)>, most: usize) -> Option<(ch
 }
 
 /// A reference behind `&`: the code point, and how many bytes it takes, its `;` included.
-fn reference(text: &[u8]) -> Option<(char, usize)>
+pub fn reference(text: &[u8]) -> Option<(char, usize)>
     ensures value { result ≡ reference_lem text.now }
     ensures within { IfSome result (λ p. p.1 ≤ length text.now) }
 {

@@ -37,8 +37,8 @@ pub fn list_to_text(
     Ok(made)
 }
 
-/// How many code points are kept of at most so many.
-fn room(adjust: bool, most: usize, ellipsis: &[u8]) -> usize
+/// How many code points of a text are kept where at most so many are wanted: those of the ellipsis are among them, if `adjust` says so.
+pub fn room(adjust: bool, most: usize, ellipsis: &[u8]) -> usize
     requires text { IsUtf8 ellipsis.now }
     ensures value { result ≡ room_lem adjust most (chars ellipsis.now) }
 {

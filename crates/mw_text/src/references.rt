@@ -108,7 +108,7 @@ pub fn encode(
 }
 
 /// Whether wikitext would read a byte as markup.
-fn is_markup(byte: u8) -> bool
+pub fn is_markup(byte: u8) -> bool
     ensures { result ≡ is_markup_lem byte }
 {
     byte == b'"'
