@@ -1,5 +1,5 @@
 -- EXAMPLES of calls, with what they give or raise and what they cost. Results are those of Lua 5.1; charges are counted by hand.
-use Rattle.std.specs.Prelude.{◌≡◌, ℕ, zero, ◌+◌, pos, negsuc, true, List, [], ◌∷◌, codes}
+use Rattle.std.specs.Prelude.{◌≡◌, ℕ, pos, negsuc, true, List, [], ◌∷◌, codes}
 use Rattle.lua_heap.specs.Proc.{Proc}
 use Rattle.lua_heap.specs.Value.{Value, Nil, Truth, Number, Text, Table}
 use Rattle.lua_heap.specs.Heap.{Heap, empty}

@@ -1,8 +1,9 @@
 -- WHAT PARTS OF THE CODE STAND FOR: what was read of all arguments, and the kinds of functions that share a body.
-use Rattle.std.specs.Prelude.{ℕ, ◌+◌, ◌≤◌, ℤ, List, map, reverse, Option, Result, Ok, Err, codes}
+use Rattle.std.specs.Prelude.{ℕ, ◌+◌, ◌≤◌, ℤ, unsigned_abs, List, map, reverse, Option, Some, None, Result, Ok, Err, if◌then◌else◌, codes}
 use Rattle.std.specs.Char.{to_ascii_lowercase, to_ascii_uppercase}
 use Rattle.lua_number.specs.declared.arithmetic.NumberFault.{NumberFault}
 use Rattle.lua_number.specs.Whole.{power_of}
+use Rattle.lua_string.specs.Texts.{is_code}
 use Rattle.lua_string.specs.Whole.{abs_of, fmod_of, max_of, min_of}
 use Rattle.lua_pattern.specs.declared.pattern.Match.{Match}
 use Rattle.lua_pattern.specs.declared.pattern.Search.{Search}
@@ -10,6 +11,7 @@ use Rattle.lua_pattern.specs.declared.pattern.Search.TheVariants as search
 use Rattle.lua_pattern.specs.Sizes.{find_bytes, match_bytes}
 use Rattle.lua_heap.specs.Value.{Value}
 use Rattle.lua_meaning.specs.Scope.{Bytes}
+use Rattle.lua_meaning.specs.Values.{number_in}
 use Rattle.lua_meaning.specs.Messages.{bad_argument, expected}
 use Rattle.lua_meaning.specs.Arguments.{Argument}
 use Rattle.lua_basic.specs.Seen.{values_seen}
@@ -18,8 +20,8 @@ use Rattle.lua_meaning.specs.Numbers.{itself}
 use Rattle.lua_meaning.specs.Searches as searches
 use Rattle.lua_strings.specs.declared.arguments.NumbersRead.{NumbersRead}
 use Rattle.lua_strings.specs.declared.arguments.NumbersRead.TheVariants as numbers
-use Rattle.lua_strings.specs.declared.arguments.CodesRead.{CodesRead}
-use Rattle.lua_strings.specs.declared.arguments.CodesRead.TheVariants as bytes
+use Rattle.lua_strings.specs.declared.arguments.CodesCheck.{CodesCheck}
+use Rattle.lua_strings.specs.declared.arguments.CodesCheck.TheVariants as check
 use Rattle.lua_strings.specs.declared.making.Change.{Change}
 use Rattle.lua_strings.specs.declared.making.Change.TheVariants as change
 use Rattle.lua_strings.specs.declared.numbers.OfOne.{OfOne}
@@ -36,10 +38,22 @@ abbrev pub found_numbers : Bytes → List (List ℕ) → NumbersRead → Argumen
 found_numbers function texts (numbers.All ns) = Ok ns
 found_numbers function texts (numbers.Refused n given) = Err (bad_argument n function (expected (codes "number") (values_seen texts given.now)))
 
-abbrev pub found_codes : Bytes → List (List ℕ) → CodesRead → Argument (List ℕ)
-found_codes function texts (bytes.All text) = Ok text
-found_codes function texts (bytes.NotANumber n given) = Err (bad_argument n function (expected (codes "number") (values_seen texts given.now)))
-found_codes function texts (bytes.OutOfRange n) = Err (out_of_range n function)
+-- the byte whose code a value is, or 0 where it is none
+abbrev pub number_code : Option ℤ → ℕ
+number_code (Some z) = if is_code z then unsigned_abs z else 0
+number_code None = 0
+
+abbrev pub code_of : Value → ℕ
+code_of v = number_code (number_in v)
+
+abbrev pub codes_of : List Value → Bytes
+codes_of vs = map code_of vs
+
+-- arguments that were checked: all are codes, of these bytes; or the first that is none
+abbrev pub checked_codes : Bytes → List (List ℕ) → Bytes → CodesCheck → Argument (List ℕ)
+checked_codes function texts made check.All = Ok made
+checked_codes function texts made (check.NotANumber n given) = Err (bad_argument n function (expected (codes "number") (values_seen texts given.now)))
+checked_codes function texts made (check.OutOfRange n) = Err (out_of_range n function)
 
 -- what a text becomes
 abbrev pub change_of : Change → Bytes → Bytes

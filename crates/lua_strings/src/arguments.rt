@@ -2,11 +2,12 @@
 ghost use Rattle.std.specs.Prelude.{◌≡◌, ◌+◌, ℕ, List as Items, Some, None, Ok, IfOk, IfErr, OnOk, MatchOption};
 ghost use Rattle.std.specs.Prelude.{unsigned_abs, false, true};
 ghost use Rattle.lua_meaning.specs.Scope.{Bytes};
-ghost use Rattle.lua_store.specs.Parts.{IsLater};
+ghost use Rattle.lua_store.specs.Seen.{seen};
+ghost use Rattle.lua_store.specs.Parts.{IsOf, IsLater};
 ghost use Rattle.lua_string.specs.Texts.{is_code};
 ghost use Rattle.lua_basic.specs.Seen.{values_seen, AllOf, StopOf, Refuses};
 ghost use Rattle.lua_meaning.specs.Checks.{codes_from, numbers_from};
-ghost use Rattle.lua_strings.specs.Found.{found_numbers, found_codes};
+ghost use Rattle.lua_strings.specs.Found.{found_numbers, checked_codes, code_of, codes_of};
 
 use crate::messages::{refuse, refuse_kind};
 use crate::paying::split_values;
@@ -23,10 +24,10 @@ pub enum NumbersRead<'a> {
     Refused(u64, &'a [Value]),
 }
 
-/// All arguments as codes of bytes; or the first that is none.
+/// That all arguments are codes of bytes; or the first that is none.
 #[derive(Drop)]
-pub enum CodesRead<'a> {
-    All(List<u8>),
+pub enum CodesCheck<'a> {
+    All,
     NotANumber(u64, &'a [Value]),
     OutOfRange(u64),
 }
@@ -93,51 +94,70 @@ fn byte_with(code: i64) -> Option<u8>
     u8::try_from(code).ok()
 }
 
-fn read_codes<'a>(
-    alloc: Global,
-    store: &Store,
-    args: &'a [Value],
-) -> Result<CodesRead<'a>, NoMemory>
+fn check_each<'a>(store: &Store, args: &'a [Value]) -> Result<CodesCheck<'a>, NoMemory>
     requires { AllOf store.now args.now }
-    ensures { IfOk result (λ read. (function : Bytes) → codes_from 1 function (values_seen store.now.texts args.now) ≡ found_codes function store.now.texts read) }
+    ensures { IfOk result (λ check. (function : Bytes) → codes_from 1 function (values_seen store.now.texts args.now) ≡ checked_codes function store.now.texts (codes_of (values_seen store.now.texts args.now)) check) }
 {
-    let mut text = List::new(alloc);
     let mut n: u64 = 1;
     let mut rest = args;
     'values: while let Some((value, more)) = split_values(rest) {
         let Some(number) = number_in(store, value) else {
-            return Ok(CodesRead::NotANumber(n, rest));
+            return Ok(CodesCheck::NotANumber(n, rest));
         };
-        let Some(byte) = byte_with(number) else {
-            return Ok(CodesRead::OutOfRange(n));
+        let Some(_) = byte_with(number) else {
+            return Ok(CodesCheck::OutOfRange(n));
         };
-        text.push(byte)?;
         n = next_number(n)?;
         rest = more;
     }
-    Ok(CodesRead::All(text))
+    Ok(CodesCheck::All)
 }
 
-/// All arguments of a function, which must be codes of bytes.
-pub fn all_codes(
+/// Refuses arguments of a function of which one is no code of a byte.
+pub fn check_codes(
     alloc: Global,
     store: &mut Store,
     function: &[u8],
     args: &[Value],
-) -> Result<List<u8>, Stop>
+) -> Result<(), Stop>
     requires { AllOf store.old args.now }
-    ensures found { IfOk result (λ text. codes_from 1 function.now (values_seen store.old.texts args.now) ≡ Ok text) }
+    ensures found { OnOk result (codes_from 1 function.now (values_seen store.old.texts args.now) ≡ Ok (codes_of (values_seen store.old.texts args.now))) }
     ensures same { OnOk result (store.new ≡ store.old) }
     ensures refused { IfErr result (Refuses (codes_from 1 function.now (values_seen store.old.texts args.now)) store.old store.new) }
     ensures of { IfErr result (StopOf store.new) }
     ensures later { IsLater store.old store.new }
 {
-    let read = read_codes(alloc, store, args)?;
-    match read {
-        CodesRead::All(text) => Ok(text),
-        CodesRead::NotANumber(n, given) => {
+    let check = check_each(store, args)?;
+    match check {
+        CodesCheck::All => Ok(()),
+        CodesCheck::NotANumber(n, given) => {
             Err(refuse_kind(alloc, store, n, function, b"number", given))
         }
-        CodesRead::OutOfRange(n) => Err(refuse(alloc, store, n, function, b"out of range")),
+        CodesCheck::OutOfRange(n) => Err(refuse(alloc, store, n, function, b"out of range")),
     }
+}
+
+/// The byte whose code a value is, or 0 where it is none.
+fn byte_of(store: &Store, value: Value) -> u8
+    requires { IsOf store.now value }
+    ensures { result ≡ code_of (seen store.now.texts value) }
+{
+    let Some(number) = number_in(store, value) else {
+        return 0;
+    };
+    byte_with(number).unwrap_or(0)
+}
+
+/// The bytes whose codes the values are.
+pub fn bytes_of(alloc: Global, store: &Store, values: &[Value]) -> Result<List<u8>, NoMemory>
+    requires { AllOf store.now values.now }
+    ensures { IfOk result (λ bytes. bytes ≡ codes_of (values_seen store.now.texts values.now)) }
+{
+    let mut bytes = List::new(alloc);
+    let mut rest = values;
+    'values: while let Some((value, more)) = split_values(rest) {
+        bytes.push(byte_of(store, value))?;
+        rest = more;
+    }
+    Ok(bytes)
 }

@@ -5,11 +5,11 @@ ghost use Rattle.lua_store.specs.Parts.{IsLater};
 ghost use Rattle.lua_string.specs.Texts.{rep_of};
 ghost use Rattle.lua_basic.specs.Seen.{values_seen, AllOf, Free, Paid, AnswerOf};
 ghost use Rattle.lua_meaning.specs.Strings as meaning;
-ghost use Rattle.lua_strings.specs.Found.{change_of};
+ghost use Rattle.lua_strings.specs.Found.{change_of, codes_of};
 
-use crate::arguments::all_codes;
+use crate::arguments::{bytes_of, check_codes};
 use crate::captures::number_value;
-use crate::paying::{give_text, take, text_value};
+use crate::paying::{take, text_value};
 use lua_basic::Stop;
 use lua_basic::arguments::{a_number, a_text};
 use lua_basic::values::{rest, single};
@@ -151,6 +151,24 @@ pub fn rep(
     give_copies(alloc, store, left, text.as_slice(), count)
 }
 
+/// The bytes with these codes are given, each for a step.
+fn give_bytes(
+    alloc: Global,
+    store: &mut Store,
+    left: &mut Left,
+    args: &[Value],
+) -> Result<List<Value>, Stop>
+    requires { AllOf store.old args.now }
+    ensures answer { Paid (gives_text store.old.heap (codes_of (values_seen store.old.texts args.now))) store.old left.old store.new left.new result }
+    ensures of { AnswerOf store.new result }
+    ensures later { IsLater store.old store.new }
+{
+    take(left, args.len() as u64)?;
+    let made = bytes_of(alloc, store, args)?;
+    let values = text_value(alloc, store, made.as_slice())?;
+    Ok(values)
+}
+
 /// `string.char(..)`: the bytes with these codes, which are from 0 to 255.
 pub fn char_of(
     alloc: Global,
@@ -163,8 +181,8 @@ pub fn char_of(
     ensures of { AnswerOf store.new result }
     ensures later { IsLater store.old store.new }
 {
-    let text = all_codes(alloc, store, b"char", args)?;
-    give_text(alloc, store, left, text.as_slice())
+    check_codes(alloc, store, b"char", args)?;
+    give_bytes(alloc, store, left, args)
 }
 
 /// `string.len(s)`
