@@ -188,6 +188,57 @@ fn begin_statement<'m, L: Ledger>(
     }
 }
 
+/// Whether an expression is a call.
+fn is_call(e: &Expression) -> bool {
+    match e {
+        Expression::Call(_, _, _) => true,
+        Expression::Method(_, _, _, _) => true,
+        _ => false,
+    }
+}
+
+/// Whether an operand is a call, or an operator over one.
+fn has_call(e: &Expression) -> bool {
+    match e {
+        Expression::Unary(_, a, _) => is_call(a),
+        _ => is_call(e),
+    }
+}
+
+/// Whether the operands of an expression may all be read in place, so far as a look at them tells. Those of a join would be read in vain,
+/// since texts are not joined in place, and so would those that stand beside a call.
+fn has_whole_operands(e: &Expression) -> bool {
+    match e {
+        Expression::Operate(Operator::Concatenate, _, _, _) => false,
+        Expression::Operate(_, a, b, _) => !has_call(a) && !has_call(b),
+        Expression::Unary(_, a, _) => !has_call(a),
+        _ => true,
+    }
+}
+
+/// Whether an expression is looked at as a whole first. What is called and its arguments are read one after another.
+fn is_whole(e: &Expression) -> bool {
+    !is_call(e) && has_whole_operands(e)
+}
+
+/// Whether the one value of a statement, if that is what it has, is looked at as a whole first.
+fn has_whole_value(values: &[Expression]) -> bool {
+    match values {
+        [value] => has_whole_operands(value),
+        _ => true,
+    }
+}
+
+/// Whether a statement is looked at as a whole first.
+fn is_whole_statement(statement: &Statement) -> bool {
+    match statement {
+        Statement::Assign(_, values) => has_whole_value(values.as_slice()),
+        Statement::Declare(_, values) => has_whole_value(values.as_slice()),
+        Statement::Return(values) => has_whole_value(values.as_slice()),
+        _ => true,
+    }
+}
+
 /// A statement, before others.
 fn execute<'m, L: Ledger>(
     alloc: Global,
@@ -201,6 +252,9 @@ fn execute<'m, L: Ledger>(
     requires { StateOf store.old state.old }
     ensures { IfOk result (MayStride store.old state.old (Runs (statement_seen first.now (block_seen rest.now)) (frames_of store.old state.old)) left.old turns.old store.new state.new left.new turns.new) }
 {
+    if !is_whole_statement(first) {
+        return begin_statement(alloc, store, left, state, first, rest, turns);
+    }
     let strode = statement(alloc, store, left, state, first, rest, turns)?;
     match strode {
         Some(next) => Ok(Some(next)),
@@ -272,16 +326,6 @@ fn begin_expression<'m, L: Ledger>(
             method(store, left, state, a, *name, arguments, *line, turns)
         }
         _ => Ok(None),
-    }
-}
-
-/// Whether an expression is looked at as a whole first. The operands of a join would be read in vain, since texts are not joined in place, and
-/// what is called and its arguments are read one after another.
-fn is_whole(e: &Expression) -> bool {
-    match e {
-        Expression::Operate(Operator::Concatenate, _, _, _) => false,
-        Expression::Call(_, _, _) => false,
-        _ => true,
     }
 }
 
