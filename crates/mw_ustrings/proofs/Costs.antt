@@ -1,5 +1,5 @@
 -- Answers that are paid for.
-use Rattle.std.proofs.Common.{◌≡◌, ◌∙◌, ap, sym, subst, refl, arith, ℕ, ◌+◌, ◌<◌, ◌≤◌, List, length, Ok, Err}
+use Rattle.std.proofs.Common.{◌≡◌, ◌∙◌, ap, sym, subst, refl, ℕ, ◌+◌, ◌<◌, ◌≤◌, List, Err}
 use Rattle.std.specs.Prelude.{Result}
 use Rattle.wk_base.specs.declared.left.Left.{Left}
 use Rattle.lua_heap.specs.Proc.{Proc}
@@ -14,6 +14,7 @@ use Rattle.lua_basic.specs.Seen.{values_seen, Covers, Paid}
 use Rattle.mw_frames.specs.Costs.{Took, Unpaid}
 use Rattle.mw_frames.proofs.Sums.{unpaid_then}
 use Rattle.mw_frame_texts.proofs.Charged.{lacked}
+use Rattle.mw_ustrings.specs.Charges.{UnpaidInMemory}
 
 -- values that are given for so many steps
 abbrev gave : ℕ → Heap Proc → List kind.Value → Plain Proc
@@ -34,3 +35,14 @@ lacked_second a b p s l m n e r took unpaid le is = lacked (a + b) p s l n e r (
 -- A charge that exceeds what is left
 pub exceeded : (p : Plain Proc) (s : StoreView) (l m : Left) (e : Stop) → l.steps < p.charge → e ≡ stop.Spent → m ≡ record l { steps = 0 } → Paid p s l s m (Err e)
 exceeded p s l m e short is rest = subst (λ x. Paid p s l s m (Err x)) (sym is) (record { short = short; same = refl; rest = rest })
+
+-- A charge that is not there, where memory may run out before
+pub short_in_memory : (n : ℕ) (p : Plain Proc) (s : StoreView) (l m : Left) (e : Stop) (r : Result (List Value) Stop) → UnpaidInMemory n l m e → n ≤ p.charge → r ≡ Err e → Paid p s l s m r
+short_in_memory n p s l m stop.NoMemory r u le is = subst (Paid p s l s m) (sym is) tt
+short_in_memory n p s l m stop.Spent r u le is = lacked n p s l m stop.Spent r u le is
+short_in_memory n p s l m (stop.Raised v level) r u le is = absurd u
+
+pub unpaid_in_memory : (n : ℕ) (l m : Left) (e : Stop) → Unpaid n l m e → UnpaidInMemory n l m e
+unpaid_in_memory n l m stop.Spent u = u
+unpaid_in_memory n l m stop.NoMemory u = tt
+unpaid_in_memory n l m (stop.Raised v level) u = u

@@ -1,5 +1,5 @@
 -- Arguments, one after another: where one is refused, and where all are found.
-use Rattle.std.proofs.Common.{◌≡◌, ◌∙◌, ap, sym, subst, refl, ℕ, ℤ, true, false, List, [], ◌∷◌, Option, Some, None, Ok, Err}
+use Rattle.std.proofs.Common.{◌≡◌, ◌∙◌, ap, sym, subst, refl, ℕ, true, false, List, [], ◌∷◌, None, Ok, Err}
 use Rattle.std.specs.Prelude.{Result, codes}
 use Rattle.std.specs.Str.{is_utf8}
 use Rattle.wk_base.specs.declared.left.Left.{Left}

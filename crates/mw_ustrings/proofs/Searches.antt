@@ -1,11 +1,7 @@
 -- What the answers of searches are: those of the meaning.
-use Rattle.std.proofs.Common.{◌≡◌, ◌∙◌, ap, sym, subst, refl, arith, ℕ, ◌+◌, ◌<◌, ◌≤◌, List, [], ◌∷◌, length, drop, map, Option, Some, None, chars, take}
-use Rattle.std.specs.List.{AllByRecursion}
-use Rattle.std.specs.Prelude.{Result, Ok, Err}
-use Rattle.std.specs.Result.{IfErr}
+use Rattle.std.proofs.Common.{◌≡◌, ◌∙◌, ap, sym, subst, refl, arith, ℕ, ◌+◌, ◌<◌, List, [], ◌∷◌, length, map, Option, Some, None}
 use Rattle.lua_pattern.specs.declared.pattern.Capture.{Capture}
 use Rattle.lua_pattern.specs.declared.pattern.Match.{Match}
-use Rattle.lua_pattern.specs.declared.pattern.Search.{Search}
 use Rattle.lua_pattern.specs.declared.pattern.Search.TheVariants as search
 use Rattle.lua_pattern.specs.declared.read.PatternFault.{PatternFault}
 use Rattle.lua_pattern.specs.declared.read.PatternFault.TheVariants as fault
@@ -20,13 +16,11 @@ use Rattle.lua_heap.specs.Proc.{Proc}
 use Rattle.lua_heap.specs.Heap.{Heap}
 use Rattle.lua_heap.specs.Value.{Value, Nil}
 use Rattle.lua_meaning.specs.Scope.{Bytes}
-use Rattle.lua_meaning.specs.Arguments.{Plain, costs, fails}
+use Rattle.lua_meaning.specs.Arguments.{costs}
 use Rattle.lua_store.specs.Seen.{StoreView}
 use Rattle.lua_basic.specs.declared.stop.Stop.{Stop}
-use Rattle.lua_basic.specs.declared.stop.Stop.TheVariants as stop
 use Rattle.lua_basic.specs.Seen.{Stops}
 use Rattle.mw_ustrings.specs.Faults.{FaultStops}
-use Rattle.lua_meaning.specs.Checks.{malformed}
 use Rattle.lua_meaning.specs.Ustring.{place_value, last_value, capture_value, whole_or_captures, gives_match, searches, plain_values}
 
 -- a match by its parts

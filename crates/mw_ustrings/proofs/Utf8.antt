@@ -1,30 +1,20 @@
 -- Tests of UTF-8, and what is given of bytes that aren't.
-use Rattle.std.proofs.Common.{◌≡◌, ◌∙◌, ap, sym, refl, ℕ, true, false, List, [], ◌∷◌, length, Option, Some, None, Ok, Err, chars, IsUtf8}
+use Rattle.std.proofs.Common.{◌≡◌, ap, sym, refl, ℕ, false, List, length, Ok, Err, chars, IsUtf8}
 use Rattle.std.specs.Prelude.{Result, MatchResult, is_ok, pos}
 use Rattle.std.specs.Str.{is_utf8}
 use Rattle.std.proofs.lemmas.Bool.{false_from_ne_true}
 use Rattle.std.proofs.lemmas.Str.{is_utf8-from_IsUtf8, IsUtf8-from_is_utf8}
-use Rattle.unicode_normalization.specs.Forms.{Form}
-use Rattle.mw_ustring.specs.Forms.{IsForm}
-use Rattle.lua_heap.specs.Proc.{Proc}
-use Rattle.lua_heap.specs.Heap.{Heap}
 use Rattle.lua_heap.specs.Value.{Nil, Number}
 use Rattle.lua_meaning.specs.Scope.{Bytes}
-use Rattle.lua_meaning.specs.Arguments.{gives_text}
-use Rattle.mw_ustrings.specs.Forms.{form_given}
-use Rattle.lua_meaning.specs.Ustring.{in_form, length_in}
+use Rattle.lua_meaning.specs.Ustring.{length_in}
 
 pub test_agrees : {A B : Type 0} (bs : List ℕ) (P : A → Type 0) (Q : B → Type 0) (r : Result A B)
     → MatchResult r (λ a. P a × IsUtf8 bs) (λ b. ¬ (IsUtf8 bs) × Q b) → is_ok r ≡ is_utf8 bs
 test_agrees bs P Q (Ok text) h = sym (is_utf8-from_IsUtf8 bs h.1)
 test_agrees bs P Q (Err fault) h = sym (false_from_ne_true _ (λ e. h.0 (IsUtf8-from_is_utf8 bs e)))
 
-is_none : (s : Bytes) → (IsUtf8 s → ⊥) → is_utf8 s ≡ false
+pub is_none : (s : Bytes) → (IsUtf8 s → ⊥) → is_utf8 s ≡ false
 is_none s h = false_from_ne_true _ (λ e. h (IsUtf8-from_is_utf8 s e))
-
-pub form_is : (form : Form) (h : Heap Proc) (s : Bytes) (o : Option Bytes) → IsForm form s o → in_form form h s ≡ form_given h o
-form_is form h s None k = rw (is_none s k) refl
-form_is form h s (Some made) k = rw (is_utf8-from_IsUtf8 s k.0) (ap (gives_text h) (sym k.1))
 
 pub length_some : (s : Bytes) (n : ℕ) → IsUtf8 s × (n ≡ length (chars s)) → length_in s ≡ Number (pos n)
 length_some s n k = rw (is_utf8-from_IsUtf8 s k.0) (ap (λ x. Number (pos x)) (sym k.1))

@@ -1,6 +1,5 @@
 -- Lists of values that grow, while the store grows.
-use Rattle.std.proofs.Common.{◌≡◌, ◌∙◌, ap, sym, subst, ℕ, zero, suc, List, [], ◌∷◌, ◌++◌, append_assoc, map, drop}
-use Rattle.std.specs.List.{AllByRecursion}
+use Rattle.std.proofs.Common.{◌≡◌, ◌∙◌, ap, sym, subst, ℕ, zero, suc, List, [], ◌∷◌, ◌++◌, append_assoc, drop}
 use Rattle.lua_heap.specs.Value as kind
 use Rattle.lua_store.specs.declared.value.Value.{Value}
 use Rattle.lua_store.specs.Seen.{StoreView, seen}

@@ -1,11 +1,15 @@
--- WHAT A NORMAL FORM IS GIVEN AS: its text for its bytes, or nil where there is none.
-use Rattle.std.specs.Prelude.{List, [], ◌∷◌, Option, Some, None}
-use Rattle.lua_heap.specs.Proc.{Proc}
-use Rattle.lua_heap.specs.Value.{Nil}
-use Rattle.lua_heap.specs.Heap.{Heap}
+-- NORMAL FORMS: what one costs, and what it is given as.
+use Rattle.std.specs.Prelude.{ℕ, length, Option, Some, None, if◌then◌else◌, chars, encode_utf8_all}
+use Rattle.std.specs.Str.{is_utf8}
+use Rattle.unicode_normalization.specs.Forms.{Form, normalize}
+use Rattle.lua_heap.specs.Value.{Value, Nil, Text}
 use Rattle.lua_meaning.specs.Scope.{Bytes}
-use Rattle.lua_meaning.specs.Arguments.{Plain, gives, gives_text}
 
-abbrev pub form_given : Heap Proc → Option Bytes → Plain Proc
-form_given h (Some text) = gives_text h text
-form_given h None = gives h (Nil ∷ [])
+-- a step for each of its bytes, and none where the bytes of the text aren't UTF-8
+abbrev pub form_charge : Form → Bytes → ℕ
+form_charge form s = if is_utf8 s then length (encode_utf8_all (normalize form (chars s))) else 0
+
+-- its text, or nil where there is none
+abbrev pub form_value : Option Bytes → Value
+form_value (Some text) = Text text
+form_value None = Nil

@@ -5,9 +5,10 @@ ghost use Rattle.mw_ustrings.specs.Table.{given_by, answer_of};
 
 use crate::char_of::char;
 use crate::finding::{find, match_from};
+use crate::forms::{to_nfc, to_nfd, to_nfkc, to_nfkd};
 use crate::parts::{byteoffset, codepoint, sub};
 use crate::table::UstringFunction;
-use crate::wholes::{isutf8, len, to_nfc, to_nfd, to_nfkc, to_nfkd};
+use crate::wholes::{isutf8, len};
 use lua_basic::Stop;
 use lua_store::{Store, Value};
 use mw_frame_texts::costs::pay_given;

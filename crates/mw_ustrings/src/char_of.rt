@@ -2,19 +2,23 @@
 ghost use Rattle.std.specs.Prelude.{◌≡◌, ◌<◌, ◌≤◌, ◌^◌, ◌++◌, [], ◌∷◌, length, drop, codes, Some, None, Ok, IfOk, IfErr, OnOk, MatchOption};
 ghost use Rattle.std.specs.Char.{encode_utf8};
 ghost use Rattle.mw_ustring.specs.Texts.{text_of_codes};
-ghost use Rattle.lua_meaning.specs.Arguments.{a_number};
-ghost use Rattle.lua_store.specs.Parts.{IsLater};
+ghost use Rattle.lua_meaning.specs.Arguments.{a_number, gives_text};
+ghost use Rattle.lua_store.specs.Seen.{seen};
+ghost use Rattle.lua_store.specs.Parts.{IsOf, IsLater};
 ghost use Rattle.lua_basic.specs.Seen.{values_seen, AllOf, Paid, StopOf, AnswerOf, Refuses};
+ghost use Rattle.mw_frames.specs.Costs.{Pays};
+ghost use Rattle.mw_ustrings.specs.CodePoints.{point_bytes, points_bytes};
 ghost use Rattle.lua_meaning.specs.Ustring as meaning;
 
 use crate::arguments::{refuse_at, refuse_kind_at};
-use crate::giving::give_text;
+use crate::giving::text_value;
 use lua_basic::Stop;
 use lua_basic::values::{first, number_in};
 use lua_store::{Store, Value};
+use mw_frames::paying::pay;
 use mw_text::references::put_point;
 use std::alloc::Global;
-use wk_base::{Left, List};
+use wk_base::{Left, List, NoMemory};
 
 /// The code point with a number, if there is one that UTF-8 can write.
 fn point(code: i64) -> Option<char>
@@ -53,23 +57,110 @@ fn a_point(alloc: Global, store: &mut Store, n: usize, given: &[Value]) -> Resul
     }
 }
 
-/// The text of code points whose numbers are the arguments.
-fn the_text(alloc: Global, store: &mut Store, args: &[Value]) -> Result<Vec<u8>, Stop>
+/// Refuses arguments of which one is no number of a code point.
+fn check_points(alloc: Global, store: &mut Store, args: &[Value]) -> Result<(), Stop>
     requires { AllOf store.old args.now }
-    ensures found { IfOk result (λ made. meaning.points_text 1 (values_seen store.old.texts args.now) ≡ Ok made.items) }
+    ensures found { OnOk result (meaning.points_text 1 (values_seen store.old.texts args.now) ≡ Ok (points_bytes (values_seen store.old.texts args.now))) }
     ensures same { OnOk result (store.new ≡ store.old) }
     ensures refused { IfErr result (Refuses (meaning.points_text 1 (values_seen store.old.texts args.now)) store.old store.new) }
     ensures of { IfErr result (StopOf store.new) }
     ensures later { IsLater store.old store.new }
 {
-    let mut made = Vec::new(alloc);
     'each: for at in 0..args.len() {
         match a_point(alloc, store, at + 1, values_from(args, at)) {
-            Ok(point) => put_point(&mut made, point)?,
+            Ok(_) => {}
             Err(stop) => return Err(stop),
         }
     }
+    Ok(())
+}
+
+/// The first of a list, and those behind it.
+fn split_values(values: &[Value]) -> Option<(Value, &[Value])>
+    ensures { MatchOption result (values.now ≡ []) (λ p. values.now ≡ p.0 ∷ p.1.now) }
+{
+    match values {
+        [value, more @ ..] => Some((*value, more)),
+        [] => None,
+    }
+}
+
+/// The code point whose number a value is, if it is one.
+fn point_in(store: &Store, value: Value) -> Option<char>
+    requires { IsOf store.now value }
+    ensures { MatchOption result (point_bytes (seen store.now.texts value) ≡ []) (λ c. point_bytes (seen store.now.texts value) ≡ encode_utf8 c) }
+{
+    match number_in(store, value) {
+        Some(code) => point(code),
+        None => None,
+    }
+}
+
+/// What the code point of a value costs.
+fn point_cost(store: &Store, value: Value) -> u64
+    requires { IsOf store.now value }
+    ensures { result ≡ length (point_bytes (seen store.now.texts value)) }
+{
+    match point_in(store, value) {
+        Some(point) => point.len_utf8() as u64,
+        None => 0,
+    }
+}
+
+/// Takes a step for each byte of the code points whose numbers the values are.
+fn pay_points(store: &Store, left: &mut Left, values: &[Value]) -> Result<(), Stop>
+    requires { AllOf store.now values.now }
+    ensures { Pays (length (points_bytes (values_seen store.now.texts values.now))) left.old left.new result }
+{
+    let mut rest = values;
+    'each: while let Some((value, more)) = split_values(rest) {
+        pay(left, point_cost(store, value))?;
+        rest = more;
+    }
+    Ok(())
+}
+
+/// Adds the code point of a value.
+fn put_value(made: &mut Vec<u8>, store: &Store, value: Value) -> Result<(), NoMemory>
+    requires { IsOf store.now value }
+    ensures { OnOk result (made.new.items ≡ made.old.items ++ point_bytes (seen store.now.texts value)) }
+{
+    match point_in(store, value) {
+        Some(point) => put_point(made, point),
+        None => Ok(()),
+    }
+}
+
+/// The text of the code points whose numbers the values are.
+fn the_text(alloc: Global, store: &Store, values: &[Value]) -> Result<Vec<u8>, NoMemory>
+    requires { AllOf store.now values.now }
+    ensures { IfOk result (λ made. made.items ≡ points_bytes (values_seen store.now.texts values.now)) }
+{
+    let mut made = Vec::new(alloc);
+    let mut rest = values;
+    'each: while let Some((value, more)) = split_values(rest) {
+        put_value(&mut made, store, value)?;
+        rest = more;
+    }
     Ok(made)
+}
+
+/// The text of these code points is given, after a step for each of its bytes.
+fn give_chars(
+    alloc: Global,
+    store: &mut Store,
+    left: &mut Left,
+    args: &[Value],
+) -> Result<List<Value>, Stop>
+    requires { AllOf store.old args.now }
+    ensures answer { Paid (gives_text store.old.heap (points_bytes (values_seen store.old.texts args.now))) store.old left.old store.new left.new result }
+    ensures of { AnswerOf store.new result }
+    ensures later { IsLater store.old store.new }
+{
+    pay_points(store, left, args)?;
+    let made = the_text(alloc, store, args)?;
+    let values = text_value(alloc, store, made.as_slice())?;
+    Ok(values)
 }
 
 /// `mw.ustring.char(...)`: the text with these code points. A number below 0, above U+10FFFF, or of a surrogate is out of range.
@@ -84,6 +175,6 @@ pub fn char(
     ensures of { AnswerOf store.new result }
     ensures later { IsLater store.old store.new }
 {
-    let text = the_text(alloc, store, args)?;
-    give_text(alloc, store, left, text.as_slice())
+    check_points(alloc, store, args)?;
+    give_chars(alloc, store, left, args)
 }

@@ -4,7 +4,7 @@ ghost use Rattle.lua_heap.specs.Value as kind;
 ghost use Rattle.lua_meaning.specs.Arguments.{gives, costs, gives_text};
 ghost use Rattle.lua_store.specs.Seen.{StoreView, seen};
 ghost use Rattle.lua_store.specs.Parts.{IsOf, IsLater};
-ghost use Rattle.lua_basic.specs.Seen.{Free, Paid, AnswerOf};
+ghost use Rattle.lua_basic.specs.Seen.{values_seen, AllOf, Free, Paid, AnswerOf};
 ghost use Rattle.lua_basic.specs.declared.stop.Stop.TheVariants as stop;
 
 use lua_basic::Stop;
@@ -34,6 +34,18 @@ pub fn number(n: usize) -> Result<Value, NoMemory>
     }
 }
 
+/// A text as the only value of a list. It is paid for already.
+pub fn text_value(alloc: Global, store: &mut Store, text: &[u8]) -> Result<List<Value>, NoMemory>
+    ensures value { IfOk result (λ values. values_seen store.new.texts values ≡ kind.Text text.now ∷ []) }
+    ensures of { IfOk result (AllOf store.new) }
+    ensures heap { store.new.heap ≡ store.old.heap }
+    ensures later { IsLater store.old store.new }
+{
+    let text = store.text(text)?;
+    let values = single(alloc, Value::Text(text))?;
+    Ok(values)
+}
+
 /// A text is given, after a step for each of its bytes.
 pub fn give_text(
     alloc: Global,
@@ -46,8 +58,7 @@ pub fn give_text(
     ensures later { IsLater store.old store.new }
 {
     pay(left, text.len() as u64)?;
-    let text = store.text(text)?;
-    let values = single(alloc, Value::Text(text))?;
+    let values = text_value(alloc, store, text)?;
     Ok(values)
 }
 

@@ -7,7 +7,8 @@
 //! - `giving`: texts and numbers that are given, after what they cost
 //! - `char_of`: `char`
 //! - `parts`: `codepoint`, `byteoffset` and `sub`
-//! - `wholes`: `len`, `isutf8` and the normal forms
+//! - `wholes`: `len` and `isutf8`
+//! - `forms`: the normal forms
 //! - `captures`: what a match gives, and what that costs
 //! - `finding`: `find` and `match`
 //! - `table`: which functions they are
@@ -19,6 +20,7 @@ pub mod call;
 pub mod captures;
 pub mod char_of;
 pub mod finding;
+pub mod forms;
 pub mod giving;
 pub mod parts;
 pub mod table;

@@ -1,4 +1,4 @@
-use Rattle.std.proofs.Common.{◌∙◌, ap}
+use Rattle.std.proofs.Common.{ap}
 use Rattle.lua_pattern.specs.Sizes.{capture_bytes, captures_bytes}
 use Rattle.mw_frames.proofs.Sums.{took-more}
 use Rattle.mw_ustrings.proofs.captures.pay_captures.Goals as goal

@@ -1,6 +1,6 @@
 use Rattle.std.proofs.Common.{◌≡◌, ◌∙◌, ap, sym, rules, w64, to_z, of_z}
 use Rattle.std.specs.Prelude.{codes}
-use Rattle.lua_meaning.specs.Messages.{bad_argument, expected}
+use Rattle.lua_meaning.specs.Messages.{bad_argument}
 use Rattle.lua_meaning.specs.Values.{number_in}
 use Rattle.lua_meaning.specs.Arguments.{some_number, some_value}
 use Rattle.lua_basic.specs.Seen.{values_seen}

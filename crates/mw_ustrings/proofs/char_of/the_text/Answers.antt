@@ -1,58 +1,16 @@
-use Rattle.std.proofs.Common.{◌≡◌, ◌<◌, ◌∙◌, ap, sym, refl, rules, arith, List, [], length}
-use Rattle.std.proofs.lemmas.List.{drop-map, length-map}
+use Rattle.std.proofs.Common.{◌∙◌, ◌++◌, ap, subst, sym, append_assoc}
 use Rattle.lua_store.specs.Seen.{seen}
-use Rattle.lua_store.proofs.Later.{later-itself}
-use Rattle.lua_basic.specs.Seen.{values_seen}
-use Rattle.lua_meaning.specs.Ustring.{points_text}
-use Rattle.mw_ustrings.proofs.Values.{all_drop}
-use Rattle.mw_ustrings.proofs.Points.{nothing_made, one_made, none_made, all_made}
+use Rattle.lua_basic.specs.Seen.{values_seen, AllOf}
+use Rattle.mw_ustrings.specs.CodePoints.{point_bytes, points_bytes}
 use Rattle.mw_ustrings.proofs.char_of.the_text.Goals as goal
-
-pub each-init : goal.each-init
-each-init c =
-    let none : c.new-made.result.items ≡ [] = search rules in
-    (refl, rw none (nothing_made (values_seen c.args.store.now.texts c.args.args.now)))
-
-pub a_point-requires-clause-of : goal.a_point-requires-clause-of
-a_point-requires-clause-of c = rw (c.each.invariant.0, c.values_from.ensures) (all_drop c.args.store.now c.each.at c.args.args.now c.requires)
 
 pub each-preserved : goal.each-preserved
 each-preserved c =
     let s = c.args.store.now in
-    let vs = values_seen s.texts c.args.args.now in
-    let lt : c.each.at < length c.args.args.now = search rules in
-    let within : c.each.at < length vs = omega (arith, lt, length-map c.args.args.now (seen s.texts)) in
-    let given = ap (values_seen s.texts) c.values_from.ensures ∙ sym (drop-map (seen s.texts) c.each.at c.args.args.now) in
-    let found = rw c.each.invariant.0 at c.in-Ok.ensures.found in (
-      c.in-Ok.ensures.same ∙ c.each.invariant.0,
-      one_made c.each.made.items _ c.put_point.new.made.items c.each.at vs _ (points_text 1 vs) within given found c.in_ok-put_point-in-Ok.ensures c.each.invariant.1,
+    let more = points_bytes (values_seen s.texts c.in-Some.more.now) in
+    let point = point_bytes (seen s.texts c.in-Some.value) in
+    let all = subst (AllOf s) c.in-Some.ensures c.each.invariant.0 in (
+      all.1,
+      ap (λ bytes. bytes ++ more) c.in_ok-put_value.ensures ∙ append_assoc c.each.made.items point more
+          ∙ sym (ap (λ vs. c.each.made.items ++ points_bytes (values_seen s.texts vs)) c.in-Some.ensures) ∙ c.each.invariant.1,
     )
-
-pub returns-in-Err-clause-refused : goal.returns-in-Err-clause-refused
-returns-in-Err-clause-refused c =
-    let s = c.args.store.now in
-    let vs = values_seen s.texts c.args.args.now in
-    let lt : c.each.at < length c.args.args.now = search rules in
-    let within : c.each.at < length vs = omega (arith, lt, length-map c.args.args.now (seen s.texts)) in
-    let given = ap (values_seen s.texts) c.values_from.ensures ∙ sym (drop-map (seen s.texts) c.each.at c.args.args.now) in
-    let none = rw c.each.invariant.0 at c.in-Err.ensures.refused in
-    none_made c.each.made.items c.each.at vs _ (points_text 1 vs) s c.a_point.new.store _ within given none c.each.invariant.1
-
-pub returns-in-Err-clause-later : goal.returns-in-Err-clause-later
-returns-in-Err-clause-later c = rw c.each.invariant.0 at c.a_point.ensures.later
-
-pub returns-in_err-put_point-in-Ok-clause-later : goal.returns-in_err-put_point-in-Ok-clause-later
-returns-in_err-put_point-in-Ok-clause-later c = rw (c.in-Ok.ensures.same ∙ c.each.invariant.0) (later-itself c.args.store.now)
-
-pub returns-clause-found : goal.returns-clause-found
-returns-clause-found c =
-    let s = c.args.store.now in
-    let vs = values_seen s.texts c.args.args.now in
-    let all : length c.args.args.now ≡ c.each.at = search rules in
-    all_made c.each.made.items c.each.at vs (points_text 1 vs) (length-map c.args.args.now (seen s.texts) ∙ all) c.each.invariant.1
-
-pub returns-clause-same : goal.returns-clause-same
-returns-clause-same c = c.each.invariant.0
-
-pub returns-clause-later : goal.returns-clause-later
-returns-clause-later c = rw c.each.invariant.0 (later-itself c.args.store.now)

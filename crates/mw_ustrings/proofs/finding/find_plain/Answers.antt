@@ -1,6 +1,5 @@
-use Rattle.std.proofs.Common.{◌≡◌, ◌∙◌, ap, arith, sym, refl, Err, length, drop, length-drop, ◌+◌, ◌∷◌, []}
+use Rattle.std.proofs.Common.{◌≡◌, ◌∙◌, ap, arith, sym, refl, Err, length, drop, length-drop}
 use Rattle.std.proofs.lemmas.Result.{err_from_is_err_and}
-use Rattle.lua_heap.specs.Value.{Nil}
 use Rattle.mw_frames.proofs.Sums.{took_then}
 use Rattle.mw_frame_texts.proofs.Charged.{lacked}
 use Rattle.mw_ustrings.proofs.Costs.{values_cover, lacked_second}

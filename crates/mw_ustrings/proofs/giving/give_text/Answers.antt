@@ -1,7 +1,8 @@
-use Rattle.std.proofs.Common.{◌∙◌, ap, arith, Err, length}
+use Rattle.std.proofs.Common.{◌∙◌, ap, arith, Err, ◌∷◌, [], length}
 use Rattle.std.proofs.lemmas.Result.{err_from_is_err_and}
-use Rattle.lua_store.specs.Seen.{StoreView}
-use Rattle.mw_frame_texts.proofs.Charged.{lacked, text_covers}
+use Rattle.lua_heap.specs.Value.{Text}
+use Rattle.mw_frame_texts.proofs.Charged.{lacked}
+use Rattle.mw_ustrings.proofs.Costs.{values_cover}
 use Rattle.mw_ustrings.proofs.giving.give_text.Goals as goal
 
 pub returns-in_err-pay-clause-answer : goal.returns-in_err-pay-clause-answer
@@ -11,5 +12,5 @@ returns-in_err-pay-clause-answer c =
 
 pub returns-clause-answer : goal.returns-clause-answer
 returns-clause-answer c =
-    text_covers c.args.store.now.heap c.text.new.self c.args.left.now c.pay.new.left c.args.text.now c.in_ok-values.values c.in_ok-text.text c.in_ok-pay.ensures c.in_ok-values.ensures
-    c.in_ok-text.ensures.there (ap (λ (s : StoreView). s.heap) c.in_ok-text.ensures.added)
+    values_cover (length c.args.text.now) c.args.store.now.heap c.text_value.new.store c.args.left.now c.pay.new.left (Text c.args.text.now ∷ []) c.in_ok-values.values c.in_ok-pay.ensures
+    c.in_ok-values.ensures.heap c.in_ok-values.ensures.value

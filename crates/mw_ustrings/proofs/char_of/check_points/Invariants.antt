@@ -1,0 +1,11 @@
+use Rattle.std.proofs.Common.{◌≡◌}
+use Rattle.lua_basic.specs.Seen.{values_seen}
+use Rattle.lua_meaning.specs.Ustring.{points_text}
+use Rattle.mw_ustrings.proofs.Points.{CheckedTo}
+use Rattle.mw_ustrings.proofs.char_of.check_points.Given as goal
+
+-- the store is as it was; those before this place are code points
+abbrev pub invariant-each : goal.invariant-each
+invariant-each l =
+    let vs = values_seen l.initial.store.texts l.fn.args in
+    (l.store ≡ l.initial.store) × CheckedTo l.at vs (points_text 1 vs)

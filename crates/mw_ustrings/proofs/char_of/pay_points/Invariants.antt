@@ -1,0 +1,11 @@
+use Rattle.std.proofs.Common.{length}
+use Rattle.lua_basic.specs.Seen.{values_seen, AllOf}
+use Rattle.mw_frames.specs.Costs.{SoFar}
+use Rattle.mw_ustrings.specs.CodePoints.{points_bytes}
+use Rattle.mw_ustrings.proofs.char_of.pay_points.Given as goal
+
+abbrev pub invariant-each : goal.invariant-each
+invariant-each l = AllOf l.store l.rest × SoFar l.initial.left l.left (length (points_bytes (values_seen l.store.texts l.rest))) (length (points_bytes (values_seen l.store.texts l.values)))
+
+abbrev pub decreases-each : goal.decreases-each
+decreases-each l = length l.rest
