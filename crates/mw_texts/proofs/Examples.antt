@@ -1,5 +1,5 @@
 -- EXAMPLES, with values of MediaWiki's own library and charges counted by hand.
-use Rattle.std.proofs.Common.{◌≡◌, refl, ℕ, suc, true, false, List, [], ◌∷◌, ◌++◌}
+use Rattle.std.proofs.Common.{◌≡◌, refl, ℕ, true, false, List, [], ◌∷◌}
 use Rattle.std.specs.Prelude.{pos, negsuc, codes}
 use Rattle.std.specs.Str.{is_utf8, chars}
 use Rattle.std.specs.Char.{encode_utf8}
@@ -11,7 +11,7 @@ use Rattle.lua_heap.specs.Value.{Value, Nil, Truth, Number, Text, Table}
 use Rattle.lua_heap.specs.Table.{Entries}
 use Rattle.lua_heap.specs.Heap.{Heap, empty}
 use Rattle.lua_meaning.specs.Scope.{Bytes}
-use Rattle.lua_meaning.specs.Arguments.{Plain, PlainEnd, Fails, costs}
+use Rattle.lua_meaning.specs.Arguments.{Plain, Fails, costs}
 use Rattle.lua_meaning.specs.Frames.{with_table}
 use Rattle.mw_texts.specs.Table.{answer_of}
 use Rattle.mw_texts.specs.declared.table.TextFunction.{TextFunction}

@@ -1,5 +1,5 @@
 -- The items of a list, one after another, and what their text costs.
-use Rattle.std.proofs.Common.{◌≡◌, ◌∙◌, ap, sym, subst, refl, arith, ℕ, zero, suc, ◌+◌, ◌*◌, ◌<◌, List, [], ◌∷◌, ◌++◌, append_assoc, append-nil, length, length-append, map, drop, get_or, drop-cons, Ok, Err}
+use Rattle.std.proofs.Common.{◌≡◌, ◌∙◌, ap, sym, subst, refl, arith, ℕ, zero, suc, ◌+◌, ◌*◌, ◌<◌, List, [], ◌∷◌, ◌++◌, append_assoc, length, length-append, map, drop, get_or, drop-cons, Ok, Err}
 use Rattle.std.proofs.lemmas.List.{map-append, length-map}
 use Rattle.lua_store.specs.Seen.{StoreView}
 use Rattle.lua_basic.specs.Arguments.{text_bytes}
@@ -9,7 +9,7 @@ use Rattle.lua_basic.specs.Seen.{Refuses}
 use Rattle.lua_meaning.specs.Scope.{Bytes}
 use Rattle.lua_meaning.specs.Arguments.{Argument}
 use Rattle.mw_text.specs.Answers.{total}
-use Rattle.mw_text.specs.Joined.{glue, joined}
+use Rattle.mw_text.specs.Joined.{joined}
 use Rattle.mw_ustrings.proofs.ReadArguments.{refuses_through}
 use Rattle.mw_texts.specs.Costs.{glue_charge}
 use Rattle.lua_meaning.specs.Texts.{item_then}

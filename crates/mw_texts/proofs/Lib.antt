@@ -5,4 +5,5 @@ pub mod TextTables
 pub mod NewTables
 pub mod PaidParts
 pub mod ItemLists
+pub mod Lengths
 mod Examples

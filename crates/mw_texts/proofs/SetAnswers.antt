@@ -1,5 +1,5 @@
 -- What `trim` and `encode` give, by the set that was read.
-use Rattle.std.proofs.Common.{◌≡◌, sym, subst, ℕ, List, Option, Ok, Err}
+use Rattle.std.proofs.Common.{sym, subst, ℕ, List, Option, Ok, Err}
 use Rattle.std.specs.Prelude.{Result}
 use Rattle.wk_base.specs.declared.left.Left.{Left}
 use Rattle.lua_pattern.specs.declared.item.Set.{Set}

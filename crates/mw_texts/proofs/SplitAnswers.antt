@@ -1,7 +1,6 @@
 -- What `split` gives, by the pattern that was read.
-use Rattle.std.proofs.Common.{◌≡◌, ◌∙◌, ap, sym, subst, arith, ℕ, ◌+◌, ◌<◌, ◌≤◌, List, [], ◌∷◌, length, Ok, Err}
+use Rattle.std.proofs.Common.{◌≡◌, ◌∙◌, ap, sym, subst, arith, ℕ, ◌<◌, ◌≤◌, List, [], ◌∷◌, Ok, Err}
 use Rattle.std.specs.Prelude.{Result}
-use Rattle.wk_base.specs.declared.left.Left.{Left}
 use Rattle.lua_pattern.specs.declared.read.PatternFault.{PatternFault}
 use Rattle.lua_pattern.specs.declared.read.PatternFault.TheVariants as fault
 use Rattle.mw_text.specs.declared.answers.PartsAnswer.TheVariants as parts

@@ -5,6 +5,7 @@
 //! - `sets`: `trim` and `encode`
 //! - `splitting`: `split`
 //! - `tables`: a new table with texts
+//! - `paying`: texts that are paid for before they are made
 //! - `plain`: `decode`, `nowiki` and `truncate`
 //! - `listing`: `listToText`
 //! - `tagging`: `tag`
@@ -14,6 +15,7 @@
 
 pub mod call;
 pub mod listing;
+pub mod paying;
 pub mod plain;
 pub mod sets;
 pub mod splitting;

@@ -1,5 +1,5 @@
 //! `listToText` (Scribunto, mw.text.listToText).
-ghost use Rattle.std.specs.Prelude.{◌≡◌, ◌*◌, ◌+◌, ◌<◌, ◌≤◌, ◌+ℤ◌, ℕ, List as Items, [], ◌∷◌, pos, length, map, Ok, IfOk, IfErr, OnOk, MatchOption};
+ghost use Rattle.std.specs.Prelude.{◌≡◌, ◌*◌, ◌+◌, ◌<◌, ◌≤◌, ◌+ℤ◌, ℕ, List as Items, [], ◌∷◌, pos, map, Ok, IfOk, IfErr, OnOk, MatchOption};
 ghost use Rattle.mw_text.specs.Answers.{total};
 ghost use Rattle.mw_text.specs.Joined.{joined};
 ghost use Rattle.lua_heap.specs.Heap.{table_at};
@@ -15,10 +15,11 @@ ghost use Rattle.mw_frames.specs.Costs.{Pays};
 ghost use Rattle.mw_texts.specs.Costs.{glue_charge};
 ghost use Rattle.lua_meaning.specs.Texts as meaning;
 
+use crate::paying::paid_text;
 use lua_basic::Stop;
 use lua_basic::arguments::{a_table, a_text};
 use lua_basic::texts::TextIn;
-use lua_basic::values::{rest, single};
+use lua_basic::values::rest;
 use lua_store::{Store, TableId, Value};
 use mw_frames::paying::pay;
 use mw_text::list_to_text as joined_text;
@@ -194,8 +195,7 @@ fn give_joined(
     pay_items(left, items)?;
     pay_glue(left, separator.len(), conjunction.len(), items.len())?;
     let made = joined_items(alloc, items, separator, conjunction)?;
-    let text = store.text(made.as_slice())?;
-    let values = single(alloc, Value::Text(text))?;
+    let values = paid_text(alloc, store, made.as_slice())?;
     Ok(values)
 }
 

@@ -1,19 +1,42 @@
 //! `decode`, `nowiki` and `truncate` (Scribunto, Text library).
 ghost use Rattle.lua_store.specs.Parts.{IsLater};
 ghost use Rattle.lua_basic.specs.Seen.{values_seen, AllOf, Paid, AnswerOf};
-ghost use Rattle.std.specs.Prelude.{IsUtf8, chars, encode_utf8_all};
+ghost use Rattle.std.specs.Prelude.{◌≡◌, ◌++◌, IsUtf8, chars, encode_utf8_all, IfOk};
+ghost use Rattle.mw_text.specs.Decode.{decoded};
 ghost use Rattle.mw_text.specs.Joined.{truncated};
+ghost use Rattle.mw_text.specs.References.{nowiki_of};
 ghost use Rattle.lua_meaning.specs.Arguments.{gives_text};
 ghost use Rattle.lua_meaning.specs.Texts as meaning;
 
+use crate::paying::{paid_text, pay_decoded, pay_nowiki};
 use lua_basic::Stop;
 use lua_basic::arguments::{a_number, a_text};
 use lua_basic::values::{is_true, rest, third};
 use lua_store::{Store, Value};
+use lua_string::text::push_all;
+use mw_frames::paying::pay_texts;
+use mw_text::joining::room;
+use mw_ustring::{count_points, first_points, points_behind};
 use mw_ustrings::arguments::{utf8_text, utf8_text_or};
-use mw_ustrings::giving::give_text;
 use std::alloc::Global;
-use wk_base::{Left, List};
+use wk_base::{Left, List, NoMemory};
+
+/// A text is given with its character references as the code points, after what that costs.
+fn give_decoded(
+    alloc: Global,
+    store: &mut Store,
+    left: &mut Left,
+    s: &[u8],
+) -> Result<List<Value>, Stop>
+    ensures answer { Paid (gives_text store.old.heap (decoded s.now)) store.old left.old store.new left.new result }
+    ensures of { AnswerOf store.new result }
+    ensures later { IsLater store.old store.new }
+{
+    pay_decoded(left, s)?;
+    let made = mw_text::decode(alloc, s)?;
+    let values = paid_text(alloc, store, made.as_slice())?;
+    Ok(values)
+}
 
 /// `mw.text.decode(s)`: the text with its character references as the code points.
 pub fn decode(
@@ -28,8 +51,24 @@ pub fn decode(
     ensures later { IsLater store.old store.new }
 {
     let text = a_text(alloc, store, 1, b"decode", args)?;
-    let made = mw_text::decode(alloc, text.as_slice())?;
-    give_text(alloc, store, left, made.as_slice())
+    give_decoded(alloc, store, left, text.as_slice())
+}
+
+/// A text is given with what wikitext would read as markup by number, after what that costs.
+fn give_nowiki(
+    alloc: Global,
+    store: &mut Store,
+    left: &mut Left,
+    s: &[u8],
+) -> Result<List<Value>, Stop>
+    ensures answer { Paid (gives_text store.old.heap (nowiki_of s.now)) store.old left.old store.new left.new result }
+    ensures of { AnswerOf store.new result }
+    ensures later { IsLater store.old store.new }
+{
+    pay_nowiki(left, s)?;
+    let made = mw_text::nowiki(alloc, s)?;
+    let values = paid_text(alloc, store, made.as_slice())?;
+    Ok(values)
 }
 
 /// `mw.text.nowiki(s)`: the text with what wikitext would read as markup by number.
@@ -45,11 +84,37 @@ pub fn nowiki(
     ensures later { IsLater store.old store.new }
 {
     let text = a_text(alloc, store, 1, b"nowiki", args)?;
-    let made = mw_text::nowiki(alloc, text.as_slice())?;
-    give_text(alloc, store, left, made.as_slice())
+    give_nowiki(alloc, store, left, text.as_slice())
 }
 
-/// A text is shortened.
+/// The two pieces that stand behind one another in a shortened text.
+fn shortened<'t>(s: &'t [u8], n: i64, ellipsis: &'t [u8], adjust: bool) -> (&'t [u8], &'t [u8])
+    requires text { IsUtf8 s.now }
+    requires ellipsis { IsUtf8 ellipsis.now }
+    ensures { result.0.now ++ result.1.now ≡ encode_utf8_all (truncated (chars s.now) n (chars ellipsis.now) adjust) }
+{
+    let count = count_points(s);
+    if count as u64 <= n.unsigned_abs() {
+        return (s, &[]);
+    }
+    let kept = room(adjust, n.unsigned_abs() as usize, ellipsis);
+    if n < 0 {
+        return (ellipsis, points_behind(s, count.saturating_sub(kept)));
+    }
+    (first_points(s, kept), ellipsis)
+}
+
+/// Two texts, one behind the other.
+fn both(alloc: Global, first: &[u8], second: &[u8]) -> Result<Vec<u8>, NoMemory>
+    ensures { IfOk result (λ made. made.items ≡ first.now ++ second.now) }
+{
+    let mut made = Vec::new(alloc);
+    push_all(&mut made, first)?;
+    push_all(&mut made, second)?;
+    Ok(made)
+}
+
+/// A text is given shortened, after what that costs.
 fn give_truncated(
     alloc: Global,
     store: &mut Store,
@@ -65,8 +130,11 @@ fn give_truncated(
     ensures of { AnswerOf store.new result }
     ensures later { IsLater store.old store.new }
 {
-    let made = mw_text::truncate(alloc, s, n, ellipsis, adjust)?;
-    give_text(alloc, store, left, made.as_slice())
+    let (first, second) = shortened(s, n, ellipsis, adjust);
+    pay_texts(left, first, second)?;
+    let made = both(alloc, first, second)?;
+    let values = paid_text(alloc, store, made.as_slice())?;
+    Ok(values)
 }
 
 /// `mw.text.truncate(s, n, ellipsis, adjust)`: a text of at most `|n|` code points as it is; else its first `n` with the ellipsis

@@ -1,13 +1,12 @@
-use Rattle.std.proofs.Common.{◌≡◌, ◌∙◌, ap, arith, sym, Err, length, map, ◌+◌}
+use Rattle.std.proofs.Common.{◌∙◌, ap, arith, sym, [], ◌∷◌, Err, length, map}
 use Rattle.std.proofs.lemmas.Result.{err_from_is_err_and}
-use Rattle.std.proofs.lemmas.List.{length-map}
 use Rattle.mw_text.specs.Answers.{total}
 use Rattle.mw_text.specs.Joined.{joined}
 use Rattle.lua_basic.specs.Arguments.{text_bytes}
-use Rattle.lua_store.specs.Seen.{StoreView}
+use Rattle.lua_heap.specs.Value as kind
 use Rattle.mw_frames.proofs.Sums.{took_then}
-use Rattle.mw_frame_texts.proofs.Charged.{lacked, text_covers}
-use Rattle.mw_ustrings.proofs.Costs.{lacked_second}
+use Rattle.mw_frame_texts.proofs.Charged.{lacked}
+use Rattle.mw_ustrings.proofs.Costs.{values_cover, lacked_second}
 use Rattle.mw_texts.specs.Costs.{glue_charge}
 use Rattle.mw_texts.proofs.ItemLists.{joined_size}
 use Rattle.mw_texts.proofs.listing.give_joined.Goals as goal
@@ -30,5 +29,6 @@ returns-clause-answer c =
     let all = joined_size c.args.separator.now c.args.conjunction.now c.args.items.now in
     let took = took_then (total (map text_bytes c.args.items.now)) (glue_charge (length c.args.separator.now) (length c.args.conjunction.now) (length c.args.items.now)) c.args.left.now c.pay_items.new.left c.pay_glue.new.left
     c.in_ok-pay_items.ensures c.in_ok-pay_glue.ensures in
-    text_covers c.args.store.now.heap c.text.new.self c.args.left.now c.pay_glue.new.left (joined c.args.separator.now c.args.conjunction.now (map text_bytes c.args.items.now)) c.in_ok-values.values c.in_ok-text.text
-    (rw (sym all) at took) c.in_ok-values.ensures (c.in_ok-text.ensures.there ∙ c.as_slice.ensures.value ∙ c.in_ok-made.ensures) (ap (λ (s : StoreView). s.heap) c.in_ok-text.ensures.added)
+    let made = joined c.args.separator.now c.args.conjunction.now (map text_bytes c.args.items.now) in
+    values_cover (length made) c.args.store.now.heap c.paid_text.new.store c.args.left.now c.pay_glue.new.left (kind.Text made ∷ []) c.in_ok-values.values (rw (sym all) at took) c.in_ok-values.ensures.heap
+    (c.in_ok-values.ensures.value ∙ ap (λ text. kind.Text text ∷ []) (c.as_slice.ensures.value ∙ c.in_ok-made.ensures))

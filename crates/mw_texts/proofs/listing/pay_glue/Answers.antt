@@ -1,6 +1,5 @@
-use Rattle.std.proofs.Common.{◌≡◌, ◌∙◌, ap, sym, subst, rules, arith, ◌+◌, ◌*◌, ◌<◌, Err}
+use Rattle.std.proofs.Common.{◌≡◌, ◌∙◌, ap, rules, arith, ◌+◌, ◌*◌, ◌<◌, Err}
 use Rattle.std.proofs.lemmas.Result.{err_from_is_err_and}
-use Rattle.mw_frames.specs.Costs.{Pays}
 use Rattle.mw_frames.proofs.Sums.{took_none}
 use Rattle.mw_texts.proofs.ItemLists.{glue_few, glue_many}
 use Rattle.mw_texts.proofs.PaidParts.{pays_then, pays_less}

@@ -1,4 +1,4 @@
-use Rattle.std.proofs.Common.{◌∙◌, ap, length, map, drop, ◌+◌}
+use Rattle.std.proofs.Common.{length, map, drop, ◌+◌}
 use Rattle.mw_text.specs.Answers.{total}
 use Rattle.lua_basic.specs.Arguments.{text_bytes}
 use Rattle.mw_frames.proofs.Sums.{took-more}

@@ -1,4 +1,4 @@
-use Rattle.std.proofs.Common.{◌≡◌, ◌∙◌, ap, sym, refl, rules, subst, [], ◌∷◌, length, map, Ok, append-nil}
+use Rattle.std.proofs.Common.{◌≡◌, ◌∙◌, ap, sym, refl, rules, subst, [], ◌∷◌, map, Ok, append-nil}
 use Rattle.std.specs.Prelude.{codes}
 use Rattle.lua_meaning.specs.Arguments.{a_text}
 use Rattle.lua_store.specs.Seen.{seen}

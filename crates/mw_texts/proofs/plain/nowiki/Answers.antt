@@ -18,6 +18,6 @@ pub returns-clause-answer : goal.returns-clause-answer
 returns-clause-answer c =
     let s = c.args.store.now in
     let vs = values_seen s.texts c.args.args.now in
-    let answer = rw (c.in_ok-text.ensures.same, c.as_slice-2.ensures.value, c.in_ok-made.ensures, c.as_slice.ensures) at c.give_text.ensures.answer in
-    handed_on _ (a_text 1 (codes "nowiki") vs) (text_bytes c.in_ok-text.text) _ s c.args.left.now c.give_text.new.left c.give_text.new.store c.give_text.result c.in_ok-text.ensures.found refl
+    let answer = rw (c.in_ok-text.ensures.same, c.as_slice.ensures) at c.give_nowiki.ensures.answer in
+    handed_on _ (a_text 1 (codes "nowiki") vs) (text_bytes c.in_ok-text.text) _ s c.args.left.now c.give_nowiki.new.left c.give_nowiki.new.store c.give_nowiki.result c.in_ok-text.ensures.found refl
     answer

@@ -1,4 +1,4 @@
-use Rattle.std.proofs.Common.{◌∙◌, ap, arith, sym, subst, Err}
+use Rattle.std.proofs.Common.{◌∙◌, ap, arith, subst, Err}
 use Rattle.std.proofs.lemmas.Result.{err_from_is_err_and}
 use Rattle.lua_meaning.specs.Arguments.{gives_text}
 use Rattle.lua_basic.specs.Seen.{Paid}

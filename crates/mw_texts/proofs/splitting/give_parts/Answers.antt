@@ -1,11 +1,9 @@
-use Rattle.std.proofs.Common.{◌∙◌, ap, arith, refl, Err, length, ◌+◌, ◌∷◌, []}
+use Rattle.std.proofs.Common.{◌∙◌, ap, arith, Err, ◌+◌}
 use Rattle.std.proofs.lemmas.Result.{err_from_is_err_and}
-use Rattle.lua_heap.specs.Value.{Nil, Table}
-use Rattle.lua_meaning.specs.Frames.{with_table}
 use Rattle.mw_frames.proofs.Sums.{took_then}
 use Rattle.mw_frame_texts.proofs.Charged.{lacked}
 use Rattle.mw_ustrings.proofs.Costs.{lacked_second}
-use Rattle.lua_meaning.specs.Texts.{parts_charge, text_entries}
+use Rattle.lua_meaning.specs.Texts.{parts_charge}
 use Rattle.mw_texts.proofs.NewTables.{table_covers}
 use Rattle.mw_texts.proofs.splitting.give_parts.Goals as goal
 

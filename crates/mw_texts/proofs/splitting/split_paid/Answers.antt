@@ -1,4 +1,4 @@
-use Rattle.std.proofs.Common.{◌∙◌, sym, subst, Err}
+use Rattle.std.proofs.Common.{sym, subst, Err}
 use Rattle.mw_text.specs.Split.{sought_by}
 use Rattle.lua_basic.specs.Seen.{Paid}
 use Rattle.lua_basic.proofs.Found.{for_nothing}

@@ -1,0 +1,12 @@
+use Rattle.std.proofs.Common.{refl, ap}
+use Rattle.lua_store.specs.Seen.{StoreView}
+use Rattle.mw_texts.proofs.paying.paid_text.Goals as goal
+
+pub returns-clause-value : goal.returns-clause-value
+returns-clause-value c = rw (c.in_ok-values.ensures, c.in_ok-text.ensures.there) refl
+
+pub returns-clause-of : goal.returns-clause-of
+returns-clause-of c = rw c.in_ok-values.ensures (c.in_ok-text.ensures.of, tt)
+
+pub returns-clause-heap : goal.returns-clause-heap
+returns-clause-heap c = ap (λ (s : StoreView). s.heap) c.in_ok-text.ensures.added
