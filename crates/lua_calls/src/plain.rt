@@ -1,12 +1,14 @@
 //! Functions of the library that call back nobody (manual 5; Scribunto).
-ghost use Rattle.std.specs.Prelude.{IfOk};
+ghost use Rattle.std.specs.Prelude.{◌≡◌, ◌∷◌, [], IfOk, IfSome};
+ghost use Rattle.wk_base.specs.declared.left.Left.{Left as Allowance};
 ghost use Rattle.lua_meaning.specs.Frames.{args_index as plain_args_index};
 ghost use Rattle.lua_meaning.specs.Mw as mw;
+ghost use Rattle.lua_slots.specs.Errors.{gives};
 ghost use Rattle.lua_slots.specs.Libraries as machine;
 ghost use Rattle.lua_basic.specs.Seen.{AnswerOf};
 ghost use Rattle.lua_stack.specs.Of.{ValuesOf};
 ghost use Rattle.lua_stack.specs.Seen.{values_seen};
-ghost use Rattle.lua_state.specs.Makes.{LateMakes};
+ghost use Rattle.lua_state.specs.Makes.{LateMakes, Makes};
 ghost use Rattle.lua_state.specs.Of.{StateOf};
 ghost use Rattle.lua_state.specs.Seen.{frames_of, slots_of};
 ghost use Rattle.lua_state.specs.Worlds.{world_seen};
@@ -15,7 +17,7 @@ ghost use Rattle.lua_calls.specs.Table.{once_seen};
 
 use crate::answering::once_call;
 use crate::table::AtOnce;
-use lua_acts::exits::give_all;
+use lua_acts::exits::{give, give_all};
 use lua_acts::refuse;
 use lua_basic::Stop;
 use lua_libs::{mw_clone, mw_get_current_title};
@@ -25,6 +27,28 @@ use lua_store::{Store, Value};
 use mw_frames::index::args_index;
 use std::alloc::Global;
 use wk_base::{Left, List, NoMemory};
+
+/// The one value of a list that has just one.
+fn single_of(values: &[Value]) -> Option<Value>
+    ensures { IfSome result (λ value. values.now ≡ value ∷ []) }
+{
+    match values {
+        [value] => Some(*value),
+        _ => None,
+    }
+}
+
+/// The values that a function gives, for the frames. A single one needs no list from here on.
+fn give_list<'m>(store: &Store, state: &State<'m>, list: List<Value>) -> Turn<'m>
+    requires state { StateOf store.now state.now }
+    requires values { ValuesOf store.now list }
+    ensures { (l : Allowance) → Makes store.now state.now l store.now state.now l (gives (values_seen store.now.texts list) (frames_of store.now state.now) (slots_of store.now state.now)) result }
+{
+    match single_of(list.as_slice()) {
+        Some(value) => give(store, state, value),
+        None => give_all(store, state, Values::of_list(list)),
+    }
+}
 
 /// The end of a function whose charge is taken, and which was called from this line.
 fn end_plain<'m>(
@@ -40,7 +64,7 @@ fn end_plain<'m>(
     ensures { IfOk result (λ r. EndsAs store.old state.now left.old line answer store.new left.new r) }
 {
     match answer {
-        Ok(values) => Ok(give_all(store, state, Values::of_list(values))),
+        Ok(values) => Ok(give_list(store, state, values)),
         Err(stop) => refuse(alloc, store, left, state, line, stop),
     }
 }

@@ -15,7 +15,6 @@ ghost use Rattle.mw_frames.specs.Costs.{Pays};
 ghost use Rattle.mw_texts.specs.Costs.{glue_charge};
 ghost use Rattle.lua_meaning.specs.Texts as meaning;
 
-use crate::paying::paid_text;
 use lua_basic::Stop;
 use lua_basic::arguments::{a_table, a_text};
 use lua_basic::texts::TextIn;
@@ -24,7 +23,7 @@ use lua_store::{Store, TableId, Value};
 use mw_frames::paying::pay;
 use mw_text::list_to_text as joined_text;
 use mw_ustrings::arguments::text_or;
-use mw_ustrings::giving::spend;
+use mw_ustrings::giving::{spend, text_value};
 use std::alloc::Global;
 use wk_base::{Bytes, Left, List, NoMemory};
 
@@ -195,7 +194,7 @@ fn give_joined(
     pay_items(left, items)?;
     pay_glue(left, separator.len(), conjunction.len(), items.len())?;
     let made = joined_items(alloc, items, separator, conjunction)?;
-    let values = paid_text(alloc, store, made.as_slice())?;
+    let values = text_value(alloc, store, made.as_slice())?;
     Ok(values)
 }
 

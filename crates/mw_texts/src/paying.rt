@@ -1,21 +1,15 @@
 //! Texts that are paid for before they are made: a step for each byte, taken piece by piece.
-ghost use Rattle.std.specs.Prelude.{◌≡◌, ◌∷◌, [], drop, length, IfOk};
-ghost use Rattle.lua_heap.specs.Value as kind;
+ghost use Rattle.std.specs.Prelude.{◌≡◌, drop, length};
 ghost use Rattle.mw_text.specs.Decode.{head, decoded};
 ghost use Rattle.mw_text.specs.References.{nowiki_byte, nowiki_of};
-ghost use Rattle.lua_store.specs.Parts.{IsLater};
-ghost use Rattle.lua_basic.specs.Seen.{values_seen, AllOf};
 ghost use Rattle.mw_frames.specs.Costs.{Pays};
 
 use lua_basic::Stop;
-use lua_basic::values::single;
-use lua_store::{Store, Value};
 use mw_frames::paying::pay;
 use mw_text::decoding::reference;
 use mw_text::ends::first_byte;
 use mw_text::references::is_markup;
-use std::alloc::Global;
-use wk_base::{Left, List, NoMemory};
+use wk_base::Left;
 
 /// How many bytes `decode` makes of a byte and the text behind it; and the text behind what that takes.
 fn head_cost(byte: u8, text: &[u8]) -> (u64, &[u8])
@@ -66,16 +60,4 @@ pub fn pay_nowiki(left: &mut Left, s: &[u8]) -> Result<(), Stop>
         rest = behind;
     }
     Ok(())
-}
-
-/// A text that is paid for, as the only value of a list.
-pub fn paid_text(alloc: Global, store: &mut Store, text: &[u8]) -> Result<List<Value>, NoMemory>
-    ensures value { IfOk result (λ values. values_seen store.new.texts values ≡ kind.Text text.now ∷ []) }
-    ensures of { IfOk result (AllOf store.new) }
-    ensures heap { store.new.heap ≡ store.old.heap }
-    ensures later { IsLater store.old store.new }
-{
-    let text = store.text(text)?;
-    let values = single(alloc, Value::Text(text))?;
-    Ok(values)
 }

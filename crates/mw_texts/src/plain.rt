@@ -8,7 +8,7 @@ ghost use Rattle.mw_text.specs.References.{nowiki_of};
 ghost use Rattle.lua_meaning.specs.Arguments.{gives_text};
 ghost use Rattle.lua_meaning.specs.Texts as meaning;
 
-use crate::paying::{paid_text, pay_decoded, pay_nowiki};
+use crate::paying::{pay_decoded, pay_nowiki};
 use lua_basic::Stop;
 use lua_basic::arguments::{a_number, a_text};
 use lua_basic::values::{is_true, rest, third};
@@ -18,6 +18,7 @@ use mw_frames::paying::pay_texts;
 use mw_text::joining::room;
 use mw_ustring::{count_points, first_points, points_behind};
 use mw_ustrings::arguments::{utf8_text, utf8_text_or};
+use mw_ustrings::giving::text_value;
 use std::alloc::Global;
 use wk_base::{Left, List, NoMemory};
 
@@ -34,7 +35,7 @@ fn give_decoded(
 {
     pay_decoded(left, s)?;
     let made = mw_text::decode(alloc, s)?;
-    let values = paid_text(alloc, store, made.as_slice())?;
+    let values = text_value(alloc, store, made.as_slice())?;
     Ok(values)
 }
 
@@ -67,7 +68,7 @@ fn give_nowiki(
 {
     pay_nowiki(left, s)?;
     let made = mw_text::nowiki(alloc, s)?;
-    let values = paid_text(alloc, store, made.as_slice())?;
+    let values = text_value(alloc, store, made.as_slice())?;
     Ok(values)
 }
 
@@ -133,7 +134,7 @@ fn give_truncated(
     let (first, second) = shortened(s, n, ellipsis, adjust);
     pay_texts(left, first, second)?;
     let made = both(alloc, first, second)?;
-    let values = paid_text(alloc, store, made.as_slice())?;
+    let values = text_value(alloc, store, made.as_slice())?;
     Ok(values)
 }
 

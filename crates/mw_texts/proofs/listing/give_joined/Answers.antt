@@ -30,5 +30,5 @@ returns-clause-answer c =
     let took = took_then (total (map text_bytes c.args.items.now)) (glue_charge (length c.args.separator.now) (length c.args.conjunction.now) (length c.args.items.now)) c.args.left.now c.pay_items.new.left c.pay_glue.new.left
     c.in_ok-pay_items.ensures c.in_ok-pay_glue.ensures in
     let made = joined c.args.separator.now c.args.conjunction.now (map text_bytes c.args.items.now) in
-    values_cover (length made) c.args.store.now.heap c.paid_text.new.store c.args.left.now c.pay_glue.new.left (kind.Text made ∷ []) c.in_ok-values.values (rw (sym all) at took) c.in_ok-values.ensures.heap
+    values_cover (length made) c.args.store.now.heap c.text_value.new.store c.args.left.now c.pay_glue.new.left (kind.Text made ∷ []) c.in_ok-values.values (rw (sym all) at took) c.in_ok-values.ensures.heap
     (c.in_ok-values.ensures.value ∙ ap (λ text. kind.Text text ∷ []) (c.as_slice.ensures.value ∙ c.in_ok-made.ensures))

@@ -14,5 +14,5 @@ returns-in_err-pay_decoded-clause-answer c =
 pub returns-clause-answer : goal.returns-clause-answer
 returns-clause-answer c =
     let made = decoded c.args.s.now in
-    values_cover (length made) c.args.store.now.heap c.paid_text.new.store c.args.left.now c.pay_decoded.new.left (kind.Text made ∷ []) c.in_ok-values.values c.in_ok-pay_decoded.ensures c.in_ok-values.ensures.heap
+    values_cover (length made) c.args.store.now.heap c.text_value.new.store c.args.left.now c.pay_decoded.new.left (kind.Text made ∷ []) c.in_ok-values.values c.in_ok-pay_decoded.ensures c.in_ok-values.ensures.heap
     (c.in_ok-values.ensures.value ∙ ap (λ text. kind.Text text ∷ []) (c.as_slice.ensures.value ∙ c.in_ok-made.ensures))

@@ -24,5 +24,5 @@ returns-clause-answer c =
     let made = encode_utf8_all (truncated (chars c.args.s.now) c.args.n (chars c.args.ellipsis.now) c.args.adjust) in
     let is = rw (to_z-of_z w64 c.args.n c.ranges.n) at c.shortened.ensures in
     let all = ap length (sym is) ∙ length-append first second in
-    values_cover (length made) c.args.store.now.heap c.paid_text.new.store c.args.left.now c.pay_texts.new.left (kind.Text made ∷ []) c.in_ok-values.values (rw (sym all) at c.in_ok-pay_texts.ensures) c.in_ok-values.ensures.heap
+    values_cover (length made) c.args.store.now.heap c.text_value.new.store c.args.left.now c.pay_texts.new.left (kind.Text made ∷ []) c.in_ok-values.values (rw (sym all) at c.in_ok-pay_texts.ensures) c.in_ok-values.ensures.heap
     (c.in_ok-values.ensures.value ∙ ap (λ text. kind.Text text ∷ []) (c.as_slice.ensures.value ∙ c.in_ok-made.ensures ∙ is))
