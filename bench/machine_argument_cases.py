@@ -123,6 +123,22 @@ body("fields_of_requests_refused", "Titles that are no texts, and arguments that
 body("strict_of_values", "The handlers of `strict` take any key.", TRY + "require('strict')\nlocal m=getmetatable(_G)\nreturn " + each_kind("try(m.__index,_G,~)") + "," + each_kind("try(m.__newindex,_G,~)"),
      "".join(f"variable '{value}' is not declared;" for value in TEXTS) + "".join(f"assign to undeclared variable '{value}';" for value in TEXTS), profile=True)
 
+body("handlers_without_arguments", "Handlers and steps without an argument.", TRY + "require('strict')\nlocal m=getmetatable(_G)\nreturn try(frame:getArgument('1').expand),try((ipairs({}))),try(m.__index),try(m.__newindex)",
+     "bad argument #1 to 'expand' (table expected, got no value);bad argument #1 to 'ipairs' (table expected, got no value);variable 'nil' is not declared;assign to undeclared variable 'nil';",
+     args=[("1", "a")], profile=True)
+
+
+def each_flag(form):
+    """A call for each kind of value in place of a flag, and one with false."""
+    return each_kind(form) + "," + form.replace("~", "false")
+
+
+says("plain_of_each_kind", "All but nil and false count as true.", each_flag("(('ab'):find('.',1,~))"), "1 nil nil nil nil nil 1")
+says("flags_of_each_kind", "So they do as flags of `mw.ustring` and `mw.text`.",
+     ",".join(each_flag(form) for form in ("(mw.ustring.find('ab','.',1,~))", "#mw.text.split('ab','.',~)", "mw.text.gsplit('ab','.',~)()..'|'", "mw.text.truncate('abcdef',4,'.',~)")),
+     "1 nil nil nil nil nil 1 3 1 1 1 1 1 3 | ab| ab| ab| ab| ab| | abcd. abc. abc. abc. abc. abc. abcd.", profile=True)
+says("arguments_that_nobody_looks_at", "Two functions of `mw` look at none.", each_kind("type(mw.title.getCurrentTitle(~))") + "," + each_kind("type(mw.getCurrentFrame(~))"), "table " * 11 + "table", profile=True)
+
 
 # ---- the ends of the numbers
 MOST, LEAST = "9223372036854775807", "-9223372036854775807-1"

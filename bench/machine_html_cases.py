@@ -115,5 +115,7 @@ MANY_TAKEN = (1000 + len("return {f=function(frame)\n" + MANY + "\nend}") + 1 + 
 body("html_of_half_a_million", "An object stands in another 1,000 times, and that one in a third 500 times: it is rendered 500,000 times.", MANY, levels=False, profile=True, runs=[
     ("took", AMPLE, CALLS, [], f"gives {500501 * 7}, {MANY_TAKEN} taken"), ("exact", MANY_TAKEN - 1, CALLS, [], "spends steps, 0 left"),
     ("exact", 2_000_000, CALLS, [], "spends steps, 0 left")])
+body("html_of_long_children", "A text of a million bytes stands in another object 500,000 times: nothing of it is made that the steps do not cover.",
+     "local a=mw.html.create('b'):wikitext(('x'):rep(1000000))\nlocal b=mw.html.create()\nfor i=1,500000 do b:node(a) end\nreturn tostring(b)", levels=False, profile=True, runs=[("exact", AMPLE, CALLS, [], "spends steps, 0 left")])
 body("html_doubled", "Each of 100 objects has the one before twice: the steps are spent long before the end.", MAKE + "local x=H('b')\nfor i=1,100 do x=H('b'):node(x):node(x) end\nreturn x", levels=False, profile=True, runs=[
     ("exact", 2_000_000, CALLS, [], "spends steps, 0 left"), ("exact", 20_000, CALLS, [], "spends steps, 0 left")])
