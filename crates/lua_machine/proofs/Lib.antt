@@ -1,3 +1,4 @@
 pub mod Loops
 pub mod Moves
 pub mod Events
+pub mod Called

@@ -34,7 +34,7 @@ use Rattle.lua_state.specs.Seen.{slots_of, funds_of}
 use Rattle.lua_state.specs.Of.{StateOf}
 use Rattle.lua_state.specs.Worlds.{world_seen}
 use Rattle.lua_state.specs.Makes.{IsStill}
-use Rattle.lua_strides.specs.Strides.{Strides, Idles}
+use Rattle.lua_strides.specs.Strides.{Strides}
 use Rattle.lua_machine.specs.declared.event.Event.{Event}
 use Rattle.lua_machine.specs.declared.event.Event.TheVariants as event
 use Rattle.lua_machine.specs.Moved.{point_of, MovesTo, is_none, is_event, IsEventAt}
@@ -110,13 +110,6 @@ module _ (a : StoreView) (m : State) (x : Focus) (l : Left) (k : ℕ) (b : Store
         (subst (λ (w : World). Comes (world_seen w) (point_of b m' y) (slots_of b m') (funds_of l' m' told j) (Lacks which d.heap (all_given_back (funds_of l'' m'' told n')))) c.world (e.led told j n' (omega (arith, c.rises, h))));
   }
 
-  -- nothing changed
-  pub idle_leads : (d : StoreView) (m'' : State) (l'' : Left) (k'' : ℕ) → Idles b m' l' k' d m'' l'' k'' → LeadsTo a m x l k d m'' l'' k'' y
-  idle_leads d m'' l'' k'' e = rw (e.store, e.state, e.left, e.counter) c
-
-  pub idle_weighs : (d : StoreView) (m'' : State) (l'' : Left) (k'' : ℕ) → Idles b m' l' k' d m'' l'' k'' → weight (point_of d m'' y) ≡ weight (point_of b m' y)
-  idle_weighs d m'' l'' k'' e = rw (e.store, e.state) refl
-
   pub turn_ends : (d : StoreView) (m'' : State) (l'' : Left) (k'' : ℕ) (w : Which) → MovesTo b m' y l' k' d m'' l'' k'' (turn.Spent w) → EndsIn a m x l k d m'' l'' k'' (event.Spent w)
   turn_ends d m'' l'' k'' which e = record {
     state = e.state;
@@ -190,23 +183,30 @@ pub turn_falls : (a : StoreView) (m : State) (x : Focus) (l : Left) (k : ℕ) (b
 turn_falls a m x l k b m' l' k' y moving e =
     steps_or_weight_fall (world_seen m.codes.world) (point_of a m x) (slots_of a m) (funds_of l m no_tally k) (point_of b m' y) (slots_of b m') (funds_of l' m' no_tally k') (goes_on a m x moving) (e.makes no_tally k k' (omega arith))
 
--- SEVERAL MOVES AT ONCE, or one where nothing was done
+-- SEVERAL MOVES AT ONCE
 pub strode_goes : (s : StoreView) (m : State) (x : Focus) (l : Left) (k : ℕ) (t : StoreView) (m' : State) (l' : Left) (k' : ℕ) (y : Focus) → Strides s m (point_of s m x) l k t m' l' k' y → GoesTo s m x l k t m' l' k' (turn.On y)
 strode_goes s m x l k t m' l' k' y e =
     (record { state = e.state; world = e.world; of = e.of; later = e.later; rises = e.rises; led = e.led }, omega (arith, e.falls), λ same. absurd (omega (arith, e.falls, same)))
 
-pub turned_goes : (s : StoreView) (m : State) (x : Focus) (l : Left) (k : ℕ) (d : StoreView) (n : State) (i : Left) (j : ℕ) (t : StoreView) (m' : State) (l' : Left) (k' : ℕ) (r : Turn) → StateOf s m → FocusOf s x → is_event m.frames x ≡ false
-    → Idles s m l k d n i j → MovesTo d n x i j t m' l' k' r → GoesTo s m x l k t m' l' k' r
-turned_goes s m x l k d n i j t m' l' k' (turn.On y) state of moving idle e =
-    let start : LeadsTo s m x l k s m l k x = at_start s m x l k state of in
-    let falls = turn_falls d n x i j t m' l' k' y (ap (λ (o : State). is_event o.frames x) idle.state ∙ moving) e in
-    let steps : i.steps ≡ l.steps = ap (λ (o : Left). o.steps) idle.left in (
-      turn_leads s m x l k d n i j x (idle_leads s m x l k s m l k x start d n i j idle) t m' l' k' y e,
-      omega (arith, falls.0, steps),
-      λ same. subst (λ (o : ℕ). weight (point_of t m' y) < o) (idle_weighs s m x l k s m l k x start d n i j idle) (falls.1 (same ∙ sym steps)),
+-- ONE MOVE
+pub move_goes : (s : StoreView) (m : State) (x : Focus) (l : Left) (k : ℕ) (t : StoreView) (m' : State) (l' : Left) (k' : ℕ) (r : Turn) → StateOf s m → FocusOf s x → is_event m.frames x ≡ false → MovesTo s m x l k t m' l' k' r → GoesTo s m x l k t m' l' k' r
+move_goes s m x l k t m' l' k' (turn.On y) state of moving e =
+    let falls = turn_falls s m x l k t m' l' k' y moving e in (turn_leads s m x l k s m l k x (at_start s m x l k state of) t m' l' k' y e, falls.0, falls.1)
+move_goes s m x l k t m' l' k' (turn.Spent w) state of moving e = turn_ends s m x l k s m l k x (at_start s m x l k state of) t m' l' k' w e
+
+-- TWO MOVES at the same store, of which the first takes nothing
+pub two_go : (s : StoreView) (m : State) (x : Focus) (l : Left) (k : ℕ) (n : State) (y : Focus) (t : StoreView) (m' : State) (l' : Left) (k' : ℕ) (r : Turn) → StateOf s m → FocusOf s x → is_event m.frames x ≡ false
+    → MovesTo s m x l k s n l k (turn.On y) → is_event n.frames y ≡ false → MovesTo s n y l k t m' l' k' r → GoesTo s m x l k t m' l' k' r
+two_go s m x l k n y t m' l' k' (turn.On z) state of moving first still second =
+    let before : LeadsTo s m x l k s n l k y = turn_leads s m x l k s m l k x (at_start s m x l k state of) s n l k y first in
+    let falls = turn_falls s m x l k s n l k y moving first in
+    let then = turn_falls s n y l k t m' l' k' z still second in (
+      turn_leads s m x l k s n l k y before t m' l' k' z second,
+      then.0,
+      λ same. omega (arith, falls.1 refl, then.1 same),
     )
-turned_goes s m x l k d n i j t m' l' k' (turn.Spent w) state of moving idle e =
-    turn_ends s m x l k d n i j x (idle_leads s m x l k s m l k x (at_start s m x l k state of) d n i j idle) t m' l' k' w e
+two_go s m x l k n y t m' l' k' (turn.Spent w) state of moving first still second =
+    turn_ends s m x l k s n l k y (turn_leads s m x l k s m l k x (at_start s m x l k state of) s n l k y first) t m' l' k' w second
 
 -- MOVES IN A ROW behind one: steps never rise, and where they stay the weight does not
 abbrev Sinks : Point → Funds → Point → Funds → Type 0

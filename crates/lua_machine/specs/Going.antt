@@ -11,6 +11,8 @@ use Rattle.lua_slots.specs.Enact.{Funds, all_given_back}
 use Rattle.lua_goes.specs.Weight.{weight}
 use Rattle.lua_goes.specs.Going.{Lacks, Reaches, Comes}
 use Rattle.lua_stack.specs.declared.focus.Focus.{Focus}
+use Rattle.lua_stack.specs.declared.focus.Focus.TheVariants as focus
+use Rattle.lua_stack.specs.declared.values.Given.{Given}
 use Rattle.lua_stack.specs.Of.{FocusOf}
 use Rattle.lua_state.specs.declared.state.State.{State}
 use Rattle.lua_state.specs.declared.turn.Turn.{Turn}
@@ -51,6 +53,10 @@ pub record EndsIn (s : StoreView) (m : State) (f : Focus) (l : Left) (k : ℕ) (
 abbrev pub GoesTo : StoreView → State → Focus → Left → ℕ → StoreView → State → Left → ℕ → Turn → Type 0
 GoesTo s m x l k t m' l' k' (turn.On y) = LeadsTo s m x l k t m' l' k' y × (l'.steps ≤ l.steps) × (l'.steps ≡ l.steps → weight (point_of t m' y) < weight (point_of s m x))
 GoesTo s m x l k t m' l' k' (turn.Spent w) = EndsIn s m x l k t m' l' k' (event.Spent w)
+
+-- values for the newest frame are next
+abbrev pub GivesOn : Turn → Type 0
+GivesOn r = (values : Given) × (r ≡ turn.On (focus.Gives values))
 
 -- what is next behind a move is of what is held
 abbrev pub IsOn : StoreView → State → Turn → Type 0

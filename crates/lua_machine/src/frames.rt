@@ -1,5 +1,5 @@
 //! What reaches a frame: each kind of frame goes on with it.
-ghost use Rattle.std.specs.Prelude.{◌≡◌, ◌+◌, ◌<◌, ◌^◌, IfOk};
+ghost use Rattle.std.specs.Prelude.{◌+◌, ◌<◌, ◌^◌, IfOk};
 ghost use Rattle.lua_slots.specs.Code.{CWorld};
 ghost use Rattle.lua_slots.specs.Moves.{goes, passes};
 ghost use Rattle.lua_stack.specs.Seen.{frame_seen, given_seen, jump_seen};

@@ -2,6 +2,8 @@
 ghost use Rattle.std.specs.Prelude.{◌≡◌, ◌+◌, ◌<◌, ◌^◌, ℕ, true, false, [], IfOk, IfSome};
 ghost use Rattle.wk_base.specs.declared.left.Left.{Left as Allowance};
 ghost use Rattle.lua_stack.specs.declared.focus.Focus.{Focus as FocusValue};
+ghost use Rattle.lua_stack.specs.declared.focus.Focus.TheVariants as focus_kind;
+ghost use Rattle.lua_stack.specs.declared.values.Given.TheVariants as given_kind;
 ghost use Rattle.lua_stack.specs.Of.{FocusOf};
 ghost use Rattle.lua_state.specs.declared.state.State.{State as StateValue};
 ghost use Rattle.lua_state.specs.declared.turn.Turn.TheVariants as turn_kind;
@@ -12,8 +14,8 @@ ghost use Rattle.lua_machine.specs.Moved.{is_event, IsEventAt};
 ghost use Rattle.lua_machine.specs.Going.{EndsIn, GoesTo, IsOn};
 
 use crate::event::Event;
-use crate::moving::turn;
-use lua_stack::{Focus, Given};
+use crate::library::{call_or_move, end_call};
+use lua_stack::{Focus, Given, Values};
 use lua_state::{Outcome, State, Turn};
 use lua_store::Store;
 use lua_strides::{Next, focus_for};
@@ -62,12 +64,23 @@ fn event_at(next: Focus<'_>) -> Event
     }
 }
 
+/// What is next where these values are given, if there are none.
+fn none_of<'m>(values: &Values) -> Option<Next<'m>>
+    ensures { IfSome result (λ n. focus_kind.Gives (given_kind.Many values.now) ≡ focus_of n) }
+{
+    if values.len() == 0 {
+        return Some(Next::GivesNone);
+    }
+    None
+}
+
 /// What is next behind a move, if it is one value or none for the newest frame.
 fn given<'m>(turned: &Turn<'m>) -> Option<Next<'m>>
     ensures { IfSome result (λ n. turned.now ≡ turn_kind.On (focus_of n)) }
 {
     match turned {
         Turn::On(Focus::Gives(Given::One(value))) => Some(Next::Gives(*value)),
+        Turn::On(Focus::Gives(Given::Many(values))) => none_of(values),
         _ => None,
     }
 }
@@ -94,7 +107,28 @@ fn go_behind<'m, L: Ledger>(
     }
 }
 
-/// Strides in a row, where expressions are read in place and the steps of their nodes are left; else one move, and strides in a row behind it.
+/// One move, or the call of a function of the library; and strides in a row behind it.
+#[inline(always)]
+fn go_once<'m, L: Ledger>(
+    alloc: Global,
+    store: &mut Store,
+    left: &mut Left,
+    state: &mut State<'m>,
+    next: Focus<'m>,
+    turns: &mut Steps<L>,
+) -> Result<Turn<'m>, NoMemory>
+    requires state { StateOf store.old state.old }
+    requires calls { left.old.calls + state.old.calls < 2 ^ 64 }
+    requires focus { FocusOf store.old next }
+    requires moving { is_event state.old.frames next ≡ false }
+    ensures { IfOk result (λ r. GoesTo store.old state.old next.entry left.old turns.old store.new state.new left.new turns.new r) }
+{
+    let turned = call_or_move(alloc, store, left, state, next, turns)?;
+    let ended = end_call(left, state, turned)?;
+    go_behind(alloc, store, left, state, ended, turns)
+}
+
+/// Strides in a row, where expressions are read in place and the steps of their nodes are left; else what `go_once` does.
 #[inline(always)]
 fn go_on<'m, L: Ledger>(
     alloc: Global,
@@ -116,10 +150,7 @@ fn go_on<'m, L: Ledger>(
             let focus = focus_for(alloc, after)?;
             Ok(Turn::On(focus))
         }
-        None => {
-            let turned = turn(alloc, store, left, state, next, turns)?;
-            go_behind(alloc, store, left, state, turned, turns)
-        }
+        None => go_once(alloc, store, left, state, next, turns),
     }
 }
 

@@ -3,6 +3,7 @@
 //! - `machine`: a machine, its start, its going on, and its answers
 //! - `event`: how a machine stops, and what it is answered
 //! - `going`: moves until a step is paid, and until an event
+//! - `library`: a function of the library is called, and its call ends
 //! - `moving`: one move, with its charges
 //! - `frames`: what reaches a frame that waits
 //! - `things`: what begins at a step of its own
@@ -14,6 +15,7 @@
 pub mod event;
 pub mod frames;
 pub mod going;
+pub mod library;
 pub mod machine;
 pub mod moving;
 pub mod things;

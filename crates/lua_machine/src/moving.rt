@@ -1,5 +1,5 @@
 //! One move, with its charges.
-ghost use Rattle.std.specs.Prelude.{◌≡◌, ◌+◌, ◌<◌, ◌^◌, ℕ, IfOk};
+ghost use Rattle.std.specs.Prelude.{◌+◌, ◌<◌, ◌^◌, ℕ, IfOk};
 ghost use Rattle.lua_stack.specs.Of.{FocusOf, GivenOf, JumpOf};
 ghost use Rattle.lua_stack.specs.declared.focus.Focus.TheVariants as focus_kind;
 ghost use Rattle.lua_slots.specs.Expressions.{evals};

@@ -1,5 +1,5 @@
 //! Things that begin, whose step is paid.
-ghost use Rattle.std.specs.Prelude.{◌≡◌, ◌+◌, ◌<◌, ◌^◌, IfOk};
+ghost use Rattle.std.specs.Prelude.{◌+◌, ◌<◌, ◌^◌, IfOk};
 ghost use Rattle.lua_slots.specs.Calls as calls;
 ghost use Rattle.lua_slots.specs.Index as indexing;
 ghost use Rattle.lua_slots.specs.Moves.{begins};
