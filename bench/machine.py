@@ -48,6 +48,7 @@ LIBRARY = {
     "300,000 gsub": (LOOP % (300000, "local s,k=string.gsub('hello world','o','0') n=n+k"), LOOP % (300000, "local s,k='hello world',2 n=n+k")),
     "300,000 format": (LOOP % (300000, "n=n+#string.format('%d %s %05d',i,'x',i)"), LOOP % (300000, "n=n+#'1 x 00001'")),
     "1,000,000 sub": (LOOP % (1000000, "local s='hello world' n=n+#s:sub(3,7)"), LOOP % (1000000, "local s='hello world' n=n+#s")),
+    "1,000,000 sub, declared": (LOOP % (1000000, "local s='hello world' local c=s:sub(3,7) n=n+#c"), LOOP % (1000000, "local s='hello world' local c=s n=n+#c")),
     "concat of 1,000,000": (FILLED % ("'x'", "return #table.concat(t,',')"), FILLED % ("'x'", "return #t")),
     "sort of 1,000,000": (FILLED % ("i*7919%1000003", "table.sort(t) return t[500000]"), FILLED % ("i*7919%1000003", "return t[500000]")),
 }

@@ -227,7 +227,7 @@ pub fn gsub_answer<'m>(
 }
 
 /// A call that has answered, or that begins to ask.
-fn go_from<'m>(
+pub fn go_from<'m>(
     alloc: Global,
     store: &mut Store,
     left: &mut Left,

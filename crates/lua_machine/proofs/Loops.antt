@@ -16,7 +16,7 @@ use Rattle.lua_slots.specs.Points.{Point, Gives, Asking}
 use Rattle.lua_slots.specs.Moves.{moves}
 use Rattle.lua_slots.specs.Enact.{Funds, all_given_back, Stands, Short, enact}
 use Rattle.lua_goes.specs.Weight.{weight}
-use Rattle.lua_goes.specs.Going.{Stop, Lacks, Reaches, here, further, Comes, is_over, is_short, is_short_late, is_asking}
+use Rattle.lua_goes.specs.Going.{Lacks, Reaches, here, further, Comes, is_short, is_short_late}
 use Rattle.lua_goes.specs.Laws.{GoesOnFrom}
 use Rattle.lua_goes.proofs.Counts.{kept-reached}
 use Rattle.lua_goes.proofs.Events.{steps_or_weight_fall}
@@ -39,20 +39,19 @@ use Rattle.lua_machine.specs.declared.event.Event.{Event}
 use Rattle.lua_machine.specs.declared.event.Event.TheVariants as event
 use Rattle.lua_machine.specs.Moved.{point_of, MovesTo, is_none, is_event, IsEventAt}
 use Rattle.lua_machine.specs.Going.{LeadsTo, EndsIn, GoesTo, IsOn}
+use Rattle.lua_strides.specs.Next.{focus_of}
 use Rattle.lua_turns.specs.Rows.{Follows}
+use Rattle.lua_turns.proofs.Following.{strides_follow}
+use Rattle.lua_rows.specs.declared.rows.Went.{Went}
+use Rattle.lua_rows.specs.declared.rows.Went.TheVariants as went
+use Rattle.lua_rows.specs.Rows.{FollowsTo, IsTurn, StridesTo, TurnsTo}
+use Rattle.lua_rows.proofs.Turning.{comes_behind}
 
 -- a last move, in which an allowance is spent
 spent : (world : CWorld) (p : Point) (s : Slots) (f : Funds) (a : StoreView) (m : State) (x : Focus) (g : Funds) (b : StoreView) (w : Which) (g' : Funds) → Reaches world p s f (point_of a m x) (slots_of a m) g
     → IsStill a b (moves world (point_of a m x) (slots_of a m)) → enact (moves world (point_of a m x) (slots_of a m)) g ≡ Short w (all_given_back g') → Comes world p s f (Lacks w b.heap (all_given_back g'))
 spent world p s f a m x g b w g' c (inl st) e = subst (λ (h : Heap Proc). Comes world p s f (Lacks w h (all_given_back g'))) (sym st) (is_short _ _ _ w (all_given_back g') c e)
 spent world p s f a m x g b w g' c (inr st) e = subst (λ (h : Heap Proc). Comes world p s f (Lacks w h (all_given_back g'))) (sym st) (is_short_late _ _ _ w (all_given_back g') c e)
-
--- an event behind moves
-comes_then : {world : CWorld} {p : Point} {s : Slots} {f : Funds} {q : Point} {t : Slots} {g : Funds} {e : Stop} → Reaches world p s f q t g → Comes world q t g e → Comes world p s f e
-comes_then c (is_over o u h d) = is_over o u h (reach_then c d)
-comes_then c (is_short r u h w h' d e) = is_short r u h w h' (reach_then c d) e
-comes_then c (is_short_late r u h w h' d e) = is_short_late r u h w h' (reach_then c d) e
-comes_then c (is_asking q fs u h d) = is_asking q fs u h (reach_then c d)
 
 -- FROM ONE STATE OF THE CODE TO ANOTHER
 pub as_many : (k n n' : ℕ) → k + n ≡ k + n' → n ≡ n'
@@ -106,7 +105,7 @@ module _ (a : StoreView) (m : State) (x : Focus) (l : Left) (k : ℕ) (b : Store
     rises = omega (arith, c.rises, e.rises);
     led = λ told n n' h.
         let j : ℕ = k' + n - k in
-        comes_then (c.led told n j (omega (arith, c.rises)))
+        comes_behind (c.led told n j (omega (arith, c.rises)))
         (subst (λ (w : World). Comes (world_seen w) (point_of b m' y) (slots_of b m') (funds_of l' m' told j) (Lacks which d.heap (all_given_back (funds_of l'' m'' told n')))) c.world (e.led told j n' (omega (arith, c.rises, h))));
   }
 
@@ -248,6 +247,24 @@ goes_behind s m x l k t m' l' k' y u n i j z goes e =
       omega (arith, goes.1, sinks.0),
       λ same. omega (arith, goes.2 (omega (arith, goes.1, sinks.0, same)), sinks.1 (omega (arith, goes.1, sinks.0, same))),
     )
+
+-- A ROW, with calls of the library in it, and the turn that it comes to
+pub turn_goes : (s : StoreView) (m : State) (x : Focus) (l : Left) (k : ℕ) (t : StoreView) (m' : State) (l' : Left) (k' : ℕ) (r : Turn) → TurnsTo s m (point_of s m x) l k t m' l' k' r → GoesTo s m x l k t m' l' k' r
+turn_goes s m x l k t m' l' k' (turn.On y) e = strode_goes s m x l k t m' l' k' y e
+turn_goes s m x l k t m' l' k' (turn.Spent w) e = record { state = e.state; world = e.world; of = tt; later = e.later; rises = e.rises; led = e.led }
+
+pub row_goes : (s : StoreView) (m : State) (x : Focus) (l : Left) (k : ℕ) (t : StoreView) (m' : State) (l' : Left) (k' : ℕ) (w : Went) (r : Turn) → StridesTo s m (point_of s m x) l k t m' l' k' w → IsTurn w r → GoesTo s m x l k t m' l' k' r
+row_goes s m x l k t m' l' k' (went.On y) r e is = subst (GoesTo s m x l k t m' l' k') (sym is) (strode_goes s m x l k t m' l' k' (focus_of y) e)
+row_goes s m x l k t m' l' k' (went.Turned y) r e is = subst (GoesTo s m x l k t m' l' k') (sym is) (turn_goes s m x l k t m' l' k' y.value e)
+
+module _ (s : StoreView) (m : State) (x : Focus) (l : Left) (k : ℕ) (t : StoreView) (m' : State) (l' : Left) (k' : ℕ) (y : Focus) (u : StoreView) (n : State) (i : Left) (j : ℕ) where
+  turn_behind : (r : Turn) → GoesTo s m x l k t m' l' k' (turn.On y) → TurnsTo t m' (point_of t m' y) l' k' u n i j r → GoesTo s m x l k u n i j r
+  turn_behind (turn.On z) goes e = goes_behind s m x l k t m' l' k' y u n i j z goes (strides_follow t m' (point_of t m' y) l' k' u n i j z e)
+  turn_behind (turn.Spent w) goes e = then_spent s m x l k t m' l' k' y goes.0 u n i j w (turn_goes t m' y l' k' u n i j (turn.Spent w) e)
+
+  pub row_behind : (w : Went) (r : Turn) → GoesTo s m x l k t m' l' k' (turn.On y) → FollowsTo t m' (point_of t m' y) l' k' u n i j w → IsTurn w r → GoesTo s m x l k u n i j r
+  row_behind (went.On z) r goes e is = subst (GoesTo s m x l k u n i j) (sym is) (goes_behind s m x l k t m' l' k' y u n i j (focus_of z) goes e)
+  row_behind (went.Turned z) r goes e is = subst (GoesTo s m x l k u n i j) (sym is) (turn_behind z.value goes e)
 
 pub is_on : (s : StoreView) (m : State) (x : Focus) (l : Left) (k : ℕ) (t : StoreView) (m' : State) (l' : Left) (k' : ℕ) (r : Turn) → GoesTo s m x l k t m' l' k' r → IsOn t m' r
 is_on s m x l k t m' l' k' (turn.On y) e = (e.0.state, e.0.of)

@@ -15,11 +15,11 @@ ghost use Rattle.lua_machine.specs.Going.{EndsIn, GoesTo, IsOn};
 
 use crate::event::Event;
 use crate::library::{call_or_move, end_call};
+use lua_rows::{row, strides, turn_for};
 use lua_stack::{Focus, Given, Values};
 use lua_state::{Outcome, State, Turn};
 use lua_store::Store;
-use lua_strides::{Next, focus_for};
-use lua_turns::{row, strides};
+use lua_strides::Next;
 use std::alloc::Global;
 use std::sync::ledger::Ledger;
 use wk_base::{Left, NoMemory, Steps};
@@ -99,9 +99,8 @@ fn go_behind<'m, L: Ledger>(
 {
     match given(&turned) {
         Some(next) => {
-            let after = row(alloc, store, left, state, next, turns)?;
-            let focus = focus_for(alloc, after)?;
-            Ok(Turn::On(focus))
+            let went = row(alloc, store, left, state, next, turns)?;
+            turn_for(alloc, went)
         }
         None => Ok(turned),
     }
@@ -146,10 +145,7 @@ fn go_on<'m, L: Ledger>(
 {
     let strode = strides(alloc, store, left, state, &next, turns)?;
     match strode {
-        Some(after) => {
-            let focus = focus_for(alloc, after)?;
-            Ok(Turn::On(focus))
-        }
+        Some(went) => turn_for(alloc, went),
         None => go_once(alloc, store, left, state, next, turns),
     }
 }

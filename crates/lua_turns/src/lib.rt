@@ -20,7 +20,7 @@
 //! - `branching`: tests of `if` and `while`
 //! - `listing`: lists of expressions
 //! - `methods`: methods and entries that are found at once
-//! - `rows`: strides in a row
+//! - `rows`: what is next is gone on with, or a row begins with it
 //!
 //! Begin with `specs/Rows.antt`: what moves in a row are.
 #![tactic(auto)]
@@ -46,4 +46,4 @@ pub mod setting;
 pub mod statements;
 pub mod waiting;
 
-pub use rows::{row, strides};
+pub use rows::{begin_row, follow};

@@ -1,4 +1,4 @@
-//! Strides in a row.
+//! What is next is gone on with in place, where that can be done, and a row of strides begins with it.
 ghost use Rattle.std.specs.Prelude.{◌≡◌, ◌∷◌, [], map, option_map, IfOk};
 ghost use Rattle.lua_code.specs.Seen.{block_seen, branches_seen, expression_seen, expressions_seen, statement_seen, target_seen};
 ghost use Rattle.lua_slots.specs.Code.{AssignC, DeclareC, GlobalTargetC, MoreC, NoC, ThenC};
@@ -11,7 +11,7 @@ ghost use Rattle.lua_store.specs.Seen.{StoreView};
 ghost use Rattle.lua_strides.specs.Conditions.{if_seen};
 ghost use Rattle.lua_strides.specs.Next.{focus_of};
 ghost use Rattle.lua_strides.specs.Strides.{MayStride};
-ghost use Rattle.lua_turns.specs.Rows.{Follows, MayFollow};
+ghost use Rattle.lua_turns.specs.Rows.{MayFollow};
 
 use crate::beginning::{begin_paren, begin_return};
 use crate::branching::front_branch;
@@ -34,9 +34,6 @@ use lua_strides::striding::{expression, front_of, only, statement};
 use std::alloc::Global;
 use std::sync::ledger::Ledger;
 use wk_base::{Left, List, NoMemory, Steps};
-
-/// How many strides there are in a row at most.
-const MOST: u64 = 1 << 20;
 
 /// A declaration of one value begins.
 fn begin_local<'m, L: Ledger>(
@@ -352,7 +349,7 @@ fn evaluate<'m, L: Ledger>(
 }
 
 /// What follows this, if it can be done in place.
-fn follow<'m, L: Ledger>(
+pub fn follow<'m, L: Ledger>(
     alloc: Global,
     store: &mut Store,
     left: &mut Left,
@@ -375,34 +372,8 @@ fn follow<'m, L: Ledger>(
     }
 }
 
-/// What follows this in a row: strides, as long as they can be made.
-pub fn row<'m, L: Ledger>(
-    alloc: Global,
-    store: &mut Store,
-    left: &mut Left,
-    state: &mut State<'m>,
-    first: Next<'m>,
-    turns: &mut Steps<L>,
-) -> Result<Next<'m>, NoMemory>
-    requires state { StateOf store.old state.old }
-    requires first { FocusOf store.old (focus_of first) }
-    ensures { IfOk result (λ r. Follows store.old state.old (focus_seen store.old (focus_of first.entry) (frames_of store.old state.old)) left.old turns.old store.new state.new left.new turns.new (focus_of r)) }
-{
-    let mut next = first;
-    'row: for _ in 0..MOST {
-        let followed = follow(alloc, store, left, state, &next, turns)?;
-        match followed {
-            Some(after) => {
-                next = after;
-            }
-            None => return Ok(next),
-        }
-    }
-    Ok(next)
-}
-
 /// Where the first of several strides leads from what is next.
-fn begin_row<'m, L: Ledger>(
+pub fn begin_row<'m, L: Ledger>(
     alloc: Global,
     store: &mut Store,
     left: &mut Left,
@@ -416,49 +387,6 @@ fn begin_row<'m, L: Ledger>(
     match next {
         Focus::Evaluates(e) => evaluate(alloc, store, left, state, *e, turns),
         Focus::Runs(statements) => run_some(alloc, store, left, state, *statements, turns),
-        _ => Ok(None),
-    }
-}
-
-/// A stride, and what follows it in a row.
-fn go_on<'m, L: Ledger>(
-    alloc: Global,
-    store: &mut Store,
-    left: &mut Left,
-    state: &mut State<'m>,
-    next: &Focus<'m>,
-    turns: &mut Steps<L>,
-) -> Result<Option<Next<'m>>, NoMemory>
-    requires { StateOf store.old state.old }
-    ensures { IfOk result (MayStride store.old state.old (focus_seen store.old next.now (frames_of store.old state.old)) left.old turns.old store.new state.new left.new turns.new) }
-{
-    let strode = begin_row(alloc, store, left, state, next, turns)?;
-    match strode {
-        Some(first) => {
-            let last = row(alloc, store, left, state, first, turns)?;
-            Ok(Some(last))
-        }
-        None => Ok(None),
-    }
-}
-
-/// Where several strides in a row lead from what is next, if the first one leads anywhere: that is, if an expression or a block is next,
-/// what it begins with is read in place, and the steps of its nodes are left. Else nothing is done, and the moves are made one by one.
-#[inline(always)]
-pub fn strides<'m, L: Ledger>(
-    alloc: Global,
-    store: &mut Store,
-    left: &mut Left,
-    state: &mut State<'m>,
-    next: &Focus<'m>,
-    turns: &mut Steps<L>,
-) -> Result<Option<Next<'m>>, NoMemory>
-    requires { StateOf store.old state.old }
-    ensures { IfOk result (MayStride store.old state.old (focus_seen store.old next.now (frames_of store.old state.old)) left.old turns.old store.new state.new left.new turns.new) }
-{
-    match next {
-        Focus::Evaluates(_) => go_on(alloc, store, left, state, next, turns),
-        Focus::Runs(_) => go_on(alloc, store, left, state, next, turns),
         _ => Ok(None),
     }
 }

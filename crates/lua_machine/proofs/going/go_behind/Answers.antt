@@ -1,5 +1,6 @@
+use Rattle.std.proofs.lemmas.Result.{IfOk-weaker}
 use Rattle.lua_strides.specs.Next.{focus_of}
-use Rattle.lua_machine.proofs.Loops.{goes_behind}
+use Rattle.lua_machine.proofs.Loops.{row_behind}
 use Rattle.lua_machine.proofs.going.go_behind.Goals as goal
 
 pub row-requires-clause-state : goal.row-requires-clause-state
@@ -10,9 +11,8 @@ row-requires-clause-first g c = (rw (rw c.in-Some.is at c.given.ensures) at c.re
 
 pub returns-in-Some : goal.returns-in-Some
 returns-in-Some g c = λ s m f l k goes.
-    rw c.in_ok-focus-in-Some.ensures
-    (goes_behind s m f l k c.args.store.now c.args.state.now c.args.left.now c.args.turns.now (focus_of c.in-Some.next) c.row.new.store c.row.new.state c.row.new.left c.row.new.turns (focus_of c.in_ok-after-in-Some.after)
-    (rw (rw c.in-Some.is at c.given.ensures) at goes) c.in_ok-after-in-Some.ensures)
+    IfOk-weaker c.turn_for.result _ _ (λ r is. row_behind s m f l k c.args.store.now c.args.state.now c.args.left.now c.args.turns.now (focus_of c.in-Some.next) c.row.new.store c.row.new.state c.row.new.left c.row.new.turns c.in_ok-went-in-Some.went r
+    (rw (rw c.in-Some.is at c.given.ensures) at goes) c.in_ok-went-in-Some.ensures is) c.turn_for.ensures
 
 pub returns : goal.returns
 returns g c = λ s m f l k goes. goes

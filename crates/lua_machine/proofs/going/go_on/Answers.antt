@@ -1,14 +1,14 @@
+use Rattle.std.proofs.lemmas.Result.{IfOk-weaker}
 use Rattle.std.proofs.Common.{ap, arith}
 use Rattle.wk_base.specs.declared.left.Left.{Left}
 use Rattle.lua_state.specs.declared.state.State.{State}
-use Rattle.lua_strides.specs.Next.{focus_of}
-use Rattle.lua_machine.proofs.Loops.{strode_goes}
+use Rattle.lua_machine.proofs.Loops.{row_goes}
 use Rattle.lua_machine.proofs.going.go_on.Goals as goal
 
 pub returns-in-Some : goal.returns-in-Some
 returns-in-Some g c =
-    rw c.in_ok-focus-in-Some.ensures
-    (strode_goes c.args.store.now c.args.state.now c.args.next c.args.left.now c.args.turns.now c.strides.new.store c.strides.new.state c.strides.new.left c.strides.new.turns (focus_of c.in-Some.after) (rw c.in-Some.is at c.in_ok-strode.ensures))
+    IfOk-weaker c.turn_for.result _ _ (λ r is. row_goes c.args.store.now c.args.state.now c.args.next c.args.left.now c.args.turns.now c.strides.new.store c.strides.new.state c.strides.new.left c.strides.new.turns c.in-Some.went r
+    (rw c.in-Some.is at c.in_ok-strode.ensures) is) c.turn_for.ensures
 
 pub go_once-requires-clause-state : goal.go_once-requires-clause-state
 go_once-requires-clause-state g c =

@@ -1,5 +1,5 @@
 use Rattle.lua_strides.proofs.Paths.{idle_here}
-use Rattle.lua_turns.proofs.rows.strides.Goals as goal
+use Rattle.lua_rows.proofs.rows.strides.Goals as goal
 
 pub returns-in-Evaluates : goal.returns-in-Evaluates
 returns-in-Evaluates g c = c.go_on.ensures

@@ -2,7 +2,7 @@ use Rattle.lua_strides.specs.Next.{focus_of}
 use Rattle.lua_stack.specs.Seen.{focus_seen}
 use Rattle.lua_state.specs.Seen.{frames_of}
 use Rattle.lua_turns.specs.Rows.{Follows}
-use Rattle.lua_turns.proofs.rows.row.Given as goal
+use Rattle.lua_rows.proofs.rows.row.Given as goal
 
 -- moves have led here
 abbrev pub invariant-row : goal.invariant-row

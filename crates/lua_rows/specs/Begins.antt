@@ -1,0 +1,26 @@
+-- HOW A CALL BEGINS in code: with its answer behind its charge, or, of `gsub`, with a job that begins behind its charge.
+use Rattle.std.specs.Prelude.{List, Result, Ok, Err}
+use Rattle.wk_base.specs.declared.left.Left.{Left}
+use Rattle.lua_heap.specs.Value.{Value}
+use Rattle.lua_meaning.specs.Gsub.{gsub_form}
+use Rattle.lua_store.specs.Seen.{StoreView}
+use Rattle.lua_basic.specs.declared.stop.Stop.{Stop}
+use Rattle.lua_basic.specs.Seen.{Paid}
+use Rattle.lua_gsubs.specs.declared.beginning.Begun.{Begun}
+use Rattle.lua_gsubs.specs.declared.beginning.Begun.TheVariants as begun
+use Rattle.lua_gsubs.specs.Begun.{IsBegun}
+use Rattle.lua_gsubs.specs.Table.{alphabet_of}
+use Rattle.lua_calls.specs.declared.table.AtOnce.{AtOnce}
+use Rattle.lua_calls.specs.Table.{once_seen}
+use Rattle.lua_rows.specs.declared.ready.Callee.{Callee}
+use Rattle.lua_rows.specs.declared.ready.Callee.TheVariants as callee
+
+-- one that answers at once
+abbrev pub AnswersAtOnce : AtOnce → List Value → StoreView → Left → StoreView → Left → Result Begun Stop → Type 0
+AnswersAtOnce f args s l t l' (Ok (begun.Answers vs)) = Paid (once_seen f args s.heap) s l t l' (Ok vs)
+AnswersAtOnce f args s l t l' (Ok (begun.Asks job limit)) = ⊥
+AnswersAtOnce f args s l t l' (Err e) = Paid (once_seen f args s.heap) s l t l' (Err e)
+
+abbrev pub Begins : Callee → List Value → StoreView → Left → StoreView → Left → Result Begun Stop → Type 0
+Begins (callee.Answers f) args s l t l' r = AnswersAtOnce f args s l t l' r
+Begins (callee.Gsub f) args s l t l' r = IsBegun (gsub_form (alphabet_of f) args s.heap) s l t l' r
