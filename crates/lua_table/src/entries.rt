@@ -12,7 +12,7 @@ use std::hash::RandomState;
 use std::marker::Model;
 
 /// With so few entries it takes less time to compare each key than to hash the one that is looked for.
-const FEW: usize = 8;
+const FEW: usize = 16;
 
 /// Entries in order of first insertion.
 ///
