@@ -1,5 +1,6 @@
 pub mod Lines
 pub mod Taken
+pub mod Listed
 pub mod Given
 pub mod Numbered
 pub mod Lengths

@@ -1,3 +1,4 @@
+pub mod Alone
 pub mod Table
 pub mod Costs
 pub mod Found

@@ -1,6 +1,7 @@
 //! A function of `string` or `math` is called.
 ghost use Rattle.lua_store.specs.Parts.{IsLater};
 ghost use Rattle.lua_basic.specs.Seen.{values_seen, AllOf, Paid, AnswerOf};
+ghost use Rattle.lua_strings.specs.Alone.{IsListed};
 ghost use Rattle.lua_strings.specs.Table.{answer_of};
 
 use crate::formatting::format;
@@ -10,9 +11,19 @@ use crate::places::{byte, sub};
 use crate::searching::{find, match_from};
 use crate::table::StringFunction;
 use lua_basic::Stop;
+use lua_basic::values::single;
 use lua_store::{Store, Value};
 use std::alloc::Global;
 use wk_base::{Left, List};
+
+/// The answer of a function that gives one value, as a list.
+fn listed(alloc: Global, answer: Result<Value, Stop>) -> Result<List<Value>, Stop>
+    ensures { IsListed answer result }
+{
+    let value = answer?;
+    let values = single(alloc, value)?;
+    Ok(values)
+}
 
 /// What a function of `string` or `math` gives for these arguments, after its charge.
 ///
@@ -41,7 +52,7 @@ pub fn string_call(
         StringFunction::Upper => upper(alloc, store, left, args),
         StringFunction::Rep => rep(alloc, store, left, args),
         StringFunction::Reverse => reverse(alloc, store, left, args),
-        StringFunction::Sub => sub(alloc, store, left, args),
+        StringFunction::Sub => listed(alloc, sub(alloc, store, left, args)),
         StringFunction::Abs => abs(alloc, store, args),
         StringFunction::Ceil => ceil(alloc, store, args),
         StringFunction::Floor => floor(alloc, store, args),

@@ -5,8 +5,9 @@ ghost use Rattle.lua_store.specs.Parts.{IsLater};
 ghost use Rattle.lua_store.specs.declared.value.Value.TheVariants as own;
 ghost use Rattle.lua_basic.specs.Seen.{values_seen, AllOf, Paid, AnswerOf};
 ghost use Rattle.lua_meaning.specs.Strings as meaning;
+ghost use Rattle.lua_strings.specs.Alone.{alone};
 
-use crate::paying::{give_text, take};
+use crate::paying::{give_one_text, take};
 use lua_basic::Stop;
 use lua_basic::arguments::{a_number, a_text, number_or};
 use lua_basic::values::rest;
@@ -81,21 +82,16 @@ pub fn byte(
     give_codes(alloc, store, left, part(text.as_slice(), from, to))
 }
 
-/// `string.sub(s, i, j)`: the bytes from place i to place j.
-pub fn sub(
-    alloc: Global,
-    store: &mut Store,
-    left: &mut Left,
-    args: &[Value],
-) -> Result<List<Value>, Stop>
+/// `string.sub(s, i, j)`: the bytes from place i to place j. Each answer is one value, which needs no list.
+pub fn sub(alloc: Global, store: &mut Store, left: &mut Left, args: &[Value]) -> Result<Value, Stop>
     requires { AllOf store.old args.now }
-    ensures answer { Paid (meaning.sub (values_seen store.old.texts args.now) store.old.heap) store.old left.old store.new left.new result }
-    ensures of { AnswerOf store.new result }
+    ensures answer { Paid (meaning.sub (values_seen store.old.texts args.now) store.old.heap) store.old left.old store.new left.new (alone result) }
+    ensures of { AnswerOf store.new (alone result) }
     ensures later { IsLater store.old store.new }
 {
     let text = a_text(alloc, store, 1, b"sub", args)?;
     let others = rest(args);
     let from = a_number(alloc, store, 2, b"sub", others)?;
     let to = number_or(alloc, store, -1, 3, b"sub", rest(others))?;
-    give_text(alloc, store, left, part(text.as_slice(), from, to))
+    give_one_text(store, left, part(text.as_slice(), from, to))
 }
