@@ -13,8 +13,10 @@ use Rattle.lua_code.specs.Seen.{expressions_seen}
 use Rattle.lua_gsubs.specs.declared.beginning.Begun.{Begun}
 use Rattle.lua_gsubs.specs.declared.beginning.Begun.TheVariants as begun
 use Rattle.lua_goes.specs.Going.{Reaches}
+use Rattle.lua_in_place.specs.InPlace.{applied}
+use Rattle.lua_in_place.proofs.Plain.{applied_is}
 use Rattle.lua_slots.specs.Moves.{moves}
-use Rattle.lua_slots.specs.Points.{SFrame, MoreNext, Point, Gives}
+use Rattle.lua_slots.specs.Points.{SFrame, MoreNext, UnaryNow, Point, Gives}
 use Rattle.lua_slots.specs.Slots.{all_opened, with_all}
 use Rattle.lua_stack.specs.declared.focus.Focus.{Focus}
 use Rattle.lua_stack.specs.declared.focus.Focus.TheVariants as focus
@@ -38,11 +40,12 @@ use Rattle.lua_state.specs.Seen.{frames_of, funds_of, slots_of}
 use Rattle.lua_state.specs.Worlds.{world_seen}
 use Rattle.lua_state.proofs.Making.{stands}
 use Rattle.lua_store.specs.declared.value.Value.{Value}
-use Rattle.lua_store.specs.Seen.{StoreView}
-use Rattle.lua_store.specs.Parts.{IsLater}
+use Rattle.lua_store.specs.Seen.{StoreView, seen}
+use Rattle.lua_store.specs.Parts.{IsLater, IsOf}
 use Rattle.lua_store.proofs.Later.{later-itself}
 use Rattle.lua_strides.specs.Strides.{Strides}
 use Rattle.lua_strides.proofs.Paths.{with_frames, with_frames_of}
+use Rattle.lua_syntax.specs.declared.UnaryOp.{UnaryOp}
 use Rattle.lua_turns.proofs.Following.{strides_then}
 use Rattle.lua_turns.proofs.Freely.{left_library, popped, popped_here}
 use Rattle.lua_rows.specs.declared.ready.Callee.{Callee}
@@ -97,6 +100,24 @@ module _ (s : StoreView) (m : State) (callee : Callee) (arguments : List Value) 
     -- the values are next, however they are held
     pub handed : (p : Point) (line : ℕ) (y : Focus) → LeadsToCall s m callee arguments nodes p line m.frames → FocusOf t y → ((fs : List SFrame) → focus_seen t y fs ≡ Gives (Goes (values_seen t.texts vs)) fs) → Strides s m p l k t m'' l'' k' y
     handed p line y leads of is = strides_as s m p l k t m'' l'' k' (focus.Gives (given.Many vs)) y of (is (frames_of t m'')) (ended p line m.frames m''.frames leads frames_left)
+
+    -- a frame waits for them that was not there before
+    pub handed_above : (p : Point) (line : ℕ) (f : Frame) (gs : List Frame) (y : Focus) → LeadsToCall s m callee arguments nodes p line (f ∷ m.frames) → gs ≡ f ∷ m''.frames → FocusOf t y
+        → ((fs : List SFrame) → focus_seen t y fs ≡ Gives (Goes (values_seen t.texts vs)) fs) → Strides s m p l k t (with_frames m'' gs) l'' k' y
+    handed_above p line f gs y leads e of is =
+        strides_as s m p l k t (with_frames m'' gs) l'' k' (focus.Gives (given.Many vs)) y of (is (frames_of t (with_frames m'' gs)))
+        (ended p line (f ∷ m.frames) gs leads (e ∙ ap (λ (fs : List Frame). f ∷ fs) frames_left))
+
+    -- an operator that waited for them gives its result
+    pub operated : (p : Point) (line at : ℕ) (op : UnaryOp) (x v : Value) → vs ≡ x ∷ [] → applied t.heap op (seen t.texts x) ≡ Some (seen t.texts v) → IsOf t v
+        → LeadsToCall s m callee arguments nodes p line (frame.Expression (in_expression.UnaryNow op at) ∷ m.frames) → Strides s m p l k t m'' l'' k' (focus.Gives (given.One v))
+    operated p line at op x v one is of leads =
+        let f = frame.Expression (in_expression.UnaryNow op at) in
+        let z = with_frames m'' (f ∷ m.frames) in
+        let c = ended p line (f ∷ m.frames) (f ∷ m.frames) leads refl in
+        strides_then s m p l k t z l'' k' (focus.Gives (given.Many vs)) t m'' l'' k' (focus.Gives (given.One v)) c
+        (popped_here t z l'' k' (Goes (values_seen t.texts vs)) f m.frames m''.frames m''.regs (focus.Gives (given.One v)) (slots_of t m'') c.state refl frames_left left_of.regs (of, tt)
+        (λ world gs. ap (λ (ws : List Value). moves world (Gives (Goes (values_seen t.texts ws)) (UnaryNow op at ∷ gs)) (slots_of t m'')) one ∙ applied_is (Some at) gs (slots_of t m'') op (seen t.texts x) (seen t.texts v) is) refl)
 
     -- a statement follows: the values go nowhere
     pub passed : (p : Point) (line : ℕ) (rest : Bor (List Statement)) → LeadsToCall s m callee arguments nodes p line (frame.Statement (in_statement.StatsNext rest) ∷ m.frames) → Strides s m p l k t m'' l'' k' (focus.Runs rest)

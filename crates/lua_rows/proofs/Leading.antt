@@ -7,9 +7,9 @@ use Rattle.lua_heap.specs.Value.{Builtin}
 use Rattle.lua_code.specs.declared.expression.Expression.{Expression}
 use Rattle.lua_code.specs.declared.statement.Statement.{Statement}
 use Rattle.lua_code.specs.Seen.{block_seen, expressions_seen}
-use Rattle.lua_slots.specs.Code.{CExp, CallStatC, DeclareC, MoreC, NoC, ThenC, CWorld}
+use Rattle.lua_slots.specs.Code.{CExp, CallStatC, DeclareC, MoreC, NoC, ThenC, UnaryC, CWorld}
 use Rattle.lua_slots.specs.Slots.{Slots}
-use Rattle.lua_slots.specs.Points.{SFrame, CallNow, DeclareNow, MoreNext, StatsNext, Point, Evals, Gives, Lists, Runs, Now}
+use Rattle.lua_slots.specs.Points.{SFrame, CallNow, DeclareNow, MoreNext, StatsNext, UnaryNow, Point, Evals, Gives, Lists, Runs, Now}
 use Rattle.lua_slots.specs.Errors.{node}
 use Rattle.lua_slots.specs.Moves.{moves}
 use Rattle.lua_slots.specs.Enact.{Funds}
@@ -18,13 +18,16 @@ use Rattle.lua_in_place.specs.Laws.{after_nodes}
 use Rattle.lua_in_place.proofs.Reading.{with_count, node_move, reach_then}
 use Rattle.lua_in_place.proofs.Statements.{LeadsFree, free}
 use Rattle.lua_stack.specs.declared.frame.Frame.TheVariants as frame
+use Rattle.lua_stack.specs.declared.frame.InExpression.TheVariants as in_expression
 use Rattle.lua_stack.specs.declared.frame.InStatement.TheVariants as in_statement
 use Rattle.lua_stack.specs.Seen.{values_seen}
 use Rattle.lua_state.specs.declared.state.State.{State}
 use Rattle.lua_state.specs.Of.{StateOf}
 use Rattle.lua_state.specs.Seen.{frames_of, slots_of}
 use Rattle.lua_state.specs.Worlds.{world_seen}
+use Rattle.lua_store.specs.declared.value.Value.{Value}
 use Rattle.lua_store.specs.Seen.{StoreView}
+use Rattle.lua_syntax.specs.declared.UnaryOp.{UnaryOp}
 use Rattle.lua_strides.specs.Strides.{LeadsAt}
 use Rattle.lua_rows.specs.declared.ready.ReadyCall.{ReadyCall}
 use Rattle.lua_rows.specs.Declaring.{declaring}
@@ -48,13 +51,24 @@ module _ (world : CWorld) where
   move_first n p q r s y x f le = reach_then (y f) (x f le)
 
 -- THE CALL OF AN EXPRESSION that is ready
-module _ (s : StoreView) (m : State) (e : CExp) (c : ReadyCall) (of : StateOf s m) (ready : IsReady s m e c) where
+module _ (s : StoreView) (m : State) (e : CExp) (args : List Value) (c : ReadyCall) (of : StateOf s m) (ready : IsReady s m e args c) where
   -- an expression
-  pub expression_leads : LeadsToCall s m c.callee c.arguments c.nodes (Evals e (frames_of s m)) c.line m.frames
+  pub expression_leads : LeadsToCall s m c.callee args c.nodes (Evals e (frames_of s m)) c.line m.frames
   expression_leads = record { which = ready.which; is = ready.is; frames = of.frames; leads = ready.leads (frames_of s m) }
 
+  -- the operand of an operator
+  pub operand_leads : (op : UnaryOp) (line : ℕ) → LeadsToCall s m c.callee args (1 + c.nodes) (Evals (UnaryC op e line) (frames_of s m)) c.line (frame.Expression (in_expression.UnaryNow op line) ∷ m.frames)
+  operand_leads op line =
+      let fs : List SFrame = UnaryNow op line ∷ frames_of s m in
+      record {
+        which = ready.which;
+        is = ready.is;
+        frames = (tt, of.frames);
+        leads = node_first (world_seen m.codes.world) c.nodes (Evals (UnaryC op e line) (frames_of s m)) (Evals e fs) (Gives (Goes (values_seen s.texts args)) (CallNow (Builtin ready.which) c.line ∷ fs)) (slots_of s m) refl (ready.leads fs);
+      }
+
   -- a call that is a statement
-  pub statement_leads : (rest : Bor (List Statement)) → LeadsToCall s m c.callee c.arguments (1 + c.nodes) (Runs (ThenC (CallStatC e) (block_seen rest.now)) (frames_of s m)) c.line (frame.Statement (in_statement.StatsNext rest) ∷ m.frames)
+  pub statement_leads : (rest : Bor (List Statement)) → LeadsToCall s m c.callee args (1 + c.nodes) (Runs (ThenC (CallStatC e) (block_seen rest.now)) (frames_of s m)) c.line (frame.Statement (in_statement.StatsNext rest) ∷ m.frames)
   statement_leads rest =
       let b = block_seen rest.now in
       let fs = frames_of s m in
@@ -62,19 +76,19 @@ module _ (s : StoreView) (m : State) (e : CExp) (c : ReadyCall) (of : StateOf s 
         which = ready.which;
         is = ready.is;
         frames = (tt, of.frames);
-        leads = node_first (world_seen m.codes.world) c.nodes (Runs (ThenC (CallStatC e) b) fs) (Evals e (StatsNext b ∷ fs)) (Gives (Goes (values_seen s.texts c.arguments)) (CallNow (Builtin ready.which) c.line ∷ StatsNext b ∷ fs)) (slots_of s m) refl
+        leads = node_first (world_seen m.codes.world) c.nodes (Runs (ThenC (CallStatC e) b) fs) (Evals e (StatsNext b ∷ fs)) (Gives (Goes (values_seen s.texts args)) (CallNow (Builtin ready.which) c.line ∷ StatsNext b ∷ fs)) (slots_of s m) refl
             (ready.leads (StatsNext b ∷ fs));
       }
 
   -- a declaration
   pub declaration_leads : (none : Bor (List Expression)) (flags : Bor (List Bool)) (rest : Bor (List Statement)) → none.now ≡ []
-      → LeadsToCall s m c.callee c.arguments (1 + c.nodes) (Runs (DeclareC flags.now (MoreC e NoC) (block_seen rest.now)) (frames_of s m)) c.line (declaring none flags rest m.frames)
+      → LeadsToCall s m c.callee args (1 + c.nodes) (Runs (DeclareC flags.now (MoreC e NoC) (block_seen rest.now)) (frames_of s m)) c.line (declaring none flags rest m.frames)
   declaration_leads none flags rest is =
       let world = world_seen m.codes.world in
       let x = slots_of s m in
       let fs : List SFrame = DeclareNow flags.now (block_seen rest.now) ∷ frames_of s m in
       let p = Runs (DeclareC flags.now (MoreC e NoC) (block_seen rest.now)) (frames_of s m) in
-      let r : List SFrame → Point = λ gs. Gives (Goes (values_seen s.texts c.arguments)) (CallNow (Builtin ready.which) c.line ∷ gs) in
+      let r : List SFrame → Point = λ gs. Gives (Goes (values_seen s.texts args)) (CallNow (Builtin ready.which) c.line ∷ gs) in
       record {
         which = ready.which;
         is = ready.is;

@@ -73,7 +73,7 @@ method_of_text s m object got text id name f is constant entry callee =
 
 -- A CALL of a function, and of a method
 module _ (s : StoreView) (m : State) (e : CExp) (es : CExps) (line : ℕ) (r : ValueRead) (f : Callee) (before all : List Value) (n : ℕ) (got : ReadsTo s m e (Some r)) (k : StandBehind s m es before all n) where
-  pub function_ready : IsCallee r.value f → before ≡ [] → IsReady s m (CallC e es line) (record { callee = f; line = line; arguments = all; nodes = 1 + (r.nodes + n) })
+  pub function_ready : IsCallee r.value f → before ≡ [] → IsReady s m (CallC e es line) all (record { callee = f; line = line; nodes = 1 + (r.nodes + n) })
   function_ready callee none =
       let b : IsBuiltin s r.value f = builtin_of s r.value f callee in
       let x : Slots = slots_of s m in
@@ -90,7 +90,7 @@ module _ (s : StoreView) (m : State) (e : CExp) (es : CExps) (line : ℕ) (r : V
             (called world x e es line (Builtin b.which) (values_seen s.texts all) r.nodes n (got.is ∙ ap (λ (v : Plain). Some (v, r.nodes)) b.same) (k.read ∙ ap (λ (vs : List Value). Some (values_seen s.texts vs, n)) (sym same)) fs);
       }
 
-  pub method_ready : (name : ℕ) → IsMethodOf s m r.value name f → before ≡ r.value ∷ [] → IsReady s m (MethodC e name es line) (record { callee = f; line = line; arguments = all; nodes = 1 + (r.nodes + n) })
+  pub method_ready : (name : ℕ) → IsMethodOf s m r.value name f → before ≡ r.value ∷ [] → IsReady s m (MethodC e name es line) all (record { callee = f; line = line; nodes = 1 + (r.nodes + n) })
   method_ready name method one =
       let x : Slots = slots_of s m in
       let world : CWorld = world_seen m.codes.world in

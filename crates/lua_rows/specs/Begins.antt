@@ -1,8 +1,9 @@
 -- HOW A CALL BEGINS in code: with its answer behind its charge, or, of `gsub`, with a job that begins behind its charge.
-use Rattle.std.specs.Prelude.{List, Result, Ok, Err}
+use Rattle.std.specs.Prelude.{List, [], ◌∷◌, Result, Ok, Err}
 use Rattle.wk_base.specs.declared.left.Left.{Left}
 use Rattle.lua_heap.specs.Value.{Value}
 use Rattle.lua_meaning.specs.Gsub.{gsub_form}
+use Rattle.lua_store.specs.declared.value.Value.{Value as StoreValue}
 use Rattle.lua_store.specs.Seen.{StoreView}
 use Rattle.lua_basic.specs.declared.stop.Stop.{Stop}
 use Rattle.lua_basic.specs.Seen.{Paid}
@@ -12,8 +13,24 @@ use Rattle.lua_gsubs.specs.Begun.{IsBegun}
 use Rattle.lua_gsubs.specs.Table.{alphabet_of}
 use Rattle.lua_calls.specs.declared.table.AtOnce.{AtOnce}
 use Rattle.lua_calls.specs.Table.{once_seen}
+use Rattle.lua_rows.specs.declared.making.Made.{Made}
+use Rattle.lua_rows.specs.declared.making.Made.TheVariants as made
 use Rattle.lua_rows.specs.declared.ready.Callee.{Callee}
 use Rattle.lua_rows.specs.declared.ready.Callee.TheVariants as callee
+
+-- what came of a call, as what it has begun
+abbrev pub begun_of : Made → Result Begun Stop
+begun_of (made.GaveOne v) = Ok (begun.Answers (v ∷ []))
+begun_of (made.Gave vs) = Ok (begun.Answers vs)
+begun_of (made.Stopped b) = b.value
+
+abbrev pub begun_one : Result StoreValue Stop → Result Begun Stop
+begun_one (Ok v) = Ok (begun.Answers (v ∷ []))
+begun_one (Err e) = Err e
+
+abbrev pub begun_list : Result (List StoreValue) Stop → Result Begun Stop
+begun_list (Ok vs) = Ok (begun.Answers vs)
+begun_list (Err e) = Err e
 
 -- one that answers at once
 abbrev pub AnswersAtOnce : AtOnce → List Value → StoreView → Left → StoreView → Left → Result Begun Stop → Type 0

@@ -25,7 +25,9 @@ use Rattle.lua_gsubs.specs.declared.beginning.Begun.{Begun}
 use Rattle.lua_gsubs.specs.Begun.{BegunOf}
 use Rattle.lua_calls.specs.Table.{IsLine}
 use Rattle.lua_calls.specs.Ends.{BegunMakes}
+use Rattle.lua_rows.specs.declared.making.Made.{Made}
 use Rattle.lua_rows.specs.declared.ready.Callee.{Callee}
+use Rattle.lua_rows.specs.Begins.{begun_of}
 use Rattle.lua_rows.specs.Ready.{act_in}
 use Rattle.lua_rows.specs.Rows.{TurnsTo}
 
@@ -47,6 +49,6 @@ pub record IsMade (s : StoreView) (m : State) (f : Callee) (arguments : List Val
   pub of : BegunOf t begun
   pub turns : (p : Point) (line : ℕ) (fs : List Frame) → LeadsToCall s m f arguments nodes p line fs → (u : StoreView) (n : State) (i : Left) (r : Turn) → BegunMakes t (ends_above m' fs) l' (Some line) begun u n i r → TurnsTo s m p l k u n i k' r
 
-abbrev pub MayMake : StoreView → State → Callee → List Value → ℕ → Left → ℕ → StoreView → State → Left → ℕ → Option (Result Begun Stop) → Type 0
-MayMake s m f vs n l k t m' l' k' (Some begun) = IsMade s m f vs n l k t m' l' k' begun
+abbrev pub MayMake : StoreView → State → Callee → List Value → ℕ → Left → ℕ → StoreView → State → Left → ℕ → Option Made → Type 0
+MayMake s m f vs n l k t m' l' k' (Some made) = IsMade s m f vs n l k t m' l' k' (begun_of made)
 MayMake s m f vs n l k t m' l' k' None = Idles s m l k t m' l' k'

@@ -53,10 +53,10 @@ abbrev pub MayStandBehind : StoreView → State → CExps → List Value → Lis
 MayStandBehind s m es before all (Some nodes) = StandBehind s m es before all nodes
 MayStandBehind s m es before all None = Unit {0}
 
-pub record IsReady (s : StoreView) (m : State) (e : CExp) (r : ReadyCall) : Type 0 where
+pub record IsReady (s : StoreView) (m : State) (e : CExp) (arguments : List Value) (r : ReadyCall) : Type 0 where
   pub which : Library
   pub is : IsLine which (act_in r.callee)
-  pub of : ValuesOf s r.arguments
+  pub of : ValuesOf s arguments
   pub some : 1 ≤ r.nodes
   pub few : r.nodes < 2 ^ 40
-  pub leads : (fs : List SFrame) → LeadsAt (world_seen m.codes.world) (Evals e fs) (slots_of s m) r.nodes (Gives (Goes (values_seen s.texts r.arguments)) (CallNow (Builtin which) r.line ∷ fs)) (slots_of s m)
+  pub leads : (fs : List SFrame) → LeadsAt (world_seen m.codes.world) (Evals e fs) (slots_of s m) r.nodes (Gives (Goes (values_seen s.texts arguments)) (CallNow (Builtin which) r.line ∷ fs)) (slots_of s m)

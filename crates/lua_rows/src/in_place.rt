@@ -1,14 +1,16 @@
 //! What follows a call that is made in place.
-ghost use Rattle.std.specs.Prelude.{◌≡◌, ◌<◌, ◌^◌, List as Items, Some, IfOk, OnOk};
+ghost use Rattle.std.specs.Prelude.{◌≡◌, ◌<◌, ◌^◌, ◌∷◌, [], List as Items, Some, IfOk, OnOk};
 ghost use Rattle.page_run.specs.Outcome.{Goes};
 ghost use Rattle.lua_code.specs.Seen.{block_seen, expression_seen};
 ghost use Rattle.lua_gsubs.specs.Begun.{BegunOf};
 ghost use Rattle.lua_slots.specs.Code.{CExp, CallStatC, DeclareC, MoreC, NoC, ThenC};
 ghost use Rattle.lua_slots.specs.Points.{Evals, Gives, Runs, SFrame};
-ghost use Rattle.lua_stack.specs.Of.{FocusOf, ValuesOf};
-ghost use Rattle.lua_stack.specs.Seen.{focus_seen, values_seen};
+ghost use Rattle.lua_slots.specs.Slots.{with_all};
+ghost use Rattle.lua_stack.specs.Of.{FocusOf, RegistersOf, ValuesOf};
+ghost use Rattle.lua_stack.specs.Seen.{focus_seen, registers_seen, values_seen};
 ghost use Rattle.lua_state.specs.Of.{StateOf};
 ghost use Rattle.lua_state.specs.Seen.{frames_of};
+ghost use Rattle.lua_store.specs.Parts.{IsLater, IsOf};
 ghost use Rattle.lua_store.specs.Seen.{StoreView};
 ghost use Rattle.lua_strides.specs.Next.{focus_of};
 ghost use Rattle.lua_calls.specs.Ends.{BegunMakes};
@@ -17,24 +19,27 @@ ghost use Rattle.lua_rows.specs.Made.{ends_above};
 ghost use Rattle.lua_rows.specs.Ready.{IsReady};
 ghost use Rattle.lua_rows.specs.Rows.{IsTurned, MayStrideTo};
 
-use crate::making::make_call;
+use crate::making::{Made, make_call};
 use crate::ready::{ReadyCall, ready_call};
 use crate::rows::Went;
 use lua_basic::Stop;
+use lua_basic::values::single;
 use lua_calls::gsubs::go_from;
 use lua_code::{Expression, Statement};
 use lua_gsubs::Begun;
-use lua_stack::opening::open_all;
+use lua_stack::opening::{open, open_all};
+use lua_stack::register::Slot;
 use lua_stack::{Ending, Frame, InExpression, InStatement, Stack, Values};
 use lua_state::{State, Turn, leave_call};
 use lua_store::{Store, Value};
 use lua_strides::Next;
+use lua_strides::striding::only;
 use std::alloc::Global;
 use std::sync::ledger::Ledger;
 use wk_base::{Left, List, NoMemory, Steps};
 
 /// The values that a function gave are next.
-fn next_of<'m>(values: List<Value>) -> Next<'m>
+pub fn next_of<'m>(values: List<Value>) -> Next<'m>
     ensures of { (s : StoreView) → ValuesOf s values → FocusOf s (focus_of result) }
     ensures gives { (s : StoreView) (fs : Items SFrame) → focus_seen s (focus_of result) fs ≡ Gives (Goes (values_seen s.texts values)) fs }
 {
@@ -46,7 +51,7 @@ fn next_of<'m>(values: List<Value>) -> Next<'m>
 }
 
 /// What has begun and doesn't answer goes on above the frame that ends the call, as where a frame calls.
-fn go_above<'m>(
+pub fn go_above<'m>(
     alloc: Global,
     store: &mut Store,
     left: &mut Left,
@@ -63,7 +68,7 @@ fn go_above<'m>(
 }
 
 /// A turn of the machine, with which a row ends.
-fn turned<'m>(alloc: Global, turn: Turn<'m>) -> Result<Option<Went<'m>>, NoMemory>
+pub fn turned<'m>(alloc: Global, turn: Turn<'m>) -> Result<Option<Went<'m>>, NoMemory>
     ensures { IfOk result (λ w. IsTurned w turn.entry) }
 {
     match Box::new(alloc, turn) {
@@ -79,11 +84,12 @@ fn give<'m, L: Ledger>(
     left: &mut Left,
     state: &mut State<'m>,
     call: ReadyCall,
+    arguments: &[Value],
     turns: &mut Steps<L>,
 ) -> Result<Option<Went<'m>>, NoMemory>
     requires state { StateOf store.old state.old }
-    requires arguments { ValuesOf store.old call.arguments }
-    ensures { (e : CExp) → IsReady store.old state.old e call → IfOk result (MayStrideTo store.old state.old (Evals e (frames_of store.old state.old)) left.old turns.old store.new state.new left.new turns.new) }
+    requires arguments { ValuesOf store.old arguments.now }
+    ensures { (e : CExp) → IsReady store.old state.old e arguments.now call → IfOk result (MayStrideTo store.old state.old (Evals e (frames_of store.old state.old)) left.old turns.old store.new state.new left.new turns.new) }
 {
     let line = call.line;
     let made = make_call(
@@ -92,16 +98,21 @@ fn give<'m, L: Ledger>(
         left,
         state,
         call.callee,
-        call.arguments,
+        arguments,
         call.nodes,
         turns,
     )?;
     match made {
-        Some(Ok(Begun::Answers(values))) => {
+        Some(Made::GaveOne(value)) => {
+            leave_call(state, left)?;
+            Ok(Some(Went::On(Next::Gives(value))))
+        }
+        Some(Made::Gave(values)) => {
             leave_call(state, left)?;
             Ok(Some(Went::On(next_of(values))))
         }
-        Some(begun) => {
+        Some(Made::Stopped(begun)) => {
+            let begun = Box::into_inner(begun);
             let turn = go_above(alloc, store, left, state, begun, line)?;
             turned(alloc, turn)
         }
@@ -116,14 +127,15 @@ pub fn call_expression<'m, L: Ledger>(
     left: &mut Left,
     state: &mut State<'m>,
     e: &'m Expression,
+    arguments: &mut Vec<Value>,
     turns: &mut Steps<L>,
 ) -> Result<Option<Went<'m>>, NoMemory>
     requires { StateOf store.old state.old }
     ensures { IfOk result (MayStrideTo store.old state.old (Evals (expression_seen e.now) (frames_of store.old state.old)) left.old turns.old store.new state.new left.new turns.new) }
 {
-    let ready = ready_call(alloc, store, state, e)?;
+    let ready = ready_call(store, state, e, arguments)?;
     match ready {
-        Some(call) => give(alloc, store, left, state, call, turns),
+        Some(call) => give(alloc, store, left, state, call, arguments.as_slice(), turns),
         None => Ok(None),
     }
 }
@@ -135,13 +147,14 @@ fn go_on<'m, L: Ledger>(
     left: &mut Left,
     state: &mut State<'m>,
     call: ReadyCall,
+    arguments: &[Value],
     rest: &'m [Statement],
     turns: &mut Steps<L>,
 ) -> Result<Option<Went<'m>>, NoMemory>
     requires state { StateOf store.old state.old }
-    requires arguments { ValuesOf store.old call.arguments }
+    requires arguments { ValuesOf store.old arguments.now }
     requires few { call.nodes < 2 ^ 40 }
-    ensures { (e : CExp) → IsReady store.old state.old e call → IfOk result (MayStrideTo store.old state.old (Runs (ThenC (CallStatC e) (block_seen rest.now)) (frames_of store.old state.old)) left.old turns.old store.new state.new left.new turns.new) }
+    ensures { (e : CExp) → IsReady store.old state.old e arguments.now call → IfOk result (MayStrideTo store.old state.old (Runs (ThenC (CallStatC e) (block_seen rest.now)) (frames_of store.old state.old)) left.old turns.old store.new state.new left.new turns.new) }
 {
     let line = call.line;
     let made = make_call(
@@ -150,16 +163,21 @@ fn go_on<'m, L: Ledger>(
         left,
         state,
         call.callee,
-        call.arguments,
+        arguments,
         1 + call.nodes,
         turns,
     )?;
     match made {
-        Some(Ok(Begun::Answers(_))) => {
+        Some(Made::GaveOne(_)) => {
             leave_call(state, left)?;
             Ok(Some(Went::On(Next::Runs(rest))))
         }
-        Some(begun) => {
+        Some(Made::Gave(_)) => {
+            leave_call(state, left)?;
+            Ok(Some(Went::On(Next::Runs(rest))))
+        }
+        Some(Made::Stopped(begun)) => {
+            let begun = Box::into_inner(begun);
             let frame = InStatement::StatsNext(rest);
             state.frames.push(Frame::Statement(frame))?;
             let turn = go_above(alloc, store, left, state, begun, line)?;
@@ -177,14 +195,24 @@ pub fn call_statement<'m, L: Ledger>(
     state: &mut State<'m>,
     e: &'m Expression,
     rest: &'m [Statement],
+    arguments: &mut Vec<Value>,
     turns: &mut Steps<L>,
 ) -> Result<Option<Went<'m>>, NoMemory>
     requires { StateOf store.old state.old }
     ensures { IfOk result (MayStrideTo store.old state.old (Runs (ThenC (CallStatC (expression_seen e.now)) (block_seen rest.now)) (frames_of store.old state.old)) left.old turns.old store.new state.new left.new turns.new) }
 {
-    let ready = ready_call(alloc, store, state, e)?;
+    let ready = ready_call(store, state, e, arguments)?;
     match ready {
-        Some(call) => go_on(alloc, store, left, state, call, rest, turns),
+        Some(call) => go_on(
+            alloc,
+            store,
+            left,
+            state,
+            call,
+            arguments.as_slice(),
+            rest,
+            turns,
+        ),
         None => Ok(None),
     }
 }
@@ -204,6 +232,31 @@ fn wait_to_declare<'m>(
     frames.push(Frame::Expression(inner))
 }
 
+/// New variables of which the first one gets this value, and the others nil. Nearly always there is one.
+fn open_first(
+    alloc: Global,
+    store: &mut Store,
+    regs: &mut Stack<Slot>,
+    flags: &[bool],
+    value: Value,
+) -> Result<(), NoMemory>
+    requires registers { RegistersOf store.old regs.old }
+    requires value { IsOf store.old value }
+    ensures of { OnOk result (RegistersOf store.new regs.new) }
+    ensures later { OnOk result (IsLater store.old store.new) }
+    ensures texts { OnOk result (store.new.texts ≡ store.old.texts) }
+    ensures opened { OnOk result ((store.new.heap, registers_seen store.new.texts regs.new) ≡ with_all flags.now (values_seen store.old.texts (value ∷ [])) (store.old.heap, registers_seen store.old.texts regs.old)) }
+{
+    match only(flags) {
+        Some(boxed) => open(store, regs, *boxed, value),
+        None => {
+            let list = single(alloc, value)?;
+            let mut values = Values::of_list(list);
+            open_all(store, regs, flags, &mut values)
+        }
+    }
+}
+
 /// A call whose values are those of new variables.
 fn declare<'m, L: Ledger>(
     alloc: Global,
@@ -212,13 +265,14 @@ fn declare<'m, L: Ledger>(
     state: &mut State<'m>,
     flags: &'m [bool],
     call: ReadyCall,
+    arguments: &[Value],
     rest: &'m [Statement],
     turns: &mut Steps<L>,
 ) -> Result<Option<Went<'m>>, NoMemory>
     requires state { StateOf store.old state.old }
-    requires arguments { ValuesOf store.old call.arguments }
+    requires arguments { ValuesOf store.old arguments.now }
     requires few { call.nodes < 2 ^ 40 }
-    ensures { (e : CExp) → IsReady store.old state.old e call → IfOk result (MayStrideTo store.old state.old (Runs (DeclareC flags.now (MoreC e NoC) (block_seen rest.now)) (frames_of store.old state.old)) left.old turns.old store.new state.new left.new turns.new) }
+    ensures { (e : CExp) → IsReady store.old state.old e arguments.now call → IfOk result (MayStrideTo store.old state.old (Runs (DeclareC flags.now (MoreC e NoC) (block_seen rest.now)) (frames_of store.old state.old)) left.old turns.old store.new state.new left.new turns.new) }
 {
     let line = call.line;
     let made = make_call(
@@ -227,18 +281,24 @@ fn declare<'m, L: Ledger>(
         left,
         state,
         call.callee,
-        call.arguments,
+        arguments,
         1 + call.nodes,
         turns,
     )?;
     match made {
-        Some(Ok(Begun::Answers(list))) => {
+        Some(Made::GaveOne(value)) => {
+            leave_call(state, left)?;
+            open_first(alloc, store, &mut state.regs, flags, value)?;
+            Ok(Some(Went::On(Next::Runs(rest))))
+        }
+        Some(Made::Gave(list)) => {
             leave_call(state, left)?;
             let mut values = Values::of_list(list);
             open_all(store, &mut state.regs, flags, &mut values)?;
             Ok(Some(Went::On(Next::Runs(rest))))
         }
-        Some(begun) => {
+        Some(Made::Stopped(begun)) => {
+            let begun = Box::into_inner(begun);
             wait_to_declare(alloc, &mut state.frames, flags, rest)?;
             let turn = go_above(alloc, store, left, state, begun, line)?;
             turned(alloc, turn)
@@ -256,14 +316,25 @@ pub fn call_declaration<'m, L: Ledger>(
     flags: &'m [bool],
     e: &'m Expression,
     rest: &'m [Statement],
+    arguments: &mut Vec<Value>,
     turns: &mut Steps<L>,
 ) -> Result<Option<Went<'m>>, NoMemory>
     requires { StateOf store.old state.old }
     ensures { IfOk result (MayStrideTo store.old state.old (Runs (DeclareC flags.now (MoreC (expression_seen e.now) NoC) (block_seen rest.now)) (frames_of store.old state.old)) left.old turns.old store.new state.new left.new turns.new) }
 {
-    let ready = ready_call(alloc, store, state, e)?;
+    let ready = ready_call(store, state, e, arguments)?;
     match ready {
-        Some(call) => declare(alloc, store, left, state, flags, call, rest, turns),
+        Some(call) => declare(
+            alloc,
+            store,
+            left,
+            state,
+            flags,
+            call,
+            arguments.as_slice(),
+            rest,
+            turns,
+        ),
         None => Ok(None),
     }
 }

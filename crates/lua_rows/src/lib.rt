@@ -4,6 +4,7 @@
 //! - `ready`: calls of functions of the library whose parts are read in place
 //! - `making`: such a call is paid for and made
 //! - `in_place`: what follows it: an expression, a statement or a declaration goes on
+//! - `operand`: an operator whose one operand is such a call
 //! - `rows`: strides and such calls in a row
 //!
 //! Begin with `specs/Rows.antt`: what a row comes to.
@@ -11,6 +12,7 @@
 
 pub mod in_place;
 pub mod making;
+pub mod operand;
 pub mod ready;
 pub mod rows;
 

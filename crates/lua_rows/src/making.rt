@@ -1,5 +1,5 @@
 //! A call that is ready is paid for and made (manual 2.5.8).
-ghost use Rattle.std.specs.Prelude.{IfOk};
+ghost use Rattle.std.specs.Prelude.{◌≡◌, IfOk};
 ghost use Rattle.lua_basic.specs.Seen.{AllOf};
 ghost use Rattle.lua_gsubs.specs.Begun.{BegunOf};
 ghost use Rattle.lua_stack.specs.Of.{ValuesOf};
@@ -7,20 +7,100 @@ ghost use Rattle.lua_stack.specs.Seen.{values_seen};
 ghost use Rattle.lua_state.specs.Of.{StateOf};
 ghost use Rattle.lua_store.specs.Parts.{IsLater};
 ghost use Rattle.mw_frames.specs.Scenes.{NamesOf};
-ghost use Rattle.lua_rows.specs.Begins.{Begins};
+ghost use Rattle.lua_rows.specs.Begins.{begun_of, begun_one, begun_list, AnswersAtOnce, Begins};
 ghost use Rattle.lua_rows.specs.Made.{MayMake};
 
 use crate::ready::Callee;
 use lua_basic::Stop;
 use lua_calls::answering::once_call;
+use lua_calls::table::AtOnce;
 use lua_gsubs::{Begun, gsub_begin};
 use lua_state::{State, enter_call};
 use lua_store::{Store, Value};
 use lua_strides::ending::pay_nodes;
+use lua_strings::StringFunction;
+use lua_strings::places::sub;
 use mw_frames::FieldNames;
 use std::alloc::Global;
 use std::sync::ledger::Ledger;
 use wk_base::{Left, List, NoMemory, Steps};
+
+/// What came of a call that was made. It is small, since each call hands it on: what is seldom, and large, stands in a box.
+#[derive(Drop)]
+pub enum Made {
+    /// One value, with no list around it.
+    GaveOne(Value),
+    Gave(List<Value>),
+    /// The function raised an error, an allowance is spent, or it begins to ask.
+    Stopped(Box<Result<Begun, Stop>>),
+}
+
+/// What the one value of a function comes to.
+fn of_one(alloc: Global, answer: Result<Value, Stop>) -> Result<Made, NoMemory>
+    ensures { IfOk result (λ m. begun_of m ≡ begun_one answer) }
+{
+    match answer {
+        Ok(value) => Ok(Made::GaveOne(value)),
+        Err(stop) => boxed(alloc, Err(stop)),
+    }
+}
+
+/// What a function that has begun comes to.
+fn of_begun(alloc: Global, begun: Result<Begun, Stop>) -> Result<Made, NoMemory>
+    ensures { IfOk result (λ m. begun_of m ≡ begun) }
+{
+    match begun {
+        Ok(Begun::Answers(values)) => Ok(Made::Gave(values)),
+        stopped => boxed(alloc, stopped),
+    }
+}
+
+/// What is seldom, in a box.
+fn boxed(alloc: Global, begun: Result<Begun, Stop>) -> Result<Made, NoMemory>
+    ensures { IfOk result (λ m. begun_of m ≡ begun) }
+{
+    match Box::new(alloc, begun) {
+        Ok(begun) => Ok(Made::Stopped(begun)),
+        Err(_) => Err(NoMemory),
+    }
+}
+
+/// What the values of a function come to.
+fn of_list(alloc: Global, answer: Result<List<Value>, Stop>) -> Result<Made, NoMemory>
+    ensures { IfOk result (λ m. begun_of m ≡ begun_list answer) }
+{
+    match answer {
+        Ok(values) => Ok(Made::Gave(values)),
+        Err(stop) => boxed(alloc, Err(stop)),
+    }
+}
+
+/// What a function answers to these arguments that answers at once. `string.sub` is the one that is called most.
+fn answer(
+    alloc: Global,
+    store: &mut Store,
+    left: &mut Left,
+    names: FieldNames,
+    function: AtOnce,
+    arguments: &[Value],
+) -> Result<Made, NoMemory>
+    requires arguments { AllOf store.old arguments.now }
+    requires names { NamesOf store.old names }
+    ensures begins { IfOk result (λ m. AnswersAtOnce function (values_seen store.old.texts arguments.now) store.old left.old store.new left.new (begun_of m)) }
+    ensures of { IfOk result (λ m. BegunOf store.new (begun_of m)) }
+    ensures later { IsLater store.old store.new }
+{
+    match function {
+        AtOnce::Strings(StringFunction::Sub) => {
+            let answer = sub(alloc, store, left, arguments);
+            of_one(alloc, answer)
+        }
+        _ => {
+            let answer = once_call(alloc, store, left, names, function, arguments);
+            of_list(alloc, answer)
+        }
+    }
+}
 
 /// What a function answers to these arguments, or how it begins to ask.
 fn begin(
@@ -30,21 +110,19 @@ fn begin(
     names: FieldNames,
     callee: Callee,
     arguments: &[Value],
-) -> Result<Begun, Stop>
+) -> Result<Made, NoMemory>
     requires arguments { AllOf store.old arguments.now }
     requires names { NamesOf store.old names }
-    ensures begins { Begins callee (values_seen store.old.texts arguments.now) store.old left.old store.new left.new result }
-    ensures of { BegunOf store.new result }
+    ensures begins { IfOk result (λ m. Begins callee (values_seen store.old.texts arguments.now) store.old left.old store.new left.new (begun_of m)) }
+    ensures of { IfOk result (λ m. BegunOf store.new (begun_of m)) }
     ensures later { IsLater store.old store.new }
 {
     match callee {
-        Callee::Answers(function) => {
-            match once_call(alloc, store, left, names, function, arguments) {
-                Ok(values) => Ok(Begun::Answers(values)),
-                Err(stop) => Err(stop),
-            }
+        Callee::Answers(function) => answer(alloc, store, left, names, function, arguments),
+        Callee::Gsub(function) => {
+            let begun = gsub_begin(alloc, store, left, function, arguments);
+            of_begun(alloc, begun)
         }
-        Callee::Gsub(function) => gsub_begin(alloc, store, left, function, arguments),
     }
 }
 
@@ -55,13 +133,13 @@ pub fn make_call<'m, L: Ledger>(
     left: &mut Left,
     state: &mut State<'m>,
     callee: Callee,
-    arguments: List<Value>,
+    arguments: &[Value],
     nodes: u64,
     turns: &mut Steps<L>,
-) -> Result<Option<Result<Begun, Stop>>, NoMemory>
+) -> Result<Option<Made>, NoMemory>
     requires state { StateOf store.old state.old }
-    requires arguments { ValuesOf store.old arguments }
-    ensures { IfOk result (MayMake store.old state.old callee arguments nodes left.old turns.old store.new state.new left.new turns.new) }
+    requires arguments { ValuesOf store.old arguments.now }
+    ensures { IfOk result (MayMake store.old state.old callee arguments.now nodes left.old turns.old store.new state.new left.new turns.new) }
 {
     if left.steps <= nodes {
         return Ok(None);
@@ -79,6 +157,6 @@ pub fn make_call<'m, L: Ledger>(
     }
     turns.tick();
     let names = state.scenes.names();
-    let begun = begin(alloc, store, left, names, callee, arguments.as_slice());
-    Ok(Some(begun))
+    let made = begin(alloc, store, left, names, callee, arguments)?;
+    Ok(Some(made))
 }

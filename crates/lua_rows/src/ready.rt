@@ -1,5 +1,5 @@
 //! Calls of functions of the library whose parts are read in place (manual 2.5.8).
-ghost use Rattle.std.specs.Prelude.{◌≡◌, ◌∷◌, [], IfOk, IfSome, MatchOption};
+ghost use Rattle.std.specs.Prelude.{◌≡◌, ◌∷◌, ◌++◌, [], IfOk, IfSome, MatchOption, OnOk};
 ghost use Rattle.lua_code.specs.Seen.{expression_seen, expressions_seen};
 ghost use Rattle.lua_slots.specs.Code.{CallC, MethodC};
 ghost use Rattle.lua_state.specs.Of.{StateOf};
@@ -11,8 +11,7 @@ use lua_gsubs::GsubFunction;
 use lua_state::{State, constant_at_hand};
 use lua_store::{Store, Value};
 use lua_strides::reading::{LEVELS, read};
-use std::alloc::Global;
-use wk_base::{List, NoMemory};
+use wk_base::NoMemory;
 
 /// A function of the library that calls back nobody, or only where it is given a function or a table.
 #[derive(Clone, Copy, Debug, PartialEq, Eq)]
@@ -21,13 +20,13 @@ pub enum Callee {
     Gsub(GsubFunction),
 }
 
-/// A call of such a function: what is called and its arguments have been read, and nothing is paid yet.
-#[derive(Drop)]
+/// A call of such a function: what is called and its arguments have been read, and nothing is paid yet. The arguments stand in a list of
+/// the caller's, which serves one call after another.
+#[derive(Clone, Copy)]
 pub struct ReadyCall {
     pub callee: Callee,
     /// The line of the call.
     pub line: u32,
-    pub arguments: List<Value>,
     /// The nodes of what was read, with that of the call.
     pub nodes: u64,
 }
@@ -88,15 +87,25 @@ fn front_of<'m>(expressions: &'m [Expression]) -> Option<Front<'m>>
     }
 }
 
+/// One more argument.
+fn push(values: &mut Vec<Value>, value: Value) -> Result<(), NoMemory>
+    ensures { OnOk result (values.new.items ≡ values.old.items ++ (value ∷ [])) }
+{
+    match values.push(value) {
+        Ok(_) => Ok(()),
+        Err(_) => Err(NoMemory),
+    }
+}
+
 /// The values of arguments that are read in place, behind others; the answer is the number of their nodes.
 fn read_arguments<'m>(
     store: &Store,
     state: &State<'m>,
     arguments: &'m [Expression],
-    values: &mut List<Value>,
+    values: &mut Vec<Value>,
 ) -> Result<Option<u64>, NoMemory>
     requires { StateOf store.now state.now }
-    ensures { IfOk result (MayStandBehind store.now state.now (expressions_seen arguments.now) values.old values.new) }
+    ensures { IfOk result (MayStandBehind store.now state.now (expressions_seen arguments.now) values.old.items values.new.items) }
 {
     let mut nodes = 0;
     let mut left = arguments;
@@ -106,7 +115,7 @@ fn read_arguments<'m>(
                 if nodes + found.nodes >= 1 << 32 {
                     return Ok(None);
                 }
-                values.push(found.value)?;
+                push(values, found.value)?;
                 nodes += found.nodes;
                 left = front.rest;
             }
@@ -118,15 +127,15 @@ fn read_arguments<'m>(
 
 /// The call of what an expression is.
 fn ready_function<'m>(
-    alloc: Global,
     store: &Store,
     state: &State<'m>,
     called: &'m Expression,
     arguments: &'m [Expression],
     line: u32,
+    values: &mut Vec<Value>,
 ) -> Result<Option<ReadyCall>, NoMemory>
     requires { StateOf store.now state.now }
-    ensures { IfOk result (λ r. IfSome r (IsReady store.now state.now (CallC (expression_seen called.now) (expressions_seen arguments.now) line))) }
+    ensures { IfOk result (λ r. IfSome r (IsReady store.now state.now (CallC (expression_seen called.now) (expressions_seen arguments.now) line) values.new.items)) }
 {
     let Some(called) = read(store, state, called, LEVELS) else {
         return Ok(None);
@@ -134,12 +143,11 @@ fn ready_function<'m>(
     let Some(callee) = callee_of(called.value) else {
         return Ok(None);
     };
-    let mut values = List::new(alloc);
-    match read_arguments(store, state, arguments, &mut values)? {
+    values.clear();
+    match read_arguments(store, state, arguments, values)? {
         Some(nodes) => Ok(Some(ReadyCall {
             callee,
             line,
-            arguments: values,
             nodes: 1 + (called.nodes + nodes),
         })),
         None => Ok(None),
@@ -162,16 +170,16 @@ fn text_method(store: &Store, state: &State<'_>, object: Value, name: u32) -> Op
 
 /// The call of a method of a text, which is its first argument.
 fn ready_method<'m>(
-    alloc: Global,
     store: &Store,
     state: &State<'m>,
     object: &'m Expression,
     name: u32,
     arguments: &'m [Expression],
     line: u32,
+    values: &mut Vec<Value>,
 ) -> Result<Option<ReadyCall>, NoMemory>
     requires { StateOf store.now state.now }
-    ensures { IfOk result (λ r. IfSome r (IsReady store.now state.now (MethodC (expression_seen object.now) name (expressions_seen arguments.now) line))) }
+    ensures { IfOk result (λ r. IfSome r (IsReady store.now state.now (MethodC (expression_seen object.now) name (expressions_seen arguments.now) line) values.new.items)) }
 {
     let Some(object) = read(store, state, object, LEVELS) else {
         return Ok(None);
@@ -179,13 +187,12 @@ fn ready_method<'m>(
     let Some(callee) = text_method(store, state, object.value, name) else {
         return Ok(None);
     };
-    let mut values = List::new(alloc);
-    values.push(object.value)?;
-    match read_arguments(store, state, arguments, &mut values)? {
+    values.clear();
+    push(values, object.value)?;
+    match read_arguments(store, state, arguments, values)? {
         Some(nodes) => Ok(Some(ReadyCall {
             callee,
             line,
-            arguments: values,
             nodes: 1 + (object.nodes + nodes),
         })),
         None => Ok(None),
@@ -194,13 +201,13 @@ fn ready_method<'m>(
 
 /// The call that an expression is, if it is one of such a function, and its parts are read in place.
 pub fn ready_call<'m>(
-    alloc: Global,
     store: &Store,
     state: &State<'m>,
     e: &'m Expression,
+    values: &mut Vec<Value>,
 ) -> Result<Option<ReadyCall>, NoMemory>
     requires { StateOf store.now state.now }
-    ensures { IfOk result (λ r. IfSome r (IsReady store.now state.now (expression_seen e.now))) }
+    ensures { IfOk result (λ r. IfSome r (IsReady store.now state.now (expression_seen e.now) values.new.items)) }
 {
     match e {
         Expression::Call(called, arguments, line) => {
@@ -208,14 +215,14 @@ pub fn ready_call<'m>(
             if !are_plain(arguments) {
                 return Ok(None);
             }
-            ready_function(alloc, store, state, called, arguments, *line)
+            ready_function(store, state, called, arguments, *line, values)
         }
         Expression::Method(object, name, arguments, line) => {
             let arguments = arguments.as_slice();
             if !are_plain(arguments) {
                 return Ok(None);
             }
-            ready_method(alloc, store, state, object, *name, arguments, *line)
+            ready_method(store, state, object, *name, arguments, *line, values)
         }
         _ => Ok(None),
     }

@@ -1,7 +1,7 @@
 //! Strides, and calls of the library that are made in place, in a row.
 ghost use Rattle.std.specs.Prelude.{IfOk};
-ghost use Rattle.lua_code.specs.Seen.{block_seen, statement_seen};
-ghost use Rattle.lua_slots.specs.Points.{Runs};
+ghost use Rattle.lua_code.specs.Seen.{block_seen, expression_seen, statement_seen};
+ghost use Rattle.lua_slots.specs.Points.{Evals, Runs};
 ghost use Rattle.lua_stack.specs.Of.{FocusOf};
 ghost use Rattle.lua_stack.specs.Seen.{focus_seen};
 ghost use Rattle.lua_state.specs.Of.{StateOf};
@@ -10,6 +10,7 @@ ghost use Rattle.lua_strides.specs.Next.{focus_of};
 ghost use Rattle.lua_rows.specs.Rows.{FollowsTo, IsTurn, MayStrideTo};
 
 use crate::in_place::{call_declaration, call_expression, call_statement};
+use crate::operand::call_operand;
 use lua_code::{Expression, Statement};
 use lua_stack::Focus;
 use lua_state::{State, Turn};
@@ -81,13 +82,23 @@ fn may_be_text(store: &Store, state: &State<'_>, object: &Expression) -> bool
 }
 
 /// Whether an expression is a call that may be made in place. Most calls are of functions and methods of Lua, and these are to lose no time.
-fn may_be_made(store: &Store, state: &State<'_>, e: &Expression) -> bool
+fn may_be_called(store: &Store, state: &State<'_>, e: &Expression) -> bool
     requires { StateOf store.now state.now }
 {
     match e {
         Expression::Call(called, _, _) => may_be_builtin(store, state, called),
         Expression::Method(object, _, _, _) => may_be_text(store, state, object),
         _ => false,
+    }
+}
+
+/// Whether an expression is such a call, or an operator over one.
+fn may_be_made(store: &Store, state: &State<'_>, e: &Expression) -> bool
+    requires { StateOf store.now state.now }
+{
+    match e {
+        Expression::Unary(_, a, _) => may_be_called(store, state, a),
+        _ => may_be_called(store, state, e),
     }
 }
 
@@ -111,6 +122,27 @@ fn begins_with_call(statements: &[Statement]) -> bool {
     }
 }
 
+/// An expression that is a call, or an operator over one, which is made in place.
+fn call_in_expression<'m, L: Ledger>(
+    alloc: Global,
+    store: &mut Store,
+    left: &mut Left,
+    state: &mut State<'m>,
+    e: &'m Expression,
+    arguments: &mut Vec<Value>,
+    turns: &mut Steps<L>,
+) -> Result<Option<Went<'m>>, NoMemory>
+    requires { StateOf store.old state.old }
+    ensures { IfOk result (MayStrideTo store.old state.old (Evals (expression_seen e.now) (frames_of store.old state.old)) left.old turns.old store.new state.new left.new turns.new) }
+{
+    match e {
+        Expression::Unary(op, a, line) => {
+            call_operand(alloc, store, left, state, *op, a, *line, arguments, turns)
+        }
+        _ => call_expression(alloc, store, left, state, e, arguments, turns),
+    }
+}
+
 /// A statement that calls a function of the library in place.
 fn call_in_statement<'m, L: Ledger>(
     alloc: Global,
@@ -119,13 +151,14 @@ fn call_in_statement<'m, L: Ledger>(
     state: &mut State<'m>,
     first: &'m Statement,
     rest: &'m [Statement],
+    arguments: &mut Vec<Value>,
     turns: &mut Steps<L>,
 ) -> Result<Option<Went<'m>>, NoMemory>
     requires { StateOf store.old state.old }
     ensures { IfOk result (MayStrideTo store.old state.old (Runs (statement_seen first.now (block_seen rest.now)) (frames_of store.old state.old)) left.old turns.old store.new state.new left.new turns.new) }
 {
     match first {
-        Statement::Call(e) => call_statement(alloc, store, left, state, e, rest, turns),
+        Statement::Call(e) => call_statement(alloc, store, left, state, e, rest, arguments, turns),
         Statement::Declare(flags, values) => match only(values.as_slice()) {
             Some(e) => call_declaration(
                 alloc,
@@ -135,6 +168,7 @@ fn call_in_statement<'m, L: Ledger>(
                 flags.as_slice(),
                 e,
                 rest,
+                arguments,
                 turns,
             ),
             None => Ok(None),
@@ -150,14 +184,35 @@ fn call_in_block<'m, L: Ledger>(
     left: &mut Left,
     state: &mut State<'m>,
     statements: &'m [Statement],
+    arguments: &mut Vec<Value>,
     turns: &mut Steps<L>,
 ) -> Result<Option<Went<'m>>, NoMemory>
     requires { StateOf store.old state.old }
     ensures { IfOk result (MayStrideTo store.old state.old (Runs (block_seen statements.now) (frames_of store.old state.old)) left.old turns.old store.new state.new left.new turns.new) }
 {
     match front_of(statements) {
-        Some(front) => call_in_statement(alloc, store, left, state, front.first, front.rest, turns),
+        Some(front) => call_in_statement(
+            alloc,
+            store,
+            left,
+            state,
+            front.first,
+            front.rest,
+            arguments,
+            turns,
+        ),
         None => Ok(None),
+    }
+}
+
+/// Whether a call may be next that can be made in place. This is asked before each stride, so it is no more than a look.
+fn may_call(store: &Store, state: &State<'_>, next: &Next<'_>) -> bool
+    requires { StateOf store.now state.now }
+{
+    match next {
+        Next::Evaluates(e) => may_be_made(store, state, *e),
+        Next::Runs(statements) => begins_with_call(*statements),
+        _ => false,
     }
 }
 
@@ -168,23 +223,16 @@ fn call<'m, L: Ledger>(
     left: &mut Left,
     state: &mut State<'m>,
     next: &Next<'m>,
+    arguments: &mut Vec<Value>,
     turns: &mut Steps<L>,
 ) -> Result<Option<Went<'m>>, NoMemory>
     requires { StateOf store.old state.old }
     ensures { IfOk result (MayStrideTo store.old state.old (focus_seen store.old (focus_of next.now) (frames_of store.old state.old)) left.old turns.old store.new state.new left.new turns.new) }
 {
     match next {
-        Next::Evaluates(e) => {
-            if !may_be_made(store, state, *e) {
-                return Ok(None);
-            }
-            call_expression(alloc, store, left, state, *e, turns)
-        }
+        Next::Evaluates(e) => call_in_expression(alloc, store, left, state, *e, arguments, turns),
         Next::Runs(statements) => {
-            if !begins_with_call(*statements) {
-                return Ok(None);
-            }
-            call_in_block(alloc, store, left, state, *statements, turns)
+            call_in_block(alloc, store, left, state, *statements, arguments, turns)
         }
         _ => Ok(None),
     }
@@ -204,15 +252,18 @@ pub fn row<'m, L: Ledger>(
     ensures { IfOk result (FollowsTo store.old state.old (focus_seen store.old (focus_of first.entry) (frames_of store.old state.old)) left.old turns.old store.new state.new left.new turns.new) }
 {
     let mut next = first;
+    let mut arguments = Vec::new(alloc);
     'row: for _ in 0..MOST {
-        let called = call(alloc, store, left, state, &next, turns)?;
-        match called {
-            Some(Went::On(after)) => {
-                next = after;
-                continue 'row;
+        if may_call(store, state, &next) {
+            let called = call(alloc, store, left, state, &next, &mut arguments, turns)?;
+            match called {
+                Some(Went::On(after)) => {
+                    next = after;
+                    continue 'row;
+                }
+                Some(Went::Turned(turn)) => return Ok(Went::Turned(turn)),
+                None => {}
             }
-            Some(Went::Turned(turn)) => return Ok(Went::Turned(turn)),
-            None => {}
         }
         let followed = follow(alloc, store, left, state, &next, turns)?;
         match followed {
@@ -232,14 +283,23 @@ fn call_first<'m, L: Ledger>(
     left: &mut Left,
     state: &mut State<'m>,
     next: &Focus<'m>,
+    arguments: &mut Vec<Value>,
     turns: &mut Steps<L>,
 ) -> Result<Option<Went<'m>>, NoMemory>
     requires { StateOf store.old state.old }
     ensures { IfOk result (MayStrideTo store.old state.old (focus_seen store.old next.now (frames_of store.old state.old)) left.old turns.old store.new state.new left.new turns.new) }
 {
     match next {
-        Focus::Evaluates(e) => call_expression(alloc, store, left, state, *e, turns),
-        Focus::Runs(statements) => call_in_block(alloc, store, left, state, *statements, turns),
+        Focus::Evaluates(e) => call_in_expression(alloc, store, left, state, *e, arguments, turns),
+        Focus::Runs(statements) => call_in_block(
+            alloc,
+            store,
+            left,
+            state,
+            *statements,
+            arguments,
+            turns,
+        ),
         _ => Ok(None),
     }
 }
@@ -256,7 +316,8 @@ fn begin<'m, L: Ledger>(
     requires { StateOf store.old state.old }
     ensures { IfOk result (MayStrideTo store.old state.old (focus_seen store.old next.now (frames_of store.old state.old)) left.old turns.old store.new state.new left.new turns.new) }
 {
-    let called = call_first(alloc, store, left, state, next, turns)?;
+    let mut arguments = Vec::new(alloc);
+    let called = call_first(alloc, store, left, state, next, &mut arguments, turns)?;
     match called {
         Some(went) => Ok(Some(went)),
         None => {

@@ -3,6 +3,7 @@ use Rattle.lua_state.specs.Charges.{EntersCall}
 use Rattle.lua_state.specs.Seen.{slots_of}
 use Rattle.lua_strides.proofs.Paths.{unpaid}
 use Rattle.lua_calls.proofs.Enters.{calls_of}
+use Rattle.lua_rows.specs.Begins.{begun_of}
 use Rattle.lua_rows.proofs.Calling.{call_left, call_made}
 use Rattle.lua_rows.proofs.making.make_call.Goals as goal
 
@@ -14,15 +15,15 @@ unreachable-requires g c =
     call_left c.args.state.now c.enter_call.new.state (slots_of c.args.store.now c.args.state.now) c.args.nodes c.args.left.now c.pay_nodes.new.left c.enter_call.new.left c.args.turns.now c.pay_nodes.new.turns (omega (arith, c.if-left-eq0.false)) c.if-not-pay_nodes.ensures
     (subst (EntersCall c.args.state.now (record c.pay_nodes.new.left { steps = c.pay_nodes.new.left.steps - 1 }) c.enter_call.new.state c.enter_call.new.left) c.if-not-entered.true c.in_ok-entered.ensures.enters)
 
-pub begin-begun-requires-clause-names : goal.begin-begun-requires-clause-names
-begin-begun-requires-clause-names g c = rw c.names-names.ensures (calls_of c.args.store.now c.args.state.now c.enter_call.new.state c.in_ok-entered.ensures.same c.requires.state).scenes.names
+pub begin-requires-clause-names : goal.begin-requires-clause-names
+begin-requires-clause-names g c = rw c.names-names.ensures (calls_of c.args.store.now c.args.state.now c.enter_call.new.state c.in_ok-entered.ensures.same c.requires.state).scenes.names
 
-pub begin-begun-requires-clause-arguments : goal.begin-begun-requires-clause-arguments
-begin-begun-requires-clause-arguments g c = rw c.as_slice.ensures c.requires.arguments
+pub begin-requires-clause-arguments : goal.begin-requires-clause-arguments
+begin-requires-clause-arguments g c = c.requires.arguments
 
 pub returns : goal.returns
 returns g c =
-    call_made c.args.store.now c.begin-begun.new.store c.args.state.now c.enter_call.new.state c.args.callee c.args.arguments c.args.nodes c.args.left.now c.pay_nodes.new.left (record c.pay_nodes.new.left { steps = c.pay_nodes.new.left.steps - 1 })
-    c.enter_call.new.left c.begin-begun.new.left c.args.turns.now c.pay_nodes.new.turns c.tick.new.self c.begin-begun.result c.requires.state (omega (arith, c.if-left-nodes.false)) c.if-not-pay_nodes.ensures refl c.in_ok-entered.ensures.same
+    call_made c.args.store.now c.begin.new.store c.args.state.now c.enter_call.new.state c.args.callee c.args.arguments.now c.args.nodes c.args.left.now c.pay_nodes.new.left (record c.pay_nodes.new.left { steps = c.pay_nodes.new.left.steps - 1 })
+    c.enter_call.new.left c.begin.new.left c.args.turns.now c.pay_nodes.new.turns c.tick.new.self (begun_of c.in_ok-made.made) c.requires.state (omega (arith, c.if-left-nodes.false)) c.if-not-pay_nodes.ensures refl c.in_ok-entered.ensures.same
     (subst (EntersCall c.args.state.now (record c.pay_nodes.new.left { steps = c.pay_nodes.new.left.steps - 1 }) c.enter_call.new.state c.enter_call.new.left) c.if-not-entered.false c.in_ok-entered.ensures.enters) c.tick.ensures
-    c.begin-begun.ensures.later (rw c.as_slice.ensures at c.begin-begun.ensures.begins) c.begin-begun.ensures.of
+    c.begin.ensures.later c.in_ok-made.ensures.begins c.in_ok-made.ensures.of

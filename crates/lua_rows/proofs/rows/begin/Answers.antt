@@ -13,7 +13,7 @@ returns-in-Some-strode g c =
     let idle = rw c.in-None.is at c.in_ok-called.ensures in
     rw (idle.store, idle.state, idle.left, idle.counter) at (rw c.in-Some-strode.is at c.in_ok-strode-in-None.ensures)
 
-pub returns-in-None-strode : goal.returns-in-None-strode
-returns-in-None-strode g c =
+pub returns : goal.returns
+returns g c =
     let idle = rw c.in-None.is at c.in_ok-called.ensures in
     rw (idle.store, idle.state, idle.left, idle.counter) at (rw c.in-None-strode.is at c.in_ok-strode-in-None.ensures)

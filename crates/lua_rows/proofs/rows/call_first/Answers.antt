@@ -2,7 +2,7 @@ use Rattle.lua_strides.proofs.Paths.{idle_here}
 use Rattle.lua_rows.proofs.rows.call_first.Goals as goal
 
 pub returns-in-Evaluates : goal.returns-in-Evaluates
-returns-in-Evaluates g c = rw c.in-Evaluates.is c.call_expression.ensures
+returns-in-Evaluates g c = rw c.in-Evaluates.is c.call_in_expression.ensures
 
 pub returns-in-Runs : goal.returns-in-Runs
 returns-in-Runs g c = rw c.in-Runs.is c.call_in_block.ensures
