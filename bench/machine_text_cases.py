@@ -212,3 +212,15 @@ gives_all("gsplit_parts", "The parts that `split` puts into a table.",
           ["[a][b][c]", "[]", "[a][b][]", "[a][][c]", "[][a][][]", "[abc]", "[][][][]", "[a][b]", "[\\xc3\\xa9][]"], profile=True)
 body("iterators_refuse", "Arguments that are none, and patterns that are read late.", TRY + "local u,m=mw.ustring,mw.text\nreturn try(u.gmatch,'\\255','a'),try(u.gmatch,'a','\\255'),try(u.gcodepoint,'\\255'),try(m.gsplit,'a','\\255',true),try(m.gsplit('a','%')),try(u.gmatch('a','['))",
      "bad argument #1 to 'gmatch' (not UTF-8);bad argument #2 to 'gmatch' (not UTF-8);bad argument #1 to 'gcodepoint' (not UTF-8);bad argument #2 to 'gsplit' (not UTF-8);malformed pattern (1);malformed pattern (2);", profile=True)
+
+# ---- an operator whose operand is a call: its result, what it makes of a value that has a handler, and its errors
+says("operators_over_calls", "Of texts, numbers and truths that functions of the library give.",
+     "#('hello'):sub(2,3),-math.abs(-4),not tonumber('x'),not not ('abc'):find('b'),-('12'):sub(2),#('ab'):rep(3),#string.format('%d',17),-('a'):len(),not ('x'):sub(1)", "2 -4 true true -2 6 2 -1 false")
+body("operators_over_calls_that_give_tables", "A handler of `-`, and the length of a table.",
+     "local t={__unm=function() return 5 end}\nreturn -setmetatable({},t),#setmetatable({1,2},t),not setmetatable({},t)", "52false")
+body("operators_over_calls_that_give_lists", "The first of several values, and nil for none.", SAY + "return say(-('AB'):byte(1,2),not ('AB'):byte(1,2),not ('AB'):byte(5),#select(2,'a','bcd','e'))", "-65 false true 3")
+body("operators_over_calls_without_a_value", "There is no length of a number, and none of nil.", "local ok,a=pcall(function() return #math.abs(1) end)\nlocal ok,b=pcall(function() return -('AB'):byte(5) end)\nlocal ok,c=pcall(function() return -('x'):sub(1) end)\nreturn a..';'..b..';'..c",
+     "Module:X:2: attempt to get length of a number value;Module:X:3: attempt to perform arithmetic on a nil value;Module:X:4: attempt to perform arithmetic on a string value")
+body("operators_over_calls_that_fail", "The error of the function, with the place of the call.", TRY + "return try(function() return #string.rep() end),try(function() return -math.abs({}) end),try(function() return not string.sub('x') end)",
+     "Module:X:3: bad argument #1 to 'rep' (string expected, got no value);Module:X:3: bad argument #1 to 'abs' (number expected, got table);Module:X:3: bad argument #2 to 'sub' (number expected, got no value);")
+counted("steps_of_an_operator_over_a_call", "The operator, the call, its text in brackets and two numbers, the function entered, and 2 bytes.", "#('hello'):sub(2,3)", "2", 1 + 1 + 2 + 1 + 1 + 1 + 2)
