@@ -15,7 +15,7 @@ import sys
 from machine_reference import shown
 from timing import best, run
 
-ROUNDS, START_ROUNDS, STEPS, CALLS = 3, 20, 10 ** 12, 200_000
+ROUNDS, LIBRARY_ROUNDS, START_ROUNDS, STEPS, CALLS = 3, 9, 20, 10 ** 12, 200_000
 
 TEXTS = {
     "fib(30)": "local function fib(n) if n<2 then return n end return fib(n-1)+fib(n-2) end return {f=function() return fib(30) end}",
@@ -45,6 +45,9 @@ ATTACKS = {
 LOOP = "return {f=function() local n=0 for i=1,%d do %s end return n end}"
 FILLED = "return {f=function() local t={} for i=1,1000000 do t[i]=%s end %s end}"
 LIBRARY = {
+    "300,000 gsub, a statement": (LOOP % (300000, "string.gsub('hello world','o','0')"), LOOP % (300000, "")),
+    "300,000 format, a statement": (LOOP % (300000, "string.format('%d %s %05d',i,'x',i)"), LOOP % (300000, "")),
+    "1,000,000 sub, a statement": (LOOP % (1000000, "local s='hello world' s:sub(3,7)"), LOOP % (1000000, "local s='hello world'")),
     "300,000 gsub": (LOOP % (300000, "local s,k=string.gsub('hello world','o','0') n=n+k"), LOOP % (300000, "local s,k='hello world',2 n=n+k")),
     "300,000 format": (LOOP % (300000, "n=n+#string.format('%d %s %05d',i,'x',i)"), LOOP % (300000, "n=n+#'1 x 00001'")),
     "1,000,000 sub": (LOOP % (1000000, "local s='hello world' n=n+#s:sub(3,7)"), LOOP % (1000000, "local s='hello world' n=n+#s")),
@@ -94,18 +97,21 @@ def beside_lua(program):
 
 
 def library(program):
+    """What the calls take by themselves. All programs run by turns, so that a machine whose speed changes disturbs each of them alike."""
     lua = shutil.which("lua5.1")
-    print(f"\n{'calls of the library':26} {'machine':>8} {'lua5.1':>8} {'ratio':>6}")
+    print(f"\n{'calls of the library':28} {'machine':>8} {'lua5.1':>8} {'ratio':>6}")
     for name, texts in LIBRARY.items():
-        mine = [best(ROUNDS, [program], given(text)) for text in texts]
-        took = mine[0].processor - mine[1].processor
-        line = f"{name:26} {took:7.2f}s "
+        columns = [([program], given(text)) for text in texts] + [([lua, "-e", LUA], text.encode()) for text in texts if lua]
+        rounds = [[run(*column) for column in columns] for _ in range(LIBRARY_ROUNDS)]
+        least = [min(it.processor for it in column) for column in zip(*rounds)]
+        took = least[0] - least[1]
+        line = f"{name:28} {took:7.3f}s "
         if lua:
-            other = [best(ROUNDS, [lua, "-e", LUA], text.encode()) for text in texts]
-            if other[0].printed.decode() != ended(mine[0].printed)[0]:
-                sys.exit(f"{name}: {ended(mine[0].printed)[0]} here, {other[0].printed.decode()} in lua5.1")
-            theirs = max(other[0].processor - other[1].processor, 1e-3)
-            line += f"{theirs:7.2f}s {took / theirs:5.1f}x"
+            gave, other = ended(rounds[0][0].printed)[0], rounds[0][2].printed.decode()
+            if gave != other:
+                sys.exit(f"{name}: {gave} here, {other} in lua5.1")
+            theirs = max(least[2] - least[3], 1e-3)
+            line += f"{theirs:7.3f}s {took / theirs:5.1f}x"
         print(line, flush=True)
 
 
