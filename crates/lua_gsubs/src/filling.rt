@@ -1,6 +1,7 @@
 //! What a replacement text stands for at a match, put behind a text for a step a byte.
-ghost use Rattle.std.specs.Prelude.{◌≡◌, ◌++◌, ◌+◌, ◌<◌, ◌^◌, ◌∷◌, [], suc, map, length, IfOk, OnOk, MatchOption};
+ghost use Rattle.std.specs.Prelude.{◌≡◌, ◌++◌, ◌+◌, ◌<◌, ◌^◌, ◌∷◌, [], ℕ, List as Items, Ok, suc, map, length, IfOk, IsTrue, OnOk, MatchOption};
 ghost use Rattle.lua_string.specs.Replacements.{text_of, replaced_of};
+ghost use Rattle.lua_string.specs.declared.replacing.CaptureText.{CaptureText};
 ghost use Rattle.lua_meaning.specs.Gsub as meaning;
 ghost use Rattle.lua_meaning.specs.Iterators.{symbols_before as symbols_before_of};
 ghost use Rattle.mw_frames.specs.Costs.{Pays};
@@ -112,7 +113,32 @@ fn put_both(text: &mut Vec<u8>, between: &[u8], made: &[u8]) -> Result<(), NoMem
     push_all(text, made)
 }
 
-/// What a replacement stands for at a match, behind the text and what stands between. It is paid for already.
+/// The first of bytes, and those behind it.
+fn split_byte(bytes: &[u8]) -> Option<(u8, &[u8])>
+    ensures { MatchOption result (bytes.now ≡ []) (λ p. bytes.now ≡ p.0 ∷ p.1.now) }
+{
+    match bytes {
+        [byte, more @ ..] => Some((*byte, more)),
+        [] => None,
+    }
+}
+
+/// Whether a replacement has no `%`: then it stands for itself at each match.
+fn stands_for_itself(replacement: &[u8]) -> bool
+    ensures { IsTrue result → (whole : Items ℕ) (captures : Items CaptureText) → replaced_of whole captures replacement.now ≡ Ok replacement.now }
+{
+    let mut left = replacement;
+    'bytes: while let Some((byte, more)) = split_byte(left) {
+        if byte == b'%' {
+            return false;
+        }
+        left = more;
+    }
+    true
+}
+
+/// What a replacement stands for at a match, behind the text and what stands between. It is paid for already. One that stands for itself
+/// is made nowhere else first.
 fn make_filled(
     alloc: Global,
     text: &mut Vec<u8>,
@@ -123,6 +149,10 @@ fn make_filled(
 ) -> Result<(), NoMemory>
     ensures { OnOk result (IsText (replaced_of whole.now captures.now replacement.now) between.now text.old.items text.new.items) }
 {
+    if stands_for_itself(replacement) {
+        put_both(text, between, replacement)?;
+        return Ok(());
+    }
     match replaced(alloc, replacement, whole, captures) {
         Err(_) => Err(NoMemory),
         Ok(made) => put_both(text, between, made.as_slice()),

@@ -5,7 +5,7 @@ ghost use Rattle.std.specs.Option.{option_map};
 ghost use Rattle.wk_base.specs.declared.left.Left.{Left as Allowance};
 ghost use Rattle.lua_string.specs.Walk.{span as span_of};
 ghost use Rattle.lua_meaning.specs.Gsub as meaning;
-ghost use Rattle.lua_replacing.specs.Seen.{stand_seen, StandWithin};
+ghost use Rattle.lua_replacing.specs.Seen.{far_seen, stand_seen, StandWithin};
 ghost use Rattle.lua_gsubs.specs.Met.{PlaceWithin};
 ghost use Rattle.lua_gsubs.specs.Parts.{halt_in, IsPart, IsReplaced, GoesOn, IsRest, IsTail, IsPaidText};
 
@@ -104,6 +104,18 @@ fn halt_of(stop: Stop) -> Halt
     }
 }
 
+/// Nothing is looked at yet, with room for as many bytes as the subject has: most texts that are made are about as long.
+fn begin_far(alloc: Global, s: &[u8]) -> Result<Far, NoMemory>
+    ensures nothing { IfOk result (λ f. far_seen f ≡ meaning.nothing_yet) }
+    ensures within { IfOk result (λ f. (size : ℕ) → StandWithin size f.next) }
+{
+    let mut far = Far::new(alloc);
+    match far.text.reserve(s.len()) {
+        Ok(_) => Ok(far),
+        Err(_) => Err(NoMemory),
+    }
+}
+
 /// At most so many matches are replaced.
 fn replace_matches<A: Alphabet>(
     alloc: Global,
@@ -115,7 +127,7 @@ fn replace_matches<A: Alphabet>(
 ) -> Result<Far, Halt>
     ensures { IsRest (meaning.replaced_from A.letters pattern.now.anchored pattern.now.items pattern.now.slots s.now replacement.now limit 0 (Some meaning.at_head)) s.now left.old left.new result }
 {
-    let mut far = Far::new(alloc);
+    let mut far = begin_far(alloc, s)?;
     'matches: for _turn in 0..limit {
         let Some(stand) = far.next else {
             return Ok(far);

@@ -8,9 +8,9 @@ use Rattle.lua_gsubs.proofs.replacing.replace_matches.Goals as goal
 pub matches-init : goal.matches-init
 matches-init g c =
     let p = c.args.pattern.now in
-    let e = c.new-far.ensures.nothing in (
-      part_begins g.A.Alphabet.letters p.anchored p.items p.slots c.args.s.now c.args.replacement.now c.args.limit c.args.left.now c.new-far.result (ap (λ f. f.text) e) (ap (λ f. f.copied) e) (ap (λ f. f.count) e) (ap (λ f. f.next) e),
-      c.new-far.ensures.within _,
+    let e = c.in_ok-far.ensures.nothing in (
+      part_begins g.A.Alphabet.letters p.anchored p.items p.slots c.args.s.now c.args.replacement.now c.args.limit c.args.left.now c.in_ok-far.far (ap (λ f. f.text) e) (ap (λ f. f.copied) e) (ap (λ f. f.count) e) (ap (λ f. f.next) e),
+      c.in_ok-far.ensures.within _,
     )
 
 pub replace_next-requires : goal.replace_next-requires
@@ -33,7 +33,7 @@ pub returns-in_err-replace_next : goal.returns-in_err-replace_next
 returns-in_err-replace_next g c =
     let p = c.args.pattern.now in
     let part = rw c.in-Some.is at c.matches.invariant.0 in
-    let q = err_from_is_err_and c.from_residual.result c.from_residual.ensures.1 in
+    let q = err_from_is_err_and c.from_residual-in_err-replace_next.result c.from_residual-in_err-replace_next.ensures.1 in
     rw (q.1 ∙ ap Err q.2) (c.in_err-replace_next.ensures.part _ _ _ (part_steps g.A.Alphabet.letters p.anchored p.items p.slots c.args.s.now c.args.replacement.now _ c.args.left.now c.matches.left c.matches.far c.args.limit c.matches._turn _ c.matches-test.true part))
 
 pub returns : goal.returns
