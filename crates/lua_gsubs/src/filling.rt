@@ -16,6 +16,7 @@ use lua_string::replacing::{CaptureText, replaced, replaced_length};
 use lua_string::text::push_all;
 use lua_strings::captures::span;
 use mw_frames::paying::pay;
+use mw_text::ends::first_byte;
 use std::alloc::Global;
 use wk_base::{Left, List, NoMemory};
 
@@ -113,22 +114,12 @@ fn put_both(text: &mut Vec<u8>, between: &[u8], made: &[u8]) -> Result<(), NoMem
     push_all(text, made)
 }
 
-/// The first of bytes, and those behind it.
-fn split_byte(bytes: &[u8]) -> Option<(u8, &[u8])>
-    ensures { MatchOption result (bytes.now ≡ []) (λ p. bytes.now ≡ p.0 ∷ p.1.now) }
-{
-    match bytes {
-        [byte, more @ ..] => Some((*byte, more)),
-        [] => None,
-    }
-}
-
 /// Whether a replacement has no `%`: then it stands for itself at each match.
 fn stands_for_itself(replacement: &[u8]) -> bool
     ensures { IsTrue result → (whole : Items ℕ) (captures : Items CaptureText) → replaced_of whole captures replacement.now ≡ Ok replacement.now }
 {
     let mut left = replacement;
-    'bytes: while let Some((byte, more)) = split_byte(left) {
+    'bytes: while let Some((byte, more)) = first_byte(left) {
         if byte == b'%' {
             return false;
         }
