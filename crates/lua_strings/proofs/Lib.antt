@@ -1,6 +1,5 @@
 pub mod Lines
 pub mod Taken
-pub mod Listed
 pub mod Given
 pub mod Numbered
 pub mod Lengths

@@ -1,29 +1,19 @@
 //! A function of `string` or `math` is called.
 ghost use Rattle.lua_store.specs.Parts.{IsLater};
 ghost use Rattle.lua_basic.specs.Seen.{values_seen, AllOf, Paid, AnswerOf};
-ghost use Rattle.lua_strings.specs.Alone.{IsListed};
 ghost use Rattle.lua_strings.specs.Table.{answer_of};
 
 use crate::formatting::format;
 use crate::making::{char_of, len, lower, rep, reverse, upper};
 use crate::numbers::{abs, ceil, floor, fmod, max, min, pow};
+use crate::paying::listed;
 use crate::places::{byte, sub};
 use crate::searching::{find, match_from};
 use crate::table::StringFunction;
 use lua_basic::Stop;
-use lua_basic::values::single;
 use lua_store::{Store, Value};
 use std::alloc::Global;
 use wk_base::{Left, List};
-
-/// The answer of a function that gives one value, as a list.
-fn listed(alloc: Global, answer: Result<Value, Stop>) -> Result<List<Value>, Stop>
-    ensures { IsListed answer result }
-{
-    let value = answer?;
-    let values = single(alloc, value)?;
-    Ok(values)
-}
 
 /// What a function of `string` or `math` gives for these arguments, after its charge.
 ///

@@ -6,7 +6,7 @@ ghost use Rattle.lua_store.specs.Seen.{seen};
 ghost use Rattle.lua_store.specs.Parts.{IsOf, IsLater};
 ghost use Rattle.lua_basic.specs.Seen.{values_seen, AllOf, Paid, AnswerOf};
 ghost use Rattle.lua_basic.specs.declared.stop.Stop.TheVariants as stop;
-ghost use Rattle.lua_strings.specs.Alone.{alone};
+ghost use Rattle.lua_strings.specs.Alone.{alone, IsListed};
 ghost use Rattle.lua_strings.specs.Costs.{Pays};
 
 use lua_basic::Stop;
@@ -94,6 +94,26 @@ pub fn text_value(alloc: Global, store: &mut Store, bytes: &[u8]) -> Result<List
     Ok(values)
 }
 
+/// A text is given as one value with no list around it, after a step for each of its bytes.
+pub fn give_one_text(store: &mut Store, left: &mut Left, bytes: &[u8]) -> Result<Value, Stop>
+    ensures answer { Paid (gives_text store.old.heap bytes.now) store.old left.old store.new left.new (alone result) }
+    ensures of { AnswerOf store.new (alone result) }
+    ensures later { IsLater store.old store.new }
+{
+    take(left, bytes.len() as u64)?;
+    let text = store.text(bytes)?;
+    Ok(Value::Text(text))
+}
+
+/// The answer of a function that gives one value, as a list.
+pub fn listed(alloc: Global, answer: Result<Value, Stop>) -> Result<List<Value>, Stop>
+    ensures { IsListed answer result }
+{
+    let value = answer?;
+    let values = single(alloc, value)?;
+    Ok(values)
+}
+
 /// A text is given, after a step for each of its bytes.
 pub fn give_text(
     alloc: Global,
@@ -105,18 +125,5 @@ pub fn give_text(
     ensures of { AnswerOf store.new result }
     ensures later { IsLater store.old store.new }
 {
-    take(left, bytes.len() as u64)?;
-    let values = text_value(alloc, store, bytes)?;
-    Ok(values)
-}
-
-/// A text is given as one value with no list around it, after a step for each of its bytes.
-pub fn give_one_text(store: &mut Store, left: &mut Left, bytes: &[u8]) -> Result<Value, Stop>
-    ensures answer { Paid (gives_text store.old.heap bytes.now) store.old left.old store.new left.new (alone result) }
-    ensures of { AnswerOf store.new (alone result) }
-    ensures later { IsLater store.old store.new }
-{
-    take(left, bytes.len() as u64)?;
-    let text = store.text(bytes)?;
-    Ok(Value::Text(text))
+    listed(alloc, give_one_text(store, left, bytes))
 }
