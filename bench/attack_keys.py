@@ -1,12 +1,13 @@
 #!/usr/bin/env python3
-"""Times a table of a store on number keys that were chosen to collide, beside as many keys at random.
+"""Times a table of Lua on number keys that were chosen to collide, beside as many keys at random.
 
-  bench/attack_keys.py crates/table_bench/out/table_bench [HOW_MANY]
+  bench/attack_keys.py crates/lua_machine_cases/out/lua_machine_cases [HOW_MANY]
 
 The keys are found by the hash of a map whose seed is fixed (`FoldHasher` of core, folded to 32 bits, of which the lowest pick
 the place in the map). So this shows what a module can do that knows how its keys are hashed: where the seed is fixed, the time
 grows with the square of the number of keys; where it is drawn for each run, these keys are keys at random. A C compiler finds
-the keys (`cc`, some seconds). Processor seconds are of the best of some runs.
+the keys (`cc`, some seconds). Processor seconds are of the best of some runs, less those of the module that reads the keys and sets none; each
+run fills ten tables.
 """
 import os
 import random
@@ -15,9 +16,10 @@ import subprocess
 import sys
 import tempfile
 
+from machine_reference import shown
 from timing import best
 
-ROUNDS = 3
+ROUNDS, STEPS, CALLS = 3, 10 ** 12, 200_000
 MOST_TIMES = 3.0
 
 # A key is hashed as two words of 8 bytes, the number of its kind among the kinds of values and the number itself. GROUP_BITS
@@ -74,8 +76,15 @@ def at_random(count):
     return b"".join(struct.pack("<q", source.randrange(1 << 40, 1 << 62)) for _ in range(count))
 
 
+def ran(program, keys, work):
+    numbers = ",".join(str(it[0]) for it in struct.iter_unpack("<q", keys))
+    text = "return {f=function() local keys={" + numbers + "} for round=1,10 do local t={} for i=1,#keys do " + work + " end end return 'done' end}"
+    given = f"case\tX\nmodule\tX\t{shown(text.encode())}\ninvoke\tX\tf\nrun\t{STEPS}\t{CALLS}\n"
+    return best(ROUNDS, [program], given.encode(), b"X: gives done\n").processor
+
+
 def seconds(program, keys):
-    return best(ROUNDS, [program], b"keys " + keys, f"{len(keys) // 8}\n".encode()).processor
+    return ran(program, keys, "t[keys[i]]=i") - ran(program, keys, "local k=keys[i]")
 
 
 def main():

@@ -1,39 +1,43 @@
 #!/usr/bin/env python3
-"""Times a table of a store, dense and hashed, its full walk, and texts, and says how much memory each takes; and tables one
-inside the other, which are taken out and put in again, or copied.
+"""Times tables and texts of a store through the machine of Lua, and says how much memory each takes; and a copy of tables one inside the
+other.
 
-  bench/tables.py crates/table_bench/out/table_bench
+  bench/tables.py crates/lua_machine_cases/out/lua_machine_cases
 
-Seconds of processor time, less those of a run without work, and the greatest memory of a run for each entry or text. Of each
-the best of some rounds counts, so that other work on the machine disturbs little.
+Seconds of processor time, less those of the same module without the work, and the greatest memory of a run for each entry, text or
+table, less that module's. Of each the best of some rounds counts, so that other work on the machine disturbs little.
 """
 import sys
 
+from machine_reference import shown
 from timing import best
 
-ROUNDS = 3
-WORKS = [("dense", 5_000_000), ("walk dense", 5_000_000), ("hashed", 2_000_000), ("walk hashed", 2_000_000), ("texts", 1_000_000)]
+ROUNDS, STEPS, CALLS = 3, 10 ** 12, 200_000
+LOOP = "return {f=function() local t={} for i=1,%d do %s end %s return 'done' end}"
+WALK = "local n=0 for k in next,t do n=n+1 end"
 
-# Tables one inside the other, and how many times as many there are in the end.
-LINKED = 100_000
-GRAPHS = [("shared", 2), ("copied", 2)]
+# What is done, how often, the work of a turn and what follows the loop; and what both stand for where the work is left out.
+WORKS = {
+    "dense": (2_000_000, ("t[i]=i", ""), ("", "")),
+    "walk dense": (2_000_000, ("t[i]=i", WALK), ("t[i]=i", "")),
+    "hashed": (1_000_000, ("t[-i]=i", ""), ("", "")),
+    "walk hashed": (1_000_000, ("t[-i]=i", WALK), ("t[-i]=i", "")),
+    "texts": (1_000_000, ("local s='x'..i", ""), ("", "")),
+    "copied": (100_000, ("t={t}", "mw.clone(t)"), ("t={t}", "")),
+}
 
-
-def used(program, work, count, times=1):
-    return best(ROUNDS, [program], f"{work} {count}\n".encode(), f"{count * times}\n".encode())
+def used(program, count, work):
+    text = shown((LOOP % (count, *work)).encode())
+    given = f"case\tX\nmodule\tX\t{text}\ninvoke\tX\tf\nrun\t{STEPS}\t{CALLS}\n"
+    return best(ROUNDS, [program], given.encode(), b"X: gives done\n")
 
 
 def main():
     program = sys.argv[1]
-    start = used(program, "dense", 0).processor
     print(f"{'work':12} {'how many':>10} {'seconds':>8} {'bytes each':>11}")
-    for work, count in WORKS:
-        took = used(program, work, count)
-        print(f"{work:12} {count:10,} {took.processor - start:8.2f} {took.memory / count:11.1f}")
-    made = used(program, "linked", LINKED).processor
-    for work, times in GRAPHS:
-        took = used(program, work, LINKED, times)
-        print(f"{work:12} {LINKED:10,} {took.processor - made:8.2f} {took.memory / LINKED:11.1f}")
+    for name, (count, work, plain) in WORKS.items():
+        took, without = used(program, count, work), used(program, count, plain)
+        print(f"{name:12} {count:10,} {took.processor - without.processor:8.2f} {(took.memory - without.memory) / count:11.1f}", flush=True)
 
 
 main()

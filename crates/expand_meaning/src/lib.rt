@@ -4,7 +4,6 @@
 //!
 //! - `laws`: what holds of the definitions
 //! - `examples`: worked pages
-//! - `tests`: calls of the law and of the worked pages
 //!
 //! Read `specs/Expand.antt` first, the expansion as its events. `Kind` is what a construct's first part stands for,
 //! `Texts` are the fixed texts and the equality of two texts, `Places` the trees of nodes and the parts of a construct,
@@ -13,5 +12,3 @@
 
 pub mod examples;
 pub mod laws;
-#[cfg(test)]
-mod tests;

@@ -16,9 +16,6 @@
 //! Each function has an empty body, and its contract is a law about those definitions:
 //!
 //! - `laws`: the laws of the simulation, as `Laws` says them
-//! - `tests`: each law is called once
 #![tactic(auto)]
 
 pub mod laws;
-#[cfg(test)]
-mod tests;

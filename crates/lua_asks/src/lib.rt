@@ -1,9 +1,6 @@
 //! A machine asks for the tables of a data module once: definitions and laws alone. Read `specs/Laws.antt`.
 //!
 //! - `laws`: functions with an empty body, whose contracts are the laws
-//! - `tests`: each law is called once
 #![tactic(auto)]
 
 pub mod laws;
-#[cfg(test)]
-mod tests;

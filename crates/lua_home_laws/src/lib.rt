@@ -3,9 +3,6 @@
 //! Read `specs/Laws.antt` first.
 //!
 //! - `laws`: functions with an empty body, whose contracts are the laws
-//! - `tests`: each law is called once
 #![tactic(auto)]
 
 pub mod laws;
-#[cfg(test)]
-mod tests;

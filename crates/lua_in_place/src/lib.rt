@@ -4,9 +4,6 @@
 //! The definitions stand in `specs/`; read `specs/InPlace.antt` first, then `Laws` and `Examples`.
 //!
 //! - `laws`: functions with an empty body, whose contracts are the laws and the examples
-//! - `tests`: each law is called once
 #![tactic(auto)]
 
 pub mod laws;
-#[cfg(test)]
-mod tests;

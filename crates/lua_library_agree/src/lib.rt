@@ -2,11 +2,8 @@
 //! executed.
 //!
 //! - `laws`: functions with an empty body, whose contracts are the laws
-//! - `tests`: each law is called once, where a function holds one cell
 //!
 //! Of the definitions read `specs/Same.antt` first: when a function does the same to two heaps. `specs/Laws.antt` has the statements.
 #![tactic(auto)]
 
 pub mod laws;
-#[cfg(test)]
-mod tests;

@@ -29,10 +29,7 @@
 //! - `laws`: things unfold, what is counted, calls are given back, more allowance changes nothing, what waits is named, and
 //!   what a run without frames does not ask
 //! - `examples`: what small modules give
-//! - `tests`: each law and each list of examples is called once
 #![tactic(auto)]
 
 pub mod examples;
 pub mod laws;
-#[cfg(test)]
-mod tests;

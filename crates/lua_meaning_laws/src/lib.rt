@@ -2,7 +2,6 @@
 //! definitions of `lua_meaning`.
 //!
 //! - `laws`: what the run of a data module asks
-//! - `tests`: each law is called once
 //!
 //! Of the definitions read `specs/Laws.antt` first.
 #![tactic(auto)]
@@ -10,6 +9,3 @@
 pub mod laws;
 
 pub use laws::data_runs_ask_for_data;
-
-#[cfg(test)]
-mod tests;

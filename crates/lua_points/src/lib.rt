@@ -12,9 +12,6 @@
 //! Each function has an empty body, and its contract is a law about those definitions:
 //!
 //! - `laws`: the laws, as `Laws`, `Clauses` and `Families` say them
-//! - `tests`: each law is called once
 #![tactic(auto)]
 
 pub mod laws;
-#[cfg(test)]
-mod tests;

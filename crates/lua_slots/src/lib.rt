@@ -19,10 +19,7 @@
 //!
 //! - `laws`: the laws of code and of moves, as `Laws` says them
 //! - `examples`: the code of small modules, and what comes of it
-//! - `tests`: each law and each list of examples is called once
 #![tactic(auto)]
 
 pub mod examples;
 pub mod laws;
-#[cfg(test)]
-mod tests;

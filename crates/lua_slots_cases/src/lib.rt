@@ -6,9 +6,6 @@
 //! Read `specs/Closures.antt` first. They are written as those of `lua_slots` are (`Trial` there).
 //!
 //! - `examples`: functions with an empty body, whose contracts are the examples
-//! - `tests`: each list of examples is called once
 #![tactic(auto)]
 
 pub mod examples;
-#[cfg(test)]
-mod tests;

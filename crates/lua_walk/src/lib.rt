@@ -12,10 +12,7 @@
 //!
 //! - `laws`: the walk reaches what it should, data are graphs, and copies are new (`Laws`)
 //! - `examples`: the small heaps are walked as `Examples` says
-//! - `tests`: each law is called once, where a function holds one cell
 #![tactic(auto)]
 
 pub mod examples;
 pub mod laws;
-#[cfg(test)]
-mod tests;

@@ -3,7 +3,6 @@
 //!
 //! - `scene`: arguments, the scene of a frame, and the job of an invocation
 //! - `question`: what a run of Lua asks from outside
-//! - `tests`: an argument is copied, and a job is put together
 //!
 //! `specs/Scenes.antt` says when the names of arguments differ. Definitions of other crates cite the types as they are
 //! declared here.
@@ -15,6 +14,3 @@ pub mod scene;
 pub use page_run::Which;
 pub use question::Ask;
 pub use scene::{Arg, Job, Scene};
-
-#[cfg(test)]
-mod tests;

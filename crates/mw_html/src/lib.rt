@@ -9,7 +9,6 @@
 //! - `sheet`: what was given so far, within a budget, also for renderings of objects that are kept elsewhere
 //! - `rendering`: the rendering
 //! - `laws`: renderings by other numbers (`Laws`)
-//! - `tests`: values from MediaWiki's own library, and counts by hand
 #![tactic(auto)]
 
 pub mod laws;
@@ -23,6 +22,3 @@ pub use names::{add_class, closes_itself, escape, is_attribute_name, is_name};
 pub use placed::are_placed;
 pub use plain::{PlainChild, PlainNode, PlainPair, PlainStyle};
 pub use rendering::{Rendered, render};
-
-#[cfg(test)]
-mod tests;

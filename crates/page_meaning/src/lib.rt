@@ -20,7 +20,6 @@
 //! - `tasks`: runs of Lua and expansions alike go on, and tell their loads
 //! - `examples`: worked pages come to what `Examples` says
 //! - `outcome`: how an invocation ends by itself, the one type of code here
-//! - `tests`: each law and each group of worked pages is called once
 #![tactic(auto)]
 
 pub mod drive;
@@ -30,6 +29,3 @@ pub mod outcome;
 pub mod tasks;
 
 pub use outcome::JobOutcome;
-
-#[cfg(test)]
-mod tests;

@@ -11,11 +11,8 @@
 //! Each function has an empty body, and its contract is a law about those definitions:
 //!
 //! - `stack`: the laws of the stack, as `Laws` says them
-//! - `tests`: each law is called once
 //!
 //! Who drives machines and expanders cites the lemmas of `proofs/`: `Moves`, `Loads`, `Machines`, `Expansions`, `Apart`.
 #![tactic(auto)]
 
 pub mod stack;
-#[cfg(test)]
-mod tests;

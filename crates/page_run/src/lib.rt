@@ -17,7 +17,6 @@
 //! - `loads`: which data loads a run tells, and the walk over them
 //! - `examples`: the small runs come to what `Examples` and `Jumps` say
 //! - `which`: the allowances that end a run of Lua
-//! - `tests`: each law is called once, and the allowances that end a run are told apart
 #![tactic(auto)]
 
 pub mod charges;
@@ -28,6 +27,3 @@ pub mod replies;
 pub mod which;
 
 pub use which::Which;
-
-#[cfg(test)]
-mod tests;

@@ -1,5 +1,5 @@
 //! The escapes of the tables, written out by hand.
-use crate::unescaped;
+use case_text::unescaped;
 use std::test::Fail;
 
 #[test]

@@ -1,9 +1,0 @@
-//! Each law is called once.
-use crate::laws;
-use std::test::Fail;
-
-#[test]
-fn laws_are_called(_rt: HostRuntime) -> Result<(), Fail> {
-    laws::data_runs_ask_for_data();
-    Ok(())
-}
