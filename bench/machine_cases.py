@@ -6,11 +6,12 @@ AMPLE, CALLS = 10_000_000, 20000
 CASES = []
 
 
-def hand(name, said, text, end, steps=AMPLE, calls=CALLS, levels=True, every=False, others=(), args=(), parent=False, replies=(), profile=False, runs=None):
+def hand(name, said, text, end, steps=AMPLE, calls=CALLS, levels=True, every=False, runs_at_each=True, others=(), args=(), parent=False, replies=(),
+         profile=False, runs=None):
     """One case. The least number of calls is looked for where it is small, unless `levels` is false; every number of steps is tried where they
-    are few, and with `every` also where they are not."""
+    are few, and with `every` also where they are not. Where `runs_at_each` is false none are tried: it is run once, and the steps are told."""
     CASES.append(dict(name=name, said=said, modules=[("X", text), *others], args=list(args), parent=parent, profile=profile, levels=levels, every=every,
-                      runs=runs or [("run", steps, calls, list(replies), end)]))
+                      runs_at_each=runs_at_each, runs=runs or [("run", steps, calls, list(replies), end)]))
 
 
 def body(name, said, text, gives=None, fails=None, **more):

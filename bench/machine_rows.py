@@ -5,8 +5,8 @@
     machine_rows.py --check    compares the ends of the cases with `machine_reference.py`, and with `lua5.1` where it is to be the same
 
 The cases are the worked examples of `lua_chunks.py`, with the ends and steps that are said there, and those of `machine_cases.py`,
-`machine_text_cases.py`, `machine_html_cases.py`, `machine_gsub_cases.py` and `machine_argument_cases.py`, whose ends were worked out by hand
-from the manual. How many steps and calls a case needs is what `machine_reference.py` says.
+`machine_text_cases.py`, `machine_html_cases.py`, `machine_gsub_cases.py`, `machine_argument_cases.py` and `machine_call_rows.py`, whose ends
+were worked out by hand from the manual. How many steps and calls a case needs is what `machine_reference.py` says.
 """
 import pathlib
 import re
@@ -209,12 +209,20 @@ def hands():
     import machine_html_cases  # noqa: F401 (adds its cases)
     import machine_gsub_cases  # noqa: F401 (adds its cases)
     import machine_argument_cases  # noqa: F401 (adds its cases)
+    import machine_call_rows  # noqa: F401 (adds its cases)
     return CASES
 
 
 def all_cases():
     examples = [of_example(example) for _, _, examples in FILES for example in examples]
-    return [with_every(case, "all", AMPLE) for case in examples] + [with_every(of_hand(hand), "every", AMPLE if hand["every"] else FEW) for hand in hands()]
+    return [with_every(case, "all", AMPLE) for case in examples] + [in_gate(hand) for hand in hands()]
+
+
+def in_gate(hand):
+    """A case by hand with the runs that the gate makes of it."""
+    if hand["runs_at_each"]:
+        return with_every(of_hand(hand), "every", AMPLE if hand["every"] else FEW)
+    return with_steps(of_hand(hand))
 
 
 def of_hand(hand):
@@ -250,6 +258,12 @@ def with_every(case, word, most):
     return case
 
 
+def with_steps(case):
+    """The case, whose runs that tell an end tell the steps too."""
+    case.runs = [("took", *run, f"{said}, {case.reference(*run).taken} taken") if word == "run" else (word, *run, said) for word, *run, said in case.runs]
+    return case
+
+
 def numbers_below(need):
     """The last few numbers of steps below what is needed, and some others behind the 1,000 that a start takes at once."""
     last = need - LAST
@@ -270,8 +284,9 @@ def long_case(hand):
 
 
 def long_cases():
-    """The cases by hand that take more than `FEW` steps, but for those that the gate runs with each number of them all the same."""
-    return [case for hand in hands() if not hand["every"] for case in [long_case(hand)] if case.runs]
+    """The cases by hand that take more than `FEW` steps, but for those that the gate runs with each number of them all the same, and those that
+    are run once."""
+    return [case for hand in hands() if hand["runs_at_each"] and not hand["every"] for case in [long_case(hand)] if case.runs]
 
 
 def tables():
@@ -314,7 +329,7 @@ def check():
         if not case.profile:
             compared += 1
             words, steps, calls, replies, said = case.runs[0]
-            wanted = said[len(case.name) + 2:].removesuffix(", 0 left").replace("fails Lua error: ", "fails ")
+            wanted = re.sub(", ([0-9]+ taken|0 left)$", "", said[len(case.name) + 2:]).replace("fails Lua error: ", "fails ")
             if shown(lua_end(case)) != wanted:
                 wrong += 1
                 print(f"{case.name}: {wanted!r} here, {lua_end(case)!r} in lua5.1")

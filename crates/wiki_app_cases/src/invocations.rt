@@ -3,7 +3,7 @@
 //! Lines are those of `cases`. What is expected was worked out by hand from the manuals and from docs/RULES.md.
 
 /// How many cases there are.
-pub const COUNT: u32 = 63;
+pub const COUNT: u32 = 64;
 
 pub fn table() -> &'static str {
     TABLE
@@ -161,6 +161,11 @@ P|{{#invoke:Bad|f|a<b}}
 Template:Loop|{{#invoke:Bad|f|Loop}}
 P|{{Loop}}
 ><span class="error">Template loop detected: [[:Template:Loop]]</span>
+# the title of the page that is shown
+Module:Page|return {f=function() local t=mw.title.getCurrentTitle() return t.prefixedText..' '..t.nsText..' '..t.text end}
+Help:A|{{#invoke:Page|f}}
+$expand d Help:A
+>Help:A Help A
 # an invocation inside an invocation is another one
 Module:Self|local p={} x=1 function p.g() x=2 tostring=nil return 'g' end function p.f(frame) local s=frame:preprocess('{{#invoke:Self|g}}') return s..x..tostring(12) end return p
 P|{{#invoke:Self|f}}

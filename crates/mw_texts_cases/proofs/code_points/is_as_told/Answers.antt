@@ -1,6 +1,0 @@
-use Rattle.std.proofs.Common.{sym, subst}
-use Rattle.lua_basic.specs.Seen.{AllOf}
-use Rattle.mw_texts_cases.proofs.code_points.is_as_told.Goals as goal
-
-pub ustring_call-answer-requires : goal.ustring_call-answer-requires
-ustring_call-answer-requires c = subst (AllOf c.values.new.store) (sym c.as_slice.ensures) c.in_ok-args.ensures
