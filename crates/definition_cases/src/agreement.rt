@@ -57,3 +57,9 @@ fn laws_of_lua_home_laws(_rt: HostRuntime) -> Result<(), Fail> {
     lua_home_laws::laws::made_starts();
     Ok(())
 }
+
+#[test]
+fn laws_of_lua_home(_rt: HostRuntime) -> Result<(), Fail> {
+    lua_home::made::home_is_home();
+    Ok(())
+}
