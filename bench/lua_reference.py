@@ -2,9 +2,7 @@
 """A parser of Lua of its own, from the manual's grammar (2.1 and 8), to which `lua_parser` is compared.
 
     lua_reference.py                     reads a chunk from standard input, and prints its tree or its fault
-    lua_reference.py --write             writes the tables of `lua_parser_cases` from the chunks of `parser_chunks.py`, and
-                                         prints the numbers of rows and the sums of its answers
-    lua_reference.py --constants FILE    compares these numbers and sums with the constants of a file of tests
+    lua_reference.py --write             writes the tables of trees and faults in `text_cases` from the chunks of `parser_chunks.py`
     lua_reference.py --judge             compares those answers with `bench/lua_trees.py` and with `luac5.1 -p`
 
 A tree is printed as an S-expression in which each node has its line, as `(assign@1 ((name@1 x)) ((number@1 1)))`. A fault is
@@ -16,6 +14,8 @@ import os
 import re
 import subprocess
 import sys
+
+import row_tables
 
 KEYWORDS = set("and break do else elseif end false for function if in local nil not or repeat return then true until while".split())
 MARKS = ["...", "..", "==", "~=", "<=", ">="] + list("+-*/%^#<>=(){}[];:,.")
@@ -539,10 +539,6 @@ def answer(text):
         return str(fault)
 
 
-def escaped(text):
-    return "".join({"\\": "\\\\", "\n": "\\n", "\r": "\\r", "\t": "\\t", "\0": "\\0", "\f": "\\f", "\v": "\\v"}.get(c, c) for c in text)
-
-
 # Other judges
 def term_parts(words):
     """A term of `lua_trees.py` as nested lists."""
@@ -658,41 +654,46 @@ def judge(chunks):
         luac = subprocess.run(["luac5.1", "-p", "-"], input=text.encode("latin-1"), capture_output=True)
         if (luac.returncode == 0) == mine.startswith("fault"):
             otherwise += 1
-            print(f"luac5.1 judges otherwise: {escaped(text)[:100]} => {mine[:100]}; {luac.stderr.decode('latin-1').strip()[:100]}")
+            print(f"luac5.1 judges otherwise: {row_tables.escaped(text)[:100]} => {mine[:100]}; {luac.stderr.decode('latin-1').strip()[:100]}")
         if not mine.startswith("fault"):
             trees += 1
             same += mine == other
             unread += other is None
             if other not in (mine, None):
-                print(f"lua_trees reads otherwise: {escaped(text)[:100]}\n  {mine[:400]}\n  {str(other)[:400]}")
+                print(f"lua_trees reads otherwise: {row_tables.escaped(text)[:100]}\n  {mine[:400]}\n  {str(other)[:400]}")
     print(f"{len(chunks)} chunks; luac5.1 judges {otherwise} otherwise, {PROFILE} of them by the profile; "
           f"of {trees} trees lua_trees gives {same} alike, and {unread} not at all")
     return otherwise != PROFILE or same + unread != trees
 
 
 # The tables of the tests
-def table(about, name, text):
-    hashes = "#" * (1 + max((len(found) for found in re.findall(r'"(#*)', text)), default=0))
-    return f"//! {about}\n\npub(crate) fn {name}() -> &'static str {{\n    r{hashes}\"{text}\"{hashes}\n}}\n"
+def repeated_row(before, part, middle, behind, after, count):
+    given = answer(before + part * count + middle + behind * count + after)
+    parts = [row_tables.escaped(item) for item in (before, part, middle, behind, after)]
+    return row_tables.row("repeated", f"{'|'.join(parts)}|{count}", given if given.startswith("fault") else "chunk")
 
 
-def write(folder, chunks, repeated, module):
-    answers = [(escaped(text), answer(text)) for text in chunks]
-    rows = [f"{text} => {said}\n" for text, said in answers]
-    trees = "".join(said for said, (_, given) in zip(rows, answers) if not given.startswith("fault"))
-    faults = "".join(said for said, (_, given) in zip(rows, answers) if given.startswith("fault"))
-    longer = ""
-    for before, part, middle, behind, after, count in repeated:
-        given = answer(before + part * count + middle + behind * count + after)
-        parts = [escaped(item) for item in (before, part, middle, behind, after)]
-        longer += f"{'|'.join(parts)}|{count} => {given if given.startswith('fault') else 'chunk'}\n"
-    for name, about, function, text in [
-        ("trees", "Texts with their trees.", "rows", trees), ("faults", "Texts with the kind and the line of their fault.", "rows", faults),
-        ("repeated", "Texts with parts that are repeated, as `before|part|between|behind|after|count`; and whether they are chunks.", "rows", longer),
-        ("module", "A module of a wiki.", "text", module),
-    ]:
-        with open(os.path.join(folder, name + ".rt"), "w") as file:
-            file.write(table(about, function, text))
+def walk_rows(text):
+    """The lines of the nodes and the numbers of parameters (`...` is none), both in the order of the text, which is that of the printed
+    tree. A text has no string here."""
+    tree = answer(text)
+    heads = re.findall(r"\((?:local)?function@\d+ (?:\w+ )?\(([^)]*)\)", tree)
+    yield row_tables.row("lines", row_tables.escaped(text), " ".join(re.findall(r"@(\d+)", tree)))
+    yield row_tables.row("functions", row_tables.escaped(text), " ".join(str(len(re.findall(r"\w+", head))) for head in heads))
+
+
+def write(chunks, repeated, module, pieces, length, walked):
+    answers = [row_tables.row("tree", row_tables.escaped(text), answer(text)) for text in chunks]
+    row_tables.replace("Trees of texts", [row for row in answers if "\t=> fault" not in row])
+    row_tables.replace("Faults of texts", [row for row in answers if "\t=> fault" in row])
+    row_tables.replace("Texts with repeated parts", [repeated_row(*item) for item in repeated])
+    beginnings = sum_of(module[:end] for end in range(len(module) + 1))
+    short = sum_of("".join(digits[::-1]) for count in range(length + 1) for digits in itertools.product(pieces, repeat=count))
+    row_tables.replace("Sums of answers", [
+        row_tables.row("beginnings", row_tables.escaped(module), str(beginnings)),
+        row_tables.row("pieces", "|".join(map(row_tables.escaped, pieces)), str(short)),
+    ])
+    row_tables.replace("Walks over trees", [row for text in walked for row in walk_rows(text)])
 
 
 def mixed(total, text):
@@ -709,16 +710,6 @@ def sum_of(texts):
     return total
 
 
-def constants(chunks, repeated, module, pieces, length):
-    """The numbers of rows, and the sums over each beginning of a module and over all texts of some pieces."""
-    return {
-        "ROWS": len(chunks),
-        "REPEATED_ROWS": len(repeated),
-        "BEGINNINGS_SUM": sum_of(module[:end] for end in range(len(module) + 1)),
-        "PIECES_SUM": sum_of("".join(digits[::-1]) for count in range(length + 1) for digits in itertools.product(pieces, repeat=count)),
-    }
-
-
 def main():
     sys.setrecursionlimit(20000)
     if len(sys.argv) < 2:
@@ -726,15 +717,11 @@ def main():
         return
     here = os.path.dirname(os.path.abspath(__file__))
     sys.path.insert(0, here)
-    from constants import differ
-    from parser_chunks import CHUNKS, LENGTH, MODULE, PIECES, REPEATED
+    from parser_chunks import CHUNKS, LENGTH, MODULE, PIECES, REPEATED, WALKED
     if sys.argv[1] == "--judge":
         sys.exit(judge(CHUNKS))
     elif sys.argv[1] == "--write":
-        write(os.path.join(here, "../crates/lua_parser_cases/src/tree_tests"), CHUNKS, REPEATED, MODULE)
-        print("\n".join(f"{name} {number}" for name, number in constants(CHUNKS, REPEATED, MODULE, PIECES, LENGTH).items()))
-    elif sys.argv[1] == "--constants":
-        sys.exit(differ(sys.argv[2], constants(CHUNKS, REPEATED, MODULE, PIECES, LENGTH)))
+        write(CHUNKS, REPEATED, MODULE, PIECES, LENGTH, WALKED)
     else:
         sys.exit(__doc__)
 

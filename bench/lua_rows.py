@@ -1,8 +1,8 @@
 #!/usr/bin/env python3
-"""Works out anew what the tables of tests of `lua_number` and `lua_lexer` expect, and tells each row that expects something else.
+"""Works out anew what the rows of `lua_number` and `lua_lexer` in `text_cases` expect, and tells each that expects something else.
 
-  bench/lua_rows.py numbers crates/lua_lexis_cases/src/numbers.rt
-  bench/lua_rows.py tokens crates/lua_lexis_cases/src/tokens.rt
+  bench/lua_rows.py numbers crates/text_cases/stdin
+  bench/lua_rows.py tokens crates/text_cases/stdin
 
 The rows themselves are chosen by hand. Numbers are Python's whole numbers, which have no bound, and fractions; tokens are
 those of `lua_reference.py`. Nothing here knows the crates.
@@ -12,20 +12,12 @@ import sys
 from fractions import Fraction
 
 import lua_reference
+import row_tables
 
 MIN, MAX = -(2 ** 63), 2 ** 63 - 1
-RANGE, WHOLE, ZERO = "OutOfRange", "NotWhole", "ByZero"
+RANGE, WHOLE, ZERO = "RANGE", "WHOLE", "ZERO"
 WHITE = " \t\n\v\f\r"
 DIGITS = "0123456789abcdefghijklmnopqrstuvwxyz"
-
-
-def rows_of(file, name):
-    """The rows of a static table whose name begins so, as tuples: its literals are nearly those of Python."""
-    with open(file, encoding="utf-8") as text:
-        tables = re.findall(r"^static " + name + r"\w*: [^=]*= &\[\n(.*?)^\];", text.read(), re.M | re.S)
-    words = {"MIN": MIN, "MAX": MAX, "RANGE": RANGE, "WHOLE": WHOLE, "ZERO": ZERO, "Ok": int, "Some": int}
-    for table in tables:
-        yield from eval("[" + table.replace("i64::", "") + "]", {"__builtins__": {}}, words)
 
 
 # Numbers (manual 2.5.1, and 2.1 for numerals)
@@ -99,20 +91,28 @@ def read_in_base(text, base):
     return within(Fraction(sign * total))
 
 
-def numbers(file):
-    """Each row, and what it should be."""
-    for a, b, *answers in rows_of(file, "OPERATIONS"):
-        yield (a, b, *answers), (a, b, *operations(a, b))
-    for a, answer in rows_of(file, "NEGATED"):
-        yield (a, answer), (a, in_range(-a))
-    for text, answer in rows_of(file, "NUMERALS"):
-        yield (text, answer), (text, read_numeral(text.decode("latin-1")))
-    for text, answer in rows_of(file, "TEXTS"):
-        yield (text, answer), (text, read_number(text.decode("latin-1")))
-    for text, base, answer in rows_of(file, "IN_BASES"):
-        yield (text, base, answer), (text, base, read_in_base(text.decode("latin-1"), base))
-    for number, text in rows_of(file, "PRINTED"):
-        yield (number, text), (number, str(number).encode())
+def operations_of(text):
+    return " ".join(map(str, operations(*map(int, text.split()))))
+
+
+def shown_number(value):
+    return "none" if value is None else str(value)
+
+
+def based(text):
+    base, _, digits = text.partition(" ")
+    return read_in_base(digits, int(base))
+
+
+# What a row of a kind comes to, by its text.
+NUMBERS = {
+    "operations": operations_of,
+    "negated": lambda text: str(in_range(-int(text))),
+    "numeral": lambda text: shown_number(read_numeral(text)),
+    "number": lambda text: shown_number(read_number(text)),
+    "based": lambda text: shown_number(based(text)),
+    "digits": lambda text: f"{int(text)} {int(text)}",
+}
 
 
 # Tokens
@@ -129,18 +129,17 @@ def shown(text):
         return re.sub(r"fault (\d+) line (\d+)", r"!\1@\2", str(fault))
 
 
-def tokens(file):
-    for text, answer in rows_of(file, "TEXTS"):
-        yield (text, answer), (text, shown(text.decode("latin-1")).encode("latin-1"))
+TOKENS = {"tokens": shown}
 
 
 def main():
     kind, file = sys.argv[1:]
-    rows = list({"numbers": numbers, "tokens": tokens}[kind](file))
-    wrong = [(row, wanted) for row, wanted in rows if row != wanted]
-    print(f"{file}: {len(rows)} rows, {len(wrong)} expect something else")
+    rules = {"numbers": NUMBERS, "tokens": TOKENS}[kind]
+    rows = list(row_tables.rows(file, *rules))
+    wrong = [(row, wanted) for row in rows if row[2] != (wanted := rules[row[0]](row_tables.unescaped(row[1])))]
+    print(f"{file}: {len(rows)} rows of {kind}, {len(wrong)} expect something else")
     for row, wanted in wrong:
-        print(f"  {row}\n  should be {wanted}")
+        print(f"  {row}\n  should be {wanted!r}")
     return not rows or bool(wrong)
 
 

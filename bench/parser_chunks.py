@@ -212,3 +212,9 @@ return p
 # Pieces of which all short texts are tried.
 PIECES = ["x ", "= ", "(", ") ", "\n", "f{} ", ".y ", "... ", "0.5 ", "end ", "function() ", "break ", "return ", ", ", "- ", "while x do "]
 LENGTH = 4
+
+# Texts over whose trees the walks go: most nodes stand on a line of their own, and each function has another number of parameters.
+WALKED = [
+    "local function g(...)\nif\nf then\nreturn\n3\n+\nf\n{\n3}\nend end",
+    "local function g(p, p, p) while f do f(function() end) end end\nreturn {[f] = function(p) local function h(p, p) end end}",
+]
