@@ -8,7 +8,7 @@
 //!
 //! `specs/Chunks.antt` says what `parse` answers; read it first. What the functions for parts answer stands in `lua_reading`, with
 //! the parts that need no recursion: looks at tokens, operators, and nodes as they are made. The
-//! tests are in `lua_parser_cases`.
+//! tests are in `text_cases`.
 #![tactic(auto)]
 
 pub mod assignments;
