@@ -80,7 +80,7 @@ mw.text.gsplit('a', '\255', true) => ! bad argument #2 to 'gsplit' (not UTF-8)
 
 # ---- `gsub`
 
-rows("rows_of_gsub", "Texts that replace, with captures, up to a limit.", r"""
+rows("rows_of_gsub", "Texts that replace, with captures, up to a limit, and arguments that are none.", r"""
 string.gsub('hello', '', '-') => '-h-e-l-l-o-' 6
 string.gsub('abc', 'b*', 'x') => 'xaxxcx' 4
 string.gsub('hello', 'l*', 'x') => 'xhxexxox' 5
@@ -102,6 +102,9 @@ string.gsub('a\000b', '%z', '0') => 'a0b' 1
 string.gsub('THE (quick)', '%f[%a]%a+', '_') => '_ (_)' 2
 string.gsub('aa bb', '(%w)%1', '<%1>') => '<a> <b>' 2
 string.gsub('a(b(c)d)e', '%b()', '') => 'ae' 1
+string.gsub() => ! bad argument #1 to 'gsub' (string expected, got no value)
+string.gsub('a') => ! bad argument #2 to 'gsub' (string expected, got no value)
+string.gsub('a', 'a', 'b', 'c') => ! bad argument #4 to 'gsub' (number expected, got string)
 """)
 
 rows("rows_of_asking_gsubs", "What a function or a table is asked, and what stands for it; what is no replacement.", r"""
@@ -118,15 +121,12 @@ string.gsub('abc', 'b', telling(next), 1) => ! invalid replacement value (a func
 string.gsub('abc', 'x', next) => 'abc' 0
 """, ASKING)
 
-rows("rows_of_wrong_gsubs", "A last `%`, malformed patterns, and arguments that are none.", r"""
+rows("rows_of_wrong_gsubs", "A last `%`, malformed patterns, and arguments that are no replacement.", r"""
 string.gsub('ab', 'b', '%x%') => 'ax%' 1
 string.gsub('abc', 'b', 'y%2') => ! malformed pattern (7)
 string.gsub('abc', '%', 'y') => ! malformed pattern (1)
-string.gsub() => ! bad argument #1 to 'gsub' (string expected, got no value)
-string.gsub('a') => ! bad argument #2 to 'gsub' (string expected, got no value)
 string.gsub('a', 'a') => ! bad argument #3 to 'gsub' (string expected, got no value)
 string.gsub('a', 'a', true) => ! bad argument #3 to 'gsub' (string expected, got boolean)
-string.gsub('a', 'a', 'b', 'c') => ! bad argument #4 to 'gsub' (number expected, got string)
 string.gsub('a', '[', {}) => ! malformed pattern (2)
 """, profile=True)
 

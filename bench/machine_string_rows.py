@@ -1,5 +1,6 @@
 """Rows of the functions of `string` and `math`. Those of the first part are Lua 5.1's own: `lua5.1 bench/string_rows.lua` prints them, in this
-order, and `bench/run check` compares them. Those behind them have errors, or numbers of 64 bits, and were worked out by docs/RULES.md."""
+order, and `bench/run check` compares them. Those behind them were worked out by docs/RULES.md; Lua 5.1 has the same errors of arguments, and
+others of patterns and formats, and it has not the numbers of 64 bits."""
 from machine_cases import AMPLE, CALLS, hand
 from machine_row_tables import rows
 
@@ -451,23 +452,18 @@ math.min(-1) => -1
 """)
 
 
-# ---- by the rules
-rows("rows_of_wrong_texts", "Arguments that are none, and places at both ends of the numbers.", r"""
+# ---- by the rules, and Lua 5.1 has the same
+rows("rows_of_wrong_texts", "Arguments that are none, and places at one end of the numbers.", r"""
 string.byte() => ! bad argument #1 to 'byte' (string expected, got no value)
 string.byte({}) => ! bad argument #1 to 'byte' (string expected, got table)
 string.byte('a', true) => ! bad argument #2 to 'byte' (number expected, got boolean)
 string.byte('a', 1, 'x') => ! bad argument #3 to 'byte' (number expected, got string)
-string.byte('abc', least, most) => 97 98 99
 string.byte('abc', most, least) => (none)
-string.sub('abc', least, most) => 'abc'
 string.sub('a') => ! bad argument #2 to 'sub' (number expected, got no value)
 string.sub(nil, 1) => ! bad argument #1 to 'sub' (string expected, got nil)
 string.sub('a', 1, {}) => ! bad argument #3 to 'sub' (number expected, got table)
-string.char(256) => ! bad argument #1 to 'char' (out of range)
-string.char(65, -1) => ! bad argument #2 to 'char' (out of range)
 string.char(65, nil) => ! bad argument #2 to 'char' (number expected, got nil)
 string.char(65, 'x', 256) => ! bad argument #2 to 'char' (number expected, got string)
-string.char(1, 2, 3, 4, 5, 6, 7, 8, 9, 10, 11, 300) => ! bad argument #12 to 'char' (out of range)
 string.len() => ! bad argument #1 to 'len' (string expected, got no value)
 string.len(next) => ! bad argument #1 to 'len' (string expected, got function)
 string.len(least) => 20
@@ -478,16 +474,57 @@ string.rep('a') => ! bad argument #2 to 'rep' (number expected, got no value)
 string.rep({}, 1) => ! bad argument #1 to 'rep' (string expected, got table)
 string.rep('', most) => ''
 string.rep('ab', least) => ''
-""", profile=True)
+""")
 
-rows("rows_of_wrong_searches", "Arguments, starts at both ends, and malformed patterns.", r"""
+rows("rows_of_wrong_searches_and_formats", "Arguments that are none, searches from the first number on, and numbers that are written without a sign.", r"""
 string.find('a') => ! bad argument #2 to 'find' (string expected, got no value)
 string.find(nil, 'a') => ! bad argument #1 to 'find' (string expected, got nil)
 string.find('a', 'a', 'x') => ! bad argument #3 to 'find' (number expected, got string)
-string.find('abc', 'c', most) => nil
 string.find('abc', 'a', least) => 1 1
 string.find('a(b', '(', 1, true) => 2 2
 string.find('ab', '(', nil, 0) => nil
+string.match(true, 'a') => ! bad argument #1 to 'match' (string expected, got boolean)
+string.match('a', nil) => ! bad argument #2 to 'match' (string expected, got nil)
+string.format() => ! bad argument #1 to 'format' (string expected, got no value)
+string.format('%d', true) => ! bad argument #2 to 'format' (number expected, got boolean)
+string.format('%d%d', 1, 'x') => ! bad argument #3 to 'format' (number expected, got string)
+string.format('%s', {}) => ! bad argument #2 to 'format' (string expected, got table)
+string.format('%s%q', 'a', nil) => ! bad argument #3 to 'format' (string expected, got nil)
+string.format('%d%y', true) => ! bad argument #2 to 'format' (number expected, got boolean)
+string.format('%d', least) => '-9223372036854775808'
+string.format('%u', -1) => '18446744073709551615'
+string.format('%x', -1) => 'ffffffffffffffff'
+""")
+
+rows("rows_of_wrong_math", "Arguments that are none, and numbers at both ends.", r"""
+math.abs() => ! bad argument #1 to 'abs' (number expected, got no value)
+math.abs('x') => ! bad argument #1 to 'abs' (number expected, got string)
+math.ceil({}) => ! bad argument #1 to 'ceil' (number expected, got table)
+math.floor(nil) => ! bad argument #1 to 'floor' (number expected, got nil)
+math.floor(least) => -9223372036854775808
+math.fmod(1) => ! bad argument #2 to 'fmod' (number expected, got no value)
+math.fmod(true, 1) => ! bad argument #1 to 'fmod' (number expected, got boolean)
+math.fmod(least, -1) => 0
+math.max() => ! bad argument #1 to 'max' (number expected, got no value)
+math.max(1, nil, 'x') => ! bad argument #2 to 'max' (number expected, got nil)
+math.min() => ! bad argument #1 to 'min' (number expected, got no value)
+math.min(1, 2, 'x') => ! bad argument #3 to 'min' (number expected, got string)
+math.min(least, most) => -9223372036854775808
+math.pow(2) => ! bad argument #2 to 'pow' (number expected, got no value)
+math.pow(2, 62) => 4611686018427387904
+math.pow(-2, 63) => -9223372036854775808
+math.pow(-1, -3) => -1
+""")
+
+
+# ---- by the rules alone
+rows("rows_of_texts_in_the_profile", "Places at both ends of the numbers, codes, malformed patterns, and directives that are none.", r"""
+string.byte('abc', least, most) => 97 98 99
+string.sub('abc', least, most) => 'abc'
+string.char(256) => ! bad argument #1 to 'char' (out of range)
+string.char(65, -1) => ! bad argument #2 to 'char' (out of range)
+string.char(1, 2, 3, 4, 5, 6, 7, 8, 9, 10, 11, 300) => ! bad argument #12 to 'char' (out of range)
+string.find('abc', 'c', most) => nil
 string.find('a', '%') => ! malformed pattern (1)
 string.find('a', '[a') => ! malformed pattern (2)
 string.find('a', '%f') => ! malformed pattern (3)
@@ -496,55 +533,24 @@ string.match('a', ')') => ! malformed pattern (5)
 string.match('a', ('('):rep(33)) => ! malformed pattern (6)
 string.match('a', '%1') => ! malformed pattern (7)
 string.match('a', '%bx') => ! malformed pattern (8)
-string.match(true, 'a') => ! bad argument #1 to 'match' (string expected, got boolean)
-string.match('a', nil) => ! bad argument #2 to 'match' (string expected, got nil)
-""", profile=True)
-
-rows("rows_of_wrong_formats", "Arguments, directives that are none, and the numbers at both ends.", r"""
-string.format() => ! bad argument #1 to 'format' (string expected, got no value)
 string.format('%d') => ! bad argument #2 to 'format' (number expected, got no value)
-string.format('%d', true) => ! bad argument #2 to 'format' (number expected, got boolean)
 string.format('%d%d', 1) => ! bad argument #3 to 'format' (number expected, got no value)
-string.format('%d%d', 1, 'x') => ! bad argument #3 to 'format' (number expected, got string)
-string.format('%s', {}) => ! bad argument #2 to 'format' (string expected, got table)
-string.format('%s%q', 'a', nil) => ! bad argument #3 to 'format' (string expected, got nil)
 string.format('%c', -1) => ! bad argument #2 to 'format' (out of range)
 string.format('%d%c', 1, 256) => ! bad argument #3 to 'format' (out of range)
 string.format('%y') => ! invalid option to 'format'
 string.format('%', 1) => ! invalid option to 'format'
 string.format('%100d', 1) => ! invalid option to 'format'
-string.format('%d%y', true) => ! bad argument #2 to 'format' (number expected, got boolean)
-string.format('%d', least) => '-9223372036854775808'
-string.format('%u', -1) => '18446744073709551615'
-string.format('%x', -1) => 'ffffffffffffffff'
 string.format('%s', 'a\000b') => 'a\000b'
 """, profile=True)
 
-rows("rows_of_wrong_math", "Arguments, and what leaves the numbers.", r"""
-math.abs() => ! bad argument #1 to 'abs' (number expected, got no value)
-math.abs('x') => ! bad argument #1 to 'abs' (number expected, got string)
+rows("rows_of_math_in_the_profile", "What leaves the numbers.", r"""
 math.abs(least) => ! number out of range
 math.abs(-9223372036854775807) => 9223372036854775807
-math.ceil({}) => ! bad argument #1 to 'ceil' (number expected, got table)
-math.floor(nil) => ! bad argument #1 to 'floor' (number expected, got nil)
-math.floor(least) => -9223372036854775808
-math.fmod(1) => ! bad argument #2 to 'fmod' (number expected, got no value)
-math.fmod(true, 1) => ! bad argument #1 to 'fmod' (number expected, got boolean)
 math.fmod(1, 0) => ! division by zero
-math.fmod(least, -1) => 0
-math.max() => ! bad argument #1 to 'max' (number expected, got no value)
-math.max(1, nil, 'x') => ! bad argument #2 to 'max' (number expected, got nil)
 math.max(least, most) => 9223372036854775807
-math.min() => ! bad argument #1 to 'min' (number expected, got no value)
-math.min(1, 2, 'x') => ! bad argument #3 to 'min' (number expected, got string)
-math.min(least, most) => -9223372036854775808
-math.pow(2) => ! bad argument #2 to 'pow' (number expected, got no value)
-math.pow(2, 62) => 4611686018427387904
 math.pow(2, 63) => ! number out of range
-math.pow(-2, 63) => -9223372036854775808
 math.pow(2, -1) => ! quotient is not whole
 math.pow(0, -1) => ! division by zero
-math.pow(-1, -3) => -1
 """, profile=True)
 
 
