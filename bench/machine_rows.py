@@ -6,7 +6,8 @@
 
 The cases are the worked examples of `lua_chunks.py`, with the ends and steps that are said there, and those of `machine_cases.py`,
 `machine_text_cases.py`, `machine_html_cases.py`, `machine_gsub_cases.py`, `machine_argument_cases.py`, `machine_call_rows.py`,
-`machine_string_rows.py` and `machine_iterator_rows.py`, whose ends were worked out by hand from the manual or come from Lua 5.1. How many steps and calls a case needs is what `machine_reference.py` says.
+`machine_string_rows.py` and `machine_iterator_rows.py`, whose ends were worked out by hand from the manual or come from Lua 5.1. How many
+steps and calls a case needs is what `machine_reference.py` says.
 """
 import pathlib
 import re

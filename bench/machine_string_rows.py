@@ -1,6 +1,6 @@
 """Rows of the functions of `string` and `math`. Those of the first part are Lua 5.1's own: `lua5.1 bench/string_rows.lua` prints them, in this
-order, and `bench/run check` compares them. Those behind them were worked out by docs/RULES.md; Lua 5.1 has the same errors of arguments, and
-others of patterns and formats, and it has not the numbers of 64 bits."""
+order, and `bench/run check` compares them. Those behind them were worked out by docs/RULES.md: errors of arguments, which Lua 5.1 has too, then
+errors of patterns and formats, for which it has other texts, and numbers of 64 bits, which it hasn't."""
 from machine_cases import AMPLE, CALLS, hand
 from machine_row_tables import rows
 
