@@ -7,11 +7,12 @@ CASES = []
 
 
 def hand(name, said, text, end, steps=AMPLE, calls=CALLS, levels=True, every=False, runs_at_each=True, others=(), args=(), parent=False, replies=(),
-         profile=False, runs=None):
+         profile=False, in_lua=None, runs=None):
     """One case. The least number of calls is looked for where it is small, unless `levels` is false; every number of steps is tried where they
-    are few, and with `every` also where they are not. Where `runs_at_each` is false none are tried: it is run once, and the steps are told."""
-    CASES.append(dict(name=name, said=said, modules=[("X", text), *others], args=list(args), parent=parent, profile=profile, levels=levels, every=every,
-                      runs_at_each=runs_at_each, runs=runs or [("run", steps, calls, list(replies), end)]))
+    are few, and with `every` also where they are not. Where `runs_at_each` is false none are tried: it is run once, and the steps are told.
+    `in_lua` is how Lua 5.1 ends, where a case that is marked `profile` is compared with it all the same."""
+    CASES.append(dict(name=name, said=said, modules=[("X", text), *others], args=list(args), parent=parent, profile=profile, in_lua=in_lua,
+                      levels=levels, every=every, runs_at_each=runs_at_each, runs=runs or [("run", steps, calls, list(replies), end)]))
 
 
 def body(name, said, text, gives=None, fails=None, **more):

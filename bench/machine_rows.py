@@ -5,8 +5,9 @@
     machine_rows.py --check    compares the ends of the cases with `machine_reference.py`, and with `lua5.1` where it is to be the same
 
 The cases are the worked examples of `lua_chunks.py`, with the ends and steps that are said there, and those of `machine_cases.py`,
-`machine_text_cases.py`, `machine_html_cases.py`, `machine_gsub_cases.py`, `machine_argument_cases.py` and `machine_call_rows.py`, whose ends
-were worked out by hand from the manual. How many steps and calls a case needs is what `machine_reference.py` says.
+`machine_text_cases.py`, `machine_html_cases.py`, `machine_gsub_cases.py`, `machine_argument_cases.py`, `machine_call_rows.py`,
+`machine_string_rows.py` and `machine_iterator_rows.py`, whose ends were worked out by hand from the manual or come from Lua 5.1. How many
+steps and calls a case needs is what `machine_reference.py` says.
 """
 import pathlib
 import re
@@ -125,9 +126,10 @@ def end_words(end):
 class Case:
     """A case, and the runs of it: each a word of the table, steps, calls, replies, and what it is to print."""
 
-    def __init__(self, name, modules, said="", work="invoke", invoked=None, args=(), parent=False, profile=True):
+    def __init__(self, name, modules, said="", work="invoke", invoked=None, args=(), parent=False, profile=True, in_lua=None):
         self.name, self.modules, self.said, self.work, self.args = name, modules, said, work, list(args)
-        self.invoked, self.parent, self.profile, self.runs, self.nodes, self.ends = invoked or modules[0][0], parent, profile, [], None, {}
+        self.invoked, self.parent, self.profile, self.in_lua = invoked or modules[0][0], parent, profile, in_lua
+        self.runs, self.nodes, self.ends = [], None, {}
 
     def scenes(self):
         chain = [b"Template:T"] if self.parent else []
@@ -210,6 +212,8 @@ def hands():
     import machine_gsub_cases  # noqa: F401 (adds its cases)
     import machine_argument_cases  # noqa: F401 (adds its cases)
     import machine_call_rows  # noqa: F401 (adds its cases)
+    import machine_string_rows  # noqa: F401 (adds its cases)
+    import machine_iterator_rows  # noqa: F401 (adds its cases)
     return CASES
 
 
@@ -227,7 +231,7 @@ def in_gate(hand):
 
 def of_hand(hand):
     """A case of `machine_cases.py` and the like; then the least number of calls, where that is wanted and small."""
-    case = Case(hand["name"], hand["modules"], hand["said"], args=hand["args"], parent=hand["parent"], profile=hand["profile"])
+    case = Case(hand["name"], hand["modules"], hand["said"], args=hand["args"], parent=hand["parent"], profile=hand["profile"], in_lua=hand["in_lua"])
     for word, steps, calls, replies, end in hand["runs"]:
         case.runs.append((word, steps, calls, replies, f"{case.name}: {end}"))
     _, steps, calls, replies, _ = case.runs[0]
@@ -326,10 +330,10 @@ def check():
         if case.nodes is not None and case.reference().nodes != case.nodes:
             wrong += 1
             print(f"{case.name}: {case.nodes} nodes here, {case.reference().nodes} by machine_reference.py")
-        if not case.profile:
+        if case.in_lua or not case.profile:
             compared += 1
             words, steps, calls, replies, said = case.runs[0]
-            wanted = re.sub(", ([0-9]+ taken|0 left)$", "", said[len(case.name) + 2:]).replace("fails Lua error: ", "fails ")
+            wanted = case.in_lua or re.sub(", ([0-9]+ taken|0 left)$", "", said[len(case.name) + 2:]).replace("fails Lua error: ", "fails ")
             if shown(lua_end(case)) != wanted:
                 wrong += 1
                 print(f"{case.name}: {wanted!r} here, {lua_end(case)!r} in lua5.1")

@@ -1,15 +1,15 @@
--- The rows of crates/lua_strings_cases/src/rows.rt whose values are Lua 5.1's own.
+-- The rows of bench/machine_string_rows.py whose values are Lua 5.1's own.
 --
 --   lua5.1 bench/string_rows.lua             prints them
---   lua5.1 bench/string_rows.lua check FILE  compares them with those with which the table of that file begins
+--   lua5.1 bench/string_rows.lua check FILE  compares them with the rows with which that file begins
 --
--- A row is a function, its arguments, and what it gives, `(none)` for no value; a text stands in quotes, with escapes of crates/case_text.
+-- A row is a call, and what it gives, `(none)` for no value; a text stands in quotes, with escapes of Lua.
 local rows = {}
 
 local function escaped(text)
-  return (text:gsub("[%c%s\128-\255\\']", function(c)
-    if c == "\\" then return "\\\\" end
-    return string.format("\\x%02x", c:byte())
+  return (text:gsub("[%c\127-\255\\']", function(c)
+    if c == "\\" or c == "'" then return "\\" .. c end
+    return string.format("\\%03d", c:byte())
   end))
 end
 
@@ -20,15 +20,15 @@ local function written(v)
 end
 
 local function row(name, ...)
-  local library = string[name] and string or math
-  local given = {name}
+  local library = string[name] and "string" or "math"
+  local given = {}
   for i = 1, select("#", ...) do given[#given + 1] = written((select(i, ...))) end
   local function results(...)
     local out = {}
     for i = 1, select("#", ...) do out[#out + 1] = written((select(i, ...))) end
     return #out == 0 and "(none)" or table.concat(out, " ")
   end
-  rows[#rows + 1] = table.concat(given, " ") .. " => " .. results(library[name](...))
+  rows[#rows + 1] = library .. "." .. name .. "(" .. table.concat(given, ", ") .. ") => " .. results(_G[library][name](...))
 end
 
 for _, s in ipairs {"hello", "", "a\0b", "x"} do
@@ -118,13 +118,14 @@ row("min", 3, -12, -12)
 row("min", -1)
 
 if arg[1] == "check" then
-  local text = assert(io.open(arg[2])):read("*a"):match('r#"(.-)"#')
   local at, wrong = 0, 0
-  for line in text:gmatch("[^\n]+") do
-    at = at + 1
-    if rows[at] and rows[at] ~= line then
-      wrong = wrong + 1
-      print(line .. " stands there, and Lua 5.1 has " .. rows[at])
+  for line in io.lines(arg[2]) do
+    if line:find("^%a+%.%a+%(.*%) => ") then
+      at = at + 1
+      if rows[at] and rows[at] ~= line then
+        wrong = wrong + 1
+        print(line .. " stands there, and Lua 5.1 has " .. rows[at])
+      end
     end
   end
   wrong = wrong + math.max(0, #rows - at)
