@@ -24,7 +24,7 @@ LONG_RUNS = TOP / "tests" / "long_runs.table"
 CALLS = 20000
 AMPLE = 10_000_000
 # a case by hand that takes no more steps is run with each number of them in the gate, where a program has two minutes
-FEW = 2500
+FEW = 1200
 # one that takes more, but no more than so many, is run so by `tests/long_runs`; and one that takes still more there with the last few
 # numbers below what it takes, and with some others at even distances
 MANY, LAST, OTHERS = 50_000, 10, 30
