@@ -18,22 +18,24 @@ PAGES = ["{", "{{", "}}", "}", "[[{{", "{{}}", "{{{{a}}", "{{a|b=c}}", "<!--", "
          "</onlyinclude>", "<onlyinclude>", "|", "a"]
 
 
-def row(name, text):
-    """A row that says nothing of what it comes to, so that it is printed."""
-    return f"markup\t{name}\t{escaped(text)}\t=> \n".encode()
+def row(name, piece, size):
+    """A row on so many bytes of a piece, as one escape where that can hold it. It says nothing of what it comes to, so it is printed."""
+    copies, rest = divmod(size, len(piece))
+    text = escaped(piece * copies) if "\n" in piece else f"\\({copies}:{piece})"
+    return f"markup\t{name}\t{text}{escaped(piece[:rest])}\t=> \n".encode()
 
 
-def seconds(program, rounds, text):
-    whole = best(rounds, [program], row("counts", text)).processor
-    return whole - best(rounds, [program], row("length", text)).processor
+def seconds(program, rounds, piece, size):
+    whole = best(rounds, [program], row("counts", piece, size)).processor
+    return whole - best(rounds, [program], row("length", piece, size)).processor
 
 
 def main():
     program = sys.argv[1]
     print(f"{'page':20} {'2 MiB':>8} {'per byte':>9}")
     for piece in PAGES:
-        large = seconds(program, ROUNDS, (piece * LARGE)[:LARGE])
-        small = seconds(program, SMALL_ROUNDS, (piece * SMALL)[:SMALL])
+        large = seconds(program, ROUNDS, piece, LARGE)
+        small = seconds(program, SMALL_ROUNDS, piece, SMALL)
         print(f"{piece!r:20} {large:7.3f}s {large / small / (LARGE / SMALL):8.2f}x")
 
 
