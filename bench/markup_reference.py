@@ -1,19 +1,17 @@
 #!/usr/bin/env python3
 """What is shown of a page and how its braces pair, by the rules of docs/RULES.md, in a form that only has to be plain.
 
-It knows nothing of the crate `wiki_markup`: the list of items is rewritten, leftmost closing run first. The tests of that
-crate take their expected values from here.
+It knows nothing of the crate `wiki_markup`: the list of items is rewritten, leftmost closing run first. The rows of `text_cases`
+on that crate take their expected values from here.
 
-  markup_reference.py table FILE      for each line `MODE text` of FILE: the line with its tree, as the tests have it
-  markup_reference.py check FILE      tells each line `MODE text => tree` of a table of the tests whose tree is another
-  markup_reference.py pairing         the number that the test on all texts of up to 7 items expects
-  markup_reference.py shown           the number that the test on all texts of up to 4 pieces in both modes expects
-  markup_reference.py constants FILE  compares these two numbers with the constants of a file of tests
+  markup_reference.py table FILE   for each line `MODE text` of FILE, in which escapes are read: the row `markup` with its trees
+  markup_reference.py check FILE   tells each row `markup` with the trees of a text that are others, with these
+  markup_reference.py sums FILE    tells each row `markup` with a sum that is another, with that (some minutes)
 """
 import re
 import sys
 
-from constants import differ
+from row_tables import row, rows, unescaped
 
 WHITE = rb"[ \t-\r]*"
 
@@ -246,11 +244,6 @@ def mixed(sum_so_far, numbers):
     return ((sum_so_far ^ 256) * 1099511628211) & MASK
 
 
-PAIRING_ITEMS = [b"{{", b"{{{", b"}}", b"}}}", b"[[", b"]]", b"|", b"a"]
-SHOWN_ITEMS = [b"<!--", b"-->", b"<nowiki>", b"</nowiki>", b"<pre a/", b">", b"<noinclude>", b"</NOINCLUDE >", b"<includeonly>",
-               b"</includeonly>", b"<onlyinclude>", b"</onlyinclude>", b"<noinclude/>", b"\n", b" ", b"{"]
-
-
 def texts(items, most):
     for count in range(most + 1):
         for n in range(len(items) ** count):
@@ -261,34 +254,23 @@ def texts(items, most):
             yield text
 
 
-def unescaped(line):
-    return re.sub(rb"\\(n|t|r|\\|x..)", lambda m: {b"n": b"\n", b"t": b"\t", b"r": b"\r", b"\\": b"\\"}.get(
-        m.group(1)) or bytes([int(m.group(1)[1:], 16)]), line)
+def trees_of(mode, text):
+    """the trees of a text, as a row has them"""
+    return marked(*shown(unescaped(text).encode("latin-1"), mode)).decode("latin-1")
 
 
-def escaped(data):
-    plain = {10: "\\n", 9: "\\t", 13: "\\r", 92: "\\\\"}
-    return "".join(plain.get(b) or (chr(b) if 32 <= b < 127 else "\\x%02x" % b) for b in data)
-
-
-def row(line):
-    """the line `MODE text` with its tree"""
-    mode, text = line[:1].decode(), unescaped(line[2:])
-    return line + b" => " + escaped(marked(*shown(text, mode))).encode()
-
-
-def pairing_sum():
-    """one number for the pairings of all texts of up to 7 items"""
+def pairing_sum(items, most):
+    """one number for the pairings of all texts of up to so many items"""
     total = 14695981039346656037
-    for text in texts(PAIRING_ITEMS, 7):
+    for text in texts(items, most):
         total = mixed(total, marked(text, [], []))
     return total
 
 
-def shown_sum():
-    """one number for what is shown of all texts of up to 4 pieces"""
+def shown_sum(items, most):
+    """one number for what is shown of all texts of up to so many pieces"""
     total = 14695981039346656037
-    for text in texts(SHOWN_ITEMS, 4):
+    for text in texts(items, most):
         for mode in "DT":
             data, kept, cuts = shown(text, mode)
             for numbers in (data, [place for span in kept for place in span], cuts):
@@ -296,19 +278,35 @@ def shown_sum():
     return total
 
 
+def sum_of(name, text):
+    """the sum of a row: a number and pieces, with tabs between"""
+    most, *items = text.split("\t")
+    sums = {"pairings": pairing_sum, "shown": shown_sum}
+    return str(sums[name]([unescaped(item).encode("latin-1") for item in items], int(most)))
+
+
+def check(file, computed, names):
+    """tells each row `markup` with one of these names that comes to something else; whether there is one, or none at all"""
+    wrong, count = [], 0
+    for kind, text, expected in rows(file, "markup"):
+        name, _, tried = text.partition("\t")
+        if name in names:
+            count += 1
+            given = computed(name, tried)
+            if given != expected:
+                wrong.append(row(kind, text, given))
+    print(*wrong, f"{count} rows, {len(wrong)} come to something else", sep="\n")
+    return bool(wrong) or not count
+
+
 if __name__ == "__main__":
-    command = sys.argv[1]
+    command, path = sys.argv[1:]
     if command == "table":
-        for line in open(sys.argv[2], "rb").read().split(b"\n"):
-            if line:
-                print(row(line).decode())
+        with open(path, encoding="utf-8") as lines:
+            for line in lines.read().splitlines():
+                mode, _, text = line.partition(" ")
+                print(row("markup", f"{mode}\t{text}", trees_of(mode, text)))
     elif command == "check":
-        table = open(sys.argv[2], "rb").read().split(b'r##"')[1].split(b'"##')[0]
-        lines = [line for line in table.split(b"\n") if line]
-        wrong = [line for line in lines if row(line.partition(b" => ")[0]) != line]
-        print(f"{len(lines)} lines, {len(wrong)} with another tree", *wrong, sep="\n")
-        sys.exit(bool(wrong))
-    elif command == "constants":
-        sys.exit(differ(sys.argv[2], {"PAIRING_SUM": pairing_sum(), "SHOWN_SUM": shown_sum()}))
-    else:
-        print(pairing_sum() if command == "pairing" else shown_sum())
+        sys.exit(check(path, trees_of, ["D", "T"]))
+    elif command == "sums":
+        sys.exit(check(path, sum_of, ["pairings", "shown"]))

@@ -3,15 +3,25 @@
 //! A row is a kind, a text, and what the text is to come to, with a tab and `\t=> ` between; escapes are those of `case_text`. Empty
 //! lines, and those that begin with `#`, are passed over. What a text of a kind comes to is written as the kind's module says.
 //!
+//! - `lua_rows`: texts of Lua: `numbers`, `tokens`, `trees` (which `written` writes) and calls of their `laws`
+//! - `markup`: what is shown of a page, and how it pairs
+//! - `wikis`, `expansion`: small wikis, and the texts of an expansion
+//! - `out`, `parts`, `seed`: what is written of a row, the parts of its text, the seed of every map
+//!
 //! There are no definitions here.
 #![tactic(auto)]
 
+mod expansion;
 mod laws;
 mod lua_rows;
+mod markup;
 mod numbers;
 mod out;
+mod parts;
+mod seed;
 mod tokens;
 mod trees;
+mod wikis;
 mod written;
 
 use case_text::unescaped;
@@ -22,24 +32,36 @@ use wk_base::NoMemory;
 /// What a text of a kind comes to, as its rows write it.
 fn answer(alloc: Global, kind: &str, text: &str) -> Result<Vec<u8>, NoMemory> {
     match kind {
+        "markup" => markup::answer(alloc, text),
+        "wiki" => wikis::answer(alloc, text),
+        "expansion" => expansion::answer(alloc, text),
         _ => lua_rows::answer(alloc, kind, text),
     }
 }
 
-/// Whether a row's text comes to what the row says; where it doesn't, the row is printed with what it came to.
+/// Tells of a row that is wrong.
+fn tell(rt: &HostRuntime, row: &str, given: &[u8]) -> io::Result<bool> {
+    println!(rt; "{row}\n  {:?}", given)?;
+    Ok(false)
+}
+
+/// Whether a row came to what it says; where it didn't, it is printed with what it came to.
+fn is_as_said(rt: &HostRuntime, row: &str, expected: &str, given: &[u8]) -> io::Result<bool> {
+    let expected = unescaped(rt.alloc(), expected.as_bytes())?;
+    if given == expected.as_slice() {
+        return Ok(true);
+    }
+    tell(rt, row, given)
+}
+
+/// Whether a row's text comes to what the row says.
 fn is_right(rt: &HostRuntime, row: &str) -> io::Result<bool> {
     let (kind, rest) = row.split_once('\t').unwrap_or((row, ""));
     let (text, expected) = rest.split_once("\t=> ").unwrap_or((rest, ""));
-    let Ok(given) = answer(rt.alloc(), kind, text) else {
-        println!(rt; "{row}\n  no memory")?;
-        return Ok(false);
-    };
-    let expected = unescaped(rt.alloc(), expected.as_bytes())?;
-    if given.as_slice() == expected.as_slice() {
-        return Ok(true);
+    match answer(rt.alloc(), kind, text) {
+        Ok(given) => is_as_said(rt, row, expected, given.as_slice()),
+        Err(_) => tell(rt, row, b"no memory"),
     }
-    println!(rt; "{row}\n  {:?}", given.as_slice())?;
-    Ok(false)
 }
 
 fn main(rt: HostRuntime) -> io::Result<()> {
