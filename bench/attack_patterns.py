@@ -1,7 +1,7 @@
 #!/usr/bin/env python3
 """Times searches with sets of very many parts against a search with a set of one part, on the same subject.
 
-  bench/attack_patterns.py crates/lua_pattern_cases/out/lua_pattern_cases
+  bench/attack_patterns.py crates/text_cases/out/text_cases
 
 Each search looks for a run of the set up to the end of a subject that has none, so it makes twice as many tries as the
 subject has symbols, and one more. Seconds of processor time of the search alone: those of a run that reads the pattern and
@@ -9,7 +9,7 @@ looks into an empty subject are taken off, and told beside. Of each the best of 
 """
 import sys
 
-from timing import best
+from timing import row_is_right
 
 ROUNDS = 3
 PARTS = 200_000
@@ -17,11 +17,8 @@ SYMBOLS = 1_000_000
 CLASSES = "%d%c%p%u%x%z"
 
 
-def seconds(program, kind, pattern, subject):
-    took = best(ROUNDS, [program], f"{kind}\t0\t{pattern}\t{subject}\n".encode())
-    if not took.printed.endswith(b" tries\n"):
-        sys.exit(f"{program} printed {took.printed!r} for the pattern {pattern[:20]} ..")
-    return took.processor
+def seconds(program, kind, pattern, subject, answer):
+    return row_is_right(ROUNDS, program, f"pattern\t{kind}\t0\t{pattern}\t{subject}\t=> {answer}").processor
 
 
 def searches():
@@ -41,8 +38,10 @@ def main():
     once = {}
     print(f"{'alphabet':8} {'set':14} {'reading':>8} {'search':>8} {'times':>6}")
     for kind, name, text, symbol in searches():
-        reading = seconds(program, kind, f"^[{text}]$", "")
-        search = seconds(program, kind, f"[{text}]*$", symbol * SYMBOLS) - seconds(program, kind, "^b", symbol * SYMBOLS) - reading
+        subject = symbol * SYMBOLS
+        reading = seconds(program, kind, f"^[{text}]$", "", "none, 1 tries")
+        rest = reading + seconds(program, kind, "^b", subject, "none, 2 tries")
+        search = seconds(program, kind, f"[{text}]*$", subject, f"{SYMBOLS} {SYMBOLS}, {2 * SYMBOLS + 1} tries") - rest
         once.setdefault(kind, search)
         print(f"{kind:8} {name:14} {reading:8.3f} {search:8.3f} {search / once[kind]:6.2f}")
 

@@ -1,15 +1,15 @@
 #!/usr/bin/env python3
-"""Writes the rows of formats that the tests of lua_format compare with: what C's printf makes of numbers of 64 bits.
+"""Writes the rows of the kind `format` of `text_cases` that say what C's printf makes of numbers of 64 bits.
 
-  bench/format_rows.py [--write]     prints the file, or writes it into the crate
+  bench/format_rows.py [--write]     prints the rows, or writes them into the crate's table
 
-A row has a format with one directive, a number and the text, with ` => ` between. `%f` is asked of C with the number as a
+A row has a format with one directive, a number and the text. `%f` is asked of C with the number as a
 long double, whose 64 bits hold it, for a C of which this is so (x86-64).
 """
 import ctypes
 import itertools
 
-from written import give
+from written import escaped, give_rows
 
 libc = ctypes.CDLL(None)
 NUMBERS = [0, 7, -5, 42, 255, -1, 9223372036854775807, -9223372036854775808]
@@ -42,12 +42,8 @@ def rows():
     return [(f, s, l, n) for f, s, l, n in chosen if l != "f" or float(n) == n]
 
 
-def text():
-    lines = [f"%{f}{s}{l}| => {n} => {shown(f, s, l, n)}|" for f, s, l, n in rows()]
-    return ("//! Written by bench/format_rows.py: formats, numbers and what C's `printf` makes of them.\n\n"
-            "/// Rows of a format, a number and a text, with ` => ` between.\n"
-            "pub(crate) fn printf_rows() -> &'static str {\n"
-            '    r#"' + "\n".join(lines) + '"#\n}\n')
+def lines():
+    return [f"format\t{escaped(f'%{f}{s}{l}|')}\t{n}\t=> {escaped(shown(f, s, l, n))}|" for f, s, l, n in rows()]
 
 
-give("crates/plain_library_cases/src/format_rows.rt", text())
+give_rows("# format: what C's printf makes of numbers of 64 bits, written by bench/format_rows.py", lines())

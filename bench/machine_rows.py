@@ -218,8 +218,12 @@ def hands():
 
 
 def all_cases():
-    examples = [of_example(example) for _, _, examples in FILES for example in examples]
-    return [with_every(case, "all", AMPLE) for case in examples] + [in_gate(hand) for hand in hands()]
+    return [with_every(case, "every", FEW) for case in examples()] + [in_gate(hand) for hand in hands()]
+
+
+def examples():
+    """The worked examples."""
+    return [of_example(example) for _, _, told in FILES for example in told]
 
 
 def in_gate(hand):
@@ -287,10 +291,18 @@ def long_case(hand):
     return case
 
 
+def long_example(case):
+    """The example with its runs from 0 steps on alone."""
+    case = with_every(case, "all", AMPLE)
+    case.runs = [run for run in case.runs if run[0] == "all"]
+    return case
+
+
 def long_cases():
-    """The cases by hand that take more than `FEW` steps, but for those that the gate runs with each number of them all the same, and those that
-    are run once."""
-    return [case for hand in hands() if hand["runs_at_each"] and not hand["every"] for case in [long_case(hand)] if case.runs]
+    """The examples, with each number of steps from 0 on; and the cases by hand that take more than `FEW` steps, but for those that the gate
+    runs with each number of them all the same, and those that are run once."""
+    by_hand = [long_case(hand) for hand in hands() if hand["runs_at_each"] and not hand["every"]]
+    return [case for case in [*map(long_example, examples()), *by_hand] if case.runs]
 
 
 def tables():

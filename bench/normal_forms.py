@@ -1,14 +1,14 @@
 #!/usr/bin/env python3
-"""Writes the table of crates/plain_library_cases/src/normal_rows.rt: 200 lines of Unicode's own conformance test.
+"""Writes the rows of the kind `ustring` of `text_cases` that say what normal forms are: 200 lines of Unicode's own conformance test.
 
 Of each part of NormalizationTest.txt (Debian's package unicode-data) lines are taken at even distances. A line has five
 fields, code points in hexadecimal: a text, and its normal forms C, D, KC and KD.
 
-    bench/normal_forms.py [--write]     prints the file, or writes it into the crate
+    bench/normal_forms.py [--write]     prints the rows, or writes them into the crate's table
 """
 import bz2
 
-from written import give
+from written import give_rows
 
 FROM = "/usr/share/unicode/NormalizationTest.txt.bz2"
 COUNTS = {"@Part0": 24, "@Part1": 96, "@Part2": 50, "@Part3": 30}
@@ -25,16 +25,18 @@ def parts_of_the_test():
     return parts
 
 
-def text():
-    parts, rows = parts_of_the_test(), []
+def lines():
+    parts, chosen = parts_of_the_test(), []
     for name, count in COUNTS.items():
-        lines = parts[name]
-        count = min(count, len(lines))
-        rows += [lines[k * len(lines) // count] for k in range(count)]
-    return ("//! Lines of Unicode's conformance test for normal forms, as `bench/normal_forms.py` writes them.\n\n"
-            "/// A text and its normal forms C, D, KC and KD, by code points in hexadecimal.\n"
-            "pub fn rows() -> &'static str {\n"
-            '    "\\\n' + "\n".join(rows) + '\n"\n}\n')
+        of_part = parts[name]
+        count = min(count, len(of_part))
+        chosen += [of_part[k * len(of_part) // count] for k in range(count)]
+    return chosen
 
 
-give("crates/plain_library_cases/src/normal_rows.rt", text())
+def row(line):
+    text, c, d, kc, kd = line.split(";")
+    return f"ustring\tforms\t{text}\t=> C {c} D {d} KC {kc} KD {kd}"
+
+
+give_rows("# ustring: normal forms, lines of Unicode's conformance test, written by bench/normal_forms.py", [row(it) for it in lines()])

@@ -2,11 +2,11 @@
 """Patterns of Lua by the rules of docs/RULES.md, in a form that only has to be plain: what a pattern is read as, its first match
 from a place on, and how many tries that takes. It knows nothing of the crate `lua_pattern`.
 
-  pattern_reference.py check FOLDER      tells each line of FOLDER/stdin to which FOLDER/stdout has another answer
+  pattern_reference.py check FILE        tells each row of a search, in the table FILE of `text_cases`, that has another answer
   pattern_reference.py KIND PATTERN SUBJECT [PLACE]
 
-KIND is `bytes`, `points`, or `plain ^`, which is bytes with a first `^` as a plain character. The lines of FOLDER/stdin are
-written by hand; the line `all` is a comparison that the program makes by itself, and must tell of no difference.
+KIND is `bytes`, `points`, or `plain ^`, which is bytes with a first `^` as a plain character. The rows are written by hand; the row
+of the kind `small patterns` is a comparison that the program makes by itself, and must tell of no difference.
 """
 import functools
 import os
@@ -250,8 +250,8 @@ class Search:
             at += 1
 
 
-def answer(kind, pattern, subject, place=0):
-    """The line that the program prints for a case."""
+def answer(kind, pattern, subject, place=0, budget=BUDGET):
+    """What a row of a search says."""
     points = kind == "points"
     try:
         reader = Reader(symbols(pattern, points)[0], points, kind != "plain ^")
@@ -266,7 +266,7 @@ def answer(kind, pattern, subject, place=0):
             continue
         more, end, marks = search.way(0, at, ())
         tries += more
-        if tries > BUDGET:
+        if tries > budget:
             return "spent"
         if end is not None:
             found = [f"@{marks[it[1]]}" if it[0] == "place" else f"{marks[it[1]]}-{marks[it[2]]}" for it in reader.captures]
@@ -280,22 +280,29 @@ def unescaped(text):
     return re.sub(rb"\\x([0-9a-f]{2})", lambda it: bytes([int(it.group(1), 16)]), text)
 
 
-def check(folder):
-    with open(os.path.join(folder, "stdin"), "rb") as lines, open(os.path.join(folder, "stdout"), "rb") as answers:
-        rows = list(zip(lines.read().split(b"\n"), answers.read().decode().split("\n"), strict=True))
-    wrong = 0
-    for line, told in rows:
-        if line == b"all":
-            wanted = told if told.endswith(" 0 differ") else "no difference"
-        elif line:
-            kind, place, pattern, subject = line.split(b"\t")
-            wanted = answer(kind.decode(), unescaped(pattern), unescaped(subject), int(place))
-        else:
-            wanted = ""
-        if told != wanted:
+def wanted(case, told):
+    """What a row says, if it is one of a search or of the comparison."""
+    kind, *words = case.split(b"\t")
+    if kind == b"small patterns":
+        return told if told.endswith(" 0 differ") else "no difference"
+    if kind != b"pattern" or words[0] not in (b"bytes", b"points", b"plain ^"):
+        return None
+    alphabet, place, pattern, subject, *budget = words
+    return answer(alphabet.decode(), unescaped(pattern), unescaped(subject), int(place), int(budget[0]) if budget else BUDGET)
+
+
+def check(path):
+    searches = wrong = 0
+    with open(path, "rb") as file:
+        rows = [it.split(b"\t=> ") for it in file.read().split(b"\n") if it.startswith((b"pattern\t", b"small patterns\t"))]
+    for case, told in rows:
+        told = told.decode()
+        answered = wanted(case, told)
+        searches += answered is not None
+        if answered not in (None, told):
             wrong += 1
-            print(f"{line[:100]!r}: {told}, should be {wanted}")
-    print(f"{folder}: {len(rows)} lines, {wrong} with another answer")
+            print(f"{case[:100]!r}: {told}, should be {answered}")
+    print(f"{path}: {searches} searches, {wrong} with another answer")
     return bool(wrong)
 
 

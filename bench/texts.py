@@ -2,38 +2,58 @@
 """Times functions over code points: calls of `mw_ustring` over 2 MiB of mixed text beside a walk over it by std's `chars`, and
 the normal forms and functions of `mw_text` at three sizes, where time is to grow as the text does.
 
-  bench/texts.py crates/string_bench/out/string_bench
+  bench/texts.py crates/text_cases/out/text_cases
 
-Milliseconds of processor time for one call, less those of a run without a call. Of each the best of some rounds counts.
+Milliseconds of processor time for one call, less those of a run that only reads the text. Of each the best of some rounds counts.
 """
 import sys
 
-from timing import best
+from timing import LONG, answer_time, copies
 
 ROUNDS = 3
 KIB = 1024
+MIXED = copies("aé€𝄞", LONG // 10) + "b"
+
+# Calls over the mixed text: the case, and how long its answer is where that is known. `x` stands nowhere in it.
+OVER_MIXED = {
+    "walk": (f"ustring\twalk\t{MIXED}", None),
+    "len": (f"ustring\tlen\t{MIXED}", len(str(LONG // 10 * 4 + 1))),
+    "usub": (f"ustring\tsub\t{MIXED}\t2\t-2", LONG // 10 * 10 - 1),
+    "ufind": (f"ustring\tfind\t{MIXED}\tx\t2\tplain", len("none, 0 tries")),
+    "seek": (f"ustring\tfind\t{MIXED}\tx\t2\tpattern", len(f"none, {LONG // 10 * 4} tries")),
+}
+# Calls over a text that is repeated to some size: what stands before it, what is repeated, the kind, and the words around the text.
+GROWING = {
+    "nfc": ("", "\u0301\u0323", "ustring\tnfc", ""),
+    "nfd": ("", "\u0301\u0323", "ustring\tnfd", ""),
+    "split": ("", "a", "text\tsplit_tries", "\t\tpattern"),
+    "parts": ("", "a", "text\tsplit_tries", "\t\tplain"),
+    "trim": ("", "a", "text\ttrim", "\t[a]"),
+    "encode": ("", "a", "text\tencode", ""),
+    "decode": ("&#", "1", "text\tdecode", ""),
+}
 
 
-def call(command, work, kibibytes, count):
-    """Milliseconds of one call, and what all of them together gave."""
-    size = kibibytes * KIB
-    start = best(ROUNDS, command, f"{work} 0 {size}\n".encode()).processor
-    took = best(ROUNDS, command, f"{work} {count} {size}\n".encode())
-    return 1000 * (took.processor - start) / count, int(took.printed)
+def call(program, case, text, count, length=None):
+    return answer_time(ROUNDS, program, count, case, f"string\tlen\t{text}", length)
+
+
+def growing(program, work, size):
+    before, part, kind, behind = GROWING[work]
+    text = before + copies(part, size // len(part.encode()))
+    return call(program, f"{kind}\t{text}{behind}", text, 5)
 
 
 def main():
-    command = [sys.argv[1]]
-    walk, _ = call(command, "walk", 2048, 20)
+    program = sys.argv[1]
+    took = {work: call(program, case, MIXED, 20, length) for work, (case, length) in OVER_MIXED.items()}
     print(f"{'over 2 MiB':10} {'ms':>8} {'times the walk':>15}")
-    print(f"{'walk':10} {walk:8.2f}")
-    for work in ["len", "usub", "ufind", "seek"]:
-        took, _ = call(command, work, 2048, 20)
-        print(f"{work:10} {took:8.2f} {took / walk:15.2f}")
+    print(f"{'walk':10} {took['walk']:8.2f}")
+    for work in [*took][1:]:
+        print(f"{work:10} {took[work]:8.2f} {took[work] / took['walk']:15.2f}")
     print(f"\n{'ms':10} {'256 KiB':>9} {'512 KiB':>9} {'1 MiB':>9} {'2 MiB':>9}")
-    for work in ["nfc", "nfd", "split", "parts", "trim", "encode", "decode"]:
-        took = [call(command, work, size, 5) for size in (256, 512, 1024, 2048)]
-        print(f"{work:10} " + " ".join(f"{ms:9.2f}" for ms, _ in took))
+    for work in GROWING:
+        print(f"{work:10} " + " ".join(f"{growing(program, work, size * KIB):9.2f}" for size in (256, 512, 1024, 2048)))
 
 
 main()

@@ -34,3 +34,29 @@ def best(rounds, words, given=b"", wanted=None):
         if wanted is not None and each.printed != wanted:
             sys.exit(f"{' '.join(map(str, words))} printed {each.printed[:80]!r} .., {len(each.printed)} bytes, not {wanted[:80]!r} .., {len(wanted)}")
     return Run(min(it.processor for it in runs), min(it.wall for it in runs), min(it.memory for it in runs), runs[0].printed)
+
+
+# How long the texts are over which calls are timed, and how many copies of a part one escape holds: few, so that a program reads the
+# text in little time.
+LONG = 2 * 1024 * 1024
+PART = 1024
+
+
+def copies(text, count):
+    """So many copies of a text, as a word of a row of `text_cases`."""
+    whole, rest = divmod(count, PART)
+    return f"\\({whole}:{text * PART})" + text * rest
+
+
+def row_is_right(rounds, program, row):
+    """The least time of `text_cases` on one row, which has to be right."""
+    return best(rounds, [program], (row + "\n").encode(), b"1 rows are right\n")
+
+
+def answer_time(rounds, program, count, case, reading, length=None):
+    """Milliseconds that `text_cases` takes for one run of a case, less those of one that only reads. Where a length is told, its
+    answer has to be so long."""
+    if length is not None:
+        row_is_right(1, program, f"times\t1\t{case}\t=> {length}")
+    took = [best(rounds, [program], f"times\t{count}\t{it}\t=> \n".encode()).processor for it in (case, reading)]
+    return 1000 * (took[0] - took[1]) / count

@@ -6,22 +6,34 @@
 //! - `lua_rows`: texts of Lua: `numbers`, `tokens`, `trees` (which `written` writes) and calls of their `laws`
 //! - `markup`: what is shown of a page, and how it pairs
 //! - `wikis`, `expansion`: small wikis, and the texts of an expansion
+//! - `patterns`, and `small_patterns` beside a plain program, `plain_patterns`
+//! - `strings`, `formats`, `code_points`, `wikitexts`: plain functions of the libraries, whose words `words` reads; `times` runs one again and
+//!   again
 //! - `out`, `parts`, `seed`: what is written of a row, the parts of its text, the seed of every map
 //!
 //! There are no definitions here.
 #![tactic(auto)]
 
+mod code_points;
 mod expansion;
+mod formats;
 mod laws;
 mod lua_rows;
 mod markup;
 mod numbers;
 mod out;
 mod parts;
+mod patterns;
+mod plain_patterns;
 mod seed;
+mod small_patterns;
+mod strings;
+mod times;
 mod tokens;
 mod trees;
 mod wikis;
+mod wikitexts;
+mod words;
 mod written;
 
 use case_text::unescaped;
@@ -35,6 +47,13 @@ fn answer(alloc: Global, kind: &str, text: &str) -> Result<Vec<u8>, NoMemory> {
         "markup" => markup::answer(alloc, text),
         "wiki" => wikis::answer(alloc, text),
         "expansion" => expansion::answer(alloc, text),
+        "format" => formats::answer(alloc, text),
+        "pattern" => patterns::answer(alloc, text),
+        "small patterns" => small_patterns::answer(alloc),
+        "string" => strings::answer(alloc, text),
+        "text" => wikitexts::answer(alloc, text),
+        "times" => times::answer(alloc, text),
+        "ustring" => code_points::answer(alloc, text),
         _ => lua_rows::answer(alloc, kind, text),
     }
 }

@@ -3,15 +3,55 @@
 
 use lua_pattern::PreparedSet;
 use lua_pattern::item::{Item, Part, Single};
-use std::alloc::{AllocError, Global};
 
-/// Where a match ends, and the places of the marks that were passed.
-pub(crate) type Found = Option<(usize, Vec<usize>)>;
+/// How many marks are kept, which is enough for patterns of so many items.
+pub(crate) const MOST_MARKS: usize = 4;
+
+/// The places of the marks that were passed.
+#[derive(Clone, Copy)]
+pub(crate) struct Marks {
+    places: [usize; MOST_MARKS],
+    count: usize,
+}
+
+impl Marks {
+    fn none() -> Marks {
+        Marks {
+            places: [0; MOST_MARKS],
+            count: 0,
+        }
+    }
+
+    /// The place of a mark that was passed.
+    pub(crate) fn get(&self, index: usize) -> Option<usize> {
+        if index < self.count && index < MOST_MARKS {
+            Some(self.places[index])
+        } else {
+            None
+        }
+    }
+
+    fn at(&self, index: usize) -> usize {
+        self.get(index).unwrap_or(0)
+    }
+
+    /// These marks, and one more behind them.
+    fn with(self, place: usize) -> Marks {
+        let mut more = self;
+        if self.count < MOST_MARKS {
+            more.places[self.count] = place;
+        }
+        more.count = self.count.saturating_add(1);
+        more
+    }
+}
+
+/// Where a match ends, and the marks that it passed.
+pub(crate) type Found = Option<(usize, Marks)>;
 
 /// The items, each of which asks the rest, over the bytes of a subject.
 #[derive(Drop)]
 pub(crate) struct Plain<'s> {
-    pub(crate) alloc: Global,
     pub(crate) subject: &'s [u8],
     pub(crate) tries: u64,
 }
@@ -36,13 +76,6 @@ fn fits(single: &Single, symbol: char) -> bool {
     }
 }
 
-fn mark_at(marks: &[usize], index: usize) -> usize {
-    match marks.get(index) {
-        Some(mark) => *mark,
-        None => 0,
-    }
-}
-
 impl<'s> Plain<'s> {
     fn pay(&mut self) {
         self.tries = self.tries.saturating_add(1);
@@ -64,21 +97,16 @@ impl<'s> Plain<'s> {
 
     /// The match of the items at a place, behind these marks.
     #[cycle(way)]
-    pub(crate) fn way(
-        &mut self,
-        items: &[Item],
-        at: usize,
-        marks: &[usize],
-    ) -> Result<Found, AllocError> {
+    pub(crate) fn way(&mut self, items: &[Item], at: usize, marks: Marks) -> Found {
         let [item, rest @ ..] = items else {
-            return Ok(Some((at, marks.to_vec(self.alloc)?)));
+            return Some((at, marks));
         };
         match item {
             Item::One(single) => {
                 if self.compare(single, at) {
                     self.way(rest, at.saturating_add(1), marks)
                 } else {
-                    Ok(None)
+                    None
                 }
             }
             Item::Star(single) => {
@@ -91,15 +119,15 @@ impl<'s> Plain<'s> {
                     let most = self.run(single, low);
                     self.down(rest, low, most, marks)
                 } else {
-                    Ok(None)
+                    None
                 }
             }
             Item::Minus(single) => self.up(single, rest, at, marks),
             Item::Maybe(single) => {
                 if self.compare(single, at) {
-                    let first = self.way(rest, at.saturating_add(1), marks)?;
+                    let first = self.way(rest, at.saturating_add(1), marks);
                     if first.is_some() {
-                        return Ok(first);
+                        return first;
                     }
                 }
                 self.way(rest, at, marks)
@@ -110,25 +138,19 @@ impl<'s> Plain<'s> {
 
     /// The match of an item that is no single character, and of the rest behind it.
     #[cycle(way)]
-    fn way_of(
-        &mut self,
-        item: &Item,
-        rest: &[Item],
-        at: usize,
-        marks: &[usize],
-    ) -> Result<Found, AllocError> {
+    fn way_of(&mut self, item: &Item, rest: &[Item], at: usize, marks: Marks) -> Found {
         match item {
             Item::Back(first, last) => {
-                let (from, to) = (mark_at(marks, *first), mark_at(marks, *last));
+                let (from, to) = (marks.at(*first), marks.at(*last));
                 if self.repeats(from, to, at) {
                     self.way(rest, at.saturating_add(to.saturating_sub(from)), marks)
                 } else {
-                    Ok(None)
+                    None
                 }
             }
             Item::Balance(begin, shut) => match self.closed(*begin, *shut, at) {
                 Some(end) => self.way(rest, end, marks),
-                None => Ok(None),
+                None => None,
             },
             Item::Frontier(set) => {
                 self.pay();
@@ -137,24 +159,22 @@ impl<'s> Plain<'s> {
                 if !is_in_set(set, before.unwrap_or('\0')) && is_in_set(set, here) {
                     self.way(rest, at, marks)
                 } else {
-                    Ok(None)
+                    None
                 }
             }
             Item::Mark => {
                 self.pay();
-                let mut more = marks.to_vec(self.alloc)?;
-                more.push(at)?;
-                self.way(rest, at, more.as_slice())
+                self.way(rest, at, marks.with(at))
             }
             Item::End => {
                 self.pay();
                 if at == self.subject.len() {
                     self.way(rest, at, marks)
                 } else {
-                    Ok(None)
+                    None
                 }
             }
-            _ => Ok(None),
+            _ => None,
         }
     }
 
@@ -170,37 +190,25 @@ impl<'s> Plain<'s> {
     }
 
     #[cycle(way)]
-    fn down(
-        &mut self,
-        rest: &[Item],
-        low: usize,
-        high: usize,
-        marks: &[usize],
-    ) -> Result<Found, AllocError> {
+    fn down(&mut self, rest: &[Item], low: usize, high: usize, marks: Marks) -> Found {
         for place in (low..high.saturating_add(1)).rev() {
-            let found = self.way(rest, place, marks)?;
+            let found = self.way(rest, place, marks);
             if found.is_some() {
-                return Ok(found);
+                return found;
             }
         }
-        Ok(None)
+        None
     }
 
     #[cycle(way)]
-    fn up(
-        &mut self,
-        single: &Single,
-        rest: &[Item],
-        at: usize,
-        marks: &[usize],
-    ) -> Result<Found, AllocError> {
+    fn up(&mut self, single: &Single, rest: &[Item], at: usize, marks: Marks) -> Found {
         for place in at..self.subject.len().saturating_add(1) {
-            let found = self.way(rest, place, marks)?;
+            let found = self.way(rest, place, marks);
             if found.is_some() || !self.compare(single, place) {
-                return Ok(found);
+                return found;
             }
         }
-        Ok(None)
+        None
     }
 
     fn repeats(&mut self, from: usize, to: usize, at: usize) -> bool {
@@ -244,17 +252,17 @@ pub(crate) fn first(
     plain: &mut Plain,
     anchored: bool,
     items: &[Item],
-) -> Result<Option<(usize, usize, Vec<usize>)>, AllocError> {
+) -> Option<(usize, usize, Marks)> {
     if anchored {
         plain.pay();
     }
     for start in 0..plain.subject.len().saturating_add(1) {
-        if let Some((end, marks)) = plain.way(items, start, &[])? {
-            return Ok(Some((start, end, marks)));
+        if let Some((end, marks)) = plain.way(items, start, Marks::none()) {
+            return Some((start, end, marks));
         }
         if anchored {
-            return Ok(None);
+            return None;
         }
     }
-    Ok(None)
+    None
 }

@@ -1,5 +1,5 @@
 use Rattle.std.proofs.Common.{◌+◌, ◌*◌, length}
-use Rattle.lua_pattern_cases.proofs.plain.Plain.+way.Given as goal
+use Rattle.text_cases.proofs.plain_patterns.Plain.+way.Given as goal
 
 abbrev pub decreases-down : goal.decreases-down
 decreases-down l = 2 * length l.rest.now + 1

@@ -1,0 +1,212 @@
+//! The kind `ustring`: what `mw_ustring` gives. The first word is the function's name in the library, and the others are its
+//! arguments, in its order; a budget that is missing is as much as there can be.
+//!
+//! - A text, a number or the numbers of code points (with blanks between) stand as they are; where there is no answer, `none`.
+//! - `find` has `plain` or `pattern` before the budget, and gives `FIRST LAST, N tries` in code points, as Lua counts them; else
+//!   `none, N tries`, `spent` or `fault N`. `match`, and `plain_find` behind so many code points, give what a row of the kind
+//!   `pattern` gives, in bytes from 0.
+//! - `forms` has the numbers of code points, in hexadecimal, and gives those of their normal forms C, D, KC and KD.
+//! - `walk` gives the sum of the code points, as std walks over them: what the times of the other functions are compared with.
+
+ghost use Rattle.std.specs.Prelude.{IsUtf8};
+
+use crate::patterns::search_text;
+use crate::words::{
+    budget, bytes, copied, fault, number, numbers, place, place_or_none, shown, text_or_none,
+    truth, word, written,
+};
+use lua_pattern::Search;
+use mw_ustring::{
+    byteoffset, char_of, codepoint, count_points, find, first_points, isutf8, len, match_from,
+    offset, part, plain_find, point_place, points_behind, start, sub, text_of, to_nfc, to_nfd,
+    to_nfkc, to_nfkd,
+};
+use std::alloc::{AllocError, Global};
+use wk_base::{List, NoMemory};
+
+/// What a call gives.
+pub(crate) fn answer(alloc: Global, text: &str) -> Result<Vec<u8>, NoMemory> {
+    match word(text, 0) {
+        "char_of" => chars(alloc, text),
+        "forms" => forms_of_codes(alloc, word(text, 1)),
+        _ => with_text(alloc, text),
+    }
+}
+
+fn chars(alloc: Global, text: &str) -> Result<Vec<u8>, NoMemory> {
+    let codes = numbers(alloc, text)?;
+    text_or_none(alloc, char_of(alloc, codes.as_slice()))
+}
+
+fn with_text(alloc: Global, text: &str) -> Result<Vec<u8>, NoMemory> {
+    let s = bytes(alloc, text, 1)?;
+    of_bytes(alloc, &s, text)
+}
+
+fn of_bytes(alloc: Global, s: &[u8], text: &str) -> Result<Vec<u8>, NoMemory> {
+    match word(text, 0) {
+        "isutf8" => truth(alloc, isutf8(s)),
+        "len" => place_or_none(alloc, len(s)),
+        "byteoffset" => place_or_none(alloc, byteoffset(s, number(text, 2), number(text, 3))),
+        "nfc" => text_or_none(alloc, to_nfc(alloc, s)),
+        "nfd" => text_or_none(alloc, to_nfd(alloc, s)),
+        "walk" => shown(alloc, walk(s)),
+        _ if isutf8(s) => of_points(alloc, s, text),
+        _ => copied(alloc, b"no UTF-8"),
+    }
+}
+
+/// The sum of the code points of a text, as std walks over it.
+fn walk(text: &[u8]) -> u64 {
+    let mut sum: u64 = 0;
+    for point in std::str::from_utf8(text).unwrap_or("").chars() {
+        sum = sum.wrapping_add(point as u64);
+    }
+    sum
+}
+
+fn of_points(alloc: Global, s: &[u8], text: &str) -> Result<Vec<u8>, NoMemory>
+    requires text { IsUtf8 s.now }
+{
+    match word(text, 0) {
+        "sub" => sub(alloc, s, number(text, 2), number(text, 3)),
+        "part" => copied(alloc, part(s, number(text, 2), number(text, 3))),
+        "points_behind" => copied(alloc, points_behind(s, place(text, 2))),
+        "first_points" => copied(alloc, first_points(s, place(text, 2))),
+        "text_of" => copied(alloc, text_of(s).as_bytes()),
+        "count_points" => shown(alloc, count_points(s) as u64),
+        "offset" => shown(alloc, offset(s, place(text, 2)) as u64),
+        "start" => shown(alloc, start(s, number(text, 2)) as u64),
+        "codepoint" => written(codes(alloc, s, text)),
+        _ => with_pattern(alloc, s, text),
+    }
+}
+
+/// The numbers of code points, with blanks between.
+fn codes(alloc: Global, s: &[u8], text: &str) -> Result<String, AllocError>
+    requires text { IsUtf8 s.now }
+{
+    match codepoint(alloc, s, number(text, 2), number(text, 3)) {
+        Ok(codes) => joined(alloc, codes.as_slice()),
+        Err(_) => Err(AllocError),
+    }
+}
+
+fn joined(alloc: Global, codes: &[u32]) -> Result<String, AllocError> {
+    let mut text = String::new(alloc);
+    for code in codes {
+        if !text.is_empty() {
+            text.push(' ')?;
+        }
+        write!(text, "{code}")?;
+    }
+    Ok(text)
+}
+
+fn with_pattern(alloc: Global, s: &[u8], text: &str) -> Result<Vec<u8>, NoMemory>
+    requires text { IsUtf8 s.now }
+{
+    let pattern = bytes(alloc, text, 2)?;
+    if isutf8(&pattern) {
+        of_pattern(alloc, s, &pattern, text)
+    } else {
+        copied(alloc, b"no UTF-8")
+    }
+}
+
+fn of_pattern(alloc: Global, s: &[u8], pattern: &[u8], text: &str) -> Result<Vec<u8>, NoMemory>
+    requires text { IsUtf8 s.now }
+    requires pattern { IsUtf8 pattern.now }
+{
+    match word(text, 0) {
+        "find" => found(alloc, s, pattern, text),
+        "match" => matched(alloc, s, pattern, text),
+        "plain_find" => {
+            let from = offset(s, place(text, 3));
+            search_text(alloc, &plain_find(alloc, s, pattern, from))
+        }
+        _ => copied(alloc, b"no such call"),
+    }
+}
+
+fn matched(alloc: Global, s: &[u8], pattern: &[u8], text: &str) -> Result<Vec<u8>, NoMemory>
+    requires text { IsUtf8 s.now }
+{
+    match match_from(alloc, s, pattern, number(text, 3), budget(text, 4)) {
+        Ok(it) => search_text(alloc, &it),
+        Err(it) => fault(alloc, it),
+    }
+}
+
+fn found(alloc: Global, s: &[u8], pattern: &[u8], text: &str) -> Result<Vec<u8>, NoMemory>
+    requires text { IsUtf8 s.now }
+    requires pattern { IsUtf8 pattern.now }
+{
+    let plain = word(text, 4) == "plain";
+    match find(alloc, s, pattern, number(text, 3), plain, budget(text, 5)) {
+        Ok(Search::Found(it, tries)) => {
+            let (first, last) = (point_place(s, it.start), point_place(s, it.end));
+            places_text(alloc, first, last, tries)
+        }
+        Ok(other) => search_text(alloc, &other),
+        Err(it) => fault(alloc, it),
+    }
+}
+
+/// Where a match is, as Lua counts.
+fn places_text(alloc: Global, before: usize, last: usize, tries: u64) -> Result<Vec<u8>, NoMemory> {
+    let first = before.saturating_add(1);
+    written(format!(in alloc; "{first} {last}, {tries} tries"))
+}
+
+fn forms_of_codes(alloc: Global, codes: &str) -> Result<Vec<u8>, NoMemory> {
+    let text = spelled(alloc, codes)?;
+    written(forms_text(alloc, &text))
+}
+
+/// The text of code points in hexadecimal, with blanks between them.
+fn spelled(alloc: Global, codes: &str) -> Result<Vec<u8>, NoMemory> {
+    let codes = hexadecimals(alloc, codes)?;
+    text_or_none(alloc, char_of(alloc, codes.as_slice()))
+}
+
+fn hexadecimals(alloc: Global, codes: &str) -> Result<List<i64>, NoMemory> {
+    let mut numbers = List::new(alloc);
+    for code in codes.split(' ') {
+        numbers.push(i64::from_str_radix(code, 16).unwrap_or(-1))?;
+    }
+    Ok(numbers)
+}
+
+/// The normal forms, each with its name in front, as code points in hexadecimal.
+fn forms_text(alloc: Global, text: &[u8]) -> Result<String, AllocError> {
+    let mut forms = String::new(alloc);
+    for name in ["C", " D", " KC", " KD"] {
+        put_form(alloc, &mut forms, name, text)?;
+    }
+    Ok(forms)
+}
+
+fn put_form(alloc: Global, forms: &mut String, name: &str, text: &[u8]) -> Result<(), AllocError> {
+    forms.push_str(name)?;
+    match form(alloc, name, text) {
+        Ok(Some(made)) => put_codes(forms, &made),
+        _ => Err(AllocError),
+    }
+}
+
+fn form(alloc: Global, name: &str, text: &[u8]) -> Result<Option<Vec<u8>>, NoMemory> {
+    match name {
+        "C" => to_nfc(alloc, text),
+        " D" => to_nfd(alloc, text),
+        " KC" => to_nfkc(alloc, text),
+        _ => to_nfkd(alloc, text),
+    }
+}
+
+fn put_codes(forms: &mut String, text: &[u8]) -> Result<(), AllocError> {
+    for point in std::str::from_utf8(text).unwrap_or("").chars() {
+        write!(forms, " {:04X}", point as u32)?;
+    }
+    Ok(())
+}

@@ -1,0 +1,174 @@
+//! The kind `small patterns`: all patterns of up to four items over a small alphabet against all subjects of up to five bytes, by
+//! the search and by the definition as a plain program. The answer is how many there are, and in how many the two differ.
+
+use crate::plain_patterns::{Marks, Plain, first};
+use crate::words::written;
+use lua_pattern::slots::Slot;
+use lua_pattern::{Capture, OneByte, Pattern, Search};
+use std::alloc::{AllocError, Global};
+use wk_base::NoMemory;
+
+const ITEMS: [&[u8]; 13] = [
+    b"a", b"b*", b"a-", b".?", b".+", b"[^a]*", b"(", b")", b"()", b"%1", b"%bab", b"%f[b]", b"$",
+];
+
+/// What is counted over all pairs of a pattern and a subject.
+#[derive(Clone, Copy)]
+struct Totals {
+    patterns: u64,
+    found: u64,
+    tries: u64,
+    differ: u64,
+}
+
+/// Puts a number in a base: `length` digits, each of which is a word.
+fn spell(
+    text: &mut Vec<u8>,
+    words: &[&[u8]],
+    number: usize,
+    length: usize,
+) -> Result<(), AllocError> {
+    let mut left = number;
+    for _ in 0..length {
+        if words.is_empty() {
+            return Ok(());
+        }
+        if let Some(word) = words.get(left % words.len()) {
+            text.extend_from_slice(word)?;
+        }
+        left /= words.len();
+    }
+    Ok(())
+}
+
+fn is_kept(slot: Slot, marks: &Marks, capture: Capture) -> bool {
+    match (slot, capture) {
+        (Slot::Text(first, last), Capture::Span(from, to)) => {
+            marks.get(first) == Some(from) && marks.get(last) == Some(to)
+        }
+        (Slot::Point(mark), Capture::Place(at)) => marks.get(mark) == Some(at),
+        _ => false,
+    }
+}
+
+fn is_same(slots: &[Slot], marks: &Marks, captures: &[Capture]) -> bool {
+    let mut same = slots.len() == captures.len();
+    for (slot, capture) in slots.iter().zip(captures) {
+        same = same && is_kept(*slot, marks, *capture);
+    }
+    same
+}
+
+/// Whether a search gave what the plain program gave.
+fn agrees(
+    slots: &[Slot],
+    search: &Search,
+    plain: &Option<(usize, usize, Marks)>,
+    tries: u64,
+) -> bool {
+    match (search, plain) {
+        (Search::Found(found, count), Some((start, end, marks))) => {
+            *count == tries
+                && found.start == *start
+                && found.end == *end
+                && is_same(slots, marks, found.captures.as_slice())
+        }
+        (Search::NotFound(count), None) => *count == tries,
+        _ => false,
+    }
+}
+
+fn compare(alloc: Global, pattern: &Pattern<OneByte>, subject: &[u8], totals: &mut Totals) {
+    let mut plain = Plain { subject, tries: 0 };
+    let found = first(&mut plain, pattern.anchored, pattern.items.as_slice());
+    totals.tries = totals.tries.saturating_add(plain.tries);
+    if found.is_some() {
+        totals.found = totals.found.saturating_add(1);
+    }
+    let same = match pattern.search(alloc, subject, 0, plain.tries) {
+        Ok(search) => agrees(pattern.slots.as_slice(), &search, &found, plain.tries),
+        Err(_) => false,
+    };
+    if !same {
+        totals.differ = totals.differ.saturating_add(1);
+    }
+}
+
+/// Compares over the subject with this number among those of so many bytes.
+fn against(
+    alloc: Global,
+    pattern: &Pattern<OneByte>,
+    number: usize,
+    length: usize,
+    totals: &mut Totals,
+) -> Result<(), AllocError> {
+    let mut subject = Vec::new(alloc);
+    spell(&mut subject, &[b"a", b"b"], number, length)?;
+    compare(alloc, pattern, &subject, totals);
+    Ok(())
+}
+
+fn against_all(
+    alloc: Global,
+    pattern: &Pattern<OneByte>,
+    totals: &mut Totals,
+) -> Result<(), AllocError> {
+    let mut count: usize = 1;
+    for length in 0..6 {
+        for number in 0..count {
+            against(alloc, pattern, number, length, totals)?;
+        }
+        count = count.saturating_mul(2);
+    }
+    Ok(())
+}
+
+/// Compares over the pattern with this number among those of so many items, where it is one.
+fn pattern_against_all(
+    alloc: Global,
+    number: usize,
+    length: usize,
+    totals: &mut Totals,
+) -> Result<(), AllocError> {
+    let mut text = Vec::new(alloc);
+    spell(&mut text, &ITEMS, number, length)?;
+    match Pattern::read(alloc, &text) {
+        Ok(pattern) => {
+            totals.patterns = totals.patterns.saturating_add(1);
+            against_all(alloc, &pattern, totals)
+        }
+        Err(_) => Ok(()),
+    }
+}
+
+fn count_all(alloc: Global, totals: &mut Totals) -> Result<(), AllocError> {
+    let mut count: usize = 1;
+    for length in 0..5 {
+        for number in 0..count {
+            pattern_against_all(alloc, number, length, totals)?;
+        }
+        count = count.saturating_mul(ITEMS.len());
+    }
+    Ok(())
+}
+
+fn text_of(alloc: Global, totals: Totals) -> Result<Vec<u8>, NoMemory> {
+    written(format!(in alloc;
+        "{} patterns, {} found, {} tries, {} differ",
+        totals.patterns, totals.found, totals.tries, totals.differ
+    ))
+}
+
+/// The totals, as a text.
+pub(crate) fn answer(alloc: Global) -> Result<Vec<u8>, NoMemory> {
+    let mut totals = Totals {
+        patterns: 0,
+        found: 0,
+        tries: 0,
+        differ: 0,
+    };
+    match count_all(alloc, &mut totals) {
+        Ok(()) => text_of(alloc, totals),
+        Err(_) => Err(NoMemory),
+    }
+}
