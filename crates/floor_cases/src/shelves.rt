@@ -1,15 +1,15 @@
-//! The kinds in memory by tables, and each adapter once over the real thing.
-use std::alloc::{AllocError, Global};
+//! The kinds in memory by tables.
+use crate::rows::{holds, sides, words};
+use std::alloc::Global;
 use std::hash::RandomState;
-use std::os::unix::fs::symlink;
+use std::io;
 use std::process::Abort;
 use std::random::RandomSource;
 use std::test::Fail;
-use std::{fs, io};
-use wk_base::{Bytes, List, NoMemory};
+use wk_base::{Bytes, List, NoMemory, Title};
 use wk_shelf::{
-    FolderFault, FolderShelf, MemoryFile, MemoryShelf, MemorySink, Shelf, ShelfFault, Sink,
-    StreamSink, can_hold, read_folder, sorted_names,
+    FolderFault, FolderPage, MemoryFile, MemoryShelf, MemorySink, Shelf, ShelfFault, Sink,
+    can_hold, read_folder, sorted_names,
 };
 
 /// A source whose bytes are all 5, so that each run of the tests is the same.
@@ -26,10 +26,10 @@ fn fixed_seed() -> io::Result<RandomState> {
     RandomState::new(&Fives)
 }
 
-fn file(alloc: Global, folder: &str, name: &str, text: &str) -> Result<MemoryFile, NoMemory> {
+fn file(alloc: Global, folder: &str, name: &[u8], bytes: &[u8]) -> Result<MemoryFile, NoMemory> {
     let folder = Bytes::of(alloc, folder.as_bytes())?;
-    let name = Bytes::of(alloc, name.as_bytes())?;
-    let bytes = Bytes::of(alloc, text.as_bytes())?;
+    let name = Bytes::of(alloc, name)?;
+    let bytes = Bytes::of(alloc, bytes)?;
     Ok(MemoryFile {
         folder,
         name,
@@ -37,113 +37,208 @@ fn file(alloc: Global, folder: &str, name: &str, text: &str) -> Result<MemoryFil
     })
 }
 
-fn three_files(alloc: Global) -> Result<List<MemoryFile>, NoMemory> {
+/// Puts a file behind others, `FOLDER/NAME=TEXT`; where nothing else is said, in the folder `d` and with these bytes.
+fn add_file(
+    alloc: Global,
+    files: &mut List<MemoryFile>,
+    word: &str,
+    bytes: &[u8],
+) -> Result<(), NoMemory> {
+    let (folder, named) = word.split_once('/').unwrap_or(("d", word));
+    let made = match named.split_once('=') {
+        Some((name, text)) => file(alloc, folder, name.as_bytes(), text.as_bytes()),
+        None => file(alloc, folder, named.as_bytes(), bytes),
+    };
+    files.push(made?)
+}
+
+/// The files of a line, with spaces between.
+fn files_of(alloc: Global, line: &str, bytes: &[u8]) -> Result<List<MemoryFile>, NoMemory> {
     let mut files = List::new(alloc);
-    files.push(file(alloc, "d", "b", "abcdef")?)?;
-    files.push(file(alloc, "e", "b", "")?)?;
-    files.push(file(alloc, "d", "a\u{e9}", "x")?)?;
+    for word in line.split_whitespace() {
+        add_file(alloc, &mut files, word, bytes)?;
+    }
     Ok(files)
 }
 
-fn joined(alloc: Global, names: &[String]) -> Result<String, AllocError> {
-    let mut line = String::new(alloc);
+/// A list of one number.
+fn one(alloc: Global, number: u64) -> Result<List<u64>, NoMemory> {
+    let mut list = List::new(alloc);
+    list.push(number)?;
+    Ok(list)
+}
+
+fn put(line: &mut Vec<u8>, bytes: &[u8]) -> Result<(), NoMemory> {
+    match line.extend_from_slice(bytes) {
+        Ok(_) => Ok(()),
+        Err(_) => Err(NoMemory),
+    }
+}
+
+/// Puts a name with a mark behind it.
+fn put_name(line: &mut Vec<u8>, name: &[u8], mark: &[u8]) -> Result<(), NoMemory> {
+    put(line, name)?;
+    put(line, mark)
+}
+
+/// Names, each with `/` behind it.
+fn joined(alloc: Global, names: &[String]) -> Result<Vec<u8>, NoMemory> {
+    let mut line = Vec::new(alloc);
     for name in names {
-        line.push_str(name.as_str())?;
-        line.push_str("/")?;
+        put_name(&mut line, name.as_str().as_bytes(), b"/")?;
     }
     Ok(line)
 }
 
-/// A shelf in memory of these files, of whose calls those fail.
-fn shelf(rt: &impl Abort, alloc: Global, files: List<MemoryFile>, fail: List<u64>) -> MemoryShelf {
-    assert!(rt; can_hold(files.as_slice()));
-    MemoryShelf::new(alloc, files, fail)
+/// Whether these are the names, each with `/` behind it.
+fn are_named(alloc: Global, names: &[String], wanted: &str) -> bool {
+    match joined(alloc, names) {
+        Ok(line) => line.as_slice() == wanted.as_bytes(),
+        Err(_) => false,
+    }
 }
 
-/// Whether the folder `d` lists these names, each with `/` behind it.
-fn lists<S: Shelf>(alloc: Global, shelf: &mut S, wanted: &str) -> Result<bool, Fail> {
-    let names = shelf.list(alloc, "d")?;
-    let line = joined(alloc, names.as_slice())?;
-    Ok(line.as_str() == wanted)
+/// Whether a call failed, as it is said of it.
+fn failed_as(fault: ShelfFault, wanted: &str) -> bool {
+    fault == ShelfFault::Failed && wanted == "!"
 }
 
-/// Whether the names of the folder `d` are these in byte order.
-fn sorts<S: Shelf>(alloc: Global, shelf: &mut S, wanted: &str) -> Result<bool, Fail> {
-    let names = sorted_names(alloc, shelf, "d")?;
-    let line = joined(alloc, names.as_slice())?;
-    Ok(line.as_str() == wanted)
+/// Whether a folder lists these names, or fails.
+fn lists<S: Shelf>(alloc: Global, shelf: &mut S, folder: &str, wanted: &str) -> bool {
+    match shelf.list(alloc, folder) {
+        Ok(names) => are_named(alloc, names.as_slice(), wanted),
+        Err(fault) => failed_as(fault, wanted),
+    }
 }
 
-/// Whether a file of the folder `d` begins with these bytes, of which no more are asked for.
+/// Whether these are the names of a folder in byte order.
+fn sorts<S: Shelf>(alloc: Global, shelf: &mut S, folder: &str, wanted: &str) -> bool {
+    match sorted_names(alloc, shelf, folder) {
+        Ok(names) => are_named(alloc, names.as_slice(), wanted),
+        Err(_) => false,
+    }
+}
+
+/// Whether so many bytes of a file are these, or can't be read.
 fn reads<S: Shelf>(
     alloc: Global,
     shelf: &mut S,
+    folder: &str,
     name: &str,
     most: usize,
-    wanted: &[u8],
-) -> Result<bool, ShelfFault> {
-    let bytes = shelf.read(alloc, "d", name, most)?;
-    Ok(bytes.as_slice() == wanted)
+    wanted: &str,
+) -> bool {
+    match shelf.read(alloc, folder, name, most) {
+        Ok(bytes) => bytes.as_slice() == wanted.as_bytes(),
+        Err(fault) => failed_as(fault, wanted),
+    }
 }
 
-/// The calls of the first test, of which that of the number 3 fails.
-fn ask(rt: &impl Abort, alloc: Global, shelf: &mut MemoryShelf) -> Result<(), Fail> {
-    assert!(rt; lists(alloc, shelf, "b/a\u{e9}/")?);
-    assert!(rt; sorts(alloc, shelf, "a\u{e9}/b/")?);
-    assert!(rt; reads(alloc, shelf, "b", 4, b"abcd") == Ok(true));
-    assert!(rt; reads(alloc, shelf, "b", 4, b"abcd") == Err(ShelfFault::Failed));
-    assert!(rt; reads(alloc, shelf, "c", 4, b"") == Ok(true));
-    Ok(())
+/// The same, where the path stands in one text.
+fn reads_path<S: Shelf>(
+    alloc: Global,
+    shelf: &mut S,
+    path: &str,
+    most: usize,
+    wanted: &str,
+) -> bool {
+    match path.split_once('/') {
+        Some((folder, name)) => reads(alloc, shelf, folder, name, most, wanted),
+        None => false,
+    }
 }
+
+/// Whether a call is answered so: `list FOLDER`, `sort FOLDER`, or a path and how many bytes are read.
+fn gives<S: Shelf>(alloc: Global, shelf: &mut S, call: &str, wanted: &str) -> bool {
+    let (name, given) = words(call);
+    match name {
+        "list" => lists(alloc, shelf, given, wanted),
+        "sort" => sorts(alloc, shelf, given, wanted),
+        _ => reads_path(
+            alloc,
+            shelf,
+            name,
+            given.parse::<usize>().unwrap_or(0),
+            wanted,
+        ),
+    }
+}
+
+/// Whether a call is answered as its row says.
+fn answers<S: Shelf>(alloc: Global, shelf: &mut S, row: &str) -> bool {
+    let (call, wanted) = sides(row);
+    gives(alloc, shelf, call, wanted)
+}
+
+/// Calls of a shelf, and what they give: names with `/` behind each, the bytes that are read (of a file, at most so many), or `!`
+/// for a call that fails.
+pub fn all_answer<S: Shelf>(rt: &impl Abort, alloc: Global, shelf: &mut S, rows: &str) {
+    for row in rows.lines() {
+        holds(rt, answers(alloc, shelf, row), row);
+    }
+}
+
+/// Calls of a shelf in memory, of which that of the number 3 fails.
+fn calls() -> &'static str {
+    "list d => b/a\u{e9}/
+sort d => a\u{e9}/b/
+d/b 4 => abcd
+d/b 4 => !
+d/c 4 => "
+}
+
+const THREE_FILES: &str = "b=abcdef e/b= a\u{e9}=x";
 
 #[test]
 fn a_shelf_in_memory_tells_its_files(rt: HostRuntime) -> Result<(), Fail> {
-    let files = three_files(rt.alloc())?;
-    let mut fail = List::new(rt.alloc());
-    fail.push(3u64)?;
-    let mut shelf = shelf(&rt, rt.alloc(), files, fail);
-    ask(&rt, rt.alloc(), &mut shelf)
+    let files = files_of(rt.alloc(), THREE_FILES, b"")?;
+    assert!(rt; can_hold(files.as_slice()));
+    let fail = one(rt.alloc(), 3)?;
+    let mut shelf = MemoryShelf::new(rt.alloc(), files, fail);
+    all_answer(&rt, rt.alloc(), &mut shelf, calls());
+    Ok(())
 }
 
-/// A file whose name is not UTF-8.
-fn wrong_file(alloc: Global) -> Result<List<MemoryFile>, NoMemory> {
-    let folder = Bytes::of(alloc, b"d")?;
-    let name = Bytes::of(alloc, b"\xff")?;
-    let bytes = Bytes::of(alloc, b"")?;
+/// Whether a shelf holds no second file of a name.
+fn refuses_twice(alloc: Global) -> Result<bool, NoMemory> {
+    let mut files = files_of(alloc, THREE_FILES, b"")?;
+    add_file(alloc, &mut files, "e/b=twice", b"")?;
+    Ok(!can_hold(files.as_slice()))
+}
+
+/// Whether a shelf holds no file whose name is not UTF-8.
+fn refuses_wrong(alloc: Global) -> Result<bool, NoMemory> {
     let mut files = List::new(alloc);
-    files.push(MemoryFile {
-        folder,
-        name,
-        bytes,
-    })?;
-    Ok(files)
+    files.push(file(alloc, "d", b"\xff", b"")?)?;
+    Ok(!can_hold(files.as_slice()))
 }
 
 #[test]
 fn a_shelf_in_memory_holds_no_two_files_of_one_name(rt: HostRuntime) -> Result<(), Fail> {
-    let mut files = three_files(rt.alloc())?;
-    files.push(file(rt.alloc(), "e", "b", "twice")?)?;
-    assert!(rt; !can_hold(files.as_slice()));
-    assert!(rt; !can_hold(wrong_file(rt.alloc())?.as_slice()));
+    holds(&rt, refuses_twice(rt.alloc()) == Ok(true), "twice");
+    holds(&rt, refuses_wrong(rt.alloc()) == Ok(true), "not UTF-8");
     Ok(())
 }
 
 /// Puts pieces one after another. Returns whether those are taken of which it is said.
-fn puts<S: Sink>(sink: &mut S, rows: &[(&[u8], bool)]) -> bool {
+pub fn puts<S: Sink>(sink: &mut S, rows: &[(&[u8], bool)]) -> bool {
     for (piece, taken) in rows {
-        let answer = sink.put(piece);
-        if answer.is_ok() != *taken {
+        if sink.put(piece).is_ok() != *taken {
             return false;
         }
     }
     true
 }
 
+/// A sink of which a call fails.
+fn sink(alloc: Global, call: u64, room: usize) -> Result<MemorySink, NoMemory> {
+    let fail = one(alloc, call)?;
+    MemorySink::new(alloc, fail, room)
+}
+
 #[test]
 fn a_sink_in_memory_keeps_what_fits(rt: HostRuntime) -> Result<(), Fail> {
-    let mut fail = List::new(rt.alloc());
-    fail.push(1u64)?;
-    let mut sink = MemorySink::new(rt.alloc(), fail, 5)?;
+    let mut sink = sink(rt.alloc(), 1, 5)?;
     let rows: [(&[u8], bool); 5] = [
         (b"abc", true),
         (b"d", false),
@@ -151,251 +246,101 @@ fn a_sink_in_memory_keeps_what_fits(rt: HostRuntime) -> Result<(), Fail> {
         (b"de", true),
         (b"", true),
     ];
-    assert!(rt; puts(&mut sink, &rows));
-    assert!(rt; sink.bytes() == b"abcde".as_slice());
+    holds(&rt, puts(&mut sink, &rows), "puts");
+    holds(&rt, sink.bytes() == b"abcde".as_slice(), "bytes");
     Ok(())
 }
 
-/// The calls of the test on a real folder.
-fn ask_folder<S: Shelf>(rt: &impl Abort, alloc: Global, shelf: &mut S) -> Result<(), Fail> {
-    assert!(rt; sorts(alloc, shelf, "A.wiki/B.wiki/")?);
-    assert!(rt; reads(alloc, shelf, "B.wiki", 3, b"two") == Ok(true));
-    assert!(rt; reads(alloc, shelf, "C.wiki", 3, b"") == Err(ShelfFault::Failed));
-    let none = shelf.list(alloc, "e");
-    assert!(rt; matches!(none, Err(ShelfFault::Failed)));
-    Ok(())
+fn add_title(line: &mut Vec<u8>, title: &Title) -> Result<(), NoMemory> {
+    let text = title.text()?;
+    put_name(line, text.as_slice(), b";")
 }
 
-#[test]
-fn a_folder_is_listed_and_read(rt: HostRuntime) -> Result<(), Fail> {
-    fs::create_dir(&rt, "d")?;
-    fs::write(&rt, "d/B.wiki", "two\n")?;
-    fs::write(&rt, "d/A.wiki", "one")?;
-    let mut shelf = FolderShelf::new(rt.alloc(), rt.clone()?);
-    ask_folder(&rt, rt.alloc(), &mut shelf)
-}
-
-/// A text of that many bytes in which no two places are alike for long.
-fn long_text(alloc: Global, length: usize) -> Result<Vec<u8>, AllocError> {
-    let mut text = Vec::new(alloc);
-    let mut number = 1u32;
-    for _ in 0..length {
-        number = number.wrapping_mul(1_664_525).wrapping_add(1_013_904_223);
-        text.push(number.to_be_bytes()[0])?;
+/// The titles of pages in order, each with `;` behind it.
+fn titles(alloc: Global, pages: &[FolderPage]) -> Result<Vec<u8>, NoMemory> {
+    let mut line = Vec::new(alloc);
+    for page in pages {
+        add_title(&mut line, &page.title)?;
     }
-    Ok(text)
+    Ok(line)
 }
 
-/// A name of that many bytes.
-fn long_name(alloc: Global, length: usize) -> Result<String, AllocError> {
-    let mut name = String::new(alloc);
-    for _ in 5..length {
-        name.push_str("n")?;
-    }
-    name.push_str(".wiki")?;
-    Ok(name)
-}
-
-/// Whether the folder `pages` lists a name and gives all of its text.
-fn has_file<S: Shelf>(
-    alloc: Global,
-    shelf: &mut S,
-    name: &str,
-    text: &[u8],
-) -> Result<bool, ShelfFault> {
-    let bytes = shelf.read(alloc, "pages", name, 2_097_153)?;
-    let names = shelf.list(alloc, "pages")?;
-    Ok(names.iter().any(|other| other.as_str() == name) && bytes.as_slice() == text)
-}
-
-/// Whether a file of that length is read whole by the shelf, and listed by its name of that many bytes.
-fn is_read_whole(rt: &HostRuntime, name_length: usize, length: usize) -> Result<bool, Fail> {
-    let text = long_text(rt.alloc(), length)?;
-    let name = long_name(rt.alloc(), name_length)?;
-    let path = format!(in rt.alloc(); "pages/{name}")?;
-    fs::write(rt, path.as_str(), text.as_slice())?;
-    let mut shelf = FolderShelf::new(rt.alloc(), rt.clone()?);
-    Ok(has_file(rt.alloc(), &mut shelf, name.as_str(), text.as_slice())?)
-}
-
-#[test]
-fn files_are_read_to_their_end_whatever_their_name(rt: HostRuntime) -> Result<(), Fail> {
-    fs::create_dir(&rt, "pages")?;
-    for (name, length) in [(6, 0), (40, 65_537), (41, 200_000), (250, 2_097_152)] {
-        assert!(rt; is_read_whole(&rt, name, length)?, "{name} {length}");
-    }
-    Ok(())
-}
-
-/// Makes links.
-fn link(rt: &HostRuntime, links: &[(&str, &str)]) -> Result<(), Fail> {
-    for (target, link) in links {
-        symlink(rt, *target, *link)?;
-    }
-    Ok(())
-}
-
-/// Tries that none of these is read.
-fn refuses<S: Shelf>(rt: &impl Abort, alloc: Global, shelf: &mut S, names: &[&str]) {
-    for name in names {
-        let failed = shelf.read(alloc, "strange", name, 3);
-        assert!(rt; matches!(failed, Err(ShelfFault::Failed)), "{name}");
+fn have_titles(alloc: Global, pages: &[FolderPage], wanted: &str) -> bool {
+    match titles(alloc, pages) {
+        Ok(line) => line.as_slice() == wanted.as_bytes(),
+        Err(_) => false,
     }
 }
 
-/// Whether a link to a file gives its text.
-fn follows<S: Shelf>(alloc: Global, shelf: &mut S) -> Result<bool, ShelfFault> {
-    let bytes = shelf.read(alloc, "strange", "to_file.wiki", 9)?;
-    Ok(bytes.as_slice() == b"linked".as_slice())
-}
-
-#[test]
-fn what_is_no_file_is_not_read(rt: HostRuntime) -> Result<(), Fail> {
-    fs::create_dir(&rt, "strange")?;
-    fs::create_dir(&rt, "strange/folder.wiki")?;
-    fs::write(&rt, "strange/text", "linked")?;
-    let links = [
-        ("nowhere", "strange/broken.wiki"),
-        ("itself.wiki", "strange/itself.wiki"),
-        ("folder.wiki", "strange/to_folder.wiki"),
-        ("/dev/null", "strange/to_device.wiki"),
-        ("text", "strange/to_file.wiki"),
-    ];
-    link(&rt, &links)?;
-    let mut shelf = FolderShelf::new(rt.alloc(), rt.clone()?);
-    let names = [
-        "folder.wiki",
-        "broken.wiki",
-        "itself.wiki",
-        "to_folder.wiki",
-        "to_device.wiki",
-    ];
-    refuses(&rt, rt.alloc(), &mut shelf, &names);
-    assert!(rt; follows(rt.alloc(), &mut shelf) == Ok(true));
-    Ok(())
-}
-
-/// Whether pieces are put into a file as it is said of them.
-fn writes(rt: &HostRuntime, path: &str, rows: &[(&[u8], bool)]) -> Result<bool, Fail> {
-    let mut sink = StreamSink::new(rt.alloc(), fs::create(rt, path)?);
-    Ok(puts(&mut sink, rows))
-}
-
-#[test]
-fn a_stream_takes_a_piece_whole(rt: HostRuntime) -> Result<(), Fail> {
-    let pieces: [(&[u8], bool); 2] = [(b"some ", true), (b"text", true)];
-    assert!(rt; writes(&rt, "written", &pieces)?);
-    let written = fs::read_to_string(&rt, "written")?;
-    assert!(rt; written.as_str() == "some text");
-    let long = long_text(rt.alloc(), 200_000)?;
-    assert!(rt; writes(&rt, "long", &[(long.as_slice(), true)])?);
-    assert!(rt; fs::read(&rt, "long")?.as_slice() == long.as_slice());
-    Ok(())
-}
-
-#[test]
-fn a_stream_that_takes_nothing_counts_a_fault(rt: HostRuntime) -> Result<(), Fail> {
-    let piece: [(&[u8], bool); 1] = [(b"a", false)];
-    assert!(rt; writes(&rt, "/dev/full", &piece)?);
-    let mut room = [0u8; 3];
-    let mut full = StreamSink::new(rt.alloc(), room.as_mut_slice());
-    let pieces: [(&[u8], bool); 2] = [(b"abcd", false), (b"", true)];
-    assert!(rt; puts(&mut full, &pieces));
-    Ok(())
-}
-
-fn files_named(alloc: Global, names: &[&str], bytes: &[u8]) -> Result<List<MemoryFile>, NoMemory> {
-    let mut files = List::new(alloc);
-    for name in names {
-        files.push(MemoryFile {
-            folder: Bytes::of(alloc, b"d")?,
-            name: Bytes::of(alloc, name.as_bytes())?,
-            bytes: Bytes::of(alloc, bytes)?,
-        })?;
-    }
-    Ok(files)
-}
-
-/// The titles of a folder's pages in order, or the line of its fault.
-fn answer(alloc: Global, seed: RandomState, shelf: &mut MemoryShelf) -> Result<Vec<u8>, NoMemory> {
-    let mut text = Vec::new(alloc);
+/// Whether these are the titles of a folder's pages in order, or the line of its fault.
+fn is_folder(alloc: Global, seed: RandomState, shelf: &mut MemoryShelf, wanted: &str) -> bool {
     match read_folder(alloc, seed, shelf, "d") {
-        Ok(pages) => {
-            for page in pages.as_slice() {
-                text.extend_from_slice(page.title.text()?.as_slice())?;
-                text.extend_from_slice(b";")?;
-            }
-        }
-        Err(FolderFault::Source(line)) => text.extend_from_slice(line.as_slice())?,
-        Err(_) => text.extend_from_slice(b"no answer")?,
+        Ok(pages) => have_titles(alloc, pages.as_slice(), wanted),
+        Err(FolderFault::Source(line)) => line.as_slice() == wanted.as_bytes(),
+        Err(_) => false,
     }
-    Ok(text)
 }
 
-/// The answer of a folder with files of these names, which all hold these bytes.
-fn answer_of(
-    rt: &impl Abort,
-    alloc: Global,
-    seed: RandomState,
-    names: &[&str],
-    bytes: &[u8],
-) -> Result<Vec<u8>, NoMemory> {
-    let files = files_named(alloc, names, bytes)?;
-    let mut shelf = shelf(rt, alloc, files, List::new(alloc));
-    answer(alloc, seed, &mut shelf)
+/// A shelf of files that a line names, which all hold these bytes, if it can hold them.
+fn shelf_of(alloc: Global, names: &str, bytes: &[u8]) -> Option<MemoryShelf> {
+    match files_of(alloc, names, bytes) {
+        Ok(files) if can_hold(files.as_slice()) => {
+            Some(MemoryShelf::new(alloc, files, List::new(alloc)))
+        }
+        _ => None,
+    }
 }
 
-const FOLDERS: [(&[&str], &str); 14] = [
-    (&[], ""),
-    (&["b.wiki", "A.wiki", "notes.txt", "x.lua.bak"], "A;B;"),
-    (
-        &["template:foo__bar.wiki", "Module:x.lua"],
-        "Module:X;Template:Foo bar;",
-    ),
-    (
-        &["caf%C3%A9.wiki", "Sum%2Ftestcases.lua"],
-        "Sum/testcases;Caf\u{e9};",
-    ),
-    (&["100%.wiki", "50%2.wiki"], "100%;50%2;"),
-    (&["a.wiki", "A.wiki"], "a.wiki: title is taken"),
-    (&["a.lua", "a.wiki"], "a.wiki: title is taken"),
-    (
-        &["A%20b.wiki", "A_b.wiki", "|.wiki"],
-        "A_b.wiki: title is taken",
-    ),
-    (&[".wiki"], ".wiki: not a title"),
-    (&["Talk:.wiki", "A.wiki"], "Talk:.wiki: not a title"),
-    (&["%FF.wiki"], "%FF.wiki: not a title"),
-    (&["a%7Cb.wiki"], "a%7Cb.wiki: not a title"),
-    (&["::x.wiki"], "::x.wiki: not a title"),
-    (&["WIKI", "a.WIKI", "wiki"], ""),
-];
+/// Whether a row of folders holds.
+fn folder_row_holds(alloc: Global, seed: RandomState, row: &str, bytes: &[u8]) -> bool {
+    let (names, wanted) = sides(row);
+    match shelf_of(alloc, names, bytes) {
+        Some(mut shelf) => is_folder(alloc, seed, &mut shelf, wanted),
+        None => false,
+    }
+}
+
+/// The names of the files of a folder, and the titles of its pages in order with `;` behind each, or the line of its fault.
+fn folders() -> &'static str {
+    " => 
+b.wiki A.wiki notes.txt x.lua.bak => A;B;
+template:foo__bar.wiki Module:x.lua => Module:X;Template:Foo bar;
+caf%C3%A9.wiki Sum%2Ftestcases.lua => Sum/testcases;Caf\u{e9};
+100%.wiki 50%2.wiki => 100%;50%2;
+a.wiki A.wiki => a.wiki: title is taken
+a.lua a.wiki => a.wiki: title is taken
+A%20b.wiki A_b.wiki |.wiki => A_b.wiki: title is taken
+.wiki => .wiki: not a title
+Talk:.wiki A.wiki => Talk:.wiki: not a title
+%FF.wiki => %FF.wiki: not a title
+a%7Cb.wiki => a%7Cb.wiki: not a title
+::x.wiki => ::x.wiki: not a title
+WIKI a.WIKI wiki => "
+}
 
 #[test]
 fn a_folder_is_a_wiki_or_has_a_first_fault(rt: HostRuntime) -> Result<(), Fail> {
     let seed = fixed_seed()?;
-    for (names, expected) in &FOLDERS {
-        let text = answer_of(&rt, rt.alloc(), seed, names, b"text")?;
-        assert!(rt; text.as_slice() == expected.as_bytes(), "{expected}");
+    for row in folders().lines() {
+        holds(&rt, folder_row_holds(rt.alloc(), seed, row, b"text"), row);
     }
     Ok(())
 }
 
-fn zeros(alloc: Global, count: usize) -> Result<Vec<u8>, AllocError> {
-    vec![in alloc; 0u8; count]
+/// Whether a row of folders holds for files of so many bytes.
+fn holds_long(alloc: Global, seed: RandomState, count: usize, row: &str) -> bool {
+    match vec![in alloc; 0u8; count] {
+        Ok(bytes) => folder_row_holds(alloc, seed, row, bytes.as_slice()),
+        Err(_) => false,
+    }
 }
 
 #[test]
 fn a_folder_has_limits_of_bytes(rt: HostRuntime) -> Result<(), Fail> {
     let seed = fixed_seed()?;
-    let cases: [(&[&str], usize, &str); 2] = [
-        (&["A.wiki"], 2_097_152, "A;"),
-        (&["B.wiki", "A.wiki"], 2_097_153, "A.wiki: too long"),
-    ];
-    for (names, count, expected) in cases {
-        let bytes = zeros(rt.alloc(), count)?;
-        let text = answer_of(&rt, rt.alloc(), seed, names, bytes.as_slice())?;
-        assert!(rt; text.as_slice() == expected.as_bytes(), "{expected}");
-    }
+    let fits = "A.wiki => A;";
+    holds(&rt, holds_long(rt.alloc(), seed, 2_097_152, fits), fits);
+    let row = "B.wiki A.wiki => A.wiki: too long";
+    holds(&rt, holds_long(rt.alloc(), seed, 2_097_153, row), row);
     Ok(())
 }

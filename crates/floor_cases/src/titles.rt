@@ -1,410 +1,275 @@
 //! Titles as MediaWiki's rules for them read (Manual:Page title, Help:Namespaces), in this profile.
-use std::alloc::{AllocError, Global};
-use std::process::Abort;
+use crate::rows::{holds, is_text, sides, words};
+use case_text::unescaped;
+use std::alloc::Global;
 use std::test::Fail;
 use wk_base::{Namespace, Title, TitleFault, text_reads_back};
 
-/// A text, the default namespace, the namespace it is read in, and the title as it is written.
-type Row = (&'static [u8], Namespace, Namespace, &'static [u8]);
-
-const SPELLINGS: [Row; 31] = [
-    (b"Foo", Namespace::Main, Namespace::Main, b"Foo"),
-    (b"foo", Namespace::Main, Namespace::Main, b"Foo"),
-    (b"z", Namespace::Main, Namespace::Main, b"Z"),
-    (b"1x", Namespace::Main, Namespace::Main, b"1x"),
-    (b"`x", Namespace::Main, Namespace::Main, b"`x"),
-    (b"~x", Namespace::Main, Namespace::Main, b"~x"),
-    (b"foo bar", Namespace::Main, Namespace::Main, b"Foo bar"),
-    (b"foo_bar", Namespace::Main, Namespace::Main, b"Foo bar"),
-    (
-        b"__foo__bar__",
-        Namespace::Main,
-        Namespace::Main,
-        b"Foo bar",
-    ),
-    (
-        b"  foo   bar  ",
-        Namespace::Main,
-        Namespace::Main,
-        b"Foo bar",
-    ),
-    (
-        b"_ foo _ bar _",
-        Namespace::Main,
-        Namespace::Main,
-        b"Foo bar",
-    ),
-    (b"\tfoo\n", Namespace::Main, Namespace::Main, b"Foo"),
-    (b"\x0b\x0cfoo\r\n", Namespace::Main, Namespace::Main, b"Foo"),
-    (b" \t_ foo _\t ", Namespace::Main, Namespace::Main, b"Foo"),
-    (
-        b"\xc3\xa9lan",
-        Namespace::Main,
-        Namespace::Main,
-        b"\xc3\xa9lan",
-    ),
-    (b"\xc3\x9fx", Namespace::Main, Namespace::Main, b"\xc3\x9fx"),
-    (
-        b"\xd1\x91\xd0\xb6",
-        Namespace::Main,
-        Namespace::Main,
-        b"\xd1\x91\xd0\xb6",
-    ),
-    (
-        b"\xf0\x9f\x98\x80",
-        Namespace::Main,
-        Namespace::Main,
-        b"\xf0\x9f\x98\x80",
-    ),
-    (b"\xc2\xa0x", Namespace::Main, Namespace::Main, b"\xc2\xa0x"),
-    (b":Main", Namespace::Main, Namespace::Main, b"Main"),
-    (b" : Main", Namespace::Template, Namespace::Main, b"Main"),
-    (b":_foo", Namespace::Template, Namespace::Main, b"Foo"),
-    (
-        b":template:x",
-        Namespace::Main,
-        Namespace::Template,
-        b"Template:X",
-    ),
-    (b"foo:bar", Namespace::Main, Namespace::Main, b"Foo:bar"),
-    (b"foo : bar", Namespace::Main, Namespace::Main, b"Foo : bar"),
-    (
-        b"foo:Talk:x",
-        Namespace::Main,
-        Namespace::Main,
-        b"Foo:Talk:x",
-    ),
-    (b"Main:x", Namespace::Main, Namespace::Main, b"Main:x"),
-    (
-        b"templatetalk:x",
-        Namespace::Main,
-        Namespace::Main,
-        b"Templatetalk:x",
-    ),
-    (b"Tal:x", Namespace::Main, Namespace::Main, b"Tal:x"),
-    (b"Talks:x", Namespace::Main, Namespace::Main, b"Talks:x"),
-    (b"foo:", Namespace::Main, Namespace::Main, b"Foo:"),
-];
-
-const PREFIXES: [Row; 37] = [
-    (b"Talk:x", Namespace::Main, Namespace::Talk, b"Talk:X"),
-    (b"user:x", Namespace::Main, Namespace::User, b"User:X"),
-    (
-        b"User talk:x",
-        Namespace::Main,
-        Namespace::UserTalk,
-        b"User talk:X",
-    ),
-    (
-        b"PROJECT:x",
-        Namespace::Main,
-        Namespace::Project,
-        b"Project:X",
-    ),
-    (
-        b"project talk:x",
-        Namespace::Main,
-        Namespace::ProjectTalk,
-        b"Project talk:X",
-    ),
-    (
-        b"File:x.png",
-        Namespace::Main,
-        Namespace::File,
-        b"File:X.png",
-    ),
-    (
-        b"File Talk:x",
-        Namespace::Main,
-        Namespace::FileTalk,
-        b"File talk:X",
-    ),
-    (
-        b"mediawiki:x",
-        Namespace::Main,
-        Namespace::MediaWiki,
-        b"MediaWiki:X",
-    ),
-    (
-        b"Mediawiki talk:x",
-        Namespace::Main,
-        Namespace::MediaWikiTalk,
-        b"MediaWiki talk:X",
-    ),
-    (
-        b"Template:foo",
-        Namespace::Main,
-        Namespace::Template,
-        b"Template:Foo",
-    ),
-    (
-        b"Template talk:x",
-        Namespace::Main,
-        Namespace::TemplateTalk,
-        b"Template talk:X",
-    ),
-    (b"help:x", Namespace::Main, Namespace::Help, b"Help:X"),
-    (
-        b"help talk:x",
-        Namespace::Main,
-        Namespace::HelpTalk,
-        b"Help talk:X",
-    ),
-    (
-        b"Category:x",
-        Namespace::Main,
-        Namespace::Category,
-        b"Category:X",
-    ),
-    (
-        b"Category talk:x",
-        Namespace::Main,
-        Namespace::CategoryTalk,
-        b"Category talk:X",
-    ),
-    (b"module:x", Namespace::Main, Namespace::Module, b"Module:X"),
-    (
-        b"Module talk:x",
-        Namespace::Main,
-        Namespace::ModuleTalk,
-        b"Module talk:X",
-    ),
-    (
-        b"template:foo",
-        Namespace::Main,
-        Namespace::Template,
-        b"Template:Foo",
-    ),
-    (
-        b"TEMPLATE:foo",
-        Namespace::Main,
-        Namespace::Template,
-        b"Template:Foo",
-    ),
-    (
-        b"tEmPlAtE:foo",
-        Namespace::Main,
-        Namespace::Template,
-        b"Template:Foo",
-    ),
-    (
-        b"template : x",
-        Namespace::Main,
-        Namespace::Template,
-        b"Template:X",
-    ),
-    (
-        b" template: foo__bar ",
-        Namespace::Main,
-        Namespace::Template,
-        b"Template:Foo bar",
-    ),
-    (
-        b"_Template_:_foo_",
-        Namespace::Main,
-        Namespace::Template,
-        b"Template:Foo",
-    ),
-    (
-        b"template_talk:x",
-        Namespace::Main,
-        Namespace::TemplateTalk,
-        b"Template talk:X",
-    ),
-    (
-        b"TEMPLATE  TALK:x",
-        Namespace::Main,
-        Namespace::TemplateTalk,
-        b"Template talk:X",
-    ),
-    (
-        b"template_ _talk\t:\tx",
-        Namespace::Main,
-        Namespace::TemplateTalk,
-        b"Template talk:X",
-    ),
-    (
-        b"Template:Template:x",
-        Namespace::Main,
-        Namespace::Template,
-        b"Template:Template:x",
-    ),
-    (
-        b"Talk:template:x",
-        Namespace::Main,
-        Namespace::Talk,
-        b"Talk:Template:x",
-    ),
-    (
-        b"foo",
-        Namespace::Template,
-        Namespace::Template,
-        b"Template:Foo",
-    ),
-    (
-        b"foo:bar",
-        Namespace::Template,
-        Namespace::Template,
-        b"Template:Foo:bar",
-    ),
-    (b":foo", Namespace::Template, Namespace::Main, b"Foo"),
-    (
-        b":Talk:foo",
-        Namespace::Template,
-        Namespace::Talk,
-        b"Talk:Foo",
-    ),
-    (b"Talk:x", Namespace::Template, Namespace::Talk, b"Talk:X"),
-    (b"sum", Namespace::Module, Namespace::Module, b"Module:Sum"),
-    (
-        b"module:sum",
-        Namespace::Module,
-        Namespace::Module,
-        b"Module:Sum",
-    ),
-    (
-        b"Template:sum",
-        Namespace::Module,
-        Namespace::Template,
-        b"Template:Sum",
-    ),
-    (
-        b"x",
-        Namespace::CategoryTalk,
-        Namespace::CategoryTalk,
-        b"Category talk:X",
-    ),
-];
-
-const EMPTY: [&[u8]; 10] = [
-    b"",
-    b" ",
-    b"_",
-    b"\t\r\n",
-    b":",
-    b" : _",
-    b"Template:",
-    b"template : _ ",
-    b":Template:",
-    b"Category_talk:\t",
-];
-
-const BAD: [&[u8]; 28] = [
-    b"::x",
-    b":: ",
-    b"Template::x",
-    b"Template: :x",
-    b"a#b",
-    b"a<b",
-    b"a>b",
-    b"a[b",
-    b"a]b",
-    b"a|b",
-    b"a{b",
-    b"a}b",
-    b"#",
-    b"Talk:|",
-    b"\x00",
-    b"a\x01",
-    b"a\x1f",
-    b"a\x7fb",
-    b"a\tb",
-    b"a\nb",
-    b"a\x0bb",
-    b"a \t b",
-    b"\xff",
-    b"a\xc3",
-    b"\x80",
-    b"\xc0\xaf",
-    b"\xed\xa0\x80",
-    b"\xe2\x82",
-];
-
-fn read_rows(rt: &impl Abort, alloc: Global, rows: &[Row]) -> Result<(), Fail> {
-    for (text, default, ns, wanted) in rows {
-        let title = Title::read(alloc, text, *default)?;
-        assert_eq!(rt; title.ns, *ns);
-        let written = title.text()?;
-        assert_eq!(rt; written.as_slice(), *wanted);
-        let again = Title::read(alloc, written.as_slice(), Namespace::Main)?;
-        assert!(rt; again == title);
-    }
-    Ok(())
+/// The default namespace, the namespace that a text is read in, the text, and the title as it is written. Texts have escapes.
+fn spellings() -> &'static str {
+    r#"Main Main Foo => Foo
+Main Main foo => Foo
+Main Main z => Z
+Main Main 1x => 1x
+Main Main `x => `x
+Main Main ~x => ~x
+Main Main foo bar => Foo bar
+Main Main foo_bar => Foo bar
+Main Main __foo__bar__ => Foo bar
+Main Main \  foo   bar \  => Foo bar
+Main Main _ foo _ bar _ => Foo bar
+Main Main \tfoo\n => Foo
+Main Main \x0b\x0cfoo\r\n => Foo
+Main Main \ \t_ foo _\t\  => Foo
+Main Main \xc3\xa9lan => \xc3\xa9lan
+Main Main \xc3\x9fx => \xc3\x9fx
+Main Main \xd1\x91\xd0\xb6 => \xd1\x91\xd0\xb6
+Main Main \xf0\x9f\x98\x80 => \xf0\x9f\x98\x80
+Main Main \xc2\xa0x => \xc2\xa0x
+Main Main :Main => Main
+Template Main \ : Main => Main
+Template Main :_foo => Foo
+Main Template :template:x => Template:X
+Main Main foo:bar => Foo:bar
+Main Main foo : bar => Foo : bar
+Main Main foo:Talk:x => Foo:Talk:x
+Main Main Main:x => Main:x
+Main Main templatetalk:x => Templatetalk:x
+Main Main Tal:x => Tal:x
+Main Main Talks:x => Talks:x
+Main Main foo: => Foo:"#
 }
 
-fn refuse_rows(rt: &impl Abort, alloc: Global, rows: &[&[u8]], fault: TitleFault) {
-    for text in rows {
-        assert!(rt; Title::read(alloc, text, Namespace::Main) == Err(fault));
+/// The same of texts that begin with the prefix of a namespace, or are read in one.
+fn prefixes() -> &'static str {
+    r#"Main Talk Talk:x => Talk:X
+Main User user:x => User:X
+Main UserTalk User talk:x => User talk:X
+Main Project PROJECT:x => Project:X
+Main ProjectTalk project talk:x => Project talk:X
+Main File File:x.png => File:X.png
+Main FileTalk File Talk:x => File talk:X
+Main MediaWiki mediawiki:x => MediaWiki:X
+Main MediaWikiTalk Mediawiki talk:x => MediaWiki talk:X
+Main Template Template:foo => Template:Foo
+Main TemplateTalk Template talk:x => Template talk:X
+Main Help help:x => Help:X
+Main HelpTalk help talk:x => Help talk:X
+Main Category Category:x => Category:X
+Main CategoryTalk Category talk:x => Category talk:X
+Main Module module:x => Module:X
+Main ModuleTalk Module talk:x => Module talk:X
+Main Template template:foo => Template:Foo
+Main Template TEMPLATE:foo => Template:Foo
+Main Template tEmPlAtE:foo => Template:Foo
+Main Template template : x => Template:X
+Main Template \ template: foo__bar\  => Template:Foo bar
+Main Template _Template_:_foo_ => Template:Foo
+Main TemplateTalk template_talk:x => Template talk:X
+Main TemplateTalk TEMPLATE  TALK:x => Template talk:X
+Main TemplateTalk template_ _talk\t:\tx => Template talk:X
+Main Template Template:Template:x => Template:Template:x
+Main Talk Talk:template:x => Talk:Template:x
+Template Template foo => Template:Foo
+Template Template foo:bar => Template:Foo:bar
+Template Main :foo => Foo
+Template Talk :Talk:foo => Talk:Foo
+Template Talk Talk:x => Talk:X
+Module Module sum => Module:Sum
+Module Module module:sum => Module:Sum
+Module Template Template:sum => Template:Sum
+CategoryTalk CategoryTalk x => Category talk:X"#
+}
+
+/// Texts that are read in the main namespace, and how: how many bytes the title has, or the fault. A name has at most 255.
+fn faults() -> &'static str {
+    r#" => Empty
+\  => Empty
+_ => Empty
+\t\r\n => Empty
+: => Empty
+\ : _ => Empty
+Template: => Empty
+template : _\  => Empty
+:Template: => Empty
+Category_talk:\t => Empty
+::x => BadByte
+::\  => BadByte
+Template::x => BadByte
+Template: :x => BadByte
+a#b => BadByte
+a<b => BadByte
+a>b => BadByte
+a[b => BadByte
+a]b => BadByte
+a|b => BadByte
+a{b => BadByte
+a}b => BadByte
+# => BadByte
+Talk:| => BadByte
+\x00 => BadByte
+a\x01 => BadByte
+a\x1f => BadByte
+a\x7fb => BadByte
+a\tb => BadByte
+a\nb => BadByte
+a\x0bb => BadByte
+a \t b => BadByte
+\xff => BadByte
+a\xc3 => BadByte
+\x80 => BadByte
+\xc0\xaf => BadByte
+\xed\xa0\x80 => BadByte
+\xe2\x82 => BadByte
+\(255:a) => 255
+\  _\(255:a)_ \n => 255
+\(250:a)\      b => 252
+template talk :\ \(255:a) => 269
+\(253:a)\xc3\xa9 => 255
+\(256:a) => TooLong
+Foo:\(252:a) => TooLong
+Talk:\(256:a) => TooLong
+\(254:a)\xc3\xa9 => TooLong
+\(255:a)| => BadByte
+\(255:a)\xc3 => BadByte"#
+}
+
+fn namespace(name: &str) -> Namespace {
+    match name {
+        "Talk" => Namespace::Talk,
+        "User" => Namespace::User,
+        "UserTalk" => Namespace::UserTalk,
+        "Project" => Namespace::Project,
+        "ProjectTalk" => Namespace::ProjectTalk,
+        "File" => Namespace::File,
+        "FileTalk" => Namespace::FileTalk,
+        "MediaWiki" => Namespace::MediaWiki,
+        "MediaWikiTalk" => Namespace::MediaWikiTalk,
+        "Template" => Namespace::Template,
+        "TemplateTalk" => Namespace::TemplateTalk,
+        "Help" => Namespace::Help,
+        "HelpTalk" => Namespace::HelpTalk,
+        "Category" => Namespace::Category,
+        "CategoryTalk" => Namespace::CategoryTalk,
+        "Module" => Namespace::Module,
+        "ModuleTalk" => Namespace::ModuleTalk,
+        _ => Namespace::Main,
     }
+}
+
+/// Whether a text reads as this title.
+fn reads_as(alloc: Global, text: &[u8], title: &Title) -> bool {
+    match Title::read(alloc, text, Namespace::Main) {
+        Ok(read) => read == *title,
+        Err(_) => false,
+    }
+}
+
+/// Whether a title is written so, and what is written reads as the title again.
+fn is_written(alloc: Global, title: &Title, wanted: &str) -> bool {
+    match title.text() {
+        Ok(text) => {
+            is_text(alloc, text.as_slice(), wanted) && reads_as(alloc, text.as_slice(), title)
+        }
+        Err(_) => false,
+    }
+}
+
+/// Whether a text is read in the one namespace, and written so, where the other one is the default.
+fn is_title(alloc: Global, text: &[u8], default: Namespace, ns: Namespace, wanted: &str) -> bool {
+    match Title::read(alloc, text, default) {
+        Ok(title) => title.ns == ns && is_written(alloc, &title, wanted),
+        Err(_) => false,
+    }
+}
+
+/// Whether a text is the title that a row tells, in a namespace by default, and in the one that it is read in.
+fn title_holds(alloc: Global, default: Namespace, read: &str, wanted: &str) -> bool {
+    let (ns, text) = words(read);
+    match unescaped(alloc, text.as_bytes()) {
+        Ok(text) => is_title(alloc, text.as_slice(), default, namespace(ns), wanted),
+        Err(_) => false,
+    }
+}
+
+/// Whether a row of titles holds.
+fn title_row_holds(alloc: Global, row: &str) -> bool {
+    let (given, wanted) = sides(row);
+    let (default, read) = words(given);
+    title_holds(alloc, namespace(default), read, wanted)
+}
+
+/// How a text reads: how many bytes its title has, or the fault.
+fn read(alloc: Global, text: &[u8]) -> Result<usize, TitleFault> {
+    match Title::read(alloc, text, Namespace::Main) {
+        Ok(title) => length(&title),
+        Err(fault) => Err(fault),
+    }
+}
+
+fn length(title: &Title) -> Result<usize, TitleFault> {
+    match title.text() {
+        Ok(text) => Ok(text.as_slice().len()),
+        Err(_) => Err(TitleFault::NoMemory),
+    }
+}
+
+/// What a row says of a text.
+fn said(answer: &str) -> Result<usize, TitleFault> {
+    match answer {
+        "Empty" => Err(TitleFault::Empty),
+        "BadByte" => Err(TitleFault::BadByte),
+        "TooLong" => Err(TitleFault::TooLong),
+        digits => Ok(digits.parse::<usize>().unwrap_or(0)),
+    }
+}
+
+/// Whether a row of faults holds.
+fn fault_row_holds(alloc: Global, row: &str) -> bool {
+    let (text, answer) = sides(row);
+    match unescaped(alloc, text.as_bytes()) {
+        Ok(text) => read(alloc, text.as_slice()) == said(answer),
+        Err(_) => false,
+    }
+}
+
+/// Whether this is what stands before the colon in titles of a namespace.
+fn has_prefix(ns: Namespace, prefix: &str) -> bool {
+    ns.prefix() == prefix
+}
+
+/// States the law that the text of a title reads back.
+fn state_law() {
+    text_reads_back(b"user_talk:x", Namespace::Main);
 }
 
 #[test]
 fn titles_are_read_and_written(rt: HostRuntime) -> Result<(), Fail> {
-    assert_eq!(rt; Namespace::Main.prefix(), "");
-    assert_eq!(rt; Namespace::UserTalk.prefix(), "User talk");
-    text_reads_back(b"user_talk:x", Namespace::Main);
-    read_rows(&rt, rt.alloc(), &SPELLINGS)?;
-    read_rows(&rt, rt.alloc(), &PREFIXES)?;
-    refuse_rows(&rt, rt.alloc(), &EMPTY, TitleFault::Empty);
-    refuse_rows(&rt, rt.alloc(), &BAD, TitleFault::BadByte);
+    for row in spellings().lines() {
+        holds(&rt, title_row_holds(rt.alloc(), row), row);
+    }
     Ok(())
 }
 
-/// A name of `count` bytes, with `front` before it and `back` behind it.
-fn long_text(
-    alloc: Global,
-    front: &[u8],
-    count: usize,
-    back: &[u8],
-) -> Result<Vec<u8>, AllocError> {
-    let mut text = front.to_vec(alloc)?;
-    let name = vec![in alloc; b'a'; count]?;
-    text.extend_from_slice(&name)?;
-    text.extend_from_slice(back)?;
-    Ok(text)
-}
-
-/// How such a name reads: how many bytes its text has, or the fault.
-fn read_long(
-    alloc: Global,
-    front: &[u8],
-    count: usize,
-    back: &[u8],
-) -> Result<Result<usize, TitleFault>, Fail> {
-    let text = long_text(alloc, front, count, back)?;
-    match Title::read(alloc, &text, Namespace::Main) {
-        Ok(title) => Ok(Ok(title.text()?.as_slice().len())),
-        Err(fault) => Ok(Err(fault)),
+#[test]
+fn titles_have_prefixes(rt: HostRuntime) -> Result<(), Fail> {
+    holds(&rt, has_prefix(Namespace::Main, ""), "the main namespace");
+    holds(
+        &rt,
+        has_prefix(Namespace::UserTalk, "User talk"),
+        "User talk",
+    );
+    state_law();
+    for row in prefixes().lines() {
+        holds(&rt, title_row_holds(rt.alloc(), row), row);
     }
+    Ok(())
 }
-
-/// What stands before a name, how many bytes it has, what stands behind it, and how it reads.
-type LongRow = (
-    &'static [u8],
-    usize,
-    &'static [u8],
-    Result<usize, TitleFault>,
-);
-
-const LONG: [LongRow; 11] = [
-    (b"", 255, b"", Ok(255)),
-    (b"  _", 255, b"_ \n", Ok(255)),
-    (b"", 250, b"      b", Ok(252)),
-    (b"template talk : ", 255, b"", Ok(269)),
-    (b"", 253, b"\xc3\xa9", Ok(255)),
-    (b"", 256, b"", Err(TitleFault::TooLong)),
-    (b"Foo:", 252, b"", Err(TitleFault::TooLong)),
-    (b"Talk:", 256, b"", Err(TitleFault::TooLong)),
-    (b"", 254, b"\xc3\xa9", Err(TitleFault::TooLong)),
-    (b"", 255, b"|", Err(TitleFault::BadByte)),
-    (b"", 255, b"\xc3", Err(TitleFault::BadByte)),
-];
 
 #[test]
-fn names_have_at_most_255_bytes(rt: HostRuntime) -> Result<(), Fail> {
-    for (front, count, back, want) in &LONG {
-        let length = read_long(rt.alloc(), front, *count, back)?;
-        assert!(rt; length == *want, "{count}");
+fn texts_have_faults_and_lengths(rt: HostRuntime) -> Result<(), Fail> {
+    for row in faults().lines() {
+        holds(&rt, fault_row_holds(rt.alloc(), row), row);
     }
     Ok(())
 }

@@ -1,5 +1,6 @@
 //! Calls that workers share: what they give, by tables; and that a worker that waits holds back no call but its own.
 
+use crate::rows::holds;
 use std::alloc::Global;
 use std::hint::spin_loop;
 use std::sync::atomic::{AtomicU64, Ordering};
@@ -42,20 +43,27 @@ fn are_doubles(values: &[usize], count: usize) -> bool {
     values.len() == count
 }
 
+/// Whether so many workers give so many doubles.
+fn give<R: Threads + Sync>(rt: &R, alloc: Global, workers: usize, count: usize) -> bool {
+    match doubles(rt, alloc, workers, count) {
+        Ok(values) => are_doubles(values.as_slice(), count),
+        Err(_) => false,
+    }
+}
+
 /// Whether each row gives its doubles.
-fn rows_give<R: Threads + Sync>(rt: &R, alloc: Global) -> Result<bool, NoMemory> {
+fn rows_give<R: Threads + Sync>(rt: &R, alloc: Global) -> bool {
     for (workers, count) in ROWS {
-        let values = doubles(rt, alloc, workers, count)?;
-        if !are_doubles(values.as_slice(), count) {
-            return Ok(false);
+        if !give(rt, alloc, workers, count) {
+            return false;
         }
     }
-    Ok(true)
+    true
 }
 
 #[test]
 fn results_come_in_the_order_of_the_numbers(rt: HostRuntime) -> Result<(), Fail> {
-    assert!(rt; rows_give(&rt, rt.alloc())?);
+    holds(&rt, rows_give(&rt, rt.alloc()), "doubles");
     Ok(())
 }
 
@@ -79,9 +87,16 @@ fn met<R: Threads + Sync>(rt: &R, alloc: Global) -> Result<Vec<bool>, NoMemory> 
     map_by_workers(rt, alloc, 2, 3, &|number| meets(&begun, number))
 }
 
+/// Whether all three calls gave that they met.
+fn all_met<R: Threads + Sync>(rt: &R, alloc: Global) -> bool {
+    match met(rt, alloc) {
+        Ok(met) => matches!(met.as_slice(), [true, true, true]),
+        Err(_) => false,
+    }
+}
+
 #[test]
 fn a_call_that_waits_holds_no_other_back(rt: HostRuntime) -> Result<(), Fail> {
-    let met = met(&rt, rt.alloc())?;
-    assert_eq!(rt; met.as_slice(), [true, true, true].as_slice());
+    holds(&rt, all_met(&rt, rt.alloc()), "met");
     Ok(())
 }
