@@ -7,7 +7,8 @@ braces pair is taken from `markup_reference.py`.
   expand_reference.py check FILE      runs the cases of a table and tells each whose output differs
   expand_reference.py page DIR PAGE   prints the text of a page of a folder
 
-FILE is crates/wiki_app_cases/src/cases.rt, which tells the form of a table, or a table of that form by itself.
+FILE is crates/page_cases/stdin, of which the table of pages without modules is taken (crates/page_cases/README.md tells the form), or a table of that
+form by itself.
 """
 import os
 import re
@@ -270,9 +271,8 @@ def run_case(words, files):
 
 
 def table_in(path):
-    text = open(path, "rb").read()
-    found = re.search(rb'const TABLE: &str = r#"\n(.*?)"#', text, re.DOTALL)
-    return found.group(1) if found else text
+    """the first table of a file: it ends at a line that has it counted"""
+    return open(path, "rb").read().split(b"\n:", 1)[0]
 
 
 def check(path):

@@ -2,7 +2,7 @@
 """Compares the built program with `expand_reference.py`, which follows the same rules by itself.
 
   bench/expansion_compare.py PROGRAM                    the cases of the table, and 1,500 folders of random pages
-  bench/expansion_compare.py PROGRAM table              the cases of crates/wiki_app_cases/src/cases.rt, as folders on disk
+  bench/expansion_compare.py PROGRAM table              the pages without modules of crates/page_cases/stdin, as folders on disk
   bench/expansion_compare.py PROGRAM random COUNT SEED  that many folders of random pages
 
 PROGRAM is crates/wikiexpand/out/wikiexpand. Each difference is printed with the folder's pages.
@@ -70,7 +70,7 @@ def printed(program, words, files):
 
 
 def cases_of_table():
-    table = os.path.join(os.path.dirname(os.path.abspath(__file__)), "../crates/wiki_app_cases/src/cases.rt")
+    table = os.path.join(os.path.dirname(os.path.abspath(__file__)), "../crates/page_cases/stdin")
     return [(words, dict(files), wanted) for _, words, files, wanted in reference.each_case(reference.table_in(table))]
 
 

@@ -1,4 +1,0 @@
-use Rattle.page_driver_cases.proofs.numbers.check.Given as goal
-
-abbrev pub ghosts-numbers_of : goal.ghosts-numbers_of
-ghosts-numbers_of g a = record { name = a.blank.name; parts = a.blank.parts }
