@@ -13,7 +13,7 @@
 //! - `held`: a node as it is held; `texts`: many texts as one
 //! - `cells`: letters, and what pairing makes of them
 //!
-//! The tests are the crate `wiki_markup_cases`.
+//! Its cases are rows of `text_cases`.
 #![tactic(auto)]
 
 mod build;
