@@ -1,6 +1,5 @@
 //! A page with allowances of its own.
 ghost use Rattle.std.specs.Prelude.{◌≡◌};
-ghost use Rattle.lua_store.specs.Parts.{nothing};
 
 use crate::fields::{is_number, is_text, text_of};
 use crate::rows::Rows;
@@ -28,11 +27,23 @@ fn has_runs(store: &Store, runs: &[u8]) -> bool {
     true
 }
 
+/// An expanded page, and whether its store has the functions of runs that the row says.
+#[derive(Drop)]
+struct Expanded {
+    page: Page,
+    has_runs: bool,
+}
+
 /// Whether a page came to the numbers of a row.
-fn has_numbers(head: &str, store: &Store, page: &Page) -> bool {
-    is_number(head, 2, page.left.steps)
-        && is_number(head, 3, page.repeat_charges)
-        && has_runs(store, text_of(head, 4))
+fn has_numbers(head: &str, came: &Expanded) -> bool {
+    came.has_runs
+        && is_number(head, 2, came.page.left.steps)
+        && is_number(head, 3, came.page.repeat_charges)
+}
+
+/// What stands before the text of a row.
+fn head_of<'r>(row: &'r str) -> &'r str {
+    row.split('|').next().unwrap_or(row)
 }
 
 /// Whether a page came to what the row says.
@@ -40,13 +51,12 @@ fn is_as_said(
     alloc: Global,
     rows: &mut Rows<'_>,
     row: &str,
-    store: &Store,
-    page: &Page,
+    came: &Expanded,
 ) -> Result<bool, NoMemory> {
     let (head, text) = row.split_once('|').unwrap_or((row, ""));
-    rows.note(page.left.steps, page.text.as_slice())?;
-    let has_text = is_text(alloc, text.as_bytes(), page.text.as_slice())?;
-    let right = has_text && has_numbers(head, store, page);
+    rows.note(came.page.left.steps, came.page.text.as_slice())?;
+    let has_text = is_text(alloc, text.as_bytes(), came.page.text.as_slice())?;
+    let right = has_text && has_numbers(head, came);
     Ok(rows.count(right))
 }
 
@@ -54,52 +64,36 @@ fn is_as_said(
 fn page_of<L: Ledger>(
     alloc: Global,
     seed: RandomState,
-    store: &mut Store,
     wiki: &Wiki,
     title: &Title,
     row: &str,
     blank: Blank,
-) -> Result<Page, NoMemory>
+) -> Result<Expanded, NoMemory>
     requires name { blank.name ≡ L.name }
     requires parts { blank.parts ≡ L.parts }
     requires one { blank.parts ≡ 1 }
-    requires fresh { store.old ≡ nothing }
 {
+    let mut turns = Steps::<L>::open(blank);
     if !wiki.pages.holds(title) {
         return Err(NoMemory);
     }
     let limits = limits_of(row);
-    let mut turns = Steps::<L>::open(blank);
-    expand_page_in(alloc, seed, store, wiki, title, &limits, &mut turns)
-}
-
-fn is_right(
-    alloc: Global,
-    seed: RandomState,
-    store: &mut Store,
-    rows: &mut Rows<'_>,
-    row: &str,
-    wiki: &Wiki,
-    title: &Title,
-) -> Result<bool, NoMemory>
-    requires fresh { store.old ≡ nothing }
-{
-    let page = page_of::<Brand>(alloc, seed, store, wiki, title, row, Blank::new(1))?;
-    is_as_said(alloc, rows, row, store, &page)
-}
-
-/// Whether a page of a wiki comes to what the row says, in a new store.
-fn is_stored(
-    alloc: Global,
-    seed: RandomState,
-    rows: &mut Rows<'_>,
-    row: &str,
-    wiki: &Wiki,
-    title: &Title,
-) -> Result<bool, NoMemory> {
     let arena = Bump::new(alloc);
     let mut store = Store::new(alloc, &arena, seed);
-    is_right(alloc, seed, &mut store, rows, row, wiki, title)
+    let page = expand_page_in(alloc, seed, &mut store, wiki, title, &limits, &mut turns)?;
+    let has_runs = has_runs(&store, text_of(head_of(row), 4));
+    Ok(Expanded { page, has_runs })
+}
+
+/// The same, with turns counted by a counter of this call.
+fn counted(
+    alloc: Global,
+    seed: RandomState,
+    wiki: &Wiki,
+    title: &Title,
+    row: &str,
+) -> Result<Expanded, NoMemory> {
+    page_of::<Brand>(alloc, seed, wiki, title, row, Blank::new(1))
 }
 
 /// Whether the page `P` of a wiki comes to what the row says.
@@ -111,7 +105,8 @@ fn is_expanded(
     wiki: &Wiki,
 ) -> Result<bool, NoMemory> {
     let title = title_of(alloc, b"P")?;
-    is_stored(alloc, seed, rows, row, wiki, &title)
+    let came = counted(alloc, seed, wiki, &title, row)?;
+    is_as_said(alloc, rows, row, &came)
 }
 
 /// Whether the page `P` of the folder comes to what the row says: the steps and the calls that it may use, the steps that are left, those of

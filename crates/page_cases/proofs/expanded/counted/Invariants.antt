@@ -1,4 +1,4 @@
-use Rattle.page_cases.proofs.expanded.is_right.Given as goal
+use Rattle.page_cases.proofs.expanded.counted.Given as goal
 
 abbrev pub ghosts-page_of : goal.ghosts-page_of
 ghosts-page_of a = record { name = a.blank.name; parts = a.blank.parts }
