@@ -3,6 +3,7 @@ pub mod Below
 pub mod Drives
 pub mod Goings
 pub mod Hands
+pub mod Nexts
 pub mod Sinking
 pub mod Steps
 pub mod Renumbering

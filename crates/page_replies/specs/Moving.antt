@@ -1,5 +1,5 @@
 -- A PAGE MOVES ON, from a task that has halted to the next that halts or to its end; and why it comes to an end.
-use Rattle.std.specs.Prelude.{ℕ, ◌+◌, ◌*◌, ◌<◌, ◌≤◌, Bool, true, false, ◌∷◌, length}
+use Rattle.std.specs.Prelude.{ℕ, ◌+◌, ◌*◌, ◌<◌, ◌≤◌, Bool, true, false, ◌∷◌, length, Result, Ok, Err}
 use Rattle.wk_base.specs.declared.left.Left.{Left}
 use Rattle.mw_frame.specs.declared.question.Ask.{Ask}
 use Rattle.mw_frame.specs.declared.scene.Job.{Job}
@@ -34,6 +34,11 @@ asks_with t q = record { task = t; halt = halt.Asks q }
 -- a load that has come to data
 abbrev pub loads_with : Begun → Machine → Data → Halted
 loads_with b m d = comes_with (task.Load b m) (reply.Data d)
+
+-- one that has halted is next
+abbrev pub next_of : {E : Type 0} → Result Halted E → Result Next E
+next_of (Ok x) = Ok (next.On x)
+next_of (Err e) = Err e
 
 -- with one task more, which is the newest of those that wait
 abbrev pub tower_with : Task → Tower → Tower

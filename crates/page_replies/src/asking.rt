@@ -14,7 +14,7 @@ ghost use Rattle.page_replies.specs.Driven.{InProgress, MovesOn};
 ghost use Rattle.page_replies.specs.Moving.{asks_with, Sinks};
 
 use crate::stacking::{go_above, push_run, push_task};
-use crate::tower::{Next, Tower};
+use crate::tower::{Next, Tower, on};
 use lua_store::Store;
 use mw_frame::{Arg, Ask, Scene};
 use page_ground::context::Context;
@@ -47,11 +47,9 @@ fn ask_template<'w, L: Ledger>(
     if held {
         push_task(tower, task)?;
         let inner = begin_template(around, scene, title, args)?;
-        let next = go_above(around, store, left, tower, inner, turns)?;
-        return Ok(next);
+        return go_above(around, store, left, tower, inner, turns);
     }
-    let halted = tell_none(around.alloc, store, left, task, turns)?;
-    Ok(Next::On(halted))
+    on(tell_none(around.alloc, store, left, task, turns))
 }
 
 /// A text is expanded above the task that asks.
@@ -71,8 +69,7 @@ fn ask_text<'w, L: Ledger>(
 {
     push_task(tower, task)?;
     let inner = begin_text(around, scene, &text)?;
-    let next = go_above(around, store, left, tower, inner, turns)?;
-    Ok(next)
+    go_above(around, store, left, tower, inner, turns)
 }
 
 /// A task is told what was kept of a module. It is charged as its load was, though nothing is run.
@@ -117,8 +114,7 @@ fn ask_load<'w, L: Ledger>(
 {
     push_run(store, tower, task)?;
     let inner = begin_load(around, store, title, left.steps)?;
-    let next = go_above(around, store, left, tower, inner, turns)?;
-    Ok(next)
+    go_above(around, store, left, tower, inner, turns)
 }
 
 /// Data of a module that is held is served from what is kept, where that is covered; else the module is loaded above the task that asks.
@@ -166,8 +162,7 @@ fn ask_known_data<'w, L: Ledger>(
     if held {
         return ask_held_data(around, store, left, tower, task, title, turns);
     }
-    let halted = tell_none(around.alloc, store, left, task, turns)?;
-    Ok(Next::On(halted))
+    on(tell_none(around.alloc, store, left, task, turns))
 }
 
 /// Data of a module.

@@ -12,13 +12,14 @@ ghost use Rattle.page_tasks.specs.declared.task.Reply.TheVariants as reply_kind;
 ghost use Rattle.page_replies.specs.Driven.{InProgress, MovesOn};
 ghost use Rattle.page_replies.specs.Moving.{comes_with, loads_with, tower_with, after_task, Sinks};
 
-use crate::tower::{Next, Tower};
+use crate::tower::{Next, Tower, on};
 use lua_machine::Machine;
 use lua_store::Store;
 use page_ground::context::Context;
 use page_ground::data::Data;
 use page_ground::keep::{Keep, Kept, keep_first};
 use page_ground::numbers::Numbers;
+use page_tasks::boxed::Boxed;
 use page_tasks::task::{Begun, Halted, Reply, Task};
 use page_tasks::telling::{tell_data, tell_spent, tell_text};
 use std::alloc::Global;
@@ -33,10 +34,10 @@ fn charge_of(begun: &Begun, left: &Left) -> u64
 }
 
 /// The most calls that were in progress at one time in a load, which are never more than are left now that all are given back.
-fn height_of(machine: &Machine<'_>, left: &Left) -> u64
+fn height_of(machine: &Boxed<Machine<'_>>, left: &Left) -> u64
     ensures { result ≡ min machine.now.height left.now.calls }
 {
-    machine.height().min(left.calls)
+    machine.get().height().min(left.calls)
 }
 
 /// A task is told what a load gave, which is kept.
@@ -77,7 +78,7 @@ fn hand_loaded<'w, L: Ledger>(
     left: &mut Left,
     tower: &mut Tower<'w>,
     begun: Begun,
-    machine: Machine<'w>,
+    machine: Boxed<Machine<'w>>,
     given: Data,
     waiting: Task<'w>,
     turns: &mut Steps<L>,
@@ -95,7 +96,7 @@ fn hand_loaded<'w, L: Ledger>(
         charge,
         height,
     };
-    let halted = tell_kept(
+    on(tell_kept(
         around.alloc,
         store,
         left,
@@ -104,8 +105,7 @@ fn hand_loaded<'w, L: Ledger>(
         kept,
         waiting,
         turns,
-    )?;
-    Ok(Next::On(halted))
+    ))
 }
 
 /// Data, to which only a load comes.
@@ -152,14 +152,12 @@ fn hand_down<'w, L: Ledger>(
     match reply {
         Reply::Ended(so) => {
             drop(task);
-            let halted = tell_text(around.alloc, store, left, waiting, so, turns)?;
-            Ok(Next::On(halted))
+            on(tell_text(around.alloc, store, left, waiting, so, turns))
         }
         Reply::Data(data) => hand_data(around, store, left, tower, task, data, waiting, turns),
         Reply::Spent(which) => {
             drop(task);
-            let halted = tell_spent(around.alloc, left, waiting, which)?;
-            Ok(Next::On(halted))
+            on(tell_spent(around.alloc, left, waiting, which))
         }
     }
 }
@@ -197,9 +195,6 @@ pub fn hand_over<'w, L: Ledger>(
             drop(task);
             Ok(Next::Over(reply))
         }
-        Some(waiting) => {
-            let next = hand_down(around, store, left, tower, task, reply, waiting, turns)?;
-            Ok(next)
-        }
+        Some(waiting) => hand_down(around, store, left, tower, task, reply, waiting, turns),
     }
 }

@@ -5,11 +5,12 @@ ghost use Rattle.page_ground.specs.Numbered.{after_start};
 ghost use Rattle.page_replies.specs.Driven.{InProgress, IsStarting, MovesOn, StartsOn};
 ghost use Rattle.page_replies.specs.Moving.{invokes_with, tower_with, GoesDown, Sinks};
 
-use crate::tower::{Next, Tower};
+use crate::tower::{Next, Tower, on};
 use lua_store::Store;
 use mw_frame::Job;
 use page_ground::context::Context;
 use page_tasks::beginning::begin_invocation;
+use page_tasks::boxed::Boxed;
 use page_tasks::going::go_on;
 use page_tasks::task::Task;
 use std::sync::ledger::Ledger;
@@ -19,8 +20,7 @@ use wk_base::{Left, NoMemory, Steps};
 pub(crate) fn push_task<'w>(tower: &mut Tower<'w>, task: Task<'w>) -> Result<(), NoMemory>
     ensures { OnOk result (tower.new ≡ tower_with task.entry tower.old) }
 {
-    tower.stack.push(task)?;
-    Ok(())
+    tower.stack.push(task)
 }
 
 /// One task more waits, and above it a run of Lua starts: the number of that run is the next one, and is at work in the store.
@@ -33,8 +33,7 @@ pub(crate) fn push_run<'w>(
     ensures store { OnOk result (store.new ≡ record store.old { env = tower.old.numbers.started }) }
 {
     push_task(tower, task)?;
-    tower.numbers.start(store)?;
-    Ok(())
+    tower.numbers.start(store)
 }
 
 /// Goes on with a task that has begun above all that wait.
@@ -51,8 +50,7 @@ pub(crate) fn go_above<'w, L: Ledger>(
     ensures falls { IfOk result (λ n. GoesDown left.old inner.entry left.new n) }
 {
     let _ = tower;
-    let halted = go_on(around.alloc, store, left, inner, turns)?;
-    Ok(Next::On(halted))
+    on(go_on(around.alloc, store, left, inner, turns))
 }
 
 /// An expansion asks for an invocation, which begins above it, with the next number.
@@ -62,7 +60,7 @@ pub fn invoke<'w, L: Ledger>(
     left: &mut Left,
     tower: &mut Tower<'w>,
     task: Task<'w>,
-    job: Job,
+    job: Boxed<Job>,
     turns: &mut Steps<L>,
 ) -> Result<Next<'w>, NoMemory>
     requires { InProgress (ground_of around.now) store.old left.old turns.old tower.old (invokes_with task job) }
@@ -71,7 +69,6 @@ pub fn invoke<'w, L: Ledger>(
     ensures numbers { OnOk result (tower.new.numbers ≡ after_start tower.old.numbers) }
 {
     push_run(store, tower, task)?;
-    let inner = begin_invocation(around, store, job)?;
-    let next = go_above(around, store, left, tower, inner, turns)?;
-    Ok(next)
+    let inner = begin_invocation(around, store, job.into_inner())?;
+    go_above(around, store, left, tower, inner, turns)
 }

@@ -1,8 +1,12 @@
 //! What of a page is in progress below the task on top.
+ghost use Rattle.std.specs.Prelude.{◌≡◌};
+ghost use Rattle.page_replies.specs.Moving.{next_of};
+
 use lua_stack::Stack;
 use page_ground::keep::Keep;
 use page_ground::numbers::Numbers;
 use page_tasks::task::{Halted, Reply, Task};
+use wk_base::NoMemory;
 
 /// The tasks that wait, the data that is kept, the steps of loads that were found kept, and the numbers of the runs.
 #[derive(Drop)]
@@ -18,4 +22,14 @@ pub struct Tower<'w> {
 pub enum Next<'w> {
     Over(Reply),
     On(Halted<'w>),
+}
+
+/// A task that has halted is next.
+pub(crate) fn on<'w>(halted: Result<Halted<'w>, NoMemory>) -> Result<Next<'w>, NoMemory>
+    ensures { result ≡ next_of halted.entry }
+{
+    match halted {
+        Ok(one) => Ok(Next::On(one)),
+        Err(error) => Err(error),
+    }
 }

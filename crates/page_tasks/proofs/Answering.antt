@@ -1,6 +1,6 @@
 -- A run of Lua goes on with an answer, also with one that is put into the store first.
-use Rattle.std.proofs.Common.{◌≡◌, ℕ, ◌+◌, ◌<◌, ◌≤◌, ◌^◌, refl, sym, ap, ◌∙◌, subst, arith}
-use Rattle.std.specs.Prelude.{List, []}
+use Rattle.std.proofs.Common.{◌≡◌, ℕ, ◌+◌, ◌<◌, ◌≤◌, ◌^◌, max, ◌∷◌, Result, Ok, Err, refl, sym, ap, ◌∙◌, subst, arith}
+use Rattle.std.specs.Prelude.{List, [], IfOk, OnOk}
 use Rattle.wk_base.specs.declared.left.Left.{Left}
 use Rattle.page_run.specs.Outcome.{Outcome}
 use Rattle.page_run.specs.State.{Gives as Says, Exhausts, Reply as PlainReply}
@@ -13,6 +13,8 @@ use Rattle.lua_meaning.specs.World.{Modules}
 use Rattle.lua_meaning.specs.Questions.{Answer}
 use Rattle.lua_meaning.specs.Acts.{Jump}
 use Rattle.lua_meaning.specs.Start.{Work, Invoke, DataOf}
+use Rattle.mw_frame.specs.declared.question.Ask.{Ask}
+use Rattle.lua_slots.specs.Code.{CWorld}
 use Rattle.lua_slots.specs.Slots.{Slots}
 use Rattle.lua_slots.specs.Points.{SFrame, Point, Gives}
 use Rattle.lua_points.specs.Told.{IsToldAs}
@@ -51,6 +53,13 @@ use Rattle.page_tasks.specs.Going.{HeightTold, Halts, HaltsAt, GoesOn, GoesOnWit
 use Rattle.page_tasks.specs.Calls.{MachineIsTold}
 use Rattle.page_tasks.specs.Falling.{CanGiveBack, Falls}
 use Rattle.page_tasks.proofs.Waiting.{waits_later}
+use Rattle.page_tasks.proofs.Passing.{if_ok}
+
+-- by the clauses of its call
+pub by_answer : {U E : Type 0} (s : StoreView) (m : Machine) (o : Outcome (List Value) Jump) (high : ℕ) (s₁ : StoreView) (m₁ : Machine) (r : Result U E) → OnOk r (IsLater s s₁) → OnOk r (s₁.heap ≡ s.heap) → OnOk r (m₁.state ≡ m.state) → OnOk r (point_of s₁ m₁.state m₁.next ≡ Gives o (frames_of s₁ m₁.state))
+    → OnOk r (slots_of s₁ m₁.state ≡ slots_of s m.state) → OnOk r ((code : CWorld) (q : Ask) (a : Answer) → AnswersWith code q (frames_of s₁ m₁.state) (slots_of s₁ m₁.state) a o) → OnOk r (m₁.height ≡ max m.height (m.state.calls + high)) → OnOk r (MachineIsTold s m o high s₁ m₁)
+by_answer s m o high s₁ m₁ (Ok u) later heap state point slots goes_on height = record { later = later; heap = heap; state = state; point = point; slots = slots; goes_on = goes_on; height = height }
+by_answer s m o high s₁ m₁ (Err x) later heap state point slots goes_on height = tt
 
 work_is : (v w : Work) → Running v ≡ Running w → v ≡ w
 work_is v w e = cc
@@ -270,3 +279,29 @@ expansion_not_refused e which s l high s' l' n x g ground modules agree p w ther
 pub no_text : (d : Data) → text_of (data_seen d) ≡ []
 no_text (data_.Tables graph) = refl
 no_text (data_.Failed message) = refl
+
+-- A CALL that is the last of its function: what it gave is told so
+pub without_text : {E : Type 0} (t : Task) (l : Left) (s' : StoreView) (l' : Left) (r : Result Halted E) (s : StoreView) (k k' : ℕ) (told : List ℕ) (o : Outcome (List Value) Jump) (high : ℕ) → IfOk r (λ x. (n : ℕ) → k' ≡ k + n → (a : Answer) → ToldFrom s l t a o high s' l' n x)
+    → IfOk r (λ x. (n : ℕ) → k' ≡ k + n → (a : Answer) → told ≡ text_of a → ToldFrom s l t a o high s' l' n x)
+without_text t l s' l' (Ok x) s k k' told o high h = λ n e a is. h n e a
+without_text t l s' l' (Err y) s k k' told o high h = tt
+
+module _ {E : Type 0} (l : Left) (t : Task) (s' : StoreView) (l' : Left) (r : Result Halted E) where
+  pub at_once : (s : StoreView) (k k' : ℕ) (told : List ℕ) (a : Answer) (o : Outcome (List Value) Jump) → told ≡ text_of a → ((S : Set) → (K : Set) × IsToldAs K S s.heap a o) → IfOk r (λ x. (n : ℕ) → k' ≡ k + n → (b : Answer) → told ≡ text_of b → ToldFrom s l t b o 0 s' l' n x) → IfOk r (λ x. (n : ℕ) → k' ≡ k + n → GoesOnWith s l t (Says a) 0 s' l' n x)
+  at_once s k k' told a o is tells h =
+      if_ok (λ x. (n : ℕ) → k' ≡ k + n → (b : Answer) → told ≡ text_of b → ToldFrom s l t b o 0 s' l' n x) (λ x. (n : ℕ) → k' ≡ k + n → GoesOnWith s l t (Says a) 0 s' l' n x) r
+      (λ x goes n e. tells_at_once s l t a o 0 s' l' n x tells (goes n e a is)) h
+
+  pub put_first : (s s₁ : StoreView) (k k' : ℕ) (told : List ℕ) (a : Answer) (o : Outcome (List Value) Jump) (high : ℕ) → told ≡ text_of a → TaskIn s t → IsLater s s₁ → PutsAnswer s.heap s₁.heap a o → IfOk r (λ x. (n : ℕ) → k' ≡ k + n → (b : Answer) → told ≡ text_of b → ToldFrom s₁ l t b o high s' l' n x)
+      → IfOk r (λ x. (n : ℕ) → k' ≡ k + n → GoesOnWith s l t (Says a) high s' l' n x)
+  put_first s s₁ k k' told a o high is of later puts h =
+      if_ok (λ x. (n : ℕ) → k' ≡ k + n → (b : Answer) → told ≡ text_of b → ToldFrom s₁ l t b o high s' l' n x) (λ x. (n : ℕ) → k' ≡ k + n → GoesOnWith s l t (Says a) high s' l' n x) r
+      (λ x goes n e. tells_put s s₁ l t a o high s' l' n x of later puts (goes n e a is)) h
+
+pub expansion_spent_halts : {E : Type 0} (e : Expander) (l l' : Left) (r : Result Halted E) → ((s : StoreView) (k : ℕ) → IfOk r (λ x. Halts s l k (task.Expansion e) s l' k x)) → IfOk r (λ x. (s : StoreView) (k : ℕ) → TaskIn s (task.Expansion e) → Halts s l k (task.Expansion e) s l' k x)
+expansion_spent_halts e l l' (Ok x) h = λ s k of. h s k
+expansion_spent_halts e l l' (Err n) h = tt
+
+pub expansion_spent_goes : {E : Type 0} (e : Expander) (which : Which) (l l' : Left) (r : Result Halted E) → IfOk r (λ x. (s : StoreView) (high : ℕ) → GoesOnWith s l (task.Expansion e) (Exhausts which) high s l' 0 x)
+expansion_spent_goes e which l l' (Ok x) = λ s high. expansion_not_refused e which s l high s l' 0 x
+expansion_spent_goes e which l l' (Err n) = tt

@@ -1,6 +1,6 @@
 -- An expansion goes on until it halts, at its start and with a text.
-use Rattle.std.proofs.Common.{◌≡◌, ℕ, ◌+◌, List, [], ◌∷◌, sym, ap, ◌∙◌, subst, arith}
-use Rattle.std.specs.Prelude.{map}
+use Rattle.std.proofs.Common.{◌≡◌, ℕ, ◌+◌, List, [], ◌∷◌, ◌++◌, Result, Ok, Err, sym, ap, ◌∙◌, subst, arith}
+use Rattle.std.specs.Prelude.{map, IfOk, OnOk}
 use Rattle.std.proofs.lemmas.List.{map-append}
 use Rattle.wk_base.specs.declared.left.Left.{Left}
 use Rattle.page_run.specs.Outcome.{Outcome}
@@ -19,7 +19,8 @@ use Rattle.lua_store.proofs.Later.{later-itself}
 use Rattle.wiki_expand.specs.declared.expander.Expander.{Expander}
 use Rattle.wiki_expand.specs.declared.expander.Move.{Move}
 use Rattle.wiki_expand.specs.declared.expander.Move.TheVariants.{Text as Came, Invoke as Invokes}
-use Rattle.wiki_expand.specs.Standing.{At, IsMove, MoveAsks, MoveFalls, IsAfter, setting_of, depth_in, templates_in, allowed_in}
+use Rattle.wiki_expand.specs.Pages.{Pages}
+use Rattle.wiki_expand.specs.Standing.{At, Waits, IsMove, MoveAsks, MoveFalls, IsAfter, setting_of, depth_in, templates_in, allowed_in}
 use Rattle.page_meaning.specs.Wiki.{setting}
 use Rattle.page_meaning.specs.Tasks.{Expanding, as_text, text_of, text_response}
 use Rattle.page_points.specs.Places.{Place, replied}
@@ -36,6 +37,18 @@ use Rattle.page_tasks.specs.Falling.{CanGiveBack, FallsAt, Falls, allowed_with}
 
 no_frame : (S : Set) (h : Heap Proc) → Frame S h h
 no_frame S h = record { lives = λ r b e. (b, e); others = λ r b e i. e; shared = λ r b e i. e }
+
+-- by the clauses of its calls
+pub by_going : {E : Type 0} (e : Expander) (l : Left) (e' : Expander) (l' : Left) (pages : Pages) (r : Result Move E) → IfOk r (λ m. (work : Work) (first : Left) (given : List (PlainReply (List ℕ))) → At e work first given l → IsMove m e' work first given l') → IfOk r (MoveAsks pages) → OnOk r (setting_of e' ≡ setting_of e)
+    → OnOk r (l'.depth + depth_in e' ≡ l.depth + depth_in e) → OnOk r (l'.templates + templates_in e' ≡ l.templates + templates_in e) → IfOk r (λ m. IsAfter m e') → OnOk r ((l'.steps ≡ l.steps) × (l'.calls ≡ l.calls)) → IfOk r (λ m. MoveFalls m (allowed_in l e) (allowed_in l' e')) → IfOk r (λ m. ExpanderGoes e l m e' l')
+by_going e l e' l' pages (Ok m) goes asks setting depth templates after used falls = record { goes = goes; pages = pages; asks = asks; setting = setting; depth = depth; templates = templates; after = after; used = used; falls = falls }
+by_going e l e' l' pages (Err x) goes asks setting depth templates after used falls = tt
+
+pub by_answer : {U E : Type 0} (e : Expander) (l : Left) (text : List ℕ) (e' : Expander) (l' : Left) (r : Result U E)
+    → OnOk r ((work : Work) (first : Left) (given : List (PlainReply (List ℕ))) (p : PlainReply (List ℕ)) → Waits e work first given → p.response ≡ Gives text → p.left ≡ l → At e' work first (given ++ p ∷ []) l') → l' ≡ l → OnOk r (setting_of e' ≡ setting_of e) → OnOk r (depth_in e' ≡ depth_in e)
+    → OnOk r (templates_in e' ≡ templates_in e) → OnOk r (allowed_in l' e' ≡ allowed_in l e) → OnOk r (ExpanderIsTold e l text e' l')
+by_answer e l text e' l' (Ok u) at left setting depth templates falls = record { at = at; left = left; setting = setting; depth = depth; templates = templates; falls = falls }
+by_answer e l text e' l' (Err x) at left setting depth templates falls = tt
 
 module _ (e : Expander) (l : Left) (m : Move) (e' : Expander) (l' : Left) (c : ExpanderGoes e l m e' l') where
   pub expansion_halts : (s : StoreView) (k : ℕ) → Halts s l k (task.Expansion e) s l' k (record { task = task.Expansion e'; halt = halt_of m })

@@ -1,6 +1,6 @@
 -- Tasks begin.
-use Rattle.std.proofs.Common.{◌≡◌, ℕ, true, [], Option, Some, None, refl, sym, ap, ◌∙◌, subst}
-use Rattle.std.specs.Prelude.{IfSome, option_map}
+use Rattle.std.proofs.Common.{◌≡◌, ℕ, true, [], Option, Some, None, Result, Ok, Err, refl, sym, ap, ◌∙◌, subst}
+use Rattle.std.specs.Prelude.{IfSome, IfOk, OnOk, option_map}
 use Rattle.wk_base.specs.declared.left.Left.{Left}
 use Rattle.wk_base.specs.declared.title.Title.{Title}
 use Rattle.wk_base.specs.Titles.{is_module}
@@ -35,6 +35,10 @@ use Rattle.page_tasks.specs.declared.task.Task.TheVariants as task
 use Rattle.page_ground.specs.Ground.{Ground, page_of, wiki_of}
 use Rattle.page_tasks.specs.Beginning.{MachineBegins, Begins, BeginsWith}
 
+-- what holds of what was made, where it was made
+pub of_made : {A E : Type 0} (P : A → Type 0) (r : Result A E) (a : A) → r ≡ Ok a → IfOk r P → P a
+of_made P r a e h = subst (λ x. IfOk x P) e h
+
 -- A MACHINE
 pub machine_begins : (g : Ground) (w : CodeWork) (s t : StoreView) (m : Machine) → MachineOf t m → m.state.codes.world ≡ g.world → point_of t m.state m.next ≡ Works (work_seen w) → ((code : CWorld) → Starts code (work_seen w) s.heap (slots_of t m.state)) → (m.state.calls ≡ 0) × (m.height ≡ 0) → Frame nowhere s.heap t.heap → IsLater s t
     → MachineBegins g (work_seen w) s t m
@@ -53,6 +57,15 @@ machine_begins g w s t m of on next starts idle frame later = record {
         going_leaves nowhere s.heap t.heap frame,
       );
 }
+
+-- one that was made, and stands on the heap
+pub made_begins : {E : Type 0} (g : Ground) (w : CodeWork) (s t : StoreView) (r b : Result Machine E) → IfOk b (λ m. r ≡ Ok m) → IfOk r (MachineOf t) → IfOk r (λ m. m.state.codes.world ≡ g.world) → IfOk r (λ m. point_of t m.state m.next ≡ Works (work_seen w))
+    → IfOk r (λ m. (code : CWorld) → Starts code (work_seen w) s.heap (slots_of t m.state)) → IfOk r (λ m. (m.state.calls ≡ 0) × (m.height ≡ 0)) → OnOk r (Frame nowhere s.heap t.heap) → OnOk r (IsLater s t) → IfOk b (MachineBegins g (work_seen w) s t)
+made_begins g w s t r (Ok m) same of on next starts idle frame later =
+    machine_begins g w s t m (of_made (MachineOf t) r m same of) (of_made (λ (x : Machine). x.state.codes.world ≡ g.world) r m same on)
+    (of_made (λ (x : Machine). point_of t x.state x.next ≡ Works (work_seen w)) r m same next) (of_made (λ (x : Machine). (code : CWorld) → Starts code (work_seen w) s.heap (slots_of t x.state)) r m same starts)
+    (of_made (λ (x : Machine). (x.state.calls ≡ 0) × (x.height ≡ 0)) r m same idle) (of_made (λ (x : Machine). Frame nowhere s.heap t.heap) r m same frame) (of_made (λ (x : Machine). IsLater s t) r m same later)
+made_begins g w s t r (Err e) same of on next starts idle frame later = tt
 
 pub invocation_begins : (g : Ground) (job : Job) (s t : StoreView) (m : Machine) → MachineBegins g (Invoke job) s t m → Begins g (Running (Invoke job)) s t (task.Invocation m)
 invocation_begins g job s t m b = record {

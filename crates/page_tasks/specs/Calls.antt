@@ -18,7 +18,7 @@ use Rattle.lua_machine.specs.declared.machine.Machine.{Machine}
 use Rattle.lua_machine.specs.declared.event.Event.{Event}
 use Rattle.lua_machine.specs.Moved.{point_of}
 use Rattle.page_tasks.specs.declared.task.Halt.{Halt}
-use Rattle.page_tasks.specs.Going.{MachineGoes}
+use Rattle.page_tasks.specs.Going.{MachineGoes, halt_of}
 use Rattle.page_tasks.specs.Falling.{StepsFall}
 use Rattle.wiki_expand.specs.Pages.{Pages}
 use Rattle.wiki_expand.specs.declared.expander.Expander.{Expander}
@@ -36,6 +36,12 @@ pub record ExpanderGoes (e : Expander) (l : Left) (m : Move) (e' : Expander) (l'
   pub after : IsAfter m e'
   pub used : (l'.steps ≡ l.steps) × (l'.calls ≡ l.calls)
   pub falls : MoveFalls m (allowed_in l e) (allowed_in l' e')
+
+-- and halts so
+pub record ExpandsTo (e : Expander) (l : Left) (e' : Expander) (l' : Left) (h : Halt) : Type 0 where
+  pub next : Move
+  pub goes : ExpanderGoes e l next e' l'
+  pub halts : h ≡ halt_of next
 
 -- it is told a text
 pub record ExpanderIsTold (e : Expander) (l : Left) (text : List ℕ) (e' : Expander) (l' : Left) : Type 0 where

@@ -1,9 +1,10 @@
 //! How the tasks of a page begin.
 ghost use Rattle.std.specs.Prelude.{◌≡◌, true, IsSome, IfSome, IfOk};
-ghost use Rattle.mw_frame.specs.Scenes.{HaveNames};
+ghost use Rattle.mw_frame.specs.Scenes.{HaveNames, NamesDiffer};
 ghost use Rattle.wk_base.specs.Titles.{is_module};
 ghost use Rattle.expand_meaning.specs.Outcome.{Reading, Including, page_scene};
 ghost use Rattle.wiki_expand.specs.Pages.{find_page, direct_in, included_in};
+ghost use Rattle.wiki_expand.specs.Standing.{IsHeldSource, work_of};
 ghost use Rattle.lua_meaning.specs.Start.{Invoke, DataOf};
 ghost use Rattle.lua_stack.specs.Of.{WorkOf};
 ghost use Rattle.lua_stack.specs.Seen.{work_seen};
@@ -14,6 +15,7 @@ ghost use Rattle.page_ground.specs.Ground.{ground_of, page_of};
 ghost use Rattle.page_tasks.specs.Falling.{chances_of};
 ghost use Rattle.page_tasks.specs.Beginning.{MachineBegins, Begins, BeginsWith};
 
+use crate::boxed::Boxed;
 use crate::task::{Begun, Task};
 use lua_machine::Machine;
 use lua_stack::Work;
@@ -29,12 +31,12 @@ fn begin_run<'w>(
     around: &Context<'w>,
     store: &mut Store,
     work: Work,
-) -> Result<Machine<'w>, NoMemory>
+) -> Result<Boxed<Machine<'w>>, NoMemory>
     requires { WorkOf work }
     ensures { IfOk result (λ m. MachineBegins (ground_of around.now) (work_seen work) store.old store.new m) }
 {
-    let machine = Machine::start(around.alloc, store, around.seed, around.world, work)?;
-    Ok(machine)
+    let started = Machine::start(around.alloc, store, around.seed, around.world, work);
+    Boxed::of(around.alloc, started)
 }
 
 /// An invocation begins (Extension:Scribunto, `#invoke`).
@@ -70,6 +72,21 @@ pub fn begin_load<'w>(
     Ok(Task::Load(begun, machine))
 }
 
+/// An expansion begins in a scene.
+fn begin_expansion<'w>(
+    around: &Context<'w>,
+    source: Source,
+    scene: Scene,
+) -> Result<Task<'w>, NoMemory>
+    requires names { NamesDiffer scene.args }
+    requires held { IsHeldSource (ground_of around.now).pages source }
+    ensures { IfOk result (λ t. IfSome (work_of (ground_of around.now).pages source scene) (λ work. (s : StoreView) → Begins (ground_of around.now) (Expanding work) s s t)) }
+{
+    let started = Expander::start(around.alloc, around.pages, around.world.page, source, scene);
+    let expander = Boxed::of(around.alloc, started)?;
+    Ok(Task::Expansion(expander))
+}
+
 /// The expansion of a text in the scene of a frame begins (Scribunto, `frame:preprocess`).
 pub fn begin_text<'w>(
     around: &Context<'w>,
@@ -80,14 +97,7 @@ pub fn begin_text<'w>(
 {
     check_names(around, scene.args.as_slice())?;
     let marked = read_text(around.alloc, text)?;
-    let expander = Expander::start(
-        around.alloc,
-        around.pages,
-        around.world.page,
-        Source::Text(marked),
-        scene,
-    )?;
-    Ok(Task::Expansion(expander))
+    begin_expansion(around, Source::Text(marked), scene)
 }
 
 /// The expansion of a template with these arguments begins, as that of the text of the scene includes it (Scribunto,
@@ -112,14 +122,7 @@ pub fn begin_template<'w>(
         args,
         chain,
     };
-    let expander = Expander::start(
-        around.alloc,
-        around.pages,
-        around.world.page,
-        Source::Template(title),
-        scene,
-    )?;
-    Ok(Task::Expansion(expander))
+    begin_expansion(around, Source::Template(title), scene)
 }
 
 /// The expansion of the page itself begins.
@@ -128,8 +131,7 @@ pub fn begin_page<'w>(around: &Context<'w>) -> Result<Task<'w>, NoMemory>
     ensures { IfOk result (λ t. IfSome (direct_in (ground_of around.now).pages (page_of (ground_of around.now))) (λ trees. (s : StoreView) → Begins (ground_of around.now) (Expanding (Reading trees (page_scene (page_of (ground_of around.now))))) s s t)) }
 {
     let page = around.world.page;
-    let scene = bare_scene(around.alloc, page)?;
     let title = page.copy()?;
-    let expander = Expander::start(around.alloc, around.pages, page, Source::Page(title), scene)?;
-    Ok(Task::Expansion(expander))
+    let scene = bare_scene(around.alloc, page)?;
+    begin_expansion(around, Source::Page(title), scene)
 }

@@ -2,16 +2,21 @@
 ghost use Rattle.std.specs.Prelude.{◌≡◌, ◌+◌, ◌<◌, ◌^◌, ℕ, false, IfOk};
 ghost use Rattle.lua_store.specs.Seen.{StoreView};
 ghost use Rattle.wiki_expand.specs.Standing.{IsReady, depth_in, templates_in};
+ghost use Rattle.lua_machine.specs.declared.event.Event.TheVariants as event_kind;
 ghost use Rattle.lua_machine.specs.Events.{MachineOf, EventOf};
 ghost use Rattle.page_tasks.specs.declared.task.Task.TheVariants as task_kind;
 ghost use Rattle.page_tasks.specs.Tasks.{TaskIn, CanGo};
+ghost use Rattle.page_tasks.specs.declared.task.Halt.TheVariants as halt_kind;
 ghost use Rattle.page_tasks.specs.Going.{Halts, GoesOn, MachineGoes, IsInvocationHalt, IsLoadHalt, halt_of};
-ghost use Rattle.page_tasks.specs.Calls.{ExpanderGoes, RunsTo};
+ghost use Rattle.page_tasks.specs.Calls.{ExpanderGoes, ExpandsTo, RunsTo};
 ghost use Rattle.page_tasks.specs.Falling.{CanGiveBack, StepsFall, Falls};
 
+use crate::boxed::Boxed;
 use crate::task::{Begun, Halt, Halted, Reply, Task};
 use lua_machine::{Event, Machine};
+use lua_state::Outcome;
 use lua_store::Store;
+use mw_frame::{Ask, Job};
 use page_ground::ending::{end_data, end_outcome};
 use page_meaning::JobOutcome;
 use std::alloc::Global;
@@ -19,48 +24,67 @@ use std::sync::ledger::Ledger;
 use wiki_expand::{Expander, Move};
 use wk_base::{Left, NoMemory, Steps};
 
+/// An expansion halts at an invocation.
+fn invokes(alloc: Global, job: Job) -> Result<Halt, NoMemory>
+    ensures { IfOk result (λ h. h ≡ halt_kind.Invokes job) }
+{
+    let held = Boxed::new(alloc, job)?;
+    Ok(Halt::Invokes(held))
+}
+
 /// How an expansion halts.
-fn move_halt(next: Move) -> Halt
-    ensures { result ≡ halt_of next }
+fn move_halt(alloc: Global, next: Move) -> Result<Halt, NoMemory>
+    ensures { IfOk result (λ h. h ≡ halt_of next) }
 {
     match next {
-        Move::Text(text) => Halt::Comes(Reply::Ended(JobOutcome::Done(text))),
-        Move::Invoke(job) => Halt::Invokes(job),
+        Move::Text(text) => Ok(Halt::Comes(Reply::Ended(JobOutcome::Done(text)))),
+        Move::Invoke(job) => invokes(alloc, job),
     }
 }
 
 /// Goes on with an expansion up to its move.
-fn go_expander<'w>(left: &mut Left, expander: &mut Expander<'w>) -> Result<Move, NoMemory>
+fn go_expander<'w>(left: &mut Left, expander: &mut Boxed<Expander<'w>>) -> Result<Move, NoMemory>
     requires can { IsReady expander.old }
     requires depth { left.old.depth + depth_in expander.old < 2 ^ 64 }
     requires templates { left.old.templates + templates_in expander.old < 2 ^ 64 }
     ensures { IfOk result (λ m. ExpanderGoes expander.old left.old m expander.new left.new) }
 {
-    let next = expander.go(left)?;
-    Ok(next)
+    expander.get_mut().go(left)
+}
+
+/// Goes on with an expansion up to how it halts.
+fn run_expansion<'w>(
+    alloc: Global,
+    left: &mut Left,
+    expander: &mut Boxed<Expander<'w>>,
+) -> Result<Halt, NoMemory>
+    requires can { IsReady expander.old }
+    requires depth { left.old.depth + depth_in expander.old < 2 ^ 64 }
+    requires templates { left.old.templates + templates_in expander.old < 2 ^ 64 }
+    ensures { IfOk result (λ h. ExpandsTo expander.old left.old expander.new left.new h) }
+{
+    let next = go_expander(left, expander)?;
+    move_halt(alloc, next)
 }
 
 /// Goes on with an expansion.
 pub(crate) fn go_expansion<'w>(
+    alloc: Global,
     left: &mut Left,
-    expander: Expander<'w>,
+    expander: Boxed<Expander<'w>>,
 ) -> Result<Halted<'w>, NoMemory>
     requires can { IsReady expander }
     requires back { CanGiveBack left.old (task_kind.Expansion expander) }
-    ensures halts { IfOk result (λ x. (s : StoreView) (k : ℕ) → Halts s left.old k (task_kind.Expansion expander.entry) s left.new k x) }
-    ensures goes { IfOk result (λ x. (s : StoreView) (n : ℕ) → GoesOn s left.old (task_kind.Expansion expander.entry) s left.new n x) }
+    ensures halts { (s : StoreView) (k : ℕ) → IfOk result (λ x. Halts s left.old k (task_kind.Expansion expander.entry) s left.new k x) }
+    ensures goes { (s : StoreView) (k k' : ℕ) → IfOk result (λ x. (n : ℕ) → k' ≡ k + n → GoesOn s left.old (task_kind.Expansion expander.entry) s left.new n x) }
     ensures falls { IfOk result (λ x. Falls left.old (task_kind.Expansion expander.entry) left.new x) }
 {
     let mut expander = expander;
-    match go_expander(left, &mut expander) {
-        Ok(next) => {
-            let halt = move_halt(next);
-            Ok(Halted {
-                task: Task::Expansion(expander),
-                halt,
-            })
-        }
-        // let go by a call, here and below, since the drop in place of what goes on is long to prove
+    match run_expansion(alloc, left, &mut expander) {
+        Ok(halt) => Ok(Halted {
+            task: Task::Expansion(expander),
+            halt,
+        }),
         Err(_) => {
             drop(expander);
             Err(NoMemory)
@@ -79,12 +103,22 @@ fn is_idle(event: &Event, before: u64, after: u64) -> bool
     }
 }
 
+/// A value, unless it is refused.
+fn unless<T: Drop>(refused: bool, value: T) -> Result<T, NoMemory>
+    ensures { IfOk result (λ x. (x ≡ value) × (refused ≡ false)) }
+{
+    if refused {
+        return Err(NoMemory);
+    }
+    Ok(value)
+}
+
 /// Goes on with a run of Lua up to its event. One that asks has called a function since it began or was told a reply, and so has taken a step:
 /// that pages come to an end rests on it. A machine does not promise it, so it is tested.
 fn go_machine<'w, L: Ledger>(
     store: &mut Store,
     left: &mut Left,
-    machine: &mut Machine<'w>,
+    machine: &mut Boxed<Machine<'w>>,
     turns: &mut Steps<L>,
 ) -> Result<Event, NoMemory>
     requires of { MachineOf store.old machine.old }
@@ -93,12 +127,26 @@ fn go_machine<'w, L: Ledger>(
     ensures falls { IfOk result (λ e. StepsFall e left.old.steps left.new.steps) }
 {
     let before = left.steps;
-    let event = machine.go(store, left, turns)?;
+    let event = machine.get_mut().go(store, left, turns)?;
     let idle = is_idle(&event, before, left.steps);
-    if idle {
-        return Err(NoMemory);
-    }
-    Ok(event)
+    unless(idle, event)
+}
+
+/// A run of Lua halts at a question.
+fn asks(alloc: Global, question: Ask) -> Result<Halt, NoMemory>
+    ensures { IfOk result (λ h. h ≡ halt_kind.Asks question) }
+{
+    let held = Boxed::new(alloc, question)?;
+    Ok(Halt::Asks(held))
+}
+
+/// How an invocation halts that is over.
+fn over_halt(alloc: Global, store: &Store, outcome: Outcome) -> Result<Halt, NoMemory>
+    requires { EventOf store.now (event_kind.Over outcome) }
+    ensures { IfOk result (λ h. IsInvocationHalt store.now (event_kind.Over outcome) h) }
+{
+    let so = end_outcome(alloc, store, &outcome)?;
+    Ok(Halt::Comes(Reply::Ended(so)))
 }
 
 /// How an invocation halts: it has ended by itself in any case, or asks. An allowance that is spent ends the invocation, and not the page.
@@ -107,13 +155,19 @@ fn invocation_halt(alloc: Global, store: &Store, event: Event) -> Result<Halt, N
     ensures { IfOk result (λ h. IsInvocationHalt store.now event h) }
 {
     match event {
-        Event::Over(outcome) => {
-            let so = end_outcome(alloc, store, &outcome)?;
-            Ok(Halt::Comes(Reply::Ended(so)))
-        }
+        Event::Over(outcome) => over_halt(alloc, store, outcome),
         Event::Spent(which) => Ok(Halt::Comes(Reply::Ended(JobOutcome::Spent(which)))),
-        Event::Asks(question) => Ok(Halt::Asks(question)),
+        Event::Asks(question) => asks(alloc, question),
     }
+}
+
+/// How the load of a data module halts that is over: with data.
+fn loaded_halt(alloc: Global, store: &Store, outcome: Outcome) -> Result<Halt, NoMemory>
+    requires { EventOf store.now (event_kind.Over outcome) }
+    ensures { IfOk result (λ h. IsLoadHalt store.now (event_kind.Over outcome) h) }
+{
+    let data = end_data(alloc, store, &outcome)?;
+    Ok(Halt::Comes(Reply::Data(data)))
 }
 
 /// How the load of a data module halts: with data, spent, or it asks.
@@ -122,12 +176,9 @@ fn load_halt(alloc: Global, store: &Store, event: Event) -> Result<Halt, NoMemor
     ensures { IfOk result (λ h. IsLoadHalt store.now event h) }
 {
     match event {
-        Event::Over(outcome) => {
-            let data = end_data(alloc, store, &outcome)?;
-            Ok(Halt::Comes(Reply::Data(data)))
-        }
+        Event::Over(outcome) => loaded_halt(alloc, store, outcome),
         Event::Spent(which) => Ok(Halt::Comes(Reply::Spent(which))),
-        Event::Asks(question) => Ok(Halt::Asks(question)),
+        Event::Asks(question) => asks(alloc, question),
     }
 }
 
@@ -136,7 +187,7 @@ fn run_invocation<'w, L: Ledger>(
     alloc: Global,
     store: &mut Store,
     left: &mut Left,
-    machine: &mut Machine<'w>,
+    machine: &mut Boxed<Machine<'w>>,
     turns: &mut Steps<L>,
 ) -> Result<Halt, NoMemory>
     requires of { MachineOf store.old machine.old }
@@ -144,8 +195,7 @@ fn run_invocation<'w, L: Ledger>(
     ensures { IfOk result (λ h. RunsTo IsInvocationHalt store.old left.old turns.old machine.old store.new left.new turns.new machine.new h) }
 {
     let event = go_machine(store, left, machine, turns)?;
-    let halt = invocation_halt(alloc, store, event)?;
-    Ok(halt)
+    invocation_halt(alloc, store, event)
 }
 
 /// Goes on with the run of a load.
@@ -153,7 +203,7 @@ fn run_load<'w, L: Ledger>(
     alloc: Global,
     store: &mut Store,
     left: &mut Left,
-    machine: &mut Machine<'w>,
+    machine: &mut Boxed<Machine<'w>>,
     turns: &mut Steps<L>,
 ) -> Result<Halt, NoMemory>
     requires of { MachineOf store.old machine.old }
@@ -161,8 +211,7 @@ fn run_load<'w, L: Ledger>(
     ensures { IfOk result (λ h. RunsTo IsLoadHalt store.old left.old turns.old machine.old store.new left.new turns.new machine.new h) }
 {
     let event = go_machine(store, left, machine, turns)?;
-    let halt = load_halt(alloc, store, event)?;
-    Ok(halt)
+    load_halt(alloc, store, event)
 }
 
 /// Goes on with an invocation.
@@ -170,7 +219,7 @@ pub(crate) fn go_invocation<'w, L: Ledger>(
     alloc: Global,
     store: &mut Store,
     left: &mut Left,
-    machine: Machine<'w>,
+    machine: Boxed<Machine<'w>>,
     turns: &mut Steps<L>,
 ) -> Result<Halted<'w>, NoMemory>
     requires of { MachineOf store.old machine }
@@ -198,7 +247,7 @@ pub(crate) fn go_load<'w, L: Ledger>(
     store: &mut Store,
     left: &mut Left,
     begun: Begun,
-    machine: Machine<'w>,
+    machine: Boxed<Machine<'w>>,
     turns: &mut Steps<L>,
 ) -> Result<Halted<'w>, NoMemory>
     requires of { TaskIn store.old (task_kind.Load begun machine) }
@@ -238,17 +287,8 @@ pub fn go_on<'w, L: Ledger>(
     ensures falls { IfOk result (λ x. Falls left.old task.entry left.new x) }
 {
     match task {
-        Task::Expansion(expander) => {
-            let halted = go_expansion(left, expander)?;
-            Ok(halted)
-        }
-        Task::Invocation(machine) => {
-            let halted = go_invocation(alloc, store, left, machine, turns)?;
-            Ok(halted)
-        }
-        Task::Load(begun, machine) => {
-            let halted = go_load(alloc, store, left, begun, machine, turns)?;
-            Ok(halted)
-        }
+        Task::Expansion(expander) => go_expansion(alloc, left, expander),
+        Task::Invocation(machine) => go_invocation(alloc, store, left, machine, turns),
+        Task::Load(begun, machine) => go_load(alloc, store, left, begun, machine, turns),
     }
 }

@@ -1,5 +1,6 @@
 //! The tasks of a page: expansions, invocations and loads of data, each from its start to where it halts (MediaWiki, Extension:Scribunto).
 //!
+//! - `boxed`: what is large stands on the heap
 //! - `task`: a task, and how it halts
 //! - `beginning`: how the tasks of a page begin
 //! - `going`: a task goes on until it halts
@@ -10,6 +11,7 @@
 #![tactic(auto)]
 
 pub mod beginning;
+pub mod boxed;
 pub mod going;
 pub mod task;
 pub mod telling;

@@ -1,4 +1,5 @@
 //! A task on the stack, and how it halts.
+use crate::boxed::Boxed;
 use lua_machine::Machine;
 use mw_frame::{Ask, Job};
 use page_ground::data::Data;
@@ -17,9 +18,9 @@ pub struct Begun {
 /// A task: an expansion, an invocation, or the load of a data module.
 #[derive(Drop)]
 pub enum Task<'w> {
-    Expansion(Expander<'w>),
-    Invocation(Machine<'w>),
-    Load(Begun, Machine<'w>),
+    Expansion(Boxed<Expander<'w>>),
+    Invocation(Boxed<Machine<'w>>),
+    Load(Begun, Boxed<Machine<'w>>),
 }
 
 /// What a task came to: an expansion to its text, with which it is done, and an invocation to any of its ends; a load to data, or to an allowance
@@ -37,8 +38,8 @@ pub enum Reply {
 #[derive(Drop)]
 pub enum Halt {
     Comes(Reply),
-    Invokes(Job),
-    Asks(Ask),
+    Invokes(Boxed<Job>),
+    Asks(Boxed<Ask>),
 }
 
 /// A task that has halted.

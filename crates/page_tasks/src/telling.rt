@@ -19,6 +19,7 @@ ghost use Rattle.page_tasks.specs.Going.{Halts, GoesOnWith, ToldFrom, PutsAnswer
 ghost use Rattle.page_tasks.specs.Calls.{ExpanderIsTold, MachineIsTold};
 ghost use Rattle.page_tasks.specs.Falling.{CanGiveBack, Falls};
 
+use crate::boxed::Boxed;
 use crate::going::{go_expansion, go_invocation, go_load};
 use crate::task::{Begun, Halt, Halted, Reply, Task};
 use lua_graph::put_in;
@@ -55,36 +56,32 @@ fn text_answered(alloc: Global, answer: Answer) -> Bytes
 /// An expansion is told a text.
 fn answer_expander<'w>(
     left: &mut Left,
-    expander: &mut Expander<'w>,
+    expander: &mut Boxed<Expander<'w>>,
     text: Bytes,
 ) -> Result<(), NoMemory>
     requires { IsWaiting expander.old }
     ensures answers { OnOk result (ExpanderIsTold expander.old left.old text expander.new left.new) }
     ensures can { OnOk result (IsReady expander.new) }
 {
-    expander.answer(left, text)?;
-    Ok(())
+    expander.get_mut().answer(left, text)
 }
 
 /// An expansion is told a text, and goes on.
 fn tell_expansion<'w>(
+    alloc: Global,
     left: &mut Left,
-    expander: Expander<'w>,
+    expander: Boxed<Expander<'w>>,
     text: Bytes,
 ) -> Result<Halted<'w>, NoMemory>
     requires waits { IsWaiting expander }
     requires back { CanGiveBack left.old (task_kind.Expansion expander) }
-    ensures halts { IfOk result (λ x. (s : StoreView) (k : ℕ) → Halts s left.old k (task_kind.Expansion expander.entry) s left.new k x) }
-    ensures goes { IfOk result (λ x. (s : StoreView) (high n : ℕ) (a : PlainAnswer) (o : PlainOutcome (List PlainValue) Jump) → text ≡ text_of a → ToldFrom s left.old (task_kind.Expansion expander.entry) a o high s left.new n x) }
+    ensures halts { (s : StoreView) (k : ℕ) → IfOk result (λ x. Halts s left.old k (task_kind.Expansion expander.entry) s left.new k x) }
+    ensures goes { (s : StoreView) (k k' high : ℕ) (o : PlainOutcome (List PlainValue) Jump) → IfOk result (λ x. (n : ℕ) → k' ≡ k + n → (a : PlainAnswer) → text ≡ text_of a → ToldFrom s left.old (task_kind.Expansion expander.entry) a o high s left.new n x) }
     ensures falls { IfOk result (λ x. Falls left.old (task_kind.Expansion expander.entry) left.new x) }
 {
     let mut expander = expander;
     match answer_expander(left, &mut expander, text) {
-        Ok(_) => {
-            let halted = go_expansion(left, expander)?;
-            Ok(halted)
-        }
-        // let go by a call, here and below, since the drop in place of what goes on is long to prove
+        Ok(_) => go_expansion(alloc, left, expander),
         Err(_) => {
             drop(expander);
             Err(NoMemory)
@@ -95,7 +92,7 @@ fn tell_expansion<'w>(
 /// A run of Lua is told an answer of the store.
 fn answer_machine<'w>(
     store: &mut Store,
-    machine: &mut Machine<'w>,
+    machine: &mut Boxed<Machine<'w>>,
     answer: Answer,
     height: u64,
 ) -> Result<(), NoMemory>
@@ -105,8 +102,7 @@ fn answer_machine<'w>(
     ensures answers { OnOk result (MachineIsTold store.old machine.old (answer_outcome store.old.texts answer) height store.new machine.new) }
     ensures of { OnOk result (MachineOf store.new machine.new) }
 {
-    machine.answer(store, answer, height)?;
-    Ok(())
+    machine.get_mut().answer(store, answer, height)
 }
 
 /// An invocation is told an answer of the store, and goes on.
@@ -114,7 +110,7 @@ fn tell_invocation<'w, L: Ledger>(
     alloc: Global,
     store: &mut Store,
     left: &mut Left,
-    machine: Machine<'w>,
+    machine: Boxed<Machine<'w>>,
     answer: Answer,
     height: u64,
     turns: &mut Steps<L>,
@@ -129,10 +125,7 @@ fn tell_invocation<'w, L: Ledger>(
 {
     let mut machine = machine;
     match answer_machine(store, &mut machine, answer, height) {
-        Ok(_) => {
-            let halted = go_invocation(alloc, store, left, machine, turns)?;
-            Ok(halted)
-        }
+        Ok(_) => go_invocation(alloc, store, left, machine, turns),
         Err(_) => {
             drop(machine);
             Err(NoMemory)
@@ -146,7 +139,7 @@ fn tell_load<'w, L: Ledger>(
     store: &mut Store,
     left: &mut Left,
     begun: Begun,
-    machine: Machine<'w>,
+    machine: Boxed<Machine<'w>>,
     answer: Answer,
     height: u64,
     turns: &mut Steps<L>,
@@ -161,10 +154,7 @@ fn tell_load<'w, L: Ledger>(
 {
     let mut machine = machine;
     match answer_machine(store, &mut machine, answer, height) {
-        Ok(_) => {
-            let halted = go_load(alloc, store, left, begun, machine, turns)?;
-            Ok(halted)
-        }
+        Ok(_) => go_load(alloc, store, left, begun, machine, turns),
         Err(_) => {
             drop(begun);
             drop(machine);
@@ -195,16 +185,13 @@ fn tell<'w, L: Ledger>(
     match task {
         Task::Expansion(expander) => {
             let text = text_answered(alloc, answer);
-            let halted = tell_expansion(left, expander, text)?;
-            Ok(halted)
+            tell_expansion(alloc, left, expander, text)
         }
         Task::Invocation(machine) => {
-            let halted = tell_invocation(alloc, store, left, machine, answer, height, turns)?;
-            Ok(halted)
+            tell_invocation(alloc, store, left, machine, answer, height, turns)
         }
         Task::Load(begun, machine) => {
-            let halted = tell_load(alloc, store, left, begun, machine, answer, height, turns)?;
-            Ok(halted)
+            tell_load(alloc, store, left, begun, machine, answer, height, turns)
         }
     }
 }
@@ -226,10 +213,7 @@ pub fn tell_text<'w, L: Ledger>(
     ensures falls { IfOk result (λ x. Falls left.old task.entry left.new x) }
 {
     match outcome_text(alloc, so) {
-        Ok(text) => {
-            let halted = tell(alloc, store, left, task, Answer::Expanded(text), 0, turns)?;
-            Ok(halted)
-        }
+        Ok(text) => tell(alloc, store, left, task, Answer::Expanded(text), 0, turns),
         Err(_) => {
             drop(task);
             Err(NoMemory)
@@ -252,8 +236,7 @@ pub fn tell_none<'w, L: Ledger>(
     ensures goes { IfOk result (λ x. (n : ℕ) → turns.new ≡ turns.old + n → GoesOnWith store.old left.old task.entry (Gives NoPage) 0 store.new left.new n x) }
     ensures falls { IfOk result (λ x. Falls left.old task.entry left.new x) }
 {
-    let halted = tell(alloc, store, left, task, Answer::NoPage, 0, turns)?;
-    Ok(halted)
+    tell(alloc, store, left, task, Answer::NoPage, 0, turns)
 }
 
 /// Data as an answer of the store: its tables are put into the store, read-only (Scribunto, `mw.loadData`).
@@ -297,10 +280,7 @@ pub fn tell_data<'w, L: Ledger>(
     ensures falls { IfOk result (λ x. Falls left.old task.entry left.new x) }
 {
     match put_data(alloc, store, given) {
-        Ok(answer) => {
-            let halted = tell(alloc, store, left, task, answer, height, turns)?;
-            Ok(halted)
-        }
+        Ok(answer) => tell(alloc, store, left, task, answer, height, turns),
         Err(_) => {
             drop(task);
             Err(NoMemory)
@@ -309,16 +289,16 @@ pub fn tell_data<'w, L: Ledger>(
 }
 
 /// The calls in progress of a run that is spent are left again.
-fn give_back<'w>(left: &mut Left, machine: &Machine<'w>)
+fn give_back<'w>(left: &mut Left, machine: &Boxed<Machine<'w>>)
     requires { left.old.calls + machine.now.state.calls < 2 ^ 64 }
     ensures { left.new ≡ record left.old { calls = left.old.calls + machine.now.state.calls } }
 {
-    let calls = machine.calls();
+    let calls = machine.get().calls();
     left.calls += calls;
 }
 
 /// An invocation is told that an allowance is spent: it gives back its calls, and ends so.
-fn spend_invocation<'w>(left: &mut Left, machine: Machine<'w>, which: Which) -> Halted<'w>
+fn spend_invocation<'w>(left: &mut Left, machine: Boxed<Machine<'w>>, which: Which) -> Halted<'w>
     requires back { CanGiveBack left.old (task_kind.Invocation machine) }
     ensures halts { (s : StoreView) (k : ℕ) → MachineOf s machine.entry → Halts s left.old k (task_kind.Invocation machine.entry) s left.new k result }
     ensures goes { (s : StoreView) (high : ℕ) → GoesOnWith s left.old (task_kind.Invocation machine.entry) (Exhausts which) high s left.new 0 result }
@@ -332,7 +312,12 @@ fn spend_invocation<'w>(left: &mut Left, machine: Machine<'w>, which: Which) -> 
 }
 
 /// A load is told that an allowance is spent: it gives back its calls, and is spent too.
-fn spend_load<'w>(left: &mut Left, begun: Begun, machine: Machine<'w>, which: Which) -> Halted<'w>
+fn spend_load<'w>(
+    left: &mut Left,
+    begun: Begun,
+    machine: Boxed<Machine<'w>>,
+    which: Which,
+) -> Halted<'w>
     requires back { CanGiveBack left.old (task_kind.Load begun machine) }
     ensures halts { (s : StoreView) (k : ℕ) → TaskIn s (task_kind.Load begun machine.entry) → Halts s left.old k (task_kind.Load begun machine.entry) s left.new k result }
     ensures goes { (s : StoreView) (high : ℕ) → GoesOnWith s left.old (task_kind.Load begun machine.entry) (Exhausts which) high s left.new 0 result }
@@ -362,8 +347,7 @@ pub fn tell_spent<'w>(
     match task {
         Task::Expansion(expander) => {
             let text = no_text(alloc);
-            let halted = tell_expansion(left, expander, text)?;
-            Ok(halted)
+            tell_expansion(alloc, left, expander, text)
         }
         Task::Invocation(machine) => Ok(spend_invocation(left, machine, which)),
         Task::Load(begun, machine) => Ok(spend_load(left, begun, machine, which)),

@@ -1,7 +1,13 @@
-use Rattle.std.proofs.Common.{refl, subst}
+use Rattle.std.proofs.Common.{◌≡◌, ℕ, ◌+◌, refl, subst}
 use Rattle.mw_frame.specs.declared.question.Ask.TheVariants.{Data}
 use Rattle.page_ground.specs.Ground.{ground_of, TellsHeld}
-use Rattle.page_replies.specs.Moving.{asks_with}
+use Rattle.page_replies.specs.Driven.{MovesOn}
+use Rattle.page_replies.specs.Moving.{asks_with, Sinks}
+use Rattle.page_run.specs.State.{Gives}
+use Rattle.lua_meaning.specs.Questions.{NoPage}
+use Rattle.page_tasks.specs.Going.{Halts, GoesOnWith}
+use Rattle.page_tasks.specs.Falling.{Falls}
+use Rattle.page_replies.proofs.Nexts.{on_one, on_two}
 use Rattle.page_replies.proofs.Steps.{none_moves, no_module, module_lacks}
 use Rattle.page_replies.proofs.Drives.{asking_fits, same_fits}
 use Rattle.page_replies.proofs.Sinking.{answered_sinks}
@@ -33,10 +39,15 @@ tell_none-requires-clause-back g c = asking_fits (ground_of c.args.around.now) c
 pub returns-clause-moves : goal.returns-clause-moves
 returns-clause-moves g c =
     let lacks = subst (TellsHeld c.args.around.now.world.modules.now c.args.title) c.if-held.false c.requires.held in
-    none_moves (ground_of c.args.around.now) c.args.store.now c.args.left.now c.args.turns.now c.args.tower.now c.args.task (Data c.args.title)
+    on_two (MovesOn (ground_of c.args.around.now) c.args.store.now c.args.left.now c.args.turns.now c.args.tower.now (asks_with c.args.task (Data c.args.title)) c.tell_none.new.store c.tell_none.new.left c.tell_none.new.turns c.args.tower.now)
+    (Halts c.args.store.now c.args.left.now c.args.turns.now c.args.task c.tell_none.new.store c.tell_none.new.left c.tell_none.new.turns)
+    (λ x. (n : ℕ) → c.tell_none.new.turns ≡ c.args.turns.now + n → GoesOnWith c.args.store.now c.args.left.now c.args.task (Gives NoPage) 0 c.tell_none.new.store c.tell_none.new.left n x) c.tell_none.result c.on.result c.on.ensures
+    (none_moves (ground_of c.args.around.now) c.args.store.now c.args.left.now c.args.turns.now c.args.tower.now c.args.task (Data c.args.title)
     (λ modules agree. no_module (ground_of c.args.around.now) c.args.store.now c.args.left.now c.args.turns.now c.args.tower.now c.args.task c.args.title modules
     (module_lacks (ground_of c.args.around.now) c.args.store.now c.args.left.now c.args.turns.now c.args.tower.now c.args.task c.args.title modules agree lacks))
-    c.tell_none.new.store c.tell_none.new.left c.tell_none.new.turns c.in_ok-halted.halted c.in_ok-halted.ensures.halts c.in_ok-halted.ensures.goes
+    c.tell_none.new.store c.tell_none.new.left c.tell_none.new.turns) c.tell_none.ensures.halts c.tell_none.ensures.goes
 
 pub returns-clause-sinks : goal.returns-clause-sinks
-returns-clause-sinks g c = answered_sinks c.args.left.now c.args.left.now c.args.task (Data c.args.title) c.args.task c.args.tower.now c.args.tower.now c.tell_none.new.left c.in_ok-halted.halted (same_fits c.args.left.now.steps) c.in_ok-halted.ensures.falls
+returns-clause-sinks g c =
+    on_one (Sinks c.args.left.now c.args.tower.now (asks_with c.args.task (Data c.args.title)) c.tell_none.new.left c.args.tower.now) (Falls c.args.left.now c.args.task c.tell_none.new.left) c.tell_none.result c.on.result c.on.ensures
+    (λ x falls. answered_sinks c.args.left.now c.args.left.now c.args.task (Data c.args.title) c.args.task c.args.tower.now c.args.tower.now c.tell_none.new.left x (same_fits c.args.left.now.steps) falls) c.tell_none.ensures.falls

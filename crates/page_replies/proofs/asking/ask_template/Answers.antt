@@ -1,4 +1,4 @@
-use Rattle.std.proofs.Common.{◌∙◌, refl, sym}
+use Rattle.std.proofs.Common.{◌≡◌, ℕ, ◌+◌, ◌∙◌, refl, sym}
 use Rattle.lua_store.specs.Seen.{StoreView}
 use Rattle.mw_frame.specs.declared.question.Ask.TheVariants.{Template}
 use Rattle.wiki_markup.specs.Trees.{Trees}
@@ -7,7 +7,14 @@ use Rattle.expand_meaning.specs.Outcome.{Including}
 use Rattle.page_meaning.specs.Tasks.{Expanding}
 use Rattle.page_ground.specs.Ground.{ground_of}
 use Rattle.page_tasks.specs.Beginning.{Begins}
-use Rattle.page_replies.specs.Moving.{asks_with}
+use Rattle.page_tasks.proofs.Passing.{if_ok}
+use Rattle.page_replies.specs.Driven.{MovesOn, StartsOn}
+use Rattle.page_replies.specs.Moving.{asks_with, GoesDown, Sinks}
+use Rattle.page_run.specs.State.{Gives}
+use Rattle.lua_meaning.specs.Questions.{NoPage}
+use Rattle.page_tasks.specs.Going.{Halts, GoesOnWith}
+use Rattle.page_tasks.specs.Falling.{Falls}
+use Rattle.page_replies.proofs.Nexts.{on_one, on_two}
 use Rattle.page_replies.proofs.Steps.{template_starts, none_moves, no_template}
 use Rattle.page_replies.proofs.Drives.{held_has_trees, above_starts, above_moves, asking_fits, lacks_page, with_trees, same_fits}
 use Rattle.page_replies.proofs.Sinking.{answered_on, answered_sinks}
@@ -25,12 +32,17 @@ tell_none-requires-clause-back g c = asking_fits (ground_of c.args.around.now) c
 
 pub returns-clause-moves : goal.returns-clause-moves
 returns-clause-moves g c =
-    none_moves (ground_of c.args.around.now) c.args.store.now c.args.left.now c.args.turns.now c.args.tower.now c.args.task (Template c.args.scene c.args.title c.args.args)
+    on_two (MovesOn (ground_of c.args.around.now) c.args.store.now c.args.left.now c.args.turns.now c.args.tower.now (asks_with c.args.task (Template c.args.scene c.args.title c.args.args)) c.tell_none.new.store c.tell_none.new.left c.tell_none.new.turns c.args.tower.now)
+    (Halts c.args.store.now c.args.left.now c.args.turns.now c.args.task c.tell_none.new.store c.tell_none.new.left c.tell_none.new.turns)
+    (λ x. (n : ℕ) → c.tell_none.new.turns ≡ c.args.turns.now + n → GoesOnWith c.args.store.now c.args.left.now c.args.task (Gives NoPage) 0 c.tell_none.new.store c.tell_none.new.left n x) c.tell_none.result c.on.result c.on.ensures
+    (none_moves (ground_of c.args.around.now) c.args.store.now c.args.left.now c.args.turns.now c.args.tower.now c.args.task (Template c.args.scene c.args.title c.args.args)
     (λ modules agree. no_template (ground_of c.args.around.now) c.args.store.now c.args.left.now c.args.turns.now c.args.tower.now c.args.task c.args.scene c.args.title c.args.args (lacks_page c.args.around.now.pages.now c.args.title (sym c.holds-held.ensures ∙ c.if-held.false)) modules)
-    c.tell_none.new.store c.tell_none.new.left c.tell_none.new.turns c.in_ok-halted.halted c.in_ok-halted.ensures.halts c.in_ok-halted.ensures.goes
+    c.tell_none.new.store c.tell_none.new.left c.tell_none.new.turns) c.tell_none.ensures.halts c.tell_none.ensures.goes
 
 pub returns-clause-sinks : goal.returns-clause-sinks
-returns-clause-sinks g c = answered_sinks c.args.left.now c.args.left.now c.args.task (Template c.args.scene c.args.title c.args.args) c.args.task c.args.tower.now c.args.tower.now c.tell_none.new.left c.in_ok-halted.halted (same_fits c.args.left.now.steps) c.in_ok-halted.ensures.falls
+returns-clause-sinks g c =
+    on_one (Sinks c.args.left.now c.args.tower.now (asks_with c.args.task (Template c.args.scene c.args.title c.args.args)) c.tell_none.new.left c.args.tower.now) (Falls c.args.left.now c.args.task c.tell_none.new.left) c.tell_none.result c.on.result c.on.ensures
+    (λ x falls. answered_sinks c.args.left.now c.args.left.now c.args.task (Template c.args.scene c.args.title c.args.args) c.args.task c.args.tower.now c.args.tower.now c.tell_none.new.left x (same_fits c.args.left.now.steps) falls) c.tell_none.ensures.falls
 
 -- IT BEGINS
 pub begin_template-requires : goal.begin_template-requires
@@ -47,8 +59,12 @@ pub returns-then-held-clause-moves : goal.returns-then-held-clause-moves
 returns-then-held-clause-moves g c =
     let held = held_has_trees included_of (find_page c.args.around.now.pages.now c.args.title) (sym c.holds-held.ensures ∙ c.if-held.true) in
     let t = with_trees (λ (trees : Trees). (s : StoreView) → Begins (ground_of c.args.around.now) (Expanding (Including trees c.args.title record c.args.scene { args = c.args.args })) s s c.in_ok-inner.inner) (included_in c.args.around.now.pages.now c.args.title) held c.in_ok-inner.ensures in
-    above_moves (ground_of c.args.around.now) c.args.store.now c.args.left.now c.args.turns.now c.args.tower.now c.args.task (asks_with c.args.task (Template c.args.scene c.args.title c.args.args)) c.args.store.now c.in_ok-inner.inner c.push_task.new.tower c.in_ok-push_task.ensures
-    (λ root first start d. template_starts (ground_of c.args.around.now) c.args.store.now c.args.left.now c.args.turns.now c.args.tower.now c.args.task c.args.scene c.args.title c.args.args t.0 c.in_ok-inner.inner t.1 (t.2 c.args.store.now) root first start d) c.go_above.new.store c.go_above.new.left c.go_above.new.turns c.in_ok-next.next c.in_ok-next.ensures.on
+    if_ok (StartsOn (ground_of c.args.around.now) c.args.store.now c.args.left.now c.args.turns.now c.push_task.new.tower c.in_ok-inner.inner c.go_above.new.store c.go_above.new.left c.go_above.new.turns c.push_task.new.tower)
+    (MovesOn (ground_of c.args.around.now) c.args.store.now c.args.left.now c.args.turns.now c.args.tower.now (asks_with c.args.task (Template c.args.scene c.args.title c.args.args)) c.go_above.new.store c.go_above.new.left c.go_above.new.turns c.push_task.new.tower) c.go_above.result
+    (above_moves (ground_of c.args.around.now) c.args.store.now c.args.left.now c.args.turns.now c.args.tower.now c.args.task (asks_with c.args.task (Template c.args.scene c.args.title c.args.args)) c.args.store.now c.in_ok-inner.inner c.push_task.new.tower c.in_ok-push_task.ensures
+    (λ root first start d. template_starts (ground_of c.args.around.now) c.args.store.now c.args.left.now c.args.turns.now c.args.tower.now c.args.task c.args.scene c.args.title c.args.args t.0 c.in_ok-inner.inner t.1 (t.2 c.args.store.now) root first start d) c.go_above.new.store c.go_above.new.left c.go_above.new.turns) c.go_above.ensures.on
 
 pub returns-then-held-clause-sinks : goal.returns-then-held-clause-sinks
-returns-then-held-clause-sinks g c = answered_on c.args.left.now c.args.task (Template c.args.scene c.args.title c.args.args) c.in_ok-inner.inner c.args.tower.now c.push_task.new.tower c.go_above.new.left c.in_ok-next.next c.in_ok-next.ensures.falls
+returns-then-held-clause-sinks g c =
+    if_ok (GoesDown c.args.left.now c.in_ok-inner.inner c.go_above.new.left) (Sinks c.args.left.now c.args.tower.now (asks_with c.args.task (Template c.args.scene c.args.title c.args.args)) c.go_above.new.left c.push_task.new.tower) c.go_above.result
+    (answered_on c.args.left.now c.args.task (Template c.args.scene c.args.title c.args.args) c.in_ok-inner.inner c.args.tower.now c.push_task.new.tower c.go_above.new.left) c.go_above.ensures.falls

@@ -1,8 +1,11 @@
-use Rattle.std.proofs.Common.{List, refl, sym, ◌∙◌, subst}
+use Rattle.std.proofs.Common.{◌≡◌, List, ◌∷◌, refl, sym, ◌∙◌, subst}
 use Rattle.page_tasks.specs.declared.task.Task.{Task}
 use Rattle.page_ground.specs.Ground.{ground_of}
+use Rattle.page_tasks.proofs.Passing.{if_ok}
 use Rattle.page_replies.specs.Driven.{InProgress, MovesOn}
-use Rattle.page_replies.specs.Moving.{comes_with, Sinks}
+use Rattle.page_replies.specs.declared.tower.Tower.{Tower}
+use Rattle.page_replies.specs.declared.tower.Next.{Next}
+use Rattle.page_replies.specs.Moving.{comes_with, after_task, Sinks}
 use Rattle.page_replies.proofs.Renumbering.{driven_renumbered, progress_renumbered, moves_renumbered}
 use Rattle.page_replies.proofs.Hands.{page_is_expanded}
 use Rattle.page_replies.proofs.handing.hand_over.Goals as goal
@@ -24,13 +27,20 @@ pub hand_down-requires : goal.hand_down-requires
 hand_down-requires g c = subst (λ (ts : List Task). InProgress (ground_of c.args.around.now) c.leave_run.new.store c.args.left.now c.args.turns.now (record c.args.tower.now { stack = ts; numbers = c.leave_run.new.numbers }) (comes_with c.args.task c.args.reply)) c.in-Some.ensures
     (progress_renumbered (ground_of c.args.around.now) c.args.store.now c.args.left.now c.args.turns.now c.args.tower.now c.leave_run.new.store c.leave_run.new.numbers c.leave_run.ensures.renumbers (comes_with c.args.task c.args.reply) c.requires)
 
-pub returns-in_ok-next-in-Some-clause-moves : goal.returns-in_ok-next-in-Some-clause-moves
-returns-in_ok-next-in-Some-clause-moves g c =
-    moves_renumbered (ground_of c.args.around.now) c.args.store.now c.args.left.now c.args.turns.now c.args.tower.now c.leave_run.new.store c.leave_run.new.numbers c.leave_run.ensures.renumbers (comes_with c.args.task c.args.reply) c.hand_down.new.store c.hand_down.new.left c.hand_down.new.turns c.hand_down.new.tower c.in_ok-next-in-Some.next
-    (subst (λ (ts : List Task). MovesOn (ground_of c.args.around.now) c.leave_run.new.store c.args.left.now c.args.turns.now (record c.args.tower.now { stack = ts; numbers = c.leave_run.new.numbers }) (comes_with c.args.task c.args.reply) c.hand_down.new.store c.hand_down.new.left c.hand_down.new.turns c.hand_down.new.tower c.in_ok-next-in-Some.next) (sym c.in-Some.ensures) c.in_ok-next-in-Some.ensures.moves)
+pub returns-in-Some-clause-moves : goal.returns-in-Some-clause-moves
+returns-in-Some-clause-moves g c =
+    let moves : List Task → Next → Type 0 = λ ts. let w : Tower = record c.args.tower.now { stack = ts; numbers = c.leave_run.new.numbers } in
+    MovesOn (ground_of c.args.around.now) c.leave_run.new.store c.args.left.now c.args.turns.now w (comes_with c.args.task c.args.reply) c.hand_down.new.store c.hand_down.new.left c.hand_down.new.turns c.hand_down.new.tower in
+    if_ok (moves (c.in-Some.waiting ∷ c.pop.new.self))
+    (MovesOn (ground_of c.args.around.now) c.args.store.now c.args.left.now c.args.turns.now c.args.tower.now (comes_with c.args.task c.args.reply) c.hand_down.new.store c.hand_down.new.left c.hand_down.new.turns c.hand_down.new.tower) c.hand_down.result
+    (λ n m. moves_renumbered (ground_of c.args.around.now) c.args.store.now c.args.left.now c.args.turns.now c.args.tower.now c.leave_run.new.store c.leave_run.new.numbers c.leave_run.ensures.renumbers (comes_with c.args.task c.args.reply) c.hand_down.new.store c.hand_down.new.left c.hand_down.new.turns c.hand_down.new.tower n
+    (subst (λ (ts : List Task). moves ts n) (sym c.in-Some.ensures) m)) c.hand_down.ensures.moves
 
-pub returns-in_ok-next-in-Some-clause-sinks : goal.returns-in_ok-next-in-Some-clause-sinks
-returns-in_ok-next-in-Some-clause-sinks g c = subst (λ (ts : List Task). Sinks c.args.left.now (record c.args.tower.now { stack = ts }) (comes_with c.args.task c.args.reply) c.hand_down.new.left c.hand_down.new.tower c.in_ok-next-in-Some.next) (sym c.in-Some.ensures) c.in_ok-next-in-Some.ensures.sinks
+pub returns-in-Some-clause-sinks : goal.returns-in-Some-clause-sinks
+returns-in-Some-clause-sinks g c =
+    let sinks : List Task → Next → Type 0 = λ ts. let w : Tower = record c.args.tower.now { stack = ts } in Sinks c.args.left.now w (comes_with c.args.task c.args.reply) c.hand_down.new.left c.hand_down.new.tower in
+    if_ok (sinks (c.in-Some.waiting ∷ c.pop.new.self)) (sinks c.args.tower.now.stack) c.hand_down.result (λ n m. subst (λ (ts : List Task). sinks ts n) (sym c.in-Some.ensures) m) c.hand_down.ensures.sinks
 
-pub returns-in_ok-next-in-Some-clause-numbers : goal.returns-in_ok-next-in-Some-clause-numbers
-returns-in_ok-next-in-Some-clause-numbers g c = c.in_ok-next-in-Some.ensures.numbers ∙ c.leave_run.ensures.numbers
+pub returns-in-Some-clause-numbers : goal.returns-in-Some-clause-numbers
+returns-in-Some-clause-numbers g c =
+    if_ok (λ n. c.hand_down.new.tower.numbers ≡ c.leave_run.new.numbers) (λ n. c.hand_down.new.tower.numbers ≡ after_task c.args.task c.args.tower.now.numbers) c.hand_down.result (λ n e. e ∙ c.leave_run.ensures.numbers) c.hand_down.ensures.numbers

@@ -1,4 +1,10 @@
+use Rattle.std.proofs.Common.{◌≡◌, ℕ, ◌+◌}
 use Rattle.page_ground.specs.Ground.{ground_of}
+use Rattle.page_tasks.specs.Going.{Halts, GoesOn}
+use Rattle.page_tasks.specs.Falling.{Falls}
+use Rattle.page_replies.specs.Driven.{StartsOn}
+use Rattle.page_replies.specs.Moving.{GoesDown}
+use Rattle.page_replies.proofs.Nexts.{on_one, on_two}
 use Rattle.page_replies.proofs.Steps.{starts_on}
 use Rattle.page_replies.proofs.Drives.{starting_fits}
 use Rattle.page_replies.proofs.stacking.go_above.Goals as goal
@@ -13,7 +19,12 @@ pub go_on-requires-clause-back : goal.go_on-requires-clause-back
 go_on-requires-clause-back g c = starting_fits (ground_of c.args.around.now) c.args.store.now c.args.left.now c.args.turns.now c.args.tower.now c.args.inner c.requires
 
 pub returns-clause-on : goal.returns-clause-on
-returns-clause-on g c = starts_on (ground_of c.args.around.now) c.args.store.now c.args.left.now c.args.turns.now c.args.tower.now c.args.inner c.go_on.new.store c.go_on.new.left c.go_on.new.turns c.in_ok-halted.halted c.in_ok-halted.ensures.halts c.in_ok-halted.ensures.goes
+returns-clause-on g c =
+    on_two (StartsOn (ground_of c.args.around.now) c.args.store.now c.args.left.now c.args.turns.now c.args.tower.now c.args.inner c.go_on.new.store c.go_on.new.left c.go_on.new.turns c.args.tower.now)
+    (Halts c.args.store.now c.args.left.now c.args.turns.now c.args.inner c.go_on.new.store c.go_on.new.left c.go_on.new.turns)
+    (λ x. (n : ℕ) → c.go_on.new.turns ≡ c.args.turns.now + n → GoesOn c.args.store.now c.args.left.now c.args.inner c.go_on.new.store c.go_on.new.left n x) c.go_on.result c.on.result c.on.ensures
+    (starts_on (ground_of c.args.around.now) c.args.store.now c.args.left.now c.args.turns.now c.args.tower.now c.args.inner c.go_on.new.store c.go_on.new.left c.go_on.new.turns) c.go_on.ensures.halts c.go_on.ensures.goes
 
 pub returns-clause-falls : goal.returns-clause-falls
-returns-clause-falls g c = c.in_ok-halted.ensures.falls
+returns-clause-falls g c =
+    on_one (GoesDown c.args.left.now c.args.inner c.go_on.new.left) (Falls c.args.left.now c.args.inner c.go_on.new.left) c.go_on.result c.on.result c.on.ensures (λ x f. f) c.go_on.ensures.falls

@@ -1,7 +1,15 @@
-use Rattle.std.proofs.Common.{◌∙◌, subst}
+use Rattle.std.proofs.Common.{◌≡◌, ℕ, ◌+◌, List, subst}
+use Rattle.std.specs.Prelude.{IfOk}
+use Rattle.lua_meaning.specs.Questions.{Answer}
+use Rattle.page_meaning.specs.Tasks.{text_of}
+use Rattle.page_tasks.specs.declared.task.Halted.{Halted}
+use Rattle.page_tasks.specs.Going.{ToldFrom}
 use Rattle.lua_machine.specs.Events.{answer_outcome}
+use Rattle.page_tasks.specs.declared.task.Task.TheVariants as task
+use Rattle.page_tasks.specs.Seen.{answered_text}
 use Rattle.page_tasks.specs.Tasks.{TaskIn, CanBeTold}
 use Rattle.page_tasks.specs.Falling.{CanGiveBack}
+use Rattle.page_tasks.proofs.Answering.{without_text}
 use Rattle.page_tasks.proofs.telling.tell.Goals as goal
 
 pub tell_invocation-requires-clause-answer : goal.tell_invocation-requires-clause-answer
@@ -34,30 +42,32 @@ tell_load-requires-clause-of g c = subst (TaskIn c.args.store.now) c.in-Load.is 
 pub tell_load-requires-clause-back : goal.tell_load-requires-clause-back
 tell_load-requires-clause-back g c = subst (CanGiveBack c.args.left.now) c.in-Load.is c.requires.back
 
-pub returns-in_ok-halted-in-Expansion-clause-halts : goal.returns-in_ok-halted-in-Expansion-clause-halts
-returns-in_ok-halted-in-Expansion-clause-halts g c = rw c.in-Expansion.is (c.in_ok-halted-in-Expansion.ensures.halts c.args.store.now c.args.turns.now)
+pub returns-in-Expansion-clause-halts : goal.returns-in-Expansion-clause-halts
+returns-in-Expansion-clause-halts g c = rw c.in-Expansion.is (c.tell_expansion.ensures.halts c.args.store.now c.args.turns.now)
 
-pub returns-in_ok-halted-in-Expansion-clause-goes : goal.returns-in_ok-halted-in-Expansion-clause-goes
-returns-in_ok-halted-in-Expansion-clause-goes g c = λ n e a is.
-    rw c.in-Expansion.is (c.in_ok-halted-in-Expansion.ensures.goes c.args.store.now c.args.height n a (answer_outcome c.args.store.now.texts c.args.answer) (c.text_answered-text.ensures ∙ is))
+pub returns-in-Expansion-clause-goes : goal.returns-in-Expansion-clause-goes
+returns-in-Expansion-clause-goes g c =
+    let told : List ℕ → Halted → Type 0 = λ text x. (n : ℕ) → c.args.turns.now ≡ c.args.turns.now + n → (a : Answer) → text ≡ text_of a
+    → ToldFrom c.args.store.now c.args.left.now (task.Expansion c.in-Expansion.expander) a (answer_outcome c.args.store.now.texts c.args.answer) c.args.height c.args.store.now c.tell_expansion.new.left n x in
+    rw c.in-Expansion.is (subst (λ (text : List ℕ). IfOk c.tell_expansion.result (told text)) c.text_answered-text.ensures (c.tell_expansion.ensures.goes c.args.store.now c.args.turns.now c.args.turns.now c.args.height (answer_outcome c.args.store.now.texts c.args.answer)))
 
-pub returns-in_ok-halted-in-Expansion-clause-falls : goal.returns-in_ok-halted-in-Expansion-clause-falls
-returns-in_ok-halted-in-Expansion-clause-falls g c = rw c.in-Expansion.is c.in_ok-halted-in-Expansion.ensures.falls
+pub returns-in-Expansion-clause-falls : goal.returns-in-Expansion-clause-falls
+returns-in-Expansion-clause-falls g c = rw c.in-Expansion.is c.tell_expansion.ensures.falls
 
-pub returns-in_ok-halted-in-Invocation-clause-halts : goal.returns-in_ok-halted-in-Invocation-clause-halts
-returns-in_ok-halted-in-Invocation-clause-halts g c = rw c.in-Invocation.is c.in_ok-halted-in-Invocation.ensures.halts
+pub returns-in-Invocation-clause-halts : goal.returns-in-Invocation-clause-halts
+returns-in-Invocation-clause-halts g c = rw c.in-Invocation.is c.tell_invocation.ensures.halts
 
-pub returns-in_ok-halted-in-Invocation-clause-goes : goal.returns-in_ok-halted-in-Invocation-clause-goes
-returns-in_ok-halted-in-Invocation-clause-goes g c = λ n e a is. rw c.in-Invocation.is (c.in_ok-halted-in-Invocation.ensures.goes n e a)
+pub returns-in-Invocation-clause-goes : goal.returns-in-Invocation-clause-goes
+returns-in-Invocation-clause-goes g c = rw c.in-Invocation.is (without_text (task.Invocation c.in-Invocation.machine) c.args.left.now c.tell_invocation.new.store c.tell_invocation.new.left c.tell_invocation.result c.args.store.now c.args.turns.now c.tell_invocation.new.turns (answered_text c.args.answer) (answer_outcome c.args.store.now.texts c.args.answer) c.args.height c.tell_invocation.ensures.goes)
 
-pub returns-in_ok-halted-in-Invocation-clause-falls : goal.returns-in_ok-halted-in-Invocation-clause-falls
-returns-in_ok-halted-in-Invocation-clause-falls g c = rw c.in-Invocation.is c.in_ok-halted-in-Invocation.ensures.falls
+pub returns-in-Invocation-clause-falls : goal.returns-in-Invocation-clause-falls
+returns-in-Invocation-clause-falls g c = rw c.in-Invocation.is c.tell_invocation.ensures.falls
 
-pub returns-in_ok-halted-in-Load-clause-halts : goal.returns-in_ok-halted-in-Load-clause-halts
-returns-in_ok-halted-in-Load-clause-halts g c = rw c.in-Load.is c.in_ok-halted-in-Load.ensures.halts
+pub returns-in-Load-clause-halts : goal.returns-in-Load-clause-halts
+returns-in-Load-clause-halts g c = rw c.in-Load.is c.tell_load.ensures.halts
 
-pub returns-in_ok-halted-in-Load-clause-goes : goal.returns-in_ok-halted-in-Load-clause-goes
-returns-in_ok-halted-in-Load-clause-goes g c = λ n e a is. rw c.in-Load.is (c.in_ok-halted-in-Load.ensures.goes n e a)
+pub returns-in-Load-clause-goes : goal.returns-in-Load-clause-goes
+returns-in-Load-clause-goes g c = rw c.in-Load.is (without_text (task.Load c.in-Load.begun c.in-Load.machine) c.args.left.now c.tell_load.new.store c.tell_load.new.left c.tell_load.result c.args.store.now c.args.turns.now c.tell_load.new.turns (answered_text c.args.answer) (answer_outcome c.args.store.now.texts c.args.answer) c.args.height c.tell_load.ensures.goes)
 
-pub returns-in_ok-halted-in-Load-clause-falls : goal.returns-in_ok-halted-in-Load-clause-falls
-returns-in_ok-halted-in-Load-clause-falls g c = rw c.in-Load.is c.in_ok-halted-in-Load.ensures.falls
+pub returns-in-Load-clause-falls : goal.returns-in-Load-clause-falls
+returns-in-Load-clause-falls g c = rw c.in-Load.is c.tell_load.ensures.falls

@@ -1,4 +1,9 @@
+use Rattle.std.proofs.Common.{◌≡◌, ℕ, ◌+◌}
+use Rattle.lua_meaning.specs.Questions.{Answer}
 use Rattle.lua_machine.specs.Events.{answer_outcome}
+use Rattle.page_tasks.specs.declared.task.Task.TheVariants as task
+use Rattle.page_tasks.specs.Going.{Halts, GoesOn, ToldFrom}
+use Rattle.page_tasks.proofs.Passing.{if_ok}
 use Rattle.page_tasks.proofs.Answering.{invocation_told_back, invocation_told_halts, invocation_told_goes, calls_fit}
 use Rattle.page_tasks.proofs.telling.tell_invocation.Goals as goal
 
@@ -18,15 +23,16 @@ pub go_invocation-requires-clause-back : goal.go_invocation-requires-clause-back
 go_invocation-requires-clause-back g c =
     invocation_told_back c.args.store.now c.args.machine (answer_outcome c.args.store.now.texts c.args.answer) c.args.height c.answer_machine.new.store c.answer_machine.new.machine c.requires.of (rw c.in-Ok.is at c.answer_machine.ensures.answers) c.args.left.now c.requires.back
 
-pub returns-in_ok-halted-in-Ok-clause-halts : goal.returns-in_ok-halted-in-Ok-clause-halts
-returns-in_ok-halted-in-Ok-clause-halts g c =
-    invocation_told_halts c.args.store.now c.args.machine (answer_outcome c.args.store.now.texts c.args.answer) c.args.height c.answer_machine.new.store c.answer_machine.new.machine c.requires.of (rw c.in-Ok.is at c.answer_machine.ensures.answers)
-    c.args.left.now c.go_invocation.new.left c.args.turns.now c.go_invocation.new.turns c.go_invocation.new.store c.in_ok-halted-in-Ok.halted c.in_ok-halted-in-Ok.ensures.halts
+pub returns-in-Ok-clause-halts : goal.returns-in-Ok-clause-halts
+returns-in-Ok-clause-halts g c =
+    if_ok (Halts c.answer_machine.new.store c.args.left.now c.args.turns.now (task.Invocation c.answer_machine.new.machine) c.go_invocation.new.store c.go_invocation.new.left c.go_invocation.new.turns) (Halts c.args.store.now c.args.left.now c.args.turns.now (task.Invocation c.args.machine) c.go_invocation.new.store c.go_invocation.new.left c.go_invocation.new.turns) c.go_invocation.result
+    (invocation_told_halts c.args.store.now c.args.machine (answer_outcome c.args.store.now.texts c.args.answer) c.args.height c.answer_machine.new.store c.answer_machine.new.machine c.requires.of (rw c.in-Ok.is at c.answer_machine.ensures.answers) c.args.left.now c.go_invocation.new.left c.args.turns.now c.go_invocation.new.turns c.go_invocation.new.store) c.go_invocation.ensures.halts
 
-pub returns-in_ok-halted-in-Ok-clause-goes : goal.returns-in_ok-halted-in-Ok-clause-goes
-returns-in_ok-halted-in-Ok-clause-goes g c = λ n e a.
-    invocation_told_goes c.args.store.now c.args.machine (answer_outcome c.args.store.now.texts c.args.answer) c.args.height c.answer_machine.new.store c.answer_machine.new.machine c.requires.of (rw c.in-Ok.is at c.answer_machine.ensures.answers)
-    c.args.left.now c.go_invocation.new.left n c.go_invocation.new.store c.in_ok-halted-in-Ok.halted a (c.in_ok-halted-in-Ok.ensures.goes n e)
+pub returns-in-Ok-clause-goes : goal.returns-in-Ok-clause-goes
+returns-in-Ok-clause-goes g c =
+    if_ok (λ x. (n : ℕ) → c.go_invocation.new.turns ≡ c.args.turns.now + n → GoesOn c.answer_machine.new.store c.args.left.now (task.Invocation c.answer_machine.new.machine) c.go_invocation.new.store c.go_invocation.new.left n x)
+    (λ x. (n : ℕ) → c.go_invocation.new.turns ≡ c.args.turns.now + n → (a : Answer) → ToldFrom c.args.store.now c.args.left.now (task.Invocation c.args.machine) a (answer_outcome c.args.store.now.texts c.args.answer) c.args.height c.go_invocation.new.store c.go_invocation.new.left n x) c.go_invocation.result
+    (λ x goes n e a. invocation_told_goes c.args.store.now c.args.machine (answer_outcome c.args.store.now.texts c.args.answer) c.args.height c.answer_machine.new.store c.answer_machine.new.machine c.requires.of (rw c.in-Ok.is at c.answer_machine.ensures.answers) c.args.left.now c.go_invocation.new.left n c.go_invocation.new.store x a (goes n e)) c.go_invocation.ensures.goes
 
-pub returns-in_ok-halted-in-Ok-clause-falls : goal.returns-in_ok-halted-in-Ok-clause-falls
-returns-in_ok-halted-in-Ok-clause-falls g c = c.in_ok-halted-in-Ok.ensures.falls
+pub returns-in-Ok-clause-falls : goal.returns-in-Ok-clause-falls
+returns-in-Ok-clause-falls g c = c.go_invocation.ensures.falls

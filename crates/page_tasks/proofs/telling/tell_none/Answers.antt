@@ -3,7 +3,7 @@ use Rattle.page_run.specs.Outcome.{Goes}
 use Rattle.lua_heap.specs.Reach.{nowhere}
 use Rattle.lua_meaning.specs.Questions.{NoPage}
 use Rattle.lua_points.specs.Told.{as_none}
-use Rattle.page_tasks.proofs.Answering.{tells_at_once, no_calls_fit}
+use Rattle.page_tasks.proofs.Answering.{at_once, no_calls_fit}
 use Rattle.page_tasks.proofs.telling.tell_none.Goals as goal
 
 pub tell-requires-clause-of : goal.tell-requires-clause-of
@@ -22,11 +22,10 @@ pub tell-requires-clause-height : goal.tell-requires-clause-height
 tell-requires-clause-height g c = no_calls_fit c.args.left.now.calls
 
 pub returns-clause-halts : goal.returns-clause-halts
-returns-clause-halts g c = c.in_ok-halted.ensures.halts
+returns-clause-halts g c = c.tell.ensures.halts
 
 pub returns-clause-goes : goal.returns-clause-goes
-returns-clause-goes g c = λ n e.
-    tells_at_once c.args.store.now c.args.left.now c.args.task NoPage (Goes []) 0 c.tell.new.store c.tell.new.left n c.in_ok-halted.halted (λ S. (nowhere, as_none S c.args.store.now.heap)) (c.in_ok-halted.ensures.goes n e NoPage refl)
+returns-clause-goes g c = at_once c.args.left.now c.args.task c.tell.new.store c.tell.new.left c.tell.result c.args.store.now c.args.turns.now c.tell.new.turns [] NoPage (Goes []) refl (λ S. (nowhere, as_none S c.args.store.now.heap)) c.tell.ensures.goes
 
 pub returns-clause-falls : goal.returns-clause-falls
-returns-clause-falls g c = c.in_ok-halted.ensures.falls
+returns-clause-falls g c = c.tell.ensures.falls

@@ -1,7 +1,7 @@
 use Rattle.std.proofs.Common.{subst}
 use Rattle.page_tasks.specs.Tasks.{CanBeTold}
 use Rattle.page_tasks.specs.Falling.{CanGiveBack}
-use Rattle.page_tasks.proofs.Answering.{expansion_not_refused}
+use Rattle.page_tasks.proofs.Answering.{expansion_spent_halts, expansion_spent_goes}
 use Rattle.page_tasks.proofs.telling.tell_spent.Goals as goal
 
 pub tell_expansion-requires-clause-waits : goal.tell_expansion-requires-clause-waits
@@ -16,14 +16,14 @@ spend_invocation-requires c = record { back = subst (CanGiveBack c.args.left.now
 pub spend_load-requires : goal.spend_load-requires
 spend_load-requires c = record { back = subst (CanGiveBack c.args.left.now) c.in-Load.is c.requires.back }
 
-pub returns-in_ok-halted-in-Expansion-clause-halts : goal.returns-in_ok-halted-in-Expansion-clause-halts
-returns-in_ok-halted-in-Expansion-clause-halts c = λ s k of. rw c.in-Expansion.is (c.in_ok-halted-in-Expansion.ensures.halts s k)
+pub returns-in-Expansion-clause-halts : goal.returns-in-Expansion-clause-halts
+returns-in-Expansion-clause-halts c = rw c.in-Expansion.is (expansion_spent_halts c.in-Expansion.expander c.args.left.now c.tell_expansion.new.left c.tell_expansion.result c.tell_expansion.ensures.halts)
 
-pub returns-in_ok-halted-in-Expansion-clause-goes : goal.returns-in_ok-halted-in-Expansion-clause-goes
-returns-in_ok-halted-in-Expansion-clause-goes c = λ s high. rw c.in-Expansion.is (expansion_not_refused c.in-Expansion.expander c.args.which s c.args.left.now high s c.tell_expansion.new.left 0 c.in_ok-halted-in-Expansion.halted)
+pub returns-in-Expansion-clause-goes : goal.returns-in-Expansion-clause-goes
+returns-in-Expansion-clause-goes c = rw c.in-Expansion.is (expansion_spent_goes c.in-Expansion.expander c.args.which c.args.left.now c.tell_expansion.new.left c.tell_expansion.result)
 
-pub returns-in_ok-halted-in-Expansion-clause-falls : goal.returns-in_ok-halted-in-Expansion-clause-falls
-returns-in_ok-halted-in-Expansion-clause-falls c = rw c.in-Expansion.is c.in_ok-halted-in-Expansion.ensures.falls
+pub returns-in-Expansion-clause-falls : goal.returns-in-Expansion-clause-falls
+returns-in-Expansion-clause-falls c = rw c.in-Expansion.is c.tell_expansion.ensures.falls
 
 pub returns-in-Invocation-clause-halts : goal.returns-in-Invocation-clause-halts
 returns-in-Invocation-clause-halts c = rw c.in-Invocation.is c.spend_invocation.ensures.halts
