@@ -1,9 +1,9 @@
 //! An environment is made.
+use crate::start::fixed_seed;
 use bumpalo::Bump;
 use lua_environment::environment;
 use lua_store::Store;
 use std::test::Fail;
-use value_rows::start::fixed_seed;
 use wk_base::NoMemory;
 
 /// Whether the name of the handler for indexes is the text `__index`.

@@ -5,6 +5,7 @@
 //! - `idle_cells`: `lua_cells`, on code that is made by hand
 //! - `stacks`: `lua_stack`, a stack, values in flight, local variables and places of errors
 //! - `environments`: `lua_environment`, that a handler has its name
+//! - `start`: the seed of every map
 //!
 //! There are no definitions here.
 #![tactic(auto)]
@@ -17,3 +18,5 @@ mod idle_cells;
 mod modules;
 #[cfg(test)]
 mod stacks;
+#[cfg(test)]
+mod start;

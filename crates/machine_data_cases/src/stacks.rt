@@ -3,6 +3,7 @@ ghost use Rattle.std.specs.Prelude.{IfOk};
 ghost use Rattle.lua_store.specs.Parts.{IsOf, IsTextOf};
 ghost use Rattle.lua_stack.specs.Of.{RegistersOf};
 
+use crate::start::fixed_seed;
 use bumpalo::Bump;
 use lua_code::Place;
 use lua_stack::opening::{open, open_all};
@@ -13,7 +14,6 @@ use lua_stack::{Activations, Callee, Given, Level, Raising, Slot, Stack, Values,
 use lua_store::{ClosureKind, Library, ProtoId, Store, TextId, Value};
 use std::alloc::Global;
 use std::test::Fail;
-use value_rows::start::fixed_seed;
 use wk_base::{Left, List, NoMemory};
 
 // The numbers 1 to n, pushed in order.
