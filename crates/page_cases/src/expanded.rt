@@ -1,5 +1,6 @@
 //! A page with allowances of its own.
 ghost use Rattle.std.specs.Prelude.{◌≡◌};
+ghost use Rattle.wk_base.specs.Allowances.{IsCountable};
 
 use crate::fields::{is_number, is_text, text_of};
 use crate::rows::Rows;
@@ -13,7 +14,7 @@ use std::marker::Brand;
 use std::mem;
 use std::sync::ledger::{Blank, Ledger};
 use std::thread::Threads;
-use wk_base::{NoMemory, Steps, Title};
+use wk_base::{Limits, NoMemory, Steps, Title};
 
 /// Whether the store has functions of the runs from 0 on: for each a `1`, or a `0`.
 fn has_runs(store: &Store, runs: &[u8]) -> bool {
@@ -60,32 +61,33 @@ fn is_as_said(
     Ok(rows.count(right))
 }
 
-/// A page of a wiki, expanded in a new store with the allowances of a row.
+/// A page of a wiki, expanded in a new store, and whether that has functions of these runs.
 fn page_of<L: Ledger>(
     alloc: Global,
     seed: RandomState,
     wiki: &Wiki,
     title: &Title,
-    row: &str,
+    limits: &Limits,
+    runs: &[u8],
     blank: Blank,
 ) -> Result<Expanded, NoMemory>
     requires name { blank.name ≡ L.name }
     requires parts { blank.parts ≡ L.parts }
     requires one { blank.parts ≡ 1 }
+    requires countable { IsCountable limits.now }
 {
     let mut turns = Steps::<L>::open(blank);
     if !wiki.pages.holds(title) {
         return Err(NoMemory);
     }
-    let limits = limits_of(row);
     let arena = Bump::new(alloc);
     let mut store = Store::new(alloc, &arena, seed);
-    let page = expand_page_in(alloc, seed, &mut store, wiki, title, &limits, &mut turns)?;
-    let has_runs = has_runs(&store, text_of(head_of(row), 4));
+    let page = expand_page_in(alloc, seed, &mut store, wiki, title, limits, &mut turns)?;
+    let has_runs = has_runs(&store, runs);
     Ok(Expanded { page, has_runs })
 }
 
-/// The same, with turns counted by a counter of this call.
+/// The page of a row, with its allowances.
 fn counted(
     alloc: Global,
     seed: RandomState,
@@ -93,7 +95,9 @@ fn counted(
     title: &Title,
     row: &str,
 ) -> Result<Expanded, NoMemory> {
-    page_of::<Brand>(alloc, seed, wiki, title, row, Blank::new(1))
+    let limits = limits_of(row);
+    let runs = text_of(head_of(row), 4);
+    page_of::<Brand>(alloc, seed, wiki, title, &limits, runs, Blank::new(1))
 }
 
 /// Whether the page `P` of a wiki comes to what the row says.
