@@ -33,7 +33,8 @@ pub fn move_on<'w, L: Ledger>(
         Halt::Comes(reply) => hand_over(around, store, left, tower, task, reply, turns),
         Halt::Invokes(job) => invoke(around, store, left, tower, task, job, turns),
         Halt::Asks(question) => {
-            answer_question(around, store, left, tower, task, question, turns)
+            let asked = question.into_inner();
+            answer_question(around, store, left, tower, task, asked, turns)
         }
     }
 }
@@ -91,10 +92,7 @@ fn pass_question<'w, L: Ledger>(
     let reached = move_to_question(around, store, left, tower, halted, turns)?;
     match reached {
         Next::Over(reply) => Ok(Next::Over(reply)),
-        Next::On(asking) => {
-            let next = move_on(around, store, left, tower, asking, turns)?;
-            Ok(next)
-        }
+        Next::On(asking) => move_on(around, store, left, tower, asking, turns),
     }
 }
 

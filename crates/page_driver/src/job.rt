@@ -97,8 +97,7 @@ fn run_in<L: Ledger>(
         pages: &wiki.pages,
         world,
     };
-    let end = run_within(&around, store, job, limits, turns)?;
-    Ok(end)
+    run_within(&around, store, job, limits, turns)
 }
 
 /// Runs one invocation by itself (Extension:Scribunto, `#invoke`), with all that the limits allow and in an environment of its own, as if the page of

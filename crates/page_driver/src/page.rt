@@ -1,5 +1,5 @@
 //! The expansion of a page.
-ghost use Rattle.std.specs.Prelude.{◌≡◌, ◌+◌, ◌≤◌, IsSome, IfSome, IfOk, OnOk};
+ghost use Rattle.std.specs.Prelude.{◌≡◌, ◌+◌, ◌≤◌, [], IsSome, IfSome, IfOk, OnOk};
 ghost use Rattle.wk_base.specs.Allowances.{IsCountable};
 ghost use Rattle.wiki_expand.specs.Pages.{find_page, direct_in};
 ghost use Rattle.lua_meaning.specs.World.{Modules as PlainModules};
@@ -29,23 +29,21 @@ use std::hash::RandomState;
 use std::sync::ledger::Ledger;
 use wk_base::{Bytes, Left, Limits, NoMemory, Steps, Title};
 
+/// No bytes.
+fn no_text(alloc: Global) -> Bytes
+    ensures { result ≡ [] }
+{
+    Bytes::of_vec(Vec::new(alloc))
+}
+
 /// The text of a reply. An expansion comes to nothing else.
 fn text_in(alloc: Global, reply: Reply) -> Result<Bytes, NoMemory>
     ensures { IfOk result (λ text. text ≡ given_text (reply_seen reply)) }
 {
     match reply {
-        Reply::Ended(so) => {
-            let text = outcome_text(alloc, so)?;
-            Ok(text)
-        }
-        Reply::Data(_) => {
-            let nothing = Bytes::of(alloc, b"")?;
-            Ok(nothing)
-        }
-        Reply::Spent(_) => {
-            let nothing = Bytes::of(alloc, b"")?;
-            Ok(nothing)
-        }
+        Reply::Ended(so) => outcome_text(alloc, so),
+        Reply::Data(_) => Ok(no_text(alloc)),
+        Reply::Spent(_) => Ok(no_text(alloc)),
     }
 }
 
@@ -144,8 +142,7 @@ pub fn expand_page_in<L: Ledger>(
         pages: &wiki.pages,
         world,
     };
-    let page = expand_within(&around, store, limits, turns)?;
-    Ok(page)
+    expand_within(&around, store, limits, turns)
 }
 
 /// Expands a page of a wiki (MediaWiki, Help:Templates; Extension:Scribunto). Each invocation runs in a fresh environment; a data module is
