@@ -2,11 +2,11 @@
 ghost use Rattle.std.specs.Prelude.{◌≡◌, Some, [], ◌∷◌};
 ghost use Rattle.lua_heap.specs.Heap.{cel};
 
+use crate::start::holds;
 use lua_heap::{
     Content, Library, closed, closed_sets, equality, examples, framing, graphs, moves, objects,
     reach, standing,
 };
-use std::test::Fail;
 
 /// What a function holds here: one cell, by its number.
 struct OneCell {
@@ -19,18 +19,15 @@ impl Content<OneCell> for OneCell {
     ghost names = { λ c. cel c.cell ∷ [] };
 }
 
-#[test]
-fn laws_of_equality_are_called(_rt: HostRuntime) -> Result<(), Fail> {
+fn laws_of_equality() {
     equality::same_decides();
     equality::same_is_an_equivalence();
     equality::nil_decides();
     equality::border_is_least();
     equality::border_is_only();
-    Ok(())
 }
 
-#[test]
-fn laws_of_objects_are_called(_rt: HostRuntime) -> Result<(), Fail> {
+fn laws_of_objects() {
     objects::fresh_is_free::<OneCell>();
     objects::added_is_there::<OneCell>();
     objects::old_stays::<OneCell>();
@@ -38,11 +35,9 @@ fn laws_of_objects_are_called(_rt: HostRuntime) -> Result<(), Fail> {
     objects::put_is_there::<OneCell>();
     objects::others_stay::<OneCell>();
     objects::kinds_fit::<OneCell>();
-    Ok(())
 }
 
-#[test]
-fn laws_of_standing_are_called(_rt: HostRuntime) -> Result<(), Fail> {
+fn laws_of_standing() {
     standing::table_stands::<OneCell, OneCell>();
     standing::cell_stands::<OneCell, OneCell>();
     standing::closure_stands::<OneCell, OneCell>();
@@ -55,11 +50,9 @@ fn laws_of_standing_are_called(_rt: HostRuntime) -> Result<(), Fail> {
     standing::set_stands();
     standing::next_stands();
     standing::border_stands();
-    Ok(())
 }
 
-#[test]
-fn laws_of_moves_are_called(_rt: HostRuntime) -> Result<(), Fail> {
+fn laws_of_moves() {
     moves::nothing_moves::<OneCell, OneCell>();
     moves::then_moves::<OneCell, OneCell>();
     moves::put_moves::<OneCell, OneCell>();
@@ -74,22 +67,18 @@ fn laws_of_moves_are_called(_rt: HostRuntime) -> Result<(), Fail> {
     moves::new_cell_moves::<OneCell, OneCell>();
     moves::new_closure_moves::<OneCell, OneCell>();
     moves::new_markup_moves::<OneCell, OneCell>();
-    Ok(())
 }
 
-#[test]
-fn laws_of_closed_sets_are_called(_rt: HostRuntime) -> Result<(), Fail> {
+fn laws_of_closed_sets() {
     closed_sets::image_is_closed::<OneCell, OneCell>();
     closed_sets::cut_stands::<OneCell, OneCell>();
     closed_sets::stands_in_frame::<OneCell, OneCell>();
     closed_sets::closed_stands::<OneCell>();
     closed_sets::values_name_the_image();
     closed_sets::values_are_cut();
-    Ok(())
 }
 
-#[test]
-fn laws_of_reach_are_called(_rt: HostRuntime) -> Result<(), Fail> {
+fn laws_of_reach() {
     reach::led_is_reached::<OneCell>();
     reach::reached_is_led::<OneCell>();
     reach::own_led_is_owned::<OneCell>();
@@ -101,11 +90,9 @@ fn laws_of_reach_are_called(_rt: HostRuntime) -> Result<(), Fail> {
     reach::own_sets_close::<OneCell>();
     reach::closed_sets_own::<OneCell>();
     reach::unowned_stays::<OneCell>();
-    Ok(())
 }
 
-#[test]
-fn laws_of_closed_are_called(_rt: HostRuntime) -> Result<(), Fail> {
+fn laws_of_closed() {
     closed::empty_is_closed::<OneCell>();
     closed::add_keeps_closed::<OneCell>();
     closed::put_keeps_closed::<OneCell>();
@@ -113,11 +100,9 @@ fn laws_of_closed_are_called(_rt: HostRuntime) -> Result<(), Fail> {
     closed::set_meta_keeps_closed::<OneCell>();
     closed::freeze_keeps_closed::<OneCell>();
     closed::set_cell_keeps_closed::<OneCell>();
-    Ok(())
 }
 
-#[test]
-fn laws_of_framing_are_called(_rt: HostRuntime) -> Result<(), Fail> {
+fn laws_of_framing() {
     framing::later_is_frame::<OneCell, OneCell>();
     framing::later_stays_inside::<OneCell, OneCell>();
     framing::new_is_added::<OneCell>();
@@ -129,22 +114,18 @@ fn laws_of_framing_are_called(_rt: HostRuntime) -> Result<(), Fail> {
     framing::neighbours_stay_apart::<OneCell>();
     framing::shared_tables_stay::<OneCell>();
     framing::deep_stays::<OneCell>();
-    Ok(())
 }
 
-#[test]
-fn laws_of_graphs_are_called(_rt: HostRuntime) -> Result<(), Fail> {
+fn laws_of_graphs() {
     graphs::graph_is_put::<OneCell>();
     graphs::put_is_kept::<OneCell>();
     graphs::kept_stays::<OneCell>();
     graphs::kept_stays_apart::<OneCell>();
     graphs::put_keeps_deep::<OneCell>();
     graphs::kept_joins::<OneCell, OneCell>();
-    Ok(())
 }
 
-#[test]
-fn laws_of_examples_are_called(_rt: HostRuntime) -> Result<(), Fail> {
+fn laws_of_examples() {
     examples::values_differ();
     examples::keys_keep_their_place();
     examples::next_passes_cleared();
@@ -156,12 +137,25 @@ fn laws_of_examples_are_called(_rt: HostRuntime) -> Result<(), Fail> {
     examples::ring_is_shifted();
     examples::stands_crossed();
     examples::cells_are_contents();
-    Ok(())
+}
+
+// Calls in a test itself are proved twice, with the test and with what runs it.
+#[test]
+fn laws_are_called(_rt: HostRuntime) {
+    laws_of_equality();
+    laws_of_objects();
+    laws_of_standing();
+    laws_of_moves();
+    laws_of_closed_sets();
+    laws_of_reach();
+    laws_of_closed();
+    laws_of_framing();
+    laws_of_graphs();
+    laws_of_examples();
 }
 
 #[test]
-fn functions_of_the_library_differ(rt: HostRuntime) -> Result<(), Fail> {
-    assert!(rt; Library::BasicAssert == Library::BasicAssert);
-    assert!(rt; Library::BasicAssert != Library::GsplitStep);
-    Ok(())
+fn functions_of_the_library_differ(rt: HostRuntime) {
+    holds(&rt, Library::BasicAssert == Library::BasicAssert, "same");
+    holds(&rt, Library::BasicAssert != Library::GsplitStep, "another");
 }

@@ -1,7 +1,8 @@
 //! Rows from Lua's rules, and sequences of calls beside a plain list of entries.
-use crate::seed::fixed_seed;
+use crate::start::{fixed_seed, holds, sides, words};
 use lua_table::{NoSuchKey, SetFault, Slot, Table};
-use std::alloc::AllocError;
+use std::alloc::{AllocError, Global};
+use std::hash::RandomState;
 use std::process::Abort;
 use std::test::Fail;
 
@@ -137,174 +138,323 @@ fn next(table: &Table<Word>, key: Word) -> Option<(Word, Word, u64)> {
     }
 }
 
-/// The table answers as the list does, at one key and on a whole walk.
-fn agrees(rt: &impl Abort, table: &Table<Word>, entries: &[(Word, Word)], key: Word) {
-    assert_eq!(rt; table.get(&key), plain_get(entries, key));
-    assert_eq!(rt; next(table, key), plain_next(entries, key));
-    assert_eq!(rt; table.border(), plain_border(entries));
-    assert_eq!(rt; table.has(&key), entries.iter().any(|entry| entry.0 == key));
+/// The table answers as the list does, at one key.
+fn agrees_at(table: &Table<Word>, entries: &[(Word, Word)], key: Word) -> bool {
+    table.get(&key) == plain_get(entries, key)
+        && next(table, key) == plain_next(entries, key)
+        && table.border() == plain_border(entries)
+        && table.has(&key) == entries.iter().any(|entry| entry.0 == key)
+}
+
+/// The table has the entries of the list at the ends, in the middle, and past the last one.
+fn agrees_by_place(table: &Table<Word>, entries: &[(Word, Word)]) -> bool {
     let last = entries.len();
     for place in [0, last / 2, last.saturating_sub(1), last, usize::MAX] {
-        assert_eq!(rt; table.at(place), plain_at(entries, place));
+        if table.at(place) != plain_at(entries, place) {
+            return false;
+        }
     }
+    true
+}
+
+/// A whole walk over the table comes where one over the list does.
+fn agrees_along(table: &Table<Word>, entries: &[(Word, Word)]) -> bool {
     let mut at = NIL;
     for _ in 0..100 {
         let step = next(table, at);
-        assert_eq!(rt; step, plain_next(entries, at));
+        if step != plain_next(entries, at) {
+            return false;
+        }
         match step {
-            Some((key, _, _)) => at = key,
-            None => return,
+            Some((key, _, _)) if key != NIL => at = key,
+            _ => return true,
         }
-        if at == NIL {
-            return;
+    }
+    true
+}
+
+/// Sets a key in both, and compares what that gives, and the two afterwards.
+fn agrees(
+    table: &mut Table<Word>,
+    entries: &mut Vec<(Word, Word)>,
+    key: Word,
+    value: Word,
+) -> bool {
+    match plain_set(entries, key, value) {
+        Ok(made) => {
+            table.set(key, value) == Ok(made)
+                && agrees_at(table, entries, key)
+                && agrees_by_place(table, entries)
+                && agrees_along(table, entries)
         }
+        Err(_) => false,
     }
 }
 
-/// Sets each key, and compares whether that made an entry and the border afterwards.
-fn sets(rt: &impl Abort, table: &mut Table<Word>, rows: &[(Word, Word, bool, i64)]) {
-    for (key, value, made, border) in rows {
-        assert_eq!(rt; table.set(*key, *value), Ok(*made), "at {key:?}");
-        assert_eq!(rt; table.border(), *border, "after {key:?}");
+/// A value of a row: `nil`, a number, or a letter.
+fn read_word(text: &str) -> Word {
+    match text.parse::<i64>() {
+        Ok(number) => Word::Number(number),
+        Err(_) => letter(text.as_bytes()),
     }
 }
 
-/// Compares what comes after each key.
-fn walks(rt: &impl Abort, table: &Table<Word>, rows: &[(Word, Option<(Word, Word, u64)>)]) {
-    for (key, step) in rows {
-        assert_eq!(rt; next(table, *key), *step, "after {key:?}");
+fn letter(text: &[u8]) -> Word {
+    match text {
+        [letter] => Word::Letter(*letter),
+        _ => NIL,
     }
+}
+
+/// A step of a row: a key, a value, and how many cleared entries were passed; or `none`.
+fn step(text: &str) -> Option<(Word, Word, u64)> {
+    if text == "none" {
+        return None;
+    }
+    let (key, rest) = words(text);
+    let (value, passed) = words(rest);
+    let passed = passed.parse::<u64>().unwrap_or(99);
+    Some((read_word(key), read_word(value), passed))
+}
+
+/// How a row tells what setting a key gave.
+fn told(answer: Result<bool, SetFault>) -> &'static str {
+    match answer {
+        Ok(true) => "new",
+        Ok(false) => "old",
+        Err(SetFault::Frozen) => "frozen",
+        Err(SetFault::NotAKey) => "no key",
+        Err(SetFault::NoMemory) => "no memory",
+    }
+}
+
+/// Whether setting a key gives this.
+fn sets(table: &mut Table<Word>, entry: &str, wanted: &str) -> bool {
+    let (key, value) = words(entry);
+    told(table.set(read_word(key), read_word(value))) == wanted
+}
+
+/// Whether a call gives this.
+fn gives(table: &mut Table<Word>, name: &str, given: &str, wanted: &str) -> bool {
+    match name {
+        "set" => sets(table, given, wanted),
+        "after" => next(table, read_word(given)) == step(wanted),
+        "get" => table.get(&read_word(given)) == read_word(wanted),
+        "has" => table.has(&read_word(given)) == (wanted == "true"),
+        _ => read_word(wanted) == n(table.border()),
+    }
+}
+
+/// Whether a row holds of a table.
+fn row_holds(table: &mut Table<Word>, row: &str) -> bool {
+    let (call, wanted) = sides(row);
+    let (name, given) = words(call);
+    gives(table, name, given, wanted)
+}
+
+fn all_hold(rt: &impl Abort, table: &mut Table<Word>, rows: &str) {
+    for row in rows.lines() {
+        holds(rt, row_holds(table, row), row);
+    }
+}
+
+/// Keys that are set with their values, whether that makes an entry, and the border behind it; what comes `after` a key: the next
+/// key, its value, and how many cleared entries stand between.
+const IN_ORDER: &str = "set 1 a => new
+border => 1
+set 2 b => new
+border => 2
+set x c => new
+border => 2
+set 2 nil => old
+border => 1
+set 3 d => new
+border => 1
+after 1 => x c 1
+set 2 e => old
+border => 3
+set 9 nil => old
+border => 3
+after nil => 1 a 0
+after 1 => 2 e 0
+after 2 => x c 0
+after x => 3 d 0
+after 3 => nil nil 0
+after 9 => none
+set nil 1 => no key";
+
+/// The same table, once it is read-only.
+const FROZEN: &str = "set 1 1 => frozen
+set nil 1 => frozen
+get 1 => a
+has 1 => true
+has 9 => false
+has nil => false";
+
+/// Gives a table a metatable and entries, and makes it read-only.
+fn fill_and_freeze(rt: &impl Abort, table: &mut Table<Word>) {
+    table.set_meta(n(7));
+    holds(rt, table.meta() == n(7), "metatable");
+    all_hold(rt, table, IN_ORDER);
+    holds(rt, !table.is_frozen(), "not frozen");
+    table.freeze();
+    holds(rt, table.is_frozen(), "frozen");
+    all_hold(rt, table, FROZEN);
 }
 
 #[test]
 fn entries_keep_the_order_of_first_insertion(rt: HostRuntime) -> Result<(), Fail> {
     let mut table = Table::new(rt.alloc(), fixed_seed()?);
-    table.set_meta(n(7));
-    assert_eq!(rt; table.meta(), n(7));
-    let rows = [
-        (n(1), l(b'a'), true, 1),
-        (n(2), l(b'b'), true, 2),
-        (l(b'x'), l(b'c'), true, 2),
-        (n(2), NIL, false, 1),
-        (n(3), l(b'd'), true, 1),
-    ];
-    sets(&rt, &mut table, &rows);
-    walks(&rt, &table, &[(n(1), Some((l(b'x'), l(b'c'), 1)))]);
-    sets(
-        &rt,
-        &mut table,
-        &[(n(2), l(b'e'), false, 3), (n(9), NIL, false, 3)],
-    );
-    let walk = [
-        (NIL, Some((n(1), l(b'a'), 0))),
-        (n(1), Some((n(2), l(b'e'), 0))),
-        (n(2), Some((l(b'x'), l(b'c'), 0))),
-        (l(b'x'), Some((n(3), l(b'd'), 0))),
-        (n(3), Some((NIL, NIL, 0))),
-        (n(9), None),
-    ];
-    walks(&rt, &table, &walk);
-    assert_eq!(rt; table.set(NIL, n(1)), Err(SetFault::NotAKey));
-    assert!(rt; !table.is_frozen());
-    table.freeze();
-    assert!(rt; table.is_frozen());
-    assert_eq!(rt; table.set(n(1), n(1)), Err(SetFault::Frozen));
-    assert_eq!(rt; table.set(NIL, n(1)), Err(SetFault::Frozen));
-    assert_eq!(rt; table.get(&n(1)), l(b'a'));
-    assert!(rt; table.has(&n(1)) && !table.has(&n(9)) && !table.has(&NIL));
+    fill_and_freeze(&rt, &mut table);
     Ok(())
 }
+
+/// Holes in the array and behind it, the ends of the range, and keys that are no places of a sequence. Cleared keys have an entry.
+const FAR_KEYS: &str = "set 1 10 => new
+border => 1
+set 2 20 => new
+border => 2
+set 9223372036854775807 1 => new
+border => 2
+set -9223372036854775808 2 => new
+border => 2
+set 0 3 => new
+border => 2
+set 4 40 => new
+border => 2
+set 3 30 => new
+border => 4
+set 1 nil => old
+border => 0
+set 5 50 => new
+border => 0
+set 1 11 => old
+border => 5
+set 3 nil => old
+border => 2
+set 5 nil => old
+border => 2
+set 3 31 => old
+border => 4
+after 9223372036854775807 => -9223372036854775808 2 0
+after 3 => nil nil 1
+after 6 => none
+has 5 => true
+get 5 => nil";
 
 #[test]
 fn borders_and_far_keys(rt: HostRuntime) -> Result<(), Fail> {
     let mut table = Table::new(rt.alloc(), fixed_seed()?);
-    // Holes in the array and behind it, the ends of the range, and keys that are no places of a sequence.
-    let rows = [
-        (n(1), n(10), true, 1),
-        (n(2), n(20), true, 2),
-        (n(i64::MAX), n(1), true, 2),
-        (n(i64::MIN), n(2), true, 2),
-        (n(0), n(3), true, 2),
-        (n(4), n(40), true, 2),
-        (n(3), n(30), true, 4),
-        (n(1), NIL, false, 0),
-        (n(5), n(50), true, 0),
-        (n(1), n(11), false, 5),
-        (n(3), NIL, false, 2),
-        (n(5), NIL, false, 2),
-        (n(3), n(31), false, 4),
-    ];
-    sets(&rt, &mut table, &rows);
-    let walk = [
-        (n(i64::MAX), Some((n(i64::MIN), n(2), 0))),
-        (n(3), Some((NIL, NIL, 1))),
-        (n(6), None),
-    ];
-    walks(&rt, &table, &walk);
-    // Cleared keys have an entry.
-    assert!(rt; table.has(&n(5)) && table.get(&n(5)) == NIL);
+    all_hold(&rt, &mut table, FAR_KEYS);
     Ok(())
+}
+
+/// Whether each key from 1 to 100 makes an entry.
+fn fills(table: &mut Table<Word>) -> bool {
+    for number in 1..101 {
+        if table.set(n(number), n(0)) != Ok(true) {
+            return false;
+        }
+    }
+    true
+}
+
+/// Whether a walk comes to each of them while it clears the last one.
+fn clears(table: &mut Table<Word>) -> bool {
+    let mut at = NIL;
+    for number in 1..101 {
+        if next(table, at) != Some((n(number), n(0), 0)) {
+            return false;
+        }
+        at = n(number);
+        if table.set(at, NIL) != Ok(false) {
+            return false;
+        }
+    }
+    true
+}
+
+/// Fills a table, and clears it.
+fn fill_and_clear(rt: &impl Abort, table: &mut Table<Word>) {
+    holds(rt, fills(table), "filled");
+    holds(rt, clears(table), "cleared");
+    let rows = "after 100 => nil nil 0
+after nil => nil nil 100";
+    all_hold(rt, table, rows);
 }
 
 #[test]
 fn a_walk_may_clear_what_it_comes_to(rt: HostRuntime) -> Result<(), Fail> {
     let mut table = Table::new(rt.alloc(), fixed_seed()?);
-    for number in 1..101 {
-        assert_eq!(rt; table.set(n(number), n(0)), Ok(true));
-    }
-    let mut at = NIL;
-    for number in 1..101 {
-        assert_eq!(rt; next(&table, at), Some((n(number), n(0), 0)));
-        at = n(number);
-        assert_eq!(rt; table.set(at, NIL), Ok(false));
-    }
-    walks(
-        &rt,
-        &table,
-        &[(at, Some((NIL, NIL, 0))), (NIL, Some((NIL, NIL, 100)))],
-    );
+    fill_and_clear(&rt, &mut table);
     Ok(())
+}
+
+/// The number that comes behind a number that was drawn.
+fn drawn(seed: u64) -> u64 {
+    seed.wrapping_mul(6364136223846793005)
+        .wrapping_add(1442695040888963407)
+}
+
+/// The key with a number: 1 to 8, 0, the ends of the range, and two letters.
+fn key_at(at: u64) -> Word {
+    match at {
+        8 => n(0),
+        9 => n(i64::MAX),
+        10 => n(i64::MIN),
+        11 => l(b'a'),
+        12 => l(b'b'),
+        _ => n((at % 8) as i64 + 1),
+    }
+}
+
+/// A step of a run: early on the next number is likely, so that runs differ in how far the array goes.
+fn step_agrees(
+    table: &mut Table<Word>,
+    entries: &mut Vec<(Word, Word)>,
+    run: u64,
+    step: u64,
+    seed: u64,
+) -> bool {
+    let pick = (seed >> 33) % 13;
+    let at = if step < run % 8 { step % 8 } else { pick };
+    let value = if (seed >> 50) % 3 == 0 {
+        NIL
+    } else {
+        n(step as i64)
+    };
+    agrees(table, entries, key_at(at), value)
+}
+
+/// Whether a table and a list agree along the steps of a run, from a number that was drawn. Gives the last one that was.
+fn run_agrees(alloc: Global, seed: RandomState, run: u64, first: u64) -> Option<u64> {
+    let mut table = Table::new(alloc, seed);
+    let mut entries = Vec::new(alloc);
+    let mut last = first;
+    for step in 0..60u64 {
+        last = drawn(last);
+        if !step_agrees(&mut table, &mut entries, run, step, last) {
+            return None;
+        }
+    }
+    Some(last)
+}
+
+fn runs_agree(alloc: Global, seed: RandomState) -> bool {
+    let mut last = 20061121u64;
+    for run in 0..200u64 {
+        match run_agrees(alloc, seed, run, last) {
+            Some(number) => last = number,
+            None => return false,
+        }
+    }
+    true
 }
 
 #[test]
 fn seeded_calls_agree_with_a_plain_list(rt: HostRuntime) -> Result<(), Fail> {
-    let keys = [
-        n(1),
-        n(2),
-        n(3),
-        n(4),
-        n(5),
-        n(6),
-        n(7),
-        n(8),
-        n(0),
-        n(i64::MAX),
-        n(i64::MIN),
-        l(b'a'),
-        l(b'b'),
-    ];
-    let mut seed = 20061121u64;
-    for run in 0..200u64 {
-        let mut table = Table::new(rt.alloc(), fixed_seed()?);
-        let mut entries = Vec::new(rt.alloc());
-        for step in 0..60u64 {
-            seed = seed
-                .wrapping_mul(6364136223846793005)
-                .wrapping_add(1442695040888963407);
-            // Early on the next number is likely, so that runs differ in how far the array goes.
-            let pick = (seed >> 33) % 13;
-            let at = if step < run % 8 { step % 8 } else { pick };
-            let key = keys[at as usize];
-            let value = if (seed >> 50) % 3 == 0 {
-                NIL
-            } else {
-                n(step as i64)
-            };
-            let made = plain_set(&mut entries, key, value)?;
-            assert_eq!(rt; table.set(key, value), Ok(made));
-            agrees(&rt, &table, &entries, key);
-        }
-    }
+    let seed = fixed_seed()?;
+    holds(&rt, runs_agree(rt.alloc(), seed), "runs");
     Ok(())
 }
 
@@ -326,24 +476,37 @@ fn key_of_step(step: u64, seed: u64) -> Word {
     n(place as i64 + 1)
 }
 
+/// A step of the long run.
+fn long_step_agrees(
+    table: &mut Table<Word>,
+    entries: &mut Vec<(Word, Word)>,
+    step: u64,
+    seed: u64,
+) -> bool {
+    let value = if step >= 99 && (step < 120 || (seed >> 50) % 2 == 0) {
+        NIL
+    } else {
+        n(step as i64)
+    };
+    agrees(table, entries, key_of_step(step, seed), value)
+}
+
+fn long_run_agrees(alloc: Global, seed: RandomState) -> bool {
+    let mut table = Table::new(alloc, seed);
+    let mut entries = Vec::new(alloc);
+    let mut last = 19931001u64;
+    for step in 0..900u64 {
+        last = drawn(last);
+        if !long_step_agrees(&mut table, &mut entries, step, last) {
+            return false;
+        }
+    }
+    true
+}
+
 #[test]
 fn keys_are_cleared_and_filled_below_a_long_run(rt: HostRuntime) -> Result<(), Fail> {
-    let mut table = Table::new(rt.alloc(), fixed_seed()?);
-    let mut entries = Vec::new(rt.alloc());
-    let mut seed = 19931001u64;
-    for step in 0..900u64 {
-        seed = seed
-            .wrapping_mul(6364136223846793005)
-            .wrapping_add(1442695040888963407);
-        let key = key_of_step(step, seed);
-        let value = if step >= 99 && (step < 120 || (seed >> 50) % 2 == 0) {
-            NIL
-        } else {
-            n(step as i64)
-        };
-        let made = plain_set(&mut entries, key, value)?;
-        assert_eq!(rt; table.set(key, value), Ok(made));
-        agrees(&rt, &table, &entries, key);
-    }
+    let seed = fixed_seed()?;
+    holds(&rt, long_run_agrees(rt.alloc(), seed), "a long run");
     Ok(())
 }

@@ -3,24 +3,7 @@ ghost use Rattle.std.specs.Prelude.{IfOk};
 ghost use Rattle.lua_store.specs.Parts.{IsTableOf, IsOf, IsLater};
 
 use lua_store::{Store, TableId, Value};
-use std::hash::RandomState;
-use std::io;
-use std::random::RandomSource;
 use wk_base::NoMemory;
-
-/// A source whose bytes are all 5, so that each run of the tests is the same.
-struct Fives;
-
-impl RandomSource for Fives {
-    fn fill_bytes(&self, bytes: &mut [u8]) -> io::Result<()> {
-        bytes.fill(5);
-        Ok(())
-    }
-}
-
-pub fn fixed_seed() -> io::Result<RandomState> {
-    RandomState::new(&Fives)
-}
 
 /// Sets a key of a table.
 pub fn put(store: &mut Store, table: TableId, key: Value, value: Value) -> Result<(), NoMemory>

@@ -1,8 +1,11 @@
 //! An environment is made.
-use crate::start::fixed_seed;
+use crate::start::{fixed_seed, holds};
 use bumpalo::Bump;
 use lua_environment::environment;
 use lua_store::Store;
+use std::alloc::Global;
+use std::hash::RandomState;
+use std::process::Abort;
 use std::test::Fail;
 use wk_base::NoMemory;
 
@@ -13,10 +16,16 @@ fn names_index(store: &mut Store) -> Result<bool, NoMemory> {
     Ok(made.index == index)
 }
 
+/// Makes an environment in a new store.
+fn name_in_new_store(rt: &impl Abort, alloc: Global, seed: RandomState) {
+    let arena = Bump::new(alloc);
+    let mut store = Store::new(alloc, &arena, seed);
+    holds(rt, names_index(&mut store) == Ok(true), "__index");
+}
+
 #[test]
 fn an_environment_names_handlers(rt: HostRuntime) -> Result<(), Fail> {
-    let arena = Bump::new(rt.alloc());
-    let mut store = Store::new(rt.alloc(), &arena, fixed_seed()?);
-    assert!(rt; names_index(&mut store) == Ok(true));
+    let seed = fixed_seed()?;
+    name_in_new_store(&rt, rt.alloc(), seed);
     Ok(())
 }

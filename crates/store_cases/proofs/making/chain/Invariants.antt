@@ -1,5 +1,5 @@
 use Rattle.lua_store.specs.Parts.{IsTableOf}
-use Rattle.lua_graph_cases.proofs.making.chain.Given as goal
+use Rattle.store_cases.proofs.making.chain.Given as goal
 
 abbrev pub invariant-loop-n : goal.invariant-loop-n
 invariant-loop-n l = IsTableOf l.store l.first
