@@ -1,7 +1,6 @@
 """What the tools of this folder share: the pages that `wikiexpand` prints, and copies of a folder."""
 import os
 import re
-import shutil
 import subprocess
 import sys
 import tempfile
@@ -10,13 +9,16 @@ PROGRAM = os.environ.get("WIKIEXPAND") or os.path.join(os.path.dirname(os.path.d
 SUFFIXES = (b".wiki", b".lua")
 
 
-def run(*words):
-    """A run of the program: its standard output and standard error, where it ended with status 0; else its status is ours."""
-    ran = subprocess.run([PROGRAM, *words], stdin=subprocess.DEVNULL, stdout=subprocess.PIPE, stderr=subprocess.PIPE, check=False)
+def run(*words, told=False):
+    """What a run of the program prints, where it ends with status 0, or what it tells on standard error; else its status is ours."""
+    if told:
+        # (where the program is yet to be built, that is told at once)
+        run("demo", "1")
+    ran = subprocess.run([PROGRAM, *words], stdin=subprocess.DEVNULL, stdout=subprocess.PIPE, stderr=subprocess.PIPE if told else None, check=False)
     if ran.returncode:
-        sys.stderr.buffer.write(ran.stderr)
+        sys.stderr.buffer.write(ran.stderr or b"")
         sys.exit(ran.returncode)
-    return ran.stdout, ran.stderr
+    return ran.stderr if told else ran.stdout
 
 
 def blocks(printed):
@@ -50,21 +52,20 @@ def file_name(title):
 
 
 class Folder:
-    """A copy of a folder's pages, without those of one title. Files are linked where that can be done."""
+    """A folder whose pages are those of another one, as links, as far as they are wanted by their titles."""
 
-    def __init__(self, folder, without=None):
+    def __init__(self, folder, is_wanted):
         self.room = tempfile.TemporaryDirectory(prefix="wikiexpand-")
         self.name = self.room.name
-        left_out = normal(os.fsencode(without)) if without is not None else None
-        for name in os.listdir(folder):
-            path = os.path.join(folder, name)
+        try:
+            names = os.listdir(folder)
+        except OSError:
+            print("wikiexpand: cannot read", file=sys.stderr)
+            sys.exit(4)
+        for name in names:
             title = title_of(name)
-            if title is None or title == left_out:
-                continue
-            try:
-                os.link(os.path.realpath(path), os.path.join(self.name, name))
-            except OSError:
-                shutil.copy(path, os.path.join(self.name, name))
+            if title is not None and is_wanted(title):
+                os.symlink(os.path.abspath(os.path.join(folder, name)), os.path.join(self.name, name))
 
     def __enter__(self):
         return self
