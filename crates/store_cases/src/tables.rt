@@ -293,7 +293,9 @@ has nil => false";
 
 /// Gives a table a metatable and entries, and makes it read-only.
 fn fill_and_freeze(rt: &impl Abort, table: &mut Table<Word>) {
-    table.set_meta(n(7));
+    if !table.is_frozen() {
+        table.set_meta(n(7));
+    }
     holds(rt, table.meta() == n(7), "metatable");
     all_hold(rt, table, IN_ORDER);
     holds(rt, !table.is_frozen(), "not frozen");
@@ -408,6 +410,11 @@ fn key_at(at: u64) -> Word {
     }
 }
 
+/// The value that is set in a step. No run has so many steps that two have the same.
+fn value_of(step: u64) -> Word {
+    n((step % 1_000) as i64)
+}
+
 /// A step of a run: early on the next number is likely, so that runs differ in how far the array goes.
 fn step_agrees(
     table: &mut Table<Word>,
@@ -421,7 +428,7 @@ fn step_agrees(
     let value = if (seed >> 50) % 3 == 0 {
         NIL
     } else {
-        n(step as i64)
+        value_of(step)
     };
     agrees(table, entries, key_at(at), value)
 }
@@ -486,7 +493,7 @@ fn long_step_agrees(
     let value = if step >= 99 && (step < 120 || (seed >> 50) % 2 == 0) {
         NIL
     } else {
-        n(step as i64)
+        value_of(step)
     };
     agrees(table, entries, key_of_step(step, seed), value)
 }
