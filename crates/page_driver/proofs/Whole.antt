@@ -1,6 +1,6 @@
 -- The whole page: its own expansion begins, and what it comes to is the page; and an invocation by itself.
-use Rattle.std.proofs.Common.{◌≡◌, ℕ, ◌+◌, ◌≤◌, [], Option, Some, None, refl, sym, ap, ◌∙◌, subst, arith}
-use Rattle.std.specs.Prelude.{IfSome, IsSome}
+use Rattle.std.proofs.Common.{◌≡◌, ℕ, ◌+◌, ◌≤◌, [], Option, Some, None, Result, Ok, Err, refl, sym, ap, ◌∙◌, subst, arith}
+use Rattle.std.specs.Prelude.{IfSome, IsSome, IfOk, OnOk}
 use Rattle.wk_base.specs.declared.left.Left.{Left}
 use Rattle.wk_base.specs.declared.left.Limits.{Limits}
 use Rattle.page_run.specs.Walk.{empty_walk}
@@ -32,10 +32,11 @@ use Rattle.page_driver.specs.declared.job.JobEnd.{JobEnd}
 use Rattle.page_ground.specs.Ground.{Ground, page_of, wiki_of, AreModulesOf}
 use Rattle.page_tasks.specs.Seen.{reply_seen, outcome_of}
 use Rattle.page_tasks.specs.Beginning.{Begins}
+use Rattle.page_tasks.proofs.Starts.{of_made}
 use Rattle.page_ground.specs.Kept.{KeepOf, Keeps}
 use Rattle.page_replies.specs.Driven.{sum_of, AllWait, IsBelow, IsReady, Starting, IsStarting, Fits, IsExpanded, Expanded, ComesTo}
 use Rattle.page_driver.specs.Page.{full_of, IsPage, IsHeldPage}
-use Rattle.page_driver.specs.Job.{IsJob}
+use Rattle.page_driver.specs.Job.{IsJob, IsEndOf}
 use Rattle.page_tasks.specs.Tasks.{calls_in, depth_of, templates_of}
 use Rattle.std.specs.List.{AllByRecursion}
 
@@ -160,16 +161,24 @@ module _ (g : Ground) (job : Job) (s s₁ : StoreView) (left : Left) (k : ℕ) (
   pub starting_job : IsStarting g s₁ left k tower root
   starting_job = record { root = Running (Invoke job); first = left; start = k; fits = f; starting = job_starts }
 
-  module _ (s' : StoreView) (left' : Left) (k' : ℕ) (tower' : Tower) (r : Reply) (comes : ComesTo g s₁ left k tower root s' left' k' tower' r) (full : Left) (i : left ≡ full) where
-    ended : Expanded g (Running (Invoke job)) left k s' left' k' tower' r
-    ended = comes (Running (Invoke job)) left k f job_starts
+  pub job_expanded : (s' : StoreView) (left' : Left) (k' : ℕ) (tower' : Tower) (r : Reply) → ComesTo g s₁ left k tower root s' left' k' tower' r → Expanded g (Running (Invoke job)) left k s' left' k' tower' r
+  job_expanded s' left' k' tower' r comes = comes (Running (Invoke job)) left k f job_starts
 
-    pub job_ends : (modules : Modules) → AreModulesOf g modules → (x : JobEnd) → x.outcome ≡ outcome_of r → x.left ≡ left' → IsJob (wiki_of g modules) (page_of g) job full k k' x
-    job_ends modules agree x so is =
-        subst (λ l. IsJob (wiki_of g modules) (page_of g) job l k k' x) i (is_job g modules job left left' k k' tower'.repeat_charges r x so is ended.paid (ended.expanded modules agree))
+-- where it came to a reply, that is how it ended
+module _ {E : Type 0} (g : Ground) (job : Job) (left : Left) (k : ℕ) (s' : StoreView) (left' : Left) (k' : ℕ) (tower' : Tower) (full : Left) (i : left ≡ full) (came : Result Reply E) (comes : IfOk came (Expanded g (Running (Invoke job)) left k s' left' k' tower')) where
+  expanded_at : (r : Reply) → came ≡ Ok r → Expanded g (Running (Invoke job)) left k s' left' k' tower' r
+  expanded_at r is = of_made (Expanded g (Running (Invoke job)) left k s' left' k' tower') came r is comes
 
-    pub job_rises : k ≤ k'
-    job_rises = ended.rises
+  pub job_ends : (b : Result JobEnd E) → IfOk b (IsEndOf came left') → IfOk b (λ x. (modules : Modules) → AreModulesOf g modules → IsJob (wiki_of g modules) (page_of g) job full k k' x)
+  job_ends (Ok x) e = λ modules agree.
+      let ended = expanded_at e.0 e.1 in
+      subst (λ l. IsJob (wiki_of g modules) (page_of g) job l k k' x) i (is_job g modules job left left' k k' tower'.repeat_charges e.0 x e.2 e.3 ended.paid (ended.expanded modules agree))
+  job_ends (Err n) e = tt
 
-    pub job_paid : k' + left'.steps ≤ k + full.steps
-    job_paid = omega (arith, ended.paid, ap (λ (l : Left). l.steps) i)
+  pub job_rises : (b : Result JobEnd E) → IfOk b (IsEndOf came left') → OnOk b (k ≤ k')
+  job_rises (Ok x) e = (expanded_at e.0 e.1).rises
+  job_rises (Err n) e = tt
+
+  pub job_paid : (b : Result JobEnd E) → IfOk b (IsEndOf came left') → IfOk b (λ x. k' + x.left.steps ≤ k + full.steps)
+  job_paid (Ok x) e = omega (arith, (expanded_at e.0 e.1).paid, ap (λ (l : Left). l.steps) i, ap (λ (l : Left). l.steps) e.3)
+  job_paid (Err n) e = tt

@@ -1,5 +1,5 @@
 -- WHAT `run_job` ENSURES: it is the drive of one invocation.
-use Rattle.std.specs.Prelude.{◌≡◌, ℕ, ◌+◌, ◌≤◌}
+use Rattle.std.specs.Prelude.{◌≡◌, ℕ, ◌+◌, ◌≤◌, Result, Ok}
 use Rattle.wk_base.specs.declared.left.Left.{Left}
 use Rattle.wk_base.specs.declared.title.Title.{Title}
 use Rattle.mw_frame.specs.declared.scene.Job.{Job}
@@ -8,6 +8,8 @@ use Rattle.page_meaning.specs.Wiki.{Wiki}
 use Rattle.page_meaning.specs.Outcomes.{job_outcome}
 use Rattle.page_meaning.specs.Drive.{drive, invoke}
 use Rattle.page_meaning.specs.Page.{kept_in, begun_in}
+use Rattle.page_tasks.specs.declared.task.Reply.{Reply}
+use Rattle.page_tasks.specs.Seen.{outcome_of}
 use Rattle.page_driver.specs.declared.job.JobEnd.{JobEnd}
 
 -- AN INVOCATION BY ITSELF ends as its run does with all questions answered, and leaves what that leaves. At least the nodes that are begun were
@@ -17,3 +19,7 @@ pub record IsJob (wiki : Wiki) (page : Title) (job : Job) (full : Left) (k k' : 
   pub left_is : e.left ≡ (invoke wiki page job full).left
   pub begun : k + begun_in (invoke wiki page job full).tally ≤ k'
   pub paid : k' + e.left.steps + kept_in (invoke wiki page job full).tally ≤ k + full.steps
+
+-- it is the end of a run that came to some reply, with this left
+abbrev pub IsEndOf : {E : Type 0} → Result Reply E → Left → JobEnd → Type 0
+IsEndOf came left e = (r : Reply) × (came ≡ Ok r) × (e.outcome ≡ outcome_of r) × (e.left ≡ left)

@@ -1,13 +1,17 @@
 //! One invocation by itself.
-ghost use Rattle.std.specs.Prelude.{◌≡◌, ◌+◌, ◌≤◌, IfOk, OnOk};
+ghost use Rattle.std.specs.Prelude.{◌≡◌, ◌+◌, ◌≤◌, [], IfOk, OnOk};
 ghost use Rattle.wk_base.specs.Allowances.{IsCountable};
 ghost use Rattle.mw_frame.specs.Scenes.{HaveNames};
 ghost use Rattle.lua_meaning.specs.World.{Modules as PlainModules};
+ghost use Rattle.lua_meaning.specs.Start.{Invoke};
 ghost use Rattle.lua_store.specs.Parts.{nothing};
 ghost use Rattle.page_ground.specs.Ground.{AreModulesIn, AreModulesOf, ground_of, page_of, wiki_in, wiki_of};
+ghost use Rattle.page_ground.specs.Numbered.{none_started};
+ghost use Rattle.page_meaning.specs.Tasks.{Running};
 ghost use Rattle.page_tasks.specs.Seen.{outcome_of};
+ghost use Rattle.page_replies.specs.Driven.{Fits, Expanded};
 ghost use Rattle.page_driver.specs.Page.{full_of};
-ghost use Rattle.page_driver.specs.Job.{IsJob};
+ghost use Rattle.page_driver.specs.Job.{IsJob, IsEndOf};
 
 use crate::begin::{empty_tower, full_left};
 use crate::driving::drive;
@@ -19,6 +23,7 @@ use mw_frame::Job;
 use page_ground::context::Context;
 use page_ground::numbers::Numbers;
 use page_meaning::JobOutcome;
+use page_replies::tower::Tower;
 use page_tasks::beginning::begin_invocation;
 use page_tasks::task::Reply;
 use std::alloc::Global;
@@ -44,6 +49,42 @@ fn outcome_in(alloc: Global, reply: Reply) -> JobOutcome
     }
 }
 
+/// How an invocation ended that came to this reply, with what is left.
+fn job_end(alloc: Global, came: Result<Reply, NoMemory>, left: Left) -> Result<JobEnd, NoMemory>
+    ensures { IfOk result (λ e. IsEndOf came left e) }
+{
+    match came {
+        Ok(reply) => {
+            let outcome = outcome_in(alloc, reply);
+            Ok(JobEnd { outcome, left })
+        }
+        Err(error) => Err(error),
+    }
+}
+
+/// The first run of a new store is an invocation, and goes on to its end, where nothing waits and nothing is kept.
+fn come_to_end<'w, L: Ledger>(
+    around: &Context<'w>,
+    store: &mut Store,
+    left: &mut Left,
+    tower: &mut Tower<'w>,
+    job: Job,
+    turns: &mut Steps<L>,
+) -> Result<Reply, NoMemory>
+    requires fresh { store.old ≡ nothing }
+    requires names { HaveNames job }
+    requires stack { tower.old.stack ≡ [] }
+    requires keep { tower.old.keep ≡ [] }
+    requires charges { tower.old.repeat_charges ≡ 0 }
+    requires numbers { tower.old.numbers ≡ none_started }
+    requires fits { Fits left.old }
+    ensures { IfOk result (λ r. Expanded (ground_of around.now) (Running (Invoke job)) left.old turns.old store.new left.new turns.new tower.new r) }
+{
+    tower.numbers.start(store)?;
+    let root = begin_invocation(around, store, job)?;
+    drive(around, store, left, tower, root, turns)
+}
+
 /// Runs an invocation as the first run in a new store.
 fn run_within<L: Ledger>(
     around: &Context<'_>,
@@ -59,14 +100,11 @@ fn run_within<L: Ledger>(
     ensures rises { OnOk result (turns.old ≤ turns.new) }
     ensures paid { IfOk result (λ e. turns.new + e.left.steps ≤ turns.old + limits.now.steps) }
 {
-    let mut numbers = Numbers::new(around.alloc);
-    numbers.start(store)?;
-    let root = begin_invocation(around, store, job)?;
-    let mut tower = empty_tower(around.alloc, around.seed, numbers);
     let mut left = full_left(limits);
-    let reply = drive(around, store, &mut left, &mut tower, root, turns)?;
-    let outcome = outcome_in(around.alloc, reply);
-    Ok(JobEnd { outcome, left })
+    let numbers = Numbers::new(around.alloc);
+    let mut tower = empty_tower(around.alloc, around.seed, numbers);
+    let came = come_to_end(around, store, &mut left, &mut tower, job, turns);
+    job_end(around.alloc, came, left)
 }
 
 /// Runs an invocation in a new store.

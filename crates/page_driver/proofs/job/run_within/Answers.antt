@@ -1,40 +1,35 @@
-use Rattle.std.proofs.Common.{refl, sym, subst}
+use Rattle.std.proofs.Common.{◌∙◌}
 use Rattle.page_ground.specs.Ground.{ground_of}
-use Rattle.page_ground.specs.Numbered.{IsNumbered}
 use Rattle.page_driver.specs.Page.{full_of}
-use Rattle.page_driver.proofs.Whole.{first_number, starting_job, job_ends, job_rises, job_paid}
+use Rattle.page_driver.proofs.Whole.{job_ends, job_rises, job_paid}
 use Rattle.page_driver.proofs.job.run_within.Goals as goal
 
-pub begin_invocation-requires : goal.begin_invocation-requires
-begin_invocation-requires g c = c.requires.names
+pub come_to_end-came-requires-clause-fresh : goal.come_to_end-came-requires-clause-fresh
+come_to_end-came-requires-clause-fresh g c = c.requires.fresh
 
-pub drive-requires : goal.drive-requires
-drive-requires g c =
-    let w = ground_of c.args.around.now in
-    let t = c.empty_tower-tower.ensures in
-    let n = subst (IsNumbered c.start.new.store) (sym t.numbers) (first_number c.args.store.now c.start.new.store c.new-numbers.result c.start.new.self c.requires.fresh c.new-numbers.ensures c.in_ok-start.ensures.numbers c.in_ok-start.ensures.store) in
-    starting_job w c.args.job c.start.new.store c.begin_invocation.new.store c.full_left-left.result c.args.turns.now c.empty_tower-tower.result c.in_ok-root.root c.in_ok-root.ensures.begins t.stack t.keep t.repeat_charges n c.full_left-left.ensures.fits
+pub come_to_end-came-requires-clause-names : goal.come_to_end-came-requires-clause-names
+come_to_end-came-requires-clause-names g c = c.requires.names
+
+pub come_to_end-came-requires-clause-stack : goal.come_to_end-came-requires-clause-stack
+come_to_end-came-requires-clause-stack g c = c.empty_tower-tower.ensures.stack
+
+pub come_to_end-came-requires-clause-keep : goal.come_to_end-came-requires-clause-keep
+come_to_end-came-requires-clause-keep g c = c.empty_tower-tower.ensures.keep
+
+pub come_to_end-came-requires-clause-charges : goal.come_to_end-came-requires-clause-charges
+come_to_end-came-requires-clause-charges g c = c.empty_tower-tower.ensures.repeat_charges
+
+pub come_to_end-came-requires-clause-numbers : goal.come_to_end-came-requires-clause-numbers
+come_to_end-came-requires-clause-numbers g c = c.empty_tower-tower.ensures.numbers ∙ c.new-numbers.ensures
+
+pub come_to_end-came-requires-clause-fits : goal.come_to_end-came-requires-clause-fits
+come_to_end-came-requires-clause-fits g c = c.full_left-left.ensures.fits
 
 pub returns-clause-ends : goal.returns-clause-ends
-returns-clause-ends g c = λ modules agree.
-    let w = ground_of c.args.around.now in
-    let t = c.empty_tower-tower.ensures in
-    let n = subst (IsNumbered c.start.new.store) (sym t.numbers) (first_number c.args.store.now c.start.new.store c.new-numbers.result c.start.new.self c.requires.fresh c.new-numbers.ensures c.in_ok-start.ensures.numbers c.in_ok-start.ensures.store) in
-    job_ends w c.args.job c.start.new.store c.begin_invocation.new.store c.full_left-left.result c.args.turns.now c.empty_tower-tower.result c.in_ok-root.root c.in_ok-root.ensures.begins t.stack t.keep t.repeat_charges n c.full_left-left.ensures.fits
-    c.drive.new.store c.drive.new.left c.drive.new.turns c.drive.new.tower c.in_ok-reply.reply c.in_ok-reply.ensures (full_of c.args.limits.now) c.full_left-left.ensures.full modules agree (record { outcome = c.outcome_in-outcome.result; left = c.drive.new.left }) c.outcome_in-outcome.ensures refl
+returns-clause-ends g c = job_ends (ground_of c.args.around.now) c.args.job c.full_left-left.result c.args.turns.now c.come_to_end-came.new.store c.come_to_end-came.new.left c.come_to_end-came.new.turns c.come_to_end-came.new.tower (full_of c.args.limits.now) c.full_left-left.ensures.full c.come_to_end-came.result c.come_to_end-came.ensures c.job_end.result c.job_end.ensures
 
 pub returns-clause-rises : goal.returns-clause-rises
-returns-clause-rises g c =
-    let w = ground_of c.args.around.now in
-    let t = c.empty_tower-tower.ensures in
-    let n = subst (IsNumbered c.start.new.store) (sym t.numbers) (first_number c.args.store.now c.start.new.store c.new-numbers.result c.start.new.self c.requires.fresh c.new-numbers.ensures c.in_ok-start.ensures.numbers c.in_ok-start.ensures.store) in
-    job_rises w c.args.job c.start.new.store c.begin_invocation.new.store c.full_left-left.result c.args.turns.now c.empty_tower-tower.result c.in_ok-root.root c.in_ok-root.ensures.begins t.stack t.keep t.repeat_charges n c.full_left-left.ensures.fits
-    c.drive.new.store c.drive.new.left c.drive.new.turns c.drive.new.tower c.in_ok-reply.reply c.in_ok-reply.ensures (full_of c.args.limits.now) c.full_left-left.ensures.full
+returns-clause-rises g c = job_rises (ground_of c.args.around.now) c.args.job c.full_left-left.result c.args.turns.now c.come_to_end-came.new.store c.come_to_end-came.new.left c.come_to_end-came.new.turns c.come_to_end-came.new.tower (full_of c.args.limits.now) c.full_left-left.ensures.full c.come_to_end-came.result c.come_to_end-came.ensures c.job_end.result c.job_end.ensures
 
 pub returns-clause-paid : goal.returns-clause-paid
-returns-clause-paid g c =
-    let w = ground_of c.args.around.now in
-    let t = c.empty_tower-tower.ensures in
-    let n = subst (IsNumbered c.start.new.store) (sym t.numbers) (first_number c.args.store.now c.start.new.store c.new-numbers.result c.start.new.self c.requires.fresh c.new-numbers.ensures c.in_ok-start.ensures.numbers c.in_ok-start.ensures.store) in
-    job_paid w c.args.job c.start.new.store c.begin_invocation.new.store c.full_left-left.result c.args.turns.now c.empty_tower-tower.result c.in_ok-root.root c.in_ok-root.ensures.begins t.stack t.keep t.repeat_charges n c.full_left-left.ensures.fits
-    c.drive.new.store c.drive.new.left c.drive.new.turns c.drive.new.tower c.in_ok-reply.reply c.in_ok-reply.ensures (full_of c.args.limits.now) c.full_left-left.ensures.full
+returns-clause-paid g c = job_paid (ground_of c.args.around.now) c.args.job c.full_left-left.result c.args.turns.now c.come_to_end-came.new.store c.come_to_end-came.new.left c.come_to_end-came.new.turns c.come_to_end-came.new.tower (full_of c.args.limits.now) c.full_left-left.ensures.full c.come_to_end-came.result c.come_to_end-came.ensures c.job_end.result c.job_end.ensures
