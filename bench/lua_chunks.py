@@ -71,6 +71,9 @@ CHARGES = [
           steps=[ARGUMENTS, ARGUMENTS - 1], seen=[("Gives", "xxv1", 0), ("Spends", "Steps", 0)], profile=True),
     chunk("nodes", "Counted are two functions entered, seven nodes, and three turns of the loop.",
           "return {f=function() for i=1,3 do end end}", how="count_nodes", seen=[("Counts", 2 + 7 + 3)], profile=True),
+    chunk("names_are_noted", "The global variables that a text names are noted, each where it is read or written; local ones and keys are not.",
+          "return {f=function()\n x=y local y=1 y=x\n function g() end\n _G.z=y\n x,y=x,1\n return g and x\nend}", how="notes_of", profile=True,
+          seen=[("Notes", [("Module:X", name) for name in "y x x g _G x x g x".split()], "nil")]),
     chunk("counter", "A global variable lives as long as its invocation: in each one the counter gives 1.",
           "n=0 local p={} function p.f() n=n+1 return n end return p", "1", module="C"),
     chunk("holds_itself", "A table holds itself.",
@@ -443,6 +446,10 @@ FRAMES = [
     framed_cost("tag_costs", "A tag costs the bytes of the arguments that are strings, and its own.", "frame:extensionTag('b','tt')", [1 + 2 + 2, 1, 3, len("<b>tt</b>")]),
     framed("current_title", "`getCurrentTitle` gives the texts of the page's title.",
            "local s=''\nfor k,v in pairs(mw.title.getCurrentTitle()) do s=s..k..'='..v..';' end\nmw.log(s)\nreturn s", "text=P;nsText=;prefixedText=P;"),
+    framed_cost("cleared_costs", "A cleared entry that is passed costs a step: by `extensionTag` and `newChild`.", "local t={x=1} t.x=nil\nframe:extensionTag('b','',t) frame:newChild{args=t}",
+                [1 + 9 + 2 + 4, 1 + 3 + 1, 1 + 2 + 3 + 1, 1, 1, len("<b></b>"), 1 + 2 + 9 + 2 + 4, 1, 16, 1]),
+    framed_cost("cleared_before_a_fault", "A wrong entry ends the walk: what is behind it is not passed.",
+                "local t={x=1,[true]=1,y=1} t.x=nil t.y=nil\npcall(frame.newChild,frame,{args=t})", [1 + 9 + 3 * (2 + 4), 2 * (1 + 3 + 1), 1 + 1 + 1 + 3 + 1 + 9 + 2 + 4, 1 + 1, 1]),
     framed_cost("title_costs", "It costs a table with three entries.", "mw.title.getCurrentTitle()", [1 + 1 + 5, 1, 8 + 3 * 4]),
 ]
 
@@ -470,6 +477,10 @@ MODULES = [
            "local function e(x) return select(2,pcall(require,x))..';' end\nreturn e('Y'),e('Module:Z'),e('Module:'),e(12),select(2,pcall(require))",
            "module 'Y' not found;module 'Module:Z' not found;module 'Module:' not found;module '12' not found;bad argument #1 to 'require' (string expected, got no value)",
            others={"Y": "return 1"}),
+    framed_cost("quotes_cost", "A message that quotes what the call was given costs its bytes at no place too; one that quotes nothing is free.",
+                "pcall(require,'Y') pcall(mw.loadData,'[') pcall(frame.newChild,frame,{title='['}) pcall(require)",
+                [1 + 1 + 1 + 2, 1 + 1, len("module 'Y' not found"), 1 + 1 + 1 + 3 + 1, 1 + 1, len("data module '[' not found"),
+                 1 + 1 + 1 + 3 + 1 + 9 + 2 + 4, 1 + 1, len("invalid title '['"), 1 + 1 + 1 + 1, 1 + 1]),
     framed("module_levels", "The text of a module that is required has no place above it.",
            "return select(2,pcall(function() require('Module:Y') end)),select(2,pcall(function() require('Module:Z') end))", "Module:Y:2: mm",
            others={"Y": "local x\nerror('m')", "Z": "error('m',2)"}),
@@ -547,12 +558,12 @@ LIBRARIES = [
 # 1,026 and the text of the module, up to `f` entered; then its nodes, functions entered, the bytes of arguments that are strings, and the
 # renderings: 9 of `<b>x</b>`, 8 of `<b></b>`, 201 + 603 of what is inside itself; and the bytes of the answer.
 MARKUP = [
-    body("rendering_costs", "`create` and `node` cost the bytes that they are given, a rendering a step for the object and for each byte.",
-         "return tostring(mw.html.create('b'):node('x'))", steps=[1135, 1134], seen=[("Gives", "<b>x</b>", 0), ("Spends", "Steps", 0)], profile=True),
+    body("rendering_costs", "`node` costs the bytes that it is given, and `create` nothing; a rendering a step for the object and for each byte.",
+         "return tostring(mw.html.create('b'):node('x'))", steps=[1134, 1133], seen=[("Gives", "<b>x</b>", 0), ("Spends", "Steps", 0)], profile=True),
     body("answer_costs", "In an answer an object costs its rendering too.",
-         "return mw.html.create('b'),'y'", steps=[1112, 1111], seen=[("Gives", "<b></b>y", 0), ("Spends", "Steps", 0)], profile=True),
+         "return mw.html.create('b'),'y'", steps=[1111, 1110], seen=[("Gives", "<b></b>y", 0), ("Spends", "Steps", 0)], profile=True),
     body("answer_inside_itself", "An object inside itself gives no answer: 201 objects are begun, each with three bytes.",
-         "local a=mw.html.create('b')\nreturn a:node(a)", steps=[1918, 1917],
+         "local a=mw.html.create('b')\nreturn a:node(a)", steps=[1917, 1916],
          seen=[("Fails", "Lua error: html tree nested too deeply", 0), ("Spends", "Steps", 0)], profile=True),
     body("inside_itself", "Nor is it a text: the error has the place of the call of `tostring`.",
          "local a=mw.html.create('b')\na:node(a)\nreturn select(2,pcall(function()\n local s=tostring(a) end)),select(2,pcall(tostring,a))",
@@ -573,6 +584,11 @@ MARKUP = [
          "return type(b),b==mw.clone(b),b==mw.html.create('b'),b.node==mw.html.create('i').node,type(b.tag),b.create==nil,b[1]==nil,getmetatable(b)==nil,e(function()\n"
          " b.x=1 end),e(function()\n local n=#b end)",
          "tabletruefalsetruefunctiontruetruetrueModule:X:5: attempt to index a table value;Module:X:6: attempt to get length of a table value;", profile=True),
+    body("no_styles", "`cssText` adds nothing for nil, also where nothing is given.",
+         "local b=mw.html.create('b')\nreturn b:cssText(nil):cssText():cssText('a:b'):cssText(nil)", "<b style=\"a:b\"></b>", profile=True),
+    body("bad_styles", "What is no text is no style.",
+         "local function e(x) return select(2,pcall(mw.html.create('b').cssText,mw.html.create('b'),x))..';' end\nreturn e(true),e({})",
+         "bad argument #2 to 'cssText' (string expected, got boolean);bad argument #2 to 'cssText' (string expected, got table);", profile=True),
     body("bad_names", "A name that is none, and what is no object.",
          "local function e(f,...) return select(2,pcall(f,...))..';' end\nlocal b=mw.html.create('b')\n"
          "return e(mw.html.create,'1'),e(b.attr,b,'a b','x'),e(b.node,1),e(function()\n b.tag('i') end)",

@@ -27,7 +27,7 @@ use Rattle.lua_syntax.specs.Tree.{{NoExp, NoField, Item, Pair, Lambda, Block, No
 use Rattle.lua_syntax.specs.Tree.{{AssignS, CallS, DoS, WhileS, RepeatS, IfS, IfElseS, CountS, CountByS, EachS, LocalFunctionS, LocalS, ReturnS, BreakS}}
 use Rattle.lua_syntax.specs.View.{{exps_of, fields_of, arms_of, stats_of}}
 use Rattle.page_run.specs.declared.which.Which.TheVariants.{{Steps, Calls}}
-{questions}use Rattle.lua_meaning.specs.Trial.{{Gives, Fails, Spends, Loads, Asks, without_steps, arg, invoke_module, invoke_with_calls, invoke_with_args, load_module, invoke_fault, count_nodes, module_text, template_title, module_title, own_scene, scene_in_template, reply, exhausts, invoke_in_template}}
+{questions}use Rattle.lua_meaning.specs.Trial.{{Gives, Fails, Spends, Loads, Asks, without_steps, arg, invoke_module, invoke_with_calls, invoke_with_args, load_module, invoke_fault, count_nodes, notes_of, named, module_text, template_title, module_title, own_scene, scene_in_template, reply, exhausts, invoke_in_template}}
 
 """
 
@@ -40,6 +40,7 @@ use Rattle.lua_meaning.specs.Questions.{Expanded, NoPage, Loaded, LoadFailed}
 PROOF_HEAD = """-- {subject} They compute.
 use Rattle.std.proofs.Common.{{refl}}
 use Rattle.page_run.specs.Perform.{{perform}}
+use Rattle.page_run.specs.Trace.{{trace}}
 use Rattle.wk_base.specs.Titles.{{title_text, prefix_of, title_of, namespace_named, prefixed_namespaces}}
 use Rattle.std.specs.Fmt.{{digits}}
 use Rattle.std.specs.Str.{{is_utf8, chars}}
@@ -80,6 +81,8 @@ def shown(end):
     kind, *rest = end
     if kind == "Counts":
         return str(rest[0])
+    if kind == "Notes":
+        return rows(f"named {codes(source)} {codes(name)}" for source, name in rest[0])
     if kind == "Asks":
         return f"Asks ({rest[0]}) {rest[1]}"
     if kind in ("Spends", "Loads"):
@@ -112,7 +115,7 @@ def spec(example):
     name, title = example["block"], example["name"].replace("_", " ").title().replace(" ", "")
     claims = []
     for step, end in zip(example["steps"], example["seen"]):
-        exact = end[0] in ("Spends", "Loads", "Counts", "Asks") or len(end) > 2
+        exact = end[0] in ("Spends", "Loads", "Counts", "Notes", "Asks") or len(end) > 2
         call = called(example, step)
         claims.append(f"{call} ≡ {shown(end)}" if exact else f"without_steps ({call}) ≡ {shown(end)}")
     claim = claims[0] if len(claims) == 1 else " × ".join(f"({c})" for c in claims)
@@ -153,7 +156,7 @@ def write(module, subject, examples):
         specs.append(text)
         titles.append(title)
         proof = "refl" if count == 1 else "(" + ", ".join(["refl"] * count) + ")"
-        unfolding = UNFOLDING + (TITLES if example["cases"] else FURTHER.get(module, ""))
+        unfolding = UNFOLDING + (TITLES if example["cases"] else " trace" if example["how"] == "notes_of" else FURTHER.get(module, ""))
         proofs.append(f"\n{example['name']} : {title}\n{unfolding}\n{example['name']} = {proof}\n")
     every = "All" + module.removeprefix("Example")
     specs.append(f"-- ALL OF THEM\nabbrev pub {every} : Type 0\n{every} =\n    " + "\n    × ".join(titles) + "\n")

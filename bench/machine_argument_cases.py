@@ -16,7 +16,7 @@ SWEEPS = [
      "toNFD=s toNFKC=s toNFKD=s"),
     ("text", "mw.text.{}", "trim=ss? split=ss gsplit=ss encode=ss? decode=s listToText=ts?s? nowiki=s tag=st? truncate=sns?"),
     ("html", "mw.html.{}", "create=s?t?"),
-    ("objects", "mw.html.create('p').{}", "node=os? wikitext=os?s? newline=o attr=oss? addClass=os? css=oss? cssText=os tag=os?t? done=o allDone=o getAttr=os"),
+    ("objects", "mw.html.create('p').{}", "node=os? wikitext=os?s? newline=o attr=oss? addClass=os? css=oss? cssText=os? tag=os?t? done=o allDone=o getAttr=os"),
     ("frames", "frame.{}", "getTitle=f getParent=f argumentPairs=f getArgument=fs preprocess=fs expandTemplate=f newChild=f extensionTag=f"),
     ("arguments", "frame:getArgument('1').{}", "expand=t"),
     ("step_of_ipairs", "(ipairs({{}}))", "ipairs=tn"),

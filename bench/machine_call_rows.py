@@ -38,11 +38,11 @@ def rows(name, said, table, setup="", **more):
          "".join(answer(wanted.strip()) for _, wanted in parts), levels=False, runs_at_each=False, **more)
 
 
-def measured(name, said, text, steps, end="gives ", args=(), **more):
+def measured(name, said, text, steps, end="gives ", args=(), replies=(), **more):
     """A module that begins with `return {f=function`: what `f` takes behind its 1,000, the arguments, the text, 25 for the chunk, and 1 for
     `f` entered."""
     taken = 1000 + sum(4 + len(key) + len(value) for key, value in args) + len(text) + 25 + 1 + sum(steps)
-    hand(name, said, text, None, profile=True, levels=False, args=args, runs=[("took", AMPLE, CALLS, [], f"{end}, {taken} taken")], **more)
+    hand(name, said, text, None, profile=True, levels=False, args=args, runs=[("took", AMPLE, CALLS, list(replies), f"{end}, {taken} taken")], **more)
 
 
 # ---- basic functions
@@ -81,9 +81,12 @@ counted("steps_of_unpack_from_0", "So it is where there is none.", "unpack({10,2
 counted("steps_of_rawset", "Four for a new entry.", "rawset({},3,5)[3]", "5", 1 + 1 + 1 + 9 + 2 + 1 + 4 + 1)
 measured("steps_of_metatables", "Nothing but the calls: a table that is its own metatable.", "return {f=function() local t={} setmetatable(t,t) getmetatable(t) end}",
          [1 + 9, 1 + 1 + 1 + 2 + 1, 1 + 1 + 1 + 1 + 1])
-measured("steps_of_strict", "`strict` costs its table; its handlers cost nothing but their calls.",
+measured("steps_of_strict", "`strict` costs its table; what its handlers say costs its bytes, at no place too.",
          "return {f=function() require('strict') local m=getmetatable(_G) pcall(m.__index,nil,'x') pcall(m.__newindex,nil,'x') end}",
-         [1 + 1 + 1 + 1 + 1 + 16, 1 + 1 + 1 + 1 + 1, 1 + 1 + 1 + 3 + 2 + 1 + 1, 1 + 1 + 1 + 3 + 2 + 1 + 1])
+         [1 + 1 + 1 + 1 + 1 + 16, 1 + 1 + 1 + 1 + 1, 1 + 1 + 1 + 3 + 2 + 1 + 1, len("variable 'x' is not declared"),
+          1 + 1 + 1 + 3 + 2 + 1 + 1, len("assign to undeclared variable 'x'")])
+measured("steps_of_a_handler_that_is_called", "So it is where `gsub` asks the table of global variables.",
+         "return {f=function() require('strict') pcall(string.gsub,'x','x',_G) end}", [1 + 1 + 1 + 1 + 1 + 16, 1 + 1 + 1 + 3 + 3 + 1 + 1, 1 + 1, 1 + 1 + len("variable 'x' is not declared")])
 measured("steps_of_clone", "A table that holds itself: 8, and an entry.", "return {f=function() local t={} t[1]=t mw.clone(t) end}",
          [1 + 9, 1 + 1 + 2 + 1 + 4, 1 + 1 + 3 + 1 + 1 + 8 + 4])
 measured("steps_of_the_title", "A table with three entries.", "return {f=function() mw.title.getCurrentTitle() end}", [1 + 1 + 5 + 1 + 8 + 3 * 4])
@@ -360,7 +363,22 @@ of_frame("steps_of_no_parent", "The parent is a frame; that one has none, which 
 of_frame("steps_of_new_child", "A frame without arguments.", "frame:newChild({title='B'})", [1 + 1 + 1 + 9 + 1 + 1 + 4 + 1, 16])
 of_frame("steps_of_preprocess", "The bytes of the text.", "frame:preprocess('{{1}}')", [1 + 1 + 2 + 1, 5], "asks preprocess {{1}} in Module:X|1=x")
 of_frame("steps_of_expand_template", "The bytes of the title, `Template:T`.", "frame:expandTemplate({title='T'})", [1 + 1 + 1 + 9 + 1 + 1 + 4 + 1, 10], "asks template Template:T in Module:X|1=x")
+of_frame("steps_of_cleared_arguments", "A cleared entry that is passed costs a step.", "local t={x=1} t.x=nil frame:expandTemplate({title='T',args=t})",
+         [1 + 9 + 2 + 4, 1 + 3 + 1, 1 + 1 + 1 + 9 + 2 * (1 + 1 + 4) + 1, 1, 10], "asks template Template:T in Module:X|1=x")
+of_frame("steps_of_a_cleared_child", "So it does for a child.", "local t={x=1} t.x=nil frame:newChild({args=t})",
+         [1 + 9 + 2 + 4, 1 + 3 + 1, 1 + 1 + 1 + 9 + 1 + 1 + 4 + 1, 1, 16])
+of_frame("steps_of_a_bad_title", "A message that quotes the title costs its bytes at no place too; then no entry is looked at.",
+         "local t={x=1} t.x=nil pcall(frame.newChild,frame,{title='[',args=t})", [1 + 9 + 2 + 4, 1 + 3 + 1, 1 + 1 + 1 + 3 + 1 + 9 + 2 * (1 + 1 + 4) + 1 + 1, len("invalid title '['")])
+of_frame("steps_of_an_absent_template", "Nor is the message free that there is no template; a step is gone with the answer.", "pcall(frame.expandTemplate,frame,{title='U'})",
+         [1 + 1 + 1 + 3 + 1 + 9 + 1 + 1 + 4 + 1 + 1, 10, 1, len("template 'U' does not exist")], replies=[(("none",), "-1")])
 of_frame("steps_of_extension_tag", "The bytes that are given, and those of `<br>`.", "frame:extensionTag('br')", [1 + 1 + 2 + 1, 2 + 4])
+
+
+measured("steps_of_cleared_attributes", "A cleared entry that `mw.text.tag` passes costs a step, up to a wrong one.",
+         "return {f=function() local t={x=1,[true]=1,y=1} t.x=nil t.y=nil pcall(mw.text.tag,'b',t) end}",
+         [1 + 9 + 3 * (2 + 4), 2 * (1 + 3 + 1), 1 + 1 + 1 + 5 + 2 + 1 + 1, 1, 1])
+body("messages_in_messages", "A message that quotes the one before it is paid for, so that the steps end long before the memory.", "local ok,m=true,'x'\nwhile true do ok,m=pcall(require,m) end",
+     levels=False, profile=True, runs=[("exact", AMPLE, CALLS, [], "spends steps, 0 left")])
 
 
 # ---- `mw.html`
@@ -375,6 +393,8 @@ create('p'):attr('style','') => <p style=""></p>
 create('p'):css('a','') => <p style="a:"></p>
 create('p'):css('a','b"<') => <p style="a:b&quot;&lt;"></p>
 create('p'):cssText('x:y;'):css('a','b') => <p style="x:y;;a:b"></p>
+create('p'):cssText(nil):css('a','b') => <p style="a:b"></p>
+create('p'):cssText() => <p></p>
 create('p'):attr('title','x&y>"<') => <p title="x&amp;y&gt;&quot;&lt;"></p>
 create('br') => <br />
 create('BR') => <BR></BR>
@@ -400,7 +420,8 @@ create(true) => ! bad argument #1 to 'create' (string expected, got boolean)
 create('p',1) => ! bad argument #2 to 'create' (table expected, got number)
 create('p'):node(true) => ! bad argument #2 to 'node' (string expected, got boolean)
 create('p'):wikitext('a',true) => ! bad argument #3 to 'wikitext' (string expected, got boolean)
-create('p'):cssText(nil) => ! bad argument #2 to 'cssText' (string expected, got nil)
+create('p'):cssText(true) => ! bad argument #2 to 'cssText' (string expected, got boolean)
+create('p'):cssText({}) => ! bad argument #2 to 'cssText' (string expected, got table)
 create('p'):attr() => ! bad argument #2 to 'attr' (string expected, got no value)
 create('p'):css('a',true) => ! bad argument #3 to 'css' (string expected, got boolean)
 create('p'):tag('b',true) => ! bad argument #3 to 'tag' (table expected, got boolean)

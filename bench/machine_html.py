@@ -173,7 +173,9 @@ def methods(run):
         return [it]
 
     def css_text(it, args, ls):
-        it.styles.append((None, a_text(run, ls, args, 2, b"cssText")))
+        text = text_if_any(run, ls, args, 2, b"cssText")
+        if text is not None:
+            it.styles.append((None, text))
         return [it]
 
     def done(it, args, ls):
@@ -197,7 +199,6 @@ def html(run):
         return Builtin(name, called)
 
     def create(args, ls):
-        run.tick(bytes_in(args))
         return [new_object(run, ls, args, 1, b"create", None)]
     run.methods = {name: method(name, does) for name, does in methods(run).items()}
     return [(b"create", create)]

@@ -29,7 +29,8 @@ renders("html_of_styles", "Styles, texts of styles, and the attribute that is al
     ("H('p'):css('a','b'):attr('style','x:y')", '<p style="x:y"></p>'),
     ("H('p'):css('a','b'):attr('style',nil)", '<p></p>'),
     ("H('p'):css('a','b\"<')", '<p style="a:b&quot;&lt;"></p>'),
-    ("H('p'):css{top=0}:cssText('x:y;'):css('a','b')", '<p style="top:0;x:y;;a:b"></p>')])
+    ("H('p'):css{top=0}:cssText('x:y;'):css('a','b')", '<p style="top:0;x:y;;a:b"></p>'),
+    ("H('p'):cssText(nil):css('a','b'):cssText()", '<p style="a:b"></p>'), ("H('p'):cssText('')", '<p style=""></p>')])
 renders("html_of_children", "Texts, numbers and objects, up to the first nil; children are not escaped.", [
     ("H('p'):wikitext('a',nil,'b')", '<p>a</p>'),
     ("H('p'):wikitext('a',1,'<b>'):newline():node('x'):node(nil):node(2):node()", '<p>a1<b>\\nx2</p>'),
@@ -73,7 +74,8 @@ refuses("html_refuses", "Arguments that are none; they are counted from the obje
     ("H,true", "bad argument #1 to 'create' (string expected, got boolean)"), ("H,'p',1", "bad argument #2 to 'create' (table expected, got number)"),
     ("H,'p',H('q')", "bad argument #2 to 'create' (table expected, got table)"), ("H('p').node,H('p'),true", "bad argument #2 to 'node' (string expected, got boolean)"),
     ("H('p').wikitext,H('p'),'a',true", "bad argument #3 to 'wikitext' (string expected, got boolean)"),
-    ("H('p').cssText,H('p'),nil", "bad argument #2 to 'cssText' (string expected, got nil)"), ("H('p').attr,H('p')", "bad argument #2 to 'attr' (string expected, got no value)"),
+    ("H('p').cssText,H('p'),true", "bad argument #2 to 'cssText' (string expected, got boolean)"), ("H('p').cssText,H('p'),{}", "bad argument #2 to 'cssText' (string expected, got table)"),
+    ("H('p').attr,H('p')", "bad argument #2 to 'attr' (string expected, got no value)"),
     ("H('p').attr,H('p'),{[{}]='x'}", "bad argument #2 to 'attr' (string expected, got table)"), ("H('p').attr,H('p'),{x={}}", "bad argument #3 to 'attr' (string expected, got table)"),
     ("H('p').css,H('p'),'a',true", "bad argument #3 to 'css' (string expected, got boolean)"), ("H('p').addClass,H('p'),{}", "bad argument #2 to 'addClass' (string expected, got table)"),
     ("H('p').getAttr,H('p')", "bad argument #2 to 'getAttr' (string expected, got no value)"), ("H('p').tag,H('p'),'b',true", "bad argument #3 to 'tag' (table expected, got boolean)"),
@@ -91,9 +93,9 @@ body("html_too_deep_by_tostring", "And for `tostring`.", CHAIN % 201 + "return t
 body("html_in_itself", "An object in itself is too deep.", MAKE + "local x=H('b')\nx:node(x):wikitext('t')\nreturn x", fails="Lua error: html tree nested too deeply", profile=True)
 
 
-# ---- steps, counted by hand
-ANY = 1 + 2 + 2 + 1 + 1 + 1 + 1
-counted("steps_of_an_object", "The bytes that are given; then the answer: an object begun, and seven bytes.", "mw.html.create('b')", "<b></b>", ANY + 1 + 7)
+# ---- steps, counted by hand: `create` costs its call alone
+ANY = 1 + 2 + 2 + 1 + 1 + 1
+counted("steps_of_an_object", "Nothing but the call; then the answer: an object begun, and seven bytes.", "mw.html.create('b')", "<b></b>", ANY + 1 + 7)
 counted("steps_of_its_text", "By `tostring` the same, and its name and its call.", "tostring(mw.html.create('b'))", "<b></b>", 1 + 1 + 1 + ANY + 1 + 7)
 counted("steps_of_two_objects", "Two begun, and their bytes.", "mw.html.create('b'):tag('i'):done()", "<b><i></i></b>", ANY + (1 + 1 + 1 + 1) + (1 + 1) + 2 + 14)
 counted("steps_of_classes", "The bytes that are given, the classes, and the value that is told.", "mw.html.create('b'):addClass('xy'):addClass('z'):getAttr('class')", "xy z",
@@ -111,7 +113,7 @@ MANY = MAKE + "local x,q,p=H('b'),H('b'),H('b')\nfor i=1,1000 do q:node(x) end\n
 # 500,501 objects are begun, of seven bytes each
 RENDERED = 500501 * 8
 # what begins a run with its module; `f`, the locals, both loops with five steps and a turn each time, `return`, and seven bytes of the answer
-MANY_TAKEN = (1000 + len("return {f=function(frame)\n" + MANY + "\nend}") + 1 + 24) + 1 + 6 + (1 + 3 * 5) + (3 + 1000 * 6) + (3 + 500 * 6) + 6 + RENDERED + 7
+MANY_TAKEN = (1000 + len("return {f=function(frame)\n" + MANY + "\nend}") + 1 + 24) + 1 + 6 + (1 + 3 * 4) + (3 + 1000 * 6) + (3 + 500 * 6) + 6 + RENDERED + 7
 body("html_of_half_a_million", "An object stands in another 1,000 times, and that one in a third 500 times: it is rendered 500,000 times.", MANY, levels=False, profile=True, runs=[
     ("took", AMPLE, CALLS, [], f"gives {500501 * 7}, {MANY_TAKEN} taken"), ("exact", MANY_TAKEN - 1, CALLS, [], "spends steps, 0 left"),
     ("exact", 2_000_000, CALLS, [], "spends steps, 0 left")])

@@ -213,7 +213,7 @@ def strict(run):
 
     def undeclared(words):
         def refuse(args, ls):
-            return run.raise_at(ls, words % text_of(nth(args, 1)))
+            return run.quote(ls, words % text_of(nth(args, 1)))
         return refuse
     run.globals.meta = Table(builtins([(b"__index", undeclared(b"variable '%s' is not declared")),
                                        (b"__newindex", undeclared(b"assign to undeclared variable '%s'"))]))
@@ -263,7 +263,7 @@ def f_load(run):
         title = title_of(text, "")
         title = title and title_text(title)
         if title is None:
-            run.raise_at(ls, b"data module '%s' not found" % text)
+            run.quote(ls, b"data module '%s' not found" % text)
         if title in run.loaded:
             return [run.loaded[title]]
         from machine_reference import shown
@@ -272,7 +272,7 @@ def f_load(run):
             run.loaded[title] = shared(told[1])
             return [run.loaded[title]]
         if told[0] == "none":
-            run.raise_at(ls, b"data module '%s' not found" % text)
+            run.quote(ls, b"data module '%s' not found" % text)
         raise Raised(told[1] if told[0] == "failed" else b"the answer does not belong to the question")
     return load_data
 
@@ -338,10 +338,19 @@ def field_or_text(value, name):
     return [value.get(name)] if isinstance(value, Table) else [value]
 
 
+def passing(run, table):
+    """The entries of a table in order of `next`; a cleared one is passed for a step."""
+    for key, value in table.slots:
+        if value is None:
+            run.tick(1)
+        else:
+            yield key, value
+
+
 def read_args(run, ls, value):
     """The entries of a table as arguments."""
     found = []
-    for key, entry in value.entries() if value is not None else []:
+    for key, entry in passing(run, value) if value is not None else []:
         name, text = text_in(key), (b"1" if entry else b"") if isinstance(entry, bool) else text_in(entry)
         if name is None or text is None:
             run.raise_at(ls, b"bad template arguments")
@@ -405,7 +414,7 @@ def methods(run):
 
     def titled(text, default, ls):
         title = title_of(text, default)
-        return run.raise_at(ls, b"invalid title '%s'" % text) if title is None else title_text(title)
+        return run.quote(ls, b"invalid title '%s'" % text) if title is None else title_text(title)
 
     def expand_template(args, ls):
         frame = a_frame(args, ls, b"expandTemplate")
@@ -416,7 +425,7 @@ def methods(run):
         from machine_reference import shown
         told = run.ask(f"template {shown(title)}{args_words(merged(found))} {frame.scene.words()}")
         if told[0] == "none":
-            run.raise_at(ls, b"template '%s' does not exist" % text)
+            run.quote(ls, b"template '%s' does not exist" % text)
         return text_answer(run, told)
 
     def new_child(args, ls):
@@ -469,7 +478,7 @@ def tag_by(run, names, attrs, content, ls):
     name = a_text(run, ls, names, 1, b"tag")
     if attrs is not None and not isinstance(attrs, Table):
         bad(run, ls, 2, b"tag", b"table expected, got " + kind_of(attrs))
-    inside = b"".join([attribute(run, ls, key, value) for key, value in attrs.entries()]) if attrs is not None else b""
+    inside = b"".join([attribute(run, ls, key, value) for key, value in passing(run, attrs)]) if attrs is not None else b""
     if content is None:
         behind = b">"
     elif content is False:

@@ -141,6 +141,12 @@ class Run:
             self.tick(len(value))
         raise Raised(value)
 
+    def quote(self, levels, value):
+        """An error at level 1 whose message quotes a text of the call: it costs its bytes at no place too."""
+        if not levels:
+            self.tick(len(value))
+        self.raise_at(levels, value)
+
     def attempt(self, levels, what, value):
         self.raise_at(levels, b"attempt to %s a %s value" % (what, kind_of(value)))
 
@@ -511,9 +517,9 @@ class Run:
         """A module by its title, None where the text is none."""
         if title in self.modules:
             value = self.modules[title]
-            return self.raise_at(levels, b"loop in require of '%s'" % text) if value is None else value
+            return self.quote(levels, b"loop in require of '%s'" % text) if value is None else value
         if title not in self.world.modules:
-            self.raise_at(levels, b"module '%s' not found" % text)
+            self.quote(levels, b"module '%s' not found" % text)
         self.modules[title] = None
         try:
             value = first(self.run_chunk(title))

@@ -192,6 +192,8 @@ def of_example(example):
             continue
         if end[0] == "Counts":
             case.nodes, end = end[1], ("Gives", "")
+        if end[0] == "Notes":
+            end = ("Gives", end[2])
         exact = end[0] in ("Spends", "Loads", "Asks") or len(end) > 2
         left = end[2] if end[0] in ("Spends", "Asks", "Gives", "Fails") and len(end) > 2 else end[1] if end[0] == "Loads" else 0
         said = f"{case.name}: {end_words(end)}" + (f", {left} left" if exact else "")

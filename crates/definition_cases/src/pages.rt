@@ -9,6 +9,8 @@ fn laws_of_page_run(_rt: HostRuntime) -> Result<(), Fail> {
     page_run::events::ends::<(), u64, u8, u8, u8, u64>();
     page_run::events::takes::<(), u64, u8, u8, u8, u64>();
     page_run::events::counts::<(), u64, u8, u8, u8, u64>();
+    page_run::events::notes::<(), u64, u8, u8, u8, u64>();
+    page_run::events::traces::<(), u64, u8, u8, u8, u64>();
     page_run::events::sees::<(), u64, u8, u8, u8, u64>();
     page_run::events::changes::<(), u64, u8, u8, u8, u64>();
     page_run::events::calls::<(), u64, u8, u8, u8, u64>();
@@ -35,11 +37,17 @@ fn laws_of_page_run(_rt: HostRuntime) -> Result<(), Fail> {
     page_run::loads::repeat_is_kept();
     page_run::loads::other_is_fresh();
     page_run::loads::walk_of_joined();
+    Ok(())
+}
+
+#[test]
+fn examples_of_page_run(_rt: HostRuntime) -> Result<(), Fail> {
     page_run::examples::charges_are_taken();
     page_run::examples::endless_loop_is_spent();
     page_run::examples::uses_are_answered();
     page_run::examples::nesting_ends_with_nodes();
     page_run::examples::questions_are_answered();
+    page_run::examples::notes_are_collected();
     page_run::examples::jumps_are_caught();
     Ok(())
 }

@@ -4,6 +4,7 @@
 //! - `raising`: errors with their values, and why a function of the library gives no values
 //! - `texts`: texts that are given, which cost their bytes
 //! - `protected`: `pcall` and `xpcall`
+//! - `strict`: the handlers that `require('strict')` sets
 //! - `strings`: `tostring`
 //! - `walks`: `pairs`, `ipairs`, and a step of `ipairs`
 //!
@@ -14,12 +15,14 @@
 pub mod exits;
 pub mod protected;
 pub mod raising;
+pub mod strict;
 pub mod strings;
 pub mod texts;
 pub mod walks;
 
 pub use protected::{handler_answer, pcall, pcall_answer, xpcall, xpcall_answer};
 pub use raising::{raise, raise_at, refuse};
+pub use strict::{strict_index, strict_new_index};
 pub use strings::{string_answer, to_string};
 pub use texts::give_text;
 pub use walks::{ipairs, ipairs_step, pairs, three_answer};

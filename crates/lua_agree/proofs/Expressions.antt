@@ -28,7 +28,7 @@ use Rattle.lua_agree.specs.Variables.{Var, Inside}
 use Rattle.lua_agree.specs.Functions.{SameFunction, here}
 use Rattle.lua_agree.specs.Rests.{After, alone, SameRest, at_first, at_key, at_decide, at_operand, at_unary, at_arguments, at_method_of, at_last, at_more}
 use Rattle.lua_agree.specs.Agree.{evaluates, Base, Rel}
-use Rattle.lua_agree.specs.Follows.{Follows, takes, counts, sees, changes}
+use Rattle.lua_agree.specs.Follows.{Follows, notes, takes, counts, sees, changes}
 use Rattle.lua_agree.proofs.Carries.{inside-grows, rest-grows, function-grows}
 use Rattle.lua_agree.proofs.Parts.{each-length, one-value, rel-moved, here-now, values-on}
 use Rattle.lua_agree.proofs.Index.{indexes-table}
@@ -124,7 +124,7 @@ module _ (world : World) (code : CWorld) (B : Base) {m : Map} {vars : List Var} 
         (subst (λ u. Follows world code B (expression (NameE line x) scope k) h (machine.node (machine_index.index_table s.globals (Text u) (Some line) (First ∷ fs) s))) (sym e.1)
         (takes _ _ _ _ (counts _ _ _
         (subst (λ o. Follows world code B (variable o x (levels scope line) (alone k)) h (machine_index.index_table s.globals (Text x) (Some line) (First ∷ fs) s)) (sym (i.globals x e.0))
-        (sees _ _ _ (indexes-table world code B r (at_first vars s.functions k fs g) (levels scope line) (Some line) (i.levels line) h.globals s.globals r.globals (text x)))))))
+        (notes _ _ _ _ _ (sees _ _ _ (indexes-table world code B r (at_first vars s.functions k fs g) (levels scope line) (Some line) (i.levels line) h.globals s.globals r.globals (text x))))))))
     evals (IndexE line of key) (IndexC c d l) e = rw e.0 (takes _ _ _ _ (counts _ _ _ (here-now world code B r (evaluates of c see scope _ _ e.1 i (at_key vars s.functions key d line see scope k fs e.2 i g)))))
     evals (CallE line f es) (CallC c cs l) e = rw e.0 (takes _ _ _ _ (counts _ _ _ (here-now world code B r (evaluates f c see scope _ _ e.1 i (at_arguments vars s.functions es cs line see scope k fs e.2 i g)))))
     evals (MethodE line of x es) (MethodC c y cs l) e =

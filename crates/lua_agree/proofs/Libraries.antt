@@ -13,9 +13,9 @@ use Rattle.lua_meaning.specs.Messages.{no_template, wrong_answer}
 use Rattle.lua_meaning.specs.FrameMethods.{FramedEnd, Framed}
 use Rattle.lua_meaning.specs.Gsub.{Alphabet, nothing_yet, GsubForm, does_gsub, gsub}
 use Rattle.lua_meaning.specs.Pending.{Pending, resumes, text_answer, template_answer, hears}
-use Rattle.lua_meaning.specs.Libraries.{Caller, Pcall, Xpcall, ToString, Pairs, Ipairs, NextPlace, Require, LoadData, Gsub, Form, framed_end, framed_act, call_back, do_form}
+use Rattle.lua_meaning.specs.Libraries.{Caller, Pcall, Xpcall, ToString, Pairs, Ipairs, NextPlace, Require, LoadData, StrictRead, StrictWrite, Gsub, Form, framed_end, framed_act, call_back, do_form}
 use Rattle.lua_meaning.specs.Things.{enter_library}
-use Rattle.lua_library_agree.specs.Same.{SameFramedEnd, both_end, both_ask, both_walk, SameFramed, SameForm, both_answer, both_see, both_call}
+use Rattle.lua_library_agree.specs.Same.{SameFramedEnd, both_end, both_quote, both_ask, both_walk, SameFramed, SameForm, both_answer, both_see, both_call}
 use Rattle.lua_library_agree.specs.SameGsub.{SameGsub, alike_answers, alike_asks}
 use Rattle.lua_library_agree.proofs.GsubAgree.{gsub_agrees}
 use Rattle.lua_library_agree.proofs.LibraryLaws.{library_agrees}
@@ -32,11 +32,11 @@ use Rattle.lua_agree.specs.Rests.{After, SameRest, at_library, at_hearing}
 use Rattle.lua_agree.specs.Agree.{asks, Base, Rel}
 use Rattle.lua_agree.specs.Follows.{Follows, takes, counts, calls, sees, changes}
 use Rattle.lua_agree.proofs.Carries.{rest-grows, function-grows}
-use Rattle.lua_agree.proofs.Parts.{one-value, rest-jumps, rel-moved, rel-frames, here-now, passes-on, fails}
+use Rattle.lua_agree.proofs.Parts.{one-value, rest-jumps, rel-moved, rel-frames, here-now, passes-on, fails-quoting}
 use Rattle.lua_agree.proofs.Plain.{ends-on, plain-on}
 use Rattle.lua_agree.proofs.CallBacks.{text-on, pcall-on, xpcall-on, to_string-on, pairs-on, ipairs-on, ipairs_step-on, pcall-answers, xpcall-answers, handler-answers, string-answers, three-answers}
 use Rattle.lua_agree.proofs.Replacing.{replaces-on, gsub-answers}
-use Rattle.lua_agree.proofs.Modules.{requires, loads, module-answers, data-answers}
+use Rattle.lua_agree.proofs.Modules.{requires, loads, strict-reads, strict-writes, module-answers, data-answers}
 
 module _ (world : World) (code : CWorld) (B : Base) {m : Map} {vars : List Var} {h : State} {s : Slots} (r : Rel code B m vars h s) where
   -- WHAT WAITS, for a call
@@ -68,7 +68,7 @@ module _ (world : World) (code : CWorld) (B : Base) {m : Map} {vars : List Var} 
     text-answers (jumps_ j j' e) = wrong-on
 
     template-answers : (bytes : Bytes) {o o' : Outcome (List Value) Jump} → SameOutcome m o o' → Follows world code B (template_answer bytes ls o k) h (machine_library.template_answer bytes o' line fs s)
-    template-answers bytes (values_ _ _ none) = fails world code B r line (rest-jumps code g) l (no_template bytes)
+    template-answers bytes (values_ _ _ none) = fails-quoting world code B r line (rest-jumps code g) l (no_template bytes)
     template-answers bytes (values_ _ _ (more v w vs ws x es)) = text-answers (values_ _ _ (more v w vs ws x es))
     template-answers bytes (jumps_ j j' e) = text-answers (jumps_ j j' e)
 
@@ -81,6 +81,7 @@ module _ (world : World) (code : CWorld) (B : Base) {m : Map} {vars : List Var} 
   module _ {k : After (List Value)} {fs : List SFrame} (g : SameRest code m vars s.functions k fs) (ls : Levels) (line : Option ℕ) (l : ls ≡ levels_at s.functions line) where
     framed-ends-on : {a b : FramedEnd} → SameFramedEnd m a b → Follows world code B (framed_end a ls k) h (machine_library.framed_end b line fs s)
     framed-ends-on (both_end a b e) = ends-on world code B r g ls line l e
+    framed-ends-on (both_quote message) = fails-quoting world code B r line (rest-jumps code g) l message
     framed-ends-on (both_ask question asked) = here-now world code B r (asks question _ _ (at_hearing vars s.functions asked ls line k fs l g))
     framed-ends-on (both_walk v w e) = pairs-on world code B r g ls line l (one-value e)
 
@@ -108,6 +109,8 @@ module _ (world : World) (code : CWorld) (B : Base) {m : Map} {vars : List Var} 
   calls-back-on w NextPlace es = ipairs_step-on world code B r g ls line l es
   calls-back-on w Require es = requires world code B r g ls line l w es
   calls-back-on w LoadData es = loads world code B r g ls line l es
+  calls-back-on w StrictRead es = strict-reads world code B r g ls line l es
+  calls-back-on w StrictWrite es = strict-writes world code B r g ls line l es
   calls-back-on w (Gsub a) es = gsub-on a es
 
   form-on : Agrees world code → {a : Form Function} {b : Form Proc} {vs ws : List Value} → SameForm (SameFunction code) m h.heap s.heap a b → Each (Same m) vs ws

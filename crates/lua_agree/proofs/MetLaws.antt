@@ -3,7 +3,7 @@ use Rattle.std.proofs.Common.{◌≡◌, ℕ, zero, suc, List, Option, Some, Non
 use Rattle.page_run.specs.Outcome.{Outcome}
 use Rattle.page_run.specs.State.{Reply, Event}
 use Rattle.page_run.specs.Perform.{less, give_back, perform, wait, with_steps, with_call, NoRise}
-use Rattle.page_run.proofs.Enough.{perform-Takes, perform-Counts, perform-Sees, perform-Changes, perform-Calls, perform-Leaves, perform-Begins}
+use Rattle.page_run.proofs.Enough.{perform-Takes, perform-Counts, perform-Notes, perform-Sees, perform-Changes, perform-Calls, perform-Leaves, perform-Begins}
 use Rattle.mw_frame.specs.declared.question.Ask.{Ask}
 use Rattle.lua_heap.specs.Value.{Value}
 use Rattle.lua_meaning.specs.Questions.{Answer}
@@ -16,7 +16,7 @@ use Rattle.lua_slots.specs.Enact as money
 use Rattle.lua_slots.specs.Enact.{Funds, Enacted, Stands, Short, paid, calling, called, marked, enact}
 use Rattle.lua_agree.specs.Agree.{Base}
 use Rattle.lua_agree.specs.Laws.{NextIsMet}
-use Rattle.lua_agree.specs.Follows.{Follows, takes, counts, calls, leaves, sees, changes, begins, now}
+use Rattle.lua_agree.specs.Follows.{Follows, takes, counts, calls, leaves, notes, sees, changes, begins, now}
 use Rattle.lua_agree.specs.Met.{state_of, comes_to, Met, goes_to, is_spent}
 use Rattle.lua_agree.proofs.Moves.{goes_on}
 
@@ -52,6 +52,7 @@ module _ (world : World) (code : CWorld) (B : Base) where
   leads (calls p h mv x) f = met-from _ _ _ (λ replies. perform-Calls (meaning_of world) wait no-replies p (state_of h f replies)) (enters (less 1 f.left.calls) p h mv f (λ g. leads x g))
   leads (leaves p h mv x) f =
       met-from _ _ _ (λ replies. perform-Leaves (meaning_of world) wait no-replies p (state_of h f replies) ∙ ap (perform (meaning_of world) wait p) (one-back f.in_progress h f replies)) (leads x (money.back f.in_progress f))
+  leads (notes source name p h mv x) f = met-from _ _ _ (λ replies. perform-Notes (meaning_of world) wait no-replies source name p (state_of h f replies)) (leads x f)
   leads (sees q h mv x) f = met-from _ _ _ (λ replies. perform-Sees (meaning_of world) wait no-replies q (state_of h f replies)) (leads x f)
   leads (changes i p h mv x) f = met-from _ _ _ (λ replies. perform-Changes (meaning_of world) wait no-replies i p (state_of h f replies)) (leads x f)
   leads (begins t k h mv x) f = met-from _ _ _ (λ replies. perform-Begins (meaning_of world) wait no-replies t k (state_of h f replies)) (pays (less 1 f.left.steps) (meaning_of world t k) h mv f (λ g. leads x g))

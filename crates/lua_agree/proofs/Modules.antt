@@ -17,10 +17,12 @@ use Rattle.lua_meaning.specs.World.{Module, World}
 use Rattle.lua_meaning.specs.Titled.{Titled, ByTitle, same_title, item_of, with_item, without_item}
 use Rattle.lua_meaning.specs.Questions.{DataAsked}
 use Rattle.lua_meaning.specs.Acts.{Jump, State, Raised, Progress, ChunkBody}
-use Rattle.lua_meaning.specs.Messages.{no_module, loop_in_require, no_data_module, wrong_answer}
-use Rattle.lua_meaning.specs.Modules.{begin_chunk, run_chunk, value_or_true, module_answer, run_module, require_as, require_module, require_strict, require_titled, require_text, require, data_answer, load_as, load_titled, load_data}
+use Rattle.lua_meaning.specs.Messages.{no_module, loop_in_require, no_data_module, undeclared_variable, undeclared_target, wrong_answer}
+use Rattle.lua_meaning.specs.Values.{second}
+use Rattle.lua_meaning.specs.CallBacks.{text_of}
+use Rattle.lua_meaning.specs.Modules.{begin_chunk, run_chunk, value_or_true, module_answer, run_module, require_as, require_module, require_strict, require_titled, require_text, require, strict_index, strict_new_index, data_answer, load_as, load_titled, load_data}
 use Rattle.lua_meaning.specs.Pending.{ModuleWaits}
-use Rattle.lua_library_agree.proofs.Values.{a_text-same}
+use Rattle.lua_library_agree.proofs.Values.{second-same, text_of-same, a_text-same}
 use Rattle.lua_library_agree.proofs.Heaps.{chosen}
 use Rattle.lua_library_agree.proofs.LibraryLaws.{strict_agrees}
 use Rattle.lua_slots.specs.Code.{Protos, CModule, CWorld}
@@ -37,7 +39,7 @@ use Rattle.lua_agree.specs.Rests.{After, SameRest, at_hearing}
 use Rattle.lua_agree.specs.Agree.{texts_of, starts, asks, Base, Rel}
 use Rattle.lua_agree.specs.Follows.{Follows, takes, sees, changes}
 use Rattle.lua_agree.proofs.Carries.{rest-grows, function-grows}
-use Rattle.lua_agree.proofs.Parts.{first-same, one-value, rest-jumps, branches, rel-moved, rel-modules, rel-data, here-now, values-on, passes-on, fails}
+use Rattle.lua_agree.proofs.Parts.{first-same, one-value, rest-jumps, branches, rel-moved, rel-modules, rel-data, here-now, values-on, passes-on, fails-quoting}
 use Rattle.lua_agree.proofs.CallBacks.{waiting, argument-equal}
 
 -- WHAT IS KEPT BY TITLE, on both sides
@@ -101,8 +103,8 @@ module _ (world : World) (code : CWorld) (B : Base) {m : Map} {vars : List Var} 
     requires-as : (bytes : Bytes) (title : Title) (o p : Option Progress) → SameOption (SameProgress m) o p → (x : Option Module) (y : Option CModule) → code.modules (title_text title) ≡ y → IsModule x y
         → Follows world code B (require_as bytes title o x ls k) h (machine_modules.require_as bytes title p y line fs s)
     requires-as bytes title _ _ (both _ _ (finished v w e)) x y c is = values-on world code B r g (one-value e)
-    requires-as bytes title _ _ (both _ _ running) x y c is = fails world code B r line (rest-jumps code g) l (loop_in_require bytes)
-    requires-as bytes title _ _ neither None None c is = fails world code B r line (rest-jumps code g) l (no_module bytes)
+    requires-as bytes title _ _ (both _ _ running) x y c is = fails-quoting world code B r line (rest-jumps code g) l (loop_in_require bytes)
+    requires-as bytes title _ _ neither None None c is = fails-quoting world code B r line (rest-jumps code g) l (no_module bytes)
     requires-as bytes title _ _ neither (Some x) (Some y) c is = runs-module title x y c is
     requires-as bytes title _ _ neither (Some x) None c is = absurd is
     requires-as bytes title _ _ neither None (Some y) c is = absurd is
@@ -113,13 +115,24 @@ module _ (world : World) (code : CWorld) (B : Base) {m : Map} {vars : List Var} 
 
     requires-titled : Agrees world code → (bytes : Bytes) (x : Result Title TitleFault) → Follows world code B (require_titled world bytes x ls k) h (machine_modules.require_titled code bytes x line fs s)
     requires-titled w bytes (Ok title) = requires-module world w bytes title
-    requires-titled w bytes (Err fault) = fails world code B r line (rest-jumps code g) l (no_module bytes)
+    requires-titled w bytes (Err fault) = fails-quoting world code B r line (rest-jumps code g) l (no_module bytes)
 
     pub requires : Agrees world code → {vs ws : List Value} → Each (Same m) vs ws → Follows world code B (require world vs ls k) h (machine_modules.require code ws line fs s)
     requires w es =
         argument-equal world code B r _ _ line (λ bytes. require_text world bytes ls) _ (rest-jumps code g) l (a_text-same 1 (codes "require") es) (λ bytes.
         branches world code B require_strict (require_titled world bytes (title_of bytes Main) ls) (bytes_eq bytes (codes "strict")) (bytes_eq bytes (codes "strict")) refl
         (λ _. strict-on world code B r g) (λ _. requires-titled w bytes (title_of bytes Main)))
+
+    -- the handlers of `strict`
+    pub strict-reads : {vs ws : List Value} → Each (Same m) vs ws → Follows world code B (strict_index vs ls k) h (machine_modules.strict_index ws line fs s)
+    strict-reads {vs} {ws} es =
+        subst (λ (t : Bytes). Follows world code B (strict_index vs ls k) h (machine.fails_quoting line (undeclared_variable t) fs s)) (text_of-same (second-same es))
+        (fails-quoting world code B r line (rest-jumps code g) l (undeclared_variable (text_of (second vs))))
+
+    pub strict-writes : {vs ws : List Value} → Each (Same m) vs ws → Follows world code B (strict_new_index vs ls k) h (machine_modules.strict_new_index ws line fs s)
+    strict-writes {vs} {ws} es =
+        subst (λ (t : Bytes). Follows world code B (strict_new_index vs ls k) h (machine.fails_quoting line (undeclared_target t) fs s)) (text_of-same (second-same es))
+        (fails-quoting world code B r line (rest-jumps code g) l (undeclared_target (text_of (second vs))))
 
     -- `mw.loadData`
     loads-as : (bytes : Bytes) (title : Title) (o p : Option Value) → SameOption (Same m) o p → Follows world code B (load_as bytes title o ls k) h (machine_modules.load_as bytes title p line fs s)
@@ -128,7 +141,7 @@ module _ (world : World) (code : CWorld) (B : Base) {m : Map} {vars : List Var} 
 
     loads-titled : (bytes : Bytes) (x : Result Title TitleFault) → Follows world code B (load_titled bytes x ls k) h (machine_modules.load_titled bytes x line fs s)
     loads-titled bytes (Ok title) = sees _ _ _ (loads-as bytes title _ _ (item-same (Same m) r.data_modules title))
-    loads-titled bytes (Err fault) = fails world code B r line (rest-jumps code g) l (no_data_module bytes)
+    loads-titled bytes (Err fault) = fails-quoting world code B r line (rest-jumps code g) l (no_data_module bytes)
 
     pub loads : {vs ws : List Value} → Each (Same m) vs ws → Follows world code B (load_data vs ls k) h (machine_modules.load_data ws line fs s)
     loads es = argument-equal world code B r _ _ line (λ bytes. load_titled bytes (title_of bytes Main) ls) _ (rest-jumps code g) l (a_text-same 1 (codes "loadData") es) (λ bytes. loads-titled bytes (title_of bytes Main))
@@ -138,7 +151,7 @@ module _ (world : World) (code : CWorld) (B : Base) {m : Map} {vars : List Var} 
     wrong-on = passes-on world code B r g (raised _ _ (text wrong_answer))
 
     pub data-answers : (bytes : Bytes) (title : Title) {o o' : Outcome (List Value) Jump} → SameOutcome m o o' → Follows world code B (data_answer bytes title ls o k) h (machine_modules.data_answer bytes title o' line fs s)
-    data-answers bytes title (values_ _ _ none) = fails world code B r line (rest-jumps code g) l (no_data_module bytes)
+    data-answers bytes title (values_ _ _ none) = fails-quoting world code B r line (rest-jumps code g) l (no_data_module bytes)
     data-answers bytes title (values_ _ _ (more _ _ _ _ (table a b e) none)) =
         sees _ _ _ (changes _ _ _ _ (values-on world code B (rel-data code r (with_item-same (Same m) r.data_modules title (table a b e))) g (one-value (table a b e))))
     data-answers bytes title (values_ _ _ (more _ _ _ _ (table a b e) (more _ _ _ _ f es))) = wrong-on

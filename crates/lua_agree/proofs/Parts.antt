@@ -16,7 +16,7 @@ use Rattle.lua_meaning.specs.Values.{first, rest, second, third, is_function, nu
 use Rattle.lua_meaning.specs.CallBacks.{text_of}
 use Rattle.lua_meaning.specs.Acts.{Act, Jump, State, Body, LibraryBody, CallLink, LuaRun, Progress, Frame, choose}
 use Rattle.lua_meaning.specs.Titled.{ByTitle}
-use Rattle.lua_meaning.specs.Messages.{nth_level, raise_text, fail, cannot_call}
+use Rattle.lua_meaning.specs.Messages.{nth_level, raise_text, fail, raise_quote, fail_quoting, cannot_call}
 use Rattle.lua_meaning.specs.Metatables.{field, handler, either_handler, common_handler}
 use Rattle.lua_meaning.specs.Calls.{enter, call_by, call}
 use Rattle.lua_meaning.specs.World.{World}
@@ -203,6 +203,13 @@ module _ (world : World) (code : CWorld) (B : Base) {m : Map} {vars : List Var} 
 
   pub fails : {X : Type 0} {k : After X} {fs : List SFrame} {ls : Levels} (line : Option ℕ) → OnJump code m vars s.functions X k fs → ls ≡ levels_at s.functions line → (t : Bytes) → Follows world code B (fail ls t k) h (machine.fails line t fs s)
   fails {k = k} {fs = fs} line o e t = subst (λ (ls : Levels). Follows world code B (fail ls t k) h (machine.fails line t fs s)) (sym e) (raises o (nth_level (levels_at s.functions line) 1) t)
+
+  quotes : {X : Type 0} {k : After X} {fs : List SFrame} → OnJump code m vars s.functions X k fs → (p : Option TextPlace) (t : Bytes) → Follows world code B (raise_quote p t k) h (machine.raises_quote p t fs s)
+  quotes o None t = takes _ _ _ _ (jump-on o (raised _ _ (text t)))
+  quotes o (Some p) t = raises o (Some p) t
+
+  pub fails-quoting : {X : Type 0} {k : After X} {fs : List SFrame} {ls : Levels} (line : Option ℕ) → OnJump code m vars s.functions X k fs → ls ≡ levels_at s.functions line → (t : Bytes) → Follows world code B (fail_quoting ls t k) h (machine.fails_quoting line t fs s)
+  fails-quoting {k = k} {fs = fs} line o e t = subst (λ (ls : Levels). Follows world code B (fail_quoting ls t k) h (machine.fails_quoting line t fs s)) (sym e) (quotes o (nth_level (levels_at s.functions line) 1) t)
 
   pub fails-with : {X : Type 0} {k : After X} {fs : List SFrame} {ls : Levels} (line : Option ℕ) → OnJump code m vars s.functions X k fs → ls ≡ levels_at s.functions line → {t t' : Bytes} → t ≡ t' → Follows world code B (fail ls t k) h (machine.fails line t' fs s)
   fails-with {k = k} {fs = fs} {ls = ls} line o e {t} q = subst (λ (z : Bytes). Follows world code B (fail ls t k) h (machine.fails line z fs s)) q (fails line o e t)

@@ -29,7 +29,7 @@ use Rattle.lua_agree.specs.Values.{SameJump, returned, broke, raised, SameTarget
 use Rattle.lua_agree.specs.Functions.{here, end_of, IsOther, other_of}
 use Rattle.lua_agree.specs.Rests.{After, first_of, stays, dropped, all_targets, more_targets, more_sets, leaving, SameRest, at_target_key, at_target, at_assign, at_sets, at_declare, at_stats, at_branch, at_while, at_count_from, at_each_values, at_return, SameEnd, ends_block}
 use Rattle.lua_agree.specs.Agree.{SamePoint, ends, evaluates, lists, finds, sets, runs, starts, repeat_turns, Base, Rel}
-use Rattle.lua_agree.specs.Follows.{Follows, takes, counts, leaves, sees, changes}
+use Rattle.lua_agree.specs.Follows.{Follows, notes, takes, counts, leaves, sees, changes}
 use Rattle.lua_agree.proofs.Carries.{inside-grows, end-grows}
 use Rattle.lua_agree.proofs.Parts.{first-same, rest-same, each-join, true-same, here-now, values-on, passes-on}
 use Rattle.lua_agree.proofs.Parts as parts
@@ -90,7 +90,7 @@ module _ (world : World) (code : CWorld) (B : Base) {m : Map} {vars : List Var} 
 
         one : (t : Target) (u : STarget) → SameTarget m vars s.functions t u → Follows world code B (meaning.assign_one t p.1 (more_sets ps scope k)) h (machine.sets_one u q.1 (SetsNext qs ∷ fs) s)
         one _ _ (places c d e) = writes world code B r (more_sets ps scope k) after d c e x.value
-        one _ _ (globals_ y ls line e) = sees _ _ _ (sets-index world code B r (more_sets ps scope k) after ls (Some line) e (table _ _ r.globals) (text y) x.value)
+        one _ _ (globals_ y ls line e) = notes _ _ _ _ _ (sees _ _ _ (sets-index world code B r (more_sets ps scope k) after ls (Some line) e (table _ _ r.globals) (text y) x.value))
         one _ _ (entries_ a b c d ls line e f l) = sets-index world code B r (more_sets ps scope k) after ls (Some line) l e f x.value
 
   -- BLOCKS OF THEIR OWN and conditions (2.4.4)

@@ -1,7 +1,7 @@
 -- A MOVE FOLLOWS A RUN: from a state on, the run over names has the events of the move, one by one, and then stands where the
--- machine stands. That it sees and changes its state are events of the run alone.
+-- machine stands. That it sees and changes its state, and what it notes, are events of the run alone.
 use Rattle.std.specs.Prelude.{ℕ, List}
-use Rattle.page_run.specs.Run.{Takes, Counts, Sees, Changes, Calls, Leaves, Begins}
+use Rattle.page_run.specs.Run.{Takes, Counts, Notes, Sees, Changes, Calls, Leaves, Begins}
 use Rattle.lua_heap.specs.Value.{Value}
 use Rattle.lua_heap.specs.Related.{Map}
 use Rattle.lua_meaning.specs.Acts.{State, Thing, LuaRun}
@@ -20,6 +20,7 @@ module _ (world : World) (code : CWorld) (B : Base) where
     counts : (p : LuaRun) (h : State) (mv : Move) → Follows p h mv → Follows (Counts p) h (Marks mv)
     calls : (p : LuaRun) (h : State) (mv : Move) → Follows p h mv → Follows (Calls p) h (Enters mv)
     leaves : (p : LuaRun) (h : State) (mv : Move) → Follows p h mv → Follows (Leaves p) h (Exits mv)
+    notes : (source name : List ℕ) (p : LuaRun) (h : State) (mv : Move) → Follows p h mv → Follows (Notes source name p) h mv
     sees : (f : State → LuaRun) (h : State) (mv : Move) → Follows (f h) h mv → Follows (Sees f) h mv
     changes : (i : State) (p : LuaRun) (h : State) (mv : Move) → Follows p i mv → Follows (Changes i p) h mv
     begins : (t : Thing) (k : After (List Value)) (h : State) (mv : Move) → Follows (meaning_of world t k) h mv → Follows (Begins t k) h (Costs 1 mv)

@@ -24,10 +24,10 @@ use Rattle.lua_meaning.specs.Metatables.{handler}
 use Rattle.lua_meaning.specs.Arguments.{Plain, a_table, a_number, a_text}
 use Rattle.lua_meaning.specs.Html.{text_of_object}
 use Rattle.lua_meaning.specs.CallBacks.{text_of}
-use Rattle.lua_meaning.specs.FrameMethods.{FramedEnd, FrameEnds, FrameAsks, FrameWalks}
+use Rattle.lua_meaning.specs.FrameMethods.{FramedEnd, FrameEnds, FrameQuotes, FrameAsks, FrameWalks}
 use Rattle.lua_meaning.specs.Gsub.{Replacement, ByText, ByTable, ByFunction, Job, Far, Replacing, Search, NoMatch, Matched, search, replacement_given, with_piece, nothing_yet, GsubForm, GsubAnswers, GsubAsks, gsub_form}
 use Rattle.lua_meaning.specs.Pending.{Pending, PcallWaits, XpcallWaits, HandlerWaits, ToStringWaits, PairsWaits, GsubWaits, ModuleWaits}
-use Rattle.lua_meaning.specs.Libraries.{Caller, Pcall, Xpcall, ToString, Pairs, Ipairs, NextPlace, Require, LoadData, Gsub, Form, Answers, InFrames, CallsBack}
+use Rattle.lua_meaning.specs.Libraries.{Caller, Pcall, Xpcall, ToString, Pairs, Ipairs, NextPlace, Require, LoadData, StrictRead, StrictWrite, Gsub, Form, Answers, InFrames, CallsBack}
 use Rattle.lua_meaning.specs.Start.{Work, Invoke, DataOf, Failed}
 use Rattle.lua_asks.proofs.NoData.{AsksNoData, NeedsNoData}
 use Rattle.lua_meaning.specs.Arguments.{Argument}
@@ -41,7 +41,7 @@ use Rattle.lua_slots.specs.Modules as modules
 use Rattle.lua_slots.specs.Libraries as libraries
 use Rattle.lua_slots.specs.Starts as starts
 use Rattle.lua_asks.proofs.Loading.{IsGood, calm, loads, asks_anew}
-use Rattle.lua_asks.proofs.CalmValues.{IsCalm, still, both, fails, ends, with_argument, call, index, index_table}
+use Rattle.lua_asks.proofs.CalmValues.{IsCalm, still, both, fails, fails_quoting, ends, with_argument, call, index, index_table}
 
 -- FUNCTIONS THAT CALL BACK
 pub pcall_answer : (o : Outcome (List Value) Jump) (fs : List SFrame) (s : Slots) → IsCalm s.data_ (callbacks.pcall_answer o fs s)
@@ -135,16 +135,16 @@ module_answer title (Jumps j) fs s = still (refl, tt)
 
 require_as : (text : Bytes) (title : Title) (p : Option Progress) (m : Option CModule) (line : Option ℕ) (fs : List SFrame) (s : Slots) → IsCalm s.data_ (modules.require_as text title p m line fs s)
 require_as text title (Some (Finished v)) m line fs s = still (refl, tt)
-require_as text title (Some Running) m line fs s = fails line _ fs s
+require_as text title (Some Running) m line fs s = fails_quoting line _ fs s
 require_as text title None (Some m) line fs s = runs_text title m _ _
-require_as text title None None line fs s = fails line _ fs s
+require_as text title None None line fs s = fails_quoting line _ fs s
 
 require_module : (world : CWorld) (text : Bytes) (title : Title) (line : Option ℕ) (fs : List SFrame) (s : Slots) → IsCalm s.data_ (modules.require_module world text title line fs s)
 require_module world text title line fs s = require_as text title (item_of s.modules title) (world.modules (title_text title)) line fs s
 
 require_titled : (world : CWorld) (text : Bytes) (t : Result Title TitleFault) (line : Option ℕ) (fs : List SFrame) (s : Slots) → IsCalm s.data_ (modules.require_titled world text t line fs s)
 require_titled world text (Ok title) line fs s = require_module world text title line fs s
-require_titled world text (Err fault) line fs s = fails line _ fs s
+require_titled world text (Err fault) line fs s = fails_quoting line _ fs s
 
 require_text : (world : CWorld) (text : Bytes) (line : Option ℕ) (fs : List SFrame) (s : Slots) → IsCalm s.data_ (modules.require_text world text line fs s)
 require_text world text line fs s = both (bytes_eq text (codes "strict")) (Costs 16 (errors.gives (Truth true ∷ []) fs (modules.with_strict s))) _ (still (refl, tt)) (require_titled world text (title_of text Main) line fs s)
@@ -154,7 +154,7 @@ require world args line fs s = with_argument (a_text 1 (codes "require") args) l
 
 data_answer : (text : Bytes) (title : Title) (o : Outcome (List Value) Jump) (line : Option ℕ) (fs : List SFrame) (s : Slots) → IsGood s (modules.data_answer text title o line fs s)
 data_answer text title (Goes (Table t ∷ [])) line fs s = loads title (Table t) (Goes (Table t ∷ [])) fs s
-data_answer text title (Goes []) line fs s = calm (fails line _ fs s)
+data_answer text title (Goes []) line fs s = calm (fails_quoting line _ fs s)
 data_answer text title (Jumps (Raised v)) line fs s = calm (still (refl, tt))
 data_answer text title o line fs s = calm (still (refl, tt))
 
@@ -164,7 +164,7 @@ load_as text title None line fs s e = asks_anew text title line fs s e
 
 load_titled : (text : Bytes) (t : Result Title TitleFault) (line : Option ℕ) (fs : List SFrame) (s : Slots) → IsGood s (modules.load_titled text t line fs s)
 load_titled text (Ok title) line fs s = load_as text title (item_of s.data_ title) line fs s refl
-load_titled text (Err fault) line fs s = calm (fails line _ fs s)
+load_titled text (Err fault) line fs s = calm (fails_quoting line _ fs s)
 
 load_data : (args : List Value) (line : Option ℕ) (fs : List SFrame) (s : Slots) → IsGood s (modules.load_data args line fs s)
 load_data args line fs s = go (a_text 1 (codes "loadData") args)
@@ -176,6 +176,7 @@ load_data args line fs s = go (a_text 1 (codes "loadData") args)
 -- THE LIBRARY
 framed_end : (e : FramedEnd) (line : Option ℕ) (fs : List SFrame) (s : Slots) → AsksNoData e → IsCalm s.data_ (libraries.framed_end e line fs s)
 framed_end (FrameEnds end) line fs s a = ends end line fs s
+framed_end (FrameQuotes message) line fs s a = fails_quoting line message fs s
 framed_end (FrameAsks question asked) line fs s a = still (refl, a)
 framed_end (FrameWalks v) line fs s a = pairs (v ∷ []) line fs s
 
@@ -188,6 +189,8 @@ call_back world Ipairs args line fs s = calm (ipairs_by (handler s.heap (first a
 call_back world NextPlace args line fs s = calm (ipairs_step args line fs s)
 call_back world Require args line fs s = calm (require world args line fs s)
 call_back world LoadData args line fs s = load_data args line fs s
+call_back world StrictRead args line fs s = calm (fails_quoting line _ fs s)
+call_back world StrictWrite args line fs s = calm (fails_quoting line _ fs s)
 call_back world (Gsub alphabet) args line fs s = calm (gsub (gsub_form alphabet args s.heap) line fs s)
 
 pub does : (world : CWorld) (f : Form Proc) (args : List Value) (line : Option ℕ) (fs : List SFrame) (s : Slots) → NeedsNoData f → IsGood s (libraries.does world f args line fs s)
@@ -209,7 +212,7 @@ text_answer (Goes (Text t ∷ [])) fs s = still (refl, tt)
 text_answer o fs s = still (refl, tt)
 
 template_answer : (text : Bytes) (o : Outcome (List Value) Jump) (line : Option ℕ) (fs : List SFrame) (s : Slots) → IsCalm s.data_ (libraries.template_answer text o line fs s)
-template_answer text (Goes []) line fs s = fails line _ fs s
+template_answer text (Goes []) line fs s = fails_quoting line _ fs s
 template_answer text (Goes (v ∷ vs)) line fs s = text_answer (Goes (v ∷ vs)) fs s
 template_answer text (Jumps j) line fs s = still (refl, tt)
 

@@ -13,13 +13,13 @@ use Rattle.lua_meaning.specs.Scope.{Bytes, Place as TextPlace}
 use Rattle.lua_meaning.specs.Values.{is_function, number_in, text_in}
 use Rattle.lua_meaning.specs.Acts.{Jump, Returned}
 use Rattle.lua_meaning.specs.Arguments.{PlainEnd, Gives as PlainGives, Fails as PlainFails, Argument}
-use Rattle.lua_meaning.specs.Messages.{cannot_call, cannot_calculate, cannot_concatenate, cannot_compare, nil_key, read_only}
+use Rattle.lua_meaning.specs.Messages.{nth_level, cannot_call, cannot_calculate, cannot_concatenate, cannot_compare, nil_key, read_only}
 use Rattle.lua_meaning.specs.Metatables.{handler, either_handler, common_handler}
 use Rattle.lua_meaning.specs.Operators.{Arithmetic, Operator, Less, Greater, AtMost, AtLeast, Equal, Unequal, Concatenate, Calculate, result_of, event}
 use Rattle.mw_frame.specs.declared.question.Ask.{Ask}
 use Rattle.mw_frame.specs.declared.question.Ask.TheVariants.{Data}
 use Rattle.lua_meaning.specs.Titled.{ByTitle}
-use Rattle.lua_slots.specs.Slots.{Slots}
+use Rattle.lua_slots.specs.Slots.{Slots, levels_at}
 use Rattle.lua_slots.specs.Points.{IndexLinkS, SetLinkS, CallLinkS, SFrame, First, Verdict, Starts, Point, Asking, Move, Costs, Marks, Enters, Exits, Now}
 use Rattle.lua_slots.specs.Errors as errors
 use Rattle.lua_slots.specs.Calls as calls
@@ -63,6 +63,13 @@ raises_value p v fs s = still (refl, tt)
 
 pub fails : (line : Option ℕ) (t : Bytes) (fs : List SFrame) (s : Slots) → IsCalm s.data_ (errors.fails line t fs s)
 fails line t fs s = raises _ t fs s
+
+pub fails_quoting : (line : Option ℕ) (t : Bytes) (fs : List SFrame) (s : Slots) → IsCalm s.data_ (errors.fails_quoting line t fs s)
+fails_quoting line t fs s = go (nth_level (levels_at s.functions line) 1)
+  where
+    go : (p : Option TextPlace) → IsCalm s.data_ (errors.raises_quote p t fs s)
+    go None = still (refl, tt)
+    go (Some p) = still (refl, tt)
 
 pub ends : (e : PlainEnd) (line : Option ℕ) (fs : List SFrame) (s : Slots) → IsCalm s.data_ (errors.ends e line fs s)
 ends (PlainGives vs) line fs s = still (refl, tt)

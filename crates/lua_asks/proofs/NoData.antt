@@ -20,7 +20,7 @@ use Rattle.lua_meaning.specs.Questions.{TemplateAsked, TextAsked}
 use Rattle.lua_meaning.specs.Tag.{extension_tag}
 use Rattle.lua_meaning.specs.Frames.{Numbered, merge_args, arg_named, bytes_of}
 use Rattle.lua_meaning.specs.FrameMethods as methods
-use Rattle.lua_meaning.specs.FrameMethods.{FramedEnd, FrameAsks, FrameWalks, Framed}
+use Rattle.lua_meaning.specs.FrameMethods.{FramedEnd, FrameQuotes, FrameAsks, FrameWalks, Framed}
 use Rattle.lua_meaning.specs.Libraries.{Form, InFrames, form}
 use Rattle.lua_asks.proofs.CalmValues.{IsOther}
 
@@ -43,6 +43,13 @@ module _ {X : Type 0} (h : Heap X) (frames : List Frame) where
   if_argument (Ok y) f k = k y
   if_argument (Err message) f k = none {f = methods.refuses h frames message} tt
 
+  if_title : (a : Argument Title) (f : Title → Framed X) → ((title : Title) → AsksNone (f title)) → AsksNone (methods.if_title h frames a f)
+  if_title (Ok title) f k = k title
+  if_title (Err message) f k = none {f = methods.comes_to h frames (FrameQuotes message)} tt
+
+  if_entries : (es : Entries) (f : List Arg → Framed X) → ((read : List Arg) → AsksNone (f read)) → AsksNone (methods.if_entries h frames es f)
+  if_entries es f k = record { asks = (if_argument (methods.read_args es) f k).asks }
+
   in_frame : (function : Bytes) (args : List Value) (f : Numbered → Framed X) → ((self : Numbered) → AsksNone (f self)) → AsksNone (methods.in_frame h frames function args f)
   in_frame function args f k = if_argument (methods.a_frame h frames function args) f k
 
@@ -63,10 +70,10 @@ module _ {X : Type 0} (h : Heap X) (frames : List Frame) where
   template_read self text title read = methods.asks h frames (length (title_text title) + bytes_of read) (Template self.frame.scene title (merge_args [] read)) (TemplateAsked text)
 
   abbrev template_titled : Numbered → Bytes → Entries → Title → Framed X
-  template_titled self text entries title = methods.if_argument h frames (methods.read_args entries) (template_read self text title)
+  template_titled self text entries title = methods.if_entries h frames entries (template_read self text title)
 
   abbrev template_listed : Numbered → Bytes → Entries → Framed X
-  template_listed self text entries = methods.if_argument h frames (methods.read_title text TemplateSpace) (template_titled self text entries)
+  template_listed self text entries = methods.if_title h frames (methods.read_title text TemplateSpace) (template_titled self text entries)
 
   abbrev template_named : Numbered → ℕ → Bytes → Framed X
   template_named self t text = methods.if_argument h frames (methods.entries_of h (field h (Table t) (codes "args"))) (template_listed self text)
@@ -80,8 +87,8 @@ module _ {X : Type 0} (h : Heap X) (frames : List Frame) where
       if_argument (methods.a_request (rest args)) (template_asked self) (λ t.
       if_argument (methods.a_title_text (field h (Table t) (codes "title"))) (template_named self t) (λ text.
       if_argument (methods.entries_of h (field h (Table t) (codes "args"))) (template_listed self text) (λ entries.
-      if_argument (methods.read_title text TemplateSpace) (template_titled self text entries) (λ title.
-      if_argument (methods.read_args entries) (template_read self text title) (λ read. none {f = template_read self text title read} tt))))))
+      if_title (methods.read_title text TemplateSpace) (template_titled self text entries) (λ title.
+      if_entries entries (template_read self text title) (λ read. none {f = template_read self text title read} tt))))))
 
   abbrev text_read : Numbered → Bytes → Framed X
   text_read self text = methods.asks h frames (length text) (Preprocess self.frame.scene text) TextAsked
@@ -103,10 +110,10 @@ module _ {X : Type 0} (h : Heap X) (frames : List Frame) where
   child_read self title read = methods.child h frames self title read
 
   abbrev child_titled : Numbered → Entries → Title → Framed X
-  child_titled self entries title = methods.if_argument h frames (methods.read_args entries) (child_read self title)
+  child_titled self entries title = methods.if_entries h frames entries (child_read self title)
 
   abbrev child_listed : Numbered → Option Bytes → Entries → Framed X
-  child_listed self text entries = methods.if_argument h frames (methods.child_title text self.frame.scene.title) (child_titled self entries)
+  child_listed self text entries = methods.if_title h frames (methods.child_title text self.frame.scene.title) (child_titled self entries)
 
   abbrev child_named : Numbered → ℕ → Option Bytes → Framed X
   child_named self t text = methods.if_argument h frames (methods.entries_of h (field h (Table t) (codes "args"))) (child_listed self text)
@@ -120,8 +127,8 @@ module _ {X : Type 0} (h : Heap X) (frames : List Frame) where
       if_argument (methods.a_request (rest args)) (child_asked self) (λ t.
       if_argument (methods.an_optional_text (field h (Table t) (codes "title"))) (child_named self t) (λ text.
       if_argument (methods.entries_of h (field h (Table t) (codes "args"))) (child_listed self text) (λ entries.
-      if_argument (methods.child_title text self.frame.scene.title) (child_titled self entries) (λ title.
-      if_argument (methods.read_args entries) (child_read self title) (λ read. none {f = child_read self title read} tt))))))
+      if_title (methods.child_title text self.frame.scene.title) (child_titled self entries) (λ title.
+      if_entries entries (child_read self title) (λ read. none {f = child_read self title read} tt))))))
 
   abbrev pairs_read : List Value → Framed X
   pairs_read args = methods.comes_to h frames (FrameWalks (field h (first args) (codes "args")))

@@ -6,11 +6,11 @@ use Rattle.lua_heap.specs.Value.{Value, Nil, Truth, Number, Text, Table, Closure
 use Rattle.lua_heap.specs.Heap.{Closed, Function as FunctionClosed, Iterator, closure_at}
 use Rattle.lua_meaning.specs.Scope.{Bytes, Place as TextPlace}
 use Rattle.lua_meaning.specs.Arguments.{PlainEnd, Gives as PlainGives, Fails as PlainFails, Argument, a_table}
-use Rattle.lua_meaning.specs.FrameMethods.{FramedEnd, FrameEnds, FrameAsks, FrameWalks}
+use Rattle.lua_meaning.specs.FrameMethods.{FramedEnd, FrameEnds, FrameQuotes, FrameAsks, FrameWalks}
 use Rattle.lua_meaning.specs.Metatables.{handler}
 use Rattle.lua_slots.specs.Slots.{Slots}
 use Rattle.lua_slots.specs.Points.{SFrame, Move}
-use Rattle.lua_slots.specs.Errors.{choose, raises, raises_value, fails, ends, with_argument}
+use Rattle.lua_slots.specs.Errors.{choose, raises, raises_quote, raises_value, fails, ends, with_argument}
 use Rattle.lua_slots.specs.Calls.{enter, call}
 use Rattle.lua_slots.specs.CallBacks.{pairs_by}
 use Rattle.lua_slots.specs.Libraries.{framed_end}
@@ -26,6 +26,10 @@ led_value p v fs s = refl
 
 led_fails : (line : Option ℕ) (t : Bytes) (fs : List SFrame) (s : Slots) → led (fails line t fs s) ≡ s
 led_fails line t fs s = led_raises _ t fs s
+
+led_quote : (p : Option TextPlace) (t : Bytes) (fs : List SFrame) (s : Slots) → led (raises_quote p t fs s) ≡ s
+led_quote None t fs s = refl
+led_quote (Some p) t fs s = refl
 
 pub led_ends : (e : PlainEnd) (line : Option ℕ) (fs : List SFrame) (s : Slots) → led (ends e line fs s) ≡ s
 led_ends (PlainGives vs) line fs s = refl
@@ -59,5 +63,6 @@ led_pairs h args line fs s = led_choice (is_nil h) _ _ s (led_argument (a_table 
 
 pub led_framed : (e : FramedEnd) (line : Option ℕ) (fs : List SFrame) (s : Slots) → led (framed_end e line fs s) ≡ s
 led_framed (FrameEnds e) line fs s = led_ends e line fs s
+led_framed (FrameQuotes message) line fs s = led_quote _ message fs s
 led_framed (FrameAsks question asked) line fs s = refl
 led_framed (FrameWalks v) line fs s = led_pairs (handler s.heap v (codes "__pairs")) (v ∷ []) line fs s

@@ -4,7 +4,7 @@ use Rattle.lua_heap.specs.Proc.{Proc}
 use Rattle.lua_heap.specs.Value.{Value}
 use Rattle.lua_heap.specs.Heap.{Heap}
 use Rattle.lua_heap.specs.declared.library.Library.{Library}
-use Rattle.lua_heap.specs.declared.library.Library.TheVariants.{MwClone, MwGetCurrentTitle, ArgsIndex, BasicPcall, BasicXpcall, BasicToString, BasicPairs, BasicIpairs, IpairsStep, BasicRequire, MwLoadData, StringGsub}
+use Rattle.lua_heap.specs.declared.library.Library.TheVariants.{MwClone, MwGetCurrentTitle, ArgsIndex, BasicPcall, BasicXpcall, BasicToString, BasicPairs, BasicIpairs, IpairsStep, BasicRequire, MwLoadData, StrictIndex, StrictNewIndex, StringGsub}
 use Rattle.lua_meaning.specs.World.{World}
 use Rattle.lua_meaning.specs.Acts.{Frame}
 use Rattle.lua_meaning.specs.Arguments.{Plain}
@@ -38,6 +38,8 @@ caller_seen call_back.Ipairs = meaning.Ipairs
 caller_seen call_back.NextPlace = meaning.NextPlace
 caller_seen call_back.Require = meaning.Require
 caller_seen call_back.LoadData = meaning.LoadData
+caller_seen call_back.StrictRead = meaning.StrictRead
+caller_seen call_back.StrictWrite = meaning.StrictWrite
 
 -- what a function gives that answers at once
 abbrev pub once_seen : {X : Type 0} → AtOnce → List Value → Heap X → Plain X
@@ -82,6 +84,8 @@ other_in BasicIpairs = act.Calls call_back.Ipairs
 other_in IpairsStep = act.Calls call_back.NextPlace
 other_in BasicRequire = act.Calls call_back.Require
 other_in MwLoadData = act.Calls call_back.LoadData
+other_in StrictIndex = act.Calls call_back.StrictRead
+other_in StrictNewIndex = act.Calls call_back.StrictWrite
 other_in StringGsub = act.Gsub gsubs.OfBytes
 other_in which = act.Gsub gsubs.OfPoints
 

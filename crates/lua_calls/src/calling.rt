@@ -13,7 +13,9 @@ use crate::framed::framed;
 use crate::gsubs::gsub;
 use crate::plain::{clone, current_title, index_args, plain};
 use crate::table::{Act, CallBack};
-use lua_acts::{ipairs, ipairs_step, pairs, pcall, to_string, xpcall};
+use lua_acts::{
+    ipairs, ipairs_step, pairs, pcall, strict_index, strict_new_index, to_string, xpcall,
+};
 use lua_modules::{load_data, require};
 use lua_stack::Values;
 use lua_state::{State, Turn};
@@ -45,6 +47,8 @@ fn call_back<'m>(
         CallBack::NextPlace => ipairs_step(alloc, store, left, state, arguments, line),
         CallBack::Require => require(alloc, store, left, state, arguments, line),
         CallBack::LoadData => load_data(alloc, store, left, state, arguments, line),
+        CallBack::StrictRead => strict_index(alloc, store, left, state, arguments, line),
+        CallBack::StrictWrite => strict_new_index(alloc, store, left, state, arguments, line),
     }
 }
 

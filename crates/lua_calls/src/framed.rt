@@ -1,9 +1,11 @@
 //! Functions of the library that see the frames of a run (Scribunto, Frame object).
 ghost use Rattle.std.specs.Prelude.{◌≡◌, ◌∷◌, ℕ, List, IfOk};
 ghost use Rattle.wk_base.specs.declared.left.Left.{Left as Allowance};
+ghost use Rattle.lua_slots.specs.Errors.{fails_quoting};
 ghost use Rattle.lua_slots.specs.Libraries as machine;
 ghost use Rattle.lua_slots.specs.Points.{Asking, Hears, Now};
-ghost use Rattle.lua_store.specs.Seen.{StoreView};
+ghost use Rattle.lua_store.specs.Parts.{IsTextOf};
+ghost use Rattle.lua_store.specs.Seen.{StoreView, text_at};
 ghost use Rattle.lua_stack.specs.Of.{AskedOf, ValuesOf};
 ghost use Rattle.lua_stack.specs.Seen.{asked_seen, values_seen};
 ghost use Rattle.mw_frame_calls.specs.Seen.{awaited_seen, end_seen, scenes_seen, AnswerOf, AwaitedOf, FrameAnswerOf};
@@ -17,8 +19,8 @@ use lua_acts::exits::{give_all, one};
 use lua_acts::{pairs, refuse};
 use lua_basic::Stop;
 use lua_stack::{Asked, Focus, Frame, Values, boxed};
-use lua_state::{State, Turn};
-use lua_store::Store;
+use lua_state::{State, Turn, fail_quoting};
+use lua_store::{Store, TextId};
 use mw_frame::Ask;
 use mw_frame_calls::{Awaited, FrameAnswer, FrameFunction, frame_call};
 use std::alloc::Global;
@@ -55,6 +57,25 @@ fn ask<'m>(
     Ok(Turn::On(Focus::Asks(question)))
 }
 
+/// An error at this line whose message, a text of the store, quotes what the call was given.
+fn quote<'m>(
+    alloc: Global,
+    store: &mut Store,
+    left: &mut Left,
+    state: &State<'m>,
+    text: TextId,
+    line: Option<u32>,
+) -> Result<Turn<'m>, NoMemory>
+    requires state { StateOf store.old state.now }
+    requires text { IsTextOf store.old text }
+    ensures { IfOk result (λ r. Makes store.old state.now left.old store.new state.now left.new
+        (fails_quoting line (text_at store.old.texts text.at) (frames_of store.old state.now) (slots_of store.old state.now)) r) }
+{
+    let message = store.bytes(text);
+    let turn = fail_quoting(alloc, store, left, state, line, message)?;
+    Ok(turn)
+}
+
 /// What a function gives that sees the frames.
 fn give_answer<'m>(
     alloc: Global,
@@ -71,6 +92,10 @@ fn give_answer<'m>(
 {
     match answer {
         FrameAnswer::Gives(values) => Ok(give_all(store, state, Values::of_list(values))),
+        FrameAnswer::Quotes(text) => {
+            let turn = quote(alloc, store, left, state, text, line)?;
+            Ok(turn)
+        }
         FrameAnswer::Asks(question, awaited) => ask(alloc, store, state, question, awaited, line),
         FrameAnswer::Walks(value) => {
             let arguments = one(alloc, value)?;

@@ -40,6 +40,8 @@ pub enum CallBack {
     NextPlace,
     Require,
     LoadData,
+    StrictRead,
+    StrictWrite,
 }
 
 /// What a function of the library is.
@@ -98,6 +100,8 @@ fn other_act(which: Library) -> Act
         Library::IpairsStep => Act::Calls(CallBack::NextPlace),
         Library::BasicRequire => Act::Calls(CallBack::Require),
         Library::MwLoadData => Act::Calls(CallBack::LoadData),
+        Library::StrictIndex => Act::Calls(CallBack::StrictRead),
+        Library::StrictNewIndex => Act::Calls(CallBack::StrictWrite),
         Library::StringGsub => Act::Gsub(GsubFunction::OfBytes),
         // `mw.ustring.gsub` is left
         _ => Act::Gsub(GsubFunction::OfPoints),

@@ -6,7 +6,7 @@ ghost use Rattle.lua_heap.specs.Value as kind;
 ghost use Rattle.lua_meaning.specs.Acts as act;
 ghost use Rattle.lua_meaning.specs.Messages as plain;
 ghost use Rattle.lua_slots.specs.CallBacks.{gives_text};
-ghost use Rattle.lua_slots.specs.Errors.{fails, jumps};
+ghost use Rattle.lua_slots.specs.Errors.{fails_quoting, jumps};
 ghost use Rattle.lua_slots.specs.Libraries as libraries;
 ghost use Rattle.lua_store.specs.Parts.{IsTextOf};
 ghost use Rattle.lua_store.specs.Seen.{text_at};
@@ -24,7 +24,7 @@ use lua_acts::{
 };
 use lua_modules::{data_answer, module_answer};
 use lua_stack::{Asked, Given, Pending, Values};
-use lua_state::{Outcome, State, Turn, fail};
+use lua_state::{Outcome, State, Turn, fail_quoting};
 use lua_store::{Store, TextId, Value};
 use std::alloc::Global;
 use wk_base::{Left, NoMemory};
@@ -184,10 +184,10 @@ fn no_template<'m>(
     requires state { StateOf store.old state.now }
     requires name { IsTextOf store.old name }
     ensures { IfOk result (λ r. Makes store.old state.now left.old store.new state.now left.new
-        (fails line (plain.no_template (text_at store.old.texts name.at)) (frames_of store.old state.now) (slots_of store.old state.now)) r) }
+        (fails_quoting line (plain.no_template (text_at store.old.texts name.at)) (frames_of store.old state.now) (slots_of store.old state.now)) r) }
 {
     let text = absent(alloc, store.bytes(name))?;
-    let turn = fail(alloc, store, left, state, line, text.as_slice())?;
+    let turn = fail_quoting(alloc, store, left, state, line, text.as_slice())?;
     Ok(turn)
 }
 

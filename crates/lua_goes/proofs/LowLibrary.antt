@@ -25,7 +25,7 @@ use Rattle.lua_slots.specs.Modules as modules
 use Rattle.lua_slots.specs.Libraries as libraries
 use Rattle.lua_slots.specs.Starts as starts
 use Rattle.lua_goes.specs.Weight.{of_outcome, of_texts, of_pending, of_frames}
-use Rattle.lua_goes.proofs.LowValues.{IsLow, now, below, pays, both, fails, call, index, index_table}
+use Rattle.lua_goes.proofs.LowValues.{IsLow, now, below, pays, both, fails, fails_quoting, call, index, index_table}
 
 -- FUNCTIONS THAT CALL BACK
 pcall_answer : (o : Outcome (List Value) Jump) (fs : List SFrame) (s : Slots) → IsLow (callbacks.pcall_answer o fs s) (of_outcome o + (5 + of_frames fs))
@@ -108,13 +108,13 @@ text_answer (Jumps (Returned vs)) fs s = now (omega arith)
 text_answer (Jumps j) fs s = now (omega arith)
 
 template_answer : (text : Bytes) (o : Outcome (List Value) Jump) (line : Option ℕ) (fs : List SFrame) (s : Slots) → IsLow (libraries.template_answer text o line fs s) (of_outcome o + (3 + of_frames fs))
-template_answer text (Goes []) line fs s = below (omega arith) (fails line _ fs s)
+template_answer text (Goes []) line fs s = below (omega arith) (fails_quoting line _ fs s)
 template_answer text (Goes (v ∷ vs)) line fs s = text_answer (Goes (v ∷ vs)) fs s
 template_answer text (Jumps j) line fs s = text_answer (Jumps j) fs s
 
 data_answer : (text : Bytes) (title : Title) (o : Outcome (List Value) Jump) (line : Option ℕ) (fs : List SFrame) (s : Slots) → IsLow (modules.data_answer text title o line fs s) (of_outcome o + (3 + of_frames fs))
 data_answer text title (Goes (Table t ∷ [])) line fs s = now (omega arith)
-data_answer text title (Goes []) line fs s = below (omega arith) (fails line _ fs s)
+data_answer text title (Goes []) line fs s = below (omega arith) (fails_quoting line _ fs s)
 data_answer text title (Goes vs) line fs s = now (omega arith)
 data_answer text title (Jumps (Returned vs)) line fs s = now (omega arith)
 data_answer text title (Jumps j) line fs s = now (omega arith)

@@ -11,10 +11,10 @@ use Rattle.lua_heap.specs.Table.{get, has}
 use Rattle.lua_heap.specs.Heap.{table_at, closure_at, Closed, Function as FunctionClosed, Iterator}
 use Rattle.lua_meaning.specs.Scope.{Bytes, Place as TextPlace}
 use Rattle.lua_meaning.specs.Values.{number_in, text_in}
-use Rattle.lua_meaning.specs.Messages.{cannot_call, cannot_calculate, cannot_concatenate, cannot_compare, nil_key, read_only}
+use Rattle.lua_meaning.specs.Messages.{nth_level, cannot_call, cannot_calculate, cannot_concatenate, cannot_compare, nil_key, read_only}
 use Rattle.lua_meaning.specs.Metatables.{handler, either_handler, common_handler}
 use Rattle.lua_meaning.specs.Operators.{Arithmetic, Operator, Less, Greater, AtMost, AtLeast, Equal, Unequal, Concatenate, Calculate, result_of, event}
-use Rattle.lua_slots.specs.Slots.{Slots}
+use Rattle.lua_slots.specs.Slots.{Slots, levels_at}
 use Rattle.lua_slots.specs.Points.{IndexLinkS, SetLinkS, CallLinkS, SFrame, First, Verdict, Point, Starts, Move, Costs, Exits, Now}
 use Rattle.lua_slots.specs.Errors as errors
 use Rattle.lua_slots.specs.Calls as calls
@@ -58,6 +58,13 @@ raises_value p v fs s = now (omega arith)
 
 pub fails : (line : Option ℕ) (t : Bytes) (fs : List SFrame) (s : Slots) → IsLow (errors.fails line t fs s) (2 + of_frames fs)
 fails line t fs s = raises _ t fs s
+
+pub fails_quoting : (line : Option ℕ) (t : Bytes) (fs : List SFrame) (s : Slots) → IsLow (errors.fails_quoting line t fs s) (2 + of_frames fs)
+fails_quoting line t fs s = go (nth_level (levels_at s.functions line) 1)
+  where
+    go : (p : Option TextPlace) → IsLow (errors.raises_quote p t fs s) (2 + of_frames fs)
+    go None = pays _ _ (now (omega arith))
+    go (Some p) = pays _ _ (now (omega arith))
 
 -- CALLS
 enter : (f : Value) (o : Option (Closed Proc)) (args : List Value) (line : Option ℕ) (fs : List SFrame) (s : Slots) → IsLow (calls.enter f o args line fs s) (2 + of_frames fs)

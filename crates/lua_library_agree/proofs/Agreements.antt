@@ -22,7 +22,7 @@ use Rattle.lua_library_agree.proofs.UstringAgree as ustring
 use Rattle.lua_library_agree.proofs.TextsAgree as texts
 use Rattle.lua_library_agree.proofs.HtmlAgree as html
 use Rattle.lua_library_agree.proofs.IteratorsAgree as iterators
-use Rattle.lua_library_agree.proofs.MwFunctions.{log-same, strict_index-same, strict_new_index-same, clone-same, get_current_title-same}
+use Rattle.lua_library_agree.proofs.MwFunctions.{log-same, clone-same, get_current_title-same}
 
 module _ {X Y : Type 0} (R : Map → X → Y → Type 0) (up : GrowsWith R) (m : Map) (h : Heap X) (s : Heap Y) (st : Stands R m h s) (world other : World)
     (vs ws : List Value) (e : Each (Same m) vs ws) (fs gs : List Frame) (ef : Each (SameFrame m) fs gs) where
@@ -103,7 +103,7 @@ module _ {X Y : Type 0} (R : Map → X → Y → Type 0) (up : GrowsWith R) (m :
   all-agree page TextNowiki = both_answer _ _ (behind_texts (texts.nowiki-same R m h s st vs ws e))
   all-agree page TextTag = both_answer _ _ (behind_texts (texts.tag-same R m h s st vs ws e))
   all-agree page TextTruncate = both_answer _ _ (behind_texts (texts.truncate-same R m h s st vs ws e))
-  all-agree page HtmlCreate = both_answer _ _ (behind_texts (html.create-same R up m h s st vs ws e))
+  all-agree page HtmlCreate = both_answer _ _ (html.create-same R up m h s st vs ws e)
   all-agree page HtmlNode = both_answer _ _ (behind_texts (html.node-same R m h s st vs ws e))
   all-agree page HtmlWikitext = both_answer _ _ (behind_texts (html.wikitext-same R m h s st vs ws e))
   all-agree page HtmlNewline = both_answer _ _ (behind_texts (html.newline-same R m h s st vs ws e))
@@ -125,8 +125,8 @@ module _ {X Y : Type 0} (R : Map → X → Y → Type 0) (up : GrowsWith R) (m :
   all-agree page FrameExtensionTag = both_see _ _ (frame_extension_tag-same R up m h s st fs gs ef vs ws e)
   all-agree page ArgsIndex = both_answer _ _ (args_index-same R m h s st vs ws e)
   all-agree page ArgumentExpand = both_answer _ _ (argument_expand-same R m h s st vs ws e)
-  all-agree page StrictIndex = both_answer _ _ (strict_index-same R m h s st vs ws e)
-  all-agree page StrictNewIndex = both_answer _ _ (strict_new_index-same R m h s st vs ws e)
+  all-agree page StrictIndex = both_call _
+  all-agree page StrictNewIndex = both_call _
   all-agree page IpairsStep = both_call _
   all-agree page GmatchStep = both_answer _ _ (iterators.gmatch_step-same R m h s st vs ws e)
   all-agree page UstringGmatchStep = both_answer _ _ (behind_texts (iterators.ustring_gmatch_step-same R m h s st vs ws e))

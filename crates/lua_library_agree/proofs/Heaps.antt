@@ -4,13 +4,13 @@ use Rattle.std.specs.Prelude.{Ok, Err}
 use Rattle.lua_heap.specs.Value.{Value, is_nil, same}
 use Rattle.lua_heap.specs.Table.{Entries, get}
 use Rattle.lua_heap.specs.Heap.{Heap, tab, TableObj, table_at, is_shared}
-use Rattle.lua_heap.specs.Related.{Map, Each, more, OneToOne, Same, nil, truth, number, text, table, closure, builtin, markup, SameEntries, SameTable, Stands, Moved}
+use Rattle.lua_heap.specs.Related.{Map, Each, none, more, OneToOne, Same, nil, truth, number, text, table, closure, builtin, markup, SameEntry, SameEntries, SameTable, Stands, Moved}
 use Rattle.lua_heap.proofs.Entries.{same-related, nil-related, get-related}
 use Rattle.lua_heap.proofs.Steps.{one_to_one, moved-same}
 use Rattle.lua_heap.proofs.Stood.{look-table, stood-table}
 use Rattle.lua_meaning.specs.Scope.{Bytes}
 use Rattle.lua_meaning.specs.Metatables.{field, metatable, handler, either_handler, common_handler}
-use Rattle.lua_meaning.specs.Arguments.{Plain, Fails, Argument, gives, costs, gives_text, fails, with_argument, with_charge}
+use Rattle.lua_meaning.specs.Arguments.{Plain, Fails, Argument, unless_refused, passed, gives, costs, gives_text, fails, with_argument, with_charge}
 use Rattle.lua_library_agree.specs.Same.{SameArgument, both_ok, both_err, both_give, both_fail, SamePlain}
 use Rattle.lua_library_agree.proofs.Values.{one-each, SameTab}
 
@@ -24,6 +24,15 @@ chosen Q false true e p q = cc
 -- one more entry
 pub entry-more : {m : Map} {k l v w : Value} {es fs : Entries} → Same m k l → Same m v w → SameEntries m es fs → SameEntries m ((k, v) ∷ es) ((l, w) ∷ fs)
 entry-more e f r = more _ _ _ _ (record { key = e; value = f }) r
+
+-- cleared entries that are passed
+pub passed-same : {A : Type 0} {m : Map} (reads : Value × Value → Argument A) → ((e f : Value × Value) → SameEntry m e f → reads e ≡ reads f)
+    → (es fs : Entries) → SameEntries m es fs → passed reads es ≡ passed reads fs
+passed-same reads same _ _ none = refl
+passed-same {A} {m} reads same _ _ (more e f es fs r rest) =
+    let more_ : passed reads es ≡ passed reads fs = passed-same reads same es fs rest in
+    chosen (λ (x y : ℕ). x ≡ y) (is_nil e.1) (is_nil f.1) (nil-related m _ _ r.value) (ap (λ (n : ℕ). 1 + n) more_)
+    (ap (λ a. unless_refused a (passed reads es)) (same e f r) ∙ ap (unless_refused (reads f)) more_)
 
 -- a table that stands for one and can be written, can be written after a call: no call makes a table read-only
 pub stays-writable : {X Y : Type 0} (R : Map → X → Y → Type 0) (m n : Map) (h i : Heap X) (s t : Heap Y) → Moved R m n h i s t → (a b : ℕ) → SameTab n a b

@@ -21,7 +21,7 @@ use Rattle.lua_meaning.specs.TextArguments.{as_some}
 use Rattle.lua_meaning.specs.Checks.{and_those}
 use Rattle.lua_meaning.specs.HtmlNodes.{new_node, value_of, attrs_with, styles_with, set_attribute, set_style, add_style_text, classes_with, set_classes, add_children, root_above, root_by, root_of}
 use Rattle.lua_meaning.specs.Html as html
-use Rattle.lua_meaning.specs.Html.{an_object, text_if_any, tested_name, is_tag, a_tag_name, closing_option, makes, puts, changes, makes_in, as_child, a_child, texts_from, Setter, attributes, styles, set_read, set_one, sets_one, Settings, behind_charge, go_on_with, entry_given, set_each, set_ends, sets_each, set_given, set_by, adds_class, gives_value, found_or, gives_piece, text_of_object, nested_too_deeply}
+use Rattle.lua_meaning.specs.Html.{an_object, text_if_any, tested_name, is_tag, a_tag_name, closing_option, makes, puts, changes, makes_in, as_child, a_child, texts_from, Setter, attributes, styles, set_read, set_one, sets_one, Settings, behind_charge, go_on_with, entry_given, set_each, set_ends, set_given, adds_styles, adds_class, gives_value, found_or, gives_piece, text_of_object, nested_too_deeply}
 use Rattle.lua_library_agree.specs.Same.{SameArgument, both_ok, both_err, both_give, both_fail, SamePlain}
 use Rattle.lua_library_agree.proofs.Values.{one-each, rest-same, each-append, text-same, is_true-same, a_text-same, text_or-same, text_charge-same}
 use Rattle.lua_library_agree.proofs.Heaps.{chosen, entries-stood, field-same, giving, giving_text, failing, with-argument, with-equal, charging}
@@ -277,6 +277,10 @@ module _ {X Y : Type 0} (R : Map → X → Y → Type 0) (m : Map) (h : Heap X) 
       (subst (λ c. Alike (changes h a (set_classes (classes_with class (markup_at h a)))) (changes s b (set_classes c))) is
       (puts-same a b e _ _ (set_classes-same (classes_with class (markup_at h a)) n)))
 
+  adds_styles-same : (a b : ℕ) → SameNodeId m a b → (given : Option Bytes) → Alike (adds_styles h a given) (adds_styles s b given)
+  adds_styles-same a b e None = itself a b e
+  adds_styles-same a b e (Some t) = puts-same a b e _ _ (style_text-same t (node-stood a b e))
+
   gives_value-same : (value : Option Bytes) → Alike (gives_value h value) (gives_value s value)
   gives_value-same None = giving R m h s st (one-each nil)
   gives_value-same (Some value) = giving_text R m h s st value
@@ -317,8 +321,7 @@ module _ {X Y : Type 0} (R : Map → X → Y → Type 0) (m : Map) (h : Heap X) 
 
     pub css_text-same : Alike (html.css_text vs h) (html.css_text ws s)
     css_text-same = of_object (codes "cssText") _ _ (λ a b x.
-        with-equal R m h s st _ _ _ _ (a_text-same 2 (codes "cssText") (rest-same e)) (λ t.
-        puts-same a b x _ _ (style_text-same t (node-stood a b x))))
+        with-equal R m h s st _ _ _ _ (text_if_any-same 2 (codes "cssText") (rest-same e)) (λ given. adds_styles-same a b x given))
 
     pub add_class-same : Alike (html.add_class vs h) (html.add_class ws s)
     add_class-same = of_object (codes "addClass") _ _ (λ a b x.

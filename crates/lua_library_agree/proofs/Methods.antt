@@ -2,6 +2,7 @@
 use Rattle.std.proofs.Common.{◌≡◌, ℕ, ◌+◌, pos, negsuc, List, [], ◌∷◌, ◌++◌, length, Option, Some, None, slice_set, refl, ◌∙◌, ap, subst}
 use Rattle.std.specs.Prelude.{Ok, Err, codes}
 use Rattle.std.specs.Option.{option_map}
+use Rattle.wk_base.specs.declared.title.Title.{Title}
 use Rattle.wk_base.specs.Titles.{title_text}
 use Rattle.mw_frame.specs.declared.scene.Arg.{Arg}
 use Rattle.mw_frame.specs.declared.scene.Scene.{Scene}
@@ -20,10 +21,10 @@ use Rattle.lua_meaning.specs.Values.{rest, text_in}
 use Rattle.lua_meaning.specs.Acts.{Frame, Parent, Nobody, Unmade, Made}
 use Rattle.lua_meaning.specs.Arguments.{Plain, Argument}
 use Rattle.lua_meaning.specs.Frames.{merge_args, arg_named, args_charge, make_frame, new_frame, table_or_nil, table_of_frame, Numbered, frame_numbered, number_in_metatable}
-use Rattle.lua_meaning.specs.FrameMethods.{a_request, a_title_text, an_optional_text, entries_of, arg_value, arg_of, in_front, read_args, FrameWalks, Framed, comes_to, answers, refuses, asks, as_framed, if_argument, in_frame, get_current_frame, get_title, parent_of, get_parent, argument_pairs, text_or_field, argument_entries, argument_table, get_argument, preprocess, frame_extension_tag, expand_template, new_child}
-use Rattle.lua_library_agree.specs.Same.{SameFrame, SameNumbered, SameArgument, both_ok, both_err, both_give, both_fail, both_end, both_ask, both_walk, SamePlain, SameFramed}
+use Rattle.lua_meaning.specs.FrameMethods.{a_request, a_title_text, an_optional_text, entries_of, arg_value, arg_of, in_front, entry_arg, read_args, FrameQuotes, FrameWalks, Framed, behind_charge, comes_to, answers, refuses, asks, as_framed, if_argument, if_title, if_entries, in_frame, get_current_frame, get_title, parent_of, get_parent, argument_pairs, text_or_field, argument_entries, argument_table, get_argument, preprocess, frame_extension_tag, expand_template, new_child}
+use Rattle.lua_library_agree.specs.Same.{SameFrame, SameNumbered, SameArgument, both_ok, both_err, both_give, both_fail, both_end, both_quote, both_ask, both_walk, SamePlain, SameFramed}
 use Rattle.lua_library_agree.proofs.Values.{one-each, first-same, rest-same, each-length, each-get, each-set, each-append, each-widen, text_in-same, bad-same, a_text-same, some_value-same, SameTab}
-use Rattle.lua_library_agree.proofs.Heaps.{chosen, entry-more, entries-stood, item-same, field-same, metatable-same}
+use Rattle.lua_library_agree.proofs.Heaps.{chosen, passed-same, entry-more, entries-stood, item-same, field-same, metatable-same}
 use Rattle.lua_library_agree.proofs.FrameTables.{frame-made, table-added}
 use Rattle.lua_library_agree.proofs.Tags.{extension_tag-same}
 
@@ -131,6 +132,12 @@ module _ {X Y : Type 0} (R : Map → X → Y → Type 0) (up : GrowsWith R) (m :
   refusing : (message : Bytes) → Alike (refuses h fs message) (refuses s gs message)
   refusing message = record { charge = refl; names = m; moved = moved-same R m h s st; frames = ef; end = both_end _ _ (both_fail _ _ _ (text message)) }
 
+  quoting : (message : Bytes) → Alike (comes_to h fs (FrameQuotes message)) (comes_to s gs (FrameQuotes message))
+  quoting message = record { charge = refl; names = m; moved = moved-same R m h s st; frames = ef; end = both_quote message }
+
+  charged : (n k : ℕ) → n ≡ k → (a : Framed X) (b : Framed Y) → Alike a b → Alike (behind_charge n a) (behind_charge k b)
+  charged n k e a b x = record { charge = ap (λ (c : ℕ). c + a.charge) e ∙ ap (λ (c : ℕ). k + c) x.charge; names = x.names; moved = x.moved; frames = x.frames; end = x.end }
+
   asking : (charge : ℕ) (question : Ask) (asked : Asked) → Alike (asks h fs charge question asked) (asks s gs charge question asked)
   asking charge question asked = record { charge = refl; names = m; moved = moved-same R m h s st; frames = ef; end = both_ask question asked }
 
@@ -152,6 +159,13 @@ module _ {X Y : Type 0} (R : Map → X → Y → Type 0) (up : GrowsWith R) (m :
 
   if-equal : {A : Type 0} (c d : Argument A) (f : A → Framed X) (g : A → Framed Y) → c ≡ d → ((a : A) → Alike (f a) (g a)) → Alike (if_argument h fs c f) (if_argument s gs d g)
   if-equal c d f g e k = subst (λ d. Alike (if_argument h fs c f) (if_argument s gs d g)) e (if-given c f g k)
+
+  if-titled : (c : Argument Title) (f : Title → Framed X) (g : Title → Framed Y) → ((title : Title) → Alike (f title) (g title)) → Alike (if_title h fs c f) (if_title s gs c g)
+  if-titled (Ok title) f g k = k title
+  if-titled (Err message) f g k = quoting message
+
+  if-entries : (es us : Entries) → SameEntries m es us → (f : List Arg → Framed X) (g : List Arg → Framed Y) → ((read : List Arg) → Alike (f read) (g read)) → Alike (if_entries h fs es f) (if_entries s gs us g)
+  if-entries es us e f g k = charged _ _ (passed-same entry_arg arg-same es us e) _ _ (if-equal _ _ f g (read_args-same es us e) k)
 
   number_in_metatable-same : (v w : Value) → Same m v w → Same m (number_in_metatable h v) (number_in_metatable s w)
   number_in_metatable-same _ _ nil = nil
@@ -264,8 +278,8 @@ module _ {X Y : Type 0} (R : Map → X → Y → Type 0) (up : GrowsWith R) (m :
       if-argument _ _ (a_request-same (rest-same e)) (λ a b x.
       if-equal _ _ _ _ (a_title_text-same (field-same R m h s st _ _ (codes "title") (table a b x))) (λ t.
       if-argument _ _ (entries_of-same _ _ (field-same R m h s st _ _ (codes "args") (table a b x))) (λ es us y.
-      if-equal _ _ _ _ refl (λ title.
-      if-equal _ _ _ _ (read_args-same es us y) (λ read.
+      if-titled _ _ _ (λ title.
+      if-entries es us y _ _ (λ read.
       asking _ _ _))))))
 
   pub new_child-same : (vs ws : List Value) → Each (Same m) vs ws → Alike (new_child h fs vs) (new_child s gs ws)
@@ -274,6 +288,6 @@ module _ {X Y : Type 0} (R : Map → X → Y → Type 0) (up : GrowsWith R) (m :
       if-argument _ _ (a_request-same (rest-same e)) (λ a b x.
       if-equal _ _ _ _ (an_optional_text-same (field-same R m h s st _ _ (codes "title") (table a b x))) (λ t.
       if-argument _ _ (entries_of-same _ _ (field-same R m h s st _ _ (codes "args") (table a b x))) (λ es us y.
-      if-equal _ _ _ _ refl (λ title.
-      if-equal _ _ _ _ (read_args-same es us y) (λ read.
+      if-titled _ _ _ (λ title.
+      if-entries es us y _ _ (λ read.
       framing (record { title = title; args = merge_args [] read; chain = scene.chain }) (Made k) _ fs gs ef))))))

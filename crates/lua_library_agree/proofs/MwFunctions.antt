@@ -1,4 +1,4 @@
--- The functions of `mw` that call back nobody, and of `require('strict')`.
+-- The functions of `mw` that call back nobody.
 use Rattle.std.proofs.Common.{List, refl}
 use Rattle.wk_base.specs.declared.title.Title.{Title}
 use Rattle.lua_heap.specs.Value.{Value, Nil}
@@ -6,25 +6,15 @@ use Rattle.lua_heap.specs.Heap.{Heap}
 use Rattle.lua_heap.specs.Related.{Map, GrowsWith, Each, none, Same, nil, text, table, SameEntries, Stands}
 use Rattle.lua_walk.proofs.Standings.{cost-same}
 use Rattle.lua_walk.proofs.CopyMoves.{copy-moves}
-use Rattle.lua_meaning.specs.Messages.{undeclared_variable, undeclared_target}
-use Rattle.lua_meaning.specs.Arguments.{fails}
 use Rattle.lua_meaning.specs.Mw.{log, clone, title_entries, get_current_title}
-use Rattle.lua_meaning.specs.Modules.{strict_index, strict_new_index}
 use Rattle.lua_library_agree.specs.Same.{both_give, SamePlain}
-use Rattle.lua_library_agree.proofs.Values.{one-each, first-same, second-same, text_of-same}
-use Rattle.lua_library_agree.proofs.Heaps.{entry-more, giving, failing}
+use Rattle.lua_library_agree.proofs.Values.{one-each, first-same}
+use Rattle.lua_library_agree.proofs.Heaps.{entry-more, giving}
 use Rattle.lua_library_agree.proofs.FrameTables.{table-added}
-use Rattle.std.proofs.Common.{subst}
 
 module _ {X Y : Type 0} (R : Map → X → Y → Type 0) (m : Map) (h : Heap X) (s : Heap Y) (st : Stands R m h s) where
   pub log-same : (vs ws : List Value) → SamePlain R m h s (log vs h) (log ws s)
   log-same vs ws = giving R m h s st none
-
-  pub strict_index-same : (vs ws : List Value) → Each (Same m) vs ws → SamePlain R m h s (strict_index vs h) (strict_index ws s)
-  strict_index-same vs ws e = subst (λ t. SamePlain R m h s (strict_index vs h) (fails s (undeclared_variable t))) (text_of-same (second-same e)) (failing R m h s st _)
-
-  pub strict_new_index-same : (vs ws : List Value) → Each (Same m) vs ws → SamePlain R m h s (strict_new_index vs h) (strict_new_index ws s)
-  strict_new_index-same vs ws e = subst (λ t. SamePlain R m h s (strict_new_index vs h) (fails s (undeclared_target t))) (text_of-same (second-same e)) (failing R m h s st _)
 
   pub clone-same : GrowsWith R → (vs ws : List Value) → Each (Same m) vs ws → SamePlain R m h s (clone vs h) (clone ws s)
   clone-same up vs ws e =

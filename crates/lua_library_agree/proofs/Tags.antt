@@ -9,10 +9,10 @@ use Rattle.lua_heap.proofs.Entries.{nil-related}
 use Rattle.lua_meaning.specs.Scope.{Bytes}
 use Rattle.lua_meaning.specs.Values.{text_in}
 use Rattle.lua_meaning.specs.Arguments.{Argument}
-use Rattle.lua_meaning.specs.Tag.{no_attribute, attribute, named_attribute, and_then, attributes, attributes_in, closed_by, TagParts, tag_of, extension_parts, extension_tag}
+use Rattle.lua_meaning.specs.Tag.{no_attribute, attribute, named_attribute, entry_attribute, and_then, attributes, passed_in, attributes_in, closed_by, TagParts, tag_of, extension_parts, extension_tag}
 use Rattle.lua_library_agree.specs.Same.{SamePlain}
 use Rattle.lua_library_agree.proofs.Values.{one-each, second-same, third-same, bad-same, text_in-same, a_text-same, text_charge-same}
-use Rattle.lua_library_agree.proofs.Heaps.{chosen, entries-stood, field-same, giving_text, with-equal, charging}
+use Rattle.lua_library_agree.proofs.Heaps.{chosen, passed-same, entries-stood, field-same, giving_text, with-equal, charging}
 
 no_attribute-same : {m : Map} {v w : Value} → Same m v w → no_attribute v ≡ no_attribute w
 no_attribute-same e = ap Err (bad-same 2 (codes "tag") (codes "string") (one-each e))
@@ -70,6 +70,16 @@ module _ {X Y : Type 0} (R : Map → X → Y → Type 0) (m : Map) (h : Heap X) 
   attributes_in-same _ _ (builtin b) = refl
   attributes_in-same _ _ (markup a b e) = refl
 
+  passed_in-same : (v w : Value) → Same m v w → passed_in h v ≡ passed_in s w
+  passed_in-same _ _ nil = refl
+  passed_in-same _ _ (table a b e) = passed-same entry_attribute named_attribute-same _ _ (entries-stood R m h s st a b e)
+  passed_in-same _ _ (truth b) = refl
+  passed_in-same _ _ (number n) = refl
+  passed_in-same _ _ (text t) = refl
+  passed_in-same _ _ (closure a b e) = refl
+  passed_in-same _ _ (builtin b) = refl
+  passed_in-same _ _ (markup a b e) = refl
+
   parts-same : (vs ws : List Value) → Each (Same m) vs ws → SameParts m (extension_parts h vs) (extension_parts s ws)
   parts-same _ _ none = record { name = none; attrs = nil; content = nil }
   parts-same _ _ (more _ _ xs ys (table a b x) e) = record {
@@ -88,8 +98,9 @@ module _ {X Y : Type 0} (R : Map → X → Y → Type 0) (m : Map) (h : Heap X) 
   pub tag_of-same : (p q : TagParts) → SameParts m p q → SamePlain R m h s (tag_of p h) (tag_of q s)
   tag_of-same p q e =
       with-equal R m h s st _ _ _ _ (a_text-same 1 (codes "tag") e.name) (λ name.
+      charging R m h s st _ _ (passed_in-same _ _ e.attrs) _ _ (
       with-equal R m h s st _ _ _ _ (ap (λ a. and_then a (closed_by name p.content)) (attributes_in-same _ _ e.attrs) ∙ ap (and_then (attributes_in s q.attrs)) (closed_by-same name e.content)) (λ behind.
-      giving_text R m h s st (codes "<" ++ name ++ behind)))
+      giving_text R m h s st (codes "<" ++ name ++ behind))))
 
   pub extension_tag-same : (vs ws : List Value) → Each (Same m) vs ws → SamePlain R m h s (extension_tag vs h) (extension_tag ws s)
   extension_tag-same vs ws e = charging R m h s st _ _ (text_charge-same e) _ _ (tag_of-same _ _ (parts-same vs ws e))

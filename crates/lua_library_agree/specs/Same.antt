@@ -10,7 +10,7 @@ use Rattle.lua_meaning.specs.Questions.{Asked}
 use Rattle.lua_meaning.specs.Acts.{Frame}
 use Rattle.lua_meaning.specs.Arguments.{PlainEnd, Gives, Fails, Plain, Argument}
 use Rattle.lua_meaning.specs.Frames.{Numbered}
-use Rattle.lua_meaning.specs.FrameMethods.{FramedEnd, FrameEnds, FrameAsks, FrameWalks, Framed}
+use Rattle.lua_meaning.specs.FrameMethods.{FramedEnd, FrameEnds, FrameQuotes, FrameAsks, FrameWalks, Framed}
 use Rattle.lua_meaning.specs.Libraries.{Caller, Form, Answers, InFrames, CallsBack}
 
 -- the same frame: its table stands for the first one's
@@ -34,9 +34,10 @@ pub data SameEnd (m : Map) : PlainEnd → PlainEnd → Type 0 where
   both_give : (vs ws : List Value) → Each (Same m) vs ws → SameEnd m (Gives vs) (Gives ws)
   both_fail : (v w : Value) (level : ℤ) → Same m v w → SameEnd m (Fails v level) (Fails w level)
 
--- or the same question, or a walk over a value
+-- or the same message that quotes, the same question, or a walk over a value
 pub data SameFramedEnd (m : Map) : FramedEnd → FramedEnd → Type 0 where
   both_end : (a b : PlainEnd) → SameEnd m a b → SameFramedEnd m (FrameEnds a) (FrameEnds b)
+  both_quote : (message : Bytes) → SameFramedEnd m (FrameQuotes message) (FrameQuotes message)
   both_ask : (question : Ask) (asked : Asked) → SameFramedEnd m (FrameAsks question asked) (FrameAsks question asked)
   both_walk : (v w : Value) → Same m v w → SameFramedEnd m (FrameWalks v) (FrameWalks w)
 

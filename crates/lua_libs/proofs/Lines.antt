@@ -1,6 +1,6 @@
 -- Each plain function is a line of the table of the library.
 use Rattle.std.proofs.Common.{◌≡◌, ap, Some}
-use Rattle.lua_heap.specs.declared.library.Library.TheVariants.{BasicAssert, BasicError, BasicGetMetatable, BasicSetMetatable, BasicNext, BasicRawEqual, BasicRawGet, BasicRawSet, BasicSelect, BasicToNumber, BasicType, BasicUnpack, MwLog, ArgumentExpand, StrictIndex, StrictNewIndex}
+use Rattle.lua_heap.specs.declared.library.Library.TheVariants.{BasicAssert, BasicError, BasicGetMetatable, BasicSetMetatable, BasicNext, BasicRawEqual, BasicRawGet, BasicRawSet, BasicSelect, BasicToNumber, BasicType, BasicUnpack, MwLog, ArgumentExpand}
 use Rattle.lua_meaning.specs.Libraries.{Answers}
 use Rattle.lua_libs.specs.declared.table.PlainFunction.{PlainFunction}
 use Rattle.lua_libs.specs.declared.table.PlainFunction.TheVariants as plain
@@ -24,6 +24,4 @@ in-table BasicType f e = λ world args h frames. ap (λ g. Answers (answer_of g 
 in-table BasicUnpack f e = λ world args h frames. ap (λ g. Answers (answer_of g args h)) (same plain.Unpack f e)
 in-table MwLog f e = λ world args h frames. ap (λ g. Answers (answer_of g args h)) (same plain.Log f e)
 in-table ArgumentExpand f e = λ world args h frames. ap (λ g. Answers (answer_of g args h)) (same plain.Expand f e)
-in-table StrictIndex f e = λ world args h frames. ap (λ g. Answers (answer_of g args h)) (same plain.Undeclared f e)
-in-table StrictNewIndex f e = λ world args h frames. ap (λ g. Answers (answer_of g args h)) (same plain.UndeclaredTarget f e)
 in-table which f e = absurd cc

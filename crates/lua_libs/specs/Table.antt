@@ -4,14 +4,13 @@ use Rattle.lua_heap.specs.Proc.{Proc}
 use Rattle.lua_heap.specs.Value.{Value}
 use Rattle.lua_heap.specs.Heap.{Heap}
 use Rattle.lua_heap.specs.declared.library.Library.{Library}
-use Rattle.lua_heap.specs.declared.library.Library.TheVariants.{BasicAssert, BasicError, BasicGetMetatable, BasicSetMetatable, BasicNext, BasicRawEqual, BasicRawGet, BasicRawSet, BasicSelect, BasicToNumber, BasicType, BasicUnpack, MwLog, ArgumentExpand, StrictIndex, StrictNewIndex}
+use Rattle.lua_heap.specs.declared.library.Library.TheVariants.{BasicAssert, BasicError, BasicGetMetatable, BasicSetMetatable, BasicNext, BasicRawEqual, BasicRawGet, BasicRawSet, BasicSelect, BasicToNumber, BasicType, BasicUnpack, MwLog, ArgumentExpand}
 use Rattle.lua_meaning.specs.World.{World}
 use Rattle.lua_meaning.specs.Acts.{Frame}
 use Rattle.lua_meaning.specs.Arguments.{Plain}
 use Rattle.lua_meaning.specs.Basic.{assert, error, get_metatable, set_metatable, next, raw_equal, raw_get, raw_set, select, to_number, kind, unpack}
 use Rattle.lua_meaning.specs.Mw.{log}
 use Rattle.lua_meaning.specs.Frames.{argument_expand}
-use Rattle.lua_meaning.specs.Modules.{strict_index, strict_new_index}
 use Rattle.lua_meaning.specs.Libraries.{Answers, form}
 use Rattle.lua_libs.specs.declared.table.PlainFunction.{PlainFunction}
 use Rattle.lua_libs.specs.declared.table.PlainFunction.TheVariants as plain
@@ -31,8 +30,6 @@ plain_in BasicType = Some plain.Kind
 plain_in BasicUnpack = Some plain.Unpack
 plain_in MwLog = Some plain.Log
 plain_in ArgumentExpand = Some plain.Expand
-plain_in StrictIndex = Some plain.Undeclared
-plain_in StrictNewIndex = Some plain.UndeclaredTarget
 plain_in which = None
 
 abbrev pub answer_of : {X : Type 0} → PlainFunction → List Value → Heap X → Plain X
@@ -50,8 +47,6 @@ answer_of plain.Kind args h = kind args h
 answer_of plain.Unpack args h = unpack args h
 answer_of plain.Log args h = log args h
 answer_of plain.Expand args h = argument_expand args h
-answer_of plain.Undeclared args h = strict_index args h
-answer_of plain.UndeclaredTarget args h = strict_new_index args h
 
 -- each is a line of the table of the library
 abbrev pub AreInTable : Type 0

@@ -3,7 +3,7 @@ ghost use Rattle.lua_store.specs.Parts.{IsLater};
 ghost use Rattle.lua_basic.specs.Seen.{values_seen, AllOf, Paid, AnswerOf};
 ghost use Rattle.lua_libs.specs.Table.{answer_of};
 
-use crate::mw::{argument_expand, log, strict_index, strict_new_index};
+use crate::mw::{argument_expand, log};
 use crate::table::PlainFunction;
 use lua_basic::Stop;
 use lua_basic::choosing::{kind, select};
@@ -48,7 +48,5 @@ pub fn plain_call(
         PlainFunction::Unpack => unpack(alloc, store, left, args),
         PlainFunction::Log => log(alloc, store, args),
         PlainFunction::Expand => argument_expand(alloc, store, args),
-        PlainFunction::Undeclared => strict_index(alloc, store, args),
-        PlainFunction::UndeclaredTarget => strict_new_index(alloc, store, args),
     }
 }

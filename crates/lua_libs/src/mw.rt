@@ -2,7 +2,7 @@
 ghost use Rattle.std.specs.Prelude.{◌≡◌, ◌++◌, IfOk};
 ghost use Rattle.lua_meaning.specs.CallBacks as texts;
 ghost use Rattle.lua_meaning.specs.Frames as frames;
-ghost use Rattle.lua_meaning.specs.Modules as modules;
+ghost use Rattle.lua_meaning.specs.Messages as messages;
 ghost use Rattle.lua_meaning.specs.Mw as meaning;
 ghost use Rattle.lua_store.specs.Seen.{seen};
 ghost use Rattle.lua_store.specs.Parts.{IsOf, IsLater};
@@ -12,9 +12,8 @@ ghost use Rattle.lua_basic.specs.Seen.{values_seen, AllOf, Free, AnswerOf};
 use lua_basic::Stop;
 use lua_basic::arguments::a_table;
 use lua_basic::fields::field;
-use lua_basic::messages::fail;
 use lua_basic::texts::TextIn;
-use lua_basic::values::{second, single};
+use lua_basic::values::single;
 use lua_store::{Store, Value};
 use std::alloc::Global;
 use wk_base::{List, NoMemory};
@@ -84,35 +83,27 @@ fn between(alloc: Global, before: &[u8], text: &[u8], after: &[u8]) -> Result<Ve
     }
 }
 
-/// `__index` of the global variables after `require('strict')`: what is absent is refused.
-pub fn strict_index(alloc: Global, store: &mut Store, args: &[Value]) -> Result<List<Value>, Stop>
-    requires { AllOf store.old args.now }
-    ensures answer { Free (modules.strict_index (values_seen store.old.texts args.now) store.old.heap) store.new result }
-    ensures of { AnswerOf store.new result }
-    ensures later { IsLater store.old store.new }
+/// The message of the handlers of `strict` that there is no global variable of this name (Scribunto, strict).
+pub fn undeclared_variable(alloc: Global, store: &Store, name: Value) -> Result<Vec<u8>, NoMemory>
+    requires { IsOf store.now name }
+    ensures { IfOk result (λ made. made.items ≡ messages.undeclared_variable (texts.text_of (seen store.now.texts name))) }
 {
-    let name = text_of(alloc, store, second(args))?;
+    let name = text_of(alloc, store, name)?;
     let message = between(alloc, b"variable '", name.as_slice(), b"' is not declared")?;
-    Err(fail(store, message.as_slice()))
+    Ok(message)
 }
 
-/// `__newindex` of the global variables after `require('strict')`.
-pub fn strict_new_index(
-    alloc: Global,
-    store: &mut Store,
-    args: &[Value],
-) -> Result<List<Value>, Stop>
-    requires { AllOf store.old args.now }
-    ensures answer { Free (modules.strict_new_index (values_seen store.old.texts args.now) store.old.heap) store.new result }
-    ensures of { AnswerOf store.new result }
-    ensures later { IsLater store.old store.new }
+/// So it is where a value is assigned to one.
+pub fn undeclared_target(alloc: Global, store: &Store, name: Value) -> Result<Vec<u8>, NoMemory>
+    requires { IsOf store.now name }
+    ensures { IfOk result (λ made. made.items ≡ messages.undeclared_target (texts.text_of (seen store.now.texts name))) }
 {
-    let name = text_of(alloc, store, second(args))?;
+    let name = text_of(alloc, store, name)?;
     let message = between(
         alloc,
         b"assign to undeclared variable '",
         name.as_slice(),
         b"'",
     )?;
-    Err(fail(store, message.as_slice()))
+    Ok(message)
 }

@@ -4,7 +4,7 @@ ghost use Rattle.lua_libs.specs.Table.{plain_in, AreInTable};
 
 use lua_store::Library;
 
-/// A function of the library that calls back nobody (manual 5.1; Scribunto, `mw.log`, `frame:getArgument`, `require('strict')`).
+/// A function of the library that calls back nobody (manual 5.1; Scribunto, `mw.log`, `frame:getArgument`).
 #[derive(Clone, Copy, Debug, PartialEq, Eq)]
 pub enum PlainFunction {
     Assert,
@@ -21,8 +21,6 @@ pub enum PlainFunction {
     Unpack,
     Log,
     Expand,
-    Undeclared,
-    UndeclaredTarget,
 }
 
 /// The plain function that this one is. Of those that the meaning answers at once `mw.clone` (`mw_clone`),
@@ -45,8 +43,6 @@ pub fn plain_function(which: Library) -> Option<PlainFunction>
         Library::BasicUnpack => Some(PlainFunction::Unpack),
         Library::MwLog => Some(PlainFunction::Log),
         Library::ArgumentExpand => Some(PlainFunction::Expand),
-        Library::StrictIndex => Some(PlainFunction::Undeclared),
-        Library::StrictNewIndex => Some(PlainFunction::UndeclaredTarget),
         _ => None,
     }
 }

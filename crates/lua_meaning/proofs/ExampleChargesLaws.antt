@@ -1,12 +1,13 @@
 -- EXAMPLES of charges, and of how runs end. They compute.
 use Rattle.std.proofs.Common.{refl}
 use Rattle.page_run.specs.Perform.{perform}
+use Rattle.page_run.specs.Trace.{trace}
 use Rattle.wk_base.specs.Titles.{title_text, prefix_of, title_of, namespace_named, prefixed_namespaces}
 use Rattle.std.specs.Fmt.{digits}
 use Rattle.std.specs.Str.{is_utf8, chars}
 use lib.Utf8.{encode}
 use Rattle.lua_number.specs.Numerals.{decimal_of, numeral_of, trimmed, digits_of_base, read_number_of, read_in_base_of}
-use Rattle.lua_meaning.specs.ExampleCharges.{Smallest, Start, DataStart, Arguments, Nodes, Counter, HoldsItself, CatchesAll, Nests, Joins, NoMarkup, Cells, Handlers, OutOfRange, SecondLevel, NoFunction, NoTable, DataNoTable, DataError, Faulty, Unfinished, TooLarge, TableError, WrittenOut, AllCharges}
+use Rattle.lua_meaning.specs.ExampleCharges.{Smallest, Start, DataStart, Arguments, Nodes, NamesAreNoted, Counter, HoldsItself, CatchesAll, Nests, Joins, NoMarkup, Cells, Handlers, OutOfRange, SecondLevel, NoFunction, NoTable, DataNoTable, DataError, Faulty, Unfinished, TooLarge, TableError, WrittenOut, AllCharges}
 
 smallest : Smallest
 unfolding perform digits title_text prefix_of decimal_of numeral_of trimmed digits_of_base read_number_of read_in_base_of
@@ -27,6 +28,10 @@ arguments = (refl, refl)
 nodes : Nodes
 unfolding perform digits title_text prefix_of decimal_of numeral_of trimmed digits_of_base read_number_of read_in_base_of
 nodes = refl
+
+names_are_noted : NamesAreNoted
+unfolding perform digits title_text prefix_of decimal_of numeral_of trimmed digits_of_base read_number_of read_in_base_of trace
+names_are_noted = refl
 
 counter : Counter
 unfolding perform digits title_text prefix_of decimal_of numeral_of trimmed digits_of_base read_number_of read_in_base_of
@@ -105,4 +110,4 @@ unfolding perform digits title_text prefix_of decimal_of numeral_of trimmed digi
 written_out = refl
 
 pub all_charges : AllCharges
-all_charges = (smallest, start, data_start, arguments, nodes, counter, holds_itself, catches_all, nests, joins, no_markup, cells, handlers, out_of_range, second_level, no_function, no_table, data_no_table, data_error, faulty, unfinished, too_large, table_error, written_out)
+all_charges = (smallest, start, data_start, arguments, nodes, names_are_noted, counter, holds_itself, catches_all, nests, joins, no_markup, cells, handlers, out_of_range, second_level, no_function, no_table, data_no_table, data_error, faulty, unfinished, too_large, table_error, written_out)

@@ -6,7 +6,7 @@ use Rattle.std.specs.Fmt.{digits}
 use Rattle.std.specs.Str.{is_utf8, chars}
 use lib.Utf8.{encode}
 use Rattle.lua_number.specs.Numerals.{decimal_of, numeral_of, trimmed, digits_of_base, read_number_of, read_in_base_of}
-use Rattle.lua_meaning.specs.ExampleFrames.{Expands, Merges, Preprocesses, OwnGlobals, NoSuchTemplate, WrongAnswers, RequestsFail, Parents, ParentCosts, Children, ChildCosts, ChildAsks, ChildErrors, SingleArguments, ArgumentCosts, WalksArguments, LongNames, FramesKeepArguments, QuestionsKeepArguments, NumberedFrames, CopiedFrames, CloneCosts, NoFrame, Tags, BadTags, TagCosts, CurrentTitle, TitleCosts, AllFrames}
+use Rattle.lua_meaning.specs.ExampleFrames.{Expands, Merges, Preprocesses, OwnGlobals, NoSuchTemplate, WrongAnswers, RequestsFail, Parents, ParentCosts, Children, ChildCosts, ChildAsks, ChildErrors, SingleArguments, ArgumentCosts, WalksArguments, LongNames, FramesKeepArguments, QuestionsKeepArguments, NumberedFrames, CopiedFrames, CloneCosts, NoFrame, Tags, BadTags, TagCosts, CurrentTitle, ClearedCosts, ClearedBeforeAFault, TitleCosts, AllFrames}
 
 expands : Expands
 unfolding perform digits title_text prefix_of decimal_of numeral_of trimmed digits_of_base read_number_of read_in_base_of title_of namespace_named prefixed_namespaces is_utf8 chars encode
@@ -116,9 +116,17 @@ current_title : CurrentTitle
 unfolding perform digits title_text prefix_of decimal_of numeral_of trimmed digits_of_base read_number_of read_in_base_of title_of namespace_named prefixed_namespaces is_utf8 chars encode
 current_title = refl
 
+cleared_costs : ClearedCosts
+unfolding perform digits title_text prefix_of decimal_of numeral_of trimmed digits_of_base read_number_of read_in_base_of title_of namespace_named prefixed_namespaces is_utf8 chars encode
+cleared_costs = (refl, refl)
+
+cleared_before_a_fault : ClearedBeforeAFault
+unfolding perform digits title_text prefix_of decimal_of numeral_of trimmed digits_of_base read_number_of read_in_base_of title_of namespace_named prefixed_namespaces is_utf8 chars encode
+cleared_before_a_fault = (refl, refl)
+
 title_costs : TitleCosts
 unfolding perform digits title_text prefix_of decimal_of numeral_of trimmed digits_of_base read_number_of read_in_base_of title_of namespace_named prefixed_namespaces is_utf8 chars encode
 title_costs = (refl, refl)
 
 pub all_frames : AllFrames
-all_frames = (expands, merges, preprocesses, own_globals, no_such_template, wrong_answers, requests_fail, parents, parent_costs, children, child_costs, child_asks, child_errors, single_arguments, argument_costs, walks_arguments, long_names, frames_keep_arguments, questions_keep_arguments, numbered_frames, copied_frames, clone_costs, no_frame, tags, bad_tags, tag_costs, current_title, title_costs)
+all_frames = (expands, merges, preprocesses, own_globals, no_such_template, wrong_answers, requests_fail, parents, parent_costs, children, child_costs, child_asks, child_errors, single_arguments, argument_costs, walks_arguments, long_names, frames_keep_arguments, questions_keep_arguments, numbered_frames, copied_frames, clone_costs, no_frame, tags, bad_tags, tag_costs, current_title, cleared_costs, cleared_before_a_fault, title_costs)

@@ -24,7 +24,7 @@ style_attribute = (refl, refl, refl, refl, refl)
 
 style_texts : StyleTexts
 unfolding digits closes_itself node root_by
-style_texts = refl
+style_texts = (refl, refl, refl, refl)
 
 escaped : Escaped
 unfolding digits closes_itself node root_by
@@ -68,7 +68,7 @@ bad_names = (refl, refl, refl, refl, refl)
 
 wrong_arguments : WrongArguments
 unfolding digits closes_itself node root_by
-wrong_arguments = (refl, refl, refl, refl, refl, refl, refl, refl, refl)
+wrong_arguments = (refl, refl, refl, refl, refl, refl, refl, refl, refl, refl)
 
 rendering_costs : RenderingCosts
 unfolding digits closes_itself node root_by

@@ -7,7 +7,7 @@ use Rattle.lua_number.specs.Numerals.{decimal_of, numeral_of, trimmed, digits_of
 use Rattle.mw_html.specs.Names.{closes_itself}
 use Rattle.mw_html.specs.Render.{node}
 use Rattle.lua_meaning.specs.HtmlNodes.{root_by}
-use Rattle.lua_meaning.specs.ExampleMarkup.{RenderingCosts, AnswerCosts, AnswerInsideItself, InsideItself, ATree, UpAndDown, Closed, SetAndAsked, AsValues, BadNames, NamesOfMw, AllMarkup}
+use Rattle.lua_meaning.specs.ExampleMarkup.{RenderingCosts, AnswerCosts, AnswerInsideItself, InsideItself, ATree, UpAndDown, Closed, SetAndAsked, AsValues, NoStyles, BadStyles, BadNames, NamesOfMw, AllMarkup}
 
 rendering_costs : RenderingCosts
 unfolding perform digits title_text prefix_of decimal_of numeral_of trimmed digits_of_base read_number_of read_in_base_of closes_itself node root_by
@@ -45,6 +45,14 @@ as_values : AsValues
 unfolding perform digits title_text prefix_of decimal_of numeral_of trimmed digits_of_base read_number_of read_in_base_of closes_itself node root_by
 as_values = refl
 
+no_styles : NoStyles
+unfolding perform digits title_text prefix_of decimal_of numeral_of trimmed digits_of_base read_number_of read_in_base_of closes_itself node root_by
+no_styles = refl
+
+bad_styles : BadStyles
+unfolding perform digits title_text prefix_of decimal_of numeral_of trimmed digits_of_base read_number_of read_in_base_of closes_itself node root_by
+bad_styles = refl
+
 bad_names : BadNames
 unfolding perform digits title_text prefix_of decimal_of numeral_of trimmed digits_of_base read_number_of read_in_base_of closes_itself node root_by
 bad_names = refl
@@ -54,4 +62,4 @@ unfolding perform digits title_text prefix_of decimal_of numeral_of trimmed digi
 names_of_mw = refl
 
 pub all_markup : AllMarkup
-all_markup = (rendering_costs, answer_costs, answer_inside_itself, inside_itself, a_tree, up_and_down, closed, set_and_asked, as_values, bad_names, names_of_mw)
+all_markup = (rendering_costs, answer_costs, answer_inside_itself, inside_itself, a_tree, up_and_down, closed, set_and_asked, as_values, no_styles, bad_styles, bad_names, names_of_mw)

@@ -6,7 +6,7 @@ use Rattle.std.specs.Fmt.{digits}
 use Rattle.std.specs.Str.{is_utf8, chars}
 use lib.Utf8.{encode}
 use Rattle.lua_number.specs.Numerals.{decimal_of, numeral_of, trimmed, digits_of_base, read_number_of, read_in_base_of}
-use Rattle.lua_meaning.specs.ExampleModules.{RequiresOnce, FalseIsKept, RequiresItself, Loops, LoopsThrough, RunsAgain, NoModule, ModuleLevels, ModuleCosts, Strict, StrictAnew, LoadsOnce, LoadedAgain, LoadFails, NoData, WrongData, DataHasNoFrame, ModuleIsNoTable, ModuleIsNotHeld, AllModules}
+use Rattle.lua_meaning.specs.ExampleModules.{RequiresOnce, FalseIsKept, RequiresItself, Loops, LoopsThrough, RunsAgain, NoModule, QuotesCost, ModuleLevels, ModuleCosts, Strict, StrictAnew, LoadsOnce, LoadedAgain, LoadFails, NoData, WrongData, DataHasNoFrame, ModuleIsNoTable, ModuleIsNotHeld, AllModules}
 
 requires_once : RequiresOnce
 unfolding perform digits title_text prefix_of decimal_of numeral_of trimmed digits_of_base read_number_of read_in_base_of title_of namespace_named prefixed_namespaces is_utf8 chars encode
@@ -35,6 +35,10 @@ runs_again = refl
 no_module : NoModule
 unfolding perform digits title_text prefix_of decimal_of numeral_of trimmed digits_of_base read_number_of read_in_base_of title_of namespace_named prefixed_namespaces is_utf8 chars encode
 no_module = refl
+
+quotes_cost : QuotesCost
+unfolding perform digits title_text prefix_of decimal_of numeral_of trimmed digits_of_base read_number_of read_in_base_of title_of namespace_named prefixed_namespaces is_utf8 chars encode
+quotes_cost = (refl, refl)
 
 module_levels : ModuleLevels
 unfolding perform digits title_text prefix_of decimal_of numeral_of trimmed digits_of_base read_number_of read_in_base_of title_of namespace_named prefixed_namespaces is_utf8 chars encode
@@ -85,4 +89,4 @@ unfolding perform digits title_text prefix_of decimal_of numeral_of trimmed digi
 module_is_not_held = refl
 
 pub all_modules : AllModules
-all_modules = (requires_once, false_is_kept, requires_itself, loops, loops_through, runs_again, no_module, module_levels, module_costs, strict, strict_anew, loads_once, loaded_again, load_fails, no_data, wrong_data, data_has_no_frame, module_is_no_table, module_is_not_held)
+all_modules = (requires_once, false_is_kept, requires_itself, loops, loops_through, runs_again, no_module, quotes_cost, module_levels, module_costs, strict, strict_anew, loads_once, loaded_again, load_fails, no_data, wrong_data, data_has_no_frame, module_is_no_table, module_is_not_held)

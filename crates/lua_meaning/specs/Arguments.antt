@@ -1,9 +1,10 @@
 -- THE ARGUMENTS OF FUNCTIONS OF THE LIBRARY, and what functions give that call back nobody (manual 5).
 -- Where a string is wanted a number's digits are taken; where a number is wanted a string that reads as one is. An absent
 -- argument is the same as nil, but for the message that says what was got.
-use Rattle.std.specs.Prelude.{ℕ, ◌+◌, ℤ, pos, List, [], ◌∷◌, length, Option, Some, None, Result, Ok, Err, codes}
+use Rattle.std.specs.Prelude.{ℕ, ◌+◌, ℤ, pos, List, [], ◌∷◌, length, Option, Some, None, Result, Ok, Err, if◌then◌else◌, codes}
 use Rattle.page_run.specs.Outcome.{◌>>◌, give, tick}
-use Rattle.lua_heap.specs.Value.{Value, Nil, Text, Table}
+use Rattle.lua_heap.specs.Value.{Value, Nil, Text, Table, is_nil}
+use Rattle.lua_heap.specs.Table.{Entries}
 use Rattle.lua_heap.specs.Heap.{Heap}
 use Rattle.lua_meaning.specs.Scope.{Bytes, Function, Levels}
 use Rattle.lua_meaning.specs.Values.{first, number_in, text_in}
@@ -58,6 +59,16 @@ text_charge (v ∷ vs) = text_charge vs
 -- AN ARGUMENT, or the message that says why it is none. `given` are the arguments from number n on.
 abbrev pub Argument : Type 0 → Type 0
 Argument X = Result X Bytes
+
+-- ENTRIES THAT ARE GONE THROUGH in order of `next`, each read as an argument: a cleared one is passed for a step, and the first that is
+-- none ends the walk.
+abbrev pub unless_refused : {X : Type 0} → Argument X → ℕ → ℕ
+unless_refused (Ok x) n = n
+unless_refused (Err message) n = 0
+
+abbrev pub passed : {X : Type 0} → (Value × Value → Argument X) → Entries → ℕ
+passed reads [] = 0
+passed reads (e ∷ more) = if is_nil e.1 then 1 + passed reads more else unless_refused (reads e) (passed reads more)
 
 abbrev pub with_argument : {X Y : Type 0} → Heap X → Argument Y → (Y → Plain X) → Plain X
 with_argument h (Ok x) f = f x

@@ -10,7 +10,7 @@ use Rattle.page_run.specs.declared.which.Which.TheVariants.{Steps, Calls}
 use Rattle.mw_frame.specs.declared.question.Ask.TheVariants.{Data}
 use Rattle.lua_heap.specs.Value.{Text}
 use Rattle.lua_meaning.specs.Questions.{Loaded}
-use Rattle.lua_meaning.specs.Trial.{Gives, Fails, Spends, Loads, Asks, without_steps, arg, invoke_module, invoke_with_calls, invoke_with_args, load_module, invoke_fault, count_nodes, module_text, module_title, reply, invoke_in_template}
+use Rattle.lua_meaning.specs.Trial.{Gives, Fails, Spends, Loads, Asks, without_steps, arg, invoke_module, invoke_with_calls, invoke_with_args, load_module, invoke_fault, count_nodes, notes_of, named, module_text, module_title, reply, invoke_in_template}
 
 -- 1,000 for the start, 36 for the text, and 29 for what it does.
 --     return {f=function() return 'a' end}
@@ -62,6 +62,28 @@ nodes = stats_of (ReturnS 1 (exps_of (TableE 1 (fields_of (
 
 abbrev pub Nodes : Type 0
 Nodes = count_nodes (codes "X") 42 nodes 6000 ≡ 12
+
+-- The global variables that a text names are noted, each where it is read or written; local ones and keys are not.
+--     return {f=function()
+--      x=y local y=1 y=x
+--      function g() end
+--      _G.z=y
+--      x,y=x,1
+--      return g and x
+--     end}
+abbrev pub names_are_noted : Block
+names_are_noted = stats_of (ReturnS 1 (exps_of (TableE 1 (fields_of (Pair (TextE 1 (codes "f")) (FunctionE 1 (Lambda [] false (stats_of (
+    AssignS 2 (exps_of (NameE 2 (codes "x") ∷ [])) (exps_of (NameE 2 (codes "y") ∷ []))
+    ∷ LocalS 2 (codes "y" ∷ []) (exps_of (NumberE 2 (pos 1) ∷ []))
+    ∷ AssignS 2 (exps_of (NameE 2 (codes "y") ∷ [])) (exps_of (NameE 2 (codes "x") ∷ []))
+    ∷ AssignS 3 (exps_of (NameE 3 (codes "g") ∷ [])) (exps_of (FunctionE 3 (Lambda [] false NoStat) ∷ []))
+    ∷ AssignS 4 (exps_of (IndexE 4 (NameE 4 (codes "_G")) (TextE 4 (codes "z")) ∷ [])) (exps_of (NameE 4 (codes "y") ∷ []))
+    ∷ AssignS 5 (exps_of (NameE 5 (codes "x") ∷ NameE 5 (codes "y") ∷ [])) (exps_of (NameE 5 (codes "x") ∷ NumberE 5 (pos 1) ∷ []))
+    ∷ ReturnS 6 (exps_of (BinaryE 6 op.And (NameE 6 (codes "g")) (NameE 6 (codes "x")) ∷ []))
+    ∷ [])))) ∷ [])) ∷ [])) ∷ [])
+
+abbrev pub NamesAreNoted : Type 0
+NamesAreNoted = notes_of (codes "X") 95 names_are_noted 6000 ≡ (named (codes "Module:X") (codes "y") ∷ named (codes "Module:X") (codes "x") ∷ named (codes "Module:X") (codes "x") ∷ named (codes "Module:X") (codes "g") ∷ named (codes "Module:X") (codes "_G") ∷ named (codes "Module:X") (codes "x") ∷ named (codes "Module:X") (codes "x") ∷ named (codes "Module:X") (codes "g") ∷ named (codes "Module:X") (codes "x") ∷ [])
 
 -- A global variable lives as long as its invocation: in each one the counter gives 1.
 --     n=0 local p={} function p.f() n=n+1 return n end return p
@@ -323,6 +345,7 @@ AllCharges =
     × DataStart
     × Arguments
     × Nodes
+    × NamesAreNoted
     × Counter
     × HoldsItself
     × CatchesAll

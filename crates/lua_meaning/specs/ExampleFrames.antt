@@ -554,6 +554,46 @@ current_title = stats_of (ReturnS 1 (exps_of (TableE 1 (fields_of (Pair (TextE 1
 abbrev pub CurrentTitle : Type 0
 CurrentTitle = without_steps (invoke_in_template (module_text (codes "X") 132 current_title ∷ []) [] (codes "X") 6000 []) ≡ Gives (codes "text=P;nsText=;prefixedText=P;") 0
 
+-- A cleared entry that is passed costs a step: by `extensionTag` and `newChild`.
+--     return {f=function(frame)
+--     local t={x=1} t.x=nil
+--     frame:extensionTag('b','',t) frame:newChild{args=t}
+--     end}
+abbrev pub cleared_costs : Block
+cleared_costs = stats_of (ReturnS 1 (exps_of (TableE 1 (fields_of (Pair (TextE 1 (codes "f")) (FunctionE 1 (Lambda (codes "frame" ∷ []) false (stats_of (
+    LocalS 2 (codes "t" ∷ []) (exps_of (TableE 2 (fields_of (Pair (TextE 2 (codes "x")) (NumberE 2 (pos 1)) ∷ [])) ∷ []))
+    ∷ AssignS 2 (exps_of (IndexE 2 (NameE 2 (codes "t")) (TextE 2 (codes "x")) ∷ [])) (exps_of (NilE 2 ∷ []))
+    ∷ CallS 3 (MethodE 3 (NameE 3 (codes "frame")) (codes "extensionTag") (exps_of (TextE 3 (codes "b") ∷ TextE 3 [] ∷ NameE 3 (codes "t") ∷ [])))
+    ∷ CallS 3 (MethodE 3 (NameE 3 (codes "frame")) (codes "newChild") (exps_of (TableE 3 (fields_of (Pair (TextE 3 (codes "args")) (NameE 3 (codes "t")) ∷ [])) ∷ [])))
+    ∷ [])))) ∷ [])) ∷ [])) ∷ [])
+
+abbrev pub ClearedCosts : Type 0
+ClearedCosts = (invoke_in_template (module_text (codes "X") 104 cleared_costs ∷ []) [] (codes "X") 1203 [] ≡ Gives [] 0) × (invoke_in_template (module_text (codes "X") 104 cleared_costs ∷ []) [] (codes "X") 1202 [] ≡ Spends Steps 0)
+
+-- A wrong entry ends the walk: what is behind it is not passed.
+--     return {f=function(frame)
+--     local t={x=1,[true]=1,y=1} t.x=nil t.y=nil
+--     pcall(frame.newChild,frame,{args=t})
+--     end}
+abbrev pub cleared_before_a_fault : Block
+cleared_before_a_fault = stats_of (ReturnS 1 (exps_of (TableE 1 (fields_of (Pair (TextE 1 (codes "f")) (FunctionE 1 (Lambda (codes "frame" ∷ []) false (stats_of (
+    LocalS 2 (codes "t" ∷ []) (exps_of (TableE 2 (fields_of (
+    Pair (TextE 2 (codes "x")) (NumberE 2 (pos 1))
+    ∷ Pair (TrueE 2) (NumberE 2 (pos 1))
+    ∷ Pair (TextE 2 (codes "y")) (NumberE 2 (pos 1))
+    ∷ [])) ∷ []))
+    ∷ AssignS 2 (exps_of (IndexE 2 (NameE 2 (codes "t")) (TextE 2 (codes "x")) ∷ [])) (exps_of (NilE 2 ∷ []))
+    ∷ AssignS 2 (exps_of (IndexE 2 (NameE 2 (codes "t")) (TextE 2 (codes "y")) ∷ [])) (exps_of (NilE 2 ∷ []))
+    ∷ CallS 3 (CallE 3 (NameE 3 (codes "pcall")) (exps_of (
+    IndexE 3 (NameE 3 (codes "frame")) (TextE 3 (codes "newChild"))
+    ∷ NameE 3 (codes "frame")
+    ∷ TableE 3 (fields_of (Pair (TextE 3 (codes "args")) (NameE 3 (codes "t")) ∷ []))
+    ∷ [])))
+    ∷ [])))) ∷ [])) ∷ [])) ∷ [])
+
+abbrev pub ClearedBeforeAFault : Type 0
+ClearedBeforeAFault = (invoke_in_template (module_text (codes "X") 110 cleared_before_a_fault ∷ []) [] (codes "X") 1199 [] ≡ Gives [] 0) × (invoke_in_template (module_text (codes "X") 110 cleared_before_a_fault ∷ []) [] (codes "X") 1198 [] ≡ Spends Steps 0)
+
 -- It costs a table with three entries.
 --     return {f=function(frame)
 --     mw.title.getCurrentTitle()
@@ -596,4 +636,6 @@ AllFrames =
     × BadTags
     × TagCosts
     × CurrentTitle
+    × ClearedCosts
+    × ClearedBeforeAFault
     × TitleCosts

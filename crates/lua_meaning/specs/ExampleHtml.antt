@@ -1,5 +1,5 @@
 -- EXAMPLES of objects of `mw.html`, as calls in a row: the object that a call gives is the first argument of the next one. The texts are
--- those that Scribunto gives, but for what a row says; charges are counted by hand.
+-- those that Scribunto gives, but for what a row says; charges are counted by hand. `create` costs nothing, a method its texts.
 use Rattle.std.specs.Prelude.{◌≡◌, ℕ, pos, true, List, [], ◌∷◌, codes}
 use Rattle.lua_heap.specs.Proc.{Proc}
 use Rattle.lua_heap.specs.Value.{Value, Nil, Truth, Number, Text, Table, Builtin, Markup}
@@ -80,7 +80,7 @@ calls (c ∷ more) v h = behind (of_texts c.function (v ∷ c.more) h) (λ w i. 
 
 -- `create` with these arguments, and then calls
 abbrev create_in : Heap Proc → List Value → List Call → Plain Proc
-create_in h args more = behind (of_texts html.create args h) (λ v i. calls more v i)
+create_in h args more = behind (html.create args h) (λ v i. calls more v i)
 
 abbrev create : Bytes → List Call → Plain Proc
 create name more = create_in empty (text name ∷ []) more
@@ -138,13 +138,16 @@ StyleAttribute =
     × (rendered (create (codes "p") (css_of (codes "a") (codes "b") ∷ attr_of (codes "style") (codes "x:y") ∷ [])) ≡ codes "<p style=\"x:y\"></p>")
     × (rendered (create (codes "p") (attr_of (codes "style") [] ∷ [])) ≡ codes "<p style=\"\"></p>")
     × (rendered (create (codes "p") (css_of (codes "a") (codes "b") ∷ attr (text (codes "style") ∷ []) ∷ [])) ≡ codes "<p></p>")
-    × (told (create (codes "p") (attr_of (codes "style") (codes "x:y") ∷ get_attr (codes "style") ∷ [])) ≡ costs 14 Nil)
+    × (told (create (codes "p") (attr_of (codes "style") (codes "x:y") ∷ get_attr (codes "style") ∷ [])) ≡ costs 13 Nil)
 
--- Texts of styles stand as they are given.
+-- Texts of styles stand as they are given; nil adds none, nor does a call without one.
 abbrev pub StyleTexts : Type 0
 StyleTexts =
-    rendered (create (codes "p") (css_of (codes "a") (codes "b\"<") ∷ css_text (text (codes "x:y;") ∷ []) ∷ css_of (codes "c") (codes "d") ∷ []))
-    ≡ codes "<p style=\"a:b&quot;&lt;;x:y;;c:d\"></p>"
+    (rendered (create (codes "p") (css_of (codes "a") (codes "b\"<") ∷ css_text (text (codes "x:y;") ∷ []) ∷ css_of (codes "c") (codes "d") ∷ []))
+    ≡ codes "<p style=\"a:b&quot;&lt;;x:y;;c:d\"></p>")
+    × (rendered (create (codes "p") (css_text (Nil ∷ []) ∷ css_of (codes "a") (codes "b") ∷ css_text [] ∷ [])) ≡ codes "<p style=\"a:b\"></p>")
+    × (told (create (codes "p") (css_text (Nil ∷ []) ∷ css_text [] ∷ [])) ≡ costs 0 (Markup 0))
+    × (rendered (create (codes "p") (css_text (text [] ∷ []) ∷ [])) ≡ codes "<p style=\"\"></p>")
 
 -- Values are escaped, and texts among the children are not.
 abbrev pub Escaped : Type 0
@@ -175,9 +178,9 @@ Children =
 abbrev pub UpAndDown : Type 0
 UpAndDown =
     (rendered (create (codes "div") (tag (text (codes "p") ∷ []) ∷ tag (text (codes "b") ∷ []) ∷ all_done ∷ [])) ≡ codes "<div><p><b></b></p></div>")
-    × (told (create (codes "div") (tag (text (codes "p") ∷ []) ∷ tag (text (codes "b") ∷ []) ∷ all_done ∷ [])) ≡ costs 5 (Markup 0))
-    × (told (create (codes "div") (tag (text (codes "p") ∷ []) ∷ tag (text (codes "b") ∷ []) ∷ done ∷ [])) ≡ costs 5 (Markup 1))
-    × (told (create (codes "div") (done ∷ all_done ∷ [])) ≡ costs 3 (Markup 0))
+    × (told (create (codes "div") (tag (text (codes "p") ∷ []) ∷ tag (text (codes "b") ∷ []) ∷ all_done ∷ [])) ≡ costs 2 (Markup 0))
+    × (told (create (codes "div") (tag (text (codes "p") ∷ []) ∷ tag (text (codes "b") ∷ []) ∷ done ∷ [])) ≡ costs 2 (Markup 1))
+    × (told (create (codes "div") (done ∷ all_done ∷ [])) ≡ costs 0 (Markup 0))
 
 -- An object that `node` adds keeps its own parent, and may be added more than once.
 abbrev pub KeepsItsParent : Type 0
@@ -189,47 +192,48 @@ KeepsItsParent =
 -- Classes: those that are made cost their length, and nil adds none. An attribute that is given costs its length too.
 abbrev pub Classes : Type 0
 Classes =
-    (told (create (codes "p") (add_class (text (codes "ab") ∷ []) ∷ [])) ≡ costs 5 (Markup 0))
-    × (told (create (codes "p") (add_class (text (codes "ab") ∷ []) ∷ add_class (text (codes "c") ∷ []) ∷ [])) ≡ costs 10 (Markup 0))
-    × (told (create (codes "p") (add_class (Nil ∷ []) ∷ add_class [] ∷ [])) ≡ costs 1 (Markup 0))
-    × (told (create (codes "p") (add_class (text (codes "ab") ∷ []) ∷ get_attr (codes "class") ∷ [])) ≡ costs 12 (text (codes "ab")))
+    (told (create (codes "p") (add_class (text (codes "ab") ∷ []) ∷ [])) ≡ costs 4 (Markup 0))
+    × (told (create (codes "p") (add_class (text (codes "ab") ∷ []) ∷ add_class (text (codes "c") ∷ []) ∷ [])) ≡ costs 9 (Markup 0))
+    × (told (create (codes "p") (add_class (Nil ∷ []) ∷ add_class [] ∷ [])) ≡ costs 0 (Markup 0))
+    × (told (create (codes "p") (add_class (text (codes "ab") ∷ []) ∷ get_attr (codes "class") ∷ [])) ≡ costs 11 (text (codes "ab")))
     × (rendered (create (codes "p") (add_class (text [] ∷ []) ∷ add_class (text (codes "a") ∷ []) ∷ [])) ≡ codes "<p class=\" a\"></p>")
 
 -- A table of attributes: each entry costs its texts, a cleared one a step.
 abbrev pub TablesOfAttributes : Type 0
 TablesOfAttributes =
     let p = create_in (with_entries ((Text (codes "b"), Text (codes "1")) ∷ (Text (codes "cc"), Nil) ∷ (Text (codes "a"), num 22) ∷ [])) (text (codes "p") ∷ []) (attr (Table 0 ∷ []) ∷ []) in
-    (told p ≡ costs 5 (Markup 0)) × (rendered p ≡ codes "<p b=\"1\" a=\"22\"></p>")
+    (told p ≡ costs 4 (Markup 0)) × (rendered p ≡ codes "<p b=\"1\" a=\"22\"></p>")
 
 -- What stood before a bad entry stays set; it costs its texts too, and nothing behind it is looked at.
 abbrev pub BadEntries : Type 0
 BadEntries =
     let p = create_in (with_entries ((Text (codes "b"), Text (codes "1")) ∷ (Text (codes "c d"), Text (codes "22")) ∷ (Text (codes "a"), Text (codes "3")) ∷ [])) (text (codes "p") ∷ []) (attr (Table 0 ∷ []) ∷ []) in
     let q = create_in (with_entries ((num 1, Text (codes "x")) ∷ (Text (codes "a"), Truth true) ∷ [])) (text (codes "p") ∷ []) (css (Table 0 ∷ []) ∷ []) in
-    (told p ≡ raises 8 (codes "bad html name")) × (rendered p ≡ codes "<p b=\"1\"></p>")
-    × (told q ≡ raises 3 (codes "bad argument #3 to 'css' (string expected, got boolean)")) × (rendered q ≡ codes "<p style=\"1:x\"></p>")
+    (told p ≡ raises 7 (codes "bad html name")) × (rendered p ≡ codes "<p b=\"1\"></p>")
+    × (told q ≡ raises 2 (codes "bad argument #3 to 'css' (string expected, got boolean)")) × (rendered q ≡ codes "<p style=\"1:x\"></p>")
 
 -- Names that are none
 abbrev pub BadNames : Type 0
 BadNames =
-    (told (create (codes "1") []) ≡ raises 1 (codes "bad html name"))
+    (told (create (codes "1") []) ≡ raises 0 (codes "bad html name"))
     × (told (create_in empty (num 1 ∷ []) []) ≡ raises 0 (codes "bad html name"))
-    × (told (create (codes "p") (tag (text (codes "a b") ∷ []) ∷ [])) ≡ raises 4 (codes "bad html name"))
-    × (told (create (codes "p") (attr_of (codes "-a") (codes "1") ∷ [])) ≡ raises 4 (codes "bad html name"))
+    × (told (create (codes "p") (tag (text (codes "a b") ∷ []) ∷ [])) ≡ raises 3 (codes "bad html name"))
+    × (told (create (codes "p") (attr_of (codes "-a") (codes "1") ∷ [])) ≡ raises 3 (codes "bad html name"))
     × (rendered (create (codes "p") (attr_of (codes "data-a:b_c.d1") (codes "1") ∷ [])) ≡ codes "<p data-a:b_c.d1=\"1\"></p>")
 
 -- Wrong arguments; the object is the first one.
 abbrev pub WrongArguments : Type 0
 WrongArguments =
     (told (create_in empty (Truth true ∷ []) []) ≡ raises 0 (codes "bad argument #1 to 'create' (string expected, got boolean)"))
-    × (told (create_in empty (text (codes "p") ∷ num 1 ∷ []) []) ≡ raises 1 (codes "bad argument #2 to 'create' (table expected, got number)"))
+    × (told (create_in empty (text (codes "p") ∷ num 1 ∷ []) []) ≡ raises 0 (codes "bad argument #2 to 'create' (table expected, got number)"))
     × (told (html.newline [] empty) ≡ raises 0 (codes "bad argument #1 to 'newline' (table expected, got no value)"))
-    × (told (create (codes "p") (node (Truth true ∷ []) ∷ [])) ≡ raises 1 (codes "bad argument #2 to 'node' (string expected, got boolean)"))
-    × (told (create (codes "p") (wikitext (text (codes "ab") ∷ Truth true ∷ []) ∷ [])) ≡ raises 3 (codes "bad argument #3 to 'wikitext' (string expected, got boolean)"))
+    × (told (create (codes "p") (node (Truth true ∷ []) ∷ [])) ≡ raises 0 (codes "bad argument #2 to 'node' (string expected, got boolean)"))
+    × (told (create (codes "p") (wikitext (text (codes "ab") ∷ Truth true ∷ []) ∷ [])) ≡ raises 2 (codes "bad argument #3 to 'wikitext' (string expected, got boolean)"))
     × (rendered (create (codes "p") (wikitext (text (codes "ab") ∷ Truth true ∷ []) ∷ [])) ≡ codes "<p></p>")
-    × (told (create (codes "p") (css_text (Nil ∷ []) ∷ [])) ≡ raises 1 (codes "bad argument #2 to 'cssText' (string expected, got nil)"))
-    × (told (create (codes "p") (attr [] ∷ [])) ≡ raises 1 (codes "bad argument #2 to 'attr' (string expected, got no value)"))
-    × (told (create (codes "p") (tag (text (codes "b") ∷ Truth true ∷ []) ∷ [])) ≡ raises 2 (codes "bad argument #3 to 'tag' (table expected, got boolean)"))
+    × (told (create (codes "p") (css_text (Truth true ∷ []) ∷ [])) ≡ raises 0 (codes "bad argument #2 to 'cssText' (string expected, got boolean)"))
+    × (told (create (codes "p") (css_text (Table 0 ∷ []) ∷ [])) ≡ raises 0 (codes "bad argument #2 to 'cssText' (string expected, got table)"))
+    × (told (create (codes "p") (attr [] ∷ [])) ≡ raises 0 (codes "bad argument #2 to 'attr' (string expected, got no value)"))
+    × (told (create (codes "p") (tag (text (codes "b") ∷ Truth true ∷ []) ∷ [])) ≡ raises 1 (codes "bad argument #3 to 'tag' (table expected, got boolean)"))
 
 -- A rendering costs a step for each object begun, and for each byte.
 abbrev pub RenderingCosts : Type 0

@@ -9,7 +9,7 @@ use Rattle.lua_syntax.specs.View.{exps_of, fields_of, stats_of}
 use Rattle.page_run.specs.declared.which.Which.TheVariants.{Steps}
 use Rattle.lua_meaning.specs.Trial.{Gives, Fails, Spends, without_steps, invoke_module}
 
--- `create` and `node` cost the bytes that they are given, a rendering a step for the object and for each byte.
+-- `node` costs the bytes that it is given, and `create` nothing; a rendering a step for the object and for each byte.
 --     return {f=function(...)
 --     return tostring(mw.html.create('b'):node('x'))
 --     end}
@@ -19,7 +19,7 @@ rendering_costs = stats_of (ReturnS 1 (exps_of (TableE 1 (fields_of (Pair (TextE
     ∷ [])) ∷ [])) ∷ [])))) ∷ [])) ∷ [])) ∷ [])
 
 abbrev pub RenderingCosts : Type 0
-RenderingCosts = (invoke_module (codes "X") 75 rendering_costs 1135 ≡ Gives (codes "<b>x</b>") 0) × (invoke_module (codes "X") 75 rendering_costs 1134 ≡ Spends Steps 0)
+RenderingCosts = (invoke_module (codes "X") 75 rendering_costs 1134 ≡ Gives (codes "<b>x</b>") 0) × (invoke_module (codes "X") 75 rendering_costs 1133 ≡ Spends Steps 0)
 
 -- In an answer an object costs its rendering too.
 --     return {f=function(...)
@@ -32,7 +32,7 @@ answer_costs = stats_of (ReturnS 1 (exps_of (TableE 1 (fields_of (Pair (TextE 1 
     ∷ [])) ∷ [])))) ∷ [])) ∷ [])) ∷ [])
 
 abbrev pub AnswerCosts : Type 0
-AnswerCosts = (invoke_module (codes "X") 59 answer_costs 1112 ≡ Gives (codes "<b></b>y") 0) × (invoke_module (codes "X") 59 answer_costs 1111 ≡ Spends Steps 0)
+AnswerCosts = (invoke_module (codes "X") 59 answer_costs 1111 ≡ Gives (codes "<b></b>y") 0) × (invoke_module (codes "X") 59 answer_costs 1110 ≡ Spends Steps 0)
 
 -- An object inside itself gives no answer: 201 objects are begun, each with three bytes.
 --     return {f=function(...)
@@ -48,7 +48,7 @@ answer_inside_itself = stats_of (ReturnS 1 (exps_of (TableE 1 (fields_of (Pair (
     ∷ [])))) ∷ [])) ∷ [])) ∷ [])
 
 abbrev pub AnswerInsideItself : Type 0
-AnswerInsideItself = (invoke_module (codes "X") 73 answer_inside_itself 1918 ≡ Fails (codes "Lua error: html tree nested too deeply") 0) × (invoke_module (codes "X") 73 answer_inside_itself 1917 ≡ Spends Steps 0)
+AnswerInsideItself = (invoke_module (codes "X") 73 answer_inside_itself 1917 ≡ Fails (codes "Lua error: html tree nested too deeply") 0) × (invoke_module (codes "X") 73 answer_inside_itself 1916 ≡ Spends Steps 0)
 
 -- Nor is it a text: the error has the place of the call of `tostring`.
 --     return {f=function(...)
@@ -197,6 +197,48 @@ as_values = stats_of (ReturnS 1 (exps_of (TableE 1 (fields_of (Pair (TextE 1 (co
 abbrev pub AsValues : Type 0
 AsValues = without_steps (invoke_module (codes "X") 309 as_values 6000) ≡ Gives (codes "tabletruefalsetruefunctiontruetruetrueModule:X:5: attempt to index a table value;Module:X:6: attempt to get length of a table value;") 0
 
+-- `cssText` adds nothing for nil, also where nothing is given.
+--     return {f=function(...)
+--     local b=mw.html.create('b')
+--     return b:cssText(nil):cssText():cssText('a:b'):cssText(nil)
+--     end}
+abbrev pub no_styles : Block
+no_styles = stats_of (ReturnS 1 (exps_of (TableE 1 (fields_of (Pair (TextE 1 (codes "f")) (FunctionE 1 (Lambda [] true (stats_of (
+    LocalS 2 (codes "b" ∷ []) (exps_of (
+    CallE 2 (IndexE 2 (IndexE 2 (NameE 2 (codes "mw")) (TextE 2 (codes "html"))) (TextE 2 (codes "create"))) (exps_of (TextE 2 (codes "b") ∷ []))
+    ∷ []))
+    ∷ ReturnS 3 (exps_of (
+    MethodE 3 (MethodE 3 (MethodE 3 (MethodE 3 (NameE 3 (codes "b")) (codes "cssText") (exps_of (NilE 3 ∷ []))) (codes "cssText") NoExp) (codes "cssText") (exps_of (TextE 3 (codes "a:b") ∷ []))) (codes "cssText") (exps_of (NilE 3 ∷ []))
+    ∷ []))
+    ∷ [])))) ∷ [])) ∷ [])) ∷ [])
+
+abbrev pub NoStyles : Type 0
+NoStyles = without_steps (invoke_module (codes "X") 116 no_styles 6000) ≡ Gives (codes "<b style=\"a:b\"></b>") 0
+
+-- What is no text is no style.
+--     return {f=function(...)
+--     local function e(x) return select(2,pcall(mw.html.create('b').cssText,mw.html.create('b'),x))..';' end
+--     return e(true),e({})
+--     end}
+abbrev pub bad_styles : Block
+bad_styles = stats_of (ReturnS 1 (exps_of (TableE 1 (fields_of (Pair (TextE 1 (codes "f")) (FunctionE 1 (Lambda [] true (stats_of (
+    LocalFunctionS 2 (codes "e") (Lambda (codes "x" ∷ []) false (stats_of (ReturnS 2 (exps_of (BinaryE 2 op.Concat (CallE 2 (NameE 2 (codes "select")) (exps_of (
+    NumberE 2 (pos 2)
+    ∷ CallE 2 (NameE 2 (codes "pcall")) (exps_of (
+    IndexE 2 (CallE 2 (IndexE 2 (IndexE 2 (NameE 2 (codes "mw")) (TextE 2 (codes "html"))) (TextE 2 (codes "create"))) (exps_of (TextE 2 (codes "b") ∷ []))) (TextE 2 (codes "cssText"))
+    ∷ CallE 2 (IndexE 2 (IndexE 2 (NameE 2 (codes "mw")) (TextE 2 (codes "html"))) (TextE 2 (codes "create"))) (exps_of (TextE 2 (codes "b") ∷ []))
+    ∷ NameE 2 (codes "x")
+    ∷ []))
+    ∷ []))) (TextE 2 (codes ";")) ∷ [])) ∷ [])))
+    ∷ ReturnS 3 (exps_of (
+    CallE 3 (NameE 3 (codes "e")) (exps_of (TrueE 3 ∷ []))
+    ∷ CallE 3 (NameE 3 (codes "e")) (exps_of (TableE 3 NoField ∷ []))
+    ∷ []))
+    ∷ [])))) ∷ [])) ∷ [])) ∷ [])
+
+abbrev pub BadStyles : Type 0
+BadStyles = without_steps (invoke_module (codes "X") 152 bad_styles 6000) ≡ Gives (codes "bad argument #2 to 'cssText' (string expected, got boolean);bad argument #2 to 'cssText' (string expected, got table);") 0
+
 -- A name that is none, and what is no object.
 --     return {f=function(...)
 --     local function e(f,...) return select(2,pcall(f,...))..';' end
@@ -266,5 +308,7 @@ AllMarkup =
     × Closed
     × SetAndAsked
     × AsValues
+    × NoStyles
+    × BadStyles
     × BadNames
     × NamesOfMw

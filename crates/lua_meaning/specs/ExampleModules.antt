@@ -174,6 +174,25 @@ no_module1 = stats_of (ReturnS 1 (exps_of (NumberE 1 (pos 1) ∷ [])) ∷ [])
 abbrev pub NoModule : Type 0
 NoModule = without_steps (invoke_in_template (module_text (codes "X") 165 no_module ∷ module_text (codes "Y") 8 no_module1 ∷ []) [] (codes "X") 6000 []) ≡ Gives (codes "module 'Y' not found;module 'Module:Z' not found;module 'Module:' not found;module '12' not found;bad argument #1 to 'require' (string expected, got no value)") 0
 
+-- A message that quotes what the call was given costs its bytes at no place too; one that quotes nothing is free.
+--     return {f=function(frame)
+--     pcall(require,'Y') pcall(mw.loadData,'[') pcall(frame.newChild,frame,{title='['}) pcall(require)
+--     end}
+abbrev pub quotes_cost : Block
+quotes_cost = stats_of (ReturnS 1 (exps_of (TableE 1 (fields_of (Pair (TextE 1 (codes "f")) (FunctionE 1 (Lambda (codes "frame" ∷ []) false (stats_of (
+    CallS 2 (CallE 2 (NameE 2 (codes "pcall")) (exps_of (NameE 2 (codes "require") ∷ TextE 2 (codes "Y") ∷ [])))
+    ∷ CallS 2 (CallE 2 (NameE 2 (codes "pcall")) (exps_of (IndexE 2 (NameE 2 (codes "mw")) (TextE 2 (codes "loadData")) ∷ TextE 2 (codes "[") ∷ [])))
+    ∷ CallS 2 (CallE 2 (NameE 2 (codes "pcall")) (exps_of (
+    IndexE 2 (NameE 2 (codes "frame")) (TextE 2 (codes "newChild"))
+    ∷ NameE 2 (codes "frame")
+    ∷ TableE 2 (fields_of (Pair (TextE 2 (codes "title")) (TextE 2 (codes "[")) ∷ []))
+    ∷ [])))
+    ∷ CallS 2 (CallE 2 (NameE 2 (codes "pcall")) (exps_of (NameE 2 (codes "require") ∷ [])))
+    ∷ [])))) ∷ [])) ∷ [])) ∷ [])
+
+abbrev pub QuotesCost : Type 0
+QuotesCost = (invoke_in_template (module_text (codes "X") 127 quotes_cost ∷ []) [] (codes "X") 1261 [] ≡ Gives [] 0) × (invoke_in_template (module_text (codes "X") 127 quotes_cost ∷ []) [] (codes "X") 1260 [] ≡ Spends Steps 0)
+
 -- The text of a module that is required has no place above it.
 --     return {f=function(frame)
 --     return select(2,pcall(function() require('Module:Y') end)),select(2,pcall(function() require('Module:Z') end))
@@ -441,6 +460,7 @@ AllModules =
     × LoopsThrough
     × RunsAgain
     × NoModule
+    × QuotesCost
     × ModuleLevels
     × ModuleCosts
     × Strict

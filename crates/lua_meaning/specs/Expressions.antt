@@ -1,13 +1,13 @@
 -- EXPRESSIONS (manual 2.5). Each begins with its node; operands are evaluated from left to right.
 use Rattle.std.specs.Prelude.{ℕ, true, false, not, List, [], ◌∷◌, ◌++◌, length, Option, Some, None, Bool}
-use Rattle.page_run.specs.Outcome.{◌>>=◌, ◌>>◌, give, tick, see}
+use Rattle.page_run.specs.Outcome.{◌>>=◌, ◌>>◌, give, tick, note, see}
 use Rattle.lua_syntax.specs.declared.BinaryOp.{BinaryOp}
 use Rattle.lua_syntax.specs.declared.BinaryOp.TheVariants as op
 use Rattle.lua_syntax.specs.declared.UnaryOp.{UnaryOp}
 use Rattle.lua_syntax.specs.declared.UnaryOp.TheVariants as sign
 use Rattle.lua_syntax.specs.Tree.{Fun}
 use Rattle.lua_heap.specs.Value.{Value, Truth, Text, Table, is_true}
-use Rattle.lua_meaning.specs.Scope.{Bytes, Scope, Levels, cell_of, levels}
+use Rattle.lua_meaning.specs.Scope.{Bytes, Scope, Levels, cell_of, levels, source_of}
 use Rattle.lua_meaning.specs.Acts.{Act, node, one, read_cell, make_closure}
 use Rattle.lua_meaning.specs.Calls.{call}
 use Rattle.lua_meaning.specs.Index.{index}
@@ -39,10 +39,11 @@ dots scope = do
   tick (length scope.dots)
   give scope.dots
 
--- VARIABLES (2.3): a local one is read from its cell, a global one from the table of globals
+-- VARIABLES (2.3): a local one is read from its cell, a global one from the table of globals, and its name is noted
 abbrev pub variable : Option ℕ → Bytes → Levels → Act Value
 variable (Some cell) name ls = read_cell cell
 variable None name ls = do
+  note (source_of ls) name
   s ← see
   index (Table s.globals) (Text name) ls
 

@@ -21,7 +21,7 @@ use Rattle.lua_meaning.specs.Values.{first, rest, text_in}
 use Rattle.lua_meaning.specs.Acts.{Frame, Parent, Nobody, Unmade, Made}
 use Rattle.lua_meaning.specs.Messages.{bad_argument, expected, bad_template_arguments, invalid_title}
 use Rattle.lua_meaning.specs.Metatables.{field, metatable}
-use Rattle.lua_meaning.specs.Arguments.{Plain, PlainEnd, Gives, Fails, Argument, some_value, a_text}
+use Rattle.lua_meaning.specs.Arguments.{Plain, PlainEnd, Gives, Fails, Argument, some_value, a_text, passed}
 use Rattle.lua_meaning.specs.Frames.{merge_args, arg_named, bytes_of, args_charge, function_entry, with_table, make_frame, frame_table, new_frame, table_of_frame, Numbered, frame_numbered, number_in_metatable}
 use Rattle.lua_meaning.specs.Tag.{extension_tag}
 
@@ -46,6 +46,7 @@ entries_of h Nil = Ok []
 entries_of h (Table t) = Ok (table_at h t).entries
 entries_of h v = Err bad_template_arguments
 
+-- a title, or the message that quotes the text that is none
 abbrev pub title_or_message : Bytes → Result Title TitleFault → Argument Title
 title_or_message text (Ok title) = Ok title
 title_or_message text (Err fault) = Err (invalid_title text)
@@ -71,15 +72,20 @@ in_front (Ok a) (Ok more) = Ok (a ∷ more)
 in_front (Ok a) (Err message) = Err message
 in_front (Err message) more = Err message
 
+abbrev pub entry_arg : Value × Value → Argument Arg
+entry_arg e = arg_of (text_in e.0) (arg_value e.1)
+
 -- all entries that are not cleared, in order of `next`
 abbrev pub read_args : Entries → Argument (List Arg)
 read_args [] = Ok []
-read_args (e ∷ more) = if is_nil e.1 then read_args more else in_front (arg_of (text_in e.0) (arg_value e.1)) (read_args more)
+read_args (e ∷ more) = if is_nil e.1 then read_args more else in_front (entry_arg e) (read_args more)
 
 -- THE ANSWER OF A METHOD: its charge in steps, the heap and the frames after it, and its end
 pub data FramedEnd : Type 0 where
   -- values or an error, as of a function that calls back nobody
   FrameEnds : (end : PlainEnd) → FramedEnd
+  -- an error, whose message quotes what the call was given
+  FrameQuotes : (message : Bytes) → FramedEnd
   -- a question, and what waits for its answer
   FrameAsks : (question : Ask) (asked : Asked) → FramedEnd
   -- it goes on as `pairs` of this value
@@ -90,6 +96,10 @@ pub record Framed (X : Type 0) : Type 0 where
   pub heap : Heap X
   pub frames : List Frame
   pub end : FramedEnd
+
+-- the answer of a method that has taken so many steps before it
+abbrev pub behind_charge : {X : Type 0} → ℕ → Framed X → Framed X
+behind_charge n f = record f { charge = n + f.charge }
 
 module _ {X : Type 0} (h : Heap X) (frames : List Frame) where
   -- an end, for nothing, where heap and frames stay as they are
@@ -112,6 +122,15 @@ module _ {X : Type 0} (h : Heap X) (frames : List Frame) where
   abbrev pub if_argument : {Y : Type 0} → Argument Y → (Y → Framed X) → Framed X
   if_argument (Ok y) f = f y
   if_argument (Err message) f = refuses message
+
+  -- a title, or the text that is none
+  abbrev pub if_title : Argument Title → (Title → Framed X) → Framed X
+  if_title (Ok title) f = f title
+  if_title (Err message) f = comes_to (FrameQuotes message)
+
+  -- the entries of a table as arguments: each cleared one that is passed costs a step
+  abbrev pub if_entries : Entries → (List Arg → Framed X) → Framed X
+  if_entries es f = behind_charge (passed entry_arg es) (if_argument (read_args es) f)
 
   -- THE FRAME of a method
   abbrev pub a_frame : Bytes → List Value → Argument Numbered
@@ -187,15 +206,15 @@ module _ {X : Type 0} (h : Heap X) (frames : List Frame) where
   frame_extension_tag args = in_frame (codes "extensionTag") args (λ self. as_framed (extension_tag (rest args) h))
 
   -- `frame:expandTemplate{title=, args=}`: the kinds are tested, then the title, then the entries; the question costs the bytes of the
-  -- title and of all entries, also of one whose name comes again
+  -- title and of all entries that are read, also of one whose name comes again
   abbrev pub expand_template : List Value → Framed X
   expand_template args =
       in_frame (codes "expandTemplate") args (λ self.
       if_argument (a_request (rest args)) (λ t.
       if_argument (a_title_text (field h (Table t) (codes "title"))) (λ text.
       if_argument (entries_of h (field h (Table t) (codes "args"))) (λ entries.
-      if_argument (read_title text TemplateSpace) (λ title.
-      if_argument (read_args entries) (λ read.
+      if_title (read_title text TemplateSpace) (λ title.
+      if_entries entries (λ read.
       asks (length (title_text title) + bytes_of read) (Template self.frame.scene title (merge_args [] read)) (TemplateAsked text)))))))
 
   -- `frame:newChild{title=, args=}`: a frame of its own, with this frame as parent and its chain. Without a title it has this frame's.
@@ -214,6 +233,6 @@ module _ {X : Type 0} (h : Heap X) (frames : List Frame) where
       if_argument (a_request (rest args)) (λ t.
       if_argument (an_optional_text (field h (Table t) (codes "title"))) (λ text.
       if_argument (entries_of h (field h (Table t) (codes "args"))) (λ entries.
-      if_argument (child_title text self.frame.scene.title) (λ title.
-      if_argument (read_args entries) (λ read.
+      if_title (child_title text self.frame.scene.title) (λ title.
+      if_entries entries (λ read.
       child self title read))))))

@@ -1,5 +1,5 @@
--- OBJECTS OF `mw.html` (Scribunto, HTML library): `create`, the methods of an object, its fields, and its text. Each function stands here
--- behind the charge of its arguments (`of_texts`).
+-- OBJECTS OF `mw.html` (Scribunto, HTML library): `create`, the methods of an object, its fields, and its text. Each method stands here
+-- behind the charge of its arguments (`of_texts`); `create` has none.
 use Rattle.std.specs.Prelude.{ℕ, ◌+◌, Bool, true, false, ◌||◌, List, [], ◌∷◌, length, Option, Some, None, Ok, Err, if◌then◌else◌, bytes_eq, codes}
 use Rattle.mw_html.specs.Names.{is_name, is_attribute_name}
 use Rattle.mw_html.specs.Render.{Piece, Whole, Deep, is_empty, render}
@@ -198,12 +198,16 @@ attr args h = set_by attributes args h
 abbrev pub css : {X : Type 0} → List Value → Heap X → Plain X
 css args h = set_by styles args h
 
--- `cssText(text)`
+-- `cssText(text)`: nothing for nil
+abbrev pub adds_styles : {X : Type 0} → Heap X → ℕ → Option Bytes → Plain X
+adds_styles h m None = gives h (Markup m ∷ [])
+adds_styles h m (Some text) = changes h m (add_style_text text)
+
 abbrev pub css_text : {X : Type 0} → List Value → Heap X → Plain X
 css_text args h =
     with_argument h (an_object 1 (codes "cssText") args) (λ m.
-    with_argument h (a_text 2 (codes "cssText") (rest args)) (λ text.
-    changes h m (add_style_text text)))
+    with_argument h (text_if_any 2 (codes "cssText") (rest args)) (λ text.
+    adds_styles h m text))
 
 -- `addClass(class)`: nothing for nil. The classes that it makes cost their length.
 abbrev pub adds_class : {X : Type 0} → Heap X → ℕ → Option Bytes → Plain X

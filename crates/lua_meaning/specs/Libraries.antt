@@ -8,6 +8,7 @@ use Rattle.lua_heap.specs.declared.library.Library.TheVariants.{BasicAssert, Bas
 use Rattle.lua_meaning.specs.World.{World}
 use Rattle.lua_meaning.specs.Scope.{Function, Levels}
 use Rattle.lua_meaning.specs.Acts.{Act, Frame}
+use Rattle.lua_meaning.specs.Messages.{fail_quoting}
 use Rattle.lua_meaning.specs.Arguments.{Plain, plain_act, end_act}
 use Rattle.lua_meaning.specs.Basic.{assert, error, get_metatable, set_metatable, raw_equal, raw_get, raw_set, select, to_number, kind, unpack, next}
 use Rattle.lua_meaning.specs.Mw.{log, clone, get_current_title}
@@ -22,7 +23,7 @@ use Rattle.lua_meaning.specs.Texts as texts
 use Rattle.lua_meaning.specs.Html as html
 use Rattle.lua_meaning.specs.Iterators as iterators
 use Rattle.lua_meaning.specs.Frames.{args_index, argument_expand}
-use Rattle.lua_meaning.specs.FrameMethods.{FramedEnd, FrameEnds, FrameAsks, FrameWalks, Framed, get_current_frame, get_title, get_parent, argument_pairs, get_argument, preprocess, frame_extension_tag, expand_template, new_child}
+use Rattle.lua_meaning.specs.FrameMethods.{FramedEnd, FrameEnds, FrameQuotes, FrameAsks, FrameWalks, Framed, get_current_frame, get_title, get_parent, argument_pairs, get_argument, preprocess, frame_extension_tag, expand_template, new_child}
 use Rattle.lua_meaning.specs.Waiting.{asking}
 use Rattle.lua_meaning.specs.CallBacks.{pcall, xpcall, to_string, pairs, ipairs, ipairs_step}
 use Rattle.lua_meaning.specs.Gsub.{Alphabet, OfBytes, OfPoints, gsub}
@@ -31,7 +32,7 @@ use Rattle.lua_meaning.specs.Pending.{hears}
 
 -- the functions that call back, or see more of a run than its heap and its frames
 pub data Caller : Type 0 where
-  Pcall Xpcall ToString Pairs Ipairs NextPlace Require LoadData : Caller
+  Pcall Xpcall ToString Pairs Ipairs NextPlace Require LoadData StrictRead StrictWrite : Caller
   Gsub : (alphabet : Alphabet) → Caller
 
 -- WHAT A FUNCTION DOES with its arguments, in a heap and with the frames of a run, whatever the functions in the heap hold
@@ -117,7 +118,7 @@ form world TextListToText args h frames = Answers (of_texts texts.list_to_text a
 form world TextNowiki args h frames = Answers (of_texts texts.nowiki args h)
 form world TextTag args h frames = Answers (of_texts texts.tag args h)
 form world TextTruncate args h frames = Answers (of_texts texts.truncate args h)
-form world HtmlCreate args h frames = Answers (of_texts html.create args h)
+form world HtmlCreate args h frames = Answers (html.create args h)
 form world HtmlNode args h frames = Answers (of_texts html.node args h)
 form world HtmlWikitext args h frames = Answers (of_texts html.wikitext args h)
 form world HtmlNewline args h frames = Answers (of_texts html.newline args h)
@@ -139,8 +140,8 @@ form world FrameGetTitle args h frames = InFrames (get_title h frames args)
 form world FrameExtensionTag args h frames = InFrames (frame_extension_tag h frames args)
 form world ArgsIndex args h frames = Answers (args_index args h)
 form world ArgumentExpand args h frames = Answers (argument_expand args h)
-form world StrictIndex args h frames = Answers (strict_index args h)
-form world StrictNewIndex args h frames = Answers (strict_new_index args h)
+form world StrictIndex args h frames = CallsBack StrictRead
+form world StrictNewIndex args h frames = CallsBack StrictWrite
 form world IpairsStep args h frames = CallsBack NextPlace
 form world GmatchStep args h frames = Answers (iterators.gmatch_step args h)
 form world UstringGmatchStep args h frames = Answers (of_texts iterators.ustring_gmatch_step args h)
@@ -150,6 +151,7 @@ form world GsplitStep args h frames = Answers (of_texts iterators.gsplit_step ar
 -- a function that sees the frames
 abbrev pub framed_end : FramedEnd → Levels → Act (List Value)
 framed_end (FrameEnds end) callers = end_act end callers
+framed_end (FrameQuotes message) callers = fail_quoting callers message
 framed_end (FrameAsks question asked) callers = asking question (hears asked callers)
 framed_end (FrameWalks v) callers = pairs (v ∷ []) callers
 
@@ -170,6 +172,8 @@ call_back world Ipairs args callers = ipairs args callers
 call_back world NextPlace args callers = ipairs_step args callers
 call_back world Require args callers = require world args callers
 call_back world LoadData args callers = load_data args callers
+call_back world StrictRead args callers = strict_index args callers
+call_back world StrictWrite args callers = strict_new_index args callers
 call_back world (Gsub alphabet) args callers = gsub alphabet args callers
 
 -- A FUNCTION OF THE LIBRARY, with the levels of an error at its entry

@@ -1,5 +1,6 @@
 -- ERRORS AND THEIR MESSAGES (manual 2.7, and 5.1 under `error`). The texts are a profile: the manual fixes none.
--- A message that is a string gets the place of its level in front, and costs as many steps as the whole has bytes.
+-- A message that is a string gets the place of its level in front, and costs as many steps as the whole has bytes. One at no place is
+-- free, but for those that quote.
 use Rattle.std.specs.Prelude.{ℕ, zero, suc, ℤ, pos, negsuc, List, [], ◌∷◌, ◌++◌, length, Option, Some, None, if◌then◌else◌, slice_get, bytes_eq, codes}
 use Rattle.std.specs.Prelude.{decimal}
 use Rattle.page_run.specs.Outcome.{◌>>◌, tick}
@@ -36,6 +37,14 @@ raise_at p v = raise v
 -- the message of something that failed, at level 1
 abbrev pub fail : {X : Type 0} → Levels → Bytes → Act X
 fail ls text = raise_text (nth_level ls 1) text
+
+-- a message that quotes a text of the call costs its bytes at no place too, since it may be as long as any text
+abbrev pub raise_quote : {X : Type 0} → Option Place → Bytes → Act X
+raise_quote None text = tick (length text) >> raise (Text text)
+raise_quote (Some p) text = raise_text (Some p) text
+
+abbrev pub fail_quoting : {X : Type 0} → Levels → Bytes → Act X
+fail_quoting ls text = raise_quote (nth_level ls 1) text
 
 -- MESSAGES
 abbrev pub attempt_to : Bytes → Value → Bytes
@@ -84,7 +93,7 @@ no_limit = codes "'for' limit must be a number"
 abbrev pub no_step : Bytes
 no_step = codes "'for' step must be a number"
 
--- frames, modules and data modules; `text` is what the call was given
+-- frames, modules and data modules; `text` is what the call was given. But for the first they quote it.
 abbrev pub bad_template_arguments : Bytes
 bad_template_arguments = codes "bad template arguments"
 

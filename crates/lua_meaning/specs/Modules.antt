@@ -9,7 +9,7 @@ use Rattle.lua_syntax.specs.Tree.{Block}
 use Rattle.page_run.specs.Outcome.{Goes, Jumps, ◌>>=◌, ◌>>◌, give, jump, catch, tick, see, change, begin}
 use Rattle.lua_heap.specs.Value.{Value, Nil, Truth, Text, Table, is_nil}
 use Rattle.lua_heap.specs.Table.{Entries}
-use Rattle.lua_heap.specs.Heap.{Heap, set_meta_in}
+use Rattle.lua_heap.specs.Heap.{set_meta_in}
 use Rattle.lua_heap.specs.declared.library.Library.TheVariants.{StrictIndex, StrictNewIndex}
 use Rattle.lua_meaning.specs.Charges.{filled_table_charge}
 use Rattle.lua_meaning.specs.Scope.{Bytes, Levels}
@@ -18,8 +18,8 @@ use Rattle.lua_meaning.specs.Titled.{item_of, with_item, without_item}
 use Rattle.mw_frame.specs.declared.question.Ask.TheVariants.{Data}
 use Rattle.lua_meaning.specs.Values.{first, second}
 use Rattle.lua_meaning.specs.Acts.{Act, Raised, Progress, Running, Finished, State, ChunkBody, raise, choose}
-use Rattle.lua_meaning.specs.Messages.{place_text, fail, no_module, loop_in_require, no_data_module, undeclared_variable, undeclared_target}
-use Rattle.lua_meaning.specs.Arguments.{Plain, fails, a_text}
+use Rattle.lua_meaning.specs.Messages.{place_text, fail_quoting, no_module, loop_in_require, no_data_module, undeclared_variable, undeclared_target}
+use Rattle.lua_meaning.specs.Arguments.{a_text}
 use Rattle.lua_meaning.specs.Frames.{function_entry, with_table}
 use Rattle.lua_meaning.specs.CallBacks.{text_of}
 use Rattle.lua_meaning.specs.Waiting.{Waits, asking, refuse_answer, argument}
@@ -75,9 +75,9 @@ run_module title m = do
 -- as it stands with the module, and as it is held; `text` is what the call was given
 abbrev pub require_as : Bytes → Title → Option Progress → Option Module → Levels → Act (List Value)
 require_as text title (Some (Finished v)) m callers = give (v ∷ [])
-require_as text title (Some Running) m callers = fail callers (loop_in_require text)
+require_as text title (Some Running) m callers = fail_quoting callers (loop_in_require text)
 require_as text title None (Some m) callers = run_module title m
-require_as text title None None callers = fail callers (no_module text)
+require_as text title None None callers = fail_quoting callers (no_module text)
 
 abbrev pub require_module : World → Bytes → Title → Levels → Act (List Value)
 require_module world text title callers = do
@@ -99,16 +99,17 @@ require_strict = do
   change (with_meta s)
   give (Truth true ∷ [])
 
-abbrev pub strict_index : {X : Type 0} → List Value → Heap X → Plain X
-strict_index args h = fails h (undeclared_variable (text_of (second args)))
+-- what these do: they refuse the name that they are given
+abbrev pub strict_index : List Value → Levels → Act (List Value)
+strict_index args callers = fail_quoting callers (undeclared_variable (text_of (second args)))
 
-abbrev pub strict_new_index : {X : Type 0} → List Value → Heap X → Plain X
-strict_new_index args h = fails h (undeclared_target (text_of (second args)))
+abbrev pub strict_new_index : List Value → Levels → Act (List Value)
+strict_new_index args callers = fail_quoting callers (undeclared_target (text_of (second args)))
 
 -- `require(name)`
 abbrev pub require_titled : World → Bytes → Result Title TitleFault → Levels → Act (List Value)
 require_titled world text (Ok title) callers = require_module world text title callers
-require_titled world text (Err fault) callers = fail callers (no_module text)
+require_titled world text (Err fault) callers = fail_quoting callers (no_module text)
 
 abbrev pub require_text : World → Bytes → Levels → Act (List Value)
 require_text world text callers = choose (bytes_eq text (codes "strict")) require_strict (require_titled world text (title_of text Main) callers)
@@ -128,7 +129,7 @@ abbrev pub data_answer : Bytes → Title → Levels → Waits
 data_answer text title callers (Goes (Table t ∷ [])) = do
   keep_data title (Table t)
   give (Table t ∷ [])
-data_answer text title callers (Goes []) = fail callers (no_data_module text)
+data_answer text title callers (Goes []) = fail_quoting callers (no_data_module text)
 data_answer text title callers (Jumps (Raised v)) = raise v
 data_answer text title callers outcome = refuse_answer
 
@@ -140,7 +141,7 @@ abbrev pub load_titled : Bytes → Result Title TitleFault → Levels → Act (L
 load_titled text (Ok title) callers = do
   s ← see
   load_as text title (item_of s.data_modules title) callers
-load_titled text (Err fault) callers = fail callers (no_data_module text)
+load_titled text (Err fault) callers = fail_quoting callers (no_data_module text)
 
 abbrev pub load_data : List Value → Levels → Act (List Value)
 load_data args callers = do

@@ -5,7 +5,7 @@ use Rattle.page_run.specs.Outcome.{Goes}
 use Rattle.lua_heap.specs.Value.{Value, Text}
 use Rattle.lua_meaning.specs.Scope.{Bytes, Levels}
 use Rattle.lua_meaning.specs.Questions.{Asked, TemplateAsked, TextAsked, DataAsked}
-use Rattle.lua_meaning.specs.Messages.{fail, no_template}
+use Rattle.lua_meaning.specs.Messages.{fail_quoting, no_template}
 use Rattle.lua_meaning.specs.Waiting.{Waits, for_values, refuse_answer, text_value}
 use Rattle.lua_meaning.specs.CallBacks.{pcall_answer, xpcall_answer, handler_answer, string_given, three_of}
 use Rattle.lua_meaning.specs.Gsub.{Replacing, gsub_answer}
@@ -41,7 +41,7 @@ text_answer (Goes (Text t ∷ [])) = text_value t
 text_answer outcome = refuse_answer
 
 abbrev pub template_answer : Bytes → Levels → Waits
-template_answer text callers (Goes []) = fail callers (no_template text)
+template_answer text callers (Goes []) = fail_quoting callers (no_template text)
 template_answer text callers outcome = text_answer outcome
 
 abbrev pub hears : Asked → Levels → Waits

@@ -44,6 +44,11 @@ pub record Scope : Type 0 where
 abbrev pub levels : Scope → ℕ → Levels
 levels scope line = record { source = scope.source; line = line } ∷ scope.callers
 
+-- the title of the module in whose text level 1 stands
+abbrev pub source_of : Levels → Bytes
+source_of [] = []
+source_of (p ∷ more) = p.source
+
 -- one more local variable, in front of those that are seen
 abbrev pub with_name : Bytes → ℕ → Scope → Scope
 with_name name cell scope = record scope { names = (name, cell) ∷ scope.names }

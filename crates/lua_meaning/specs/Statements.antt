@@ -2,9 +2,9 @@
 -- has more names, every other one leaves it as it was. What stands in a block of its own is not seen after it.
 use Rattle.std.specs.Prelude.{List, [], ◌∷◌, ◌++◌, reverse, Option, Some, None}
 use Rattle.lua_syntax.specs.Tree.{Fun}
-use Rattle.page_run.specs.Outcome.{◌>>=◌, ◌>>◌, give, jump, see}
+use Rattle.page_run.specs.Outcome.{◌>>=◌, ◌>>◌, give, jump, note, see}
 use Rattle.lua_heap.specs.Value.{Value, Nil, Text, Table, is_true}
-use Rattle.lua_meaning.specs.Scope.{Bytes, Scope, with_name}
+use Rattle.lua_meaning.specs.Scope.{Bytes, Scope, with_name, source_of}
 use Rattle.lua_meaning.specs.Values.{first, rest}
 use Rattle.lua_meaning.specs.Acts.{Act, Returned, Broke, node, choose, one, make_cell, write_cell, declare}
 use Rattle.lua_meaning.specs.Index.{set_index}
@@ -32,7 +32,8 @@ do_block body scope = do
   node
   within body scope
 
--- ASSIGNMENT (2.4.3): the tables and keys of the targets, then the values, and then each target from the last to the first
+-- ASSIGNMENT (2.4.3): the tables and keys of the targets, then the values, and then each target from the last to the first. The name of
+-- a global variable is noted.
 abbrev pub targets : List Targeted → Scope → List Target → Act (List Target)
 targets [] scope before = give before
 targets (e ∷ more) scope before = do
@@ -47,6 +48,7 @@ with_values (t ∷ ts) vs = (t, first vs) ∷ with_values ts (rest vs)
 abbrev pub assign_one : Target → Value → Act (Unit {0})
 assign_one (Local cell) v = write_cell cell v
 assign_one (Global name ls) v = do
+  note (source_of ls) name
   s ← see
   set_index (Table s.globals) (Text name) v ls
 assign_one (Entry of key ls) v = set_index of key v ls

@@ -9,7 +9,7 @@ use Rattle.lua_meaning.specs.Scope.{Bytes}
 use Rattle.lua_meaning.specs.Values.{second, third, text_in}
 use Rattle.lua_meaning.specs.Messages.{bad_argument, expected}
 use Rattle.lua_meaning.specs.Metatables.{field}
-use Rattle.lua_meaning.specs.Arguments.{Plain, gives_text, with_charge, Argument, with_argument, a_text, text_charge}
+use Rattle.lua_meaning.specs.Arguments.{Plain, gives_text, with_charge, Argument, with_argument, a_text, text_charge, passed}
 
 -- the value of an attribute: `&`, `<`, `>`, `"`, `'` and the space that does not break are written as references
 abbrev pub reference : ℕ → Bytes
@@ -51,9 +51,17 @@ and_then (Ok a) (Ok b) = Ok (a ++ b)
 and_then (Ok a) (Err message) = Err message
 and_then (Err message) b = Err message
 
+abbrev pub entry_attribute : Value × Value → Argument Bytes
+entry_attribute e = named_attribute (text_in e.0) e
+
 abbrev pub attributes : Entries → Argument Bytes
 attributes [] = Ok []
-attributes (e ∷ more) = if is_nil e.1 then attributes more else and_then (named_attribute (text_in e.0) e) (attributes more)
+attributes (e ∷ more) = if is_nil e.1 then attributes more else and_then (entry_attribute e) (attributes more)
+
+-- those of a table, in order of `next`; each cleared entry that is passed costs a step
+abbrev pub passed_in : {X : Type 0} → Heap X → Value → ℕ
+passed_in h (Table t) = passed entry_attribute (table_at h t).entries
+passed_in h v = 0
 
 abbrev pub attributes_in : {X : Type 0} → Heap X → Value → Argument Bytes
 attributes_in h Nil = Ok []
@@ -68,7 +76,8 @@ closed_by name (Number n) = Ok (codes ">" ++ signed_decimal n ++ codes "</" ++ n
 closed_by name (Text t) = Ok (codes ">" ++ t ++ codes "</" ++ name ++ codes ">")
 closed_by name v = Err (bad_argument 3 (codes "tag") (expected (codes "string") (v ∷ [])))
 
--- THE TAG of a name (the first of a list, if it is there), attributes and content. It costs the bytes of the arguments that are strings, and its own.
+-- THE TAG of a name (the first of a list, if it is there), attributes and content. It costs the bytes of the arguments that are strings,
+-- a step for each cleared entry among the attributes, and its own bytes.
 pub record TagParts : Type 0 where
   pub name : List Value
   pub attrs : Value
@@ -77,8 +86,9 @@ pub record TagParts : Type 0 where
 abbrev pub tag_of : {X : Type 0} → TagParts → Heap X → Plain X
 tag_of p h =
     with_argument h (a_text 1 (codes "tag") p.name) (λ name.
+    with_charge (passed_in h p.attrs) (
     with_argument h (and_then (attributes_in h p.attrs) (closed_by name p.content)) (λ behind.
-    gives_text h (codes "<" ++ name ++ behind)))
+    gives_text h (codes "<" ++ name ++ behind))))
 
 -- the name, the content and the attributes, one by one or as fields of a table
 abbrev pub extension_parts : {X : Type 0} → Heap X → List Value → TagParts

@@ -5,7 +5,9 @@ use Rattle.wk_base.specs.declared.title.Namespace.TheVariants.{Main, Module as M
 use Rattle.wk_base.specs.declared.left.Left.{Left}
 use Rattle.page_run.specs.declared.which.Which.{Which}
 use Rattle.page_run.specs.Outcome.{Outcome, Goes, Jumps}
-use Rattle.page_run.specs.State.{Reply, Gives as Says, Exhausts, no_tally, Event, Ended, Spent, Asked, moment_of}
+use Rattle.page_run.specs.State.{Reply, Gives as Says, Exhausts, no_tally, Event, Ended, Spent, Asked, moment_of, start}
+use Rattle.page_run.specs.Perform.{wait}
+use Rattle.page_run.specs.Trace.{Note, trace}
 use Rattle.lua_syntax.specs.Tree.{Block}
 use Rattle.lua_heap.specs.Value.{Value, Text, Table}
 use Rattle.lua_meaning.specs.Scope.{Bytes}
@@ -17,7 +19,9 @@ use Rattle.lua_meaning.specs.Questions.{Answer}
 use Rattle.lua_meaning.specs.Titled.{same_title}
 use Rattle.lua_meaning.specs.Acts.{State, Jump, Raised}
 use Rattle.lua_meaning.specs.World.{Modules, World}
-use Rattle.lua_meaning.specs.Start.{Invoke, DataOf, lua}
+use Rattle.lua_meaning.specs.Start.{Invoke, DataOf, run_of, lua}
+use Rattle.lua_meaning.specs.Home.{home}
+use Rattle.lua_meaning.specs.Things.{meaning_of}
 
 abbrev pub module_title : Bytes → Title
 module_title name = record { ns = ModuleSpace; name = name }
@@ -94,6 +98,15 @@ invoke_fault name size kind line steps = seen (lua (in_world (no_chunk size kind
 -- the nodes, turns of loops and functions entered that were counted, with enough of all
 abbrev pub count_nodes : Bytes → ℕ → Block → ℕ → ℕ
 count_nodes name size body steps = (moment_of (lua (in_world (one_module size body)) (Invoke (job name [])) (allowance steps 20000) [])).tally.nodes
+
+-- what an invocation notes: the global variables that it names, each with the module that does
+abbrev pub notes_of : Bytes → ℕ → Block → ℕ → List Note
+notes_of name size body steps =
+    let world = in_world (one_module size body) in
+    trace (meaning_of world) wait (run_of world (Invoke (job name []))) (start home (allowance steps 20000) [])
+
+abbrev pub named : Bytes → Bytes → Note
+named source name = record { source = source; name = name }
 
 -- SEVERAL MODULES, and an invocation in the body of template T, which has two arguments
 pub record ModuleText : Type 0 where

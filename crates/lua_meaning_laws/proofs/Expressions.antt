@@ -11,7 +11,7 @@ use Rattle.lua_meaning.specs.Operators.{Operator, Less, Greater, AtMost, AtLeast
 use Rattle.lua_meaning.specs.Parts.{Expression, Entry, FieldMeaning, ItemOf, PairOf}
 use Rattle.lua_meaning.specs.Expressions as parts
 use Rattle.lua_meaning.specs.Constructors as constructors
-use Rattle.lua_meaning_laws.proofs.OnlyData.{Quiet, Everywhere, Each, ◌>>=◌, ◌>>◌, give, tick, look}
+use Rattle.lua_meaning_laws.proofs.OnlyData.{Quiet, Everywhere, Each, ◌>>=◌, ◌>>◌, give, tick, look, note}
 use Rattle.lua_meaning_laws.proofs.Heaps.{node, one, read_cell, make_table, make_closure}
 use Rattle.lua_meaning_laws.proofs.Calls.{call, index, set_entry}
 use Rattle.lua_meaning_laws.proofs.Operators.{operate, minus, length_of}
@@ -39,7 +39,7 @@ dots scope = do
 
 variable : (cell : Option ℕ) (name : Bytes) (ls : Levels) → Quiet (parts.variable cell name ls)
 variable (Some cell) name ls = read_cell cell
-variable None name ls = look (λ s e. index (Table s.globals) (Text name) ls)
+variable None name ls = note _ name >> look (λ s e. index (Table s.globals) (Text name) ls)
 
 pub name : (x : Bytes) (line : ℕ) (scope : Scope) → Quiet (parts.name x line scope)
 name x line scope = do

@@ -73,3 +73,10 @@ raise_at p v = raise v
 
 pub fail : {X : Type 0} → (ls : Levels) (text : Bytes) → Quiet {X = X} (messages.fail ls text)
 fail ls text = raise_text (nth_level ls 1) text
+
+raise_quote : {X : Type 0} → (place : Option Place) (text : Bytes) → Quiet {X = X} (messages.raise_quote place text)
+raise_quote None text = tick (length text) >> raise (Text text)
+raise_quote (Some p) text = raise_text (Some p) text
+
+pub fail_quoting : {X : Type 0} → (ls : Levels) (text : Bytes) → Quiet {X = X} (messages.fail_quoting ls text)
+fail_quoting ls text = raise_quote (nth_level ls 1) text

@@ -19,7 +19,7 @@ use Rattle.lua_meaning.specs.Arguments.{a_text}
 use Rattle.lua_meaning.specs.Modules as modules
 use Rattle.lua_meaning.specs.Modules.{value_or_true, with_meta}
 use Rattle.lua_meaning_laws.proofs.OnlyData.{Quiet, ◌>>=◌, ◌>>◌, give, jump, catch, raise, tick, begin, choose, look, change}
-use Rattle.lua_meaning_laws.proofs.Heaps.{fail}
+use Rattle.lua_meaning_laws.proofs.Heaps.{fail_quoting}
 use Rattle.lua_meaning_laws.proofs.CallBacks.{asking, argument, refuse_answer}
 
 begin_chunk : (title : Title) (chunk : Result Block FaultAt) → Quiet (modules.begin_chunk title chunk)
@@ -53,9 +53,9 @@ run_module title m = do
 
 require_as : (text : Bytes) (title : Title) (progress : Option Progress) (m : Option Module) (callers : Levels) → Quiet (modules.require_as text title progress m callers)
 require_as text title (Some (Finished v)) m callers = give _
-require_as text title (Some Running) m callers = fail callers _
+require_as text title (Some Running) m callers = fail_quoting callers _
 require_as text title None (Some m) callers = run_module title m
-require_as text title None None callers = fail callers _
+require_as text title None None callers = fail_quoting callers _
 
 require_module : (world : World) (text : Bytes) (title : Title) (callers : Levels) → Quiet (modules.require_module world text title callers)
 require_module world text title callers = look (λ s e. require_as text title (item_of s.modules title) (world.modules title) callers)
@@ -67,7 +67,7 @@ require_strict = do
 
 require_titled : (world : World) (text : Bytes) (read : Result Title TitleFault) (callers : Levels) → Quiet (modules.require_titled world text read callers)
 require_titled world text (Ok title) callers = require_module world text title callers
-require_titled world text (Err fault) callers = fail callers _
+require_titled world text (Err fault) callers = fail_quoting callers _
 
 require_text : (world : World) (text : Bytes) (callers : Levels) → Quiet (modules.require_text world text callers)
 require_text world text callers = choose (bytes_eq text (codes "strict")) require_strict (require_titled world text (title_of text Main) callers)
@@ -77,6 +77,13 @@ require world args callers = do
   text ← argument callers (a_text 1 (codes "require") args)
   require_text world text callers
 
+-- the handlers of `strict`
+pub strict_index : (args : List Value) (callers : Levels) → Quiet (modules.strict_index args callers)
+strict_index args callers = fail_quoting callers _
+
+pub strict_new_index : (args : List Value) (callers : Levels) → Quiet (modules.strict_new_index args callers)
+strict_new_index args callers = fail_quoting callers _
+
 -- `mw.loadData`
 keep_data : (title : Title) (root : Value) → Quiet (modules.keep_data title root)
 keep_data title root = look (λ s e. change (record s { data_modules = with_item s.data_modules title root }) e)
@@ -85,7 +92,7 @@ data_answer : (text : Bytes) (title : Title) (callers : Levels) (o : Outcome (Li
 data_answer text title callers (Goes (Table t ∷ [])) = do
   keep_data title (Table t)
   give (Table t ∷ [])
-data_answer text title callers (Goes []) = fail callers _
+data_answer text title callers (Goes []) = fail_quoting callers _
 data_answer text title callers (Jumps (Raised v)) = raise v
 data_answer text title callers outcome = refuse_answer
 
@@ -95,7 +102,7 @@ load_as text title None callers = asking (Data title) tt (data_answer text title
 
 load_titled : (text : Bytes) (read : Result Title TitleFault) (callers : Levels) → Quiet (modules.load_titled text read callers)
 load_titled text (Ok title) callers = look (λ s e. load_as text title (item_of s.data_modules title) callers)
-load_titled text (Err fault) callers = fail callers _
+load_titled text (Err fault) callers = fail_quoting callers _
 
 pub load_data : (args : List Value) (callers : Levels) → Quiet (modules.load_data args callers)
 load_data args callers = do

@@ -2,7 +2,7 @@
 -- so if the run is so after each of its outcomes. With the two operators of this file the proof of a `do` block is that block again,
 -- with the proof of each line in its place.
 use Rattle.std.specs.Prelude.{◌≡◌, ℕ, Bool, true, false, List, [], ◌∷◌}
-use Rattle.page_run.specs.Run.{Ends, Takes, Counts, Sees, Changes, Calls, Leaves, Uses, Begins, Opens, Asks}
+use Rattle.page_run.specs.Run.{Ends, Takes, Counts, Notes, Sees, Changes, Calls, Leaves, Uses, Begins, Opens, Asks}
 use Rattle.page_run.specs.Outcome.{Outcome, Goes, Jumps, on_value}
 use Rattle.page_run.specs.Outcome as act
 use Rattle.mw_frame.specs.declared.question.Ask.{Ask}
@@ -21,6 +21,7 @@ abbrev pub OnlyData : LuaRun → Type 0
 OnlyData (Ends outcome) = Unit {0}
 OnlyData (Takes steps rest) = OnlyData rest
 OnlyData (Counts rest) = OnlyData rest
+OnlyData (Notes source name rest) = OnlyData rest
 OnlyData (Sees rest) = (s : State) → s.frames ≡ [] → OnlyData (rest s)
 OnlyData (Changes s rest) = (s.frames ≡ []) × OnlyData rest
 OnlyData (Calls rest) = OnlyData rest
@@ -67,6 +68,9 @@ tick n = record { before = λ k h. h (Goes tt) }
 
 pub count : Quiet act.count
 count = record { before = λ k h. h (Goes tt) }
+
+pub note : (source name : List ℕ) → Quiet (act.note source name)
+note source name = record { before = λ k h. h (Goes tt) }
 
 pub begin : (thing : Thing) → Quiet {X = List Value} (act.begin thing)
 begin thing = record { before = λ k h. h }

@@ -3,7 +3,7 @@
 use Rattle.std.proofs.Common.{◌≡◌, ℕ, zero, suc, List, [], ◌∷◌, Option, Some, None, refl, ap, ◌∙◌}
 use Rattle.wk_base.specs.declared.title.Title.{Title}
 use Rattle.wk_base.specs.Titles.{title_text}
-use Rattle.page_run.specs.Run.{Ends, Takes, Counts, Sees, Changes, Calls, Leaves, Uses, Begins, Opens, Asks}
+use Rattle.page_run.specs.Run.{Ends, Takes, Counts, Notes, Sees, Changes, Calls, Leaves, Uses, Begins, Opens, Asks}
 use Rattle.page_run.specs.Outcome.{Outcome}
 use Rattle.page_run.specs.State.{Response, Gives, Exhausts, Reply, State as Middle, Event, start}
 use Rattle.page_run.specs.Perform.{less, with_steps, enter_call, with_call, give_back, leave_call, count_node, take_reply, after_response, with_reply, nothing_begins, perform_with, perform_by, perform, to_come, wait}
@@ -65,6 +65,7 @@ module _ (world : World) where
   with_asks begins h (Ends outcome) only s none = tt
   with_asks begins h (Takes n p) only s none = with_steps_asks (less n s.left.steps) s (perform_with (meaning_of world) wait begins p) (λ r. with_asks begins h p only record s { left = record s.left { steps = r } } none)
   with_asks begins h (Counts p) only s none = with_asks begins h p only (count_node s) none
+  with_asks begins h (Notes source name p) only s none = with_asks begins h p only s none
   with_asks begins h (Sees f) only s none = with_asks begins h (f s.heap) (only s.heap none) s none
   with_asks begins h (Changes heap p) (empty, only) s none = with_asks begins h p only record s { heap = heap } empty
   with_asks begins h (Calls p) only s none = with_call_asks (less 1 s.left.calls) s (perform_with (meaning_of world) wait begins p) (λ r. with_asks begins h p only (enter_call r s) none)

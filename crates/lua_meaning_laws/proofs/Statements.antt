@@ -7,7 +7,7 @@ use Rattle.lua_meaning.specs.Acts.{Returned, Broke}
 use Rattle.lua_meaning.specs.Parts.{Expression, Targeted, Statement, Branch, Target, Local, Global, Entry}
 use Rattle.lua_meaning.specs.Statements as statements
 use Rattle.lua_meaning.specs.Statements.{with_values}
-use Rattle.lua_meaning_laws.proofs.OnlyData.{Quiet, Everywhere, Each, ◌>>=◌, ◌>>◌, give, jump, choose, look}
+use Rattle.lua_meaning_laws.proofs.OnlyData.{Quiet, Everywhere, Each, ◌>>=◌, ◌>>◌, give, jump, choose, look, note}
 use Rattle.lua_meaning_laws.proofs.Heaps.{node, one, make_cell, write_cell, declare}
 use Rattle.lua_meaning_laws.proofs.Calls.{set_index}
 use Rattle.lua_meaning_laws.proofs.Expressions.{values, closure}
@@ -39,7 +39,7 @@ targets (e ∷ more) (q, each) scope before = do
 
 assign_one : (t : Target) (v : Value) → Quiet (statements.assign_one t v)
 assign_one (Local cell) v = write_cell cell v
-assign_one (Global name ls) v = look (λ s e. set_index (Table s.globals) (Text name) v ls)
+assign_one (Global name ls) v = note _ name >> look (λ s e. set_index (Table s.globals) (Text name) v ls)
 assign_one (Entry of key ls) v = set_index of key v ls
 
 assign_each : (ps : List (Target × Value)) → Quiet (statements.assign_each ps)

@@ -8,27 +8,28 @@ use Rattle.lua_heap.specs.Value.{Value}
 use Rattle.lua_meaning.specs.Scope.{Bytes, Scope, Function, Levels}
 use Rattle.lua_meaning.specs.World.{World}
 use Rattle.lua_meaning.specs.Acts.{Jump, Returned, Frame, Thing, WhileTurn, RepeatTurn, CountTurn, EachTurn, Body, LibraryBody, ChunkBody, IndexLink, SetLink, CallLink}
-use Rattle.lua_meaning.specs.FrameMethods.{Framed, FramedEnd, FrameEnds, FrameAsks, FrameWalks}
+use Rattle.lua_meaning.specs.FrameMethods.{Framed, FramedEnd, FrameEnds, FrameQuotes, FrameAsks, FrameWalks}
 use Rattle.lua_meaning.specs.Laws.{AsksNothing, NeedsNoFrame}
 use Rattle.lua_meaning.specs.Libraries as libraries
-use Rattle.lua_meaning.specs.Libraries.{Caller, Pcall, Xpcall, ToString, Pairs, Ipairs, NextPlace, Require, LoadData, Gsub, Form, Answers, InFrames, CallsBack, form}
+use Rattle.lua_meaning.specs.Libraries.{Caller, Pcall, Xpcall, ToString, Pairs, Ipairs, NextPlace, Require, LoadData, StrictRead, StrictWrite, Gsub, Form, Answers, InFrames, CallsBack, form}
 use Rattle.lua_meaning.specs.Meaning.{params_of, exp_part, block_part}
 use Rattle.lua_meaning.specs.Things as things
 use Rattle.lua_meaning.specs.Things.{body_scope, chunk_scope}
 use Rattle.lua_meaning.proofs.FrameLaws.{frames_are_needed}
 use Rattle.lua_meaning_laws.proofs.OnlyData.{Quiet, ◌>>=◌, ◌>>◌, give, jump, catch, tick, count, in_call, look, change}
-use Rattle.lua_meaning_laws.proofs.Heaps.{declare}
+use Rattle.lua_meaning_laws.proofs.Heaps.{declare, fail_quoting}
 use Rattle.lua_meaning_laws.proofs.Calls.{call, index_link, set_link}
 use Rattle.lua_meaning_laws.proofs.Loops.{while_turn, repeat_turn, count_turn, each_turn}
 use Rattle.lua_meaning_laws.proofs.Tree.{expression, block, body_of}
 use Rattle.lua_meaning_laws.proofs.CallBacks.{pcall, xpcall, to_string, pairs, ipairs, ipairs_step}
 use Rattle.lua_meaning_laws.proofs.Answers.{end_act, plain_act}
 use Rattle.lua_meaning_laws.proofs.Replacing.{gsub}
-use Rattle.lua_meaning_laws.proofs.Modules.{require, load_data}
+use Rattle.lua_meaning_laws.proofs.Modules.{require, load_data, strict_index, strict_new_index}
 
 -- FUNCTIONS OF THE LIBRARY
 framed_end : (end : FramedEnd) → AsksNothing end → (callers : Levels) → Quiet (libraries.framed_end end callers)
 framed_end (FrameEnds end) nothing callers = end_act end callers
+framed_end (FrameQuotes message) nothing callers = fail_quoting callers message
 framed_end (FrameAsks question asked) nothing callers = absurd nothing
 framed_end (FrameWalks v) nothing callers = pairs (v ∷ []) callers
 
@@ -46,6 +47,8 @@ call_back world Ipairs args callers = ipairs args callers
 call_back world NextPlace args callers = ipairs_step args callers
 call_back world Require args callers = require world args callers
 call_back world LoadData args callers = load_data args callers
+call_back world StrictRead args callers = strict_index args callers
+call_back world StrictWrite args callers = strict_new_index args callers
 call_back world (Gsub alphabet) args callers = gsub alphabet args callers
 
 do_form : (world : World) (f : Form Function) → NeedsNoFrame f → (args : List Value) (callers : Levels) → Quiet (libraries.do_form world f args callers)

@@ -5,7 +5,7 @@ use Rattle.lua_heap.specs.Value as kind
 use Rattle.lua_meaning.specs.Scope.{Bytes}
 use Rattle.lua_meaning.specs.Acts.{Raised}
 use Rattle.lua_meaning.specs.Messages.{no_data_module, wrong_answer}
-use Rattle.lua_slots.specs.Errors.{gives, jumps, fails}
+use Rattle.lua_slots.specs.Errors.{gives, jumps, fails_quoting}
 use Rattle.lua_slots.specs.Modules.{with_data}
 use Rattle.lua_slots.specs.Points.{SFrame, Move}
 use Rattle.lua_slots.specs.Slots.{Slots}
@@ -35,7 +35,7 @@ DataAnswerOf s answer.Other = Unit {0}
 -- and what is done with it (`data_answer` of `lua_slots`, case by case)
 abbrev pub data_move : DataAnswer → Bytes → Title → Option ℕ → List SFrame → Slots → Move
 data_move (answer.Table table) text title line fs s = gives (kind.Table table.at ∷ []) fs (with_data title (kind.Table table.at) s)
-data_move answer.Nothing text title line fs s = fails line (no_data_module text) fs s
+data_move answer.Nothing text title line fs s = fails_quoting line (no_data_module text) fs s
 data_move answer.Other text title line fs s = jumps (Raised (kind.Text wrong_answer)) fs s
 
 -- the value of an error, if a jump is one

@@ -4,14 +4,14 @@ ghost use Rattle.wk_base.specs.declared.left.Left.{Left as Allowance};
 ghost use Rattle.lua_heap.specs.Value as kind;
 ghost use Rattle.lua_meaning.specs.Acts as act;
 ghost use Rattle.lua_meaning.specs.Messages as meaning;
-ghost use Rattle.lua_slots.specs.Errors.{fails, jumps};
+ghost use Rattle.lua_slots.specs.Errors.{fails_quoting, jumps};
 ghost use Rattle.lua_state.specs.Makes.{Makes};
 ghost use Rattle.lua_state.specs.Of.{StateOf};
 ghost use Rattle.lua_state.specs.Seen.{frames_of, slots_of};
 
 use crate::messages::{loop_in_require, no_data_module, no_module};
 use lua_stack::{Focus, Jump};
-use lua_state::{State, Turn, fail};
+use lua_state::{State, Turn, fail_quoting};
 use lua_store::{Store, Value};
 use std::alloc::Global;
 use wk_base::{Left, NoMemory};
@@ -44,11 +44,11 @@ pub fn lacks_module<'m>(
     line: Option<u32>,
 ) -> Result<Turn<'m>, NoMemory>
     requires { StateOf store.old state.now }
-    ensures { IfOk result (λ r. Makes store.old state.now left.old store.new state.now left.new (fails line (meaning.no_module text.now) (frames_of store.old state.now) (slots_of store.old state.now)) r) }
+    ensures { IfOk result (λ r. Makes store.old state.now left.old store.new state.now left.new (fails_quoting line (meaning.no_module text.now) (frames_of store.old state.now) (slots_of store.old state.now)) r) }
 {
     let message = no_module(alloc, text)?;
     let said = message.as_slice();
-    let turn = fail(alloc, store, left, state, line, said)?;
+    let turn = fail_quoting(alloc, store, left, state, line, said)?;
     Ok(turn)
 }
 
@@ -62,11 +62,11 @@ pub fn requires_itself<'m>(
     line: Option<u32>,
 ) -> Result<Turn<'m>, NoMemory>
     requires { StateOf store.old state.now }
-    ensures { IfOk result (λ r. Makes store.old state.now left.old store.new state.now left.new (fails line (meaning.loop_in_require text.now) (frames_of store.old state.now) (slots_of store.old state.now)) r) }
+    ensures { IfOk result (λ r. Makes store.old state.now left.old store.new state.now left.new (fails_quoting line (meaning.loop_in_require text.now) (frames_of store.old state.now) (slots_of store.old state.now)) r) }
 {
     let message = loop_in_require(alloc, text)?;
     let said = message.as_slice();
-    let turn = fail(alloc, store, left, state, line, said)?;
+    let turn = fail_quoting(alloc, store, left, state, line, said)?;
     Ok(turn)
 }
 
@@ -80,10 +80,10 @@ pub fn lacks_data<'m>(
     line: Option<u32>,
 ) -> Result<Turn<'m>, NoMemory>
     requires { StateOf store.old state.now }
-    ensures { IfOk result (λ r. Makes store.old state.now left.old store.new state.now left.new (fails line (meaning.no_data_module text.now) (frames_of store.old state.now) (slots_of store.old state.now)) r) }
+    ensures { IfOk result (λ r. Makes store.old state.now left.old store.new state.now left.new (fails_quoting line (meaning.no_data_module text.now) (frames_of store.old state.now) (slots_of store.old state.now)) r) }
 {
     let message = no_data_module(alloc, text)?;
     let said = message.as_slice();
-    let turn = fail(alloc, store, left, state, line, said)?;
+    let turn = fail_quoting(alloc, store, left, state, line, said)?;
     Ok(turn)
 }

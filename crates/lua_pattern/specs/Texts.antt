@@ -7,8 +7,8 @@ use Rattle.ucd_category.specs.declared.GeneralCategory.{GeneralCategory}
 use Rattle.ucd_category.specs.declared.GeneralCategory.TheVariants as category
 use Rattle.ucd_category.specs.declared.GeneralCategoryGroup.{GeneralCategoryGroup}
 use Rattle.ucd_category.specs.declared.GeneralCategoryGroup.TheVariants as group
-use Rattle.ucd_category.specs.GeneralCategory.{general_category, general_category_eq}
-use Rattle.ucd_category.specs.GeneralCategoryGroup.{in_group}
+use Rattle.unicode.specs.GeneralCategory.{general_category, general_category_eq}
+use Rattle.unicode.specs.GeneralCategoryGroup.{in_group}
 use Rattle.bstr.specs.Utf8.{decoded, or_replacement}
 
 abbrev pub between : ℕ → ℕ → ℕ → Bool

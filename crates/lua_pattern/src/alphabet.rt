@@ -6,7 +6,7 @@ ghost use Rattle.lua_pattern.specs.Texts.{between, bytes, points, is_of, is_amon
 
 use crate::item::Class;
 use bstr::decode_lossy;
-use ucd_category::{GeneralCategory, GeneralCategoryGroup};
+use unicode::properties::{GeneralCategory, GeneralCategoryGroup};
 
 /// What the symbols of a text are. Its methods are of use to this crate alone.
 ///

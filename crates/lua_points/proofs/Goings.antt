@@ -29,7 +29,7 @@ use Rattle.lua_goes.specs.Going.{Stop, led, Reaches, here, further, Comes, is_ov
 use Rattle.lua_agree.specs.Variables.{Var}
 use Rattle.lua_agree.specs.Functions.{SameFunction}
 use Rattle.lua_agree.specs.Agree.{SamePoint, Base, Rel}
-use Rattle.lua_agree.specs.Follows.{Follows, takes, counts, calls, leaves, sees, changes, begins, now}
+use Rattle.lua_agree.specs.Follows.{Follows, takes, counts, calls, leaves, notes, sees, changes, begins, now}
 use Rattle.lua_agree.proofs.MetLaws.{next_is_met}
 use Rattle.lua_agree.proofs.Moves.{goes_on}
 use Rattle.lua_agree.specs.Met.{moment_with, comes_to, Met, goes_to, is_spent}
@@ -73,6 +73,7 @@ module _ (code : CWorld) (world : World) (w : Agrees world code) where
   led-later (counts p h mv x) = led-later x
   led-later (calls p h mv x) = led-later x
   led-later (leaves p h mv x) = led-later x
+  led-later (notes source name p h mv x) = led-later x
   led-later (sees f h mv x) = led-later x
   led-later (changes i p h mv x) = led-later x
   led-later (begins t k h mv x) = led-later x

@@ -17,7 +17,7 @@ use Rattle.lua_store.specs.Seen.{StoreView}
 use Rattle.lua_store.specs.Parts.{IsLater}
 use Rattle.lua_store.proofs.Later.{later-itself}
 use Rattle.lua_slots.specs.Code.{Protos, CModule, CWorld}
-use Rattle.lua_slots.specs.Errors.{raises}
+use Rattle.lua_slots.specs.Errors.{raises_quote}
 use Rattle.lua_slots.specs.Modules.{with_module, begins_text, require_as, require_module}
 use Rattle.lua_meaning.specs.Pending.{ModuleWaits}
 use Rattle.lua_slots.specs.Points.{SFrame, Waits, ModuleFound, DataNow, Move, Costs}
@@ -57,9 +57,9 @@ pub lacked : (n : ℕ) (l k : Left) → Lacked n l k → Pays n l k false
 lacked n l k h = λ m mv told i. spends n mv (funds_of l m told i) h.0 ∙ ap (λ (x : Left). Short Steps (all_given_back (funds_of x m told i))) (sym h.1)
 
 -- A MODULE THAT IS REQUIRED changes no object of the store
-raises_keep : (p : Option Place) (text : Bytes) (fs : List SFrame) (x : Slots) → (led (raises p text fs x)).heap ≡ x.heap
-raises_keep None text fs x = refl
-raises_keep (Some p) text fs x = refl
+quote_keeps : (p : Option Place) (text : Bytes) (fs : List SFrame) (x : Slots) → (led (raises_quote p text fs x)).heap ≡ x.heap
+quote_keeps None text fs x = refl
+quote_keeps (Some p) text fs x = refl
 
 begins_keep : (title : Title) (m : CModule) (fs : List SFrame) (x : Slots) → (led (begins_text title m.code fs x)).heap ≡ x.heap
 begins_keep title m fs x = by m.code
@@ -70,9 +70,9 @@ begins_keep title m fs x = by m.code
 
 required_keep : (text : Bytes) (title : Title) (p : Option act.Progress) (m : Option CModule) (line : Option ℕ) (fs : List SFrame) (x : Slots) → (led (require_as text title p m line fs x)).heap ≡ x.heap
 required_keep text title (Some (act.Finished v)) m line fs x = refl
-required_keep text title (Some act.Running) m line fs x = raises_keep (nth_level (levels_at x.functions line) 1) (loop_in_require text) fs x
+required_keep text title (Some act.Running) m line fs x = quote_keeps (nth_level (levels_at x.functions line) 1) (loop_in_require text) fs x
 required_keep text title None (Some m) line fs x = begins_keep title m (Waits (ModuleWaits title) line ∷ fs) (with_module title act.Running x)
-required_keep text title None None line fs x = raises_keep (nth_level (levels_at x.functions line) 1) (no_module text) fs x
+required_keep text title None None line fs x = quote_keeps (nth_level (levels_at x.functions line) 1) (no_module text) fs x
 
 pub require_keeps : (w : CWorld) (text : Bytes) (title : Title) (line : Option ℕ) (fs : List SFrame) (x : Slots) → (led (require_module w text title line fs x)).heap ≡ x.heap
 require_keeps w text title line fs x = required_keep text title (item_of x.modules title) (w.modules (title_text title)) line fs x

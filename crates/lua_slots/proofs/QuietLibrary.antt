@@ -23,10 +23,10 @@ use Rattle.lua_meaning.specs.Metatables.{handler}
 use Rattle.lua_meaning.specs.Arguments.{Plain, a_table, a_number, a_text}
 use Rattle.lua_meaning.specs.Html.{text_of_object}
 use Rattle.lua_meaning.specs.CallBacks.{text_of}
-use Rattle.lua_meaning.specs.FrameMethods.{FramedEnd, FrameEnds, FrameAsks, FrameWalks}
+use Rattle.lua_meaning.specs.FrameMethods.{FramedEnd, FrameEnds, FrameQuotes, FrameAsks, FrameWalks}
 use Rattle.lua_meaning.specs.Gsub.{Replacement, ByText, ByTable, ByFunction, Job, Far, Replacing, Search, NoMatch, Matched, search, replacement_given, with_piece, nothing_yet, GsubForm, GsubAnswers, GsubAsks, gsub_form}
 use Rattle.lua_meaning.specs.Pending.{Pending, PcallWaits, XpcallWaits, HandlerWaits, ToStringWaits, PairsWaits, GsubWaits, ModuleWaits}
-use Rattle.lua_meaning.specs.Libraries.{Caller, Pcall, Xpcall, ToString, Pairs, Ipairs, NextPlace, Require, LoadData, Gsub, Form, Answers, InFrames, CallsBack}
+use Rattle.lua_meaning.specs.Libraries.{Caller, Pcall, Xpcall, ToString, Pairs, Ipairs, NextPlace, Require, LoadData, StrictRead, StrictWrite, Gsub, Form, Answers, InFrames, CallsBack}
 use Rattle.lua_meaning.specs.Start.{Work, Invoke, DataOf, Failed}
 use Rattle.lua_slots.specs.Code.{Protos, CModule, CWorld}
 use Rattle.lua_slots.specs.Slots.{Slots, with_heap}
@@ -37,7 +37,7 @@ use Rattle.lua_slots.specs.Gsub as gsubs
 use Rattle.lua_slots.specs.Modules as modules
 use Rattle.lua_slots.specs.Libraries as libraries
 use Rattle.lua_slots.specs.Starts as starts
-use Rattle.lua_slots.proofs.QuietValues.{IsQuiet, still, both, fails, ends, with_argument, call, index, index_table}
+use Rattle.lua_slots.proofs.QuietValues.{IsQuiet, still, both, fails, fails_quoting, ends, with_argument, call, index, index_table}
 
 -- FUNCTIONS THAT CALL BACK
 pub pcall_answer : (o : Outcome (List Value) Jump) (fs : List SFrame) (s : Slots) → IsQuiet (callbacks.pcall_answer o fs s)
@@ -131,16 +131,16 @@ module_answer title (Jumps j) fs s = still refl
 
 require_as : (text : Bytes) (title : Title) (p : Option Progress) (m : Option CModule) (line : Option ℕ) (fs : List SFrame) (s : Slots) → IsQuiet (modules.require_as text title p m line fs s)
 require_as text title (Some (Finished v)) m line fs s = still refl
-require_as text title (Some Running) m line fs s = fails line _ fs s
+require_as text title (Some Running) m line fs s = fails_quoting line _ fs s
 require_as text title None (Some m) line fs s = runs_text title m _ _
-require_as text title None None line fs s = fails line _ fs s
+require_as text title None None line fs s = fails_quoting line _ fs s
 
 require_module : (world : CWorld) (text : Bytes) (title : Title) (line : Option ℕ) (fs : List SFrame) (s : Slots) → IsQuiet (modules.require_module world text title line fs s)
 require_module world text title line fs s = require_as text title (item_of s.modules title) (world.modules (title_text title)) line fs s
 
 require_titled : (world : CWorld) (text : Bytes) (t : Result Title TitleFault) (line : Option ℕ) (fs : List SFrame) (s : Slots) → IsQuiet (modules.require_titled world text t line fs s)
 require_titled world text (Ok title) line fs s = require_module world text title line fs s
-require_titled world text (Err fault) line fs s = fails line _ fs s
+require_titled world text (Err fault) line fs s = fails_quoting line _ fs s
 
 require_text : (world : CWorld) (text : Bytes) (line : Option ℕ) (fs : List SFrame) (s : Slots) → IsQuiet (modules.require_text world text line fs s)
 require_text world text line fs s = both (bytes_eq text (codes "strict")) (Costs 16 (errors.gives (Truth true ∷ []) fs (modules.with_strict s))) _ (still refl) (require_titled world text (title_of text Main) line fs s)
@@ -150,7 +150,7 @@ require world args line fs s = with_argument (a_text 1 (codes "require") args) l
 
 data_answer : (text : Bytes) (title : Title) (o : Outcome (List Value) Jump) (line : Option ℕ) (fs : List SFrame) (s : Slots) → IsQuiet (modules.data_answer text title o line fs s)
 data_answer text title (Goes (Table t ∷ [])) line fs s = still refl
-data_answer text title (Goes []) line fs s = fails line _ fs s
+data_answer text title (Goes []) line fs s = fails_quoting line _ fs s
 data_answer text title (Jumps (Raised v)) line fs s = still refl
 data_answer text title o line fs s = still refl
 
@@ -160,7 +160,7 @@ load_as text title None line fs s = still refl
 
 load_titled : (text : Bytes) (t : Result Title TitleFault) (line : Option ℕ) (fs : List SFrame) (s : Slots) → IsQuiet (modules.load_titled text t line fs s)
 load_titled text (Ok title) line fs s = load_as text title (item_of s.data_ title) line fs s
-load_titled text (Err fault) line fs s = fails line _ fs s
+load_titled text (Err fault) line fs s = fails_quoting line _ fs s
 
 load_data : (args : List Value) (line : Option ℕ) (fs : List SFrame) (s : Slots) → IsQuiet (modules.load_data args line fs s)
 load_data args line fs s = with_argument (a_text 1 (codes "loadData") args) line fs s _ (λ text. load_titled text (title_of text Main) line fs s)
@@ -168,6 +168,7 @@ load_data args line fs s = with_argument (a_text 1 (codes "loadData") args) line
 -- THE LIBRARY
 framed_end : (e : FramedEnd) (line : Option ℕ) (fs : List SFrame) (s : Slots) → IsQuiet (libraries.framed_end e line fs s)
 framed_end (FrameEnds end) line fs s = ends end line fs s
+framed_end (FrameQuotes message) line fs s = fails_quoting line message fs s
 framed_end (FrameAsks question asked) line fs s = still refl
 framed_end (FrameWalks v) line fs s = pairs (v ∷ []) line fs s
 
@@ -180,6 +181,8 @@ call_back world Ipairs args line fs s = ipairs_by (handler s.heap (first args) (
 call_back world NextPlace args line fs s = ipairs_step args line fs s
 call_back world Require args line fs s = require world args line fs s
 call_back world LoadData args line fs s = load_data args line fs s
+call_back world StrictRead args line fs s = fails_quoting line _ fs s
+call_back world StrictWrite args line fs s = fails_quoting line _ fs s
 call_back world (Gsub alphabet) args line fs s = gsub (gsub_form alphabet args s.heap) line fs s
 
 pub does : (world : CWorld) (f : Form Proc) (args : List Value) (line : Option ℕ) (fs : List SFrame) (s : Slots) → IsQuiet (libraries.does world f args line fs s)
@@ -201,7 +204,7 @@ text_answer (Goes (Text t ∷ [])) fs s = still refl
 text_answer o fs s = still refl
 
 template_answer : (text : Bytes) (o : Outcome (List Value) Jump) (line : Option ℕ) (fs : List SFrame) (s : Slots) → IsQuiet (libraries.template_answer text o line fs s)
-template_answer text (Goes []) line fs s = fails line _ fs s
+template_answer text (Goes []) line fs s = fails_quoting line _ fs s
 template_answer text (Goes (v ∷ vs)) line fs s = text_answer (Goes (v ∷ vs)) fs s
 template_answer text (Jumps j) line fs s = still refl
 

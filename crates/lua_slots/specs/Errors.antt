@@ -41,6 +41,14 @@ raises_value p v fs s = jumps (Raised v) fs s
 abbrev pub fails : Option ℕ → Bytes → List SFrame → Slots → Move
 fails line text fs s = raises (nth_level (levels_at s.functions line) 1) text fs s
 
+-- one that quotes a text of the call costs its bytes at no place too
+abbrev pub raises_quote : Option TextPlace → Bytes → List SFrame → Slots → Move
+raises_quote None text fs s = Costs (length text) (jumps (Raised (Text text)) fs s)
+raises_quote (Some p) text fs s = raises (Some p) text fs s
+
+abbrev pub fails_quoting : Option ℕ → Bytes → List SFrame → Slots → Move
+fails_quoting line text fs s = raises_quote (nth_level (levels_at s.functions line) 1) text fs s
+
 -- how a function of the library ends that was called from this line
 abbrev pub ends : PlainEnd → Option ℕ → List SFrame → Slots → Move
 ends (PlainGives vs) line fs s = gives vs fs s

@@ -10,18 +10,18 @@ use Rattle.lua_meaning.specs.World.{World}
 use Rattle.lua_meaning.specs.Questions.{Asked, TemplateAsked, TextAsked, DataAsked}
 use Rattle.lua_meaning.specs.Acts.{Jump, Raised}
 use Rattle.lua_meaning.specs.Messages.{no_template, wrong_answer}
-use Rattle.lua_meaning.specs.FrameMethods.{FramedEnd, FrameEnds, FrameAsks, FrameWalks, Framed}
+use Rattle.lua_meaning.specs.FrameMethods.{FramedEnd, FrameEnds, FrameQuotes, FrameAsks, FrameWalks, Framed}
 use Rattle.lua_meaning.specs.Gsub.{nothing_yet, GsubForm, GsubAnswers, GsubAsks, gsub_form}
 use Rattle.lua_meaning.specs.Pending.{Pending, PcallWaits, XpcallWaits, HandlerWaits, ToStringWaits, PairsWaits, GsubWaits, ModuleWaits}
-use Rattle.lua_meaning.specs.Libraries.{Caller, Pcall, Xpcall, ToString, Pairs, Ipairs, NextPlace, Require, LoadData, Gsub, Form, Answers, InFrames, CallsBack, form}
+use Rattle.lua_meaning.specs.Libraries.{Caller, Pcall, Xpcall, ToString, Pairs, Ipairs, NextPlace, Require, LoadData, StrictRead, StrictWrite, Gsub, Form, Answers, InFrames, CallsBack, form}
 use Rattle.lua_slots.specs.Code.{CWorld}
 use Rattle.lua_slots.specs.Slots.{Slots}
 use Rattle.lua_slots.specs.Points.{SFrame, LibraryEnd, Hears, Asking, Move, Costs, Marks, Enters, Now}
 pub use Rattle.lua_slots.specs.Errors.{plain}
-use Rattle.lua_slots.specs.Errors.{jumps, fails, ends}
+use Rattle.lua_slots.specs.Errors.{jumps, fails_quoting, ends}
 use Rattle.lua_slots.specs.CallBacks.{pcall, pcall_answer, xpcall, xpcall_answer, handler_answer, gives_text, to_string, string_answer, pairs, ipairs, three_answer, ipairs_step}
 use Rattle.lua_slots.specs.Gsub.{replaces, gsub_answer}
-use Rattle.lua_slots.specs.Modules.{require, module_answer, load_data, data_answer}
+use Rattle.lua_slots.specs.Modules.{require, module_answer, load_data, data_answer, strict_index, strict_new_index}
 
 -- of the world such a function sees the page alone
 abbrev pub page_alone : CWorld → World
@@ -30,6 +30,7 @@ page_alone world = record { page = world.page; modules = λ title. None }
 -- a function that sees the frames
 abbrev pub framed_end : FramedEnd → Option ℕ → List SFrame → Slots → Move
 framed_end (FrameEnds end) line fs s = ends end line fs s
+framed_end (FrameQuotes message) line fs s = fails_quoting line message fs s
 framed_end (FrameAsks question asked) line fs s = Now (Asking question (Hears asked line ∷ fs)) s
 framed_end (FrameWalks v) line fs s = pairs (v ∷ []) line fs s
 
@@ -54,6 +55,8 @@ call_back world Ipairs args line fs s = ipairs args line fs s
 call_back world NextPlace args line fs s = ipairs_step args line fs s
 call_back world Require args line fs s = require world args line fs s
 call_back world LoadData args line fs s = load_data args line fs s
+call_back world StrictRead args line fs s = strict_index args line fs s
+call_back world StrictWrite args line fs s = strict_new_index args line fs s
 call_back world (Gsub alphabet) args line fs s = gsub (gsub_form alphabet args s.heap) line fs s
 
 abbrev pub does : CWorld → Form Proc → List Value → Option ℕ → List SFrame → Slots → Move
@@ -81,7 +84,7 @@ text_answer (Goes (Text t ∷ [])) fs s = gives_text t fs s
 text_answer outcome fs s = jumps (Raised (Text wrong_answer)) fs s
 
 abbrev pub template_answer : Bytes → Outcome (List Value) Jump → Option ℕ → List SFrame → Slots → Move
-template_answer text (Goes []) line fs s = fails line (no_template text) fs s
+template_answer text (Goes []) line fs s = fails_quoting line (no_template text) fs s
 template_answer text outcome line fs s = text_answer outcome fs s
 
 abbrev pub hears : Asked → Outcome (List Value) Jump → Option ℕ → List SFrame → Slots → Move

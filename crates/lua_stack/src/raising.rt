@@ -1,11 +1,12 @@
-//! An error with its message (manual 2.7), which costs as many steps as the whole message has bytes where it gets a place.
+//! An error with its message (manual 2.7), which costs as many steps as the whole message has bytes where it gets a place, or where it
+//! quotes a text of the call.
 ghost use Rattle.std.specs.Prelude.{◌≡◌, ◌++◌, ℕ, List, length, IfOk, OnOk};
 ghost use Rattle.page_run.specs.State.{Tally};
 ghost use Rattle.lua_meaning.specs.Messages.{place_text};
 ghost use Rattle.lua_store.specs.Parts.{IsLater, IsTextOf};
 ghost use Rattle.lua_slots.specs.Slots.{Slots};
 ghost use Rattle.lua_slots.specs.Enact.{Funds, enact};
-ghost use Rattle.lua_slots.specs.Errors.{raises, jumps};
+ghost use Rattle.lua_slots.specs.Errors.{raises, raises_quote, jumps};
 ghost use Rattle.lua_slots.specs.Points.{Costs};
 ghost use Rattle.lua_heap.specs.Value as kind;
 ghost use Rattle.lua_meaning.specs.Acts.{Raised};
@@ -122,6 +123,36 @@ pub fn raise_text(
         Some(level) => {
             let text = with_place(alloc, store, &level, message)?;
             let raising = raise_paid(store, left, text.as_slice())?;
+            Ok(raising)
+        }
+    }
+}
+
+/// An error with a message that quotes a text of the call: it costs its bytes at no place too. Where the steps are spent, the store is as
+/// it was.
+pub fn raise_quote(
+    alloc: Global,
+    store: &mut Store,
+    left: &mut Left,
+    place: Option<Level>,
+    message: &[u8],
+) -> Result<Raising, NoMemory>
+    requires { MayBeLevelOf store.old place }
+    ensures later { OnOk result (IsLater store.old store.new) }
+    ensures heap { OnOk result (store.new.heap ≡ store.old.heap) }
+    ensures of { IfOk result (λ r. RaisingOf store.new r) }
+    ensures still { IfOk result (λ r. IfSpent r (store.new ≡ store.old)) }
+    ensures move_ { IfOk result (λ r. (frames : List Waiting) → FramesOf store.old frames → (s : Slots) (in_progress : ℕ) (tally : Tally)
+        → enact (raises_quote (place_seen store.old.texts place) message.now (frames_seen store.old.texts frames) s) (record { left = left.old; in_progress = in_progress; tally = tally })
+        ≡ raised_seen store.new.texts r (frames_seen store.new.texts frames) s (record { left = left.new; in_progress = in_progress; tally = tally })) }
+{
+    match place {
+        None => {
+            let raising = raise_paid(store, left, message)?;
+            Ok(raising)
+        }
+        Some(level) => {
+            let raising = raise_text(alloc, store, left, Some(level), message)?;
             Ok(raising)
         }
     }

@@ -13,7 +13,7 @@ use crate::messages::failure_text;
 use crate::state::State;
 use crate::turn::Turn;
 use lua_arms::{Failure, Paid, Step};
-use lua_stack::raising::raise_text;
+use lua_stack::raising::{raise_quote, raise_text};
 use lua_stack::{Focus, Jump, Raising};
 use lua_store::Store;
 use std::alloc::Global;
@@ -34,6 +34,27 @@ pub fn fail<'m>(
 {
     let place = state.functions.place_of_level(line, 1);
     let raising = raise_text(alloc, store, left, place, message)?;
+    match raising {
+        Raising::Raises(value) => Ok(Turn::On(Focus::Jumps(Jump::Raised(value)))),
+        Raising::Spent(which) => Ok(Turn::Spent(which)),
+    }
+}
+
+/// An error with a message that quotes a text of the call, at a line of the newest function: it costs its bytes at no place too.
+pub fn fail_quoting<'m>(
+    alloc: Global,
+    store: &mut Store,
+    left: &mut Left,
+    state: &State<'m>,
+    line: Option<u32>,
+    message: &[u8],
+) -> Result<Turn<'m>, NoMemory>
+    requires state { StateOf store.old state.now }
+    ensures makes { IfOk result (λ r. Makes store.old state.now left.old store.new state.now left.new (machine.fails_quoting line message.now (frames_of store.old state.now) (slots_of store.old state.now)) r) }
+    ensures heap { OnOk result (store.new.heap ≡ store.old.heap) }
+{
+    let place = state.functions.place_of_level(line, 1);
+    let raising = raise_quote(alloc, store, left, place, message)?;
     match raising {
         Raising::Raises(value) => Ok(Turn::On(Focus::Jumps(Jump::Raised(value)))),
         Raising::Spent(which) => Ok(Turn::Spent(which)),

@@ -31,7 +31,7 @@ pub mod turn;
 pub use charges::{enter_call, leave_call, pay, pay_node};
 pub use codes::{Codes, World};
 pub use constants::{constant, constant_at_hand, running_source};
-pub use ending::{fail, finish, finish_paid};
+pub use ending::{fail, fail_quoting, finish, finish_paid};
 pub use outcome::Outcome;
 pub use progress::Progress;
 pub use state::State;

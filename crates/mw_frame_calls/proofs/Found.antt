@@ -2,20 +2,23 @@
 use Rattle.std.proofs.Common.{◌≡◌, ℕ, ◌-◌, ◌≤◌, ℤ, List, [], Ok, Err, refl, arith, sym, ap, subst, ◌∙◌}
 use Rattle.std.specs.Prelude.{Result}
 use Rattle.wk_base.specs.declared.left.Left.{Left}
+use Rattle.wk_base.specs.declared.title.Title.{Title}
 use Rattle.lua_heap.specs.Proc.{Proc}
 use Rattle.lua_heap.specs.Heap.{Heap}
 use Rattle.lua_heap.specs.Value as kind
 use Rattle.lua_meaning.specs.Acts.{Frame}
 use Rattle.lua_meaning.specs.Scope.{Bytes}
 use Rattle.lua_meaning.specs.Arguments.{Plain, Gives, Fails, Argument, gives, fails}
-use Rattle.lua_meaning.specs.FrameMethods.{Framed, FramedEnd, FrameEnds, refuses, as_framed, if_argument}
+use Rattle.lua_meaning.specs.FrameMethods.{Framed, FramedEnd, FrameEnds, FrameQuotes, behind_charge, refuses, as_framed, if_argument, if_title}
 use Rattle.lua_store.specs.declared.value.Value.{Value}
-use Rattle.lua_store.specs.Seen.{StoreView, seen}
+use Rattle.lua_store.specs.Seen.{StoreView, seen, text_at}
+use Rattle.lua_store.specs.declared.ids.TextId.{TextId}
 use Rattle.lua_basic.specs.declared.stop.Stop.{Stop}
 use Rattle.lua_basic.specs.declared.stop.Stop.TheVariants as stop
 use Rattle.lua_basic.specs.Seen as plain
 use Rattle.lua_basic.specs.Seen.{less_steps, Refuses}
-use Rattle.mw_frames.specs.Costs.{Took, Unpaid}
+use Rattle.mw_frames.specs.Costs.{Took, Unpaid, MayPay}
+use Rattle.mw_frames.proofs.Sums.{took_then, lacked_then}
 use Rattle.mw_frame_calls.specs.declared.answer.FrameAnswer.{FrameAnswer}
 use Rattle.mw_frame_calls.specs.declared.answer.FrameAnswer.TheVariants as answer
 use Rattle.mw_frame_calls.specs.Seen.{ends, Stops, Free, Covers, Paid}
@@ -90,3 +93,38 @@ gives_none p h s t frames l m stop.NoMemory r c is = subst (Paid (as_framed h fr
 pub raised : (f : Framed Proc) (message : Bytes) (s t : StoreView) (frames : List Frame) (l : Left) (e : Stop) → f ≡ refuses s.heap frames message → plain.Stops (fails s.heap message) t e
     → Paid f s frames l t frames l (Err e)
 raised f message s t frames l e is stops = for_nothing f s t frames l (Err e) (subst (λ q. Stops q t frames e) (sym is) (stops_with message s t frames e stops))
+
+-- A TITLE that is found, or a text that is none
+pub titled : (a : Argument Title) (x : Title) (h : Heap Proc) (frames : List Frame) (next : Title → Framed Proc) → a ≡ Ok x → if_title h frames a next ≡ next x
+titled a x h frames next is = ap (λ y. if_title h frames y next) is
+
+quotes_there : Heap Proc → List Frame → Bytes → Framed Proc
+quotes_there h frames message = record { charge = 0; heap = h; frames = frames; end = FrameQuotes message }
+
+pub quoted : (a : Argument Title) (s t : StoreView) (frames : List Frame) (l : Left) (next : Title → Framed Proc) (message : TextId) → a ≡ Err (text_at t.texts message.at) → t.heap ≡ s.heap
+    → Paid (if_title s.heap frames a next) s frames l t frames l (Ok (answer.Quotes message))
+unfolding quotes_there
+quoted a s t frames l next message is heap =
+    for_nothing _ s t frames l (Ok (answer.Quotes message))
+    (ap (λ y. if_title s.heap frames y next) is ∙ ap (λ h. quotes_there h frames (text_at t.texts message.at)) (sym heap))
+
+-- STEPS WERE TAKEN before
+charged_covers : (n : ℕ) (f : Framed Proc) (l m k : Left) (t : StoreView) (frames : List Frame) (end : FramedEnd) → Took n l m → Covers f m t frames k end → Covers (behind_charge n f) l t frames k end
+charged_covers n f l m k t frames end took c =
+    let both = took_then n f.charge l m k took (c.covered, c.rest) in
+    record { covered = both.0; answer = ap (behind_charge n) c.answer; rest = both.1 }
+
+pub charged : (n : ℕ) (f : Framed Proc) (s : StoreView) (before : List Frame) (l m k : Left) (t : StoreView) (frames : List Frame) (r : Result FrameAnswer Stop) → Took n l m → Paid f s before m t frames k r
+    → Paid (behind_charge n f) s before l t frames k r
+charged n f s before l m k t frames (Ok a) took c = charged_covers n f l m k t frames _ took c
+charged n f s before l m k t frames (Err (stop.Raised v level)) took c = charged_covers n f l m k t frames _ took c
+charged n f s before l m k t frames (Err stop.Spent) took c =
+    let both = lacked_then n f.charge l m k took (c.short, c.rest) in
+    record { short = both.0; same = c.same; frames_same = c.frames_same; rest = both.1 }
+charged n f s before l m k t frames (Err stop.NoMemory) took c = tt
+
+-- or they were not there
+pub not_charged : (n : ℕ) (f : Framed Proc) (s : StoreView) (frames : List Frame) (l m : Left) (e : Stop) (r : Result FrameAnswer Stop) → MayPay {A = Unit {0}} n l m (Err e) → r ≡ Err e → Paid (behind_charge n f) s frames l s frames m r
+not_charged n f s frames l m stop.Spent r u is = subst (Paid (behind_charge n f) s frames l s frames m) (sym is) (record { short = omega (arith, u.0); same = refl; frames_same = refl; rest = u.1 })
+not_charged n f s frames l m (stop.Raised v level) r u is = absurd u
+not_charged n f s frames l m stop.NoMemory r u is = subst (Paid (behind_charge n f) s frames l s frames m) (sym is) tt

@@ -19,14 +19,17 @@ use Rattle.lua_meaning.specs.Questions.{TemplateAsked, TextAsked}
 use Rattle.lua_meaning.specs.Messages.{bad_template_arguments}
 use Rattle.lua_meaning.specs.Metatables.{field}
 use Rattle.lua_meaning.specs.Frames.{merge_args, arg_named, bytes_of, Numbered}
-use Rattle.lua_meaning.specs.FrameMethods.{Framed, if_argument, asks, text_or_field, argument_table, a_request, a_title_text, an_optional_text, entries_of, read_title, child_title, read_args, child}
+use Rattle.lua_meaning.specs.FrameMethods.{Framed, if_argument, if_title, if_entries, asks, text_or_field, argument_table, a_request, a_title_text, an_optional_text, entries_of, read_title, child_title, child}
 use Rattle.lua_store.specs.declared.ids.TableId.{TableId}
-use Rattle.lua_store.specs.Seen.{StoreView, seen}
+use Rattle.lua_store.specs.Seen.{StoreView, seen, text_at}
+use Rattle.lua_store.specs.Parts.{IsTextOf}
 use Rattle.lua_basic.specs.Arguments.{text_bytes}
 use Rattle.lua_basic.specs.declared.texts.TextIn.{TextIn}
 use Rattle.mw_frames.specs.Scenes.{frame_seen}
 use Rattle.mw_frames.specs.declared.scenes.SceneFrame.{SceneFrame}
 use Rattle.mw_frame_calls.specs.declared.requests.Request.{Request}
+use Rattle.mw_frame_calls.specs.declared.requests.TitleRead.{TitleRead}
+use Rattle.mw_frame_calls.specs.declared.requests.TitleRead.TheVariants as title
 
 -- a frame with its number
 abbrev pub numbered : ℕ → SceneFrame → Numbered
@@ -50,6 +53,19 @@ given_or_field h given name None = given
 abbrev pub found_request : Option TableId → Argument ℕ
 found_request (Some table) = Ok table.at
 found_request None = Err bad_template_arguments
+
+-- a title that was read, or the message that quotes the text that is none
+abbrev pub title_found : List (List ℕ) → TitleRead → Argument Title
+title_found texts (title.Found x) = Ok x
+title_found texts (title.Quotes message) = Err (text_at texts message.at)
+
+abbrev pub IfFound : TitleRead → Type 0 → Type 0
+IfFound (title.Found x) A = A
+IfFound (title.Quotes message) A = Unit {0}
+
+abbrev pub TitleReadOf : StoreView → TitleRead → Type 0
+TitleReadOf s (title.Found x) = Unit {0}
+TitleReadOf s (title.Quotes message) = IsTextOf s message
 
 -- the two fields of a table that is given
 pub record IsRequest (s : StoreView) (given : List Value) (r : Request) : Type 0 where
@@ -84,11 +100,13 @@ module _ {X : Type 0} (h : Heap X) (frames : List Frame) where
   abbrev pub template_asked : Scene → Bytes → Title → List Arg → Framed X
   template_asked scene text title read = asks h frames (length (title_text title) + bytes_of read) (Template scene title (merge_args [] read)) (TemplateAsked text)
 
+  abbrev pub template_read : Scene → Bytes → Title → Entries → Framed X
+  template_read scene text title entries = if_entries h frames entries (λ read. template_asked scene text title read)
+
   abbrev pub template_titled : Scene → Bytes → Entries → Framed X
   template_titled scene text entries =
-      if_argument h frames (read_title text TemplateSpace) (λ title.
-      if_argument h frames (read_args entries) (λ read.
-      template_asked scene text title read))
+      if_title h frames (read_title text TemplateSpace) (λ title.
+      template_read scene text title entries)
 
   abbrev pub template_in : Scene → List Value → Framed X
   template_in scene given =
@@ -98,11 +116,13 @@ module _ {X : Type 0} (h : Heap X) (frames : List Frame) where
       template_titled scene text entries)))
 
   -- `newChild` of a frame
+  abbrev pub child_read : Numbered → Title → Entries → Framed X
+  child_read self title entries = if_entries h frames entries (λ read. child h frames self title read)
+
   abbrev pub child_titled : Numbered → Option Bytes → Entries → Framed X
   child_titled self text entries =
-      if_argument h frames (child_title text self.frame.scene.title) (λ title.
-      if_argument h frames (read_args entries) (λ read.
-      child h frames self title read))
+      if_title h frames (child_title text self.frame.scene.title) (λ title.
+      child_read self title entries)
 
   abbrev pub child_of : Numbered → List Value → Framed X
   child_of self given =

@@ -9,7 +9,7 @@ use Rattle.mw_frame.specs.declared.question.Ask.TheVariants as ask
 use Rattle.lua_meaning.specs.Acts.{Frame}
 use Rattle.lua_meaning.specs.Arguments.{Gives, Fails}
 use Rattle.lua_meaning.specs.Questions as asking
-use Rattle.lua_meaning.specs.FrameMethods.{FramedEnd, FrameEnds, FrameAsks, FrameWalks, Framed}
+use Rattle.lua_meaning.specs.FrameMethods.{FramedEnd, FrameEnds, FrameQuotes, FrameAsks, FrameWalks, Framed}
 use Rattle.lua_store.specs.Seen.{StoreView, seen, text_at}
 use Rattle.lua_store.specs.Parts.{IsOf, IsTextOf}
 use Rattle.lua_basic.specs.declared.stop.Stop.{Stop}
@@ -33,6 +33,7 @@ awaited_seen texts awaited.Text = asking.TextAsked
 
 abbrev pub end_seen : List (List ℕ) → FrameAnswer → FramedEnd
 end_seen texts (answer.Gives vs) = FrameEnds (Gives (values_seen texts vs))
+end_seen texts (answer.Quotes text) = FrameQuotes (text_at texts text.at)
 end_seen texts (answer.Asks question waits) = FrameAsks question (awaited_seen texts waits)
 end_seen texts (answer.Walks v) = FrameWalks (seen texts v)
 
@@ -81,6 +82,7 @@ HaveNames (ask.Data title) = Unit {0}
 
 abbrev pub FrameAnswerOf : StoreView → FrameAnswer → Type 0
 FrameAnswerOf s (answer.Gives vs) = AllOf s vs
+FrameAnswerOf s (answer.Quotes text) = IsTextOf s text
 FrameAnswerOf s (answer.Asks question waits) = HaveNames question × AwaitedOf s waits
 FrameAnswerOf s (answer.Walks v) = IsOf s v
 

@@ -22,6 +22,8 @@ pub enum Awaited {
 pub enum FrameAnswer {
     /// Values.
     Gives(List<Value>),
+    /// An error whose message, this text, quotes what the call was given.
+    Quotes(TextId),
     /// A question, and what waits for its answer.
     Asks(Ask, Awaited),
     /// It goes on as `pairs` of this value (Scribunto, `frame:argumentPairs`).

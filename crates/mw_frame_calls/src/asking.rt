@@ -7,11 +7,13 @@ ghost use Rattle.lua_basic.specs.Seen.{values_seen, AllOf};
 ghost use Rattle.mw_frames.specs.Reading.{args_seen};
 ghost use Rattle.mw_frames.specs.Scenes.{ScenesOf};
 ghost use Rattle.mw_frame_calls.specs.Seen.{scenes_seen, Paid, AnswerOf};
-ghost use Rattle.mw_frame_calls.specs.Parts.{entries_in, preprocess_in, template_asked, template_titled as template_titled_lem, template_in};
+ghost use Rattle.mw_frame_calls.specs.Parts.{entries_in, preprocess_in, template_asked, template_read as template_read_lem, template_titled as template_titled_lem, template_in};
 
 use crate::answer::{Awaited, FrameAnswer};
 use crate::finding::{a_frame, a_text_or_field};
-use crate::requests::{a_request, a_title, entries_table, read_entries, refuse};
+use crate::requests::{
+    TitleRead, a_request, a_title, entries_table, pay_cleared, read_entries, refuse,
+};
 use lua_basic::Stop;
 use lua_basic::texts::text_in;
 use lua_basic::values::rest;
@@ -92,6 +94,39 @@ fn ask_template(
     Ok(FrameAnswer::Asks(Ask::Template(scene, title, merged), Awaited::Template(name)))
 }
 
+/// `expandTemplate` with this title, which the text is, and the entries of this table. Each cleared one that is passed costs a step.
+fn template_read(
+    alloc: Global,
+    store: &mut Store,
+    left: &mut Left,
+    scenes: &Scenes,
+    scene: &Scene,
+    text: &[u8],
+    title: Title,
+    table: Option<TableId>,
+) -> Result<FrameAnswer, Stop>
+    requires table { IfSome table (IsTableOf store.old) }
+    requires names { NamesDiffer scene.now.args }
+    ensures answer { Paid (template_read_lem store.old.heap (scenes_seen scenes.now) scene.now text.now title (entries_in store.old.heap table)) store.old (scenes_seen scenes.now) left.old store.new (scenes_seen scenes.now) left.new result }
+    ensures of { AnswerOf store.new result }
+    ensures later { IsLater store.old store.new }
+{
+    pay_cleared(store, left, table)?;
+    let Some(args) = read_entries(alloc, store, table)? else {
+        return Err(refuse(store));
+    };
+    ask_template(
+        alloc,
+        store,
+        left,
+        scenes,
+        scene,
+        text,
+        title,
+        args.as_slice(),
+    )
+}
+
 /// `expandTemplate` with this text as its title, and the entries of this table.
 fn template_titled(
     alloc: Global,
@@ -108,20 +143,12 @@ fn template_titled(
     ensures of { AnswerOf store.new result }
     ensures later { IsLater store.old store.new }
 {
-    let title = a_title(alloc, store, text, Namespace::Template)?;
-    let Some(args) = read_entries(alloc, store, table)? else {
-        return Err(refuse(store));
-    };
-    ask_template(
-        alloc,
-        store,
-        left,
-        scenes,
-        scene,
-        text,
-        title,
-        args.as_slice(),
-    )
+    match a_title(alloc, store, text, Namespace::Template)? {
+        TitleRead::Found(title) => {
+            template_read(alloc, store, left, scenes, scene, text, title, table)
+        }
+        TitleRead::Quotes(message) => Ok(FrameAnswer::Quotes(message)),
+    }
 }
 
 /// `expandTemplate` in a scene.

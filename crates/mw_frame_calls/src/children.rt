@@ -11,12 +11,13 @@ ghost use Rattle.mw_frames.specs.Reading.{args_seen};
 ghost use Rattle.mw_frames.specs.Scenes.{made, HasNames, ScenesOf};
 ghost use Rattle.mw_frames.specs.declared.scenes.SceneFrame.{SceneFrame as SceneFrameValue};
 ghost use Rattle.mw_frame_calls.specs.Seen.{scenes_seen, Paid, AnswerOf};
-ghost use Rattle.mw_frame_calls.specs.Parts.{numbered, child_scene as child_scene_lem, child_titled as child_titled_lem, child_of as child_of_lem, entries_in};
+ghost use Rattle.mw_frame_calls.specs.Parts.{numbered, child_scene as child_scene_lem, child_read as child_read_lem, child_titled as child_titled_lem, child_of as child_of_lem, entries_in};
 
 use crate::answer::{FrameAnswer, one};
 use crate::finding::a_frame;
 use crate::requests::{
-    a_child_title, a_request, entries_table, optional_text, read_entries, refuse,
+    TitleRead, a_child_title, a_request, entries_table, optional_text, pay_cleared, read_entries,
+    refuse,
 };
 use lua_basic::Stop;
 use lua_basic::texts::TextIn;
@@ -99,6 +100,31 @@ fn make_child(
     Ok(answer)
 }
 
+/// `newChild` of a frame, with this title and the entries of this table. Each cleared one that is passed costs a step.
+fn child_read(
+    alloc: Global,
+    store: &mut Store,
+    left: &mut Left,
+    scenes: &mut Scenes,
+    number: usize,
+    title: Title,
+    table: Option<TableId>,
+) -> Result<FrameAnswer, Stop>
+    requires number { number < length (made scenes.old) }
+    requires table { IfSome table (IsTableOf store.old) }
+    requires scenes { ScenesOf store.old scenes.old }
+    ensures answer { (f : SceneFrameValue) → slice_get (made scenes.old) number ≡ Some f → Paid (child_read_lem store.old.heap (scenes_seen scenes.old) (numbered number f) title (entries_in store.old.heap table)) store.old (scenes_seen scenes.old) left.old store.new (scenes_seen scenes.new) left.new result }
+    ensures of { AnswerOf store.new result }
+    ensures scenes { ScenesOf store.new scenes.new }
+    ensures later { IsLater store.old store.new }
+{
+    pay_cleared(store, left, table)?;
+    let Some(args) = read_entries(alloc, store, table)? else {
+        return Err(refuse(store));
+    };
+    make_child(alloc, store, left, scenes, number, title, args.as_slice())
+}
+
 /// `newChild` of a frame, with this text as its title, if there is one, and the entries of this table.
 fn child_titled(
     alloc: Global,
@@ -117,11 +143,10 @@ fn child_titled(
     ensures scenes { ScenesOf store.new scenes.new }
     ensures later { IsLater store.old store.new }
 {
-    let title = a_child_title(alloc, store, text, &scenes.frame(number).scene.title)?;
-    let Some(args) = read_entries(alloc, store, table)? else {
-        return Err(refuse(store));
-    };
-    make_child(alloc, store, left, scenes, number, title, args.as_slice())
+    match a_child_title(alloc, store, text, &scenes.frame(number).scene.title)? {
+        TitleRead::Found(title) => child_read(alloc, store, left, scenes, number, title, table),
+        TitleRead::Quotes(message) => Ok(FrameAnswer::Quotes(message)),
+    }
 }
 
 /// `newChild` of a frame.

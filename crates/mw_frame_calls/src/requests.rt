@@ -1,29 +1,30 @@
 //! A title with arguments, as `expandTemplate` and `newChild` are given them (Scribunto, Frame object).
-ghost use Rattle.std.specs.Prelude.{◌≡◌, List, ℕ, Ok, Err, IfOk, IfErr, IfSome, OnOk, MatchOption};
+ghost use Rattle.std.specs.Prelude.{◌≡◌, List, ℕ, Err, IfOk, IfSome, OnOk, MatchOption};
 ghost use Rattle.std.specs.Option.{option_map};
 ghost use Rattle.lua_heap.specs.Heap.{Heap};
 ghost use Rattle.lua_heap.specs.Proc.{Proc};
-ghost use Rattle.lua_meaning.specs.Arguments.{fails};
+ghost use Rattle.lua_meaning.specs.Arguments.{fails, passed};
 ghost use Rattle.lua_meaning.specs.FrameMethods as meaning;
 ghost use Rattle.lua_meaning.specs.Messages.{bad_template_arguments, invalid_title};
 ghost use Rattle.lua_store.specs.Seen.{StoreView, seen};
 ghost use Rattle.lua_store.specs.Parts.{IsOf, IsTableOf, IsLater};
 ghost use Rattle.lua_basic.specs.Arguments.{text_bytes};
-ghost use Rattle.lua_basic.specs.Seen.{values_seen, AllOf, Stops, StopOf, Refuses};
+ghost use Rattle.lua_basic.specs.Seen.{values_seen, AllOf, Stops, StopOf};
+ghost use Rattle.mw_frames.specs.Costs.{MayPay};
 ghost use Rattle.mw_frames.specs.Reading.{found_args};
 ghost use Rattle.mw_frames.specs.Scenes.{ScenesOf};
-ghost use Rattle.mw_frame_calls.specs.Parts.{IsRequest, entries_in, found_entries, found_optional};
+ghost use Rattle.mw_frame_calls.specs.Parts.{IsRequest, entries_in, found_entries, found_optional, title_found, IfFound, TitleReadOf};
 
 use crate::finding::table_in;
 use lua_basic::Stop;
 use lua_basic::messages::fail;
 use lua_basic::texts::{TextIn, text_in};
 use lua_basic::values::is_nil;
-use lua_store::{Store, TableId, Value};
+use lua_store::{Store, TableId, TextId, Value};
 use mw_frames::Scenes;
-use mw_frames::reading::{ArgText, read_args};
+use mw_frames::reading::{ArgText, pay_passed, read_args};
 use std::alloc::Global;
-use wk_base::{List, Namespace, NoMemory, Title, TitleFault};
+use wk_base::{Left, List, Namespace, NoMemory, Title, TitleFault};
 
 /// The fields of a table that is given.
 #[derive(Clone, Copy)]
@@ -73,6 +74,17 @@ pub fn entries_table(value: Value) -> Option<Option<TableId>>
         Value::Closure(_) => None,
         Value::Builtin(_) => None,
         Value::Markup(_) => None,
+    }
+}
+
+/// Takes a step for each cleared entry of a table that is passed.
+pub fn pay_cleared(store: &Store, left: &mut Left, table: Option<TableId>) -> Result<(), Stop>
+    requires { IfSome table (IsTableOf store.now) }
+    ensures { MayPay (passed meaning.entry_arg (entries_in store.now.heap table)) left.old left.new result }
+{
+    match table {
+        Some(table) => pay_passed(store, left, table),
+        None => Ok(()),
     }
 }
 
@@ -126,16 +138,25 @@ fn quoted(alloc: Global, text: &[u8]) -> Result<Vec<u8>, NoMemory>
     }
 }
 
+/// A title that is read of a text.
+#[derive(Drop)]
+pub enum TitleRead {
+    Found(Title),
+    /// The text is none, as this message says, which quotes it.
+    Quotes(TextId),
+}
+
 /// A text is no title.
-fn invalid(alloc: Global, store: &mut Store, text: &[u8]) -> Stop
-    ensures raises { Stops (fails store.old.heap (invalid_title text.now)) store.new result }
-    ensures of { StopOf store.new result }
+fn invalid(alloc: Global, store: &mut Store, text: &[u8]) -> Result<TitleRead, NoMemory>
+    ensures quotes { IfOk result (λ read. Err (invalid_title text.now) ≡ title_found store.new.texts read) }
+    ensures none { IfOk result (λ read. IfFound read (store.new ≡ store.old)) }
+    ensures of { IfOk result (TitleReadOf store.new) }
+    ensures heap { OnOk result (store.new.heap ≡ store.old.heap) }
     ensures later { IsLater store.old store.new }
 {
-    match quoted(alloc, text) {
-        Ok(message) => fail(store, message.as_slice()),
-        Err(_) => Stop::NoMemory,
-    }
+    let message = quoted(alloc, text)?;
+    let id = store.text(message.as_slice())?;
+    Ok(TitleRead::Quotes(id))
 }
 
 /// The title that a text names.
@@ -144,17 +165,17 @@ pub fn a_title(
     store: &mut Store,
     text: &[u8],
     default: Namespace,
-) -> Result<Title, Stop>
-    ensures found { IfOk result (λ title. meaning.read_title text.now default ≡ Ok title) }
-    ensures same { OnOk result (store.new ≡ store.old) }
-    ensures refused { IfErr result (Refuses (meaning.read_title text.now default) store.old store.new) }
-    ensures of { IfErr result (StopOf store.new) }
+) -> Result<TitleRead, NoMemory>
+    ensures read { IfOk result (λ read. meaning.read_title text.now default ≡ title_found store.new.texts read) }
+    ensures same { IfOk result (λ read. IfFound read (store.new ≡ store.old)) }
+    ensures of { IfOk result (TitleReadOf store.new) }
+    ensures heap { OnOk result (store.new.heap ≡ store.old.heap) }
     ensures later { IsLater store.old store.new }
 {
     match Title::read(alloc, text, default) {
-        Ok(title) => Ok(title),
-        Err(TitleFault::NoMemory) => Err(Stop::NoMemory),
-        Err(_) => Err(invalid(alloc, store, text)),
+        Ok(title) => Ok(TitleRead::Found(title)),
+        Err(TitleFault::NoMemory) => Err(NoMemory),
+        Err(_) => invalid(alloc, store, text),
     }
 }
 
@@ -164,18 +185,18 @@ pub fn a_child_title(
     store: &mut Store,
     text: &Option<TextIn>,
     own: &Title,
-) -> Result<Title, Stop>
-    ensures found { IfOk result (λ title. meaning.child_title (option_map text_bytes text.now) own.now ≡ Ok title) }
-    ensures same { OnOk result (store.new ≡ store.old) }
-    ensures refused { IfErr result (Refuses (meaning.child_title (option_map text_bytes text.now) own.now) store.old store.new) }
-    ensures of { IfErr result (StopOf store.new) }
+) -> Result<TitleRead, NoMemory>
+    ensures read { IfOk result (λ read. meaning.child_title (option_map text_bytes text.now) own.now ≡ title_found store.new.texts read) }
+    ensures same { IfOk result (λ read. IfFound read (store.new ≡ store.old)) }
+    ensures of { IfOk result (TitleReadOf store.new) }
+    ensures heap { OnOk result (store.new.heap ≡ store.old.heap) }
     ensures later { IsLater store.old store.new }
 {
     match text {
         Some(text) => a_title(alloc, store, text.as_slice(), Namespace::Main),
-        None => match own.copy() {
-            Ok(title) => Ok(title),
-            Err(_) => Err(Stop::NoMemory),
-        },
+        None => {
+            let title = own.copy()?;
+            Ok(TitleRead::Found(title))
+        }
     }
 }

@@ -15,7 +15,7 @@ use Rattle.lua_store.specs.Seen.{StoreView, text_at}
 use Rattle.lua_basic.specs.declared.stop.Stop.{Stop}
 use Rattle.lua_basic.specs.declared.stop.Stop.TheVariants as stop
 use Rattle.lua_basic.specs.Seen.{values_seen, ends, Covers, IsShort, Paid, Refuses}
-use Rattle.mw_frames.specs.Costs.{Took, Unpaid}
+use Rattle.mw_frames.specs.Costs.{Took, Unpaid, MayPay}
 use Rattle.mw_frames.proofs.Sums.{took_then, lacked_then}
 
 -- STEPS WERE TAKEN before
@@ -44,6 +44,11 @@ pub not_charged : (n : ℕ) (p : Plain Proc) (s : StoreView) (l m : Left) (e : S
 not_charged n p s l m stop.Spent r lacked is = subst (Paid (with_charge n p) s l s m) (sym is) (record { short = omega (arith, lacked.0); same = refl; rest = lacked.1 })
 not_charged n p s l m (stop.Raised v level) r lacked is = absurd lacked
 not_charged n p s l m stop.NoMemory r lacked is = absurd lacked
+
+pub not_charged_or : (n : ℕ) (p : Plain Proc) (s : StoreView) (l m : Left) (e : Stop) (r : Result (List Value) Stop) → MayPay {A = Unit {0}} n l m (Err e) → r ≡ Err e → Paid (with_charge n p) s l s m r
+not_charged_or n p s l m stop.Spent r lacked is = not_charged n p s l m stop.Spent r lacked is
+not_charged_or n p s l m (stop.Raised v level) r lacked is = absurd lacked
+not_charged_or n p s l m stop.NoMemory r lacked is = subst (Paid (with_charge n p) s l s m) (sym is) tt
 
 -- ONE OF TWO ARGUMENTS is refused
 pub refuses_first : (a b : Argument Bytes) (s t : StoreView) (e : Stop) → Refuses a s t e → Refuses (and_then a b) s t e

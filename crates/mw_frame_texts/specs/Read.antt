@@ -1,15 +1,15 @@
 -- WHAT WAS READ OF A TABLE OF ATTRIBUTES: the meaning's own, for what was found or refused.
-use Rattle.std.specs.Prelude.{◌≡◌, ℕ, List, [], ◌∷◌, Option, Some, None, Ok, Err, codes}
+use Rattle.std.specs.Prelude.{◌≡◌, ℕ, List, [], ◌∷◌, ◌++◌, Option, Some, None, Ok, Err, codes}
 use Rattle.lua_heap.specs.Proc.{Proc}
 use Rattle.lua_heap.specs.Value.{Value, Table}
 use Rattle.lua_heap.specs.Table.{Entries}
 use Rattle.lua_heap.specs.Heap.{Heap, table_at}
-use Rattle.lua_meaning.specs.Arguments.{Argument}
+use Rattle.lua_meaning.specs.Arguments.{Plain, Argument, with_argument, gives_text}
 use Rattle.lua_meaning.specs.Metatables.{field}
 use Rattle.lua_meaning.specs.Messages.{bad_argument, expected}
 use Rattle.lua_meaning.specs.Scope.{Bytes}
 use Rattle.lua_meaning.specs.Values.{second, third}
-use Rattle.lua_meaning.specs.Tag.{TagParts, no_attribute, and_then, attributes}
+use Rattle.lua_meaning.specs.Tag.{TagParts, no_attribute, and_then, attributes, attributes_in, closed_by}
 use Rattle.lua_store.specs.declared.ids.TableId.{TableId}
 use Rattle.lua_store.specs.declared.value.Value.{Value as Stored}
 use Rattle.lua_store.specs.Seen.{StoreView, seen}
@@ -57,6 +57,12 @@ found_table h v None = Err (bad_argument 2 (codes "tag") (expected (codes "table
 abbrev pub found_content : Bytes → Value → Option Content → Argument Bytes
 found_content name v (Some c) = Ok (content_written name c)
 found_content name v None = Err (bad_argument 3 (codes "tag") (expected (codes "string") (v ∷ [])))
+
+-- a tag of this name, behind the charge of its cleared attributes
+abbrev pub tag_behind : Bytes → Value → Value → Heap Proc → Plain Proc
+tag_behind name attrs content h =
+    with_argument h (and_then (attributes_in h attrs) (closed_by name content)) (λ behind.
+    gives_text h (codes "<" ++ name ++ behind))
 
 -- the parts of a tag
 abbrev pub parts : List Value → Value → Value → TagParts

@@ -7,8 +7,9 @@ ghost use Rattle.lua_meaning.specs.Tag as meaning;
 ghost use Rattle.lua_store.specs.Seen.{StoreView, seen};
 ghost use Rattle.lua_store.specs.Parts.{IsOf, IsTableOf, IsLater};
 ghost use Rattle.lua_basic.specs.Seen.{values_seen, AllOf, Paid, AnswerOf};
+ghost use Rattle.mw_frames.specs.Costs.{MayPay};
 ghost use Rattle.mw_frames.specs.Scenes.{NamesOf};
-ghost use Rattle.mw_frame_texts.specs.Read.{parts, found_parts};
+ghost use Rattle.mw_frame_texts.specs.Read.{parts, found_parts, tag_behind};
 ghost use Rattle.mw_frame_texts.specs.Written.{tag_written};
 
 use crate::attributes::{AttrText, the_attributes};
@@ -21,6 +22,7 @@ use lua_basic::messages::refuse_kind;
 use lua_basic::values::{second, single, third};
 use lua_store::{Store, TableId, Value};
 use mw_frames::FieldNames;
+use mw_frames::reading::pay_passed;
 use std::alloc::Global;
 use wk_base::{Left, List};
 
@@ -44,6 +46,45 @@ fn give_tag(
     Ok(values)
 }
 
+/// Takes a step for each cleared entry that is passed, where the attributes are a table.
+fn pay_attributes(store: &Store, left: &mut Left, attrs: Value) -> Result<(), Stop>
+    requires { IsOf store.now attrs }
+    ensures { MayPay (meaning.passed_in store.now.heap (seen store.now.texts attrs)) left.old left.new result }
+{
+    match attrs {
+        Value::Table(table) => pay_passed(store, left, table),
+        Value::Nil => Ok(()),
+        Value::Bool(_) => Ok(()),
+        Value::Number(_) => Ok(()),
+        Value::Text(_) => Ok(()),
+        Value::Closure(_) => Ok(()),
+        Value::Builtin(_) => Ok(()),
+        Value::Markup(_) => Ok(()),
+    }
+}
+
+/// A tag of this name, behind the charge of its cleared attributes.
+fn tag_named(
+    alloc: Global,
+    store: &mut Store,
+    left: &mut Left,
+    name: &[u8],
+    attrs: Value,
+    value: Value,
+) -> Result<List<Value>, Stop>
+    requires attrs { IsOf store.old attrs }
+    requires content { IsOf store.old value }
+    ensures answer { Paid (tag_behind name.now (seen store.old.texts attrs) (seen store.old.texts value) store.old.heap) store.old left.old store.new left.new result }
+    ensures of { AnswerOf store.new result }
+    ensures later { IsLater store.old store.new }
+{
+    let attrs = the_attributes(alloc, store, attrs)?;
+    let Some(content) = content_in(alloc, store, value)? else {
+        return Err(refuse_kind(alloc, store, 3, b"tag", b"string", &[value]));
+    };
+    give_tag(alloc, store, left, name, attrs.as_slice(), &content)
+}
+
 /// A tag of a name, attributes and content. The name is the first of a list, if it is there.
 pub fn tag_of(
     alloc: Global,
@@ -61,18 +102,8 @@ pub fn tag_of(
     ensures later { IsLater store.old store.new }
 {
     let name = a_text(alloc, store, 1, b"tag", names)?;
-    let attrs = the_attributes(alloc, store, attrs)?;
-    let Some(content) = content_in(alloc, store, value)? else {
-        return Err(refuse_kind(alloc, store, 3, b"tag", b"string", &[value]));
-    };
-    give_tag(
-        alloc,
-        store,
-        left,
-        name.as_slice(),
-        attrs.as_slice(),
-        &content,
-    )
+    pay_attributes(store, left, attrs)?;
+    tag_named(alloc, store, left, name.as_slice(), attrs, value)
 }
 
 /// The first of the arguments, where it is a table, which then has the parts as fields.

@@ -24,6 +24,12 @@ abbrev pub Pays : {A : Type 0} → ℕ → Left → Left → Result A Stop → T
 Pays n l m (Ok a) = Took n l m
 Pays n l m (Err e) = Unpaid n l m e
 
+-- or memory was wanting
+abbrev pub MayPay : {A : Type 0} → ℕ → Left → Left → Result A Stop → Type 0
+MayPay n l m (Ok a) = Took n l m
+MayPay n l m (Err stop.NoMemory) = Unit {0}
+MayPay n l m (Err e) = Unpaid n l m e
+
 -- a frame is made after what it costs
 abbrev pub IsMade : ℕ → Scene → ℕ → StoreView → Left → StoreView → Left → Result TableId Stop → Type 0
 IsMade n scene number s l t m (Ok id) = Took n l m × (id.at ≡ length s.heap.tables + 2) × (t.heap ≡ make_frame scene number s.heap) × IsTableOf t id

@@ -1,5 +1,5 @@
 //! Arguments that are read of a table (Scribunto, `frame:expandTemplate` and `frame:newChild`). Their texts are not copied.
-ghost use Rattle.std.specs.Prelude.{◌≡◌, ◌+◌, ◌∷◌, [], length, drop, IfOk, IfSome, MatchOption};
+ghost use Rattle.std.specs.Prelude.{◌≡◌, ℕ, ◌+◌, List as Items, ◌∷◌, [], Some, length, drop, IfOk, IfSome, MatchOption};
 ghost use Rattle.lua_heap.specs.Heap.{table_at};
 ghost use Rattle.lua_meaning.specs.Values as values;
 ghost use Rattle.lua_meaning.specs.FrameMethods as meaning;
@@ -8,9 +8,12 @@ ghost use Rattle.lua_store.specs.Seen.{seen, seen_entry};
 ghost use Rattle.lua_store.specs.Parts.{IsOf, IsTableOf, IsEntryOf};
 ghost use Rattle.lua_basic.specs.Arguments.{text_bytes};
 ghost use Rattle.std.specs.Option.{option_map};
-ghost use Rattle.mw_frames.specs.Costs.{Pays};
-ghost use Rattle.mw_frames.specs.Reading.{arg_seen, args_seen, found_arg, found_args, IsRead};
+ghost use Rattle.mw_frames.specs.Costs.{Pays, MayPay};
+ghost use Rattle.mw_frames.specs.Reading.{arg_seen, args_seen, found_arg, found_args, is_read, IsPassed, IsRead};
+ghost use Rattle.lua_meaning.specs.Arguments.{passed};
 ghost use Rattle.lua_meaning.specs.Charges.{argument_charge};
+ghost use Rattle.lua_meaning.specs.Scope.{Bytes};
+ghost use Rattle.lua_meaning.specs.Tag.{entry_attribute};
 
 use crate::paying::{pay, pay_texts};
 use lua_basic::Stop;
@@ -123,6 +126,71 @@ pub fn read_args<'b>(
         }
     }
     Err(NoMemory)
+}
+
+/// Whether a value is written as a text: a text, a number or a truth value.
+fn is_written(value: Value) -> bool
+    ensures args { (texts : Items (Items ℕ)) (name : Bytes) → result ≡ is_read (meaning.arg_of (Some name) (meaning.arg_value (seen texts value))) }
+{
+    match value {
+        Value::Bool(true) => true,
+        Value::Bool(false) => true,
+        Value::Number(_) => true,
+        Value::Text(_) => true,
+        Value::Nil => false,
+        Value::Table(_) => false,
+        Value::Closure(_) => false,
+        Value::Builtin(_) => false,
+        Value::Markup(_) => false,
+    }
+}
+
+/// Whether an entry is one of names and their values: its key is a text or a number, and its value is written as a text.
+fn is_named(key: Value, value: Value) -> bool
+    ensures { (texts : Items (Items ℕ)) → result ≡ is_read (meaning.entry_arg (seen texts key, seen texts value)) }
+{
+    match key {
+        Value::Number(_) => is_written(value),
+        Value::Text(_) => is_written(value),
+        Value::Nil => false,
+        Value::Bool(_) => false,
+        Value::Table(_) => false,
+        Value::Closure(_) => false,
+        Value::Builtin(_) => false,
+        Value::Markup(_) => false,
+    }
+}
+
+/// Takes a step for an entry that is cleared. True where the walk goes on behind it: an entry that is none ends it.
+fn pass_entry(store: &Store, left: &mut Left, entry: (Value, Value)) -> Result<bool, Stop>
+    requires { IsEntryOf store.now entry }
+    ensures { IsPassed (seen_entry store.now.texts entry) left.old left.new result }
+{
+    let (key, value) = entry;
+    if is_nil(value) {
+        pay(left, 1)?;
+        return Ok(true);
+    }
+    Ok(is_named(key, value))
+}
+
+/// Takes a step for each cleared entry of a table of names and their values, up to the first entry that is none.
+pub fn pay_passed(store: &Store, left: &mut Left, table: TableId) -> Result<(), Stop>
+    requires { IsTableOf store.now table }
+    ensures args { MayPay (passed meaning.entry_arg (table_at store.now.heap table.at).entries) left.old left.new result }
+    ensures attributes { MayPay (passed entry_attribute (table_at store.now.heap table.at).entries) left.old left.new result }
+{
+    'places: for place in 0..usize::MAX {
+        match entry_at(store, table, place) {
+            None => return Ok(()),
+            Some(entry) => {
+                if !pass_entry(store, left, entry)? {
+                    return Ok(());
+                }
+            }
+        }
+    }
+    Err(Stop::NoMemory)
 }
 
 /// Takes a step for each byte of the names and values of arguments.

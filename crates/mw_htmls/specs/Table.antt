@@ -64,7 +64,7 @@ abbrev pub newline_on : {X : Type 0} → ℕ → Heap X → Plain X
 newline_on m h = html.changes h m (nodes.add_texts ((10 ∷ []) ∷ []))
 
 abbrev pub css_text_on : {X : Type 0} → ℕ → List Value → Heap X → Plain X
-css_text_on m given h = with_argument h (a_text 2 (codes "cssText") given) (λ text. html.changes h m (nodes.add_style_text text))
+css_text_on m given h = with_argument h (html.text_if_any 2 (codes "cssText") given) (λ text. html.adds_styles h m text)
 
 abbrev pub add_class_on : {X : Type 0} → ℕ → List Value → Heap X → Plain X
 add_class_on m given h = with_argument h (html.text_if_any 2 (codes "addClass") given) (λ class. html.adds_class h m class)
@@ -94,13 +94,10 @@ method_on own.GetAttr m given h = get_attr_on m given h
 abbrev pub method_by : {X : Type 0} → Method → List Value → Heap X → Plain X
 method_by which args h = with_argument h (html.an_object 1 (name_of which) args) (λ m. method_on which m (rest args) h)
 
--- behind the charge of its arguments
-abbrev pub given_by : {X : Type 0} → HtmlFunction → List Value → Heap X → Plain X
-given_by function.Create args h = html.create args h
-given_by (function.Method which) args h = method_by which args h
-
+-- a method stands behind the charge of its arguments
 abbrev pub answer_of : {X : Type 0} → HtmlFunction → List Value → Heap X → Plain X
-answer_of f args h = of_texts (given_by f) args h
+answer_of function.Create args h = html.create args h
+answer_of (function.Method which) args h = of_texts (method_by which) args h
 
 -- each is a line of the table of the library
 abbrev pub AreInTable : Type 0

@@ -2,7 +2,8 @@
 ghost use Rattle.lua_store.specs.Parts.{IsMarkupOf, IsLater};
 ghost use Rattle.lua_basic.specs.Seen.{values_seen, AllOf, Paid, AnswerOf};
 ghost use Rattle.mw_htmls.specs.Table as spec;
-ghost use Rattle.mw_htmls.specs.Table.{given_by, answer_of};
+ghost use Rattle.mw_htmls.specs.Table.{answer_of, method_by};
+ghost use Rattle.lua_meaning.specs.TextArguments.{of_texts};
 
 use crate::above::{all_done, done};
 use crate::arguments::an_object;
@@ -49,7 +50,7 @@ fn method_on(
     }
 }
 
-/// What a method gives: its first argument is its object.
+/// What a method gives behind the charge of its arguments: its first argument is its object.
 fn method(
     alloc: Global,
     store: &mut Store,
@@ -58,7 +59,7 @@ fn method(
     args: &[Value],
 ) -> Result<List<Value>, Stop>
     requires { AllOf store.old args.now }
-    ensures answer { Paid (spec.method_by which (values_seen store.old.texts args.now) store.old.heap) store.old left.old store.new left.new result }
+    ensures answer { Paid (method_by which (values_seen store.old.texts args.now) store.old.heap) store.old left.old store.new left.new result }
     ensures of { AnswerOf store.new result }
     ensures later { IsLater store.old store.new }
 {
@@ -66,27 +67,24 @@ fn method(
     method_on(alloc, store, left, which, id, rest(args))
 }
 
-/// What a function gives behind the charge of its arguments.
-fn give(
+/// What a method gives, after its charge, of which the bytes of the arguments that are strings come first.
+fn method_call(
     alloc: Global,
     store: &mut Store,
     left: &mut Left,
-    which: HtmlFunction,
+    which: Method,
     args: &[Value],
 ) -> Result<List<Value>, Stop>
     requires { AllOf store.old args.now }
-    ensures answer { Paid (given_by which (values_seen store.old.texts args.now) store.old.heap) store.old left.old store.new left.new result }
+    ensures answer { Paid (of_texts (method_by which) (values_seen store.old.texts args.now) store.old.heap) store.old left.old store.new left.new result }
     ensures of { AnswerOf store.new result }
     ensures later { IsLater store.old store.new }
 {
-    match which {
-        HtmlFunction::Create => create(alloc, store, args),
-        HtmlFunction::Method(which) => method(alloc, store, left, which, args),
-    }
+    take_texts(store, left, args)?;
+    method(alloc, store, left, which, args)
 }
 
-/// What a function of `mw.html` gives for these arguments, after its charge, of which the bytes of the arguments that are strings come
-/// first.
+/// What a function of `mw.html` gives for these arguments, after its charge.
 ///
 /// It is `Stop::Raised` exactly where it raises and its charge is covered, with the level whose place the caller puts in front, and
 /// `Stop::Spent` exactly where its charge is not covered; then the store is as it was.
@@ -102,6 +100,8 @@ pub fn html_call(
     ensures of { AnswerOf store.new result }
     ensures later { IsLater store.old store.new }
 {
-    take_texts(store, left, args)?;
-    give(alloc, store, left, which, args)
+    match which {
+        HtmlFunction::Create => create(alloc, store, args),
+        HtmlFunction::Method(which) => method_call(alloc, store, left, which, args),
+    }
 }

@@ -1,7 +1,9 @@
 //! `addClass`, `getAttr` and `cssText` (Scribunto, HTML library).
-ghost use Rattle.std.specs.Prelude.{◌≡◌, ◌+◌, length, map, bytes_eq, Some, None};
+ghost use Rattle.std.specs.Prelude.{◌≡◌, ◌+◌, ◌∷◌, [], length, map, bytes_eq, Some};
 ghost use Rattle.std.specs.List.{AllByRecursion};
 ghost use Rattle.lua_heap.specs.Heap.{markup_at};
+ghost use Rattle.lua_heap.specs.Value as kind;
+ghost use Rattle.lua_meaning.specs.Arguments as plain;
 ghost use Rattle.lua_meaning.specs.Html as meaning;
 ghost use Rattle.lua_meaning.specs.HtmlNodes as nodes;
 ghost use Rattle.mw_html.specs.Names.{with_class};
@@ -93,10 +95,10 @@ fn give_classes(
     Ok(values)
 }
 
-/// An object is given.
+/// An object is given, to which nil adds no class and no style.
 fn give_object(alloc: Global, store: &mut Store, id: MarkupId) -> Result<List<Value>, Stop>
     requires { IsMarkupOf store.old id }
-    ensures answer { Free (meaning.adds_class store.old.heap id.at None) store.new result }
+    ensures answer { Free (plain.gives store.old.heap (kind.Markup id.at ∷ [])) store.new result }
     ensures of { AnswerOf store.new result }
     ensures same { store.new ≡ store.old }
 {
@@ -174,7 +176,7 @@ fn give_styled(
     text: &[u8],
 ) -> Result<List<Value>, Stop>
     requires { IsMarkupOf store.old id }
-    ensures answer { Free (meaning.changes store.old.heap id.at (nodes.add_style_text text.now)) store.new result }
+    ensures answer { Free (meaning.adds_styles store.old.heap id.at (Some text.now)) store.new result }
     ensures of { AnswerOf store.new result }
     ensures later { IsLater store.old store.new }
 {
@@ -183,7 +185,7 @@ fn give_styled(
     Ok(values)
 }
 
-/// `cssText(text)`: a text of styles is added.
+/// `cssText(text)`: a text of styles is added; nothing for nil.
 pub fn css_text(
     alloc: Global,
     store: &mut Store,
@@ -196,6 +198,9 @@ pub fn css_text(
     ensures of { AnswerOf store.new result }
     ensures later { IsLater store.old store.new }
 {
-    let text = a_text(alloc, store, 2, b"cssText", given)?;
-    give_styled(alloc, store, id, text.as_slice())
+    let styles = text_if_any(alloc, store, 2, b"cssText", given)?;
+    match styles {
+        Some(text) => give_styled(alloc, store, id, text.as_slice()),
+        None => give_object(alloc, store, id),
+    }
 }

@@ -3,7 +3,7 @@ use Rattle.std.proofs.Common.{◌≡◌, ℕ, zero, suc, List, [], ◌∷◌, Op
 use Rattle.wk_base.specs.declared.left.Left.{Left}
 use Rattle.wk_base.specs.declared.title.Title.{Title}
 use Rattle.wk_base.specs.Titles.{title_text}
-use Rattle.page_run.specs.Run.{Ends, Takes, Counts, Sees, Changes, Calls, Leaves, Uses, Begins, Opens, Asks}
+use Rattle.page_run.specs.Run.{Ends, Takes, Counts, Notes, Sees, Changes, Calls, Leaves, Uses, Begins, Opens, Asks}
 use Rattle.page_run.specs.State.{Response, Gives, Exhausts, Reply, Replier, State as Middle, start}
 use Rattle.page_run.specs.Perform.{less, with_steps, enter_call, with_call, give_back, leave_call, count_node, take_reply, after_response, with_computed, with_reply, nothing_begins, perform_with, perform_by, perform, to_come}
 use Rattle.mw_frame.specs.declared.question.Ask.{Ask}
@@ -63,6 +63,7 @@ module _ (world : World) (b b' : Replier Ask Answer) (agree : (question : Ask) �
   with_same g g' h (Ends outcome) only s none = refl
   with_same g g' h (Takes n p) only s none = steps_same (less n s.left.steps) s (perform_with (meaning_of world) b g p) (perform_with (meaning_of world) b' g' p) (λ r. with_same g g' h p only record s { left = record s.left { steps = r } } none)
   with_same g g' h (Counts p) only s none = with_same g g' h p only (count_node s) none
+  with_same g g' h (Notes source name p) only s none = with_same g g' h p only s none
   with_same g g' h (Sees f) only s none = with_same g g' h (f s.heap) (only s.heap none) s none
   with_same g g' h (Changes heap p) (empty, only) s none = with_same g g' h p only record s { heap = heap } empty
   with_same g g' h (Calls p) only s none = call_same (less 1 s.left.calls) s (perform_with (meaning_of world) b g p) (perform_with (meaning_of world) b' g' p) (λ r. with_same g g' h p only (enter_call r s) none)

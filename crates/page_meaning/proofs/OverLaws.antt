@@ -6,7 +6,7 @@ use Rattle.mw_frame.specs.declared.scene.Arg.{Arg}
 use Rattle.mw_frame.specs.declared.scene.Scene.{Scene}
 use Rattle.mw_frame.specs.declared.question.Ask.{Ask}
 use Rattle.mw_frame.specs.declared.question.Ask.TheVariants.{Template, Preprocess, Data}
-use Rattle.page_run.specs.Run.{Run, Ends, Takes, Counts, Sees, Changes, Calls, Leaves, Uses, Begins, Opens, Asks, Meaning}
+use Rattle.page_run.specs.Run.{Run, Ends, Takes, Counts, Notes, Sees, Changes, Calls, Leaves, Uses, Begins, Opens, Asks, Meaning}
 use Rattle.page_run.specs.State.{Response, Gives, Exhausts, Reply, Replier, State, start, Event, Ended, Spent, Asked, moment_of}
 use Rattle.page_run.specs.Perform.{less, apply_use, after_use, with_steps, enter_call, with_call, leave_call, count_node, with_node, take_reply, after_response, with_computed, with_reply, nothing_begins, perform_with, perform_by, perform, size, to_come}
 use Rattle.page_run.specs.Charges.{KeepsCalls, GivenBack}
@@ -57,6 +57,7 @@ module _ {M H T Q A O : Type 0} (meaning : Meaning M H T Q A O) (b : Replier Q A
   with_end g h (Ends o) s = tt
   with_end g h (Takes n p) s = steps_end (less n s.left.steps) s (perform_with meaning b g p) (λ r. with_end g h p record s { left = record s.left { steps = r } })
   with_end g h (Counts p) s = with_end g h p (count_node s)
+  with_end g h (Notes source name p) s = with_end g h p s
   with_end g h (Sees f) s = with_end g h (f s.heap) s
   with_end g h (Changes heap p) s = with_end g h p record s { heap = heap }
   with_end g h (Calls p) s = call_ends (less 1 s.left.calls) s (perform_with meaning b g p) (λ r. with_end g h p (enter_call r s))

@@ -8,7 +8,7 @@ use Rattle.mw_frame.specs.declared.scene.Arg.{Arg}
 use Rattle.mw_frame.specs.declared.scene.Scene.{Scene}
 use Rattle.mw_frame.specs.declared.question.Ask.{Ask}
 use Rattle.mw_frame.specs.declared.question.Ask.TheVariants.{Template, Preprocess, Data}
-use Rattle.page_run.specs.Run.{Use, TakeBytes, EnterDepth, LeaveDepth, HasTemplate, EnterTemplate, LeaveTemplate, Run, Ends, Takes, Counts, Sees, Changes, Calls, Leaves, Uses, Begins, Opens, Asks, Meaning}
+use Rattle.page_run.specs.Run.{Use, TakeBytes, EnterDepth, LeaveDepth, HasTemplate, EnterTemplate, LeaveTemplate, Run, Ends, Takes, Counts, Notes, Sees, Changes, Calls, Leaves, Uses, Begins, Opens, Asks, Meaning}
 use Rattle.page_run.specs.State.{Loads, NoLoads, Load, join_loads, Response, Gives, Exhausts, Reply, Replier, Moment, State, moment, start, Event, moment_of}
 use Rattle.page_run.specs.Perform.{less, after_bytes, after_depth, after_template, apply_use, after_use, with_steps, enter_call, with_call, give_back, leave_call, count_node, with_node, take_reply, after_response, with_computed, with_reply, nothing_begins, perform_with, perform_by, perform, size, to_come}
 use Rattle.page_run.specs.Walk.{WalkState, empty_walk, is_in, walk_load, walk}
@@ -135,6 +135,7 @@ module _ {M H T Q A O : Type 0} (meaning : Meaning M H T Q A O) (b : Replier Q A
   with_paid g h (Takes n p) s e m =
       steps_paid k (less n s.left.steps) n s (perform_with meaning b g p) refl m (λ r i. with_paid g h p record s { left = record s.left { steps = r } } e record { steps = omega (arith, m.steps); cover = m.cover })
   with_paid g h (Counts p) s e m = with_paid g h p (count_node s) e record { steps = m.steps; cover = m.cover }
+  with_paid g h (Notes source name p) s e m = with_paid g h p s e m
   with_paid g h (Sees f) s e m = with_paid g h (f s.heap) s e m
   with_paid g h (Changes heap p) s e m = with_paid g h p record s { heap = heap } e record { steps = m.steps; cover = m.cover }
   with_paid g h (Calls p) s e m = call_paid k (less 1 s.left.calls) s (perform_with meaning b g p) m (λ r. with_paid g h p (enter_call r s) e record { steps = m.steps; cover = m.cover })

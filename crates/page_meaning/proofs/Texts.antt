@@ -11,7 +11,7 @@ use Rattle.wiki_markup.specs.Trees.{Trees, done, text, equals, node}
 use Rattle.mw_frame.specs.declared.scene.Arg.{Arg}
 use Rattle.mw_frame.specs.declared.scene.Scene.{Scene}
 use Rattle.mw_frame.specs.declared.scene.Job.{Job}
-use Rattle.page_run.specs.Run.{Use, Ends, Takes, Counts, Sees, Changes, Calls, Leaves, Uses, Begins, Opens, Asks}
+use Rattle.page_run.specs.Run.{Use, Ends, Takes, Counts, Notes, Sees, Changes, Calls, Leaves, Uses, Begins, Opens, Asks}
 use Rattle.page_run.specs.Part as part
 use Rattle.page_run.specs.State.{Gives, Reply, Replier, State, start, Event}
 use Rattle.page_run.specs.Perform.{less, apply_use, after_use, count_node, with_node, take_reply, after_response, with_computed, with_reply, nothing_begins, perform_with, perform_by, perform, size, to_come, NoRise}
@@ -30,6 +30,7 @@ abbrev OnlyExpands : Page → Type 0
 OnlyExpands (Ends outcome) = Unit {0}
 OnlyExpands (Takes steps rest) = ⊥
 OnlyExpands (Counts rest) = OnlyExpands rest
+OnlyExpands (Notes source name rest) = OnlyExpands rest
 OnlyExpands (Sees rest) = (h : Unit {0}) → OnlyExpands (rest h)
 OnlyExpands (Changes heap rest) = OnlyExpands rest
 OnlyExpands (Calls rest) = ⊥
@@ -256,6 +257,7 @@ module _ (w : Setting) (b : Replier Job (List ℕ)) (nr : NoRise b) (gives : Giv
   with_text g k h (Ends outcome) only s e le = tt
   with_text g k h (Takes n p) only s e le = absurd only
   with_text g k h (Counts p) only s e le = with_text g k h p only (count_node s) e le
+  with_text g k h (Notes source name p) only s e le = with_text g k h p only s e le
   with_text g k h (Sees f) only s e le = with_text g k h (f s.heap) (only s.heap) s e le
   with_text g k h (Changes heap p) only s e le = with_text g k h p only record s { heap = heap } e le
   with_text g k h (Calls p) only s e le = absurd only

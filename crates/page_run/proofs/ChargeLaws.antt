@@ -1,6 +1,6 @@
 -- What is left never rises, and calls are given back: an induction over events each.
 use Rattle.std.proofs.Common.{◌≡◌, ℕ, zero, suc, ◌+◌, ◌≤◌, List, [], ◌∷◌, Option, Some, None, refl, sym, ap, ◌∙◌, subst, arith}
-use Rattle.page_run.specs.Run.{Run, Ends, Takes, Counts, Sees, Changes, Calls, Leaves, Uses, Begins, Opens, Asks, Meaning}
+use Rattle.page_run.specs.Run.{Run, Ends, Takes, Counts, Notes, Sees, Changes, Calls, Leaves, Uses, Begins, Opens, Asks, Meaning}
 use Rattle.page_run.specs.State.{Response, Gives, Exhausts, Reply, Replier, State, Event, moment_of}
 use Rattle.page_run.specs.Perform.{less, apply_use, after_use, with_steps, enter_call, with_call, give_back, leave_call, count_node, with_node, take_reply, after_response, with_computed, with_reply, size, size_in, to_come, nothing_begins, perform_with, perform_by, perform, NoRise}
 use Rattle.page_run.specs.Charges.{KeepsCalls, GivenBack, NothingRises, CallsComeBack}
@@ -43,6 +43,7 @@ module _ {M H T Q A O : Type 0} (meaning : Meaning M H T Q A O) (b : Replier Q A
   with_falls g k h (Ends o) s le = omega arith
   with_falls g k h (Takes n p) s le = steps_fall k (less n s.left.steps) n s (perform_with meaning b g p) refl le (λ r e. with_falls g k h p record s { left = record s.left { steps = r } } (omega arith))
   with_falls g k h (Counts p) s le = with_falls g k h p (count_node s) le
+  with_falls g k h (Notes source name p) s le = with_falls g k h p s le
   with_falls g k h (Sees f) s le = with_falls g k h (f s.heap) s le
   with_falls g k h (Changes heap p) s le = with_falls g k h p record s { heap = heap } le
   with_falls g k h (Calls p) s le = call_falls k (less 1 s.left.calls) s (perform_with meaning b g p) le (λ r. with_falls g k h p (enter_call r s) le)
@@ -104,6 +105,7 @@ module _ {M H T Q A O : Type 0} (meaning : Meaning M H T Q A O) (b : Replier Q A
   with_back g n h (Ends o) s i e = (e, refl)
   with_back g n h (Takes c p) s i e = steps_back n (less c s.left.steps) s (perform_with meaning b g p) e (λ r. with_back g n h p record s { left = record s.left { steps = r } } i e)
   with_back g n h (Counts p) s i e = with_back g n h p (count_node s) i e
+  with_back g n h (Notes source name p) s i e = with_back g n h p s i e
   with_back g n h (Sees f) s i e = with_back g n h (f s.heap) s i e
   with_back g n h (Changes heap p) s i e = with_back g n h p record s { heap = heap } i e
   with_back g n h (Calls p) s i e = call_back n (less 1 s.left.calls) s (perform_with meaning b g p) refl e (λ r j. with_back g n h p (enter_call r s) i (omega arith))

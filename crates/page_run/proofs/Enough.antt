@@ -1,7 +1,7 @@
 -- More things than can begin change nothing: so each event of a run is one step of `perform`, and what is beyond the given replies is asked only with what can be left.
 use Rattle.std.proofs.Common.{◌≡◌, ℕ, zero, suc, ◌+◌, ◌≤◌, Bool, List, [], ◌∷◌, Option, Some, None, refl, sym, ap, ◌∙◌, arith}
 use Rattle.wk_base.specs.declared.left.Left.{Left}
-use Rattle.page_run.specs.Run.{Use, Run, Ends, Takes, Counts, Sees, Changes, Calls, Leaves, Uses, Begins, Opens, Asks, Meaning}
+use Rattle.page_run.specs.Run.{Use, Run, Ends, Takes, Counts, Notes, Sees, Changes, Calls, Leaves, Uses, Begins, Opens, Asks, Meaning}
 use Rattle.page_run.specs.State.{Response, Gives, Exhausts, Reply, Replier, State, with_calls_back, Event, Ended}
 use Rattle.page_run.specs.Perform.{less, apply_use, after_use, with_steps, after_steps, enter_call, with_call, after_call, give_back, leave_call, count_node, with_node, after_node, take_reply, after_response, with_computed, with_reply, size, size_in, to_come, nothing_begins, perform_with, perform_by, perform, NoRise}
 use Rattle.page_run.proofs.Less.{less_some, used_size}
@@ -46,6 +46,7 @@ module _ {M H T Q A O : Type 0} (meaning : Meaning M H T Q A O) where
   agree g g' b b' k h nr same (Ends o) s le = refl
   agree g g' b b' k h nr same (Takes n p) s le = after_steps_agree n s (perform_with meaning b g p) (perform_with meaning b' g' p) (λ r e. agree g g' b b' k h nr same p record s { left = record s.left { steps = r } } (omega arith))
   agree g g' b b' k h nr same (Counts p) s le = agree g g' b b' k h nr same p (count_node s) le
+  agree g g' b b' k h nr same (Notes source name p) s le = agree g g' b b' k h nr same p s le
   agree g g' b b' k h nr same (Sees f) s le = agree g g' b b' k h nr same (f s.heap) s le
   agree g g' b b' k h nr same (Changes heap p) s le = agree g g' b b' k h nr same p record s { heap = heap } le
   agree g g' b b' k h nr same (Calls p) s le = call_agree (less 1 s.left.calls) s (perform_with meaning b g p) (perform_with meaning b' g' p) (λ r. agree g g' b b' k h nr same p (enter_call r s) le)
@@ -89,6 +90,9 @@ module _ {M H T Q A O : Type 0} (meaning : Meaning M H T Q A O) where
 
     pub perform-Counts : (p : Run M H T Q A O) (s : State H A) → perform meaning b (Counts p) s ≡ perform meaning b p (count_node s)
     perform-Counts p s = perform_is b nr (suc (to_come s)) (Counts p) s (omega arith) ∙ sym (perform_is b nr (suc (to_come s)) p (count_node s) (omega arith))
+
+    pub perform-Notes : (source name : List ℕ) (p : Run M H T Q A O) (s : State H A) → perform meaning b (Notes source name p) s ≡ perform meaning b p s
+    perform-Notes source name p s = perform_is b nr (suc (to_come s)) (Notes source name p) s (omega arith) ∙ sym (perform_is b nr (suc (to_come s)) p s (omega arith))
 
     pub perform-Sees : (f : H → Run M H T Q A O) (s : State H A) → perform meaning b (Sees f) s ≡ perform meaning b (f s.heap) s
     perform-Sees f s = perform_is b nr (suc (to_come s)) (Sees f) s (omega arith) ∙ sym (perform_is b nr (suc (to_come s)) (f s.heap) s (omega arith))

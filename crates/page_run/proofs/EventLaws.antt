@@ -1,14 +1,15 @@
 -- The laws of events, from the steps of `perform`.
-use Rattle.std.proofs.Common.{◌≡◌, ℕ, zero, suc, ◌+◌, ◌-◌, ◌<◌, Bool, List, [], refl, sym, ap, ◌∙◌, arith}
+use Rattle.std.proofs.Common.{◌≡◌, ℕ, zero, suc, ◌+◌, ◌-◌, ◌<◌, Bool, List, [], ◌∷◌, refl, sym, ap, ◌∙◌, arith}
 use Rattle.wk_base.specs.declared.left.Left.{Left}
 use Rattle.page_run.specs.declared.which.Which.TheVariants.{Steps}
-use Rattle.page_run.specs.Run.{TakeBytes, EnterDepth, LeaveDepth, HasTemplate, EnterTemplate, LeaveTemplate, Run, Asks, Meaning}
+use Rattle.page_run.specs.Run.{TakeBytes, EnterDepth, LeaveDepth, HasTemplate, EnterTemplate, LeaveTemplate, Run, Notes, Asks, Meaning}
 use Rattle.page_run.specs.State.{Reply, Replier, State, Event, Spent}
-use Rattle.page_run.specs.Perform.{after_bytes, after_depth, after_template, with_steps, with_call, give_back, with_node, take_reply, after_response, with_computed, with_reply, perform, NoRise}
-use Rattle.page_run.specs.Events.{EndsIs, TakesIs, CountsIs, SeesIs, ChangesIs, CallsIs, LeavesIs, BytesAre, DepthIs, TemplatesAre, BeginsIs, OpensIs, GoesOn, AsksIs, moment_at_end}
+use Rattle.page_run.specs.Perform.{after_bytes, after_depth, after_template, with_steps, with_call, give_back, with_node, take_reply, after_response, with_computed, with_reply, perform, NoRise, to_come}
+use Rattle.page_run.specs.Trace.{trace_by, trace, NotesAreTold}
+use Rattle.page_run.specs.Events.{EndsIs, TakesIs, CountsIs, NotesAre, SeesIs, ChangesIs, CallsIs, LeavesIs, BytesAre, DepthIs, TemplatesAre, BeginsIs, OpensIs, GoesOn, AsksIs, moment_at_end}
 use Rattle.std.proofs.lemmas.Bool.{le-leb, lt-leb}
 use Rattle.page_run.proofs.Less.{less_of, less_over}
-use Rattle.page_run.proofs.Enough.{perform-Ends, perform-Takes, perform-Counts, perform-Sees, perform-Changes, perform-Calls, perform-Leaves, perform-Uses, perform-Begins, perform-Opens, perform-Asks}
+use Rattle.page_run.proofs.Enough.{perform-Ends, perform-Takes, perform-Counts, perform-Notes, perform-Sees, perform-Changes, perform-Calls, perform-Leaves, perform-Uses, perform-Begins, perform-Opens, perform-Asks}
 
 back_some : {H A : Type 0} → (n : ℕ) (s : State H A) → 0 < n → give_back n s ≡ record s { left = record s.left { calls = s.left.calls + 1 }; in_progress = n - 1 }
 back_some zero s h = absurd (omega arith)
@@ -32,6 +33,17 @@ module _ {M H T Q A O : Type 0} (meaning : Meaning M H T Q A O) (b : Replier Q A
 
   pub counts_is : CountsIs meaning b
   counts_is p s = perform-Counts meaning b nr p s
+
+  pub notes_are : NotesAre meaning b
+  notes_are source name p s = perform-Notes meaning b nr source name p s
+
+  told_by : (n : ℕ) (source name : List ℕ) (p : Run M H T Q A O) (s : State H A) → trace_by meaning b n (Notes source name p) s ≡ record { source = source; name = name } ∷ trace_by meaning b n p s
+  told_by zero source name p s = refl
+  told_by (suc n) source name p s = refl
+
+  pub notes_are_told : NotesAreTold meaning b
+  unfolding trace
+  notes_are_told source name p s = told_by (to_come s) source name p s
 
   pub sees_is : SeesIs meaning b
   sees_is f s = perform-Sees meaning b nr f s

@@ -1,7 +1,8 @@
 -- The small runs compute.
 use Rattle.std.proofs.Common.{refl}
 use Rattle.page_run.specs.Perform.{perform}
-use Rattle.page_run.specs.Examples.{ChargesAreTaken, EndlessLoopIsSpent, UsesAreAnswered, NestingEndsWithNodes, QuestionsAreAnswered}
+use Rattle.page_run.specs.Trace.{trace}
+use Rattle.page_run.specs.Examples.{ChargesAreTaken, EndlessLoopIsSpent, UsesAreAnswered, NestingEndsWithNodes, QuestionsAreAnswered, NotesAreCollected}
 use Rattle.page_run.specs.Jumps.{JumpsAreCaught}
 
 pub charges_are_taken : ChargesAreTaken
@@ -27,3 +28,7 @@ questions_are_answered = refl
 pub jumps_are_caught : JumpsAreCaught
 unfolding perform
 jumps_are_caught = refl
+
+pub notes_are_collected : NotesAreCollected
+unfolding perform trace
+notes_are_collected = (refl, refl)

@@ -2,12 +2,12 @@
 use Rattle.std.proofs.Common.{◌≡◌, ℕ, zero, suc, ◌+◌, ◌-◌, ◌≤◌, Option, Some, None, refl, sym, ap, ◌∙◌, subst, arith}
 use Rattle.std.specs.Prelude.{max}
 use Rattle.wk_base.specs.declared.left.Left.{Left}
-use Rattle.page_run.specs.Run.{Run, Ends, Takes, Counts, Sees, Changes, Calls, Leaves, Uses, Begins, Opens, Asks, Meaning}
+use Rattle.page_run.specs.Run.{Run, Ends, Takes, Counts, Notes, Sees, Changes, Calls, Leaves, Uses, Begins, Opens, Asks, Meaning}
 use Rattle.page_run.specs.State.{Tally, no_tally, join, Response, Gives, Exhausts, Reply, Replier, Moment, State, resume, Event, Ended, Spent, Asked, moment_of}
 use Rattle.page_run.specs.Perform.{less, with_steps, after_steps, enter_call, with_call, after_call, give_back, leave_call, count_node, after_response, with_computed, with_reply, size, nothing_begins, perform_with, perform_by, perform, NoRise}
 use Rattle.page_run.specs.Charges.{ReplyFits, RepliesFit, Fits, EndFits, MoreIsAsGood, OneCharge}
 use Rattle.page_run.proofs.Less.{less_some, less_of}
-use Rattle.page_run.proofs.Enough.{perform-Ends, perform-Takes, perform-Counts, perform-Sees, perform-Changes, perform-Calls, perform-Leaves, perform-Begins, perform-Asks}
+use Rattle.page_run.proofs.Enough.{perform-Ends, perform-Takes, perform-Counts, perform-Notes, perform-Sees, perform-Changes, perform-Calls, perform-Leaves, perform-Begins, perform-Asks}
 
 -- only of a run that ended by itself is anything said
 abbrev IfEnds : {H Q A O : Type 0} → Event H Q O → (State H A → Event H Q O) → H → Left → ℕ → Tally → Type 0
@@ -160,6 +160,8 @@ module _ {M H T Q A O : Type 0} (never : M → ⊥) (meaning : Meaning M H T Q A
       fit_same (perform meaning other (Takes c p)) (λ s. after_steps c s (perform meaning other p)) heap now n tally (perform-Takes meaning other nr c p) (perform_with meaning b g (Takes c p) (resume heap now n tally)) (steps_fit (less c now.steps) c heap now n tally (perform_with meaning b g p) (perform meaning other p) refl (λ r e. with_fits g h p heap record now { steps = r } n tally))
   with_fits g h (Counts p) heap now n tally =
       fit_same (perform meaning other (Counts p)) (λ s. perform meaning other p (count_node s)) heap now n tally (perform-Counts meaning other nr p) (perform_with meaning b g (Counts p) (resume heap now n tally)) (count_fits heap now n tally (perform meaning other p) (perform_with meaning b g (Counts p) (resume heap now n tally)) (with_fits g h p heap now n record tally { nodes = tally.nodes + 1 }))
+  with_fits g h (Notes source name p) heap now n tally =
+      fit_same (perform meaning other (Notes source name p)) (perform meaning other p) heap now n tally (perform-Notes meaning other nr source name p) (perform_with meaning b g p (resume heap now n tally)) (with_fits g h p heap now n tally)
   with_fits g h (Sees f) heap now n tally =
       fit_same (perform meaning other (Sees f)) (λ s. perform meaning other (f s.heap) s) heap now n tally (perform-Sees meaning other nr f) (perform_with meaning b g (f heap) (resume heap now n tally)) (see_fits heap now n tally (λ x. perform meaning other (f x)) (perform_with meaning b g (f heap) (resume heap now n tally)) (with_fits g h (f heap) heap now n tally))
   with_fits g h (Changes heap' p) heap now n tally =

@@ -1,7 +1,7 @@
 -- The walk over loads; and the loads that a run tells, which are those of its replies.
 use Rattle.std.proofs.Common.{◌≡◌, ℕ, zero, suc, true, [], ◌∷◌, Option, Some, None, refl, sym, ap, ◌∙◌, subst}
 use Rattle.std.specs.Prelude.{◌&&◌}
-use Rattle.page_run.specs.Run.{Run, Ends, Takes, Counts, Sees, Changes, Calls, Leaves, Uses, Begins, Opens, Asks, Meaning}
+use Rattle.page_run.specs.Run.{Run, Ends, Takes, Counts, Notes, Sees, Changes, Calls, Leaves, Uses, Begins, Opens, Asks, Meaning}
 use Rattle.page_run.specs.State.{NoLoads, Load, Tally, Response, Gives, Exhausts, State, at, Event}
 use Rattle.page_run.specs.Perform.{less, apply_use, after_use, with_steps, enter_call, with_call, give_back, leave_call, count_node, with_node, take_reply, after_response, nothing_begins, perform_with, perform_by, perform, to_come, wait}
 use Rattle.page_run.specs.Walk.{is_in, walk_load, walk, tally_of, RepeatIsKept, OtherIsFresh, WalkOfJoined, TellsNone, TellsReply}
@@ -49,6 +49,7 @@ module _ {M H T Q A O : Type 0} (meaning : Meaning M H T Q A O) where
   with_tells g t h (Ends o) s i e = e
   with_tells g t h (Takes n p) s i e = steps_tell t (less n s.left.steps) s (perform_with meaning wait g p) e (λ r. with_tells g t h p record s { left = record s.left { steps = r } } i e)
   with_tells g t h (Counts p) s i e = with_tells g t h p (count_node s) i e
+  with_tells g t h (Notes source name p) s i e = with_tells g t h p s i e
   with_tells g t h (Sees f) s i e = with_tells g t h (f s.heap) s i e
   with_tells g t h (Changes heap p) s i e = with_tells g t h p record s { heap = heap } i e
   with_tells g t h (Calls p) s i e = call_tells t (less 1 s.left.calls) s (perform_with meaning wait g p) e (λ r. with_tells g t h p (enter_call r s) i e)

@@ -1,11 +1,11 @@
 -- A run that waits, and one that is over, under more replies: one induction over events, with the laws of events on the other side.
 use Rattle.std.proofs.Common.{◌≡◌, ℕ, zero, suc, ◌+◌, ◌≤◌, List, [], ◌∷◌, ◌++◌, append-nil, Option, Some, None, refl, sym, ap, ◌∙◌, subst, arith}
-use Rattle.page_run.specs.Run.{Run, Ends, Takes, Counts, Sees, Changes, Calls, Leaves, Uses, Begins, Opens, Asks, Meaning}
+use Rattle.page_run.specs.Run.{Run, Ends, Takes, Counts, Notes, Sees, Changes, Calls, Leaves, Uses, Begins, Opens, Asks, Meaning}
 use Rattle.page_run.specs.State.{Response, Gives, Exhausts, Reply, Replier, Moment, State, at, Event, Ended, Spent, Asked}
 use Rattle.page_run.specs.Perform.{less, apply_use, after_use, with_steps, enter_call, with_call, give_back, count_node, with_node, take_reply, after_response, with_computed, with_reply, nothing_begins, perform_with, perform_by, perform, size, size_in, to_come, wait, add_replies, NoRise}
 use Rattle.page_run.specs.Replies.{WaitingIsAsking, EndStands, SpentStands, ComputedIsGiven, UnansweredWaits, AgreeingIsEnough}
 use Rattle.page_run.proofs.Less.{less_some, used_size}
-use Rattle.page_run.proofs.Enough.{perform_agree, perform-Ends, perform-Takes, perform-Counts, perform-Sees, perform-Changes, perform-Calls, perform-Leaves, perform-Uses, perform-Begins, perform-Opens, perform-Asks}
+use Rattle.page_run.proofs.Enough.{perform_agree, perform-Ends, perform-Takes, perform-Counts, perform-Notes, perform-Sees, perform-Changes, perform-Calls, perform-Leaves, perform-Uses, perform-Begins, perform-Opens, perform-Asks}
 
 pub no_rise-wait : {Q A : Type 0} → NoRise {Q = Q} {A = A} wait
 no_rise-wait q l r e = absurd cc
@@ -63,6 +63,7 @@ module _ {M H T Q A O : Type 0} (meaning : Meaning M H T Q A O) where
   with_stands g k h (Takes n p) s le =
       by_step (λ b more. with_steps (less n s.left.steps) (add_replies more s) (perform meaning b p)) (from (Takes n p) s) (λ b nr more. perform-Takes meaning b nr n p (add_replies more s)) (perform_with meaning wait g (Takes n p) s) (steps_stand (less n s.left.steps) n s (perform_with meaning wait g p) p refl (λ r e. with_stands g k h p record s { left = record s.left { steps = r } } (omega arith)))
   with_stands g k h (Counts p) s le = by_step (from p (count_node s)) (from (Counts p) s) (λ b nr more. perform-Counts meaning b nr p (add_replies more s)) (perform_with meaning wait g p (count_node s)) (with_stands g k h p (count_node s) le)
+  with_stands g k h (Notes source name p) s le = by_step (from p s) (from (Notes source name p) s) (λ b nr more. perform-Notes meaning b nr source name p (add_replies more s)) (perform_with meaning wait g p s) (with_stands g k h p s le)
   with_stands g k h (Sees f) s le = by_step (from (f s.heap) s) (from (Sees f) s) (λ b nr more. perform-Sees meaning b nr f (add_replies more s)) (perform_with meaning wait g (f s.heap) s) (with_stands g k h (f s.heap) s le)
   with_stands g k h (Changes heap p) s le =
       by_step (from p record s { heap = heap }) (from (Changes heap p) s) (λ b nr more. perform-Changes meaning b nr heap p (add_replies more s)) (perform_with meaning wait g p record s { heap = heap }) (with_stands g k h p record s { heap = heap } le)

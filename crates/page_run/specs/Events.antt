@@ -2,7 +2,7 @@
 use Rattle.std.specs.Prelude.{◌≡◌, ℕ, ◌+◌, ◌-◌, ◌<◌, ◌≤◌, max, Bool, true, false, List, [], ◌∷◌, Some, None}
 use Rattle.page_run.specs.declared.which.Which.{Which}
 use Rattle.page_run.specs.declared.which.Which.TheVariants.{Steps, Calls as AllCalls}
-use Rattle.page_run.specs.Run.{TakeBytes, EnterDepth, LeaveDepth, HasTemplate, EnterTemplate, LeaveTemplate, Run, Ends, Takes, Counts, Sees, Changes, Calls, Leaves, Uses, Begins, Opens, Asks, Meaning}
+use Rattle.page_run.specs.Run.{TakeBytes, EnterDepth, LeaveDepth, HasTemplate, EnterTemplate, LeaveTemplate, Run, Ends, Takes, Counts, Notes, Sees, Changes, Calls, Leaves, Uses, Begins, Opens, Asks, Meaning}
 use Rattle.page_run.specs.State.{join, Gives, Exhausts, Reply, Replier, Moment, State, moment, Ended, Spent, Asked}
 use Rattle.page_run.specs.Perform.{perform, NoRise}
 
@@ -30,6 +30,10 @@ module _ {M H T Q A O : Type 0} (meaning : Meaning M H T Q A O) (beyond : Replie
 
   abbrev pub CountsIs : Type 0
   CountsIs = (p : Run M H T Q A O) (s : State H A) → perform meaning beyond (Counts p) s ≡ perform meaning beyond p record s { tally = record s.tally { nodes = s.tally.nodes + 1 } }
+
+  -- a note changes nothing: the meaning without its notes is the meaning
+  abbrev pub NotesAre : Type 0
+  NotesAre = (source name : List ℕ) (p : Run M H T Q A O) (s : State H A) → perform meaning beyond (Notes source name p) s ≡ perform meaning beyond p s
 
   abbrev pub SeesIs : Type 0
   SeesIs = (f : H → Run M H T Q A O) (s : State H A) → perform meaning beyond (Sees f) s ≡ perform meaning beyond (f s.heap) s

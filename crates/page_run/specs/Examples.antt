@@ -1,11 +1,12 @@
--- FIVE SMALL RUNS, and what each of them comes to. The numbers were worked out by hand.
+-- SIX SMALL RUNS, and what each of them comes to. The numbers were worked out by hand.
 use Rattle.std.specs.Prelude.{◌≡◌, ℕ, ◌+◌, ◌-◌, ◌*◌, Bool, true, false, List, [], ◌∷◌, Option, Some}
 use Rattle.wk_base.specs.declared.left.Left.{Left}
 use Rattle.page_run.specs.declared.which.Which.TheVariants.{Steps}
 use Rattle.page_run.specs.Run.{TakeBytes, EnterDepth, LeaveDepth, HasTemplate, Run, Ends}
-use Rattle.page_run.specs.Part.{Part, ◌>>=◌, ◌>>◌, give, tick, count, see, change, try_use, begin, open_or, ask, in_call}
+use Rattle.page_run.specs.Part.{Part, ◌>>=◌, ◌>>◌, give, tick, count, note, see, change, try_use, begin, open_or, ask, in_call}
 use Rattle.page_run.specs.State.{NoLoads, Load, Gives, Reply, Ended, Spent, start}
 use Rattle.page_run.specs.Perform.{perform, wait}
+use Rattle.page_run.specs.Trace.{Note, trace}
 
 -- a loop without end, and a construct that stands inside itself
 pub data Thing : Type 0 where
@@ -113,3 +114,28 @@ QuestionsAreAnswered = perform meaning tenfold (two_questions Ends) (start 0 som
   in_progress = 0;
   tally = record { height = 2; nodes = 0; invoked_nodes = 2; loads = Load (68 ∷ []) 2 4 true NoLoads NoLoads };
 })
+
+-- 6. Notes before, inside and behind a function. What is noted behind a charge that is not covered is not told; to all of them the meaning is deaf.
+abbrev pub noted : ℕ → List ℕ → Note
+noted source name = record { source = source ∷ []; name = name }
+
+abbrev pub notes : Act ℕ
+notes = do
+  note (1 ∷ []) (120 ∷ [])
+  in_call (do
+    tick 4
+    note (2 ∷ []) (121 ∷ []))
+  note (1 ∷ []) (120 ∷ [])
+  tick 7
+  note (1 ∷ []) (122 ∷ [])
+  give 0
+
+abbrev pub NotesAreCollected : Type 0
+NotesAreCollected =
+    (trace meaning wait (notes Ends) (start 0 some_left []) ≡ noted 1 (120 ∷ []) ∷ noted 2 (121 ∷ []) ∷ noted 1 (120 ∷ []) ∷ [])
+    × (perform meaning wait (notes Ends) (start 0 some_left []) ≡ Spent Steps (record {
+      heap = 0;
+      left = record some_left { steps = 0 };
+      in_progress = 0;
+      tally = record { height = 1; nodes = 0; invoked_nodes = 0; loads = NoLoads };
+    }))

@@ -3,6 +3,7 @@ pub mod Part
 pub mod Outcome
 pub mod State
 pub mod Perform
+pub mod Trace
 pub mod Events
 pub mod Replies
 pub mod Charges

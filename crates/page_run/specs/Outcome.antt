@@ -1,5 +1,5 @@
 -- Parts of a run that may end otherwise than with a value: what follows is passed over, until something catches it.
-use Rattle.std.specs.Prelude.{ℕ}
+use Rattle.std.specs.Prelude.{ℕ, List}
 use Rattle.page_run.specs.Run.{Run}
 use Rattle.page_run.specs.Part as Plain
 
@@ -46,6 +46,9 @@ tick n = plain (Plain.tick n)
 
 abbrev pub count : {M H T Q A O J : Type 0} → Act (Run M H T Q A O) J (Unit {0})
 count = plain Plain.count
+
+abbrev pub note : {M H T Q A O J : Type 0} → List ℕ → List ℕ → Act (Run M H T Q A O) J (Unit {0})
+note source name = plain (Plain.note source name)
 
 abbrev pub see : {M H T Q A O J : Type 0} → Act (Run M H T Q A O) J H
 see = plain Plain.see

@@ -1,6 +1,6 @@
 -- A PART of a run is written in the manner of what follows it, so parts are put one after another by `do`.
-use Rattle.std.specs.Prelude.{ℕ, Bool}
-use Rattle.page_run.specs.Run.{Use, Run, Takes, Counts, Sees, Changes, Calls, Leaves, Uses, Begins, Opens, Asks}
+use Rattle.std.specs.Prelude.{ℕ, Bool, List}
+use Rattle.page_run.specs.Run.{Use, Run, Takes, Counts, Notes, Sees, Changes, Calls, Leaves, Uses, Begins, Opens, Asks}
 
 infixl 40 ◌>>=◌
 infixl 40 ◌>>◌
@@ -26,6 +26,9 @@ tick n = λ k. Takes n (k tt)
 
 abbrev pub count : {M H T Q A O : Type 0} → Part (Run M H T Q A O) (Unit {0})
 count = λ k. Counts (k tt)
+
+abbrev pub note : {M H T Q A O : Type 0} → List ℕ → List ℕ → Part (Run M H T Q A O) (Unit {0})
+note source name = λ k. Notes source name (k tt)
 
 abbrev pub see : {M H T Q A O : Type 0} → Part (Run M H T Q A O) H
 see = λ k. Sees k

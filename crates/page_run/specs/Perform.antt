@@ -2,7 +2,7 @@
 use Rattle.std.specs.Prelude.{◌≡◌, ℕ, zero, suc, ◌+◌, ◌-◌, ◌≤◌, max, Bool, true, false, List, [], ◌∷◌, ◌++◌, Option, Some, None, nat_le}
 use Rattle.wk_base.specs.declared.left.Left.{Left}
 use Rattle.page_run.specs.declared.which.Which.TheVariants.{Steps, Calls as CallsSpent}
-use Rattle.page_run.specs.Run.{Use, TakeBytes, EnterDepth, LeaveDepth, HasTemplate, EnterTemplate, LeaveTemplate, Run, Ends, Takes, Counts, Sees, Changes, Calls, Leaves, Uses, Begins, Opens, Asks, Meaning}
+use Rattle.page_run.specs.Run.{Use, TakeBytes, EnterDepth, LeaveDepth, HasTemplate, EnterTemplate, LeaveTemplate, Run, Ends, Takes, Counts, Notes, Sees, Changes, Calls, Leaves, Uses, Begins, Opens, Asks, Meaning}
 use Rattle.page_run.specs.State.{join, Response, Gives, Exhausts, Reply, Replier, State, moment, with_calls_back, Event, Ended, Spent, Asked}
 
 -- so many of what is left, if they are there
@@ -121,6 +121,7 @@ module _ {M H T Q A O : Type 0} (meaning : Meaning M H T Q A O) (beyond : Replie
   perform_with begins (Ends o) s = Ended o (with_calls_back s)
   perform_with begins (Takes n p) s = after_steps n s (perform_with begins p)
   perform_with begins (Counts p) s = perform_with begins p (count_node s)
+  perform_with begins (Notes source name p) s = perform_with begins p s
   perform_with begins (Sees f) s = perform_with begins (f s.heap) s
   perform_with begins (Changes h p) s = perform_with begins p record s { heap = h }
   perform_with begins (Calls p) s = after_call s (perform_with begins p)

@@ -4,7 +4,7 @@
 --   T  the things that begin: what is no smaller part of the text that runs, as a loop's next turn or a function's body
 --   Q  the questions that it asks, and A their answers
 --   O  the outcomes that it, or a part of it, ends with
-use Rattle.std.specs.Prelude.{ℕ, Bool}
+use Rattle.std.specs.Prelude.{ℕ, Bool, List}
 
 -- What an expansion takes, enters, tests and gives back (MediaWiki, Manual: Template limits). It is told whether there was enough,
 -- and goes on either way.
@@ -20,6 +20,8 @@ pub data Run (M H T Q A O : Type 0) : Type 0 where
   Takes : (steps : ℕ) (rest : Run M H T Q A O) → Run M H T Q A O
   -- a node of a syntax tree begins, and is counted
   Counts : (rest : Run M H T Q A O) → Run M H T Q A O
+  -- it notes that the text of this source names this; nothing comes of it, but that a trace tells it
+  Notes : (source name : List ℕ) (rest : Run M H T Q A O) → Run M H T Q A O
   -- it sees the heap
   Sees : (rest : H → Run M H T Q A O) → Run M H T Q A O
   -- from here on the heap is another

@@ -1,5 +1,6 @@
 //! What each event makes of the state of a run. No law speaks of a bound on the things that begin.
-ghost use Rattle.page_run.specs.Events.{Always, EndsIs, TakesIs, CountsIs, SeesIs, ChangesIs, CallsIs, LeavesIs, BytesAre, DepthIs, TemplatesAre, BeginsIs, OpensIs, AsksIs};
+ghost use Rattle.page_run.specs.Trace.{NotesAreTold};
+ghost use Rattle.page_run.specs.Events.{Always, EndsIs, TakesIs, CountsIs, NotesAre, SeesIs, ChangesIs, CallsIs, LeavesIs, BytesAre, DepthIs, TemplatesAre, BeginsIs, OpensIs, AsksIs};
 
 /// The end: its outcome stands, and every call is given back.
 #[tactic(auto, using(crate::proofs::EventLaws::ends_is))]
@@ -17,6 +18,18 @@ pub fn takes<M, H, T, Q, A, O>()
 #[tactic(auto, using(crate::proofs::EventLaws::counts_is))]
 pub fn counts<M, H, T, Q, A, O>()
     ensures { Always M H T Q A O (λ meaning beyond. CountsIs meaning beyond) }
+{}
+
+/// A note changes nothing: the meaning without its notes is the meaning.
+#[tactic(auto, using(crate::proofs::EventLaws::notes_are))]
+pub fn notes<M, H, T, Q, A, O>()
+    ensures { Always M H T Q A O (λ meaning beyond. NotesAre meaning beyond) }
+{}
+
+/// A trace tells a note, and then those of what follows.
+#[tactic(auto, using(crate::proofs::EventLaws::notes_are_told))]
+pub fn traces<M, H, T, Q, A, O>()
+    ensures { Always M H T Q A O (λ meaning beyond. NotesAreTold meaning beyond) }
 {}
 
 /// A look at the heap changes nothing.

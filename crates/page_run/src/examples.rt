@@ -1,5 +1,5 @@
 //! Small runs come to what they should: `Examples` and `Jumps` have them, with their numbers worked out by hand.
-ghost use Rattle.page_run.specs.Examples.{ChargesAreTaken, EndlessLoopIsSpent, UsesAreAnswered, NestingEndsWithNodes, QuestionsAreAnswered};
+ghost use Rattle.page_run.specs.Examples.{ChargesAreTaken, EndlessLoopIsSpent, UsesAreAnswered, NestingEndsWithNodes, QuestionsAreAnswered, NotesAreCollected};
 ghost use Rattle.page_run.specs.Jumps.{JumpsAreCaught};
 
 /// Two charges, a node, a function, and a heap that is changed.
@@ -30,6 +30,12 @@ pub fn nesting_ends_with_nodes()
 #[tactic(auto, using(crate::proofs::ExampleLaws::questions_are_answered))]
 pub fn questions_are_answered()
     ensures { QuestionsAreAnswered }
+{}
+
+/// Notes are told in order, up to a charge that is not covered; the meaning is deaf to them.
+#[tactic(auto, using(crate::proofs::ExampleLaws::notes_are_collected))]
+pub fn notes_are_collected()
+    ensures { NotesAreCollected }
 {}
 
 /// A jump out of a function that is caught, and one that ends the run.

@@ -6,6 +6,7 @@
 //! - `Part`, `Outcome`: parts of a run, one after another, and jumps past what follows
 //! - `State`: a moment of a run, replies, and what is seen from outside
 //! - `Perform`: what a run comes to
+//! - `Trace`: what a run notes on its way
 //! - `Walk`: what data loads tell of kept data
 //! - `Examples`, `Jumps`: small runs, with what they come to
 //!

@@ -23,3 +23,9 @@ returns-in-Require c = rw c.in-Require.is c.require.ensures
 
 pub returns-in-LoadData : goal.returns-in-LoadData
 returns-in-LoadData c = rw c.in-LoadData.is c.load_data.ensures
+
+pub returns-in-StrictRead : goal.returns-in-StrictRead
+returns-in-StrictRead c = rw c.in-StrictRead.is c.strict_index.ensures
+
+pub returns-in-StrictWrite : goal.returns-in-StrictWrite
+returns-in-StrictWrite c = rw c.in-StrictWrite.is c.strict_new_index.ensures

@@ -3,6 +3,9 @@ use Rattle.lua_calls.proofs.framed.give_answer.Goals as goal
 pub returns-in-Gives : goal.returns-in-Gives
 returns-in-Gives c = rw (c.in-Gives.is, ← c.of_list.ensures) (c.give_all.ensures c.args.left.now)
 
+pub returns-in_ok-turn-in-Quotes : goal.returns-in_ok-turn-in-Quotes
+returns-in_ok-turn-in-Quotes c = rw c.in-Quotes.is c.in_ok-turn-in-Quotes.ensures
+
 pub returns-in-Asks : goal.returns-in-Asks
 returns-in-Asks c = rw c.in-Asks.is (c.ask.ensures c.args.left.now)
 

@@ -33,9 +33,3 @@ returns-in-Log-clause-answer c = rw c.in-Log.is (for_nothing _ c.args.store.now 
 
 pub returns-in-Expand-clause-answer : goal.returns-in-Expand-clause-answer
 returns-in-Expand-clause-answer c = rw c.in-Expand.is (for_nothing _ c.args.store.now c.argument_expand.new.store c.args.left.now c.argument_expand.result c.argument_expand.ensures.answer)
-
-pub returns-in-Undeclared-clause-answer : goal.returns-in-Undeclared-clause-answer
-returns-in-Undeclared-clause-answer c = rw c.in-Undeclared.is (for_nothing _ c.args.store.now c.strict_index.new.store c.args.left.now c.strict_index.result c.strict_index.ensures.answer)
-
-pub returns-in-UndeclaredTarget-clause-answer : goal.returns-in-UndeclaredTarget-clause-answer
-returns-in-UndeclaredTarget-clause-answer c = rw c.in-UndeclaredTarget.is (for_nothing _ c.args.store.now c.strict_new_index.new.store c.args.left.now c.strict_new_index.result c.strict_new_index.ensures.answer)

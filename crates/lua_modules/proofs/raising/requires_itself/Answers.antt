@@ -1,10 +1,10 @@
 use Rattle.std.proofs.Common.{◌∙◌, subst}
-use Rattle.lua_slots.specs.Errors.{fails}
+use Rattle.lua_slots.specs.Errors.{fails_quoting}
 use Rattle.lua_state.specs.Seen.{slots_of, frames_of}
 use Rattle.lua_state.specs.Makes.{Makes}
 use Rattle.lua_modules.proofs.raising.requires_itself.Goals as goal
 
 pub returns : goal.returns
 returns c =
-    subst (λ b. Makes c.args.store.now c.args.state.now c.args.left.now c.fail.new.store c.args.state.now c.fail.new.left (fails c.args.line b (frames_of c.args.store.now c.args.state.now) (slots_of c.args.store.now c.args.state.now)) c.in_ok-turn.turn)
+    subst (λ b. Makes c.args.store.now c.args.state.now c.args.left.now c.fail_quoting.new.store c.args.state.now c.fail_quoting.new.left (fails_quoting c.args.line b (frames_of c.args.store.now c.args.state.now) (slots_of c.args.store.now c.args.state.now)) c.in_ok-turn.turn)
     (c.as_slice-said.ensures.value ∙ c.in_ok-message.ensures) c.in_ok-turn.ensures.makes

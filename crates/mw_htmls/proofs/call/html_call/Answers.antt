@@ -1,17 +1,11 @@
-use Rattle.std.proofs.Common.{◌∙◌, ap, arith, Err}
-use Rattle.std.proofs.lemmas.Result.{err_from_is_err_and}
-use Rattle.lua_meaning.specs.Arguments.{text_charge}
-use Rattle.lua_basic.specs.Seen.{values_seen}
-use Rattle.lua_strings.proofs.Taken.{not_paid, charged}
+use Rattle.std.proofs.Common.{subst, sym}
+use Rattle.lua_basic.specs.Seen.{values_seen, Paid}
+use Rattle.lua_basic.proofs.Found.{for_nothing}
+use Rattle.mw_htmls.specs.Table.{answer_of}
 use Rattle.mw_htmls.proofs.call.html_call.Goals as goal
 
-pub returns-in_err-take_texts-clause-answer : goal.returns-in_err-take_texts-clause-answer
-returns-in_err-take_texts-clause-answer c =
-    let p = err_from_is_err_and c.from_residual.result c.from_residual.ensures.1 in
+pub returns-in-Create-clause-answer : goal.returns-in-Create-clause-answer
+returns-in-Create-clause-answer c =
     let s = c.args.store.now in
-    not_paid (text_charge (values_seen s.texts c.args.args.now)) _ s c.args.left.now c.take_texts.new.left c.in_err-take_texts.field-0.0 c.from_residual.result c.in_err-take_texts.ensures (omega arith) (p.1 ∙ ap Err p.2)
-
-pub returns-clause-answer : goal.returns-clause-answer
-returns-clause-answer c =
-    let s = c.args.store.now in
-    charged (text_charge (values_seen s.texts c.args.args.now)) _ s c.args.left.now c.take_texts.new.left c.give.new.left c.give.new.store c.give.result c.in_ok-take_texts.ensures c.give.ensures.answer
+    let l = c.args.left.now in
+    subst (λ w. Paid (answer_of w (values_seen s.texts c.args.args.now) s.heap) s l c.create.new.store l c.create.result) (sym c.in-Create.is) (for_nothing _ s c.create.new.store l c.create.result c.create.ensures.answer)

@@ -1,0 +1,6 @@
+use Rattle.std.proofs.Common.{◌∙◌, ap}
+use Rattle.lua_meaning.specs.Messages.{undeclared_target}
+use Rattle.lua_libs.proofs.mw.undeclared_target.Goals as goal
+
+pub returns : goal.returns
+returns c = c.in_ok-message.ensures ∙ ap undeclared_target (c.as_slice.ensures ∙ c.in_ok-name.ensures)
