@@ -7,11 +7,10 @@ ghost use Rattle.lua_reading.specs.Parsing.{HasOneEnd, ReadsPrefix};
 ghost use Rattle.lua_reading.specs.Answers.{StatAnswer};
 ghost use Rattle.lua_reading.specs.StatAnswers.{Opening, is_call, is_var};
 
-use crate::prefixes::{exprs, prefix};
+use crate::prefixes::{alone, exprs, prefix};
 use lua_grammar::{Context, TokenClass};
 use lua_lexer::Token;
 use lua_reading::context::under;
-use lua_reading::short_lists::short_list;
 use lua_reading::tokens::{class_at, line_at};
 use lua_reading::{Fault, Reading, fault_at, make};
 use lua_syntax::{Expr, ExprKind, Stat};
@@ -67,10 +66,10 @@ fn assignment(
     ensures { StatAnswer toks.now context i result }
 {
     let inner = under(context);
-    let mut tree = short_list(alloc)?;
-    tree.push(first.tree)?;
-    let mut end = first.end;
-    let mut height = 1 + first.height;
+    let one = alone(alloc, first)?;
+    let mut tree = one.tree;
+    let mut end = one.end;
+    let mut height = 1 + one.height;
     'targets: loop {
         match class_at(toks, end) {
             TokenClass::Assign => {

@@ -5,8 +5,10 @@ ghost use Rattle.lua_grammar.specs.Grammar.{sign_of};
 ghost use Rattle.lua_grammar.specs.declared.TokenClass.TheVariants.{Function};
 ghost use Rattle.lua_reading.specs.Parsing.{HasOneEnd};
 ghost use Rattle.lua_reading.specs.Answers.{ExpAnswer, OperandAnswer, OneToken, has_parts};
+ghost use Rattle.lua_parser.specs.Parts.{BoxedAnswer};
 
 use crate::blocks::body;
+use crate::boxes::{binary, in_box};
 use crate::prefixes::prefix;
 use crate::tables::table;
 use lua_grammar::{Context, TokenClass};
@@ -50,11 +52,34 @@ pub(crate) fn exp(
         if context.above + height > 200 {
             return fault_at(7, end);
         }
+        let held = in_box(alloc, left)?;
         let right = exp(alloc, toks, end + 1, right_level_of(op), under(context))?;
-        left = make::binary(alloc, line_at(toks, end), op, left, right.tree)?;
+        left = binary(alloc, line_at(toks, end), op, held, right.tree)?;
         end = right.end;
         height = 1 + height.max(right.height);
     }
+}
+
+// Any expression, in a box: a word that is held while more is read.
+#[cycle(parser)]
+pub(crate) fn boxed(
+    alloc: Global,
+    toks: &[Token],
+    i: usize,
+    context: Context,
+) -> Result<Reading<Box<Expr>>, Fault>
+    requires ended { HasOneEnd toks.now }
+    requires inside { i < length toks.now }
+    requires high { context.above ≤ 201 }
+    ensures { BoxedAnswer toks.now context i result }
+{
+    let read = exp(alloc, toks, i, 1, context)?;
+    let tree = in_box(alloc, read.tree)?;
+    Ok(Reading {
+        tree,
+        end: read.end,
+        height: read.height,
+    })
 }
 
 // An expression that is no binary one.

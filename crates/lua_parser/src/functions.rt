@@ -1,28 +1,26 @@
 //! Functions with a name (manual 2.5.9).
-ghost use Rattle.std.specs.Prelude.{◌≡◌, ◌≢◌, ◌<◌, ◌≤◌, ◌∷◌, ◌+◌, [], length, IfOk, IfErr, MatchOption};
+ghost use Rattle.std.specs.Prelude.{◌≡◌, ◌≢◌, ◌<◌, ◌≤◌, ◌+◌, length, MatchOption};
 ghost use Rattle.lua_grammar.specs.Tokens.{class_at};
 ghost use Rattle.lua_grammar.specs.declared.TokenClass.TheVariants.{Function, Dot, Colon};
-ghost use Rattle.lua_reading.specs.declared.answer.Fault.TheVariants.{NoMemory};
 ghost use Rattle.lua_reading.specs.Parsing.{HasOneEnd};
 ghost use Rattle.lua_reading.specs.Answers.{Answer, StatAnswer};
 ghost use Rattle.lua_parser.specs.Parts.{head_view};
 ghost use Rattle.lua_reading.specs.StatAnswers.{head_goes, head_lang, head_mark};
 
 use crate::blocks::body;
+use crate::boxes::{dotted, out_of_box, single, variable};
 use lua_grammar::{Context, TokenClass};
 use lua_lexer::Token;
 use lua_reading::context::under;
-use lua_reading::short_lists::short_list;
 use lua_reading::tokens::{class_at, copy_at, line_at};
 use lua_reading::{Fault, Reading, fault_at, make};
 use lua_syntax::{Expr, Stat};
 use std::alloc::Global;
-use wk_base::List;
 
 /// The name of a function as an expression, and whether it is one of a method.
 #[derive(Drop)]
 pub(crate) struct Named {
-    pub path: Expr,
+    pub path: Box<Expr>,
     pub method: bool,
 }
 
@@ -48,8 +46,8 @@ pub(crate) fn named_function(
     let deep = under(inner);
     let function = body(alloc, toks, head.end, head.tree.method, deep)?;
     let line = line_at(toks, i);
+    let targets = out_of_box(alloc, head.tree.path)?;
     let value = make::function(line, function.tree);
-    let targets = single(alloc, head.tree.path)?;
     let values = single(alloc, value)?;
     let tree = make::assign(line, targets, values);
     let all = head.height.max(1 + function.height);
@@ -70,8 +68,8 @@ fn path(alloc: Global, toks: &[Token], i: usize, context: Context) -> Result<Rea
     let TokenClass::Name = class_at(toks, i) else {
         return fault_at(5, i);
     };
-    let first = copy_at(alloc, toks, i)?;
-    let mut path = make::name(line_at(toks, i), first);
+    let first = variable(alloc, toks, i)?;
+    let mut path = first;
     let mut end = i + 1;
     let mut height = 1;
     'marks: loop {
@@ -87,8 +85,13 @@ fn path(alloc: Global, toks: &[Token], i: usize, context: Context) -> Result<Rea
             return fault_at(5, end + 1);
         };
         let bytes = copy_at(alloc, toks, end + 1)?;
-        let key = make::text(line_at(toks, end + 1), bytes);
-        path = make::index(alloc, line_at(toks, end), path, key)?;
+        path = dotted(
+            alloc,
+            line_at(toks, end),
+            path,
+            line_at(toks, end + 1),
+            bytes,
+        )?;
         end += 2;
         height += 1;
         if method {
@@ -107,14 +110,4 @@ fn mark_of(class: TokenClass) -> Option<bool>
         TokenClass::Colon => Some(true),
         _ => None,
     }
-}
-
-// One expression as a list.
-fn single(alloc: Global, value: Expr) -> Result<List<Expr>, Fault>
-    ensures ok { IfOk result (λ l. l ≡ value ∷ []) }
-    ensures err { IfErr result (λ e. e ≡ NoMemory) }
-{
-    let mut list = short_list(alloc)?;
-    list.push(value)?;
-    Ok(list)
 }

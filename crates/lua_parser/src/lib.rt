@@ -4,6 +4,7 @@
 //! - `blocks`, `stats`, `loops`, `conditions`, `locals`, `assignments`, `functions`: statements
 //! - `exprs`, `prefixes`, `tables`: expressions
 //! - `params`, `names`: parameters, and other lists of names
+//! - `boxes`: expressions that are held while more is read
 //! - `laws`: what the definitions alone say of `parse`'s answer
 //!
 //! `specs/Chunks.antt` says what `parse` answers; read it first. What the functions for parts answer stands in `lua_reading`, with
@@ -13,6 +14,7 @@
 
 pub mod assignments;
 pub mod blocks;
+pub mod boxes;
 pub mod conditions;
 pub mod exprs;
 pub mod functions;

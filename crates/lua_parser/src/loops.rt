@@ -8,7 +8,8 @@ ghost use Rattle.lua_reading.specs.Answers.{Answer, StatAnswer};
 ghost use Rattle.lua_reading.specs.StatAnswers.{do_lang};
 
 use crate::blocks::block;
-use crate::exprs::exp;
+use crate::boxes::{count, count_by};
+use crate::exprs::boxed;
 use crate::names::names;
 use crate::prefixes::exprs;
 use lua_grammar::{Context, TokenClass};
@@ -63,19 +64,19 @@ fn count_loop(
     let name = copy_at(alloc, toks, i + 1)?;
     let inner = under(context);
     let inside_loop = in_loop(context);
-    let from = exp(alloc, toks, i + 3, 1, inner)?;
+    let from = boxed(alloc, toks, i + 3, inner)?;
     let TokenClass::Comma = class_at(toks, from.end) else {
         return fault_at(5, from.end);
     };
-    let to = exp(alloc, toks, from.end + 1, 1, inner)?;
+    let to = boxed(alloc, toks, from.end + 1, inner)?;
     let two = from.height.max(to.height);
     if let TokenClass::Comma = class_at(toks, to.end) {
-        let by = exp(alloc, toks, to.end + 1, 1, inner)?;
+        let by = boxed(alloc, toks, to.end + 1, inner)?;
         let body = loop_body(alloc, toks, by.end, inside_loop)?;
         let three = two.max(by.height);
         let all = three.max(body.height);
         let line = line_at(toks, i);
-        let tree = make::count_by(line, name, from.tree, to.tree, by.tree, body.tree);
+        let tree = count_by(line, name, from.tree, to.tree, by.tree, body.tree);
         return Ok(Reading {
             tree,
             end: body.end,
@@ -84,7 +85,7 @@ fn count_loop(
     }
     let body = loop_body(alloc, toks, to.end, inside_loop)?;
     let all = two.max(body.height);
-    let tree = make::count(line_at(toks, i), name, from.tree, to.tree, body.tree);
+    let tree = count(line_at(toks, i), name, from.tree, to.tree, body.tree);
     Ok(Reading {
         tree,
         end: body.end,

@@ -7,6 +7,7 @@ ghost use Rattle.lua_grammar.specs.declared.TokenClass.TheVariants.{Dot, LeftBra
 ghost use Rattle.lua_reading.specs.Parsing.{HasOneEnd, nothing, exps_goes, all_lang, args_lang};
 ghost use Rattle.lua_reading.specs.Answers.{Alone, Answer, PrefixAnswer, primary_lang, suffix_lang, name_lang};
 
+use crate::boxes::{call, in_box, index, method};
 use crate::exprs::exp;
 use crate::tables::table;
 use lua_grammar::{Context, TokenClass};
@@ -45,7 +46,8 @@ pub(crate) fn prefix(
         if context.above + height > 200 {
             return fault_at(7, end);
         }
-        let next = suffix(alloc, toks, end, left, context)?;
+        let held = in_box(alloc, left)?;
+        let next = suffix(alloc, toks, end, held, context)?;
         left = next.tree;
         end = next.end;
         height = next.height.max(1 + height);
@@ -96,13 +98,13 @@ fn primary(
     }
 }
 
-// What goes on with a prefix expression, which is handed in.
+// What goes on with a prefix expression, which is handed in, in the box that it will stand in.
 #[cycle(parser)]
 fn suffix(
     alloc: Global,
     toks: &[Token],
     i: usize,
-    left: Expr,
+    left: Box<Expr>,
     context: Context,
 ) -> Result<Reading<Expr>, Fault>
     requires ended { HasOneEnd toks.now }
@@ -110,14 +112,14 @@ fn suffix(
     requires begun { 1 ≤ i }
     requires goes { suffix_goes (class_at toks.now i) ≡ true }
     requires high { context.above ≤ 200 }
-    ensures { Answer toks.now expr_view (suffix_lang toks.now context (expr_view left)) nothing context.above i result }
+    ensures { Answer toks.now expr_view (suffix_lang toks.now context (expr_view left.value)) nothing context.above i result }
 {
     let line = line_at(toks, i);
     match class_at(toks, i) {
         TokenClass::Dot => {
             let key = key_name(alloc, toks, i + 1, under(context))?;
             Ok(Reading {
-                tree: make::index(alloc, line, left, key.tree)?,
+                tree: index(alloc, line, left, key.tree)?,
                 end: key.end,
                 height: 1 + key.height,
             })
@@ -128,7 +130,7 @@ fn suffix(
                 return fault_at(5, key.end);
             };
             Ok(Reading {
-                tree: make::index(alloc, line, left, key.tree)?,
+                tree: index(alloc, line, left, key.tree)?,
                 end: key.end + 1,
                 height: 1 + key.height,
             })
@@ -140,7 +142,7 @@ fn suffix(
             let name = copy_at(alloc, toks, i + 1)?;
             let args = arguments(alloc, toks, i + 2, under(context))?;
             Ok(Reading {
-                tree: make::method(alloc, line, left, name, args.tree)?,
+                tree: method(line, left, name, args.tree),
                 end: args.end,
                 height: 1 + args.height,
             })
@@ -148,7 +150,7 @@ fn suffix(
         _ => {
             let args = arguments(alloc, toks, i, under(context))?;
             Ok(Reading {
-                tree: make::call(alloc, line, left, args.tree)?,
+                tree: call(line, left, args.tree),
                 end: args.end,
                 height: 1 + args.height,
             })
@@ -240,7 +242,7 @@ fn arguments(
 }
 
 // One expression as a list.
-fn alone(alloc: Global, arg: Reading<Expr>) -> Result<Reading<List<Expr>>, Fault>
+pub(crate) fn alone(alloc: Global, arg: Reading<Expr>) -> Result<Reading<List<Expr>>, Fault>
     ensures { Alone arg result }
 {
     let mut tree = short_list(alloc)?;

@@ -8,7 +8,7 @@ ghost use Rattle.lua_reading.specs.Answers.{StatAnswer};
 use crate::assignments::simple;
 use crate::blocks::block;
 use crate::conditions::if_stat;
-use crate::exprs::exp;
+use crate::exprs::{boxed, exp};
 use crate::functions::named_function;
 use crate::locals::{break_stat, local, return_stat};
 use crate::loops::for_loop;
@@ -93,7 +93,7 @@ fn while_loop(
     if context.above > 200 {
         return fault_at(7, i);
     }
-    let test = exp(alloc, toks, i + 1, 1, under(context))?;
+    let test = boxed(alloc, toks, i + 1, under(context))?;
     let TokenClass::Do = class_at(toks, test.end) else {
         return fault_at(5, test.end);
     };
@@ -101,7 +101,7 @@ fn while_loop(
     let TokenClass::End = class_at(toks, body.end) else {
         return fault_at(5, body.end);
     };
-    let tree = make::while_loop(line_at(toks, i), test.tree, body.tree);
+    let tree = make::while_loop(line_at(toks, i), Box::into_inner(test.tree), body.tree);
     Ok(Reading {
         tree,
         end: body.end + 1,

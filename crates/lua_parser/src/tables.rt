@@ -2,7 +2,7 @@
 ghost use Rattle.std.specs.Prelude.{◌≡◌, ◌≢◌, ◌<◌, ◌≤◌, ◌+◌, length};
 ghost use Rattle.lua_grammar.specs.Tokens.{class_at, tok_at};
 ghost use Rattle.lua_syntax.specs.View.{fields_view};
-ghost use Rattle.lua_grammar.specs.declared.TokenClass.TheVariants.{LeftBrace, LeftBracket};
+ghost use Rattle.lua_grammar.specs.declared.TokenClass.TheVariants.{Assign, LeftBrace, LeftBracket, Name};
 ghost use Rattle.lua_reading.specs.Parsing.{HasOneEnd, fields_lang, fields_goes};
 ghost use Rattle.lua_reading.specs.Answers.{Answer, IsItem, MaybeEmpty, OperandAnswer, field_lang, field_goes, one_field};
 
@@ -84,38 +84,60 @@ fn field(alloc: Global, toks: &[Token], i: usize, context: Context) -> Result<Re
     ensures { Answer toks.now one_field (field_lang toks.now context) field_goes context.above i result }
 {
     match class_at(toks, i) {
-        TokenClass::LeftBracket => {
-            let key = exp(alloc, toks, i + 1, 1, context)?;
-            let TokenClass::RightBracket = class_at(toks, key.end) else {
-                return fault_at(5, key.end);
-            };
-            let TokenClass::Assign = class_at(toks, key.end + 1) else {
-                return fault_at(5, key.end + 1);
-            };
-            let value = exp(alloc, toks, key.end + 2, 1, context)?;
-            Ok(Reading {
-                tree: make::pair(key.tree, value.tree),
-                end: value.end,
-                height: value.height.max(key.height),
-            })
-        }
+        TokenClass::LeftBracket => keyed(alloc, toks, i, context),
         TokenClass::Name => match class_at(toks, i + 1) {
-            TokenClass::Assign => {
-                if context.above > 200 {
-                    return fault_at(7, i);
-                }
-                let key = make::text(line_at(toks, i), copy_at(alloc, toks, i)?);
-                let value = exp(alloc, toks, i + 2, 1, context)?;
-                Ok(Reading {
-                    tree: make::pair(key, value.tree),
-                    end: value.end,
-                    height: value.height.max(1),
-                })
-            }
+            TokenClass::Assign => named(alloc, toks, i, context),
             _ => item(alloc, toks, i, context),
         },
         _ => item(alloc, toks, i, context),
     }
+}
+
+// A field whose key stands in brackets.
+#[cycle(parser)]
+fn keyed(alloc: Global, toks: &[Token], i: usize, context: Context) -> Result<Reading<Field>, Fault>
+    requires ended { HasOneEnd toks.now }
+    requires inside { i < length toks.now }
+    requires begins { class_at toks.now i ≡ LeftBracket }
+    requires high { context.above ≤ 201 }
+    ensures { Answer toks.now one_field (field_lang toks.now context) field_goes context.above i result }
+{
+    let key = exp(alloc, toks, i + 1, 1, context)?;
+    let TokenClass::RightBracket = class_at(toks, key.end) else {
+        return fault_at(5, key.end);
+    };
+    let TokenClass::Assign = class_at(toks, key.end + 1) else {
+        return fault_at(5, key.end + 1);
+    };
+    let value = exp(alloc, toks, key.end + 2, 1, context)?;
+    Ok(Reading {
+        tree: make::pair(key.tree, value.tree),
+        end: value.end,
+        height: value.height.max(key.height),
+    })
+}
+
+// A field whose key is a name.
+#[cycle(parser)]
+fn named(alloc: Global, toks: &[Token], i: usize, context: Context) -> Result<Reading<Field>, Fault>
+    requires ended { HasOneEnd toks.now }
+    requires inside { i + 1 < length toks.now }
+    requires begins { class_at toks.now i ≡ Name }
+    requires assign { class_at toks.now (i + 1) ≡ Assign }
+    requires high { context.above ≤ 201 }
+    ensures { Answer toks.now one_field (field_lang toks.now context) field_goes context.above i result }
+{
+    if context.above > 200 {
+        return fault_at(7, i);
+    }
+    let name = copy_at(alloc, toks, i)?;
+    let value = exp(alloc, toks, i + 2, 1, context)?;
+    let key = make::text(line_at(toks, i), name);
+    Ok(Reading {
+        tree: make::pair(key, value.tree),
+        end: value.end,
+        height: value.height.max(1),
+    })
 }
 
 // An expression as a field.

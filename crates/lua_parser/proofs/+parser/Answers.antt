@@ -1,4 +1,4 @@
-use Rattle.std.proofs.Common.{rules, arith, ◌<◌, length, sym, ap, ◌∙◌, refl, inl, inr}
+use Rattle.std.proofs.Common.{rules, arith, [], ◌<◌, length, sym, ap, ◌∙◌, refl, inl, inr}
 use Rattle.std.proofs.lemmas.Result.{err_from_is_err_and}
 use Rattle.lua_reading.proofs.pieces.Steps.{unexpected, too_deep}
 use Rattle.lua_reading.proofs.levels.Levels.{mark-not_eof}
@@ -54,7 +54,18 @@ exprs::exp-returns-in_err-right t c =
     rw (p.1, p.2) (right_fault _ c.args.context _ _ _ _ _ _ _ _ _ _ _ c.requires.levels c.climb.invariant c.class_at.ensures c.in-Some.ensures c.level_of.ensures c.if-level_of-least.false c.if-context-height-gt200.false c.right_level_of.ensures c.under.ensures c.in_err-right.ensures)
 
 pub exprs::exp-climb-preserved : goal.exprs::exp-climb-preserved
-exprs::exp-climb-preserved t c = climbs_high _ c.args.context _ _ _ _ _ _ c.max-height.ensures (more_read _ c.args.context _ _ _ _ _ _ _ _ _ _ _ _ _ _ _ c.requires.levels c.climb.invariant c.class_at.ensures c.in-Some.ensures c.level_of.ensures c.if-level_of-least.false c.if-context-height-gt200.false c.right_level_of.ensures c.under.ensures c.in_ok-right.ensures c.line_at.ensures c.in_ok-left.ensures.ok)
+exprs::exp-climb-preserved t c = climbs_high _ c.args.context _ _ _ _ _ _ c.max-height.ensures (more_read _ c.args.context _ _ _ _ _ _ _ _ _ _ _ _ _ _ _ c.requires.levels c.climb.invariant c.class_at.ensures c.in-Some.ensures c.level_of.ensures c.if-level_of-least.false c.if-context-height-gt200.false c.right_level_of.ensures c.under.ensures c.in_ok-right.ensures c.line_at.ensures (rw c.in_ok-held.ensures.ok at c.in_ok-left.ensures.ok))
+
+pub exprs::boxed-exp-requires : goal.exprs::boxed-exp-requires
+exprs::boxed-exp-requires t c = (omega (arith, c.decreases), (c.requires.ended, (c.requires.inside, (omega arith, c.requires.high))))
+
+pub exprs::boxed-returns-in_err-read : goal.exprs::boxed-returns-in_err-read
+exprs::boxed-returns-in_err-read t c =
+    let p = err_from_is_err_and c.from_residual.result c.from_residual.ensures.1 in
+    rw (p.1, p.2) c.in_err-read.ensures
+
+pub exprs::boxed-returns : goal.exprs::boxed-returns
+exprs::boxed-returns t c = rw c.in_ok-tree.ensures.ok c.in_ok-read.ensures
 
 pub exprs::lambda-returns-then-context-gt200 : goal.exprs::lambda-returns-then-context-gt200
 exprs::lambda-returns-then-context-gt200 t c = rw c.fault_at.ensures (operand_deep _ c.args.context _ c.requires.inside c.if-context-gt200.true (left_can c.args.context (function_starts _ c.args.context _ c.requires.begins)))
@@ -121,10 +132,10 @@ prefixes::prefix-returns-then-context-height-gt200 t c = rw c.fault_at.ensures (
 pub prefixes::prefix-returns-in_err-next : goal.prefixes::prefix-returns-in_err-next
 prefixes::prefix-returns-in_err-next t c =
     let p = err_from_is_err_and c.from_residual-in_err-next.result c.from_residual-in_err-next.ensures.1 in
-    rw (p.1, p.2) (chain_fault_read _ c.args.context _ _ _ _ _ _ _ c.chain.invariant c.class_at.ensures c.is_suffix.ensures c.if-not-is_suffix.false c.if-context-height-gt200.false c.in_err-next.ensures)
+    rw (p.1, p.2) (chain_fault_read _ c.args.context _ _ _ _ _ _ _ c.chain.invariant c.class_at.ensures c.is_suffix.ensures c.if-not-is_suffix.false c.if-context-height-gt200.false (rw c.in_ok-held.ensures.ok at c.in_err-next.ensures))
 
 pub prefixes::prefix-chain-preserved : goal.prefixes::prefix-chain-preserved
-prefixes::prefix-chain-preserved t c = chain_high _ c.args.context _ _ _ _ _ c.max-height.ensures (chain_more_read _ c.args.context _ _ _ _ _ _ _ _ _ c.chain.invariant c.class_at.ensures c.is_suffix.ensures c.if-not-is_suffix.false c.if-context-height-gt200.false c.in_ok-next.ensures)
+prefixes::prefix-chain-preserved t c = chain_high _ c.args.context _ _ _ _ _ c.max-height.ensures (chain_more_read _ c.args.context _ _ _ _ _ _ _ _ _ c.chain.invariant c.class_at.ensures c.is_suffix.ensures c.if-not-is_suffix.false c.if-context-height-gt200.false (rw c.in_ok-held.ensures.ok at c.in_ok-next.ensures))
 
 pub prefixes::primary-returns-then-context-gt200 : goal.prefixes::primary-returns-then-context-gt200
 prefixes::primary-returns-then-context-gt200 t c = rw c.fault_at.ensures (too_deep (name_starts _ c.args.context _ (is_class _ _ _ _ c.class_at.ensures c.in-Name.is)) (primary_node _ c.args.context _) (primary_opens _ c.args.context) c.requires.inside c.if-context-gt200.true)
@@ -235,8 +246,8 @@ prefixes::suffix-returns-in_ok-index-in-Dot t c = dot_read _ c.args.context _ _ 
 pub prefixes::suffix-returns-in_ok-index-in-LeftBracket : goal.prefixes::suffix-returns-in_ok-index-in-LeftBracket
 prefixes::suffix-returns-in_ok-index-in-LeftBracket t c = bracket_read _ c.args.context _ _ _ _ _ _ _ _ c.requires.ended (is_class _ _ _ _ c.class_at.ensures c.in-LeftBracket.is) c.requires.high c.under-in-LeftBracket.ensures c.in_ok-key-in-LeftBracket.ensures (is_class _ _ _ _ c.class_at-in-LeftBracket.ensures c.in-RightBracket.is) c.line_at-line.ensures c.in_ok-index-in-LeftBracket.ensures.ok
 
-pub prefixes::suffix-returns-in_ok-method-in-Colon : goal.prefixes::suffix-returns-in_ok-method-in-Colon
-prefixes::suffix-returns-in_ok-method-in-Colon t c = colon_read _ c.args.context _ _ _ _ _ _ _ _ _ (is_class _ _ _ _ c.class_at.ensures c.in-Colon.is) (is_class _ _ _ _ c.class_at-in-Colon.ensures c.in-Name.is) c.requires.high c.under-in-Colon.ensures c.in_ok-args-in-Colon.ensures c.line_at-line.ensures c.in_ok-name-in-Colon.ensures c.in_ok-method-in-Colon.ensures.ok
+pub prefixes::suffix-returns-in_ok-args-in-Colon : goal.prefixes::suffix-returns-in_ok-args-in-Colon
+prefixes::suffix-returns-in_ok-args-in-Colon t c = colon_read _ c.args.context _ _ _ _ _ _ _ _ _ (is_class _ _ _ _ c.class_at.ensures c.in-Colon.is) (is_class _ _ _ _ c.class_at-in-Colon.ensures c.in-Name.is) c.requires.high c.under-in-Colon.ensures c.in_ok-args-in-Colon.ensures c.line_at-line.ensures c.in_ok-name-in-Colon.ensures c.method.ensures
 
 pub prefixes::arguments-returns-then-line_at-end_line_at : goal.prefixes::arguments-returns-then-line_at-end_line_at
 prefixes::arguments-returns-then-line_at-end_line_at t c = rw c.fault_at.ensures (open_apart _ c.args.context _ c.requires.inside (is_class _ _ _ _ c.class_at.ensures c.in-LeftParen.is) (other_line _ _ _ _ c.requires.begun c.line_at.ensures c.end_line_at.ensures c.if-line_at-end_line_at.true))
@@ -278,50 +289,56 @@ prefixes::arguments-returns-in_ok-copy_at-in-Text t c = alone_answer _ c.args.co
 pub prefixes::arguments-returns-in_default : goal.prefixes::arguments-returns-in_default
 prefixes::arguments-returns-in_default t c = rw c.fault_at-in_default.ensures (unexpected (no_args _ c.args.context _ (isn't _ _ _ _ c.class_at.ensures c.in_default.not-LeftParen) (isn't _ _ _ _ c.class_at.ensures c.in_default.not-Text) (isn't _ _ _ _ c.class_at.ensures c.in_default.not-LeftBrace)) (args_opens _ c.args.context) c.requires.inside)
 
-pub tables::field-exp-requires : goal.tables::field-exp-requires
-tables::field-exp-requires t c = (omega (arith, c.decreases, c.requires.inside), (c.requires.ended, (more_after _ _ _ c.requires.ended c.requires.inside (is_class _ _ _ _ c.class_at.ensures c.in-LeftBracket.is) left_bracket_not_eof, (omega arith, c.requires.high))))
+pub tables::field-keyed-requires : goal.tables::field-keyed-requires
+tables::field-keyed-requires t c = (omega (arith, c.decreases), (c.requires.ended, (c.requires.inside, (is_class _ _ _ _ c.class_at.ensures c.in-LeftBracket.is, c.requires.high))))
 
-pub tables::field-returns-in_err-key-in-LeftBracket : goal.tables::field-returns-in_err-key-in-LeftBracket
-tables::field-returns-in_err-key-in-LeftBracket t c =
+pub tables::field-named-requires : goal.tables::field-named-requires
+tables::field-named-requires t c = (omega (arith, c.decreases), (c.requires.ended, (more_after _ _ _ c.requires.ended c.requires.inside (is_class _ _ _ _ c.class_at.ensures c.in-Name.is) name_not_eof, (is_class _ _ _ _ c.class_at.ensures c.in-Name.is, (is_class _ _ _ _ c.class_at-in-Name.ensures c.in-Assign.is, c.requires.high)))))
+
+pub tables::keyed-exp-requires : goal.tables::keyed-exp-requires
+tables::keyed-exp-requires t c = (omega (arith, c.decreases, c.requires.inside), (c.requires.ended, (more_after _ _ _ c.requires.ended c.requires.inside c.requires.begins left_bracket_not_eof, (omega arith, c.requires.high))))
+
+pub tables::keyed-returns-in_err-key : goal.tables::keyed-returns-in_err-key
+tables::keyed-returns-in_err-key t c =
     let p = err_from_is_err_and c.from_residual.result c.from_residual.ensures.1 in
-    rw (p.1, p.2) (bracket_key_fault _ c.args.context _ _ (is_class _ _ _ _ c.class_at.ensures c.in-LeftBracket.is) c.in_err-key-in-LeftBracket.ensures)
+    rw (p.1, p.2) (bracket_key_fault _ c.args.context _ _ c.requires.begins c.in_err-key.ensures)
 
-pub tables::field-returns-in_default-class_at : goal.tables::field-returns-in_default-class_at
-tables::field-returns-in_default-class_at t c = rw c.fault_at.ensures (bracket_key_unclosed _ c.args.context _ _ _ _ (is_class _ _ _ _ c.class_at.ensures c.in-LeftBracket.is) c.in_ok-key-in-LeftBracket.ensures (isn't _ _ _ _ c.class_at-in-LeftBracket.ensures c.in_default-class_at.not-RightBracket))
+pub tables::keyed-returns-in_default : goal.tables::keyed-returns-in_default
+tables::keyed-returns-in_default t c = rw c.fault_at.ensures (bracket_key_unclosed _ c.args.context _ _ _ _ c.requires.begins c.in_ok-key.ensures (isn't _ _ _ _ c.class_at.ensures c.in_default.not-RightBracket))
 
-pub tables::field-class_at-requires-in-LeftBracket-2 : goal.tables::field-class_at-requires-in-LeftBracket-2
-tables::field-class_at-requires-in-LeftBracket-2 t c = (more_after _ _ _ c.requires.ended c.in_ok-key-in-LeftBracket.ensures.reading.inside (is_class _ _ _ _ c.class_at-in-LeftBracket.ensures c.in-RightBracket.is) right_bracket_not_eof)
+pub tables::keyed-class_at-requires-2 : goal.tables::keyed-class_at-requires-2
+tables::keyed-class_at-requires-2 t c = (more_after _ _ _ c.requires.ended c.in_ok-key.ensures.reading.inside (is_class _ _ _ _ c.class_at.ensures c.in-RightBracket.is) right_bracket_not_eof)
 
-pub tables::field-returns-in_default-class_at-2 : goal.tables::field-returns-in_default-class_at-2
-tables::field-returns-in_default-class_at-2 t c = rw c.fault_at-in_default-class_at-2.ensures (bracket_key_alone _ c.args.context _ _ _ _ (is_class _ _ _ _ c.class_at.ensures c.in-LeftBracket.is) c.in_ok-key-in-LeftBracket.ensures (is_class _ _ _ _ c.class_at-in-LeftBracket.ensures c.in-RightBracket.is) (more_after _ _ _ c.requires.ended c.in_ok-key-in-LeftBracket.ensures.reading.inside (is_class _ _ _ _ c.class_at-in-LeftBracket.ensures c.in-RightBracket.is) right_bracket_not_eof) (isn't _ _ _ _ c.class_at-in-LeftBracket-2.ensures c.in_default-class_at-2.not-Assign))
+pub tables::keyed-returns-in_default-class_at : goal.tables::keyed-returns-in_default-class_at
+tables::keyed-returns-in_default-class_at t c = rw c.fault_at-in_default-class_at.ensures (bracket_key_alone _ c.args.context _ _ _ _ c.requires.begins c.in_ok-key.ensures (is_class _ _ _ _ c.class_at.ensures c.in-RightBracket.is) (more_after _ _ _ c.requires.ended c.in_ok-key.ensures.reading.inside (is_class _ _ _ _ c.class_at.ensures c.in-RightBracket.is) right_bracket_not_eof) (isn't _ _ _ _ c.class_at-2.ensures c.in_default-class_at.not-Assign))
 
-pub tables::field-exp-requires-in-LeftBracket : goal.tables::field-exp-requires-in-LeftBracket
-tables::field-exp-requires-in-LeftBracket t c = (omega (arith, c.decreases, c.requires.inside, c.in_ok-key-in-LeftBracket.ensures.grows, c.in_ok-key-in-LeftBracket.ensures.reading.inside), (c.requires.ended, (two_more _ _ _ c.requires.ended (more_after _ _ _ c.requires.ended c.in_ok-key-in-LeftBracket.ensures.reading.inside (is_class _ _ _ _ c.class_at-in-LeftBracket.ensures c.in-RightBracket.is) right_bracket_not_eof) (is_class _ _ _ _ c.class_at-in-LeftBracket-2.ensures c.in-Assign.is) assign_not_eof, (omega arith, c.requires.high))))
+pub tables::keyed-exp-requires-2 : goal.tables::keyed-exp-requires-2
+tables::keyed-exp-requires-2 t c = (omega (arith, c.decreases, c.requires.inside, c.in_ok-key.ensures.grows, c.in_ok-key.ensures.reading.inside), (c.requires.ended, (two_more _ _ _ c.requires.ended (more_after _ _ _ c.requires.ended c.in_ok-key.ensures.reading.inside (is_class _ _ _ _ c.class_at.ensures c.in-RightBracket.is) right_bracket_not_eof) (is_class _ _ _ _ c.class_at-2.ensures c.in-Assign.is) assign_not_eof, (omega arith, c.requires.high))))
 
-pub tables::field-returns-in_err-value-in-LeftBracket : goal.tables::field-returns-in_err-value-in-LeftBracket
-tables::field-returns-in_err-value-in-LeftBracket t c =
-    let p = err_from_is_err_and c.from_residual-in_err-value-in-LeftBracket.result c.from_residual-in_err-value-in-LeftBracket.ensures.1 in
-    rw (p.1, p.2) (bracket_value_fault _ c.args.context _ _ _ _ _ (is_class _ _ _ _ c.class_at.ensures c.in-LeftBracket.is) c.in_ok-key-in-LeftBracket.ensures (is_class _ _ _ _ c.class_at-in-LeftBracket.ensures c.in-RightBracket.is) (is_class _ _ _ _ c.class_at-in-LeftBracket-2.ensures c.in-Assign.is) c.in_err-value-in-LeftBracket.ensures)
+pub tables::keyed-returns-in_err-value : goal.tables::keyed-returns-in_err-value
+tables::keyed-returns-in_err-value t c =
+    let p = err_from_is_err_and c.from_residual-in_err-value.result c.from_residual-in_err-value.ensures.1 in
+    rw (p.1, p.2) (bracket_value_fault _ c.args.context _ _ _ _ _ c.requires.begins c.in_ok-key.ensures (is_class _ _ _ _ c.class_at.ensures c.in-RightBracket.is) (is_class _ _ _ _ c.class_at-2.ensures c.in-Assign.is) c.in_err-value.ensures)
 
-pub tables::field-returns-in_ok-value-in-LeftBracket : goal.tables::field-returns-in_ok-value-in-LeftBracket
-tables::field-returns-in_ok-value-in-LeftBracket t c = bracket_value_read _ c.args.context _ _ _ _ _ _ _ _ _ (is_class _ _ _ _ c.class_at.ensures c.in-LeftBracket.is) c.in_ok-key-in-LeftBracket.ensures (is_class _ _ _ _ c.class_at-in-LeftBracket.ensures c.in-RightBracket.is) (is_class _ _ _ _ c.class_at-in-LeftBracket-2.ensures c.in-Assign.is) c.in_ok-value-in-LeftBracket.ensures c.max.ensures (c.pair.ensures _)
+pub tables::keyed-returns : goal.tables::keyed-returns
+tables::keyed-returns t c = bracket_value_read _ c.args.context _ _ _ _ _ _ _ _ _ c.requires.begins c.in_ok-key.ensures (is_class _ _ _ _ c.class_at.ensures c.in-RightBracket.is) (is_class _ _ _ _ c.class_at-2.ensures c.in-Assign.is) c.in_ok-value.ensures c.max.ensures (c.pair.ensures _)
 
 pub tables::field-class_at-requires-in-Name : goal.tables::field-class_at-requires-in-Name
 tables::field-class_at-requires-in-Name t c = (more_after _ _ _ c.requires.ended c.requires.inside (is_class _ _ _ _ c.class_at.ensures c.in-Name.is) name_not_eof)
 
-pub tables::field-returns-then-context-gt200 : goal.tables::field-returns-then-context-gt200
-tables::field-returns-then-context-gt200 t c = rw c.fault_at-then-context-gt200.ensures (key_deep _ c.args.context _ c.requires.inside (is_class _ _ _ _ c.class_at.ensures c.in-Name.is) c.if-context-gt200.true)
+pub tables::named-returns-then-context-gt200 : goal.tables::named-returns-then-context-gt200
+tables::named-returns-then-context-gt200 t c = rw c.fault_at.ensures (key_deep _ c.args.context _ (omega (arith, c.requires.inside)) c.requires.begins c.if-context-gt200.true)
 
-pub tables::field-exp-requires-in-Assign-class_at : goal.tables::field-exp-requires-in-Assign-class_at
-tables::field-exp-requires-in-Assign-class_at t c = (omega (arith, c.decreases, c.requires.inside), (c.requires.ended, (two_more _ _ _ c.requires.ended (more_after _ _ _ c.requires.ended c.requires.inside (is_class _ _ _ _ c.class_at.ensures c.in-Name.is) name_not_eof) (is_class _ _ _ _ c.class_at-in-Name.ensures c.in-Assign-class_at.is) assign_not_eof, (omega arith, c.requires.high))))
+pub tables::named-exp-requires : goal.tables::named-exp-requires
+tables::named-exp-requires t c = (omega (arith, c.decreases, c.requires.inside), (c.requires.ended, (two_more _ _ _ c.requires.ended c.requires.inside c.requires.assign assign_not_eof, (omega arith, c.requires.high))))
 
-pub tables::field-returns-in_err-value-in-Assign-class_at : goal.tables::field-returns-in_err-value-in-Assign-class_at
-tables::field-returns-in_err-value-in-Assign-class_at t c =
-    let p = err_from_is_err_and c.from_residual-in_err-value-in-Assign-class_at.result c.from_residual-in_err-value-in-Assign-class_at.ensures.1 in
-    rw (p.1, p.2) (key_value_fault _ c.args.context _ _ (is_class _ _ _ _ c.class_at.ensures c.in-Name.is) (is_class _ _ _ _ c.class_at-in-Name.ensures c.in-Assign-class_at.is) (more_after _ _ _ c.requires.ended c.requires.inside (is_class _ _ _ _ c.class_at.ensures c.in-Name.is) name_not_eof) c.if-context-gt200.false c.in_err-value-in-Assign-class_at.ensures)
+pub tables::named-returns-in_err-value : goal.tables::named-returns-in_err-value
+tables::named-returns-in_err-value t c =
+    let p = err_from_is_err_and c.from_residual-in_err-value.result c.from_residual-in_err-value.ensures.1 in
+    rw (p.1, p.2) (key_value_fault _ c.args.context _ _ c.requires.begins c.requires.assign c.requires.inside c.if-context-gt200.false c.in_err-value.ensures)
 
-pub tables::field-returns-in_ok-value-in-Assign-class_at : goal.tables::field-returns-in_ok-value-in-Assign-class_at
-tables::field-returns-in_ok-value-in-Assign-class_at t c = key_value_read _ c.args.context _ _ _ _ _ _ _ _ _ (is_class _ _ _ _ c.class_at.ensures c.in-Name.is) (is_class _ _ _ _ c.class_at-in-Name.ensures c.in-Assign-class_at.is) (more_after _ _ _ c.requires.ended c.requires.inside (is_class _ _ _ _ c.class_at.ensures c.in-Name.is) name_not_eof) c.if-context-gt200.false c.in_ok-value-in-Assign-class_at.ensures c.max-in-Assign-class_at.ensures c.line_at.ensures c.in_ok-copy_at-in-Assign-class_at.ensures c.text-key.ensures (c.pair-in-Assign-class_at.ensures _)
+pub tables::named-returns : goal.tables::named-returns
+tables::named-returns t c = key_value_read _ c.args.context _ _ _ _ _ _ _ _ _ c.requires.begins c.requires.assign c.requires.inside c.if-context-gt200.false c.in_ok-value.ensures c.max.ensures c.line_at.ensures c.in_ok-name.ensures c.text-key.ensures (c.pair.ensures _)
 
 pub blocks::body-returns-in_default : goal.blocks::body-returns-in_default
 blocks::body-returns-in_default t c = rw c.fault_at.ensures (body_no_open c.args.method _ c.args.context _ c.requires.inside (isn't _ _ _ _ c.class_at.ensures c.in_default.not-LeftParen))
@@ -383,10 +400,10 @@ stats::do_block-returns t c =
 pub stats::while_loop-returns-then-context-gt200 : goal.stats::while_loop-returns-then-context-gt200
 stats::while_loop-returns-then-context-gt200 t c = rw c.fault_at.ensures (deep c.args.context (while_starts _ c.args.context _ _ c.requires.begins) c.requires.inside c.if-context-gt200.true)
 
-pub stats::while_loop-exp-requires : goal.stats::while_loop-exp-requires
-stats::while_loop-exp-requires t c =
+pub stats::while_loop-boxed-requires : goal.stats::while_loop-boxed-requires
+stats::while_loop-boxed-requires t c =
     let next = behind_word _ _ While c.requires.ended c.requires.inside c.requires.begins refl in
-    (omega (arith, next, c.decreases), (c.requires.ended, (next, (omega arith, under_fits _ c.args.context c.under.ensures c.if-context-gt200.false))))
+    (omega (arith, next, c.decreases), (c.requires.ended, (next, under_fits _ c.args.context c.under.ensures c.if-context-gt200.false)))
 
 pub stats::while_loop-returns-in_err-test : goal.stats::while_loop-returns-in_err-test
 stats::while_loop-returns-in_err-test t c =
@@ -414,7 +431,7 @@ stats::while_loop-returns-in_default-class_at t c =
 
 pub stats::while_loop-returns : goal.stats::while_loop-returns
 stats::while_loop-returns t c =
-    rw (c.while_loop-tree.ensures, c.line_at.ensures, c.max.ensures) (while_stands _ _ _ _ c.requires.ended c.requires.begins c.if-context-gt200.false c.under.ensures c.in_ok-test.ensures (read_is c.class_at.ensures c.in-Do.is) c.in_loop.ensures c.in_ok-body.ensures (read_is c.class_at-2.ensures c.in-End.is))
+    rw c.while_loop-tree.ensures (rw (c.into_inner.ensures, c.line_at.ensures, c.max.ensures) (while_stands _ _ _ _ c.requires.ended c.requires.begins c.if-context-gt200.false c.under.ensures c.in_ok-test.ensures (read_is c.class_at.ensures c.in-Do.is) c.in_loop.ensures c.in_ok-body.ensures (read_is c.class_at-2.ensures c.in-End.is)))
 
 pub stats::repeat_loop-returns-then-context-gt200 : goal.stats::repeat_loop-returns-then-context-gt200
 stats::repeat_loop-returns-then-context-gt200 t c = rw c.fault_at.ensures (deep c.args.context (repeat_starts _ c.args.context _ _ c.requires.begins) c.requires.inside c.if-context-gt200.true)
@@ -702,10 +719,10 @@ loops::for_loop-each_loop-requires t c =
     let next = behind_word _ _ For c.requires.ended c.requires.inside c.requires.begins refl in
     (omega (arith, c.decreases), (c.requires.ended, (next, (c.requires.begins, (read_is c.class_at.ensures c.in-Name.is, (read_not c.class_at-2.ensures c.in_default-class_at.not-Assign, c.if-context-gt200.false))))))
 
-pub loops::count_loop-exp-requires : goal.loops::count_loop-exp-requires
-loops::count_loop-exp-requires t c =
+pub loops::count_loop-boxed-requires : goal.loops::count_loop-boxed-requires
+loops::count_loop-boxed-requires t c =
     let next = behind_word _ _ Assign c.requires.ended c.requires.inside c.requires.assign refl in
-    (omega (arith, next, c.decreases), (c.requires.ended, (omega (arith, next), (omega arith, under_fits _ c.args.context c.under-inner.ensures c.requires.room))))
+    (omega (arith, next, c.decreases), (c.requires.ended, (omega (arith, next), under_fits _ c.args.context c.under-inner.ensures c.requires.room)))
 
 pub loops::count_loop-returns-in_err-from : goal.loops::count_loop-returns-in_err-from
 loops::count_loop-returns-in_err-from t c =
@@ -716,23 +733,23 @@ pub loops::count_loop-returns-in_default : goal.loops::count_loop-returns-in_def
 loops::count_loop-returns-in_default t c =
     rw c.fault_at.ensures (count_no_comma _ c.args.context _ _ c.requires.room c.requires.begins c.requires.name c.requires.assign (exp_reading c.under-inner.ensures c.in_ok-from.ensures) (read_not c.class_at.ensures c.in_default.not-Comma))
 
-pub loops::count_loop-exp-requires-2 : goal.loops::count_loop-exp-requires-2
-loops::count_loop-exp-requires-2 t c =
+pub loops::count_loop-boxed-requires-2 : goal.loops::count_loop-boxed-requires-2
+loops::count_loop-boxed-requires-2 t c =
     let s = c.in_ok-from.ensures in
     let next = behind_word _ _ Comma c.requires.ended s.reading.inside (read_is c.class_at.ensures c.in-Comma.is) refl in
-    (omega (arith, next, s.grows, c.decreases), (c.requires.ended, (next, (omega arith, under_fits _ c.args.context c.under-inner.ensures c.requires.room))))
+    (omega (arith, next, s.grows, c.decreases), (c.requires.ended, (next, under_fits _ c.args.context c.under-inner.ensures c.requires.room)))
 
 pub loops::count_loop-returns-in_err-to : goal.loops::count_loop-returns-in_err-to
 loops::count_loop-returns-in_err-to t c =
     let p = err_from_is_err_and c.from_residual-in_err-to.result c.from_residual-in_err-to.ensures.1 in
     rw (p.1, p.2) (count_to_fault _ c.args.context _ _ _ c.requires.room c.requires.begins c.requires.name c.requires.assign (exp_reading c.under-inner.ensures c.in_ok-from.ensures) (read_is c.class_at.ensures c.in-Comma.is) (exp_failed _ _ _ _ _ _ c.under-inner.ensures c.in_err-to.ensures))
 
-pub loops::count_loop-exp-requires-in-Comma-class_at : goal.loops::count_loop-exp-requires-in-Comma-class_at
-loops::count_loop-exp-requires-in-Comma-class_at t c =
+pub loops::count_loop-boxed-requires-in-Comma-class_at : goal.loops::count_loop-boxed-requires-in-Comma-class_at
+loops::count_loop-boxed-requires-in-Comma-class_at t c =
     let s = c.in_ok-from.ensures in
     let u = c.in_ok-to.ensures in
     let next = behind_word _ _ Comma c.requires.ended u.reading.inside (read_is c.class_at-2.ensures c.in-Comma-class_at.is) refl in
-    (omega (arith, next, s.grows, u.grows, c.decreases), (c.requires.ended, (next, (omega arith, under_fits _ c.args.context c.under-inner.ensures c.requires.room))))
+    (omega (arith, next, s.grows, u.grows, c.decreases), (c.requires.ended, (next, under_fits _ c.args.context c.under-inner.ensures c.requires.room)))
 
 pub loops::count_loop-returns-in_err-by : goal.loops::count_loop-returns-in_err-by
 loops::count_loop-returns-in_err-by t c =
@@ -816,7 +833,7 @@ assignments::simple-assignment-requires t c =
     (omega (arith, c.decreases), (c.requires.ended, (c.requires.inside, (c.requires.begins, (c.if-context-gt200.false, (prefix_reading c.under.ensures c.in_ok-first.ensures, var_is _ (sym c.is_var.ensures ∙ c.if-not-is_var.false)))))))
 
 pub assignments::assignment-targets-init : goal.assignments::assignment-targets-init
-assignments::assignment-targets-init t c = targets_first _ c.args.context _ _ _ _ _ c.requires.room c.requires.begins c.requires.read c.requires.var c.in_ok-tree.ensures c.in_ok-push.ensures.ok
+assignments::assignment-targets-init t c = rw c.in_ok-one.ensures (targets_first _ c.args.context _ _ _ [] _ c.requires.room c.requires.begins c.requires.read c.requires.var refl refl)
 
 pub assignments::assignment-exprs-requires : goal.assignments::assignment-exprs-requires
 assignments::assignment-exprs-requires t c =

@@ -18,6 +18,9 @@ decreases-blocks::block l = 32 * (length l.toks.now - l.i) + 30
 abbrev pub decreases-blocks::body : goal.decreases-blocks::body
 decreases-blocks::body l = 32 * (length l.toks.now - l.i) + 31
 
+abbrev pub decreases-exprs::boxed : goal.decreases-exprs::boxed
+decreases-exprs::boxed l = 32 * (length l.toks.now - l.i) + 14
+
 abbrev pub decreases-exprs::exp : goal.decreases-exprs::exp
 decreases-exprs::exp l = 32 * (length l.toks.now - l.i) + 13
 
@@ -50,6 +53,12 @@ decreases-tables::field l = 32 * (length l.toks.now - l.i) + 15
 
 abbrev pub decreases-tables::fields : goal.decreases-tables::fields
 decreases-tables::fields l = 32 * (length l.toks.now - l.i) + 16
+
+abbrev pub decreases-tables::keyed : goal.decreases-tables::keyed
+decreases-tables::keyed l = 32 * (length l.toks.now - l.i) + 14
+
+abbrev pub decreases-tables::named : goal.decreases-tables::named
+decreases-tables::named l = 32 * (length l.toks.now - l.i) + 14
 
 abbrev pub decreases-tables::item : goal.decreases-tables::item
 decreases-tables::item l = 32 * (length l.toks.now - l.i) + 14
