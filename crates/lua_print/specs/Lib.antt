@@ -1,0 +1,4 @@
+pub mod Answers
+pub mod Examples
+pub mod Items
+pub mod Layout

@@ -1,0 +1,86 @@
+-- WHAT A RUN IS TO ANSWER AND TO WRITE.
+use Rattle.std.specs.Prelude.{◌≡◌, ℕ, ◌⊎◌, if◌then◌else◌, List, [], ◌∷◌, ◌++◌, Option, Some, None, Result, Ok, Err, codes}
+use Rattle.wk_base.specs.declared.title.Title.{Title}
+use Rattle.wk_base.specs.contracts.title.TitlePartialEq.TheImpl as titles
+use Rattle.wk_shelf.specs.declared.folder.FolderPage.{FolderPage}
+use Rattle.wk_shelf.specs.Files.{StoredFile}
+use Rattle.wk_shelf.specs.Folder.{files_of, wiki_of}
+use Rattle.lua_syntax.specs.declared.fault.FaultAt.{FaultAt}
+use Rattle.lua_syntax.specs.declared.fault.SyntaxFault.TheVariants.{At}
+use Rattle.lua_fault_texts.specs.FaultTexts.{fault_message}
+use Rattle.lua_print.specs.Answers.{IsLayout}
+use Rattle.wk_tool.specs.declared.report.Report.{Report}
+use Rattle.wk_tool.specs.declared.report.Status.{Status}
+use Rattle.wk_tool.specs.declared.report.Status.TheVariants.{Done, NoSuchPage, SourceFault, SyntaxFault}
+use Rattle.wk_tool.specs.Report.{read_line, refusal, usage_report, source_report, missing_report}
+use Rattle.wiki_fmt.specs.Command.{Command, command_of}
+
+abbrev pub tool : List ℕ
+tool = codes "wikifmt"
+
+abbrev pub usage : List ℕ
+usage = codes "usage: wikifmt print DIR MODULE" ++ 10 ∷ []
+
+abbrev pub cannot_read : List ℕ
+cannot_read = read_line tool
+
+-- beside 0: no such page, no command, a fault of the folder, a fault of the module's text
+abbrev pub statuses : List ℕ
+statuses = 1 ∷ 2 ∷ 3 ∷ 8 ∷ []
+
+-- ---- the text of a module
+
+-- the layout is printed
+abbrev pub printed : List ℕ → Report
+printed bytes = record { status = Done; out = bytes; err = [] }
+
+-- the fault is told, with its place
+abbrev pub refused : Title → FaultAt → Report
+refused title fault = refusal SyntaxFault (fault_message title fault ++ 10 ∷ [])
+
+abbrev pub IsTextReport : Title → List ℕ → Report → Type 0
+IsTextReport title text report =
+    ((bytes : List ℕ) × IsLayout (Ok bytes) text × (report ≡ printed bytes)) ⊎ ((fault : FaultAt) × IsLayout (Err (At fault)) text × (report ≡ refused title fault))
+
+-- ---- the pages of a folder
+
+-- the text of the page of a title
+abbrev pub text_of : Title → List FolderPage → Option (List ℕ)
+text_of title [] = None
+text_of title (page ∷ pages) = if titles.ghosts.eq page.title title then Some page.bytes else text_of title pages
+
+abbrev pub IsPageReport : Title → Option (List ℕ) → Report → Type 0
+IsPageReport title None report = report ≡ missing_report tool title
+IsPageReport title (Some text) report = IsTextReport title text report
+
+abbrev pub IsWikiReport : Title → Result (List FolderPage) (List ℕ) → Report → Type 0
+IsWikiReport title (Err fault) report = report ≡ source_report tool fault
+IsWikiReport title (Ok pages) report = IsPageReport title (text_of title pages) report
+
+-- ---- the words
+
+-- THE REPORT THAT IS DUE: where the words are a command, and the shelf doesn't tell its files, none is known to be.
+abbrev pub IsDueFor : Option Command → Option (List StoredFile) → Report → Type 0
+IsDueFor None files report = report ≡ usage_report usage
+IsDueFor (Some command) None report = ⊥
+IsDueFor (Some command) (Some files) report = IsWikiReport command.title (wiki_of (files_of command.folder files)) report
+
+abbrev pub IsDue : List (List ℕ) → Option (List StoredFile) → Report → Type 0
+IsDue words files report = IsDueFor (command_of words) files report
+
+-- There is a report that is due, where its files are known.
+abbrev pub HasDueFor : Option Command → Option (List StoredFile) → Type 0
+HasDueFor None files = Unit {0}
+HasDueFor (Some command) None = Unit {0}
+HasDueFor (Some command) (Some files) = (report : Report) × IsWikiReport command.title (wiki_of (files_of command.folder files)) report
+
+abbrev pub HasDue : List (List ℕ) → Option (List StoredFile) → Type 0
+HasDue words files = HasDueFor (command_of words) files
+
+-- the statuses of what a command gives
+abbrev pub IsAnswer : Status → Type 0
+IsAnswer Done = Unit {0}
+IsAnswer NoSuchPage = Unit {0}
+IsAnswer SourceFault = Unit {0}
+IsAnswer SyntaxFault = Unit {0}
+IsAnswer _ = ⊥

@@ -1,0 +1,125 @@
+//! What a module of a folder gives.
+ghost use Rattle.std.specs.Prelude.{◌≡◌, ◌≤◌, IfOk, IfErr, IfSome, Err, option_map};
+ghost use Rattle.wk_shelf.specs.Causes.{Rose};
+ghost use Rattle.wk_shelf.specs.Folder.{files_of, wiki_of};
+ghost use Rattle.wk_tool.specs.Report.{source_report};
+ghost use Rattle.wiki_fmt.specs.Due.{tool, text_of, printed, refused, IsTextReport, IsPageReport, IsWikiReport, IsAnswer};
+
+use crate::command::Command;
+use lua_fault_texts::fault_message;
+use lua_print::layout;
+use lua_syntax::{FaultAt, SyntaxFault};
+use std::alloc::Global;
+use std::hash::RandomState;
+use wk_base::{Bytes, List, NoMemory, Title};
+use wk_shelf::{FolderFault, FolderPage, Shelf, read_folder};
+use wk_tool::{Report, Status, Unread, missing_report, refusal, source_report};
+
+/// The name that stands before the colon in a line on standard error.
+const TOOL: &[u8] = b"wikifmt";
+
+/// A text of Lua has fewer bytes than this, so that 32 bits number its lines. No folder that is read holds a longer one.
+const TEXT_LIMIT: usize = 4_000_000_000;
+
+/// The text of the page of a title.
+fn text_of<'p>(title: &Title, pages: &'p [FolderPage]) -> Option<&'p [u8]>
+    ensures { option_map (λ text. text.now) result ≡ text_of title.now pages.now }
+{
+    for page in pages {
+        if page.title == *title {
+            return Some(page.bytes.as_slice());
+        }
+    }
+    None
+}
+
+/// What a layout gives.
+fn printed(alloc: Global, bytes: Bytes) -> Report
+    ensures { result ≡ printed bytes }
+{
+    Report {
+        status: Status::Done,
+        out: bytes,
+        err: Bytes::of_vec(Vec::new(alloc)),
+    }
+}
+
+/// What a fault gives.
+fn refused(alloc: Global, title: &Title, fault: &FaultAt) -> Result<Report, NoMemory>
+    ensures { IfOk result (λ report. report ≡ refused title.now fault.now) }
+{
+    let mut line = fault_message(alloc, title, fault)?;
+    match line.push(b'\n') {
+        Ok(_) => Ok(refusal(alloc, Status::SyntaxFault, Bytes::of_vec(line))),
+        Err(_) => Err(NoMemory),
+    }
+}
+
+/// What the text of a module gives: its layout, or its fault.
+fn text_report(alloc: Global, title: &Title, text: &[u8]) -> Result<Report, NoMemory>
+    ensures report { IfOk result (λ report. IsTextReport title.now text.now report) }
+    ensures answer { IfOk result (λ report. IsAnswer report.status) }
+{
+    if text.len() >= TEXT_LIMIT {
+        return Err(NoMemory);
+    }
+    match layout(alloc, text) {
+        Ok(bytes) => Ok(printed(alloc, bytes)),
+        Err(SyntaxFault::NoMemory) => Err(NoMemory),
+        Err(SyntaxFault::At(fault)) => refused(alloc, title, &fault),
+    }
+}
+
+/// What a module gives on these pages.
+fn pages_report(alloc: Global, title: &Title, pages: &[FolderPage]) -> Result<Report, NoMemory>
+    ensures report { IfOk result (λ report. IsPageReport title.now (text_of title.now pages.now) report) }
+    ensures answer { IfOk result (λ report. IsAnswer report.status) }
+{
+    match text_of(title, pages) {
+        None => missing_report(alloc, TOOL, title),
+        Some(text) => text_report(alloc, title, text),
+    }
+}
+
+/// What a module gives on the pages of a folder.
+fn on_pages(alloc: Global, title: &Title, pages: &List<FolderPage>) -> Result<Report, Unread>
+    ensures report { IfOk result (λ report. IsPageReport title.now (text_of title.now pages.now) report) }
+    ensures answer { IfOk result (λ report. IsAnswer report.status) }
+    ensures memory { IfErr result (λ e. e ≡ Unread.NoMemory) }
+{
+    match pages_report(alloc, title, pages.as_slice()) {
+        Ok(report) => Ok(report),
+        Err(NoMemory) => Err(Unread::NoMemory),
+    }
+}
+
+/// What a fault of the folder gives.
+fn on_fault(alloc: Global, fault: &Bytes) -> Result<Report, Unread>
+    ensures report { IfOk result (λ report. report ≡ source_report tool fault.now) }
+    ensures answer { IfOk result (λ report. IsAnswer report.status) }
+    ensures memory { IfErr result (λ e. e ≡ Unread.NoMemory) }
+{
+    match source_report(alloc, TOOL, fault.as_slice()) {
+        Ok(report) => Ok(report),
+        Err(NoMemory) => Err(Unread::NoMemory),
+    }
+}
+
+/// What a command gives on its folder.
+pub fn command_report<S: Shelf>(
+    alloc: Global,
+    seed: RandomState,
+    command: &Command<'_>,
+    shelf: &mut S,
+) -> Result<Report, Unread>
+    ensures report { IfOk result (λ report. IfSome (S.files shelf.old) (λ files. IsWikiReport command.now.title (wiki_of (files_of command.now.folder files)) report)) }
+    ensures answer { IfOk result (λ report. IsAnswer report.status) }
+    ensures cause { result ≡ Err Unread.Failed → Rose (S.faults shelf.old) (S.faults shelf.new) }
+{
+    match read_folder(alloc, seed, shelf, command.folder) {
+        Ok(pages) => on_pages(alloc, &command.title, &pages),
+        Err(FolderFault::Source(fault)) => on_fault(alloc, &fault),
+        Err(FolderFault::Read) => Err(Unread::Failed),
+        Err(FolderFault::NoMemory) => Err(Unread::NoMemory),
+    }
+}
