@@ -1,0 +1,16 @@
+pub mod Operations
+pub mod Registers
+pub mod Flat
+pub mod Locals
+pub mod Does
+pub mod Moves
+pub mod IsExpression
+pub mod IsStatement
+pub mod Keeps
+pub mod WaitsStatement
+pub mod WaitsExpression
+pub mod Stands
+pub mod Trial
+pub mod ExampleCode
+pub mod ExampleCalls
+pub mod ExampleLevels

@@ -1,0 +1,10 @@
+pub mod LoopsRuns
+pub mod LoopsFlat
+pub mod ListsRuns
+pub mod ListsFlat
+pub mod TestsRuns
+pub mod TestsFlat
+pub mod CellsRuns
+pub mod CellsFlat
+pub mod TextsRuns
+pub mod TextsFlat
