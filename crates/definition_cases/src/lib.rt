@@ -4,6 +4,8 @@
 //! - `pages`: runs, arguments, expansions, pages with modules
 //! - `meaning`: what Lua means, by names and by slots
 //! - `agreement`: a machine that follows the meaning
+//! - `flat`: flat code and its laws
+//! - `layouts`: laws on which the layout of a text stands
 //! - `heaps`: walks over heaps, and functions of the library in two heaps
 //! - `markup`: `mw_html`, by values from MediaWiki's own library
 //! - `escapes`: the escapes of the tables of cases
@@ -16,7 +18,11 @@ mod agreement;
 #[cfg(test)]
 mod escapes;
 #[cfg(test)]
+mod flat;
+#[cfg(test)]
 mod heaps;
+#[cfg(test)]
+mod layouts;
 #[cfg(test)]
 mod markup;
 #[cfg(test)]
