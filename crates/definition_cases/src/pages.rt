@@ -1,8 +1,7 @@
 //! Laws of runs, scenes, expansions and of pages with modules.
-use mw_frame::Arg;
+use mw_frame::{Arg, Bytes};
 use page_run::Which;
 use std::test::Fail;
-use wk_base::Bytes;
 
 #[test]
 fn laws_of_page_run(_rt: HostRuntime) -> Result<(), Fail> {

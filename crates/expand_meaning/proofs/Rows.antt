@@ -3,7 +3,7 @@ use Rattle.std.proofs.Common.{refl}
 use Rattle.std.specs.Str.{is_utf8, chars}
 use Rattle.std.specs.Fmt.{digits}
 use lib.Utf8.{encode}
-use Rattle.wk_base.specs.Titles.{prefix_of, title_text, prefixed_namespaces, namespace_named, title_of}
+use Rattle.mw_frame.specs.WkBaseTitles.{prefix_of, title_text, prefixed_namespaces, namespace_named, title_of}
 use Rattle.wiki_markup.specs.Items.{some_of, letters_from, run, items_from}
 use Rattle.wiki_markup.specs.Pairing.{onto, nearest, as_text, rewrite_from, closing_marks, rewrite_times}
 use Rattle.wiki_markup.specs.Trees.{bytes, trees_of}

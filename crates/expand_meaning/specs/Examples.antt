@@ -1,10 +1,10 @@
 -- WORKED PAGES, with what MediaWiki's rules make of them, written by hand.
 use Rattle.std.specs.Prelude.{◌≡◌, ℕ, List, [], ◌∷◌, codes, Option}
 use Rattle.std.specs.Map.{lookup}
-use Rattle.wk_base.specs.declared.left.Left.{Left}
-use Rattle.wk_base.specs.declared.title.Namespace.TheVariants.{Main, Template}
-use Rattle.wk_base.specs.declared.title.Title.{Title}
-use Rattle.wk_base.specs.contracts.title.TitlePartialEq.TheImpl as titles
+use Rattle.page_run.specs.WkBaseDeclaredLeftLeft.{Left}
+use Rattle.mw_frame.specs.WkBaseDeclaredTitleNamespaceTheVariants.{Main, Template}
+use Rattle.mw_frame.specs.WkBaseDeclaredTitleTitle.{Title}
+use Rattle.page_run.specs.WkBaseContractsTitleTitlePartialEqTheImpl as titles
 use Rattle.wiki_markup.specs.Trees.{Trees, pairing}
 use Rattle.expand_meaning.specs.Expand.{Setting}
 use Rattle.expand_meaning.specs.Outcome.{page_text}

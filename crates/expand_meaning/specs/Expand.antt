@@ -2,11 +2,11 @@
 -- A construct or a parameter is not entered where it stands: it is opened, at one node, and `thing_text` says what then stands for it.
 use Rattle.std.specs.Prelude.{ℕ, ◌+◌, Bool, true, false, cond, ◌||◌, List, [], ◌∷◌, ◌++◌, length, codes, decimal, bytes_eq, Option, Some, None}
 use Rattle.std.specs.List.{list_any}
-use Rattle.wk_base.specs.Space.{trim}
-use Rattle.wk_base.specs.Titles.{is_module}
-use Rattle.wk_base.specs.declared.title.Namespace.TheVariants.{Module}
-use Rattle.wk_base.specs.declared.title.Title.{Title}
-use Rattle.wk_base.specs.contracts.title.TitlePartialEq.TheImpl as titles
+use Rattle.wiki_markup.specs.WkBaseSpace.{trim}
+use Rattle.mw_frame.specs.WkBaseTitles.{is_module}
+use Rattle.mw_frame.specs.WkBaseDeclaredTitleNamespaceTheVariants.{Module}
+use Rattle.mw_frame.specs.WkBaseDeclaredTitleTitle.{Title}
+use Rattle.page_run.specs.WkBaseContractsTitleTitlePartialEqTheImpl as titles
 use Rattle.wiki_markup.specs.Nodes.{NodeKind, Construct, Parameter}
 use Rattle.wiki_markup.specs.Trees.{Trees, done, text, equals, node}
 use Rattle.mw_frame.specs.declared.scene.Arg.{Arg}

@@ -2,12 +2,12 @@
 -- Help:Extension:ParserFunctions). Texts are trimmed before.
 use Rattle.std.specs.Prelude.{ℕ, Bool, if◌then◌else◌, List, [], ◌∷◌, length, take, drop, codes, bytes_eq, unwrap_or, Option, Some, None, Result, Ok, Err}
 use Rattle.std.specs.Str.{str_eq_ignore_ascii_case}
-use Rattle.wk_base.specs.Space.{trim}
-use Rattle.wk_base.specs.Titles.{prefix_of, title_text, title_of}
-use Rattle.wk_base.specs.declared.title.Namespace.{Namespace}
-use Rattle.wk_base.specs.declared.title.Namespace.TheVariants.{Template}
-use Rattle.wk_base.specs.declared.title.Title.{Title}
-use Rattle.wk_base.specs.declared.title_read.TitleFault.{TitleFault}
+use Rattle.wiki_markup.specs.WkBaseSpace.{trim}
+use Rattle.mw_frame.specs.WkBaseTitles.{prefix_of, title_text, title_of}
+use Rattle.wiki_markup.specs.WkBaseDeclaredTitleNamespace.{Namespace}
+use Rattle.mw_frame.specs.WkBaseDeclaredTitleNamespaceTheVariants.{Template}
+use Rattle.mw_frame.specs.WkBaseDeclaredTitleTitle.{Title}
+use Rattle.page_run.specs.WkBaseDeclaredTitleReadTitleFault.{TitleFault}
 
 pub data Kind : Type 0 where
   -- it stands as it is written

@@ -1,7 +1,7 @@
 -- What an expansion does next, after the replies that it was given.
 use Rattle.std.specs.Prelude.{◌≡◌, ℕ, List, [], ◌∷◌}
-use Rattle.wk_base.specs.declared.left.Left.{Left}
-use Rattle.wk_base.specs.declared.title.Title.{Title}
+use Rattle.page_run.specs.WkBaseDeclaredLeftLeft.{Left}
+use Rattle.mw_frame.specs.WkBaseDeclaredTitleTitle.{Title}
 use Rattle.wiki_markup.specs.Trees.{Trees}
 use Rattle.mw_frame.specs.declared.scene.Scene.{Scene}
 use Rattle.mw_frame.specs.declared.scene.Job.{Job}

@@ -1,8 +1,8 @@
 -- The texts that stand where an expansion is refused, and the equality of two texts. Their wording is this program's own.
 use Rattle.std.specs.Prelude.{ℕ, ◌+◌, ◌*◌, ◌-◌, Bool, true, false, ◌||◌, ◌&&◌, ◌==◌, not, nat_le, nat_lt, if◌then◌else◌, List, [], ◌∷◌, ◌++◌, length, flat_map, codes, bytes_eq, Option, Some, None}
 use Rattle.std.specs.List.{list_all}
-use Rattle.wk_base.specs.declared.title.Title.{Title}
-use Rattle.wk_base.specs.Titles.{title_text}
+use Rattle.mw_frame.specs.WkBaseDeclaredTitleTitle.{Title}
+use Rattle.mw_frame.specs.WkBaseTitles.{title_text}
 
 -- no node, no byte and no level is left (MediaWiki, Manual:Template limits)
 unfoldable pub node_text : List ℕ

@@ -1,3 +1,5 @@
+pub use Rattle.expand_meaning.proofs.ReadLaws as ExpandMeaningReadLaws
+pub use Rattle.expand_meaning.proofs.TreeLaws as ExpandMeaningTreeLaws
 pub mod EqualityLaws
 pub mod KindLaws
 pub mod ArgumentLaws

@@ -20,3 +20,6 @@ pub mod rope;
 pub mod space;
 pub mod stack;
 pub mod texts;
+
+pub use wk_base::Namespace;
+pub use wk_base::space::trim;

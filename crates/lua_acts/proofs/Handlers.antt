@@ -1,12 +1,12 @@
 -- Whether a value has a handler for an event decides what is done.
 use Rattle.std.proofs.Common.{◌≡◌, ◌∙◌, true, false, ap, subst, ℕ, List}
-use Rattle.wk_base.specs.declared.left.Left.{Left}
-use Rattle.lua_heap.specs.Value.{Value as Plain, is_nil}
-use Rattle.lua_meaning.specs.Metatables.{handler}
-use Rattle.lua_store.specs.declared.value.Value.{Value}
-use Rattle.lua_store.specs.Seen.{StoreView, seen}
-use Rattle.lua_slots.specs.Errors.{choose}
-use Rattle.lua_slots.specs.Points.{Move}
+use Rattle.page_run.specs.WkBaseDeclaredLeftLeft.{Left}
+use Rattle.lua_code.specs.LuaHeapValue.{Value as Plain, is_nil}
+use Rattle.lua_code.specs.LuaMeaningMetatables.{handler}
+use Rattle.lua_state.specs.LuaStoreDeclaredValueValue.{Value}
+use Rattle.lua_state.specs.LuaStoreSeen.{StoreView, seen}
+use Rattle.lua_state.specs.LuaSlotsErrors.{choose}
+use Rattle.lua_state.specs.LuaSlotsPoints.{Move}
 use Rattle.lua_state.specs.declared.state.State.{State}
 use Rattle.lua_state.specs.declared.turn.Turn.{Turn}
 use Rattle.lua_state.specs.Makes.{Makes}

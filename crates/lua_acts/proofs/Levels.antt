@@ -1,15 +1,15 @@
 -- Errors at a level.
 use Rattle.std.proofs.Common.{◌≡◌, subst, Option}
 use Rattle.std.specs.Option.{option_map}
-use Rattle.wk_base.specs.declared.left.Left.{Left}
-use Rattle.lua_meaning.specs.Scope.{Bytes, Place}
-use Rattle.lua_store.specs.Seen.{StoreView}
-use Rattle.lua_store.specs.Parts.{IsLater}
-use Rattle.lua_slots.specs.Errors.{raises}
-use Rattle.lua_stack.specs.declared.activation.Level.{Level}
-use Rattle.lua_stack.specs.declared.raising.Raising.{Raising}
-use Rattle.lua_stack.specs.Seen.{level_seen}
-use Rattle.lua_stack.specs.Raised.{RaisingOf}
+use Rattle.page_run.specs.WkBaseDeclaredLeftLeft.{Left}
+use Rattle.lua_code.specs.LuaMeaningScope.{Bytes, Place}
+use Rattle.lua_state.specs.LuaStoreSeen.{StoreView}
+use Rattle.lua_state.specs.LuaStoreParts.{IsLater}
+use Rattle.lua_state.specs.LuaSlotsErrors.{raises}
+use Rattle.lua_state.specs.LuaStackDeclaredActivationLevel.{Level}
+use Rattle.lua_state.specs.LuaStackDeclaredRaisingRaising.{Raising}
+use Rattle.lua_state.specs.LuaStackSeen.{level_seen}
+use Rattle.lua_state.specs.LuaStackRaised.{RaisingOf}
 use Rattle.lua_state.specs.declared.state.State.{State}
 use Rattle.lua_state.specs.Seen.{slots_of, frames_of}
 use Rattle.lua_state.specs.Of.{StateOf}

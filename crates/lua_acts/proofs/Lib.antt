@@ -1,3 +1,4 @@
+pub use Rattle.lua_libs.proofs.Lines as LuaLibsLines
 pub mod Parts
 pub mod Lists
 pub mod Refusing

@@ -1,15 +1,15 @@
 -- The arguments of a function: the first of them, the second, and those behind the first.
 use Rattle.std.proofs.Common.{◌≡◌, ◌∙◌, sym, ap, subst, List, [], ◌∷◌, ℕ}
-use Rattle.wk_base.specs.declared.left.Left.{Left}
-use Rattle.lua_heap.specs.Value.{Value as Plain}
-use Rattle.lua_meaning.specs.Values.{first, rest, second}
-use Rattle.lua_store.specs.declared.value.Value.{Value}
-use Rattle.lua_store.specs.Seen.{StoreView, seen}
-use Rattle.lua_slots.specs.Points.{Move}
-use Rattle.lua_stack.specs.Lists.{first_stored, rest_stored}
-use Rattle.lua_stack.specs.Of.{ValuesOf}
-use Rattle.lua_stack.specs.Seen.{values_seen}
-use Rattle.lua_stack.proofs.Openings.{first_seen, rest_seen}
+use Rattle.page_run.specs.WkBaseDeclaredLeftLeft.{Left}
+use Rattle.lua_code.specs.LuaHeapValue.{Value as Plain}
+use Rattle.lua_code.specs.LuaMeaningValues.{first, rest, second}
+use Rattle.lua_state.specs.LuaStoreDeclaredValueValue.{Value}
+use Rattle.lua_state.specs.LuaStoreSeen.{StoreView, seen}
+use Rattle.lua_state.specs.LuaSlotsPoints.{Move}
+use Rattle.lua_state.specs.LuaStackLists.{first_stored, rest_stored}
+use Rattle.lua_state.specs.LuaStackOf.{ValuesOf}
+use Rattle.lua_state.specs.LuaStackSeen.{values_seen}
+use Rattle.lua_state.proofs.LuaStackOpenings.{first_seen, rest_seen}
 use Rattle.lua_state.specs.declared.state.State.{State}
 use Rattle.lua_state.specs.declared.turn.Turn.{Turn}
 use Rattle.lua_state.specs.Makes.{Makes}

@@ -4,10 +4,10 @@ use Rattle.std.specs.Prelude.{ℤ, pos, ◌+ℤ◌, Result, Ok, Err, if◌then�
 use Rattle.lua_number.specs.declared.arithmetic.NumberFault.{NumberFault}
 use Rattle.lua_number.specs.declared.arithmetic.NumberFault.TheVariants.{OutOfRange}
 use Rattle.lua_number.specs.Whole.{fits, sum_of}
-use Rattle.lua_heap.specs.Value.{Value, Nil, Truth, Number, Text, Table, Closure, Builtin, Markup, is_nil}
-use Rattle.lua_slots.specs.CallBacks.{place_and_value}
-use Rattle.lua_slots.specs.Errors.{choose}
-use Rattle.lua_slots.specs.Points.{Move}
+use Rattle.lua_code.specs.LuaHeapValue.{Value, Nil, Truth, Number, Text, Table, Closure, Builtin, Markup, is_nil}
+use Rattle.lua_code.specs.LuaSlotsCallBacks.{place_and_value}
+use Rattle.lua_state.specs.LuaSlotsErrors.{choose}
+use Rattle.lua_state.specs.LuaSlotsPoints.{Move}
 
 pub no_value : (n : ℤ) (v : Value) → true ≡ is_nil v → place_and_value n v ≡ Nil ∷ []
 no_value n Nil e = refl

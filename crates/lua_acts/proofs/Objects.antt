@@ -1,18 +1,18 @@
 -- OBJECTS of `mw.html` as values whose text is asked.
 use Rattle.std.proofs.Common.{◌≡◌, refl, ℕ, List, Option, None}
 use Rattle.std.specs.Prelude.{codes}
-use Rattle.mw_html.specs.Render.{Piece, Whole, Deep}
-use Rattle.lua_heap.specs.Proc.{Proc}
-use Rattle.lua_heap.specs.Heap.{Heap}
-use Rattle.lua_meaning.specs.Html.{gives_piece}
-use Rattle.lua_meaning.specs.Metatables.{handler}
-use Rattle.lua_store.specs.declared.value.Value.{Value}
-use Rattle.lua_store.specs.declared.value.Value.TheVariants as value
-use Rattle.lua_store.specs.Seen.{seen}
-use Rattle.lua_slots.specs.CallBacks.{to_string_by, to_string_of}
-use Rattle.lua_slots.specs.Slots.{Slots}
-use Rattle.lua_slots.specs.Points.{SFrame}
-use Rattle.lua_basic.specs.Objects.{object_in}
+use Rattle.mw_html_texts.specs.MwHtmlRender.{Piece, Whole, Deep}
+use Rattle.lua_code.specs.LuaHeapProc.{Proc}
+use Rattle.lua_code.specs.LuaHeapHeap.{Heap}
+use Rattle.mw_html_texts.specs.LuaMeaningHtml.{gives_piece}
+use Rattle.lua_code.specs.LuaMeaningMetatables.{handler}
+use Rattle.lua_state.specs.LuaStoreDeclaredValueValue.{Value}
+use Rattle.lua_state.specs.LuaStoreDeclaredValueValueTheVariants as value
+use Rattle.lua_state.specs.LuaStoreSeen.{seen}
+use Rattle.lua_code.specs.LuaSlotsCallBacks.{to_string_by, to_string_of}
+use Rattle.lua_state.specs.LuaSlotsSlots.{Slots}
+use Rattle.lua_state.specs.LuaSlotsPoints.{SFrame}
+use Rattle.mw_html_texts.specs.LuaBasicObjects.{object_in}
 
 -- to give an object's text changes no object
 pub piece_heap : (p : Piece) (h : Heap Proc) → (gives_piece h p).heap ≡ h

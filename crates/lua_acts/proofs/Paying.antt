@@ -1,23 +1,23 @@
 -- A FUNCTION THAT CALLS BACK NOBODY: its charge is taken and it ends, or its charge is not covered.
 use Rattle.std.proofs.Common.{◌≡◌, ◌∙◌, refl, sym, ap, subst, ℕ, List, Option, Ok, Err}
-use Rattle.wk_base.specs.declared.left.Left.{Left}
+use Rattle.page_run.specs.WkBaseDeclaredLeftLeft.{Left}
 use Rattle.page_run.specs.declared.which.Which.TheVariants.{Steps}
 use Rattle.page_run.specs.State.{Tally}
-use Rattle.lua_heap.specs.Proc.{Proc}
-use Rattle.lua_meaning.specs.Arguments.{Plain, PlainEnd, Gives, Fails}
-use Rattle.lua_store.specs.declared.value.Value.{Value}
-use Rattle.lua_store.specs.Seen.{StoreView, seen}
-use Rattle.lua_store.specs.Parts.{IsLater}
-use Rattle.lua_store.proofs.Later.{later-itself}
-use Rattle.lua_slots.specs.Slots.{Slots, with_heap}
-use Rattle.lua_slots.specs.Points.{SFrame, Move}
-use Rattle.lua_slots.specs.Enact.{all_given_back, Short, enact}
-use Rattle.lua_slots.specs.Errors.{gives, ends, plain}
-use Rattle.lua_stack.specs.Seen.{values_seen}
-use Rattle.lua_stack.proofs.Raises.{pays, spends as falls_short}
-use Rattle.lua_basic.specs.declared.stop.Stop.{Stop}
-use Rattle.lua_basic.specs.declared.stop.Stop.TheVariants as stop
-use Rattle.lua_basic.specs.Seen.{Covers, IsShort, Paid}
+use Rattle.lua_code.specs.LuaHeapProc.{Proc}
+use Rattle.lua_libs.specs.LuaMeaningArguments.{Plain, PlainEnd, Gives, Fails}
+use Rattle.lua_state.specs.LuaStoreDeclaredValueValue.{Value}
+use Rattle.lua_state.specs.LuaStoreSeen.{StoreView, seen}
+use Rattle.lua_state.specs.LuaStoreParts.{IsLater}
+use Rattle.lua_state.proofs.LuaStoreLater.{later-itself}
+use Rattle.lua_state.specs.LuaSlotsSlots.{Slots, with_heap}
+use Rattle.lua_state.specs.LuaSlotsPoints.{SFrame, Move}
+use Rattle.lua_state.specs.LuaSlotsEnact.{all_given_back, Short, enact}
+use Rattle.lua_state.specs.LuaSlotsErrors.{gives, ends, plain}
+use Rattle.lua_state.specs.LuaStackSeen.{values_seen}
+use Rattle.lua_state.proofs.LuaStackRaises.{pays, spends as falls_short}
+use Rattle.mw_html_texts.specs.LuaBasicDeclaredStopStop.{Stop}
+use Rattle.mw_html_texts.specs.LuaBasicDeclaredStopStopTheVariants as stop
+use Rattle.lua_libs.specs.LuaBasicSeen.{Covers, IsShort, Paid}
 use Rattle.lua_state.specs.declared.state.State.{State}
 use Rattle.lua_state.specs.declared.turn.Turn.{Turn}
 use Rattle.lua_state.specs.declared.turn.Turn.TheVariants as turn

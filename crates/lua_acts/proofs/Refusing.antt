@@ -1,16 +1,16 @@
 -- An argument of a function: what is done with it, or its function stops.
 use Rattle.std.proofs.Common.{◌≡◌, sym, ap, subst, ℕ, [], Option, Ok, Err, arith}
-use Rattle.wk_base.specs.declared.left.Left.{Left}
-use Rattle.lua_heap.specs.Proc.{Proc}
-use Rattle.lua_heap.specs.Heap.{Heap}
-use Rattle.lua_meaning.specs.Arguments.{Plain, PlainEnd, Gives, Argument}
-use Rattle.lua_store.specs.Seen.{StoreView}
-use Rattle.lua_store.specs.Parts.{IsLater}
-use Rattle.lua_slots.specs.Errors.{fails, ends, with_argument}
-use Rattle.lua_slots.specs.Points.{Move}
-use Rattle.lua_basic.specs.declared.stop.Stop.{Stop}
-use Rattle.lua_basic.specs.declared.stop.Stop.TheVariants as stop
-use Rattle.lua_basic.specs.Seen.{Refuses}
+use Rattle.page_run.specs.WkBaseDeclaredLeftLeft.{Left}
+use Rattle.lua_code.specs.LuaHeapProc.{Proc}
+use Rattle.lua_code.specs.LuaHeapHeap.{Heap}
+use Rattle.lua_libs.specs.LuaMeaningArguments.{Plain, PlainEnd, Gives, Argument}
+use Rattle.lua_state.specs.LuaStoreSeen.{StoreView}
+use Rattle.lua_state.specs.LuaStoreParts.{IsLater}
+use Rattle.lua_state.specs.LuaSlotsErrors.{fails, ends, with_argument}
+use Rattle.lua_state.specs.LuaSlotsPoints.{Move}
+use Rattle.mw_html_texts.specs.LuaBasicDeclaredStopStop.{Stop}
+use Rattle.mw_html_texts.specs.LuaBasicDeclaredStopStopTheVariants as stop
+use Rattle.lua_libs.specs.LuaBasicSeen.{Refuses}
 use Rattle.lua_state.specs.declared.state.State.{State}
 use Rattle.lua_state.specs.declared.turn.Turn.{Turn}
 use Rattle.lua_state.specs.Seen.{slots_of, frames_of}

@@ -1,1 +1,3 @@
+pub use Rattle.lua_code.specs.LuaSlotsCallBacks as LuaSlotsCallBacks
+pub use Rattle.lua_libs.specs.Table as LuaLibsTable
 pub mod Stops

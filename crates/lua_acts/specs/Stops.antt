@@ -1,13 +1,13 @@
 -- WHAT FOLLOWS WHERE A FUNCTION OF THE LIBRARY STOPS, called from this line: it raises a value at a level, whose place is put before it,
 -- or an allowance is spent. Where memory is wanting nothing follows.
 use Rattle.std.specs.Prelude.{◌≡◌, ℕ, Option}
-use Rattle.wk_base.specs.declared.left.Left.{Left}
+use Rattle.page_run.specs.WkBaseDeclaredLeftLeft.{Left}
 use Rattle.page_run.specs.declared.which.Which.TheVariants.{Steps}
-use Rattle.lua_meaning.specs.Arguments.{Fails}
-use Rattle.lua_store.specs.Seen.{StoreView, seen}
-use Rattle.lua_slots.specs.Errors.{ends}
-use Rattle.lua_basic.specs.declared.stop.Stop.{Stop}
-use Rattle.lua_basic.specs.declared.stop.Stop.TheVariants as stop
+use Rattle.lua_libs.specs.LuaMeaningArguments.{Fails}
+use Rattle.lua_state.specs.LuaStoreSeen.{StoreView, seen}
+use Rattle.lua_state.specs.LuaSlotsErrors.{ends}
+use Rattle.mw_html_texts.specs.LuaBasicDeclaredStopStop.{Stop}
+use Rattle.mw_html_texts.specs.LuaBasicDeclaredStopStopTheVariants as stop
 use Rattle.lua_state.specs.declared.state.State.{State}
 use Rattle.lua_state.specs.declared.turn.Turn.{Turn}
 use Rattle.lua_state.specs.declared.turn.Turn.TheVariants as turn

@@ -1,24 +1,23 @@
 //! Ends of a move at which no allowance is needed: values or a jump for the frames; and a call for which a function of the library waits.
 ghost use Rattle.std.specs.Prelude.{◌≡◌, ◌∷◌, [], None, IfOk};
-ghost use Rattle.wk_base.specs.declared.left.Left.{Left as Allowance};
-ghost use Rattle.lua_slots.specs.Calls as calls;
-ghost use Rattle.lua_slots.specs.Errors.{gives, jumps};
-ghost use Rattle.lua_slots.specs.Points.{Waits};
-ghost use Rattle.lua_store.specs.Parts.{IsOf};
-ghost use Rattle.lua_store.specs.Seen.{seen};
-ghost use Rattle.lua_stack.specs.Of.{JumpOf, PendingOf, ValuesOf};
-ghost use Rattle.lua_stack.specs.Seen.{jump_seen, pending_seen, values_seen};
+ghost use Rattle.page_run.specs.WkBaseDeclaredLeftLeft.{Left as Allowance};
+ghost use Rattle.lua_state.specs.LuaSlotsCalls as calls;
+ghost use Rattle.lua_state.specs.LuaSlotsErrors.{gives, jumps};
+ghost use Rattle.lua_state.specs.LuaSlotsPoints.{Waits};
+ghost use Rattle.lua_state.specs.LuaStoreParts.{IsOf};
+ghost use Rattle.lua_state.specs.LuaStoreSeen.{seen};
+ghost use Rattle.lua_state.specs.LuaStackOf.{JumpOf, PendingOf, ValuesOf};
+ghost use Rattle.lua_state.specs.LuaStackSeen.{jump_seen, pending_seen, values_seen};
 ghost use Rattle.lua_state.specs.Makes.{Makes};
 ghost use Rattle.lua_state.specs.Of.{StateOf};
 ghost use Rattle.lua_state.specs.Seen.{frames_of, slots_of};
 
-use lua_arms::calls::call;
-use lua_arms::index::two;
-use lua_stack::{Focus, Frame, Given, Jump, Pending, Values};
-use lua_state::{State, Turn, finish};
-use lua_store::{Store, Value};
+use lua_code::NoMemory;
+use lua_state::{
+    Focus, Frame, Given, Jump, Pending, State, Store, Turn, Value, Values, call, finish, two,
+};
+use mw_html_texts::Left;
 use std::alloc::Global;
-use wk_base::{Left, NoMemory};
 
 /// One value as a list.
 pub fn one(alloc: Global, value: Value) -> Result<Values, NoMemory>

@@ -20,6 +20,7 @@ pub mod strings;
 pub mod texts;
 pub mod walks;
 
+pub use lua_libs::{PlainFunction, mw_clone, mw_get_current_title, plain_call, plain_function};
 pub use protected::{handler_answer, pcall, pcall_answer, xpcall, xpcall_answer};
 pub use raising::{raise, raise_at, refuse};
 pub use strict::{strict_index, strict_new_index};

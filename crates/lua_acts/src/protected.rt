@@ -1,25 +1,23 @@
 //! Calls whose errors are caught: `pcall` and `xpcall` (manual 5.1).
 ghost use Rattle.std.specs.Prelude.{◌∷◌, [], true, false, codes, IfOk};
 ghost use Rattle.page_run.specs.Outcome.{Jumps};
-ghost use Rattle.wk_base.specs.declared.left.Left.{Left as Allowance};
-ghost use Rattle.lua_heap.specs.Value as kind;
-ghost use Rattle.lua_slots.specs.CallBacks as machine;
-ghost use Rattle.lua_slots.specs.Errors.{gives};
-ghost use Rattle.lua_store.specs.Parts.{IsOf};
-ghost use Rattle.lua_store.specs.Seen.{seen};
-ghost use Rattle.lua_stack.specs.Of.{GivenOf, JumpOf, ValuesOf};
-ghost use Rattle.lua_stack.specs.Seen.{given_seen, jump_seen, values_seen};
+ghost use Rattle.page_run.specs.WkBaseDeclaredLeftLeft.{Left as Allowance};
+ghost use Rattle.lua_code.specs.LuaHeapValue as kind;
+ghost use Rattle.lua_code.specs.LuaSlotsCallBacks as machine;
+ghost use Rattle.lua_state.specs.LuaSlotsErrors.{gives};
+ghost use Rattle.lua_state.specs.LuaStoreParts.{IsOf};
+ghost use Rattle.lua_state.specs.LuaStoreSeen.{seen};
+ghost use Rattle.lua_state.specs.LuaStackOf.{GivenOf, JumpOf, ValuesOf};
+ghost use Rattle.lua_state.specs.LuaStackSeen.{given_seen, jump_seen, values_seen};
 ghost use Rattle.lua_state.specs.Makes.{Makes};
 ghost use Rattle.lua_state.specs.Of.{OutcomeOf, StateOf};
 ghost use Rattle.lua_state.specs.Seen.{frames_of, outcome_seen, slots_of};
 
 use crate::exits::{call_and_wait, give_all, one, pass};
-use lua_arms::index::two;
-use lua_stack::{Given, Jump, Pending, Values};
-use lua_state::{Outcome, State, Turn};
-use lua_store::{Store, Value};
+use lua_code::NoMemory;
+use lua_state::{Given, Jump, Outcome, Pending, State, Store, Turn, Value, Values, two};
+use mw_html_texts::Left;
 use std::alloc::Global;
-use wk_base::{Left, NoMemory};
 
 /// True, and what a call gave.
 fn succeeded<'m>(

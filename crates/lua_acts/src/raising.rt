@@ -1,34 +1,31 @@
 //! Errors with their values (manual 5.1, `error`), and why a function of the library gives no values.
 ghost use Rattle.std.specs.Prelude.{◌≡◌, IfOk, IfSome};
 ghost use Rattle.std.specs.Option.{option_map};
-ghost use Rattle.wk_base.specs.declared.left.Left.{Left as Allowance};
-ghost use Rattle.lua_heap.specs.Value as kind;
-ghost use Rattle.lua_meaning.specs.Acts as act;
-ghost use Rattle.lua_meaning.specs.Arguments.{Fails};
-ghost use Rattle.lua_meaning.specs.Messages as plain;
-ghost use Rattle.lua_meaning.specs.Scope.{Levels};
-ghost use Rattle.lua_slots.specs.Errors as machine;
-ghost use Rattle.lua_slots.specs.Slots.{levels_at};
-ghost use Rattle.lua_store.specs.Parts.{IsOf, IsTextOf};
-ghost use Rattle.lua_store.specs.Seen.{StoreView, seen};
-ghost use Rattle.lua_basic.specs.Seen.{StopOf};
-ghost use Rattle.lua_stack.specs.Of.{ActivationsOf};
-ghost use Rattle.lua_stack.specs.Seen.{activations_seen, level_seen};
+ghost use Rattle.page_run.specs.WkBaseDeclaredLeftLeft.{Left as Allowance};
+ghost use Rattle.lua_code.specs.LuaHeapValue as kind;
+ghost use Rattle.lua_code.specs.LuaMeaningActs as act;
+ghost use Rattle.lua_libs.specs.LuaMeaningArguments.{Fails};
+ghost use Rattle.lua_state.specs.LuaMeaningMessages as plain;
+ghost use Rattle.lua_code.specs.LuaMeaningScope.{Levels};
+ghost use Rattle.lua_state.specs.LuaSlotsErrors as machine;
+ghost use Rattle.lua_state.specs.LuaSlotsSlots.{levels_at};
+ghost use Rattle.lua_state.specs.LuaStoreParts.{IsOf, IsTextOf};
+ghost use Rattle.lua_state.specs.LuaStoreSeen.{StoreView, seen};
+ghost use Rattle.lua_libs.specs.LuaBasicSeen.{StopOf};
+ghost use Rattle.lua_state.specs.LuaStackOf.{ActivationsOf};
+ghost use Rattle.lua_state.specs.LuaStackSeen.{activations_seen, level_seen};
 ghost use Rattle.lua_state.specs.Makes.{Makes};
 ghost use Rattle.lua_state.specs.Of.{StateOf};
 ghost use Rattle.lua_state.specs.Seen.{frames_of, slots_of};
 ghost use Rattle.lua_acts.specs.Stops.{StopsAs};
 
 use crate::exits::pass;
-use lua_basic::Stop;
-use lua_stack::activation::Level;
-use lua_stack::raising::raise_text;
-use lua_stack::{Activations, Focus, Jump, Raising};
-use lua_state::{State, Turn};
-use lua_store::{Store, Value};
+use lua_code::NoMemory;
+use lua_libs::Stop;
+use lua_state::{Activations, Focus, Jump, Level, Raising, State, Store, Turn, Value, raise_text};
+use mw_html_texts::Left;
 use page_run::Which;
 use std::alloc::Global;
-use wk_base::{Left, NoMemory};
 
 /// An error whose value is this text, at no place. It costs nothing.
 pub fn raise<'m>(store: &mut Store, state: &State<'m>, text: &[u8]) -> Result<Turn<'m>, NoMemory>

@@ -1,19 +1,18 @@
 //! The handlers that `require('strict')` sets (Scribunto, strict): each refuses the name that it is given, which its message quotes.
 ghost use Rattle.std.specs.Prelude.{IfOk};
-ghost use Rattle.lua_slots.specs.Modules as machine;
-ghost use Rattle.lua_stack.specs.Of.{ValuesOf};
-ghost use Rattle.lua_stack.specs.Seen.{values_seen};
+ghost use Rattle.lua_code.specs.LuaSlotsModules as machine;
+ghost use Rattle.lua_state.specs.LuaStackOf.{ValuesOf};
+ghost use Rattle.lua_state.specs.LuaStackSeen.{values_seen};
 ghost use Rattle.lua_state.specs.Makes.{Makes};
 ghost use Rattle.lua_state.specs.Of.{StateOf};
 ghost use Rattle.lua_state.specs.Seen.{frames_of, slots_of};
 
-use lua_basic::values::second;
+use lua_code::NoMemory;
 use lua_libs::mw::{undeclared_target, undeclared_variable};
-use lua_stack::Values;
-use lua_state::{State, Turn, fail_quoting};
-use lua_store::Store;
+use lua_libs::second;
+use lua_state::{State, Store, Turn, Values, fail_quoting};
+use mw_html_texts::Left;
 use std::alloc::Global;
-use wk_base::{Left, NoMemory};
 
 /// `__index` of the global variables: what is absent is refused.
 pub fn strict_index<'m>(

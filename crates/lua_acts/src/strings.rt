@@ -1,14 +1,14 @@
 //! `tostring` (manual 5.1).
 ghost use Rattle.std.specs.Prelude.{codes, IfOk};
-ghost use Rattle.lua_meaning.specs.Html.{text_of_object};
-ghost use Rattle.lua_meaning.specs.Metatables.{handler as handler_of};
-ghost use Rattle.lua_meaning.specs.Values as plain;
-ghost use Rattle.lua_slots.specs.CallBacks as machine;
-ghost use Rattle.lua_slots.specs.Errors as errors;
-ghost use Rattle.lua_store.specs.Parts.{IsMarkupOf, IsOf};
-ghost use Rattle.lua_store.specs.Seen.{seen};
-ghost use Rattle.lua_stack.specs.Of.{ValuesOf};
-ghost use Rattle.lua_stack.specs.Seen.{values_seen};
+ghost use Rattle.mw_html_texts.specs.LuaMeaningHtml.{text_of_object};
+ghost use Rattle.lua_code.specs.LuaMeaningMetatables.{handler as handler_of};
+ghost use Rattle.lua_code.specs.LuaMeaningValues as plain;
+ghost use Rattle.lua_code.specs.LuaSlotsCallBacks as machine;
+ghost use Rattle.lua_state.specs.LuaSlotsErrors as errors;
+ghost use Rattle.lua_state.specs.LuaStoreParts.{IsMarkupOf, IsOf};
+ghost use Rattle.lua_state.specs.LuaStoreSeen.{seen};
+ghost use Rattle.lua_state.specs.LuaStackOf.{ValuesOf};
+ghost use Rattle.lua_state.specs.LuaStackSeen.{values_seen};
 ghost use Rattle.lua_state.specs.Makes.{Makes};
 ghost use Rattle.lua_state.specs.Of.{OutcomeOf, StateOf};
 ghost use Rattle.lua_state.specs.Seen.{frames_of, outcome_seen, slots_of};
@@ -16,16 +16,11 @@ ghost use Rattle.lua_state.specs.Seen.{frames_of, outcome_seen, slots_of};
 use crate::exits::{call_and_wait, give_all, one, pass};
 use crate::raising::refuse;
 use crate::texts::{give_text, give_text_of};
-use lua_arms::tables::handler;
-use lua_basic::objects::object;
-use lua_basic::texts::text_in;
-use lua_stack::values::is_nil;
-use lua_stack::{Pending, Values};
-use lua_state::{Outcome, State, Turn, fail};
-use lua_store::{MarkupId, Store, Value};
-use mw_html_texts::give_object_text;
+use lua_code::NoMemory;
+use lua_libs::text_in;
+use lua_state::{Outcome, Pending, State, Store, Turn, Value, Values, fail, handler, is_nil};
+use mw_html_texts::{Left, MarkupId, give_object_text, object};
 use std::alloc::Global;
-use wk_base::{Left, NoMemory};
 
 /// The text of a value that is no object: its handler is asked, if it has one.
 fn string_by<'m>(

@@ -1,23 +1,23 @@
 //! Texts that a function of the library makes, which cost their bytes.
 ghost use Rattle.std.specs.Prelude.{◌∷◌, [], IfOk};
-ghost use Rattle.wk_base.specs.declared.left.Left.{Left as Allowance};
-ghost use Rattle.lua_heap.specs.Value as kind;
-ghost use Rattle.lua_meaning.specs.CallBacks.{text_of as plain_text};
-ghost use Rattle.lua_slots.specs.CallBacks as machine;
-ghost use Rattle.lua_slots.specs.Errors.{gives};
-ghost use Rattle.lua_store.specs.Parts.{IsOf};
-ghost use Rattle.lua_store.specs.Seen.{seen};
+ghost use Rattle.page_run.specs.WkBaseDeclaredLeftLeft.{Left as Allowance};
+ghost use Rattle.lua_code.specs.LuaHeapValue as kind;
+ghost use Rattle.lua_code.specs.LuaMeaningCallBacks.{text_of as plain_text};
+ghost use Rattle.lua_code.specs.LuaSlotsCallBacks as machine;
+ghost use Rattle.lua_state.specs.LuaSlotsErrors.{gives};
+ghost use Rattle.lua_state.specs.LuaStoreParts.{IsOf};
+ghost use Rattle.lua_state.specs.LuaStoreSeen.{seen};
 ghost use Rattle.lua_state.specs.Makes.{Makes};
 ghost use Rattle.lua_state.specs.Of.{StateOf};
 ghost use Rattle.lua_state.specs.Seen.{frames_of, slots_of};
 
 use crate::exits::give;
+use lua_code::NoMemory;
 use lua_libs::mw::text_of;
-use lua_state::{State, Turn, pay};
-use lua_store::{Store, Value};
+use lua_state::{State, Store, Turn, Value, pay};
+use mw_html_texts::Left;
 use page_run::Which;
 use std::alloc::Global;
-use wk_base::{Left, NoMemory};
 
 /// A text that is paid for.
 fn give_paid<'m>(store: &mut Store, state: &State<'m>, bytes: &[u8]) -> Result<Turn<'m>, NoMemory>

@@ -1,35 +1,30 @@
 //! Walks over tables: `pairs` and `ipairs`, and a step of `ipairs` (manual 5.1).
 ghost use Rattle.std.specs.Prelude.{◌∷◌, [], None, codes, IfOk};
-ghost use Rattle.wk_base.specs.declared.left.Left.{Left as Allowance};
-ghost use Rattle.lua_heap.specs.Value as kind;
-ghost use Rattle.lua_meaning.specs.Arguments.{a_number as plain_number, a_table as plain_table};
-ghost use Rattle.lua_slots.specs.CallBacks as machine;
-ghost use Rattle.lua_slots.specs.Calls as calls;
-ghost use Rattle.lua_slots.specs.Errors.{gives, with_argument};
-ghost use Rattle.lua_slots.specs.Points.{Waits};
-ghost use Rattle.lua_meaning.specs.Pending.{PairsWaits};
-ghost use Rattle.lua_meaning.specs.Values as plain;
-ghost use Rattle.lua_store.specs.Parts.{IsOf, IsTableOf};
-ghost use Rattle.lua_store.specs.Seen.{seen};
-ghost use Rattle.lua_stack.specs.Of.{GivenOf, ValuesOf};
-ghost use Rattle.lua_stack.specs.Seen.{given_seen, values_seen};
+ghost use Rattle.page_run.specs.WkBaseDeclaredLeftLeft.{Left as Allowance};
+ghost use Rattle.lua_code.specs.LuaHeapValue as kind;
+ghost use Rattle.lua_libs.specs.LuaMeaningArguments.{a_number as plain_number, a_table as plain_table};
+ghost use Rattle.lua_code.specs.LuaSlotsCallBacks as machine;
+ghost use Rattle.lua_state.specs.LuaSlotsCalls as calls;
+ghost use Rattle.lua_state.specs.LuaSlotsErrors.{gives, with_argument};
+ghost use Rattle.lua_state.specs.LuaSlotsPoints.{Waits};
+ghost use Rattle.lua_code.specs.LuaMeaningPending.{PairsWaits};
+ghost use Rattle.lua_code.specs.LuaMeaningValues as plain;
+ghost use Rattle.lua_state.specs.LuaStoreParts.{IsOf, IsTableOf};
+ghost use Rattle.lua_state.specs.LuaStoreSeen.{seen};
+ghost use Rattle.lua_state.specs.LuaStackOf.{GivenOf, ValuesOf};
+ghost use Rattle.lua_state.specs.LuaStackSeen.{given_seen, values_seen};
 ghost use Rattle.lua_state.specs.Makes.{Makes};
 ghost use Rattle.lua_state.specs.Of.{OutcomeOf, StateOf};
 ghost use Rattle.lua_state.specs.Seen.{frames_of, outcome_seen, slots_of};
 
 use crate::exits::{call_and_wait, give, give_all, one, pass, three};
 use crate::raising::refuse;
-use lua_arms::index::two;
-use lua_arms::tables::handler;
-use lua_basic::arguments::{a_number, a_table};
-use lua_basic::values::{first, rest, second, third};
+use lua_code::NoMemory;
+use lua_libs::{Library, TableId, a_number, a_table, first, rest, second, third};
 use lua_number::add;
-use lua_stack::values::is_nil;
-use lua_stack::{Given, Pending, Values};
-use lua_state::{Outcome, State, Turn};
-use lua_store::{Library, Store, TableId, Value};
+use lua_state::{Given, Outcome, Pending, State, Store, Turn, Value, Values, handler, is_nil, two};
+use mw_html_texts::Left;
 use std::alloc::Global;
-use wk_base::{Left, NoMemory};
 
 /// A step with the table and the first state of a walk.
 fn walk<'m>(

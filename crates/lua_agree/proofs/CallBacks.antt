@@ -1,23 +1,23 @@
 -- The basic functions that call back (manual 5.1), and what they do with an outcome.
 use Rattle.std.proofs.Common.{◌≡◌, ℕ, ℤ, pos, ◌+ℤ◌, true, false, List, [], ◌∷◌, Option, Some, None, refl, subst}
 use Rattle.std.specs.Prelude.{Ok, Err, codes}
-use Rattle.page_run.specs.Outcome.{Outcome, on_value, give, ◌>>=◌}
-use Rattle.lua_number.specs.Whole.{fits}
+use Rattle.lua_slots.specs.PageRunOutcome.{Outcome, on_value, give, ◌>>=◌}
+use Rattle.lua_slots.specs.LuaNumberWhole.{fits}
 use Rattle.lua_heap.specs.Value.{Value, Nil, Number, Table, Builtin}
 use Rattle.lua_heap.specs.Table.{get}
 use Rattle.lua_heap.specs.Heap.{tab, table_at}
 use Rattle.lua_heap.specs.declared.library.Library.TheVariants.{BasicNext, IpairsStep}
 use Rattle.lua_heap.specs.Related.{Map, Each, none, more, Same, nil, truth, number, text, table, closure, builtin, markup}
 use Rattle.lua_heap.proofs.Entries.{nil-related}
-use Rattle.lua_meaning.specs.Scope.{Bytes, Levels}
-use Rattle.lua_meaning.specs.Values.{first, rest, text_in}
-use Rattle.lua_meaning.specs.Acts.{Act, Jump, State, choose, see_heap}
-use Rattle.lua_meaning.specs.Metatables.{handler}
-use Rattle.lua_meaning.specs.World.{World}
-use Rattle.lua_meaning.specs.Arguments.{Argument, a_table, a_number}
-use Rattle.lua_meaning.specs.Waiting.{argument, calling, for_values, text_value}
-use Rattle.lua_meaning.specs.Pending.{Pending, resumes, PcallWaits, XpcallWaits, HandlerWaits, ToStringWaits, PairsWaits}
-use Rattle.lua_meaning.specs.CallBacks.{pcall_answer, pcall, handler_answer, xpcall_answer, xpcall, text_of, string_or_fail, string_given, to_string_by, to_string_of, to_string, three_of, pairs_by, pairs, ipairs_by, ipairs, place_and_value, ipairs_step}
+use Rattle.lua_slots.specs.LuaMeaningScope.{Bytes, Levels}
+use Rattle.lua_slots.specs.LuaMeaningValues.{first, rest, text_in}
+use Rattle.lua_slots.specs.LuaMeaningActs.{Act, Jump, State, choose, see_heap}
+use Rattle.lua_slots.specs.LuaMeaningMetatables.{handler}
+use Rattle.lua_slots.specs.LuaMeaningWorld.{World}
+use Rattle.lua_slots.specs.LuaMeaningArguments.{Argument, a_table, a_number}
+use Rattle.lua_library_agree.specs.LuaMeaningWaiting.{argument, calling, for_values, text_value}
+use Rattle.lua_slots.specs.LuaMeaningPending.{Pending, resumes, PcallWaits, XpcallWaits, HandlerWaits, ToStringWaits, PairsWaits}
+use Rattle.lua_slots.specs.LuaMeaningCallBacks.{pcall_answer, pcall, handler_answer, xpcall_answer, xpcall, text_of, string_or_fail, string_given, to_string_by, to_string_of, to_string, three_of, pairs_by, pairs, ipairs_by, ipairs, place_and_value, ipairs_step}
 use Rattle.lua_library_agree.specs.Same.{SameArgument, both_ok, both_err}
 use Rattle.lua_library_agree.proofs.Values.{a_table-same, a_number-same}
 use Rattle.lua_library_agree.proofs.HtmlAgree.{text_of_object-same}

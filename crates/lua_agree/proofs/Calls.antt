@@ -1,16 +1,16 @@
 -- FUNCTIONS OF LUA ARE ENTERED (manual 2.5.9), and the texts of modules (2.4.1): their parameters are opened, and their bodies run.
 use Rattle.std.proofs.Common.{◌≡◌, ℕ, suc, Bool, true, false, List, [], ◌∷◌, length, drop, Option, Some, None, refl, sym, subst, ap}
 use Rattle.std.specs.Prelude.{if◌then◌else◌}
-use Rattle.lua_syntax.specs.Tree.{Fun, Lambda, Block}
-use Rattle.page_run.specs.Outcome.{on_value}
+use Rattle.lua_slots.specs.LuaSyntaxTree.{Fun, Lambda, Block}
+use Rattle.lua_slots.specs.PageRunOutcome.{on_value}
 use Rattle.lua_heap.specs.Proc.{Proc}
 use Rattle.lua_heap.specs.Value.{Value}
 use Rattle.lua_heap.specs.Related.{Map, Each, none, Same}
-use Rattle.lua_meaning.specs.Scope.{Bytes, Function, Levels, cell_of}
-use Rattle.lua_meaning.specs.Acts.{State}
-use Rattle.lua_meaning.specs.Meaning.{block}
-use Rattle.lua_meaning.specs.Things.{after_body, body_scope, enter_function, chunk_scope, enter_chunk}
-use Rattle.lua_meaning.specs.World.{World}
+use Rattle.lua_slots.specs.LuaMeaningScope.{Bytes, Function, Levels, cell_of}
+use Rattle.lua_slots.specs.LuaMeaningActs.{State}
+use Rattle.lua_library_agree.specs.LuaMeaningMeaning.{block}
+use Rattle.lua_library_agree.specs.LuaMeaningThings.{after_body, body_scope, enter_function, chunk_scope, enter_chunk}
+use Rattle.lua_slots.specs.LuaMeaningWorld.{World}
 use Rattle.lua_slots.specs.Code.{Place, Up, CProto, CWorld}
 use Rattle.lua_slots.specs.Sight.{Sighted, Everywhere, Here, Hidden, nothing_local, AreAsMany, up_of, up_or, inside}
 use Rattle.lua_slots.specs.IsCode.{IsFun, IsText}

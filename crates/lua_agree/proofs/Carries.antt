@@ -2,8 +2,8 @@
 -- (the set of everything), and maps that are cut down are another (the set itself).
 use Rattle.std.proofs.Common.{◌≡◌, ℕ, zero, suc, true, List, [], ◌∷◌, ◌++◌, map, Option, Some, IsTrue, refl, subst, slice_get}
 use Rattle.std.specs.List.{flat_map}
-use Rattle.lua_syntax.specs.Tree.{Exp}
-use Rattle.page_run.specs.Outcome.{Outcome, Jumps}
+use Rattle.lua_slots.specs.LuaSyntaxTree.{Exp}
+use Rattle.lua_slots.specs.PageRunOutcome.{Outcome, Jumps}
 use Rattle.lua_heap.specs.Proc.{proc_names}
 use Rattle.lua_heap.specs.Value.{Value, Table}
 use Rattle.lua_heap.specs.Heap.{Ref, cel}
@@ -11,12 +11,12 @@ use Rattle.lua_heap.specs.Related.{Map, Grows, Each, none, more, Same, GrowsWith
 use Rattle.lua_heap.specs.Reach.{Set, AllIn, value_names, values_names, LooksAtNames}
 use Rattle.lua_heap.proofs.Names.{all-split, all-any}
 use Rattle.lua_heap.proofs.Carried.{value-carried, values-carried}
-use Rattle.lua_meaning.specs.Scope.{Scope, Function}
-use Rattle.lua_meaning.specs.Acts.{Jump, Thing, LuaRun, Progress, Frame}
-use Rattle.lua_meaning.specs.Parts.{Target}
-use Rattle.lua_meaning.specs.Gsub.{Replacement, replacement_value, Job}
-use Rattle.lua_meaning.specs.Pending.{Pending}
-use Rattle.lua_meaning.specs.Titled.{ByTitle}
+use Rattle.lua_slots.specs.LuaMeaningScope.{Scope, Function}
+use Rattle.lua_slots.specs.LuaMeaningActs.{Jump, Thing, LuaRun, Progress, Frame}
+use Rattle.lua_library_agree.specs.LuaMeaningParts.{Target}
+use Rattle.lua_library_agree.specs.LuaMeaningGsub.{Replacement, replacement_value, Job}
+use Rattle.lua_slots.specs.LuaMeaningPending.{Pending}
+use Rattle.lua_slots.specs.LuaMeaningTitled.{ByTitle}
 use Rattle.lua_slots.specs.Code.{Place, CExp, CWorld}
 use Rattle.lua_slots.specs.Sight.{Sight}
 use Rattle.lua_slots.specs.Slots.{Activation, newest_function}

@@ -1,17 +1,17 @@
 -- TABLE CONSTRUCTORS (manual 2.5.7): fields in order, the values of the last item, and the entries that are set.
 use Rattle.std.proofs.Common.{◌≡◌, ℕ, pos, ◌+◌, List, ◌∷◌, Some, refl}
-use Rattle.lua_syntax.specs.Tree.{Exp, Fields, NoField, Item, Pair}
-use Rattle.page_run.specs.Outcome.{on_value}
+use Rattle.lua_slots.specs.LuaSyntaxTree.{Exp, Fields, NoField, Item, Pair}
+use Rattle.lua_slots.specs.PageRunOutcome.{on_value}
 use Rattle.lua_heap.specs.Value.{Value, Number, Table}
 use Rattle.lua_heap.specs.Heap.{tab}
 use Rattle.lua_heap.specs.Related.{Map, Each, none, more, Same, number, table}
-use Rattle.lua_meaning.specs.Scope.{Scope, Levels, levels}
-use Rattle.lua_meaning.specs.Values.{first}
-use Rattle.lua_meaning.specs.Acts.{State}
-use Rattle.lua_meaning.specs.Index.{set_entry}
-use Rattle.lua_meaning.specs.Constructors.{set_items, set_fields}
-use Rattle.lua_meaning.specs.Meaning.{expression, fields_of}
-use Rattle.lua_meaning.specs.World.{World}
+use Rattle.lua_slots.specs.LuaMeaningScope.{Scope, Levels, levels}
+use Rattle.lua_slots.specs.LuaMeaningValues.{first}
+use Rattle.lua_slots.specs.LuaMeaningActs.{State}
+use Rattle.lua_library_agree.specs.LuaMeaningIndex.{set_entry}
+use Rattle.lua_library_agree.specs.LuaMeaningConstructors.{set_items, set_fields}
+use Rattle.lua_library_agree.specs.LuaMeaningMeaning.{expression, fields_of}
+use Rattle.lua_slots.specs.LuaMeaningWorld.{World}
 use Rattle.lua_slots.specs.Code.{CExp, CFields, NoFieldC, ItemC, PairC, CWorld}
 use Rattle.lua_slots.specs.Sight.{Sight}
 use Rattle.lua_slots.specs.IsCode.{IsExp, IsFields}

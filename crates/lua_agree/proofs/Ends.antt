@@ -1,9 +1,9 @@
 -- THE END OF A BLOCK cuts registers, and that of a function drops it from those in progress.
 use Rattle.std.proofs.Common.{◌≡◌, ℕ, List, length, Option, sym, subst}
-use Rattle.lua_syntax.specs.Tree.{Exp}
+use Rattle.lua_slots.specs.LuaSyntaxTree.{Exp}
 use Rattle.lua_heap.specs.Related.{Map}
-use Rattle.lua_meaning.specs.Scope.{Scope}
-use Rattle.lua_meaning.specs.Acts.{State}
+use Rattle.lua_slots.specs.LuaMeaningScope.{Scope}
+use Rattle.lua_slots.specs.LuaMeaningActs.{State}
 use Rattle.lua_slots.specs.Code.{CExp, CWorld}
 use Rattle.lua_slots.specs.Slots.{Activation, Slots, cut, cut_to}
 use Rattle.lua_slots.specs.Points.{SFrame}

@@ -1,20 +1,20 @@
 -- EXPRESSIONS (manual 2.5): what begins with a node, lists, and closures that are made.
 use Rattle.std.proofs.Common.{◌≡◌, ℕ, true, false, List, [], ◌∷◌, length, Some, sym, subst}
-use Rattle.lua_syntax.specs.declared.BinaryOp.{BinaryOp}
-use Rattle.lua_syntax.specs.declared.BinaryOp.TheVariants as op
-use Rattle.lua_syntax.specs.Tree.{Exp, NilE, TrueE, FalseE, NumberE, TextE, DotsE, FunctionE, NameE, IndexE, CallE, MethodE, TableE, BinaryE, UnaryE, ParenE, Exps, NoExp, MoreExp, Fun}
-use Rattle.page_run.specs.Run.{Takes}
-use Rattle.page_run.specs.Outcome.{Goes}
+use Rattle.lua_slots.specs.LuaSyntaxDeclaredBinaryOp.{BinaryOp}
+use Rattle.lua_slots.specs.LuaSyntaxDeclaredBinaryOpTheVariants as op
+use Rattle.lua_slots.specs.LuaSyntaxTree.{Exp, NilE, TrueE, FalseE, NumberE, TextE, DotsE, FunctionE, NameE, IndexE, CallE, MethodE, TableE, BinaryE, UnaryE, ParenE, Exps, NoExp, MoreExp, Fun}
+use Rattle.lua_library_agree.specs.PageRunRun.{Takes}
+use Rattle.lua_slots.specs.PageRunOutcome.{Goes}
 use Rattle.lua_heap.specs.Value.{Value, Closure, Text}
 use Rattle.lua_heap.specs.Heap.{Function as FunctionClosed, new_closure}
 use Rattle.lua_heap.specs.Related.{Map, Grows, Each, Same, nil, truth, number, text, functions}
 use Rattle.lua_heap.proofs.Changes.{moved-new_closure, moved-new_table}
-use Rattle.lua_meaning.specs.Scope.{Scope, Function, cell_of, levels}
-use Rattle.lua_meaning.specs.Acts.{State}
-use Rattle.lua_meaning.specs.Operators.{Add, Sub, Mul, Div, Mod, Pow, Operator, Less, Greater, AtMost, AtLeast, Equal, Unequal, Concatenate, Calculate}
-use Rattle.lua_meaning.specs.Expressions.{values, variable, operation, closure}
-use Rattle.lua_meaning.specs.Meaning.{expression, expressions}
-use Rattle.lua_meaning.specs.World.{World}
+use Rattle.lua_slots.specs.LuaMeaningScope.{Scope, Function, cell_of, levels}
+use Rattle.lua_slots.specs.LuaMeaningActs.{State}
+use Rattle.lua_slots.specs.LuaMeaningOperators.{Add, Sub, Mul, Div, Mod, Pow, Operator, Less, Greater, AtMost, AtLeast, Equal, Unequal, Concatenate, Calculate}
+use Rattle.lua_library_agree.specs.LuaMeaningExpressions.{values, variable, operation, closure}
+use Rattle.lua_library_agree.specs.LuaMeaningMeaning.{expression, expressions}
+use Rattle.lua_slots.specs.LuaMeaningWorld.{World}
 use Rattle.lua_slots.specs.Code.{Place, CExp, ConstantC, TextC, DotsC, FunctionC, LocalC, GlobalC, IndexC, CallC, MethodC, TableC, AndC, OrC, OperateC, UnaryC, ParenC, CExps, NoC, MoreC, CWorld}
 use Rattle.lua_slots.specs.Sight.{Sight}
 use Rattle.lua_slots.specs.IsCode.{operator_of, IsClosure, IsExp, IsExps, IsFun}

@@ -1,14 +1,14 @@
 -- WHAT WAITS GOES ON: each frame with values, with a jump, and at the end of a block.
 use Rattle.std.proofs.Common.{◌≡◌, Bool, true, false, List, [], ◌∷◌, Option, Some, None, refl, subst}
-use Rattle.lua_syntax.specs.Tree.{Exp, MoreExp}
-use Rattle.page_run.specs.Outcome.{Goes, Jumps}
+use Rattle.lua_slots.specs.LuaSyntaxTree.{Exp, MoreExp}
+use Rattle.lua_slots.specs.PageRunOutcome.{Goes, Jumps}
 use Rattle.lua_heap.specs.Value.{Value, is_true}
 use Rattle.lua_heap.specs.Related.{Map, Each, none, Same, text}
-use Rattle.lua_meaning.specs.Scope.{Scope, levels}
-use Rattle.lua_meaning.specs.Acts.{Jump, State}
-use Rattle.lua_meaning.specs.Expressions.{unless_decided}
-use Rattle.lua_meaning.specs.Meaning.{expression}
-use Rattle.lua_meaning.specs.World.{World}
+use Rattle.lua_slots.specs.LuaMeaningScope.{Scope, levels}
+use Rattle.lua_slots.specs.LuaMeaningActs.{Jump, State}
+use Rattle.lua_library_agree.specs.LuaMeaningExpressions.{unless_decided}
+use Rattle.lua_library_agree.specs.LuaMeaningMeaning.{expression}
+use Rattle.lua_slots.specs.LuaMeaningWorld.{World}
 use Rattle.lua_slots.specs.Code.{CExp, MoreC, CWorld}
 use Rattle.lua_slots.specs.Sight.{Sight}
 use Rattle.lua_slots.specs.IsCode.{IsExp}

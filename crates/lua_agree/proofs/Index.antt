@@ -1,7 +1,7 @@
 -- READING AND SETTING an index, and their links.
 use Rattle.std.proofs.Common.{◌≡◌, ℕ, Bool, false, ◌||◌, List, [], ◌∷◌, Option, Some, None, refl, sym, ◌∙◌, subst}
 use Rattle.std.specs.Prelude.{codes}
-use Rattle.page_run.specs.Outcome.{Goes, Jumps, on_value, ◌>>◌, give, begin}
+use Rattle.lua_slots.specs.PageRunOutcome.{Goes, Jumps, on_value, ◌>>◌, give, begin}
 use Rattle.lua_heap.specs.Value.{Value, Nil, Table}
 use Rattle.lua_heap.specs.Heap.{tab, table_at, set_in}
 use Rattle.lua_heap.specs.declared.library.Library.{Library}
@@ -10,13 +10,13 @@ use Rattle.lua_heap.proofs.Entries.{nil-related, has-related}
 use Rattle.lua_heap.proofs.Steps.{one_to_one}
 use Rattle.lua_heap.proofs.Stood.{stood-table}
 use Rattle.lua_heap.proofs.Changes.{moved-set}
-use Rattle.lua_meaning.specs.Scope.{Levels}
-use Rattle.lua_meaning.specs.Acts.{Jump, State, IndexLink, SetLink}
-use Rattle.lua_meaning.specs.Messages.{nil_key, read_only}
-use Rattle.lua_meaning.specs.Calls as names_calls
-use Rattle.lua_meaning.specs.Html.{method_named, builtin_or_nil, field_of_object}
-use Rattle.lua_meaning.specs.Index.{index_by, index_table, index_all, index_link, set_entry, set_by, set_all, set_link, set_index}
-use Rattle.lua_meaning.specs.World.{World}
+use Rattle.lua_slots.specs.LuaMeaningScope.{Levels}
+use Rattle.lua_slots.specs.LuaMeaningActs.{Jump, State, IndexLink, SetLink}
+use Rattle.lua_slots.specs.LuaMeaningMessages.{nil_key, read_only}
+use Rattle.lua_library_agree.specs.LuaMeaningCalls as names_calls
+use Rattle.lua_slots.specs.LuaMeaningHtml.{method_named, builtin_or_nil, field_of_object}
+use Rattle.lua_library_agree.specs.LuaMeaningIndex.{index_by, index_table, index_all, index_link, set_entry, set_by, set_all, set_link, set_index}
+use Rattle.lua_slots.specs.LuaMeaningWorld.{World}
 use Rattle.lua_slots.specs.Code.{CWorld}
 use Rattle.lua_slots.specs.Slots.{Slots, levels_at}
 use Rattle.lua_slots.specs.Points.{IndexLinkS, SetLinkS, SFrame, Gives}

@@ -1,3 +1,4 @@
+pub use Rattle.lua_library_agree.proofs.LibraryLaws as LuaLibraryAgreeLibraryLaws
 pub mod Variables
 pub mod Carries
 pub mod Parts

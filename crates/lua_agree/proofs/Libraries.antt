@@ -1,20 +1,20 @@
 -- Functions of the library (manual 5): each does to the machine's heap what it does to the run's.
 use Rattle.std.proofs.Common.{◌≡◌, ℕ, List, Option, refl, sym, subst}
-use Rattle.page_run.specs.Outcome.{Outcome, Jumps}
+use Rattle.lua_slots.specs.PageRunOutcome.{Outcome, Jumps}
 use Rattle.lua_heap.specs.Proc.{Proc}
 use Rattle.lua_heap.specs.Value.{Value, Text}
 use Rattle.lua_heap.specs.declared.library.Library.{Library}
 use Rattle.lua_heap.specs.Related.{Map, Each, none, more, Same, nil, truth, number, text, table, closure, builtin, markup}
-use Rattle.lua_meaning.specs.Scope.{Bytes, Function, Levels}
-use Rattle.lua_meaning.specs.World.{World}
-use Rattle.lua_meaning.specs.Questions.{Asked, TemplateAsked, TextAsked, DataAsked}
-use Rattle.lua_meaning.specs.Acts.{Jump, State, Raised}
-use Rattle.lua_meaning.specs.Messages.{no_template, wrong_answer}
-use Rattle.lua_meaning.specs.FrameMethods.{FramedEnd, Framed}
-use Rattle.lua_meaning.specs.Gsub.{Alphabet, nothing_yet, GsubForm, does_gsub, gsub}
-use Rattle.lua_meaning.specs.Pending.{Pending, resumes, text_answer, template_answer, hears}
-use Rattle.lua_meaning.specs.Libraries.{Caller, Pcall, Xpcall, ToString, Pairs, Ipairs, NextPlace, Require, LoadData, StrictRead, StrictWrite, Gsub, Form, framed_end, framed_act, call_back, do_form}
-use Rattle.lua_meaning.specs.Things.{enter_library}
+use Rattle.lua_slots.specs.LuaMeaningScope.{Bytes, Function, Levels}
+use Rattle.lua_slots.specs.LuaMeaningWorld.{World}
+use Rattle.lua_slots.specs.LuaMeaningQuestions.{Asked, TemplateAsked, TextAsked, DataAsked}
+use Rattle.lua_slots.specs.LuaMeaningActs.{Jump, State, Raised}
+use Rattle.lua_slots.specs.LuaMeaningMessages.{no_template, wrong_answer}
+use Rattle.lua_library_agree.specs.LuaMeaningFrameMethods.{FramedEnd, Framed}
+use Rattle.lua_library_agree.specs.LuaMeaningGsub.{Alphabet, nothing_yet, GsubForm, does_gsub, gsub}
+use Rattle.lua_slots.specs.LuaMeaningPending.{Pending, resumes, text_answer, template_answer, hears}
+use Rattle.lua_library_agree.specs.LuaMeaningLibraries.{Caller, Pcall, Xpcall, ToString, Pairs, Ipairs, NextPlace, Require, LoadData, StrictRead, StrictWrite, Gsub, Form, framed_end, framed_act, call_back, do_form}
+use Rattle.lua_library_agree.specs.LuaMeaningThings.{enter_library}
 use Rattle.lua_library_agree.specs.Same.{SameFramedEnd, both_end, both_quote, both_ask, both_walk, SameFramed, SameForm, both_answer, both_see, both_call}
 use Rattle.lua_library_agree.specs.SameGsub.{SameGsub, alike_answers, alike_asks}
 use Rattle.lua_library_agree.proofs.GsubAgree.{gsub_agrees}

@@ -1,20 +1,20 @@
 -- LOOPS (manual 2.4.4 and 2.4.5): turns that begin, what waits for their tests and values, and how a turn ends.
 use Rattle.std.proofs.Common.{◌≡◌, ℕ, Bool, List, [], ◌∷◌, length, Option, Some, None, refl}
 use Rattle.std.specs.Prelude.{ℤ, pos, ◌+ℤ◌}
-use Rattle.lua_syntax.specs.Tree.{Exp, Block}
-use Rattle.page_run.specs.Outcome.{Goes, Jumps, on_value, ◌>>=◌, ◌>>◌, give, begin, catch}
+use Rattle.lua_slots.specs.LuaSyntaxTree.{Exp, Block}
+use Rattle.lua_slots.specs.PageRunOutcome.{Goes, Jumps, on_value, ◌>>=◌, ◌>>◌, give, begin, catch}
 use Rattle.lua_heap.specs.Value.{Value, Number, is_nil, is_true}
 use Rattle.lua_heap.specs.Related.{Map, Each, none, Same, number}
 use Rattle.lua_heap.proofs.Entries.{nil-related}
-use Rattle.lua_meaning.specs.Scope.{Bytes, Scope, levels}
-use Rattle.lua_meaning.specs.Values.{first, second, third, number_in}
-use Rattle.lua_meaning.specs.Acts.{Act, Jump, State, WhileTurn, RepeatTurn, CountTurn, EachTurn, choose}
-use Rattle.lua_meaning.specs.Messages.{no_initial_value, no_limit, no_step}
-use Rattle.lua_meaning.specs.Expressions.{value}
-use Rattle.lua_meaning.specs.Loops as meaning
-use Rattle.lua_meaning.specs.Meaning.{expression, block, exp_part, block_part}
-use Rattle.lua_meaning.specs.Things.{meaning_of}
-use Rattle.lua_meaning.specs.World.{World}
+use Rattle.lua_slots.specs.LuaMeaningScope.{Bytes, Scope, levels}
+use Rattle.lua_slots.specs.LuaMeaningValues.{first, second, third, number_in}
+use Rattle.lua_slots.specs.LuaMeaningActs.{Act, Jump, State, WhileTurn, RepeatTurn, CountTurn, EachTurn, choose}
+use Rattle.lua_slots.specs.LuaMeaningMessages.{no_initial_value, no_limit, no_step}
+use Rattle.lua_library_agree.specs.LuaMeaningExpressions.{value}
+use Rattle.lua_slots.specs.LuaMeaningLoops as meaning
+use Rattle.lua_library_agree.specs.LuaMeaningMeaning.{expression, block, exp_part, block_part}
+use Rattle.lua_library_agree.specs.LuaMeaningThings.{meaning_of}
+use Rattle.lua_slots.specs.LuaMeaningWorld.{World}
 use Rattle.lua_slots.specs.Code.{CExp, CBlock, CWorld}
 use Rattle.lua_slots.specs.Sight.{Sight, with_local, with_locals, AreAsMany}
 use Rattle.lua_slots.specs.IsCode.{any_sight, IsExp, IsBlock}

@@ -1,15 +1,15 @@
 -- From events to what a run comes to: one case for each event, whatever the language has.
 use Rattle.std.proofs.Common.{◌≡◌, ℕ, zero, suc, List, Option, Some, None, refl, ◌∙◌, ap}
-use Rattle.page_run.specs.Outcome.{Outcome}
-use Rattle.page_run.specs.State.{Reply, Event}
-use Rattle.page_run.specs.Perform.{less, give_back, perform, wait, with_steps, with_call, NoRise}
-use Rattle.page_run.proofs.Enough.{perform-Takes, perform-Counts, perform-Notes, perform-Sees, perform-Changes, perform-Calls, perform-Leaves, perform-Begins}
-use Rattle.mw_frame.specs.declared.question.Ask.{Ask}
+use Rattle.lua_slots.specs.PageRunOutcome.{Outcome}
+use Rattle.lua_slots.specs.PageRunState.{Reply, Event}
+use Rattle.lua_slots.specs.PageRunPerform.{less, give_back, perform, wait, with_steps, with_call, NoRise}
+use Rattle.lua_library_agree.proofs.PageRunEnough.{perform-Takes, perform-Counts, perform-Notes, perform-Sees, perform-Changes, perform-Calls, perform-Leaves, perform-Begins}
+use Rattle.lua_library_agree.specs.MwFrameDeclaredQuestionAsk.{Ask}
 use Rattle.lua_heap.specs.Value.{Value}
-use Rattle.lua_meaning.specs.Questions.{Answer}
-use Rattle.lua_meaning.specs.Acts.{Jump, State, LuaRun}
-use Rattle.lua_meaning.specs.World.{World}
-use Rattle.lua_meaning.specs.Things.{meaning_of}
+use Rattle.lua_slots.specs.LuaMeaningQuestions.{Answer}
+use Rattle.lua_slots.specs.LuaMeaningActs.{Jump, State, LuaRun}
+use Rattle.lua_slots.specs.LuaMeaningWorld.{World}
+use Rattle.lua_library_agree.specs.LuaMeaningThings.{meaning_of}
 use Rattle.lua_slots.specs.Code.{CWorld}
 use Rattle.lua_slots.specs.Points.{Move}
 use Rattle.lua_slots.specs.Enact as money

@@ -1,27 +1,27 @@
 -- Modules (manual 5.3; Scribunto, "require" and mw.loadData).
 use Rattle.std.proofs.Common.{◌≡◌, ℕ, true, List, [], ◌∷◌, Option, Some, None, Result, refl, sym, ap, subst, bytes_eq}
 use Rattle.std.specs.Prelude.{Ok, Err, codes}
-use Rattle.wk_base.specs.declared.title.Title.{Title}
-use Rattle.wk_base.specs.declared.title.Namespace.TheVariants.{Main}
-use Rattle.wk_base.specs.declared.title_read.TitleFault.{TitleFault}
-use Rattle.wk_base.specs.Titles.{title_text, title_of}
-use Rattle.mw_frame.specs.declared.question.Ask.TheVariants.{Data}
-use Rattle.lua_syntax.specs.declared.fault.FaultAt.{FaultAt}
-use Rattle.lua_syntax.specs.Tree.{Block}
-use Rattle.page_run.specs.Outcome.{Outcome, Jumps}
+use Rattle.lua_slots.specs.WkBaseDeclaredTitleTitle.{Title}
+use Rattle.lua_slots.specs.WkBaseDeclaredTitleNamespaceTheVariants.{Main}
+use Rattle.lua_slots.specs.WkBaseDeclaredTitleReadTitleFault.{TitleFault}
+use Rattle.lua_slots.specs.WkBaseTitles.{title_text, title_of}
+use Rattle.lua_slots.specs.MwFrameDeclaredQuestionAskTheVariants.{Data}
+use Rattle.lua_slots.specs.LuaSyntaxDeclaredFaultFaultAt.{FaultAt}
+use Rattle.lua_slots.specs.LuaSyntaxTree.{Block}
+use Rattle.lua_slots.specs.PageRunOutcome.{Outcome, Jumps}
 use Rattle.lua_heap.specs.Value.{Value, Truth, Text, is_nil}
 use Rattle.lua_heap.specs.Related.{Map, Each, none, more, SameOption, neither, both, Same, nil, truth, number, text, table, closure, builtin, markup}
 use Rattle.lua_heap.proofs.Entries.{nil-related}
-use Rattle.lua_meaning.specs.Scope.{Bytes, Levels}
-use Rattle.lua_meaning.specs.World.{Module, World}
-use Rattle.lua_meaning.specs.Titled.{Titled, ByTitle, same_title, item_of, with_item, without_item}
-use Rattle.lua_meaning.specs.Questions.{DataAsked}
-use Rattle.lua_meaning.specs.Acts.{Jump, State, Raised, Progress, ChunkBody}
-use Rattle.lua_meaning.specs.Messages.{no_module, loop_in_require, no_data_module, undeclared_variable, undeclared_target, wrong_answer}
-use Rattle.lua_meaning.specs.Values.{second}
-use Rattle.lua_meaning.specs.CallBacks.{text_of}
-use Rattle.lua_meaning.specs.Modules.{begin_chunk, run_chunk, value_or_true, module_answer, run_module, require_as, require_module, require_strict, require_titled, require_text, require, strict_index, strict_new_index, data_answer, load_as, load_titled, load_data}
-use Rattle.lua_meaning.specs.Pending.{ModuleWaits}
+use Rattle.lua_slots.specs.LuaMeaningScope.{Bytes, Levels}
+use Rattle.lua_slots.specs.LuaMeaningWorld.{Module, World}
+use Rattle.lua_slots.specs.LuaMeaningTitled.{Titled, ByTitle, same_title, item_of, with_item, without_item}
+use Rattle.lua_slots.specs.LuaMeaningQuestions.{DataAsked}
+use Rattle.lua_slots.specs.LuaMeaningActs.{Jump, State, Raised, Progress, ChunkBody}
+use Rattle.lua_slots.specs.LuaMeaningMessages.{no_module, loop_in_require, no_data_module, undeclared_variable, undeclared_target, wrong_answer}
+use Rattle.lua_slots.specs.LuaMeaningValues.{second}
+use Rattle.lua_slots.specs.LuaMeaningCallBacks.{text_of}
+use Rattle.lua_slots.specs.LuaMeaningModules.{begin_chunk, run_chunk, value_or_true, module_answer, run_module, require_as, require_module, require_strict, require_titled, require_text, require, strict_index, strict_new_index, data_answer, load_as, load_titled, load_data}
+use Rattle.lua_slots.specs.LuaMeaningPending.{ModuleWaits}
 use Rattle.lua_library_agree.proofs.Values.{second-same, text_of-same, a_text-same}
 use Rattle.lua_library_agree.proofs.Heaps.{chosen}
 use Rattle.lua_library_agree.proofs.LibraryLaws.{strict_agrees}

@@ -1,11 +1,11 @@
 -- THINGS, and every point: what a machine does next follows the run.
 use Rattle.std.proofs.Common.{List}
-use Rattle.page_run.specs.Outcome.{Goes, Jumps}
+use Rattle.lua_slots.specs.PageRunOutcome.{Goes, Jumps}
 use Rattle.lua_heap.specs.Value.{Value}
 use Rattle.lua_heap.specs.Related.{Map}
-use Rattle.lua_meaning.specs.Acts.{State, Thing}
-use Rattle.lua_meaning.specs.World.{World}
-use Rattle.lua_meaning.specs.Things.{meaning_of}
+use Rattle.lua_slots.specs.LuaMeaningActs.{State, Thing}
+use Rattle.lua_slots.specs.LuaMeaningWorld.{World}
+use Rattle.lua_library_agree.specs.LuaMeaningThings.{meaning_of}
 use Rattle.lua_slots.specs.Code.{CWorld}
 use Rattle.lua_slots.specs.IsCode.{Agrees}
 use Rattle.lua_slots.specs.Slots.{Slots}

@@ -1,25 +1,25 @@
 -- OPERATORS on values, and the handlers of operands.
 use Rattle.std.proofs.Common.{◌≡◌, ℕ, ℤ, Bool, true, false, List, [], ◌∷◌, Option, Some, None, refl, subst}
 use Rattle.std.specs.Prelude.{codes, not, Result, Ok, Err, int_lt, int_le}
-use Rattle.lua_syntax.specs.declared.UnaryOp.{UnaryOp}
-use Rattle.lua_syntax.specs.declared.UnaryOp.TheVariants as sign
-use Rattle.lua_number.specs.declared.arithmetic.NumberFault.{NumberFault}
-use Rattle.lua_number.specs.Whole.{negative_of}
+use Rattle.lua_slots.specs.LuaSyntaxDeclaredUnaryOp.{UnaryOp}
+use Rattle.lua_slots.specs.LuaSyntaxDeclaredUnaryOpTheVariants as sign
+use Rattle.lua_slots.specs.LuaNumberDeclaredArithmeticNumberFault.{NumberFault}
+use Rattle.lua_slots.specs.LuaNumberWhole.{negative_of}
 use Rattle.lua_heap.specs.Value.{Value, is_true}
 use Rattle.lua_heap.specs.Related.{Map, Same, truth, number, text, table}
 use Rattle.lua_heap.proofs.Entries.{nil-related, same-related, border-related}
 use Rattle.lua_heap.proofs.Steps.{one_to_one}
 use Rattle.lua_heap.proofs.Stood.{stood-table}
-use Rattle.page_run.specs.Outcome.{Goes, ◌>>=◌, give}
-use Rattle.lua_meaning.specs.Scope.{Bytes, Levels}
-use Rattle.lua_meaning.specs.Values.{number_in, text_in}
-use Rattle.lua_meaning.specs.Acts.{State, one}
-use Rattle.lua_meaning.specs.Messages.{fail, cannot_calculate, cannot_concatenate, cannot_compare}
-use Rattle.lua_meaning.specs.Metatables.{common_handler}
-use Rattle.lua_meaning.specs.Calls.{call}
-use Rattle.lua_meaning.specs.Operators.{Arithmetic, Operator, Less, Greater, AtMost, AtLeast, Equal, Unequal, Concatenate, Calculate, result_of, event, number_or_fail, by_handler, by_either, calculate, negate, join_texts, length_of, truth_by, equals, text_less, order_texts, less_by, less, not_less_by, at_most_by, at_most, operate}
-use Rattle.lua_meaning.specs.Expressions.{apply}
-use Rattle.lua_meaning.specs.World.{World}
+use Rattle.lua_slots.specs.PageRunOutcome.{Goes, ◌>>=◌, give}
+use Rattle.lua_slots.specs.LuaMeaningScope.{Bytes, Levels}
+use Rattle.lua_slots.specs.LuaMeaningValues.{number_in, text_in}
+use Rattle.lua_slots.specs.LuaMeaningActs.{State, one}
+use Rattle.lua_slots.specs.LuaMeaningMessages.{fail, cannot_calculate, cannot_concatenate, cannot_compare}
+use Rattle.lua_slots.specs.LuaMeaningMetatables.{common_handler}
+use Rattle.lua_library_agree.specs.LuaMeaningCalls.{call}
+use Rattle.lua_slots.specs.LuaMeaningOperators.{Arithmetic, Operator, Less, Greater, AtMost, AtLeast, Equal, Unequal, Concatenate, Calculate, result_of, event, number_or_fail, by_handler, by_either, calculate, negate, join_texts, length_of, truth_by, equals, text_less, order_texts, less_by, less, not_less_by, at_most_by, at_most, operate}
+use Rattle.lua_library_agree.specs.LuaMeaningExpressions.{apply}
+use Rattle.lua_slots.specs.LuaMeaningWorld.{World}
 use Rattle.lua_slots.specs.Code.{CWorld}
 use Rattle.lua_slots.specs.Slots.{Slots, levels_at}
 use Rattle.lua_slots.specs.Points.{SFrame}

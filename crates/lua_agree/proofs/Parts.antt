@@ -1,8 +1,8 @@
 -- What moves are made of: values and jumps for what follows, errors, handlers, calls.
 use Rattle.std.proofs.Common.{◌≡◌, ◌∙◌, IsTrue, ℕ, zero, suc, Bool, true, false, List, [], ◌∷◌, ◌++◌, length, drop, Option, Some, None, refl, sym, subst, ap}
 use Rattle.std.specs.Prelude.{codes, if◌then◌else◌}
-use Rattle.page_run.specs.Outcome.{Outcome, Goes, Jumps}
-use Rattle.lua_table.specs.Entries.{Contents}
+use Rattle.lua_slots.specs.PageRunOutcome.{Outcome, Goes, Jumps}
+use Rattle.lua_heap.specs.LuaTableEntries.{Contents}
 use Rattle.lua_heap.specs.Proc.{Proc}
 use Rattle.lua_heap.specs.Value.{Value, Closure, is_true}
 use Rattle.lua_heap.specs.Heap.{Heap, tab, Obj, TableObj, Closed, table_at, closure_at}
@@ -11,15 +11,15 @@ use Rattle.lua_heap.specs.Related.{Map, Each, none, more, Same, nil, truth, text
 use Rattle.lua_heap.proofs.Entries.{nil-related, get-related, same-related}
 use Rattle.lua_heap.proofs.Steps.{one_to_one, later-then}
 use Rattle.lua_heap.proofs.Stood.{look-table, stood-table, stood-closure}
-use Rattle.lua_meaning.specs.Scope.{Bytes, Place as TextPlace, Function, Levels}
-use Rattle.lua_meaning.specs.Values.{first, rest, second, third, is_function, number_in, text_in, kind_of}
-use Rattle.lua_meaning.specs.CallBacks.{text_of}
-use Rattle.lua_meaning.specs.Acts.{Act, Jump, State, Body, LibraryBody, CallLink, LuaRun, Progress, Frame, choose}
-use Rattle.lua_meaning.specs.Titled.{ByTitle}
-use Rattle.lua_meaning.specs.Messages.{nth_level, raise_text, fail, raise_quote, fail_quoting, cannot_call}
-use Rattle.lua_meaning.specs.Metatables.{field, handler, either_handler, common_handler}
-use Rattle.lua_meaning.specs.Calls.{enter, call_by, call}
-use Rattle.lua_meaning.specs.World.{World}
+use Rattle.lua_slots.specs.LuaMeaningScope.{Bytes, Place as TextPlace, Function, Levels}
+use Rattle.lua_slots.specs.LuaMeaningValues.{first, rest, second, third, is_function, number_in, text_in, kind_of}
+use Rattle.lua_slots.specs.LuaMeaningCallBacks.{text_of}
+use Rattle.lua_slots.specs.LuaMeaningActs.{Act, Jump, State, Body, LibraryBody, CallLink, LuaRun, Progress, Frame, choose}
+use Rattle.lua_slots.specs.LuaMeaningTitled.{ByTitle}
+use Rattle.lua_slots.specs.LuaMeaningMessages.{nth_level, raise_text, fail, raise_quote, fail_quoting, cannot_call}
+use Rattle.lua_slots.specs.LuaMeaningMetatables.{field, handler, either_handler, common_handler}
+use Rattle.lua_library_agree.specs.LuaMeaningCalls.{enter, call_by, call}
+use Rattle.lua_slots.specs.LuaMeaningWorld.{World}
 use Rattle.lua_slots.specs.Code.{CWorld}
 use Rattle.lua_slots.specs.Slots.{Activation, Slots, levels_at}
 use Rattle.lua_slots.specs.Points.{BodyS, LibraryS, CallLinkS, SFrame, Point, Gives, Move, Now}

@@ -3,7 +3,7 @@ use Rattle.std.proofs.Common.{◌≡◌, ℕ, zero, suc, Bool, true, false, List
 use Rattle.std.specs.Prelude.{bytes_eq, if◌then◌else◌}
 use Rattle.std.specs.Option.{option_map}
 use Rattle.std.proofs.lemmas.Slice.Eq.{bytes_eq-Decides}
-use Rattle.page_run.specs.Outcome.{Goes}
+use Rattle.lua_slots.specs.PageRunOutcome.{Goes}
 use Rattle.lua_heap.specs.Proc.{Proc}
 use Rattle.lua_heap.specs.Value.{Value}
 use Rattle.lua_heap.specs.Heap.{Heap, Ref, cel, Obj, CellObj, look, cell_at, set_cell_in, new_cell}
@@ -14,13 +14,13 @@ use Rattle.lua_heap.proofs.LookLaws.{look-new, look-fresh}
 use Rattle.lua_heap.proofs.Steps.{moved-add_first, later-then, later-put_first}
 use Rattle.lua_heap.proofs.Stood.{look-cell, stood-cell}
 use Rattle.lua_heap.proofs.Changes.{moved-set_cell, moved-new_cell}
-use Rattle.lua_meaning.specs.Scope.{Bytes, Scope, Function, Levels, cell_of, with_name}
-use Rattle.lua_meaning.specs.Values.{first, rest}
-use Rattle.lua_meaning.specs.Acts.{State, declare}
-use Rattle.lua_meaning.specs.Parts.{Local}
-use Rattle.lua_meaning.specs.Statements.{assign_one}
-use Rattle.lua_meaning.specs.Expressions.{variable}
-use Rattle.lua_meaning.specs.World.{World}
+use Rattle.lua_slots.specs.LuaMeaningScope.{Bytes, Scope, Function, Levels, cell_of, with_name}
+use Rattle.lua_slots.specs.LuaMeaningValues.{first, rest}
+use Rattle.lua_slots.specs.LuaMeaningActs.{State, declare}
+use Rattle.lua_library_agree.specs.LuaMeaningParts.{Local}
+use Rattle.lua_library_agree.specs.LuaMeaningStatements.{assign_one}
+use Rattle.lua_library_agree.specs.LuaMeaningExpressions.{variable}
+use Rattle.lua_slots.specs.LuaMeaningWorld.{World}
 use Rattle.lua_slots.specs.Code.{Place, Reg, Box, Up, CWorld}
 use Rattle.lua_slots.specs.Sight.{Sighted, Everywhere, Here, Hidden, Sight, newest, deeper, with_local, with_locals, AreAsMany, up_of}
 use Rattle.lua_slots.specs.IsCode.{is_plain, IsCaptured}

@@ -3,11 +3,11 @@ use Rattle.std.proofs.Common.{◌≡◌, ℕ, List, Option, sym, subst}
 use Rattle.lua_heap.specs.Proc.{Proc}
 use Rattle.lua_heap.specs.Value.{Value}
 use Rattle.lua_heap.specs.Related.{Map, Same, nil, truth, number, text, table, closure, builtin, markup}
-use Rattle.lua_meaning.specs.Scope.{Place as TextPlace, Function, Levels}
-use Rattle.lua_meaning.specs.World.{World}
-use Rattle.lua_meaning.specs.Acts.{State}
-use Rattle.lua_meaning.specs.Messages.{place_at, raise_at}
-use Rattle.lua_meaning.specs.Arguments.{Plain, PlainEnd, plain_act, end_act}
+use Rattle.lua_slots.specs.LuaMeaningScope.{Place as TextPlace, Function, Levels}
+use Rattle.lua_slots.specs.LuaMeaningWorld.{World}
+use Rattle.lua_slots.specs.LuaMeaningActs.{State}
+use Rattle.lua_slots.specs.LuaMeaningMessages.{place_at, raise_at}
+use Rattle.lua_slots.specs.LuaMeaningArguments.{Plain, PlainEnd, plain_act, end_act}
 use Rattle.lua_library_agree.specs.Same.{SameEnd, both_give, both_fail, SamePlain}
 use Rattle.lua_slots.specs.Code.{CWorld}
 use Rattle.lua_slots.specs.Slots.{Slots, levels_at}

@@ -1,13 +1,13 @@
 -- `gsub` with a table or a function (manual 5.4): each match is asked for alike, and what waits for it goes on alike.
 use Rattle.std.proofs.Common.{◌≡◌, ℕ, zero, suc, List, [], ◌∷◌, length, Option, None, refl}
-use Rattle.page_run.specs.Outcome.{Outcome, ◌>>◌, tick}
+use Rattle.lua_slots.specs.PageRunOutcome.{Outcome, ◌>>◌, tick}
 use Rattle.lua_heap.specs.Value.{Value}
 use Rattle.lua_heap.specs.Related.{Map, Each, Same, nil, truth, number, text, table, closure, builtin, markup}
-use Rattle.lua_meaning.specs.Scope.{Bytes, Levels}
-use Rattle.lua_meaning.specs.Acts.{Jump, State}
-use Rattle.lua_meaning.specs.World.{World}
-use Rattle.lua_meaning.specs.Gsub.{Replacement, Job, Far, Search, replacement_given, with_piece, finish, asks, asks_on, goes, gsub_answer}
-use Rattle.lua_meaning.specs.Pending.{Pending, GsubWaits, resumes}
+use Rattle.lua_slots.specs.LuaMeaningScope.{Bytes, Levels}
+use Rattle.lua_slots.specs.LuaMeaningActs.{Jump, State}
+use Rattle.lua_slots.specs.LuaMeaningWorld.{World}
+use Rattle.lua_library_agree.specs.LuaMeaningGsub.{Replacement, Job, Far, Search, replacement_given, with_piece, finish, asks, asks_on, goes, gsub_answer}
+use Rattle.lua_slots.specs.LuaMeaningPending.{Pending, GsubWaits, resumes}
 use Rattle.lua_library_agree.specs.SameGsub.{SameReplacement, same_text, same_table, same_function, SameJob, same_job, replacing_of, SameSearch, no_match, same_match}
 use Rattle.lua_library_agree.proofs.GsubAgree.{job-by, searches_agree}
 use Rattle.lua_slots.specs.Code.{CWorld}

@@ -1,26 +1,26 @@
 -- A whole run (Scribunto, "Invoking modules" and mw.loadData): its start, its answer, and its end.
 use Rattle.std.proofs.Common.{◌≡◌, List, [], ◌∷◌, ◌++◌, Option, Some, None, refl, ◌∙◌, ap, subst}
 use Rattle.std.specs.Prelude.{codes}
-use Rattle.wk_base.specs.declared.title.Title.{Title}
-use Rattle.wk_base.specs.Titles.{title_text}
-use Rattle.page_run.specs.Run.{Ends}
-use Rattle.page_run.specs.Outcome.{Outcome, Goes, Jumps, on_value, give, ◌>>=◌}
-use Rattle.mw_html.specs.Render.{Piece, Whole, Deep}
-use Rattle.mw_html.proofs.Renumbered.{stands_is_rendered}
+use Rattle.lua_slots.specs.WkBaseDeclaredTitleTitle.{Title}
+use Rattle.lua_slots.specs.WkBaseTitles.{title_text}
+use Rattle.lua_library_agree.specs.PageRunRun.{Ends}
+use Rattle.lua_slots.specs.PageRunOutcome.{Outcome, Goes, Jumps, on_value, give, ◌>>=◌}
+use Rattle.lua_slots.specs.MwHtmlRender.{Piece, Whole, Deep}
+use Rattle.lua_library_agree.proofs.MwHtmlRenumbered.{stands_is_rendered}
 use Rattle.lua_heap.specs.Value.{Value}
 use Rattle.lua_heap.specs.Related.{Map, Each, none, more, Same, nil, truth, number, text, table, closure, builtin, markup}
 use Rattle.lua_heap.proofs.Entries.{nil-related}
-use Rattle.lua_meaning.specs.Scope.{Bytes}
-use Rattle.lua_meaning.specs.World.{Module, World}
-use Rattle.lua_meaning.specs.Values.{first, text_in}
-use Rattle.lua_meaning.specs.Acts.{Jump, State, Unmade}
-use Rattle.lua_meaning.specs.Messages.{no_data_module}
-use Rattle.lua_meaning.specs.Metatables.{handler}
-use Rattle.lua_meaning.specs.Html.{nested_too_deeply}
-use Rattle.lua_meaning.specs.Calls.{call}
-use Rattle.lua_meaning.specs.Frames.{frame_table}
-use Rattle.lua_meaning.specs.CallBacks.{text_of, string_or_fail}
-use Rattle.lua_meaning.specs.Start.{Work, Invoke, DataOf, Failed, text_by, whole_or_fail, rendered, answer_text, answer_texts, answer, shown_error, error_text, invoke_function, invoke_in, data_value, run_data_module, invoke_outcome, data_outcome, run_of}
+use Rattle.lua_slots.specs.LuaMeaningScope.{Bytes}
+use Rattle.lua_slots.specs.LuaMeaningWorld.{Module, World}
+use Rattle.lua_slots.specs.LuaMeaningValues.{first, text_in}
+use Rattle.lua_slots.specs.LuaMeaningActs.{Jump, State, Unmade}
+use Rattle.lua_slots.specs.LuaMeaningMessages.{no_data_module}
+use Rattle.lua_slots.specs.LuaMeaningMetatables.{handler}
+use Rattle.lua_slots.specs.LuaMeaningHtml.{nested_too_deeply}
+use Rattle.lua_library_agree.specs.LuaMeaningCalls.{call}
+use Rattle.lua_slots.specs.LuaMeaningFrames.{frame_table}
+use Rattle.lua_slots.specs.LuaMeaningCallBacks.{text_of, string_or_fail}
+use Rattle.lua_slots.specs.LuaMeaningStart.{Work, Invoke, DataOf, Failed, text_by, whole_or_fail, rendered, answer_text, answer_texts, answer, shown_error, error_text, invoke_function, invoke_in, data_value, run_data_module, invoke_outcome, data_outcome, run_of}
 use Rattle.lua_library_agree.proofs.LibraryLaws.{made_frames_agree}
 use Rattle.lua_slots.specs.Code.{CModule, CWorld}
 use Rattle.lua_slots.specs.IsCode.{IsModule, Agrees}

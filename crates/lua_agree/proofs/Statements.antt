@@ -1,20 +1,20 @@
 -- STATEMENTS AND BLOCKS: what begins with a node of theirs, what waits in them, and how blocks and bodies end.
 use Rattle.std.proofs.Common.{◌≡◌, ℕ, Bool, List, [], ◌∷◌, ◌++◌, length, reverse, Option, Some, None, refl, sym, subst}
 use Rattle.std.proofs.lemmas.List.{reverse-append}
-use Rattle.lua_syntax.specs.Tree.{Exp, NameE, IndexE, Exps, NoExp, MoreExp, Fun, Arms, NoArm, Arm, Block, NoStat, MoreStat, Stat, AssignS, CallS, DoS, WhileS, RepeatS, IfS, IfElseS, CountS, CountByS, EachS, LocalFunctionS, LocalS, ReturnS, BreakS}
-use Rattle.page_run.specs.Outcome.{Goes, Jumps, on_value, ◌>>=◌, ◌>>◌, give, jump}
+use Rattle.lua_slots.specs.LuaSyntaxTree.{Exp, NameE, IndexE, Exps, NoExp, MoreExp, Fun, Arms, NoArm, Arm, Block, NoStat, MoreStat, Stat, AssignS, CallS, DoS, WhileS, RepeatS, IfS, IfElseS, CountS, CountByS, EachS, LocalFunctionS, LocalS, ReturnS, BreakS}
+use Rattle.lua_slots.specs.PageRunOutcome.{Goes, Jumps, on_value, ◌>>=◌, ◌>>◌, give, jump}
 use Rattle.lua_heap.specs.Value.{Value, Nil, is_true}
 use Rattle.lua_heap.specs.Heap.{new_cell}
 use Rattle.lua_heap.specs.Related.{Map, Each, none, more, Same, nil, text, table}
-use Rattle.lua_meaning.specs.Scope.{Bytes, Scope, Levels, cell_of, levels, with_name}
-use Rattle.lua_meaning.specs.Acts.{Jump, Returned, State, choose, write_cell, declare}
-use Rattle.lua_meaning.specs.Messages.{no_target}
-use Rattle.lua_meaning.specs.Parts.{Target, Entry}
-use Rattle.lua_meaning.specs.Expressions.{value, name_target}
-use Rattle.lua_meaning.specs.Statements as meaning
-use Rattle.lua_meaning.specs.Meaning.{expression, targets_of, statement, block, branches_of}
-use Rattle.lua_meaning.specs.Things.{after_body}
-use Rattle.lua_meaning.specs.World.{World}
+use Rattle.lua_slots.specs.LuaMeaningScope.{Bytes, Scope, Levels, cell_of, levels, with_name}
+use Rattle.lua_slots.specs.LuaMeaningActs.{Jump, Returned, State, choose, write_cell, declare}
+use Rattle.lua_slots.specs.LuaMeaningMessages.{no_target}
+use Rattle.lua_library_agree.specs.LuaMeaningParts.{Target, Entry}
+use Rattle.lua_library_agree.specs.LuaMeaningExpressions.{value, name_target}
+use Rattle.lua_library_agree.specs.LuaMeaningStatements as meaning
+use Rattle.lua_library_agree.specs.LuaMeaningMeaning.{expression, targets_of, statement, block, branches_of}
+use Rattle.lua_library_agree.specs.LuaMeaningThings.{after_body}
+use Rattle.lua_slots.specs.LuaMeaningWorld.{World}
 use Rattle.lua_slots.specs.Code.{Place, CExp, CExps, CTarget, PlaceC, GlobalTargetC, EntryC, RefusedC, CArms, NoArmC, ArmC, CWorld}
 use Rattle.lua_slots.specs.Code.{CStat, AssignC, CallStatC, DoC, WhileC, RepeatC, IfC, IfElseC, CountC, CountByC, EachC, ReturnC, BreakC, CBlock, EndC, DeclareC, LocalFunctionC, ThenC}
 use Rattle.lua_slots.specs.Sight.{Sight, newest, with_local, with_locals, AreAsMany}

@@ -8,7 +8,7 @@ use Rattle.lua_heap.proofs.Carried.{same-grows}
 use Rattle.lua_heap.proofs.Places.{clash}
 use Rattle.lua_heap.proofs.LookLaws.{look-put, look-put_other}
 use Rattle.lua_heap.specs.Proc.{Proc}
-use Rattle.lua_meaning.specs.Scope.{Function}
+use Rattle.lua_slots.specs.LuaMeaningScope.{Function}
 use Rattle.lua_slots.specs.Code.{CWorld}
 use Rattle.lua_slots.specs.Slots.{Slot, Plain, Boxed, cut_to}
 use Rattle.lua_agree.specs.Variables.{Var, plain, boxed, IsNew, Vars, vnone, vplain, vboxed, Opens, as_many, one_more}

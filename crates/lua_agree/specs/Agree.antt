@@ -1,23 +1,23 @@
 -- WHEN A MACHINE OVER SLOTS STANDS WHERE A RUN OVER NAMES STANDS: things that begin, points, and what both hold.
 use Rattle.std.specs.Prelude.{◌≡◌, ℕ, ℤ, Bool, false, List, [], Option, Some, None}
-use Rattle.lua_syntax.specs.Tree.{Exp, Exps, Block}
-use Rattle.page_run.specs.Run.{Begins, Asks}
-use Rattle.page_run.specs.Outcome.{Outcome, Goes, Jumps, on_value, give}
-use Rattle.mw_frame.specs.declared.question.Ask.{Ask}
+use Rattle.lua_slots.specs.LuaSyntaxTree.{Exp, Exps, Block}
+use Rattle.lua_library_agree.specs.PageRunRun.{Begins, Asks}
+use Rattle.lua_slots.specs.PageRunOutcome.{Outcome, Goes, Jumps, on_value, give}
+use Rattle.lua_library_agree.specs.MwFrameDeclaredQuestionAsk.{Ask}
 use Rattle.lua_heap.specs.Proc.{Proc}
 use Rattle.lua_heap.specs.Value.{Value}
 use Rattle.lua_heap.specs.declared.library.Library.{Library}
 use Rattle.lua_heap.specs.Heap.{Heap, tab, table_at}
 use Rattle.lua_heap.specs.Related.{Map, Each, Same, Stands, Later}
-use Rattle.lua_meaning.specs.Scope.{Bytes, Function, Scope, Levels}
-use Rattle.lua_meaning.specs.Acts.{Jump, State, Thing, WhileTurn, RepeatTurn, CountTurn, EachTurn, Body, LibraryBody, ChunkBody, IndexLink, SetLink, CallLink, LuaRun}
-use Rattle.lua_meaning.specs.World.{World}
-use Rattle.lua_meaning.specs.Parts.{Target}
-use Rattle.lua_meaning.specs.Expressions.{values}
-use Rattle.lua_meaning.specs.Statements.{targets, assign_each}
-use Rattle.lua_meaning.specs.Meaning.{expression, expressions, targets_of, block}
-use Rattle.lua_meaning.specs.Waiting.{receive}
-use Rattle.lua_meaning.specs.Start.{Work, answer_texts, run_of}
+use Rattle.lua_slots.specs.LuaMeaningScope.{Bytes, Function, Scope, Levels}
+use Rattle.lua_slots.specs.LuaMeaningActs.{Jump, State, Thing, WhileTurn, RepeatTurn, CountTurn, EachTurn, Body, LibraryBody, ChunkBody, IndexLink, SetLink, CallLink, LuaRun}
+use Rattle.lua_slots.specs.LuaMeaningWorld.{World}
+use Rattle.lua_library_agree.specs.LuaMeaningParts.{Target}
+use Rattle.lua_library_agree.specs.LuaMeaningExpressions.{values}
+use Rattle.lua_library_agree.specs.LuaMeaningStatements.{targets, assign_each}
+use Rattle.lua_library_agree.specs.LuaMeaningMeaning.{expression, expressions, targets_of, block}
+use Rattle.lua_library_agree.specs.LuaMeaningWaiting.{receive}
+use Rattle.lua_slots.specs.LuaMeaningStart.{Work, answer_texts, run_of}
 use Rattle.lua_slots.specs.Code.{CExp, CExps, CTarget, CBlock, CProto, CWorld}
 use Rattle.lua_slots.specs.Sight.{Sight, with_local, with_locals, AreAsMany}
 use Rattle.lua_slots.specs.IsCode.{any_sight, IsExp, IsExps, IsTargets, IsBlock, IsText, Agrees}

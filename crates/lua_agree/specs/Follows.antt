@@ -1,12 +1,12 @@
 -- A MOVE FOLLOWS A RUN: from a state on, the run over names has the events of the move, one by one, and then stands where the
 -- machine stands. That it sees and changes its state, and what it notes, are events of the run alone.
 use Rattle.std.specs.Prelude.{ℕ, List}
-use Rattle.page_run.specs.Run.{Takes, Counts, Notes, Sees, Changes, Calls, Leaves, Begins}
+use Rattle.lua_library_agree.specs.PageRunRun.{Takes, Counts, Notes, Sees, Changes, Calls, Leaves, Begins}
 use Rattle.lua_heap.specs.Value.{Value}
 use Rattle.lua_heap.specs.Related.{Map}
-use Rattle.lua_meaning.specs.Acts.{State, Thing, LuaRun}
-use Rattle.lua_meaning.specs.World.{World}
-use Rattle.lua_meaning.specs.Things.{meaning_of}
+use Rattle.lua_slots.specs.LuaMeaningActs.{State, Thing, LuaRun}
+use Rattle.lua_slots.specs.LuaMeaningWorld.{World}
+use Rattle.lua_library_agree.specs.LuaMeaningThings.{meaning_of}
 use Rattle.lua_slots.specs.Code.{CWorld}
 use Rattle.lua_slots.specs.Slots.{Slots}
 use Rattle.lua_slots.specs.Points.{Point, Move, Costs, Marks, Enters, Exits, Now}

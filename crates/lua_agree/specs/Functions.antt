@@ -1,12 +1,12 @@
 -- A FUNCTION of a run over names, and one of a machine (manual 2.5.9, 2.6): code is found under its number, and what it captures stands for
 -- the cells of its names.
 use Rattle.std.specs.Prelude.{◌≡◌, ℕ, List, [], Option, Some, None}
-use Rattle.lua_syntax.specs.Tree.{Exp, Block, Fields, NoField}
+use Rattle.lua_slots.specs.LuaSyntaxTree.{Exp, Block, Fields, NoField}
 use Rattle.lua_heap.specs.Proc.{Proc}
 use Rattle.lua_heap.specs.Related.{Map}
-use Rattle.lua_meaning.specs.Scope.{Bytes, Function, cell_of}
-use Rattle.lua_meaning.specs.Parts.{Expression, Statement}
-use Rattle.lua_meaning.specs.Meaning.{expression, block}
+use Rattle.lua_slots.specs.LuaMeaningScope.{Bytes, Function, cell_of}
+use Rattle.lua_library_agree.specs.LuaMeaningParts.{Expression, Statement}
+use Rattle.lua_library_agree.specs.LuaMeaningMeaning.{expression, block}
 use Rattle.lua_slots.specs.Code.{Up, CExp, CBlock, CFields, CProto, Protos, CWorld}
 use Rattle.lua_slots.specs.Sight.{Sight, Everywhere, up_of, inside}
 use Rattle.lua_slots.specs.IsCode.{EndSight, any_sight, IsExp, IsFields, IsFun, IsBlock}

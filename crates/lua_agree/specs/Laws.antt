@@ -1,8 +1,8 @@
 -- THE LAWS of the simulation, over any world and any code of its modules.
 use Rattle.std.specs.Prelude.{List}
 use Rattle.lua_heap.specs.Related.{Map}
-use Rattle.lua_meaning.specs.Acts.{State, LuaRun}
-use Rattle.lua_meaning.specs.World.{World}
+use Rattle.lua_slots.specs.LuaMeaningActs.{State, LuaRun}
+use Rattle.lua_slots.specs.LuaMeaningWorld.{World}
 use Rattle.lua_slots.specs.Code.{CWorld}
 use Rattle.lua_slots.specs.IsCode.{Agrees}
 use Rattle.lua_slots.specs.Slots.{Slots}

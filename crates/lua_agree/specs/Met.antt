@@ -1,18 +1,18 @@
 -- WHERE A MOVE LEAVES A RUN: whatever replies are still to come, the run from here comes to what it comes to from the point where the
 -- machine then stands; or it is spent as the machine is.
 use Rattle.std.specs.Prelude.{◌≡◌, List}
-use Rattle.page_run.specs.declared.which.Which.{Which}
-use Rattle.page_run.specs.Outcome.{Outcome}
-use Rattle.page_run.specs.State as run
-use Rattle.page_run.specs.State.{Reply, Event, Spent, Moment}
-use Rattle.page_run.specs.Perform.{perform, wait}
-use Rattle.mw_frame.specs.declared.question.Ask.{Ask}
+use Rattle.lua_slots.specs.PageRunDeclaredWhichWhich.{Which}
+use Rattle.lua_slots.specs.PageRunOutcome.{Outcome}
+use Rattle.lua_slots.specs.PageRunState as run
+use Rattle.lua_slots.specs.PageRunState.{Reply, Event, Spent, Moment}
+use Rattle.lua_slots.specs.PageRunPerform.{perform, wait}
+use Rattle.lua_library_agree.specs.MwFrameDeclaredQuestionAsk.{Ask}
 use Rattle.lua_heap.specs.Value.{Value}
 use Rattle.lua_heap.specs.Related.{Map}
-use Rattle.lua_meaning.specs.Questions.{Answer}
-use Rattle.lua_meaning.specs.Acts.{Jump, State, LuaRun}
-use Rattle.lua_meaning.specs.World.{World}
-use Rattle.lua_meaning.specs.Things.{meaning_of}
+use Rattle.lua_slots.specs.LuaMeaningQuestions.{Answer}
+use Rattle.lua_slots.specs.LuaMeaningActs.{Jump, State, LuaRun}
+use Rattle.lua_slots.specs.LuaMeaningWorld.{World}
+use Rattle.lua_library_agree.specs.LuaMeaningThings.{meaning_of}
 use Rattle.lua_slots.specs.Code.{CWorld}
 use Rattle.lua_slots.specs.Slots.{Slots}
 use Rattle.lua_slots.specs.Points.{Point}

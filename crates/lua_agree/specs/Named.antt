@@ -2,15 +2,15 @@
 -- of the run name. Code names none: its constants are no objects.
 use Rattle.std.specs.Prelude.{List, [], ◌∷◌, ◌++◌, map}
 use Rattle.std.specs.List.{flat_map}
-use Rattle.page_run.specs.Outcome.{Outcome, Goes, Jumps}
+use Rattle.lua_slots.specs.PageRunOutcome.{Outcome, Goes, Jumps}
 use Rattle.lua_heap.specs.Value.{Value}
 use Rattle.lua_heap.specs.Heap.{Ref, tab, cel}
 use Rattle.lua_heap.specs.Reach.{value_names, values_names}
 use Rattle.lua_heap.specs.Proc.{proc_names}
-use Rattle.lua_meaning.specs.Acts.{Jump, Returned, Broke, Raised, Progress, Running, Finished, Frame}
-use Rattle.lua_meaning.specs.Titled.{Titled}
-use Rattle.lua_meaning.specs.Gsub.{replacement_value}
-use Rattle.lua_meaning.specs.Pending.{Pending, XpcallWaits, GsubWaits}
+use Rattle.lua_slots.specs.LuaMeaningActs.{Jump, Returned, Broke, Raised, Progress, Running, Finished, Frame}
+use Rattle.lua_slots.specs.LuaMeaningTitled.{Titled}
+use Rattle.lua_library_agree.specs.LuaMeaningGsub.{replacement_value}
+use Rattle.lua_slots.specs.LuaMeaningPending.{Pending, XpcallWaits, GsubWaits}
 use Rattle.lua_slots.specs.Slots.{Slot, Plain, Boxed, Activation, Slots}
 use Rattle.lua_slots.specs.Points.{STarget, EntryS, SThing, WhileTurnS, RepeatTurnS, CountTurnS, EachTurnS, BodyS, LibraryS, IndexLinkS, SetLinkS, CallLinkS}
 use Rattle.lua_slots.specs.Points.{SFrame, IndexNow, OperateNow, CallNow, MethodNow, MoreNext, ItemNow, PairNext, PairNow, FieldsNext, ItemsNext, TargetKey, TargetNow, AssignNow, SetsNext, CountTo, CountBy, EachNext, EachEnd, Waits, ModuleFound, FunctionFound, TextNow}

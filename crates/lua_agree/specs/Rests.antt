@@ -1,29 +1,29 @@
 -- WHAT FOLLOWS IN A RUN, and the frames that wait in a machine: each constructor is one frame, with what it stands for.
 use Rattle.std.specs.Prelude.{◌≡◌, ℕ, ℤ, pos, ◌+◌, Bool, true, false, not, List, [], ◌∷◌, ◌++◌, length, reverse, Option, Some, None}
-use Rattle.lua_syntax.specs.declared.UnaryOp.{UnaryOp}
-use Rattle.lua_syntax.specs.Tree.{Exp, Exps, MoreExp, Fields, Block, Arms}
-use Rattle.page_run.specs.Run.{Ends, Leaves}
-use Rattle.page_run.specs.Outcome.{Outcome, on_value, ◌>>=◌, ◌>>◌, give, jump, tick, begin}
+use Rattle.lua_slots.specs.LuaSyntaxDeclaredUnaryOp.{UnaryOp}
+use Rattle.lua_slots.specs.LuaSyntaxTree.{Exp, Exps, MoreExp, Fields, Block, Arms}
+use Rattle.lua_library_agree.specs.PageRunRun.{Ends, Leaves}
+use Rattle.lua_slots.specs.PageRunOutcome.{Outcome, on_value, ◌>>=◌, ◌>>◌, give, jump, tick, begin}
 use Rattle.lua_heap.specs.Value.{Value, Number, Text, Table, Truth, is_nil, is_true}
 use Rattle.lua_heap.specs.Related.{Map, Each, Same}
-use Rattle.lua_meaning.specs.Scope.{Bytes, Scope, Levels, levels}
-use Rattle.lua_meaning.specs.Values.{first, second, third, number_in, text_in}
-use Rattle.lua_meaning.specs.Acts.{Act, Jump, Returned, WhileTurn, EachTurn, LuaRun, choose, one, declare}
-use Rattle.lua_meaning.specs.Messages.{no_initial_value, no_limit, no_step}
-use Rattle.lua_meaning.specs.Calls.{call}
-use Rattle.lua_meaning.specs.Index.{index, set_entry}
-use Rattle.lua_meaning.specs.Operators.{Operator, operate}
-use Rattle.lua_meaning.specs.Parts.{Target, Entry, BlockPart}
-use Rattle.lua_meaning.specs.Expressions.{value, values, unless_decided, apply}
-use Rattle.lua_meaning.specs.Constructors.{set_items, set_fields}
-use Rattle.lua_meaning.specs.Statements.{targets, with_values, assign_each, within, branches}
-use Rattle.lua_meaning.specs.Loops.{then_next, while_from, until, repeat_from, for_number, count_from, count_next, step_value, each_from}
-use Rattle.lua_meaning.specs.Meaning.{expression, expressions, fields_of, targets_of, block, branches_of, exp_part, block_part}
-use Rattle.lua_meaning.specs.Things.{after_body}
-use Rattle.lua_meaning.specs.CallBacks.{string_or_fail}
-use Rattle.lua_meaning.specs.Pending.{Pending, resumes, hears}
-use Rattle.lua_meaning.specs.Questions.{Asked}
-use Rattle.lua_meaning.specs.Start.{End, Done, answer_texts, answer, invoke_function, invoke_in, data_value, invoke_outcome, data_outcome}
+use Rattle.lua_slots.specs.LuaMeaningScope.{Bytes, Scope, Levels, levels}
+use Rattle.lua_slots.specs.LuaMeaningValues.{first, second, third, number_in, text_in}
+use Rattle.lua_slots.specs.LuaMeaningActs.{Act, Jump, Returned, WhileTurn, EachTurn, LuaRun, choose, one, declare}
+use Rattle.lua_slots.specs.LuaMeaningMessages.{no_initial_value, no_limit, no_step}
+use Rattle.lua_library_agree.specs.LuaMeaningCalls.{call}
+use Rattle.lua_library_agree.specs.LuaMeaningIndex.{index, set_entry}
+use Rattle.lua_slots.specs.LuaMeaningOperators.{Operator, operate}
+use Rattle.lua_library_agree.specs.LuaMeaningParts.{Target, Entry, BlockPart}
+use Rattle.lua_library_agree.specs.LuaMeaningExpressions.{value, values, unless_decided, apply}
+use Rattle.lua_library_agree.specs.LuaMeaningConstructors.{set_items, set_fields}
+use Rattle.lua_library_agree.specs.LuaMeaningStatements.{targets, with_values, assign_each, within, branches}
+use Rattle.lua_slots.specs.LuaMeaningLoops.{then_next, while_from, until, repeat_from, for_number, count_from, count_next, step_value, each_from}
+use Rattle.lua_library_agree.specs.LuaMeaningMeaning.{expression, expressions, fields_of, targets_of, block, branches_of, exp_part, block_part}
+use Rattle.lua_library_agree.specs.LuaMeaningThings.{after_body}
+use Rattle.lua_slots.specs.LuaMeaningCallBacks.{string_or_fail}
+use Rattle.lua_slots.specs.LuaMeaningPending.{Pending, resumes, hears}
+use Rattle.lua_slots.specs.LuaMeaningQuestions.{Asked}
+use Rattle.lua_slots.specs.LuaMeaningStart.{End, Done, answer_texts, answer, invoke_function, invoke_in, data_value, invoke_outcome, data_outcome}
 use Rattle.lua_slots.specs.Code.{CExp, CExps, NoC, MoreC, CFields, NoFieldC, CTarget, CBlock, CArms, CWorld}
 use Rattle.lua_slots.specs.Sight.{Sight, with_local, with_locals, AreAsMany}
 use Rattle.lua_slots.specs.IsCode.{any_sight, IsExp, IsExps, IsFields, IsTargets, IsArms, IsBlock}

@@ -1,16 +1,16 @@
 -- WHAT STANDS FOR WHAT beside single values: jumps and outcomes, targets of an assignment, what waits in the library, and what is kept
 -- by title.
 use Rattle.std.specs.Prelude.{◌≡◌, ℕ, List, Some}
-use Rattle.wk_base.specs.declared.title.Title.{Title}
-use Rattle.page_run.specs.Outcome.{Outcome, Goes, Jumps}
+use Rattle.lua_slots.specs.WkBaseDeclaredTitleTitle.{Title}
+use Rattle.lua_slots.specs.PageRunOutcome.{Outcome, Goes, Jumps}
 use Rattle.lua_heap.specs.Value.{Value}
 use Rattle.lua_heap.specs.Related.{Map, Each, Same}
-use Rattle.lua_meaning.specs.Scope.{Bytes, Levels}
-use Rattle.lua_meaning.specs.Acts.{Jump, Returned, Broke, Raised, Progress, Running, Finished}
-use Rattle.lua_meaning.specs.Parts.{Target, Local, Global, Entry}
-use Rattle.lua_meaning.specs.Gsub.{Job, Far}
-use Rattle.lua_meaning.specs.Pending.{Pending, PcallWaits, XpcallWaits, HandlerWaits, ToStringWaits, PairsWaits, GsubWaits, ModuleWaits}
-use Rattle.lua_meaning.specs.Titled.{Titled}
+use Rattle.lua_slots.specs.LuaMeaningScope.{Bytes, Levels}
+use Rattle.lua_slots.specs.LuaMeaningActs.{Jump, Returned, Broke, Raised, Progress, Running, Finished}
+use Rattle.lua_library_agree.specs.LuaMeaningParts.{Target, Local, Global, Entry}
+use Rattle.lua_library_agree.specs.LuaMeaningGsub.{Job, Far}
+use Rattle.lua_slots.specs.LuaMeaningPending.{Pending, PcallWaits, XpcallWaits, HandlerWaits, ToStringWaits, PairsWaits, GsubWaits, ModuleWaits}
+use Rattle.lua_slots.specs.LuaMeaningTitled.{Titled}
 use Rattle.lua_library_agree.specs.SameGsub.{SameJob, replacing_of}
 use Rattle.lua_slots.specs.Code.{Place}
 use Rattle.lua_slots.specs.Slots.{Activation, levels_at, newest_function}

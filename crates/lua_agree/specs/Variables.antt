@@ -4,7 +4,7 @@ use Rattle.std.specs.Prelude.{◌≡◌, ◌≢◌, ℕ, Bool, true, false, List
 use Rattle.lua_heap.specs.Value.{Value}
 use Rattle.lua_heap.specs.Heap.{Heap, cel, CellObj, look}
 use Rattle.lua_heap.specs.Related.{Map, Each, Same}
-use Rattle.lua_meaning.specs.Scope.{Bytes, Function, Scope, cell_of, levels}
+use Rattle.lua_slots.specs.LuaMeaningScope.{Bytes, Function, Scope, cell_of, levels}
 use Rattle.lua_slots.specs.Code.{Place, Reg, Box, Up}
 use Rattle.lua_slots.specs.Sight.{Sight, Everywhere, Here}
 use Rattle.lua_slots.specs.Slots.{Slot, Plain, Boxed, Activation, levels_at, newest_function}

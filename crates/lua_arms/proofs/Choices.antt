@@ -1,11 +1,11 @@
 -- One move or the other.
 use Rattle.std.proofs.Common.{◌≡◌, ◌∙◌, true, false, Bool, sym, ap}
-use Rattle.lua_heap.specs.Proc.{Proc}
-use Rattle.lua_heap.specs.Heap.{Heap}
-use Rattle.lua_slots.specs.Slots.{Slots, with_heap}
-use Rattle.lua_slots.specs.Points.{Move}
-use Rattle.lua_slots.specs.Errors.{choose}
-use Rattle.lua_slots.specs.Enact.{Funds, enact}
+use Rattle.lua_code.specs.LuaHeapProc.{Proc}
+use Rattle.lua_code.specs.LuaHeapHeap.{Heap}
+use Rattle.lua_stack.specs.LuaSlotsSlots.{Slots, with_heap}
+use Rattle.lua_stack.specs.LuaSlotsPoints.{Move}
+use Rattle.lua_stack.specs.LuaSlotsErrors.{choose}
+use Rattle.lua_code.specs.LuaSlotsEnact.{Funds, enact}
 
 pub second : (b : Bool) (x y z : Move) → false ≡ b → y ≡ z → choose b x y ≡ z
 second b x y z e w = ap (λ c. choose c x y) (sym e) ∙ w

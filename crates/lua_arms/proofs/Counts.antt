@@ -4,12 +4,12 @@ use Rattle.std.specs.Prelude.{ℤ, ◌+ℤ◌, Result, Ok, Err, if◌then◌else
 use Rattle.lua_number.specs.declared.arithmetic.NumberFault.{NumberFault}
 use Rattle.lua_number.specs.declared.arithmetic.NumberFault.TheVariants.{OutOfRange}
 use Rattle.lua_number.specs.Whole.{fits, sum_of}
-use Rattle.lua_heap.specs.Value.{is_nil}
-use Rattle.lua_meaning.specs.Values.{first}
-use Rattle.lua_store.specs.declared.value.Value.{Value}
-use Rattle.lua_store.specs.Seen.{seen}
-use Rattle.lua_slots.specs.Points.{Move}
-use Rattle.lua_slots.specs.Errors.{choose}
+use Rattle.lua_code.specs.LuaHeapValue.{is_nil}
+use Rattle.lua_code.specs.LuaMeaningValues.{first}
+use Rattle.lua_basic.specs.LuaStoreDeclaredValueValue.{Value}
+use Rattle.lua_basic.specs.LuaStoreSeen.{seen}
+use Rattle.lua_stack.specs.LuaSlotsPoints.{Move}
+use Rattle.lua_stack.specs.LuaSlotsErrors.{choose}
 use Rattle.lua_stack.specs.Lists.{first_stored}
 use Rattle.lua_stack.specs.Seen.{values_seen}
 use Rattle.lua_stack.proofs.Openings.{first_seen}

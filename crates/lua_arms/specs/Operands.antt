@@ -1,5 +1,5 @@
 -- Expressions whose operands are evaluated by themselves, and that name no constant.
-use Rattle.lua_slots.specs.Code.{CExp, ConstantC, TextC, DotsC, FunctionC, LocalC, GlobalC, MethodC, TableC}
+use Rattle.lua_code.specs.LuaSlotsCode.{CExp, ConstantC, TextC, DotsC, FunctionC, LocalC, GlobalC, MethodC, TableC}
 
 abbrev pub HasOperands : CExp → Type 0
 HasOperands (ConstantC v) = ⊥

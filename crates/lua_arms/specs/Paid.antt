@@ -1,9 +1,9 @@
 -- What an arm that charges comes to: a step at what is left then, or an allowance that is spent.
 use Rattle.std.specs.Prelude.{List}
-use Rattle.lua_store.specs.Seen.{StoreView}
-use Rattle.lua_slots.specs.Slots.{Slots}
-use Rattle.lua_slots.specs.Points.{SFrame, Move, Costs, Marks}
-use Rattle.lua_slots.specs.Enact.{Funds, all_given_back, Enacted, Short, enact}
+use Rattle.lua_basic.specs.LuaStoreSeen.{StoreView}
+use Rattle.lua_stack.specs.LuaSlotsSlots.{Slots}
+use Rattle.lua_stack.specs.LuaSlotsPoints.{SFrame, Move, Costs, Marks}
+use Rattle.lua_code.specs.LuaSlotsEnact.{Funds, all_given_back, Enacted, Short, enact}
 use Rattle.lua_arms.specs.declared.step.Paid.{Paid}
 use Rattle.lua_arms.specs.declared.step.Paid.TheVariants as paid
 use Rattle.lua_arms.specs.declared.step.Step.TheVariants as step

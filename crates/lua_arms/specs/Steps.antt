@@ -1,12 +1,12 @@
 -- What a step is seen as: a move of `lua_slots` without charges before it, above these frames.
 use Rattle.std.specs.Prelude.{List}
-use Rattle.lua_meaning.specs.Scope.{Bytes}
-use Rattle.lua_meaning.specs.Messages.{cannot_index, cannot_call, cannot_calculate, cannot_concatenate, cannot_compare, no_length, number_fault, nil_key, read_only, no_initial_value, no_limit, no_step}
-use Rattle.lua_store.specs.Seen.{StoreView, seen}
-use Rattle.lua_store.specs.Parts.{IsOf}
-use Rattle.lua_slots.specs.Slots.{Slots}
-use Rattle.lua_slots.specs.Points.{SFrame, Move, Now}
-use Rattle.lua_slots.specs.Errors.{fails}
+use Rattle.lua_code.specs.LuaMeaningScope.{Bytes}
+use Rattle.lua_basic.specs.LuaMeaningMessages.{cannot_index, cannot_call, cannot_calculate, cannot_concatenate, cannot_compare, no_length, number_fault, nil_key, read_only, no_initial_value, no_limit, no_step}
+use Rattle.lua_basic.specs.LuaStoreSeen.{StoreView, seen}
+use Rattle.lua_basic.specs.LuaStoreParts.{IsOf}
+use Rattle.lua_stack.specs.LuaSlotsSlots.{Slots}
+use Rattle.lua_stack.specs.LuaSlotsPoints.{SFrame, Move, Now}
+use Rattle.lua_stack.specs.LuaSlotsErrors.{fails}
 use Rattle.lua_stack.specs.Seen.{Texts, focus_seen}
 use Rattle.lua_stack.specs.Of.{FocusOf}
 use Rattle.lua_arms.specs.declared.step.Failure.{Failure}

@@ -1,22 +1,22 @@
 //! What is called begins as a thing (manual 2.5.8, and 2.8 under "call").
 ghost use Rattle.std.specs.Prelude.{◌≡◌, List, IfOk};
-ghost use Rattle.lua_heap.specs.Heap.{closure_at};
-ghost use Rattle.lua_heap.specs.Value as kind;
-ghost use Rattle.lua_store.specs.Seen.{seen};
-ghost use Rattle.lua_store.specs.Parts.{IsOf, IsTableOf, IsClosureOf};
-ghost use Rattle.lua_slots.specs.Slots.{Slots};
-ghost use Rattle.lua_slots.specs.Points.{SFrame};
-ghost use Rattle.lua_slots.specs.Calls as machine;
+ghost use Rattle.lua_code.specs.LuaHeapHeap.{closure_at};
+ghost use Rattle.lua_code.specs.LuaHeapValue as kind;
+ghost use Rattle.lua_basic.specs.LuaStoreSeen.{seen};
+ghost use Rattle.lua_basic.specs.LuaStoreParts.{IsOf, IsTableOf, IsClosureOf};
+ghost use Rattle.lua_stack.specs.LuaSlotsSlots.{Slots};
+ghost use Rattle.lua_stack.specs.LuaSlotsPoints.{SFrame};
+ghost use Rattle.lua_code.specs.LuaSlotsCalls as machine;
 ghost use Rattle.lua_stack.specs.Seen.{values_seen};
 ghost use Rattle.lua_stack.specs.Of.{ValuesOf, EnvironmentOf};
 ghost use Rattle.lua_arms.specs.Steps.{step_seen, StepOf};
 
 use crate::step::{Failure, Step};
 use crate::tables::handler;
+use lua_basic::{ClosureKind, Store, TableId, Value};
+use lua_code::NoMemory;
 use lua_stack::values::is_nil;
-use lua_stack::{Callee, Environment, Focus, Thing, Values};
-use lua_store::{ClosureId, ClosureKind, Store, TableId, Value};
-use wk_base::NoMemory;
+use lua_stack::{Callee, ClosureId, Environment, Focus, Thing, Values};
 
 /// A closure is called: a function of Lua, or an iterator, which is the first of its arguments.
 fn enter<'m>(

@@ -1,10 +1,10 @@
 //! Indexing, up to the next link of a chain of handlers (manual 2.3, and 2.8 under "index").
 ghost use Rattle.std.specs.Prelude.{◌≡◌, ◌∷◌, [], List, IfOk};
-ghost use Rattle.lua_store.specs.Seen.{seen};
-ghost use Rattle.lua_store.specs.Parts.{IsOf, IsTableOf};
-ghost use Rattle.lua_slots.specs.Slots.{Slots};
-ghost use Rattle.lua_slots.specs.Points.{SFrame};
-ghost use Rattle.lua_slots.specs.Index as machine;
+ghost use Rattle.lua_basic.specs.LuaStoreSeen.{seen};
+ghost use Rattle.lua_basic.specs.LuaStoreParts.{IsOf, IsTableOf};
+ghost use Rattle.lua_stack.specs.LuaSlotsSlots.{Slots};
+ghost use Rattle.lua_stack.specs.LuaSlotsPoints.{SFrame};
+ghost use Rattle.lua_code.specs.LuaSlotsIndex as machine;
 ghost use Rattle.lua_stack.specs.Of.{EnvironmentOf};
 ghost use Rattle.lua_arms.specs.Steps.{step_seen, StepOf};
 
@@ -12,11 +12,11 @@ use crate::calls::call;
 use crate::step::{Failure, Step};
 use crate::tables::handler;
 use lua_basic::objects::object_field;
+use lua_basic::{Store, TableId, Value};
+use lua_code::NoMemory;
 use lua_stack::values::{is_function, is_nil};
 use lua_stack::{Environment, Focus, Given, Thing, Values};
-use lua_store::{Store, TableId, Value};
 use std::alloc::Global;
-use wk_base::NoMemory;
 
 /// The value of a table at a key, or the first link of a chain that leads to it.
 pub fn index_table<'m>(

@@ -25,4 +25,19 @@ pub mod statements;
 pub mod step;
 pub mod tables;
 
+pub use lua_basic::texts::text_in;
+pub use lua_basic::values::single;
+pub use lua_basic::{ClosureKind, Left, Store, TextId, Value};
+pub use lua_number::NumberFault;
+pub use lua_stack::activation::Level;
+pub use lua_stack::opening::{open, open_all};
+pub use lua_stack::raising::{raise_quote, raise_text};
+pub use lua_stack::register::{Slot as LuaStackRegisterSlot, captures, read, write};
+pub use lua_stack::values::{is_function, is_nil, is_true};
+pub use lua_stack::{
+    Activations, Asked, Callee, ClosureId, EachLoop, Ending, Environment, Finding, Focus, Found,
+    Frame, Given, InAssignment, InConstructor, InExpression, InLoop, InRun, InStatement, Jump,
+    Pending, Raising, Setting, Slot as LuaStackSlot, Stack, Thing, Values, Which, Work, boxed,
+    give_up,
+};
 pub use step::{Failure, Paid, Step};

@@ -1,21 +1,20 @@
 //! Lists of expressions, and operands of `and` and `or` (manual 2.5 and 2.5.3).
 ghost use Rattle.std.specs.Prelude.{◌≡◌, ◌∷◌, [], List, IfOk, MatchOption};
 ghost use Rattle.lua_code.specs.Seen.{expression_seen, expressions_seen};
-ghost use Rattle.lua_store.specs.Seen.{seen};
-ghost use Rattle.lua_store.specs.Parts.{IsOf};
-ghost use Rattle.lua_slots.specs.Slots.{Slots};
-ghost use Rattle.lua_slots.specs.Points.{SFrame};
-ghost use Rattle.lua_slots.specs.Expressions as machine;
+ghost use Rattle.lua_basic.specs.LuaStoreSeen.{seen};
+ghost use Rattle.lua_basic.specs.LuaStoreParts.{IsOf};
+ghost use Rattle.lua_stack.specs.LuaSlotsSlots.{Slots};
+ghost use Rattle.lua_stack.specs.LuaSlotsPoints.{SFrame};
+ghost use Rattle.lua_code.specs.LuaSlotsExpressions as machine;
 ghost use Rattle.lua_stack.specs.Seen.{values_seen, given_seen, frames_seen};
 ghost use Rattle.lua_stack.specs.Of.{ValuesOf, GivenOf, FramesOf};
 ghost use Rattle.lua_arms.specs.Steps.{step_seen, StepOf};
 
 use crate::step::Step;
-use lua_code::Expression;
+use lua_basic::{Store, Value};
+use lua_code::{Expression, NoMemory};
 use lua_stack::values::is_true;
 use lua_stack::{Focus, Frame, Given, InExpression, Stack, Values};
-use lua_store::{Store, Value};
-use wk_base::NoMemory;
 
 /// The first of some expressions, and those behind it.
 #[derive(Clone, Copy)]

@@ -1,14 +1,14 @@
 //! Loops (manual 2.4.4 and 2.4.5): what follows a test, a bound or the results of an iterator.
 ghost use Rattle.std.specs.Prelude.{◌≡◌, [], List, option_map, IfOk};
 ghost use Rattle.lua_code.specs.Seen.{expression_seen, block_seen};
-ghost use Rattle.lua_meaning.specs.Loops as plain;
-ghost use Rattle.lua_meaning.specs.Values as values_of;
-ghost use Rattle.lua_store.specs.Seen.{StoreView, seen};
-ghost use Rattle.lua_store.specs.Parts.{IsOf};
-ghost use Rattle.lua_slots.specs.Slots.{Slots};
-ghost use Rattle.lua_slots.specs.Points.{SFrame};
-ghost use Rattle.lua_slots.specs.Loops as machine;
-ghost use Rattle.lua_slots.specs.Errors.{gives};
+ghost use Rattle.lua_code.specs.LuaMeaningLoops as plain;
+ghost use Rattle.lua_code.specs.LuaMeaningValues as values_of;
+ghost use Rattle.lua_basic.specs.LuaStoreSeen.{StoreView, seen};
+ghost use Rattle.lua_basic.specs.LuaStoreParts.{IsOf};
+ghost use Rattle.lua_stack.specs.LuaSlotsSlots.{Slots};
+ghost use Rattle.lua_stack.specs.LuaSlotsPoints.{SFrame};
+ghost use Rattle.lua_code.specs.LuaSlotsLoops as machine;
+ghost use Rattle.lua_stack.specs.LuaSlotsErrors.{gives};
 ghost use Rattle.lua_stack.specs.Seen.{frames_seen, given_seen};
 ghost use Rattle.lua_stack.specs.Of.{EachOf, FramesOf, GivenOf, EnvironmentOf};
 ghost use Rattle.lua_arms.specs.Steps.{step_seen, StepOf};
@@ -17,13 +17,12 @@ use crate::calls::call;
 use crate::index::two;
 use crate::numbers::number_in;
 use crate::step::{Failure, Step};
-use lua_code::{Expression, Statement};
+use lua_basic::{Store, Value};
+use lua_code::{Expression, List, NoMemory, Statement};
 use lua_number::add;
 use lua_stack::values::{is_nil, is_true};
 use lua_stack::{EachLoop, Environment, Focus, Frame, Given, InLoop, Stack, Thing, Values};
-use lua_store::{Store, Value};
 use std::alloc::Global;
-use wk_base::{List, NoMemory};
 
 /// No values for the frames: a loop or a statement is over.
 pub fn nothing<'m>(alloc: Global) -> Step<'m>

@@ -1,11 +1,11 @@
 //! The number that a value is taken for (manual 2.2.1).
 ghost use Rattle.std.specs.Prelude.{◌≡◌};
-ghost use Rattle.lua_meaning.specs.Values as values_of;
-ghost use Rattle.lua_store.specs.Seen.{seen};
-ghost use Rattle.lua_store.specs.Parts.{IsOf};
+ghost use Rattle.lua_code.specs.LuaMeaningValues as values_of;
+ghost use Rattle.lua_basic.specs.LuaStoreSeen.{seen};
+ghost use Rattle.lua_basic.specs.LuaStoreParts.{IsOf};
 
+use lua_basic::{Store, Value};
 use lua_number::read_number;
-use lua_store::{Store, Value};
 
 /// The number of a value, if it is one or a text that reads as one (manual 2.2.1).
 pub fn number_in(store: &Store, value: Value) -> Option<i64>

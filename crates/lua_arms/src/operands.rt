@@ -2,20 +2,19 @@
 //! these, since the text of its name is looked for first.
 ghost use Rattle.std.specs.Prelude.{◌≡◌, IfOk};
 ghost use Rattle.lua_code.specs.Seen.{expression_seen};
-ghost use Rattle.lua_slots.specs.Code.{Constants};
-ghost use Rattle.lua_slots.specs.Slots.{Slots};
-ghost use Rattle.lua_slots.specs.Expressions as machine;
-ghost use Rattle.lua_slots.specs.Errors.{node};
+ghost use Rattle.lua_code.specs.LuaSlotsCode.{Constants};
+ghost use Rattle.lua_stack.specs.LuaSlotsSlots.{Slots};
+ghost use Rattle.lua_code.specs.LuaSlotsExpressions as machine;
+ghost use Rattle.lua_stack.specs.LuaSlotsErrors.{node};
 ghost use Rattle.lua_stack.specs.Seen.{frames_seen};
 ghost use Rattle.lua_stack.specs.Of.{FramesOf};
 ghost use Rattle.lua_arms.specs.Steps.{step_seen, StepOf};
 ghost use Rattle.lua_arms.specs.Operands.{HasOperands};
 
 use crate::step::Step;
-use lua_code::Expression;
+use lua_basic::Store;
+use lua_code::{Expression, NoMemory};
 use lua_stack::{Focus, Frame, InExpression, Stack};
-use lua_store::Store;
-use wk_base::NoMemory;
 
 /// An expression with operands begins, whose step is taken and which is counted.
 #[tactic(auto, using(crate::proofs::Codes::codes))]

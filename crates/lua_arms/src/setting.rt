@@ -1,29 +1,28 @@
 //! Assignment to an index, up to the next link of a chain of handlers (manual 2.3, and 2.8 under "newindex").
 ghost use Rattle.std.specs.Prelude.{◌≡◌, ◌||◌, ◌∷◌, [], ℕ, List, not, IfOk, OnOk};
-ghost use Rattle.page_run.specs.State.{Tally};
-ghost use Rattle.lua_store.specs.Seen.{seen};
-ghost use Rattle.lua_store.specs.Parts.{IsOf, IsTableOf, IsLater};
-ghost use Rattle.lua_slots.specs.Enact.{enact};
-ghost use Rattle.lua_slots.specs.Slots.{Slots, with_heap};
-ghost use Rattle.lua_slots.specs.Points.{SFrame, Now};
-ghost use Rattle.lua_slots.specs.Index as machine;
+ghost use Rattle.lua_stack.specs.PageRunState.{Tally};
+ghost use Rattle.lua_basic.specs.LuaStoreSeen.{seen};
+ghost use Rattle.lua_basic.specs.LuaStoreParts.{IsOf, IsTableOf, IsLater};
+ghost use Rattle.lua_code.specs.LuaSlotsEnact.{enact};
+ghost use Rattle.lua_stack.specs.LuaSlotsSlots.{Slots, with_heap};
+ghost use Rattle.lua_stack.specs.LuaSlotsPoints.{SFrame, Now};
+ghost use Rattle.lua_code.specs.LuaSlotsIndex as machine;
 ghost use Rattle.lua_stack.specs.Seen.{focus_seen};
 ghost use Rattle.lua_stack.specs.Of.{EnvironmentOf, FocusOf};
-ghost use Rattle.lua_slots.specs.Errors.{gives};
-ghost use Rattle.lua_heap.specs.Value as kind;
-ghost use Rattle.lua_heap.specs.Table.{has};
-ghost use Rattle.lua_heap.specs.Heap.{table_at};
+ghost use Rattle.lua_stack.specs.LuaSlotsErrors.{gives};
+ghost use Rattle.lua_code.specs.LuaHeapValue as kind;
+ghost use Rattle.lua_code.specs.LuaHeapTable.{has};
+ghost use Rattle.lua_code.specs.LuaHeapHeap.{table_at};
 ghost use Rattle.lua_arms.specs.Paid.{paid_seen, PaidOf, IfSpent};
 
 use crate::calls::call;
 use crate::step::{Failure, Paid, Step};
 use crate::tables::handler;
+use lua_basic::{Left, Store, TableId, Value};
+use lua_code::NoMemory;
 use lua_stack::values::{is_function, is_nil};
-use lua_stack::{Environment, Focus, Given, Thing, Values};
-use lua_store::{Store, TableId, Value};
-use page_run::Which;
+use lua_stack::{Environment, Focus, Given, Thing, Values, Which};
 use std::alloc::Global;
-use wk_base::{Left, NoMemory};
 
 /// Whether a set makes a new entry.
 fn is_new(store: &Store, table: TableId, key: Value, value: Value) -> bool

@@ -1,19 +1,18 @@
 //! Statements that begin (manual 2.4), conditions, and blocks of their own.
 ghost use Rattle.std.specs.Prelude.{◌≡◌, ◌∷◌, [], List, option_map, IfOk, MatchOption};
 ghost use Rattle.lua_code.specs.Seen.{block_seen, branches_seen};
-ghost use Rattle.lua_slots.specs.Slots.{Slots};
-ghost use Rattle.lua_slots.specs.Statements as machine;
+ghost use Rattle.lua_stack.specs.LuaSlotsSlots.{Slots};
+ghost use Rattle.lua_code.specs.LuaSlotsStatements as machine;
 ghost use Rattle.lua_stack.specs.Seen.{frames_seen, registers_seen};
 ghost use Rattle.lua_stack.specs.Of.{FramesOf};
 ghost use Rattle.lua_arms.specs.Steps.{step_seen, StepOf};
 
 use crate::loops::nothing;
 use crate::step::Step;
-use lua_code::{Branch, Statement};
+use lua_basic::Store;
+use lua_code::{Branch, List, NoMemory, Statement};
 use lua_stack::{Ending, Focus, Frame, InStatement, Slot, Stack};
-use lua_store::Store;
 use std::alloc::Global;
-use wk_base::{List, NoMemory};
 
 /// A block of its own begins: at its end its registers are gone.
 pub fn within<'m>(

@@ -1,8 +1,7 @@
 //! How an arm ends.
+use lua_basic::Value;
 use lua_number::NumberFault;
-use lua_stack::Focus;
-use lua_store::Value;
-use page_run::Which;
+use lua_stack::{Focus, Which};
 
 /// What failed; the message gets the place of the line in front.
 #[derive(Clone, Copy)]

@@ -1,11 +1,11 @@
 //! Handlers of tables (manual 2.8).
 ghost use Rattle.std.specs.Prelude.{◌≡◌};
-ghost use Rattle.lua_meaning.specs.Metatables as plain;
-ghost use Rattle.lua_store.specs.Seen.{seen, text_at};
-ghost use Rattle.lua_store.specs.Parts.{IsOf, IsTextOf};
+ghost use Rattle.lua_code.specs.LuaMeaningMetatables as plain;
+ghost use Rattle.lua_basic.specs.LuaStoreSeen.{seen, text_at};
+ghost use Rattle.lua_basic.specs.LuaStoreParts.{IsOf, IsTextOf};
 
+use lua_basic::{Store, TextId, Value};
 use lua_stack::values::is_nil;
-use lua_store::{Store, TextId, Value};
 
 /// The field at a text of what stands as a metatable, or nil.
 fn field(store: &Store, of: Value, name: TextId) -> Value

@@ -2,35 +2,35 @@
 -- the start of a run, leave them as they are, and ask for none.
 use Rattle.std.proofs.Common.{◌≡◌, ℕ, zero, suc, true, List, [], ◌∷◌, ◌++◌, Option, Some, None, refl}
 use Rattle.std.specs.Prelude.{ℤ, pos, ◌+ℤ◌, Result, Ok, Err, bytes_eq, codes}
-use Rattle.wk_base.specs.declared.title.Title.{Title}
-use Rattle.wk_base.specs.declared.title.Namespace.TheVariants.{Main}
-use Rattle.wk_base.specs.declared.title_read.TitleFault.{TitleFault}
-use Rattle.wk_base.specs.Titles.{title_text, title_of}
-use Rattle.lua_syntax.specs.declared.fault.FaultAt.{FaultAt}
-use Rattle.page_run.specs.Outcome.{Outcome, Goes, Jumps}
-use Rattle.lua_number.specs.Whole.{fits}
-use Rattle.mw_html.specs.Render.{Piece, Whole, Deep, render}
-use Rattle.lua_heap.specs.Proc.{Proc}
-use Rattle.lua_heap.specs.Value.{Value, Nil, Truth, Number, Text, Table, Builtin, Markup, is_nil}
-use Rattle.lua_heap.specs.Table.{get}
-use Rattle.lua_heap.specs.Heap.{table_at}
-use Rattle.lua_heap.specs.declared.library.Library.TheVariants.{BasicNext, IpairsStep}
-use Rattle.lua_meaning.specs.Scope.{Bytes}
-use Rattle.lua_meaning.specs.Titled.{item_of}
-use Rattle.lua_meaning.specs.Questions.{Asked, TemplateAsked, TextAsked, DataAsked}
-use Rattle.lua_meaning.specs.Values.{first, rest, text_in, is_function}
-use Rattle.lua_meaning.specs.Acts.{Jump, Raised, Progress, Running, Finished}
-use Rattle.lua_meaning.specs.Metatables.{handler}
-use Rattle.lua_meaning.specs.Arguments.{Plain, a_table, a_number, a_text}
-use Rattle.lua_meaning.specs.Html.{text_of_object}
-use Rattle.lua_meaning.specs.CallBacks.{text_of}
-use Rattle.lua_meaning.specs.FrameMethods.{FramedEnd, FrameEnds, FrameQuotes, FrameAsks, FrameWalks}
-use Rattle.lua_meaning.specs.Gsub.{Replacement, ByText, ByTable, ByFunction, Job, Far, Replacing, Search, NoMatch, Matched, search, replacement_given, with_piece, nothing_yet, GsubForm, GsubAnswers, GsubAsks, gsub_form}
-use Rattle.lua_meaning.specs.Pending.{Pending, PcallWaits, XpcallWaits, HandlerWaits, ToStringWaits, PairsWaits, GsubWaits, ModuleWaits}
-use Rattle.lua_meaning.specs.Libraries.{Caller, Pcall, Xpcall, ToString, Pairs, Ipairs, NextPlace, Require, LoadData, StrictRead, StrictWrite, Gsub, Form, Answers, InFrames, CallsBack}
-use Rattle.lua_meaning.specs.Start.{Work, Invoke, DataOf, Failed}
+use Rattle.lua_slots.specs.WkBaseDeclaredTitleTitle.{Title}
+use Rattle.lua_slots.specs.WkBaseDeclaredTitleNamespaceTheVariants.{Main}
+use Rattle.lua_slots.specs.WkBaseDeclaredTitleReadTitleFault.{TitleFault}
+use Rattle.lua_slots.specs.WkBaseTitles.{title_text, title_of}
+use Rattle.lua_slots.specs.LuaSyntaxDeclaredFaultFaultAt.{FaultAt}
+use Rattle.lua_slots.specs.PageRunOutcome.{Outcome, Goes, Jumps}
+use Rattle.lua_slots.specs.LuaNumberWhole.{fits}
+use Rattle.lua_slots.specs.MwHtmlRender.{Piece, Whole, Deep, render}
+use Rattle.lua_slots.specs.LuaHeapProc.{Proc}
+use Rattle.lua_slots.specs.LuaHeapValue.{Value, Nil, Truth, Number, Text, Table, Builtin, Markup, is_nil}
+use Rattle.lua_slots.specs.LuaHeapTable.{get}
+use Rattle.lua_slots.specs.LuaHeapHeap.{table_at}
+use Rattle.lua_slots.specs.LuaHeapDeclaredLibraryLibraryTheVariants.{BasicNext, IpairsStep}
+use Rattle.lua_slots.specs.LuaMeaningScope.{Bytes}
+use Rattle.lua_slots.specs.LuaMeaningTitled.{item_of}
+use Rattle.lua_slots.specs.LuaMeaningQuestions.{Asked, TemplateAsked, TextAsked, DataAsked}
+use Rattle.lua_slots.specs.LuaMeaningValues.{first, rest, text_in, is_function}
+use Rattle.lua_slots.specs.LuaMeaningActs.{Jump, Raised, Progress, Running, Finished}
+use Rattle.lua_slots.specs.LuaMeaningMetatables.{handler}
+use Rattle.lua_slots.specs.LuaMeaningArguments.{Plain, a_table, a_number, a_text}
+use Rattle.lua_slots.specs.LuaMeaningHtml.{text_of_object}
+use Rattle.lua_slots.specs.LuaMeaningCallBacks.{text_of}
+use Rattle.lua_slots.specs.LuaMeaningFrameMethods.{FramedEnd, FrameEnds, FrameQuotes, FrameAsks, FrameWalks}
+use Rattle.lua_slots.specs.LuaMeaningGsub.{Replacement, ByText, ByTable, ByFunction, Job, Far, Replacing, Search, NoMatch, Matched, search, replacement_given, with_piece, nothing_yet, GsubForm, GsubAnswers, GsubAsks, gsub_form}
+use Rattle.lua_slots.specs.LuaMeaningPending.{Pending, PcallWaits, XpcallWaits, HandlerWaits, ToStringWaits, PairsWaits, GsubWaits, ModuleWaits}
+use Rattle.lua_slots.specs.LuaMeaningLibraries.{Caller, Pcall, Xpcall, ToString, Pairs, Ipairs, NextPlace, Require, LoadData, StrictRead, StrictWrite, Gsub, Form, Answers, InFrames, CallsBack}
+use Rattle.lua_slots.specs.LuaMeaningStart.{Work, Invoke, DataOf, Failed}
 use Rattle.lua_asks.proofs.NoData.{AsksNoData, NeedsNoData}
-use Rattle.lua_meaning.specs.Arguments.{Argument}
+use Rattle.lua_slots.specs.LuaMeaningArguments.{Argument}
 use Rattle.lua_slots.specs.Code.{Protos, CModule, CWorld}
 use Rattle.lua_slots.specs.Slots.{Slots, with_heap}
 use Rattle.lua_slots.specs.Points.{SFrame, Waits, DataNow, Texts, Costs, Now}

@@ -1,15 +1,15 @@
 -- Each move keeps what is loaded, and asks only for what is not.
 use Rattle.std.proofs.Common.{ℕ, Bool, List, [], ◌∷◌, Option, Some, None, refl}
 use Rattle.std.specs.Prelude.{ℤ, pos, ◌+ℤ◌}
-use Rattle.page_run.specs.Outcome.{Goes, Jumps}
-use Rattle.lua_number.specs.Whole.{fits}
-use Rattle.lua_heap.specs.Proc.{Proc}
-use Rattle.lua_heap.specs.Heap.{new_table}
-use Rattle.lua_heap.specs.Value.{Value, Nil, Number, Text, Table, is_true, is_nil}
-use Rattle.lua_meaning.specs.Values.{first, second, third, number_in, text_in}
-use Rattle.lua_meaning.specs.Acts.{Jump, Broke}
-use Rattle.lua_meaning.specs.Loops.{is_within}
-use Rattle.lua_meaning.specs.Libraries.{form}
+use Rattle.lua_slots.specs.PageRunOutcome.{Goes, Jumps}
+use Rattle.lua_slots.specs.LuaNumberWhole.{fits}
+use Rattle.lua_slots.specs.LuaHeapProc.{Proc}
+use Rattle.lua_slots.specs.LuaHeapHeap.{new_table}
+use Rattle.lua_slots.specs.LuaHeapValue.{Value, Nil, Number, Text, Table, is_true, is_nil}
+use Rattle.lua_slots.specs.LuaMeaningValues.{first, second, third, number_in, text_in}
+use Rattle.lua_slots.specs.LuaMeaningActs.{Jump, Broke}
+use Rattle.lua_slots.specs.LuaMeaningLoops.{is_within}
+use Rattle.lua_slots.specs.LuaMeaningLibraries.{form}
 use Rattle.lua_slots.specs.Code.{Constants, CExp, ConstantC, TextC, DotsC, FunctionC, LocalC, GlobalC, IndexC, CallC, MethodC, TableC, AndC, OrC, OperateC, UnaryC, ParenC}
 use Rattle.lua_slots.specs.Code.{CExps, NoC, MoreC, CFields, NoFieldC, ItemC, PairC, PlaceC, GlobalTargetC, EntryC, RefusedC}
 use Rattle.lua_slots.specs.Code.{CStat, AssignC, CallStatC, DoC, WhileC, RepeatC, IfC, IfElseC, CountC, CountByC, EachC, ReturnC, BreakC, CBlock, EndC, DeclareC, LocalFunctionC, ThenC, CArms, NoArmC, ArmC, CProto, CWorld}

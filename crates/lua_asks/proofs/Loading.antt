@@ -1,15 +1,15 @@
 -- What a move does to the loaded data: it keeps what is loaded, and asks only for what is not.
 use Rattle.std.proofs.Common.{◌≡◌, ℕ, Bool, true, false, List, [], ◌∷◌, Option, Some, None, IsTrue, refl, sym, subst, is_some, if◌then◌else◌}
 use Rattle.std.proofs.lemmas.Slice.Eq.{bytes_eq-Decides}
-use Rattle.wk_base.specs.declared.title.Title.{Title}
-use Rattle.wk_base.specs.Titles.{title_text}
-use Rattle.mw_frame.specs.declared.question.Ask.TheVariants.{Data, Template, Preprocess}
-use Rattle.page_run.specs.Outcome.{Outcome}
-use Rattle.lua_heap.specs.Value.{Value}
-use Rattle.lua_meaning.specs.Scope.{Bytes}
-use Rattle.lua_meaning.specs.Acts.{Jump}
-use Rattle.lua_meaning.specs.Titled.{Titled, ByTitle, same_title, item_of, with_item}
-use Rattle.lua_meaning.specs.Questions.{DataAsked}
+use Rattle.lua_slots.specs.WkBaseDeclaredTitleTitle.{Title}
+use Rattle.lua_slots.specs.WkBaseTitles.{title_text}
+use Rattle.lua_slots.specs.MwFrameDeclaredQuestionAskTheVariants.{Data, Template, Preprocess}
+use Rattle.lua_slots.specs.PageRunOutcome.{Outcome}
+use Rattle.lua_slots.specs.LuaHeapValue.{Value}
+use Rattle.lua_slots.specs.LuaMeaningScope.{Bytes}
+use Rattle.lua_slots.specs.LuaMeaningActs.{Jump}
+use Rattle.lua_slots.specs.LuaMeaningTitled.{Titled, ByTitle, same_title, item_of, with_item}
+use Rattle.lua_slots.specs.LuaMeaningQuestions.{DataAsked}
 use Rattle.lua_slots.specs.Code.{Place, Reg, Box, Up}
 use Rattle.lua_slots.specs.Slots.{Slots, place_cell, function_of, with_cell, write_place}
 use Rattle.lua_slots.specs.Points.{SFrame, Hears, Point, Gives, Evals, Lists, Finds, Sets, Runs, Starts, Texts, Asking, Works, Move, Costs, Marks, Enters, Exits, Now}

@@ -1,27 +1,27 @@
 -- No method of a frame asks for data.
 use Rattle.std.specs.Prelude.{ℕ, ◌+◌, List, [], length, Option, Some, None, Ok, Err, codes}
-use Rattle.wk_base.specs.declared.title.Title.{Title}
-use Rattle.wk_base.specs.declared.title.Namespace.TheVariants.{Template as TemplateSpace}
-use Rattle.wk_base.specs.Titles.{title_text}
-use Rattle.mw_frame.specs.declared.scene.Arg.{Arg}
-use Rattle.mw_frame.specs.declared.question.Ask.TheVariants.{Template, Preprocess}
-use Rattle.lua_heap.specs.declared.library.Library.{Library}
-use Rattle.lua_heap.specs.declared.library.Library.TheVariants.{FrameGetParent, FrameExpandTemplate, FramePreprocess, FrameGetArgument, FrameArgumentPairs, FrameNewChild, FrameGetTitle, FrameExtensionTag, MwGetCurrentFrame}
-use Rattle.lua_heap.specs.Value.{Value, Text, Table}
-use Rattle.lua_heap.specs.Table.{Entries}
-use Rattle.lua_heap.specs.Heap.{Heap}
-use Rattle.lua_meaning.specs.Scope.{Bytes}
-use Rattle.lua_meaning.specs.World.{World}
-use Rattle.lua_meaning.specs.Acts.{Frame, Parent, Nobody, Unmade, Made}
-use Rattle.lua_meaning.specs.Arguments.{Argument, a_text}
-use Rattle.lua_meaning.specs.Values.{first, rest}
-use Rattle.lua_meaning.specs.Metatables.{field}
-use Rattle.lua_meaning.specs.Questions.{TemplateAsked, TextAsked}
-use Rattle.lua_meaning.specs.Tag.{extension_tag}
-use Rattle.lua_meaning.specs.Frames.{Numbered, merge_args, arg_named, bytes_of}
-use Rattle.lua_meaning.specs.FrameMethods as methods
-use Rattle.lua_meaning.specs.FrameMethods.{FramedEnd, FrameQuotes, FrameAsks, FrameWalks, Framed}
-use Rattle.lua_meaning.specs.Libraries.{Form, InFrames, form}
+use Rattle.lua_slots.specs.WkBaseDeclaredTitleTitle.{Title}
+use Rattle.lua_slots.specs.WkBaseDeclaredTitleNamespaceTheVariants.{Template as TemplateSpace}
+use Rattle.lua_slots.specs.WkBaseTitles.{title_text}
+use Rattle.lua_slots.specs.MwFrameDeclaredSceneArg.{Arg}
+use Rattle.lua_slots.specs.MwFrameDeclaredQuestionAskTheVariants.{Template, Preprocess}
+use Rattle.lua_slots.specs.LuaHeapDeclaredLibraryLibrary.{Library}
+use Rattle.lua_slots.specs.LuaHeapDeclaredLibraryLibraryTheVariants.{FrameGetParent, FrameExpandTemplate, FramePreprocess, FrameGetArgument, FrameArgumentPairs, FrameNewChild, FrameGetTitle, FrameExtensionTag, MwGetCurrentFrame}
+use Rattle.lua_slots.specs.LuaHeapValue.{Value, Text, Table}
+use Rattle.lua_slots.specs.LuaHeapTable.{Entries}
+use Rattle.lua_slots.specs.LuaHeapHeap.{Heap}
+use Rattle.lua_slots.specs.LuaMeaningScope.{Bytes}
+use Rattle.lua_slots.specs.LuaMeaningWorld.{World}
+use Rattle.lua_slots.specs.LuaMeaningActs.{Frame, Parent, Nobody, Unmade, Made}
+use Rattle.lua_slots.specs.LuaMeaningArguments.{Argument, a_text}
+use Rattle.lua_slots.specs.LuaMeaningValues.{first, rest}
+use Rattle.lua_slots.specs.LuaMeaningMetatables.{field}
+use Rattle.lua_slots.specs.LuaMeaningQuestions.{TemplateAsked, TextAsked}
+use Rattle.lua_slots.specs.LuaMeaningTag.{extension_tag}
+use Rattle.lua_slots.specs.LuaMeaningFrames.{Numbered, merge_args, arg_named, bytes_of}
+use Rattle.lua_slots.specs.LuaMeaningFrameMethods as methods
+use Rattle.lua_slots.specs.LuaMeaningFrameMethods.{FramedEnd, FrameQuotes, FrameAsks, FrameWalks, Framed}
+use Rattle.lua_slots.specs.LuaMeaningLibraries.{Form, InFrames, form}
 use Rattle.lua_asks.proofs.CalmValues.{IsOther}
 
 abbrev pub AsksNoData : FramedEnd → Type 0

@@ -1,11 +1,11 @@
 -- From one event to the next.
 use Rattle.std.proofs.Common.{◌≡◌, ◌⊎◌, ℕ, List, [], ◌∷◌, Option, Some, None, refl, ap, subst, inl, inr}
-use Rattle.wk_base.specs.declared.title.Title.{Title}
-use Rattle.page_run.specs.Outcome.{Goes}
-use Rattle.page_run.specs.Perform.{less}
-use Rattle.lua_heap.specs.Value.{Table}
-use Rattle.lua_meaning.specs.Scope.{Bytes}
-use Rattle.lua_meaning.specs.Questions.{DataAsked}
+use Rattle.lua_slots.specs.WkBaseDeclaredTitleTitle.{Title}
+use Rattle.lua_slots.specs.PageRunOutcome.{Goes}
+use Rattle.lua_slots.specs.PageRunPerform.{less}
+use Rattle.lua_slots.specs.LuaHeapValue.{Table}
+use Rattle.lua_slots.specs.LuaMeaningScope.{Bytes}
+use Rattle.lua_slots.specs.LuaMeaningQuestions.{DataAsked}
 use Rattle.lua_slots.specs.Code.{CWorld}
 use Rattle.lua_slots.specs.Slots.{Slots}
 use Rattle.lua_slots.specs.Points.{SFrame, Hears, Point, Gives, Move, Costs, Marks, Enters, Exits, Now}

@@ -1,13 +1,13 @@
 -- A MACHINE ASKS FOR THE TABLES OF A DATA MODULE ONCE (Scribunto, mw.loadData: within one invocation the same table comes back). So the
 -- tables of two answers to one machine are of two modules.
 use Rattle.std.specs.Prelude.{◌≡◌, ℕ, List, [], ◌∷◌, Option, None, is_some, IsTrue}
-use Rattle.wk_base.specs.declared.title.Title.{Title}
-use Rattle.mw_frame.specs.declared.question.Ask.TheVariants.{Data}
-use Rattle.page_run.specs.Outcome.{Goes}
-use Rattle.lua_heap.specs.Value.{Table}
-use Rattle.lua_meaning.specs.Scope.{Bytes}
-use Rattle.lua_meaning.specs.Titled.{item_of}
-use Rattle.lua_meaning.specs.Questions.{DataAsked}
+use Rattle.lua_slots.specs.WkBaseDeclaredTitleTitle.{Title}
+use Rattle.lua_slots.specs.MwFrameDeclaredQuestionAskTheVariants.{Data}
+use Rattle.lua_slots.specs.PageRunOutcome.{Goes}
+use Rattle.lua_slots.specs.LuaHeapValue.{Table}
+use Rattle.lua_slots.specs.LuaMeaningScope.{Bytes}
+use Rattle.lua_slots.specs.LuaMeaningTitled.{item_of}
+use Rattle.lua_slots.specs.LuaMeaningQuestions.{DataAsked}
 use Rattle.lua_slots.specs.Code.{CWorld}
 use Rattle.lua_slots.specs.Slots.{Slots}
 use Rattle.lua_slots.specs.Points.{SFrame, Hears, Point, Gives, Asking}

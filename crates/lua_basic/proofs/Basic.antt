@@ -1,8 +1,8 @@
 -- What the basic functions give, one lemma for each way out.
 use Rattle.std.proofs.Common.{◌≡◌, ◌∙◌, ap, sym, ℤ, true, false, List, [], ◌∷◌, length, refl, pos, codes, Ok}
-use Rattle.lua_heap.specs.Proc.{Proc}
-use Rattle.lua_heap.specs.Heap.{Heap}
-use Rattle.lua_heap.specs.Value.{Value, Nil, Text, Number, is_true, is_nil}
+use Rattle.lua_store.specs.LuaHeapProc.{Proc}
+use Rattle.lua_store.specs.LuaHeapHeap.{Heap}
+use Rattle.lua_meaning.specs.LuaHeapValue.{Value, Nil, Text, Number, is_true, is_nil}
 use Rattle.lua_meaning.specs.Scope.{Bytes}
 use Rattle.lua_meaning.specs.Values.{first, second, rest}
 use Rattle.lua_meaning.specs.Metatables.{metatable, field}

@@ -5,10 +5,10 @@ use Rattle.std.specs.Ordering.{int_eq}
 use Rattle.std.proofs.lemmas.Int.{ints}
 use Rattle.std.proofs.lemmas.Bool.Decides.{Decides-int_eq}
 use Rattle.std.proofs.lemmas.List.{drop_all}
-use Rattle.lua_heap.specs.Proc.{Proc}
-use Rattle.lua_heap.specs.Heap.{Heap}
-use Rattle.lua_heap.specs.Value.{Value, Number}
-use Rattle.lua_heap.specs.Table.{Entries, get}
+use Rattle.lua_store.specs.LuaHeapProc.{Proc}
+use Rattle.lua_store.specs.LuaHeapHeap.{Heap}
+use Rattle.lua_meaning.specs.LuaHeapValue.{Value, Number}
+use Rattle.lua_store.specs.LuaHeapTable.{Entries, get}
 use Rattle.lua_meaning.specs.Arguments.{Plain, gives}
 use Rattle.lua_meaning.specs.Basic.{entries_from, from_place, no_such_place}
 use Rattle.lua_basic.specs.Select.{left_out}

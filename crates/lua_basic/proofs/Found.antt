@@ -1,16 +1,16 @@
 -- Arguments that are found, and those that are refused.
 use Rattle.std.proofs.Common.{◌≡◌, ℕ, ◌-◌, ℤ, true, false, List, [], ◌∷◌, Ok, Err, refl, arith, sym, ap, subst, ◌∙◌}
 use Rattle.std.specs.Prelude.{Result}
-use Rattle.lua_heap.specs.Proc.{Proc}
-use Rattle.lua_heap.specs.Heap.{Heap}
-use Rattle.lua_heap.specs.Value as kind
-use Rattle.lua_heap.specs.Value.{is_nil}
+use Rattle.lua_store.specs.LuaHeapProc.{Proc}
+use Rattle.lua_store.specs.LuaHeapHeap.{Heap}
+use Rattle.lua_meaning.specs.LuaHeapValue as kind
+use Rattle.lua_meaning.specs.LuaHeapValue.{is_nil}
 use Rattle.lua_meaning.specs.Scope.{Bytes}
 use Rattle.lua_meaning.specs.Values.{first}
 use Rattle.lua_meaning.specs.Arguments.{Plain, PlainEnd, Argument, with_argument, fails, number_or, a_number}
 use Rattle.lua_store.specs.declared.value.Value.{Value}
 use Rattle.lua_store.specs.Seen.{StoreView}
-use Rattle.wk_base.specs.declared.left.Left.{Left}
+use Rattle.lua_number.specs.WkBaseDeclaredLeftLeft.{Left}
 use Rattle.lua_basic.specs.declared.stop.Stop.{Stop}
 use Rattle.lua_basic.specs.declared.stop.Stop.TheVariants as stop
 use Rattle.lua_basic.specs.Seen.{ends, less_steps, Stops, Free, Covers, Paid, Refuses}

@@ -1,7 +1,7 @@
 -- Lists of values, and what begins them.
 use Rattle.std.proofs.Common.{◌≡◌, ◌∙◌, ap, sym, ℕ, Bool, false, List, [], ◌∷◌, ◌++◌, length, refl}
 use Rattle.std.specs.Bool.{◌==◌}
-use Rattle.lua_heap.specs.Value.{Value as Seen}
+use Rattle.lua_meaning.specs.LuaHeapValue.{Value as Seen}
 use Rattle.lua_meaning.specs.Values.{first, kind_of}
 use Rattle.lua_meaning.specs.Messages.{got}
 use Rattle.lua_store.specs.declared.value.Value.{Value}

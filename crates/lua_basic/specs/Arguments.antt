@@ -1,6 +1,6 @@
 -- ARGUMENTS as they are found: the meaning's argument, for what was found or for nothing.
 use Rattle.std.specs.Prelude.{ℕ, List, Option, Some, None, Ok, Err, codes}
-use Rattle.lua_heap.specs.Value.{Value}
+use Rattle.lua_meaning.specs.LuaHeapValue.{Value}
 use Rattle.lua_meaning.specs.Scope.{Bytes}
 use Rattle.lua_meaning.specs.Messages.{bad_argument, expected}
 use Rattle.lua_meaning.specs.Arguments.{Argument}

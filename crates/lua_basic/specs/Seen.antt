@@ -1,9 +1,9 @@
 -- WHAT THE ANSWERS OF FUNCTIONS ARE SEEN AS, where texts are names of a store; and when an answer is the meaning's own.
 use Rattle.std.specs.Prelude.{◌≡◌, ℕ, ◌-◌, ◌<◌, ◌≤◌, List, map, Result, Ok, Err}
 use Rattle.std.specs.List.{AllByRecursion}
-use Rattle.wk_base.specs.declared.left.Left.{Left}
-use Rattle.lua_heap.specs.Proc.{Proc}
-use Rattle.lua_heap.specs.Value as kind
+use Rattle.lua_number.specs.WkBaseDeclaredLeftLeft.{Left}
+use Rattle.lua_store.specs.LuaHeapProc.{Proc}
+use Rattle.lua_meaning.specs.LuaHeapValue as kind
 use Rattle.lua_meaning.specs.Arguments.{Plain, PlainEnd, Gives, Fails, Argument, with_argument}
 use Rattle.lua_store.specs.declared.value.Value.{Value}
 use Rattle.lua_store.specs.Seen.{StoreView, seen}

@@ -1,7 +1,7 @@
 -- WHAT `unpack` GIVES once its arguments are known (manual 5.1): the entries at the numbers from one to another, each for a step.
 use Rattle.std.specs.Prelude.{ℕ, ℤ}
-use Rattle.lua_heap.specs.Proc.{Proc}
-use Rattle.lua_heap.specs.Heap.{Heap, table_at}
+use Rattle.lua_store.specs.LuaHeapProc.{Proc}
+use Rattle.lua_store.specs.LuaHeapHeap.{Heap, table_at}
 use Rattle.lua_meaning.specs.Arguments.{Plain, costs}
 use Rattle.lua_meaning.specs.Basic.{count_between, entries_from}
 

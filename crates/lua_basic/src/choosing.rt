@@ -1,6 +1,6 @@
 //! `select` and `type` (manual 5.1).
 ghost use Rattle.std.specs.Prelude.{◌≡◌, ◌≤◌, ℕ, List, length, drop, pos, IfSome};
-ghost use Rattle.lua_heap.specs.Value as kind;
+ghost use Rattle.lua_meaning.specs.LuaHeapValue as kind;
 ghost use Rattle.lua_meaning.specs.Basic as meaning;
 ghost use Rattle.lua_store.specs.Seen.{StoreView, seen};
 ghost use Rattle.lua_store.specs.Parts.{IsOf, IsLater};
@@ -11,9 +11,8 @@ use crate::arguments::a_number;
 use crate::messages::refuse;
 use crate::stop::Stop;
 use crate::values::{copy, first, kind_of, rest, single};
-use lua_store::{Store, Value};
+use lua_store::{List, Store, Value};
 use std::alloc::Global;
-use wk_base::List;
 
 /// `type(v)`: the name of its kind.
 pub fn kind(alloc: Global, store: &mut Store, args: &[Value]) -> Result<List<Value>, Stop>

@@ -5,8 +5,8 @@ ghost use Rattle.lua_store.specs.Seen.{seen, text_at};
 ghost use Rattle.lua_store.specs.Parts.{IsOf, IsTextOf, IsLater};
 ghost use Rattle.lua_store.specs.declared.value.Value as own;
 
+use lua_number::NoMemory;
 use lua_store::{Store, TextId, Value};
-use wk_base::NoMemory;
 
 /// The metatable of a value, or nil.
 pub fn metatable(store: &Store, value: Value) -> Value

@@ -11,9 +11,8 @@ use crate::fields::{field, metatable};
 use crate::messages::{fail, refuse_kind};
 use crate::stop::Stop;
 use crate::values::{first, is_nil, rest, single};
-use lua_store::{Store, TableId, Value};
+use lua_store::{List, Store, TableId, Value};
 use std::alloc::Global;
-use wk_base::List;
 
 /// `getmetatable(v)`: the field `__metatable` of the metatable, if that is there, else the metatable or nil.
 pub fn get_metatable(alloc: Global, store: &mut Store, args: &[Value]) -> Result<List<Value>, Stop>

@@ -33,4 +33,9 @@ pub mod unpacking;
 pub mod values;
 pub mod walking;
 
+pub use lua_number::Left;
+pub use lua_store::{
+    CellId, Closure, ClosureId, ClosureKind, Library, List, MarkupChild, MarkupId, MarkupNode,
+    MarkupStyle, ProtoId, Store, TableId, TextId, TextPair, Value,
+};
 pub use stop::Stop;

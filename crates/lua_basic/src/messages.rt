@@ -7,9 +7,9 @@ ghost use Rattle.lua_basic.specs.Seen.{values_seen, Stops, StopOf};
 
 use crate::stop::Stop;
 use crate::values::{first, kind_of};
+use lua_number::NoMemory;
 use lua_store::{Store, Value};
 use std::alloc::Global;
-use wk_base::NoMemory;
 
 /// A text that begins with these bytes.
 fn begin(alloc: Global, bytes: &[u8]) -> Result<Vec<u8>, NoMemory>

@@ -10,9 +10,8 @@ use crate::messages::refuse;
 use crate::stop::Stop;
 use crate::values::{first, number_in, rest, single};
 use lua_number::read_in_base;
-use lua_store::{Store, Value};
+use lua_store::{List, Store, Value};
 use std::alloc::Global;
-use wk_base::List;
 
 /// The value of a number, or nil for none.
 fn number_or_nil(number: Option<i64>) -> Value

@@ -6,9 +6,8 @@ ghost use Rattle.lua_basic.specs.Seen.{values_seen, AllOf, Free, AnswerOf};
 use crate::arguments::number_or;
 use crate::stop::Stop;
 use crate::values::{copy, first, is_nil, is_true, rest, second};
-use lua_store::{Store, Value};
+use lua_store::{List, Store, Value};
 use std::alloc::Global;
-use wk_base::List;
 
 /// `assert(v, m)`: all its arguments, or m is raised, without a place.
 pub fn assert(alloc: Global, store: &mut Store, args: &[Value]) -> Result<List<Value>, Stop>

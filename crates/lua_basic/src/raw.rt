@@ -1,6 +1,6 @@
 //! Tables without handlers (manual 5.1).
 ghost use Rattle.std.specs.Prelude.{◌≡◌};
-ghost use Rattle.lua_heap.specs.Heap.{table_at};
+ghost use Rattle.lua_store.specs.LuaHeapHeap.{table_at};
 ghost use Rattle.lua_meaning.specs.Basic as meaning;
 ghost use Rattle.lua_store.specs.Seen.{seen};
 ghost use Rattle.lua_store.specs.Parts.{IsOf, IsTableOf, IsLater};
@@ -10,9 +10,9 @@ use crate::arguments::a_table;
 use crate::messages::fail;
 use crate::stop::{Stop, pay};
 use crate::values::{first, is_nil, second, single, third};
-use lua_store::{Store, TableId, Value};
+use lua_number::Left;
+use lua_store::{List, Store, TableId, Value};
 use std::alloc::Global;
-use wk_base::{Left, List};
 
 /// `rawequal(a, b)`: whether they are the same value.
 pub fn raw_equal(alloc: Global, store: &mut Store, args: &[Value]) -> Result<List<Value>, Stop>

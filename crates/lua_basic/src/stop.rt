@@ -1,8 +1,8 @@
 //! Why a function of the library gives no values, and what it costs.
 ghost use Rattle.std.specs.Prelude.{◌≡◌, ◌-◌, ◌<◌, ◌≤◌, Ok, Err, OnOk, OnErr};
 
+use lua_number::{Left, NoMemory};
 use lua_store::Value;
-use wk_base::{Left, NoMemory};
 
 /// Why a function of the library gives no values.
 #[derive(Clone, Copy, Debug, PartialEq, Eq)]

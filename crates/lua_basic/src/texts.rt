@@ -6,9 +6,9 @@ ghost use Rattle.lua_store.specs.Seen.{seen};
 ghost use Rattle.lua_store.specs.Parts.{IsOf};
 ghost use Rattle.lua_basic.specs.Arguments.{text_bytes};
 
+use lua_number::NoMemory;
 use lua_store::{Store, Value};
 use std::alloc::Global;
-use wk_base::NoMemory;
 
 /// A text that is kept in a store, or that was written for a number.
 #[derive(Drop)]

@@ -1,8 +1,8 @@
 //! `unpack` (manual 5.1).
 ghost use Rattle.std.specs.Prelude.{◌≡◌, ◌<◌, ◌^◌, ◌+ℤ◌, ◌<ℤ◌, ◌≤ℤ◌, pos, IfOk, IfSome, MatchOption};
-ghost use Rattle.lua_heap.specs.Heap.{table_at};
-ghost use Rattle.lua_heap.specs.Table.{get};
-ghost use Rattle.lua_heap.specs.Value as kind;
+ghost use Rattle.lua_store.specs.LuaHeapHeap.{table_at};
+ghost use Rattle.lua_store.specs.LuaHeapTable.{get};
+ghost use Rattle.lua_meaning.specs.LuaHeapValue as kind;
 ghost use Rattle.lua_store.specs.Seen.{seen};
 ghost use Rattle.lua_meaning.specs.Basic as meaning;
 ghost use Rattle.lua_store.specs.Parts.{IsOf, IsTableOf, IsLater};
@@ -13,9 +13,9 @@ ghost use Rattle.lua_basic.specs.Unpack.{unpacked};
 use crate::arguments::{a_table, number_or};
 use crate::stop::{Stop, pay};
 use crate::values::rest;
-use lua_store::{Store, TableId, Value};
+use lua_number::{Left, NoMemory};
+use lua_store::{List, Store, TableId, Value};
 use std::alloc::Global;
-use wk_base::{Left, List, NoMemory};
 
 /// How many whole numbers there are from one to another, or None for 2^64.
 fn count_between(first: i64, last: i64) -> Option<u64>

@@ -1,15 +1,14 @@
 //! Values, and lists of values (manual 2.2, 2.2.1, 2.4.3 and 2.5).
 ghost use Rattle.std.specs.Prelude.{◌≡◌, ℕ, List, [], ◌∷◌, IfOk};
-ghost use Rattle.lua_heap.specs.Value as kind;
+ghost use Rattle.lua_meaning.specs.LuaHeapValue as kind;
 ghost use Rattle.lua_meaning.specs.Values as meaning;
 ghost use Rattle.lua_store.specs.Seen.{StoreView, seen};
 ghost use Rattle.lua_store.specs.Parts.{IsOf};
 ghost use Rattle.lua_basic.specs.Seen.{values_seen, AllOf};
 
-use lua_number::read_number;
-use lua_store::{Store, Value};
+use lua_number::{NoMemory, read_number};
+use lua_store::{List, Store, Value};
 use std::alloc::Global;
-use wk_base::{List, NoMemory};
 
 /// Whether a value is nil.
 pub fn is_nil(value: Value) -> bool

@@ -1,6 +1,6 @@
 //! `next` (manual 5.1).
 ghost use Rattle.std.specs.Prelude.{◌≡◌, ℕ, List, IfOk};
-ghost use Rattle.lua_heap.specs.Heap.{table_at};
+ghost use Rattle.lua_store.specs.LuaHeapHeap.{table_at};
 ghost use Rattle.lua_meaning.specs.Basic as meaning;
 ghost use Rattle.lua_store.specs.Seen.{StoreView, seen};
 ghost use Rattle.lua_store.specs.Parts.{IsOf, IsTableOf, IsLater};
@@ -10,9 +10,9 @@ use crate::arguments::a_table;
 use crate::messages::fail;
 use crate::stop::{Stop, pay};
 use crate::values::{is_nil, pair, second, single};
-use lua_store::{Store, TableId, Value};
+use lua_number::{Left, NoMemory};
+use lua_store::{List, Store, TableId, Value};
 use std::alloc::Global;
-use wk_base::{Left, List, NoMemory};
 
 /// The key and the value of an entry, or nil alone at the end.
 fn key_and_value(alloc: Global, key: Value, value: Value) -> Result<List<Value>, NoMemory>

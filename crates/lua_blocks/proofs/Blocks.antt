@@ -12,12 +12,12 @@ use Rattle.lua_code.specs.declared.statement.Statement.TheViews.{out-Statement}
 use Rattle.lua_code.specs.declared.statement.Statement.TheFolds.{map-Statement, fold_out-Statement}
 use Rattle.lua_code.specs.Seen.{expression_seen, statement_step, statement_seen, branch_seen, block_seen, branches_seen}
 use Rattle.lua_code.proofs.Views.{statement-If, statement-IfElse, statement-Count, statement-CountBy}
-use Rattle.lua_slots.specs.Code.{CBlock}
-use Rattle.lua_slots.specs.Slots.{Slots}
-use Rattle.lua_slots.specs.Points.{SFrame, CountFrom, StatsNext, Evals, Now}
-use Rattle.lua_slots.specs.Errors.{node}
-use Rattle.lua_slots.specs.Statements.{branches, runs}
-use Rattle.lua_arms.specs.Paid.{behind_node}
+use Rattle.lua_code.specs.LuaSlotsCode.{CBlock}
+use Rattle.lua_state.specs.LuaSlotsSlots.{Slots}
+use Rattle.lua_state.specs.LuaSlotsPoints.{SFrame, CountFrom, StatsNext, Evals, Now}
+use Rattle.lua_state.specs.LuaSlotsErrors.{node}
+use Rattle.lua_code.specs.LuaSlotsStatements.{branches, runs}
+use Rattle.lua_state.specs.LuaArmsPaid.{behind_node}
 
 statement_opens : (x : Statement) → statement_seen x ≡ statement_step (map-Statement _ _ _ _ statement_seen branch_seen (out-Statement x))
 unfolding statement_seen branch_seen

@@ -1,22 +1,22 @@
 -- The heap and the registers of a machine change, and all else stays.
 use Rattle.std.proofs.Common.{◌≡◌, ◌∙◌, refl, sym, ap, arith, ℕ, Bool, List, length, Option, Some, None}
-use Rattle.wk_base.specs.declared.left.Left.{Left}
-use Rattle.lua_heap.specs.Proc.{Proc}
-use Rattle.lua_heap.specs.Value.{Value, Nil, Closure as ClosureValue}
-use Rattle.lua_heap.specs.Heap.{Heap, Function as FunctionClosed, new_closure}
-use Rattle.lua_store.specs.declared.ids.ClosureId.{ClosureId}
-use Rattle.lua_store.specs.Seen.{StoreView, text_at}
-use Rattle.lua_store.specs.Parts.{IsLater}
-use Rattle.lua_slots.specs.Code.{Place, Reg, Box, Up}
-use Rattle.lua_slots.specs.Sight.{newest}
-use Rattle.lua_slots.specs.Slots as slots
-use Rattle.lua_slots.specs.Slots.{Slots, function_of, place_cell, with_cell, write_place, with_one, opened, proc_of, with_closure, next_closure, with_function_named}
-use Rattle.lua_slots.specs.Points.{SFrame, Point, Now}
-use Rattle.lua_stack.specs.declared.register.Slot.{Slot}
-use Rattle.lua_stack.specs.declared.focus.Focus.{Focus}
-use Rattle.lua_stack.specs.Places.{heap_with, written_at}
-use Rattle.lua_stack.specs.Seen.{registers_seen, captured_by, focus_seen}
-use Rattle.lua_stack.specs.Of.{RegistersOf, MayBeClosureOf, FocusOf}
+use Rattle.page_run.specs.WkBaseDeclaredLeftLeft.{Left}
+use Rattle.lua_code.specs.LuaHeapProc.{Proc}
+use Rattle.lua_code.specs.LuaHeapValue.{Value, Nil, Closure as ClosureValue}
+use Rattle.lua_code.specs.LuaHeapHeap.{Heap, Function as FunctionClosed, new_closure}
+use Rattle.lua_state.specs.LuaStoreDeclaredIdsClosureId.{ClosureId}
+use Rattle.lua_state.specs.LuaStoreSeen.{StoreView, text_at}
+use Rattle.lua_state.specs.LuaStoreParts.{IsLater}
+use Rattle.lua_code.specs.LuaSlotsCode.{Place, Reg, Box, Up}
+use Rattle.lua_code.specs.LuaSlotsSight.{newest}
+use Rattle.lua_state.specs.LuaSlotsSlots as slots
+use Rattle.lua_state.specs.LuaSlotsSlots.{Slots, function_of, place_cell, with_cell, write_place, with_one, opened, proc_of, with_closure, next_closure, with_function_named}
+use Rattle.lua_state.specs.LuaSlotsPoints.{SFrame, Point, Now}
+use Rattle.lua_state.specs.LuaStackDeclaredRegisterSlot.{Slot}
+use Rattle.lua_state.specs.LuaStackDeclaredFocusFocus.{Focus}
+use Rattle.lua_state.specs.LuaStackPlaces.{heap_with, written_at}
+use Rattle.lua_state.specs.LuaStackSeen.{registers_seen, captured_by, focus_seen}
+use Rattle.lua_state.specs.LuaStackOf.{RegistersOf, MayBeClosureOf, FocusOf}
 use Rattle.lua_state.specs.declared.state.State.{State}
 use Rattle.lua_state.specs.declared.turn.Turn.TheVariants as turn
 use Rattle.lua_state.specs.Seen.{slots_of, frames_of}

@@ -3,18 +3,18 @@ use Rattle.std.proofs.Common.{◌≡◌, ◌∙◌, ◌+◌, refl, sym, ap, subs
 use Rattle.std.specs.Prelude.{reverse}
 use mathlib.Core.List.{reverse_aux}
 use Rattle.std.specs.List.{AllByRecursion}
-use Rattle.lua_graph.proofs.Places.{drop_at, drop_past}
-use Rattle.lua_meaning.specs.Values.{first, rest}
-use Rattle.lua_store.specs.declared.value.Value.{Value}
-use Rattle.lua_store.specs.Seen.{StoreView, seen}
-use Rattle.lua_slots.specs.Statements.{with_values}
-use Rattle.lua_stack.specs.declared.values.Given.{Given}
-use Rattle.lua_stack.specs.declared.frame.Found.{Found}
-use Rattle.lua_stack.specs.declared.frame.Setting.{Setting}
-use Rattle.lua_stack.specs.Lists.{first_stored, rest_stored, given_values}
-use Rattle.lua_stack.specs.Seen.{values_seen, given_seen, found_seen, settings_seen}
-use Rattle.lua_stack.specs.Of.{ValuesOf, FoundOf, SettingOf}
-use Rattle.lua_stack.proofs.Openings.{first_seen, rest_seen, first_of}
+use Rattle.lua_state.proofs.LuaGraphPlaces.{drop_at, drop_past}
+use Rattle.lua_code.specs.LuaMeaningValues.{first, rest}
+use Rattle.lua_state.specs.LuaStoreDeclaredValueValue.{Value}
+use Rattle.lua_state.specs.LuaStoreSeen.{StoreView, seen}
+use Rattle.lua_code.specs.LuaSlotsStatements.{with_values}
+use Rattle.lua_state.specs.LuaStackDeclaredValuesGiven.{Given}
+use Rattle.lua_state.specs.LuaStackDeclaredFrameFound.{Found}
+use Rattle.lua_state.specs.LuaStackDeclaredFrameSetting.{Setting}
+use Rattle.lua_state.specs.LuaStackLists.{first_stored, rest_stored, given_values}
+use Rattle.lua_state.specs.LuaStackSeen.{values_seen, given_seen, found_seen, settings_seen}
+use Rattle.lua_state.specs.LuaStackOf.{ValuesOf, FoundOf, SettingOf}
+use Rattle.lua_state.proofs.LuaStackOpenings.{first_seen, rest_seen, first_of}
 
 -- some have their values, and what is left gives what all give
 pub record Assigns (s : StoreView) (ts left : List Found) (vs0 vs : List Value) (ps : List Setting) : Type 0 where

@@ -1,1 +1,19 @@
+pub use Rattle.lua_code.specs.LuaMeaningActs as LuaMeaningActs
+pub use Rattle.lua_code.specs.LuaSlotsIndex as LuaSlotsIndex
+pub use Rattle.lua_code.specs.LuaSlotsMoves as LuaSlotsMoves
+pub use Rattle.lua_state.specs.LuaArmsDeclaredStepPaid as LuaArmsDeclaredStepPaid
+pub use Rattle.lua_state.specs.LuaArmsDeclaredStepPaidTheVariants as LuaArmsDeclaredStepPaidTheVariants
+pub use Rattle.lua_state.specs.LuaArmsDeclaredStepStepTheVariants as LuaArmsDeclaredStepStepTheVariants
+pub use Rattle.lua_state.specs.LuaArmsPaid as LuaArmsPaid
+pub use Rattle.lua_state.specs.LuaMeaningCharges as LuaMeaningCharges
+pub use Rattle.lua_state.specs.LuaSlotsErrors as LuaSlotsErrors
+pub use Rattle.lua_state.specs.LuaSlotsPoints as LuaSlotsPoints
+pub use Rattle.lua_state.specs.LuaSlotsSlots as LuaSlotsSlots
+pub use Rattle.lua_state.specs.LuaStackLists as LuaStackLists
+pub use Rattle.lua_state.specs.LuaStackSeen as LuaStackSeen
+pub use Rattle.lua_state.specs.Makes as LuaStateMakes
+pub use Rattle.lua_state.specs.Of as LuaStateOf
+pub use Rattle.lua_state.specs.Seen as LuaStateSeen
+pub use Rattle.lua_state.specs.declared.codes.World as LuaStateDeclaredCodesWorld
+pub use Rattle.lua_state.specs.declared.outcome.Outcome.TheVariants as LuaStateDeclaredOutcomeOutcomeTheVariants
 pub mod Named

@@ -1,14 +1,14 @@
 -- A LOCAL FUNCTION (manual 2.4.7 and 2.5.9), where the heap with the registers, the cells of the running function and the title of its
 -- module stand apart: what `lua_slots` says of a whole machine.
 use Rattle.std.specs.Prelude.{ℕ, Bool, List, length}
-use Rattle.lua_heap.specs.Proc.{Proc}
-use Rattle.lua_heap.specs.Value.{Nil, Closure as ClosureValue}
-use Rattle.lua_heap.specs.Heap.{Heap, Function as FunctionClosed, new_closure}
-use Rattle.lua_meaning.specs.Scope.{Bytes}
-use Rattle.lua_slots.specs.Code.{Place}
-use Rattle.lua_slots.specs.Sight.{newest}
-use Rattle.lua_slots.specs.Slots.{Slot, cells_at, with_one}
-use Rattle.lua_stack.specs.Places.{written_at}
+use Rattle.lua_code.specs.LuaHeapProc.{Proc}
+use Rattle.lua_code.specs.LuaHeapValue.{Nil, Closure as ClosureValue}
+use Rattle.lua_code.specs.LuaHeapHeap.{Heap, Function as FunctionClosed, new_closure}
+use Rattle.lua_code.specs.LuaMeaningScope.{Bytes}
+use Rattle.lua_code.specs.LuaSlotsCode.{Place}
+use Rattle.lua_code.specs.LuaSlotsSight.{newest}
+use Rattle.lua_state.specs.LuaSlotsSlots.{Slot, cells_at, with_one}
+use Rattle.lua_state.specs.LuaStackPlaces.{written_at}
 
 -- a function of this number in the module of this title, with the cells at these places
 abbrev pub proc_at : Bytes → ℕ → List Place → List ℕ → List Slot → Proc

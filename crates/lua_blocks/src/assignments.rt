@@ -1,27 +1,28 @@
 //! A frame that waits in an assignment is given values (manual 2.4.3).
 ghost use Rattle.std.specs.Prelude.{◌≡◌, map, reverse, slice_get, IfOk};
 ghost use Rattle.std.specs.List.{AllByRecursion};
-ghost use Rattle.wk_base.specs.declared.left.Left.{Left as Allowance};
-ghost use Rattle.lua_slots.specs.Code.{CWorld};
-ghost use Rattle.lua_slots.specs.Moves.{goes};
-ghost use Rattle.lua_slots.specs.Points as point;
-ghost use Rattle.lua_slots.specs.Points.{Now};
-ghost use Rattle.lua_slots.specs.Statements.{with_values};
-ghost use Rattle.lua_store.specs.Parts.{IsOf};
-ghost use Rattle.lua_stack.specs.Lists.{first_stored, given_values};
-ghost use Rattle.lua_stack.specs.Of.{FoundOf, GivenOf, InAssignmentOf, SettingOf, ValuesOf};
-ghost use Rattle.lua_stack.specs.Seen.{found_seen, given_seen, in_assignment_seen, settings_seen, values_seen};
+ghost use Rattle.page_run.specs.WkBaseDeclaredLeftLeft.{Left as Allowance};
+ghost use Rattle.lua_code.specs.LuaSlotsCode.{CWorld};
+ghost use Rattle.lua_code.specs.LuaSlotsMoves.{goes};
+ghost use Rattle.lua_state.specs.LuaSlotsPoints as point;
+ghost use Rattle.lua_state.specs.LuaSlotsPoints.{Now};
+ghost use Rattle.lua_code.specs.LuaSlotsStatements.{with_values};
+ghost use Rattle.lua_state.specs.LuaStoreParts.{IsOf};
+ghost use Rattle.lua_state.specs.LuaStackLists.{first_stored, given_values};
+ghost use Rattle.lua_state.specs.LuaStackOf.{FoundOf, GivenOf, InAssignmentOf, SettingOf, ValuesOf};
+ghost use Rattle.lua_state.specs.LuaStackSeen.{found_seen, given_seen, in_assignment_seen, settings_seen, values_seen};
 ghost use Rattle.lua_state.specs.Makes.{Makes};
 ghost use Rattle.lua_state.specs.Of.{StateOf};
 ghost use Rattle.lua_state.specs.Seen.{frames_of, slots_of};
 
 use crate::exits::wait;
 use crate::targets::found;
-use lua_stack::{Finding, Focus, Found, Frame, Given, InAssignment, Setting, Stack, Values};
-use lua_state::{State, Turn};
-use lua_store::{Store, Value};
+use lua_code::{List, NoMemory};
+use lua_state::{
+    Finding, Focus, Found, Frame, Given, InAssignment, Left, Setting, Stack, State, Store, Turn,
+    Value, Values,
+};
 use std::alloc::Global;
-use wk_base::{Left, List, NoMemory};
 
 /// The target at this place of a list.
 fn target_at<'m>(targets: &[Found], at: usize) -> Option<Found>

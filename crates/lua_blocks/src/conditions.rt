@@ -1,28 +1,25 @@
 //! `if` (manual 2.4.4): the first branch whose test is true, or else the last block, if there is one.
 ghost use Rattle.std.specs.Prelude.{◌≡◌, ◌∷◌, option_map, IfOk};
 ghost use Rattle.lua_code.specs.Seen.{block_seen, branches_seen};
-ghost use Rattle.lua_heap.specs.Value.{is_true as is_true_value};
-ghost use Rattle.lua_slots.specs.Errors.{choose};
-ghost use Rattle.lua_slots.specs.Points.{StatsNext};
-ghost use Rattle.lua_slots.specs.Slots.{Slots};
-ghost use Rattle.lua_slots.specs.Statements as machine;
-ghost use Rattle.lua_store.specs.Seen.{seen};
-ghost use Rattle.lua_stack.specs.Of.{FramesOf};
-ghost use Rattle.lua_stack.specs.Seen.{frames_seen, registers_seen};
-ghost use Rattle.lua_arms.specs.Steps.{step_seen, StepOf};
+ghost use Rattle.lua_code.specs.LuaHeapValue.{is_true as is_true_value};
+ghost use Rattle.lua_state.specs.LuaSlotsErrors.{choose};
+ghost use Rattle.lua_state.specs.LuaSlotsPoints.{StatsNext};
+ghost use Rattle.lua_state.specs.LuaSlotsSlots.{Slots};
+ghost use Rattle.lua_code.specs.LuaSlotsStatements as machine;
+ghost use Rattle.lua_state.specs.LuaStoreSeen.{seen};
+ghost use Rattle.lua_state.specs.LuaStackOf.{FramesOf};
+ghost use Rattle.lua_state.specs.LuaStackSeen.{frames_seen, registers_seen};
+ghost use Rattle.lua_state.specs.LuaArmsSteps.{step_seen, StepOf};
 ghost use Rattle.lua_state.specs.Makes.{Makes};
 ghost use Rattle.lua_state.specs.Of.{StateOf};
 ghost use Rattle.lua_state.specs.Seen.{frames_of, slots_of};
 
-use lua_arms::Step;
-use lua_arms::statements::{branches, within};
-use lua_code::{Branch, Statement};
-use lua_stack::values::is_true;
-use lua_stack::{Frame, InStatement, Slot, Stack};
-use lua_state::{State, Turn, finish};
-use lua_store::{Store, Value};
+use lua_code::{Branch, List, NoMemory, Statement};
+use lua_state::{
+    Frame, InStatement, Left, Slot, Stack, State, Step, Store, Turn, Value, branches, finish,
+    is_true, within,
+};
 use std::alloc::Global;
-use wk_base::{Left, List, NoMemory};
 
 /// After a test of an `if`: what follows its `then`, or the branches behind it.
 fn choose_branch<'m>(

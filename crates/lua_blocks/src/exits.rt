@@ -1,19 +1,17 @@
 //! Ends of a move at which nothing can fail: what is next is known, and no allowance is needed.
 ghost use Rattle.std.specs.Prelude.{◌∷◌, [], IfOk};
-ghost use Rattle.wk_base.specs.declared.left.Left.{Left as Allowance};
-ghost use Rattle.lua_slots.specs.Errors.{gives};
-ghost use Rattle.lua_slots.specs.Points.{Now};
-ghost use Rattle.lua_stack.specs.Of.{FocusOf, FrameOf};
-ghost use Rattle.lua_stack.specs.Seen.{focus_seen, frame_seen};
+ghost use Rattle.page_run.specs.WkBaseDeclaredLeftLeft.{Left as Allowance};
+ghost use Rattle.lua_state.specs.LuaSlotsErrors.{gives};
+ghost use Rattle.lua_state.specs.LuaSlotsPoints.{Now};
+ghost use Rattle.lua_state.specs.LuaStackOf.{FocusOf, FrameOf};
+ghost use Rattle.lua_state.specs.LuaStackSeen.{focus_seen, frame_seen};
 ghost use Rattle.lua_state.specs.Makes.{Makes};
 ghost use Rattle.lua_state.specs.Of.{StateOf};
 ghost use Rattle.lua_state.specs.Seen.{frames_of, slots_of};
 
-use lua_stack::{Focus, Frame, Given, Values, give_up};
-use lua_state::{State, Turn};
-use lua_store::Store;
+use lua_code::NoMemory;
+use lua_state::{Focus, Frame, Given, State, Store, Turn, Values, give_up};
 use std::alloc::Global;
-use wk_base::NoMemory;
 
 /// No values for the frames: a statement is over.
 pub fn nothing<'m>(alloc: Global, store: &Store, state: &State<'m>) -> Turn<'m>

@@ -1,23 +1,20 @@
 //! How each form of a statement begins, whose node is paid and counted. What follows the statement waits.
 ghost use Rattle.std.specs.Prelude.{◌≡◌, ◌∷◌, [], map, option_map, IfOk};
-ghost use Rattle.wk_base.specs.declared.left.Left.{Left as Allowance};
+ghost use Rattle.page_run.specs.WkBaseDeclaredLeftLeft.{Left as Allowance};
 ghost use Rattle.lua_code.specs.Seen.{expression_seen, expressions_seen, block_seen, target_seen};
-ghost use Rattle.lua_slots.specs.Points as point;
-ghost use Rattle.lua_slots.specs.Points.{Now, StatsNext};
-ghost use Rattle.lua_slots.specs.Statements as machine;
-ghost use Rattle.lua_stack.specs.Of.{FocusOf, FrameOf, InLoopOf};
-ghost use Rattle.lua_stack.specs.Seen.{focus_seen, frame_seen, in_loop_seen};
+ghost use Rattle.lua_state.specs.LuaSlotsPoints as point;
+ghost use Rattle.lua_state.specs.LuaSlotsPoints.{Now, StatsNext};
+ghost use Rattle.lua_code.specs.LuaSlotsStatements as machine;
+ghost use Rattle.lua_state.specs.LuaStackOf.{FocusOf, FrameOf, InLoopOf};
+ghost use Rattle.lua_state.specs.LuaStackSeen.{focus_seen, frame_seen, in_loop_seen};
 ghost use Rattle.lua_state.specs.Makes.{Makes};
 ghost use Rattle.lua_state.specs.Of.{StateOf};
 ghost use Rattle.lua_state.specs.Seen.{frames_of, slots_of};
 
 use crate::exits::{wait, wait_within};
-use lua_code::{Expression, Statement, Target};
-use lua_stack::{Ending, Focus, Frame, InLoop, InStatement, Thing, Values};
-use lua_state::{State, Turn};
-use lua_store::Store;
+use lua_code::{Expression, List, NoMemory, Statement, Target};
+use lua_state::{Ending, Focus, Frame, InLoop, InStatement, State, Store, Thing, Turn, Values};
 use std::alloc::Global;
-use wk_base::{List, NoMemory};
 
 /// This is next, before these statements.
 pub fn then<'m>(

@@ -1,31 +1,29 @@
 //! Local functions (manual 2.4.7 and 2.5.9): each is the value of a new variable, which it can capture.
 ghost use Rattle.std.specs.Prelude.{◌≡◌, map, length, IfOk, OnOk};
-ghost use Rattle.wk_base.specs.declared.left.Left.{Left as Allowance};
-ghost use Rattle.lua_heap.specs.Heap as heap;
+ghost use Rattle.page_run.specs.WkBaseDeclaredLeftLeft.{Left as Allowance};
+ghost use Rattle.lua_code.specs.LuaHeapHeap as heap;
 ghost use Rattle.lua_code.specs.Seen.{block_seen, place_seen};
-ghost use Rattle.lua_slots.specs.Points.{Costs, Now, Runs};
-ghost use Rattle.lua_slots.specs.Sight.{newest};
-ghost use Rattle.lua_slots.specs.Slots.{function_of, with_function_named};
-ghost use Rattle.lua_store.specs.Parts.{IsClosureOf, IsLater, IsTextOf};
-ghost use Rattle.lua_store.specs.Seen.{text_at};
-ghost use Rattle.lua_stack.specs.Of.{MayBeClosureOf, RegistersOf};
-ghost use Rattle.lua_stack.specs.Seen.{captured_by, registers_seen};
+ghost use Rattle.lua_state.specs.LuaSlotsPoints.{Costs, Now, Runs};
+ghost use Rattle.lua_code.specs.LuaSlotsSight.{newest};
+ghost use Rattle.lua_state.specs.LuaSlotsSlots.{function_of, with_function_named};
+ghost use Rattle.lua_state.specs.LuaStoreParts.{IsClosureOf, IsLater, IsTextOf};
+ghost use Rattle.lua_state.specs.LuaStoreSeen.{text_at};
+ghost use Rattle.lua_state.specs.LuaStackOf.{MayBeClosureOf, RegistersOf};
+ghost use Rattle.lua_state.specs.LuaStackSeen.{captured_by, registers_seen};
 ghost use Rattle.lua_state.specs.Makes.{Makes};
 ghost use Rattle.lua_state.specs.Of.{StateOf};
 ghost use Rattle.lua_state.specs.Seen.{frames_of, slots_of};
 ghost use Rattle.lua_blocks.specs.Named.{proc_at, closure_named, function_named};
-ghost use Rattle.lua_meaning.specs.Charges.{closure_charge};
+ghost use Rattle.lua_state.specs.LuaMeaningCharges.{closure_charge};
 
 use crate::running::running_closure;
-use lua_code::{Place, Statement};
-use lua_stack::opening::open;
-use lua_stack::register::{captures, write};
-use lua_stack::{Focus, Slot, Stack};
-use lua_state::{State, Turn, pay, running_source};
-use lua_store::{ClosureId, ClosureKind, ProtoId, Store, TextId, Value};
+use lua_code::{NoMemory, Place, Statement};
+use lua_state::{
+    ClosureId, ClosureKind, Focus, Left, ProtoId, Slot, Stack, State, Store, TextId, Turn, Value,
+    captures, open, pay, running_source, write,
+};
 use page_run::Which;
 use std::alloc::Global;
-use wk_base::{Left, NoMemory};
 
 /// The place of the newest variable.
 fn newest_place(boxed: bool) -> Place

@@ -1,25 +1,21 @@
 //! A frame that waits in a statement is given values (manual 2.4).
 ghost use Rattle.std.specs.Prelude.{IfOk};
-ghost use Rattle.wk_base.specs.declared.left.Left.{Left as Allowance};
+ghost use Rattle.page_run.specs.WkBaseDeclaredLeftLeft.{Left as Allowance};
 ghost use Rattle.lua_code.specs.Seen.{block_seen};
-ghost use Rattle.lua_slots.specs.Code.{CWorld};
-ghost use Rattle.lua_slots.specs.Moves.{goes};
-ghost use Rattle.lua_slots.specs.Points.{Now, Runs};
-ghost use Rattle.lua_slots.specs.Slots.{all_opened};
-ghost use Rattle.lua_stack.specs.Of.{GivenOf, InStatementOf};
-ghost use Rattle.lua_stack.specs.Seen.{given_seen, in_statement_seen};
+ghost use Rattle.lua_code.specs.LuaSlotsCode.{CWorld};
+ghost use Rattle.lua_code.specs.LuaSlotsMoves.{goes};
+ghost use Rattle.lua_state.specs.LuaSlotsPoints.{Now, Runs};
+ghost use Rattle.lua_state.specs.LuaSlotsSlots.{all_opened};
+ghost use Rattle.lua_state.specs.LuaStackOf.{GivenOf, InStatementOf};
+ghost use Rattle.lua_state.specs.LuaStackSeen.{given_seen, in_statement_seen};
 ghost use Rattle.lua_state.specs.Makes.{Makes};
 ghost use Rattle.lua_state.specs.Of.{StateOf};
 ghost use Rattle.lua_state.specs.Seen.{frames_of, slots_of};
 
 use crate::conditions::tested;
-use lua_code::Statement;
-use lua_stack::opening::open_all;
-use lua_stack::{Focus, Given, InStatement, Jump};
-use lua_state::{State, Turn};
-use lua_store::Store;
+use lua_code::{NoMemory, Statement};
+use lua_state::{Focus, Given, InStatement, Jump, Left, State, Store, Turn, open_all};
 use std::alloc::Global;
-use wk_base::{Left, NoMemory};
 
 /// New local variables get their values (manual 2.4.7), and the statements behind see them.
 fn declared<'m>(

@@ -1,12 +1,11 @@
 //! What the running function has (manual 2.6): the cells that it captured.
 ghost use Rattle.std.specs.Prelude.{◌≡◌};
-ghost use Rattle.lua_slots.specs.Slots.{newest_function};
-ghost use Rattle.lua_store.specs.Seen.{StoreView};
-ghost use Rattle.lua_stack.specs.Of.{ActivationsOf, MayBeClosureOf};
-ghost use Rattle.lua_stack.specs.Seen.{activations_seen, captured_by};
+ghost use Rattle.lua_state.specs.LuaSlotsSlots.{newest_function};
+ghost use Rattle.lua_state.specs.LuaStoreSeen.{StoreView};
+ghost use Rattle.lua_state.specs.LuaStackOf.{ActivationsOf, MayBeClosureOf};
+ghost use Rattle.lua_state.specs.LuaStackSeen.{activations_seen, captured_by};
 
-use lua_stack::Activations;
-use lua_store::ClosureId;
+use lua_state::{Activations, ClosureId};
 
 /// The closure whose cells the running function has, if it stands in one.
 pub fn running_closure(functions: &Activations) -> Option<ClosureId>

@@ -1,31 +1,29 @@
 //! The targets of an assignment are set (manual 2.4.3), from the last to the first.
 ghost use Rattle.std.specs.Prelude.{[], Some, IfOk};
 ghost use Rattle.std.specs.List.{AllByRecursion};
-ghost use Rattle.wk_base.specs.declared.left.Left.{Left as Allowance};
+ghost use Rattle.page_run.specs.WkBaseDeclaredLeftLeft.{Left as Allowance};
 ghost use Rattle.lua_code.specs.Seen.{place_seen};
-ghost use Rattle.lua_heap.specs.Value as kind;
-ghost use Rattle.lua_slots.specs.Errors.{gives};
-ghost use Rattle.lua_slots.specs.Index as indices;
-ghost use Rattle.lua_slots.specs.Slots.{write_place};
-ghost use Rattle.lua_slots.specs.Statements as machine;
-ghost use Rattle.lua_store.specs.Parts.{IsOf, IsTextOf};
-ghost use Rattle.lua_store.specs.Seen.{seen, text_at};
-ghost use Rattle.lua_stack.specs.Of.{FoundOf, SettingOf};
-ghost use Rattle.lua_stack.specs.Seen.{found_seen, settings_seen};
+ghost use Rattle.lua_code.specs.LuaHeapValue as kind;
+ghost use Rattle.lua_state.specs.LuaSlotsErrors.{gives};
+ghost use Rattle.lua_code.specs.LuaSlotsIndex as indices;
+ghost use Rattle.lua_state.specs.LuaSlotsSlots.{write_place};
+ghost use Rattle.lua_code.specs.LuaSlotsStatements as machine;
+ghost use Rattle.lua_state.specs.LuaStoreParts.{IsOf, IsTextOf};
+ghost use Rattle.lua_state.specs.LuaStoreSeen.{seen, text_at};
+ghost use Rattle.lua_state.specs.LuaStackOf.{FoundOf, SettingOf};
+ghost use Rattle.lua_state.specs.LuaStackSeen.{found_seen, settings_seen};
 ghost use Rattle.lua_state.specs.Makes.{Makes};
 ghost use Rattle.lua_state.specs.Of.{StateOf};
 ghost use Rattle.lua_state.specs.Seen.{frames_of, slots_of};
 
 use crate::exits::nothing;
 use crate::running::running_closure;
-use lua_arms::setting::set_index;
-use lua_code::Place;
-use lua_stack::register::write;
-use lua_stack::{Focus, Found, Frame, Given, InAssignment, Setting, Stack, Values};
-use lua_state::{State, Turn, finish_paid};
-use lua_store::{Store, TextId, Value};
+use lua_code::{NoMemory, Place};
+use lua_state::{
+    Focus, Found, Frame, Given, InAssignment, Left, Setting, Stack, State, Store, TextId, Turn,
+    Value, Values, finish_paid, set_index, write,
+};
 use std::alloc::Global;
-use wk_base::{Left, NoMemory};
 
 /// A local variable gets a value.
 fn set_place<'m>(

@@ -1,8 +1,8 @@
 //! A block goes on with its first statement (manual 2.4.1), or is at its end.
 ghost use Rattle.std.specs.Prelude.{◌≡◌, ◌∷◌, [], IfOk, MatchOption};
 ghost use Rattle.lua_code.specs.Seen.{statement_seen, block_seen};
-ghost use Rattle.lua_slots.specs.Statements as machine;
-ghost use Rattle.lua_arms.specs.Paid.{behind_node};
+ghost use Rattle.lua_code.specs.LuaSlotsStatements as machine;
+ghost use Rattle.lua_state.specs.LuaArmsPaid.{behind_node};
 ghost use Rattle.lua_state.specs.Makes.{Makes, Counts};
 ghost use Rattle.lua_state.specs.Of.{StateOf};
 ghost use Rattle.lua_state.specs.Seen.{frames_of, slots_of};
@@ -11,14 +11,11 @@ use crate::conditions::condition;
 use crate::exits::nothing;
 use crate::forms::{assign, block, count, declare, each, loop_begins, repeat, return_values, then};
 use crate::functions::local_function;
-use lua_code::Statement;
-use lua_stack::{Focus, InLoop, Jump};
-use lua_state::{State, Turn, pay_node};
-use lua_store::Store;
+use lua_code::{NoMemory, Statement};
+use lua_state::{Focus, InLoop, Jump, Left, State, Steps, Store, Turn, pay_node};
 use page_run::Which;
 use std::alloc::Global;
 use std::sync::ledger::Ledger;
-use wk_base::{Left, NoMemory, Steps};
 
 /// The first of some statements, and those behind it.
 #[derive(Clone, Copy)]

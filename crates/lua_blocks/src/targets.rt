@@ -1,30 +1,30 @@
 //! The targets of an assignment are found (manual 2.4.3): their tables and keys, from the first to the last.
 ghost use Rattle.std.specs.Prelude.{◌≡◌, ◌∷◌, ◌++◌, [], map, IfOk, MatchOption};
 ghost use Rattle.std.specs.List.{AllByRecursion};
-ghost use Rattle.wk_base.specs.declared.left.Left.{Left as Allowance};
+ghost use Rattle.page_run.specs.WkBaseDeclaredLeftLeft.{Left as Allowance};
 ghost use Rattle.lua_code.specs.Seen.{expression_seen, expressions_seen, target_seen};
-ghost use Rattle.lua_heap.specs.Value as kind;
-ghost use Rattle.lua_meaning.specs.Acts as act;
-ghost use Rattle.lua_meaning.specs.Messages.{no_target};
-ghost use Rattle.lua_slots.specs.Errors.{jumps, node};
-ghost use Rattle.lua_slots.specs.Points as point;
-ghost use Rattle.lua_slots.specs.Points.{Now};
-ghost use Rattle.lua_slots.specs.Statements as machine;
-ghost use Rattle.lua_stack.specs.Of.{FoundOf, InAssignmentOf};
-ghost use Rattle.lua_stack.specs.Seen.{found_seen, in_assignment_seen};
+ghost use Rattle.lua_code.specs.LuaHeapValue as kind;
+ghost use Rattle.lua_code.specs.LuaMeaningActs as act;
+ghost use Rattle.lua_state.specs.LuaMeaningMessages.{no_target};
+ghost use Rattle.lua_state.specs.LuaSlotsErrors.{jumps, node};
+ghost use Rattle.lua_state.specs.LuaSlotsPoints as point;
+ghost use Rattle.lua_state.specs.LuaSlotsPoints.{Now};
+ghost use Rattle.lua_code.specs.LuaSlotsStatements as machine;
+ghost use Rattle.lua_state.specs.LuaStackOf.{FoundOf, InAssignmentOf};
+ghost use Rattle.lua_state.specs.LuaStackSeen.{found_seen, in_assignment_seen};
 ghost use Rattle.lua_state.specs.Makes.{Makes, Counts};
 ghost use Rattle.lua_state.specs.Of.{StateOf};
 ghost use Rattle.lua_state.specs.Seen.{constants_in, frames_of, slots_of};
 
 use crate::exits::wait;
-use lua_code::{Expression, Target};
-use lua_stack::{Finding, Focus, Found, Frame, InAssignment, Jump, Values, boxed};
-use lua_state::{State, Turn, constant, pay_node};
-use lua_store::{Store, Value};
+use lua_code::{Expression, List, NoMemory, Target};
+use lua_state::{
+    Finding, Focus, Found, Frame, InAssignment, Jump, Left, State, Steps, Store, Turn, Value,
+    Values, boxed, constant, pay_node,
+};
 use page_run::Which;
 use std::alloc::Global;
 use std::sync::ledger::Ledger;
-use wk_base::{Left, List, NoMemory, Steps};
 
 /// The first of some targets, and those behind it.
 #[derive(Clone, Copy)]

@@ -1,32 +1,32 @@
 -- A call of `gsub`: its charge is taken and it ends or begins to ask, or its charge is not covered.
 use Rattle.std.proofs.Common.{◌≡◌, ◌∙◌, refl, sym, ap, subst, ℕ, List, Option, Ok, Err}
 use Rattle.std.specs.Prelude.{Result, IfOk}
-use Rattle.wk_base.specs.declared.left.Left.{Left}
+use Rattle.page_run.specs.WkBaseDeclaredLeftLeft.{Left}
 use Rattle.page_run.specs.declared.which.Which.TheVariants.{Steps}
-use Rattle.lua_heap.specs.Proc.{Proc}
-use Rattle.lua_meaning.specs.Gsub.{Job, GsubForm, GsubAnswers, GsubAsks, nothing_yet}
-use Rattle.lua_store.specs.Seen.{StoreView}
-use Rattle.lua_store.specs.Parts.{IsLater}
-use Rattle.lua_slots.specs.Slots.{Slots}
-use Rattle.lua_slots.specs.Points.{SFrame}
-use Rattle.lua_slots.specs.Gsub.{replaces}
-use Rattle.lua_slots.specs.Libraries.{gsub, plain}
-use Rattle.lua_basic.specs.declared.stop.Stop.{Stop}
-use Rattle.lua_basic.specs.declared.stop.Stop.TheVariants as stop
-use Rattle.lua_state.specs.declared.state.State.{State}
-use Rattle.lua_state.specs.declared.turn.Turn.{Turn}
-use Rattle.lua_state.specs.declared.turn.Turn.TheVariants as turn
-use Rattle.lua_state.specs.Seen.{slots_of, frames_of}
-use Rattle.lua_state.specs.Of.{StateOf}
-use Rattle.lua_state.specs.Makes.{Makes, LateMakes}
-use Rattle.lua_state.proofs.Making.{makes_late}
+use Rattle.lua_code.specs.LuaHeapProc.{Proc}
+use Rattle.lua_gsubs.specs.LuaMeaningGsub.{Job, GsubForm, GsubAnswers, GsubAsks, nothing_yet}
+use Rattle.lua_tables.specs.LuaStoreSeen.{StoreView}
+use Rattle.lua_tables.specs.LuaStoreParts.{IsLater}
+use Rattle.lua_modules.specs.LuaSlotsSlots.{Slots}
+use Rattle.lua_modules.specs.LuaSlotsPoints.{SFrame}
+use Rattle.lua_code.specs.LuaSlotsGsub.{replaces}
+use Rattle.lua_code.specs.LuaSlotsLibraries.{gsub, plain}
+use Rattle.lua_tables.specs.LuaBasicDeclaredStopStop.{Stop}
+use Rattle.lua_tables.specs.LuaBasicDeclaredStopStopTheVariants as stop
+use Rattle.lua_modules.specs.LuaStateDeclaredStateState.{State}
+use Rattle.lua_modules.specs.LuaStateDeclaredTurnTurn.{Turn}
+use Rattle.lua_modules.specs.LuaStateDeclaredTurnTurnTheVariants as turn
+use Rattle.lua_modules.specs.LuaStateSeen.{slots_of, frames_of}
+use Rattle.lua_modules.specs.LuaStateOf.{StateOf}
+use Rattle.lua_modules.specs.LuaStateMakes.{Makes, LateMakes}
+use Rattle.lua_modules.proofs.LuaStateMaking.{makes_late}
 use Rattle.lua_acts.specs.Stops.{StopsAs}
 use Rattle.lua_acts.proofs.Parts.{over_text, costs, short}
-use Rattle.mw_frames.specs.Costs.{Lacked}
+use Rattle.lua_modules.specs.MwFramesCosts.{Lacked}
 use Rattle.lua_gsubs.specs.declared.beginning.Begun.{Begun}
 use Rattle.lua_gsubs.specs.declared.beginning.Begun.TheVariants as begun
 use Rattle.lua_gsubs.specs.Begun.{IsBegun}
-use Rattle.lua_replacing.specs.Seen.{job_seen}
+use Rattle.lua_gsubs.specs.LuaReplacingSeen.{job_seen}
 use Rattle.lua_calls.specs.Ends.{EndsAs, BegunMakes}
 use Rattle.lua_calls.proofs.Paying.{paid_end}
 use Rattle.lua_calls.proofs.Replaces.{took_pays, lacked_pays}

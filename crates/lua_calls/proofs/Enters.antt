@@ -1,24 +1,24 @@
 -- A CALL IS ENTERED, and counted; above it a frame ends it.
 use Rattle.std.proofs.Common.{◌≡◌, ◌∙◌, refl, sym, ap, subst, arith, ℕ, ◌+◌, List, inl, true, false}
-use Rattle.wk_base.specs.declared.left.Left.{Left}
+use Rattle.page_run.specs.WkBaseDeclaredLeftLeft.{Left}
 use Rattle.page_run.specs.declared.which.Which.TheVariants.{Calls}
-use Rattle.lua_store.specs.Seen.{StoreView}
-use Rattle.lua_store.proofs.Later.{later-itself}
-use Rattle.lua_slots.specs.Points.{Move, Marks, Enters, Now}
-use Rattle.lua_slots.specs.Enact.{all_given_back, Short, enact}
-use Rattle.lua_goes.specs.Going.{led}
-use Rattle.lua_stack.specs.declared.frame.Frame.{Frame}
-use Rattle.lua_stack.specs.declared.focus.Focus.{Focus}
-use Rattle.lua_stack.specs.Seen.{focus_seen}
-use Rattle.lua_stack.specs.Of.{FramesOf, FocusOf}
-use Rattle.lua_state.specs.declared.state.State.{State}
-use Rattle.lua_state.specs.declared.turn.Turn.{Turn}
-use Rattle.lua_state.specs.declared.turn.Turn.TheVariants as turn
-use Rattle.lua_state.specs.Seen.{slots_of, frames_of, funds_of}
-use Rattle.lua_state.specs.Of.{StateOf}
-use Rattle.lua_state.specs.Makes.{Makes, LateMakes, LateCounts}
-use Rattle.lua_state.specs.Charges.{EntersCall}
-use Rattle.lua_state.proofs.Making.{stands, late_after, late_counts_none, late_counts_mark}
+use Rattle.lua_tables.specs.LuaStoreSeen.{StoreView}
+use Rattle.lua_tables.proofs.LuaStoreLater.{later-itself}
+use Rattle.lua_modules.specs.LuaSlotsPoints.{Move, Marks, Enters, Now}
+use Rattle.lua_code.specs.LuaSlotsEnact.{all_given_back, Short, enact}
+use Rattle.lua_modules.specs.LuaGoesGoing.{led}
+use Rattle.lua_modules.specs.LuaStackDeclaredFrameFrame.{Frame}
+use Rattle.lua_modules.specs.LuaStackDeclaredFocusFocus.{Focus}
+use Rattle.lua_modules.specs.LuaStackSeen.{focus_seen}
+use Rattle.lua_modules.specs.LuaStackOf.{FramesOf, FocusOf}
+use Rattle.lua_modules.specs.LuaStateDeclaredStateState.{State}
+use Rattle.lua_modules.specs.LuaStateDeclaredTurnTurn.{Turn}
+use Rattle.lua_modules.specs.LuaStateDeclaredTurnTurnTheVariants as turn
+use Rattle.lua_modules.specs.LuaStateSeen.{slots_of, frames_of, funds_of}
+use Rattle.lua_modules.specs.LuaStateOf.{StateOf}
+use Rattle.lua_modules.specs.LuaStateMakes.{Makes, LateMakes, LateCounts}
+use Rattle.lua_modules.specs.LuaStateCharges.{EntersCall}
+use Rattle.lua_modules.proofs.LuaStateMaking.{stands, late_after, late_counts_none, late_counts_mark}
 use Rattle.lua_acts.proofs.Parts.{with_frames, with_frames_of, if_spent}
 
 -- above other frames

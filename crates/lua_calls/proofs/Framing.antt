@@ -1,34 +1,34 @@
 -- A FUNCTION THAT SEES THE FRAMES: its charge is taken and it ends, asks or walks, or its charge is not covered.
 use Rattle.std.proofs.Common.{◌≡◌, ◌∙◌, refl, sym, ap, subst, ℕ, List, Option, Ok, Err, inl}
 use Rattle.std.specs.Prelude.{Result}
-use Rattle.wk_base.specs.declared.left.Left.{Left}
+use Rattle.page_run.specs.WkBaseDeclaredLeftLeft.{Left}
 use Rattle.page_run.specs.declared.which.Which.TheVariants.{Steps}
-use Rattle.lua_heap.specs.Proc.{Proc}
-use Rattle.lua_meaning.specs.Acts.{Frame}
-use Rattle.lua_meaning.specs.Arguments.{Fails}
-use Rattle.lua_meaning.specs.FrameMethods.{Framed, FramedEnd, FrameEnds}
-use Rattle.lua_store.specs.Seen.{StoreView, seen}
-use Rattle.lua_store.specs.Parts.{IsLater}
-use Rattle.lua_store.proofs.Later.{later-itself}
-use Rattle.lua_slots.specs.Slots.{Slots}
-use Rattle.lua_slots.specs.Points.{SFrame, Move}
-use Rattle.lua_slots.specs.Enact.{all_given_back, Short, enact}
-use Rattle.lua_slots.specs.Libraries.{framed_end, framed, with_frames}
-use Rattle.lua_stack.proofs.Raises.{pays, spends as falls_short}
-use Rattle.lua_basic.specs.declared.stop.Stop.{Stop}
-use Rattle.lua_basic.specs.declared.stop.Stop.TheVariants as stop
-use Rattle.mw_frames.specs.declared.scenes.Scenes.{Scenes}
-use Rattle.mw_frames.specs.Scenes.{ScenesOf}
+use Rattle.lua_code.specs.LuaHeapProc.{Proc}
+use Rattle.lua_code.specs.LuaMeaningActs.{Frame}
+use Rattle.lua_tables.specs.LuaMeaningArguments.{Fails}
+use Rattle.mw_frame_calls.specs.LuaMeaningFrameMethods.{Framed, FramedEnd, FrameEnds}
+use Rattle.lua_tables.specs.LuaStoreSeen.{StoreView, seen}
+use Rattle.lua_tables.specs.LuaStoreParts.{IsLater}
+use Rattle.lua_tables.proofs.LuaStoreLater.{later-itself}
+use Rattle.lua_modules.specs.LuaSlotsSlots.{Slots}
+use Rattle.lua_modules.specs.LuaSlotsPoints.{SFrame, Move}
+use Rattle.lua_code.specs.LuaSlotsEnact.{all_given_back, Short, enact}
+use Rattle.lua_code.specs.LuaSlotsLibraries.{framed_end, framed, with_frames}
+use Rattle.lua_modules.proofs.LuaStackRaises.{pays, spends as falls_short}
+use Rattle.lua_tables.specs.LuaBasicDeclaredStopStop.{Stop}
+use Rattle.lua_tables.specs.LuaBasicDeclaredStopStopTheVariants as stop
+use Rattle.lua_modules.specs.MwFramesDeclaredScenesScenes.{Scenes}
+use Rattle.lua_modules.specs.MwFramesScenes.{ScenesOf}
 use Rattle.mw_frame_calls.specs.declared.answer.FrameAnswer.{FrameAnswer}
 use Rattle.mw_frame_calls.specs.Seen.{scenes_seen, end_seen, Covers, IsShort, Paid}
-use Rattle.lua_state.specs.declared.state.State.{State}
-use Rattle.lua_state.specs.declared.turn.Turn.{Turn}
-use Rattle.lua_state.specs.declared.turn.Turn.TheVariants as turn
-use Rattle.lua_state.specs.Seen.{slots_of, frames_of, funds_of}
-use Rattle.lua_state.specs.Of.{StateOf}
-use Rattle.lua_state.specs.Makes.{Makes, LateMakes}
-use Rattle.lua_state.proofs.Staying.{state_later, frames_stay, slots_stay}
-use Rattle.lua_state.proofs.Making.{late_changed}
+use Rattle.lua_modules.specs.LuaStateDeclaredStateState.{State}
+use Rattle.lua_modules.specs.LuaStateDeclaredTurnTurn.{Turn}
+use Rattle.lua_modules.specs.LuaStateDeclaredTurnTurnTheVariants as turn
+use Rattle.lua_modules.specs.LuaStateSeen.{slots_of, frames_of, funds_of}
+use Rattle.lua_modules.specs.LuaStateOf.{StateOf}
+use Rattle.lua_modules.specs.LuaStateMakes.{Makes, LateMakes}
+use Rattle.lua_modules.proofs.LuaStateStaying.{state_later, frames_stay, slots_stay}
+use Rattle.lua_modules.proofs.LuaStateMaking.{late_changed}
 use Rattle.lua_calls.specs.Ends.{FramedEndsAs}
 use Rattle.lua_calls.proofs.Led.{led_framed}
 

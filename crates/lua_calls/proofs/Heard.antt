@@ -2,19 +2,19 @@
 use Rattle.std.proofs.Common.{◌≡◌, refl, ap, ℕ, List, [], ◌∷◌, length, arith}
 use Rattle.std.specs.Prelude.{Option}
 use Rattle.page_run.specs.Outcome.{Goes}
-use Rattle.lua_heap.specs.Value as kind
-use Rattle.lua_meaning.specs.Scope.{Bytes}
-use Rattle.lua_meaning.specs.Acts.{Raised}
-use Rattle.lua_meaning.specs.Messages.{wrong_answer}
-use Rattle.lua_store.specs.declared.value.Value.{Value}
-use Rattle.lua_store.specs.declared.value.Value.TheVariants as value
-use Rattle.lua_store.specs.declared.ids.TextId.{TextId}
-use Rattle.lua_slots.specs.Slots.{Slots}
-use Rattle.lua_slots.specs.Points.{SFrame}
-use Rattle.lua_slots.specs.Errors.{jumps}
-use Rattle.lua_slots.specs.Libraries.{text_answer, template_answer}
-use Rattle.lua_stack.specs.Lists.{first_stored}
-use Rattle.lua_stack.specs.Seen.{values_seen}
+use Rattle.lua_code.specs.LuaHeapValue as kind
+use Rattle.lua_code.specs.LuaMeaningScope.{Bytes}
+use Rattle.lua_code.specs.LuaMeaningActs.{Raised}
+use Rattle.lua_modules.specs.LuaMeaningMessages.{wrong_answer}
+use Rattle.mw_htmls.specs.LuaStoreDeclaredValueValue.{Value}
+use Rattle.mw_htmls.specs.LuaStoreDeclaredValueValueTheVariants as value
+use Rattle.mw_htmls.specs.LuaStoreDeclaredIdsTextId.{TextId}
+use Rattle.lua_modules.specs.LuaSlotsSlots.{Slots}
+use Rattle.lua_modules.specs.LuaSlotsPoints.{SFrame}
+use Rattle.lua_modules.specs.LuaSlotsErrors.{jumps}
+use Rattle.lua_code.specs.LuaSlotsLibraries.{text_answer, template_answer}
+use Rattle.lua_modules.specs.LuaStackLists.{first_stored}
+use Rattle.lua_modules.specs.LuaStackSeen.{values_seen}
 use Rattle.lua_calls.specs.declared.waiting.TextAnswer.TheVariants as answer
 use Rattle.lua_calls.specs.Answers.{one_answer_in, answer_in}
 

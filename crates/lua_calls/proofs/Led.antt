@@ -1,20 +1,20 @@
 -- How a function of the library ends leaves what the machine holds: the move leads to just that.
 use Rattle.std.proofs.Common.{◌≡◌, refl, ℕ, Bool, true, false, List, [], ◌∷◌, Option, Some, None, Ok, Err}
 use Rattle.std.specs.Prelude.{codes}
-use Rattle.lua_heap.specs.Proc.{Proc}
-use Rattle.lua_heap.specs.Value.{Value, Nil, Truth, Number, Text, Table, Closure, Builtin, Markup, is_nil}
-use Rattle.lua_heap.specs.Heap.{Closed, Function as FunctionClosed, Iterator, closure_at}
-use Rattle.lua_meaning.specs.Scope.{Bytes, Place as TextPlace}
-use Rattle.lua_meaning.specs.Arguments.{PlainEnd, Gives as PlainGives, Fails as PlainFails, Argument, a_table}
-use Rattle.lua_meaning.specs.FrameMethods.{FramedEnd, FrameEnds, FrameQuotes, FrameAsks, FrameWalks}
-use Rattle.lua_meaning.specs.Metatables.{handler}
-use Rattle.lua_slots.specs.Slots.{Slots}
-use Rattle.lua_slots.specs.Points.{SFrame, Move}
-use Rattle.lua_slots.specs.Errors.{choose, raises, raises_quote, raises_value, fails, ends, with_argument}
-use Rattle.lua_slots.specs.Calls.{enter, call}
-use Rattle.lua_slots.specs.CallBacks.{pairs_by}
-use Rattle.lua_slots.specs.Libraries.{framed_end}
-use Rattle.lua_goes.specs.Going.{led}
+use Rattle.lua_code.specs.LuaHeapProc.{Proc}
+use Rattle.lua_code.specs.LuaHeapValue.{Value, Nil, Truth, Number, Text, Table, Closure, Builtin, Markup, is_nil}
+use Rattle.lua_code.specs.LuaHeapHeap.{Closed, Function as FunctionClosed, Iterator, closure_at}
+use Rattle.lua_code.specs.LuaMeaningScope.{Bytes, Place as TextPlace}
+use Rattle.lua_tables.specs.LuaMeaningArguments.{PlainEnd, Gives as PlainGives, Fails as PlainFails, Argument, a_table}
+use Rattle.mw_frame_calls.specs.LuaMeaningFrameMethods.{FramedEnd, FrameEnds, FrameQuotes, FrameAsks, FrameWalks}
+use Rattle.lua_code.specs.LuaMeaningMetatables.{handler}
+use Rattle.lua_modules.specs.LuaSlotsSlots.{Slots}
+use Rattle.lua_modules.specs.LuaSlotsPoints.{SFrame, Move}
+use Rattle.lua_modules.specs.LuaSlotsErrors.{choose, raises, raises_quote, raises_value, fails, ends, with_argument}
+use Rattle.lua_modules.specs.LuaSlotsCalls.{enter, call}
+use Rattle.lua_acts.specs.LuaSlotsCallBacks.{pairs_by}
+use Rattle.lua_code.specs.LuaSlotsLibraries.{framed_end}
+use Rattle.lua_modules.specs.LuaGoesGoing.{led}
 
 led_raises : (p : Option TextPlace) (t : Bytes) (fs : List SFrame) (s : Slots) → led (raises p t fs s) ≡ s
 led_raises None t fs s = refl

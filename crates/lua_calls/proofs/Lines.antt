@@ -1,7 +1,7 @@
 -- Each function that is in no group and none of the frames is a line of the table of the library.
 use Rattle.std.proofs.Common.{◌≡◌, refl, Some, None}
-use Rattle.lua_heap.specs.declared.library.Library.{Library}
-use Rattle.lua_heap.specs.declared.library.Library.TheVariants.{BasicAssert, BasicError, BasicGetMetatable, BasicSetMetatable, BasicNext, BasicRawEqual, BasicRawGet, BasicRawSet, BasicSelect, BasicToNumber, BasicType, BasicUnpack, MwLog, ArgumentExpand, StringByte, StringChar, StringFind, StringMatch, StringFormat, StringLen, StringLower, StringUpper, StringRep, StringReverse, StringSub, MathAbs, MathCeil, MathFloor, MathFmod, MathMax, MathMin, MathPow, TableConcat, TableInsert, TableMaxn, TableRemove, TableSort, UstringChar, UstringCodepoint, UstringByteOffset, UstringFind, UstringMatch, UstringLen, UstringSub, UstringIsUtf8, UstringToNfc, UstringToNfd, UstringToNfkc, UstringToNfkd, TextTrim, TextSplit, TextEncode, TextDecode, TextListToText, TextNowiki, TextTag, TextTruncate, StringGmatch, UstringGmatch, UstringGcodepoint, TextGsplit, GmatchStep, UstringGmatchStep, GcodepointStep, GsplitStep, HtmlCreate, HtmlNode, HtmlWikitext, HtmlNewline, HtmlAttr, HtmlAddClass, HtmlCss, HtmlCssText, HtmlTag, HtmlDone, HtmlAllDone, HtmlGetAttr, MwGetCurrentFrame, FrameGetParent, FrameExpandTemplate, FramePreprocess, FrameGetArgument, FrameArgumentPairs, FrameNewChild, FrameGetTitle, FrameExtensionTag}
+use Rattle.lua_tables.specs.LuaHeapDeclaredLibraryLibrary.{Library}
+use Rattle.lua_tables.specs.LuaHeapDeclaredLibraryLibraryTheVariants.{BasicAssert, BasicError, BasicGetMetatable, BasicSetMetatable, BasicNext, BasicRawEqual, BasicRawGet, BasicRawSet, BasicSelect, BasicToNumber, BasicType, BasicUnpack, MwLog, ArgumentExpand, StringByte, StringChar, StringFind, StringMatch, StringFormat, StringLen, StringLower, StringUpper, StringRep, StringReverse, StringSub, MathAbs, MathCeil, MathFloor, MathFmod, MathMax, MathMin, MathPow, TableConcat, TableInsert, TableMaxn, TableRemove, TableSort, UstringChar, UstringCodepoint, UstringByteOffset, UstringFind, UstringMatch, UstringLen, UstringSub, UstringIsUtf8, UstringToNfc, UstringToNfd, UstringToNfkc, UstringToNfkd, TextTrim, TextSplit, TextEncode, TextDecode, TextListToText, TextNowiki, TextTag, TextTruncate, StringGmatch, UstringGmatch, UstringGcodepoint, TextGsplit, GmatchStep, UstringGmatchStep, GcodepointStep, GsplitStep, HtmlCreate, HtmlNode, HtmlWikitext, HtmlNewline, HtmlAttr, HtmlAddClass, HtmlCss, HtmlCssText, HtmlTag, HtmlDone, HtmlAllDone, HtmlGetAttr, MwGetCurrentFrame, FrameGetParent, FrameExpandTemplate, FramePreprocess, FrameGetArgument, FrameArgumentPairs, FrameNewChild, FrameGetTitle, FrameExtensionTag}
 use Rattle.mw_frame_calls.specs.Table.{frame_in}
 use Rattle.lua_calls.specs.Table.{other_in, InNoGroup, IsLine}
 

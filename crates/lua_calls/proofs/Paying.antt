@@ -1,27 +1,27 @@
 -- A FUNCTION THAT CALLS BACK NOBODY: its charge is taken and it ends, or its charge is not covered.
 use Rattle.std.proofs.Common.{◌≡◌, ◌∙◌, refl, sym, ap, subst, ℕ, List, Option, Ok, Err}
 use Rattle.std.specs.Prelude.{Result}
-use Rattle.wk_base.specs.declared.left.Left.{Left}
+use Rattle.page_run.specs.WkBaseDeclaredLeftLeft.{Left}
 use Rattle.page_run.specs.declared.which.Which.TheVariants.{Steps}
-use Rattle.lua_heap.specs.Proc.{Proc}
-use Rattle.lua_meaning.specs.Arguments.{Plain, PlainEnd, Gives, Fails}
-use Rattle.lua_store.specs.declared.value.Value.{Value}
-use Rattle.lua_store.specs.Seen.{StoreView, seen}
-use Rattle.lua_store.specs.Parts.{IsLater}
-use Rattle.lua_store.proofs.Later.{later-itself}
-use Rattle.lua_slots.specs.Slots.{Slots, with_heap}
-use Rattle.lua_slots.specs.Errors.{ends, plain}
-use Rattle.lua_stack.specs.Seen.{values_seen}
-use Rattle.lua_basic.specs.declared.stop.Stop.{Stop}
-use Rattle.lua_basic.specs.declared.stop.Stop.TheVariants as stop
-use Rattle.lua_basic.specs.Seen.{Covers, IsShort, Paid}
-use Rattle.lua_state.specs.declared.state.State.{State}
-use Rattle.lua_state.specs.declared.turn.Turn.{Turn}
-use Rattle.lua_state.specs.declared.turn.Turn.TheVariants as turn
-use Rattle.lua_state.specs.Seen.{slots_of, frames_of, funds_of}
-use Rattle.lua_state.specs.Of.{StateOf}
-use Rattle.lua_state.specs.Makes.{Makes, LateMakes}
-use Rattle.lua_state.proofs.Making.{spends, makes_late, late_changed}
+use Rattle.lua_code.specs.LuaHeapProc.{Proc}
+use Rattle.lua_tables.specs.LuaMeaningArguments.{Plain, PlainEnd, Gives, Fails}
+use Rattle.mw_htmls.specs.LuaStoreDeclaredValueValue.{Value}
+use Rattle.lua_tables.specs.LuaStoreSeen.{StoreView, seen}
+use Rattle.lua_tables.specs.LuaStoreParts.{IsLater}
+use Rattle.lua_tables.proofs.LuaStoreLater.{later-itself}
+use Rattle.lua_modules.specs.LuaSlotsSlots.{Slots, with_heap}
+use Rattle.lua_modules.specs.LuaSlotsErrors.{ends, plain}
+use Rattle.lua_modules.specs.LuaStackSeen.{values_seen}
+use Rattle.lua_tables.specs.LuaBasicDeclaredStopStop.{Stop}
+use Rattle.lua_tables.specs.LuaBasicDeclaredStopStopTheVariants as stop
+use Rattle.lua_tables.specs.LuaBasicSeen.{Covers, IsShort, Paid}
+use Rattle.lua_modules.specs.LuaStateDeclaredStateState.{State}
+use Rattle.lua_modules.specs.LuaStateDeclaredTurnTurn.{Turn}
+use Rattle.lua_modules.specs.LuaStateDeclaredTurnTurnTheVariants as turn
+use Rattle.lua_modules.specs.LuaStateSeen.{slots_of, frames_of, funds_of}
+use Rattle.lua_modules.specs.LuaStateOf.{StateOf}
+use Rattle.lua_modules.specs.LuaStateMakes.{Makes, LateMakes}
+use Rattle.lua_modules.proofs.LuaStateMaking.{spends, makes_late, late_changed}
 use Rattle.lua_acts.proofs.Paying.{enacted, lacked}
 use Rattle.lua_calls.specs.Ends.{EndsAs}
 use Rattle.lua_calls.proofs.Led.{led_ends}

@@ -1,36 +1,36 @@
 -- Moves of `gsub`: a search and what comes after it, and the end.
 use Rattle.std.proofs.Common.{◌≡◌, ◌∙◌, true, false, refl, sym, ap, subst, ℕ, List, ◌∷◌, length, Option, Ok, Err, Vec, Global}
 use Rattle.std.specs.Prelude.{Result, IfOk}
-use Rattle.wk_base.specs.declared.left.Left.{Left}
+use Rattle.page_run.specs.WkBaseDeclaredLeftLeft.{Left}
 use Rattle.page_run.specs.declared.which.Which.TheVariants.{Steps}
-use Rattle.lua_string.specs.Walk.{span}
-use Rattle.lua_meaning.specs.Scope.{Bytes}
-use Rattle.lua_meaning.specs.Gsub.{Job, Replacing, Search, NoMatch, Matched, GoesOnWith, with_piece}
-use Rattle.lua_meaning.specs.Gsub as meaning
-use Rattle.lua_meaning.specs.Arguments.{Argument}
-use Rattle.lua_meaning.specs.Pending.{GsubWaits}
-use Rattle.lua_store.specs.declared.value.Value.{Value}
-use Rattle.lua_store.specs.Seen.{StoreView}
-use Rattle.lua_store.specs.Parts.{IsLater}
-use Rattle.lua_basic.specs.declared.stop.Stop.TheVariants as stop
-use Rattle.lua_slots.specs.Slots.{Slots}
-use Rattle.lua_slots.specs.Points.{SFrame, Move, Waits, Costs}
-use Rattle.lua_slots.specs.Enact.{all_given_back, Short, enact}
-use Rattle.lua_slots.specs.Errors.{fails, with_argument}
-use Rattle.lua_slots.specs.Gsub.{finish, asks, asks_on, replaces, puts}
-use Rattle.lua_stack.specs.Seen.{values_seen}
-use Rattle.lua_stack.proofs.Raises.{pays as are_paid, spends as fall_short}
-use Rattle.lua_state.specs.declared.state.State.{State}
-use Rattle.lua_state.specs.declared.turn.Turn.{Turn}
-use Rattle.lua_state.specs.declared.turn.Turn.TheVariants as turn
-use Rattle.lua_state.specs.Seen.{slots_of, frames_of, funds_of}
-use Rattle.lua_state.specs.Of.{StateOf}
-use Rattle.lua_state.specs.Makes.{Makes}
-use Rattle.lua_state.specs.Charges.{Pays}
+use Rattle.lua_gsubs.specs.LuaStringWalk.{span}
+use Rattle.lua_code.specs.LuaMeaningScope.{Bytes}
+use Rattle.lua_gsubs.specs.LuaMeaningGsub.{Job, Replacing, Search, NoMatch, Matched, GoesOnWith, with_piece}
+use Rattle.lua_gsubs.specs.LuaMeaningGsub as meaning
+use Rattle.lua_tables.specs.LuaMeaningArguments.{Argument}
+use Rattle.lua_modules.specs.LuaMeaningPending.{GsubWaits}
+use Rattle.mw_htmls.specs.LuaStoreDeclaredValueValue.{Value}
+use Rattle.lua_tables.specs.LuaStoreSeen.{StoreView}
+use Rattle.lua_tables.specs.LuaStoreParts.{IsLater}
+use Rattle.lua_tables.specs.LuaBasicDeclaredStopStopTheVariants as stop
+use Rattle.lua_modules.specs.LuaSlotsSlots.{Slots}
+use Rattle.lua_modules.specs.LuaSlotsPoints.{SFrame, Move, Waits, Costs}
+use Rattle.lua_code.specs.LuaSlotsEnact.{all_given_back, Short, enact}
+use Rattle.lua_modules.specs.LuaSlotsErrors.{fails, with_argument}
+use Rattle.lua_code.specs.LuaSlotsGsub.{finish, asks, asks_on, replaces, puts}
+use Rattle.lua_modules.specs.LuaStackSeen.{values_seen}
+use Rattle.lua_modules.proofs.LuaStackRaises.{pays as are_paid, spends as fall_short}
+use Rattle.lua_modules.specs.LuaStateDeclaredStateState.{State}
+use Rattle.lua_modules.specs.LuaStateDeclaredTurnTurn.{Turn}
+use Rattle.lua_modules.specs.LuaStateDeclaredTurnTurnTheVariants as turn
+use Rattle.lua_modules.specs.LuaStateSeen.{slots_of, frames_of, funds_of}
+use Rattle.lua_modules.specs.LuaStateOf.{StateOf}
+use Rattle.lua_modules.specs.LuaStateMakes.{Makes}
+use Rattle.lua_modules.specs.LuaStateCharges.{Pays}
 use Rattle.lua_acts.proofs.Parts.{over_text, costs, short}
-use Rattle.mw_frames.specs.Costs.{Took, Lacked}
-use Rattle.lua_replacing.specs.declared.far.Far.{Far}
-use Rattle.lua_replacing.specs.Seen.{far_seen}
+use Rattle.lua_modules.specs.MwFramesCosts.{Took, Lacked}
+use Rattle.lua_gsubs.specs.LuaReplacingDeclaredFarFar.{Far}
+use Rattle.lua_gsubs.specs.LuaReplacingSeen.{far_seen}
 use Rattle.lua_gsubs.specs.declared.resuming.Given.TheVariants as given
 use Rattle.lua_gsubs.specs.Resumed.{IsGiven}
 use Rattle.lua_gsubs.specs.declared.seeking.Sought.TheVariants as sought

@@ -1,21 +1,21 @@
 -- HOW A FUNCTION OF THE LIBRARY ENDS whose charge is taken: with values, with an error, or as one that stops.
 use Rattle.std.specs.Prelude.{◌≡◌, ℕ, List, Option, Result, Ok, Err}
-use Rattle.wk_base.specs.declared.left.Left.{Left}
-use Rattle.lua_meaning.specs.Arguments.{Gives}
-use Rattle.lua_store.specs.declared.value.Value.{Value}
-use Rattle.lua_store.specs.Seen.{StoreView}
-use Rattle.lua_slots.specs.Errors.{ends}
-use Rattle.lua_slots.specs.Libraries.{framed_end}
-use Rattle.lua_basic.specs.declared.stop.Stop.{Stop}
-use Rattle.lua_stack.specs.Seen.{values_seen}
-use Rattle.lua_state.specs.declared.state.State.{State}
-use Rattle.lua_state.specs.declared.turn.Turn.{Turn}
-use Rattle.lua_state.specs.Seen.{slots_of, frames_of}
-use Rattle.lua_state.specs.Makes.{Makes}
+use Rattle.page_run.specs.WkBaseDeclaredLeftLeft.{Left}
+use Rattle.lua_tables.specs.LuaMeaningArguments.{Gives}
+use Rattle.mw_htmls.specs.LuaStoreDeclaredValueValue.{Value}
+use Rattle.lua_tables.specs.LuaStoreSeen.{StoreView}
+use Rattle.lua_modules.specs.LuaSlotsErrors.{ends}
+use Rattle.lua_code.specs.LuaSlotsLibraries.{framed_end}
+use Rattle.lua_tables.specs.LuaBasicDeclaredStopStop.{Stop}
+use Rattle.lua_modules.specs.LuaStackSeen.{values_seen}
+use Rattle.lua_modules.specs.LuaStateDeclaredStateState.{State}
+use Rattle.lua_modules.specs.LuaStateDeclaredTurnTurn.{Turn}
+use Rattle.lua_modules.specs.LuaStateSeen.{slots_of, frames_of}
+use Rattle.lua_modules.specs.LuaStateMakes.{Makes}
 use Rattle.lua_acts.specs.Stops.{StopsAs}
-use Rattle.lua_meaning.specs.Gsub.{nothing_yet}
-use Rattle.lua_slots.specs.Gsub.{replaces}
-use Rattle.lua_replacing.specs.Seen.{job_seen}
+use Rattle.lua_gsubs.specs.LuaMeaningGsub.{nothing_yet}
+use Rattle.lua_code.specs.LuaSlotsGsub.{replaces}
+use Rattle.lua_gsubs.specs.LuaReplacingSeen.{job_seen}
 use Rattle.lua_gsubs.specs.declared.beginning.Begun.{Begun}
 use Rattle.lua_gsubs.specs.declared.beginning.Begun.TheVariants as begun
 use Rattle.mw_frame_calls.specs.declared.answer.FrameAnswer.{FrameAnswer}

@@ -1,23 +1,23 @@
 -- THE TABLE OF THE LIBRARY as code goes through it: what each function is, and what is done with it.
 use Rattle.std.specs.Prelude.{◌≡◌, List, None}
-use Rattle.lua_heap.specs.Proc.{Proc}
-use Rattle.lua_heap.specs.Value.{Value}
-use Rattle.lua_heap.specs.Heap.{Heap}
-use Rattle.lua_heap.specs.declared.library.Library.{Library}
-use Rattle.lua_heap.specs.declared.library.Library.TheVariants.{MwClone, MwGetCurrentTitle, ArgsIndex, BasicPcall, BasicXpcall, BasicToString, BasicPairs, BasicIpairs, IpairsStep, BasicRequire, MwLoadData, StrictIndex, StrictNewIndex, StringGsub}
-use Rattle.lua_meaning.specs.World.{World}
-use Rattle.lua_meaning.specs.Acts.{Frame}
-use Rattle.lua_meaning.specs.Arguments.{Plain}
-use Rattle.lua_meaning.specs.Mw.{clone, get_current_title}
-use Rattle.lua_meaning.specs.Frames.{args_index}
-use Rattle.lua_meaning.specs.Libraries as meaning
-use Rattle.lua_meaning.specs.Libraries.{Form, Answers, InFrames, CallsBack, form}
-use Rattle.lua_libs.specs.Table as basic
-use Rattle.lua_strings.specs.Table as strings
+use Rattle.lua_code.specs.LuaHeapProc.{Proc}
+use Rattle.lua_code.specs.LuaHeapValue.{Value}
+use Rattle.lua_code.specs.LuaHeapHeap.{Heap}
+use Rattle.lua_tables.specs.LuaHeapDeclaredLibraryLibrary.{Library}
+use Rattle.lua_tables.specs.LuaHeapDeclaredLibraryLibraryTheVariants.{MwClone, MwGetCurrentTitle, ArgsIndex, BasicPcall, BasicXpcall, BasicToString, BasicPairs, BasicIpairs, IpairsStep, BasicRequire, MwLoadData, StrictIndex, StrictNewIndex, StringGsub}
+use Rattle.lua_code.specs.LuaMeaningWorld.{World}
+use Rattle.lua_code.specs.LuaMeaningActs.{Frame}
+use Rattle.lua_tables.specs.LuaMeaningArguments.{Plain}
+use Rattle.lua_code.specs.LuaMeaningMw.{clone, get_current_title}
+use Rattle.lua_modules.specs.LuaMeaningFrames.{args_index}
+use Rattle.lua_tables.specs.LuaMeaningLibraries as meaning
+use Rattle.lua_tables.specs.LuaMeaningLibraries.{Form, Answers, InFrames, CallsBack, form}
+use Rattle.lua_acts.specs.LuaLibsTable as basic
+use Rattle.mw_htmls.specs.LuaStringsTable as strings
 use Rattle.lua_tables.specs.Table as tables
-use Rattle.mw_ustrings.specs.Table as ustrings
+use Rattle.mw_texts.specs.MwUstringsTable as ustrings
 use Rattle.mw_texts.specs.Table as texts
-use Rattle.lua_iterators.specs.Table as iterators
+use Rattle.lua_gsubs.specs.LuaIteratorsTable as iterators
 use Rattle.mw_htmls.specs.Table as html
 use Rattle.mw_frame_calls.specs.Table.{framed_of}
 use Rattle.lua_gsubs.specs.declared.table.GsubFunction.TheVariants as gsubs

@@ -1,22 +1,17 @@
 //! What a function of the library gives that answers at once (manual 5; Scribunto).
-ghost use Rattle.lua_store.specs.Parts.{IsLater};
-ghost use Rattle.lua_basic.specs.Seen.{values_seen, AllOf, AnswerOf, Paid};
-ghost use Rattle.mw_frames.specs.Scenes.{NamesOf};
+ghost use Rattle.lua_tables.specs.LuaStoreParts.{IsLater};
+ghost use Rattle.lua_tables.specs.LuaBasicSeen.{values_seen, AllOf, AnswerOf, Paid};
+ghost use Rattle.lua_modules.specs.MwFramesScenes.{NamesOf};
 ghost use Rattle.lua_calls.specs.Table.{once_seen};
 
 use crate::table::AtOnce;
-use lua_basic::Stop;
-use lua_iterators::iterator_call;
-use lua_libs::plain_call;
-use lua_store::{Store, Value};
-use lua_strings::string_call;
-use lua_tables::table_call;
-use mw_frames::FieldNames;
-use mw_htmls::html_call;
-use mw_texts::text_call;
-use mw_ustrings::ustring_call;
+use lua_acts::plain_call;
+use lua_gsubs::iterator_call;
+use lua_tables::{Left, Stop, Store, Value, table_call};
+use mw_frame::List;
+use mw_htmls::{html_call, string_call};
+use mw_texts::{FieldNames, text_call, ustring_call};
 use std::alloc::Global;
-use wk_base::{Left, List};
 
 /// What a function gives for these arguments, after its charge. `names` are those of the fields that `mw.text.tag` reads.
 ///

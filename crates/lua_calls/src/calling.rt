@@ -1,12 +1,12 @@
 //! What a function of the library does that is entered.
 ghost use Rattle.std.specs.Prelude.{IfOk};
-ghost use Rattle.lua_slots.specs.Libraries as machine;
-ghost use Rattle.lua_stack.specs.Of.{ValuesOf};
-ghost use Rattle.lua_stack.specs.Seen.{values_seen};
-ghost use Rattle.lua_state.specs.Makes.{LateMakes, Makes};
-ghost use Rattle.lua_state.specs.Of.{StateOf};
-ghost use Rattle.lua_state.specs.Seen.{frames_of, slots_of};
-ghost use Rattle.lua_state.specs.Worlds.{world_seen};
+ghost use Rattle.lua_code.specs.LuaSlotsLibraries as machine;
+ghost use Rattle.lua_modules.specs.LuaStackOf.{ValuesOf};
+ghost use Rattle.lua_modules.specs.LuaStackSeen.{values_seen};
+ghost use Rattle.lua_modules.specs.LuaStateMakes.{LateMakes, Makes};
+ghost use Rattle.lua_modules.specs.LuaStateOf.{StateOf};
+ghost use Rattle.lua_modules.specs.LuaStateSeen.{frames_of, slots_of};
+ghost use Rattle.lua_modules.specs.LuaStateWorlds.{world_seen};
 ghost use Rattle.lua_calls.specs.Table.{act_seen, caller_seen};
 
 use crate::framed::framed;
@@ -16,12 +16,10 @@ use crate::table::{Act, CallBack};
 use lua_acts::{
     ipairs, ipairs_step, pairs, pcall, strict_index, strict_new_index, to_string, xpcall,
 };
-use lua_modules::{load_data, require};
-use lua_stack::Values;
-use lua_state::{State, Turn};
-use lua_store::Store;
+use lua_code::NoMemory;
+use lua_modules::{State, Turn, Values, load_data, require};
+use lua_tables::{Left, Store};
 use std::alloc::Global;
-use wk_base::{Left, NoMemory};
 
 /// A function that calls back, or sees more of a run.
 fn call_back<'m>(

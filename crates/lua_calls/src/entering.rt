@@ -1,24 +1,24 @@
 //! A function of the library is entered.
 ghost use Rattle.std.specs.Prelude.{◌∷◌, ◌+◌, ◌<◌, ◌^◌, IfOk};
-ghost use Rattle.lua_meaning.specs.Libraries.{form};
-ghost use Rattle.lua_slots.specs.Libraries as libraries;
-ghost use Rattle.lua_slots.specs.Points.{LibraryEnd};
-ghost use Rattle.lua_stack.specs.Of.{ValuesOf};
-ghost use Rattle.lua_stack.specs.Seen.{values_seen};
-ghost use Rattle.lua_state.specs.Makes.{LateCounts, LateMakes};
-ghost use Rattle.lua_state.specs.Of.{StateOf};
-ghost use Rattle.lua_state.specs.Seen.{frames_of, slots_of};
-ghost use Rattle.lua_state.specs.Worlds.{world_seen};
+ghost use Rattle.lua_tables.specs.LuaMeaningLibraries.{form};
+ghost use Rattle.lua_code.specs.LuaSlotsLibraries as libraries;
+ghost use Rattle.lua_modules.specs.LuaSlotsPoints.{LibraryEnd};
+ghost use Rattle.lua_modules.specs.LuaStackOf.{ValuesOf};
+ghost use Rattle.lua_modules.specs.LuaStackSeen.{values_seen};
+ghost use Rattle.lua_modules.specs.LuaStateMakes.{LateCounts, LateMakes};
+ghost use Rattle.lua_modules.specs.LuaStateOf.{StateOf};
+ghost use Rattle.lua_modules.specs.LuaStateSeen.{frames_of, slots_of};
+ghost use Rattle.lua_modules.specs.LuaStateWorlds.{world_seen};
 
 use crate::calling::call_act;
 use crate::table::act_of;
-use lua_stack::{Ending, Frame, Values};
-use lua_state::{State, Turn, enter_call};
-use lua_store::{Library, Store};
+use lua_code::NoMemory;
+use lua_modules::{Ending, Frame, State, Turn, Values, enter_call};
+use lua_tables::{Left, Library, Store};
+use mw_frame::Steps;
 use page_run::Which;
 use std::alloc::Global;
 use std::sync::ledger::Ledger;
-use wk_base::{Left, NoMemory, Steps};
 
 /// What a function of the library does, above the frame that ends its call.
 fn do_library<'m>(

@@ -1,30 +1,29 @@
 //! Functions of the library that see the frames of a run (Scribunto, Frame object).
 ghost use Rattle.std.specs.Prelude.{◌≡◌, ◌∷◌, ℕ, List, IfOk};
-ghost use Rattle.wk_base.specs.declared.left.Left.{Left as Allowance};
-ghost use Rattle.lua_slots.specs.Errors.{fails_quoting};
-ghost use Rattle.lua_slots.specs.Libraries as machine;
-ghost use Rattle.lua_slots.specs.Points.{Asking, Hears, Now};
-ghost use Rattle.lua_store.specs.Parts.{IsTextOf};
-ghost use Rattle.lua_store.specs.Seen.{StoreView, text_at};
-ghost use Rattle.lua_stack.specs.Of.{AskedOf, ValuesOf};
-ghost use Rattle.lua_stack.specs.Seen.{asked_seen, values_seen};
+ghost use Rattle.page_run.specs.WkBaseDeclaredLeftLeft.{Left as Allowance};
+ghost use Rattle.lua_modules.specs.LuaSlotsErrors.{fails_quoting};
+ghost use Rattle.lua_code.specs.LuaSlotsLibraries as machine;
+ghost use Rattle.lua_modules.specs.LuaSlotsPoints.{Asking, Hears, Now};
+ghost use Rattle.lua_tables.specs.LuaStoreParts.{IsTextOf};
+ghost use Rattle.lua_tables.specs.LuaStoreSeen.{StoreView, text_at};
+ghost use Rattle.lua_modules.specs.LuaStackOf.{AskedOf, ValuesOf};
+ghost use Rattle.lua_modules.specs.LuaStackSeen.{asked_seen, values_seen};
 ghost use Rattle.mw_frame_calls.specs.Seen.{awaited_seen, end_seen, scenes_seen, AnswerOf, AwaitedOf, FrameAnswerOf};
 ghost use Rattle.mw_frame_calls.specs.Table.{framed_of};
-ghost use Rattle.lua_state.specs.Makes.{LateMakes, Makes};
-ghost use Rattle.lua_state.specs.Of.{StateOf};
-ghost use Rattle.lua_state.specs.Seen.{frames_of, slots_of};
+ghost use Rattle.lua_modules.specs.LuaStateMakes.{LateMakes, Makes};
+ghost use Rattle.lua_modules.specs.LuaStateOf.{StateOf};
+ghost use Rattle.lua_modules.specs.LuaStateSeen.{frames_of, slots_of};
 ghost use Rattle.lua_calls.specs.Ends.{FramedEndsAs};
 
 use lua_acts::exits::{give_all, one};
 use lua_acts::{pairs, refuse};
-use lua_basic::Stop;
-use lua_stack::{Asked, Focus, Frame, Values, boxed};
-use lua_state::{State, Turn, fail_quoting};
-use lua_store::{Store, TextId};
+use lua_code::NoMemory;
+use lua_modules::{Asked, Focus, Frame, State, Turn, Values, boxed, fail_quoting};
+use lua_tables::{Left, Stop, Store};
 use mw_frame::Ask;
 use mw_frame_calls::{Awaited, FrameAnswer, FrameFunction, frame_call};
+use mw_htmls::TextId;
 use std::alloc::Global;
-use wk_base::{Left, NoMemory};
 
 /// What waits for the answer of a question, as a frame of the machine holds it.
 fn asked_of(awaited: Awaited) -> Asked

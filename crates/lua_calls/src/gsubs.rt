@@ -1,43 +1,41 @@
 //! `gsub` (manual 5.4, `string.gsub`; Scribunto, `mw.ustring.gsub`): a text replaces at once, and a table or a function is asked for each
 //! match.
 ghost use Rattle.std.specs.Prelude.{◌∷◌, None, length, IfOk};
-ghost use Rattle.lua_heap.specs.Value as kind;
-ghost use Rattle.lua_meaning.specs.Gsub.{gsub_form, replacement_given};
-ghost use Rattle.lua_meaning.specs.Pending.{GsubWaits};
-ghost use Rattle.lua_slots.specs.Errors.{with_argument};
-ghost use Rattle.lua_slots.specs.Gsub as machine;
-ghost use Rattle.lua_slots.specs.Index as indices;
-ghost use Rattle.lua_slots.specs.Libraries as libraries;
-ghost use Rattle.lua_slots.specs.Points.{Waits};
-ghost use Rattle.lua_store.specs.Parts.{IsOf, IsTableOf};
-ghost use Rattle.lua_store.specs.Seen.{seen, text_at};
-ghost use Rattle.lua_basic.specs.Seen.{AllOf};
-ghost use Rattle.lua_stack.specs.Of.{PendingOf, ValuesOf};
-ghost use Rattle.lua_stack.specs.Seen.{pending_seen, values_seen};
-ghost use Rattle.lua_state.specs.Makes.{LateMakes, Makes};
-ghost use Rattle.lua_state.specs.Of.{OutcomeOf, StateOf};
-ghost use Rattle.lua_state.specs.Seen.{frames_of, outcome_seen, slots_of};
-ghost use Rattle.lua_replacing.specs.Seen.{far_seen, job_seen, replacing_seen, JobOf, ReplacingOf, StandWithin};
+ghost use Rattle.lua_code.specs.LuaHeapValue as kind;
+ghost use Rattle.lua_gsubs.specs.LuaMeaningGsub.{gsub_form, replacement_given};
+ghost use Rattle.lua_modules.specs.LuaMeaningPending.{GsubWaits};
+ghost use Rattle.lua_modules.specs.LuaSlotsErrors.{with_argument};
+ghost use Rattle.lua_code.specs.LuaSlotsGsub as machine;
+ghost use Rattle.lua_code.specs.LuaSlotsIndex as indices;
+ghost use Rattle.lua_code.specs.LuaSlotsLibraries as libraries;
+ghost use Rattle.lua_modules.specs.LuaSlotsPoints.{Waits};
+ghost use Rattle.lua_tables.specs.LuaStoreParts.{IsOf, IsTableOf};
+ghost use Rattle.lua_tables.specs.LuaStoreSeen.{seen, text_at};
+ghost use Rattle.lua_tables.specs.LuaBasicSeen.{AllOf};
+ghost use Rattle.lua_modules.specs.LuaStackOf.{PendingOf, ValuesOf};
+ghost use Rattle.lua_modules.specs.LuaStackSeen.{pending_seen, values_seen};
+ghost use Rattle.lua_modules.specs.LuaStateMakes.{LateMakes, Makes};
+ghost use Rattle.lua_modules.specs.LuaStateOf.{OutcomeOf, StateOf};
+ghost use Rattle.lua_modules.specs.LuaStateSeen.{frames_of, outcome_seen, slots_of};
+ghost use Rattle.lua_gsubs.specs.LuaReplacingSeen.{far_seen, job_seen, replacing_seen, JobOf, ReplacingOf, StandWithin};
 ghost use Rattle.lua_gsubs.specs.Table.{alphabet_of};
 ghost use Rattle.lua_gsubs.specs.Begun.{BegunOf};
 ghost use Rattle.lua_calls.specs.Ends.{BegunMakes};
 
 use lua_acts::exits::{call_and_wait, give_all, pass};
 use lua_acts::refuse;
-use lua_arms::index::index_table;
-use lua_basic::Stop;
+use lua_code::NoMemory;
 use lua_gsubs::answering::made_values;
 use lua_gsubs::filling::Halt;
 use lua_gsubs::resuming::{Given, complete, put_given};
-use lua_gsubs::{Begun, GsubFunction, Sought, gsub_begin, seek};
-use lua_replacing::{Far, Job, Replacer, Replacing};
-use lua_stack::{Frame, Pending, Values};
-use lua_state::{Outcome, State, Turn, fail, finish};
-use lua_store::{Store, TableId, Value};
-use lua_strings::captures::span;
+use lua_gsubs::{
+    Begun, Far, GsubFunction, Job, Replacer, Replacing, Sought, gsub_begin, seek, span,
+};
+use lua_modules::{Frame, Outcome, Pending, State, Turn, Values, fail, finish, index_table};
+use lua_tables::{Left, Stop, Store, TableId, Value};
+use mw_frame::List;
 use page_run::Which;
 use std::alloc::Global;
-use wk_base::{Left, List, NoMemory};
 
 /// The text that is made, and how many matches were replaced, for a step a byte of the rest of the subject.
 fn end_job<'m>(

@@ -23,4 +23,9 @@ pub mod table;
 pub mod waiting;
 
 pub use entering::enter_library;
+pub use lua_gsubs::{Begun, GsubFunction, gsub_begin};
+pub use lua_modules::Turn;
+pub use lua_tables::Stop;
+pub use mw_htmls::{StringFunction, sub};
+pub use mw_texts::FieldNames;
 pub use waiting::{hear, resume};

@@ -1,32 +1,30 @@
 //! Functions of the library that call back nobody (manual 5; Scribunto).
 ghost use Rattle.std.specs.Prelude.{◌≡◌, ◌∷◌, [], IfOk, IfSome};
-ghost use Rattle.wk_base.specs.declared.left.Left.{Left as Allowance};
-ghost use Rattle.lua_meaning.specs.Frames.{args_index as plain_args_index};
-ghost use Rattle.lua_meaning.specs.Mw as mw;
-ghost use Rattle.lua_slots.specs.Errors.{gives};
-ghost use Rattle.lua_slots.specs.Libraries as machine;
-ghost use Rattle.lua_basic.specs.Seen.{AnswerOf};
-ghost use Rattle.lua_stack.specs.Of.{ValuesOf};
-ghost use Rattle.lua_stack.specs.Seen.{values_seen};
-ghost use Rattle.lua_state.specs.Makes.{LateMakes, Makes};
-ghost use Rattle.lua_state.specs.Of.{StateOf};
-ghost use Rattle.lua_state.specs.Seen.{frames_of, slots_of};
-ghost use Rattle.lua_state.specs.Worlds.{world_seen};
+ghost use Rattle.page_run.specs.WkBaseDeclaredLeftLeft.{Left as Allowance};
+ghost use Rattle.lua_modules.specs.LuaMeaningFrames.{args_index as plain_args_index};
+ghost use Rattle.lua_code.specs.LuaMeaningMw as mw;
+ghost use Rattle.lua_modules.specs.LuaSlotsErrors.{gives};
+ghost use Rattle.lua_code.specs.LuaSlotsLibraries as machine;
+ghost use Rattle.lua_tables.specs.LuaBasicSeen.{AnswerOf};
+ghost use Rattle.lua_modules.specs.LuaStackOf.{ValuesOf};
+ghost use Rattle.lua_modules.specs.LuaStackSeen.{values_seen};
+ghost use Rattle.lua_modules.specs.LuaStateMakes.{LateMakes, Makes};
+ghost use Rattle.lua_modules.specs.LuaStateOf.{StateOf};
+ghost use Rattle.lua_modules.specs.LuaStateSeen.{frames_of, slots_of};
+ghost use Rattle.lua_modules.specs.LuaStateWorlds.{world_seen};
 ghost use Rattle.lua_calls.specs.Ends.{EndsAs};
 ghost use Rattle.lua_calls.specs.Table.{once_seen};
 
 use crate::answering::once_call;
 use crate::table::AtOnce;
 use lua_acts::exits::{give, give_all};
-use lua_acts::refuse;
-use lua_basic::Stop;
-use lua_libs::{mw_clone, mw_get_current_title};
-use lua_stack::Values;
-use lua_state::{State, Turn};
-use lua_store::{Store, Value};
-use mw_frames::index::args_index;
+use lua_acts::{mw_clone, mw_get_current_title, refuse};
+use lua_code::NoMemory;
+use lua_modules::{State, Turn, Values};
+use lua_tables::{Left, Stop, Store, Value};
+use mw_frame::List;
+use mw_frame_calls::args_index;
 use std::alloc::Global;
-use wk_base::{Left, List, NoMemory};
 
 /// The one value of a list that has just one.
 fn single_of(values: &[Value]) -> Option<Value>

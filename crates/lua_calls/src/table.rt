@@ -3,16 +3,12 @@ ghost use Rattle.std.specs.Prelude.{◌≡◌, MatchOption};
 ghost use Rattle.lua_calls.specs.Table.{other_in, InNoGroup, IsLine};
 ghost use Rattle.lua_calls.specs.declared.table.Act.TheVariants as act;
 
-use lua_gsubs::GsubFunction;
-use lua_iterators::{IteratorFunction, iterator_function};
-use lua_libs::{PlainFunction, plain_function};
-use lua_store::Library;
-use lua_strings::{StringFunction, string_function};
-use lua_tables::{TableFunction, table_function};
+use lua_acts::{PlainFunction, plain_function};
+use lua_gsubs::{GsubFunction, IteratorFunction, iterator_function};
+use lua_tables::{Library, TableFunction, table_function};
 use mw_frame_calls::{FrameFunction, frame_function};
-use mw_htmls::{HtmlFunction, html_function};
-use mw_texts::{TextFunction, text_function};
-use mw_ustrings::{UstringFunction, ustring_function};
+use mw_htmls::{HtmlFunction, StringFunction, html_function, string_function};
+use mw_texts::{TextFunction, UstringFunction, text_function, ustring_function};
 
 /// A function that answers at once: it sees nothing but its arguments and the heap.
 #[derive(Clone, Copy, Debug, PartialEq, Eq)]

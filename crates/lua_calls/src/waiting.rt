@@ -1,33 +1,34 @@
 //! What waits for a call, and for the answer to a question.
 ghost use Rattle.std.specs.Prelude.{◌≡◌, ◌++◌, IfOk, OnOk};
-ghost use Rattle.wk_base.specs.declared.left.Left.{Left as Allowance};
+ghost use Rattle.page_run.specs.WkBaseDeclaredLeftLeft.{Left as Allowance};
 ghost use Rattle.page_run.specs.Outcome.{Goes};
-ghost use Rattle.lua_heap.specs.Value as kind;
-ghost use Rattle.lua_meaning.specs.Acts as act;
-ghost use Rattle.lua_meaning.specs.Messages as plain;
-ghost use Rattle.lua_slots.specs.CallBacks.{gives_text};
-ghost use Rattle.lua_slots.specs.Errors.{fails_quoting, jumps};
-ghost use Rattle.lua_slots.specs.Libraries as libraries;
-ghost use Rattle.lua_store.specs.Parts.{IsTextOf};
-ghost use Rattle.lua_store.specs.Seen.{text_at};
-ghost use Rattle.lua_stack.specs.Lists.{given_values};
-ghost use Rattle.lua_stack.specs.Of.{AskedOf, GivenOf, PendingOf};
-ghost use Rattle.lua_stack.specs.Seen.{asked_seen, given_seen, pending_seen};
-ghost use Rattle.lua_state.specs.Makes.{Makes};
-ghost use Rattle.lua_state.specs.Of.{OutcomeOf, StateOf};
-ghost use Rattle.lua_state.specs.Seen.{frames_of, outcome_seen, slots_of};
+ghost use Rattle.lua_code.specs.LuaHeapValue as kind;
+ghost use Rattle.lua_code.specs.LuaMeaningActs as act;
+ghost use Rattle.lua_modules.specs.LuaMeaningMessages as plain;
+ghost use Rattle.lua_acts.specs.LuaSlotsCallBacks.{gives_text};
+ghost use Rattle.lua_modules.specs.LuaSlotsErrors.{fails_quoting, jumps};
+ghost use Rattle.lua_code.specs.LuaSlotsLibraries as libraries;
+ghost use Rattle.lua_tables.specs.LuaStoreParts.{IsTextOf};
+ghost use Rattle.lua_tables.specs.LuaStoreSeen.{text_at};
+ghost use Rattle.lua_modules.specs.LuaStackLists.{given_values};
+ghost use Rattle.lua_modules.specs.LuaStackOf.{AskedOf, GivenOf, PendingOf};
+ghost use Rattle.lua_modules.specs.LuaStackSeen.{asked_seen, given_seen, pending_seen};
+ghost use Rattle.lua_modules.specs.LuaStateMakes.{Makes};
+ghost use Rattle.lua_modules.specs.LuaStateOf.{OutcomeOf, StateOf};
+ghost use Rattle.lua_modules.specs.LuaStateSeen.{frames_of, outcome_seen, slots_of};
 ghost use Rattle.lua_calls.specs.Answers.{answer_in, one_answer_in};
 
 use crate::gsubs::gsub_answer;
 use lua_acts::{
     give_text, handler_answer, pcall_answer, raise, string_answer, three_answer, xpcall_answer,
 };
-use lua_modules::{data_answer, module_answer};
-use lua_stack::{Asked, Given, Pending, Values};
-use lua_state::{Outcome, State, Turn, fail_quoting};
-use lua_store::{Store, TextId, Value};
+use lua_code::NoMemory;
+use lua_modules::{
+    Asked, Given, Outcome, Pending, State, Turn, Values, data_answer, fail_quoting, module_answer,
+};
+use lua_tables::{Left, Store, Value};
+use mw_htmls::TextId;
 use std::alloc::Global;
-use wk_base::{Left, NoMemory};
 
 /// What an answer is to a function that waits for a text.
 #[derive(Clone, Copy, Debug, PartialEq, Eq)]

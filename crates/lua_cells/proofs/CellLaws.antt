@@ -2,9 +2,9 @@
 use Rattle.std.proofs.Common.{◌≡◌, ◌∙◌, ℕ, zero, suc, ◌+◌, ◌-◌, ◌<◌, ◌≤◌, Bool, true, false, true≢false, cond, ◌||◌, ◌==◌, refl, sym, ap, subst, List, [], ◌∷◌, length, slice_set, nat_lt, arith}
 use Rattle.std.proofs.lemmas.Bool.{eqb-true, eqb-false, eq-eqb, ne_eqb, ltb-true, ltb-false}
 use Rattle.std.proofs.Math.ListN.{get_or}
-use Rattle.lua_slots.specs.Code.{Place, Reg, Box, Up, CExp, ConstantC, TextC, DotsC, FunctionC, LocalC, GlobalC, IndexC, CallC, MethodC, TableC, AndC, OrC, OperateC, UnaryC, ParenC}
-use Rattle.lua_slots.specs.Code.{CExps, NoC, MoreC, CFields, NoFieldC, ItemC, PairC, CTarget, PlaceC, GlobalTargetC, EntryC, RefusedC}
-use Rattle.lua_slots.specs.Code.{CStat, AssignC, CallStatC, DoC, WhileC, RepeatC, IfC, IfElseC, CountC, CountByC, EachC, ReturnC, BreakC, CBlock, EndC, DeclareC, LocalFunctionC, ThenC, CArms, NoArmC, ArmC, CProto}
+use Rattle.lua_code.specs.LuaSlotsCode.{Place, Reg, Box, Up, CExp, ConstantC, TextC, DotsC, FunctionC, LocalC, GlobalC, IndexC, CallC, MethodC, TableC, AndC, OrC, OperateC, UnaryC, ParenC}
+use Rattle.lua_code.specs.LuaSlotsCode.{CExps, NoC, MoreC, CFields, NoFieldC, ItemC, PairC, CTarget, PlaceC, GlobalTargetC, EntryC, RefusedC}
+use Rattle.lua_code.specs.LuaSlotsCode.{CStat, AssignC, CallStatC, DoC, WhileC, RepeatC, IfC, IfElseC, CountC, CountByC, EachC, ReturnC, BreakC, CBlock, EndC, DeclareC, LocalFunctionC, ThenC, CArms, NoArmC, ArmC, CProto}
 use Rattle.lua_cells.specs.declared.registers.Registers.{Registers}
 use Rattle.lua_cells.specs.Cells.{is_cell, lists, expression_captures, expressions_capture, fields_capture, target_captures, targets_capture, opens, statement_captures, block_captures, arms_capture, AreNeeded, nothing, in_block, IsTightStat, IsTightBlock, AreTightArms, HasNoIdleCell}
 use Rattle.lua_cells.specs.Registers.{captured, all_captured, opened_one, opened, newest_ended, closed, scoped, expression_gone, expressions_gone, fields_gone, target_gone, targets_gone, statement_gone, block_gone, arms_gone, function_gone}

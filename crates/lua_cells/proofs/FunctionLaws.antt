@@ -1,6 +1,6 @@
 -- A function whose code is gone over from no register on.
 use Rattle.std.proofs.Common.{◌≡◌, ◌∙◌, Bool, true, ◌↔◌, sym, ap, List, []}
-use Rattle.lua_slots.specs.Code.{CBlock, CProto}
+use Rattle.lua_code.specs.LuaSlotsCode.{CBlock, CProto}
 use Rattle.lua_cells.specs.declared.registers.Registers.{Registers}
 use Rattle.lua_cells.specs.Cells.{HasNoIdleCell}
 use Rattle.lua_cells.specs.Registers.{opened, scoped, block_gone, function_gone}

@@ -1,7 +1,7 @@
 -- As long as no register is idle, what is captured changes nothing.
 use Rattle.std.proofs.Common.{◌≡◌, ◌∙◌, ℕ, zero, suc, Bool, true, false, true≢false, refl, sym, ap, subst, List, [], ◌∷◌, slice_set}
-use Rattle.lua_slots.specs.Code.{Place, Reg, Box, Up, CExp, ConstantC, TextC, DotsC, FunctionC, LocalC, GlobalC, IndexC, CallC, MethodC, TableC, AndC, OrC, OperateC, UnaryC, ParenC}
-use Rattle.lua_slots.specs.Code.{CExps, NoC, MoreC, CFields, NoFieldC, ItemC, PairC, CTarget, PlaceC, GlobalTargetC, EntryC, RefusedC}
+use Rattle.lua_code.specs.LuaSlotsCode.{Place, Reg, Box, Up, CExp, ConstantC, TextC, DotsC, FunctionC, LocalC, GlobalC, IndexC, CallC, MethodC, TableC, AndC, OrC, OperateC, UnaryC, ParenC}
+use Rattle.lua_code.specs.LuaSlotsCode.{CExps, NoC, MoreC, CFields, NoFieldC, ItemC, PairC, CTarget, PlaceC, GlobalTargetC, EntryC, RefusedC}
 use Rattle.lua_cells.specs.declared.registers.Registers.{Registers}
 use Rattle.lua_cells.specs.Registers.{NoneIdle, captured, all_captured, opened_one, newest_ended, closed, expression_gone, expressions_gone, fields_gone, target_gone, targets_gone}
 

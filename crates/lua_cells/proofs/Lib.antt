@@ -1,3 +1,4 @@
+pub use Rattle.lua_stack.proofs.Stay as LuaStackStay
 mod CellLaws
 mod Codes
 mod FunctionLaws

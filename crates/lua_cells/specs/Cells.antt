@@ -2,10 +2,10 @@
 -- that it captures; a cell that it captures from a register of its own function stands among them as `Box`, counted from the newest.
 -- Each function of a module is looked at by itself, since what it captures from further out stands in no register of it.
 use Rattle.std.specs.Prelude.{◌≡◌, ℕ, suc, ◌+◌, Bool, true, false, ◌||◌, ◌==◌, List, [], ◌∷◌, length, Some}
-use Rattle.lua_slots.specs.Code.{Place, Box, CExp, FunctionC, IndexC, CallC, MethodC, TableC, AndC, OrC, OperateC, UnaryC, ParenC}
-use Rattle.lua_slots.specs.Code.{CExps, NoC, MoreC, CFields, NoFieldC, ItemC, PairC, CTarget, EntryC}
-use Rattle.lua_slots.specs.Code.{CStat, AssignC, CallStatC, DoC, WhileC, RepeatC, IfC, IfElseC, CountC, CountByC, EachC, ReturnC, CBlock, EndC, DeclareC, LocalFunctionC, ThenC, CArms, NoArmC, ArmC}
-use Rattle.lua_slots.specs.Code.{CProto, Protos}
+use Rattle.lua_code.specs.LuaSlotsCode.{Place, Box, CExp, FunctionC, IndexC, CallC, MethodC, TableC, AndC, OrC, OperateC, UnaryC, ParenC}
+use Rattle.lua_code.specs.LuaSlotsCode.{CExps, NoC, MoreC, CFields, NoFieldC, ItemC, PairC, CTarget, EntryC}
+use Rattle.lua_code.specs.LuaSlotsCode.{CStat, AssignC, CallStatC, DoC, WhileC, RepeatC, IfC, IfElseC, CountC, CountByC, EachC, ReturnC, CBlock, EndC, DeclareC, LocalFunctionC, ThenC, CArms, NoArmC, ArmC}
+use Rattle.lua_code.specs.LuaSlotsCode.{CProto, Protos}
 
 -- WHAT CODE CAPTURES: whether a closure in it lists the cell of the register that is `i` from the newest in front of it
 abbrev pub is_cell : ℕ → Place → Bool

@@ -1,9 +1,9 @@
 -- CODE THAT IS GONE OVER: of each register of a function, the newest first, whether it names a cell that nothing captured so far; and
 -- whether all cells of variables that ended were captured.
 use Rattle.std.specs.Prelude.{◌≡◌, ℕ, zero, suc, ◌-◌, Bool, true, false, if◌then◌else◌, List, [], ◌∷◌, length, slice_set}
-use Rattle.lua_slots.specs.Code.{Place, Reg, Box, Up, CExp, FunctionC, IndexC, CallC, MethodC, TableC, AndC, OrC, OperateC, UnaryC, ParenC}
-use Rattle.lua_slots.specs.Code.{CExps, NoC, MoreC, CFields, NoFieldC, ItemC, PairC, CTarget, EntryC}
-use Rattle.lua_slots.specs.Code.{CStat, AssignC, CallStatC, DoC, WhileC, RepeatC, IfC, IfElseC, CountC, CountByC, EachC, ReturnC, CBlock, EndC, DeclareC, LocalFunctionC, ThenC, CArms, NoArmC, ArmC, CProto}
+use Rattle.lua_code.specs.LuaSlotsCode.{Place, Reg, Box, Up, CExp, FunctionC, IndexC, CallC, MethodC, TableC, AndC, OrC, OperateC, UnaryC, ParenC}
+use Rattle.lua_code.specs.LuaSlotsCode.{CExps, NoC, MoreC, CFields, NoFieldC, ItemC, PairC, CTarget, EntryC}
+use Rattle.lua_code.specs.LuaSlotsCode.{CStat, AssignC, CallStatC, DoC, WhileC, RepeatC, IfC, IfElseC, CountC, CountByC, EachC, ReturnC, CBlock, EndC, DeclareC, LocalFunctionC, ThenC, CArms, NoArmC, ArmC, CProto}
 use Rattle.lua_cells.specs.declared.registers.Registers.{Registers}
 
 abbrev pub captured : Place → Registers → Registers

@@ -2,7 +2,7 @@
 #![tactic(auto, using(crate::proofs::Codes::codes))]
 
 ghost use Rattle.std.specs.Prelude.{◌≡◌, map};
-ghost use Rattle.lua_slots.specs.Code.{CFields};
+ghost use Rattle.lua_code.specs.LuaSlotsCode.{CFields};
 ghost use Rattle.lua_code.specs.Seen.{expression_seen, expressions_seen, entry_seen, entries_seen, target_seen};
 ghost use Rattle.lua_cells.specs.Registers.{expression_gone, expressions_gone, fields_gone, target_gone, targets_gone};
 

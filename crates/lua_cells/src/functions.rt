@@ -5,9 +5,8 @@ ghost use Rattle.lua_cells.specs.Cells.{HasNoIdleCell};
 
 use crate::statements::inner;
 use crate::watch::Watch;
-use lua_code::Proto;
+use lua_code::{NoMemory, Proto};
 use std::alloc::Global;
-use wk_base::NoMemory;
 
 /// Whether each variable of a function that has a cell is captured by a function inside. Each node of its code is looked at once; the
 /// code of functions inside it is not.

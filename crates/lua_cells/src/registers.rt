@@ -3,10 +3,9 @@ ghost use Rattle.std.specs.Prelude.{◌≡◌, [], true, length, map, OnOk};
 ghost use Rattle.lua_code.specs.Seen.{place_seen};
 ghost use Rattle.lua_cells.specs.Registers.{captured, all_captured, opened_one, newest_ended, closed};
 
-use lua_code::Place;
+use lua_code::{NoMemory, Place};
 use lua_stack::Stack;
 use std::alloc::Global;
-use wk_base::NoMemory;
 
 /// The registers of a function: of each, the newest first, whether it names a cell that nothing captured so far; and whether all
 /// cells of variables that ended were captured.

@@ -2,13 +2,12 @@
 #![tactic(auto, using(crate::proofs::Codes::codes))]
 
 ghost use Rattle.std.specs.Prelude.{◌≡◌, OnOk};
-ghost use Rattle.lua_slots.specs.Code.{CBlock, CArms};
+ghost use Rattle.lua_code.specs.LuaSlotsCode.{CBlock, CArms};
 ghost use Rattle.lua_code.specs.Seen.{expression_seen, statement_seen, block_seen, branch_seen, branches_seen};
 ghost use Rattle.lua_cells.specs.Registers.{opened_one, opened, scoped, expression_gone, block_gone, arms_gone};
 
 use crate::watch::Watch;
-use lua_code::{Branch, Expression, Statement};
-use wk_base::NoMemory;
+use lua_code::{Branch, Expression, NoMemory, Statement};
 
 /// Statements, whose variables stay open.
 #[cycle(statements)]

@@ -5,10 +5,9 @@ ghost use Rattle.lua_cells.specs.Registers.{all_captured, opened_one, opened, cl
 
 use crate::expressions;
 use crate::registers::Registers;
-use lua_code::{Expression, Place, Target};
+use lua_code::{Expression, NoMemory, Place, Target};
 use std::alloc::Global;
 use std::marker::Model;
-use wk_base::NoMemory;
 
 /// The registers of a function, seen as these. As long as none of its variables had a cell, expressions change nothing, and need not be
 /// gone over.

@@ -4,11 +4,11 @@ use Rattle.std.proofs.lemmas.List.{take-append-drop}
 use Rattle.std.proofs.lemmas.Slice.Eq.{bytes_eq-Decides}
 use Rattle.std.specs.Option.{option_copied}
 use Rattle.std.specs.Map.{lookup}
-use Rattle.wk_base.specs.declared.title.Namespace.{Namespace}
-use Rattle.wk_base.specs.declared.title.Namespace.TheVariants.{Module as ModuleNs}
-use Rattle.wk_base.specs.declared.title.Title.{Title}
-use Rattle.wk_base.specs.contracts.title.TitlePartialEq.TheImpl as titles
-use Rattle.wk_base.specs.Titles.{is_module, title_text, prefix_of}
+use Rattle.lua_syntax.specs.WkBaseDeclaredTitleNamespace.{Namespace}
+use Rattle.lua_slots.specs.WkBaseDeclaredTitleNamespaceTheVariants.{Module as ModuleNs}
+use Rattle.lua_syntax.specs.WkBaseDeclaredTitleTitle.{Title}
+use Rattle.lua_syntax.specs.WkBaseContractsTitleTitlePartialEqTheImpl as titles
+use Rattle.lua_syntax.specs.WkBaseTitles.{is_module, title_text, prefix_of}
 use Rattle.lua_code.specs.declared.modules.Module.{Module}
 use Rattle.lua_code.specs.Held.{TitledModules, find_module, module_seen, modules_seen, AreModules}
 

@@ -2,9 +2,9 @@
 -- in a namespace of its own).
 use Rattle.std.specs.Prelude.{◌≡◌, ℕ, true, List, [], ◌∷◌, map, Option, option_map, Result, Ok, Err, bytes_eq}
 use Rattle.std.specs.Map.{lookup}
-use Rattle.wk_base.specs.declared.title.Title.{Title}
-use Rattle.wk_base.specs.contracts.title.TitlePartialEq.TheImpl as titles
-use Rattle.wk_base.specs.Titles.{is_module, title_text}
+use Rattle.lua_syntax.specs.WkBaseDeclaredTitleTitle.{Title}
+use Rattle.lua_syntax.specs.WkBaseContractsTitleTitlePartialEqTheImpl as titles
+use Rattle.lua_syntax.specs.WkBaseTitles.{is_module, title_text}
 use Rattle.lua_syntax.specs.declared.fault.FaultAt.{FaultAt}
 use Rattle.lua_slots.specs.Code.{CModule, Protos as PlainProtos}
 use Rattle.lua_code.specs.declared.modules.Module.{Module}

@@ -1,9 +1,9 @@
 -- The plain code (`lua_slots`) that each type of this crate is seen as: variant for variant, with what each child is seen as in its
 -- place. A list of statements is a block, in which a declaration stands in front of what follows it.
 use Rattle.std.specs.Prelude.{ℕ, zero, suc, List, [], ◌∷◌, map, slice_get, Option, Some, None, option_map}
-use Rattle.lua_heap.specs.Value as value
-use Rattle.lua_meaning.specs.Operators as plain
-use Rattle.lua_meaning.specs.Scope.{Bytes}
+use Rattle.lua_slots.specs.LuaHeapValue as value
+use Rattle.lua_slots.specs.LuaMeaningOperators as plain
+use Rattle.lua_slots.specs.LuaMeaningScope.{Bytes}
 use Rattle.lua_slots.specs.Code.{Place as PlaceC', Reg, Box as BoxP, Up, CExp, ConstantC, TextC, DotsC, FunctionC, LocalC, GlobalC, IndexC, CallC, MethodC, TableC, AndC, OrC, OperateC, UnaryC, ParenC}
 use Rattle.lua_slots.specs.Code.{CExps, NoC, MoreC, CFields, NoFieldC, ItemC, PairC, CTarget, PlaceC, GlobalTargetC, EntryC, RefusedC}
 use Rattle.lua_slots.specs.Code.{AssignC, CallStatC, DoC, WhileC, RepeatC, IfC, IfElseC, CountC, CountByC, EachC, ReturnC, BreakC, CBlock, EndC, DeclareC, LocalFunctionC, ThenC, CArms, NoArmC, ArmC}

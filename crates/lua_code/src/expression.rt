@@ -1,8 +1,7 @@
 //! Code of expressions. Texts and names stand among the constants of the module, and are named by their numbers there.
 use crate::operator::Operator;
 use crate::place::Place;
-use lua_syntax::UnaryOp;
-use wk_base::List;
+use lua_syntax::{UnaryOp, WkBaseList as List};
 
 /// Code of an expression (manual 2.5). A line is given where an error may name it.
 #[cycle(expressions)]

@@ -19,6 +19,7 @@ pub mod proto;
 pub mod statement;
 
 pub use expression::{Entry, Expression};
+pub use lua_syntax::{Namespace, NoMemory, Title, WkBaseBytes as Bytes, WkBaseList as List};
 pub use modules::{Module, Modules};
 pub use operator::{Arithmetic, Operator};
 pub use place::Place;

@@ -1,17 +1,16 @@
 //! The modules of a run.
 ghost use Rattle.std.specs.Prelude.{◌≡◌, ◌++◌, ◌∷◌, [], true, None, OnOk, OnErr, IfOk, option_map};
 ghost use Rattle.std.specs.Option.{option_copied};
-ghost use Rattle.wk_base.specs.declared.title.Namespace.TheVariants as space;
-ghost use Rattle.wk_base.specs.Titles.{is_module, title_text};
+ghost use Rattle.lua_slots.specs.WkBaseDeclaredTitleNamespaceTheVariants as space;
+ghost use Rattle.lua_syntax.specs.WkBaseTitles.{is_module, title_text};
 ghost use Rattle.lua_code.specs.Held.{find_module, modules_seen, module_seen, AreModules};
 
 use crate::proto::Protos;
 use indexmap::IndexMap;
-use lua_syntax::FaultAt;
+use lua_syntax::{FaultAt, Namespace, NoMemory, Title, WkBaseBytes as Bytes};
 use std::alloc::Global;
 use std::hash::RandomState;
 use std::marker::Model;
-use wk_base::{Bytes, Namespace, NoMemory, Title};
 
 /// A module: the length of its text in bytes, and its functions, or its first fault.
 #[derive(Drop)]
@@ -29,10 +28,10 @@ pub struct Modules {
 
 impl Model for Modules {
     ghost use Rattle.std.specs.Prelude.{List};
-    ghost use Rattle.wk_base.specs.declared.title.Title.{Title as TitleValue};
+    ghost use Rattle.lua_syntax.specs.WkBaseDeclaredTitleTitle.{Title as TitleValue};
     ghost use Rattle.lua_code.specs.declared.modules.Module.{Module as ModuleValue};
     ghost use Rattle.std.specs.Coded.{coded_list, coded×};
-    ghost use Rattle.wk_base.specs.contracts.title.Title as title;
+    ghost use Rattle.lua_syntax.specs.WkBaseContractsTitleTitle as title;
     ghost use Rattle.lua_code.specs.contracts.modules.Module as module_;
     ghost use Rattle.lua_code.specs.Held.{AreModules};
 

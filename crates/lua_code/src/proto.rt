@@ -3,7 +3,7 @@ ghost use Rattle.std.specs.Prelude.{◌≡◌, option_map};
 ghost use Rattle.lua_code.specs.Seen.{proto_seen, protos_seen};
 
 use crate::statement::Statement;
-use wk_base::{Bytes, List};
+use lua_syntax::{WkBaseBytes as Bytes, WkBaseList as List};
 
 /// A function of a module: for each parameter whether it has a cell, whether `...` follows them, and its body.
 #[derive(Drop)]

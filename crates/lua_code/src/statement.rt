@@ -1,7 +1,7 @@
 //! Code of statements.
 use crate::expression::Expression;
 use crate::place::Place;
-use wk_base::List;
+use lua_syntax::WkBaseList as List;
 
 /// What an assignment assigns to (manual 2.4.3).
 #[derive(Drop)]

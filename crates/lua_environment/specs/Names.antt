@@ -1,6 +1,6 @@
 -- NAMES OF HANDLERS in a store, which are what the manual calls them (2.8): parts of the environment of a run (`EnvironmentOf`).
 use Rattle.std.specs.Prelude.{codes}
-use Rattle.lua_meaning.specs.Operators as plain
+use Rattle.lua_code.specs.LuaMeaningOperators as plain
 use Rattle.lua_store.specs.Seen.{StoreView}
 use Rattle.lua_stack.specs.Of.{IsNameOf}
 use Rattle.lua_environment.specs.declared.names.AccessNames.{AccessNames}

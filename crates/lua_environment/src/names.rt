@@ -4,8 +4,8 @@ ghost use Rattle.lua_store.specs.Parts.{IsLater};
 ghost use Rattle.lua_stack.specs.Of.{IsNameOf};
 ghost use Rattle.lua_environment.specs.Names.{AreAccessNames, AreArithmeticNames, AreOtherNames};
 
+use lua_code::NoMemory;
 use lua_store::{Store, TextId};
-use wk_base::NoMemory;
 
 /// Names of handlers of access and of calls, and of those that functions of the library ask.
 #[derive(Clone, Copy)]

@@ -5,10 +5,10 @@ ghost use Rattle.lua_stack.specs.Of.{EnvironmentOf};
 ghost use Rattle.lua_home.specs.Made.{with_home, IsHomeAt};
 
 use crate::names::{access_names, arithmetic_names, other_names};
+use lua_code::NoMemory;
 use lua_home::fresh;
 use lua_stack::Environment;
 use lua_store::Store;
-use wk_base::NoMemory;
 
 /// The environment of a run that starts (manual 5; Scribunto, "Lua environment"): fresh tables, and the names of handlers. Nothing
 /// that was there is changed.

@@ -1,24 +1,24 @@
 -- How moves of expressions are made of parts.
 use Rattle.std.proofs.Common.{◌≡◌, ◌∙◌, true, false, refl, sym, ap, ℕ, List}
-use Rattle.wk_base.specs.declared.left.Left.{Left}
+use Rattle.page_run.specs.WkBaseDeclaredLeftLeft.{Left}
 use Rattle.page_run.specs.declared.which.Which.TheVariants.{Steps}
 use Rattle.page_run.specs.State.{Tally}
-use Rattle.lua_store.specs.Seen.{StoreView}
-use Rattle.lua_store.specs.Parts.{IsLater}
-use Rattle.lua_store.proofs.Later.{later-itself}
-use Rattle.lua_slots.specs.Slots.{Slots, with_heap}
-use Rattle.lua_slots.specs.Points.{SFrame, Move, Costs, Now}
-use Rattle.lua_slots.specs.Enact.{enact}
-use Rattle.lua_stack.specs.declared.focus.Focus.{Focus}
-use Rattle.lua_stack.specs.declared.frame.Frame.{Frame}
-use Rattle.lua_stack.specs.Seen.{focus_seen}
-use Rattle.lua_stack.specs.Of.{FramesOf, FocusOf}
-use Rattle.lua_arms.specs.declared.step.Step.{Step}
-use Rattle.lua_arms.specs.declared.step.Step.TheVariants as step
-use Rattle.lua_arms.specs.declared.step.Paid.{Paid}
-use Rattle.lua_arms.specs.declared.step.Paid.TheVariants as paid
-use Rattle.lua_arms.specs.Steps.{step_seen}
-use Rattle.lua_arms.specs.Paid.{paid_seen, IfSpent as IfStopped}
+use Rattle.lua_operators.specs.LuaStoreSeen.{StoreView}
+use Rattle.lua_operators.specs.LuaStoreParts.{IsLater}
+use Rattle.lua_operators.proofs.LuaStoreLater.{later-itself}
+use Rattle.lua_operators.specs.LuaSlotsSlots.{Slots, with_heap}
+use Rattle.lua_operators.specs.LuaSlotsPoints.{SFrame, Move, Costs, Now}
+use Rattle.lua_operators.specs.LuaSlotsEnact.{enact}
+use Rattle.lua_state.specs.LuaStackDeclaredFocusFocus.{Focus}
+use Rattle.lua_state.specs.LuaStackDeclaredFrameFrame.{Frame}
+use Rattle.lua_operators.specs.LuaStackSeen.{focus_seen}
+use Rattle.lua_operators.specs.LuaStackOf.{FramesOf, FocusOf}
+use Rattle.lua_state.specs.LuaArmsDeclaredStepStep.{Step}
+use Rattle.lua_state.specs.LuaArmsDeclaredStepStepTheVariants as step
+use Rattle.lua_state.specs.LuaArmsDeclaredStepPaid.{Paid}
+use Rattle.lua_state.specs.LuaArmsDeclaredStepPaidTheVariants as paid
+use Rattle.lua_state.specs.LuaArmsSteps.{step_seen}
+use Rattle.lua_state.specs.LuaArmsPaid.{paid_seen, IfSpent as IfStopped}
 use Rattle.lua_state.specs.declared.state.State.{State}
 use Rattle.lua_state.specs.declared.turn.Turn.{Turn}
 use Rattle.lua_state.specs.declared.turn.Turn.TheVariants as turn

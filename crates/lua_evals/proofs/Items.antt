@@ -1,25 +1,25 @@
 -- Items of a constructor: one before other entries gives its first value, and the last one gives all its values, one after another.
 use Rattle.std.proofs.Common.{◌≡◌, ◌≢◌, ◌∙◌, ◌+◌, refl, ap, arith, ℕ, List, [], ◌∷◌, length, Some}
 use Rattle.std.specs.Prelude.{pos}
-use Rattle.lua_heap.specs.Value.{Value as Plain, Number}
-use Rattle.lua_meaning.specs.Values.{first}
+use Rattle.lua_code.specs.LuaHeapValue.{Value as Plain, Number}
+use Rattle.lua_operators.specs.LuaMeaningValues.{first}
 use Rattle.lua_code.specs.declared.expression.Expression.{Expression}
 use Rattle.lua_code.specs.declared.expression.Entry.{Entry}
 use Rattle.lua_code.specs.declared.expression.Entry.TheOpen.{Entry-F, Item, Pair}
 use Rattle.lua_code.specs.declared.expression.Entry.TheViews.{out-Entry}
 use Rattle.lua_code.specs.declared.expression.Entry.TheFolds.{map-Entry, fold_out-Entry}
 use Rattle.lua_code.specs.Seen.{entry_step, expression_seen, entry_seen, entries_seen}
-use Rattle.lua_store.specs.declared.value.Value.{Value}
-use Rattle.lua_store.specs.Seen.{seen}
-use Rattle.lua_slots.specs.Code.{CFields}
-use Rattle.lua_slots.specs.Slots.{Slots}
-use Rattle.lua_slots.specs.Points.{SFrame, FieldsNext, ItemsNext}
-use Rattle.lua_slots.specs.Index.{set_entry}
-use Rattle.lua_slots.specs.Expressions.{item, items}
-use Rattle.lua_stack.specs.declared.values.Given.{Given}
-use Rattle.lua_stack.specs.Lists.{first_stored, rest_stored, given_values}
-use Rattle.lua_stack.specs.Seen.{values_seen, given_seen}
-use Rattle.lua_stack.proofs.Openings.{first_seen}
+use Rattle.lua_operators.specs.LuaStoreDeclaredValueValue.{Value}
+use Rattle.lua_operators.specs.LuaStoreSeen.{seen}
+use Rattle.lua_code.specs.LuaSlotsCode.{CFields}
+use Rattle.lua_operators.specs.LuaSlotsSlots.{Slots}
+use Rattle.lua_operators.specs.LuaSlotsPoints.{SFrame, FieldsNext, ItemsNext}
+use Rattle.lua_code.specs.LuaSlotsIndex.{set_entry}
+use Rattle.lua_code.specs.LuaSlotsExpressions.{item, items}
+use Rattle.lua_state.specs.LuaStackDeclaredValuesGiven.{Given}
+use Rattle.lua_state.specs.LuaStackLists.{first_stored, rest_stored, given_values}
+use Rattle.lua_operators.specs.LuaStackSeen.{values_seen, given_seen}
+use Rattle.lua_state.proofs.LuaStackOpenings.{first_seen}
 
 -- the first of some values is set, and the others wait
 pub first_item : (texts : List (List ℕ)) (vs rest : List Value) (k v : Value) (t n next line : ℕ) (fs : List SFrame) (s : Slots) → vs ≢ [] → seen texts k ≡ Number (pos n) → v ≡ first_stored vs → rest ≡ rest_stored vs → next ≡ n + 1

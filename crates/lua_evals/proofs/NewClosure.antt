@@ -1,23 +1,23 @@
 -- A new closure is the next one of the heap.
 use Rattle.std.proofs.Common.{◌≡◌, ◌∙◌, refl, sym, ap, ℕ, List, [], ◌∷◌, map}
-use Rattle.wk_base.specs.declared.left.Left.{Left}
-use Rattle.lua_heap.specs.Proc.{Proc}
-use Rattle.lua_heap.specs.Heap as heap
-use Rattle.lua_heap.specs.Heap.{Heap}
-use Rattle.lua_heap.specs.Value as kind
+use Rattle.page_run.specs.WkBaseDeclaredLeftLeft.{Left}
+use Rattle.lua_code.specs.LuaHeapProc.{Proc}
+use Rattle.lua_code.specs.LuaHeapHeap as heap
+use Rattle.lua_code.specs.LuaHeapHeap.{Heap}
+use Rattle.lua_code.specs.LuaHeapValue as kind
 use Rattle.lua_code.specs.declared.place.Place.{Place}
 use Rattle.lua_code.specs.Seen.{place_seen}
-use Rattle.lua_store.specs.declared.ids.ClosureId.{ClosureId}
-use Rattle.lua_store.specs.declared.ids.CellId.{CellId}
-use Rattle.lua_store.specs.declared.ids.TextId.{TextId}
-use Rattle.lua_store.specs.declared.value.Value.TheVariants as value
-use Rattle.lua_store.specs.Seen.{StoreView, text_at, places_of}
-use Rattle.lua_store.specs.Parts.{IsLater, IsClosureOf}
-use Rattle.lua_slots.specs.Slots.{Slots, with_heap, function_of, cells_at, proc_of, with_closure, next_closure}
-use Rattle.lua_slots.specs.Points.{SFrame}
-use Rattle.lua_slots.specs.Errors.{gives}
-use Rattle.lua_stack.specs.declared.values.Given.TheVariants as given
-use Rattle.lua_stack.specs.declared.focus.Focus.TheVariants as focus
+use Rattle.lua_operators.specs.LuaStoreDeclaredIdsClosureId.{ClosureId}
+use Rattle.lua_operators.specs.LuaStoreDeclaredIdsCellId.{CellId}
+use Rattle.lua_state.specs.LuaStoreDeclaredIdsTextId.{TextId}
+use Rattle.lua_operators.specs.LuaStoreDeclaredValueValueTheVariants as value
+use Rattle.lua_operators.specs.LuaStoreSeen.{StoreView, text_at, places_of}
+use Rattle.lua_operators.specs.LuaStoreParts.{IsLater, IsClosureOf}
+use Rattle.lua_operators.specs.LuaSlotsSlots.{Slots, with_heap, function_of, cells_at, proc_of, with_closure, next_closure}
+use Rattle.lua_operators.specs.LuaSlotsPoints.{SFrame}
+use Rattle.lua_operators.specs.LuaSlotsErrors.{gives}
+use Rattle.lua_state.specs.LuaStackDeclaredValuesGivenTheVariants as given
+use Rattle.lua_state.specs.LuaStackDeclaredFocusFocusTheVariants as focus
 use Rattle.lua_state.specs.declared.state.State.{State}
 use Rattle.lua_state.specs.declared.turn.Turn.TheVariants as turn
 use Rattle.lua_state.specs.Seen.{slots_of, frames_of}

@@ -1,21 +1,21 @@
 -- A new table is the next one of the heap, and its first entry is next.
 use Rattle.std.proofs.Common.{◌≡◌, ◌∙◌, refl, sym, ap, ℕ, List}
-use Rattle.wk_base.specs.declared.left.Left.{Left}
-use Rattle.lua_heap.specs.Proc.{Proc}
-use Rattle.lua_heap.specs.Heap.{Heap, new_table}
-use Rattle.lua_store.specs.declared.ids.TableId.{TableId}
-use Rattle.lua_store.specs.Seen.{StoreView}
-use Rattle.lua_store.specs.Parts.{IsTableOf, IsLater}
-use Rattle.lua_store.proofs.Later.{later-itself}
-use Rattle.lua_slots.specs.Code.{CFields}
-use Rattle.lua_slots.specs.Slots.{Slots, with_heap}
-use Rattle.lua_slots.specs.Points.{SFrame, Now}
-use Rattle.lua_slots.specs.Expressions.{fields, with_table}
-use Rattle.lua_stack.specs.declared.focus.Focus.{Focus}
-use Rattle.lua_stack.specs.declared.frame.Frame.{Frame}
-use Rattle.lua_stack.specs.Seen.{focus_seen, frames_seen}
-use Rattle.lua_stack.specs.Of.{FramesOf, FocusOf}
-use Rattle.lua_stack.proofs.Stay.{frames_later}
+use Rattle.page_run.specs.WkBaseDeclaredLeftLeft.{Left}
+use Rattle.lua_code.specs.LuaHeapProc.{Proc}
+use Rattle.lua_code.specs.LuaHeapHeap.{Heap, new_table}
+use Rattle.lua_operators.specs.LuaStoreDeclaredIdsTableId.{TableId}
+use Rattle.lua_operators.specs.LuaStoreSeen.{StoreView}
+use Rattle.lua_operators.specs.LuaStoreParts.{IsTableOf, IsLater}
+use Rattle.lua_operators.proofs.LuaStoreLater.{later-itself}
+use Rattle.lua_code.specs.LuaSlotsCode.{CFields}
+use Rattle.lua_operators.specs.LuaSlotsSlots.{Slots, with_heap}
+use Rattle.lua_operators.specs.LuaSlotsPoints.{SFrame, Now}
+use Rattle.lua_code.specs.LuaSlotsExpressions.{fields, with_table}
+use Rattle.lua_state.specs.LuaStackDeclaredFocusFocus.{Focus}
+use Rattle.lua_state.specs.LuaStackDeclaredFrameFrame.{Frame}
+use Rattle.lua_operators.specs.LuaStackSeen.{focus_seen, frames_seen}
+use Rattle.lua_operators.specs.LuaStackOf.{FramesOf, FocusOf}
+use Rattle.lua_operators.proofs.LuaStackStay.{frames_later}
 use Rattle.lua_state.specs.declared.state.State.{State}
 use Rattle.lua_state.specs.declared.turn.Turn.TheVariants as turn
 use Rattle.lua_state.specs.Seen.{slots_of, frames_of}

@@ -1,26 +1,23 @@
 //! Closures that begin (manual 2.5.9).
 ghost use Rattle.std.specs.Prelude.{◌≡◌, ◌∷◌, [], map, IfOk};
-ghost use Rattle.wk_base.specs.declared.left.Left.{Left as Allowance};
+ghost use Rattle.page_run.specs.WkBaseDeclaredLeftLeft.{Left as Allowance};
 ghost use Rattle.lua_code.specs.Seen.{place_seen};
-ghost use Rattle.lua_slots.specs.Errors.{gives};
-ghost use Rattle.lua_slots.specs.Points.{Costs};
-ghost use Rattle.lua_slots.specs.Slots.{function_of, next_closure, proc_of, with_closure};
-ghost use Rattle.lua_store.specs.Parts.{IsTextOf};
-ghost use Rattle.lua_store.specs.Seen.{text_at};
+ghost use Rattle.lua_operators.specs.LuaSlotsErrors.{gives};
+ghost use Rattle.lua_operators.specs.LuaSlotsPoints.{Costs};
+ghost use Rattle.lua_operators.specs.LuaSlotsSlots.{function_of, next_closure, proc_of, with_closure};
+ghost use Rattle.lua_operators.specs.LuaStoreParts.{IsTextOf};
+ghost use Rattle.lua_operators.specs.LuaStoreSeen.{text_at};
 ghost use Rattle.lua_state.specs.Makes.{Makes};
 ghost use Rattle.lua_state.specs.Of.{StateOf};
 ghost use Rattle.lua_state.specs.Seen.{frames_of, slots_of};
-ghost use Rattle.lua_meaning.specs.Charges.{closure_charge};
+ghost use Rattle.lua_state.specs.LuaMeaningCharges.{closure_charge};
 
 use crate::running::running_closure;
-use lua_code::Place;
-use lua_stack::register::captures;
-use lua_stack::{Focus, Given};
-use lua_state::{State, Turn, pay};
-use lua_store::{ClosureKind, ProtoId, Store, TextId, Value};
+use lua_code::{NoMemory, Place};
+use lua_operators::{ClosureKind, Focus, Left, Store, TextId, Value};
+use lua_state::{Given, ProtoId, State, Turn, captures, pay};
 use page_run::Which;
 use std::alloc::Global;
-use wk_base::{Left, NoMemory};
 
 /// A closure of this function of a module, with the cells at these places.
 fn closure_in<'m>(

@@ -1,32 +1,29 @@
 //! Table constructors (manual 2.5.7): a table that is there gets its entries in order, without handlers.
 ghost use Rattle.std.specs.Prelude.{◌≡◌, ◌≢◌, ◌∷◌, ◌+◌, [], ℕ, List, pos, Some, IfOk, MatchOption};
-ghost use Rattle.wk_base.specs.declared.left.Left.{Left as Allowance};
+ghost use Rattle.page_run.specs.WkBaseDeclaredLeftLeft.{Left as Allowance};
 ghost use Rattle.lua_code.specs.Seen.{entries_seen};
-ghost use Rattle.lua_heap.specs.Value as kind;
-ghost use Rattle.lua_slots.specs.Code.{CWorld};
-ghost use Rattle.lua_slots.specs.Expressions as machine;
-ghost use Rattle.lua_slots.specs.Index.{set_entry as sets_entry};
-ghost use Rattle.lua_slots.specs.Moves.{goes};
-ghost use Rattle.lua_slots.specs.Points.{Now};
-ghost use Rattle.lua_slots.specs.Slots.{Slots};
-ghost use Rattle.lua_store.specs.Parts.{IsOf, IsTableOf};
-ghost use Rattle.lua_store.specs.Seen.{StoreView, seen};
-ghost use Rattle.lua_stack.specs.declared.values.Given.{Given as GivenValues};
-ghost use Rattle.lua_stack.specs.Lists.{first_stored, given_values};
-ghost use Rattle.lua_stack.specs.Of.{InConstructorOf, GivenOf, ValuesOf, FramesOf, FocusOf};
-ghost use Rattle.lua_stack.specs.Seen.{in_constructor_seen, given_seen, values_seen, frames_seen, focus_seen};
+ghost use Rattle.lua_code.specs.LuaHeapValue as kind;
+ghost use Rattle.lua_code.specs.LuaSlotsCode.{CWorld};
+ghost use Rattle.lua_code.specs.LuaSlotsExpressions as machine;
+ghost use Rattle.lua_code.specs.LuaSlotsIndex.{set_entry as sets_entry};
+ghost use Rattle.lua_code.specs.LuaSlotsMoves.{goes};
+ghost use Rattle.lua_operators.specs.LuaSlotsPoints.{Now};
+ghost use Rattle.lua_operators.specs.LuaSlotsSlots.{Slots};
+ghost use Rattle.lua_operators.specs.LuaStoreParts.{IsOf, IsTableOf};
+ghost use Rattle.lua_operators.specs.LuaStoreSeen.{StoreView, seen};
+ghost use Rattle.lua_state.specs.LuaStackDeclaredValuesGiven.{Given as GivenValues};
+ghost use Rattle.lua_state.specs.LuaStackLists.{first_stored, given_values};
+ghost use Rattle.lua_operators.specs.LuaStackOf.{InConstructorOf, GivenOf, ValuesOf, FramesOf, FocusOf};
+ghost use Rattle.lua_operators.specs.LuaStackSeen.{in_constructor_seen, given_seen, values_seen, frames_seen, focus_seen};
 ghost use Rattle.lua_state.specs.Makes.{Makes};
 ghost use Rattle.lua_state.specs.Of.{StateOf};
 ghost use Rattle.lua_state.specs.Seen.{frames_of, slots_of};
 
 use crate::exits::{give, wait};
-use lua_arms::setting::set_entry;
-use lua_code::Entry;
-use lua_stack::{Focus, Frame, Given, InConstructor, Stack, Values};
-use lua_state::{State, Turn, finish_paid};
-use lua_store::{Store, TableId, Value};
+use lua_code::{Entry, NoMemory};
+use lua_operators::{Focus, Frame, InConstructor, Left, Stack, Store, Value, set_entry};
+use lua_state::{Given, State, TableId, Turn, Values, finish_paid};
 use std::alloc::Global;
-use wk_base::{Left, NoMemory};
 
 /// The first of some entries, and those behind it.
 #[derive(Clone, Copy)]

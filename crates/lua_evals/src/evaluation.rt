@@ -1,10 +1,10 @@
 //! An expression begins (manual 2.5), and a list of expressions goes on.
 ghost use Rattle.std.specs.Prelude.{IfOk};
 ghost use Rattle.lua_code.specs.Seen.{expression_seen, expressions_seen};
-ghost use Rattle.lua_slots.specs.Expressions as machine;
-ghost use Rattle.lua_stack.specs.Of.{ValuesOf};
-ghost use Rattle.lua_stack.specs.Seen.{values_seen};
-ghost use Rattle.lua_arms.specs.Paid.{behind_node};
+ghost use Rattle.lua_code.specs.LuaSlotsExpressions as machine;
+ghost use Rattle.lua_operators.specs.LuaStackOf.{ValuesOf};
+ghost use Rattle.lua_operators.specs.LuaStackSeen.{values_seen};
+ghost use Rattle.lua_state.specs.LuaArmsPaid.{behind_node};
 ghost use Rattle.lua_state.specs.Makes.{Makes};
 ghost use Rattle.lua_state.specs.Of.{StateOf};
 ghost use Rattle.lua_state.specs.Seen.{constants_in, frames_of, slots_of};
@@ -13,13 +13,10 @@ use crate::closures::closure;
 use crate::exits::give;
 use crate::forms::{constructor, dots, global, method_call, operands, text};
 use crate::running::variable;
-use lua_arms::lists;
-use lua_code::Expression;
-use lua_stack::Values;
-use lua_state::{State, Turn, finish};
-use lua_store::{Store, Value};
+use lua_code::{Expression, NoMemory};
+use lua_operators::{Left, Store, Value, list as list_next};
+use lua_state::{State, Turn, Values, finish};
 use std::alloc::Global;
-use wk_base::{Left, NoMemory};
 
 /// An expression begins. The step of its node is paid, and the node is counted, by the caller.
 #[tactic(auto, using(crate::proofs::Codes::codes))]
@@ -76,6 +73,6 @@ pub fn list<'m>(
     requires before { ValuesOf store.old before }
     ensures { IfOk result (λ r. Makes store.old state.old left.old store.new state.new left.new (machine.lists (expressions_seen expressions.now) (values_seen store.old.texts before) (frames_of store.old state.old) (slots_of store.old state.old)) r) }
 {
-    let step = lists::list(store, &mut state.frames, expressions, before)?;
+    let step = list_next(store, &mut state.frames, expressions, before)?;
     finish(alloc, store, left, state, step)
 }

@@ -1,20 +1,19 @@
 //! Ends of a move at which nothing can fail: what is next is known, and no allowance is needed.
 ghost use Rattle.std.specs.Prelude.{◌∷◌, [], IfOk};
-ghost use Rattle.wk_base.specs.declared.left.Left.{Left as Allowance};
-ghost use Rattle.lua_slots.specs.Errors.{gives};
-ghost use Rattle.lua_slots.specs.Points.{Now};
-ghost use Rattle.lua_store.specs.Parts.{IsOf};
-ghost use Rattle.lua_store.specs.Seen.{seen};
-ghost use Rattle.lua_stack.specs.Of.{FocusOf, FrameOf};
-ghost use Rattle.lua_stack.specs.Seen.{focus_seen, frame_seen};
+ghost use Rattle.page_run.specs.WkBaseDeclaredLeftLeft.{Left as Allowance};
+ghost use Rattle.lua_operators.specs.LuaSlotsErrors.{gives};
+ghost use Rattle.lua_operators.specs.LuaSlotsPoints.{Now};
+ghost use Rattle.lua_operators.specs.LuaStoreParts.{IsOf};
+ghost use Rattle.lua_operators.specs.LuaStoreSeen.{seen};
+ghost use Rattle.lua_operators.specs.LuaStackOf.{FocusOf, FrameOf};
+ghost use Rattle.lua_operators.specs.LuaStackSeen.{focus_seen, frame_seen};
 ghost use Rattle.lua_state.specs.Makes.{Makes};
 ghost use Rattle.lua_state.specs.Of.{StateOf};
 ghost use Rattle.lua_state.specs.Seen.{frames_of, slots_of};
 
-use lua_stack::{Focus, Frame, Given, give_up};
-use lua_state::{State, Turn};
-use lua_store::{Store, Value};
-use wk_base::NoMemory;
+use lua_code::NoMemory;
+use lua_operators::{Focus, Frame, Store, Value};
+use lua_state::{Given, State, Turn, give_up};
 
 /// One value for the frames.
 pub fn give<'m>(store: &Store, state: &State<'m>, value: Value) -> Turn<'m>

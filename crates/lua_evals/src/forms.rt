@@ -1,36 +1,32 @@
 //! How each form of an expression begins, whose node is paid and counted.
 ghost use Rattle.std.specs.Prelude.{◌∷◌, [], Some, length, IfOk};
-ghost use Rattle.wk_base.specs.declared.left.Left.{Left as Allowance};
+ghost use Rattle.page_run.specs.WkBaseDeclaredLeftLeft.{Left as Allowance};
 ghost use Rattle.lua_code.specs.Seen.{expression_seen, expressions_seen, entries_seen};
-ghost use Rattle.lua_heap.specs.Heap.{new_table as one_more_table};
-ghost use Rattle.lua_heap.specs.Value as kind;
-ghost use Rattle.lua_slots.specs.Errors.{gives};
-ghost use Rattle.lua_slots.specs.Expressions as machine;
-ghost use Rattle.lua_slots.specs.Index.{index_table as indexes};
-ghost use Rattle.lua_slots.specs.Points as point;
-ghost use Rattle.lua_slots.specs.Points.{First, Costs, Now};
-ghost use Rattle.lua_slots.specs.Slots.{function_of};
-ghost use Rattle.lua_store.specs.Parts.{IsTextOf};
-ghost use Rattle.lua_store.specs.Seen.{text_at};
-ghost use Rattle.lua_arms.specs.Operands.{HasOperands};
-ghost use Rattle.lua_arms.specs.Paid.{behind_node};
+ghost use Rattle.lua_code.specs.LuaHeapHeap.{new_table as one_more_table};
+ghost use Rattle.lua_code.specs.LuaHeapValue as kind;
+ghost use Rattle.lua_operators.specs.LuaSlotsErrors.{gives};
+ghost use Rattle.lua_code.specs.LuaSlotsExpressions as machine;
+ghost use Rattle.lua_code.specs.LuaSlotsIndex.{index_table as indexes};
+ghost use Rattle.lua_operators.specs.LuaSlotsPoints as point;
+ghost use Rattle.lua_operators.specs.LuaSlotsPoints.{First, Costs, Now};
+ghost use Rattle.lua_operators.specs.LuaSlotsSlots.{function_of};
+ghost use Rattle.lua_operators.specs.LuaStoreParts.{IsTextOf};
+ghost use Rattle.lua_operators.specs.LuaStoreSeen.{text_at};
+ghost use Rattle.lua_operators.specs.LuaArmsOperands.{HasOperands};
+ghost use Rattle.lua_state.specs.LuaArmsPaid.{behind_node};
 ghost use Rattle.lua_state.specs.Makes.{Makes};
 ghost use Rattle.lua_state.specs.Of.{StateOf};
 ghost use Rattle.lua_state.specs.Seen.{constants_in, frames_of, slots_of};
-ghost use Rattle.lua_meaning.specs.Charges.{table_charge};
+ghost use Rattle.lua_state.specs.LuaMeaningCharges.{table_charge};
 
 use crate::constructors::fields;
 use crate::exits::{give, wait};
 use crate::running::{copy_dots, count_dots};
-use lua_arms::index::index_table;
-use lua_arms::operands::begin_operands;
-use lua_code::{Entry, Expression};
-use lua_stack::{Focus, Frame, Given, InExpression};
-use lua_state::{State, Turn, constant, finish, pay};
-use lua_store::{Store, TextId, Value};
+use lua_code::{Entry, Expression, List, NoMemory};
+use lua_operators::{Focus, Frame, InExpression, Left, Store, TextId, Value, begin_operands};
+use lua_state::{Given, State, Turn, constant, finish, index_table, pay};
 use page_run::Which;
 use std::alloc::Global;
-use wk_base::{Left, List, NoMemory};
 
 /// A text. It is made in the store where it is not there yet, and nothing is charged for it.
 pub fn text<'m>(

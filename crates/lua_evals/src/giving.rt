@@ -1,30 +1,27 @@
 //! A frame that waits in an expression is given values (manual 2.5).
 ghost use Rattle.std.specs.Prelude.{◌≡◌, ◌∷◌, [], ℕ, List as Items, IfOk};
-ghost use Rattle.wk_base.specs.declared.left.Left.{Left as Allowance};
+ghost use Rattle.page_run.specs.WkBaseDeclaredLeftLeft.{Left as Allowance};
 ghost use Rattle.lua_code.specs.Seen.{expressions_seen};
-ghost use Rattle.lua_heap.specs.Value.{is_true as is_true_value};
-ghost use Rattle.lua_slots.specs.Code.{CWorld};
-ghost use Rattle.lua_slots.specs.Moves.{goes};
-ghost use Rattle.lua_slots.specs.Operators.{answers, negated_if};
-ghost use Rattle.lua_slots.specs.Points.{CallNow, Lists, Now};
-ghost use Rattle.lua_store.specs.Parts.{IsOf};
-ghost use Rattle.lua_store.specs.Seen.{seen};
-ghost use Rattle.lua_stack.specs.Lists.{first_stored, given_values};
-ghost use Rattle.lua_stack.specs.Of.{InExpressionOf, GivenOf};
-ghost use Rattle.lua_stack.specs.Seen.{in_expression_seen, given_seen};
+ghost use Rattle.lua_code.specs.LuaHeapValue.{is_true as is_true_value};
+ghost use Rattle.lua_code.specs.LuaSlotsCode.{CWorld};
+ghost use Rattle.lua_code.specs.LuaSlotsMoves.{goes};
+ghost use Rattle.lua_operators.specs.LuaSlotsOperators.{answers, negated_if};
+ghost use Rattle.lua_operators.specs.LuaSlotsPoints.{CallNow, Lists, Now};
+ghost use Rattle.lua_operators.specs.LuaStoreParts.{IsOf};
+ghost use Rattle.lua_operators.specs.LuaStoreSeen.{seen};
+ghost use Rattle.lua_state.specs.LuaStackLists.{first_stored, given_values};
+ghost use Rattle.lua_operators.specs.LuaStackOf.{InExpressionOf, GivenOf};
+ghost use Rattle.lua_operators.specs.LuaStackSeen.{in_expression_seen, given_seen};
 ghost use Rattle.lua_state.specs.Makes.{Makes};
 ghost use Rattle.lua_state.specs.Of.{StateOf};
 ghost use Rattle.lua_state.specs.Seen.{frames_of, slots_of};
 
 use crate::exits::{give, wait};
 use crate::operands::{apply_to, call_with, decide, index_at, method, more, operate_on};
-use lua_code::Expression;
-use lua_stack::values::is_true;
-use lua_stack::{Focus, Frame, Given, InExpression, Values};
-use lua_state::{State, Turn};
-use lua_store::{Store, Value};
+use lua_code::{Expression, List, NoMemory};
+use lua_operators::{Focus, Frame, InExpression, Left, Store, Value, is_true};
+use lua_state::{Given, State, Turn, Values};
 use std::alloc::Global;
-use wk_base::{Left, List, NoMemory};
 
 /// Whether a handler's value is true, or is not.
 fn tells(negated: bool, value: Value) -> bool

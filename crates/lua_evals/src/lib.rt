@@ -24,3 +24,4 @@ pub mod running;
 pub use constructors::give_constructor;
 pub use evaluation::{evaluate, list};
 pub use giving::give_expression;
+pub use lua_state::call;

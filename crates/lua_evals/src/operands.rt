@@ -1,31 +1,28 @@
 //! What a frame in an expression does with values: indices, operators, calls (manual 2.3, 2.5 and 2.5.8).
 ghost use Rattle.std.specs.Prelude.{◌≡◌, ◌∷◌, [], Some, IfOk};
 ghost use Rattle.lua_code.specs.Seen.{expression_seen, expressions_seen, operator_seen};
-ghost use Rattle.lua_heap.specs.Value as kind;
-ghost use Rattle.lua_slots.specs.Calls as calls;
-ghost use Rattle.lua_slots.specs.Expressions as machine;
-ghost use Rattle.lua_slots.specs.Index as indices;
-ghost use Rattle.lua_slots.specs.Operators as operators;
-ghost use Rattle.lua_slots.specs.Points.{First, MethodNow};
-ghost use Rattle.lua_store.specs.Parts.{IsOf, IsTextOf};
-ghost use Rattle.lua_store.specs.Seen.{seen, text_at};
-ghost use Rattle.lua_stack.specs.Of.{GivenOf, ValuesOf};
-ghost use Rattle.lua_stack.specs.Seen.{given_seen, values_seen};
+ghost use Rattle.lua_code.specs.LuaHeapValue as kind;
+ghost use Rattle.lua_state.specs.LuaSlotsCalls as calls;
+ghost use Rattle.lua_code.specs.LuaSlotsExpressions as machine;
+ghost use Rattle.lua_code.specs.LuaSlotsIndex as indices;
+ghost use Rattle.lua_operators.specs.LuaSlotsOperators as operators;
+ghost use Rattle.lua_operators.specs.LuaSlotsPoints.{First, MethodNow};
+ghost use Rattle.lua_operators.specs.LuaStoreParts.{IsOf, IsTextOf};
+ghost use Rattle.lua_operators.specs.LuaStoreSeen.{seen, text_at};
+ghost use Rattle.lua_operators.specs.LuaStackOf.{GivenOf, ValuesOf};
+ghost use Rattle.lua_operators.specs.LuaStackSeen.{given_seen, values_seen};
 ghost use Rattle.lua_state.specs.Makes.{Makes};
 ghost use Rattle.lua_state.specs.Of.{StateOf};
 ghost use Rattle.lua_state.specs.Seen.{frames_of, slots_of};
 
-use lua_arms::calls::call;
-use lua_arms::index::index;
-use lua_arms::lists;
-use lua_code::{Expression, Operator};
-use lua_operators::{apply, operate};
-use lua_stack::{Frame, Given, InExpression, Values};
-use lua_state::{State, Turn, finish, finish_paid};
-use lua_store::{Store, TextId, Value};
+use lua_code::{Expression, List, NoMemory, Operator};
+use lua_operators::{
+    Frame, InExpression, Left, Store, TextId, Value, apply, choose_operand, index, more_values,
+    operate,
+};
+use lua_state::{Given, State, Turn, Values, call, finish, finish_paid};
 use lua_syntax::UnaryOp;
 use std::alloc::Global;
-use wk_base::{Left, List, NoMemory};
 
 /// An index at this key, whose first value counts.
 pub fn index_at<'m>(
@@ -63,7 +60,7 @@ pub fn decide<'m>(
     ensures { IfOk result (λ r. Makes store.old state.old left.old store.new state.new left.new
         (machine.choose_operand deciding (expression_seen other.now) (seen store.old.texts value) (frames_of store.old state.old) (slots_of store.old state.old)) r) }
 {
-    let step = lists::choose_operand(store, &mut state.frames, deciding, other, value)?;
+    let step = choose_operand(store, &mut state.frames, deciding, other, value)?;
     finish(alloc, store, left, state, step)
 }
 
@@ -186,6 +183,6 @@ pub fn more<'m>(
     ensures { IfOk result (λ r. Makes store.old state.now left.old store.new state.now left.new
         (machine.more_values (expressions_seen expressions.now) (values_seen store.old.texts before) (given_seen store.old.texts values) (frames_of store.old state.now) (slots_of store.old state.now)) r) }
 {
-    let step = lists::more_values(store, expressions, before, values)?;
+    let step = more_values(store, expressions, before, values)?;
     finish(alloc, store, left, state, step)
 }

@@ -1,21 +1,18 @@
 //! What the running function has (manual 2.6): the values of its variables, its values of `...`, and its module.
 ghost use Rattle.std.specs.Prelude.{◌≡◌, length, IfOk};
 ghost use Rattle.lua_code.specs.Seen.{place_seen};
-ghost use Rattle.lua_slots.specs.Slots.{newest_function, read_place};
-ghost use Rattle.lua_store.specs.Parts.{IsOf};
-ghost use Rattle.lua_store.specs.Seen.{StoreView, seen};
-ghost use Rattle.lua_stack.specs.Of.{ActivationsOf, MayBeClosureOf, ValuesOf};
-ghost use Rattle.lua_stack.specs.Seen.{activations_seen, captured_by, values_seen};
+ghost use Rattle.lua_operators.specs.LuaSlotsSlots.{newest_function, read_place};
+ghost use Rattle.lua_operators.specs.LuaStoreParts.{IsOf};
+ghost use Rattle.lua_operators.specs.LuaStoreSeen.{StoreView, seen};
+ghost use Rattle.lua_operators.specs.LuaStackOf.{ActivationsOf, MayBeClosureOf, ValuesOf};
+ghost use Rattle.lua_operators.specs.LuaStackSeen.{activations_seen, captured_by, values_seen};
 ghost use Rattle.lua_state.specs.Of.{StateOf};
 ghost use Rattle.lua_state.specs.Seen.{slots_of};
 
-use lua_code::Place;
-use lua_stack::register::read;
-use lua_stack::{Activations, Values};
-use lua_state::State;
-use lua_store::{ClosureId, Store, Value};
+use lua_code::{NoMemory, Place};
+use lua_operators::{Store, Value, read};
+use lua_state::{Activations, ClosureId, State, Values};
 use std::alloc::Global;
-use wk_base::NoMemory;
 
 /// The closure whose cells the running function has, if it stands in one.
 pub fn running_closure(functions: &Activations) -> Option<ClosureId>

@@ -1,11 +1,11 @@
 -- Flat code of modules that call: the runs compute.
 use Rattle.std.proofs.Common.{refl}
-use Rattle.page_run.specs.Perform.{perform}
-use Rattle.wk_base.specs.Titles.{title_text, prefix_of, title_of, namespace_named, prefixed_namespaces}
+use Rattle.lua_slots.specs.PageRunPerform.{perform}
+use Rattle.lua_slots.specs.WkBaseTitles.{title_text, prefix_of, title_of, namespace_named, prefixed_namespaces}
 use Rattle.std.specs.Fmt.{digits}
 use Rattle.std.specs.Str.{is_utf8, chars}
 use lib.Utf8.{encode}
-use Rattle.lua_number.specs.Numerals.{decimal_of, numeral_of, trimmed, digits_of_base, read_number_of, read_in_base_of}
+use Rattle.lua_slots.specs.LuaNumberNumerals.{decimal_of, numeral_of, trimmed, digits_of_base, read_number_of, read_in_base_of}
 use Rattle.lua_flat.specs.ExampleCalls.{ProtectedFlatAlike, ArithmeticHandlersFlatAlike, ErrorHandlersFlatAlike, NewIndexFlatAlike, CallHandlersFlatAlike, AllExampleCalls}
 
 protected_alike : ProtectedFlatAlike

@@ -2,15 +2,15 @@
 -- the operation puts what was given where it wants it, and goes on at a place. So handlers, errors with their messages and lines, and
 -- functions of the library are those of the machine over trees.
 use Rattle.std.specs.Prelude.{ℕ, ◌+◌, ◌-◌, ℤ, pos, ◌+ℤ◌, Bool, true, false, List, [], ◌∷◌, length, Option, Some, None}
-use Rattle.lua_number.specs.Whole.{fits}
-use Rattle.lua_heap.specs.Value.{Value, Number, Text, Table, is_true, is_nil}
-use Rattle.lua_heap.specs.Proc.{Proc}
-use Rattle.lua_heap.specs.Heap.{new_table}
-use Rattle.lua_meaning.specs.Charges.{table_charge, closure_charge}
-use Rattle.lua_meaning.specs.Values.{first, second, third, number_in}
-use Rattle.lua_meaning.specs.Acts.{Raised}
-use Rattle.lua_meaning.specs.Loops.{is_within}
-use Rattle.lua_meaning.specs.Messages.{no_initial_value, no_limit, no_step, no_target}
+use Rattle.lua_slots.specs.LuaNumberWhole.{fits}
+use Rattle.lua_slots.specs.LuaHeapValue.{Value, Number, Text, Table, is_true, is_nil}
+use Rattle.lua_slots.specs.LuaHeapProc.{Proc}
+use Rattle.lua_slots.specs.LuaHeapHeap.{new_table}
+use Rattle.lua_slots.specs.LuaMeaningCharges.{table_charge, closure_charge}
+use Rattle.lua_slots.specs.LuaMeaningValues.{first, second, third, number_in}
+use Rattle.lua_slots.specs.LuaMeaningActs.{Raised}
+use Rattle.lua_slots.specs.LuaMeaningLoops.{is_within}
+use Rattle.lua_slots.specs.LuaMeaningMessages.{no_initial_value, no_limit, no_step, no_target}
 use Rattle.lua_slots.specs.Code.{Constants}
 use Rattle.lua_slots.specs.Slots.{Slot, Plain, Slots, slot_cell, cell_value, with_cell, and_cell, with_closure, next_closure, function_of}
 use Rattle.lua_slots.specs.Points.{Move, Costs}

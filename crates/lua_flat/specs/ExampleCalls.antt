@@ -1,9 +1,9 @@
 -- FLAT CODE OF MODULES THAT CALL, beside their resolved code: both end alike, with the same steps.
 use Rattle.std.specs.Prelude.{◌≡◌, pos, true, false, [], ◌∷◌, codes}
-use Rattle.lua_heap.specs.Value.{Number}
-use Rattle.lua_meaning.specs.Operators.{Add, Equal, Concatenate, Calculate}
+use Rattle.lua_slots.specs.LuaHeapValue.{Number}
+use Rattle.lua_slots.specs.LuaMeaningOperators.{Add, Equal, Concatenate, Calculate}
 use Rattle.lua_flat.specs.Operations.{RegisterO, ConstantO, TextO, Exactly, Every, InRegister, LoadF, DotsF, ClosureF, NamedF, OpenF, GetCellF, GetUpF, SetUpF, GetGlobalF, IndexF, SetIndexF, TableF, SetFieldF, OperateF, UnaryF, CallF, ReturnF, FlatFunction}
-use Rattle.lua_syntax.specs.declared.UnaryOp.TheVariants as sign
+use Rattle.lua_slots.specs.LuaSyntaxDeclaredUnaryOpTheVariants as sign
 use Rattle.lua_slots.specs.ExampleCalls.{protected_code, arithmetic_handlers_code, error_handlers_code, new_index_code, call_handlers_code, arithmetic_handlers_0, arithmetic_handlers_1, arithmetic_handlers_2, arithmetic_handlers_3, arithmetic_handlers_4, call_handlers_0, call_handlers_1, call_handlers_2, error_handlers_0, error_handlers_1, error_handlers_2, error_handlers_3, error_handlers_4, new_index_0, new_index_1, new_index_2, protected_0, protected_1, protected_2}
 use Rattle.lua_flat.specs.IsStatement.{IsFlatFunction}
 use Rattle.lua_slots.specs.Trial as run

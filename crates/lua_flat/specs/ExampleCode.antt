@@ -1,9 +1,9 @@
 -- FLAT CODE OF SMALL MODULES, beside their resolved code: both end alike, with the same steps.
 use Rattle.std.specs.Prelude.{◌≡◌, pos, true, false, [], ◌∷◌, codes}
-use Rattle.lua_heap.specs.Value.{Nil, Truth, Number}
-use Rattle.lua_meaning.specs.Operators.{Add, Less, AtLeast, Equal, Concatenate, Calculate}
+use Rattle.lua_slots.specs.LuaHeapValue.{Nil, Truth, Number}
+use Rattle.lua_slots.specs.LuaMeaningOperators.{Add, Less, AtLeast, Equal, Concatenate, Calculate}
 use Rattle.lua_flat.specs.Operations.{RegisterO, ConstantO, TextO, Exactly, Every, InRegister, PayF, LoadF, ClosureF, NamedF, OpenF, GetCellF, GetUpF, SetUpF, GetGlobalF, IndexF, SetIndexF, TableF, SetFieldF, SetItemsF, OperateF, UnaryF, JumpF, TestF, CompareF, CountBeginsF, CountGoesOnF, CallF, ReturnF, FlatFunction}
-use Rattle.lua_syntax.specs.declared.UnaryOp.TheVariants as sign
+use Rattle.lua_slots.specs.LuaSyntaxDeclaredUnaryOpTheVariants as sign
 use Rattle.lua_slots.specs.ExampleCode.{cells_code, repeat_loop_code, branches_code, constructors_code, and_or_code, and_or_0, and_or_1, branches_0, branches_1, branches_2, cells_0, cells_1, cells_2, constructors_0, constructors_1, constructors_2, repeat_loop_0, repeat_loop_1}
 use Rattle.lua_flat.specs.IsStatement.{IsFlatFunction}
 use Rattle.lua_slots.specs.Trial as run

@@ -1,7 +1,7 @@
 -- FLAT CODE OF ERRORS WITH LEVELS, AND OF BLOCKS, beside their resolved code: both end alike, with the same steps.
 use Rattle.std.specs.Prelude.{◌≡◌, pos, true, false, [], ◌∷◌, codes}
-use Rattle.lua_heap.specs.Value.{Number}
-use Rattle.lua_meaning.specs.Operators.{Add, Concatenate, Calculate}
+use Rattle.lua_slots.specs.LuaHeapValue.{Number}
+use Rattle.lua_slots.specs.LuaMeaningOperators.{Add, Concatenate, Calculate}
 use Rattle.lua_flat.specs.Operations.{RegisterO, ConstantO, TextO, Exactly, Every, InRegister, LoadF, ClosureF, NamedF, GetUpF, GetGlobalF, TableF, SetFieldF, OperateF, CallF, ReturnF, FlatFunction}
 use Rattle.lua_slots.specs.Code.{Reg, Box, Up, ConstantC, TextC, FunctionC, LocalC, GlobalC, CallC, TableC, OperateC, NoC, MoreC, NoFieldC, PairC, PlaceC, AssignC, CallStatC, ReturnC, EndC, DeclareC, LocalFunctionC, ThenC, CProto, Protos, DoC}
 use Rattle.lua_slots.specs.Trial.{code_with}

@@ -2,10 +2,10 @@
 -- since the operation before, which the next operation pays. Registers from `free` on may be written. `locals` has the local variables of the
 -- function that are open, the newest first.
 use Rattle.std.specs.Prelude.{◌≡◌, ◌≤◌, ◌<◌, ℕ, ◌+◌, pos, Bool, true, false, List, [], ◌∷◌, Some, slice_get}
-use Rattle.lua_syntax.specs.declared.UnaryOp.{UnaryOp}
-use Rattle.lua_syntax.specs.declared.UnaryOp.TheVariants as sign
-use Rattle.lua_heap.specs.Value.{Value, Number, is_true}
-use Rattle.lua_meaning.specs.Operators.{Operator, Concatenate, Calculate}
+use Rattle.lua_slots.specs.LuaSyntaxDeclaredUnaryOp.{UnaryOp}
+use Rattle.lua_slots.specs.LuaSyntaxDeclaredUnaryOpTheVariants as sign
+use Rattle.lua_slots.specs.LuaHeapValue.{Value, Number, is_true}
+use Rattle.lua_slots.specs.LuaMeaningOperators.{Operator, Concatenate, Calculate}
 use Rattle.lua_slots.specs.Code.{Place, Reg, Box, Up, CExp, ConstantC, TextC, DotsC, FunctionC, LocalC, GlobalC, IndexC, CallC, MethodC, TableC, AndC, OrC, OperateC, UnaryC, ParenC}
 use Rattle.lua_slots.specs.Code.{CExps, NoC, MoreC, CFields, NoFieldC, ItemC, PairC}
 use Rattle.lua_flat.specs.Locals.{Local, PlainL, CellL}

@@ -1,7 +1,7 @@
 -- FLAT CODE OF STATEMENTS AND FUNCTIONS, as a relation to resolved code (manual 2.4). `away` is the place to which `break` leads.
 use Rattle.std.specs.Prelude.{◌≡◌, ◌≤◌, ◌<◌, ℕ, ◌+◌, pos, Bool, true, false, List, [], ◌∷◌, length, reverse, Option, Some, None, slice_get}
-use Rattle.lua_heap.specs.Value.{Number}
-use Rattle.lua_meaning.specs.Scope.{Bytes}
+use Rattle.lua_slots.specs.LuaHeapValue.{Number}
+use Rattle.lua_slots.specs.LuaMeaningScope.{Bytes}
 use Rattle.lua_slots.specs.Code.{Place, Reg, Box, Up, CExp, TableC, AndC, OrC, ParenC, CExps, NoC, MoreC, CTarget, PlaceC, GlobalTargetC, EntryC, RefusedC}
 use Rattle.lua_slots.specs.Code.{CStat, AssignC, CallStatC, DoC, WhileC, RepeatC, IfC, IfElseC, CountC, CountByC, EachC, ReturnC, BreakC, CBlock, EndC, DeclareC, LocalFunctionC, ThenC, CArms, NoArmC, ArmC}
 use Rattle.lua_slots.specs.Code.{CProto, CWorld}

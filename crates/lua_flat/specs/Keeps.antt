@@ -1,6 +1,6 @@
 -- WHAT IS RELIED ON while code goes on: registers of variables, and values that frames of the machine over trees hold.
 use Rattle.std.specs.Prelude.{◌≡◌, ◌<◌, ◌≢◌, ℕ, ◌+◌, List, [], ◌∷◌, Some, slice_get}
-use Rattle.lua_heap.specs.Value.{Value}
+use Rattle.lua_slots.specs.LuaHeapValue.{Value}
 use Rattle.lua_slots.specs.Code.{Constants}
 use Rattle.lua_slots.specs.Slots.{Slot, Plain, Boxed, slot_cell}
 use Rattle.lua_flat.specs.Locals.{Local, PlainL, CellL, register_of}

@@ -1,15 +1,15 @@
 -- THE MOVES OF A FLAT MACHINE.
 use Rattle.std.specs.Prelude.{ℕ, ◌+◌, Bool, true, false, List, [], ◌∷◌, length, drop, Option, Some, None, if◌then◌else◌, slice_get}
-use Rattle.page_run.specs.Outcome.{Outcome, Goes, Jumps}
-use Rattle.page_run.specs.declared.which.Which.{Which}
-use Rattle.page_run.specs.declared.which.Which.TheVariants.{Steps, Calls}
-use Rattle.page_run.specs.Perform.{less}
-use Rattle.lua_heap.specs.Value.{Value, Nil}
-use Rattle.lua_heap.specs.Proc.{Proc}
-use Rattle.lua_heap.specs.Heap.{Heap, new_cell}
-use Rattle.lua_meaning.specs.Charges.{closure_charge}
-use Rattle.lua_meaning.specs.Values.{first, rest}
-use Rattle.lua_meaning.specs.Acts.{Jump}
+use Rattle.lua_slots.specs.PageRunOutcome.{Outcome, Goes, Jumps}
+use Rattle.lua_slots.specs.PageRunDeclaredWhichWhich.{Which}
+use Rattle.lua_slots.specs.PageRunDeclaredWhichWhichTheVariants.{Steps, Calls}
+use Rattle.lua_slots.specs.PageRunPerform.{less}
+use Rattle.lua_slots.specs.LuaHeapValue.{Value, Nil}
+use Rattle.lua_slots.specs.LuaHeapProc.{Proc}
+use Rattle.lua_slots.specs.LuaHeapHeap.{Heap, new_cell}
+use Rattle.lua_slots.specs.LuaMeaningCharges.{closure_charge}
+use Rattle.lua_slots.specs.LuaMeaningValues.{first, rest}
+use Rattle.lua_slots.specs.LuaMeaningActs.{Jump}
 use Rattle.lua_slots.specs.Code.{Constants, CWorld}
 use Rattle.lua_slots.specs.Slots.{Slot, Plain, Boxed, Slots, with_cell, with_one, with_closure, next_closure, function_of}
 use Rattle.lua_slots.specs.Points.{SFrame, Point, Gives, Starts, BodyS, Move, Costs, Marks, Enters, Exits, Now}

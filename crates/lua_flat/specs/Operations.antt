@@ -2,10 +2,10 @@
 -- code of a resolved tree, in `IsFlat`. A count, a register, a constant and a charge are numbers below 2 ^ 32 wherever code is made: a debt
 -- that grows is paid by `PayF`.
 use Rattle.std.specs.Prelude.{ℕ, Bool, false, List, [], Option}
-use Rattle.lua_syntax.specs.declared.UnaryOp.{UnaryOp}
-use Rattle.lua_heap.specs.Value.{Value}
-use Rattle.lua_meaning.specs.Scope.{Bytes}
-use Rattle.lua_meaning.specs.Operators.{Operator}
+use Rattle.lua_slots.specs.LuaSyntaxDeclaredUnaryOp.{UnaryOp}
+use Rattle.lua_slots.specs.LuaHeapValue.{Value}
+use Rattle.lua_slots.specs.LuaMeaningScope.{Bytes}
+use Rattle.lua_slots.specs.LuaMeaningOperators.{Operator}
 
 -- WHAT IS READ: a register, counted from the base of its function; a value; or a text among the constants of the module
 pub data Operand : Type 0 where

@@ -1,7 +1,7 @@
 -- REGISTERS of all functions in progress, the oldest first. Reading one that isn't there gives nil, and writing one makes those before it.
 use Rattle.std.specs.Prelude.{ℕ, zero, suc, ◌+◌, List, [], ◌∷◌, length, slice_get}
-use Rattle.lua_heap.specs.Value.{Value, Nil, Text}
-use Rattle.lua_meaning.specs.Values.{first, rest}
+use Rattle.lua_slots.specs.LuaHeapValue.{Value, Nil, Text}
+use Rattle.lua_slots.specs.LuaMeaningValues.{first, rest}
 use Rattle.lua_slots.specs.Code.{Constants}
 use Rattle.lua_slots.specs.Slots.{Slot, Plain, slot_value}
 use Rattle.lua_flat.specs.Operations.{Operand, RegisterO, ConstantO, TextO, Wanted, Exactly, Every}

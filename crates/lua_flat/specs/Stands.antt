@@ -1,13 +1,13 @@
 -- WHEN A FLAT MACHINE STANDS WHERE A MACHINE OVER TREES STANDS.
 use Rattle.std.specs.Prelude.{◌≡◌, ◌≤◌, ◌<◌, ℕ, ◌+◌, ℤ, Bool, true, false, List, [], ◌∷◌, ◌++◌, length, map, Option, Some}
-use Rattle.page_run.specs.Outcome.{Outcome, Goes, Jumps}
-use Rattle.lua_heap.specs.Value.{Value, Number, Table}
-use Rattle.lua_syntax.specs.declared.UnaryOp.{UnaryOp}
-use Rattle.lua_meaning.specs.Operators.{Operator}
-use Rattle.lua_meaning.specs.Scope.{Bytes}
-use Rattle.lua_meaning.specs.Values.{first}
-use Rattle.lua_meaning.specs.Acts.{Jump, Raised}
-use Rattle.lua_meaning.specs.Start.{Work}
+use Rattle.lua_slots.specs.PageRunOutcome.{Outcome, Goes, Jumps}
+use Rattle.lua_slots.specs.LuaHeapValue.{Value, Number, Table}
+use Rattle.lua_slots.specs.LuaSyntaxDeclaredUnaryOp.{UnaryOp}
+use Rattle.lua_slots.specs.LuaMeaningOperators.{Operator}
+use Rattle.lua_slots.specs.LuaMeaningScope.{Bytes}
+use Rattle.lua_slots.specs.LuaMeaningValues.{first}
+use Rattle.lua_slots.specs.LuaMeaningActs.{Jump, Raised}
+use Rattle.lua_slots.specs.LuaMeaningStart.{Work}
 use Rattle.lua_slots.specs.Code.{Constants, CExp, CExps, CBlock, CWorld}
 use Rattle.lua_slots.specs.Slots.{Slot, Activation, Slots}
 use Rattle.lua_slots.specs.Calls.{code_of}

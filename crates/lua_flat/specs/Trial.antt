@@ -1,16 +1,16 @@
 -- SMALL RUNS of a flat machine for worked examples, seen as those of a machine over trees are: how a run ends, and the steps that are left.
 use Rattle.std.specs.Prelude.{ℕ, zero, suc, ◌+◌, List, [], ◌∷◌, Option, Some, slice_get}
-use Rattle.mw_frame.specs.declared.scene.Arg.{Arg}
-use Rattle.mw_frame.specs.declared.question.Ask.{Ask}
-use Rattle.page_run.specs.Outcome.{Outcome}
-use Rattle.page_run.specs.State.{Reply}
-use Rattle.lua_heap.specs.Value.{Value}
-use Rattle.lua_meaning.specs.Acts.{Jump}
-use Rattle.lua_meaning.specs.Scope.{Bytes}
-use Rattle.lua_meaning.specs.Questions.{Answer}
-use Rattle.lua_meaning.specs.Start.{Work, Invoke}
-use Rattle.lua_meaning.specs.Trial as seen
-use Rattle.lua_meaning.specs.Trial.{Seen, page, job, allowance}
+use Rattle.lua_slots.specs.MwFrameDeclaredSceneArg.{Arg}
+use Rattle.lua_slots.specs.MwFrameDeclaredQuestionAsk.{Ask}
+use Rattle.lua_slots.specs.PageRunOutcome.{Outcome}
+use Rattle.lua_slots.specs.PageRunState.{Reply}
+use Rattle.lua_slots.specs.LuaHeapValue.{Value}
+use Rattle.lua_slots.specs.LuaMeaningActs.{Jump}
+use Rattle.lua_slots.specs.LuaMeaningScope.{Bytes}
+use Rattle.lua_slots.specs.LuaMeaningQuestions.{Answer}
+use Rattle.lua_slots.specs.LuaMeaningStart.{Work, Invoke}
+use Rattle.lua_slots.specs.LuaMeaningTrial as seen
+use Rattle.lua_slots.specs.LuaMeaningTrial.{Seen, page, job, allowance}
 use Rattle.lua_slots.specs.Code.{CModule, CWorld, Protos}
 use Rattle.lua_slots.specs.Slots.{no_slots}
 use Rattle.lua_slots.specs.Points.{SFrame, Gives, Asking, Works}

@@ -1,10 +1,10 @@
 -- WHAT WAITS WITHIN EXPRESSIONS: code that goes on from a place, with what is owed there, does what these frames of the machine over trees
 -- do. One constructor for each frame, or for an operation that hands a value on to the same frames; the last ones wait between statements.
 use Rattle.std.specs.Prelude.{◌≡◌, ◌≤◌, ◌<◌, ℕ, ◌+◌, pos, Bool, true, false, List, [], ◌∷◌, ◌++◌, length, take, Option, Some, slice_get}
-use Rattle.lua_syntax.specs.declared.UnaryOp.{UnaryOp}
-use Rattle.lua_syntax.specs.declared.UnaryOp.TheVariants as sign
-use Rattle.lua_heap.specs.Value.{Value, Number, Table}
-use Rattle.lua_meaning.specs.Operators.{Operator}
+use Rattle.lua_slots.specs.LuaSyntaxDeclaredUnaryOp.{UnaryOp}
+use Rattle.lua_slots.specs.LuaSyntaxDeclaredUnaryOpTheVariants as sign
+use Rattle.lua_slots.specs.LuaHeapValue.{Value, Number, Table}
+use Rattle.lua_slots.specs.LuaMeaningOperators.{Operator}
 use Rattle.lua_slots.specs.Code.{Reg, Constants, CExp, CExps, NoC, MoreC, CFields, NoFieldC}
 use Rattle.lua_slots.specs.Points.{STarget, PlaceS, SFrame, First, KeyNext, IndexNow, DecideNext, OperandNext, OperateNow, UnaryNow, ArgumentsNext, CallNow, MethodNext, MethodNow, MoreNext, ItemNow, PairNext, PairNow, FieldsNext, ItemsNext, AssignNow}
 use Rattle.lua_flat.specs.Locals.{Local, PlainL}

@@ -1,7 +1,7 @@
 -- WHAT WAITS BETWEEN STATEMENTS: code that goes on from a place, with what is owed there, does what these frames of the machine over trees
 -- do. One constructor for each frame.
 use Rattle.std.specs.Prelude.{◌≡◌, ◌≤◌, ◌<◌, ℕ, ◌+◌, ℤ, pos, Bool, false, List, [], ◌∷◌, ◌++◌, length, reverse, Option, Some, None, slice_get}
-use Rattle.lua_heap.specs.Value.{Value, Number}
+use Rattle.lua_slots.specs.LuaHeapValue.{Value, Number}
 use Rattle.lua_slots.specs.Code.{Reg, Box, Up, Constants, CExp, CExps, NoC, MoreC, CTarget, CBlock, CArms}
 use Rattle.lua_slots.specs.Points.{STarget, PlaceS, GlobalS, EntryS, SFrame, TargetKey, TargetNow, AssignNow, SetsNext, DeclareNow, StatsNext, BranchNext, BlockEnd, BodyEnd, WhileTest, WhileEnd, TestNext, TestNow, CountFrom, CountTo, CountBy, CountEnd, EachValues, EachNext, EachEnd, ReturnNow}
 use Rattle.lua_flat.specs.Locals.{Local, PlainL, CellL, local_of, with_row}

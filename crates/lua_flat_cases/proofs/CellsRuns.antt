@@ -1,13 +1,13 @@
 -- Flat code of small modules: the runs compute.
 use Rattle.std.proofs.Common.{refl}
-use Rattle.page_run.specs.Perform.{perform}
-use Rattle.wk_base.specs.Titles.{title_text, prefix_of, title_of, namespace_named, prefixed_namespaces}
+use Rattle.lua_flat.specs.PageRunPerform.{perform}
+use Rattle.lua_flat.specs.WkBaseTitles.{title_text, prefix_of, title_of, namespace_named, prefixed_namespaces}
 use Rattle.std.specs.Fmt.{digits}
 use Rattle.std.specs.Str.{is_utf8, chars}
 use lib.Utf8.{encode}
-use Rattle.lua_number.specs.Numerals.{decimal_of, numeral_of, trimmed, digits_of_base, read_number_of, read_in_base_of}
+use Rattle.lua_flat.specs.LuaNumberNumerals.{decimal_of, numeral_of, trimmed, digits_of_base, read_number_of, read_in_base_of}
 use lib.Count.{count_leading_zeros}
-use Rattle.lua_pattern.specs.Texts.{point_code}
+use Rattle.lua_flat.specs.LuaPatternTexts.{point_code}
 use Rattle.lua_flat_cases.specs.Cells.{CountersFlatAlike, SharedCellsFlatAlike, RepeatSeesFlatAlike, ConstructorFlatAlike, GlobalsFlatAlike, AllCells}
 
 counters_alike : CountersFlatAlike

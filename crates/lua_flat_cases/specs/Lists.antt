@@ -1,14 +1,14 @@
 -- FLAT CODE OF SMALL MODULES, beside their resolved code: both end alike, with the same steps.
 use Rattle.std.specs.Prelude.{◌≡◌, pos, true, false, [], ◌∷◌, codes}
-use Rattle.lua_heap.specs.Value.{Nil, Number}
-use Rattle.lua_meaning.specs.Operators.{Add, Less, Greater, AtMost, AtLeast, Equal, Unequal, Concatenate, Calculate}
+use Rattle.lua_flat.specs.LuaHeapValue.{Nil, Number}
+use Rattle.lua_flat.specs.LuaMeaningOperators.{Add, Less, Greater, AtMost, AtLeast, Equal, Unequal, Concatenate, Calculate}
 use Rattle.lua_flat.specs.Operations.{RegisterO, ConstantO, TextO, Exactly, Every, InRegister, LoadF, NilsF, DotsF, ClosureF, NamedF, OpenF, GetCellF, GetUpF, SetUpF, GetGlobalF, IndexF, SetIndexF, MethodF, TableF, SetFieldF, OperateF, CompareF, CallF, ReturnF, FlatFunction}
-use Rattle.lua_syntax.specs.declared.UnaryOp.TheVariants as sign
-use Rattle.lua_slots.specs.Code.{Reg, Box, Up, ConstantC, TextC, DotsC, FunctionC, LocalC, GlobalC, IndexC, CallC, MethodC, TableC, AndC, OperateC, UnaryC, ParenC, NoC, MoreC, NoFieldC, ItemC, PairC, PlaceC, EntryC, AssignC, CallStatC, IfC, ReturnC, EndC, DeclareC, LocalFunctionC, ThenC, NoArmC, ArmC, CProto, Protos}
-use Rattle.lua_slots.specs.Trial.{code_with}
+use Rattle.lua_flat.specs.LuaSyntaxDeclaredUnaryOpTheVariants as sign
+use Rattle.lua_flat.specs.LuaSlotsCode.{Reg, Box, Up, ConstantC, TextC, DotsC, FunctionC, LocalC, GlobalC, IndexC, CallC, MethodC, TableC, AndC, OperateC, UnaryC, ParenC, NoC, MoreC, NoFieldC, ItemC, PairC, PlaceC, EntryC, AssignC, CallStatC, IfC, ReturnC, EndC, DeclareC, LocalFunctionC, ThenC, NoArmC, ArmC, CProto, Protos}
+use Rattle.lua_flat.specs.LuaSlotsTrial.{code_with}
 use Rattle.lua_flat.specs.IsStatement.{IsFlatFunction}
 use Rattle.lua_flat.specs.Trial.{flat_invoke}
-use Rattle.lua_slots.specs.Trial as run
+use Rattle.lua_flat.specs.LuaSlotsTrial as run
 
 -- Values of `...`.
 --     return {f=function(...)

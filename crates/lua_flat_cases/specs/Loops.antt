@@ -1,14 +1,14 @@
 -- FLAT CODE OF SMALL MODULES, beside their resolved code: both end alike, with the same steps.
 use Rattle.std.specs.Prelude.{◌≡◌, pos, true, false, [], ◌∷◌, codes}
-use Rattle.lua_heap.specs.Value.{Truth, Number}
-use Rattle.lua_meaning.specs.Operators.{Add, Mul, Greater, AtMost, Concatenate, Calculate}
+use Rattle.lua_flat.specs.LuaHeapValue.{Truth, Number}
+use Rattle.lua_flat.specs.LuaMeaningOperators.{Add, Mul, Greater, AtMost, Concatenate, Calculate}
 use Rattle.lua_flat.specs.Operations.{RegisterO, ConstantO, TextO, Exactly, Every, InRegister, PayF, LoadF, ClosureF, NamedF, OpenF, GetCellF, GetUpF, SetUpF, GetGlobalF, IndexF, SetIndexF, TableF, SetFieldF, OperateF, UnaryF, JumpF, CompareF, CountBeginsF, CountGoesOnF, EachCallsF, EachTestsF, CallF, ReturnF, FlatFunction}
-use Rattle.lua_syntax.specs.declared.UnaryOp.TheVariants as sign
-use Rattle.lua_slots.specs.Code.{Reg, Box, Up, ConstantC, TextC, FunctionC, LocalC, GlobalC, IndexC, CallC, TableC, OperateC, UnaryC, NoC, MoreC, NoFieldC, ItemC, PairC, PlaceC, EntryC, AssignC, WhileC, IfC, CountC, CountByC, EachC, ReturnC, BreakC, EndC, DeclareC, LocalFunctionC, ThenC, NoArmC, ArmC, CProto, Protos}
-use Rattle.lua_slots.specs.Trial.{code_with}
+use Rattle.lua_flat.specs.LuaSyntaxDeclaredUnaryOpTheVariants as sign
+use Rattle.lua_flat.specs.LuaSlotsCode.{Reg, Box, Up, ConstantC, TextC, FunctionC, LocalC, GlobalC, IndexC, CallC, TableC, OperateC, UnaryC, NoC, MoreC, NoFieldC, ItemC, PairC, PlaceC, EntryC, AssignC, WhileC, IfC, CountC, CountByC, EachC, ReturnC, BreakC, EndC, DeclareC, LocalFunctionC, ThenC, NoArmC, ArmC, CProto, Protos}
+use Rattle.lua_flat.specs.LuaSlotsTrial.{code_with}
 use Rattle.lua_flat.specs.IsStatement.{IsFlatFunction}
 use Rattle.lua_flat.specs.Trial.{flat_invoke}
-use Rattle.lua_slots.specs.Trial as run
+use Rattle.lua_flat.specs.LuaSlotsTrial as run
 
 -- A loop that is left.
 --     return {f=function(...)

@@ -1,14 +1,14 @@
 -- FLAT CODE OF SMALL MODULES, beside their resolved code: both end alike, with the same steps.
 use Rattle.std.specs.Prelude.{◌≡◌, pos, true, false, [], ◌∷◌, codes}
-use Rattle.lua_heap.specs.Value.{Nil, Truth, Number}
-use Rattle.lua_meaning.specs.Operators.{Add, Sub, Less, Equal, Concatenate, Calculate}
+use Rattle.lua_flat.specs.LuaHeapValue.{Nil, Truth, Number}
+use Rattle.lua_flat.specs.LuaMeaningOperators.{Add, Sub, Less, Equal, Concatenate, Calculate}
 use Rattle.lua_flat.specs.Operations.{RegisterO, ConstantO, TextO, Exactly, Every, InRegister, PayF, LoadF, DotsF, ClosureF, NamedF, OpenF, GetCellF, GetUpF, GetGlobalF, IndexF, TableF, SetFieldF, OperateF, UnaryF, JumpF, TestF, CompareF, CallF, ReturnF, FlatFunction}
-use Rattle.lua_syntax.specs.declared.UnaryOp.TheVariants as sign
-use Rattle.lua_slots.specs.Code.{Reg, Box, Up, ConstantC, TextC, DotsC, FunctionC, LocalC, GlobalC, IndexC, CallC, TableC, AndC, OrC, OperateC, UnaryC, ParenC, NoC, MoreC, NoFieldC, PairC, PlaceC, AssignC, CallStatC, WhileC, IfC, ReturnC, EndC, DeclareC, LocalFunctionC, ThenC, NoArmC, ArmC, CProto, Protos}
-use Rattle.lua_slots.specs.Trial.{code_with}
+use Rattle.lua_flat.specs.LuaSyntaxDeclaredUnaryOpTheVariants as sign
+use Rattle.lua_flat.specs.LuaSlotsCode.{Reg, Box, Up, ConstantC, TextC, DotsC, FunctionC, LocalC, GlobalC, IndexC, CallC, TableC, AndC, OrC, OperateC, UnaryC, ParenC, NoC, MoreC, NoFieldC, PairC, PlaceC, AssignC, CallStatC, WhileC, IfC, ReturnC, EndC, DeclareC, LocalFunctionC, ThenC, NoArmC, ArmC, CProto, Protos}
+use Rattle.lua_flat.specs.LuaSlotsTrial.{code_with}
 use Rattle.lua_flat.specs.IsStatement.{IsFlatFunction}
 use Rattle.lua_flat.specs.Trial.{flat_invoke}
-use Rattle.lua_slots.specs.Trial as run
+use Rattle.lua_flat.specs.LuaSlotsTrial as run
 
 -- Tests by `and`, `or` and `not`.
 --     return {f=function(...)

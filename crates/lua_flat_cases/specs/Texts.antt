@@ -1,14 +1,14 @@
 -- FLAT CODE OF SMALL MODULES, beside their resolved code: both end alike, with the same steps.
 use Rattle.std.specs.Prelude.{◌≡◌, pos, true, false, [], ◌∷◌, codes}
-use Rattle.lua_heap.specs.Value.{Number}
-use Rattle.lua_meaning.specs.Operators.{Add, Sub, Mul, Greater, Equal, Unequal, Concatenate, Calculate}
+use Rattle.lua_flat.specs.LuaHeapValue.{Number}
+use Rattle.lua_flat.specs.LuaMeaningOperators.{Add, Sub, Mul, Greater, Equal, Unequal, Concatenate, Calculate}
 use Rattle.lua_flat.specs.Operations.{RegisterO, ConstantO, TextO, Exactly, Every, InRegister, LoadF, ClosureF, NamedF, OpenF, GetUpF, SetUpF, GetGlobalF, IndexF, MethodF, TableF, SetFieldF, OperateF, UnaryF, JumpF, CompareF, CountBeginsF, CountGoesOnF, EachCallsF, EachTestsF, CallF, ReturnF, FlatFunction}
-use Rattle.lua_syntax.specs.declared.UnaryOp.TheVariants as sign
-use Rattle.lua_slots.specs.Code.{Reg, Box, Up, ConstantC, TextC, FunctionC, LocalC, GlobalC, IndexC, CallC, MethodC, TableC, OperateC, UnaryC, ParenC, NoC, MoreC, NoFieldC, ItemC, PairC, PlaceC, AssignC, CallStatC, IfC, CountC, EachC, ReturnC, EndC, DeclareC, LocalFunctionC, ThenC, NoArmC, ArmC, CProto, Protos}
-use Rattle.lua_slots.specs.Trial.{code_with}
+use Rattle.lua_flat.specs.LuaSyntaxDeclaredUnaryOpTheVariants as sign
+use Rattle.lua_flat.specs.LuaSlotsCode.{Reg, Box, Up, ConstantC, TextC, FunctionC, LocalC, GlobalC, IndexC, CallC, MethodC, TableC, OperateC, UnaryC, ParenC, NoC, MoreC, NoFieldC, ItemC, PairC, PlaceC, AssignC, CallStatC, IfC, CountC, EachC, ReturnC, EndC, DeclareC, LocalFunctionC, ThenC, NoArmC, ArmC, CProto, Protos}
+use Rattle.lua_flat.specs.LuaSlotsTrial.{code_with}
 use Rattle.lua_flat.specs.IsStatement.{IsFlatFunction}
 use Rattle.lua_flat.specs.Trial.{flat_invoke}
-use Rattle.lua_slots.specs.Trial as run
+use Rattle.lua_flat.specs.LuaSlotsTrial as run
 
 -- Functions of strings, by their methods.
 --     return {f=function(...)

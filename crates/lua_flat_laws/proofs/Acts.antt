@@ -1,17 +1,17 @@
 -- OPERATIONS THAT ACT: what the machine over trees does at the same steps.
 use Rattle.std.proofs.Common.{◌≡◌, ℕ, ◌+◌, ◌∙◌, Bool, true, false, List, [], ◌∷◌, Option, Some, refl, sym, ap, ap₂, subst, arith}
 use Rattle.std.specs.Prelude.{◌++◌, length, slice_get, slice_set}
-use Rattle.lua_syntax.specs.declared.UnaryOp.{UnaryOp}
-use Rattle.page_run.specs.Outcome.{Goes, Jumps}
-use Rattle.lua_heap.specs.Value.{Value, Text}
-use Rattle.lua_meaning.specs.Values.{first}
-use Rattle.lua_meaning.specs.Acts.{Raised}
-use Rattle.lua_meaning.specs.Operators.{Operator}
-use Rattle.lua_slots.specs.Code.{Place, Reg, Constants, NoC, CWorld}
-use Rattle.lua_slots.specs.Slots.{Slot, Plain, Activation, Slots, and_cell, cells_at, write_place}
-use Rattle.lua_slots.specs.Points.{PlaceS, SFrame, First, MoreNext, AssignNow, SetsNext, Gives, Sets, Starts, Texts, Asking, Move, Now}
-use Rattle.lua_slots.specs.Index as indexing
-use Rattle.lua_slots.specs.Operators as operators
+use Rattle.lua_goes.specs.LuaSyntaxDeclaredUnaryOp.{UnaryOp}
+use Rattle.lua_goes.specs.PageRunOutcome.{Goes, Jumps}
+use Rattle.lua_goes.specs.LuaHeapValue.{Value, Text}
+use Rattle.lua_goes.specs.LuaMeaningValues.{first}
+use Rattle.lua_goes.specs.LuaMeaningActs.{Raised}
+use Rattle.lua_flat.specs.LuaMeaningOperators.{Operator}
+use Rattle.lua_goes.specs.LuaSlotsCode.{Place, Reg, Constants, NoC, CWorld}
+use Rattle.lua_goes.specs.LuaSlotsSlots.{Slot, Plain, Activation, Slots, and_cell, cells_at, write_place}
+use Rattle.lua_goes.specs.LuaSlotsPoints.{PlaceS, SFrame, First, MoreNext, AssignNow, SetsNext, Gives, Sets, Starts, Texts, Asking, Move, Now}
+use Rattle.lua_goes.specs.LuaSlotsIndex as indexing
+use Rattle.lua_goes.specs.LuaSlotsOperators as operators
 use Rattle.lua_flat.specs.Locals.{Local, PlainL}
 use Rattle.lua_flat.specs.Operations.{Operand, RegisterO, Origin, Op, GetGlobalF, IndexF, OperateF, UnaryF, Step, FlatFunction, Codes}
 use Rattle.lua_flat.specs.Registers.{put, operand}

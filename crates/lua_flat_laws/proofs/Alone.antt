@@ -1,11 +1,11 @@
 -- A RUN before any function of Lua is in progress, and behind the last one: its start and its end.
 use Rattle.std.proofs.Common.{◌≡◌, ℕ, List, [], ◌∷◌, ◌++◌, refl, ap, subst}
-use Rattle.page_run.specs.Outcome.{Goes, Jumps}
-use Rattle.lua_meaning.specs.Acts.{Raised}
-use Rattle.lua_slots.specs.Code.{CWorld}
-use Rattle.lua_slots.specs.Slots.{Slot, Slots}
-use Rattle.lua_slots.specs.Points.{WhileTurnS, RepeatTurnS, CountTurnS, EachTurnS, BodyS, LibraryS, IndexLinkS, SetLinkS, CallLinkS, SFrame, Point, Gives, Evals, Lists, Finds, Sets, Runs, Starts, Texts, Asking, Works, Move}
-use Rattle.lua_slots.specs.Moves.{moves}
+use Rattle.lua_goes.specs.PageRunOutcome.{Goes, Jumps}
+use Rattle.lua_goes.specs.LuaMeaningActs.{Raised}
+use Rattle.lua_goes.specs.LuaSlotsCode.{CWorld}
+use Rattle.lua_goes.specs.LuaSlotsSlots.{Slot, Slots}
+use Rattle.lua_goes.specs.LuaSlotsPoints.{WhileTurnS, RepeatTurnS, CountTurnS, EachTurnS, BodyS, LibraryS, IndexLinkS, SetLinkS, CallLinkS, SFrame, Point, Gives, Evals, Lists, Finds, Sets, Runs, Starts, Texts, Asking, Works, Move}
+use Rattle.lua_goes.specs.LuaSlotsMoves.{moves}
 use Rattle.lua_flat.specs.Operations.{Codes}
 use Rattle.lua_flat.specs.Flat.{Flat}
 use Rattle.lua_flat.specs.IsStatement.{IsFlat}

@@ -1,15 +1,15 @@
 -- AN OUTCOME passes the frame that is an operation's own, and arrives.
 use Rattle.std.proofs.Common.{ℕ, ◌+◌, ◌≤◌, ◌<◌, Bool, List, [], ◌∷◌, ◌++◌, Some, refl, arith}
 use Rattle.std.specs.Prelude.{pos, length}
-use Rattle.page_run.specs.Outcome.{Outcome, Goes, Jumps}
-use Rattle.lua_heap.specs.Value.{Value, Number, Table}
-use Rattle.lua_meaning.specs.Values.{first}
-use Rattle.lua_meaning.specs.Acts.{Jump, Raised, Returned, Broke}
-use Rattle.lua_slots.specs.Code.{Constants, CWorld}
-use Rattle.lua_slots.specs.Slots.{Slot, Activation, Slots}
-use Rattle.lua_slots.specs.Points.{SFrame, First, Verdict, ItemsNext, Gives, Now}
-use Rattle.lua_slots.specs.Expressions.{items}
-use Rattle.lua_slots.specs.Moves.{goes, passes, moves}
+use Rattle.lua_goes.specs.PageRunOutcome.{Outcome, Goes, Jumps}
+use Rattle.lua_goes.specs.LuaHeapValue.{Value, Number, Table}
+use Rattle.lua_goes.specs.LuaMeaningValues.{first}
+use Rattle.lua_goes.specs.LuaMeaningActs.{Jump, Raised, Returned, Broke}
+use Rattle.lua_goes.specs.LuaSlotsCode.{Constants, CWorld}
+use Rattle.lua_goes.specs.LuaSlotsSlots.{Slot, Activation, Slots}
+use Rattle.lua_goes.specs.LuaSlotsPoints.{SFrame, First, Verdict, ItemsNext, Gives, Now}
+use Rattle.lua_goes.specs.LuaSlotsExpressions.{items}
+use Rattle.lua_goes.specs.LuaSlotsMoves.{goes, passes, moves}
 use Rattle.lua_flat.specs.Locals.{Local}
 use Rattle.lua_flat.specs.Operations.{RegisterO, SetItemsF, OperateF, UnaryF, CompareF, FlatFunction, Codes}
 use Rattle.lua_flat.specs.Registers.{operand}

@@ -1,18 +1,18 @@
 -- STATEMENTS: down their code to the operation that stands there. What comes at the end of a block, a statement or a test is handed in.
 use Rattle.std.proofs.Common.{◌≡◌, ℕ, zero, ◌+◌, ◌≤◌, ◌∙◌, Bool, true, false, not, List, [], ◌∷◌, ◌++◌, Option, Some, None, refl, sym, ap, subst, arith, length-append}
 use Rattle.std.specs.Prelude.{length, slice_get}
-use Rattle.page_run.specs.Outcome.{Goes}
-use Rattle.lua_heap.specs.Proc.{Proc}
-use Rattle.lua_heap.specs.Heap.{Heap}
-use Rattle.lua_heap.specs.Value.{Value, Truth, is_true}
-use Rattle.lua_meaning.specs.Values.{first}
-use Rattle.lua_syntax.specs.declared.UnaryOp.TheVariants as sign
-use Rattle.lua_slots.specs.Code.{Reg, Box, Up, Constants, CExp, ConstantC, AndC, OrC, UnaryC, ParenC, CExps, NoC, MoreC, CTarget, PlaceC, EntryC, CStat, CBlock, EndC, DeclareC, ThenC, CArms, CWorld}
-use Rattle.lua_slots.specs.Slots.{Slot, Activation, Slots, with_all, all_opened, with_heap}
-use Rattle.lua_slots.specs.Points.{STarget, PlaceS, GlobalS, WhileTurnS, RepeatTurnS, SFrame, First, DecideNext, UnaryNow, MoreNext, TargetKey, AssignNow, SetsNext, DeclareNow, StatsNext, BranchNext, BlockEnd, WhileTest, WhileEnd, TestNext, TestNow, CountFrom, EachValues, ReturnNow, Point, Gives, Evals, Lists, Finds, Sets, Runs, Starts, Move, Now}
-use Rattle.lua_slots.specs.Errors.{node, choose, gives}
-use Rattle.lua_slots.specs.Statements.{within as within_block, branches, executes}
-use Rattle.lua_slots.specs.Moves.{moves}
+use Rattle.lua_goes.specs.PageRunOutcome.{Goes}
+use Rattle.lua_goes.specs.LuaHeapProc.{Proc}
+use Rattle.lua_goes.specs.LuaHeapHeap.{Heap}
+use Rattle.lua_goes.specs.LuaHeapValue.{Value, Truth, is_true}
+use Rattle.lua_goes.specs.LuaMeaningValues.{first}
+use Rattle.lua_flat.specs.LuaSyntaxDeclaredUnaryOpTheVariants as sign
+use Rattle.lua_goes.specs.LuaSlotsCode.{Reg, Box, Up, Constants, CExp, ConstantC, AndC, OrC, UnaryC, ParenC, CExps, NoC, MoreC, CTarget, PlaceC, EntryC, CStat, CBlock, EndC, DeclareC, ThenC, CArms, CWorld}
+use Rattle.lua_goes.specs.LuaSlotsSlots.{Slot, Activation, Slots, with_all, all_opened, with_heap}
+use Rattle.lua_goes.specs.LuaSlotsPoints.{STarget, PlaceS, GlobalS, WhileTurnS, RepeatTurnS, SFrame, First, DecideNext, UnaryNow, MoreNext, TargetKey, AssignNow, SetsNext, DeclareNow, StatsNext, BranchNext, BlockEnd, WhileTest, WhileEnd, TestNext, TestNow, CountFrom, EachValues, ReturnNow, Point, Gives, Evals, Lists, Finds, Sets, Runs, Starts, Move, Now}
+use Rattle.lua_goes.specs.LuaSlotsErrors.{node, choose, gives}
+use Rattle.lua_goes.specs.LuaSlotsStatements.{within as within_block, branches, executes}
+use Rattle.lua_goes.specs.LuaSlotsMoves.{moves}
 use Rattle.lua_flat.specs.Locals.{Local, with_row}
 use Rattle.lua_flat.specs.Operations.{Operand, RegisterO, Wanted, Op, PayF, JumpF, NilsF, OpenF, FlatFunction, Codes}
 use Rattle.lua_flat.specs.Registers.{operand, values_at, adjusted, put_slots, put_values}

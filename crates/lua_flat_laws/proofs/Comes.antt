@@ -1,15 +1,15 @@
 -- What follows comes there too, with what is left of the allowances.
 use Rattle.std.proofs.Common.{◌≡◌, ℕ, ◌+◌, ◌-◌, ◌<◌, ◌∙◌, Bool, true, false, Option, Some, None, refl, sym, ap, subst, arith}
-use Rattle.page_run.specs.declared.which.Which.{Which}
-use Rattle.page_run.specs.declared.which.Which.TheVariants.{Steps}
+use Rattle.lua_goes.specs.PageRunDeclaredWhichWhich.{Which}
+use Rattle.lua_flat.specs.PageRunDeclaredWhichWhichTheVariants.{Steps}
 use Rattle.std.specs.Prelude.{nat_le}
-use Rattle.page_run.specs.Perform.{less_if, less}
-use Rattle.page_run.proofs.Less.{less_of, less_some, less_over}
-use Rattle.lua_slots.specs.Code.{CWorld}
-use Rattle.lua_slots.specs.Slots.{Slots}
-use Rattle.lua_slots.specs.Points.{Point, Move, Marks}
-use Rattle.lua_slots.specs.Moves.{moves}
-use Rattle.lua_slots.specs.Enact.{Funds, Enacted, Stands, Short, all_given_back, paid, marked, called, calling, back, enact}
+use Rattle.lua_flat.specs.PageRunPerform.{less_if, less}
+use Rattle.lua_goes.proofs.PageRunLess.{less_of, less_some, less_over}
+use Rattle.lua_goes.specs.LuaSlotsCode.{CWorld}
+use Rattle.lua_goes.specs.LuaSlotsSlots.{Slots}
+use Rattle.lua_goes.specs.LuaSlotsPoints.{Point, Move, Marks}
+use Rattle.lua_goes.specs.LuaSlotsMoves.{moves}
+use Rattle.lua_goes.specs.LuaSlotsEnact.{Funds, Enacted, Stands, Short, all_given_back, paid, marked, called, calling, back, enact}
 use Rattle.lua_goes.specs.Going.{Reaches, here, further}
 use Rattle.lua_flat.specs.Operations.{Codes}
 use Rattle.lua_flat.specs.Flat.{Flat, FlatMove}

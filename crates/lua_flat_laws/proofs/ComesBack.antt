@@ -1,14 +1,14 @@
 -- AN OUTCOME COMES BACK to the operation that waits for it.
 use Rattle.std.proofs.Common.{◌≡◌, ℕ, ◌+◌, ◌-◌, ◌≤◌, ◌∙◌, Bool, false, List, [], ◌∷◌, ◌++◌, sym, ap, subst, arith}
 use Rattle.std.specs.Prelude.{length, take, slice_set}
-use Rattle.page_run.specs.Outcome.{Goes, Jumps}
-use Rattle.lua_heap.specs.Value.{Value}
-use Rattle.lua_meaning.specs.Values.{first}
-use Rattle.lua_meaning.specs.Acts.{Raised}
-use Rattle.lua_slots.specs.Code.{Reg, Constants, NoC, CWorld}
-use Rattle.lua_slots.specs.Slots.{Slot, Plain, Activation, Slots, write_place}
-use Rattle.lua_slots.specs.Points.{PlaceS, SFrame, First, MethodNow, MoreNext, AssignNow, SetsNext, Gives, Sets, Move, Now}
-use Rattle.lua_slots.specs.Moves.{moves}
+use Rattle.lua_goes.specs.PageRunOutcome.{Goes, Jumps}
+use Rattle.lua_goes.specs.LuaHeapValue.{Value}
+use Rattle.lua_goes.specs.LuaMeaningValues.{first}
+use Rattle.lua_goes.specs.LuaMeaningActs.{Raised}
+use Rattle.lua_goes.specs.LuaSlotsCode.{Reg, Constants, NoC, CWorld}
+use Rattle.lua_goes.specs.LuaSlotsSlots.{Slot, Plain, Activation, Slots, write_place}
+use Rattle.lua_goes.specs.LuaSlotsPoints.{PlaceS, SFrame, First, MethodNow, MoreNext, AssignNow, SetsNext, Gives, Sets, Move, Now}
+use Rattle.lua_goes.specs.LuaSlotsMoves.{moves}
 use Rattle.lua_flat.specs.Locals.{Local, PlainL}
 use Rattle.lua_flat.specs.Operations.{RegisterO, Wanted, Op, IndexF, GetGlobalF, SetIndexF, SetGlobalF, SetFieldF, MethodF, CallF, EachCallsF, FlatFunction, Codes}
 use Rattle.lua_flat.specs.Registers.{put, values_at, adjusted, put_values}

@@ -1,19 +1,19 @@
 -- COUNTING LOOPS: the operations that begin one and go on with it.
 use Rattle.std.proofs.Common.{◌≡◌, ℕ, ◌+◌, ◌≤◌, ◌∙◌, Bool, true, false, List, [], ◌∷◌, ◌++◌, Option, Some, None, refl, sym, ap, subst, arith}
 use Rattle.std.specs.Prelude.{ℤ, length, slice_get}
-use Rattle.page_run.specs.Outcome.{Jumps}
-use Rattle.lua_heap.specs.Value.{Value, Number, Text}
-use Rattle.lua_meaning.specs.Scope.{Bytes, Levels, Place as TextPlace}
-use Rattle.lua_meaning.specs.Values.{number_in}
-use Rattle.lua_meaning.specs.Acts.{Raised}
-use Rattle.lua_meaning.specs.Loops.{is_within}
-use Rattle.lua_meaning.specs.Messages.{place_text, nth_level, no_initial_value, no_limit, no_step}
-use Rattle.lua_slots.specs.Code.{Constants, CBlock, CWorld}
-use Rattle.lua_slots.specs.Slots.{Slot, Plain, Activation, Slots, levels_at}
-use Rattle.lua_slots.specs.Points.{SFrame, CountTurnS, Gives, Starts, Move, Now}
-use Rattle.lua_slots.specs.Errors as errors
-use Rattle.lua_slots.specs.Errors.{choose, gives}
-use Rattle.lua_slots.specs.Loops as loops
+use Rattle.lua_goes.specs.PageRunOutcome.{Jumps}
+use Rattle.lua_goes.specs.LuaHeapValue.{Value, Number, Text}
+use Rattle.lua_flat.specs.LuaMeaningScope.{Bytes, Levels, Place as TextPlace}
+use Rattle.lua_goes.specs.LuaMeaningValues.{number_in}
+use Rattle.lua_goes.specs.LuaMeaningActs.{Raised}
+use Rattle.lua_flat.specs.LuaMeaningLoops.{is_within}
+use Rattle.lua_flat.specs.LuaMeaningMessages.{place_text, nth_level, no_initial_value, no_limit, no_step}
+use Rattle.lua_goes.specs.LuaSlotsCode.{Constants, CBlock, CWorld}
+use Rattle.lua_goes.specs.LuaSlotsSlots.{Slot, Plain, Activation, Slots, levels_at}
+use Rattle.lua_goes.specs.LuaSlotsPoints.{SFrame, CountTurnS, Gives, Starts, Move, Now}
+use Rattle.lua_goes.specs.LuaSlotsErrors as errors
+use Rattle.lua_goes.specs.LuaSlotsErrors.{choose, gives}
+use Rattle.lua_goes.specs.LuaSlotsLoops as loops
 use Rattle.lua_flat.specs.Locals.{Local}
 use Rattle.lua_flat.specs.Operations.{RegisterO, CountBeginsF, FlatFunction, Codes}
 use Rattle.lua_flat.specs.Registers.{read, put, put_values}

@@ -1,10 +1,10 @@
 -- A BLOCK'S END: its variables are gone, and those that were there before are left.
 use Rattle.std.proofs.Common.{◌≡◌, ℕ, suc, ◌+◌, ◌≤◌, ◌∙◌, List, [], ◌∷◌, ◌++◌, refl, ap, arith, length-append, append_assoc}
 use Rattle.std.specs.Prelude.{length}
-use Rattle.lua_slots.specs.Code.{CWorld}
-use Rattle.lua_slots.specs.Slots.{Slot, Plain, Boxed, Activation, cut_to}
+use Rattle.lua_goes.specs.LuaSlotsCode.{CWorld}
+use Rattle.lua_goes.specs.LuaSlotsSlots.{Slot, Plain, Boxed, Activation, cut_to}
 use Rattle.lua_flat.specs.Locals.{Local, PlainL, CellL}
-use Rattle.lua_slots.specs.Points.{SFrame}
+use Rattle.lua_goes.specs.LuaSlotsPoints.{SFrame}
 use Rattle.lua_flat.specs.Operations.{FlatFunction, Codes}
 use Rattle.lua_flat.specs.Flat.{Act}
 use Rattle.lua_flat.specs.Keeps.{Keeps, AreVariables, Bounded}

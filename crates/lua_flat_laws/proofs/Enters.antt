@@ -1,16 +1,16 @@
 -- A FUNCTION OF LUA IS ENTERED.
 use Rattle.std.proofs.Common.{◌≡◌, ℕ, ◌+◌, ◌≤◌, ◌<◌, ◌∙◌, Bool, true, false, List, [], ◌∷◌, ◌++◌, Option, Some, None, refl, sym, ap, subst, arith}
 use Rattle.std.specs.Prelude.{length, drop, if◌then◌else◌}
-use Rattle.page_run.specs.Outcome.{Goes}
-use Rattle.lua_heap.specs.Proc.{Proc}
-use Rattle.lua_heap.specs.Heap.{Heap, new_cell}
-use Rattle.lua_heap.specs.Value.{Value}
-use Rattle.lua_meaning.specs.Values.{first, rest}
-use Rattle.lua_slots.specs.Code.{CProto, CWorld}
-use Rattle.lua_slots.specs.Slots.{Slot, Plain, Boxed, Activation, Slots, slot_cell, with_all, all_opened, with_heap}
-use Rattle.lua_slots.specs.Calls.{body_of, code_of}
-use Rattle.lua_slots.specs.Points.{BodyS, SFrame, BodyEnd, Gives, Runs, Starts, Now}
-use Rattle.lua_slots.specs.Moves.{moves}
+use Rattle.lua_goes.specs.PageRunOutcome.{Goes}
+use Rattle.lua_goes.specs.LuaHeapProc.{Proc}
+use Rattle.lua_goes.specs.LuaHeapHeap.{Heap, new_cell}
+use Rattle.lua_goes.specs.LuaHeapValue.{Value}
+use Rattle.lua_goes.specs.LuaMeaningValues.{first, rest}
+use Rattle.lua_goes.specs.LuaSlotsCode.{CProto, CWorld}
+use Rattle.lua_goes.specs.LuaSlotsSlots.{Slot, Plain, Boxed, Activation, Slots, slot_cell, with_all, all_opened, with_heap}
+use Rattle.lua_goes.specs.LuaSlotsCalls.{body_of, code_of}
+use Rattle.lua_goes.specs.LuaSlotsPoints.{BodyS, SFrame, BodyEnd, Gives, Runs, Starts, Now}
+use Rattle.lua_goes.specs.LuaSlotsMoves.{moves}
 use Rattle.lua_flat.specs.Locals.{Local, PlainL, CellL, local_of, register_of, with_row}
 use Rattle.lua_flat.specs.Operations.{FlatFunction, Codes}
 use Rattle.lua_flat.specs.Registers.{put, put_slots}

@@ -1,12 +1,12 @@
 -- LISTS THAT ARE ADJUSTED: down their code to the operation that stands there.
 use Rattle.std.proofs.Common.{◌≡◌, ℕ, ◌+◌, ◌≤◌, ◌∙◌, Bool, true, false, List, [], ◌∷◌, ◌++◌, refl, sym, ap, subst, arith, length-append}
 use Rattle.std.specs.Prelude.{length, take, slice_get}
-use Rattle.page_run.specs.Outcome.{Goes}
-use Rattle.lua_heap.specs.Value.{Value}
-use Rattle.lua_meaning.specs.Values.{first}
-use Rattle.lua_slots.specs.Code.{Constants, CExp, CExps, NoC, MoreC, CWorld}
-use Rattle.lua_slots.specs.Slots.{Slot, Activation, Slots}
-use Rattle.lua_slots.specs.Points.{SFrame, MoreNext, Point, Gives, Evals, Lists, Now}
+use Rattle.lua_goes.specs.PageRunOutcome.{Goes}
+use Rattle.lua_goes.specs.LuaHeapValue.{Value}
+use Rattle.lua_goes.specs.LuaMeaningValues.{first}
+use Rattle.lua_goes.specs.LuaSlotsCode.{Constants, CExp, CExps, NoC, MoreC, CWorld}
+use Rattle.lua_goes.specs.LuaSlotsSlots.{Slot, Activation, Slots}
+use Rattle.lua_goes.specs.LuaSlotsPoints.{SFrame, MoreNext, Point, Gives, Evals, Lists, Now}
 use Rattle.lua_flat.specs.Locals.{Local}
 use Rattle.lua_flat.specs.Operations.{Operand, RegisterO, Exactly, NilsF, FlatFunction, Codes}
 use Rattle.lua_flat.specs.Registers.{operand, values_at, adjusted, put_values}

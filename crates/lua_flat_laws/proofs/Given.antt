@@ -1,14 +1,14 @@
 -- WHERE A VALUE IS GIVEN to a frame that waits within an expression; and the law by expressions.
 use Rattle.std.proofs.Common.{◌≡◌, ℕ, zero, ◌+◌, ◌≤◌, ◌<◌, ◌∙◌, Bool, true, false, not, List, [], ◌∷◌, ◌++◌, refl, sym, ap, subst, arith, length-append}
 use Rattle.std.specs.Prelude.{length, take, slice_get}
-use Rattle.page_run.specs.Outcome.{Goes}
-use Rattle.lua_heap.specs.Value.{Value, Table, is_true}
-use Rattle.lua_meaning.specs.Values.{first}
-use Rattle.lua_slots.specs.Code.{Constants, CExp, NoC, MoreC, CFields, NoFieldC, ItemC, PairC, CWorld}
-use Rattle.lua_slots.specs.Slots.{Slot, Activation, Slots}
-use Rattle.lua_slots.specs.Points.{SFrame, First, KeyNext, IndexNow, DecideNext, OperandNext, OperateNow, ArgumentsNext, CallNow, MethodNow, MoreNext, ItemNow, PairNext, PairNow, FieldsNext, ItemsNext, Point, Gives, Evals, Lists, Now}
-use Rattle.lua_slots.specs.Errors.{choose, gives}
-use Rattle.lua_slots.specs.Moves.{moves}
+use Rattle.lua_goes.specs.PageRunOutcome.{Goes}
+use Rattle.lua_goes.specs.LuaHeapValue.{Value, Table, is_true}
+use Rattle.lua_goes.specs.LuaMeaningValues.{first}
+use Rattle.lua_goes.specs.LuaSlotsCode.{Constants, CExp, NoC, MoreC, CFields, NoFieldC, ItemC, PairC, CWorld}
+use Rattle.lua_goes.specs.LuaSlotsSlots.{Slot, Activation, Slots}
+use Rattle.lua_goes.specs.LuaSlotsPoints.{SFrame, First, KeyNext, IndexNow, DecideNext, OperandNext, OperateNow, ArgumentsNext, CallNow, MethodNow, MoreNext, ItemNow, PairNext, PairNow, FieldsNext, ItemsNext, Point, Gives, Evals, Lists, Now}
+use Rattle.lua_goes.specs.LuaSlotsErrors.{choose, gives}
+use Rattle.lua_goes.specs.LuaSlotsMoves.{moves}
 use Rattle.lua_flat.specs.Locals.{Local}
 use Rattle.lua_flat.specs.Operations.{Operand, RegisterO, Wanted, TestF, FlatFunction, Codes}
 use Rattle.lua_flat.specs.Registers.{operand}

@@ -1,11 +1,11 @@
 -- REGISTERS that are put, and what stays true of a function in progress.
 use Rattle.std.proofs.Common.{◌≡◌, ◌≢◌, ℕ, zero, suc, ◌+◌, ◌≤◌, ◌<◌, ◌∙◌, List, [], ◌∷◌, Some, refl, sym, ap, subst, arith}
 use Rattle.std.specs.Prelude.{◌++◌, length, slice_get}
-use Rattle.lua_heap.specs.Value.{Value}
-use Rattle.lua_slots.specs.Code.{Constants, CWorld}
-use Rattle.lua_slots.specs.Slots.{Slot, Plain, Boxed, Activation, slot_value, slot_cell}
+use Rattle.lua_goes.specs.LuaHeapValue.{Value}
+use Rattle.lua_goes.specs.LuaSlotsCode.{Constants, CWorld}
+use Rattle.lua_goes.specs.LuaSlotsSlots.{Slot, Plain, Boxed, Activation, slot_value, slot_cell}
 use Rattle.lua_flat.specs.Locals.{Local, PlainL, CellL, register_of}
-use Rattle.lua_slots.specs.Points.{SFrame}
+use Rattle.lua_goes.specs.LuaSlotsPoints.{SFrame}
 use Rattle.lua_flat.specs.Operations.{Operand, RegisterO, ConstantO, TextO, FlatFunction, Codes}
 use Rattle.lua_flat.specs.Registers.{read, put, operand}
 use Rattle.lua_flat.specs.Flat.{Act}

@@ -1,29 +1,29 @@
 -- WHAT IS DONE WITH VALUES is the same above other frames, with other registers, and where functions in progress begin elsewhere.
 use Rattle.std.proofs.Common.{◌≡◌, ℕ, Bool, true, false, ◌||◌, List, [], ◌∷◌, Option, Some, None, refl, sym, ap, subst}
 use Rattle.std.specs.Prelude.{ℤ, ◌++◌, map, Result, Ok, Err, codes}
-use Rattle.mw_frame.specs.declared.question.Ask.{Ask}
-use Rattle.lua_syntax.specs.declared.UnaryOp.{UnaryOp}
-use Rattle.lua_syntax.specs.declared.UnaryOp.TheVariants as sign
-use Rattle.lua_number.specs.declared.arithmetic.NumberFault.{NumberFault}
-use Rattle.lua_number.specs.Whole.{negative_of}
-use Rattle.page_run.specs.Outcome.{Goes, Jumps}
-use Rattle.lua_heap.specs.Proc.{Proc}
-use Rattle.lua_heap.specs.Value.{Value, Nil, Number, Text, Table, Closure, Builtin, Markup, is_nil, same}
-use Rattle.lua_heap.specs.Table.{get, has}
-use Rattle.lua_heap.specs.Heap.{table_at, closure_at, Closed, Function as FunctionClosed, Iterator}
-use Rattle.lua_meaning.specs.Scope.{Bytes, Levels, Place as TextPlace}
-use Rattle.lua_meaning.specs.Values.{is_function, number_in, text_in}
-use Rattle.lua_meaning.specs.Acts.{Raised}
-use Rattle.lua_meaning.specs.Arguments.{PlainEnd, Gives as PlainGives, Fails as PlainFails, Argument}
-use Rattle.lua_meaning.specs.Messages.{cannot_call, cannot_calculate, cannot_concatenate, cannot_compare, nil_key, read_only, nth_level, place_at}
-use Rattle.lua_meaning.specs.Metatables.{handler, either_handler, common_handler}
-use Rattle.lua_meaning.specs.Operators.{Arithmetic, Operator, Less, Greater, AtMost, AtLeast, Equal, Unequal, Concatenate, Calculate, result_of, event}
-use Rattle.lua_slots.specs.Slots.{Slot, Activation, Slots, levels_at}
-use Rattle.lua_slots.specs.Points.{SThing, IndexLinkS, SetLinkS, CallLinkS, BodyS, LibraryS, SFrame, First, Verdict, Gives, Starts, Texts, Asking, Move, Costs, Marks, Enters, Exits, Now}
-use Rattle.lua_slots.specs.Errors as errors
-use Rattle.lua_slots.specs.Calls as calls
-use Rattle.lua_slots.specs.Index as indexing
-use Rattle.lua_slots.specs.Operators as operators
+use Rattle.lua_goes.specs.MwFrameDeclaredQuestionAsk.{Ask}
+use Rattle.lua_goes.specs.LuaSyntaxDeclaredUnaryOp.{UnaryOp}
+use Rattle.lua_flat.specs.LuaSyntaxDeclaredUnaryOpTheVariants as sign
+use Rattle.lua_goes.specs.LuaNumberDeclaredArithmeticNumberFault.{NumberFault}
+use Rattle.lua_goes.specs.LuaNumberWhole.{negative_of}
+use Rattle.lua_goes.specs.PageRunOutcome.{Goes, Jumps}
+use Rattle.lua_goes.specs.LuaHeapProc.{Proc}
+use Rattle.lua_goes.specs.LuaHeapValue.{Value, Nil, Number, Text, Table, Closure, Builtin, Markup, is_nil, same}
+use Rattle.lua_goes.specs.LuaHeapTable.{get, has}
+use Rattle.lua_goes.specs.LuaHeapHeap.{table_at, closure_at, Closed, Function as FunctionClosed, Iterator}
+use Rattle.lua_flat.specs.LuaMeaningScope.{Bytes, Levels, Place as TextPlace}
+use Rattle.lua_goes.specs.LuaMeaningValues.{is_function, number_in, text_in}
+use Rattle.lua_goes.specs.LuaMeaningActs.{Raised}
+use Rattle.lua_goes.specs.LuaMeaningArguments.{PlainEnd, Gives as PlainGives, Fails as PlainFails, Argument}
+use Rattle.lua_flat.specs.LuaMeaningMessages.{cannot_call, cannot_calculate, cannot_concatenate, cannot_compare, nil_key, read_only, nth_level, place_at}
+use Rattle.lua_goes.specs.LuaMeaningMetatables.{handler, either_handler, common_handler}
+use Rattle.lua_flat.specs.LuaMeaningOperators.{Arithmetic, Operator, Less, Greater, AtMost, AtLeast, Equal, Unequal, Concatenate, Calculate, result_of, event}
+use Rattle.lua_goes.specs.LuaSlotsSlots.{Slot, Activation, Slots, levels_at}
+use Rattle.lua_goes.specs.LuaSlotsPoints.{SThing, IndexLinkS, SetLinkS, CallLinkS, BodyS, LibraryS, SFrame, First, Verdict, Gives, Starts, Texts, Asking, Move, Costs, Marks, Enters, Exits, Now}
+use Rattle.lua_goes.specs.LuaSlotsErrors as errors
+use Rattle.lua_goes.specs.LuaSlotsCalls as calls
+use Rattle.lua_goes.specs.LuaSlotsIndex as indexing
+use Rattle.lua_goes.specs.LuaSlotsOperators as operators
 use Rattle.lua_flat.specs.Stands.{without_base, erased, in_tree, AllAway, IsAwayThing, IsOneFrame}
 
 -- a move above the frames hs of a flat machine, and the same move above the frames fs, where these registers and functions are

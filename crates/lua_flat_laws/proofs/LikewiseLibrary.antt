@@ -1,51 +1,51 @@
 -- What functions of the library do, and a run's start and end, is the same above other frames; and so is each move at which no code is.
 use Rattle.std.proofs.Common.{ℕ, zero, suc, true, List, [], ◌∷◌, ◌++◌, ◌+◌, Option, Some, None}
 use Rattle.std.specs.Prelude.{ℤ, pos, ◌+ℤ◌, Result, Ok, Err, bytes_eq, codes}
-use Rattle.wk_base.specs.declared.title.Title.{Title}
-use Rattle.wk_base.specs.declared.title.Namespace.TheVariants.{Main}
-use Rattle.wk_base.specs.declared.title_read.TitleFault.{TitleFault}
-use Rattle.wk_base.specs.Titles.{title_text, title_of}
-use Rattle.lua_syntax.specs.declared.fault.FaultAt.{FaultAt}
-use Rattle.mw_frame.specs.declared.question.Ask.TheVariants.{Data}
-use Rattle.page_run.specs.Outcome.{Outcome, Goes, Jumps}
-use Rattle.lua_number.specs.Whole.{fits}
-use Rattle.mw_html.specs.Render.{Piece, Whole, Deep, render}
-use Rattle.lua_heap.specs.Proc.{Proc}
-use Rattle.lua_heap.specs.Value.{Value, Nil, Truth, Number, Text, Table, Builtin, Markup, is_nil}
-use Rattle.lua_heap.specs.Table.{get}
-use Rattle.lua_heap.specs.Heap.{table_at}
-use Rattle.lua_heap.specs.declared.library.Library.{Library}
-use Rattle.lua_heap.specs.declared.library.Library.TheVariants.{BasicNext, IpairsStep}
-use Rattle.lua_meaning.specs.Scope.{Bytes}
-use Rattle.lua_meaning.specs.Titled.{item_of}
-use Rattle.lua_meaning.specs.Questions.{Asked, TemplateAsked, TextAsked, DataAsked}
-use Rattle.lua_meaning.specs.Values.{first, rest, second, text_in, is_function}
-use Rattle.lua_meaning.specs.Acts.{Jump, Returned, Broke, Raised, Progress, Running, Finished}
-use Rattle.lua_meaning.specs.Metatables.{handler}
-use Rattle.lua_meaning.specs.Arguments.{Plain, a_table, a_number, a_text}
-use Rattle.lua_meaning.specs.Html.{text_of_object}
-use Rattle.lua_meaning.specs.CallBacks.{text_of}
-use Rattle.lua_meaning.specs.FrameMethods.{FramedEnd, FrameEnds, FrameQuotes, FrameAsks, FrameWalks}
-use Rattle.lua_meaning.specs.Gsub.{Replacement, ByText, ByTable, ByFunction, Job, Far, Replacing, Search, NoMatch, Matched, search, replacement_given, with_piece, nothing_yet, GsubForm, GsubAnswers, GsubAsks, gsub_form}
-use Rattle.lua_meaning.specs.Modules.{value_or_true}
-use Rattle.lua_meaning.specs.Pending.{Pending, PcallWaits, XpcallWaits, HandlerWaits, ToStringWaits, PairsWaits, GsubWaits, ModuleWaits}
-use Rattle.lua_meaning.specs.Libraries.{Caller, Pcall, Xpcall, ToString, Pairs, Ipairs, NextPlace, Require, LoadData, StrictRead, StrictWrite, Gsub, Form, Answers, InFrames, CallsBack, form}
-use Rattle.lua_meaning.specs.Start.{Work, Invoke, DataOf, End, Done, DoneData, Failed, data_value, in_html, outcome_of}
-use Rattle.lua_meaning.specs.Frames.{frame_table}
-use Rattle.mw_frame.specs.declared.scene.Job.{Job as RunJob}
-use Rattle.lua_slots.specs.Code.{Protos, CModule, CWorld}
-use Rattle.lua_slots.specs.Slots.{Slots, with_heap}
-use Rattle.lua_slots.specs.Points.{BodyS, LibraryS, IndexLinkS, SetLinkS, CallLinkS}
-use Rattle.lua_slots.specs.Points.{SFrame, First, Verdict, ItemsNext, LibraryEnd, Waits, Hears, ModuleFound, FunctionFound, AnswerNow, TextNow, DataNow, Gives, Starts, Texts, Move, Now}
-use Rattle.lua_slots.specs.Errors as errors
-use Rattle.lua_slots.specs.Calls.{text_of_module}
-use Rattle.lua_slots.specs.CallBacks as callbacks
-use Rattle.lua_slots.specs.Gsub as gsubs
-use Rattle.lua_slots.specs.Modules as modules
-use Rattle.lua_slots.specs.Libraries as libraries
-use Rattle.lua_slots.specs.Expressions as expressions
-use Rattle.lua_slots.specs.Starts as starts
-use Rattle.lua_slots.specs.Moves as to
+use Rattle.lua_goes.specs.WkBaseDeclaredTitleTitle.{Title}
+use Rattle.lua_goes.specs.WkBaseDeclaredTitleNamespaceTheVariants.{Main}
+use Rattle.lua_goes.specs.WkBaseDeclaredTitleReadTitleFault.{TitleFault}
+use Rattle.lua_flat.specs.WkBaseTitles.{title_text, title_of}
+use Rattle.lua_goes.specs.LuaSyntaxDeclaredFaultFaultAt.{FaultAt}
+use Rattle.lua_goes.specs.MwFrameDeclaredQuestionAskTheVariants.{Data}
+use Rattle.lua_goes.specs.PageRunOutcome.{Outcome, Goes, Jumps}
+use Rattle.lua_goes.specs.LuaNumberWhole.{fits}
+use Rattle.lua_goes.specs.MwHtmlRender.{Piece, Whole, Deep, render}
+use Rattle.lua_goes.specs.LuaHeapProc.{Proc}
+use Rattle.lua_goes.specs.LuaHeapValue.{Value, Nil, Truth, Number, Text, Table, Builtin, Markup, is_nil}
+use Rattle.lua_goes.specs.LuaHeapTable.{get}
+use Rattle.lua_goes.specs.LuaHeapHeap.{table_at}
+use Rattle.lua_goes.specs.LuaHeapDeclaredLibraryLibrary.{Library}
+use Rattle.lua_goes.specs.LuaHeapDeclaredLibraryLibraryTheVariants.{BasicNext, IpairsStep}
+use Rattle.lua_flat.specs.LuaMeaningScope.{Bytes}
+use Rattle.lua_goes.specs.LuaMeaningTitled.{item_of}
+use Rattle.lua_flat.specs.LuaMeaningQuestions.{Asked, TemplateAsked, TextAsked, DataAsked}
+use Rattle.lua_goes.specs.LuaMeaningValues.{first, rest, second, text_in, is_function}
+use Rattle.lua_goes.specs.LuaMeaningActs.{Jump, Returned, Broke, Raised, Progress, Running, Finished}
+use Rattle.lua_goes.specs.LuaMeaningMetatables.{handler}
+use Rattle.lua_goes.specs.LuaMeaningArguments.{Plain, a_table, a_number, a_text}
+use Rattle.lua_goes.specs.LuaMeaningHtml.{text_of_object}
+use Rattle.lua_goes.specs.LuaMeaningCallBacks.{text_of}
+use Rattle.lua_goes.specs.LuaMeaningFrameMethods.{FramedEnd, FrameEnds, FrameQuotes, FrameAsks, FrameWalks}
+use Rattle.lua_goes.specs.LuaMeaningGsub.{Replacement, ByText, ByTable, ByFunction, Job, Far, Replacing, Search, NoMatch, Matched, search, replacement_given, with_piece, nothing_yet, GsubForm, GsubAnswers, GsubAsks, gsub_form}
+use Rattle.lua_goes.specs.LuaMeaningModules.{value_or_true}
+use Rattle.lua_goes.specs.LuaMeaningPending.{Pending, PcallWaits, XpcallWaits, HandlerWaits, ToStringWaits, PairsWaits, GsubWaits, ModuleWaits}
+use Rattle.lua_goes.specs.LuaMeaningLibraries.{Caller, Pcall, Xpcall, ToString, Pairs, Ipairs, NextPlace, Require, LoadData, StrictRead, StrictWrite, Gsub, Form, Answers, InFrames, CallsBack, form}
+use Rattle.lua_flat.specs.LuaMeaningStart.{Work, Invoke, DataOf, End, Done, DoneData, Failed, data_value, in_html, outcome_of}
+use Rattle.lua_goes.specs.LuaMeaningFrames.{frame_table}
+use Rattle.lua_goes.specs.MwFrameDeclaredSceneJob.{Job as RunJob}
+use Rattle.lua_goes.specs.LuaSlotsCode.{Protos, CModule, CWorld}
+use Rattle.lua_goes.specs.LuaSlotsSlots.{Slots, with_heap}
+use Rattle.lua_goes.specs.LuaSlotsPoints.{BodyS, LibraryS, IndexLinkS, SetLinkS, CallLinkS}
+use Rattle.lua_goes.specs.LuaSlotsPoints.{SFrame, First, Verdict, ItemsNext, LibraryEnd, Waits, Hears, ModuleFound, FunctionFound, AnswerNow, TextNow, DataNow, Gives, Starts, Texts, Move, Now}
+use Rattle.lua_goes.specs.LuaSlotsErrors as errors
+use Rattle.lua_goes.specs.LuaSlotsCalls.{text_of_module}
+use Rattle.lua_goes.specs.LuaSlotsCallBacks as callbacks
+use Rattle.lua_goes.specs.LuaSlotsGsub as gsubs
+use Rattle.lua_goes.specs.LuaSlotsModules as modules
+use Rattle.lua_goes.specs.LuaSlotsLibraries as libraries
+use Rattle.lua_goes.specs.LuaSlotsExpressions as expressions
+use Rattle.lua_goes.specs.LuaSlotsStarts as starts
+use Rattle.lua_goes.specs.LuaSlotsMoves as to
 use Rattle.lua_flat.specs.Stands.{erased, AllAway, IsAwayFrame, IsAwayOutcome}
 use Rattle.lua_flat_laws.proofs.Likewise as like
 use Rattle.lua_flat_laws.proofs.Likewise.{Likewise, like_costs, like_marks, like_enters, like_exits, like_goes, like_raises, like_starts, like_texts, like_asks}

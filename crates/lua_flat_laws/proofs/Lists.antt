@@ -1,13 +1,13 @@
 -- LISTS of values, and the fields of constructors: down their code to the operation that stands there.
 use Rattle.std.proofs.Common.{◌≡◌, ℕ, zero, ◌+◌, ◌≤◌, ◌<◌, ◌∙◌, Bool, true, false, List, [], ◌∷◌, ◌++◌, refl, sym, ap, subst, arith}
 use Rattle.std.specs.Prelude.{pos, length, slice_get}
-use Rattle.page_run.specs.Outcome.{Goes}
-use Rattle.lua_heap.specs.Value.{Value, Number, Table}
-use Rattle.lua_meaning.specs.Values.{first}
-use Rattle.lua_slots.specs.Code.{Constants, CExp, CExps, NoC, MoreC, CFields, NoFieldC, ItemC, PairC, CWorld}
-use Rattle.lua_slots.specs.Slots.{Slot, Activation, Slots}
-use Rattle.lua_slots.specs.Points.{SFrame, CallNow, MoreNext, ItemNow, PairNow, Point, Gives, Evals, Lists}
-use Rattle.lua_slots.specs.Expressions as expressions
+use Rattle.lua_goes.specs.PageRunOutcome.{Goes}
+use Rattle.lua_goes.specs.LuaHeapValue.{Value, Number, Table}
+use Rattle.lua_goes.specs.LuaMeaningValues.{first}
+use Rattle.lua_goes.specs.LuaSlotsCode.{Constants, CExp, CExps, NoC, MoreC, CFields, NoFieldC, ItemC, PairC, CWorld}
+use Rattle.lua_goes.specs.LuaSlotsSlots.{Slot, Activation, Slots}
+use Rattle.lua_goes.specs.LuaSlotsPoints.{SFrame, CallNow, MoreNext, ItemNow, PairNow, Point, Gives, Evals, Lists}
+use Rattle.lua_goes.specs.LuaSlotsExpressions as expressions
 use Rattle.lua_flat.specs.Locals.{Local}
 use Rattle.lua_flat.specs.Operations.{Operand, RegisterO, ConstantO, Wanted, Exactly, Every, Op, SetFieldF, SetItemsF, CallF, FlatFunction, Codes}
 use Rattle.lua_flat.specs.Registers.{operand, values_at}

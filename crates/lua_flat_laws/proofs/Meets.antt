@@ -1,14 +1,14 @@
 -- WHAT A FLAT MACHINE MEETS that stands in code and owes so many steps, where the machine over trees stands at a point.
 use Rattle.std.proofs.Common.{◌≡◌, ℕ, zero, suc, ◌+◌, ◌<◌, ◌∙◌, Bool, true, false, List, [], ◌∷◌, Some, refl, sym, ap, subst, arith}
 use Rattle.std.specs.Prelude.{◌++◌, slice_get, slice_set}
-use Rattle.lua_heap.specs.Value.{Value}
-use Rattle.lua_meaning.specs.Values.{first}
-use Rattle.lua_slots.specs.Code.{Constants, CWorld}
+use Rattle.lua_goes.specs.LuaHeapValue.{Value}
+use Rattle.lua_goes.specs.LuaMeaningValues.{first}
+use Rattle.lua_goes.specs.LuaSlotsCode.{Constants, CWorld}
 use Rattle.lua_flat.specs.Locals.{Local, PlainL, CellL, register_of}
-use Rattle.lua_slots.specs.Slots.{Slot, Plain, Boxed, Slots}
-use Rattle.lua_slots.specs.Points.{Point, Move, Now}
-use Rattle.lua_slots.specs.Errors.{node}
-use Rattle.lua_slots.specs.Moves.{moves}
+use Rattle.lua_goes.specs.LuaSlotsSlots.{Slot, Plain, Boxed, Slots}
+use Rattle.lua_goes.specs.LuaSlotsPoints.{Point, Move, Now}
+use Rattle.lua_goes.specs.LuaSlotsErrors.{node}
+use Rattle.lua_goes.specs.LuaSlotsMoves.{moves}
 use Rattle.lua_flat.specs.Operations.{Operand, RegisterO, Codes}
 use Rattle.lua_flat.specs.Registers.{read, put, operand}
 use Rattle.lua_flat.specs.Flat.{Flat, FlatMove, FNodes}

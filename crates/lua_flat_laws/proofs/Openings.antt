@@ -1,13 +1,13 @@
 -- NEW VARIABLES in registers whose values are there: by an operation where some have cells, and else by none.
 use Rattle.std.proofs.Common.{◌≡◌, ℕ, ◌+◌, ◌≤◌, Bool, true, false, List, [], ◌∷◌, refl, ap, subst, arith}
 use Rattle.std.specs.Prelude.{length}
-use Rattle.lua_heap.specs.Proc.{Proc}
-use Rattle.lua_heap.specs.Heap.{Heap, new_cell}
-use Rattle.lua_heap.specs.Value.{Value}
-use Rattle.lua_meaning.specs.Values.{first, rest}
-use Rattle.lua_slots.specs.Slots.{Slot, Plain, Boxed, Activation}
-use Rattle.lua_slots.specs.Code.{CWorld}
-use Rattle.lua_slots.specs.Points.{SFrame}
+use Rattle.lua_goes.specs.LuaHeapProc.{Proc}
+use Rattle.lua_goes.specs.LuaHeapHeap.{Heap, new_cell}
+use Rattle.lua_goes.specs.LuaHeapValue.{Value}
+use Rattle.lua_goes.specs.LuaMeaningValues.{first, rest}
+use Rattle.lua_goes.specs.LuaSlotsSlots.{Slot, Plain, Boxed, Activation}
+use Rattle.lua_goes.specs.LuaSlotsCode.{CWorld}
+use Rattle.lua_goes.specs.LuaSlotsPoints.{SFrame}
 use Rattle.lua_flat.specs.Locals.{Local, PlainL, local_of, register_of, with_row}
 use Rattle.lua_flat.specs.Operations.{Operand, RegisterO, ConstantO, TextO, FlatFunction, Codes}
 use Rattle.lua_flat.specs.Registers.{values_at, adjusted, put_slots}

@@ -1,13 +1,13 @@
 -- OPERATIONS THAT CALL, and those of constructors: what the machine over trees does at the same steps.
 use Rattle.std.proofs.Common.{◌≡◌, ℕ, ◌+◌, ◌≤◌, ◌<◌, ◌∙◌, Bool, List, [], ◌∷◌, ◌++◌, Option, Some, refl, sym, ap, subst, arith}
 use Rattle.std.specs.Prelude.{pos, length, slice_get}
-use Rattle.lua_heap.specs.Value.{Value, Number, Text, Table}
-use Rattle.lua_slots.specs.Code.{Constants, CExp, CExps, CFields, NoFieldC, ItemC, PairC, CWorld}
-use Rattle.lua_slots.specs.Slots.{Slot, Plain, Activation, Slots}
-use Rattle.lua_slots.specs.Points.{SFrame, MethodNow, ItemsNext, Move}
-use Rattle.lua_slots.specs.Calls as calls
-use Rattle.lua_slots.specs.Index as indexing
-use Rattle.lua_slots.specs.Expressions as expressions
+use Rattle.lua_goes.specs.LuaHeapValue.{Value, Number, Text, Table}
+use Rattle.lua_goes.specs.LuaSlotsCode.{Constants, CExp, CExps, CFields, NoFieldC, ItemC, PairC, CWorld}
+use Rattle.lua_goes.specs.LuaSlotsSlots.{Slot, Plain, Activation, Slots}
+use Rattle.lua_goes.specs.LuaSlotsPoints.{SFrame, MethodNow, ItemsNext, Move}
+use Rattle.lua_goes.specs.LuaSlotsCalls as calls
+use Rattle.lua_goes.specs.LuaSlotsIndex as indexing
+use Rattle.lua_goes.specs.LuaSlotsExpressions as expressions
 use Rattle.lua_flat.specs.Locals.{Local, PlainL}
 use Rattle.lua_flat.specs.Operations.{Operand, RegisterO, Wanted, Every, Op, MethodF, SetIndexF, SetGlobalF, SetFieldF, SetItemsF, CallF, FlatFunction, Codes}
 use Rattle.lua_flat.specs.Registers.{read, put, operand}

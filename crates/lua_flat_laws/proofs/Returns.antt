@@ -1,13 +1,13 @@
 -- A RETURN passes the frames that wait in a function, and leaves it.
 use Rattle.std.proofs.Common.{◌≡◌, ℕ, ◌+◌, ◌-◌, ◌≤◌, List, [], ◌∷◌, Option, sym, subst, arith, drop}
 use Rattle.std.specs.Prelude.{◌++◌, length}
-use Rattle.page_run.specs.Outcome.{Goes, Jumps}
-use Rattle.lua_heap.specs.Value.{Value}
-use Rattle.lua_meaning.specs.Acts.{Returned}
-use Rattle.lua_slots.specs.Code.{Constants, CWorld}
-use Rattle.lua_slots.specs.Slots.{Slot, Activation, Slots, cut}
-use Rattle.lua_slots.specs.Points.{SFrame, Point, Gives, BodyEnd, ReturnNow, Now}
-use Rattle.lua_slots.specs.Moves.{moves}
+use Rattle.lua_goes.specs.PageRunOutcome.{Goes, Jumps}
+use Rattle.lua_goes.specs.LuaHeapValue.{Value}
+use Rattle.lua_goes.specs.LuaMeaningActs.{Returned}
+use Rattle.lua_goes.specs.LuaSlotsCode.{Constants, CWorld}
+use Rattle.lua_goes.specs.LuaSlotsSlots.{Slot, Activation, Slots, cut}
+use Rattle.lua_goes.specs.LuaSlotsPoints.{SFrame, Point, Gives, BodyEnd, ReturnNow, Now}
+use Rattle.lua_goes.specs.LuaSlotsMoves.{moves}
 use Rattle.lua_flat.specs.Locals.{Local}
 use Rattle.lua_flat.specs.Operations.{Wanted, Exactly, ReturnF, FlatFunction, Codes}
 use Rattle.lua_flat.specs.Does.{values_to}

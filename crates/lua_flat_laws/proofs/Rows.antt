@@ -1,11 +1,11 @@
 -- VALUES IN A ROW of registers.
 use Rattle.std.proofs.Common.{◌≡◌, ℕ, zero, suc, ◌+◌, ◌-◌, ◌≤◌, ◌<◌, ◌∙◌, List, [], ◌∷◌, ◌++◌, refl, sym, ap, ap₂, arith}
 use Rattle.std.specs.Prelude.{length, take}
-use Rattle.lua_heap.specs.Value.{Value}
-use Rattle.lua_meaning.specs.Values.{rest}
-use Rattle.lua_slots.specs.Code.{Constants, CWorld}
-use Rattle.lua_slots.specs.Slots.{Slot, Plain, Activation}
-use Rattle.lua_slots.specs.Points.{SFrame}
+use Rattle.lua_goes.specs.LuaHeapValue.{Value}
+use Rattle.lua_goes.specs.LuaMeaningValues.{rest}
+use Rattle.lua_goes.specs.LuaSlotsCode.{Constants, CWorld}
+use Rattle.lua_goes.specs.LuaSlotsSlots.{Slot, Plain, Activation}
+use Rattle.lua_goes.specs.LuaSlotsPoints.{SFrame}
 use Rattle.lua_flat.specs.Locals.{Local}
 use Rattle.lua_flat.specs.Operations.{FlatFunction, Codes}
 use Rattle.lua_flat.specs.Registers.{read, put, values_at, adjusted, put_values}

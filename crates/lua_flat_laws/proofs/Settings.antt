@@ -1,13 +1,13 @@
 -- A TARGET GETS A VALUE: the operation that sets it.
 use Rattle.std.proofs.Common.{◌≡◌, ℕ, ◌+◌, ◌≤◌, ◌∙◌, List, [], ◌∷◌, ◌++◌, Option, Some, None, refl, sym, ap, subst, arith}
 use Rattle.std.specs.Prelude.{length, slice_get, slice_set}
-use Rattle.page_run.specs.Outcome.{Goes}
-use Rattle.lua_heap.specs.Value.{Value}
-use Rattle.lua_meaning.specs.Values.{first}
-use Rattle.lua_slots.specs.Code.{Reg, Box, Up, Constants, NoC, CWorld}
-use Rattle.lua_slots.specs.Slots.{Slot, Plain, Activation, Slots, with_cell, slot_cell}
-use Rattle.lua_slots.specs.Points.{STarget, PlaceS, GlobalS, EntryS, SFrame, MoreNext, AssignNow, SetsNext, Gives, Sets, Now}
-use Rattle.lua_slots.specs.Statements.{sets_one}
+use Rattle.lua_goes.specs.PageRunOutcome.{Goes}
+use Rattle.lua_goes.specs.LuaHeapValue.{Value}
+use Rattle.lua_goes.specs.LuaMeaningValues.{first}
+use Rattle.lua_goes.specs.LuaSlotsCode.{Reg, Box, Up, Constants, NoC, CWorld}
+use Rattle.lua_goes.specs.LuaSlotsSlots.{Slot, Plain, Activation, Slots, with_cell, slot_cell}
+use Rattle.lua_goes.specs.LuaSlotsPoints.{STarget, PlaceS, GlobalS, EntryS, SFrame, MoreNext, AssignNow, SetsNext, Gives, Sets, Now}
+use Rattle.lua_goes.specs.LuaSlotsStatements.{sets_one}
 use Rattle.lua_flat.specs.Locals.{Local, PlainL}
 use Rattle.lua_flat.specs.Operations.{Operand, Op, LoadF, SetCellF, SetUpF, SetGlobalF, SetIndexF, FlatFunction, Codes}
 use Rattle.lua_flat.specs.Registers.{operand}

@@ -1,12 +1,12 @@
 -- WHERE A VALUE IS GIVEN to a frame of a statement.
 use Rattle.std.proofs.Common.{◌≡◌, ℕ, ◌+◌, ◌≤◌, ◌<◌, ◌∙◌, Bool, false, List, [], ◌∷◌, ◌++◌, Option, Some, None, refl, sym, subst, arith}
 use Rattle.std.specs.Prelude.{pos, length, slice_get}
-use Rattle.page_run.specs.Outcome.{Goes}
-use Rattle.lua_heap.specs.Value.{Value, Number}
-use Rattle.lua_meaning.specs.Values.{first}
-use Rattle.lua_slots.specs.Code.{Constants, CExp, NoC, MoreC, CBlock, CWorld}
-use Rattle.lua_slots.specs.Slots.{Slot, Plain, Activation, Slots}
-use Rattle.lua_slots.specs.Points.{STarget, EntryS, SFrame, MoreNext, AssignNow, TargetKey, TargetNow, CountFrom, CountTo, CountBy, Point, Gives, Evals, Lists, Finds, Sets, Now}
+use Rattle.lua_goes.specs.PageRunOutcome.{Goes}
+use Rattle.lua_goes.specs.LuaHeapValue.{Value, Number}
+use Rattle.lua_goes.specs.LuaMeaningValues.{first}
+use Rattle.lua_goes.specs.LuaSlotsCode.{Constants, CExp, NoC, MoreC, CBlock, CWorld}
+use Rattle.lua_goes.specs.LuaSlotsSlots.{Slot, Plain, Activation, Slots}
+use Rattle.lua_goes.specs.LuaSlotsPoints.{STarget, EntryS, SFrame, MoreNext, AssignNow, TargetKey, TargetNow, CountFrom, CountTo, CountBy, Point, Gives, Evals, Lists, Finds, Sets, Now}
 use Rattle.lua_flat.specs.Locals.{Local}
 use Rattle.lua_flat.specs.Operations.{Operand, RegisterO, ConstantO, Op, LoadF, CountBeginsF, SetIndexF, FlatFunction, Codes}
 use Rattle.lua_flat.specs.Registers.{read, put, operand}

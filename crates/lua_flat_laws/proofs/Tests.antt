@@ -1,19 +1,19 @@
 -- TESTS: where code goes on for a true value and for a false one.
 use Rattle.std.proofs.Common.{◌≡◌, ℕ, ◌+◌, ◌≤◌, ◌∙◌, Bool, true, false, not, List, [], ◌∷◌, ◌++◌, Option, Some, refl, sym, ap, subst, arith, length-append, append_assoc}
 use Rattle.std.specs.Prelude.{length, slice_get}
-use Rattle.lua_syntax.specs.declared.UnaryOp.TheVariants as sign
-use Rattle.page_run.specs.Outcome.{Goes, Jumps}
-use Rattle.lua_heap.specs.Value.{Value, Truth, is_true}
-use Rattle.lua_meaning.specs.Values.{first}
-use Rattle.lua_meaning.specs.Acts.{Raised}
-use Rattle.lua_meaning.specs.Operators.{Operator}
-use Rattle.lua_slots.specs.Code.{Constants, CExp, CBlock, CArms, AndC, OrC, OperateC, UnaryC, ParenC, CWorld}
-use Rattle.lua_slots.specs.Slots.{Slot, Activation, Slots, cut}
-use Rattle.lua_slots.specs.Points.{WhileTurnS, RepeatTurnS, SFrame, First, DecideNext, OperandNext, OperateNow, UnaryNow, BlockEnd, Point, Gives, Evals, Starts, Now}
-use Rattle.lua_slots.specs.Errors.{choose, gives}
-use Rattle.lua_slots.specs.Statements.{within as within_block, branches}
-use Rattle.lua_slots.specs.Moves.{moves}
-use Rattle.lua_slots.specs.Operators as operators
+use Rattle.lua_flat.specs.LuaSyntaxDeclaredUnaryOpTheVariants as sign
+use Rattle.lua_goes.specs.PageRunOutcome.{Goes, Jumps}
+use Rattle.lua_goes.specs.LuaHeapValue.{Value, Truth, is_true}
+use Rattle.lua_goes.specs.LuaMeaningValues.{first}
+use Rattle.lua_goes.specs.LuaMeaningActs.{Raised}
+use Rattle.lua_flat.specs.LuaMeaningOperators.{Operator}
+use Rattle.lua_goes.specs.LuaSlotsCode.{Constants, CExp, CBlock, CArms, AndC, OrC, OperateC, UnaryC, ParenC, CWorld}
+use Rattle.lua_goes.specs.LuaSlotsSlots.{Slot, Activation, Slots, cut}
+use Rattle.lua_goes.specs.LuaSlotsPoints.{WhileTurnS, RepeatTurnS, SFrame, First, DecideNext, OperandNext, OperateNow, UnaryNow, BlockEnd, Point, Gives, Evals, Starts, Now}
+use Rattle.lua_goes.specs.LuaSlotsErrors.{choose, gives}
+use Rattle.lua_goes.specs.LuaSlotsStatements.{within as within_block, branches}
+use Rattle.lua_goes.specs.LuaSlotsMoves.{moves}
+use Rattle.lua_goes.specs.LuaSlotsOperators as operators
 use Rattle.lua_flat.specs.Operations.{Operand, Op, TestF, CompareF, FlatFunction, Codes}
 use Rattle.lua_flat.specs.Registers.{operand}
 use Rattle.lua_flat.specs.Does.{Landing, at_place, is_so, place_if, becomes}

@@ -1,17 +1,17 @@
 -- LOOPS: where a turn ends, and the iterator of a generic loop is called and its results are looked at.
 use Rattle.std.proofs.Common.{◌≡◌, ℕ, zero, suc, ◌+◌, ◌≤◌, ◌<◌, ◌∙◌, Bool, true, false, List, [], ◌∷◌, ◌++◌, Option, Some, refl, sym, ap, ap₂, subst, arith}
 use Rattle.std.specs.Prelude.{ℤ, ◌+ℤ◌, length, slice_get}
-use Rattle.page_run.specs.Outcome.{Goes}
-use Rattle.lua_number.specs.Whole.{fits}
-use Rattle.lua_heap.specs.Value.{Value, Number, is_nil}
-use Rattle.lua_meaning.specs.Values.{first, second, third, rest}
-use Rattle.lua_meaning.specs.Loops.{is_within}
-use Rattle.lua_slots.specs.Code.{Constants, CBlock, CWorld}
-use Rattle.lua_slots.specs.Slots.{Slot, Plain, Activation, Slots, cut}
-use Rattle.lua_slots.specs.Points.{SFrame, CountTurnS, EachTurnS, WhileTest, WhileEnd, CountEnd, EachNext, EachEnd, EachValues, Point, Gives, Evals, Starts, Move, Now}
-use Rattle.lua_slots.specs.Calls as calls
-use Rattle.lua_slots.specs.Errors.{choose, gives}
-use Rattle.lua_slots.specs.Loops as loops
+use Rattle.lua_goes.specs.PageRunOutcome.{Goes}
+use Rattle.lua_goes.specs.LuaNumberWhole.{fits}
+use Rattle.lua_goes.specs.LuaHeapValue.{Value, Number, is_nil}
+use Rattle.lua_goes.specs.LuaMeaningValues.{first, second, third, rest}
+use Rattle.lua_flat.specs.LuaMeaningLoops.{is_within}
+use Rattle.lua_goes.specs.LuaSlotsCode.{Constants, CBlock, CWorld}
+use Rattle.lua_goes.specs.LuaSlotsSlots.{Slot, Plain, Activation, Slots, cut}
+use Rattle.lua_goes.specs.LuaSlotsPoints.{SFrame, CountTurnS, EachTurnS, WhileTest, WhileEnd, CountEnd, EachNext, EachEnd, EachValues, Point, Gives, Evals, Starts, Move, Now}
+use Rattle.lua_goes.specs.LuaSlotsCalls as calls
+use Rattle.lua_goes.specs.LuaSlotsErrors.{choose, gives}
+use Rattle.lua_goes.specs.LuaSlotsLoops as loops
 use Rattle.lua_flat.specs.Locals.{Local}
 use Rattle.lua_flat.specs.Operations.{RegisterO, Op, JumpF, PayF, CountGoesOnF, EachCallsF, EachTestsF, FlatFunction, Codes}
 use Rattle.lua_flat.specs.Registers.{read, put, values_at, adjusted}

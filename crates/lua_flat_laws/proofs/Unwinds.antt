@@ -1,13 +1,13 @@
 -- AN ERROR passes the frames that wait in a function, and leaves it.
 use Rattle.std.proofs.Common.{◌≡◌, ℕ, zero, suc, ◌-◌, ◌≤◌, ◌∙◌, Bool, List, [], ◌∷◌, Option, refl, sym, ap, subst, arith, length-append, drop}
 use Rattle.std.specs.Prelude.{◌++◌, length}
-use Rattle.page_run.specs.Outcome.{Outcome, Jumps}
-use Rattle.lua_heap.specs.Value.{Value}
-use Rattle.lua_meaning.specs.Acts.{Jump, Raised}
-use Rattle.lua_slots.specs.Code.{Constants, CWorld}
-use Rattle.lua_slots.specs.Slots.{Slot, Activation, Slots, cut_to, cut}
-use Rattle.lua_slots.specs.Points.{SFrame, Point, Gives, BodyEnd, Now}
-use Rattle.lua_slots.specs.Moves.{moves}
+use Rattle.lua_goes.specs.PageRunOutcome.{Outcome, Jumps}
+use Rattle.lua_goes.specs.LuaHeapValue.{Value}
+use Rattle.lua_goes.specs.LuaMeaningActs.{Jump, Raised}
+use Rattle.lua_goes.specs.LuaSlotsCode.{Constants, CWorld}
+use Rattle.lua_goes.specs.LuaSlotsSlots.{Slot, Activation, Slots, cut_to, cut}
+use Rattle.lua_goes.specs.LuaSlotsPoints.{SFrame, Point, Gives, BodyEnd, Now}
+use Rattle.lua_goes.specs.LuaSlotsMoves.{moves}
 use Rattle.lua_flat.specs.Locals.{Local}
 use Rattle.lua_flat.specs.Operations.{Operand, Wanted, FlatFunction, Codes}
 use Rattle.lua_flat.specs.Flat.{Act, FlatMove, FExits, FNow}

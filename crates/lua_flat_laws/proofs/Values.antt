@@ -1,22 +1,22 @@
 -- WHERE AN EXPRESSION BEGINS: down its code to the operation that stands there.
 use Rattle.std.proofs.Common.{◌≡◌, ℕ, ◌+◌, ◌≤◌, ◌<◌, Bool, true, false, List, [], ◌∷◌, Option, Some, refl, sym, ap, subst, arith}
 use Rattle.std.specs.Prelude.{◌++◌, length, slice_get}
-use Rattle.page_run.specs.Outcome.{Goes}
-use Rattle.lua_heap.specs.Proc.{Proc}
-use Rattle.lua_heap.specs.Value.{Value, Text, Table}
-use Rattle.lua_syntax.specs.declared.UnaryOp.{UnaryOp}
-use Rattle.lua_meaning.specs.Operators.{Operator}
-use Rattle.lua_meaning.specs.Values.{first}
-use Rattle.lua_meaning.specs.Charges.{table_charge, closure_charge}
-use Rattle.lua_heap.specs.Heap.{new_table}
-use Rattle.lua_slots.specs.Code.{Place, Box, Up, Constants, CExp, CExps, CFields, DotsC, IndexC, FunctionC, LocalC, GlobalC, CallC, MethodC, TableC, AndC, OrC, OperateC, UnaryC, ParenC, CWorld}
-use Rattle.lua_slots.specs.Slots.{Slot, Plain, Activation, Slots, slot_cell, cell_value, proc_of, with_closure, next_closure}
-use Rattle.lua_slots.specs.Points.{SFrame, First, KeyNext, IndexNow, DecideNext, OperandNext, OperateNow, UnaryNow, ArgumentsNext, MethodNext, Point, Gives, Evals, Costs, Now}
-use Rattle.lua_slots.specs.Errors.{node}
-use Rattle.lua_slots.specs.Index as indexing
-use Rattle.lua_slots.specs.Expressions as expressions
-use Rattle.lua_slots.specs.Expressions.{with_table}
-use Rattle.lua_slots.specs.Moves.{moves}
+use Rattle.lua_goes.specs.PageRunOutcome.{Goes}
+use Rattle.lua_goes.specs.LuaHeapProc.{Proc}
+use Rattle.lua_goes.specs.LuaHeapValue.{Value, Text, Table}
+use Rattle.lua_goes.specs.LuaSyntaxDeclaredUnaryOp.{UnaryOp}
+use Rattle.lua_flat.specs.LuaMeaningOperators.{Operator}
+use Rattle.lua_goes.specs.LuaMeaningValues.{first}
+use Rattle.lua_flat.specs.LuaMeaningCharges.{table_charge, closure_charge}
+use Rattle.lua_goes.specs.LuaHeapHeap.{new_table}
+use Rattle.lua_goes.specs.LuaSlotsCode.{Place, Box, Up, Constants, CExp, CExps, CFields, DotsC, IndexC, FunctionC, LocalC, GlobalC, CallC, MethodC, TableC, AndC, OrC, OperateC, UnaryC, ParenC, CWorld}
+use Rattle.lua_goes.specs.LuaSlotsSlots.{Slot, Plain, Activation, Slots, slot_cell, cell_value, proc_of, with_closure, next_closure}
+use Rattle.lua_goes.specs.LuaSlotsPoints.{SFrame, First, KeyNext, IndexNow, DecideNext, OperandNext, OperateNow, UnaryNow, ArgumentsNext, MethodNext, Point, Gives, Evals, Costs, Now}
+use Rattle.lua_goes.specs.LuaSlotsErrors.{node}
+use Rattle.lua_goes.specs.LuaSlotsIndex as indexing
+use Rattle.lua_goes.specs.LuaSlotsExpressions as expressions
+use Rattle.lua_goes.specs.LuaSlotsExpressions.{with_table}
+use Rattle.lua_goes.specs.LuaSlotsMoves.{moves}
 use Rattle.lua_flat.specs.Locals.{Local, PlainL}
 use Rattle.lua_flat.specs.Operations.{Operand, RegisterO, Wanted, Origin, Op, LoadF, DotsF, ClosureF, GetCellF, GetUpF, GetGlobalF, IndexF, OperateF, UnaryF, TableF, MethodF, CallF, FlatFunction, Codes}
 use Rattle.lua_flat.specs.Registers.{put, operand}

@@ -1,10 +1,10 @@
 -- A MOVE OF A FLAT MACHINE IS MOVES OF A MACHINE OVER TREES: the same charges and counts in the same order, with free moves between them,
 -- up to where both stand together again. Nodes that are paid at once are begun one by one.
 use Rattle.std.specs.Prelude.{ℕ, ◌+◌}
-use Rattle.lua_slots.specs.Code.{CWorld}
-use Rattle.lua_slots.specs.Slots.{Slots}
-use Rattle.lua_slots.specs.Points.{Point, Move, Costs, Marks, Enters, Exits, Now}
-use Rattle.lua_slots.specs.Moves.{moves}
+use Rattle.lua_goes.specs.LuaSlotsCode.{CWorld}
+use Rattle.lua_goes.specs.LuaSlotsSlots.{Slots}
+use Rattle.lua_goes.specs.LuaSlotsPoints.{Point, Move, Costs, Marks, Enters, Exits, Now}
+use Rattle.lua_goes.specs.LuaSlotsMoves.{moves}
 use Rattle.lua_flat.specs.Operations.{Codes}
 use Rattle.lua_flat.specs.Flat.{Flat, FlatMove, FNodes, FCosts, FMarks, FEnters, FExits, FNow}
 use Rattle.lua_flat.specs.Stands.{StandsFor}

@@ -1,16 +1,16 @@
 -- LAWS of a flat machine.
 use Rattle.std.specs.Prelude.{◌≡◌, ◌≤◌, ℕ, ◌+◌, Bool, List, [], ◌∷◌, ◌++◌, length, Option}
-use Rattle.page_run.specs.declared.which.Which.{Which}
-use Rattle.page_run.specs.Outcome.{Outcome, Goes, Jumps}
-use Rattle.lua_heap.specs.Proc.{Proc}
-use Rattle.lua_heap.specs.Value.{Value}
-use Rattle.lua_meaning.specs.Acts.{Jump, Raised}
-use Rattle.lua_meaning.specs.Start.{Work}
-use Rattle.lua_slots.specs.Code.{Constants, CExp, CBlock, CWorld}
-use Rattle.lua_slots.specs.Slots.{Slot, Activation, Slots}
-use Rattle.lua_slots.specs.Points.{BodyS, SFrame, BodyEnd, ReturnNow, Point, WhileTurnS, RepeatTurnS, Gives, Evals, Runs, Starts, Works, Now}
-use Rattle.lua_slots.specs.Moves.{moves}
-use Rattle.lua_slots.specs.Enact.{Funds, Short, enact}
+use Rattle.lua_goes.specs.PageRunDeclaredWhichWhich.{Which}
+use Rattle.lua_goes.specs.PageRunOutcome.{Outcome, Goes, Jumps}
+use Rattle.lua_goes.specs.LuaHeapProc.{Proc}
+use Rattle.lua_goes.specs.LuaHeapValue.{Value}
+use Rattle.lua_goes.specs.LuaMeaningActs.{Jump, Raised}
+use Rattle.lua_flat.specs.LuaMeaningStart.{Work}
+use Rattle.lua_goes.specs.LuaSlotsCode.{Constants, CExp, CBlock, CWorld}
+use Rattle.lua_goes.specs.LuaSlotsSlots.{Slot, Activation, Slots}
+use Rattle.lua_goes.specs.LuaSlotsPoints.{BodyS, SFrame, BodyEnd, ReturnNow, Point, WhileTurnS, RepeatTurnS, Gives, Evals, Runs, Starts, Works, Now}
+use Rattle.lua_goes.specs.LuaSlotsMoves.{moves}
+use Rattle.lua_goes.specs.LuaSlotsEnact.{Funds, Short, enact}
 use Rattle.lua_goes.specs.Going.{Reaches}
 use Rattle.lua_flat.specs.Locals.{Local}
 use Rattle.lua_flat.specs.Operations.{Operand, Wanted, Exactly, ReturnF, FlatFunction, Codes}

@@ -1,8 +1,8 @@
 -- STATEMENTS of which the laws of blocks speak: all but assignments to several targets or to what can't be assigned to, `break`, local
 -- functions, and expressions alone that are no calls.
 use Rattle.std.specs.Prelude.{◌≡◌, ℕ, List, [], Option}
-use Rattle.lua_slots.specs.Code.{Constants, CStat, CBlock, CArms}
-use Rattle.lua_slots.specs.Points.{SFrame}
+use Rattle.lua_goes.specs.LuaSlotsCode.{Constants, CStat, CBlock, CArms}
+use Rattle.lua_goes.specs.LuaSlotsPoints.{SFrame}
 use Rattle.lua_flat.specs.Locals.{Local}
 use Rattle.lua_flat.specs.Operations.{FlatFunction}
 use Rattle.lua_flat.specs.IsStatement.{IsStat, assign_many, assign_refused, value_alone, do_block, if_arms, if_else, break_away, IsBlock, block_end, block_pays, block_declares, block_names, block_then, IsArms, arms_end, arms_else, arm_then}

@@ -6,7 +6,7 @@ ghost use Rattle.lua_format.specs.Lengths.{saturated};
 
 use crate::directive::Flags;
 use crate::short::Short;
-use wk_base::NoMemory;
+use lua_number::NoMemory;
 
 /// What stands before the digits of a number.
 #[derive(Clone, Copy, Debug, PartialEq, Eq)]

@@ -20,4 +20,5 @@ pub mod short;
 pub mod value;
 
 pub use formatting::{format, format_length};
+pub use lua_number::Bytes;
 pub use value::{FormatFault, FormatValue, Want};

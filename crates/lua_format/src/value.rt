@@ -1,7 +1,7 @@
 //! The values that a format takes, and why it may have no answer.
 ghost use Rattle.std.specs.Prelude.{◌≡◌};
 
-use wk_base::{Bytes, NoMemory};
+use lua_number::{Bytes, NoMemory};
 
 /// A value behind the format.
 #[derive(Drop, Debug)]

@@ -1,7 +1,7 @@
 -- What is counted up to an event is paid for, and calls are given back.
 use Rattle.std.proofs.Common.{◌≡◌, ℕ, zero, suc, ◌+◌, ◌-◌, ◌≤◌, Option, Some, None, refl, subst, arith}
-use Rattle.page_run.specs.Perform.{less}
-use Rattle.page_run.proofs.Less.{less_some}
+use Rattle.lua_slots.specs.PageRunPerform.{less}
+use Rattle.lua_slots.proofs.PageRunLess.{less_some}
 use Rattle.lua_slots.specs.Code.{CWorld}
 use Rattle.lua_slots.specs.Slots.{Slots}
 use Rattle.lua_slots.specs.Points.{Point, Move, Costs, Marks, Enters, Exits, Now}

@@ -2,11 +2,11 @@
 use Rattle.std.proofs.Common.{◌≡◌, ℕ, zero, suc, ◌≤◌, ◌<◌, Bool, true, false, List, [], ◌∷◌, Option, Some, None, refl, sym, ap, subst, arith}
 use Rattle.std.specs.Prelude.{nat_le}
 use Rattle.std.proofs.lemmas.Bool.{leb-true, leb-false}
-use Rattle.mw_frame.specs.declared.question.Ask.{Ask}
-use Rattle.page_run.specs.Outcome.{Outcome}
-use Rattle.page_run.specs.Perform.{less}
-use Rattle.lua_heap.specs.Value.{Value}
-use Rattle.lua_meaning.specs.Acts.{Jump}
+use Rattle.lua_slots.specs.MwFrameDeclaredQuestionAsk.{Ask}
+use Rattle.lua_slots.specs.PageRunOutcome.{Outcome}
+use Rattle.lua_slots.specs.PageRunPerform.{less}
+use Rattle.lua_slots.specs.LuaHeapValue.{Value}
+use Rattle.lua_slots.specs.LuaMeaningActs.{Jump}
 use Rattle.lua_slots.specs.Code.{CWorld}
 use Rattle.lua_slots.specs.Slots.{Slots}
 use Rattle.lua_slots.specs.Points.{SFrame, Point, Gives, Asking, Move, Costs, Marks, Enters, Exits, Now}

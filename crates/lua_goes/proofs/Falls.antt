@@ -2,19 +2,19 @@
 use Rattle.std.proofs.Common.{◌≡◌, ℕ, suc, ◌+◌, ◌*◌, ◌<◌, Bool, List, [], ◌∷◌, length, reverse, Option, Some, None, refl, ap, ◌∙◌, arith}
 use Rattle.std.specs.Prelude.{ℤ, pos, ◌+ℤ◌}
 use Rattle.std.proofs.lemmas.List.{length-append, length-reverse}
-use Rattle.page_run.specs.Outcome.{Goes, Jumps}
-use Rattle.lua_number.specs.Whole.{fits}
-use Rattle.lua_heap.specs.Value.{Value, Number, Text, Table, is_true, is_nil}
-use Rattle.lua_meaning.specs.Values.{first, rest, second, third, number_in, text_in}
-use Rattle.lua_meaning.specs.Acts.{Jump, Returned, Broke, Raised}
-use Rattle.lua_meaning.specs.Loops.{is_within}
+use Rattle.lua_slots.specs.PageRunOutcome.{Goes, Jumps}
+use Rattle.lua_slots.specs.LuaNumberWhole.{fits}
+use Rattle.lua_slots.specs.LuaHeapValue.{Value, Number, Text, Table, is_true, is_nil}
+use Rattle.lua_slots.specs.LuaMeaningValues.{first, rest, second, third, number_in, text_in}
+use Rattle.lua_slots.specs.LuaMeaningActs.{Jump, Returned, Broke, Raised}
+use Rattle.lua_slots.specs.LuaMeaningLoops.{is_within}
 use Rattle.lua_slots.specs.Code.{Constants, CExp, DotsC, CExps, NoC, MoreC, CFields, NoFieldC, ItemC, PairC, PlaceC, GlobalTargetC, EntryC, RefusedC}
 use Rattle.lua_slots.specs.Code.{CStat, BreakC, CBlock, EndC, DeclareC, LocalFunctionC, ThenC, CArms, NoArmC, ArmC, CWorld}
 use Rattle.lua_slots.specs.Slots.{Slots, cut}
 use Rattle.lua_slots.specs.Points.{STarget, PlaceS, GlobalS, EntryS, WhileTurnS, RepeatTurnS, CountTurnS, EachTurnS}
 use Rattle.lua_slots.specs.Points.{SFrame, First, Verdict, KeyNext, IndexNow, DecideNext, OperandNext, OperateNow, UnaryNow, ArgumentsNext, CallNow, MethodNext, MethodNow, MoreNext, ItemNow, PairNext, PairNow, FieldsNext, ItemsNext, TargetKey, TargetNow, AssignNow, SetsNext, DeclareNow, StatsNext, BranchNext, BlockEnd, BodyEnd, LibraryEnd, WhileTest, WhileEnd, TestNext, TestNow, CountFrom, CountTo, CountBy, CountEnd, EachValues, EachNext, EachEnd, ReturnNow, Waits, Hears, ModuleFound, FunctionFound, AnswerNow, TextNow, DataNow}
 use Rattle.lua_slots.specs.Points.{Gives, Evals, Lists, Finds, Sets, Runs, Starts, Texts, Asking, Works, Now}
-use Rattle.lua_meaning.specs.Start.{Work, Invoke, DataOf}
+use Rattle.lua_slots.specs.LuaMeaningStart.{Work, Invoke, DataOf}
 use Rattle.lua_slots.specs.Calls.{constants_of}
 use Rattle.lua_slots.specs.Errors as errors
 use Rattle.lua_slots.specs.Expressions as expressions

@@ -1,21 +1,21 @@
 -- What waits in functions of the library, and at the bottom of a run, leads below its weight with the outcome.
 use Rattle.std.proofs.Common.{◌≡◌, ℕ, zero, suc, ◌+◌, ◌*◌, List, [], ◌∷◌, ◌++◌, length, Option, Some, None, arith}
 use Rattle.std.specs.Prelude.{Ok, Err, codes}
-use Rattle.wk_base.specs.declared.title.Title.{Title}
-use Rattle.page_run.specs.Outcome.{Outcome, Goes, Jumps}
-use Rattle.mw_html.specs.Render.{Piece, Whole, Deep, render}
-use Rattle.lua_heap.specs.Value.{Value, Text, Table, Markup, is_nil}
-use Rattle.lua_meaning.specs.Scope.{Bytes}
-use Rattle.lua_meaning.specs.Questions.{Asked, TemplateAsked, TextAsked, DataAsked}
-use Rattle.lua_meaning.specs.Values.{first, text_in, is_function}
-use Rattle.lua_meaning.specs.Acts.{Jump, Returned, Broke, Raised}
-use Rattle.lua_meaning.specs.Metatables.{handler}
-use Rattle.lua_meaning.specs.CallBacks.{text_of}
-use Rattle.lua_meaning.specs.Arguments.{Argument}
-use Rattle.lua_meaning.specs.Gsub.{Replacement, ByText, ByTable, ByFunction, Job, Far, Replacing, Search, NoMatch, Matched, search, GoesOnWith, replacement_given, with_piece}
-use Rattle.lua_meaning.specs.Pending.{Pending, PcallWaits, XpcallWaits, HandlerWaits, ToStringWaits, PairsWaits, GsubWaits, ModuleWaits}
-use Rattle.lua_meaning.specs.Start.{Failed, data_value}
-use Rattle.lua_meaning.proofs.GsubLaws.{matches_go_on}
+use Rattle.lua_slots.specs.WkBaseDeclaredTitleTitle.{Title}
+use Rattle.lua_slots.specs.PageRunOutcome.{Outcome, Goes, Jumps}
+use Rattle.lua_slots.specs.MwHtmlRender.{Piece, Whole, Deep, render}
+use Rattle.lua_slots.specs.LuaHeapValue.{Value, Text, Table, Markup, is_nil}
+use Rattle.lua_slots.specs.LuaMeaningScope.{Bytes}
+use Rattle.lua_slots.specs.LuaMeaningQuestions.{Asked, TemplateAsked, TextAsked, DataAsked}
+use Rattle.lua_slots.specs.LuaMeaningValues.{first, text_in, is_function}
+use Rattle.lua_slots.specs.LuaMeaningActs.{Jump, Returned, Broke, Raised}
+use Rattle.lua_slots.specs.LuaMeaningMetatables.{handler}
+use Rattle.lua_slots.specs.LuaMeaningCallBacks.{text_of}
+use Rattle.lua_slots.specs.LuaMeaningArguments.{Argument}
+use Rattle.lua_slots.specs.LuaMeaningGsub.{Replacement, ByText, ByTable, ByFunction, Job, Far, Replacing, Search, NoMatch, Matched, search, GoesOnWith, replacement_given, with_piece}
+use Rattle.lua_slots.specs.LuaMeaningPending.{Pending, PcallWaits, XpcallWaits, HandlerWaits, ToStringWaits, PairsWaits, GsubWaits, ModuleWaits}
+use Rattle.lua_slots.specs.LuaMeaningStart.{Failed, data_value}
+use Rattle.lua_slots.proofs.LuaMeaningGsubLaws.{matches_go_on}
 use Rattle.lua_slots.specs.Slots.{Slots}
 use Rattle.lua_slots.specs.Points.{SFrame, Waits, Texts, Now}
 use Rattle.lua_slots.specs.CallBacks as callbacks

@@ -1,19 +1,19 @@
 -- What is done with values leads, where it costs no step, below this weight.
 use Rattle.std.proofs.Common.{◌≡◌, ℕ, ◌+◌, ◌≤◌, ◌<◌, Bool, true, false, ◌||◌, List, [], ◌∷◌, Option, Some, None, arith}
 use Rattle.std.specs.Prelude.{ℤ, Result, Ok, Err, codes}
-use Rattle.lua_syntax.specs.declared.UnaryOp.{UnaryOp}
-use Rattle.lua_syntax.specs.declared.UnaryOp.TheVariants as sign
-use Rattle.lua_number.specs.declared.arithmetic.NumberFault.{NumberFault}
-use Rattle.lua_number.specs.Whole.{negative_of}
-use Rattle.lua_heap.specs.Proc.{Proc}
-use Rattle.lua_heap.specs.Value.{Value, Nil, Number, Text, Table, Closure, Builtin, Markup, is_nil, same}
-use Rattle.lua_heap.specs.Table.{get, has}
-use Rattle.lua_heap.specs.Heap.{table_at, closure_at, Closed, Function as FunctionClosed, Iterator}
-use Rattle.lua_meaning.specs.Scope.{Bytes, Place as TextPlace}
-use Rattle.lua_meaning.specs.Values.{number_in, text_in}
-use Rattle.lua_meaning.specs.Messages.{nth_level, cannot_call, cannot_calculate, cannot_concatenate, cannot_compare, nil_key, read_only}
-use Rattle.lua_meaning.specs.Metatables.{handler, either_handler, common_handler}
-use Rattle.lua_meaning.specs.Operators.{Arithmetic, Operator, Less, Greater, AtMost, AtLeast, Equal, Unequal, Concatenate, Calculate, result_of, event}
+use Rattle.lua_slots.specs.LuaSyntaxDeclaredUnaryOp.{UnaryOp}
+use Rattle.lua_slots.specs.LuaSyntaxDeclaredUnaryOpTheVariants as sign
+use Rattle.lua_slots.specs.LuaNumberDeclaredArithmeticNumberFault.{NumberFault}
+use Rattle.lua_slots.specs.LuaNumberWhole.{negative_of}
+use Rattle.lua_slots.specs.LuaHeapProc.{Proc}
+use Rattle.lua_slots.specs.LuaHeapValue.{Value, Nil, Number, Text, Table, Closure, Builtin, Markup, is_nil, same}
+use Rattle.lua_slots.specs.LuaHeapTable.{get, has}
+use Rattle.lua_slots.specs.LuaHeapHeap.{table_at, closure_at, Closed, Function as FunctionClosed, Iterator}
+use Rattle.lua_slots.specs.LuaMeaningScope.{Bytes, Place as TextPlace}
+use Rattle.lua_slots.specs.LuaMeaningValues.{number_in, text_in}
+use Rattle.lua_slots.specs.LuaMeaningMessages.{nth_level, cannot_call, cannot_calculate, cannot_concatenate, cannot_compare, nil_key, read_only}
+use Rattle.lua_slots.specs.LuaMeaningMetatables.{handler, either_handler, common_handler}
+use Rattle.lua_slots.specs.LuaMeaningOperators.{Arithmetic, Operator, Less, Greater, AtMost, AtLeast, Equal, Unequal, Concatenate, Calculate, result_of, event}
 use Rattle.lua_slots.specs.Slots.{Slots, levels_at}
 use Rattle.lua_slots.specs.Points.{IndexLinkS, SetLinkS, CallLinkS, SFrame, First, Verdict, Point, Starts, Move, Costs, Exits, Now}
 use Rattle.lua_slots.specs.Errors as errors

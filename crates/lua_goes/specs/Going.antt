@@ -1,12 +1,12 @@
 -- A MACHINE GOES ON: move after move, until an event.
 use Rattle.std.specs.Prelude.{◌≡◌, List, []}
-use Rattle.mw_frame.specs.declared.question.Ask.{Ask}
-use Rattle.page_run.specs.declared.which.Which.{Which}
-use Rattle.page_run.specs.Outcome.{Outcome}
-use Rattle.lua_heap.specs.Proc.{Proc}
-use Rattle.lua_heap.specs.Value.{Value}
-use Rattle.lua_heap.specs.Heap.{Heap}
-use Rattle.lua_meaning.specs.Acts.{Jump}
+use Rattle.lua_slots.specs.MwFrameDeclaredQuestionAsk.{Ask}
+use Rattle.lua_slots.specs.PageRunDeclaredWhichWhich.{Which}
+use Rattle.lua_slots.specs.PageRunOutcome.{Outcome}
+use Rattle.lua_slots.specs.LuaHeapProc.{Proc}
+use Rattle.lua_slots.specs.LuaHeapValue.{Value}
+use Rattle.lua_slots.specs.LuaHeapHeap.{Heap}
+use Rattle.lua_slots.specs.LuaMeaningActs.{Jump}
 use Rattle.lua_slots.specs.Code.{CWorld}
 use Rattle.lua_slots.specs.Slots.{Slots}
 use Rattle.lua_slots.specs.Points.{SFrame, Point, Gives, Asking, Move, Costs, Marks, Enters, Exits, Now}

@@ -1,10 +1,10 @@
 -- THE WEIGHT of what a machine does next and of the frames that wait: it falls in each move that costs no step. So between two steps
 -- there are only so many moves.
 use Rattle.std.specs.Prelude.{ℕ, ◌+◌, ◌*◌, List, [], ◌∷◌, length}
-use Rattle.page_run.specs.Outcome.{Outcome, Goes, Jumps}
-use Rattle.lua_heap.specs.Value.{Value}
-use Rattle.lua_meaning.specs.Acts.{Jump, Returned}
-use Rattle.lua_meaning.specs.Pending.{Pending, PcallWaits, XpcallWaits, HandlerWaits, ToStringWaits, PairsWaits, GsubWaits, ModuleWaits}
+use Rattle.lua_slots.specs.PageRunOutcome.{Outcome, Goes, Jumps}
+use Rattle.lua_slots.specs.LuaHeapValue.{Value}
+use Rattle.lua_slots.specs.LuaMeaningActs.{Jump, Returned}
+use Rattle.lua_slots.specs.LuaMeaningPending.{Pending, PcallWaits, XpcallWaits, HandlerWaits, ToStringWaits, PairsWaits, GsubWaits, ModuleWaits}
 use Rattle.lua_slots.specs.Points.{SFrame, First, Verdict, IndexNow, DecideNext, OperateNow, UnaryNow, ArgumentsNext, MethodNext, MethodNow, MoreNext, ItemNow, PairNow, FieldsNext, ItemsNext, TargetNow, AssignNow, SetsNext, DeclareNow, StatsNext, BranchNext, EachValues, EachEnd, Waits, Hears, ModuleFound, FunctionFound, AnswerNow, TextNow, DataNow}
 use Rattle.lua_slots.specs.Points.{Point, Gives, Evals, Lists, Finds, Sets, Runs, Starts, Texts, Asking, Works, Move, Costs, Marks, Enters, Exits, Now}
 

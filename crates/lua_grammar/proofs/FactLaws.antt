@@ -1,7 +1,7 @@
 -- The facts of chunks, as the contracts say them.
 use Rattle.std.proofs.Common.{ℕ, List, length, arith, lit≤}
 use Rattle.lua_lexer.specs.declared.token.Token.{Token}
-use Rattle.lua_syntax.specs.Tree.{Block}
+use Rattle.lua_lexer.specs.LuaSyntaxTree.{Block}
 use Rattle.lua_grammar.specs.Grammar.{given_tokens, SpellsChunk, IsChunk, outside}
 use Rattle.lua_grammar.specs.FactLaws.{ChunkFits, ChunkIsLow, TreesAreLow, NodesAreShallow}
 use Rattle.lua_grammar.proofs.Rules.{RuledBlock}

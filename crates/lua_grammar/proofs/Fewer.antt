@@ -7,7 +7,7 @@ use Rattle.lua_grammar.specs.declared.Context.{Context}
 use Rattle.lua_grammar.specs.declared.TokenClass.{TokenClass}
 use Rattle.lua_grammar.specs.declared.TokenClass.TheVariants.{Name, Text, Eof, Break, Do, Else, Elseif, End, False, For, Function, If, In, Local, Nil, Repeat, Return, Then, True, Until, While, Assign, LeftParen, RightParen, LeftBrace, RightBrace, LeftBracket, RightBracket, Semicolon, Colon, Comma, Dot, Dots}
 use Rattle.lua_grammar.specs.Grammar.{GivenTokens, Span, ◌⨟◌, ◌∣◌, none, where', word, text, node, valued, word_if, opens, ends, separator, under, before, in_loop, in_function, MoreNames, Names, Params, SpellsDot, SpellsName, SpellsPath, IsPath, IsMethodPath, mark_of, sign_of, left_level, right_level, Spells, SpellsArgs, SpellsAll, MoreExps, SpellsFields, SpellsFun, SpellsMethod, SpellsNamed, SpellsBlock, SpellsArms, MoreArms, SpellsStat, SpellsChunk, outside}
-use Rattle.lua_syntax.specs.Tree.{Exp, Exps, Fields, Fun, Block, Arms, Stat, NilE, TrueE, FalseE, NumberE, TextE, DotsE, FunctionE, NameE, IndexE, CallE, MethodE, TableE, BinaryE, UnaryE, ParenE, NoExp, MoreExp, NoField, Item, Pair, Lambda, NoStat, MoreStat, NoArm, Arm, AssignS, CallS, DoS, WhileS, RepeatS, IfS, IfElseS, CountS, CountByS, EachS, LocalFunctionS, LocalS, ReturnS, BreakS}
+use Rattle.lua_lexer.specs.LuaSyntaxTree.{Exp, Exps, Fields, Fun, Block, Arms, Stat, NilE, TrueE, FalseE, NumberE, TextE, DotsE, FunctionE, NameE, IndexE, CallE, MethodE, TableE, BinaryE, UnaryE, ParenE, NoExp, MoreExp, NoField, Item, Pair, Lambda, NoStat, MoreStat, NoArm, Arm, AssignS, CallS, DoS, WhileS, RepeatS, IfS, IfElseS, CountS, CountByS, EachS, LocalFunctionS, LocalS, ReturnS, BreakS}
 
 -- The first n tokens alone are given.
 abbrev pub first : ℕ → GivenTokens → GivenTokens

@@ -4,7 +4,7 @@ use Rattle.lua_grammar.specs.declared.Context.{Context}
 use Rattle.lua_grammar.specs.Grammar.{under, in_loop, in_function}
 use Rattle.lua_grammar.specs.Facts.{FitsExp, FitsExps, FitsFields, FitsFun, FitsBlock, FitsArms, FitsStat}
 use Rattle.lua_grammar.proofs.Rules.{RuledExp, RuledExps, RuledFields, RuledFun, RuledBlock, RuledArms, RuledStat}
-use Rattle.lua_syntax.specs.Tree.{Exp, Exps, Fields, Fun, Block, Arms, Stat, NilE, TrueE, FalseE, NumberE, TextE, DotsE, FunctionE, NameE, IndexE, CallE, MethodE, TableE, BinaryE, UnaryE, ParenE, NoExp, MoreExp, NoField, Item, Pair, Lambda, NoStat, MoreStat, NoArm, Arm, AssignS, CallS, DoS, WhileS, RepeatS, IfS, IfElseS, CountS, CountByS, EachS, LocalFunctionS, LocalS, ReturnS, BreakS}
+use Rattle.lua_lexer.specs.LuaSyntaxTree.{Exp, Exps, Fields, Fun, Block, Arms, Stat, NilE, TrueE, FalseE, NumberE, TextE, DotsE, FunctionE, NameE, IndexE, CallE, MethodE, TableE, BinaryE, UnaryE, ParenE, NoExp, MoreExp, NoField, Item, Pair, Lambda, NoStat, MoreStat, NoArm, Arm, AssignS, CallS, DoS, WhileS, RepeatS, IfS, IfElseS, CountS, CountByS, EachS, LocalFunctionS, LocalS, ReturnS, BreakS}
 
 mutual
   unfolding FitsExp RuledExp

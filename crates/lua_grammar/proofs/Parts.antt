@@ -10,7 +10,7 @@ use Rattle.lua_grammar.specs.Grammar.{GivenTokens, valued, ends, IsVar, AreVars,
 use Rattle.lua_grammar.specs.Facts.{IsNumeral, HasExp, HasName}
 use Rattle.lua_grammar.proofs.Rules.{RuledExp, RuledExps}
 use Rattle.lua_grammar.proofs.Within.{Within, Inside, is_word, is_text, nothing, loosely, nameless, one_token, with_rest, token_then, token_rest, leaf, node_between, never}
-use Rattle.lua_syntax.specs.Tree.{Exp, Exps, TextE, NameE, IndexE, NoExp, MoreExp}
+use Rattle.lua_lexer.specs.LuaSyntaxTree.{Exp, Exps, TextE, NameE, IndexE, NoExp, MoreExp}
 
 -- ---- numerals
 

@@ -7,7 +7,7 @@ use Rattle.lua_grammar.specs.Facts.{HasExp, HasArm}
 use Rattle.lua_grammar.proofs.Rules.{RuledExp, RuledExps, RuledFields, RuledFun, RuledBlock, RuledArms, RuledStat}
 use Rattle.lua_grammar.proofs.Within.{Within, Inside, is_word, is_text, is_opening, is_separator, nothing, loosely, told, and_also, one_token, only_where, condition, either, either_rest, rest_both, with_rest, rest_with, both, over_rest, then_rest, token_rest, token_then, rest_then_token, then_token, given_that, known_rest, node_then, leaf, node_between}
 use Rattle.lua_grammar.proofs.Parts.{value, prefix_end, names, params, dot_key, name_key, function_path, method_path}
-use Rattle.lua_syntax.specs.Tree.{Exp, Exps, Fields, Fun, Block, Arms, Stat, NilE, TrueE, FalseE, NumberE, TextE, DotsE, FunctionE, NameE, IndexE, CallE, MethodE, TableE, BinaryE, UnaryE, ParenE, NoExp, MoreExp, NoField, Item, Pair, Lambda, NoStat, MoreStat, NoArm, Arm, AssignS, CallS, DoS, WhileS, RepeatS, IfS, IfElseS, CountS, CountByS, EachS, LocalFunctionS, LocalS, ReturnS, BreakS}
+use Rattle.lua_lexer.specs.LuaSyntaxTree.{Exp, Exps, Fields, Fun, Block, Arms, Stat, NilE, TrueE, FalseE, NumberE, TextE, DotsE, FunctionE, NameE, IndexE, CallE, MethodE, TableE, BinaryE, UnaryE, ParenE, NoExp, MoreExp, NoField, Item, Pair, Lambda, NoStat, MoreStat, NoArm, Arm, AssignS, CallS, DoS, WhileS, RepeatS, IfS, IfElseS, CountS, CountByS, EachS, LocalFunctionS, LocalS, ReturnS, BreakS}
 
 alone-ruled : (rule : ℕ) (w : Context) (e : Exp) (es : Exps) → IsAlone e es → RuledExps rule w es
 unfolding RuledExp

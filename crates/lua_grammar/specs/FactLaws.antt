@@ -1,7 +1,7 @@
 -- Laws: what holds of the tree of every chunk.
 use Rattle.std.specs.Prelude.{ℕ, ◌+◌, ◌≤◌, List}
 use Rattle.lua_lexer.specs.declared.token.Token.{Token}
-use Rattle.lua_syntax.specs.Tree.{Exp, Exps, Fields, Fun, Block, Arms, Stat}
+use Rattle.lua_lexer.specs.LuaSyntaxTree.{Exp, Exps, Fields, Fun, Block, Arms, Stat}
 use Rattle.lua_grammar.specs.declared.Context.{Context}
 use Rattle.lua_grammar.specs.Grammar.{IsChunk}
 use Rattle.lua_grammar.specs.Facts.{FitsChunk, FitsExp, FitsExps, FitsFields, FitsFun, FitsBlock, FitsArms, FitsStat, IsShallow}

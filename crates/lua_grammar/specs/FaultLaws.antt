@@ -1,7 +1,7 @@
 -- Laws: a list of tokens has one first fault at most, and none where it spells a chunk.
 use Rattle.std.specs.Prelude.{◌≡◌, ℕ, ◌≤◌, List}
 use Rattle.lua_lexer.specs.declared.token.Token.{Token}
-use Rattle.lua_syntax.specs.Tree.{Block}
+use Rattle.lua_lexer.specs.LuaSyntaxTree.{Block}
 use Rattle.lua_grammar.specs.Grammar.{IsChunk, Begins, FirstFault}
 
 -- What begins a chunk with m tokens does so with fewer.

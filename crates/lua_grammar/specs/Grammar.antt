@@ -4,17 +4,17 @@
 -- out, spell it. Only the first `given` tokens are there: a place from `given` on is open, and whatever is asked of it holds. So
 -- the same cases say what a whole text is, where all of its tokens are given, and how a text may begin, where fewer are.
 use Rattle.std.specs.Prelude.{◌≡◌, ℕ, pred, suc, ◌<◌, ◌≤◌, ◌⊎◌, Bool, true, false, List, [], ◌∷◌, length, ℤ, Option, Some, None, nat_lt, cond, if◌then◌else◌, codes}
-use Rattle.lua_syntax.specs.declared.BinaryOp.{BinaryOp}
-use Rattle.lua_syntax.specs.declared.BinaryOp.TheVariants.{Or as OrOp, And as AndOp, Lt, Gt, Le, Ge, Ne, Eq, Concat, Add, Sub, Mul, Div, Mod, Pow}
-use Rattle.lua_syntax.specs.declared.UnaryOp.{UnaryOp}
-use Rattle.lua_syntax.specs.declared.UnaryOp.TheVariants.{Not as NotOp, Len, Minus as MinusOp}
+use Rattle.lua_lexer.specs.LuaSyntaxDeclaredBinaryOp.{BinaryOp}
+use Rattle.lua_lexer.specs.LuaSyntaxDeclaredBinaryOpTheVariants.{Or as OrOp, And as AndOp, Lt, Gt, Le, Ge, Ne, Eq, Concat, Add, Sub, Mul, Div, Mod, Pow}
+use Rattle.lua_lexer.specs.LuaSyntaxDeclaredUnaryOp.{UnaryOp}
+use Rattle.lua_lexer.specs.LuaSyntaxDeclaredUnaryOpTheVariants.{Not as NotOp, Len, Minus as MinusOp}
 use Rattle.lua_lexer.specs.declared.token.Token.{Token}
 use Rattle.lua_number.specs.Numerals.{read_numeral_of}
 use Rattle.lua_grammar.specs.declared.TokenClass.{TokenClass}
 use Rattle.lua_grammar.specs.declared.TokenClass.TheVariants.{Name, Number, Text, Eof, And, Break, Do, Else, Elseif, End, False, For, Function, If, In, Local, Nil, Not, Or, Repeat, Return, Then, True, Until, While, Plus, Minus, Star, Slash, Percent, Caret, Hash, EqEq, NotEq, LessEq, MoreEq, Less, More, Assign, LeftParen, RightParen, LeftBrace, RightBrace, LeftBracket, RightBracket, Semicolon, Colon, Comma, Dot, DotDot, Dots}
 use Rattle.lua_grammar.specs.declared.Context.{Context}
 use Rattle.lua_grammar.specs.Tokens.{class_of, bytes_of, tok_at}
-use Rattle.lua_syntax.specs.Tree.{Exp, Exps, Fields, Fun, Block, Arms, Stat, NilE, TrueE, FalseE, NumberE, TextE, DotsE, FunctionE, NameE, IndexE, CallE, MethodE, TableE, BinaryE, UnaryE, ParenE, NoExp, MoreExp, NoField, Item, Pair, Lambda, NoStat, MoreStat, NoArm, Arm, AssignS, CallS, DoS, WhileS, RepeatS, IfS, IfElseS, CountS, CountByS, EachS, LocalFunctionS, LocalS, ReturnS, BreakS}
+use Rattle.lua_lexer.specs.LuaSyntaxTree.{Exp, Exps, Fields, Fun, Block, Arms, Stat, NilE, TrueE, FalseE, NumberE, TextE, DotsE, FunctionE, NameE, IndexE, CallE, MethodE, TableE, BinaryE, UnaryE, ParenE, NoExp, MoreExp, NoField, Item, Pair, Lambda, NoStat, MoreStat, NoArm, Arm, AssignS, CallS, DoS, WhileS, RepeatS, IfS, IfElseS, CountS, CountByS, EachS, LocalFunctionS, LocalS, ReturnS, BreakS}
 
 -- The tokens, how many of them are given, and the number of the one fault that the tree must be free of: 6 to 10, where 5 asks for
 -- the grammar alone.

@@ -1,7 +1,7 @@
 -- TREES THAT NO TEXT SPELLS, for each of the facts of a chunk one or two that lack it
 use Rattle.std.specs.Prelude.{true, false, [], pos, negsuc}
 use Rattle.lua_grammar.specs.Facts.{FitsChunk, FitsExp}
-use Rattle.lua_syntax.specs.Tree.{Exp, Exps, Block, Stat, TrueE, NumberE, DotsE, FunctionE, NameE, NoExp, MoreExp, Lambda, NoStat, MoreStat, NoArm, AssignS, CallS, WhileS, IfS, EachS, LocalS, ReturnS, BreakS}
+use Rattle.lua_lexer.specs.LuaSyntaxTree.{Exp, Exps, Block, Stat, TrueE, NumberE, DotsE, FunctionE, NameE, NoExp, MoreExp, Lambda, NoStat, MoreStat, NoArm, AssignS, CallS, WhileS, IfS, EachS, LocalS, ReturnS, BreakS}
 
 -- The statement alone is no chunk.
 abbrev pub Refused : Stat → Type 0

@@ -1,12 +1,12 @@
 -- Blocks and the arms of `if` are unique.
 use Rattle.std.proofs.Common.{◌≡◌, ℕ, [], ◌+◌, ◌<◌, Bool, true, false, List, length, refl, sym, ◌∙◌, arith, true≢false}
-use Rattle.lua_lexer.specs.declared.token.Token.{Token}
-use Rattle.lua_grammar.specs.declared.TokenClass.{TokenClass}
-use Rattle.lua_grammar.specs.declared.TokenClass.TheVariants.{Semicolon, Then}
-use Rattle.lua_grammar.specs.declared.Context.{Context}
-use Rattle.lua_grammar.specs.Tokens.{class_at}
-use Rattle.lua_syntax.specs.Tree.{Exp, Block, Arms, Stat, NoStat, MoreStat}
-use Rattle.lua_grammar.specs.Grammar.{SpellsBlock}
+use Rattle.lua_reading.specs.LuaLexerDeclaredTokenToken.{Token}
+use Rattle.lua_reading.specs.LuaGrammarDeclaredTokenClass.{TokenClass}
+use Rattle.lua_reading.specs.LuaGrammarDeclaredTokenClassTheVariants.{Semicolon, Then}
+use Rattle.lua_reading.specs.LuaGrammarDeclaredContext.{Context}
+use Rattle.lua_reading.specs.LuaGrammarTokens.{class_at}
+use Rattle.lua_reading.specs.LuaSyntaxTree.{Exp, Block, Arms, Stat, NoStat, MoreStat}
+use Rattle.lua_reading.specs.LuaGrammarGrammar.{SpellsBlock}
 use Rattle.lua_reading.specs.Parsing.{high, exp_lang, block_lang, arms_lang, stat_lang, goes_on, block_goes, arms_goes, goes_after}
 use Rattle.lua_reading.proofs.pieces.Steps.{Word, follows_word, follows_done}
 use Rattle.lua_reading.proofs.statements.Begins.{stat_begins}

@@ -1,12 +1,12 @@
 -- Names, parameters, bodies of functions and the names of functions are unique.
 use Rattle.std.proofs.Common.{◌≡◌, ◌≢◌, ℕ, zero, suc, [], ◌∷◌, ◌+◌, ◌<◌, ◌≤◌, ◌⊎◌, Bool, true, false, List, length, refl, sym, ap, subst, ◌∙◌, inl, inr, le_refl, arith, true≢false}
-use Rattle.lua_lexer.specs.declared.token.Token.{Token}
-use Rattle.lua_grammar.specs.declared.TokenClass.{TokenClass}
-use Rattle.lua_grammar.specs.declared.TokenClass.TheVariants.{Name, RightParen, Comma, Dots, Dot, Colon, End}
-use Rattle.lua_grammar.specs.declared.Context.{Context}
-use Rattle.lua_grammar.specs.Tokens.{class_at, tok_at, bytes_of}
-use Rattle.lua_syntax.specs.Tree.{Exp, Fun, NameE}
-use Rattle.lua_grammar.specs.Grammar.{in_function, SpellsPath}
+use Rattle.lua_reading.specs.LuaLexerDeclaredTokenToken.{Token}
+use Rattle.lua_reading.specs.LuaGrammarDeclaredTokenClass.{TokenClass}
+use Rattle.lua_reading.specs.LuaGrammarDeclaredTokenClassTheVariants.{Name, RightParen, Comma, Dots, Dot, Colon, End}
+use Rattle.lua_reading.specs.LuaGrammarDeclaredContext.{Context}
+use Rattle.lua_reading.specs.LuaGrammarTokens.{class_at, tok_at, bytes_of}
+use Rattle.lua_reading.specs.LuaSyntaxTree.{Exp, Fun, NameE}
+use Rattle.lua_reading.specs.LuaGrammarGrammar.{in_function, SpellsPath}
 use Rattle.lua_reading.specs.Parsing.{Stops, nothing, names_goes, block_goes}
 use Rattle.lua_reading.specs.Answers.{Parameters, params_lang, params_goes, body_lang}
 use Rattle.lua_reading.specs.StatAnswers.{more_names_lang, Head, head_lang, head_goes}

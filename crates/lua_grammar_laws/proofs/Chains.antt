@@ -1,13 +1,13 @@
 -- Two trees with one left end, of operators or of suffixes, are one tree.
 use Rattle.std.proofs.Common.{◌≡◌, ℕ, zero, suc, ◌+◌, ◌<◌, ◌≤◌, ◌⊎◌, true, false, List, length, refl, sym, ap, subst, ◌∙◌, inl, inr, le_trans, le_refl, arith, true≢false}
-use Rattle.lua_lexer.specs.declared.token.Token.{Token}
-use Rattle.lua_syntax.specs.declared.BinaryOp.{BinaryOp}
-use Rattle.lua_grammar.specs.declared.TokenClass.{TokenClass}
-use Rattle.lua_grammar.specs.declared.TokenClass.TheVariants.{Eof}
-use Rattle.lua_grammar.specs.declared.Context.{Context}
-use Rattle.lua_grammar.specs.Tokens.{class_at, tok_at}
-use Rattle.lua_syntax.specs.Tree.{Exp, BinaryE}
-use Rattle.lua_grammar.specs.Grammar.{given_tokens, Spells, mark_of, level, right_level, suffix_goes}
+use Rattle.lua_reading.specs.LuaLexerDeclaredTokenToken.{Token}
+use Rattle.lua_reading.specs.LuaSyntaxDeclaredBinaryOp.{BinaryOp}
+use Rattle.lua_reading.specs.LuaGrammarDeclaredTokenClass.{TokenClass}
+use Rattle.lua_reading.specs.LuaGrammarDeclaredTokenClassTheVariants.{Eof}
+use Rattle.lua_reading.specs.LuaGrammarDeclaredContext.{Context}
+use Rattle.lua_reading.specs.LuaGrammarTokens.{class_at, tok_at}
+use Rattle.lua_reading.specs.LuaSyntaxTree.{Exp, BinaryE}
+use Rattle.lua_reading.specs.LuaGrammarGrammar.{given_tokens, Spells, mark_of, level, right_level, suffix_goes}
 use Rattle.lua_reading.specs.Parsing.{Stops, high, exp_lang, prefix_lang, operand_lang, nothing, goes_on}
 use Rattle.lua_reading.specs.Answers.{primary_lang, suffix_lang}
 use Rattle.lua_reading.proofs.levels.Levels.{same_mark, goes, mark-not_eof, level-low, right-low}

@@ -1,17 +1,17 @@
 -- Operands, suffixes, arguments and lists are unique where what they are made of is unique behind their first token.
 use Rattle.std.proofs.Common.{◌≡◌, ◌≢◌, ℕ, suc, ◌+◌, ◌<◌, ◌≤◌, ◌⊎◌, Bool, true, false, List, length, refl, sym, ap, subst, ◌∙◌, inl, inr, le_refl, arith, true≢false, add-one, Some}
 use Rattle.std.specs.Prelude.{ℤ}
-use Rattle.wk_base.proofs.Options.{some_same}
-use Rattle.lua_lexer.specs.declared.token.Token.{Token}
-use Rattle.lua_number.specs.Numerals.{read_numeral_of}
-use Rattle.lua_syntax.specs.declared.UnaryOp.{UnaryOp}
-use Rattle.lua_syntax.specs.declared.UnaryOp.TheVariants.{Not as NotOp, Len, Minus as MinusOp}
-use Rattle.lua_grammar.specs.declared.TokenClass.{TokenClass}
-use Rattle.lua_grammar.specs.declared.TokenClass.TheVariants.{Name, Number, Text, Nil, True, False, Dots, Function, Not, Hash, Minus, LeftParen, RightParen, LeftBrace, RightBrace, LeftBracket, RightBracket, Colon, Comma, Dot}
-use Rattle.lua_grammar.specs.declared.Context.{Context}
-use Rattle.lua_grammar.specs.Tokens.{class_at, tok_at, bytes_of}
-use Rattle.lua_syntax.specs.Tree.{Exp, Exps, NumberE, TextE, DotsE, TableE, BinaryE, UnaryE, NoExp, MoreExp}
-use Rattle.lua_grammar.specs.Grammar.{given_tokens, ◌⨟◌, where', word, Spells, SpellsArgs, SpellsAll, IsPrefix, IsAlone, sign_of, suffix_goes}
+use Rattle.lua_reading.proofs.WkBaseOptions.{some_same}
+use Rattle.lua_reading.specs.LuaLexerDeclaredTokenToken.{Token}
+use Rattle.lua_reading.specs.LuaNumberNumerals.{read_numeral_of}
+use Rattle.lua_reading.specs.LuaSyntaxDeclaredUnaryOp.{UnaryOp}
+use Rattle.lua_reading.specs.LuaSyntaxDeclaredUnaryOpTheVariants.{Not as NotOp, Len, Minus as MinusOp}
+use Rattle.lua_reading.specs.LuaGrammarDeclaredTokenClass.{TokenClass}
+use Rattle.lua_reading.specs.LuaGrammarDeclaredTokenClassTheVariants.{Name, Number, Text, Nil, True, False, Dots, Function, Not, Hash, Minus, LeftParen, RightParen, LeftBrace, RightBrace, LeftBracket, RightBracket, Colon, Comma, Dot}
+use Rattle.lua_reading.specs.LuaGrammarDeclaredContext.{Context}
+use Rattle.lua_reading.specs.LuaGrammarTokens.{class_at, tok_at, bytes_of}
+use Rattle.lua_reading.specs.LuaSyntaxTree.{Exp, Exps, NumberE, TextE, DotsE, TableE, BinaryE, UnaryE, NoExp, MoreExp}
+use Rattle.lua_reading.specs.LuaGrammarGrammar.{given_tokens, ◌⨟◌, where', word, Spells, SpellsArgs, SpellsAll, IsPrefix, IsAlone, sign_of, suffix_goes}
 use Rattle.lua_reading.specs.Parsing.{Stops, high, exp_lang, prefix_lang, args_lang, all_lang, operand_lang, nothing, goes_on, exps_goes, fields_goes, IsOperand}
 use Rattle.lua_reading.specs.Answers.{primary_lang, suffix_lang, name_lang}
 use Rattle.lua_reading.proofs.pieces.Steps.{Done, Word, Here, Reads, follows_word, follows_done, follows_either, follows_nothing}

@@ -1,12 +1,12 @@
 -- Fields of table constructors are unique where expressions are.
 use Rattle.std.proofs.Common.{◌≡◌, ◌≢◌, ℕ, suc, ◌+◌, ◌<◌, ◌≤◌, Bool, true, false, List, length, refl, sym, ap, subst, ◌∙◌, inl, inr, arith, true≢false, add-one}
-use Rattle.lua_lexer.specs.declared.token.Token.{Token}
-use Rattle.lua_grammar.specs.declared.TokenClass.{TokenClass}
-use Rattle.lua_grammar.specs.declared.TokenClass.TheVariants.{Name, LeftBracket, RightBracket, RightBrace, Assign}
-use Rattle.lua_grammar.specs.declared.Context.{Context}
-use Rattle.lua_grammar.specs.Tokens.{class_at}
-use Rattle.lua_syntax.specs.Tree.{Exp, Fields, TextE, NoField, Item, Pair}
-use Rattle.lua_grammar.specs.Grammar.{SpellsFields}
+use Rattle.lua_reading.specs.LuaLexerDeclaredTokenToken.{Token}
+use Rattle.lua_reading.specs.LuaGrammarDeclaredTokenClass.{TokenClass}
+use Rattle.lua_reading.specs.LuaGrammarDeclaredTokenClassTheVariants.{Name, LeftBracket, RightBracket, RightBrace, Assign}
+use Rattle.lua_reading.specs.LuaGrammarDeclaredContext.{Context}
+use Rattle.lua_reading.specs.LuaGrammarTokens.{class_at}
+use Rattle.lua_reading.specs.LuaSyntaxTree.{Exp, Fields, TextE, NoField, Item, Pair}
+use Rattle.lua_reading.specs.LuaGrammarGrammar.{SpellsFields}
 use Rattle.lua_reading.specs.Parsing.{Stops, high, exp_lang, fields_lang, nothing, goes_on, fields_goes}
 use Rattle.lua_reading.specs.Answers.{field_lang, field_goes, IsItem}
 use Rattle.lua_reading.proofs.pieces.Steps.{Rest, Done, Here, Either, Follows, follows_word, follows_done, follows_nothing}

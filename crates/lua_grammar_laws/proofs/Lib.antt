@@ -1,3 +1,4 @@
+pub use Rattle.lua_reading.proofs.LuaLexerLists as LuaLexerLists
 pub mod Rests
 pub mod Chains
 pub mod Expressions

@@ -1,13 +1,13 @@
 -- A list of tokens, and so a text, spells one chunk at most.
 use Rattle.std.proofs.Common.{◌≡◌, ℕ, zero, suc, pred, ◌+◌, ◌<◌, ◌≤◌, ◌⊎◌, List, length, sym, ap, subst, inl, inr, le_refl, arith, eq-or-lt_of_le}
-use Rattle.lua_lexer.specs.declared.token.Token.{Token}
-use Rattle.lua_lexer.specs.Lexis.{Lexes}
-use Rattle.lua_lexer.proofs.Lists.{one_list}
-use Rattle.lua_grammar.specs.declared.TokenClass.TheVariants.{Eof}
-use Rattle.lua_grammar.specs.declared.Context.{Context}
-use Rattle.lua_grammar.specs.Tokens.{class_at}
-use Rattle.lua_syntax.specs.Tree.{Exp, Exps, Fields, Fun, Block, Arms}
-use Rattle.lua_grammar.specs.Grammar.{given_tokens, suffix_goes, outside, SpellsChunk, IsChunk}
+use Rattle.lua_reading.specs.LuaLexerDeclaredTokenToken.{Token}
+use Rattle.lua_reading.specs.LuaLexerLexis.{Lexes}
+use Rattle.lua_reading.proofs.LuaLexerLists.{one_list}
+use Rattle.lua_reading.specs.LuaGrammarDeclaredTokenClassTheVariants.{Eof}
+use Rattle.lua_reading.specs.LuaGrammarDeclaredContext.{Context}
+use Rattle.lua_reading.specs.LuaGrammarTokens.{class_at}
+use Rattle.lua_reading.specs.LuaSyntaxTree.{Exp, Exps, Fields, Fun, Block, Arms}
+use Rattle.lua_reading.specs.LuaGrammarGrammar.{given_tokens, suffix_goes, outside, SpellsChunk, IsChunk}
 use Rattle.lua_reading.specs.Parsing.{Stops, nothing, goes_on, exps_goes, names_goes, fields_goes, block_goes, arms_goes, exp_lang, all_lang, args_lang, fields_lang, block_lang, arms_lang, prefix_lang, operand_lang}
 use Rattle.lua_reading.specs.Answers.{suffix_lang, body_lang, params_goes, Parameters}
 use Rattle.lua_reading.specs.StatAnswers.{more_names_lang}

@@ -4,13 +4,13 @@
 -- What is left of a tree is a `Rest`, and both trees are read by the same one: so one lemma, `alike`, serves all sequences of the
 -- grammar, once each piece is known to be unique at the places where it may begin.
 use Rattle.std.proofs.Common.{◌≡◌, ◌≢◌, ℕ, suc, pred, ◌+◌, ◌<◌, ◌≤◌, ◌⊎◌, Bool, true, false, List, length, sym, ap, subst, ◌∙◌, inl, inr, le_refl, arith, true≢false, eq-or-lt_of_le}
-use Rattle.lua_lexer.specs.declared.token.Token.{Token}
-use Rattle.lua_grammar.specs.declared.TokenClass.{TokenClass}
-use Rattle.lua_grammar.specs.declared.TokenClass.TheVariants.{Eof, Name}
-use Rattle.lua_grammar.specs.declared.Context.{Context}
-use Rattle.lua_grammar.specs.Tokens.{class_at}
-use Rattle.lua_syntax.specs.Tree.{Exp, Exps, Fields, Fun, Block, Arms}
-use Rattle.lua_grammar.specs.Grammar.{suffix_goes}
+use Rattle.lua_reading.specs.LuaLexerDeclaredTokenToken.{Token}
+use Rattle.lua_reading.specs.LuaGrammarDeclaredTokenClass.{TokenClass}
+use Rattle.lua_reading.specs.LuaGrammarDeclaredTokenClassTheVariants.{Eof, Name}
+use Rattle.lua_reading.specs.LuaGrammarDeclaredContext.{Context}
+use Rattle.lua_reading.specs.LuaGrammarTokens.{class_at}
+use Rattle.lua_reading.specs.LuaSyntaxTree.{Exp, Exps, Fields, Fun, Block, Arms}
+use Rattle.lua_reading.specs.LuaGrammarGrammar.{suffix_goes}
 use Rattle.lua_reading.specs.Parsing.{Lang, Stops, nothing, goes_on, exps_goes, names_goes, fields_goes, block_goes, arms_goes, exp_lang, all_lang, args_lang, fields_lang, block_lang, arms_lang, prefix_lang}
 use Rattle.lua_reading.specs.Answers.{suffix_lang, body_lang, params_goes, Parameters}
 use Rattle.lua_reading.specs.StatAnswers.{more_names_lang}

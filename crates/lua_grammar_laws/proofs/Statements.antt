@@ -1,12 +1,12 @@
 -- Statements are unique where what they are made of is unique behind their first token.
 use Rattle.std.proofs.Common.{◌≡◌, ◌≢◌, ℕ, suc, ◌∷◌, ◌+◌, ◌<◌, ◌≤◌, Bool, false, List, length, refl, sym, ap, subst, ◌∙◌, inl, inr, le_refl, arith, true≢false}
-use Rattle.lua_lexer.specs.declared.token.Token.{Token}
-use Rattle.lua_grammar.specs.declared.TokenClass.{TokenClass}
-use Rattle.lua_grammar.specs.declared.TokenClass.TheVariants.{Name, Break, Do, End, For, Function, If, In, Local, Repeat, Return, Until, While, Assign, Comma, LeftParen}
-use Rattle.lua_grammar.specs.declared.Context.{Context}
-use Rattle.lua_grammar.specs.Tokens.{class_at, tok_at}
-use Rattle.lua_syntax.specs.Tree.{Exp, Exps, Fun, Block, Stat, NameE, IndexE, NoExp, MoreExp, CountS, CountByS, EachS, LocalS, ReturnS, BreakS}
-use Rattle.lua_grammar.specs.Grammar.{given_tokens, in_loop, MoreExps, SpellsStat, suffix_goes}
+use Rattle.lua_reading.specs.LuaLexerDeclaredTokenToken.{Token}
+use Rattle.lua_reading.specs.LuaGrammarDeclaredTokenClass.{TokenClass}
+use Rattle.lua_reading.specs.LuaGrammarDeclaredTokenClassTheVariants.{Name, Break, Do, End, For, Function, If, In, Local, Repeat, Return, Until, While, Assign, Comma, LeftParen}
+use Rattle.lua_reading.specs.LuaGrammarDeclaredContext.{Context}
+use Rattle.lua_reading.specs.LuaGrammarTokens.{class_at, tok_at}
+use Rattle.lua_reading.specs.LuaSyntaxTree.{Exp, Exps, Fun, Block, Stat, NameE, IndexE, NoExp, MoreExp, CountS, CountByS, EachS, LocalS, ReturnS, BreakS}
+use Rattle.lua_reading.specs.LuaGrammarGrammar.{given_tokens, in_loop, MoreExps, SpellsStat, suffix_goes}
 use Rattle.lua_reading.specs.Parsing.{Stops, high, prefix_lang, stat_lang, nothing, goes_on, exps_goes, names_goes, stat_goes, last_goes, block_goes, arms_goes, goes_after}
 use Rattle.lua_reading.specs.StatAnswers.{head_goes, Opening, do_lang}
 use Rattle.lua_reading.proofs.pieces.Steps.{Rest, Done, Word, Named, Here, Under, Either, Reads, follows_word, follows_done, follows_either, follows_nothing}

@@ -1,9 +1,9 @@
 //! What is spelled is spelled once, whatever reads it.
 ghost use Rattle.std.specs.Prelude.{◌≡◌, ℕ, List};
-ghost use Rattle.lua_lexer.specs.declared.token.Token.{Token};
-ghost use Rattle.lua_lexer.specs.Lexis.{Lexes};
-ghost use Rattle.lua_syntax.specs.Tree.{Block};
-ghost use Rattle.lua_grammar.specs.Grammar.{IsChunk};
+ghost use Rattle.lua_reading.specs.LuaLexerDeclaredTokenToken.{Token};
+ghost use Rattle.lua_reading.specs.LuaLexerLexis.{Lexes};
+ghost use Rattle.lua_reading.specs.LuaSyntaxTree.{Block};
+ghost use Rattle.lua_reading.specs.LuaGrammarGrammar.{IsChunk};
 
 /// A list of tokens spells one chunk at most (manual 8).
 #[tactic(auto, using(crate::proofs::Once::spelled_once))]

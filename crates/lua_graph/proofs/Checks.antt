@@ -4,11 +4,11 @@ use Rattle.std.specs.Prelude.{Ok, Err, if◌then◌else◌, MatchOption}
 use Rattle.std.specs.List.{AllByRecursion, IsDistinct}
 use Rattle.std.specs.Str.{bytes_eq}
 use Rattle.std.proofs.lemmas.List.{map-append}
-use Rattle.lua_table.specs.Entries.{Contents}
-use Rattle.lua_heap.specs.Value as heap
-use Rattle.lua_heap.specs.Value.{is_nil}
-use Rattle.lua_heap.specs.Table.{Entries}
-use Rattle.lua_heap.specs.Graph.{Graph}
+use Rattle.lua_walk.specs.LuaTableEntries.{Contents}
+use Rattle.lua_walk.specs.LuaHeapValue as heap
+use Rattle.lua_walk.specs.LuaHeapValue.{is_nil}
+use Rattle.lua_store.specs.LuaHeapTable.{Entries}
+use Rattle.lua_walk.specs.LuaHeapGraph.{Graph}
 use Rattle.lua_walk.specs.Order.{live}
 use Rattle.lua_walk.specs.Data as walk
 use Rattle.lua_walk.specs.Data.{Checked, Fault, on_ok, all_ok, entry_of, node_of, with_text_of, with_texts_of_entries, with_texts_of}

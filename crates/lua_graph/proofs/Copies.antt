@@ -7,12 +7,12 @@ use Rattle.std.specs.Option.{option_map}
 use Rattle.std.proofs.Math.ListN.{get_or-append}
 use Rattle.std.proofs.lemmas.List.{length-map, length-take, take_all, take_more}
 use Rattle.std.proofs.lemmas.Option.{none-some, slice_get_within, get_or_from_slice_get}
-use Rattle.lua_table.specs.Entries.{Contents}
-use Rattle.lua_heap.specs.Value.{Value, Nil, Truth, Number, Text, Table, Closure, Builtin, Markup, same, is_nil}
-use Rattle.lua_heap.specs.Table.{Entries, HasValueKeys, empty_table}
-use Rattle.lua_heap.specs.Heap.{Heap, tab, TableObj, table_at, put, with_entry, set_meta_in}
-use Rattle.lua_heap.proofs.Names.{all-split}
-use Rattle.lua_heap.proofs.Places.{some_back, get-map}
+use Rattle.lua_walk.specs.LuaTableEntries.{Contents}
+use Rattle.lua_walk.specs.LuaHeapValue.{Value, Nil, Truth, Number, Text, Table, Closure, Builtin, Markup, same, is_nil}
+use Rattle.lua_store.specs.LuaHeapTable.{Entries, HasValueKeys, empty_table}
+use Rattle.lua_walk.specs.LuaHeapHeap.{Heap, tab, TableObj, table_at, put, with_entry, set_meta_in}
+use Rattle.lua_walk.proofs.LuaHeapNames.{all-split}
+use Rattle.lua_store.proofs.LuaHeapPlaces.{some_back, get-map}
 use Rattle.lua_walk.specs.Order.{place_of, live}
 use Rattle.lua_walk.specs.Laws.{table_in, links}
 use Rattle.lua_walk.specs.Copy.{copy_of, copied_table, copies}

@@ -1,9 +1,9 @@
 -- Steps are taken part by part.
 use Rattle.std.proofs.Common.{◌≡◌, ℕ, ◌+◌, ◌-◌, ◌≤◌, ◌<◌, Bool, true, false, true≢false, List, drop, slice_get, Some, None, refl, sym, ap, ◌∙◌, arith, IsTrue}
 use Rattle.std.specs.Prelude.{◌↔◌}
-use Rattle.lua_heap.specs.Heap.{Heap, table_at}
+use Rattle.lua_walk.specs.LuaHeapHeap.{Heap, table_at}
 use Rattle.lua_walk.specs.Copy.{tables_cost}
-use Rattle.wk_base.specs.declared.left.Left.{Left}
+use Rattle.lua_store.specs.WkBaseDeclaredLeftLeft.{Left}
 use Rattle.lua_graph.specs.Copied.{table_cost}
 use Rattle.lua_graph.proofs.Places.{drop_at, drop_past}
 

@@ -3,11 +3,11 @@ use Rattle.std.proofs.Common.{◌≡◌, ℕ, Bool, true, false, true≢false, [
 use Rattle.std.specs.Prelude.{if◌then◌else◌}
 use Rattle.std.specs.List.{AllByRecursion, IsDistinct}
 use Rattle.std.specs.Map.{keys_of}
-use Rattle.lua_heap.specs.Value.{Value, Nil, Truth, Number, Text, Table, Closure, Builtin, Markup, same, is_nil}
-use Rattle.lua_heap.specs.Table.{Entries, set, HasValueKeys}
-use Rattle.lua_heap.specs.Graph as plain
-use Rattle.lua_heap.specs.Graph.{IsKey, IsItem, IsDatum, IsGraph, shift, shift_entries}
-use Rattle.lua_heap.proofs.Values.{same-alike, same-true}
+use Rattle.lua_walk.specs.LuaHeapValue.{Value, Nil, Truth, Number, Text, Table, Closure, Builtin, Markup, same, is_nil}
+use Rattle.lua_store.specs.LuaHeapTable.{Entries, set, HasValueKeys}
+use Rattle.lua_walk.specs.LuaHeapGraph as plain
+use Rattle.lua_walk.specs.LuaHeapGraph.{IsKey, IsItem, IsDatum, IsGraph, shift, shift_entries}
+use Rattle.lua_walk.proofs.LuaHeapValues.{same-alike, same-true}
 use Rattle.lua_graph.proofs.Joining.{all_set}
 
 abbrev Differs : Value → Value × Value → Type 0

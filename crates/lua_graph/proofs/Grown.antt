@@ -10,9 +10,9 @@ use Rattle.std.proofs.lemmas.List.{length-append, length-map, map-append}
 use Rattle.std.proofs.lemmas.Slice.Eq.{bytes_eq-Decides}
 use Rattle.std.proofs.lemmas.Bool.Decides.{Decides-eqb}
 use Rattle.std.proofs.lemmas.Bool.{eqb-true}
-use Rattle.lua_heap.specs.Value as heap
-use Rattle.lua_heap.specs.Value.{is_nil}
-use Rattle.lua_heap.proofs.Values.{both_ways}
+use Rattle.lua_walk.specs.LuaHeapValue as heap
+use Rattle.lua_walk.specs.LuaHeapValue.{is_nil}
+use Rattle.lua_walk.proofs.LuaHeapValues.{both_ways}
 use Rattle.lua_walk.specs.Data as walk
 use Rattle.lua_walk.specs.Data.{Checked, Fault, on_ok, with_text, with_text_of}
 use Rattle.lua_store.specs.declared.ids.TextId.{TextId}

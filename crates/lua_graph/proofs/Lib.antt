@@ -1,3 +1,6 @@
+pub use Rattle.lua_store.proofs.Later as LuaStoreLater
+pub use Rattle.lua_store.proofs.Lists as LuaStoreLists
+pub use Rattle.lua_walk.proofs.WalkLaws as LuaWalkWalkLaws
 pub mod Steps
 pub mod Joining
 pub mod Distinct

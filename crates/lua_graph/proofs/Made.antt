@@ -4,12 +4,12 @@ use Rattle.std.specs.Option.{option_map}
 use Rattle.std.specs.Prelude.{Ok}
 use Rattle.std.specs.List.{AllByRecursion}
 use Rattle.std.proofs.lemmas.List.{length-map}
-use Rattle.lua_heap.specs.Value as heap
-use Rattle.lua_table.specs.Entries.{Contents}
-use Rattle.lua_heap.specs.Heap.{Heap, Obj, tab, TableObj, table_at}
-use Rattle.lua_heap.specs.Proc.{Proc, proc_names}
-use Rattle.lua_heap.specs.Reach.{is_there}
-use Rattle.lua_heap.specs.Graph.{IsKey, IsItem, IsDatum, IsGraph}
+use Rattle.lua_walk.specs.LuaHeapValue as heap
+use Rattle.lua_walk.specs.LuaTableEntries.{Contents}
+use Rattle.lua_walk.specs.LuaHeapHeap.{Heap, Obj, tab, TableObj, table_at}
+use Rattle.lua_store.specs.LuaHeapProc.{Proc, proc_names}
+use Rattle.lua_walk.specs.LuaHeapReach.{is_there}
+use Rattle.lua_walk.specs.LuaHeapGraph.{IsKey, IsItem, IsDatum, IsGraph}
 use Rattle.lua_walk.specs.Order.{reached}
 use Rattle.lua_walk.specs.Data.{all_ok, node_of, taken}
 use Rattle.lua_walk.specs.Laws.{IsOrder}

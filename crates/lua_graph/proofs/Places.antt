@@ -7,10 +7,10 @@ use Rattle.std.proofs.lemmas.Bool.Decides.{nat_tests}
 use Rattle.std.proofs.lemmas.List.{length-map}
 use Rattle.std.specs.Option.{option_map}
 use Rattle.std.proofs.lemmas.Option.{none-some}
-use Rattle.lua_heap.proofs.Places.{get-map}
+use Rattle.lua_store.proofs.LuaHeapPlaces.{get-map}
 use Rattle.lua_store.specs.declared.ids.TableId.{TableId}
 use Rattle.lua_store.specs.contracts.ids.TableIdPartialEq.TheImpl.{ghosts}
-use Rattle.lua_heap.specs.Heap.{Heap, table_at}
+use Rattle.lua_walk.specs.LuaHeapHeap.{Heap, table_at}
 use Rattle.lua_walk.specs.Order.{place_of, with_table, with_links, visit, go_on}
 use Rattle.lua_graph.specs.Taken.{places}
 

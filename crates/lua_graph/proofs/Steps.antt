@@ -5,8 +5,8 @@ use Rattle.lua_store.specs.declared.ids.TextId.{TextId}
 use Rattle.lua_store.specs.declared.ids.TableId.{TableId}
 use Rattle.lua_store.specs.Seen.{StoreView, text_at}
 use Rattle.lua_store.specs.Parts.{IsTextOf, IsTableOf, IsLater}
-use Rattle.lua_heap.specs.Table.{empty_table}
-use Rattle.lua_heap.specs.Heap.{Heap, new_table}
+use Rattle.lua_store.specs.LuaHeapTable.{empty_table}
+use Rattle.lua_walk.specs.LuaHeapHeap.{Heap, new_table}
 use Rattle.lua_graph.specs.Put.{named, AreFrom, grown}
 
 names_stay : (s t : StoreView) (ns : List TextId) → IsLater s t → AllByRecursion (IsTextOf s) ns → named t.texts ns ≡ named s.texts ns

@@ -1,6 +1,6 @@
 -- The steps of a store, together.
 use Rattle.std.proofs.Common.{◌≡◌, ℕ, Bool, List, [], ◌∷◌, length, map, refl, sym, ap, ◌∙◌, arith}
-use Rattle.lua_heap.specs.Graph.{IsGraph, shift_entries}
+use Rattle.lua_walk.specs.LuaHeapGraph.{IsGraph, shift_entries}
 use Rattle.lua_store.specs.Seen.{StoreView}
 use Rattle.lua_graph.specs.declared.graph.GraphNode.{GraphNode}
 use Rattle.lua_graph.specs.declared.graph.Graph.{Graph}

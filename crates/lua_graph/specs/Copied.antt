@@ -1,11 +1,11 @@
 -- WHAT COPYING A VALUE MAKES OF A STORE (Scribunto, mw.clone): the copy is `lua_walk`'s (Copy), and so is its cost.
 use Rattle.std.specs.Prelude.{◌≡◌, ℕ, ◌+◌, ◌-◌, ◌*◌, List, ◌++◌, length, map, take, replicate, if◌then◌else◌}
 use Rattle.std.specs.List.{AllByRecursion, Contains}
-use Rattle.lua_table.specs.Entries.{Contents}
-use Rattle.lua_heap.specs.Value as heap
-use Rattle.lua_heap.specs.Value.{is_nil}
-use Rattle.lua_heap.specs.Table.{Entries, empty_table}
-use Rattle.lua_heap.specs.Heap.{Heap, table_at}
+use Rattle.lua_walk.specs.LuaTableEntries.{Contents}
+use Rattle.lua_walk.specs.LuaHeapValue as heap
+use Rattle.lua_walk.specs.LuaHeapValue.{is_nil}
+use Rattle.lua_store.specs.LuaHeapTable.{Entries, empty_table}
+use Rattle.lua_walk.specs.LuaHeapHeap.{Heap, table_at}
 use Rattle.lua_walk.specs.Order.{live}
 use Rattle.lua_walk.specs.Laws.{links}
 use Rattle.lua_walk.specs.Copy.{copy_of, copies, copied, copied_table_charge, copied_entry_charge}

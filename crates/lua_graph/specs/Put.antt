@@ -1,10 +1,10 @@
 -- WHAT PUTTING A GRAPH IN MAKES OF A STORE.
 use Rattle.std.specs.Prelude.{◌≡◌, ℕ, zero, suc, ◌+◌, Bool, true, false, List, [], ◌∷◌, length, map}
 use Rattle.std.specs.List.{AllByRecursion}
-use Rattle.lua_heap.specs.Table.{Entries}
-use Rattle.lua_heap.specs.Heap.{Heap, set_in, freeze_in, new_table}
-use Rattle.lua_heap.specs.Graph as plain
-use Rattle.lua_heap.specs.Graph.{IsGraph, join}
+use Rattle.lua_store.specs.LuaHeapTable.{Entries}
+use Rattle.lua_walk.specs.LuaHeapHeap.{Heap, set_in, freeze_in, new_table}
+use Rattle.lua_walk.specs.LuaHeapGraph as plain
+use Rattle.lua_walk.specs.LuaHeapGraph.{IsGraph, join}
 use Rattle.lua_store.specs.declared.ids.TextId.{TextId}
 use Rattle.lua_store.specs.declared.ids.TableId.{TableId}
 use Rattle.lua_store.specs.Seen.{StoreView, text_at}

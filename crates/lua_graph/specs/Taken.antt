@@ -2,11 +2,11 @@
 use Rattle.std.specs.Prelude.{◌≡◌, ℕ, ◌<◌, true, false, if◌then◌else◌, List, [], ◌∷◌, ◌++◌, length, map, Option, Some, None, Ok, Err}
 use Rattle.std.specs.List.{AllByRecursion, IsDistinct, list_any}
 use Rattle.std.specs.Str.{bytes_eq}
-use Rattle.lua_heap.specs.Value as heap
-use Rattle.lua_heap.specs.Value.{is_nil}
-use Rattle.lua_heap.specs.Table.{Entries}
+use Rattle.lua_walk.specs.LuaHeapValue as heap
+use Rattle.lua_walk.specs.LuaHeapValue.{is_nil}
+use Rattle.lua_store.specs.LuaHeapTable.{Entries}
 use Rattle.lua_walk.specs.Data as walk
-use Rattle.lua_heap.specs.Graph.{Graph}
+use Rattle.lua_walk.specs.LuaHeapGraph.{Graph}
 use Rattle.lua_walk.specs.Data.{Checked, entry_of, with_text_of, with_texts_of_entries, with_texts_of}
 use Rattle.lua_store.specs.declared.ids.TextId.{TextId}
 use Rattle.lua_store.specs.declared.ids.TableId.{TableId}

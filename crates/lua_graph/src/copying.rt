@@ -1,9 +1,9 @@
 //! Copies of a table and of all tables that it reaches.
 ghost use Rattle.std.specs.Prelude.{◌≡◌, ◌≢◌, ◌≤◌, ◌-◌, ◌<◌, ◌++◌, ◌↔◌, ◌∷◌, [], ℕ, IsTrue, is_some, length, IfOk, IfSome, OnOk, MatchOption};
 ghost use Rattle.std.specs.List.{AllByRecursion, Contains};
-ghost use Rattle.lua_heap.specs.Heap.{tab, TableObj, table_at, put};
-ghost use Rattle.lua_heap.specs.Table.{empty_table};
-ghost use Rattle.lua_heap.specs.Value as heap;
+ghost use Rattle.lua_walk.specs.LuaHeapHeap.{tab, TableObj, table_at, put};
+ghost use Rattle.lua_store.specs.LuaHeapTable.{empty_table};
+ghost use Rattle.lua_walk.specs.LuaHeapValue as heap;
 ghost use Rattle.lua_walk.specs.Copy as walk;
 ghost use Rattle.lua_walk.specs.Copy.{copied_table, copies, copy_cost};
 ghost use Rattle.lua_walk.specs.Laws.{table_in};
@@ -17,10 +17,8 @@ use crate::order::{entry_at, nth, place_of_table, reached};
 use crate::paying::take_tables;
 use crate::putting::new_tables;
 use indexmap::IndexSet;
-use lua_store::{Store, TableId, Value, laws};
-use lua_table::Slot;
+use lua_store::{Left, NoMemory, Slot, Store, TableId, Value, laws};
 use std::alloc::Global;
-use wk_base::{Left, NoMemory};
 
 /// The copy of a value: of a table the new one at its place in the order, and whatever else is its own copy.
 fn copy_of(store: &Store, order: &IndexSet<TableId>, tables: &[TableId], value: Value) -> Value

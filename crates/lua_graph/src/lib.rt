@@ -22,5 +22,6 @@ mod taking;
 pub use copying::copy;
 pub use fault::DataFault;
 pub use graph::{Graph, GraphEntry, GraphItem, GraphNode};
+pub use lua_store::{Library, NoMemory, Store, TableId, TextId, Value};
 pub use putting::put_in;
 pub use taking::take_out;

@@ -2,7 +2,7 @@
 ghost use Rattle.std.specs.Prelude.{◌≡◌, ◌+◌, ℕ, List, [], ◌∷◌, slice_get, drop, IfOk, IfSome, OnOk, MatchOption};
 ghost use Rattle.std.specs.List.{AllByRecursion};
 ghost use Rattle.std.specs.Option.{option_map};
-ghost use Rattle.lua_heap.specs.Heap.{table_at};
+ghost use Rattle.lua_walk.specs.LuaHeapHeap.{table_at};
 ghost use Rattle.lua_walk.specs.Order as walk;
 ghost use Rattle.lua_walk.specs.Order.{place_of, with_table, with_value, with_links};
 ghost use Rattle.lua_store.specs.Seen.{StoreView, seen};
@@ -10,9 +10,8 @@ ghost use Rattle.lua_store.specs.Parts.{IsOf, IsTableOf};
 ghost use Rattle.lua_graph.specs.Taken.{places};
 
 use indexmap::IndexSet;
-use lua_store::{Store, TableId, Value};
+use lua_store::{NoMemory, Store, TableId, Value};
 use std::alloc::Global;
-use wk_base::NoMemory;
 
 /// The order with a table behind the others, where it is not among them.
 fn reach_table(order: &mut IndexSet<TableId>, table: TableId) -> Result<(), NoMemory>

@@ -1,7 +1,7 @@
 //! The steps that a copy costs are taken.
 ghost use Rattle.std.specs.Prelude.{◌≡◌, ◌-◌, ◌≤◌, ◌↔◌, ℕ, List, IsTrue, IfOk, OnOk};
 ghost use Rattle.std.specs.List.{AllByRecursion};
-ghost use Rattle.lua_heap.specs.Heap.{table_at};
+ghost use Rattle.lua_walk.specs.LuaHeapHeap.{table_at};
 ghost use Rattle.lua_walk.specs.Copy.{tables_cost};
 ghost use Rattle.lua_store.specs.Seen.{seen};
 ghost use Rattle.lua_store.specs.Parts.{IsTableOf};
@@ -10,9 +10,7 @@ ghost use Rattle.lua_graph.specs.Taken.{places};
 
 use crate::order::{entry_at, nth};
 use indexmap::IndexSet;
-use lua_store::{Store, TableId, Value};
-use lua_table::Slot;
-use wk_base::{Left, NoMemory};
+use lua_store::{Left, NoMemory, Slot, Store, TableId, Value};
 
 /// Takes the steps of an entry with that value: 4, or none where it is cleared.
 fn take_entry(left: &mut Left, value: Value) -> bool

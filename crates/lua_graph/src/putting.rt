@@ -1,16 +1,15 @@
 //! A graph is put into a store.
 ghost use Rattle.std.specs.Prelude.{◌≡◌, ◌<◌, ◌+◌, ◌-◌, ℕ, [], ◌∷◌, length, map, IfOk, OnOk, MatchOption};
 ghost use Rattle.std.specs.List.{AllByRecursion};
-ghost use Rattle.lua_heap.specs.Graph.{joined_root, shift, shift_entries};
+ghost use Rattle.lua_walk.specs.LuaHeapGraph.{joined_root, shift, shift_entries};
 ghost use Rattle.lua_store.specs.Seen.{seen};
 ghost use Rattle.lua_store.specs.Parts.{IsOf, IsTextOf, IsTableOf, IsLater};
 ghost use Rattle.lua_graph.specs.Put.{IsMade, put, with_texts, grown, filled, locked, all_filled, AreNames, AreTables, AreFrom, AreEntriesOf, named};
 ghost use Rattle.lua_graph.specs.Plain.{IsItemOf, IsEntryOf, plain_item, plain_entries, plain_nodes};
 
 use crate::graph::{Graph, GraphEntry, GraphItem, GraphNode};
-use lua_store::{Store, TableId, TextId, Value};
+use lua_store::{Bytes, List, NoMemory, Store, TableId, TextId, Value};
 use std::alloc::Global;
-use wk_base::{Bytes, List, NoMemory};
 
 /// The first item, and those behind it.
 fn split_texts(texts: &[Bytes]) -> Option<(&Bytes, &[Bytes])>

@@ -1,8 +1,8 @@
 //! A graph is taken out of a store.
 ghost use Rattle.std.specs.Prelude.{◌≡◌, ◌≢◌, ◌+◌, ◌<◌, [], ◌∷◌, ◌++◌, false, Ok, Some, slice_get, IfOk, IfErr, OnOk, MatchOption};
 ghost use Rattle.std.specs.List.{AllByRecursion};
-ghost use Rattle.lua_heap.specs.Heap.{table_at};
-ghost use Rattle.lua_heap.specs.Value.{is_nil};
+ghost use Rattle.lua_walk.specs.LuaHeapHeap.{table_at};
+ghost use Rattle.lua_walk.specs.LuaHeapValue.{is_nil};
 ghost use Rattle.lua_walk.specs.Data as walk;
 ghost use Rattle.lua_walk.specs.Data.{texts_of};
 ghost use Rattle.lua_store.specs.declared.value.Value.TheVariants as own;
@@ -16,10 +16,8 @@ use crate::fault::DataFault;
 use crate::graph::{Graph, GraphEntry, GraphItem, GraphNode};
 use crate::order::{entry_at, nth, place_of_table, reached};
 use indexmap::IndexSet;
-use lua_store::{Store, TableId, TextId, Value, laws};
-use lua_table::Slot;
+use lua_store::{Bytes, List, NoMemory, Slot, Store, TableId, TextId, Value, laws};
 use std::alloc::Global;
-use wk_base::{Bytes, List, NoMemory};
 
 /// The place of a text among those that were met, to which it is added where it is not there.
 fn place_of_text(texts: &mut IndexSet<TextId>, text: TextId) -> Result<usize, DataFault>

@@ -1,23 +1,23 @@
 -- Answers of a text that replaces, and calls that begin.
 use Rattle.std.proofs.Common.{◌≡◌, ◌∙◌, ap, sym, subst, refl, arith, ℕ, ◌+◌, ◌<◌, ◌≤◌, List, [], ◌∷◌, length, Some, Ok, Err}
 use Rattle.std.specs.Prelude.{Result, pos}
-use Rattle.wk_base.specs.declared.left.Left.{Left}
+use Rattle.lua_number.specs.WkBaseDeclaredLeftLeft.{Left}
 use Rattle.lua_pattern.specs.declared.read.PatternFault.TheVariants as fault
-use Rattle.lua_heap.specs.Proc.{Proc}
-use Rattle.lua_heap.specs.Heap.{Heap}
-use Rattle.lua_heap.specs.Value as kind
-use Rattle.lua_meaning.specs.Arguments.{Plain, fails, with_charge, Gives}
-use Rattle.lua_meaning.specs.Checks.{malformed}
-use Rattle.lua_meaning.specs.Gsub.{Replaced, Made, Faulty, replaced_answer}
-use Rattle.lua_store.specs.declared.value.Value.{Value}
-use Rattle.lua_store.specs.Seen.{StoreView}
-use Rattle.lua_basic.specs.declared.stop.Stop.{Stop}
-use Rattle.lua_basic.specs.declared.stop.Stop.TheVariants as stop
-use Rattle.lua_basic.specs.Seen.{values_seen, Covers, Stops, Paid}
-use Rattle.lua_basic.proofs.Found.{for_nothing}
-use Rattle.mw_frames.specs.Costs.{Took, Lacked}
-use Rattle.mw_frame_texts.proofs.Charged.{charged}
-use Rattle.mw_ustrings.proofs.Costs.{values_cover, exceeded}
+use Rattle.lua_iterators.specs.LuaHeapProc.{Proc}
+use Rattle.lua_iterators.specs.LuaHeapHeap.{Heap}
+use Rattle.lua_iterators.specs.LuaHeapValue as kind
+use Rattle.lua_iterators.specs.LuaMeaningArguments.{Plain, fails, with_charge, Gives}
+use Rattle.lua_replacing.specs.LuaMeaningChecks.{malformed}
+use Rattle.lua_replacing.specs.LuaMeaningGsub.{Replaced, Made, Faulty, replaced_answer}
+use Rattle.lua_replacing.specs.LuaStoreDeclaredValueValue.{Value}
+use Rattle.lua_replacing.specs.LuaStoreSeen.{StoreView}
+use Rattle.lua_iterators.specs.LuaBasicDeclaredStopStop.{Stop}
+use Rattle.lua_iterators.specs.LuaBasicDeclaredStopStopTheVariants as stop
+use Rattle.lua_iterators.specs.LuaBasicSeen.{values_seen, Covers, Stops, Paid}
+use Rattle.lua_iterators.proofs.LuaBasicFound.{for_nothing}
+use Rattle.lua_iterators.specs.MwFramesCosts.{Took, Lacked}
+use Rattle.lua_iterators.proofs.MwFrameTextsCharged.{charged}
+use Rattle.lua_iterators.proofs.MwUstringsCosts.{values_cover, exceeded}
 use Rattle.lua_replacing.specs.declared.far.Far.{Far}
 use Rattle.lua_gsubs.specs.declared.filling.Halt.{Halt}
 use Rattle.lua_gsubs.specs.declared.filling.Halt.TheVariants as halt

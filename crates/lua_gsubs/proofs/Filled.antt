@@ -3,21 +3,21 @@ use Rattle.std.proofs.Common.{◌≡◌, ◌∙◌, ap, sym, subst, refl, arith,
 use Rattle.std.proofs.lemmas.List.{map-append}
 use Rattle.std.specs.Prelude.{Result}
 use Rattle.std.specs.Option.{option_map}
-use Rattle.wk_base.specs.declared.left.Left.{Left}
+use Rattle.lua_number.specs.WkBaseDeclaredLeftLeft.{Left}
 use Rattle.lua_pattern.specs.declared.pattern.Capture.{Capture}
 use Rattle.lua_pattern.specs.declared.pattern.Match.{Match}
 use Rattle.lua_pattern.specs.Letters.{Letters}
-use Rattle.lua_string.specs.Texts.{saturated}
-use Rattle.lua_string.specs.Walk.{span}
-use Rattle.lua_string.specs.declared.replacing.CaptureText.{CaptureText}
-use Rattle.lua_string.specs.Replacements.{text_of, replaced_of, HasLength}
-use Rattle.lua_meaning.specs.Scope.{Bytes}
-use Rattle.lua_meaning.specs.Iterators.{Stand}
-use Rattle.lua_meaning.specs.Gsub.{capture_text, filled_in, filled_at}
-use Rattle.lua_meaning.proofs.GsubLaws.{filled-same}
-use Rattle.lua_basic.specs.declared.stop.Stop.{Stop}
-use Rattle.lua_basic.specs.declared.stop.Stop.TheVariants as stop
-use Rattle.mw_frames.specs.Costs.{Took, Lacked, Unpaid}
+use Rattle.mw_text.specs.LuaStringTexts.{saturated}
+use Rattle.lua_replacing.specs.LuaStringWalk.{span}
+use Rattle.mw_text.specs.LuaStringDeclaredReplacingCaptureText.{CaptureText}
+use Rattle.mw_text.specs.LuaStringReplacements.{text_of, replaced_of, HasLength}
+use Rattle.lua_iterators.specs.LuaMeaningScope.{Bytes}
+use Rattle.lua_replacing.specs.LuaMeaningIterators.{Stand}
+use Rattle.lua_replacing.specs.LuaMeaningGsub.{capture_text, filled_in, filled_at}
+use Rattle.lua_replacing.proofs.LuaMeaningGsubLaws.{filled-same}
+use Rattle.lua_iterators.specs.LuaBasicDeclaredStopStop.{Stop}
+use Rattle.lua_iterators.specs.LuaBasicDeclaredStopStopTheVariants as stop
+use Rattle.lua_iterators.specs.MwFramesCosts.{Took, Lacked, Unpaid}
 use Rattle.lua_replacing.specs.declared.far.Far.{Far}
 use Rattle.lua_replacing.specs.Seen.{stand_seen}
 use Rattle.lua_gsubs.specs.declared.filling.Halt.{Halt}

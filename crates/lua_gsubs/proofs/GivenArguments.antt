@@ -1,29 +1,29 @@
 -- Arguments one behind the other: one is refused, or all are found; and calls that begin behind their charges.
 use Rattle.std.proofs.Common.{◌≡◌, ◌∙◌, ap, sym, subst, refl, arith, ℕ, ◌+◌, Bool, List, [], ◌∷◌, length, Option, Some, None, Ok, Err}
 use Rattle.std.specs.Prelude.{Result}
-use Rattle.wk_base.specs.declared.left.Left.{Left}
+use Rattle.lua_number.specs.WkBaseDeclaredLeftLeft.{Left}
 use Rattle.lua_pattern.specs.declared.item.Item.{Item}
 use Rattle.lua_pattern.specs.declared.slots.Slot.{Slot}
 use Rattle.lua_pattern.specs.declared.read.PatternFault.{PatternFault}
 use Rattle.lua_pattern.specs.declared.read.PatternFault.TheVariants as fault
 use Rattle.lua_pattern.specs.Read.{Read, Fault, Fine, read_of, codes}
 use Rattle.lua_pattern.specs.Reads.{IsReadFault}
-use Rattle.lua_heap.specs.Proc.{Proc}
-use Rattle.lua_heap.specs.Heap.{Heap}
-use Rattle.lua_heap.specs.Value as kind
-use Rattle.lua_meaning.specs.Values.{first}
-use Rattle.lua_meaning.specs.Arguments.{Plain, Argument, with_argument, with_charge, fails, costs}
-use Rattle.lua_meaning.specs.Checks.{malformed}
-use Rattle.lua_meaning.specs.Gsub.{Alphabet, Given, Replacement, ByText, ByTable, ByFunction, GsubForm, GsubAnswers, GsubAsks, letters, then_by, by_text, a_replacement, by_replacement, by_pattern, by_given}
-use Rattle.lua_store.specs.Seen.{StoreView}
-use Rattle.lua_basic.specs.declared.stop.Stop.{Stop}
-use Rattle.lua_basic.specs.declared.stop.Stop.TheVariants as stop
-use Rattle.lua_basic.specs.Seen.{Stops, Paid, Refuses}
-use Rattle.lua_basic.proofs.Found.{for_nothing}
-use Rattle.mw_frames.specs.Costs.{Took, Lacked, Unpaid}
-use Rattle.mw_frames.proofs.Sums.{took_then, lacked_then}
-use Rattle.mw_frame_texts.proofs.Charged.{charged as charged_pays, not_charged}
-use Rattle.mw_ustrings.specs.Faults.{FaultStops}
+use Rattle.lua_iterators.specs.LuaHeapProc.{Proc}
+use Rattle.lua_iterators.specs.LuaHeapHeap.{Heap}
+use Rattle.lua_iterators.specs.LuaHeapValue as kind
+use Rattle.lua_iterators.specs.LuaMeaningValues.{first}
+use Rattle.lua_iterators.specs.LuaMeaningArguments.{Plain, Argument, with_argument, with_charge, fails, costs}
+use Rattle.lua_replacing.specs.LuaMeaningChecks.{malformed}
+use Rattle.lua_replacing.specs.LuaMeaningGsub.{Alphabet, Given, Replacement, ByText, ByTable, ByFunction, GsubForm, GsubAnswers, GsubAsks, letters, then_by, by_text, a_replacement, by_replacement, by_pattern, by_given}
+use Rattle.lua_replacing.specs.LuaStoreSeen.{StoreView}
+use Rattle.lua_iterators.specs.LuaBasicDeclaredStopStop.{Stop}
+use Rattle.lua_iterators.specs.LuaBasicDeclaredStopStopTheVariants as stop
+use Rattle.lua_iterators.specs.LuaBasicSeen.{Stops, Paid, Refuses}
+use Rattle.lua_iterators.proofs.LuaBasicFound.{for_nothing}
+use Rattle.lua_iterators.specs.MwFramesCosts.{Took, Lacked, Unpaid}
+use Rattle.lua_iterators.proofs.MwFramesSums.{took_then, lacked_then}
+use Rattle.lua_iterators.proofs.MwFrameTextsCharged.{charged as charged_pays, not_charged}
+use Rattle.lua_iterators.specs.MwUstringsFaults.{FaultStops}
 use Rattle.lua_gsubs.specs.declared.beginning.Begun.{Begun}
 use Rattle.lua_gsubs.specs.declared.beginning.Begun.TheVariants as begun
 use Rattle.lua_gsubs.specs.Given.{replacer_in, or_text}

@@ -1,7 +1,7 @@
 -- What the answers of searches are in a walk: those of the meaning; and where the next search begins.
 use Rattle.std.proofs.Common.{◌≡◌, ◌∙◌, ap, sym, subst, refl, arith, ℕ, ◌+◌, ◌<◌, ◌≤◌, Bool, true, false, List, [], ◌∷◌, length, drop, Option, Some, None, Ok, Err}
 use Rattle.std.specs.Prelude.{nat_lt, if◌then◌else◌, Result}
-use Rattle.wk_base.specs.declared.left.Left.{Left}
+use Rattle.lua_number.specs.WkBaseDeclaredLeftLeft.{Left}
 use Rattle.lua_pattern.specs.declared.pattern.Match.{Match}
 use Rattle.lua_pattern.specs.declared.slots.Slot.{Slot}
 use Rattle.lua_pattern.specs.declared.item.Item.{Item}
@@ -11,12 +11,12 @@ use Rattle.lua_pattern.specs.Found.{IsFound}
 use Rattle.lua_pattern.specs.Keeps.{within_keeps}
 use Rattle.lua_pattern.specs.Places.{KeepsPlaces}
 use Rattle.lua_pattern.proofs.Inside.{AnswerHas, first_has}
-use Rattle.lua_string.specs.Finds.{match_of}
-use Rattle.lua_string.specs.Walk.{walk_on, next_place, behind_first}
-use Rattle.lua_meaning.specs.Scope.{Bytes}
-use Rattle.lua_basic.specs.declared.stop.Stop.{Stop}
-use Rattle.lua_basic.specs.declared.stop.Stop.TheVariants as stop
-use Rattle.mw_frames.specs.Costs.{Took, Lacked, Unpaid}
+use Rattle.mw_text.specs.LuaStringFinds.{match_of}
+use Rattle.lua_replacing.specs.LuaStringWalk.{walk_on, next_place, behind_first}
+use Rattle.lua_iterators.specs.LuaMeaningScope.{Bytes}
+use Rattle.lua_iterators.specs.LuaBasicDeclaredStopStop.{Stop}
+use Rattle.lua_iterators.specs.LuaBasicDeclaredStopStopTheVariants as stop
+use Rattle.lua_iterators.specs.MwFramesCosts.{Took, Lacked, Unpaid}
 use Rattle.lua_gsubs.specs.declared.meeting.Met.{Met}
 use Rattle.lua_gsubs.specs.declared.meeting.Met.TheVariants as met
 use Rattle.lua_gsubs.specs.Met.{IsMet, PlaceWithin}

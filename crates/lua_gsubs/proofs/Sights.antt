@@ -2,21 +2,21 @@
 use Rattle.std.proofs.Common.{◌≡◌, ◌∙◌, ap, sym, subst, refl, arith, ℕ, ◌+◌, ◌<◌, List, length, Option, Some, None, Ok, Err}
 use Rattle.std.specs.Prelude.{Result}
 use Rattle.std.specs.Option.{option_map}
-use Rattle.wk_base.specs.declared.left.Left.{Left}
+use Rattle.lua_number.specs.WkBaseDeclaredLeftLeft.{Left}
 use Rattle.lua_pattern.specs.declared.pattern.Match.{Match}
 use Rattle.lua_pattern.specs.declared.slots.Slot.{Slot}
 use Rattle.lua_pattern.specs.Letters.{Letters}
-use Rattle.lua_string.specs.Finds.{match_of}
-use Rattle.lua_string.specs.Walk.{Step, Walk, Stops, Meets, span}
-use Rattle.lua_meaning.specs.Scope.{Bytes}
-use Rattle.lua_meaning.specs.Iterators.{Stand}
-use Rattle.lua_meaning.specs.Gsub.{Job, letters, search_on, up_to}
-use Rattle.lua_meaning.specs.Gsub as meaning
-use Rattle.lua_store.specs.Seen.{StoreView}
-use Rattle.lua_basic.specs.declared.stop.Stop.{Stop}
-use Rattle.lua_basic.specs.declared.stop.Stop.TheVariants as stop
-use Rattle.mw_frames.specs.Costs.{Took, Lacked, Unpaid}
-use Rattle.mw_frames.proofs.Sums.{took_then, lacked_then}
+use Rattle.mw_text.specs.LuaStringFinds.{match_of}
+use Rattle.lua_replacing.specs.LuaStringWalk.{Step, Walk, Stops, Meets, span}
+use Rattle.lua_iterators.specs.LuaMeaningScope.{Bytes}
+use Rattle.lua_replacing.specs.LuaMeaningIterators.{Stand}
+use Rattle.lua_replacing.specs.LuaMeaningGsub.{Job, letters, search_on, up_to}
+use Rattle.lua_replacing.specs.LuaMeaningGsub as meaning
+use Rattle.lua_replacing.specs.LuaStoreSeen.{StoreView}
+use Rattle.lua_iterators.specs.LuaBasicDeclaredStopStop.{Stop}
+use Rattle.lua_iterators.specs.LuaBasicDeclaredStopStopTheVariants as stop
+use Rattle.lua_iterators.specs.MwFramesCosts.{Took, Lacked, Unpaid}
+use Rattle.lua_iterators.proofs.MwFramesSums.{took_then, lacked_then}
 use Rattle.lua_replacing.specs.declared.far.Far.{Far}
 use Rattle.lua_replacing.specs.Seen.{stand_seen, far_seen}
 use Rattle.lua_gsubs.specs.declared.meeting.Met.TheVariants as met

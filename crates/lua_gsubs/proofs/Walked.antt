@@ -2,19 +2,19 @@
 use Rattle.std.proofs.Common.{◌≡◌, ◌∙◌, ap, sym, subst, refl, arith, ℕ, zero, suc, ◌+◌, ◌-◌, ◌<◌, ◌≤◌, Bool, List, [], ◌++◌, append_assoc, append-nil, length, drop, Option, Some, None, Ok, Err}
 use Rattle.std.specs.Prelude.{Result}
 use Rattle.std.specs.Option.{option_map}
-use Rattle.wk_base.specs.declared.left.Left.{Left}
+use Rattle.lua_number.specs.WkBaseDeclaredLeftLeft.{Left}
 use Rattle.lua_pattern.specs.declared.item.Item.{Item}
 use Rattle.lua_pattern.specs.declared.slots.Slot.{Slot}
 use Rattle.lua_pattern.specs.declared.pattern.Match.{Match}
 use Rattle.lua_pattern.specs.Letters.{Letters}
-use Rattle.lua_string.specs.Walk.{Walk, Stops, Meets, span}
-use Rattle.lua_meaning.specs.Scope.{Bytes}
-use Rattle.lua_meaning.specs.Iterators.{Stand}
-use Rattle.lua_meaning.specs.Gsub.{Replaced, Made, Faulty, rest_of, behind_piece, on_filled, on_walk, filled_at, next_stand, replaced_from, at_head}
-use Rattle.lua_basic.specs.declared.stop.Stop.{Stop}
-use Rattle.lua_basic.specs.declared.stop.Stop.TheVariants as stop
-use Rattle.mw_frames.specs.Costs.{Took, Lacked}
-use Rattle.mw_frames.proofs.Sums.{took_none, took_then, lacked_then}
+use Rattle.lua_replacing.specs.LuaStringWalk.{Walk, Stops, Meets, span}
+use Rattle.lua_iterators.specs.LuaMeaningScope.{Bytes}
+use Rattle.lua_replacing.specs.LuaMeaningIterators.{Stand}
+use Rattle.lua_replacing.specs.LuaMeaningGsub.{Replaced, Made, Faulty, rest_of, behind_piece, on_filled, on_walk, filled_at, next_stand, replaced_from, at_head}
+use Rattle.lua_iterators.specs.LuaBasicDeclaredStopStop.{Stop}
+use Rattle.lua_iterators.specs.LuaBasicDeclaredStopStopTheVariants as stop
+use Rattle.lua_iterators.specs.MwFramesCosts.{Took, Lacked}
+use Rattle.lua_iterators.proofs.MwFramesSums.{took_none, took_then, lacked_then}
 use Rattle.lua_replacing.specs.declared.far.Far.{Far}
 use Rattle.lua_replacing.specs.Seen.{stand_seen}
 use Rattle.lua_gsubs.specs.declared.filling.Halt.{Halt}

@@ -1,20 +1,20 @@
 -- A CALL THAT BEGINS: it answers at once, or asks behind its charge.
 use Rattle.std.specs.Prelude.{◌≡◌, ℕ, ◌+◌, Bool, List, Some, Result, Ok, Err}
-use Rattle.wk_base.specs.declared.left.Left.{Left}
+use Rattle.lua_number.specs.WkBaseDeclaredLeftLeft.{Left}
 use Rattle.lua_pattern.specs.declared.item.Item.{Item}
 use Rattle.lua_pattern.specs.declared.slots.Slot.{Slot}
 use Rattle.lua_pattern.specs.Read.{Read, Fault, Fine}
-use Rattle.lua_heap.specs.Proc.{Proc}
-use Rattle.lua_heap.specs.Heap.{Heap}
-use Rattle.lua_meaning.specs.Scope.{Bytes}
-use Rattle.lua_meaning.specs.Arguments.{fails, with_charge}
-use Rattle.lua_meaning.specs.Checks.{malformed}
-use Rattle.lua_meaning.specs.Gsub.{Alphabet, Given, Replacement, ByText, GsubForm, GsubAnswers, GsubAsks, letters, replaced_answer, replaced_from, at_head}
-use Rattle.lua_store.specs.Seen.{StoreView}
-use Rattle.lua_basic.specs.declared.stop.Stop.{Stop}
-use Rattle.lua_basic.specs.declared.stop.Stop.TheVariants as stop
-use Rattle.lua_basic.specs.Seen.{AllOf, Paid, StopOf}
-use Rattle.mw_frames.specs.Costs.{Took, Lacked}
+use Rattle.lua_iterators.specs.LuaHeapProc.{Proc}
+use Rattle.lua_iterators.specs.LuaHeapHeap.{Heap}
+use Rattle.lua_iterators.specs.LuaMeaningScope.{Bytes}
+use Rattle.lua_iterators.specs.LuaMeaningArguments.{fails, with_charge}
+use Rattle.lua_replacing.specs.LuaMeaningChecks.{malformed}
+use Rattle.lua_replacing.specs.LuaMeaningGsub.{Alphabet, Given, Replacement, ByText, GsubForm, GsubAnswers, GsubAsks, letters, replaced_answer, replaced_from, at_head}
+use Rattle.lua_replacing.specs.LuaStoreSeen.{StoreView}
+use Rattle.lua_iterators.specs.LuaBasicDeclaredStopStop.{Stop}
+use Rattle.lua_iterators.specs.LuaBasicDeclaredStopStopTheVariants as stop
+use Rattle.lua_iterators.specs.LuaBasicSeen.{AllOf, Paid, StopOf}
+use Rattle.lua_iterators.specs.MwFramesCosts.{Took, Lacked}
 use Rattle.lua_replacing.specs.Seen.{job_seen, JobOf}
 use Rattle.lua_gsubs.specs.declared.beginning.Begun.{Begun}
 use Rattle.lua_gsubs.specs.declared.beginning.Begun.TheVariants as begun

@@ -1,10 +1,10 @@
 -- THE ARGUMENTS, as they are found.
 use Rattle.std.specs.Prelude.{◌≡◌, ℕ, List, Option, Some, None, Ok}
-use Rattle.lua_heap.specs.Value.{Value, Table, Closure, Builtin}
-use Rattle.lua_meaning.specs.Arguments.{Argument}
-use Rattle.lua_meaning.specs.Gsub.{Alphabet, Given, Replacement, ByText, ByTable, ByFunction, by_text, text_in_alphabet}
-use Rattle.lua_store.specs.Seen.{StoreView}
-use Rattle.lua_basic.specs.Arguments.{text_bytes}
+use Rattle.lua_iterators.specs.LuaHeapValue.{Value, Table, Closure, Builtin}
+use Rattle.lua_iterators.specs.LuaMeaningArguments.{Argument}
+use Rattle.lua_replacing.specs.LuaMeaningGsub.{Alphabet, Given, Replacement, ByText, ByTable, ByFunction, by_text, text_in_alphabet}
+use Rattle.lua_replacing.specs.LuaStoreSeen.{StoreView}
+use Rattle.lua_iterators.specs.LuaBasicArguments.{text_bytes}
 use Rattle.lua_replacing.specs.Seen.{replacer_seen, ReplacerOf}
 use Rattle.lua_gsubs.specs.declared.arguments.By.{By}
 use Rattle.lua_gsubs.specs.declared.arguments.By.TheVariants as by

@@ -1,12 +1,12 @@
 -- WHAT A SEARCH FROM A PLACE ON CAME TO, whose tries are paid for: that of the meaning's walk.
 use Rattle.std.specs.Prelude.{◌≡◌, ℕ, ◌≤◌, List, Option, Result, Ok, Err, IfSome}
-use Rattle.wk_base.specs.declared.left.Left.{Left}
+use Rattle.lua_number.specs.WkBaseDeclaredLeftLeft.{Left}
 use Rattle.lua_pattern.specs.declared.slots.Slot.{Slot}
-use Rattle.lua_string.specs.Finds.{match_of}
-use Rattle.lua_string.specs.Walk.{Walk, Stops, Meets}
-use Rattle.lua_basic.specs.declared.stop.Stop.{Stop}
-use Rattle.lua_basic.specs.declared.stop.Stop.TheVariants as stop
-use Rattle.mw_frames.specs.Costs.{Took, Lacked}
+use Rattle.mw_text.specs.LuaStringFinds.{match_of}
+use Rattle.lua_replacing.specs.LuaStringWalk.{Walk, Stops, Meets}
+use Rattle.lua_iterators.specs.LuaBasicDeclaredStopStop.{Stop}
+use Rattle.lua_iterators.specs.LuaBasicDeclaredStopStopTheVariants as stop
+use Rattle.lua_iterators.specs.MwFramesCosts.{Took, Lacked}
 use Rattle.lua_gsubs.specs.declared.meeting.Met.{Met}
 use Rattle.lua_gsubs.specs.declared.meeting.Met.TheVariants as met
 

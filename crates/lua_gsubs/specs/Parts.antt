@@ -2,16 +2,16 @@
 -- to come give the whole.
 use Rattle.std.specs.Prelude.{◌≡◌, ℕ, suc, ◌+◌, ◌<◌, ◌^◌, List, ◌++◌, length, Option, Result, Ok, Err, IfErr}
 use Rattle.std.specs.Option.{option_map}
-use Rattle.wk_base.specs.declared.left.Left.{Left}
-use Rattle.lua_meaning.specs.Scope.{Bytes}
-use Rattle.lua_meaning.specs.Iterators.{Stand}
-use Rattle.lua_meaning.specs.Gsub.{Replaced, Made, Faulty, rest_of}
-use Rattle.lua_basic.specs.declared.stop.Stop.{Stop}
-use Rattle.lua_basic.specs.declared.stop.Stop.TheVariants as stop
+use Rattle.lua_number.specs.WkBaseDeclaredLeftLeft.{Left}
+use Rattle.lua_iterators.specs.LuaMeaningScope.{Bytes}
+use Rattle.lua_replacing.specs.LuaMeaningIterators.{Stand}
+use Rattle.lua_replacing.specs.LuaMeaningGsub.{Replaced, Made, Faulty, rest_of}
+use Rattle.lua_iterators.specs.LuaBasicDeclaredStopStop.{Stop}
+use Rattle.lua_iterators.specs.LuaBasicDeclaredStopStopTheVariants as stop
 use Rattle.lua_pattern.specs.declared.read.PatternFault.TheVariants as fault
-use Rattle.lua_store.specs.Seen.{StoreView}
-use Rattle.mw_ustrings.specs.Faults.{FaultStops}
-use Rattle.mw_frames.specs.Costs.{Took, Lacked}
+use Rattle.lua_replacing.specs.LuaStoreSeen.{StoreView}
+use Rattle.lua_iterators.specs.MwUstringsFaults.{FaultStops}
+use Rattle.lua_iterators.specs.MwFramesCosts.{Took, Lacked}
 use Rattle.lua_replacing.specs.declared.far.Far.{Far}
 use Rattle.lua_replacing.specs.Seen.{stand_seen}
 use Rattle.lua_gsubs.specs.declared.filling.Halt.{Halt}

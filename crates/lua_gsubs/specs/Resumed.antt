@@ -1,10 +1,10 @@
 -- WHAT WAS GIVEN FOR A MATCH: a piece, which is put behind the text for its bytes, or the message that there is none.
 use Rattle.std.specs.Prelude.{◌≡◌, length, Ok, Err}
-use Rattle.wk_base.specs.declared.left.Left.{Left}
-use Rattle.lua_meaning.specs.Scope.{Bytes}
-use Rattle.lua_meaning.specs.Arguments.{Argument}
-use Rattle.lua_meaning.specs.Gsub.{with_piece}
-use Rattle.mw_frames.specs.Costs.{Took, Lacked}
+use Rattle.lua_number.specs.WkBaseDeclaredLeftLeft.{Left}
+use Rattle.lua_iterators.specs.LuaMeaningScope.{Bytes}
+use Rattle.lua_iterators.specs.LuaMeaningArguments.{Argument}
+use Rattle.lua_replacing.specs.LuaMeaningGsub.{with_piece}
+use Rattle.lua_iterators.specs.MwFramesCosts.{Took, Lacked}
 use Rattle.lua_replacing.specs.declared.far.Far.{Far}
 use Rattle.lua_replacing.specs.Seen.{far_seen}
 use Rattle.lua_gsubs.specs.declared.resuming.Given.{Given}

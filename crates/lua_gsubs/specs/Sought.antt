@@ -1,20 +1,20 @@
 -- WHAT A SEARCH FOR THE NEXT MATCH of a job came to: the meaning's own.
 use Rattle.std.specs.Prelude.{◌≡◌, ℕ, ◌+◌, List, ◌++◌, length, Option, Result, Ok, Err}
 use Rattle.std.specs.Option.{option_map}
-use Rattle.wk_base.specs.declared.left.Left.{Left}
+use Rattle.lua_number.specs.WkBaseDeclaredLeftLeft.{Left}
 use Rattle.lua_pattern.specs.declared.pattern.Match.{Match}
 use Rattle.lua_pattern.specs.declared.slots.Slot.{Slot}
 use Rattle.lua_pattern.specs.Letters.{Letters}
-use Rattle.lua_string.specs.Finds.{match_of}
-use Rattle.lua_string.specs.Walk.{Walk, Stops, Meets, span}
-use Rattle.lua_meaning.specs.Scope.{Bytes}
-use Rattle.lua_meaning.specs.Iterators.{Stand, match_given}
-use Rattle.lua_meaning.specs.Gsub.{Search, NoMatch, Matched, next_stand}
-use Rattle.lua_store.specs.Seen.{StoreView}
-use Rattle.lua_basic.specs.declared.stop.Stop.{Stop}
-use Rattle.lua_basic.specs.declared.stop.Stop.TheVariants as stop
-use Rattle.lua_basic.specs.Seen.{values_seen, AllOf}
-use Rattle.mw_frames.specs.Costs.{Took, Lacked}
+use Rattle.mw_text.specs.LuaStringFinds.{match_of}
+use Rattle.lua_replacing.specs.LuaStringWalk.{Walk, Stops, Meets, span}
+use Rattle.lua_iterators.specs.LuaMeaningScope.{Bytes}
+use Rattle.lua_replacing.specs.LuaMeaningIterators.{Stand, match_given}
+use Rattle.lua_replacing.specs.LuaMeaningGsub.{Search, NoMatch, Matched, next_stand}
+use Rattle.lua_replacing.specs.LuaStoreSeen.{StoreView}
+use Rattle.lua_iterators.specs.LuaBasicDeclaredStopStop.{Stop}
+use Rattle.lua_iterators.specs.LuaBasicDeclaredStopStopTheVariants as stop
+use Rattle.lua_iterators.specs.LuaBasicSeen.{values_seen, AllOf}
+use Rattle.lua_iterators.specs.MwFramesCosts.{Took, Lacked}
 use Rattle.lua_replacing.specs.declared.far.Far.{Far}
 use Rattle.lua_replacing.specs.Seen.{stand_seen, far_seen}
 use Rattle.lua_gsubs.specs.declared.seeking.Sought.{Sought}

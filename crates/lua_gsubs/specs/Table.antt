@@ -1,8 +1,8 @@
 -- THE TWO FUNCTIONS, by the alphabet over which they go.
 use Rattle.std.specs.Prelude.{Option, Some, None}
-use Rattle.lua_heap.specs.declared.library.Library.{Library}
-use Rattle.lua_heap.specs.declared.library.Library.TheVariants.{StringGsub, UstringGsub}
-use Rattle.lua_meaning.specs.Gsub.{Alphabet, OfBytes, OfPoints}
+use Rattle.lua_iterators.specs.LuaHeapDeclaredLibraryLibrary.{Library}
+use Rattle.lua_iterators.specs.LuaHeapDeclaredLibraryLibraryTheVariants.{StringGsub, UstringGsub}
+use Rattle.lua_replacing.specs.LuaMeaningGsub.{Alphabet, OfBytes, OfPoints}
 use Rattle.lua_gsubs.specs.declared.table.GsubFunction.{GsubFunction}
 use Rattle.lua_gsubs.specs.declared.table.GsubFunction.TheVariants as own
 

@@ -1,23 +1,19 @@
 //! What `gsub` gives where a text replaces: the text that is made, and how many matches were replaced.
 ghost use Rattle.std.specs.Prelude.{◌≡◌, ◌∷◌, [], pos, Some, IfOk};
-ghost use Rattle.lua_heap.specs.Value as kind;
-ghost use Rattle.lua_meaning.specs.Gsub as meaning;
-ghost use Rattle.lua_store.specs.Parts.{IsLater};
-ghost use Rattle.lua_basic.specs.Seen.{values_seen, AllOf, Paid, AnswerOf, StopOf};
+ghost use Rattle.lua_iterators.specs.LuaHeapValue as kind;
+ghost use Rattle.lua_replacing.specs.LuaMeaningGsub as meaning;
+ghost use Rattle.lua_replacing.specs.LuaStoreParts.{IsLater};
+ghost use Rattle.lua_iterators.specs.LuaBasicSeen.{values_seen, AllOf, Paid, AnswerOf, StopOf};
 ghost use Rattle.lua_replacing.specs.Seen.{alphabet_in, anchored_in, items_in, slots_in};
 ghost use Rattle.lua_gsubs.specs.Parts.{HaltStops};
 
 use crate::filling::Halt;
 use crate::replacing::replace_all;
-use lua_basic::Stop;
-use lua_basic::values::pair;
-use lua_pattern::{Alphabet, OneByte, OnePoint, Pattern, PatternFault};
-use lua_replacing::AnyPattern;
-use lua_store::{Store, Value};
-use mw_ustrings::arguments::refuse_pattern;
-use mw_ustrings::giving::number;
+use lua_iterators::{Left, Stop, Store, number, pair, refuse_pattern};
+use lua_number::NoMemory;
+use lua_pattern::{Alphabet, List, OneByte, OnePoint, Pattern, PatternFault};
+use lua_replacing::{AnyPattern, Value};
 use std::alloc::Global;
-use wk_base::{Left, List, NoMemory};
 
 /// A text that is made, and how many matches were replaced.
 pub fn made_values(

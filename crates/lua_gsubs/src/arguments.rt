@@ -1,27 +1,22 @@
 //! The arguments of `gsub`, from the first to the last. Over code points each text must be in UTF-8.
 ghost use Rattle.std.specs.Prelude.{◌≡◌, List as Items, ℕ, Ok, IfOk, IfErr, IfSome, OnOk, codes};
 ghost use Rattle.std.specs.Option.{option_map};
-ghost use Rattle.lua_meaning.specs.Gsub as meaning;
-ghost use Rattle.lua_meaning.specs.Arguments.{number_or as number_or_of};
-ghost use Rattle.lua_store.specs.Parts.{IsOf, IsLater};
-ghost use Rattle.lua_store.specs.Seen.{StoreView, seen};
-ghost use Rattle.lua_string.specs.Texts.{how_many};
-ghost use Rattle.lua_basic.specs.Arguments.{text_bytes};
-ghost use Rattle.lua_basic.specs.Seen.{values_seen, AllOf, StopOf, Refuses};
+ghost use Rattle.lua_replacing.specs.LuaMeaningGsub as meaning;
+ghost use Rattle.lua_iterators.specs.LuaMeaningArguments.{number_or as number_or_of};
+ghost use Rattle.lua_replacing.specs.LuaStoreParts.{IsOf, IsLater};
+ghost use Rattle.lua_replacing.specs.LuaStoreSeen.{StoreView, seen};
+ghost use Rattle.mw_text.specs.LuaStringTexts.{how_many};
+ghost use Rattle.lua_iterators.specs.LuaBasicArguments.{text_bytes};
+ghost use Rattle.lua_iterators.specs.LuaBasicSeen.{values_seen, AllOf, StopOf, Refuses};
 ghost use Rattle.lua_replacing.specs.Seen.{replacer_seen, ReplacerOf};
 ghost use Rattle.lua_gsubs.specs.Given.{by_seen, given_seen, replacer_in, ByOf};
 ghost use Rattle.lua_gsubs.specs.Table.{alphabet_of};
 
 use crate::table::GsubFunction;
-use lua_basic::Stop;
-use lua_basic::arguments::{a_text, number_or};
-use lua_basic::texts::TextIn;
-use lua_basic::values::{first, rest};
-use lua_replacing::Replacer;
-use lua_store::{Store, Value};
-use mw_ustrings::arguments::utf8_text;
+use lua_iterators::{Stop, Store, TextIn, a_text, first, number_or, rest, utf8_text};
+use lua_number::NoMemory;
+use lua_replacing::{Replacer, Value};
 use std::alloc::Global;
-use wk_base::NoMemory;
 
 /// By what a match is replaced: a text, or what is asked for.
 #[derive(Drop)]

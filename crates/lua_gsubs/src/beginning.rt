@@ -2,10 +2,10 @@
 ghost use Rattle.std.specs.Prelude.{◌≡◌, Some, MatchResult, IfOk};
 ghost use Rattle.lua_pattern.specs.Read.{Fine, read_of, codes};
 ghost use Rattle.lua_pattern.specs.Reads.{IsReadFault};
-ghost use Rattle.lua_meaning.specs.Gsub as meaning;
-ghost use Rattle.lua_store.specs.Parts.{IsLater};
-ghost use Rattle.lua_basic.specs.Seen.{values_seen, AllOf, Paid, AnswerOf};
-ghost use Rattle.mw_frames.specs.Costs.{Pays};
+ghost use Rattle.lua_replacing.specs.LuaMeaningGsub as meaning;
+ghost use Rattle.lua_replacing.specs.LuaStoreParts.{IsLater};
+ghost use Rattle.lua_iterators.specs.LuaBasicSeen.{values_seen, AllOf, Paid, AnswerOf};
+ghost use Rattle.lua_iterators.specs.MwFramesCosts.{Pays};
 ghost use Rattle.lua_replacing.specs.Seen.{alphabet_in, anchored_in, items_in, slots_in, replacer_seen, ReplacerOf};
 ghost use Rattle.lua_gsubs.specs.Begun.{free_by, free_read, IsBegun, BegunOf};
 ghost use Rattle.lua_gsubs.specs.Given.{by_seen, given_seen, ByOf};
@@ -14,15 +14,11 @@ ghost use Rattle.lua_gsubs.specs.Table.{alphabet_of};
 use crate::answering::answer_by_text;
 use crate::arguments::{By, GivenIn, read_given};
 use crate::table::GsubFunction;
-use lua_basic::Stop;
-use lua_pattern::{OneByte, OnePoint, Pattern, PatternFault};
-use lua_replacing::{AnyPattern, Job, Replacer};
-use lua_store::{Store, Value};
-use mw_frame_texts::costs::pay_given;
-use mw_frames::paying::pay;
-use mw_ustrings::arguments::refuse_pattern;
+use lua_iterators::{Left, Stop, Store, pay, pay_given, refuse_pattern};
+use lua_number::NoMemory;
+use lua_pattern::{List, OneByte, OnePoint, Pattern, PatternFault};
+use lua_replacing::{AnyPattern, Job, Replacer, Value};
 use std::alloc::Global;
-use wk_base::{Left, List, NoMemory};
 
 /// A call that has answered, or that begins to ask for the replacements of at most so many matches.
 #[derive(Drop)]

@@ -1,24 +1,24 @@
 //! What a replacement text stands for at a match, put behind a text for a step a byte.
 ghost use Rattle.std.specs.Prelude.{◌≡◌, ◌++◌, ◌+◌, ◌<◌, ◌^◌, ◌∷◌, [], ℕ, List as Items, Ok, suc, map, length, IfOk, IsTrue, OnOk, MatchOption};
-ghost use Rattle.lua_string.specs.Replacements.{text_of, replaced_of};
-ghost use Rattle.lua_string.specs.declared.replacing.CaptureText.{CaptureText};
-ghost use Rattle.lua_meaning.specs.Gsub as meaning;
-ghost use Rattle.lua_meaning.specs.Iterators.{symbols_before as symbols_before_of};
-ghost use Rattle.mw_frames.specs.Costs.{Pays};
+ghost use Rattle.mw_text.specs.LuaStringReplacements.{text_of, replaced_of};
+ghost use Rattle.mw_text.specs.LuaStringDeclaredReplacingCaptureText.{CaptureText};
+ghost use Rattle.lua_replacing.specs.LuaMeaningGsub as meaning;
+ghost use Rattle.lua_replacing.specs.LuaMeaningIterators.{symbols_before as symbols_before_of};
+ghost use Rattle.lua_iterators.specs.MwFramesCosts.{Pays};
 ghost use Rattle.lua_replacing.specs.Seen.{stand_seen};
 ghost use Rattle.lua_gsubs.specs.Parts.{IsText, IsFilled};
 
-use lua_basic::Stop;
 use lua_iterators::symbols::symbols_before;
-use lua_pattern::{Alphabet, Capture};
+use lua_iterators::{Left, Stop, pay, span};
+use lua_number::NoMemory;
+use lua_pattern::{Alphabet, Capture, List};
 use lua_replacing::Stand;
-use lua_string::replacing::{CaptureText, replaced, replaced_length};
-use lua_string::text::push_all;
-use lua_strings::captures::span;
-use mw_frames::paying::pay;
 use mw_text::ends::first_byte;
+use mw_text::{
+    LuaStringReplacingCaptureText as CaptureText, lua_string_replacing_replaced as replaced,
+    lua_string_replacing_replaced_length as replaced_length, push_all,
+};
 use std::alloc::Global;
-use wk_base::{Left, List, NoMemory};
 
 /// Why a text is not replaced.
 #[derive(Clone, Copy, Debug, PartialEq, Eq)]

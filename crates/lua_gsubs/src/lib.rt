@@ -24,5 +24,7 @@ pub mod seeking;
 pub mod table;
 
 pub use beginning::{Begun, gsub_begin};
+pub use lua_iterators::{IteratorFunction, iterator_call, iterator_function, span};
+pub use lua_replacing::{Far, Job, Replacer, Replacing};
 pub use seeking::{Sought, seek};
 pub use table::{GsubFunction, gsub_function};

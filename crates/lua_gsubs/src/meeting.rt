@@ -1,19 +1,17 @@
 //! The next match, for a step a try.
 ghost use Rattle.std.specs.Prelude.{◌≡◌, ◌≤◌, length, IfOk, IfSome};
 ghost use Rattle.std.specs.Option.{option_map};
-ghost use Rattle.lua_string.specs.Walk.{walk};
-ghost use Rattle.lua_meaning.specs.Gsub.{next_stand as next_stand_of};
+ghost use Rattle.lua_replacing.specs.LuaStringWalk.{walk};
+ghost use Rattle.lua_replacing.specs.LuaMeaningGsub.{next_stand as next_stand_of};
 ghost use Rattle.lua_replacing.specs.Seen.{stand_seen, StandWithin};
 ghost use Rattle.lua_gsubs.specs.Met.{IsMet, MetWithin, PlaceWithin};
 
-use lua_basic::Stop;
 use lua_iterators::symbols::{next_place, symbols_before};
+use lua_iterators::{Left, Stop, pay, spend};
+use lua_number::NoMemory;
 use lua_pattern::{Alphabet, Match, Pattern, Search};
 use lua_replacing::Stand;
-use mw_frames::paying::pay;
-use mw_ustrings::giving::spend;
 use std::alloc::Global;
-use wk_base::{Left, NoMemory};
 
 /// What a search from a place on came to.
 #[derive(Drop, Debug)]

@@ -2,23 +2,21 @@
 //! are put into the text.
 ghost use Rattle.std.specs.Prelude.{◌≡◌, ◌≤◌, ℕ, suc, drop, length, Some, IfOk, OnOk};
 ghost use Rattle.std.specs.Option.{option_map};
-ghost use Rattle.wk_base.specs.declared.left.Left.{Left as Allowance};
-ghost use Rattle.lua_string.specs.Walk.{span as span_of};
-ghost use Rattle.lua_meaning.specs.Gsub as meaning;
+ghost use Rattle.lua_number.specs.WkBaseDeclaredLeftLeft.{Left as Allowance};
+ghost use Rattle.lua_replacing.specs.LuaStringWalk.{span as span_of};
+ghost use Rattle.lua_replacing.specs.LuaMeaningGsub as meaning;
 ghost use Rattle.lua_replacing.specs.Seen.{far_seen, stand_seen, StandWithin};
 ghost use Rattle.lua_gsubs.specs.Met.{PlaceWithin};
 ghost use Rattle.lua_gsubs.specs.Parts.{halt_in, IsPart, IsReplaced, GoesOn, IsRest, IsTail, IsPaidText};
 
 use crate::filling::{Halt, capture_texts, put_filled};
 use crate::meeting::{Met, meet, next_stand};
-use lua_basic::Stop;
+use lua_iterators::{Left, Stop, pay, span};
+use lua_number::NoMemory;
 use lua_pattern::{Alphabet, Match, Pattern};
 use lua_replacing::{Far, Stand};
-use lua_string::text::push_all;
-use lua_strings::captures::span;
-use mw_frames::paying::pay;
+use mw_text::push_all;
 use std::alloc::Global;
-use wk_base::{Left, NoMemory};
 
 /// One match more. So many do not fit in memory that they could not be counted.
 pub fn one_more(count: usize) -> Result<usize, NoMemory>

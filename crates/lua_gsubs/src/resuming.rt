@@ -1,12 +1,12 @@
 //! What was given for a match, and the end of a job.
 ghost use Rattle.std.specs.Prelude.{◌≡◌, ◌++◌, ℕ, List as Items, codes, drop, Ok, Err, IfOk, OnOk};
-ghost use Rattle.wk_base.specs.declared.left.Left.{Left as Allowance};
+ghost use Rattle.lua_number.specs.WkBaseDeclaredLeftLeft.{Left as Allowance};
 ghost use Rattle.std.specs.Fmt.{signed_decimal};
-ghost use Rattle.lua_heap.specs.Value as kind;
-ghost use Rattle.lua_meaning.specs.Gsub as meaning;
-ghost use Rattle.lua_meaning.specs.Values as plain;
-ghost use Rattle.lua_store.specs.Parts.{IsOf};
-ghost use Rattle.lua_store.specs.Seen.{seen};
+ghost use Rattle.lua_iterators.specs.LuaHeapValue as kind;
+ghost use Rattle.lua_replacing.specs.LuaMeaningGsub as meaning;
+ghost use Rattle.lua_iterators.specs.LuaMeaningValues as plain;
+ghost use Rattle.lua_replacing.specs.LuaStoreParts.{IsOf};
+ghost use Rattle.lua_replacing.specs.LuaStoreSeen.{seen};
 ghost use Rattle.lua_replacing.specs.Seen.{far_seen};
 ghost use Rattle.lua_gsubs.specs.Parts.{IsTail};
 ghost use Rattle.lua_replacing.specs.declared.far.Far.{Far as FarState};
@@ -14,13 +14,11 @@ ghost use Rattle.lua_gsubs.specs.Resumed.{IsGiven};
 
 use crate::filling::Halt;
 use crate::replacing::{behind, one_more, put_rest};
-use lua_basic::values::kind_of;
-use lua_replacing::Far;
-use lua_store::{Store, Value};
-use lua_string::text::push_all;
-use mw_frames::paying::pay;
+use lua_iterators::{Left, Store, kind_of, pay};
+use lua_number::NoMemory;
+use lua_replacing::{Far, Value};
+use mw_text::push_all;
 use std::alloc::Global;
-use wk_base::{Left, NoMemory};
 
 /// A piece in the place of a match, which is paid for already, is put behind the text.
 fn put_piece(far: &mut Far, piece: &[u8]) -> Result<(), NoMemory>

@@ -1,24 +1,21 @@
 //! The next match of a job, for which a table or a function is asked.
 ghost use Rattle.std.specs.Prelude.{◌≡◌, ◌≤◌, ℕ, length, IfOk, OnOk};
-ghost use Rattle.lua_string.specs.Walk.{walk};
-ghost use Rattle.lua_meaning.specs.Gsub as meaning;
-ghost use Rattle.lua_store.specs.Parts.{IsLater};
-ghost use Rattle.lua_store.specs.Seen.{text_at};
+ghost use Rattle.lua_replacing.specs.LuaStringWalk.{walk};
+ghost use Rattle.lua_replacing.specs.LuaMeaningGsub as meaning;
+ghost use Rattle.lua_replacing.specs.LuaStoreParts.{IsLater};
+ghost use Rattle.lua_replacing.specs.LuaStoreSeen.{text_at};
 ghost use Rattle.lua_replacing.specs.Seen.{alphabet_in, anchored_in, items_in, slots_in, stand_seen, job_seen, far_seen, StandWithin, JobOf};
 ghost use Rattle.lua_gsubs.specs.Met.{PlaceWithin};
 ghost use Rattle.lua_gsubs.specs.Sought.{IsHeld, IsWalked, IsSought, SoughtOf};
 
 use crate::meeting::{Met, meet, next_stand};
-use lua_basic::Stop;
 use lua_iterators::captures::match_values;
-use lua_pattern::{Alphabet, Match, OneByte, OnePoint, Pattern};
-use lua_replacing::{AnyPattern, Far, Job, Stand};
-use lua_store::{Store, Value};
-use lua_string::text::push_all;
-use lua_strings::captures::span;
-use mw_frames::paying::pay;
+use lua_iterators::{Left, Stop, Store, pay, span};
+use lua_number::NoMemory;
+use lua_pattern::{Alphabet, List, Match, OneByte, OnePoint, Pattern};
+use lua_replacing::{AnyPattern, Far, Job, Stand, Value};
+use mw_text::push_all;
 use std::alloc::Global;
-use wk_base::{Left, List, NoMemory};
 
 /// What a search for the next match came to.
 #[derive(Drop)]

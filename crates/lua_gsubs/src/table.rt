@@ -2,7 +2,7 @@
 ghost use Rattle.std.specs.Prelude.{◌≡◌};
 ghost use Rattle.lua_gsubs.specs.Table.{gsub_function_in};
 
-use lua_store::Library;
+use lua_iterators::Library;
 
 /// `string.gsub` (manual 5.4), which goes over bytes, or `mw.ustring.gsub` (Scribunto), which goes over code points.
 #[derive(Clone, Copy, Debug, PartialEq, Eq)]

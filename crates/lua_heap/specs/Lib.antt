@@ -1,3 +1,4 @@
+pub use Rattle.lua_table.specs.Entries as LuaTableEntries
 pub mod Value
 pub mod Table
 pub mod Heap

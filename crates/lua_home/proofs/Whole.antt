@@ -1,12 +1,12 @@
 -- All steps together make a fresh environment. The lists are variables here: sets that follow each other, written out, are slow to compare.
 use Rattle.std.proofs.Common.{◌≡◌, ◌∙◌, ℕ, ◌+◌, false, [], ◌∷◌, ◌++◌, map, length, refl, sym, ap, arith}
 use Rattle.std.specs.List.{AllByRecursion}
-use Rattle.lua_heap.specs.Table.{Entries}
-use Rattle.lua_heap.specs.Heap.{Heap}
-use Rattle.lua_heap.specs.Graph.{Graph, shift_entries, join}
+use Rattle.lua_graph.specs.LuaHeapTable.{Entries}
+use Rattle.lua_graph.specs.LuaHeapHeap.{Heap}
+use Rattle.lua_graph.specs.LuaHeapGraph.{Graph, shift_entries, join}
 use Rattle.lua_meaning.specs.Home.{globals, mw}
-use Rattle.lua_store.specs.Seen.{StoreView}
-use Rattle.lua_store.specs.Parts.{IsLater}
+use Rattle.lua_graph.specs.LuaStoreSeen.{StoreView}
+use Rattle.lua_graph.specs.LuaStoreParts.{IsLater}
 use Rattle.lua_graph.specs.Put.{grown, filled, all_filled}
 use Rattle.lua_graph.proofs.Joining.{all_set, joined}
 use Rattle.lua_home.specs.declared.made.Tables.{Tables}

@@ -1,9 +1,9 @@
 -- FIELDS that a table of the library gets: a name, and a text, a function of the library or a table.
 use Rattle.std.specs.Prelude.{List, map}
-use Rattle.lua_heap.specs.Value.{Value, Text, Table, Builtin}
-use Rattle.lua_heap.specs.Table.{Entries}
-use Rattle.lua_store.specs.Seen.{StoreView}
-use Rattle.lua_store.specs.Parts.{IsTableOf}
+use Rattle.lua_meaning.specs.LuaHeapValue.{Value, Text, Table, Builtin}
+use Rattle.lua_graph.specs.LuaHeapTable.{Entries}
+use Rattle.lua_graph.specs.LuaStoreSeen.{StoreView}
+use Rattle.lua_graph.specs.LuaStoreParts.{IsTableOf}
 use Rattle.lua_home.specs.declared.fields.Item.{Item}
 use Rattle.lua_home.specs.declared.fields.Item.TheVariants as item
 use Rattle.lua_home.specs.declared.fields.Field.{Field}

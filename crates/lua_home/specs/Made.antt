@@ -1,11 +1,11 @@
 -- A FRESH ENVIRONMENT IN A HEAP (manual 5; Scribunto, "Lua environment"): the nine tables with which each run of Lua begins stand behind
 -- those that were there, in the same order, and name each other by their new numbers.
 use Rattle.std.specs.Prelude.{◌≡◌, ℕ, ◌+◌, false}
-use Rattle.lua_heap.specs.Heap.{Heap}
-use Rattle.lua_heap.specs.Graph.{graph_heap, join}
+use Rattle.lua_graph.specs.LuaHeapHeap.{Heap}
+use Rattle.lua_graph.specs.LuaHeapGraph.{graph_heap, join}
 use Rattle.lua_meaning.specs.Home.{home_tables, home_heap}
-use Rattle.lua_store.specs.Seen.{StoreView}
-use Rattle.lua_store.specs.Parts.{IsTableOf}
+use Rattle.lua_graph.specs.LuaStoreSeen.{StoreView}
+use Rattle.lua_graph.specs.LuaStoreParts.{IsTableOf}
 use Rattle.lua_home.specs.declared.made.Tables.{Tables}
 
 abbrev pub with_home : {X : Type 0} → Heap X → Heap X

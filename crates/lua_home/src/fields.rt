@@ -1,16 +1,15 @@
 //! Fields of a table of the library.
 ghost use Rattle.std.specs.Prelude.{◌≡◌, ◌∷◌, [], IfOk, OnOk, MatchOption};
 ghost use Rattle.std.specs.List.{AllByRecursion};
-ghost use Rattle.lua_heap.specs.Heap.{set_in};
-ghost use Rattle.lua_heap.specs.Value as kind;
+ghost use Rattle.lua_graph.specs.LuaHeapHeap.{set_in};
+ghost use Rattle.lua_meaning.specs.LuaHeapValue as kind;
 ghost use Rattle.lua_graph.specs.Put.{filled};
-ghost use Rattle.lua_store.specs.Seen.{seen};
-ghost use Rattle.lua_store.specs.Parts.{IsOf, IsTableOf, IsLater};
-ghost use Rattle.lua_store.specs.declared.value.Value as own;
+ghost use Rattle.lua_graph.specs.LuaStoreSeen.{seen};
+ghost use Rattle.lua_graph.specs.LuaStoreParts.{IsOf, IsTableOf, IsLater};
+ghost use Rattle.lua_graph.specs.LuaStoreDeclaredValueValue as own;
 ghost use Rattle.lua_home.specs.Fields.{item_seen, fields_seen, IsItemOf, IsFieldOf};
 
-use lua_store::{Library, Store, TableId, Value};
-use wk_base::NoMemory;
+use lua_graph::{Library, NoMemory, Store, TableId, Value};
 
 /// What a field holds.
 #[derive(Clone, Copy)]

@@ -1,13 +1,12 @@
 //! The tables of a fresh environment.
 ghost use Rattle.std.specs.Prelude.{◌≡◌, ℕ, length, IfOk, OnOk};
 ghost use Rattle.lua_graph.specs.Put.{grown, filled};
-ghost use Rattle.lua_store.specs.Parts.{IsLater};
+ghost use Rattle.lua_graph.specs.LuaStoreParts.{IsLater};
 ghost use Rattle.lua_home.specs.Entries.{first_globals, middle_globals, last_globals, first_strings, last_strings, mw_fields, title_fields, table_fields, math_fields, first_ustring, last_ustring, first_text, last_text, html_fields, global_fields, string_fields, ustring_fields, text_fields};
 ghost use Rattle.lua_home.specs.Made.{with_home, AreAt, AreTablesOf, HomeIsHome};
 
 use crate::fields::{Field, Item, fill};
-use lua_store::{Library, Store, TableId};
-use wk_base::NoMemory;
+use lua_graph::{Library, NoMemory, Store, TableId};
 
 /// The tables of a fresh environment: those of the global variables, of the functions for strings, `mw`, `mw.title`, `table`, `math`,
 /// `mw.ustring`, `mw.text`, and `mw.html`.

@@ -6,11 +6,11 @@ use Rattle.lua_heap.specs.Related.{Stands}
 use Rattle.lua_heap.specs.Graph.{node_table, shift_entries}
 use Rattle.lua_heap.proofs.Joins.{behind, look-first, look-joined}
 use Rattle.lua_heap.proofs.Stood.{look-table}
-use Rattle.lua_meaning.specs.Scope.{Function}
-use Rattle.lua_meaning.specs.Home.{globals as global_entries, home_tables, home_heap}
-use Rattle.lua_slots.specs.Code.{CWorld}
-use Rattle.lua_library_agree.proofs.LibraryLaws.{homes_agree}
-use Rattle.lua_agree.specs.Functions.{SameFunction}
+use Rattle.lua_points.specs.LuaMeaningScope.{Function}
+use Rattle.lua_home.specs.LuaMeaningHome.{globals as global_entries, home_tables, home_heap}
+use Rattle.lua_points.specs.LuaSlotsCode.{CWorld}
+use Rattle.lua_points.proofs.LuaLibraryAgreeLibraryLaws.{homes_agree}
+use Rattle.lua_points.specs.LuaAgreeFunctions.{SameFunction}
 use Rattle.lua_points.specs.Told.{IsHome}
 use Rattle.lua_points.proofs.Clauses.{clause_of_start}
 use Rattle.lua_home.specs.Made.{with_home, IsHomeAt}

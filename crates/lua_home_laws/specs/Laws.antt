@@ -3,8 +3,8 @@
 use Rattle.std.specs.Prelude.{◌≡◌, ℕ, false, length}
 use Rattle.lua_heap.specs.Proc.{Proc}
 use Rattle.lua_heap.specs.Heap.{Heap, table_at}
-use Rattle.lua_meaning.specs.Start.{Work}
-use Rattle.lua_slots.specs.Code.{CWorld}
+use Rattle.lua_points.specs.LuaMeaningStart.{Work}
+use Rattle.lua_points.specs.LuaSlotsCode.{CWorld}
 use Rattle.lua_points.specs.Told.{IsHome, slots_at_start}
 use Rattle.lua_points.specs.Clauses.{Starts}
 use Rattle.lua_home.specs.declared.made.Tables.{Tables}

@@ -1,14 +1,14 @@
 -- The moves to the values of a list that is read in place.
 use Rattle.std.proofs.Common.{◌≡◌, ℕ, ◌+◌, ◌-◌, ◌∙◌, List, [], ◌∷◌, ◌++◌, append-nil, append_assoc, Some, refl, sym, ap, subst, arith}
-use Rattle.page_run.specs.Outcome.{Goes}
-use Rattle.lua_heap.specs.Value.{Value}
-use Rattle.lua_slots.specs.Code.{Constants, CExps, NoC, MoreC, CWorld}
-use Rattle.lua_slots.specs.Slots.{Slots}
-use Rattle.lua_slots.specs.Points.{SFrame, MoreNext, Point, Gives, Evals, Lists, Move, Now}
-use Rattle.lua_slots.specs.Errors.{gives}
-use Rattle.lua_slots.specs.Calls.{constants_of}
-use Rattle.lua_slots.specs.Moves.{moves}
-use Rattle.lua_slots.specs.Enact.{Funds, Stands, enact}
+use Rattle.lua_goes.specs.PageRunOutcome.{Goes}
+use Rattle.lua_goes.specs.LuaHeapValue.{Value}
+use Rattle.lua_goes.specs.LuaSlotsCode.{Constants, CExps, NoC, MoreC, CWorld}
+use Rattle.lua_goes.specs.LuaSlotsSlots.{Slots}
+use Rattle.lua_goes.specs.LuaSlotsPoints.{SFrame, MoreNext, Point, Gives, Evals, Lists, Move, Now}
+use Rattle.lua_goes.specs.LuaSlotsErrors.{gives}
+use Rattle.lua_goes.specs.LuaSlotsCalls.{constants_of}
+use Rattle.lua_goes.specs.LuaSlotsMoves.{moves}
+use Rattle.lua_goes.specs.LuaSlotsEnact.{Funds, Stands, enact}
 use Rattle.lua_goes.specs.Going.{Reaches, here, further}
 use Rattle.lua_in_place.specs.InPlace.{in_place, all_in_place}
 use Rattle.lua_in_place.specs.Laws.{ListReadInPlace}

@@ -1,8 +1,8 @@
 -- An expression that is read in place has a node.
 use Rattle.std.proofs.Common.{ℕ, ◌≤◌, Bool, Option, Some, arith}
-use Rattle.lua_heap.specs.Value.{Value, Text}
-use Rattle.lua_slots.specs.Code.{ConstantC, TextC, LocalC, GlobalC, IndexC, AndC, OrC, OperateC, UnaryC, ParenC}
-use Rattle.lua_slots.specs.Slots.{read_place}
+use Rattle.lua_goes.specs.LuaHeapValue.{Value, Text}
+use Rattle.lua_goes.specs.LuaSlotsCode.{ConstantC, TextC, LocalC, GlobalC, IndexC, AndC, OrC, OperateC, UnaryC, ParenC}
+use Rattle.lua_goes.specs.LuaSlotsSlots.{read_place}
 use Rattle.lua_in_place.specs.InPlace.{in_place, operated, applied, entry, indexed}
 use Rattle.lua_in_place.specs.Laws.{NodesAreSome}
 use Rattle.lua_in_place.proofs.Parts.{with_nodes_is, one_read, two_read, Decided, by_first, by_second, and_parts, or_parts}

@@ -1,6 +1,6 @@
 -- What an expression that is read in place has of its operands.
 use Rattle.std.proofs.Common.{◌≡◌, ℕ, ◌+◌, Bool, true, false, not, List, ◌∷◌, Option, Some, None, refl, sym, ap}
-use Rattle.lua_heap.specs.Value.{Value, is_true}
+use Rattle.lua_goes.specs.LuaHeapValue.{Value, is_true}
 use Rattle.lua_in_place.specs.InPlace.{with_nodes, around, around_both, first_if, and_read, or_read, in_front}
 
 pub with_nodes_is : (n : ℕ) (o : Option Value) (v : Value) (m : ℕ) → with_nodes n o ≡ Some (v, m) → (o ≡ Some v) × (m ≡ n)

@@ -1,21 +1,21 @@
 -- What an operator tells in place is what its last move gives, whichever frames wait.
 use Rattle.std.proofs.Common.{◌≡◌, ℕ, Bool, true, false, List, [], ◌∷◌, Option, Some, None, ap}
 use Rattle.std.specs.Prelude.{ℤ, Result, Ok, Err, if◌then◌else◌, int_lt, int_le, codes}
-use Rattle.lua_syntax.specs.declared.UnaryOp.{UnaryOp}
-use Rattle.lua_syntax.specs.declared.UnaryOp.TheVariants as sign
-use Rattle.lua_number.specs.declared.arithmetic.NumberFault.{NumberFault}
-use Rattle.lua_number.specs.Whole.{negative_of}
-use Rattle.lua_heap.specs.Value.{Value, Nil, Truth, Number, Text, Table, same, is_nil}
-use Rattle.lua_heap.specs.Table.{get}
-use Rattle.lua_heap.specs.Heap.{table_at}
-use Rattle.lua_meaning.specs.Values.{number_in}
-use Rattle.lua_meaning.specs.Metatables.{handler, common_handler}
-use Rattle.lua_meaning.specs.Operators.{Arithmetic, Operator, Less, Greater, AtMost, AtLeast, Equal, Unequal, Concatenate, Calculate, result_of}
-use Rattle.lua_slots.specs.Slots.{Slots}
-use Rattle.lua_slots.specs.Points.{SFrame, Move}
-use Rattle.lua_slots.specs.Errors.{choose, gives}
-use Rattle.lua_slots.specs.Index as indexing
-use Rattle.lua_slots.specs.Operators as operators
+use Rattle.lua_goes.specs.LuaSyntaxDeclaredUnaryOp.{UnaryOp}
+use Rattle.lua_goes.specs.LuaSyntaxDeclaredUnaryOpTheVariants as sign
+use Rattle.lua_goes.specs.LuaNumberDeclaredArithmeticNumberFault.{NumberFault}
+use Rattle.lua_goes.specs.LuaNumberWhole.{negative_of}
+use Rattle.lua_goes.specs.LuaHeapValue.{Value, Nil, Truth, Number, Text, Table, same, is_nil}
+use Rattle.lua_goes.specs.LuaHeapTable.{get}
+use Rattle.lua_goes.specs.LuaHeapHeap.{table_at}
+use Rattle.lua_goes.specs.LuaMeaningValues.{number_in}
+use Rattle.lua_goes.specs.LuaMeaningMetatables.{handler, common_handler}
+use Rattle.lua_goes.specs.LuaMeaningOperators.{Arithmetic, Operator, Less, Greater, AtMost, AtLeast, Equal, Unequal, Concatenate, Calculate, result_of}
+use Rattle.lua_goes.specs.LuaSlotsSlots.{Slots}
+use Rattle.lua_goes.specs.LuaSlotsPoints.{SFrame, Move}
+use Rattle.lua_goes.specs.LuaSlotsErrors.{choose, gives}
+use Rattle.lua_goes.specs.LuaSlotsIndex as indexing
+use Rattle.lua_goes.specs.LuaSlotsOperators as operators
 use Rattle.lua_in_place.specs.InPlace.{number_of, calculated, is_less, is_at_most, operated, length_told, negated, applied, found, entry, indexed}
 
 module _ (line : Option ℕ) (fs : List SFrame) (s : Slots) where

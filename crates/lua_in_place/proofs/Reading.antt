@@ -1,19 +1,19 @@
 -- The moves to the value of an expression that is read in place, by induction on the expression.
 use Rattle.std.proofs.Common.{◌≡◌, ℕ, ◌+◌, ◌-◌, ◌∙◌, Bool, true, false, List, [], ◌∷◌, Option, Some, None, refl, sym, ap, arith}
-use Rattle.page_run.specs.Outcome.{Goes}
-use Rattle.page_run.specs.Perform.{less}
-use Rattle.page_run.proofs.Less.{less_of}
-use Rattle.lua_heap.specs.Value.{Value, Text, is_true}
-use Rattle.lua_syntax.specs.declared.UnaryOp.{UnaryOp}
-use Rattle.lua_meaning.specs.Operators.{Operator}
-use Rattle.lua_slots.specs.Code.{CExp, ConstantC, TextC, LocalC, GlobalC, IndexC, AndC, OrC, OperateC, UnaryC, ParenC, CWorld}
-use Rattle.lua_slots.specs.Slots.{Slots, read_place}
-use Rattle.lua_slots.specs.Points.{SFrame, First, KeyNext, IndexNow, DecideNext, OperandNext, OperateNow, UnaryNow, Point, Gives, Evals, Move, Marks, Now}
-use Rattle.lua_slots.specs.Errors.{node, choose, gives}
-use Rattle.lua_slots.specs.Calls.{constants_of}
-use Rattle.lua_slots.specs.Expressions.{decides, choose_operand}
-use Rattle.lua_slots.specs.Moves.{moves}
-use Rattle.lua_slots.specs.Enact.{Funds, Stands, paid, enact}
+use Rattle.lua_goes.specs.PageRunOutcome.{Goes}
+use Rattle.lua_goes.specs.PageRunPerform.{less}
+use Rattle.lua_goes.proofs.PageRunLess.{less_of}
+use Rattle.lua_goes.specs.LuaHeapValue.{Value, Text, is_true}
+use Rattle.lua_goes.specs.LuaSyntaxDeclaredUnaryOp.{UnaryOp}
+use Rattle.lua_goes.specs.LuaMeaningOperators.{Operator}
+use Rattle.lua_goes.specs.LuaSlotsCode.{CExp, ConstantC, TextC, LocalC, GlobalC, IndexC, AndC, OrC, OperateC, UnaryC, ParenC, CWorld}
+use Rattle.lua_goes.specs.LuaSlotsSlots.{Slots, read_place}
+use Rattle.lua_goes.specs.LuaSlotsPoints.{SFrame, First, KeyNext, IndexNow, DecideNext, OperandNext, OperateNow, UnaryNow, Point, Gives, Evals, Move, Marks, Now}
+use Rattle.lua_goes.specs.LuaSlotsErrors.{node, choose, gives}
+use Rattle.lua_goes.specs.LuaSlotsCalls.{constants_of}
+use Rattle.lua_goes.specs.LuaSlotsExpressions.{decides, choose_operand}
+use Rattle.lua_goes.specs.LuaSlotsMoves.{moves}
+use Rattle.lua_goes.specs.LuaSlotsEnact.{Funds, Stands, paid, enact}
 use Rattle.lua_goes.specs.Going.{Reaches, here, further}
 use Rattle.lua_in_place.specs.InPlace.{in_place, operated, applied, entry, indexed}
 use Rattle.lua_in_place.specs.Laws.{ReadInPlace}

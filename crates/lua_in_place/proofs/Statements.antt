@@ -1,16 +1,16 @@
 -- SEVERAL MOVES AT ONCE: what the moves of a call and of a statement come to whose expressions are read in place.
 use Rattle.std.proofs.Common.{◌≡◌, ℕ, ◌+◌, ◌∙◌, Bool, true, false, List, [], ◌∷◌, length, Option, Some, None, refl, sym, ap, arith}
-use Rattle.page_run.specs.Outcome.{Goes, Jumps}
-use Rattle.lua_heap.specs.Value.{Value, is_true}
-use Rattle.lua_meaning.specs.Acts.{Returned}
-use Rattle.lua_slots.specs.Code.{Place, CExp, CallC, CExps, NoC, MoreC, PlaceC, EntryC, CArms, NoArmC, ArmC, AssignC, CallStatC, IfC, IfElseC, ReturnC, CBlock, DeclareC, ThenC, CWorld}
-use Rattle.lua_slots.specs.Slots.{Slots, write_place, opened}
-use Rattle.lua_slots.specs.Points.{PlaceS, EntryS, SFrame, ArgumentsNext, CallNow, MoreNext, TargetKey, TargetNow, AssignNow, SetsNext, DeclareNow, StatsNext, BranchNext, BlockEnd, ReturnNow, Point, Gives, Evals, Lists, Finds, Sets, Runs, Move, Now}
-use Rattle.lua_slots.specs.Errors.{node, choose, gives}
-use Rattle.lua_slots.specs.Calls.{constants_of}
-use Rattle.lua_slots.specs.Statements.{within, branches}
-use Rattle.lua_slots.specs.Moves.{moves}
-use Rattle.lua_slots.specs.Enact.{Funds, enact}
+use Rattle.lua_goes.specs.PageRunOutcome.{Goes, Jumps}
+use Rattle.lua_goes.specs.LuaHeapValue.{Value, is_true}
+use Rattle.lua_goes.specs.LuaMeaningActs.{Returned}
+use Rattle.lua_goes.specs.LuaSlotsCode.{Place, CExp, CallC, CExps, NoC, MoreC, PlaceC, EntryC, CArms, NoArmC, ArmC, AssignC, CallStatC, IfC, IfElseC, ReturnC, CBlock, DeclareC, ThenC, CWorld}
+use Rattle.lua_goes.specs.LuaSlotsSlots.{Slots, write_place, opened}
+use Rattle.lua_goes.specs.LuaSlotsPoints.{PlaceS, EntryS, SFrame, ArgumentsNext, CallNow, MoreNext, TargetKey, TargetNow, AssignNow, SetsNext, DeclareNow, StatsNext, BranchNext, BlockEnd, ReturnNow, Point, Gives, Evals, Lists, Finds, Sets, Runs, Move, Now}
+use Rattle.lua_goes.specs.LuaSlotsErrors.{node, choose, gives}
+use Rattle.lua_goes.specs.LuaSlotsCalls.{constants_of}
+use Rattle.lua_goes.specs.LuaSlotsStatements.{within, branches}
+use Rattle.lua_goes.specs.LuaSlotsMoves.{moves}
+use Rattle.lua_goes.specs.LuaSlotsEnact.{Funds, enact}
 use Rattle.lua_goes.specs.Going.{Reaches, here, further}
 use Rattle.lua_in_place.specs.InPlace.{in_place, all_in_place}
 use Rattle.lua_in_place.proofs.Reading.{with_count, reach_then, node_move, free_move, reads}

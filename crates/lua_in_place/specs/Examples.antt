@@ -1,12 +1,12 @@
 -- WORKED EXAMPLES: values that a reader knows, each with its nodes.
 use Rattle.std.specs.Prelude.{◌≡◌, ℕ, pos, true, false, [], ◌∷◌, Some, None, codes}
-use Rattle.lua_syntax.specs.declared.UnaryOp.TheVariants as sign
-use Rattle.lua_heap.specs.Value.{Nil, Truth, Number, Text, Table}
-use Rattle.lua_heap.specs.Heap.{empty, new_table, set_in, set_meta_in}
-use Rattle.lua_meaning.specs.Operators.{Add, Mul, Div, Less, AtMost, Greater, Equal, Unequal, Concatenate, Calculate}
-use Rattle.lua_slots.specs.Code.{Constants, CExp, ConstantC, TextC, DotsC, LocalC, Reg, AndC, OrC, OperateC, UnaryC, ParenC, IndexC, GlobalC, NoC, MoreC}
-use Rattle.lua_slots.specs.Slots.{Slots, no_slots, Plain}
-use Rattle.lua_slots.specs.Trial.{code_with}
+use Rattle.lua_goes.specs.LuaSyntaxDeclaredUnaryOpTheVariants as sign
+use Rattle.lua_goes.specs.LuaHeapValue.{Nil, Truth, Number, Text, Table}
+use Rattle.lua_goes.specs.LuaHeapHeap.{empty, new_table, set_in, set_meta_in}
+use Rattle.lua_goes.specs.LuaMeaningOperators.{Add, Mul, Div, Less, AtMost, Greater, Equal, Unequal, Concatenate, Calculate}
+use Rattle.lua_goes.specs.LuaSlotsCode.{Constants, CExp, ConstantC, TextC, DotsC, LocalC, Reg, AndC, OrC, OperateC, UnaryC, ParenC, IndexC, GlobalC, NoC, MoreC}
+use Rattle.lua_goes.specs.LuaSlotsSlots.{Slots, no_slots, Plain}
+use Rattle.lua_goes.specs.LuaSlotsTrial.{code_with}
 use Rattle.lua_in_place.specs.InPlace.{in_place, all_in_place}
 
 abbrev pub number : ℕ → CExp

@@ -1,18 +1,18 @@
 -- EXPRESSIONS THAT ARE READ WHERE THEY STAND (manual 2.5): one that calls nobody, changes nothing and ends without an error has a value
 -- at once, at one step for each of its nodes. `None` tells that it is evaluated move by move.
 use Rattle.std.specs.Prelude.{ℕ, ◌+◌, ℤ, pos, Bool, true, false, not, List, [], ◌∷◌, length, Option, Some, None, Result, Ok, Err, if◌then◌else◌, int_lt, int_le, codes}
-use Rattle.lua_syntax.specs.declared.UnaryOp.{UnaryOp}
-use Rattle.lua_syntax.specs.declared.UnaryOp.TheVariants as sign
-use Rattle.lua_number.specs.declared.arithmetic.NumberFault.{NumberFault}
-use Rattle.lua_number.specs.Whole.{negative_of}
-use Rattle.lua_heap.specs.Proc.{Proc}
-use Rattle.lua_heap.specs.Value.{Value, Nil, Truth, Number, Text, Table, same, is_true, is_nil}
-use Rattle.lua_heap.specs.Table.{get, border}
-use Rattle.lua_heap.specs.Heap.{Heap, table_at}
-use Rattle.lua_meaning.specs.Metatables.{handler, common_handler}
-use Rattle.lua_meaning.specs.Operators.{Arithmetic, Operator, Less, Greater, AtMost, AtLeast, Equal, Unequal, Concatenate, Calculate, result_of}
-use Rattle.lua_slots.specs.Code.{Constants, CExp, ConstantC, TextC, LocalC, GlobalC, IndexC, AndC, OrC, OperateC, UnaryC, ParenC, CExps, NoC, MoreC}
-use Rattle.lua_slots.specs.Slots.{Slots, read_place}
+use Rattle.lua_goes.specs.LuaSyntaxDeclaredUnaryOp.{UnaryOp}
+use Rattle.lua_goes.specs.LuaSyntaxDeclaredUnaryOpTheVariants as sign
+use Rattle.lua_goes.specs.LuaNumberDeclaredArithmeticNumberFault.{NumberFault}
+use Rattle.lua_goes.specs.LuaNumberWhole.{negative_of}
+use Rattle.lua_goes.specs.LuaHeapProc.{Proc}
+use Rattle.lua_goes.specs.LuaHeapValue.{Value, Nil, Truth, Number, Text, Table, same, is_true, is_nil}
+use Rattle.lua_goes.specs.LuaHeapTable.{get, border}
+use Rattle.lua_goes.specs.LuaHeapHeap.{Heap, table_at}
+use Rattle.lua_goes.specs.LuaMeaningMetatables.{handler, common_handler}
+use Rattle.lua_goes.specs.LuaMeaningOperators.{Arithmetic, Operator, Less, Greater, AtMost, AtLeast, Equal, Unequal, Concatenate, Calculate, result_of}
+use Rattle.lua_goes.specs.LuaSlotsCode.{Constants, CExp, ConstantC, TextC, LocalC, GlobalC, IndexC, AndC, OrC, OperateC, UnaryC, ParenC, CExps, NoC, MoreC}
+use Rattle.lua_goes.specs.LuaSlotsSlots.{Slots, read_place}
 
 -- HANDLERS (2.8): a value where there is none to ask
 abbrev pub unless_asked : Value → Value → Option Value

@@ -1,12 +1,12 @@
 -- WHAT IS READ IN PLACE is what the moves of a machine come to.
 use Rattle.std.specs.Prelude.{◌≡◌, ◌≤◌, ℕ, ◌+◌, ◌-◌, List, [], ◌∷◌, ◌++◌, Some}
-use Rattle.page_run.specs.Outcome.{Goes}
-use Rattle.lua_heap.specs.Value.{Value}
-use Rattle.lua_slots.specs.Code.{Constants, CExp, CExps, CWorld}
-use Rattle.lua_slots.specs.Slots.{Slots}
-use Rattle.lua_slots.specs.Points.{SFrame, Gives, Evals, Lists}
-use Rattle.lua_slots.specs.Calls.{constants_of}
-use Rattle.lua_slots.specs.Enact.{Funds}
+use Rattle.lua_goes.specs.PageRunOutcome.{Goes}
+use Rattle.lua_goes.specs.LuaHeapValue.{Value}
+use Rattle.lua_goes.specs.LuaSlotsCode.{Constants, CExp, CExps, CWorld}
+use Rattle.lua_goes.specs.LuaSlotsSlots.{Slots}
+use Rattle.lua_goes.specs.LuaSlotsPoints.{SFrame, Gives, Evals, Lists}
+use Rattle.lua_goes.specs.LuaSlotsCalls.{constants_of}
+use Rattle.lua_goes.specs.LuaSlotsEnact.{Funds}
 use Rattle.lua_goes.specs.Going.{Reaches}
 use Rattle.lua_in_place.specs.InPlace.{in_place, all_in_place}
 

@@ -1,13 +1,13 @@
 -- Answers after which cells hold other values; cells and values in a later store.
 use Rattle.std.proofs.Common.{◌≡◌, ◌∙◌, ap, sym, arith, ◌≤◌, length, List}
-use Rattle.lua_heap.specs.Proc.{Proc}
-use Rattle.lua_heap.specs.Heap.{Heap}
-use Rattle.lua_heap.specs.Value as kind
-use Rattle.lua_meaning.specs.Arguments.{Plain, Gives, costs}
-use Rattle.lua_store.specs.declared.value.Value.{Value}
-use Rattle.lua_store.specs.Seen.{StoreView}
-use Rattle.lua_store.specs.Parts.{IsLater}
-use Rattle.lua_basic.specs.Seen.{values_seen, ends}
+use Rattle.lua_strings.specs.LuaHeapProc.{Proc}
+use Rattle.lua_strings.specs.LuaHeapHeap.{Heap}
+use Rattle.lua_strings.specs.LuaHeapValue as kind
+use Rattle.lua_strings.specs.LuaMeaningArguments.{Plain, Gives, costs}
+use Rattle.lua_strings.specs.LuaStoreDeclaredValueValue.{Value}
+use Rattle.lua_strings.specs.LuaStoreSeen.{StoreView}
+use Rattle.lua_strings.specs.LuaStoreParts.{IsLater}
+use Rattle.lua_strings.specs.LuaBasicSeen.{values_seen, ends}
 use Rattle.lua_iterators.specs.declared.cells.IteratorCells.{IteratorCells}
 use Rattle.lua_iterators.specs.Held.{AreOf}
 

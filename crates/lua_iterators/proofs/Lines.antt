@@ -1,9 +1,9 @@
 -- Each of these functions is a line of the table of the library.
 use Rattle.std.proofs.Common.{◌≡◌, ◌∙◌, ap, arith, ℕ, ◌+◌, Some}
-use Rattle.lua_heap.specs.declared.library.Library.TheVariants.{StringGmatch, UstringGmatch, UstringGcodepoint, TextGsplit, GmatchStep, UstringGmatchStep, GcodepointStep, GsplitStep}
-use Rattle.lua_meaning.specs.Arguments.{Plain, with_charge}
-use Rattle.lua_meaning.specs.Iterators.{gmatch, gmatch_step}
-use Rattle.lua_meaning.specs.Libraries.{Answers}
+use Rattle.lua_strings.specs.LuaHeapDeclaredLibraryLibraryTheVariants.{StringGmatch, UstringGmatch, UstringGcodepoint, TextGsplit, GmatchStep, UstringGmatchStep, GcodepointStep, GsplitStep}
+use Rattle.lua_strings.specs.LuaMeaningArguments.{Plain, with_charge}
+use Rattle.lua_strings.specs.LuaMeaningIterators.{gmatch, gmatch_step}
+use Rattle.lua_strings.specs.LuaMeaningLibraries.{Answers}
 use Rattle.lua_iterators.specs.declared.table.Maker.TheVariants as maker
 use Rattle.lua_iterators.specs.declared.table.Stepper.TheVariants as stepper
 use Rattle.lua_iterators.specs.declared.table.IteratorFunction.{IteratorFunction}

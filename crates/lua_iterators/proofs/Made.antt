@@ -2,25 +2,25 @@
 use Rattle.std.proofs.Common.{◌≡◌, ◌∙◌, ap, sym, ℕ, List, [], ◌∷◌, Option, Some, None, Ok, Err}
 use Rattle.std.specs.Prelude.{Bool, true, false, if◌then◌else◌, codes, Result}
 use Rattle.std.specs.Str.{is_utf8}
-use Rattle.lua_heap.specs.Proc.{Proc}
-use Rattle.lua_heap.specs.Value as kind
-use Rattle.lua_heap.specs.Heap.{Heap, Iterator, new_cell, new_closure}
-use Rattle.lua_heap.specs.declared.library.Library.{Library}
-use Rattle.lua_meaning.specs.Scope.{Bytes}
-use Rattle.lua_meaning.specs.Values.{first, text_in}
-use Rattle.lua_meaning.specs.Messages.{bad_argument}
-use Rattle.lua_meaning.specs.Arguments.{Plain, PlainEnd, Gives, Argument, some_text, a_text}
-use Rattle.lua_meaning.specs.TextArguments.{in_utf8, utf8_text}
-use Rattle.lua_meaning.specs.Iterators.{new_cells, make_iterator}
-use Rattle.lua_store.specs.declared.ids.ClosureId.{ClosureId}
-use Rattle.lua_store.specs.declared.value.Value.{Value}
-use Rattle.lua_store.specs.declared.value.Value.TheVariants as own
-use Rattle.lua_store.specs.Seen.{StoreView, seen}
-use Rattle.lua_store.specs.Parts.{IsOf, IsLater}
-use Rattle.lua_store.proofs.Later.{seen-later}
-use Rattle.lua_basic.specs.Seen.{values_seen, Covers}
-use Rattle.wk_base.specs.declared.left.Left.{Left}
-use Rattle.mw_frames.specs.Costs.{Took}
+use Rattle.lua_strings.specs.LuaHeapProc.{Proc}
+use Rattle.lua_strings.specs.LuaHeapValue as kind
+use Rattle.lua_strings.specs.LuaHeapHeap.{Heap, Iterator, new_cell, new_closure}
+use Rattle.lua_strings.specs.LuaHeapDeclaredLibraryLibrary.{Library}
+use Rattle.lua_strings.specs.LuaMeaningScope.{Bytes}
+use Rattle.lua_strings.specs.LuaMeaningValues.{first, text_in}
+use Rattle.lua_strings.specs.LuaMeaningMessages.{bad_argument}
+use Rattle.lua_strings.specs.LuaMeaningArguments.{Plain, PlainEnd, Gives, Argument, some_text, a_text}
+use Rattle.lua_strings.specs.LuaMeaningTextArguments.{in_utf8, utf8_text}
+use Rattle.lua_strings.specs.LuaMeaningIterators.{new_cells, make_iterator}
+use Rattle.lua_strings.specs.LuaStoreDeclaredIdsClosureId.{ClosureId}
+use Rattle.lua_strings.specs.LuaStoreDeclaredValueValue.{Value}
+use Rattle.lua_strings.specs.LuaStoreDeclaredValueValueTheVariants as own
+use Rattle.lua_strings.specs.LuaStoreSeen.{StoreView, seen}
+use Rattle.lua_strings.specs.LuaStoreParts.{IsOf, IsLater}
+use Rattle.lua_strings.proofs.LuaStoreLater.{seen-later}
+use Rattle.lua_strings.specs.LuaBasicSeen.{values_seen, Covers}
+use Rattle.lua_strings.specs.WkBaseDeclaredLeftLeft.{Left}
+use Rattle.mw_ustrings.specs.MwFramesCosts.{Took}
 
 -- a cell in front of others
 pub cell_first : (v : kind.Value) (h i : Heap Proc) (id : ℕ) → i ≡ (new_cell h v).0 → id ≡ (new_cell h v).1

@@ -1,21 +1,21 @@
 -- What the answers of searches are in a walk over parts: those of the meaning.
 use Rattle.std.proofs.Common.{◌≡◌, ◌∙◌, ap, sym, subst, refl, arith, ℕ, ◌<◌, Bool, true, false, if◌then◌else◌, List, [], ◌∷◌, length, drop, Option, Some, None}
 use Rattle.std.specs.Prelude.{Result, nat_lt}
-use Rattle.lua_pattern.specs.declared.pattern.Match.{Match}
-use Rattle.lua_pattern.specs.declared.pattern.Search.TheVariants as search
-use Rattle.lua_pattern.specs.Letters.{Symbol}
-use Rattle.lua_pattern.specs.Texts.{points}
-use Rattle.lua_pattern.specs.declared.read.PatternFault.{PatternFault}
-use Rattle.lua_pattern.specs.declared.read.PatternFault.TheVariants as fault
+use Rattle.lua_string.specs.LuaPatternDeclaredPatternMatch.{Match}
+use Rattle.lua_string.specs.LuaPatternDeclaredPatternSearchTheVariants as search
+use Rattle.lua_string.specs.LuaPatternLetters.{Symbol}
+use Rattle.lua_string.specs.LuaPatternTexts.{points}
+use Rattle.lua_string.specs.LuaPatternDeclaredReadPatternFault.{PatternFault}
+use Rattle.lua_string.specs.LuaPatternDeclaredReadPatternFaultTheVariants as fault
 use Rattle.mw_text.specs.declared.splitting.Part.{Part}
 use Rattle.mw_text.specs.Split.{Sought, IsSoughtFault, Found, IsMet, after_empty, cut, cut_at}
-use Rattle.lua_heap.specs.Proc.{Proc}
-use Rattle.lua_heap.specs.Heap.{Heap}
-use Rattle.lua_meaning.specs.Scope.{Bytes}
-use Rattle.lua_meaning.specs.Iterators.{Cells, part_given, parted_by}
-use Rattle.lua_store.specs.Seen.{StoreView}
-use Rattle.lua_basic.specs.declared.stop.Stop.{Stop}
-use Rattle.lua_basic.specs.Seen.{Stops}
+use Rattle.lua_strings.specs.LuaHeapProc.{Proc}
+use Rattle.lua_strings.specs.LuaHeapHeap.{Heap}
+use Rattle.lua_strings.specs.LuaMeaningScope.{Bytes}
+use Rattle.lua_strings.specs.LuaMeaningIterators.{Cells, part_given, parted_by}
+use Rattle.lua_strings.specs.LuaStoreSeen.{StoreView}
+use Rattle.lua_strings.specs.LuaBasicDeclaredStopStop.{Stop}
+use Rattle.lua_strings.specs.LuaBasicSeen.{Stops}
 use Rattle.mw_ustrings.specs.Faults.{FaultStops}
 
 -- the part that a search tells

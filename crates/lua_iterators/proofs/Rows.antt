@@ -3,7 +3,7 @@ use Rattle.std.proofs.Common.{refl}
 use Rattle.std.specs.Str.{is_utf8, chars}
 use Rattle.std.specs.Char.{encode_utf8}
 use Rattle.std.specs.Fmt.{digits}
-use Rattle.lua_pattern.specs.Texts.{point_code}
+use Rattle.lua_string.specs.LuaPatternTexts.{point_code}
 use Rattle.lua_iterators.specs.Examples.{Empties, Captured, Patterns, Points, CodePoints, Parts, Refused}
 
 pub empties : Empties

@@ -1,28 +1,28 @@
 -- What the answers of searches are in a walk over matches: those of the meaning.
 use Rattle.std.proofs.Common.{◌≡◌, ◌∙◌, ap, sym, subst, refl, arith, ℕ, ◌+◌, ◌<◌, Bool, List, [], ◌∷◌, Option}
-use Rattle.lua_pattern.specs.declared.pattern.Capture.{Capture}
-use Rattle.lua_pattern.specs.declared.pattern.Match.{Match}
-use Rattle.lua_pattern.specs.declared.pattern.Search.TheVariants as search
-use Rattle.lua_pattern.specs.declared.read.PatternFault.{PatternFault}
-use Rattle.lua_pattern.specs.declared.read.PatternFault.TheVariants as fault
-use Rattle.lua_pattern.specs.declared.slots.Slot.{Slot}
-use Rattle.lua_pattern.specs.Letters.{Letters}
-use Rattle.lua_pattern.specs.Way.{Answer, At, Nowhere}
-use Rattle.lua_pattern.specs.Found.{IsSearch}
-use Rattle.lua_pattern.specs.Read.{Read}
-use Rattle.lua_pattern.specs.Reads.{IsReadFault}
-use Rattle.lua_pattern.specs.Sizes.{match_bytes}
+use Rattle.lua_string.specs.LuaPatternDeclaredPatternCapture.{Capture}
+use Rattle.lua_string.specs.LuaPatternDeclaredPatternMatch.{Match}
+use Rattle.lua_string.specs.LuaPatternDeclaredPatternSearchTheVariants as search
+use Rattle.lua_string.specs.LuaPatternDeclaredReadPatternFault.{PatternFault}
+use Rattle.lua_string.specs.LuaPatternDeclaredReadPatternFaultTheVariants as fault
+use Rattle.lua_string.specs.LuaPatternDeclaredSlotsSlot.{Slot}
+use Rattle.lua_string.specs.LuaPatternLetters.{Letters}
+use Rattle.lua_string.specs.LuaPatternWay.{Answer, At, Nowhere}
+use Rattle.lua_string.specs.LuaPatternFound.{IsSearch}
+use Rattle.lua_string.specs.LuaPatternRead.{Read}
+use Rattle.lua_string.specs.LuaPatternReads.{IsReadFault}
+use Rattle.lua_string.specs.LuaPatternSizes.{match_bytes}
 use Rattle.lua_string.specs.Finds.{match_of}
 use Rattle.lua_string.specs.Walk.{walk_on, next_place}
-use Rattle.lua_heap.specs.Proc.{Proc}
-use Rattle.lua_heap.specs.Value.{Nil}
-use Rattle.lua_heap.specs.Heap.{Heap, set_cell_in}
-use Rattle.lua_meaning.specs.Scope.{Bytes}
-use Rattle.lua_meaning.specs.Arguments.{Plain, costs}
-use Rattle.lua_meaning.specs.Iterators.{Cells, Stand, match_given, goes_on, walked, walks_by}
-use Rattle.lua_store.specs.Seen.{StoreView}
-use Rattle.lua_basic.specs.declared.stop.Stop.{Stop}
-use Rattle.lua_basic.specs.Seen.{Stops}
+use Rattle.lua_strings.specs.LuaHeapProc.{Proc}
+use Rattle.lua_strings.specs.LuaHeapValue.{Nil}
+use Rattle.lua_strings.specs.LuaHeapHeap.{Heap, set_cell_in}
+use Rattle.lua_strings.specs.LuaMeaningScope.{Bytes}
+use Rattle.lua_strings.specs.LuaMeaningArguments.{Plain, costs}
+use Rattle.lua_strings.specs.LuaMeaningIterators.{Cells, Stand, match_given, goes_on, walked, walks_by}
+use Rattle.lua_strings.specs.LuaStoreSeen.{StoreView}
+use Rattle.lua_strings.specs.LuaBasicDeclaredStopStop.{Stop}
+use Rattle.lua_strings.specs.LuaBasicSeen.{Stops}
 use Rattle.mw_ustrings.specs.Faults.{FaultStops}
 
 -- a match by its parts

@@ -1,11 +1,11 @@
 -- EXAMPLES: an iterator is made and stepped, with what each call gives or raises and costs. Results of `string.gmatch` are those of Lua
 -- 5.1; charges are counted by hand.
 use Rattle.std.specs.Prelude.{◌≡◌, ℕ, zero, suc, pos, true, List, [], ◌∷◌, codes}
-use Rattle.lua_heap.specs.Proc.{Proc}
-use Rattle.lua_heap.specs.Value.{Value, Nil, Truth, Number, Text, Closure}
-use Rattle.lua_heap.specs.Heap.{Heap, empty}
-use Rattle.lua_meaning.specs.Scope.{Bytes}
-use Rattle.lua_meaning.specs.Arguments.{Plain, PlainEnd, Gives, Fails}
+use Rattle.lua_strings.specs.LuaHeapProc.{Proc}
+use Rattle.lua_strings.specs.LuaHeapValue.{Value, Nil, Truth, Number, Text, Closure}
+use Rattle.lua_strings.specs.LuaHeapHeap.{Heap, empty}
+use Rattle.lua_strings.specs.LuaMeaningScope.{Bytes}
+use Rattle.lua_strings.specs.LuaMeaningArguments.{Plain, PlainEnd, Gives, Fails}
 use Rattle.lua_iterators.specs.declared.table.Maker.{Maker}
 use Rattle.lua_iterators.specs.declared.table.Maker.TheVariants as maker
 use Rattle.lua_iterators.specs.declared.table.Stepper.{Stepper}

@@ -1,9 +1,9 @@
 -- THE CELLS OF AN ITERATOR in the store.
 use Rattle.std.specs.Prelude.{List, [], ◌∷◌}
-use Rattle.lua_meaning.specs.Iterators.{Cells}
-use Rattle.lua_store.specs.declared.ids.CellId.{CellId}
-use Rattle.lua_store.specs.Seen.{StoreView}
-use Rattle.lua_store.specs.Parts.{IsCellOf}
+use Rattle.lua_strings.specs.LuaMeaningIterators.{Cells}
+use Rattle.lua_strings.specs.LuaStoreDeclaredIdsCellId.{CellId}
+use Rattle.lua_strings.specs.LuaStoreSeen.{StoreView}
+use Rattle.lua_strings.specs.LuaStoreParts.{IsCellOf}
 use Rattle.lua_iterators.specs.declared.cells.IteratorCells.{IteratorCells}
 
 abbrev pub cells_seen : IteratorCells → Cells

@@ -1,16 +1,16 @@
 -- THE FUNCTIONS of the library that make iterators, and the steps of these; and what each gives.
 use Rattle.std.specs.Prelude.{◌≡◌, ℕ, List, Option, Some, None}
-use Rattle.lua_pattern.specs.Texts.{bytes, points}
-use Rattle.lua_heap.specs.Proc.{Proc}
-use Rattle.lua_heap.specs.Value.{Value}
-use Rattle.lua_heap.specs.Heap.{Heap}
-use Rattle.lua_heap.specs.declared.library.Library.{Library}
-use Rattle.lua_heap.specs.declared.library.Library.TheVariants.{StringGmatch, UstringGmatch, UstringGcodepoint, TextGsplit, GmatchStep, UstringGmatchStep, GcodepointStep, GsplitStep}
-use Rattle.lua_meaning.specs.World.{World}
-use Rattle.lua_meaning.specs.Acts.{Frame}
-use Rattle.lua_meaning.specs.Arguments.{Plain, with_charge, text_charge}
-use Rattle.lua_meaning.specs.Iterators.{Cells, iterator_step, match_step, point_step, part_step, gmatch, ustring_gmatch, gcodepoint, gsplit}
-use Rattle.lua_meaning.specs.Libraries.{Answers, form}
+use Rattle.lua_string.specs.LuaPatternTexts.{bytes, points}
+use Rattle.lua_strings.specs.LuaHeapProc.{Proc}
+use Rattle.lua_strings.specs.LuaHeapValue.{Value}
+use Rattle.lua_strings.specs.LuaHeapHeap.{Heap}
+use Rattle.lua_strings.specs.LuaHeapDeclaredLibraryLibrary.{Library}
+use Rattle.lua_strings.specs.LuaHeapDeclaredLibraryLibraryTheVariants.{StringGmatch, UstringGmatch, UstringGcodepoint, TextGsplit, GmatchStep, UstringGmatchStep, GcodepointStep, GsplitStep}
+use Rattle.lua_strings.specs.LuaMeaningWorld.{World}
+use Rattle.lua_strings.specs.LuaMeaningActs.{Frame}
+use Rattle.lua_strings.specs.LuaMeaningArguments.{Plain, with_charge, text_charge}
+use Rattle.lua_strings.specs.LuaMeaningIterators.{Cells, iterator_step, match_step, point_step, part_step, gmatch, ustring_gmatch, gcodepoint, gsplit}
+use Rattle.lua_strings.specs.LuaMeaningLibraries.{Answers, form}
 use Rattle.lua_iterators.specs.declared.table.Maker.{Maker}
 use Rattle.lua_iterators.specs.declared.table.Maker.TheVariants as maker
 use Rattle.lua_iterators.specs.declared.table.Stepper.{Stepper}

@@ -1,10 +1,10 @@
 //! A function that makes an iterator, or a step of one, is called.
-ghost use Rattle.lua_store.specs.Parts.{IsLater};
-ghost use Rattle.lua_basic.specs.Seen.{values_seen, AllOf, Paid, AnswerOf};
-ghost use Rattle.lua_meaning.specs.Iterators.{iterator_step};
+ghost use Rattle.lua_strings.specs.LuaStoreParts.{IsLater};
+ghost use Rattle.lua_strings.specs.LuaBasicSeen.{values_seen, AllOf, Paid, AnswerOf};
+ghost use Rattle.lua_strings.specs.LuaMeaningIterators.{iterator_step};
 ghost use Rattle.lua_iterators.specs.Held.{cells_seen, AreOf};
 ghost use Rattle.lua_iterators.specs.Table.{step_of, made_by, given_by, args_charge, answer_of};
-ghost use Rattle.mw_frames.specs.Costs.{Pays};
+ghost use Rattle.mw_ustrings.specs.MwFramesCosts.{Pays};
 
 use crate::cells::{IteratorCells, cells_of};
 use crate::makers::{gcodepoint, gmatch, gsplit, ustring_gmatch};
@@ -12,15 +12,12 @@ use crate::parting::part_step;
 use crate::pointing::point_step;
 use crate::table::{IteratorFunction, Maker, Stepper};
 use crate::walking::match_step;
-use lua_basic::Stop;
-use lua_basic::values::first;
-use lua_pattern::{OneByte, OnePoint};
-use lua_store::{Store, Value};
-use mw_frame_texts::costs::pay_given;
-use mw_frames::paying::pay;
+use lua_string::List;
+use lua_strings::{Left, Stop, Store, Value, first};
+use mw_text::{OneByte, OnePoint};
 use mw_ustrings::giving::give_nothing;
+use mw_ustrings::{pay, pay_given};
 use std::alloc::Global;
-use wk_base::{Left, List};
 
 /// What a step gives with the cells of its iterator.
 fn step_on(

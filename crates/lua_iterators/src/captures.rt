@@ -1,19 +1,18 @@
 //! What a match of a walk gives (manual 5.4): its captures, or the whole of it where there are none.
 ghost use Rattle.std.specs.Prelude.{◌≡◌, ◌++◌, [], ◌∷◌, IfOk, OnOk, MatchOption};
 ghost use Rattle.lua_string.specs.Walk.{span as span_of};
-ghost use Rattle.lua_heap.specs.Value as kind;
-ghost use Rattle.lua_meaning.specs.Iterators as meaning;
-ghost use Rattle.lua_store.specs.Seen.{seen};
-ghost use Rattle.lua_store.specs.Parts.{IsOf, IsLater};
-ghost use Rattle.lua_basic.specs.Seen.{values_seen, AllOf};
+ghost use Rattle.lua_strings.specs.LuaHeapValue as kind;
+ghost use Rattle.lua_strings.specs.LuaMeaningIterators as meaning;
+ghost use Rattle.lua_strings.specs.LuaStoreSeen.{seen};
+ghost use Rattle.lua_strings.specs.LuaStoreParts.{IsOf, IsLater};
+ghost use Rattle.lua_strings.specs.LuaBasicSeen.{values_seen, AllOf};
 
 use crate::symbols::place_value;
-use lua_basic::values::single;
-use lua_pattern::{Alphabet, Capture, Match};
-use lua_store::{Store, Value};
+use lua_string::{List, NoMemory};
 use lua_strings::captures::span;
+use lua_strings::{Store, Value, single};
+use mw_text::{Alphabet, Capture, Match};
 use std::alloc::Global;
-use wk_base::{List, NoMemory};
 
 /// The first of captures, and those behind it.
 fn split_captures(captures: &[Capture]) -> Option<(Capture, &[Capture])>

@@ -1,13 +1,13 @@
 //! The cells of an iterator, and what they hold.
 ghost use Rattle.std.specs.Prelude.{◌≡◌, ◌≤◌, ℕ, List as Items, [], ◌∷◌, Some, None, IfSome, MatchOption};
-ghost use Rattle.lua_heap.specs.Heap.{cell_at};
-ghost use Rattle.lua_heap.specs.Value as kind;
-ghost use Rattle.lua_meaning.specs.Iterators as meaning;
-ghost use Rattle.lua_store.specs.Seen.{StoreView, seen, seen_closure, places_of};
-ghost use Rattle.lua_store.specs.Parts.{IsOf, IsCellOf, IsContentOf, AreCellsOf};
+ghost use Rattle.lua_strings.specs.LuaHeapHeap.{cell_at};
+ghost use Rattle.lua_strings.specs.LuaHeapValue as kind;
+ghost use Rattle.lua_strings.specs.LuaMeaningIterators as meaning;
+ghost use Rattle.lua_strings.specs.LuaStoreSeen.{StoreView, seen, seen_closure, places_of};
+ghost use Rattle.lua_strings.specs.LuaStoreParts.{IsOf, IsCellOf, IsContentOf, AreCellsOf};
 ghost use Rattle.lua_iterators.specs.Held.{cells_seen, AreOf, IsBelowTwo, IsNotTwo};
 
-use lua_store::{CellId, Closure, ClosureKind, Store, Value};
+use lua_strings::{CellId, Closure, ClosureKind, Store, Value};
 
 /// The cells of an iterator: `specs/Iterators.antt` of `lua_meaning` says what they hold.
 #[derive(Clone, Copy, Debug)]

@@ -29,4 +29,11 @@ pub mod table;
 pub mod walking;
 
 pub use call::iterator_call;
+pub use lua_strings::captures::span;
+pub use lua_strings::{
+    Left, Library, Stop, Store, TextIn, a_text, first, kind_of, number_or, pair, rest,
+};
+pub use mw_ustrings::arguments::{refuse_pattern, utf8_text};
+pub use mw_ustrings::giving::{number, spend};
+pub use mw_ustrings::{pay, pay_given};
 pub use table::{IteratorFunction, Maker, Stepper, iterator_function};

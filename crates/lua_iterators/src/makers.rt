@@ -1,20 +1,19 @@
 //! The functions that make iterators: `string.gmatch` (manual 5.4), `mw.ustring.gmatch`, `mw.ustring.gcodepoint` and `mw.text.gsplit`
 //! (Scribunto). They read their arguments, and test UTF-8; patterns are read by the steps.
 ghost use Rattle.std.specs.Prelude.{IsUtf8, encode_utf8_all};
-ghost use Rattle.mw_ustring.specs.Texts.{points_of};
-ghost use Rattle.lua_meaning.specs.Iterators as meaning;
-ghost use Rattle.lua_store.specs.Parts.{IsLater};
-ghost use Rattle.lua_basic.specs.Seen.{values_seen, AllOf, Paid, AnswerOf};
+ghost use Rattle.mw_ustrings.specs.MwUstringTexts.{points_of};
+ghost use Rattle.lua_strings.specs.LuaMeaningIterators as meaning;
+ghost use Rattle.lua_strings.specs.LuaStoreParts.{IsLater};
+ghost use Rattle.lua_strings.specs.LuaBasicSeen.{values_seen, AllOf, Paid, AnswerOf};
 
 use crate::making::{make_by_pattern, make_gcodepoint};
-use lua_basic::Stop;
-use lua_basic::arguments::{a_text, number_or};
-use lua_basic::values::{first, is_true, rest, second};
-use lua_store::{Library, Store, Value};
-use mw_ustring::part;
+use lua_string::List;
+use lua_strings::{
+    Left, Library, Stop, Store, Value, a_text, first, is_true, number_or, rest, second,
+};
+use mw_text::mw_ustring_part as part;
 use mw_ustrings::arguments::utf8_text;
 use std::alloc::Global;
-use wk_base::{Left, List};
 
 /// `string.gmatch(s, pattern)`: an iterator over the matches of a pattern.
 pub fn gmatch(

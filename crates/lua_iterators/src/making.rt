@@ -1,23 +1,21 @@
 //! New iterators: a closure of the library, with its state in four cells.
 ghost use Rattle.std.specs.Prelude.{◌≡◌, ◌∷◌, [], pos, Some, ℕ, List as Items, IfOk, OnOk};
-ghost use Rattle.lua_heap.specs.Heap.{Heap, Iterator, new_closure};
-ghost use Rattle.lua_heap.specs.Proc.{Proc};
-ghost use Rattle.lua_heap.specs.Value as kind;
-ghost use Rattle.lua_meaning.specs.Arguments.{Gives};
-ghost use Rattle.lua_meaning.specs.Values.{text_in};
-ghost use Rattle.lua_meaning.specs.Iterators as meaning;
-ghost use Rattle.lua_store.specs.Seen.{seen};
-ghost use Rattle.lua_store.specs.Parts.{IsOf, IsCellOf, IsClosureOf, IsLater};
-ghost use Rattle.lua_basic.specs.Seen.{values_seen, AllOf, Paid, AnswerOf};
+ghost use Rattle.lua_strings.specs.LuaHeapHeap.{Heap, Iterator, new_closure};
+ghost use Rattle.lua_strings.specs.LuaHeapProc.{Proc};
+ghost use Rattle.lua_strings.specs.LuaHeapValue as kind;
+ghost use Rattle.lua_strings.specs.LuaMeaningArguments.{Gives};
+ghost use Rattle.lua_strings.specs.LuaMeaningValues.{text_in};
+ghost use Rattle.lua_strings.specs.LuaMeaningIterators as meaning;
+ghost use Rattle.lua_strings.specs.LuaStoreSeen.{seen};
+ghost use Rattle.lua_strings.specs.LuaStoreParts.{IsOf, IsCellOf, IsClosureOf, IsLater};
+ghost use Rattle.lua_strings.specs.LuaBasicSeen.{values_seen, AllOf, Paid, AnswerOf};
 ghost use Rattle.lua_iterators.specs.Held.{AreOf};
 
 use crate::cells::IteratorCells;
-use lua_basic::Stop;
-use lua_basic::values::single;
-use lua_store::{CellId, ClosureId, ClosureKind, Library, Store, Value};
-use mw_frames::paying::pay;
+use lua_string::{List, NoMemory};
+use lua_strings::{CellId, ClosureId, ClosureKind, Left, Library, Stop, Store, Value, single};
+use mw_ustrings::pay;
 use std::alloc::Global;
-use wk_base::{Left, List, NoMemory};
 
 /// A new cell with a value, in front of others that are made after it.
 fn add_cell(store: &mut Store, value: Value) -> Result<CellId, NoMemory>

@@ -3,31 +3,28 @@
 //! The subject and the pattern are in UTF-8, as the maker of the iterator tests. No step tests it again, which would cost the bytes of
 //! the whole subject each time; what a part is means the same of any bytes.
 ghost use Rattle.std.specs.Prelude.{◌≡◌, ◌+◌, ◌≤◌, ℕ, List as Items, Ok, length, drop, IfOk, IfSome, MatchResult};
-ghost use Rattle.lua_pattern.specs.Texts.{points};
+ghost use Rattle.lua_string.specs.LuaPatternTexts.{points};
 ghost use Rattle.lua_string.specs.Finds.{place_of, IsPlain};
 ghost use Rattle.mw_text.specs.Split.{sought_by, sought_of, IsSoughtFault, found_from, IsMet, after_empty, cut_at, part_from};
-ghost use Rattle.lua_heap.specs.Heap.{cell_at};
-ghost use Rattle.lua_meaning.specs.Iterators as meaning;
-ghost use Rattle.lua_meaning.specs.Texts.{pattern_charge};
-ghost use Rattle.lua_store.specs.Seen.{StoreView, seen};
-ghost use Rattle.lua_store.specs.Parts.{IsOf, IsLater};
-ghost use Rattle.lua_basic.specs.Seen.{Paid, AnswerOf};
+ghost use Rattle.lua_strings.specs.LuaHeapHeap.{cell_at};
+ghost use Rattle.lua_strings.specs.LuaMeaningIterators as meaning;
+ghost use Rattle.lua_strings.specs.LuaMeaningTexts.{pattern_charge};
+ghost use Rattle.lua_strings.specs.LuaStoreSeen.{StoreView, seen};
+ghost use Rattle.lua_strings.specs.LuaStoreParts.{IsOf, IsLater};
+ghost use Rattle.lua_strings.specs.LuaBasicSeen.{Paid, AnswerOf};
 ghost use Rattle.lua_iterators.specs.Held.{cells_seen, AreOf};
 
 use crate::cells::{IteratorCells, held_place, held_text};
-use lua_basic::Stop;
-use lua_basic::values::{is_true, single};
-use lua_pattern::{Match, OnePoint, Pattern, PatternFault, Search, symbol_at};
-use lua_store::{Store, Value};
+use lua_string::{List, NoMemory};
 use lua_strings::captures::span;
+use lua_strings::{Left, Stop, Store, Value, is_true, single};
 use memchr::memmem;
-use mw_frames::paying::pay;
-use mw_text::Part;
 use mw_text::splitting::Separator;
+use mw_text::{Match, OnePoint, Part, Pattern, PatternFault, Search, symbol_at};
 use mw_ustrings::arguments::refuse_pattern;
 use mw_ustrings::giving::{give_nothing, number, spend};
+use mw_ustrings::pay;
 use std::alloc::Global;
-use wk_base::{Left, List, NoMemory};
 
 /// The first place at which a text has a needle.
 #[tactic(auto, using(lua_string::proofs::Plain::place_found, lua_string::proofs::Plain::found_within))]

@@ -1,23 +1,21 @@
 //! A step of an iterator that `gcodepoint` gives: the next code point (Scribunto, mw.ustring.gcodepoint).
 ghost use Rattle.std.specs.Prelude.{◌≡◌, ◌∷◌, [], ℕ, List as Items, pos, drop};
-ghost use Rattle.lua_pattern.specs.Texts.{points};
-ghost use Rattle.lua_heap.specs.Heap.{set_cell_in};
-ghost use Rattle.lua_heap.specs.Value as kind;
-ghost use Rattle.lua_meaning.specs.Arguments.{costs};
-ghost use Rattle.lua_meaning.specs.Iterators as meaning;
-ghost use Rattle.lua_store.specs.Seen.{StoreView, seen};
-ghost use Rattle.lua_store.specs.Parts.{IsOf, IsLater};
-ghost use Rattle.lua_basic.specs.Seen.{Free, Paid, AnswerOf};
+ghost use Rattle.lua_string.specs.LuaPatternTexts.{points};
+ghost use Rattle.lua_strings.specs.LuaHeapHeap.{set_cell_in};
+ghost use Rattle.lua_strings.specs.LuaHeapValue as kind;
+ghost use Rattle.lua_strings.specs.LuaMeaningArguments.{costs};
+ghost use Rattle.lua_strings.specs.LuaMeaningIterators as meaning;
+ghost use Rattle.lua_strings.specs.LuaStoreSeen.{StoreView, seen};
+ghost use Rattle.lua_strings.specs.LuaStoreParts.{IsOf, IsLater};
+ghost use Rattle.lua_strings.specs.LuaBasicSeen.{Free, Paid, AnswerOf};
 ghost use Rattle.lua_iterators.specs.Held.{cells_seen, AreOf};
 
 use crate::cells::{IteratorCells, held_place, held_text};
-use lua_basic::Stop;
-use lua_basic::values::single;
-use lua_pattern::{OnePoint, symbol_at};
-use lua_store::{Store, Value};
+use lua_string::List;
+use lua_strings::{Left, Stop, Store, Value, single};
+use mw_text::{OnePoint, symbol_at};
 use mw_ustrings::giving::{give_nothing, number};
 use std::alloc::Global;
-use wk_base::{Left, List};
 
 /// A code point as a value.
 fn point_value(point: char) -> Value

@@ -1,16 +1,16 @@
 //! Symbols between two places of a text: bytes, or code points.
 ghost use Rattle.std.specs.Prelude.{◌≡◌, ◌+◌, suc, pos, ℕ, List as Items, length, IfOk};
 ghost use Rattle.lua_string.specs.Walk.{next_place as next_place_of};
-ghost use Rattle.lua_heap.specs.Value as kind;
-ghost use Rattle.lua_meaning.specs.Iterators as meaning;
-ghost use Rattle.lua_store.specs.Seen.{StoreView, seen};
-ghost use Rattle.lua_store.specs.Parts.{IsOf};
+ghost use Rattle.lua_strings.specs.LuaHeapValue as kind;
+ghost use Rattle.lua_strings.specs.LuaMeaningIterators as meaning;
+ghost use Rattle.lua_strings.specs.LuaStoreSeen.{StoreView, seen};
+ghost use Rattle.lua_strings.specs.LuaStoreParts.{IsOf};
 
-use lua_pattern::{Alphabet, symbol_at};
-use lua_store::Value;
+use lua_string::NoMemory;
+use lua_strings::Value;
 use lua_strings::captures::span;
+use mw_text::{Alphabet, symbol_at};
 use mw_ustrings::giving::number;
-use wk_base::NoMemory;
 
 /// How many symbols a text has.
 fn count_symbols<A: Alphabet>(text: &[u8]) -> usize

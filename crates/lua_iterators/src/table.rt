@@ -2,7 +2,7 @@
 ghost use Rattle.std.specs.Prelude.{◌≡◌};
 ghost use Rattle.lua_iterators.specs.Table.{iterator_function_in, AreInTable};
 
-use lua_store::Library;
+use lua_strings::Library;
 
 /// A function that makes an iterator (manual 5.4, `string.gmatch`; Scribunto, `mw.ustring.gmatch`, `mw.ustring.gcodepoint`,
 /// `mw.text.gsplit`).

@@ -1,29 +1,27 @@
 //! A step of an iterator that `gmatch` gives: the next match, over bytes or over code points (manual 5.4; Scribunto, Ustring library).
 ghost use Rattle.std.specs.Prelude.{◌≡◌, ◌+◌, ◌≤◌, ◌∷◌, [], length, OnOk};
-ghost use Rattle.lua_pattern.specs.Read.{read_unanchored, codes};
-ghost use Rattle.lua_pattern.specs.Sizes.{match_bytes};
+ghost use Rattle.lua_string.specs.LuaPatternRead.{read_unanchored, codes};
+ghost use Rattle.lua_string.specs.LuaPatternSizes.{match_bytes};
 ghost use Rattle.lua_string.specs.Walk.{walk};
-ghost use Rattle.lua_heap.specs.Heap.{cell_at, set_cell_in};
-ghost use Rattle.lua_heap.specs.Value as kind;
-ghost use Rattle.lua_meaning.specs.Arguments.{costs};
-ghost use Rattle.lua_meaning.specs.Iterators as meaning;
-ghost use Rattle.lua_store.specs.Parts.{IsLater};
-ghost use Rattle.lua_basic.specs.Seen.{Paid, AnswerOf};
+ghost use Rattle.lua_strings.specs.LuaHeapHeap.{cell_at, set_cell_in};
+ghost use Rattle.lua_strings.specs.LuaHeapValue as kind;
+ghost use Rattle.lua_strings.specs.LuaMeaningArguments.{costs};
+ghost use Rattle.lua_strings.specs.LuaMeaningIterators as meaning;
+ghost use Rattle.lua_strings.specs.LuaStoreParts.{IsLater};
+ghost use Rattle.lua_strings.specs.LuaBasicSeen.{Paid, AnswerOf};
 ghost use Rattle.lua_iterators.specs.Held.{cells_seen, AreOf};
 
 use crate::captures::match_values;
 use crate::cells::{IteratorCells, held_count, held_place, held_text};
 use crate::symbols::{count_value, next_place};
-use lua_basic::Stop;
-use lua_basic::values::single;
-use lua_pattern::{Alphabet, Match, Pattern, Search};
-use lua_store::{Store, Value};
-use mw_frames::paying::pay;
+use lua_string::{List, NoMemory};
+use lua_strings::{Left, Stop, Store, Value, single};
+use mw_text::{Alphabet, Match, Pattern, Search};
 use mw_ustrings::arguments::refuse_pattern;
 use mw_ustrings::captures::pay_match;
 use mw_ustrings::giving::{give_nothing, number, spend};
+use mw_ustrings::pay;
 use std::alloc::Global;
-use wk_base::{Left, List, NoMemory};
 
 /// The walk goes on at a place, or it has ended.
 fn go_on<A: Alphabet>(

@@ -6,7 +6,7 @@ use Rattle.std.specs.List.{prefix_len}
 use Rattle.lua_lexer.specs.declared.token.Piece.{Piece}
 use Rattle.lua_lexer.specs.declared.token.Stop.{Stop}
 use Rattle.lua_lexer.specs.declared.token.TokenKind.TheVariants.{Number}
-use Rattle.wk_base.specs.Space.{is_white}
+use Rattle.lua_syntax.specs.WkBaseSpace.{is_white}
 use Rattle.lua_lexer.specs.Lexis.{at, is_letter, is_digit, is_numeral, is_name_byte, is_number_byte, is_quote, no_token, token_piece, word_kind, numeral_size, comment_of, string_of, mark_of, opens_long, equals_behind, long_piece, long_string, piece_of}
 use Rattle.lua_lexer.specs.Answers.{IsPiece}
 

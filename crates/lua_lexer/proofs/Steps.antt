@@ -5,7 +5,7 @@ use Rattle.std.specs.Prelude.{Option, Some, None, Result, Ok, Err, IfOk, â—Œ==â—
 use Rattle.std.specs.List.{prefix_len}
 use Rattle.std.specs.declared.vec.Vec.{Vec}
 use Rattle.std.specs.declared.alloc.Global.{Global}
-use Rattle.wk_base.specs.declared.NoMemory.{NoMemory as WantOfMemory}
+use Rattle.lua_syntax.specs.WkBaseDeclaredNoMemory.{NoMemory as WantOfMemory}
 use Rattle.lua_lexer.specs.declared.token.Stop.{Stop}
 use Rattle.lua_lexer.specs.declared.token.Stop.TheVariants.{Fault, NoMemory}
 use Rattle.lua_lexer.specs.declared.strings.StringBody.{StringBody}

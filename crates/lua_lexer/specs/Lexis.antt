@@ -3,7 +3,7 @@
 use Rattle.std.specs.Prelude.{◌≡◌, ℕ, zero, suc, ◌+◌, ◌-◌, ◌*◌, ◌<◌, ◌&&◌, ◌||◌, ◌==◌, Bool, not, if◌then◌else◌, nat_le, List, [], ◌∷◌, ◌++◌, length, take, drop, slice_index_or, Option, Some, None, Result, Ok, Err, codes}
 use Rattle.std.specs.List.{prefix_len, list_any}
 use Rattle.std.specs.Cmp.Lexicographic.{pointwise}
-use Rattle.wk_base.specs.Space.{is_white}
+use Rattle.lua_syntax.specs.WkBaseSpace.{is_white}
 use Rattle.lua_lexer.specs.declared.token.TokenKind.{TokenKind}
 use Rattle.lua_lexer.specs.declared.token.TokenKind.TheVariants.{Name, Word, Mark, Number, Text, End}
 use Rattle.lua_lexer.specs.declared.token.Token.{Token}

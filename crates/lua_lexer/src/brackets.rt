@@ -3,8 +3,8 @@ ghost use Rattle.std.specs.Prelude.{◌≡◌, ◌+◌, ◌-◌, ◌^◌, ◌<�
 ghost use Rattle.lua_lexer.specs.Lexis.{break_size, breaks, with_line_feeds, long_text, equals_behind, opens_long, closes_long, before_closing};
 
 use crate::classes::{at, byte, equals_run, is_break};
+use lua_syntax::NoMemory;
 use std::alloc::Global;
-use wk_base::NoMemory;
 
 /// What follows the first n bytes.
 pub fn rest(text: &[u8], n: usize) -> &[u8]

@@ -1,7 +1,7 @@
 //! Kinds of bytes, and runs of them.
 ghost use Rattle.std.specs.Prelude.{◌≡◌, ◌<◌, ◌≤◌, length, not};
 ghost use Rattle.std.specs.List.{prefix_len};
-ghost use Rattle.wk_base.specs.Space.{is_white};
+ghost use Rattle.lua_syntax.specs.WkBaseSpace.{is_white};
 ghost use Rattle.lua_lexer.specs.Lexis.{at, is_break, is_digit, is_letter, is_name_byte, is_number_byte, is_quote, is_equals};
 
 /// The byte k places on, and 256 behind the last.

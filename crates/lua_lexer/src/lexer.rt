@@ -6,9 +6,8 @@ ghost use Rattle.lua_lexer.specs.Answers.{IsLexed, IsStop, OneList, NoListWithFa
 use crate::brackets::breaks;
 use crate::pieces::piece;
 use crate::token::{Piece, Stop, Token, TokenKind};
-use lua_syntax::{FaultAt, SyntaxFault};
+use lua_syntax::{FaultAt, SyntaxFault, WkBaseList as List};
 use std::alloc::Global;
-use wk_base::List;
 
 /// The tokens of a text, the last of them `End`, with white space and comments left out (manual 2.1).
 ///

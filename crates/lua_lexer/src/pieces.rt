@@ -1,7 +1,7 @@
 //! What stands at the front of a text: white space, a comment or a token.
 ghost use Rattle.std.specs.Prelude.{◌≡◌, ◌+◌, ◌^◌, ◌<◌, ◌≤◌, ◌==◌, ◌&&◌, true, take, drop, length, Ok, IfOk, IfErr};
 ghost use Rattle.std.specs.List.{prefix_len};
-ghost use Rattle.wk_base.specs.Space.{is_white};
+ghost use Rattle.lua_syntax.specs.WkBaseSpace.{is_white};
 ghost use Rattle.lua_lexer.specs.Lexis.{at, is_letter, is_numeral, is_name_byte, is_quote, no_token, token_piece, word_kind, numeral_size, mark_size, comment_of, string_of, mark_of, opens_long, equals_behind, long_piece, long_string, piece_of};
 ghost use Rattle.lua_lexer.specs.Answers.{IsPiece};
 
@@ -10,8 +10,8 @@ use crate::classes::{at, is_letter, is_quote, is_white, line_run, name_run, spac
 use crate::marks::{is_keyword, is_numeral, mark_size, numeral_size};
 use crate::strings::string_body;
 use crate::token::{Piece, Stop, TokenKind};
+use lua_syntax::WkBaseBytes as Bytes;
 use std::alloc::Global;
-use wk_base::Bytes;
 
 /// The piece at the front of a text.
 pub fn piece(alloc: Global, text: &[u8]) -> Result<Piece, Stop>

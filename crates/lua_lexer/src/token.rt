@@ -1,5 +1,5 @@
 //! The tokens of Lua.
-use wk_base::Bytes;
+use lua_syntax::WkBaseBytes as Bytes;
 
 /// What a token is. Names, keywords, marks and numerals have the bytes as they stand in the text.
 #[derive(Drop, Debug)]

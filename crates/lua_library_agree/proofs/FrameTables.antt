@@ -2,9 +2,9 @@
 use Rattle.std.proofs.Common.{◌≡◌, ℕ, zero, suc, ◌+◌, pos, Bool, true, false, List, [], ◌∷◌, ◌++◌, length, Some, slice_set, slice_index_or, refl, ◌∙◌, ap, subst, arith, if◌then◌else◌}
 use Rattle.std.specs.Prelude.{codes}
 use Rattle.std.proofs.lemmas.List.{length-append}
-use Rattle.mw_frame.specs.declared.scene.Arg.{Arg}
-use Rattle.mw_frame.specs.declared.scene.Scene.{Scene}
-use Rattle.lua_table.specs.Entries.{Contents}
+use Rattle.lua_meaning.specs.MwFrameDeclaredSceneArg.{Arg}
+use Rattle.lua_meaning.specs.MwFrameDeclaredSceneScene.{Scene}
+use Rattle.lua_heap.specs.LuaTableEntries.{Contents}
 use Rattle.lua_heap.specs.Value.{Value, Nil, Number, Text, Table}
 use Rattle.lua_heap.specs.Table.{Entries, empty_table}
 use Rattle.lua_heap.specs.Heap.{Heap, tab, TableObj, table_at, set_meta_in}

@@ -1,11 +1,11 @@
 -- `gsub` does the same to two heaps, of which the first stands in the second: it answers alike, or asks alike behind the same charge.
 use Rattle.std.proofs.Common.{◌≡◌, ℕ, ◌+◌, pos, Bool, List, [], length, Option, Some, None, Ok, Err, refl, subst}
 use Rattle.std.specs.Prelude.{codes}
-use Rattle.lua_pattern.specs.declared.item.Item.{Item}
-use Rattle.lua_pattern.specs.declared.slots.Slot.{Slot}
-use Rattle.lua_pattern.specs.Read.{Read, Fault, Fine, read_of, codes as symbol_codes}
-use Rattle.lua_string.specs.Texts.{how_many}
-use Rattle.lua_string.specs.Walk.{Walk, Stops, Meets, walk}
+use Rattle.lua_meaning.specs.LuaPatternDeclaredItemItem.{Item}
+use Rattle.lua_meaning.specs.LuaPatternDeclaredSlotsSlot.{Slot}
+use Rattle.lua_meaning.specs.LuaPatternRead.{Read, Fault, Fine, read_of, codes as symbol_codes}
+use Rattle.lua_meaning.specs.LuaStringTexts.{how_many}
+use Rattle.lua_meaning.specs.LuaStringWalk.{Walk, Stops, Meets, walk}
 use Rattle.lua_heap.specs.Value.{Value, Closure, Builtin}
 use Rattle.lua_heap.specs.Heap.{Heap}
 use Rattle.lua_heap.specs.Related.{Map, Each, none, more, Same, nil, truth, number, text, table, closure, builtin, markup, Stands}

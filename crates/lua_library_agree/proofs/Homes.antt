@@ -1,7 +1,7 @@
 -- A fresh environment stands for a fresh environment, table by table: its tables name none but one another.
 use Rattle.std.proofs.Common.{◌≡◌, ℕ, zero, suc, ◌&&◌, Bool, true, false, List, [], ◌∷◌, map, Option, Some, None, is_some, slice_get, refl, ap, subst}
 use Rattle.std.specs.Option.{option_map}
-use Rattle.lua_table.specs.Entries.{Contents}
+use Rattle.lua_heap.specs.LuaTableEntries.{Contents}
 use Rattle.lua_heap.specs.Value.{Value, Nil, Truth, Number, Text, Table, Closure, Builtin, Markup}
 use Rattle.lua_heap.specs.Table.{Entries}
 use Rattle.lua_heap.specs.Heap.{Ref, tab, cel, clo, mar, Obj, TableObj, look}

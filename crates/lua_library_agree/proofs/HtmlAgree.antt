@@ -1,9 +1,9 @@
 -- The functions of `mw.html` do the same to two heaps, of which the first stands in the second (Scribunto, HTML library).
 use Rattle.std.proofs.Common.{◌≡◌, ℕ, zero, suc, ◌+◌, Bool, List, [], ◌∷◌, ◌++◌, length, map, Option, Some, None, Ok, Err, refl, sym, ◌∙◌, ap, subst}
 use Rattle.std.specs.Prelude.{codes, bytes_eq}
-use Rattle.mw_html.specs.Names.{with_class}
-use Rattle.mw_html.specs.Render.{Piece, Whole, Deep, render}
-use Rattle.mw_html.proofs.Renumbered.{stands_is_rendered}
+use Rattle.lua_meaning.specs.MwHtmlNames.{with_class}
+use Rattle.lua_meaning.specs.MwHtmlRender.{Piece, Whole, Deep, render}
+use Rattle.lua_meaning.proofs.MwHtmlRenumbered.{stands_is_rendered}
 use Rattle.lua_heap.specs.Value.{Value, Table, Markup, is_nil}
 use Rattle.lua_heap.specs.Table.{Entries}
 use Rattle.lua_heap.specs.Heap.{MarkupStyle, StyleText, MarkupChild, ChildText, ChildNode, MarkupNode, Heap, markup_at, set_markup_in, new_markup}

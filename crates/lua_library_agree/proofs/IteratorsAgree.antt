@@ -2,17 +2,17 @@
 -- Ustring and Text libraries).
 use Rattle.std.proofs.Common.{◌≡◌, ℕ, ◌+◌, pos, negsuc, Bool, List, [], ◌∷◌, length, drop, Option, Some, None, Ok, Err, refl, sym, subst}
 use Rattle.std.specs.Prelude.{Result, codes, encode_utf8_all}
-use Rattle.lua_pattern.specs.declared.item.Item.{Item}
-use Rattle.lua_pattern.specs.declared.pattern.Capture.{Capture}
-use Rattle.lua_pattern.specs.declared.pattern.Capture.TheVariants.{Span, Place}
-use Rattle.lua_pattern.specs.declared.slots.Slot.{Slot}
-use Rattle.lua_pattern.specs.Letters.{Symbol, Letters}
-use Rattle.lua_pattern.specs.Texts.{bytes, points}
-use Rattle.lua_pattern.specs.Read.{Read, Fault, Fine, read_unanchored, codes as symbol_codes}
-use Rattle.lua_string.specs.Walk.{Walk, Stops, Meets, walk}
-use Rattle.mw_ustring.specs.Texts.{points_of}
-use Rattle.mw_text.specs.declared.splitting.Part.{Part}
-use Rattle.mw_text.specs.Split.{Sought, sought_by, part_from}
+use Rattle.lua_meaning.specs.LuaPatternDeclaredItemItem.{Item}
+use Rattle.lua_meaning.specs.LuaPatternDeclaredPatternCapture.{Capture}
+use Rattle.lua_meaning.specs.LuaPatternDeclaredPatternCaptureTheVariants.{Span, Place}
+use Rattle.lua_meaning.specs.LuaPatternDeclaredSlotsSlot.{Slot}
+use Rattle.lua_meaning.specs.LuaPatternLetters.{Symbol, Letters}
+use Rattle.lua_meaning.specs.LuaPatternTexts.{bytes, points}
+use Rattle.lua_meaning.specs.LuaPatternRead.{Read, Fault, Fine, read_unanchored, codes as symbol_codes}
+use Rattle.lua_meaning.specs.LuaStringWalk.{Walk, Stops, Meets, walk}
+use Rattle.lua_meaning.specs.MwUstringTexts.{points_of}
+use Rattle.lua_meaning.specs.MwTextDeclaredSplittingPart.{Part}
+use Rattle.lua_meaning.specs.MwTextSplit.{Sought, sought_by, part_from}
 use Rattle.lua_heap.specs.declared.library.Library.{Library}
 use Rattle.lua_heap.specs.declared.library.Library.TheVariants.{GmatchStep, UstringGmatchStep, GcodepointStep, GsplitStep}
 use Rattle.lua_heap.specs.Value.{Value, Nil, Truth, Number, Text, is_true}

@@ -1,3 +1,5 @@
+pub use Rattle.lua_meaning.proofs.MwHtmlRenumbered as MwHtmlRenumbered
+pub use Rattle.lua_meaning.proofs.PageRunEnough as PageRunEnough
 pub mod Values
 pub mod Heaps
 pub mod Basics

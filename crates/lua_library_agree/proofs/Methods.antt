@@ -2,11 +2,11 @@
 use Rattle.std.proofs.Common.{◌≡◌, ℕ, ◌+◌, pos, negsuc, List, [], ◌∷◌, ◌++◌, length, Option, Some, None, slice_set, refl, ◌∙◌, ap, subst}
 use Rattle.std.specs.Prelude.{Ok, Err, codes}
 use Rattle.std.specs.Option.{option_map}
-use Rattle.wk_base.specs.declared.title.Title.{Title}
-use Rattle.wk_base.specs.Titles.{title_text}
-use Rattle.mw_frame.specs.declared.scene.Arg.{Arg}
-use Rattle.mw_frame.specs.declared.scene.Scene.{Scene}
-use Rattle.mw_frame.specs.declared.question.Ask.{Ask}
+use Rattle.lua_meaning.specs.WkBaseDeclaredTitleTitle.{Title}
+use Rattle.lua_meaning.specs.WkBaseTitles.{title_text}
+use Rattle.lua_meaning.specs.MwFrameDeclaredSceneArg.{Arg}
+use Rattle.lua_meaning.specs.MwFrameDeclaredSceneScene.{Scene}
+use Rattle.lua_meaning.specs.MwFrameDeclaredQuestionAsk.{Ask}
 use Rattle.lua_heap.specs.Value.{Value, Nil, is_nil}
 use Rattle.lua_heap.specs.Table.{Entries}
 use Rattle.lua_heap.specs.Heap.{Heap}

@@ -1,11 +1,11 @@
 -- The functions of `mw` that call back nobody.
 use Rattle.std.proofs.Common.{List, refl}
-use Rattle.wk_base.specs.declared.title.Title.{Title}
+use Rattle.lua_meaning.specs.WkBaseDeclaredTitleTitle.{Title}
 use Rattle.lua_heap.specs.Value.{Value, Nil}
 use Rattle.lua_heap.specs.Heap.{Heap}
 use Rattle.lua_heap.specs.Related.{Map, GrowsWith, Each, none, Same, nil, text, table, SameEntries, Stands}
-use Rattle.lua_walk.proofs.Standings.{cost-same}
-use Rattle.lua_walk.proofs.CopyMoves.{copy-moves}
+use Rattle.lua_meaning.proofs.LuaWalkStandings.{cost-same}
+use Rattle.lua_meaning.proofs.LuaWalkCopyMoves.{copy-moves}
 use Rattle.lua_meaning.specs.Mw.{log, clone, title_entries, get_current_title}
 use Rattle.lua_library_agree.specs.Same.{both_give, SamePlain}
 use Rattle.lua_library_agree.proofs.Values.{one-each, first-same}

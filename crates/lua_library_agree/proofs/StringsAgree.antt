@@ -2,23 +2,23 @@
 use Rattle.std.proofs.Common.{◌≡◌, ℕ, ◌+◌, ℤ, pos, negsuc, Bool, true, false, List, [], ◌∷◌, length, map, drop, Option, Some, None, refl, ◌∙◌, ap, subst}
 use Rattle.std.specs.Prelude.{Result, Ok, Err, codes, reverse as reversed}
 use Rattle.std.specs.Char.{to_ascii_lowercase, to_ascii_uppercase}
-use Rattle.lua_number.specs.declared.arithmetic.NumberFault.{NumberFault}
-use Rattle.lua_number.specs.Whole.{power_of}
-use Rattle.lua_string.specs.Whole.{abs_of, fmod_of, max_of, min_of}
-use Rattle.lua_string.specs.Places.{first_place, sub_of}
-use Rattle.lua_string.specs.Texts.{rep_of}
-use Rattle.lua_string.specs.Finds.{place_of}
-use Rattle.lua_pattern.specs.declared.pattern.Capture.{Capture}
-use Rattle.lua_pattern.specs.declared.pattern.Capture.TheVariants.{Span, Place}
-use Rattle.lua_pattern.specs.declared.pattern.Match.{Match}
-use Rattle.lua_pattern.specs.declared.slots.Slot.{Slot}
-use Rattle.lua_pattern.specs.Texts.{bytes}
-use Rattle.lua_pattern.specs.Way.{Answer, At, Nowhere, first as first_match}
-use Rattle.lua_pattern.specs.Read.{Read, Fault, Fine, read_of, codes as symbol_codes}
-use Rattle.lua_pattern.specs.Sizes.{find_bytes, match_bytes}
-use Rattle.lua_format.specs.declared.value.FormatFault.{FormatFault}
-use Rattle.lua_format.specs.declared.value.FormatFault.TheVariants as fault
-use Rattle.lua_format.specs.Format.{formatted}
+use Rattle.lua_meaning.specs.LuaNumberDeclaredArithmeticNumberFault.{NumberFault}
+use Rattle.lua_meaning.specs.LuaNumberWhole.{power_of}
+use Rattle.lua_meaning.specs.LuaStringWhole.{abs_of, fmod_of, max_of, min_of}
+use Rattle.lua_meaning.specs.LuaStringPlaces.{first_place, sub_of}
+use Rattle.lua_meaning.specs.LuaStringTexts.{rep_of}
+use Rattle.lua_meaning.specs.LuaStringFinds.{place_of}
+use Rattle.lua_meaning.specs.LuaPatternDeclaredPatternCapture.{Capture}
+use Rattle.lua_meaning.specs.LuaPatternDeclaredPatternCaptureTheVariants.{Span, Place}
+use Rattle.lua_meaning.specs.LuaPatternDeclaredPatternMatch.{Match}
+use Rattle.lua_meaning.specs.LuaPatternDeclaredSlotsSlot.{Slot}
+use Rattle.lua_meaning.specs.LuaPatternTexts.{bytes}
+use Rattle.lua_meaning.specs.LuaPatternWay.{Answer, At, Nowhere, first as first_match}
+use Rattle.lua_meaning.specs.LuaPatternRead.{Read, Fault, Fine, read_of, codes as symbol_codes}
+use Rattle.lua_meaning.specs.LuaPatternSizes.{find_bytes, match_bytes}
+use Rattle.lua_meaning.specs.LuaFormatDeclaredValueFormatFault.{FormatFault}
+use Rattle.lua_meaning.specs.LuaFormatDeclaredValueFormatFaultTheVariants as fault
+use Rattle.lua_meaning.specs.LuaFormatFormat.{formatted}
 use Rattle.lua_heap.specs.Value.{Value, is_true}
 use Rattle.lua_heap.specs.Heap.{Heap}
 use Rattle.lua_heap.specs.Related.{Map, Each, none, more, Same, nil, truth, number, text, table, closure, builtin, markup, Stands}

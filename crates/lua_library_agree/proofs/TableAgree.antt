@@ -3,7 +3,7 @@ use Rattle.std.proofs.Common.{◌≡◌, ℕ, zero, suc, ◌+◌, ◌&&◌, ◌|
 use Rattle.std.specs.Prelude.{codes, int_lt}
 use Rattle.std.specs.Int.{int_max}
 use Rattle.std.specs.Ordering.{is_le}
-use Rattle.lua_number.specs.Whole.{fits}
+use Rattle.lua_meaning.specs.LuaNumberWhole.{fits}
 use Rattle.lua_heap.specs.Value.{Value, Nil, Number, Text, is_nil}
 use Rattle.lua_heap.specs.Table.{Entries, get, has, border}
 use Rattle.lua_heap.specs.Heap.{Heap, table_at, set_in}

@@ -1,10 +1,10 @@
 -- THE FUNCTIONS of `mw.text` do the same to two heaps, of which the first stands in the second.
 use Rattle.std.proofs.Common.{◌≡◌, ◌∙◌, ap, refl, subst, ℕ, zero, suc, ℤ, ◌+ℤ◌, Bool, true, false, List, [], ◌∷◌, Option, Ok, Err, chars, encode_utf8_all}
 use Rattle.std.specs.Prelude.{Result, pos, codes}
-use Rattle.lua_pattern.specs.declared.item.Set.{Set}
-use Rattle.mw_text.specs.Sets.{chosen_set}
-use Rattle.mw_text.specs.Joined.{truncated}
-use Rattle.mw_text.specs.Split.{Sought, sought_by, parts_of}
+use Rattle.lua_meaning.specs.LuaPatternDeclaredItemSet.{Set}
+use Rattle.lua_meaning.specs.MwTextSets.{chosen_set}
+use Rattle.lua_meaning.specs.MwTextJoined.{truncated}
+use Rattle.lua_meaning.specs.MwTextSplit.{Sought, sought_by, parts_of}
 use Rattle.lua_heap.specs.Value.{Value, Nil, Number, Text, Table}
 use Rattle.lua_heap.specs.Table.{Entries, border}
 use Rattle.lua_heap.specs.Heap.{Heap}

@@ -3,17 +3,17 @@ use Rattle.std.proofs.Common.{◌≡◌, ◌∙◌, ap, refl, subst, ℕ, suc, B
 use Rattle.std.specs.Prelude.{pos, negsuc, codes}
 use Rattle.std.specs.Str.{is_utf8}
 use Rattle.unicode_normalization.specs.Forms.{Form, Nfc, Nfd, Nfkc, Nfkd, normalize}
-use Rattle.lua_pattern.specs.declared.pattern.Capture.{Capture}
-use Rattle.lua_pattern.specs.declared.pattern.Capture.TheVariants.{Span, Place}
-use Rattle.lua_pattern.specs.declared.pattern.Match.{Match}
-use Rattle.lua_pattern.specs.declared.slots.Slot.{Slot}
-use Rattle.lua_pattern.specs.Read.{Read, Fault, Fine, read_of, codes as codes_in}
-use Rattle.lua_pattern.specs.Sizes.{find_bytes, match_bytes}
-use Rattle.lua_pattern.specs.Texts.{points}
-use Rattle.lua_pattern.specs.Way.{Answer, At, Nowhere, first as first_match}
-use Rattle.lua_string.specs.Finds.{match_of, place_of}
-use Rattle.mw_ustring.specs.Texts.{points_of, byteoffset_of}
-use Rattle.mw_ustring.specs.Finds.{start_of}
+use Rattle.lua_meaning.specs.LuaPatternDeclaredPatternCapture.{Capture}
+use Rattle.lua_meaning.specs.LuaPatternDeclaredPatternCaptureTheVariants.{Span, Place}
+use Rattle.lua_meaning.specs.LuaPatternDeclaredPatternMatch.{Match}
+use Rattle.lua_meaning.specs.LuaPatternDeclaredSlotsSlot.{Slot}
+use Rattle.lua_meaning.specs.LuaPatternRead.{Read, Fault, Fine, read_of, codes as codes_in}
+use Rattle.lua_meaning.specs.LuaPatternSizes.{find_bytes, match_bytes}
+use Rattle.lua_meaning.specs.LuaPatternTexts.{points}
+use Rattle.lua_meaning.specs.LuaPatternWay.{Answer, At, Nowhere, first as first_match}
+use Rattle.lua_meaning.specs.LuaStringFinds.{match_of, place_of}
+use Rattle.lua_meaning.specs.MwUstringTexts.{points_of, byteoffset_of}
+use Rattle.lua_meaning.specs.MwUstringFinds.{start_of}
 use Rattle.lua_heap.specs.Value.{Value, Nil, Truth, Number, Text, is_true}
 use Rattle.lua_heap.specs.Heap.{Heap}
 use Rattle.lua_heap.specs.Related.{Map, Each, none, more, Same, nil, truth, number, text, table, closure, builtin, markup, Stands}

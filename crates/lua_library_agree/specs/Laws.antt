@@ -1,6 +1,6 @@
 -- THE LAWS: what the library does to a heap, it does to each heap in which that one stands.
 use Rattle.std.specs.Prelude.{◌≡◌, ℕ, true, false, List, length, Some}
-use Rattle.mw_frame.specs.declared.scene.Scene.{Scene}
+use Rattle.lua_meaning.specs.MwFrameDeclaredSceneScene.{Scene}
 use Rattle.lua_heap.specs.Value.{Value, Nil, Table}
 use Rattle.lua_heap.specs.Heap.{Heap, tab, table_at, set_meta_in}
 use Rattle.lua_heap.specs.Graph.{Graph, IsGraph, join, joined_root}

@@ -1,7 +1,7 @@
 -- WHEN A FUNCTION OF THE LIBRARY DOES THE SAME TO TWO HEAPS, of which the first stands in the second under a map of names: it takes the
 -- same charge, ends alike with what stands for one another, and moves both heaps together. R relates what functions hold.
 use Rattle.std.specs.Prelude.{◌≡◌, ℤ, List, Ok, Err}
-use Rattle.mw_frame.specs.declared.question.Ask.{Ask}
+use Rattle.lua_meaning.specs.MwFrameDeclaredQuestionAsk.{Ask}
 use Rattle.lua_heap.specs.Value.{Value}
 use Rattle.lua_heap.specs.Heap.{Heap}
 use Rattle.lua_heap.specs.Related.{Map, Each, Same, Moved}

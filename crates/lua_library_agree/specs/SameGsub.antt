@@ -1,8 +1,8 @@
 -- WHEN `gsub` DOES THE SAME TO TWO HEAPS, of which the first stands in the second under a map of names: it answers alike, or asks for the
 -- same matches behind the same charge, a table or a function that stands for the first one's. R relates what functions hold.
 use Rattle.std.specs.Prelude.{ℕ, Bool, List}
-use Rattle.lua_pattern.specs.declared.item.Item.{Item}
-use Rattle.lua_pattern.specs.declared.slots.Slot.{Slot}
+use Rattle.lua_meaning.specs.LuaPatternDeclaredItemItem.{Item}
+use Rattle.lua_meaning.specs.LuaPatternDeclaredSlotsSlot.{Slot}
 use Rattle.lua_heap.specs.Value.{Value, Table}
 use Rattle.lua_heap.specs.Heap.{Heap}
 use Rattle.lua_heap.specs.Related.{Map, Each, Same, Stands}

@@ -1,7 +1,7 @@
 -- Each plain function is a line of the table of the library.
 use Rattle.std.proofs.Common.{◌≡◌, ap, Some}
-use Rattle.lua_heap.specs.declared.library.Library.TheVariants.{BasicAssert, BasicError, BasicGetMetatable, BasicSetMetatable, BasicNext, BasicRawEqual, BasicRawGet, BasicRawSet, BasicSelect, BasicToNumber, BasicType, BasicUnpack, MwLog, ArgumentExpand}
-use Rattle.lua_meaning.specs.Libraries.{Answers}
+use Rattle.lua_basic.specs.LuaHeapDeclaredLibraryLibraryTheVariants.{BasicAssert, BasicError, BasicGetMetatable, BasicSetMetatable, BasicNext, BasicRawEqual, BasicRawGet, BasicRawSet, BasicSelect, BasicToNumber, BasicType, BasicUnpack, MwLog, ArgumentExpand}
+use Rattle.lua_basic.specs.LuaMeaningLibraries.{Answers}
 use Rattle.lua_libs.specs.declared.table.PlainFunction.{PlainFunction}
 use Rattle.lua_libs.specs.declared.table.PlainFunction.TheVariants as plain
 use Rattle.lua_libs.specs.Table.{answer_of, AreInTable}

@@ -1,10 +1,10 @@
 -- A new table with entries that are set one after another.
 use Rattle.std.proofs.Common.{◌≡◌, ℕ, false, [], ◌∷◌, length, sym, ap, ◌∙◌}
-use Rattle.lua_heap.specs.Value as kind
-use Rattle.lua_heap.specs.Table.{Entries}
-use Rattle.lua_heap.specs.Heap.{Heap, add, TableObj, set_in, new_table}
-use Rattle.lua_heap.specs.Graph.{node_table, shift_entries}
-use Rattle.lua_meaning.specs.Frames.{with_table}
+use Rattle.lua_basic.specs.LuaHeapValue as kind
+use Rattle.lua_graph.specs.LuaHeapTable.{Entries}
+use Rattle.lua_graph.specs.LuaHeapHeap.{Heap, add, TableObj, set_in, new_table}
+use Rattle.lua_graph.specs.LuaHeapGraph.{node_table, shift_entries}
+use Rattle.lua_basic.specs.LuaMeaningFrames.{with_table}
 use Rattle.lua_graph.specs.Put.{grown, filled}
 use Rattle.lua_graph.proofs.Joining.{all_set, joined}
 

@@ -1,17 +1,17 @@
 -- THE PLAIN FUNCTIONS, and what each gives: the lines of the meaning's table that answer at once.
 use Rattle.std.specs.Prelude.{◌≡◌, List, Option, Some, None}
-use Rattle.lua_heap.specs.Proc.{Proc}
-use Rattle.lua_heap.specs.Value.{Value}
-use Rattle.lua_heap.specs.Heap.{Heap}
-use Rattle.lua_heap.specs.declared.library.Library.{Library}
-use Rattle.lua_heap.specs.declared.library.Library.TheVariants.{BasicAssert, BasicError, BasicGetMetatable, BasicSetMetatable, BasicNext, BasicRawEqual, BasicRawGet, BasicRawSet, BasicSelect, BasicToNumber, BasicType, BasicUnpack, MwLog, ArgumentExpand}
-use Rattle.lua_meaning.specs.World.{World}
-use Rattle.lua_meaning.specs.Acts.{Frame}
-use Rattle.lua_meaning.specs.Arguments.{Plain}
-use Rattle.lua_meaning.specs.Basic.{assert, error, get_metatable, set_metatable, next, raw_equal, raw_get, raw_set, select, to_number, kind, unpack}
-use Rattle.lua_meaning.specs.Mw.{log}
-use Rattle.lua_meaning.specs.Frames.{argument_expand}
-use Rattle.lua_meaning.specs.Libraries.{Answers, form}
+use Rattle.lua_basic.specs.LuaHeapProc.{Proc}
+use Rattle.lua_basic.specs.LuaHeapValue.{Value}
+use Rattle.lua_graph.specs.LuaHeapHeap.{Heap}
+use Rattle.lua_basic.specs.LuaHeapDeclaredLibraryLibrary.{Library}
+use Rattle.lua_basic.specs.LuaHeapDeclaredLibraryLibraryTheVariants.{BasicAssert, BasicError, BasicGetMetatable, BasicSetMetatable, BasicNext, BasicRawEqual, BasicRawGet, BasicRawSet, BasicSelect, BasicToNumber, BasicType, BasicUnpack, MwLog, ArgumentExpand}
+use Rattle.lua_basic.specs.LuaMeaningWorld.{World}
+use Rattle.lua_basic.specs.LuaMeaningActs.{Frame}
+use Rattle.lua_basic.specs.LuaMeaningArguments.{Plain}
+use Rattle.lua_basic.specs.LuaMeaningBasic.{assert, error, get_metatable, set_metatable, next, raw_equal, raw_get, raw_set, select, to_number, kind, unpack}
+use Rattle.lua_basic.specs.LuaMeaningMw.{log}
+use Rattle.lua_basic.specs.LuaMeaningFrames.{argument_expand}
+use Rattle.lua_basic.specs.LuaMeaningLibraries.{Answers, form}
 use Rattle.lua_libs.specs.declared.table.PlainFunction.{PlainFunction}
 use Rattle.lua_libs.specs.declared.table.PlainFunction.TheVariants as plain
 

@@ -1,5 +1,5 @@
 //! A plain function is called.
-ghost use Rattle.lua_store.specs.Parts.{IsLater};
+ghost use Rattle.lua_graph.specs.LuaStoreParts.{IsLater};
 ghost use Rattle.lua_basic.specs.Seen.{values_seen, AllOf, Paid, AnswerOf};
 ghost use Rattle.lua_libs.specs.Table.{answer_of};
 
@@ -13,7 +13,7 @@ use lua_basic::raising::{assert, error};
 use lua_basic::raw::{raw_equal, raw_get, raw_set};
 use lua_basic::unpacking::unpack;
 use lua_basic::walking::next;
-use lua_store::{Store, Value};
+use lua_graph::{Store, Value};
 use std::alloc::Global;
 use wk_base::{Left, List};
 

@@ -1,12 +1,11 @@
 //! `mw.clone` (Scribunto, mw library).
-ghost use Rattle.lua_meaning.specs.Mw as meaning;
-ghost use Rattle.lua_store.specs.Parts.{IsLater};
+ghost use Rattle.lua_basic.specs.LuaMeaningMw as meaning;
+ghost use Rattle.lua_graph.specs.LuaStoreParts.{IsLater};
 ghost use Rattle.lua_basic.specs.Seen.{values_seen, AllOf, Paid, AnswerOf};
 
 use lua_basic::Stop;
 use lua_basic::values::{first, single};
-use lua_graph::copy;
-use lua_store::{Store, Value};
+use lua_graph::{Store, Value, copy};
 use std::alloc::Global;
 use wk_base::{Left, List};
 

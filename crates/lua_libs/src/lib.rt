@@ -17,5 +17,10 @@ pub mod titles;
 
 pub use call::plain_call;
 pub use copying::mw_clone;
+pub use lua_basic::arguments::{a_number, a_table};
+pub use lua_basic::texts::text_in;
+pub use lua_basic::values::{first, rest, second, third};
+pub use lua_basic::{Library, Stop};
+pub use lua_graph::TableId;
 pub use table::{PlainFunction, plain_function};
 pub use titles::mw_get_current_title;

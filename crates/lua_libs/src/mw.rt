@@ -1,11 +1,11 @@
 //! Plain functions that Scribunto adds (Scribunto, Lua reference manual).
 ghost use Rattle.std.specs.Prelude.{◌≡◌, ◌++◌, IfOk};
-ghost use Rattle.lua_meaning.specs.CallBacks as texts;
-ghost use Rattle.lua_meaning.specs.Frames as frames;
-ghost use Rattle.lua_meaning.specs.Messages as messages;
-ghost use Rattle.lua_meaning.specs.Mw as meaning;
-ghost use Rattle.lua_store.specs.Seen.{seen};
-ghost use Rattle.lua_store.specs.Parts.{IsOf, IsLater};
+ghost use Rattle.lua_basic.specs.LuaMeaningCallBacks as texts;
+ghost use Rattle.lua_basic.specs.LuaMeaningFrames as frames;
+ghost use Rattle.lua_basic.specs.LuaMeaningMessages as messages;
+ghost use Rattle.lua_basic.specs.LuaMeaningMw as meaning;
+ghost use Rattle.lua_graph.specs.LuaStoreSeen.{seen};
+ghost use Rattle.lua_graph.specs.LuaStoreParts.{IsOf, IsLater};
 ghost use Rattle.lua_basic.specs.Arguments.{text_bytes};
 ghost use Rattle.lua_basic.specs.Seen.{values_seen, AllOf, Free, AnswerOf};
 
@@ -14,7 +14,7 @@ use lua_basic::arguments::a_table;
 use lua_basic::fields::field;
 use lua_basic::texts::TextIn;
 use lua_basic::values::single;
-use lua_store::{Store, Value};
+use lua_graph::{Store, Value};
 use std::alloc::Global;
 use wk_base::{List, NoMemory};
 

@@ -2,7 +2,7 @@
 ghost use Rattle.std.specs.Prelude.{◌≡◌};
 ghost use Rattle.lua_libs.specs.Table.{plain_in, AreInTable};
 
-use lua_store::Library;
+use lua_basic::Library;
 
 /// A function of the library that calls back nobody (manual 5.1; Scribunto, `mw.log`, `frame:getArgument`).
 #[derive(Clone, Copy, Debug, PartialEq, Eq)]

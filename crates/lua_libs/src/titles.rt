@@ -1,16 +1,16 @@
 //! `mw.title.getCurrentTitle` (Scribunto, mw.title).
 ghost use Rattle.std.specs.Prelude.{◌≡◌, length, IfOk, OnOk};
-ghost use Rattle.lua_heap.specs.Heap.{set_in};
-ghost use Rattle.lua_heap.specs.Value as kind;
-ghost use Rattle.lua_meaning.specs.Frames.{with_table};
-ghost use Rattle.lua_meaning.specs.Mw as meaning;
-ghost use Rattle.lua_store.specs.Parts.{IsTableOf, IsLater};
+ghost use Rattle.lua_graph.specs.LuaHeapHeap.{set_in};
+ghost use Rattle.lua_basic.specs.LuaHeapValue as kind;
+ghost use Rattle.lua_basic.specs.LuaMeaningFrames.{with_table};
+ghost use Rattle.lua_basic.specs.LuaMeaningMw as meaning;
+ghost use Rattle.lua_graph.specs.LuaStoreParts.{IsTableOf, IsLater};
 ghost use Rattle.lua_basic.specs.Seen.{Paid, AnswerOf};
 
 use lua_basic::Stop;
 use lua_basic::stop::pay;
 use lua_basic::values::single;
-use lua_store::{Store, TableId, Value};
+use lua_graph::{Store, TableId, Value};
 use std::alloc::Global;
 use wk_base::{Left, List, NoMemory, Title};
 

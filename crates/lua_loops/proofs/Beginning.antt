@@ -1,24 +1,24 @@
 -- A turn of a loop begins, or the body of a function: there are new registers, and a frame that waits for its end.
 use Rattle.std.proofs.Common.{◌≡◌, ◌∙◌, refl, sym, ap, Bool, List, ◌∷◌}
 use Rattle.std.specs.Prelude.{ℤ}
-use Rattle.wk_base.specs.declared.left.Left.{Left}
-use Rattle.lua_heap.specs.Proc.{Proc}
-use Rattle.lua_heap.specs.Heap.{Heap}
-use Rattle.lua_heap.specs.Value.{Number}
-use Rattle.lua_store.specs.Seen.{StoreView}
-use Rattle.lua_store.specs.Parts.{IsLater}
-use Rattle.lua_slots.specs.Code.{CBlock}
-use Rattle.lua_slots.specs.Slots as slots
-use Rattle.lua_slots.specs.Slots.{Slots, with_one}
-use Rattle.lua_slots.specs.Points.{SFrame, Point, Runs, Now}
-use Rattle.lua_stack.specs.declared.activation.Activation.{Activation}
-use Rattle.lua_stack.specs.declared.focus.Focus.{Focus}
-use Rattle.lua_stack.specs.declared.frame.Frame.{Frame}
-use Rattle.lua_stack.specs.declared.frame.Ending.{Ending}
-use Rattle.lua_stack.specs.declared.register.Slot.{Slot}
-use Rattle.lua_stack.specs.Seen.{focus_seen, frames_seen, registers_seen, activations_seen, ending_seen}
-use Rattle.lua_stack.specs.Of.{FramesOf, FocusOf, EndingOf, RegistersOf, ActivationsOf}
-use Rattle.lua_stack.proofs.Stay.{frames_later, activations_later, activations_as}
+use Rattle.page_run.specs.WkBaseDeclaredLeftLeft.{Left}
+use Rattle.lua_code.specs.LuaHeapProc.{Proc}
+use Rattle.lua_code.specs.LuaHeapHeap.{Heap}
+use Rattle.lua_code.specs.LuaHeapValue.{Number}
+use Rattle.lua_state.specs.LuaStoreSeen.{StoreView}
+use Rattle.lua_state.specs.LuaStoreParts.{IsLater}
+use Rattle.lua_code.specs.LuaSlotsCode.{CBlock}
+use Rattle.lua_state.specs.LuaSlotsSlots as slots
+use Rattle.lua_state.specs.LuaSlotsSlots.{Slots, with_one}
+use Rattle.lua_state.specs.LuaSlotsPoints.{SFrame, Point, Runs, Now}
+use Rattle.lua_state.specs.LuaStackDeclaredActivationActivation.{Activation}
+use Rattle.lua_state.specs.LuaStackDeclaredFocusFocus.{Focus}
+use Rattle.lua_state.specs.LuaStackDeclaredFrameFrame.{Frame}
+use Rattle.lua_state.specs.LuaStackDeclaredFrameEnding.{Ending}
+use Rattle.lua_state.specs.LuaStackDeclaredRegisterSlot.{Slot}
+use Rattle.lua_state.specs.LuaStackSeen.{focus_seen, frames_seen, registers_seen, activations_seen, ending_seen}
+use Rattle.lua_state.specs.LuaStackOf.{FramesOf, FocusOf, EndingOf, RegistersOf, ActivationsOf}
+use Rattle.lua_state.proofs.LuaStackStay.{frames_later, activations_later, activations_as}
 use Rattle.lua_state.specs.declared.state.State.{State}
 use Rattle.lua_state.specs.declared.turn.Turn.TheVariants as turn
 use Rattle.lua_state.specs.Seen.{slots_of, frames_of}

@@ -2,26 +2,26 @@
 use Rattle.std.proofs.Common.{◌≡◌, ◌∙◌, refl, sym, ap, subst, ℕ, zero, suc, ◌+◌, Bool, true, false, List, [], ◌∷◌, length, drop, Option, Some, None, arith}
 use Rattle.std.specs.Prelude.{if◌then◌else◌}
 use Rattle.std.proofs.lemmas.List.{drop-map, length-map}
-use Rattle.wk_base.specs.declared.left.Left.{Left}
+use Rattle.page_run.specs.WkBaseDeclaredLeftLeft.{Left}
 use Rattle.page_run.specs.declared.which.Which.TheVariants.{Calls}
-use Rattle.lua_store.specs.declared.value.Value.{Value}
-use Rattle.lua_store.specs.declared.ids.ClosureId.{ClosureId}
-use Rattle.lua_store.specs.Seen.{StoreView, seen}
-use Rattle.lua_store.specs.Parts.{IsLater}
-use Rattle.lua_store.proofs.Later.{later-itself, text_of-later}
-use Rattle.lua_slots.specs.Code.{CProto}
-use Rattle.lua_slots.specs.Slots as slots
-use Rattle.lua_slots.specs.Slots.{Slots, with_all}
-use Rattle.lua_slots.specs.Points.{SFrame, Move, Marks, Enters}
-use Rattle.lua_slots.specs.Calls.{activation, slots_in_body}
-use Rattle.lua_slots.specs.Enact.{enact}
-use Rattle.lua_stack.specs.declared.activation.Activation.{Activation}
-use Rattle.lua_stack.specs.declared.activation.Callee.{Callee}
-use Rattle.lua_stack.specs.declared.frame.Frame.{Frame}
-use Rattle.lua_stack.specs.declared.register.Slot.{Slot}
-use Rattle.lua_stack.specs.Seen.{Texts, slot_seen, values_seen, registers_seen, callee_seen, activation_seen, activations_seen}
-use Rattle.lua_stack.specs.Of.{ValuesOf, CalleeOf, ActivationOf, ActivationsOf, MayBeClosureOf}
-use Rattle.lua_stack.proofs.Stay.{values_later, captured_stay, activations_later, activations_as}
+use Rattle.lua_state.specs.LuaStoreDeclaredValueValue.{Value}
+use Rattle.lua_state.specs.LuaStoreDeclaredIdsClosureId.{ClosureId}
+use Rattle.lua_state.specs.LuaStoreSeen.{StoreView, seen}
+use Rattle.lua_state.specs.LuaStoreParts.{IsLater}
+use Rattle.lua_state.proofs.LuaStoreLater.{later-itself, text_of-later}
+use Rattle.lua_code.specs.LuaSlotsCode.{CProto}
+use Rattle.lua_state.specs.LuaSlotsSlots as slots
+use Rattle.lua_state.specs.LuaSlotsSlots.{Slots, with_all}
+use Rattle.lua_state.specs.LuaSlotsPoints.{SFrame, Move, Marks, Enters}
+use Rattle.lua_state.specs.LuaSlotsCalls.{activation, slots_in_body}
+use Rattle.lua_state.specs.LuaSlotsEnact.{enact}
+use Rattle.lua_state.specs.LuaStackDeclaredActivationActivation.{Activation}
+use Rattle.lua_state.specs.LuaStackDeclaredActivationCallee.{Callee}
+use Rattle.lua_state.specs.LuaStackDeclaredFrameFrame.{Frame}
+use Rattle.lua_state.specs.LuaStackDeclaredRegisterSlot.{Slot}
+use Rattle.lua_state.specs.LuaStackSeen.{Texts, slot_seen, values_seen, registers_seen, callee_seen, activation_seen, activations_seen}
+use Rattle.lua_state.specs.LuaStackOf.{ValuesOf, CalleeOf, ActivationOf, ActivationsOf, MayBeClosureOf}
+use Rattle.lua_state.proofs.LuaStackStay.{values_later, captured_stay, activations_later, activations_as}
 use Rattle.lua_state.specs.declared.codes.Codes.{Codes}
 use Rattle.lua_state.specs.declared.state.State.{State}
 use Rattle.lua_state.specs.declared.turn.Turn.{Turn}

@@ -1,18 +1,18 @@
 -- Registers, functions and calls that are given back.
 use Rattle.std.proofs.Common.{◌≡◌, ◌∙◌, refl, sym, ap, subst, ℕ, suc, zero, ◌-◌, List, [], ◌∷◌, length, drop}
 use Rattle.std.proofs.lemmas.List.{drop-map, length-map}
-use Rattle.wk_base.specs.declared.left.Left.{Left}
-use Rattle.lua_store.specs.Seen.{StoreView}
-use Rattle.lua_store.proofs.Later.{later-itself}
-use Rattle.lua_slots.specs.Slots as slots
-use Rattle.lua_slots.specs.Slots.{Slots, cut_to, cut, newest_function, function_of}
-use Rattle.lua_slots.specs.Points.{Move, Exits, Now}
-use Rattle.lua_slots.specs.Calls.{rest_of, left_function}
-use Rattle.lua_stack.specs.declared.activation.Activation.{Activation}
-use Rattle.lua_stack.specs.declared.focus.Focus.{Focus}
-use Rattle.lua_stack.specs.declared.register.Slot.{Slot}
-use Rattle.lua_stack.specs.Seen.{Texts, slot_seen, registers_seen, activations_seen, focus_seen}
-use Rattle.lua_stack.specs.Of.{RegistersOf, ActivationsOf, FocusOf}
+use Rattle.page_run.specs.WkBaseDeclaredLeftLeft.{Left}
+use Rattle.lua_state.specs.LuaStoreSeen.{StoreView}
+use Rattle.lua_state.proofs.LuaStoreLater.{later-itself}
+use Rattle.lua_state.specs.LuaSlotsSlots as slots
+use Rattle.lua_state.specs.LuaSlotsSlots.{Slots, cut_to, cut, newest_function, function_of}
+use Rattle.lua_state.specs.LuaSlotsPoints.{Move, Exits, Now}
+use Rattle.lua_state.specs.LuaSlotsCalls.{rest_of, left_function}
+use Rattle.lua_state.specs.LuaStackDeclaredActivationActivation.{Activation}
+use Rattle.lua_state.specs.LuaStackDeclaredFocusFocus.{Focus}
+use Rattle.lua_state.specs.LuaStackDeclaredRegisterSlot.{Slot}
+use Rattle.lua_state.specs.LuaStackSeen.{Texts, slot_seen, registers_seen, activations_seen, focus_seen}
+use Rattle.lua_state.specs.LuaStackOf.{RegistersOf, ActivationsOf, FocusOf}
 use Rattle.lua_state.specs.declared.state.State.{State}
 use Rattle.lua_state.specs.declared.turn.Turn.{Turn}
 use Rattle.lua_state.specs.declared.turn.Turn.TheVariants as turn

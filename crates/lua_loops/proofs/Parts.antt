@@ -1,25 +1,25 @@
 -- How moves of loops are made of parts.
 use Rattle.std.proofs.Common.{◌≡◌, ◌∙◌, refl, sym, ap, subst, ℕ, ◌+◌, Bool, List, [], ◌∷◌}
 use Rattle.std.specs.Prelude.{ℤ}
-use Rattle.wk_base.specs.declared.left.Left.{Left}
-use Rattle.lua_meaning.specs.Values.{first}
-use Rattle.lua_store.specs.declared.value.Value.{Value}
-use Rattle.lua_store.specs.Seen.{StoreView, seen}
-use Rattle.lua_store.specs.Parts.{IsOf}
-use Rattle.lua_store.proofs.Later.{later-itself}
-use Rattle.lua_slots.specs.Code.{CBlock}
-use Rattle.lua_slots.specs.Slots.{Slots}
-use Rattle.lua_slots.specs.Points.{SFrame, CountEnd, Move, Marks, Now}
-use Rattle.lua_slots.specs.Loops.{count_next}
-use Rattle.lua_stack.specs.declared.focus.Focus.{Focus}
-use Rattle.lua_stack.specs.declared.frame.Frame.{Frame}
-use Rattle.lua_stack.specs.declared.values.Given.{Given}
-use Rattle.lua_stack.specs.Lists.{first_stored, rest_stored, given_values}
-use Rattle.lua_stack.specs.Seen.{focus_seen, given_seen}
-use Rattle.lua_stack.specs.Of.{ValuesOf, FramesOf, FocusOf}
-use Rattle.lua_stack.proofs.Openings.{first_seen}
-use Rattle.lua_arms.specs.declared.step.Step.{Step}
-use Rattle.lua_arms.specs.Steps.{step_seen}
+use Rattle.page_run.specs.WkBaseDeclaredLeftLeft.{Left}
+use Rattle.lua_code.specs.LuaMeaningValues.{first}
+use Rattle.lua_state.specs.LuaStoreDeclaredValueValue.{Value}
+use Rattle.lua_state.specs.LuaStoreSeen.{StoreView, seen}
+use Rattle.lua_state.specs.LuaStoreParts.{IsOf}
+use Rattle.lua_state.proofs.LuaStoreLater.{later-itself}
+use Rattle.lua_code.specs.LuaSlotsCode.{CBlock}
+use Rattle.lua_state.specs.LuaSlotsSlots.{Slots}
+use Rattle.lua_state.specs.LuaSlotsPoints.{SFrame, CountEnd, Move, Marks, Now}
+use Rattle.lua_code.specs.LuaSlotsLoops.{count_next}
+use Rattle.lua_state.specs.LuaStackDeclaredFocusFocus.{Focus}
+use Rattle.lua_state.specs.LuaStackDeclaredFrameFrame.{Frame}
+use Rattle.lua_state.specs.LuaStackDeclaredValuesGiven.{Given}
+use Rattle.lua_state.specs.LuaStackLists.{first_stored, rest_stored, given_values}
+use Rattle.lua_state.specs.LuaStackSeen.{focus_seen, given_seen}
+use Rattle.lua_state.specs.LuaStackOf.{ValuesOf, FramesOf, FocusOf}
+use Rattle.lua_state.proofs.LuaStackOpenings.{first_seen}
+use Rattle.lua_state.specs.LuaArmsDeclaredStepStep.{Step}
+use Rattle.lua_state.specs.LuaArmsSteps.{step_seen}
 use Rattle.lua_state.specs.declared.state.State.{State}
 use Rattle.lua_state.specs.declared.turn.Turn.{Turn}
 use Rattle.lua_state.specs.declared.turn.Turn.TheVariants as turn

@@ -1,30 +1,29 @@
 //! Functions of Lua that are entered (manual 2.5.8 and 2.5.9): their parameters are new variables, and the arguments beyond them are their
 //! values of `...`.
 ghost use Rattle.std.specs.Prelude.{◌≡◌, ◌+◌, ◌<◌, ◌^◌, ◌∷◌, [], drop, length, if◌then◌else◌, IfOk, OnOk};
-ghost use Rattle.wk_base.specs.declared.left.Left.{Left as Allowance};
+ghost use Rattle.page_run.specs.WkBaseDeclaredLeftLeft.{Left as Allowance};
 ghost use Rattle.lua_code.specs.Seen.{block_seen, proto_seen};
-ghost use Rattle.lua_slots.specs.Calls as calls;
-ghost use Rattle.lua_slots.specs.Points.{BodyEnd, Runs, Marks, Enters, Now};
-ghost use Rattle.lua_slots.specs.Slots.{with_all};
-ghost use Rattle.lua_store.specs.Parts.{IsLater};
-ghost use Rattle.lua_stack.specs.Levels.{levels_from};
-ghost use Rattle.lua_stack.specs.Of.{CalleeOf, RegistersOf, ValuesOf};
-ghost use Rattle.lua_stack.specs.Seen.{callee_seen, registers_seen, values_seen};
+ghost use Rattle.lua_state.specs.LuaSlotsCalls as calls;
+ghost use Rattle.lua_state.specs.LuaSlotsPoints.{BodyEnd, Runs, Marks, Enters, Now};
+ghost use Rattle.lua_state.specs.LuaSlotsSlots.{with_all};
+ghost use Rattle.lua_state.specs.LuaStoreParts.{IsLater};
+ghost use Rattle.lua_state.specs.LuaStackLevels.{levels_from};
+ghost use Rattle.lua_state.specs.LuaStackOf.{CalleeOf, RegistersOf, ValuesOf};
+ghost use Rattle.lua_state.specs.LuaStackSeen.{callee_seen, registers_seen, values_seen};
 ghost use Rattle.lua_state.specs.Makes.{Makes, Counts};
 ghost use Rattle.lua_state.specs.Of.{StateOf};
 ghost use Rattle.lua_state.specs.Seen.{frames_of, slots_of};
 ghost use Rattle.lua_state.specs.Worlds.{world_seen};
 
 use crate::exits::{go, nothing, run_body};
-use lua_code::Proto;
-use lua_stack::opening::open_all;
-use lua_stack::{Activations, Callee, Ending, Slot, Stack, Values};
-use lua_state::{State, Turn, enter_call};
-use lua_store::Store;
+use lua_code::{NoMemory, Proto};
+use lua_state::{
+    Activations, Callee, Ending, Left, Slot, Stack, State, Steps, Store, Turn, Values, enter_call,
+    open_all,
+};
 use page_run::Which;
 use std::alloc::Global;
 use std::sync::ledger::Ledger;
-use wk_base::{Left, NoMemory, Steps};
 
 /// The arguments behind the parameters are values of `...` in a function that has it.
 fn dots_of(alloc: Global, dots: bool, behind: Values) -> Values

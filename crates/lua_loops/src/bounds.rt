@@ -1,23 +1,22 @@
 //! What follows a test of a loop, a bound, or the results of an iterator (manual 2.4.4 and 2.4.5).
 ghost use Rattle.std.specs.Prelude.{◌≡◌, ℕ, List as Items, option_map, IfOk};
 ghost use Rattle.lua_code.specs.Seen.{expression_seen, block_seen};
-ghost use Rattle.lua_meaning.specs.Values as plain;
-ghost use Rattle.lua_slots.specs.Loops as loops;
-ghost use Rattle.lua_store.specs.Parts.{IsOf};
-ghost use Rattle.lua_store.specs.Seen.{StoreView, seen};
-ghost use Rattle.lua_stack.specs.Of.{EachOf, GivenOf};
-ghost use Rattle.lua_stack.specs.Seen.{given_seen};
+ghost use Rattle.lua_code.specs.LuaMeaningValues as plain;
+ghost use Rattle.lua_code.specs.LuaSlotsLoops as loops;
+ghost use Rattle.lua_state.specs.LuaStoreParts.{IsOf};
+ghost use Rattle.lua_state.specs.LuaStoreSeen.{StoreView, seen};
+ghost use Rattle.lua_state.specs.LuaStackOf.{EachOf, GivenOf};
+ghost use Rattle.lua_state.specs.LuaStackSeen.{given_seen};
 ghost use Rattle.lua_state.specs.Makes.{Makes};
 ghost use Rattle.lua_state.specs.Of.{StateOf};
 ghost use Rattle.lua_state.specs.Seen.{frames_of, slots_of};
 
-use lua_arms::loops as arms;
-use lua_code::{Expression, Statement};
-use lua_stack::{EachLoop, Given};
-use lua_state::{State, Turn, finish};
-use lua_store::{Store, Value};
+use lua_code::{Expression, List, NoMemory, Statement};
+use lua_state::{
+    EachLoop, Given, Left, State, Store, Turn, Value, count_next, counting, each_from, each_next,
+    finish, repeat_next, step_next, while_next,
+};
 use std::alloc::Global;
-use wk_base::{Left, List, NoMemory};
 
 /// The test of a `while` has this value.
 pub fn test_while<'m>(
@@ -33,7 +32,7 @@ pub fn test_while<'m>(
     ensures { IfOk result (λ r. Makes store.old state.now left.old store.new state.now left.new
         (loops.while_next (expression_seen test.now) (block_seen body.now) (seen store.old.texts value) (frames_of store.old state.now) (slots_of store.old state.now)) r) }
 {
-    let step = arms::while_next(alloc, test, body, value);
+    let step = while_next(alloc, test, body, value);
     finish(alloc, store, left, state, step)
 }
 
@@ -51,7 +50,7 @@ pub fn test_repeat<'m>(
     ensures { IfOk result (λ r. Makes store.old state.now left.old store.new state.now left.new
         (loops.repeat_next (block_seen body.now) (expression_seen test.now) (seen store.old.texts value) (frames_of store.old state.now) (slots_of store.old state.now)) r) }
 {
-    let step = arms::repeat_next(alloc, body, test, value);
+    let step = repeat_next(alloc, body, test, value);
     finish(alloc, store, left, state, step)
 }
 
@@ -73,7 +72,7 @@ pub fn two_bounds<'m>(
     ensures { IfOk result (λ r. Makes store.old state.old left.old store.new state.new left.new
         (loops.step_next boxed (seen store.old.texts bounds.0) (seen store.old.texts bounds.1) (option_map (λ e. expression_seen e.now) by.entry) (block_seen body.now) line (frames_of store.old state.old) (slots_of store.old state.old)) r) }
 {
-    let step = arms::step_next(
+    let step = step_next(
         alloc,
         store,
         &mut state.frames,
@@ -104,7 +103,7 @@ pub fn three_bounds<'m>(
     ensures { IfOk result (λ r. Makes store.old state.now left.old store.new state.now left.new
         (loops.counting boxed (seen store.old.texts bounds.0) (seen store.old.texts bounds.1) (seen store.old.texts bounds.2) (block_seen body.now) line (frames_of store.old state.now) (slots_of store.old state.now)) r) }
 {
-    let step = arms::counting(alloc, store, boxed, bounds, body, line);
+    let step = counting(alloc, store, boxed, bounds, body, line);
     finish(alloc, store, left, state, step)
 }
 
@@ -122,7 +121,7 @@ pub fn next_index<'m>(
     ensures { IfOk result (λ r. Makes store.old state.now left.old store.new state.now left.new
         (loops.count_next boxed range.0 range.1 range.2 (block_seen body.now) (frames_of store.old state.now) (slots_of store.old state.now)) r) }
 {
-    let step = arms::count_next(alloc, boxed, range.0, range.1, range.2, body);
+    let step = count_next(alloc, boxed, range.0, range.1, range.2, body);
     finish(alloc, store, left, state, step)
 }
 
@@ -141,7 +140,7 @@ pub fn call_iterator<'m>(
     ensures { IfOk result (λ r. Makes store.old state.old left.old store.new state.new left.new
         (loops.each_from each.entry.value.flags.now (seen store.old.texts each.entry.value.iterator) (seen store.old.texts each.entry.value.state) (seen store.old.texts before) (block_seen each.entry.value.body.now) each.entry.value.line (frames_of store.old state.old) (slots_of store.old state.old)) r) }
 {
-    let step = arms::each_from(alloc, store, &state.env, &mut state.frames, each, before)?;
+    let step = each_from(alloc, store, &state.env, &mut state.frames, each, before)?;
     finish(alloc, store, left, state, step)
 }
 
@@ -160,7 +159,7 @@ pub fn next_results<'m>(
     ensures { IfOk result (λ r. Makes store.old state.now left.old store.new state.now left.new
         (loops.each_next each.entry.value.flags.now (seen store.old.texts each.entry.value.iterator) (seen store.old.texts each.entry.value.state) (given_seen store.old.texts results) (block_seen each.entry.value.body.now) each.entry.value.line (frames_of store.old state.now) (slots_of store.old state.now)) r) }
 {
-    let step = arms::each_next(alloc, store, each, results);
+    let step = each_next(alloc, store, each, results);
     finish(alloc, store, left, state, step)
 }
 

@@ -1,19 +1,19 @@
 //! The end of a block, a function, or a turn of a loop is come to (manual 2.4.4, 2.4.5 and 2.5.8).
 ghost use Rattle.std.specs.Prelude.{◌≡◌, ◌+◌, ◌<◌, ◌^◌, ◌∷◌, [], IfOk};
-ghost use Rattle.wk_base.specs.declared.left.Left.{Left as Allowance};
+ghost use Rattle.page_run.specs.WkBaseDeclaredLeftLeft.{Left as Allowance};
 ghost use Rattle.lua_code.specs.Seen.{expression_seen, block_seen};
-ghost use Rattle.lua_slots.specs.Calls as calls;
-ghost use Rattle.lua_slots.specs.Code.{CWorld};
-ghost use Rattle.lua_slots.specs.Errors.{gives};
-ghost use Rattle.lua_slots.specs.Loops as loops;
-ghost use Rattle.lua_slots.specs.Moves.{goes};
-ghost use Rattle.lua_slots.specs.Points.{WhileTest, TestNow, Evals, Exits, Now};
-ghost use Rattle.lua_slots.specs.Slots.{cut};
-ghost use Rattle.lua_store.specs.Parts.{IsOf};
-ghost use Rattle.lua_store.specs.Seen.{seen};
-ghost use Rattle.lua_stack.specs.Lists.{first_stored, given_values};
-ghost use Rattle.lua_stack.specs.Of.{EachOf, EndingOf, GivenOf};
-ghost use Rattle.lua_stack.specs.Seen.{ending_seen, given_seen};
+ghost use Rattle.lua_state.specs.LuaSlotsCalls as calls;
+ghost use Rattle.lua_code.specs.LuaSlotsCode.{CWorld};
+ghost use Rattle.lua_state.specs.LuaSlotsErrors.{gives};
+ghost use Rattle.lua_code.specs.LuaSlotsLoops as loops;
+ghost use Rattle.lua_code.specs.LuaSlotsMoves.{goes};
+ghost use Rattle.lua_state.specs.LuaSlotsPoints.{WhileTest, TestNow, Evals, Exits, Now};
+ghost use Rattle.lua_state.specs.LuaSlotsSlots.{cut};
+ghost use Rattle.lua_state.specs.LuaStoreParts.{IsOf};
+ghost use Rattle.lua_state.specs.LuaStoreSeen.{seen};
+ghost use Rattle.lua_state.specs.LuaStackLists.{first_stored, given_values};
+ghost use Rattle.lua_state.specs.LuaStackOf.{EachOf, EndingOf, GivenOf};
+ghost use Rattle.lua_state.specs.LuaStackSeen.{ending_seen, given_seen};
 ghost use Rattle.lua_state.specs.Makes.{Makes};
 ghost use Rattle.lua_state.specs.Of.{StateOf};
 ghost use Rattle.lua_state.specs.Seen.{frames_of, slots_of};
@@ -21,12 +21,9 @@ ghost use Rattle.lua_state.specs.Seen.{frames_of, slots_of};
 use crate::bounds::{call_iterator, next_index, test_repeat};
 use crate::exits::{nothing, wait};
 use crate::leaving::{go_below, keep_oldest, leave_body_for, leave_for};
-use lua_code::{Expression, Statement};
-use lua_stack::{EachLoop, Ending, Focus, Frame, Given, InLoop};
-use lua_state::{State, Turn};
-use lua_store::{Store, Value};
+use lua_code::{Expression, List, NoMemory, Statement};
+use lua_state::{EachLoop, Ending, Focus, Frame, Given, InLoop, Left, State, Store, Turn, Value};
 use std::alloc::Global;
-use wk_base::{Left, List, NoMemory};
 
 /// A block of its own is over.
 fn end_block<'m>(alloc: Global, store: &Store, state: &mut State<'m>, depth: usize) -> Turn<'m>

@@ -1,22 +1,19 @@
 //! Ends of a move at which nothing can fail: what is next is known, and no allowance is needed.
 ghost use Rattle.std.specs.Prelude.{◌≡◌, ◌∷◌, [], List, IfOk};
 ghost use Rattle.page_run.specs.Outcome.{Goes};
-ghost use Rattle.wk_base.specs.declared.left.Left.{Left as Allowance};
+ghost use Rattle.page_run.specs.WkBaseDeclaredLeftLeft.{Left as Allowance};
 ghost use Rattle.lua_code.specs.Seen.{block_seen};
-ghost use Rattle.lua_slots.specs.Points.{SFrame, Gives, Runs, Now};
-ghost use Rattle.lua_store.specs.Seen.{StoreView};
-ghost use Rattle.lua_stack.specs.Of.{FocusOf, FrameOf, FramesOf, EndingOf};
-ghost use Rattle.lua_stack.specs.Seen.{focus_seen, frame_seen, frames_seen, ending_seen};
+ghost use Rattle.lua_state.specs.LuaSlotsPoints.{SFrame, Gives, Runs, Now};
+ghost use Rattle.lua_state.specs.LuaStoreSeen.{StoreView};
+ghost use Rattle.lua_state.specs.LuaStackOf.{FocusOf, FrameOf, FramesOf, EndingOf};
+ghost use Rattle.lua_state.specs.LuaStackSeen.{focus_seen, frame_seen, frames_seen, ending_seen};
 ghost use Rattle.lua_state.specs.Makes.{Makes};
 ghost use Rattle.lua_state.specs.Of.{StateOf};
 ghost use Rattle.lua_state.specs.Seen.{frames_of, slots_of};
 
-use lua_code::Statement;
-use lua_stack::{Ending, Focus, Frame, Given, Stack, Values, give_up};
-use lua_state::{State, Turn};
-use lua_store::Store;
+use lua_code::{List, NoMemory, Statement};
+use lua_state::{Ending, Focus, Frame, Given, Stack, State, Store, Turn, Values, give_up};
 use std::alloc::Global;
-use wk_base::{List, NoMemory};
 
 /// No values for the frames.
 pub fn nothing<'m>(alloc: Global) -> Focus<'m>

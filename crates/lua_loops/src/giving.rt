@@ -1,14 +1,14 @@
 //! A frame that waits in a loop is given values (manual 2.4.4 and 2.4.5).
 ghost use Rattle.std.specs.Prelude.{◌≡◌, IfOk};
 ghost use Rattle.lua_code.specs.Seen.{block_seen};
-ghost use Rattle.lua_meaning.specs.Values as plain;
-ghost use Rattle.lua_slots.specs.Code.{CWorld};
-ghost use Rattle.lua_slots.specs.Loops as loops;
-ghost use Rattle.lua_slots.specs.Moves.{goes};
-ghost use Rattle.lua_store.specs.Parts.{IsOf};
-ghost use Rattle.lua_stack.specs.Lists.{first_stored, given_values};
-ghost use Rattle.lua_stack.specs.Of.{InLoopOf, GivenOf};
-ghost use Rattle.lua_stack.specs.Seen.{in_loop_seen, given_seen};
+ghost use Rattle.lua_code.specs.LuaMeaningValues as plain;
+ghost use Rattle.lua_code.specs.LuaSlotsCode.{CWorld};
+ghost use Rattle.lua_code.specs.LuaSlotsLoops as loops;
+ghost use Rattle.lua_code.specs.LuaSlotsMoves.{goes};
+ghost use Rattle.lua_state.specs.LuaStoreParts.{IsOf};
+ghost use Rattle.lua_state.specs.LuaStackLists.{first_stored, given_values};
+ghost use Rattle.lua_state.specs.LuaStackOf.{InLoopOf, GivenOf};
+ghost use Rattle.lua_state.specs.LuaStackSeen.{in_loop_seen, given_seen};
 ghost use Rattle.lua_state.specs.Makes.{Makes};
 ghost use Rattle.lua_state.specs.Of.{StateOf};
 ghost use Rattle.lua_state.specs.Seen.{frames_of, slots_of};
@@ -17,12 +17,9 @@ use crate::bounds::{
     call_iterator, first_three, next_results, test_while, three_bounds, two_bounds,
 };
 use crate::exits::wait;
-use lua_code::Statement;
-use lua_stack::{EachLoop, Focus, Frame, Given, InLoop, boxed};
-use lua_state::{State, Turn};
-use lua_store::{Store, Value};
+use lua_code::{List, NoMemory, Statement};
+use lua_state::{EachLoop, Focus, Frame, Given, InLoop, Left, State, Store, Turn, Value, boxed};
 use std::alloc::Global;
-use wk_base::{Left, List, NoMemory};
 
 /// A generic loop has its iterator, its state, and the value before the first: the iterator is called.
 fn begin_each<'m>(

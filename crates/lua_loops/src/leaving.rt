@@ -1,23 +1,21 @@
 //! Registers, functions and calls that are given back.
 ghost use Rattle.std.specs.Prelude.{◌≡◌, ℕ, List as Items, IfOk};
-ghost use Rattle.wk_base.specs.declared.left.Left.{Left as Allowance};
-ghost use Rattle.lua_slots.specs.Calls as calls;
-ghost use Rattle.lua_slots.specs.Loops as loops;
-ghost use Rattle.lua_slots.specs.Points.{SFrame, Exits, Now};
-ghost use Rattle.lua_slots.specs.Slots.{Slots, newest_function, cut_to, cut};
-ghost use Rattle.lua_store.specs.Seen.{StoreView};
-ghost use Rattle.lua_stack.specs.Of.{ActivationsOf, FocusOf, JumpOf, RegistersOf};
-ghost use Rattle.lua_stack.specs.Seen.{activations_seen, focus_seen, jump_seen, registers_seen};
+ghost use Rattle.page_run.specs.WkBaseDeclaredLeftLeft.{Left as Allowance};
+ghost use Rattle.lua_state.specs.LuaSlotsCalls as calls;
+ghost use Rattle.lua_code.specs.LuaSlotsLoops as loops;
+ghost use Rattle.lua_state.specs.LuaSlotsPoints.{SFrame, Exits, Now};
+ghost use Rattle.lua_state.specs.LuaSlotsSlots.{Slots, newest_function, cut_to, cut};
+ghost use Rattle.lua_state.specs.LuaStoreSeen.{StoreView};
+ghost use Rattle.lua_state.specs.LuaStackOf.{ActivationsOf, FocusOf, JumpOf, RegistersOf};
+ghost use Rattle.lua_state.specs.LuaStackSeen.{activations_seen, focus_seen, jump_seen, registers_seen};
 ghost use Rattle.lua_state.specs.Makes.{Makes};
 ghost use Rattle.lua_state.specs.Of.{StateOf};
 ghost use Rattle.lua_state.specs.Seen.{frames_of, slots_of};
 
 use crate::exits::nothing;
-use lua_stack::{Activations, Focus, Jump, Slot, Stack};
-use lua_state::{State, Turn, leave_call};
-use lua_store::Store;
+use lua_code::NoMemory;
+use lua_state::{Activations, Focus, Jump, Left, Slot, Stack, State, Store, Turn, leave_call};
 use std::alloc::Global;
-use wk_base::{Left, NoMemory};
 
 /// The oldest so many registers stay.
 pub fn keep_oldest(regs: &mut Stack<Slot>, depth: usize)

@@ -1,24 +1,22 @@
 //! The end of a block, a function, or a turn of a loop is jumped out of (manual 2.4.4 and 2.7).
 ghost use Rattle.std.specs.Prelude.{◌+◌, ◌<◌, ◌^◌, IfOk};
-ghost use Rattle.wk_base.specs.declared.left.Left.{Left as Allowance};
-ghost use Rattle.lua_slots.specs.Calls as calls;
-ghost use Rattle.lua_slots.specs.Errors.{jumps};
-ghost use Rattle.lua_slots.specs.Loops as loops;
-ghost use Rattle.lua_slots.specs.Moves.{passes};
-ghost use Rattle.lua_slots.specs.Points.{Exits};
-ghost use Rattle.lua_slots.specs.Slots.{cut};
-ghost use Rattle.lua_stack.specs.Of.{EndingOf, JumpOf};
-ghost use Rattle.lua_stack.specs.Seen.{ending_seen, jump_seen};
+ghost use Rattle.page_run.specs.WkBaseDeclaredLeftLeft.{Left as Allowance};
+ghost use Rattle.lua_state.specs.LuaSlotsCalls as calls;
+ghost use Rattle.lua_state.specs.LuaSlotsErrors.{jumps};
+ghost use Rattle.lua_code.specs.LuaSlotsLoops as loops;
+ghost use Rattle.lua_code.specs.LuaSlotsMoves.{passes};
+ghost use Rattle.lua_state.specs.LuaSlotsPoints.{Exits};
+ghost use Rattle.lua_state.specs.LuaSlotsSlots.{cut};
+ghost use Rattle.lua_state.specs.LuaStackOf.{EndingOf, JumpOf};
+ghost use Rattle.lua_state.specs.LuaStackSeen.{ending_seen, jump_seen};
 ghost use Rattle.lua_state.specs.Makes.{Makes};
 ghost use Rattle.lua_state.specs.Of.{StateOf};
 ghost use Rattle.lua_state.specs.Seen.{frames_of, slots_of};
 
 use crate::leaving::{after_body, after_turn, go_below, leave_body_for, leave_for};
-use lua_stack::{Ending, Focus, Jump};
-use lua_state::{State, Turn};
-use lua_store::Store;
+use lua_code::NoMemory;
+use lua_state::{Ending, Focus, Jump, Left, State, Store, Turn};
 use std::alloc::Global;
-use wk_base::{Left, NoMemory};
 
 /// A block of its own is jumped out of.
 fn pass_block<'m>(store: &Store, state: &mut State<'m>, depth: usize, jump: Jump) -> Turn<'m>

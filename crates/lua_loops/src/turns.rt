@@ -1,23 +1,21 @@
 //! Turns of loops that begin (manual 2.4.4 and 2.4.5). A turn has fresh local variables.
 ghost use Rattle.std.specs.Prelude.{◌≡◌, ℕ, List as Items, length, IfOk};
 ghost use Rattle.lua_code.specs.Seen.{expression_seen, block_seen};
-ghost use Rattle.lua_slots.specs.Loops as loops;
-ghost use Rattle.lua_store.specs.Seen.{seen};
-ghost use Rattle.lua_stack.specs.Of.{EachOf, GivenOf};
-ghost use Rattle.lua_stack.specs.Seen.{given_seen, registers_seen};
+ghost use Rattle.lua_code.specs.LuaSlotsLoops as loops;
+ghost use Rattle.lua_state.specs.LuaStoreSeen.{seen};
+ghost use Rattle.lua_state.specs.LuaStackOf.{EachOf, GivenOf};
+ghost use Rattle.lua_state.specs.LuaStackSeen.{given_seen, registers_seen};
 ghost use Rattle.lua_state.specs.Makes.{Counts};
 ghost use Rattle.lua_state.specs.Of.{StateOf};
 ghost use Rattle.lua_state.specs.Seen.{frames_of, slots_of};
 
 use crate::exits::run_body;
-use lua_code::{Expression, Statement};
-use lua_stack::opening::{open, open_all};
-use lua_stack::{EachLoop, Ending, Given, Slot, Stack};
-use lua_state::{State, Turn};
-use lua_store::{Store, Value};
+use lua_code::{Expression, List, NoMemory, Statement};
+use lua_state::{
+    EachLoop, Ending, Given, Left, Slot, Stack, State, Steps, Store, Turn, Value, open, open_all,
+};
 use std::alloc::Global;
 use std::sync::ledger::Ledger;
-use wk_base::{Left, List, NoMemory, Steps};
 
 /// How many registers there are.
 pub fn depth_of(regs: &Stack<Slot>) -> usize

@@ -1,29 +1,29 @@
 -- A FUNCTION OF THE LIBRARY IS CALLED, from where its arguments reach the frame that calls it.
 use Rattle.std.proofs.Common.{◌≡◌, ℕ, ◌-◌, ◌<◌, ◌≤◌, false, List, ◌∷◌, Some, refl, sym, subst}
-use Rattle.wk_base.specs.declared.left.Left.{Left}
+use Rattle.page_run.specs.WkBaseDeclaredLeftLeft.{Left}
 use Rattle.page_run.specs.declared.which.Which.TheVariants.{Steps}
-use Rattle.lua_heap.specs.declared.library.Library.{Library}
+use Rattle.lua_rows.specs.LuaHeapDeclaredLibraryLibrary.{Library}
 use Rattle.lua_store.specs.Seen.{StoreView}
 use Rattle.lua_store.specs.declared.value.Value.TheVariants as own
 use Rattle.lua_store.proofs.Later.{later-itself}
-use Rattle.lua_slots.specs.Libraries.{enters_library}
-use Rattle.lua_stack.specs.declared.focus.Focus.TheVariants as focus
-use Rattle.lua_stack.specs.declared.frame.Thing.TheVariants as thing
-use Rattle.lua_stack.specs.declared.frame.Frame.{Frame}
-use Rattle.lua_stack.specs.declared.frame.Frame.TheVariants as frame
-use Rattle.lua_stack.specs.declared.frame.InExpression.TheVariants as in_expression
-use Rattle.lua_stack.specs.declared.values.Given.{Given}
-use Rattle.lua_stack.specs.Lists.{given_values}
-use Rattle.lua_stack.specs.Of.{GivenOf}
-use Rattle.lua_stack.specs.Seen.{values_seen}
-use Rattle.lua_state.specs.declared.state.State.{State}
-use Rattle.lua_state.specs.declared.turn.Turn.{Turn}
-use Rattle.lua_state.specs.declared.turn.Turn.TheVariants as turn
-use Rattle.lua_state.specs.Makes.{LateCounts}
-use Rattle.lua_state.specs.Of.{StateOf}
-use Rattle.lua_state.specs.Seen.{slots_of, frames_of}
-use Rattle.lua_state.specs.Worlds.{world_seen}
-use Rattle.lua_state.proofs.Making.{counts_late}
+use Rattle.lua_code.specs.LuaSlotsLibraries.{enters_library}
+use Rattle.lua_environment.specs.LuaStackDeclaredFocusFocusTheVariants as focus
+use Rattle.lua_environment.specs.LuaStackDeclaredFrameThingTheVariants as thing
+use Rattle.lua_rows.specs.LuaStackDeclaredFrameFrame.{Frame}
+use Rattle.lua_rows.specs.LuaStackDeclaredFrameFrameTheVariants as frame
+use Rattle.lua_rows.specs.LuaStackDeclaredFrameInExpressionTheVariants as in_expression
+use Rattle.lua_evals.specs.LuaStackDeclaredValuesGiven.{Given}
+use Rattle.lua_blocks.specs.LuaStackLists.{given_values}
+use Rattle.lua_environment.specs.LuaStackOf.{GivenOf}
+use Rattle.lua_blocks.specs.LuaStackSeen.{values_seen}
+use Rattle.lua_rows.specs.LuaStateDeclaredStateState.{State}
+use Rattle.lua_rows.specs.LuaStateDeclaredTurnTurn.{Turn}
+use Rattle.lua_rows.specs.LuaStateDeclaredTurnTurnTheVariants as turn
+use Rattle.lua_blocks.specs.LuaStateMakes.{LateCounts}
+use Rattle.lua_blocks.specs.LuaStateOf.{StateOf}
+use Rattle.lua_blocks.specs.LuaStateSeen.{slots_of, frames_of}
+use Rattle.lua_runs.specs.LuaStateWorlds.{world_seen}
+use Rattle.lua_blocks.proofs.LuaStateMaking.{counts_late}
 use Rattle.lua_machine.specs.Going.{GoesTo}
 use Rattle.lua_machine.specs.Moved.{is_event, MovesTo}
 use Rattle.lua_machine.proofs.Loops.{two_go}

@@ -1,19 +1,19 @@
 -- WHAT AN EVENT OF CODE SAYS.
 use Rattle.std.proofs.Common.{◌≡◌, ℕ, ◌+◌, ◌-◌, ◌≤◌, refl, subst, arith}
-use Rattle.wk_base.specs.declared.left.Left.{Left}
+use Rattle.page_run.specs.WkBaseDeclaredLeftLeft.{Left}
 use Rattle.page_run.specs.State.{no_tally}
 use Rattle.lua_store.specs.Seen.{StoreView}
-use Rattle.lua_slots.specs.Enact.{Funds, all_given_back}
-use Rattle.lua_goes.specs.Going.{Over, Lacks, Waiting, Comes, is_over, is_asking, funds_at}
-use Rattle.lua_goes.proofs.Counts.{nodes_are_paid, calls_are_back, kept-reached}
-use Rattle.lua_points.specs.Clauses.{fund}
-use Rattle.lua_points.specs.Laws.{TakesItsOwn}
-use Rattle.lua_points.proofs.Allowances.{other_allowances_stay}
-use Rattle.lua_stack.specs.declared.focus.Focus.{Focus}
-use Rattle.lua_state.specs.declared.state.State.{State}
-use Rattle.lua_state.specs.Seen.{slots_of, frames_of, funds_of, outcome_seen}
-use Rattle.lua_state.specs.Of.{StateOf}
-use Rattle.lua_state.specs.Worlds.{world_seen}
+use Rattle.lua_rows.specs.LuaSlotsEnact.{Funds, all_given_back}
+use Rattle.lua_rows.specs.LuaGoesGoing.{Over, Lacks, Waiting, Comes, is_over, is_asking, funds_at}
+use Rattle.lua_home_laws.proofs.LuaGoesCounts.{nodes_are_paid, calls_are_back, kept-reached}
+use Rattle.lua_home_laws.specs.LuaPointsClauses.{fund}
+use Rattle.lua_home_laws.specs.LuaPointsLaws.{TakesItsOwn}
+use Rattle.lua_home_laws.proofs.LuaPointsAllowances.{other_allowances_stay}
+use Rattle.lua_environment.specs.LuaStackDeclaredFocusFocus.{Focus}
+use Rattle.lua_rows.specs.LuaStateDeclaredStateState.{State}
+use Rattle.lua_blocks.specs.LuaStateSeen.{slots_of, frames_of, funds_of, outcome_seen}
+use Rattle.lua_blocks.specs.LuaStateOf.{StateOf}
+use Rattle.lua_runs.specs.LuaStateWorlds.{world_seen}
 use Rattle.lua_machine.specs.declared.event.Event.{Event}
 use Rattle.lua_machine.specs.declared.event.Event.TheVariants as event
 use Rattle.lua_machine.specs.Moved.{point_of}

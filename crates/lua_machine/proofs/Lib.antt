@@ -1,3 +1,4 @@
+pub use Rattle.lua_blocks.proofs.LuaStateStaying as LuaStateStaying
 pub mod Loops
 pub mod Moves
 pub mod Events

@@ -1,47 +1,47 @@
 -- MOVES ONE AFTER ANOTHER, in the forms of the loops.
 use Rattle.std.proofs.Common.{◌≡◌, ℕ, ◌+◌, ◌-◌, ◌<◌, ◌≤◌, ◌∙◌, inl, inr, true, false, List, [], ◌∷◌, refl, sym, ap, subst, arith}
-use Rattle.wk_base.specs.declared.left.Left.{Left}
+use Rattle.page_run.specs.WkBaseDeclaredLeftLeft.{Left}
 use Rattle.page_run.specs.State.{Tally, no_tally}
 use Rattle.page_run.specs.Outcome.{Outcome as PlainOutcome, Goes, Jumps}
 use Rattle.page_run.specs.declared.which.Which.{Which}
 use Rattle.lua_store.specs.Seen.{StoreView}
 use Rattle.lua_store.proofs.Later.{later-itself, later-then}
-use Rattle.lua_heap.specs.Proc.{Proc}
-use Rattle.lua_heap.specs.Heap.{Heap}
-use Rattle.lua_heap.specs.Value.{Value as Plain}
-use Rattle.lua_meaning.specs.Acts.{Jump}
-use Rattle.lua_slots.specs.Code.{CWorld}
-use Rattle.lua_slots.specs.Slots.{Slots}
-use Rattle.lua_slots.specs.Points.{Point, Gives, Asking}
-use Rattle.lua_slots.specs.Moves.{moves}
-use Rattle.lua_slots.specs.Enact.{Funds, all_given_back, Stands, Short, enact}
-use Rattle.lua_goes.specs.Weight.{weight}
-use Rattle.lua_goes.specs.Going.{Lacks, Reaches, here, further, Comes, is_short, is_short_late}
-use Rattle.lua_goes.specs.Laws.{GoesOnFrom}
-use Rattle.lua_goes.proofs.Counts.{kept-reached}
-use Rattle.lua_goes.proofs.Events.{steps_or_weight_fall}
-use Rattle.lua_in_place.proofs.Reading.{reach_then}
-use Rattle.lua_stack.specs.declared.focus.Focus.{Focus}
-use Rattle.lua_stack.specs.declared.focus.Focus.TheVariants as focus
-use Rattle.lua_stack.specs.declared.frame.Frame.{Frame}
-use Rattle.lua_stack.specs.Seen.{frames_seen, given_seen, jump_seen}
-use Rattle.lua_stack.specs.Of.{FocusOf}
-use Rattle.lua_state.specs.declared.state.State.{State}
-use Rattle.lua_state.specs.declared.codes.World.{World}
-use Rattle.lua_state.specs.declared.turn.Turn.{Turn}
-use Rattle.lua_state.specs.declared.turn.Turn.TheVariants as turn
-use Rattle.lua_state.specs.Seen.{slots_of, funds_of}
-use Rattle.lua_state.specs.Of.{StateOf}
-use Rattle.lua_state.specs.Worlds.{world_seen}
-use Rattle.lua_state.specs.Makes.{IsStill}
-use Rattle.lua_strides.specs.Strides.{Strides}
+use Rattle.lua_code.specs.LuaHeapProc.{Proc}
+use Rattle.lua_code.specs.LuaHeapHeap.{Heap}
+use Rattle.lua_code.specs.LuaHeapValue.{Value as Plain}
+use Rattle.lua_blocks.specs.LuaMeaningActs.{Jump}
+use Rattle.lua_code.specs.LuaSlotsCode.{CWorld}
+use Rattle.lua_blocks.specs.LuaSlotsSlots.{Slots}
+use Rattle.lua_blocks.specs.LuaSlotsPoints.{Point, Gives, Asking}
+use Rattle.lua_blocks.specs.LuaSlotsMoves.{moves}
+use Rattle.lua_rows.specs.LuaSlotsEnact.{Funds, all_given_back, Stands, Short, enact}
+use Rattle.lua_home_laws.specs.LuaGoesWeight.{weight}
+use Rattle.lua_rows.specs.LuaGoesGoing.{Lacks, Reaches, here, further, Comes, is_short, is_short_late}
+use Rattle.lua_home_laws.specs.LuaGoesLaws.{GoesOnFrom}
+use Rattle.lua_home_laws.proofs.LuaGoesCounts.{kept-reached}
+use Rattle.lua_home_laws.proofs.LuaGoesEvents.{steps_or_weight_fall}
+use Rattle.lua_rows.proofs.LuaInPlaceReading.{reach_then}
+use Rattle.lua_environment.specs.LuaStackDeclaredFocusFocus.{Focus}
+use Rattle.lua_environment.specs.LuaStackDeclaredFocusFocusTheVariants as focus
+use Rattle.lua_rows.specs.LuaStackDeclaredFrameFrame.{Frame}
+use Rattle.lua_blocks.specs.LuaStackSeen.{frames_seen, given_seen, jump_seen}
+use Rattle.lua_environment.specs.LuaStackOf.{FocusOf}
+use Rattle.lua_rows.specs.LuaStateDeclaredStateState.{State}
+use Rattle.lua_blocks.specs.LuaStateDeclaredCodesWorld.{World}
+use Rattle.lua_rows.specs.LuaStateDeclaredTurnTurn.{Turn}
+use Rattle.lua_rows.specs.LuaStateDeclaredTurnTurnTheVariants as turn
+use Rattle.lua_blocks.specs.LuaStateSeen.{slots_of, funds_of}
+use Rattle.lua_blocks.specs.LuaStateOf.{StateOf}
+use Rattle.lua_runs.specs.LuaStateWorlds.{world_seen}
+use Rattle.lua_blocks.specs.LuaStateMakes.{IsStill}
+use Rattle.lua_rows.specs.LuaStridesStrides.{Strides}
 use Rattle.lua_machine.specs.declared.event.Event.{Event}
 use Rattle.lua_machine.specs.declared.event.Event.TheVariants as event
 use Rattle.lua_machine.specs.Moved.{point_of, MovesTo, is_none, is_event, IsEventAt}
 use Rattle.lua_machine.specs.Going.{LeadsTo, EndsIn, GoesTo, IsOn}
-use Rattle.lua_strides.specs.Next.{focus_of}
-use Rattle.lua_turns.specs.Rows.{Follows}
-use Rattle.lua_turns.proofs.Following.{strides_follow}
+use Rattle.lua_rows.specs.LuaStridesNext.{focus_of}
+use Rattle.lua_rows.specs.LuaTurnsRows.{Follows}
+use Rattle.lua_rows.proofs.LuaTurnsFollowing.{strides_follow}
 use Rattle.lua_rows.specs.declared.rows.Went.{Went}
 use Rattle.lua_rows.specs.declared.rows.Went.TheVariants as went
 use Rattle.lua_rows.specs.Rows.{FollowsTo, IsTurn, StridesTo, TurnsTo}

@@ -1,39 +1,39 @@
 -- A PART OF THE MACHINE MAKES A MOVE: from what it says of its own to what is said of the whole.
 use Rattle.std.proofs.Common.{◌≡◌, ◌∙◌, ℕ, ◌+◌, ◌-◌, ◌<◌, ◌≤◌, List, [], ◌∷◌, refl, sym, ap, subst, arith}
-use Rattle.wk_base.specs.declared.left.Left.{Left}
+use Rattle.page_run.specs.WkBaseDeclaredLeftLeft.{Left}
 use Rattle.page_run.specs.declared.which.Which.TheVariants.{Steps}
 use Rattle.page_run.specs.Outcome.{Outcome, Goes, Jumps}
-use Rattle.lua_heap.specs.Value.{Value}
-use Rattle.lua_meaning.specs.Acts.{Jump as PlainJump}
+use Rattle.lua_code.specs.LuaHeapValue.{Value}
+use Rattle.lua_blocks.specs.LuaMeaningActs.{Jump as PlainJump}
 use Rattle.lua_store.specs.Seen.{StoreView}
 use Rattle.lua_store.proofs.Later.{later-itself}
-use Rattle.lua_slots.specs.Code.{CWorld, Constants, CExp, ConstantC, TextC, DotsC, FunctionC, LocalC, GlobalC, IndexC, CallC, MethodC, TableC, AndC, OrC, OperateC, UnaryC, ParenC}
-use Rattle.lua_slots.specs.Slots.{Slots}
-use Rattle.lua_slots.specs.Points.{SFrame, Gives, Move, Costs, Marks, Now}
-use Rattle.lua_slots.specs.Errors.{node}
-use Rattle.lua_slots.specs.Expressions.{evals}
-use Rattle.lua_slots.specs.Moves.{moves, goes, passes}
-use Rattle.lua_slots.specs.Enact.{Stands, enact}
-use Rattle.lua_arms.specs.declared.step.Step.TheVariants as step
-use Rattle.lua_arms.specs.declared.step.Paid.{Paid}
-use Rattle.lua_arms.specs.declared.step.Paid.TheVariants as paid
-use Rattle.lua_arms.specs.Paid.{behind_node, IfSpent}
-use Rattle.lua_stack.specs.declared.frame.Frame.{Frame}
-use Rattle.lua_stack.specs.declared.focus.Focus.{Focus}
-use Rattle.lua_stack.specs.declared.focus.Focus.TheVariants as focus
-use Rattle.lua_stack.specs.declared.focus.Jump.{Jump}
-use Rattle.lua_stack.specs.declared.values.Given.{Given}
-use Rattle.lua_stack.specs.Seen.{frame_seen, frames_seen, given_seen, jump_seen}
-use Rattle.lua_stack.specs.Of.{FrameOf, FocusOf}
-use Rattle.lua_stack.proofs.Raises.{pays, spends}
-use Rattle.lua_state.specs.declared.state.State.{State}
-use Rattle.lua_state.specs.declared.turn.Turn.{Turn}
-use Rattle.lua_state.specs.declared.turn.Turn.TheVariants as turn
-use Rattle.lua_state.specs.Seen.{slots_of, funds_of, turn_seen}
-use Rattle.lua_state.specs.Of.{StateOf}
-use Rattle.lua_state.specs.Worlds.{world_seen}
-use Rattle.lua_state.specs.Makes.{Makes, Counts, LateCounts}
-use Rattle.lua_state.proofs.Making.{UnlessOn, counts_late}
+use Rattle.lua_code.specs.LuaSlotsCode.{CWorld, Constants, CExp, ConstantC, TextC, DotsC, FunctionC, LocalC, GlobalC, IndexC, CallC, MethodC, TableC, AndC, OrC, OperateC, UnaryC, ParenC}
+use Rattle.lua_blocks.specs.LuaSlotsSlots.{Slots}
+use Rattle.lua_blocks.specs.LuaSlotsPoints.{SFrame, Gives, Move, Costs, Marks, Now}
+use Rattle.lua_blocks.specs.LuaSlotsErrors.{node}
+use Rattle.lua_evals.specs.LuaSlotsExpressions.{evals}
+use Rattle.lua_blocks.specs.LuaSlotsMoves.{moves, goes, passes}
+use Rattle.lua_rows.specs.LuaSlotsEnact.{Stands, enact}
+use Rattle.lua_blocks.specs.LuaArmsDeclaredStepStepTheVariants as step
+use Rattle.lua_blocks.specs.LuaArmsDeclaredStepPaid.{Paid}
+use Rattle.lua_blocks.specs.LuaArmsDeclaredStepPaidTheVariants as paid
+use Rattle.lua_blocks.specs.LuaArmsPaid.{behind_node, IfSpent}
+use Rattle.lua_rows.specs.LuaStackDeclaredFrameFrame.{Frame}
+use Rattle.lua_environment.specs.LuaStackDeclaredFocusFocus.{Focus}
+use Rattle.lua_environment.specs.LuaStackDeclaredFocusFocusTheVariants as focus
+use Rattle.lua_environment.specs.LuaStackDeclaredFocusJump.{Jump}
+use Rattle.lua_evals.specs.LuaStackDeclaredValuesGiven.{Given}
+use Rattle.lua_blocks.specs.LuaStackSeen.{frame_seen, frames_seen, given_seen, jump_seen}
+use Rattle.lua_environment.specs.LuaStackOf.{FrameOf, FocusOf}
+use Rattle.lua_environment.proofs.LuaStackRaises.{pays, spends}
+use Rattle.lua_rows.specs.LuaStateDeclaredStateState.{State}
+use Rattle.lua_rows.specs.LuaStateDeclaredTurnTurn.{Turn}
+use Rattle.lua_rows.specs.LuaStateDeclaredTurnTurnTheVariants as turn
+use Rattle.lua_blocks.specs.LuaStateSeen.{slots_of, funds_of, turn_seen}
+use Rattle.lua_blocks.specs.LuaStateOf.{StateOf}
+use Rattle.lua_runs.specs.LuaStateWorlds.{world_seen}
+use Rattle.lua_blocks.specs.LuaStateMakes.{Makes, Counts, LateCounts}
+use Rattle.lua_blocks.proofs.LuaStateMaking.{UnlessOn, counts_late}
 use Rattle.lua_machine.specs.Moved.{point_of, MovesTo}
 use Rattle.lua_machine.proofs.Loops.{as_many}
 

@@ -1,22 +1,22 @@
 -- EVENTS OF A MACHINE: what code answers is the event that the machine comes to.
 use Rattle.std.specs.Prelude.{◌≡◌, ◌+◌, ℕ, List, [], ◌∷◌}
-use Rattle.wk_base.specs.declared.left.Left.{Left}
+use Rattle.page_run.specs.WkBaseDeclaredLeftLeft.{Left}
 use Rattle.page_run.specs.State.{Tally, no_tally}
 use Rattle.page_run.specs.Outcome.{Outcome as PlainOutcome, Goes, Jumps}
-use Rattle.lua_heap.specs.Value.{Value as Plain, Text}
-use Rattle.lua_meaning.specs.Acts.{Jump, Raised}
+use Rattle.lua_code.specs.LuaHeapValue.{Value as Plain, Text}
+use Rattle.lua_blocks.specs.LuaMeaningActs.{Jump, Raised}
 use Rattle.lua_store.specs.Seen.{StoreView, seen}
 use Rattle.lua_store.specs.Parts.{IsOf}
-use Rattle.lua_stack.specs.Seen.{Texts}
-use Rattle.lua_slots.specs.Enact.{Funds}
-use Rattle.lua_goes.specs.Going.{Stop, Over, Lacks, Waiting}
-use Rattle.lua_points.specs.Clauses.{CanGo, GoIs}
-use Rattle.lua_stack.specs.declared.focus.Focus.{Focus}
-use Rattle.lua_stack.specs.Of.{FocusOf}
-use Rattle.lua_state.specs.declared.state.State.{State}
-use Rattle.lua_state.specs.Seen.{slots_of, frames_of, outcome_seen}
-use Rattle.lua_state.specs.Of.{StateOf, OutcomeOf}
-use Rattle.lua_state.specs.Worlds.{world_seen}
+use Rattle.lua_blocks.specs.LuaStackSeen.{Texts}
+use Rattle.lua_rows.specs.LuaSlotsEnact.{Funds}
+use Rattle.lua_rows.specs.LuaGoesGoing.{Stop, Over, Lacks, Waiting}
+use Rattle.lua_home_laws.specs.LuaPointsClauses.{CanGo, GoIs}
+use Rattle.lua_environment.specs.LuaStackDeclaredFocusFocus.{Focus}
+use Rattle.lua_environment.specs.LuaStackOf.{FocusOf}
+use Rattle.lua_rows.specs.LuaStateDeclaredStateState.{State}
+use Rattle.lua_blocks.specs.LuaStateSeen.{slots_of, frames_of, outcome_seen}
+use Rattle.lua_blocks.specs.LuaStateOf.{StateOf, OutcomeOf}
+use Rattle.lua_runs.specs.LuaStateWorlds.{world_seen}
 use Rattle.lua_machine.specs.Moved.{point_of}
 use Rattle.lua_machine.specs.declared.event.Answer.{Answer}
 use Rattle.lua_machine.specs.declared.event.Answer.TheVariants as answer

@@ -1,25 +1,25 @@
 -- WHERE A MACHINE'S MOVES HAVE LED, in code.
 use Rattle.std.specs.Prelude.{◌≡◌, ◌≤◌, ◌<◌, ◌+◌, ℕ, []}
-use Rattle.wk_base.specs.declared.left.Left.{Left}
+use Rattle.page_run.specs.WkBaseDeclaredLeftLeft.{Left}
 use Rattle.page_run.specs.State.{Tally}
 use Rattle.lua_store.specs.Seen.{StoreView}
 use Rattle.lua_store.specs.Parts.{IsLater}
-use Rattle.lua_slots.specs.Code.{CWorld}
-use Rattle.lua_slots.specs.Slots.{Slots}
-use Rattle.lua_slots.specs.Points.{Point, Gives, Asking}
-use Rattle.lua_slots.specs.Enact.{Funds, all_given_back}
-use Rattle.lua_goes.specs.Weight.{weight}
-use Rattle.lua_goes.specs.Going.{Lacks, Reaches, Comes}
-use Rattle.lua_stack.specs.declared.focus.Focus.{Focus}
-use Rattle.lua_stack.specs.declared.focus.Focus.TheVariants as focus
-use Rattle.lua_stack.specs.declared.values.Given.{Given}
-use Rattle.lua_stack.specs.Of.{FocusOf}
-use Rattle.lua_state.specs.declared.state.State.{State}
-use Rattle.lua_state.specs.declared.turn.Turn.{Turn}
-use Rattle.lua_state.specs.declared.turn.Turn.TheVariants as turn
-use Rattle.lua_state.specs.Seen.{slots_of, frames_of, funds_of, outcome_seen}
-use Rattle.lua_state.specs.Of.{StateOf}
-use Rattle.lua_state.specs.Worlds.{world_seen}
+use Rattle.lua_code.specs.LuaSlotsCode.{CWorld}
+use Rattle.lua_blocks.specs.LuaSlotsSlots.{Slots}
+use Rattle.lua_blocks.specs.LuaSlotsPoints.{Point, Gives, Asking}
+use Rattle.lua_rows.specs.LuaSlotsEnact.{Funds, all_given_back}
+use Rattle.lua_home_laws.specs.LuaGoesWeight.{weight}
+use Rattle.lua_rows.specs.LuaGoesGoing.{Lacks, Reaches, Comes}
+use Rattle.lua_environment.specs.LuaStackDeclaredFocusFocus.{Focus}
+use Rattle.lua_environment.specs.LuaStackDeclaredFocusFocusTheVariants as focus
+use Rattle.lua_evals.specs.LuaStackDeclaredValuesGiven.{Given}
+use Rattle.lua_environment.specs.LuaStackOf.{FocusOf}
+use Rattle.lua_rows.specs.LuaStateDeclaredStateState.{State}
+use Rattle.lua_rows.specs.LuaStateDeclaredTurnTurn.{Turn}
+use Rattle.lua_rows.specs.LuaStateDeclaredTurnTurnTheVariants as turn
+use Rattle.lua_blocks.specs.LuaStateSeen.{slots_of, frames_of, funds_of, outcome_seen}
+use Rattle.lua_blocks.specs.LuaStateOf.{StateOf}
+use Rattle.lua_runs.specs.LuaStateWorlds.{world_seen}
 use Rattle.lua_machine.specs.declared.event.Event.{Event}
 use Rattle.lua_machine.specs.declared.event.Event.TheVariants as event
 use Rattle.lua_machine.specs.Moved.{point_of}

@@ -1,19 +1,19 @@
 -- A MOVE OF A WHOLE MACHINE in code: that it is the move of `lua_slots`, and where a machine moves no more.
 use Rattle.std.specs.Prelude.{◌≡◌, ℕ, Bool, true, false, List, [], ◌∷◌}
-use Rattle.wk_base.specs.declared.left.Left.{Left}
+use Rattle.page_run.specs.WkBaseDeclaredLeftLeft.{Left}
 use Rattle.lua_store.specs.Seen.{StoreView}
-use Rattle.lua_slots.specs.Points.{Point}
-use Rattle.lua_slots.specs.Moves.{moves}
-use Rattle.lua_stack.specs.declared.focus.Focus.{Focus}
-use Rattle.lua_stack.specs.declared.focus.Focus.TheVariants as focus
-use Rattle.lua_stack.specs.declared.frame.Frame.{Frame}
-use Rattle.lua_stack.specs.Seen.{focus_seen}
-use Rattle.lua_state.specs.declared.state.State.{State}
-use Rattle.lua_state.specs.declared.turn.Turn.{Turn}
-use Rattle.lua_state.specs.declared.outcome.Outcome.TheVariants as outcome
-use Rattle.lua_state.specs.Seen.{slots_of, frames_of}
-use Rattle.lua_state.specs.Worlds.{world_seen}
-use Rattle.lua_state.specs.Makes.{LateCounts}
+use Rattle.lua_blocks.specs.LuaSlotsPoints.{Point}
+use Rattle.lua_blocks.specs.LuaSlotsMoves.{moves}
+use Rattle.lua_environment.specs.LuaStackDeclaredFocusFocus.{Focus}
+use Rattle.lua_environment.specs.LuaStackDeclaredFocusFocusTheVariants as focus
+use Rattle.lua_rows.specs.LuaStackDeclaredFrameFrame.{Frame}
+use Rattle.lua_blocks.specs.LuaStackSeen.{focus_seen}
+use Rattle.lua_rows.specs.LuaStateDeclaredStateState.{State}
+use Rattle.lua_rows.specs.LuaStateDeclaredTurnTurn.{Turn}
+use Rattle.lua_blocks.specs.LuaStateDeclaredOutcomeOutcomeTheVariants as outcome
+use Rattle.lua_blocks.specs.LuaStateSeen.{slots_of, frames_of}
+use Rattle.lua_runs.specs.LuaStateWorlds.{world_seen}
+use Rattle.lua_blocks.specs.LuaStateMakes.{LateCounts}
 use Rattle.lua_machine.specs.declared.event.Event.{Event}
 use Rattle.lua_machine.specs.declared.event.Event.TheVariants as event
 

@@ -1,9 +1,8 @@
 //! How a machine stops, and what it is answered.
-use lua_state::Outcome;
+use lua_blocks::Outcome;
 use lua_store::Value;
-use mw_frame::Ask;
+use mw_frame::{Ask, Bytes};
 use page_run::Which;
-use wk_base::Bytes;
 
 /// How a machine stops: at its end, where an allowance is spent, or at a question.
 #[derive(Drop)]

@@ -1,23 +1,22 @@
 //! What reaches a frame: each kind of frame goes on with it.
 ghost use Rattle.std.specs.Prelude.{◌+◌, ◌<◌, ◌^◌, IfOk};
-ghost use Rattle.lua_slots.specs.Code.{CWorld};
-ghost use Rattle.lua_slots.specs.Moves.{goes, passes};
-ghost use Rattle.lua_stack.specs.Seen.{frame_seen, given_seen, jump_seen};
-ghost use Rattle.lua_stack.specs.Of.{FrameOf, GivenOf, JumpOf};
-ghost use Rattle.lua_state.specs.Seen.{slots_of, frames_of};
-ghost use Rattle.lua_state.specs.Of.{StateOf};
-ghost use Rattle.lua_state.specs.Makes.{Makes};
+ghost use Rattle.lua_code.specs.LuaSlotsCode.{CWorld};
+ghost use Rattle.lua_blocks.specs.LuaSlotsMoves.{goes, passes};
+ghost use Rattle.lua_blocks.specs.LuaStackSeen.{frame_seen, given_seen, jump_seen};
+ghost use Rattle.lua_environment.specs.LuaStackOf.{FrameOf, GivenOf, JumpOf};
+ghost use Rattle.lua_blocks.specs.LuaStateSeen.{slots_of, frames_of};
+ghost use Rattle.lua_blocks.specs.LuaStateOf.{StateOf};
+ghost use Rattle.lua_blocks.specs.LuaStateMakes.{Makes};
 
-use lua_blocks::{give_assignment, give_statement};
-use lua_calls::{hear, resume};
+use lua_blocks::{
+    Focus, Frame, Given, Jump, Left, Outcome, State, Turn, give_assignment, give_statement,
+};
+use lua_code::NoMemory;
 use lua_evals::{give_constructor, give_expression};
-use lua_loops::{give_end, give_loop, pass_end};
+use lua_rows::{give_end, give_loop, hear, pass_end, resume};
 use lua_runs::{give_run, pass_run};
-use lua_stack::{Focus, Frame, Given, Jump};
-use lua_state::{Outcome, State, Turn};
 use lua_store::Store;
 use std::alloc::Global;
-use wk_base::{Left, NoMemory};
 
 /// A frame that waited gets values. It is taken from the frames already.
 #[inline(always)]

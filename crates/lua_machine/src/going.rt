@@ -1,28 +1,26 @@
 //! Moves one after another, until an event.
 ghost use Rattle.std.specs.Prelude.{◌≡◌, ◌+◌, ◌<◌, ◌^◌, ℕ, true, false, [], IfOk, IfSome};
-ghost use Rattle.wk_base.specs.declared.left.Left.{Left as Allowance};
-ghost use Rattle.lua_stack.specs.declared.focus.Focus.{Focus as FocusValue};
-ghost use Rattle.lua_stack.specs.declared.focus.Focus.TheVariants as focus_kind;
-ghost use Rattle.lua_stack.specs.declared.values.Given.TheVariants as given_kind;
-ghost use Rattle.lua_stack.specs.Of.{FocusOf};
-ghost use Rattle.lua_state.specs.declared.state.State.{State as StateValue};
-ghost use Rattle.lua_state.specs.declared.turn.Turn.TheVariants as turn_kind;
-ghost use Rattle.lua_state.specs.Of.{StateOf};
+ghost use Rattle.page_run.specs.WkBaseDeclaredLeftLeft.{Left as Allowance};
+ghost use Rattle.lua_environment.specs.LuaStackDeclaredFocusFocus.{Focus as FocusValue};
+ghost use Rattle.lua_environment.specs.LuaStackDeclaredFocusFocusTheVariants as focus_kind;
+ghost use Rattle.lua_environment.specs.LuaStackDeclaredValuesGivenTheVariants as given_kind;
+ghost use Rattle.lua_environment.specs.LuaStackOf.{FocusOf};
+ghost use Rattle.lua_rows.specs.LuaStateDeclaredStateState.{State as StateValue};
+ghost use Rattle.lua_rows.specs.LuaStateDeclaredTurnTurnTheVariants as turn_kind;
+ghost use Rattle.lua_blocks.specs.LuaStateOf.{StateOf};
 ghost use Rattle.lua_store.specs.Seen.{StoreView};
-ghost use Rattle.lua_strides.specs.Next.{focus_of};
+ghost use Rattle.lua_rows.specs.LuaStridesNext.{focus_of};
 ghost use Rattle.lua_machine.specs.Moved.{is_event, IsEventAt};
 ghost use Rattle.lua_machine.specs.Going.{EndsIn, GoesTo, IsOn};
 
 use crate::event::Event;
 use crate::library::{call_or_move, end_call};
-use lua_rows::{row, strides, turn_for};
-use lua_stack::{Focus, Given, Values};
-use lua_state::{Outcome, State, Turn};
+use lua_blocks::{Focus, Given, Left, Outcome, State, Steps, Turn, Values};
+use lua_code::NoMemory;
+use lua_rows::{Next, row, strides, turn_for};
 use lua_store::Store;
-use lua_strides::Next;
 use std::alloc::Global;
 use std::sync::ledger::Ledger;
-use wk_base::{Left, NoMemory, Steps};
 
 /// Whether the machine moves no more: it stands at a question, or at its end, where no frame waits.
 #[inline(always)]

@@ -21,4 +21,7 @@ pub mod moving;
 pub mod things;
 
 pub use event::{Answer, Event};
+pub use lua_blocks::{ArgText, Given, Jump, Left, Outcome, Steps, TextIn, World, merge_args};
+pub use lua_runs::Work;
+pub use lua_store::{Store, Value};
 pub use machine::Machine;

@@ -1,31 +1,29 @@
 //! A function of the library is called where its arguments reach the frame that calls it, and its call ends where it gives its values (manual
 //! 2.5.8 and 5). These are moves of `moving`; made here, what begins and what waits is not handed from one move to the next.
 ghost use Rattle.std.specs.Prelude.{◌≡◌, ◌+◌, ◌<◌, ◌^◌, ℕ, true, false, IfOk, IfSome};
-ghost use Rattle.wk_base.specs.declared.left.Left.{Left as Allowance};
-ghost use Rattle.lua_stack.specs.declared.focus.Focus.{Focus as FocusValue};
-ghost use Rattle.lua_stack.specs.declared.focus.Focus.TheVariants as focus_kind;
-ghost use Rattle.lua_stack.specs.declared.frame.Ending.TheVariants as ending_kind;
-ghost use Rattle.lua_stack.specs.declared.frame.Frame.TheVariants as frame_kind;
-ghost use Rattle.lua_stack.specs.declared.frame.InExpression.TheVariants as in_expression;
-ghost use Rattle.lua_stack.specs.Of.{FocusOf, GivenOf};
-ghost use Rattle.lua_state.specs.declared.state.State.{State as StateValue};
-ghost use Rattle.lua_state.specs.Of.{StateOf};
+ghost use Rattle.page_run.specs.WkBaseDeclaredLeftLeft.{Left as Allowance};
+ghost use Rattle.lua_environment.specs.LuaStackDeclaredFocusFocus.{Focus as FocusValue};
+ghost use Rattle.lua_environment.specs.LuaStackDeclaredFocusFocusTheVariants as focus_kind;
+ghost use Rattle.lua_rows.specs.LuaStackDeclaredFrameEndingTheVariants as ending_kind;
+ghost use Rattle.lua_rows.specs.LuaStackDeclaredFrameFrameTheVariants as frame_kind;
+ghost use Rattle.lua_rows.specs.LuaStackDeclaredFrameInExpressionTheVariants as in_expression;
+ghost use Rattle.lua_environment.specs.LuaStackOf.{FocusOf, GivenOf};
+ghost use Rattle.lua_rows.specs.LuaStateDeclaredStateState.{State as StateValue};
+ghost use Rattle.lua_blocks.specs.LuaStateOf.{StateOf};
 ghost use Rattle.lua_store.specs.declared.value.Value.TheVariants as value_kind;
 ghost use Rattle.lua_store.specs.Seen.{StoreView};
-ghost use Rattle.lua_turns.specs.Rows.{IsNewest};
+ghost use Rattle.lua_rows.specs.LuaTurnsRows.{IsNewest};
 ghost use Rattle.lua_machine.specs.Going.{GoesTo, GivesOn};
 ghost use Rattle.lua_machine.specs.Moved.{is_event};
 
 use crate::moving::turn;
-use lua_calls::enter_library;
-use lua_stack::{Focus, Frame, Given, Stack};
-use lua_state::{State, Turn, leave_call};
+use lua_blocks::{Focus, Frame, Given, Left, Stack, State, Steps, Turn};
+use lua_code::NoMemory;
+use lua_rows::{Waiting, drop_newest, enter_library, leave_call, of_newest};
 use lua_store::{Library, Store, Value};
-use lua_turns::waiting::{Waiting, drop_newest, of_newest};
 use page_run::Which;
 use std::alloc::Global;
 use std::sync::ledger::Ledger;
-use wk_base::{Left, NoMemory, Steps};
 
 /// The function of the library that the newest frame calls, and the line of the call.
 fn called(frames: &Stack<Frame<'_>>) -> Option<(Library, u32)>

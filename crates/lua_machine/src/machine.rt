@@ -1,34 +1,35 @@
 //! A machine of Lua: a run that goes on until an event.
 ghost use Rattle.std.specs.Prelude.{◌≡◌, ◌+◌, ◌<◌, ◌≤◌, ◌^◌, ℕ, List, max, IfOk, OnOk};
 ghost use Rattle.mw_frame.specs.declared.question.Ask.{Ask as PlainAsk};
-ghost use Rattle.lua_heap.specs.Reach.{nowhere, Frame};
-ghost use Rattle.lua_meaning.specs.Questions.{Answer as PlainAnswer};
-ghost use Rattle.lua_meaning.specs.Start.{Work as PlainWork};
-ghost use Rattle.lua_slots.specs.Code.{CWorld};
-ghost use Rattle.lua_slots.specs.Points.{SFrame, Gives, Works};
-ghost use Rattle.lua_points.specs.Clauses.{Starts, GoesOnWith};
-ghost use Rattle.lua_points.specs.Laws.{TakesItsOwn};
-ghost use Rattle.lua_stack.specs.Seen.{focus_seen, work_seen};
-ghost use Rattle.lua_state.specs.Seen.{slots_of, frames_of};
+ghost use Rattle.lua_store.specs.LuaHeapReach.{nowhere, Frame};
+ghost use Rattle.lua_code.specs.LuaMeaningQuestions.{Answer as PlainAnswer};
+ghost use Rattle.lua_home_laws.specs.LuaMeaningStart.{Work as PlainWork};
+ghost use Rattle.lua_code.specs.LuaSlotsCode.{CWorld};
+ghost use Rattle.lua_blocks.specs.LuaSlotsPoints.{SFrame, Gives, Works};
+ghost use Rattle.lua_home_laws.specs.LuaPointsClauses.{Starts, GoesOnWith};
+ghost use Rattle.lua_home_laws.specs.LuaPointsLaws.{TakesItsOwn};
+ghost use Rattle.lua_blocks.specs.LuaStackSeen.{focus_seen, work_seen};
+ghost use Rattle.lua_blocks.specs.LuaStateSeen.{slots_of, frames_of};
 ghost use Rattle.lua_machine.specs.Moved.{point_of};
 ghost use Rattle.lua_store.specs.Parts.{IsLater};
-ghost use Rattle.lua_stack.specs.Of.{FocusOf, WorkOf};
-ghost use Rattle.lua_state.specs.Of.{StateOf};
+ghost use Rattle.lua_environment.specs.LuaStackOf.{FocusOf, WorkOf};
+ghost use Rattle.lua_blocks.specs.LuaStateOf.{StateOf};
 ghost use Rattle.lua_machine.specs.Events.{MachineOf, GoesFrom, stop_seen, funds_after, EventOf, BackAt, Settles, AnswerOf, answer_outcome};
 
 use crate::event::{Answer, Event};
 use crate::going::advance;
+use lua_blocks::{
+    Activations, ByTitle, Codes, Focus, Given, Jump, Left, Stack, State, Steps, Values, World,
+    boxed,
+};
+use lua_code::NoMemory;
 use lua_environment::environment;
-use lua_stack::{Activations, Focus, Given, Jump, Stack, Values, Work, boxed};
-use lua_state::{Codes, State, World};
+use lua_runs::{Scenes, Work};
 use lua_store::{Store, Value};
-use lua_titled::ByTitle;
-use mw_frames::Scenes;
 use std::alloc::Global;
 use std::hash::RandomState;
 use std::mem::replace;
 use std::sync::ledger::Ledger;
-use wk_base::{Left, NoMemory, Steps};
 
 /// A run of Lua that goes on until an event.
 #[derive(Drop)]

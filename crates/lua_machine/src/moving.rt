@@ -1,33 +1,30 @@
 //! One move, with its charges.
 ghost use Rattle.std.specs.Prelude.{◌+◌, ◌<◌, ◌^◌, ℕ, IfOk};
-ghost use Rattle.lua_stack.specs.Of.{FocusOf, GivenOf, JumpOf};
-ghost use Rattle.lua_stack.specs.declared.focus.Focus.TheVariants as focus_kind;
-ghost use Rattle.lua_slots.specs.Expressions.{evals};
-ghost use Rattle.lua_slots.specs.Points.{Costs};
-ghost use Rattle.lua_slots.specs.Moves.{begins};
+ghost use Rattle.lua_environment.specs.LuaStackOf.{FocusOf, GivenOf, JumpOf};
+ghost use Rattle.lua_environment.specs.LuaStackDeclaredFocusFocusTheVariants as focus_kind;
+ghost use Rattle.lua_evals.specs.LuaSlotsExpressions.{evals};
+ghost use Rattle.lua_blocks.specs.LuaSlotsPoints.{Costs};
+ghost use Rattle.lua_blocks.specs.LuaSlotsMoves.{begins};
 ghost use Rattle.lua_code.specs.Seen.{expression_seen};
-ghost use Rattle.lua_stack.specs.Seen.{thing_seen};
-ghost use Rattle.lua_stack.specs.Of.{ThingOf};
-ghost use Rattle.lua_state.specs.Seen.{slots_of, frames_of, constants_in};
-ghost use Rattle.lua_state.specs.Of.{StateOf};
-ghost use Rattle.lua_state.specs.Worlds.{world_seen};
-ghost use Rattle.lua_state.specs.Makes.{Counts, LateCounts};
+ghost use Rattle.lua_blocks.specs.LuaStackSeen.{thing_seen};
+ghost use Rattle.lua_environment.specs.LuaStackOf.{ThingOf};
+ghost use Rattle.lua_blocks.specs.LuaStateSeen.{slots_of, frames_of, constants_in};
+ghost use Rattle.lua_blocks.specs.LuaStateOf.{StateOf};
+ghost use Rattle.lua_runs.specs.LuaStateWorlds.{world_seen};
+ghost use Rattle.lua_blocks.specs.LuaStateMakes.{Counts, LateCounts};
 ghost use Rattle.lua_machine.specs.Moved.{MovesTo};
-ghost use Rattle.lua_meaning.specs.Charges.{node_charge};
+ghost use Rattle.lua_blocks.specs.LuaMeaningCharges.{node_charge};
 
 use crate::frames::{give_frame, pass_frame};
 use crate::things::begin;
-use lua_blocks::{find, run, set};
-use lua_code::Expression;
+use lua_blocks::{Focus, Given, Jump, Left, State, Steps, Thing, Turn, find, run, set};
+use lua_code::{Expression, NoMemory};
 use lua_evals::{evaluate, list};
 use lua_runs::{begin_work, texts};
-use lua_stack::{Focus, Given, Jump, Thing};
-use lua_state::{State, Turn};
 use lua_store::Store;
 use page_run::Which;
 use std::alloc::Global;
 use std::sync::ledger::Ledger;
-use wk_base::{Left, NoMemory, Steps};
 
 /// Values reach the newest frame. At the end, where no frame waits, they stay what is next.
 #[inline(always)]

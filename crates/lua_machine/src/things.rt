@@ -1,28 +1,26 @@
 //! Things that begin, whose step is paid.
 ghost use Rattle.std.specs.Prelude.{◌+◌, ◌<◌, ◌^◌, IfOk};
-ghost use Rattle.lua_slots.specs.Calls as calls;
-ghost use Rattle.lua_slots.specs.Index as indexing;
-ghost use Rattle.lua_slots.specs.Moves.{begins};
-ghost use Rattle.lua_stack.specs.Seen.{thing_seen, values_seen};
-ghost use Rattle.lua_stack.specs.Of.{ThingOf, ValuesOf};
-ghost use Rattle.lua_state.specs.Seen.{slots_of, frames_of};
-ghost use Rattle.lua_state.specs.Of.{StateOf};
-ghost use Rattle.lua_state.specs.Worlds.{world_seen};
-ghost use Rattle.lua_state.specs.Makes.{Makes, LateCounts};
+ghost use Rattle.lua_evals.specs.LuaSlotsCalls as calls;
+ghost use Rattle.lua_blocks.specs.LuaSlotsIndex as indexing;
+ghost use Rattle.lua_blocks.specs.LuaSlotsMoves.{begins};
+ghost use Rattle.lua_blocks.specs.LuaStackSeen.{thing_seen, values_seen};
+ghost use Rattle.lua_environment.specs.LuaStackOf.{ThingOf, ValuesOf};
+ghost use Rattle.lua_blocks.specs.LuaStateSeen.{slots_of, frames_of};
+ghost use Rattle.lua_blocks.specs.LuaStateOf.{StateOf};
+ghost use Rattle.lua_runs.specs.LuaStateWorlds.{world_seen};
+ghost use Rattle.lua_blocks.specs.LuaStateMakes.{Makes, LateCounts};
 ghost use Rattle.lua_store.specs.Seen.{seen};
 ghost use Rattle.lua_store.specs.Parts.{IsOf};
 
-use lua_arms::calls::call;
-use lua_arms::index::index_link;
-use lua_arms::setting::set_link;
-use lua_calls::enter_library;
-use lua_loops::{count_turn, each_turn, enter_body, repeat_turn, while_turn};
-use lua_stack::{Thing, Values};
-use lua_state::{State, Turn, finish, finish_paid};
+use lua_blocks::{
+    Left, State, Steps, Thing, Turn, Values, finish, finish_paid, index_link, set_link,
+};
+use lua_code::NoMemory;
+use lua_evals::call;
+use lua_rows::{count_turn, each_turn, enter_body, enter_library, repeat_turn, while_turn};
 use lua_store::{Store, Value};
 use std::alloc::Global;
 use std::sync::ledger::Ledger;
-use wk_base::{Left, NoMemory, Steps};
 
 /// A link of a chain of handlers for an index.
 fn link_index<'m>(

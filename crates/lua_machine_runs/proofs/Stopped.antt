@@ -1,10 +1,10 @@
 -- WHERE A MACHINE STOPS: its calls, and what it holds in a later store.
 use Rattle.std.proofs.Common.{◌≡◌, ℕ, ◌+◌, arith}
-use Rattle.wk_base.specs.declared.left.Left.{Left}
-use Rattle.lua_store.specs.Seen.{StoreView}
-use Rattle.lua_store.specs.Parts.{IsLater}
-use Rattle.lua_stack.proofs.Stay.{focus_later}
-use Rattle.lua_state.proofs.Staying.{state_later}
+use Rattle.page_run.specs.WkBaseDeclaredLeftLeft.{Left}
+use Rattle.lua_machine.specs.LuaStoreSeen.{StoreView}
+use Rattle.lua_machine.specs.LuaStoreParts.{IsLater}
+use Rattle.lua_resolve.proofs.LuaStackStay.{focus_later}
+use Rattle.lua_machine.proofs.LuaStateStaying.{state_later}
 use Rattle.lua_machine.specs.declared.event.Event.{Event}
 use Rattle.lua_machine.specs.declared.event.Event.TheVariants as event
 use Rattle.lua_machine.specs.declared.machine.Machine.{Machine}

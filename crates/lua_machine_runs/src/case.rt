@@ -1,23 +1,18 @@
 //! Modules, and what is to be done with one of them.
 ghost use Rattle.std.specs.Prelude.{◌≡◌, true, false, None, IfOk};
-ghost use Rattle.wk_base.specs.Titles.{is_module};
+ghost use Rattle.lua_code.specs.WkBaseTitles.{is_module};
 ghost use Rattle.lua_code.specs.Held.{find_module};
-ghost use Rattle.lua_stack.specs.Of.{WorkOf};
+ghost use Rattle.lua_machine.specs.LuaStackOf.{WorkOf};
 ghost use Rattle.mw_frame.specs.Scenes.{NamesDiffer};
 
 use crate::replies::{Entry, Reply};
-use lua_basic::texts::TextIn;
-use lua_code::{Modules, Protos};
-use lua_parser::parse;
+use lua_code::{Bytes, List, Modules, Namespace, NoMemory, Protos, Title};
+use lua_machine::{ArgText, TextIn, Work, merge_args};
+use lua_parser::{FaultAt, SyntaxFault, parse};
 use lua_resolve::resolve;
-use lua_stack::Work;
-use lua_syntax::{FaultAt, SyntaxFault};
 use mw_frame::{Job, Scene};
-use mw_frames::merging::merge_args;
-use mw_frames::reading::ArgText;
 use std::alloc::Global;
 use std::hash::RandomState;
-use wk_base::{Bytes, List, Namespace, NoMemory, Title};
 
 /// More bytes are not read as Lua.
 const MOST: usize = 4000000000;

@@ -1,10 +1,10 @@
 //! Many runs of one case.
 use crate::case::Case;
 use crate::runs::{Allowed, Ended, end_of};
+use lua_code::NoMemory;
 use page_run::Which;
 use std::alloc::Global;
 use std::hash::RandomState;
-use wk_base::NoMemory;
 
 /// What many runs come to: all are as they should be, from this number of steps or calls on; or this number gives something else.
 #[derive(Clone, Copy)]

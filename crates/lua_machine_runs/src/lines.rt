@@ -6,10 +6,11 @@ use crate::runs::{Allowed, end_of};
 use crate::shown::{add_bytes, add_number, add_words};
 use crate::starts::{start_apart, start_together};
 use case_text::unescaped;
+use lua_code::{List, Namespace, NoMemory, Title};
+use mw_frame::TitleFault;
 use std::alloc::Global;
 use std::hash::RandomState;
 use std::mem::replace;
-use wk_base::{List, Namespace, NoMemory, Title, TitleFault};
 
 /// What a line has run, and what it wants to see.
 #[derive(Clone, Copy)]

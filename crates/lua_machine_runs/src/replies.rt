@@ -1,12 +1,12 @@
 //! Answers to questions, written by hand.
 ghost use Rattle.std.specs.Prelude.{◌≡◌, IfOk, OnOk};
-ghost use Rattle.lua_store.specs.Parts.{IsOf, IsTableOf, IsLater};
+ghost use Rattle.lua_machine.specs.LuaStoreParts.{IsOf, IsTableOf, IsLater};
 ghost use Rattle.lua_machine.specs.Events.{AnswerOf};
 
-use lua_machine::Answer;
-use lua_store::{Store, TableId, Value};
+use lua_code::{Bytes, List, NoMemory};
+use lua_machine::{Answer, Left, Store, Value};
+use lua_resolve::TableId;
 use std::alloc::Global;
-use wk_base::{Bytes, Left, List, NoMemory};
 
 /// What a question is answered with.
 #[derive(Drop)]

@@ -6,15 +6,13 @@ use crate::case::Case;
 use crate::replies::{Reply, Told, answer_of, change_steps};
 use crate::words::add_event;
 use bumpalo::Bump;
-use lua_machine::{Event, Machine};
-use lua_state::World;
-use lua_store::Store;
+use lua_code::NoMemory;
+use lua_machine::{Event, Left, Machine, Steps, Store, World};
 use page_run::Which;
 use std::alloc::Global;
 use std::hash::RandomState;
 use std::marker::Brand;
 use std::sync::ledger::{Blank, Ledger};
-use wk_base::{Left, NoMemory, Steps};
 
 /// The steps and the calls that a run may take.
 #[derive(Clone, Copy)]

@@ -1,8 +1,8 @@
 //! Titles, texts and questions in words.
 use itoa::Buffer;
+use lua_code::{List, NoMemory, Title};
 use mw_frame::{Arg, Ask, Scene};
 use page_run::Which;
-use wk_base::{List, NoMemory, Title};
 
 /// The sixteen digits of hexadecimal numbers.
 const DIGITS: [char; 16] = [

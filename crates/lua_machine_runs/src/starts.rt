@@ -2,11 +2,10 @@
 use crate::case::Case;
 use crate::runs::world_of;
 use bumpalo::Bump;
-use lua_machine::Machine;
-use lua_store::Store;
+use lua_code::NoMemory;
+use lua_machine::{Machine, Store};
 use std::alloc::Global;
 use std::hash::RandomState;
-use wk_base::NoMemory;
 
 /// Starts a machine and lets it go.
 fn start(alloc: Global, store: &mut Store, seed: RandomState, case: &Case) -> Result<(), NoMemory> {

@@ -1,15 +1,13 @@
 //! How a run ended, in words.
-ghost use Rattle.lua_store.specs.Parts.{IsOf, IsTextOf};
-ghost use Rattle.lua_stack.specs.Of.{GivenOf, JumpOf};
-ghost use Rattle.lua_state.specs.Of.{OutcomeOf};
+ghost use Rattle.lua_machine.specs.LuaStoreParts.{IsOf, IsTextOf};
+ghost use Rattle.lua_machine.specs.LuaStackOf.{GivenOf, JumpOf};
+ghost use Rattle.lua_machine.specs.LuaStateOf.{OutcomeOf};
 ghost use Rattle.lua_machine.specs.Events.{EventOf};
 
 use crate::shown::{add_bytes, add_question, add_spent, add_words};
-use lua_machine::Event;
-use lua_stack::{Given, Jump};
-use lua_state::Outcome;
-use lua_store::{Store, TextId, Value};
-use wk_base::NoMemory;
+use lua_code::NoMemory;
+use lua_machine::{Event, Given, Jump, Outcome, Store, Value};
+use lua_resolve::TextId;
 
 /// A text behind a word.
 fn add_text(out: &mut String, store: &Store, id: TextId, word: &str) -> Result<(), NoMemory>

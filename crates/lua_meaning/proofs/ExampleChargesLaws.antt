@@ -2,11 +2,11 @@
 use Rattle.std.proofs.Common.{refl}
 use Rattle.page_run.specs.Perform.{perform}
 use Rattle.page_run.specs.Trace.{trace}
-use Rattle.wk_base.specs.Titles.{title_text, prefix_of, title_of, namespace_named, prefixed_namespaces}
+use Rattle.lua_syntax.specs.WkBaseTitles.{title_text, prefix_of, title_of, namespace_named, prefixed_namespaces}
 use Rattle.std.specs.Fmt.{digits}
 use Rattle.std.specs.Str.{is_utf8, chars}
 use lib.Utf8.{encode}
-use Rattle.lua_number.specs.Numerals.{decimal_of, numeral_of, trimmed, digits_of_base, read_number_of, read_in_base_of}
+use Rattle.lua_format.specs.LuaNumberNumerals.{decimal_of, numeral_of, trimmed, digits_of_base, read_number_of, read_in_base_of}
 use Rattle.lua_meaning.specs.ExampleCharges.{Smallest, Start, DataStart, Arguments, Nodes, NamesAreNoted, Counter, HoldsItself, CatchesAll, Nests, Joins, NoMarkup, Cells, Handlers, OutOfRange, SecondLevel, NoFunction, NoTable, DataNoTable, DataError, Faulty, Unfinished, TooLarge, TableError, WrittenOut, AllCharges}
 
 smallest : Smallest

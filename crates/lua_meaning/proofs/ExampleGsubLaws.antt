@@ -3,8 +3,8 @@ use Rattle.std.proofs.Common.{refl}
 use Rattle.std.specs.Str.{is_utf8, chars}
 use Rattle.std.specs.Char.{encode_utf8}
 use Rattle.std.specs.Fmt.{digits}
-use Rattle.lua_number.specs.Numerals.{decimal_of, numeral_of, trimmed, digits_of_base, read_number_of, read_in_base_of}
-use Rattle.lua_pattern.specs.Texts.{point_code}
+use Rattle.lua_format.specs.LuaNumberNumerals.{decimal_of, numeral_of, trimmed, digits_of_base, read_number_of, read_in_base_of}
+use Rattle.mw_text.specs.LuaPatternTexts.{point_code}
 use Rattle.lua_meaning.specs.ExampleGsub.{Matches, Captures, Limits, Faults, Points, Refused, AllReplacements}
 
 matches : Matches

@@ -1,9 +1,9 @@
 -- EXAMPLES of `mw.html`, as modules use it. They compute.
 use Rattle.std.proofs.Common.{refl}
 use Rattle.page_run.specs.Perform.{perform}
-use Rattle.wk_base.specs.Titles.{title_text, prefix_of}
+use Rattle.lua_syntax.specs.WkBaseTitles.{title_text, prefix_of}
 use Rattle.std.specs.Fmt.{digits}
-use Rattle.lua_number.specs.Numerals.{decimal_of, numeral_of, trimmed, digits_of_base, read_number_of, read_in_base_of}
+use Rattle.lua_format.specs.LuaNumberNumerals.{decimal_of, numeral_of, trimmed, digits_of_base, read_number_of, read_in_base_of}
 use Rattle.mw_html.specs.Names.{closes_itself}
 use Rattle.mw_html.specs.Render.{node}
 use Rattle.lua_meaning.specs.HtmlNodes.{root_by}

@@ -1,11 +1,11 @@
 -- EXAMPLES of modules that ask for modules, and of data modules. They compute.
 use Rattle.std.proofs.Common.{refl}
 use Rattle.page_run.specs.Perform.{perform}
-use Rattle.wk_base.specs.Titles.{title_text, prefix_of, title_of, namespace_named, prefixed_namespaces}
+use Rattle.lua_syntax.specs.WkBaseTitles.{title_text, prefix_of, title_of, namespace_named, prefixed_namespaces}
 use Rattle.std.specs.Fmt.{digits}
 use Rattle.std.specs.Str.{is_utf8, chars}
 use lib.Utf8.{encode}
-use Rattle.lua_number.specs.Numerals.{decimal_of, numeral_of, trimmed, digits_of_base, read_number_of, read_in_base_of}
+use Rattle.lua_format.specs.LuaNumberNumerals.{decimal_of, numeral_of, trimmed, digits_of_base, read_number_of, read_in_base_of}
 use Rattle.lua_meaning.specs.ExampleModules.{RequiresOnce, FalseIsKept, RequiresItself, Loops, LoopsThrough, RunsAgain, NoModule, QuotesCost, ModuleLevels, ModuleCosts, Strict, StrictAnew, LoadsOnce, LoadedAgain, LoadFails, NoData, WrongData, DataHasNoFrame, ModuleIsNoTable, ModuleIsNotHeld, AllModules}
 
 requires_once : RequiresOnce

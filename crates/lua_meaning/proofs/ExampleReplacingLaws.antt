@@ -1,13 +1,13 @@
 -- EXAMPLES of `gsub` in modules. They compute.
 use Rattle.std.proofs.Common.{refl}
 use Rattle.page_run.specs.Perform.{perform}
-use Rattle.wk_base.specs.Titles.{title_text, prefix_of}
+use Rattle.lua_syntax.specs.WkBaseTitles.{title_text, prefix_of}
 use Rattle.std.specs.Fmt.{digits}
 use Rattle.std.specs.Str.{is_utf8, chars}
 use Rattle.std.specs.Char.{encode_utf8}
 use lib.Count.{count_leading_zeros}
-use Rattle.lua_number.specs.Numerals.{decimal_of, numeral_of, trimmed, digits_of_base, read_number_of, read_in_base_of}
-use Rattle.lua_pattern.specs.Texts.{point_code}
+use Rattle.lua_format.specs.LuaNumberNumerals.{decimal_of, numeral_of, trimmed, digits_of_base, read_number_of, read_in_base_of}
+use Rattle.mw_text.specs.LuaPatternTexts.{point_code}
 use Rattle.lua_format.specs.Directives.{directive_of}
 use Rattle.lua_format.specs.Layouts.{filled}
 use Rattle.lua_format.specs.Format.{formatted}

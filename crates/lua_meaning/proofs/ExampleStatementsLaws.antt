@@ -1,9 +1,9 @@
 -- EXAMPLES of statements, loops and constructors. They compute.
 use Rattle.std.proofs.Common.{refl}
 use Rattle.page_run.specs.Perform.{perform}
-use Rattle.wk_base.specs.Titles.{title_text, prefix_of}
+use Rattle.lua_syntax.specs.WkBaseTitles.{title_text, prefix_of}
 use Rattle.std.specs.Fmt.{digits}
-use Rattle.lua_number.specs.Numerals.{decimal_of, numeral_of, trimmed, digits_of_base, read_number_of, read_in_base_of}
+use Rattle.lua_format.specs.LuaNumberNumerals.{decimal_of, numeral_of, trimmed, digits_of_base, read_number_of, read_in_base_of}
 use Rattle.lua_meaning.specs.ExampleStatements.{Swap, KeysFirst, LastFirst, MoreTargets, Shadowed, LocalFunctions, GlobalFunctions, Branches, WhileLoop, RepeatLoop, RepeatBreak, Counting, CountingToTheEnd, StepOfZero, Generic, OwnIterator, Cleared, LoopMessages, WalkHandlers, LastPlace, ReturnFromLoops, Constructors, Methods, AllStatements}
 
 swap : Swap

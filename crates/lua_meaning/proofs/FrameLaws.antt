@@ -1,10 +1,10 @@
 -- Where a run has no frames, a method finds none, and refuses.
 use Rattle.std.proofs.Common.{◌≡◌, refl, sym, ap, subst, List, []}
 use Rattle.std.specs.Prelude.{pos, negsuc, Option, None, codes}
-use Rattle.lua_heap.specs.declared.library.Library.{Library}
-use Rattle.lua_heap.specs.declared.library.Library.TheVariants.{FrameGetParent, FrameExpandTemplate, FramePreprocess, FrameGetArgument, FrameArgumentPairs, FrameNewChild, FrameGetTitle, FrameExtensionTag, MwGetCurrentFrame}
-use Rattle.lua_heap.specs.Value.{Value, Nil, Truth, Number, Text, Table, Closure, Builtin, Markup}
-use Rattle.lua_heap.specs.Heap.{Heap}
+use Rattle.lua_walk.specs.LuaHeapDeclaredLibraryLibrary.{Library}
+use Rattle.lua_walk.specs.LuaHeapDeclaredLibraryLibraryTheVariants.{FrameGetParent, FrameExpandTemplate, FramePreprocess, FrameGetArgument, FrameArgumentPairs, FrameNewChild, FrameGetTitle, FrameExtensionTag, MwGetCurrentFrame}
+use Rattle.lua_walk.specs.LuaHeapValue.{Value, Nil, Truth, Number, Text, Table, Closure, Builtin, Markup}
+use Rattle.lua_walk.specs.LuaHeapHeap.{Heap}
 use Rattle.lua_meaning.specs.Scope.{Bytes}
 use Rattle.lua_meaning.specs.World.{World}
 use Rattle.lua_meaning.specs.Values.{first}

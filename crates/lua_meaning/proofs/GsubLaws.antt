@@ -3,13 +3,13 @@ use Rattle.std.proofs.Common.{◌≡◌, ◌∙◌, ap, refl, ℕ, zero, suc, Bo
 use Rattle.std.specs.Prelude.{◌==◌, ◌&&◌, ◌-◌, if◌then◌else◌, Result, slice_get}
 use Rattle.std.specs.Char.{is_ascii_digit}
 use Rattle.page_run.specs.Outcome.{Outcome}
-use Rattle.lua_heap.specs.Value.{Value}
-use Rattle.lua_string.specs.Walk.{Walk, Stops, Meets, walk}
+use Rattle.lua_walk.specs.LuaHeapValue.{Value}
+use Rattle.mw_text.specs.LuaStringWalk.{Walk, Stops, Meets, walk}
 use Rattle.lua_meaning.specs.Acts.{LuaRun, Jump}
 use Rattle.lua_meaning.specs.Iterators.{Stand}
 use Rattle.lua_meaning.specs.Scope.{Bytes, Levels}
-use Rattle.lua_string.specs.Replacements.{text_of, numbered, is_none_there, capture_text, put, behind_percent, replaced_of}
-use Rattle.lua_string.specs.declared.replacing.CaptureText.{CaptureText}
+use Rattle.mw_text.specs.LuaStringReplacements.{text_of, numbered, is_none_there, capture_text, put, behind_percent, replaced_of}
+use Rattle.mw_text.specs.LuaStringDeclaredReplacingCaptureText.{CaptureText}
 use Rattle.lua_meaning.specs.Gsub as own
 use Rattle.lua_meaning.specs.Gsub.{FilledIsReplaced, GsubIsNamed, MatchesGoOn}
 

@@ -3,8 +3,8 @@ use Rattle.std.proofs.Common.{◌≡◌, ◌<◌, ◌≤◌, ◌||◌, ℕ, zero
 use Rattle.std.specs.List.{IsDistinct, AllByRecursion, list_any}
 use Rattle.std.proofs.lemmas.Bool.{eqb-true, ne_eqb}
 use Rattle.std.proofs.lemmas.Map.Steps.{length-le_from_distinct_below}
-use Rattle.lua_heap.specs.Heap.{MarkupNode, no_markup}
-use Rattle.lua_heap.proofs.Places.{some_back, clash}
+use Rattle.lua_walk.specs.LuaHeapHeap.{MarkupNode, no_markup}
+use Rattle.mw_html.proofs.LuaHeapPlaces.{some_back, clash}
 use Rattle.lua_meaning.specs.HtmlNodes.{root_above, root_by, RootsAreFound}
 
 -- THE ROOT. An object is so far below a root.

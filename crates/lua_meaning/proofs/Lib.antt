@@ -1,3 +1,9 @@
+pub use Rattle.lua_walk.proofs.CopyMoves as LuaWalkCopyMoves
+pub use Rattle.lua_walk.proofs.LuaHeapGraphLaws as LuaHeapGraphLaws
+pub use Rattle.lua_walk.proofs.Standings as LuaWalkStandings
+pub use Rattle.mw_html.proofs.Renumbered as MwHtmlRenumbered
+pub use Rattle.page_run.proofs.Enough as PageRunEnough
+pub use Rattle.page_run.proofs.Less as PageRunLess
 pub mod MeaningLaws
 pub mod FrameLaws
 pub mod HtmlRoots

@@ -11,8 +11,8 @@ use Rattle.page_run.specs.Charges.{GivenBack}
 use Rattle.page_run.proofs.EventLaws.{begins_is, asks_is, sees_is, changes_is}
 use Rattle.page_run.proofs.ChargeLaws.{calls_come_back}
 use Rattle.page_run.proofs.FitLaws.{more_is_as_good}
-use Rattle.lua_heap.specs.Value.{Value, is_nil}
-use Rattle.lua_heap.specs.Value as value
+use Rattle.lua_walk.specs.LuaHeapValue.{Value, is_nil}
+use Rattle.lua_walk.specs.LuaHeapValue as value
 use Rattle.lua_meaning.specs.Scope.{Scope}
 use Rattle.lua_meaning.specs.Acts.{LuaRun, Act, Jump, choose, WhileTurn, RepeatTurn, CountTurn, EachTurn, Body, LibraryBody, ChunkBody, IndexLink, SetLink, CallLink}
 use Rattle.lua_meaning.specs.Parts.{Expression}

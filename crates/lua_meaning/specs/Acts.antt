@@ -5,9 +5,9 @@ use Rattle.std.specs.Prelude.{ℕ, ℤ, Bool, true, false, List, [], ◌∷◌}
 use Rattle.lua_syntax.specs.Tree.{Exp, Block}
 use Rattle.page_run.specs.Run.{Run}
 use Rattle.page_run.specs.Outcome.{Outcome, Act as ActOf, ◌>>=◌, ◌>>◌, give, jump, tick, count, see, change}
-use Rattle.lua_heap.specs.declared.library.Library.{Library}
-use Rattle.lua_heap.specs.Value.{Value, Closure as ClosureValue}
-use Rattle.lua_heap.specs.Heap.{Heap, Function as FunctionClosed, cell_at, set_cell_in, new_table, new_cell, new_closure}
+use Rattle.lua_walk.specs.LuaHeapDeclaredLibraryLibrary.{Library}
+use Rattle.lua_walk.specs.LuaHeapValue.{Value, Closure as ClosureValue}
+use Rattle.lua_walk.specs.LuaHeapHeap.{Heap, Function as FunctionClosed, cell_at, set_cell_in, new_table, new_cell, new_closure}
 use Rattle.lua_meaning.specs.Charges.{node_charge, table_charge, closure_charge}
 use Rattle.lua_meaning.specs.Scope.{Bytes, Scope, Function, Levels, with_name}
 use Rattle.lua_meaning.specs.Titled.{ByTitle}

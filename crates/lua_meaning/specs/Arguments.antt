@@ -3,9 +3,9 @@
 -- argument is the same as nil, but for the message that says what was got.
 use Rattle.std.specs.Prelude.{ℕ, ◌+◌, ℤ, pos, List, [], ◌∷◌, length, Option, Some, None, Result, Ok, Err, if◌then◌else◌, codes}
 use Rattle.page_run.specs.Outcome.{◌>>◌, give, tick}
-use Rattle.lua_heap.specs.Value.{Value, Nil, Text, Table, is_nil}
-use Rattle.lua_heap.specs.Table.{Entries}
-use Rattle.lua_heap.specs.Heap.{Heap}
+use Rattle.lua_walk.specs.LuaHeapValue.{Value, Nil, Text, Table, is_nil}
+use Rattle.mw_html.specs.LuaHeapTable.{Entries}
+use Rattle.lua_walk.specs.LuaHeapHeap.{Heap}
 use Rattle.lua_meaning.specs.Scope.{Bytes, Function, Levels}
 use Rattle.lua_meaning.specs.Values.{first, number_in, text_in}
 use Rattle.lua_meaning.specs.Acts.{Act, change_heap}

@@ -1,10 +1,10 @@
 -- BASIC FUNCTIONS that call back nobody (manual 5.1).
 use Rattle.std.specs.Prelude.{ℕ, zero, suc, ◌-◌, ℤ, pos, negsuc, ◌+ℤ◌, ◌-ℤ◌, Bool, false, ◌&&◌, ◌||◌, List, [], ◌∷◌, length, drop, Option, Some, None, Ok, Err, if◌then◌else◌, nat_le, nat_lt, bytes_eq, codes}
 use Rattle.std.specs.Ordering.{int_eq}
-use Rattle.lua_number.specs.Numerals.{read_in_base_of}
-use Rattle.lua_heap.specs.Value.{Value, Nil, Truth, Number, Text, Table, same, is_true, is_nil}
-use Rattle.lua_heap.specs.Table.{Entries, get, has, behind_key, first_entry, border}
-use Rattle.lua_heap.specs.Heap.{Heap, table_at, set_in, set_meta_in}
+use Rattle.lua_format.specs.LuaNumberNumerals.{read_in_base_of}
+use Rattle.lua_walk.specs.LuaHeapValue.{Value, Nil, Truth, Number, Text, Table, same, is_true, is_nil}
+use Rattle.mw_html.specs.LuaHeapTable.{Entries, get, has, behind_key, first_entry, border}
+use Rattle.lua_walk.specs.LuaHeapHeap.{Heap, table_at, set_in, set_meta_in}
 use Rattle.lua_meaning.specs.Charges.{entry_charge}
 use Rattle.lua_meaning.specs.Scope.{Bytes}
 use Rattle.lua_meaning.specs.Values.{kind_of, first, rest, second, third, number_in}

@@ -3,11 +3,11 @@
 use Rattle.std.specs.Prelude.{ℤ, pos, ◌+ℤ◌, true, false, List, [], ◌∷◌, Option, Some, None, codes}
 use Rattle.std.specs.Fmt.{signed_decimal}
 use Rattle.page_run.specs.Outcome.{Goes, Jumps, ◌>>=◌, give, jump}
-use Rattle.lua_number.specs.Whole.{fits}
-use Rattle.lua_heap.specs.Value.{Value, Nil, Truth, Number, Text, Table, Builtin, Markup, is_nil}
-use Rattle.lua_heap.specs.Table.{get}
-use Rattle.lua_heap.specs.Heap.{table_at}
-use Rattle.lua_heap.specs.declared.library.Library.TheVariants.{BasicNext, IpairsStep}
+use Rattle.lua_format.specs.LuaNumberWhole.{fits}
+use Rattle.lua_walk.specs.LuaHeapValue.{Value, Nil, Truth, Number, Text, Table, Builtin, Markup, is_nil}
+use Rattle.mw_html.specs.LuaHeapTable.{get}
+use Rattle.lua_walk.specs.LuaHeapHeap.{table_at}
+use Rattle.lua_walk.specs.LuaHeapDeclaredLibraryLibraryTheVariants.{BasicNext, IpairsStep}
 use Rattle.lua_meaning.specs.Scope.{Bytes, Levels}
 use Rattle.lua_meaning.specs.Values.{kind_of, first, rest, second, third, text_in}
 use Rattle.lua_meaning.specs.Acts.{Act, Raised, choose, see_heap}

@@ -2,8 +2,8 @@
 -- A function that is called is a thing that begins: here it is named, with the levels that an error at its entry has.
 use Rattle.std.specs.Prelude.{List, ◌∷◌, Option, Some, None, codes}
 use Rattle.page_run.specs.Outcome.{◌>>=◌, begin}
-use Rattle.lua_heap.specs.Value.{Value, Table, Closure, Builtin, is_nil}
-use Rattle.lua_heap.specs.Heap.{Closed, Function as FunctionClosed, Iterator, closure_at}
+use Rattle.lua_walk.specs.LuaHeapValue.{Value, Table, Closure, Builtin, is_nil}
+use Rattle.lua_walk.specs.LuaHeapHeap.{Closed, Function as FunctionClosed, Iterator, closure_at}
 use Rattle.lua_meaning.specs.Scope.{Levels, Function}
 use Rattle.lua_meaning.specs.Acts.{Act, Body, LibraryBody, CallLink, choose, see_heap}
 use Rattle.lua_meaning.specs.Messages.{fail, cannot_call}

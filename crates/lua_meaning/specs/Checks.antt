@@ -1,8 +1,8 @@
 -- CHECKS OF ARGUMENTS (manual 5) beside those of `Arguments`: the fourth one, texts that may be left out, numbers from 0 to 255, and all
 -- arguments as numbers.
 use Rattle.std.specs.Prelude.{ℕ, ◌+◌, ℤ, unsigned_abs, List, [], ◌∷◌, ◌++◌, Ok, Err, if◌then◌else◌, codes, decimal}
-use Rattle.lua_string.specs.Texts.{is_code}
-use Rattle.lua_heap.specs.Value.{Value, Nil}
+use Rattle.mw_text.specs.LuaStringTexts.{is_code}
+use Rattle.lua_walk.specs.LuaHeapValue.{Value, Nil}
 use Rattle.lua_meaning.specs.Scope.{Bytes}
 use Rattle.lua_meaning.specs.Values.{rest, third}
 use Rattle.lua_meaning.specs.Messages.{bad_argument, expected}

@@ -1,7 +1,7 @@
 -- TABLE CONSTRUCTORS (manual 2.5.7). The fields are set in the order in which they are written, without metamethods.
 use Rattle.std.specs.Prelude.{ℕ, ◌+◌, pos, List, [], ◌∷◌}
 use Rattle.page_run.specs.Outcome.{◌>>=◌, ◌>>◌, give}
-use Rattle.lua_heap.specs.Value.{Value, Number, Table}
+use Rattle.lua_walk.specs.LuaHeapValue.{Value, Number, Table}
 use Rattle.lua_meaning.specs.Scope.{Scope, Levels, levels}
 use Rattle.lua_meaning.specs.Acts.{Act, node, one, make_table}
 use Rattle.lua_meaning.specs.Index.{set_entry}

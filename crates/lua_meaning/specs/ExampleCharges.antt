@@ -8,7 +8,7 @@ use Rattle.lua_syntax.specs.Tree.{AssignS, CallS, WhileS, IfS, CountS, LocalFunc
 use Rattle.lua_syntax.specs.View.{exps_of, fields_of, arms_of, stats_of}
 use Rattle.page_run.specs.declared.which.Which.TheVariants.{Steps, Calls}
 use Rattle.mw_frame.specs.declared.question.Ask.TheVariants.{Data}
-use Rattle.lua_heap.specs.Value.{Text}
+use Rattle.lua_walk.specs.LuaHeapValue.{Text}
 use Rattle.lua_meaning.specs.Questions.{Loaded}
 use Rattle.lua_meaning.specs.Trial.{Gives, Fails, Spends, Loads, Asks, without_steps, arg, invoke_module, invoke_with_calls, invoke_with_args, load_module, invoke_fault, count_nodes, notes_of, named, module_text, module_title, reply, invoke_in_template}
 

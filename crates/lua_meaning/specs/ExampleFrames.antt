@@ -7,9 +7,9 @@ use Rattle.lua_syntax.specs.Tree.{NoExp, NoField, Item, Pair, Lambda, Block}
 use Rattle.lua_syntax.specs.Tree.{AssignS, CallS, EachS, LocalFunctionS, LocalS, ReturnS}
 use Rattle.lua_syntax.specs.View.{exps_of, fields_of, stats_of}
 use Rattle.page_run.specs.declared.which.Which.TheVariants.{Steps, Calls}
-use Rattle.wk_base.specs.declared.title.Namespace.TheVariants.{Main}
+use Rattle.mw_frame.specs.WkBaseDeclaredTitleNamespaceTheVariants.{Main}
 use Rattle.mw_frame.specs.declared.question.Ask.TheVariants.{Template, Preprocess}
-use Rattle.lua_heap.specs.Value.{Text}
+use Rattle.lua_walk.specs.LuaHeapValue.{Text}
 use Rattle.lua_meaning.specs.Questions.{Expanded, NoPage, Loaded, LoadFailed}
 use Rattle.lua_meaning.specs.Trial.{Gives, Fails, Spends, Asks, without_steps, arg, module_text, template_title, own_scene, scene_in_template, reply, exhausts, invoke_in_template}
 

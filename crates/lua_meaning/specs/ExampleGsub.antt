@@ -1,9 +1,9 @@
 -- EXAMPLES: calls of `gsub` with a text, with what they cost, and what they give or raise. Results are those of Lua 5.1; charges are
 -- counted by hand: the bytes of the pattern, the tries, and the bytes that are given.
 use Rattle.std.specs.Prelude.{◌≡◌, ℕ, ◌+◌, pos, negsuc, true, List, [], ◌∷◌, Option, Some, None, codes}
-use Rattle.lua_heap.specs.Proc.{Proc}
-use Rattle.lua_heap.specs.Value.{Value, Nil, Truth, Number, Text, Table}
-use Rattle.lua_heap.specs.Heap.{Heap, empty}
+use Rattle.lua_walk.specs.LuaHeapProc.{Proc}
+use Rattle.lua_walk.specs.LuaHeapValue.{Value, Nil, Truth, Number, Text, Table}
+use Rattle.lua_walk.specs.LuaHeapHeap.{Heap, empty}
 use Rattle.lua_meaning.specs.Scope.{Bytes}
 use Rattle.lua_meaning.specs.Arguments.{PlainEnd, Gives, Fails}
 use Rattle.lua_meaning.specs.Gsub.{Alphabet, OfBytes, OfPoints, GsubForm, GsubAnswers, GsubAsks, gsub_form}

@@ -1,11 +1,11 @@
 -- EXAMPLES of objects of `mw.html`, as calls in a row: the object that a call gives is the first argument of the next one. The texts are
 -- those that Scribunto gives, but for what a row says; charges are counted by hand. `create` costs nothing, a method its texts.
 use Rattle.std.specs.Prelude.{◌≡◌, ℕ, pos, true, List, [], ◌∷◌, codes}
-use Rattle.lua_heap.specs.Proc.{Proc}
-use Rattle.lua_heap.specs.Value.{Value, Nil, Truth, Number, Text, Table, Builtin, Markup}
-use Rattle.lua_heap.specs.Table.{Entries}
-use Rattle.lua_heap.specs.Heap.{Heap, empty}
-use Rattle.lua_heap.specs.declared.library.Library.TheVariants.{HtmlNode, HtmlAllDone}
+use Rattle.lua_walk.specs.LuaHeapProc.{Proc}
+use Rattle.lua_walk.specs.LuaHeapValue.{Value, Nil, Truth, Number, Text, Table, Builtin, Markup}
+use Rattle.mw_html.specs.LuaHeapTable.{Entries}
+use Rattle.lua_walk.specs.LuaHeapHeap.{Heap, empty}
+use Rattle.lua_walk.specs.LuaHeapDeclaredLibraryLibraryTheVariants.{HtmlNode, HtmlAllDone}
 use Rattle.lua_meaning.specs.Scope.{Bytes}
 use Rattle.lua_meaning.specs.Values.{first}
 use Rattle.lua_meaning.specs.Arguments.{Plain, PlainEnd, Gives, Fails, with_charge, gives}

@@ -7,7 +7,7 @@ use Rattle.lua_syntax.specs.Tree.{NoExp, NoField, Pair, Lambda, Block, Arm}
 use Rattle.lua_syntax.specs.Tree.{AssignS, CallS, IfS, LocalFunctionS, LocalS, ReturnS}
 use Rattle.lua_syntax.specs.View.{exps_of, fields_of, arms_of, stats_of}
 use Rattle.page_run.specs.declared.which.Which.TheVariants.{Steps}
-use Rattle.lua_heap.specs.Value.{Number, Text, Table}
+use Rattle.lua_walk.specs.LuaHeapValue.{Number, Text, Table}
 use Rattle.lua_meaning.specs.Questions.{Expanded, NoPage, Loaded, LoadFailed}
 use Rattle.lua_meaning.specs.Trial.{Gives, Fails, Spends, Loads, without_steps, load_module, module_text, reply, invoke_in_template}
 

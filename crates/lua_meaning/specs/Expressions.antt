@@ -6,7 +6,7 @@ use Rattle.lua_syntax.specs.declared.BinaryOp.TheVariants as op
 use Rattle.lua_syntax.specs.declared.UnaryOp.{UnaryOp}
 use Rattle.lua_syntax.specs.declared.UnaryOp.TheVariants as sign
 use Rattle.lua_syntax.specs.Tree.{Fun}
-use Rattle.lua_heap.specs.Value.{Value, Truth, Text, Table, is_true}
+use Rattle.lua_walk.specs.LuaHeapValue.{Value, Truth, Text, Table, is_true}
 use Rattle.lua_meaning.specs.Scope.{Bytes, Scope, Levels, cell_of, levels, source_of}
 use Rattle.lua_meaning.specs.Acts.{Act, node, one, read_cell, make_closure}
 use Rattle.lua_meaning.specs.Calls.{call}

@@ -8,8 +8,8 @@ use Rattle.lua_format.specs.declared.value.Want.TheVariants as want
 use Rattle.lua_format.specs.declared.value.FormatFault.{FormatFault}
 use Rattle.lua_format.specs.declared.value.FormatFault.TheVariants as fault
 use Rattle.lua_format.specs.Format.{formatted}
-use Rattle.lua_heap.specs.Value.{Value, Number, Text}
-use Rattle.lua_heap.specs.Heap.{Heap}
+use Rattle.lua_walk.specs.LuaHeapValue.{Value, Number, Text}
+use Rattle.lua_walk.specs.LuaHeapHeap.{Heap}
 use Rattle.lua_meaning.specs.Scope.{Bytes}
 use Rattle.lua_meaning.specs.Values.{rest}
 use Rattle.lua_meaning.specs.Messages.{bad_argument, expected}

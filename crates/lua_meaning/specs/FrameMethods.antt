@@ -1,15 +1,15 @@
 -- METHODS OF FRAMES (Scribunto, Frame object). Each finds its frame by the number in the metatable of its first argument, so a copy
 -- of a frame is that frame. They read the tables that they are given without metamethods.
 use Rattle.std.specs.Prelude.{ℕ, ◌+◌, pos, List, [], ◌∷◌, ◌++◌, length, Result, Ok, Err, Option, Some, None, if◌then◌else◌, slice_set, codes}
-use Rattle.wk_base.specs.declared.title.Title.{Title}
-use Rattle.wk_base.specs.declared.title.Namespace.{Namespace}
-use Rattle.wk_base.specs.declared.title.Namespace.TheVariants.{Main, Template as TemplateSpace}
-use Rattle.wk_base.specs.declared.title_read.TitleFault.{TitleFault}
-use Rattle.wk_base.specs.Titles.{title_text, title_of}
-use Rattle.lua_heap.specs.Value.{Value, Nil, Truth, Text, Table, is_nil}
-use Rattle.lua_heap.specs.Table.{Entries}
-use Rattle.lua_heap.specs.Heap.{Heap, table_at}
-use Rattle.lua_heap.specs.declared.library.Library.TheVariants.{ArgumentExpand}
+use Rattle.lua_syntax.specs.WkBaseDeclaredTitleTitle.{Title}
+use Rattle.lua_syntax.specs.WkBaseDeclaredTitleNamespace.{Namespace}
+use Rattle.mw_frame.specs.WkBaseDeclaredTitleNamespaceTheVariants.{Main, Template as TemplateSpace}
+use Rattle.page_run.specs.WkBaseDeclaredTitleReadTitleFault.{TitleFault}
+use Rattle.lua_syntax.specs.WkBaseTitles.{title_text, title_of}
+use Rattle.lua_walk.specs.LuaHeapValue.{Value, Nil, Truth, Text, Table, is_nil}
+use Rattle.mw_html.specs.LuaHeapTable.{Entries}
+use Rattle.lua_walk.specs.LuaHeapHeap.{Heap, table_at}
+use Rattle.lua_walk.specs.LuaHeapDeclaredLibraryLibraryTheVariants.{ArgumentExpand}
 use Rattle.lua_meaning.specs.Charges.{filled_table_charge, frame_charge}
 use Rattle.lua_meaning.specs.Scope.{Bytes}
 use Rattle.mw_frame.specs.declared.scene.Arg.{Arg}

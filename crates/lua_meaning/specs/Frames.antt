@@ -3,11 +3,11 @@ use Rattle.std.specs.Prelude.{ℕ, ◌+◌, pos, Bool, false, ◌&&◌, not, Lis
 use Rattle.std.specs.Char.{is_ascii_digit}
 use Rattle.std.specs.List.{list_all}
 use Rattle.std.specs.Str.Parse.{digits_value}
-use Rattle.lua_heap.specs.Value.{Value, Nil, Truth, Number, Text, Table, Builtin}
-use Rattle.lua_heap.specs.Table.{Entries, get, set}
-use Rattle.lua_heap.specs.Heap.{Heap, TableObj, add, table_at}
-use Rattle.lua_heap.specs.declared.library.Library.{Library}
-use Rattle.lua_heap.specs.declared.library.Library.TheVariants.{ArgsIndex, FrameGetParent, FrameExpandTemplate, FramePreprocess, FrameGetArgument, FrameArgumentPairs, FrameNewChild, FrameGetTitle, FrameExtensionTag}
+use Rattle.lua_walk.specs.LuaHeapValue.{Value, Nil, Truth, Number, Text, Table, Builtin}
+use Rattle.mw_html.specs.LuaHeapTable.{Entries, get, set}
+use Rattle.lua_walk.specs.LuaHeapHeap.{Heap, TableObj, add, table_at}
+use Rattle.lua_walk.specs.LuaHeapDeclaredLibraryLibrary.{Library}
+use Rattle.lua_walk.specs.LuaHeapDeclaredLibraryLibraryTheVariants.{ArgsIndex, FrameGetParent, FrameExpandTemplate, FramePreprocess, FrameGetArgument, FrameArgumentPairs, FrameNewChild, FrameGetTitle, FrameExtensionTag}
 use Rattle.lua_meaning.specs.Charges.{argument_charge}
 use Rattle.lua_meaning.specs.Scope.{Bytes}
 use Rattle.mw_frame.specs.declared.scene.Arg.{Arg}

@@ -6,21 +6,21 @@ use Rattle.std.specs.Char.{is_ascii_digit}
 use Rattle.std.specs.Fmt.{decimal, signed_decimal}
 use Rattle.std.specs.Option.{option_map}
 use Rattle.page_run.specs.Outcome.{Outcome, ◌>>=◌, ◌>>◌, give, catch, tick, see}
-use Rattle.lua_pattern.specs.declared.item.Item.{Item}
-use Rattle.lua_pattern.specs.declared.pattern.Capture.{Capture}
-use Rattle.lua_pattern.specs.declared.pattern.Capture.TheVariants.{Span, Place}
-use Rattle.lua_pattern.specs.declared.pattern.Match.{Match}
-use Rattle.lua_pattern.specs.declared.slots.Slot.{Slot}
-use Rattle.lua_pattern.specs.Letters.{Letters}
-use Rattle.lua_pattern.specs.Texts.{bytes, points}
-use Rattle.lua_pattern.specs.Read.{Read, Fault, Fine, read_of, codes as symbol_codes}
-use Rattle.lua_string.specs.Texts.{how_many}
-use Rattle.lua_string.specs.Finds.{match_of}
-use Rattle.lua_string.specs.Walk.{Walk, Stops, Meets, walk, span}
-use Rattle.lua_string.specs.Replacements.{put, text_of, replaced_of}
-use Rattle.lua_string.specs.declared.replacing.CaptureText.{CaptureText}
-use Rattle.lua_heap.specs.Value.{Value, Nil, Truth, Number, Text, Table, Closure, Builtin}
-use Rattle.lua_heap.specs.Heap.{Heap}
+use Rattle.mw_text.specs.LuaPatternDeclaredItemItem.{Item}
+use Rattle.mw_text.specs.LuaPatternDeclaredPatternCapture.{Capture}
+use Rattle.mw_text.specs.LuaPatternDeclaredPatternCaptureTheVariants.{Span, Place}
+use Rattle.mw_text.specs.LuaPatternDeclaredPatternMatch.{Match}
+use Rattle.mw_text.specs.LuaPatternDeclaredSlotsSlot.{Slot}
+use Rattle.mw_text.specs.LuaPatternLetters.{Letters}
+use Rattle.mw_text.specs.LuaPatternTexts.{bytes, points}
+use Rattle.mw_text.specs.LuaPatternRead.{Read, Fault, Fine, read_of, codes as symbol_codes}
+use Rattle.mw_text.specs.LuaStringTexts.{how_many}
+use Rattle.mw_text.specs.LuaStringFinds.{match_of}
+use Rattle.mw_text.specs.LuaStringWalk.{Walk, Stops, Meets, walk, span}
+use Rattle.mw_text.specs.LuaStringReplacements.{put, text_of, replaced_of}
+use Rattle.mw_text.specs.LuaStringDeclaredReplacingCaptureText.{CaptureText}
+use Rattle.lua_walk.specs.LuaHeapValue.{Value, Nil, Truth, Number, Text, Table, Closure, Builtin}
+use Rattle.lua_walk.specs.LuaHeapHeap.{Heap}
 use Rattle.lua_meaning.specs.Scope.{Bytes, Levels, Function}
 use Rattle.lua_meaning.specs.Values.{kind_of, first, rest}
 use Rattle.lua_meaning.specs.Acts.{Act, Jump, LuaRun}

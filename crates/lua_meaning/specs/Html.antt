@@ -3,11 +3,11 @@
 use Rattle.std.specs.Prelude.{ℕ, ◌+◌, Bool, true, false, ◌||◌, List, [], ◌∷◌, length, Option, Some, None, Ok, Err, if◌then◌else◌, bytes_eq, codes}
 use Rattle.mw_html.specs.Names.{is_name, is_attribute_name}
 use Rattle.mw_html.specs.Render.{Piece, Whole, Deep, is_empty, render}
-use Rattle.lua_heap.specs.declared.library.Library.{Library}
-use Rattle.lua_heap.specs.declared.library.Library.TheVariants.{HtmlNode, HtmlWikitext, HtmlNewline, HtmlAttr, HtmlAddClass, HtmlCss, HtmlCssText, HtmlTag, HtmlDone, HtmlAllDone, HtmlGetAttr}
-use Rattle.lua_heap.specs.Value.{Value, Nil, Text, Table, Builtin, Markup, is_nil, is_true}
-use Rattle.lua_heap.specs.Table.{Entries}
-use Rattle.lua_heap.specs.Heap.{MarkupChild, ChildText, ChildNode, MarkupNode, Heap, table_at, markup_at, set_markup_in, new_markup}
+use Rattle.lua_walk.specs.LuaHeapDeclaredLibraryLibrary.{Library}
+use Rattle.lua_walk.specs.LuaHeapDeclaredLibraryLibraryTheVariants.{HtmlNode, HtmlWikitext, HtmlNewline, HtmlAttr, HtmlAddClass, HtmlCss, HtmlCssText, HtmlTag, HtmlDone, HtmlAllDone, HtmlGetAttr}
+use Rattle.lua_walk.specs.LuaHeapValue.{Value, Nil, Text, Table, Builtin, Markup, is_nil, is_true}
+use Rattle.mw_html.specs.LuaHeapTable.{Entries}
+use Rattle.lua_walk.specs.LuaHeapHeap.{MarkupChild, ChildText, ChildNode, MarkupNode, Heap, table_at, markup_at, set_markup_in, new_markup}
 use Rattle.lua_meaning.specs.Scope.{Bytes}
 use Rattle.lua_meaning.specs.Values.{rest}
 use Rattle.lua_meaning.specs.Messages.{bad_argument, expected}

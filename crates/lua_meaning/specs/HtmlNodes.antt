@@ -1,7 +1,7 @@
 -- WHAT THE METHODS OF AN OBJECT OF `mw.html` MAKE OF IT (Scribunto, HTML library): its attributes, styles and children, and the object
 -- at the root above it. How it is rendered stands where `mw_html` is.
 use Rattle.std.specs.Prelude.{◌≡◌, ℕ, zero, suc, Bool, false, List, [], ◌∷◌, ◌++◌, length, map, Option, Some, None, slice_index_or, if◌then◌else◌, bytes_eq, codes}
-use Rattle.lua_heap.specs.Heap.{MarkupStyle, Item, StyleText, MarkupChild, ChildText, MarkupNode, no_markup}
+use Rattle.lua_walk.specs.LuaHeapHeap.{MarkupStyle, Item, StyleText, MarkupChild, ChildText, MarkupNode, no_markup}
 use Rattle.mw_html.specs.Names.{with_class}
 use Rattle.lua_meaning.specs.Scope.{Bytes}
 

@@ -3,9 +3,9 @@
 -- is no nesting. The one value is taken at the end of the chain.
 use Rattle.std.specs.Prelude.{ℕ, ◌||◌, List, [], ◌∷◌, codes}
 use Rattle.page_run.specs.Outcome.{◌>>=◌, ◌>>◌, give, tick, see, begin}
-use Rattle.lua_heap.specs.Value.{Value, Nil, Text, Table, Markup, is_nil}
-use Rattle.lua_heap.specs.Table.{get, has}
-use Rattle.lua_heap.specs.Heap.{Heap, table_at, set_in}
+use Rattle.lua_walk.specs.LuaHeapValue.{Value, Nil, Text, Table, Markup, is_nil}
+use Rattle.mw_html.specs.LuaHeapTable.{get, has}
+use Rattle.lua_walk.specs.LuaHeapHeap.{Heap, table_at, set_in}
 use Rattle.lua_meaning.specs.Charges.{entry_charge}
 use Rattle.lua_meaning.specs.Scope.{Levels, Function}
 use Rattle.lua_meaning.specs.Values.{is_function}

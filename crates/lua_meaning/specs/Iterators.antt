@@ -2,24 +2,24 @@
 -- library), `mw.text.gsplit` (Scribunto, Text library). An iterator is a closure of the library with its state in cells. One with a
 -- pattern reads it at each of its steps and not before, and each reading is charged.
 use Rattle.std.specs.Prelude.{ℕ, suc, ◌+◌, pos, negsuc, Bool, nat_le, if◌then◌else◌, List, [], ◌∷◌, length, map, drop, Option, Some, None, Result, Ok, Err, codes, encode_utf8_all}
-use Rattle.lua_pattern.specs.declared.item.Item.{Item}
-use Rattle.lua_pattern.specs.declared.pattern.Capture.{Capture}
-use Rattle.lua_pattern.specs.declared.pattern.Capture.TheVariants.{Span, Place}
-use Rattle.lua_pattern.specs.declared.pattern.Match.{Match}
-use Rattle.lua_pattern.specs.declared.slots.Slot.{Slot}
-use Rattle.lua_pattern.specs.Letters.{Symbol, Letters}
-use Rattle.lua_pattern.specs.Texts.{bytes, points}
-use Rattle.lua_pattern.specs.Read.{Read, Fault, Fine, read_unanchored, codes as symbol_codes}
-use Rattle.lua_pattern.specs.Sizes.{match_bytes}
-use Rattle.lua_string.specs.Finds.{match_of}
-use Rattle.lua_string.specs.Walk.{Walk, Stops, Meets, walk, span}
-use Rattle.mw_ustring.specs.Texts.{points_of}
+use Rattle.mw_text.specs.LuaPatternDeclaredItemItem.{Item}
+use Rattle.mw_text.specs.LuaPatternDeclaredPatternCapture.{Capture}
+use Rattle.mw_text.specs.LuaPatternDeclaredPatternCaptureTheVariants.{Span, Place}
+use Rattle.mw_text.specs.LuaPatternDeclaredPatternMatch.{Match}
+use Rattle.mw_text.specs.LuaPatternDeclaredSlotsSlot.{Slot}
+use Rattle.mw_text.specs.LuaPatternLetters.{Symbol, Letters}
+use Rattle.mw_text.specs.LuaPatternTexts.{bytes, points}
+use Rattle.mw_text.specs.LuaPatternRead.{Read, Fault, Fine, read_unanchored, codes as symbol_codes}
+use Rattle.mw_text.specs.LuaPatternSizes.{match_bytes}
+use Rattle.mw_text.specs.LuaStringFinds.{match_of}
+use Rattle.mw_text.specs.LuaStringWalk.{Walk, Stops, Meets, walk, span}
+use Rattle.mw_text.specs.MwUstringTexts.{points_of}
 use Rattle.mw_text.specs.declared.splitting.Part.{Part}
 use Rattle.mw_text.specs.Split.{Sought, sought_by, part_from, slice}
-use Rattle.lua_heap.specs.declared.library.Library.{Library}
-use Rattle.lua_heap.specs.declared.library.Library.TheVariants.{GmatchStep, UstringGmatchStep, GcodepointStep, GsplitStep}
-use Rattle.lua_heap.specs.Value.{Value, Nil, Truth, Number, Text, Closure, is_true}
-use Rattle.lua_heap.specs.Heap.{Closed, Iterator, Heap, new_cell, new_closure, cell_at, closure_at, set_cell_in}
+use Rattle.lua_walk.specs.LuaHeapDeclaredLibraryLibrary.{Library}
+use Rattle.lua_walk.specs.LuaHeapDeclaredLibraryLibraryTheVariants.{GmatchStep, UstringGmatchStep, GcodepointStep, GsplitStep}
+use Rattle.lua_walk.specs.LuaHeapValue.{Value, Nil, Truth, Number, Text, Closure, is_true}
+use Rattle.lua_walk.specs.LuaHeapHeap.{Closed, Iterator, Heap, new_cell, new_closure, cell_at, closure_at, set_cell_in}
 use Rattle.lua_meaning.specs.Charges.{closure_charge}
 use Rattle.lua_meaning.specs.Scope.{Bytes}
 use Rattle.lua_meaning.specs.Values.{first, rest, third}

@@ -1,7 +1,7 @@
 -- LAWS OF THE MEANING, which the functions of this crate ensure.
 use Rattle.std.specs.Prelude.{◌≡◌, ℕ, ◌+◌, true, false, List, [], ◌∷◌, None}
-use Rattle.wk_base.specs.declared.title.Title.{Title}
-use Rattle.wk_base.specs.declared.left.Left.{Left}
+use Rattle.lua_syntax.specs.WkBaseDeclaredTitleTitle.{Title}
+use Rattle.page_run.specs.WkBaseDeclaredLeftLeft.{Left}
 use Rattle.lua_syntax.specs.Tree.{Exp, Stat, NameE}
 use Rattle.page_run.specs.Run.{Takes, Counts, Calls}
 use Rattle.page_run.specs.Outcome.{Outcome, Goes, Jumps, ◌>>◌, catch}
@@ -9,10 +9,10 @@ use Rattle.page_run.specs.State.{State as Middle, Gives as Responds, Reply, Repl
 use Rattle.page_run.specs.Perform.{perform, NoRise}
 use Rattle.page_run.specs.Events.{BeginsIs, state_after_reply}
 use Rattle.page_run.specs.Charges.{KeepsCalls, RepliesFit, GivenBack}
-use Rattle.lua_heap.specs.Value.{Value, Table, is_nil}
-use Rattle.lua_heap.specs.declared.library.Library.{Library}
-use Rattle.lua_heap.specs.Heap.{Heap}
-use Rattle.lua_heap.specs.Graph.{Graph, join, joined_root}
+use Rattle.lua_walk.specs.LuaHeapValue.{Value, Table, is_nil}
+use Rattle.lua_walk.specs.LuaHeapDeclaredLibraryLibrary.{Library}
+use Rattle.lua_walk.specs.LuaHeapHeap.{Heap}
+use Rattle.lua_walk.specs.LuaHeapGraph.{Graph, join, joined_root}
 use Rattle.lua_meaning.specs.Scope.{Bytes, Scope, Function, Levels, cell_of, levels}
 use Rattle.mw_frame.specs.declared.question.Ask.{Ask}
 use Rattle.mw_frame.specs.declared.question.Ask.TheVariants.{Data}

@@ -1,8 +1,8 @@
 -- LOOPS (manual 2.4.4 and 2.4.5). A turn is a thing that begins once its test is passed; it has fresh local variables.
 use Rattle.std.specs.Prelude.{ℕ, ℤ, pos, ◌+ℤ◌, Bool, List, [], ◌∷◌, Option, Some, None, if◌then◌else◌, int_lt, int_le}
 use Rattle.page_run.specs.Outcome.{Outcome, Goes, Jumps, ◌>>=◌, ◌>>◌, give, jump, catch, count, begin}
-use Rattle.lua_number.specs.Whole.{fits}
-use Rattle.lua_heap.specs.Value.{Value, Number, is_true, is_nil}
+use Rattle.lua_format.specs.LuaNumberWhole.{fits}
+use Rattle.lua_walk.specs.LuaHeapValue.{Value, Number, is_true, is_nil}
 use Rattle.lua_meaning.specs.Scope.{Bytes, Scope, Levels, levels}
 use Rattle.lua_meaning.specs.Values.{first, second, third, number_in}
 use Rattle.lua_meaning.specs.Acts.{Act, Jump, Broke, WhileTurn, RepeatTurn, CountTurn, EachTurn, node, choose, declare}

@@ -5,7 +5,7 @@ use Rattle.lua_syntax.specs.Tree.{Exp, NilE, TrueE, FalseE, NumberE, TextE, Dots
 use Rattle.lua_syntax.specs.Tree.{Exps, NoExp, MoreExp, Fields, NoField, Item, Pair, Fun, Lambda, Block, NoStat, MoreStat, Arms, NoArm, Arm}
 use Rattle.lua_syntax.specs.Tree.{Stat, AssignS, CallS, DoS, WhileS, RepeatS, IfS, IfElseS, CountS, CountByS, EachS, LocalFunctionS, LocalS, ReturnS, BreakS}
 use Rattle.page_run.specs.Outcome.{give}
-use Rattle.lua_heap.specs.Value.{Nil, Truth, Number, Text}
+use Rattle.lua_walk.specs.LuaHeapValue.{Nil, Truth, Number, Text}
 use Rattle.lua_meaning.specs.Scope.{Bytes, cell_of, levels}
 use Rattle.lua_meaning.specs.Acts.{raise}
 use Rattle.lua_meaning.specs.Messages.{no_target}

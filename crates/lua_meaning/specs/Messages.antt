@@ -4,9 +4,9 @@
 use Rattle.std.specs.Prelude.{ℕ, zero, suc, ℤ, pos, negsuc, List, [], ◌∷◌, ◌++◌, length, Option, Some, None, if◌then◌else◌, slice_get, bytes_eq, codes}
 use Rattle.std.specs.Prelude.{decimal}
 use Rattle.page_run.specs.Outcome.{◌>>◌, tick}
-use Rattle.lua_number.specs.declared.arithmetic.NumberFault.{NumberFault}
-use Rattle.lua_number.specs.declared.arithmetic.NumberFault.TheVariants.{OutOfRange, NotWhole, ByZero}
-use Rattle.lua_heap.specs.Value.{Value, Text}
+use Rattle.lua_format.specs.LuaNumberDeclaredArithmeticNumberFault.{NumberFault}
+use Rattle.lua_format.specs.LuaNumberDeclaredArithmeticNumberFaultTheVariants.{OutOfRange, NotWhole, ByZero}
+use Rattle.lua_walk.specs.LuaHeapValue.{Value, Text}
 use Rattle.lua_meaning.specs.Scope.{Bytes, Place, Levels}
 use Rattle.lua_meaning.specs.Values.{kind_of}
 use Rattle.lua_meaning.specs.Acts.{Act, raise}

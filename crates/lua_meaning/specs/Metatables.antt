@@ -1,9 +1,9 @@
 -- HANDLERS (manual 2.8): the fields of metatables by which tables change what operators, indexing and calls do.
 -- Only tables have metatables. A handler is looked up without metamethods, and nil is none.
 use Rattle.std.specs.Prelude.{if◌then◌else◌}
-use Rattle.lua_heap.specs.Value.{Value, Nil, Table, Text, is_nil, same}
-use Rattle.lua_heap.specs.Table.{get}
-use Rattle.lua_heap.specs.Heap.{Heap, table_at}
+use Rattle.lua_walk.specs.LuaHeapValue.{Value, Nil, Table, Text, is_nil, same}
+use Rattle.mw_html.specs.LuaHeapTable.{get}
+use Rattle.lua_walk.specs.LuaHeapHeap.{Heap, table_at}
 use Rattle.lua_meaning.specs.Scope.{Bytes}
 
 -- a field of what stands as a metatable

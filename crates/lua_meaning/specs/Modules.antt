@@ -1,16 +1,17 @@
 -- MODULES (manual 5.3; Scribunto, "require" and mw.loadData).
-use Rattle.std.specs.Prelude.{ℕ, ◌-◌, true, List, [], ◌∷◌, ◌++◌, length, Option, Some, None, Result, Ok, Err, if◌then◌else◌, bytes_eq, slice_index_or, codes}
-use Rattle.wk_base.specs.declared.title.Title.{Title}
-use Rattle.wk_base.specs.declared.title.Namespace.TheVariants.{Main}
-use Rattle.wk_base.specs.declared.title_read.TitleFault.{TitleFault}
-use Rattle.wk_base.specs.Titles.{title_text, title_of}
+use Rattle.std.specs.Prelude.{true, List, [], ◌∷◌, length, Option, Some, None, Result, Ok, Err, if◌then◌else◌, bytes_eq, codes}
+use Rattle.lua_syntax.specs.WkBaseDeclaredTitleTitle.{Title}
+use Rattle.mw_frame.specs.WkBaseDeclaredTitleNamespaceTheVariants.{Main}
+use Rattle.page_run.specs.WkBaseDeclaredTitleReadTitleFault.{TitleFault}
+use Rattle.lua_syntax.specs.WkBaseTitles.{title_text, title_of}
 use Rattle.lua_syntax.specs.declared.fault.FaultAt.{FaultAt}
+use Rattle.lua_syntax.specs.FaultTexts.{fault_message}
 use Rattle.lua_syntax.specs.Tree.{Block}
 use Rattle.page_run.specs.Outcome.{Goes, Jumps, ◌>>=◌, ◌>>◌, give, jump, catch, tick, see, change, begin}
-use Rattle.lua_heap.specs.Value.{Value, Nil, Truth, Text, Table, is_nil}
-use Rattle.lua_heap.specs.Table.{Entries}
-use Rattle.lua_heap.specs.Heap.{set_meta_in}
-use Rattle.lua_heap.specs.declared.library.Library.TheVariants.{StrictIndex, StrictNewIndex}
+use Rattle.lua_walk.specs.LuaHeapValue.{Value, Nil, Truth, Text, Table, is_nil}
+use Rattle.mw_html.specs.LuaHeapTable.{Entries}
+use Rattle.lua_walk.specs.LuaHeapHeap.{set_meta_in}
+use Rattle.lua_walk.specs.LuaHeapDeclaredLibraryLibraryTheVariants.{StrictIndex, StrictNewIndex}
 use Rattle.lua_meaning.specs.Charges.{filled_table_charge}
 use Rattle.lua_meaning.specs.Scope.{Bytes, Levels}
 use Rattle.lua_meaning.specs.World.{Module, World}
@@ -18,26 +19,16 @@ use Rattle.lua_meaning.specs.Titled.{item_of, with_item, without_item}
 use Rattle.mw_frame.specs.declared.question.Ask.TheVariants.{Data}
 use Rattle.lua_meaning.specs.Values.{first, second}
 use Rattle.lua_meaning.specs.Acts.{Act, Raised, Progress, Running, Finished, State, ChunkBody, raise, choose}
-use Rattle.lua_meaning.specs.Messages.{place_text, fail_quoting, no_module, loop_in_require, no_data_module, undeclared_variable, undeclared_target}
+use Rattle.lua_meaning.specs.Messages.{fail_quoting, no_module, loop_in_require, no_data_module, undeclared_variable, undeclared_target}
 use Rattle.lua_meaning.specs.Arguments.{a_text}
 use Rattle.lua_meaning.specs.Frames.{function_entry, with_table}
 use Rattle.lua_meaning.specs.CallBacks.{text_of}
 use Rattle.lua_meaning.specs.Waiting.{Waits, asking, refuse_answer, argument}
 
--- THE TEXTS of a chunk's faults, which are numbered from 1
-abbrev pub fault_texts : List Bytes
-fault_texts =
-    codes "unfinished string" ∷ codes "unfinished long bracket" ∷ codes "escape out of range" ∷ codes "unexpected byte"
-    ∷ codes "unexpected token" ∷ codes "numeral is not a whole number in range" ∷ codes "nested too deeply"
-    ∷ codes "break outside a loop" ∷ codes "call on a new line" ∷ codes "... outside a vararg function" ∷ []
-
-abbrev pub fault_text : ℕ → Bytes
-fault_text kind = slice_index_or fault_texts (kind - 1) []
-
 -- THE TEXT OF A MODULE RUNS: it costs its length; a fault of its text is raised where it would begin
 abbrev pub begin_chunk : Title → Result Block FaultAt → Act (List Value)
 begin_chunk title (Ok b) = begin (ChunkBody (title_text title) b)
-begin_chunk title (Err fault) = raise (Text (place_text (record { source = title_text title; line = fault.line }) ++ fault_text fault.kind))
+begin_chunk title (Err fault) = raise (Text (fault_message title fault))
 
 abbrev pub run_chunk : Title → Module → Act (List Value)
 run_chunk title m = do

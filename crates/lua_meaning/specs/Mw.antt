@@ -1,10 +1,10 @@
 -- FUNCTIONS OF `mw` that call back nobody (Scribunto, mw library and mw.title).
 use Rattle.std.specs.Prelude.{List, [], ◌∷◌, length, codes}
-use Rattle.wk_base.specs.declared.title.Title.{Title}
-use Rattle.wk_base.specs.Titles.{title_text, prefix_of}
-use Rattle.lua_heap.specs.Value.{Value, Nil, Text, Table}
-use Rattle.lua_heap.specs.Table.{Entries}
-use Rattle.lua_heap.specs.Heap.{Heap}
+use Rattle.lua_syntax.specs.WkBaseDeclaredTitleTitle.{Title}
+use Rattle.lua_syntax.specs.WkBaseTitles.{title_text, prefix_of}
+use Rattle.lua_walk.specs.LuaHeapValue.{Value, Nil, Text, Table}
+use Rattle.mw_html.specs.LuaHeapTable.{Entries}
+use Rattle.lua_walk.specs.LuaHeapHeap.{Heap}
 use Rattle.lua_walk.specs.Copy.{copied, copy_cost}
 use Rattle.lua_meaning.specs.Charges.{filled_table_charge}
 use Rattle.lua_meaning.specs.Values.{first}

@@ -1,10 +1,10 @@
 -- FUNCTIONS OF `math` (manual 5.6), over whole numbers of 64 bits. They cost nothing but their call.
 use Rattle.std.specs.Prelude.{ℤ, List, [], ◌∷◌, Option, Result, Ok, Err, codes}
-use Rattle.lua_number.specs.declared.arithmetic.NumberFault.{NumberFault}
-use Rattle.lua_number.specs.Whole.{power_of}
-use Rattle.lua_string.specs.Whole.{abs_of, fmod_of, max_of, min_of}
-use Rattle.lua_heap.specs.Value.{Value, Number}
-use Rattle.lua_heap.specs.Heap.{Heap}
+use Rattle.lua_format.specs.LuaNumberDeclaredArithmeticNumberFault.{NumberFault}
+use Rattle.lua_format.specs.LuaNumberWhole.{power_of}
+use Rattle.mw_text.specs.LuaStringWhole.{abs_of, fmod_of, max_of, min_of}
+use Rattle.lua_walk.specs.LuaHeapValue.{Value, Number}
+use Rattle.lua_walk.specs.LuaHeapHeap.{Heap}
 use Rattle.lua_meaning.specs.Scope.{Bytes}
 use Rattle.lua_meaning.specs.Values.{rest}
 use Rattle.lua_meaning.specs.Messages.{bad_argument, expected, number_fault}

@@ -1,11 +1,11 @@
 -- OPERATORS ON VALUES (manual 2.5.1 to 2.5.5, and 2.8), with the levels of the operator's node.
 use Rattle.std.specs.Prelude.{min, ℤ, pos, Bool, true, false, not, [], ◌∷◌, ◌++◌, length, Option, Some, None, Result, Ok, Err, if◌then◌else◌, int_lt, int_le, nat_lt, ◌==◌, codes}
 use Rattle.page_run.specs.Outcome.{◌>>=◌, ◌>>◌, give, tick}
-use Rattle.lua_number.specs.declared.arithmetic.NumberFault.{NumberFault}
-use Rattle.lua_number.specs.Whole.{sum_of, difference_of, product_of, quotient_of, remainder_of, power_of, negative_of}
-use Rattle.lua_heap.specs.Value.{Value, Truth, Number, Text, Table, same, is_true, is_nil}
-use Rattle.lua_heap.specs.Table.{border}
-use Rattle.lua_heap.specs.Heap.{table_at}
+use Rattle.lua_format.specs.LuaNumberDeclaredArithmeticNumberFault.{NumberFault}
+use Rattle.lua_format.specs.LuaNumberWhole.{sum_of, difference_of, product_of, quotient_of, remainder_of, power_of, negative_of}
+use Rattle.lua_walk.specs.LuaHeapValue.{Value, Truth, Number, Text, Table, same, is_true, is_nil}
+use Rattle.mw_html.specs.LuaHeapTable.{border}
+use Rattle.lua_walk.specs.LuaHeapHeap.{table_at}
 use Rattle.lua_meaning.specs.Scope.{Bytes, Levels}
 use Rattle.lua_meaning.specs.Values.{number_in, text_in}
 use Rattle.lua_meaning.specs.Acts.{Act, choose, one, see_heap}

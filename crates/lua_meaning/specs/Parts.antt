@@ -1,7 +1,7 @@
 -- WHAT PARTS OF THE TREE MEAN: the kinds of their meanings (manual 2.3 to 2.5).
 use Rattle.std.specs.Prelude.{ℕ, List}
 use Rattle.lua_syntax.specs.Tree.{Exp, Block}
-use Rattle.lua_heap.specs.Value.{Value}
+use Rattle.lua_walk.specs.LuaHeapValue.{Value}
 use Rattle.lua_meaning.specs.Scope.{Bytes, Scope, Levels}
 use Rattle.lua_meaning.specs.Acts.{Act}
 

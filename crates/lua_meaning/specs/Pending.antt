@@ -1,8 +1,8 @@
 -- THE TABLES OF WHAT WAITS, by name: a machine that runs Lua keeps these names, and what each does with an outcome is said here.
 use Rattle.std.specs.Prelude.{[], ◌∷◌}
-use Rattle.wk_base.specs.declared.title.Title.{Title}
+use Rattle.lua_syntax.specs.WkBaseDeclaredTitleTitle.{Title}
 use Rattle.page_run.specs.Outcome.{Goes}
-use Rattle.lua_heap.specs.Value.{Value, Text}
+use Rattle.lua_walk.specs.LuaHeapValue.{Value, Text}
 use Rattle.lua_meaning.specs.Scope.{Bytes, Levels}
 use Rattle.lua_meaning.specs.Questions.{Asked, TemplateAsked, TextAsked, DataAsked}
 use Rattle.lua_meaning.specs.Messages.{fail_quoting, no_template}

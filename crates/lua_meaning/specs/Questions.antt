@@ -1,7 +1,7 @@
 -- WHAT A RUN ASKS FROM OUTSIDE, AND ITS ANSWERS (Scribunto, Frame object and mw.loadData).
 -- Arguments, scenes, jobs and the questions themselves (`Arg`, `Scene`, `Job`, `Ask`) are the types of the crate `mw_frame`.
-use Rattle.wk_base.specs.declared.title.Title.{Title}
-use Rattle.lua_heap.specs.Graph.{Graph}
+use Rattle.lua_syntax.specs.WkBaseDeclaredTitleTitle.{Title}
+use Rattle.lua_walk.specs.LuaHeapGraph.{Graph}
 use Rattle.lua_meaning.specs.Scope.{Bytes}
 
 -- ANSWERS. That an allowance is spent with an answer, the run is told otherwise.

@@ -1,7 +1,7 @@
 -- NAMES, FUNCTIONS AND PLACES OF THE TEXT (manual 2.3, 2.5.9, 2.6).
 use Rattle.std.specs.Prelude.{ℕ, List, [], ◌∷◌, Option, Some, None, if◌then◌else◌, bytes_eq}
 use Rattle.lua_syntax.specs.Tree.{Fun}
-use Rattle.lua_heap.specs.Value.{Value}
+use Rattle.lua_walk.specs.LuaHeapValue.{Value}
 
 abbrev pub Bytes : Type 0
 Bytes = List ℕ

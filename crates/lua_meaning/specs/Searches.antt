@@ -1,19 +1,19 @@
 -- `string.find` and `string.match` (manual 5.4). A pattern costs its bytes, each try a step, and each text that is given its bytes; a plain
 -- search costs the bytes of the subject from its start, and those of the needle.
 use Rattle.std.specs.Prelude.{ℕ, suc, ◌+◌, ◌-◌, ℤ, pos, Bool, true, false, List, [], ◌∷◌, length, map, drop, Option, Some, None, codes}
-use Rattle.lua_pattern.specs.declared.pattern.Capture.{Capture}
-use Rattle.lua_pattern.specs.declared.pattern.Capture.TheVariants.{Span, Place}
-use Rattle.lua_pattern.specs.declared.pattern.Match.{Match}
-use Rattle.lua_pattern.specs.declared.slots.Slot.{Slot}
-use Rattle.lua_pattern.specs.Texts.{bytes}
-use Rattle.lua_pattern.specs.Way.{Answer, At, Nowhere, first as first_match}
-use Rattle.lua_pattern.specs.Read.{Read, Fault, Fine, read_of, codes as symbol_codes}
-use Rattle.lua_pattern.specs.Sizes.{find_bytes, match_bytes}
-use Rattle.lua_string.specs.Places.{first_place}
-use Rattle.lua_string.specs.Finds.{place_of, match_of}
-use Rattle.lua_string.specs.Walk.{span}
-use Rattle.lua_heap.specs.Value.{Value, Nil, Number, Text, is_true}
-use Rattle.lua_heap.specs.Heap.{Heap}
+use Rattle.mw_text.specs.LuaPatternDeclaredPatternCapture.{Capture}
+use Rattle.mw_text.specs.LuaPatternDeclaredPatternCaptureTheVariants.{Span, Place}
+use Rattle.mw_text.specs.LuaPatternDeclaredPatternMatch.{Match}
+use Rattle.mw_text.specs.LuaPatternDeclaredSlotsSlot.{Slot}
+use Rattle.mw_text.specs.LuaPatternTexts.{bytes}
+use Rattle.mw_text.specs.LuaPatternWay.{Answer, At, Nowhere, first as first_match}
+use Rattle.mw_text.specs.LuaPatternRead.{Read, Fault, Fine, read_of, codes as symbol_codes}
+use Rattle.mw_text.specs.LuaPatternSizes.{find_bytes, match_bytes}
+use Rattle.mw_text.specs.LuaStringPlaces.{first_place}
+use Rattle.mw_text.specs.LuaStringFinds.{place_of, match_of}
+use Rattle.mw_text.specs.LuaStringWalk.{span}
+use Rattle.lua_walk.specs.LuaHeapValue.{Value, Nil, Number, Text, is_true}
+use Rattle.lua_walk.specs.LuaHeapHeap.{Heap}
 use Rattle.lua_meaning.specs.Scope.{Bytes}
 use Rattle.lua_meaning.specs.Values.{rest}
 use Rattle.lua_meaning.specs.Arguments.{Plain, costs, fails, with_argument, with_charge, a_text, number_or}

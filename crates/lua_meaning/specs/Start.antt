@@ -1,14 +1,14 @@
 -- A WHOLE RUN (Scribunto, "Invoking modules" and mw.loadData): its start with its charges, and its end.
 use Rattle.std.specs.Prelude.{ℕ, List, [], ◌∷◌, ◌++◌, length, Option, Some, None, flat_map, if◌then◌else◌, ◌==◌, codes}
-use Rattle.wk_base.specs.declared.title.Title.{Title}
-use Rattle.wk_base.specs.declared.left.Left.{Left}
-use Rattle.wk_base.specs.Titles.{title_text}
+use Rattle.lua_syntax.specs.WkBaseDeclaredTitleTitle.{Title}
+use Rattle.page_run.specs.WkBaseDeclaredLeftLeft.{Left}
+use Rattle.lua_syntax.specs.WkBaseTitles.{title_text}
 use Rattle.page_run.specs.Run.{Ends}
 use Rattle.page_run.specs.Outcome.{Outcome, Goes, Jumps, ◌>>=◌, ◌>>◌, give, tick, see, change}
 use Rattle.page_run.specs.State.{Reply, Event, start}
 use Rattle.page_run.specs.Perform.{perform, wait}
 use Rattle.mw_html.specs.Render.{Piece, Whole, Deep, count, render}
-use Rattle.lua_heap.specs.Value.{Value, Text, Table, Markup, is_nil}
+use Rattle.lua_walk.specs.LuaHeapValue.{Value, Text, Table, Markup, is_nil}
 use Rattle.lua_meaning.specs.Charges.{run_charge}
 use Rattle.lua_meaning.specs.Scope.{Bytes}
 use Rattle.lua_meaning.specs.World.{Module, World}

@@ -3,7 +3,7 @@
 use Rattle.std.specs.Prelude.{List, [], ◌∷◌, ◌++◌, reverse, Option, Some, None}
 use Rattle.lua_syntax.specs.Tree.{Fun}
 use Rattle.page_run.specs.Outcome.{◌>>=◌, ◌>>◌, give, jump, note, see}
-use Rattle.lua_heap.specs.Value.{Value, Nil, Text, Table, is_true}
+use Rattle.lua_walk.specs.LuaHeapValue.{Value, Nil, Text, Table, is_true}
 use Rattle.lua_meaning.specs.Scope.{Bytes, Scope, with_name, source_of}
 use Rattle.lua_meaning.specs.Values.{first, rest}
 use Rattle.lua_meaning.specs.Acts.{Act, Returned, Broke, node, choose, one, make_cell, write_cell, declare}

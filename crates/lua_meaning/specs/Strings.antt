@@ -2,10 +2,10 @@
 -- for each value.
 use Rattle.std.specs.Prelude.{ℕ, pos, negsuc, List, [], ◌∷◌, length, map, reverse as reversed, codes}
 use Rattle.std.specs.Char.{to_ascii_lowercase, to_ascii_uppercase}
-use Rattle.lua_string.specs.Places.{sub_of}
-use Rattle.lua_string.specs.Texts.{rep_of}
-use Rattle.lua_heap.specs.Value.{Value, Number}
-use Rattle.lua_heap.specs.Heap.{Heap}
+use Rattle.mw_text.specs.LuaStringPlaces.{sub_of}
+use Rattle.mw_text.specs.LuaStringTexts.{rep_of}
+use Rattle.lua_walk.specs.LuaHeapValue.{Value, Number}
+use Rattle.lua_walk.specs.LuaHeapHeap.{Heap}
 use Rattle.lua_meaning.specs.Scope.{Bytes}
 use Rattle.lua_meaning.specs.Values.{rest}
 use Rattle.lua_meaning.specs.Arguments.{Plain, gives, costs, gives_text, with_argument, a_text, a_number, number_or}

@@ -7,11 +7,11 @@ use Rattle.std.specs.Ordering.{nat_cmp, int_cmp, is_le}
 use Rattle.std.specs.Cmp.Lexicographic.{slice_cmp}
 use Rattle.std.specs.declared.cmp.Ordering.{Ordering}
 use Rattle.std.specs.declared.cmp.Ordering.TheVariants.{Equal}
-use Rattle.lua_number.specs.declared.arithmetic.NumberFault.TheVariants.{OutOfRange}
-use Rattle.lua_number.specs.Whole.{fits}
-use Rattle.lua_heap.specs.Value.{Value, Nil, Number, Text, is_nil}
-use Rattle.lua_heap.specs.Table.{Entries, get, border}
-use Rattle.lua_heap.specs.Heap.{Heap, table_at, set_in}
+use Rattle.lua_format.specs.LuaNumberDeclaredArithmeticNumberFaultTheVariants.{OutOfRange}
+use Rattle.lua_format.specs.LuaNumberWhole.{fits}
+use Rattle.lua_walk.specs.LuaHeapValue.{Value, Nil, Number, Text, is_nil}
+use Rattle.mw_html.specs.LuaHeapTable.{Entries, get, border}
+use Rattle.lua_walk.specs.LuaHeapHeap.{Heap, table_at, set_in}
 use Rattle.lua_meaning.specs.Scope.{Bytes}
 use Rattle.lua_meaning.specs.Values.{first, rest, second, third, text_in}
 use Rattle.lua_meaning.specs.Messages.{bad_argument, expected, number_fault, read_only}

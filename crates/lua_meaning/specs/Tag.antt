@@ -1,10 +1,10 @@
 -- A TAG OF HTML as a text (Scribunto, mw.text.tag).
 use Rattle.std.specs.Prelude.{ℕ, true, false, ◌&&◌, List, [], ◌∷◌, ◌++◌, Ok, Err, Option, Some, None, if◌then◌else◌, ◌==◌, codes}
 use Rattle.std.specs.Fmt.{signed_decimal}
-use Rattle.wk_base.specs.Titles.{begins_with}
-use Rattle.lua_heap.specs.Value.{Value, Nil, Truth, Number, Text, Table, is_nil}
-use Rattle.lua_heap.specs.Table.{Entries}
-use Rattle.lua_heap.specs.Heap.{Heap, table_at}
+use Rattle.lua_syntax.specs.WkBaseTitles.{begins_with}
+use Rattle.lua_walk.specs.LuaHeapValue.{Value, Nil, Truth, Number, Text, Table, is_nil}
+use Rattle.mw_html.specs.LuaHeapTable.{Entries}
+use Rattle.lua_walk.specs.LuaHeapHeap.{Heap, table_at}
 use Rattle.lua_meaning.specs.Scope.{Bytes}
 use Rattle.lua_meaning.specs.Values.{second, third, text_in}
 use Rattle.lua_meaning.specs.Messages.{bad_argument, expected}

@@ -2,8 +2,8 @@
 -- those that may be left out. `given` are the arguments from number n on.
 use Rattle.std.specs.Prelude.{ℕ, List, [], ◌∷◌, Option, Some, None, Ok, Err, if◌then◌else◌, codes}
 use Rattle.std.specs.Str.{is_utf8}
-use Rattle.lua_heap.specs.Value.{Value, Nil}
-use Rattle.lua_heap.specs.Heap.{Heap}
+use Rattle.lua_walk.specs.LuaHeapValue.{Value, Nil}
+use Rattle.lua_walk.specs.LuaHeapHeap.{Heap}
 use Rattle.lua_meaning.specs.Scope.{Bytes}
 use Rattle.lua_meaning.specs.Messages.{bad_argument}
 use Rattle.lua_meaning.specs.Arguments.{Plain, with_charge, Argument, a_text, text_charge}

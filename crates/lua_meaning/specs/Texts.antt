@@ -1,16 +1,16 @@
 -- FUNCTIONS OF `mw.text` that call back nobody (Scribunto, Text library), behind the charge of their arguments (`of_texts`). A text that
 -- is given costs its bytes.
 use Rattle.std.specs.Prelude.{ℕ, suc, ◌+◌, pos, Bool, true, false, List, [], ◌∷◌, length, Option, Some, None, Result, Ok, Err, codes, chars, encode_utf8_all}
-use Rattle.lua_pattern.specs.declared.item.Set.{Set}
+use Rattle.mw_text.specs.LuaPatternDeclaredItemSet.{Set}
 use Rattle.mw_text.specs.Sets.{chosen_set, member}
 use Rattle.mw_text.specs.Trim.{is_space, trimmed, trim_tries}
 use Rattle.mw_text.specs.Split.{Sought, sought_by, parts_of}
 use Rattle.mw_text.specs.References.{is_special, encoded, nowiki_of}
 use Rattle.mw_text.specs.Decode.{decoded}
 use Rattle.mw_text.specs.Joined.{joined, truncated}
-use Rattle.lua_heap.specs.Value.{Value, Nil, Number, Text, Table, is_true}
-use Rattle.lua_heap.specs.Table.{Entries, border}
-use Rattle.lua_heap.specs.Heap.{Heap, table_at}
+use Rattle.lua_walk.specs.LuaHeapValue.{Value, Nil, Number, Text, Table, is_true}
+use Rattle.mw_html.specs.LuaHeapTable.{Entries, border}
+use Rattle.lua_walk.specs.LuaHeapHeap.{Heap, table_at}
 use Rattle.lua_meaning.specs.Charges.{table_charge, entry_charge}
 use Rattle.lua_meaning.specs.Scope.{Bytes}
 use Rattle.lua_meaning.specs.Values.{rest, second, third}

@@ -2,7 +2,7 @@
 use Rattle.std.specs.Prelude.{List, [], length, drop, if◌then◌else◌}
 use Rattle.page_run.specs.Outcome.{Outcome, Goes, Jumps, ◌>>=◌, ◌>>◌, give, jump, catch, count, in_call}
 use Rattle.lua_syntax.specs.Tree.{Block}
-use Rattle.lua_heap.specs.Value.{Value}
+use Rattle.lua_walk.specs.LuaHeapValue.{Value}
 use Rattle.lua_meaning.specs.World.{World}
 use Rattle.lua_meaning.specs.Scope.{Bytes, Scope, Function, Levels}
 use Rattle.lua_meaning.specs.Acts.{Act, Jump, Returned, Thing, WhileTurn, RepeatTurn, CountTurn, EachTurn, Body, LibraryBody, ChunkBody, IndexLink, SetLink, CallLink, declare}
@@ -10,7 +10,7 @@ use Rattle.lua_meaning.specs.Calls.{call}
 use Rattle.lua_meaning.specs.Index.{index_link, set_link}
 use Rattle.lua_meaning.specs.Loops.{while_turn, repeat_turn, count_turn, each_turn}
 use Rattle.lua_meaning.specs.Meaning.{params_of, has_dots, body_of, block, exp_part, block_part}
-use Rattle.lua_heap.specs.declared.library.Library.{Library}
+use Rattle.lua_walk.specs.LuaHeapDeclaredLibraryLibrary.{Library}
 use Rattle.lua_meaning.specs.Libraries.{library}
 
 -- FUNCTIONS (manual 2.5.9). The arguments beyond the parameters are the values of `...`, if the function has it.

@@ -1,7 +1,7 @@
 -- WHAT IS KEPT BY TITLE: at most one item for each title. Two titles are one where their texts are.
 use Rattle.std.specs.Prelude.{Bool, List, [], ◌∷◌, Option, Some, None, if◌then◌else◌, bytes_eq}
-use Rattle.wk_base.specs.declared.title.Title.{Title}
-use Rattle.wk_base.specs.Titles.{title_text}
+use Rattle.lua_syntax.specs.WkBaseDeclaredTitleTitle.{Title}
+use Rattle.lua_syntax.specs.WkBaseTitles.{title_text}
 
 abbrev pub same_title : Title → Title → Bool
 same_title a b = bytes_eq (title_text a) (title_text b)

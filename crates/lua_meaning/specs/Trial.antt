@@ -1,15 +1,15 @@
 -- SMALL WORLDS for worked examples: a module, whose function `f` is invoked.
 use Rattle.std.specs.Prelude.{ℕ, List, [], ◌∷◌, Some, None, Ok, Err, if◌then◌else◌, codes}
-use Rattle.wk_base.specs.declared.title.Title.{Title}
-use Rattle.wk_base.specs.declared.title.Namespace.TheVariants.{Main, Module as ModuleSpace, Template as TemplateSpace}
-use Rattle.wk_base.specs.declared.left.Left.{Left}
+use Rattle.lua_syntax.specs.WkBaseDeclaredTitleTitle.{Title}
+use Rattle.mw_frame.specs.WkBaseDeclaredTitleNamespaceTheVariants.{Main, Module as ModuleSpace, Template as TemplateSpace}
+use Rattle.page_run.specs.WkBaseDeclaredLeftLeft.{Left}
 use Rattle.page_run.specs.declared.which.Which.{Which}
 use Rattle.page_run.specs.Outcome.{Outcome, Goes, Jumps}
 use Rattle.page_run.specs.State.{Reply, Gives as Says, Exhausts, no_tally, Event, Ended, Spent, Asked, moment_of, start}
 use Rattle.page_run.specs.Perform.{wait}
 use Rattle.page_run.specs.Trace.{Note, trace}
 use Rattle.lua_syntax.specs.Tree.{Block}
-use Rattle.lua_heap.specs.Value.{Value, Text, Table}
+use Rattle.lua_walk.specs.LuaHeapValue.{Value, Text, Table}
 use Rattle.lua_meaning.specs.Scope.{Bytes}
 use Rattle.mw_frame.specs.declared.scene.Arg.{Arg}
 use Rattle.mw_frame.specs.declared.scene.Scene.{Scene}

@@ -3,19 +3,19 @@
 use Rattle.std.specs.Prelude.{ℕ, suc, ◌+◌, ◌-◌, ℤ, pos, negsuc, Bool, true, false, List, [], ◌∷◌, length, map, take, drop, Option, Some, None, Ok, Err, if◌then◌else◌, codes, chars, encode_utf8_all}
 use Rattle.std.specs.Str.{is_utf8}
 use Rattle.unicode_normalization.specs.Forms.{Form, Nfc, Nfd, Nfkc, Nfkd, normalize}
-use Rattle.lua_pattern.specs.declared.pattern.Capture.{Capture}
-use Rattle.lua_pattern.specs.declared.pattern.Capture.TheVariants.{Span, Place}
-use Rattle.lua_pattern.specs.declared.pattern.Match.{Match}
-use Rattle.lua_pattern.specs.declared.slots.Slot.{Slot}
-use Rattle.lua_pattern.specs.Texts.{points}
-use Rattle.lua_pattern.specs.Way.{Answer, At, Nowhere, first as first_match}
-use Rattle.lua_pattern.specs.Read.{Read, Fault, Fine, read_of, codes as codes_in}
-use Rattle.lua_pattern.specs.Sizes.{find_bytes, match_bytes}
-use Rattle.lua_string.specs.Finds.{match_of, place_of}
-use Rattle.mw_ustring.specs.Texts.{points_of, text_of_codes, byteoffset_of}
-use Rattle.mw_ustring.specs.Finds.{start_of}
-use Rattle.lua_heap.specs.Value.{Value, Nil, Truth, Number, Text, is_true}
-use Rattle.lua_heap.specs.Heap.{Heap}
+use Rattle.mw_text.specs.LuaPatternDeclaredPatternCapture.{Capture}
+use Rattle.mw_text.specs.LuaPatternDeclaredPatternCaptureTheVariants.{Span, Place}
+use Rattle.mw_text.specs.LuaPatternDeclaredPatternMatch.{Match}
+use Rattle.mw_text.specs.LuaPatternDeclaredSlotsSlot.{Slot}
+use Rattle.mw_text.specs.LuaPatternTexts.{points}
+use Rattle.mw_text.specs.LuaPatternWay.{Answer, At, Nowhere, first as first_match}
+use Rattle.mw_text.specs.LuaPatternRead.{Read, Fault, Fine, read_of, codes as codes_in}
+use Rattle.mw_text.specs.LuaPatternSizes.{find_bytes, match_bytes}
+use Rattle.mw_text.specs.LuaStringFinds.{match_of, place_of}
+use Rattle.mw_text.specs.MwUstringTexts.{points_of, text_of_codes, byteoffset_of}
+use Rattle.mw_text.specs.MwUstringFinds.{start_of}
+use Rattle.lua_walk.specs.LuaHeapValue.{Value, Nil, Truth, Number, Text, is_true}
+use Rattle.lua_walk.specs.LuaHeapHeap.{Heap}
 use Rattle.lua_meaning.specs.Scope.{Bytes}
 use Rattle.lua_meaning.specs.Values.{rest}
 use Rattle.lua_meaning.specs.Messages.{bad_argument}

@@ -1,8 +1,8 @@
 -- VALUES AND LISTS OF VALUES (manual 2.2, 2.2.1, 2.4.3 and 2.5).
 use Rattle.std.specs.Prelude.{ℤ, Bool, true, false, List, [], ◌∷◌, Option, Some, None, codes}
 use Rattle.std.specs.Fmt.{signed_decimal}
-use Rattle.lua_number.specs.Numerals.{read_number_of}
-use Rattle.lua_heap.specs.Value.{Value, Nil, Truth, Number, Text, Table, Closure, Builtin, Markup}
+use Rattle.lua_format.specs.LuaNumberNumerals.{read_number_of}
+use Rattle.lua_walk.specs.LuaHeapValue.{Value, Nil, Truth, Number, Text, Table, Closure, Builtin, Markup}
 use Rattle.lua_meaning.specs.Scope.{Bytes}
 
 -- the name of a value's kind, as `type` gives it (manual 5.1); an object of mw.html is a table

@@ -1,8 +1,8 @@
 -- WHAT WAITS for the outcome of a call, or for the answer to a question.
 use Rattle.std.specs.Prelude.{true, List, [], ◌∷◌, length, Ok, Err}
 use Rattle.page_run.specs.Outcome.{Outcome, Goes, Jumps, ◌>>=◌, ◌>>◌, give, jump, catch, tick, ask}
-use Rattle.lua_heap.specs.Value.{Value, Text}
-use Rattle.lua_heap.specs.Graph.{join, joined_root}
+use Rattle.lua_walk.specs.LuaHeapValue.{Value, Text}
+use Rattle.lua_walk.specs.LuaHeapGraph.{join, joined_root}
 use Rattle.lua_meaning.specs.Scope.{Bytes, Levels}
 use Rattle.mw_frame.specs.declared.question.Ask.{Ask}
 use Rattle.lua_meaning.specs.Questions.{Answer, Expanded, NoPage, Loaded, LoadFailed}

@@ -1,6 +1,6 @@
 -- THE WORLD of a run, which nothing in it changes: the title of the page that is expanded, and the modules.
 use Rattle.std.specs.Prelude.{ℕ, Option, Result}
-use Rattle.wk_base.specs.declared.title.Title.{Title}
+use Rattle.lua_syntax.specs.WkBaseDeclaredTitleTitle.{Title}
 use Rattle.lua_syntax.specs.declared.fault.FaultAt.{FaultAt}
 use Rattle.lua_syntax.specs.Tree.{Block}
 

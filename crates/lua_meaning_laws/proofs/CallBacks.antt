@@ -1,17 +1,17 @@
 -- What waits, and functions of the library that call back.
 use Rattle.std.specs.Prelude.{ℤ, pos, ◌+ℤ◌, codes, true, List, [], ◌∷◌, Option, Some, None, Ok, Err}
-use Rattle.page_run.specs.Outcome.{Outcome, Goes, Jumps}
-use Rattle.mw_frame.specs.declared.question.Ask.{Ask}
-use Rattle.lua_heap.specs.Value.{Value, Nil, Number, Table, Builtin, Markup}
-use Rattle.lua_heap.specs.declared.library.Library.TheVariants.{BasicNext, IpairsStep}
-use Rattle.lua_heap.specs.Graph.{join, joined_root}
-use Rattle.lua_heap.specs.Table.{get}
-use Rattle.lua_heap.specs.Heap.{table_at}
+use Rattle.lua_meaning.specs.PageRunOutcome.{Outcome, Goes, Jumps}
+use Rattle.lua_meaning.specs.MwFrameDeclaredQuestionAsk.{Ask}
+use Rattle.lua_meaning.specs.LuaHeapValue.{Value, Nil, Number, Table, Builtin, Markup}
+use Rattle.lua_meaning.specs.LuaHeapDeclaredLibraryLibraryTheVariants.{BasicNext, IpairsStep}
+use Rattle.lua_meaning.specs.LuaHeapGraph.{join, joined_root}
+use Rattle.lua_meaning.specs.LuaHeapTable.{get}
+use Rattle.lua_meaning.specs.LuaHeapHeap.{table_at}
 use Rattle.lua_meaning.specs.Scope.{Bytes, Levels}
 use Rattle.lua_meaning.specs.Questions.{Answer, Expanded, NoPage, Loaded, LoadFailed}
 use Rattle.lua_meaning.specs.Values.{text_in, first, rest}
 use Rattle.lua_meaning.specs.Metatables.{handler}
-use Rattle.lua_number.specs.Whole.{fits}
+use Rattle.lua_meaning.specs.LuaNumberWhole.{fits}
 use Rattle.lua_meaning.specs.Acts.{Act, Jump, Raised}
 use Rattle.lua_meaning.specs.Arguments.{Argument, a_table, a_number}
 use Rattle.lua_meaning.specs.Html.{text_of_object}

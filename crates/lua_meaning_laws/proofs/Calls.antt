@@ -1,8 +1,8 @@
 -- Calls, indexing, and assignment to an index.
 use Rattle.std.specs.Prelude.{ℕ, List, [], ◌∷◌, Option, Some, None, codes}
-use Rattle.lua_heap.specs.Value.{Value, Table, Text, Closure, Builtin, Markup, is_nil}
-use Rattle.lua_heap.specs.Table.{get}
-use Rattle.lua_heap.specs.Heap.{Heap, Closed, Function as FunctionClosed, Iterator, closure_at, table_at}
+use Rattle.lua_meaning.specs.LuaHeapValue.{Value, Table, Text, Closure, Builtin, Markup, is_nil}
+use Rattle.lua_meaning.specs.LuaHeapTable.{get}
+use Rattle.lua_meaning.specs.LuaHeapHeap.{Heap, Closed, Function as FunctionClosed, Iterator, closure_at, table_at}
 use Rattle.lua_meaning.specs.Scope.{Function, Levels}
 use Rattle.lua_meaning.specs.Messages.{read_only, nil_key}
 use Rattle.lua_meaning.specs.Metatables.{handler}

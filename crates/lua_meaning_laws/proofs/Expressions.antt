@@ -1,11 +1,11 @@
 -- Expressions, and constructors of tables.
 use Rattle.std.specs.Prelude.{ℕ, ◌+◌, pos, Bool, true, false, not, List, [], ◌∷◌, ◌++◌, length, Option, Some, None}
-use Rattle.lua_syntax.specs.declared.BinaryOp.{BinaryOp}
-use Rattle.lua_syntax.specs.declared.BinaryOp.TheVariants as op
-use Rattle.lua_syntax.specs.declared.UnaryOp.{UnaryOp}
-use Rattle.lua_syntax.specs.declared.UnaryOp.TheVariants as sign
-use Rattle.lua_syntax.specs.Tree.{Fun}
-use Rattle.lua_heap.specs.Value.{Value, Number, Text, Table, is_true}
+use Rattle.lua_meaning.specs.LuaSyntaxDeclaredBinaryOp.{BinaryOp}
+use Rattle.lua_meaning.specs.LuaSyntaxDeclaredBinaryOpTheVariants as op
+use Rattle.lua_meaning.specs.LuaSyntaxDeclaredUnaryOp.{UnaryOp}
+use Rattle.lua_meaning.specs.LuaSyntaxDeclaredUnaryOpTheVariants as sign
+use Rattle.lua_meaning.specs.LuaSyntaxTree.{Fun}
+use Rattle.lua_meaning.specs.LuaHeapValue.{Value, Number, Text, Table, is_true}
 use Rattle.lua_meaning.specs.Scope.{Bytes, Scope, Levels, cell_of, levels}
 use Rattle.lua_meaning.specs.Operators.{Operator, Less, Greater, AtMost, AtLeast, Equal, Unequal, Concatenate, Calculate, Add, Sub, Mul, Div, Mod, Pow}
 use Rattle.lua_meaning.specs.Parts.{Expression, Entry, FieldMeaning, ItemOf, PairOf}

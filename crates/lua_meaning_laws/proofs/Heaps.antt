@@ -1,7 +1,7 @@
 -- Nodes, the heap, local variables and errors.
 use Rattle.std.specs.Prelude.{ℕ, List, [], ◌∷◌, ◌++◌, length, Option, Some, None}
-use Rattle.lua_heap.specs.Value.{Value, Closure, Text}
-use Rattle.lua_heap.specs.Heap.{Heap, Function as FunctionClosed, cell_at, set_cell_in, new_table, new_cell, new_closure}
+use Rattle.lua_meaning.specs.LuaHeapValue.{Value, Closure, Text}
+use Rattle.lua_meaning.specs.LuaHeapHeap.{Heap, Function as FunctionClosed, cell_at, set_cell_in, new_table, new_cell, new_closure}
 use Rattle.lua_meaning.specs.Scope.{Bytes, Scope, Place, Function, Levels, with_name}
 use Rattle.lua_meaning.specs.Values.{first, rest}
 use Rattle.lua_meaning.specs.Acts as acts

@@ -1,7 +1,7 @@
 -- Loops and their turns.
 use Rattle.std.specs.Prelude.{ℕ, ℤ, List, [], ◌∷◌, Option, Some, None}
-use Rattle.page_run.specs.Outcome.{Outcome, Goes, Jumps}
-use Rattle.lua_heap.specs.Value.{Value, Number, is_true, is_nil}
+use Rattle.lua_meaning.specs.PageRunOutcome.{Outcome, Goes, Jumps}
+use Rattle.lua_meaning.specs.LuaHeapValue.{Value, Number, is_true, is_nil}
 use Rattle.lua_meaning.specs.Scope.{Bytes, Scope, Levels, levels}
 use Rattle.lua_meaning.specs.Values.{first, second, third, number_in}
 use Rattle.lua_meaning.specs.Messages.{no_initial_value, no_limit, no_step}

@@ -1,14 +1,14 @@
 -- Modules and data modules.
 use Rattle.std.specs.Prelude.{codes, bytes_eq, true, List, [], ◌∷◌, Option, Some, None, Result, Ok, Err}
-use Rattle.page_run.specs.Outcome.{Outcome, Goes, Jumps}
-use Rattle.wk_base.specs.declared.title.Title.{Title}
-use Rattle.wk_base.specs.declared.title_read.TitleFault.{TitleFault}
-use Rattle.wk_base.specs.declared.title.Namespace.TheVariants.{Main}
-use Rattle.wk_base.specs.Titles.{title_of}
-use Rattle.lua_syntax.specs.declared.fault.FaultAt.{FaultAt}
-use Rattle.lua_syntax.specs.Tree.{Block}
-use Rattle.mw_frame.specs.declared.question.Ask.TheVariants.{Data}
-use Rattle.lua_heap.specs.Value.{Value, Truth, Table}
+use Rattle.lua_meaning.specs.PageRunOutcome.{Outcome, Goes, Jumps}
+use Rattle.lua_meaning.specs.WkBaseDeclaredTitleTitle.{Title}
+use Rattle.lua_meaning.specs.WkBaseDeclaredTitleReadTitleFault.{TitleFault}
+use Rattle.lua_meaning.specs.WkBaseDeclaredTitleNamespaceTheVariants.{Main}
+use Rattle.lua_meaning.specs.WkBaseTitles.{title_of}
+use Rattle.lua_meaning.specs.LuaSyntaxDeclaredFaultFaultAt.{FaultAt}
+use Rattle.lua_meaning.specs.LuaSyntaxTree.{Block}
+use Rattle.lua_meaning.specs.MwFrameDeclaredQuestionAskTheVariants.{Data}
+use Rattle.lua_meaning.specs.LuaHeapValue.{Value, Truth, Table}
 use Rattle.lua_meaning.specs.Scope.{Bytes, Levels}
 use Rattle.lua_meaning.specs.Titled.{item_of, with_item, without_item}
 use Rattle.lua_meaning.specs.World.{Module, World}

@@ -2,11 +2,11 @@
 -- so if the run is so after each of its outcomes. With the two operators of this file the proof of a `do` block is that block again,
 -- with the proof of each line in its place.
 use Rattle.std.specs.Prelude.{◌≡◌, ℕ, Bool, true, false, List, [], ◌∷◌}
-use Rattle.page_run.specs.Run.{Ends, Takes, Counts, Notes, Sees, Changes, Calls, Leaves, Uses, Begins, Opens, Asks}
-use Rattle.page_run.specs.Outcome.{Outcome, Goes, Jumps, on_value}
-use Rattle.page_run.specs.Outcome as act
-use Rattle.mw_frame.specs.declared.question.Ask.{Ask}
-use Rattle.lua_heap.specs.Value.{Value}
+use Rattle.lua_meaning.specs.PageRunRun.{Ends, Takes, Counts, Notes, Sees, Changes, Calls, Leaves, Uses, Begins, Opens, Asks}
+use Rattle.lua_meaning.specs.PageRunOutcome.{Outcome, Goes, Jumps, on_value}
+use Rattle.lua_meaning.specs.PageRunOutcome as act
+use Rattle.lua_meaning.specs.MwFrameDeclaredQuestionAsk.{Ask}
+use Rattle.lua_meaning.specs.LuaHeapValue.{Value}
 use Rattle.lua_meaning.specs.Scope.{Scope}
 use Rattle.lua_meaning.specs.Questions.{Answer}
 use Rattle.lua_meaning.specs.Acts as acts

@@ -1,9 +1,9 @@
 -- Operators on values.
 use Rattle.std.specs.Prelude.{ℤ, pos, codes, Bool, true, not, [], ◌∷◌, Option, Some, None, Result, Ok, Err}
-use Rattle.lua_number.specs.declared.arithmetic.NumberFault.{NumberFault}
-use Rattle.lua_heap.specs.Value.{Value, Truth, Number, Text, Table, same, is_true}
-use Rattle.lua_heap.specs.Table.{border}
-use Rattle.lua_heap.specs.Heap.{table_at}
+use Rattle.lua_meaning.specs.LuaNumberDeclaredArithmeticNumberFault.{NumberFault}
+use Rattle.lua_meaning.specs.LuaHeapValue.{Value, Truth, Number, Text, Table, same, is_true}
+use Rattle.lua_meaning.specs.LuaHeapTable.{border}
+use Rattle.lua_meaning.specs.LuaHeapHeap.{table_at}
 use Rattle.lua_meaning.specs.Scope.{Bytes, Levels}
 use Rattle.lua_meaning.specs.Values.{number_in, text_in}
 use Rattle.lua_meaning.specs.Acts.{Act}

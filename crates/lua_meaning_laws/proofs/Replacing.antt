@@ -1,7 +1,7 @@
 -- `gsub`.
 use Rattle.std.specs.Prelude.{zero, suc, ℕ, List, []}
-use Rattle.page_run.specs.Outcome.{Outcome}
-use Rattle.lua_heap.specs.Value.{Value, Table}
+use Rattle.lua_meaning.specs.PageRunOutcome.{Outcome}
+use Rattle.lua_meaning.specs.LuaHeapValue.{Value, Table}
 use Rattle.lua_meaning.specs.Scope.{Bytes, Function, Levels}
 use Rattle.lua_meaning.specs.Values.{first}
 use Rattle.lua_meaning.specs.Acts.{Act, Jump}

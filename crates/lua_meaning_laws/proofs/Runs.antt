@@ -1,14 +1,14 @@
 -- From runs to what is seen of them: one induction over events. Where a run asks for data alone and there are no frames, so it is with
 -- each event that it comes to.
 use Rattle.std.proofs.Common.{◌≡◌, ℕ, zero, suc, List, [], ◌∷◌, Option, Some, None, refl, ap, ◌∙◌}
-use Rattle.wk_base.specs.declared.title.Title.{Title}
-use Rattle.wk_base.specs.Titles.{title_text}
-use Rattle.page_run.specs.Run.{Ends, Takes, Counts, Notes, Sees, Changes, Calls, Leaves, Uses, Begins, Opens, Asks}
-use Rattle.page_run.specs.Outcome.{Outcome}
-use Rattle.page_run.specs.State.{Response, Gives, Exhausts, Reply, State as Middle, Event, start}
-use Rattle.page_run.specs.Perform.{less, with_steps, enter_call, with_call, give_back, leave_call, count_node, take_reply, after_response, with_reply, nothing_begins, perform_with, perform_by, perform, to_come, wait}
-use Rattle.mw_frame.specs.declared.question.Ask.{Ask}
-use Rattle.lua_heap.specs.Value.{Value}
+use Rattle.lua_meaning.specs.WkBaseDeclaredTitleTitle.{Title}
+use Rattle.lua_meaning.specs.WkBaseTitles.{title_text}
+use Rattle.lua_meaning.specs.PageRunRun.{Ends, Takes, Counts, Notes, Sees, Changes, Calls, Leaves, Uses, Begins, Opens, Asks}
+use Rattle.lua_meaning.specs.PageRunOutcome.{Outcome}
+use Rattle.lua_meaning.specs.PageRunState.{Response, Gives, Exhausts, Reply, State as Middle, Event, start}
+use Rattle.lua_meaning.specs.PageRunPerform.{less, with_steps, enter_call, with_call, give_back, leave_call, count_node, take_reply, after_response, with_reply, nothing_begins, perform_with, perform_by, perform, to_come, wait}
+use Rattle.lua_meaning.specs.MwFrameDeclaredQuestionAsk.{Ask}
+use Rattle.lua_meaning.specs.LuaHeapValue.{Value}
 use Rattle.lua_meaning.specs.Questions.{Answer}
 use Rattle.lua_meaning.specs.Charges.{run_charge}
 use Rattle.lua_meaning.specs.Values.{first}

@@ -1,7 +1,7 @@
 -- Statements and blocks.
 use Rattle.std.specs.Prelude.{List, [], ◌∷◌, ◌++◌, reverse, Option, Some, None}
-use Rattle.lua_syntax.specs.Tree.{Fun}
-use Rattle.lua_heap.specs.Value.{Value, Nil, Text, Table, is_true}
+use Rattle.lua_meaning.specs.LuaSyntaxTree.{Fun}
+use Rattle.lua_meaning.specs.LuaHeapValue.{Value, Nil, Text, Table, is_true}
 use Rattle.lua_meaning.specs.Scope.{Bytes, Scope, with_name}
 use Rattle.lua_meaning.specs.Acts.{Returned, Broke}
 use Rattle.lua_meaning.specs.Parts.{Expression, Targeted, Statement, Branch, Target, Local, Global, Entry}

@@ -1,10 +1,10 @@
 -- The functions of the library, and all things that begin.
 use Rattle.std.proofs.Common.{subst, sym}
 use Rattle.std.specs.Prelude.{List, [], ◌∷◌}
-use Rattle.page_run.specs.Outcome.{Outcome, Goes, Jumps}
-use Rattle.lua_syntax.specs.Tree.{Block}
-use Rattle.lua_heap.specs.declared.library.Library.{Library}
-use Rattle.lua_heap.specs.Value.{Value}
+use Rattle.lua_meaning.specs.PageRunOutcome.{Outcome, Goes, Jumps}
+use Rattle.lua_meaning.specs.LuaSyntaxTree.{Block}
+use Rattle.lua_meaning.specs.LuaHeapDeclaredLibraryLibrary.{Library}
+use Rattle.lua_meaning.specs.LuaHeapValue.{Value}
 use Rattle.lua_meaning.specs.Scope.{Bytes, Scope, Function, Levels}
 use Rattle.lua_meaning.specs.World.{World}
 use Rattle.lua_meaning.specs.Acts.{Jump, Returned, Frame, Thing, WhileTurn, RepeatTurn, CountTurn, EachTurn, Body, LibraryBody, ChunkBody, IndexLink, SetLink, CallLink}

@@ -1,9 +1,9 @@
 -- The forms of the tree: one line for each, by recursion on the tree.
 use Rattle.std.specs.Prelude.{true, false, Some, None}
-use Rattle.lua_syntax.specs.Tree.{Exp, NilE, TrueE, FalseE, NumberE, TextE, DotsE, FunctionE, NameE, IndexE, CallE, MethodE, TableE, BinaryE, UnaryE, ParenE}
-use Rattle.lua_syntax.specs.Tree.{Exps, NoExp, MoreExp, Fields, NoField, Item, Pair, Fun, Lambda, Block, NoStat, MoreStat, Arms, NoArm, Arm}
-use Rattle.lua_syntax.specs.Tree.{Stat, AssignS, CallS, DoS, WhileS, RepeatS, IfS, IfElseS, CountS, CountByS, EachS, LocalFunctionS, LocalS, ReturnS, BreakS}
-use Rattle.lua_heap.specs.Value.{Nil, Truth, Number, Text}
+use Rattle.lua_meaning.specs.LuaSyntaxTree.{Exp, NilE, TrueE, FalseE, NumberE, TextE, DotsE, FunctionE, NameE, IndexE, CallE, MethodE, TableE, BinaryE, UnaryE, ParenE}
+use Rattle.lua_meaning.specs.LuaSyntaxTree.{Exps, NoExp, MoreExp, Fields, NoField, Item, Pair, Fun, Lambda, Block, NoStat, MoreStat, Arms, NoArm, Arm}
+use Rattle.lua_meaning.specs.LuaSyntaxTree.{Stat, AssignS, CallS, DoS, WhileS, RepeatS, IfS, IfElseS, CountS, CountByS, EachS, LocalFunctionS, LocalS, ReturnS, BreakS}
+use Rattle.lua_meaning.specs.LuaHeapValue.{Nil, Truth, Number, Text}
 use Rattle.lua_meaning.specs.Scope.{Scope}
 use Rattle.lua_meaning.specs.Meaning as tree
 use Rattle.lua_meaning_laws.proofs.OnlyData.{Quiet, Everywhere, Each, give, raise}

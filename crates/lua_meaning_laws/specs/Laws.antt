@@ -1,11 +1,11 @@
 -- WHAT THE RUN OF A DATA MODULE ASKS (Scribunto, mw.loadData). It has no frame, so it can neither expand a template nor preprocess a
 -- text; all that it can ask for is another data module.
 use Rattle.std.specs.Prelude.{List}
-use Rattle.wk_base.specs.declared.title.Title.{Title}
-use Rattle.wk_base.specs.declared.left.Left.{Left}
-use Rattle.page_run.specs.State.{Reply, Event, Ended, Spent, Asked}
-use Rattle.mw_frame.specs.declared.question.Ask.{Ask}
-use Rattle.mw_frame.specs.declared.question.Ask.TheVariants.{Template, Preprocess, Data}
+use Rattle.lua_meaning.specs.WkBaseDeclaredTitleTitle.{Title}
+use Rattle.lua_meaning.specs.WkBaseDeclaredLeftLeft.{Left}
+use Rattle.lua_meaning.specs.PageRunState.{Reply, Event, Ended, Spent, Asked}
+use Rattle.lua_meaning.specs.MwFrameDeclaredQuestionAsk.{Ask}
+use Rattle.lua_meaning.specs.MwFrameDeclaredQuestionAskTheVariants.{Template, Preprocess, Data}
 use Rattle.lua_meaning.specs.World.{World}
 use Rattle.lua_meaning.specs.Questions.{Answer}
 use Rattle.lua_meaning.specs.Acts.{State}

@@ -1,1 +1,19 @@
+pub use Rattle.lua_meaning.specs.Acts as LuaMeaningActs
+pub use Rattle.lua_meaning.specs.Charges as LuaMeaningCharges
+pub use Rattle.lua_meaning.specs.Home as LuaMeaningHome
+pub use Rattle.lua_meaning.specs.LuaHeapGraph as LuaHeapGraph
+pub use Rattle.lua_meaning.specs.LuaHeapHeap as LuaHeapHeap
+pub use Rattle.lua_meaning.specs.LuaHeapValue as LuaHeapValue
+pub use Rattle.lua_meaning.specs.LuaNumberNumerals as LuaNumberNumerals
+pub use Rattle.lua_meaning.specs.LuaWalkData as LuaWalkData
+pub use Rattle.lua_meaning.specs.Messages as LuaMeaningMessages
+pub use Rattle.lua_meaning.specs.MwFrameDeclaredQuestionAsk as MwFrameDeclaredQuestionAsk
+pub use Rattle.lua_meaning.specs.MwFrameDeclaredQuestionAskTheVariants as MwFrameDeclaredQuestionAskTheVariants
+pub use Rattle.lua_meaning.specs.Questions as LuaMeaningQuestions
+pub use Rattle.lua_meaning.specs.Scope as LuaMeaningScope
+pub use Rattle.lua_meaning.specs.Start as LuaMeaningStart
+pub use Rattle.lua_meaning.specs.Things as LuaMeaningThings
+pub use Rattle.lua_meaning.specs.Trial as LuaMeaningTrial
+pub use Rattle.lua_meaning.specs.Values as LuaMeaningValues
+pub use Rattle.lua_meaning.specs.World as LuaMeaningWorld
 pub mod Laws

@@ -1,13 +1,13 @@
 -- A NEW TABLE is filled, and becomes a metatable.
 use Rattle.std.proofs.Common.{◌≡◌, ◌∙◌, refl, ap, ℕ, [], ◌∷◌, ◌++◌, length, slice_set}
-use Rattle.lua_table.specs.Entries.{Contents}
-use Rattle.lua_heap.specs.Value.{Value, Nil, Table}
-use Rattle.lua_heap.specs.Table.{Entries, empty_table}
-use Rattle.lua_heap.specs.Heap.{Heap, with_entry, new_table, set_meta_in}
-use Rattle.lua_meaning.specs.Frames.{with_table}
-use Rattle.lua_meaning.specs.Modules.{strict_meta}
-use Rattle.lua_graph.specs.Put.{filled}
-use Rattle.lua_graph.proofs.Joining.{with_tables, at_seam, set_seam, all_set}
+use Rattle.lua_code.specs.LuaTableEntries.{Contents}
+use Rattle.lua_code.specs.LuaHeapValue.{Value, Nil, Table}
+use Rattle.lua_code.specs.LuaHeapTable.{Entries, empty_table}
+use Rattle.lua_code.specs.LuaHeapHeap.{Heap, with_entry, new_table, set_meta_in}
+use Rattle.lua_code.specs.LuaMeaningFrames.{with_table}
+use Rattle.lua_code.specs.LuaMeaningModules.{strict_meta}
+use Rattle.lua_state.specs.LuaGraphPut.{filled}
+use Rattle.lua_state.proofs.LuaGraphJoining.{with_tables, at_seam, set_seam, all_set}
 
 filled_last : {X : Type 0} (h : Heap X) (t : Contents Value) (es : Entries) → filled (length h.tables) es (with_tables h (h.tables ++ t ∷ [])) ≡ with_tables h (h.tables ++ (record t { entries = all_set t.entries es }) ∷ [])
 filled_last h t [] = refl

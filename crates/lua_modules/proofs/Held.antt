@@ -1,9 +1,9 @@
 -- ITEMS BY TITLE: what is true of all of them stays true where one is put or taken out.
 use Rattle.std.proofs.Common.{◌≡◌, ◌∙◌, sym, subst, Bool, true, false, List, [], ◌∷◌, Option, Some, if◌then◌else◌}
 use Rattle.std.specs.List.{AllByRecursion}
-use Rattle.wk_base.specs.declared.title.Title.{Title}
-use Rattle.lua_meaning.specs.Titled.{ByTitle, same_title, item_of, with_item, without_item}
-use Rattle.lua_titled.specs.Seen.{titled}
+use Rattle.lua_code.specs.WkBaseDeclaredTitleTitle.{Title}
+use Rattle.lua_code.specs.LuaMeaningTitled.{ByTitle, same_title, item_of, with_item, without_item}
+use Rattle.lua_state.specs.LuaTitledSeen.{titled}
 
 module _ {X : Type 0} (P : X → Type 0) where
   abbrev AllItems : ByTitle X → Type 0

@@ -1,21 +1,21 @@
 -- MODULES AND DATA that a state keeps by title.
 use Rattle.std.proofs.Common.{◌≡◌, ◌∙◌, sym, ap, subst, ℕ, List, Option, option_map}
 use Rattle.std.specs.List.{AllByRecursion}
-use Rattle.wk_base.specs.declared.left.Left.{Left}
-use Rattle.wk_base.specs.declared.title.Title.{Title}
-use Rattle.wk_base.specs.Titles.{title_text}
-use Rattle.lua_heap.specs.Value.{Value as Plain}
-use Rattle.lua_meaning.specs.Scope.{Bytes}
-use Rattle.lua_meaning.specs.Acts as act
-use Rattle.lua_meaning.specs.Titled.{ByTitle, item_of, with_item, without_item}
-use Rattle.lua_store.specs.declared.value.Value.{Value}
-use Rattle.lua_store.specs.Seen.{StoreView, seen}
-use Rattle.lua_store.specs.Parts.{IsOf}
-use Rattle.lua_titled.specs.Seen.{titled}
-use Rattle.lua_titled.proofs.Natural.{item_by, with_by, without_by}
-use Rattle.lua_slots.specs.Code.{CWorld}
-use Rattle.lua_slots.specs.Modules.{require_as, require_module, with_module, without_module, with_data, load_as}
-use Rattle.lua_slots.specs.Slots.{Slots}
+use Rattle.page_run.specs.WkBaseDeclaredLeftLeft.{Left}
+use Rattle.lua_code.specs.WkBaseDeclaredTitleTitle.{Title}
+use Rattle.lua_code.specs.WkBaseTitles.{title_text}
+use Rattle.lua_code.specs.LuaHeapValue.{Value as Plain}
+use Rattle.lua_code.specs.LuaMeaningScope.{Bytes}
+use Rattle.lua_code.specs.LuaMeaningActs as act
+use Rattle.lua_code.specs.LuaMeaningTitled.{ByTitle, item_of, with_item, without_item}
+use Rattle.lua_state.specs.LuaStoreDeclaredValueValue.{Value}
+use Rattle.lua_state.specs.LuaStoreSeen.{StoreView, seen}
+use Rattle.lua_state.specs.LuaStoreParts.{IsOf}
+use Rattle.lua_state.specs.LuaTitledSeen.{titled}
+use Rattle.lua_state.proofs.LuaTitledNatural.{item_by, with_by, without_by}
+use Rattle.lua_code.specs.LuaSlotsCode.{CWorld}
+use Rattle.lua_code.specs.LuaSlotsModules.{require_as, require_module, with_module, without_module, with_data, load_as}
+use Rattle.lua_state.specs.LuaSlotsSlots.{Slots}
 use Rattle.lua_state.specs.declared.progress.Progress.{Progress}
 use Rattle.lua_state.specs.declared.state.State.{State}
 use Rattle.lua_state.specs.declared.turn.Turn.{Turn}

@@ -1,24 +1,24 @@
 -- How moves of modules are made of parts.
 use Rattle.std.proofs.Common.{◌≡◌, ◌∙◌, Bool, true, false, refl, sym, ap, subst, ℕ, List}
-use Rattle.wk_base.specs.declared.left.Left.{Left}
+use Rattle.page_run.specs.WkBaseDeclaredLeftLeft.{Left}
 use Rattle.page_run.specs.declared.which.Which.TheVariants.{Steps}
-use Rattle.lua_heap.specs.Value as kind
-use Rattle.lua_store.specs.declared.value.Value.TheVariants as own
-use Rattle.lua_store.specs.declared.ids.TextId.{TextId}
-use Rattle.lua_store.specs.Seen.{StoreView, text_at}
-use Rattle.lua_store.specs.Parts.{IsLater, IsTextOf}
-use Rattle.lua_store.proofs.Later.{later-itself}
-use Rattle.lua_slots.specs.Errors.{choose, jumps}
-use Rattle.lua_slots.specs.Slots.{Slots, with_heap}
-use Rattle.lua_slots.specs.Points.{SFrame, Move, Costs, Now}
-use Rattle.lua_slots.specs.Enact.{enact}
-use Rattle.lua_meaning.specs.Acts as act
-use Rattle.lua_stack.specs.declared.focus.Focus.{Focus}
-use Rattle.lua_stack.specs.declared.focus.Focus.TheVariants as focus
-use Rattle.lua_stack.specs.declared.focus.Jump.TheVariants as jump
-use Rattle.lua_stack.specs.declared.frame.Frame.{Frame}
-use Rattle.lua_stack.specs.Seen.{focus_seen}
-use Rattle.lua_stack.specs.Of.{FramesOf, FocusOf}
+use Rattle.lua_code.specs.LuaHeapValue as kind
+use Rattle.lua_state.specs.LuaStoreDeclaredValueValueTheVariants as own
+use Rattle.lua_state.specs.LuaStoreDeclaredIdsTextId.{TextId}
+use Rattle.lua_state.specs.LuaStoreSeen.{StoreView, text_at}
+use Rattle.lua_state.specs.LuaStoreParts.{IsLater, IsTextOf}
+use Rattle.lua_state.proofs.LuaStoreLater.{later-itself}
+use Rattle.lua_state.specs.LuaSlotsErrors.{choose, jumps}
+use Rattle.lua_state.specs.LuaSlotsSlots.{Slots, with_heap}
+use Rattle.lua_state.specs.LuaSlotsPoints.{SFrame, Move, Costs, Now}
+use Rattle.lua_state.specs.LuaSlotsEnact.{enact}
+use Rattle.lua_code.specs.LuaMeaningActs as act
+use Rattle.lua_state.specs.LuaStackDeclaredFocusFocus.{Focus}
+use Rattle.lua_state.specs.LuaStackDeclaredFocusFocusTheVariants as focus
+use Rattle.lua_state.specs.LuaStackDeclaredFocusJumpTheVariants as jump
+use Rattle.lua_state.specs.LuaStackDeclaredFrameFrame.{Frame}
+use Rattle.lua_state.specs.LuaStackSeen.{focus_seen}
+use Rattle.lua_state.specs.LuaStackOf.{FramesOf, FocusOf}
 use Rattle.lua_state.specs.declared.state.State.{State}
 use Rattle.lua_state.specs.declared.turn.Turn.{Turn}
 use Rattle.lua_state.specs.declared.turn.Turn.TheVariants as turn

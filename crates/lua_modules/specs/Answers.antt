@@ -1,20 +1,20 @@
 -- What values are as an answer to `mw.loadData`: one table, nothing, or what does not belong to the question.
 use Rattle.std.specs.Prelude.{ℕ, List, [], ◌∷◌, Option, Some, None}
-use Rattle.wk_base.specs.declared.title.Title.{Title}
-use Rattle.lua_heap.specs.Value as kind
-use Rattle.lua_meaning.specs.Scope.{Bytes}
-use Rattle.lua_meaning.specs.Acts.{Raised}
-use Rattle.lua_meaning.specs.Messages.{no_data_module, wrong_answer}
-use Rattle.lua_slots.specs.Errors.{gives, jumps, fails_quoting}
-use Rattle.lua_slots.specs.Modules.{with_data}
-use Rattle.lua_slots.specs.Points.{SFrame, Move}
-use Rattle.lua_slots.specs.Slots.{Slots}
-use Rattle.lua_store.specs.declared.value.Value.{Value}
-use Rattle.lua_store.specs.declared.value.Value.TheVariants as own
-use Rattle.lua_store.specs.Seen.{StoreView}
-use Rattle.lua_store.specs.Parts.{IsTableOf}
-use Rattle.lua_stack.specs.declared.focus.Jump.{Jump}
-use Rattle.lua_stack.specs.declared.focus.Jump.TheVariants as jump
+use Rattle.lua_code.specs.WkBaseDeclaredTitleTitle.{Title}
+use Rattle.lua_code.specs.LuaHeapValue as kind
+use Rattle.lua_code.specs.LuaMeaningScope.{Bytes}
+use Rattle.lua_code.specs.LuaMeaningActs.{Raised}
+use Rattle.lua_state.specs.LuaMeaningMessages.{no_data_module, wrong_answer}
+use Rattle.lua_state.specs.LuaSlotsErrors.{gives, jumps, fails_quoting}
+use Rattle.lua_code.specs.LuaSlotsModules.{with_data}
+use Rattle.lua_state.specs.LuaSlotsPoints.{SFrame, Move}
+use Rattle.lua_state.specs.LuaSlotsSlots.{Slots}
+use Rattle.lua_state.specs.LuaStoreDeclaredValueValue.{Value}
+use Rattle.lua_state.specs.LuaStoreDeclaredValueValueTheVariants as own
+use Rattle.lua_state.specs.LuaStoreSeen.{StoreView}
+use Rattle.lua_state.specs.LuaStoreParts.{IsTableOf}
+use Rattle.lua_state.specs.LuaStackDeclaredFocusJump.{Jump}
+use Rattle.lua_state.specs.LuaStackDeclaredFocusJumpTheVariants as jump
 use Rattle.lua_modules.specs.declared.loading.DataAnswer.{DataAnswer}
 use Rattle.lua_modules.specs.declared.loading.DataAnswer.TheVariants as answer
 

@@ -1,7 +1,7 @@
 -- A title that was read, or none.
 use Rattle.std.specs.Prelude.{Option, Some, None, Result, Ok, Err}
-use Rattle.wk_base.specs.declared.title.Title.{Title}
-use Rattle.wk_base.specs.declared.title_read.TitleFault.{TitleFault}
+use Rattle.lua_code.specs.WkBaseDeclaredTitleTitle.{Title}
+use Rattle.page_run.specs.WkBaseDeclaredTitleReadTitleFault.{TitleFault}
 
 abbrev pub title_read : Result Title TitleFault → Option Title
 title_read (Ok title) = Some title

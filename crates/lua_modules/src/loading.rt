@@ -1,22 +1,22 @@
 //! `mw.loadData` (Scribunto, mw.loadData): the tables of a data module are asked for once, and kept.
 ghost use Rattle.std.specs.Prelude.{◌≡◌, ◌∷◌, [], ℕ, List, Option, IfOk, OnOk};
-ghost use Rattle.wk_base.specs.Titles.{title_of};
-ghost use Rattle.wk_base.specs.declared.left.Left.{Left as Allowance};
-ghost use Rattle.wk_base.specs.declared.title.Namespace.TheVariants.{Main};
-ghost use Rattle.wk_base.specs.declared.title.Title.{Title as Name};
+ghost use Rattle.lua_code.specs.WkBaseTitles.{title_of};
+ghost use Rattle.page_run.specs.WkBaseDeclaredLeftLeft.{Left as Allowance};
+ghost use Rattle.lua_code.specs.WkBaseDeclaredTitleNamespaceTheVariants.{Main};
+ghost use Rattle.lua_code.specs.WkBaseDeclaredTitleTitle.{Title as Name};
 ghost use Rattle.mw_frame.specs.declared.question.Ask.TheVariants as ask;
 ghost use Rattle.page_run.specs.Outcome.{Jumps};
-ghost use Rattle.lua_heap.specs.Value as kind;
-ghost use Rattle.lua_meaning.specs.Questions as asking;
-ghost use Rattle.lua_meaning.specs.Titled.{item_of};
-ghost use Rattle.lua_slots.specs.Errors.{gives};
-ghost use Rattle.lua_slots.specs.Modules as machine;
-ghost use Rattle.lua_slots.specs.Points as point;
-ghost use Rattle.lua_store.specs.Seen.{text_at};
-ghost use Rattle.lua_store.specs.Parts.{IsTableOf, IsTextOf};
-ghost use Rattle.lua_stack.specs.Lists.{given_values};
-ghost use Rattle.lua_stack.specs.Of.{JumpOf, ValuesOf};
-ghost use Rattle.lua_stack.specs.Seen.{jump_seen, values_seen};
+ghost use Rattle.lua_code.specs.LuaHeapValue as kind;
+ghost use Rattle.lua_code.specs.LuaMeaningQuestions as asking;
+ghost use Rattle.lua_code.specs.LuaMeaningTitled.{item_of};
+ghost use Rattle.lua_state.specs.LuaSlotsErrors.{gives};
+ghost use Rattle.lua_code.specs.LuaSlotsModules as machine;
+ghost use Rattle.lua_state.specs.LuaSlotsPoints as point;
+ghost use Rattle.lua_state.specs.LuaStoreSeen.{text_at};
+ghost use Rattle.lua_state.specs.LuaStoreParts.{IsTableOf, IsTextOf};
+ghost use Rattle.lua_state.specs.LuaStackLists.{given_values};
+ghost use Rattle.lua_state.specs.LuaStackOf.{JumpOf, ValuesOf};
+ghost use Rattle.lua_state.specs.LuaStackSeen.{jump_seen, values_seen};
 ghost use Rattle.lua_state.specs.Makes.{Makes};
 ghost use Rattle.lua_state.specs.Of.{OutcomeOf, StateOf};
 ghost use Rattle.lua_state.specs.Seen.{frames_of, outcome_seen, slots_of};
@@ -24,13 +24,13 @@ ghost use Rattle.lua_modules.specs.Answers.{one_answer_in, answer_in, data_move,
 
 use crate::raising::{lacks_data, wrong_answer};
 use crate::texts::{read_title, refuse};
-use lua_basic::texts::text_in;
-use lua_stack::{Asked, Focus, Frame, Given, Jump, Values, boxed};
-use lua_state::{Outcome, State, Turn};
-use lua_store::{Store, TableId, TextId, Value};
-use mw_frame::Ask;
+use lua_code::NoMemory;
+use lua_state::{
+    Asked, Focus, Frame, Given, Jump, Left, Outcome, State, Store, TableId, TextId, Turn, Value,
+    Values, boxed, text_in,
+};
+use mw_frame::{Ask, Title};
 use std::alloc::Global;
-use wk_base::{Left, NoMemory, Title};
 
 /// A call of `mw.loadData` at this line waits for the tables of this data module from now on.
 fn wait_for(

@@ -1,13 +1,9 @@
 //! Texts of failures (manual 2.7; Scribunto, "require" and mw.loadData).
 ghost use Rattle.std.specs.Prelude.{◌≡◌, ◌++◌, IfOk, OnOk};
-ghost use Rattle.wk_base.specs.Titles.{title_text};
-ghost use Rattle.lua_meaning.specs.Messages as meaning;
-ghost use Rattle.lua_meaning.specs.Modules as modules;
+ghost use Rattle.lua_state.specs.LuaMeaningMessages as meaning;
 
-use itoa::Buffer;
-use lua_syntax::FaultAt;
+use lua_code::NoMemory;
 use std::alloc::Global;
-use wk_base::{NoMemory, Title};
 
 /// More bytes behind a text.
 fn append(made: &mut Vec<u8>, more: &[u8]) -> Result<(), NoMemory>
@@ -49,40 +45,5 @@ pub fn no_data_module(alloc: Global, text: &[u8]) -> Result<Vec<u8>, NoMemory>
     append(&mut made, b"data module '")?;
     append(&mut made, text)?;
     append(&mut made, b"' not found")?;
-    Ok(made)
-}
-
-/// What is wrong with the text of a module, by the number of its fault.
-fn fault_text(kind: u8) -> &'static [u8]
-    ensures { result.now ≡ modules.fault_text kind }
-{
-    match kind {
-        0 => b"unfinished string",
-        1 => b"unfinished string",
-        2 => b"unfinished long bracket",
-        3 => b"escape out of range",
-        4 => b"unexpected byte",
-        5 => b"unexpected token",
-        6 => b"numeral is not a whole number in range",
-        7 => b"nested too deeply",
-        8 => b"break outside a loop",
-        9 => b"call on a new line",
-        10 => b"... outside a vararg function",
-        _ => b"",
-    }
-}
-
-/// What is wrong with the text of a module, with its place in front.
-pub fn fault_message(alloc: Global, title: &Title, fault: &FaultAt) -> Result<Vec<u8>, NoMemory>
-    ensures { IfOk result (λ made. made.items ≡ meaning.place_text (record { source = title_text title.now; line = fault.now.line }) ++ modules.fault_text fault.now.kind) }
-{
-    let mut buffer = Buffer::new();
-    let name = title.text()?;
-    let mut made = Vec::new(alloc);
-    append(&mut made, name.as_slice())?;
-    append(&mut made, b":")?;
-    append(&mut made, buffer.format(fault.line).as_bytes())?;
-    append(&mut made, b": ")?;
-    append(&mut made, fault_text(fault.kind))?;
     Ok(made)
 }

@@ -1,20 +1,18 @@
 //! Errors of `require` and `mw.loadData`.
 ghost use Rattle.std.specs.Prelude.{IfOk};
-ghost use Rattle.wk_base.specs.declared.left.Left.{Left as Allowance};
-ghost use Rattle.lua_heap.specs.Value as kind;
-ghost use Rattle.lua_meaning.specs.Acts as act;
-ghost use Rattle.lua_meaning.specs.Messages as meaning;
-ghost use Rattle.lua_slots.specs.Errors.{fails_quoting, jumps};
+ghost use Rattle.page_run.specs.WkBaseDeclaredLeftLeft.{Left as Allowance};
+ghost use Rattle.lua_code.specs.LuaHeapValue as kind;
+ghost use Rattle.lua_code.specs.LuaMeaningActs as act;
+ghost use Rattle.lua_state.specs.LuaMeaningMessages as meaning;
+ghost use Rattle.lua_state.specs.LuaSlotsErrors.{fails_quoting, jumps};
 ghost use Rattle.lua_state.specs.Makes.{Makes};
 ghost use Rattle.lua_state.specs.Of.{StateOf};
 ghost use Rattle.lua_state.specs.Seen.{frames_of, slots_of};
 
 use crate::messages::{loop_in_require, no_data_module, no_module};
-use lua_stack::{Focus, Jump};
-use lua_state::{State, Turn, fail_quoting};
-use lua_store::{Store, Value};
+use lua_code::NoMemory;
+use lua_state::{Focus, Jump, Left, State, Store, Turn, Value, fail_quoting};
 use std::alloc::Global;
-use wk_base::{Left, NoMemory};
 
 /// An error whose value is this text.
 pub fn raise<'m>(store: &mut Store, state: &State<'m>, text: &[u8]) -> Result<Turn<'m>, NoMemory>

@@ -1,21 +1,21 @@
 //! `require` (manual 5.3; Scribunto, "require"): a module runs once, and its value is kept.
 ghost use Rattle.std.specs.Prelude.{◌≡◌, ◌∷◌, [], ℕ, List, Option, None, Some, bytes_eq, codes, IfOk, OnOk};
-ghost use Rattle.wk_base.specs.Titles.{title_of, title_text};
-ghost use Rattle.wk_base.specs.declared.left.Left.{Left as Allowance};
-ghost use Rattle.wk_base.specs.declared.title.Namespace.TheVariants.{Main};
-ghost use Rattle.wk_base.specs.declared.title.Title.{Title as Name};
+ghost use Rattle.lua_code.specs.WkBaseTitles.{title_of, title_text};
+ghost use Rattle.page_run.specs.WkBaseDeclaredLeftLeft.{Left as Allowance};
+ghost use Rattle.lua_code.specs.WkBaseDeclaredTitleNamespaceTheVariants.{Main};
+ghost use Rattle.lua_code.specs.WkBaseDeclaredTitleTitle.{Title as Name};
 ghost use Rattle.lua_code.specs.Held.{module_seen};
-ghost use Rattle.lua_meaning.specs.Acts as act;
-ghost use Rattle.lua_meaning.specs.Modules.{value_or_true};
-ghost use Rattle.lua_meaning.specs.Pending as waiting;
-ghost use Rattle.lua_slots.specs.Code.{CModule};
-ghost use Rattle.lua_slots.specs.Errors.{gives, jumps};
-ghost use Rattle.lua_slots.specs.Modules as machine;
-ghost use Rattle.lua_slots.specs.Points as point;
-ghost use Rattle.lua_store.specs.Seen.{StoreView, seen};
-ghost use Rattle.lua_store.specs.Parts.{IsOf};
-ghost use Rattle.lua_stack.specs.Of.{JumpOf, ValuesOf};
-ghost use Rattle.lua_stack.specs.Seen.{jump_seen, values_seen};
+ghost use Rattle.lua_code.specs.LuaMeaningActs as act;
+ghost use Rattle.lua_code.specs.LuaMeaningModules.{value_or_true};
+ghost use Rattle.lua_code.specs.LuaMeaningPending as waiting;
+ghost use Rattle.lua_code.specs.LuaSlotsCode.{CModule};
+ghost use Rattle.lua_state.specs.LuaSlotsErrors.{gives, jumps};
+ghost use Rattle.lua_code.specs.LuaSlotsModules as machine;
+ghost use Rattle.lua_state.specs.LuaSlotsPoints as point;
+ghost use Rattle.lua_state.specs.LuaStoreSeen.{StoreView, seen};
+ghost use Rattle.lua_state.specs.LuaStoreParts.{IsOf};
+ghost use Rattle.lua_state.specs.LuaStackOf.{JumpOf, ValuesOf};
+ghost use Rattle.lua_state.specs.LuaStackSeen.{jump_seen, values_seen};
 ghost use Rattle.lua_state.specs.Makes.{Makes};
 ghost use Rattle.lua_state.specs.Of.{OutcomeOf, ProgressOf, StateOf};
 ghost use Rattle.lua_state.specs.Seen.{frames_of, outcome_seen, progress_seen, slots_of};
@@ -25,14 +25,13 @@ use crate::raising::{lacks_module, requires_itself};
 use crate::running::run_text;
 use crate::strict::require_strict;
 use crate::texts::{read_title, refuse};
-use lua_basic::texts::text_in;
-use lua_code::Module;
-use lua_stack::values::is_nil;
-use lua_stack::{Focus, Frame, Given, Jump, Pending, Values};
-use lua_state::{Outcome, Progress, State, Turn};
-use lua_store::{Store, Value};
+use lua_code::{Module, NoMemory};
+use lua_state::{
+    Focus, Frame, Given, Jump, Left, Outcome, Pending, Progress, State, Store, Turn, Value, Values,
+    is_nil, text_in,
+};
+use mw_frame::Title;
 use std::alloc::Global;
-use wk_base::{Left, NoMemory, Title};
 
 /// The module of a title is at this point from now on.
 fn put_progress(

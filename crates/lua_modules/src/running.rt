@@ -1,30 +1,26 @@
 //! The text of a module begins (manual 2.4.1: it is a function without parameters).
 ghost use Rattle.std.specs.Prelude.{◌++◌, [], None, IfOk};
-ghost use Rattle.wk_base.specs.Titles.{title_text};
-ghost use Rattle.wk_base.specs.declared.left.Left.{Left as Allowance};
+ghost use Rattle.lua_code.specs.WkBaseTitles.{title_text};
+ghost use Rattle.page_run.specs.WkBaseDeclaredLeftLeft.{Left as Allowance};
 ghost use Rattle.lua_code.specs.Held.{code_seen, module_seen};
-ghost use Rattle.lua_heap.specs.Value as kind;
-ghost use Rattle.lua_meaning.specs.Acts as act;
-ghost use Rattle.lua_meaning.specs.Messages.{place_text};
-ghost use Rattle.lua_meaning.specs.Modules.{fault_text};
-ghost use Rattle.lua_slots.specs.Calls.{text_of_module};
-ghost use Rattle.lua_slots.specs.Errors.{jumps};
-ghost use Rattle.lua_slots.specs.Modules.{begins_text, runs_text};
-ghost use Rattle.lua_slots.specs.Points as point;
+ghost use Rattle.lua_code.specs.LuaHeapValue as kind;
+ghost use Rattle.lua_code.specs.LuaMeaningActs as act;
+ghost use Rattle.lua_syntax.specs.FaultTexts.{fault_message};
+ghost use Rattle.lua_state.specs.LuaSlotsCalls.{text_of_module};
+ghost use Rattle.lua_state.specs.LuaSlotsErrors.{jumps};
+ghost use Rattle.lua_code.specs.LuaSlotsModules.{begins_text, runs_text};
+ghost use Rattle.lua_state.specs.LuaSlotsPoints as point;
 ghost use Rattle.lua_state.specs.Makes.{Makes};
 ghost use Rattle.lua_state.specs.Of.{StateOf};
 ghost use Rattle.lua_state.specs.Seen.{frames_of, slots_of};
 
-use crate::messages::fault_message;
 use crate::raising::raise;
-use lua_code::{Module, Protos};
-use lua_stack::{Callee, Focus, Thing, Values};
-use lua_state::{State, Turn, pay};
-use lua_store::Store;
-use lua_syntax::FaultAt;
+use lua_code::{Module, NoMemory, Protos};
+use lua_state::{Callee, Focus, Left, State, Store, Thing, Turn, Values, pay};
+use lua_syntax::{FaultAt, fault_message};
+use mw_frame::Title;
 use page_run::Which;
 use std::alloc::Global;
-use wk_base::{Left, NoMemory, Title};
 
 /// The text of the module of this title is entered next.
 fn begin_text<'m>(
@@ -59,7 +55,7 @@ fn raise_fault<'m>(
 ) -> Result<Turn<'m>, NoMemory>
     requires { StateOf store.old state.now }
     ensures { (l : Allowance) → IfOk result (λ r. Makes store.old state.now l store.new state.now l
-        (jumps (act.Raised (kind.Text (place_text (record { source = title_text title.now; line = fault.now.line }) ++ fault_text fault.now.kind))) (frames_of store.old state.now) (slots_of store.old state.now)) r) }
+        (jumps (act.Raised (kind.Text (fault_message title.now fault.now))) (frames_of store.old state.now) (slots_of store.old state.now)) r) }
 {
     let message = fault_message(alloc, title, fault)?;
     let said = message.as_slice();

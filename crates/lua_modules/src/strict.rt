@@ -1,26 +1,25 @@
 //! `require('strict')` (Scribunto, strict): global variables that are absent are refused.
 ghost use Rattle.std.specs.Prelude.{◌≡◌, ◌∷◌, [], true, length, IfOk, OnOk};
-ghost use Rattle.wk_base.specs.declared.left.Left.{Left as Allowance};
-ghost use Rattle.lua_graph.specs.Put.{filled};
-ghost use Rattle.lua_heap.specs.Heap.{set_meta_in};
-ghost use Rattle.lua_heap.specs.Value as kind;
-ghost use Rattle.lua_meaning.specs.Frames.{with_table};
-ghost use Rattle.lua_meaning.specs.Modules.{strict_meta};
-ghost use Rattle.lua_slots.specs.Errors.{gives};
-ghost use Rattle.lua_slots.specs.Modules.{with_strict};
-ghost use Rattle.lua_slots.specs.Points.{Costs};
-ghost use Rattle.lua_store.specs.Parts.{IsLater, IsTableOf};
+ghost use Rattle.page_run.specs.WkBaseDeclaredLeftLeft.{Left as Allowance};
+ghost use Rattle.lua_state.specs.LuaGraphPut.{filled};
+ghost use Rattle.lua_code.specs.LuaHeapHeap.{set_meta_in};
+ghost use Rattle.lua_code.specs.LuaHeapValue as kind;
+ghost use Rattle.lua_code.specs.LuaMeaningFrames.{with_table};
+ghost use Rattle.lua_code.specs.LuaMeaningModules.{strict_meta};
+ghost use Rattle.lua_state.specs.LuaSlotsErrors.{gives};
+ghost use Rattle.lua_code.specs.LuaSlotsModules.{with_strict};
+ghost use Rattle.lua_state.specs.LuaSlotsPoints.{Costs};
+ghost use Rattle.lua_state.specs.LuaStoreParts.{IsLater, IsTableOf};
 ghost use Rattle.lua_state.specs.Makes.{Makes};
 ghost use Rattle.lua_state.specs.Of.{StateOf};
 ghost use Rattle.lua_state.specs.Seen.{frames_of, slots_of};
-ghost use Rattle.lua_meaning.specs.Charges.{filled_table_charge};
+ghost use Rattle.lua_state.specs.LuaMeaningCharges.{filled_table_charge};
 
-use lua_home::fields::{Field, Item, fill};
-use lua_stack::{Focus, Given};
-use lua_state::{State, Turn, pay};
-use lua_store::{Library, Store, TableId, Value};
+use lua_code::NoMemory;
+use lua_state::{
+    Field, Focus, Given, Item, Left, Library, State, Store, TableId, Turn, Value, fill, pay,
+};
 use page_run::Which;
-use wk_base::{Left, NoMemory};
 
 /// The metatable whose handlers refuse what is absent.
 fn fill_meta(store: &mut Store, table: TableId) -> Result<(), NoMemory>

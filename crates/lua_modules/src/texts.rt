@@ -1,20 +1,19 @@
 //! Arguments that are texts, and titles that texts are read as.
 ghost use Rattle.std.specs.Prelude.{◌≡◌, codes, IfOk};
-ghost use Rattle.wk_base.specs.Titles.{title_of};
-ghost use Rattle.wk_base.specs.declared.title.Namespace.TheVariants.{Main};
-ghost use Rattle.lua_meaning.specs.Messages as meaning;
-ghost use Rattle.lua_slots.specs.Errors.{fails};
-ghost use Rattle.lua_stack.specs.Seen.{values_seen};
+ghost use Rattle.lua_code.specs.WkBaseTitles.{title_of};
+ghost use Rattle.lua_code.specs.WkBaseDeclaredTitleNamespaceTheVariants.{Main};
+ghost use Rattle.lua_state.specs.LuaMeaningMessages as meaning;
+ghost use Rattle.lua_state.specs.LuaSlotsErrors.{fails};
+ghost use Rattle.lua_state.specs.LuaStackSeen.{values_seen};
 ghost use Rattle.lua_state.specs.Makes.{Makes};
 ghost use Rattle.lua_state.specs.Of.{StateOf};
 ghost use Rattle.lua_state.specs.Seen.{frames_of, slots_of};
 ghost use Rattle.lua_modules.specs.Read.{title_read};
 
-use lua_basic::messages::{bad_argument, expected};
-use lua_state::{State, Turn, fail};
-use lua_store::{Store, Value};
+use lua_code::{Namespace, NoMemory};
+use lua_state::{Left, State, Store, Turn, Value, bad_argument, expected, fail};
+use mw_frame::{Title, TitleFault};
 use std::alloc::Global;
-use wk_base::{Left, Namespace, NoMemory, Title, TitleFault};
 
 /// The title that a text is read as, if it is one.
 pub fn read_title(alloc: Global, text: &[u8]) -> Result<Option<Title>, NoMemory>

@@ -1,7 +1,7 @@
 -- Stretches of tokens in which all neighbours fit, and that can stand behind one another.
-use Rattle.std.proofs.Common.{◌≡◌, ◌≢◌, ℕ, zero, suc, pred, ◌+◌, ◌<◌, ◌≤◌, ◌⊎◌, inl, inr, Bool, true, false, List, [], ◌∷◌, length, refl, sym, ap, subst, ◌∙◌, arith, true≢false}
+use Rattle.std.proofs.Common.{◌≡◌, ◌≢◌, ℕ, suc, pred, ◌<◌, ◌≤◌, ◌⊎◌, inl, inr, Bool, true, false, List, refl, sym, ap, subst, ◌∙◌, arith, true≢false}
 use Rattle.std.proofs.lemmas.Bool.{cases_lt}
-use Rattle.lua_lexer.specs.declared.token.Token.{Token}
+use Rattle.lua_grammar.specs.LuaLexerDeclaredTokenToken.{Token}
 use Rattle.lua_grammar.specs.declared.TokenClass.{TokenClass}
 use Rattle.lua_grammar.specs.declared.TokenClass.TheVariants.{Name, LeftBracket, Dot}
 use Rattle.lua_grammar.specs.Tokens.{class_at}

@@ -1,17 +1,17 @@
 -- The neighbours of a chunk fit: production by production, as the grammar goes.
-use Rattle.std.proofs.Common.{◌≡◌, ℕ, suc, ◌<◌, ◌≤◌, inl, inr, Bool, true, List, [], ◌∷◌, length, refl, arith}
-use Rattle.lua_syntax.specs.declared.BinaryOp.{BinaryOp}
-use Rattle.lua_syntax.specs.declared.BinaryOp.TheVariants.{Or as OrOp, And as AndOp, Lt, Gt, Le, Ge, Ne, Eq, Concat, Add, Sub, Mul, Div, Mod, Pow}
-use Rattle.lua_syntax.specs.declared.UnaryOp.{UnaryOp}
-use Rattle.lua_syntax.specs.declared.UnaryOp.TheVariants.{Not as NotOp, Len, Minus as MinusOp}
-use Rattle.lua_lexer.specs.declared.token.Token.{Token}
+use Rattle.std.proofs.Common.{◌≡◌, ℕ, ◌≤◌, true, List, [], ◌∷◌, length, refl, arith}
+use Rattle.lua_grammar.specs.LuaSyntaxDeclaredBinaryOp.{BinaryOp}
+use Rattle.lua_grammar.specs.LuaSyntaxDeclaredBinaryOpTheVariants.{Or as OrOp, And as AndOp, Lt, Gt, Le, Ge, Ne, Eq, Concat, Add, Sub, Mul, Div, Mod, Pow}
+use Rattle.lua_grammar.specs.LuaSyntaxDeclaredUnaryOp.{UnaryOp}
+use Rattle.lua_grammar.specs.LuaSyntaxDeclaredUnaryOpTheVariants.{Not as NotOp, Len, Minus as MinusOp}
+use Rattle.lua_grammar.specs.LuaLexerDeclaredTokenToken.{Token}
 use Rattle.lua_grammar.specs.declared.Context.{Context}
 use Rattle.lua_grammar.specs.declared.TokenClass.TheVariants.{Name, Number, Text, Eof, Break, Do, Else, Elseif, End, False, For, Function, If, In, Local, Nil, Repeat, Return, Then, True, Until, While, Assign, LeftParen, RightParen, LeftBrace, RightBrace, Semicolon, Colon, Comma, Dots}
 use Rattle.lua_grammar.specs.Grammar.{GivenTokens, given_tokens, mark_of, sign_of, left_level, right_level, IsPrefix, IsAlone, Spells, SpellsArgs, SpellsAll, MoreExps, SpellsFields, SpellsFun, SpellsMethod, SpellsNamed, SpellsBlock, SpellsArms, MoreArms, SpellsStat, SpellsChunk, IsChunk, before, under, in_loop, in_function, outside}
-use Rattle.lua_syntax.specs.Tree.{Exp, Exps, Fields, Fun, Block, Arms, Stat, NilE, TrueE, FalseE, NumberE, TextE, DotsE, FunctionE, NameE, IndexE, CallE, MethodE, TableE, BinaryE, UnaryE, ParenE, NoExp, MoreExp, NoField, Item, Pair, Lambda, NoStat, MoreStat, NoArm, Arm, AssignS, CallS, DoS, WhileS, RepeatS, IfS, IfElseS, CountS, CountByS, EachS, LocalFunctionS, LocalS, ReturnS, BreakS}
-use Rattle.lua_neighbours.specs.Neighbours.{NoEquals, AreNeighbours, NeighboursFit}
+use Rattle.lua_grammar.specs.LuaSyntaxTree.{Exp, Exps, Fields, Fun, Block, Arms, Stat, NilE, TrueE, FalseE, NumberE, TextE, DotsE, FunctionE, NameE, IndexE, CallE, MethodE, TableE, BinaryE, UnaryE, ParenE, NoExp, MoreExp, NoField, Item, Pair, Lambda, NoStat, MoreStat, NoArm, Arm, AssignS, CallS, DoS, WhileS, RepeatS, IfS, IfElseS, CountS, CountByS, EachS, LocalFunctionS, LocalS, ReturnS, BreakS}
+use Rattle.lua_neighbours.specs.Neighbours.{NoEquals, AreNeighbours}
 use Rattle.lua_neighbours.proofs.Calms.{Calm, is_quiet, joined}
-use Rattle.lua_neighbours.proofs.Walks.{Calmed, IsTail, Whole, IsWhole, is_word, is_text, one, separated, nothing, never, only_where, node_is, ◌⊳◌, either, tail_one, ◌⊵◌, tail_ends, tail_either, calm_tail, calm_whole, whole_node, single, begun, begun_tail, whole_ends, tail_whole, suffix_tail, suffix_node, suffix_ends, suffix_either, in_brackets, by_dot, extended, names, params, name_key, function_path, method_path, opened}
+use Rattle.lua_neighbours.proofs.Walks.{Calmed, IsTail, IsWhole, is_word, is_text, one, separated, nothing, only_where, node_is, ◌⊳◌, either, tail_one, ◌⊵◌, tail_ends, tail_either, calm_tail, calm_whole, whole_node, single, begun, begun_tail, whole_ends, tail_whole, suffix_tail, suffix_node, suffix_ends, suffix_either, in_brackets, by_dot, extended, names, params, name_key, function_path, method_path, opened}
 
 -- ---- operators
 

@@ -2,10 +2,10 @@
 use Rattle.std.proofs.Common.{◌≡◌, ℕ, suc, pred, ◌<◌, ◌≤◌, ◌⊎◌, inl, inr, Bool, true, false, List, [], ◌∷◌, refl, sym, ap, subst, arith}
 use Rattle.lua_grammar.specs.declared.Context.{Context}
 use Rattle.lua_grammar.specs.declared.TokenClass.{TokenClass}
-use Rattle.lua_grammar.specs.declared.TokenClass.TheVariants.{Name, Text, Comma, Colon, Semicolon, LeftBracket, RightBracket, RightBrace, LeftParen, RightParen, Dot, Dots}
+use Rattle.lua_grammar.specs.declared.TokenClass.TheVariants.{Name, Comma, Colon, Semicolon, LeftBracket, RightBracket, LeftParen, Dot, Dots}
 use Rattle.lua_grammar.specs.Tokens.{class_at}
 use Rattle.lua_grammar.specs.Grammar.{GivenTokens, Span, ◌⨟◌, ◌∣◌, none, where', word, text, node, opens, separator, ends, before, under, MoreNames, Names, Params, SpellsDot, SpellsName, SpellsPath, IsPath, IsMethodPath}
-use Rattle.lua_syntax.specs.Tree.{Exp, Exps, TextE, NameE, IndexE, NoExp, MoreExp}
+use Rattle.lua_grammar.specs.LuaSyntaxTree.{Exp, Exps, TextE, NameE, IndexE, NoExp, MoreExp}
 use Rattle.lua_neighbours.specs.Neighbours.{Indexed, NoEquals}
 use Rattle.lua_neighbours.proofs.Calms.{Calm, is_quiet, empty, one_quiet, joined, bracketed, pointed}
 

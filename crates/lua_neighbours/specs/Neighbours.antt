@@ -1,7 +1,7 @@
 -- WHAT STANDS BESIDE WHAT among the tokens of a chunk (manual 8): in front of a point what can be indexed, behind it a name, and behind [ no =.
 use Rattle.std.specs.Prelude.{◌≡◌, ℕ, suc, ◌<◌, List, length}
-use Rattle.lua_lexer.specs.declared.token.Token.{Token}
-use Rattle.lua_syntax.specs.Tree.{Block}
+use Rattle.lua_grammar.specs.LuaLexerDeclaredTokenToken.{Token}
+use Rattle.lua_grammar.specs.LuaSyntaxTree.{Block}
 use Rattle.lua_grammar.specs.declared.TokenClass.{TokenClass}
 use Rattle.lua_grammar.specs.declared.TokenClass.TheVariants.{Name, Text, EqEq, Assign, RightParen, RightBrace, LeftBracket, RightBracket, Dot}
 use Rattle.lua_grammar.specs.Tokens.{class_at}

@@ -14,3 +14,4 @@ pub mod reading;
 pub use arithmetic::{NumberFault, add, div, mul, neg, pow, rem, sub};
 pub use printing::{reads_back, text};
 pub use reading::{read_in_base, read_number, read_numeral};
+pub use wk_base::{Bytes, Left, NoMemory};

@@ -1,15 +1,15 @@
 -- The order of two texts is paid for; a store stays; and nothing is spent.
 use Rattle.std.proofs.Common.{◌≡◌, ◌∙◌, ℕ, ◌≤◌, min, Bool, false, List, length, sym, ap}
-use Rattle.wk_base.specs.declared.left.Left.{Left}
+use Rattle.page_run.specs.WkBaseDeclaredLeftLeft.{Left}
 use Rattle.page_run.specs.State.{Tally}
-use Rattle.lua_heap.specs.Heap.{Heap}
-use Rattle.lua_heap.specs.Proc.{Proc}
-use Rattle.lua_meaning.specs.Operators.{text_less}
-use Rattle.lua_slots.specs.Slots.{Slots, with_heap}
-use Rattle.lua_slots.specs.Points.{SFrame, Move}
-use Rattle.lua_slots.specs.Enact.{Enacted, enact}
-use Rattle.lua_slots.specs.Operators.{order_texts, answers}
-use Rattle.lua_stack.proofs.Raises.{pays, less_steps}
+use Rattle.lua_code.specs.LuaHeapHeap.{Heap}
+use Rattle.lua_code.specs.LuaHeapProc.{Proc}
+use Rattle.lua_code.specs.LuaMeaningOperators.{text_less}
+use Rattle.lua_arms.specs.LuaSlotsSlots.{Slots, with_heap}
+use Rattle.lua_arms.specs.LuaSlotsPoints.{SFrame, Move}
+use Rattle.lua_code.specs.LuaSlotsEnact.{Enacted, enact}
+use Rattle.lua_code.specs.LuaSlotsOperators.{order_texts, answers}
+use Rattle.lua_arms.proofs.LuaStackRaises.{pays, less_steps}
 use Rattle.lua_arms.specs.declared.step.Step.TheVariants as step
 use Rattle.lua_arms.specs.declared.step.Paid.{Paid}
 use Rattle.lua_arms.specs.declared.step.Paid.TheVariants as paid

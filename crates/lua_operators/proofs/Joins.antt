@@ -1,18 +1,18 @@
 -- Two values that are texts or numbers become one text.
 use Rattle.std.proofs.Common.{◌≡◌, ◌∙◌, ℕ, List, [], ◌∷◌, ◌++◌, length, Option, Some, sym, ap}
 use Rattle.std.specs.Option.{option_map}
-use Rattle.lua_heap.specs.Value.{Value, Text}
-use Rattle.lua_meaning.specs.Values.{text_in}
-use Rattle.lua_store.specs.Seen.{StoreView}
-use Rattle.lua_basic.specs.Arguments.{text_bytes}
-use Rattle.lua_basic.specs.declared.texts.TextIn.{TextIn}
-use Rattle.lua_slots.specs.Slots.{Slots, with_heap}
-use Rattle.lua_slots.specs.Points.{Costs}
-use Rattle.lua_slots.specs.Errors.{gives}
-use Rattle.lua_slots.specs.Enact.{Funds, enact}
-use Rattle.lua_slots.specs.Operators as machine
-use Rattle.lua_stack.specs.declared.frame.Frame.{Frame}
-use Rattle.lua_stack.specs.Seen.{frames_seen}
+use Rattle.lua_code.specs.LuaHeapValue.{Value, Text}
+use Rattle.lua_code.specs.LuaMeaningValues.{text_in}
+use Rattle.lua_arms.specs.LuaStoreSeen.{StoreView}
+use Rattle.lua_arms.specs.LuaBasicArguments.{text_bytes}
+use Rattle.lua_arms.specs.LuaBasicDeclaredTextsTextIn.{TextIn}
+use Rattle.lua_arms.specs.LuaSlotsSlots.{Slots, with_heap}
+use Rattle.lua_arms.specs.LuaSlotsPoints.{Costs}
+use Rattle.lua_arms.specs.LuaSlotsErrors.{gives}
+use Rattle.lua_code.specs.LuaSlotsEnact.{Funds, enact}
+use Rattle.lua_code.specs.LuaSlotsOperators as machine
+use Rattle.lua_arms.specs.LuaStackDeclaredFrameFrame.{Frame}
+use Rattle.lua_arms.specs.LuaStackSeen.{frames_seen}
 use Rattle.lua_arms.specs.declared.step.Paid.{Paid}
 use Rattle.lua_arms.specs.Paid.{paid_seen}
 use Rattle.lua_operators.proofs.Charges.{at_heap}

@@ -2,18 +2,18 @@
 use Rattle.std.proofs.Common.{◌≡◌, ◌∙◌, ℕ, Bool, true, false, not, List, [], ◌∷◌, length, ◌<◌, Option, refl, sym, ap, arith}
 use Rattle.std.specs.Prelude.{ℤ, ◌==◌, codes, int_lt, int_le}
 use borrow.Author.Tests.{eqb-true}
-use Rattle.lua_heap.specs.Proc.{Proc}
-use Rattle.lua_heap.specs.Heap.{Heap}
-use Rattle.lua_heap.specs.Value.{Value}
-use Rattle.lua_meaning.specs.Metatables.{common_handler}
-use Rattle.lua_meaning.specs.Operators.{text_less}
-use Rattle.lua_store.specs.declared.value.Value.{Value as Stored}
-use Rattle.lua_store.specs.declared.value.Value.TheVariants as stored
-use Rattle.lua_store.specs.Seen.{text_at, seen}
-use Rattle.lua_slots.specs.Slots.{Slots}
-use Rattle.lua_slots.specs.Points.{SFrame, Move}
-use Rattle.lua_slots.specs.Enact.{Enacted, Funds, enact}
-use Rattle.lua_slots.specs.Operators as machine
+use Rattle.lua_code.specs.LuaHeapProc.{Proc}
+use Rattle.lua_code.specs.LuaHeapHeap.{Heap}
+use Rattle.lua_code.specs.LuaHeapValue.{Value}
+use Rattle.lua_code.specs.LuaMeaningMetatables.{common_handler}
+use Rattle.lua_code.specs.LuaMeaningOperators.{text_less}
+use Rattle.lua_arms.specs.LuaStoreDeclaredValueValue.{Value as Stored}
+use Rattle.lua_arms.specs.LuaStoreDeclaredValueValueTheVariants as stored
+use Rattle.lua_arms.specs.LuaStoreSeen.{text_at, seen}
+use Rattle.lua_arms.specs.LuaSlotsSlots.{Slots}
+use Rattle.lua_arms.specs.LuaSlotsPoints.{SFrame, Move}
+use Rattle.lua_code.specs.LuaSlotsEnact.{Enacted, Funds, enact}
+use Rattle.lua_code.specs.LuaSlotsOperators as machine
 use Rattle.lua_operators.specs.declared.ordering.Order.{Order}
 use Rattle.lua_operators.specs.declared.ordering.Order.TheVariants.{Numbers, Texts, Others}
 use Rattle.lua_operators.specs.Orders.{order_as}

@@ -1,6 +1,6 @@
 -- How two values are ordered (manual 2.5.2): only numbers and texts have an order of their own, each among themselves.
-use Rattle.lua_store.specs.declared.value.Value.{Value}
-use Rattle.lua_store.specs.declared.value.Value.TheVariants as stored
+use Rattle.lua_arms.specs.LuaStoreDeclaredValueValue.{Value}
+use Rattle.lua_arms.specs.LuaStoreDeclaredValueValueTheVariants as stored
 use Rattle.lua_operators.specs.declared.ordering.Order.{Order}
 use Rattle.lua_operators.specs.declared.ordering.Order.TheVariants.{Numbers, Texts, Others}
 

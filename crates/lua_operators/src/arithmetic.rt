@@ -1,26 +1,23 @@
 //! Arithmetic (manual 2.5.1).
 ghost use Rattle.std.specs.Prelude.{◌≡◌, List, IfOk};
 ghost use Rattle.lua_code.specs.Seen.{arithmetic_seen};
-ghost use Rattle.lua_meaning.specs.Values as values_of;
-ghost use Rattle.lua_meaning.specs.Operators as plain;
-ghost use Rattle.lua_store.specs.Seen.{StoreView, seen, text_at};
-ghost use Rattle.lua_store.specs.Parts.{IsOf, IsTextOf};
-ghost use Rattle.lua_slots.specs.Slots.{Slots};
-ghost use Rattle.lua_slots.specs.Points.{SFrame};
-ghost use Rattle.lua_slots.specs.Operators as machine;
-ghost use Rattle.lua_stack.specs.Seen.{frames_seen};
-ghost use Rattle.lua_stack.specs.Of.{FramesOf, EnvironmentOf};
+ghost use Rattle.lua_code.specs.LuaMeaningValues as values_of;
+ghost use Rattle.lua_code.specs.LuaMeaningOperators as plain;
+ghost use Rattle.lua_arms.specs.LuaStoreSeen.{StoreView, seen, text_at};
+ghost use Rattle.lua_arms.specs.LuaStoreParts.{IsOf, IsTextOf};
+ghost use Rattle.lua_arms.specs.LuaSlotsSlots.{Slots};
+ghost use Rattle.lua_arms.specs.LuaSlotsPoints.{SFrame};
+ghost use Rattle.lua_code.specs.LuaSlotsOperators as machine;
+ghost use Rattle.lua_arms.specs.LuaStackSeen.{frames_seen};
+ghost use Rattle.lua_arms.specs.LuaStackOf.{FramesOf, EnvironmentOf};
 ghost use Rattle.lua_arms.specs.Steps.{step_seen, StepOf};
 
 use crate::handlers::by_either;
 use lua_arms::numbers::number_in;
-use lua_arms::{Failure, Step};
-use lua_code::Arithmetic;
+use lua_arms::{Environment, Failure, Focus, Frame, Given, Stack, Step, Store, TextId, Value};
+use lua_code::{Arithmetic, NoMemory};
 use lua_number::{NumberFault, neg};
-use lua_stack::{Environment, Focus, Frame, Given, Stack};
-use lua_store::{Store, TextId, Value};
 use std::alloc::Global;
-use wk_base::NoMemory;
 
 /// A number, or why there is none.
 fn number_or_fail<'m>(line: Option<u32>, number: Result<i64, NumberFault>) -> Step<'m>

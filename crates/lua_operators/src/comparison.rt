@@ -1,24 +1,23 @@
 //! Comparison (manual 2.5.2): equality, and the order of values by their handlers.
 ghost use Rattle.std.specs.Prelude.{◌≡◌, List, IfOk, codes};
-ghost use Rattle.lua_meaning.specs.Metatables as plain;
-ghost use Rattle.lua_store.specs.Seen.{StoreView, seen};
-ghost use Rattle.lua_store.specs.Parts.{IsOf};
-ghost use Rattle.lua_slots.specs.Slots.{Slots};
-ghost use Rattle.lua_slots.specs.Points.{SFrame};
-ghost use Rattle.lua_slots.specs.Operators as machine;
-ghost use Rattle.lua_stack.specs.Seen.{frames_seen};
-ghost use Rattle.lua_stack.specs.Of.{FramesOf, EnvironmentOf};
+ghost use Rattle.lua_code.specs.LuaMeaningMetatables as plain;
+ghost use Rattle.lua_arms.specs.LuaStoreSeen.{StoreView, seen};
+ghost use Rattle.lua_arms.specs.LuaStoreParts.{IsOf};
+ghost use Rattle.lua_arms.specs.LuaSlotsSlots.{Slots};
+ghost use Rattle.lua_arms.specs.LuaSlotsPoints.{SFrame};
+ghost use Rattle.lua_code.specs.LuaSlotsOperators as machine;
+ghost use Rattle.lua_arms.specs.LuaStackSeen.{frames_seen};
+ghost use Rattle.lua_arms.specs.LuaStackOf.{FramesOf, EnvironmentOf};
 ghost use Rattle.lua_arms.specs.Steps.{step_seen, StepOf};
 
 use lua_arms::calls::call;
 use lua_arms::index::two;
 use lua_arms::tables::common_handler;
-use lua_arms::{Failure, Step};
-use lua_stack::values::is_nil;
-use lua_stack::{Environment, Focus, Frame, Given, InExpression, Stack};
-use lua_store::{Store, Value};
+use lua_arms::{
+    Environment, Failure, Focus, Frame, Given, InExpression, Stack, Step, Store, Value, is_nil,
+};
+use lua_code::NoMemory;
 use std::alloc::Global;
-use wk_base::NoMemory;
 
 /// A truth, or its negation.
 pub fn answer<'m>(negated: bool, truth: bool) -> Step<'m>

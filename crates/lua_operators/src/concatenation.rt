@@ -1,27 +1,26 @@
 //! Concatenation (manual 2.5.4): a text that is made costs its bytes, which are paid before it is made.
 ghost use Rattle.std.specs.Prelude.{◌≡◌, ◌++◌, ◌∷◌, [], ℕ, List, length, IfOk, OnOk};
 ghost use Rattle.page_run.specs.State.{Tally};
-ghost use Rattle.lua_heap.specs.Value as kind;
-ghost use Rattle.lua_meaning.specs.Values as values_of;
-ghost use Rattle.lua_store.specs.Seen.{seen};
-ghost use Rattle.lua_store.specs.Parts.{IsOf, IsLater};
-ghost use Rattle.lua_slots.specs.Slots.{Slots, with_heap};
-ghost use Rattle.lua_slots.specs.Points.{SFrame, Costs};
-ghost use Rattle.lua_slots.specs.Errors.{gives};
-ghost use Rattle.lua_slots.specs.Enact.{enact};
-ghost use Rattle.lua_slots.specs.Operators as machine;
-ghost use Rattle.lua_stack.specs.Seen.{frames_seen};
-ghost use Rattle.lua_stack.specs.Of.{FramesOf, EnvironmentOf};
+ghost use Rattle.lua_code.specs.LuaHeapValue as kind;
+ghost use Rattle.lua_code.specs.LuaMeaningValues as values_of;
+ghost use Rattle.lua_arms.specs.LuaStoreSeen.{seen};
+ghost use Rattle.lua_arms.specs.LuaStoreParts.{IsOf, IsLater};
+ghost use Rattle.lua_arms.specs.LuaSlotsSlots.{Slots, with_heap};
+ghost use Rattle.lua_arms.specs.LuaSlotsPoints.{SFrame, Costs};
+ghost use Rattle.lua_arms.specs.LuaSlotsErrors.{gives};
+ghost use Rattle.lua_code.specs.LuaSlotsEnact.{enact};
+ghost use Rattle.lua_code.specs.LuaSlotsOperators as machine;
+ghost use Rattle.lua_arms.specs.LuaStackSeen.{frames_seen};
+ghost use Rattle.lua_arms.specs.LuaStackOf.{FramesOf, EnvironmentOf};
 ghost use Rattle.lua_arms.specs.Paid.{paid_seen, PaidOf, IfSpent};
 
 use crate::handlers::by_either;
-use lua_arms::{Failure, Paid, Step};
-use lua_basic::texts::text_in;
-use lua_stack::{Environment, Focus, Frame, Given, Stack};
-use lua_store::{Store, Value};
+use lua_arms::{
+    Environment, Failure, Focus, Frame, Given, Left, Paid, Stack, Step, Store, Value, text_in,
+};
+use lua_code::NoMemory;
 use page_run::Which;
 use std::alloc::Global;
-use wk_base::{Left, NoMemory};
 
 /// The first text with the second behind it.
 fn joined(alloc: Global, first: &[u8], second: &[u8]) -> Result<Vec<u8>, NoMemory>

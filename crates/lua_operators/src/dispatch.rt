@@ -3,13 +3,13 @@ ghost use Rattle.std.specs.Prelude.{◌≡◌, ◌≢◌, ◌↔◌, IsTrue, ℕ
 ghost use Rattle.page_run.specs.State.{Tally};
 ghost use Rattle.lua_code.specs.Seen.{operator_seen};
 ghost use Rattle.lua_code.specs.declared.operator.Operator.TheVariants as operator;
-ghost use Rattle.lua_store.specs.Seen.{seen};
-ghost use Rattle.lua_store.specs.Parts.{IsOf, IsLater};
-ghost use Rattle.lua_slots.specs.Slots.{Slots, with_heap};
-ghost use Rattle.lua_slots.specs.Enact.{enact};
-ghost use Rattle.lua_slots.specs.Operators as machine;
-ghost use Rattle.lua_stack.specs.Seen.{frames_seen};
-ghost use Rattle.lua_stack.specs.Of.{FramesOf, EnvironmentOf};
+ghost use Rattle.lua_arms.specs.LuaStoreSeen.{seen};
+ghost use Rattle.lua_arms.specs.LuaStoreParts.{IsOf, IsLater};
+ghost use Rattle.lua_arms.specs.LuaSlotsSlots.{Slots, with_heap};
+ghost use Rattle.lua_code.specs.LuaSlotsEnact.{enact};
+ghost use Rattle.lua_code.specs.LuaSlotsOperators as machine;
+ghost use Rattle.lua_arms.specs.LuaStackSeen.{frames_seen};
+ghost use Rattle.lua_arms.specs.LuaStackOf.{FramesOf, EnvironmentOf};
 ghost use Rattle.lua_arms.specs.Paid.{paid_seen, PaidOf, IfSpent};
 
 use crate::arithmetic::{calculate, negate};
@@ -17,14 +17,10 @@ use crate::comparison::{answer, equals};
 use crate::concatenation::concatenate;
 use crate::lengths::length_of;
 use crate::ordering::{at_most, less};
-use lua_arms::Paid;
-use lua_code::Operator;
-use lua_stack::values::is_true;
-use lua_stack::{Environment, Frame, Stack};
-use lua_store::{Store, Value};
+use lua_arms::{Environment, Frame, Left, Paid, Stack, Store, Value, is_true};
+use lua_code::{NoMemory, Operator};
 use lua_syntax::UnaryOp;
 use std::alloc::Global;
-use wk_base::{Left, NoMemory};
 
 /// What an operator gives that makes no text: each but concatenation.
 fn compare_or_calculate<'m>(

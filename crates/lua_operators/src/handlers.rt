@@ -1,22 +1,21 @@
 //! Handlers of operators (manual 2.8): one is called with both operands.
 ghost use Rattle.std.specs.Prelude.{◌≡◌, IfOk};
-ghost use Rattle.lua_store.specs.Seen.{seen, text_at};
-ghost use Rattle.lua_store.specs.Parts.{IsOf, IsTextOf};
-ghost use Rattle.lua_slots.specs.Slots.{Slots};
-ghost use Rattle.lua_slots.specs.Operators as machine;
-ghost use Rattle.lua_stack.specs.Seen.{frames_seen};
-ghost use Rattle.lua_stack.specs.Of.{FramesOf, EnvironmentOf};
+ghost use Rattle.lua_arms.specs.LuaStoreSeen.{seen, text_at};
+ghost use Rattle.lua_arms.specs.LuaStoreParts.{IsOf, IsTextOf};
+ghost use Rattle.lua_arms.specs.LuaSlotsSlots.{Slots};
+ghost use Rattle.lua_code.specs.LuaSlotsOperators as machine;
+ghost use Rattle.lua_arms.specs.LuaStackSeen.{frames_seen};
+ghost use Rattle.lua_arms.specs.LuaStackOf.{FramesOf, EnvironmentOf};
 ghost use Rattle.lua_arms.specs.Steps.{step_seen, StepOf, FailureOf, failure_text};
 
 use lua_arms::calls::call;
 use lua_arms::index::two;
 use lua_arms::tables::either_handler;
-use lua_arms::{Failure, Step};
-use lua_stack::values::is_nil;
-use lua_stack::{Environment, Frame, InExpression, Stack};
-use lua_store::{Store, TextId, Value};
+use lua_arms::{
+    Environment, Failure, Frame, InExpression, Stack, Step, Store, TextId, Value, is_nil,
+};
+use lua_code::NoMemory;
 use std::alloc::Global;
-use wk_base::NoMemory;
 
 /// A handler is called with both operands, and its first value counts; without a handler something failed.
 pub fn by_handler<'m>(

@@ -1,15 +1,13 @@
 //! Lengths (manual 2.5.5).
 ghost use Rattle.std.specs.Prelude.{◌≡◌, List};
-ghost use Rattle.lua_store.specs.Seen.{seen};
-ghost use Rattle.lua_store.specs.Parts.{IsOf};
-ghost use Rattle.lua_slots.specs.Slots.{Slots};
-ghost use Rattle.lua_slots.specs.Points.{SFrame};
-ghost use Rattle.lua_slots.specs.Operators as machine;
+ghost use Rattle.lua_arms.specs.LuaStoreSeen.{seen};
+ghost use Rattle.lua_arms.specs.LuaStoreParts.{IsOf};
+ghost use Rattle.lua_arms.specs.LuaSlotsSlots.{Slots};
+ghost use Rattle.lua_arms.specs.LuaSlotsPoints.{SFrame};
+ghost use Rattle.lua_code.specs.LuaSlotsOperators as machine;
 ghost use Rattle.lua_arms.specs.Steps.{step_seen, StepOf};
 
-use lua_arms::{Failure, Step};
-use lua_stack::{Focus, Given};
-use lua_store::{Store, Value};
+use lua_arms::{Failure, Focus, Given, Step, Store, Value};
 
 /// The length of a text or a table (manual 2.5.5).
 pub fn length_of<'m>(store: &Store, value: Value, line: Option<u32>) -> Step<'m>

@@ -1,25 +1,23 @@
 //! The order of two values (manual 2.5.2): of numbers, of texts, which are compared byte by byte, or by their handlers.
 ghost use Rattle.std.specs.Prelude.{◌≡◌, ◌≤◌, ◌-◌, ◌↔◌, IsTrue, ℕ, List, length, min, not, IfOk};
 ghost use Rattle.page_run.specs.State.{Tally};
-ghost use Rattle.lua_meaning.specs.Operators as plain;
-ghost use Rattle.lua_store.specs.Seen.{seen, text_at};
-ghost use Rattle.lua_store.specs.Parts.{IsOf, IsTextOf};
-ghost use Rattle.lua_slots.specs.Slots.{Slots};
-ghost use Rattle.lua_slots.specs.Points.{SFrame};
-ghost use Rattle.lua_slots.specs.Enact.{enact};
-ghost use Rattle.lua_slots.specs.Operators as machine;
-ghost use Rattle.lua_stack.specs.Seen.{frames_seen};
-ghost use Rattle.lua_stack.specs.Of.{FramesOf, EnvironmentOf};
+ghost use Rattle.lua_code.specs.LuaMeaningOperators as plain;
+ghost use Rattle.lua_arms.specs.LuaStoreSeen.{seen, text_at};
+ghost use Rattle.lua_arms.specs.LuaStoreParts.{IsOf, IsTextOf};
+ghost use Rattle.lua_arms.specs.LuaSlotsSlots.{Slots};
+ghost use Rattle.lua_arms.specs.LuaSlotsPoints.{SFrame};
+ghost use Rattle.lua_code.specs.LuaSlotsEnact.{enact};
+ghost use Rattle.lua_code.specs.LuaSlotsOperators as machine;
+ghost use Rattle.lua_arms.specs.LuaStackSeen.{frames_seen};
+ghost use Rattle.lua_arms.specs.LuaStackOf.{FramesOf, EnvironmentOf};
 ghost use Rattle.lua_arms.specs.Paid.{paid_seen, PaidOf};
 ghost use Rattle.lua_operators.specs.Orders.{order_as};
 
 use crate::comparison::{answer, at_most_by_handler, less_by_handler};
-use lua_arms::Paid;
-use lua_stack::{Environment, Frame, Stack};
-use lua_store::{Store, TextId, Value};
+use lua_arms::{Environment, Frame, Left, Paid, Stack, Store, TextId, Value};
+use lua_code::NoMemory;
 use page_run::Which;
 use std::alloc::Global;
-use wk_base::{Left, NoMemory};
 
 /// How two values are ordered: as numbers, as texts, or as their handlers say.
 #[derive(Clone, Copy)]

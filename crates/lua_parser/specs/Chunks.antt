@@ -6,9 +6,9 @@ use Rattle.lua_syntax.specs.declared.fault.SyntaxFault.{SyntaxFault}
 use Rattle.lua_syntax.specs.declared.fault.SyntaxFault.TheVariants.{At as AtLine, NoMemory as WantOfMemory}
 use Rattle.lua_lexer.specs.declared.token.Token.{Token}
 use Rattle.lua_lexer.specs.Lexis.{Lexes, FirstFault as FirstLexFault}
-use Rattle.lua_grammar.specs.Tokens.{tok_at}
+use Rattle.lua_reading.specs.LuaGrammarTokens.{tok_at}
 use Rattle.lua_syntax.specs.Tree.{Block}
-use Rattle.lua_grammar.specs.Grammar.{IsChunk, FirstFault}
+use Rattle.lua_reading.specs.LuaGrammarGrammar.{IsChunk, FirstFault}
 use Rattle.lua_syntax.specs.View.{block_view, chunk_view}
 use Rattle.lua_reading.specs.declared.answer.Fault.{Fault}
 use Rattle.lua_reading.specs.declared.answer.Fault.TheVariants.{At, NoMemory}

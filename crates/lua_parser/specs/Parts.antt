@@ -6,7 +6,7 @@ use Rattle.lua_lexer.specs.declared.token.Token.{Token}
 use Rattle.lua_syntax.specs.declared.Expr.{Expr}
 use Rattle.lua_syntax.specs.Tree.{Exp}
 use Rattle.lua_syntax.specs.View.{expr_view}
-use Rattle.lua_grammar.specs.declared.Context.{Context}
+use Rattle.lua_reading.specs.LuaGrammarDeclaredContext.{Context}
 use Rattle.lua_reading.specs.declared.answer.Fault.{Fault}
 use Rattle.lua_reading.specs.declared.answer.Reading.{Reading}
 use Rattle.lua_reading.specs.Parsing.{ReadsExp, ReadsFault, exp_lang, goes_on}

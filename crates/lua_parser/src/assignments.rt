@@ -1,18 +1,17 @@
 //! Assignments and calls (manual 2.4.3 and 2.4.6).
 ghost use Rattle.std.specs.Prelude.{◌≡◌, ◌<◌, ◌≤◌, length};
-ghost use Rattle.lua_grammar.specs.Tokens.{class_at};
-ghost use Rattle.lua_grammar.specs.Grammar.{under, IsVar};
+ghost use Rattle.lua_reading.specs.LuaGrammarTokens.{class_at};
+ghost use Rattle.lua_reading.specs.LuaGrammarGrammar.{under, IsVar};
 ghost use Rattle.lua_syntax.specs.View.{expr_view};
 ghost use Rattle.lua_reading.specs.Parsing.{HasOneEnd, ReadsPrefix};
 ghost use Rattle.lua_reading.specs.Answers.{StatAnswer};
 ghost use Rattle.lua_reading.specs.StatAnswers.{Opening, is_call, is_var};
 
 use crate::prefixes::{alone, exprs, prefix};
-use lua_grammar::{Context, TokenClass};
 use lua_lexer::Token;
 use lua_reading::context::under;
 use lua_reading::tokens::{class_at, line_at};
-use lua_reading::{Fault, Reading, fault_at, make};
+use lua_reading::{Context, Fault, Reading, TokenClass, fault_at, make};
 use lua_syntax::{Expr, ExprKind, Stat};
 use std::alloc::Global;
 

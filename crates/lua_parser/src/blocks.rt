@@ -7,13 +7,12 @@ ghost use Rattle.lua_reading.specs.StatAnswers.{Behind};
 
 use crate::params::{params, with_self};
 use crate::stats::statement;
-use lua_grammar::{Context, TokenClass};
 use lua_lexer::Token;
 use lua_reading::context::in_function;
 use lua_reading::ends::{closes, goes_on_block};
 use lua_reading::short_lists::short_list;
 use lua_reading::tokens::class_at;
-use lua_reading::{Fault, Reading, fault_at, make};
+use lua_reading::{Context, Fault, Reading, TokenClass, fault_at, make};
 use lua_syntax::{Block, Function};
 use std::alloc::Global;
 

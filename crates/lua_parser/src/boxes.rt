@@ -1,7 +1,7 @@
 //! Expressions in boxes, and nodes over them (manual 2.4 and 2.5). A box is one word, so an expression that is held while more is
 //! read waits in one: mostly in the box in which it will stand in the tree.
 ghost use Rattle.std.specs.Prelude.{◌≡◌, ◌<◌, ◌∷◌, [], length, IfOk, IfErr};
-ghost use Rattle.lua_grammar.specs.Tokens.{tok_at, bytes_of};
+ghost use Rattle.lua_reading.specs.LuaGrammarTokens.{tok_at, bytes_of};
 ghost use Rattle.lua_reading.specs.declared.answer.Fault.TheVariants.{NoMemory};
 ghost use Rattle.lua_syntax.specs.Tree.{TextE, NameE, IndexE, CallE, MethodE, BinaryE, CountS, CountByS};
 ghost use Rattle.lua_syntax.specs.View.{expr_view, exprs_view, block_view, stat_view};
@@ -10,9 +10,8 @@ use lua_lexer::Token;
 use lua_reading::short_lists::short_list;
 use lua_reading::tokens::{copy_at, line_at};
 use lua_reading::{Fault, make};
-use lua_syntax::{BinaryOp, Block, Expr, ExprKind, Stat};
+use lua_syntax::{BinaryOp, Block, Expr, ExprKind, Stat, WkBaseBytes as Bytes, WkBaseList as List};
 use std::alloc::Global;
-use wk_base::{Bytes, List};
 
 /// An expression in a box.
 pub(crate) fn in_box(alloc: Global, tree: Expr) -> Result<Box<Expr>, Fault>

@@ -1,22 +1,20 @@
 //! `if` (manual 2.4.4).
 ghost use Rattle.std.specs.Prelude.{◌≡◌, ◌<◌, ◌≤◌, length};
-ghost use Rattle.lua_grammar.specs.Tokens.{class_at};
+ghost use Rattle.lua_reading.specs.LuaGrammarTokens.{class_at};
 ghost use Rattle.lua_syntax.specs.View.{arms_view};
-ghost use Rattle.lua_grammar.specs.declared.TokenClass.TheVariants.{If};
+ghost use Rattle.lua_reading.specs.LuaGrammarDeclaredTokenClassTheVariants.{If};
 ghost use Rattle.lua_reading.specs.Parsing.{HasOneEnd, arms_goes, arms_lang};
 ghost use Rattle.lua_reading.specs.Answers.{Answer, StatAnswer};
 
 use crate::blocks::block;
 use crate::exprs::exp;
-use lua_grammar::{Context, TokenClass};
 use lua_lexer::Token;
 use lua_reading::context::under;
 use lua_reading::short_lists::short_list;
 use lua_reading::tokens::{class_at, line_at};
-use lua_reading::{Fault, Reading, fault_at, make};
-use lua_syntax::{Arm, Stat};
+use lua_reading::{Context, Fault, Reading, TokenClass, fault_at, make};
+use lua_syntax::{Arm, Stat, WkBaseList as List};
 use std::alloc::Global;
-use wk_base::List;
 
 #[cycle(parser)]
 pub(crate) fn if_stat(

@@ -1,8 +1,8 @@
 //! Expressions (manual 2.5): operators and operands.
 ghost use Rattle.std.specs.Prelude.{◌≡◌, ◌<◌, ◌≤◌, ◌+◌, length, false};
-ghost use Rattle.lua_grammar.specs.Tokens.{class_at, tok_at};
-ghost use Rattle.lua_grammar.specs.Grammar.{sign_of};
-ghost use Rattle.lua_grammar.specs.declared.TokenClass.TheVariants.{Function};
+ghost use Rattle.lua_reading.specs.LuaGrammarTokens.{class_at, tok_at};
+ghost use Rattle.lua_reading.specs.LuaGrammarGrammar.{sign_of};
+ghost use Rattle.lua_reading.specs.LuaGrammarDeclaredTokenClassTheVariants.{Function};
 ghost use Rattle.lua_reading.specs.Parsing.{HasOneEnd};
 ghost use Rattle.lua_reading.specs.Answers.{ExpAnswer, OperandAnswer, OneToken, has_parts};
 ghost use Rattle.lua_parser.specs.Parts.{BoxedAnswer};
@@ -11,13 +11,12 @@ use crate::blocks::body;
 use crate::boxes::{binary, in_box};
 use crate::prefixes::prefix;
 use crate::tables::table;
-use lua_grammar::{Context, TokenClass};
 use lua_lexer::Token;
 use lua_number::read_numeral;
 use lua_reading::context::under;
 use lua_reading::operators::{level_of, op_of, right_level_of};
 use lua_reading::tokens::{bytes_at, class_at, copy_at, line_at};
-use lua_reading::{Fault, Reading, fault_at, make};
+use lua_reading::{Context, Fault, Reading, TokenClass, fault_at, make};
 use lua_syntax::{Expr, UnaryOp};
 use std::alloc::Global;
 

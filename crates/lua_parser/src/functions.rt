@@ -1,7 +1,7 @@
 //! Functions with a name (manual 2.5.9).
 ghost use Rattle.std.specs.Prelude.{◌≡◌, ◌≢◌, ◌<◌, ◌≤◌, ◌+◌, length, MatchOption};
-ghost use Rattle.lua_grammar.specs.Tokens.{class_at};
-ghost use Rattle.lua_grammar.specs.declared.TokenClass.TheVariants.{Function, Dot, Colon};
+ghost use Rattle.lua_reading.specs.LuaGrammarTokens.{class_at};
+ghost use Rattle.lua_reading.specs.LuaGrammarDeclaredTokenClassTheVariants.{Function, Dot, Colon};
 ghost use Rattle.lua_reading.specs.Parsing.{HasOneEnd};
 ghost use Rattle.lua_reading.specs.Answers.{Answer, StatAnswer};
 ghost use Rattle.lua_parser.specs.Parts.{head_view};
@@ -9,11 +9,10 @@ ghost use Rattle.lua_reading.specs.StatAnswers.{head_goes, head_lang, head_mark}
 
 use crate::blocks::body;
 use crate::boxes::{dotted, out_of_box, single, variable};
-use lua_grammar::{Context, TokenClass};
 use lua_lexer::Token;
 use lua_reading::context::under;
 use lua_reading::tokens::{class_at, copy_at, line_at};
-use lua_reading::{Fault, Reading, fault_at, make};
+use lua_reading::{Context, Fault, Reading, TokenClass, fault_at, make};
 use lua_syntax::{Expr, Stat};
 use std::alloc::Global;
 

@@ -29,4 +29,5 @@ pub mod stats;
 pub mod tables;
 
 pub use laws::parsed_once;
+pub use lua_syntax::{FaultAt, SyntaxFault};
 pub use parser::parse;

@@ -1,22 +1,20 @@
 //! Local names, and the statements that end a block (manual 2.4.4, 2.4.7).
 ghost use Rattle.std.specs.Prelude.{◌≡◌, ◌≢◌, ◌<◌, ◌≤◌, ◌+◌, length};
-ghost use Rattle.lua_grammar.specs.Tokens.{class_at};
-ghost use Rattle.lua_grammar.specs.declared.TokenClass.TheVariants.{Break, Function, Local, Return};
+ghost use Rattle.lua_reading.specs.LuaGrammarTokens.{class_at};
+ghost use Rattle.lua_reading.specs.LuaGrammarDeclaredTokenClassTheVariants.{Break, Function, Local, Return};
 ghost use Rattle.lua_reading.specs.Parsing.{HasOneEnd};
 ghost use Rattle.lua_reading.specs.Answers.{StatAnswer};
 
 use crate::blocks::body;
 use crate::names::names;
 use crate::prefixes::exprs;
-use lua_grammar::{Context, TokenClass};
 use lua_lexer::Token;
 use lua_reading::context::under;
 use lua_reading::ends::goes_on_return;
 use lua_reading::tokens::{class_at, copy_at, line_at};
-use lua_reading::{Fault, Reading, fault_at, make};
-use lua_syntax::Stat;
+use lua_reading::{Context, Fault, Reading, TokenClass, fault_at, make};
+use lua_syntax::{Stat, WkBaseList as List};
 use std::alloc::Global;
-use wk_base::List;
 
 // Local names, or a local function.
 #[cycle(parser)]

@@ -1,8 +1,8 @@
 //! `for` (manual 2.4.5).
 ghost use Rattle.std.specs.Prelude.{◌≡◌, ◌≢◌, ◌<◌, ◌≤◌, ◌+◌, length};
-ghost use Rattle.lua_grammar.specs.Tokens.{class_at};
+ghost use Rattle.lua_reading.specs.LuaGrammarTokens.{class_at};
 ghost use Rattle.lua_syntax.specs.View.{block_view};
-ghost use Rattle.lua_grammar.specs.declared.TokenClass.TheVariants.{Assign, For, Name};
+ghost use Rattle.lua_reading.specs.LuaGrammarDeclaredTokenClassTheVariants.{Assign, For, Name};
 ghost use Rattle.lua_reading.specs.Parsing.{HasOneEnd, nothing};
 ghost use Rattle.lua_reading.specs.Answers.{Answer, StatAnswer};
 ghost use Rattle.lua_reading.specs.StatAnswers.{do_lang};
@@ -12,11 +12,10 @@ use crate::boxes::{count, count_by};
 use crate::exprs::boxed;
 use crate::names::names;
 use crate::prefixes::exprs;
-use lua_grammar::{Context, TokenClass};
 use lua_lexer::Token;
 use lua_reading::context::{in_loop, under};
 use lua_reading::tokens::{class_at, copy_at, line_at};
-use lua_reading::{Fault, Reading, fault_at, make};
+use lua_reading::{Context, Fault, Reading, TokenClass, fault_at, make};
 use lua_syntax::{Block, Stat};
 use std::alloc::Global;
 

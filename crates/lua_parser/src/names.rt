@@ -1,17 +1,16 @@
 //! Lists of names (manual 8).
 ghost use Rattle.std.specs.Prelude.{◌≡◌, ◌<◌, length};
-ghost use Rattle.lua_grammar.specs.Tokens.{class_at};
-ghost use Rattle.lua_grammar.specs.declared.TokenClass.TheVariants.{Name};
+ghost use Rattle.lua_reading.specs.LuaGrammarTokens.{class_at};
+ghost use Rattle.lua_reading.specs.LuaGrammarDeclaredTokenClassTheVariants.{Name};
 ghost use Rattle.lua_reading.specs.Parsing.{HasOneEnd};
 ghost use Rattle.lua_reading.specs.StatAnswers.{NamesAnswer};
 
-use lua_grammar::TokenClass;
 use lua_lexer::Token;
 use lua_reading::short_lists::short_list;
 use lua_reading::tokens::{class_at, copy_at};
-use lua_reading::{Fault, Reading, fault_at};
+use lua_reading::{Fault, Reading, TokenClass, fault_at};
+use lua_syntax::{WkBaseBytes as Bytes, WkBaseList as List};
 use std::alloc::Global;
-use wk_base::{Bytes, List};
 
 // The name at i, and more names with commas between them.
 pub(crate) fn names(alloc: Global, toks: &[Token], i: usize) -> Result<Reading<List<Bytes>>, Fault>

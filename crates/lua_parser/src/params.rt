@@ -1,17 +1,16 @@
 //! Parameters of functions (manual 2.5.9).
 ghost use Rattle.std.specs.Prelude.{◌≡◌, ◌<◌, ◌≤◌, ◌+◌, length, IfOk, IfErr};
 ghost use Rattle.lua_reading.specs.declared.answer.Fault.TheVariants.{NoMemory};
-ghost use Rattle.lua_grammar.specs.Tokens.{class_at, tok_at};
+ghost use Rattle.lua_reading.specs.LuaGrammarTokens.{class_at, tok_at};
 ghost use Rattle.lua_reading.specs.Parsing.{HasOneEnd};
 ghost use Rattle.lua_reading.specs.Answers.{self_first, MaybeEmpty, params_lang, params_goes};
 ghost use Rattle.lua_parser.specs.Parts.{params_view};
 
-use lua_grammar::TokenClass;
 use lua_lexer::Token;
 use lua_reading::tokens::{class_at, copy_at};
-use lua_reading::{Fault, Reading, fault_at};
+use lua_reading::{Fault, Reading, TokenClass, fault_at};
+use lua_syntax::{WkBaseBytes as Bytes, WkBaseList as List};
 use std::alloc::Global;
-use wk_base::{Bytes, List};
 
 /// The names of parameters, and whether `...` follows them.
 #[derive(Drop)]

@@ -4,10 +4,9 @@ ghost use Rattle.lua_reading.specs.Parsing.{HasOneEnd};
 ghost use Rattle.lua_parser.specs.Chunks.{ChunkAnswer, IsParsed};
 
 use crate::blocks::block;
-use lua_grammar::{Context, TokenClass};
 use lua_lexer::{Token, lex};
 use lua_reading::tokens::{class_at, line_at};
-use lua_reading::{Fault, fault_at};
+use lua_reading::{Context, Fault, TokenClass, fault_at};
 use lua_syntax::{Block, Chunk, FaultAt, SyntaxFault};
 use std::alloc::Global;
 

@@ -1,25 +1,23 @@
 //! Prefix expressions (manual 2.5): names, parentheses, indexes and calls, and lists of expressions.
 ghost use Rattle.std.specs.Prelude.{◌≡◌, ◌<◌, ◌≤◌, ◌+◌, length, true};
-ghost use Rattle.lua_grammar.specs.Tokens.{class_at, tok_at};
-ghost use Rattle.lua_grammar.specs.Grammar.{under, suffix_goes};
+ghost use Rattle.lua_reading.specs.LuaGrammarTokens.{class_at, tok_at};
+ghost use Rattle.lua_reading.specs.LuaGrammarGrammar.{under, suffix_goes};
 ghost use Rattle.lua_syntax.specs.View.{expr_view, exprs_view};
-ghost use Rattle.lua_grammar.specs.declared.TokenClass.TheVariants.{Dot, LeftBracket, Colon};
+ghost use Rattle.lua_reading.specs.LuaGrammarDeclaredTokenClassTheVariants.{Dot, LeftBracket, Colon};
 ghost use Rattle.lua_reading.specs.Parsing.{HasOneEnd, nothing, exps_goes, all_lang, args_lang};
 ghost use Rattle.lua_reading.specs.Answers.{Alone, Answer, PrefixAnswer, primary_lang, suffix_lang, name_lang};
 
 use crate::boxes::{call, in_box, index, method};
 use crate::exprs::exp;
 use crate::tables::table;
-use lua_grammar::{Context, TokenClass};
 use lua_lexer::Token;
 use lua_reading::context::under;
 use lua_reading::operators::is_suffix;
 use lua_reading::short_lists::short_list;
 use lua_reading::tokens::{class_at, copy_at, end_line_at, line_at};
-use lua_reading::{Fault, Reading, fault_at, make};
-use lua_syntax::Expr;
+use lua_reading::{Context, Fault, Reading, TokenClass, fault_at, make};
+use lua_syntax::{Expr, WkBaseList as List};
 use std::alloc::Global;
-use wk_base::List;
 
 // A prefix expression, with all that goes on with it.
 #[cycle(parser)]

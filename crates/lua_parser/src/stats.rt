@@ -1,7 +1,7 @@
 //! Statements (manual 2.4).
 ghost use Rattle.std.specs.Prelude.{◌≡◌, ◌<◌, ◌≤◌, ◌+◌, length};
-ghost use Rattle.lua_grammar.specs.Tokens.{class_at};
-ghost use Rattle.lua_grammar.specs.declared.TokenClass.TheVariants.{Do, Repeat, While};
+ghost use Rattle.lua_reading.specs.LuaGrammarTokens.{class_at};
+ghost use Rattle.lua_reading.specs.LuaGrammarDeclaredTokenClassTheVariants.{Do, Repeat, While};
 ghost use Rattle.lua_reading.specs.Parsing.{HasOneEnd};
 ghost use Rattle.lua_reading.specs.Answers.{StatAnswer};
 
@@ -12,11 +12,10 @@ use crate::exprs::{boxed, exp};
 use crate::functions::named_function;
 use crate::locals::{break_stat, local, return_stat};
 use crate::loops::for_loop;
-use lua_grammar::{Context, TokenClass};
 use lua_lexer::Token;
 use lua_reading::context::{in_loop, under};
 use lua_reading::tokens::{class_at, line_at};
-use lua_reading::{Fault, Reading, fault_at, make};
+use lua_reading::{Context, Fault, Reading, TokenClass, fault_at, make};
 use lua_syntax::Stat;
 use std::alloc::Global;
 

@@ -1,20 +1,18 @@
 //! Table constructors (manual 2.5.7).
 ghost use Rattle.std.specs.Prelude.{◌≡◌, ◌≢◌, ◌<◌, ◌≤◌, ◌+◌, length};
-ghost use Rattle.lua_grammar.specs.Tokens.{class_at, tok_at};
+ghost use Rattle.lua_reading.specs.LuaGrammarTokens.{class_at, tok_at};
 ghost use Rattle.lua_syntax.specs.View.{fields_view};
-ghost use Rattle.lua_grammar.specs.declared.TokenClass.TheVariants.{Assign, LeftBrace, LeftBracket, Name};
+ghost use Rattle.lua_reading.specs.LuaGrammarDeclaredTokenClassTheVariants.{Assign, LeftBrace, LeftBracket, Name};
 ghost use Rattle.lua_reading.specs.Parsing.{HasOneEnd, fields_lang, fields_goes};
 ghost use Rattle.lua_reading.specs.Answers.{Answer, IsItem, MaybeEmpty, OperandAnswer, field_lang, field_goes, one_field};
 
 use crate::exprs::exp;
-use lua_grammar::{Context, TokenClass};
 use lua_lexer::Token;
 use lua_reading::context::under;
 use lua_reading::tokens::{class_at, copy_at, line_at};
-use lua_reading::{Fault, Reading, fault_at, make};
-use lua_syntax::{Expr, Field};
+use lua_reading::{Context, Fault, Reading, TokenClass, fault_at, make};
+use lua_syntax::{Expr, Field, WkBaseList as List};
 use std::alloc::Global;
-use wk_base::List;
 
 // A table constructor.
 #[cycle(parser)]

@@ -32,3 +32,4 @@ pub use pattern::{Capture, Match, Pattern, Search};
 pub use prepared::PreparedSet;
 pub use read::{PatternFault, read_set};
 pub use steps::{symbol_at, text_from};
+pub use wk_base::List;

@@ -6,9 +6,9 @@ use Rattle.std.proofs.lemmas.Bool.{and_parts, or_cases, cases_lt, eqb-true, leb-
 use Rattle.std.proofs.lemmas.List.{get_or-drop, drop-drop, drop_all}
 use Rattle.std.proofs.lemmas.List.Sums.{prefix_len_stops}
 use Rattle.lua_lexer.specs.declared.token.TokenKind.{TokenKind}
-use Rattle.lua_lexer.specs.declared.token.TokenKind.TheVariants.{Name, Word, Mark, Number, Text}
+use Rattle.lua_lexer.specs.declared.token.TokenKind.TheVariants.{Name, Word, Text}
 use Rattle.lua_lexer.specs.declared.token.Piece.{Piece}
-use Rattle.wk_base.specs.Space.{is_white}
+use Rattle.lua_lexer.specs.WkBaseSpace.{is_white}
 use Rattle.lua_lexer.specs.Lexis.{at, is_break, is_letter, is_digit, is_numeral, is_name_byte, is_quote, is_keyword, break_size, breaks_after, breaks, equals_behind, opens_long, before_closing, Body, Closed, Open, string_body, mark_size, no_token, token_piece, long_piece, long_comment, long_string, comment_of, string_of, mark_of, piece_of}
 use Rattle.lua_lexer.proofs.PieceLemmas.{at_space}
 use Rattle.lua_piece_laws.proofs.StayLemmas.{at_break, at_hyphens}

@@ -1,14 +1,14 @@
 -- Long brackets and comments (manual 2.1) that stay the same in front of other bytes.
-use Rattle.std.proofs.Common.{◌≡◌, ℕ, zero, suc, ◌+◌, ◌-◌, ◌<◌, ◌≤◌, ◌⊎◌, inl, inr, Bool, true, false, List, [], ◌∷◌, ◌++◌, length, take, drop, refl, sym, ap, subst, ◌∙◌, arith, length-drop, true≢false}
-use Rattle.std.specs.Prelude.{Option, Some, None, Result, Ok, Err, not, ◌==◌, ◌&&◌}
+use Rattle.std.proofs.Common.{◌≡◌, ℕ, suc, ◌+◌, ◌-◌, ◌<◌, ◌≤◌, ◌⊎◌, inl, inr, true, false, List, [], ◌∷◌, ◌++◌, length, take, drop, refl, sym, ap, subst, ◌∙◌, arith, length-drop, true≢false}
+use Rattle.std.specs.Prelude.{Option, Some, None, Result, Ok, Err, ◌==◌, ◌&&◌}
 use Rattle.std.specs.List.{prefix_len}
 use Rattle.std.proofs.lemmas.Bool.{and_parts, cases_lt, eqb-true, cond_both, cond-true, cond-false}
 use Rattle.std.proofs.lemmas.List.{take-append-le, take-take, length-take-le}
 use Rattle.std.proofs.lemmas.List.Sums.{prefix_len_passes}
 use Rattle.lua_lexer.specs.declared.token.Piece.{Piece}
-use Rattle.lua_lexer.specs.Lexis.{at, is_break, is_equals, equals_behind, opens_long, closes_long, one_later, before_closing, long_piece, long_comment, no_token, comment_of}
+use Rattle.lua_lexer.specs.Lexis.{at, is_equals, equals_behind, opens_long, closes_long, one_later, before_closing, long_piece}
 use Rattle.lua_piece_laws.proofs.SizeLemmas.{inside, closing_inside}
-use Rattle.lua_piece_laws.proofs.RunLemmas.{at_front, at_behind, drop_front, run_inside, run_ended}
+use Rattle.lua_piece_laws.proofs.RunLemmas.{at_front, drop_front, run_inside}
 
 -- ---- closing brackets
 

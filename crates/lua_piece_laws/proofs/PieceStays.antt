@@ -1,17 +1,17 @@
 -- Each piece stays the same in front of a byte that goes on with none.
-use Rattle.std.proofs.Common.{◌≡◌, ℕ, zero, suc, ◌+◌, ◌-◌, ◌<◌, ◌≤◌, ◌⊎◌, inl, inr, Bool, true, false, List, [], ◌∷◌, ◌++◌, length, take, drop, refl, sym, ap, subst, ◌∙◌, arith}
-use Rattle.std.specs.Prelude.{Option, Some, None, Result, Ok, Err, not, ◌==◌, ◌&&◌, ◌||◌}
+use Rattle.std.proofs.Common.{◌≡◌, ℕ, ◌+◌, ◌-◌, ◌<◌, ◌≤◌, ◌⊎◌, inl, inr, Bool, true, false, List, [], ◌∷◌, ◌++◌, length, take, drop, refl, sym, ap, subst, ◌∙◌, arith}
+use Rattle.std.specs.Prelude.{Option, Some, None, Result, Ok, Err, ◌==◌, ◌&&◌}
 use Rattle.std.specs.List.{prefix_len, list_any}
-use Rattle.std.proofs.lemmas.Bool.{and_parts, or_cases, or_parts, cases_lt, eqb-true, cond_both, cond-false, and_left, and_right, or_from}
+use Rattle.std.proofs.lemmas.Bool.{or_parts, cases_lt, eqb-true, cond_both, cond-false, and_left, and_right, or_from}
 use Rattle.std.proofs.lemmas.List.{drop_at, length-take-le}
-use Rattle.lua_lexer.specs.declared.token.TokenKind.TheVariants.{Mark, Number, Text}
+use Rattle.lua_lexer.specs.declared.token.TokenKind.TheVariants.{Mark, Text}
 use Rattle.lua_lexer.specs.declared.token.Piece.{Piece}
-use Rattle.wk_base.specs.Space.{is_white}
-use Rattle.lua_lexer.specs.Lexis.{at, is_break, is_letter, is_digit, is_numeral, is_name_byte, is_number_byte, is_quote, is_equals, equals_behind, opens_long, before_closing, Body, Closed, Open, string_body, mark_size, no_token, token_piece, long_piece, long_comment, long_string, comment_of, string_of, mark_of, piece_of}
-use Rattle.lua_piece_laws.specs.Pieces.{ends_exponent, ends_mark, Ends, Stays, IsLineEnded}
+use Rattle.lua_lexer.specs.WkBaseSpace.{is_white}
+use Rattle.lua_lexer.specs.Lexis.{at, is_letter, is_digit, is_numeral, is_quote, is_equals, equals_behind, opens_long, before_closing, Body, Closed, Open, string_body, mark_size, token_piece, long_piece, long_comment, long_string, comment_of, string_of, mark_of, piece_of}
+use Rattle.lua_piece_laws.specs.Pieces.{Ends, Stays, IsLineEnded}
 use Rattle.lua_piece_laws.proofs.SizeLemmas.{mark_inside, nought}
 use Rattle.lua_piece_laws.proofs.RunLemmas.{at_front, at_behind, take_front}
-use Rattle.lua_piece_laws.proofs.StayLemmas.{word_stays, number_stays, ends_numeral, quoted_stays, bracketed_stays, long_comment_stays, line_comment_stays, mark_size_stays, mark_at, marked}
+use Rattle.lua_piece_laws.proofs.StayLemmas.{word_stays, number_stays, quoted_stays, bracketed_stays, long_comment_stays, line_comment_stays, mark_size_stays, mark_at, marked}
 
 -- ---- the bytes that go on with no piece
 

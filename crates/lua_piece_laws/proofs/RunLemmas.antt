@@ -1,11 +1,11 @@
 -- Texts that begin with the same bytes: places, runs and escapes (manual 2.1).
-use Rattle.std.proofs.Common.{◌≡◌, ℕ, zero, suc, ◌+◌, ◌-◌, ◌<◌, ◌≤◌, ◌⊎◌, inl, inr, Bool, true, false, List, [], ◌∷◌, ◌++◌, length, take, drop, refl, sym, ap, subst, ◌∙◌, arith, length-append, length-drop, true≢false, le_refl}
+use Rattle.std.proofs.Common.{◌≡◌, ℕ, zero, suc, ◌+◌, ◌-◌, ◌<◌, ◌≤◌, ◌⊎◌, inl, inr, Bool, true, false, List, [], ◌∷◌, ◌++◌, length, take, drop, refl, sym, ap, subst, ◌∙◌, arith, length-append, length-drop, le_refl}
 use Rattle.std.specs.Prelude.{not, nat_le, if◌then◌else◌, ◌==◌, ◌&&◌, ◌||◌, ◌*◌}
 use Rattle.std.specs.List.{prefix_len}
-use Rattle.std.proofs.lemmas.Bool.{and_parts, or_cases, or_parts, cases_lt, eqb-true, cond_both, cond-true, cond-false, false_from_ne_true}
-use Rattle.std.proofs.lemmas.List.{get_or_append_left, get_or-take, get_or-append_right, get_or-drop, length-take-le, drop-append-le, drop-take, take_at}
-use Rattle.std.proofs.lemmas.List.Sums.{prefix_len_is, prefix_len_passes, prefix_len_stops, prefix_len-le-length}
-use Rattle.lua_lexer.specs.Lexis.{at, is_break, is_digit, is_number_byte, is_name_byte, break_size, Escape, Gives, Wrong, escape_of, escape_value, escape_digits, escape_letter, Body, Closed, Open, behind_byte, with_byte, behind_escape, body_after, string_body, exponent_size, numeral_size}
+use Rattle.std.proofs.lemmas.Bool.{cases_lt, cond_both, cond-true, cond-false, false_from_ne_true}
+use Rattle.std.proofs.lemmas.List.{get_or_append_left, get_or-take, get_or-append_right, length-take-le, drop-append-le, drop-take, take_at}
+use Rattle.std.proofs.lemmas.List.Sums.{prefix_len_is, prefix_len_passes, prefix_len_stops}
+use Rattle.lua_lexer.specs.Lexis.{at, is_break, is_digit, is_number_byte, is_name_byte, Escape, Gives, Wrong, escape_of, escape_letter, Body, Closed, Open, behind_byte, with_byte, behind_escape, body_after, string_body, exponent_size, numeral_size}
 use Rattle.lua_piece_laws.specs.Pieces.{ends_exponent}
 use Rattle.lua_piece_laws.proofs.SizeLemmas.{numeral_inside, Short, body_short}
 

@@ -1,14 +1,14 @@
 -- How many bytes a piece has: some, and no more than there are.
-use Rattle.std.proofs.Common.{◌≡◌, ℕ, zero, suc, ◌+◌, ◌-◌, ◌<◌, ◌≤◌, ◌⊎◌, inl, inr, Bool, true, false, List, [], ◌∷◌, length, take, drop, refl, sym, ap, subst, ◌∙◌, arith, length-drop}
+use Rattle.std.proofs.Common.{◌≡◌, ℕ, zero, suc, ◌+◌, ◌-◌, ◌<◌, ◌≤◌, ◌⊎◌, inl, inr, true, false, List, [], ◌∷◌, length, take, drop, refl, subst, arith, length-drop}
 use Rattle.std.specs.Prelude.{Option, Some, None, Result, Ok, Err, not, ◌==◌, ◌&&◌, ◌||◌}
 use Rattle.std.specs.List.{prefix_len}
 use Rattle.std.proofs.lemmas.Bool.{and_parts, or_cases, cases_lt, eqb-true, or_left, cond_both}
 use Rattle.std.proofs.lemmas.List.{get_or_past}
 use Rattle.std.proofs.lemmas.List.Sums.{prefix_len-le-length}
-use Rattle.lua_lexer.specs.declared.token.TokenKind.TheVariants.{Mark, Number, Text}
+use Rattle.lua_lexer.specs.declared.token.TokenKind.TheVariants.{Text}
 use Rattle.lua_lexer.specs.declared.token.Piece.{Piece}
-use Rattle.wk_base.specs.Space.{is_white}
-use Rattle.lua_lexer.specs.Lexis.{at, is_break, is_letter, is_digit, is_numeral, is_name_byte, is_number_byte, is_quote, is_single, equals_behind, opens_long, closes_long, one_later, before_closing, Escape, Gives, Wrong, escape_of, Body, Closed, Open, behind_byte, with_byte, behind_escape, body_after, string_body, exponent_size, numeral_size, mark_size, token_piece, long_piece, long_comment, long_string, comment_of, string_of, mark_of, piece_of}
+use Rattle.lua_lexer.specs.WkBaseSpace.{is_white}
+use Rattle.lua_lexer.specs.Lexis.{at, is_break, is_letter, is_numeral, is_name_byte, is_number_byte, is_quote, is_single, equals_behind, opens_long, closes_long, one_later, before_closing, Escape, Gives, Wrong, escape_of, Body, Closed, Open, behind_byte, with_byte, behind_escape, body_after, string_body, exponent_size, numeral_size, mark_size, token_piece, long_piece, long_comment, long_string, comment_of, string_of, mark_of, piece_of}
 use Rattle.lua_lexer.proofs.PieceLemmas.{prefix_positive, numeral_positive}
 
 -- ---- places

@@ -1,19 +1,19 @@
 -- A piece stays the same in front of other bytes, where the first of these can't go on with it.
 use Rattle.std.proofs.Common.{◌≡◌, ℕ, zero, suc, ◌+◌, ◌-◌, ◌<◌, ◌≤◌, ◌⊎◌, inl, inr, Bool, true, false, List, [], ◌∷◌, ◌++◌, length, take, drop, refl, sym, ap, subst, ◌∙◌, arith, length-drop, true≢false}
-use Rattle.std.specs.Prelude.{Option, Some, None, Result, Ok, Err, not, if◌then◌else◌, ◌==◌, ◌&&◌, ◌||◌}
+use Rattle.std.specs.Prelude.{Some, Result, Ok, Err, not, if◌then◌else◌, ◌==◌, ◌&&◌, ◌||◌}
 use Rattle.std.specs.List.{prefix_len}
-use Rattle.std.proofs.lemmas.Bool.{and_parts, or_parts, or_cases, cases_lt, eqb-true, ne_eqb, cond_both, cond-true, cond-false, and_left, and_right, or_from, or_left, or_right}
+use Rattle.std.proofs.lemmas.Bool.{and_parts, or_cases, cases_lt, eqb-true, ne_eqb, cond_both, cond-true, cond-false, and_left, and_right, or_from, or_left, or_right}
 use Rattle.std.proofs.lemmas.List.{get_or-drop}
 use Rattle.std.proofs.lemmas.List.Sums.{prefix_len-le-length, prefix_len_passes, prefix_len_stops}
 use Rattle.lua_lexer.specs.declared.token.TokenKind.TheVariants.{Mark, Number, Text}
 use Rattle.lua_lexer.specs.declared.token.Piece.{Piece}
-use Rattle.wk_base.specs.Space.{is_white}
-use Rattle.lua_lexer.specs.Lexis.{at, is_break, is_letter, is_digit, is_numeral, is_name_byte, is_number_byte, is_quote, is_single, is_equals, equals_behind, opens_long, before_closing, long_text, Body, Closed, Open, string_body, word_kind, numeral_size, mark_size, no_token, token_piece, long_piece, long_comment, long_string, comment_of, string_of, mark_of, piece_of}
-use Rattle.lua_lexer.proofs.PieceLemmas.{at_space, at_letter, at_numeral, at_quote, at_bracket, at_comment, at_mark, prefix_positive, numeral_positive}
+use Rattle.lua_lexer.specs.WkBaseSpace.{is_white}
+use Rattle.lua_lexer.specs.Lexis.{at, is_break, is_letter, is_digit, is_numeral, is_name_byte, is_number_byte, is_quote, is_single, is_equals, equals_behind, opens_long, before_closing, Body, Closed, Open, string_body, word_kind, numeral_size, mark_size, no_token, token_piece, long_comment, long_string, comment_of, piece_of}
+use Rattle.lua_lexer.proofs.PieceLemmas.{at_letter, at_numeral, at_quote, at_bracket, at_comment, at_mark, prefix_positive, numeral_positive}
 use Rattle.lua_piece_laws.specs.Pieces.{ends_exponent, ends_mark}
-use Rattle.lua_piece_laws.proofs.SizeLemmas.{inside, numeral_inside, mark_inside, string_short, Short, closing_inside}
-use Rattle.lua_piece_laws.proofs.RunLemmas.{at_front, at_behind, drop_front, take_front, run_inside, run_ended, numeral_stays, string_stays}
-use Rattle.lua_piece_laws.proofs.LongBrackets.{closing_stays, opens_same, long_stays}
+use Rattle.lua_piece_laws.proofs.SizeLemmas.{inside, numeral_inside, string_short, Short, closing_inside}
+use Rattle.lua_piece_laws.proofs.RunLemmas.{at_front, at_behind, drop_front, take_front, run_ended, numeral_stays, string_stays}
+use Rattle.lua_piece_laws.proofs.LongBrackets.{opens_same, long_stays}
 
 -- The first byte stays.
 first_stays : (test : ℕ → Bool) (b : Bool) (n : ℕ) (t r : List ℕ) → 0 < n → n ≤ length t → test (at t 0) ≡ b → test (at (take n t ++ r) 0) ≡ b

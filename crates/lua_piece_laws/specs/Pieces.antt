@@ -1,6 +1,6 @@
 -- WHAT STAYS THE SAME in front of other bytes: the piece at the front of a text (manual 2.1), where the byte behind it can't go on with it.
-use Rattle.std.specs.Prelude.{◌≡◌, ℕ, ◌+◌, ◌<◌, ◌≤◌, Bool, true, false, ◌==◌, ◌&&◌, ◌||◌, List, ◌++◌, length, take, drop, Result, Ok, Err}
-use Rattle.wk_base.specs.Space.{is_white}
+use Rattle.std.specs.Prelude.{◌≡◌, ℕ, ◌+◌, ◌<◌, ◌≤◌, true, false, ◌==◌, ◌&&◌, ◌||◌, List, ◌++◌, length, take, drop, Result, Ok, Err}
+use Rattle.lua_lexer.specs.WkBaseSpace.{is_white}
 use Rattle.lua_lexer.specs.declared.token.TokenKind.TheVariants.{Name, Text}
 use Rattle.lua_lexer.specs.declared.token.Piece.{Piece}
 use Rattle.lua_lexer.specs.Lexis.{at, is_break, is_digit, is_name_byte, is_number_byte, is_equals, opens_long, no_token, token_piece, piece_of}

@@ -1,12 +1,12 @@
 -- A machine takes steps and calls, and leaves all other allowances as they are.
 use Rattle.std.proofs.Common.{◌≡◌, ℕ, zero, suc, Option, Some, None, refl, subst}
-use Rattle.wk_base.specs.declared.left.Left.{Left}
+use Rattle.page_run.specs.WkBaseDeclaredLeftLeft.{Left}
 use Rattle.page_run.specs.Perform.{less}
-use Rattle.lua_slots.specs.Code.{CWorld}
-use Rattle.lua_slots.specs.Slots.{Slots}
-use Rattle.lua_slots.specs.Points.{Point, Move, Costs, Marks, Enters, Exits, Now}
-use Rattle.lua_slots.specs.Moves.{moves}
-use Rattle.lua_slots.specs.Enact.{Funds, all_given_back, Enacted, Stands, Short, paid, calling, called, marked, back, enact}
+use Rattle.lua_goes.specs.LuaSlotsCode.{CWorld}
+use Rattle.lua_goes.specs.LuaSlotsSlots.{Slots}
+use Rattle.lua_goes.specs.LuaSlotsPoints.{Point, Move, Costs, Marks, Enters, Exits, Now}
+use Rattle.lua_goes.specs.LuaSlotsMoves.{moves}
+use Rattle.lua_goes.specs.LuaSlotsEnact.{Funds, all_given_back, Enacted, Stands, Short, paid, calling, called, marked, back, enact}
 use Rattle.lua_goes.specs.Going.{Stop, funds_at, Reaches, here, further, Comes, is_over, is_short, is_short_late, is_asking}
 use Rattle.lua_points.specs.Laws.{TakesItsOwn, OtherAllowancesStay}
 

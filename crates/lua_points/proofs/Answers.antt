@@ -1,12 +1,12 @@
 -- THE EVENTS that are seen, and answers.
 use Rattle.std.proofs.Common.{◌≡◌, true, false, List, [], ◌∷◌, ◌++◌, Some, IsTrue, refl, sym, ◌∙◌, ap, subst, inl, inr}
-use Rattle.wk_base.specs.declared.left.Left.{Left}
+use Rattle.page_run.specs.WkBaseDeclaredLeftLeft.{Left}
 use Rattle.page_run.specs.Run.{Asks}
 use Rattle.page_run.specs.Outcome.{Outcome, Goes}
 use Rattle.page_run.specs.State.{Reply, Tally}
 use Rattle.page_run.specs.Perform.{wait}
 use Rattle.page_run.proofs.Enough.{perform-Sees, perform-Changes, perform-Asks}
-use Rattle.mw_frame.specs.declared.question.Ask.{Ask}
+use Rattle.lua_goes.specs.MwFrameDeclaredQuestionAsk.{Ask}
 use Rattle.lua_heap.specs.Proc.{Proc, proc_names}
 use Rattle.lua_heap.specs.Value.{Value, Table}
 use Rattle.lua_heap.specs.Heap.{Heap, Ref, tab, cel, Obj, look, IsShared}
@@ -17,16 +17,16 @@ use Rattle.lua_heap.proofs.Places.{some_back}
 use Rattle.lua_heap.proofs.Names.{all-map}
 use Rattle.lua_heap.proofs.Sets.{image-at, image-back, closed-image, or-left, or-right, or-back, true-or-false, shared-is}
 use Rattle.lua_heap.proofs.Joins.{joined}
-use Rattle.lua_meaning.specs.Questions.{Answer, Expanded, NoPage, Loaded, LoadFailed}
-use Rattle.lua_meaning.specs.Acts.{Jump, State, LuaRun}
-use Rattle.lua_meaning.specs.World.{World}
-use Rattle.lua_meaning.specs.Things.{meaning_of}
-use Rattle.lua_meaning.specs.Waiting.{receive}
-use Rattle.lua_meaning.specs.Start.{Work, lua}
-use Rattle.lua_slots.specs.Code.{CWorld}
-use Rattle.lua_slots.specs.Slots.{Slots}
-use Rattle.lua_slots.specs.Points.{SFrame, Point, Gives, Asking}
-use Rattle.lua_slots.specs.Enact.{Funds, replied}
+use Rattle.lua_agree.specs.LuaMeaningQuestions.{Answer, Expanded, NoPage, Loaded, LoadFailed}
+use Rattle.lua_goes.specs.LuaMeaningActs.{Jump, State, LuaRun}
+use Rattle.lua_agree.specs.LuaMeaningWorld.{World}
+use Rattle.lua_agree.specs.LuaMeaningThings.{meaning_of}
+use Rattle.lua_agree.specs.LuaMeaningWaiting.{receive}
+use Rattle.lua_agree.specs.LuaMeaningStart.{Work, lua}
+use Rattle.lua_goes.specs.LuaSlotsCode.{CWorld}
+use Rattle.lua_goes.specs.LuaSlotsSlots.{Slots}
+use Rattle.lua_goes.specs.LuaSlotsPoints.{SFrame, Point, Gives, Asking}
+use Rattle.lua_goes.specs.LuaSlotsEnact.{Funds, replied}
 use Rattle.lua_agree.specs.Values.{SameOutcome, values_, jumps_, raised}
 use Rattle.lua_agree.specs.Functions.{SameFunction}
 use Rattle.lua_agree.specs.Rests.{After, SameRest}

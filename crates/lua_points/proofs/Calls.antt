@@ -7,10 +7,10 @@ use Rattle.lua_heap.proofs.Places.{clash}
 use Rattle.lua_heap.proofs.Sets.{or-back, with-back, shared-is, shared-back}
 use Rattle.lua_heap.proofs.Frames.{frame-wider, frame-own}
 use Rattle.lua_heap.proofs.ReachLaws.{unowned_stays}
-use Rattle.lua_slots.specs.Code.{CWorld}
-use Rattle.lua_slots.specs.Slots.{Slots}
-use Rattle.lua_slots.specs.Points.{Point, Gives, Asking}
-use Rattle.lua_slots.specs.Enact.{Funds}
+use Rattle.lua_goes.specs.LuaSlotsCode.{CWorld}
+use Rattle.lua_goes.specs.LuaSlotsSlots.{Slots}
+use Rattle.lua_goes.specs.LuaSlotsPoints.{Point, Gives, Asking}
+use Rattle.lua_goes.specs.LuaSlotsEnact.{Funds}
 use Rattle.lua_goes.specs.Going.{Stop, Over, Lacks, Waiting, heap_at}
 use Rattle.lua_agree.specs.Named.{roots}
 use Rattle.lua_points.specs.At.{At, Gone, IsAt}

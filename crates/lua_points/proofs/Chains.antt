@@ -1,23 +1,23 @@
 -- THE LAWS COMPOSE: a machine starts and goes on to a question; others go on outside of its set; it is answered, and goes on. What it
 -- comes to is what the meaning comes to with that reply.
 use Rattle.std.proofs.Common.{◌≡◌, ℕ, List, [], ◌∷◌, Some, IsTrue}
-use Rattle.wk_base.specs.declared.left.Left.{Left}
+use Rattle.page_run.specs.WkBaseDeclaredLeftLeft.{Left}
 use Rattle.page_run.specs.Outcome.{Outcome}
 use Rattle.page_run.specs.State.{Tally}
-use Rattle.mw_frame.specs.declared.question.Ask.{Ask}
+use Rattle.lua_goes.specs.MwFrameDeclaredQuestionAsk.{Ask}
 use Rattle.lua_heap.specs.Proc.{Proc}
 use Rattle.lua_heap.specs.Value.{Value}
 use Rattle.lua_heap.specs.Heap.{Heap, Ref, Obj, look}
 use Rattle.lua_heap.specs.Reach.{Set, nowhere, union, with_new}
-use Rattle.lua_meaning.specs.Questions.{Answer}
-use Rattle.lua_meaning.specs.Acts.{Jump}
-use Rattle.lua_meaning.specs.World.{World}
-use Rattle.lua_meaning.specs.Start.{Work}
-use Rattle.lua_slots.specs.Code.{CWorld}
-use Rattle.lua_slots.specs.IsCode.{Agrees}
-use Rattle.lua_slots.specs.Slots.{Slots, with_heap}
-use Rattle.lua_slots.specs.Points.{SFrame, Gives, Asking, Works}
-use Rattle.lua_slots.specs.Enact.{Funds, funds, replied}
+use Rattle.lua_agree.specs.LuaMeaningQuestions.{Answer}
+use Rattle.lua_goes.specs.LuaMeaningActs.{Jump}
+use Rattle.lua_agree.specs.LuaMeaningWorld.{World}
+use Rattle.lua_agree.specs.LuaMeaningStart.{Work}
+use Rattle.lua_goes.specs.LuaSlotsCode.{CWorld}
+use Rattle.lua_agree.specs.LuaSlotsIsCode.{Agrees}
+use Rattle.lua_goes.specs.LuaSlotsSlots.{Slots, with_heap}
+use Rattle.lua_goes.specs.LuaSlotsPoints.{SFrame, Gives, Asking, Works}
+use Rattle.lua_goes.specs.LuaSlotsEnact.{Funds, funds, replied}
 use Rattle.lua_goes.specs.Going.{Stop, Waiting, Comes}
 use Rattle.lua_points.specs.At.{Gone}
 use Rattle.lua_points.specs.Told.{IsHome, slots_at_start, reply, IsToldAs}

@@ -1,13 +1,13 @@
 -- The clauses of a machine's calls, from the laws of points.
 use Rattle.std.proofs.Common.{◌≡◌, ℕ, Some, refl, subst}
-use Rattle.wk_base.specs.declared.left.Left.{Left}
+use Rattle.page_run.specs.WkBaseDeclaredLeftLeft.{Left}
 use Rattle.page_run.specs.State.{Tally, no_tally}
 use Rattle.lua_heap.specs.Proc.{Proc, proc_names}
 use Rattle.lua_heap.specs.Heap.{Heap, Ref, look}
 use Rattle.lua_heap.specs.Reach.{Frame, Own}
-use Rattle.lua_slots.specs.Code.{CWorld}
-use Rattle.lua_slots.specs.Slots.{Slots}
-use Rattle.lua_slots.specs.Points.{Point}
+use Rattle.lua_goes.specs.LuaSlotsCode.{CWorld}
+use Rattle.lua_goes.specs.LuaSlotsSlots.{Slots}
+use Rattle.lua_goes.specs.LuaSlotsPoints.{Point}
 use Rattle.lua_goes.specs.Going.{Stop, Over, Lacks, Waiting, heap_at, Comes}
 use Rattle.lua_goes.proofs.Events.{comes_to_an_event}
 use Rattle.lua_points.specs.Laws.{roots_at, event_telling}

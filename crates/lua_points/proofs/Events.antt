@@ -5,20 +5,20 @@ use Rattle.page_run.specs.Outcome.{Outcome}
 use Rattle.page_run.specs.State.{Reply, Event, Ended}
 use Rattle.page_run.specs.Perform.{wait, NoRise}
 use Rattle.page_run.proofs.Enough.{perform-Ends}
-use Rattle.mw_frame.specs.declared.question.Ask.{Ask}
-use Rattle.lua_syntax.specs.Tree.{Exp}
+use Rattle.lua_goes.specs.MwFrameDeclaredQuestionAsk.{Ask}
+use Rattle.lua_agree.specs.LuaSyntaxTree.{Exp}
 use Rattle.lua_heap.specs.Value.{Value}
 use Rattle.lua_heap.specs.Related.{Map}
-use Rattle.lua_meaning.specs.Questions.{Answer}
-use Rattle.lua_meaning.specs.Acts.{Jump, State, LuaRun}
-use Rattle.lua_meaning.specs.World.{World}
-use Rattle.lua_meaning.specs.Things.{meaning_of}
-use Rattle.lua_meaning.specs.Scope.{Scope}
-use Rattle.lua_meaning.specs.Waiting.{receive}
-use Rattle.lua_slots.specs.Code.{CExp, CWorld}
-use Rattle.lua_slots.specs.Slots.{Activation}
-use Rattle.lua_slots.specs.Points.{SFrame, Gives, Asking}
-use Rattle.lua_slots.specs.Enact.{Funds, all_given_back}
+use Rattle.lua_agree.specs.LuaMeaningQuestions.{Answer}
+use Rattle.lua_goes.specs.LuaMeaningActs.{Jump, State, LuaRun}
+use Rattle.lua_agree.specs.LuaMeaningWorld.{World}
+use Rattle.lua_agree.specs.LuaMeaningThings.{meaning_of}
+use Rattle.lua_agree.specs.LuaMeaningScope.{Scope}
+use Rattle.lua_agree.specs.LuaMeaningWaiting.{receive}
+use Rattle.lua_goes.specs.LuaSlotsCode.{CExp, CWorld}
+use Rattle.lua_goes.specs.LuaSlotsSlots.{Activation}
+use Rattle.lua_goes.specs.LuaSlotsPoints.{SFrame, Gives, Asking}
+use Rattle.lua_goes.specs.LuaSlotsEnact.{Funds, all_given_back}
 use Rattle.lua_agree.specs.Variables.{Var}
 use Rattle.lua_agree.specs.Values.{SameOutcome}
 use Rattle.lua_agree.specs.Rests.{After, SameRest, at_end, SameEnd, ends_block, ends_body, ends_while, ends_repeat, ends_count, ends_each}

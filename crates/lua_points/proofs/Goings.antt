@@ -1,10 +1,10 @@
 -- A CALL of a machine, for every run that stands where the machine stands.
 use Rattle.std.proofs.Common.{◌≡◌, List, [], Some, ◌∙◌, refl, subst, inl, inr, IsTrue}
-use Rattle.wk_base.specs.declared.left.Left.{Left}
+use Rattle.page_run.specs.WkBaseDeclaredLeftLeft.{Left}
 use Rattle.page_run.specs.declared.which.Which.{Which}
 use Rattle.page_run.specs.Outcome.{Outcome}
 use Rattle.page_run.specs.State.{Reply, Event, Spent}
-use Rattle.mw_frame.specs.declared.question.Ask.{Ask}
+use Rattle.lua_goes.specs.MwFrameDeclaredQuestionAsk.{Ask}
 use Rattle.lua_heap.specs.Proc.{Proc, proc_names}
 use Rattle.lua_heap.specs.Value.{Value}
 use Rattle.lua_heap.specs.Heap.{Heap, Ref, Obj, look, IsShared}
@@ -15,16 +15,16 @@ use Rattle.lua_heap.proofs.Names.{all-map}
 use Rattle.lua_heap.proofs.Steps.{later-same}
 use Rattle.lua_heap.proofs.Sets.{shared-is, shared-back}
 use Rattle.lua_heap.proofs.Frames.{frame-later, inside-later}
-use Rattle.lua_meaning.specs.Questions.{Answer}
-use Rattle.lua_meaning.specs.Acts.{Jump, State, LuaRun}
-use Rattle.lua_meaning.specs.World.{World}
-use Rattle.lua_meaning.specs.Start.{Work}
-use Rattle.lua_slots.specs.Code.{CWorld}
-use Rattle.lua_slots.specs.IsCode.{Agrees}
-use Rattle.lua_slots.specs.Slots.{Slots}
-use Rattle.lua_slots.specs.Points.{Point, Gives, Move}
-use Rattle.lua_slots.specs.Moves.{moves}
-use Rattle.lua_slots.specs.Enact.{Funds, Enacted, all_given_back, Stands as StandsThere, Short, enact}
+use Rattle.lua_agree.specs.LuaMeaningQuestions.{Answer}
+use Rattle.lua_goes.specs.LuaMeaningActs.{Jump, State, LuaRun}
+use Rattle.lua_agree.specs.LuaMeaningWorld.{World}
+use Rattle.lua_agree.specs.LuaMeaningStart.{Work}
+use Rattle.lua_goes.specs.LuaSlotsCode.{CWorld}
+use Rattle.lua_agree.specs.LuaSlotsIsCode.{Agrees}
+use Rattle.lua_goes.specs.LuaSlotsSlots.{Slots}
+use Rattle.lua_goes.specs.LuaSlotsPoints.{Point, Gives, Move}
+use Rattle.lua_goes.specs.LuaSlotsMoves.{moves}
+use Rattle.lua_goes.specs.LuaSlotsEnact.{Funds, Enacted, all_given_back, Stands as StandsThere, Short, enact}
 use Rattle.lua_goes.specs.Going.{Stop, led, Reaches, here, further, Comes, is_over, is_short, is_short_late, is_asking}
 use Rattle.lua_agree.specs.Variables.{Var}
 use Rattle.lua_agree.specs.Functions.{SameFunction}

@@ -1,7 +1,7 @@
 -- WHATEVER A MACHINE NAMES STANDS FOR SOMETHING, under the map that says how its run stands in the store.
 use Rattle.std.proofs.Common.{◌≡◌, ℕ, List, [], ◌∷◌, ◌++◌, map, Option, Some, IsTrue, sym, subst}
 use Rattle.std.specs.List.{flat_map}
-use Rattle.lua_syntax.specs.Tree.{Exp}
+use Rattle.lua_agree.specs.LuaSyntaxTree.{Exp}
 use Rattle.page_run.specs.Outcome.{Outcome, Jumps}
 use Rattle.lua_heap.specs.Proc.{proc_names}
 use Rattle.lua_heap.specs.Value.{Value, Table}
@@ -10,17 +10,17 @@ use Rattle.lua_heap.specs.Related.{Map, Each, none, more, Same}
 use Rattle.lua_heap.specs.Reach.{Set, AllIn, value_names, values_names, NamesStand}
 use Rattle.lua_heap.proofs.Names.{all-join}
 use Rattle.lua_heap.proofs.Carried.{each-names, value-image, values-image}
-use Rattle.lua_meaning.specs.Scope.{Scope, Function}
-use Rattle.lua_meaning.specs.Acts.{Jump, Thing, LuaRun, Progress, Frame}
-use Rattle.lua_meaning.specs.Parts.{Target}
-use Rattle.lua_meaning.specs.Gsub.{Replacement, replacement_value, Job}
-use Rattle.lua_meaning.specs.Pending.{Pending}
-use Rattle.lua_meaning.specs.Titled.{ByTitle}
-use Rattle.lua_slots.specs.Code.{CExp, CWorld}
-use Rattle.lua_slots.specs.Slots.{Slot, Activation}
-use Rattle.lua_slots.specs.Points.{STarget, SThing, SFrame, Point}
-use Rattle.lua_library_agree.specs.Same.{SameFrame}
-use Rattle.lua_library_agree.specs.SameGsub.{SameReplacement, same_text, same_table, same_function, SameJob, same_job}
+use Rattle.lua_agree.specs.LuaMeaningScope.{Scope, Function}
+use Rattle.lua_goes.specs.LuaMeaningActs.{Jump, Thing, LuaRun, Progress, Frame}
+use Rattle.lua_agree.specs.LuaMeaningParts.{Target}
+use Rattle.lua_agree.specs.LuaMeaningGsub.{Replacement, replacement_value, Job}
+use Rattle.lua_goes.specs.LuaMeaningPending.{Pending}
+use Rattle.lua_agree.specs.LuaMeaningTitled.{ByTitle}
+use Rattle.lua_goes.specs.LuaSlotsCode.{CExp, CWorld}
+use Rattle.lua_goes.specs.LuaSlotsSlots.{Slot, Activation}
+use Rattle.lua_goes.specs.LuaSlotsPoints.{STarget, SThing, SFrame, Point}
+use Rattle.lua_agree.specs.LuaLibraryAgreeSame.{SameFrame}
+use Rattle.lua_agree.specs.LuaLibraryAgreeSameGsub.{SameReplacement, same_text, same_table, same_function, SameJob, same_job}
 use Rattle.lua_agree.specs.Variables.{Var, Vars, vnone, vplain, vboxed, HasCells, HeldFunction}
 use Rattle.lua_agree.specs.Values.{SameJump, returned, broke, raised, SameOutcome, values_, jumps_, SameTarget, places, globals_, entries_, SameSet, SamePending, pcalls, xpcalls, handlers, to_strings, walks, replacings, modules, SameProgress, running, finished, SameTitled}
 use Rattle.lua_agree.specs.Functions.{SameFunction}

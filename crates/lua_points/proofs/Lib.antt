@@ -1,3 +1,6 @@
+pub use Rattle.lua_agree.proofs.LuaLibraryAgreeLibraryLaws as LuaLibraryAgreeLibraryLaws
+pub use Rattle.lua_goes.proofs.Counts as LuaGoesCounts
+pub use Rattle.lua_goes.proofs.Events as LuaGoesEvents
 pub mod Images
 pub mod Standings
 pub mod Events

@@ -1,6 +1,6 @@
 -- POINTS: where they may be seen, what a machine owns there, and two machines of one store.
 use Rattle.std.proofs.Common.{◌≡◌, Bool, true, false, List, Some, IsTrue, refl, inl, inr}
-use Rattle.wk_base.specs.declared.left.Left.{Left}
+use Rattle.page_run.specs.WkBaseDeclaredLeftLeft.{Left}
 use Rattle.page_run.specs.State.{Reply}
 use Rattle.lua_heap.specs.Proc.{Proc, proc_names}
 use Rattle.lua_heap.specs.Heap.{Heap, Ref, Obj, look}
@@ -10,13 +10,13 @@ use Rattle.lua_heap.proofs.Names.{all-map}
 use Rattle.lua_heap.proofs.Sets.{or-left, or-right, with-back}
 use Rattle.lua_heap.proofs.Frames.{neighbour, apart-new}
 use Rattle.lua_heap.proofs.Reached.{without-back, own-closed}
-use Rattle.lua_meaning.specs.Questions.{Answer}
-use Rattle.lua_meaning.specs.World.{World}
-use Rattle.lua_meaning.specs.Start.{Work}
-use Rattle.lua_slots.specs.Code.{CWorld}
-use Rattle.lua_slots.specs.Slots.{Slots, with_heap}
-use Rattle.lua_slots.specs.Points.{Point}
-use Rattle.lua_slots.specs.Enact.{Funds}
+use Rattle.lua_agree.specs.LuaMeaningQuestions.{Answer}
+use Rattle.lua_agree.specs.LuaMeaningWorld.{World}
+use Rattle.lua_agree.specs.LuaMeaningStart.{Work}
+use Rattle.lua_goes.specs.LuaSlotsCode.{CWorld}
+use Rattle.lua_goes.specs.LuaSlotsSlots.{Slots, with_heap}
+use Rattle.lua_goes.specs.LuaSlotsPoints.{Point}
+use Rattle.lua_goes.specs.LuaSlotsEnact.{Funds}
 use Rattle.lua_agree.specs.Named.{roots}
 use Rattle.lua_points.specs.At.{At}
 use Rattle.lua_points.specs.Laws.{PointIsCut, PointHasImage, PointLooksAtSet, PointLooksAtOwn, NeighbourWaits, NeighboursStayApart, SetStaysThere}

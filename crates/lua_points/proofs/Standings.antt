@@ -11,11 +11,11 @@ use Rattle.lua_heap.proofs.Names.{all-both, all-map}
 use Rattle.lua_heap.proofs.Carried.{value-carried}
 use Rattle.lua_heap.proofs.Sets.{keep-none, cut-moves, cut-back, image-at, image-back, closed-image, stands-cut, stands-frame, or-right, or-back, true-or-false, shared-is, shared-back, shared-look}
 use Rattle.lua_heap.specs.Proc.{Proc, proc_names}
-use Rattle.lua_meaning.specs.Scope.{Function}
-use Rattle.lua_meaning.specs.Acts.{State, LuaRun}
-use Rattle.lua_slots.specs.Code.{CWorld}
-use Rattle.lua_slots.specs.Slots.{Slot, Slots}
-use Rattle.lua_slots.specs.Points.{Point}
+use Rattle.lua_agree.specs.LuaMeaningScope.{Function}
+use Rattle.lua_goes.specs.LuaMeaningActs.{State, LuaRun}
+use Rattle.lua_goes.specs.LuaSlotsCode.{CWorld}
+use Rattle.lua_goes.specs.LuaSlotsSlots.{Slot, Slots}
+use Rattle.lua_goes.specs.LuaSlotsPoints.{Point}
 use Rattle.lua_agree.specs.Variables.{Var, Vars, vnone, vplain, vboxed}
 use Rattle.lua_agree.specs.Functions.{SameFunction}
 use Rattle.lua_agree.specs.Named.{slot_names, functions_names, point_names, module_names, data_names, run_frame_names, held_names, roots}

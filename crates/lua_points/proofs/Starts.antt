@@ -1,6 +1,6 @@
 -- THE START of a machine, with a fresh environment: where it is, and that it owns what was made with it.
 use Rattle.std.proofs.Common.{◌≡◌, ℕ, zero, suc, Bool, true, false, List, [], ◌∷◌, Some, None, IsTrue, refl, sym, ◌∙◌, ap, subst, slice_get, if◌then◌else◌}
-use Rattle.lua_table.specs.Entries.{Contents}
+use Rattle.lua_heap.specs.LuaTableEntries.{Contents}
 use Rattle.lua_heap.specs.Proc.{Proc, proc_names}
 use Rattle.lua_heap.specs.Value.{Value}
 use Rattle.lua_heap.specs.Heap.{Heap, Ref, tab, cel, clo, mar, Obj, TableObj, CellObj, ClosureObj, MarkupObj, look, is_shared, table_at, empty}
@@ -10,12 +10,12 @@ use Rattle.lua_heap.proofs.Stood.{look-table}
 use Rattle.lua_heap.proofs.Places.{some_back, of-some_back, clash}
 use Rattle.lua_heap.proofs.Sets.{image-at, image-back, closed-image, with-made}
 use Rattle.lua_heap.proofs.Reached.{without-back, own-closed}
-use Rattle.lua_meaning.specs.Scope.{Function}
-use Rattle.lua_meaning.specs.Home.{home, home_heap}
-use Rattle.lua_meaning.specs.Start.{run_of}
-use Rattle.lua_slots.specs.Code.{CWorld}
-use Rattle.lua_slots.specs.Points.{Works}
-use Rattle.lua_library_agree.proofs.LibraryLaws.{homes_agree}
+use Rattle.lua_agree.specs.LuaMeaningScope.{Function}
+use Rattle.lua_goes.specs.LuaMeaningHome.{home, home_heap}
+use Rattle.lua_agree.specs.LuaMeaningStart.{run_of}
+use Rattle.lua_goes.specs.LuaSlotsCode.{CWorld}
+use Rattle.lua_goes.specs.LuaSlotsPoints.{Works}
+use Rattle.lua_agree.proofs.LuaLibraryAgreeLibraryLaws.{homes_agree}
 use Rattle.lua_agree.specs.Variables.{vnone}
 use Rattle.lua_agree.specs.Functions.{SameFunction}
 use Rattle.lua_agree.specs.Agree.{works}

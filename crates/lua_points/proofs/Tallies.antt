@@ -3,11 +3,11 @@ use Rattle.std.proofs.Common.{◌≡◌, ℕ, zero, suc, ◌+◌, Option, Some, 
 use Rattle.std.specs.Prelude.{max}
 use Rattle.page_run.specs.State.{Tally}
 use Rattle.page_run.specs.Perform.{less}
-use Rattle.lua_slots.specs.Code.{CWorld}
-use Rattle.lua_slots.specs.Slots.{Slots}
-use Rattle.lua_slots.specs.Points.{Point, Move, Costs, Marks, Enters, Exits, Now}
-use Rattle.lua_slots.specs.Moves.{moves}
-use Rattle.lua_slots.specs.Enact.{Funds, Enacted, Stands, Short, paid, marked, called, calling, back, enact}
+use Rattle.lua_goes.specs.LuaSlotsCode.{CWorld}
+use Rattle.lua_goes.specs.LuaSlotsSlots.{Slots}
+use Rattle.lua_goes.specs.LuaSlotsPoints.{Point, Move, Costs, Marks, Enters, Exits, Now}
+use Rattle.lua_goes.specs.LuaSlotsMoves.{moves}
+use Rattle.lua_goes.specs.LuaSlotsEnact.{Funds, Enacted, Stands, Short, paid, marked, called, calling, back, enact}
 use Rattle.lua_goes.specs.Going.{Reaches, here, further, is_over, is_short, is_short_late, is_asking}
 use Rattle.lua_points.specs.Laws.{telling, TallyIsCarried, NothingTold}
 

@@ -1,22 +1,22 @@
 -- WHERE A MACHINE STANDS IN A RUN, stated at the store alone; and what a call does.
 use Rattle.std.specs.Prelude.{◌≡◌, false, List, [], ◌++◌, Some, IsTrue}
-use Rattle.wk_base.specs.declared.left.Left.{Left}
+use Rattle.page_run.specs.WkBaseDeclaredLeftLeft.{Left}
 use Rattle.page_run.specs.State.{Reply, Spent}
 use Rattle.lua_heap.specs.Proc.{Proc, proc_names}
 use Rattle.lua_heap.specs.Heap.{Heap, Ref, tab, Obj, look, IsShared, table_at}
 use Rattle.lua_heap.specs.Related.{Map, Each, Same, Stands}
 use Rattle.lua_heap.specs.Reach.{Set, AllIn, obj_names, shared_at, with_new, Frame, FreezesNone}
-use Rattle.lua_meaning.specs.Questions.{Answer}
-use Rattle.lua_meaning.specs.Acts.{State, LuaRun}
-use Rattle.lua_meaning.specs.World.{World}
-use Rattle.lua_meaning.specs.Start.{Work, lua}
-use Rattle.lua_slots.specs.Code.{CWorld}
-use Rattle.lua_slots.specs.IsCode.{Agrees}
-use Rattle.lua_slots.specs.Slots.{Slots}
-use Rattle.lua_slots.specs.Points.{Point, Gives, Asking}
-use Rattle.lua_slots.specs.Enact.{Funds}
+use Rattle.lua_agree.specs.LuaMeaningQuestions.{Answer}
+use Rattle.lua_goes.specs.LuaMeaningActs.{State, LuaRun}
+use Rattle.lua_agree.specs.LuaMeaningWorld.{World}
+use Rattle.lua_agree.specs.LuaMeaningStart.{Work, lua}
+use Rattle.lua_goes.specs.LuaSlotsCode.{CWorld}
+use Rattle.lua_agree.specs.LuaSlotsIsCode.{Agrees}
+use Rattle.lua_goes.specs.LuaSlotsSlots.{Slots}
+use Rattle.lua_goes.specs.LuaSlotsPoints.{Point, Gives, Asking}
+use Rattle.lua_goes.specs.LuaSlotsEnact.{Funds}
 use Rattle.lua_goes.specs.Going.{Stop, Over, Lacks, Waiting, heap_at}
-use Rattle.lua_library_agree.specs.Same.{SameFrame}
+use Rattle.lua_agree.specs.LuaLibraryAgreeSame.{SameFrame}
 use Rattle.lua_agree.specs.Variables.{Var, Vars}
 use Rattle.lua_agree.specs.Values.{SameProgress, SameTitled}
 use Rattle.lua_agree.specs.Functions.{SameFunction}

@@ -1,23 +1,23 @@
 -- THE CLAUSES OF A MACHINE'S CALLS, in the form in which code cites them: each is true of all runs that stand where the machine stands,
 -- whatever their world, work, first allowances, replies and tally. A call counts from nothing, since a machine holds no tally.
 use Rattle.std.specs.Prelude.{◌≡◌, ℕ, List, [], ◌∷◌, ◌++◌, Some}
-use Rattle.wk_base.specs.declared.left.Left.{Left}
+use Rattle.page_run.specs.WkBaseDeclaredLeftLeft.{Left}
 use Rattle.page_run.specs.Outcome.{Outcome}
 use Rattle.page_run.specs.State.{Reply, Tally, no_tally}
-use Rattle.mw_frame.specs.declared.question.Ask.{Ask}
+use Rattle.lua_goes.specs.MwFrameDeclaredQuestionAsk.{Ask}
 use Rattle.lua_heap.specs.Proc.{Proc, proc_names}
 use Rattle.lua_heap.specs.Value.{Value}
 use Rattle.lua_heap.specs.Heap.{Heap, Ref, Obj, look}
 use Rattle.lua_heap.specs.Reach.{Set, AllIn, nowhere, union, with_shared, with_new, Frame, IsOwnSet, Own, OwnLeads}
-use Rattle.lua_meaning.specs.Questions.{Answer}
-use Rattle.lua_meaning.specs.Acts.{Jump}
-use Rattle.lua_meaning.specs.World.{World}
-use Rattle.lua_meaning.specs.Start.{Work}
-use Rattle.lua_slots.specs.Code.{CWorld}
-use Rattle.lua_slots.specs.IsCode.{Agrees}
-use Rattle.lua_slots.specs.Slots.{Slots}
-use Rattle.lua_slots.specs.Points.{SFrame, Point, Gives, Asking, Works}
-use Rattle.lua_slots.specs.Enact.{Funds, funds, replied}
+use Rattle.lua_agree.specs.LuaMeaningQuestions.{Answer}
+use Rattle.lua_goes.specs.LuaMeaningActs.{Jump}
+use Rattle.lua_agree.specs.LuaMeaningWorld.{World}
+use Rattle.lua_agree.specs.LuaMeaningStart.{Work}
+use Rattle.lua_goes.specs.LuaSlotsCode.{CWorld}
+use Rattle.lua_agree.specs.LuaSlotsIsCode.{Agrees}
+use Rattle.lua_goes.specs.LuaSlotsSlots.{Slots}
+use Rattle.lua_goes.specs.LuaSlotsPoints.{SFrame, Point, Gives, Asking, Works}
+use Rattle.lua_goes.specs.LuaSlotsEnact.{Funds, funds, replied}
 use Rattle.lua_goes.specs.Going.{Stop, heap_at, Comes}
 use Rattle.lua_agree.specs.Named.{roots}
 use Rattle.lua_points.specs.At.{At, Gone, IsAt}

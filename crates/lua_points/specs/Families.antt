@@ -8,8 +8,8 @@ use Rattle.lua_heap.specs.Value.{Value}
 use Rattle.lua_heap.specs.Heap.{Heap}
 use Rattle.lua_heap.specs.Reach.{Set, nowhere, union, with_new, MeetShared, Frame}
 use Rattle.lua_heap.specs.Graph.{Graph, IsPut}
-use Rattle.lua_meaning.specs.Questions.{Answer}
-use Rattle.lua_meaning.specs.Acts.{Jump}
+use Rattle.lua_agree.specs.LuaMeaningQuestions.{Answer}
+use Rattle.lua_goes.specs.LuaMeaningActs.{Jump}
 use Rattle.lua_points.specs.Told.{IsToldAs}
 use Rattle.lua_points.specs.Laws.{IsThere}
 

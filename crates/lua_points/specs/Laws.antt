@@ -1,26 +1,26 @@
 -- THE LAWS OF POINTS, which the clauses of a machine's calls cite.
 use Rattle.std.specs.Prelude.{◌≡◌, ◌+◌, max, ℕ, true, List, [], ◌∷◌, ◌++◌, Some, IsTrue}
-use Rattle.wk_base.specs.declared.left.Left.{Left}
+use Rattle.page_run.specs.WkBaseDeclaredLeftLeft.{Left}
 use Rattle.page_run.specs.declared.which.Which.{Which}
 use Rattle.page_run.specs.Outcome.{Outcome, Goes}
 use Rattle.page_run.specs.State.{Reply, Tally, no_tally, Ended, Spent, Asked}
-use Rattle.mw_frame.specs.declared.question.Ask.{Ask}
+use Rattle.lua_goes.specs.MwFrameDeclaredQuestionAsk.{Ask}
 use Rattle.lua_heap.specs.Proc.{Proc, proc_names}
 use Rattle.lua_heap.specs.Value.{Value}
 use Rattle.lua_heap.specs.Heap.{Heap, Ref, Obj, look, IsShared, empty}
 use Rattle.lua_heap.specs.Related.{Map, Stands}
 use Rattle.lua_heap.specs.Reach.{Set, AllIn, nowhere, union, with_shared, with_new, MeetShared, Frame, IsClosed, IsOwnSet, Own, OwnLeads}
 use Rattle.lua_heap.specs.Graph.{Graph, IsPut}
-use Rattle.lua_meaning.specs.Questions.{Answer, Loaded}
-use Rattle.lua_meaning.specs.Acts.{Jump, State}
-use Rattle.lua_meaning.specs.World.{World}
-use Rattle.lua_meaning.specs.Home.{home, home_heap}
-use Rattle.lua_meaning.specs.Start.{Work, lua}
-use Rattle.lua_slots.specs.Code.{CWorld}
-use Rattle.lua_slots.specs.IsCode.{Agrees}
-use Rattle.lua_slots.specs.Slots.{Slots, with_heap}
-use Rattle.lua_slots.specs.Points.{SFrame, Point, Gives, Asking, Works}
-use Rattle.lua_slots.specs.Enact.{Funds, funds, all_given_back, replied}
+use Rattle.lua_agree.specs.LuaMeaningQuestions.{Answer, Loaded}
+use Rattle.lua_goes.specs.LuaMeaningActs.{Jump, State}
+use Rattle.lua_agree.specs.LuaMeaningWorld.{World}
+use Rattle.lua_goes.specs.LuaMeaningHome.{home, home_heap}
+use Rattle.lua_agree.specs.LuaMeaningStart.{Work, lua}
+use Rattle.lua_goes.specs.LuaSlotsCode.{CWorld}
+use Rattle.lua_agree.specs.LuaSlotsIsCode.{Agrees}
+use Rattle.lua_goes.specs.LuaSlotsSlots.{Slots, with_heap}
+use Rattle.lua_goes.specs.LuaSlotsPoints.{SFrame, Point, Gives, Asking, Works}
+use Rattle.lua_goes.specs.LuaSlotsEnact.{Funds, funds, all_given_back, replied}
 use Rattle.lua_goes.specs.Going.{Stop, Over, Lacks, Waiting, funds_at, heap_at, Comes}
 use Rattle.lua_agree.specs.Values.{SameOutcome}
 use Rattle.lua_agree.specs.Functions.{SameFunction}

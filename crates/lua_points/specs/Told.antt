@@ -1,6 +1,6 @@
 -- HOW A MACHINE IS STARTED AND ANSWERED: what the store must hold for it.
 use Rattle.std.specs.Prelude.{◌≡◌, ℕ, List, [], ◌∷◌, Some, None}
-use Rattle.wk_base.specs.declared.left.Left.{Left}
+use Rattle.page_run.specs.WkBaseDeclaredLeftLeft.{Left}
 use Rattle.page_run.specs.declared.which.Which.{Which}
 use Rattle.page_run.specs.Outcome.{Outcome, Goes, Jumps}
 use Rattle.page_run.specs.State.{Reply, Tally, Gives as Says, Exhausts}
@@ -10,12 +10,12 @@ use Rattle.lua_heap.specs.Heap.{Heap, Ref, tab, look}
 use Rattle.lua_heap.specs.Related.{Map, Stands}
 use Rattle.lua_heap.specs.Reach.{Set, nowhere, Frame}
 use Rattle.lua_heap.specs.Graph.{Graph, IsKept}
-use Rattle.lua_meaning.specs.Scope.{Bytes}
-use Rattle.lua_meaning.specs.Questions.{Answer, Expanded, NoPage, Loaded, LoadFailed}
-use Rattle.lua_meaning.specs.Acts.{Jump, Raised}
-use Rattle.lua_meaning.specs.Home.{home, home_heap}
-use Rattle.lua_slots.specs.Code.{CWorld}
-use Rattle.lua_slots.specs.Slots.{Slots}
+use Rattle.lua_agree.specs.LuaMeaningScope.{Bytes}
+use Rattle.lua_agree.specs.LuaMeaningQuestions.{Answer, Expanded, NoPage, Loaded, LoadFailed}
+use Rattle.lua_goes.specs.LuaMeaningActs.{Jump, Raised}
+use Rattle.lua_goes.specs.LuaMeaningHome.{home, home_heap}
+use Rattle.lua_goes.specs.LuaSlotsCode.{CWorld}
+use Rattle.lua_goes.specs.LuaSlotsSlots.{Slots}
 use Rattle.lua_agree.specs.Functions.{SameFunction}
 
 -- A FRESH ENVIRONMENT was made in the store (manual 5; Scribunto, "Lua environment"): new tables that stand for those with which each run

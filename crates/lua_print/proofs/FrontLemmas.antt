@@ -1,19 +1,19 @@
 -- What stands at the front of a text that is made of tokens.
-use Rattle.std.proofs.Common.{◌≡◌, ℕ, zero, suc, ◌+◌, ◌-◌, ◌<◌, ◌≤◌, Bool, true, false, List, [], ◌∷◌, ◌++◌, length, take, drop, get_or, refl, sym, ap, subst, ◌∙◌, arith, le_refl}
+use Rattle.std.proofs.Common.{◌≡◌, ℕ, ◌+◌, ◌-◌, ◌<◌, ◌≤◌, true, false, List, [], ◌∷◌, ◌++◌, length, take, drop, get_or, refl, sym, ap, subst, ◌∙◌, arith, le_refl}
 use Rattle.std.specs.Prelude.{Option, Some, None, Result, Ok, Err, ◌==◌, ◌&&◌}
 use Rattle.std.specs.List.{prefix_len}
 use Rattle.std.proofs.lemmas.Bool.{and_parts, cond_both, cond-false}
 use Rattle.lua_lexer.specs.declared.token.TokenKind.{TokenKind}
-use Rattle.lua_lexer.specs.declared.token.TokenKind.TheVariants.{Mark, Number, Text}
+use Rattle.lua_lexer.specs.declared.token.TokenKind.TheVariants.{Text}
 use Rattle.lua_lexer.specs.declared.token.Token.{Token}
 use Rattle.lua_lexer.specs.declared.token.Piece.{Piece}
-use Rattle.wk_base.specs.Space.{is_white}
-use Rattle.lua_lexer.specs.Lexis.{at, is_letter, is_numeral, is_name_byte, is_quote, equals_behind, opens_long, before_closing, Body, Closed, Open, string_body, word_kind, is_keyword, numeral_size, mark_size, no_token, token_piece, long_piece, long_string, comment_of, string_of, mark_of, piece_of, tokens_of, end_token, line_behind, Spells}
+use Rattle.lua_lexer.specs.WkBaseSpace.{is_white}
+use Rattle.lua_lexer.specs.Lexis.{at, is_letter, is_numeral, is_quote, equals_behind, opens_long, before_closing, Body, Closed, Open, string_body, mark_size, no_token, token_piece, long_piece, long_string, comment_of, string_of, mark_of, piece_of, tokens_of, line_behind, Spells}
 use Rattle.lua_lexer.proofs.PieceLemmas.{at_space}
-use Rattle.lua_grammar.specs.declared.TokenClass.{TokenClass}
-use Rattle.lua_grammar.specs.Tokens.{kind_class, class_of}
+use Rattle.lua_reading.specs.LuaGrammarDeclaredTokenClass.{TokenClass}
+use Rattle.lua_reading.specs.LuaGrammarTokens.{kind_class, class_of}
 use Rattle.lua_print.specs.declared.items.Front.TheVariants.{Space, Shown}
-use Rattle.lua_print.specs.Answers.{IsKind, IsNext, IsFront, IsComment}
+use Rattle.lua_print.specs.Answers.{IsKind, IsNext, IsFront}
 use Rattle.lua_piece_laws.proofs.SizeLemmas.{inside, found_fits}
 
 -- ---- the next token

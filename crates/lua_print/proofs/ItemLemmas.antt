@@ -1,19 +1,18 @@
 -- The items of a text, one piece after another.
 use Rattle.std.proofs.Common.{◌≡◌, ℕ, zero, suc, ◌+◌, ◌-◌, ◌<◌, ◌≤◌, Bool, true, false, List, [], ◌∷◌, ◌++◌, length, take, drop, get_or, refl, sym, ap, subst, ◌∙◌, arith, append_assoc, append-nil, length-drop}
-use Rattle.std.specs.Prelude.{Option, Some, None, Result, Ok, Err}
+use Rattle.std.specs.Prelude.{Option, Some, None, Result, Ok}
 use Rattle.std.proofs.lemmas.Bool.{cond-true, cond-false}
 use Rattle.std.proofs.lemmas.List.{get_or-take, get_or-drop, get_or_default, drop-drop}
-use Rattle.lua_lexer.specs.declared.token.TokenKind.{TokenKind}
 use Rattle.lua_lexer.specs.declared.token.Token.{Token}
 use Rattle.lua_lexer.specs.declared.token.Piece.{Piece}
-use Rattle.wk_base.specs.Space.{is_white}
-use Rattle.lua_lexer.specs.Lexis.{at, breaks, no_token, token_piece, piece_of, tokens_of, end_token, line_behind, Spells, Lexes}
-use Rattle.lua_grammar.specs.declared.TokenClass.{TokenClass}
-use Rattle.lua_grammar.specs.Tokens.{kind_class, tok_at}
+use Rattle.lua_lexer.specs.WkBaseSpace.{is_white}
+use Rattle.lua_lexer.specs.Lexis.{at, breaks, no_token, token_piece, piece_of, tokens_of, line_behind, Spells, Lexes}
+use Rattle.lua_reading.specs.LuaGrammarDeclaredTokenClass.{TokenClass}
+use Rattle.lua_reading.specs.LuaGrammarTokens.{kind_class, tok_at}
 use Rattle.lua_print.specs.declared.items.Gap.{Gap}
 use Rattle.lua_print.specs.declared.items.Gap.TheVariants.{First, Beside}
 use Rattle.lua_print.specs.declared.items.Front.TheVariants.{Space, Shown}
-use Rattle.lua_print.specs.Items.{Item, item, behind_space, each_piece, pieces_by, pieces_of, with_piece, items_from, items_of}
+use Rattle.lua_print.specs.Items.{Item, item, behind_space, each_piece, pieces_by, items_from, items_of}
 use Rattle.lua_print.specs.Answers.{IsNext, IsFront, tokens_in}
 use Rattle.lua_piece_laws.proofs.SizeLemmas.{found_fits}
 use Rattle.lua_print.proofs.FrontLemmas.{next_piece}

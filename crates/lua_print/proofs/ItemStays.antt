@@ -1,19 +1,17 @@
 -- Items that are laid out are read back: those of a row in which each stands well in front of the next.
-use Rattle.std.proofs.Common.{◌≡◌, ◌≢◌, ℕ, zero, suc, ◌+◌, ◌<◌, ◌≤◌, ◌⊎◌, inl, inr, Bool, true, false, List, [], ◌∷◌, ◌++◌, length, take, drop, refl, sym, ap, subst, ◌∙◌, arith, append_assoc, true≢false}
+use Rattle.std.proofs.Common.{◌≡◌, ℕ, ◌+◌, ◌<◌, ◌⊎◌, inl, inr, Bool, true, false, List, [], ◌∷◌, ◌++◌, length, take, drop, refl, sym, ap, subst, ◌∙◌, arith}
 use Rattle.std.specs.Prelude.{Option, Some, None, Result, Ok, Err, not, ◌==◌, ◌&&◌, ◌||◌}
 use Rattle.std.specs.List.{prefix_len}
-use Rattle.std.proofs.lemmas.Bool.{cond_both, and_parts, or_cases, cases_lt, true_from_ne_false}
+use Rattle.std.proofs.lemmas.Bool.{cond_both, and_parts, or_cases, true_from_ne_false}
 use Rattle.std.proofs.lemmas.List.{length-take-le, get_or-take, get_or_append_left}
 use Rattle.lua_lexer.specs.declared.token.TokenKind.{TokenKind}
-use Rattle.lua_lexer.specs.declared.token.TokenKind.TheVariants.{Name, Word, Mark, Number, Text, End as EndToken}
+use Rattle.lua_lexer.specs.declared.token.TokenKind.TheVariants.{Name, Mark, Text}
 use Rattle.lua_lexer.specs.declared.token.Piece.{Piece}
-use Rattle.wk_base.specs.Space.{is_white}
+use Rattle.lua_lexer.specs.WkBaseSpace.{is_white}
 use Rattle.lua_lexer.specs.Lexis.{at, is_break, is_letter, is_digit, is_name_byte, is_equals, equals_behind, opens_long, before_closing, no_token, token_piece, long_comment, piece_of}
-use Rattle.lua_grammar.specs.declared.TokenClass.{TokenClass}
-use Rattle.lua_grammar.specs.declared.TokenClass.TheVariants.{Name as NameClass, Text as TextClass, Hash, LeftParen, RightParen, LeftBrace, RightBrace, LeftBracket, RightBracket, Semicolon, Colon, Comma, Dot}
-use Rattle.lua_grammar.specs.Tokens.{kind_class, word_class, mark_class}
-use Rattle.lua_print.specs.declared.items.Gap.{Gap}
-use Rattle.lua_print.specs.declared.items.Gap.TheVariants.{First, Beside, Below, Apart}
+use Rattle.lua_reading.specs.LuaGrammarDeclaredTokenClass.{TokenClass}
+use Rattle.lua_reading.specs.LuaGrammarDeclaredTokenClassTheVariants.{Name as NameClass, Text as TextClass, Hash, LeftParen, RightParen, LeftBrace, RightBrace, LeftBracket, RightBracket, Semicolon, Colon, Comma, Dot}
+use Rattle.lua_reading.specs.LuaGrammarTokens.{kind_class}
 use Rattle.lua_print.specs.Items.{Item}
 use Rattle.lua_print.specs.Layout.{is_tight, hugs_left, hugs_right, can_be_called, calls_or_indexes, is_left_bracket, is_left_brace, is_right_brace}
 use Rattle.lua_piece_laws.proofs.SizeLemmas.{found_fits}

@@ -1,5 +1,5 @@
 -- The layout of a chunk is the same chunk, lines aside, has its items, and is its own layout.
-use Rattle.std.proofs.Common.{◌≡◌, ℕ, ◌+◌, ◌⊎◌, inl, inr, List, [], ◌∷◌, ◌++◌, take, drop, length, refl, sym, ap, subst, ◌∙◌, arith}
+use Rattle.std.proofs.Common.{◌≡◌, ℕ, ◌+◌, inl, inr, List, [], ◌∷◌, ◌++◌, drop, length, refl, sym, ap, subst, ◌∙◌, arith}
 use Rattle.std.specs.Prelude.{Result, Ok, Err, IfOk}
 use Rattle.lua_syntax.specs.declared.Chunk.{Chunk}
 use Rattle.lua_syntax.specs.declared.fault.SyntaxFault.{SyntaxFault}
@@ -10,12 +10,12 @@ use Rattle.lua_lexer.specs.declared.token.Token.{Token}
 use Rattle.lua_lexer.specs.declared.token.Piece.{Piece}
 use Rattle.lua_lexer.specs.Lexis.{tokens_of, end_token, line_behind, Spells, Lexes}
 use Rattle.lua_lexer.proofs.Lists.{one_list, no_list_with_fault}
-use Rattle.lua_grammar.specs.Grammar.{IsChunk}
+use Rattle.lua_reading.specs.LuaGrammarGrammar.{IsChunk}
 use Rattle.lua_parser.specs.Chunks.{IsParsed}
 use Rattle.lua_twins.specs.Twins.{relined}
 use Rattle.lua_twins.proofs.Carried.{twins_spell}
 use Rattle.lua_print.specs.declared.items.Gap.TheVariants.{First}
-use Rattle.lua_print.specs.Items.{Item, items_from, items_of}
+use Rattle.lua_print.specs.Items.{items_from, items_of}
 use Rattle.lua_print.specs.Layout.{laid, layout_of}
 use Rattle.lua_print.specs.Answers.{HasChunk, IsArranged, IsSame, ParsesSame}
 use Rattle.lua_print.proofs.ItemLemmas.{spelled_pieces}

@@ -1,3 +1,4 @@
+pub use Rattle.lua_parser.proofs.lemmas.AnsweredOnce as LuaParserLemmasAnsweredOnce
 pub mod FrontLemmas
 pub mod ItemLemmas
 pub mod LayLemmas

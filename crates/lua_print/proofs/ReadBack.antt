@@ -1,17 +1,17 @@
 -- Items that are laid out are read back, where each may stand in front of the next.
-use Rattle.std.proofs.Common.{◌≡◌, ◌≢◌, ℕ, suc, ◌+◌, ◌-◌, Bool, true, false, List, [], ◌∷◌, ◌++◌, length, refl, sym, ap, subst, ◌∙◌, arith, append_assoc}
-use Rattle.std.specs.Prelude.{Option, Some, None, Ok, ◌==◌}
+use Rattle.std.proofs.Common.{◌≡◌, ◌≢◌, ℕ, ◌+◌, ◌-◌, Bool, true, false, List, [], ◌∷◌, ◌++◌, length, refl, sym, ap, subst, ◌∙◌, append_assoc}
+use Rattle.std.specs.Prelude.{Option, Some, None, Ok}
 use Rattle.std.proofs.lemmas.List.{get_or_append_left}
-use Rattle.wk_base.specs.Space.{is_white}
-use Rattle.lua_lexer.specs.Lexis.{at, is_break, is_equals, piece_of}
-use Rattle.lua_grammar.specs.declared.TokenClass.{TokenClass}
-use Rattle.lua_grammar.specs.declared.TokenClass.TheVariants.{LeftBracket, Dot}
+use Rattle.lua_lexer.specs.WkBaseSpace.{is_white}
+use Rattle.lua_lexer.specs.Lexis.{at, is_equals, piece_of}
+use Rattle.lua_reading.specs.LuaGrammarDeclaredTokenClass.{TokenClass}
+use Rattle.lua_reading.specs.LuaGrammarDeclaredTokenClassTheVariants.{LeftBracket, Dot}
 use Rattle.lua_piece_laws.proofs.PieceStays.{lf_ends, space_ends}
 use Rattle.lua_print.specs.declared.items.Gap.{Gap}
 use Rattle.lua_print.specs.declared.items.Gap.TheVariants.{First, Beside, Below, Apart}
-use Rattle.lua_print.specs.Items.{Item, item, pieces_by, items_from, items_of}
-use Rattle.lua_print.specs.Layout.{is_tight, level, one_more, is_opening, is_closing, indent, space_unless, before_item, laid_from, laid}
-use Rattle.lua_print.proofs.Readings.{Reads, class_of_kind, read_item, read_space, read_line, read_lines, read_end, read_all}
+use Rattle.lua_print.specs.Items.{Item, item, items_from, items_of}
+use Rattle.lua_print.specs.Layout.{is_tight, level, one_more, is_opening, is_closing, indent, before_item, laid_from, laid}
+use Rattle.lua_print.proofs.Readings.{Reads, read_item, read_space, read_line, read_lines, read_end, read_all}
 use Rattle.lua_print.proofs.ItemStays.{Sound, IsLine, Before, CanPrecede, CanFollow, Well, bytes_some, bytes_size, bytes_dark, stands_end, tight_stands}
 
 -- How an item may stand behind another.

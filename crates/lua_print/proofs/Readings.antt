@@ -1,20 +1,20 @@
 -- The items of a text, read from its front.
-use Rattle.std.proofs.Common.{◌≡◌, ℕ, zero, suc, ◌+◌, ◌-◌, ◌<◌, ◌≤◌, Bool, true, false, List, [], ◌∷◌, ◌++◌, length, take, drop, refl, sym, ap, subst, ◌∙◌, arith, length-append, length-drop}
-use Rattle.std.specs.Prelude.{Option, Some, None, Result, Ok, Err, ◌==◌}
+use Rattle.std.proofs.Common.{◌≡◌, ℕ, zero, suc, ◌+◌, ◌-◌, ◌<◌, ◌≤◌, true, false, List, [], ◌∷◌, ◌++◌, length, take, drop, refl, sym, ap, subst, ◌∙◌, arith, length-append, length-drop}
+use Rattle.std.specs.Prelude.{Option, Some, None, Result, Ok}
 use Rattle.std.specs.List.{prefix_len}
 use Rattle.std.proofs.lemmas.Bool.{cond-true, cond-false, eq-eqb}
 use Rattle.std.proofs.lemmas.List.{take_at, drop_at, get_or_append_left}
 use Rattle.std.proofs.lemmas.List.Folds.{prefix_len-append}
 use Rattle.lua_lexer.specs.declared.token.TokenKind.{TokenKind}
 use Rattle.lua_lexer.specs.declared.token.Piece.{Piece}
-use Rattle.wk_base.specs.Space.{is_white}
-use Rattle.lua_lexer.specs.Lexis.{at, is_break, break_size, breaks_after, breaks, no_token, piece_of}
+use Rattle.lua_lexer.specs.WkBaseSpace.{is_white}
+use Rattle.lua_lexer.specs.Lexis.{at, breaks_after, breaks, no_token, piece_of}
 use Rattle.lua_lexer.proofs.PieceLemmas.{at_space}
-use Rattle.lua_grammar.specs.declared.TokenClass.{TokenClass}
-use Rattle.lua_grammar.specs.Tokens.{kind_class}
+use Rattle.lua_reading.specs.LuaGrammarDeclaredTokenClass.{TokenClass}
+use Rattle.lua_reading.specs.LuaGrammarTokens.{kind_class}
 use Rattle.lua_print.specs.declared.items.Gap.{Gap}
 use Rattle.lua_print.specs.declared.items.Gap.TheVariants.{First, Beside, Below, Apart}
-use Rattle.lua_print.specs.Items.{Item, item, behind_space, each_piece, pieces_by, pieces_of, items_from, items_of}
+use Rattle.lua_print.specs.Items.{Item, item, behind_space, each_piece, pieces_by, items_from, items_of}
 use Rattle.lua_print.specs.Layout.{indent}
 use Rattle.lua_piece_laws.proofs.SizeLemmas.{found_fits}
 use Rattle.lua_piece_laws.proofs.PieceStays.{none_run}

@@ -1,25 +1,25 @@
 -- The items of a chunk: each may stand in front of the next.
-use Rattle.std.proofs.Common.{◌≡◌, ◌≢◌, ℕ, zero, suc, ◌+◌, ◌-◌, ◌<◌, ◌≤◌, ◌⊎◌, inl, inr, Bool, true, false, List, [], ◌∷◌, ◌++◌, length, take, drop, refl, sym, ap, subst, ◌∙◌, arith, true≢false}
-use Rattle.std.specs.Prelude.{Option, Some, None, Result, Ok, Err, if◌then◌else◌, ◌==◌, ◌&&◌}
+use Rattle.std.proofs.Common.{◌≡◌, ◌≢◌, ℕ, suc, ◌+◌, ◌-◌, ◌<◌, ◌⊎◌, inl, inr, Bool, true, false, List, [], ◌∷◌, ◌++◌, length, take, drop, refl, sym, ap, subst, ◌∙◌, arith, true≢false}
+use Rattle.std.specs.Prelude.{Option, Some, None, Ok, if◌then◌else◌, ◌==◌}
 use Rattle.std.proofs.lemmas.Bool.{cond_both, eqb-true}
 use Rattle.std.proofs.lemmas.List.{get_or-take}
 use Rattle.lua_lexer.specs.declared.token.TokenKind.{TokenKind}
 use Rattle.lua_lexer.specs.declared.token.Token.{Token}
 use Rattle.lua_lexer.specs.declared.token.Piece.{Piece}
-use Rattle.wk_base.specs.Space.{is_white}
-use Rattle.lua_lexer.specs.Lexis.{at, is_break, is_equals, breaks, opens_long, no_token, token_piece, piece_of, tokens_of, line_behind, Spells, Lexes}
+use Rattle.lua_lexer.specs.WkBaseSpace.{is_white}
+use Rattle.lua_lexer.specs.Lexis.{at, is_break, is_equals, breaks, no_token, token_piece, piece_of, tokens_of, line_behind, Spells, Lexes}
 use Rattle.lua_syntax.specs.Tree.{Block}
-use Rattle.lua_grammar.specs.declared.TokenClass.{TokenClass}
-use Rattle.lua_grammar.specs.declared.TokenClass.TheVariants.{Name as NameClass, Text as TextClass, EqEq, Assign, RightParen, RightBrace, LeftBracket, RightBracket, Dot}
-use Rattle.lua_grammar.specs.Tokens.{kind_class, class_of, class_at, tok_at}
-use Rattle.lua_grammar.specs.Grammar.{IsChunk}
-use Rattle.lua_neighbours.specs.Neighbours.{Indexed, NoEquals, Fits, AreNeighbours}
+use Rattle.lua_reading.specs.LuaGrammarDeclaredTokenClass.{TokenClass}
+use Rattle.lua_reading.specs.LuaGrammarDeclaredTokenClassTheVariants.{Name as NameClass, Text as TextClass, RightParen, RightBrace, LeftBracket, RightBracket, Dot}
+use Rattle.lua_reading.specs.LuaGrammarTokens.{kind_class, class_of, tok_at}
+use Rattle.lua_reading.specs.LuaGrammarGrammar.{IsChunk}
+use Rattle.lua_neighbours.specs.Neighbours.{Indexed, Fits, AreNeighbours}
 use Rattle.lua_neighbours.proofs.Chunks.{neighbours_fit}
 use Rattle.lua_piece_laws.proofs.SizeLemmas.{found_fits}
 use Rattle.lua_piece_laws.proofs.FirstBytes.{comment_first, line_end, token_dark, break_white, dark_behind, some_breaks}
 use Rattle.lua_print.specs.declared.items.Gap.{Gap}
 use Rattle.lua_print.specs.declared.items.Gap.TheVariants.{First, Beside, Below, Apart}
-use Rattle.lua_print.specs.Items.{Item, item, gap_of, behind_space, with_piece, pieces_of, items_from, items_of}
+use Rattle.lua_print.specs.Items.{Item, item, gap_of, behind_space, with_piece, items_from, items_of}
 use Rattle.lua_print.specs.Layout.{laid, layout_of}
 use Rattle.lua_print.proofs.ItemLemmas.{spelled_pieces}
 use Rattle.lua_print.proofs.ClassLemmas.{no_equals}

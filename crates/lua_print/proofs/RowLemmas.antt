@@ -1,7 +1,7 @@
 -- The worked examples, computed.
 use Rattle.std.proofs.Common.{refl}
 use Rattle.lua_lexer.specs.Lexis.{piece_of, breaks, numeral_size, string_body, long_text, with_line_feeds}
-use Rattle.lua_grammar.specs.Tokens.{word_class, mark_class}
+use Rattle.lua_reading.specs.LuaGrammarTokens.{word_class, mark_class}
 use Rattle.lua_print.specs.Items.{pieces_by, items_from, items_of}
 use Rattle.lua_print.specs.Layout.{layout_of}
 use Rattle.lua_print.specs.Examples.{IsRow, RowsHold, levels, brackets, branches, comments, line_breaks, blank}

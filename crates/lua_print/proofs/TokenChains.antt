@@ -1,10 +1,10 @@
 -- Two lists of tokens whose kinds are the same, and whose lines go on together, are twins.
-use Rattle.std.proofs.Common.{◌≡◌, ◌≢◌, ℕ, zero, suc, pred, ◌+◌, ◌<◌, ◌≤◌, ◌⊎◌, inl, inr, Bool, true, false, List, [], ◌∷◌, length, refl, sym, ap, subst, ◌∙◌, arith}
+use Rattle.std.proofs.Common.{◌≡◌, ◌≢◌, ℕ, zero, suc, pred, ◌<◌, ◌≤◌, ◌⊎◌, inl, inr, Bool, true, false, List, [], ◌∷◌, length, refl, sym, ap, ◌∙◌, arith}
 use Rattle.std.specs.Prelude.{if◌then◌else◌, ◌==◌}
 use Rattle.std.proofs.lemmas.Bool.{cond-true, cond-false, eq-eqb, eqb-true}
 use Rattle.lua_lexer.specs.declared.token.Token.{Token}
-use Rattle.lua_grammar.specs.declared.TokenClass.TheVariants.{Eof}
-use Rattle.lua_grammar.specs.Tokens.{kind_class, class_at, tok_at}
+use Rattle.lua_reading.specs.LuaGrammarDeclaredTokenClassTheVariants.{Eof}
+use Rattle.lua_reading.specs.LuaGrammarTokens.{kind_class, class_at, tok_at}
 use Rattle.lua_twins.specs.Twins.{AreTwins}
 
 -- A token and its twin, behind the lines where the tokens before them end.

@@ -1,21 +1,21 @@
 -- The tokens of two texts with the same items: their kinds are the same, and their lines go on together.
-use Rattle.std.proofs.Common.{◌≡◌, ◌≢◌, ℕ, zero, suc, ◌+◌, ◌<◌, ◌≤◌, ◌⊎◌, inl, inr, Bool, true, false, List, [], ◌∷◌, ◌++◌, length, take, drop, refl, sym, ap, subst, ◌∙◌, arith, append-nil, true≢false, le_refl}
-use Rattle.std.specs.Prelude.{Option, Some, None, Result, Ok, Err, if◌then◌else◌, ◌==◌, ◌&&◌}
+use Rattle.std.proofs.Common.{◌≡◌, ◌≢◌, ℕ, ◌+◌, ◌<◌, ◌≤◌, ◌⊎◌, inl, inr, Bool, true, false, List, [], ◌∷◌, ◌++◌, length, take, drop, refl, sym, ap, subst, ◌∙◌, arith, append-nil, true≢false, le_refl}
+use Rattle.std.specs.Prelude.{Option, Some, None, Ok, if◌then◌else◌, ◌==◌, ◌&&◌}
 use Rattle.std.proofs.lemmas.Bool.{and_parts, cond_both, eq-eqb, eqb-true}
 use Rattle.lua_lexer.specs.declared.token.TokenKind.{TokenKind}
 use Rattle.lua_lexer.specs.declared.token.TokenKind.TheVariants.{End as EndToken}
 use Rattle.lua_lexer.specs.declared.token.Token.{Token}
 use Rattle.lua_lexer.specs.declared.token.Piece.{Piece}
-use Rattle.wk_base.specs.Space.{is_white}
-use Rattle.lua_lexer.specs.Lexis.{at, breaks, no_token, token_piece, piece_of, tokens_of, end_token, line_behind, Spells}
-use Rattle.lua_grammar.specs.declared.TokenClass.{TokenClass}
-use Rattle.lua_grammar.specs.Tokens.{kind_class}
+use Rattle.lua_lexer.specs.WkBaseSpace.{is_white}
+use Rattle.lua_lexer.specs.Lexis.{at, breaks, no_token, token_piece, piece_of, tokens_of, end_token, Spells}
+use Rattle.lua_reading.specs.LuaGrammarDeclaredTokenClass.{TokenClass}
+use Rattle.lua_reading.specs.LuaGrammarTokens.{kind_class}
 use Rattle.lua_piece_laws.specs.Pieces.{Ends}
 use Rattle.lua_piece_laws.proofs.FirstBytes.{kind_at, dark_behind}
 use Rattle.lua_print.specs.declared.items.Gap.{Gap}
 use Rattle.lua_print.specs.declared.items.Gap.TheVariants.{First, Beside, Below, Apart}
 use Rattle.lua_print.specs.Items.{Item, item, gap_of, behind_space, with_piece, items_from}
-use Rattle.lua_print.proofs.ItemStays.{Sound, stands_end}
+use Rattle.lua_print.proofs.ItemStays.{stands_end}
 use Rattle.lua_print.proofs.RowLaws.{by_first, token_sound}
 use Rattle.lua_print.proofs.TokenChains.{Steps, Chain}
 

@@ -3,13 +3,13 @@ use Rattle.std.specs.Prelude.{◌≡◌, ℕ, ◌+◌, ◌<◌, true, false, Lis
 use Rattle.lua_syntax.specs.declared.Chunk.{Chunk}
 use Rattle.lua_syntax.specs.declared.fault.SyntaxFault.{SyntaxFault}
 use Rattle.lua_syntax.specs.declared.fault.SyntaxFault.TheVariants.{At, NoMemory}
-use Rattle.wk_base.specs.Space.{is_white}
+use Rattle.lua_lexer.specs.WkBaseSpace.{is_white}
 use Rattle.lua_lexer.specs.declared.token.Piece.{Piece}
 use Rattle.lua_lexer.specs.declared.token.Token.{Token}
 use Rattle.lua_lexer.specs.declared.token.TokenKind.{TokenKind}
 use Rattle.lua_lexer.specs.Lexis.{at, piece_of, no_token, token_piece, FirstFault}
-use Rattle.lua_grammar.specs.declared.TokenClass.{TokenClass}
-use Rattle.lua_grammar.specs.Tokens.{kind_class}
+use Rattle.lua_reading.specs.LuaGrammarDeclaredTokenClass.{TokenClass}
+use Rattle.lua_reading.specs.LuaGrammarTokens.{kind_class}
 use Rattle.lua_parser.specs.Chunks.{IsParsed}
 use Rattle.lua_print.specs.declared.items.Front.{Front}
 use Rattle.lua_print.specs.declared.items.Front.TheVariants.{Space, Shown}

@@ -1,12 +1,12 @@
 -- THE ITEMS OF A TEXT of Lua: its tokens but the end, and the comments between them (manual 2.1), each with its bytes as they stand and with
 -- the white space before it.
 use Rattle.std.specs.Prelude.{ℕ, zero, suc, ◌==◌, if◌then◌else◌, List, [], ◌∷◌, length, take, drop, Option, Some, None, Result, Ok, Err}
-use Rattle.wk_base.specs.Space.{is_white}
+use Rattle.lua_lexer.specs.WkBaseSpace.{is_white}
 use Rattle.lua_lexer.specs.Lexis.{at, breaks, piece_of}
 use Rattle.lua_lexer.specs.declared.token.Piece.{Piece}
 use Rattle.lua_lexer.specs.declared.token.TokenKind.{TokenKind}
-use Rattle.lua_grammar.specs.declared.TokenClass.{TokenClass}
-use Rattle.lua_grammar.specs.Tokens.{kind_class}
+use Rattle.lua_reading.specs.LuaGrammarDeclaredTokenClass.{TokenClass}
+use Rattle.lua_reading.specs.LuaGrammarTokens.{kind_class}
 use Rattle.lua_print.specs.declared.items.Gap.{Gap}
 use Rattle.lua_print.specs.declared.items.Gap.TheVariants.{First, Beside, Below, Apart}
 

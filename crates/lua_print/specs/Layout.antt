@@ -2,8 +2,8 @@
 -- Bytes are written by their codes: 10 is LF, 32 the space, 91 [.
 use Rattle.std.specs.Prelude.{ℕ, zero, suc, ◌-◌, Bool, true, false, not, ◌&&◌, ◌||◌, ◌==◌, if◌then◌else◌, List, [], ◌∷◌, ◌++◌, Option, Some, None}
 use Rattle.lua_lexer.specs.Lexis.{at}
-use Rattle.lua_grammar.specs.declared.TokenClass.{TokenClass}
-use Rattle.lua_grammar.specs.declared.TokenClass.TheVariants.{Name, Do, Else, Elseif, End, Function, Repeat, Then, Until, Hash, LeftParen, RightParen, LeftBrace, RightBrace, LeftBracket, RightBracket, Semicolon, Colon, Comma, Dot}
+use Rattle.lua_reading.specs.LuaGrammarDeclaredTokenClass.{TokenClass}
+use Rattle.lua_reading.specs.LuaGrammarDeclaredTokenClassTheVariants.{Name, Do, Else, Elseif, End, Function, Repeat, Then, Until, Hash, LeftParen, RightParen, LeftBrace, RightBrace, LeftBracket, RightBracket, Semicolon, Colon, Comma, Dot}
 use Rattle.lua_print.specs.declared.items.Gap.{Gap}
 use Rattle.lua_print.specs.declared.items.Gap.TheVariants.{First, Beside, Below, Apart}
 use Rattle.lua_print.specs.Items.{Item, items_of}

@@ -1,7 +1,7 @@
 //! What stands at the front of a text that is made of tokens: white space, a comment or a token.
 ghost use Rattle.std.specs.Prelude.{◌≡◌, ◌≢◌, ◌+◌, ◌-◌, ◌^◌, ◌<◌, ◌≤◌, length, drop, not, true, false, IfSome};
 ghost use Rattle.std.specs.List.{prefix_len};
-ghost use Rattle.wk_base.specs.Space.{is_white};
+ghost use Rattle.lua_lexer.specs.WkBaseSpace.{is_white};
 ghost use Rattle.lua_lexer.specs.Lexis.{at, is_break, is_equals, break_size, breaks, equals_behind, opens_long, closes_long, before_closing, comment_of};
 ghost use Rattle.lua_print.specs.Answers.{IsNext, IsFront, IsComment};
 

@@ -5,12 +5,12 @@ ghost use Rattle.lua_print.specs.Items.{gap_of, behind_space, items_of};
 ghost use Rattle.lua_print.specs.Answers.{tokens_in};
 
 use crate::fronts::{breaks, front};
-use lua_grammar::TokenClass;
 use lua_lexer::Token;
+use lua_reading::TokenClass;
 use lua_reading::tokens::token_at;
+use lua_syntax::NoMemory;
 use std::alloc::Global;
 use std::marker::Model;
-use wk_base::NoMemory;
 
 /// The white space before an item.
 #[derive(Clone, Copy, Debug, PartialEq, Eq)]

@@ -4,9 +4,9 @@ ghost use Rattle.lua_print.specs.Layout.{one_more, level, indent, space_unless, 
 
 use crate::items::{Gap, Item};
 use crate::spacing::{is_closing, is_opening, is_outdented, is_tight};
-use lua_grammar::TokenClass;
+use lua_reading::TokenClass;
+use lua_syntax::{NoMemory, WkBaseBytes as Bytes};
 use std::alloc::Global;
-use wk_base::{Bytes, NoMemory};
 
 /// Adds bytes.
 fn put(made: &mut Vec<u8>, bytes: &[u8]) -> Result<(), NoMemory>

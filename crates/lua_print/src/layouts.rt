@@ -8,9 +8,8 @@ use crate::items::items_of;
 use crate::laying::laid;
 use lua_lexer::lex;
 use lua_parser::parse;
-use lua_syntax::SyntaxFault;
+use lua_syntax::{NoMemory, SyntaxFault, WkBaseBytes as Bytes};
 use std::alloc::Global;
-use wk_base::{Bytes, NoMemory};
 
 /// Whether the text is a chunk.
 fn check(alloc: Global, text: &[u8]) -> Result<(), SyntaxFault>

@@ -20,3 +20,4 @@ mod spacing;
 
 pub use examples::rows_hold;
 pub use layouts::layout;
+pub use lua_syntax::{FaultAt, SyntaxFault, fault_message};

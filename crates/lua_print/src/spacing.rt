@@ -3,7 +3,7 @@ ghost use Rattle.std.specs.Prelude.{◌≡◌, ◌==◌};
 ghost use Rattle.lua_lexer.specs.Lexis.{at};
 ghost use Rattle.lua_print.specs.Layout.{is_opening, is_closing, is_outdented, hugs_left, hugs_right, can_be_called, calls_or_indexes, is_left_bracket, is_left_brace, is_right_brace, is_tight};
 
-use lua_grammar::TokenClass;
+use lua_reading::TokenClass;
 
 /// `do then repeat function {`
 pub fn is_opening(class: Option<TokenClass>) -> bool

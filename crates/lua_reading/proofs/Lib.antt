@@ -1,3 +1,6 @@
+pub use Rattle.lua_grammar.proofs.FaultLaws as LuaGrammarFaultLaws
+pub use Rattle.lua_lexer.proofs.Lists as LuaLexerLists
+pub use Rattle.lua_syntax.proofs.WkBaseOptions as WkBaseOptions
 pub mod pieces
 pub mod levels
 pub mod expressions

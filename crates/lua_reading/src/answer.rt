@@ -2,8 +2,8 @@
 ghost use Rattle.std.specs.Prelude.{◌≡◌};
 ghost use Rattle.lua_reading.specs.declared.answer.Fault.TheVariants.{NoMemory};
 
+use lua_syntax::NoMemory;
 use std::alloc::{AllocError, AllocFailed};
-use wk_base::NoMemory;
 
 /// A fault at a token, by its place in the list of tokens.
 #[derive(Clone, Copy, Debug)]

@@ -21,3 +21,4 @@ pub mod short_lists;
 pub mod tokens;
 
 pub use answer::{Fault, FaultPlace, Reading, fault_at};
+pub use lua_grammar::{Context, TokenClass};

@@ -6,9 +6,11 @@ ghost use Rattle.lua_syntax.specs.Tree.{NilE, TrueE, FalseE, NumberE, TextE, Dot
 ghost use Rattle.lua_syntax.specs.View.{expr_view, exprs_view, fields_view, field_view, function_view, block_view, stats_view, arm_view, arms_view, stat_view};
 
 use crate::answer::Fault;
-use lua_syntax::{Arm, BinaryOp, Block, Expr, ExprKind, Field, Function, Stat, StatKind, UnaryOp};
+use lua_syntax::{
+    Arm, BinaryOp, Block, Expr, ExprKind, Field, Function, Stat, StatKind, UnaryOp,
+    WkBaseBytes as Bytes, WkBaseList as List,
+};
 use std::alloc::Global;
-use wk_base::{Bytes, List};
 
 /// `nil`
 #[tactic(auto, using(lua_syntax::proofs::Views::views))]

@@ -1,8 +1,8 @@
 //! Lists of nodes, most of which have one item.
 ghost use Rattle.std.specs.Prelude.{◌≡◌, [], IfOk};
 
+use lua_syntax::{NoMemory, WkBaseList as List};
 use std::alloc::Global;
-use wk_base::{List, NoMemory};
 
 /// An empty list with room for one item, which is all that many lists of statements, expressions and arms need. At its first
 /// `push` a list takes room for four by itself.

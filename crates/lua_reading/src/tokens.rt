@@ -4,8 +4,8 @@ ghost use Rattle.lua_grammar.specs.Tokens.{word_class, mark_class, class_of, cla
 
 use lua_grammar::TokenClass;
 use lua_lexer::{Token, TokenKind};
+use lua_syntax::{NoMemory, WkBaseBytes as Bytes};
 use std::alloc::Global;
-use wk_base::{Bytes, NoMemory};
 
 // The keywords (manual 2.1).
 #[tactic(auto, unfolding(lua_grammar::specs::Tokens::word_class))]

@@ -1,1 +1,2 @@
+pub use Rattle.lua_meaning.proofs.GsubLaws as LuaMeaningGsubLaws
 pub mod Stays

@@ -3,7 +3,7 @@ use Rattle.std.specs.Prelude.{ℕ, ◌≤◌, Bool, List, length, Option, Some, 
 use Rattle.std.specs.Option.{option_map}
 use Rattle.lua_pattern.specs.declared.item.Item.{Item}
 use Rattle.lua_pattern.specs.declared.slots.Slot.{Slot}
-use Rattle.lua_string.specs.Walk.{span}
+use Rattle.lua_meaning.specs.LuaStringWalk.{span}
 use Rattle.lua_meaning.specs.Iterators.{Stand}
 use Rattle.lua_meaning.specs.Gsub.{Alphabet, OfBytes, OfPoints, Replacement, ByTable, ByFunction, Far, Job, Replacing}
 use Rattle.lua_store.specs.Seen.{StoreView, text_at, seen}

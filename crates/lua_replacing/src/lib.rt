@@ -11,3 +11,4 @@ pub mod job;
 
 pub use far::{Far, Stand};
 pub use job::{AnyPattern, Job, Replacer, Replacing};
+pub use lua_store::Value;

@@ -7,7 +7,7 @@ use Rattle.std.specs.Str.{bytes_eq}
 use Rattle.std.specs.Cmp.Lexicographic.{same_text}
 use Rattle.std.proofs.lemmas.Option.{slice_get-map, none-some}
 use Rattle.indexmap.specs.IndexSet.{insert_key}
-use Rattle.lua_meaning.specs.Scope.{Bytes}
+use Rattle.lua_code.specs.LuaMeaningScope.{Bytes}
 use Rattle.lua_resolve.specs.Constants.{bytes_of, StayNumbered}
 
 abbrev Key : Type 0

@@ -1,7 +1,7 @@
 -- Functions that are done: one more of them, and all of a module.
 use Rattle.std.proofs.Common.{◌≡◌, ℕ, zero, suc, Bool, true, sym, subst, List, [], ◌∷◌, ◌++◌, Some, option_map, slice_get}
-use Rattle.lua_meaning.specs.Scope.{Bytes}
-use Rattle.lua_slots.specs.Code.{CProto}
+use Rattle.lua_code.specs.LuaMeaningScope.{Bytes}
+use Rattle.lua_code.specs.LuaSlotsCode.{CProto}
 use Rattle.lua_code.specs.declared.proto.Proto.{Proto}
 use Rattle.lua_code.specs.Seen.{proto_seen, protos_seen}
 use Rattle.lua_cells.specs.Cells.{HasNoIdleCell, NoIdleCells}

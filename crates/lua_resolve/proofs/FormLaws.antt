@@ -19,10 +19,10 @@ use Rattle.lua_code.specs.declared.statement.Branch.{Branch}
 use Rattle.lua_code.specs.declared.statement.Target.{Target}
 use Rattle.lua_code.specs.declared.statement.Statement.TheVariants as codes
 use Rattle.lua_code.proofs.Views.{statement-If, statement-IfElse, statement-Count, statement-CountBy}
-use Rattle.lua_meaning.specs.Scope.{Bytes}
-use Rattle.lua_slots.specs.Code.{Place, CExp, CExps, CFields, CTarget, CArms, CBlock, CProto, Protos}
-use Rattle.lua_slots.specs.Sight.{Everywhere, Sight, nothing_local, with_local, inside}
-use Rattle.lua_slots.specs.IsCode.{EndSight, any_sight, operator_of, IsExp, IsExps, IsFields, IsTarget, IsTargets, IsArms, IsBlock, IsProtos}
+use Rattle.lua_code.specs.LuaMeaningScope.{Bytes}
+use Rattle.lua_code.specs.LuaSlotsCode.{Place, CExp, CExps, CFields, CTarget, CArms, CBlock, CProto, Protos}
+use Rattle.lua_code.specs.LuaSlotsSight.{Everywhere, Sight, nothing_local, with_local, inside}
+use Rattle.lua_code.specs.LuaSlotsIsCode.{EndSight, any_sight, operator_of, IsExp, IsExps, IsFields, IsTarget, IsTargets, IsArms, IsBlock, IsProtos}
 use Rattle.lua_code.specs.declared.statement.Statement.{Statement}
 use Rattle.lua_code.specs.Seen.{expression_seen, target_seen, statement_seen, block_seen, branches_seen, proto_seen, protos_seen, or_empty}
 use Rattle.lua_code.specs.declared.proto.Proto.{Proto}

@@ -2,11 +2,11 @@
 use Rattle.std.proofs.Common.{◌≡◌, ◌∙◌, ℕ, zero, suc, ◌-◌, ◌+◌, Bool, true, refl, sym, ap, subst, List, [], ◌∷◌, ◌++◌, map, length, drop, slice_get, Option, Some, None, arith}
 use Rattle.std.proofs.lemmas.List.{append_assoc, append-nil}
 use Rattle.lua_syntax.specs.Tree.{LocalS, LocalFunctionS, Exp, Exps, NoExp, MoreExp, Fields, NoField, Arms, NoArm, Block, NoStat, MoreStat, Stat, Fun, Lambda}
-use Rattle.lua_heap.specs.Related.{Each}
-use Rattle.lua_meaning.specs.Scope.{Bytes}
-use Rattle.lua_slots.specs.Code.{Place, CExp, CExps, NoC, MoreC, CFields, NoFieldC, CTarget, CArms, NoArmC, CBlock, EndC, DeclareC, LocalFunctionC, CProto, Protos}
-use Rattle.lua_slots.specs.Sight.{Sight, with_local, with_locals, AreAsMany, inside}
-use Rattle.lua_slots.specs.IsCode.{IsCaptured, IsClosure, any_sight, IsExp, IsExps, IsFields, IsFun, IsTarget, IsTargets, IsArms, IsBlock}
+use Rattle.lua_scopes.specs.LuaHeapRelated.{Each}
+use Rattle.lua_code.specs.LuaMeaningScope.{Bytes}
+use Rattle.lua_code.specs.LuaSlotsCode.{Place, CExp, CExps, NoC, MoreC, CFields, NoFieldC, CTarget, CArms, NoArmC, CBlock, EndC, DeclareC, LocalFunctionC, CProto, Protos}
+use Rattle.lua_code.specs.LuaSlotsSight.{Sight, with_local, with_locals, AreAsMany, inside}
+use Rattle.lua_code.specs.LuaSlotsIsCode.{IsCaptured, IsClosure, any_sight, IsExp, IsExps, IsFields, IsFun, IsTarget, IsTargets, IsArms, IsBlock}
 use Rattle.lua_code.specs.declared.expression.Expression.{Expression}
 use Rattle.lua_code.specs.declared.expression.Entry.{Entry}
 use Rattle.lua_code.specs.declared.statement.Target.{Target}

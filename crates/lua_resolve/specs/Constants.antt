@@ -2,7 +2,7 @@
 -- place among them as its number.
 use Rattle.std.specs.Prelude.{◌≡◌, ℕ, List, map, slice_get, Some}
 use Rattle.std.specs.Borrow.{Bor}
-use Rattle.lua_meaning.specs.Scope.{Bytes}
+use Rattle.lua_code.specs.LuaMeaningScope.{Bytes}
 
 abbrev pub bytes_of : List (Bor Bytes) → List Bytes
 bytes_of met = map (λ (b : Bor Bytes). b.now) met

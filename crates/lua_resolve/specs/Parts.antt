@@ -7,10 +7,10 @@ use Rattle.lua_syntax.specs.Tree.{Exp, Exps, Fields, Arms, Block, Stat, MoreStat
 use Rattle.lua_syntax.specs.declared.Expr.{Expr as ExprNode}
 use Rattle.lua_syntax.specs.declared.Block.{Block as BlockNode}
 use Rattle.lua_syntax.specs.View.{expr_view, block_view}
-use Rattle.lua_meaning.specs.Scope.{Bytes}
-use Rattle.lua_slots.specs.Code.{CExp, CExps, MoreC, CFields, CTarget, CArms, CBlock, CProto, Protos}
-use Rattle.lua_slots.specs.Sight.{Sight, AreAsMany}
-use Rattle.lua_slots.specs.IsCode.{EndSight, any_sight, IsExp, IsExps, IsFields, IsTargets, IsArms, IsBlock}
+use Rattle.lua_code.specs.LuaMeaningScope.{Bytes}
+use Rattle.lua_code.specs.LuaSlotsCode.{CExp, CExps, MoreC, CFields, CTarget, CArms, CBlock, CProto, Protos}
+use Rattle.lua_code.specs.LuaSlotsSight.{Sight, AreAsMany}
+use Rattle.lua_code.specs.LuaSlotsIsCode.{EndSight, any_sight, IsExp, IsExps, IsFields, IsTargets, IsArms, IsBlock}
 use Rattle.lua_code.specs.declared.expression.Expression.{Expression}
 use Rattle.lua_code.specs.declared.expression.Entry.{Entry}
 use Rattle.lua_code.specs.declared.statement.Target.{Target}

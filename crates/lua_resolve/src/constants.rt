@@ -4,10 +4,11 @@ ghost use Rattle.lua_resolve.specs.Constants.{bytes_of, StayNumbered};
 
 use crate::lists::with_room;
 use indexmap::IndexSet;
+use lua_code::{Bytes, NoMemory};
+use lua_store::List;
 use std::alloc::Global;
 use std::hash::RandomState;
 use std::marker::Model;
-use wk_base::{Bytes, List, NoMemory};
 
 /// Texts and names that were met, each once, in the order in which they were met first.
 #[derive(Drop)]

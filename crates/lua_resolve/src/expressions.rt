@@ -3,19 +3,19 @@
 ghost use Rattle.std.specs.Prelude.{◌≡◌, map, IfOk, OnOk};
 ghost use Rattle.lua_syntax.specs.Tree.{Fields as PlainFields};
 ghost use Rattle.lua_syntax.specs.View.{kind_view, expr_view, exprs_view, field_view, fields_view, function_view};
-ghost use Rattle.lua_slots.specs.Code.{Protos as PlainProtos, CFields};
-ghost use Rattle.lua_slots.specs.Sight.{Sight};
-ghost use Rattle.lua_slots.specs.IsCode.{IsClosure, IsExp, IsExps, IsFields, IsFun, IsTarget, IsTargets};
+ghost use Rattle.lua_code.specs.LuaSlotsCode.{Protos as PlainProtos, CFields};
+ghost use Rattle.lua_code.specs.LuaSlotsSight.{Sight};
+ghost use Rattle.lua_code.specs.LuaSlotsIsCode.{IsClosure, IsExp, IsExps, IsFields, IsFun, IsTarget, IsTargets};
 ghost use Rattle.lua_code.specs.Seen.{place_seen, expression_seen, expressions_seen, entry_seen, entries_seen, target_seen};
 ghost use Rattle.lua_resolve.specs.Parts.{state_of, Next, Later};
 
 use crate::lists::with_room;
 use crate::operators::binary;
 use crate::resolver::Resolver;
-use lua_code::{Entry, Expression, Place, Proto, Target};
+use lua_code::{Entry, Expression, NoMemory, Place, Proto, Target};
+use lua_store::List;
 use lua_syntax::{Expr, ExprKind, Field, Function};
 use std::alloc::Global;
-use wk_base::{List, NoMemory};
 
 /// A function that is done: its number, and from where it captures.
 #[derive(Drop)]

@@ -5,10 +5,10 @@ ghost use Rattle.lua_cells.specs.Cells.{HasNoIdleCell};
 ghost use Rattle.lua_resolve.specs.Finished.{AllTight};
 
 use lua_cells::has_no_idle_cell;
-use lua_code::Proto;
+use lua_code::{NoMemory, Proto};
+use lua_store::List;
 use std::alloc::Global;
 use std::marker::Model;
-use wk_base::{List, NoMemory};
 
 /// Functions that are done, in the order in which they ended.
 #[derive(Drop)]

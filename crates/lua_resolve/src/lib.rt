@@ -21,4 +21,5 @@ mod resolver;
 mod rounds;
 mod statements;
 
+pub use lua_store::{TableId, TextId};
 pub use rounds::{is_made_once, resolve};

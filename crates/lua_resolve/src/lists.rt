@@ -1,8 +1,9 @@
 //! Lists with room.
 ghost use Rattle.std.specs.Prelude.{◌≡◌, [], IfOk};
 
+use lua_code::NoMemory;
+use lua_store::List;
 use std::alloc::Global;
-use wk_base::{List, NoMemory};
 
 /// No items, and room for so many, so that these are not moved while they come.
 pub(crate) fn with_room<T>(alloc: Global, count: usize) -> Result<List<T>, NoMemory>

@@ -1,9 +1,9 @@
 //! Code of operators.
 ghost use Rattle.std.specs.Prelude.{◌≡◌, ℕ, None, option_map};
 ghost use Rattle.lua_syntax.specs.Tree.{Exp, BinaryE};
-ghost use Rattle.lua_slots.specs.Code.{Protos as PlainProtos};
-ghost use Rattle.lua_slots.specs.Sight.{Sight};
-ghost use Rattle.lua_slots.specs.IsCode.{IsExp, operator_of};
+ghost use Rattle.lua_code.specs.LuaSlotsCode.{Protos as PlainProtos};
+ghost use Rattle.lua_code.specs.LuaSlotsSight.{Sight};
+ghost use Rattle.lua_code.specs.LuaSlotsIsCode.{IsExp, operator_of};
 ghost use Rattle.lua_code.specs.Seen.{expression_seen, operator_seen};
 
 use lua_code::{Arithmetic, Expression, Operator};

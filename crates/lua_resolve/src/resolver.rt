@@ -1,9 +1,9 @@
 //! A text that is gone over: names, constants, declarations, and functions that are done.
 ghost use Rattle.std.specs.Prelude.{◌≡◌, ◌∷◌, ◌++◌, [], true, suc, length, IfOk, IfSome, OnOk, option_map};
 ghost use Rattle.lua_syntax.specs.Tree.{NameE};
-ghost use Rattle.lua_slots.specs.Code.{Protos as PlainProtos};
-ghost use Rattle.lua_slots.specs.Sight.{Sight};
-ghost use Rattle.lua_slots.specs.IsCode.{IsExp, IsTarget};
+ghost use Rattle.lua_code.specs.LuaSlotsCode.{Protos as PlainProtos};
+ghost use Rattle.lua_code.specs.LuaSlotsSight.{Sight};
+ghost use Rattle.lua_code.specs.LuaSlotsIsCode.{IsExp, IsTarget};
 ghost use Rattle.lua_code.specs.Seen.{place_seen, expression_seen, target_seen};
 ghost use Rattle.lua_scopes.specs.Scopes.{nothing_known, closed_to, IsSighted};
 ghost use Rattle.lua_resolve.specs.Parts.{state_of, Next, Later, AreDeclared};
@@ -11,11 +11,11 @@ ghost use Rattle.lua_resolve.specs.Parts.{state_of, Next, Later, AreDeclared};
 use crate::constants::Constants;
 use crate::functions::Functions;
 use crate::lists::with_room;
-use lua_code::{Expression, Place, Proto, Target};
+use lua_code::{Bytes, Expression, NoMemory, Place, Proto, Target};
 use lua_scopes::{Scopes, Sketch};
+use lua_store::List;
 use std::alloc::Global;
 use std::hash::RandomState;
-use wk_base::{Bytes, List, NoMemory};
 
 /// A text that is gone over: the functions in progress, those that are done, and the constants that were met.
 #[derive(Drop)]

@@ -1,18 +1,18 @@
 //! A text is gone over until all that functions capture has cells, and nothing else has.
 ghost use Rattle.std.specs.Prelude.{◌≡◌, true, IfOk};
 ghost use Rattle.lua_syntax.specs.View.{chunk_view};
-ghost use Rattle.lua_slots.specs.IsCode.{IsProtos};
+ghost use Rattle.lua_code.specs.LuaSlotsIsCode.{IsProtos};
 ghost use Rattle.lua_code.specs.Seen.{protos_seen};
 ghost use Rattle.lua_cells.specs.Cells.{NoIdleCells};
 
 use crate::functions::{Finished, with_one};
 use crate::resolver::Resolver;
-use lua_code::{Proto, Protos};
+use lua_code::{NoMemory, Proto, Protos};
 use lua_scopes::{Scopes, Sketch, first_look};
+use lua_store::List;
 use lua_syntax::Chunk;
 use std::alloc::Global;
 use std::hash::RandomState;
-use wk_base::{List, NoMemory};
 
 /// What going over a text once gave: functions, whether only what functions capture has cells, and whether all of it has.
 #[derive(Drop)]

@@ -2,18 +2,18 @@
 ghost use Rattle.std.specs.Prelude.{◌≡◌, ℕ, IfOk, OnOk};
 ghost use Rattle.lua_syntax.specs.Tree.{NoStat, Arms as PlainArms};
 ghost use Rattle.lua_syntax.specs.View.{block_view, stats_view, stat_view, stat_kind_view, arm_view, arms_view};
-ghost use Rattle.lua_slots.specs.Code.{Protos as PlainProtos, CArms};
-ghost use Rattle.lua_slots.specs.Sight.{Sight, with_local, with_locals, AreAsMany};
-ghost use Rattle.lua_slots.specs.IsCode.{any_sight, IsArms, IsBlock};
+ghost use Rattle.lua_code.specs.LuaSlotsCode.{Protos as PlainProtos, CArms};
+ghost use Rattle.lua_code.specs.LuaSlotsSight.{Sight, with_local, with_locals, AreAsMany};
+ghost use Rattle.lua_code.specs.LuaSlotsIsCode.{any_sight, IsArms, IsBlock};
 ghost use Rattle.lua_code.specs.Seen.{statement_seen, block_seen, branch_seen, branches_seen};
 ghost use Rattle.lua_resolve.specs.Parts.{state_of, Next, Later, IsPart, BlockSoFar, IsStep, IsOther};
 
 use crate::expressions::Done;
 use crate::lists::with_room;
 use crate::resolver::Resolver;
-use lua_code::{Branch, Expression, Statement};
+use lua_code::{Branch, Bytes, Expression, NoMemory, Statement};
+use lua_store::List;
 use lua_syntax::{Arm, Block, Expr, Stat, StatKind};
-use wk_base::{Bytes, List, NoMemory};
 
 /// The body of a loop with one variable, and whether that has a cell.
 #[derive(Drop)]

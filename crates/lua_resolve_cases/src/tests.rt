@@ -1,6 +1,7 @@
 //! Texts with their counts and their constants, worked out by hand.
 use crate::modules::{BOOK, DATA, INFOBOX, LANGUAGES, TEXT};
 use crate::{Counts, counts_of, has_constants, returns};
+use lua_code::NoMemory;
 use lua_parser::parse;
 use lua_resolve::{is_made_once, resolve};
 use lua_syntax::SyntaxFault;
@@ -8,7 +9,6 @@ use std::alloc::Global;
 use std::hash::RandomState;
 use std::process::Abort;
 use std::test::Fail;
-use wk_base::NoMemory;
 
 /// A text, its variables with cells, those in plain registers, and its functions.
 struct Row {

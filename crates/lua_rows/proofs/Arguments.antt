@@ -1,13 +1,13 @@
 -- ARGUMENTS that are read in place go behind values that stand before them.
 use Rattle.std.proofs.Common.{◌≡◌, ◌∙◌, ◌<◌, ◌^◌, ◌+◌, ℕ, List, [], ◌∷◌, ◌++◌, append_assoc, append-nil, Some, refl, sym, ap}
-use Rattle.lua_slots.specs.Code.{CExp, CExps, NoC, MoreC}
-use Rattle.lua_store.specs.declared.value.Value.{Value}
-use Rattle.lua_store.specs.Seen.{StoreView}
-use Rattle.lua_state.specs.declared.state.State.{State}
-use Rattle.lua_strides.specs.declared.reading.ValueRead.{ValueRead}
-use Rattle.lua_strides.specs.declared.reading.ListRead.{ListRead}
-use Rattle.lua_strides.specs.Reads.{ReadsTo, ReadsAll}
-use Rattle.lua_strides.proofs.Found.{Gathers, gathers_none, gathers_more, gathers_all}
+use Rattle.lua_code.specs.LuaSlotsCode.{CExp, CExps, NoC, MoreC}
+use Rattle.lua_turns.specs.LuaStoreDeclaredValueValue.{Value}
+use Rattle.lua_turns.specs.LuaStoreSeen.{StoreView}
+use Rattle.lua_turns.specs.LuaStateDeclaredStateState.{State}
+use Rattle.lua_turns.specs.LuaStridesDeclaredReadingValueRead.{ValueRead}
+use Rattle.lua_turns.specs.LuaStridesDeclaredReadingListRead.{ListRead}
+use Rattle.lua_turns.specs.LuaStridesReads.{ReadsTo, ReadsAll}
+use Rattle.lua_turns.proofs.LuaStridesReadings.{Gathers, gathers_none, gathers_more, gathers_all}
 use Rattle.lua_rows.specs.Ready.{StandBehind}
 
 -- the values that were read so far, and what is left

@@ -2,23 +2,23 @@
 -- charge is not covered.
 use Rattle.std.proofs.Common.{◌≡◌, sym, subst, ℕ, List, Some, Ok, Err}
 use Rattle.std.specs.Prelude.{Result}
-use Rattle.wk_base.specs.declared.left.Left.{Left}
-use Rattle.lua_heap.specs.Value.{Value as Plain}
-use Rattle.lua_meaning.specs.Gsub.{gsub_form}
-use Rattle.lua_store.specs.Seen.{StoreView}
-use Rattle.lua_store.specs.Parts.{IsLater}
-use Rattle.lua_slots.specs.Points.{Move}
-use Rattle.lua_slots.specs.Libraries.{page_alone, plain, does}
-use Rattle.lua_basic.specs.declared.stop.Stop.{Stop}
-use Rattle.lua_state.specs.declared.state.State.{State}
-use Rattle.lua_state.specs.declared.turn.Turn.{Turn}
-use Rattle.lua_state.specs.Seen.{slots_of, frames_of}
-use Rattle.lua_state.specs.Of.{StateOf}
-use Rattle.lua_state.specs.Worlds.{world_seen}
-use Rattle.lua_state.specs.Makes.{LateMakes}
-use Rattle.lua_gsubs.specs.declared.beginning.Begun.{Begun}
-use Rattle.lua_gsubs.specs.declared.beginning.Begun.TheVariants as begun
-use Rattle.lua_gsubs.specs.Table.{alphabet_of}
+use Rattle.lua_turns.specs.WkBaseDeclaredLeftLeft.{Left}
+use Rattle.lua_code.specs.LuaHeapValue.{Value as Plain}
+use Rattle.lua_calls.specs.LuaMeaningGsub.{gsub_form}
+use Rattle.lua_turns.specs.LuaStoreSeen.{StoreView}
+use Rattle.lua_turns.specs.LuaStoreParts.{IsLater}
+use Rattle.lua_turns.specs.LuaSlotsPoints.{Move}
+use Rattle.lua_code.specs.LuaSlotsLibraries.{page_alone, plain, does}
+use Rattle.lua_calls.specs.LuaBasicDeclaredStopStop.{Stop}
+use Rattle.lua_turns.specs.LuaStateDeclaredStateState.{State}
+use Rattle.lua_calls.specs.LuaStateDeclaredTurnTurn.{Turn}
+use Rattle.lua_turns.specs.LuaStateSeen.{slots_of, frames_of}
+use Rattle.lua_turns.specs.LuaStateOf.{StateOf}
+use Rattle.lua_turns.specs.LuaStateWorlds.{world_seen}
+use Rattle.lua_calls.specs.LuaStateMakes.{LateMakes}
+use Rattle.lua_calls.specs.LuaGsubsDeclaredBeginningBegun.{Begun}
+use Rattle.lua_calls.specs.LuaGsubsDeclaredBeginningBegunTheVariants as begun
+use Rattle.lua_calls.specs.LuaGsubsTable.{alphabet_of}
 use Rattle.lua_calls.specs.declared.table.AtOnce.{AtOnce}
 use Rattle.lua_calls.specs.Table.{act_seen, once_seen}
 use Rattle.lua_calls.specs.Ends.{BegunMakes}

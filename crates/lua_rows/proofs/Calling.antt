@@ -1,48 +1,48 @@
 -- A CALL OF THE LIBRARY IN PLACE: from what leads to the frame that calls, by what is paid, entered and begun, to what ends it.
 use Rattle.std.proofs.Common.{◌≡◌, ◌∙◌, ◌⊎◌, ◌≤◌, ◌<◌, ◌+◌, ◌-◌, ℕ, inl, inr, true, false, List, ◌∷◌, Some, refl, sym, ap, subst, arith}
 use Rattle.std.specs.Prelude.{Result}
-use Rattle.wk_base.specs.declared.left.Left.{Left}
-use Rattle.page_run.specs.declared.which.Which.{Which}
-use Rattle.page_run.specs.Outcome.{Goes}
-use Rattle.page_run.specs.State.{Tally, no_tally}
-use Rattle.lua_heap.specs.Proc.{Proc}
-use Rattle.lua_heap.specs.Heap.{Heap}
-use Rattle.lua_heap.specs.Value.{Value as Plain, Builtin}
-use Rattle.lua_heap.specs.declared.library.Library.{Library}
-use Rattle.lua_meaning.specs.Libraries.{Form, form}
-use Rattle.lua_store.specs.declared.value.Value.{Value}
-use Rattle.lua_store.specs.Seen.{StoreView}
-use Rattle.lua_store.specs.Parts.{IsLater}
-use Rattle.lua_slots.specs.Code.{CWorld}
-use Rattle.lua_slots.specs.Slots.{Slots}
-use Rattle.lua_slots.specs.Points.{SFrame, CallNow, LibraryEnd, LibraryS, Point, Gives, Starts, Move, Costs}
-use Rattle.lua_slots.specs.Moves.{moves}
-use Rattle.lua_slots.specs.Libraries.{page_alone, does, enters_library}
-use Rattle.lua_slots.specs.Enact.{Funds, all_given_back, Stands, Short, enact}
-use Rattle.lua_slots.specs.Laws.{costs_of}
-use Rattle.lua_slots.proofs.Charges.{charges_are_exact}
-use Rattle.lua_goes.specs.Going.{led, Lacks, Reaches, further, Comes, is_short, is_short_late}
-use Rattle.lua_in_place.proofs.Reading.{free_move, reach_then}
-use Rattle.lua_basic.specs.declared.stop.Stop.{Stop}
-use Rattle.lua_stack.specs.declared.frame.Frame.{Frame}
-use Rattle.lua_stack.specs.declared.frame.Frame.TheVariants as frame
-use Rattle.lua_stack.specs.declared.frame.Ending.TheVariants as ending
-use Rattle.lua_stack.specs.Seen.{frames_seen, focus_seen, values_seen}
-use Rattle.lua_state.specs.declared.state.State.{State}
-use Rattle.lua_state.specs.declared.turn.Turn.{Turn}
-use Rattle.lua_state.specs.declared.turn.Turn.TheVariants as turn
-use Rattle.lua_state.specs.Charges.{EntersCall}
-use Rattle.lua_state.specs.Makes.{LateMakes, LateCounts}
-use Rattle.lua_state.specs.Of.{StateOf}
-use Rattle.lua_state.specs.Seen.{slots_of, frames_of, funds_of}
-use Rattle.lua_state.specs.Worlds.{world_seen}
-use Rattle.lua_state.proofs.Staying.{state_later}
-use Rattle.lua_stack.proofs.Raises.{pays}
-use Rattle.lua_strides.specs.Strides.{PaysNodes, LeadsAt}
-use Rattle.lua_strides.proofs.Paths.{with_frames, with_frames_of, funds_after}
+use Rattle.lua_turns.specs.WkBaseDeclaredLeftLeft.{Left}
+use Rattle.lua_code.specs.PageRunDeclaredWhichWhich.{Which}
+use Rattle.lua_turns.specs.PageRunOutcome.{Goes}
+use Rattle.lua_turns.specs.PageRunState.{Tally, no_tally}
+use Rattle.lua_code.specs.LuaHeapProc.{Proc}
+use Rattle.lua_code.specs.LuaHeapHeap.{Heap}
+use Rattle.lua_code.specs.LuaHeapValue.{Value as Plain, Builtin}
+use Rattle.lua_calls.specs.LuaHeapDeclaredLibraryLibrary.{Library}
+use Rattle.lua_calls.specs.LuaMeaningLibraries.{Form, form}
+use Rattle.lua_turns.specs.LuaStoreDeclaredValueValue.{Value}
+use Rattle.lua_turns.specs.LuaStoreSeen.{StoreView}
+use Rattle.lua_turns.specs.LuaStoreParts.{IsLater}
+use Rattle.lua_code.specs.LuaSlotsCode.{CWorld}
+use Rattle.lua_turns.specs.LuaSlotsSlots.{Slots}
+use Rattle.lua_turns.specs.LuaSlotsPoints.{SFrame, CallNow, LibraryEnd, LibraryS, Point, Gives, Starts, Move, Costs}
+use Rattle.lua_turns.specs.LuaSlotsMoves.{moves}
+use Rattle.lua_code.specs.LuaSlotsLibraries.{page_alone, does, enters_library}
+use Rattle.lua_turns.specs.LuaSlotsEnact.{Funds, all_given_back, Stands, Short, enact}
+use Rattle.lua_code.specs.LuaSlotsLaws.{costs_of}
+use Rattle.lua_code.proofs.LuaSlotsCharges.{charges_are_exact}
+use Rattle.lua_turns.specs.LuaGoesGoing.{led, Lacks, Reaches, further, Comes, is_short, is_short_late}
+use Rattle.lua_turns.proofs.LuaInPlaceReading.{free_move, reach_then}
+use Rattle.lua_calls.specs.LuaBasicDeclaredStopStop.{Stop}
+use Rattle.lua_turns.specs.LuaStackDeclaredFrameFrame.{Frame}
+use Rattle.lua_turns.specs.LuaStackDeclaredFrameFrameTheVariants as frame
+use Rattle.lua_turns.specs.LuaStackDeclaredFrameEndingTheVariants as ending
+use Rattle.lua_turns.specs.LuaStackSeen.{frames_seen, focus_seen, values_seen}
+use Rattle.lua_turns.specs.LuaStateDeclaredStateState.{State}
+use Rattle.lua_calls.specs.LuaStateDeclaredTurnTurn.{Turn}
+use Rattle.lua_turns.specs.LuaStateDeclaredTurnTurnTheVariants as turn
+use Rattle.lua_turns.specs.LuaStateCharges.{EntersCall}
+use Rattle.lua_calls.specs.LuaStateMakes.{LateMakes, LateCounts}
+use Rattle.lua_turns.specs.LuaStateOf.{StateOf}
+use Rattle.lua_turns.specs.LuaStateSeen.{slots_of, frames_of, funds_of}
+use Rattle.lua_turns.specs.LuaStateWorlds.{world_seen}
+use Rattle.lua_turns.proofs.LuaStateStaying.{state_later}
+use Rattle.lua_turns.proofs.LuaStackRaises.{pays}
+use Rattle.lua_turns.specs.LuaStridesStrides.{PaysNodes, LeadsAt}
+use Rattle.lua_turns.proofs.LuaStridesPaths.{with_frames, with_frames_of, funds_after}
 use Rattle.lua_turns.proofs.Entered.{never_short}
-use Rattle.lua_gsubs.specs.declared.beginning.Begun.{Begun}
-use Rattle.lua_gsubs.specs.Begun.{BegunOf}
+use Rattle.lua_calls.specs.LuaGsubsDeclaredBeginningBegun.{Begun}
+use Rattle.lua_calls.specs.LuaGsubsBegun.{BegunOf}
 use Rattle.lua_calls.specs.Table.{IsLine}
 use Rattle.lua_calls.specs.Ends.{BegunMakes}
 use Rattle.lua_calls.proofs.Enters.{calls_of, entered, late_above}

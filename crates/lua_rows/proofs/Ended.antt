@@ -3,48 +3,48 @@ use Rattle.std.proofs.Common.{◌≡◌, ◌∙◌, ℕ, List, [], ◌∷◌, Op
 use Rattle.std.specs.Prelude.{Bool, Result, Ok, IfOk}
 use Rattle.std.specs.Borrow.{Bor}
 use Rattle.std.proofs.lemmas.Result.{IfOk-weaker}
-use Rattle.page_run.specs.Outcome.{Goes}
-use Rattle.wk_base.specs.declared.left.Left.{Left}
-use Rattle.lua_basic.specs.declared.stop.Stop.{Stop}
+use Rattle.lua_turns.specs.PageRunOutcome.{Goes}
+use Rattle.lua_turns.specs.WkBaseDeclaredLeftLeft.{Left}
+use Rattle.lua_calls.specs.LuaBasicDeclaredStopStop.{Stop}
 use Rattle.lua_calls.specs.Ends.{BegunMakes}
 use Rattle.lua_code.specs.declared.expression.Expression.{Expression}
 use Rattle.lua_code.specs.declared.statement.Statement.{Statement}
 use Rattle.lua_code.specs.Seen.{expressions_seen}
-use Rattle.lua_gsubs.specs.declared.beginning.Begun.{Begun}
-use Rattle.lua_gsubs.specs.declared.beginning.Begun.TheVariants as begun
-use Rattle.lua_goes.specs.Going.{Reaches}
-use Rattle.lua_in_place.specs.InPlace.{applied}
-use Rattle.lua_in_place.proofs.Plain.{applied_is}
-use Rattle.lua_slots.specs.Moves.{moves}
-use Rattle.lua_slots.specs.Points.{SFrame, MoreNext, UnaryNow, Point, Gives}
-use Rattle.lua_slots.specs.Slots.{all_opened, with_all}
-use Rattle.lua_stack.specs.declared.focus.Focus.{Focus}
-use Rattle.lua_stack.specs.declared.focus.Focus.TheVariants as focus
-use Rattle.lua_stack.specs.declared.frame.Ending.TheVariants as ending
-use Rattle.lua_stack.specs.declared.frame.Frame.{Frame}
-use Rattle.lua_stack.specs.declared.frame.Frame.TheVariants as frame
-use Rattle.lua_stack.specs.declared.frame.InExpression.TheVariants as in_expression
-use Rattle.lua_stack.specs.declared.frame.InStatement.TheVariants as in_statement
-use Rattle.lua_stack.specs.declared.register.Slot.{Slot}
-use Rattle.lua_stack.specs.declared.values.Given.TheVariants as given
-use Rattle.lua_stack.specs.Of.{FocusOf, RegistersOf}
-use Rattle.lua_stack.specs.Seen.{activations_seen, focus_seen, registers_seen, values_seen}
-use Rattle.lua_stack.proofs.Stay.{frames_later}
-use Rattle.lua_loops.proofs.Beginning.{functions_stay, opened_slots}
-use Rattle.lua_state.specs.declared.state.State.{State}
-use Rattle.lua_state.specs.declared.turn.Turn.{Turn}
-use Rattle.lua_state.specs.declared.turn.Turn.TheVariants as turn
-use Rattle.lua_state.specs.Charges.{LeavesCall}
-use Rattle.lua_state.specs.Of.{StateOf}
-use Rattle.lua_state.specs.Seen.{frames_of, funds_of, slots_of}
-use Rattle.lua_state.specs.Worlds.{world_seen}
-use Rattle.lua_state.proofs.Making.{stands}
-use Rattle.lua_store.specs.declared.value.Value.{Value}
-use Rattle.lua_store.specs.Seen.{StoreView, seen}
-use Rattle.lua_store.specs.Parts.{IsLater, IsOf}
-use Rattle.lua_store.proofs.Later.{later-itself}
-use Rattle.lua_strides.specs.Strides.{Strides}
-use Rattle.lua_strides.proofs.Paths.{with_frames, with_frames_of}
+use Rattle.lua_calls.specs.LuaGsubsDeclaredBeginningBegun.{Begun}
+use Rattle.lua_calls.specs.LuaGsubsDeclaredBeginningBegunTheVariants as begun
+use Rattle.lua_turns.specs.LuaGoesGoing.{Reaches}
+use Rattle.lua_turns.specs.LuaInPlaceInPlace.{applied}
+use Rattle.lua_turns.proofs.LuaInPlacePlain.{applied_is}
+use Rattle.lua_turns.specs.LuaSlotsMoves.{moves}
+use Rattle.lua_turns.specs.LuaSlotsPoints.{SFrame, MoreNext, UnaryNow, Point, Gives}
+use Rattle.lua_turns.specs.LuaSlotsSlots.{all_opened, with_all}
+use Rattle.lua_turns.specs.LuaStackDeclaredFocusFocus.{Focus}
+use Rattle.lua_turns.specs.LuaStackDeclaredFocusFocusTheVariants as focus
+use Rattle.lua_turns.specs.LuaStackDeclaredFrameEndingTheVariants as ending
+use Rattle.lua_turns.specs.LuaStackDeclaredFrameFrame.{Frame}
+use Rattle.lua_turns.specs.LuaStackDeclaredFrameFrameTheVariants as frame
+use Rattle.lua_turns.specs.LuaStackDeclaredFrameInExpressionTheVariants as in_expression
+use Rattle.lua_turns.specs.LuaStackDeclaredFrameInStatementTheVariants as in_statement
+use Rattle.lua_turns.specs.LuaStackDeclaredRegisterSlot.{Slot}
+use Rattle.lua_turns.specs.LuaStackDeclaredValuesGivenTheVariants as given
+use Rattle.lua_turns.specs.LuaStackOf.{FocusOf, RegistersOf}
+use Rattle.lua_turns.specs.LuaStackSeen.{activations_seen, focus_seen, registers_seen, values_seen}
+use Rattle.lua_turns.proofs.LuaStackStay.{frames_later}
+use Rattle.lua_turns.proofs.LuaLoopsBeginning.{functions_stay, opened_slots}
+use Rattle.lua_turns.specs.LuaStateDeclaredStateState.{State}
+use Rattle.lua_calls.specs.LuaStateDeclaredTurnTurn.{Turn}
+use Rattle.lua_turns.specs.LuaStateDeclaredTurnTurnTheVariants as turn
+use Rattle.lua_turns.specs.LuaStateCharges.{LeavesCall}
+use Rattle.lua_turns.specs.LuaStateOf.{StateOf}
+use Rattle.lua_turns.specs.LuaStateSeen.{frames_of, funds_of, slots_of}
+use Rattle.lua_turns.specs.LuaStateWorlds.{world_seen}
+use Rattle.lua_turns.proofs.LuaStateMaking.{stands}
+use Rattle.lua_turns.specs.LuaStoreDeclaredValueValue.{Value}
+use Rattle.lua_turns.specs.LuaStoreSeen.{StoreView, seen}
+use Rattle.lua_turns.specs.LuaStoreParts.{IsLater, IsOf}
+use Rattle.lua_turns.proofs.LuaStoreLater.{later-itself}
+use Rattle.lua_turns.specs.LuaStridesStrides.{Strides}
+use Rattle.lua_turns.proofs.LuaStridesPaths.{with_frames, with_frames_of}
 use Rattle.lua_syntax.specs.declared.UnaryOp.{UnaryOp}
 use Rattle.lua_turns.proofs.Following.{strides_then}
 use Rattle.lua_turns.proofs.Freely.{left_library, popped, popped_here}

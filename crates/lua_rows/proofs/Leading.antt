@@ -2,33 +2,33 @@
 use Rattle.std.proofs.Common.{◌≡◌, ◌∙◌, ◌-◌, ◌+◌, ℕ, List, [], ◌∷◌, refl, sym, ap, subst, arith}
 use Rattle.std.specs.Prelude.{Bool}
 use Rattle.std.specs.Borrow.{Bor}
-use Rattle.page_run.specs.Outcome.{Goes}
-use Rattle.lua_heap.specs.Value.{Builtin}
+use Rattle.lua_turns.specs.PageRunOutcome.{Goes}
+use Rattle.lua_code.specs.LuaHeapValue.{Builtin}
 use Rattle.lua_code.specs.declared.expression.Expression.{Expression}
 use Rattle.lua_code.specs.declared.statement.Statement.{Statement}
 use Rattle.lua_code.specs.Seen.{block_seen, expressions_seen}
-use Rattle.lua_slots.specs.Code.{CExp, CallStatC, DeclareC, MoreC, NoC, ThenC, UnaryC, CWorld}
-use Rattle.lua_slots.specs.Slots.{Slots}
-use Rattle.lua_slots.specs.Points.{SFrame, CallNow, DeclareNow, MoreNext, StatsNext, UnaryNow, Point, Evals, Gives, Lists, Runs, Now}
-use Rattle.lua_slots.specs.Errors.{node}
-use Rattle.lua_slots.specs.Moves.{moves}
-use Rattle.lua_slots.specs.Enact.{Funds}
-use Rattle.lua_goes.specs.Going.{Reaches}
-use Rattle.lua_in_place.specs.Laws.{after_nodes}
-use Rattle.lua_in_place.proofs.Reading.{with_count, node_move, reach_then}
-use Rattle.lua_in_place.proofs.Statements.{LeadsFree, free}
-use Rattle.lua_stack.specs.declared.frame.Frame.TheVariants as frame
-use Rattle.lua_stack.specs.declared.frame.InExpression.TheVariants as in_expression
-use Rattle.lua_stack.specs.declared.frame.InStatement.TheVariants as in_statement
-use Rattle.lua_stack.specs.Seen.{values_seen}
-use Rattle.lua_state.specs.declared.state.State.{State}
-use Rattle.lua_state.specs.Of.{StateOf}
-use Rattle.lua_state.specs.Seen.{frames_of, slots_of}
-use Rattle.lua_state.specs.Worlds.{world_seen}
-use Rattle.lua_store.specs.declared.value.Value.{Value}
-use Rattle.lua_store.specs.Seen.{StoreView}
+use Rattle.lua_code.specs.LuaSlotsCode.{CExp, CallStatC, DeclareC, MoreC, NoC, ThenC, UnaryC, CWorld}
+use Rattle.lua_turns.specs.LuaSlotsSlots.{Slots}
+use Rattle.lua_turns.specs.LuaSlotsPoints.{SFrame, CallNow, DeclareNow, MoreNext, StatsNext, UnaryNow, Point, Evals, Gives, Lists, Runs, Now}
+use Rattle.lua_turns.specs.LuaSlotsErrors.{node}
+use Rattle.lua_turns.specs.LuaSlotsMoves.{moves}
+use Rattle.lua_turns.specs.LuaSlotsEnact.{Funds}
+use Rattle.lua_turns.specs.LuaGoesGoing.{Reaches}
+use Rattle.lua_turns.specs.LuaInPlaceLaws.{after_nodes}
+use Rattle.lua_turns.proofs.LuaInPlaceReading.{with_count, node_move, reach_then}
+use Rattle.lua_turns.proofs.LuaInPlaceStatements.{LeadsFree, free}
+use Rattle.lua_turns.specs.LuaStackDeclaredFrameFrameTheVariants as frame
+use Rattle.lua_turns.specs.LuaStackDeclaredFrameInExpressionTheVariants as in_expression
+use Rattle.lua_turns.specs.LuaStackDeclaredFrameInStatementTheVariants as in_statement
+use Rattle.lua_turns.specs.LuaStackSeen.{values_seen}
+use Rattle.lua_turns.specs.LuaStateDeclaredStateState.{State}
+use Rattle.lua_turns.specs.LuaStateOf.{StateOf}
+use Rattle.lua_turns.specs.LuaStateSeen.{frames_of, slots_of}
+use Rattle.lua_turns.specs.LuaStateWorlds.{world_seen}
+use Rattle.lua_turns.specs.LuaStoreDeclaredValueValue.{Value}
+use Rattle.lua_turns.specs.LuaStoreSeen.{StoreView}
 use Rattle.lua_syntax.specs.declared.UnaryOp.{UnaryOp}
-use Rattle.lua_strides.specs.Strides.{LeadsAt}
+use Rattle.lua_turns.specs.LuaStridesStrides.{LeadsAt}
 use Rattle.lua_rows.specs.declared.ready.ReadyCall.{ReadyCall}
 use Rattle.lua_rows.specs.Declaring.{declaring}
 use Rattle.lua_rows.specs.Made.{LeadsToCall}

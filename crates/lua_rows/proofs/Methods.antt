@@ -1,34 +1,34 @@
 -- CALLS WHOSE PARTS ARE READ IN PLACE, of a function or of a method of a text: so many nodes lead to the frame that calls.
 use Rattle.std.proofs.Common.{◌≡◌, ◌∙◌, ◌+◌, ℕ, List, [], ◌∷◌, ◌++◌, Some, refl, sym, ap, subst, arith}
-use Rattle.page_run.specs.Outcome.{Goes}
-use Rattle.lua_heap.specs.declared.library.Library.{Library}
-use Rattle.lua_heap.specs.Heap.{table_at}
-use Rattle.lua_heap.specs.Table.{get}
-use Rattle.lua_heap.specs.Value.{Value as Plain, Text, Builtin}
-use Rattle.lua_slots.specs.Code.{CExp, CExps, CallC, MethodC, CWorld}
-use Rattle.lua_slots.specs.Calls.{constants_of}
-use Rattle.lua_slots.specs.Errors.{gives}
-use Rattle.lua_slots.specs.Index.{index}
-use Rattle.lua_slots.specs.Points.{SFrame, CallNow, MethodNext, MethodNow, Evals, Gives, Lists}
-use Rattle.lua_slots.specs.Slots.{Slots}
-use Rattle.lua_in_place.specs.InPlace.{in_place, all_in_place}
-use Rattle.lua_in_place.proofs.Reading.{reads}
-use Rattle.lua_in_place.proofs.Listing.{list_reads}
-use Rattle.lua_in_place.proofs.Statements.{Leads, free, free_first, joined, behind_node, called}
-use Rattle.lua_store.specs.declared.ids.TextId.{TextId}
-use Rattle.lua_store.specs.declared.value.Value.{Value}
-use Rattle.lua_store.specs.declared.value.Value.TheVariants as value
-use Rattle.lua_store.specs.Seen.{StoreView, seen}
-use Rattle.lua_stack.specs.Of.{ValuesOf}
-use Rattle.lua_stack.specs.Seen.{values_seen}
-use Rattle.lua_state.specs.declared.state.State.{State}
-use Rattle.lua_state.specs.Of.{IsConstant}
-use Rattle.lua_state.specs.Seen.{slots_of, constants_in}
-use Rattle.lua_state.specs.Worlds.{world_seen}
-use Rattle.lua_strides.specs.declared.reading.ValueRead.{ValueRead}
-use Rattle.lua_strides.specs.Reads.{ReadsTo}
-use Rattle.lua_strides.specs.Strides.{LeadsAt}
-use Rattle.lua_strides.proofs.Paths.{at_once}
+use Rattle.lua_turns.specs.PageRunOutcome.{Goes}
+use Rattle.lua_calls.specs.LuaHeapDeclaredLibraryLibrary.{Library}
+use Rattle.lua_code.specs.LuaHeapHeap.{table_at}
+use Rattle.lua_turns.specs.LuaHeapTable.{get}
+use Rattle.lua_code.specs.LuaHeapValue.{Value as Plain, Text, Builtin}
+use Rattle.lua_code.specs.LuaSlotsCode.{CExp, CExps, CallC, MethodC, CWorld}
+use Rattle.lua_turns.specs.LuaSlotsCalls.{constants_of}
+use Rattle.lua_turns.specs.LuaSlotsErrors.{gives}
+use Rattle.lua_turns.specs.LuaSlotsIndex.{index}
+use Rattle.lua_turns.specs.LuaSlotsPoints.{SFrame, CallNow, MethodNext, MethodNow, Evals, Gives, Lists}
+use Rattle.lua_turns.specs.LuaSlotsSlots.{Slots}
+use Rattle.lua_turns.specs.LuaInPlaceInPlace.{in_place, all_in_place}
+use Rattle.lua_turns.proofs.LuaInPlaceReading.{reads}
+use Rattle.lua_turns.proofs.LuaInPlaceListing.{list_reads}
+use Rattle.lua_turns.proofs.LuaInPlaceStatements.{Leads, free, free_first, joined, behind_node, called}
+use Rattle.lua_turns.specs.LuaStoreDeclaredIdsTextId.{TextId}
+use Rattle.lua_turns.specs.LuaStoreDeclaredValueValue.{Value}
+use Rattle.lua_calls.specs.LuaStoreDeclaredValueValueTheVariants as value
+use Rattle.lua_turns.specs.LuaStoreSeen.{StoreView, seen}
+use Rattle.lua_turns.specs.LuaStackOf.{ValuesOf}
+use Rattle.lua_turns.specs.LuaStackSeen.{values_seen}
+use Rattle.lua_turns.specs.LuaStateDeclaredStateState.{State}
+use Rattle.lua_turns.specs.LuaStateOf.{IsConstant}
+use Rattle.lua_turns.specs.LuaStateSeen.{slots_of, constants_in}
+use Rattle.lua_turns.specs.LuaStateWorlds.{world_seen}
+use Rattle.lua_turns.specs.LuaStridesDeclaredReadingValueRead.{ValueRead}
+use Rattle.lua_turns.specs.LuaStridesReads.{ReadsTo}
+use Rattle.lua_turns.specs.LuaStridesStrides.{LeadsAt}
+use Rattle.lua_turns.proofs.LuaStridesPaths.{at_once}
 use Rattle.lua_turns.proofs.Named.{found_here}
 use Rattle.lua_calls.specs.Table.{IsLine}
 use Rattle.lua_rows.specs.declared.ready.Callee.{Callee}

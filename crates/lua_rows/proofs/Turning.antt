@@ -1,25 +1,25 @@
 -- A ROW GOES ON to a turn of the machine, or to where a call in place goes.
 use Rattle.std.proofs.Common.{◌∙◌, ℕ, ◌+◌, ◌-◌, subst, arith}
-use Rattle.wk_base.specs.declared.left.Left.{Left}
-use Rattle.page_run.specs.declared.which.Which.{Which}
-use Rattle.lua_store.specs.Seen.{StoreView}
-use Rattle.lua_store.proofs.Later.{later-then}
-use Rattle.lua_slots.specs.Code.{CWorld}
-use Rattle.lua_slots.specs.Enact.{Funds, all_given_back}
-use Rattle.lua_slots.specs.Points.{Point}
-use Rattle.lua_slots.specs.Slots.{Slots}
-use Rattle.lua_goes.specs.Going.{Stop, Lacks, Reaches, Comes, is_over, is_short, is_short_late, is_asking}
-use Rattle.lua_in_place.proofs.Reading.{reach_then}
-use Rattle.lua_stack.specs.declared.focus.Focus.{Focus}
-use Rattle.lua_stack.specs.Seen.{focus_seen}
-use Rattle.lua_state.specs.declared.state.State.{State}
-use Rattle.lua_state.specs.declared.codes.World.{World}
-use Rattle.lua_state.specs.declared.turn.Turn.{Turn}
-use Rattle.lua_state.specs.declared.turn.Turn.TheVariants as turn
-use Rattle.lua_state.specs.Seen.{slots_of, frames_of, funds_of}
-use Rattle.lua_state.specs.Worlds.{world_seen}
-use Rattle.lua_strides.specs.Next.{focus_of}
-use Rattle.lua_strides.specs.Strides.{Strides}
+use Rattle.lua_turns.specs.WkBaseDeclaredLeftLeft.{Left}
+use Rattle.lua_code.specs.PageRunDeclaredWhichWhich.{Which}
+use Rattle.lua_turns.specs.LuaStoreSeen.{StoreView}
+use Rattle.lua_turns.proofs.LuaStoreLater.{later-then}
+use Rattle.lua_code.specs.LuaSlotsCode.{CWorld}
+use Rattle.lua_turns.specs.LuaSlotsEnact.{Funds, all_given_back}
+use Rattle.lua_turns.specs.LuaSlotsPoints.{Point}
+use Rattle.lua_turns.specs.LuaSlotsSlots.{Slots}
+use Rattle.lua_turns.specs.LuaGoesGoing.{Stop, Lacks, Reaches, Comes, is_over, is_short, is_short_late, is_asking}
+use Rattle.lua_turns.proofs.LuaInPlaceReading.{reach_then}
+use Rattle.lua_turns.specs.LuaStackDeclaredFocusFocus.{Focus}
+use Rattle.lua_turns.specs.LuaStackSeen.{focus_seen}
+use Rattle.lua_turns.specs.LuaStateDeclaredStateState.{State}
+use Rattle.lua_turns.specs.LuaStateDeclaredCodesWorld.{World}
+use Rattle.lua_calls.specs.LuaStateDeclaredTurnTurn.{Turn}
+use Rattle.lua_turns.specs.LuaStateDeclaredTurnTurnTheVariants as turn
+use Rattle.lua_turns.specs.LuaStateSeen.{slots_of, frames_of, funds_of}
+use Rattle.lua_turns.specs.LuaStateWorlds.{world_seen}
+use Rattle.lua_turns.specs.LuaStridesNext.{focus_of}
+use Rattle.lua_turns.specs.LuaStridesStrides.{Strides}
 use Rattle.lua_turns.specs.Rows.{Follows}
 use Rattle.lua_turns.proofs.Following.{follows_then, strides_then, strides_follow}
 use Rattle.lua_rows.specs.declared.rows.Went.{Went}

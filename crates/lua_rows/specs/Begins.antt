@@ -1,16 +1,16 @@
 -- HOW A CALL BEGINS in code: with its answer behind its charge, or, of `gsub`, with a job that begins behind its charge.
 use Rattle.std.specs.Prelude.{List, [], ◌∷◌, Result, Ok, Err}
-use Rattle.wk_base.specs.declared.left.Left.{Left}
-use Rattle.lua_heap.specs.Value.{Value}
-use Rattle.lua_meaning.specs.Gsub.{gsub_form}
-use Rattle.lua_store.specs.declared.value.Value.{Value as StoreValue}
-use Rattle.lua_store.specs.Seen.{StoreView}
-use Rattle.lua_basic.specs.declared.stop.Stop.{Stop}
-use Rattle.lua_basic.specs.Seen.{Paid}
-use Rattle.lua_gsubs.specs.declared.beginning.Begun.{Begun}
-use Rattle.lua_gsubs.specs.declared.beginning.Begun.TheVariants as begun
-use Rattle.lua_gsubs.specs.Begun.{IsBegun}
-use Rattle.lua_gsubs.specs.Table.{alphabet_of}
+use Rattle.lua_turns.specs.WkBaseDeclaredLeftLeft.{Left}
+use Rattle.lua_code.specs.LuaHeapValue.{Value}
+use Rattle.lua_calls.specs.LuaMeaningGsub.{gsub_form}
+use Rattle.lua_turns.specs.LuaStoreDeclaredValueValue.{Value as StoreValue}
+use Rattle.lua_turns.specs.LuaStoreSeen.{StoreView}
+use Rattle.lua_calls.specs.LuaBasicDeclaredStopStop.{Stop}
+use Rattle.lua_calls.specs.LuaBasicSeen.{Paid}
+use Rattle.lua_calls.specs.LuaGsubsDeclaredBeginningBegun.{Begun}
+use Rattle.lua_calls.specs.LuaGsubsDeclaredBeginningBegunTheVariants as begun
+use Rattle.lua_calls.specs.LuaGsubsBegun.{IsBegun}
+use Rattle.lua_calls.specs.LuaGsubsTable.{alphabet_of}
 use Rattle.lua_calls.specs.declared.table.AtOnce.{AtOnce}
 use Rattle.lua_calls.specs.Table.{once_seen}
 use Rattle.lua_rows.specs.declared.making.Made.{Made}

@@ -3,10 +3,10 @@ use Rattle.std.specs.Borrow.{Bor}
 use Rattle.std.specs.Prelude.{◌≡◌, Bool, List, [], ◌∷◌}
 use Rattle.lua_code.specs.declared.expression.Expression.{Expression}
 use Rattle.lua_code.specs.declared.statement.Statement.{Statement}
-use Rattle.lua_stack.specs.declared.frame.Frame.{Frame}
-use Rattle.lua_stack.specs.declared.frame.Frame.TheVariants as frame
-use Rattle.lua_stack.specs.declared.frame.InExpression.TheVariants as in_expression
-use Rattle.lua_stack.specs.declared.frame.InStatement.TheVariants as in_statement
+use Rattle.lua_turns.specs.LuaStackDeclaredFrameFrame.{Frame}
+use Rattle.lua_turns.specs.LuaStackDeclaredFrameFrameTheVariants as frame
+use Rattle.lua_turns.specs.LuaStackDeclaredFrameInExpressionTheVariants as in_expression
+use Rattle.lua_turns.specs.LuaStackDeclaredFrameInStatementTheVariants as in_statement
 
 -- the frames that wait, where this is the end of its list
 abbrev pub declaring : Bor (List Expression) → Bor (List Bool) → Bor (List Statement) → List Frame → List Frame

@@ -1,28 +1,28 @@
 -- A CALL THAT IS MADE in code: it is entered and has begun, and is not left yet. Whoever waits for it, moves lead from each point from which so
 -- many nodes lead to the frame that calls to each turn that ends what has begun, above the frame that ends the call.
 use Rattle.std.specs.Prelude.{◌≡◌, ℕ, List, ◌∷◌, Option, Some, None, Result}
-use Rattle.wk_base.specs.declared.left.Left.{Left}
-use Rattle.page_run.specs.Outcome.{Goes}
-use Rattle.lua_heap.specs.declared.library.Library.{Library}
-use Rattle.lua_heap.specs.Value.{Builtin}
-use Rattle.lua_slots.specs.Points.{Point, CallNow, Gives}
-use Rattle.lua_store.specs.declared.value.Value.{Value}
-use Rattle.lua_store.specs.Seen.{StoreView}
-use Rattle.lua_store.specs.Parts.{IsLater}
-use Rattle.lua_basic.specs.declared.stop.Stop.{Stop}
-use Rattle.lua_stack.specs.declared.frame.Frame.{Frame}
-use Rattle.lua_stack.specs.declared.frame.Frame.TheVariants as frame
-use Rattle.lua_stack.specs.declared.frame.Ending.TheVariants as ending
-use Rattle.lua_stack.specs.Of.{FramesOf}
-use Rattle.lua_stack.specs.Seen.{frames_seen, values_seen}
-use Rattle.lua_state.specs.declared.state.State.{State}
-use Rattle.lua_state.specs.declared.turn.Turn.{Turn}
-use Rattle.lua_state.specs.Of.{StateOf}
-use Rattle.lua_state.specs.Seen.{slots_of}
-use Rattle.lua_state.specs.Worlds.{world_seen}
-use Rattle.lua_strides.specs.Strides.{Idles, LeadsAt}
-use Rattle.lua_gsubs.specs.declared.beginning.Begun.{Begun}
-use Rattle.lua_gsubs.specs.Begun.{BegunOf}
+use Rattle.lua_turns.specs.WkBaseDeclaredLeftLeft.{Left}
+use Rattle.lua_turns.specs.PageRunOutcome.{Goes}
+use Rattle.lua_calls.specs.LuaHeapDeclaredLibraryLibrary.{Library}
+use Rattle.lua_code.specs.LuaHeapValue.{Builtin}
+use Rattle.lua_turns.specs.LuaSlotsPoints.{Point, CallNow, Gives}
+use Rattle.lua_turns.specs.LuaStoreDeclaredValueValue.{Value}
+use Rattle.lua_turns.specs.LuaStoreSeen.{StoreView}
+use Rattle.lua_turns.specs.LuaStoreParts.{IsLater}
+use Rattle.lua_calls.specs.LuaBasicDeclaredStopStop.{Stop}
+use Rattle.lua_turns.specs.LuaStackDeclaredFrameFrame.{Frame}
+use Rattle.lua_turns.specs.LuaStackDeclaredFrameFrameTheVariants as frame
+use Rattle.lua_turns.specs.LuaStackDeclaredFrameEndingTheVariants as ending
+use Rattle.lua_turns.specs.LuaStackOf.{FramesOf}
+use Rattle.lua_turns.specs.LuaStackSeen.{frames_seen, values_seen}
+use Rattle.lua_turns.specs.LuaStateDeclaredStateState.{State}
+use Rattle.lua_calls.specs.LuaStateDeclaredTurnTurn.{Turn}
+use Rattle.lua_turns.specs.LuaStateOf.{StateOf}
+use Rattle.lua_turns.specs.LuaStateSeen.{slots_of}
+use Rattle.lua_turns.specs.LuaStateWorlds.{world_seen}
+use Rattle.lua_turns.specs.LuaStridesStrides.{Idles, LeadsAt}
+use Rattle.lua_calls.specs.LuaGsubsDeclaredBeginningBegun.{Begun}
+use Rattle.lua_calls.specs.LuaGsubsBegun.{BegunOf}
 use Rattle.lua_calls.specs.Table.{IsLine}
 use Rattle.lua_calls.specs.Ends.{BegunMakes}
 use Rattle.lua_rows.specs.declared.making.Made.{Made}

@@ -1,23 +1,23 @@
 -- A CALL THAT IS READY in code: what is called is a function of the library that may answer at once, and its arguments are read. So many nodes
 -- lead from the expression to the frame that calls, whichever frames wait.
 use Rattle.std.specs.Prelude.{◌≡◌, ◌≤◌, ◌<◌, ◌^◌, ◌++◌, ℕ, List, [], ◌∷◌, Option, Some, None}
-use Rattle.page_run.specs.Outcome.{Goes}
-use Rattle.lua_heap.specs.declared.library.Library.{Library}
-use Rattle.lua_heap.specs.Value.{Text, Builtin}
-use Rattle.lua_slots.specs.Code.{CExp, CExps}
-use Rattle.lua_slots.specs.Errors.{gives}
-use Rattle.lua_slots.specs.Index.{index}
-use Rattle.lua_slots.specs.Points.{SFrame, CallNow, Evals, Gives}
-use Rattle.lua_in_place.specs.InPlace.{all_in_place}
-use Rattle.lua_store.specs.declared.value.Value.{Value}
-use Rattle.lua_store.specs.declared.value.Value.TheVariants as value
-use Rattle.lua_store.specs.Seen.{StoreView, seen}
-use Rattle.lua_stack.specs.Of.{ValuesOf}
-use Rattle.lua_stack.specs.Seen.{values_seen}
-use Rattle.lua_state.specs.declared.state.State.{State}
-use Rattle.lua_state.specs.Seen.{slots_of, constants_in}
-use Rattle.lua_state.specs.Worlds.{world_seen}
-use Rattle.lua_strides.specs.Strides.{LeadsAt}
+use Rattle.lua_turns.specs.PageRunOutcome.{Goes}
+use Rattle.lua_calls.specs.LuaHeapDeclaredLibraryLibrary.{Library}
+use Rattle.lua_code.specs.LuaHeapValue.{Text, Builtin}
+use Rattle.lua_code.specs.LuaSlotsCode.{CExp, CExps}
+use Rattle.lua_turns.specs.LuaSlotsErrors.{gives}
+use Rattle.lua_turns.specs.LuaSlotsIndex.{index}
+use Rattle.lua_turns.specs.LuaSlotsPoints.{SFrame, CallNow, Evals, Gives}
+use Rattle.lua_turns.specs.LuaInPlaceInPlace.{all_in_place}
+use Rattle.lua_turns.specs.LuaStoreDeclaredValueValue.{Value}
+use Rattle.lua_calls.specs.LuaStoreDeclaredValueValueTheVariants as value
+use Rattle.lua_turns.specs.LuaStoreSeen.{StoreView, seen}
+use Rattle.lua_turns.specs.LuaStackOf.{ValuesOf}
+use Rattle.lua_turns.specs.LuaStackSeen.{values_seen}
+use Rattle.lua_turns.specs.LuaStateDeclaredStateState.{State}
+use Rattle.lua_turns.specs.LuaStateSeen.{slots_of, constants_in}
+use Rattle.lua_turns.specs.LuaStateWorlds.{world_seen}
+use Rattle.lua_turns.specs.LuaStridesStrides.{LeadsAt}
 use Rattle.lua_calls.specs.Table.{IsLine}
 use Rattle.lua_calls.specs.declared.table.Act.{Act}
 use Rattle.lua_calls.specs.declared.table.Act.TheVariants as act

@@ -1,21 +1,21 @@
 -- STRIDES IN A ROW in code, with calls of the library among them.
 use Rattle.std.specs.Prelude.{◌≡◌, ◌≤◌, ◌+◌, ℕ, Option, Some, None}
-use Rattle.wk_base.specs.declared.left.Left.{Left}
-use Rattle.page_run.specs.State.{Tally}
-use Rattle.page_run.specs.declared.which.Which.{Which}
-use Rattle.lua_store.specs.Seen.{StoreView}
-use Rattle.lua_store.specs.Parts.{IsLater}
-use Rattle.lua_slots.specs.Points.{Point}
-use Rattle.lua_slots.specs.Enact.{all_given_back}
-use Rattle.lua_goes.specs.Going.{Lacks, Comes}
-use Rattle.lua_state.specs.declared.state.State.{State}
-use Rattle.lua_state.specs.declared.turn.Turn.{Turn}
-use Rattle.lua_state.specs.declared.turn.Turn.TheVariants as turn
-use Rattle.lua_state.specs.Seen.{slots_of, funds_of}
-use Rattle.lua_state.specs.Of.{StateOf}
-use Rattle.lua_state.specs.Worlds.{world_seen}
-use Rattle.lua_strides.specs.Next.{focus_of}
-use Rattle.lua_strides.specs.Strides.{Strides, Idles}
+use Rattle.lua_turns.specs.WkBaseDeclaredLeftLeft.{Left}
+use Rattle.lua_turns.specs.PageRunState.{Tally}
+use Rattle.lua_code.specs.PageRunDeclaredWhichWhich.{Which}
+use Rattle.lua_turns.specs.LuaStoreSeen.{StoreView}
+use Rattle.lua_turns.specs.LuaStoreParts.{IsLater}
+use Rattle.lua_turns.specs.LuaSlotsPoints.{Point}
+use Rattle.lua_turns.specs.LuaSlotsEnact.{all_given_back}
+use Rattle.lua_turns.specs.LuaGoesGoing.{Lacks, Comes}
+use Rattle.lua_turns.specs.LuaStateDeclaredStateState.{State}
+use Rattle.lua_calls.specs.LuaStateDeclaredTurnTurn.{Turn}
+use Rattle.lua_turns.specs.LuaStateDeclaredTurnTurnTheVariants as turn
+use Rattle.lua_turns.specs.LuaStateSeen.{slots_of, funds_of}
+use Rattle.lua_turns.specs.LuaStateOf.{StateOf}
+use Rattle.lua_turns.specs.LuaStateWorlds.{world_seen}
+use Rattle.lua_turns.specs.LuaStridesNext.{focus_of}
+use Rattle.lua_turns.specs.LuaStridesStrides.{Strides, Idles}
 use Rattle.lua_turns.specs.Rows.{Follows}
 use Rattle.lua_rows.specs.declared.rows.Went.{Went}
 use Rattle.lua_rows.specs.declared.rows.Went.TheVariants as went

@@ -1,18 +1,18 @@
 //! What follows a call that is made in place.
 ghost use Rattle.std.specs.Prelude.{◌≡◌, ◌<◌, ◌^◌, ◌∷◌, [], List as Items, Some, IfOk, OnOk};
-ghost use Rattle.page_run.specs.Outcome.{Goes};
+ghost use Rattle.lua_turns.specs.PageRunOutcome.{Goes};
 ghost use Rattle.lua_code.specs.Seen.{block_seen, expression_seen};
-ghost use Rattle.lua_gsubs.specs.Begun.{BegunOf};
-ghost use Rattle.lua_slots.specs.Code.{CExp, CallStatC, DeclareC, MoreC, NoC, ThenC};
-ghost use Rattle.lua_slots.specs.Points.{Evals, Gives, Runs, SFrame};
-ghost use Rattle.lua_slots.specs.Slots.{with_all};
-ghost use Rattle.lua_stack.specs.Of.{FocusOf, RegistersOf, ValuesOf};
-ghost use Rattle.lua_stack.specs.Seen.{focus_seen, registers_seen, values_seen};
-ghost use Rattle.lua_state.specs.Of.{StateOf};
-ghost use Rattle.lua_state.specs.Seen.{frames_of};
-ghost use Rattle.lua_store.specs.Parts.{IsLater, IsOf};
-ghost use Rattle.lua_store.specs.Seen.{StoreView};
-ghost use Rattle.lua_strides.specs.Next.{focus_of};
+ghost use Rattle.lua_calls.specs.LuaGsubsBegun.{BegunOf};
+ghost use Rattle.lua_code.specs.LuaSlotsCode.{CExp, CallStatC, DeclareC, MoreC, NoC, ThenC};
+ghost use Rattle.lua_turns.specs.LuaSlotsPoints.{Evals, Gives, Runs, SFrame};
+ghost use Rattle.lua_turns.specs.LuaSlotsSlots.{with_all};
+ghost use Rattle.lua_turns.specs.LuaStackOf.{FocusOf, RegistersOf, ValuesOf};
+ghost use Rattle.lua_turns.specs.LuaStackSeen.{focus_seen, registers_seen, values_seen};
+ghost use Rattle.lua_turns.specs.LuaStateOf.{StateOf};
+ghost use Rattle.lua_turns.specs.LuaStateSeen.{frames_of};
+ghost use Rattle.lua_turns.specs.LuaStoreParts.{IsLater, IsOf};
+ghost use Rattle.lua_turns.specs.LuaStoreSeen.{StoreView};
+ghost use Rattle.lua_turns.specs.LuaStridesNext.{focus_of};
 ghost use Rattle.lua_calls.specs.Ends.{BegunMakes};
 ghost use Rattle.lua_rows.specs.Declaring.{Declares};
 ghost use Rattle.lua_rows.specs.Made.{ends_above};
@@ -22,21 +22,15 @@ ghost use Rattle.lua_rows.specs.Rows.{IsTurned, MayStrideTo};
 use crate::making::{Made, make_call};
 use crate::ready::{ReadyCall, ready_call};
 use crate::rows::Went;
-use lua_basic::Stop;
-use lua_basic::values::single;
 use lua_calls::gsubs::go_from;
-use lua_code::{Expression, Statement};
-use lua_gsubs::Begun;
-use lua_stack::opening::{open, open_all};
-use lua_stack::register::Slot;
-use lua_stack::{Ending, Frame, InExpression, InStatement, Stack, Values};
-use lua_state::{State, Turn, leave_call};
-use lua_store::{Store, Value};
-use lua_strides::Next;
-use lua_strides::striding::only;
+use lua_calls::{Begun, Stop, Turn};
+use lua_code::{Expression, List, NoMemory, Statement};
+use lua_turns::{
+    Ending, Frame, InExpression, InStatement, Left, Next, Slot, Stack, State, Steps, Store, Value,
+    Values, leave_call, only, open, open_all, single,
+};
 use std::alloc::Global;
 use std::sync::ledger::Ledger;
-use wk_base::{Left, List, NoMemory, Steps};
 
 /// The values that a function gave are next.
 pub fn next_of<'m>(values: List<Value>) -> Next<'m>

@@ -16,4 +16,10 @@ pub mod operand;
 pub mod ready;
 pub mod rows;
 
+pub use lua_calls::{enter_library, hear, resume};
+pub use lua_turns::waiting::{Waiting, drop_newest, of_newest};
+pub use lua_turns::{
+    Next, count_turn, each_turn, enter_body, give_end, give_loop, leave_call, pass_end,
+    repeat_turn, while_turn,
+};
 pub use rows::{Went, row, strides, turn_for};

@@ -1,29 +1,23 @@
 //! A call that is ready is paid for and made (manual 2.5.8).
 ghost use Rattle.std.specs.Prelude.{◌≡◌, IfOk};
-ghost use Rattle.lua_basic.specs.Seen.{AllOf};
-ghost use Rattle.lua_gsubs.specs.Begun.{BegunOf};
-ghost use Rattle.lua_stack.specs.Of.{ValuesOf};
-ghost use Rattle.lua_stack.specs.Seen.{values_seen};
-ghost use Rattle.lua_state.specs.Of.{StateOf};
-ghost use Rattle.lua_store.specs.Parts.{IsLater};
-ghost use Rattle.mw_frames.specs.Scenes.{NamesOf};
+ghost use Rattle.lua_calls.specs.LuaBasicSeen.{AllOf};
+ghost use Rattle.lua_calls.specs.LuaGsubsBegun.{BegunOf};
+ghost use Rattle.lua_turns.specs.LuaStackOf.{ValuesOf};
+ghost use Rattle.lua_turns.specs.LuaStackSeen.{values_seen};
+ghost use Rattle.lua_turns.specs.LuaStateOf.{StateOf};
+ghost use Rattle.lua_turns.specs.LuaStoreParts.{IsLater};
+ghost use Rattle.lua_calls.specs.MwFramesScenes.{NamesOf};
 ghost use Rattle.lua_rows.specs.Begins.{begun_of, begun_one, begun_list, AnswersAtOnce, Begins};
 ghost use Rattle.lua_rows.specs.Made.{MayMake};
 
 use crate::ready::Callee;
-use lua_basic::Stop;
 use lua_calls::answering::once_call;
 use lua_calls::table::AtOnce;
-use lua_gsubs::{Begun, gsub_begin};
-use lua_state::{State, enter_call};
-use lua_store::{Store, Value};
-use lua_strides::ending::pay_nodes;
-use lua_strings::StringFunction;
-use lua_strings::places::sub;
-use mw_frames::FieldNames;
+use lua_calls::{Begun, FieldNames, Stop, StringFunction, gsub_begin, sub};
+use lua_code::{List, NoMemory};
+use lua_turns::{Left, State, Steps, Store, Value, enter_call, pay_nodes};
 use std::alloc::Global;
 use std::sync::ledger::Ledger;
-use wk_base::{Left, List, NoMemory, Steps};
 
 /// What came of a call that was made. It is small, since each call hands it on: what is seldom, and large, stands in a box.
 #[derive(Drop)]

@@ -1,13 +1,13 @@
 //! An operator whose one operand is a call that is made in place (manual 2.5.5).
 ghost use Rattle.std.specs.Prelude.{◌≡◌, ◌<◌, ◌^◌, IfOk};
 ghost use Rattle.lua_code.specs.Seen.{expression_seen};
-ghost use Rattle.lua_slots.specs.Code.{CExp, UnaryC};
-ghost use Rattle.lua_slots.specs.Points.{Evals};
-ghost use Rattle.lua_stack.specs.declared.frame.Frame.TheVariants as frame_kind;
-ghost use Rattle.lua_stack.specs.declared.frame.InExpression.TheVariants as in_expression;
-ghost use Rattle.lua_stack.specs.Of.{ValuesOf};
-ghost use Rattle.lua_state.specs.Of.{StateOf};
-ghost use Rattle.lua_state.specs.Seen.{frames_of};
+ghost use Rattle.lua_code.specs.LuaSlotsCode.{CExp, UnaryC};
+ghost use Rattle.lua_turns.specs.LuaSlotsPoints.{Evals};
+ghost use Rattle.lua_turns.specs.LuaStackDeclaredFrameFrameTheVariants as frame_kind;
+ghost use Rattle.lua_turns.specs.LuaStackDeclaredFrameInExpressionTheVariants as in_expression;
+ghost use Rattle.lua_turns.specs.LuaStackOf.{ValuesOf};
+ghost use Rattle.lua_turns.specs.LuaStateOf.{StateOf};
+ghost use Rattle.lua_turns.specs.LuaStateSeen.{frames_of};
 ghost use Rattle.lua_rows.specs.Ready.{IsReady};
 ghost use Rattle.lua_rows.specs.Rows.{MayStrideTo};
 
@@ -15,16 +15,12 @@ use crate::in_place::{go_above, next_of, turned};
 use crate::making::{Made, make_call};
 use crate::ready::{ReadyCall, ready_call};
 use crate::rows::Went;
-use lua_code::Expression;
-use lua_stack::{Frame, InExpression};
-use lua_state::{State, leave_call};
-use lua_store::{Store, Value};
-use lua_strides::Next;
+use lua_code::{Expression, NoMemory};
 use lua_syntax::UnaryOp;
 use lua_turns::deciding::result_of;
+use lua_turns::{Frame, InExpression, Left, Next, State, Steps, Store, Value, leave_call};
 use std::alloc::Global;
 use std::sync::ledger::Ledger;
-use wk_base::{Left, NoMemory, Steps};
 
 /// The frame of an operator that waits for its operand.
 fn operator_frame<'m>(op: UnaryOp, line: u32) -> Frame<'m>

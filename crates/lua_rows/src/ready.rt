@@ -1,17 +1,14 @@
 //! Calls of functions of the library whose parts are read in place (manual 2.5.8).
 ghost use Rattle.std.specs.Prelude.{◌≡◌, ◌∷◌, ◌++◌, [], IfOk, IfSome, MatchOption, OnOk};
 ghost use Rattle.lua_code.specs.Seen.{expression_seen, expressions_seen};
-ghost use Rattle.lua_slots.specs.Code.{CallC, MethodC};
-ghost use Rattle.lua_state.specs.Of.{StateOf};
+ghost use Rattle.lua_code.specs.LuaSlotsCode.{CallC, MethodC};
+ghost use Rattle.lua_turns.specs.LuaStateOf.{StateOf};
 ghost use Rattle.lua_rows.specs.Ready.{IsCallee, IsMethodOf, IsReady, MayStandBehind};
 
+use lua_calls::GsubFunction;
 use lua_calls::table::{Act, AtOnce, act_of};
-use lua_code::Expression;
-use lua_gsubs::GsubFunction;
-use lua_state::{State, constant_at_hand};
-use lua_store::{Store, Value};
-use lua_strides::reading::{LEVELS, read};
-use wk_base::NoMemory;
+use lua_code::{Expression, NoMemory};
+use lua_turns::{LEVELS, State, Store, Value, constant_at_hand, read};
 
 /// A function of the library that calls back nobody, or only where it is given a function or a table.
 #[derive(Clone, Copy, Debug, PartialEq, Eq)]

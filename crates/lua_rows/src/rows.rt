@@ -1,27 +1,24 @@
 //! Strides, and calls of the library that are made in place, in a row.
 ghost use Rattle.std.specs.Prelude.{IfOk};
 ghost use Rattle.lua_code.specs.Seen.{block_seen, expression_seen, statement_seen};
-ghost use Rattle.lua_slots.specs.Points.{Evals, Runs};
-ghost use Rattle.lua_stack.specs.Of.{FocusOf};
-ghost use Rattle.lua_stack.specs.Seen.{focus_seen};
-ghost use Rattle.lua_state.specs.Of.{StateOf};
-ghost use Rattle.lua_state.specs.Seen.{frames_of};
-ghost use Rattle.lua_strides.specs.Next.{focus_of};
+ghost use Rattle.lua_turns.specs.LuaSlotsPoints.{Evals, Runs};
+ghost use Rattle.lua_turns.specs.LuaStackOf.{FocusOf};
+ghost use Rattle.lua_turns.specs.LuaStackSeen.{focus_seen};
+ghost use Rattle.lua_turns.specs.LuaStateOf.{StateOf};
+ghost use Rattle.lua_turns.specs.LuaStateSeen.{frames_of};
+ghost use Rattle.lua_turns.specs.LuaStridesNext.{focus_of};
 ghost use Rattle.lua_rows.specs.Rows.{FollowsTo, IsTurn, MayStrideTo};
 
 use crate::in_place::{call_declaration, call_expression, call_statement};
 use crate::operand::call_operand;
-use lua_code::{Expression, Statement};
-use lua_stack::Focus;
-use lua_state::{State, Turn};
-use lua_store::{Store, Value};
-use lua_strides::running::variable;
-use lua_strides::striding::{front_of, only};
-use lua_strides::{Next, focus_for};
-use lua_turns::{begin_row, follow};
+use lua_calls::Turn;
+use lua_code::{Expression, NoMemory, Statement};
+use lua_turns::{
+    Focus, Left, Next, State, Steps, Store, Value, begin_row, focus_for, follow, front_of, only,
+    variable,
+};
 use std::alloc::Global;
 use std::sync::ledger::Ledger;
-use wk_base::{Left, NoMemory, Steps};
 
 /// How many strides there are in a row at most.
 const MOST: u64 = 1 << 20;

@@ -1,31 +1,31 @@
 -- TEXTS one after another, and values whose texts are still to come.
 use Rattle.std.proofs.Common.{◌≡◌, ◌∙◌, refl, sym, ap, subst, ℕ, List, [], ◌∷◌, ◌++◌, length, length-append}
 use Rattle.std.specs.Prelude.{◌+◌, flat_map}
-use Rattle.lua_meaning.specs.Start.{escape_byte}
+use Rattle.lua_code.specs.LuaMeaningStart.{escape_byte}
 use Rattle.std.proofs.lemmas.List.{append_assoc, append-nil}
-use Rattle.wk_base.specs.declared.left.Left.{Left}
+use Rattle.page_run.specs.WkBaseDeclaredLeftLeft.{Left}
 use Rattle.lua_store.specs.declared.value.Value.{Value}
 use Rattle.lua_store.specs.declared.ids.TextId.{TextId}
 use Rattle.lua_store.specs.Seen.{StoreView, seen, text_at}
 use Rattle.lua_store.specs.Parts.{IsLater, IsTextOf}
 use Rattle.lua_store.proofs.Later.{text_of-later}
 use Rattle.lua_store.proofs.Lists.{all-to}
-use Rattle.lua_heap.specs.Value.{Value as Plain}
-use Rattle.lua_meaning.specs.Metatables.{handler}
-use Rattle.lua_slots.specs.Points.{Texts, Now}
-use Rattle.lua_slots.specs.Starts.{text_by}
-use Rattle.lua_meaning.specs.Values.{first}
-use Rattle.lua_stack.specs.declared.values.Given.{Given}
-use Rattle.lua_stack.specs.Lists.{first_stored, rest_stored, given_values}
-use Rattle.lua_stack.specs.Of.{ValuesOf, TextsOf}
-use Rattle.lua_stack.specs.Seen.{values_seen, given_seen, joined_seen}
-use Rattle.lua_stack.proofs.Openings.{first_seen}
-use Rattle.lua_stack.proofs.Stay.{values_stay}
-use Rattle.lua_state.specs.declared.state.State.{State}
-use Rattle.lua_state.specs.declared.turn.Turn.{Turn}
-use Rattle.lua_state.specs.Seen.{slots_of, frames_of}
-use Rattle.lua_state.specs.Of.{StateOf}
-use Rattle.lua_state.specs.Makes.{Makes}
+use Rattle.lua_code.specs.LuaHeapValue.{Value as Plain}
+use Rattle.lua_code.specs.LuaMeaningMetatables.{handler}
+use Rattle.lua_modules.specs.LuaSlotsPoints.{Texts, Now}
+use Rattle.lua_code.specs.LuaSlotsStarts.{text_by}
+use Rattle.lua_code.specs.LuaMeaningValues.{first}
+use Rattle.lua_modules.specs.LuaStackDeclaredValuesGiven.{Given}
+use Rattle.lua_modules.specs.LuaStackLists.{first_stored, rest_stored, given_values}
+use Rattle.lua_modules.specs.LuaStackOf.{ValuesOf, TextsOf}
+use Rattle.lua_modules.specs.LuaStackSeen.{values_seen, given_seen, joined_seen}
+use Rattle.lua_modules.proofs.LuaStackOpenings.{first_seen}
+use Rattle.lua_modules.proofs.LuaStackStay.{values_stay}
+use Rattle.lua_modules.specs.LuaStateDeclaredStateState.{State}
+use Rattle.lua_modules.specs.LuaStateDeclaredTurnTurn.{Turn}
+use Rattle.lua_modules.specs.LuaStateSeen.{slots_of, frames_of}
+use Rattle.lua_modules.specs.LuaStateOf.{StateOf}
+use Rattle.lua_modules.specs.LuaStateMakes.{Makes}
 use Rattle.lua_runs.proofs.Parts.{over_text}
 
 -- one more at the end

@@ -2,33 +2,33 @@
 use Rattle.std.proofs.Common.{◌≡◌, ◌∙◌, refl, sym, ap, subst, true, false, ℕ, ◌+◌, List, ◌++◌, Option, None, length}
 use Rattle.std.specs.Prelude.{codes, Vec}
 use Rattle.std.specs.declared.alloc.Global.{Global}
-use Rattle.wk_base.specs.declared.left.Left.{Left}
+use Rattle.page_run.specs.WkBaseDeclaredLeftLeft.{Left}
 use Rattle.page_run.specs.Outcome.{Jumps}
 use Rattle.page_run.specs.declared.which.Which.TheVariants.{Steps}
-use Rattle.mw_html.specs.Render.{Piece, Whole, Deep, count}
-use Rattle.lua_heap.specs.Value.{Value as Plain, Text as PlainText}
-use Rattle.lua_meaning.specs.Acts.{Raised}
-use Rattle.lua_meaning.specs.Html.{nested_too_deeply}
-use Rattle.lua_meaning.specs.Metatables.{handler}
+use Rattle.mw_html_texts.specs.MwHtmlRender.{Piece, Whole, Deep, count}
+use Rattle.lua_code.specs.LuaHeapValue.{Value as Plain, Text as PlainText}
+use Rattle.lua_code.specs.LuaMeaningActs.{Raised}
+use Rattle.mw_html_texts.specs.LuaMeaningHtml.{nested_too_deeply}
+use Rattle.lua_code.specs.LuaMeaningMetatables.{handler}
 use Rattle.lua_store.specs.declared.value.Value.{Value}
 use Rattle.lua_store.specs.declared.value.Value.TheVariants as value
 use Rattle.lua_store.specs.Seen.{StoreView, seen}
-use Rattle.lua_slots.specs.Enact.{all_given_back, Short, enact}
-use Rattle.lua_slots.specs.Slots.{Slots}
-use Rattle.lua_slots.specs.Points.{SFrame, Texts, Move, Now}
-use Rattle.lua_slots.specs.Starts.{invoke_ends, next_text, rendered, text_by, whole_or_fail}
-use Rattle.lua_stack.proofs.Raises.{pays, spends}
-use Rattle.lua_basic.specs.Objects.{object_in}
-use Rattle.lua_strings.specs.Costs.{Takes}
+use Rattle.lua_code.specs.LuaSlotsEnact.{all_given_back, Short, enact}
+use Rattle.lua_modules.specs.LuaSlotsSlots.{Slots}
+use Rattle.lua_modules.specs.LuaSlotsPoints.{SFrame, Texts, Move, Now}
+use Rattle.lua_code.specs.LuaSlotsStarts.{invoke_ends, next_text, rendered, text_by, whole_or_fail}
+use Rattle.lua_modules.proofs.LuaStackRaises.{pays, spends}
+use Rattle.mw_html_texts.specs.LuaBasicObjects.{object_in}
+use Rattle.mw_html_texts.specs.LuaStringsCosts.{Takes}
 use Rattle.mw_html_texts.specs.declared.giving.ObjectText.TheVariants.{Text, TooDeep, Spent}
 use Rattle.mw_html_texts.specs.Given.{IsText}
-use Rattle.lua_state.specs.declared.state.State.{State}
-use Rattle.lua_state.specs.declared.turn.Turn.{Turn}
-use Rattle.lua_state.specs.declared.turn.Turn.TheVariants as turn
-use Rattle.lua_state.specs.Charges.{Pays}
-use Rattle.lua_state.specs.Seen.{slots_of, frames_of, funds_of}
-use Rattle.lua_state.specs.Of.{StateOf}
-use Rattle.lua_state.specs.Makes.{Makes}
+use Rattle.lua_modules.specs.LuaStateDeclaredStateState.{State}
+use Rattle.lua_modules.specs.LuaStateDeclaredTurnTurn.{Turn}
+use Rattle.lua_modules.specs.LuaStateDeclaredTurnTurnTheVariants as turn
+use Rattle.lua_modules.specs.LuaStateCharges.{Pays}
+use Rattle.lua_modules.specs.LuaStateSeen.{slots_of, frames_of, funds_of}
+use Rattle.lua_modules.specs.LuaStateOf.{StateOf}
+use Rattle.lua_modules.specs.LuaStateMakes.{Makes}
 use Rattle.lua_runs.proofs.Parts.{costs, short}
 
 -- the text of a value that is no object

@@ -1,36 +1,36 @@
 -- How moves of a whole run are made of parts.
 use Rattle.std.proofs.Common.{◌≡◌, ◌∙◌, Bool, true, false, refl, sym, ap, subst, ℕ, List, [], ◌∷◌}
-use Rattle.wk_base.specs.declared.left.Left.{Left}
+use Rattle.page_run.specs.WkBaseDeclaredLeftLeft.{Left}
 use Rattle.page_run.specs.declared.which.Which.TheVariants.{Steps}
-use Rattle.lua_heap.specs.Value as kind
+use Rattle.lua_code.specs.LuaHeapValue as kind
 use Rattle.lua_store.specs.declared.value.Value.TheVariants as own
 use Rattle.lua_store.specs.declared.ids.TextId.{TextId}
 use Rattle.lua_store.specs.Seen.{StoreView, text_at}
 use Rattle.lua_store.specs.Parts.{IsLater, IsTextOf}
 use Rattle.lua_store.proofs.Later.{later-itself}
-use Rattle.lua_slots.specs.Errors.{choose, gives, jumps}
-use Rattle.lua_slots.specs.Slots.{Slots}
-use Rattle.lua_slots.specs.Points.{SFrame, Move, Costs, Now}
-use Rattle.lua_slots.specs.Enact.{enact}
-use Rattle.lua_meaning.specs.Acts as act
-use Rattle.lua_stack.specs.declared.focus.Focus.{Focus}
-use Rattle.lua_stack.specs.declared.focus.Focus.TheVariants as focus
-use Rattle.lua_stack.specs.declared.focus.Jump.TheVariants as jump
-use Rattle.lua_stack.specs.declared.values.Given.TheVariants as given
-use Rattle.lua_stack.specs.declared.frame.Frame.{Frame}
-use Rattle.lua_stack.specs.Seen.{focus_seen}
-use Rattle.lua_stack.specs.Of.{FramesOf, FocusOf}
-use Rattle.lua_arms.specs.declared.step.Step.{Step}
-use Rattle.lua_arms.specs.Steps.{step_seen}
-use Rattle.lua_state.specs.declared.state.State.{State}
-use Rattle.lua_state.specs.declared.turn.Turn.{Turn}
-use Rattle.lua_state.specs.declared.turn.Turn.TheVariants as turn
-use Rattle.lua_state.specs.Seen.{slots_of, frames_of, funds_of}
-use Rattle.lua_state.specs.Of.{StateOf}
-use Rattle.lua_state.specs.Makes.{IfSpent, Makes}
-use Rattle.lua_state.specs.Charges.{Pays}
-use Rattle.lua_state.proofs.Staying.{state_later, frames_stay, slots_same}
-use Rattle.lua_state.proofs.Making.{after, from_parts, stands, spends}
+use Rattle.lua_modules.specs.LuaSlotsErrors.{choose, gives, jumps}
+use Rattle.lua_modules.specs.LuaSlotsSlots.{Slots}
+use Rattle.lua_modules.specs.LuaSlotsPoints.{SFrame, Move, Costs, Now}
+use Rattle.lua_code.specs.LuaSlotsEnact.{enact}
+use Rattle.lua_code.specs.LuaMeaningActs as act
+use Rattle.lua_modules.specs.LuaStackDeclaredFocusFocus.{Focus}
+use Rattle.lua_modules.specs.LuaStackDeclaredFocusFocusTheVariants as focus
+use Rattle.lua_modules.specs.LuaStackDeclaredFocusJumpTheVariants as jump
+use Rattle.lua_modules.specs.LuaStackDeclaredValuesGivenTheVariants as given
+use Rattle.lua_modules.specs.LuaStackDeclaredFrameFrame.{Frame}
+use Rattle.lua_modules.specs.LuaStackSeen.{focus_seen}
+use Rattle.lua_modules.specs.LuaStackOf.{FramesOf, FocusOf}
+use Rattle.lua_modules.specs.LuaArmsDeclaredStepStep.{Step}
+use Rattle.lua_modules.specs.LuaArmsSteps.{step_seen}
+use Rattle.lua_modules.specs.LuaStateDeclaredStateState.{State}
+use Rattle.lua_modules.specs.LuaStateDeclaredTurnTurn.{Turn}
+use Rattle.lua_modules.specs.LuaStateDeclaredTurnTurnTheVariants as turn
+use Rattle.lua_modules.specs.LuaStateSeen.{slots_of, frames_of, funds_of}
+use Rattle.lua_modules.specs.LuaStateOf.{StateOf}
+use Rattle.lua_modules.specs.LuaStateMakes.{IfSpent, Makes}
+use Rattle.lua_modules.specs.LuaStateCharges.{Pays}
+use Rattle.lua_modules.proofs.LuaStateStaying.{state_later, frames_stay, slots_same}
+use Rattle.lua_modules.proofs.LuaStateMaking.{after, from_parts, stands, spends}
 
 abbrev pub with_frames : State → List Frame → State
 with_frames m fs = record m { frames = fs }

@@ -1,52 +1,52 @@
 -- How a run begins is made of parts.
 use Rattle.std.proofs.Common.{◌≡◌, ◌∙◌, true, false, refl, sym, ap, subst, ℕ, List, [], ◌∷◌, ◌++◌, ◌+◌, length, Option, Some, None, Result, Ok, Err}
-use Rattle.wk_base.specs.declared.left.Left.{Left}
-use Rattle.wk_base.specs.declared.title.Title.{Title}
-use Rattle.wk_base.specs.Titles.{title_text}
+use Rattle.page_run.specs.WkBaseDeclaredLeftLeft.{Left}
+use Rattle.lua_code.specs.WkBaseDeclaredTitleTitle.{Title}
+use Rattle.lua_code.specs.WkBaseTitles.{title_text}
 use Rattle.mw_frame.specs.declared.scene.Job.{Job}
 use Rattle.mw_frame.specs.declared.scene.Scene.{Scene}
-use Rattle.lua_heap.specs.Heap.{Heap}
-use Rattle.lua_heap.specs.Proc.{Proc}
-use Rattle.lua_heap.specs.Value.{Table}
-use Rattle.lua_meaning.specs.Acts as act
-use Rattle.lua_meaning.specs.Frames.{make_frame, new_frame, frame_table}
-use Rattle.lua_meaning.specs.Messages.{nth_level, no_module, loop_in_require}
-use Rattle.lua_meaning.specs.Scope.{Bytes, Place}
-use Rattle.lua_meaning.specs.Titled.{item_of}
+use Rattle.lua_code.specs.LuaHeapHeap.{Heap}
+use Rattle.lua_code.specs.LuaHeapProc.{Proc}
+use Rattle.lua_code.specs.LuaHeapValue.{Table}
+use Rattle.lua_code.specs.LuaMeaningActs as act
+use Rattle.lua_modules.specs.LuaMeaningFrames.{make_frame, new_frame, frame_table}
+use Rattle.lua_modules.specs.LuaMeaningMessages.{nth_level, no_module, loop_in_require}
+use Rattle.lua_code.specs.LuaMeaningScope.{Bytes, Place}
+use Rattle.lua_modules.specs.LuaMeaningTitled.{item_of}
 use Rattle.lua_store.specs.Seen.{StoreView}
 use Rattle.lua_store.specs.Parts.{IsLater}
 use Rattle.lua_store.proofs.Later.{later-itself}
-use Rattle.lua_slots.specs.Code.{Protos, CModule, CWorld}
-use Rattle.lua_slots.specs.Errors.{raises_quote}
-use Rattle.lua_slots.specs.Modules.{with_module, begins_text, require_as, require_module}
-use Rattle.lua_meaning.specs.Pending.{ModuleWaits}
-use Rattle.lua_slots.specs.Points.{SFrame, Waits, ModuleFound, DataNow, Move, Costs}
-use Rattle.lua_slots.specs.Slots.{Slots, levels_at}
-use Rattle.lua_slots.specs.Enact.{all_given_back, Short, enact}
+use Rattle.lua_code.specs.LuaSlotsCode.{Protos, CModule, CWorld}
+use Rattle.lua_modules.specs.LuaSlotsErrors.{raises_quote}
+use Rattle.lua_modules.specs.LuaSlotsModules.{with_module, begins_text, require_as, require_module}
+use Rattle.lua_modules.specs.LuaMeaningPending.{ModuleWaits}
+use Rattle.lua_modules.specs.LuaSlotsPoints.{SFrame, Waits, ModuleFound, DataNow, Move, Costs}
+use Rattle.lua_modules.specs.LuaSlotsSlots.{Slots, levels_at}
+use Rattle.lua_code.specs.LuaSlotsEnact.{all_given_back, Short, enact}
 use Rattle.page_run.specs.declared.which.Which.TheVariants.{Steps}
 use Rattle.page_run.specs.State.{Tally}
-use Rattle.lua_syntax.specs.declared.fault.FaultAt.{FaultAt}
-use Rattle.lua_slots.specs.Starts.{with_frame, runs_data}
-use Rattle.lua_goes.specs.Going.{led}
-use Rattle.lua_stack.specs.declared.frame.Frame.{Frame}
-use Rattle.lua_stack.proofs.Raises.{pays, spends}
-use Rattle.lua_state.specs.declared.state.State.{State}
-use Rattle.lua_state.specs.declared.turn.Turn.{Turn}
-use Rattle.lua_state.specs.Charges.{Pays}
-use Rattle.lua_state.specs.declared.codes.World.{World}
-use Rattle.lua_state.specs.Makes.{Makes, LateMakes}
-use Rattle.lua_state.specs.Worlds.{world_seen}
-use Rattle.lua_state.specs.Of.{StateOf}
-use Rattle.lua_state.specs.Seen.{slots_of, frames_of, funds_of}
-use Rattle.lua_state.proofs.Making.{from_parts, late_after, late_changed}
-use Rattle.lua_state.proofs.Staying.{slots_stay}
-use Rattle.lua_basic.specs.declared.stop.Stop.{Stop}
-use Rattle.lua_basic.specs.declared.stop.Stop.TheVariants as stop
-use Rattle.mw_frames.specs.Costs.{Took, Lacked, Unpaid}
-use Rattle.mw_frames.specs.declared.scenes.Parent.TheVariants as kin
-use Rattle.mw_frames.specs.declared.scenes.SceneFrame.{SceneFrame}
-use Rattle.mw_frames.specs.declared.scenes.Scenes.{Scenes}
-use Rattle.mw_frames.specs.Scenes.{made, frame_seen, frames_seen as scenes_seen, FrameOf, FramesOf, NamesOf, ScenesOf}
+use Rattle.lua_code.specs.LuaSyntaxDeclaredFaultFaultAt.{FaultAt}
+use Rattle.lua_code.specs.LuaSlotsStarts.{with_frame, runs_data}
+use Rattle.lua_modules.specs.LuaGoesGoing.{led}
+use Rattle.lua_modules.specs.LuaStackDeclaredFrameFrame.{Frame}
+use Rattle.lua_modules.proofs.LuaStackRaises.{pays, spends}
+use Rattle.lua_modules.specs.LuaStateDeclaredStateState.{State}
+use Rattle.lua_modules.specs.LuaStateDeclaredTurnTurn.{Turn}
+use Rattle.lua_modules.specs.LuaStateCharges.{Pays}
+use Rattle.lua_modules.specs.LuaStateDeclaredCodesWorld.{World}
+use Rattle.lua_modules.specs.LuaStateMakes.{Makes, LateMakes}
+use Rattle.lua_modules.specs.LuaStateWorlds.{world_seen}
+use Rattle.lua_modules.specs.LuaStateOf.{StateOf}
+use Rattle.lua_modules.specs.LuaStateSeen.{slots_of, frames_of, funds_of}
+use Rattle.lua_modules.proofs.LuaStateMaking.{from_parts, late_after, late_changed}
+use Rattle.lua_modules.proofs.LuaStateStaying.{slots_stay}
+use Rattle.mw_html_texts.specs.LuaBasicDeclaredStopStop.{Stop}
+use Rattle.mw_html_texts.specs.LuaBasicDeclaredStopStopTheVariants as stop
+use Rattle.lua_modules.specs.MwFramesCosts.{Took, Lacked, Unpaid}
+use Rattle.lua_modules.specs.MwFramesDeclaredScenesParentTheVariants as kin
+use Rattle.lua_modules.specs.MwFramesDeclaredScenesSceneFrame.{SceneFrame}
+use Rattle.lua_modules.specs.MwFramesDeclaredScenesScenes.{Scenes}
+use Rattle.lua_modules.specs.MwFramesScenes.{made, frame_seen, frames_seen as scenes_seen, FrameOf, FramesOf, NamesOf, ScenesOf}
 use Rattle.lua_runs.proofs.Parts.{with_frames, if_spent}
 
 -- WHAT IS TAKEN for a frame's arguments

@@ -1,12 +1,12 @@
 -- STEPS that are taken part by part.
 use Rattle.std.proofs.Common.{◌≡◌, ◌∙◌, sym, ap, subst, arith, ℕ, ◌+◌, ◌-◌, ◌<◌, ◌≤◌, ◌⊎◌, inl, inr, Bool, true, false, leb}
 use Rattle.std.proofs.lemmas.Bool.Decides.{leb_tells}
-use Rattle.wk_base.specs.declared.left.Left.{Left}
-use Rattle.lua_slots.specs.Points.{Move, Costs}
-use Rattle.lua_slots.specs.Enact.{Funds, enact}
-use Rattle.lua_stack.proofs.Raises.{less_steps, pays, spends}
-use Rattle.lua_state.specs.Seen.{funds_of}
-use Rattle.lua_state.specs.Charges.{Pays}
+use Rattle.page_run.specs.WkBaseDeclaredLeftLeft.{Left}
+use Rattle.lua_modules.specs.LuaSlotsPoints.{Move, Costs}
+use Rattle.lua_code.specs.LuaSlotsEnact.{Funds, enact}
+use Rattle.lua_modules.proofs.LuaStackRaises.{less_steps, pays, spends}
+use Rattle.lua_modules.specs.LuaStateSeen.{funds_of}
+use Rattle.lua_modules.specs.LuaStateCharges.{Pays}
 
 abbrev less_funds : Funds → ℕ → Funds
 less_funds f n = record f { left = less_steps f.left n }

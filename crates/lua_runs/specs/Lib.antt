@@ -1,0 +1,1 @@
+pub use Rattle.lua_modules.specs.LuaStateWorlds as LuaStateWorlds

@@ -1,36 +1,32 @@
 //! The text of an answer (Scribunto, "Invoking modules"): each value's text as `tostring` gives it, one after another.
 ghost use Rattle.std.specs.Prelude.{◌≡◌, ◌++◌, ◌∷◌, [], None, codes, length, IfOk, MatchOption};
 ghost use Rattle.page_run.specs.Outcome.{Goes};
-ghost use Rattle.wk_base.specs.declared.left.Left.{Left as Allowance};
-ghost use Rattle.mw_html.specs.Render.{render};
-ghost use Rattle.lua_meaning.specs.CallBacks.{text_of as plain_text};
-ghost use Rattle.lua_meaning.specs.Metatables.{handler as handler_of};
-ghost use Rattle.lua_meaning.specs.Start.{Done};
-ghost use Rattle.lua_slots.specs.Calls as calls;
-ghost use Rattle.lua_slots.specs.Points as point;
-ghost use Rattle.lua_slots.specs.Starts as starts;
+ghost use Rattle.page_run.specs.WkBaseDeclaredLeftLeft.{Left as Allowance};
+ghost use Rattle.mw_html_texts.specs.MwHtmlRender.{render};
+ghost use Rattle.lua_code.specs.LuaMeaningCallBacks.{text_of as plain_text};
+ghost use Rattle.lua_code.specs.LuaMeaningMetatables.{handler as handler_of};
+ghost use Rattle.lua_code.specs.LuaMeaningStart.{Done};
+ghost use Rattle.lua_modules.specs.LuaSlotsCalls as calls;
+ghost use Rattle.lua_modules.specs.LuaSlotsPoints as point;
+ghost use Rattle.lua_code.specs.LuaSlotsStarts as starts;
 ghost use Rattle.lua_store.specs.Parts.{IsMarkupOf, IsOf, IsTextOf};
 ghost use Rattle.lua_store.specs.Seen.{seen, text_at};
-ghost use Rattle.lua_stack.specs.Of.{ValuesOf, TextsOf};
-ghost use Rattle.lua_stack.specs.Seen.{values_seen, joined_seen};
-ghost use Rattle.lua_state.specs.Charges.{Pays};
-ghost use Rattle.lua_state.specs.Makes.{Makes};
-ghost use Rattle.lua_state.specs.Of.{StateOf};
-ghost use Rattle.lua_state.specs.Seen.{frames_of, slots_of};
+ghost use Rattle.lua_modules.specs.LuaStackOf.{ValuesOf, TextsOf};
+ghost use Rattle.lua_modules.specs.LuaStackSeen.{values_seen, joined_seen};
+ghost use Rattle.lua_modules.specs.LuaStateCharges.{Pays};
+ghost use Rattle.lua_modules.specs.LuaStateMakes.{Makes};
+ghost use Rattle.lua_modules.specs.LuaStateOf.{StateOf};
+ghost use Rattle.lua_modules.specs.LuaStateSeen.{frames_of, slots_of};
 
 use crate::ends::{done, too_deep};
 use crate::html::append;
-use lua_arms::calls::call;
-use lua_arms::tables::handler;
-use lua_basic::objects::object;
-use lua_stack::values::is_nil;
-use lua_stack::{Focus, Frame, InRun, Values};
-use lua_state::{State, Turn, finish, pay};
+use lua_code::NoMemory;
+use lua_modules::{Focus, Frame, InRun, State, Turn, Values, call, finish, handler, is_nil, pay};
 use lua_store::{MarkupId, Store, TextId, Value};
-use mw_html_texts::{ObjectText, object_text};
+use mw_frame::List;
+use mw_html_texts::{Left, ObjectText, object, object_text};
 use page_run::Which;
 use std::alloc::Global;
-use wk_base::{Left, List, NoMemory};
 
 /// One value as a list.
 pub fn one(alloc: Global, value: Value) -> Result<Values, NoMemory>

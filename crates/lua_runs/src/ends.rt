@@ -1,28 +1,27 @@
 //! How a run ends: its text or its value is given, or the text of a failure is raised (Scribunto, "Lua error").
 ghost use Rattle.std.specs.Prelude.{codes, IfOk};
 ghost use Rattle.page_run.specs.Outcome.{Goes, Jumps};
-ghost use Rattle.wk_base.specs.declared.left.Left.{Left as Allowance};
-ghost use Rattle.lua_heap.specs.Value as kind;
-ghost use Rattle.lua_meaning.specs.Acts as act;
-ghost use Rattle.lua_meaning.specs.Html.{nested_too_deeply};
-ghost use Rattle.lua_meaning.specs.Start.{Done, Failed, data_value};
-ghost use Rattle.lua_slots.specs.Errors.{jumps};
-ghost use Rattle.lua_slots.specs.Starts.{invoke_ends, data_ends};
+ghost use Rattle.page_run.specs.WkBaseDeclaredLeftLeft.{Left as Allowance};
+ghost use Rattle.lua_code.specs.LuaHeapValue as kind;
+ghost use Rattle.lua_code.specs.LuaMeaningActs as act;
+ghost use Rattle.mw_html_texts.specs.LuaMeaningHtml.{nested_too_deeply};
+ghost use Rattle.lua_code.specs.LuaMeaningStart.{Done, Failed, data_value};
+ghost use Rattle.lua_modules.specs.LuaSlotsErrors.{jumps};
+ghost use Rattle.lua_code.specs.LuaSlotsStarts.{invoke_ends, data_ends};
 ghost use Rattle.lua_store.specs.Parts.{IsOf};
 ghost use Rattle.lua_store.specs.Seen.{seen};
-ghost use Rattle.lua_stack.specs.Of.{JumpOf};
-ghost use Rattle.lua_stack.specs.Seen.{jump_seen};
-ghost use Rattle.lua_state.specs.Makes.{Makes};
-ghost use Rattle.lua_state.specs.Of.{StateOf};
-ghost use Rattle.lua_state.specs.Seen.{frames_of, slots_of};
+ghost use Rattle.lua_modules.specs.LuaStackOf.{JumpOf};
+ghost use Rattle.lua_modules.specs.LuaStackSeen.{jump_seen};
+ghost use Rattle.lua_modules.specs.LuaStateMakes.{Makes};
+ghost use Rattle.lua_modules.specs.LuaStateOf.{StateOf};
+ghost use Rattle.lua_modules.specs.LuaStateSeen.{frames_of, slots_of};
 
 use crate::html::escaped;
 use crate::messages::{lua_error, shown_error};
-use lua_stack::{Focus, Given, Jump};
-use lua_state::{State, Turn};
+use lua_code::NoMemory;
+use lua_modules::{Focus, Given, Jump, State, Turn};
 use lua_store::{Store, Value};
 use std::alloc::Global;
-use wk_base::NoMemory;
 
 /// An invocation gives this text.
 pub fn done<'m>(store: &mut Store, state: &State<'m>, text: &[u8]) -> Result<Turn<'m>, NoMemory>

@@ -1,36 +1,36 @@
 //! What the frames of a run do with values, and with what passes them by (Scribunto, "Invoking modules" and mw.loadData).
 ghost use Rattle.std.specs.Prelude.{◌≡◌, ◌++◌, ◌∷◌, [], None, codes, IfOk};
 ghost use Rattle.page_run.specs.Outcome.{Goes};
-ghost use Rattle.wk_base.specs.declared.left.Left.{Left as Allowance};
-ghost use Rattle.lua_heap.specs.Value as kind;
-ghost use Rattle.lua_meaning.specs.Start.{Failed};
-ghost use Rattle.lua_meaning.specs.Values as plain;
-ghost use Rattle.lua_slots.specs.Calls as calls;
-ghost use Rattle.lua_slots.specs.Code.{CWorld};
-ghost use Rattle.lua_slots.specs.Index as indices;
-ghost use Rattle.lua_slots.specs.Moves.{goes, passes};
-ghost use Rattle.lua_slots.specs.Points as point;
-ghost use Rattle.lua_slots.specs.Starts as starts;
+ghost use Rattle.page_run.specs.WkBaseDeclaredLeftLeft.{Left as Allowance};
+ghost use Rattle.lua_code.specs.LuaHeapValue as kind;
+ghost use Rattle.lua_code.specs.LuaMeaningStart.{Failed};
+ghost use Rattle.lua_code.specs.LuaMeaningValues as plain;
+ghost use Rattle.lua_modules.specs.LuaSlotsCalls as calls;
+ghost use Rattle.lua_code.specs.LuaSlotsCode.{CWorld};
+ghost use Rattle.lua_code.specs.LuaSlotsIndex as indices;
+ghost use Rattle.lua_code.specs.LuaSlotsMoves.{goes, passes};
+ghost use Rattle.lua_modules.specs.LuaSlotsPoints as point;
+ghost use Rattle.lua_code.specs.LuaSlotsStarts as starts;
 ghost use Rattle.lua_store.specs.Parts.{IsOf, IsTextOf, IsTableOf};
 ghost use Rattle.lua_store.specs.Seen.{seen, text_at};
-ghost use Rattle.lua_stack.specs.Lists.{first_stored, given_values};
-ghost use Rattle.lua_stack.specs.Of.{InRunOf, GivenOf, JumpOf, ValuesOf, TextsOf};
-ghost use Rattle.lua_stack.specs.Seen.{in_run_seen, given_seen, jump_seen, values_seen, joined_seen};
-ghost use Rattle.lua_state.specs.Makes.{Makes};
-ghost use Rattle.lua_state.specs.Of.{StateOf};
-ghost use Rattle.lua_state.specs.Seen.{frames_of, slots_of};
+ghost use Rattle.lua_modules.specs.LuaStackLists.{first_stored, given_values};
+ghost use Rattle.lua_modules.specs.LuaStackOf.{InRunOf, GivenOf, JumpOf, ValuesOf, TextsOf};
+ghost use Rattle.lua_modules.specs.LuaStackSeen.{in_run_seen, given_seen, jump_seen, values_seen, joined_seen};
+ghost use Rattle.lua_modules.specs.LuaStateMakes.{Makes};
+ghost use Rattle.lua_modules.specs.LuaStateOf.{StateOf};
+ghost use Rattle.lua_modules.specs.LuaStateSeen.{frames_of, slots_of};
 
 use crate::answers::{follow, follow_made, one};
 use crate::ends::{data_given, data_uncaught, failed, no_string, uncaught};
 use crate::messages::no_function;
-use lua_arms::calls::call;
-use lua_arms::index::index_table;
-use lua_stack::values::is_function;
-use lua_stack::{Focus, Frame, Given, InRun, Jump, Values};
-use lua_state::{State, Turn, finish};
+use lua_code::NoMemory;
+use lua_modules::{
+    Focus, Frame, Given, InRun, Jump, State, Turn, Values, call, finish, index_table, is_function,
+};
 use lua_store::{Store, TableId, TextId, Value};
+use mw_frame::{Bytes, List};
+use mw_html_texts::Left;
 use std::alloc::Global;
-use wk_base::{Bytes, Left, List, NoMemory};
 
 /// The value of a module at the text of its function's name is to be found.
 fn find_at<'m>(

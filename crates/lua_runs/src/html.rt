@@ -1,9 +1,9 @@
 //! Texts without marks of HTML.
 ghost use Rattle.std.specs.Prelude.{◌≡◌, ◌++◌, ◌∷◌, [], flat_map, IfOk, OnOk, MatchOption};
-ghost use Rattle.lua_meaning.specs.Start.{escape_byte};
+ghost use Rattle.lua_code.specs.LuaMeaningStart.{escape_byte};
 
+use lua_code::NoMemory;
 use std::alloc::Global;
-use wk_base::NoMemory;
 
 /// More bytes behind these.
 pub fn append(made: &mut Vec<u8>, more: &[u8]) -> Result<(), NoMemory>

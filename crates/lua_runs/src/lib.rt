@@ -19,4 +19,5 @@ pub mod starts;
 
 pub use answers::texts;
 pub use frames::{give_run, pass_run};
+pub use lua_modules::{Scenes, Work};
 pub use starts::begin_work;

@@ -1,15 +1,15 @@
 //! Texts of failures (Scribunto, "Lua error").
 ghost use Rattle.std.specs.Prelude.{◌≡◌, ◌++◌, ℕ, List, codes, IfOk};
-ghost use Rattle.lua_meaning.specs.Start.{error_text};
-ghost use Rattle.lua_meaning.specs.Values as plain;
+ghost use Rattle.lua_code.specs.LuaMeaningStart.{error_text};
+ghost use Rattle.lua_code.specs.LuaMeaningValues as plain;
 ghost use Rattle.lua_store.specs.Seen.{seen};
 ghost use Rattle.lua_store.specs.Parts.{IsOf};
 
 use crate::html::append;
-use lua_basic::values::kind_of;
+use lua_code::NoMemory;
 use lua_store::{Store, Value};
+use mw_html_texts::kind_of;
 use std::alloc::Global;
-use wk_base::NoMemory;
 
 /// A text as a list of bytes of its own.
 pub fn copied(alloc: Global, text: &[u8]) -> Result<Vec<u8>, NoMemory>

@@ -1,35 +1,35 @@
 //! How a run begins (Scribunto, "Invoking modules" and mw.loadData): its charges, the frame of an invocation, and the text of its module.
 ghost use Rattle.std.specs.Prelude.{◌≡◌, ◌+◌, ◌∷◌, [], None, length, IfOk, OnOk};
-ghost use Rattle.wk_base.specs.Titles.{title_text};
+ghost use Rattle.lua_code.specs.WkBaseTitles.{title_text};
 ghost use Rattle.mw_frame.specs.Scenes.{HaveNames, NamesDiffer};
-ghost use Rattle.lua_heap.specs.Value as kind;
-ghost use Rattle.lua_meaning.specs.Acts as act;
-ghost use Rattle.lua_meaning.specs.Frames as meaning;
-ghost use Rattle.lua_slots.specs.Modules as modules;
-ghost use Rattle.lua_slots.specs.Points as point;
-ghost use Rattle.lua_slots.specs.Starts as starts;
+ghost use Rattle.lua_code.specs.LuaHeapValue as kind;
+ghost use Rattle.lua_code.specs.LuaMeaningActs as act;
+ghost use Rattle.lua_modules.specs.LuaMeaningFrames as meaning;
+ghost use Rattle.lua_modules.specs.LuaSlotsModules as modules;
+ghost use Rattle.lua_modules.specs.LuaSlotsPoints as point;
+ghost use Rattle.lua_code.specs.LuaSlotsStarts as starts;
 ghost use Rattle.lua_store.specs.Parts.{IsLater, IsTableOf};
-ghost use Rattle.lua_stack.specs.Of.{WorkOf};
-ghost use Rattle.lua_stack.specs.Seen.{work_seen};
-ghost use Rattle.mw_frames.specs.Scenes.{made, frames_seen as scenes_seen};
-ghost use Rattle.lua_state.specs.Charges.{Pays};
-ghost use Rattle.lua_state.specs.Makes.{Makes, LateMakes};
-ghost use Rattle.lua_state.specs.Of.{StateOf};
-ghost use Rattle.lua_state.specs.Seen.{frames_of, slots_of};
-ghost use Rattle.lua_state.specs.Worlds.{world_seen};
-ghost use Rattle.lua_meaning.specs.Charges.{run_charge};
+ghost use Rattle.lua_modules.specs.LuaStackOf.{WorkOf};
+ghost use Rattle.lua_modules.specs.LuaStackSeen.{work_seen};
+ghost use Rattle.lua_modules.specs.MwFramesScenes.{made, frames_seen as scenes_seen};
+ghost use Rattle.lua_modules.specs.LuaStateCharges.{Pays};
+ghost use Rattle.lua_modules.specs.LuaStateMakes.{Makes, LateMakes};
+ghost use Rattle.lua_modules.specs.LuaStateOf.{StateOf};
+ghost use Rattle.lua_modules.specs.LuaStateSeen.{frames_of, slots_of};
+ghost use Rattle.lua_modules.specs.LuaStateWorlds.{world_seen};
+ghost use Rattle.lua_modules.specs.LuaMeaningCharges.{run_charge};
 
+use lua_code::NoMemory;
 use lua_modules::messages::no_data_module;
-use lua_modules::{require_module, run_text};
-use lua_stack::{Frame, InRun, Stack, Work};
-use lua_state::{State, Turn, fail, pay};
+use lua_modules::{
+    Frame, InRun, Parent, SceneFrame, Scenes, Stack, State, Turn, Work, fail, make_frame, pay,
+    pay_args, require_module, run_text,
+};
 use lua_store::{Store, TableId, Value};
-use mw_frame::{Arg, Job, Scene};
-use mw_frames::paying::pay_args;
-use mw_frames::{Parent, SceneFrame, Scenes, make_frame};
+use mw_frame::{Arg, Bytes, Job, Scene, Title};
+use mw_html_texts::Left;
 use page_run::Which;
 use std::alloc::Global;
-use wk_base::{Bytes, Left, NoMemory, Title};
 
 /// Takes what these arguments cost where they stand in a frame.
 fn pay_frame(left: &mut Left, args: &[Arg]) -> bool

@@ -1,9 +1,9 @@
 -- A name is looked for through the functions in progress.
 use Rattle.std.proofs.Common.{◌≡◌, ◌∙◌, ℕ, suc, ◌<◌, refl, sym, ap, subst, List, [], ◌∷◌, map, length, Option, Some, None, arith}
 use Rattle.std.specs.List.{AllByRecursion}
-use Rattle.lua_meaning.specs.Scope.{Bytes}
-use Rattle.lua_slots.specs.Code.{Up}
-use Rattle.lua_slots.specs.IsCode.{is_plain}
+use Rattle.lua_code.specs.LuaMeaningScope.{Bytes}
+use Rattle.lua_code.specs.LuaSlotsCode.{Up}
+use Rattle.lua_code.specs.LuaSlotsIsCode.{is_plain}
 use Rattle.lua_code.specs.declared.place.Place.{Place}
 use Rattle.lua_code.specs.declared.place.Place.TheVariants.{Captured}
 use Rattle.lua_code.specs.Seen.{place_seen}

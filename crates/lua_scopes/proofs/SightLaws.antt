@@ -2,12 +2,12 @@
 use Rattle.std.proofs.Common.{◌≡◌, ◌∙◌, ℕ, Bool, true, false, cond, refl, sym, ap, subst, List, [], ◌∷◌, ◌++◌, length, Option, Some, None, bytes_eq}
 use Rattle.std.proofs.lemmas.Slice.Eq.{bytes_eq-Decides}
 use Rattle.std.specs.List.{AllByRecursion}
-use Rattle.lua_heap.specs.Related.{Each}
-use Rattle.lua_heap.specs.Related as related
-use Rattle.lua_meaning.specs.Scope.{Bytes}
-use Rattle.lua_slots.specs.Code.{Place, Reg, Box, Up}
-use Rattle.lua_slots.specs.Sight.{Sighted, Everywhere, Here, Hidden, Sight, nothing_local, newest, deeper, inside, up_of, up_or}
-use Rattle.lua_slots.specs.IsCode.{is_plain, IsCaptured}
+use Rattle.lua_code.specs.LuaHeapRelated.{Each}
+use Rattle.lua_code.specs.LuaHeapRelated as related
+use Rattle.lua_code.specs.LuaMeaningScope.{Bytes}
+use Rattle.lua_code.specs.LuaSlotsCode.{Place, Reg, Box, Up}
+use Rattle.lua_code.specs.LuaSlotsSight.{Sighted, Everywhere, Here, Hidden, Sight, nothing_local, newest, deeper, inside, up_of, up_or}
+use Rattle.lua_code.specs.LuaSlotsIsCode.{is_plain, IsCaptured}
 use Rattle.lua_scopes.specs.Scopes.{Local, Level, nothing_known, with_capture, local_sight, level_sight, stack_sight, Misses, AreCaptured, StaysAs, Covers, Grows, IsPlaced}
 use Rattle.lua_scopes.specs.declared.spots.Found.{Found}
 use Rattle.lua_scopes.specs.Spots.{IsFound, IsCelled}

@@ -7,9 +7,9 @@ use Rattle.std.specs.Cmp.Lexicographic.{nat_list_eq_equiv}
 use Rattle.indexmap.specs.IndexMap.{IndexMap, IsUnique, with_value_at}
 use Rattle.indexmap.proofs.CallerLemmas.{updates-with_value_at}
 use Rattle.std.specs.Map.{lookup}
-use Rattle.lua_meaning.specs.Scope.{Bytes}
-use Rattle.lua_slots.specs.Code.{Place as PlainPlace, Reg, Box, Up}
-use Rattle.lua_slots.specs.Sight.{Sighted, Here, Sight, newest, deeper, inside, up_of, up_or}
+use Rattle.lua_code.specs.LuaMeaningScope.{Bytes}
+use Rattle.lua_code.specs.LuaSlotsCode.{Place as PlainPlace, Reg, Box, Up}
+use Rattle.lua_code.specs.LuaSlotsSight.{Sighted, Here, Sight, newest, deeper, inside, up_of, up_or}
 use Rattle.lua_code.specs.declared.place.Place.{Place}
 use Rattle.lua_code.specs.Seen.{place_seen}
 use Rattle.lua_scopes.specs.declared.spots.Spot.{Spot}

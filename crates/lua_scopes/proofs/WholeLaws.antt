@@ -1,8 +1,8 @@
 -- What keeps the functions in progress whole.
 use Rattle.std.proofs.Common.{◌≡◌, ◌∙◌, ℕ, Bool, true, refl, sym, ap, subst, List, [], ◌∷◌, map, length, Option, Some, None}
-use Rattle.lua_meaning.specs.Scope.{Bytes}
-use Rattle.lua_heap.specs.Related.{Each}
-use Rattle.lua_slots.specs.IsCode.{IsCaptured}
+use Rattle.lua_code.specs.LuaMeaningScope.{Bytes}
+use Rattle.lua_code.specs.LuaHeapRelated.{Each}
+use Rattle.lua_code.specs.LuaSlotsIsCode.{IsCaptured}
 use Rattle.lua_code.specs.declared.place.Place.{Place}
 use Rattle.lua_code.specs.Seen.{place_seen}
 use Rattle.lua_scopes.specs.declared.spots.Entry.{Entry}

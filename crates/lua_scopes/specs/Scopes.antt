@@ -3,11 +3,11 @@
 -- does not capture yet, is hidden.
 use Rattle.std.specs.Prelude.{◌≡◌, ℕ, ◌-◌, Bool, true, false, if◌then◌else◌, bytes_eq, List, [], ◌∷◌, ◌++◌, drop, length, Option, Some, None, refl}
 use Rattle.std.specs.Coded.{Coded, code_by, coded×, coded_ℕ, coded_bool, coded_list}
-use Rattle.lua_heap.specs.Related.{Each}
-use Rattle.lua_meaning.specs.Scope.{Bytes}
-use Rattle.lua_slots.specs.Code.{Place, Reg, Box, Up}
-use Rattle.lua_slots.specs.Sight.{Sighted, Everywhere, Here, Hidden, Sight, nothing_local, with_local, inside, up_of}
-use Rattle.lua_slots.specs.IsCode.{IsCaptured}
+use Rattle.lua_code.specs.LuaHeapRelated.{Each}
+use Rattle.lua_code.specs.LuaMeaningScope.{Bytes}
+use Rattle.lua_code.specs.LuaSlotsCode.{Place, Reg, Box, Up}
+use Rattle.lua_code.specs.LuaSlotsSight.{Sighted, Everywhere, Here, Hidden, Sight, nothing_local, with_local, inside, up_of}
+use Rattle.lua_code.specs.LuaSlotsIsCode.{IsCaptured}
 
 -- a local variable, and whether it has a cell
 pub record Local : Type 0 where

@@ -3,9 +3,9 @@
 use Rattle.std.specs.Prelude.{◌≡◌, ℕ, suc, ◌-◌, Bool, true, false, if◌then◌else◌, bytes_eq, List, [], ◌∷◌, ◌++◌, map, length, drop, slice_get, Option, Some, None, option_map}
 use Rattle.std.specs.Borrow.{Bor}
 use Rattle.std.specs.Map.{lookup}
-use Rattle.lua_meaning.specs.Scope.{Bytes}
-use Rattle.lua_slots.specs.Sight.{Here, Sight, up_of}
-use Rattle.lua_slots.specs.IsCode.{is_plain}
+use Rattle.lua_code.specs.LuaMeaningScope.{Bytes}
+use Rattle.lua_code.specs.LuaSlotsSight.{Here, Sight, up_of}
+use Rattle.lua_code.specs.LuaSlotsIsCode.{is_plain}
 use Rattle.lua_code.specs.declared.place.Place.{Place}
 use Rattle.lua_code.specs.declared.place.Place.TheVariants as place
 use Rattle.lua_code.specs.Seen.{place_seen}

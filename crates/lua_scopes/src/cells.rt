@@ -1,7 +1,7 @@
 //! Which local variables have cells.
 ghost use Rattle.std.specs.Prelude.{◌≡◌, true, false, None};
 
-use wk_base::NoMemory;
+use lua_code::NoMemory;
 
 /// For each declaration of a text, in order, whether its variable has a cell. What is not known has none; where a function
 /// turns out to capture such a variable, that is noted, and the text has to be gone over again.

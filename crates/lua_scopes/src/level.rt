@@ -5,9 +5,8 @@ ghost use Rattle.lua_scopes.specs.declared.level.Level.{Level as Held};
 
 use crate::spots::{Entry, Named, Spot, SpotMap, note};
 use crate::stack::Stack;
-use lua_code::Place;
+use lua_code::{Bytes, List, NoMemory, Place};
 use std::alloc::Global;
-use wk_base::{Bytes, List, NoMemory};
 
 /// A local variable: its name and where that may stand in the map, whether it has a cell, its number among the declarations, and what
 /// was known of its name before.

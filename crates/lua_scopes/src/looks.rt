@@ -2,10 +2,10 @@
 //!
 //! These functions go down the tree by recursion; the grammar bounds its depth (200 levels).
 use crate::sketch::{Sketch, Sketching};
+use lua_code::{Bytes, NoMemory};
 use lua_syntax::{Arm, Block, Chunk, Expr, ExprKind, Field, Function, Stat, StatKind};
 use std::alloc::Global;
 use std::hash::RandomState;
-use wk_base::{Bytes, NoMemory};
 
 /// What a first look at a text tells. Names are hashed by the seed, so that no text can choose names that collide.
 pub fn first_look<'t>(

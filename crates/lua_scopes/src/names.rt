@@ -1,14 +1,14 @@
 //! The names of a text.
 ghost use Rattle.std.specs.Prelude.{◌≡◌, None};
-ghost use Rattle.lua_meaning.specs.Scope.{Bytes as PlainBytes};
+ghost use Rattle.lua_code.specs.LuaMeaningScope.{Bytes as PlainBytes};
 ghost use Rattle.lua_scopes.specs.Spots.{spot_at};
 
 use crate::spots::{Named, SpotMap, number_of};
 use indexmap::IndexMap;
+use lua_code::{Bytes, NoMemory};
 use std::alloc::Global;
 use std::hash::RandomState;
 use std::marker::Model;
-use wk_base::{Bytes, NoMemory};
 
 /// Names, each with a number. Nothing is known of them yet.
 #[derive(Drop)]
@@ -18,7 +18,7 @@ pub(crate) struct Names<'t> {
 
 impl<'t> Model for Names<'t> {
     ghost use Rattle.std.specs.Prelude.{◌≡◌, None};
-    ghost use Rattle.lua_meaning.specs.Scope.{Bytes as PlainBytes};
+    ghost use Rattle.lua_code.specs.LuaMeaningScope.{Bytes as PlainBytes};
     ghost use Rattle.lua_scopes.specs.Spots.{spot_at};
 
     ghost Value = { Unit {0} };

@@ -11,12 +11,11 @@ use crate::names::Numbers;
 use crate::sketch::Sketch;
 use crate::spots::{Entry, Found, Named, SpotMap, find, place_of};
 use crate::stack::Stack;
-use lua_code::Place;
+use lua_code::{Bytes, List, NoMemory, Place};
 use std::alloc::Global;
 use std::hash::RandomState;
 use std::marker::Model;
 use std::mem::replace;
-use wk_base::{Bytes, List, NoMemory};
 
 /// The functions in progress, and which variables have cells.
 #[derive(Drop)]

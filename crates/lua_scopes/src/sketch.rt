@@ -1,10 +1,10 @@
 //! What a first look at a text tells: numbers of its names, and which of its local variables functions capture. None of it need be
 //! true. A number is compared with its name, and where a variable is captured that was not told, the text is gone over again.
 use crate::names::Names;
+use lua_code::{Bytes, NoMemory};
 use std::alloc::Global;
 use std::hash::RandomState;
 use std::mem::replace;
-use wk_base::{Bytes, NoMemory};
 
 /// The names of a text, the numbers of these in the order of the text, and for each declaration, in order, whether a function captures
 /// the variable.

@@ -1,12 +1,11 @@
 //! What is known of names, by the names.
 ghost use Rattle.std.specs.Prelude.{◌≡◌, None, true, OnOk};
-ghost use Rattle.lua_meaning.specs.Scope.{Bytes as PlainBytes};
+ghost use Rattle.lua_code.specs.LuaMeaningScope.{Bytes as PlainBytes};
 ghost use Rattle.lua_scopes.specs.Spots.{spot_at, StandsAt, IsNoted, found_of};
 
 use indexmap::IndexMap;
-use lua_code::Place;
+use lua_code::{Bytes, NoMemory, Place};
 use std::hash::RandomState;
-use wk_base::{Bytes, NoMemory};
 
 /// Where a function knows a name from.
 #[derive(Clone, Copy)]

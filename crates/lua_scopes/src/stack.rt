@@ -1,9 +1,9 @@
 //! A list of which the newest item is at hand.
 ghost use Rattle.std.specs.Prelude.{◌≡◌, [], ◌∷◌, length, OnOk, OnErr, MatchOption};
 
+use lua_code::NoMemory;
 use std::alloc::Global;
 use std::marker::Model;
-use wk_base::NoMemory;
 
 /// A list whose first item is the last that was put on it.
 #[derive(Drop)]

@@ -1,12 +1,12 @@
 use Rattle.std.proofs.Common.{refl, [], ◌∷◌}
 use Rattle.std.specs.Prelude.{codes}
-use Rattle.page_run.specs.Perform.{perform}
-use Rattle.wk_base.specs.Titles.{title_text, prefix_of, title_of, namespace_named, prefixed_namespaces}
+use Rattle.lua_meaning.specs.PageRunPerform.{perform}
+use Rattle.lua_meaning.specs.WkBaseTitles.{title_text, prefix_of, title_of, namespace_named, prefixed_namespaces}
 use Rattle.std.specs.Fmt.{digits}
 use Rattle.std.specs.Str.{is_utf8, chars}
 use lib.Utf8.{encode}
-use Rattle.lua_number.specs.Numerals.{decimal_of, numeral_of, trimmed, digits_of_base, read_number_of, read_in_base_of}
-use Rattle.lua_heap.specs.Related.{none, more}
+use Rattle.lua_meaning.specs.LuaNumberNumerals.{decimal_of, numeral_of, trimmed, digits_of_base, read_number_of, read_in_base_of}
+use Rattle.lua_meaning.specs.LuaHeapRelated.{none, more}
 use Rattle.lua_slots.specs.ExampleCalls.{protected_0, protected_1, protected_2, arithmetic_handlers_0, arithmetic_handlers_1, arithmetic_handlers_2, arithmetic_handlers_3, arithmetic_handlers_4, error_handlers_0, error_handlers_1, error_handlers_2, error_handlers_3, error_handlers_4, new_index_0, new_index_1, new_index_2, call_handlers_0, call_handlers_1, call_handlers_2, load_fails_0, load_fails_1, ProtectedIsCode, ProtectedAlike, ArithmeticHandlersIsCode, ArithmeticHandlersAlike, ErrorHandlersIsCode, ErrorHandlersAlike, NewIndexIsCode, NewIndexAlike, CallHandlersIsCode, CallHandlersAlike, LoadFailsIsCode, LoadFailsAlike, AllCalls}
 
 protected_is_code : ProtectedIsCode

@@ -1,12 +1,12 @@
 use Rattle.std.proofs.Common.{refl, [], ◌∷◌}
 use Rattle.std.specs.Prelude.{codes}
-use Rattle.page_run.specs.Perform.{perform}
-use Rattle.wk_base.specs.Titles.{title_text, prefix_of, title_of, namespace_named, prefixed_namespaces}
+use Rattle.lua_meaning.specs.PageRunPerform.{perform}
+use Rattle.lua_meaning.specs.WkBaseTitles.{title_text, prefix_of, title_of, namespace_named, prefixed_namespaces}
 use Rattle.std.specs.Fmt.{digits}
 use Rattle.std.specs.Str.{is_utf8, chars}
 use lib.Utf8.{encode}
-use Rattle.lua_number.specs.Numerals.{decimal_of, numeral_of, trimmed, digits_of_base, read_number_of, read_in_base_of}
-use Rattle.lua_heap.specs.Related.{none, more}
+use Rattle.lua_meaning.specs.LuaNumberNumerals.{decimal_of, numeral_of, trimmed, digits_of_base, read_number_of, read_in_base_of}
+use Rattle.lua_meaning.specs.LuaHeapRelated.{none, more}
 use Rattle.lua_slots.specs.ExampleCode.{cells_0, cells_1, cells_2, repeat_loop_0, repeat_loop_1, branches_0, branches_1, branches_2, constructors_0, constructors_1, constructors_2, and_or_0, and_or_1, CellsIsCode, CellsAlike, RepeatLoopIsCode, RepeatLoopAlike, BranchesIsCode, BranchesAlike, ConstructorsIsCode, ConstructorsAlike, AndOrIsCode, AndOrAlike, AllCode}
 
 cells_is_code : CellsIsCode

@@ -1,11 +1,11 @@
 -- Each mark of a move stands behind a charge of its own: so no move marks more than it costs.
 use Rattle.std.proofs.Common.{◌≡◌, ℕ, ◌+◌, ◌-◌, ◌≤◌, Bool, List, [], ◌∷◌, Option, Some, None, refl, arith}
 use Rattle.std.specs.Prelude.{ℤ, pos, ◌+ℤ◌}
-use Rattle.page_run.specs.Outcome.{Goes, Jumps}
-use Rattle.lua_number.specs.Whole.{fits}
-use Rattle.lua_heap.specs.Proc.{Proc}
-use Rattle.lua_heap.specs.Heap.{new_table}
-use Rattle.lua_heap.specs.Value.{Value, Number, Text, Table, is_true, is_nil}
+use Rattle.lua_meaning.specs.PageRunOutcome.{Goes, Jumps}
+use Rattle.lua_meaning.specs.LuaNumberWhole.{fits}
+use Rattle.lua_meaning.specs.LuaHeapProc.{Proc}
+use Rattle.lua_meaning.specs.LuaHeapHeap.{new_table}
+use Rattle.lua_meaning.specs.LuaHeapValue.{Value, Number, Text, Table, is_true, is_nil}
 use Rattle.lua_meaning.specs.Values.{first, second, third, number_in, text_in}
 use Rattle.lua_meaning.specs.Acts.{Jump, Broke}
 use Rattle.lua_meaning.specs.Loops.{is_within}

@@ -1,19 +1,19 @@
 -- What functions of the library do has no mark, and neither has the start of a run.
 use Rattle.std.proofs.Common.{ℕ, zero, suc, true, List, [], ◌∷◌, ◌++◌, Option, Some, None, refl}
 use Rattle.std.specs.Prelude.{ℤ, pos, ◌+ℤ◌, Result, Ok, Err, bytes_eq, codes}
-use Rattle.wk_base.specs.declared.title.Title.{Title}
-use Rattle.wk_base.specs.declared.title.Namespace.TheVariants.{Main}
-use Rattle.wk_base.specs.declared.title_read.TitleFault.{TitleFault}
-use Rattle.wk_base.specs.Titles.{title_text, title_of}
-use Rattle.lua_syntax.specs.declared.fault.FaultAt.{FaultAt}
-use Rattle.page_run.specs.Outcome.{Outcome, Goes, Jumps}
-use Rattle.lua_number.specs.Whole.{fits}
-use Rattle.mw_html.specs.Render.{Piece, Whole, Deep, render}
-use Rattle.lua_heap.specs.Proc.{Proc}
-use Rattle.lua_heap.specs.Value.{Value, Nil, Truth, Number, Text, Table, Builtin, Markup, is_nil}
-use Rattle.lua_heap.specs.Table.{get}
-use Rattle.lua_heap.specs.Heap.{table_at}
-use Rattle.lua_heap.specs.declared.library.Library.TheVariants.{BasicNext, IpairsStep}
+use Rattle.lua_meaning.specs.WkBaseDeclaredTitleTitle.{Title}
+use Rattle.lua_meaning.specs.WkBaseDeclaredTitleNamespaceTheVariants.{Main}
+use Rattle.lua_meaning.specs.WkBaseDeclaredTitleReadTitleFault.{TitleFault}
+use Rattle.lua_meaning.specs.WkBaseTitles.{title_text, title_of}
+use Rattle.lua_meaning.specs.LuaSyntaxDeclaredFaultFaultAt.{FaultAt}
+use Rattle.lua_meaning.specs.PageRunOutcome.{Outcome, Goes, Jumps}
+use Rattle.lua_meaning.specs.LuaNumberWhole.{fits}
+use Rattle.lua_meaning.specs.MwHtmlRender.{Piece, Whole, Deep, render}
+use Rattle.lua_meaning.specs.LuaHeapProc.{Proc}
+use Rattle.lua_meaning.specs.LuaHeapValue.{Value, Nil, Truth, Number, Text, Table, Builtin, Markup, is_nil}
+use Rattle.lua_meaning.specs.LuaHeapTable.{get}
+use Rattle.lua_meaning.specs.LuaHeapHeap.{table_at}
+use Rattle.lua_meaning.specs.LuaHeapDeclaredLibraryLibraryTheVariants.{BasicNext, IpairsStep}
 use Rattle.lua_meaning.specs.Scope.{Bytes}
 use Rattle.lua_meaning.specs.Titled.{item_of}
 use Rattle.lua_meaning.specs.Questions.{Asked, TemplateAsked, TextAsked, DataAsked}

@@ -1,14 +1,14 @@
 -- What is done with values has no mark.
 use Rattle.std.proofs.Common.{◌≡◌, ℕ, Bool, true, false, ◌||◌, List, [], ◌∷◌, Option, Some, None, refl}
 use Rattle.std.specs.Prelude.{ℤ, Result, Ok, Err, codes}
-use Rattle.lua_syntax.specs.declared.UnaryOp.{UnaryOp}
-use Rattle.lua_syntax.specs.declared.UnaryOp.TheVariants as sign
-use Rattle.lua_number.specs.declared.arithmetic.NumberFault.{NumberFault}
-use Rattle.lua_number.specs.Whole.{negative_of}
-use Rattle.lua_heap.specs.Proc.{Proc}
-use Rattle.lua_heap.specs.Value.{Value, Nil, Number, Text, Table, Closure, Builtin, Markup, is_nil, same}
-use Rattle.lua_heap.specs.Table.{get, has}
-use Rattle.lua_heap.specs.Heap.{table_at, closure_at, Closed, Function as FunctionClosed, Iterator}
+use Rattle.lua_meaning.specs.LuaSyntaxDeclaredUnaryOp.{UnaryOp}
+use Rattle.lua_meaning.specs.LuaSyntaxDeclaredUnaryOpTheVariants as sign
+use Rattle.lua_meaning.specs.LuaNumberDeclaredArithmeticNumberFault.{NumberFault}
+use Rattle.lua_meaning.specs.LuaNumberWhole.{negative_of}
+use Rattle.lua_meaning.specs.LuaHeapProc.{Proc}
+use Rattle.lua_meaning.specs.LuaHeapValue.{Value, Nil, Number, Text, Table, Closure, Builtin, Markup, is_nil, same}
+use Rattle.lua_meaning.specs.LuaHeapTable.{get, has}
+use Rattle.lua_meaning.specs.LuaHeapHeap.{table_at, closure_at, Closed, Function as FunctionClosed, Iterator}
 use Rattle.lua_meaning.specs.Scope.{Bytes, Place as TextPlace}
 use Rattle.lua_meaning.specs.Values.{is_function, number_in, text_in}
 use Rattle.lua_meaning.specs.Acts.{Jump, Returned}

@@ -1,12 +1,12 @@
 -- BASIC FUNCTIONS THAT CALL BACK (manual 5.1): each calls a function, and waits for its outcome by a name of the meaning's table of
 -- what waits. `line` is that of its own call. No place of a text calls what it calls.
 use Rattle.std.specs.Prelude.{ℕ, ℤ, pos, ◌+ℤ◌, true, false, List, [], ◌∷◌, length, Option, Some, None, codes}
-use Rattle.page_run.specs.Outcome.{Outcome, Goes, Jumps}
-use Rattle.lua_number.specs.Whole.{fits}
-use Rattle.lua_heap.specs.Value.{Value, Nil, Truth, Number, Text, Table, Builtin, Markup, is_nil}
-use Rattle.lua_heap.specs.Table.{get}
-use Rattle.lua_heap.specs.Heap.{table_at}
-use Rattle.lua_heap.specs.declared.library.Library.TheVariants.{BasicNext, IpairsStep}
+use Rattle.lua_meaning.specs.PageRunOutcome.{Outcome, Goes, Jumps}
+use Rattle.lua_meaning.specs.LuaNumberWhole.{fits}
+use Rattle.lua_meaning.specs.LuaHeapValue.{Value, Nil, Truth, Number, Text, Table, Builtin, Markup, is_nil}
+use Rattle.lua_meaning.specs.LuaHeapTable.{get}
+use Rattle.lua_meaning.specs.LuaHeapHeap.{table_at}
+use Rattle.lua_meaning.specs.LuaHeapDeclaredLibraryLibraryTheVariants.{BasicNext, IpairsStep}
 use Rattle.lua_meaning.specs.Scope.{Bytes}
 use Rattle.lua_meaning.specs.Values.{first, rest, second, third, text_in}
 use Rattle.lua_meaning.specs.Acts.{Jump, Raised}

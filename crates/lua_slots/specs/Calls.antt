@@ -1,9 +1,9 @@
 -- CALLS, and functions that are entered and left (manual 2.5.8, 2.5.9, and 2.8 under "call").
 use Rattle.std.specs.Prelude.{ℕ, List, [], ◌∷◌, length, drop, Option, Some, None, if◌then◌else◌, codes, Result, Ok, Err}
-use Rattle.lua_syntax.specs.declared.fault.FaultAt.{FaultAt}
-use Rattle.lua_heap.specs.Proc.{Proc}
-use Rattle.lua_heap.specs.Value.{Value, Table, Closure, Builtin, is_nil}
-use Rattle.lua_heap.specs.Heap.{Closed, Function as FunctionClosed, Iterator, closure_at}
+use Rattle.lua_meaning.specs.LuaSyntaxDeclaredFaultFaultAt.{FaultAt}
+use Rattle.lua_meaning.specs.LuaHeapProc.{Proc}
+use Rattle.lua_meaning.specs.LuaHeapValue.{Value, Table, Closure, Builtin, is_nil}
+use Rattle.lua_meaning.specs.LuaHeapHeap.{Closed, Function as FunctionClosed, Iterator, closure_at}
 use Rattle.lua_meaning.specs.Scope.{Bytes}
 use Rattle.lua_meaning.specs.Acts.{Jump, Returned}
 use Rattle.lua_meaning.specs.Messages.{cannot_call}

@@ -1,14 +1,14 @@
 -- WHAT A MOVE COMES TO, with what is left of the allowances: its charges are taken one by one, and then the machine stands at the
 -- next point; or an allowance is spent, and the calls in progress are given back.
 use Rattle.std.specs.Prelude.{ℕ, zero, suc, ◌+◌, max, true, List, [], ◌∷◌, Option, Some, None}
-use Rattle.wk_base.specs.declared.left.Left.{Left}
-use Rattle.page_run.specs.declared.which.Which.{Which}
-use Rattle.page_run.specs.declared.which.Which.TheVariants.{Steps, Calls}
-use Rattle.page_run.specs.Outcome.{Goes, Jumps}
-use Rattle.page_run.specs.State.{Tally, no_tally, join as join_tally, Response, Gives as Says, Exhausts, Reply}
-use Rattle.page_run.specs.Perform.{less}
-use Rattle.lua_heap.specs.Value.{Text}
-use Rattle.lua_heap.specs.Graph.{join, joined_root}
+use Rattle.lua_meaning.specs.WkBaseDeclaredLeftLeft.{Left}
+use Rattle.lua_meaning.specs.PageRunDeclaredWhichWhich.{Which}
+use Rattle.lua_meaning.specs.PageRunDeclaredWhichWhichTheVariants.{Steps, Calls}
+use Rattle.lua_meaning.specs.PageRunOutcome.{Goes, Jumps}
+use Rattle.lua_meaning.specs.PageRunState.{Tally, no_tally, join as join_tally, Response, Gives as Says, Exhausts, Reply}
+use Rattle.lua_meaning.specs.PageRunPerform.{less}
+use Rattle.lua_meaning.specs.LuaHeapValue.{Text}
+use Rattle.lua_meaning.specs.LuaHeapGraph.{join, joined_root}
 use Rattle.lua_meaning.specs.Questions.{Answer, Expanded, NoPage, Loaded, LoadFailed}
 use Rattle.lua_meaning.specs.Acts.{Raised}
 use Rattle.lua_slots.specs.Slots.{Slots, with_heap}

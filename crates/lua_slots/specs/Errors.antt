@@ -1,9 +1,9 @@
 -- HOW A MOVE ENDS: with values or a jump for the frames, and errors with their messages (manual 2.7, and 5.1 under `error`).
 -- A message costs its bytes, as in the meaning.
 use Rattle.std.specs.Prelude.{ℕ, Bool, true, false, List, ◌++◌, length, Option, Some, None, Ok, Err}
-use Rattle.page_run.specs.Outcome.{Goes, Jumps}
-use Rattle.lua_heap.specs.Proc.{Proc}
-use Rattle.lua_heap.specs.Value.{Value, Text}
+use Rattle.lua_meaning.specs.PageRunOutcome.{Goes, Jumps}
+use Rattle.lua_meaning.specs.LuaHeapProc.{Proc}
+use Rattle.lua_meaning.specs.LuaHeapValue.{Value, Text}
 use Rattle.lua_meaning.specs.Scope.{Bytes, Place as TextPlace}
 use Rattle.lua_meaning.specs.Charges.{node_charge}
 use Rattle.lua_meaning.specs.Acts.{Jump, Raised}

@@ -1,7 +1,7 @@
 -- CODE OF MODULES THAT CALL, and what comes of it: the same as of their trees, to the step.
 use Rattle.std.specs.Prelude.{◌≡◌, pos, true, false, [], ◌∷◌, codes}
-use Rattle.lua_syntax.specs.declared.UnaryOp.TheVariants as sign
-use Rattle.lua_heap.specs.Value.{Number, Text}
+use Rattle.lua_meaning.specs.LuaSyntaxDeclaredUnaryOpTheVariants as sign
+use Rattle.lua_meaning.specs.LuaHeapValue.{Number, Text}
 use Rattle.lua_meaning.specs.Operators.{Add, Equal, Concatenate, Calculate}
 use Rattle.lua_meaning.specs.Questions.{Loaded, LoadFailed}
 use Rattle.lua_meaning.specs.Trial.{invoke_module, module_text, reply, invoke_in_template}

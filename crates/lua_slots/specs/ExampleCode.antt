@@ -1,8 +1,8 @@
 -- CODE OF SMALL MODULES, and what comes of it: the same as of their trees, to the step. Each text is an example of the meaning, where
 -- the values stand that come from outside.
 use Rattle.std.specs.Prelude.{◌≡◌, pos, true, false, [], ◌∷◌, codes}
-use Rattle.lua_syntax.specs.declared.UnaryOp.TheVariants as sign
-use Rattle.lua_heap.specs.Value.{Nil, Truth, Number}
+use Rattle.lua_meaning.specs.LuaSyntaxDeclaredUnaryOpTheVariants as sign
+use Rattle.lua_meaning.specs.LuaHeapValue.{Nil, Truth, Number}
 use Rattle.lua_meaning.specs.Operators.{Add, Less, AtLeast, Equal, Concatenate, Calculate}
 use Rattle.lua_meaning.specs.Trial.{invoke_module}
 use Rattle.lua_slots.specs.Code.{Reg, Box, Up, ConstantC, TextC, FunctionC, LocalC, GlobalC, IndexC, CallC, TableC, AndC, OrC, OperateC, UnaryC}

@@ -1,7 +1,7 @@
 -- EXPRESSIONS (manual 2.5). Each begins with its node; operands are evaluated from left to right.
 use Rattle.std.specs.Prelude.{ℕ, ◌+◌, pos, Bool, true, false, not, List, [], ◌∷◌, ◌++◌, length, Some}
-use Rattle.lua_heap.specs.Value.{Value, Number, Text, Table, is_true}
-use Rattle.lua_heap.specs.Heap.{new_table}
+use Rattle.lua_meaning.specs.LuaHeapValue.{Value, Number, Text, Table, is_true}
+use Rattle.lua_meaning.specs.LuaHeapHeap.{new_table}
 use Rattle.lua_meaning.specs.Charges.{table_charge, closure_charge}
 use Rattle.lua_meaning.specs.Values.{first}
 use Rattle.lua_slots.specs.Code.{Constants, CExp, ConstantC, TextC, DotsC, FunctionC, LocalC, GlobalC, IndexC, CallC, MethodC, TableC, AndC, OrC, OperateC, UnaryC, ParenC, CExps, NoC, MoreC, CFields, NoFieldC, ItemC, PairC}

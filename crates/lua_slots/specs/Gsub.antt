@@ -1,8 +1,8 @@
 -- REPLACING (manual 5.4, `string.gsub`; Scribunto, `mw.ustring.gsub`): what a search comes to is the meaning's (`search`). A table or a
 -- function is asked for each match, and what waits has its name. `line` is that of its own call. No place of a text calls what it calls.
 use Rattle.std.specs.Prelude.{ℕ, zero, suc, List, [], ◌∷◌, length, drop, Option, None}
-use Rattle.page_run.specs.Outcome.{Outcome, Goes, Jumps}
-use Rattle.lua_heap.specs.Value.{Value, Text, Table}
+use Rattle.lua_meaning.specs.PageRunOutcome.{Outcome, Goes, Jumps}
+use Rattle.lua_meaning.specs.LuaHeapValue.{Value, Text, Table}
 use Rattle.lua_meaning.specs.Scope.{Bytes}
 use Rattle.lua_meaning.specs.Values.{first}
 use Rattle.lua_meaning.specs.Acts.{Jump}

@@ -1,9 +1,9 @@
 -- INDEXING, AND ASSIGNMENT TO AN INDEX (manual 2.3 and 2.8, "index" and "newindex").
 -- A link of a chain of handlers is the last thing that its move does, so that a chain of any length is no nesting.
 use Rattle.std.specs.Prelude.{ℕ, ◌||◌, List, [], ◌∷◌, Option, codes}
-use Rattle.lua_heap.specs.Value.{Value, Nil, Text, Table, Markup, is_nil}
-use Rattle.lua_heap.specs.Table.{get, has}
-use Rattle.lua_heap.specs.Heap.{table_at, set_in}
+use Rattle.lua_meaning.specs.LuaHeapValue.{Value, Nil, Text, Table, Markup, is_nil}
+use Rattle.lua_meaning.specs.LuaHeapTable.{get, has}
+use Rattle.lua_meaning.specs.LuaHeapHeap.{table_at, set_in}
 use Rattle.lua_meaning.specs.Charges.{entry_charge}
 use Rattle.lua_meaning.specs.Values.{is_function}
 use Rattle.lua_meaning.specs.Messages.{cannot_index, nil_key, read_only}

@@ -1,16 +1,16 @@
 -- WHICH CODE IS CODE OF A TREE, where names stand so. `at` gives the functions and the constants of the module by their numbers.
 -- Nothing here says how a function or a constant is numbered, nor which variables beyond the captured ones have cells.
 use Rattle.std.specs.Prelude.{◌≡◌, ℕ, Bool, true, false, List, [], ◌∷◌, Option, Some, None, Result, Ok, Err}
-use Rattle.wk_base.specs.declared.title.Title.{Title}
-use Rattle.wk_base.specs.Titles.{title_text}
-use Rattle.lua_syntax.specs.declared.fault.FaultAt.{FaultAt}
-use Rattle.lua_syntax.specs.declared.BinaryOp.{BinaryOp}
-use Rattle.lua_syntax.specs.declared.BinaryOp.TheVariants as op
-use Rattle.lua_syntax.specs.Tree.{Exp, NilE, TrueE, FalseE, NumberE, TextE, DotsE, FunctionE, NameE, IndexE, CallE, MethodE, TableE, BinaryE, UnaryE, ParenE}
-use Rattle.lua_syntax.specs.Tree.{Exps, NoExp, MoreExp, Fields, NoField, Item, Pair, Fun, Lambda, Block, NoStat, MoreStat, Arms, NoArm, Arm}
-use Rattle.lua_syntax.specs.Tree.{Stat, AssignS, CallS, DoS, WhileS, RepeatS, IfS, IfElseS, CountS, CountByS, EachS, LocalFunctionS, LocalS, ReturnS, BreakS}
-use Rattle.lua_heap.specs.Value.{Nil, Truth, Number}
-use Rattle.lua_heap.specs.Related.{Each}
+use Rattle.lua_meaning.specs.WkBaseDeclaredTitleTitle.{Title}
+use Rattle.lua_meaning.specs.WkBaseTitles.{title_text}
+use Rattle.lua_meaning.specs.LuaSyntaxDeclaredFaultFaultAt.{FaultAt}
+use Rattle.lua_meaning.specs.LuaSyntaxDeclaredBinaryOp.{BinaryOp}
+use Rattle.lua_meaning.specs.LuaSyntaxDeclaredBinaryOpTheVariants as op
+use Rattle.lua_meaning.specs.LuaSyntaxTree.{Exp, NilE, TrueE, FalseE, NumberE, TextE, DotsE, FunctionE, NameE, IndexE, CallE, MethodE, TableE, BinaryE, UnaryE, ParenE}
+use Rattle.lua_meaning.specs.LuaSyntaxTree.{Exps, NoExp, MoreExp, Fields, NoField, Item, Pair, Fun, Lambda, Block, NoStat, MoreStat, Arms, NoArm, Arm}
+use Rattle.lua_meaning.specs.LuaSyntaxTree.{Stat, AssignS, CallS, DoS, WhileS, RepeatS, IfS, IfElseS, CountS, CountByS, EachS, LocalFunctionS, LocalS, ReturnS, BreakS}
+use Rattle.lua_meaning.specs.LuaHeapValue.{Nil, Truth, Number}
+use Rattle.lua_meaning.specs.LuaHeapRelated.{Each}
 use Rattle.lua_meaning.specs.Scope.{Bytes}
 use Rattle.lua_meaning.specs.World.{Module, World}
 use Rattle.lua_meaning.specs.Operators.{Add, Sub, Mul, Div, Mod, Pow, Operator, Less, Greater, AtMost, AtLeast, Equal, Unequal, Concatenate, Calculate}

@@ -1,6 +1,6 @@
 -- LAWS of code and of moves.
 use Rattle.std.specs.Prelude.{◌≡◌, ◌≤◌, ℕ, ◌+◌, ◌-◌, Some}
-use Rattle.lua_syntax.specs.Tree.{Block}
+use Rattle.lua_meaning.specs.LuaSyntaxTree.{Block}
 use Rattle.lua_meaning.specs.Scope.{Bytes}
 use Rattle.lua_slots.specs.Code.{CBlock, CProto, Protos, CWorld}
 use Rattle.lua_slots.specs.Sight.{Sight}

@@ -1,10 +1,10 @@
 -- FUNCTIONS OF THE LIBRARY (manual 5). What a function does with its arguments is what the meaning says of it, at the machine's own
 -- heap and frames; here is how it charges, ends, asks and calls, and what waits.
 use Rattle.std.specs.Prelude.{ℕ, List, [], ◌∷◌, Option, None}
-use Rattle.page_run.specs.Outcome.{Outcome, Goes}
-use Rattle.lua_heap.specs.Proc.{Proc}
-use Rattle.lua_heap.specs.Value.{Value, Text}
-use Rattle.lua_heap.specs.declared.library.Library.{Library}
+use Rattle.lua_meaning.specs.PageRunOutcome.{Outcome, Goes}
+use Rattle.lua_meaning.specs.LuaHeapProc.{Proc}
+use Rattle.lua_meaning.specs.LuaHeapValue.{Value, Text}
+use Rattle.lua_meaning.specs.LuaHeapDeclaredLibraryLibrary.{Library}
 use Rattle.lua_meaning.specs.Scope.{Bytes}
 use Rattle.lua_meaning.specs.World.{World}
 use Rattle.lua_meaning.specs.Questions.{Asked, TemplateAsked, TextAsked, DataAsked}

@@ -1,8 +1,8 @@
 -- LOOPS (manual 2.4.4 and 2.4.5). A turn is a thing that begins once its test is passed; it has fresh local variables, and at its end
 -- their registers are gone.
 use Rattle.std.specs.Prelude.{ℕ, ℤ, pos, ◌+ℤ◌, Bool, List, [], ◌∷◌, length, Option, Some, None}
-use Rattle.lua_number.specs.Whole.{fits}
-use Rattle.lua_heap.specs.Value.{Value, Number, is_true, is_nil}
+use Rattle.lua_meaning.specs.LuaNumberWhole.{fits}
+use Rattle.lua_meaning.specs.LuaHeapValue.{Value, Number, is_true, is_nil}
 use Rattle.lua_meaning.specs.Values.{first, number_in}
 use Rattle.lua_meaning.specs.Acts.{Jump, Broke}
 use Rattle.lua_meaning.specs.Messages.{no_initial_value, no_limit, no_step}

@@ -1,25 +1,26 @@
 -- MODULES (manual 5.3; Scribunto, "require" and mw.loadData).
-use Rattle.std.specs.Prelude.{ℕ, true, List, [], ◌∷◌, ◌++◌, length, Option, Some, None, Result, Ok, Err, bytes_eq, codes}
-use Rattle.wk_base.specs.declared.title.Title.{Title}
-use Rattle.wk_base.specs.declared.title.Namespace.TheVariants.{Main}
-use Rattle.wk_base.specs.declared.title_read.TitleFault.{TitleFault}
-use Rattle.wk_base.specs.Titles.{title_text, title_of}
-use Rattle.mw_frame.specs.declared.question.Ask.TheVariants.{Data}
-use Rattle.lua_syntax.specs.declared.fault.FaultAt.{FaultAt}
-use Rattle.page_run.specs.Outcome.{Outcome, Goes, Jumps}
-use Rattle.lua_heap.specs.Value.{Value, Nil, Truth, Text, Table}
-use Rattle.lua_heap.specs.Heap.{set_meta_in}
+use Rattle.std.specs.Prelude.{ℕ, true, List, [], ◌∷◌, length, Option, Some, None, Result, Ok, Err, bytes_eq, codes}
+use Rattle.lua_meaning.specs.WkBaseDeclaredTitleTitle.{Title}
+use Rattle.lua_meaning.specs.WkBaseDeclaredTitleNamespaceTheVariants.{Main}
+use Rattle.lua_meaning.specs.WkBaseDeclaredTitleReadTitleFault.{TitleFault}
+use Rattle.lua_meaning.specs.WkBaseTitles.{title_text, title_of}
+use Rattle.lua_meaning.specs.MwFrameDeclaredQuestionAskTheVariants.{Data}
+use Rattle.lua_meaning.specs.LuaSyntaxDeclaredFaultFaultAt.{FaultAt}
+use Rattle.lua_meaning.specs.PageRunOutcome.{Outcome, Goes, Jumps}
+use Rattle.lua_meaning.specs.LuaHeapValue.{Value, Nil, Truth, Text, Table}
+use Rattle.lua_meaning.specs.LuaHeapHeap.{set_meta_in}
 use Rattle.lua_meaning.specs.Charges.{filled_table_charge}
+use Rattle.lua_meaning.specs.LuaSyntaxFaultTexts.{fault_message}
 use Rattle.lua_meaning.specs.Scope.{Bytes}
 use Rattle.lua_meaning.specs.Titled.{item_of, with_item, without_item}
 use Rattle.lua_meaning.specs.Questions.{DataAsked}
 use Rattle.lua_meaning.specs.Values.{first, second}
 use Rattle.lua_meaning.specs.Acts.{Jump, Raised, Progress, Running, Finished}
-use Rattle.lua_meaning.specs.Messages.{place_text, no_module, loop_in_require, no_data_module, undeclared_variable, undeclared_target, wrong_answer}
+use Rattle.lua_meaning.specs.Messages.{no_module, loop_in_require, no_data_module, undeclared_variable, undeclared_target, wrong_answer}
 use Rattle.lua_meaning.specs.Arguments.{a_text}
 use Rattle.lua_meaning.specs.Frames.{with_table}
 use Rattle.lua_meaning.specs.CallBacks.{text_of}
-use Rattle.lua_meaning.specs.Modules.{fault_text, value_or_true, strict_meta}
+use Rattle.lua_meaning.specs.Modules.{value_or_true, strict_meta}
 use Rattle.lua_meaning.specs.Pending.{ModuleWaits}
 use Rattle.lua_slots.specs.Code.{Protos, CModule, CWorld}
 use Rattle.lua_slots.specs.Slots.{Slots, with_heap}
@@ -30,7 +31,7 @@ use Rattle.lua_slots.specs.Calls.{text_of_module}
 -- THE TEXT OF A MODULE RUNS: it costs its length; a fault of its text is raised where it would begin
 abbrev pub begins_text : Title → Result Protos FaultAt → List SFrame → Slots → Move
 begins_text title (Ok at) fs s = Now (Starts (BodyS (text_of_module (title_text title)) [] None) fs) s
-begins_text title (Err fault) fs s = jumps (Raised (Text (place_text (record { source = title_text title; line = fault.line }) ++ fault_text fault.kind))) fs s
+begins_text title (Err fault) fs s = jumps (Raised (Text (fault_message title fault))) fs s
 
 abbrev pub runs_text : Title → CModule → List SFrame → Slots → Move
 runs_text title m fs s = Costs m.size (begins_text title m.code fs s)

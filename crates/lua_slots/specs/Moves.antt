@@ -1,8 +1,8 @@
 -- THE MOVES OF A MACHINE: from a point to the next one. Here is one line for each thing that begins, for each frame with values and
 -- with a jump, and for each point.
 use Rattle.std.specs.Prelude.{List, [], ◌∷◌, ◌++◌, reverse, Some}
-use Rattle.page_run.specs.Outcome.{Outcome, Goes, Jumps}
-use Rattle.lua_heap.specs.Value.{Value, Text, is_true}
+use Rattle.lua_meaning.specs.PageRunOutcome.{Outcome, Goes, Jumps}
+use Rattle.lua_meaning.specs.LuaHeapValue.{Value, Text, is_true}
 use Rattle.lua_meaning.specs.Values.{first, second, third, text_in}
 use Rattle.lua_meaning.specs.Acts.{Jump, Returned}
 use Rattle.lua_slots.specs.Code.{CWorld}

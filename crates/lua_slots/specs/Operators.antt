@@ -1,12 +1,12 @@
 -- OPERATORS ON VALUES (manual 2.5.1 to 2.5.5, and 2.8).
 use Rattle.std.specs.Prelude.{ℕ, min, ℤ, pos, Bool, true, false, not, List, [], ◌∷◌, ◌++◌, length, Option, Some, None, Result, Ok, Err, int_lt, int_le, codes}
-use Rattle.lua_syntax.specs.declared.UnaryOp.{UnaryOp}
-use Rattle.lua_syntax.specs.declared.UnaryOp.TheVariants as sign
-use Rattle.lua_number.specs.declared.arithmetic.NumberFault.{NumberFault}
-use Rattle.lua_number.specs.Whole.{negative_of}
-use Rattle.lua_heap.specs.Value.{Value, Truth, Number, Text, Table, same, is_true, is_nil}
-use Rattle.lua_heap.specs.Table.{border}
-use Rattle.lua_heap.specs.Heap.{table_at}
+use Rattle.lua_meaning.specs.LuaSyntaxDeclaredUnaryOp.{UnaryOp}
+use Rattle.lua_meaning.specs.LuaSyntaxDeclaredUnaryOpTheVariants as sign
+use Rattle.lua_meaning.specs.LuaNumberDeclaredArithmeticNumberFault.{NumberFault}
+use Rattle.lua_meaning.specs.LuaNumberWhole.{negative_of}
+use Rattle.lua_meaning.specs.LuaHeapValue.{Value, Truth, Number, Text, Table, same, is_true, is_nil}
+use Rattle.lua_meaning.specs.LuaHeapTable.{border}
+use Rattle.lua_meaning.specs.LuaHeapHeap.{table_at}
 use Rattle.lua_meaning.specs.Scope.{Bytes}
 use Rattle.lua_meaning.specs.Values.{number_in, text_in}
 use Rattle.lua_meaning.specs.Messages.{number_fault, cannot_calculate, cannot_concatenate, cannot_compare, no_length}

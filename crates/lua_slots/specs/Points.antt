@@ -1,11 +1,11 @@
 -- WHAT A MACHINE DOES NEXT, above the frames that wait; and its moves.
 use Rattle.std.specs.Prelude.{ℕ, ℤ, Bool, List, Option}
-use Rattle.mw_frame.specs.declared.question.Ask.{Ask}
-use Rattle.lua_syntax.specs.declared.UnaryOp.{UnaryOp}
-use Rattle.page_run.specs.Outcome.{Outcome}
-use Rattle.lua_heap.specs.Proc.{Proc}
-use Rattle.lua_heap.specs.Value.{Value}
-use Rattle.lua_heap.specs.declared.library.Library.{Library}
+use Rattle.lua_meaning.specs.MwFrameDeclaredQuestionAsk.{Ask}
+use Rattle.lua_meaning.specs.LuaSyntaxDeclaredUnaryOp.{UnaryOp}
+use Rattle.lua_meaning.specs.PageRunOutcome.{Outcome}
+use Rattle.lua_meaning.specs.LuaHeapProc.{Proc}
+use Rattle.lua_meaning.specs.LuaHeapValue.{Value}
+use Rattle.lua_meaning.specs.LuaHeapDeclaredLibraryLibrary.{Library}
 use Rattle.lua_meaning.specs.Scope.{Bytes}
 use Rattle.lua_meaning.specs.Questions.{Asked}
 use Rattle.lua_meaning.specs.Acts.{Jump}

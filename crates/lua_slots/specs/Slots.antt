@@ -1,8 +1,8 @@
 -- WHAT A MACHINE HOLDS beside the frames that wait: the store's heap with the state of the run, registers, and functions in progress.
 use Rattle.std.specs.Prelude.{ℕ, Bool, true, false, List, [], ◌∷◌, length, drop, Option, Some, None, slice_get, slice_set, ◌-◌}
-use Rattle.lua_heap.specs.Proc.{Proc}
-use Rattle.lua_heap.specs.Value.{Value, Nil, Closure as ClosureValue}
-use Rattle.lua_heap.specs.Heap.{Heap, Function as FunctionClosed, cell_at, set_cell_in, new_cell, new_closure}
+use Rattle.lua_meaning.specs.LuaHeapProc.{Proc}
+use Rattle.lua_meaning.specs.LuaHeapValue.{Value, Nil, Closure as ClosureValue}
+use Rattle.lua_meaning.specs.LuaHeapHeap.{Heap, Function as FunctionClosed, cell_at, set_cell_in, new_cell, new_closure}
 use Rattle.lua_meaning.specs.Scope.{Bytes, Levels}
 use Rattle.lua_meaning.specs.Titled.{ByTitle}
 use Rattle.lua_meaning.specs.Values.{first, rest}

@@ -1,12 +1,12 @@
 -- A WHOLE RUN (Scribunto, "Invoking modules" and mw.loadData): its start with its charges, and its end. What is still to be done
 -- waits at the bottom of the frames; an error that reaches it ends the run.
 use Rattle.std.specs.Prelude.{List, [], ◌∷◌, ◌++◌, length, Option, Some, None, codes}
-use Rattle.wk_base.specs.declared.title.Title.{Title}
-use Rattle.wk_base.specs.Titles.{title_text}
-use Rattle.mw_frame.specs.declared.scene.Job.{Job}
-use Rattle.page_run.specs.Outcome.{Outcome, Goes, Jumps}
-use Rattle.mw_html.specs.Render.{Piece, Whole, Deep, count, render}
-use Rattle.lua_heap.specs.Value.{Value, Text, Table, Markup, is_nil}
+use Rattle.lua_meaning.specs.WkBaseDeclaredTitleTitle.{Title}
+use Rattle.lua_meaning.specs.WkBaseTitles.{title_text}
+use Rattle.lua_meaning.specs.MwFrameDeclaredSceneJob.{Job}
+use Rattle.lua_meaning.specs.PageRunOutcome.{Outcome, Goes, Jumps}
+use Rattle.lua_meaning.specs.MwHtmlRender.{Piece, Whole, Deep, count, render}
+use Rattle.lua_meaning.specs.LuaHeapValue.{Value, Text, Table, Markup, is_nil}
 use Rattle.lua_meaning.specs.Charges.{run_charge}
 use Rattle.lua_meaning.specs.Scope.{Bytes}
 use Rattle.lua_meaning.specs.Values.{is_function}

@@ -1,6 +1,6 @@
 -- STATEMENTS (manual 2.4). Each begins with its node, and gives no values.
 use Rattle.std.specs.Prelude.{List, [], ◌∷◌, ◌++◌, length, Option, Some, None}
-use Rattle.lua_heap.specs.Value.{Value, Text, Table}
+use Rattle.lua_meaning.specs.LuaHeapValue.{Value, Text, Table}
 use Rattle.lua_meaning.specs.Charges.{closure_charge}
 use Rattle.lua_meaning.specs.Values.{first, rest}
 use Rattle.lua_meaning.specs.Acts.{Broke, Raised}

@@ -1,10 +1,10 @@
 -- SMALL RUNS of a machine for worked examples, seen as those of the meaning are: how a run ends, and the steps that are left.
 use Rattle.std.specs.Prelude.{ℕ, zero, suc, List, [], ◌∷◌, Option, Some, None, Ok, if◌then◌else◌, slice_get, bytes_eq}
-use Rattle.wk_base.specs.Titles.{title_text}
-use Rattle.mw_frame.specs.declared.scene.Arg.{Arg}
-use Rattle.page_run.specs.Outcome.{Outcome, Goes, Jumps}
-use Rattle.page_run.specs.State.{Reply}
-use Rattle.lua_heap.specs.Value.{Value, Text, Table}
+use Rattle.lua_meaning.specs.WkBaseTitles.{title_text}
+use Rattle.lua_meaning.specs.MwFrameDeclaredSceneArg.{Arg}
+use Rattle.lua_meaning.specs.PageRunOutcome.{Outcome, Goes, Jumps}
+use Rattle.lua_meaning.specs.PageRunState.{Reply}
+use Rattle.lua_meaning.specs.LuaHeapValue.{Value, Text, Table}
 use Rattle.lua_meaning.specs.Scope.{Bytes}
 use Rattle.lua_meaning.specs.Questions.{Answer}
 use Rattle.lua_meaning.specs.Acts.{Jump, Raised}

@@ -1,12 +1,12 @@
 use Rattle.std.proofs.Common.{refl, [], ◌∷◌}
 use Rattle.std.specs.Prelude.{codes}
-use Rattle.page_run.specs.Perform.{perform}
-use Rattle.wk_base.specs.Titles.{title_text, prefix_of, title_of, namespace_named, prefixed_namespaces}
+use Rattle.lua_meaning.specs.PageRunPerform.{perform}
+use Rattle.lua_meaning.specs.WkBaseTitles.{title_text, prefix_of, title_of, namespace_named, prefixed_namespaces}
 use Rattle.std.specs.Fmt.{digits}
 use Rattle.std.specs.Str.{is_utf8, chars}
 use lib.Utf8.{encode}
-use Rattle.lua_number.specs.Numerals.{decimal_of, numeral_of, trimmed, digits_of_base, read_number_of, read_in_base_of}
-use Rattle.lua_heap.specs.Related.{none, more}
+use Rattle.lua_meaning.specs.LuaNumberNumerals.{decimal_of, numeral_of, trimmed, digits_of_base, read_number_of, read_in_base_of}
+use Rattle.lua_slots.specs.LuaHeapRelated.{none, more}
 use Rattle.lua_slots_cases.specs.Closures.{counters_0, counters_1, counters_2, counters_3, counters_4, while_cells_0, while_cells_1, while_cells_2, CountersIsCode, CountersAlike, WhileCellsIsCode, WhileCellsAlike, AllClosures}
 
 counters_is_code : CountersIsCode

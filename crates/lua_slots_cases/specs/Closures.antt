@@ -1,6 +1,6 @@
 -- CODE OF MODULES WHOSE CLOSURES OUTLIVE WHAT MADE THEM, and what comes of it: the same as of their trees, to the step.
 use Rattle.std.specs.Prelude.{◌≡◌, pos, true, false, [], ◌∷◌, codes}
-use Rattle.lua_heap.specs.Value.{Number}
+use Rattle.lua_meaning.specs.LuaHeapValue.{Number}
 use Rattle.lua_meaning.specs.Operators.{Add, AtMost, Calculate}
 use Rattle.lua_meaning.specs.Trial.{invoke_module}
 use Rattle.lua_meaning.specs.ExampleFunctions.{counters, while_cells}

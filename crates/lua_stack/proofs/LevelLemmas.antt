@@ -3,8 +3,8 @@ use Rattle.std.proofs.Common.{◌≡◌, ◌∙◌, ℕ, zero, suc, ◌-◌, ◌
 use Rattle.std.specs.Option.{option_map, IfSome}
 use Rattle.std.proofs.lemmas.Option.{none-some}
 use Rattle.lua_store.specs.Seen.{StoreView}
-use Rattle.lua_meaning.specs.Messages.{nth_level}
-use Rattle.lua_slots.specs.Slots.{levels_at}
+use Rattle.lua_replacing.specs.LuaMeaningMessages.{nth_level}
+use Rattle.lua_code.specs.LuaSlotsSlots.{levels_at}
 use Rattle.lua_stack.specs.declared.activation.Activation.{Activation}
 use Rattle.lua_stack.specs.declared.activation.Level.{Level}
 use Rattle.lua_stack.specs.Levels.{levels_from, KnowReach, level_in, level_of}

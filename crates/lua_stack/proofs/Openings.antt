@@ -1,15 +1,15 @@
 -- New local variables, one after another.
 use Rattle.std.proofs.Common.{◌≡◌, ◌∙◌, ℕ, suc, Bool, List, [], ◌∷◌, length, drop, refl, sym, ap, subst}
 use Rattle.std.proofs.Math.Seq.{drop-nil}
-use Rattle.lua_heap.specs.Proc.{Proc}
-use Rattle.lua_heap.specs.Heap.{Heap}
-use Rattle.lua_meaning.specs.Values.{first, rest}
+use Rattle.lua_store.specs.LuaHeapProc.{Proc}
+use Rattle.lua_store.specs.LuaHeapHeap.{Heap}
+use Rattle.lua_code.specs.LuaMeaningValues.{first, rest}
 use Rattle.lua_store.specs.declared.value.Value.{Value}
 use Rattle.lua_store.specs.Seen.{StoreView, seen}
 use Rattle.lua_store.specs.Parts.{IsOf, IsLater}
 use Rattle.lua_store.proofs.Later.{later-itself, later-then}
-use Rattle.lua_slots.specs.Slots as slots
-use Rattle.lua_slots.specs.Slots.{with_one, with_all}
+use Rattle.lua_code.specs.LuaSlotsSlots as slots
+use Rattle.lua_code.specs.LuaSlotsSlots.{with_one, with_all}
 use Rattle.lua_stack.specs.declared.register.Slot.{Slot}
 use Rattle.lua_stack.specs.Lists.{first_stored, rest_stored}
 use Rattle.lua_stack.specs.Seen.{values_seen, registers_seen}

@@ -1,14 +1,14 @@
 -- Registers and cells at places.
 use Rattle.std.proofs.Common.{◌≡◌, ◌∙◌, ℕ, zero, suc, List, [], ◌∷◌, ◌++◌, map, Option, refl, sym, ap, subst, slice_get, slice_set}
 use Rattle.std.specs.Option.{option_map}
-use Rattle.lua_heap.proofs.Places.{get-map}
+use Rattle.lua_store.proofs.LuaHeapPlaces.{get-map}
 use Rattle.lua_store.specs.declared.ids.CellId.{CellId}
 use Rattle.lua_store.specs.Seen.{StoreView, places_of}
 use Rattle.lua_store.specs.Parts.{AreCellsOf}
 use Rattle.lua_code.specs.declared.place.Place.{Place}
 use Rattle.lua_code.specs.Seen.{place_seen}
-use Rattle.lua_slots.specs.Slots as slots
-use Rattle.lua_slots.specs.Slots.{place_cell, cells_at, and_cell}
+use Rattle.lua_code.specs.LuaSlotsSlots as slots
+use Rattle.lua_code.specs.LuaSlotsSlots.{place_cell, cells_at, and_cell}
 use Rattle.lua_stack.specs.declared.register.Slot.{Slot}
 use Rattle.lua_stack.specs.Seen.{slot_seen, registers_seen}
 use Rattle.lua_stack.specs.Of.{RegistersOf, MayBeSlotOf, MayBeCellOf}

@@ -1,20 +1,20 @@
 -- An error whose message is paid for.
 use Rattle.std.proofs.Common.{◌≡◌, ℕ, ◌<◌, ◌≤◌, ◌-◌, true, false, List, ◌++◌, length, Option, Some, refl, sym, ◌∙◌, ap, arith}
 use Rattle.std.specs.Prelude.{nat_le}
-use Rattle.wk_base.specs.declared.left.Left.{Left}
+use Rattle.page_run.specs.WkBaseDeclaredLeftLeft.{Left}
 use Rattle.page_run.specs.declared.which.Which.TheVariants.{Steps}
 use Rattle.page_run.specs.State.{Tally}
 use Rattle.page_run.specs.Perform.{less_if}
 use Rattle.page_run.specs.Outcome.{Jumps}
-use Rattle.lua_heap.specs.Value as kind
-use Rattle.lua_meaning.specs.Acts.{Raised}
+use Rattle.lua_code.specs.LuaHeapValue as kind
+use Rattle.lua_code.specs.LuaMeaningActs.{Raised}
 use Rattle.lua_store.specs.Seen.{StoreView, text_at}
 use Rattle.lua_store.specs.Parts.{IsLater}
-use Rattle.lua_slots.specs.Slots.{Slots}
-use Rattle.lua_slots.specs.Points.{Gives, Move, Costs}
-use Rattle.lua_slots.specs.Enact.{Funds, all_given_back, Stands, Short, paid, enact}
-use Rattle.lua_slots.specs.Errors.{jumps, raises}
-use Rattle.lua_meaning.specs.Messages.{place_text}
+use Rattle.lua_code.specs.LuaSlotsSlots.{Slots}
+use Rattle.lua_code.specs.LuaSlotsPoints.{Gives, Move, Costs}
+use Rattle.lua_code.specs.LuaSlotsEnact.{Funds, all_given_back, Stands, Short, paid, enact}
+use Rattle.lua_code.specs.LuaSlotsErrors.{jumps, raises}
+use Rattle.lua_replacing.specs.LuaMeaningMessages.{place_text}
 use Rattle.lua_stack.specs.declared.frame.Frame.{Frame}
 use Rattle.lua_stack.specs.declared.activation.Level.{Level}
 use Rattle.lua_stack.specs.declared.raising.Raising.{Raising}

@@ -8,9 +8,9 @@ use Rattle.lua_store.specs.Seen.{StoreView, text_at, seen}
 use Rattle.lua_store.specs.Parts.{IsOf, IsTextOf, IsLater}
 use Rattle.lua_store.proofs.Later.{of-later, seen-later}
 use Rattle.lua_store.proofs.Lists.{all-to, map-alike}
-use Rattle.lua_slots.specs.Points.{SFrame}
-use Rattle.lua_slots.specs.Slots as slots
-use Rattle.lua_meaning.specs.Pending as waiting
+use Rattle.lua_code.specs.LuaSlotsPoints.{SFrame}
+use Rattle.lua_code.specs.LuaSlotsSlots as slots
+use Rattle.lua_code.specs.LuaMeaningPending as waiting
 use Rattle.lua_replacing.proofs.Stays.{replacing_later, replacing_stays}
 use Rattle.lua_stack.specs.declared.frame.Found.{Found}
 use Rattle.lua_stack.specs.declared.frame.Found.TheVariants as found

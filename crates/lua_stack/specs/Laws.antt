@@ -2,7 +2,7 @@
 use Rattle.std.specs.Prelude.{◌≡◌, List}
 use Rattle.lua_store.specs.Seen.{StoreView}
 use Rattle.lua_store.specs.Parts.{IsLater}
-use Rattle.lua_slots.specs.Points.{SFrame}
+use Rattle.lua_code.specs.LuaSlotsPoints.{SFrame}
 use Rattle.lua_stack.specs.declared.register.Slot.{Slot}
 use Rattle.lua_stack.specs.declared.activation.Activation.{Activation}
 use Rattle.lua_stack.specs.declared.frame.Frame.{Frame}

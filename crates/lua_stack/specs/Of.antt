@@ -8,7 +8,7 @@ use Rattle.lua_store.specs.declared.ids.ClosureId.{ClosureId}
 use Rattle.lua_store.specs.Seen.{StoreView, text_at}
 use Rattle.lua_store.specs.Parts.{IsOf, IsTextOf, IsTableOf, IsCellOf, IsClosureOf}
 use Rattle.mw_frame.specs.Scenes.{HaveNames}
-use Rattle.lua_meaning.specs.Operators as plain
+use Rattle.lua_code.specs.LuaMeaningOperators as plain
 use Rattle.lua_replacing.specs.Seen.{ReplacingOf}
 use Rattle.lua_stack.specs.declared.values.Given.{Given}
 use Rattle.lua_stack.specs.declared.frame.Found.{Found}

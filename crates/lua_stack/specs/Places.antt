@@ -1,10 +1,10 @@
 -- Places of local variables, where registers, captured cells and the heap stand apart: what `lua_slots` says of a whole machine.
 use Rattle.std.specs.Prelude.{ℕ, List, Option, Some, None, slice_get, slice_set}
-use Rattle.lua_heap.specs.Value.{Value}
-use Rattle.lua_heap.specs.Proc.{Proc}
-use Rattle.lua_heap.specs.Heap.{Heap, set_cell_in}
-use Rattle.lua_slots.specs.Code.{Place, Reg, Box, Up}
-use Rattle.lua_slots.specs.Slots.{Slot, Plain, slot_value, place_cell, cell_value}
+use Rattle.lua_code.specs.LuaHeapValue.{Value}
+use Rattle.lua_store.specs.LuaHeapProc.{Proc}
+use Rattle.lua_store.specs.LuaHeapHeap.{Heap, set_cell_in}
+use Rattle.lua_code.specs.LuaSlotsCode.{Place, Reg, Box, Up}
+use Rattle.lua_code.specs.LuaSlotsSlots.{Slot, Plain, slot_value, place_cell, cell_value}
 
 -- the value at a place, as `read_place` has it
 abbrev pub value_at : Heap Proc → List Slot → List ℕ → Place → Value

@@ -1,13 +1,13 @@
 -- What an error comes to: it is raised, or the steps for its message are not there.
 use Rattle.std.specs.Prelude.{List, Option, None, Some}
 use Rattle.page_run.specs.Outcome.{Jumps}
-use Rattle.lua_meaning.specs.Scope.{Place}
-use Rattle.lua_meaning.specs.Acts.{Raised}
+use Rattle.lua_code.specs.LuaMeaningScope.{Place}
+use Rattle.lua_code.specs.LuaMeaningActs.{Raised}
 use Rattle.lua_store.specs.Seen.{StoreView, seen}
 use Rattle.lua_store.specs.Parts.{IsOf, IsTextOf}
-use Rattle.lua_slots.specs.Slots.{Slots}
-use Rattle.lua_slots.specs.Points.{SFrame, Gives}
-use Rattle.lua_slots.specs.Enact.{Funds, all_given_back, Enacted, Stands, Short}
+use Rattle.lua_code.specs.LuaSlotsSlots.{Slots}
+use Rattle.lua_code.specs.LuaSlotsPoints.{SFrame, Gives}
+use Rattle.lua_code.specs.LuaSlotsEnact.{Funds, all_given_back, Enacted, Stands, Short}
 use Rattle.lua_stack.specs.declared.raising.Raising.{Raising}
 use Rattle.lua_stack.specs.declared.raising.Raising.TheVariants as raising
 use Rattle.lua_stack.specs.declared.activation.Level.{Level}

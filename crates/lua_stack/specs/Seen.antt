@@ -2,21 +2,21 @@
 -- is what the store's texts make of it, and code is what `lua_code` says.
 use Rattle.std.specs.Prelude.{ℕ, List, [], ◌∷◌, ◌++◌, map, Option, Some, None, option_map}
 use Rattle.page_run.specs.Outcome.{Goes, Jumps}
-use Rattle.lua_heap.specs.Value.{Value as Plain}
-use Rattle.lua_heap.specs.Proc.{Proc}
-use Rattle.lua_heap.specs.Heap.{Heap, Closed, Function as FunctionClosed, Iterator, closure_at}
+use Rattle.lua_code.specs.LuaHeapValue.{Value as Plain}
+use Rattle.lua_store.specs.LuaHeapProc.{Proc}
+use Rattle.lua_store.specs.LuaHeapHeap.{Heap, Closed, Function as FunctionClosed, Iterator, closure_at}
 use Rattle.lua_store.specs.declared.value.Value.{Value}
 use Rattle.lua_store.specs.declared.ids.TextId.{TextId}
 use Rattle.lua_store.specs.declared.ids.ClosureId.{ClosureId}
 use Rattle.lua_store.specs.Seen.{StoreView, text_at, seen}
-use Rattle.lua_meaning.specs.Scope.{Bytes, Place}
-use Rattle.lua_meaning.specs.Acts as act
-use Rattle.lua_meaning.specs.Pending as waiting
-use Rattle.lua_meaning.specs.Questions as asking
-use Rattle.lua_meaning.specs.Start as start
-use Rattle.lua_slots.specs.Slots as slots
-use Rattle.lua_slots.specs.Points.{SFrame, SThing, STarget, Point}
-use Rattle.lua_slots.specs.Points as point
+use Rattle.lua_code.specs.LuaMeaningScope.{Bytes, Place}
+use Rattle.lua_code.specs.LuaMeaningActs as act
+use Rattle.lua_code.specs.LuaMeaningPending as waiting
+use Rattle.lua_code.specs.LuaMeaningQuestions as asking
+use Rattle.lua_code.specs.LuaMeaningStart as start
+use Rattle.lua_code.specs.LuaSlotsSlots as slots
+use Rattle.lua_code.specs.LuaSlotsPoints.{SFrame, SThing, STarget, Point}
+use Rattle.lua_code.specs.LuaSlotsPoints as point
 use Rattle.lua_code.specs.Seen.{place_seen, operator_seen, expression_seen, expressions_seen, entries_seen, target_seen, block_seen, branches_seen}
 use Rattle.lua_replacing.specs.Seen.{replacing_seen}
 use Rattle.lua_stack.specs.declared.values.Given.{Given}

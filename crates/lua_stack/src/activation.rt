@@ -1,8 +1,8 @@
 //! Functions in progress, and the places of their errors (manual 2.7, and 5.1 under `error`).
 ghost use Rattle.std.specs.Prelude.{◌≡◌, ◌-◌, ◌≤◌, [], ◌∷◌, Some, IfSome, OnOk, OnErr, MatchOption, slice_get};
 ghost use Rattle.std.specs.Option.{option_map, option_copied};
-ghost use Rattle.lua_meaning.specs.Messages.{nth_level};
-ghost use Rattle.lua_slots.specs.Slots.{levels_at};
+ghost use Rattle.lua_replacing.specs.LuaMeaningMessages.{nth_level};
+ghost use Rattle.lua_code.specs.LuaSlotsSlots.{levels_at};
 ghost use Rattle.lua_store.specs.Seen.{StoreView};
 ghost use Rattle.lua_store.specs.Parts.{IsTextOf};
 ghost use Rattle.lua_stack.specs.Levels.{levels_from, level_of, KnowReach};
@@ -12,9 +12,9 @@ ghost use Rattle.lua_stack.specs.Of.{ActivationsOf};
 use crate::stack::Stack;
 use crate::values::Values;
 use lua_store::{ClosureId, TextId};
+use mw_frame::NoMemory;
 use std::alloc::Global;
 use std::marker::Model;
-use wk_base::NoMemory;
 
 /// A function of Lua that is called: the text of its module's title, its number among the functions of the module, and the closure in
 /// which it stands. The text of a module as a whole stands in none.

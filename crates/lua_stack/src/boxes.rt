@@ -1,8 +1,8 @@
 //! What is rare or large stands behind a box, so that what is handed from move to move stays small.
 ghost use Rattle.std.specs.Prelude.{◌≡◌, IfOk};
 
+use mw_frame::NoMemory;
 use std::alloc::Global;
-use wk_base::NoMemory;
 
 /// A box for a value.
 pub fn boxed<T: Drop>(alloc: Global, value: T) -> Result<Box<T>, NoMemory>

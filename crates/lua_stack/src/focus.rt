@@ -4,8 +4,7 @@ use crate::stack::Stack;
 use crate::values::{Given, Values};
 use lua_code::{Expression, Statement, Target};
 use lua_store::{TextId, Value};
-use mw_frame::{Ask, Job};
-use wk_base::{List, Title};
+use mw_frame::{Ask, Job, List, Title};
 
 /// What passes frames by: a `return` with its values, a `break`, and an error with its value (manual 2.4.4 and 2.7).
 #[derive(Drop)]

@@ -6,7 +6,7 @@ use lua_code::{Branch, Entry, Expression, Operator, Place, Statement, Target};
 use lua_replacing::Replacing;
 use lua_store::{Library, TableId, TextId, Value};
 use lua_syntax::UnaryOp;
-use wk_base::{Bytes, List, Title};
+use mw_frame::{Bytes, List, Title};
 
 /// A target of an assignment that is found (manual 2.4.3).
 #[derive(Clone, Copy)]

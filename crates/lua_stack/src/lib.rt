@@ -36,6 +36,8 @@ pub use frame::{
     Asked, EachLoop, Ending, Finding, Found, Frame, InAssignment, InConstructor, InExpression,
     InLoop, InRun, InStatement, Pending, Setting, Thing,
 };
+pub use lua_store::ClosureId;
+pub use page_run::Which;
 pub use raising::Raising;
 pub use register::Slot;
 pub use stack::Stack;

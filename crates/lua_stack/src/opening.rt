@@ -2,7 +2,7 @@
 ghost use Rattle.std.specs.Prelude.{◌≡◌, [], ◌∷◌, length, drop, OnOk, MatchOption};
 ghost use Rattle.lua_store.specs.Seen.{seen};
 ghost use Rattle.lua_store.specs.Parts.{IsOf, IsLater};
-ghost use Rattle.lua_slots.specs.Slots.{with_one, with_all};
+ghost use Rattle.lua_code.specs.LuaSlotsSlots.{with_one, with_all};
 ghost use Rattle.lua_stack.specs.Seen.{values_seen, registers_seen};
 ghost use Rattle.lua_stack.specs.Of.{RegistersOf, ValuesOf};
 
@@ -10,7 +10,7 @@ use crate::register::Slot;
 use crate::stack::Stack;
 use crate::values::Values;
 use lua_store::{Store, Value};
-use wk_base::NoMemory;
+use mw_frame::NoMemory;
 
 /// One more variable, with this value. Where memory runs out, the texts are as they were, and so is what the store had.
 pub fn open(

@@ -2,14 +2,14 @@
 //! quotes a text of the call.
 ghost use Rattle.std.specs.Prelude.{◌≡◌, ◌++◌, ℕ, List, length, IfOk, OnOk};
 ghost use Rattle.page_run.specs.State.{Tally};
-ghost use Rattle.lua_meaning.specs.Messages.{place_text};
+ghost use Rattle.lua_replacing.specs.LuaMeaningMessages.{place_text};
 ghost use Rattle.lua_store.specs.Parts.{IsLater, IsTextOf};
-ghost use Rattle.lua_slots.specs.Slots.{Slots};
-ghost use Rattle.lua_slots.specs.Enact.{Funds, enact};
-ghost use Rattle.lua_slots.specs.Errors.{raises, raises_quote, jumps};
-ghost use Rattle.lua_slots.specs.Points.{Costs};
-ghost use Rattle.lua_heap.specs.Value as kind;
-ghost use Rattle.lua_meaning.specs.Acts.{Raised};
+ghost use Rattle.lua_code.specs.LuaSlotsSlots.{Slots};
+ghost use Rattle.lua_code.specs.LuaSlotsEnact.{Funds, enact};
+ghost use Rattle.lua_code.specs.LuaSlotsErrors.{raises, raises_quote, jumps};
+ghost use Rattle.lua_code.specs.LuaSlotsPoints.{Costs};
+ghost use Rattle.lua_code.specs.LuaHeapValue as kind;
+ghost use Rattle.lua_code.specs.LuaMeaningActs.{Raised};
 ghost use Rattle.lua_stack.specs.declared.frame.Frame.{Frame as Waiting};
 ghost use Rattle.lua_stack.specs.Seen.{frames_seen, level_seen};
 ghost use Rattle.lua_stack.specs.Of.{FramesOf};
@@ -18,9 +18,9 @@ ghost use Rattle.lua_stack.specs.Raised.{raised_seen, RaisingOf, IfSpent, place_
 use crate::activation::Level;
 use itoa::Buffer;
 use lua_store::{Store, Value};
+use mw_frame::{Left, NoMemory};
 use page_run::Which;
 use std::alloc::Global;
-use wk_base::{Left, NoMemory};
 
 /// An error is raised, or an allowance is spent.
 #[derive(Clone, Copy)]

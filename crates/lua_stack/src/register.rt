@@ -3,7 +3,7 @@ ghost use Rattle.std.specs.Prelude.{◌≡◌, ◌++◌, ◌∷◌, [], ℕ, Lis
 ghost use Rattle.std.specs.Option.{option_map};
 ghost use Rattle.lua_store.specs.Seen.{StoreView, seen, places_of};
 ghost use Rattle.lua_store.specs.Parts.{IsOf, AreCellsOf, IsLater};
-ghost use Rattle.lua_slots.specs.Slots.{slot_value, slot_cell, place_cell, cell_value, and_cell, cells_at};
+ghost use Rattle.lua_code.specs.LuaSlotsSlots.{slot_value, slot_cell, place_cell, cell_value, and_cell, cells_at};
 ghost use Rattle.lua_code.specs.Seen.{place_seen};
 ghost use Rattle.lua_stack.specs.Seen.{slot_seen, registers_seen, captured_by};
 ghost use Rattle.lua_stack.specs.Of.{RegistersOf, MayBeSlotOf, MayBeCellOf, MayBeClosureOf};
@@ -12,8 +12,8 @@ ghost use Rattle.lua_stack.specs.Places.{value_at, heap_with, written_at};
 use crate::stack::Stack;
 use lua_code::Place;
 use lua_store::{CellId, ClosureId, Store, Value};
+use mw_frame::{List, NoMemory};
 use std::alloc::Global;
-use wk_base::{List, NoMemory};
 
 /// A register holds the value of its variable, or the cell that has it.
 #[derive(Clone, Copy)]

@@ -2,9 +2,9 @@
 ghost use Rattle.std.specs.Prelude.{◌≡◌, ◌-◌, [], ◌∷◌, length, drop, slice_get, slice_set, OnOk, OnErr, MatchOption};
 ghost use Rattle.std.specs.Option.{option_copied};
 
+use mw_frame::NoMemory;
 use std::alloc::Global;
 use std::marker::Model;
-use wk_base::NoMemory;
 
 /// A list whose first item is the newest.
 #[derive(Drop)]

@@ -1,15 +1,15 @@
 //! Values in flight (manual 2.4.3 and 2.5): lists of values that are moved from frame to frame, and grow and shrink at both ends.
 ghost use Rattle.std.specs.Prelude.{◌≡◌, ◌++◌, ◌∷◌, [], ℕ, List, length, IfOk, OnOk, OnErr};
-ghost use Rattle.lua_heap.specs.Value as kind;
-ghost use Rattle.lua_meaning.specs.Values as plain;
+ghost use Rattle.lua_code.specs.LuaHeapValue as kind;
+ghost use Rattle.lua_code.specs.LuaMeaningValues as plain;
 ghost use Rattle.lua_store.specs.Seen.{seen};
 ghost use Rattle.lua_stack.specs.Lists.{first_stored, rest_stored, given_values};
 
 use lua_store::Value;
+use mw_frame::{List, NoMemory};
 use std::alloc::Global;
 use std::collections::VecDeque;
 use std::marker::Model;
-use wk_base::{List, NoMemory};
 
 /// More values behind these.
 fn append(items: &mut Vec<Value>, more: &[Value]) -> Result<(), NoMemory>

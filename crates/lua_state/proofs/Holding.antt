@@ -1,17 +1,17 @@
 -- CONSTANTS THAT ARE HELD: each is one that was found, also where more are put in.
 use Rattle.std.proofs.Common.{◌≡◌, ◌∙◌, ◌++◌, ap, subst, sym, ℕ, true, List, [], ◌∷◌, Option, Some, None, slice_get, slice_set}
 use Rattle.std.specs.Prelude.{IfSome}
-use Rattle.lua_slots.specs.Code.{CWorld}
-use Rattle.lua_slots.specs.Calls.{code_of}
-use Rattle.lua_store.specs.declared.ids.TextId.{TextId}
-use Rattle.lua_store.specs.contracts.ids.TextIdPartialEq.TheImpl.{ghosts as text_id}
-use Rattle.lua_store.specs.Seen.{StoreView, text_at}
-use Rattle.lua_store.specs.Parts.{IsTextOf, IsLater}
-use Rattle.lua_store.proofs.Later.{text_of-later}
-use Rattle.lua_store.proofs.Lists.{all-set, all-push, all-get}
+use Rattle.lua_code.specs.LuaSlotsCode.{CWorld}
+use Rattle.lua_arms.specs.LuaSlotsCalls.{code_of}
+use Rattle.mw_frames.specs.LuaStoreDeclaredIdsTextId.{TextId}
+use Rattle.mw_frames.specs.LuaStoreContractsIdsTextIdPartialEqTheImpl.{ghosts as text_id}
+use Rattle.mw_frames.specs.LuaStoreSeen.{StoreView, text_at}
+use Rattle.mw_frames.specs.LuaStoreParts.{IsTextOf, IsLater}
+use Rattle.mw_frames.proofs.LuaStoreLater.{text_of-later}
+use Rattle.mw_frames.proofs.LuaStoreLists.{all-set, all-push, all-get}
 use Rattle.lua_state.specs.declared.held.Held.{Held}
 use Rattle.lua_state.specs.Worlds.{IsHeld, AreHeld}
-use Rattle.lua_state.proofs.Found.{same_id}
+use Rattle.lua_state.proofs.FoundCode.{same_id}
 
 -- of a constant of these
 abbrev pub held_of : TextId → ℕ → TextId → Held

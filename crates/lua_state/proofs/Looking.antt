@@ -1,15 +1,15 @@
 -- A CONSTANT of the running function's module was found first: the move is the one of its text.
 use Rattle.std.proofs.Common.{◌≡◌, ◌∙◌, sym, ap, subst, ℕ, List, Option, Some, None, slice_get}
 use Rattle.std.specs.Prelude.{IfSome}
-use Rattle.wk_base.specs.declared.left.Left.{Left}
-use Rattle.lua_store.specs.declared.ids.TextId.{TextId}
-use Rattle.lua_store.specs.Seen.{StoreView, text_at}
-use Rattle.lua_store.specs.Parts.{IsLater}
-use Rattle.lua_slots.specs.Calls.{code_of}
-use Rattle.lua_slots.specs.Slots.{Slots, Activation as Plain}
-use Rattle.lua_slots.specs.Points.{SFrame, Move}
-use Rattle.lua_slots.specs.Enact.{enact}
-use Rattle.lua_stack.specs.declared.activation.Activation.{Activation}
+use Rattle.mw_frames.specs.WkBaseDeclaredLeftLeft.{Left}
+use Rattle.mw_frames.specs.LuaStoreDeclaredIdsTextId.{TextId}
+use Rattle.mw_frames.specs.LuaStoreSeen.{StoreView, text_at}
+use Rattle.mw_frames.specs.LuaStoreParts.{IsLater}
+use Rattle.lua_arms.specs.LuaSlotsCalls.{code_of}
+use Rattle.lua_goes.specs.LuaSlotsSlots.{Slots, Activation as Plain}
+use Rattle.lua_goes.specs.LuaSlotsPoints.{SFrame, Move}
+use Rattle.lua_code.specs.LuaSlotsEnact.{enact}
+use Rattle.lua_arms.specs.LuaStackDeclaredActivationActivation.{Activation}
 use Rattle.lua_state.specs.declared.codes.Codes.{Codes}
 use Rattle.lua_state.specs.declared.state.State.{State}
 use Rattle.lua_state.specs.declared.turn.Turn.{Turn}

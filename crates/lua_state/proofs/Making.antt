@@ -1,18 +1,18 @@
 -- HOW A MOVE IS MADE OF PARTS: of what code did before, and of a move that is made from there.
 use Rattle.std.proofs.Common.{◌≡◌, ◌∙◌, refl, sym, ap, arith, ℕ, ◌+◌, inl, inr}
-use Rattle.wk_base.specs.declared.left.Left.{Left}
-use Rattle.page_run.specs.declared.which.Which.{Which}
-use Rattle.page_run.specs.State.{Tally, no_tally}
-use Rattle.lua_store.specs.Seen.{StoreView}
-use Rattle.lua_store.specs.Parts.{IsLater}
-use Rattle.lua_store.proofs.Later.{later-itself, later-then}
-use Rattle.lua_slots.specs.Slots.{Slots, with_heap}
-use Rattle.lua_slots.specs.Points.{Move, Marks, Now}
-use Rattle.lua_slots.specs.Enact.{Funds, all_given_back, Stands, Short, enact}
+use Rattle.mw_frames.specs.WkBaseDeclaredLeftLeft.{Left}
+use Rattle.lua_code.specs.PageRunDeclaredWhichWhich.{Which}
+use Rattle.lua_arms.specs.PageRunState.{Tally, no_tally}
+use Rattle.mw_frames.specs.LuaStoreSeen.{StoreView}
+use Rattle.mw_frames.specs.LuaStoreParts.{IsLater}
+use Rattle.mw_frames.proofs.LuaStoreLater.{later-itself, later-then}
+use Rattle.lua_goes.specs.LuaSlotsSlots.{Slots, with_heap}
+use Rattle.lua_goes.specs.LuaSlotsPoints.{Move, Marks, Now}
+use Rattle.lua_code.specs.LuaSlotsEnact.{Funds, all_given_back, Stands, Short, enact}
 use Rattle.lua_goes.specs.Going.{led}
-use Rattle.lua_stack.specs.declared.focus.Focus.{Focus}
-use Rattle.lua_stack.specs.Seen.{focus_seen}
-use Rattle.lua_stack.specs.Of.{FocusOf}
+use Rattle.lua_arms.specs.LuaStackDeclaredFocusFocus.{Focus}
+use Rattle.lua_arms.specs.LuaStackSeen.{focus_seen}
+use Rattle.lua_arms.specs.LuaStackOf.{FocusOf}
 use Rattle.lua_arms.specs.declared.step.Step.{Step}
 use Rattle.lua_arms.specs.declared.step.Step.TheVariants as step
 use Rattle.lua_arms.specs.declared.step.Paid.{Paid}

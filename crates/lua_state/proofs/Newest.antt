@@ -1,11 +1,11 @@
 -- The running function is the newest one.
 use Rattle.std.proofs.Common.{◌≡◌, List, [], ◌∷◌, Some, None, refl, sym, ap, subst, slice_get}
 use Rattle.std.proofs.lemmas.Option.{none-some}
-use Rattle.lua_store.specs.Seen.{StoreView}
-use Rattle.lua_slots.specs.Slots.{newest_function, no_activation}
-use Rattle.lua_stack.specs.declared.activation.Activation.{Activation}
-use Rattle.lua_stack.specs.Seen.{activation_seen, activations_seen}
-use Rattle.lua_stack.specs.Of.{ActivationOf, ActivationsOf}
+use Rattle.mw_frames.specs.LuaStoreSeen.{StoreView}
+use Rattle.lua_goes.specs.LuaSlotsSlots.{newest_function, no_activation}
+use Rattle.lua_arms.specs.LuaStackDeclaredActivationActivation.{Activation}
+use Rattle.lua_arms.specs.LuaStackSeen.{activation_seen, activations_seen}
+use Rattle.lua_arms.specs.LuaStackOf.{ActivationOf, ActivationsOf}
 
 some-is : {A : Type 0} (a b : A) → Some a ≡ Some b → a ≡ b
 some-is a b e = cc

@@ -1,25 +1,25 @@
 -- An error with its message is the end of a move.
 use Rattle.std.proofs.Common.{◌≡◌, ◌∙◌, refl, sym, ap, subst, ℕ, List, Option, Some, None}
 use Rattle.std.specs.Option.{option_map, IfSome}
-use Rattle.wk_base.specs.declared.left.Left.{Left}
-use Rattle.page_run.specs.State.{Tally}
-use Rattle.lua_meaning.specs.Scope.{Bytes, Place}
-use Rattle.lua_meaning.specs.Messages.{nth_level}
-use Rattle.lua_store.specs.Seen.{StoreView}
-use Rattle.lua_store.specs.Parts.{IsLater, IsTextOf}
-use Rattle.lua_slots.specs.Slots.{Slots, levels_at}
-use Rattle.lua_slots.specs.Points.{SFrame, Move}
-use Rattle.lua_slots.specs.Enact.{Funds, enact}
-use Rattle.lua_slots.specs.Errors.{raises, raises_quote, fails, fails_quoting}
-use Rattle.lua_stack.specs.declared.activation.Level.{Level}
-use Rattle.lua_stack.specs.declared.focus.Focus.TheVariants as focus
-use Rattle.lua_stack.specs.declared.focus.Jump.TheVariants as jump
-use Rattle.lua_stack.specs.declared.frame.Frame.{Frame}
-use Rattle.lua_stack.specs.declared.raising.Raising.{Raising}
-use Rattle.lua_stack.specs.declared.raising.Raising.TheVariants as raising
-use Rattle.lua_stack.specs.Seen.{frames_seen, level_seen, activations_seen}
-use Rattle.lua_stack.specs.Of.{FramesOf}
-use Rattle.lua_stack.specs.Raised.{raised_seen, RaisingOf, place_seen, MayBeLevelOf}
+use Rattle.mw_frames.specs.WkBaseDeclaredLeftLeft.{Left}
+use Rattle.lua_arms.specs.PageRunState.{Tally}
+use Rattle.lua_code.specs.LuaMeaningScope.{Bytes, Place}
+use Rattle.mw_frames.specs.LuaMeaningMessages.{nth_level}
+use Rattle.mw_frames.specs.LuaStoreSeen.{StoreView}
+use Rattle.mw_frames.specs.LuaStoreParts.{IsLater, IsTextOf}
+use Rattle.lua_goes.specs.LuaSlotsSlots.{Slots, levels_at}
+use Rattle.lua_goes.specs.LuaSlotsPoints.{SFrame, Move}
+use Rattle.lua_code.specs.LuaSlotsEnact.{Funds, enact}
+use Rattle.lua_arms.specs.LuaSlotsErrors.{raises, raises_quote, fails, fails_quoting}
+use Rattle.lua_arms.specs.LuaStackDeclaredActivationLevel.{Level}
+use Rattle.lua_arms.specs.LuaStackDeclaredFocusFocusTheVariants as focus
+use Rattle.lua_arms.specs.LuaStackDeclaredFocusJumpTheVariants as jump
+use Rattle.lua_arms.specs.LuaStackDeclaredFrameFrame.{Frame}
+use Rattle.lua_arms.specs.LuaStackDeclaredRaisingRaising.{Raising}
+use Rattle.lua_arms.specs.LuaStackDeclaredRaisingRaisingTheVariants as raising
+use Rattle.lua_arms.specs.LuaStackSeen.{frames_seen, level_seen, activations_seen}
+use Rattle.lua_arms.specs.LuaStackOf.{FramesOf}
+use Rattle.lua_arms.specs.LuaStackRaised.{raised_seen, RaisingOf, place_seen, MayBeLevelOf}
 use Rattle.lua_state.specs.declared.state.State.{State}
 use Rattle.lua_state.specs.declared.turn.Turn.{Turn}
 use Rattle.lua_state.specs.declared.turn.Turn.TheVariants as turn

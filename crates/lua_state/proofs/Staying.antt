@@ -2,21 +2,21 @@
 use Rattle.std.proofs.Common.{◌≡◌, ◌∙◌, refl, sym, ℕ, List, Option, Some, None, ap, arith}
 use Rattle.std.specs.Prelude.{IfSome}
 use Rattle.std.specs.List.{AllByRecursion}
-use Rattle.wk_base.specs.declared.title.Title.{Title}
-use Rattle.lua_heap.specs.Proc.{Proc}
-use Rattle.lua_heap.specs.Heap.{Heap}
-use Rattle.lua_meaning.specs.Acts as act
-use Rattle.lua_store.specs.declared.value.Value.{Value}
-use Rattle.lua_store.specs.declared.ids.TextId.{TextId}
-use Rattle.lua_store.specs.Seen.{StoreView, seen}
-use Rattle.lua_store.specs.Parts.{IsOf, IsLater}
-use Rattle.lua_store.proofs.Later.{of-later, seen-later, text_of-later}
-use Rattle.lua_store.proofs.Lists.{all-to, map-alike}
+use Rattle.lua_code.specs.WkBaseDeclaredTitleTitle.{Title}
+use Rattle.lua_code.specs.LuaHeapProc.{Proc}
+use Rattle.lua_code.specs.LuaHeapHeap.{Heap}
+use Rattle.lua_code.specs.LuaMeaningActs as act
+use Rattle.mw_frames.specs.LuaStoreDeclaredValueValue.{Value}
+use Rattle.mw_frames.specs.LuaStoreDeclaredIdsTextId.{TextId}
+use Rattle.mw_frames.specs.LuaStoreSeen.{StoreView, seen}
+use Rattle.mw_frames.specs.LuaStoreParts.{IsOf, IsLater}
+use Rattle.mw_frames.proofs.LuaStoreLater.{of-later, seen-later, text_of-later}
+use Rattle.mw_frames.proofs.LuaStoreLists.{all-to, map-alike}
 use Rattle.lua_code.specs.declared.proto.Protos.{Protos}
-use Rattle.lua_slots.specs.Code.{CWorld}
-use Rattle.lua_slots.specs.Calls.{code_of}
-use Rattle.lua_slots.specs.Slots.{with_heap}
-use Rattle.lua_stack.proofs.Stay.{registers_later, registers_as, activations_later, activations_as, frames_later, frames_as, environment_later}
+use Rattle.lua_code.specs.LuaSlotsCode.{CWorld}
+use Rattle.lua_arms.specs.LuaSlotsCalls.{code_of}
+use Rattle.lua_goes.specs.LuaSlotsSlots.{with_heap}
+use Rattle.lua_arms.proofs.LuaStackStay.{registers_later, registers_as, activations_later, activations_as, frames_later, frames_as, environment_later}
 use Rattle.lua_titled.specs.Seen.{titled_by, by_title}
 use Rattle.mw_frames.specs.declared.scenes.SceneFrame.{SceneFrame}
 use Rattle.mw_frames.specs.declared.scenes.Scenes.{Scenes}

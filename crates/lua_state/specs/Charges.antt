@@ -1,10 +1,10 @@
 -- CHARGES in code: a call entered and left, and steps taken, as `lua_slots` enacts them, whatever move stands behind.
 use Rattle.std.specs.Prelude.{◌≡◌, ℕ, Bool, true, false}
-use Rattle.wk_base.specs.declared.left.Left.{Left}
-use Rattle.page_run.specs.State.{Tally}
-use Rattle.page_run.specs.declared.which.Which.TheVariants as which
-use Rattle.lua_slots.specs.Points.{Move, Costs, Enters, Exits}
-use Rattle.lua_slots.specs.Enact.{all_given_back, Short, enact}
+use Rattle.mw_frames.specs.WkBaseDeclaredLeftLeft.{Left}
+use Rattle.lua_arms.specs.PageRunState.{Tally}
+use Rattle.lua_titled.specs.PageRunDeclaredWhichWhichTheVariants as which
+use Rattle.lua_goes.specs.LuaSlotsPoints.{Move, Costs, Enters, Exits}
+use Rattle.lua_code.specs.LuaSlotsEnact.{all_given_back, Short, enact}
 use Rattle.lua_state.specs.declared.state.State.{State}
 use Rattle.lua_state.specs.Seen.{funds_of}
 

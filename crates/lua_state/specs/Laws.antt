@@ -1,8 +1,8 @@
 -- WHAT A MACHINE HOLDS STAYS in each later store, and is seen there as it was, but for the heap.
 use Rattle.std.specs.Prelude.{◌≡◌}
-use Rattle.lua_store.specs.Seen.{StoreView}
-use Rattle.lua_store.specs.Parts.{IsLater}
-use Rattle.lua_slots.specs.Slots.{with_heap}
+use Rattle.mw_frames.specs.LuaStoreSeen.{StoreView}
+use Rattle.mw_frames.specs.LuaStoreParts.{IsLater}
+use Rattle.lua_goes.specs.LuaSlotsSlots.{with_heap}
 use Rattle.lua_state.specs.declared.state.State.{State}
 use Rattle.lua_state.specs.Seen.{slots_of, frames_of}
 use Rattle.lua_state.specs.Of.{StateOf}

@@ -1,11 +1,11 @@
 -- THAT CODE MAKES A MOVE of `lua_slots`: from a store, a state and what is left to those after it, with what comes next.
 use Rattle.std.specs.Prelude.{◌≡◌, ◌≤◌, ◌+◌, ◌⊎◌, ℕ}
-use Rattle.wk_base.specs.declared.left.Left.{Left}
-use Rattle.page_run.specs.State.{Tally}
-use Rattle.lua_store.specs.Seen.{StoreView}
-use Rattle.lua_store.specs.Parts.{IsLater}
-use Rattle.lua_slots.specs.Points.{Move}
-use Rattle.lua_slots.specs.Enact.{enact}
+use Rattle.mw_frames.specs.WkBaseDeclaredLeftLeft.{Left}
+use Rattle.lua_arms.specs.PageRunState.{Tally}
+use Rattle.mw_frames.specs.LuaStoreSeen.{StoreView}
+use Rattle.mw_frames.specs.LuaStoreParts.{IsLater}
+use Rattle.lua_goes.specs.LuaSlotsPoints.{Move}
+use Rattle.lua_code.specs.LuaSlotsEnact.{enact}
 use Rattle.lua_goes.specs.Going.{led}
 use Rattle.lua_state.specs.declared.state.State.{State}
 use Rattle.lua_state.specs.declared.turn.Turn.{Turn}

@@ -1,18 +1,18 @@
 -- When all that a machine holds names only what a store has.
 use Rattle.std.specs.Prelude.{◌≡◌, ℕ}
 use Rattle.std.specs.List.{AllByRecursion}
-use Rattle.lua_store.specs.declared.ids.TextId.{TextId}
-use Rattle.lua_store.specs.declared.value.Value.{Value}
-use Rattle.lua_store.specs.Seen.{StoreView, text_at}
-use Rattle.lua_store.specs.Parts.{IsOf, IsTextOf}
-use Rattle.lua_stack.specs.Of.{FramesOf, RegistersOf, ActivationsOf, FocusOf, EnvironmentOf, GivenOf, JumpOf}
+use Rattle.mw_frames.specs.LuaStoreDeclaredIdsTextId.{TextId}
+use Rattle.mw_frames.specs.LuaStoreDeclaredValueValue.{Value}
+use Rattle.mw_frames.specs.LuaStoreSeen.{StoreView, text_at}
+use Rattle.mw_frames.specs.LuaStoreParts.{IsOf, IsTextOf}
+use Rattle.lua_arms.specs.LuaStackOf.{FramesOf, RegistersOf, ActivationsOf, FocusOf, EnvironmentOf, GivenOf, JumpOf}
 use Rattle.lua_state.specs.declared.progress.Progress.{Progress}
 use Rattle.lua_state.specs.declared.progress.Progress.TheVariants as progress
 use Rattle.lua_state.specs.declared.state.State.{State}
 use Rattle.lua_state.specs.declared.turn.Turn.{Turn}
 use Rattle.lua_state.specs.declared.turn.Turn.TheVariants as turn
 use Rattle.mw_frames.specs.Scenes.{ScenesOf}
-use Rattle.wk_base.specs.declared.title.Title.{Title}
+use Rattle.lua_code.specs.WkBaseDeclaredTitleTitle.{Title}
 use Rattle.lua_state.specs.declared.outcome.Outcome.{Outcome}
 use Rattle.lua_state.specs.declared.outcome.Outcome.TheVariants as outcome
 use Rattle.lua_state.specs.Seen.{constants_in}

@@ -1,17 +1,17 @@
 -- WHAT A MACHINE HOLDS, AS `lua_slots` SEES IT; and what it comes to.
 use Rattle.std.specs.Prelude.{ℕ, List}
-use Rattle.wk_base.specs.declared.left.Left.{Left}
-use Rattle.page_run.specs.State.{Tally}
-use Rattle.lua_heap.specs.Value.{Value as Plain}
-use Rattle.page_run.specs.Outcome.{Outcome as PlainOutcome, Goes, Jumps}
-use Rattle.lua_meaning.specs.Acts as act
-use Rattle.lua_store.specs.Seen.{StoreView, seen}
-use Rattle.lua_slots.specs.Code.{Constants}
-use Rattle.lua_slots.specs.Slots.{Slots}
-use Rattle.lua_slots.specs.Calls.{constants_of}
-use Rattle.lua_slots.specs.Points.{SFrame}
-use Rattle.lua_slots.specs.Enact.{Funds, all_given_back, Enacted, Stands, Short}
-use Rattle.lua_stack.specs.Seen.{Texts, given_seen, jump_seen, frames_seen, registers_seen, activations_seen, focus_seen}
+use Rattle.mw_frames.specs.WkBaseDeclaredLeftLeft.{Left}
+use Rattle.lua_arms.specs.PageRunState.{Tally}
+use Rattle.lua_code.specs.LuaHeapValue.{Value as Plain}
+use Rattle.lua_goes.specs.PageRunOutcome.{Outcome as PlainOutcome, Goes, Jumps}
+use Rattle.lua_code.specs.LuaMeaningActs as act
+use Rattle.mw_frames.specs.LuaStoreSeen.{StoreView, seen}
+use Rattle.lua_code.specs.LuaSlotsCode.{Constants}
+use Rattle.lua_goes.specs.LuaSlotsSlots.{Slots}
+use Rattle.lua_arms.specs.LuaSlotsCalls.{constants_of}
+use Rattle.lua_goes.specs.LuaSlotsPoints.{SFrame}
+use Rattle.lua_code.specs.LuaSlotsEnact.{Funds, all_given_back, Enacted, Stands, Short}
+use Rattle.lua_arms.specs.LuaStackSeen.{Texts, given_seen, jump_seen, frames_seen, registers_seen, activations_seen, focus_seen}
 use Rattle.lua_state.specs.declared.outcome.Outcome.{Outcome}
 use Rattle.lua_state.specs.declared.outcome.Outcome.TheVariants as outcome
 use Rattle.lua_state.specs.declared.progress.Progress.{Progress}

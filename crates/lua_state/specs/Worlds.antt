@@ -5,11 +5,11 @@ use Rattle.std.specs.Borrow.{Bor}
 use Rattle.lua_code.specs.declared.proto.Protos.{Protos}
 use Rattle.lua_code.specs.Seen.{protos_seen}
 use Rattle.lua_code.specs.Held.{modules_seen}
-use Rattle.lua_slots.specs.Code.{CWorld, Protos as PlainProtos}
-use Rattle.lua_slots.specs.Calls.{no_code, code_of}
-use Rattle.lua_store.specs.declared.ids.TextId.{TextId}
-use Rattle.lua_store.specs.Seen.{StoreView, text_at}
-use Rattle.lua_store.specs.Parts.{IsTextOf}
+use Rattle.lua_code.specs.LuaSlotsCode.{CWorld, Protos as PlainProtos}
+use Rattle.lua_arms.specs.LuaSlotsCalls.{no_code, code_of}
+use Rattle.mw_frames.specs.LuaStoreDeclaredIdsTextId.{TextId}
+use Rattle.mw_frames.specs.LuaStoreSeen.{StoreView, text_at}
+use Rattle.mw_frames.specs.LuaStoreParts.{IsTextOf}
 use Rattle.lua_state.specs.declared.codes.World.{World}
 use Rattle.lua_state.specs.declared.codes.Known.{Known}
 use Rattle.lua_state.specs.declared.codes.Recent.{Recent}

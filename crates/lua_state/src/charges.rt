@@ -1,11 +1,13 @@
 //! Charges: steps that are taken, and calls that are entered and left.
 ghost use Rattle.std.specs.Prelude.{◌≡◌, ◌+◌, true, false, if◌then◌else◌, IfOk, OnOk};
 ghost use Rattle.lua_state.specs.Charges.{Pays, EntersCall, LeavesCall};
-ghost use Rattle.lua_meaning.specs.Charges.{node_charge};
+ghost use Rattle.mw_frames.specs.LuaMeaningCharges.{node_charge};
 
 use crate::state::State;
+use lua_code::NoMemory;
+use lua_titled::Steps;
+use mw_frames::Left;
 use std::sync::ledger::Ledger;
-use wk_base::{Left, NoMemory, Steps};
 
 /// Takes so many steps. Where fewer are left, the answer is false and none stay.
 pub fn pay(left: &mut Left, steps: u64) -> bool

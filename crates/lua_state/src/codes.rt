@@ -2,19 +2,18 @@
 ghost use Rattle.std.specs.Prelude.{◌≡◌, Some, option_map, IfOk, IfSome, OnOk};
 ghost use Rattle.lua_code.specs.Held.{module_seen, modules_seen};
 ghost use Rattle.lua_code.specs.Seen.{proto_seen};
-ghost use Rattle.lua_slots.specs.Calls.{code_of};
-ghost use Rattle.lua_slots.specs.Code.{CWorld, Protos as PlainProtos};
-ghost use Rattle.lua_store.specs.Seen.{StoreView, text_at};
-ghost use Rattle.lua_store.specs.Parts.{IsTextOf};
+ghost use Rattle.lua_arms.specs.LuaSlotsCalls.{code_of};
+ghost use Rattle.lua_code.specs.LuaSlotsCode.{CWorld, Protos as PlainProtos};
+ghost use Rattle.mw_frames.specs.LuaStoreSeen.{StoreView, text_at};
+ghost use Rattle.mw_frames.specs.LuaStoreParts.{IsTextOf};
 ghost use Rattle.lua_state.specs.Worlds.{world_seen, IsCode, IsFound, AreFound, IsRecent, IsHeld, CodesOf};
 
 use crate::held::{Held, held_text, put};
 use indexmap::IndexMap;
-use lua_code::{Module, Modules, Proto, Protos};
-use lua_store::{Store, TextId};
+use lua_code::{Module, Modules, NoMemory, Proto, Protos, Title};
+use mw_frames::{Store, TextId};
 use std::alloc::Global;
 use std::hash::RandomState;
-use wk_base::{NoMemory, Title};
 
 /// What nothing in a run changes: the title of the page that is expanded, and the modules.
 #[derive(Clone, Copy)]

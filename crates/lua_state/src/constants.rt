@@ -1,11 +1,11 @@
 //! The constants of the running function's module, as texts of the store. One that was found is held, and not looked for again in a run.
 ghost use Rattle.std.specs.Prelude.{◌≡◌, IfOk, IfSome, OnOk};
-ghost use Rattle.lua_slots.specs.Calls.{code_of};
-ghost use Rattle.lua_slots.specs.Slots.{newest_function};
-ghost use Rattle.lua_store.specs.Parts.{IsLater, IsTextOf};
-ghost use Rattle.lua_store.specs.Seen.{StoreView, text_at};
-ghost use Rattle.lua_stack.specs.Of.{ActivationsOf};
-ghost use Rattle.lua_stack.specs.Seen.{activations_seen};
+ghost use Rattle.lua_arms.specs.LuaSlotsCalls.{code_of};
+ghost use Rattle.lua_goes.specs.LuaSlotsSlots.{newest_function};
+ghost use Rattle.mw_frames.specs.LuaStoreParts.{IsLater, IsTextOf};
+ghost use Rattle.mw_frames.specs.LuaStoreSeen.{StoreView, text_at};
+ghost use Rattle.lua_arms.specs.LuaStackOf.{ActivationsOf};
+ghost use Rattle.lua_arms.specs.LuaStackSeen.{activations_seen};
 ghost use Rattle.lua_state.specs.Of.{StateOf, IsConstant};
 ghost use Rattle.lua_state.specs.Seen.{constants_in};
 ghost use Rattle.lua_state.specs.Worlds.{world_seen, CodesOf};
@@ -13,10 +13,10 @@ ghost use Rattle.lua_state.specs.Worlds.{world_seen, CodesOf};
 use crate::codes::Codes;
 use crate::held::Held;
 use crate::state::State;
-use lua_stack::Activations;
-use lua_store::{Store, TextId};
+use lua_arms::Activations;
+use lua_code::NoMemory;
+use mw_frames::{Store, TextId};
 use std::alloc::Global;
-use wk_base::NoMemory;
 
 /// The text of the title of the running function's module, which is empty where no function is in progress.
 pub fn running_source(store: &mut Store, functions: &Activations) -> Result<TextId, NoMemory>

@@ -1,8 +1,8 @@
 //! The end of a move: an error gets its message (manual 2.7).
 ghost use Rattle.std.specs.Prelude.{◌≡◌, ℕ, IfOk, OnOk};
-ghost use Rattle.page_run.specs.State.{Tally};
-ghost use Rattle.lua_store.specs.Parts.{IsLater};
-ghost use Rattle.lua_slots.specs.Errors as machine;
+ghost use Rattle.lua_arms.specs.PageRunState.{Tally};
+ghost use Rattle.mw_frames.specs.LuaStoreParts.{IsLater};
+ghost use Rattle.lua_arms.specs.LuaSlotsErrors as machine;
 ghost use Rattle.lua_arms.specs.Steps.{step_seen, StepOf, failure_text as text_of_failure};
 ghost use Rattle.lua_arms.specs.Paid.{paid_seen, PaidOf};
 ghost use Rattle.lua_state.specs.Seen.{slots_of, frames_of, funds_of, turn_seen};
@@ -12,12 +12,10 @@ ghost use Rattle.lua_state.specs.Makes.{Makes};
 use crate::messages::failure_text;
 use crate::state::State;
 use crate::turn::Turn;
-use lua_arms::{Failure, Paid, Step};
-use lua_stack::raising::{raise_quote, raise_text};
-use lua_stack::{Focus, Jump, Raising};
-use lua_store::Store;
+use lua_arms::{Failure, Focus, Jump, Paid, Raising, Step, raise_quote, raise_text};
+use lua_code::NoMemory;
+use mw_frames::{Left, Store};
 use std::alloc::Global;
-use wk_base::{Left, NoMemory};
 
 /// An error with this message at a line of the newest function: at level 1 its place stands in front, and the whole costs its bytes.
 pub fn fail<'m>(

@@ -1,11 +1,11 @@
 //! Constants that were found as texts of the store.
 ghost use Rattle.std.specs.Prelude.{◌≡◌, slice_get, IfSome, OnOk};
-ghost use Rattle.lua_slots.specs.Code.{CWorld};
-ghost use Rattle.lua_store.specs.Seen.{StoreView};
+ghost use Rattle.lua_code.specs.LuaSlotsCode.{CWorld};
+ghost use Rattle.mw_frames.specs.LuaStoreSeen.{StoreView};
 ghost use Rattle.lua_state.specs.Worlds.{IsHeld, AreHeld};
 
-use lua_store::TextId;
-use wk_base::NoMemory;
+use lua_code::NoMemory;
+use mw_frames::TextId;
 
 /// A constant, by the text of its module's title and its number there, and the text that it was found as.
 #[derive(Clone, Copy)]

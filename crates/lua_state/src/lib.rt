@@ -32,6 +32,29 @@ pub use charges::{enter_call, leave_call, pay, pay_node};
 pub use codes::{Codes, World};
 pub use constants::{constant, constant_at_hand, running_source};
 pub use ending::{fail, fail_quoting, finish, finish_paid};
+pub use lua_arms::calls::call;
+pub use lua_arms::index::{index_link, index_table, two};
+pub use lua_arms::loops::{
+    count_next, counting, each_from, each_next, repeat_next, step_next, while_next,
+};
+pub use lua_arms::setting::{set_index, set_link};
+pub use lua_arms::statements::{branches, within};
+pub use lua_arms::tables::{common_handler, handler};
+pub use lua_arms::{
+    Activations, Asked, Callee, ClosureId, ClosureKind, EachLoop, Ending, Environment, Finding,
+    Focus, Found, Frame, Given, InAssignment, InExpression, InLoop, InRun, InStatement, Jump,
+    Level, LuaStackRegisterSlot as Slot, Pending, Raising, Setting, Stack, Step, Thing, Values,
+    Work, boxed, captures, give_up, is_function, is_nil, is_true, open, open_all, raise_text, read,
+    write,
+};
+pub use lua_titled::{ByTitle, Steps};
+pub use mw_frames::merging::merge_args;
+pub use mw_frames::paying::pay_args;
+pub use mw_frames::reading::ArgText;
+pub use mw_frames::{
+    Field, Item, Left, Library, Parent, ProtoId, SceneFrame, Scenes, Store, TableId, TextId,
+    TextIn, Value, bad_argument, expected, fill, make_frame, text_in,
+};
 pub use outcome::Outcome;
 pub use progress::Progress;
 pub use state::State;

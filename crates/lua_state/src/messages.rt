@@ -1,15 +1,13 @@
 //! The texts of what failed.
 ghost use Rattle.std.specs.Prelude.{◌≡◌, ◌++◌, ℕ, List, codes, IfOk, OnOk};
-ghost use Rattle.lua_meaning.specs.Messages as meaning;
-ghost use Rattle.lua_store.specs.Seen.{seen};
+ghost use Rattle.mw_frames.specs.LuaMeaningMessages as meaning;
+ghost use Rattle.mw_frames.specs.LuaStoreSeen.{seen};
 ghost use Rattle.lua_arms.specs.Steps as steps;
 
-use lua_arms::Failure;
-use lua_basic::values::kind_of;
-use lua_number::NumberFault;
-use lua_store::Value;
+use lua_arms::{Failure, NumberFault};
+use lua_code::NoMemory;
+use mw_frames::{Value, kind_of};
 use std::alloc::Global;
-use wk_base::NoMemory;
 
 /// More bytes behind a text.
 fn append(text: &mut Vec<u8>, bytes: &[u8]) -> Result<(), NoMemory>

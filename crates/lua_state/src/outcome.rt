@@ -1,5 +1,5 @@
 //! What a frame is given.
-use lua_stack::{Given, Jump};
+use lua_arms::{Given, Jump};
 
 /// What reaches a frame: values, or a jump.
 #[derive(Drop)]

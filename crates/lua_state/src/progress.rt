@@ -1,5 +1,5 @@
 //! Modules that were required (manual 5.3, `require`).
-use lua_store::Value;
+use mw_frames::Value;
 
 /// A module that was required: its text runs, or gave its value.
 #[derive(Clone, Copy)]

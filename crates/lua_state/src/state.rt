@@ -1,10 +1,9 @@
 //! What a machine holds beside the store.
 use crate::codes::Codes;
 use crate::progress::Progress;
-use lua_stack::{Activations, Environment, Frame, Slot, Stack};
-use lua_store::Value;
+use lua_arms::{Activations, Environment, Frame, LuaStackSlot as Slot, Stack};
 use lua_titled::ByTitle;
-use mw_frames::Scenes;
+use mw_frames::{Scenes, Value};
 
 /// What a machine of Lua holds beside the store and what it does next.
 #[derive(Drop)]

@@ -1,6 +1,5 @@
 //! What a move comes to.
-use lua_stack::Focus;
-use page_run::Which;
+use lua_arms::{Focus, Which};
 
 /// What a move comes to: what is next, or that an allowance is spent.
 #[derive(Drop)]

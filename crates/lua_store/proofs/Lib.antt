@@ -1,3 +1,5 @@
+pub use Rattle.lua_heap.proofs.Borders as LuaHeapBorders
+pub use Rattle.lua_heap.proofs.Places as LuaHeapPlaces
 pub mod Lists
 pub mod EntryMaps
 pub mod Equal

@@ -1,10 +1,10 @@
 -- An `if` whose first test is read in place, with an `else` or without one.
 use Rattle.std.proofs.Common.{◌≡◌, ◌+◌, ℕ, true, false, List, ◌∷◌, length, Option, Some, None}
-use Rattle.lua_heap.specs.Value.{Value, is_true}
-use Rattle.lua_slots.specs.Code.{CWorld, CExp, CBlock, ThenC, CArms, NoArmC, ArmC}
-use Rattle.lua_slots.specs.Slots.{Slots}
-use Rattle.lua_slots.specs.Calls.{constants_of}
-use Rattle.lua_slots.specs.Points.{SFrame, BlockEnd, StatsNext, Runs}
+use Rattle.lua_code.specs.LuaHeapValue.{Value, is_true}
+use Rattle.lua_code.specs.LuaSlotsCode.{CWorld, CExp, CBlock, ThenC, CArms, NoArmC, ArmC}
+use Rattle.lua_state.specs.LuaSlotsSlots.{Slots}
+use Rattle.lua_state.specs.LuaSlotsCalls.{constants_of}
+use Rattle.lua_state.specs.LuaSlotsPoints.{SFrame, BlockEnd, StatsNext, Runs}
 use Rattle.lua_in_place.specs.InPlace.{in_place}
 use Rattle.lua_in_place.proofs.Statements.{taken, taken_before, passed_by, taken_else}
 use Rattle.lua_code.specs.declared.statement.Statement.{Statement}

@@ -1,20 +1,20 @@
 -- Several moves at once in code, from the moves of `lua_in_place`.
 use Rattle.std.proofs.Common.{◌≡◌, ◌∙◌, ◌≤◌, ◌<◌, ◌-◌, ◌+◌, ℕ, true, false, List, refl, sym, ap, subst, arith}
-use Rattle.wk_base.specs.declared.left.Left.{Left}
-use Rattle.page_run.specs.State.{Tally}
-use Rattle.lua_store.specs.Seen.{StoreView}
-use Rattle.lua_store.proofs.Later.{later-itself}
-use Rattle.lua_slots.specs.Code.{CWorld}
-use Rattle.lua_slots.specs.Slots.{Slots}
-use Rattle.lua_slots.specs.Points.{SFrame, Point}
-use Rattle.lua_slots.specs.Enact.{Funds}
-use Rattle.lua_goes.specs.Going.{Reaches}
+use Rattle.lua_state.specs.WkBaseDeclaredLeftLeft.{Left}
+use Rattle.lua_state.specs.PageRunState.{Tally}
+use Rattle.lua_state.specs.LuaStoreSeen.{StoreView}
+use Rattle.lua_state.proofs.LuaStoreLater.{later-itself}
+use Rattle.lua_code.specs.LuaSlotsCode.{CWorld}
+use Rattle.lua_state.specs.LuaSlotsSlots.{Slots}
+use Rattle.lua_state.specs.LuaSlotsPoints.{SFrame, Point}
+use Rattle.lua_state.specs.LuaSlotsEnact.{Funds}
+use Rattle.lua_state.specs.LuaGoesGoing.{Reaches}
 use Rattle.lua_in_place.specs.Laws.{after_nodes}
 use Rattle.lua_in_place.proofs.Statements.{Leads}
-use Rattle.lua_stack.specs.declared.focus.Focus.{Focus}
-use Rattle.lua_stack.specs.declared.frame.Frame.{Frame}
-use Rattle.lua_stack.specs.Seen.{focus_seen, frames_seen}
-use Rattle.lua_stack.specs.Of.{FocusOf, FramesOf}
+use Rattle.lua_state.specs.LuaStackDeclaredFocusFocus.{Focus}
+use Rattle.lua_state.specs.LuaStackDeclaredFrameFrame.{Frame}
+use Rattle.lua_state.specs.LuaStackSeen.{focus_seen, frames_seen}
+use Rattle.lua_state.specs.LuaStackOf.{FocusOf, FramesOf}
 use Rattle.lua_state.specs.declared.state.State.{State}
 use Rattle.lua_state.specs.Seen.{slots_of, frames_of, funds_of}
 use Rattle.lua_state.specs.Of.{StateOf}

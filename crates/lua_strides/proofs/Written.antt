@@ -1,23 +1,23 @@
 -- Several moves at once that end with another heap or other registers.
 use Rattle.std.proofs.Common.{◌≡◌, ◌∙◌, ◌≤◌, ℕ, true, List, Option, Some, None, refl, sym, ap, subst, arith}
-use Rattle.wk_base.specs.declared.left.Left.{Left}
-use Rattle.lua_heap.specs.Proc.{Proc}
-use Rattle.lua_heap.specs.Heap.{Heap}
-use Rattle.lua_heap.specs.Value.{Value}
-use Rattle.lua_store.specs.Seen.{StoreView}
-use Rattle.lua_store.specs.Parts.{IsLater}
-use Rattle.lua_slots.specs.Code.{Place, Reg, Box, Up}
-use Rattle.lua_slots.specs.Slots as slots
-use Rattle.lua_slots.specs.Slots.{Slots, function_of, place_cell, with_cell, write_place, with_one, opened}
-use Rattle.lua_slots.specs.Points.{SFrame, Point}
-use Rattle.lua_slots.specs.Enact.{Funds}
-use Rattle.lua_goes.specs.Going.{Reaches}
+use Rattle.lua_state.specs.WkBaseDeclaredLeftLeft.{Left}
+use Rattle.lua_code.specs.LuaHeapProc.{Proc}
+use Rattle.lua_code.specs.LuaHeapHeap.{Heap}
+use Rattle.lua_code.specs.LuaHeapValue.{Value}
+use Rattle.lua_state.specs.LuaStoreSeen.{StoreView}
+use Rattle.lua_state.specs.LuaStoreParts.{IsLater}
+use Rattle.lua_code.specs.LuaSlotsCode.{Place, Reg, Box, Up}
+use Rattle.lua_state.specs.LuaSlotsSlots as slots
+use Rattle.lua_state.specs.LuaSlotsSlots.{Slots, function_of, place_cell, with_cell, write_place, with_one, opened}
+use Rattle.lua_state.specs.LuaSlotsPoints.{SFrame, Point}
+use Rattle.lua_state.specs.LuaSlotsEnact.{Funds}
+use Rattle.lua_state.specs.LuaGoesGoing.{Reaches}
 use Rattle.lua_in_place.specs.Laws.{after_nodes}
-use Rattle.lua_stack.specs.declared.register.Slot.{Slot}
-use Rattle.lua_stack.specs.declared.focus.Focus.{Focus}
-use Rattle.lua_stack.specs.Places.{heap_with, written_at}
-use Rattle.lua_stack.specs.Seen.{registers_seen, focus_seen}
-use Rattle.lua_stack.specs.Of.{RegistersOf, FocusOf}
+use Rattle.lua_state.specs.LuaStackDeclaredRegisterSlot.{Slot}
+use Rattle.lua_state.specs.LuaStackDeclaredFocusFocus.{Focus}
+use Rattle.lua_state.specs.LuaStackPlaces.{heap_with, written_at}
+use Rattle.lua_state.specs.LuaStackSeen.{registers_seen, focus_seen}
+use Rattle.lua_state.specs.LuaStackOf.{RegistersOf, FocusOf}
 use Rattle.lua_state.specs.declared.state.State.{State}
 use Rattle.lua_state.specs.Seen.{slots_of, frames_of, funds_of}
 use Rattle.lua_state.specs.Of.{StateOf}

@@ -1,11 +1,11 @@
 -- AN `if` as its block has it, with an `else` or without one; and what the value of its first test decides.
 use Rattle.std.specs.Prelude.{◌≡◌, ◌+◌, ℕ, Bool, List, ◌∷◌, length, Option, Some, None}
-use Rattle.lua_heap.specs.Value.{Value, is_true}
+use Rattle.lua_code.specs.LuaHeapValue.{Value, is_true}
 use Rattle.lua_code.specs.Seen.{block_seen}
-use Rattle.lua_slots.specs.Code.{CWorld, CExp, CStat, IfC, IfElseC, CBlock, ThenC, CArms, ArmC}
-use Rattle.lua_slots.specs.Slots.{Slots}
-use Rattle.lua_slots.specs.Calls.{constants_of}
-use Rattle.lua_slots.specs.Points.{SFrame, BlockEnd, StatsNext, Runs}
+use Rattle.lua_code.specs.LuaSlotsCode.{CWorld, CExp, CStat, IfC, IfElseC, CBlock, ThenC, CArms, ArmC}
+use Rattle.lua_state.specs.LuaSlotsSlots.{Slots}
+use Rattle.lua_state.specs.LuaSlotsCalls.{constants_of}
+use Rattle.lua_state.specs.LuaSlotsPoints.{SFrame, BlockEnd, StatsNext, Runs}
 use Rattle.lua_in_place.specs.InPlace.{in_place}
 use Rattle.lua_strides.specs.declared.conditions.Choice.{Choice}
 use Rattle.lua_strides.specs.declared.conditions.Choice.TheVariants as chosen

@@ -1,9 +1,9 @@
 -- WHAT IS NEXT behind several moves at once, as the machine has it.
 use Rattle.std.specs.Prelude.{[], ◌∷◌}
-use Rattle.lua_stack.specs.declared.focus.Focus.{Focus}
-use Rattle.lua_stack.specs.declared.focus.Focus.TheVariants as focus
-use Rattle.lua_stack.specs.declared.focus.Jump.TheVariants as jump
-use Rattle.lua_stack.specs.declared.values.Given.TheVariants as given
+use Rattle.lua_state.specs.LuaStackDeclaredFocusFocus.{Focus}
+use Rattle.lua_state.specs.LuaStackDeclaredFocusFocusTheVariants as focus
+use Rattle.lua_state.specs.LuaStackDeclaredFocusJumpTheVariants as jump
+use Rattle.lua_state.specs.LuaStackDeclaredValuesGivenTheVariants as given
 use Rattle.lua_strides.specs.declared.next.Next.{Next}
 use Rattle.lua_strides.specs.declared.next.Next.TheVariants as next
 

@@ -1,12 +1,12 @@
 -- WHAT IS READ IN PLACE in code: that it is the value and the nodes of `lua_in_place`.
 use Rattle.std.specs.Prelude.{◌≡◌, ◌<◌, ◌^◌, ℕ, List, Option, Some, IfSome}
-use Rattle.lua_heap.specs.Value.{Value as Plain}
-use Rattle.lua_slots.specs.Code.{CExp, CExps}
+use Rattle.lua_code.specs.LuaHeapValue.{Value as Plain}
+use Rattle.lua_code.specs.LuaSlotsCode.{CExp, CExps}
 use Rattle.lua_in_place.specs.InPlace.{in_place, all_in_place}
-use Rattle.lua_store.specs.Seen.{StoreView, seen}
-use Rattle.lua_store.specs.Parts.{IsOf}
-use Rattle.lua_stack.specs.Of.{ValuesOf}
-use Rattle.lua_stack.specs.Seen.{values_seen}
+use Rattle.lua_state.specs.LuaStoreSeen.{StoreView, seen}
+use Rattle.lua_state.specs.LuaStoreParts.{IsOf}
+use Rattle.lua_state.specs.LuaStackOf.{ValuesOf}
+use Rattle.lua_state.specs.LuaStackSeen.{values_seen}
 use Rattle.lua_state.specs.declared.state.State.{State}
 use Rattle.lua_state.specs.Seen.{slots_of, constants_in}
 use Rattle.lua_strides.specs.declared.reading.ValueRead.{ValueRead}

@@ -1,8 +1,8 @@
 //! Calls whose function and arguments are read in place (manual 2.5.8): the frame that calls has its arguments.
 ghost use Rattle.std.specs.Prelude.{IfOk};
 ghost use Rattle.lua_code.specs.Seen.{expression_seen, expressions_seen, block_seen};
-ghost use Rattle.lua_slots.specs.Code.{CallC, CallStatC, ThenC};
-ghost use Rattle.lua_slots.specs.Points.{Evals, Runs};
+ghost use Rattle.lua_code.specs.LuaSlotsCode.{CallC, CallStatC, ThenC};
+ghost use Rattle.lua_state.specs.LuaSlotsPoints.{Evals, Runs};
 ghost use Rattle.lua_state.specs.Of.{StateOf};
 ghost use Rattle.lua_state.specs.Seen.{frames_of};
 ghost use Rattle.lua_strides.specs.Reads.{ReadsCall};
@@ -11,13 +11,10 @@ ghost use Rattle.lua_strides.specs.Strides.{MayStride};
 use crate::ending::{pay_nodes, wait_for, wait_within};
 use crate::next::Next;
 use crate::reading::{LEVELS, ListRead, ValueRead, read, read_all};
-use lua_code::{Expression, Statement};
-use lua_stack::{Frame, InExpression, InStatement};
-use lua_state::State;
-use lua_store::Store;
+use lua_code::{Expression, NoMemory, Statement};
+use lua_state::{Frame, InExpression, InStatement, Left, State, Steps, Store};
 use std::alloc::Global;
 use std::sync::ledger::Ledger;
-use wk_base::{Left, NoMemory, Steps};
 
 /// A function and its arguments.
 fn read_call<'m>(

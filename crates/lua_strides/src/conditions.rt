@@ -1,8 +1,8 @@
 //! An `if` whose first test is read in place (manual 2.4.4).
 ghost use Rattle.std.specs.Prelude.{◌≡◌, ◌∷◌, [], false, option_map, IfOk, MatchOption};
 ghost use Rattle.lua_code.specs.Seen.{branches_seen, block_seen, expression_seen};
-ghost use Rattle.lua_slots.specs.Code.{ArmC, CBlock, NoArmC, ThenC};
-ghost use Rattle.lua_slots.specs.Points.{Runs};
+ghost use Rattle.lua_code.specs.LuaSlotsCode.{ArmC, CBlock, NoArmC, ThenC};
+ghost use Rattle.lua_state.specs.LuaSlotsPoints.{Runs};
 ghost use Rattle.lua_state.specs.Of.{StateOf};
 ghost use Rattle.lua_state.specs.Seen.{frames_of};
 ghost use Rattle.lua_strides.specs.Conditions.{if_seen, IsChosen};
@@ -12,13 +12,9 @@ use crate::ending::{pay_nodes, wait_within};
 use crate::next::Next;
 use crate::reading::{LEVELS, read};
 use crate::running::depth_of;
-use lua_code::{Branch, Expression, Statement};
-use lua_stack::values::is_true;
-use lua_stack::{Ending, Frame, InStatement};
-use lua_state::State;
-use lua_store::Store;
+use lua_code::{Branch, Expression, List, NoMemory, Statement};
+use lua_state::{Ending, Frame, InStatement, Left, State, Steps, Store, is_true};
 use std::sync::ledger::Ledger;
-use wk_base::{Left, List, NoMemory, Steps};
 
 /// What the value of the first test decides: a block, what follows the statement, or nothing yet.
 pub enum Choice<'m> {

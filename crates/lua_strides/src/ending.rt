@@ -1,17 +1,16 @@
 //! How several moves at once end: their nodes are paid and counted together, and then what is next is made. Nothing is made before they
 //! are paid.
 ghost use Rattle.std.specs.Prelude.{◌≡◌, ◌+◌, ◌∷◌, ℕ, true, IfOk};
-ghost use Rattle.lua_slots.specs.Points.{Point};
-ghost use Rattle.lua_store.specs.Seen.{StoreView};
+ghost use Rattle.lua_state.specs.LuaSlotsPoints.{Point};
+ghost use Rattle.lua_state.specs.LuaStoreSeen.{StoreView};
 ghost use Rattle.lua_strides.specs.Next.{focus_of};
 ghost use Rattle.lua_strides.specs.Strides.{PaysNodes, MayStride, Ready};
-ghost use Rattle.wk_base.specs.declared.left.Left.{Left as Allowance};
+ghost use Rattle.lua_state.specs.WkBaseDeclaredLeftLeft.{Left as Allowance};
 
 use crate::next::Next;
-use lua_stack::Frame;
-use lua_state::State;
+use lua_code::NoMemory;
+use lua_state::{Frame, Left, State, Steps};
 use std::sync::ledger::Ledger;
-use wk_base::{Left, NoMemory, Steps};
 
 /// So many turns are counted.
 fn tick_all<L: Ledger>(turns: &mut Steps<L>, count: u64)

@@ -24,5 +24,8 @@ pub mod running;
 pub mod statements;
 pub mod striding;
 
+pub use lua_state::{
+    ClosureId, Found, InStatement, Setting, TableId, constant_at_hand, handler, write,
+};
 pub use next::{Next, focus_for};
 pub use striding::stride;

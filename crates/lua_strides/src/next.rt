@@ -2,11 +2,9 @@
 ghost use Rattle.std.specs.Prelude.{◌≡◌, IfOk};
 ghost use Rattle.lua_strides.specs.Next.{focus_of};
 
-use lua_code::{Expression, Statement};
-use lua_stack::{Focus, Given, Jump, Setting, Stack, Values};
-use lua_store::Value;
+use lua_code::{Expression, NoMemory, Statement};
+use lua_state::{Focus, Given, Jump, Setting, Stack, Value, Values};
 use std::alloc::Global;
-use wk_base::NoMemory;
 
 /// What is next.
 #[derive(Drop)]

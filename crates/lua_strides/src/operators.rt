@@ -1,19 +1,16 @@
 //! What operators and indices give in place: without a call, a change, or an error (manual 2.3 and 2.5).
 ghost use Rattle.std.specs.Prelude.{◌≡◌, ℕ, List as Items, Some, IfSome};
 ghost use Rattle.lua_code.specs.Seen.{arithmetic_seen, operator_seen};
-ghost use Rattle.lua_heap.specs.Value as kind;
-ghost use Rattle.lua_meaning.specs.Operators as plain;
-ghost use Rattle.lua_store.specs.Parts.{IsOf, IsTableOf};
-ghost use Rattle.lua_store.specs.Seen.{StoreView, seen};
-ghost use Rattle.lua_stack.specs.Of.{EnvironmentOf};
+ghost use Rattle.lua_code.specs.LuaHeapValue as kind;
+ghost use Rattle.lua_code.specs.LuaMeaningOperators as plain;
+ghost use Rattle.lua_state.specs.LuaStoreParts.{IsOf, IsTableOf};
+ghost use Rattle.lua_state.specs.LuaStoreSeen.{StoreView, seen};
+ghost use Rattle.lua_state.specs.LuaStackOf.{EnvironmentOf};
 ghost use Rattle.lua_in_place.specs.InPlace as places;
 
-use lua_arms::tables::{common_handler, handler};
 use lua_code::{Arithmetic, Operator};
 use lua_number::{NumberFault, neg};
-use lua_stack::Environment;
-use lua_stack::values::{is_nil, is_true};
-use lua_store::{Store, TableId, Value};
+use lua_state::{Environment, Store, TableId, Value, common_handler, handler, is_nil, is_true};
 use lua_syntax::UnaryOp;
 
 /// A number, if there is one.

@@ -1,24 +1,21 @@
 //! Expressions that are read where they stand (manual 2.5).
 ghost use Rattle.std.specs.Prelude.{◌≡◌, ◌<◌, ◌^◌, ◌++◌, ◌∷◌, [], ℕ, Option as MayBe, List as Items, Some, IfOk, IfSome, MatchOption};
 ghost use Rattle.lua_code.specs.Seen.{expression_seen, expressions_seen, operator_seen};
-ghost use Rattle.lua_heap.specs.Value.{Value as Plain};
+ghost use Rattle.lua_code.specs.LuaHeapValue.{Value as Plain};
 ghost use Rattle.lua_in_place.specs.InPlace as places;
-ghost use Rattle.lua_slots.specs.Code.{GlobalC, TextC};
-ghost use Rattle.lua_stack.specs.Of.{EnvironmentOf, ValuesOf};
+ghost use Rattle.lua_code.specs.LuaSlotsCode.{GlobalC, TextC};
+ghost use Rattle.lua_state.specs.LuaStackOf.{EnvironmentOf, ValuesOf};
 ghost use Rattle.lua_state.specs.Of.{StateOf};
-ghost use Rattle.lua_store.specs.Parts.{IsOf};
-ghost use Rattle.lua_store.specs.Seen.{StoreView, seen};
+ghost use Rattle.lua_state.specs.LuaStoreParts.{IsOf};
+ghost use Rattle.lua_state.specs.LuaStoreSeen.{StoreView, seen};
 ghost use Rattle.lua_strides.specs.Reads.{BothRead, IsRead, ReadsTo, ReadsTwo, ReadsAll};
 
 use crate::operators::{applied, entry, indexed, operated};
 use crate::running::variable;
-use lua_code::{Expression, Operator};
-use lua_stack::{Environment, Values};
-use lua_state::{State, constant_at_hand};
-use lua_store::{Store, Value};
+use lua_code::{Expression, NoMemory, Operator};
+use lua_state::{Environment, State, Store, Value, Values, constant_at_hand};
 use lua_syntax::UnaryOp;
 use std::alloc::Global;
-use wk_base::NoMemory;
 
 /// What is read in place: a value, and how many nodes its expression has.
 #[derive(Clone, Copy)]

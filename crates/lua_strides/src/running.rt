@@ -1,19 +1,16 @@
 //! What the running function has (manual 2.6): the values of its variables.
 ghost use Rattle.std.specs.Prelude.{◌≡◌, ℕ, List as Items, length};
 ghost use Rattle.lua_code.specs.Seen.{place_seen};
-ghost use Rattle.lua_slots.specs.Slots.{newest_function, read_place};
-ghost use Rattle.lua_store.specs.Parts.{IsOf};
-ghost use Rattle.lua_store.specs.Seen.{StoreView, seen};
-ghost use Rattle.lua_stack.specs.Of.{ActivationsOf, MayBeClosureOf};
-ghost use Rattle.lua_stack.specs.Seen.{activations_seen, captured_by, registers_seen};
+ghost use Rattle.lua_state.specs.LuaSlotsSlots.{newest_function, read_place};
+ghost use Rattle.lua_state.specs.LuaStoreParts.{IsOf};
+ghost use Rattle.lua_state.specs.LuaStoreSeen.{StoreView, seen};
+ghost use Rattle.lua_state.specs.LuaStackOf.{ActivationsOf, MayBeClosureOf};
+ghost use Rattle.lua_state.specs.LuaStackSeen.{activations_seen, captured_by, registers_seen};
 ghost use Rattle.lua_state.specs.Of.{StateOf};
 ghost use Rattle.lua_state.specs.Seen.{slots_of};
 
 use lua_code::Place;
-use lua_stack::register::read;
-use lua_stack::{Activations, Slot, Stack};
-use lua_state::State;
-use lua_store::{ClosureId, Store, Value};
+use lua_state::{Activations, ClosureId, Slot, Stack, State, Store, Value, read};
 
 /// The closure whose cells the running function has, if it stands in one.
 pub fn running_closure(functions: &Activations) -> Option<ClosureId>

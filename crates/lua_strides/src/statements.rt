@@ -1,8 +1,8 @@
 //! Statements whose expressions are read in place (manual 2.4.3, 2.4.4 and 2.4.7).
 ghost use Rattle.std.specs.Prelude.{◌≡◌, ◌∷◌, [], IfOk};
 ghost use Rattle.lua_code.specs.Seen.{block_seen, expression_seen, place_seen};
-ghost use Rattle.lua_slots.specs.Code.{AssignC, DeclareC, EntryC, MoreC, NoC, PlaceC, ReturnC, ThenC};
-ghost use Rattle.lua_slots.specs.Points.{Runs};
+ghost use Rattle.lua_code.specs.LuaSlotsCode.{AssignC, DeclareC, EntryC, MoreC, NoC, PlaceC, ReturnC, ThenC};
+ghost use Rattle.lua_state.specs.LuaSlotsPoints.{Runs};
 ghost use Rattle.lua_state.specs.Of.{StateOf};
 ghost use Rattle.lua_state.specs.Seen.{frames_of};
 ghost use Rattle.lua_strides.specs.Reads.{ReadsEntry};
@@ -12,14 +12,9 @@ use crate::ending::{pay_nodes, wait_for};
 use crate::next::Next;
 use crate::reading::{EntryRead, LEVELS, read};
 use crate::running::running_closure;
-use lua_code::{Expression, Place, Statement};
-use lua_stack::opening::open;
-use lua_stack::register::write;
-use lua_stack::{Found, Frame, InStatement, Setting};
-use lua_state::State;
-use lua_store::Store;
+use lua_code::{Expression, NoMemory, Place, Statement};
+use lua_state::{Found, Frame, InStatement, Left, Setting, State, Steps, Store, open, write};
 use std::sync::ledger::Ledger;
-use wk_base::{Left, NoMemory, Steps};
 
 /// A value to a local variable, before these statements.
 pub fn assign<'m, L: Ledger>(

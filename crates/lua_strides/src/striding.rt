@@ -1,9 +1,9 @@
 //! From what is next to where several moves lead.
 ghost use Rattle.std.specs.Prelude.{◌≡◌, ◌∷◌, [], map, IfOk, IfSome, MatchOption};
 ghost use Rattle.lua_code.specs.Seen.{block_seen, expression_seen, expressions_seen, statement_seen, target_seen};
-ghost use Rattle.lua_slots.specs.Code.{AssignC, CallStatC, DeclareC, MoreC, NoC, ReturnC, ThenC};
-ghost use Rattle.lua_slots.specs.Points.{Evals, Runs};
-ghost use Rattle.lua_stack.specs.Seen.{focus_seen};
+ghost use Rattle.lua_code.specs.LuaSlotsCode.{AssignC, CallStatC, DeclareC, MoreC, NoC, ReturnC, ThenC};
+ghost use Rattle.lua_state.specs.LuaSlotsPoints.{Evals, Runs};
+ghost use Rattle.lua_state.specs.LuaStackSeen.{focus_seen};
 ghost use Rattle.lua_state.specs.Of.{StateOf};
 ghost use Rattle.lua_state.specs.Seen.{frames_of};
 ghost use Rattle.lua_strides.specs.Strides.{MayStride};
@@ -14,13 +14,10 @@ use crate::ending::pay_nodes;
 use crate::next::Next;
 use crate::reading::{LEVELS, read};
 use crate::statements::{assign, assign_entry, declare, return_value};
-use lua_code::{Expression, Statement, Target};
-use lua_stack::Focus;
-use lua_state::State;
-use lua_store::Store;
+use lua_code::{Expression, List, NoMemory, Statement, Target};
+use lua_state::{Focus, Left, State, Steps, Store};
 use std::alloc::Global;
 use std::sync::ledger::Ledger;
-use wk_base::{Left, List, NoMemory, Steps};
 
 /// An expression that is read in place.
 fn give_value<'m, L: Ledger>(

@@ -7,10 +7,9 @@ ghost use Rattle.lua_pattern.specs.Reads.{IsReadFault};
 ghost use Rattle.lua_string.specs.Finds.{place_of, Finds, Answers, IsFindFault, IsPlain};
 
 use crate::place::first_place;
-use lua_pattern::{Capture, Match, OneByte, Pattern, PatternFault, Search};
+use lua_pattern::{Capture, List, Match, OneByte, Pattern, PatternFault, Search};
 use memchr::memmem;
 use std::alloc::Global;
-use wk_base::List;
 
 fn capture_len(capture: Capture) -> u64
     ensures { result ≡ capture_bytes capture }

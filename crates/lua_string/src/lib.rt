@@ -19,6 +19,13 @@ pub mod text;
 pub mod walking;
 
 pub use finding::{find, match_from};
+pub use lua_number::{Bytes, NoMemory, NumberFault};
+pub use lua_pattern::item::{Class, Item, Part, Set, Single};
+pub use lua_pattern::slots::Slot;
+pub use lua_pattern::{
+    Alphabet, Capture, List, Match, OneByte, OnePoint, Pattern, PatternFault, PreparedSet, Search,
+    read_set, symbol_at, text_from,
+};
 pub use math::{abs, ceil, floor, fmod, max, min, pow};
 pub use place::{byte, part, sub};
 pub use replacing::{CaptureText, replaced, replaced_length};

@@ -2,8 +2,9 @@
 ghost use Rattle.std.specs.Prelude.{◌≡◌, ◌≤◌, IfOk};
 ghost use Rattle.lua_string.specs.Places.{first_place as first_place_lem, last_place as last_place_lem, sub_of};
 
+use lua_number::NoMemory;
+use lua_pattern::List;
 use std::alloc::Global;
-use wk_base::{List, NoMemory};
 
 /// How many bytes stand before a place, in a text of `len` bytes.
 pub fn first_place(len: usize, place: i64) -> usize

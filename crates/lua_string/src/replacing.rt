@@ -6,9 +6,9 @@ ghost use Rattle.lua_string.specs.Heads.{head_text};
 
 use crate::text::push_all;
 use itoa::Buffer;
+use lua_number::NoMemory;
 use lua_pattern::PatternFault;
 use std::alloc::Global;
-use wk_base::NoMemory;
 
 /// A capture of a match: its bytes, or a place as Lua counts it.
 #[derive(Clone, Copy, Debug)]

@@ -3,8 +3,8 @@ ghost use Rattle.std.specs.Prelude.{◌≡◌, ◌++◌, length, map, reverse as
 ghost use Rattle.std.specs.Char.{to_ascii_lowercase, to_ascii_uppercase};
 ghost use Rattle.lua_string.specs.Texts.{bytes_of, how_many, rep_of, copies, saturated};
 
+use lua_number::NoMemory;
 use std::alloc::Global;
-use wk_base::NoMemory;
 
 /// `string.char(..)`: the bytes with these codes; None where one is not from 0 to 255.
 pub fn char_of(alloc: Global, codes: &[i64]) -> Result<Option<Vec<u8>>, NoMemory>

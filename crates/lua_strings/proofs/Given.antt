@@ -1,14 +1,14 @@
 -- Arguments that are read, and what follows them; values that stay.
 use Rattle.std.proofs.Common.{◌≡◌, ◌∙◌, ap, sym, subst, refl, List, [], ◌∷◌, ◌++◌, append_assoc, Ok, Err}
 use Rattle.std.specs.Prelude.{Result}
-use Rattle.wk_base.specs.declared.left.Left.{Left}
-use Rattle.lua_heap.specs.Proc.{Proc}
-use Rattle.lua_heap.specs.Value as kind
-use Rattle.lua_meaning.specs.Arguments.{Plain, Argument, with_argument}
-use Rattle.lua_store.specs.declared.value.Value.{Value}
-use Rattle.lua_store.specs.Seen.{StoreView, seen}
-use Rattle.lua_store.specs.Parts.{IsLater}
-use Rattle.lua_store.proofs.Later.{of-later, seen-later}
+use Rattle.lua_basic.specs.WkBaseDeclaredLeftLeft.{Left}
+use Rattle.lua_basic.specs.LuaHeapProc.{Proc}
+use Rattle.lua_basic.specs.LuaHeapValue as kind
+use Rattle.lua_basic.specs.LuaMeaningArguments.{Plain, Argument, with_argument}
+use Rattle.lua_basic.specs.LuaStoreDeclaredValueValue.{Value}
+use Rattle.lua_basic.specs.LuaStoreSeen.{StoreView, seen}
+use Rattle.lua_basic.specs.LuaStoreParts.{IsLater}
+use Rattle.lua_basic.proofs.LuaStoreLater.{of-later, seen-later}
 use Rattle.lua_basic.specs.declared.stop.Stop.{Stop}
 use Rattle.lua_basic.specs.Seen.{values_seen, AllOf, Free, Paid, Refuses}
 use Rattle.lua_basic.proofs.Found.{stopped, for_nothing}

@@ -4,7 +4,7 @@ use Rattle.std.proofs.lemmas.List.{length-map, length-reverse, drop_all, take_mi
 use Rattle.std.specs.Char.{to_ascii_lowercase, to_ascii_uppercase}
 use Rattle.lua_string.specs.Texts.{saturated}
 use Rattle.lua_string.specs.Walk.{span}
-use Rattle.lua_meaning.specs.Scope.{Bytes}
+use Rattle.lua_basic.specs.LuaMeaningScope.{Bytes}
 use Rattle.lua_strings.specs.declared.making.Change.{Change}
 use Rattle.lua_strings.specs.declared.making.Change.TheVariants as change
 use Rattle.lua_strings.specs.Found.{change_of}

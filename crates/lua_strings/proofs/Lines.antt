@@ -1,7 +1,7 @@
 -- Each of these functions is a line of the table of the library.
 use Rattle.std.proofs.Common.{◌≡◌, ap, Some}
-use Rattle.lua_heap.specs.declared.library.Library.TheVariants.{StringByte, StringChar, StringFind, StringMatch, StringFormat, StringLen, StringLower, StringUpper, StringRep, StringReverse, StringSub, MathAbs, MathCeil, MathFloor, MathFmod, MathMax, MathMin, MathPow}
-use Rattle.lua_meaning.specs.Libraries.{Answers}
+use Rattle.lua_basic.specs.LuaHeapDeclaredLibraryLibraryTheVariants.{StringByte, StringChar, StringFind, StringMatch, StringFormat, StringLen, StringLower, StringUpper, StringRep, StringReverse, StringSub, MathAbs, MathCeil, MathFloor, MathFmod, MathMax, MathMin, MathPow}
+use Rattle.lua_basic.specs.LuaMeaningLibraries.{Answers}
 use Rattle.lua_strings.specs.declared.table.StringFunction.{StringFunction}
 use Rattle.lua_strings.specs.declared.table.StringFunction.TheVariants as own
 use Rattle.lua_strings.specs.Table.{answer_of, AreInTable}

@@ -2,12 +2,12 @@
 use Rattle.std.proofs.Common.{◌≡◌, ◌∙◌, ap, sym, refl, ℕ, ◌+◌, ℤ, true, unsigned_abs, List, [], ◌∷◌, ◌++◌, append_assoc, append-nil, Some, None, Ok, Err, codes}
 use Rattle.std.specs.Prelude.{Option, if◌then◌else◌}
 use Rattle.lua_string.specs.Texts.{is_code}
-use Rattle.lua_heap.specs.Value.{Value}
-use Rattle.lua_meaning.specs.Scope.{Bytes}
-use Rattle.lua_meaning.specs.Values.{number_in}
-use Rattle.lua_meaning.specs.Messages.{bad_argument, expected}
-use Rattle.lua_meaning.specs.Arguments.{Argument, some_number}
-use Rattle.lua_meaning.specs.Checks.{out_of_range, code_in, and_those, codes_from, numbers_from}
+use Rattle.lua_basic.specs.LuaHeapValue.{Value}
+use Rattle.lua_basic.specs.LuaMeaningScope.{Bytes}
+use Rattle.lua_basic.specs.LuaMeaningValues.{number_in}
+use Rattle.lua_basic.specs.LuaMeaningMessages.{bad_argument, expected}
+use Rattle.lua_basic.specs.LuaMeaningArguments.{Argument, some_number}
+use Rattle.lua_basic.specs.LuaMeaningChecks.{out_of_range, code_in, and_those, codes_from, numbers_from}
 use Rattle.lua_strings.specs.Found.{number_code, code_of, codes_of}
 
 -- those that were read, in front of those that are still to read

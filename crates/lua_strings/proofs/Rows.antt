@@ -1,7 +1,7 @@
 -- Examples of calls: they compute.
 use Rattle.std.proofs.Common.{refl}
 use Rattle.std.specs.Fmt.{digits}
-use Rattle.lua_number.specs.Numerals.{decimal_of, numeral_of, trimmed, digits_of_base, read_number_of, read_in_base_of}
+use Rattle.lua_format.specs.LuaNumberNumerals.{decimal_of, numeral_of, trimmed, digits_of_base, read_number_of, read_in_base_of}
 use Rattle.lua_format.specs.Directives.{directive_of}
 use Rattle.lua_format.specs.Layouts.{filled}
 use Rattle.lua_format.specs.Format.{formatted}

@@ -1,6 +1,6 @@
 -- Searches: what is given of what was found.
 use Rattle.std.proofs.Common.{◌≡◌, ◌∙◌, ap, sym, refl, ℕ, ◌+◌, List, [], ◌∷◌, Option, Some, None, Err}
-use Rattle.wk_base.specs.declared.left.Left.{Left}
+use Rattle.lua_basic.specs.WkBaseDeclaredLeftLeft.{Left}
 use Rattle.lua_pattern.specs.declared.pattern.Match.{Match}
 use Rattle.lua_pattern.specs.declared.pattern.Search.{Search}
 use Rattle.lua_pattern.specs.declared.pattern.Search.TheVariants as search
@@ -10,16 +10,16 @@ use Rattle.lua_pattern.specs.Way.{Answer, At, Nowhere, first}
 use Rattle.lua_pattern.specs.Found.{IsFound}
 use Rattle.lua_pattern.specs.Read.{Read, Fault, Fine}
 use Rattle.lua_string.specs.Finds.{IsPlain, IsPriced, AnswersRead, match_of}
-use Rattle.lua_heap.specs.Proc.{Proc}
-use Rattle.lua_heap.specs.Heap.{Heap}
-use Rattle.lua_heap.specs.Value.{Value, Nil, Number}
+use Rattle.lua_basic.specs.LuaHeapProc.{Proc}
+use Rattle.lua_basic.specs.LuaHeapHeap.{Heap}
+use Rattle.lua_basic.specs.LuaHeapValue.{Value, Nil, Number}
 use Rattle.std.specs.Prelude.{pos}
-use Rattle.lua_meaning.specs.Scope.{Bytes}
-use Rattle.lua_meaning.specs.Arguments.{Plain, costs}
+use Rattle.lua_basic.specs.LuaMeaningScope.{Bytes}
+use Rattle.lua_basic.specs.LuaMeaningArguments.{Plain, costs}
 use Rattle.lua_basic.specs.declared.stop.Stop.TheVariants as stop
 use Rattle.lua_basic.specs.Seen.{Paid}
-use Rattle.lua_store.specs.Seen.{StoreView}
-use Rattle.lua_meaning.specs.Searches.{place_value, captures_given, find_values, answered, by_pattern, plain_values}
+use Rattle.lua_basic.specs.LuaStoreSeen.{StoreView}
+use Rattle.lua_basic.specs.LuaMeaningSearches.{place_value, captures_given, find_values, answered, by_pattern, plain_values}
 use Rattle.lua_strings.specs.Found.{IsCovered}
 
 -- a match is the one that the answer tells

@@ -1,6 +1,6 @@
 -- AN ANSWER OF ONE VALUE: what it is as an answer of a list of values, as other functions give it.
 use Rattle.std.specs.Prelude.{◌≡◌, [], ◌∷◌, List, Result, Ok, Err}
-use Rattle.lua_store.specs.declared.value.Value.{Value}
+use Rattle.lua_basic.specs.LuaStoreDeclaredValueValue.{Value}
 use Rattle.lua_basic.specs.declared.stop.Stop.{Stop}
 use Rattle.lua_basic.specs.declared.stop.Stop.TheVariants as stop
 

@@ -1,6 +1,6 @@
 -- WHAT IS TAKEN FROM THE STEPS THAT ARE LEFT: so many of them; or fewer are left, and none stays.
 use Rattle.std.specs.Prelude.{◌≡◌, ℕ, ◌<◌, ◌≤◌, ◌+◌, Result, Ok, Err}
-use Rattle.wk_base.specs.declared.left.Left.{Left}
+use Rattle.lua_basic.specs.WkBaseDeclaredLeftLeft.{Left}
 use Rattle.lua_basic.specs.declared.stop.Stop.{Stop}
 use Rattle.lua_basic.specs.declared.stop.Stop.TheVariants as stop
 use Rattle.lua_basic.specs.Seen.{less_steps}

@@ -1,14 +1,14 @@
 -- EXAMPLES of calls, with what they give or raise and what they cost. Results are those of Lua 5.1; charges are counted by hand.
 use Rattle.std.specs.Prelude.{◌≡◌, ℕ, pos, negsuc, true, List, [], ◌∷◌, codes}
-use Rattle.lua_heap.specs.Proc.{Proc}
-use Rattle.lua_heap.specs.Value.{Value, Nil, Truth, Number, Text, Table}
-use Rattle.lua_heap.specs.Heap.{Heap, empty}
-use Rattle.lua_meaning.specs.Scope.{Bytes}
-use Rattle.lua_meaning.specs.Arguments.{Plain, costs, fails, with_charge}
-use Rattle.lua_meaning.specs.Strings.{byte, char_of, len, lower, upper, rep, reverse, sub}
-use Rattle.lua_meaning.specs.Searches.{find, match_from}
-use Rattle.lua_meaning.specs.Formats.{format}
-use Rattle.lua_meaning.specs.Numbers.{abs, ceil, floor, fmod, max, min, pow}
+use Rattle.lua_basic.specs.LuaHeapProc.{Proc}
+use Rattle.lua_basic.specs.LuaHeapValue.{Value, Nil, Truth, Number, Text, Table}
+use Rattle.lua_basic.specs.LuaHeapHeap.{Heap, empty}
+use Rattle.lua_basic.specs.LuaMeaningScope.{Bytes}
+use Rattle.lua_basic.specs.LuaMeaningArguments.{Plain, costs, fails, with_charge}
+use Rattle.lua_basic.specs.LuaMeaningStrings.{byte, char_of, len, lower, upper, rep, reverse, sub}
+use Rattle.lua_basic.specs.LuaMeaningSearches.{find, match_from}
+use Rattle.lua_basic.specs.LuaMeaningFormats.{format}
+use Rattle.lua_basic.specs.LuaMeaningNumbers.{abs, ceil, floor, fmod, max, min, pow}
 
 abbrev here : Heap Proc
 here = empty

@@ -1,23 +1,23 @@
 -- WHAT PARTS OF THE CODE STAND FOR: what was read of all arguments, and the kinds of functions that share a body.
 use Rattle.std.specs.Prelude.{ℕ, ◌+◌, ◌≤◌, ℤ, unsigned_abs, List, map, reverse, Option, Some, None, Result, Ok, Err, if◌then◌else◌, codes}
 use Rattle.std.specs.Char.{to_ascii_lowercase, to_ascii_uppercase}
-use Rattle.lua_number.specs.declared.arithmetic.NumberFault.{NumberFault}
-use Rattle.lua_number.specs.Whole.{power_of}
+use Rattle.lua_string.specs.LuaNumberDeclaredArithmeticNumberFault.{NumberFault}
+use Rattle.lua_string.specs.LuaNumberWhole.{power_of}
 use Rattle.lua_string.specs.Texts.{is_code}
 use Rattle.lua_string.specs.Whole.{abs_of, fmod_of, max_of, min_of}
 use Rattle.lua_pattern.specs.declared.pattern.Match.{Match}
 use Rattle.lua_pattern.specs.declared.pattern.Search.{Search}
 use Rattle.lua_pattern.specs.declared.pattern.Search.TheVariants as search
 use Rattle.lua_pattern.specs.Sizes.{find_bytes, match_bytes}
-use Rattle.lua_heap.specs.Value.{Value}
-use Rattle.lua_meaning.specs.Scope.{Bytes}
-use Rattle.lua_meaning.specs.Values.{number_in}
-use Rattle.lua_meaning.specs.Messages.{bad_argument, expected}
-use Rattle.lua_meaning.specs.Arguments.{Argument}
+use Rattle.lua_basic.specs.LuaHeapValue.{Value}
+use Rattle.lua_basic.specs.LuaMeaningScope.{Bytes}
+use Rattle.lua_basic.specs.LuaMeaningValues.{number_in}
+use Rattle.lua_basic.specs.LuaMeaningMessages.{bad_argument, expected}
+use Rattle.lua_basic.specs.LuaMeaningArguments.{Argument}
 use Rattle.lua_basic.specs.Seen.{values_seen}
-use Rattle.lua_meaning.specs.Checks.{out_of_range}
-use Rattle.lua_meaning.specs.Numbers.{itself}
-use Rattle.lua_meaning.specs.Searches as searches
+use Rattle.lua_basic.specs.LuaMeaningChecks.{out_of_range}
+use Rattle.lua_basic.specs.LuaMeaningNumbers.{itself}
+use Rattle.lua_basic.specs.LuaMeaningSearches as searches
 use Rattle.lua_strings.specs.declared.arguments.NumbersRead.{NumbersRead}
 use Rattle.lua_strings.specs.declared.arguments.NumbersRead.TheVariants as numbers
 use Rattle.lua_strings.specs.declared.arguments.CodesCheck.{CodesCheck}

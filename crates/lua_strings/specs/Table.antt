@@ -1,18 +1,18 @@
 -- THE FUNCTIONS of `string` and `math` that call back nobody and make no iterator, and what each gives.
 use Rattle.std.specs.Prelude.{◌≡◌, List, Option, Some, None}
-use Rattle.lua_heap.specs.Proc.{Proc}
-use Rattle.lua_heap.specs.Value.{Value}
-use Rattle.lua_heap.specs.Heap.{Heap}
-use Rattle.lua_heap.specs.declared.library.Library.{Library}
-use Rattle.lua_heap.specs.declared.library.Library.TheVariants.{StringByte, StringChar, StringFind, StringMatch, StringFormat, StringLen, StringLower, StringUpper, StringRep, StringReverse, StringSub, MathAbs, MathCeil, MathFloor, MathFmod, MathMax, MathMin, MathPow}
-use Rattle.lua_meaning.specs.World.{World}
-use Rattle.lua_meaning.specs.Acts.{Frame}
-use Rattle.lua_meaning.specs.Arguments.{Plain}
-use Rattle.lua_meaning.specs.Strings as strings
-use Rattle.lua_meaning.specs.Searches as searches
-use Rattle.lua_meaning.specs.Formats as formats
-use Rattle.lua_meaning.specs.Numbers as numbers
-use Rattle.lua_meaning.specs.Libraries.{Answers, form}
+use Rattle.lua_basic.specs.LuaHeapProc.{Proc}
+use Rattle.lua_basic.specs.LuaHeapValue.{Value}
+use Rattle.lua_basic.specs.LuaHeapHeap.{Heap}
+use Rattle.lua_basic.specs.LuaHeapDeclaredLibraryLibrary.{Library}
+use Rattle.lua_basic.specs.LuaHeapDeclaredLibraryLibraryTheVariants.{StringByte, StringChar, StringFind, StringMatch, StringFormat, StringLen, StringLower, StringUpper, StringRep, StringReverse, StringSub, MathAbs, MathCeil, MathFloor, MathFmod, MathMax, MathMin, MathPow}
+use Rattle.lua_basic.specs.LuaMeaningWorld.{World}
+use Rattle.lua_basic.specs.LuaMeaningActs.{Frame}
+use Rattle.lua_basic.specs.LuaMeaningArguments.{Plain}
+use Rattle.lua_basic.specs.LuaMeaningStrings as strings
+use Rattle.lua_basic.specs.LuaMeaningSearches as searches
+use Rattle.lua_basic.specs.LuaMeaningFormats as formats
+use Rattle.lua_basic.specs.LuaMeaningNumbers as numbers
+use Rattle.lua_basic.specs.LuaMeaningLibraries.{Answers, form}
 use Rattle.lua_strings.specs.declared.table.StringFunction.{StringFunction}
 use Rattle.lua_strings.specs.declared.table.StringFunction.TheVariants as own
 

@@ -1,21 +1,21 @@
 //! All arguments as numbers or codes (manual 5.4, `string.char`; 5.6, `math.max`).
 ghost use Rattle.std.specs.Prelude.{◌≡◌, ◌+◌, ℕ, List as Items, Some, None, Ok, IfOk, IfErr, OnOk, MatchOption};
 ghost use Rattle.std.specs.Prelude.{unsigned_abs, false, true};
-ghost use Rattle.lua_meaning.specs.Scope.{Bytes};
-ghost use Rattle.lua_store.specs.Seen.{seen};
-ghost use Rattle.lua_store.specs.Parts.{IsOf, IsLater};
+ghost use Rattle.lua_basic.specs.LuaMeaningScope.{Bytes};
+ghost use Rattle.lua_basic.specs.LuaStoreSeen.{seen};
+ghost use Rattle.lua_basic.specs.LuaStoreParts.{IsOf, IsLater};
 ghost use Rattle.lua_string.specs.Texts.{is_code};
 ghost use Rattle.lua_basic.specs.Seen.{values_seen, AllOf, StopOf, Refuses};
-ghost use Rattle.lua_meaning.specs.Checks.{codes_from, numbers_from};
+ghost use Rattle.lua_basic.specs.LuaMeaningChecks.{codes_from, numbers_from};
 ghost use Rattle.lua_strings.specs.Found.{found_numbers, checked_codes, code_of, codes_of};
 
 use crate::messages::{refuse, refuse_kind};
 use crate::paying::split_values;
-use lua_basic::Stop;
 use lua_basic::values::number_in;
-use lua_store::{Store, Value};
+use lua_basic::{Stop, Store, Value};
+use lua_pattern::List;
+use lua_string::NoMemory;
 use std::alloc::Global;
-use wk_base::{List, NoMemory};
 
 /// All arguments as numbers; or the number of the first that is none, and the arguments from it on.
 #[derive(Drop)]

@@ -1,5 +1,5 @@
 //! A function of `string` or `math` is called.
-ghost use Rattle.lua_store.specs.Parts.{IsLater};
+ghost use Rattle.lua_basic.specs.LuaStoreParts.{IsLater};
 ghost use Rattle.lua_basic.specs.Seen.{values_seen, AllOf, Paid, AnswerOf};
 ghost use Rattle.lua_strings.specs.Table.{answer_of};
 
@@ -10,10 +10,9 @@ use crate::paying::listed;
 use crate::places::{byte, sub};
 use crate::searching::{find, match_from};
 use crate::table::StringFunction;
-use lua_basic::Stop;
-use lua_store::{Store, Value};
+use lua_basic::{Left, Stop, Store, Value};
+use lua_pattern::List;
 use std::alloc::Global;
-use wk_base::{Left, List};
 
 /// What a function of `string` or `math` gives for these arguments, after its charge.
 ///

@@ -2,18 +2,18 @@
 ghost use Rattle.std.specs.Prelude.{◌≡◌, ◌+◌, ◌<◌, ◌^◌, ◌∷◌, [], ◌++◌, ◌-◌, pos, map, IfOk, OnOk, MatchOption};
 ghost use Rattle.lua_pattern.specs.Sizes.{capture_bytes, captures_bytes, match_bytes};
 ghost use Rattle.lua_string.specs.Walk.{span as span_of};
-ghost use Rattle.lua_heap.specs.Value as kind;
-ghost use Rattle.lua_store.specs.Seen.{StoreView, seen};
-ghost use Rattle.lua_store.specs.Parts.{IsOf, IsLater};
-ghost use Rattle.lua_store.specs.declared.value.Value.TheVariants as own;
+ghost use Rattle.lua_basic.specs.LuaHeapValue as kind;
+ghost use Rattle.lua_basic.specs.LuaStoreSeen.{StoreView, seen};
+ghost use Rattle.lua_basic.specs.LuaStoreParts.{IsOf, IsLater};
+ghost use Rattle.lua_basic.specs.LuaStoreDeclaredValueValueTheVariants as own;
 ghost use Rattle.lua_basic.specs.Seen.{values_seen, AllOf};
-ghost use Rattle.lua_meaning.specs.Searches as meaning;
+ghost use Rattle.lua_basic.specs.LuaMeaningSearches as meaning;
 
 use lua_basic::values::{pair, single};
-use lua_pattern::{Capture, Match};
-use lua_store::{Store, Value};
+use lua_basic::{Store, Value};
+use lua_pattern::{Capture, List, Match};
+use lua_string::NoMemory;
 use std::alloc::Global;
-use wk_base::{List, NoMemory};
 
 /// A number as a value; one that does not fit is that of no place in memory.
 pub fn number_value(n: usize) -> Result<Value, NoMemory>

@@ -1,25 +1,25 @@
 //! `string.format` (manual 5.4).
 ghost use Rattle.std.specs.Prelude.{◌≡◌, ◌+◌, List as Items, map, drop, IfOk, codes};
 ghost use Rattle.lua_format.specs.Format.{formatted, HasLength};
-ghost use Rattle.lua_heap.specs.Value as kind;
-ghost use Rattle.lua_meaning.specs.Messages.{bad_argument, expected};
-ghost use Rattle.lua_meaning.specs.Arguments.{fails};
-ghost use Rattle.lua_store.specs.Seen.{seen};
-ghost use Rattle.lua_store.specs.Parts.{IsOf, IsLater};
+ghost use Rattle.lua_basic.specs.LuaHeapValue as kind;
+ghost use Rattle.lua_basic.specs.LuaMeaningMessages.{bad_argument, expected};
+ghost use Rattle.lua_basic.specs.LuaMeaningArguments.{fails};
+ghost use Rattle.lua_basic.specs.LuaStoreSeen.{seen};
+ghost use Rattle.lua_basic.specs.LuaStoreParts.{IsOf, IsLater};
 ghost use Rattle.lua_basic.specs.Seen.{values_seen, AllOf, Stops, StopOf, Paid, AnswerOf};
-ghost use Rattle.lua_meaning.specs.Checks.{out_of_range};
-ghost use Rattle.lua_meaning.specs.Formats as meaning;
+ghost use Rattle.lua_basic.specs.LuaMeaningChecks.{out_of_range};
+ghost use Rattle.lua_basic.specs.LuaMeaningFormats as meaning;
 
 use crate::messages::{refuse, refuse_kind};
 use crate::paying::{split_values, take, take_texts, text_value};
-use lua_basic::Stop;
 use lua_basic::arguments::a_text;
 use lua_basic::messages::fail;
 use lua_basic::values::rest;
-use lua_format::{FormatFault, FormatValue, Want, format_length};
-use lua_store::{Store, Value};
+use lua_basic::{Left, Stop, Store, Value};
+use lua_format::{Bytes, FormatFault, FormatValue, Want, format_length};
+use lua_pattern::List;
+use lua_string::NoMemory;
 use std::alloc::Global;
-use wk_base::{Bytes, Left, List, NoMemory};
 
 /// A value as a format takes it, with a copy of its text.
 fn format_value(alloc: Global, store: &Store, value: Value) -> Result<FormatValue, NoMemory>

@@ -31,4 +31,14 @@ pub mod searching;
 pub mod table;
 
 pub use call::string_call;
+pub use lua_basic::arguments::{a_text, number_or};
+pub use lua_basic::fields::field;
+pub use lua_basic::messages::{fail, refuse_kind};
+pub use lua_basic::objects::object;
+pub use lua_basic::texts::{TextIn, text_in};
+pub use lua_basic::values::{first, is_nil, is_true, kind_of, pair, rest, second, single};
+pub use lua_basic::{
+    CellId, Closure, ClosureId, ClosureKind, Left, Library, MarkupChild, MarkupId, MarkupNode,
+    MarkupStyle, Stop, Store, TableId, TextId, TextPair, Value,
+};
 pub use table::{StringFunction, string_function};

@@ -1,22 +1,21 @@
 //! `string.char`, `len`, `lower`, `upper`, `rep` and `reverse` (manual 5.4). What a text costs is taken before it is made.
 ghost use Rattle.std.specs.Prelude.{◌≡◌, IfOk};
-ghost use Rattle.lua_meaning.specs.Arguments.{gives_text};
-ghost use Rattle.lua_store.specs.Parts.{IsLater};
+ghost use Rattle.lua_basic.specs.LuaMeaningArguments.{gives_text};
+ghost use Rattle.lua_basic.specs.LuaStoreParts.{IsLater};
 ghost use Rattle.lua_string.specs.Texts.{rep_of};
 ghost use Rattle.lua_basic.specs.Seen.{values_seen, AllOf, Free, Paid, AnswerOf};
-ghost use Rattle.lua_meaning.specs.Strings as meaning;
+ghost use Rattle.lua_basic.specs.LuaMeaningStrings as meaning;
 ghost use Rattle.lua_strings.specs.Found.{change_of, codes_of};
 
 use crate::arguments::{bytes_of, check_codes};
 use crate::captures::number_value;
 use crate::paying::{take, text_value};
-use lua_basic::Stop;
 use lua_basic::arguments::{a_number, a_text};
 use lua_basic::values::{rest, single};
-use lua_store::{Store, Value};
-use lua_string::rep_length;
+use lua_basic::{Left, Stop, Store, Value};
+use lua_pattern::List;
+use lua_string::{NoMemory, rep_length};
 use std::alloc::Global;
-use wk_base::{Left, List, NoMemory};
 
 /// What a text becomes; it keeps its length.
 #[derive(Clone, Copy)]

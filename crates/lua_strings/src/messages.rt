@@ -1,17 +1,16 @@
 //! Messages that name an argument by any number (those of `lua_basic` name the first few), and that of a pattern.
 ghost use Rattle.std.specs.Prelude.{◌≡◌, ◌++◌, IfOk, OnOk};
-ghost use Rattle.lua_meaning.specs.Messages as meaning;
-ghost use Rattle.lua_meaning.specs.Arguments.{fails};
-ghost use Rattle.lua_store.specs.Parts.{IsLater};
+ghost use Rattle.lua_basic.specs.LuaMeaningMessages as meaning;
+ghost use Rattle.lua_basic.specs.LuaMeaningArguments.{fails};
+ghost use Rattle.lua_basic.specs.LuaStoreParts.{IsLater};
 ghost use Rattle.lua_basic.specs.Seen.{values_seen, Stops, StopOf};
-ghost use Rattle.lua_meaning.specs.Checks.{malformed};
+ghost use Rattle.lua_basic.specs.LuaMeaningChecks.{malformed};
 
 use itoa::Buffer;
-use lua_basic::Stop;
 use lua_basic::messages::{expected, fail};
-use lua_store::{Store, Value};
+use lua_basic::{Stop, Store, Value};
+use lua_string::NoMemory;
 use std::alloc::Global;
-use wk_base::NoMemory;
 
 /// More bytes behind a text.
 fn add(text: &mut Vec<u8>, bytes: &[u8]) -> Result<(), NoMemory>

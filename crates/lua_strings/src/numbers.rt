@@ -1,22 +1,21 @@
 //! The functions of `math` (manual 5.6), which cost nothing.
 ghost use Rattle.std.specs.Prelude.{◌≡◌, Result as Either, ℤ};
-ghost use Rattle.lua_number.specs.declared.arithmetic.NumberFault.{NumberFault as Fault};
-ghost use Rattle.lua_meaning.specs.Messages.{number_fault};
-ghost use Rattle.lua_store.specs.Parts.{IsLater};
+ghost use Rattle.lua_string.specs.LuaNumberDeclaredArithmeticNumberFault.{NumberFault as Fault};
+ghost use Rattle.lua_basic.specs.LuaMeaningMessages.{number_fault};
+ghost use Rattle.lua_basic.specs.LuaStoreParts.{IsLater};
 ghost use Rattle.lua_basic.specs.Seen.{values_seen, AllOf, Free, AnswerOf};
-ghost use Rattle.lua_meaning.specs.Numbers as meaning;
+ghost use Rattle.lua_basic.specs.LuaMeaningNumbers as meaning;
 ghost use Rattle.lua_strings.specs.Found.{one_of, two_of, all_of};
 
 use crate::arguments::all_numbers;
 use crate::messages::refuse_kind;
-use lua_basic::Stop;
 use lua_basic::arguments::a_number;
 use lua_basic::messages::fail;
 use lua_basic::values::{rest, single};
-use lua_number::NumberFault;
-use lua_store::{Store, Value};
+use lua_basic::{Stop, Store, Value};
+use lua_pattern::List;
+use lua_string::NumberFault;
 use std::alloc::Global;
-use wk_base::List;
 
 /// What a number becomes.
 #[derive(Clone, Copy)]

@@ -1,20 +1,20 @@
 //! Steps that are taken, and texts that are paid for.
 ghost use Rattle.std.specs.Prelude.{◌≡◌, ◌+◌, ◌<◌, ◌^◌, ◌∷◌, [], List as Items, length, IfOk, MatchOption};
-ghost use Rattle.lua_heap.specs.Value as kind;
-ghost use Rattle.lua_meaning.specs.Arguments.{gives_text, text_charge};
-ghost use Rattle.lua_store.specs.Seen.{seen};
-ghost use Rattle.lua_store.specs.Parts.{IsOf, IsLater};
+ghost use Rattle.lua_basic.specs.LuaHeapValue as kind;
+ghost use Rattle.lua_basic.specs.LuaMeaningArguments.{gives_text, text_charge};
+ghost use Rattle.lua_basic.specs.LuaStoreSeen.{seen};
+ghost use Rattle.lua_basic.specs.LuaStoreParts.{IsOf, IsLater};
 ghost use Rattle.lua_basic.specs.Seen.{values_seen, AllOf, Paid, AnswerOf};
 ghost use Rattle.lua_basic.specs.declared.stop.Stop.TheVariants as stop;
 ghost use Rattle.lua_strings.specs.Alone.{alone, IsListed};
 ghost use Rattle.lua_strings.specs.Costs.{Pays};
 
-use lua_basic::Stop;
 use lua_basic::stop::pay;
 use lua_basic::values::single;
-use lua_store::{Store, Value};
+use lua_basic::{Left, Stop, Store, Value};
+use lua_pattern::List;
+use lua_string::NoMemory;
 use std::alloc::Global;
-use wk_base::{Left, List, NoMemory};
 
 /// Takes so many steps, or all that are left where that is fewer.
 pub fn take(left: &mut Left, steps: u64) -> Result<(), Stop>

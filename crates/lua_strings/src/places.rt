@@ -1,20 +1,19 @@
 //! `string.byte` and `string.sub` (manual 5.4).
 ghost use Rattle.std.specs.Prelude.{◌≡◌, ◌∷◌, [], ℕ, List as Items, pos, IfOk, MatchOption};
-ghost use Rattle.lua_store.specs.Seen.{StoreView};
-ghost use Rattle.lua_store.specs.Parts.{IsLater};
-ghost use Rattle.lua_store.specs.declared.value.Value.TheVariants as own;
+ghost use Rattle.lua_basic.specs.LuaStoreSeen.{StoreView};
+ghost use Rattle.lua_basic.specs.LuaStoreParts.{IsLater};
+ghost use Rattle.lua_basic.specs.LuaStoreDeclaredValueValueTheVariants as own;
 ghost use Rattle.lua_basic.specs.Seen.{values_seen, AllOf, Paid, AnswerOf};
-ghost use Rattle.lua_meaning.specs.Strings as meaning;
+ghost use Rattle.lua_basic.specs.LuaMeaningStrings as meaning;
 ghost use Rattle.lua_strings.specs.Alone.{alone};
 
 use crate::paying::{give_one_text, take};
-use lua_basic::Stop;
 use lua_basic::arguments::{a_number, a_text, number_or};
 use lua_basic::values::rest;
-use lua_store::{Store, Value};
-use lua_string::part;
+use lua_basic::{Left, Stop, Store, Value};
+use lua_pattern::List;
+use lua_string::{NoMemory, part};
 use std::alloc::Global;
-use wk_base::{Left, List, NoMemory};
 
 /// The first of bytes, and those behind it.
 fn split_bytes(bytes: &[u8]) -> Option<(u8, &[u8])>

@@ -7,25 +7,24 @@ ghost use Rattle.lua_pattern.specs.Read.{read_of, codes as symbol_codes};
 ghost use Rattle.lua_pattern.specs.Reads.{IsReadFault};
 ghost use Rattle.lua_string.specs.Places.{first_place as first_of};
 ghost use Rattle.lua_string.specs.Finds.{Answers, IsPriced, place_of};
-ghost use Rattle.lua_heap.specs.Value as kind;
-ghost use Rattle.lua_meaning.specs.Arguments.{costs};
-ghost use Rattle.lua_store.specs.Seen.{StoreView};
-ghost use Rattle.lua_store.specs.Parts.{IsLater};
+ghost use Rattle.lua_basic.specs.LuaHeapValue as kind;
+ghost use Rattle.lua_basic.specs.LuaMeaningArguments.{costs};
+ghost use Rattle.lua_basic.specs.LuaStoreSeen.{StoreView};
+ghost use Rattle.lua_basic.specs.LuaStoreParts.{IsLater};
 ghost use Rattle.lua_basic.specs.Seen.{values_seen, AllOf, Paid, AnswerOf};
-ghost use Rattle.lua_meaning.specs.Searches as meaning;
+ghost use Rattle.lua_basic.specs.LuaMeaningSearches as meaning;
 ghost use Rattle.lua_strings.specs.Found.{bytes_of, values_of, IsCovered};
 
 use crate::captures::{captures_size, find_values, match_size, match_values};
 use crate::messages::refuse_pattern;
 use crate::paying::{spend, take, take_sum};
-use lua_basic::Stop;
 use lua_basic::arguments::{a_text, number_or};
 use lua_basic::values::{is_true, rest, single, third};
-use lua_pattern::{Match, PatternFault, Search};
-use lua_store::{Store, Value};
+use lua_basic::{Left, Stop, Store, Value};
+use lua_pattern::{List, Match, PatternFault, Search};
+use lua_string::NoMemory;
 use lua_string::place::first_place;
 use std::alloc::Global;
-use wk_base::{Left, List, NoMemory};
 
 /// What is wanted of a match.
 #[derive(Clone, Copy)]

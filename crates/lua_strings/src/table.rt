@@ -2,7 +2,7 @@
 ghost use Rattle.std.specs.Prelude.{◌≡◌};
 ghost use Rattle.lua_strings.specs.Table.{string_function_in, AreInTable};
 
-use lua_store::Library;
+use lua_basic::Library;
 
 /// A function of `string` or `math` that calls back nobody and makes no iterator (manual 5.4, 5.6).
 #[derive(Clone, Copy, Debug, PartialEq, Eq)]

@@ -1,1 +1,2 @@
+pub use Rattle.wk_base.proofs.Options as WkBaseOptions
 pub mod Views

@@ -2,6 +2,7 @@
 //!
 //! - this file: the types of the tree
 //! - `fault`: the faults
+//! - `fault_text`: what is told of a fault
 //! - `functions`: a tree's functions
 //! - `nodes`: the lines of a tree's nodes
 //!
@@ -17,12 +18,15 @@
 #![tactic(auto)]
 
 pub mod fault;
+pub mod fault_text;
 pub mod functions;
 pub mod nodes;
 
 pub use fault::{FaultAt, SyntaxFault};
+pub use fault_text::fault_message;
 pub use functions::nested_functions;
 pub use nodes::node_lines;
+pub use wk_base::{Bytes as WkBaseBytes, List as WkBaseList, Namespace, NoMemory, Title};
 use wk_base::{Bytes, List};
 
 /// A whole text of Lua.

@@ -1,12 +1,12 @@
 -- Arguments that may be left out.
 use Rattle.std.proofs.Common.{◌≡◌, ℕ, true, false, List, [], ◌∷◌, Ok, Err, refl}
 use Rattle.std.specs.Prelude.{codes}
-use Rattle.lua_heap.specs.Value.{Value, Nil, is_nil}
-use Rattle.lua_meaning.specs.Scope.{Bytes}
-use Rattle.lua_meaning.specs.Values.{first}
-use Rattle.lua_meaning.specs.Messages.{bad_argument, expected}
-use Rattle.lua_meaning.specs.Arguments.{a_text}
-use Rattle.lua_meaning.specs.Checks.{text_or, a_nil}
+use Rattle.lua_basic.specs.LuaHeapValue.{Value, Nil, is_nil}
+use Rattle.lua_basic.specs.LuaMeaningScope.{Bytes}
+use Rattle.lua_basic.specs.LuaMeaningValues.{first}
+use Rattle.lua_basic.specs.LuaMeaningMessages.{bad_argument, expected}
+use Rattle.lua_basic.specs.LuaMeaningArguments.{a_text}
+use Rattle.lua_basic.specs.LuaMeaningChecks.{text_or, a_nil}
 
 pub left_out : (default : Bytes) (n : ℕ) (function : Bytes) (given : List Value) → is_nil (first given) ≡ true → text_or default n function given ≡ Ok default
 left_out default n function [] h = refl

@@ -5,12 +5,12 @@ use Rattle.std.specs.Prelude.{codes}
 use Rattle.std.specs.Fmt.{digits}
 use lib.Count.{count_leading_zeros}
 use Rattle.lua_table.specs.Front.{numbered}
-use Rattle.lua_heap.specs.Value.{Value, Nil, Truth, Number, Text, Table}
-use Rattle.lua_heap.specs.Table.{Entries}
-use Rattle.lua_heap.specs.Heap.{Heap}
-use Rattle.lua_meaning.specs.Scope.{Bytes}
-use Rattle.lua_meaning.specs.Arguments.{Plain, Gives, Fails}
-use Rattle.lua_meaning.specs.TableLibrary.{concat, insert, maxn, remove, sort, binary_digits}
+use Rattle.lua_basic.specs.LuaHeapValue.{Value, Nil, Truth, Number, Text, Table}
+use Rattle.lua_basic.specs.LuaHeapTable.{Entries}
+use Rattle.lua_basic.specs.LuaHeapHeap.{Heap}
+use Rattle.lua_basic.specs.LuaMeaningScope.{Bytes}
+use Rattle.lua_basic.specs.LuaMeaningArguments.{Plain, Gives, Fails}
+use Rattle.lua_basic.specs.LuaMeaningTableLibrary.{concat, insert, maxn, remove, sort, binary_digits}
 
 -- a heap with one table, which can be written or not
 abbrev heap : Entries → Heap ℕ

@@ -1,3 +1,5 @@
+pub use Rattle.lua_basic.proofs.Found as LuaBasicFound
+pub use Rattle.lua_basic.proofs.LuaStoreLater as LuaStoreLater
 pub mod Lines
 pub mod Checked
 pub mod Taken

@@ -1,7 +1,7 @@
 -- Each of these functions is a line of the table of the library.
 use Rattle.std.proofs.Common.{◌≡◌, ap, Some}
-use Rattle.lua_heap.specs.declared.library.Library.TheVariants.{TableConcat, TableInsert, TableMaxn, TableRemove, TableSort}
-use Rattle.lua_meaning.specs.Libraries.{Answers}
+use Rattle.lua_basic.specs.LuaHeapDeclaredLibraryLibraryTheVariants.{TableConcat, TableInsert, TableMaxn, TableRemove, TableSort}
+use Rattle.lua_basic.specs.LuaMeaningLibraries.{Answers}
 use Rattle.lua_tables.specs.declared.table.TableFunction.{TableFunction}
 use Rattle.lua_tables.specs.declared.table.TableFunction.TheVariants as own
 use Rattle.lua_tables.specs.Table.{answer_of, AreInTable}

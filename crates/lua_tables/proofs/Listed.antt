@@ -1,13 +1,13 @@
 -- Lists of numbers and of texts as values, one after another.
 use Rattle.std.proofs.Common.{◌≡◌, ◌∙◌, ap, sym, refl, arith, ℕ, zero, suc, ◌+◌, ◌<◌, ℤ, List, [], ◌∷◌, ◌++◌, append_assoc, append-nil, length, drop, map, slice_index_or}
 use Rattle.std.specs.Borrow.{Bor}
-use Rattle.lua_heap.specs.Value as kind
-use Rattle.lua_meaning.specs.Scope.{Bytes}
-use Rattle.lua_store.specs.declared.ids.TextId.{TextId}
-use Rattle.lua_store.specs.declared.value.Value.{Value}
-use Rattle.lua_store.specs.declared.value.Value.TheVariants.{Number, Text}
-use Rattle.lua_store.specs.Seen.{StoreView, text_at, seen}
-use Rattle.lua_store.specs.Parts.{IsLater}
+use Rattle.lua_basic.specs.LuaHeapValue as kind
+use Rattle.lua_basic.specs.LuaMeaningScope.{Bytes}
+use Rattle.lua_basic.specs.LuaStoreDeclaredIdsTextId.{TextId}
+use Rattle.lua_basic.specs.LuaStoreDeclaredValueValue.{Value}
+use Rattle.lua_basic.specs.LuaStoreDeclaredValueValueTheVariants.{Number, Text}
+use Rattle.lua_basic.specs.LuaStoreSeen.{StoreView, text_at, seen}
+use Rattle.lua_basic.specs.LuaStoreParts.{IsLater}
 use Rattle.lua_basic.specs.Seen.{values_seen, AllOf}
 use Rattle.lua_basic.proofs.Lists.{seen-with}
 use Rattle.lua_tables.specs.Kinds.{numbers_in}

@@ -5,22 +5,22 @@ use Rattle.std.proofs.lemmas.Int.{ints}
 use Rattle.std.proofs.lemmas.List.{length-append, length-map}
 use Rattle.lua_number.specs.Whole.{fits}
 use Rattle.lua_number.specs.declared.arithmetic.NumberFault.TheVariants.{OutOfRange}
-use Rattle.lua_heap.specs.Proc.{Proc}
-use Rattle.lua_heap.specs.Value as kind
-use Rattle.lua_heap.specs.Value.{Nil, Number}
-use Rattle.lua_heap.specs.Table.{Entries, get, has, border}
-use Rattle.lua_heap.specs.Heap.{Heap, table_at}
-use Rattle.lua_meaning.specs.Values.{first, rest, second, third}
-use Rattle.lua_meaning.specs.Messages.{bad_argument, expected, number_fault, read_only}
-use Rattle.lua_meaning.specs.Arguments.{Plain, Gives, costs, gives, fails, with_charge, with_argument, a_number}
-use Rattle.lua_meaning.specs.Basic.{set_charge, count_between, entries_from}
-use Rattle.lua_store.specs.declared.value.Value.{Value}
-use Rattle.lua_store.specs.declared.value.Value.TheVariants as own
-use Rattle.lua_store.specs.Seen.{StoreView, seen}
+use Rattle.lua_basic.specs.LuaHeapProc.{Proc}
+use Rattle.lua_basic.specs.LuaHeapValue as kind
+use Rattle.lua_basic.specs.LuaHeapValue.{Nil, Number}
+use Rattle.lua_basic.specs.LuaHeapTable.{Entries, get, has, border}
+use Rattle.lua_basic.specs.LuaHeapHeap.{Heap, table_at}
+use Rattle.lua_basic.specs.LuaMeaningValues.{first, rest, second, third}
+use Rattle.lua_basic.specs.LuaMeaningMessages.{bad_argument, expected, number_fault, read_only}
+use Rattle.lua_basic.specs.LuaMeaningArguments.{Plain, Gives, costs, gives, fails, with_charge, with_argument, a_number}
+use Rattle.lua_basic.specs.LuaMeaningBasic.{set_charge, count_between, entries_from}
+use Rattle.lua_basic.specs.LuaStoreDeclaredValueValue.{Value}
+use Rattle.lua_basic.specs.LuaStoreDeclaredValueValueTheVariants as own
+use Rattle.lua_basic.specs.LuaStoreSeen.{StoreView, seen}
 use Rattle.lua_basic.specs.Seen.{values_seen, ends}
 use Rattle.lua_basic.proofs.Lists.{seen-with}
 use Rattle.lua_tables.specs.Walked.{walk_charge}
-use Rattle.lua_meaning.specs.TableLibrary.{Walk, PassedAll, Refused, walk, may_stand, wanted_kind, put_from, put_charge, insert_fitting, insert_values, insert_at, append, value_cmp, in_order, binary_digits, order_charge, sort_values, sort_walked, sort_table}
+use Rattle.lua_basic.specs.LuaMeaningTableLibrary.{Walk, PassedAll, Refused, walk, may_stand, wanted_kind, put_from, put_charge, insert_fitting, insert_values, insert_at, append, value_cmp, in_order, binary_digits, order_charge, sort_values, sort_walked, sort_table}
 use Rattle.lua_tables.specs.Moves.{last_put}
 use Rattle.lua_tables.proofs.Put.{in_count, count_in, count_from_one, length-entries, there, put_there, put_inserted}
 use Rattle.lua_tables.proofs.Orders.{length-in_order}

@@ -10,10 +10,10 @@ use Rattle.std.specs.Cmp.Lexicographic.{slice_cmp, nat_list_cmp_total, texts_tie
 use Rattle.std.specs.Borrow.{Bor}
 use Rattle.std.proofs.lemmas.List.Sums.{sum_by-cons}
 use Rattle.std.proofs.lemmas.List.Sorted.{IsPermutation-map, sum_by-IsPermutation}
-use Rattle.lua_heap.specs.Value.{Value, Number, Text}
-use Rattle.lua_meaning.specs.Scope.{Bytes}
-use Rattle.lua_meaning.specs.Values.{first}
-use Rattle.lua_meaning.specs.TableLibrary.{Walk, PassedAll, Refused, one_passed, walk, is_number, is_string, goes_with, may_stand, value_cmp, put_in_order, in_order}
+use Rattle.lua_basic.specs.LuaHeapValue.{Value, Number, Text}
+use Rattle.lua_basic.specs.LuaMeaningScope.{Bytes}
+use Rattle.lua_basic.specs.LuaMeaningValues.{first}
+use Rattle.lua_basic.specs.LuaMeaningTableLibrary.{Walk, PassedAll, Refused, one_passed, walk, is_number, is_string, goes_with, may_stand, value_cmp, put_in_order, in_order}
 use Rattle.lua_tables.specs.Kinds.{numbers_in, texts_in}
 
 not_greater : (r : Ordering) → is_le r ≡ true → is_gt r ≡ false

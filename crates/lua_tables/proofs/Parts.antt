@@ -1,17 +1,17 @@
 -- The parts that `concat` joins.
 use Rattle.std.proofs.Common.{◌≡◌, ◌∙◌, ap, sym, arith, Bool, true, false, if◌then◌else◌, ℕ, ◌+◌, ◌<◌, ◌≤◌, ℤ, pos, ◌+ℤ◌, List, [], ◌∷◌, ◌++◌, append_assoc, length, suc}
 use Rattle.std.proofs.lemmas.List.{length-append}
-use Rattle.lua_heap.specs.Proc.{Proc}
-use Rattle.lua_heap.specs.Value as kind
-use Rattle.lua_heap.specs.Heap.{Heap, table_at}
-use Rattle.lua_meaning.specs.Scope.{Bytes}
-use Rattle.lua_meaning.specs.Arguments.{fails, gives_text, with_charge}
-use Rattle.lua_meaning.specs.Basic.{count_between, entries_from}
-use Rattle.lua_store.specs.declared.value.Value.{Value}
-use Rattle.lua_store.specs.Seen.{seen}
+use Rattle.lua_basic.specs.LuaHeapProc.{Proc}
+use Rattle.lua_basic.specs.LuaHeapValue as kind
+use Rattle.lua_basic.specs.LuaHeapHeap.{Heap, table_at}
+use Rattle.lua_basic.specs.LuaMeaningScope.{Bytes}
+use Rattle.lua_basic.specs.LuaMeaningArguments.{fails, gives_text, with_charge}
+use Rattle.lua_basic.specs.LuaMeaningBasic.{count_between, entries_from}
+use Rattle.lua_basic.specs.LuaStoreDeclaredValueValue.{Value}
+use Rattle.lua_basic.specs.LuaStoreSeen.{seen}
 use Rattle.lua_basic.specs.Seen.{values_seen}
 use Rattle.lua_tables.specs.Walked.{walk_charge}
-use Rattle.lua_meaning.specs.TableLibrary.{Walk, PassedAll, Refused, one_passed, walk, is_part, part, behind_parts, joined, invalid_item, concat_values, concat_between}
+use Rattle.lua_basic.specs.LuaMeaningTableLibrary.{Walk, PassedAll, Refused, one_passed, walk, is_part, part, behind_parts, joined, invalid_item, concat_values, concat_between}
 
 -- one more part stands behind the others
 pub parts-length : (texts : List (List ℕ)) (sep : Bytes) (rest more : List Value) (v : Value) → rest ≡ v ∷ more

@@ -4,18 +4,18 @@ use Rattle.std.specs.Prelude.{◌≤ℤ◌, ◌<ℤ◌}
 use Rattle.std.specs.Map.{lookup}
 use Rattle.std.proofs.lemmas.Int.{ints}
 use Rattle.lua_table.specs.Entries.{Contents}
-use Rattle.lua_heap.specs.Value.{Value, Nil, Number, same}
-use Rattle.lua_heap.specs.Table.{Entries, get, has, border, empty_table}
-use Rattle.lua_heap.specs.Heap.{Heap, table_at, set_in, with_entry}
-use Rattle.lua_heap.proofs.Borders.{border_is_least}
-use Rattle.lua_meaning.specs.Basic.{set_charge, how_many, count_between, entries_from}
-use Rattle.lua_store.specs.declared.value.Value.{Value as Stored}
-use Rattle.lua_store.specs.Seen.{StoreView, seen}
-use Rattle.lua_store.specs.Parts.{IsOf, IsLater}
-use Rattle.lua_store.proofs.Lists.{all-to}
-use Rattle.lua_store.proofs.Later.{of-later, seen-later, later-itself, later-then}
+use Rattle.lua_basic.specs.LuaHeapValue.{Value, Nil, Number, same}
+use Rattle.lua_basic.specs.LuaHeapTable.{Entries, get, has, border, empty_table}
+use Rattle.lua_basic.specs.LuaHeapHeap.{Heap, table_at, set_in, with_entry}
+use Rattle.lua_basic.proofs.LuaHeapBorders.{border_is_least}
+use Rattle.lua_basic.specs.LuaMeaningBasic.{set_charge, how_many, count_between, entries_from}
+use Rattle.lua_basic.specs.LuaStoreDeclaredValueValue.{Value as Stored}
+use Rattle.lua_basic.specs.LuaStoreSeen.{StoreView, seen}
+use Rattle.lua_basic.specs.LuaStoreParts.{IsOf, IsLater}
+use Rattle.lua_basic.proofs.LuaStoreLists.{all-to}
+use Rattle.lua_basic.proofs.LuaStoreLater.{of-later, seen-later, later-itself, later-then}
 use Rattle.lua_basic.specs.Seen.{values_seen, AllOf}
-use Rattle.lua_meaning.specs.TableLibrary.{put_from, put_charge}
+use Rattle.lua_basic.specs.LuaMeaningTableLibrary.{put_from, put_charge}
 use Rattle.lua_tables.specs.Moves.{last_put}
 
 -- WHAT A SET LEAVES

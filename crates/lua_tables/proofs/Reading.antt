@@ -2,22 +2,22 @@
 use Rattle.std.proofs.Common.{◌≡◌, ◌∙◌, ap, sym, subst, refl, arith, ℕ, zero, suc, ◌+◌, ◌-◌, ◌<◌, ◌≤◌, Bool, true, false, if◌then◌else◌, ℤ, pos, ◌+ℤ◌, List, [], ◌∷◌, ◌++◌, append-nil, length, drop, Some, None, Ok, Err, slice_get}
 use Rattle.std.specs.Prelude.{Result}
 use Rattle.std.proofs.lemmas.Int.{ints}
-use Rattle.wk_base.specs.declared.left.Left.{Left}
-use Rattle.lua_heap.specs.Value as kind
-use Rattle.lua_heap.specs.Value.{Number}
-use Rattle.lua_heap.specs.Table.{Entries, get}
-use Rattle.lua_meaning.specs.Basic.{entries_from}
-use Rattle.lua_store.specs.declared.value.Value.{Value}
-use Rattle.lua_store.specs.Seen.{StoreView, seen}
-use Rattle.lua_store.specs.Parts.{IsOf}
+use Rattle.lua_number.specs.WkBaseDeclaredLeftLeft.{Left}
+use Rattle.lua_basic.specs.LuaHeapValue as kind
+use Rattle.lua_basic.specs.LuaHeapValue.{Number}
+use Rattle.lua_basic.specs.LuaHeapTable.{Entries, get}
+use Rattle.lua_basic.specs.LuaMeaningBasic.{entries_from}
+use Rattle.lua_basic.specs.LuaStoreDeclaredValueValue.{Value}
+use Rattle.lua_basic.specs.LuaStoreSeen.{StoreView, seen}
+use Rattle.lua_basic.specs.LuaStoreParts.{IsOf}
 use Rattle.lua_basic.specs.declared.stop.Stop.{Stop}
 use Rattle.lua_basic.specs.declared.stop.Stop.TheVariants as stop
 use Rattle.lua_basic.specs.Seen.{values_seen, AllOf, Paid}
-use Rattle.lua_heap.specs.Proc.{Proc}
-use Rattle.lua_meaning.specs.Arguments.{Plain}
+use Rattle.lua_basic.specs.LuaHeapProc.{Proc}
+use Rattle.lua_basic.specs.LuaMeaningArguments.{Plain}
 use Rattle.lua_basic.proofs.Lists.{all-with, seen-with}
 use Rattle.lua_basic.proofs.Counts.{entry-read}
-use Rattle.lua_meaning.specs.TableLibrary.{Walk, PassedAll, Refused, one_passed, walk, greater_key, greatest_key}
+use Rattle.lua_basic.specs.LuaMeaningTableLibrary.{Walk, PassedAll, Refused, one_passed, walk, greater_key, greatest_key}
 use Rattle.lua_tables.specs.declared.walking.Walked.{Walked}
 use Rattle.lua_tables.specs.declared.walking.Walked.TheVariants as walked
 use Rattle.lua_tables.specs.Paying.{IsTaken, Takes}

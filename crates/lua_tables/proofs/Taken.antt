@@ -1,11 +1,11 @@
 -- Charges that are taken part by part, and answers that were paid for.
 use Rattle.std.proofs.Common.{◌≡◌, ◌∙◌, ap, sym, subst, refl, ℕ, ◌+◌, ◌-◌, ◌≤◌, List, Ok, Err, arith}
 use Rattle.std.specs.Prelude.{Result}
-use Rattle.wk_base.specs.declared.left.Left.{Left}
-use Rattle.lua_heap.specs.Proc.{Proc}
-use Rattle.lua_meaning.specs.Arguments.{Plain, PlainEnd, Gives, with_charge}
-use Rattle.lua_store.specs.declared.value.Value.{Value}
-use Rattle.lua_store.specs.Seen.{StoreView}
+use Rattle.lua_number.specs.WkBaseDeclaredLeftLeft.{Left}
+use Rattle.lua_basic.specs.LuaHeapProc.{Proc}
+use Rattle.lua_basic.specs.LuaMeaningArguments.{Plain, PlainEnd, Gives, with_charge}
+use Rattle.lua_basic.specs.LuaStoreDeclaredValueValue.{Value}
+use Rattle.lua_basic.specs.LuaStoreSeen.{StoreView}
 use Rattle.lua_basic.specs.declared.stop.Stop.{Stop}
 use Rattle.lua_basic.specs.declared.stop.Stop.TheVariants as stop
 use Rattle.lua_basic.specs.Seen.{values_seen, ends, less_steps, Covers, Paid}

@@ -1,10 +1,10 @@
 -- THE GREATEST KEY of a table is found, for a step for each entry.
 use Rattle.std.specs.Prelude.{◌≡◌, ℤ, pos, length, Result, Ok, Err}
-use Rattle.wk_base.specs.declared.left.Left.{Left}
-use Rattle.lua_heap.specs.Table.{Entries}
+use Rattle.lua_number.specs.WkBaseDeclaredLeftLeft.{Left}
+use Rattle.lua_basic.specs.LuaHeapTable.{Entries}
 use Rattle.lua_basic.specs.declared.stop.Stop.{Stop}
 use Rattle.lua_basic.specs.declared.stop.Stop.TheVariants as stop
-use Rattle.lua_meaning.specs.TableLibrary.{greatest_key}
+use Rattle.lua_basic.specs.LuaMeaningTableLibrary.{greatest_key}
 use Rattle.lua_tables.specs.Paying.{IsTaken, IsOver}
 
 abbrev pub Counts : Entries → Left → Left → Result ℤ Stop → Type 0

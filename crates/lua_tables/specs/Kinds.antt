@@ -1,7 +1,7 @@
 -- THE VALUES OF ONE KIND among others, which a sort puts in order by themselves.
 use Rattle.std.specs.Prelude.{ℤ, List, [], ◌∷◌}
-use Rattle.lua_heap.specs.Value.{Value, Number, Text}
-use Rattle.lua_meaning.specs.Scope.{Bytes}
+use Rattle.lua_basic.specs.LuaHeapValue.{Value, Number, Text}
+use Rattle.lua_basic.specs.LuaMeaningScope.{Bytes}
 
 abbrev pub numbers_in : List Value → List ℤ
 numbers_in [] = []

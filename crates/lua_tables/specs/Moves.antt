@@ -1,7 +1,7 @@
 -- The last one of the values that an insertion puts: what stood at the last place that moves, or where none moves the value itself.
 use Rattle.std.specs.Prelude.{ℕ, zero, suc, ℤ, pos, ◌+ℤ◌}
-use Rattle.lua_heap.specs.Value.{Value, Number}
-use Rattle.lua_heap.specs.Table.{Entries, get}
+use Rattle.lua_basic.specs.LuaHeapValue.{Value, Number}
+use Rattle.lua_basic.specs.LuaHeapTable.{Entries, get}
 
 abbrev pub last_put : ℕ → ℤ → Value → Entries → Value
 last_put zero place v es = v

@@ -1,6 +1,6 @@
 -- A CHARGE IS TAKEN: it is covered and the rest is left, or it is not and nothing is left. Want of memory says nothing.
 use Rattle.std.specs.Prelude.{◌≡◌, ℕ, ◌<◌, ◌≤◌, Result, Ok, Err}
-use Rattle.wk_base.specs.declared.left.Left.{Left}
+use Rattle.lua_number.specs.WkBaseDeclaredLeftLeft.{Left}
 use Rattle.lua_basic.specs.declared.stop.Stop.{Stop}
 use Rattle.lua_basic.specs.declared.stop.Stop.TheVariants as stop
 use Rattle.lua_basic.specs.Seen.{less_steps}

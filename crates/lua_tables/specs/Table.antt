@@ -1,15 +1,15 @@
 -- THE FUNCTIONS OF `table`, and what each gives.
 use Rattle.std.specs.Prelude.{◌≡◌, List, Option, Some, None}
-use Rattle.lua_heap.specs.Proc.{Proc}
-use Rattle.lua_heap.specs.Value.{Value}
-use Rattle.lua_heap.specs.Heap.{Heap}
-use Rattle.lua_heap.specs.declared.library.Library.{Library}
-use Rattle.lua_heap.specs.declared.library.Library.TheVariants.{TableConcat, TableInsert, TableMaxn, TableRemove, TableSort}
-use Rattle.lua_meaning.specs.World.{World}
-use Rattle.lua_meaning.specs.Acts.{Frame}
-use Rattle.lua_meaning.specs.Arguments.{Plain}
-use Rattle.lua_meaning.specs.TableLibrary.{concat, insert, maxn, remove, sort}
-use Rattle.lua_meaning.specs.Libraries.{Answers, form}
+use Rattle.lua_basic.specs.LuaHeapProc.{Proc}
+use Rattle.lua_basic.specs.LuaHeapValue.{Value}
+use Rattle.lua_basic.specs.LuaHeapHeap.{Heap}
+use Rattle.lua_basic.specs.LuaHeapDeclaredLibraryLibrary.{Library}
+use Rattle.lua_basic.specs.LuaHeapDeclaredLibraryLibraryTheVariants.{TableConcat, TableInsert, TableMaxn, TableRemove, TableSort}
+use Rattle.lua_basic.specs.LuaMeaningWorld.{World}
+use Rattle.lua_basic.specs.LuaMeaningActs.{Frame}
+use Rattle.lua_basic.specs.LuaMeaningArguments.{Plain}
+use Rattle.lua_basic.specs.LuaMeaningTableLibrary.{concat, insert, maxn, remove, sort}
+use Rattle.lua_basic.specs.LuaMeaningLibraries.{Answers, form}
 use Rattle.lua_tables.specs.declared.table.TableFunction.{TableFunction}
 use Rattle.lua_tables.specs.declared.table.TableFunction.TheVariants as own
 

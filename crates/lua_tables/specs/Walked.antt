@@ -1,13 +1,13 @@
 -- WHAT READING GIVES that ends at the first value that a test refuses, and the steps that it takes: one for each value that it reads.
 use Rattle.std.specs.Prelude.{◌≡◌, ℕ, suc, Bool, List, length, Result, Ok, Err}
-use Rattle.lua_heap.specs.Value as kind
-use Rattle.wk_base.specs.declared.left.Left.{Left}
-use Rattle.lua_store.specs.Seen.{StoreView, seen}
-use Rattle.lua_store.specs.Parts.{IsOf}
+use Rattle.lua_basic.specs.LuaHeapValue as kind
+use Rattle.lua_number.specs.WkBaseDeclaredLeftLeft.{Left}
+use Rattle.lua_basic.specs.LuaStoreSeen.{StoreView, seen}
+use Rattle.lua_basic.specs.LuaStoreParts.{IsOf}
 use Rattle.lua_basic.specs.declared.stop.Stop.{Stop}
 use Rattle.lua_basic.specs.declared.stop.Stop.TheVariants as stop
 use Rattle.lua_basic.specs.Seen.{values_seen, AllOf}
-use Rattle.lua_meaning.specs.TableLibrary.{Walk, PassedAll, Refused, is_part, may_stand}
+use Rattle.lua_basic.specs.LuaMeaningTableLibrary.{Walk, PassedAll, Refused, is_part, may_stand}
 use Rattle.lua_tables.specs.declared.walking.Wanted.{Wanted}
 use Rattle.lua_tables.specs.declared.walking.Wanted.TheVariants as wanted
 use Rattle.lua_tables.specs.declared.walking.Walked.{Walked}

@@ -1,5 +1,5 @@
 //! A function of `table` is called.
-ghost use Rattle.lua_store.specs.Parts.{IsLater};
+ghost use Rattle.lua_basic.specs.LuaStoreParts.{IsLater};
 ghost use Rattle.lua_basic.specs.Seen.{values_seen, AllOf, Paid, AnswerOf};
 ghost use Rattle.lua_tables.specs.Table.{answer_of};
 
@@ -9,10 +9,8 @@ use crate::joining::concat;
 use crate::removing::remove;
 use crate::sorting::sort;
 use crate::table::TableFunction;
-use lua_basic::Stop;
-use lua_store::{Store, Value};
+use lua_basic::{Left, List, Stop, Store, Value};
 use std::alloc::Global;
-use wk_base::{Left, List};
 
 /// What a function of `table` gives for these arguments, after its charge.
 ///

@@ -1,17 +1,16 @@
 //! Further arguments of functions of the library (manual 5). `given` are the arguments from number n on.
 ghost use Rattle.std.specs.Prelude.{◌≡◌, Ok, IfOk, IfErr, OnOk};
-ghost use Rattle.lua_heap.specs.Value as kind;
-ghost use Rattle.lua_store.specs.Parts.{IsLater};
+ghost use Rattle.lua_basic.specs.LuaHeapValue as kind;
+ghost use Rattle.lua_basic.specs.LuaStoreParts.{IsLater};
 ghost use Rattle.lua_basic.specs.Arguments.{text_bytes};
 ghost use Rattle.lua_basic.specs.Seen.{values_seen, AllOf, StopOf, Refuses};
-ghost use Rattle.lua_meaning.specs.Checks as meaning;
+ghost use Rattle.lua_basic.specs.LuaMeaningChecks as meaning;
 
-use lua_basic::Stop;
 use lua_basic::arguments::a_text;
 use lua_basic::messages::refuse_kind;
 use lua_basic::texts::TextIn;
 use lua_basic::values::{first, is_nil};
-use lua_store::{Store, Value};
+use lua_basic::{Stop, Store, Value};
 use std::alloc::Global;
 
 /// A text that may be left out, or be nil.

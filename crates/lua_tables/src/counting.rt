@@ -1,19 +1,17 @@
 //! `maxn` (manual 5.5).
 ghost use Rattle.std.specs.Prelude.{◌≡◌, ℕ, List as Items};
-ghost use Rattle.lua_heap.specs.Heap.{table_at};
-ghost use Rattle.lua_store.specs.Seen.{seen};
-ghost use Rattle.lua_store.specs.Parts.{IsTableOf, IsLater};
+ghost use Rattle.lua_basic.specs.LuaHeapHeap.{table_at};
+ghost use Rattle.lua_basic.specs.LuaStoreSeen.{seen};
+ghost use Rattle.lua_basic.specs.LuaStoreParts.{IsTableOf, IsLater};
 ghost use Rattle.lua_basic.specs.Seen.{values_seen, AllOf, Paid, AnswerOf};
 ghost use Rattle.lua_tables.specs.Counted.{Counts};
-ghost use Rattle.lua_meaning.specs.TableLibrary as meaning;
+ghost use Rattle.lua_basic.specs.LuaMeaningTableLibrary as meaning;
 
 use crate::paying::take;
-use lua_basic::Stop;
 use lua_basic::arguments::a_table;
 use lua_basic::values::{is_nil, single};
-use lua_store::{Store, TableId, Value};
+use lua_basic::{Left, List, Stop, Store, TableId, Value};
 use std::alloc::Global;
-use wk_base::{Left, List};
 
 /// The number that a key is, or 0.
 fn number_key(key: Value) -> i64

@@ -1,25 +1,24 @@
 //! `insert` (manual 5.5).
 ghost use Rattle.std.specs.Prelude.{◌≡◌, ◌+◌, ◌+ℤ◌, ◌<ℤ◌, ◌≤ℤ◌, ◌∷◌, pos, false, OnOk};
-ghost use Rattle.lua_heap.specs.Heap.{table_at};
-ghost use Rattle.lua_heap.specs.Table as entries;
-ghost use Rattle.lua_meaning.specs.Basic.{count_between, entries_from};
-ghost use Rattle.lua_store.specs.Seen.{seen};
-ghost use Rattle.lua_store.specs.Parts.{IsOf, IsTableOf, IsLater};
+ghost use Rattle.lua_basic.specs.LuaHeapHeap.{table_at};
+ghost use Rattle.lua_basic.specs.LuaHeapTable as entries;
+ghost use Rattle.lua_basic.specs.LuaMeaningBasic.{count_between, entries_from};
+ghost use Rattle.lua_basic.specs.LuaStoreSeen.{seen};
+ghost use Rattle.lua_basic.specs.LuaStoreParts.{IsOf, IsTableOf, IsLater};
 ghost use Rattle.lua_basic.specs.Seen.{values_seen, AllOf, Paid, AnswerOf};
-ghost use Rattle.lua_meaning.specs.TableLibrary as meaning;
+ghost use Rattle.lua_basic.specs.LuaMeaningTableLibrary as meaning;
 ghost use Rattle.lua_tables.specs.Moves.{last_put};
 
 use crate::paying::take_both;
 use crate::places::{
     count_to, entry_charge, place_behind, put_at, put_from, read_onto, value_behind,
 };
-use lua_basic::Stop;
 use lua_basic::arguments::{a_number, a_table};
 use lua_basic::messages::{fail, refuse};
 use lua_basic::values::{rest, second, single, third};
-use lua_store::{Store, TableId, Value};
+use lua_basic::{Left, List, Stop, Store, TableId, Value};
+use lua_number::NoMemory;
 use std::alloc::Global;
-use wk_base::{Left, List, NoMemory};
 
 /// The value that is put last: what stood at the border, or where nothing moves the inserted value itself.
 fn last_of(store: &Store, table: TableId, place: i64, moved: u64, value: Value) -> Value

@@ -1,26 +1,25 @@
 //! `concat` (manual 5.5).
 ghost use Rattle.std.specs.Prelude.{◌≡◌, ◌++◌, ◌+◌, ◌+ℤ◌, ℕ, List as Items, pos, length, IfOk, OnOk};
-ghost use Rattle.lua_heap.specs.Heap.{table_at};
-ghost use Rattle.lua_meaning.specs.Arguments.{fails, gives_text};
-ghost use Rattle.lua_store.specs.Seen.{seen};
-ghost use Rattle.lua_store.specs.Parts.{IsOf, IsTableOf, IsLater};
+ghost use Rattle.lua_basic.specs.LuaHeapHeap.{table_at};
+ghost use Rattle.lua_basic.specs.LuaMeaningArguments.{fails, gives_text};
+ghost use Rattle.lua_basic.specs.LuaStoreSeen.{seen};
+ghost use Rattle.lua_basic.specs.LuaStoreParts.{IsOf, IsTableOf, IsLater};
 ghost use Rattle.lua_basic.specs.Seen.{values_seen, AllOf, Paid, Stops, StopOf, AnswerOf};
 ghost use Rattle.lua_basic.specs.Arguments.{text_bytes};
 ghost use Rattle.lua_tables.specs.Paying.{Takes};
-ghost use Rattle.lua_meaning.specs.TableLibrary as meaning;
+ghost use Rattle.lua_basic.specs.LuaMeaningTableLibrary as meaning;
 
 use crate::checks::text_or;
 use crate::paying::take_both;
 use crate::places::{place_behind, split};
 use crate::walking::{Walked, Wanted, walk};
-use lua_basic::Stop;
 use lua_basic::arguments::{a_table, number_or};
 use lua_basic::messages::fail;
 use lua_basic::texts::{TextIn, text_in};
 use lua_basic::values::{rest, single};
-use lua_store::{Store, TableId, Value};
+use lua_basic::{Left, List, Stop, Store, TableId, Value};
+use lua_number::NoMemory;
 use std::alloc::Global;
-use wk_base::{Left, List, NoMemory};
 
 /// The text of a string or a number; of any other value the empty one.
 fn part<'b>(alloc: Global, store: &Store<'b>, value: Value) -> Result<TextIn<'b>, NoMemory>

@@ -30,4 +30,5 @@ pub mod table;
 pub mod walking;
 
 pub use call::table_call;
+pub use lua_basic::{Left, Library, Stop, Store, TableId, Value};
 pub use table::{TableFunction, table_function};

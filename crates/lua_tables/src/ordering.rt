@@ -3,20 +3,20 @@ ghost use Rattle.std.specs.Prelude.{◌≡◌, ◌++◌, ◌∷◌, [], ℕ, Lis
 ghost use Rattle.std.specs.Ordering.{nat_cmp, int_cmp};
 ghost use Rattle.std.specs.Cmp.Lexicographic.{slice_cmp};
 ghost use Rattle.std.specs.Borrow.{Bor};
-ghost use Rattle.lua_heap.specs.Value as kind;
-ghost use Rattle.lua_meaning.specs.Values.{first};
-ghost use Rattle.lua_store.specs.Parts.{IsOf, IsLater};
-ghost use Rattle.lua_store.specs.Seen.{StoreView, seen};
+ghost use Rattle.lua_basic.specs.LuaHeapValue as kind;
+ghost use Rattle.lua_basic.specs.LuaMeaningValues.{first};
+ghost use Rattle.lua_basic.specs.LuaStoreParts.{IsOf, IsLater};
+ghost use Rattle.lua_basic.specs.LuaStoreSeen.{StoreView, seen};
 ghost use Rattle.lua_basic.specs.Seen.{values_seen, AllOf};
 ghost use Rattle.lua_tables.specs.Kinds as kinds;
-ghost use Rattle.lua_meaning.specs.TableLibrary as meaning;
+ghost use Rattle.lua_basic.specs.LuaMeaningTableLibrary as meaning;
 
 use crate::places::split;
 use crate::walking::is_number;
 use lua_basic::values::{copy, first};
-use lua_store::{Store, Value};
+use lua_basic::{List, Store, Value};
+use lua_number::NoMemory;
 use std::alloc::Global;
-use wk_base::{List, NoMemory};
 
 /// A value behind numbers, if it is one.
 fn add_number(numbers: &mut List<i64>, value: Value) -> Result<(), NoMemory>

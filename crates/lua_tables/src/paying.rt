@@ -1,11 +1,10 @@
 //! Charges of several parts.
 ghost use Rattle.std.specs.Prelude.{◌≡◌, ◌+◌, ◌^◌, ◌<◌};
 ghost use Rattle.lua_tables.specs.Paying.{Takes};
-ghost use Rattle.lua_meaning.specs.TableLibrary as meaning;
+ghost use Rattle.lua_basic.specs.LuaMeaningTableLibrary as meaning;
 
-use lua_basic::Stop;
 use lua_basic::stop::pay;
-use wk_base::Left;
+use lua_basic::{Left, Stop};
 
 /// Takes so many steps, or all that are left where that is fewer.
 pub(crate) fn take(left: &mut Left, steps: u64) -> Result<(), Stop>

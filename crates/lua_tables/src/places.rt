@@ -1,19 +1,19 @@
 //! Values are read and put at places of a table.
 ghost use Rattle.std.specs.Prelude.{◌≡◌, ◌≤◌, ◌+ℤ◌, ◌-ℤ◌, ◌<ℤ◌, ◌≤ℤ◌, ◌++◌, pos, false, length, OnOk, MatchOption};
 ghost use Rattle.std.specs.Prelude.{◌∷◌, []};
-ghost use Rattle.lua_heap.specs.Heap.{table_at, set_in};
-ghost use Rattle.lua_heap.specs.Table.{get};
-ghost use Rattle.lua_heap.specs.Value as kind;
-ghost use Rattle.lua_meaning.specs.Basic.{set_charge, entries_from, count_between};
-ghost use Rattle.lua_store.specs.Seen.{seen};
-ghost use Rattle.lua_store.specs.Parts.{IsOf, IsTableOf, IsLater};
+ghost use Rattle.lua_basic.specs.LuaHeapHeap.{table_at, set_in};
+ghost use Rattle.lua_basic.specs.LuaHeapTable.{get};
+ghost use Rattle.lua_basic.specs.LuaHeapValue as kind;
+ghost use Rattle.lua_basic.specs.LuaMeaningBasic.{set_charge, entries_from, count_between};
+ghost use Rattle.lua_basic.specs.LuaStoreSeen.{seen};
+ghost use Rattle.lua_basic.specs.LuaStoreParts.{IsOf, IsTableOf, IsLater};
 ghost use Rattle.lua_basic.specs.Seen.{values_seen, AllOf};
-ghost use Rattle.lua_meaning.specs.TableLibrary as meaning;
+ghost use Rattle.lua_basic.specs.LuaMeaningTableLibrary as meaning;
 
 use lua_basic::values::is_nil;
-use lua_store::{Store, TableId, Value};
+use lua_basic::{List, Store, TableId, Value};
+use lua_number::NoMemory;
 use lua_table::SetFault;
-use wk_base::{List, NoMemory};
 
 /// The first item, and those behind it.
 pub(crate) fn split<T: Copy>(items: &[T]) -> Option<(T, &[T])>

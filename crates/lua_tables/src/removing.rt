@@ -1,21 +1,19 @@
 //! `remove` (manual 5.5).
 ghost use Rattle.std.specs.Prelude.{◌≡◌, ◌+ℤ◌, ◌≤ℤ◌, pos, suc, false};
-ghost use Rattle.lua_heap.specs.Heap.{table_at};
-ghost use Rattle.lua_heap.specs.Table as entries;
-ghost use Rattle.lua_meaning.specs.Basic.{count_between, entries_from};
-ghost use Rattle.lua_store.specs.Parts.{IsTableOf, IsLater};
+ghost use Rattle.lua_basic.specs.LuaHeapHeap.{table_at};
+ghost use Rattle.lua_basic.specs.LuaHeapTable as entries;
+ghost use Rattle.lua_basic.specs.LuaMeaningBasic.{count_between, entries_from};
+ghost use Rattle.lua_basic.specs.LuaStoreParts.{IsTableOf, IsLater};
 ghost use Rattle.lua_basic.specs.Seen.{values_seen, AllOf, Paid, AnswerOf};
-ghost use Rattle.lua_meaning.specs.TableLibrary as meaning;
+ghost use Rattle.lua_basic.specs.LuaMeaningTableLibrary as meaning;
 
 use crate::paying::take_both;
 use crate::places::{count_to, put_from, read_onto, value_behind};
-use lua_basic::Stop;
 use lua_basic::arguments::{a_table, number_or};
 use lua_basic::messages::fail;
 use lua_basic::values::{rest, single};
-use lua_store::{Store, TableId, Value};
+use lua_basic::{Left, List, Stop, Store, TableId, Value};
 use std::alloc::Global;
-use wk_base::{Left, List};
 
 /// Gives the value at a place, and puts what stands behind it, of so many from the place on, one place nearer. The last is cleared.
 fn remove_values(

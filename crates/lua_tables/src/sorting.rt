@@ -1,27 +1,25 @@
 //! `sort` (manual 5.5).
 ghost use Rattle.std.specs.Prelude.{◌≡◌, ◌≤◌, ℕ, List as Items, pos, length};
-ghost use Rattle.lua_heap.specs.Heap.{table_at};
-ghost use Rattle.lua_heap.specs.Table as entries;
-ghost use Rattle.lua_heap.specs.Value as kind;
-ghost use Rattle.lua_meaning.specs.Basic.{entries_from};
-ghost use Rattle.lua_meaning.specs.Values.{first};
-ghost use Rattle.lua_store.specs.Seen.{seen};
-ghost use Rattle.lua_store.specs.Parts.{IsTableOf, IsLater};
+ghost use Rattle.lua_basic.specs.LuaHeapHeap.{table_at};
+ghost use Rattle.lua_basic.specs.LuaHeapTable as entries;
+ghost use Rattle.lua_basic.specs.LuaHeapValue as kind;
+ghost use Rattle.lua_basic.specs.LuaMeaningBasic.{entries_from};
+ghost use Rattle.lua_basic.specs.LuaMeaningValues.{first};
+ghost use Rattle.lua_basic.specs.LuaStoreSeen.{seen};
+ghost use Rattle.lua_basic.specs.LuaStoreParts.{IsTableOf, IsLater};
 ghost use Rattle.lua_basic.specs.Seen.{values_seen, AllOf, Paid, AnswerOf};
-ghost use Rattle.lua_meaning.specs.TableLibrary as meaning;
+ghost use Rattle.lua_basic.specs.LuaMeaningTableLibrary as meaning;
 
 use crate::checks::a_nil;
 use crate::ordering::in_order;
 use crate::paying::take_sort;
 use crate::places::{count_to, put_from};
 use crate::walking::{Walked, Wanted, is_number, walk};
-use lua_basic::Stop;
 use lua_basic::arguments::a_table;
 use lua_basic::messages::{fail, refuse_kind};
 use lua_basic::values::rest;
-use lua_store::{Store, TableId, Value};
+use lua_basic::{Left, List, Stop, Store, TableId, Value};
 use std::alloc::Global;
-use wk_base::{Left, List};
 
 /// The kind of values that were wanted, where this one is the first.
 fn wanted_kind(one: Value) -> &'static [u8]

@@ -2,7 +2,7 @@
 ghost use Rattle.std.specs.Prelude.{◌≡◌};
 ghost use Rattle.lua_tables.specs.Table.{table_function_in, AreInTable};
 
-use lua_store::Library;
+use lua_basic::Library;
 
 /// A function of `table` (manual 5.5).
 #[derive(Clone, Copy, Debug, PartialEq, Eq)]

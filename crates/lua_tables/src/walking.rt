@@ -1,17 +1,15 @@
 //! Values of a table are read, one place after another, up to the first one that a test refuses.
 ghost use Rattle.std.specs.Prelude.{◌≡◌, ◌+ℤ◌, ◌<◌, ◌≤◌, ℕ, pos, List as Items, MatchOption};
-ghost use Rattle.lua_heap.specs.Heap.{table_at};
-ghost use Rattle.lua_meaning.specs.Basic.{entries_from, count_between};
-ghost use Rattle.lua_store.specs.Seen.{seen};
-ghost use Rattle.lua_store.specs.Parts.{IsTableOf};
-ghost use Rattle.lua_meaning.specs.TableLibrary as meaning;
+ghost use Rattle.lua_basic.specs.LuaHeapHeap.{table_at};
+ghost use Rattle.lua_basic.specs.LuaMeaningBasic.{entries_from, count_between};
+ghost use Rattle.lua_basic.specs.LuaStoreSeen.{seen};
+ghost use Rattle.lua_basic.specs.LuaStoreParts.{IsTableOf};
+ghost use Rattle.lua_basic.specs.LuaMeaningTableLibrary as meaning;
 ghost use Rattle.lua_tables.specs.Walked.{test_of, Walks};
 
 use crate::paying::take;
-use lua_basic::Stop;
-use lua_store::{Store, TableId, Value};
+use lua_basic::{Left, List, Stop, Store, TableId, Value};
 use std::alloc::Global;
-use wk_base::{Left, List};
 
 /// What the values have to be.
 #[derive(Clone, Copy, Debug, PartialEq, Eq)]

@@ -8,3 +8,4 @@
 pub mod by_title;
 
 pub use by_title::ByTitle;
+pub use wk_base::Steps;

@@ -1,24 +1,24 @@
 -- WHAT BEGINS WITH A NODE, and waits for an expression.
 use Rattle.std.proofs.Common.{◌≡◌, ◌-◌, ◌+◌, ℕ, Bool, true, false, List, [], ◌∷◌, refl, subst, arith}
-use Rattle.wk_base.specs.declared.left.Left.{Left}
-use Rattle.lua_store.specs.Seen.{StoreView}
-use Rattle.lua_slots.specs.Code.{CExp, NoC, MoreC, CTarget, CWorld}
-use Rattle.lua_slots.specs.Slots.{Slots}
-use Rattle.lua_slots.specs.Calls.{constants_of}
-use Rattle.lua_slots.specs.Points.{STarget, SFrame, DecideNext, MoreNext, AssignNow, Point, Evals, Lists, Finds, Now}
-use Rattle.lua_slots.specs.Errors.{node}
-use Rattle.lua_slots.specs.Moves.{moves}
-use Rattle.lua_in_place.specs.Laws.{after_nodes}
-use Rattle.lua_in_place.proofs.Reading.{node_move, reach_then}
-use Rattle.lua_in_place.proofs.Statements.{LeadsFree, free, free_then}
-use Rattle.lua_stack.specs.declared.focus.Focus.{Focus}
-use Rattle.lua_stack.specs.declared.frame.Frame.{Frame}
-use Rattle.lua_stack.specs.Seen.{focus_seen, frame_seen, frames_seen}
-use Rattle.lua_stack.specs.Of.{FocusOf, FrameOf, FramesOf}
-use Rattle.lua_state.specs.declared.state.State.{State}
-use Rattle.lua_state.specs.Seen.{slots_of, frames_of}
-use Rattle.lua_state.specs.Of.{StateOf}
-use Rattle.lua_state.specs.Worlds.{world_seen}
+use Rattle.lua_loops.specs.WkBaseDeclaredLeftLeft.{Left}
+use Rattle.lua_operators.specs.LuaStoreSeen.{StoreView}
+use Rattle.lua_code.specs.LuaSlotsCode.{CExp, NoC, MoreC, CTarget, CWorld}
+use Rattle.lua_operators.specs.LuaSlotsSlots.{Slots}
+use Rattle.lua_loops.specs.LuaSlotsCalls.{constants_of}
+use Rattle.lua_operators.specs.LuaSlotsPoints.{STarget, SFrame, DecideNext, MoreNext, AssignNow, Point, Evals, Lists, Finds, Now}
+use Rattle.lua_operators.specs.LuaSlotsErrors.{node}
+use Rattle.lua_loops.specs.LuaSlotsMoves.{moves}
+use Rattle.lua_strides.specs.LuaInPlaceLaws.{after_nodes}
+use Rattle.lua_strides.proofs.LuaInPlaceReading.{node_move, reach_then}
+use Rattle.lua_strides.proofs.LuaInPlaceStatements.{LeadsFree, free, free_then}
+use Rattle.lua_strides.specs.LuaStackDeclaredFocusFocus.{Focus}
+use Rattle.lua_strides.specs.LuaStackDeclaredFrameFrame.{Frame}
+use Rattle.lua_operators.specs.LuaStackSeen.{focus_seen, frame_seen, frames_seen}
+use Rattle.lua_operators.specs.LuaStackOf.{FocusOf, FrameOf, FramesOf}
+use Rattle.lua_strides.specs.LuaStateDeclaredStateState.{State}
+use Rattle.lua_loops.specs.LuaStateSeen.{slots_of, frames_of}
+use Rattle.lua_loops.specs.LuaStateOf.{StateOf}
+use Rattle.lua_loops.specs.LuaStateWorlds.{world_seen}
 use Rattle.lua_strides.specs.Strides.{PaysNodes, LeadsAt, Ready, Strides}
 use Rattle.lua_strides.proofs.Paths.{with_frames, ready, at_once, strode}
 use Rattle.lua_turns.specs.Assigning.{IsFoundAt}

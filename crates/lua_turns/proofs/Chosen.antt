@@ -1,20 +1,20 @@
 -- TESTS that have their value.
 use Rattle.std.proofs.Common.{◌≡◌, ◌∙◌, ◌+◌, ◌-◌, ℕ, Bool, true, false, List, [], ◌∷◌, length, Option, Some, None, refl, sym, ap, arith}
-use Rattle.page_run.specs.Outcome.{Goes}
-use Rattle.page_run.specs.Perform.{less}
-use Rattle.page_run.proofs.Less.{less_of}
-use Rattle.lua_heap.specs.Value.{Value, is_true}
-use Rattle.lua_slots.specs.Code.{CExp, CBlock, ThenC, CArms, NoArmC, ArmC, CWorld}
-use Rattle.lua_slots.specs.Slots.{Slots}
-use Rattle.lua_slots.specs.Points.{WhileTurnS, SFrame, BranchNext, StatsNext, WhileTest, WhileEnd, Point, Gives, Evals, Runs, Starts, Move, Marks, Now}
-use Rattle.lua_slots.specs.Errors.{node, choose, gives}
-use Rattle.lua_slots.specs.Expressions.{decides}
-use Rattle.lua_slots.specs.Moves.{moves}
-use Rattle.lua_slots.specs.Statements.{within, otherwise, branches}
-use Rattle.lua_slots.specs.Enact.{Stands, paid, enact}
-use Rattle.lua_goes.specs.Going.{here, further}
-use Rattle.lua_in_place.proofs.Reading.{with_count}
-use Rattle.lua_in_place.proofs.Statements.{Leads, free, free_first}
+use Rattle.lua_loops.specs.PageRunOutcome.{Goes}
+use Rattle.lua_code.specs.PageRunPerform.{less}
+use Rattle.lua_code.proofs.PageRunLess.{less_of}
+use Rattle.lua_code.specs.LuaHeapValue.{Value, is_true}
+use Rattle.lua_code.specs.LuaSlotsCode.{CExp, CBlock, ThenC, CArms, NoArmC, ArmC, CWorld}
+use Rattle.lua_operators.specs.LuaSlotsSlots.{Slots}
+use Rattle.lua_operators.specs.LuaSlotsPoints.{WhileTurnS, SFrame, BranchNext, StatsNext, WhileTest, WhileEnd, Point, Gives, Evals, Runs, Starts, Move, Marks, Now}
+use Rattle.lua_operators.specs.LuaSlotsErrors.{node, choose, gives}
+use Rattle.lua_code.specs.LuaSlotsExpressions.{decides}
+use Rattle.lua_loops.specs.LuaSlotsMoves.{moves}
+use Rattle.lua_code.specs.LuaSlotsStatements.{within, otherwise, branches}
+use Rattle.lua_operators.specs.LuaSlotsEnact.{Stands, paid, enact}
+use Rattle.lua_strides.specs.LuaGoesGoing.{here, further}
+use Rattle.lua_strides.proofs.LuaInPlaceReading.{with_count}
+use Rattle.lua_strides.proofs.LuaInPlaceStatements.{Leads, free, free_first}
 use Rattle.lua_strides.specs.Conditions.{if_seen}
 use Rattle.lua_strides.specs.Strides.{LeadsAt}
 use Rattle.lua_strides.proofs.Paths.{at_once}

@@ -1,48 +1,48 @@
 -- A FUNCTION OF LUA IS ENTERED, from where its arguments reach the frame that calls it.
 use Rattle.std.proofs.Common.{◌≡◌, ◌∙◌, ◌≤◌, ◌+◌, ◌-◌, ℕ, Bool, true, false, List, [], ◌∷◌, length, Option, Some, None, refl, sym, ap, subst, arith}
 use Rattle.std.specs.Prelude.{IfSome}
-use Rattle.wk_base.specs.declared.left.Left.{Left}
-use Rattle.page_run.specs.Outcome.{Goes}
-use Rattle.page_run.specs.Perform.{less}
-use Rattle.page_run.specs.State.{Tally, no_tally}
-use Rattle.page_run.proofs.Less.{less_of}
-use Rattle.lua_heap.specs.Proc.{Proc}
-use Rattle.lua_heap.specs.Heap.{Heap, Function as FunctionClosed, closure_at, Closed}
-use Rattle.lua_heap.specs.Value.{Value as Plain, Closure}
-use Rattle.lua_store.specs.declared.ids.ClosureId.{ClosureId}
-use Rattle.lua_store.specs.declared.value.Value.{Value}
-use Rattle.lua_store.specs.Seen.{StoreView}
-use Rattle.lua_store.specs.Parts.{IsLater}
-use Rattle.lua_slots.specs.Calls.{call, enter, enters_body, body_of, code_of, slots_in_body}
-use Rattle.lua_slots.specs.Code.{CProto, CWorld}
-use Rattle.lua_slots.specs.Enact.{Funds, Enacted, Stands, Short, paid, calling, enact}
-use Rattle.lua_slots.specs.Errors.{gives}
-use Rattle.lua_slots.specs.Moves.{moves}
-use Rattle.lua_slots.specs.Points.{BodyS, BodyEnd, SFrame, Point, Gives, Runs, Starts, Move, Costs, Marks, Enters, Now}
-use Rattle.lua_slots.specs.Slots.{Slots, with_all}
-use Rattle.lua_goes.specs.Going.{Reaches, here, further}
+use Rattle.lua_loops.specs.WkBaseDeclaredLeftLeft.{Left}
+use Rattle.lua_loops.specs.PageRunOutcome.{Goes}
+use Rattle.lua_code.specs.PageRunPerform.{less}
+use Rattle.lua_operators.specs.PageRunState.{Tally, no_tally}
+use Rattle.lua_code.proofs.PageRunLess.{less_of}
+use Rattle.lua_code.specs.LuaHeapProc.{Proc}
+use Rattle.lua_code.specs.LuaHeapHeap.{Heap, Function as FunctionClosed, closure_at, Closed}
+use Rattle.lua_code.specs.LuaHeapValue.{Value as Plain, Closure}
+use Rattle.lua_operators.specs.LuaStoreDeclaredIdsClosureId.{ClosureId}
+use Rattle.lua_operators.specs.LuaStoreDeclaredValueValue.{Value}
+use Rattle.lua_operators.specs.LuaStoreSeen.{StoreView}
+use Rattle.lua_operators.specs.LuaStoreParts.{IsLater}
+use Rattle.lua_loops.specs.LuaSlotsCalls.{call, enter, enters_body, body_of, code_of, slots_in_body}
+use Rattle.lua_code.specs.LuaSlotsCode.{CProto, CWorld}
+use Rattle.lua_operators.specs.LuaSlotsEnact.{Funds, Enacted, Stands, Short, paid, calling, enact}
+use Rattle.lua_operators.specs.LuaSlotsErrors.{gives}
+use Rattle.lua_loops.specs.LuaSlotsMoves.{moves}
+use Rattle.lua_operators.specs.LuaSlotsPoints.{BodyS, BodyEnd, SFrame, Point, Gives, Runs, Starts, Move, Costs, Marks, Enters, Now}
+use Rattle.lua_operators.specs.LuaSlotsSlots.{Slots, with_all}
+use Rattle.lua_strides.specs.LuaGoesGoing.{Reaches, here, further}
 use Rattle.lua_loops.proofs.Beginning.{with_parts}
 use Rattle.lua_loops.proofs.Entering.{with_codes, with_codes_of, entered, functions_of, body_slots}
-use Rattle.lua_stack.specs.declared.activation.Activation.{Activation}
-use Rattle.lua_stack.specs.declared.activation.Callee.{Callee}
-use Rattle.lua_stack.specs.declared.focus.Focus.{Focus}
-use Rattle.lua_stack.specs.declared.focus.Focus.TheVariants as focus
-use Rattle.lua_stack.specs.declared.frame.Ending.TheVariants as ending
-use Rattle.lua_stack.specs.declared.frame.Frame.{Frame}
-use Rattle.lua_stack.specs.declared.frame.Frame.TheVariants as frame
-use Rattle.lua_stack.specs.declared.register.Slot.{Slot}
-use Rattle.lua_stack.specs.declared.values.Given.TheVariants as given
-use Rattle.lua_stack.specs.Of.{CalleeOf, FocusOf, FramesOf, RegistersOf, ValuesOf}
-use Rattle.lua_stack.specs.Seen.{callee_seen, focus_seen, frame_seen, frames_seen, registers_seen, values_seen}
-use Rattle.lua_stack.proofs.Stay.{frames_later}
-use Rattle.lua_state.specs.declared.codes.Codes.{Codes}
-use Rattle.lua_state.specs.declared.state.State.{State}
-use Rattle.lua_state.specs.Charges.{EntersCall}
-use Rattle.lua_state.specs.Of.{StateOf}
-use Rattle.lua_state.specs.Seen.{slots_of, frames_of, funds_of}
-use Rattle.lua_state.specs.Worlds.{world_seen, CodesOf}
-use Rattle.lua_state.proofs.Staying.{state_later}
-use Rattle.lua_store.proofs.Later.{later-itself}
+use Rattle.lua_operators.specs.LuaStackDeclaredActivationActivation.{Activation}
+use Rattle.lua_operators.specs.LuaStackDeclaredActivationCallee.{Callee}
+use Rattle.lua_strides.specs.LuaStackDeclaredFocusFocus.{Focus}
+use Rattle.lua_strides.specs.LuaStackDeclaredFocusFocusTheVariants as focus
+use Rattle.lua_operators.specs.LuaStackDeclaredFrameEndingTheVariants as ending
+use Rattle.lua_strides.specs.LuaStackDeclaredFrameFrame.{Frame}
+use Rattle.lua_operators.specs.LuaStackDeclaredFrameFrameTheVariants as frame
+use Rattle.lua_operators.specs.LuaStackDeclaredRegisterSlot.{Slot}
+use Rattle.lua_strides.specs.LuaStackDeclaredValuesGivenTheVariants as given
+use Rattle.lua_operators.specs.LuaStackOf.{CalleeOf, FocusOf, FramesOf, RegistersOf, ValuesOf}
+use Rattle.lua_operators.specs.LuaStackSeen.{callee_seen, focus_seen, frame_seen, frames_seen, registers_seen, values_seen}
+use Rattle.lua_operators.proofs.LuaStackStay.{frames_later}
+use Rattle.lua_loops.specs.LuaStateDeclaredCodesCodes.{Codes}
+use Rattle.lua_strides.specs.LuaStateDeclaredStateState.{State}
+use Rattle.lua_loops.specs.LuaStateCharges.{EntersCall}
+use Rattle.lua_loops.specs.LuaStateOf.{StateOf}
+use Rattle.lua_loops.specs.LuaStateSeen.{slots_of, frames_of, funds_of}
+use Rattle.lua_loops.specs.LuaStateWorlds.{world_seen, CodesOf}
+use Rattle.lua_loops.proofs.LuaStateStaying.{state_later}
+use Rattle.lua_operators.proofs.LuaStoreLater.{later-itself}
 use Rattle.lua_turns.specs.Rows.{Follows}
 use Rattle.lua_turns.proofs.Freely.{below_of}
 

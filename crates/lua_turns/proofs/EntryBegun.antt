@@ -1,14 +1,14 @@
 -- AN ASSIGNMENT TO AN ENTRY whose table and key are read in place: its one value is still to be evaluated.
 use Rattle.std.proofs.Common.{◌≡◌, ℕ, ◌+◌, List, [], ◌∷◌, Some, refl}
-use Rattle.page_run.specs.Outcome.{Goes}
-use Rattle.lua_heap.specs.Value.{Value}
-use Rattle.lua_slots.specs.Code.{CExp, NoC, MoreC, EntryC, AssignC, CBlock, ThenC, CWorld}
-use Rattle.lua_slots.specs.Slots.{Slots}
-use Rattle.lua_slots.specs.Calls.{constants_of}
-use Rattle.lua_slots.specs.Points.{EntryS, SFrame, MoreNext, TargetKey, TargetNow, AssignNow, StatsNext, Gives, Evals, Lists, Finds, Runs}
-use Rattle.lua_in_place.specs.InPlace.{in_place}
-use Rattle.lua_in_place.proofs.Reading.{reads}
-use Rattle.lua_in_place.proofs.Statements.{Leads, free, free_then, free_first, free_last, joined, behind_node}
+use Rattle.lua_loops.specs.PageRunOutcome.{Goes}
+use Rattle.lua_code.specs.LuaHeapValue.{Value}
+use Rattle.lua_code.specs.LuaSlotsCode.{CExp, NoC, MoreC, EntryC, AssignC, CBlock, ThenC, CWorld}
+use Rattle.lua_operators.specs.LuaSlotsSlots.{Slots}
+use Rattle.lua_loops.specs.LuaSlotsCalls.{constants_of}
+use Rattle.lua_operators.specs.LuaSlotsPoints.{EntryS, SFrame, MoreNext, TargetKey, TargetNow, AssignNow, StatsNext, Gives, Evals, Lists, Finds, Runs}
+use Rattle.lua_strides.specs.LuaInPlaceInPlace.{in_place}
+use Rattle.lua_strides.proofs.LuaInPlaceReading.{reads}
+use Rattle.lua_strides.proofs.LuaInPlaceStatements.{Leads, free, free_then, free_first, free_last, joined, behind_node}
 
 pub entry_begun : (world : CWorld) (s : Slots) (of key e : CExp) (line : ℕ) (o k : Value) (a b : ℕ) → in_place (constants_of world s) of s ≡ Some (o, a) → in_place (constants_of world s) key s ≡ Some (k, b) → (rest : CBlock) (fs : List SFrame)
     → Leads world (Runs (ThenC (AssignC (EntryC of key line ∷ []) (MoreC e NoC)) rest) fs) s (1 + (1 + (a + b))) (Evals e (MoreNext NoC [] ∷ AssignNow (EntryS o k line ∷ []) ∷ StatsNext rest ∷ fs)) s

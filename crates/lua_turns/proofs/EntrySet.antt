@@ -1,32 +1,32 @@
 -- AN ENTRY THAT IS SET, as the machine's moves set it.
 use Rattle.std.proofs.Common.{◌≡◌, ◌∙◌, ◌≤◌, ◌-◌, ℕ, Bool, true, false, List, [], ◌∷◌, Option, Some, refl, sym, ap, subst, arith}
 use Rattle.std.specs.Prelude.{◌||◌, codes}
-use Rattle.wk_base.specs.declared.left.Left.{Left}
-use Rattle.page_run.specs.Outcome.{Goes}
-use Rattle.page_run.proofs.Less.{less_of}
-use Rattle.lua_heap.specs.Proc.{Proc}
-use Rattle.lua_heap.specs.Heap.{Heap, set_in, table_at}
-use Rattle.lua_heap.specs.Table.{get, has}
-use Rattle.lua_heap.specs.Value.{Value, Table, is_nil}
-use Rattle.lua_meaning.specs.Metatables.{handler}
-use Rattle.lua_store.specs.Seen.{StoreView}
-use Rattle.lua_store.specs.Parts.{IsLater}
-use Rattle.lua_slots.specs.Code.{CWorld}
-use Rattle.lua_slots.specs.Enact.{Funds, Stands, enact, paid}
-use Rattle.lua_slots.specs.Errors.{choose, gives}
-use Rattle.lua_slots.specs.Index.{put_entry, set_entry, set_table, with_entry}
-use Rattle.lua_slots.specs.Points.{EntryS, SFrame, SetsNext, Point, Gives, Sets, Move}
-use Rattle.lua_slots.specs.Slots.{Slots, with_heap}
-use Rattle.lua_goes.specs.Going.{Reaches, here, further}
-use Rattle.lua_in_place.proofs.Reading.{reach_then}
-use Rattle.lua_in_place.proofs.Statements.{free, free_then}
-use Rattle.lua_stack.specs.declared.focus.Focus.TheVariants as focus
-use Rattle.lua_stack.specs.declared.values.Given.TheVariants as given
-use Rattle.lua_state.specs.declared.state.State.{State}
-use Rattle.lua_state.specs.Seen.{slots_of, frames_of, funds_of}
-use Rattle.lua_state.specs.Of.{StateOf}
-use Rattle.lua_state.specs.Worlds.{world_seen}
-use Rattle.lua_state.proofs.Staying.{state_later, frames_stay, slots_stay}
+use Rattle.lua_loops.specs.WkBaseDeclaredLeftLeft.{Left}
+use Rattle.lua_loops.specs.PageRunOutcome.{Goes}
+use Rattle.lua_code.proofs.PageRunLess.{less_of}
+use Rattle.lua_code.specs.LuaHeapProc.{Proc}
+use Rattle.lua_code.specs.LuaHeapHeap.{Heap, set_in, table_at}
+use Rattle.lua_code.specs.LuaHeapTable.{get, has}
+use Rattle.lua_code.specs.LuaHeapValue.{Value, Table, is_nil}
+use Rattle.lua_operators.specs.LuaMeaningMetatables.{handler}
+use Rattle.lua_operators.specs.LuaStoreSeen.{StoreView}
+use Rattle.lua_operators.specs.LuaStoreParts.{IsLater}
+use Rattle.lua_code.specs.LuaSlotsCode.{CWorld}
+use Rattle.lua_operators.specs.LuaSlotsEnact.{Funds, Stands, enact, paid}
+use Rattle.lua_operators.specs.LuaSlotsErrors.{choose, gives}
+use Rattle.lua_code.specs.LuaSlotsIndex.{put_entry, set_entry, set_table, with_entry}
+use Rattle.lua_operators.specs.LuaSlotsPoints.{EntryS, SFrame, SetsNext, Point, Gives, Sets, Move}
+use Rattle.lua_operators.specs.LuaSlotsSlots.{Slots, with_heap}
+use Rattle.lua_strides.specs.LuaGoesGoing.{Reaches, here, further}
+use Rattle.lua_strides.proofs.LuaInPlaceReading.{reach_then}
+use Rattle.lua_strides.proofs.LuaInPlaceStatements.{free, free_then}
+use Rattle.lua_strides.specs.LuaStackDeclaredFocusFocusTheVariants as focus
+use Rattle.lua_strides.specs.LuaStackDeclaredValuesGivenTheVariants as given
+use Rattle.lua_strides.specs.LuaStateDeclaredStateState.{State}
+use Rattle.lua_loops.specs.LuaStateSeen.{slots_of, frames_of, funds_of}
+use Rattle.lua_loops.specs.LuaStateOf.{StateOf}
+use Rattle.lua_loops.specs.LuaStateWorlds.{world_seen}
+use Rattle.lua_loops.proofs.LuaStateStaying.{state_later, frames_stay, slots_stay}
 use Rattle.lua_strides.specs.Strides.{Idles}
 use Rattle.lua_strides.proofs.Paths.{idle_here}
 use Rattle.lua_turns.specs.Rows.{Follows}

@@ -2,33 +2,33 @@
 use Rattle.std.proofs.Common.{◌≡◌, ◌∙◌, ◌≤◌, ◌-◌, ◌+◌, ℕ, true, false, List, [], Option, Some, None, refl, ap, subst, arith}
 use Rattle.std.specs.Prelude.{Result, IfOk}
 use Rattle.std.proofs.lemmas.Result.{IfOk-weaker}
-use Rattle.wk_base.specs.declared.left.Left.{Left}
-use Rattle.page_run.specs.State.{Tally}
-use Rattle.lua_store.specs.Seen.{StoreView}
-use Rattle.lua_store.specs.Parts.{IsLater}
-use Rattle.lua_store.proofs.Later.{later-itself, later-then}
-use Rattle.page_run.specs.Outcome.{Goes}
-use Rattle.lua_slots.specs.Code.{CWorld, EndC}
-use Rattle.lua_slots.specs.Slots.{Slots}
-use Rattle.lua_slots.specs.Points.{Point, Gives, Runs}
-use Rattle.lua_slots.specs.Enact.{Funds}
-use Rattle.lua_goes.specs.Going.{Reaches, here}
-use Rattle.lua_in_place.specs.Laws.{after_nodes}
-use Rattle.lua_in_place.proofs.Reading.{reach_then}
-use Rattle.lua_in_place.proofs.Statements.{LeadsFree, free}
+use Rattle.lua_loops.specs.WkBaseDeclaredLeftLeft.{Left}
+use Rattle.lua_operators.specs.PageRunState.{Tally}
+use Rattle.lua_operators.specs.LuaStoreSeen.{StoreView}
+use Rattle.lua_operators.specs.LuaStoreParts.{IsLater}
+use Rattle.lua_operators.proofs.LuaStoreLater.{later-itself, later-then}
+use Rattle.lua_loops.specs.PageRunOutcome.{Goes}
+use Rattle.lua_code.specs.LuaSlotsCode.{CWorld, EndC}
+use Rattle.lua_operators.specs.LuaSlotsSlots.{Slots}
+use Rattle.lua_operators.specs.LuaSlotsPoints.{Point, Gives, Runs}
+use Rattle.lua_operators.specs.LuaSlotsEnact.{Funds}
+use Rattle.lua_strides.specs.LuaGoesGoing.{Reaches, here}
+use Rattle.lua_strides.specs.LuaInPlaceLaws.{after_nodes}
+use Rattle.lua_strides.proofs.LuaInPlaceReading.{reach_then}
+use Rattle.lua_strides.proofs.LuaInPlaceStatements.{LeadsFree, free}
 use Rattle.lua_loops.proofs.Beginning.{with_parts, with_parts_of}
-use Rattle.lua_stack.specs.declared.activation.Activation.{Activation}
-use Rattle.lua_stack.specs.declared.focus.Focus.{Focus}
-use Rattle.lua_stack.specs.declared.frame.Frame.{Frame}
-use Rattle.lua_stack.specs.declared.register.Slot.{Slot}
-use Rattle.lua_stack.specs.Seen.{focus_seen, frames_seen}
-use Rattle.lua_stack.specs.Of.{ActivationsOf, FocusOf, FramesOf, RegistersOf}
-use Rattle.lua_state.specs.declared.state.State.{State}
-use Rattle.lua_state.specs.declared.codes.World.{World}
-use Rattle.lua_state.specs.Seen.{slots_of, frames_of, funds_of}
-use Rattle.lua_state.specs.Of.{StateOf}
-use Rattle.lua_state.specs.Worlds.{world_seen}
-use Rattle.lua_state.proofs.Staying.{state_later}
+use Rattle.lua_operators.specs.LuaStackDeclaredActivationActivation.{Activation}
+use Rattle.lua_strides.specs.LuaStackDeclaredFocusFocus.{Focus}
+use Rattle.lua_strides.specs.LuaStackDeclaredFrameFrame.{Frame}
+use Rattle.lua_operators.specs.LuaStackDeclaredRegisterSlot.{Slot}
+use Rattle.lua_operators.specs.LuaStackSeen.{focus_seen, frames_seen}
+use Rattle.lua_operators.specs.LuaStackOf.{ActivationsOf, FocusOf, FramesOf, RegistersOf}
+use Rattle.lua_strides.specs.LuaStateDeclaredStateState.{State}
+use Rattle.lua_loops.specs.LuaStateDeclaredCodesWorld.{World}
+use Rattle.lua_loops.specs.LuaStateSeen.{slots_of, frames_of, funds_of}
+use Rattle.lua_loops.specs.LuaStateOf.{StateOf}
+use Rattle.lua_loops.specs.LuaStateWorlds.{world_seen}
+use Rattle.lua_loops.proofs.LuaStateStaying.{state_later}
 use Rattle.lua_strides.specs.declared.next.Next.{Next}
 use Rattle.lua_strides.specs.Next.{focus_of}
 use Rattle.lua_strides.specs.Strides.{PaysNodes, LeadsAt, Strides, Idles, MayStride}

@@ -1,35 +1,35 @@
 -- A value, or a jump, reaches the newest frame, and that frame waits no more or another one waits in its place: moves without a charge.
 use Rattle.std.proofs.Common.{◌≡◌, ◌∙◌, ◌-◌, ℕ, zero, suc, List, [], ◌∷◌, length, drop, Some, refl, sym, ap, subst, slice_get, slice_set, arith}
 use Rattle.std.proofs.lemmas.Option.{none-some}
-use Rattle.wk_base.specs.declared.left.Left.{Left}
-use Rattle.page_run.specs.Outcome.{Outcome}
-use Rattle.page_run.specs.State.{no_tally}
-use Rattle.lua_heap.specs.Value.{Value}
-use Rattle.lua_meaning.specs.Acts.{Jump}
-use Rattle.lua_store.specs.Seen.{StoreView}
-use Rattle.lua_store.specs.Parts.{IsLater}
-use Rattle.lua_store.proofs.Later.{later-itself}
-use Rattle.lua_slots.specs.Code.{CWorld}
-use Rattle.lua_slots.specs.Slots.{Slots, newest_function, cut_to}
-use Rattle.lua_slots.specs.Calls.{rest_of, left_function}
-use Rattle.lua_slots.specs.Points.{SFrame, Point, Gives, Move, Exits, Now}
-use Rattle.lua_slots.specs.Moves.{moves}
-use Rattle.lua_slots.specs.Enact.{Funds, Enacted, Stands, Short, back, enact}
-use Rattle.lua_goes.specs.Going.{Reaches, here, further}
-use Rattle.lua_in_place.proofs.Statements.{free}
+use Rattle.lua_loops.specs.WkBaseDeclaredLeftLeft.{Left}
+use Rattle.lua_loops.specs.PageRunOutcome.{Outcome}
+use Rattle.lua_operators.specs.PageRunState.{no_tally}
+use Rattle.lua_code.specs.LuaHeapValue.{Value}
+use Rattle.lua_code.specs.LuaMeaningActs.{Jump}
+use Rattle.lua_operators.specs.LuaStoreSeen.{StoreView}
+use Rattle.lua_operators.specs.LuaStoreParts.{IsLater}
+use Rattle.lua_operators.proofs.LuaStoreLater.{later-itself}
+use Rattle.lua_code.specs.LuaSlotsCode.{CWorld}
+use Rattle.lua_operators.specs.LuaSlotsSlots.{Slots, newest_function, cut_to}
+use Rattle.lua_loops.specs.LuaSlotsCalls.{rest_of, left_function}
+use Rattle.lua_operators.specs.LuaSlotsPoints.{SFrame, Point, Gives, Move, Exits, Now}
+use Rattle.lua_loops.specs.LuaSlotsMoves.{moves}
+use Rattle.lua_operators.specs.LuaSlotsEnact.{Funds, Enacted, Stands, Short, back, enact}
+use Rattle.lua_strides.specs.LuaGoesGoing.{Reaches, here, further}
+use Rattle.lua_strides.proofs.LuaInPlaceStatements.{free}
 use Rattle.lua_loops.proofs.Beginning.{with_parts, with_parts_of}
 use Rattle.lua_loops.proofs.Left.{left_slots}
-use Rattle.lua_stack.specs.declared.activation.Activation.{Activation}
-use Rattle.lua_stack.specs.declared.focus.Focus.{Focus}
-use Rattle.lua_stack.specs.declared.frame.Frame.{Frame}
-use Rattle.lua_stack.specs.declared.register.Slot.{Slot}
-use Rattle.lua_stack.specs.Seen.{focus_seen, frame_seen, frames_seen, registers_seen, activations_seen}
-use Rattle.lua_stack.specs.Of.{ActivationsOf, FocusOf, FrameOf, FramesOf, RegistersOf}
-use Rattle.lua_state.specs.declared.state.State.{State}
-use Rattle.lua_state.specs.Charges.{LeavesCall}
-use Rattle.lua_state.specs.Seen.{slots_of, frames_of, funds_of}
-use Rattle.lua_state.specs.Of.{StateOf}
-use Rattle.lua_state.specs.Worlds.{world_seen}
+use Rattle.lua_operators.specs.LuaStackDeclaredActivationActivation.{Activation}
+use Rattle.lua_strides.specs.LuaStackDeclaredFocusFocus.{Focus}
+use Rattle.lua_strides.specs.LuaStackDeclaredFrameFrame.{Frame}
+use Rattle.lua_operators.specs.LuaStackDeclaredRegisterSlot.{Slot}
+use Rattle.lua_operators.specs.LuaStackSeen.{focus_seen, frame_seen, frames_seen, registers_seen, activations_seen}
+use Rattle.lua_operators.specs.LuaStackOf.{ActivationsOf, FocusOf, FrameOf, FramesOf, RegistersOf}
+use Rattle.lua_strides.specs.LuaStateDeclaredStateState.{State}
+use Rattle.lua_loops.specs.LuaStateCharges.{LeavesCall}
+use Rattle.lua_loops.specs.LuaStateSeen.{slots_of, frames_of, funds_of}
+use Rattle.lua_loops.specs.LuaStateOf.{StateOf}
+use Rattle.lua_loops.specs.LuaStateWorlds.{world_seen}
 use Rattle.lua_turns.specs.Rows.{Follows, IsNewest}
 use Rattle.lua_turns.proofs.Following.{follows_free}
 

@@ -1,29 +1,29 @@
 -- TWO TEXTS BECOME ONE, at the steps of their bytes.
 use Rattle.std.proofs.Common.{◌≡◌, ◌∙◌, ◌≤◌, ◌-◌, ◌++◌, ℕ, List, [], ◌∷◌, length, Option, Some, refl, sym, ap, subst, arith}
-use Rattle.wk_base.specs.declared.left.Left.{Left}
-use Rattle.page_run.specs.Outcome.{Goes}
-use Rattle.page_run.proofs.Less.{less_of}
-use Rattle.lua_heap.specs.Value.{Value as Plain, Text}
-use Rattle.lua_meaning.specs.Values.{text_in}
-use Rattle.lua_slots.specs.Code.{CWorld}
-use Rattle.lua_slots.specs.Enact.{Funds, paid, enact}
-use Rattle.lua_slots.specs.Errors.{gives}
-use Rattle.lua_slots.specs.Moves.{moves}
-use Rattle.lua_slots.specs.Operators.{join_texts}
-use Rattle.lua_slots.specs.Points.{SFrame, Point, Gives, Move, Costs, Now}
-use Rattle.lua_slots.specs.Slots.{Slots}
-use Rattle.lua_goes.specs.Going.{Reaches, here, further}
-use Rattle.lua_store.specs.Seen.{StoreView}
-use Rattle.lua_store.specs.Parts.{IsLater}
-use Rattle.lua_stack.specs.declared.focus.Focus.{Focus}
-use Rattle.lua_stack.specs.declared.frame.Frame.{Frame}
-use Rattle.lua_stack.specs.Of.{FocusOf, FramesOf}
-use Rattle.lua_stack.specs.Seen.{focus_seen, frame_seen, frames_seen}
-use Rattle.lua_state.specs.declared.state.State.{State}
-use Rattle.lua_state.specs.Of.{StateOf}
-use Rattle.lua_state.specs.Seen.{slots_of, frames_of, funds_of}
-use Rattle.lua_state.specs.Worlds.{world_seen}
-use Rattle.lua_state.proofs.Staying.{state_later, frames_stay, slots_same}
+use Rattle.lua_loops.specs.WkBaseDeclaredLeftLeft.{Left}
+use Rattle.lua_loops.specs.PageRunOutcome.{Goes}
+use Rattle.lua_code.proofs.PageRunLess.{less_of}
+use Rattle.lua_code.specs.LuaHeapValue.{Value as Plain, Text}
+use Rattle.lua_operators.specs.LuaMeaningValues.{text_in}
+use Rattle.lua_code.specs.LuaSlotsCode.{CWorld}
+use Rattle.lua_operators.specs.LuaSlotsEnact.{Funds, paid, enact}
+use Rattle.lua_operators.specs.LuaSlotsErrors.{gives}
+use Rattle.lua_loops.specs.LuaSlotsMoves.{moves}
+use Rattle.lua_operators.specs.LuaSlotsOperators.{join_texts}
+use Rattle.lua_operators.specs.LuaSlotsPoints.{SFrame, Point, Gives, Move, Costs, Now}
+use Rattle.lua_operators.specs.LuaSlotsSlots.{Slots}
+use Rattle.lua_strides.specs.LuaGoesGoing.{Reaches, here, further}
+use Rattle.lua_operators.specs.LuaStoreSeen.{StoreView}
+use Rattle.lua_operators.specs.LuaStoreParts.{IsLater}
+use Rattle.lua_strides.specs.LuaStackDeclaredFocusFocus.{Focus}
+use Rattle.lua_strides.specs.LuaStackDeclaredFrameFrame.{Frame}
+use Rattle.lua_operators.specs.LuaStackOf.{FocusOf, FramesOf}
+use Rattle.lua_operators.specs.LuaStackSeen.{focus_seen, frame_seen, frames_seen}
+use Rattle.lua_strides.specs.LuaStateDeclaredStateState.{State}
+use Rattle.lua_loops.specs.LuaStateOf.{StateOf}
+use Rattle.lua_loops.specs.LuaStateSeen.{slots_of, frames_of, funds_of}
+use Rattle.lua_loops.specs.LuaStateWorlds.{world_seen}
+use Rattle.lua_loops.proofs.LuaStateStaying.{state_later, frames_stay, slots_same}
 use Rattle.lua_turns.specs.Rows.{Follows}
 use Rattle.lua_turns.proofs.Freely.{below_of}
 

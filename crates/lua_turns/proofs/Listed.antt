@@ -1,36 +1,36 @@
 -- AN EXPRESSION OF A LIST has its value, or is read in place: what is left of the list is next, or the list has its values.
 use Rattle.std.proofs.Common.{◌≡◌, ◌∙◌, ◌++◌, ℕ, true, List, [], ◌∷◌, Some, refl, sym, ap, subst}
-use Rattle.page_run.specs.Outcome.{Goes}
-use Rattle.wk_base.specs.declared.left.Left.{Left}
+use Rattle.lua_loops.specs.PageRunOutcome.{Goes}
+use Rattle.lua_loops.specs.WkBaseDeclaredLeftLeft.{Left}
 use Rattle.std.specs.Borrow.{Bor}
-use Rattle.lua_heap.specs.Value.{Value as Plain}
+use Rattle.lua_code.specs.LuaHeapValue.{Value as Plain}
 use Rattle.lua_code.specs.declared.expression.Expression.{Expression}
 use Rattle.lua_code.specs.Seen.{expression_seen, expressions_seen}
-use Rattle.lua_slots.specs.Code.{CExp, CExps, CWorld}
-use Rattle.lua_slots.specs.Expressions.{more_values}
-use Rattle.lua_slots.specs.Slots.{Slots}
-use Rattle.lua_slots.specs.Points.{CallNow, MoreNext, SFrame, Point, Gives, Evals, Lists, Now}
-use Rattle.lua_slots.specs.Moves.{moves}
-use Rattle.lua_in_place.proofs.Nodes.{nodes_are_some}
-use Rattle.lua_in_place.proofs.Reading.{reads}
-use Rattle.lua_in_place.proofs.Statements.{free, free_first, free_last}
+use Rattle.lua_code.specs.LuaSlotsCode.{CExp, CExps, CWorld}
+use Rattle.lua_code.specs.LuaSlotsExpressions.{more_values}
+use Rattle.lua_operators.specs.LuaSlotsSlots.{Slots}
+use Rattle.lua_operators.specs.LuaSlotsPoints.{CallNow, MoreNext, SFrame, Point, Gives, Evals, Lists, Now}
+use Rattle.lua_loops.specs.LuaSlotsMoves.{moves}
+use Rattle.lua_strides.proofs.LuaInPlaceNodes.{nodes_are_some}
+use Rattle.lua_strides.proofs.LuaInPlaceReading.{reads}
+use Rattle.lua_strides.proofs.LuaInPlaceStatements.{free, free_first, free_last}
 use Rattle.lua_loops.proofs.Beginning.{with_parts}
-use Rattle.lua_store.specs.declared.value.Value.{Value}
-use Rattle.lua_store.specs.Seen.{StoreView, seen}
-use Rattle.lua_store.specs.Parts.{IsOf}
-use Rattle.lua_store.proofs.Later.{later-itself}
-use Rattle.lua_stack.specs.declared.focus.Focus.{Focus}
-use Rattle.lua_stack.specs.declared.focus.Focus.TheVariants as focus
-use Rattle.lua_stack.specs.declared.frame.Frame.{Frame}
-use Rattle.lua_stack.specs.declared.frame.Frame.TheVariants as frame
-use Rattle.lua_stack.specs.declared.frame.InExpression.TheVariants as in_expression
-use Rattle.lua_stack.specs.declared.values.Given.TheVariants as given
-use Rattle.lua_stack.specs.Of.{FocusOf, FramesOf, ValuesOf}
-use Rattle.lua_stack.specs.Seen.{focus_seen, frames_seen, values_seen}
-use Rattle.lua_state.specs.declared.state.State.{State}
-use Rattle.lua_state.specs.Seen.{slots_of, frames_of, constants_in}
-use Rattle.lua_state.specs.Of.{StateOf}
-use Rattle.lua_state.specs.Worlds.{world_seen}
+use Rattle.lua_operators.specs.LuaStoreDeclaredValueValue.{Value}
+use Rattle.lua_operators.specs.LuaStoreSeen.{StoreView, seen}
+use Rattle.lua_operators.specs.LuaStoreParts.{IsOf}
+use Rattle.lua_operators.proofs.LuaStoreLater.{later-itself}
+use Rattle.lua_strides.specs.LuaStackDeclaredFocusFocus.{Focus}
+use Rattle.lua_strides.specs.LuaStackDeclaredFocusFocusTheVariants as focus
+use Rattle.lua_strides.specs.LuaStackDeclaredFrameFrame.{Frame}
+use Rattle.lua_operators.specs.LuaStackDeclaredFrameFrameTheVariants as frame
+use Rattle.lua_operators.specs.LuaStackDeclaredFrameInExpressionTheVariants as in_expression
+use Rattle.lua_strides.specs.LuaStackDeclaredValuesGivenTheVariants as given
+use Rattle.lua_operators.specs.LuaStackOf.{FocusOf, FramesOf, ValuesOf}
+use Rattle.lua_operators.specs.LuaStackSeen.{focus_seen, frames_seen, values_seen}
+use Rattle.lua_strides.specs.LuaStateDeclaredStateState.{State}
+use Rattle.lua_loops.specs.LuaStateSeen.{slots_of, frames_of, constants_in}
+use Rattle.lua_loops.specs.LuaStateOf.{StateOf}
+use Rattle.lua_loops.specs.LuaStateWorlds.{world_seen}
 use Rattle.lua_strides.specs.declared.reading.ValueRead.{ValueRead}
 use Rattle.lua_strides.specs.Reads.{ReadsTo}
 use Rattle.lua_strides.specs.Strides.{PaysNodes}

@@ -1,43 +1,43 @@
 -- A METHOD IS FOUND, and its arguments are next.
 use Rattle.std.proofs.Common.{◌≡◌, ◌∙◌, ◌≤◌, ◌-◌, ℕ, Bool, true, false, List, [], ◌∷◌, Option, Some, None, refl, sym, ap, subst, arith}
 use Rattle.std.specs.Prelude.{codes, IfSome}
-use Rattle.wk_base.specs.declared.left.Left.{Left}
-use Rattle.page_run.specs.Outcome.{Goes}
-use Rattle.page_run.specs.State.{Tally}
-use Rattle.page_run.proofs.Less.{less_of}
-use Rattle.lua_heap.specs.Proc.{Proc}
-use Rattle.lua_heap.specs.Heap.{Heap, table_at}
-use Rattle.lua_heap.specs.Table.{get}
-use Rattle.lua_heap.specs.Value.{Value as Plain, Text, Table, is_nil}
-use Rattle.lua_meaning.specs.Metatables.{handler}
-use Rattle.lua_slots.specs.Code.{CExps, CWorld}
-use Rattle.lua_slots.specs.Enact.{Funds, paid, enact}
-use Rattle.lua_slots.specs.Errors.{choose, gives}
-use Rattle.lua_slots.specs.Index.{index, index_by, index_table}
-use Rattle.lua_slots.specs.Moves.{moves}
-use Rattle.lua_slots.specs.Points.{IndexLinkS, First, IndexNow, CallNow, MethodNext, MethodNow, SFrame, Point, Gives, Lists, Starts, Move, Costs, Now}
-use Rattle.lua_slots.specs.Slots.{Slots}
-use Rattle.lua_goes.specs.Going.{Reaches, here, further}
-use Rattle.lua_in_place.specs.InPlace.{entry, indexed}
-use Rattle.lua_in_place.proofs.Plain.{entry_is, indexed_is}
-use Rattle.lua_in_place.proofs.Reading.{reach_then}
-use Rattle.lua_store.specs.declared.value.Value.{Value}
-use Rattle.lua_store.specs.declared.ids.TextId.{TextId}
-use Rattle.lua_store.specs.Parts.{IsOf}
-use Rattle.lua_store.specs.Seen.{StoreView, seen, text_at}
-use Rattle.lua_store.proofs.Later.{later-itself}
-use Rattle.lua_stack.specs.declared.focus.Focus.{Focus}
-use Rattle.lua_stack.specs.declared.focus.Focus.TheVariants as focus
-use Rattle.lua_stack.specs.declared.values.Given.TheVariants as given
-use Rattle.lua_stack.specs.declared.frame.Frame.{Frame}
-use Rattle.lua_stack.specs.declared.frame.Frame.TheVariants as frame
-use Rattle.lua_stack.specs.declared.frame.InExpression.TheVariants as in_expression
-use Rattle.lua_stack.specs.Of.{FocusOf, FrameOf, FramesOf}
-use Rattle.lua_stack.specs.Seen.{focus_seen, frame_seen, frames_seen}
-use Rattle.lua_state.specs.declared.state.State.{State}
-use Rattle.lua_state.specs.Of.{StateOf}
-use Rattle.lua_state.specs.Seen.{slots_of, frames_of, funds_of}
-use Rattle.lua_state.specs.Worlds.{world_seen}
+use Rattle.lua_loops.specs.WkBaseDeclaredLeftLeft.{Left}
+use Rattle.lua_loops.specs.PageRunOutcome.{Goes}
+use Rattle.lua_operators.specs.PageRunState.{Tally}
+use Rattle.lua_code.proofs.PageRunLess.{less_of}
+use Rattle.lua_code.specs.LuaHeapProc.{Proc}
+use Rattle.lua_code.specs.LuaHeapHeap.{Heap, table_at}
+use Rattle.lua_code.specs.LuaHeapTable.{get}
+use Rattle.lua_code.specs.LuaHeapValue.{Value as Plain, Text, Table, is_nil}
+use Rattle.lua_operators.specs.LuaMeaningMetatables.{handler}
+use Rattle.lua_code.specs.LuaSlotsCode.{CExps, CWorld}
+use Rattle.lua_operators.specs.LuaSlotsEnact.{Funds, paid, enact}
+use Rattle.lua_operators.specs.LuaSlotsErrors.{choose, gives}
+use Rattle.lua_code.specs.LuaSlotsIndex.{index, index_by, index_table}
+use Rattle.lua_loops.specs.LuaSlotsMoves.{moves}
+use Rattle.lua_operators.specs.LuaSlotsPoints.{IndexLinkS, First, IndexNow, CallNow, MethodNext, MethodNow, SFrame, Point, Gives, Lists, Starts, Move, Costs, Now}
+use Rattle.lua_operators.specs.LuaSlotsSlots.{Slots}
+use Rattle.lua_strides.specs.LuaGoesGoing.{Reaches, here, further}
+use Rattle.lua_strides.specs.LuaInPlaceInPlace.{entry, indexed}
+use Rattle.lua_strides.proofs.LuaInPlacePlain.{entry_is, indexed_is}
+use Rattle.lua_strides.proofs.LuaInPlaceReading.{reach_then}
+use Rattle.lua_operators.specs.LuaStoreDeclaredValueValue.{Value}
+use Rattle.lua_operators.specs.LuaStoreDeclaredIdsTextId.{TextId}
+use Rattle.lua_operators.specs.LuaStoreParts.{IsOf}
+use Rattle.lua_operators.specs.LuaStoreSeen.{StoreView, seen, text_at}
+use Rattle.lua_operators.proofs.LuaStoreLater.{later-itself}
+use Rattle.lua_strides.specs.LuaStackDeclaredFocusFocus.{Focus}
+use Rattle.lua_strides.specs.LuaStackDeclaredFocusFocusTheVariants as focus
+use Rattle.lua_strides.specs.LuaStackDeclaredValuesGivenTheVariants as given
+use Rattle.lua_strides.specs.LuaStackDeclaredFrameFrame.{Frame}
+use Rattle.lua_operators.specs.LuaStackDeclaredFrameFrameTheVariants as frame
+use Rattle.lua_operators.specs.LuaStackDeclaredFrameInExpressionTheVariants as in_expression
+use Rattle.lua_operators.specs.LuaStackOf.{FocusOf, FrameOf, FramesOf}
+use Rattle.lua_operators.specs.LuaStackSeen.{focus_seen, frame_seen, frames_seen}
+use Rattle.lua_strides.specs.LuaStateDeclaredStateState.{State}
+use Rattle.lua_loops.specs.LuaStateOf.{StateOf}
+use Rattle.lua_loops.specs.LuaStateSeen.{slots_of, frames_of, funds_of}
+use Rattle.lua_loops.specs.LuaStateWorlds.{world_seen}
 use Rattle.lua_strides.specs.Strides.{Idles}
 use Rattle.lua_strides.proofs.Paths.{with_frames, with_frames_of}
 use Rattle.lua_turns.specs.Methods.{GivesBehind, PaysLink}

@@ -1,36 +1,36 @@
 -- A NODE whose first operand is read in place, and what is next then.
 use Rattle.std.proofs.Common.{◌≡◌, ◌≤◌, ◌+◌, ◌-◌, ◌∙◌, ℕ, true, List, [], ◌∷◌, Some, refl, sym, ap, subst, arith}
-use Rattle.wk_base.specs.declared.left.Left.{Left}
-use Rattle.page_run.specs.Outcome.{Goes}
-use Rattle.lua_heap.specs.Value.{Value as Plain}
+use Rattle.lua_loops.specs.WkBaseDeclaredLeftLeft.{Left}
+use Rattle.lua_loops.specs.PageRunOutcome.{Goes}
+use Rattle.lua_code.specs.LuaHeapValue.{Value as Plain}
 use Rattle.lua_code.specs.declared.expression.Expression.{Expression}
 use Rattle.lua_code.specs.Seen.{expressions_seen}
 use Rattle.std.specs.Borrow.{Bor}
-use Rattle.lua_slots.specs.Code.{CExp, CExps, CallC, CWorld}
-use Rattle.lua_slots.specs.Errors.{node}
-use Rattle.lua_slots.specs.Moves.{moves}
-use Rattle.lua_slots.specs.Points.{SFrame, First, ArgumentsNext, CallNow, Point, Gives, Evals, Lists, Now}
-use Rattle.lua_slots.specs.Slots.{Slots}
-use Rattle.lua_in_place.proofs.Nodes.{nodes_are_some}
-use Rattle.lua_slots.specs.Enact.{Funds}
-use Rattle.lua_goes.specs.Going.{Reaches}
-use Rattle.lua_in_place.specs.Laws.{after_nodes}
-use Rattle.lua_in_place.proofs.Reading.{with_count, reach_then, reads, read_in_place}
-use Rattle.lua_in_place.proofs.Statements.{Leads, free, free_last, behind_node}
-use Rattle.lua_store.specs.declared.value.Value.{Value}
-use Rattle.lua_store.specs.Seen.{StoreView, seen}
-use Rattle.lua_stack.specs.declared.focus.Focus.{Focus}
-use Rattle.lua_stack.specs.declared.focus.Focus.TheVariants as focus
-use Rattle.lua_stack.specs.declared.frame.Frame.{Frame}
-use Rattle.lua_stack.specs.declared.values.Given.TheVariants as given
-use Rattle.lua_stack.specs.declared.frame.Frame.TheVariants as frame
-use Rattle.lua_stack.specs.declared.frame.InExpression.TheVariants as in_expression
-use Rattle.lua_stack.specs.Of.{FocusOf, FrameOf, FramesOf, ValuesOf}
-use Rattle.lua_stack.specs.Seen.{focus_seen, frame_seen, frames_seen, values_seen}
-use Rattle.lua_state.specs.declared.state.State.{State}
-use Rattle.lua_state.specs.Of.{StateOf}
-use Rattle.lua_state.specs.Seen.{slots_of, frames_of, constants_in}
-use Rattle.lua_state.specs.Worlds.{world_seen}
+use Rattle.lua_code.specs.LuaSlotsCode.{CExp, CExps, CallC, CWorld}
+use Rattle.lua_operators.specs.LuaSlotsErrors.{node}
+use Rattle.lua_loops.specs.LuaSlotsMoves.{moves}
+use Rattle.lua_operators.specs.LuaSlotsPoints.{SFrame, First, ArgumentsNext, CallNow, Point, Gives, Evals, Lists, Now}
+use Rattle.lua_operators.specs.LuaSlotsSlots.{Slots}
+use Rattle.lua_strides.proofs.LuaInPlaceNodes.{nodes_are_some}
+use Rattle.lua_operators.specs.LuaSlotsEnact.{Funds}
+use Rattle.lua_strides.specs.LuaGoesGoing.{Reaches}
+use Rattle.lua_strides.specs.LuaInPlaceLaws.{after_nodes}
+use Rattle.lua_strides.proofs.LuaInPlaceReading.{with_count, reach_then, reads, read_in_place}
+use Rattle.lua_strides.proofs.LuaInPlaceStatements.{Leads, free, free_last, behind_node}
+use Rattle.lua_operators.specs.LuaStoreDeclaredValueValue.{Value}
+use Rattle.lua_operators.specs.LuaStoreSeen.{StoreView, seen}
+use Rattle.lua_strides.specs.LuaStackDeclaredFocusFocus.{Focus}
+use Rattle.lua_strides.specs.LuaStackDeclaredFocusFocusTheVariants as focus
+use Rattle.lua_strides.specs.LuaStackDeclaredFrameFrame.{Frame}
+use Rattle.lua_strides.specs.LuaStackDeclaredValuesGivenTheVariants as given
+use Rattle.lua_operators.specs.LuaStackDeclaredFrameFrameTheVariants as frame
+use Rattle.lua_operators.specs.LuaStackDeclaredFrameInExpressionTheVariants as in_expression
+use Rattle.lua_operators.specs.LuaStackOf.{FocusOf, FrameOf, FramesOf, ValuesOf}
+use Rattle.lua_operators.specs.LuaStackSeen.{focus_seen, frame_seen, frames_seen, values_seen}
+use Rattle.lua_strides.specs.LuaStateDeclaredStateState.{State}
+use Rattle.lua_loops.specs.LuaStateOf.{StateOf}
+use Rattle.lua_loops.specs.LuaStateSeen.{slots_of, frames_of, constants_in}
+use Rattle.lua_loops.specs.LuaStateWorlds.{world_seen}
 use Rattle.lua_strides.specs.declared.reading.ValueRead.{ValueRead}
 use Rattle.lua_strides.specs.Reads.{ReadsTo}
 use Rattle.lua_strides.specs.Strides.{PaysNodes, Strides, LeadsAt, Ready}

@@ -1,32 +1,32 @@
 -- THE NEXT TURN of a counting loop, from where its last one is over.
 use Rattle.std.proofs.Common.{◌≡◌, ◌∙◌, ℕ, ◌+◌, ◌-◌, Bool, true, List, ◌∷◌, length, Option, Some, sym, ap, subst, arith}
 use Rattle.std.specs.Prelude.{ℤ}
-use Rattle.page_run.specs.Outcome.{Goes}
-use Rattle.page_run.specs.Perform.{less}
-use Rattle.page_run.proofs.Less.{less_of}
-use Rattle.lua_heap.specs.Value.{Value, Number}
-use Rattle.lua_slots.specs.Code.{CBlock, CWorld}
-use Rattle.lua_slots.specs.Slots as slots
-use Rattle.lua_slots.specs.Slots.{Slots, cut_to, cut, with_one, opened}
-use Rattle.lua_slots.specs.Points.{CountTurnS, SFrame, CountEnd, Point, Gives, Runs, Starts, Marks, Now}
-use Rattle.lua_slots.specs.Loops.{count_next}
-use Rattle.lua_slots.specs.Enact.{Stands, paid, enact}
-use Rattle.lua_goes.specs.Going.{here, further}
-use Rattle.lua_in_place.proofs.Reading.{with_count}
-use Rattle.lua_in_place.proofs.Statements.{Leads, free, free_first}
-use Rattle.wk_base.specs.declared.left.Left.{Left}
-use Rattle.lua_store.specs.Seen.{StoreView}
-use Rattle.lua_store.specs.Parts.{IsLater}
+use Rattle.lua_loops.specs.PageRunOutcome.{Goes}
+use Rattle.lua_code.specs.PageRunPerform.{less}
+use Rattle.lua_code.proofs.PageRunLess.{less_of}
+use Rattle.lua_code.specs.LuaHeapValue.{Value, Number}
+use Rattle.lua_code.specs.LuaSlotsCode.{CBlock, CWorld}
+use Rattle.lua_operators.specs.LuaSlotsSlots as slots
+use Rattle.lua_operators.specs.LuaSlotsSlots.{Slots, cut_to, cut, with_one, opened}
+use Rattle.lua_operators.specs.LuaSlotsPoints.{CountTurnS, SFrame, CountEnd, Point, Gives, Runs, Starts, Marks, Now}
+use Rattle.lua_loops.specs.LuaSlotsLoops.{count_next}
+use Rattle.lua_operators.specs.LuaSlotsEnact.{Stands, paid, enact}
+use Rattle.lua_strides.specs.LuaGoesGoing.{here, further}
+use Rattle.lua_strides.proofs.LuaInPlaceReading.{with_count}
+use Rattle.lua_strides.proofs.LuaInPlaceStatements.{Leads, free, free_first}
+use Rattle.lua_loops.specs.WkBaseDeclaredLeftLeft.{Left}
+use Rattle.lua_operators.specs.LuaStoreSeen.{StoreView}
+use Rattle.lua_operators.specs.LuaStoreParts.{IsLater}
 use Rattle.lua_loops.proofs.Beginning.{with_parts, functions_stay, opened_slots}
-use Rattle.lua_stack.specs.declared.focus.Focus.{Focus}
-use Rattle.lua_stack.specs.declared.frame.Frame.{Frame}
-use Rattle.lua_stack.specs.declared.register.Slot.{Slot}
-use Rattle.lua_stack.specs.Seen.{focus_seen, frame_seen, frames_seen, registers_seen, activations_seen}
-use Rattle.lua_stack.specs.Of.{FocusOf, FrameOf, FramesOf, RegistersOf}
-use Rattle.lua_stack.proofs.Stay.{frames_later}
-use Rattle.lua_state.specs.declared.state.State.{State}
-use Rattle.lua_state.specs.Seen.{slots_of, frames_of}
-use Rattle.lua_state.specs.Of.{StateOf}
+use Rattle.lua_strides.specs.LuaStackDeclaredFocusFocus.{Focus}
+use Rattle.lua_strides.specs.LuaStackDeclaredFrameFrame.{Frame}
+use Rattle.lua_operators.specs.LuaStackDeclaredRegisterSlot.{Slot}
+use Rattle.lua_operators.specs.LuaStackSeen.{focus_seen, frame_seen, frames_seen, registers_seen, activations_seen}
+use Rattle.lua_operators.specs.LuaStackOf.{FocusOf, FrameOf, FramesOf, RegistersOf}
+use Rattle.lua_operators.proofs.LuaStackStay.{frames_later}
+use Rattle.lua_strides.specs.LuaStateDeclaredStateState.{State}
+use Rattle.lua_loops.specs.LuaStateSeen.{slots_of, frames_of}
+use Rattle.lua_loops.specs.LuaStateOf.{StateOf}
 use Rattle.lua_strides.specs.Strides.{PaysNodes, LeadsAt}
 use Rattle.lua_turns.specs.Rows.{Follows}
 use Rattle.lua_turns.proofs.Following.{follows_paid}

@@ -1,9 +1,9 @@
 -- A TARGET THAT IS FOUND AT ONCE.
 use Rattle.std.specs.Prelude.{◌≡◌, List, [], ◌∷◌}
-use Rattle.lua_slots.specs.Code.{Constants, CExps, CTarget}
-use Rattle.lua_slots.specs.Points.{SFrame, STarget, Finds, Now}
-use Rattle.lua_slots.specs.Slots.{Slots}
-use Rattle.lua_slots.specs.Statements.{finds}
+use Rattle.lua_code.specs.LuaSlotsCode.{Constants, CExps, CTarget}
+use Rattle.lua_operators.specs.LuaSlotsPoints.{SFrame, STarget, Finds, Now}
+use Rattle.lua_operators.specs.LuaSlotsSlots.{Slots}
+use Rattle.lua_code.specs.LuaSlotsStatements.{finds}
 
 -- a variable or a global variable, with the constants of the module: nothing is evaluated
 abbrev pub IsFoundAt : Constants → CTarget → STarget → Type 0

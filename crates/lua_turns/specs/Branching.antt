@@ -1,16 +1,16 @@
 -- A BLOCK OF ITS OWN, chosen by a test.
 use Rattle.std.specs.Prelude.{◌≡◌, List, [], ◌∷◌}
-use Rattle.page_run.specs.Outcome.{Goes}
-use Rattle.lua_heap.specs.Value.{Value}
-use Rattle.lua_slots.specs.Code.{CBlock, CWorld}
-use Rattle.lua_slots.specs.Moves.{moves}
-use Rattle.lua_slots.specs.Points.{SFrame, Gives}
-use Rattle.lua_slots.specs.Statements.{within}
-use Rattle.lua_stack.specs.declared.frame.Frame.{Frame}
-use Rattle.lua_stack.specs.Seen.{frame_seen}
-use Rattle.lua_state.specs.declared.state.State.{State}
-use Rattle.lua_state.specs.Seen.{slots_of}
-use Rattle.lua_store.specs.Seen.{StoreView}
+use Rattle.lua_loops.specs.PageRunOutcome.{Goes}
+use Rattle.lua_code.specs.LuaHeapValue.{Value}
+use Rattle.lua_code.specs.LuaSlotsCode.{CBlock, CWorld}
+use Rattle.lua_loops.specs.LuaSlotsMoves.{moves}
+use Rattle.lua_operators.specs.LuaSlotsPoints.{SFrame, Gives}
+use Rattle.lua_code.specs.LuaSlotsStatements.{within}
+use Rattle.lua_strides.specs.LuaStackDeclaredFrameFrame.{Frame}
+use Rattle.lua_operators.specs.LuaStackSeen.{frame_seen}
+use Rattle.lua_strides.specs.LuaStateDeclaredStateState.{State}
+use Rattle.lua_loops.specs.LuaStateSeen.{slots_of}
+use Rattle.lua_operators.specs.LuaStoreSeen.{StoreView}
 
 -- where this value reaches this frame, this block is next
 abbrev pub LeadsWithin : StoreView → State → Frame → Value → CBlock → Type 0

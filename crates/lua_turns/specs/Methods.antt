@@ -1,12 +1,12 @@
 -- WHERE A METHOD IS FOUND: in what is indexed itself, or, behind one link, in the table that its metatable names.
 use Rattle.std.specs.Prelude.{◌≡◌, ◌≤◌, ◌-◌, Bool, true, false, List, [], ◌∷◌}
-use Rattle.wk_base.specs.declared.left.Left.{Left}
-use Rattle.lua_heap.specs.Value.{Value}
-use Rattle.lua_slots.specs.Code.{CWorld}
-use Rattle.lua_slots.specs.Errors.{gives}
-use Rattle.lua_slots.specs.Moves.{begins}
-use Rattle.lua_slots.specs.Points.{SThing, SFrame, Move, Starts, Now}
-use Rattle.lua_slots.specs.Slots.{Slots}
+use Rattle.lua_loops.specs.WkBaseDeclaredLeftLeft.{Left}
+use Rattle.lua_code.specs.LuaHeapValue.{Value}
+use Rattle.lua_code.specs.LuaSlotsCode.{CWorld}
+use Rattle.lua_operators.specs.LuaSlotsErrors.{gives}
+use Rattle.lua_loops.specs.LuaSlotsMoves.{begins}
+use Rattle.lua_operators.specs.LuaSlotsPoints.{SThing, SFrame, Move, Starts, Now}
+use Rattle.lua_operators.specs.LuaSlotsSlots.{Slots}
 
 -- a move that gives this value, at once or behind a link
 abbrev pub GivesBehind : Bool → Move → Value → List SFrame → Slots → Type 0

@@ -1,17 +1,17 @@
 -- AN ENTRY THAT IS SET where no handler is asked.
 use Rattle.std.specs.Prelude.{◌≡◌, ◌≤◌, ℕ, Bool, true, false, List, []}
-use Rattle.wk_base.specs.declared.left.Left.{Left}
-use Rattle.page_run.specs.Outcome.{Goes}
-use Rattle.page_run.specs.State.{Tally}
-use Rattle.lua_heap.specs.Value.{Value}
-use Rattle.lua_store.specs.Seen.{StoreView}
-use Rattle.lua_store.specs.Parts.{IsLater}
-use Rattle.lua_slots.specs.Enact.{Stands, enact}
-use Rattle.lua_slots.specs.Index.{put_entry}
-use Rattle.lua_slots.specs.Points.{SFrame, Gives}
-use Rattle.lua_slots.specs.Slots.{Slots, with_heap}
-use Rattle.lua_state.specs.declared.state.State.{State}
-use Rattle.lua_state.specs.Seen.{funds_of}
+use Rattle.lua_loops.specs.WkBaseDeclaredLeftLeft.{Left}
+use Rattle.lua_loops.specs.PageRunOutcome.{Goes}
+use Rattle.lua_operators.specs.PageRunState.{Tally}
+use Rattle.lua_code.specs.LuaHeapValue.{Value}
+use Rattle.lua_operators.specs.LuaStoreSeen.{StoreView}
+use Rattle.lua_operators.specs.LuaStoreParts.{IsLater}
+use Rattle.lua_operators.specs.LuaSlotsEnact.{Stands, enact}
+use Rattle.lua_code.specs.LuaSlotsIndex.{put_entry}
+use Rattle.lua_operators.specs.LuaSlotsPoints.{SFrame, Gives}
+use Rattle.lua_operators.specs.LuaSlotsSlots.{Slots, with_heap}
+use Rattle.lua_strides.specs.LuaStateDeclaredStateState.{State}
+use Rattle.lua_loops.specs.LuaStateSeen.{funds_of}
 
 pub record PutsEntry (s : StoreView) (t : ℕ) (key v : Value) (l : Left) (u : StoreView) (l' : Left) : Type 0 where
   pub later : IsLater s u

@@ -1,14 +1,14 @@
 -- THE NEWEST FRAME, where it is gone on with in place.
 use Rattle.std.specs.Prelude.{◌≡◌, List, [], ◌∷◌}
 use Rattle.lua_code.specs.declared.operator.Operator.TheVariants as operator
-use Rattle.lua_stack.specs.declared.frame.Frame.{Frame}
-use Rattle.lua_stack.specs.declared.frame.Frame.TheVariants as frame
-use Rattle.lua_store.specs.declared.value.Value.{Value}
-use Rattle.lua_stack.specs.declared.frame.InAssignment.TheVariants as in_assignment
-use Rattle.lua_stack.specs.declared.frame.InLoop.TheVariants as in_loop
-use Rattle.lua_stack.specs.declared.frame.InExpression.TheVariants as in_expression
-use Rattle.lua_stack.specs.declared.frame.InStatement.TheVariants as in_statement
-use Rattle.lua_stack.specs.declared.frame.Ending.TheVariants as ending
+use Rattle.lua_strides.specs.LuaStackDeclaredFrameFrame.{Frame}
+use Rattle.lua_operators.specs.LuaStackDeclaredFrameFrameTheVariants as frame
+use Rattle.lua_operators.specs.LuaStoreDeclaredValueValue.{Value}
+use Rattle.lua_operators.specs.LuaStackDeclaredFrameInAssignmentTheVariants as in_assignment
+use Rattle.lua_operators.specs.LuaStackDeclaredFrameInLoopTheVariants as in_loop
+use Rattle.lua_operators.specs.LuaStackDeclaredFrameInExpressionTheVariants as in_expression
+use Rattle.lua_operators.specs.LuaStackDeclaredFrameInStatementTheVariants as in_statement
+use Rattle.lua_operators.specs.LuaStackDeclaredFrameEndingTheVariants as ending
 use Rattle.lua_turns.specs.declared.waiting.Waiting.{Waiting}
 use Rattle.lua_turns.specs.declared.waiting.Waiting.TheVariants as waiting
 use Rattle.lua_turns.specs.Rows.{IsNewest}

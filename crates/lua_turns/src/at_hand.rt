@@ -1,20 +1,19 @@
 //! Expressions that are at hand: constants, variables, and operators and indices of these. Where one comes up beside others that are
 //! evaluated, its value is read at once.
 ghost use Rattle.lua_code.specs.Seen.{expression_seen};
-ghost use Rattle.lua_slots.specs.Points.{Evals};
-ghost use Rattle.lua_state.specs.Of.{StateOf};
-ghost use Rattle.lua_state.specs.Seen.{frames_of};
+ghost use Rattle.lua_operators.specs.LuaSlotsPoints.{Evals};
+ghost use Rattle.lua_loops.specs.LuaStateOf.{StateOf};
+ghost use Rattle.lua_loops.specs.LuaStateSeen.{frames_of};
 ghost use Rattle.lua_strides.specs.Next.{focus_of};
 ghost use Rattle.lua_turns.specs.Rows.{Follows};
 
 use lua_code::Expression;
-use lua_state::State;
-use lua_store::Store;
+use lua_loops::{State, Steps};
+use lua_operators::{Left, Store};
 use lua_strides::Next;
 use lua_strides::ending::pay_nodes;
 use lua_strides::reading::read;
 use std::sync::ledger::Ledger;
-use wk_base::{Left, Steps};
 
 /// How many operators one in the other are looked at. What is read in vain is read again, so these are few.
 pub const AT_HAND: u64 = 1;

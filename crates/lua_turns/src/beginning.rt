@@ -1,24 +1,22 @@
 //! Expressions and a `return` begin whose first operand is not read in place: frames wait for it.
 ghost use Rattle.std.specs.Prelude.{◌≡◌, ◌∷◌, [], IfOk};
 ghost use Rattle.lua_code.specs.Seen.{block_seen, expression_seen, expressions_seen, operator_seen};
-ghost use Rattle.lua_slots.specs.Code.{CallC, IndexC, MethodC, MoreC, NoC, OperateC, ParenC, ReturnC, ThenC, UnaryC};
-ghost use Rattle.lua_slots.specs.Points.{Evals, Runs};
-ghost use Rattle.lua_state.specs.Of.{IsConstant, StateOf};
-ghost use Rattle.lua_state.specs.Seen.{frames_of};
-ghost use Rattle.lua_store.specs.Seen.{StoreView};
+ghost use Rattle.lua_code.specs.LuaSlotsCode.{CallC, IndexC, MethodC, MoreC, NoC, OperateC, ParenC, ReturnC, ThenC, UnaryC};
+ghost use Rattle.lua_operators.specs.LuaSlotsPoints.{Evals, Runs};
+ghost use Rattle.lua_loops.specs.LuaStateOf.{IsConstant, StateOf};
+ghost use Rattle.lua_loops.specs.LuaStateSeen.{frames_of};
+ghost use Rattle.lua_operators.specs.LuaStoreSeen.{StoreView};
 ghost use Rattle.lua_strides.specs.Strides.{MayStride};
 ghost use Rattle.lua_turns.specs.Deciding.{deciding_with};
 
-use lua_code::{Expression, Operator, Statement};
-use lua_stack::{Frame, InExpression, InStatement, Values};
-use lua_state::State;
-use lua_store::TextId;
-use lua_strides::Next;
+use lua_code::{Expression, List, NoMemory, Operator, Statement};
+use lua_loops::{State, Steps, Values};
+use lua_operators::{Frame, InExpression, Left, TextId};
 use lua_strides::ending::{pay_nodes, wait_for};
+use lua_strides::{InStatement, Next};
 use lua_syntax::UnaryOp;
 use std::alloc::Global;
 use std::sync::ledger::Ledger;
-use wk_base::{Left, List, NoMemory, Steps};
 
 /// An operator begins with its first operand, where its step is left.
 pub fn begin_operator<'m, L: Ledger>(

@@ -1,36 +1,33 @@
 //! Tests of `if` and `while` that have their value (manual 2.4.4).
 ghost use Rattle.std.specs.Prelude.{◌≡◌, ◌∷◌, [], ℕ, List as Items, MatchOption};
-ghost use Rattle.page_run.specs.Outcome.{Goes};
-ghost use Rattle.wk_base.specs.declared.left.Left.{Left as Allowance};
+ghost use Rattle.lua_loops.specs.PageRunOutcome.{Goes};
+ghost use Rattle.lua_loops.specs.WkBaseDeclaredLeftLeft.{Left as Allowance};
 ghost use Rattle.lua_code.specs.Seen.{block_seen, branches_seen, expression_seen};
-ghost use Rattle.lua_heap.specs.Value.{Value as Plain};
-ghost use Rattle.lua_slots.specs.Code.{ArmC, NoArmC};
-ghost use Rattle.lua_slots.specs.Points.{Gives};
-ghost use Rattle.lua_stack.specs.declared.frame.Ending.TheVariants as ending_kind;
-ghost use Rattle.lua_stack.specs.declared.frame.Frame.{Frame as FrameValue};
-ghost use Rattle.lua_stack.specs.declared.frame.Frame.TheVariants as frame_kind;
-ghost use Rattle.lua_stack.specs.declared.frame.InLoop.TheVariants as in_loop;
-ghost use Rattle.lua_stack.specs.declared.frame.InStatement.TheVariants as in_statement;
-ghost use Rattle.lua_state.specs.Of.{StateOf};
-ghost use Rattle.lua_state.specs.Seen.{frames_of};
-ghost use Rattle.lua_store.specs.Parts.{IsOf};
-ghost use Rattle.lua_store.specs.Seen.{StoreView, seen};
+ghost use Rattle.lua_code.specs.LuaHeapValue.{Value as Plain};
+ghost use Rattle.lua_code.specs.LuaSlotsCode.{ArmC, NoArmC};
+ghost use Rattle.lua_operators.specs.LuaSlotsPoints.{Gives};
+ghost use Rattle.lua_operators.specs.LuaStackDeclaredFrameEndingTheVariants as ending_kind;
+ghost use Rattle.lua_strides.specs.LuaStackDeclaredFrameFrame.{Frame as FrameValue};
+ghost use Rattle.lua_operators.specs.LuaStackDeclaredFrameFrameTheVariants as frame_kind;
+ghost use Rattle.lua_operators.specs.LuaStackDeclaredFrameInLoopTheVariants as in_loop;
+ghost use Rattle.lua_operators.specs.LuaStackDeclaredFrameInStatementTheVariants as in_statement;
+ghost use Rattle.lua_loops.specs.LuaStateOf.{StateOf};
+ghost use Rattle.lua_loops.specs.LuaStateSeen.{frames_of};
+ghost use Rattle.lua_operators.specs.LuaStoreParts.{IsOf};
+ghost use Rattle.lua_operators.specs.LuaStoreSeen.{StoreView, seen};
 ghost use Rattle.lua_strides.specs.Next.{focus_of};
 ghost use Rattle.lua_turns.specs.Branching.{LeadsWithin};
 ghost use Rattle.lua_turns.specs.Rows.{Follows, IsNewest, MayFollow};
 
 use crate::waiting::{drop_newest, swap_newest};
-use lua_code::{Branch, Expression, Statement};
+use lua_code::{Branch, Expression, List, NoMemory, Statement};
 use lua_loops::leaving::keep_oldest;
 use lua_loops::turns::depth_of;
-use lua_stack::values::is_true;
-use lua_stack::{Ending, Frame, InLoop, InStatement};
-use lua_state::State;
-use lua_store::Value;
-use lua_strides::Next;
+use lua_loops::{Ending, InLoop, State, Steps};
+use lua_operators::{Frame, Left, Value, is_true};
 use lua_strides::ending::pay_nodes;
+use lua_strides::{InStatement, Next};
 use std::sync::ledger::Ledger;
-use wk_base::{Left, List, NoMemory, Steps};
 
 /// The first of some branches, and those behind it.
 #[derive(Clone, Copy)]

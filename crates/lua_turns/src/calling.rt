@@ -1,26 +1,25 @@
 //! Arguments reach the frame that calls (manual 2.5.8).
 ghost use Rattle.std.specs.Prelude.{◌≡◌, ◌≤◌, ◌∷◌, [], true, IfOk};
-ghost use Rattle.page_run.specs.Outcome.{Goes};
-ghost use Rattle.lua_slots.specs.Points.{Gives};
-ghost use Rattle.lua_stack.specs.declared.frame.Frame.TheVariants as frame_kind;
-ghost use Rattle.lua_stack.specs.declared.frame.InExpression.TheVariants as in_expression;
-ghost use Rattle.lua_stack.specs.Of.{ValuesOf};
-ghost use Rattle.lua_stack.specs.Seen.{values_seen};
-ghost use Rattle.lua_state.specs.Of.{StateOf};
-ghost use Rattle.lua_state.specs.Seen.{frames_of};
-ghost use Rattle.lua_store.specs.Parts.{IsOf};
-ghost use Rattle.lua_store.specs.Seen.{seen};
+ghost use Rattle.lua_loops.specs.PageRunOutcome.{Goes};
+ghost use Rattle.lua_operators.specs.LuaSlotsPoints.{Gives};
+ghost use Rattle.lua_operators.specs.LuaStackDeclaredFrameFrameTheVariants as frame_kind;
+ghost use Rattle.lua_operators.specs.LuaStackDeclaredFrameInExpressionTheVariants as in_expression;
+ghost use Rattle.lua_operators.specs.LuaStackOf.{ValuesOf};
+ghost use Rattle.lua_operators.specs.LuaStackSeen.{values_seen};
+ghost use Rattle.lua_loops.specs.LuaStateOf.{StateOf};
+ghost use Rattle.lua_loops.specs.LuaStateSeen.{frames_of};
+ghost use Rattle.lua_operators.specs.LuaStoreParts.{IsOf};
+ghost use Rattle.lua_operators.specs.LuaStoreSeen.{seen};
 ghost use Rattle.lua_turns.specs.Rows.{IsNewest, MayFollow, MustFollow};
 
 use crate::entering::{callee_of, enter};
 use crate::waiting::{Waiting, of_newest};
-use lua_stack::Values;
-use lua_state::State;
-use lua_store::{Store, Value};
+use lua_code::NoMemory;
+use lua_loops::{State, Steps, Values};
+use lua_operators::{Left, Store, Value};
 use lua_strides::Next;
 use std::alloc::Global;
 use std::sync::ledger::Ledger;
-use wk_base::{Left, NoMemory, Steps};
 
 /// Whether a step and a call are left.
 fn may_enter(left: &Left) -> bool

@@ -1,31 +1,29 @@
 //! The next turn of a counting loop (manual 2.4.5).
 ghost use Rattle.std.specs.Prelude.{◌≡◌, Bool, List as Items, IfOk};
-ghost use Rattle.page_run.specs.Outcome.{Goes};
-ghost use Rattle.lua_heap.specs.Value.{Value as Plain};
-ghost use Rattle.lua_slots.specs.Code.{CBlock};
-ghost use Rattle.lua_meaning.specs.Loops as plain;
-ghost use Rattle.lua_slots.specs.Loops.{count_from, count_next};
-ghost use Rattle.lua_slots.specs.Points.{Gives, SFrame};
-ghost use Rattle.lua_slots.specs.Slots.{Slots};
-ghost use Rattle.lua_stack.specs.declared.frame.Ending.TheVariants as ending_kind;
-ghost use Rattle.lua_stack.specs.declared.frame.Frame.TheVariants as frame_kind;
-ghost use Rattle.lua_state.specs.Of.{StateOf};
-ghost use Rattle.lua_state.specs.Seen.{frames_of};
+ghost use Rattle.lua_loops.specs.PageRunOutcome.{Goes};
+ghost use Rattle.lua_code.specs.LuaHeapValue.{Value as Plain};
+ghost use Rattle.lua_code.specs.LuaSlotsCode.{CBlock};
+ghost use Rattle.lua_code.specs.LuaMeaningLoops as plain;
+ghost use Rattle.lua_loops.specs.LuaSlotsLoops.{count_from, count_next};
+ghost use Rattle.lua_operators.specs.LuaSlotsPoints.{Gives, SFrame};
+ghost use Rattle.lua_operators.specs.LuaSlotsSlots.{Slots};
+ghost use Rattle.lua_operators.specs.LuaStackDeclaredFrameEndingTheVariants as ending_kind;
+ghost use Rattle.lua_operators.specs.LuaStackDeclaredFrameFrameTheVariants as frame_kind;
+ghost use Rattle.lua_loops.specs.LuaStateOf.{StateOf};
+ghost use Rattle.lua_loops.specs.LuaStateSeen.{frames_of};
 ghost use Rattle.lua_turns.specs.Rows.{IsNewest, MayFollow};
 ghost use Rattle.lua_turns.specs.Counting.{next_move};
 
 use crate::waiting::{Count, drop_newest, swap_newest};
+use lua_code::NoMemory;
 use lua_loops::leaving::keep_oldest;
 use lua_loops::turns::depth_of;
+use lua_loops::{Ending, State, Steps, open};
 use lua_number::add;
-use lua_stack::opening::open;
-use lua_stack::{Ending, Frame};
-use lua_state::State;
-use lua_store::{Store, Value};
+use lua_operators::{Frame, Left, Store, Value};
 use lua_strides::Next;
 use lua_strides::ending::pay_nodes;
 use std::sync::ledger::Ledger;
-use wk_base::{Left, NoMemory, Steps};
 
 /// Whether a counting loop has a turn at this index.
 fn is_within(index: i64, limit: i64, step: i64) -> bool

@@ -1,14 +1,14 @@
 //! What waits is gone on with where nothing is given: a block, a turn or a function's body is at its end.
 ghost use Rattle.std.specs.Prelude.{◌≡◌, [], ℕ, List as Items, IfOk};
-ghost use Rattle.page_run.specs.Outcome.{Goes};
-ghost use Rattle.wk_base.specs.declared.left.Left.{Left as Allowance};
-ghost use Rattle.lua_heap.specs.Value.{Value as Plain};
-ghost use Rattle.lua_slots.specs.Points.{Gives};
-ghost use Rattle.lua_stack.specs.declared.frame.Ending.TheVariants as ending_kind;
-ghost use Rattle.lua_stack.specs.declared.frame.Frame.TheVariants as frame_kind;
-ghost use Rattle.lua_state.specs.Of.{StateOf};
-ghost use Rattle.lua_state.specs.Seen.{frames_of};
-ghost use Rattle.lua_store.specs.Seen.{StoreView};
+ghost use Rattle.lua_loops.specs.PageRunOutcome.{Goes};
+ghost use Rattle.lua_loops.specs.WkBaseDeclaredLeftLeft.{Left as Allowance};
+ghost use Rattle.lua_code.specs.LuaHeapValue.{Value as Plain};
+ghost use Rattle.lua_operators.specs.LuaSlotsPoints.{Gives};
+ghost use Rattle.lua_operators.specs.LuaStackDeclaredFrameEndingTheVariants as ending_kind;
+ghost use Rattle.lua_operators.specs.LuaStackDeclaredFrameFrameTheVariants as frame_kind;
+ghost use Rattle.lua_loops.specs.LuaStateOf.{StateOf};
+ghost use Rattle.lua_loops.specs.LuaStateSeen.{frames_of};
+ghost use Rattle.lua_operators.specs.LuaStoreSeen.{StoreView};
 ghost use Rattle.lua_strides.specs.Next.{focus_of};
 ghost use Rattle.lua_turns.specs.Rows.{Follows, IsNewest, MayFollow};
 
@@ -17,12 +17,12 @@ use crate::counting::end_count;
 use crate::giving::go_on;
 use crate::leaving::leave_function;
 use crate::waiting::{Waiting, drop_newest, of_newest};
+use lua_code::NoMemory;
 use lua_loops::leaving::keep_oldest;
-use lua_state::{State, leave_call};
-use lua_store::Store;
+use lua_loops::{State, Steps, leave_call};
+use lua_operators::{Left, Store};
 use lua_strides::Next;
 use std::sync::ledger::Ledger;
-use wk_base::{Left, NoMemory, Steps};
 
 /// A block is at its end.
 fn end_block<'m>(state: &mut State<'m>, depth: usize) -> Next<'m>

@@ -1,34 +1,31 @@
 //! A function of Lua is entered in place, where its arguments reach the frame that calls it (manual 2.5.8 and 2.5.9).
 ghost use Rattle.std.specs.Prelude.{◌≡◌, ◌≤◌, ◌∷◌, [], ℕ, List as Items, Option as MayBe, Some, drop, length, if◌then◌else◌, IfOk, IfSome, OnOk};
-ghost use Rattle.page_run.specs.Outcome.{Goes};
+ghost use Rattle.lua_loops.specs.PageRunOutcome.{Goes};
 ghost use Rattle.lua_code.specs.Seen.{proto_seen};
-ghost use Rattle.lua_heap.specs.Heap.{Function as FunctionClosed, closure_at};
-ghost use Rattle.lua_heap.specs.Value.{Value as Plain};
-ghost use Rattle.lua_slots.specs.Calls as calls;
-ghost use Rattle.lua_slots.specs.Points.{BodyS, Gives, Now, SFrame, Starts};
-ghost use Rattle.lua_slots.specs.Slots.{Slots, with_all};
-ghost use Rattle.lua_stack.specs.declared.frame.Frame.TheVariants as frame_kind;
-ghost use Rattle.lua_stack.specs.declared.frame.InExpression.TheVariants as in_expression;
-ghost use Rattle.lua_stack.specs.Levels.{levels_from};
-ghost use Rattle.lua_stack.specs.Of.{CalleeOf, RegistersOf, ValuesOf};
-ghost use Rattle.lua_stack.specs.Seen.{callee_seen, registers_seen, values_seen};
-ghost use Rattle.lua_state.specs.Of.{StateOf};
-ghost use Rattle.lua_state.specs.Seen.{frames_of};
-ghost use Rattle.lua_store.specs.Parts.{IsClosureOf, IsLater, IsOf};
-ghost use Rattle.lua_store.specs.Seen.{seen};
+ghost use Rattle.lua_code.specs.LuaHeapHeap.{Function as FunctionClosed, closure_at};
+ghost use Rattle.lua_code.specs.LuaHeapValue.{Value as Plain};
+ghost use Rattle.lua_loops.specs.LuaSlotsCalls as calls;
+ghost use Rattle.lua_operators.specs.LuaSlotsPoints.{BodyS, Gives, Now, SFrame, Starts};
+ghost use Rattle.lua_operators.specs.LuaSlotsSlots.{Slots, with_all};
+ghost use Rattle.lua_operators.specs.LuaStackDeclaredFrameFrameTheVariants as frame_kind;
+ghost use Rattle.lua_operators.specs.LuaStackDeclaredFrameInExpressionTheVariants as in_expression;
+ghost use Rattle.lua_loops.specs.LuaStackLevels.{levels_from};
+ghost use Rattle.lua_operators.specs.LuaStackOf.{CalleeOf, RegistersOf, ValuesOf};
+ghost use Rattle.lua_operators.specs.LuaStackSeen.{callee_seen, registers_seen, values_seen};
+ghost use Rattle.lua_loops.specs.LuaStateOf.{StateOf};
+ghost use Rattle.lua_loops.specs.LuaStateSeen.{frames_of};
+ghost use Rattle.lua_operators.specs.LuaStoreParts.{IsClosureOf, IsLater, IsOf};
+ghost use Rattle.lua_operators.specs.LuaStoreSeen.{seen};
 ghost use Rattle.lua_strides.specs.Next.{focus_of};
 ghost use Rattle.lua_turns.specs.Rows.{Follows, IsNewest};
 
 use crate::waiting::{drop_newest, swap_newest};
-use lua_code::Proto;
-use lua_stack::opening::open_all;
-use lua_stack::{Activations, Callee, Ending, Frame, Slot, Stack, Values};
-use lua_state::{State, enter_call};
-use lua_store::{ClosureId, ClosureKind, Store, Value};
-use lua_strides::Next;
+use lua_code::{NoMemory, Proto};
+use lua_loops::{Activations, Callee, Ending, Slot, State, Steps, Values, enter_call, open_all};
+use lua_operators::{ClosureKind, Frame, Left, Stack, Store, Value};
+use lua_strides::{ClosureId, Next};
 use std::alloc::Global;
 use std::sync::ledger::Ledger;
-use wk_base::{Left, NoMemory, Steps};
 
 /// The function of a closure, if it is one of Lua.
 fn function_of(store: &Store, id: ClosureId) -> Option<Callee>

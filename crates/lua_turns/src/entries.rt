@@ -1,23 +1,21 @@
 //! An assignment to an entry begins (manual 2.4.3): its table and its key are read in place, and no frame waits for them.
 ghost use Rattle.std.specs.Prelude.{◌≡◌, ◌∷◌, [], IfOk};
 ghost use Rattle.lua_code.specs.Seen.{block_seen, expression_seen};
-ghost use Rattle.lua_slots.specs.Code.{AssignC, EntryC, MoreC, NoC, ThenC};
-ghost use Rattle.lua_slots.specs.Points.{Runs};
-ghost use Rattle.lua_state.specs.Of.{StateOf};
-ghost use Rattle.lua_state.specs.Seen.{frames_of};
+ghost use Rattle.lua_code.specs.LuaSlotsCode.{AssignC, EntryC, MoreC, NoC, ThenC};
+ghost use Rattle.lua_operators.specs.LuaSlotsPoints.{Runs};
+ghost use Rattle.lua_loops.specs.LuaStateOf.{StateOf};
+ghost use Rattle.lua_loops.specs.LuaStateSeen.{frames_of};
 ghost use Rattle.lua_strides.specs.Strides.{MayStride};
 
 use crate::statements::wait_to_assign;
-use lua_code::{Expression, Statement};
-use lua_stack::Found;
-use lua_state::State;
-use lua_store::Store;
-use lua_strides::Next;
+use lua_code::{Expression, NoMemory, Statement};
+use lua_loops::{State, Steps};
+use lua_operators::{Left, Store};
 use lua_strides::ending::pay_nodes;
 use lua_strides::reading::{LEVELS, read_two};
+use lua_strides::{Found, Next};
 use std::alloc::Global;
 use std::sync::ledger::Ledger;
-use wk_base::{Left, NoMemory, Steps};
 
 /// An assignment of one value to an entry begins, where its table and key are read in place and their steps are left: the value is next.
 /// `none` is the end of the list of values.

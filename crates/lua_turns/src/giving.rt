@@ -1,18 +1,18 @@
 //! A value reaches what waits for it.
 ghost use Rattle.std.specs.Prelude.{◌≡◌, ◌∷◌, [], ℕ, List as Items, IfOk};
-ghost use Rattle.page_run.specs.Outcome.{Goes};
-ghost use Rattle.wk_base.specs.declared.left.Left.{Left as Allowance};
-ghost use Rattle.lua_heap.specs.Value.{Value as Plain};
-ghost use Rattle.lua_slots.specs.Points.{Gives};
-ghost use Rattle.lua_stack.specs.declared.frame.Ending.TheVariants as ending_kind;
-ghost use Rattle.lua_stack.specs.declared.frame.Frame.TheVariants as frame_kind;
-ghost use Rattle.lua_stack.specs.declared.frame.InAssignment.TheVariants as in_assignment;
-ghost use Rattle.lua_stack.specs.declared.frame.InExpression.TheVariants as in_expression;
-ghost use Rattle.lua_stack.specs.declared.frame.InStatement.TheVariants as in_statement;
-ghost use Rattle.lua_state.specs.Of.{StateOf};
-ghost use Rattle.lua_state.specs.Seen.{frames_of};
-ghost use Rattle.lua_store.specs.Parts.{IsOf};
-ghost use Rattle.lua_store.specs.Seen.{StoreView, seen};
+ghost use Rattle.lua_loops.specs.PageRunOutcome.{Goes};
+ghost use Rattle.lua_loops.specs.WkBaseDeclaredLeftLeft.{Left as Allowance};
+ghost use Rattle.lua_code.specs.LuaHeapValue.{Value as Plain};
+ghost use Rattle.lua_operators.specs.LuaSlotsPoints.{Gives};
+ghost use Rattle.lua_operators.specs.LuaStackDeclaredFrameEndingTheVariants as ending_kind;
+ghost use Rattle.lua_operators.specs.LuaStackDeclaredFrameFrameTheVariants as frame_kind;
+ghost use Rattle.lua_operators.specs.LuaStackDeclaredFrameInAssignmentTheVariants as in_assignment;
+ghost use Rattle.lua_operators.specs.LuaStackDeclaredFrameInExpressionTheVariants as in_expression;
+ghost use Rattle.lua_operators.specs.LuaStackDeclaredFrameInStatementTheVariants as in_statement;
+ghost use Rattle.lua_loops.specs.LuaStateOf.{StateOf};
+ghost use Rattle.lua_loops.specs.LuaStateSeen.{frames_of};
+ghost use Rattle.lua_operators.specs.LuaStoreParts.{IsOf};
+ghost use Rattle.lua_operators.specs.LuaStoreSeen.{StoreView, seen};
 ghost use Rattle.lua_strides.specs.Next.{focus_of};
 ghost use Rattle.lua_turns.specs.Rows.{Follows, IsNewest, MayFollow};
 ghost use Rattle.lua_turns.specs.Waiting.{Waits};
@@ -25,17 +25,14 @@ use crate::joining::join;
 use crate::listing::{take_callee, take_item};
 use crate::methods::{take_key, take_object, take_of};
 use crate::waiting::{Waiting, drop_newest, of_newest, swap_newest};
-use lua_code::{Expression, Operator, Statement};
-use lua_stack::opening::open;
-use lua_stack::{Found, Frame, InExpression, Setting};
-use lua_state::{State, leave_call};
-use lua_store::{Store, Value};
-use lua_strides::Next;
+use lua_code::{Expression, NoMemory, Operator, Statement};
+use lua_loops::{State, Steps, leave_call, open};
+use lua_operators::{Frame, InExpression, Left, Store, Value};
 use lua_strides::operators::operated;
 use lua_strides::striding::only;
+use lua_strides::{Found, Next, Setting};
 use std::alloc::Global;
 use std::sync::ledger::Ledger;
-use wk_base::{Left, NoMemory, Steps};
 
 /// The statements behind one go on, whatever it gave.
 pub fn go_on<'m>(state: &mut State<'m>, rest: &'m [Statement]) -> Next<'m>

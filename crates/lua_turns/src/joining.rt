@@ -1,24 +1,23 @@
 //! Two texts become one (manual 2.5.4): a text that is made costs its bytes, which are paid before it is made.
 ghost use Rattle.std.specs.Prelude.{◌≡◌, ◌++◌, ◌∷◌, [], ℕ, Some, IfOk};
-ghost use Rattle.page_run.specs.Outcome.{Goes};
+ghost use Rattle.lua_loops.specs.PageRunOutcome.{Goes};
 ghost use Rattle.lua_code.specs.declared.operator.Operator.TheVariants as operator_kind;
-ghost use Rattle.lua_meaning.specs.Values as meaning;
-ghost use Rattle.lua_slots.specs.Points.{Gives};
-ghost use Rattle.lua_stack.specs.declared.frame.Frame.TheVariants as frame_kind;
-ghost use Rattle.lua_stack.specs.declared.frame.InExpression.TheVariants as in_expression;
-ghost use Rattle.lua_state.specs.Of.{StateOf};
-ghost use Rattle.lua_state.specs.Seen.{frames_of};
-ghost use Rattle.lua_store.specs.Parts.{IsOf};
-ghost use Rattle.lua_store.specs.Seen.{seen};
+ghost use Rattle.lua_operators.specs.LuaMeaningValues as meaning;
+ghost use Rattle.lua_operators.specs.LuaSlotsPoints.{Gives};
+ghost use Rattle.lua_operators.specs.LuaStackDeclaredFrameFrameTheVariants as frame_kind;
+ghost use Rattle.lua_operators.specs.LuaStackDeclaredFrameInExpressionTheVariants as in_expression;
+ghost use Rattle.lua_loops.specs.LuaStateOf.{StateOf};
+ghost use Rattle.lua_loops.specs.LuaStateSeen.{frames_of};
+ghost use Rattle.lua_operators.specs.LuaStoreParts.{IsOf};
+ghost use Rattle.lua_operators.specs.LuaStoreSeen.{seen};
 ghost use Rattle.lua_turns.specs.Rows.{IsNewest, MayFollow};
 
 use crate::waiting::drop_newest;
-use lua_basic::texts::text_in;
-use lua_state::State;
-use lua_store::{Store, Value};
+use lua_code::NoMemory;
+use lua_loops::State;
+use lua_operators::{Left, Store, Value, text_in};
 use lua_strides::Next;
 use std::alloc::Global;
-use wk_base::{Left, NoMemory};
 
 /// The first text with the second behind it.
 fn joined(alloc: Global, first: &[u8], second: &[u8]) -> Result<Vec<u8>, NoMemory>

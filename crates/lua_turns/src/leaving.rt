@@ -1,13 +1,14 @@
 //! Blocks and functions that are left.
 ghost use Rattle.std.specs.Prelude.{◌≡◌, ℕ, List as Items, IfOk};
-ghost use Rattle.lua_slots.specs.Calls as calls;
-ghost use Rattle.lua_slots.specs.Slots.{newest_function, cut_to};
-ghost use Rattle.lua_stack.specs.Of.{ActivationsOf, RegistersOf};
-ghost use Rattle.lua_stack.specs.Seen.{activations_seen, registers_seen};
-ghost use Rattle.lua_store.specs.Seen.{StoreView};
+ghost use Rattle.lua_loops.specs.LuaSlotsCalls as calls;
+ghost use Rattle.lua_operators.specs.LuaSlotsSlots.{newest_function, cut_to};
+ghost use Rattle.lua_operators.specs.LuaStackOf.{ActivationsOf, RegistersOf};
+ghost use Rattle.lua_operators.specs.LuaStackSeen.{activations_seen, registers_seen};
+ghost use Rattle.lua_operators.specs.LuaStoreSeen.{StoreView};
 
 use lua_loops::leaving::keep_oldest;
-use lua_stack::{Activations, Slot, Stack};
+use lua_loops::{Activations, Slot};
+use lua_operators::Stack;
 
 /// The newest function is left. It had so many registers below its own.
 fn leave_newest(functions: &mut Activations) -> usize

@@ -46,4 +46,14 @@ pub mod setting;
 pub mod statements;
 pub mod waiting;
 
+pub use lua_loops::{
+    Ending, Slot, State, Steps, Values, count_turn, each_turn, enter_body, enter_call, give_end,
+    give_loop, leave_call, open, open_all, pass_end, repeat_turn, while_turn,
+};
+pub use lua_operators::{Focus, Frame, InExpression, Left, Stack, Store, Value, single};
+pub use lua_strides::ending::pay_nodes;
+pub use lua_strides::reading::{LEVELS, read};
+pub use lua_strides::running::variable;
+pub use lua_strides::striding::{front_of, only};
+pub use lua_strides::{InStatement, Next, constant_at_hand, focus_for};
 pub use rows::{begin_row, follow};

@@ -1,35 +1,33 @@
 //! Lists of expressions that are not read in place, as arguments of a call (manual 2.5 and 2.5.8).
 ghost use Rattle.std.specs.Prelude.{◌≡◌, ◌∷◌, [], List as Items, IfOk, MatchOption};
-ghost use Rattle.page_run.specs.Outcome.{Goes};
+ghost use Rattle.lua_loops.specs.PageRunOutcome.{Goes};
 ghost use Rattle.std.specs.Borrow.{Bor};
 ghost use Rattle.lua_code.specs.declared.expression.Expression.{Expression as ExpressionValue};
 ghost use Rattle.lua_code.specs.Seen.{expressions_seen};
-ghost use Rattle.lua_slots.specs.Points.{Gives, Lists};
-ghost use Rattle.lua_stack.specs.declared.frame.Frame.{Frame as FrameValue};
-ghost use Rattle.lua_stack.specs.declared.frame.Frame.TheVariants as frame_kind;
-ghost use Rattle.lua_stack.specs.declared.frame.InExpression.TheVariants as in_expression;
-ghost use Rattle.lua_stack.specs.Of.{ValuesOf};
-ghost use Rattle.lua_stack.specs.Seen.{values_seen};
-ghost use Rattle.lua_state.specs.Of.{StateOf};
-ghost use Rattle.lua_state.specs.Seen.{frames_of};
-ghost use Rattle.lua_store.specs.declared.value.Value.{Value as Stored};
-ghost use Rattle.lua_store.specs.Parts.{IsOf};
-ghost use Rattle.lua_store.specs.Seen.{seen};
+ghost use Rattle.lua_operators.specs.LuaSlotsPoints.{Gives, Lists};
+ghost use Rattle.lua_strides.specs.LuaStackDeclaredFrameFrame.{Frame as FrameValue};
+ghost use Rattle.lua_operators.specs.LuaStackDeclaredFrameFrameTheVariants as frame_kind;
+ghost use Rattle.lua_operators.specs.LuaStackDeclaredFrameInExpressionTheVariants as in_expression;
+ghost use Rattle.lua_operators.specs.LuaStackOf.{ValuesOf};
+ghost use Rattle.lua_operators.specs.LuaStackSeen.{values_seen};
+ghost use Rattle.lua_loops.specs.LuaStateOf.{StateOf};
+ghost use Rattle.lua_loops.specs.LuaStateSeen.{frames_of};
+ghost use Rattle.lua_operators.specs.LuaStoreDeclaredValueValue.{Value as Stored};
+ghost use Rattle.lua_operators.specs.LuaStoreParts.{IsOf};
+ghost use Rattle.lua_operators.specs.LuaStoreSeen.{seen};
 ghost use Rattle.lua_turns.specs.Listing.{left_of};
 ghost use Rattle.lua_turns.specs.Rows.{Follows, IsNewest, MustFollow};
 
 use crate::calling::give_all;
 use crate::waiting::swap_newest;
-use lua_code::Expression;
-use lua_stack::{Frame, InExpression, Stack, Values};
-use lua_state::State;
-use lua_store::{Store, Value};
+use lua_code::{Expression, List, NoMemory};
+use lua_loops::{State, Steps, Values};
+use lua_operators::{Frame, InExpression, Left, Stack, Store, Value};
 use lua_strides::Next;
 use lua_strides::ending::pay_nodes;
 use lua_strides::reading::{LEVELS, read};
 use std::alloc::Global;
 use std::sync::ledger::Ledger;
-use wk_base::{Left, List, NoMemory, Steps};
 
 /// The first of some expressions, and those behind it.
 #[derive(Clone, Copy)]

@@ -1,19 +1,19 @@
 //! Methods and entries that are found at once: in their object, or in the table that its metatable names (manual 2.3 and 2.5.8).
 ghost use Rattle.std.specs.Prelude.{◌≡◌, ◌∷◌, [], ℕ, true, List as Items, Option as MayBe, IfOk, IfSome};
-ghost use Rattle.page_run.specs.Outcome.{Goes};
-ghost use Rattle.lua_heap.specs.Heap.{table_at};
-ghost use Rattle.lua_heap.specs.Table.{get};
-ghost use Rattle.lua_heap.specs.Value.{is_nil as is_nil_value};
-ghost use Rattle.lua_slots.specs.Index.{index, index_table};
-ghost use Rattle.lua_slots.specs.Points.{Gives, SFrame};
-ghost use Rattle.lua_slots.specs.Slots.{Slots};
-ghost use Rattle.lua_stack.specs.declared.frame.Frame.TheVariants as frame_kind;
-ghost use Rattle.lua_stack.specs.declared.frame.InExpression.TheVariants as in_expression;
-ghost use Rattle.lua_stack.specs.Of.{EnvironmentOf};
-ghost use Rattle.lua_state.specs.Of.{StateOf};
-ghost use Rattle.lua_state.specs.Seen.{frames_of};
-ghost use Rattle.lua_store.specs.Parts.{IsOf, IsTableOf};
-ghost use Rattle.lua_store.specs.Seen.{seen};
+ghost use Rattle.lua_loops.specs.PageRunOutcome.{Goes};
+ghost use Rattle.lua_code.specs.LuaHeapHeap.{table_at};
+ghost use Rattle.lua_code.specs.LuaHeapTable.{get};
+ghost use Rattle.lua_code.specs.LuaHeapValue.{is_nil as is_nil_value};
+ghost use Rattle.lua_code.specs.LuaSlotsIndex.{index, index_table};
+ghost use Rattle.lua_operators.specs.LuaSlotsPoints.{Gives, SFrame};
+ghost use Rattle.lua_operators.specs.LuaSlotsSlots.{Slots};
+ghost use Rattle.lua_operators.specs.LuaStackDeclaredFrameFrameTheVariants as frame_kind;
+ghost use Rattle.lua_operators.specs.LuaStackDeclaredFrameInExpressionTheVariants as in_expression;
+ghost use Rattle.lua_operators.specs.LuaStackOf.{EnvironmentOf};
+ghost use Rattle.lua_loops.specs.LuaStateOf.{StateOf};
+ghost use Rattle.lua_loops.specs.LuaStateSeen.{frames_of};
+ghost use Rattle.lua_operators.specs.LuaStoreParts.{IsOf, IsTableOf};
+ghost use Rattle.lua_operators.specs.LuaStoreSeen.{seen};
 ghost use Rattle.lua_strides.specs.Next.{focus_of};
 ghost use Rattle.lua_turns.specs.Methods.{GivesBehind, PaysLink};
 ghost use Rattle.lua_turns.specs.Rows.{Follows, IsNewest, MayFollow};
@@ -21,17 +21,13 @@ ghost use Rattle.lua_turns.specs.Rows.{Follows, IsNewest, MayFollow};
 use crate::at_hand::next_of;
 use crate::listing::list;
 use crate::waiting::{drop_newest, swap_newest};
-use lua_arms::tables::handler;
-use lua_code::Expression;
-use lua_stack::values::is_nil;
-use lua_stack::{Environment, Frame, InExpression, Values};
-use lua_state::State;
-use lua_store::{Store, TableId, TextId, Value};
-use lua_strides::Next;
+use lua_code::{Expression, List, NoMemory};
+use lua_loops::{State, Steps, Values};
+use lua_operators::{Environment, Frame, InExpression, Left, Store, TextId, Value, is_nil};
 use lua_strides::operators::{entry, indexed};
+use lua_strides::{Next, TableId, handler};
 use std::alloc::Global;
 use std::sync::ledger::Ledger;
-use wk_base::{Left, List, NoMemory, Steps};
 
 /// A method that is found, and whether it is behind a link.
 #[derive(Clone, Copy)]

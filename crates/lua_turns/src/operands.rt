@@ -1,11 +1,11 @@
 //! Expressions begin with their first operand: where that is read in place, no frame waits for it (manual 2.5).
 ghost use Rattle.std.specs.Prelude.{◌≤◌, ◌^◌, ◌∷◌, IfOk};
 ghost use Rattle.lua_code.specs.Seen.{expression_seen, expressions_seen, operator_seen};
-ghost use Rattle.lua_slots.specs.Code.{CallC, IndexC, MethodC, OperateC, UnaryC};
-ghost use Rattle.lua_slots.specs.Points.{Evals, First, Point};
-ghost use Rattle.lua_state.specs.Of.{IsConstant, StateOf};
-ghost use Rattle.lua_state.specs.Seen.{frames_of, slots_of};
-ghost use Rattle.lua_state.specs.Worlds.{world_seen};
+ghost use Rattle.lua_code.specs.LuaSlotsCode.{CallC, IndexC, MethodC, OperateC, UnaryC};
+ghost use Rattle.lua_operators.specs.LuaSlotsPoints.{Evals, First, Point};
+ghost use Rattle.lua_loops.specs.LuaStateOf.{IsConstant, StateOf};
+ghost use Rattle.lua_loops.specs.LuaStateSeen.{frames_of, slots_of};
+ghost use Rattle.lua_loops.specs.LuaStateWorlds.{world_seen};
 ghost use Rattle.lua_strides.specs.Strides.{LeadsAt, MayStride};
 ghost use Rattle.lua_turns.specs.Deciding.{deciding_with};
 
@@ -15,17 +15,15 @@ use crate::beginning::{
 };
 use crate::deciding::{decides, result_of};
 use crate::listing::list;
-use lua_code::{Expression, Operator};
-use lua_stack::{Frame, InExpression, Values};
-use lua_state::{State, constant_at_hand};
-use lua_store::{Store, TextId};
-use lua_strides::Next;
+use lua_code::{Expression, List, NoMemory, Operator};
+use lua_loops::{State, Steps, Values};
+use lua_operators::{Frame, InExpression, Left, Store, TextId};
 use lua_strides::ending::{pay_nodes, wait_for};
 use lua_strides::reading::{LEVELS, read};
+use lua_strides::{Next, constant_at_hand};
 use lua_syntax::UnaryOp;
 use std::alloc::Global;
 use std::sync::ledger::Ledger;
-use wk_base::{Left, List, NoMemory, Steps};
 
 /// An operator begins: with its second operand, if the first one is read in place.
 pub fn operator<'m, L: Ledger>(

@@ -1,27 +1,26 @@
 //! A `return` of one value reaches what waits (manual 2.4.4).
 ghost use Rattle.std.specs.Prelude.{◌≡◌, ◌∷◌, [], ℕ, IfOk};
-ghost use Rattle.page_run.specs.Outcome.{Jumps};
-ghost use Rattle.wk_base.specs.declared.left.Left.{Left as Allowance};
-ghost use Rattle.lua_meaning.specs.Acts.{Returned};
-ghost use Rattle.lua_slots.specs.Points.{Gives};
-ghost use Rattle.lua_stack.specs.declared.frame.Ending.TheVariants as ending_kind;
-ghost use Rattle.lua_stack.specs.declared.frame.Frame.TheVariants as frame_kind;
-ghost use Rattle.lua_stack.specs.declared.frame.InStatement.TheVariants as in_statement;
-ghost use Rattle.lua_state.specs.Of.{StateOf};
-ghost use Rattle.lua_state.specs.Seen.{frames_of};
-ghost use Rattle.lua_store.specs.Parts.{IsOf};
-ghost use Rattle.lua_store.specs.Seen.{StoreView, seen};
+ghost use Rattle.lua_loops.specs.PageRunOutcome.{Jumps};
+ghost use Rattle.lua_loops.specs.WkBaseDeclaredLeftLeft.{Left as Allowance};
+ghost use Rattle.lua_code.specs.LuaMeaningActs.{Returned};
+ghost use Rattle.lua_operators.specs.LuaSlotsPoints.{Gives};
+ghost use Rattle.lua_operators.specs.LuaStackDeclaredFrameEndingTheVariants as ending_kind;
+ghost use Rattle.lua_operators.specs.LuaStackDeclaredFrameFrameTheVariants as frame_kind;
+ghost use Rattle.lua_operators.specs.LuaStackDeclaredFrameInStatementTheVariants as in_statement;
+ghost use Rattle.lua_loops.specs.LuaStateOf.{StateOf};
+ghost use Rattle.lua_loops.specs.LuaStateSeen.{frames_of};
+ghost use Rattle.lua_operators.specs.LuaStoreParts.{IsOf};
+ghost use Rattle.lua_operators.specs.LuaStoreSeen.{StoreView, seen};
 ghost use Rattle.lua_strides.specs.Next.{focus_of};
 ghost use Rattle.lua_turns.specs.Rows.{Follows, IsNewest, MayFollow};
 
 use crate::leaving::leave_function;
 use crate::waiting::{Count, Waiting, drop_newest, of_newest};
-use lua_code::{Expression, Statement};
+use lua_code::{Expression, List, NoMemory, Statement};
 use lua_loops::leaving::keep_oldest;
-use lua_state::{State, leave_call};
-use lua_store::{Store, Value};
+use lua_loops::{State, leave_call};
+use lua_operators::{Left, Store, Value};
 use lua_strides::Next;
-use wk_base::{Left, List, NoMemory};
 
 /// The statements behind are passed by.
 fn pass_statements<'m>(state: &mut State<'m>, rest: &'m [Statement], value: Value) -> Next<'m>

@@ -1,13 +1,13 @@
 //! What is next is gone on with in place, where that can be done, and a row of strides begins with it.
 ghost use Rattle.std.specs.Prelude.{◌≡◌, ◌∷◌, [], map, option_map, IfOk};
 ghost use Rattle.lua_code.specs.Seen.{block_seen, branches_seen, expression_seen, expressions_seen, statement_seen, target_seen};
-ghost use Rattle.lua_slots.specs.Code.{AssignC, DeclareC, GlobalTargetC, MoreC, NoC, ThenC};
-ghost use Rattle.lua_slots.specs.Points.{Evals, Runs};
-ghost use Rattle.lua_stack.specs.Of.{FocusOf};
-ghost use Rattle.lua_stack.specs.Seen.{focus_seen};
-ghost use Rattle.lua_state.specs.Of.{StateOf};
-ghost use Rattle.lua_state.specs.Seen.{frames_of};
-ghost use Rattle.lua_store.specs.Seen.{StoreView};
+ghost use Rattle.lua_code.specs.LuaSlotsCode.{AssignC, DeclareC, GlobalTargetC, MoreC, NoC, ThenC};
+ghost use Rattle.lua_operators.specs.LuaSlotsPoints.{Evals, Runs};
+ghost use Rattle.lua_operators.specs.LuaStackOf.{FocusOf};
+ghost use Rattle.lua_operators.specs.LuaStackSeen.{focus_seen};
+ghost use Rattle.lua_loops.specs.LuaStateOf.{StateOf};
+ghost use Rattle.lua_loops.specs.LuaStateSeen.{frames_of};
+ghost use Rattle.lua_operators.specs.LuaStoreSeen.{StoreView};
 ghost use Rattle.lua_strides.specs.Conditions.{if_seen};
 ghost use Rattle.lua_strides.specs.Next.{focus_of};
 ghost use Rattle.lua_strides.specs.Strides.{MayStride};
@@ -25,15 +25,13 @@ use crate::setting::set;
 use crate::statements::{
     begin_assign, begin_call_statement, begin_declare, begin_if, begin_while, else_of,
 };
-use lua_code::{Branch, Expression, Operator, Statement, Target};
-use lua_stack::{Focus, Found};
-use lua_state::{State, constant_at_hand};
-use lua_store::Store;
-use lua_strides::Next;
+use lua_code::{Branch, Expression, List, NoMemory, Operator, Statement, Target};
+use lua_loops::{State, Steps};
+use lua_operators::{Focus, Left, Store};
 use lua_strides::striding::{expression, front_of, only, statement};
+use lua_strides::{Found, Next, constant_at_hand};
 use std::alloc::Global;
 use std::sync::ledger::Ledger;
-use wk_base::{Left, List, NoMemory, Steps};
 
 /// A declaration of one value begins.
 fn begin_local<'m, L: Ledger>(

@@ -1,34 +1,29 @@
 //! An entry of a table that is set in place (manual 2.3): where no handler is asked, the table is not read-only, and the key is not nil.
 ghost use Rattle.std.specs.Prelude.{◌≡◌, ◌||◌, ◌∷◌, [], ℕ, true, not, List as Items, Option as MayBe, IfOk, OnOk};
-ghost use Rattle.wk_base.specs.declared.left.Left.{Left as Allowance};
+ghost use Rattle.lua_loops.specs.WkBaseDeclaredLeftLeft.{Left as Allowance};
 ghost use Rattle.lua_code.specs.Seen.{place_seen};
-ghost use Rattle.lua_heap.specs.Heap.{set_in, table_at};
-ghost use Rattle.lua_heap.specs.Table.{has};
-ghost use Rattle.lua_heap.specs.Value as kind;
-ghost use Rattle.lua_slots.specs.Index as machine;
-ghost use Rattle.lua_slots.specs.Points.{EntryS, PlaceS, SFrame, Sets};
-ghost use Rattle.lua_slots.specs.Slots.{Slots};
-ghost use Rattle.lua_stack.specs.Of.{EnvironmentOf, SettingOf};
-ghost use Rattle.lua_stack.specs.Seen.{setting_seen};
-ghost use Rattle.lua_state.specs.Of.{StateOf};
-ghost use Rattle.lua_state.specs.Seen.{frames_of};
-ghost use Rattle.lua_store.specs.Parts.{IsLater, IsOf, IsTableOf};
-ghost use Rattle.lua_store.specs.Seen.{seen};
+ghost use Rattle.lua_code.specs.LuaHeapHeap.{set_in, table_at};
+ghost use Rattle.lua_code.specs.LuaHeapTable.{has};
+ghost use Rattle.lua_code.specs.LuaHeapValue as kind;
+ghost use Rattle.lua_code.specs.LuaSlotsIndex as machine;
+ghost use Rattle.lua_operators.specs.LuaSlotsPoints.{EntryS, PlaceS, SFrame, Sets};
+ghost use Rattle.lua_operators.specs.LuaSlotsSlots.{Slots};
+ghost use Rattle.lua_operators.specs.LuaStackOf.{EnvironmentOf, SettingOf};
+ghost use Rattle.lua_operators.specs.LuaStackSeen.{setting_seen};
+ghost use Rattle.lua_loops.specs.LuaStateOf.{StateOf};
+ghost use Rattle.lua_loops.specs.LuaStateSeen.{frames_of};
+ghost use Rattle.lua_operators.specs.LuaStoreParts.{IsLater, IsOf, IsTableOf};
+ghost use Rattle.lua_operators.specs.LuaStoreSeen.{seen};
 ghost use Rattle.lua_strides.specs.declared.next.Next.TheVariants as next_kind;
 ghost use Rattle.lua_strides.specs.Next.{focus_of};
 ghost use Rattle.lua_turns.specs.Rows.{Follows, MayFollow};
 ghost use Rattle.lua_turns.specs.Setting.{Puts};
 
-use lua_arms::tables::handler;
-use lua_code::Place;
-use lua_stack::register::write;
-use lua_stack::values::is_nil;
-use lua_stack::{Environment, Found, Setting};
-use lua_state::State;
-use lua_store::{Store, TableId, Value};
-use lua_strides::Next;
+use lua_code::{NoMemory, Place};
+use lua_loops::State;
+use lua_operators::{Environment, Left, Store, Value, is_nil};
 use lua_strides::running::running_closure;
-use wk_base::{Left, NoMemory};
+use lua_strides::{Found, Next, Setting, TableId, handler, write};
 
 /// Whether an assignment to this entry asks nobody, and may change the table.
 fn is_plain(store: &Store, env: &Environment, table: TableId, key: Value) -> bool

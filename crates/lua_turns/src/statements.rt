@@ -1,29 +1,28 @@
 //! Statements begin whose expressions are not read in place: frames wait for these (manual 2.4).
 ghost use Rattle.std.specs.Prelude.{◌≡◌, ◌∷◌, [], option_map, IfOk, OnOk};
 ghost use Rattle.lua_code.specs.Seen.{block_seen, branches_seen, expression_seen};
-ghost use Rattle.lua_slots.specs.Code.{ArmC, AssignC, CTarget, CallStatC, DeclareC, MoreC, NoC, ThenC, WhileC};
-ghost use Rattle.lua_slots.specs.Points.{Runs};
-ghost use Rattle.lua_stack.specs.declared.frame.Frame.TheVariants as frame_kind;
-ghost use Rattle.lua_stack.specs.declared.frame.InAssignment.TheVariants as in_assignment;
-ghost use Rattle.lua_stack.specs.declared.frame.InExpression.TheVariants as in_expression;
-ghost use Rattle.lua_stack.specs.declared.frame.InStatement.TheVariants as in_statement;
-ghost use Rattle.lua_stack.specs.Of.{FoundOf};
-ghost use Rattle.lua_stack.specs.Seen.{found_seen};
-ghost use Rattle.lua_state.specs.Of.{StateOf};
-ghost use Rattle.lua_state.specs.Seen.{constants_in, frames_of};
-ghost use Rattle.lua_store.specs.Seen.{StoreView};
+ghost use Rattle.lua_code.specs.LuaSlotsCode.{ArmC, AssignC, CTarget, CallStatC, DeclareC, MoreC, NoC, ThenC, WhileC};
+ghost use Rattle.lua_operators.specs.LuaSlotsPoints.{Runs};
+ghost use Rattle.lua_operators.specs.LuaStackDeclaredFrameFrameTheVariants as frame_kind;
+ghost use Rattle.lua_operators.specs.LuaStackDeclaredFrameInAssignmentTheVariants as in_assignment;
+ghost use Rattle.lua_operators.specs.LuaStackDeclaredFrameInExpressionTheVariants as in_expression;
+ghost use Rattle.lua_operators.specs.LuaStackDeclaredFrameInStatementTheVariants as in_statement;
+ghost use Rattle.lua_operators.specs.LuaStackOf.{FoundOf};
+ghost use Rattle.lua_operators.specs.LuaStackSeen.{found_seen};
+ghost use Rattle.lua_loops.specs.LuaStateOf.{StateOf};
+ghost use Rattle.lua_loops.specs.LuaStateSeen.{constants_in, frames_of};
+ghost use Rattle.lua_operators.specs.LuaStoreSeen.{StoreView};
 ghost use Rattle.lua_strides.specs.Conditions.{if_seen};
 ghost use Rattle.lua_strides.specs.Strides.{MayStride};
 ghost use Rattle.lua_turns.specs.Assigning.{IsFoundAt};
 
-use lua_code::{Branch, Expression, Statement};
-use lua_stack::{Found, Frame, InAssignment, InExpression, InLoop, InStatement, Stack, Values};
-use lua_state::State;
-use lua_strides::Next;
+use lua_code::{Branch, Expression, List, NoMemory, Statement};
+use lua_loops::{InLoop, State, Steps, Values};
+use lua_operators::{Frame, InAssignment, InExpression, Left, Stack};
 use lua_strides::ending::{pay_nodes, wait_for, wait_within};
+use lua_strides::{Found, InStatement, Next};
 use std::alloc::Global;
 use std::sync::ledger::Ledger;
-use wk_base::{Left, List, NoMemory, Steps};
 
 /// A call that is a statement begins, where its step is left.
 pub fn begin_call_statement<'m, L: Ledger>(

@@ -1,20 +1,18 @@
 //! The newest frame, where it is gone on with in place.
 ghost use Rattle.std.specs.Prelude.{◌≡◌, ◌∷◌, [], List as Items, IfSome};
-ghost use Rattle.lua_stack.specs.declared.frame.Ending.{Ending as EndingValue};
-ghost use Rattle.lua_stack.specs.declared.frame.Frame.{Frame as FrameValue};
-ghost use Rattle.lua_stack.specs.declared.frame.Frame.TheVariants as frame_kind;
-ghost use Rattle.lua_stack.specs.declared.frame.InAssignment.TheVariants as in_assignment;
-ghost use Rattle.lua_stack.specs.declared.frame.InExpression.TheVariants as in_expression;
+ghost use Rattle.lua_operators.specs.LuaStackDeclaredFrameEnding.{Ending as EndingValue};
+ghost use Rattle.lua_strides.specs.LuaStackDeclaredFrameFrame.{Frame as FrameValue};
+ghost use Rattle.lua_operators.specs.LuaStackDeclaredFrameFrameTheVariants as frame_kind;
+ghost use Rattle.lua_operators.specs.LuaStackDeclaredFrameInAssignmentTheVariants as in_assignment;
+ghost use Rattle.lua_operators.specs.LuaStackDeclaredFrameInExpressionTheVariants as in_expression;
 ghost use Rattle.lua_turns.specs.Rows.{IsNewest};
 ghost use Rattle.lua_turns.specs.Waiting.{Waits};
 
-use lua_code::{Branch, Expression, Operator, Statement};
-use lua_stack::{
-    Ending, Found, Frame, InAssignment, InExpression, InLoop, InStatement, Stack, Values,
-};
-use lua_store::{TextId, Value};
+use lua_code::{Branch, Expression, List, Operator, Statement};
+use lua_loops::{Ending, InLoop, Values};
+use lua_operators::{Frame, InAssignment, InExpression, Stack, TextId, Value};
+use lua_strides::{Found, InStatement};
 use lua_syntax::UnaryOp;
-use wk_base::List;
 
 /// A counting loop in one of its turns: how many registers are below those of the turn, whether the variable has a cell, the index, the
 /// limit, the step, and the body.

@@ -1,3 +1,7 @@
+pub use Rattle.lua_heap.proofs.Frames as LuaHeapFrames
+pub use Rattle.lua_heap.proofs.GraphLaws as LuaHeapGraphLaws
+pub use Rattle.lua_heap.proofs.Names as LuaHeapNames
+pub use Rattle.lua_heap.proofs.Values as LuaHeapValues
 pub mod Orders
 pub mod Visits
 pub mod Graphs

@@ -3,7 +3,7 @@ use Rattle.std.proofs.Common.{◌≡◌, ℕ, zero, suc, ◌<◌, eqb, Bool, tru
 use Rattle.std.specs.List.{AllByRecursion, Contains, IsDistinct, flat_map}
 use Rattle.std.proofs.lemmas.Bool.{eqb-true}
 use Rattle.std.proofs.lemmas.Bool.Decides.{nat_tests}
-use Rattle.lua_table.specs.Entries.{Contents}
+use Rattle.lua_heap.specs.LuaTableEntries.{Contents}
 use Rattle.lua_heap.specs.Value.{Value, Nil, Truth, Number, Text, Table, Closure, Builtin, Markup}
 use Rattle.lua_heap.specs.Table.{Entries}
 use Rattle.lua_heap.proofs.Names.{all-split, all-join, all-map, all-any}

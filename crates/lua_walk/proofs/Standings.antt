@@ -3,7 +3,7 @@ use Rattle.std.proofs.Common.{◌≡◌, ℕ, zero, suc, ◌+◌, ◌*◌, ◌<�
 use Rattle.std.specs.Prelude.{Ok, Err}
 use Rattle.std.specs.List.{AllByRecursion, flat_map}
 use Rattle.std.proofs.lemmas.Option.{slice_get_within}
-use Rattle.lua_table.specs.Entries.{Contents}
+use Rattle.lua_heap.specs.LuaTableEntries.{Contents}
 use Rattle.lua_heap.specs.Value.{Value, Table, is_nil}
 use Rattle.lua_heap.specs.Table.{Entries}
 use Rattle.lua_heap.specs.Heap.{Heap, tab, TableObj, table_at}

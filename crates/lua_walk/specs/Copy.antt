@@ -1,7 +1,7 @@
 -- THE COPY OF A VALUE (Scribunto, mw.clone): a new table for each table that is reached, as a value or as a metatable, with
 -- cycles kept. A copy can be written. Keys, functions and objects of mw.html stay as they are, and cleared entries are left out.
 use Rattle.std.specs.Prelude.{ℕ, ◌+◌, ◌*◌, false, List, [], ◌∷◌, ◌++◌, length, map}
-use Rattle.lua_table.specs.Entries.{Contents}
+use Rattle.lua_heap.specs.LuaTableEntries.{Contents}
 use Rattle.lua_heap.specs.Value.{Value, Table}
 use Rattle.lua_heap.specs.Heap.{Heap, table_at}
 use Rattle.lua_walk.specs.Order.{place_of, reached, live}

@@ -4,7 +4,7 @@
 use Rattle.std.specs.Prelude.{ℕ, ◌++◌, List, [], ◌∷◌, Result, Ok, Err, if◌then◌else◌}
 use Rattle.std.specs.List.{list_any}
 use Rattle.std.specs.Str.{bytes_eq}
-use Rattle.lua_table.specs.Entries.{Contents}
+use Rattle.lua_heap.specs.LuaTableEntries.{Contents}
 use Rattle.lua_heap.specs.Value.{Value, Truth, Number, Text, Table, Closure, Builtin, Markup, is_nil}
 use Rattle.lua_heap.specs.Table.{Entries}
 use Rattle.lua_heap.specs.Heap.{Heap, table_at}

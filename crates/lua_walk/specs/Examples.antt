@@ -1,6 +1,6 @@
 -- SMALL HEAPS, walked by hand. Functions hold nothing here. Each heap has the text of Lua that makes it.
 use Rattle.std.specs.Prelude.{◌≡◌, ℕ, pos, true, false, List, [], ◌∷◌, Ok, Err, codes}
-use Rattle.lua_table.specs.Entries.{Contents}
+use Rattle.lua_heap.specs.LuaTableEntries.{Contents}
 use Rattle.lua_heap.specs.declared.library.Library.TheVariants.{BasicNext}
 use Rattle.lua_heap.specs.Value.{Value, Nil, Number, Text, Table, Builtin, Markup}
 use Rattle.lua_heap.specs.Table.{Entries, set}

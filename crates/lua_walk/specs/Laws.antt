@@ -1,7 +1,7 @@
 -- LAWS OF THE WALK, OF DATA AND OF COPIES
 use Rattle.std.specs.Prelude.{◌≡◌, ℕ, ◌+◌, ◌<◌, ◌≤◌, Bool, eqb, List, [], ◌∷◌, ◌++◌, length, Ok, Some, IsTrue, slice_get}
 use Rattle.std.specs.List.{AllByRecursion, Contains, IsDistinct, flat_map}
-use Rattle.lua_table.specs.Entries.{Contents}
+use Rattle.lua_heap.specs.LuaTableEntries.{Contents}
 use Rattle.lua_heap.specs.Value.{Value, Table}
 use Rattle.lua_heap.specs.Table.{HasValueKeys}
 use Rattle.lua_heap.specs.Heap.{Heap, Ref, tab, table_at}

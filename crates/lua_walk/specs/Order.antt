@@ -1,7 +1,7 @@
 -- TABLES IN ORDER OF FIRST REACH (Scribunto, mw.loadData and mw.clone). A table leads to its metatable, and then to the
 -- values of its entries in their order; a key leads nowhere, and a cleared entry has no value. The walk is breadth first.
 use Rattle.std.specs.Prelude.{ℕ, zero, suc, ◌+◌, List, [], ◌∷◌, Option, Some, None, if◌then◌else◌, eqb, slice_get, length}
-use Rattle.lua_table.specs.Entries.{Contents}
+use Rattle.lua_heap.specs.LuaTableEntries.{Contents}
 use Rattle.lua_heap.specs.Value.{Value, Table, is_nil}
 use Rattle.lua_heap.specs.Table.{Entries}
 use Rattle.lua_heap.specs.Heap.{Heap, table_at}

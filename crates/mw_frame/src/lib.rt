@@ -11,6 +11,6 @@
 pub mod question;
 pub mod scene;
 
-pub use page_run::Which;
 pub use question::Ask;
 pub use scene::{Arg, Job, Scene};
+pub use wk_base::{Bytes, Left, Limits, List, Namespace, NoMemory, Steps, Title, TitleFault};

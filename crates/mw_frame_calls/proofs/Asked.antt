@@ -1,14 +1,14 @@
 -- What `expandTemplate` and `newChild` come to, for what was found of their arguments.
 use Rattle.std.proofs.Common.{◌≡◌, ◌∙◌, ap, sym, ℕ, List, Ok, Err, codes}
-use Rattle.lua_heap.specs.Proc.{Proc}
-use Rattle.lua_heap.specs.Value as kind
-use Rattle.lua_heap.specs.Value.{Table}
-use Rattle.lua_heap.specs.Table.{Entries}
-use Rattle.lua_meaning.specs.Acts.{Frame}
-use Rattle.lua_meaning.specs.Arguments.{Argument}
-use Rattle.lua_meaning.specs.Metatables.{field}
-use Rattle.lua_meaning.specs.FrameMethods.{Framed, if_argument, refuses, a_request, entries_of}
-use Rattle.lua_store.specs.Seen.{StoreView, seen}
+use Rattle.mw_frame_texts.specs.LuaHeapProc.{Proc}
+use Rattle.mw_frame_texts.specs.LuaHeapValue as kind
+use Rattle.mw_frame_texts.specs.LuaHeapValue.{Table}
+use Rattle.mw_frame_texts.specs.LuaHeapTable.{Entries}
+use Rattle.mw_frame_texts.specs.LuaMeaningActs.{Frame}
+use Rattle.mw_frame_texts.specs.LuaMeaningArguments.{Argument}
+use Rattle.mw_frame_texts.specs.LuaMeaningMetatables.{field}
+use Rattle.mw_frame_texts.specs.LuaMeaningFrameMethods.{Framed, if_argument, refuses, a_request, entries_of}
+use Rattle.mw_frame_texts.specs.LuaStoreSeen.{StoreView, seen}
 use Rattle.mw_frame_calls.specs.declared.requests.Request.{Request}
 use Rattle.mw_frame_calls.specs.Parts.{IsRequest}
 

@@ -1,24 +1,24 @@
 -- Arguments that are found, and those that are refused; what costs nothing, and what is paid for.
 use Rattle.std.proofs.Common.{◌≡◌, ℕ, ◌-◌, ◌≤◌, ℤ, List, [], Ok, Err, refl, arith, sym, ap, subst, ◌∙◌}
 use Rattle.std.specs.Prelude.{Result}
-use Rattle.wk_base.specs.declared.left.Left.{Left}
-use Rattle.wk_base.specs.declared.title.Title.{Title}
-use Rattle.lua_heap.specs.Proc.{Proc}
-use Rattle.lua_heap.specs.Heap.{Heap}
-use Rattle.lua_heap.specs.Value as kind
-use Rattle.lua_meaning.specs.Acts.{Frame}
-use Rattle.lua_meaning.specs.Scope.{Bytes}
-use Rattle.lua_meaning.specs.Arguments.{Plain, Gives, Fails, Argument, gives, fails}
-use Rattle.lua_meaning.specs.FrameMethods.{Framed, FramedEnd, FrameEnds, FrameQuotes, behind_charge, refuses, as_framed, if_argument, if_title}
-use Rattle.lua_store.specs.declared.value.Value.{Value}
-use Rattle.lua_store.specs.Seen.{StoreView, seen, text_at}
-use Rattle.lua_store.specs.declared.ids.TextId.{TextId}
-use Rattle.lua_basic.specs.declared.stop.Stop.{Stop}
-use Rattle.lua_basic.specs.declared.stop.Stop.TheVariants as stop
-use Rattle.lua_basic.specs.Seen as plain
-use Rattle.lua_basic.specs.Seen.{less_steps, Refuses}
-use Rattle.mw_frames.specs.Costs.{Took, Unpaid, MayPay}
-use Rattle.mw_frames.proofs.Sums.{took_then, lacked_then}
+use Rattle.mw_frame.specs.WkBaseDeclaredLeftLeft.{Left}
+use Rattle.mw_frame.specs.WkBaseDeclaredTitleTitle.{Title}
+use Rattle.mw_frame_texts.specs.LuaHeapProc.{Proc}
+use Rattle.mw_frame_texts.specs.LuaHeapHeap.{Heap}
+use Rattle.mw_frame_texts.specs.LuaHeapValue as kind
+use Rattle.mw_frame_texts.specs.LuaMeaningActs.{Frame}
+use Rattle.mw_frame_texts.specs.LuaMeaningScope.{Bytes}
+use Rattle.mw_frame_texts.specs.LuaMeaningArguments.{Plain, Gives, Fails, Argument, gives, fails}
+use Rattle.mw_frame_texts.specs.LuaMeaningFrameMethods.{Framed, FramedEnd, FrameEnds, FrameQuotes, behind_charge, refuses, as_framed, if_argument, if_title}
+use Rattle.mw_frame_texts.specs.LuaStoreDeclaredValueValue.{Value}
+use Rattle.mw_frame_texts.specs.LuaStoreSeen.{StoreView, seen, text_at}
+use Rattle.mw_frame_texts.specs.LuaStoreDeclaredIdsTextId.{TextId}
+use Rattle.mw_frame_texts.specs.LuaBasicDeclaredStopStop.{Stop}
+use Rattle.mw_frame_texts.specs.LuaBasicDeclaredStopStopTheVariants as stop
+use Rattle.mw_frame_texts.specs.LuaBasicSeen as plain
+use Rattle.mw_frame_texts.specs.LuaBasicSeen.{less_steps, Refuses}
+use Rattle.mw_frame_texts.specs.MwFramesCosts.{Took, Unpaid, MayPay}
+use Rattle.mw_frame_texts.proofs.MwFramesSums.{took_then, lacked_then}
 use Rattle.mw_frame_calls.specs.declared.answer.FrameAnswer.{FrameAnswer}
 use Rattle.mw_frame_calls.specs.declared.answer.FrameAnswer.TheVariants as answer
 use Rattle.mw_frame_calls.specs.Seen.{ends, Stops, Free, Covers, Paid}

@@ -1,17 +1,17 @@
 -- Frames by number, and the frames of a run with one more.
 use Rattle.std.proofs.Common.{◌≡◌, ◌∙◌, ap, sym, ℕ, ◌+◌, List, [], ◌∷◌, ◌++◌, length, slice_get, slice_set, Some}
 use Rattle.mw_frame.specs.declared.scene.Scene.{Scene}
-use Rattle.lua_heap.specs.Proc.{Proc}
-use Rattle.lua_heap.specs.Heap.{Heap}
-use Rattle.lua_heap.specs.Value.{Table}
-use Rattle.lua_meaning.specs.Acts.{Frame, Nobody, Made}
-use Rattle.lua_meaning.specs.Frames.{new_frame}
-use Rattle.lua_store.specs.declared.ids.TableId.{TableId}
-use Rattle.mw_frames.specs.declared.scenes.Parent.{Parent}
-use Rattle.mw_frames.specs.declared.scenes.Parent.TheVariants as kin
-use Rattle.mw_frames.specs.declared.scenes.SceneFrame.{SceneFrame}
-use Rattle.mw_frames.specs.Scenes.{parent_seen, frame_seen, frames_seen}
-use Rattle.mw_frames.proofs.Kept.{seen-length, seen-push, seen-set}
+use Rattle.mw_frame_texts.specs.LuaHeapProc.{Proc}
+use Rattle.mw_frame_texts.specs.LuaHeapHeap.{Heap}
+use Rattle.mw_frame_texts.specs.LuaHeapValue.{Table}
+use Rattle.mw_frame_texts.specs.LuaMeaningActs.{Frame, Nobody, Made}
+use Rattle.mw_frame_texts.specs.LuaMeaningFrames.{new_frame}
+use Rattle.mw_frame_texts.specs.LuaStoreDeclaredIdsTableId.{TableId}
+use Rattle.mw_frame_texts.specs.MwFramesDeclaredScenesParent.{Parent}
+use Rattle.mw_frame_texts.specs.MwFramesDeclaredScenesParentTheVariants as kin
+use Rattle.mw_frame_texts.specs.MwFramesDeclaredScenesSceneFrame.{SceneFrame}
+use Rattle.mw_frame_texts.specs.MwFramesScenes.{parent_seen, frame_seen, frames_seen}
+use Rattle.mw_frame_texts.proofs.MwFramesKept.{seen-length, seen-push, seen-set}
 
 -- ONE MORE FRAME, as it is seen
 one_more : (h : Heap Proc) (scene : Scene) (table : TableId) (parent : Parent) → table.at ≡ length h.tables + 2

@@ -1,7 +1,7 @@
 -- Each function of frames is a line of the table of the library, and no other line sees the frames.
 use Rattle.std.proofs.Common.{◌≡◌, ap, Some}
-use Rattle.lua_heap.specs.declared.library.Library.TheVariants.{MwGetCurrentFrame, FrameGetParent, FrameExpandTemplate, FramePreprocess, FrameGetArgument, FrameArgumentPairs, FrameNewChild, FrameGetTitle, FrameExtensionTag}
-use Rattle.lua_meaning.specs.Libraries.{InFrames}
+use Rattle.mw_frame_texts.specs.LuaHeapDeclaredLibraryLibraryTheVariants.{MwGetCurrentFrame, FrameGetParent, FrameExpandTemplate, FramePreprocess, FrameGetArgument, FrameArgumentPairs, FrameNewChild, FrameGetTitle, FrameExtensionTag}
+use Rattle.mw_frame_texts.specs.LuaMeaningLibraries.{InFrames}
 use Rattle.mw_frame_calls.specs.declared.table.FrameFunction.{FrameFunction}
 use Rattle.mw_frame_calls.specs.declared.table.FrameFunction.TheVariants as function
 use Rattle.mw_frame_calls.specs.Table.{framed_of, AreInTable, NoOtherIs}

@@ -1,10 +1,10 @@
 -- The table that `getArgument` gives.
 use Rattle.std.proofs.Common.{◌≡◌, ◌∙◌, ap, ℕ, [], ◌∷◌, length}
-use Rattle.lua_heap.specs.Value.{Value, Nil}
-use Rattle.lua_heap.specs.Heap.{Heap, set_in, new_table}
-use Rattle.lua_meaning.specs.Frames.{with_table}
-use Rattle.lua_graph.proofs.Joining.{all_set}
-use Rattle.mw_frames.proofs.Tables.{one_filled}
+use Rattle.mw_frame_texts.specs.LuaHeapValue.{Value, Nil}
+use Rattle.mw_frame_texts.specs.LuaHeapHeap.{Heap, set_in, new_table}
+use Rattle.mw_frame_texts.specs.LuaMeaningFrames.{with_table}
+use Rattle.mw_frame_texts.proofs.LuaGraphJoining.{all_set}
+use Rattle.mw_frame_texts.proofs.MwFramesTables.{one_filled}
 
 pub two_set : {X : Type 0} (h i j k : Heap X) (n : ℕ) (a b : Value × Value) → i ≡ (new_table h).0 → j ≡ set_in i n a.0 a.1 → k ≡ set_in j n b.0 b.1 → n ≡ length h.tables
     → all_set [] (a ∷ b ∷ []) ≡ a ∷ b ∷ [] → k ≡ with_table h (a ∷ b ∷ []) Nil

@@ -3,23 +3,23 @@ use Rattle.std.proofs.Common.{◌≡◌, ◌∙◌, ap, sym, ℕ, List, [], ◌�
 use Rattle.std.specs.Prelude.{Result, IfOk, IfErr}
 use Rattle.std.specs.Option.{option_map}
 use Rattle.mw_frame.specs.declared.question.Ask.{Ask}
-use Rattle.lua_heap.specs.Proc.{Proc}
-use Rattle.lua_heap.specs.Heap.{Heap}
-use Rattle.lua_heap.specs.Value as kind
-use Rattle.lua_meaning.specs.Acts.{Frame}
-use Rattle.lua_meaning.specs.Questions.{Asked}
-use Rattle.lua_meaning.specs.Scope.{Bytes}
-use Rattle.lua_meaning.specs.Values.{first}
-use Rattle.lua_meaning.specs.Arguments.{Gives, some_value}
-use Rattle.lua_meaning.specs.Messages.{bad_argument, expected}
-use Rattle.lua_meaning.specs.Metatables.{metatable, field}
-use Rattle.lua_meaning.specs.Frames.{Numbered, frame_numbered, number_in_metatable, table_of_frame, table_or_nil}
-use Rattle.lua_meaning.specs.FrameMethods.{Framed, FramedEnd, FrameEnds, FrameAsks, FrameWalks, comes_to, a_frame}
-use Rattle.lua_store.specs.declared.value.Value.{Value}
-use Rattle.lua_store.specs.Seen.{StoreView, seen}
-use Rattle.mw_frames.specs.declared.scenes.SceneFrame.{SceneFrame}
-use Rattle.mw_frames.specs.Scenes.{frame_seen, frames_seen}
-use Rattle.mw_frames.proofs.Kept.{seen-get}
+use Rattle.mw_frame_texts.specs.LuaHeapProc.{Proc}
+use Rattle.mw_frame_texts.specs.LuaHeapHeap.{Heap}
+use Rattle.mw_frame_texts.specs.LuaHeapValue as kind
+use Rattle.mw_frame_texts.specs.LuaMeaningActs.{Frame}
+use Rattle.mw_frame_texts.specs.LuaMeaningQuestions.{Asked}
+use Rattle.mw_frame_texts.specs.LuaMeaningScope.{Bytes}
+use Rattle.mw_frame_texts.specs.LuaMeaningValues.{first}
+use Rattle.mw_frame_texts.specs.LuaMeaningArguments.{Gives, some_value}
+use Rattle.mw_frame_texts.specs.LuaMeaningMessages.{bad_argument, expected}
+use Rattle.mw_frame_texts.specs.LuaMeaningMetatables.{metatable, field}
+use Rattle.mw_frame_texts.specs.LuaMeaningFrames.{Numbered, frame_numbered, number_in_metatable, table_of_frame, table_or_nil}
+use Rattle.mw_frame_texts.specs.LuaMeaningFrameMethods.{Framed, FramedEnd, FrameEnds, FrameAsks, FrameWalks, comes_to, a_frame}
+use Rattle.mw_frame_texts.specs.LuaStoreDeclaredValueValue.{Value}
+use Rattle.mw_frame_texts.specs.LuaStoreSeen.{StoreView, seen}
+use Rattle.mw_frame_texts.specs.MwFramesDeclaredScenesSceneFrame.{SceneFrame}
+use Rattle.mw_frame_texts.specs.MwFramesScenes.{frame_seen, frames_seen}
+use Rattle.mw_frame_texts.proofs.MwFramesKept.{seen-get}
 use Rattle.mw_frame_calls.specs.declared.answer.FrameAnswer.{FrameAnswer}
 use Rattle.mw_frame_calls.specs.declared.answer.FrameAnswer.TheVariants as answer
 use Rattle.mw_frame_calls.specs.Seen.{end_seen, ends}

@@ -1,3 +1,4 @@
+pub use Rattle.mw_frame_texts.specs.LuaMeaningFrameMethods as LuaMeaningFrameMethods
 pub mod Seen
 pub mod Table
 pub mod Parts

@@ -2,31 +2,31 @@
 -- behind it. Each method is one of these behind its frame.
 use Rattle.std.specs.Prelude.{◌≡◌, ℕ, ◌+◌, List, [], ◌∷◌, length, Option, Some, None, Ok, Err, codes}
 use Rattle.std.specs.Option.{option_map}
-use Rattle.wk_base.specs.declared.title.Title.{Title}
-use Rattle.wk_base.specs.declared.title.Namespace.TheVariants.{Template as TemplateSpace}
-use Rattle.wk_base.specs.Titles.{title_text}
+use Rattle.mw_frame.specs.WkBaseDeclaredTitleTitle.{Title}
+use Rattle.mw_frame.specs.WkBaseDeclaredTitleNamespaceTheVariants.{Template as TemplateSpace}
+use Rattle.mw_frame.specs.WkBaseTitles.{title_text}
 use Rattle.mw_frame.specs.declared.scene.Arg.{Arg}
 use Rattle.mw_frame.specs.declared.scene.Scene.{Scene}
 use Rattle.mw_frame.specs.declared.question.Ask.TheVariants.{Template, Preprocess}
-use Rattle.lua_heap.specs.Proc.{Proc}
-use Rattle.lua_heap.specs.Value.{Value, Table}
-use Rattle.lua_heap.specs.Table.{Entries}
-use Rattle.lua_heap.specs.Heap.{Heap, table_at}
-use Rattle.lua_meaning.specs.Scope.{Bytes}
-use Rattle.lua_meaning.specs.Acts.{Frame}
-use Rattle.lua_meaning.specs.Arguments.{Argument, a_text}
-use Rattle.lua_meaning.specs.Questions.{TemplateAsked, TextAsked}
-use Rattle.lua_meaning.specs.Messages.{bad_template_arguments}
-use Rattle.lua_meaning.specs.Metatables.{field}
-use Rattle.lua_meaning.specs.Frames.{merge_args, arg_named, bytes_of, Numbered}
-use Rattle.lua_meaning.specs.FrameMethods.{Framed, if_argument, if_title, if_entries, asks, text_or_field, argument_table, a_request, a_title_text, an_optional_text, entries_of, read_title, child_title, child}
-use Rattle.lua_store.specs.declared.ids.TableId.{TableId}
-use Rattle.lua_store.specs.Seen.{StoreView, seen, text_at}
-use Rattle.lua_store.specs.Parts.{IsTextOf}
-use Rattle.lua_basic.specs.Arguments.{text_bytes}
-use Rattle.lua_basic.specs.declared.texts.TextIn.{TextIn}
-use Rattle.mw_frames.specs.Scenes.{frame_seen}
-use Rattle.mw_frames.specs.declared.scenes.SceneFrame.{SceneFrame}
+use Rattle.mw_frame_texts.specs.LuaHeapProc.{Proc}
+use Rattle.mw_frame_texts.specs.LuaHeapValue.{Value, Table}
+use Rattle.mw_frame_texts.specs.LuaHeapTable.{Entries}
+use Rattle.mw_frame_texts.specs.LuaHeapHeap.{Heap, table_at}
+use Rattle.mw_frame_texts.specs.LuaMeaningScope.{Bytes}
+use Rattle.mw_frame_texts.specs.LuaMeaningActs.{Frame}
+use Rattle.mw_frame_texts.specs.LuaMeaningArguments.{Argument, a_text}
+use Rattle.mw_frame_texts.specs.LuaMeaningQuestions.{TemplateAsked, TextAsked}
+use Rattle.mw_frame_texts.specs.LuaMeaningMessages.{bad_template_arguments}
+use Rattle.mw_frame_texts.specs.LuaMeaningMetatables.{field}
+use Rattle.mw_frame_texts.specs.LuaMeaningFrames.{merge_args, arg_named, bytes_of, Numbered}
+use Rattle.mw_frame_texts.specs.LuaMeaningFrameMethods.{Framed, if_argument, if_title, if_entries, asks, text_or_field, argument_table, a_request, a_title_text, an_optional_text, entries_of, read_title, child_title, child}
+use Rattle.mw_frame_texts.specs.LuaStoreDeclaredIdsTableId.{TableId}
+use Rattle.mw_frame_texts.specs.LuaStoreSeen.{StoreView, seen, text_at}
+use Rattle.mw_frame_texts.specs.LuaStoreParts.{IsTextOf}
+use Rattle.mw_frame_texts.specs.LuaBasicArguments.{text_bytes}
+use Rattle.mw_frame_texts.specs.LuaBasicDeclaredTextsTextIn.{TextIn}
+use Rattle.mw_frame_texts.specs.MwFramesScenes.{frame_seen}
+use Rattle.mw_frame_texts.specs.MwFramesDeclaredScenesSceneFrame.{SceneFrame}
 use Rattle.mw_frame_calls.specs.declared.requests.Request.{Request}
 use Rattle.mw_frame_calls.specs.declared.requests.TitleRead.{TitleRead}
 use Rattle.mw_frame_calls.specs.declared.requests.TitleRead.TheVariants as title

@@ -1,22 +1,22 @@
 -- WHAT THE ANSWERS OF FUNCTIONS THAT SEE THE FRAMES ARE SEEN AS; and when an answer is the meaning's own, with the objects and the
 -- frames that are there afterwards. `frames` are always those of the run, as the meaning sees them.
 use Rattle.std.specs.Prelude.{◌≡◌, ℕ, ◌<◌, ◌≤◌, List, Result, Ok, Err}
-use Rattle.wk_base.specs.declared.left.Left.{Left}
-use Rattle.lua_heap.specs.Proc.{Proc}
+use Rattle.mw_frame.specs.WkBaseDeclaredLeftLeft.{Left}
+use Rattle.mw_frame_texts.specs.LuaHeapProc.{Proc}
 use Rattle.mw_frame.specs.Scenes.{NamesDiffer}
 use Rattle.mw_frame.specs.declared.question.Ask.{Ask}
 use Rattle.mw_frame.specs.declared.question.Ask.TheVariants as ask
-use Rattle.lua_meaning.specs.Acts.{Frame}
-use Rattle.lua_meaning.specs.Arguments.{Gives, Fails}
-use Rattle.lua_meaning.specs.Questions as asking
-use Rattle.lua_meaning.specs.FrameMethods.{FramedEnd, FrameEnds, FrameQuotes, FrameAsks, FrameWalks, Framed}
-use Rattle.lua_store.specs.Seen.{StoreView, seen, text_at}
-use Rattle.lua_store.specs.Parts.{IsOf, IsTextOf}
-use Rattle.lua_basic.specs.declared.stop.Stop.{Stop}
-use Rattle.lua_basic.specs.declared.stop.Stop.TheVariants as stop
-use Rattle.lua_basic.specs.Seen.{values_seen, AllOf, StopOf, less_steps}
-use Rattle.mw_frames.specs.Scenes.{made, frames_seen}
-use Rattle.mw_frames.specs.declared.scenes.Scenes.{Scenes}
+use Rattle.mw_frame_texts.specs.LuaMeaningActs.{Frame}
+use Rattle.mw_frame_texts.specs.LuaMeaningArguments.{Gives, Fails}
+use Rattle.mw_frame_texts.specs.LuaMeaningQuestions as asking
+use Rattle.mw_frame_texts.specs.LuaMeaningFrameMethods.{FramedEnd, FrameEnds, FrameQuotes, FrameAsks, FrameWalks, Framed}
+use Rattle.mw_frame_texts.specs.LuaStoreSeen.{StoreView, seen, text_at}
+use Rattle.mw_frame_texts.specs.LuaStoreParts.{IsOf, IsTextOf}
+use Rattle.mw_frame_texts.specs.LuaBasicDeclaredStopStop.{Stop}
+use Rattle.mw_frame_texts.specs.LuaBasicDeclaredStopStopTheVariants as stop
+use Rattle.mw_frame_texts.specs.LuaBasicSeen.{values_seen, AllOf, StopOf, less_steps}
+use Rattle.mw_frame_texts.specs.MwFramesScenes.{made, frames_seen}
+use Rattle.mw_frame_texts.specs.MwFramesDeclaredScenesScenes.{Scenes}
 use Rattle.mw_frame_calls.specs.declared.answer.Awaited.{Awaited}
 use Rattle.mw_frame_calls.specs.declared.answer.Awaited.TheVariants as awaited
 use Rattle.mw_frame_calls.specs.declared.answer.FrameAnswer.{FrameAnswer}

@@ -1,14 +1,14 @@
 -- THE FUNCTIONS THAT SEE THE FRAMES, and what each gives: the lines of the meaning's table that do.
 use Rattle.std.specs.Prelude.{◌≡◌, ◌≢◌, List, Option, Some, None}
-use Rattle.lua_heap.specs.Proc.{Proc}
-use Rattle.lua_heap.specs.Value.{Value}
-use Rattle.lua_heap.specs.Heap.{Heap}
-use Rattle.lua_heap.specs.declared.library.Library.{Library}
-use Rattle.lua_heap.specs.declared.library.Library.TheVariants.{MwGetCurrentFrame, FrameGetParent, FrameExpandTemplate, FramePreprocess, FrameGetArgument, FrameArgumentPairs, FrameNewChild, FrameGetTitle, FrameExtensionTag}
-use Rattle.lua_meaning.specs.World.{World}
-use Rattle.lua_meaning.specs.Acts.{Frame}
-use Rattle.lua_meaning.specs.FrameMethods.{Framed, get_current_frame, get_title, get_parent, argument_pairs, get_argument, preprocess, frame_extension_tag, expand_template, new_child}
-use Rattle.lua_meaning.specs.Libraries.{InFrames, form}
+use Rattle.mw_frame_texts.specs.LuaHeapProc.{Proc}
+use Rattle.mw_frame_texts.specs.LuaHeapValue.{Value}
+use Rattle.mw_frame_texts.specs.LuaHeapHeap.{Heap}
+use Rattle.mw_frame_texts.specs.LuaHeapDeclaredLibraryLibrary.{Library}
+use Rattle.mw_frame_texts.specs.LuaHeapDeclaredLibraryLibraryTheVariants.{MwGetCurrentFrame, FrameGetParent, FrameExpandTemplate, FramePreprocess, FrameGetArgument, FrameArgumentPairs, FrameNewChild, FrameGetTitle, FrameExtensionTag}
+use Rattle.mw_frame_texts.specs.LuaMeaningWorld.{World}
+use Rattle.mw_frame_texts.specs.LuaMeaningActs.{Frame}
+use Rattle.mw_frame_texts.specs.LuaMeaningFrameMethods.{Framed, get_current_frame, get_title, get_parent, argument_pairs, get_argument, preprocess, frame_extension_tag, expand_template, new_child}
+use Rattle.mw_frame_texts.specs.LuaMeaningLibraries.{InFrames, form}
 use Rattle.mw_frame_calls.specs.declared.table.FrameFunction.{FrameFunction}
 use Rattle.mw_frame_calls.specs.declared.table.FrameFunction.TheVariants as function
 

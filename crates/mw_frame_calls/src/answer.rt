@@ -2,11 +2,9 @@
 ghost use Rattle.std.specs.Prelude.{◌≡◌, ◌∷◌, [], IfOk};
 ghost use Rattle.mw_frame_calls.specs.declared.answer.FrameAnswer.TheVariants as answer;
 
-use lua_basic::values::single;
-use lua_store::{TextId, Value};
-use mw_frame::Ask;
+use mw_frame::{Ask, List, NoMemory};
+use mw_frame_texts::{TextId, Value, single};
 use std::alloc::Global;
-use wk_base::{List, NoMemory};
 
 /// What waits for the answer of a question.
 #[derive(Clone, Copy, Debug, PartialEq, Eq)]

@@ -1,11 +1,11 @@
 //! Methods that ask: texts and templates are expanded in the scene of a frame (Scribunto, Frame object).
 ghost use Rattle.std.specs.Prelude.{IfSome};
-ghost use Rattle.lua_meaning.specs.FrameMethods as meaning;
+ghost use Rattle.mw_frame_texts.specs.LuaMeaningFrameMethods as meaning;
 ghost use Rattle.mw_frame.specs.Scenes.{NamesDiffer};
-ghost use Rattle.lua_store.specs.Parts.{IsTableOf, IsLater};
-ghost use Rattle.lua_basic.specs.Seen.{values_seen, AllOf};
-ghost use Rattle.mw_frames.specs.Reading.{args_seen};
-ghost use Rattle.mw_frames.specs.Scenes.{ScenesOf};
+ghost use Rattle.mw_frame_texts.specs.LuaStoreParts.{IsTableOf, IsLater};
+ghost use Rattle.mw_frame_texts.specs.LuaBasicSeen.{values_seen, AllOf};
+ghost use Rattle.mw_frame_texts.specs.MwFramesReading.{args_seen};
+ghost use Rattle.mw_frame_texts.specs.MwFramesScenes.{ScenesOf};
 ghost use Rattle.mw_frame_calls.specs.Seen.{scenes_seen, Paid, AnswerOf};
 ghost use Rattle.mw_frame_calls.specs.Parts.{entries_in, preprocess_in, template_asked, template_read as template_read_lem, template_titled as template_titled_lem, template_in};
 
@@ -14,18 +14,12 @@ use crate::finding::{a_frame, a_text_or_field};
 use crate::requests::{
     TitleRead, a_request, a_title, entries_table, pay_cleared, read_entries, refuse,
 };
-use lua_basic::Stop;
-use lua_basic::texts::text_in;
-use lua_basic::values::rest;
-use lua_store::{Store, TableId, Value};
-use mw_frame::{Ask, Scene};
-use mw_frames::Scenes;
-use mw_frames::copying::copy_scene;
-use mw_frames::merging::merge_args;
-use mw_frames::paying::pay;
-use mw_frames::reading::{ArgText, pay_bytes};
+use mw_frame::{Ask, Bytes, Namespace, Scene, Title};
+use mw_frame_texts::{
+    ArgText, Left, Scenes, Stop, Store, TableId, Value, copy_scene, merge_args, pay, pay_bytes,
+    rest, text_in,
+};
 use std::alloc::Global;
-use wk_base::{Bytes, Left, Namespace, Title};
 
 /// `preprocess` in a scene.
 fn preprocess_of(

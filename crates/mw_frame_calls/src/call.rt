@@ -1,7 +1,7 @@
 //! A function that sees the frames is called.
-ghost use Rattle.lua_store.specs.Parts.{IsLater};
-ghost use Rattle.lua_basic.specs.Seen.{values_seen, AllOf};
-ghost use Rattle.mw_frames.specs.Scenes.{ScenesOf};
+ghost use Rattle.mw_frame_texts.specs.LuaStoreParts.{IsLater};
+ghost use Rattle.mw_frame_texts.specs.LuaBasicSeen.{values_seen, AllOf};
+ghost use Rattle.mw_frame_texts.specs.MwFramesScenes.{ScenesOf};
 ghost use Rattle.mw_frame_calls.specs.Seen.{scenes_seen, Paid, AnswerOf};
 ghost use Rattle.mw_frame_calls.specs.Table.{framed_of};
 
@@ -12,11 +12,8 @@ use crate::parents::get_parent;
 use crate::reading::{argument_pairs, get_argument, get_current_frame, get_title};
 use crate::table::FrameFunction;
 use crate::tags::frame_extension_tag;
-use lua_basic::Stop;
-use lua_store::{Store, Value};
-use mw_frames::Scenes;
+use mw_frame_texts::{Left, Scenes, Stop, Store, Value};
 use std::alloc::Global;
-use wk_base::Left;
 
 /// What a function that sees the frames gives for these arguments, after its charge.
 ///

@@ -2,14 +2,14 @@
 ghost use Rattle.std.specs.Prelude.{◌≡◌, ◌+◌, ◌<◌, ◌++◌, ◌∷◌, [], Some, IfOk, IfSome, OnOk, length, slice_get};
 ghost use Rattle.std.specs.Option.{option_map};
 ghost use Rattle.mw_frame.specs.Scenes.{NamesDiffer};
-ghost use Rattle.lua_meaning.specs.Frames as frames;
-ghost use Rattle.lua_meaning.specs.FrameMethods as meaning;
-ghost use Rattle.lua_store.specs.Parts.{IsTableOf, IsLater};
-ghost use Rattle.lua_basic.specs.Arguments.{text_bytes};
-ghost use Rattle.lua_basic.specs.Seen.{values_seen, AllOf};
-ghost use Rattle.mw_frames.specs.Reading.{args_seen};
-ghost use Rattle.mw_frames.specs.Scenes.{made, HasNames, ScenesOf};
-ghost use Rattle.mw_frames.specs.declared.scenes.SceneFrame.{SceneFrame as SceneFrameValue};
+ghost use Rattle.mw_frame_texts.specs.LuaMeaningFrames as frames;
+ghost use Rattle.mw_frame_texts.specs.LuaMeaningFrameMethods as meaning;
+ghost use Rattle.mw_frame_texts.specs.LuaStoreParts.{IsTableOf, IsLater};
+ghost use Rattle.mw_frame_texts.specs.LuaBasicArguments.{text_bytes};
+ghost use Rattle.mw_frame_texts.specs.LuaBasicSeen.{values_seen, AllOf};
+ghost use Rattle.mw_frame_texts.specs.MwFramesReading.{args_seen};
+ghost use Rattle.mw_frame_texts.specs.MwFramesScenes.{made, HasNames, ScenesOf};
+ghost use Rattle.mw_frame_texts.specs.MwFramesDeclaredScenesSceneFrame.{SceneFrame as SceneFrameValue};
 ghost use Rattle.mw_frame_calls.specs.Seen.{scenes_seen, Paid, AnswerOf};
 ghost use Rattle.mw_frame_calls.specs.Parts.{numbered, child_scene as child_scene_lem, child_read as child_read_lem, child_titled as child_titled_lem, child_of as child_of_lem, entries_in};
 
@@ -19,18 +19,12 @@ use crate::requests::{
     TitleRead, a_child_title, a_request, entries_table, optional_text, pay_cleared, read_entries,
     refuse,
 };
-use lua_basic::Stop;
-use lua_basic::texts::TextIn;
-use lua_basic::values::rest;
-use lua_store::{Store, TableId, Value};
-use mw_frame::Scene;
-use mw_frames::copying::copy_titles;
-use mw_frames::merging::merge_args;
-use mw_frames::paying::pay;
-use mw_frames::reading::{ArgText, pay_read};
-use mw_frames::{Parent, SceneFrame, Scenes, make_frame};
+use mw_frame::{NoMemory, Scene, Title};
+use mw_frame_texts::{
+    ArgText, Left, Parent, SceneFrame, Scenes, Stop, Store, TableId, TextIn, Value, copy_titles,
+    make_frame, merge_args, pay, pay_read, rest,
+};
 use std::alloc::Global;
-use wk_base::{Left, NoMemory, Title};
 
 /// The scene of a child of a frame: its title, its arguments, and the frame's chain.
 fn child_scene(

@@ -1,30 +1,25 @@
 //! The frame of a method, and the arguments behind it.
 ghost use Rattle.std.specs.Prelude.{◌≡◌, ◌<◌, List, ℕ, Ok, None, Some, IfOk, IfErr, IfSome, OnOk, MatchOption, slice_get, length};
-ghost use Rattle.lua_heap.specs.Heap.{Heap};
-ghost use Rattle.lua_heap.specs.Proc.{Proc};
-ghost use Rattle.lua_heap.specs.Value as kind;
-ghost use Rattle.lua_meaning.specs.Acts.{Frame};
-ghost use Rattle.lua_meaning.specs.Arguments.{a_text as a_text_lem};
-ghost use Rattle.lua_meaning.specs.Frames.{frame_numbered, number_in_metatable};
-ghost use Rattle.lua_meaning.specs.FrameMethods as meaning;
-ghost use Rattle.lua_meaning.specs.Scope.{Bytes};
-ghost use Rattle.lua_store.specs.Seen.{StoreView, seen, text_at};
-ghost use Rattle.lua_store.specs.Parts.{IsOf, IsTextOf, IsTableOf, IsLater};
-ghost use Rattle.lua_basic.specs.Arguments.{text_bytes};
-ghost use Rattle.lua_basic.specs.Seen.{values_seen, AllOf, StopOf, Refuses};
-ghost use Rattle.mw_frames.specs.Scenes.{made};
-ghost use Rattle.mw_frames.specs.declared.scenes.SceneFrame.{SceneFrame as SceneFrameValue};
+ghost use Rattle.mw_frame_texts.specs.LuaHeapHeap.{Heap};
+ghost use Rattle.mw_frame_texts.specs.LuaHeapProc.{Proc};
+ghost use Rattle.mw_frame_texts.specs.LuaHeapValue as kind;
+ghost use Rattle.mw_frame_texts.specs.LuaMeaningActs.{Frame};
+ghost use Rattle.mw_frame_texts.specs.LuaMeaningArguments.{a_text as a_text_lem};
+ghost use Rattle.mw_frame_texts.specs.LuaMeaningFrames.{frame_numbered, number_in_metatable};
+ghost use Rattle.mw_frame_texts.specs.LuaMeaningFrameMethods as meaning;
+ghost use Rattle.mw_frame_texts.specs.LuaMeaningScope.{Bytes};
+ghost use Rattle.mw_frame_texts.specs.LuaStoreSeen.{StoreView, seen, text_at};
+ghost use Rattle.mw_frame_texts.specs.LuaStoreParts.{IsOf, IsTextOf, IsTableOf, IsLater};
+ghost use Rattle.mw_frame_texts.specs.LuaBasicArguments.{text_bytes};
+ghost use Rattle.mw_frame_texts.specs.LuaBasicSeen.{values_seen, AllOf, StopOf, Refuses};
+ghost use Rattle.mw_frame_texts.specs.MwFramesScenes.{made};
+ghost use Rattle.mw_frame_texts.specs.MwFramesDeclaredScenesSceneFrame.{SceneFrame as SceneFrameValue};
 ghost use Rattle.mw_frame_calls.specs.Seen.{scenes_seen};
 ghost use Rattle.mw_frame_calls.specs.Parts.{numbered as numbered_lem, given_or_field, found_request};
 
-use lua_basic::Stop;
-use lua_basic::arguments::a_text;
-use lua_basic::fields::metatable;
-use lua_basic::messages::refuse_kind;
-use lua_basic::texts::TextIn;
-use lua_basic::values::first;
-use lua_store::{Store, TableId, TextId, Value};
-use mw_frames::Scenes;
+use mw_frame_texts::{
+    Scenes, Stop, Store, TableId, TextId, TextIn, Value, a_text, first, metatable, refuse_kind,
+};
 use std::alloc::Global;
 
 /// What stands at 1 in a metatable, or nil.

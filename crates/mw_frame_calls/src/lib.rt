@@ -28,4 +28,5 @@ pub mod tags;
 
 pub use answer::{Awaited, FrameAnswer};
 pub use call::frame_call;
+pub use mw_frame_texts::args_index;
 pub use table::{FrameFunction, frame_function};

@@ -1,26 +1,24 @@
 //! The parents of frames, which are made when they are asked for first (Scribunto, `frame:getParent`).
 ghost use Rattle.std.specs.Prelude.{◌≡◌, ◌+◌, ◌<◌, ◌^◌, Some, length, slice_get};
-ghost use Rattle.lua_meaning.specs.Frames.{args_charge};
-ghost use Rattle.lua_meaning.specs.FrameMethods as meaning;
-ghost use Rattle.lua_store.specs.Parts.{IsLater};
-ghost use Rattle.lua_basic.specs.Seen.{values_seen, AllOf};
-ghost use Rattle.mw_frames.specs.Costs.{IsMade};
-ghost use Rattle.mw_frames.specs.Scenes.{made, parent_seen, ScenesOf};
-ghost use Rattle.mw_frames.specs.declared.scenes.SceneFrame.{SceneFrame as SceneFrameValue};
+ghost use Rattle.mw_frame_texts.specs.LuaMeaningFrames.{args_charge};
+ghost use Rattle.mw_frame_texts.specs.LuaMeaningFrameMethods as meaning;
+ghost use Rattle.mw_frame_texts.specs.LuaStoreParts.{IsLater};
+ghost use Rattle.mw_frame_texts.specs.LuaBasicSeen.{values_seen, AllOf};
+ghost use Rattle.mw_frame_texts.specs.MwFramesCosts.{IsMade};
+ghost use Rattle.mw_frame_texts.specs.MwFramesScenes.{made, parent_seen, ScenesOf};
+ghost use Rattle.mw_frame_texts.specs.MwFramesDeclaredScenesSceneFrame.{SceneFrame as SceneFrameValue};
 ghost use Rattle.mw_frame_calls.specs.Seen.{scenes_seen, Paid, AnswerOf};
 ghost use Rattle.mw_frame_calls.specs.Parts.{numbered};
-ghost use Rattle.lua_meaning.specs.Charges.{frame_charge};
+ghost use Rattle.mw_frame_texts.specs.LuaMeaningCharges.{frame_charge};
 
 use crate::answer::{FrameAnswer, one};
 use crate::finding::a_frame;
 use crate::reading::table_of;
-use lua_basic::Stop;
-use lua_store::{Store, TableId, Value};
 use mw_frame::Scene;
-use mw_frames::paying::{pay, pay_args};
-use mw_frames::{Parent, Scenes, make_frame};
+use mw_frame_texts::{
+    Left, Parent, Scenes, Stop, Store, TableId, Value, make_frame, pay, pay_args,
+};
 use std::alloc::Global;
-use wk_base::Left;
 
 /// A frame is made after what it costs.
 fn make_paid(

@@ -1,27 +1,23 @@
 //! What methods read of frames: titles, arguments, and the frame of an invocation (Scribunto, Frame object).
 ghost use Rattle.std.specs.Prelude.{◌≡◌, [], List, ℕ, None, Some, IfOk, OnOk, MatchOption, length};
-ghost use Rattle.lua_heap.specs.Value as kind;
-ghost use Rattle.lua_meaning.specs.Frames as frames;
-ghost use Rattle.lua_meaning.specs.FrameMethods as meaning;
-ghost use Rattle.lua_store.specs.Seen.{StoreView, seen};
-ghost use Rattle.lua_store.specs.Parts.{IsOf, IsTableOf, IsLater};
-ghost use Rattle.lua_basic.specs.Seen.{values_seen, AllOf};
-ghost use Rattle.mw_frames.specs.Scenes.{ScenesOf};
+ghost use Rattle.mw_frame_texts.specs.LuaHeapValue as kind;
+ghost use Rattle.mw_frame_texts.specs.LuaMeaningFrames as frames;
+ghost use Rattle.mw_frame_texts.specs.LuaMeaningFrameMethods as meaning;
+ghost use Rattle.mw_frame_texts.specs.LuaStoreSeen.{StoreView, seen};
+ghost use Rattle.mw_frame_texts.specs.LuaStoreParts.{IsOf, IsTableOf, IsLater};
+ghost use Rattle.mw_frame_texts.specs.LuaBasicSeen.{values_seen, AllOf};
+ghost use Rattle.mw_frame_texts.specs.MwFramesScenes.{ScenesOf};
 ghost use Rattle.mw_frame_calls.specs.Seen.{scenes_seen, Free, Paid, AnswerOf};
 ghost use Rattle.mw_frame_calls.specs.Parts.{argument_in};
 
 use crate::answer::{FrameAnswer, one};
 use crate::finding::{a_frame, a_text_or_field};
-use lua_basic::Stop;
-use lua_basic::fields::field_at;
-use lua_basic::values::{first, rest};
-use lua_store::{Library, Store, TableId, Value};
-use mw_frame::{Arg, Scene};
-use mw_frames::Scenes;
-use mw_frames::keys::set_field;
-use mw_frames::paying::{pay, split_args};
+use mw_frame::{Arg, NoMemory, Scene};
+use mw_frame_texts::{
+    Left, Library, Scenes, Stop, Store, TableId, Value, field_at, first, pay, rest, set_field,
+    split_args,
+};
 use std::alloc::Global;
-use wk_base::{Left, NoMemory};
 
 /// The table of the frame of that number, or nil.
 pub fn table_of(scenes: &Scenes, number: usize) -> Value

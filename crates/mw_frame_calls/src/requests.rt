@@ -1,30 +1,27 @@
 //! A title with arguments, as `expandTemplate` and `newChild` are given them (Scribunto, Frame object).
 ghost use Rattle.std.specs.Prelude.{◌≡◌, List, ℕ, Err, IfOk, IfSome, OnOk, MatchOption};
 ghost use Rattle.std.specs.Option.{option_map};
-ghost use Rattle.lua_heap.specs.Heap.{Heap};
-ghost use Rattle.lua_heap.specs.Proc.{Proc};
-ghost use Rattle.lua_meaning.specs.Arguments.{fails, passed};
-ghost use Rattle.lua_meaning.specs.FrameMethods as meaning;
-ghost use Rattle.lua_meaning.specs.Messages.{bad_template_arguments, invalid_title};
-ghost use Rattle.lua_store.specs.Seen.{StoreView, seen};
-ghost use Rattle.lua_store.specs.Parts.{IsOf, IsTableOf, IsLater};
-ghost use Rattle.lua_basic.specs.Arguments.{text_bytes};
-ghost use Rattle.lua_basic.specs.Seen.{values_seen, AllOf, Stops, StopOf};
-ghost use Rattle.mw_frames.specs.Costs.{MayPay};
-ghost use Rattle.mw_frames.specs.Reading.{found_args};
-ghost use Rattle.mw_frames.specs.Scenes.{ScenesOf};
+ghost use Rattle.mw_frame_texts.specs.LuaHeapHeap.{Heap};
+ghost use Rattle.mw_frame_texts.specs.LuaHeapProc.{Proc};
+ghost use Rattle.mw_frame_texts.specs.LuaMeaningArguments.{fails, passed};
+ghost use Rattle.mw_frame_texts.specs.LuaMeaningFrameMethods as meaning;
+ghost use Rattle.mw_frame_texts.specs.LuaMeaningMessages.{bad_template_arguments, invalid_title};
+ghost use Rattle.mw_frame_texts.specs.LuaStoreSeen.{StoreView, seen};
+ghost use Rattle.mw_frame_texts.specs.LuaStoreParts.{IsOf, IsTableOf, IsLater};
+ghost use Rattle.mw_frame_texts.specs.LuaBasicArguments.{text_bytes};
+ghost use Rattle.mw_frame_texts.specs.LuaBasicSeen.{values_seen, AllOf, Stops, StopOf};
+ghost use Rattle.mw_frame_texts.specs.MwFramesCosts.{MayPay};
+ghost use Rattle.mw_frame_texts.specs.MwFramesReading.{found_args};
+ghost use Rattle.mw_frame_texts.specs.MwFramesScenes.{ScenesOf};
 ghost use Rattle.mw_frame_calls.specs.Parts.{IsRequest, entries_in, found_entries, found_optional, title_found, IfFound, TitleReadOf};
 
 use crate::finding::table_in;
-use lua_basic::Stop;
-use lua_basic::messages::fail;
-use lua_basic::texts::{TextIn, text_in};
-use lua_basic::values::is_nil;
-use lua_store::{Store, TableId, TextId, Value};
-use mw_frames::Scenes;
-use mw_frames::reading::{ArgText, pay_passed, read_args};
+use mw_frame::{List, Namespace, NoMemory, Title, TitleFault};
+use mw_frame_texts::{
+    ArgText, Left, Scenes, Stop, Store, TableId, TextId, TextIn, Value, fail, is_nil, pay_passed,
+    read_args, text_in,
+};
 use std::alloc::Global;
-use wk_base::{Left, List, Namespace, NoMemory, Title, TitleFault};
 
 /// The fields of a table that is given.
 #[derive(Clone, Copy)]

@@ -2,7 +2,7 @@
 ghost use Rattle.std.specs.Prelude.{◌≡◌};
 ghost use Rattle.mw_frame_calls.specs.Table.{frame_in, AreInTable, NoOtherIs};
 
-use lua_store::Library;
+use mw_frame_texts::Library;
 
 /// A function of the library that sees the frames (Scribunto, Frame object and `mw.getCurrentFrame`).
 #[derive(Clone, Copy, Debug, PartialEq, Eq)]

@@ -1,19 +1,14 @@
 //! Tags of extensions (Scribunto, `frame:extensionTag`).
-ghost use Rattle.lua_meaning.specs.FrameMethods as meaning;
-ghost use Rattle.lua_store.specs.Parts.{IsLater};
-ghost use Rattle.lua_basic.specs.Seen.{values_seen, AllOf};
-ghost use Rattle.mw_frames.specs.Scenes.{ScenesOf};
+ghost use Rattle.mw_frame_texts.specs.LuaMeaningFrameMethods as meaning;
+ghost use Rattle.mw_frame_texts.specs.LuaStoreParts.{IsLater};
+ghost use Rattle.mw_frame_texts.specs.LuaBasicSeen.{values_seen, AllOf};
+ghost use Rattle.mw_frame_texts.specs.MwFramesScenes.{ScenesOf};
 ghost use Rattle.mw_frame_calls.specs.Seen.{scenes_seen, Paid, AnswerOf};
 
 use crate::answer::FrameAnswer;
 use crate::finding::a_frame;
-use lua_basic::Stop;
-use lua_basic::values::rest;
-use lua_store::{Store, Value};
-use mw_frame_texts::extension_tag;
-use mw_frames::Scenes;
+use mw_frame_texts::{Left, Scenes, Stop, Store, Value, extension_tag, rest};
 use std::alloc::Global;
-use wk_base::Left;
 
 /// `frame:extensionTag(name, content, attrs)`: a tag of HTML as a text. It costs the bytes of the arguments that are strings, and its own.
 pub fn frame_extension_tag(

@@ -1,20 +1,20 @@
 -- Functions that have taken steps before, and arguments of which one of two is refused.
 use Rattle.std.proofs.Common.{◌≡◌, ◌∙◌, ap, sym, subst, refl, arith, ℕ, ◌≤◌, List, [], ◌∷◌, length, Ok, Err}
 use Rattle.std.specs.Prelude.{Result}
-use Rattle.wk_base.specs.declared.left.Left.{Left}
-use Rattle.lua_heap.specs.Proc.{Proc}
-use Rattle.lua_heap.specs.Heap.{Heap}
-use Rattle.lua_heap.specs.Value as kind
-use Rattle.lua_meaning.specs.Scope.{Bytes}
-use Rattle.lua_meaning.specs.Arguments.{Plain, PlainEnd, Gives, Argument, with_argument, with_charge, gives_text}
-use Rattle.lua_meaning.specs.Tag.{and_then}
-use Rattle.lua_store.specs.declared.ids.TextId.{TextId}
-use Rattle.lua_store.specs.declared.value.Value.{Value}
-use Rattle.lua_store.specs.declared.value.Value.TheVariants as own
-use Rattle.lua_store.specs.Seen.{StoreView, text_at}
-use Rattle.lua_basic.specs.declared.stop.Stop.{Stop}
-use Rattle.lua_basic.specs.declared.stop.Stop.TheVariants as stop
-use Rattle.lua_basic.specs.Seen.{values_seen, ends, Covers, IsShort, Paid, Refuses}
+use Rattle.mw_frames.specs.WkBaseDeclaredLeftLeft.{Left}
+use Rattle.mw_frames.specs.LuaHeapProc.{Proc}
+use Rattle.mw_frames.specs.LuaHeapHeap.{Heap}
+use Rattle.mw_frames.specs.LuaHeapValue as kind
+use Rattle.mw_frames.specs.LuaMeaningScope.{Bytes}
+use Rattle.mw_frames.specs.LuaMeaningArguments.{Plain, PlainEnd, Gives, Argument, with_argument, with_charge, gives_text}
+use Rattle.mw_frames.specs.LuaMeaningTag.{and_then}
+use Rattle.mw_frames.specs.LuaStoreDeclaredIdsTextId.{TextId}
+use Rattle.mw_frames.specs.LuaStoreDeclaredValueValue.{Value}
+use Rattle.mw_frames.specs.LuaStoreDeclaredValueValueTheVariants as own
+use Rattle.mw_frames.specs.LuaStoreSeen.{StoreView, text_at}
+use Rattle.mw_frames.specs.LuaBasicDeclaredStopStop.{Stop}
+use Rattle.mw_frames.specs.LuaBasicDeclaredStopStopTheVariants as stop
+use Rattle.mw_frames.specs.LuaBasicSeen.{values_seen, ends, Covers, IsShort, Paid, Refuses}
 use Rattle.mw_frames.specs.Costs.{Took, Unpaid, MayPay}
 use Rattle.mw_frames.proofs.Sums.{took_then, lacked_then}
 

@@ -1,14 +1,14 @@
 -- Attributes that are read, one after another.
 use Rattle.std.proofs.Common.{◌≡◌, ◌∙◌, ap, sym, refl, true, false, List, [], ◌∷◌, ◌++◌, append_assoc, append-nil, Option, Some, None, Ok, Err}
 use Rattle.std.specs.Option.{option_map}
-use Rattle.lua_heap.specs.Value.{Value, is_nil}
-use Rattle.lua_heap.specs.Table.{Entries}
-use Rattle.lua_meaning.specs.Scope.{Bytes}
-use Rattle.lua_meaning.specs.Values.{text_in}
-use Rattle.lua_meaning.specs.Arguments.{Argument}
-use Rattle.lua_meaning.specs.Tag.{attribute, named_attribute, no_attribute, and_then, attributes}
-use Rattle.lua_basic.specs.Arguments.{text_bytes}
-use Rattle.lua_basic.specs.declared.texts.TextIn.{TextIn}
+use Rattle.mw_frames.specs.LuaHeapValue.{Value, is_nil}
+use Rattle.mw_frames.specs.LuaHeapTable.{Entries}
+use Rattle.mw_frames.specs.LuaMeaningScope.{Bytes}
+use Rattle.mw_frames.specs.LuaMeaningValues.{text_in}
+use Rattle.mw_frames.specs.LuaMeaningArguments.{Argument}
+use Rattle.mw_frames.specs.LuaMeaningTag.{attribute, named_attribute, no_attribute, and_then, attributes}
+use Rattle.mw_frames.specs.LuaBasicArguments.{text_bytes}
+use Rattle.mw_frames.specs.LuaBasicDeclaredTextsTextIn.{TextIn}
 use Rattle.mw_frame_texts.specs.declared.attributes.AttrText.{AttrText}
 use Rattle.mw_frame_texts.specs.declared.attributes.AttrValue.{AttrValue}
 use Rattle.mw_frame_texts.specs.Read.{found_value}

@@ -1,12 +1,12 @@
 -- What `mw_text` writes of copies is what is written here.
 use Rattle.std.proofs.Common.{◌≡◌, ◌∙◌, ap, sym, refl, ℕ, List, [], ◌∷◌, ◌++◌, append_assoc, append-nil, Some, codes}
 use Rattle.std.specs.Option.{option_map}
-use Rattle.lua_meaning.specs.Tag as meaning
+use Rattle.mw_frames.specs.LuaMeaningTag as meaning
 use Rattle.mw_text.specs.Tag as text
 use Rattle.mw_text.specs.declared.tagging.TagAttr.{TagAttr}
 use Rattle.mw_text.specs.declared.tagging.TagValue.TheVariants as tag_value
-use Rattle.lua_basic.specs.Arguments.{text_bytes}
-use Rattle.lua_basic.specs.declared.texts.TextIn.{TextIn}
+use Rattle.mw_frames.specs.LuaBasicArguments.{text_bytes}
+use Rattle.mw_frames.specs.LuaBasicDeclaredTextsTextIn.{TextIn}
 use Rattle.mw_frame_texts.specs.declared.attributes.AttrText.{AttrText}
 use Rattle.mw_frame_texts.specs.Written.{attribute_written, attr_written}
 

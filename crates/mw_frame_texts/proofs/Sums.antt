@@ -1,6 +1,6 @@
 -- Costs that are taken part by part.
 use Rattle.std.proofs.Common.{◌≡◌, ◌∙◌, ap, sym, arith, ℕ, suc, ◌+◌, ◌<◌, List, ◌∷◌, length, length-append, drop, get_or, drop-cons}
-use Rattle.wk_base.specs.declared.left.Left.{Left}
+use Rattle.mw_frames.specs.WkBaseDeclaredLeftLeft.{Left}
 use Rattle.mw_frames.specs.Costs.{Took, SoFar}
 use Rattle.mw_frames.proofs.Sums.{took-more}
 use Rattle.mw_frame_texts.specs.declared.attributes.AttrText.{AttrText}

@@ -1,20 +1,20 @@
 -- WHAT WAS READ OF A TABLE OF ATTRIBUTES: the meaning's own, for what was found or refused.
 use Rattle.std.specs.Prelude.{◌≡◌, ℕ, List, [], ◌∷◌, ◌++◌, Option, Some, None, Ok, Err, codes}
-use Rattle.lua_heap.specs.Proc.{Proc}
-use Rattle.lua_heap.specs.Value.{Value, Table}
-use Rattle.lua_heap.specs.Table.{Entries}
-use Rattle.lua_heap.specs.Heap.{Heap, table_at}
-use Rattle.lua_meaning.specs.Arguments.{Plain, Argument, with_argument, gives_text}
-use Rattle.lua_meaning.specs.Metatables.{field}
-use Rattle.lua_meaning.specs.Messages.{bad_argument, expected}
-use Rattle.lua_meaning.specs.Scope.{Bytes}
-use Rattle.lua_meaning.specs.Values.{second, third}
-use Rattle.lua_meaning.specs.Tag.{TagParts, no_attribute, and_then, attributes, attributes_in, closed_by}
-use Rattle.lua_store.specs.declared.ids.TableId.{TableId}
-use Rattle.lua_store.specs.declared.value.Value.{Value as Stored}
-use Rattle.lua_store.specs.Seen.{StoreView, seen}
-use Rattle.lua_store.specs.Parts.{IsOf}
-use Rattle.lua_basic.specs.Arguments.{text_bytes}
+use Rattle.mw_frames.specs.LuaHeapProc.{Proc}
+use Rattle.mw_frames.specs.LuaHeapValue.{Value, Table}
+use Rattle.mw_frames.specs.LuaHeapTable.{Entries}
+use Rattle.mw_frames.specs.LuaHeapHeap.{Heap, table_at}
+use Rattle.mw_frames.specs.LuaMeaningArguments.{Plain, Argument, with_argument, gives_text}
+use Rattle.mw_frames.specs.LuaMeaningMetatables.{field}
+use Rattle.mw_frames.specs.LuaMeaningMessages.{bad_argument, expected}
+use Rattle.mw_frames.specs.LuaMeaningScope.{Bytes}
+use Rattle.mw_frames.specs.LuaMeaningValues.{second, third}
+use Rattle.mw_frames.specs.LuaMeaningTag.{TagParts, no_attribute, and_then, attributes, attributes_in, closed_by}
+use Rattle.mw_frames.specs.LuaStoreDeclaredIdsTableId.{TableId}
+use Rattle.mw_frames.specs.LuaStoreDeclaredValueValue.{Value as Stored}
+use Rattle.mw_frames.specs.LuaStoreSeen.{StoreView, seen}
+use Rattle.mw_frames.specs.LuaStoreParts.{IsOf}
+use Rattle.mw_frames.specs.LuaBasicArguments.{text_bytes}
 use Rattle.mw_frame_texts.specs.declared.attributes.AttrText.{AttrText}
 use Rattle.mw_frame_texts.specs.declared.attributes.AttrValue.{AttrValue}
 use Rattle.mw_frame_texts.specs.declared.attributes.AttrValue.TheVariants as value

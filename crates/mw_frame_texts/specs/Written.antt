@@ -1,9 +1,9 @@
 -- WHAT IS WRITTEN OF A TAG, for attributes and content whose texts are still those of a store, or digits of numbers.
 use Rattle.std.specs.Prelude.{List, [], ◌∷◌, ◌++◌, Option, Some, None, codes}
 use Rattle.std.specs.Option.{option_map}
-use Rattle.lua_meaning.specs.Scope.{Bytes}
-use Rattle.lua_meaning.specs.Tag.{encode}
-use Rattle.lua_basic.specs.Arguments.{text_bytes}
+use Rattle.mw_frames.specs.LuaMeaningScope.{Bytes}
+use Rattle.mw_frames.specs.LuaMeaningTag.{encode}
+use Rattle.mw_frames.specs.LuaBasicArguments.{text_bytes}
 use Rattle.mw_frame_texts.specs.declared.attributes.AttrText.{AttrText}
 use Rattle.mw_frame_texts.specs.declared.contents.Content.{Content}
 use Rattle.mw_frame_texts.specs.declared.contents.Content.TheVariants as content

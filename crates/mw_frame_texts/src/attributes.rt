@@ -1,24 +1,21 @@
 //! The attributes of a tag, read of a table (Scribunto, mw.text.tag). Their texts are not copied.
 ghost use Rattle.std.specs.Prelude.{◌≡◌, List as Items, ℕ, Ok, IfOk, IfErr, IfSome, OnOk};
-ghost use Rattle.lua_heap.specs.Heap.{Heap, table_at};
-ghost use Rattle.lua_heap.specs.Proc.{Proc};
-ghost use Rattle.lua_meaning.specs.Scope.{Bytes};
-ghost use Rattle.lua_meaning.specs.Tag as meaning;
-ghost use Rattle.lua_meaning.specs.Values as values;
-ghost use Rattle.lua_store.specs.Seen.{StoreView, seen, seen_entry};
-ghost use Rattle.lua_store.specs.Parts.{IsOf, IsTableOf, IsEntryOf, IsLater};
-ghost use Rattle.lua_basic.specs.Seen.{StopOf, Refuses};
+ghost use Rattle.mw_frames.specs.LuaHeapHeap.{Heap, table_at};
+ghost use Rattle.mw_frames.specs.LuaHeapProc.{Proc};
+ghost use Rattle.mw_frames.specs.LuaMeaningScope.{Bytes};
+ghost use Rattle.mw_frames.specs.LuaMeaningTag as meaning;
+ghost use Rattle.mw_frames.specs.LuaMeaningValues as values;
+ghost use Rattle.mw_frames.specs.LuaStoreSeen.{StoreView, seen, seen_entry};
+ghost use Rattle.mw_frames.specs.LuaStoreParts.{IsOf, IsTableOf, IsEntryOf, IsLater};
+ghost use Rattle.mw_frames.specs.LuaBasicSeen.{StopOf, Refuses};
 ghost use Rattle.mw_frame_texts.specs.Written.{attrs_written};
 ghost use Rattle.mw_frame_texts.specs.Read.{found_value, found_attrs, found_table, entries_in, IsRead, RefusedOf};
 
-use lua_basic::Stop;
-use lua_basic::messages::refuse_kind;
-use lua_basic::texts::{TextIn, text_in};
-use lua_basic::values::is_nil;
-use lua_store::{Store, TableId, Value};
+use lua_number::NoMemory;
 use mw_frames::reading::entry_at;
+use mw_frames::{Stop, Store, TableId, TextIn, Value, is_nil, refuse_kind, text_in};
+use mw_text::List;
 use std::alloc::Global;
-use wk_base::{List, NoMemory};
 
 /// An attribute that is written: with its value, or alone.
 #[derive(Drop)]

@@ -1,15 +1,14 @@
 //! What follows the attributes of a tag (Scribunto, mw.text.tag).
 ghost use Rattle.std.specs.Prelude.{◌≡◌, IfOk};
-ghost use Rattle.lua_meaning.specs.Scope.{Bytes};
-ghost use Rattle.lua_meaning.specs.Tag as meaning;
-ghost use Rattle.lua_store.specs.Seen.{seen};
-ghost use Rattle.lua_store.specs.Parts.{IsOf};
+ghost use Rattle.mw_frames.specs.LuaMeaningScope.{Bytes};
+ghost use Rattle.mw_frames.specs.LuaMeaningTag as meaning;
+ghost use Rattle.mw_frames.specs.LuaStoreSeen.{seen};
+ghost use Rattle.mw_frames.specs.LuaStoreParts.{IsOf};
 ghost use Rattle.mw_frame_texts.specs.Read.{found_content};
 
-use lua_basic::texts::TextIn;
-use lua_store::{Store, Value};
+use lua_number::NoMemory;
+use mw_frames::{Store, TextIn, Value};
 use std::alloc::Global;
-use wk_base::NoMemory;
 
 /// What follows the attributes: `>` alone, ` />`, or a text and the closing tag.
 #[derive(Drop)]

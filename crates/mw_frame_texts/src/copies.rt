@@ -1,14 +1,14 @@
 //! The texts of a tag, copied for `mw_text::tag`. All that is copied is paid for.
 ghost use Rattle.std.specs.Prelude.{◌≡◌, IfOk};
-ghost use Rattle.lua_meaning.specs.Scope.{Bytes as Text};
+ghost use Rattle.mw_frames.specs.LuaMeaningScope.{Bytes as Text};
 ghost use Rattle.mw_text.specs.Tag as plain;
 ghost use Rattle.mw_frame_texts.specs.Written.{attr_written, attrs_written, content_written, tag_written};
 
 use crate::attributes::AttrText;
 use crate::contents::Content;
-use mw_text::{TagAttr, TagContent, TagValue, tag};
+use lua_number::NoMemory;
+use mw_text::{Bytes, List, TagAttr, TagContent, TagValue, tag};
 use std::alloc::Global;
-use wk_base::{Bytes, List, NoMemory};
 
 /// An attribute with copies of its texts.
 fn copy_attr(alloc: Global, attr: &AttrText) -> Result<TagAttr, NoMemory>

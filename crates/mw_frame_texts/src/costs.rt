@@ -1,20 +1,18 @@
 //! What a tag costs: a step for each of its bytes, which are taken part by part before it is written.
 ghost use Rattle.std.specs.Prelude.{◌≡◌, ◌+◌, ◌∷◌, [], List, length, MatchOption};
-ghost use Rattle.lua_heap.specs.Value.{Value as Plain};
-ghost use Rattle.lua_meaning.specs.Arguments.{text_charge};
-ghost use Rattle.lua_meaning.specs.Tag as meaning;
-ghost use Rattle.lua_store.specs.Seen.{seen};
-ghost use Rattle.lua_store.specs.Parts.{IsOf};
-ghost use Rattle.lua_basic.specs.Seen.{values_seen, AllOf};
+ghost use Rattle.mw_frames.specs.LuaHeapValue.{Value as Plain};
+ghost use Rattle.mw_frames.specs.LuaMeaningArguments.{text_charge};
+ghost use Rattle.mw_frames.specs.LuaMeaningTag as meaning;
+ghost use Rattle.mw_frames.specs.LuaStoreSeen.{seen};
+ghost use Rattle.mw_frames.specs.LuaStoreParts.{IsOf};
+ghost use Rattle.mw_frames.specs.LuaBasicSeen.{values_seen, AllOf};
 ghost use Rattle.mw_frames.specs.Costs.{Pays};
 ghost use Rattle.mw_frame_texts.specs.Written.{attr_written, attrs_written, content_written, tag_written};
 
 use crate::attributes::AttrText;
 use crate::contents::Content;
-use lua_basic::Stop;
-use lua_store::{Store, Value};
 use mw_frames::paying::pay;
-use wk_base::Left;
+use mw_frames::{Left, Stop, Store, Value};
 
 /// How many bytes are written for a byte.
 fn reference_cost(byte: u8) -> u64

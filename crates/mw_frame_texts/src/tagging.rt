@@ -1,12 +1,12 @@
 //! A tag of HTML as a text (Scribunto, `frame:extensionTag`, `mw.text.tag`).
 ghost use Rattle.std.specs.Prelude.{◌≡◌, List as Items, ℕ, IfSome};
-ghost use Rattle.lua_heap.specs.Heap.{Heap};
-ghost use Rattle.lua_heap.specs.Proc.{Proc};
-ghost use Rattle.lua_meaning.specs.Arguments.{gives_text};
-ghost use Rattle.lua_meaning.specs.Tag as meaning;
-ghost use Rattle.lua_store.specs.Seen.{StoreView, seen};
-ghost use Rattle.lua_store.specs.Parts.{IsOf, IsTableOf, IsLater};
-ghost use Rattle.lua_basic.specs.Seen.{values_seen, AllOf, Paid, AnswerOf};
+ghost use Rattle.mw_frames.specs.LuaHeapHeap.{Heap};
+ghost use Rattle.mw_frames.specs.LuaHeapProc.{Proc};
+ghost use Rattle.mw_frames.specs.LuaMeaningArguments.{gives_text};
+ghost use Rattle.mw_frames.specs.LuaMeaningTag as meaning;
+ghost use Rattle.mw_frames.specs.LuaStoreSeen.{StoreView, seen};
+ghost use Rattle.mw_frames.specs.LuaStoreParts.{IsOf, IsTableOf, IsLater};
+ghost use Rattle.mw_frames.specs.LuaBasicSeen.{values_seen, AllOf, Paid, AnswerOf};
 ghost use Rattle.mw_frames.specs.Costs.{MayPay};
 ghost use Rattle.mw_frames.specs.Scenes.{NamesOf};
 ghost use Rattle.mw_frame_texts.specs.Read.{parts, found_parts, tag_behind};
@@ -16,15 +16,12 @@ use crate::attributes::{AttrText, the_attributes};
 use crate::contents::{Content, content_in};
 use crate::copies::written;
 use crate::costs::{pay_given, pay_tag};
-use lua_basic::Stop;
-use lua_basic::arguments::a_text;
-use lua_basic::messages::refuse_kind;
-use lua_basic::values::{second, single, third};
-use lua_store::{Store, TableId, Value};
-use mw_frames::FieldNames;
 use mw_frames::reading::pay_passed;
+use mw_frames::{
+    FieldNames, Left, Stop, Store, TableId, Value, a_text, refuse_kind, second, single, third,
+};
+use mw_text::List;
 use std::alloc::Global;
-use wk_base::{Left, List};
 
 /// The text is made, after what it costs.
 fn give_tag(

@@ -6,12 +6,12 @@ use Rattle.std.specs.Str.Parse.{digits_value, digits_value_after}
 use Rattle.std.proofs.lemmas.Str.Parse.{IsNumeralModel, numerals_by_value, digits_value_short}
 use Rattle.std.specs.Prelude.{nat_le}
 use Rattle.std.proofs.lemmas.Bool.{leb-true, and_parts}
-use Rattle.lua_heap.specs.Proc.{Proc}
-use Rattle.lua_heap.specs.Value.{Value, Nil, Number, Text}
-use Rattle.lua_heap.specs.Table.{get}
-use Rattle.lua_heap.specs.Heap.{Heap, table_at}
-use Rattle.lua_meaning.specs.Arguments.{gives}
-use Rattle.lua_meaning.specs.Frames.{is_place, by_key}
+use Rattle.lua_basic.specs.LuaHeapProc.{Proc}
+use Rattle.lua_basic.specs.LuaHeapValue.{Value, Nil, Number, Text}
+use Rattle.lua_basic.specs.LuaHeapTable.{get}
+use Rattle.lua_basic.specs.LuaHeapHeap.{Heap, table_at}
+use Rattle.lua_basic.specs.LuaMeaningArguments.{gives}
+use Rattle.lua_home.specs.LuaMeaningFrames.{is_place, by_key}
 
 pub digit : (c : ℕ) → is_ascii_digit c ≡ true → digit_value c ≡ c - 48
 digit c h = grind (arith, rules, h)

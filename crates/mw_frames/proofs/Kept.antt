@@ -1,8 +1,8 @@
 -- Frames of a store, with one more, and with another one in a place.
 use Rattle.std.proofs.Common.{◌≡◌, ◌∙◌, ap, sym, refl, subst, arith, ℕ, zero, suc, ◌<◌, List, [], ◌∷◌, ◌++◌, length, slice_get, slice_set, Some}
 use Rattle.std.specs.Option.{option_map}
-use Rattle.lua_store.specs.declared.ids.TableId.{TableId}
-use Rattle.lua_store.specs.Seen.{StoreView}
+use Rattle.lua_basic.specs.LuaStoreDeclaredIdsTableId.{TableId}
+use Rattle.lua_basic.specs.LuaStoreSeen.{StoreView}
 use Rattle.mw_frames.specs.declared.scenes.SceneFrame.{SceneFrame}
 use Rattle.mw_frame.specs.declared.scene.Scene.{Scene}
 use Rattle.mw_frame.specs.Scenes.{NamesDiffer}

@@ -4,7 +4,7 @@ use Rattle.std.specs.Cmp.Lexicographic.{pointwise, same_text}
 use Rattle.indexmap.specs.IndexMap.{insert_entry}
 use Rattle.mw_frame.specs.declared.scene.Arg.{Arg}
 use Rattle.mw_frame.specs.Scenes.{Lacks, NamesDiffer}
-use Rattle.lua_meaning.specs.Frames.{put_arg}
+use Rattle.lua_home.specs.LuaMeaningFrames.{put_arg}
 use Rattle.mw_frames.specs.Merging.{arg_in, args_in}
 
 put-by : (name value : List ℕ) (b : Bool) (e : List ℕ × List ℕ) (es l : List (List ℕ × List ℕ)) (r : List Arg) → bytes_eq name e.0 ≡ b → args_in l ≡ r

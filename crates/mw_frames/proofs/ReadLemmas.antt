@@ -2,17 +2,17 @@
 use Rattle.std.specs.Prelude.{if◌then◌else◌}
 use Rattle.std.proofs.Common.{◌≡◌, ◌∙◌, ap, sym, refl, true, false, List, [], ◌∷◌, ◌++◌, append_assoc, append-nil, Ok, Err}
 use Rattle.std.proofs.Common.{ℕ, ◌+◌, Bool, Option, Some, None, subst, arith}
-use Rattle.lua_heap.specs.Value.{Value, Nil, Truth, Number, Text, Table, Closure, Builtin, Markup, is_nil}
-use Rattle.lua_heap.specs.Table.{Entries}
-use Rattle.lua_meaning.specs.Scope.{Bytes}
-use Rattle.lua_meaning.specs.Values.{text_in}
-use Rattle.lua_meaning.specs.Arguments.{Argument, unless_refused, passed as passed_in}
-use Rattle.lua_meaning.specs.Tag.{named_attribute, entry_attribute}
-use Rattle.lua_meaning.specs.FrameMethods.{read_args, entry_arg, arg_of, arg_value, in_front}
+use Rattle.lua_basic.specs.LuaHeapValue.{Value, Nil, Truth, Number, Text, Table, Closure, Builtin, Markup, is_nil}
+use Rattle.lua_basic.specs.LuaHeapTable.{Entries}
+use Rattle.lua_basic.specs.LuaMeaningScope.{Bytes}
+use Rattle.lua_basic.specs.LuaMeaningValues.{text_in}
+use Rattle.lua_basic.specs.LuaMeaningArguments.{Argument, unless_refused, passed as passed_in}
+use Rattle.lua_basic.specs.LuaMeaningTag.{named_attribute, entry_attribute}
+use Rattle.lua_basic.specs.LuaMeaningFrameMethods.{read_args, entry_arg, arg_of, arg_value, in_front}
 use Rattle.mw_frame.specs.declared.scene.Arg.{Arg}
 use Rattle.mw_frames.specs.declared.reading.ArgText.{ArgText}
 use Rattle.std.specs.Prelude.{Result}
-use Rattle.wk_base.specs.declared.left.Left.{Left}
+use Rattle.mw_frame.specs.WkBaseDeclaredLeftLeft.{Left}
 use Rattle.lua_basic.specs.declared.stop.Stop.{Stop}
 use Rattle.lua_basic.specs.declared.stop.Stop.TheVariants as stop
 use Rattle.mw_frames.specs.Costs.{Took, Unpaid, MayPay, SoFar}

@@ -1,9 +1,9 @@
 -- The frames of a run are of each later store.
 use Rattle.std.proofs.Common.{◌∙◌, arith}
 use Rattle.std.specs.Prelude.{ℕ, List, [], ◌∷◌}
-use Rattle.lua_store.specs.declared.ids.TextId.{TextId}
-use Rattle.lua_store.specs.Seen.{StoreView}
-use Rattle.lua_store.specs.Parts.{IsLater}
+use Rattle.lua_basic.specs.LuaStoreDeclaredIdsTextId.{TextId}
+use Rattle.lua_basic.specs.LuaStoreSeen.{StoreView}
+use Rattle.lua_basic.specs.LuaStoreParts.{IsLater}
 use Rattle.mw_frames.specs.declared.scenes.SceneFrame.{SceneFrame}
 use Rattle.mw_frames.specs.declared.scenes.FieldNames.{FieldNames}
 use Rattle.mw_frames.specs.Scenes.{FrameOf, FramesOf, IsNameOf, NamesOf, ScenesStay}

@@ -1,6 +1,6 @@
 -- Sums that are taken part by part.
 use Rattle.std.proofs.Common.{◌≡◌, ◌∙◌, ap, sym, arith, ℕ, suc, ◌+◌, ◌-◌, ◌<◌, ◌≤◌, List, ◌∷◌, length, drop, get_or, drop-cons}
-use Rattle.wk_base.specs.declared.left.Left.{Left}
+use Rattle.mw_frame.specs.WkBaseDeclaredLeftLeft.{Left}
 use Rattle.lua_basic.specs.declared.stop.Stop.{Stop}
 use Rattle.lua_basic.specs.declared.stop.Stop.TheVariants as stop
 use Rattle.lua_basic.specs.Seen.{less_steps}

@@ -1,14 +1,14 @@
 -- The four tables of a frame, step by step. The lists of entries are variables here.
 use Rattle.std.proofs.Common.{◌≡◌, ◌∙◌, ap, sym, refl, arith, ℕ, zero, suc, ◌+◌, false, List, [], ◌∷◌, ◌++◌, append_assoc, length, map, slice_set, slice_index_or, length-append}
-use Rattle.lua_table.specs.Entries.{Contents}
-use Rattle.lua_heap.specs.Value.{Value, Nil, Table}
-use Rattle.lua_heap.specs.Table.{Entries, empty_table}
-use Rattle.lua_heap.specs.Heap.{Heap, with_entry, table_at, new_table, set_meta_in}
-use Rattle.lua_meaning.specs.Frames.{arg_entries, with_table, args_meta, frame_entries, frame_meta, make_frame}
+use Rattle.lua_basic.specs.LuaTableEntries.{Contents}
+use Rattle.lua_basic.specs.LuaHeapValue.{Value, Nil, Table}
+use Rattle.lua_basic.specs.LuaHeapTable.{Entries, empty_table}
+use Rattle.lua_basic.specs.LuaHeapHeap.{Heap, with_entry, table_at, new_table, set_meta_in}
+use Rattle.lua_home.specs.LuaMeaningFrames.{arg_entries, with_table, args_meta, frame_entries, frame_meta, make_frame}
 use Rattle.mw_frame.specs.declared.scene.Arg.{Arg}
 use Rattle.mw_frame.specs.declared.scene.Scene.{Scene}
-use Rattle.lua_graph.specs.Put.{filled}
-use Rattle.lua_graph.proofs.Joining.{with_tables, at_seam, set_seam, all_set}
+use Rattle.lua_home.specs.LuaGraphPut.{filled}
+use Rattle.lua_home.proofs.LuaGraphJoining.{with_tables, at_seam, set_seam, all_set}
 use Rattle.mw_frames.specs.Making.{arg_entry, with_pair}
 
 abbrev plain_table : Entries → Value → Contents Value

@@ -1,11 +1,11 @@
 -- WHAT IS TAKEN FROM THE STEPS THAT ARE LEFT: so many of them; or fewer are left, and none stays.
 use Rattle.std.specs.Prelude.{◌≡◌, ℕ, ◌+◌, ◌<◌, ◌≤◌, length, Result, Ok, Err}
-use Rattle.wk_base.specs.declared.left.Left.{Left}
+use Rattle.mw_frame.specs.WkBaseDeclaredLeftLeft.{Left}
 use Rattle.mw_frame.specs.declared.scene.Scene.{Scene}
-use Rattle.lua_meaning.specs.Frames.{make_frame}
-use Rattle.lua_store.specs.declared.ids.TableId.{TableId}
-use Rattle.lua_store.specs.Seen.{StoreView}
-use Rattle.lua_store.specs.Parts.{IsTableOf}
+use Rattle.lua_home.specs.LuaMeaningFrames.{make_frame}
+use Rattle.lua_basic.specs.LuaStoreDeclaredIdsTableId.{TableId}
+use Rattle.lua_basic.specs.LuaStoreSeen.{StoreView}
+use Rattle.lua_basic.specs.LuaStoreParts.{IsTableOf}
 use Rattle.lua_basic.specs.declared.stop.Stop.{Stop}
 use Rattle.lua_basic.specs.declared.stop.Stop.TheVariants as stop
 use Rattle.lua_basic.specs.Seen.{less_steps}

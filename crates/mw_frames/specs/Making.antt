@@ -1,9 +1,9 @@
 -- A FRAME'S TABLES as they are filled, one after another.
 use Rattle.std.specs.Prelude.{ℕ, ◌+◌, [], List, length, map}
-use Rattle.lua_heap.specs.Value.{Value, Nil, Text, Table}
-use Rattle.lua_heap.specs.Table.{Entries}
-use Rattle.lua_heap.specs.Heap.{Heap}
-use Rattle.lua_meaning.specs.Frames.{arg_key, with_table}
+use Rattle.lua_basic.specs.LuaHeapValue.{Value, Nil, Text, Table}
+use Rattle.lua_basic.specs.LuaHeapTable.{Entries}
+use Rattle.lua_basic.specs.LuaHeapHeap.{Heap}
+use Rattle.lua_home.specs.LuaMeaningFrames.{arg_key, with_table}
 use Rattle.mw_frame.specs.declared.scene.Arg.{Arg}
 
 -- an argument as an entry

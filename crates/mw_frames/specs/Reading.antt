@@ -1,12 +1,12 @@
 -- ARGUMENTS that are read of a table, whose texts are still those of a store: the meaning's argument, for what was found or for nothing.
 use Rattle.std.specs.Prelude.{◌≡◌, ℕ, ◌+◌, Bool, true, false, List, ◌∷◌, ◌++◌, map, Option, Some, None, Result, Ok, Err, if◌then◌else◌}
-use Rattle.wk_base.specs.declared.left.Left.{Left}
+use Rattle.mw_frame.specs.WkBaseDeclaredLeftLeft.{Left}
 use Rattle.mw_frame.specs.declared.scene.Arg.{Arg}
-use Rattle.lua_heap.specs.Value.{Value, is_nil}
-use Rattle.lua_heap.specs.Table.{Entries}
-use Rattle.lua_meaning.specs.Arguments.{Argument, passed}
-use Rattle.lua_meaning.specs.Messages.{bad_template_arguments}
-use Rattle.lua_meaning.specs.FrameMethods.{entry_arg, read_args}
+use Rattle.lua_basic.specs.LuaHeapValue.{Value, is_nil}
+use Rattle.lua_basic.specs.LuaHeapTable.{Entries}
+use Rattle.lua_basic.specs.LuaMeaningArguments.{Argument, passed}
+use Rattle.lua_basic.specs.LuaMeaningMessages.{bad_template_arguments}
+use Rattle.lua_basic.specs.LuaMeaningFrameMethods.{entry_arg, read_args}
 use Rattle.lua_basic.specs.Arguments.{text_bytes}
 use Rattle.lua_basic.specs.declared.stop.Stop.{Stop}
 use Rattle.lua_basic.specs.declared.stop.Stop.TheVariants as stop

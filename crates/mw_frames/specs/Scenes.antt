@@ -3,12 +3,12 @@
 use Rattle.std.specs.Prelude.{◌≡◌, ℕ, List, map, codes}
 use Rattle.std.specs.List.{AllByRecursion}
 use Rattle.mw_frame.specs.Scenes.{NamesDiffer}
-use Rattle.lua_heap.specs.Value.{Table}
-use Rattle.lua_meaning.specs.Acts as meaning
-use Rattle.lua_meaning.specs.Acts.{Frame}
-use Rattle.lua_store.specs.declared.ids.TextId.{TextId}
-use Rattle.lua_store.specs.Seen.{StoreView, text_at}
-use Rattle.lua_store.specs.Parts.{IsTextOf, IsTableOf, IsLater}
+use Rattle.lua_basic.specs.LuaHeapValue.{Table}
+use Rattle.lua_basic.specs.LuaMeaningActs as meaning
+use Rattle.lua_basic.specs.LuaMeaningActs.{Frame}
+use Rattle.lua_basic.specs.LuaStoreDeclaredIdsTextId.{TextId}
+use Rattle.lua_basic.specs.LuaStoreSeen.{StoreView, text_at}
+use Rattle.lua_basic.specs.LuaStoreParts.{IsTextOf, IsTableOf, IsLater}
 use Rattle.mw_frames.specs.declared.scenes.Parent.{Parent}
 use Rattle.mw_frames.specs.declared.scenes.Parent.TheVariants as parent
 use Rattle.mw_frames.specs.declared.scenes.SceneFrame.{SceneFrame}

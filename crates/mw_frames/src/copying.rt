@@ -1,9 +1,8 @@
 //! Copies of scenes.
 ghost use Rattle.std.specs.Prelude.{◌≡◌, IfOk};
 
-use mw_frame::{Arg, Scene};
+use mw_frame::{Arg, List, NoMemory, Scene, Title};
 use std::alloc::Global;
-use wk_base::{List, NoMemory, Title};
 
 fn copy_args(alloc: Global, args: &[Arg]) -> Result<List<Arg>, NoMemory>
     ensures { IfOk result (λ made. made ≡ args.now) }

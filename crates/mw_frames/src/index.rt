@@ -1,19 +1,18 @@
 //! The `__index` of a frame's arguments (Scribunto, Frame object).
 ghost use Rattle.std.specs.Prelude.{◌≡◌, ◌∷◌, []};
-ghost use Rattle.lua_heap.specs.Value as kind;
-ghost use Rattle.lua_meaning.specs.Arguments.{gives};
-ghost use Rattle.lua_meaning.specs.Frames as meaning;
-ghost use Rattle.lua_store.specs.Seen.{seen};
-ghost use Rattle.lua_store.specs.Parts.{IsOf, IsTableOf, IsLater};
+ghost use Rattle.lua_basic.specs.LuaHeapValue as kind;
+ghost use Rattle.lua_basic.specs.LuaMeaningArguments.{gives};
+ghost use Rattle.lua_home.specs.LuaMeaningFrames as meaning;
+ghost use Rattle.lua_basic.specs.LuaStoreSeen.{seen};
+ghost use Rattle.lua_basic.specs.LuaStoreParts.{IsOf, IsTableOf, IsLater};
 ghost use Rattle.lua_basic.specs.Seen.{values_seen, AllOf, Free, AnswerOf};
 
 use crate::keys::{is_place, place_of};
-use lua_basic::Stop;
 use lua_basic::arguments::a_table;
 use lua_basic::values::{second, single};
-use lua_store::{Store, TableId, Value};
+use lua_basic::{Stop, Store, TableId, Value};
+use mw_frame::List;
 use std::alloc::Global;
-use wk_base::List;
 
 /// The entry of the number that a name of a place is, or nil.
 fn at_place(store: &Store, table: TableId, name: &[u8]) -> Value

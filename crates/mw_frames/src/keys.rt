@@ -3,19 +3,18 @@ ghost use Rattle.std.specs.Prelude.{◌≡◌, ◌<◌, ◌^◌, true, pos, map,
 ghost use Rattle.std.specs.Char.{is_ascii_digit};
 ghost use Rattle.std.specs.List.{list_all};
 ghost use Rattle.std.specs.Str.Parse.{digits_value};
-ghost use Rattle.lua_heap.specs.Heap.{set_in};
-ghost use Rattle.lua_heap.specs.Value as kind;
-ghost use Rattle.lua_graph.specs.Put.{filled};
-ghost use Rattle.lua_meaning.specs.Frames as meaning;
-ghost use Rattle.lua_store.specs.Seen.{seen};
-ghost use Rattle.lua_store.specs.Parts.{IsOf, IsTableOf, IsLater};
-ghost use Rattle.lua_store.specs.declared.value.Value as own;
+ghost use Rattle.lua_basic.specs.LuaHeapHeap.{set_in};
+ghost use Rattle.lua_basic.specs.LuaHeapValue as kind;
+ghost use Rattle.lua_home.specs.LuaGraphPut.{filled};
+ghost use Rattle.lua_home.specs.LuaMeaningFrames as meaning;
+ghost use Rattle.lua_basic.specs.LuaStoreSeen.{seen};
+ghost use Rattle.lua_basic.specs.LuaStoreParts.{IsOf, IsTableOf, IsLater};
+ghost use Rattle.lua_basic.specs.LuaStoreDeclaredValueValue as own;
 ghost use Rattle.mw_frames.specs.Making.{arg_entry};
 
 use crate::paying::split_args;
-use lua_store::{Store, TableId, Value};
-use mw_frame::Arg;
-use wk_base::NoMemory;
+use lua_basic::{Store, TableId, Value};
+use mw_frame::{Arg, NoMemory};
 
 /// Whether each byte is a decimal digit.
 fn are_digits(text: &[u8]) -> bool

@@ -1,15 +1,14 @@
 //! The four tables of a frame (Scribunto, Frame object): its arguments and their metatable, the frame and its metatable.
 ghost use Rattle.std.specs.Prelude.{◌≡◌, ◌+◌, ◌<◌, ◌^◌, ℕ, length, IfOk, OnOk};
-ghost use Rattle.lua_graph.specs.Put.{filled};
-ghost use Rattle.lua_meaning.specs.Frames as meaning;
-ghost use Rattle.lua_store.specs.Parts.{IsTableOf, IsLater};
+ghost use Rattle.lua_home.specs.LuaGraphPut.{filled};
+ghost use Rattle.lua_home.specs.LuaMeaningFrames as meaning;
+ghost use Rattle.lua_basic.specs.LuaStoreParts.{IsTableOf, IsLater};
 ghost use Rattle.mw_frames.specs.Making.{with_pair};
 
 use crate::keys::{fill_args, set_field, set_item};
+use lua_basic::{Library, Store, TableId, Value};
 use lua_home::fields::{Field, Item, fill};
-use lua_store::{Library, Store, TableId, Value};
-use mw_frame::Scene;
-use wk_base::NoMemory;
+use mw_frame::{NoMemory, Scene};
 
 /// A table and its metatable.
 #[derive(Clone, Copy)]

@@ -2,17 +2,16 @@
 ghost use Rattle.std.specs.Prelude.{◌≡◌, ◌++◌, [], ◌∷◌, IfOk, OnOk};
 ghost use Rattle.mw_frame.specs.Scenes.{NamesDiffer};
 ghost use Rattle.lua_basic.specs.Arguments.{text_bytes};
-ghost use Rattle.lua_meaning.specs.Frames as meaning;
+ghost use Rattle.lua_home.specs.LuaMeaningFrames as meaning;
 ghost use Rattle.mw_frames.specs.Reading.{args_seen};
 ghost use Rattle.mw_frames.specs.Merging.{args_in};
 
 use crate::reading::ArgText;
 use indexmap::IndexMap;
 use lua_basic::texts::TextIn;
-use mw_frame::Arg;
+use mw_frame::{Arg, Bytes, List, NoMemory};
 use std::alloc::Global;
 use std::hash::RandomState;
-use wk_base::{Bytes, List, NoMemory};
 
 /// A copy of a text.
 fn bytes_of(alloc: Global, text: &TextIn) -> Result<Bytes, NoMemory>

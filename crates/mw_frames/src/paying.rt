@@ -1,12 +1,11 @@
 //! What functions of frames cost: steps, and bytes of arguments.
 ghost use Rattle.std.specs.Prelude.{◌≡◌, ◌+◌, ◌∷◌, [], length, MatchOption};
-ghost use Rattle.lua_meaning.specs.Frames.{args_charge};
+ghost use Rattle.lua_home.specs.LuaMeaningFrames.{args_charge};
 ghost use Rattle.mw_frames.specs.Costs.{Pays};
-ghost use Rattle.lua_meaning.specs.Charges.{argument_charge};
+ghost use Rattle.lua_basic.specs.LuaMeaningCharges.{argument_charge};
 
-use lua_basic::{Stop, stop};
+use lua_basic::{Left, Stop, stop};
 use mw_frame::Arg;
-use wk_base::Left;
 
 /// Takes so many steps.
 pub fn pay(left: &mut Left, steps: u64) -> Result<(), Stop>

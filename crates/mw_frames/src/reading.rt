@@ -1,27 +1,26 @@
 //! Arguments that are read of a table (Scribunto, `frame:expandTemplate` and `frame:newChild`). Their texts are not copied.
 ghost use Rattle.std.specs.Prelude.{◌≡◌, ℕ, ◌+◌, List as Items, ◌∷◌, [], Some, length, drop, IfOk, IfSome, MatchOption};
-ghost use Rattle.lua_heap.specs.Heap.{table_at};
-ghost use Rattle.lua_meaning.specs.Values as values;
-ghost use Rattle.lua_meaning.specs.FrameMethods as meaning;
-ghost use Rattle.lua_meaning.specs.Frames.{bytes_of, args_charge};
-ghost use Rattle.lua_store.specs.Seen.{seen, seen_entry};
-ghost use Rattle.lua_store.specs.Parts.{IsOf, IsTableOf, IsEntryOf};
+ghost use Rattle.lua_basic.specs.LuaHeapHeap.{table_at};
+ghost use Rattle.lua_basic.specs.LuaMeaningValues as values;
+ghost use Rattle.lua_basic.specs.LuaMeaningFrameMethods as meaning;
+ghost use Rattle.lua_home.specs.LuaMeaningFrames.{bytes_of, args_charge};
+ghost use Rattle.lua_basic.specs.LuaStoreSeen.{seen, seen_entry};
+ghost use Rattle.lua_basic.specs.LuaStoreParts.{IsOf, IsTableOf, IsEntryOf};
 ghost use Rattle.lua_basic.specs.Arguments.{text_bytes};
 ghost use Rattle.std.specs.Option.{option_map};
 ghost use Rattle.mw_frames.specs.Costs.{Pays, MayPay};
 ghost use Rattle.mw_frames.specs.Reading.{arg_seen, args_seen, found_arg, found_args, is_read, IsPassed, IsRead};
-ghost use Rattle.lua_meaning.specs.Arguments.{passed};
-ghost use Rattle.lua_meaning.specs.Charges.{argument_charge};
-ghost use Rattle.lua_meaning.specs.Scope.{Bytes};
-ghost use Rattle.lua_meaning.specs.Tag.{entry_attribute};
+ghost use Rattle.lua_basic.specs.LuaMeaningArguments.{passed};
+ghost use Rattle.lua_basic.specs.LuaMeaningCharges.{argument_charge};
+ghost use Rattle.lua_basic.specs.LuaMeaningScope.{Bytes};
+ghost use Rattle.lua_basic.specs.LuaMeaningTag.{entry_attribute};
 
 use crate::paying::{pay, pay_texts};
-use lua_basic::Stop;
 use lua_basic::texts::{TextIn, text_in};
 use lua_basic::values::is_nil;
-use lua_store::{Store, TableId, Value};
+use lua_basic::{Left, Stop, Store, TableId, Value};
+use mw_frame::{List, NoMemory};
 use std::alloc::Global;
-use wk_base::{Left, List, NoMemory};
 
 /// An argument whose texts are those of a store, or digits of numbers.
 #[derive(Drop)]

@@ -1,18 +1,17 @@
 //! The frames of a run, in the order in which they were made (Scribunto, Frame object).
 ghost use Rattle.std.specs.Prelude.{◌≡◌, ◌<◌, ◌^◌, ◌++◌, ◌∷◌, [], Some, length, slice_get, slice_set, IfOk, OnOk, OnErr};
 ghost use Rattle.std.specs.Option.{option_map};
-ghost use Rattle.lua_store.specs.Seen.{StoreView};
-ghost use Rattle.lua_store.specs.Parts.{IsLater, IsTableOf};
+ghost use Rattle.lua_basic.specs.LuaStoreSeen.{StoreView};
+ghost use Rattle.lua_basic.specs.LuaStoreParts.{IsLater, IsTableOf};
 ghost use Rattle.mw_frame.specs.declared.scene.Scene.{Scene as SceneValue};
 ghost use Rattle.mw_frames.specs.Scenes.{made, FramesOf, NamesOf, ScenesOf, ScenesStay};
 ghost use Rattle.mw_frames.specs.declared.scenes.Parent.TheVariants as kin;
 ghost use Rattle.mw_frames.specs.declared.scenes.SceneFrame.{SceneFrame as SceneFrameValue};
 
-use lua_store::{Store, TableId, TextId};
-use mw_frame::Scene;
+use lua_basic::{Store, TableId, TextId};
+use mw_frame::{NoMemory, Scene};
 use std::alloc::Global;
 use std::hash::RandomState;
-use wk_base::NoMemory;
 
 /// The parent of a frame.
 #[derive(Drop)]

@@ -1,3 +1,5 @@
+pub use Rattle.lua_heap.specs.Heap as LuaHeapHeap
+pub use Rattle.lua_heap.specs.Table as LuaHeapTable
 pub mod Names
 pub mod Render
 pub mod Plain

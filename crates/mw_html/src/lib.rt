@@ -22,3 +22,4 @@ pub use names::{add_class, closes_itself, escape, is_attribute_name, is_name};
 pub use placed::are_placed;
 pub use plain::{PlainChild, PlainNode, PlainPair, PlainStyle};
 pub use rendering::{Rendered, render};
+pub use wk_base::{List, NoMemory};

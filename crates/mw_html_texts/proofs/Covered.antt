@@ -2,22 +2,22 @@
 use Rattle.std.proofs.Common.{◌≡◌, ◌∙◌, ap, sym, subst, refl, arith, Vec, ℕ, ◌+◌, ◌-◌, ◌<◌, ◌≤◌, List, [], ◌∷◌, length, Ok, Err}
 use Rattle.std.specs.Prelude.{Result}
 use Rattle.std.specs.declared.alloc.Global.{Global}
-use Rattle.wk_base.specs.declared.left.Left.{Left}
+use Rattle.lua_strings.specs.WkBaseDeclaredLeftLeft.{Left}
 use Rattle.mw_html.specs.Render.{Piece, Whole, Deep, given, and_then, count}
 use Rattle.mw_html.specs.declared.sheet.Sheet.{Sheet}
 use Rattle.mw_html.specs.declared.sheet.End.{End}
 use Rattle.mw_html.specs.declared.sheet.End.TheVariants as the_end
 use Rattle.mw_html.specs.Sheet.{StandsAt, Stands, Leads}
-use Rattle.lua_heap.specs.Proc.{Proc}
-use Rattle.lua_heap.specs.Heap.{Heap}
-use Rattle.lua_heap.specs.Value as kind
-use Rattle.lua_meaning.specs.Arguments.{Plain, Gives, Fails, fails}
-use Rattle.lua_meaning.specs.Html.{gives_piece, nested_too_deeply}
-use Rattle.lua_store.specs.declared.value.Value.{Value}
-use Rattle.lua_store.specs.Seen.{StoreView, seen}
-use Rattle.lua_basic.specs.declared.stop.Stop.{Stop}
-use Rattle.lua_basic.specs.declared.stop.Stop.TheVariants as stop
-use Rattle.lua_basic.specs.Seen.{values_seen, ends, less_steps, Stops, Paid}
+use Rattle.lua_strings.specs.LuaHeapProc.{Proc}
+use Rattle.mw_html.specs.LuaHeapHeap.{Heap}
+use Rattle.lua_strings.specs.LuaHeapValue as kind
+use Rattle.lua_strings.specs.LuaMeaningArguments.{Plain, Gives, Fails, fails}
+use Rattle.lua_strings.specs.LuaMeaningHtml.{gives_piece, nested_too_deeply}
+use Rattle.lua_strings.specs.LuaStoreDeclaredValueValue.{Value}
+use Rattle.lua_strings.specs.LuaStoreSeen.{StoreView, seen}
+use Rattle.lua_strings.specs.LuaBasicDeclaredStopStop.{Stop}
+use Rattle.lua_strings.specs.LuaBasicDeclaredStopStopTheVariants as stop
+use Rattle.lua_strings.specs.LuaBasicSeen.{values_seen, ends, less_steps, Stops, Paid}
 use Rattle.lua_strings.specs.Costs.{Takes}
 use Rattle.mw_html_texts.specs.declared.giving.ObjectText.{ObjectText}
 use Rattle.mw_html_texts.specs.declared.giving.ObjectText.TheVariants.{Text, TooDeep, Spent}

@@ -1,2 +1,3 @@
+pub use Rattle.lua_strings.proofs.LuaBasicMarkup as LuaBasicMarkup
 pub mod Pieces
 pub mod Covered

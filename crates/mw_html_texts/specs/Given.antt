@@ -1,6 +1,6 @@
 -- WHAT A RENDERING GIVES within the steps that are left, of which it takes its count.
 use Rattle.std.specs.Prelude.{◌≡◌, ◌<◌}
-use Rattle.wk_base.specs.declared.left.Left.{Left}
+use Rattle.lua_strings.specs.WkBaseDeclaredLeftLeft.{Left}
 use Rattle.mw_html.specs.Render.{Piece, Whole, Deep, count}
 use Rattle.lua_strings.specs.Costs.{Takes}
 use Rattle.mw_html_texts.specs.declared.giving.ObjectText.{ObjectText}

@@ -1,20 +1,17 @@
 //! The text of an object, and what it costs: a step for each object begun and for each byte, up to where it ends.
 ghost use Rattle.std.specs.Prelude.{◌≡◌, ◌∷◌, [], IfOk};
 ghost use Rattle.mw_html.specs.Render.{render};
-ghost use Rattle.lua_meaning.specs.Html.{text_of_object};
-ghost use Rattle.lua_store.specs.Parts.{IsMarkupOf, IsLater};
-ghost use Rattle.lua_heap.specs.Value as kind;
-ghost use Rattle.lua_basic.specs.Seen.{values_seen, AllOf, Paid, AnswerOf};
+ghost use Rattle.lua_strings.specs.LuaMeaningHtml.{text_of_object};
+ghost use Rattle.lua_strings.specs.LuaStoreParts.{IsMarkupOf, IsLater};
+ghost use Rattle.lua_strings.specs.LuaHeapValue as kind;
+ghost use Rattle.lua_strings.specs.LuaBasicSeen.{values_seen, AllOf, Paid, AnswerOf};
 ghost use Rattle.mw_html_texts.specs.Given.{IsText};
 
 use crate::levels::node;
-use lua_basic::Stop;
-use lua_basic::messages::fail;
-use lua_basic::values::single;
-use lua_store::{MarkupId, Store, Value};
+use lua_strings::{Left, MarkupId, Stop, Store, Value, fail, single};
 use mw_html::sheet::{End, Sheet};
+use mw_html::{List, NoMemory};
 use std::alloc::Global;
-use wk_base::{Left, List, NoMemory};
 
 /// What a rendering gives within the steps that are left.
 #[derive(Drop, Debug)]

@@ -3,13 +3,13 @@ ghost use Rattle.std.specs.Prelude.{◌≡◌, ◌∷◌, [], map, OnOk, MatchOp
 ghost use Rattle.std.specs.List.{AllByRecursion};
 ghost use Rattle.mw_html.specs.Render as spec;
 ghost use Rattle.mw_html.specs.Sheet.{Leads};
-ghost use Rattle.lua_store.specs.Seen.{seen_child, seen_node};
-ghost use Rattle.lua_store.specs.Parts.{IsMarkupOf, IsChildOf, IsNodeOf};
+ghost use Rattle.lua_strings.specs.LuaStoreSeen.{seen_child, seen_node};
+ghost use Rattle.lua_strings.specs.LuaStoreParts.{IsMarkupOf, IsChildOf, IsNodeOf};
 
 use crate::tags::{closing, is_shut, opening};
-use lua_store::{MarkupChild, MarkupId, MarkupNode, Store};
+use lua_strings::{MarkupChild, MarkupId, MarkupNode, Store};
+use mw_html::NoMemory;
 use mw_html::sheet::Sheet;
-use wk_base::NoMemory;
 
 /// The first child, and those behind it.
 fn split(list: &[MarkupChild]) -> Option<(MarkupChild, &[MarkupChild])>

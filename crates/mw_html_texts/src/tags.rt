@@ -4,13 +4,12 @@ ghost use Rattle.std.specs.List.{AllByRecursion, flat_map};
 ghost use Rattle.mw_html.specs.Render as spec;
 ghost use Rattle.mw_html.specs.Render.{given};
 ghost use Rattle.mw_html.specs.Sheet.{Leads};
-ghost use Rattle.lua_store.specs.Seen.{seen_pair, seen_style, seen_node};
-ghost use Rattle.lua_store.specs.Parts.{IsTextOf, IsPairOf, IsStyleOf, IsNodeOf};
+ghost use Rattle.lua_strings.specs.LuaStoreSeen.{seen_pair, seen_style, seen_node};
+ghost use Rattle.lua_strings.specs.LuaStoreParts.{IsTextOf, IsPairOf, IsStyleOf, IsNodeOf};
 
-use lua_store::{MarkupNode, MarkupStyle, Store, TextPair};
-use mw_html::closes_itself;
+use lua_strings::{MarkupNode, MarkupStyle, Store, TextPair};
 use mw_html::sheet::Sheet;
-use wk_base::NoMemory;
+use mw_html::{NoMemory, closes_itself};
 
 fn attr(store: &Store, pair: TextPair, sheet: &mut Sheet) -> Result<(), NoMemory>
     requires { IsPairOf store.now pair }

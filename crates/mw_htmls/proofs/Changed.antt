@@ -2,24 +2,24 @@
 use Rattle.std.proofs.lemmas.List.{map-append}
 use Rattle.std.proofs.Common.{◌≡◌, ◌∙◌, ap, sym, subst, refl, arith, ℕ, zero, suc, List, [], ◌∷◌, ◌++◌, map, slice_set}
 use Rattle.std.specs.List.{AllByRecursion}
-use Rattle.lua_heap.specs.Proc.{Proc}
-use Rattle.lua_heap.specs.Heap.{Heap, MarkupStyle as SeenStyle, Item, StyleText, ChildText, ChildNode, MarkupNode as SeenNode, markup_at, set_markup_in}
-use Rattle.lua_heap.specs.Value as kind
-use Rattle.lua_meaning.specs.Arguments.{Plain, Gives, gives}
-use Rattle.lua_meaning.specs.HtmlNodes.{add_children, add_style_text}
-use Rattle.lua_store.specs.declared.ids.TextId.{TextId}
-use Rattle.lua_store.specs.declared.ids.MarkupId.{MarkupId}
-use Rattle.lua_store.specs.declared.value.Value.{Value}
-use Rattle.lua_store.specs.declared.value.Value.TheVariants as own
-use Rattle.lua_store.specs.declared.markup.TextPair.{TextPair}
-use Rattle.lua_store.specs.declared.markup.MarkupStyle.{MarkupStyle}
-use Rattle.lua_store.specs.declared.markup.MarkupStyle.TheVariants as style
-use Rattle.lua_store.specs.declared.markup.MarkupChild.{MarkupChild as StoredChild}
-use Rattle.lua_store.specs.declared.markup.MarkupChild.TheVariants as child
-use Rattle.lua_store.specs.declared.markup.MarkupNode.{MarkupNode}
-use Rattle.lua_store.specs.Seen.{StoreView, text_at, seen_pair, seen_style, seen_child, seen_node}
-use Rattle.lua_store.specs.Parts.{IsTextOf, IsPairOf, IsStyleOf, IsChildOf, IsNodeOf, IsLater}
-use Rattle.lua_basic.specs.Seen.{values_seen, ends}
+use Rattle.lua_strings.specs.LuaHeapProc.{Proc}
+use Rattle.mw_html.specs.LuaHeapHeap.{Heap, MarkupStyle as SeenStyle, Item, StyleText, ChildText, ChildNode, MarkupNode as SeenNode, markup_at, set_markup_in}
+use Rattle.lua_strings.specs.LuaHeapValue as kind
+use Rattle.lua_strings.specs.LuaMeaningArguments.{Plain, Gives, gives}
+use Rattle.lua_strings.specs.LuaMeaningHtmlNodes.{add_children, add_style_text}
+use Rattle.lua_strings.specs.LuaStoreDeclaredIdsTextId.{TextId}
+use Rattle.lua_strings.specs.LuaStoreDeclaredIdsMarkupId.{MarkupId}
+use Rattle.lua_strings.specs.LuaStoreDeclaredValueValue.{Value}
+use Rattle.lua_strings.specs.LuaStoreDeclaredValueValueTheVariants as own
+use Rattle.lua_strings.specs.LuaStoreDeclaredMarkupTextPair.{TextPair}
+use Rattle.lua_strings.specs.LuaStoreDeclaredMarkupMarkupStyle.{MarkupStyle}
+use Rattle.lua_strings.specs.LuaStoreDeclaredMarkupMarkupStyleTheVariants as style
+use Rattle.lua_strings.specs.LuaStoreDeclaredMarkupMarkupChild.{MarkupChild as StoredChild}
+use Rattle.lua_strings.specs.LuaStoreDeclaredMarkupMarkupChildTheVariants as child
+use Rattle.lua_strings.specs.LuaStoreDeclaredMarkupMarkupNode.{MarkupNode}
+use Rattle.lua_strings.specs.LuaStoreSeen.{StoreView, text_at, seen_pair, seen_style, seen_child, seen_node}
+use Rattle.lua_strings.specs.LuaStoreParts.{IsTextOf, IsPairOf, IsStyleOf, IsChildOf, IsNodeOf, IsLater}
+use Rattle.lua_strings.specs.LuaBasicSeen.{values_seen, ends}
 use Rattle.mw_htmls.specs.Nodes.{with_node, attrs_set, styles_set}
 
 -- LISTS

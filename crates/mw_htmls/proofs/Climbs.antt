@@ -1,8 +1,8 @@
 -- Going up from parent to parent: whatever root is found from an object on the way is the root of the first one.
 use Rattle.std.proofs.Common.{◌≡◌, ◌∙◌, ap, sym, ℕ, suc, List, Option, Some, None, slice_index_or}
-use Rattle.lua_heap.specs.Heap.{MarkupNode, no_markup}
-use Rattle.lua_meaning.specs.HtmlNodes.{root_above, root_by, root_of}
-use Rattle.lua_meaning.proofs.HtmlRoots.{found-of}
+use Rattle.mw_html.specs.LuaHeapHeap.{MarkupNode, no_markup}
+use Rattle.lua_strings.specs.LuaMeaningHtmlNodes.{root_above, root_by, root_of}
+use Rattle.lua_strings.proofs.LuaMeaningHtmlRoots.{found-of}
 
 abbrev parent_at : List MarkupNode → ℕ → Option ℕ
 parent_at nodes at = (slice_index_or nodes at no_markup).parent

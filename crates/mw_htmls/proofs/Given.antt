@@ -1,21 +1,21 @@
 -- Arguments that are found, and those that are refused.
 use Rattle.std.proofs.Common.{◌≡◌, ap, sym, subst, refl, ℕ, Bool, true, false, List, [], ◌∷◌, Option, None, Ok, Err}
 use Rattle.std.specs.Prelude.{codes}
-use Rattle.lua_heap.specs.Proc.{Proc}
-use Rattle.lua_heap.specs.Heap.{Heap, ChildNode, MarkupNode, table_at, markup_at}
-use Rattle.lua_heap.specs.Value as kind
-use Rattle.lua_heap.specs.Value.{is_nil, is_true}
-use Rattle.lua_meaning.specs.Scope.{Bytes}
-use Rattle.lua_meaning.specs.Values.{first}
-use Rattle.lua_meaning.specs.Metatables.{field}
-use Rattle.lua_meaning.specs.Messages.{bad_argument, expected}
-use Rattle.lua_meaning.specs.Arguments.{Argument, with_argument, fails, a_table, a_text}
-use Rattle.lua_meaning.specs.TextArguments.{as_some}
-use Rattle.lua_meaning.specs.Checks.{text_or}
-use Rattle.lua_meaning.specs.Html.{an_object, text_if_any, tested_name, bad_name, closing_option, as_child, a_child, Setter, set_read, set_each, sets_each, sets_one, set_given}
-use Rattle.lua_store.specs.Seen.{StoreView}
-use Rattle.lua_basic.specs.declared.stop.Stop.{Stop}
-use Rattle.lua_basic.specs.Seen.{Stops, Refuses}
+use Rattle.lua_strings.specs.LuaHeapProc.{Proc}
+use Rattle.mw_html.specs.LuaHeapHeap.{Heap, ChildNode, MarkupNode, table_at, markup_at}
+use Rattle.lua_strings.specs.LuaHeapValue as kind
+use Rattle.lua_strings.specs.LuaHeapValue.{is_nil, is_true}
+use Rattle.lua_strings.specs.LuaMeaningScope.{Bytes}
+use Rattle.lua_strings.specs.LuaMeaningValues.{first}
+use Rattle.lua_strings.specs.LuaMeaningMetatables.{field}
+use Rattle.lua_strings.specs.LuaMeaningMessages.{bad_argument, expected}
+use Rattle.lua_strings.specs.LuaMeaningArguments.{Argument, with_argument, fails, a_table, a_text}
+use Rattle.lua_strings.specs.LuaMeaningTextArguments.{as_some}
+use Rattle.lua_strings.specs.LuaMeaningChecks.{text_or}
+use Rattle.lua_strings.specs.LuaMeaningHtml.{an_object, text_if_any, tested_name, bad_name, closing_option, as_child, a_child, Setter, set_read, set_each, sets_each, sets_one, set_given}
+use Rattle.lua_strings.specs.LuaStoreSeen.{StoreView}
+use Rattle.lua_strings.specs.LuaBasicDeclaredStopStop.{Stop}
+use Rattle.lua_strings.specs.LuaBasicSeen.{Stops, Refuses}
 
 -- A CHECK of what was found, or of what was refused
 pub refuses_through : {A B : Type 0} (g : Argument A → Argument B) → ((message : Bytes) → g (Err message) ≡ Err message) → (a : Argument A) (s t : StoreView) (e : Stop) → Refuses a s t e → Refuses (g a) s t e

@@ -1,3 +1,4 @@
+pub use Rattle.lua_strings.proofs.Lines as LuaStringsLines
 pub mod Given
 pub mod Changed
 pub mod Texts

@@ -1,7 +1,7 @@
 -- Each of these functions is a line of the table of the library.
 use Rattle.std.proofs.Common.{◌≡◌, ap, Some}
-use Rattle.lua_heap.specs.declared.library.Library.TheVariants.{HtmlCreate, HtmlNode, HtmlWikitext, HtmlNewline, HtmlAttr, HtmlAddClass, HtmlCss, HtmlCssText, HtmlTag, HtmlDone, HtmlAllDone, HtmlGetAttr}
-use Rattle.lua_meaning.specs.Libraries.{Answers}
+use Rattle.lua_strings.specs.LuaHeapDeclaredLibraryLibraryTheVariants.{HtmlCreate, HtmlNode, HtmlWikitext, HtmlNewline, HtmlAttr, HtmlAddClass, HtmlCss, HtmlCssText, HtmlTag, HtmlDone, HtmlAllDone, HtmlGetAttr}
+use Rattle.lua_strings.specs.LuaMeaningLibraries.{Answers}
 use Rattle.mw_htmls.specs.declared.table.HtmlFunction.{HtmlFunction}
 use Rattle.mw_htmls.specs.declared.table.HtmlFunction.TheVariants as function
 use Rattle.mw_htmls.specs.declared.table.Method.TheVariants as own

@@ -3,10 +3,10 @@ use Rattle.std.proofs.lemmas.List.{map-append}
 use Rattle.std.proofs.Common.{◌≡◌, ◌∙◌, ap, sym, refl, ℕ, Bool, true, false, List, [], ◌∷◌, ◌++◌, map, append_assoc, Option, Some, None}
 use Rattle.std.specs.List.{AllByRecursion}
 use Rattle.std.specs.Option.{IfSome}
-use Rattle.lua_meaning.specs.HtmlNodes.{settled, attr_of, item_of, styles_of}
-use Rattle.lua_store.specs.declared.ids.TextId.{TextId}
-use Rattle.lua_store.specs.Seen.{StoreView, text_at, seen_pair, seen_style}
-use Rattle.lua_store.specs.Parts.{IsTextOf, IsPairOf, IsStyleOf}
+use Rattle.lua_strings.specs.LuaMeaningHtmlNodes.{settled, attr_of, item_of, styles_of}
+use Rattle.lua_strings.specs.LuaStoreDeclaredIdsTextId.{TextId}
+use Rattle.lua_strings.specs.LuaStoreSeen.{StoreView, text_at, seen_pair, seen_style}
+use Rattle.lua_strings.specs.LuaStoreParts.{IsTextOf, IsPairOf, IsStyleOf}
 use Rattle.mw_htmls.specs.Nodes.{text_seen, pair_of, style_of, style_texts}
 
 -- one that is passed over, and one that is replaced

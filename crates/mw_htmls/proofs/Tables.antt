@@ -2,26 +2,26 @@
 use Rattle.std.proofs.Common.{◌≡◌, ◌∙◌, ap, sym, subst, refl, arith, ℕ, zero, suc, ◌+◌, ◌<◌, ◌≤◌, ℤ, true, false, List, [], ◌∷◌, ◌++◌, length, Option, Some, None, Ok, Err, slice_get, drop}
 use Rattle.std.specs.Prelude.{Result}
 use Rattle.std.proofs.lemmas.List.{get_or-set_same, set-get_or}
-use Rattle.wk_base.specs.declared.left.Left.{Left}
-use Rattle.lua_heap.specs.Proc.{Proc}
-use Rattle.lua_heap.specs.Value as kind
-use Rattle.lua_heap.specs.Value.{is_nil}
-use Rattle.lua_heap.specs.Table.{Entries}
-use Rattle.lua_heap.proofs.Places.{some_back}
-use Rattle.lua_heap.specs.Heap.{Heap, MarkupNode, no_markup, table_at, markup_at, set_markup_in}
-use Rattle.lua_meaning.specs.Scope.{Bytes}
-use Rattle.lua_meaning.specs.Arguments.{Plain, PlainEnd, Fails, Argument, fails, with_charge, text_charge}
-use Rattle.lua_meaning.specs.Html as html
-use Rattle.lua_meaning.specs.Html.{Settings, behind_charge, go_on_with, set_each, entry_given}
-use Rattle.lua_store.specs.declared.ids.MarkupId.{MarkupId}
-use Rattle.lua_store.specs.declared.value.Value.{Value}
-use Rattle.lua_store.specs.Seen.{StoreView, seen}
-use Rattle.lua_store.specs.Parts.{IsOf, IsMarkupOf, IsLater}
-use Rattle.lua_store.proofs.Later.{of-later, seen-later}
-use Rattle.lua_basic.specs.declared.stop.Stop.{Stop}
-use Rattle.lua_basic.specs.declared.stop.Stop.TheVariants as stop
-use Rattle.lua_basic.specs.Seen.{AllOf, AnswerOf, Stops, Refuses, Free, Paid}
-use Rattle.lua_basic.proofs.Found.{for_nothing}
+use Rattle.lua_strings.specs.WkBaseDeclaredLeftLeft.{Left}
+use Rattle.lua_strings.specs.LuaHeapProc.{Proc}
+use Rattle.lua_strings.specs.LuaHeapValue as kind
+use Rattle.lua_strings.specs.LuaHeapValue.{is_nil}
+use Rattle.mw_html.specs.LuaHeapTable.{Entries}
+use Rattle.mw_html.proofs.LuaHeapPlaces.{some_back}
+use Rattle.mw_html.specs.LuaHeapHeap.{Heap, MarkupNode, no_markup, table_at, markup_at, set_markup_in}
+use Rattle.lua_strings.specs.LuaMeaningScope.{Bytes}
+use Rattle.lua_strings.specs.LuaMeaningArguments.{Plain, PlainEnd, Fails, Argument, fails, with_charge, text_charge}
+use Rattle.lua_strings.specs.LuaMeaningHtml as html
+use Rattle.lua_strings.specs.LuaMeaningHtml.{Settings, behind_charge, go_on_with, set_each, entry_given}
+use Rattle.lua_strings.specs.LuaStoreDeclaredIdsMarkupId.{MarkupId}
+use Rattle.lua_strings.specs.LuaStoreDeclaredValueValue.{Value}
+use Rattle.lua_strings.specs.LuaStoreSeen.{StoreView, seen}
+use Rattle.lua_strings.specs.LuaStoreParts.{IsOf, IsMarkupOf, IsLater}
+use Rattle.lua_strings.proofs.LuaStoreLater.{of-later, seen-later}
+use Rattle.lua_strings.specs.LuaBasicDeclaredStopStop.{Stop}
+use Rattle.lua_strings.specs.LuaBasicDeclaredStopStopTheVariants as stop
+use Rattle.lua_strings.specs.LuaBasicSeen.{AllOf, AnswerOf, Stops, Refuses, Free, Paid}
+use Rattle.lua_strings.proofs.LuaBasicFound.{for_nothing}
 use Rattle.lua_strings.specs.Costs.{Takes, Lacks}
 use Rattle.lua_strings.proofs.Taken.{takes_then, lacks_then, charged}
 use Rattle.mw_htmls.specs.declared.setting.Setter.{Setter}

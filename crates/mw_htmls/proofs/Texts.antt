@@ -2,16 +2,16 @@
 use Rattle.std.proofs.lemmas.List.{map-append}
 use Rattle.std.proofs.Common.{◌≡◌, ◌∙◌, ap, sym, refl, ℕ, ◌+◌, true, false, List, [], ◌∷◌, ◌++◌, map, append_assoc, Option, Some, None, Ok, Err, codes}
 use Rattle.std.specs.Option.{option_map}
-use Rattle.lua_heap.specs.Value as kind
-use Rattle.lua_heap.specs.Value.{Value, is_nil}
-use Rattle.lua_meaning.specs.Scope.{Bytes}
-use Rattle.lua_meaning.specs.Values.{text_in}
-use Rattle.lua_meaning.specs.Messages.{bad_argument, expected}
-use Rattle.lua_meaning.specs.Arguments.{Argument, some_text, a_text}
-use Rattle.lua_meaning.specs.Checks.{and_those}
-use Rattle.lua_meaning.specs.Html.{texts_from}
-use Rattle.lua_basic.specs.declared.texts.TextIn.{TextIn}
-use Rattle.lua_basic.specs.Arguments.{text_bytes}
+use Rattle.lua_strings.specs.LuaHeapValue as kind
+use Rattle.lua_strings.specs.LuaHeapValue.{Value, is_nil}
+use Rattle.lua_strings.specs.LuaMeaningScope.{Bytes}
+use Rattle.lua_strings.specs.LuaMeaningValues.{text_in}
+use Rattle.lua_strings.specs.LuaMeaningMessages.{bad_argument, expected}
+use Rattle.lua_strings.specs.LuaMeaningArguments.{Argument, some_text, a_text}
+use Rattle.lua_strings.specs.LuaMeaningChecks.{and_those}
+use Rattle.lua_strings.specs.LuaMeaningHtml.{texts_from}
+use Rattle.lua_strings.specs.LuaBasicDeclaredTextsTextIn.{TextIn}
+use Rattle.lua_strings.specs.LuaBasicArguments.{text_bytes}
 use Rattle.lua_strings.proofs.Numbered.{behind, all-read}
 
 -- nil ends them

@@ -3,8 +3,8 @@ use Rattle.std.proofs.Common.{◌≡◌, refl, arith, ◌+◌, true, false, List
 use Rattle.std.specs.Prelude.{codes}
 use Rattle.std.proofs.lemmas.List.{length-append}
 use Rattle.mw_html.specs.Names.{with_class}
-use Rattle.lua_meaning.specs.Scope.{Bytes}
-use Rattle.lua_meaning.specs.HtmlNodes.{is_attr, value_of}
+use Rattle.lua_strings.specs.LuaMeaningScope.{Bytes}
+use Rattle.lua_strings.specs.LuaMeaningHtmlNodes.{is_attr, value_of}
 
 pub value_hit : (name : Bytes) (a : Bytes × Bytes) (more : List (Bytes × Bytes)) → is_attr name a ≡ true → value_of name (a ∷ more) ≡ Some a.1
 value_hit name a more h = rw h refl

@@ -1,15 +1,15 @@
 -- WHAT IS FOUND of arguments.
 use Rattle.std.specs.Prelude.{ℕ, List, [], ◌∷◌, map, Option, Some, None, Ok, Err, codes}
-use Rattle.lua_heap.specs.Heap.{MarkupChild, ChildText, ChildNode}
-use Rattle.lua_heap.specs.Value.{Value}
-use Rattle.lua_meaning.specs.Scope.{Bytes}
-use Rattle.lua_meaning.specs.Messages.{bad_argument, expected}
-use Rattle.lua_meaning.specs.Arguments.{Argument}
-use Rattle.lua_store.specs.declared.ids.MarkupId.{MarkupId}
-use Rattle.lua_store.specs.Seen.{StoreView}
-use Rattle.lua_store.specs.Parts.{IsMarkupOf}
-use Rattle.lua_basic.specs.Arguments.{text_bytes}
-use Rattle.lua_basic.specs.Seen.{values_seen}
+use Rattle.mw_html.specs.LuaHeapHeap.{MarkupChild, ChildText, ChildNode}
+use Rattle.lua_strings.specs.LuaHeapValue.{Value}
+use Rattle.lua_strings.specs.LuaMeaningScope.{Bytes}
+use Rattle.lua_strings.specs.LuaMeaningMessages.{bad_argument, expected}
+use Rattle.lua_strings.specs.LuaMeaningArguments.{Argument}
+use Rattle.lua_strings.specs.LuaStoreDeclaredIdsMarkupId.{MarkupId}
+use Rattle.lua_strings.specs.LuaStoreSeen.{StoreView}
+use Rattle.lua_strings.specs.LuaStoreParts.{IsMarkupOf}
+use Rattle.lua_strings.specs.LuaBasicArguments.{text_bytes}
+use Rattle.lua_strings.specs.LuaBasicSeen.{values_seen}
 use Rattle.mw_htmls.specs.declared.children.ChildGiven.{ChildGiven}
 use Rattle.mw_htmls.specs.declared.children.ChildGiven.TheVariants as given
 use Rattle.mw_htmls.specs.declared.children.TextsRead.{TextsRead}

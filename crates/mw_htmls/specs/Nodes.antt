@@ -2,13 +2,13 @@
 use Rattle.std.specs.Prelude.{ℕ, List, [], ◌∷◌, Option, Some, None}
 use Rattle.std.specs.Borrow.{Bor}
 use Rattle.std.specs.Option.{option_map}
-use Rattle.lua_heap.specs.Heap.{MarkupNode as SeenNode, MarkupStyle as SeenStyle, set_markup_in}
-use Rattle.lua_store.specs.declared.ids.TextId.{TextId}
-use Rattle.lua_store.specs.declared.ids.MarkupId.{MarkupId}
-use Rattle.lua_store.specs.declared.markup.TextPair.{TextPair}
-use Rattle.lua_store.specs.declared.markup.MarkupStyle.{MarkupStyle}
-use Rattle.lua_store.specs.declared.markup.MarkupStyle.TheVariants as style
-use Rattle.lua_store.specs.Seen.{StoreView, text_at}
+use Rattle.mw_html.specs.LuaHeapHeap.{MarkupNode as SeenNode, MarkupStyle as SeenStyle, set_markup_in}
+use Rattle.lua_strings.specs.LuaStoreDeclaredIdsTextId.{TextId}
+use Rattle.lua_strings.specs.LuaStoreDeclaredIdsMarkupId.{MarkupId}
+use Rattle.lua_strings.specs.LuaStoreDeclaredMarkupTextPair.{TextPair}
+use Rattle.lua_strings.specs.LuaStoreDeclaredMarkupMarkupStyle.{MarkupStyle}
+use Rattle.lua_strings.specs.LuaStoreDeclaredMarkupMarkupStyleTheVariants as style
+use Rattle.lua_strings.specs.LuaStoreSeen.{StoreView, text_at}
 
 abbrev pub parent_seen : Option MarkupId → Option ℕ
 parent_seen parent = option_map (λ id. id.at) parent

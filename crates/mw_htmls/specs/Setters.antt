@@ -1,13 +1,13 @@
 -- WHAT SETS attributes and styles, and what a name with its value makes of an object.
 use Rattle.std.specs.Prelude.{List, [], ◌∷◌, Ok}
 use Rattle.std.specs.Option.{option_map}
-use Rattle.lua_heap.specs.Value.{Value}
-use Rattle.lua_heap.specs.Heap.{MarkupNode}
-use Rattle.lua_meaning.specs.Scope.{Bytes}
-use Rattle.lua_meaning.specs.Values.{rest}
-use Rattle.lua_meaning.specs.Arguments.{Argument}
-use Rattle.lua_meaning.specs.Html as html
-use Rattle.lua_basic.specs.Arguments.{text_bytes}
+use Rattle.lua_strings.specs.LuaHeapValue.{Value}
+use Rattle.mw_html.specs.LuaHeapHeap.{MarkupNode}
+use Rattle.lua_strings.specs.LuaMeaningScope.{Bytes}
+use Rattle.lua_strings.specs.LuaMeaningValues.{rest}
+use Rattle.lua_strings.specs.LuaMeaningArguments.{Argument}
+use Rattle.lua_strings.specs.LuaMeaningHtml as html
+use Rattle.lua_strings.specs.LuaBasicArguments.{text_bytes}
 use Rattle.mw_htmls.specs.declared.setting.Setter.{Setter}
 use Rattle.mw_htmls.specs.declared.setting.Setter.TheVariants as setter
 use Rattle.mw_htmls.specs.declared.setting.Setting.{Setting}

@@ -1,19 +1,19 @@
 -- THE FUNCTIONS of `mw.html`, and what each gives. A method is read after its object, which is its first argument.
 use Rattle.std.specs.Prelude.{◌≡◌, ℕ, List, [], ◌∷◌, Option, Some, None, codes}
-use Rattle.lua_heap.specs.Proc.{Proc}
-use Rattle.lua_heap.specs.Value.{Value}
-use Rattle.lua_heap.specs.Heap.{Heap, markup_at}
-use Rattle.lua_heap.specs.declared.library.Library.{Library}
-use Rattle.lua_heap.specs.declared.library.Library.TheVariants.{HtmlCreate, HtmlNode, HtmlWikitext, HtmlNewline, HtmlAttr, HtmlAddClass, HtmlCss, HtmlCssText, HtmlTag, HtmlDone, HtmlAllDone, HtmlGetAttr}
-use Rattle.lua_meaning.specs.Scope.{Bytes}
-use Rattle.lua_meaning.specs.World.{World}
-use Rattle.lua_meaning.specs.Acts.{Frame}
-use Rattle.lua_meaning.specs.Values.{rest}
-use Rattle.lua_meaning.specs.Arguments.{Plain, gives, with_argument, a_text}
-use Rattle.lua_meaning.specs.TextArguments.{of_texts}
-use Rattle.lua_meaning.specs.HtmlNodes as nodes
-use Rattle.lua_meaning.specs.Html as html
-use Rattle.lua_meaning.specs.Libraries.{Answers, form}
+use Rattle.lua_strings.specs.LuaHeapProc.{Proc}
+use Rattle.lua_strings.specs.LuaHeapValue.{Value}
+use Rattle.mw_html.specs.LuaHeapHeap.{Heap, markup_at}
+use Rattle.lua_strings.specs.LuaHeapDeclaredLibraryLibrary.{Library}
+use Rattle.lua_strings.specs.LuaHeapDeclaredLibraryLibraryTheVariants.{HtmlCreate, HtmlNode, HtmlWikitext, HtmlNewline, HtmlAttr, HtmlAddClass, HtmlCss, HtmlCssText, HtmlTag, HtmlDone, HtmlAllDone, HtmlGetAttr}
+use Rattle.lua_strings.specs.LuaMeaningScope.{Bytes}
+use Rattle.lua_strings.specs.LuaMeaningWorld.{World}
+use Rattle.lua_strings.specs.LuaMeaningActs.{Frame}
+use Rattle.lua_strings.specs.LuaMeaningValues.{rest}
+use Rattle.lua_strings.specs.LuaMeaningArguments.{Plain, gives, with_argument, a_text}
+use Rattle.lua_strings.specs.LuaMeaningTextArguments.{of_texts}
+use Rattle.lua_strings.specs.LuaMeaningHtmlNodes as nodes
+use Rattle.lua_strings.specs.LuaMeaningHtml as html
+use Rattle.lua_strings.specs.LuaMeaningLibraries.{Answers, form}
 use Rattle.mw_htmls.specs.declared.table.Method.{Method}
 use Rattle.mw_htmls.specs.declared.table.Method.TheVariants as own
 use Rattle.mw_htmls.specs.declared.table.HtmlFunction.{HtmlFunction}

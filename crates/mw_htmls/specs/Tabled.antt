@@ -1,22 +1,22 @@
 -- WHAT IS READ OF A TABLE of attributes or styles: entry by entry, each for its charge, up to one that is wrong.
 use Rattle.std.specs.Prelude.{◌≡◌, ℕ, ◌<◌, ℤ, true, false, List, [], ◌∷◌, Option, Some, None, Result, Ok, Err, if◌then◌else◌}
-use Rattle.wk_base.specs.declared.left.Left.{Left}
-use Rattle.lua_heap.specs.Value as kind
-use Rattle.lua_heap.specs.Value.{is_nil}
-use Rattle.lua_heap.specs.Table.{Entries}
-use Rattle.lua_heap.specs.Heap.{MarkupNode, set_markup_in}
-use Rattle.lua_meaning.specs.Scope.{Bytes}
-use Rattle.lua_meaning.specs.Arguments.{fails, text_charge}
-use Rattle.lua_meaning.specs.Html as html
-use Rattle.lua_meaning.specs.Html.{Settings}
-use Rattle.lua_store.specs.declared.ids.MarkupId.{MarkupId}
-use Rattle.lua_store.specs.declared.value.Value.{Value}
-use Rattle.lua_store.specs.declared.value.Value.TheVariants as own
-use Rattle.lua_store.specs.Seen.{StoreView, seen}
-use Rattle.lua_store.specs.Parts.{IsOf}
-use Rattle.lua_basic.specs.declared.stop.Stop.{Stop}
-use Rattle.lua_basic.specs.declared.stop.Stop.TheVariants as stop
-use Rattle.lua_basic.specs.Seen.{Stops, Free}
+use Rattle.lua_strings.specs.WkBaseDeclaredLeftLeft.{Left}
+use Rattle.lua_strings.specs.LuaHeapValue as kind
+use Rattle.lua_strings.specs.LuaHeapValue.{is_nil}
+use Rattle.mw_html.specs.LuaHeapTable.{Entries}
+use Rattle.mw_html.specs.LuaHeapHeap.{MarkupNode, set_markup_in}
+use Rattle.lua_strings.specs.LuaMeaningScope.{Bytes}
+use Rattle.lua_strings.specs.LuaMeaningArguments.{fails, text_charge}
+use Rattle.lua_strings.specs.LuaMeaningHtml as html
+use Rattle.lua_strings.specs.LuaMeaningHtml.{Settings}
+use Rattle.lua_strings.specs.LuaStoreDeclaredIdsMarkupId.{MarkupId}
+use Rattle.lua_strings.specs.LuaStoreDeclaredValueValue.{Value}
+use Rattle.lua_strings.specs.LuaStoreDeclaredValueValueTheVariants as own
+use Rattle.lua_strings.specs.LuaStoreSeen.{StoreView, seen}
+use Rattle.lua_strings.specs.LuaStoreParts.{IsOf}
+use Rattle.lua_strings.specs.LuaBasicDeclaredStopStop.{Stop}
+use Rattle.lua_strings.specs.LuaBasicDeclaredStopStopTheVariants as stop
+use Rattle.lua_strings.specs.LuaBasicSeen.{Stops, Free}
 use Rattle.lua_strings.specs.Costs.{Takes}
 use Rattle.mw_htmls.specs.declared.setting.Setter.{Setter}
 use Rattle.mw_htmls.specs.declared.setting.Setting.{Setting}

@@ -1,19 +1,17 @@
 //! `done` and `allDone`: the objects above one (Scribunto, HTML library).
 ghost use Rattle.std.specs.Prelude.{◌≡◌, Some, IfOk};
-ghost use Rattle.lua_heap.specs.Heap.{markup_at};
-ghost use Rattle.lua_heap.specs.Value as kind;
-ghost use Rattle.lua_meaning.specs.Html.{found_or};
-ghost use Rattle.lua_meaning.specs.HtmlNodes.{root_of};
-ghost use Rattle.lua_store.specs.Parts.{IsMarkupOf, IsParentOf};
-ghost use Rattle.lua_basic.specs.Seen.{Free, AnswerOf};
+ghost use Rattle.mw_html.specs.LuaHeapHeap.{markup_at};
+ghost use Rattle.lua_strings.specs.LuaHeapValue as kind;
+ghost use Rattle.lua_strings.specs.LuaMeaningHtml.{found_or};
+ghost use Rattle.lua_strings.specs.LuaMeaningHtmlNodes.{root_of};
+ghost use Rattle.lua_strings.specs.LuaStoreParts.{IsMarkupOf, IsParentOf};
+ghost use Rattle.lua_strings.specs.LuaBasicSeen.{Free, AnswerOf};
 ghost use Rattle.mw_htmls.specs.Nodes.{parent_seen};
 ghost use Rattle.mw_htmls.specs.Table.{done_on, all_done_on};
 
-use lua_basic::Stop;
-use lua_basic::values::single;
-use lua_store::{MarkupId, Store, Value};
+use lua_strings::{MarkupId, Stop, Store, Value, single};
+use mw_html::{List, NoMemory};
 use std::alloc::Global;
-use wk_base::{List, NoMemory};
 
 /// The object whose `tag` made this one.
 fn parent(store: &Store, id: MarkupId) -> Option<MarkupId>

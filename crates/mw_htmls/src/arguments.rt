@@ -1,23 +1,20 @@
 //! The arguments of functions of `mw.html` (Scribunto, HTML library). `given` are the arguments from number n on.
 ghost use Rattle.std.specs.Prelude.{◌≡◌, [], ℕ, List as Items, Ok, IfOk, IfErr, IfSome, OnOk};
 ghost use Rattle.std.specs.Option.{option_map};
-ghost use Rattle.lua_meaning.specs.Scope.{Bytes};
-ghost use Rattle.lua_meaning.specs.Arguments.{a_table};
-ghost use Rattle.lua_meaning.specs.Checks as checks;
-ghost use Rattle.lua_meaning.specs.Html as meaning;
-ghost use Rattle.lua_store.specs.Seen.{StoreView};
-ghost use Rattle.lua_store.specs.Parts.{IsTableOf, IsMarkupOf, IsLater};
-ghost use Rattle.lua_basic.specs.Arguments.{found_table, text_bytes};
-ghost use Rattle.lua_basic.specs.Seen.{values_seen, AllOf, StopOf, Refuses};
+ghost use Rattle.lua_strings.specs.LuaMeaningScope.{Bytes};
+ghost use Rattle.lua_strings.specs.LuaMeaningArguments.{a_table};
+ghost use Rattle.lua_strings.specs.LuaMeaningChecks as checks;
+ghost use Rattle.lua_strings.specs.LuaMeaningHtml as meaning;
+ghost use Rattle.lua_strings.specs.LuaStoreSeen.{StoreView};
+ghost use Rattle.lua_strings.specs.LuaStoreParts.{IsTableOf, IsMarkupOf, IsLater};
+ghost use Rattle.lua_strings.specs.LuaBasicArguments.{found_table, text_bytes};
+ghost use Rattle.lua_strings.specs.LuaBasicSeen.{values_seen, AllOf, StopOf, Refuses};
 ghost use Rattle.mw_htmls.specs.Found.{found_object};
 
-use lua_basic::Stop;
-use lua_basic::arguments::a_text;
-use lua_basic::fields::field;
-use lua_basic::messages::{fail, refuse_kind};
-use lua_basic::texts::TextIn;
-use lua_basic::values::{first, is_nil, is_true};
-use lua_store::{MarkupId, Store, TableId, Value};
+use lua_strings::{
+    MarkupId, Stop, Store, TableId, TextIn, Value, a_text, fail, field, first, is_nil, is_true,
+    refuse_kind,
+};
 use mw_html::is_name;
 use std::alloc::Global;
 

@@ -1,9 +1,9 @@
 //! A function of `mw.html` is called.
-ghost use Rattle.lua_store.specs.Parts.{IsMarkupOf, IsLater};
-ghost use Rattle.lua_basic.specs.Seen.{values_seen, AllOf, Paid, AnswerOf};
+ghost use Rattle.lua_strings.specs.LuaStoreParts.{IsMarkupOf, IsLater};
+ghost use Rattle.lua_strings.specs.LuaBasicSeen.{values_seen, AllOf, Paid, AnswerOf};
 ghost use Rattle.mw_htmls.specs.Table as spec;
 ghost use Rattle.mw_htmls.specs.Table.{answer_of, method_by};
-ghost use Rattle.lua_meaning.specs.TextArguments.{of_texts};
+ghost use Rattle.lua_strings.specs.LuaMeaningTextArguments.{of_texts};
 
 use crate::above::{all_done, done};
 use crate::arguments::an_object;
@@ -13,12 +13,10 @@ use crate::making::{create, tag};
 use crate::setting::Setter;
 use crate::table::{HtmlFunction, Method, name};
 use crate::tabled::set_given;
-use lua_basic::Stop;
-use lua_basic::values::rest;
-use lua_store::{MarkupId, Store, Value};
 use lua_strings::paying::take_texts;
+use lua_strings::{Left, MarkupId, Stop, Store, Value, rest};
+use mw_html::List;
 use std::alloc::Global;
-use wk_base::{Left, List};
 
 /// What a method of an object gives; `given` are the arguments behind the object.
 fn method_on(

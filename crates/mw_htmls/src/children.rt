@@ -1,28 +1,26 @@
 //! `node`, `wikitext` and `newline`: children are added (Scribunto, HTML library).
 ghost use Rattle.std.specs.Prelude.{◌≡◌, ◌+◌, ◌∷◌, [], codes, Ok, map, IfOk, IfErr, OnOk};
 ghost use Rattle.std.specs.List.{AllByRecursion};
-ghost use Rattle.lua_heap.specs.Heap.{ChildText};
-ghost use Rattle.lua_meaning.specs.Arguments.{a_text as text_given};
-ghost use Rattle.lua_meaning.specs.Html as meaning;
-ghost use Rattle.lua_meaning.specs.HtmlNodes.{add_children, add_texts};
-ghost use Rattle.lua_store.specs.Seen.{seen_child};
-ghost use Rattle.lua_store.specs.Parts.{IsMarkupOf, IsChildOf, IsLater};
-ghost use Rattle.lua_basic.specs.Arguments.{text_bytes};
-ghost use Rattle.lua_basic.specs.Seen.{values_seen, AllOf, Free, StopOf, AnswerOf, Refuses};
+ghost use Rattle.mw_html.specs.LuaHeapHeap.{ChildText};
+ghost use Rattle.lua_strings.specs.LuaMeaningArguments.{a_text as text_given};
+ghost use Rattle.lua_strings.specs.LuaMeaningHtml as meaning;
+ghost use Rattle.lua_strings.specs.LuaMeaningHtmlNodes.{add_children, add_texts};
+ghost use Rattle.lua_strings.specs.LuaStoreSeen.{seen_child};
+ghost use Rattle.lua_strings.specs.LuaStoreParts.{IsMarkupOf, IsChildOf, IsLater};
+ghost use Rattle.lua_strings.specs.LuaBasicArguments.{text_bytes};
+ghost use Rattle.lua_strings.specs.LuaBasicSeen.{values_seen, AllOf, Free, StopOf, AnswerOf, Refuses};
 ghost use Rattle.mw_htmls.specs.Found.{child_found, texts_found, IsGivenOf};
 ghost use Rattle.mw_htmls.specs.Table.{node_on, wikitext_on, newline_on};
 
 use crate::arguments::object_in;
 use crate::nodes::add_children;
-use lua_basic::Stop;
-use lua_basic::arguments::a_text;
-use lua_basic::texts::{TextIn, text_in};
-use lua_basic::values::{first, is_nil, single};
-use lua_store::{MarkupChild, MarkupId, Store, Value};
 use lua_strings::messages::refuse_kind;
 use lua_strings::paying::split_values;
+use lua_strings::{
+    MarkupChild, MarkupId, Stop, Store, TextIn, Value, a_text, first, is_nil, single, text_in,
+};
+use mw_html::{List, NoMemory};
 use std::alloc::Global;
-use wk_base::{List, NoMemory};
 
 /// Children are added, and the object is given.
 fn give_with(

@@ -1,15 +1,15 @@
 //! `addClass`, `getAttr` and `cssText` (Scribunto, HTML library).
 ghost use Rattle.std.specs.Prelude.{◌≡◌, ◌+◌, ◌∷◌, [], length, map, bytes_eq, Some};
 ghost use Rattle.std.specs.List.{AllByRecursion};
-ghost use Rattle.lua_heap.specs.Heap.{markup_at};
-ghost use Rattle.lua_heap.specs.Value as kind;
-ghost use Rattle.lua_meaning.specs.Arguments as plain;
-ghost use Rattle.lua_meaning.specs.Html as meaning;
-ghost use Rattle.lua_meaning.specs.HtmlNodes as nodes;
+ghost use Rattle.mw_html.specs.LuaHeapHeap.{markup_at};
+ghost use Rattle.lua_strings.specs.LuaHeapValue as kind;
+ghost use Rattle.lua_strings.specs.LuaMeaningArguments as plain;
+ghost use Rattle.lua_strings.specs.LuaMeaningHtml as meaning;
+ghost use Rattle.lua_strings.specs.LuaMeaningHtmlNodes as nodes;
 ghost use Rattle.mw_html.specs.Names.{with_class};
-ghost use Rattle.lua_store.specs.Seen.{text_at, seen_pair};
-ghost use Rattle.lua_store.specs.Parts.{IsTextOf, IsPairOf, IsMarkupOf, IsLater};
-ghost use Rattle.lua_basic.specs.Seen.{values_seen, AllOf, Free, Paid, AnswerOf};
+ghost use Rattle.lua_strings.specs.LuaStoreSeen.{text_at, seen_pair};
+ghost use Rattle.lua_strings.specs.LuaStoreParts.{IsTextOf, IsPairOf, IsMarkupOf, IsLater};
+ghost use Rattle.lua_strings.specs.LuaBasicSeen.{values_seen, AllOf, Free, Paid, AnswerOf};
 ghost use Rattle.lua_strings.specs.Costs.{Pays};
 ghost use Rattle.mw_htmls.specs.Nodes.{bytes_in};
 ghost use Rattle.mw_htmls.specs.Table.{add_class_on, get_attr_on, css_text_on};
@@ -17,13 +17,10 @@ ghost use Rattle.mw_htmls.specs.Table.{add_class_on, get_attr_on, css_text_on};
 use crate::arguments::text_if_any;
 use crate::lists::split_pairs;
 use crate::settings::{add_style_text, set_attr};
-use lua_basic::Stop;
-use lua_basic::arguments::a_text;
-use lua_basic::values::single;
-use lua_store::{MarkupId, Store, TextId, TextPair, Value};
 use lua_strings::paying::{give_text, take, take_sum};
+use lua_strings::{Left, MarkupId, Stop, Store, TextId, TextPair, Value, a_text, single};
+use mw_html::List;
 use std::alloc::Global;
-use wk_base::{Left, List};
 
 /// Whether a text has these bytes.
 fn is_called(store: &Store, text: TextId, name: &[u8]) -> bool

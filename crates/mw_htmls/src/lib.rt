@@ -30,4 +30,6 @@ pub mod table;
 pub mod tabled;
 
 pub use call::html_call;
+pub use lua_strings::places::sub;
+pub use lua_strings::{StringFunction, TextId, string_call, string_function};
 pub use table::{HtmlFunction, Method, html_function};

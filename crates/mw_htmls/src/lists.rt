@@ -1,14 +1,14 @@
 //! Attributes and styles with one that is set, or without one (Scribunto, HTML library).
 ghost use Rattle.std.specs.Prelude.{◌≡◌, ◌++◌, ◌∷◌, [], bytes_eq, map, IfOk, IfSome, OnOk, MatchOption};
 ghost use Rattle.std.specs.List.{AllByRecursion};
-ghost use Rattle.lua_meaning.specs.HtmlNodes as meaning;
-ghost use Rattle.lua_store.specs.Seen.{text_at, seen_pair, seen_style};
-ghost use Rattle.lua_store.specs.Parts.{IsTextOf, IsPairOf, IsStyleOf};
+ghost use Rattle.lua_strings.specs.LuaMeaningHtmlNodes as meaning;
+ghost use Rattle.lua_strings.specs.LuaStoreSeen.{text_at, seen_pair, seen_style};
+ghost use Rattle.lua_strings.specs.LuaStoreParts.{IsTextOf, IsPairOf, IsStyleOf};
 ghost use Rattle.mw_htmls.specs.Nodes.{text_seen, pair_of, style_of};
 
-use lua_store::{MarkupStyle, Store, TextId, TextPair, Value};
+use lua_strings::{MarkupStyle, Store, TextId, TextPair, Value};
+use mw_html::{List, NoMemory};
 use std::alloc::Global;
-use wk_base::{List, NoMemory};
 
 /// Whether two texts are one.
 fn is_same_text(store: &Store, a: TextId, b: TextId) -> bool

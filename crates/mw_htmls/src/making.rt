@@ -1,18 +1,16 @@
 //! `create` and `tag`: objects are made (Scribunto, HTML library).
 ghost use Rattle.std.specs.Prelude.{◌≡◌, None, Some};
-ghost use Rattle.lua_meaning.specs.Html as meaning;
-ghost use Rattle.lua_meaning.specs.HtmlNodes.{new_node};
-ghost use Rattle.lua_store.specs.Parts.{IsMarkupOf, IsLater};
-ghost use Rattle.lua_basic.specs.Seen.{values_seen, AllOf, Free, AnswerOf};
+ghost use Rattle.lua_strings.specs.LuaMeaningHtml as meaning;
+ghost use Rattle.lua_strings.specs.LuaMeaningHtmlNodes.{new_node};
+ghost use Rattle.lua_strings.specs.LuaStoreParts.{IsMarkupOf, IsLater};
+ghost use Rattle.lua_strings.specs.LuaBasicSeen.{values_seen, AllOf, Free, AnswerOf};
 ghost use Rattle.mw_htmls.specs.Table.{tag_on};
 
 use crate::arguments::{a_tag_name, closing_option};
 use crate::nodes::{add_children, make};
-use lua_basic::Stop;
-use lua_basic::values::{rest, single};
-use lua_store::{MarkupChild, MarkupId, Store, Value};
+use lua_strings::{MarkupChild, MarkupId, Stop, Store, Value, rest, single};
+use mw_html::List;
 use std::alloc::Global;
-use wk_base::List;
 
 /// A new object is given.
 fn give_new(

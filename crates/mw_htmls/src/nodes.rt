@@ -1,16 +1,16 @@
 //! An object of the store is made, and is changed: its node is taken out, and put in again.
 ghost use Rattle.std.specs.Prelude.{◌≡◌, ◌++◌, ◌∷◌, [], List as Items, ℕ, map, IfOk, OnOk, MatchOption};
 ghost use Rattle.std.specs.List.{AllByRecursion};
-ghost use Rattle.lua_heap.specs.Heap.{MarkupNode as SeenNode, markup_at};
-ghost use Rattle.lua_heap.specs.Heap as heap;
-ghost use Rattle.lua_meaning.specs.HtmlNodes as meaning;
-ghost use Rattle.lua_store.specs.Seen.{StoreView, text_at, seen_node, seen_child};
-ghost use Rattle.lua_store.specs.Parts.{IsTextOf, IsMarkupOf, IsParentOf, IsChildOf, IsNodeOf, IsLater};
+ghost use Rattle.mw_html.specs.LuaHeapHeap.{MarkupNode as SeenNode, markup_at};
+ghost use Rattle.mw_html.specs.LuaHeapHeap as heap;
+ghost use Rattle.lua_strings.specs.LuaMeaningHtmlNodes as meaning;
+ghost use Rattle.lua_strings.specs.LuaStoreSeen.{StoreView, text_at, seen_node, seen_child};
+ghost use Rattle.lua_strings.specs.LuaStoreParts.{IsTextOf, IsMarkupOf, IsParentOf, IsChildOf, IsNodeOf, IsLater};
 ghost use Rattle.mw_htmls.specs.Nodes.{parent_seen, with_node};
 
-use lua_store::{MarkupChild, MarkupId, MarkupNode, Store, TextId};
+use lua_strings::{MarkupChild, MarkupId, MarkupNode, Store, TextId};
+use mw_html::{List, NoMemory};
 use std::alloc::Global;
-use wk_base::{List, NoMemory};
 
 /// A node without attributes, styles and children.
 fn new_node(alloc: Global, name: TextId, closed: bool, parent: Option<MarkupId>) -> MarkupNode

@@ -1,25 +1,19 @@
 //! `attr` and `css`: attributes and styles are set, one or those of a table (Scribunto, HTML library).
 ghost use Rattle.std.specs.Prelude.{◌≡◌, Ok, IfOk, IfErr, OnOk};
-ghost use Rattle.lua_heap.specs.Heap.{MarkupNode, markup_at, set_markup_in};
-ghost use Rattle.lua_meaning.specs.Arguments as arguments;
-ghost use Rattle.lua_meaning.specs.Html as meaning;
-ghost use Rattle.lua_store.specs.Parts.{IsMarkupOf, IsLater};
-ghost use Rattle.lua_basic.specs.Arguments.{text_bytes};
-ghost use Rattle.lua_basic.specs.Seen.{values_seen, AllOf, Free, StopOf, AnswerOf, Refuses};
+ghost use Rattle.mw_html.specs.LuaHeapHeap.{MarkupNode, markup_at, set_markup_in};
+ghost use Rattle.lua_strings.specs.LuaMeaningArguments as arguments;
+ghost use Rattle.lua_strings.specs.LuaMeaningHtml as meaning;
+ghost use Rattle.lua_strings.specs.LuaStoreParts.{IsMarkupOf, IsLater};
+ghost use Rattle.lua_strings.specs.LuaBasicArguments.{text_bytes};
+ghost use Rattle.lua_strings.specs.LuaBasicSeen.{values_seen, AllOf, Free, StopOf, AnswerOf, Refuses};
 ghost use Rattle.mw_htmls.specs.Nodes.{bytes_in};
 ghost use Rattle.mw_htmls.specs.Setters.{setter_of, set_by, set_named};
 
 use crate::arguments::text_if_any;
 use crate::settings::{set_attribute, set_style};
-use lua_basic::Stop;
-use lua_basic::arguments::a_text;
-use lua_basic::messages::fail;
-use lua_basic::texts::TextIn;
-use lua_basic::values::{rest, single};
-use lua_store::{MarkupId, Store, Value};
-use mw_html::is_attribute_name;
+use lua_strings::{MarkupId, Stop, Store, TextIn, Value, a_text, fail, rest, single};
+use mw_html::{List, NoMemory, is_attribute_name};
 use std::alloc::Global;
-use wk_base::{List, NoMemory};
 
 /// What is set: an attribute, or a style.
 #[derive(Clone, Copy, Debug, PartialEq, Eq)]

@@ -1,17 +1,17 @@
 //! An attribute, a style or a text of styles of an object is set (Scribunto, HTML library).
 ghost use Rattle.std.specs.Prelude.{◌≡◌, map, IfOk, IfSome, OnOk};
 ghost use Rattle.std.specs.List.{AllByRecursion};
-ghost use Rattle.lua_heap.specs.Heap.{markup_at, set_markup_in};
-ghost use Rattle.lua_meaning.specs.HtmlNodes as meaning;
-ghost use Rattle.lua_store.specs.Seen.{seen_pair, seen_style};
-ghost use Rattle.lua_store.specs.Parts.{IsTextOf, IsPairOf, IsStyleOf, IsMarkupOf, IsLater};
+ghost use Rattle.mw_html.specs.LuaHeapHeap.{markup_at, set_markup_in};
+ghost use Rattle.lua_strings.specs.LuaMeaningHtmlNodes as meaning;
+ghost use Rattle.lua_strings.specs.LuaStoreSeen.{seen_pair, seen_style};
+ghost use Rattle.lua_strings.specs.LuaStoreParts.{IsTextOf, IsPairOf, IsStyleOf, IsMarkupOf, IsLater};
 ghost use Rattle.mw_htmls.specs.Nodes.{bytes_in, text_seen, style_texts, with_node, attrs_set, styles_set};
 
 use crate::lists::{attrs_with, styles_with};
 use crate::nodes::{put, take};
-use lua_store::{MarkupId, MarkupStyle, Store, TextId, TextPair};
+use lua_strings::{MarkupId, MarkupStyle, Store, TextId, TextPair};
+use mw_html::{List, NoMemory};
 use std::alloc::Global;
-use wk_base::{List, NoMemory};
 
 /// An object has these attributes.
 fn put_attrs(alloc: Global, store: &mut Store, id: MarkupId, attrs: List<TextPair>)

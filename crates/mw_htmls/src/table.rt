@@ -2,7 +2,7 @@
 ghost use Rattle.std.specs.Prelude.{◌≡◌};
 ghost use Rattle.mw_htmls.specs.Table.{html_function_in, name_of, AreInTable};
 
-use lua_store::Library;
+use lua_strings::Library;
 
 /// A method of an object of `mw.html` (Scribunto, HTML library).
 #[derive(Clone, Copy, Debug, PartialEq, Eq)]

@@ -2,23 +2,21 @@
 //! for, up to one that is wrong; then those that were read are set.
 ghost use Rattle.std.specs.Prelude.{◌≡◌, ◌+◌, ◌∷◌, [], drop, IfSome, OnOk, MatchOption};
 ghost use Rattle.std.specs.Prelude.{List as Items};
-ghost use Rattle.lua_heap.specs.Value as kind;
-ghost use Rattle.lua_heap.specs.Heap.{MarkupNode as SeenNode, table_at, markup_at, set_markup_in};
-ghost use Rattle.lua_meaning.specs.Html as meaning;
-ghost use Rattle.lua_store.specs.Seen.{StoreView, seen, seen_entry};
-ghost use Rattle.lua_store.specs.Parts.{IsOf, IsTableOf, IsMarkupOf, IsEntryOf, IsLater};
-ghost use Rattle.lua_basic.specs.Seen.{values_seen, AllOf, StopOf, Paid, Refuses, AnswerOf};
+ghost use Rattle.lua_strings.specs.LuaHeapValue as kind;
+ghost use Rattle.mw_html.specs.LuaHeapHeap.{MarkupNode as SeenNode, table_at, markup_at, set_markup_in};
+ghost use Rattle.lua_strings.specs.LuaMeaningHtml as meaning;
+ghost use Rattle.lua_strings.specs.LuaStoreSeen.{StoreView, seen, seen_entry};
+ghost use Rattle.lua_strings.specs.LuaStoreParts.{IsOf, IsTableOf, IsMarkupOf, IsEntryOf, IsLater};
+ghost use Rattle.lua_strings.specs.LuaBasicSeen.{values_seen, AllOf, StopOf, Paid, Refuses, AnswerOf};
 ghost use Rattle.mw_htmls.specs.Setters.{setter_of, all_set};
 ghost use Rattle.mw_htmls.specs.Tabled.{LiveIs, EntryIs, EntryOf, AreRead, ReadOf, FaultOf, GivesOrRaises, EndsRead};
 
 use crate::arguments::table_in;
 use crate::setting::{Setter, Setting, a_setting, apply, set_one};
-use lua_basic::Stop;
-use lua_basic::values::{is_nil, single};
-use lua_store::{MarkupId, Store, TableId, Value};
 use lua_strings::paying::{take, take_texts};
+use lua_strings::{Left, MarkupId, Stop, Store, TableId, Value, is_nil, single};
+use mw_html::{List, NoMemory};
 use std::alloc::Global;
-use wk_base::{Left, List, NoMemory};
 
 /// The entry of a table at a place, before those behind it.
 fn entry_at(store: &Store, table: TableId, place: usize) -> Option<(Value, Value)>

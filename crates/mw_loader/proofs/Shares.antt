@@ -2,13 +2,13 @@
 use Rattle.std.proofs.Common.{◌≡◌, ℕ, ◌+◌, ◌-◌, ◌<◌, ◌≤◌, true, length, map, sym, ap, ◌∙◌, subst, arith, length-append}
 use Rattle.std.specs.Prelude.{Ok}
 use Rattle.std.proofs.lemmas.List.{length-map}
-use Rattle.lua_heap.specs.Proc.{proc_names}
-use Rattle.lua_heap.specs.Reach.{is_there}
-use Rattle.lua_heap.specs.Graph as plain
-use Rattle.lua_heap.specs.Graph.{node_table, graph_tables, shift_entries, join, joined_root}
-use Rattle.lua_walk.specs.Data.{taken, texts_of}
-use Rattle.lua_walk.specs.Laws.{Leads}
-use Rattle.lua_walk.proofs.WalkLaws.{taken_is_reached}
+use Rattle.lua_store.specs.LuaHeapProc.{proc_names}
+use Rattle.lua_store.specs.LuaHeapReach.{is_there}
+use Rattle.lua_graph.specs.LuaHeapGraph as plain
+use Rattle.lua_graph.specs.LuaHeapGraph.{node_table, graph_tables, shift_entries, join, joined_root}
+use Rattle.lua_graph.specs.LuaWalkData.{taken, texts_of}
+use Rattle.lua_graph.specs.LuaWalkLaws.{Leads}
+use Rattle.lua_graph.proofs.LuaWalkWalkLaws.{taken_is_reached}
 use Rattle.lua_store.specs.declared.value.Value.{Value}
 use Rattle.lua_store.specs.declared.value.Value.TheVariants as own
 use Rattle.lua_store.specs.Laws.{NamesWhatIsThere}

@@ -3,9 +3,9 @@ use Rattle.std.specs.Prelude.{◌≡◌, ℕ, ◌<◌, ◌≤◌, true, List, le
 use Rattle.std.specs.Map.{lookup}
 use Rattle.wk_base.specs.declared.title.Title.{Title}
 use Rattle.wk_base.specs.contracts.title.TitlePartialEq.TheImpl as titles
-use Rattle.lua_heap.specs.Graph.{Graph, join, joined_root}
-use Rattle.lua_walk.specs.Data.{taken, texts_of}
-use Rattle.lua_walk.specs.Laws.{Leads}
+use Rattle.lua_graph.specs.LuaHeapGraph.{Graph, join, joined_root}
+use Rattle.lua_graph.specs.LuaWalkData.{taken, texts_of}
+use Rattle.lua_graph.specs.LuaWalkLaws.{Leads}
 use Rattle.lua_store.specs.declared.value.Value.{Value}
 use Rattle.lua_store.specs.Seen.{StoreView, seen}
 use Rattle.lua_graph.specs.Put.{with_texts}

@@ -10,5 +10,4 @@ pub mod keep;
 mod sharing;
 
 pub use keep::{DataKeep, Kept};
-pub use lua_graph::DataFault;
 pub use sharing::make_shared;

@@ -1,6 +1,6 @@
 //! The data of a value, read-only.
 ghost use Rattle.std.specs.Prelude.{◌≡◌, ◌≢◌, IfOk, IfErr};
-ghost use Rattle.lua_walk.specs.Data.{taken};
+ghost use Rattle.lua_graph.specs.LuaWalkData.{taken};
 ghost use Rattle.lua_store.specs.Seen.{seen};
 ghost use Rattle.lua_store.specs.Parts.{IsOf, IsLater};
 ghost use Rattle.lua_graph.specs.declared.fault.DataFault.TheVariants as fault;

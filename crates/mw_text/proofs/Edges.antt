@@ -4,9 +4,9 @@ use Rattle.std.specs.Str.{IsCharBoundary}
 use Rattle.std.proofs.lemmas.List.{reverse-append, nil_from_length}
 use Rattle.std.proofs.lemmas.Str.{IsUtf8-drop, IsCharBoundary-from_take, chars-append, chars_past_char, chars-nil}
 use Rattle.std.proofs.Math.Seq.{drop-append_seam, take-append_seam}
-use Rattle.lua_pattern.specs.Letters.{Symbol}
-use Rattle.lua_pattern.specs.Texts.{points}
-use Rattle.lua_pattern.specs.Keeps.{points_keep}
+use Rattle.mw_ustring.specs.LuaPatternLetters.{Symbol}
+use Rattle.mw_ustring.specs.LuaPatternTexts.{points}
+use Rattle.mw_ustring.specs.LuaPatternKeeps.{points_keep}
 
 pub none_left : (text : List ℕ) → length text ≡ 0 → chars text ≡ []
 none_left text e = ap chars (nil_from_length text e) ∙ chars-nil

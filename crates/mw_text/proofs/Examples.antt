@@ -2,9 +2,9 @@
 use Rattle.std.proofs.Common.{◌≡◌, true, false, pos, negsuc, [], ◌∷◌, Some, Err, ◌++◌, codes, refl}
 use Rattle.std.specs.Char.{encode_utf8}
 use Rattle.std.specs.Fmt.{digits}
-use Rattle.lua_pattern.specs.declared.item.Item.TheVariants as item
-use Rattle.lua_pattern.specs.declared.item.Single.TheVariants as single
-use Rattle.lua_pattern.specs.Texts.{point_code}
+use Rattle.mw_ustring.specs.LuaPatternDeclaredItemItemTheVariants as item
+use Rattle.mw_ustring.specs.LuaPatternDeclaredItemSingleTheVariants as single
+use Rattle.mw_ustring.specs.LuaPatternTexts.{point_code}
 use Rattle.mw_text.specs.declared.tagging.TagValue.TheVariants as tag_value
 use Rattle.mw_text.specs.declared.tagging.TagContent.TheVariants as tag_content
 use Rattle.mw_text.specs.Sets.{chosen_set}

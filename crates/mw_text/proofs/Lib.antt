@@ -1,3 +1,4 @@
+pub use Rattle.mw_ustring.proofs.Offsets as MwUstringOffsets
 mod Examples
 pub mod Edges
 pub mod Loops

@@ -7,7 +7,7 @@ use Rattle.std.proofs.lemmas.Bool.Decides.{nat_tests}
 use Rattle.std.proofs.lemmas.Str.{encode_ascii, encodes-chars, scalars-chars}
 use lib.Dec.{ltb}
 use lib.Utf8.{scalar, scalars, scalar_cases}
-use Rattle.wk_base.specs.Titles.{begins_with}
+use Rattle.mw_ustring.specs.WkBaseTitles.{begins_with}
 use Rattle.mw_text.specs.References.{numbered, is_special, encoded_point, encoded}
 use Rattle.mw_text.specs.Tag.{reference, encode_byte, encode_behind, encode}
 

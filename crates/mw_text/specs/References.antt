@@ -3,7 +3,7 @@
 use Rattle.std.specs.Prelude.{ℕ, Bool, ◌||◌, ◌==◌, if◌then◌else◌, List, ◌∷◌, [], ◌++◌, length, codes, chars, flat_map, Option, Result, Ok, Err}
 use Rattle.std.specs.Char.{encode_utf8}
 use Rattle.std.specs.Fmt.{decimal}
-use Rattle.lua_pattern.specs.declared.item.Set.{Set}
+use Rattle.mw_ustring.specs.LuaPatternDeclaredItemSet.{Set}
 use Rattle.mw_text.specs.declared.answers.TextAnswer.{TextAnswer}
 use Rattle.mw_text.specs.Answers.{IsText}
 use Rattle.mw_text.specs.Sets.{member}

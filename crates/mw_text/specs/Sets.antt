@@ -1,13 +1,13 @@
 -- THE SET of `trim` and `encode`: the whole text between `[` and `]` of a pattern over code points, or the usual one where none
 -- is given (Scribunto manual, mw.text.trim, mw.text.encode).
 use Rattle.std.specs.Prelude.{◌≡◌, ℕ, Bool, List, Option, Some, None, Result, Ok, Err}
-use Rattle.lua_pattern.specs.declared.item.Set.{Set}
-use Rattle.lua_pattern.specs.declared.read.PatternFault.{PatternFault}
-use Rattle.lua_pattern.specs.declared.read.PatternFault.TheVariants as fault
-use Rattle.lua_pattern.specs.Texts.{points}
-use Rattle.lua_pattern.specs.Read.{codes}
-use Rattle.lua_pattern.specs.Sets.{in_set}
-use Rattle.lua_pattern.specs.SetTexts.{set_of}
+use Rattle.mw_ustring.specs.LuaPatternDeclaredItemSet.{Set}
+use Rattle.mw_ustring.specs.LuaPatternDeclaredReadPatternFault.{PatternFault}
+use Rattle.mw_ustring.specs.LuaPatternDeclaredReadPatternFaultTheVariants as fault
+use Rattle.mw_ustring.specs.LuaPatternTexts.{points}
+use Rattle.mw_ustring.specs.LuaPatternRead.{codes}
+use Rattle.mw_ustring.specs.LuaPatternSets.{in_set}
+use Rattle.mw_ustring.specs.LuaPatternSetTexts.{set_of}
 
 abbrev pub given_set : Result Set ℕ → Result (Option Set) ℕ
 given_set (Ok set) = Ok (Some set)

@@ -2,16 +2,16 @@
 -- points, or between the places of a plain text. All places are bytes.
 use Rattle.std.specs.Prelude.{◌≡◌, ℕ, zero, suc, ◌+◌, ◌-◌, ◌<◌, ◌≤◌, Bool, true, false, nat_lt, if◌then◌else◌, List, [], ◌∷◌, length, take, drop, Option, Some, None, Result, Ok, Err, IsUtf8, IsCharBoundary, IfSome}
 use Rattle.std.specs.Option.{option_map}
-use Rattle.lua_pattern.specs.declared.item.Item.{Item}
-use Rattle.lua_pattern.specs.declared.pattern.Search.{Search}
-use Rattle.lua_pattern.specs.declared.pattern.Search.TheVariants as search
-use Rattle.lua_pattern.specs.declared.read.PatternFault.{PatternFault}
-use Rattle.lua_pattern.specs.declared.read.PatternFault.TheVariants as fault
-use Rattle.lua_pattern.specs.Letters.{Symbol}
-use Rattle.lua_pattern.specs.Texts.{points}
-use Rattle.lua_pattern.specs.Way.{Answer, At, Nowhere, first}
-use Rattle.lua_pattern.specs.Read.{Read, Fault, Fine, read_of, codes}
-use Rattle.lua_string.specs.Finds.{place_of}
+use Rattle.mw_ustring.specs.LuaPatternDeclaredItemItem.{Item}
+use Rattle.mw_ustring.specs.LuaPatternDeclaredPatternSearch.{Search}
+use Rattle.mw_ustring.specs.LuaPatternDeclaredPatternSearchTheVariants as search
+use Rattle.mw_ustring.specs.LuaPatternDeclaredReadPatternFault.{PatternFault}
+use Rattle.mw_ustring.specs.LuaPatternDeclaredReadPatternFaultTheVariants as fault
+use Rattle.mw_ustring.specs.LuaPatternLetters.{Symbol}
+use Rattle.mw_ustring.specs.LuaPatternTexts.{points}
+use Rattle.mw_ustring.specs.LuaPatternWay.{Answer, At, Nowhere, first}
+use Rattle.mw_ustring.specs.LuaPatternRead.{Read, Fault, Fine, read_of, codes}
+use Rattle.mw_ustring.specs.LuaStringFinds.{place_of}
 use Rattle.mw_text.specs.declared.answers.PartsAnswer.{PartsAnswer}
 use Rattle.mw_text.specs.declared.splitting.Part.{Part}
 use Rattle.mw_text.specs.declared.splitting.PartAnswer.{PartAnswer}

@@ -1,6 +1,6 @@
 -- A TAG OF HTML as a text (Scribunto manual, mw.text.tag).
 use Rattle.std.specs.Prelude.{ℕ, ◌&&◌, List, [], ◌∷◌, ◌++◌, if◌then◌else◌, ◌==◌, codes}
-use Rattle.wk_base.specs.Titles.{begins_with}
+use Rattle.mw_ustring.specs.WkBaseTitles.{begins_with}
 use Rattle.mw_text.specs.declared.tagging.TagAttr.{TagAttr}
 use Rattle.mw_text.specs.declared.tagging.TagValue.{TagValue}
 use Rattle.mw_text.specs.declared.tagging.TagValue.TheVariants as tag_value

@@ -1,7 +1,7 @@
 -- TRIM (Scribunto manual, mw.text.trim), over code points. Each is compared with the set, one try each: from the left up to
 -- the first that stays, then from the right down to the last that stays. Where none stays, nothing is left to compare there.
 use Rattle.std.specs.Prelude.{ℕ, suc, ◌+◌, Bool, ◌||◌, ◌==◌, if◌then◌else◌, List, [], ◌∷◌, reverse, Option, Result, Ok, Err, chars, encode_utf8_all}
-use Rattle.lua_pattern.specs.declared.item.Set.{Set}
+use Rattle.mw_ustring.specs.LuaPatternDeclaredItemSet.{Set}
 use Rattle.mw_text.specs.declared.answers.TextAnswer.{TextAnswer}
 use Rattle.mw_text.specs.Answers.{IsText}
 use Rattle.mw_text.specs.Sets.{member}

@@ -1,6 +1,6 @@
 //! What functions give within a budget of steps. A try costs one step, and so does each byte of the texts that are given.
 
-use wk_base::{Bytes, List};
+use mw_ustring::{Bytes, List};
 
 /// A text with the number of tries that gave it.
 #[derive(Drop, Debug)]

@@ -4,9 +4,8 @@ ghost use Rattle.mw_text.specs.Decode.{begins as begins_lem, named as named_lem,
 
 use crate::ends::first_byte;
 use crate::references::put_point;
-use lua_string::text::push_all;
+use mw_ustring::{NoMemory, push_all};
 use std::alloc::Global;
-use wk_base::NoMemory;
 
 /// A reference by name, behind `&`: the code point, and how many bytes the name and its `;` take.
 fn named(text: &[u8]) -> Option<(char, usize)>

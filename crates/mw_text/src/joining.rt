@@ -2,10 +2,8 @@
 ghost use Rattle.std.specs.Prelude.{◌≡◌, ◌++◌, chars, encode_utf8_all, unsigned_abs, IsUtf8, IfOk, OnOk};
 ghost use Rattle.mw_text.specs.Joined.{glue, joined, room as room_lem, truncated};
 
-use lua_string::text::push_all;
-use mw_ustring::{count_points, first_points, points_behind};
+use mw_ustring::{Bytes, NoMemory, count_points, first_points, points_behind, push_all};
 use std::alloc::Global;
-use wk_base::{Bytes, NoMemory};
 
 /// What stands behind an item with these items behind it.
 fn glue_of<'g>(sep: &'g [u8], conj: &'g [u8], behind: &[Bytes]) -> &'g [u8]

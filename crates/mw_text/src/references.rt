@@ -10,11 +10,8 @@ use crate::answers::TextAnswer;
 use crate::ends::first_point;
 use crate::sets::{is_encoded, read_choice};
 use itoa::Buffer;
-use lua_pattern::{PatternFault, PreparedSet};
-use lua_string::text::push_all;
-use mw_ustring::text_of;
+use mw_ustring::{NoMemory, PatternFault, PreparedSet, push_all, text_of};
 use std::alloc::Global;
-use wk_base::NoMemory;
 
 /// Adds a code point.
 pub fn put_point(made: &mut Vec<u8>, point: char) -> Result<(), NoMemory>

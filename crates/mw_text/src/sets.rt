@@ -5,7 +5,7 @@ ghost use Rattle.mw_text.specs.Sets.{chosen_set, member, IsChoiceFault};
 ghost use Rattle.mw_text.specs.Trim.{is_space};
 ghost use Rattle.mw_text.specs.References.{is_special};
 
-use lua_pattern::{OnePoint, PatternFault, PreparedSet, read_set};
+use mw_ustring::{OnePoint, PatternFault, PreparedSet, read_set};
 use std::alloc::Global;
 
 /// The set between `[` and `]`, or none where the usual one is meant. A text that is no set gives the fault of the pattern;

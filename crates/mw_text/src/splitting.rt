@@ -1,15 +1,15 @@
 //! `split`, and the step of `gsplit`, within a budget of steps (Scribunto manual, mw.text.split, mw.text.gsplit).
 ghost use Rattle.std.specs.Prelude.{◌≡◌, ◌+◌, ◌<◌, ◌≤◌, Ok, true, length, drop, IsUtf8, IsCharBoundary, IfOk, MatchResult};
-ghost use Rattle.lua_pattern.specs.Places.{HasPlaces};
-ghost use Rattle.lua_pattern.specs.Texts.{points};
+ghost use Rattle.mw_ustring.specs.LuaPatternPlaces.{HasPlaces};
+ghost use Rattle.mw_ustring.specs.LuaPatternTexts.{points};
 ghost use Rattle.mw_text.specs.Split.{sought_by, sought_of, IsSeparator, IsSoughtFault, found_from, IsMet, after_empty, cut_at, part_from, IsPart, IsNext, HasEnds, IsNextPart, parts_of, IsSplit};
 ghost use Rattle.mw_text.specs.Answers.{IsParts};
 
 use crate::answers::PartsAnswer;
-use lua_pattern::{OnePoint, Pattern, PatternFault, Search, symbol_at};
-use mw_ustring::plain_find;
+use mw_ustring::{
+    Bytes, List, NoMemory, OnePoint, Pattern, PatternFault, Search, plain_find, symbol_at,
+};
 use std::alloc::Global;
-use wk_base::{Bytes, List, NoMemory};
 
 /// What stands between the parts of a text: these bytes, or what a pattern over code points matches.
 #[derive(Drop)]

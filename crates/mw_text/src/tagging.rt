@@ -2,9 +2,8 @@
 ghost use Rattle.std.specs.Prelude.{◌≡◌, [], ◌∷◌, ◌++◌, IfOk, OnOk, MatchOption};
 ghost use Rattle.mw_text.specs.Tag.{reference as reference_lem, encode_byte, encode, attribute, attributes, closed_by, tag_of};
 
-use lua_string::text::push_all;
+use mw_ustring::{Bytes, NoMemory, push_all};
 use std::alloc::Global;
-use wk_base::{Bytes, NoMemory};
 
 /// The value of an attribute; `Alone` where it is written without one.
 #[derive(Drop, Debug)]

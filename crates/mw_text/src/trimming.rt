@@ -7,8 +7,7 @@ ghost use Rattle.mw_text.specs.Trim.{is_space, skipped, looked, trimmed, trim_tr
 use crate::answers::TextAnswer;
 use crate::ends::{first_point, last_point};
 use crate::sets::{is_trimmed, read_choice};
-use lua_pattern::{PatternFault, PreparedSet};
-use mw_ustring::text_of;
+use mw_ustring::{PatternFault, PreparedSet, text_of};
 use std::alloc::Global;
 
 /// The text behind the members of a set in front. Each comparison takes one of the tries that are left; where these do not

@@ -4,15 +4,15 @@ use Rattle.std.specs.Prelude.{pos, negsuc, codes}
 use Rattle.std.specs.Str.{is_utf8, chars}
 use Rattle.std.specs.Char.{encode_utf8}
 use Rattle.std.specs.Fmt.{digits}
-use Rattle.lua_pattern.specs.Texts.{point_code}
+use Rattle.lua_string.specs.LuaPatternTexts.{point_code}
 use Rattle.mw_text.specs.References.{numbered}
 use Rattle.mw_text.specs.Split.{parts_of}
-use Rattle.lua_heap.specs.Value.{Value, Nil, Truth, Number, Text, Table}
-use Rattle.lua_heap.specs.Table.{Entries}
-use Rattle.lua_heap.specs.Heap.{Heap, empty}
-use Rattle.lua_meaning.specs.Scope.{Bytes}
-use Rattle.lua_meaning.specs.Arguments.{Plain, Fails, costs}
-use Rattle.lua_meaning.specs.Frames.{with_table}
+use Rattle.mw_ustrings.specs.LuaHeapValue.{Value, Nil, Truth, Number, Text, Table}
+use Rattle.mw_ustrings.specs.LuaHeapTable.{Entries}
+use Rattle.mw_ustrings.specs.LuaHeapHeap.{Heap, empty}
+use Rattle.mw_ustrings.specs.LuaMeaningScope.{Bytes}
+use Rattle.mw_ustrings.specs.LuaMeaningArguments.{Plain, Fails, costs}
+use Rattle.mw_ustrings.specs.LuaMeaningFrames.{with_table}
 use Rattle.mw_texts.specs.Table.{answer_of}
 use Rattle.mw_texts.specs.declared.table.TextFunction.{TextFunction}
 use Rattle.mw_texts.specs.declared.table.TextFunction.TheVariants as which

@@ -1,18 +1,18 @@
 -- The items of a list, one after another, and what their text costs.
 use Rattle.std.proofs.Common.{◌≡◌, ◌∙◌, ap, sym, subst, refl, arith, ℕ, zero, suc, ◌+◌, ◌*◌, ◌<◌, List, [], ◌∷◌, ◌++◌, append_assoc, length, length-append, map, drop, get_or, drop-cons, Ok, Err}
 use Rattle.std.proofs.lemmas.List.{map-append, length-map}
-use Rattle.lua_store.specs.Seen.{StoreView}
-use Rattle.lua_basic.specs.Arguments.{text_bytes}
-use Rattle.lua_basic.specs.declared.stop.Stop.{Stop}
-use Rattle.lua_basic.specs.declared.texts.TextIn.{TextIn}
-use Rattle.lua_basic.specs.Seen.{Refuses}
-use Rattle.lua_meaning.specs.Scope.{Bytes}
-use Rattle.lua_meaning.specs.Arguments.{Argument}
+use Rattle.mw_ustrings.specs.LuaStoreSeen.{StoreView}
+use Rattle.mw_ustrings.specs.LuaBasicArguments.{text_bytes}
+use Rattle.mw_ustrings.specs.LuaBasicDeclaredStopStop.{Stop}
+use Rattle.mw_ustrings.specs.LuaBasicDeclaredTextsTextIn.{TextIn}
+use Rattle.mw_ustrings.specs.LuaBasicSeen.{Refuses}
+use Rattle.mw_ustrings.specs.LuaMeaningScope.{Bytes}
+use Rattle.mw_ustrings.specs.LuaMeaningArguments.{Argument}
 use Rattle.mw_text.specs.Answers.{total}
 use Rattle.mw_text.specs.Joined.{joined}
 use Rattle.mw_ustrings.proofs.ReadArguments.{refuses_through}
 use Rattle.mw_texts.specs.Costs.{glue_charge}
-use Rattle.lua_meaning.specs.Texts.{item_then}
+use Rattle.mw_ustrings.specs.LuaMeaningTexts.{item_then}
 
 -- items behind those that were read
 abbrev pub onto : List Bytes → Argument (List Bytes) → Argument (List Bytes)

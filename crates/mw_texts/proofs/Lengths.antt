@@ -3,7 +3,7 @@ use Rattle.std.proofs.Common.{◌≡◌, ◌∙◌, ap, sym, subst, refl, ℕ, �
 use Rattle.std.specs.Prelude.{nat_lt, ◌==◌, ◌||◌}
 use Rattle.std.specs.Fmt.{digits}
 use Rattle.std.proofs.lemmas.Bool.{eqb-true, or_cases, lt-ltb, le-ltb}
-use Rattle.lua_meaning.specs.Scope.{Bytes}
+use Rattle.mw_ustrings.specs.LuaMeaningScope.{Bytes}
 use Rattle.mw_text.specs.Decode.{head, decoded}
 use Rattle.mw_text.specs.References.{numbered, is_markup, nowiki_byte, nowiki_of}
 use Rattle.mw_text.proofs.Pieces.{decode_on}

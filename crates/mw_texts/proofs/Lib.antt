@@ -1,3 +1,4 @@
+pub use Rattle.mw_ustrings.proofs.Lines as MwUstringsLines
 pub mod Lines
 pub mod SetAnswers
 pub mod SplitAnswers

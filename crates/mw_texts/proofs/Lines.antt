@@ -1,7 +1,7 @@
 -- Each of these functions is a line of the table of the library.
 use Rattle.std.proofs.Common.{◌≡◌, ap, Some}
-use Rattle.lua_heap.specs.declared.library.Library.TheVariants.{TextTrim, TextSplit, TextEncode, TextDecode, TextListToText, TextNowiki, TextTag, TextTruncate}
-use Rattle.lua_meaning.specs.Libraries.{Answers}
+use Rattle.mw_ustrings.specs.LuaHeapDeclaredLibraryLibraryTheVariants.{TextTrim, TextSplit, TextEncode, TextDecode, TextListToText, TextNowiki, TextTag, TextTruncate}
+use Rattle.mw_ustrings.specs.LuaMeaningLibraries.{Answers}
 use Rattle.mw_texts.specs.declared.table.TextFunction.{TextFunction}
 use Rattle.mw_texts.specs.declared.table.TextFunction.TheVariants as own
 use Rattle.mw_texts.specs.Table.{answer_of, AreInTable}

@@ -1,20 +1,20 @@
 -- A new table that is given.
 use Rattle.std.proofs.Common.{◌≡◌, ◌∙◌, ap, arith, ℕ, ◌+◌, List, [], ◌∷◌, length}
-use Rattle.wk_base.specs.declared.left.Left.{Left}
-use Rattle.lua_heap.specs.Proc.{Proc}
-use Rattle.lua_heap.specs.Heap.{Heap}
-use Rattle.lua_heap.specs.Value as kind
-use Rattle.lua_meaning.specs.Scope.{Bytes}
-use Rattle.lua_meaning.specs.Arguments.{Gives}
-use Rattle.lua_meaning.specs.Frames.{with_table}
-use Rattle.lua_store.specs.declared.ids.TableId.{TableId}
-use Rattle.lua_store.specs.declared.value.Value.{Value}
-use Rattle.lua_store.specs.declared.value.Value.TheVariants as own
-use Rattle.lua_store.specs.Seen.{StoreView}
-use Rattle.lua_basic.specs.Seen.{values_seen, Covers}
-use Rattle.mw_frames.specs.Costs.{Took}
+use Rattle.mw_ustrings.specs.WkBaseDeclaredLeftLeft.{Left}
+use Rattle.mw_ustrings.specs.LuaHeapProc.{Proc}
+use Rattle.mw_ustrings.specs.LuaHeapHeap.{Heap}
+use Rattle.mw_ustrings.specs.LuaHeapValue as kind
+use Rattle.mw_ustrings.specs.LuaMeaningScope.{Bytes}
+use Rattle.mw_ustrings.specs.LuaMeaningArguments.{Gives}
+use Rattle.mw_ustrings.specs.LuaMeaningFrames.{with_table}
+use Rattle.mw_ustrings.specs.LuaStoreDeclaredIdsTableId.{TableId}
+use Rattle.mw_ustrings.specs.LuaStoreDeclaredValueValue.{Value}
+use Rattle.mw_ustrings.specs.LuaStoreDeclaredValueValueTheVariants as own
+use Rattle.mw_ustrings.specs.LuaStoreSeen.{StoreView}
+use Rattle.mw_ustrings.specs.LuaBasicSeen.{values_seen, Covers}
+use Rattle.mw_ustrings.specs.MwFramesCosts.{Took}
 use Rattle.mw_ustrings.proofs.Costs.{values_cover}
-use Rattle.lua_meaning.specs.Texts.{parts_charge, text_entries, gives_parts}
+use Rattle.mw_ustrings.specs.LuaMeaningTexts.{parts_charge, text_entries, gives_parts}
 
 -- the table with the parts of a text
 pub table_covers : (h : Heap Proc) (t : StoreView) (l m : Left) (tries : ℕ) (parts : List Bytes) (vs : List Value) (id : TableId) → Took (tries + 8 + parts_charge parts) l m → vs ≡ own.Table id ∷ [] → id.at ≡ length h.tables

@@ -1,11 +1,11 @@
 -- Sums of which one part was taken, or was not there.
 use Rattle.std.proofs.Common.{◌≡◌, sym, subst, arith, ℕ, ◌+◌, ◌≤◌, Ok, Err}
 use Rattle.std.specs.Prelude.{Result}
-use Rattle.wk_base.specs.declared.left.Left.{Left}
-use Rattle.lua_basic.specs.declared.stop.Stop.{Stop}
-use Rattle.lua_basic.specs.declared.stop.Stop.TheVariants as stop
-use Rattle.mw_frames.specs.Costs.{Took, Unpaid, Pays}
-use Rattle.mw_frames.proofs.Sums.{took_then, unpaid_then}
+use Rattle.mw_ustrings.specs.WkBaseDeclaredLeftLeft.{Left}
+use Rattle.mw_ustrings.specs.LuaBasicDeclaredStopStop.{Stop}
+use Rattle.mw_ustrings.specs.LuaBasicDeclaredStopStopTheVariants as stop
+use Rattle.mw_ustrings.specs.MwFramesCosts.{Took, Unpaid, Pays}
+use Rattle.mw_ustrings.proofs.MwFramesSums.{took_then, unpaid_then}
 
 pub pays_then : {A : Type 0} (a b : ℕ) (l m n : Left) (r : Result A Stop) → Took a l m → Pays b m n r → Pays (a + b) l n r
 pays_then a b l m n (Ok x) t p = took_then a b l m n t p

@@ -1,25 +1,25 @@
 -- What `trim` and `encode` give, by the set that was read.
 use Rattle.std.proofs.Common.{sym, subst, ℕ, List, Option, Ok, Err}
 use Rattle.std.specs.Prelude.{Result}
-use Rattle.wk_base.specs.declared.left.Left.{Left}
-use Rattle.lua_pattern.specs.declared.item.Set.{Set}
-use Rattle.lua_pattern.specs.declared.read.PatternFault.{PatternFault}
-use Rattle.lua_pattern.specs.declared.read.PatternFault.TheVariants as fault
+use Rattle.mw_ustrings.specs.WkBaseDeclaredLeftLeft.{Left}
+use Rattle.mw_text.specs.LuaPatternDeclaredItemSet.{Set}
+use Rattle.lua_string.specs.LuaPatternDeclaredReadPatternFault.{PatternFault}
+use Rattle.lua_string.specs.LuaPatternDeclaredReadPatternFaultTheVariants as fault
 use Rattle.mw_text.specs.declared.answers.TextAnswer.{TextAnswer}
 use Rattle.mw_text.specs.Answers.{IsText}
 use Rattle.mw_text.specs.Sets.{IsChoiceFault}
 use Rattle.mw_text.specs.Trim.{IsTrimmed}
 use Rattle.mw_text.specs.References.{IsEncoded}
-use Rattle.lua_heap.specs.Proc.{Proc}
-use Rattle.lua_heap.specs.Heap.{Heap}
-use Rattle.lua_meaning.specs.Scope.{Bytes}
-use Rattle.lua_meaning.specs.Arguments.{Plain}
-use Rattle.lua_store.specs.declared.value.Value.{Value}
-use Rattle.lua_store.specs.Seen.{StoreView}
-use Rattle.lua_basic.specs.declared.stop.Stop.{Stop}
-use Rattle.lua_basic.specs.Seen.{Stops, Paid}
+use Rattle.mw_ustrings.specs.LuaHeapProc.{Proc}
+use Rattle.mw_ustrings.specs.LuaHeapHeap.{Heap}
+use Rattle.mw_ustrings.specs.LuaMeaningScope.{Bytes}
+use Rattle.mw_ustrings.specs.LuaMeaningArguments.{Plain}
+use Rattle.mw_ustrings.specs.LuaStoreDeclaredValueValue.{Value}
+use Rattle.mw_ustrings.specs.LuaStoreSeen.{StoreView}
+use Rattle.mw_ustrings.specs.LuaBasicDeclaredStopStop.{Stop}
+use Rattle.mw_ustrings.specs.LuaBasicSeen.{Stops, Paid}
 use Rattle.mw_ustrings.specs.Faults.{FaultStops}
-use Rattle.lua_meaning.specs.Texts.{gives_tried, by_set, trims, encodes}
+use Rattle.mw_ustrings.specs.LuaMeaningTexts.{gives_tried, by_set, trims, encodes}
 
 module _ (h : Heap Proc) (s : StoreView) (l : Left) (t : StoreView) (m : Left) (r : Result (List Value) Stop) (budget : ℕ) (text : Bytes) (answer : TextAnswer)
     (gives : (tries : ℕ) (made : Bytes) → IsText budget tries made answer → Paid (gives_tried h tries made) s l t m r) where

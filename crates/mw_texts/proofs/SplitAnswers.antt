@@ -1,19 +1,19 @@
 -- What `split` gives, by the pattern that was read.
 use Rattle.std.proofs.Common.{◌≡◌, ◌∙◌, ap, sym, subst, arith, ℕ, ◌<◌, ◌≤◌, List, [], ◌∷◌, Ok, Err}
 use Rattle.std.specs.Prelude.{Result}
-use Rattle.lua_pattern.specs.declared.read.PatternFault.{PatternFault}
-use Rattle.lua_pattern.specs.declared.read.PatternFault.TheVariants as fault
+use Rattle.lua_string.specs.LuaPatternDeclaredReadPatternFault.{PatternFault}
+use Rattle.lua_string.specs.LuaPatternDeclaredReadPatternFaultTheVariants as fault
 use Rattle.mw_text.specs.declared.answers.PartsAnswer.TheVariants as parts
 use Rattle.mw_text.specs.Answers.{total}
 use Rattle.mw_text.specs.Split.{Sought, parts_of, IsSoughtFault, IsSplit}
-use Rattle.lua_heap.specs.Proc.{Proc}
-use Rattle.lua_heap.specs.Heap.{Heap}
-use Rattle.lua_meaning.specs.Scope.{Bytes}
-use Rattle.lua_store.specs.Seen.{StoreView}
-use Rattle.lua_basic.specs.declared.stop.Stop.{Stop}
-use Rattle.lua_basic.specs.Seen.{Stops}
+use Rattle.mw_ustrings.specs.LuaHeapProc.{Proc}
+use Rattle.mw_ustrings.specs.LuaHeapHeap.{Heap}
+use Rattle.mw_ustrings.specs.LuaMeaningScope.{Bytes}
+use Rattle.mw_ustrings.specs.LuaStoreSeen.{StoreView}
+use Rattle.mw_ustrings.specs.LuaBasicDeclaredStopStop.{Stop}
+use Rattle.mw_ustrings.specs.LuaBasicSeen.{Stops}
 use Rattle.mw_ustrings.specs.Faults.{FaultStops}
-use Rattle.lua_meaning.specs.Texts.{parts_charge, gives_parts, splits}
+use Rattle.mw_ustrings.specs.LuaMeaningTexts.{parts_charge, gives_parts, splits}
 
 bytes_within : (ts : List Bytes) → total ts ≤ parts_charge ts
 bytes_within [] = omega arith

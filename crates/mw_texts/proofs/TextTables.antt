@@ -3,17 +3,17 @@ use Rattle.std.proofs.Common.{◌≡◌, ◌∙◌, ap, sym, refl, arith, ℕ, s
 use Rattle.std.specs.Prelude.{pos}
 use Rattle.std.specs.List.{AllByRecursion, IsDistinct}
 use Rattle.std.specs.Map.{keys_of}
-use Rattle.lua_heap.specs.Value.{Value, Nil, Number, Text, same}
-use Rattle.lua_heap.specs.Table.{Entries}
-use Rattle.lua_heap.specs.Heap.{Heap, TableObj, add, new_table}
-use Rattle.lua_heap.specs.Graph.{node_table, shift_entries}
-use Rattle.lua_meaning.specs.Scope.{Bytes}
-use Rattle.lua_meaning.specs.Frames.{with_table}
-use Rattle.lua_graph.specs.Put.{grown, filled}
-use Rattle.lua_graph.proofs.Joining.{all_set, joined}
-use Rattle.lua_graph.proofs.Distinct.{IsLive, all_set-is}
-use Rattle.lua_basic.proofs.Counts.{int-differs}
-use Rattle.lua_meaning.specs.Texts.{text_entries}
+use Rattle.mw_ustrings.specs.LuaHeapValue.{Value, Nil, Number, Text, same}
+use Rattle.mw_ustrings.specs.LuaHeapTable.{Entries}
+use Rattle.mw_ustrings.specs.LuaHeapHeap.{Heap, TableObj, add, new_table}
+use Rattle.mw_ustrings.specs.LuaHeapGraph.{node_table, shift_entries}
+use Rattle.mw_ustrings.specs.LuaMeaningScope.{Bytes}
+use Rattle.mw_ustrings.specs.LuaMeaningFrames.{with_table}
+use Rattle.mw_ustrings.specs.LuaGraphPut.{grown, filled}
+use Rattle.mw_ustrings.proofs.LuaGraphJoining.{all_set, joined}
+use Rattle.mw_ustrings.proofs.LuaGraphDistinct.{IsLive, all_set-is}
+use Rattle.mw_ustrings.proofs.LuaBasicCounts.{int-differs}
+use Rattle.mw_ustrings.specs.LuaMeaningTexts.{text_entries}
 
 still : (k n : ℕ) (ts : List Bytes) → shift_entries k (text_entries n ts) ≡ text_entries n ts
 still k n [] = refl

@@ -1,16 +1,16 @@
 -- THE FUNCTIONS of `mw.text`, and what each gives.
 use Rattle.std.specs.Prelude.{◌≡◌, List, Option, Some, None}
-use Rattle.lua_heap.specs.Proc.{Proc}
-use Rattle.lua_heap.specs.Value.{Value}
-use Rattle.lua_heap.specs.Heap.{Heap}
-use Rattle.lua_heap.specs.declared.library.Library.{Library}
-use Rattle.lua_heap.specs.declared.library.Library.TheVariants.{TextTrim, TextSplit, TextEncode, TextDecode, TextListToText, TextNowiki, TextTag, TextTruncate}
-use Rattle.lua_meaning.specs.World.{World}
-use Rattle.lua_meaning.specs.Acts.{Frame}
-use Rattle.lua_meaning.specs.Arguments.{Plain}
-use Rattle.lua_meaning.specs.TextArguments.{of_texts}
-use Rattle.lua_meaning.specs.Texts.{trim, split, encode, decode, list_to_text, nowiki, tag, truncate}
-use Rattle.lua_meaning.specs.Libraries.{Answers, form}
+use Rattle.mw_ustrings.specs.LuaHeapProc.{Proc}
+use Rattle.mw_ustrings.specs.LuaHeapValue.{Value}
+use Rattle.mw_ustrings.specs.LuaHeapHeap.{Heap}
+use Rattle.mw_ustrings.specs.LuaHeapDeclaredLibraryLibrary.{Library}
+use Rattle.mw_ustrings.specs.LuaHeapDeclaredLibraryLibraryTheVariants.{TextTrim, TextSplit, TextEncode, TextDecode, TextListToText, TextNowiki, TextTag, TextTruncate}
+use Rattle.mw_ustrings.specs.LuaMeaningWorld.{World}
+use Rattle.mw_ustrings.specs.LuaMeaningActs.{Frame}
+use Rattle.mw_ustrings.specs.LuaMeaningArguments.{Plain}
+use Rattle.mw_ustrings.specs.LuaMeaningTextArguments.{of_texts}
+use Rattle.mw_ustrings.specs.LuaMeaningTexts.{trim, split, encode, decode, list_to_text, nowiki, tag, truncate}
+use Rattle.mw_ustrings.specs.LuaMeaningLibraries.{Answers, form}
 use Rattle.mw_texts.specs.declared.table.TextFunction.{TextFunction}
 use Rattle.mw_texts.specs.declared.table.TextFunction.TheVariants as own
 

@@ -1,7 +1,7 @@
 //! A function of `mw.text` is called.
-ghost use Rattle.lua_store.specs.Parts.{IsLater};
-ghost use Rattle.lua_basic.specs.Seen.{values_seen, AllOf, Paid, AnswerOf};
-ghost use Rattle.mw_frames.specs.Scenes.{NamesOf};
+ghost use Rattle.mw_ustrings.specs.LuaStoreParts.{IsLater};
+ghost use Rattle.mw_ustrings.specs.LuaBasicSeen.{values_seen, AllOf, Paid, AnswerOf};
+ghost use Rattle.mw_ustrings.specs.MwFramesScenes.{NamesOf};
 ghost use Rattle.mw_texts.specs.Table.{given_by, answer_of};
 
 use crate::listing::list_to_text;
@@ -10,12 +10,9 @@ use crate::sets::{encode, trim};
 use crate::splitting::split;
 use crate::table::TextFunction;
 use crate::tagging::tag;
-use lua_basic::Stop;
-use lua_store::{Store, Value};
-use mw_frame_texts::costs::pay_given;
-use mw_frames::FieldNames;
+use lua_string::List;
+use mw_ustrings::{FieldNames, Left, Stop, Store, Value, pay_given};
 use std::alloc::Global;
-use wk_base::{Left, List};
 
 /// What a function gives behind the charge of its arguments.
 fn give(

@@ -24,4 +24,5 @@ pub mod tables;
 pub mod tagging;
 
 pub use call::text_call;
+pub use mw_ustrings::{FieldNames, UstringFunction, ustring_call, ustring_function};
 pub use table::{TextFunction, text_function};

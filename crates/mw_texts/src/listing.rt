@@ -2,30 +2,25 @@
 ghost use Rattle.std.specs.Prelude.{◌≡◌, ◌*◌, ◌+◌, ◌<◌, ◌≤◌, ◌+ℤ◌, ℕ, List as Items, [], ◌∷◌, pos, map, Ok, IfOk, IfErr, OnOk, MatchOption};
 ghost use Rattle.mw_text.specs.Answers.{total};
 ghost use Rattle.mw_text.specs.Joined.{joined};
-ghost use Rattle.lua_heap.specs.Heap.{table_at};
-ghost use Rattle.lua_heap.specs.Table.{border, get};
-ghost use Rattle.lua_meaning.specs.Basic.{entries_from};
-ghost use Rattle.lua_heap.specs.Value as kind;
-ghost use Rattle.lua_meaning.specs.Arguments.{gives_text};
-ghost use Rattle.lua_store.specs.Seen.{StoreView, seen};
-ghost use Rattle.lua_store.specs.Parts.{IsOf, IsTableOf, IsLater};
-ghost use Rattle.lua_basic.specs.Arguments.{text_bytes};
-ghost use Rattle.lua_basic.specs.Seen.{values_seen, AllOf, Paid, StopOf, AnswerOf, Refuses};
-ghost use Rattle.mw_frames.specs.Costs.{Pays};
+ghost use Rattle.mw_ustrings.specs.LuaHeapHeap.{table_at};
+ghost use Rattle.mw_ustrings.specs.LuaHeapTable.{border, get};
+ghost use Rattle.mw_ustrings.specs.LuaMeaningBasic.{entries_from};
+ghost use Rattle.mw_ustrings.specs.LuaHeapValue as kind;
+ghost use Rattle.mw_ustrings.specs.LuaMeaningArguments.{gives_text};
+ghost use Rattle.mw_ustrings.specs.LuaStoreSeen.{StoreView, seen};
+ghost use Rattle.mw_ustrings.specs.LuaStoreParts.{IsOf, IsTableOf, IsLater};
+ghost use Rattle.mw_ustrings.specs.LuaBasicArguments.{text_bytes};
+ghost use Rattle.mw_ustrings.specs.LuaBasicSeen.{values_seen, AllOf, Paid, StopOf, AnswerOf, Refuses};
+ghost use Rattle.mw_ustrings.specs.MwFramesCosts.{Pays};
 ghost use Rattle.mw_texts.specs.Costs.{glue_charge};
-ghost use Rattle.lua_meaning.specs.Texts as meaning;
+ghost use Rattle.mw_ustrings.specs.LuaMeaningTexts as meaning;
 
-use lua_basic::Stop;
-use lua_basic::arguments::{a_table, a_text};
-use lua_basic::texts::TextIn;
-use lua_basic::values::rest;
-use lua_store::{Store, TableId, Value};
-use mw_frames::paying::pay;
-use mw_text::list_to_text as joined_text;
+use lua_string::{List, NoMemory};
+use mw_text::{Bytes, list_to_text as joined_text};
 use mw_ustrings::arguments::text_or;
 use mw_ustrings::giving::{spend, text_value};
+use mw_ustrings::{Left, Stop, Store, TableId, TextIn, Value, a_table, a_text, pay, rest};
 use std::alloc::Global;
-use wk_base::{Bytes, Left, List, NoMemory};
 
 /// The number so far behind 1.
 fn number_at(offset: u64) -> Value

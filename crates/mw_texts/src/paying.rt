@@ -2,14 +2,12 @@
 ghost use Rattle.std.specs.Prelude.{◌≡◌, drop, length};
 ghost use Rattle.mw_text.specs.Decode.{head, decoded};
 ghost use Rattle.mw_text.specs.References.{nowiki_byte, nowiki_of};
-ghost use Rattle.mw_frames.specs.Costs.{Pays};
+ghost use Rattle.mw_ustrings.specs.MwFramesCosts.{Pays};
 
-use lua_basic::Stop;
-use mw_frames::paying::pay;
 use mw_text::decoding::reference;
 use mw_text::ends::first_byte;
 use mw_text::references::is_markup;
-use wk_base::Left;
+use mw_ustrings::{Left, Stop, pay};
 
 /// How many bytes `decode` makes of a byte and the text behind it; and the text behind what that takes.
 fn head_cost(byte: u8, text: &[u8]) -> (u64, &[u8])

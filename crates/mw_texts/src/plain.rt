@@ -1,26 +1,22 @@
 //! `decode`, `nowiki` and `truncate` (Scribunto, Text library).
-ghost use Rattle.lua_store.specs.Parts.{IsLater};
-ghost use Rattle.lua_basic.specs.Seen.{values_seen, AllOf, Paid, AnswerOf};
+ghost use Rattle.mw_ustrings.specs.LuaStoreParts.{IsLater};
+ghost use Rattle.mw_ustrings.specs.LuaBasicSeen.{values_seen, AllOf, Paid, AnswerOf};
 ghost use Rattle.std.specs.Prelude.{◌≡◌, ◌++◌, IsUtf8, chars, encode_utf8_all, IfOk};
 ghost use Rattle.mw_text.specs.Decode.{decoded};
 ghost use Rattle.mw_text.specs.Joined.{truncated};
 ghost use Rattle.mw_text.specs.References.{nowiki_of};
-ghost use Rattle.lua_meaning.specs.Arguments.{gives_text};
-ghost use Rattle.lua_meaning.specs.Texts as meaning;
+ghost use Rattle.mw_ustrings.specs.LuaMeaningArguments.{gives_text};
+ghost use Rattle.mw_ustrings.specs.LuaMeaningTexts as meaning;
 
 use crate::paying::{pay_decoded, pay_nowiki};
-use lua_basic::Stop;
-use lua_basic::arguments::{a_number, a_text};
-use lua_basic::values::{is_true, rest, third};
-use lua_store::{Store, Value};
 use lua_string::text::push_all;
-use mw_frames::paying::pay_texts;
+use lua_string::{List, NoMemory};
 use mw_text::joining::room;
-use mw_ustring::{count_points, first_points, points_behind};
+use mw_text::{count_points, first_points, points_behind};
 use mw_ustrings::arguments::{utf8_text, utf8_text_or};
 use mw_ustrings::giving::text_value;
+use mw_ustrings::{Left, Stop, Store, Value, a_number, a_text, is_true, pay_texts, rest, third};
 use std::alloc::Global;
-use wk_base::{Left, List, NoMemory};
 
 /// A text is given with its character references as the code points, after what that costs.
 fn give_decoded(

@@ -3,23 +3,19 @@ ghost use Rattle.std.specs.Prelude.{◌≡◌, ℕ, IsUtf8};
 ghost use Rattle.std.specs.Option.{option_map};
 ghost use Rattle.mw_text.specs.Answers.{IsText};
 ghost use Rattle.mw_text.specs.Sets.{chosen_set};
-ghost use Rattle.lua_meaning.specs.Arguments.{with_charge};
-ghost use Rattle.lua_meaning.specs.Scope.{Bytes};
-ghost use Rattle.lua_store.specs.Parts.{IsLater};
-ghost use Rattle.lua_basic.specs.Arguments.{text_bytes};
-ghost use Rattle.lua_basic.specs.Seen.{values_seen, AllOf, Paid, AnswerOf};
-ghost use Rattle.lua_meaning.specs.Texts as meaning;
+ghost use Rattle.mw_ustrings.specs.LuaMeaningArguments.{with_charge};
+ghost use Rattle.mw_ustrings.specs.LuaMeaningScope.{Bytes};
+ghost use Rattle.mw_ustrings.specs.LuaStoreParts.{IsLater};
+ghost use Rattle.mw_ustrings.specs.LuaBasicArguments.{text_bytes};
+ghost use Rattle.mw_ustrings.specs.LuaBasicSeen.{values_seen, AllOf, Paid, AnswerOf};
+ghost use Rattle.mw_ustrings.specs.LuaMeaningTexts as meaning;
 
-use lua_basic::Stop;
-use lua_basic::texts::TextIn;
-use lua_basic::values::rest;
-use lua_store::{Store, Value};
-use mw_frames::paying::pay;
+use lua_string::List;
 use mw_text::TextAnswer;
 use mw_ustrings::arguments::{refuse_pattern, utf8_text, utf8_text_if_any};
 use mw_ustrings::giving::{give_text, spend};
+use mw_ustrings::{Left, Stop, Store, TextIn, Value, pay, rest};
 use std::alloc::Global;
-use wk_base::{Left, List};
 
 /// A text is given after its tries. The answer was made within the steps that are left.
 fn give_answer(

@@ -1,22 +1,19 @@
 //! `split` (Scribunto, mw.text.split).
 ghost use Rattle.std.specs.Prelude.{◌≡◌, ◌+◌, length, IsUtf8};
 ghost use Rattle.mw_text.specs.Split.{sought_by};
-ghost use Rattle.lua_store.specs.Parts.{IsLater};
-ghost use Rattle.lua_basic.specs.Seen.{values_seen, AllOf, Paid, AnswerOf};
-ghost use Rattle.mw_frames.specs.Costs.{Pays};
-ghost use Rattle.lua_meaning.specs.Texts as meaning;
-ghost use Rattle.lua_meaning.specs.Charges.{entry_charge};
+ghost use Rattle.mw_ustrings.specs.LuaStoreParts.{IsLater};
+ghost use Rattle.mw_ustrings.specs.LuaBasicSeen.{values_seen, AllOf, Paid, AnswerOf};
+ghost use Rattle.mw_ustrings.specs.MwFramesCosts.{Pays};
+ghost use Rattle.mw_ustrings.specs.LuaMeaningTexts as meaning;
+ghost use Rattle.mw_ustrings.specs.LuaMeaningCharges.{entry_charge};
 
 use crate::tables::{split_texts, text_table};
-use lua_basic::Stop;
-use lua_basic::values::{is_true, rest, second, single};
-use lua_store::{Store, Value};
-use mw_frames::paying::pay;
-use mw_text::PartsAnswer;
+use lua_string::List;
+use mw_text::{Bytes, PartsAnswer};
 use mw_ustrings::arguments::{refuse_pattern, utf8_text};
 use mw_ustrings::giving::spend;
+use mw_ustrings::{Left, Stop, Store, Value, is_true, pay, rest, second, single};
 use std::alloc::Global;
-use wk_base::{Bytes, Left, List};
 
 /// Takes what a part costs: its entry and its bytes.
 fn pay_part(left: &mut Left, part: &[u8]) -> Result<(), Stop>

@@ -2,7 +2,7 @@
 ghost use Rattle.std.specs.Prelude.{◌≡◌};
 ghost use Rattle.mw_texts.specs.Table.{text_function_in, AreInTable};
 
-use lua_store::Library;
+use mw_ustrings::Library;
 
 /// A function of `mw.text` that calls back nobody (Scribunto, Text library).
 #[derive(Clone, Copy, Debug, PartialEq, Eq)]

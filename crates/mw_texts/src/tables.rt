@@ -1,15 +1,16 @@
 //! A new table with texts, numbered from 1.
 ghost use Rattle.std.specs.Prelude.{◌≡◌, suc, pos, [], ◌∷◌, length, IfOk, OnOk, MatchOption};
-ghost use Rattle.lua_graph.specs.Put.{filled};
-ghost use Rattle.lua_heap.specs.Heap.{set_in};
-ghost use Rattle.lua_heap.specs.Value as kind;
-ghost use Rattle.lua_meaning.specs.Frames.{with_table};
-ghost use Rattle.lua_store.specs.Parts.{IsTableOf, IsLater};
-ghost use Rattle.lua_meaning.specs.Texts as meaning;
+ghost use Rattle.mw_ustrings.specs.LuaGraphPut.{filled};
+ghost use Rattle.mw_ustrings.specs.LuaHeapHeap.{set_in};
+ghost use Rattle.mw_ustrings.specs.LuaHeapValue as kind;
+ghost use Rattle.mw_ustrings.specs.LuaMeaningFrames.{with_table};
+ghost use Rattle.mw_ustrings.specs.LuaStoreParts.{IsTableOf, IsLater};
+ghost use Rattle.mw_ustrings.specs.LuaMeaningTexts as meaning;
 
-use lua_store::{Store, TableId, Value};
+use lua_string::NoMemory;
+use mw_text::Bytes;
 use mw_ustrings::giving::number;
-use wk_base::{Bytes, NoMemory};
+use mw_ustrings::{Store, TableId, Value};
 
 /// The text at a number of a table is set.
 fn set_text(store: &mut Store, table: TableId, at: usize, text: &[u8]) -> Result<(), NoMemory>

@@ -1,21 +1,17 @@
 //! `tag`: an element of HTML as a text (Scribunto, mw.text.tag).
 ghost use Rattle.std.specs.Prelude.{◌≡◌, List as Items, ℕ, IfSome};
-ghost use Rattle.lua_heap.specs.Heap.{Heap};
-ghost use Rattle.lua_heap.specs.Proc.{Proc};
-ghost use Rattle.lua_store.specs.Seen.{StoreView};
-ghost use Rattle.lua_store.specs.Parts.{IsTableOf, IsLater};
-ghost use Rattle.lua_basic.specs.Seen.{values_seen, AllOf, Paid, AnswerOf};
-ghost use Rattle.mw_frames.specs.Scenes.{NamesOf};
+ghost use Rattle.mw_ustrings.specs.LuaHeapHeap.{Heap};
+ghost use Rattle.mw_ustrings.specs.LuaHeapProc.{Proc};
+ghost use Rattle.mw_ustrings.specs.LuaStoreSeen.{StoreView};
+ghost use Rattle.mw_ustrings.specs.LuaStoreParts.{IsTableOf, IsLater};
+ghost use Rattle.mw_ustrings.specs.LuaBasicSeen.{values_seen, AllOf, Paid, AnswerOf};
+ghost use Rattle.mw_ustrings.specs.MwFramesScenes.{NamesOf};
 ghost use Rattle.mw_texts.specs.Found.{found_parts};
-ghost use Rattle.lua_meaning.specs.Texts as meaning;
+ghost use Rattle.mw_ustrings.specs.LuaMeaningTexts as meaning;
 
-use lua_basic::Stop;
-use lua_basic::values::{second, third};
-use lua_store::{Store, TableId, Value};
-use mw_frame_texts::tagging::tag_of;
-use mw_frames::FieldNames;
+use lua_string::List;
+use mw_ustrings::{FieldNames, Left, Stop, Store, TableId, Value, second, tag_of, third};
 use std::alloc::Global;
-use wk_base::{Left, List};
 
 /// The first of the arguments, where it is a table, which then has the parts as fields.
 fn table_in(given: &[Value]) -> Option<TableId>

@@ -2,7 +2,7 @@
 use Rattle.std.proofs.Common.{◌≡◌, ℕ, zero, suc, ◌+◌, ◌-◌, ◌<◌, Bool, true, false, if◌then◌else◌, List, [], ◌∷◌, ◌++◌, length, reverse, slice_get, Option, Some, sym, ap, ◌∙◌, arith}
 use Rattle.std.specs.List.{IsLastAndRest}
 use Rattle.std.proofs.lemmas.List.{reverse-append}
-use Rattle.lua_pattern.specs.Texts.{goes_on}
+use Rattle.lua_string.specs.LuaPatternTexts.{goes_on}
 use Rattle.mw_ustring.specs.Texts.{begun}
 
 pub get_later : (x n : ℕ) (xs : List ℕ) → 0 < n → slice_get (x ∷ xs) n ≡ slice_get xs (n - 1)

@@ -3,8 +3,8 @@ use Rattle.std.proofs.Common.{◌≡◌, ℕ, zero, suc, ◌+◌, ◌<◌, ◌�
 use Rattle.std.specs.Prelude.{MatchOption}
 use Rattle.std.specs.Str.{IsUtf8, IsCharBoundary}
 use Rattle.std.proofs.lemmas.Str.{IsUtf8-drop, IsCharBoundary-start, IsCharBoundary-from_take, IsCharBoundary-from_rest}
-use Rattle.lua_pattern.specs.Way.{begins}
-use Rattle.lua_pattern.specs.Keeps.{begins_take}
+use Rattle.lua_string.specs.LuaPatternWay.{begins}
+use Rattle.lua_string.specs.LuaPatternKeeps.{begins_take}
 use Rattle.lua_string.specs.Finds.{place_of}
 use Rattle.memchr.specs.Find.{FindsNeedle}
 use Rattle.lua_string.proofs.Plain.{place_found, occurs_begins}

@@ -1,16 +1,16 @@
 -- What a pattern that was read answers over code points.
 use Rattle.std.proofs.Common.{◌≡◌, ℕ, ◌-◌, Bool, true, false, nat_le, List, length, drop, true≢false, sym, subst}
-use Rattle.lua_pattern.specs.declared.pattern.Match.{Match}
-use Rattle.lua_pattern.specs.declared.pattern.Search.{Search}
-use Rattle.lua_pattern.specs.declared.pattern.Search.TheVariants as search
-use Rattle.lua_pattern.specs.declared.slots.Slot.{Slot}
-use Rattle.lua_pattern.specs.declared.item.Item.{Item}
-use Rattle.lua_pattern.specs.declared.read.PatternFault.{PatternFault}
-use Rattle.lua_pattern.specs.Way.{first}
-use Rattle.lua_pattern.specs.Found.{IsSearch}
-use Rattle.lua_pattern.specs.Read.{Read, Fine, read_of, codes}
-use Rattle.lua_pattern.specs.Reads.{IsReadFault}
-use Rattle.lua_pattern.specs.Texts.{points}
+use Rattle.lua_string.specs.LuaPatternDeclaredPatternMatch.{Match}
+use Rattle.lua_string.specs.LuaPatternDeclaredPatternSearch.{Search}
+use Rattle.lua_string.specs.LuaPatternDeclaredPatternSearchTheVariants as search
+use Rattle.lua_string.specs.LuaPatternDeclaredSlotsSlot.{Slot}
+use Rattle.lua_string.specs.LuaPatternDeclaredItemItem.{Item}
+use Rattle.lua_string.specs.LuaPatternDeclaredReadPatternFault.{PatternFault}
+use Rattle.lua_string.specs.LuaPatternWay.{first}
+use Rattle.lua_string.specs.LuaPatternFound.{IsSearch}
+use Rattle.lua_string.specs.LuaPatternRead.{Read, Fine, read_of, codes}
+use Rattle.lua_string.specs.LuaPatternReads.{IsReadFault}
+use Rattle.lua_string.specs.LuaPatternTexts.{points}
 use Rattle.lua_string.specs.Finds.{IsPriced, IsPlain, place_of}
 use Rattle.lua_string.proofs.Prices.{price_found, price_exceeds, price_none, price_spent}
 use Rattle.mw_ustring.specs.Finds.{AnswersRead, Answers, Finds, IsFindFault}

@@ -1,14 +1,14 @@
 -- What `find` and `match` give over code points (Scribunto, Ustring library): as in `string`, but that the alphabet is that of
 -- code points and `init` counts them. Places of the answer are bytes.
 use Rattle.std.specs.Prelude.{◌≡◌, ℕ, Bool, true, false, ℤ, List, length, drop, chars}
-use Rattle.lua_pattern.specs.declared.pattern.Match.{Match}
-use Rattle.lua_pattern.specs.declared.pattern.Search.{Search}
-use Rattle.lua_pattern.specs.declared.read.PatternFault.{PatternFault}
-use Rattle.lua_pattern.specs.declared.read.PatternFault.TheVariants as fault
-use Rattle.lua_pattern.specs.Texts.{points}
-use Rattle.lua_pattern.specs.Way.{first}
-use Rattle.lua_pattern.specs.Read.{Read, Fault, Fine, read_of, codes}
-use Rattle.lua_pattern.specs.Reads.{IsReadFault}
+use Rattle.lua_string.specs.LuaPatternDeclaredPatternMatch.{Match}
+use Rattle.lua_string.specs.LuaPatternDeclaredPatternSearch.{Search}
+use Rattle.lua_string.specs.LuaPatternDeclaredReadPatternFault.{PatternFault}
+use Rattle.lua_string.specs.LuaPatternDeclaredReadPatternFaultTheVariants as fault
+use Rattle.lua_string.specs.LuaPatternTexts.{points}
+use Rattle.lua_string.specs.LuaPatternWay.{first}
+use Rattle.lua_string.specs.LuaPatternRead.{Read, Fault, Fine, read_of, codes}
+use Rattle.lua_string.specs.LuaPatternReads.{IsReadFault}
 use Rattle.lua_string.specs.Places.{first_place}
 use Rattle.lua_string.specs.Finds.{IsPriced, IsPlain, place_of}
 use Rattle.mw_ustring.specs.Texts.{offset_of}

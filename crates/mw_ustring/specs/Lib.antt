@@ -1,3 +1,32 @@
+pub use Rattle.lua_string.specs.Finds as LuaStringFinds
+pub use Rattle.lua_string.specs.LuaPatternDeclaredItemItem as LuaPatternDeclaredItemItem
+pub use Rattle.lua_string.specs.LuaPatternDeclaredItemItemTheVariants as LuaPatternDeclaredItemItemTheVariants
+pub use Rattle.lua_string.specs.LuaPatternDeclaredItemSet as LuaPatternDeclaredItemSet
+pub use Rattle.lua_string.specs.LuaPatternDeclaredItemSingleTheVariants as LuaPatternDeclaredItemSingleTheVariants
+pub use Rattle.lua_string.specs.LuaPatternDeclaredPatternCapture as LuaPatternDeclaredPatternCapture
+pub use Rattle.lua_string.specs.LuaPatternDeclaredPatternCaptureTheVariants as LuaPatternDeclaredPatternCaptureTheVariants
+pub use Rattle.lua_string.specs.LuaPatternDeclaredPatternMatch as LuaPatternDeclaredPatternMatch
+pub use Rattle.lua_string.specs.LuaPatternDeclaredPatternSearch as LuaPatternDeclaredPatternSearch
+pub use Rattle.lua_string.specs.LuaPatternDeclaredPatternSearchTheVariants as LuaPatternDeclaredPatternSearchTheVariants
+pub use Rattle.lua_string.specs.LuaPatternDeclaredReadPatternFault as LuaPatternDeclaredReadPatternFault
+pub use Rattle.lua_string.specs.LuaPatternDeclaredReadPatternFaultTheVariants as LuaPatternDeclaredReadPatternFaultTheVariants
+pub use Rattle.lua_string.specs.LuaPatternDeclaredSlotsSlot as LuaPatternDeclaredSlotsSlot
+pub use Rattle.lua_string.specs.LuaPatternKeeps as LuaPatternKeeps
+pub use Rattle.lua_string.specs.LuaPatternLetters as LuaPatternLetters
+pub use Rattle.lua_string.specs.LuaPatternPlaces as LuaPatternPlaces
+pub use Rattle.lua_string.specs.LuaPatternRead as LuaPatternRead
+pub use Rattle.lua_string.specs.LuaPatternSetTexts as LuaPatternSetTexts
+pub use Rattle.lua_string.specs.LuaPatternSets as LuaPatternSets
+pub use Rattle.lua_string.specs.LuaPatternSizes as LuaPatternSizes
+pub use Rattle.lua_string.specs.LuaPatternTexts as LuaPatternTexts
+pub use Rattle.lua_string.specs.LuaPatternWay as LuaPatternWay
+pub use Rattle.lua_string.specs.Places as LuaStringPlaces
+pub use Rattle.lua_string.specs.Replacements as LuaStringReplacements
+pub use Rattle.lua_string.specs.Texts as LuaStringTexts
+pub use Rattle.lua_string.specs.Walk as LuaStringWalk
+pub use Rattle.lua_string.specs.Whole as LuaStringWhole
+pub use Rattle.lua_string.specs.WkBaseTitles as WkBaseTitles
+pub use Rattle.lua_string.specs.declared.replacing.CaptureText as LuaStringDeclaredReplacingCaptureText
 pub mod Texts
 pub mod Finds
 pub mod Forms

@@ -3,7 +3,7 @@ use Rattle.std.specs.Prelude.{ℕ, zero, suc, ◌-◌, Bool, false, nat_lt, if�
 use Rattle.std.specs.Char.{encode_utf8}
 use Rattle.std.specs.Option.{option_map}
 use lib.Utf8.{scalar}
-use Rattle.lua_pattern.specs.Texts.{goes_on}
+use Rattle.lua_string.specs.LuaPatternTexts.{goes_on}
 use Rattle.lua_string.specs.Places.{sub_of}
 
 -- the code points from one place to another, both included

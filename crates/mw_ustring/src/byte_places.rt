@@ -1,6 +1,6 @@
 //! Bytes at which code points begin (Scribunto, Ustring library, `mw.ustring.byteoffset`).
 ghost use Rattle.std.specs.Prelude.{◌≡◌, ◌<◌, ◌≤◌, ◌+◌, length, take, drop, reverse as reverse_lem, slice_get, IfSome};
-ghost use Rattle.lua_pattern.specs.Texts.{goes_on as goes_on_lem};
+ghost use Rattle.lua_string.specs.LuaPatternTexts.{goes_on as goes_on_lem};
 ghost use Rattle.mw_ustring.specs.Texts.{begun, byte_at as byte_at_lem, byteoffset_of};
 
 /// Whether a code point goes on with a byte.

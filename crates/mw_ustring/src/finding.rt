@@ -1,20 +1,19 @@
 //! `find` and `match` over code points, within a budget of steps (Scribunto, Ustring library).
 ghost use Rattle.std.specs.Prelude.{◌≡◌, ◌≤◌, ◌+◌, length, drop, IsUtf8, IsCharBoundary, MatchResult, IfOk, IfSome};
-ghost use Rattle.lua_pattern.specs.Sizes.{find_bytes, match_bytes};
-ghost use Rattle.lua_pattern.specs.Places.{HasPlaces};
-ghost use Rattle.lua_pattern.specs.Texts.{points};
-ghost use Rattle.lua_pattern.specs.Read.{read_of, codes};
-ghost use Rattle.lua_pattern.specs.Reads.{IsReadFault};
+ghost use Rattle.lua_string.specs.LuaPatternSizes.{find_bytes, match_bytes};
+ghost use Rattle.lua_string.specs.LuaPatternPlaces.{HasPlaces};
+ghost use Rattle.lua_string.specs.LuaPatternTexts.{points};
+ghost use Rattle.lua_string.specs.LuaPatternRead.{read_of, codes};
+ghost use Rattle.lua_string.specs.LuaPatternReads.{IsReadFault};
 ghost use Rattle.lua_string.specs.Finds.{place_of, IsPlain};
 ghost use Rattle.mw_ustring.specs.Finds.{start_of, Answers, Finds, IsFindFault};
 
 use crate::points::{count_points, offset};
-use lua_pattern::{Match, OnePoint, Pattern, PatternFault, Search};
 use lua_string::finding::{find_fits, match_fits};
 use lua_string::place::first_place;
+use lua_string::{List, Match, OnePoint, Pattern, PatternFault, Search};
 use memchr::memmem;
 use std::alloc::Global;
-use wk_base::List;
 
 /// The byte, from 0, at which a search from a place of Lua begins.
 pub fn start(s: &[u8], init: i64) -> usize

@@ -5,8 +5,8 @@ ghost use Rattle.mw_ustring.specs.Texts.{points_of, is_point, text_of_codes};
 
 use crate::points::{count, text_before, text_behind, text_of};
 use lua_string::place::{first_place, last_place};
+use lua_string::{List, NoMemory};
 use std::alloc::Global;
-use wk_base::{List, NoMemory};
 
 /// The code points from one place to another, both included, in the text itself.
 pub fn part(s: &[u8], from: i64, to: i64) -> &[u8]

@@ -1,18 +1,18 @@
 -- Answers that are paid for.
 use Rattle.std.proofs.Common.{◌≡◌, ◌∙◌, ap, sym, subst, refl, ℕ, ◌+◌, ◌<◌, ◌≤◌, List, Err}
 use Rattle.std.specs.Prelude.{Result}
-use Rattle.wk_base.specs.declared.left.Left.{Left}
-use Rattle.lua_heap.specs.Proc.{Proc}
-use Rattle.lua_heap.specs.Heap.{Heap}
-use Rattle.lua_heap.specs.Value as kind
-use Rattle.lua_meaning.specs.Arguments.{Plain, Gives, costs}
-use Rattle.lua_store.specs.declared.value.Value.{Value}
-use Rattle.lua_store.specs.Seen.{StoreView}
-use Rattle.lua_basic.specs.declared.stop.Stop.{Stop}
-use Rattle.lua_basic.specs.declared.stop.Stop.TheVariants as stop
-use Rattle.lua_basic.specs.Seen.{values_seen, Covers, Paid}
-use Rattle.mw_frames.specs.Costs.{Took, Unpaid}
-use Rattle.mw_frames.proofs.Sums.{unpaid_then}
+use Rattle.lua_number.specs.WkBaseDeclaredLeftLeft.{Left}
+use Rattle.mw_frame_texts.specs.LuaHeapProc.{Proc}
+use Rattle.mw_frame_texts.specs.LuaHeapHeap.{Heap}
+use Rattle.mw_frame_texts.specs.LuaHeapValue as kind
+use Rattle.mw_frame_texts.specs.LuaMeaningArguments.{Plain, Gives, costs}
+use Rattle.mw_frame_texts.specs.LuaStoreDeclaredValueValue.{Value}
+use Rattle.mw_frame_texts.specs.LuaStoreSeen.{StoreView}
+use Rattle.mw_frame_texts.specs.LuaBasicDeclaredStopStop.{Stop}
+use Rattle.mw_frame_texts.specs.LuaBasicDeclaredStopStopTheVariants as stop
+use Rattle.mw_frame_texts.specs.LuaBasicSeen.{values_seen, Covers, Paid}
+use Rattle.mw_frame_texts.specs.MwFramesCosts.{Took, Unpaid}
+use Rattle.mw_frame_texts.proofs.MwFramesSums.{unpaid_then}
 use Rattle.mw_frame_texts.proofs.Charged.{lacked}
 use Rattle.mw_ustrings.specs.Charges.{UnpaidInMemory}
 

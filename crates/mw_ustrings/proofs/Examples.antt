@@ -5,10 +5,10 @@ use Rattle.std.specs.Str.{is_utf8, chars}
 use Rattle.std.specs.Char.{encode_utf8}
 use Rattle.std.specs.Fmt.{digits}
 use Rattle.lua_pattern.specs.Texts.{point_code}
-use Rattle.lua_heap.specs.Value.{Value, Nil, Truth, Number, Text}
-use Rattle.lua_heap.specs.Heap.{empty}
-use Rattle.lua_meaning.specs.Scope.{Bytes}
-use Rattle.lua_meaning.specs.Arguments.{Plain, Fails, costs}
+use Rattle.mw_frame_texts.specs.LuaHeapValue.{Value, Nil, Truth, Number, Text}
+use Rattle.mw_frame_texts.specs.LuaHeapHeap.{empty}
+use Rattle.mw_frame_texts.specs.LuaMeaningScope.{Bytes}
+use Rattle.mw_frame_texts.specs.LuaMeaningArguments.{Plain, Fails, costs}
 use Rattle.mw_ustrings.specs.Table.{answer_of}
 use Rattle.mw_ustrings.specs.declared.table.UstringFunction.{UstringFunction}
 use Rattle.mw_ustrings.specs.declared.table.UstringFunction.TheVariants as which

@@ -8,11 +8,11 @@ use Rattle.unicode_normalization.specs.declared.recompose.Recompositions.{Recomp
 use Rattle.unicode_normalization.specs.Decompositions.{DecomposesTo, DecompositionSteps}
 use Rattle.unicode_normalization.specs.Recompositions.{ComposesTo, RecompositionSteps}
 use Rattle.unicode_normalization.specs.Iter.{IsFirstOf, YieldsFirstOk}
-use Rattle.wk_base.specs.declared.left.Left.{Left}
-use Rattle.lua_basic.specs.declared.stop.Stop.{Stop}
-use Rattle.lua_basic.specs.declared.stop.Stop.TheVariants as stop
-use Rattle.mw_frames.specs.Costs.{Took, Unpaid, SoFar}
-use Rattle.mw_frames.proofs.Sums.{took-more, lacked_then}
+use Rattle.lua_number.specs.WkBaseDeclaredLeftLeft.{Left}
+use Rattle.mw_frame_texts.specs.LuaBasicDeclaredStopStop.{Stop}
+use Rattle.mw_frame_texts.specs.LuaBasicDeclaredStopStopTheVariants as stop
+use Rattle.mw_frame_texts.specs.MwFramesCosts.{Took, Unpaid, SoFar}
+use Rattle.mw_frame_texts.proofs.MwFramesSums.{took-more, lacked_then}
 use Rattle.mw_ustrings.specs.CodePoints.{GivesPoints}
 
 module _ {S E : Type 0} (HasLeft : S → List ℕ → Type 0) (steps : S → Option (Result ℕ E) → S → Type 0) (first : (s : S) (r : Option (Result ℕ E)) (t : S) → steps s r t → YieldsFirstOk HasLeft s r t) where

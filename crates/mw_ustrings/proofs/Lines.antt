@@ -1,7 +1,7 @@
 -- Each of these functions is a line of the table of the library.
 use Rattle.std.proofs.Common.{◌≡◌, ap, Some}
-use Rattle.lua_heap.specs.declared.library.Library.TheVariants.{UstringChar, UstringCodepoint, UstringByteOffset, UstringFind, UstringMatch, UstringLen, UstringSub, UstringIsUtf8, UstringToNfc, UstringToNfd, UstringToNfkc, UstringToNfkd}
-use Rattle.lua_meaning.specs.Libraries.{Answers}
+use Rattle.mw_frame_texts.specs.LuaHeapDeclaredLibraryLibraryTheVariants.{UstringChar, UstringCodepoint, UstringByteOffset, UstringFind, UstringMatch, UstringLen, UstringSub, UstringIsUtf8, UstringToNfc, UstringToNfd, UstringToNfkc, UstringToNfkd}
+use Rattle.mw_frame_texts.specs.LuaMeaningLibraries.{Answers}
 use Rattle.mw_ustrings.specs.declared.table.UstringFunction.{UstringFunction}
 use Rattle.mw_ustrings.specs.declared.table.UstringFunction.TheVariants as own
 use Rattle.mw_ustrings.specs.Table.{answer_of, AreInTable}

@@ -4,18 +4,18 @@ use Rattle.std.specs.Prelude.{if◌then◌else◌}
 use Rattle.std.specs.Str.{is_utf8}
 use Rattle.std.proofs.lemmas.Str.{is_utf8-from_IsUtf8}
 use Rattle.unicode_normalization.specs.Forms.{Form, normalize}
-use Rattle.mw_ustring.specs.Forms.{IsForm}
-use Rattle.wk_base.specs.declared.left.Left.{Left}
-use Rattle.lua_heap.specs.Proc.{Proc}
-use Rattle.lua_heap.specs.Heap.{Heap}
-use Rattle.lua_heap.specs.Value.{Nil, Text}
-use Rattle.lua_meaning.specs.Scope.{Bytes}
-use Rattle.lua_meaning.specs.Arguments.{Gives, gives, gives_text}
-use Rattle.lua_meaning.specs.Ustring.{in_form}
-use Rattle.lua_store.specs.declared.value.Value.{Value}
-use Rattle.lua_store.specs.Seen.{StoreView}
-use Rattle.lua_basic.specs.Seen.{values_seen, Covers}
-use Rattle.mw_frames.specs.Costs.{Took}
+use Rattle.mw_text.specs.MwUstringForms.{IsForm}
+use Rattle.lua_number.specs.WkBaseDeclaredLeftLeft.{Left}
+use Rattle.mw_frame_texts.specs.LuaHeapProc.{Proc}
+use Rattle.mw_frame_texts.specs.LuaHeapHeap.{Heap}
+use Rattle.mw_frame_texts.specs.LuaHeapValue.{Nil, Text}
+use Rattle.mw_frame_texts.specs.LuaMeaningScope.{Bytes}
+use Rattle.mw_frame_texts.specs.LuaMeaningArguments.{Gives, gives, gives_text}
+use Rattle.mw_frame_texts.specs.LuaMeaningUstring.{in_form}
+use Rattle.mw_frame_texts.specs.LuaStoreDeclaredValueValue.{Value}
+use Rattle.mw_frame_texts.specs.LuaStoreSeen.{StoreView}
+use Rattle.mw_frame_texts.specs.LuaBasicSeen.{values_seen, Covers}
+use Rattle.mw_frame_texts.specs.MwFramesCosts.{Took}
 use Rattle.mw_ustrings.specs.Forms.{form_charge, form_value}
 use Rattle.mw_ustrings.proofs.Costs.{values_cover}
 use Rattle.mw_ustrings.proofs.Utf8.{is_none}

@@ -3,20 +3,20 @@ use Rattle.std.proofs.Common.{◌≡◌, ◌∙◌, ap, sym, subst, refl, arith,
 use Rattle.std.specs.Prelude.{codes}
 use Rattle.std.specs.Option.{unwrap_or}
 use Rattle.std.proofs.lemmas.List.{drop_all}
-use Rattle.mw_ustring.specs.Texts.{text_of_codes}
-use Rattle.lua_heap.specs.Value.{Value, Nil}
-use Rattle.lua_store.specs.Seen.{StoreView}
-use Rattle.lua_basic.specs.declared.stop.Stop.{Stop}
-use Rattle.lua_basic.specs.Seen.{Refuses}
-use Rattle.lua_meaning.specs.Scope.{Bytes}
-use Rattle.lua_meaning.specs.Values.{number_in}
-use Rattle.lua_meaning.specs.Messages.{bad_argument}
-use Rattle.lua_meaning.specs.Arguments.{Argument, some_number, some_value, a_number}
-use Rattle.lua_meaning.specs.Tag.{and_then}
+use Rattle.mw_text.specs.MwUstringTexts.{text_of_codes}
+use Rattle.mw_frame_texts.specs.LuaHeapValue.{Value, Nil}
+use Rattle.mw_frame_texts.specs.LuaStoreSeen.{StoreView}
+use Rattle.mw_frame_texts.specs.LuaBasicDeclaredStopStop.{Stop}
+use Rattle.mw_frame_texts.specs.LuaBasicSeen.{Refuses}
+use Rattle.mw_frame_texts.specs.LuaMeaningScope.{Bytes}
+use Rattle.mw_frame_texts.specs.LuaMeaningValues.{number_in}
+use Rattle.mw_frame_texts.specs.LuaMeaningMessages.{bad_argument}
+use Rattle.mw_frame_texts.specs.LuaMeaningArguments.{Argument, some_number, some_value, a_number}
+use Rattle.mw_frame_texts.specs.LuaMeaningTag.{and_then}
 use Rattle.mw_frame_texts.proofs.Charged.{refuses_first}
 use Rattle.mw_ustrings.specs.CodePoints.{number_bytes, point_bytes, points_bytes}
 use Rattle.mw_ustrings.proofs.ReadArguments.{refuses_through}
-use Rattle.lua_meaning.specs.Ustring.{point_text, points_text}
+use Rattle.mw_frame_texts.specs.LuaMeaningUstring.{point_text, points_text}
 
 abbrev point_at : ℕ → List Value → Argument Bytes
 point_at n given = point_text n (a_number n (codes "char") given)

@@ -2,22 +2,22 @@
 use Rattle.std.proofs.Common.{◌≡◌, ◌∙◌, ap, sym, subst, refl, ℕ, true, false, List, [], ◌∷◌, None, Ok, Err}
 use Rattle.std.specs.Prelude.{Result, codes}
 use Rattle.std.specs.Str.{is_utf8}
-use Rattle.wk_base.specs.declared.left.Left.{Left}
-use Rattle.lua_heap.specs.Proc.{Proc}
-use Rattle.lua_heap.specs.Value as kind
-use Rattle.lua_heap.specs.Value.{is_nil}
-use Rattle.lua_meaning.specs.Scope.{Bytes}
-use Rattle.lua_meaning.specs.Values as values
-use Rattle.lua_meaning.specs.Values.{first}
-use Rattle.lua_meaning.specs.Messages.{bad_argument}
-use Rattle.lua_meaning.specs.Arguments.{Plain, Argument, with_argument, fails, a_text}
-use Rattle.lua_store.specs.declared.value.Value.{Value}
-use Rattle.lua_store.specs.Seen.{StoreView}
-use Rattle.lua_basic.specs.declared.stop.Stop.{Stop}
-use Rattle.lua_basic.specs.Seen.{values_seen, Stops, Free, Paid, Refuses}
-use Rattle.lua_basic.proofs.Found.{stopped, for_nothing}
-use Rattle.lua_meaning.specs.TextArguments.{in_utf8, utf8_text, as_some, utf8_text_if_any}
-use Rattle.lua_meaning.specs.Checks.{text_or}
+use Rattle.lua_number.specs.WkBaseDeclaredLeftLeft.{Left}
+use Rattle.mw_frame_texts.specs.LuaHeapProc.{Proc}
+use Rattle.mw_frame_texts.specs.LuaHeapValue as kind
+use Rattle.mw_frame_texts.specs.LuaHeapValue.{is_nil}
+use Rattle.mw_frame_texts.specs.LuaMeaningScope.{Bytes}
+use Rattle.mw_frame_texts.specs.LuaMeaningValues as values
+use Rattle.mw_frame_texts.specs.LuaMeaningValues.{first}
+use Rattle.mw_frame_texts.specs.LuaMeaningMessages.{bad_argument}
+use Rattle.mw_frame_texts.specs.LuaMeaningArguments.{Plain, Argument, with_argument, fails, a_text}
+use Rattle.mw_frame_texts.specs.LuaStoreDeclaredValueValue.{Value}
+use Rattle.mw_frame_texts.specs.LuaStoreSeen.{StoreView}
+use Rattle.mw_frame_texts.specs.LuaBasicDeclaredStopStop.{Stop}
+use Rattle.mw_frame_texts.specs.LuaBasicSeen.{values_seen, Stops, Free, Paid, Refuses}
+use Rattle.mw_frame_texts.proofs.LuaBasicFound.{stopped, for_nothing}
+use Rattle.mw_frame_texts.specs.LuaMeaningTextArguments.{in_utf8, utf8_text, as_some, utf8_text_if_any}
+use Rattle.mw_frame_texts.specs.LuaMeaningChecks.{text_or}
 
 -- AN ARGUMENT, read of a store that is as it was, is refused
 pub refuses_now : {Y : Type 0} (a b : Argument Y) (s u t : StoreView) (e : Stop) → u ≡ s → Refuses a u t e → a ≡ b → Refuses b s t e

@@ -10,18 +10,18 @@ use Rattle.lua_pattern.specs.Way.{Answer, At, Nowhere, first}
 use Rattle.lua_pattern.specs.Read.{Read, Fault, Fine}
 use Rattle.lua_pattern.specs.Reads.{IsReadFault}
 use Rattle.lua_pattern.specs.Texts.{points}
-use Rattle.lua_string.specs.Finds.{IsPriced, IsPlain, match_of}
-use Rattle.mw_ustring.specs.Finds.{AnswersRead}
-use Rattle.lua_heap.specs.Proc.{Proc}
-use Rattle.lua_heap.specs.Heap.{Heap}
-use Rattle.lua_heap.specs.Value.{Value, Nil}
-use Rattle.lua_meaning.specs.Scope.{Bytes}
-use Rattle.lua_meaning.specs.Arguments.{costs}
-use Rattle.lua_store.specs.Seen.{StoreView}
-use Rattle.lua_basic.specs.declared.stop.Stop.{Stop}
-use Rattle.lua_basic.specs.Seen.{Stops}
+use Rattle.mw_text.specs.LuaStringFinds.{IsPriced, IsPlain, match_of}
+use Rattle.mw_text.specs.MwUstringFinds.{AnswersRead}
+use Rattle.mw_frame_texts.specs.LuaHeapProc.{Proc}
+use Rattle.mw_frame_texts.specs.LuaHeapHeap.{Heap}
+use Rattle.mw_frame_texts.specs.LuaHeapValue.{Value, Nil}
+use Rattle.mw_frame_texts.specs.LuaMeaningScope.{Bytes}
+use Rattle.mw_frame_texts.specs.LuaMeaningArguments.{costs}
+use Rattle.mw_frame_texts.specs.LuaStoreSeen.{StoreView}
+use Rattle.mw_frame_texts.specs.LuaBasicDeclaredStopStop.{Stop}
+use Rattle.mw_frame_texts.specs.LuaBasicSeen.{Stops}
 use Rattle.mw_ustrings.specs.Faults.{FaultStops}
-use Rattle.lua_meaning.specs.Ustring.{place_value, last_value, capture_value, whole_or_captures, gives_match, searches, plain_values}
+use Rattle.mw_frame_texts.specs.LuaMeaningUstring.{place_value, last_value, capture_value, whole_or_captures, gives_match, searches, plain_values}
 
 -- a match by its parts
 same_match : {a b c d : ℕ} {cs ds : List Capture} → a ≡ b → c ≡ d → cs ≡ ds

@@ -4,9 +4,9 @@ use Rattle.std.specs.Prelude.{Result, MatchResult, is_ok, pos}
 use Rattle.std.specs.Str.{is_utf8}
 use Rattle.std.proofs.lemmas.Bool.{false_from_ne_true}
 use Rattle.std.proofs.lemmas.Str.{is_utf8-from_IsUtf8, IsUtf8-from_is_utf8}
-use Rattle.lua_heap.specs.Value.{Nil, Number}
-use Rattle.lua_meaning.specs.Scope.{Bytes}
-use Rattle.lua_meaning.specs.Ustring.{length_in}
+use Rattle.mw_frame_texts.specs.LuaHeapValue.{Nil, Number}
+use Rattle.mw_frame_texts.specs.LuaMeaningScope.{Bytes}
+use Rattle.mw_frame_texts.specs.LuaMeaningUstring.{length_in}
 
 pub test_agrees : {A B : Type 0} (bs : List ℕ) (P : A → Type 0) (Q : B → Type 0) (r : Result A B)
     → MatchResult r (λ a. P a × IsUtf8 bs) (λ b. ¬ (IsUtf8 bs) × Q b) → is_ok r ≡ is_utf8 bs

@@ -1,13 +1,13 @@
 -- Lists of values that grow, while the store grows.
 use Rattle.std.proofs.Common.{◌≡◌, ◌∙◌, ap, sym, subst, ℕ, zero, suc, List, [], ◌∷◌, ◌++◌, append_assoc, drop}
-use Rattle.lua_heap.specs.Value as kind
-use Rattle.lua_store.specs.declared.value.Value.{Value}
-use Rattle.lua_store.specs.Seen.{StoreView, seen}
-use Rattle.lua_store.specs.Parts.{IsOf, IsLater}
-use Rattle.lua_store.proofs.Lists.{all-to, map-alike}
-use Rattle.lua_store.proofs.Later.{of-later, seen-later}
-use Rattle.lua_basic.specs.Seen.{values_seen, AllOf}
-use Rattle.lua_basic.proofs.Lists.{all-with, seen-with}
+use Rattle.mw_frame_texts.specs.LuaHeapValue as kind
+use Rattle.mw_frame_texts.specs.LuaStoreDeclaredValueValue.{Value}
+use Rattle.mw_frame_texts.specs.LuaStoreSeen.{StoreView, seen}
+use Rattle.mw_frame_texts.specs.LuaStoreParts.{IsOf, IsLater}
+use Rattle.mw_frame_texts.proofs.LuaStoreLists.{all-to, map-alike}
+use Rattle.mw_frame_texts.proofs.LuaStoreLater.{of-later, seen-later}
+use Rattle.mw_frame_texts.specs.LuaBasicSeen.{values_seen, AllOf}
+use Rattle.mw_frame_texts.proofs.LuaBasicLists.{all-with, seen-with}
 
 pub all_of_later : (s t : StoreView) (vs : List Value) → IsLater s t → AllOf s vs → AllOf t vs
 all_of_later s t vs later all = all-to (IsOf s) (IsOf t) (of-later s t later) vs all

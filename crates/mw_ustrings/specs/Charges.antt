@@ -1,9 +1,9 @@
 -- WHAT IS TAKEN FROM THE STEPS THAT ARE LEFT, where memory may run out before: so many of them; or fewer are left, and none stays.
 use Rattle.std.specs.Prelude.{ℕ, Result, Ok, Err}
-use Rattle.wk_base.specs.declared.left.Left.{Left}
-use Rattle.lua_basic.specs.declared.stop.Stop.{Stop}
-use Rattle.lua_basic.specs.declared.stop.Stop.TheVariants as stop
-use Rattle.mw_frames.specs.Costs.{Took, Unpaid}
+use Rattle.lua_number.specs.WkBaseDeclaredLeftLeft.{Left}
+use Rattle.mw_frame_texts.specs.LuaBasicDeclaredStopStop.{Stop}
+use Rattle.mw_frame_texts.specs.LuaBasicDeclaredStopStopTheVariants as stop
+use Rattle.mw_frame_texts.specs.MwFramesCosts.{Took, Unpaid}
 
 abbrev pub UnpaidInMemory : ℕ → Left → Left → Stop → Type 0
 UnpaidInMemory n l m stop.NoMemory = Unit {0}

@@ -1,10 +1,10 @@
 -- CODE POINTS that are counted before their text is made: those whose numbers the arguments of `char` are, and those that an iterator gives.
 use Rattle.std.specs.Prelude.{◌≡◌, ℕ, ℤ, List, [], ◌∷◌, ◌++◌, Option, Some, None, Result, Ok}
 use Rattle.std.specs.Option.{unwrap_or}
-use Rattle.mw_ustring.specs.Texts.{text_of_codes}
-use Rattle.lua_heap.specs.Value.{Value}
-use Rattle.lua_meaning.specs.Scope.{Bytes}
-use Rattle.lua_meaning.specs.Values.{number_in}
+use Rattle.mw_text.specs.MwUstringTexts.{text_of_codes}
+use Rattle.mw_frame_texts.specs.LuaHeapValue.{Value}
+use Rattle.mw_frame_texts.specs.LuaMeaningScope.{Bytes}
+use Rattle.mw_frame_texts.specs.LuaMeaningValues.{number_in}
 
 -- the UTF-8 of the code point with a number; nothing where there is none
 abbrev pub number_bytes : Option ℤ → Bytes

@@ -2,12 +2,12 @@
 use Rattle.std.specs.Prelude.{◌≡◌}
 use Rattle.lua_pattern.specs.declared.read.PatternFault.{PatternFault}
 use Rattle.lua_pattern.specs.declared.read.PatternFault.TheVariants as fault
-use Rattle.lua_meaning.specs.Arguments.{fails}
-use Rattle.lua_store.specs.Seen.{StoreView}
-use Rattle.lua_basic.specs.declared.stop.Stop.{Stop}
-use Rattle.lua_basic.specs.declared.stop.Stop.TheVariants as stop
-use Rattle.lua_basic.specs.Seen.{Stops}
-use Rattle.lua_meaning.specs.Checks.{malformed}
+use Rattle.mw_frame_texts.specs.LuaMeaningArguments.{fails}
+use Rattle.mw_frame_texts.specs.LuaStoreSeen.{StoreView}
+use Rattle.mw_frame_texts.specs.LuaBasicDeclaredStopStop.{Stop}
+use Rattle.mw_frame_texts.specs.LuaBasicDeclaredStopStopTheVariants as stop
+use Rattle.mw_frame_texts.specs.LuaBasicSeen.{Stops}
+use Rattle.mw_frame_texts.specs.LuaMeaningChecks.{malformed}
 
 abbrev pub FaultStops : StoreView → StoreView → PatternFault → Stop → Type 0
 FaultStops s t (fault.At n) e = Stops (fails s.heap (malformed n)) t e

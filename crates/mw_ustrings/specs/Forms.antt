@@ -2,8 +2,8 @@
 use Rattle.std.specs.Prelude.{ℕ, length, Option, Some, None, if◌then◌else◌, chars, encode_utf8_all}
 use Rattle.std.specs.Str.{is_utf8}
 use Rattle.unicode_normalization.specs.Forms.{Form, normalize}
-use Rattle.lua_heap.specs.Value.{Value, Nil, Text}
-use Rattle.lua_meaning.specs.Scope.{Bytes}
+use Rattle.mw_frame_texts.specs.LuaHeapValue.{Value, Nil, Text}
+use Rattle.mw_frame_texts.specs.LuaMeaningScope.{Bytes}
 
 -- a step for each of its bytes, and none where the bytes of the text aren't UTF-8
 abbrev pub form_charge : Form → Bytes → ℕ

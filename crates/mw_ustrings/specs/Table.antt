@@ -1,16 +1,16 @@
 -- THE FUNCTIONS of `mw.ustring`, and what each gives.
 use Rattle.std.specs.Prelude.{◌≡◌, List, Option, Some, None}
-use Rattle.lua_heap.specs.Proc.{Proc}
-use Rattle.lua_heap.specs.Value.{Value}
-use Rattle.lua_heap.specs.Heap.{Heap}
-use Rattle.lua_heap.specs.declared.library.Library.{Library}
-use Rattle.lua_heap.specs.declared.library.Library.TheVariants.{UstringChar, UstringCodepoint, UstringByteOffset, UstringFind, UstringMatch, UstringLen, UstringSub, UstringIsUtf8, UstringToNfc, UstringToNfd, UstringToNfkc, UstringToNfkd}
-use Rattle.lua_meaning.specs.World.{World}
-use Rattle.lua_meaning.specs.Acts.{Frame}
-use Rattle.lua_meaning.specs.Arguments.{Plain}
-use Rattle.lua_meaning.specs.TextArguments.{of_texts}
-use Rattle.lua_meaning.specs.Ustring.{char, codepoint, byteoffset, find, match_from, len, sub, isutf8, to_nfc, to_nfd, to_nfkc, to_nfkd}
-use Rattle.lua_meaning.specs.Libraries.{Answers, form}
+use Rattle.mw_frame_texts.specs.LuaHeapProc.{Proc}
+use Rattle.mw_frame_texts.specs.LuaHeapValue.{Value}
+use Rattle.mw_frame_texts.specs.LuaHeapHeap.{Heap}
+use Rattle.mw_frame_texts.specs.LuaHeapDeclaredLibraryLibrary.{Library}
+use Rattle.mw_frame_texts.specs.LuaHeapDeclaredLibraryLibraryTheVariants.{UstringChar, UstringCodepoint, UstringByteOffset, UstringFind, UstringMatch, UstringLen, UstringSub, UstringIsUtf8, UstringToNfc, UstringToNfd, UstringToNfkc, UstringToNfkd}
+use Rattle.mw_frame_texts.specs.LuaMeaningWorld.{World}
+use Rattle.mw_frame_texts.specs.LuaMeaningActs.{Frame}
+use Rattle.mw_frame_texts.specs.LuaMeaningArguments.{Plain}
+use Rattle.mw_frame_texts.specs.LuaMeaningTextArguments.{of_texts}
+use Rattle.mw_frame_texts.specs.LuaMeaningUstring.{char, codepoint, byteoffset, find, match_from, len, sub, isutf8, to_nfc, to_nfd, to_nfkc, to_nfkd}
+use Rattle.mw_frame_texts.specs.LuaMeaningLibraries.{Answers, form}
 use Rattle.mw_ustrings.specs.declared.table.UstringFunction.{UstringFunction}
 use Rattle.mw_ustrings.specs.declared.table.UstringFunction.TheVariants as own
 

@@ -2,25 +2,20 @@
 ghost use Rattle.std.specs.Prelude.{◌≡◌, ◌<◌, ◌^◌, ◌++◌, IsUtf8, Ok, IfOk, IfErr, OnOk};
 ghost use Rattle.std.specs.Option.{option_map};
 ghost use Rattle.std.specs.Str.{is_utf8 as is_utf8_lem};
-ghost use Rattle.lua_meaning.specs.Arguments.{fails};
-ghost use Rattle.lua_meaning.specs.Messages as messages;
-ghost use Rattle.lua_store.specs.Parts.{IsLater};
-ghost use Rattle.lua_basic.specs.Arguments.{text_bytes};
-ghost use Rattle.lua_basic.specs.Seen.{values_seen, AllOf, Stops, StopOf, Refuses};
+ghost use Rattle.mw_frame_texts.specs.LuaMeaningArguments.{fails};
+ghost use Rattle.mw_frame_texts.specs.LuaMeaningMessages as messages;
+ghost use Rattle.mw_frame_texts.specs.LuaStoreParts.{IsLater};
+ghost use Rattle.mw_frame_texts.specs.LuaBasicArguments.{text_bytes};
+ghost use Rattle.mw_frame_texts.specs.LuaBasicSeen.{values_seen, AllOf, Stops, StopOf, Refuses};
 ghost use Rattle.mw_ustrings.specs.Faults.{FaultStops};
-ghost use Rattle.lua_meaning.specs.Checks as checks;
-ghost use Rattle.lua_meaning.specs.TextArguments as meaning;
+ghost use Rattle.mw_frame_texts.specs.LuaMeaningChecks as checks;
+ghost use Rattle.mw_frame_texts.specs.LuaMeaningTextArguments as meaning;
 
-use lua_basic::Stop;
-use lua_basic::arguments::a_text;
-use lua_basic::messages::{expected, fail, refuse};
-use lua_basic::texts::TextIn;
-use lua_basic::values::{first, is_nil};
+use lua_number::NoMemory;
 use lua_pattern::PatternFault;
-use lua_store::{Store, Value};
-use lua_string::text::push_all;
+use mw_frame_texts::{Stop, Store, TextIn, Value, a_text, expected, fail, first, is_nil, refuse};
+use mw_text::push_all;
 use std::alloc::Global;
-use wk_base::NoMemory;
 
 /// Whether these bytes are UTF-8.
 pub fn is_utf8(bytes: &[u8]) -> bool

@@ -1,6 +1,6 @@
 //! A function of `mw.ustring` is called.
-ghost use Rattle.lua_store.specs.Parts.{IsLater};
-ghost use Rattle.lua_basic.specs.Seen.{values_seen, AllOf, Paid, AnswerOf};
+ghost use Rattle.mw_frame_texts.specs.LuaStoreParts.{IsLater};
+ghost use Rattle.mw_frame_texts.specs.LuaBasicSeen.{values_seen, AllOf, Paid, AnswerOf};
 ghost use Rattle.mw_ustrings.specs.Table.{given_by, answer_of};
 
 use crate::char_of::char;
@@ -9,11 +9,10 @@ use crate::forms::{to_nfc, to_nfd, to_nfkc, to_nfkd};
 use crate::parts::{byteoffset, codepoint, sub};
 use crate::table::UstringFunction;
 use crate::wholes::{isutf8, len};
-use lua_basic::Stop;
-use lua_store::{Store, Value};
+use lua_pattern::List;
 use mw_frame_texts::costs::pay_given;
+use mw_frame_texts::{Left, Stop, Store, Value};
 use std::alloc::Global;
-use wk_base::{Left, List};
 
 /// What a function gives behind the charge of its arguments.
 fn give(

@@ -3,21 +3,18 @@ ghost use Rattle.std.specs.Prelude.{◌≡◌, ◌++◌, ℕ, List as Items, [],
 ghost use Rattle.std.specs.List.{AllByRecursion};
 ghost use Rattle.lua_pattern.specs.Places.{IsCaptureAt};
 ghost use Rattle.lua_pattern.specs.Sizes.{capture_bytes, captures_bytes, match_bytes};
-ghost use Rattle.lua_store.specs.Seen.{StoreView, seen};
-ghost use Rattle.lua_store.specs.Parts.{IsOf, IsLater};
-ghost use Rattle.lua_basic.specs.Seen.{values_seen, AllOf};
-ghost use Rattle.mw_frames.specs.Costs.{Pays};
-ghost use Rattle.lua_meaning.specs.Ustring as meaning;
+ghost use Rattle.mw_frame_texts.specs.LuaStoreSeen.{StoreView, seen};
+ghost use Rattle.mw_frame_texts.specs.LuaStoreParts.{IsOf, IsLater};
+ghost use Rattle.mw_frame_texts.specs.LuaBasicSeen.{values_seen, AllOf};
+ghost use Rattle.mw_frame_texts.specs.MwFramesCosts.{Pays};
+ghost use Rattle.mw_frame_texts.specs.LuaMeaningUstring as meaning;
 
 use crate::giving::number;
-use lua_basic::Stop;
-use lua_basic::values::pair;
-use lua_pattern::{Capture, Match};
-use lua_store::{Store, Value};
-use mw_frames::paying::pay;
-use mw_ustring::point_place;
+use lua_number::NoMemory;
+use lua_pattern::{Capture, List, Match};
+use mw_frame_texts::{Left, Stop, Store, Value, pair, pay};
+use mw_text::point_place;
 use std::alloc::Global;
-use wk_base::{Left, List, NoMemory};
 
 /// The part of a text from one byte to another.
 fn text_between(s: &[u8], from: usize, to: usize) -> &[u8]

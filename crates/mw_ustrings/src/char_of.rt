@@ -1,24 +1,22 @@
 //! `char`: the text of code points (Scribunto, mw.ustring.char).
 ghost use Rattle.std.specs.Prelude.{◌≡◌, ◌<◌, ◌≤◌, ◌^◌, ◌++◌, [], ◌∷◌, length, drop, codes, Some, None, Ok, IfOk, IfErr, OnOk, MatchOption};
 ghost use Rattle.std.specs.Char.{encode_utf8};
-ghost use Rattle.mw_ustring.specs.Texts.{text_of_codes};
-ghost use Rattle.lua_meaning.specs.Arguments.{a_number, gives_text};
-ghost use Rattle.lua_store.specs.Seen.{seen};
-ghost use Rattle.lua_store.specs.Parts.{IsOf, IsLater};
-ghost use Rattle.lua_basic.specs.Seen.{values_seen, AllOf, Paid, StopOf, AnswerOf, Refuses};
-ghost use Rattle.mw_frames.specs.Costs.{Pays};
+ghost use Rattle.mw_text.specs.MwUstringTexts.{text_of_codes};
+ghost use Rattle.mw_frame_texts.specs.LuaMeaningArguments.{a_number, gives_text};
+ghost use Rattle.mw_frame_texts.specs.LuaStoreSeen.{seen};
+ghost use Rattle.mw_frame_texts.specs.LuaStoreParts.{IsOf, IsLater};
+ghost use Rattle.mw_frame_texts.specs.LuaBasicSeen.{values_seen, AllOf, Paid, StopOf, AnswerOf, Refuses};
+ghost use Rattle.mw_frame_texts.specs.MwFramesCosts.{Pays};
 ghost use Rattle.mw_ustrings.specs.CodePoints.{point_bytes, points_bytes};
-ghost use Rattle.lua_meaning.specs.Ustring as meaning;
+ghost use Rattle.mw_frame_texts.specs.LuaMeaningUstring as meaning;
 
 use crate::arguments::{refuse_at, refuse_kind_at};
 use crate::giving::text_value;
-use lua_basic::Stop;
-use lua_basic::values::{first, number_in};
-use lua_store::{Store, Value};
-use mw_frames::paying::pay;
+use lua_number::NoMemory;
+use lua_pattern::List;
+use mw_frame_texts::{Left, Stop, Store, Value, first, number_in, pay};
 use mw_text::references::put_point;
 use std::alloc::Global;
-use wk_base::{Left, List, NoMemory};
 
 /// The code point with a number, if there is one that UTF-8 can write.
 fn point(code: i64) -> Option<char>

@@ -4,24 +4,19 @@ ghost use Rattle.lua_pattern.specs.Places.{IsCaptureAt};
 ghost use Rattle.lua_pattern.specs.Read.{read_of, codes};
 ghost use Rattle.lua_pattern.specs.Sizes.{find_bytes, match_bytes};
 ghost use Rattle.lua_pattern.specs.Texts.{points};
-ghost use Rattle.mw_ustring.specs.Finds.{start_of};
-ghost use Rattle.lua_meaning.specs.Arguments.{costs};
-ghost use Rattle.lua_store.specs.Parts.{IsLater};
-ghost use Rattle.lua_basic.specs.Seen.{values_seen, AllOf, Paid, AnswerOf};
-ghost use Rattle.lua_meaning.specs.Ustring as meaning;
+ghost use Rattle.mw_text.specs.MwUstringFinds.{start_of};
+ghost use Rattle.mw_frame_texts.specs.LuaMeaningArguments.{costs};
+ghost use Rattle.mw_frame_texts.specs.LuaStoreParts.{IsLater};
+ghost use Rattle.mw_frame_texts.specs.LuaBasicSeen.{values_seen, AllOf, Paid, AnswerOf};
+ghost use Rattle.mw_frame_texts.specs.LuaMeaningUstring as meaning;
 
 use crate::arguments::{refuse_pattern, utf8_text};
 use crate::captures::{find_values, match_places, match_values, pay_captures, pay_match};
 use crate::giving::{give_nothing, spend};
-use lua_basic::Stop;
-use lua_basic::arguments::number_or;
-use lua_basic::values::{is_true, rest, single, third};
-use lua_pattern::{Match, Search};
-use lua_store::{Store, Value};
-use mw_frames::paying::pay;
-use mw_ustring::{plain_find, start};
+use lua_pattern::{List, Match, Search};
+use mw_frame_texts::{Left, Stop, Store, Value, is_true, number_or, pay, rest, single, third};
+use mw_text::{plain_find, start};
 use std::alloc::Global;
-use wk_base::{Left, List};
 
 /// The places and captures of a match are given, for a step a try, and a byte of the captures.
 fn give_found(
@@ -82,7 +77,7 @@ fn find_pattern(
     ensures of { AnswerOf store.new result }
     ensures later { IsLater store.old store.new }
 {
-    match mw_ustring::find(alloc, s, pattern, init, false, left.steps) {
+    match mw_text::mw_ustring_find(alloc, s, pattern, init, false, left.steps) {
         Err(fault) => Err(refuse_pattern(alloc, store, fault)),
         Ok(Search::Spent) => Err(spend(left)),
         Ok(Search::NotFound(tries)) => give_nothing(alloc, store, left, tries),
@@ -104,7 +99,7 @@ fn match_pattern(
     ensures of { AnswerOf store.new result }
     ensures later { IsLater store.old store.new }
 {
-    match mw_ustring::match_from(alloc, s, pattern, init, left.steps) {
+    match mw_text::mw_ustring_match_from(alloc, s, pattern, init, left.steps) {
         Err(fault) => Err(refuse_pattern(alloc, store, fault)),
         Ok(Search::Spent) => Err(spend(left)),
         Ok(Search::NotFound(tries)) => give_nothing(alloc, store, left, tries),

@@ -4,23 +4,20 @@ ghost use Rattle.std.specs.Prelude.{◌≡◌, ℕ, List as Items, [], ◌∷◌
 ghost use Rattle.std.specs.Iterator.{IsFinite};
 ghost use Rattle.std.specs.Option.{option_map};
 ghost use Rattle.unicode_normalization.specs.Forms.{normalize};
-ghost use Rattle.mw_ustring.specs.Forms.{IsForm};
-ghost use Rattle.lua_store.specs.Parts.{IsLater};
-ghost use Rattle.lua_basic.specs.Seen.{values_seen, AllOf, Paid, AnswerOf};
+ghost use Rattle.mw_text.specs.MwUstringForms.{IsForm};
+ghost use Rattle.mw_frame_texts.specs.LuaStoreParts.{IsLater};
+ghost use Rattle.mw_frame_texts.specs.LuaBasicSeen.{values_seen, AllOf, Paid, AnswerOf};
 ghost use Rattle.mw_ustrings.specs.Charges.{PaysInMemory};
 ghost use Rattle.mw_ustrings.specs.CodePoints.{GivesPoints};
 ghost use Rattle.mw_ustrings.specs.Forms.{form_charge, form_value};
-ghost use Rattle.lua_meaning.specs.Ustring as meaning;
+ghost use Rattle.mw_frame_texts.specs.LuaMeaningUstring as meaning;
 
 use crate::giving::text_value;
-use lua_basic::Stop;
-use lua_basic::arguments::a_text;
-use lua_basic::values::single;
-use lua_store::{Store, Value};
-use mw_frames::paying::pay;
+use lua_number::NoMemory;
+use lua_pattern::List;
+use mw_frame_texts::{Left, Stop, Store, Value, a_text, pay, single};
 use std::alloc::{AllocError, Global};
 use unicode_normalization::{Form, UnicodeNormalization};
-use wk_base::{Left, List, NoMemory};
 
 /// Takes a step for each byte of the UTF-8 of code points.
 fn pay_all<I: Iterator<Item = Result<char, AllocError>> + Drop>(
@@ -67,10 +64,10 @@ fn form_of(alloc: Global, form: Form, s: &[u8]) -> Result<Option<Vec<u8>>, NoMem
     ensures { IfOk result (λ made. IsForm form s.now (option_map (λ v. v.items) made)) }
 {
     match form {
-        Form::Nfd => mw_ustring::to_nfd(alloc, s),
-        Form::Nfkd => mw_ustring::to_nfkd(alloc, s),
-        Form::Nfc => mw_ustring::to_nfc(alloc, s),
-        Form::Nfkc => mw_ustring::to_nfkc(alloc, s),
+        Form::Nfd => mw_text::to_nfd(alloc, s),
+        Form::Nfkd => mw_text::to_nfkd(alloc, s),
+        Form::Nfc => mw_text::to_nfc(alloc, s),
+        Form::Nfkc => mw_text::to_nfkc(alloc, s),
     }
 }
 

@@ -1,18 +1,16 @@
 //! What is given, after what it costs.
 ghost use Rattle.std.specs.Prelude.{◌≡◌, ℕ, List as Items, pos, [], ◌∷◌, IfOk};
-ghost use Rattle.lua_heap.specs.Value as kind;
-ghost use Rattle.lua_meaning.specs.Arguments.{gives, costs, gives_text};
-ghost use Rattle.lua_store.specs.Seen.{StoreView, seen};
-ghost use Rattle.lua_store.specs.Parts.{IsOf, IsLater};
-ghost use Rattle.lua_basic.specs.Seen.{values_seen, AllOf, Free, Paid, AnswerOf};
-ghost use Rattle.lua_basic.specs.declared.stop.Stop.TheVariants as stop;
+ghost use Rattle.mw_frame_texts.specs.LuaHeapValue as kind;
+ghost use Rattle.mw_frame_texts.specs.LuaMeaningArguments.{gives, costs, gives_text};
+ghost use Rattle.mw_frame_texts.specs.LuaStoreSeen.{StoreView, seen};
+ghost use Rattle.mw_frame_texts.specs.LuaStoreParts.{IsOf, IsLater};
+ghost use Rattle.mw_frame_texts.specs.LuaBasicSeen.{values_seen, AllOf, Free, Paid, AnswerOf};
+ghost use Rattle.mw_frame_texts.specs.LuaBasicDeclaredStopStopTheVariants as stop;
 
-use lua_basic::Stop;
-use lua_basic::values::single;
-use lua_store::{Store, Value};
-use mw_frames::paying::pay;
+use lua_number::NoMemory;
+use lua_pattern::List;
+use mw_frame_texts::{Left, Stop, Store, Value, pay, single};
 use std::alloc::Global;
-use wk_base::{Left, List, NoMemory};
 
 /// No step stays.
 pub fn spend(left: &mut Left) -> Stop

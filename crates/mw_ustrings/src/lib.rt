@@ -27,4 +27,10 @@ pub mod table;
 pub mod wholes;
 
 pub use call::ustring_call;
+pub use mw_frame_texts::costs::pay_given;
+pub use mw_frame_texts::tagging::tag_of;
+pub use mw_frame_texts::{
+    FieldNames, Left, Library, Stop, Store, TableId, TextIn, Value, a_number, a_table, a_text,
+    is_true, pay, pay_texts, rest, second, single, third,
+};
 pub use table::{UstringFunction, ustring_function};

@@ -1,23 +1,20 @@
 //! `codepoint`, `byteoffset` and `sub`: parts and places of a text (Scribunto, Ustring library).
 ghost use Rattle.std.specs.Prelude.{◌≡◌, ℕ, List as Items, [], ◌∷◌, IsUtf8, IfOk, IfSome, MatchOption, encode_utf8_all};
-ghost use Rattle.lua_meaning.specs.Arguments.{gives_text};
-ghost use Rattle.mw_ustring.specs.Texts.{points_of, byteoffset_of};
-ghost use Rattle.lua_heap.specs.Value as kind;
+ghost use Rattle.mw_frame_texts.specs.LuaMeaningArguments.{gives_text};
+ghost use Rattle.mw_text.specs.MwUstringTexts.{points_of, byteoffset_of};
+ghost use Rattle.mw_frame_texts.specs.LuaHeapValue as kind;
 ghost use Rattle.std.specs.Prelude.{pos};
-ghost use Rattle.lua_store.specs.Seen.{StoreView, seen};
-ghost use Rattle.lua_store.specs.Parts.{IsOf, IsLater};
-ghost use Rattle.lua_basic.specs.Seen.{values_seen, AllOf, Free, Paid, AnswerOf};
-ghost use Rattle.lua_meaning.specs.Ustring as meaning;
+ghost use Rattle.mw_frame_texts.specs.LuaStoreSeen.{StoreView, seen};
+ghost use Rattle.mw_frame_texts.specs.LuaStoreParts.{IsOf, IsLater};
+ghost use Rattle.mw_frame_texts.specs.LuaBasicSeen.{values_seen, AllOf, Free, Paid, AnswerOf};
+ghost use Rattle.mw_frame_texts.specs.LuaMeaningUstring as meaning;
 
 use crate::arguments::utf8_text;
 use crate::giving::{give_text, number};
-use lua_basic::Stop;
-use lua_basic::arguments::{a_number, number_or};
-use lua_basic::values::{rest, single};
-use lua_store::{Store, Value};
-use mw_frames::paying::pay;
+use lua_number::NoMemory;
+use lua_pattern::List;
+use mw_frame_texts::{Left, Stop, Store, Value, a_number, number_or, pay, rest, single};
 use std::alloc::Global;
-use wk_base::{Left, List, NoMemory};
 
 fn split_codes(codes: &[u32]) -> Option<(u32, &[u32])>
     ensures { MatchOption result (codes.now ≡ []) (λ p. codes.now ≡ p.0 ∷ p.1.now) }
@@ -64,9 +61,9 @@ fn give_points(
     ensures of { AnswerOf store.new result }
     ensures same { store.new ≡ store.old }
 {
-    let part = mw_ustring::part(s, from, to);
-    pay(left, mw_ustring::count_points(part) as u64)?;
-    let codes = mw_ustring::codepoint(alloc, s, from, to)?;
+    let part = mw_text::mw_ustring_part(s, from, to);
+    pay(left, mw_text::count_points(part) as u64)?;
+    let codes = mw_text::codepoint(alloc, s, from, to)?;
     let values = point_values(alloc, codes.as_slice())?;
     Ok(values)
 }
@@ -113,7 +110,7 @@ pub fn byteoffset(alloc: Global, store: &mut Store, args: &[Value]) -> Result<Li
     let others = rest(args);
     let from = number_or(alloc, store, 1, 2, b"byteoffset", others)?;
     let byte = number_or(alloc, store, 1, 3, b"byteoffset", rest(others))?;
-    let place = place_or_nil(mw_ustring::byteoffset(text.as_slice(), from, byte))?;
+    let place = place_or_nil(mw_text::byteoffset(text.as_slice(), from, byte))?;
     let values = single(alloc, place)?;
     Ok(values)
 }
@@ -132,7 +129,7 @@ fn give_part(
     ensures of { AnswerOf store.new result }
     ensures later { IsLater store.old store.new }
 {
-    give_text(alloc, store, left, mw_ustring::part(s, from, to))
+    give_text(alloc, store, left, mw_text::mw_ustring_part(s, from, to))
 }
 
 /// `mw.ustring.sub(s, i, j)`: the part from place i to place j, by default -1.

@@ -2,7 +2,7 @@
 ghost use Rattle.std.specs.Prelude.{◌≡◌};
 ghost use Rattle.mw_ustrings.specs.Table.{ustring_function_in, AreInTable};
 
-use lua_store::Library;
+use mw_frame_texts::Library;
 
 /// A function of `mw.ustring` that calls back nobody (Scribunto, Ustring library).
 #[derive(Clone, Copy, Debug, PartialEq, Eq)]

@@ -1,25 +1,23 @@
 //! `len` and `isutf8`, of any bytes (Scribunto, Ustring library).
 ghost use Rattle.std.specs.Prelude.{◌≡◌, ℕ, List as Items, IfOk};
-ghost use Rattle.lua_store.specs.Seen.{StoreView, seen};
-ghost use Rattle.lua_store.specs.Parts.{IsOf, IsLater};
-ghost use Rattle.lua_basic.specs.Seen.{values_seen, AllOf, Free, AnswerOf};
-ghost use Rattle.lua_meaning.specs.Ustring as meaning;
+ghost use Rattle.mw_frame_texts.specs.LuaStoreSeen.{StoreView, seen};
+ghost use Rattle.mw_frame_texts.specs.LuaStoreParts.{IsOf, IsLater};
+ghost use Rattle.mw_frame_texts.specs.LuaBasicSeen.{values_seen, AllOf, Free, AnswerOf};
+ghost use Rattle.mw_frame_texts.specs.LuaMeaningUstring as meaning;
 
 use crate::arguments::is_utf8;
 use crate::giving::number;
-use lua_basic::Stop;
-use lua_basic::arguments::a_text;
-use lua_basic::values::single;
-use lua_store::{Store, Value};
+use lua_number::NoMemory;
+use lua_pattern::List;
+use mw_frame_texts::{Stop, Store, Value, a_text, single};
 use std::alloc::Global;
-use wk_base::{List, NoMemory};
 
 /// How many code points these bytes spell, or nil where they aren't UTF-8.
 fn length_in(s: &[u8]) -> Result<Value, NoMemory>
     ensures of { IfOk result (λ v. (t : StoreView) → IsOf t v) }
     ensures value { IfOk result (λ v. (texts : Items (Items ℕ)) → seen texts v ≡ meaning.length_in s.now) }
 {
-    match mw_ustring::len(s) {
+    match mw_text::mw_ustring_len(s) {
         Some(length) => number(length),
         None => Ok(Value::Nil),
     }

@@ -7,8 +7,7 @@ use std::alloc::Global;
 use std::hash::RandomState;
 use std::thread::Threads;
 use wiki_app::run;
-use wk_base::NoMemory;
-use wk_shelf::Shelf;
+use wk_shelf::{NoMemory, Shelf};
 
 /// Whether the streams have the texts that are said of them.
 fn has_texts(alloc: Global, streams: &Streams, out: &str, err: &[u8]) -> Result<bool, NoMemory> {

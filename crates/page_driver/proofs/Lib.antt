@@ -1,1 +1,10 @@
+pub mod Asks
+pub mod Below
+pub mod Drives
+pub mod Goings
+pub mod Hands
+pub mod Nexts
+pub mod Sinking
+pub mod MoveSteps
+pub mod Renumbering
 pub mod Whole

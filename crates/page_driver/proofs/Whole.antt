@@ -1,19 +1,19 @@
 -- The whole page: its own expansion begins, and what it comes to is the page; and an invocation by itself.
 use Rattle.std.proofs.Common.{◌≡◌, ℕ, ◌+◌, ◌≤◌, [], Option, Some, None, Result, Ok, Err, refl, sym, ap, ◌∙◌, subst, arith}
 use Rattle.std.specs.Prelude.{IfSome, IsSome, IfOk, OnOk}
-use Rattle.wk_base.specs.declared.left.Left.{Left}
-use Rattle.wk_base.specs.declared.left.Limits.{Limits}
-use Rattle.page_run.specs.Walk.{empty_walk}
-use Rattle.wiki_markup.specs.Trees.{Trees}
+use Rattle.page_meaning.specs.WkBaseDeclaredLeftLeft.{Left}
+use Rattle.mw_frame.specs.WkBaseDeclaredLeftLimits.{Limits}
+use Rattle.page_meaning.specs.PageRunWalk.{empty_walk}
+use Rattle.page_meaning.specs.WikiMarkupTrees.{Trees}
 use Rattle.mw_frame.specs.declared.scene.Job.{Job}
-use Rattle.expand_meaning.specs.Outcome.{Reading, page_scene}
-use Rattle.lua_meaning.specs.World.{Modules}
-use Rattle.lua_meaning.specs.Start.{Invoke}
-use Rattle.lua_store.specs.Seen.{StoreView}
-use Rattle.lua_store.specs.Parts.{nothing}
-use Rattle.page_ground.specs.declared.numbers.Numbers.{Numbers}
-use Rattle.page_ground.specs.Numbered.{none_started, after_start, IsNumbered}
-use Rattle.page_ground.proofs.Numbering.{nothing_numbered, numbered_later, start_renumbers}
+use Rattle.page_meaning.specs.ExpandMeaningOutcome.{Reading, page_scene}
+use Rattle.lua_code.specs.LuaMeaningWorld.{Modules}
+use Rattle.page_meaning.specs.LuaMeaningStart.{Invoke}
+use Rattle.page_tasks.specs.LuaStoreSeen.{StoreView}
+use Rattle.page_tasks.specs.LuaStoreParts.{nothing}
+use Rattle.page_tasks.specs.PageGroundDeclaredNumbersNumbers.{Numbers}
+use Rattle.page_tasks.specs.PageGroundNumbered.{none_started, after_start, IsNumbered}
+use Rattle.page_tasks.proofs.PageGroundNumbering.{nothing_numbered, numbered_later, start_renumbers}
 use Rattle.page_meaning.specs.Told.{Seen, invoked}
 use Rattle.page_meaning.specs.Drive.{invoke}
 use Rattle.page_meaning.specs.Page.{Page as PlainPage, kept_in, begun_in}
@@ -21,20 +21,20 @@ use Rattle.page_meaning.specs.Points.{drive_after}
 use Rattle.page_meaning.proofs.DriveLaws.{drive-is}
 use Rattle.page_meaning.specs.Tasks.{Task as PlainTask, Running, Expanding, given_text}
 use Rattle.page_meaning.proofs.TaskLaws.{pages_are_tasks}
-use Rattle.page_points.specs.Places.{beginning, IsFresh}
-use Rattle.page_points.proofs.Moves.{page_begins, nothing_begun, going_with}
-use Rattle.page_points.proofs.Apart.{nobody_is_there}
+use Rattle.page_tasks.specs.PagePointsPlaces.{beginning, IsFresh}
+use Rattle.page_tasks.proofs.PagePointsMoves.{page_begins, nothing_begun, going_with}
+use Rattle.page_tasks.proofs.PagePointsApart.{nobody_is_there}
 use Rattle.page_tasks.specs.declared.task.Task.{Task}
 use Rattle.page_tasks.specs.declared.task.Reply.{Reply}
-use Rattle.page_replies.specs.declared.tower.Tower.{Tower}
+use Rattle.page_driver.specs.declared.tower.Tower.{Tower}
 use Rattle.page_driver.specs.declared.wiki.Page.{Page}
 use Rattle.page_driver.specs.declared.job.JobEnd.{JobEnd}
-use Rattle.page_ground.specs.Ground.{Ground, page_of, wiki_of, AreModulesOf}
+use Rattle.page_tasks.specs.PageGroundGround.{Ground, page_of, wiki_of, AreModulesOf}
 use Rattle.page_tasks.specs.Seen.{reply_seen, outcome_of}
 use Rattle.page_tasks.specs.Beginning.{Begins}
 use Rattle.page_tasks.proofs.Starts.{of_made}
-use Rattle.page_ground.specs.Kept.{KeepOf, Keeps}
-use Rattle.page_replies.specs.Driven.{sum_of, AllWait, IsBelow, IsReady, Starting, IsStarting, Fits, IsExpanded, Expanded, ComesTo}
+use Rattle.page_tasks.specs.PageGroundKept.{KeepOf, Keeps}
+use Rattle.page_driver.specs.Driven.{sum_of, AllWait, IsBelow, IsReady, Starting, IsStarting, Fits, IsExpanded, Expanded, ComesTo}
 use Rattle.page_driver.specs.Page.{full_of, IsPage, IsHeldPage}
 use Rattle.page_driver.specs.Job.{IsJob, IsEndOf}
 use Rattle.page_tasks.specs.Tasks.{calls_in, depth_of, templates_of}

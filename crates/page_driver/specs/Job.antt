@@ -1,9 +1,9 @@
 -- WHAT `run_job` ENSURES: it is the drive of one invocation.
 use Rattle.std.specs.Prelude.{◌≡◌, ℕ, ◌+◌, ◌≤◌, Result, Ok}
-use Rattle.wk_base.specs.declared.left.Left.{Left}
-use Rattle.wk_base.specs.declared.title.Title.{Title}
+use Rattle.page_meaning.specs.WkBaseDeclaredLeftLeft.{Left}
+use Rattle.lua_code.specs.WkBaseDeclaredTitleTitle.{Title}
 use Rattle.mw_frame.specs.declared.scene.Job.{Job}
-use Rattle.lua_meaning.specs.Start.{Invoke}
+use Rattle.page_meaning.specs.LuaMeaningStart.{Invoke}
 use Rattle.page_meaning.specs.Wiki.{Wiki}
 use Rattle.page_meaning.specs.Outcomes.{job_outcome}
 use Rattle.page_meaning.specs.Drive.{drive, invoke}

@@ -1,9 +1,9 @@
 -- WHAT `expand_page` ENSURES.
 use Rattle.std.specs.Prelude.{◌≡◌, ℕ, ◌+◌, ◌≤◌, Option, Some, None}
-use Rattle.wk_base.specs.declared.left.Left.{Left}
-use Rattle.wk_base.specs.declared.left.Limits.{Limits}
-use Rattle.wk_base.specs.declared.title.Title.{Title}
-use Rattle.wiki_markup.specs.Trees.{Trees}
+use Rattle.page_meaning.specs.WkBaseDeclaredLeftLeft.{Left}
+use Rattle.mw_frame.specs.WkBaseDeclaredLeftLimits.{Limits}
+use Rattle.lua_code.specs.WkBaseDeclaredTitleTitle.{Title}
+use Rattle.page_meaning.specs.WikiMarkupTrees.{Trees}
 use Rattle.page_meaning.specs.Wiki.{Wiki}
 use Rattle.page_meaning.specs.Page.{page}
 use Rattle.page_driver.specs.declared.wiki.Page.{Page}

@@ -1,16 +1,14 @@
 //! What a page, or an invocation by itself, begins with.
 ghost use Rattle.std.specs.Prelude.{◌≡◌, []};
-ghost use Rattle.wk_base.specs.Allowances.{IsCountable};
-ghost use Rattle.page_replies.specs.Driven.{Fits};
+ghost use Rattle.mw_frame.specs.WkBaseAllowances.{IsCountable};
+ghost use Rattle.page_driver.specs.Driven.{Fits};
 ghost use Rattle.page_driver.specs.Page.{full_of};
 
-use lua_stack::Stack;
-use page_ground::keep::Keep;
-use page_ground::numbers::Numbers;
-use page_replies::tower::Tower;
+use crate::tower::Tower;
+use mw_frame::Limits;
+use page_tasks::{Keep, Left, Numbers, Stack};
 use std::alloc::Global;
 use std::hash::RandomState;
-use wk_base::{Left, Limits};
 
 /// Nothing waits, and nothing is kept.
 pub(crate) fn empty_tower<'w>(alloc: Global, seed: RandomState, numbers: Numbers) -> Tower<'w>

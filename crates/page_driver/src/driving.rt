@@ -1,19 +1,18 @@
 //! A page in progress: what a task that has halted leads to, and the loop until the page is expanded.
 ghost use Rattle.std.specs.Prelude.{IfOk};
-ghost use Rattle.page_ground.specs.Ground.{ground_of};
-ghost use Rattle.page_replies.specs.Driven.{InProgress, IsStarting, MovesOn, ComesTo};
-ghost use Rattle.page_replies.specs.Moving.{Sinks, SinksToQuestion, IsQuestionIf, TakesSteps};
+ghost use Rattle.page_tasks.specs.PageGroundGround.{ground_of};
+ghost use Rattle.page_driver.specs.Driven.{InProgress, IsStarting, MovesOn, ComesTo};
+ghost use Rattle.page_driver.specs.Moving.{Sinks, SinksToQuestion, IsQuestionIf, TakesSteps};
 
-use lua_store::Store;
-use page_ground::context::Context;
-use page_replies::asking::answer_question;
-use page_replies::handing::hand_over;
-use page_replies::stacking::invoke;
-use page_replies::tower::{Next, Tower};
+use crate::asking::answer_question;
+use crate::handing::hand_over;
+use crate::stacking::invoke;
+use crate::tower::{Next, Tower};
+use lua_code::NoMemory;
 use page_tasks::going::go_on;
 use page_tasks::task::{Halt, Halted, Reply, Task};
+use page_tasks::{Context, Left, Steps, Store};
 use std::sync::ledger::Ledger;
-use wk_base::{Left, NoMemory, Steps};
 
 /// A page moves on, from a task that has halted to the next that halts.
 pub fn move_on<'w, L: Ledger>(

@@ -1,35 +1,32 @@
 //! One invocation by itself.
 ghost use Rattle.std.specs.Prelude.{◌≡◌, ◌+◌, ◌≤◌, [], IfOk, OnOk};
-ghost use Rattle.wk_base.specs.Allowances.{IsCountable};
+ghost use Rattle.mw_frame.specs.WkBaseAllowances.{IsCountable};
 ghost use Rattle.mw_frame.specs.Scenes.{HaveNames};
-ghost use Rattle.lua_meaning.specs.World.{Modules as PlainModules};
-ghost use Rattle.lua_meaning.specs.Start.{Invoke};
-ghost use Rattle.lua_store.specs.Parts.{nothing};
-ghost use Rattle.page_ground.specs.Ground.{AreModulesIn, AreModulesOf, ground_of, page_of, wiki_in, wiki_of};
-ghost use Rattle.page_ground.specs.Numbered.{none_started};
+ghost use Rattle.lua_code.specs.LuaMeaningWorld.{Modules as PlainModules};
+ghost use Rattle.page_meaning.specs.LuaMeaningStart.{Invoke};
+ghost use Rattle.page_tasks.specs.LuaStoreParts.{nothing};
+ghost use Rattle.page_tasks.specs.PageGroundGround.{AreModulesIn, AreModulesOf, ground_of, page_of, wiki_in, wiki_of};
+ghost use Rattle.page_tasks.specs.PageGroundNumbered.{none_started};
 ghost use Rattle.page_meaning.specs.Tasks.{Running};
 ghost use Rattle.page_tasks.specs.Seen.{outcome_of};
-ghost use Rattle.page_replies.specs.Driven.{Fits, Expanded};
+ghost use Rattle.page_driver.specs.Driven.{Fits, Expanded};
 ghost use Rattle.page_driver.specs.Page.{full_of};
 ghost use Rattle.page_driver.specs.Job.{IsJob, IsEndOf};
 
 use crate::begin::{empty_tower, full_left};
 use crate::driving::drive;
+use crate::tower::Tower;
 use crate::wiki::Wiki;
 use bumpalo::Bump;
-use lua_state::World;
-use lua_store::Store;
-use mw_frame::Job;
-use page_ground::context::Context;
-use page_ground::numbers::Numbers;
+use lua_code::NoMemory;
+use mw_frame::{Bytes, Job, Limits, Title};
 use page_meaning::JobOutcome;
-use page_replies::tower::Tower;
 use page_tasks::beginning::begin_invocation;
 use page_tasks::task::Reply;
+use page_tasks::{Context, Left, Numbers, Steps, Store, World};
 use std::alloc::Global;
 use std::hash::RandomState;
 use std::sync::ledger::Ledger;
-use wk_base::{Bytes, Left, Limits, NoMemory, Steps, Title};
 
 /// How an invocation by itself ended, and what is left of its allowances.
 #[derive(Drop)]

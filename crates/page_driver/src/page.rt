@@ -1,15 +1,15 @@
 //! The expansion of a page.
 ghost use Rattle.std.specs.Prelude.{◌≡◌, ◌+◌, ◌≤◌, [], IsSome, IfSome, IfOk, OnOk};
-ghost use Rattle.wk_base.specs.Allowances.{IsCountable};
-ghost use Rattle.wiki_expand.specs.Pages.{find_page, direct_in};
-ghost use Rattle.lua_meaning.specs.World.{Modules as PlainModules};
-ghost use Rattle.expand_meaning.specs.Outcome.{Reading, page_scene};
-ghost use Rattle.lua_store.specs.Seen.{StoreView};
-ghost use Rattle.lua_store.specs.Parts.{nothing};
+ghost use Rattle.mw_frame.specs.WkBaseAllowances.{IsCountable};
+ghost use Rattle.page_tasks.specs.WikiExpandPages.{find_page, direct_in};
+ghost use Rattle.lua_code.specs.LuaMeaningWorld.{Modules as PlainModules};
+ghost use Rattle.page_meaning.specs.ExpandMeaningOutcome.{Reading, page_scene};
+ghost use Rattle.page_tasks.specs.LuaStoreSeen.{StoreView};
+ghost use Rattle.page_tasks.specs.LuaStoreParts.{nothing};
 ghost use Rattle.page_meaning.specs.Tasks.{Expanding, given_text};
 ghost use Rattle.page_driver.specs.declared.wiki.Page.{Page as PageValue};
 ghost use Rattle.page_tasks.specs.Beginning.{Begins};
-ghost use Rattle.page_ground.specs.Ground.{AreModulesIn, AreModulesOf, ground_of, page_of, wiki_in, wiki_of};
+ghost use Rattle.page_tasks.specs.PageGroundGround.{AreModulesIn, AreModulesOf, ground_of, page_of, wiki_in, wiki_of};
 ghost use Rattle.page_tasks.specs.Seen.{reply_seen};
 ghost use Rattle.page_driver.specs.Page.{full_of, IsHeldPage};
 
@@ -17,17 +17,14 @@ use crate::begin::{empty_tower, full_left};
 use crate::driving::drive;
 use crate::wiki::{Page, Wiki};
 use bumpalo::Bump;
-use lua_state::World;
-use lua_store::Store;
-use page_ground::context::Context;
-use page_ground::ending::outcome_text;
-use page_ground::numbers::Numbers;
+use lua_code::NoMemory;
+use mw_frame::{Bytes, Limits, Title};
 use page_tasks::beginning::begin_page;
 use page_tasks::task::{Reply, Task};
+use page_tasks::{Context, Left, Numbers, Steps, Store, World, outcome_text};
 use std::alloc::Global;
 use std::hash::RandomState;
 use std::sync::ledger::Ledger;
-use wk_base::{Bytes, Left, Limits, NoMemory, Steps, Title};
 
 /// No bytes.
 fn no_text(alloc: Global) -> Bytes

@@ -1,7 +1,7 @@
 //! A wiki, and a page of it that was expanded.
 use lua_code::Modules;
-use wiki_expand::PageMap;
-use wk_base::{Bytes, Left, Title};
+use mw_frame::{Bytes, Title};
+use page_tasks::{Left, PageMap};
 
 /// The pages and the modules of a wiki, by title.
 #[derive(Drop)]

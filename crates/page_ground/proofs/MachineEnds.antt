@@ -3,20 +3,20 @@ use Rattle.std.proofs.Common.{◌≡◌, ℕ, List, [], ◌∷◌, None, length,
 use Rattle.std.specs.Prelude.{codes, IfSome}
 use Rattle.page_run.specs.declared.which.Which.TheVariants.{Steps, Calls}
 use Rattle.page_run.specs.Outcome.{Goes, Jumps}
-use Rattle.lua_heap.specs.Proc.{Proc}
-use Rattle.lua_heap.specs.Heap.{Heap}
-use Rattle.lua_walk.specs.Data.{taken}
-use Rattle.lua_meaning.specs.Start.{Failed, end_of}
-use Rattle.lua_store.specs.declared.value.Value.{Value}
-use Rattle.lua_store.specs.declared.value.Value.TheVariants as own
-use Rattle.lua_store.specs.Seen.{StoreView, seen}
-use Rattle.lua_store.specs.Parts.{IsOf, IsTextOf}
-use Rattle.lua_stack.specs.declared.focus.Jump.{Jump}
-use Rattle.lua_stack.specs.declared.focus.Jump.TheVariants as jump
-use Rattle.lua_stack.specs.Lists.{first_stored}
-use Rattle.lua_stack.specs.Of.{ValuesOf, JumpOf}
-use Rattle.lua_stack.specs.Seen.{values_seen, jump_seen}
-use Rattle.expand_meaning.specs.Texts.{escape_byte, error_text}
+use Rattle.lua_code.specs.LuaHeapProc.{Proc}
+use Rattle.lua_code.specs.LuaHeapHeap.{Heap}
+use Rattle.lua_graph.specs.LuaWalkData.{taken}
+use Rattle.page_meaning.specs.LuaMeaningStart.{Failed, end_of}
+use Rattle.lua_graph.specs.LuaStoreDeclaredValueValue.{Value}
+use Rattle.lua_graph.specs.LuaStoreDeclaredValueValueTheVariants as own
+use Rattle.lua_graph.specs.LuaStoreSeen.{StoreView, seen}
+use Rattle.lua_graph.specs.LuaStoreParts.{IsOf, IsTextOf}
+use Rattle.lua_state.specs.LuaStackDeclaredFocusJump.{Jump}
+use Rattle.lua_state.specs.LuaStackDeclaredFocusJumpTheVariants as jump
+use Rattle.lua_state.specs.LuaStackLists.{first_stored}
+use Rattle.lua_state.specs.LuaStackOf.{ValuesOf, JumpOf}
+use Rattle.lua_state.specs.LuaStackSeen.{values_seen, jump_seen}
+use Rattle.expand_texts.specs.ExpandMeaningTexts.{escape_byte, error_text}
 use Rattle.page_meaning.specs.declared.outcome.JobOutcome.TheVariants as ending
 use Rattle.page_meaning.specs.Told.{spent_text, graph_answer}
 use Rattle.page_meaning.specs.Outcomes.{end_outcome}

@@ -2,9 +2,9 @@
 use Rattle.std.proofs.Common.{◌≡◌, ◌⊎◌, inl, inr, ℕ, zero, suc, ◌+◌, ◌-◌, ◌<◌, ◌≤◌, List, [], ◌∷◌, ◌++◌, length, drop, Some, None, refl, sym, ap, ◌∙◌, subst, arith, slice_get}
 use Rattle.std.specs.Prelude.{replicate}
 use Rattle.std.specs.List.{AllByRecursion}
-use Rattle.lua_store.specs.Seen.{StoreView}
-use Rattle.lua_store.specs.Parts.{IsLater}
-use Rattle.lua_store.proofs.Lists.{all-to}
+use Rattle.lua_graph.specs.LuaStoreSeen.{StoreView}
+use Rattle.lua_graph.specs.LuaStoreParts.{IsLater}
+use Rattle.lua_graph.proofs.LuaStoreLists.{all-to}
 use Rattle.page_ground.specs.declared.numbers.Numbers.{Numbers}
 use Rattle.page_ground.specs.Numbered.{at_work, none_started, after_start, after_end, IsNumber, IsNumbered, Renumbers}
 

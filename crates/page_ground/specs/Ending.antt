@@ -1,11 +1,11 @@
 -- TEXTS AMONG WHAT A RUN OF LUA GAVE, by their names in the store.
 use Rattle.std.specs.Prelude.{ℕ, List, [], ◌∷◌, Option, Some, None}
-use Rattle.lua_store.specs.declared.ids.TextId.{TextId}
-use Rattle.lua_store.specs.declared.value.Value.{Value}
-use Rattle.lua_store.specs.declared.value.Value.TheVariants as own
-use Rattle.lua_store.specs.Seen.{text_at}
-use Rattle.lua_stack.specs.declared.focus.Jump.{Jump}
-use Rattle.lua_stack.specs.declared.focus.Jump.TheVariants as jump
+use Rattle.lua_graph.specs.LuaStoreDeclaredIdsTextId.{TextId}
+use Rattle.lua_graph.specs.LuaStoreDeclaredValueValue.{Value}
+use Rattle.lua_graph.specs.LuaStoreDeclaredValueValueTheVariants as own
+use Rattle.lua_graph.specs.LuaStoreSeen.{text_at}
+use Rattle.lua_state.specs.LuaStackDeclaredFocusJump.{Jump}
+use Rattle.lua_state.specs.LuaStackDeclaredFocusJumpTheVariants as jump
 
 abbrev pub text_in_value : Value → Option TextId
 text_in_value (own.Text id) = Some id

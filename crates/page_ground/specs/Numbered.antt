@@ -1,7 +1,7 @@
 -- THE NUMBERS OF THE RUNS of a page, which are counted from 0 in the order in which they start.
 use Rattle.std.specs.Prelude.{◌≡◌, ◌⊎◌, ◌+◌, ◌<◌, ℕ, List, [], ◌∷◌, drop}
 use Rattle.std.specs.List.{AllByRecursion}
-use Rattle.lua_store.specs.Seen.{StoreView}
+use Rattle.lua_graph.specs.LuaStoreSeen.{StoreView}
 use Rattle.page_ground.specs.declared.numbers.Numbers.{Numbers}
 
 -- the number of the innermost run in progress; 0, where there is none

@@ -1,5 +1,5 @@
 -- WHAT A LOAD OF DATA GAVE, as the meaning has it.
-use Rattle.lua_meaning.specs.Questions.{Answer, Loaded, LoadFailed}
+use Rattle.page_meaning.specs.LuaMeaningQuestions.{Answer, Loaded, LoadFailed}
 use Rattle.lua_graph.specs.Plain.{plain_graph}
 use Rattle.lua_graph.specs.Put.{IsMade}
 use Rattle.page_ground.specs.declared.data.Data.{Data}

@@ -1,6 +1,6 @@
 //! What the load of a data module gave.
 use lua_graph::Graph;
-use wk_base::Bytes;
+use mw_frame::Bytes;
 
 /// What the load of a data module gave: its tables, or why there are none.
 #[derive(Drop)]

@@ -1,13 +1,13 @@
 //! What is read off a run of Lua that is over: how an invocation ended, the data of a load; and the text that stands for such an end on a page.
 ghost use Rattle.std.specs.Prelude.{◌≡◌, IfOk, IfSome};
-ghost use Rattle.lua_heap.specs.Graph.{Graph as PlainGraph};
-ghost use Rattle.lua_walk.specs.Data.{Checked, taken};
-ghost use Rattle.lua_meaning.specs.Questions.{LoadFailed};
-ghost use Rattle.lua_meaning.specs.Start.{end_of};
-ghost use Rattle.lua_store.specs.Seen.{seen};
-ghost use Rattle.lua_store.specs.Parts.{IsOf, IsTextOf};
+ghost use Rattle.lua_graph.specs.LuaHeapGraph.{Graph as PlainGraph};
+ghost use Rattle.lua_graph.specs.LuaWalkData.{Checked, taken};
+ghost use Rattle.page_meaning.specs.LuaMeaningQuestions.{LoadFailed};
+ghost use Rattle.page_meaning.specs.LuaMeaningStart.{end_of};
+ghost use Rattle.lua_graph.specs.LuaStoreSeen.{seen};
+ghost use Rattle.lua_graph.specs.LuaStoreParts.{IsOf, IsTextOf};
 ghost use Rattle.lua_graph.specs.Taken.{IsFault};
-ghost use Rattle.lua_stack.specs.Lists.{given_values};
+ghost use Rattle.lua_state.specs.LuaStackLists.{given_values};
 ghost use Rattle.lua_state.specs.Of.{OutcomeOf};
 ghost use Rattle.lua_state.specs.Seen.{outcome_seen};
 ghost use Rattle.page_meaning.specs.Told.{spent_text, graph_answer};
@@ -18,14 +18,13 @@ ghost use Rattle.page_ground.specs.Ending.{text_in_value, only_text_in, raised_t
 
 use crate::data::Data;
 use expand_texts::texts::joined;
-use lua_graph::{DataFault, take_out};
-use lua_stack::{Given, Jump, Values};
-use lua_state::Outcome;
-use lua_store::{Store, TextId, Value};
+use lua_graph::{DataFault, Store, TextId, Value, take_out};
+use lua_state::{Given, Jump, Outcome, Values};
+use mw_frame::Bytes;
 use page_meaning::JobOutcome;
 use page_run::Which;
 use std::alloc::Global;
-use wk_base::{Bytes, NoMemory};
+use wiki_markup::NoMemory;
 
 /// The text that a value is.
 fn text_in(value: Value) -> Option<TextId>

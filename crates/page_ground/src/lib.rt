@@ -19,3 +19,7 @@ pub mod held_modules;
 pub mod keep;
 pub mod numbers;
 pub mod scenes;
+
+pub use lua_graph::put_in;
+pub use lua_state::Stack;
+pub use page_meaning::JobOutcome;

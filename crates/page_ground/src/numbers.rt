@@ -2,10 +2,10 @@
 ghost use Rattle.std.specs.Prelude.{◌≡◌, drop, OnOk};
 ghost use Rattle.page_ground.specs.Numbered.{at_work, none_started, after_start, after_end};
 
-use lua_stack::Stack;
-use lua_store::Store;
+use lua_graph::Store;
+use lua_state::Stack;
 use std::alloc::Global;
-use wk_base::NoMemory;
+use wiki_markup::NoMemory;
 
 /// The runs of a page, invocations and loads of data, are numbered from 0 in the order in which they start. Each closure that a run makes has its
 /// number: the innermost run in progress is the one at work in the store.

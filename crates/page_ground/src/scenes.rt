@@ -1,17 +1,16 @@
 //! Texts and scenes from which expansions begin.
 ghost use Rattle.std.specs.Prelude.{◌≡◌, [], ◌∷◌, ◌++◌, None, IfOk, OnOk};
 ghost use Rattle.mw_frame.specs.Scenes.{NamesDiffer};
-ghost use Rattle.expand_meaning.specs.Places.{trees_at};
-ghost use Rattle.expand_meaning.specs.Expand.{found};
-ghost use Rattle.expand_meaning.specs.Outcome.{page_scene};
+ghost use Rattle.wiki_expand.specs.ExpandMeaningPlaces.{trees_at};
+ghost use Rattle.wiki_expand.specs.ExpandMeaningExpand.{found};
+ghost use Rattle.wiki_expand.specs.ExpandMeaningOutcome.{page_scene};
 ghost use Rattle.page_meaning.specs.Wiki.{read};
 
 use crate::context::Context;
 use expand_texts::arguments::Arguments;
-use mw_frame::{Arg, Scene};
+use mw_frame::{Arg, Bytes, List, Scene, Title};
 use std::alloc::Global;
-use wiki_markup::{Marked, Mode, markup, shown};
-use wk_base::{Bytes, List, NoMemory, Title};
+use wiki_markup::{Marked, Mode, NoMemory, markup, shown};
 
 /// One more argument, whose name is not among those before. No question of a machine has two arguments of one name, but no clause of a
 /// machine says so: where one had, the answer would be that memory was wanting.

@@ -6,17 +6,17 @@ use Rattle.wk_base.specs.Titles.{title_text}
 use Rattle.page_run.specs.Run.{Ends, Takes, Counts, Notes, Sees, Changes, Calls, Leaves, Uses, Begins, Opens, Asks}
 use Rattle.page_run.specs.State.{Response, Gives, Exhausts, Reply, Replier, State as Middle, start}
 use Rattle.page_run.specs.Perform.{less, with_steps, enter_call, with_call, give_back, leave_call, count_node, take_reply, after_response, with_computed, with_reply, nothing_begins, perform_with, perform_by, perform, to_come}
-use Rattle.mw_frame.specs.declared.question.Ask.{Ask}
-use Rattle.lua_meaning.specs.Questions.{Answer}
-use Rattle.lua_meaning.specs.Charges.{run_charge}
-use Rattle.lua_meaning.specs.Values.{first}
-use Rattle.lua_meaning.specs.World.{Module, World}
-use Rattle.lua_meaning.specs.Acts.{LuaRun, State}
-use Rattle.lua_meaning.specs.Messages.{no_data_module}
-use Rattle.lua_meaning.specs.Things.{meaning_of}
-use Rattle.lua_meaning.specs.Start as whole
-use Rattle.lua_meaning.specs.Start.{DataOf, run_of, data_outcome}
-use Rattle.lua_meaning.specs.Home.{home}
+use Rattle.lua_meaning_laws.specs.MwFrameDeclaredQuestionAsk.{Ask}
+use Rattle.lua_meaning_laws.specs.LuaMeaningQuestions.{Answer}
+use Rattle.lua_meaning_laws.specs.LuaMeaningCharges.{run_charge}
+use Rattle.lua_meaning_laws.specs.LuaMeaningValues.{first}
+use Rattle.lua_meaning_laws.specs.LuaMeaningWorld.{Module, World}
+use Rattle.lua_meaning_laws.specs.LuaMeaningActs.{LuaRun, State}
+use Rattle.lua_meaning_laws.specs.LuaMeaningMessages.{no_data_module}
+use Rattle.lua_meaning_laws.specs.LuaMeaningThings.{meaning_of}
+use Rattle.lua_meaning_laws.specs.LuaMeaningStart as whole
+use Rattle.lua_meaning_laws.specs.LuaMeaningStart.{DataOf, run_of, data_outcome}
+use Rattle.lua_meaning_laws.specs.LuaMeaningHome.{home}
 use Rattle.lua_meaning_laws.specs.Laws.{IsForData}
 use Rattle.lua_meaning_laws.proofs.OnlyData.{OnlyData, Quiet, ◌>>=◌, ◌>>◌, give, tick}
 use Rattle.lua_meaning_laws.proofs.Heaps.{fail}

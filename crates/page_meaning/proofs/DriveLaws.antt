@@ -2,25 +2,25 @@
 use Rattle.std.proofs.Common.{◌≡◌, ℕ, zero, suc, ◌<◌, ◌≤◌, List, [], Option, Some, None, refl, sym, ap, ◌∙◌, subst, arith}
 use Rattle.wk_base.specs.declared.left.Left.{Left}
 use Rattle.wk_base.specs.declared.title.Title.{Title}
-use Rattle.mw_frame.specs.declared.scene.Arg.{Arg}
-use Rattle.mw_frame.specs.declared.scene.Scene.{Scene}
-use Rattle.mw_frame.specs.declared.question.Ask.{Ask}
-use Rattle.mw_frame.specs.declared.question.Ask.TheVariants.{Template, Preprocess, Data}
+use Rattle.expand_meaning.specs.MwFrameDeclaredSceneArg.{Arg}
+use Rattle.expand_meaning.specs.MwFrameDeclaredSceneScene.{Scene}
+use Rattle.lua_meaning_laws.specs.MwFrameDeclaredQuestionAsk.{Ask}
+use Rattle.lua_meaning_laws.specs.MwFrameDeclaredQuestionAskTheVariants.{Template, Preprocess, Data}
 use Rattle.page_run.specs.Run.{Takes}
 use Rattle.page_run.specs.State.{Replier, moment_of, start}
 use Rattle.page_run.specs.Perform.{size, to_come, perform, NoRise}
 use Rattle.page_run.proofs.Enough.{after_steps_agree, perform_agree, perform-Takes}
 use Rattle.page_run.proofs.ChargeLaws.{nothing_rises}
-use Rattle.wiki_markup.specs.Trees.{Trees}
+use Rattle.expand_meaning.specs.WikiMarkupTrees.{Trees}
 use Rattle.expand_meaning.specs.Expand.{thing_text}
 use Rattle.expand_meaning.specs.Outcome.{Work as PageWork, Reading, Including, expansion}
-use Rattle.lua_meaning.specs.World.{Module}
-use Rattle.lua_meaning.specs.Charges.{run_charge}
-use Rattle.lua_meaning.specs.Questions.{Answer}
-use Rattle.lua_meaning.specs.Acts.{LuaRun}
-use Rattle.lua_meaning.specs.Things.{meaning_of}
-use Rattle.lua_meaning.specs.Home.{home}
-use Rattle.lua_meaning.specs.Start.{Work, Invoke, DataOf, run_of}
+use Rattle.lua_meaning_laws.specs.LuaMeaningWorld.{Module}
+use Rattle.lua_meaning_laws.specs.LuaMeaningCharges.{run_charge}
+use Rattle.lua_meaning_laws.specs.LuaMeaningQuestions.{Answer}
+use Rattle.lua_meaning_laws.specs.LuaMeaningActs.{LuaRun}
+use Rattle.lua_meaning_laws.specs.LuaMeaningThings.{meaning_of}
+use Rattle.lua_meaning_laws.specs.LuaMeaningHome.{home}
+use Rattle.lua_meaning_laws.specs.LuaMeaningStart.{Work, Invoke, DataOf, run_of}
 use Rattle.page_meaning.specs.Wiki.{Wiki, setting, world, read}
 use Rattle.page_meaning.specs.Told.{invoked, loaded, expanded}
 use Rattle.page_meaning.specs.Drive.{Runs, invocation_reply, expansion_reply, template_reply, data_reply, reply, replies, one_run, drive_by, drive}

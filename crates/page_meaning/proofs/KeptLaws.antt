@@ -9,15 +9,15 @@ use Rattle.page_run.specs.State.{NoLoads, Load, moment_of, no_tally, Response, G
 use Rattle.page_run.specs.Perform.{size, perform, NoRise}
 use Rattle.page_run.specs.Charges.{ReplyFits, RepliesFit, Fits}
 use Rattle.page_run.proofs.FitLaws.{end_fits}
-use Rattle.mw_frame.specs.declared.question.Ask.{Ask}
-use Rattle.mw_frame.specs.declared.question.Ask.TheVariants.{Template, Preprocess, Data}
-use Rattle.lua_heap.specs.Value.{Value}
-use Rattle.lua_meaning.specs.World.{Module}
-use Rattle.lua_meaning.specs.Questions.{Answer}
-use Rattle.lua_meaning.specs.Acts.{Jump, State}
-use Rattle.lua_meaning.specs.Things.{meaning_of}
-use Rattle.lua_meaning.specs.Home.{home}
-use Rattle.lua_meaning.specs.Start.{DataOf, run_of, end_of}
+use Rattle.lua_meaning_laws.specs.MwFrameDeclaredQuestionAsk.{Ask}
+use Rattle.lua_meaning_laws.specs.MwFrameDeclaredQuestionAskTheVariants.{Template, Preprocess, Data}
+use Rattle.lua_meaning_laws.specs.LuaHeapValue.{Value}
+use Rattle.lua_meaning_laws.specs.LuaMeaningWorld.{Module}
+use Rattle.lua_meaning_laws.specs.LuaMeaningQuestions.{Answer}
+use Rattle.lua_meaning_laws.specs.LuaMeaningActs.{Jump, State}
+use Rattle.lua_meaning_laws.specs.LuaMeaningThings.{meaning_of}
+use Rattle.lua_meaning_laws.specs.LuaMeaningHome.{home}
+use Rattle.lua_meaning_laws.specs.LuaMeaningStart.{DataOf, run_of, end_of}
 use Rattle.lua_meaning_laws.specs.Laws.{IsForData}
 use Rattle.page_meaning.specs.Wiki.{Wiki, world}
 use Rattle.page_meaning.specs.Told.{Seen, data_answer, completes, as_loaded, loaded}

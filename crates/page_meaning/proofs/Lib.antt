@@ -1,3 +1,5 @@
+pub use Rattle.lua_meaning_laws.proofs.Runs as LuaMeaningLawsRuns
+pub use Rattle.page_run.proofs.LoadLaws as PageRunLoadLaws
 pub mod DriveLaws
 pub mod Texts
 pub mod OverLaws

@@ -1,7 +1,7 @@
 -- The outcome of an invocation is told as its text.
 use Rattle.std.proofs.Common.{◌≡◌, refl, ap}
 use Rattle.page_run.specs.State.{Gives, Ended, Spent, Asked}
-use Rattle.lua_meaning.specs.Start.{End, Done, DoneData, Failed, end_of}
+use Rattle.lua_meaning_laws.specs.LuaMeaningStart.{End, Done, DoneData, Failed, end_of}
 use Rattle.page_meaning.specs.Told.{end_text}
 use Rattle.page_meaning.specs.Outcomes.{end_outcome, outcome_text, OutcomesAreTold}
 

@@ -2,22 +2,22 @@
 use Rattle.std.proofs.Common.{◌≡◌, ℕ, zero, suc, ◌+◌, List, [], ◌∷◌, Option, Some, None, refl, sym, ◌∙◌, subst, arith}
 use Rattle.wk_base.specs.declared.left.Left.{Left}
 use Rattle.wk_base.specs.declared.title.Title.{Title}
-use Rattle.mw_frame.specs.declared.scene.Arg.{Arg}
-use Rattle.mw_frame.specs.declared.scene.Scene.{Scene}
-use Rattle.mw_frame.specs.declared.question.Ask.{Ask}
-use Rattle.mw_frame.specs.declared.question.Ask.TheVariants.{Template, Preprocess, Data}
+use Rattle.expand_meaning.specs.MwFrameDeclaredSceneArg.{Arg}
+use Rattle.expand_meaning.specs.MwFrameDeclaredSceneScene.{Scene}
+use Rattle.lua_meaning_laws.specs.MwFrameDeclaredQuestionAsk.{Ask}
+use Rattle.lua_meaning_laws.specs.MwFrameDeclaredQuestionAskTheVariants.{Template, Preprocess, Data}
 use Rattle.page_run.specs.Run.{Run, Ends, Takes, Counts, Notes, Sees, Changes, Calls, Leaves, Uses, Begins, Opens, Asks, Meaning}
 use Rattle.page_run.specs.State.{Response, Gives, Exhausts, Reply, Replier, State, start, Event, Ended, Spent, Asked, moment_of}
 use Rattle.page_run.specs.Perform.{less, apply_use, after_use, with_steps, enter_call, with_call, leave_call, count_node, with_node, take_reply, after_response, with_computed, with_reply, nothing_begins, perform_with, perform_by, perform, size, to_come}
 use Rattle.page_run.specs.Charges.{KeepsCalls, GivenBack}
 use Rattle.page_run.proofs.ChargeLaws.{calls_come_back}
-use Rattle.wiki_markup.specs.Trees.{Trees}
+use Rattle.expand_meaning.specs.WikiMarkupTrees.{Trees}
 use Rattle.expand_meaning.specs.Expand.{thing_text}
 use Rattle.expand_meaning.specs.Outcome.{Work as PageWork, Reading, Including, expansion}
-use Rattle.lua_meaning.specs.World.{Module}
-use Rattle.lua_meaning.specs.Things.{meaning_of}
-use Rattle.lua_meaning.specs.Home.{home}
-use Rattle.lua_meaning.specs.Start.{Work, Invoke, DataOf, run_of}
+use Rattle.lua_meaning_laws.specs.LuaMeaningWorld.{Module}
+use Rattle.lua_meaning_laws.specs.LuaMeaningThings.{meaning_of}
+use Rattle.lua_meaning_laws.specs.LuaMeaningHome.{home}
+use Rattle.lua_meaning_laws.specs.LuaMeaningStart.{Work, Invoke, DataOf, run_of}
 use Rattle.page_meaning.specs.Wiki.{Wiki, setting, world, read}
 use Rattle.page_meaning.specs.Told.{Seen, invocation_response, invoked}
 use Rattle.page_meaning.specs.Drive.{Runs, invocation_reply, expansion_reply, template_reply, data_reply, reply, replies, one_run, drive_by, drive}

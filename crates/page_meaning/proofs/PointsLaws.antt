@@ -7,9 +7,9 @@ use Rattle.page_run.specs.Perform.{perform, wait, NoRise}
 use Rattle.page_run.proofs.ReplyLaws.{end_stands, spent_stands, computed_is_given, add_no_replies}
 use Rattle.expand_meaning.specs.Expand.{thing_text}
 use Rattle.expand_meaning.specs.Outcome.{expansion, next_event}
-use Rattle.lua_meaning.specs.Things.{meaning_of}
-use Rattle.lua_meaning.specs.Home.{home}
-use Rattle.lua_meaning.specs.Start.{Invoke, run_of}
+use Rattle.lua_meaning_laws.specs.LuaMeaningThings.{meaning_of}
+use Rattle.lua_meaning_laws.specs.LuaMeaningHome.{home}
+use Rattle.lua_meaning_laws.specs.LuaMeaningStart.{Invoke, run_of}
 use Rattle.page_meaning.specs.Wiki.{setting, world}
 use Rattle.page_meaning.specs.Told.{invoked}
 use Rattle.page_meaning.specs.Drive.{invocation_reply, reply, replies, drive}

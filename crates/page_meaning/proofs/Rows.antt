@@ -4,14 +4,14 @@ use Rattle.std.specs.Str.{is_utf8, chars}
 use Rattle.std.specs.Fmt.{digits}
 use lib.Utf8.{encode}
 use Rattle.wk_base.specs.Titles.{prefix_of, title_text, prefixed_namespaces, namespace_named, title_of}
-use Rattle.wiki_markup.specs.Shown.{behind as behind_word, past, behind_next, before_next, opening, closing, self_closing, comment, more_comments, comment_line, attributes, after_name, literal_tag, literal, tag, element, include_tags, self_closing_include, at_place, pieces, parts, has_parts, pieces_of, shown_bytes, kept_spans, cut_places, shown_of}
-use Rattle.wiki_markup.specs.Items.{some_of, letters_from, run, items_from}
-use Rattle.wiki_markup.specs.Pairing.{onto, nearest, as_text, rewrite_from, closing_marks, rewrite_times}
-use Rattle.wiki_markup.specs.Trees.{bytes, trees_of}
+use Rattle.expand_meaning.specs.WikiMarkupShown.{behind as behind_word, past, behind_next, before_next, opening, closing, self_closing, comment, more_comments, comment_line, attributes, after_name, literal_tag, literal, tag, element, include_tags, self_closing_include, at_place, pieces, parts, has_parts, pieces_of, shown_bytes, kept_spans, cut_places, shown_of}
+use Rattle.expand_meaning.specs.WikiMarkupItems.{some_of, letters_from, run, items_from}
+use Rattle.expand_meaning.specs.WikiMarkupPairing.{onto, nearest, as_text, rewrite_from, closing_marks, rewrite_times}
+use Rattle.expand_meaning.specs.WikiMarkupTrees.{bytes, trees_of}
 use Rattle.page_run.specs.Perform.{perform}
 use Rattle.expand_meaning.specs.Texts.{node_text, size_text, depth_text, loop_text, missing_text, escape_byte, error_text, no_function_text, no_module_text, number_of, are_equal}
 use Rattle.expand_meaning.specs.Kind.{behind, title_named, word_of, function_or_title, kind_of}
-use Rattle.lua_number.specs.Numerals.{decimal_of, numeral_of, trimmed, digits_of_base, read_number_of, read_in_base_of}
+use Rattle.lua_meaning_laws.specs.LuaNumberNumerals.{decimal_of, numeral_of, trimmed, digits_of_base, read_number_of, read_in_base_of}
 use Rattle.page_meaning.specs.Drive.{drive}
 use Rattle.page_meaning.specs.Examples.{GlobalsAreFresh, FailuresAreShown, GivenStands, SpentPagesGoOn, TextsAreExpanded, TemplatesAreExpanded, LoadsAreKept, ShortLoadsAreFresh, InnerLoadsAreKept, LoadsFail, TwiceIsTwice}
 

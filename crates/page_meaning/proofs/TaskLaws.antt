@@ -7,19 +7,19 @@ use Rattle.wk_base.specs.declared.title.Title.{Title}
 use Rattle.page_run.specs.State.{NoLoads, join_loads, Response, Gives, Exhausts, Reply, Ended, Spent, Asked, start}
 use Rattle.page_run.specs.Walk.{tally_of}
 use Rattle.page_run.proofs.LoadLaws.{tells_none, tells_reply}
-use Rattle.mw_frame.specs.declared.scene.Arg.{Arg}
-use Rattle.mw_frame.specs.declared.scene.Scene.{Scene}
-use Rattle.mw_frame.specs.declared.scene.Job.{Job}
-use Rattle.mw_frame.specs.declared.question.Ask.{Ask}
-use Rattle.mw_frame.specs.declared.question.Ask.TheVariants.{Template, Preprocess, Data}
-use Rattle.wiki_markup.specs.Trees.{Trees}
+use Rattle.expand_meaning.specs.MwFrameDeclaredSceneArg.{Arg}
+use Rattle.expand_meaning.specs.MwFrameDeclaredSceneScene.{Scene}
+use Rattle.expand_meaning.specs.MwFrameDeclaredSceneJob.{Job}
+use Rattle.lua_meaning_laws.specs.MwFrameDeclaredQuestionAsk.{Ask}
+use Rattle.lua_meaning_laws.specs.MwFrameDeclaredQuestionAskTheVariants.{Template, Preprocess, Data}
+use Rattle.expand_meaning.specs.WikiMarkupTrees.{Trees}
 use Rattle.expand_meaning.specs.Expand.{thing_text}
 use Rattle.expand_meaning.specs.Outcome.{Work as PageWork, expansion, next_event}
-use Rattle.lua_meaning.specs.World.{Module}
-use Rattle.lua_meaning.specs.Questions.{Answer}
-use Rattle.lua_meaning.specs.Things.{meaning_of}
-use Rattle.lua_meaning.specs.Home.{home}
-use Rattle.lua_meaning.specs.Start.{Work, Invoke, DataOf, run_of, lua}
+use Rattle.lua_meaning_laws.specs.LuaMeaningWorld.{Module}
+use Rattle.lua_meaning_laws.specs.LuaMeaningQuestions.{Answer}
+use Rattle.lua_meaning_laws.specs.LuaMeaningThings.{meaning_of}
+use Rattle.lua_meaning_laws.specs.LuaMeaningHome.{home}
+use Rattle.lua_meaning_laws.specs.LuaMeaningStart.{Work, Invoke, DataOf, run_of, lua}
 use Rattle.page_meaning.specs.Wiki.{Wiki, setting, world}
 use Rattle.page_meaning.specs.Told.{Seen, PageSeen, invoked, loaded, expanded}
 use Rattle.page_meaning.specs.Drive.{template_reply, data_reply, reply, drive}

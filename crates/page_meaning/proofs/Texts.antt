@@ -6,11 +6,11 @@ use Rattle.wk_base.specs.Space.{trim}
 use Rattle.wk_base.specs.declared.left.Left.{Left}
 use Rattle.wk_base.specs.declared.title.Title.{Title}
 use Rattle.wk_base.specs.declared.title.Namespace.TheVariants.{Module}
-use Rattle.wiki_markup.specs.Nodes.{NodeKind, Text, Construct, Parameter, Part, Equals}
-use Rattle.wiki_markup.specs.Trees.{Trees, done, text, equals, node}
-use Rattle.mw_frame.specs.declared.scene.Arg.{Arg}
-use Rattle.mw_frame.specs.declared.scene.Scene.{Scene}
-use Rattle.mw_frame.specs.declared.scene.Job.{Job}
+use Rattle.expand_meaning.specs.WikiMarkupNodes.{NodeKind, Text, Construct, Parameter, Part, Equals}
+use Rattle.expand_meaning.specs.WikiMarkupTrees.{Trees, done, text, equals, node}
+use Rattle.expand_meaning.specs.MwFrameDeclaredSceneArg.{Arg}
+use Rattle.expand_meaning.specs.MwFrameDeclaredSceneScene.{Scene}
+use Rattle.expand_meaning.specs.MwFrameDeclaredSceneJob.{Job}
 use Rattle.page_run.specs.Run.{Use, Ends, Takes, Counts, Notes, Sees, Changes, Calls, Leaves, Uses, Begins, Opens, Asks}
 use Rattle.page_run.specs.Part as part
 use Rattle.page_run.specs.State.{Gives, Reply, Replier, State, start, Event}

@@ -7,10 +7,10 @@ use Rattle.page_run.specs.declared.which.Which.{Which}
 use Rattle.page_run.specs.State.{Loads, NoLoads, Load, Gives, Exhausts, Reply, Event, Ended, Spent, Asked}
 use Rattle.page_run.specs.Perform.{NoRise}
 use Rattle.page_run.specs.Charges.{KeepsCalls}
-use Rattle.wiki_markup.specs.Trees.{Trees}
+use Rattle.expand_meaning.specs.WikiMarkupTrees.{Trees}
 use Rattle.expand_meaning.specs.Outcome.{Work as PageWork, next_event}
-use Rattle.lua_meaning.specs.Questions.{Answer}
-use Rattle.lua_meaning.specs.Start.{Work, Invoke, lua}
+use Rattle.lua_meaning_laws.specs.LuaMeaningQuestions.{Answer}
+use Rattle.lua_meaning_laws.specs.LuaMeaningStart.{Work, Invoke, lua}
 use Rattle.page_meaning.specs.Wiki.{Wiki, setting, world}
 use Rattle.page_meaning.specs.Told.{PageSeen, invoked}
 use Rattle.page_meaning.specs.Drive.{invocation_reply, reply, replies, one_run, drive, load}

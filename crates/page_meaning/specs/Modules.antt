@@ -5,7 +5,7 @@ use Rattle.lua_syntax.specs.Tree.{TrueE, NumberE, TextE, FunctionE, NameE, Index
 use Rattle.lua_syntax.specs.Tree.{NoField, Item, Pair, Lambda, NoStat}
 use Rattle.lua_syntax.specs.Tree.{AssignS, CallS, WhileS, LocalS, ReturnS}
 use Rattle.lua_syntax.specs.View.{exps_of, fields_of, stats_of}
-use Rattle.lua_meaning.specs.Trial.{ModuleText, module_text}
+use Rattle.lua_meaning_laws.specs.LuaMeaningTrial.{ModuleText, module_text}
 
 -- It counts its calls in a global variable.
 --     n=0 local p={} function p.f() n=n+1 return n end return p

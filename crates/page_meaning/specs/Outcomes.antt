@@ -2,7 +2,7 @@
 -- the text that stands for that on a page.
 use Rattle.std.specs.Prelude.{◌≡◌, ℕ, List, []}
 use Rattle.page_run.specs.State.{Gives, Ended, Spent, Asked}
-use Rattle.lua_meaning.specs.Start.{End, Done, DoneData, Failed, end_of}
+use Rattle.lua_meaning_laws.specs.LuaMeaningStart.{End, Done, DoneData, Failed, end_of}
 use Rattle.page_meaning.specs.declared.outcome.JobOutcome.{JobOutcome}
 use Rattle.page_meaning.specs.declared.outcome.JobOutcome.TheVariants as ending
 use Rattle.page_meaning.specs.Told.{Seen, failure_text, spent_text, invocation_response}

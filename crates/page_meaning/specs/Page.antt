@@ -5,7 +5,7 @@ use Rattle.wk_base.specs.declared.left.Left.{Left}
 use Rattle.page_run.specs.State.{Tally, moment_of, start}
 use Rattle.page_run.specs.Perform.{perform}
 use Rattle.page_run.specs.Walk.{WalkState, empty_walk, walk}
-use Rattle.wiki_markup.specs.Trees.{Trees}
+use Rattle.expand_meaning.specs.WikiMarkupTrees.{Trees}
 use Rattle.expand_meaning.specs.Expand.{thing_text}
 use Rattle.expand_meaning.specs.Outcome.{Reading, expansion, page_scene, text_in}
 use Rattle.page_meaning.specs.Wiki.{Wiki, setting}

@@ -6,10 +6,10 @@ use Rattle.page_run.specs.State.{Reply, Event, Ended, Spent, Asked, start}
 use Rattle.page_run.specs.Perform.{perform}
 use Rattle.expand_meaning.specs.Expand.{thing_text}
 use Rattle.expand_meaning.specs.Outcome.{Work as PageWork, expansion}
-use Rattle.lua_meaning.specs.Questions.{Answer}
-use Rattle.lua_meaning.specs.Things.{meaning_of}
-use Rattle.lua_meaning.specs.Home.{home}
-use Rattle.lua_meaning.specs.Start.{Work, run_of}
+use Rattle.lua_meaning_laws.specs.LuaMeaningQuestions.{Answer}
+use Rattle.lua_meaning_laws.specs.LuaMeaningThings.{meaning_of}
+use Rattle.lua_meaning_laws.specs.LuaMeaningHome.{home}
+use Rattle.lua_meaning_laws.specs.LuaMeaningStart.{Work, run_of}
 use Rattle.page_meaning.specs.Wiki.{Wiki, setting, world}
 use Rattle.page_meaning.specs.Told.{Seen, PageSeen}
 use Rattle.page_meaning.specs.Drive.{invocation_reply, replies, drive}

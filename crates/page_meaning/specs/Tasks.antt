@@ -5,16 +5,16 @@ use Rattle.wk_base.specs.declared.left.Left.{Left}
 use Rattle.wk_base.specs.Titles.{title_text}
 use Rattle.page_run.specs.State.{Loads, NoLoads, Load, join_loads, Response, Gives, Exhausts, Reply, Ended, Spent, Asked}
 use Rattle.page_run.specs.Walk.{tally_of}
-use Rattle.mw_frame.specs.declared.scene.Arg.{Arg}
-use Rattle.mw_frame.specs.declared.scene.Scene.{Scene}
-use Rattle.mw_frame.specs.declared.scene.Job.{Job}
-use Rattle.mw_frame.specs.declared.question.Ask.{Ask}
-use Rattle.mw_frame.specs.declared.question.Ask.TheVariants.{Template, Preprocess, Data}
-use Rattle.wiki_markup.specs.Trees.{Trees}
+use Rattle.expand_meaning.specs.MwFrameDeclaredSceneArg.{Arg}
+use Rattle.expand_meaning.specs.MwFrameDeclaredSceneScene.{Scene}
+use Rattle.expand_meaning.specs.MwFrameDeclaredSceneJob.{Job}
+use Rattle.lua_meaning_laws.specs.MwFrameDeclaredQuestionAsk.{Ask}
+use Rattle.lua_meaning_laws.specs.MwFrameDeclaredQuestionAskTheVariants.{Template, Preprocess, Data}
+use Rattle.expand_meaning.specs.WikiMarkupTrees.{Trees}
 use Rattle.expand_meaning.specs.Outcome.{Work as PageWork, Reading, Including, next_event, page_scene}
-use Rattle.lua_meaning.specs.World.{Module}
-use Rattle.lua_meaning.specs.Questions.{Answer, Expanded}
-use Rattle.lua_meaning.specs.Start.{Work, Invoke, DataOf, lua}
+use Rattle.lua_meaning_laws.specs.LuaMeaningWorld.{Module}
+use Rattle.lua_meaning_laws.specs.LuaMeaningQuestions.{Answer, Expanded}
+use Rattle.lua_meaning_laws.specs.LuaMeaningStart.{Work, Invoke, DataOf, lua}
 use Rattle.page_meaning.specs.Wiki.{Wiki, setting, world, read}
 use Rattle.page_meaning.specs.Told.{Seen, PageSeen, invoked, completes, loaded, expanded, absent}
 use Rattle.page_meaning.specs.Page.{Page, kept_in, begun_in, page}

@@ -7,16 +7,16 @@ use Rattle.page_run.specs.declared.which.Which.{Which}
 use Rattle.page_run.specs.declared.which.Which.TheVariants.{Steps, Calls}
 use Rattle.page_run.specs.Outcome.{Outcome}
 use Rattle.page_run.specs.State.{NoLoads, Load, Tally, no_tally, Response, Gives, Exhausts, Reply, Event, Ended, Spent, Asked, moment_of}
-use Rattle.mw_frame.specs.declared.scene.Job.{Job}
-use Rattle.mw_frame.specs.declared.question.Ask.{Ask}
-use Rattle.lua_heap.specs.Value.{Value, Text}
-use Rattle.lua_heap.specs.Heap.{Heap}
-use Rattle.lua_heap.specs.Graph.{Graph}
-use Rattle.lua_walk.specs.Data.{Fault, NotATable, HasFunction, HasMetatable, BadKey, Checked, taken}
-use Rattle.lua_meaning.specs.Questions.{Answer, Expanded, NoPage, Loaded, LoadFailed}
-use Rattle.lua_meaning.specs.Scope.{Function}
-use Rattle.lua_meaning.specs.Acts.{State, Jump}
-use Rattle.lua_meaning.specs.Start.{End, Done, DoneData, Failed, end_of}
+use Rattle.expand_meaning.specs.MwFrameDeclaredSceneJob.{Job}
+use Rattle.lua_meaning_laws.specs.MwFrameDeclaredQuestionAsk.{Ask}
+use Rattle.lua_meaning_laws.specs.LuaHeapValue.{Value, Text}
+use Rattle.lua_meaning_laws.specs.LuaHeapHeap.{Heap}
+use Rattle.lua_meaning_laws.specs.LuaHeapGraph.{Graph}
+use Rattle.lua_meaning_laws.specs.LuaWalkData.{Fault, NotATable, HasFunction, HasMetatable, BadKey, Checked, taken}
+use Rattle.lua_meaning_laws.specs.LuaMeaningQuestions.{Answer, Expanded, NoPage, Loaded, LoadFailed}
+use Rattle.lua_meaning_laws.specs.LuaMeaningScope.{Function}
+use Rattle.lua_meaning_laws.specs.LuaMeaningActs.{State, Jump}
+use Rattle.lua_meaning_laws.specs.LuaMeaningStart.{End, Done, DoneData, Failed, end_of}
 use Rattle.expand_meaning.specs.Texts.{error_text}
 
 -- what is seen of a run of Lua, and of an expansion

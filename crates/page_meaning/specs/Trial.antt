@@ -5,11 +5,11 @@ use Rattle.wk_base.specs.declared.left.Left.{Left}
 use Rattle.wk_base.specs.declared.title.Namespace.TheVariants.{Main, Template}
 use Rattle.wk_base.specs.declared.title.Title.{Title}
 use Rattle.wk_base.specs.contracts.title.TitlePartialEq.TheImpl as titles
-use Rattle.wiki_markup.specs.declared.marked.Mode.TheVariants.{Transcluded}
-use Rattle.wiki_markup.specs.Shown.{shown_of}
-use Rattle.wiki_markup.specs.Trees.{Trees, done, pairing}
-use Rattle.lua_meaning.specs.World.{Module}
-use Rattle.lua_meaning.specs.Trial.{ModuleText, modules_of}
+use Rattle.expand_meaning.specs.WikiMarkupDeclaredMarkedModeTheVariants.{Transcluded}
+use Rattle.expand_meaning.specs.WikiMarkupShown.{shown_of}
+use Rattle.expand_meaning.specs.WikiMarkupTrees.{Trees, done, pairing}
+use Rattle.lua_meaning_laws.specs.LuaMeaningWorld.{Module}
+use Rattle.lua_meaning_laws.specs.LuaMeaningTrial.{ModuleText, modules_of}
 use Rattle.page_meaning.specs.Wiki.{Wiki, read}
 use Rattle.page_meaning.specs.Page.{Page, page}
 

@@ -1,11 +1,11 @@
 -- A WIKI, and what is seen of it while one of its pages is expanded.
 use Rattle.std.specs.Prelude.{ℕ, List, Option}
 use Rattle.wk_base.specs.declared.title.Title.{Title}
-use Rattle.wiki_markup.specs.declared.marked.Mode.TheVariants.{Direct}
-use Rattle.wiki_markup.specs.Shown.{shown_of}
-use Rattle.wiki_markup.specs.Trees.{Trees, pairing}
+use Rattle.expand_meaning.specs.WikiMarkupDeclaredMarkedModeTheVariants.{Direct}
+use Rattle.expand_meaning.specs.WikiMarkupShown.{shown_of}
+use Rattle.expand_meaning.specs.WikiMarkupTrees.{Trees, pairing}
 use Rattle.expand_meaning.specs.Expand.{Setting}
-use Rattle.lua_meaning.specs.World.{Modules, World}
+use Rattle.lua_meaning_laws.specs.LuaMeaningWorld.{Modules, World}
 
 pub record Wiki : Type 0 where
   -- of each title its page, as it is read where it is included, if it is held (MediaWiki, Help:Templates)

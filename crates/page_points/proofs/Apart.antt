@@ -1,14 +1,14 @@
 -- Who goes on, is answered or begins, and data that is put into the store, leave the others alone.
 use Rattle.std.proofs.Common.{List, [], ◌∷◌, true, refl}
-use Rattle.page_run.specs.Outcome.{Outcome}
-use Rattle.lua_heap.specs.Proc.{Proc}
-use Rattle.lua_heap.specs.Value.{Value}
-use Rattle.lua_heap.specs.Heap.{Heap}
-use Rattle.lua_heap.specs.Reach.{Set, nowhere, union, with_new, Frame}
-use Rattle.lua_heap.specs.Graph.{Graph, IsPut}
-use Rattle.lua_heap.proofs.Frames.{neighbour}
-use Rattle.lua_meaning.specs.Questions.{Answer}
-use Rattle.lua_meaning.specs.Acts.{Jump}
+use Rattle.page_meaning.specs.PageRunOutcome.{Outcome}
+use Rattle.lua_points.specs.LuaHeapProc.{Proc}
+use Rattle.lua_walk.specs.LuaHeapValue.{Value}
+use Rattle.lua_walk.specs.LuaHeapHeap.{Heap}
+use Rattle.lua_walk.specs.LuaHeapReach.{Set, nowhere, union, with_new, Frame}
+use Rattle.lua_walk.specs.LuaHeapGraph.{Graph, IsPut}
+use Rattle.lua_walk.proofs.LuaHeapFrames.{neighbour}
+use Rattle.page_meaning.specs.LuaMeaningQuestions.{Answer}
+use Rattle.page_meaning.specs.LuaMeaningActs.{Jump}
 use Rattle.lua_points.specs.Told.{IsToldAs}
 use Rattle.lua_points.specs.Families.{AreApart}
 use Rattle.lua_points.proofs.Families.{one_more, one_goes, one_is_answered, data_is_put}

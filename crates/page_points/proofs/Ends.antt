@@ -1,24 +1,24 @@
 -- How a run of Lua ends: it tells its loads and its nodes, and its answer is told from the machine's outcome.
 use Rattle.std.proofs.Common.{◌≡◌, ℕ, ◌+◌, List, [], ◌∷◌, refl, sym, ap, ◌∙◌, subst}
-use Rattle.wk_base.specs.declared.left.Left.{Left}
-use Rattle.page_run.specs.declared.which.Which.{Which}
-use Rattle.page_run.specs.Outcome.{Outcome, Goes, Jumps}
-use Rattle.page_run.specs.State.{Moment, Ended, Spent, Gives, moment_of}
-use Rattle.page_run.specs.Walk.{tally_of}
-use Rattle.lua_heap.specs.Value.{Value, Nil, Truth, Number, Text, Table, Closure, Builtin, Markup}
-use Rattle.lua_heap.specs.Proc.{Proc}
-use Rattle.lua_heap.specs.Heap.{Heap}
-use Rattle.lua_heap.specs.Related.{Map, none, more, Same, nil, truth, number, text, table, closure, builtin, markup, Stands}
+use Rattle.page_meaning.specs.WkBaseDeclaredLeftLeft.{Left}
+use Rattle.page_meaning.specs.PageRunDeclaredWhichWhich.{Which}
+use Rattle.page_meaning.specs.PageRunOutcome.{Outcome, Goes, Jumps}
+use Rattle.page_meaning.specs.PageRunState.{Moment, Ended, Spent, Gives, moment_of}
+use Rattle.page_meaning.specs.PageRunWalk.{tally_of}
+use Rattle.lua_walk.specs.LuaHeapValue.{Value, Nil, Truth, Number, Text, Table, Closure, Builtin, Markup}
+use Rattle.lua_points.specs.LuaHeapProc.{Proc}
+use Rattle.lua_walk.specs.LuaHeapHeap.{Heap}
+use Rattle.lua_walk.specs.LuaHeapRelated.{Map, none, more, Same, nil, truth, number, text, table, closure, builtin, markup, Stands}
 use Rattle.lua_walk.proofs.Standings.{taken-same}
-use Rattle.lua_meaning.specs.Scope.{Function}
-use Rattle.lua_meaning.specs.Questions.{Expanded}
-use Rattle.lua_meaning.specs.Acts.{Jump, Raised, State}
-use Rattle.lua_meaning.specs.Start.{Work, Invoke, DataOf, End, Done, DoneData, Failed, end_of, lua}
-use Rattle.lua_slots.specs.Code.{CWorld}
-use Rattle.lua_agree.specs.Values.{returned, broke, raised, SameOutcome, values_, jumps_}
-use Rattle.lua_agree.specs.Functions.{SameFunction}
+use Rattle.lua_points.specs.LuaMeaningScope.{Function}
+use Rattle.page_meaning.specs.LuaMeaningQuestions.{Expanded}
+use Rattle.page_meaning.specs.LuaMeaningActs.{Jump, Raised, State}
+use Rattle.page_meaning.specs.LuaMeaningStart.{Work, Invoke, DataOf, End, Done, DoneData, Failed, end_of, lua}
+use Rattle.lua_points.specs.LuaSlotsCode.{CWorld}
+use Rattle.lua_points.specs.LuaAgreeValues.{returned, broke, raised, SameOutcome, values_, jumps_}
+use Rattle.lua_points.specs.LuaAgreeFunctions.{SameFunction}
 use Rattle.page_meaning.specs.Wiki.{Wiki, world}
-use Rattle.wk_base.specs.declared.title.Title.{Title}
+use Rattle.page_meaning.specs.WkBaseDeclaredTitleTitle.{Title}
 use Rattle.page_meaning.specs.Told.{Seen, data_answer, graph_answer, end_text}
 use Rattle.page_meaning.specs.Outcomes.{end_outcome}
 use Rattle.page_meaning.specs.Tasks.{Running, Comes, lua_reply, lua_progress}

@@ -1,14 +1,14 @@
 -- An expansion at its place: it asks for an invocation, or it has come to its text.
 use Rattle.std.proofs.Common.{◌≡◌, ℕ, List, [], refl, sym, ap, ◌∙◌, subst}
 use Rattle.std.specs.Prelude.{map}
-use Rattle.wk_base.specs.declared.left.Left.{Left}
-use Rattle.wk_base.specs.declared.title.Title.{Title}
-use Rattle.page_run.specs.State.{Ended, Spent, Asked, Gives, Reply}
-use Rattle.page_run.specs.Walk.{WalkState, tally_of}
-use Rattle.mw_frame.specs.declared.scene.Job.{Job}
-use Rattle.expand_meaning.specs.Outcome.{Work, Comes, Asks, next_event}
-use Rattle.lua_meaning.specs.Start.{Invoke}
-use Rattle.lua_meaning.specs.Questions.{Answer, Expanded}
+use Rattle.page_meaning.specs.WkBaseDeclaredLeftLeft.{Left}
+use Rattle.page_meaning.specs.WkBaseDeclaredTitleTitle.{Title}
+use Rattle.page_meaning.specs.PageRunState.{Ended, Spent, Asked, Gives, Reply}
+use Rattle.page_meaning.specs.PageRunWalk.{WalkState, tally_of}
+use Rattle.page_meaning.specs.MwFrameDeclaredSceneJob.{Job}
+use Rattle.page_meaning.specs.ExpandMeaningOutcome.{Work, Comes, Asks, next_event}
+use Rattle.page_meaning.specs.LuaMeaningStart.{Invoke}
+use Rattle.page_meaning.specs.LuaMeaningQuestions.{Answer, Expanded}
 use Rattle.page_meaning.specs.Wiki.{Wiki, setting}
 use Rattle.page_meaning.specs.Told.{Seen, PageSeen, invoked, expanded}
 use Rattle.page_meaning.specs.Points.{drive_after}

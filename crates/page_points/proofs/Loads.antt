@@ -1,22 +1,22 @@
 -- Data loads: what was kept of one stands for it where it is covered; elsewhere it is fresh; and what is kept of one that completed.
 use Rattle.std.proofs.Common.{◌≡◌, ℕ, ◌-◌, ◌≤◌, ◌⊎◌, inl, inr, Bool, true, false, List, [], Some, refl, sym, ap, ◌∙◌, subst, arith}
 use Rattle.std.specs.Prelude.{◌<◌, ◌&&◌, Option, None, Ok, Err}
-use Rattle.wk_base.specs.declared.left.Left.{Left}
-use Rattle.wk_base.specs.declared.title.Title.{Title}
-use Rattle.wk_base.specs.Titles.{title_text}
-use Rattle.page_run.specs.State.{Response, Gives, Reply, Ended, Spent, Asked}
-use Rattle.page_run.specs.Walk.{WalkState, walk, walk_load, is_in}
-use Rattle.mw_frame.specs.declared.question.Ask.TheVariants.{Template, Preprocess, Data}
-use Rattle.lua_heap.specs.Value.{Text}
-use Rattle.lua_heap.specs.Heap.{Heap}
-use Rattle.lua_heap.specs.Graph.{Graph}
+use Rattle.page_meaning.specs.WkBaseDeclaredLeftLeft.{Left}
+use Rattle.page_meaning.specs.WkBaseDeclaredTitleTitle.{Title}
+use Rattle.page_meaning.specs.WkBaseTitles.{title_text}
+use Rattle.page_meaning.specs.PageRunState.{Response, Gives, Reply, Ended, Spent, Asked}
+use Rattle.page_meaning.specs.PageRunWalk.{WalkState, walk, walk_load, is_in}
+use Rattle.page_meaning.specs.MwFrameDeclaredQuestionAskTheVariants.{Template, Preprocess, Data}
+use Rattle.lua_walk.specs.LuaHeapValue.{Text}
+use Rattle.lua_walk.specs.LuaHeapHeap.{Heap}
+use Rattle.lua_walk.specs.LuaHeapGraph.{Graph}
 use Rattle.lua_walk.specs.Data.{Checked, taken}
-use Rattle.lua_meaning.specs.Scope.{Function}
-use Rattle.lua_meaning_laws.specs.Laws.{AsksForData}
-use Rattle.lua_meaning_laws.proofs.Runs.{data_runs_ask_for_data}
-use Rattle.lua_meaning.specs.World.{Module}
-use Rattle.lua_meaning.specs.Questions.{Answer, Expanded}
-use Rattle.lua_meaning.specs.Start.{DataOf, End, Done, DoneData, Failed, end_of, lua}
+use Rattle.lua_points.specs.LuaMeaningScope.{Function}
+use Rattle.page_meaning.specs.LuaMeaningLawsLaws.{AsksForData}
+use Rattle.page_meaning.proofs.LuaMeaningLawsRuns.{data_runs_ask_for_data}
+use Rattle.page_meaning.specs.LuaMeaningWorld.{Module}
+use Rattle.page_meaning.specs.LuaMeaningQuestions.{Answer, Expanded}
+use Rattle.page_meaning.specs.LuaMeaningStart.{DataOf, End, Done, DoneData, Failed, end_of, lua}
 use Rattle.page_meaning.specs.Wiki.{Wiki, world}
 use Rattle.page_meaning.specs.Told.{Seen, graph_answer, data_answer, load_response, loaded, completes}
 use Rattle.page_meaning.specs.Points.{drive_after}

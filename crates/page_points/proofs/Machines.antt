@@ -1,27 +1,27 @@
 -- A machine at its place: it is started, it asks, it has come to its end, it is spent, it is answered, and it waits while others go on.
 use Rattle.std.proofs.Common.{◌≡◌, ℕ, ◌+◌, List, [], ◌∷◌, ◌++◌, append-nil, Some, IsTrue, refl, sym, ap, ◌∙◌, subst}
 use Rattle.std.specs.Prelude.{max}
-use Rattle.wk_base.specs.declared.title.Title.{Title}
-use Rattle.wk_base.specs.declared.left.Left.{Left}
-use Rattle.page_run.specs.declared.which.Which.{Which}
-use Rattle.page_run.specs.Outcome.{Outcome}
-use Rattle.page_run.specs.State.{no_tally, Gives as Says, Exhausts, Reply, Ended, Spent}
-use Rattle.page_run.specs.Walk.{WalkState, tally_of}
-use Rattle.mw_frame.specs.declared.question.Ask.{Ask}
-use Rattle.lua_heap.specs.Proc.{Proc}
-use Rattle.lua_heap.specs.Value.{Value}
-use Rattle.lua_heap.specs.Heap.{Heap, Ref, Obj, look}
-use Rattle.lua_heap.specs.Reach.{Set, nowhere, union, with_new, Frame}
-use Rattle.lua_meaning.specs.Questions.{Answer}
-use Rattle.lua_meaning.specs.Acts.{Jump}
-use Rattle.lua_meaning.specs.Start.{Work, Invoke, DataOf, end_of, lua}
-use Rattle.lua_slots.specs.Code.{CWorld}
-use Rattle.lua_slots.specs.IsCode.{Agrees}
-use Rattle.lua_slots.specs.Slots.{Slots, with_heap}
-use Rattle.lua_slots.specs.Points.{SFrame, Point, Gives, Asking, Works}
-use Rattle.lua_slots.specs.Enact.{all_given_back, replied as with_reply}
-use Rattle.lua_goes.specs.Going.{Over, Lacks, Waiting}
-use Rattle.lua_agree.specs.Met.{moment_with}
+use Rattle.page_meaning.specs.WkBaseDeclaredTitleTitle.{Title}
+use Rattle.page_meaning.specs.WkBaseDeclaredLeftLeft.{Left}
+use Rattle.page_meaning.specs.PageRunDeclaredWhichWhich.{Which}
+use Rattle.page_meaning.specs.PageRunOutcome.{Outcome}
+use Rattle.page_meaning.specs.PageRunState.{no_tally, Gives as Says, Exhausts, Reply, Ended, Spent}
+use Rattle.page_meaning.specs.PageRunWalk.{WalkState, tally_of}
+use Rattle.page_meaning.specs.MwFrameDeclaredQuestionAsk.{Ask}
+use Rattle.lua_points.specs.LuaHeapProc.{Proc}
+use Rattle.lua_walk.specs.LuaHeapValue.{Value}
+use Rattle.lua_walk.specs.LuaHeapHeap.{Heap, Ref, Obj, look}
+use Rattle.lua_walk.specs.LuaHeapReach.{Set, nowhere, union, with_new, Frame}
+use Rattle.page_meaning.specs.LuaMeaningQuestions.{Answer}
+use Rattle.page_meaning.specs.LuaMeaningActs.{Jump}
+use Rattle.page_meaning.specs.LuaMeaningStart.{Work, Invoke, DataOf, end_of, lua}
+use Rattle.lua_points.specs.LuaSlotsCode.{CWorld}
+use Rattle.lua_points.specs.LuaSlotsIsCode.{Agrees}
+use Rattle.lua_points.specs.LuaSlotsSlots.{Slots, with_heap}
+use Rattle.lua_points.specs.LuaSlotsPoints.{SFrame, Point, Gives, Asking, Works}
+use Rattle.lua_points.specs.LuaSlotsEnact.{all_given_back, replied as with_reply}
+use Rattle.lua_points.specs.LuaGoesGoing.{Over, Lacks, Waiting}
+use Rattle.lua_points.specs.LuaAgreeMet.{moment_with}
 use Rattle.lua_points.specs.At.{At}
 use Rattle.lua_points.specs.Told.{IsToldAs, reply, spent_reply}
 use Rattle.lua_points.specs.Laws.{telling}

@@ -2,19 +2,19 @@
 use Rattle.std.proofs.Common.{◌≡◌, ℕ, ◌+◌, ◌-◌, ◌≤◌, false, List, [], ◌∷◌, ◌++◌, Some, refl, sym, ap, ◌∙◌, subst, arith}
 use Rattle.std.specs.Prelude.{map, ◌&&◌}
 use Rattle.std.proofs.lemmas.List.{map-append}
-use Rattle.wk_base.specs.declared.left.Left.{Left}
-use Rattle.wk_base.specs.declared.title.Title.{Title}
-use Rattle.wk_base.specs.Titles.{title_text}
-use Rattle.page_run.specs.State.{Loads, Reply, Ended, Spent, Asked, start}
-use Rattle.page_run.specs.Walk.{WalkState, empty_walk, walk, walk_load, count_fresh, is_in, tally_of}
-use Rattle.page_run.proofs.LoadLaws.{tells_none, tells_reply, walk_of_joined}
-use Rattle.lua_heap.specs.Reach.{Set}
-use Rattle.expand_meaning.specs.Expand.{thing_text}
-use Rattle.expand_meaning.specs.Outcome.{Work as PageWork, expansion, next_event}
-use Rattle.lua_meaning.specs.Questions.{Answer}
-use Rattle.lua_meaning.specs.Things.{meaning_of}
-use Rattle.lua_meaning.specs.Home.{home}
-use Rattle.lua_meaning.specs.Start.{Work, Invoke, DataOf, run_of, lua}
+use Rattle.page_meaning.specs.WkBaseDeclaredLeftLeft.{Left}
+use Rattle.page_meaning.specs.WkBaseDeclaredTitleTitle.{Title}
+use Rattle.page_meaning.specs.WkBaseTitles.{title_text}
+use Rattle.page_meaning.specs.PageRunState.{Loads, Reply, Ended, Spent, Asked, start}
+use Rattle.page_meaning.specs.PageRunWalk.{WalkState, empty_walk, walk, walk_load, count_fresh, is_in, tally_of}
+use Rattle.page_meaning.proofs.PageRunLoadLaws.{tells_none, tells_reply, walk_of_joined}
+use Rattle.lua_walk.specs.LuaHeapReach.{Set}
+use Rattle.page_meaning.specs.ExpandMeaningExpand.{thing_text}
+use Rattle.page_meaning.specs.ExpandMeaningOutcome.{Work as PageWork, expansion, next_event}
+use Rattle.page_meaning.specs.LuaMeaningQuestions.{Answer}
+use Rattle.page_meaning.specs.LuaMeaningThings.{meaning_of}
+use Rattle.page_meaning.specs.LuaMeaningHome.{home}
+use Rattle.page_meaning.specs.LuaMeaningStart.{Work, Invoke, DataOf, run_of, lua}
 use Rattle.page_meaning.specs.Wiki.{Wiki, setting, world}
 use Rattle.page_meaning.specs.Told.{Seen, PageSeen, completes, expanded}
 use Rattle.page_meaning.specs.Drive.{reply, drive}

@@ -1,14 +1,14 @@
 -- THE LAWS of the stack, which the functions of this crate ensure.
 use Rattle.std.specs.Prelude.{◌≡◌, ℕ, ◌-◌, ◌≤◌, List, [], ◌∷◌, Some, IsTrue}
-use Rattle.wk_base.specs.declared.title.Title.{Title}
-use Rattle.wk_base.specs.declared.left.Left.{Left}
-use Rattle.wk_base.specs.Titles.{title_text}
-use Rattle.page_run.specs.State.{Reply, Gives}
-use Rattle.page_run.specs.Walk.{WalkState, empty_walk, walk, is_in}
-use Rattle.mw_frame.specs.declared.question.Ask.TheVariants.{Data}
-use Rattle.lua_meaning.specs.World.{Module}
-use Rattle.lua_meaning.specs.Questions.{Answer}
-use Rattle.lua_meaning.specs.Start.{Work, DataOf, lua}
+use Rattle.page_meaning.specs.WkBaseDeclaredTitleTitle.{Title}
+use Rattle.page_meaning.specs.WkBaseDeclaredLeftLeft.{Left}
+use Rattle.page_meaning.specs.WkBaseTitles.{title_text}
+use Rattle.page_meaning.specs.PageRunState.{Reply, Gives}
+use Rattle.page_meaning.specs.PageRunWalk.{WalkState, empty_walk, walk, is_in}
+use Rattle.page_meaning.specs.MwFrameDeclaredQuestionAskTheVariants.{Data}
+use Rattle.page_meaning.specs.LuaMeaningWorld.{Module}
+use Rattle.page_meaning.specs.LuaMeaningQuestions.{Answer}
+use Rattle.page_meaning.specs.LuaMeaningStart.{Work, DataOf, lua}
 use Rattle.page_meaning.specs.Wiki.{Wiki, world}
 use Rattle.page_meaning.specs.Told.{Seen}
 use Rattle.page_meaning.specs.Drive.{drive, load}

@@ -1,10 +1,10 @@
 -- DATA LOADS on a page, of which some were kept.
 use Rattle.std.specs.Prelude.{◌≡◌, ℕ, ◌-◌, ◌≤◌}
-use Rattle.wk_base.specs.declared.left.Left.{Left}
-use Rattle.wk_base.specs.declared.title.Title.{Title}
-use Rattle.page_run.specs.State.{Gives, Reply}
-use Rattle.page_run.specs.Walk.{WalkState, walk, pass_repeat}
-use Rattle.lua_meaning.specs.Questions.{Answer}
+use Rattle.page_meaning.specs.WkBaseDeclaredLeftLeft.{Left}
+use Rattle.page_meaning.specs.WkBaseDeclaredTitleTitle.{Title}
+use Rattle.page_meaning.specs.PageRunState.{Gives, Reply}
+use Rattle.page_meaning.specs.PageRunWalk.{WalkState, walk, pass_repeat}
+use Rattle.page_meaning.specs.LuaMeaningQuestions.{Answer}
 use Rattle.page_meaning.specs.Wiki.{Wiki}
 use Rattle.page_meaning.specs.Drive.{load}
 

@@ -1,25 +1,25 @@
 -- A MACHINE OF LUA AT ITS PLACE on the stack, in the terms of its calls (`lua_points`); and what its end is told as.
 use Rattle.std.specs.Prelude.{◌≡◌, ℕ, ◌+◌, List}
-use Rattle.wk_base.specs.declared.left.Left.{Left}
-use Rattle.page_run.specs.Outcome.{Outcome}
-use Rattle.page_run.specs.State.{Tally, no_tally, Response, Gives, Exhausts, Reply}
-use Rattle.page_run.specs.declared.which.Which.{Which}
-use Rattle.lua_heap.specs.Value.{Value, Text}
-use Rattle.lua_heap.specs.Proc.{Proc}
-use Rattle.lua_heap.specs.Heap.{Heap}
-use Rattle.lua_heap.specs.Reach.{with_new}
+use Rattle.page_meaning.specs.WkBaseDeclaredLeftLeft.{Left}
+use Rattle.page_meaning.specs.PageRunOutcome.{Outcome}
+use Rattle.page_meaning.specs.PageRunState.{Tally, no_tally, Response, Gives, Exhausts, Reply}
+use Rattle.page_meaning.specs.PageRunDeclaredWhichWhich.{Which}
+use Rattle.lua_walk.specs.LuaHeapValue.{Value, Text}
+use Rattle.lua_points.specs.LuaHeapProc.{Proc}
+use Rattle.lua_walk.specs.LuaHeapHeap.{Heap}
+use Rattle.lua_walk.specs.LuaHeapReach.{with_new}
 use Rattle.lua_walk.specs.Data.{taken}
-use Rattle.lua_meaning.specs.Questions.{Answer, Expanded, LoadFailed}
-use Rattle.lua_meaning.specs.Acts.{Jump}
-use Rattle.lua_meaning.specs.World.{World}
-use Rattle.lua_meaning.specs.Start.{Work, Invoke, DataOf, End, Done, DoneData, Failed, end_of, lua}
-use Rattle.lua_slots.specs.Code.{CWorld}
-use Rattle.lua_slots.specs.Slots.{Slots}
-use Rattle.lua_slots.specs.Points.{Point}
-use Rattle.lua_slots.specs.Enact.{Funds}
+use Rattle.page_meaning.specs.LuaMeaningQuestions.{Answer, Expanded, LoadFailed}
+use Rattle.page_meaning.specs.LuaMeaningActs.{Jump}
+use Rattle.page_meaning.specs.LuaMeaningWorld.{World}
+use Rattle.page_meaning.specs.LuaMeaningStart.{Work, Invoke, DataOf, End, Done, DoneData, Failed, end_of, lua}
+use Rattle.lua_points.specs.LuaSlotsCode.{CWorld}
+use Rattle.lua_points.specs.LuaSlotsSlots.{Slots}
+use Rattle.lua_points.specs.LuaSlotsPoints.{Point}
+use Rattle.lua_points.specs.LuaSlotsEnact.{Funds}
 use Rattle.lua_points.specs.At.{At}
 use Rattle.lua_points.specs.Clauses.{fund}
-use Rattle.wk_base.specs.declared.title.Title.{Title}
+use Rattle.page_meaning.specs.WkBaseDeclaredTitleTitle.{Title}
 use Rattle.page_meaning.specs.Wiki.{Wiki, world}
 use Rattle.page_meaning.specs.declared.outcome.JobOutcome.{JobOutcome}
 use Rattle.page_meaning.specs.Told.{Seen, graph_answer, end_text, spent_text}

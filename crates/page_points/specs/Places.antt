@@ -1,14 +1,14 @@
 -- WHERE THE TASKS OF A PAGE STAND, one upon another: each below the top one waits for what the one above it comes to.
 use Rattle.std.specs.Prelude.{◌≡◌, ℕ, ◌+◌, ◌-◌, false, ◌&&◌, List, [], ◌∷◌, ◌++◌, map}
-use Rattle.wk_base.specs.declared.title.Title.{Title}
-use Rattle.wk_base.specs.declared.left.Left.{Left}
-use Rattle.wk_base.specs.Titles.{title_text}
-use Rattle.page_run.specs.State.{Loads, NoLoads, Load, Reply}
-use Rattle.page_run.specs.Walk.{WalkState, empty_walk, walk, is_in, add_if, tally_of}
-use Rattle.lua_heap.specs.Reach.{Set, nowhere}
-use Rattle.expand_meaning.specs.Outcome.{next_event}
-use Rattle.lua_meaning.specs.Questions.{Answer}
-use Rattle.lua_meaning.specs.Start.{Invoke, DataOf, lua}
+use Rattle.page_meaning.specs.WkBaseDeclaredTitleTitle.{Title}
+use Rattle.page_meaning.specs.WkBaseDeclaredLeftLeft.{Left}
+use Rattle.page_meaning.specs.WkBaseTitles.{title_text}
+use Rattle.page_meaning.specs.PageRunState.{Loads, NoLoads, Load, Reply}
+use Rattle.page_meaning.specs.PageRunWalk.{WalkState, empty_walk, walk, is_in, add_if, tally_of}
+use Rattle.lua_walk.specs.LuaHeapReach.{Set, nowhere}
+use Rattle.page_meaning.specs.ExpandMeaningOutcome.{next_event}
+use Rattle.page_meaning.specs.LuaMeaningQuestions.{Answer}
+use Rattle.page_meaning.specs.LuaMeaningStart.{Invoke, DataOf, lua}
 use Rattle.page_meaning.specs.Wiki.{Wiki, setting, world}
 use Rattle.page_meaning.specs.Told.{completes}
 use Rattle.page_meaning.specs.Tasks.{Task, Running, Expanding, Question, Progress, Comes, Wants, as_text, progress, sight, total, answer_to, loads_so_far}

@@ -1,3 +1,7 @@
+pub use Rattle.wk_base.specs.contracts.title.Title as WkBaseContractsTitleTitle
+pub use Rattle.wk_base.specs.contracts.title.TitlePartialEq.TheImpl as WkBaseContractsTitleTitlePartialEqTheImpl
+pub use Rattle.wk_base.specs.declared.left.Left as WkBaseDeclaredLeftLeft
+pub use Rattle.wk_base.specs.declared.title_read.TitleFault as WkBaseDeclaredTitleReadTitleFault
 pub mod Run
 pub mod Part
 pub mod Outcome

@@ -1,43 +1,43 @@
 -- A run of Lua goes on with an answer, also with one that is put into the store first.
 use Rattle.std.proofs.Common.{◌≡◌, ℕ, ◌+◌, ◌<◌, ◌≤◌, ◌^◌, max, Result, Ok, Err, refl, sym, ap, ◌∙◌, subst, arith}
 use Rattle.std.specs.Prelude.{List, [], IfOk, OnOk}
-use Rattle.wk_base.specs.declared.left.Left.{Left}
+use Rattle.page_run.specs.WkBaseDeclaredLeftLeft.{Left}
 use Rattle.page_run.specs.Outcome.{Outcome}
 use Rattle.page_run.specs.State.{Gives as Says, Exhausts, Reply as PlainReply}
 use Rattle.page_run.specs.declared.which.Which.{Which}
-use Rattle.lua_heap.specs.Proc.{Proc}
-use Rattle.lua_heap.specs.Value.{Value}
-use Rattle.lua_heap.specs.Heap.{Heap}
-use Rattle.lua_heap.specs.Reach.{Set, union}
-use Rattle.lua_meaning.specs.World.{Modules}
-use Rattle.lua_meaning.specs.Questions.{Answer}
-use Rattle.lua_meaning.specs.Acts.{Jump}
-use Rattle.lua_meaning.specs.Start.{Work, Invoke, DataOf}
+use Rattle.lua_code.specs.LuaHeapProc.{Proc}
+use Rattle.lua_code.specs.LuaHeapValue.{Value}
+use Rattle.lua_code.specs.LuaHeapHeap.{Heap}
+use Rattle.lua_machine.specs.LuaHeapReach.{Set, union}
+use Rattle.lua_code.specs.LuaMeaningWorld.{Modules}
+use Rattle.page_ground.specs.LuaMeaningQuestions.{Answer}
+use Rattle.lua_machine.specs.LuaMeaningActs.{Jump}
+use Rattle.page_ground.specs.LuaMeaningStart.{Work, Invoke, DataOf}
 use Rattle.mw_frame.specs.declared.question.Ask.{Ask}
-use Rattle.lua_slots.specs.Code.{CWorld}
-use Rattle.lua_slots.specs.Slots.{Slots}
-use Rattle.lua_slots.specs.Points.{SFrame, Point, Gives}
-use Rattle.lua_points.specs.Told.{IsToldAs}
-use Rattle.lua_points.specs.Clauses.{GoesOnWith as AnswersWith}
-use Rattle.lua_store.specs.Seen.{StoreView}
-use Rattle.lua_store.specs.Parts.{IsLater}
-use Rattle.lua_store.proofs.Later.{later-itself, later-then}
-use Rattle.lua_state.specs.declared.state.State.{State}
-use Rattle.lua_state.specs.Worlds.{world_seen}
-use Rattle.lua_state.specs.Seen.{slots_of, frames_of}
-use Rattle.lua_state.proofs.Staying.{frames_stay}
+use Rattle.lua_code.specs.LuaSlotsCode.{CWorld}
+use Rattle.lua_machine.specs.LuaSlotsSlots.{Slots}
+use Rattle.lua_machine.specs.LuaSlotsPoints.{SFrame, Point, Gives}
+use Rattle.page_ground.specs.LuaPointsTold.{IsToldAs}
+use Rattle.lua_machine.specs.LuaPointsClauses.{GoesOnWith as AnswersWith}
+use Rattle.lua_machine.specs.LuaStoreSeen.{StoreView}
+use Rattle.lua_machine.specs.LuaStoreParts.{IsLater}
+use Rattle.page_ground.proofs.LuaStoreLater.{later-itself, later-then}
+use Rattle.lua_machine.specs.LuaStateDeclaredStateState.{State}
+use Rattle.lua_machine.specs.LuaStateWorlds.{world_seen}
+use Rattle.page_ground.specs.LuaStateSeen.{slots_of, frames_of}
+use Rattle.lua_machine.proofs.LuaStateStaying.{frames_stay}
 use Rattle.lua_machine.specs.declared.machine.Machine.{Machine}
 use Rattle.lua_machine.specs.Moved.{point_of}
 use Rattle.lua_machine.specs.Events.{MachineOf}
-use Rattle.page_meaning.specs.Wiki.{world}
+use Rattle.page_ground.specs.PageMeaningWiki.{world}
 use Rattle.wiki_expand.specs.declared.expander.Expander.{Expander}
-use Rattle.page_meaning.specs.declared.outcome.JobOutcome.TheVariants as ending
-use Rattle.page_meaning.specs.Tasks.{Running, text_of}
-use Rattle.page_points.specs.Places.{Place, replied}
-use Rattle.page_points.specs.Machines.{KnowsHeight, MachineStands, spent_told, EndedSo, EndsAs}
-use Rattle.page_points.specs.Apart.{LeavesAlone}
-use Rattle.page_points.proofs.Machines.{machine_is_answered, machine_is_refused}
-use Rattle.page_points.proofs.Apart.{nothing_changes, answering_leaves, one_after_another}
+use Rattle.page_ground.specs.PageMeaningDeclaredOutcomeJobOutcomeTheVariants as ending
+use Rattle.page_ground.specs.PageMeaningTasks.{Running, text_of}
+use Rattle.page_ground.specs.PagePointsPlaces.{Place, replied}
+use Rattle.page_ground.specs.PagePointsMachines.{KnowsHeight, MachineStands, spent_told, EndedSo, EndsAs}
+use Rattle.page_ground.specs.PagePointsApart.{LeavesAlone}
+use Rattle.page_ground.proofs.PagePointsMachines.{machine_is_answered, machine_is_refused}
+use Rattle.page_ground.proofs.PagePointsApart.{nothing_changes, answering_leaves, one_after_another}
 use Rattle.page_tasks.specs.declared.task.Begun.{Begun}
 use Rattle.page_ground.specs.declared.data.Data.{Data}
 use Rattle.page_ground.specs.declared.data.Data.TheVariants as data_

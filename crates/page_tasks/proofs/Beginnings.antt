@@ -1,20 +1,20 @@
 -- Expansions begin.
 use Rattle.std.proofs.Common.{◌≡◌, [], Result, Ok, Err, subst}
 use Rattle.std.specs.Prelude.{IfSome, IfOk}
-use Rattle.wk_base.specs.declared.left.Left.{Left}
-use Rattle.wk_base.specs.declared.title.Title.{Title}
-use Rattle.wiki_markup.specs.Trees.{Trees}
-use Rattle.wiki_markup.specs.declared.marked.Marked.{Marked}
+use Rattle.page_run.specs.WkBaseDeclaredLeftLeft.{Left}
+use Rattle.wiki_expand.specs.WkBaseDeclaredTitleTitle.{Title}
+use Rattle.wiki_expand.specs.WikiMarkupTrees.{Trees}
+use Rattle.wiki_expand.specs.WikiMarkupDeclaredMarkedMarked.{Marked}
 use Rattle.mw_frame.specs.declared.scene.Scene.{Scene}
-use Rattle.expand_meaning.specs.Places.{trees_at}
-use Rattle.expand_meaning.specs.Outcome.{Work as PageWork, Reading, Including, page_scene}
+use Rattle.wiki_expand.specs.ExpandMeaningPlaces.{trees_at}
+use Rattle.wiki_expand.specs.ExpandMeaningOutcome.{Work as PageWork, Reading, Including, page_scene}
 use Rattle.wiki_expand.specs.declared.expander.Expander.{Expander}
 use Rattle.wiki_expand.specs.declared.expander.Source.{Source}
 use Rattle.wiki_expand.specs.declared.expander.Source.TheVariants.{Page as OfPage, Template as OfTemplate, Text as OfText}
 use Rattle.wiki_expand.specs.Pages.{direct_in, included_in, setting_in}
 use Rattle.wiki_expand.specs.Standing.{At, IsReady, setting_of, depth_in, templates_in, work_of, reading, including}
-use Rattle.lua_store.specs.Seen.{StoreView}
-use Rattle.page_meaning.specs.Tasks.{Expanding}
+use Rattle.lua_machine.specs.LuaStoreSeen.{StoreView}
+use Rattle.page_ground.specs.PageMeaningTasks.{Expanding}
 use Rattle.page_tasks.specs.declared.task.Task.{Task}
 use Rattle.page_tasks.specs.declared.task.Task.TheVariants as task
 use Rattle.page_ground.specs.Ground.{Ground, page_of}

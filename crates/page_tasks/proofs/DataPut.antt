@@ -1,22 +1,22 @@
 -- Data that is put into the store is an answer to whoever waits, and nothing that was there changes.
 use Rattle.std.proofs.Common.{◌≡◌, ℕ, true, List, [], ◌∷◌, refl, sym, ap, subst}
 use Rattle.page_run.specs.Outcome.{Goes, Jumps}
-use Rattle.lua_heap.specs.Proc.{Proc}
-use Rattle.lua_heap.specs.Value.{Value as Plain, Text}
-use Rattle.lua_heap.specs.Heap.{Heap}
-use Rattle.lua_heap.specs.Reach.{nowhere}
-use Rattle.lua_heap.specs.Graph as plain
-use Rattle.lua_heap.specs.Graph.{IsPut, join, joined_root}
-use Rattle.lua_heap.proofs.GraphLaws.{graph_is_put, put_is_kept}
-use Rattle.lua_meaning.specs.Acts.{Raised}
-use Rattle.lua_meaning.specs.Questions.{Loaded, LoadFailed}
-use Rattle.lua_store.specs.declared.value.Value.{Value}
-use Rattle.lua_store.specs.Seen.{StoreView, seen}
-use Rattle.lua_graph.specs.declared.graph.Graph.{Graph}
-use Rattle.lua_graph.specs.Plain.{plain_graph}
-use Rattle.lua_graph.specs.Put.{IsMade, put}
-use Rattle.lua_points.specs.Told.{as_tables, as_failure}
-use Rattle.page_points.proofs.Apart.{nothing_changes, data_leaves}
+use Rattle.lua_code.specs.LuaHeapProc.{Proc}
+use Rattle.lua_code.specs.LuaHeapValue.{Value as Plain, Text}
+use Rattle.lua_code.specs.LuaHeapHeap.{Heap}
+use Rattle.lua_machine.specs.LuaHeapReach.{nowhere}
+use Rattle.page_ground.specs.LuaHeapGraph as plain
+use Rattle.page_ground.specs.LuaHeapGraph.{IsPut, join, joined_root}
+use Rattle.lua_code.proofs.LuaHeapGraphLaws.{graph_is_put, put_is_kept}
+use Rattle.lua_machine.specs.LuaMeaningActs.{Raised}
+use Rattle.page_ground.specs.LuaMeaningQuestions.{Loaded, LoadFailed}
+use Rattle.page_ground.specs.LuaStoreDeclaredValueValue.{Value}
+use Rattle.lua_machine.specs.LuaStoreSeen.{StoreView, seen}
+use Rattle.page_ground.specs.LuaGraphDeclaredGraphGraph.{Graph}
+use Rattle.page_ground.specs.LuaGraphPlain.{plain_graph}
+use Rattle.page_ground.specs.LuaGraphPut.{IsMade, put}
+use Rattle.page_ground.specs.LuaPointsTold.{as_tables, as_failure}
+use Rattle.page_ground.proofs.PagePointsApart.{nothing_changes, data_leaves}
 use Rattle.page_tasks.specs.Going.{PutsAnswer}
 
 put_at : (g : plain.Graph) (v : Plain) (s t : Heap Proc) → IsPut true g v s t → PutsAnswer s t (Loaded g) (Goes (v ∷ []))

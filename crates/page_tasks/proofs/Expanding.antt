@@ -2,31 +2,31 @@
 use Rattle.std.proofs.Common.{◌≡◌, ℕ, ◌+◌, List, [], ◌∷◌, ◌++◌, Result, Ok, Err, sym, ap, ◌∙◌, subst, arith}
 use Rattle.std.specs.Prelude.{map, IfOk, OnOk}
 use Rattle.std.proofs.lemmas.List.{map-append}
-use Rattle.wk_base.specs.declared.left.Left.{Left}
+use Rattle.page_run.specs.WkBaseDeclaredLeftLeft.{Left}
 use Rattle.page_run.specs.Outcome.{Outcome}
 use Rattle.page_run.specs.State.{Gives, Reply as PlainReply}
-use Rattle.lua_heap.specs.Proc.{Proc}
-use Rattle.lua_heap.specs.Value.{Value}
-use Rattle.lua_heap.specs.Heap.{Heap}
-use Rattle.lua_heap.specs.Reach.{Set, Frame}
-use Rattle.expand_meaning.specs.Expand.{Setting}
-use Rattle.expand_meaning.specs.Outcome.{Work, Comes, Asks, next_event}
-use Rattle.lua_meaning.specs.World.{Modules}
-use Rattle.lua_meaning.specs.Acts.{Jump}
-use Rattle.lua_meaning.specs.Questions.{Answer}
-use Rattle.lua_store.specs.Seen.{StoreView}
-use Rattle.lua_store.proofs.Later.{later-itself}
+use Rattle.lua_code.specs.LuaHeapProc.{Proc}
+use Rattle.lua_code.specs.LuaHeapValue.{Value}
+use Rattle.lua_code.specs.LuaHeapHeap.{Heap}
+use Rattle.lua_machine.specs.LuaHeapReach.{Set, Frame}
+use Rattle.wiki_expand.specs.ExpandMeaningExpand.{Setting}
+use Rattle.wiki_expand.specs.ExpandMeaningOutcome.{Work, Comes, Asks, next_event}
+use Rattle.lua_code.specs.LuaMeaningWorld.{Modules}
+use Rattle.lua_machine.specs.LuaMeaningActs.{Jump}
+use Rattle.page_ground.specs.LuaMeaningQuestions.{Answer}
+use Rattle.lua_machine.specs.LuaStoreSeen.{StoreView}
+use Rattle.page_ground.proofs.LuaStoreLater.{later-itself}
 use Rattle.wiki_expand.specs.declared.expander.Expander.{Expander}
 use Rattle.wiki_expand.specs.declared.expander.Move.{Move}
 use Rattle.wiki_expand.specs.declared.expander.Move.TheVariants.{Text as Came, Invoke as Invokes}
 use Rattle.wiki_expand.specs.Pages.{Pages}
 use Rattle.wiki_expand.specs.Standing.{At, Waits, IsMove, MoveAsks, MoveFalls, IsAfter, setting_of, depth_in, templates_in, allowed_in}
-use Rattle.page_meaning.specs.Wiki.{setting}
-use Rattle.page_meaning.specs.Tasks.{Expanding, as_text, text_of, text_response}
-use Rattle.page_points.specs.Places.{Place, replied}
-use Rattle.page_points.specs.Machines.{gone}
-use Rattle.page_points.proofs.Expansions.{expansion_asks, expansion_ends}
-use Rattle.page_points.proofs.Apart.{going_leaves}
+use Rattle.page_ground.specs.PageMeaningWiki.{setting}
+use Rattle.page_ground.specs.PageMeaningTasks.{Expanding, as_text, text_of, text_response}
+use Rattle.page_ground.specs.PagePointsPlaces.{Place, replied}
+use Rattle.page_ground.specs.PagePointsMachines.{gone}
+use Rattle.page_ground.proofs.PagePointsExpansions.{expansion_asks, expansion_ends}
+use Rattle.page_ground.proofs.PagePointsApart.{going_leaves}
 use Rattle.page_tasks.specs.declared.task.Task.TheVariants as task
 use Rattle.page_tasks.specs.declared.task.Halted.{Halted}
 use Rattle.page_ground.specs.Ground.{Ground, page_of, wiki_of}

@@ -1,34 +1,34 @@
 -- A run of Lua goes on until it halts.
 use Rattle.std.proofs.Common.{◌≡◌, ◌≤◌, ℕ, ◌+◌, ◌*◌, true, sym, ap, ◌∙◌, subst, arith}
-use Rattle.wk_base.specs.declared.left.Left.{Left}
-use Rattle.wk_base.specs.Titles.{is_module}
+use Rattle.page_run.specs.WkBaseDeclaredLeftLeft.{Left}
+use Rattle.lua_code.specs.WkBaseTitles.{is_module}
 use Rattle.mw_frame.specs.declared.scene.Job.{Job}
 use Rattle.page_run.specs.State.{Response, Gives}
-use Rattle.lua_meaning.specs.World.{Modules}
-use Rattle.lua_meaning.specs.Questions.{Answer, Expanded}
-use Rattle.lua_slots.specs.Points.{Asking}
-use Rattle.lua_meaning.specs.Start.{Work, Invoke, DataOf, end_of}
-use Rattle.lua_points.specs.Clauses.{CanGo as MachineCanGo, GoIs}
-use Rattle.lua_store.specs.Seen.{StoreView}
-use Rattle.lua_state.specs.declared.codes.World.{World}
-use Rattle.lua_state.specs.Worlds.{world_seen}
-use Rattle.lua_state.specs.Seen.{slots_of, frames_of, outcome_seen}
+use Rattle.lua_code.specs.LuaMeaningWorld.{Modules}
+use Rattle.page_ground.specs.LuaMeaningQuestions.{Answer, Expanded}
+use Rattle.lua_machine.specs.LuaSlotsPoints.{Asking}
+use Rattle.page_ground.specs.LuaMeaningStart.{Work, Invoke, DataOf, end_of}
+use Rattle.lua_machine.specs.LuaPointsClauses.{CanGo as MachineCanGo, GoIs}
+use Rattle.lua_machine.specs.LuaStoreSeen.{StoreView}
+use Rattle.page_ground.specs.LuaStateDeclaredCodesWorld.{World}
+use Rattle.lua_machine.specs.LuaStateWorlds.{world_seen}
+use Rattle.page_ground.specs.LuaStateSeen.{slots_of, frames_of, outcome_seen}
 use Rattle.lua_machine.specs.declared.machine.Machine.{Machine}
 use Rattle.lua_machine.specs.declared.event.Event.{Event}
 use Rattle.lua_machine.specs.declared.event.Event.TheVariants as event
 use Rattle.lua_machine.specs.Moved.{point_of}
 use Rattle.lua_machine.specs.Events.{BackAt, stop_seen, funds_after}
-use Rattle.page_meaning.specs.Wiki.{world}
-use Rattle.page_meaning.specs.declared.outcome.JobOutcome.{JobOutcome}
-use Rattle.page_meaning.specs.declared.outcome.JobOutcome.TheVariants as ending
-use Rattle.page_meaning.specs.Outcomes.{end_outcome}
-use Rattle.page_meaning.specs.Tasks.{Running, OfLua, Wants}
-use Rattle.page_meaning.proofs.OutcomeLaws.{end_is_told}
-use Rattle.page_points.specs.Places.{Place, next_of}
-use Rattle.page_points.specs.Machines.{KnowsHeight, MachineStands, gone, end_told, spent_told, EndedSo, EndsAs}
-use Rattle.page_points.specs.Apart.{LeavesAlone}
-use Rattle.page_points.proofs.Machines.{machine_asks, machine_ends, machine_is_spent}
-use Rattle.page_points.proofs.Apart.{going_leaves}
+use Rattle.page_ground.specs.PageMeaningWiki.{world}
+use Rattle.page_ground.specs.PageMeaningDeclaredOutcomeJobOutcome.{JobOutcome}
+use Rattle.page_ground.specs.PageMeaningDeclaredOutcomeJobOutcomeTheVariants as ending
+use Rattle.page_ground.specs.PageMeaningOutcomes.{end_outcome}
+use Rattle.page_ground.specs.PageMeaningTasks.{Running, OfLua, Wants}
+use Rattle.page_ground.proofs.PageMeaningOutcomeLaws.{end_is_told}
+use Rattle.page_ground.specs.PagePointsPlaces.{Place, next_of}
+use Rattle.page_ground.specs.PagePointsMachines.{KnowsHeight, MachineStands, gone, end_told, spent_told, EndedSo, EndsAs}
+use Rattle.page_ground.specs.PagePointsApart.{LeavesAlone}
+use Rattle.page_ground.proofs.PagePointsMachines.{machine_asks, machine_ends, machine_is_spent}
+use Rattle.page_ground.proofs.PagePointsApart.{going_leaves}
 use Rattle.page_tasks.specs.declared.task.Begun.{Begun}
 use Rattle.page_tasks.specs.declared.task.Task.TheVariants as task
 use Rattle.page_tasks.specs.declared.task.Reply.{Reply}

@@ -2,31 +2,31 @@
 use Rattle.std.proofs.Common.{ℕ, Option, Some, None}
 use Rattle.std.specs.Prelude.{IfSome}
 use Rattle.lua_code.specs.declared.proto.Protos.{Protos}
-use Rattle.lua_meaning.specs.World.{Modules}
-use Rattle.lua_slots.specs.Code.{CWorld}
-use Rattle.lua_store.specs.declared.ids.TextId.{TextId}
-use Rattle.lua_store.specs.Seen.{StoreView}
-use Rattle.lua_store.proofs.Lists.{all-to}
-use Rattle.lua_stack.specs.declared.activation.Callee.{Callee}
-use Rattle.lua_stack.specs.declared.activation.Activation.{Activation}
-use Rattle.lua_stack.specs.declared.environment.Environment.{Environment}
-use Rattle.lua_stack.specs.declared.frame.Thing.{Thing}
-use Rattle.lua_stack.specs.declared.frame.Thing.TheVariants as thing
-use Rattle.lua_stack.specs.declared.focus.Focus.{Focus}
-use Rattle.lua_stack.specs.declared.focus.Focus.TheVariants as focus
-use Rattle.lua_stack.specs.Of.{CalleeOf, ActivationOf, ThingOf, FocusOf, EnvironmentOf}
-use Rattle.lua_state.specs.declared.codes.Codes.{Codes}
-use Rattle.lua_state.specs.declared.codes.Recent.{Recent}
-use Rattle.lua_state.specs.declared.held.Held.{Held}
-use Rattle.lua_state.specs.declared.state.State.{State}
-use Rattle.lua_state.specs.Of.{StateOf}
-use Rattle.lua_state.specs.Worlds.{world_seen, IsFound, IsRecent, IsHeld, CodesOf}
-use Rattle.mw_frames.specs.declared.scenes.SceneFrame.{SceneFrame}
-use Rattle.mw_frames.specs.declared.scenes.Scenes.{Scenes}
-use Rattle.mw_frames.specs.Scenes.{made, FrameOf, ScenesOf}
+use Rattle.lua_code.specs.LuaMeaningWorld.{Modules}
+use Rattle.lua_code.specs.LuaSlotsCode.{CWorld}
+use Rattle.page_ground.specs.LuaStoreDeclaredIdsTextId.{TextId}
+use Rattle.lua_machine.specs.LuaStoreSeen.{StoreView}
+use Rattle.page_ground.proofs.LuaStoreLists.{all-to}
+use Rattle.page_ground.specs.LuaStackDeclaredActivationCallee.{Callee}
+use Rattle.page_ground.specs.LuaStackDeclaredActivationActivation.{Activation}
+use Rattle.page_ground.specs.LuaStackDeclaredEnvironmentEnvironment.{Environment}
+use Rattle.page_ground.specs.LuaStackDeclaredFrameThing.{Thing}
+use Rattle.page_ground.specs.LuaStackDeclaredFrameThingTheVariants as thing
+use Rattle.lua_machine.specs.LuaStackDeclaredFocusFocus.{Focus}
+use Rattle.lua_machine.specs.LuaStackDeclaredFocusFocusTheVariants as focus
+use Rattle.lua_machine.specs.LuaStackOf.{CalleeOf, ActivationOf, ThingOf, FocusOf, EnvironmentOf}
+use Rattle.page_ground.specs.LuaStateDeclaredCodesCodes.{Codes}
+use Rattle.page_ground.specs.LuaStateDeclaredCodesRecent.{Recent}
+use Rattle.page_ground.specs.LuaStateDeclaredHeldHeld.{Held}
+use Rattle.lua_machine.specs.LuaStateDeclaredStateState.{State}
+use Rattle.lua_machine.specs.LuaStateOf.{StateOf}
+use Rattle.lua_machine.specs.LuaStateWorlds.{world_seen, IsFound, IsRecent, IsHeld, CodesOf}
+use Rattle.page_ground.specs.MwFramesDeclaredScenesSceneFrame.{SceneFrame}
+use Rattle.page_ground.specs.MwFramesDeclaredScenesScenes.{Scenes}
+use Rattle.page_ground.specs.MwFramesScenes.{made, FrameOf, ScenesOf}
 use Rattle.lua_machine.specs.declared.machine.Machine.{Machine}
 use Rattle.lua_machine.specs.Events.{MachineOf}
-use Rattle.page_points.specs.Places.{Place}
+use Rattle.page_ground.specs.PagePointsPlaces.{Place}
 use Rattle.page_tasks.specs.declared.task.Task.{Task}
 use Rattle.page_tasks.specs.declared.task.Task.TheVariants as task
 use Rattle.page_ground.specs.Ground.{Ground}

@@ -1,35 +1,35 @@
 -- Tasks begin.
 use Rattle.std.proofs.Common.{◌≡◌, ℕ, true, [], Option, Some, None, Result, Ok, Err, refl, sym, ap, ◌∙◌, subst}
 use Rattle.std.specs.Prelude.{IfSome, IfOk, OnOk, option_map}
-use Rattle.wk_base.specs.declared.left.Left.{Left}
-use Rattle.wk_base.specs.declared.title.Title.{Title}
-use Rattle.wk_base.specs.Titles.{is_module}
+use Rattle.page_run.specs.WkBaseDeclaredLeftLeft.{Left}
+use Rattle.wiki_expand.specs.WkBaseDeclaredTitleTitle.{Title}
+use Rattle.lua_code.specs.WkBaseTitles.{is_module}
 use Rattle.mw_frame.specs.declared.scene.Job.{Job}
-use Rattle.lua_heap.specs.Reach.{nowhere, with_new, Frame}
-use Rattle.expand_meaning.specs.Outcome.{Work as PageWork}
+use Rattle.lua_machine.specs.LuaHeapReach.{nowhere, with_new, Frame}
+use Rattle.wiki_expand.specs.ExpandMeaningOutcome.{Work as PageWork}
 use Rattle.wiki_expand.specs.declared.expander.Expander.{Expander}
 use Rattle.wiki_expand.specs.Pages.{setting_in}
 use Rattle.wiki_expand.specs.Standing.{At, IsReady, setting_of, depth_in, templates_in}
-use Rattle.lua_meaning.specs.Start.{Invoke, DataOf}
-use Rattle.lua_slots.specs.Code.{CWorld}
-use Rattle.lua_slots.specs.Points.{Point, Works}
-use Rattle.lua_points.specs.Clauses.{Starts}
-use Rattle.lua_store.specs.Seen.{StoreView}
-use Rattle.lua_store.specs.Parts.{IsLater}
-use Rattle.lua_store.proofs.Later.{later-itself}
-use Rattle.lua_stack.specs.declared.focus.Work.{Work as CodeWork}
-use Rattle.lua_stack.specs.Seen.{work_seen}
-use Rattle.lua_state.specs.Worlds.{world_seen}
-use Rattle.lua_state.specs.Seen.{slots_of}
+use Rattle.page_ground.specs.LuaMeaningStart.{Invoke, DataOf}
+use Rattle.lua_code.specs.LuaSlotsCode.{CWorld}
+use Rattle.lua_machine.specs.LuaSlotsPoints.{Point, Works}
+use Rattle.lua_machine.specs.LuaPointsClauses.{Starts}
+use Rattle.lua_machine.specs.LuaStoreSeen.{StoreView}
+use Rattle.lua_machine.specs.LuaStoreParts.{IsLater}
+use Rattle.page_ground.proofs.LuaStoreLater.{later-itself}
+use Rattle.page_ground.specs.LuaStackDeclaredFocusWork.{Work as CodeWork}
+use Rattle.lua_machine.specs.LuaStackSeen.{work_seen}
+use Rattle.lua_machine.specs.LuaStateWorlds.{world_seen}
+use Rattle.page_ground.specs.LuaStateSeen.{slots_of}
 use Rattle.lua_machine.specs.declared.machine.Machine.{Machine}
 use Rattle.lua_machine.specs.Moved.{point_of}
 use Rattle.lua_machine.specs.Events.{MachineOf}
-use Rattle.page_meaning.specs.Wiki.{world}
-use Rattle.page_meaning.specs.Tasks.{Running, Expanding}
-use Rattle.page_points.specs.Places.{Place, beginning}
-use Rattle.page_points.specs.Machines.{MachineStands}
-use Rattle.page_points.proofs.Machines.{machine_starts}
-use Rattle.page_points.proofs.Apart.{nothing_changes, going_leaves}
+use Rattle.page_ground.specs.PageMeaningWiki.{world}
+use Rattle.page_ground.specs.PageMeaningTasks.{Running, Expanding}
+use Rattle.page_ground.specs.PagePointsPlaces.{Place, beginning}
+use Rattle.page_ground.specs.PagePointsMachines.{MachineStands}
+use Rattle.page_ground.proofs.PagePointsMachines.{machine_starts}
+use Rattle.page_ground.proofs.PagePointsApart.{nothing_changes, going_leaves}
 use Rattle.page_tasks.specs.declared.task.Begun.{Begun}
 use Rattle.page_tasks.specs.declared.task.Task.TheVariants as task
 use Rattle.page_ground.specs.Ground.{Ground, page_of, wiki_of}

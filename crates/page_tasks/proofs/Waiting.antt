@@ -1,22 +1,22 @@
 -- A task waits while another one goes on.
 use Rattle.std.proofs.Common.{◌≡◌, List, Some, IsTrue, sym, subst}
-use Rattle.lua_heap.specs.Proc.{Proc}
-use Rattle.lua_heap.specs.Heap.{Ref, Obj, look}
-use Rattle.lua_meaning.specs.World.{Modules}
-use Rattle.lua_slots.specs.Slots.{Slots}
-use Rattle.lua_slots.specs.Points.{SFrame, Asking}
-use Rattle.lua_store.specs.Seen.{StoreView}
-use Rattle.lua_store.specs.Parts.{IsLater}
-use Rattle.lua_stack.proofs.Stay.{focus_later}
-use Rattle.lua_state.specs.Worlds.{world_seen}
-use Rattle.lua_state.specs.Seen.{slots_of, frames_of}
-use Rattle.lua_state.proofs.Staying.{state_later, frames_stay, slots_stay}
+use Rattle.lua_code.specs.LuaHeapProc.{Proc}
+use Rattle.lua_code.specs.LuaHeapHeap.{Ref, Obj, look}
+use Rattle.lua_code.specs.LuaMeaningWorld.{Modules}
+use Rattle.lua_machine.specs.LuaSlotsSlots.{Slots}
+use Rattle.lua_machine.specs.LuaSlotsPoints.{SFrame, Asking}
+use Rattle.lua_machine.specs.LuaStoreSeen.{StoreView}
+use Rattle.lua_machine.specs.LuaStoreParts.{IsLater}
+use Rattle.page_ground.proofs.LuaStackStay.{focus_later}
+use Rattle.lua_machine.specs.LuaStateWorlds.{world_seen}
+use Rattle.page_ground.specs.LuaStateSeen.{slots_of, frames_of}
+use Rattle.lua_machine.proofs.LuaStateStaying.{state_later, frames_stay, slots_stay}
 use Rattle.lua_machine.specs.declared.machine.Machine.{Machine}
 use Rattle.lua_machine.specs.Events.{MachineOf}
-use Rattle.page_meaning.specs.Wiki.{world}
-use Rattle.page_points.specs.Places.{Place}
-use Rattle.page_points.specs.Machines.{MachineStands}
-use Rattle.page_points.proofs.Machines.{machine_waits}
+use Rattle.page_ground.specs.PageMeaningWiki.{world}
+use Rattle.page_ground.specs.PagePointsPlaces.{Place}
+use Rattle.page_ground.specs.PagePointsMachines.{MachineStands}
+use Rattle.page_ground.proofs.PagePointsMachines.{machine_waits}
 use Rattle.page_tasks.specs.declared.task.Task.{Task}
 use Rattle.page_tasks.specs.declared.task.Task.TheVariants as task
 use Rattle.page_ground.specs.Ground.{Ground, page_of, wiki_of}

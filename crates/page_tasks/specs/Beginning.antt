@@ -1,17 +1,17 @@
 -- A TASK BEGINS, in a store of its own making or in the store as it is.
 use Rattle.std.specs.Prelude.{◌≡◌, ℕ}
-use Rattle.wk_base.specs.declared.left.Left.{Left}
+use Rattle.page_run.specs.WkBaseDeclaredLeftLeft.{Left}
 use Rattle.page_run.specs.Walk.{WalkState}
-use Rattle.lua_heap.specs.Reach.{Set, nowhere}
-use Rattle.lua_meaning.specs.World.{Modules}
-use Rattle.lua_meaning.specs.Start.{Work}
-use Rattle.lua_store.specs.Seen.{StoreView}
-use Rattle.lua_store.specs.Parts.{IsLater}
+use Rattle.lua_machine.specs.LuaHeapReach.{Set, nowhere}
+use Rattle.lua_code.specs.LuaMeaningWorld.{Modules}
+use Rattle.page_ground.specs.LuaMeaningStart.{Work}
+use Rattle.lua_machine.specs.LuaStoreSeen.{StoreView}
+use Rattle.lua_machine.specs.LuaStoreParts.{IsLater}
 use Rattle.lua_machine.specs.declared.machine.Machine.{Machine}
 use Rattle.lua_machine.specs.Events.{MachineOf}
-use Rattle.page_meaning.specs.Tasks.{Task as PlainTask, Running}
-use Rattle.page_points.specs.Places.{beginning}
-use Rattle.page_points.specs.Apart.{LeavesAlone}
+use Rattle.page_ground.specs.PageMeaningTasks.{Task as PlainTask, Running}
+use Rattle.page_ground.specs.PagePointsPlaces.{beginning}
+use Rattle.page_ground.specs.PagePointsApart.{LeavesAlone}
 use Rattle.page_tasks.specs.declared.task.Task.{Task}
 use Rattle.page_ground.specs.Ground.{Ground, AreModulesOf}
 use Rattle.page_tasks.specs.Tasks.{TaskIn, OnGround, CanGo, calls_in, depth_of, templates_of, MachineReady, Ready}

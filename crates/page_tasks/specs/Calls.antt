@@ -1,19 +1,19 @@
 -- CALLS of an expansion, and the answer to a machine, by their clauses (`MachineGoes` of Going is the call of a machine).
 use Rattle.std.specs.Prelude.{◌≡◌, ℕ, ◌+◌, max, List, [], ◌∷◌, ◌++◌}
-use Rattle.wk_base.specs.declared.left.Left.{Left}
+use Rattle.page_run.specs.WkBaseDeclaredLeftLeft.{Left}
 use Rattle.mw_frame.specs.declared.question.Ask.{Ask}
 use Rattle.page_run.specs.Outcome.{Outcome}
 use Rattle.page_run.specs.State.{Gives as Says, Reply as PlainReply}
-use Rattle.lua_heap.specs.Value.{Value}
-use Rattle.expand_meaning.specs.Outcome.{Work}
-use Rattle.lua_meaning.specs.Acts.{Jump}
-use Rattle.lua_meaning.specs.Questions.{Answer}
-use Rattle.lua_slots.specs.Code.{CWorld}
-use Rattle.lua_slots.specs.Points.{Gives}
-use Rattle.lua_points.specs.Clauses.{GoesOnWith as AnswersWith}
-use Rattle.lua_store.specs.Seen.{StoreView}
-use Rattle.lua_store.specs.Parts.{IsLater}
-use Rattle.lua_state.specs.Seen.{slots_of, frames_of}
+use Rattle.lua_code.specs.LuaHeapValue.{Value}
+use Rattle.wiki_expand.specs.ExpandMeaningOutcome.{Work}
+use Rattle.lua_machine.specs.LuaMeaningActs.{Jump}
+use Rattle.page_ground.specs.LuaMeaningQuestions.{Answer}
+use Rattle.lua_code.specs.LuaSlotsCode.{CWorld}
+use Rattle.lua_machine.specs.LuaSlotsPoints.{Gives}
+use Rattle.lua_machine.specs.LuaPointsClauses.{GoesOnWith as AnswersWith}
+use Rattle.lua_machine.specs.LuaStoreSeen.{StoreView}
+use Rattle.lua_machine.specs.LuaStoreParts.{IsLater}
+use Rattle.page_ground.specs.LuaStateSeen.{slots_of, frames_of}
 use Rattle.lua_machine.specs.declared.machine.Machine.{Machine}
 use Rattle.lua_machine.specs.declared.event.Event.{Event}
 use Rattle.lua_machine.specs.Moved.{point_of}

@@ -1,7 +1,7 @@
 -- WHY A PAGE COMES TO AN END: whoever halts has not more left than before, a machine that asks has taken a step, and an expansion that asks
 -- has taken of what its nodes allow.
 use Rattle.std.specs.Prelude.{ℕ, ◌+◌, ◌*◌, ◌<◌, ◌≤◌, ◌^◌}
-use Rattle.wk_base.specs.declared.left.Left.{Left}
+use Rattle.page_run.specs.WkBaseDeclaredLeftLeft.{Left}
 use Rattle.wiki_expand.specs.Weights.{chances}
 use Rattle.lua_machine.specs.declared.event.Event.{Event}
 use Rattle.lua_machine.specs.declared.event.Event.TheVariants as event

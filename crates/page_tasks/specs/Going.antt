@@ -1,32 +1,32 @@
 -- A TASK GOES ON until it halts.
 use Rattle.std.specs.Prelude.{◌≡◌, ℕ, ◌+◌, ◌≤◌, max, List, Some}
-use Rattle.wk_base.specs.declared.left.Left.{Left}
+use Rattle.page_run.specs.WkBaseDeclaredLeftLeft.{Left}
 use Rattle.page_run.specs.Outcome.{Outcome}
 use Rattle.page_run.specs.State.{Response, Gives, Exhausts, Reply as PlainReply}
-use Rattle.lua_heap.specs.Proc.{Proc}
-use Rattle.lua_heap.specs.Value.{Value}
-use Rattle.lua_heap.specs.Heap.{Heap, Ref, Obj, look}
-use Rattle.lua_heap.specs.Reach.{Set}
-use Rattle.lua_meaning.specs.World.{Modules}
-use Rattle.lua_meaning.specs.Questions.{Answer}
-use Rattle.lua_meaning.specs.Acts.{Jump}
-use Rattle.lua_meaning.specs.Start.{end_of}
-use Rattle.lua_points.specs.Told.{IsToldAs}
-use Rattle.lua_points.specs.Laws.{IsThere, TakesItsOwn}
+use Rattle.lua_code.specs.LuaHeapProc.{Proc}
+use Rattle.lua_code.specs.LuaHeapValue.{Value}
+use Rattle.lua_code.specs.LuaHeapHeap.{Heap, Ref, Obj, look}
+use Rattle.lua_machine.specs.LuaHeapReach.{Set}
+use Rattle.lua_code.specs.LuaMeaningWorld.{Modules}
+use Rattle.page_ground.specs.LuaMeaningQuestions.{Answer}
+use Rattle.lua_machine.specs.LuaMeaningActs.{Jump}
+use Rattle.page_ground.specs.LuaMeaningStart.{end_of}
+use Rattle.page_ground.specs.LuaPointsTold.{IsToldAs}
+use Rattle.lua_machine.specs.LuaPointsLaws.{IsThere, TakesItsOwn}
 use Rattle.wiki_expand.specs.declared.expander.Move.{Move}
 use Rattle.wiki_expand.specs.declared.expander.Move.TheVariants.{Text as Came, Invoke as Invokes}
-use Rattle.lua_store.specs.Seen.{StoreView}
-use Rattle.lua_store.specs.Parts.{IsLater}
-use Rattle.lua_state.specs.Seen.{outcome_seen}
+use Rattle.lua_machine.specs.LuaStoreSeen.{StoreView}
+use Rattle.lua_machine.specs.LuaStoreParts.{IsLater}
+use Rattle.page_ground.specs.LuaStateSeen.{outcome_seen}
 use Rattle.lua_machine.specs.declared.machine.Machine.{Machine}
 use Rattle.lua_machine.specs.declared.event.Event.{Event}
 use Rattle.lua_machine.specs.declared.event.Event.TheVariants as event
 use Rattle.lua_machine.specs.Events.{MachineOf, EventOf, GoesFrom, BackAt, stop_seen, funds_after}
-use Rattle.page_meaning.specs.declared.outcome.JobOutcome.TheVariants as ending
-use Rattle.page_meaning.specs.Outcomes.{end_outcome}
-use Rattle.page_points.specs.Places.{Place, replied}
-use Rattle.page_points.specs.Machines.{gone, data_told}
-use Rattle.page_points.specs.Apart.{LeavesAlone}
+use Rattle.page_ground.specs.PageMeaningDeclaredOutcomeJobOutcomeTheVariants as ending
+use Rattle.page_ground.specs.PageMeaningOutcomes.{end_outcome}
+use Rattle.page_ground.specs.PagePointsPlaces.{Place, replied}
+use Rattle.page_ground.specs.PagePointsMachines.{gone, data_told}
+use Rattle.page_ground.specs.PagePointsApart.{LeavesAlone}
 use Rattle.page_tasks.specs.declared.task.Task.{Task}
 use Rattle.page_tasks.specs.declared.task.Task.TheVariants as task
 use Rattle.page_ground.specs.declared.data.Data.{Data}

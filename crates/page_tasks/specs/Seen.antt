@@ -1,10 +1,10 @@
 -- WHAT A TASK CAME TO, as the meaning has it, and what an expansion is told for an answer.
 use Rattle.std.specs.Prelude.{ℕ, List, []}
 use Rattle.page_run.specs.State.{Response, Gives, Exhausts}
-use Rattle.lua_meaning.specs.Questions.{Answer, Expanded}
-use Rattle.page_meaning.specs.declared.outcome.JobOutcome.{JobOutcome}
-use Rattle.page_meaning.specs.declared.outcome.JobOutcome.TheVariants as ending
-use Rattle.page_meaning.specs.Outcomes.{outcome_text}
+use Rattle.page_ground.specs.LuaMeaningQuestions.{Answer, Expanded}
+use Rattle.page_ground.specs.PageMeaningDeclaredOutcomeJobOutcome.{JobOutcome}
+use Rattle.page_ground.specs.PageMeaningDeclaredOutcomeJobOutcomeTheVariants as ending
+use Rattle.page_ground.specs.PageMeaningOutcomes.{outcome_text}
 use Rattle.page_ground.specs.Seen.{data_seen}
 use Rattle.page_tasks.specs.declared.task.Reply.{Reply}
 use Rattle.page_tasks.specs.declared.task.Reply.TheVariants as reply

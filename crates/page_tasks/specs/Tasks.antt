@@ -1,29 +1,29 @@
 -- A TASK OF CODE AT ITS PLACE: it can go on, it waits, or it has halted.
 use Rattle.std.specs.Prelude.{◌≡◌, ℕ, ◌+◌, true, map}
-use Rattle.wk_base.specs.declared.left.Left.{Left}
-use Rattle.wk_base.specs.Titles.{is_module}
+use Rattle.page_run.specs.WkBaseDeclaredLeftLeft.{Left}
+use Rattle.lua_code.specs.WkBaseTitles.{is_module}
 use Rattle.page_run.specs.State.{Reply as PlainReply}
 use Rattle.mw_frame.specs.Scenes.{HaveNames}
 use Rattle.mw_frame.specs.declared.question.Ask.{Ask}
 use Rattle.mw_frame.specs.declared.scene.Job.{Job}
-use Rattle.expand_meaning.specs.Outcome.{Work as PageWork}
+use Rattle.wiki_expand.specs.ExpandMeaningOutcome.{Work as PageWork}
 use Rattle.wiki_expand.specs.declared.expander.Expander.{Expander}
 use Rattle.wiki_expand.specs.Pages.{setting_in}
 use Rattle.wiki_expand.specs.Standing.{At, Waits as ExpanderWaits, IsReady, IsWaiting, setting_of, depth_in, templates_in}
-use Rattle.lua_meaning.specs.World.{Modules}
-use Rattle.lua_meaning.specs.Questions.{Answer}
-use Rattle.lua_meaning.specs.Start.{Invoke, DataOf}
-use Rattle.lua_slots.specs.Points.{Asking}
-use Rattle.lua_store.specs.Seen.{StoreView}
-use Rattle.lua_state.specs.Seen.{slots_of, frames_of}
-use Rattle.lua_state.specs.Worlds.{world_seen}
+use Rattle.lua_code.specs.LuaMeaningWorld.{Modules}
+use Rattle.page_ground.specs.LuaMeaningQuestions.{Answer}
+use Rattle.page_ground.specs.LuaMeaningStart.{Invoke, DataOf}
+use Rattle.lua_machine.specs.LuaSlotsPoints.{Asking}
+use Rattle.lua_machine.specs.LuaStoreSeen.{StoreView}
+use Rattle.page_ground.specs.LuaStateSeen.{slots_of, frames_of}
+use Rattle.lua_machine.specs.LuaStateWorlds.{world_seen}
 use Rattle.lua_machine.specs.declared.machine.Machine.{Machine}
 use Rattle.lua_machine.specs.Moved.{point_of}
 use Rattle.lua_machine.specs.Events.{MachineOf}
-use Rattle.page_meaning.specs.Wiki.{world}
-use Rattle.page_meaning.specs.Tasks.{Running, Expanding, OfLua, OfPage, Wants, as_text}
-use Rattle.page_points.specs.Places.{Place, HasCome, next_of}
-use Rattle.page_points.specs.Machines.{MachineStands, EndedSo}
+use Rattle.page_ground.specs.PageMeaningWiki.{world}
+use Rattle.page_ground.specs.PageMeaningTasks.{Running, Expanding, OfLua, OfPage, Wants, as_text}
+use Rattle.page_ground.specs.PagePointsPlaces.{Place, HasCome, next_of}
+use Rattle.page_ground.specs.PagePointsMachines.{MachineStands, EndedSo}
 use Rattle.page_tasks.specs.declared.task.Task.{Task}
 use Rattle.page_tasks.specs.declared.task.Task.TheVariants as task
 use Rattle.page_tasks.specs.declared.task.Reply.{Reply}

@@ -1,30 +1,28 @@
 //! How the tasks of a page begin.
 ghost use Rattle.std.specs.Prelude.{◌≡◌, true, IsSome, IfSome, IfOk};
 ghost use Rattle.mw_frame.specs.Scenes.{HaveNames, NamesDiffer};
-ghost use Rattle.wk_base.specs.Titles.{is_module};
-ghost use Rattle.expand_meaning.specs.Outcome.{Reading, Including, page_scene};
+ghost use Rattle.lua_code.specs.WkBaseTitles.{is_module};
+ghost use Rattle.wiki_expand.specs.ExpandMeaningOutcome.{Reading, Including, page_scene};
 ghost use Rattle.wiki_expand.specs.Pages.{find_page, direct_in, included_in};
 ghost use Rattle.wiki_expand.specs.Standing.{IsHeldSource, work_of};
-ghost use Rattle.lua_meaning.specs.Start.{Invoke, DataOf};
-ghost use Rattle.lua_stack.specs.Of.{WorkOf};
-ghost use Rattle.lua_stack.specs.Seen.{work_seen};
-ghost use Rattle.lua_store.specs.Seen.{StoreView};
-ghost use Rattle.page_meaning.specs.Wiki.{read};
-ghost use Rattle.page_meaning.specs.Tasks.{Running, Expanding};
+ghost use Rattle.page_ground.specs.LuaMeaningStart.{Invoke, DataOf};
+ghost use Rattle.lua_machine.specs.LuaStackOf.{WorkOf};
+ghost use Rattle.lua_machine.specs.LuaStackSeen.{work_seen};
+ghost use Rattle.lua_machine.specs.LuaStoreSeen.{StoreView};
+ghost use Rattle.page_ground.specs.PageMeaningWiki.{read};
+ghost use Rattle.page_ground.specs.PageMeaningTasks.{Running, Expanding};
 ghost use Rattle.page_ground.specs.Ground.{ground_of, page_of};
 ghost use Rattle.page_tasks.specs.Falling.{chances_of};
 ghost use Rattle.page_tasks.specs.Beginning.{MachineBegins, Begins, BeginsWith};
 
 use crate::boxed::Boxed;
 use crate::task::{Begun, Task};
-use lua_machine::Machine;
-use lua_stack::Work;
-use lua_store::Store;
-use mw_frame::{Arg, Job, Scene};
+use lua_code::NoMemory;
+use lua_machine::{Machine, Store, Work};
+use mw_frame::{Arg, Bytes, Job, List, Scene, Title};
 use page_ground::context::Context;
 use page_ground::scenes::{bare_scene, check_names, read_text};
 use wiki_expand::{Expander, Source};
-use wk_base::{Bytes, List, NoMemory, Title};
 
 /// A run of Lua begins, in a fresh environment of its own.
 fn begin_run<'w>(

@@ -3,9 +3,9 @@ ghost use Rattle.std.specs.Prelude.{◌≡◌, Ok, IfOk};
 ghost use Rattle.std.specs.Borrow.{Lends, sem};
 ghost use Rattle.page_tasks.specs.contracts.boxed.Boxed.{the_row};
 
+use lua_code::NoMemory;
 use std::alloc::Global;
 use std::marker::Model;
-use wk_base::NoMemory;
 
 /// A value on the heap. Contracts see the value itself.
 #[derive(Drop)]

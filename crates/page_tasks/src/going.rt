@@ -1,6 +1,6 @@
 //! A task that can go on goes on until it halts.
 ghost use Rattle.std.specs.Prelude.{◌≡◌, ◌+◌, ◌<◌, ◌^◌, ℕ, false, IfOk};
-ghost use Rattle.lua_store.specs.Seen.{StoreView};
+ghost use Rattle.lua_machine.specs.LuaStoreSeen.{StoreView};
 ghost use Rattle.wiki_expand.specs.Standing.{IsReady, depth_in, templates_in};
 ghost use Rattle.lua_machine.specs.declared.event.Event.TheVariants as event_kind;
 ghost use Rattle.lua_machine.specs.Events.{MachineOf, EventOf};
@@ -13,16 +13,14 @@ ghost use Rattle.page_tasks.specs.Falling.{CanGiveBack, StepsFall, Falls};
 
 use crate::boxed::Boxed;
 use crate::task::{Begun, Halt, Halted, Reply, Task};
-use lua_machine::{Event, Machine};
-use lua_state::Outcome;
-use lua_store::Store;
+use lua_code::NoMemory;
+use lua_machine::{Event, Machine, Outcome, Steps, Store};
 use mw_frame::{Ask, Job};
+use page_ground::JobOutcome;
 use page_ground::ending::{end_data, end_outcome};
-use page_meaning::JobOutcome;
 use std::alloc::Global;
 use std::sync::ledger::Ledger;
-use wiki_expand::{Expander, Move};
-use wk_base::{Left, NoMemory, Steps};
+use wiki_expand::{Expander, Left, Move};
 
 /// An expansion halts at an invocation.
 fn invokes(alloc: Global, job: Job) -> Result<Halt, NoMemory>

@@ -15,3 +15,13 @@ pub mod boxed;
 pub mod going;
 pub mod task;
 pub mod telling;
+
+pub use lua_machine::{Machine, Steps, Store, World};
+pub use page_ground::Stack;
+pub use page_ground::context::Context;
+pub use page_ground::data::Data;
+pub use page_ground::ending::outcome_text;
+pub use page_ground::held_modules::is_held;
+pub use page_ground::keep::{Keep, Kept, find_covered, keep_first};
+pub use page_ground::numbers::Numbers;
+pub use wiki_expand::{Left, PageMap};

@@ -1,12 +1,11 @@
 //! A task on the stack, and how it halts.
 use crate::boxed::Boxed;
 use lua_machine::Machine;
-use mw_frame::{Ask, Job};
+use mw_frame::{Ask, Job, Title};
+use page_ground::JobOutcome;
 use page_ground::data::Data;
-use page_meaning::JobOutcome;
 use page_run::Which;
 use wiki_expand::Expander;
-use wk_base::Title;
 
 /// A data load that has begun: its module, and the steps that were left.
 #[derive(Drop)]

@@ -2,15 +2,15 @@
 ghost use Rattle.std.specs.Prelude.{◌≡◌, ◌+◌, ◌<◌, ◌≤◌, ◌^◌, [], ℕ, List, IfOk, OnOk};
 ghost use Rattle.page_run.specs.Outcome.{Outcome as PlainOutcome};
 ghost use Rattle.page_run.specs.State.{Gives, Exhausts};
-ghost use Rattle.lua_heap.specs.Value.{Value as PlainValue};
-ghost use Rattle.lua_meaning.specs.Acts.{Jump};
-ghost use Rattle.lua_meaning.specs.Questions.{Answer as PlainAnswer, Expanded, NoPage};
-ghost use Rattle.lua_store.specs.Seen.{StoreView};
-ghost use Rattle.lua_store.specs.Parts.{IsLater};
+ghost use Rattle.lua_code.specs.LuaHeapValue.{Value as PlainValue};
+ghost use Rattle.lua_machine.specs.LuaMeaningActs.{Jump};
+ghost use Rattle.page_ground.specs.LuaMeaningQuestions.{Answer as PlainAnswer, Expanded, NoPage};
+ghost use Rattle.lua_machine.specs.LuaStoreSeen.{StoreView};
+ghost use Rattle.lua_machine.specs.LuaStoreParts.{IsLater};
 ghost use Rattle.lua_machine.specs.Events.{MachineOf, AnswerOf, answer_outcome};
 ghost use Rattle.wiki_expand.specs.Standing.{IsReady, IsWaiting};
-ghost use Rattle.page_meaning.specs.Outcomes.{outcome_text};
-ghost use Rattle.page_meaning.specs.Tasks.{text_of};
+ghost use Rattle.page_ground.specs.PageMeaningOutcomes.{outcome_text};
+ghost use Rattle.page_ground.specs.PageMeaningTasks.{text_of};
 ghost use Rattle.page_tasks.specs.declared.task.Task.TheVariants as task_kind;
 ghost use Rattle.page_ground.specs.Seen.{data_seen, CanBePut};
 ghost use Rattle.page_tasks.specs.Seen.{answered_text};
@@ -22,17 +22,16 @@ ghost use Rattle.page_tasks.specs.Falling.{CanGiveBack, Falls};
 use crate::boxed::Boxed;
 use crate::going::{go_expansion, go_invocation, go_load};
 use crate::task::{Begun, Halt, Halted, Reply, Task};
-use lua_graph::put_in;
-use lua_machine::{Answer, Machine};
-use lua_store::Store;
+use lua_code::NoMemory;
+use lua_machine::{Answer, Machine, Steps, Store};
+use mw_frame::Bytes;
 use page_ground::data::Data;
 use page_ground::ending::outcome_text;
-use page_meaning::JobOutcome;
+use page_ground::{JobOutcome, put_in};
 use page_run::Which;
 use std::alloc::Global;
 use std::sync::ledger::Ledger;
-use wiki_expand::Expander;
-use wk_base::{Bytes, Left, NoMemory, Steps};
+use wiki_expand::{Expander, Left};
 
 /// No bytes.
 fn no_text(alloc: Global) -> Bytes

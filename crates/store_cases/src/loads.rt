@@ -3,8 +3,10 @@ ghost use Rattle.lua_store.specs.Parts.{IsTableOf, IsOf};
 
 use crate::start::{fixed_seed, holds};
 use bumpalo::Bump;
-use lua_store::{SetFault, Store, TableId, Value};
-use mw_loader::{DataFault, DataKeep, Kept, make_shared};
+use lua_graph::DataFault;
+use lua_store::{Store, TableId, Value};
+use lua_table::SetFault;
+use mw_loader::{DataKeep, Kept, make_shared};
 use std::alloc::Global;
 use std::hash::RandomState;
 use std::process::Abort;

@@ -4,10 +4,12 @@ ghost use Rattle.lua_store.specs.Parts.{IsTableOf, IsTextOf, IsCellOf, IsClosure
 
 use crate::start::{fixed_seed, holds};
 use bumpalo::Bump;
+use lua_heap::Library;
 use lua_store::{
-    CellId, ClosureId, ClosureKind, Library, MarkupId, MarkupNode, ProtoId, SetFault, Store,
-    TableId, TextId, Value, laws,
+    CellId, ClosureId, ClosureKind, MarkupId, MarkupNode, ProtoId, Store, TableId, TextId, Value,
+    laws,
 };
+use lua_table::SetFault;
 use std::alloc::Global;
 use std::hash::RandomState;
 use std::mem::size_of;

@@ -15,14 +15,15 @@ use crate::words::{
     budget, bytes, copied, fault, number, numbers, place, place_or_none, shown, text_or_none,
     truth, word, written,
 };
-use lua_pattern::Search;
-use mw_ustring::{
-    byteoffset, char_of, codepoint, count_points, find, first_points, isutf8, len, match_from,
-    offset, part, plain_find, point_place, points_behind, start, sub, text_of, to_nfc, to_nfd,
-    to_nfkc, to_nfkd,
+use mw_frame::List;
+use mw_text::{
+    Search, byteoffset, codepoint, count_points, first_points, isutf8,
+    mw_ustring_char_of as char_of, mw_ustring_find as find, mw_ustring_len as len,
+    mw_ustring_match_from as match_from, mw_ustring_part as part, mw_ustring_sub as sub, offset,
+    plain_find, point_place, points_behind, start, text_of, to_nfc, to_nfd, to_nfkc, to_nfkd,
 };
 use std::alloc::{AllocError, Global};
-use wk_base::{List, NoMemory};
+use wiki_markup::NoMemory;
 
 /// What a call gives.
 pub(crate) fn answer(alloc: Global, text: &str) -> Result<Vec<u8>, NoMemory> {

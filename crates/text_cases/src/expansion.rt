@@ -20,10 +20,10 @@ use expand_texts::kind::{Kind, kind_of, title_named};
 use expand_texts::rope::{Piece, Rope};
 use expand_texts::space::trimmed;
 use expand_texts::stack::Stack;
-use expand_texts::texts;
-use mw_frame::Arg;
+use expand_texts::{Namespace, texts};
+use mw_frame::{Arg, Bytes, Title};
 use std::alloc::Global;
-use wk_base::{Bytes, Namespace, NoMemory, Title};
+use wiki_markup::NoMemory;
 
 /// What a row `expansion` comes to.
 pub(crate) fn answer(alloc: Global, text: &str) -> Result<Vec<u8>, NoMemory> {

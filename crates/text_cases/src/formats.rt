@@ -6,8 +6,9 @@
 
 use crate::words::{bytes, copied, escaped, written};
 use lua_format::{FormatFault, FormatValue, Want, format, format_length};
+use mw_frame::{Bytes, List};
 use std::alloc::Global;
-use wk_base::{Bytes, List, NoMemory};
+use wiki_markup::NoMemory;
 
 /// What a format gives.
 pub(crate) fn answer(alloc: Global, text: &str) -> Result<Vec<u8>, NoMemory> {

@@ -6,7 +6,7 @@ use crate::tokens::{self, put_lexed};
 use crate::trees::{self, put_beginnings, put_parsed, put_pieces, put_repeated};
 use case_text::unescaped;
 use std::alloc::Global;
-use wk_base::NoMemory;
+use wiki_markup::NoMemory;
 
 /// What a text of a kind comes to, as `tokens`, `numbers`, `trees` and `laws` say.
 pub(crate) fn answer(alloc: Global, kind: &str, text: &str) -> Result<Vec<u8>, NoMemory> {

@@ -39,7 +39,7 @@ mod written;
 use case_text::unescaped;
 use std::alloc::Global;
 use std::io;
-use wk_base::NoMemory;
+use wiki_markup::NoMemory;
 
 /// What a text of a kind comes to, as its rows write it.
 fn answer(alloc: Global, kind: &str, text: &str) -> Result<Vec<u8>, NoMemory> {

@@ -18,9 +18,9 @@ ghost use Rattle.wiki_markup.specs.Order.{Ordered, Rising};
 use crate::out::Out;
 use crate::parts::part;
 use case_text::unescaped;
+use mw_frame::{Bytes, List};
 use std::alloc::Global;
-use wiki_markup::{KindView, Marked, Mode, NodeView, ShownText, Span, markup, shown};
-use wk_base::{Bytes, List, NoMemory};
+use wiki_markup::{KindView, Marked, Mode, NoMemory, NodeView, ShownText, Span, markup, shown};
 
 /// A node that is open: where it ends, and what is written there.
 #[derive(Clone, Copy)]

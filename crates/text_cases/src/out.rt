@@ -1,7 +1,7 @@
 //! What a row's text comes to, while it is written.
 use itoa::Buffer;
 use std::alloc::Global;
-use wk_base::NoMemory;
+use wiki_markup::NoMemory;
 
 /// A text that grows. Want of memory is told at its end, so that what writes into it has no errors to hand on.
 #[derive(Drop)]

@@ -10,13 +10,13 @@
 //! - `text from`, then a subject and a place: what stands there and behind
 
 use crate::words::{bytes, copied, fault, place, truth, word, written};
-use lua_pattern::item::{Class, Part, Set};
-use lua_pattern::{
-    Alphabet, Capture, Match, OneByte, OnePoint, Pattern, PatternFault, PreparedSet, Search,
-    read_set, symbol_at, text_from,
+use mw_frame::List;
+use mw_text::{
+    Alphabet, Capture, Class, LuaPatternItemPart as Part, Match, OneByte, OnePoint, Pattern,
+    PatternFault, PreparedSet, Search, Set, read_set, symbol_at, text_from,
 };
 use std::alloc::{AllocError, Global};
-use wk_base::{List, NoMemory};
+use wiki_markup::NoMemory;
 
 /// What a case comes to.
 pub(crate) fn answer(alloc: Global, text: &str) -> Result<Vec<u8>, NoMemory> {

@@ -1,8 +1,7 @@
 //! The definition of a match as a plain program: recursion on the items, with no budget. It is for small inputs, and
 //! serves to compare with.
 
-use lua_pattern::PreparedSet;
-use lua_pattern::item::{Item, Part, Single};
+use mw_text::{Item, LuaPatternItemPart as Part, PreparedSet, Single};
 
 /// How many marks are kept, which is enough for patterns of so many items.
 pub(crate) const MOST_MARKS: usize = 4;

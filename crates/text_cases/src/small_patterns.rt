@@ -3,10 +3,9 @@
 
 use crate::plain_patterns::{Marks, Plain, first};
 use crate::words::written;
-use lua_pattern::slots::Slot;
-use lua_pattern::{Capture, OneByte, Pattern, Search};
+use mw_text::{Capture, OneByte, Pattern, Search, Slot};
 use std::alloc::{AllocError, Global};
-use wk_base::NoMemory;
+use wiki_markup::NoMemory;
 
 const ITEMS: [&[u8]; 13] = [
     b"a", b"b*", b"a-", b".?", b".+", b"[^a]*", b"(", b")", b"()", b"%1", b"%bab", b"%f[b]", b"$",

@@ -12,13 +12,15 @@ use crate::words::{
     budget, bytes, copied, fault, number, numbers, shown, text_or_none, word, written,
 };
 use lua_number::NumberFault;
-use lua_pattern::{OneByte, PatternFault, Search};
-use lua_string::{
-    CaptureText, abs, byte, ceil, char_of, find, floor, fmod, going_on, len, lower, match_from,
-    max, min, part, pow, rep, rep_length, replaced, replaced_length, reverse, sub, upper,
+use mw_text::{
+    LuaStringCaptureText as CaptureText, OneByte, PatternFault, Search, abs, byte, ceil, floor,
+    fmod, going_on, lower, lua_string_char_of as char_of, lua_string_find as find,
+    lua_string_len as len, lua_string_match_from as match_from, lua_string_part as part,
+    lua_string_replaced as replaced, lua_string_replaced_length as replaced_length,
+    lua_string_sub as sub, max, min, pow, rep, rep_length, reverse, upper,
 };
 use std::alloc::Global;
-use wk_base::NoMemory;
+use wiki_markup::NoMemory;
 
 /// What a call gives.
 pub(crate) fn answer(alloc: Global, text: &str) -> Result<Vec<u8>, NoMemory> {

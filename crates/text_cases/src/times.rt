@@ -4,7 +4,7 @@
 use crate::words::{copied, place, shown};
 use crate::{code_points, formats, strings, wikitexts};
 use std::alloc::Global;
-use wk_base::NoMemory;
+use wiki_markup::NoMemory;
 
 /// How long the answer of a case is, which is run so often.
 pub(crate) fn answer(alloc: Global, text: &str) -> Result<Vec<u8>, NoMemory> {

@@ -18,11 +18,11 @@ use crate::out::Out;
 use crate::parts::part;
 use crate::seed::fixed_seed;
 use case_text::unescaped;
-use mw_frame::Scene;
+use expand_texts::Namespace;
+use mw_frame::{Bytes, List, Scene, Title};
 use std::alloc::Global;
-use wiki_expand::{Entry, Expander, Move, PageMap, Source, laws};
-use wiki_markup::{Marked, Mode, markup, shown};
-use wk_base::{Bytes, Left, List, Namespace, NoMemory, Title};
+use wiki_expand::{Entry, Expander, Left, Move, PageMap, Source, laws};
+use wiki_markup::{Marked, Mode, NoMemory, markup, shown};
 
 /// What a row `wiki` comes to.
 pub(crate) fn answer(alloc: Global, text: &str) -> Result<Vec<u8>, NoMemory> {

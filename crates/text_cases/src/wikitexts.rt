@@ -13,15 +13,14 @@
 ghost use Rattle.std.specs.Prelude.{IsUtf8};
 
 use crate::words::{budget, bytes, copied, escaped, fault, number, place, word, written};
-use lua_pattern::PatternFault;
-use lua_string::text::push_all;
+use mw_frame::{Bytes, List};
 use mw_text::{
-    PartAnswer, PartsAnswer, TagAttr, TagContent, TagValue, TextAnswer, decode, encode,
-    list_to_text, next_part, nowiki, split, tag, trim, truncate, value_is_encoded,
+    PartAnswer, PartsAnswer, PatternFault, TagAttr, TagContent, TagValue, TextAnswer, decode,
+    encode, isutf8, list_to_text, next_part, nowiki, offset, push_all, split, tag, trim, truncate,
+    value_is_encoded,
 };
-use mw_ustring::{isutf8, offset};
 use std::alloc::Global;
-use wk_base::{Bytes, List, NoMemory};
+use wiki_markup::NoMemory;
 
 /// What a call gives.
 pub(crate) fn answer(alloc: Global, text: &str) -> Result<Vec<u8>, NoMemory> {

@@ -2,9 +2,10 @@
 //! themselves.
 
 use case_text::unescaped;
-use lua_pattern::PatternFault;
+use mw_frame::List;
+use mw_text::PatternFault;
 use std::alloc::{AllocError, Global};
-use wk_base::{List, NoMemory};
+use wiki_markup::NoMemory;
 
 /// The word with this number, from 0 on; nothing where there are fewer.
 pub(crate) fn word(text: &str, at: usize) -> &str {

@@ -3,7 +3,7 @@ use crate::out::Out;
 use lua_syntax::{
     Arm, BinaryOp, Block, Chunk, Expr, ExprKind, Field, Function, Stat, StatKind, UnaryOp,
 };
-use wk_base::Bytes;
+use mw_frame::Bytes;
 
 pub(crate) fn put_chunk(out: &mut Out, chunk: &Chunk) {
     block(out, &chunk.body)

@@ -10,8 +10,8 @@ use Rattle.wiki_output.specs.declared.report.Report.{Report}
 use Rattle.wiki_output.specs.declared.report.Status.{Status}
 use Rattle.wiki_output.specs.declared.report.Status.TheVariants.{Done, NoSuchPage, SourceFault}
 use Rattle.wiki_output.specs.Report.{status_code, read_line, usage_line, usage_report, fault_report}
-use Rattle.lua_meaning.specs.World.{Modules}
-use Rattle.wiki_texts.specs.Modules.{AreMeantBy}
+use Rattle.wiki_batch.specs.LuaMeaningWorld.{Modules}
+use Rattle.wiki_batch.specs.WikiTextsModules.{AreMeantBy}
 use Rattle.wiki_app.specs.Pages.{wiki_for, raw_pages}
 use Rattle.wiki_app.specs.Report.{report_of, expected, expected_for, AreMeantIn, AreMeantFor, AreMeant, IfExpected}
 use Rattle.wiki_app.specs.Outcome.{is_answer, Answers, Begins, Completes, IsOfFolder, IsWork, ReadsFolder}

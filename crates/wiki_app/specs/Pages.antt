@@ -17,8 +17,8 @@ use Rattle.wiki_output.specs.declared.made.Form.TheVariants.{Alone, Blocks, Summ
 use Rattle.wiki_output.specs.Choice.{shown_titles, all_titles}
 use Rattle.wiki_output.specs.Demo.{demo_pages}
 use Rattle.wiki_expand.specs.Pages.{Pages, find_page}
-use Rattle.page_driver.specs.declared.wiki.Page.{Page}
-use Rattle.wiki_texts.specs.declared.raw.RawPage.{RawPage}
+use Rattle.wiki_batch.specs.PageDriverDeclaredWikiPage.{Page}
+use Rattle.wiki_batch.specs.WikiTextsDeclaredRawRawPage.{RawPage}
 
 -- the pages of the wiki, or the line of the folder's first fault, where they are known: those of a folder, if the shelf tells its files, or those
 -- that the program makes

@@ -10,10 +10,10 @@ use Rattle.wiki_output.specs.declared.made.Form.{Form}
 use Rattle.wiki_output.specs.declared.report.Report.{Report}
 use Rattle.wiki_output.specs.Report.{usage_report, fault_report, missing_report, done_report}
 use Rattle.wiki_expand.specs.Pages.{Pages}
-use Rattle.lua_meaning.specs.World.{Modules}
-use Rattle.wiki_texts.specs.declared.raw.RawPage.{RawPage}
-use Rattle.wiki_texts.specs.Pages.{page_map}
-use Rattle.wiki_texts.specs.Modules.{AreMeantBy}
+use Rattle.wiki_batch.specs.LuaMeaningWorld.{Modules}
+use Rattle.wiki_batch.specs.WikiTextsDeclaredRawRawPage.{RawPage}
+use Rattle.wiki_batch.specs.WikiTextsPages.{page_map}
+use Rattle.wiki_batch.specs.WikiTextsModules.{AreMeantBy}
 use Rattle.wiki_batch.specs.Batch.{pages_of}
 use Rattle.wiki_app.specs.Pages.{wiki_for, titles_of, form_of, raw_pages, first_missing, made_pages}
 

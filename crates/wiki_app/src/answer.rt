@@ -1,8 +1,8 @@
 //! What titles give on the pages of a wiki.
 ghost use Rattle.std.specs.Prelude.{◌≡◌, ◌≤◌, All, Ok, IfOk, IsSome};
 ghost use Rattle.wk_base.specs.Allowances.{IsCountable};
-ghost use Rattle.lua_meaning.specs.World.{Modules as PlainModules};
-ghost use Rattle.wiki_texts.specs.Modules.{AreMeantBy};
+ghost use Rattle.wiki_batch.specs.LuaMeaningWorld.{Modules as PlainModules};
+ghost use Rattle.wiki_batch.specs.WikiTextsModules.{AreMeantBy};
 ghost use Rattle.wiki_expand.specs.Pages.{find_page};
 ghost use Rattle.wiki_batch.specs.Batch.{AreOf, pages_of};
 ghost use Rattle.wiki_output.specs.Report.{done_report};
@@ -11,14 +11,12 @@ ghost use Rattle.wiki_app.specs.Report.{titles_report, wiki_report, report_of};
 ghost use Rattle.wiki_app.specs.Outcome.{IsWork};
 
 use crate::pages::{first_missing, form_of, made_pages, raw_pages, titles_of};
-use page_driver::Wiki;
 use std::alloc::Global;
 use std::hash::RandomState;
 use std::mem;
 use std::thread::Threads;
-use wiki_batch::{Gate, expand_all, load};
+use wiki_batch::{Gate, RawPage, Wiki, expand_all, load};
 use wiki_output::{Form, Report, done_report, missing_report};
-use wiki_texts::RawPage;
 use wiki_words::{Command, Settings};
 use wk_base::{List, NoMemory, Title};
 use wk_shelf::FolderPage;

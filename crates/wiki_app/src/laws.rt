@@ -3,7 +3,7 @@ ghost use Rattle.std.specs.Prelude.{◌≡◌, ℕ, List, Result};
 ghost use Rattle.wk_shelf.specs.declared.folder.FolderPage.{FolderPage};
 ghost use Rattle.wiki_words.specs.declared.command.Work.{Work};
 ghost use Rattle.wiki_words.specs.declared.settings.Settings.{Settings};
-ghost use Rattle.lua_meaning.specs.World.{Modules};
+ghost use Rattle.wiki_batch.specs.LuaMeaningWorld.{Modules};
 ghost use Rattle.wiki_app.specs.Report.{report_of};
 
 /// Two commands that differ in the number of jobs alone give the same.

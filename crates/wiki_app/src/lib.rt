@@ -19,5 +19,4 @@ mod top_call;
 pub use laws::jobs_change_nothing;
 pub use put::put_piece;
 pub use top_call::{CANNOT_READ, after_put, run};
-pub use wiki_batch::{Gate, OpenGate};
-pub use wiki_output::Status;
+pub use wiki_batch::{Gate, OpenGate, RawPage, load};

@@ -5,12 +5,11 @@ ghost use Rattle.wk_shelf.specs.FolderFaults.{source_line};
 ghost use Rattle.wiki_app.specs.Outcome.{IsOfFolder};
 ghost use Rattle.wiki_app.specs.Pages.{wiki_for, titles_of, form_asked, form_of, raw_page, first_missing, used_of, made_page};
 
-use page_driver::Page;
 use std::alloc::Global;
 use std::hash::RandomState;
+use wiki_batch::{Page, RawPage};
 use wiki_expand::PageMap;
 use wiki_output::{Form, Made, Used, demo_pages, in_text_order, shown_titles};
-use wiki_texts::RawPage;
 use wiki_words::{Asked, Work};
 use wk_base::{Left, Limits, List, NoMemory, Title};
 use wk_shelf::{FolderFault, FolderPage, Shelf, read_folder};

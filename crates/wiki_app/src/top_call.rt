@@ -3,7 +3,7 @@ ghost use Rattle.std.specs.Prelude.{◌≡◌, ◌≤◌, ◌⊎◌, true, false
 ghost use Rattle.wk_base.specs.Allowances.{IsCountable};
 ghost use Rattle.wk_shelf.specs.Causes.{Rose};
 ghost use Rattle.wk_shelf.specs.Put.{Puts, PutsSome};
-ghost use Rattle.lua_meaning.specs.World.{Modules as PlainModules};
+ghost use Rattle.wiki_batch.specs.LuaMeaningWorld.{Modules as PlainModules};
 ghost use Rattle.wiki_words.specs.Command.{command_of, begins_command};
 ghost use Rattle.wiki_output.specs.Report.{status_code, read_line};
 ghost use Rattle.wiki_app.specs.Pages.{wiki_for};

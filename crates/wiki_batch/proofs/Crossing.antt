@@ -15,8 +15,8 @@ use Rattle.lua_code.specs.contracts.proto.Proto as Proto
 use Rattle.lua_code.specs.contracts.proto.Protos as Protos
 use Rattle.lua_code.specs.contracts.modules.Module as Module
 use Rattle.lua_code.specs.contracts.modules.Modules as Modules
-use Rattle.wiki_expand.specs.contracts.pages.Entry as Entry
-use Rattle.wiki_expand.specs.contracts.pages.PageMap as PageMap
+use Rattle.wiki_texts.specs.WikiExpandContractsPagesEntry as Entry
+use Rattle.wiki_texts.specs.WikiExpandContractsPagesPageMap as PageMap
 use Rattle.wiki_texts.specs.contracts.prepared.Prepared as Prepared
 use Rattle.page_driver.specs.contracts.wiki.Wiki as Wiki
 

@@ -2,8 +2,8 @@
 use Rattle.std.proofs.Common.{◌≡◌, ◌∙◌, refl, sym, ap, List, is_some}
 use Rattle.wk_base.specs.declared.title.Title.{Title}
 use Rattle.wk_base.specs.Titles.{title_text}
-use Rattle.wiki_expand.specs.Pages.{Pages, find_page}
-use Rattle.lua_meaning.specs.World.{Modules}
+use Rattle.wiki_texts.specs.WikiExpandPages.{Pages, find_page}
+use Rattle.wiki_texts.specs.LuaMeaningWorld.{Modules}
 use Rattle.lua_code.specs.Held.{TitledModules, modules_seen}
 use Rattle.page_driver.specs.Ground.{AreModulesIn}
 use Rattle.wiki_texts.specs.declared.raw.RawPage.{RawPage}

@@ -6,9 +6,9 @@ use Rattle.std.proofs.lemmas.List.Elements.{filter_map-append}
 use Rattle.wk_base.specs.declared.left.Left.{Left}
 use Rattle.wk_base.specs.declared.left.Limits.{Limits}
 use Rattle.wk_base.specs.declared.title.Title.{Title}
-use Rattle.wiki_markup.specs.Trees.{Trees}
-use Rattle.wiki_expand.specs.Pages.{Pages, direct_in}
-use Rattle.lua_meaning.specs.World.{Modules}
+use Rattle.wiki_texts.specs.WikiMarkupTrees.{Trees}
+use Rattle.wiki_texts.specs.WikiExpandPages.{Pages, direct_in}
+use Rattle.wiki_texts.specs.LuaMeaningWorld.{Modules}
 use Rattle.page_driver.specs.Ground.{wiki_in}
 use Rattle.page_driver.specs.Page.{full_of, IsHeldPage}
 use Rattle.page_driver.specs.declared.wiki.Page.{Page}

@@ -3,10 +3,10 @@ use Rattle.std.specs.Prelude.{◌≡◌, List, Option, Some, option_map}
 use Rattle.std.specs.List.{filter_map}
 use Rattle.wk_base.specs.declared.left.Limits.{Limits}
 use Rattle.wk_base.specs.declared.title.Title.{Title}
-use Rattle.wiki_markup.specs.Trees.{Trees}
-use Rattle.wiki_expand.specs.Pages.{Pages, direct_in}
-use Rattle.lua_meaning.specs.World.{Modules}
-use Rattle.page_meaning.specs.Page.{page}
+use Rattle.wiki_texts.specs.WikiMarkupTrees.{Trees}
+use Rattle.wiki_texts.specs.WikiExpandPages.{Pages, direct_in}
+use Rattle.wiki_texts.specs.LuaMeaningWorld.{Modules}
+use Rattle.page_driver.specs.PageMeaningPage.{page}
 use Rattle.page_driver.specs.declared.wiki.Page.{Page}
 use Rattle.page_driver.specs.declared.wiki.Wiki.{Wiki}
 use Rattle.page_driver.specs.Ground.{wiki_in, AreModulesIn}

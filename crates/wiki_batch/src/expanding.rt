@@ -1,7 +1,7 @@
 //! Many pages of a wiki, each expanded by itself.
 ghost use Rattle.std.specs.Prelude.{◌≡◌, ℕ, ◌≤◌, ◌<◌, ◌*◌, All, IfOk, IsSome, length, slice_index_or, drop, take};
 ghost use Rattle.wk_base.specs.Allowances.{IsCountable};
-ghost use Rattle.wiki_expand.specs.Pages.{find_page};
+ghost use Rattle.wiki_texts.specs.WikiExpandPages.{find_page};
 ghost use Rattle.wiki_batch.specs.Batch.{IsPage, ArePages};
 
 use crate::gate::Gate;

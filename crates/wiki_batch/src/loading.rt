@@ -1,7 +1,7 @@
 //! A wiki from the texts of its pages.
 ghost use Rattle.std.specs.Prelude.{◌≡◌, ℕ, ◌≤◌, ◌<◌, ◌*◌, IfOk, length, slice_index_or, drop, take};
 ghost use Rattle.wk_base.specs.declared.title.Title.{Title as PlainTitle};
-ghost use Rattle.lua_meaning.specs.World.{Modules as PlainModules};
+ghost use Rattle.wiki_texts.specs.LuaMeaningWorld.{Modules as PlainModules};
 ghost use Rattle.page_driver.specs.Ground.{AreModulesIn};
 ghost use Rattle.wiki_texts.specs.Pages.{page_map};
 ghost use Rattle.wiki_texts.specs.Modules.{AreMeantBy};

@@ -1,9 +1,9 @@
 -- The value of an argument that has a name.
 use Rattle.std.proofs.Common.{◌≡◌, ℕ, ◌+◌, ◌*◌, List, ◌∷◌, sym, ap, ◌∙◌, arith}
-use Rattle.wk_base.specs.Space.{trim}
+use Rattle.wiki_markup.specs.WkBaseSpace.{trim}
 use Rattle.mw_frame.specs.declared.scene.Scene.{Scene}
 use Rattle.wiki_markup.specs.Trees.{Trees}
-use Rattle.expand_meaning.specs.Expand.{Setting, expand}
+use Rattle.expand_texts.specs.ExpandMeaningExpand.{Setting, expand}
 use Rattle.wiki_expand.specs.Forests.{size}
 use Rattle.wiki_expand.specs.Points.{plug, point, calling, with_name}
 use Rattle.wiki_expand.specs.Weights.{levels, bodies, chances, weights}

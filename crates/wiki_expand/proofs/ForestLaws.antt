@@ -6,8 +6,8 @@ use Rattle.std.proofs.Math.ListN.{drop_of_length-le}
 use Rattle.std.specs.List.{slice_get}
 use Rattle.wiki_markup.specs.Nodes.{Node}
 use Rattle.wiki_markup.specs.Trees.{done}
-use Rattle.expand_meaning.specs.Places.{planted, reach, trees_at}
-use Rattle.expand_meaning.proofs.TreeLaws.{trees_first, no_trees}
+use Rattle.expand_texts.specs.ExpandMeaningPlaces.{planted, reach, trees_at}
+use Rattle.expand_texts.proofs.ExpandMeaningTreeLaws.{trees_first, no_trees}
 use Rattle.wiki_expand.specs.Forests.{nodes_in, between, trees_in}
 use Rattle.wiki_expand.specs.declared.forest.Forest.{Forest}
 use Rattle.wiki_expand.specs.declared.forest.Nodes.{Nodes}

@@ -1,14 +1,14 @@
 -- How the points of a run lead to one another.
 use Rattle.std.proofs.Common.{◌≡◌, ℕ, ◌+◌, ◌-◌, ◌<◌, ◌≤◌, Bool, true, false, cond, List, length, sym, ap, ◌∙◌, arith}
-use Rattle.wk_base.specs.declared.left.Left.{Left}
+use Rattle.page_run.specs.WkBaseDeclaredLeftLeft.{Left}
 use Rattle.mw_frame.specs.declared.scene.Scene.{Scene}
 use Rattle.page_run.specs.Run.{TakeBytes, EnterDepth, LeaveDepth, HasTemplate, EnterTemplate, LeaveTemplate, Uses}
 use Rattle.page_run.specs.Perform.{perform, wait}
 use Rattle.page_run.specs.Part.{open_or}
 use Rattle.page_run.proofs.ReplyLaws.{no_rise-wait}
 use Rattle.page_run.proofs.EventLaws.{bytes_are, depth_is, templates_are, opens_is}
-use Rattle.expand_meaning.specs.Texts.{node_text, size_text, depth_text}
-use Rattle.expand_meaning.specs.Expand.{Setting, Page, Thing, Doing, deeper, sized, thing_text}
+use Rattle.expand_texts.specs.ExpandMeaningTexts.{node_text, size_text, depth_text}
+use Rattle.expand_texts.specs.ExpandMeaningExpand.{Setting, Page, Thing, Doing, deeper, sized, thing_text}
 use Rattle.wiki_expand.specs.Points.{Leads, Goes_to, state, leaving}
 use Rattle.wiki_expand.specs.Weights.{Keeps}
 use Rattle.wiki_expand.specs.declared.frame.Frame.{Frame}

@@ -1,14 +1,14 @@
 -- The points that a construct goes through.
 use Rattle.std.proofs.Common.{◌≡◌, ℕ, Bool, true, false, cond, List, ◌∷◌, ◌++◌, refl, sym, ap, ◌∙◌}
-use Rattle.wk_base.specs.Space.{trim}
+use Rattle.wiki_markup.specs.WkBaseSpace.{trim}
 use Rattle.page_run.specs.Part.{open_or}
 use Rattle.wiki_markup.specs.Trees.{Trees, node}
 use Rattle.wiki_markup.specs.Nodes.{Construct as ConstructKind, Parameter as ParameterKind}
-use Rattle.expand_meaning.specs.Texts.{node_text}
+use Rattle.expand_texts.specs.ExpandMeaningTexts.{node_text}
 use Rattle.mw_frame.specs.declared.scene.Scene.{Scene}
-use Rattle.expand_meaning.specs.Kind.{kind_of}
-use Rattle.expand_meaning.specs.Places.{parts_in, part_in, first_in, others_in, no_part, name_in}
-use Rattle.expand_meaning.specs.Expand.{Setting, AConstruct, AParameter, Page, onward, expand, found, value_or, by_kind, construct, parameter}
+use Rattle.expand_texts.specs.ExpandMeaningKind.{kind_of}
+use Rattle.expand_texts.specs.ExpandMeaningPlaces.{parts_in, part_in, first_in, others_in, no_part, name_in}
+use Rattle.expand_texts.specs.ExpandMeaningExpand.{Setting, AConstruct, AParameter, Page, onward, expand, found, value_or, by_kind, construct, parameter}
 use Rattle.wiki_expand.specs.Forests.{trees_in, parts}
 use Rattle.wiki_expand.specs.Points.{ahead, plug, leaving}
 use Rattle.wiki_expand.specs.declared.forest.Forest.{Forest}

@@ -1,14 +1,14 @@
 -- What an expander does at a point of a run is what the definition does.
 use Rattle.std.proofs.Common.{◌≡◌, ℕ, ◌+◌, List, [], ◌∷◌, ◌++◌, Option, Some, None, IfSome, append-nil, append_assoc, refl, sym, ap, ◌∙◌, subst, arith}
-use Rattle.wk_base.specs.declared.left.Left.{Left}
+use Rattle.page_run.specs.WkBaseDeclaredLeftLeft.{Left}
 use Rattle.mw_frame.specs.declared.scene.Job.{Job}
 use Rattle.page_run.specs.Run.{Run, Ends}
 use Rattle.page_run.specs.State.{no_tally, join, Gives, Reply}
 use Rattle.page_run.specs.Perform.{perform, wait}
 use Rattle.page_run.proofs.ReplyLaws.{no_rise-wait}
 use Rattle.page_run.proofs.EventLaws.{ends_is, asks_is}
-use Rattle.expand_meaning.specs.Expand.{Setting, Page, thing_text}
-use Rattle.expand_meaning.specs.Outcome.{Work, Reading, Including, next_event, Comes, Asks}
+use Rattle.expand_texts.specs.ExpandMeaningExpand.{Setting, Page, thing_text}
+use Rattle.expand_texts.specs.ExpandMeaningOutcome.{Work, Reading, Including, next_event, Comes, Asks}
 use Rattle.wiki_expand.specs.Points.{wiki_setting, scene_in, waiting, state, Leads}
 use Rattle.wiki_expand.specs.declared.frame.Wiki.{Wiki}
 use Rattle.wiki_expand.specs.declared.frame.Machine.{Machine}

@@ -1,10 +1,10 @@
 -- Steps after one another, and steps that open a construct or a parameter.
 use Rattle.std.proofs.Common.{◌≡◌, ℕ, ◌+◌, ◌*◌, ◌<◌, ◌≤◌, List, ◌∷◌, refl, ap, arith}
-use Rattle.wk_base.specs.declared.left.Left.{Left}
-use Rattle.wk_base.specs.declared.title.Title.{Title}
+use Rattle.page_run.specs.WkBaseDeclaredLeftLeft.{Left}
+use Rattle.mw_frame.specs.WkBaseDeclaredTitleTitle.{Title}
 use Rattle.mw_frame.specs.declared.scene.Arg.{Arg}
 use Rattle.mw_frame.specs.declared.scene.Scene.{Scene}
-use Rattle.expand_meaning.specs.Expand.{Setting, Page}
+use Rattle.expand_texts.specs.ExpandMeaningExpand.{Setting, Page}
 use Rattle.wiki_expand.specs.Forests.{size}
 use Rattle.wiki_expand.specs.Points.{wiki_setting, plug, point, scene_in, waiting, run_at, Leads, Takes_of}
 use Rattle.wiki_expand.specs.Weights.{level, levels, body_count, bodies, chances, weights, allowed, point_weight, Keeps, Falls, Calm}

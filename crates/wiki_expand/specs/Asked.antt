@@ -1,6 +1,6 @@
 -- What is known of each invocation that is asked for.
 use Rattle.std.specs.Prelude.{◌≡◌, IsSome}
-use Rattle.wk_base.specs.declared.title.Namespace.TheVariants.{Module}
+use Rattle.mw_frame.specs.WkBaseDeclaredTitleNamespaceTheVariants.{Module}
 use Rattle.mw_frame.specs.declared.scene.Job.{Job}
 use Rattle.mw_frame.specs.Scenes.{HaveNames}
 use Rattle.wiki_expand.specs.Pages.{Pages, find_page}

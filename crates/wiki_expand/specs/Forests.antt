@@ -3,7 +3,7 @@ use Rattle.std.specs.Prelude.{◌≡◌, ℕ, ◌+◌, ◌-◌, ◌<◌, List, [
 use Rattle.wiki_markup.specs.Nodes.{Node, NodeKind, Text as TextKind, Equals as EqualsKind, Construct as ConstructKind, Parameter as ParameterKind, Part as PartKind}
 use Rattle.expand_texts.specs.Ropes.{bytes_of}
 use Rattle.wiki_markup.specs.Trees.{Trees, done, text, equals, node}
-use Rattle.expand_meaning.specs.Places.{trees_at, parts_in, value_in}
+use Rattle.expand_texts.specs.ExpandMeaningPlaces.{trees_at, parts_in, value_in}
 use Rattle.wiki_expand.specs.declared.forest.Nodes.{Nodes}
 use Rattle.wiki_expand.specs.declared.forest.Nodes.TheVariants.{Held, Own}
 use Rattle.wiki_expand.specs.declared.forest.Forest.{Forest}

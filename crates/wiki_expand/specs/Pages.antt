@@ -1,12 +1,12 @@
 -- The find_page pages, by title.
 use Rattle.std.specs.Prelude.{List, Option, option_map}
 use Rattle.std.specs.Map.{lookup}
-use Rattle.wk_base.specs.declared.title.Title.{Title}
-use Rattle.wk_base.specs.contracts.title.TitlePartialEq.TheImpl as titles
+use Rattle.mw_frame.specs.WkBaseDeclaredTitleTitle.{Title}
+use Rattle.page_run.specs.WkBaseContractsTitleTitlePartialEqTheImpl as titles
 use Rattle.wiki_markup.specs.Trees.{Trees}
 use Rattle.wiki_expand.specs.Entries.{Entry}
-use Rattle.expand_meaning.specs.Places.{trees_at}
-use Rattle.expand_meaning.specs.Expand.{Setting}
+use Rattle.expand_texts.specs.ExpandMeaningPlaces.{trees_at}
+use Rattle.expand_texts.specs.ExpandMeaningExpand.{Setting}
 
 -- a page: its title, and its text as it is read for itself and as it is included
 abbrev pub Pages : Type 0

@@ -1,9 +1,9 @@
 -- What an expander stands for: the rest of its run.
 use Rattle.std.specs.Prelude.{◌≡◌, ℕ, ◌+◌, cond, List, [], ◌∷◌, ◌++◌, length, codes, decimal}
-use Rattle.wk_base.specs.Space.{trim}
-use Rattle.wk_base.specs.declared.left.Left.{Left}
-use Rattle.wk_base.specs.declared.title.Title.{Title}
-use Rattle.wk_base.specs.declared.title.Namespace.TheVariants.{Module}
+use Rattle.wiki_markup.specs.WkBaseSpace.{trim}
+use Rattle.page_run.specs.WkBaseDeclaredLeftLeft.{Left}
+use Rattle.mw_frame.specs.WkBaseDeclaredTitleTitle.{Title}
+use Rattle.mw_frame.specs.WkBaseDeclaredTitleNamespaceTheVariants.{Module}
 use Rattle.wiki_markup.specs.Trees.{Trees}
 use Rattle.mw_frame.specs.declared.scene.Arg.{Arg}
 use Rattle.mw_frame.specs.declared.scene.Scene.{Scene}
@@ -11,10 +11,10 @@ use Rattle.page_run.specs.Run.{Run, TakeBytes, LeaveDepth, LeaveTemplate, Ends, 
 use Rattle.page_run.specs.Part.{open_or}
 use Rattle.page_run.specs.State.{Tally, Reply, State}
 use Rattle.page_run.specs.Perform.{perform, wait}
-use Rattle.expand_meaning.specs.Texts.{node_text, size_text, are_equal}
-use Rattle.expand_meaning.specs.Kind.{kind_of, title_named}
-use Rattle.expand_meaning.specs.Places.{part_in, no_part, name_in}
-use Rattle.expand_meaning.specs.Expand.{Setting, Thing, Page, Doing, Given, Looking, onward, expand, all_parts, put, found, arguments, value_or, either, by_name, valueless, after_turn, switch, module_titled, invocation, template_body, by_kind, thing_text}
+use Rattle.expand_texts.specs.ExpandMeaningTexts.{node_text, size_text, are_equal}
+use Rattle.expand_texts.specs.ExpandMeaningKind.{kind_of, title_named}
+use Rattle.expand_texts.specs.ExpandMeaningPlaces.{part_in, no_part, name_in}
+use Rattle.expand_texts.specs.ExpandMeaningExpand.{Setting, Thing, Page, Doing, Given, Looking, onward, expand, all_parts, put, found, arguments, value_or, either, by_name, valueless, after_turn, switch, module_titled, invocation, template_body, by_kind, thing_text}
 use Rattle.wiki_expand.specs.Forests.{trees_in, parts}
 use Rattle.wiki_expand.specs.Pages.{setting_in}
 use Rattle.wiki_expand.specs.declared.frame.Wiki.{Wiki}

@@ -1,8 +1,8 @@
 -- What each function that goes on promises, in one record.
 use Rattle.std.specs.Prelude.{◌≡◌, ℕ, ◌<◌, List}
-use Rattle.wk_base.specs.declared.left.Left.{Left}
+use Rattle.page_run.specs.WkBaseDeclaredLeftLeft.{Left}
 use Rattle.mw_frame.specs.declared.scene.Scene.{Scene}
-use Rattle.expand_meaning.specs.Expand.{Setting, Page}
+use Rattle.expand_texts.specs.ExpandMeaningExpand.{Setting, Page}
 use Rattle.wiki_expand.specs.Points.{plug, point, Goes}
 use Rattle.wiki_expand.specs.Weights.{point_weight, Calm, Keeps, Falls}
 use Rattle.wiki_expand.specs.Asked.{AsksWell}

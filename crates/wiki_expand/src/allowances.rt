@@ -3,7 +3,7 @@ ghost use Rattle.std.specs.Prelude.{◌≡◌, ◌-◌, ◌≤◌, ◌<◌, leng
 ghost use Rattle.std.specs.Bool.{OnTrue, OnFalse};
 
 use expand_texts::rope::Rope;
-use wk_base::Left;
+use mw_frame::Left;
 
 /// Takes a node, if one is left.
 pub fn take_node(left: &mut Left) -> bool

@@ -1,12 +1,13 @@
 //! Arguments, templates and invocations.
 ghost use Rattle.std.specs.Prelude.{◌≡◌, ◌+◌, ◌*◌, ◌≤◌, ◌∷◌, [], ℕ, List, decimal, IsSome, IfSome, IfOk, OnOk};
 ghost use Rattle.mw_frame.specs.declared.scene.Scene.{Scene as SceneValue};
-ghost use Rattle.mw_frame.specs.Scenes.{HaveNames};
-ghost use Rattle.wk_base.specs.declared.left.Left.{Left as LeftOver};
-ghost use Rattle.wk_base.specs.declared.title.Title.{Title as TitleValue};
-ghost use Rattle.wk_base.specs.Space.{trim};
-ghost use Rattle.expand_meaning.specs.Kind.{title_named as title_at};
-ghost use Rattle.expand_meaning.specs.Expand.{Setting, Page, Given, none_given, expand, arguments as arguments_of, invocation as invocation_of, invoke as invoke_of, job_of as job_with, module_titled, template_body as body_of, template as template_of};
+ghost use Rattle.mw_frame.specs.Scenes.{HaveNames, NamesDiffer};
+ghost use Rattle.page_run.specs.WkBaseDeclaredLeftLeft.{Left as LeftOver};
+ghost use Rattle.mw_frame.specs.WkBaseDeclaredTitleTitle.{Title as TitleValue};
+ghost use Rattle.wiki_markup.specs.WkBaseSpace.{trim};
+ghost use Rattle.expand_texts.specs.ExpandMeaningKind.{title_named as title_at};
+ghost use Rattle.expand_texts.specs.ExpandMeaningTexts.{loop_text as text_of_loop, missing_text as text_of_missing, no_function_text as text_of_no_function, no_module_text as text_of_no_module};
+ghost use Rattle.expand_texts.specs.ExpandMeaningExpand.{Setting, Page, Given, none_given, put, expand, arguments as arguments_of, invocation as invocation_of, invoke as invoke_of, job_of as job_with, module_titled, template_body as body_of, template as template_of};
 ghost use Rattle.wiki_expand.specs.declared.frame.Frame.{Frame as Waiting};
 ghost use Rattle.wiki_expand.specs.Forests.{trees_in, parts, size, option_trees};
 ghost use Rattle.wiki_expand.specs.Pages.{Pages, find_page, included_in, setting_in};
@@ -19,6 +20,7 @@ use crate::forest::{Forest, Nodes};
 use crate::frame::{Call, Focus, Frame, Inner, Machine, Progress, Purpose, Wiki};
 use crate::pages::PageMap;
 use crate::walk::{fixed, walk, walk_name};
+use expand_texts::Namespace;
 use expand_texts::arguments::Arguments;
 use expand_texts::kind::title_named;
 use expand_texts::rope::{Piece, Rope};
@@ -26,16 +28,57 @@ use expand_texts::space::trimmed;
 use expand_texts::stack::Stack;
 use expand_texts::texts::{depth_text, loop_text, missing_text, no_function_text, no_module_text};
 use itoa::Buffer;
-use mw_frame::{Job, Scene};
+use mw_frame::{Bytes, Job, Left, Scene, Title};
 use std::alloc::Global;
 use std::mem::replace;
-use wk_base::{Bytes, Left, Namespace, NoMemory, Title};
+use wiki_markup::NoMemory;
 
 /// A text that was made here.
 pub fn made<'w>(alloc: Global, text: Vec<u8>) -> Result<Rope<'w>, NoMemory>
     ensures { IfOk result (λ rope. rope ≡ text.items) }
 {
     Rope::of(alloc, Piece::Owned(text))
+}
+
+/// What stands in the place of a template that includes itself.
+fn looped<'w>(alloc: Global, title: &Title) -> Result<Rope<'w>, NoMemory>
+    ensures { IfOk result (λ rope. rope ≡ text_of_loop title.now) }
+{
+    let text = loop_text(alloc, title)?;
+    made(alloc, text)
+}
+
+/// What stands in the place of a template that isn't held.
+fn missing<'w>(alloc: Global, title: &Title) -> Result<Rope<'w>, NoMemory>
+    ensures { IfOk result (λ rope. rope ≡ text_of_missing title.now) }
+{
+    let text = missing_text(alloc, title)?;
+    made(alloc, text)
+}
+
+/// What stands in the place of an invocation whose module isn't held.
+fn no_module<'w>(alloc: Global, name: &[u8]) -> Result<Rope<'w>, NoMemory>
+    ensures { IfOk result (λ rope. rope ≡ text_of_no_module name.now) }
+{
+    let text = no_module_text(alloc, name)?;
+    made(alloc, text)
+}
+
+/// What stands in the place of an invocation without a function.
+fn no_function<'w>(alloc: Global) -> Result<Rope<'w>, NoMemory>
+    ensures { IfOk result (λ rope. rope ≡ text_of_no_function) }
+{
+    let text = no_function_text(alloc)?;
+    made(alloc, text)
+}
+
+/// A text whose ends are trimmed, in bytes of its own.
+fn trimmed_bytes(alloc: Global, text: Rope<'_>) -> Result<Bytes, NoMemory>
+    ensures { IfOk result (λ bytes. bytes ≡ trim text.entry) }
+{
+    let text = text.trimmed(alloc)?;
+    let bytes = text.into_vec(alloc)?;
+    Ok(Bytes::of_vec(bytes))
 }
 
 /// Begins an argument: its name, where it has one, and else its value.
@@ -80,29 +123,46 @@ fn next_number(number: u64) -> Result<u64, NoMemory>
     }
 }
 
+/// A value is put under a number; the next number.
+fn put_unnamed(
+    alloc: Global,
+    args: &mut Arguments,
+    number: u64,
+    text: Rope<'_>,
+) -> Result<u64, NoMemory>
+    ensures given { OnOk result (args.new ≡ put (decimal number) text.entry args.old) }
+    ensures next { IfOk result (λ next. next ≡ number + 1) }
+{
+    let name = digits(alloc, number)?;
+    let value = text.into_vec(alloc)?;
+    args.put(Bytes::of_vec(name), Bytes::of_vec(value))?;
+    next_number(number)
+}
+
+/// A value whose ends are trimmed is put under a name.
+fn put_named(
+    alloc: Global,
+    args: &mut Arguments,
+    name: Bytes,
+    text: Rope<'_>,
+) -> Result<(), NoMemory>
+    ensures { OnOk result (args.new ≡ put name (trim text.entry) args.old) }
+{
+    let value = trimmed_bytes(alloc, text)?;
+    args.put(name, value)?;
+    Ok(())
+}
+
 /// An argument without a name.
 fn add_unnamed<'w>(alloc: Global, call: Call<'w>, text: Rope<'w>) -> Result<Call<'w>, NoMemory>
     ensures given { IfOk result (λ c. given_in c ≡ unnamed_of call.entry text.entry) }
     ensures same { IfOk result (λ c. (w : Setting) (g : Given) (sc : SceneValue) (k : List ℕ → Page) → calling w c g sc k ≡ calling w call.entry g sc k) }
     ensures size { IfOk result (λ c. size c.rest ≡ size call.entry.rest) }
 {
-    let Call {
-        purpose,
-        args,
-        number,
-        rest,
-    } = call;
-    let mut args = args;
-    let name = digits(alloc, number)?;
-    let value = text.into_vec(alloc)?;
-    args.put(Bytes::of_vec(name), Bytes::of_vec(value))?;
-    let number = next_number(number)?;
-    Ok(Call {
-        purpose,
-        args,
-        number,
-        rest,
-    })
+    let mut call = call;
+    let number = call.number;
+    call.number = put_unnamed(alloc, &mut call.args, number, text)?;
+    Ok(call)
 }
 
 /// An argument with a name.
@@ -116,22 +176,9 @@ fn add_named<'w>(
     ensures same { IfOk result (λ c. (w : Setting) (g : Given) (sc : SceneValue) (k : List ℕ → Page) → calling w c g sc k ≡ calling w call.entry g sc k) }
     ensures size { IfOk result (λ c. size c.rest ≡ size call.entry.rest) }
 {
-    let Call {
-        purpose,
-        args,
-        number,
-        rest,
-    } = call;
-    let mut args = args;
-    let value = text.trimmed(alloc)?;
-    let value = value.into_vec(alloc)?;
-    args.put(name, Bytes::of_vec(value))?;
-    Ok(Call {
-        purpose,
-        args,
-        number,
-        rest,
-    })
+    let mut call = call;
+    put_named(alloc, &mut call.args, name, text)?;
+    Ok(call)
 }
 
 /// The name of an argument is there.
@@ -144,9 +191,8 @@ pub fn name<'w>(
 ) -> Result<Focus<'w>, NoMemory>
     ensures { IfOk result (λ f. Puts (λ w sc k. expand (trees_in value.entry) sc (λ v. calling w call.entry (with_name call.entry (trim text.entry) (trim v)) sc k)) 1 (16 * size call.entry.rest + 8 * size value.entry + 21 + weights stack.old) stack.old f stack.new) }
 {
-    let text = text.trimmed(alloc)?;
-    let name = text.into_vec(alloc)?;
-    stack.push(Frame::Value(call, Bytes::of_vec(name)))?;
+    let name = trimmed_bytes(alloc, text)?;
+    stack.push(Frame::Value(call, name))?;
     Ok(Focus::Walk(walk(alloc, value)))
 }
 
@@ -161,8 +207,7 @@ pub fn invoke<'w>(
 {
     match rest.take_part()? {
         None => {
-            let text = no_function_text(alloc)?;
-            let text = made(alloc, text)?;
+            let text = no_function(alloc)?;
             Ok(Focus::Text(text))
         }
         Some((function, rest)) => {
@@ -189,6 +234,22 @@ fn module_named(alloc: Global, pages: &PageMap, name: &[u8]) -> Result<Option<Ti
     Ok(None)
 }
 
+/// A scene, as an invocation is told it.
+fn told(
+    alloc: Global,
+    title: &Title,
+    args: &Arguments,
+    chain: &Stack<Title>,
+) -> Result<Scene, NoMemory>
+    ensures scene { IfOk result (λ s. s ≡ record { title = title.now; args = args.now; chain = chain.now }) }
+    ensures names { IfOk result (λ s. NamesDiffer s.args) }
+{
+    let title = title.copy()?;
+    let args = args.list(alloc)?;
+    let chain = chain.list(alloc)?;
+    Ok(Scene { title, args, chain })
+}
+
 /// What an invocation is to do.
 fn job_of(
     alloc: Global,
@@ -200,16 +261,8 @@ fn job_of(
     ensures job { IfOk result (λ job. job ≡ job_with title function args.now (scene_in scene.now)) }
     ensures names { IfOk result (λ job. HaveNames job) }
 {
-    let own = Scene {
-        title: title.copy()?,
-        args: args.list(alloc)?,
-        chain: scene.chain.list(alloc)?,
-    };
-    let parent = Scene {
-        title: scene.title.copy()?,
-        args: scene.args.list(alloc)?,
-        chain: scene.chain.list(alloc)?,
-    };
+    let own = told(alloc, &title, args, &scene.chain)?;
+    let parent = told(alloc, &scene.title, &scene.args, &scene.chain)?;
     Ok(Job {
         module: title,
         function,
@@ -235,11 +288,19 @@ fn invocation<'w>(
             Ok(Progress::Asks(job))
         }
         None => {
-            let text = no_module_text(alloc, name.as_slice())?;
-            let text = made(alloc, text)?;
+            let text = no_module(alloc, name.as_slice())?;
             Ok(Progress::On(Focus::Text(text)))
         }
     }
+}
+
+/// A title is put in front of a chain.
+fn chained(chain: &mut Stack<Title>, title: &Title) -> Result<(), NoMemory>
+    ensures { OnOk result (chain.new ≡ title.now ∷ chain.old) }
+{
+    let link = title.copy()?;
+    chain.push(link)?;
+    Ok(())
 }
 
 /// The text of a page as it is included.
@@ -267,16 +328,14 @@ impl<'w> Machine<'w> {
         ensures falls { OnOk result (allowed left.new self.new.stack ≤ allowed left.old self.old.stack) }
     {
         if self.scene.chain.contains(&title) {
-            let text = loop_text(wiki.alloc, &title)?;
-            let text = made(wiki.alloc, text)?;
+            let text = looped(wiki.alloc, &title)?;
             return Ok(Focus::Text(text));
         }
         if !enter_body(left) {
             let text = fixed(wiki.alloc, depth_text())?;
             return Ok(Focus::Text(text));
         }
-        let link = title.copy()?;
-        self.scene.chain.push(link)?;
+        chained(&mut self.scene.chain, &title)?;
         let caller = replace(&mut self.scene.title, title);
         let given = replace(&mut self.scene.args, args);
         self.stack.push(Frame::Body(caller, given))?;
@@ -321,10 +380,7 @@ impl<'w> Machine<'w> {
             rest,
         } = call;
         match rest.take_part()? {
-            None => {
-                let progress = self.finish(wiki, left, purpose, args)?;
-                Ok(progress)
-            }
+            None => self.finish(wiki, left, purpose, args),
             Some((part, rest)) => {
                 let call = Call {
                     purpose,
@@ -349,8 +405,7 @@ impl<'w> Machine<'w> {
         ensures { IfOk result (λ r. StepIs wiki.now (calling (wiki_setting wiki.now) call.entry (unnamed_of call.entry text.entry) (scene_in self.old.scene) (waiting wiki.now self.old)) left.old self.old.stack (16 * size call.entry.rest + 16 + weights self.old.stack) (allowed left.old self.old.stack + 1) r self.new left.new) }
     {
         let call = add_unnamed(wiki.alloc, call, text)?;
-        let progress = self.arguments(wiki, left, call)?;
-        Ok(progress)
+        self.arguments(wiki, left, call)
     }
 
     /// The value of an argument with a name is there.
@@ -365,8 +420,7 @@ impl<'w> Machine<'w> {
         ensures { IfOk result (λ r. StepIs wiki.now (calling (wiki_setting wiki.now) call.entry (with_name call.entry name (trim text.entry)) (scene_in self.old.scene) (waiting wiki.now self.old)) left.old self.old.stack (16 * size call.entry.rest + 16 + weights self.old.stack) (allowed left.old self.old.stack + 1) r self.new left.new) }
     {
         let call = add_named(wiki.alloc, call, name, text)?;
-        let progress = self.arguments(wiki, left, call)?;
-        Ok(progress)
+        self.arguments(wiki, left, call)
     }
 
     /// A template: both tests come before the arguments.
@@ -381,13 +435,11 @@ impl<'w> Machine<'w> {
     {
         let alloc = wiki.alloc;
         let Some(trees) = included(wiki.pages, &title) else {
-            let text = missing_text(alloc, &title)?;
-            let text = made(alloc, text)?;
+            let text = missing(alloc, &title)?;
             return Ok(Progress::On(Focus::Text(text)));
         };
         if self.scene.chain.contains(&title) {
-            let text = loop_text(alloc, &title)?;
-            let text = made(alloc, text)?;
+            let text = looped(alloc, &title)?;
             return Ok(Progress::On(Focus::Text(text)));
         }
         if !has_template(left) {
@@ -400,8 +452,7 @@ impl<'w> Machine<'w> {
             number: 1,
             rest,
         };
-        let progress = self.arguments(wiki, left, call)?;
-        Ok(progress)
+        self.arguments(wiki, left, call)
     }
 
     /// The function of an `#invoke` is there: its arguments follow.
@@ -415,15 +466,13 @@ impl<'w> Machine<'w> {
     ) -> Result<Progress<'w>, NoMemory>
         ensures { IfOk result (λ r. StepIs wiki.now (arguments_of (parts rest.entry) (scene_in self.old.scene) none_given (λ args. invocation_of (module_titled (wiki_setting wiki.now) (title_at name Namespace.Module)) name (trim text.entry) args (scene_in self.old.scene) (waiting wiki.now self.old))) left.old self.old.stack (16 * size rest.entry + 16 + weights self.old.stack) (allowed left.old self.old.stack + 1) r self.new left.new) }
     {
-        let text = text.trimmed(wiki.alloc)?;
-        let function = text.into_vec(wiki.alloc)?;
+        let function = trimmed_bytes(wiki.alloc, text)?;
         let call = Call {
-            purpose: Purpose::Invoke(name, Bytes::of_vec(function)),
+            purpose: Purpose::Invoke(name, function),
             args: Arguments::new(wiki.alloc, wiki.pages.seed()),
             number: 1,
             rest,
         };
-        let progress = self.arguments(wiki, left, call)?;
-        Ok(progress)
+        self.arguments(wiki, left, call)
     }
 }

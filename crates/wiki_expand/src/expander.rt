@@ -3,13 +3,13 @@ ghost use Rattle.std.specs.Prelude.{◌≡◌, ◌+◌, ◌*◌, ◌<◌, ◌≤
 ghost use Rattle.mw_frame.specs.Scenes.{NamesDiffer};
 ghost use Rattle.mw_frame.specs.declared.scene.Scene.{Scene as SceneValue};
 ghost use Rattle.wiki_expand.specs.declared.frame.Frame.{Frame as Waiting};
-ghost use Rattle.expand_meaning.specs.Expand.{Setting};
-ghost use Rattle.wk_base.specs.declared.left.Left.{Left as LeftOver};
+ghost use Rattle.expand_texts.specs.ExpandMeaningExpand.{Setting};
+ghost use Rattle.page_run.specs.WkBaseDeclaredLeftLeft.{Left as LeftOver};
 ghost use Rattle.page_run.specs.State.{Reply, Gives};
 ghost use Rattle.wiki_expand.specs.Pages.{setting_in, direct_in};
 ghost use Rattle.wiki_expand.specs.Points.{wiki_setting, plug, run_at, scene_in};
 ghost use Rattle.wiki_expand.specs.Weights.{levels, bodies, allowed, Keeps};
-ghost use Rattle.expand_meaning.specs.Outcome.{Work};
+ghost use Rattle.expand_texts.specs.ExpandMeaningOutcome.{Work};
 ghost use Rattle.wiki_expand.specs.Forests.{trees_in};
 ghost use Rattle.wiki_expand.specs.Standing.{ready, LeadsIf, IsDoing, doing_point, work_from, work_page, IsHeldSource, Moves, Pauses, PauseFalls, PauseAsks, At, Waits, IsMove, MoveAsks, MoveFalls, IsReady, IsWaiting, IsAfter, setting_of, work_of, depth_in, templates_in, allowed_in};
 
@@ -20,13 +20,12 @@ use crate::pages::PageMap;
 use crate::walk::walk;
 use expand_texts::arguments::Arguments;
 use expand_texts::stack::Stack;
-use mw_frame::{Arg, Job, Scene};
+use mw_frame::{Arg, Bytes, Job, Left, Scene, Title};
 use std::alloc::Global;
 use std::hash::RandomState;
 use std::mem::replace;
 use std::rc::Rc;
-use wiki_markup::Marked;
-use wk_base::{Bytes, Left, NoMemory, Title};
+use wiki_markup::{Marked, NoMemory};
 
 /// What is expanded: the text of a page, the text of a page as it is included, or a text of its own.
 #[derive(Drop)]
@@ -149,10 +148,7 @@ impl<'w> Machine<'w> {
     {
         match doing {
             Doing::Ready(focus) => Ok(focus),
-            Doing::Begins(title, trees, args) => {
-                let focus = self.begin_body(wiki, left, trees, title, args)?;
-                Ok(focus)
-            }
+            Doing::Begins(title, trees, args) => { self.begin_body(wiki, left, trees, title, args) }
             Doing::Waiting => unreachable!(),
             Doing::Over => unreachable!(),
         }
@@ -211,6 +207,20 @@ fn begin<'w>(
     }
 }
 
+/// The text in which an expansion begins.
+fn inner(alloc: Global, seed: RandomState, scene: Scene) -> Result<Inner, NoMemory>
+    requires { NamesDiffer scene.args }
+    ensures { IfOk result (λ inner. scene_in inner ≡ scene) }
+{
+    let Scene { title, args, chain } = scene;
+    let args = Arguments::of_list(alloc, seed, args.as_slice())?;
+    Ok(Inner {
+        title,
+        args,
+        chain: Stack::of_vec(chain.into_vec()),
+    })
+}
+
 /// What an expander does after a move.
 fn doing_after<'w>(next: &Move) -> Doing<'w>
     ensures { IsDoing next.now result }
@@ -241,16 +251,10 @@ impl<'w> Expander<'w> {
         ensures ready { IfOk result (λ e. IsReady e) }
         ensures rests { IfOk result (λ e. (depth_in e ≡ 0) × (templates_in e ≡ 0)) }
     {
-        let (trees, template) = read_source(alloc, pages, source)?;
-        let Scene { title, args, chain } = scene;
-        let doing = begin(alloc, pages.seed(), trees, template, args.as_slice())?;
-        let args = Arguments::of_list(alloc, pages.seed(), args.as_slice())?;
         let page = page.copy()?;
-        let scene = Inner {
-            title,
-            args,
-            chain: Stack::of_vec(chain.into_vec()),
-        };
+        let (trees, template) = read_source(alloc, pages, source)?;
+        let doing = begin(alloc, pages.seed(), trees, template, scene.args.as_slice())?;
+        let scene = inner(alloc, pages.seed(), scene)?;
         Ok(Expander {
             wiki: Wiki { alloc, pages, page },
             machine: Machine {

@@ -3,15 +3,14 @@ ghost use Rattle.std.specs.Prelude.{◌≡◌, ◌+◌, ◌-◌, ◌<◌, ◌≤
 ghost use Rattle.std.specs.Option.{option_copied};
 ghost use Rattle.wiki_markup.specs.Trees.{done};
 ghost use Rattle.wiki_markup.specs.Views.{kind_seen, node_seen};
-ghost use Rattle.expand_meaning.specs.Places.{trees_at, part_in, first_in, others_in, no_part, value_in};
+ghost use Rattle.expand_texts.specs.ExpandMeaningPlaces.{trees_at, part_in, first_in, others_in, no_part, value_in};
 ghost use Rattle.expand_texts.specs.Ropes.{bytes_of};
 ghost use Rattle.wiki_expand.specs.Forests.{nodes_in, trees_in, text_in, size, parts, Splits, Falls, option_trees, option_size, GoesPast, PastFalls};
 
 use expand_texts::rope::Piece;
 use std::alloc::Global;
 use std::rc::Rc;
-use wiki_markup::{KindView, Marked, NodeView};
-use wk_base::NoMemory;
+use wiki_markup::{KindView, Marked, NoMemory, NodeView};
 
 /// The nodes of a page that is held, or of a text of its own.
 #[derive(Drop)]

@@ -4,9 +4,8 @@ use crate::pages::PageMap;
 use expand_texts::arguments::Arguments;
 use expand_texts::rope::Rope;
 use expand_texts::stack::Stack;
-use mw_frame::Job;
+use mw_frame::{Bytes, Job, Title};
 use std::alloc::Global;
-use wk_base::{Bytes, Title};
 
 /// What stays while a page is expanded: the pages, and the title of the one that is expanded.
 #[derive(Drop)]

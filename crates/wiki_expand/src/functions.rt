@@ -1,9 +1,9 @@
 //! The parser functions `#if`, `#ifeq` and `#switch`, and constructs that stand as they are written.
 ghost use Rattle.std.specs.Prelude.{◌≡◌, ◌+◌, ◌*◌, ◌≤◌, ◌∷◌, ◌++◌, false, cond, codes, IfOk};
-ghost use Rattle.wk_base.specs.Space.{trim};
-ghost use Rattle.expand_meaning.specs.Texts.{are_equal as are_equal_to};
-ghost use Rattle.expand_meaning.specs.Expand.{expand, trimmed, either as either_of, is_text as is_text_of, if_equal as if_equal_of, is_default as is_default_of, by_name, after_turn, valueless as valueless_of, switch as switch_of, nothing_seen, all_parts};
-ghost use Rattle.expand_meaning.specs.Places.{no_part};
+ghost use Rattle.wiki_markup.specs.WkBaseSpace.{trim};
+ghost use Rattle.expand_texts.specs.ExpandMeaningTexts.{are_equal as are_equal_to};
+ghost use Rattle.expand_texts.specs.ExpandMeaningExpand.{expand, trimmed, either as either_of, is_text as is_text_of, if_equal as if_equal_of, is_default as is_default_of, by_name, after_turn, valueless as valueless_of, switch as switch_of, nothing_seen, all_parts};
+ghost use Rattle.expand_texts.specs.ExpandMeaningPlaces.{no_part};
 ghost use Rattle.expand_texts.specs.Ropes.{bytes_of};
 ghost use Rattle.wiki_expand.specs.Forests.{trees_in, parts, size};
 ghost use Rattle.wiki_expand.specs.Points.{seen_in};
@@ -17,9 +17,9 @@ use expand_texts::equality::are_equal;
 use expand_texts::rope::{Piece, Rope};
 use expand_texts::space::trimmed;
 use expand_texts::stack::Stack;
+use expand_texts::trim;
 use std::alloc::Global;
-use wk_base::NoMemory;
-use wk_base::space::trim;
+use wiki_markup::NoMemory;
 
 /// A part whose ends are trimmed.
 fn trimmed_part<'w>(
@@ -44,8 +44,7 @@ pub fn either<'w>(
 {
     let chosen = branches.either(first)?;
     let (part, _) = chosen.head()?;
-    let focus = trimmed_part(alloc, stack, part)?;
-    Ok(focus)
+    trimmed_part(alloc, stack, part)
 }
 
 /// Whether a text isn't empty.
@@ -84,8 +83,7 @@ pub fn compare<'w>(
 {
     let right = text.into_piece(alloc)?;
     let first = are_equal(left, trim(right.as_slice()));
-    let focus = either(alloc, stack, first, branches)?;
-    Ok(focus)
+    either(alloc, stack, first, branches)
 }
 
 /// A `#switch` looks at its next part.
@@ -100,13 +98,9 @@ pub fn switch<'w>(
     match rest.take_part()? {
         None => {
             let Seen { default, .. } = seen;
-            let focus = trimmed_part(alloc, stack, default)?;
-            Ok(focus)
+            trimmed_part(alloc, stack, default)
         }
-        Some((part, rest)) => {
-            let focus = look_at(alloc, stack, Switch { value, rest, seen }, part)?;
-            Ok(focus)
-        }
+        Some((part, rest)) => { look_at(alloc, stack, Switch { value, rest, seen }, part) }
     }
 }
 
@@ -126,8 +120,7 @@ fn look_at<'w>(
         }
         Some(value) => {
             if state.seen.met {
-                let focus = trimmed_part(alloc, stack, value)?;
-                return Ok(focus);
+                return trimmed_part(alloc, stack, value);
             }
             stack.push(Frame::Case(state, value))?;
             Ok(Focus::Walk(walk_name(alloc, part)))
@@ -190,13 +183,11 @@ pub fn case<'w>(
     let text = text.into_piece(alloc)?;
     let name = trim(text.as_slice());
     if are_equal(&state.value, name) {
-        let focus = trimmed_part(alloc, stack, value)?;
-        return Ok(focus);
+        return trimmed_part(alloc, stack, value);
     }
     let set = state.seen.waits || is_default(name);
     let state = next_case(state, value, set);
-    let focus = switch(alloc, stack, state)?;
-    Ok(focus)
+    switch(alloc, stack, state)
 }
 
 /// The text of a valueless part is there.
@@ -213,8 +204,7 @@ pub fn valueless<'w>(
     let Switch { value, rest, seen } = state;
     if rest.is_over()? {
         if waits {
-            let focus = switch(alloc, stack, Switch { value, rest, seen })?;
-            return Ok(focus);
+            return switch(alloc, stack, Switch { value, rest, seen });
         }
         return Ok(Focus::Text(text));
     }
@@ -226,8 +216,7 @@ pub fn valueless<'w>(
         waits,
         default,
     };
-    let focus = switch(alloc, stack, Switch { value, rest, seen })?;
-    Ok(focus)
+    switch(alloc, stack, Switch { value, rest, seen })
 }
 
 /// The next part of a construct that stands as it is written.
@@ -267,8 +256,7 @@ pub fn begin_written<'w>(
 {
     let mut out = fixed(alloc, b"{{")?;
     out.push(first)?;
-    let focus = written(stack, rest, out)?;
-    Ok(focus)
+    written(stack, rest, out)
 }
 
 /// A `#switch` begins.
@@ -287,6 +275,5 @@ pub fn begin_switch<'w>(
         waits: false,
         default,
     };
-    let focus = switch(alloc, stack, Switch { value, rest, seen })?;
-    Ok(focus)
+    switch(alloc, stack, Switch { value, rest, seen })
 }

@@ -1,6 +1,6 @@
 //! What holds of the definitions themselves: each function has an empty body, and its contract is the law.
 ghost use Rattle.std.specs.Prelude.{◌≡◌, [], ◌∷◌, ◌++◌, Some, None};
-ghost use Rattle.wk_base.specs.declared.title.Title.{Title};
+ghost use Rattle.mw_frame.specs.WkBaseDeclaredTitleTitle.{Title};
 ghost use Rattle.wiki_markup.specs.declared.marked.ShownText.{ShownText};
 ghost use Rattle.wiki_markup.specs.Trees.{pairing, marked_of};
 ghost use Rattle.wiki_expand.specs.Entries.{Entry};

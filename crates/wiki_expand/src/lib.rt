@@ -28,4 +28,5 @@ mod resume;
 mod walk;
 
 pub use expander::{Expander, Move, Source};
+pub use mw_frame::Left;
 pub use pages::{Entry, PageMap};

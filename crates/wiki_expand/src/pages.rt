@@ -5,11 +5,11 @@ ghost use Rattle.wiki_markup.specs.Formed.{IsMarked};
 ghost use Rattle.wiki_expand.specs.Pages.{find_page};
 
 use indexmap::IndexMap;
+use mw_frame::Title;
 use std::alloc::Global;
 use std::hash::RandomState;
 use std::marker::Model;
-use wiki_markup::Marked;
-use wk_base::{NoMemory, Title};
+use wiki_markup::{Marked, NoMemory};
 
 /// The text of a page, paired: as it is read for the page itself, and as it is included in other pages. Where both pairings are the same, it is held
 /// once.
@@ -76,10 +76,10 @@ pub struct PageMap {
 
 impl Model for PageMap {
     ghost use Rattle.std.specs.Prelude.{List};
-    ghost use Rattle.wk_base.specs.declared.title.Title.{Title as TitleValue};
+    ghost use Rattle.mw_frame.specs.WkBaseDeclaredTitleTitle.{Title as TitleValue};
     ghost use Rattle.wiki_expand.specs.Entries.{Entry as EntryValue};
     ghost use Rattle.std.specs.Coded.{coded_list, coded×};
-    ghost use Rattle.wk_base.specs.contracts.title.Title as title;
+    ghost use Rattle.page_run.specs.WkBaseContractsTitleTitle as title;
     ghost use Rattle.wiki_expand.specs.contracts.pages.Entry as entry;
 
     ghost Value = { List (TitleValue × EntryValue) };

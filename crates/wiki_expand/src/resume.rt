@@ -1,6 +1,6 @@
 //! What waits for a text goes on with it.
 ghost use Rattle.std.specs.Prelude.{◌≡◌, ◌+◌, ◌*◌, ◌<◌, ◌^◌, ◌∷◌, ◌++◌, codes, ℕ, List, IfOk, OnOk};
-ghost use Rattle.expand_meaning.specs.Expand.{Setting, Page, by_kind as kind_part};
+ghost use Rattle.expand_texts.specs.ExpandMeaningExpand.{Setting, Page, by_kind as kind_part};
 ghost use Rattle.expand_texts.specs.Kinds.{kind_in};
 ghost use Rattle.expand_texts.specs.Ropes.{bytes_of};
 ghost use Rattle.wiki_expand.specs.Forests.{parts, size};
@@ -20,9 +20,10 @@ use expand_texts::arguments::Arguments;
 use expand_texts::kind::{Kind, kind_of};
 use expand_texts::rope::{Piece, Rope};
 use expand_texts::space::trimmed;
+use expand_texts::trim;
+use mw_frame::{Bytes, Left, Title};
 use std::alloc::Global;
-use wk_base::space::trim;
-use wk_base::{Bytes, Left, NoMemory, Title};
+use wiki_markup::NoMemory;
 
 /// A construct or a parameter ends: its level is given back, and its bytes are taken.
 fn leave<'w>(alloc: Global, left: &mut Left, text: Rope<'w>) -> Result<Rope<'w>, NoMemory>
@@ -112,10 +113,7 @@ impl<'w> Machine<'w> {
     {
         let alloc = wiki.alloc;
         match kind {
-            Kind::Include(title) => {
-                let progress = self.template(wiki, left, title, rest)?;
-                Ok(progress)
-            }
+            Kind::Include(title) => self.template(wiki, left, title, rest),
             Kind::Word(word) => Ok(Progress::On(Focus::Text(made(alloc, word)?))),
             Kind::Written => {
                 let focus = begin_written(alloc, &mut self.stack, rest, first.copy(alloc)?)?;
@@ -155,8 +153,7 @@ impl<'w> Machine<'w> {
         let alone = rest.is_over()?;
         let first = text.into_piece(wiki.alloc)?;
         let kind = kind_of(wiki.alloc, alone, &wiki.page, trim(first.as_slice()))?;
-        let progress = self.by_kind(wiki, left, kind, rest, &first)?;
-        Ok(progress)
+        self.by_kind(wiki, left, kind, rest, &first)
     }
 
     /// What waited on top goes on with a text.
@@ -176,8 +173,8 @@ impl<'w> Machine<'w> {
             Frame::Walk(walk) => Ok(Progress::On(Focus::Walk(walk.behind(text)?))),
             Frame::Level => Ok(Progress::On(Focus::Text(leave(alloc, left, text)?))),
             Frame::Trim => Ok(Progress::On(Focus::Text(text.trimmed(alloc)?))),
-            Frame::Parameter(rest) => Ok(self.parameter(wiki, left, rest, text)?),
-            Frame::First(rest) => Ok(self.first_part(wiki, left, rest, text)?),
+            Frame::Parameter(rest) => self.parameter(wiki, left, rest, text),
+            Frame::First(rest) => self.first_part(wiki, left, rest, text),
             Frame::Written(rest) => Ok(Progress::On(written(&mut self.stack, rest, text)?)),
             Frame::Compare(side, rest) => {
                 Ok(Progress::On(compare(alloc, &mut self.stack, &side, rest, text)?))
@@ -191,8 +188,8 @@ impl<'w> Machine<'w> {
                 state,
                 text,
             )?)),
-            Frame::Function(module, rest) => Ok(self.function(wiki, left, module, rest, text)?),
-            Frame::Unnamed(call) => Ok(self.unnamed(wiki, left, call, text)?),
+            Frame::Function(module, rest) => self.function(wiki, left, module, rest, text),
+            Frame::Unnamed(call) => self.unnamed(wiki, left, call, text),
             Frame::Name(call, value) => Ok(Progress::On(name(
                 alloc,
                 &mut self.stack,
@@ -200,7 +197,7 @@ impl<'w> Machine<'w> {
                 value,
                 text,
             )?)),
-            Frame::Value(call, key) => Ok(self.value(wiki, left, call, key, text)?),
+            Frame::Value(call, key) => self.value(wiki, left, call, key, text),
             Frame::Body(title, args) => {
                 leave_body(left, &mut self.scene, title, args);
                 Ok(Progress::On(Focus::Text(text)))

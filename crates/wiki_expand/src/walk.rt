@@ -3,9 +3,9 @@ ghost use Rattle.std.specs.Prelude.{◌≡◌, ◌+◌, ◌*◌, ◌++◌, ℕ, 
 ghost use Rattle.mw_frame.specs.declared.scene.Scene.{Scene};
 ghost use Rattle.page_run.specs.Run.{TakeBytes, Uses};
 ghost use Rattle.page_run.specs.Part.{open_or};
-ghost use Rattle.expand_meaning.specs.Texts.{node_text as no_node, size_text as no_bytes};
-ghost use Rattle.expand_meaning.specs.Places.{name_in};
-ghost use Rattle.expand_meaning.specs.Expand.{Setting, Thing, AConstruct, AParameter, Page, Doing, expand, onward, sized as sized_part, deeper, thing_text};
+ghost use Rattle.expand_texts.specs.ExpandMeaningTexts.{node_text as no_node, size_text as no_bytes};
+ghost use Rattle.expand_texts.specs.ExpandMeaningPlaces.{name_in};
+ghost use Rattle.expand_texts.specs.ExpandMeaningExpand.{Setting, Thing, AConstruct, AParameter, Page, Doing, expand, onward, sized as sized_part, deeper, thing_text};
 ghost use Rattle.wiki_expand.specs.Forests.{trees_in, parts, size};
 ghost use Rattle.wiki_expand.specs.Points.{Leads, Opens_to, Takes_of, waiting, scene_in, ahead};
 ghost use Rattle.wiki_expand.specs.Steps.{StepIs};
@@ -16,8 +16,9 @@ use crate::forest::{Forest, Split};
 use crate::frame::{Entry, Focus, Frame, Machine, Progress, Walk, Wiki};
 use expand_texts::rope::{Piece, Rope};
 use expand_texts::texts::{depth_text, node_text, size_text};
+use mw_frame::Left;
 use std::alloc::Global;
-use wk_base::{Left, NoMemory};
+use wiki_markup::NoMemory;
 
 /// A text that is fixed.
 pub fn fixed<'w>(alloc: Global, text: &'w [u8]) -> Result<Rope<'w>, NoMemory>
@@ -162,13 +163,11 @@ impl<'w> Machine<'w> {
             Split::Part(_, rest) => Ok(Progress::On(Focus::Walk(Walk { rest, named, out }))),
             Split::Construct(inside, rest) => {
                 self.stack.push(Frame::Walk(Walk { rest, named, out }))?;
-                let progress = self.open_construct(wiki, left, inside)?;
-                Ok(progress)
+                self.open_construct(wiki, left, inside)
             }
             Split::Parameter(inside, rest) => {
                 self.stack.push(Frame::Walk(Walk { rest, named, out }))?;
-                let progress = self.open_parameter(wiki, left, inside)?;
-                Ok(progress)
+                self.open_parameter(wiki, left, inside)
             }
         }
     }

@@ -1,15 +1,15 @@
 -- One report is due at most.
-use Rattle.std.proofs.Common.{◌≡◌, ◌∙◌, ℕ, Bool, true, false, ◌⊎◌, inl, inr, List, [], ◌∷◌, refl, sym, ap, subst}
+use Rattle.std.proofs.Common.{◌≡◌, ◌∙◌, ℕ, true, false, inl, inr, List, ◌∷◌, refl, sym, ap, subst}
 use Rattle.std.specs.Prelude.{Option, Some, None, IfSome, IfOk, IfErr, is_some, Result, Ok, Err}
-use Rattle.wk_base.specs.declared.title.Title.{Title}
-use Rattle.wk_shelf.specs.declared.folder.FolderPage.{FolderPage}
-use Rattle.wk_shelf.specs.Files.{StoredFile}
-use Rattle.wk_shelf.specs.Folder.{files_of, wiki_of}
-use Rattle.wk_base.specs.declared.NoMemory.{NoMemory as WantOfMemory}
-use Rattle.lua_syntax.specs.declared.fault.FaultAt.{FaultAt}
-use Rattle.lua_syntax.specs.declared.fault.SyntaxFault.TheVariants.{At}
+use Rattle.wk_tool.specs.WkBaseDeclaredTitleTitle.{Title}
+use Rattle.wk_tool.specs.WkShelfDeclaredFolderFolderPage.{FolderPage}
+use Rattle.wk_tool.specs.WkShelfFiles.{StoredFile}
+use Rattle.wk_tool.specs.WkShelfFolder.{files_of, wiki_of}
+use Rattle.wk_tool.specs.WkBaseDeclaredNoMemory.{NoMemory as WantOfMemory}
+use Rattle.lua_print.specs.LuaSyntaxDeclaredFaultFaultAt.{FaultAt}
+use Rattle.lua_print.specs.LuaSyntaxDeclaredFaultSyntaxFaultTheVariants.{At}
 use Rattle.lua_print.specs.Answers.{IsLayout}
-use Rattle.lua_parser.proofs.lemmas.AnsweredOnce.{one_fault, chunk_or_fault}
+use Rattle.lua_print.proofs.LuaParserLemmasAnsweredOnce.{one_fault, chunk_or_fault}
 use Rattle.wk_tool.specs.declared.report.Report.{Report}
 use Rattle.wk_tool.specs.declared.report.Status.{Status}
 use Rattle.wk_tool.specs.declared.report.Status.TheVariants.{Done, NoSuchPage, SourceFault, SyntaxFault}

@@ -1,10 +1,10 @@
 -- THE COMMAND that words are: `print`, a folder, and a module of it.
 use Rattle.std.specs.Prelude.{ℕ, Bool, if◌then◌else◌, is_some, List, [], ◌∷◌, Option, Some, None, option_map, Result, Ok, Err, codes}
 use Rattle.std.specs.Str.{bytes_eq}
-use Rattle.wk_base.specs.declared.title.Title.{Title}
-use Rattle.wk_base.specs.declared.title.Namespace.TheVariants.{Module}
-use Rattle.wk_base.specs.declared.title_read.TitleFault.{TitleFault}
-use Rattle.wk_base.specs.Titles.{title_of, is_module}
+use Rattle.wk_tool.specs.WkBaseDeclaredTitleTitle.{Title}
+use Rattle.wk_tool.specs.WkBaseDeclaredTitleNamespaceTheVariants.{Module}
+use Rattle.wk_tool.specs.WkBaseDeclaredTitleReadTitleFault.{TitleFault}
+use Rattle.wk_tool.specs.WkBaseTitles.{title_of, is_module}
 
 pub record Command : Type 0 where
   pub folder : List ℕ

@@ -1,13 +1,13 @@
 -- WHAT A RUN IS TO ANSWER AND TO WRITE.
 use Rattle.std.specs.Prelude.{◌≡◌, ℕ, ◌⊎◌, if◌then◌else◌, List, [], ◌∷◌, ◌++◌, Option, Some, None, Result, Ok, Err, codes}
-use Rattle.wk_base.specs.declared.title.Title.{Title}
-use Rattle.wk_base.specs.contracts.title.TitlePartialEq.TheImpl as titles
-use Rattle.wk_shelf.specs.declared.folder.FolderPage.{FolderPage}
-use Rattle.wk_shelf.specs.Files.{StoredFile}
-use Rattle.wk_shelf.specs.Folder.{files_of, wiki_of}
-use Rattle.lua_syntax.specs.declared.fault.FaultAt.{FaultAt}
-use Rattle.lua_syntax.specs.declared.fault.SyntaxFault.TheVariants.{At}
-use Rattle.lua_fault_texts.specs.FaultTexts.{fault_message}
+use Rattle.wk_tool.specs.WkBaseDeclaredTitleTitle.{Title}
+use Rattle.wk_tool.specs.WkBaseContractsTitleTitlePartialEqTheImpl as titles
+use Rattle.wk_tool.specs.WkShelfDeclaredFolderFolderPage.{FolderPage}
+use Rattle.wk_tool.specs.WkShelfFiles.{StoredFile}
+use Rattle.wk_tool.specs.WkShelfFolder.{files_of, wiki_of}
+use Rattle.lua_print.specs.LuaSyntaxDeclaredFaultFaultAt.{FaultAt}
+use Rattle.lua_print.specs.LuaSyntaxDeclaredFaultSyntaxFaultTheVariants.{At}
+use Rattle.lua_print.specs.LuaSyntaxFaultTexts.{fault_message}
 use Rattle.lua_print.specs.Answers.{IsLayout}
 use Rattle.wk_tool.specs.declared.report.Report.{Report}
 use Rattle.wk_tool.specs.declared.report.Status.{Status}

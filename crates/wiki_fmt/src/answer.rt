@@ -1,19 +1,18 @@
 //! What a module of a folder gives.
 ghost use Rattle.std.specs.Prelude.{◌≡◌, ◌≤◌, IfOk, IfErr, IfSome, Err, option_map};
-ghost use Rattle.wk_shelf.specs.Causes.{Rose};
-ghost use Rattle.wk_shelf.specs.Folder.{files_of, wiki_of};
+ghost use Rattle.wk_tool.specs.WkShelfCauses.{Rose};
+ghost use Rattle.wk_tool.specs.WkShelfFolder.{files_of, wiki_of};
 ghost use Rattle.wk_tool.specs.Report.{source_report};
 ghost use Rattle.wiki_fmt.specs.Due.{tool, text_of, printed, refused, IsTextReport, IsPageReport, IsWikiReport, IsAnswer};
 
 use crate::command::Command;
-use lua_fault_texts::fault_message;
-use lua_print::layout;
-use lua_syntax::{FaultAt, SyntaxFault};
+use lua_print::{FaultAt, SyntaxFault, fault_message, layout};
 use std::alloc::Global;
 use std::hash::RandomState;
-use wk_base::{Bytes, List, NoMemory, Title};
-use wk_shelf::{FolderFault, FolderPage, Shelf, read_folder};
-use wk_tool::{Report, Status, Unread, missing_report, refusal, source_report};
+use wk_tool::{
+    Bytes, FolderFault, FolderPage, List, NoMemory, Report, Shelf, Status, Title, Unread,
+    missing_report, read_folder, refusal, source_report,
+};
 
 /// The name that stands before the colon in a line on standard error.
 const TOOL: &[u8] = b"wikifmt";

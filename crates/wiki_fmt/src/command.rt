@@ -4,7 +4,7 @@ ghost use Rattle.wiki_fmt.specs.Command.{module_of, command_of};
 
 use std::alloc::Global;
 use std::marker::Model;
-use wk_base::{Namespace, NoMemory, Title, TitleFault};
+use wk_tool::{Namespace, NoMemory, Title, TitleFault};
 
 /// A module of a folder whose text is to be laid out.
 #[derive(Drop)]

@@ -1,6 +1,6 @@
 //! The top call: what the program does with its words, over any shelf and any two sinks.
 ghost use Rattle.std.specs.Prelude.{◌≡◌, ◌≤◌, ◌⊎◌, false, IfOk, IfErr, map, string_bytes};
-ghost use Rattle.wk_shelf.specs.Causes.{Rose};
+ghost use Rattle.wk_tool.specs.WkShelfCauses.{Rose};
 ghost use Rattle.wk_tool.specs.Ending.{Prepares, KeepsDue, is_cut};
 ghost use Rattle.wiki_fmt.specs.Command.{is_command};
 ghost use Rattle.wk_tool.specs.Report.{usage_report};
@@ -10,9 +10,7 @@ use crate::answer::command_report;
 use crate::command::read_command;
 use std::alloc::Global;
 use std::hash::RandomState;
-use wk_base::NoMemory;
-use wk_shelf::{Shelf, Sink};
-use wk_tool::{Report, Unread, finish, usage_report};
+use wk_tool::{NoMemory, Report, Shelf, Sink, Unread, finish, usage_report};
 
 const USAGE: &[u8] = b"usage: wikifmt print DIR MODULE\n";
 

@@ -1,3 +1,4 @@
+pub use Rattle.wk_base.proofs.TitleLaws as WkBaseTitleLaws
 pub mod Sweep
 pub mod Passes
 pub mod PassSteps

@@ -1,3 +1,5 @@
+pub use Rattle.wk_base.specs.Space as WkBaseSpace
+pub use Rattle.wk_base.specs.declared.title.Namespace as WkBaseDeclaredTitleNamespace
 pub mod Shown
 pub mod Items
 pub mod Pairing

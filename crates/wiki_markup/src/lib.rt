@@ -35,3 +35,4 @@ mod words;
 pub use marked::{KindView, Marked, Mode, NodeView, ShownText, Span};
 pub use pairing::markup;
 pub use showing::shown;
+pub use wk_base::NoMemory;

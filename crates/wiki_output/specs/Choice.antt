@@ -4,10 +4,10 @@ use Rattle.std.specs.declared.cmp.Ordering.{Ordering}
 use Rattle.std.specs.Ordering.{nat_cmp}
 use Rattle.std.specs.Cmp.Lexicographic.{slice_cmp}
 use Rattle.std.specs.BTreeSet.{insert_key}
-use Rattle.wk_base.specs.declared.title.Namespace.{Namespace}
-use Rattle.wk_base.specs.declared.title.Namespace.TheVariants.{Template, Module}
-use Rattle.wk_base.specs.declared.title.Title.{Title}
-use Rattle.wk_base.specs.Titles.{title_text}
+use Rattle.wk_shelf.specs.WkBaseDeclaredTitleNamespace.{Namespace}
+use Rattle.wk_shelf.specs.WkBaseDeclaredTitleNamespaceTheVariants.{Template, Module}
+use Rattle.wk_shelf.specs.WkBaseDeclaredTitleTitle.{Title}
+use Rattle.wk_shelf.specs.WkBaseTitles.{title_text}
 use Rattle.wk_shelf.specs.declared.folder.FolderPage.{FolderPage}
 use Rattle.wiki_output.specs.declared.choice.Titled.{Titled}
 

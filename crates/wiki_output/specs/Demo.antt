@@ -1,7 +1,7 @@
 -- A wiki that the program makes itself: so many pages, with a template and a module.
 use Rattle.std.specs.Prelude.{ℕ, zero, suc, List, [], ◌∷◌, ◌++◌, codes}
 use Rattle.std.specs.Fmt.{decimal}
-use Rattle.wk_base.specs.declared.title.Namespace.TheVariants.{Main, Template, Module}
+use Rattle.wk_shelf.specs.WkBaseDeclaredTitleNamespaceTheVariants.{Main, Template, Module}
 use Rattle.wk_shelf.specs.declared.folder.FolderPage.{FolderPage}
 
 abbrev pub demo_text : ℕ → List ℕ

@@ -1,7 +1,7 @@
 -- What a run is to answer: a status, and bytes for the two streams.
 use Rattle.std.specs.Prelude.{ℕ, Bool, List, [], ◌∷◌, ◌++◌, codes}
-use Rattle.wk_base.specs.declared.title.Title.{Title}
-use Rattle.wk_base.specs.Titles.{title_text}
+use Rattle.wk_shelf.specs.WkBaseDeclaredTitleTitle.{Title}
+use Rattle.wk_shelf.specs.WkBaseTitles.{title_text}
 use Rattle.wiki_output.specs.declared.made.Made.{Made}
 use Rattle.wiki_output.specs.declared.made.Form.{Form}
 use Rattle.wiki_output.specs.declared.report.Status.{Status}

@@ -4,8 +4,7 @@ ghost use Rattle.wiki_output.specs.Demo.{demo_text, demo_page, first_pages, demo
 
 use crate::putting::{put, put_number};
 use std::alloc::Global;
-use wk_base::{Bytes, List, Namespace, NoMemory, Title};
-use wk_shelf::FolderPage;
+use wk_shelf::{Bytes, FolderPage, List, Namespace, NoMemory, Title};
 
 fn page(alloc: Global, ns: Namespace, name: &[u8], text: &[u8]) -> Result<FolderPage, NoMemory>
     ensures { IfOk result (λ page. page ≡ record { title = record { ns = ns; name = name.now }; bytes = text.now }) }

@@ -1,5 +1,5 @@
 //! A page that was expanded.
-use wk_base::{Bytes, Title};
+use wk_shelf::{Bytes, Title};
 
 /// What a page used of its allowances.
 #[derive(Clone, Copy, Debug, PartialEq, Eq)]

@@ -5,7 +5,7 @@ ghost use Rattle.wiki_output.specs.Output.{alone, block, blocks, total, summary,
 use crate::made::{Form, Made, Used};
 use crate::putting::{put, put_number, put_title};
 use std::alloc::Global;
-use wk_base::{Bytes, NoMemory};
+use wk_shelf::{Bytes, NoMemory};
 
 /// The text of the first page.
 fn alone(alloc: Global, pages: &[Made]) -> Result<Bytes, NoMemory>

@@ -1,10 +1,10 @@
 //! Pieces of text, put behind what is there.
 ghost use Rattle.std.specs.Prelude.{◌≡◌, ◌++◌, OnOk};
 ghost use Rattle.std.specs.Fmt.{decimal};
-ghost use Rattle.wk_base.specs.Titles.{title_text};
+ghost use Rattle.wk_shelf.specs.WkBaseTitles.{title_text};
 
 use itoa::Buffer;
-use wk_base::{NoMemory, Title};
+use wk_shelf::{NoMemory, Title};
 
 /// Adds bytes.
 pub fn put(made: &mut Vec<u8>, bytes: &[u8]) -> Result<(), NoMemory>

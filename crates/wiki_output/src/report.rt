@@ -6,7 +6,7 @@ use crate::made::{Form, Made};
 use crate::output::{stats_if, text_in};
 use crate::putting::put;
 use std::alloc::Global;
-use wk_base::{Bytes, NoMemory, Title};
+use wk_shelf::{Bytes, NoMemory, Title};
 
 /// How a run ended.
 #[derive(Clone, Copy, Debug, PartialEq, Eq)]

@@ -4,21 +4,21 @@ use Rattle.std.specs.Prelude.{Option, Some, None, if◌then◌else◌}
 use Rattle.std.specs.List.{starts_with}
 use Rattle.std.specs.Str.{bytes_eq}
 use Rattle.std.proofs.lemmas.Slice.Eq.{bytes_eq-Decides}
-use Rattle.wk_base.specs.declared.title.Namespace.{Namespace}
-use Rattle.wk_base.specs.declared.title.Namespace.TheVariants.{Module as ModuleNs}
-use Rattle.wk_base.specs.declared.title.Title.{Title}
-use Rattle.wk_base.specs.Titles.{is_module, title_text, prefix_of}
-use Rattle.lua_syntax.specs.declared.fault.FaultAt.{FaultAt}
-use Rattle.lua_syntax.specs.Tree.{Block}
-use Rattle.lua_lexer.specs.declared.token.Token.{Token}
-use Rattle.lua_lexer.specs.Lexis.{Lexes}
-use Rattle.lua_lexer.proofs.Lists as lists
-use Rattle.lua_grammar.specs.Grammar.{IsChunk}
+use Rattle.wiki_markup.specs.WkBaseDeclaredTitleNamespace.{Namespace}
+use Rattle.wiki_expand.specs.WkBaseDeclaredTitleNamespaceTheVariants.{Module as ModuleNs}
+use Rattle.wiki_expand.specs.WkBaseDeclaredTitleTitle.{Title}
+use Rattle.lua_code.specs.WkBaseTitles.{is_module, title_text, prefix_of}
+use Rattle.lua_parser.specs.LuaSyntaxDeclaredFaultFaultAt.{FaultAt}
+use Rattle.lua_grammar_laws.specs.LuaSyntaxTree.{Block}
+use Rattle.lua_grammar_laws.specs.LuaLexerDeclaredTokenToken.{Token}
+use Rattle.lua_grammar_laws.specs.LuaLexerLexis.{Lexes}
+use Rattle.lua_grammar_laws.proofs.LuaLexerLists as lists
+use Rattle.lua_grammar_laws.specs.LuaGrammarGrammar.{IsChunk}
 use Rattle.lua_grammar_laws.proofs.Once.{text_spelled_once}
 use Rattle.lua_parser.proofs.lemmas.AnsweredOnce.{one_fault}
-use Rattle.lua_meaning.specs.World.{Module, Modules}
-use Rattle.lua_slots.specs.Code.{Protos, CModule}
-use Rattle.lua_slots.specs.IsCode.{IsProtos, IsCodeOrFault, IsModule}
+use Rattle.lua_code.specs.LuaMeaningWorld.{Module, Modules}
+use Rattle.lua_code.specs.LuaSlotsCode.{Protos, CModule}
+use Rattle.lua_resolve.specs.LuaSlotsIsCode.{IsProtos, IsCodeOrFault, IsModule}
 use Rattle.lua_code.specs.Held.{TitledModules, modules_seen}
 use Rattle.wiki_texts.specs.declared.raw.RawPage.{RawPage}
 use Rattle.wiki_texts.specs.Modules.{module_text, IsTree, IsMeantBy, AreMeantBy}

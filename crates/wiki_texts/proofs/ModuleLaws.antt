@@ -5,11 +5,11 @@ use Rattle.std.specs.Map.{lookup}
 use Rattle.std.specs.Option.{option_copied}
 use Rattle.std.specs.Str.{bytes_eq}
 use Rattle.std.proofs.lemmas.Slice.Eq.{bytes_eq-Decides}
-use Rattle.wk_base.specs.declared.title.Title.{Title}
-use Rattle.wk_base.specs.contracts.title.TitlePartialEq.TheImpl as titles
-use Rattle.wk_base.specs.Titles.{is_module, title_text}
-use Rattle.wk_base.proofs.TitleLaws.{same_title}
-use Rattle.lua_slots.specs.Code.{CModule}
+use Rattle.wiki_expand.specs.WkBaseDeclaredTitleTitle.{Title}
+use Rattle.wiki_expand.specs.WkBaseContractsTitleTitlePartialEqTheImpl as titles
+use Rattle.lua_code.specs.WkBaseTitles.{is_module, title_text}
+use Rattle.wiki_markup.proofs.WkBaseTitleLaws.{same_title}
+use Rattle.lua_code.specs.LuaSlotsCode.{CModule}
 use Rattle.lua_code.specs.declared.modules.Module.{Module}
 use Rattle.lua_code.specs.Held.{TitledModules, find_module, code_seen, module_seen, modules_seen}
 use Rattle.wiki_texts.specs.declared.raw.RawPage.{RawPage}

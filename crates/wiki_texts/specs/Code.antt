@@ -1,11 +1,11 @@
 -- CODE OF THE MODULES that the texts of a wiki mean.
 use Rattle.std.specs.Prelude.{◌≡◌, ℕ, true, List, [], ◌∷◌, ◌++◌, length, Option, Some, None, is_some, Result, Ok, Err}
-use Rattle.wk_base.specs.declared.title.Title.{Title}
-use Rattle.wk_base.specs.Titles.{is_module}
-use Rattle.lua_syntax.specs.declared.fault.FaultAt.{FaultAt}
-use Rattle.lua_syntax.specs.Tree.{Block}
-use Rattle.lua_slots.specs.Code.{Protos, CModule}
-use Rattle.lua_slots.specs.IsCode.{IsProtos}
+use Rattle.wiki_expand.specs.WkBaseDeclaredTitleTitle.{Title}
+use Rattle.lua_code.specs.WkBaseTitles.{is_module}
+use Rattle.lua_parser.specs.LuaSyntaxDeclaredFaultFaultAt.{FaultAt}
+use Rattle.lua_grammar_laws.specs.LuaSyntaxTree.{Block}
+use Rattle.lua_code.specs.LuaSlotsCode.{Protos, CModule}
+use Rattle.lua_resolve.specs.LuaSlotsIsCode.{IsProtos}
 use Rattle.lua_code.specs.Held.{TitledModules, find_module, modules_seen}
 use Rattle.wiki_texts.specs.declared.raw.RawPage.{RawPage}
 use Rattle.wiki_texts.specs.Pages.{is_held}

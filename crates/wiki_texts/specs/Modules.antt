@@ -2,16 +2,16 @@
 -- text's first fault (Lua, manual 8).
 use Rattle.std.specs.Prelude.{◌≡◌, ℕ, ◌&&◌, if◌then◌else◌, List, [], ◌∷◌, length, Option, Some, None, Result, Ok, Err}
 use Rattle.std.specs.Str.{bytes_eq}
-use Rattle.wk_base.specs.declared.title.Title.{Title}
-use Rattle.wk_base.specs.Titles.{is_module, title_text}
-use Rattle.lua_syntax.specs.declared.fault.FaultAt.{FaultAt}
-use Rattle.lua_syntax.specs.declared.fault.SyntaxFault.TheVariants.{At}
-use Rattle.lua_syntax.specs.Tree.{Block}
-use Rattle.lua_lexer.specs.declared.token.Token.{Token}
-use Rattle.lua_lexer.specs.Lexis.{Lexes}
-use Rattle.lua_grammar.specs.Grammar.{IsChunk}
+use Rattle.wiki_expand.specs.WkBaseDeclaredTitleTitle.{Title}
+use Rattle.lua_code.specs.WkBaseTitles.{is_module, title_text}
+use Rattle.lua_parser.specs.LuaSyntaxDeclaredFaultFaultAt.{FaultAt}
+use Rattle.lua_parser.specs.LuaSyntaxDeclaredFaultSyntaxFaultTheVariants.{At}
+use Rattle.lua_grammar_laws.specs.LuaSyntaxTree.{Block}
+use Rattle.lua_grammar_laws.specs.LuaLexerDeclaredTokenToken.{Token}
+use Rattle.lua_grammar_laws.specs.LuaLexerLexis.{Lexes}
+use Rattle.lua_grammar_laws.specs.LuaGrammarGrammar.{IsChunk}
 use Rattle.lua_parser.specs.Chunks.{IsParsed}
-use Rattle.lua_meaning.specs.World.{Module, Modules}
+use Rattle.lua_code.specs.LuaMeaningWorld.{Module, Modules}
 use Rattle.wiki_texts.specs.declared.raw.RawPage.{RawPage}
 
 -- the text of the module whose title is written so, if there is one; the first one counts (a wiki has no second one)

@@ -1,8 +1,8 @@
 -- THE PAGES of a wiki: of each title its text, cut and paired (MediaWiki, Help:Templates).
 use Rattle.std.specs.Prelude.{ℕ, Bool, if◌then◌else◌, is_some, List, [], ◌∷◌, ◌++◌}
 use Rattle.std.specs.List.{list_any}
-use Rattle.wk_base.specs.declared.title.Title.{Title}
-use Rattle.wk_base.specs.contracts.title.TitlePartialEq.TheImpl as titles
+use Rattle.wiki_expand.specs.WkBaseDeclaredTitleTitle.{Title}
+use Rattle.wiki_expand.specs.WkBaseContractsTitleTitlePartialEqTheImpl as titles
 use Rattle.wiki_markup.specs.Nodes.{Marked}
 use Rattle.wiki_markup.specs.declared.marked.Mode.{Mode}
 use Rattle.wiki_markup.specs.declared.marked.Mode.TheVariants.{Direct, Transcluded}

@@ -1,8 +1,8 @@
 -- WHAT IS PREPARED OF A PAGE: its text cut and paired in both modes, and of a page of namespace Module the code of its text, or the text's first
 -- fault.
 use Rattle.std.specs.Prelude.{◌≡◌, ℕ, Bool, true, false, List, [], ◌∷◌, Option, Some, None, Result}
-use Rattle.wk_base.specs.Titles.{is_module}
-use Rattle.lua_syntax.specs.declared.fault.FaultAt.{FaultAt}
+use Rattle.lua_code.specs.WkBaseTitles.{is_module}
+use Rattle.lua_parser.specs.LuaSyntaxDeclaredFaultFaultAt.{FaultAt}
 use Rattle.lua_code.specs.declared.proto.Protos.{Protos}
 use Rattle.lua_code.specs.Held.{code_seen}
 use Rattle.wiki_texts.specs.declared.raw.RawPage.{RawPage}

@@ -1,18 +1,17 @@
 //! The modules of a wiki, from the texts of its pages.
 ghost use Rattle.std.specs.Prelude.{◌≡◌, true, IfOk, OnOk};
-ghost use Rattle.wk_base.specs.Titles.{is_module};
+ghost use Rattle.lua_code.specs.WkBaseTitles.{is_module};
 ghost use Rattle.lua_code.specs.Held.{code_seen};
 ghost use Rattle.wiki_texts.specs.Code.{IsCodeOf, Adds};
 ghost use Rattle.wiki_texts.specs.Prepared.{IsCodeOfPage};
 
 use crate::raw::RawPage;
 use lua_code::{Modules, Protos};
-use lua_parser::parse;
+use lua_parser::{FaultAt, SyntaxFault, parse};
 use lua_resolve::resolve;
-use lua_syntax::{FaultAt, SyntaxFault};
 use std::alloc::Global;
 use std::hash::RandomState;
-use wk_base::NoMemory;
+use wiki_markup::NoMemory;
 
 /// A text of Lua has fewer bytes than this, so that 32 bits number its lines. No folder that is read holds a longer one.
 const TEXT_LIMIT: usize = 4_000_000_000;

@@ -8,11 +8,11 @@ use crate::modules::{add_code, code_of_page};
 use crate::pages::{add_page, paired};
 use crate::prepared::Prepared;
 use crate::raw::RawPage;
-use lua_code::Modules;
+use lua_code::{List, Modules};
 use std::alloc::Global;
 use std::hash::RandomState;
 use wiki_expand::PageMap;
-use wk_base::{List, NoMemory};
+use wiki_markup::NoMemory;
 
 /// A page, prepared.
 fn prepare(alloc: Global, seed: RandomState, page: &RawPage) -> Result<Prepared, NoMemory>

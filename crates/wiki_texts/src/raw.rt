@@ -1,5 +1,5 @@
 //! A page as it is held.
-use wk_base::{Bytes, Title};
+use lua_code::{Bytes, Title};
 
 /// A page of a wiki: its title, and its text.
 #[derive(Drop, Debug)]

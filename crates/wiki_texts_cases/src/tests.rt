@@ -1,12 +1,11 @@
 //! A small wiki: which of its pages are there, and what became of the text of each module. Faults by Lua's manual, section 8.
-use lua_code::Modules;
+use lua_code::{Bytes, List, Modules, Namespace, NoMemory, Title};
 use std::alloc::Global;
 use std::hash::RandomState;
 use std::io;
 use std::random::RandomSource;
 use std::test::Fail;
 use wiki_texts::{RawPage, by_title, meant_once, prepare_all};
-use wk_base::{Bytes, List, Namespace, NoMemory, Title};
 
 /// What is found of a title among the modules.
 #[derive(Clone, Copy, Debug, PartialEq, Eq)]

@@ -7,7 +7,8 @@
 use std::hash::RandomState;
 use std::process::ExitCode;
 use std::{env, io};
-use wiki_app::{CANNOT_READ, OpenGate, Status, after_put, put_piece, run};
+use wiki_app::{CANNOT_READ, OpenGate, after_put, put_piece, run};
+use wiki_output::Status;
 use wk_shelf::{FolderShelf, StreamSink};
 
 /// The words after the program's name.

@@ -8,8 +8,7 @@ use std::hash::RandomState;
 use std::process::ExitCode;
 use std::{env, io};
 use wiki_fmt::{CANNOT_READ, run_fmt};
-use wk_shelf::{FolderShelf, StreamSink};
-use wk_tool::{Status, after_put, put_piece};
+use wk_tool::{FolderShelf, Status, StreamSink, after_put, put_piece};
 
 /// The words after the program's name.
 fn words(rt: &HostRuntime) -> io::Result<Vec<String>> {

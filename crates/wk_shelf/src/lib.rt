@@ -28,3 +28,4 @@ pub use shelf::{Shelf, ShelfFault};
 pub use sink::{Sink, SinkFailed};
 pub use sorted::sorted_names;
 pub use stream_sink::StreamSink;
+pub use wk_base::{Bytes, List, Namespace, NoMemory, Title, TitleFault};

@@ -1,5 +1,5 @@
 -- The end of a run, and what a tool promises of it.
-use Rattle.std.proofs.Common.{◌≡◌, ◌∙◌, ℕ, ◌==◌, Bool, true, false, ◌⊎◌, inl, inr, List, [], ◌∷◌, refl, sym, ap, subst, append-nil, true≢false, arith}
+use Rattle.std.proofs.Common.{◌≡◌, ◌∙◌, ℕ, ◌==◌, Bool, true, false, ◌⊎◌, inl, inr, List, ◌∷◌, refl, sym, ap, subst, append-nil, true≢false}
 use Rattle.std.specs.Prelude.{Option, Some, None, Result, Ok, Err, IfOk, OnOk, OnErr, is_ok, if◌then◌else◌, ◌||◌}
 use Rattle.std.proofs.lemmas.Bool.{eq-eqb}
 use Rattle.wk_shelf.specs.Put.{Puts, PutsSome}
@@ -14,6 +14,10 @@ use Rattle.wk_tool.specs.Ending.{is_among, is_cut, Answers, Begins, Completes, P
 -- the status behind a put
 abbrev pub IsBehind : Bool → ℕ → ℕ → Type 0
 IsBehind put code status = status ≡ (if put then code else 5)
+
+pub behind : (put : Bool) (code status : ℕ) → IsBehind put code status → (status ≡ code) ⊎ (status ≡ 5)
+behind true code status e = inl e
+behind false code status e = inr e
 
 -- nothing is a prefix of any piece
 pub nothing : (old : Option (List ℕ)) (piece : List ℕ) → PutsSome old old piece
@@ -39,14 +43,14 @@ line_put (Err x) status line err_rose err err' e a b rose = record { ends = inr 
 -- ---- statuses
 
 -- One status is no other.
-other : {A : Type 0} (status n m : ℕ) → status ≡ n → status ≡ m → (n == m) ≡ false → A
+pub other : {A : Type 0} (status n m : ℕ) → status ≡ n → status ≡ m → (n == m) ≡ false → A
 other status n m e f ne = absurd (true≢false (sym (ap (λ (k : ℕ). k == m) (sym e ∙ f) ∙ same m) ∙ ne))
   where
     same : (k : ℕ) → (k == k) ≡ true
     same k = eq-eqb k k refl
 
 -- One that cuts short isn't one that doesn't.
-uncut : {A : Type 0} (status n : ℕ) → status ≡ n → is_cut n ≡ true → is_cut status ≡ false → A
+pub uncut : {A : Type 0} (status n : ℕ) → status ≡ n → is_cut n ≡ true → is_cut status ≡ false → A
 uncut status n e f g = absurd (true≢false (sym f ∙ ap is_cut (sym e) ∙ g))
 
 among_more : (x a b c y : Bool) → (x || y) ≡ true → (x || (a || (b || (c || y)))) ≡ true
@@ -169,8 +173,15 @@ ended_has (Err Failed) Has line out_same err_same out_rose err_rose out out' err
     go (inr b) = uncut status 5 b.0 refl kept
 ended_has (Err NoMemory) Has line out_same err_same out_rose err_rose out out' err err' status h f kept = uncut status 6 f.1.0 refl kept
 
--- After a put that failed it is there, or a read failed.
+-- After a put that failed it is there, or what was put is some of the line that a read failed.
+pub cut_line : (work : Result Report Unread) (Has : Type 0) (is_command : Bool) (statuses : List ℕ) (Due : Report → Type 0) (read_rose : Type 0) (line : List ℕ) (out_same err_same out_rose err_rose : Type 0) (out out' err err' : Option (List ℕ)) (status : ℕ) → IfOk work (λ report. Has) → Prepares work is_command statuses Due read_rose → Finished work line out_same err_same out_rose err_rose out out' err err' status → status ≡ 5 → Has ⊎ (read_rose × out_same × PutsSome err err' line)
+cut_line (Ok report) Has is_command statuses Due read_rose line out_same err_same out_rose err_rose out out' err err' status h p f e = inl h
+cut_line (Err Failed) Has is_command statuses Due read_rose line out_same err_same out_rose err_rose out out' err err' status h p f e = inr (p.1, f.0, f.1.begins)
+cut_line (Err NoMemory) Has is_command statuses Due read_rose line out_same err_same out_rose err_rose out out' err err' status h p f e = other status 6 5 f.1.0 e refl
+
 pub cut_has : (work : Result Report Unread) (Has : Type 0) (is_command : Bool) (statuses : List ℕ) (Due : Report → Type 0) (read_rose : Type 0) (line : List ℕ) (out_same err_same out_rose err_rose : Type 0) (out out' err err' : Option (List ℕ)) (status : ℕ) → IfOk work (λ report. Has) → Prepares work is_command statuses Due read_rose → Finished work line out_same err_same out_rose err_rose out out' err err' status → status ≡ 5 → Has ⊎ read_rose
-cut_has (Ok report) Has is_command statuses Due read_rose line out_same err_same out_rose err_rose out out' err err' status h p f e = inl h
-cut_has (Err Failed) Has is_command statuses Due read_rose line out_same err_same out_rose err_rose out out' err err' status h p f e = inr p.1
-cut_has (Err NoMemory) Has is_command statuses Due read_rose line out_same err_same out_rose err_rose out out' err err' status h p f e = other status 6 5 f.1.0 e refl
+cut_has work Has is_command statuses Due read_rose line out_same err_same out_rose err_rose out out' err err' status h p f e = go (cut_line work Has is_command statuses Due read_rose line out_same err_same out_rose err_rose out out' err err' status h p f e)
+  where
+    go : Has ⊎ (read_rose × out_same × PutsSome err err' line) → Has ⊎ read_rose
+    go (inl has) = inl has
+    go (inr line) = inr line.0

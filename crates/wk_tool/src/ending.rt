@@ -1,12 +1,12 @@
 //! The end of a run, from what the work on the words came to.
 ghost use Rattle.wk_shelf.specs.Causes.{Rose};
-ghost use Rattle.std.specs.Prelude.{◌≡◌, ◌≤◌};
-ghost use Rattle.wk_tool.specs.Ending.{EndsUnread, Finished};
+ghost use Rattle.std.specs.Prelude.{◌≡◌, ◌≤◌, ◌⊎◌};
+ghost use Rattle.wk_tool.specs.Report.{usage_report};
+ghost use Rattle.wk_tool.specs.Ending.{EndsUnread, Finished, PutsReport};
 
 use crate::put::{after_put, put_both, put_piece};
 use crate::report::{Report, Status};
-use wk_base::NoMemory;
-use wk_shelf::Sink;
+use wk_shelf::{NoMemory, Sink};
 
 /// Why there is no report.
 #[derive(Clone, Copy, Debug, PartialEq, Eq)]
@@ -53,4 +53,12 @@ pub fn finish<O: Sink, E: Sink>(
         ),
         Err(unread) => put_unread(unread, cannot_read, err),
     }
+}
+
+/// Puts the line that says which words are a command, where they are none. It takes no memory. The answer is the exit status.
+pub fn finish_usage<O: Sink, E: Sink>(usage: &[u8], out: &mut O, err: &mut E) -> u8
+    ensures ends { PutsReport (Rose (O.faults out.old) (O.faults out.new)) (Rose (E.faults err.old) (E.faults err.new)) (O.contents out.old) (O.contents out.new) (E.contents err.old) (E.contents err.new) result (usage_report usage.now) }
+    ensures status { (result ≡ 2) ⊎ (result ≡ 5) }
+{
+    after_put(put_both(out, b"", err, usage), Status::Usage)
 }

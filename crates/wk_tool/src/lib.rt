@@ -11,6 +11,10 @@ mod ending;
 mod put;
 mod report;
 
-pub use ending::{Unread, finish};
+pub use ending::{Unread, finish, finish_usage};
 pub use put::{after_put, put_both, put_piece};
-pub use report::{Report, Status, missing_report, refusal, source_report, usage_report};
+pub use report::{Report, Status, missing_report, put_bytes, refusal, source_report, usage_report};
+pub use wk_shelf::{
+    Bytes, FolderFault, FolderPage, FolderShelf, List, Namespace, NoMemory, Shelf, Sink,
+    StreamSink, Title, TitleFault, read_folder,
+};

@@ -1,10 +1,9 @@
 //! How a run ended, and what it writes.
-ghost use Rattle.std.specs.Prelude.{◌≡◌, ◌++◌, [], IfOk, OnOk};
-ghost use Rattle.wk_base.specs.Titles.{title_text};
+ghost use Rattle.std.specs.Prelude.{◌≡◌, ◌++◌, IfOk, OnOk};
 ghost use Rattle.wk_tool.specs.Report.{status_code, line, refusal, usage_report, source_report, missing_report};
 
 use std::alloc::Global;
-use wk_base::{Bytes, NoMemory, Title};
+use wk_shelf::{Bytes, NoMemory, Title};
 
 /// How a run ended.
 #[derive(Clone, Copy, Debug, PartialEq, Eq)]
@@ -24,6 +23,8 @@ pub enum Status {
     NoMemory,
     /// The text of a module is no Lua.
     SyntaxFault,
+    /// A case of a test module failed.
+    CaseFailed,
 }
 
 /// The status, what goes to standard output, and what goes to standard error.
@@ -48,12 +49,13 @@ impl Status {
             Status::WriteFault => 5,
             Status::NoMemory => 6,
             Status::SyntaxFault => 8,
+            Status::CaseFailed => 9,
         }
     }
 }
 
-/// Adds bytes.
-fn put(made: &mut Vec<u8>, bytes: &[u8]) -> Result<(), NoMemory>
+/// Adds bytes to a text that is made.
+pub fn put_bytes(made: &mut Vec<u8>, bytes: &[u8]) -> Result<(), NoMemory>
     ensures { OnOk result (made.new.items ≡ made.old.items ++ bytes.now) }
 {
     match made.extend_from_slice(bytes) {
@@ -67,11 +69,11 @@ fn line(alloc: Global, tool: &[u8], saying: &[u8], of: &[u8]) -> Result<Bytes, N
     ensures { IfOk result (λ text. text ≡ line tool.now (saying.now ++ of.now)) }
 {
     let mut text = Vec::new(alloc);
-    put(&mut text, tool)?;
-    put(&mut text, b": ")?;
-    put(&mut text, saying)?;
-    put(&mut text, of)?;
-    put(&mut text, b"\n")?;
+    put_bytes(&mut text, tool)?;
+    put_bytes(&mut text, b": ")?;
+    put_bytes(&mut text, saying)?;
+    put_bytes(&mut text, of)?;
+    put_bytes(&mut text, b"\n")?;
     Ok(Bytes::of_vec(text))
 }
 

@@ -11,7 +11,7 @@ use Rattle.lua_reading.proofs.expressions.Exits.{more_after, is_class, isn't, op
 use Rattle.lua_reading.proofs.expressions.MoreExits.{lambda_fault, lambda_read, table_fault, table_unclosed, table_read, name_read, paren_fault, paren_unclosed, paren_read, dot_fault, dot_read, bracket_fault, bracket_unclosed, bracket_read, colon_no_name, colon_fault, colon_read, call_fault, primary_fault, chain_begin_read, chain_end_read, chain_deep_read, chain_fault_read, chain_more_read, exps_fault, exps_end_read, exps_more_read, fields_fault, fields_end_read, fields_last_read, fields_more_read}
 use Rattle.lua_reading.proofs.expressions.ArgExits.{empty_args, args_fault, args_unclosed, args_read, alone_answer, alone_fault, text_reading, bracket_key_fault, bracket_key_unclosed, bracket_key_alone, bracket_value_fault, bracket_value_read, key_value_fault, key_value_read, item_fault, item_read, under_low, seven_low, less_room, climbs_high, chain_high, prefix_form_of, same_line, other_line, two_more, is_separator}
 use Rattle.lua_parser.proofs.lemmas.ParameterExits.{body_no_open, body_params_fault, body_no_close, body_block_fault, fun_no_end, body_read, function_high}
-use Rattle.lua_grammar.specs.declared.TokenClass.TheVariants.{Do, While, Repeat, Return, Until, Local, Name, Assign, Function, For, In, Comma, Then, If, Else}
+use Rattle.lua_reading.specs.LuaGrammarDeclaredTokenClassTheVariants.{Do, While, Repeat, Return, Until, Local, Name, Assign, Function, For, In, Comma, Then, If, Else}
 use Rattle.lua_reading.specs.Parsing.{last_goes, block_goes}
 use Rattle.lua_reading.proofs.statements.Begins.{behind_word}
 use Rattle.lua_reading.proofs.statements.Split.{do_starts, while_starts, repeat_starts, return_starts}

@@ -6,7 +6,7 @@ use Rattle.lua_reading.proofs.lists.ExpressionLists.{Listed}
 use Rattle.lua_reading.proofs.lists.Fields.{Fielded}
 use Rattle.lua_reading.specs.Parsing.{Below}
 use Rattle.lua_reading.proofs.statements.Arms.{ArmsRead}
-use Rattle.lua_grammar.specs.Tokens.{class_at}
+use Rattle.lua_reading.specs.LuaGrammarTokens.{class_at}
 use Rattle.lua_reading.specs.Parsing.{goes_after}
 use Rattle.lua_reading.proofs.statements.Blocks.{BlockRead}
 use Rattle.lua_reading.proofs.statements.SimpleExits.{TargetsRead}

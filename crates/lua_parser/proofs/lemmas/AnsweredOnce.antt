@@ -5,9 +5,9 @@ use Rattle.lua_syntax.specs.View.{chunk_view}
 use Rattle.lua_lexer.specs.declared.token.Token.{Token}
 use Rattle.lua_lexer.specs.Lexis.{Lexes, FirstFault as FirstLexFault}
 use Rattle.lua_lexer.proofs.Lists as lists
-use Rattle.lua_grammar.specs.Tokens.{tok_at}
-use Rattle.lua_grammar.specs.Grammar.{IsChunk, FirstFault}
-use Rattle.lua_grammar.proofs.FaultLaws as faults
+use Rattle.lua_reading.specs.LuaGrammarTokens.{tok_at}
+use Rattle.lua_reading.specs.LuaGrammarGrammar.{IsChunk, FirstFault}
+use Rattle.lua_reading.proofs.LuaGrammarFaultLaws as faults
 use Rattle.lua_parser.specs.ParsedOnce.{OneChunk, OneFault, ChunkOrFault}
 
 same_tokens : (text : List ℕ) (ts us : List Token) → Lexes text ts → Lexes text us → us ≡ ts

@@ -1,11 +1,11 @@
 -- From a block to the whole text.
 use Rattle.std.proofs.Common.{◌≡◌, ◌≢◌, ℕ, suc, ◌<◌, ◌≤◌, false, List, length, refl, sym, subst, inl, inr, le_refl, lt-suc_self, arith}
 use Rattle.lua_lexer.specs.declared.token.Token.{Token}
-use Rattle.lua_grammar.specs.declared.TokenClass.{TokenClass}
-use Rattle.lua_grammar.specs.declared.TokenClass.TheVariants.{Eof}
-use Rattle.lua_grammar.specs.Tokens.{class_at}
+use Rattle.lua_reading.specs.LuaGrammarDeclaredTokenClass.{TokenClass}
+use Rattle.lua_reading.specs.LuaGrammarDeclaredTokenClassTheVariants.{Eof}
+use Rattle.lua_reading.specs.LuaGrammarTokens.{class_at}
 use Rattle.lua_syntax.specs.Tree.{Block}
-use Rattle.lua_grammar.specs.Grammar.{given_tokens, SpellsBlock, SpellsChunk, IsChunk, Begins, FirstFault, outside}
+use Rattle.lua_reading.specs.LuaGrammarGrammar.{given_tokens, SpellsBlock, SpellsChunk, IsChunk, Begins, FirstFault, outside}
 use Rattle.std.specs.Prelude.{Err}
 use Rattle.lua_reading.specs.declared.answer.Fault.{Fault}
 use Rattle.lua_reading.specs.declared.answer.Fault.TheVariants.{At, NoMemory}

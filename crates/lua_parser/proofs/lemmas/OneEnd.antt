@@ -6,11 +6,11 @@ use Rattle.lua_lexer.specs.declared.token.Token.{Token}
 use Rattle.lua_lexer.specs.declared.token.TokenKind.{TokenKind}
 use Rattle.lua_lexer.specs.declared.token.TokenKind.TheVariants.{Name as NameToken, Word, Mark, Number as NumberToken, Text as TextToken, End as EndToken}
 use Rattle.lua_lexer.specs.declared.token.Piece.{Piece}
-use Rattle.wk_base.specs.Space.{is_white}
+use Rattle.lua_lexer.specs.WkBaseSpace.{is_white}
 use Rattle.lua_lexer.specs.Lexis.{same, Lexes, Spells, tokens_of, line_behind, piece_of, Body, Closed, Open, at, is_letter, is_numeral, is_quote, opens_long, is_keyword, word_kind, string_of, long_piece, long_string, long_comment, comment_of, mark_of, mark_size, token_piece, before_closing, string_body, equals_behind, no_token, is_name_byte, numeral_size}
-use Rattle.lua_grammar.specs.declared.TokenClass.{TokenClass}
-use Rattle.lua_grammar.specs.declared.TokenClass.TheVariants.{Eof, Other}
-use Rattle.lua_grammar.specs.Tokens.{class_of, class_at, tok_at, kind_class, word_class, mark_class, look_up, Entry, early_words, middle_words, late_words, operators, comparisons, brackets, points}
+use Rattle.lua_reading.specs.LuaGrammarDeclaredTokenClass.{TokenClass}
+use Rattle.lua_reading.specs.LuaGrammarDeclaredTokenClassTheVariants.{Eof, Other}
+use Rattle.lua_reading.specs.LuaGrammarTokens.{class_of, class_at, tok_at, kind_class, word_class, mark_class, look_up, Entry, early_words, middle_words, late_words, operators, comparisons, brackets, points}
 use Rattle.lua_reading.specs.Parsing.{HasOneEnd}
 
 -- Tokens, none of which is the end, and then the end.

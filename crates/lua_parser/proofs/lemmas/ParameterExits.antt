@@ -1,13 +1,13 @@
 -- The lemmas as the exits of the code want them: for parameters.
 use Rattle.std.proofs.Common.{◌≡◌, ◌≢◌, ℕ, [], ◌∷◌, ◌++◌, ◌+◌, ◌<◌, ◌≤◌, ◌-◌, max, Bool, true, false, List, length, refl, sym, ap, subst, ◌∙◌, arith}
 use Rattle.lua_lexer.specs.declared.token.Token.{Token}
-use Rattle.lua_grammar.specs.declared.TokenClass.TheVariants.{Eof, Name, Comma, Dots, LeftParen, RightParen, End}
-use Rattle.lua_grammar.specs.Tokens.{class_at, tok_at, bytes_of}
+use Rattle.lua_reading.specs.LuaGrammarDeclaredTokenClassTheVariants.{Eof, Name, Comma, Dots, LeftParen, RightParen, End}
+use Rattle.lua_reading.specs.LuaGrammarTokens.{class_at, tok_at, bytes_of}
 use Rattle.lua_reading.specs.declared.answer.Reading.{Reading}
 use Rattle.lua_parser.specs.declared.params.ParameterList.{ParameterList}
-use Rattle.lua_grammar.specs.declared.Context.{Context}
+use Rattle.lua_reading.specs.LuaGrammarDeclaredContext.{Context}
 use Rattle.lua_syntax.specs.Tree.{Fun, Block, Lambda}
-use Rattle.lua_grammar.specs.Grammar.{in_function}
+use Rattle.lua_reading.specs.LuaGrammarGrammar.{in_function}
 use Rattle.lua_reading.specs.declared.answer.Fault.{Fault}
 use Rattle.lua_reading.specs.declared.answer.Fault.TheVariants.{At, NoMemory}
 use Rattle.lua_reading.specs.Parsing.{ReadsTree, ReadsFault, Below, HasOneEnd, nothing, block_lang, block_goes}

@@ -2,7 +2,7 @@
 use Rattle.std.proofs.Common.{◌≡◌, ℕ, suc, [], ◌+◌, ◌<◌, ◌≤◌, true, false, List, length, refl, sym, ap, subst, ◌∙◌, inl, inr, le_refl, arith, true≢false, add-one, Option, Some, None}
 use Rattle.std.specs.Prelude.{ℤ, pos}
 use Rattle.lua_lexer.specs.declared.token.Token.{Token}
-use Rattle.lua_number.specs.Numerals.{read_numeral_of}
+use Rattle.lua_grammar.specs.LuaNumberNumerals.{read_numeral_of}
 use Rattle.lua_syntax.specs.declared.UnaryOp.{UnaryOp}
 use Rattle.lua_syntax.specs.declared.UnaryOp.TheVariants.{Not as NotOp, Len, Minus as MinusOp}
 use Rattle.lua_grammar.specs.declared.TokenClass.TheVariants.{Number, Text, Nil, True, False, Dots, Function, LeftBrace, RightBrace}

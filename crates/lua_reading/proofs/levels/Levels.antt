@@ -4,7 +4,7 @@ use Rattle.std.proofs.lemmas.Bool.{lt-leb}
 use Rattle.std.specs.Prelude.{nat_le, Option, Some, None}
 use Rattle.lua_syntax.specs.declared.BinaryOp.{BinaryOp}
 use Rattle.lua_syntax.specs.declared.BinaryOp.TheVariants.{Or as OrOp, And as AndOp, Lt, Gt, Le, Ge, Ne, Eq, Concat, Add, Sub, Mul, Div, Mod, Pow}
-use Rattle.wk_base.proofs.Options.{some_same, none_some}
+use Rattle.lua_syntax.proofs.WkBaseOptions.{some_same, none_some}
 use Rattle.lua_grammar.specs.declared.TokenClass.{TokenClass}
 use Rattle.lua_grammar.specs.declared.TokenClass.TheVariants.{Eof, Or, And, Less, More, LessEq, MoreEq, NotEq, EqEq, DotDot, Plus, Minus, Star, Slash, Percent, Caret}
 use Rattle.lua_grammar.specs.Grammar.{mark_of, level, left_level, right_level}

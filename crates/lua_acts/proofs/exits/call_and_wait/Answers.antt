@@ -1,8 +1,8 @@
 use Rattle.std.proofs.Common.{◌∙◌, refl, sym, ap, ◌∷◌, List}
-use Rattle.lua_slots.specs.Points.{Waits}
-use Rattle.lua_stack.specs.declared.frame.Frame.{Frame}
-use Rattle.lua_stack.specs.Seen.{frames_seen, pending_seen}
-use Rattle.lua_arms.specs.Steps.{step_seen}
+use Rattle.lua_state.specs.LuaSlotsPoints.{Waits}
+use Rattle.lua_state.specs.LuaStackDeclaredFrameFrame.{Frame}
+use Rattle.lua_state.specs.LuaStackSeen.{frames_seen, pending_seen}
+use Rattle.lua_state.specs.LuaArmsSteps.{step_seen}
 use Rattle.lua_state.specs.Seen.{slots_of, frames_of}
 use Rattle.lua_acts.proofs.Parts.{with_frames_of, stepped}
 use Rattle.lua_acts.proofs.exits.call_and_wait.Goals as goal

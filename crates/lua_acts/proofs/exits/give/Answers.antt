@@ -1,5 +1,5 @@
-use Rattle.lua_stack.specs.declared.focus.Focus.TheVariants as focus
-use Rattle.lua_stack.specs.declared.values.Given.TheVariants as given
+use Rattle.lua_state.specs.LuaStackDeclaredFocusFocusTheVariants as focus
+use Rattle.lua_state.specs.LuaStackDeclaredValuesGivenTheVariants as given
 use Rattle.lua_acts.proofs.Parts.{on}
 use Rattle.lua_acts.proofs.exits.give.Goals as goal
 

@@ -1,4 +1,4 @@
-use Rattle.lua_stack.specs.declared.focus.Focus.TheVariants as focus
+use Rattle.lua_state.specs.LuaStackDeclaredFocusFocusTheVariants as focus
 use Rattle.lua_acts.proofs.Parts.{on}
 use Rattle.lua_acts.proofs.exits.pass.Goals as goal
 

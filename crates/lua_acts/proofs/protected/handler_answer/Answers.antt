@@ -1,8 +1,8 @@
 use Rattle.std.specs.Prelude.{◌∷◌, [], false}
-use Rattle.lua_heap.specs.Value as kind
-use Rattle.lua_slots.specs.Errors.{gives}
-use Rattle.lua_stack.specs.Lists.{given_values}
-use Rattle.lua_stack.proofs.Openings.{first_of}
+use Rattle.lua_code.specs.LuaHeapValue as kind
+use Rattle.lua_state.specs.LuaSlotsErrors.{gives}
+use Rattle.lua_state.specs.LuaStackLists.{given_values}
+use Rattle.lua_state.proofs.LuaStackOpenings.{first_of}
 use Rattle.lua_state.specs.Seen.{slots_of, frames_of}
 use Rattle.lua_acts.proofs.Lists.{with_first}
 use Rattle.lua_acts.proofs.protected.handler_answer.Goals as goal

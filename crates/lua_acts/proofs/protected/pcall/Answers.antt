@@ -1,9 +1,9 @@
 use Rattle.std.proofs.Common.{None}
 use Rattle.std.specs.Prelude.{◌∷◌}
-use Rattle.lua_meaning.specs.Pending.{PcallWaits}
-use Rattle.lua_slots.specs.Calls.{call}
-use Rattle.lua_slots.specs.Points.{Waits}
-use Rattle.lua_stack.proofs.Openings.{first_of}
+use Rattle.lua_code.specs.LuaMeaningPending.{PcallWaits}
+use Rattle.lua_state.specs.LuaSlotsCalls.{call}
+use Rattle.lua_state.specs.LuaSlotsPoints.{Waits}
+use Rattle.lua_state.proofs.LuaStackOpenings.{first_of}
 use Rattle.lua_state.specs.Seen.{slots_of, frames_of}
 use Rattle.lua_acts.proofs.Lists.{rest_of, with_first_and_rest}
 use Rattle.lua_acts.proofs.protected.pcall.Goals as goal

@@ -1,9 +1,9 @@
 use Rattle.std.proofs.Common.{w64}
 use Rattle.std.proofs.lemmas.Int.{to_z-of_z}
-use Rattle.lua_meaning.specs.Messages.{place_at}
-use Rattle.lua_slots.specs.Slots.{levels_at}
-use Rattle.lua_stack.specs.declared.raising.Raising.TheVariants as raising
-use Rattle.lua_stack.specs.Seen.{activations_seen}
+use Rattle.lua_state.specs.LuaMeaningMessages.{place_at}
+use Rattle.lua_state.specs.LuaSlotsSlots.{levels_at}
+use Rattle.lua_state.specs.LuaStackDeclaredRaisingRaisingTheVariants as raising
+use Rattle.lua_state.specs.LuaStackSeen.{activations_seen}
 use Rattle.lua_state.proofs.Raised.{may_be}
 use Rattle.lua_acts.proofs.Levels.{raised_as}
 use Rattle.lua_acts.proofs.raising.raise_text_at.Goals as goal

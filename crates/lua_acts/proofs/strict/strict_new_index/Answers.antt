@@ -1,9 +1,9 @@
 use Rattle.std.proofs.Common.{◌∙◌, ap, subst}
-use Rattle.lua_meaning.specs.CallBacks.{text_of}
-use Rattle.lua_meaning.specs.Messages.{undeclared_target}
-use Rattle.lua_meaning.specs.Values.{second}
-use Rattle.lua_stack.specs.Seen.{values_seen}
-use Rattle.lua_slots.specs.Errors.{fails_quoting}
+use Rattle.lua_code.specs.LuaMeaningCallBacks.{text_of}
+use Rattle.lua_state.specs.LuaMeaningMessages.{undeclared_target}
+use Rattle.lua_code.specs.LuaMeaningValues.{second}
+use Rattle.lua_state.specs.LuaStackSeen.{values_seen}
+use Rattle.lua_state.specs.LuaSlotsErrors.{fails_quoting}
 use Rattle.lua_state.specs.Makes.{Makes}
 use Rattle.lua_state.specs.Seen.{slots_of, frames_of}
 use Rattle.lua_acts.proofs.strict.strict_new_index.Goals as goal

@@ -1,5 +1,5 @@
-use Rattle.mw_html.specs.Render.{render}
-use Rattle.lua_meaning.specs.Html.{text_of_object}
+use Rattle.mw_html_texts.specs.MwHtmlRender.{render}
+use Rattle.mw_html_texts.specs.LuaMeaningHtml.{text_of_object}
 use Rattle.lua_state.proofs.Staying.{state_later}
 use Rattle.lua_acts.proofs.Objects.{piece_heap}
 use Rattle.lua_acts.proofs.Paying.{given, stopped}

@@ -1,7 +1,7 @@
-use Rattle.lua_meaning.specs.Values.{text_in}
-use Rattle.lua_slots.specs.CallBacks.{string_given}
-use Rattle.lua_stack.specs.Lists.{given_values}
-use Rattle.lua_stack.proofs.Openings.{first_of}
+use Rattle.lua_code.specs.LuaMeaningValues.{text_in}
+use Rattle.lua_code.specs.LuaSlotsCallBacks.{string_given}
+use Rattle.lua_state.specs.LuaStackLists.{given_values}
+use Rattle.lua_state.proofs.LuaStackOpenings.{first_of}
 use Rattle.lua_state.specs.Seen.{slots_of, frames_of}
 use Rattle.lua_acts.proofs.Lists.{with_first}
 use Rattle.lua_acts.proofs.strings.string_answer.Goals as goal

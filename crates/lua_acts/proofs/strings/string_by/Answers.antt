@@ -1,11 +1,11 @@
 use Rattle.std.proofs.Common.{refl, None}
 use Rattle.std.specs.Prelude.{◌∷◌, []}
-use Rattle.lua_store.specs.Seen.{seen}
-use Rattle.lua_meaning.specs.CallBacks.{text_of}
-use Rattle.lua_meaning.specs.Pending.{ToStringWaits}
-use Rattle.lua_slots.specs.CallBacks.{gives_text}
-use Rattle.lua_slots.specs.Calls.{call}
-use Rattle.lua_slots.specs.Points.{Waits}
+use Rattle.lua_state.specs.LuaStoreSeen.{seen}
+use Rattle.lua_code.specs.LuaMeaningCallBacks.{text_of}
+use Rattle.lua_code.specs.LuaMeaningPending.{ToStringWaits}
+use Rattle.lua_code.specs.LuaSlotsCallBacks.{gives_text}
+use Rattle.lua_state.specs.LuaSlotsCalls.{call}
+use Rattle.lua_state.specs.LuaSlotsPoints.{Waits}
 use Rattle.lua_state.specs.Seen.{slots_of, frames_of}
 use Rattle.lua_acts.proofs.Handlers.{without, asked}
 use Rattle.lua_acts.proofs.strings.string_by.Goals as goal

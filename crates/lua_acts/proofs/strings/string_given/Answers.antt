@@ -1,8 +1,8 @@
 use Rattle.std.proofs.Common.{◌∙◌, sym, ap, subst, Some}
 use Rattle.std.specs.Prelude.{IfOk}
 use Rattle.std.specs.Option.{option_map}
-use Rattle.lua_basic.specs.Arguments.{text_bytes}
-use Rattle.lua_slots.specs.CallBacks.{string_given}
+use Rattle.lua_libs.specs.LuaBasicArguments.{text_bytes}
+use Rattle.lua_code.specs.LuaSlotsCallBacks.{string_given}
 use Rattle.lua_state.specs.Seen.{slots_of, frames_of}
 use Rattle.lua_state.specs.Makes.{Makes}
 use Rattle.lua_acts.proofs.strings.string_given.Goals as goal

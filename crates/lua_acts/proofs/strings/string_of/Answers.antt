@@ -1,9 +1,9 @@
 use Rattle.std.proofs.Common.{◌∙◌, sym, subst}
 use Rattle.std.specs.Prelude.{IfOk}
-use Rattle.lua_store.specs.Parts.{IsOf}
+use Rattle.lua_state.specs.LuaStoreParts.{IsOf}
 use Rattle.lua_state.specs.Makes.{Makes}
 use Rattle.lua_state.specs.Seen.{slots_of, frames_of}
-use Rattle.lua_basic.proofs.Markup.{object_is}
+use Rattle.mw_html_texts.proofs.LuaBasicMarkup.{object_is}
 use Rattle.lua_acts.proofs.Objects.{no_object}
 use Rattle.lua_acts.proofs.strings.string_of.Goals as goal
 

@@ -1,5 +1,5 @@
-use Rattle.lua_slots.specs.CallBacks.{to_string_of}
-use Rattle.lua_stack.proofs.Openings.{first_of}
+use Rattle.lua_code.specs.LuaSlotsCallBacks.{to_string_of}
+use Rattle.lua_state.proofs.LuaStackOpenings.{first_of}
 use Rattle.lua_state.specs.Seen.{slots_of, frames_of}
 use Rattle.lua_acts.proofs.Lists.{with_first}
 use Rattle.lua_acts.proofs.strings.to_string.Goals as goal

@@ -1,6 +1,6 @@
 use Rattle.std.specs.Prelude.{◌∷◌, []}
-use Rattle.lua_heap.specs.Value as kind
-use Rattle.lua_slots.specs.Errors.{gives}
+use Rattle.lua_code.specs.LuaHeapValue as kind
+use Rattle.lua_state.specs.LuaSlotsErrors.{gives}
 use Rattle.lua_state.proofs.Staying.{state_later}
 use Rattle.lua_acts.proofs.Parts.{named}
 use Rattle.lua_acts.proofs.texts.give_paid.Goals as goal

@@ -1,5 +1,5 @@
 use Rattle.std.proofs.Common.{◌∙◌, subst}
-use Rattle.lua_slots.specs.CallBacks.{gives_text}
+use Rattle.lua_code.specs.LuaSlotsCallBacks.{gives_text}
 use Rattle.lua_state.specs.Seen.{slots_of, frames_of}
 use Rattle.lua_state.specs.Makes.{Makes}
 use Rattle.lua_acts.proofs.texts.give_text_of.Goals as goal

@@ -1,8 +1,8 @@
 use Rattle.std.proofs.Common.{◌∙◌}
 use Rattle.std.specs.Prelude.{◌∷◌, []}
-use Rattle.lua_heap.specs.Value as kind
-use Rattle.lua_store.specs.Seen.{seen}
-use Rattle.lua_slots.specs.Errors.{gives}
+use Rattle.lua_code.specs.LuaHeapValue as kind
+use Rattle.lua_state.specs.LuaStoreSeen.{seen}
+use Rattle.lua_state.specs.LuaSlotsErrors.{gives}
 use Rattle.lua_state.specs.Seen.{slots_of, frames_of}
 use Rattle.lua_state.proofs.Staying.{state_later}
 use Rattle.lua_acts.proofs.Refusing.{argument_found, argument_refused}

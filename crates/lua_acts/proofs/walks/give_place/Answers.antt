@@ -1,7 +1,7 @@
 use Rattle.std.proofs.Common.{sym, subst, w64}
 use Rattle.std.proofs.lemmas.Int.{to_z-of_z}
-use Rattle.lua_store.specs.Seen.{seen}
-use Rattle.lua_slots.specs.Errors.{gives}
+use Rattle.lua_state.specs.LuaStoreSeen.{seen}
+use Rattle.lua_state.specs.LuaSlotsErrors.{gives}
 use Rattle.lua_state.specs.Makes.{Makes}
 use Rattle.lua_state.specs.Seen.{slots_of, frames_of}
 use Rattle.lua_acts.proofs.Next.{no_value, some_value}

@@ -1,10 +1,10 @@
 use Rattle.std.proofs.Common.{◌∙◌}
 use Rattle.std.specs.Prelude.{codes}
-use Rattle.lua_meaning.specs.Arguments.{a_number}
-use Rattle.lua_meaning.specs.Values.{rest}
-use Rattle.lua_slots.specs.CallBacks.{next_place}
-use Rattle.lua_slots.specs.Errors.{with_argument}
-use Rattle.lua_stack.specs.Seen.{values_seen}
+use Rattle.lua_libs.specs.LuaMeaningArguments.{a_number}
+use Rattle.lua_code.specs.LuaMeaningValues.{rest}
+use Rattle.lua_code.specs.LuaSlotsCallBacks.{next_place}
+use Rattle.lua_state.specs.LuaSlotsErrors.{with_argument}
+use Rattle.lua_state.specs.LuaStackSeen.{values_seen}
 use Rattle.lua_state.specs.Seen.{slots_of, frames_of}
 use Rattle.lua_state.proofs.Staying.{state_later}
 use Rattle.lua_acts.proofs.Refusing.{argument_found, argument_refused}

@@ -1,10 +1,10 @@
 use Rattle.std.proofs.Common.{◌≡◌, rules, sym, subst, w64, to_z, of_z}
 use Rattle.std.proofs.lemmas.Int.{to_z-of_z}
-use Rattle.lua_heap.specs.Value.{Number}
-use Rattle.lua_heap.specs.Table.{get}
-use Rattle.lua_heap.specs.Heap.{table_at}
-use Rattle.lua_slots.specs.CallBacks.{place_and_value}
-use Rattle.lua_slots.specs.Errors.{gives}
+use Rattle.lua_code.specs.LuaHeapValue.{Number}
+use Rattle.lua_code.specs.LuaHeapTable.{get}
+use Rattle.lua_code.specs.LuaHeapHeap.{table_at}
+use Rattle.lua_code.specs.LuaSlotsCallBacks.{place_and_value}
+use Rattle.lua_state.specs.LuaSlotsErrors.{gives}
 use Rattle.lua_state.specs.Makes.{Makes}
 use Rattle.lua_state.specs.Seen.{slots_of, frames_of}
 use Rattle.lua_acts.proofs.Next.{in_range, out_of_range}

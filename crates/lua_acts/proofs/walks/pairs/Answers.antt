@@ -1,16 +1,16 @@
 use Rattle.std.proofs.Common.{None}
 use Rattle.std.specs.Prelude.{◌∷◌, [], codes}
-use Rattle.lua_heap.specs.Value as kind
-use Rattle.lua_heap.specs.declared.library.Library.TheVariants.{BasicNext}
-use Rattle.lua_meaning.specs.Arguments.{a_table}
-use Rattle.lua_meaning.specs.Pending.{PairsWaits}
-use Rattle.lua_meaning.specs.Values.{first}
-use Rattle.lua_store.specs.Seen.{seen}
-use Rattle.lua_slots.specs.Calls.{call}
-use Rattle.lua_slots.specs.Errors.{gives, with_argument}
-use Rattle.lua_slots.specs.Points.{Waits}
-use Rattle.lua_stack.specs.Seen.{values_seen}
-use Rattle.lua_stack.proofs.Openings.{first_of}
+use Rattle.lua_code.specs.LuaHeapValue as kind
+use Rattle.lua_libs.specs.LuaHeapDeclaredLibraryLibraryTheVariants.{BasicNext}
+use Rattle.lua_libs.specs.LuaMeaningArguments.{a_table}
+use Rattle.lua_code.specs.LuaMeaningPending.{PairsWaits}
+use Rattle.lua_code.specs.LuaMeaningValues.{first}
+use Rattle.lua_state.specs.LuaStoreSeen.{seen}
+use Rattle.lua_state.specs.LuaSlotsCalls.{call}
+use Rattle.lua_state.specs.LuaSlotsErrors.{gives, with_argument}
+use Rattle.lua_state.specs.LuaSlotsPoints.{Waits}
+use Rattle.lua_state.specs.LuaStackSeen.{values_seen}
+use Rattle.lua_state.proofs.LuaStackOpenings.{first_of}
 use Rattle.lua_state.specs.Seen.{slots_of, frames_of}
 use Rattle.lua_acts.proofs.Handlers.{without, asked}
 use Rattle.lua_acts.proofs.Lists.{seen_first, with_first}

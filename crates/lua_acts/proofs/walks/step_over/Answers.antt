@@ -1,5 +1,5 @@
 use Rattle.std.proofs.Common.{◌≡◌, rules, w64, to_z, of_z}
-use Rattle.lua_slots.specs.CallBacks.{next_place}
+use Rattle.lua_code.specs.LuaSlotsCallBacks.{next_place}
 use Rattle.lua_state.specs.Seen.{slots_of, frames_of}
 use Rattle.lua_state.proofs.Staying.{state_later}
 use Rattle.lua_acts.proofs.Refusing.{argument_found, argument_refused}

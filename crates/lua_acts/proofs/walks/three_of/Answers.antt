@@ -1,6 +1,6 @@
 use Rattle.std.proofs.Common.{◌≡◌, ◌∙◌, sym, subst}
-use Rattle.lua_stack.specs.Lists.{given_values}
-use Rattle.lua_stack.specs.Of.{ValuesOf}
+use Rattle.lua_state.specs.LuaStackLists.{given_values}
+use Rattle.lua_state.specs.LuaStackOf.{ValuesOf}
 use Rattle.lua_acts.proofs.walks.three_of.Goals as goal
 
 pub give_all-requires-clause-values : goal.give_all-requires-clause-values

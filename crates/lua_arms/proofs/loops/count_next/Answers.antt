@@ -1,7 +1,7 @@
 use Rattle.std.proofs.Common.{◌≡◌, rules, w64, to_z, of_z}
 use Rattle.std.proofs.lemmas.Int.{to_z-of_z}
 use Rattle.lua_code.specs.Seen.{block_seen}
-use Rattle.lua_slots.specs.Loops as machine
+use Rattle.lua_code.specs.LuaSlotsLoops as machine
 use Rattle.lua_arms.proofs.Counts.{counted, over_count}
 use Rattle.lua_arms.proofs.loops.count_next.Goals as goal
 

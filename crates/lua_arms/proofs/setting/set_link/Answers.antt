@@ -1,6 +1,6 @@
 use Rattle.std.proofs.Common.{◌∙◌, ap, sym}
-use Rattle.lua_store.specs.Seen.{seen}
-use Rattle.lua_slots.specs.Calls as machine
+use Rattle.lua_basic.specs.LuaStoreSeen.{seen}
+use Rattle.lua_code.specs.LuaSlotsCalls as machine
 use Rattle.lua_stack.specs.Seen.{values_seen}
 use Rattle.lua_arms.specs.Steps.{step_seen}
 use Rattle.lua_arms.proofs.Choices.{enacted_first_at}

@@ -1,7 +1,7 @@
 use Rattle.std.proofs.Common.{sym, true, false, subst, w64}
 use Rattle.std.specs.Result.{IfErr}
 use Rattle.std.proofs.lemmas.Int.{to_z-of_z}
-use Rattle.lua_heap.specs.Value.{is_nil}
+use Rattle.lua_meaning.specs.LuaHeapValue.{is_nil}
 use Rattle.lua_basic.specs.Seen.{values_seen, Refuses}
 use Rattle.lua_basic.proofs.Lists.{tested}
 use Rattle.lua_basic.proofs.Found.{left_out, not_left_out}

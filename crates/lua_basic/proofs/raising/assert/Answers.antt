@@ -1,5 +1,5 @@
 use Rattle.std.proofs.Common.{refl, true, false}
-use Rattle.lua_heap.specs.Value.{is_true, is_nil}
+use Rattle.lua_meaning.specs.LuaHeapValue.{is_true, is_nil}
 use Rattle.lua_basic.specs.Seen.{values_seen}
 use Rattle.lua_basic.proofs.Lists.{tested}
 use Rattle.lua_basic.proofs.Basic.{assert-none, assert-some}

@@ -1,6 +1,6 @@
 use Rattle.std.proofs.Common.{◌<◌, ◌∙◌, ap, sym, subst, rules, w64}
 use Rattle.std.proofs.lemmas.Int.{to_z-of_z}
-use Rattle.lua_heap.specs.Heap.{table_at}
+use Rattle.lua_store.specs.LuaHeapHeap.{table_at}
 use Rattle.lua_meaning.specs.Basic.{entries_from}
 use Rattle.lua_store.specs.Seen.{seen}
 use Rattle.lua_basic.specs.Seen.{values_seen, AllOf}

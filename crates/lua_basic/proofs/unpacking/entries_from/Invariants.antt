@@ -1,5 +1,5 @@
 use Rattle.std.proofs.Common.{◌≡◌, ◌++◌, ◌-◌, ◌+ℤ◌, pos}
-use Rattle.lua_heap.specs.Heap.{table_at}
+use Rattle.lua_store.specs.LuaHeapHeap.{table_at}
 use Rattle.lua_meaning.specs.Basic.{entries_from}
 use Rattle.lua_basic.specs.Seen.{values_seen, AllOf}
 use Rattle.lua_basic.proofs.unpacking.entries_from.Given as goal

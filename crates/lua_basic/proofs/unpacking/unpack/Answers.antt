@@ -1,7 +1,7 @@
 use Rattle.std.proofs.Common.{◌≡◌, ◌∙◌, ap, refl, Err, subst, sym, pos, codes, rules, w64, to_z, of_z}
 use Rattle.std.proofs.lemmas.Result.{err_from_is_err_and}
-use Rattle.lua_heap.specs.Heap.{table_at}
-use Rattle.lua_heap.specs.Table.{border}
+use Rattle.lua_store.specs.LuaHeapHeap.{table_at}
+use Rattle.lua_store.specs.LuaHeapTable.{border}
 use Rattle.lua_meaning.specs.Values as meaning
 use Rattle.lua_meaning.specs.Arguments.{number_or}
 use Rattle.lua_basic.specs.Seen.{values_seen, Free, Paid}

@@ -1,12 +1,12 @@
 use Rattle.std.proofs.Common.{◌∙◌, ap, subst, sym, List, map}
 use Rattle.std.specs.Prelude.{reverse}
-use Rattle.lua_store.specs.declared.value.Value.{Value}
-use Rattle.lua_slots.specs.Points.{Sets, Now}
-use Rattle.lua_slots.specs.Statements.{with_values}
-use Rattle.lua_stack.specs.declared.frame.Found.{Found}
-use Rattle.lua_stack.specs.declared.focus.Focus.TheVariants as focus
-use Rattle.lua_stack.specs.Of.{ValuesOf}
-use Rattle.lua_stack.specs.Seen.{found_seen, values_seen}
+use Rattle.lua_state.specs.LuaStoreDeclaredValueValue.{Value}
+use Rattle.lua_state.specs.LuaSlotsPoints.{Sets, Now}
+use Rattle.lua_code.specs.LuaSlotsStatements.{with_values}
+use Rattle.lua_state.specs.LuaStackDeclaredFrameFound.{Found}
+use Rattle.lua_state.specs.LuaStackDeclaredFocusFocusTheVariants as focus
+use Rattle.lua_state.specs.LuaStackOf.{ValuesOf}
+use Rattle.lua_state.specs.LuaStackSeen.{found_seen, values_seen}
 use Rattle.lua_state.specs.declared.turn.Turn.TheVariants as turn
 use Rattle.lua_state.specs.Makes.{Makes}
 use Rattle.lua_state.specs.Seen.{slots_of, frames_of}

@@ -1,4 +1,4 @@
-use Rattle.lua_stack.specs.declared.focus.Focus.TheVariants as focus
+use Rattle.lua_state.specs.LuaStackDeclaredFocusFocusTheVariants as focus
 use Rattle.lua_blocks.proofs.Parts.{on}
 use Rattle.lua_blocks.proofs.Pairs.{seen_first}
 use Rattle.lua_blocks.proofs.assignments.give_first.Goals as goal

@@ -1,9 +1,9 @@
 use Rattle.std.proofs.lemmas.Result.{IfOk-weaker}
 use Rattle.lua_code.specs.Seen.{branches_seen, block_seen}
-use Rattle.lua_slots.specs.Statements.{branches}
+use Rattle.lua_code.specs.LuaSlotsStatements.{branches}
 use Rattle.std.specs.Prelude.{option_map}
-use Rattle.lua_stack.specs.declared.frame.Frame.TheVariants as frame
-use Rattle.lua_stack.specs.declared.frame.InStatement.TheVariants as in_statement
+use Rattle.lua_state.specs.LuaStackDeclaredFrameFrameTheVariants as frame
+use Rattle.lua_state.specs.LuaStackDeclaredFrameInStatementTheVariants as in_statement
 use Rattle.lua_blocks.proofs.Parts.{above, above_of}
 use Rattle.lua_blocks.proofs.conditions.condition.Goals as goal
 

@@ -3,7 +3,7 @@ use Rattle.std.proofs.Common.{◌∙◌, ap, sym, refl, List}
 use Rattle.std.specs.Prelude.{option_map}
 use Rattle.lua_code.specs.declared.statement.Branch.{Branch}
 use Rattle.lua_code.specs.Seen.{branches_seen, block_seen}
-use Rattle.lua_slots.specs.Statements.{branches}
+use Rattle.lua_code.specs.LuaSlotsStatements.{branches}
 use Rattle.lua_state.specs.Seen.{slots_of, frames_of}
 use Rattle.lua_blocks.proofs.Parts.{with_frames_of, stepped}
 use Rattle.lua_blocks.proofs.conditions.first_test.Goals as goal

@@ -1,6 +1,6 @@
 use Rattle.std.proofs.Common.{◌∙◌, ap}
 use Rattle.std.specs.Prelude.{◌∷◌, List}
-use Rattle.lua_stack.specs.declared.frame.Frame.{Frame}
+use Rattle.lua_state.specs.LuaStackDeclaredFrameFrame.{Frame}
 use Rattle.lua_blocks.proofs.Parts.{on}
 use Rattle.lua_blocks.proofs.exits.wait_within.Goals as goal
 

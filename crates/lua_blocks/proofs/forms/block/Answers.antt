@@ -1,6 +1,6 @@
 use Rattle.std.proofs.Common.{◌∙◌, sym}
 use Rattle.std.proofs.lemmas.List.{length-map}
-use Rattle.lua_stack.specs.Seen.{slot_seen}
+use Rattle.lua_state.specs.LuaStackSeen.{slot_seen}
 use Rattle.lua_blocks.proofs.forms.block.Goals as goal
 
 pub returns : goal.returns

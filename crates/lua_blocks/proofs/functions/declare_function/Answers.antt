@@ -2,8 +2,8 @@ use Rattle.std.proofs.lemmas.Result.{IfOk-weaker}
 use Rattle.std.proofs.Common.{◌∙◌, ap, sym}
 use Rattle.std.specs.Prelude.{map}
 use Rattle.lua_code.specs.Seen.{place_seen, block_seen}
-use Rattle.lua_slots.specs.Points.{Now, Runs}
-use Rattle.lua_slots.specs.Slots.{Slots, with_function_named, function_of}
+use Rattle.lua_state.specs.LuaSlotsPoints.{Now, Runs}
+use Rattle.lua_state.specs.LuaSlotsSlots.{Slots, with_function_named, function_of}
 use Rattle.lua_state.proofs.Staying.{state_later, slots_same}
 use Rattle.lua_blocks.proofs.Parts.{over_text}
 use Rattle.lua_blocks.proofs.functions.declare_function.Goals as goal

@@ -1,8 +1,8 @@
 use Rattle.std.proofs.Common.{refl}
 use Rattle.std.specs.Prelude.{map}
 use Rattle.lua_code.specs.Seen.{place_seen, block_seen}
-use Rattle.lua_slots.specs.Points.{Runs}
-use Rattle.lua_stack.specs.declared.focus.Focus.TheVariants as focus
+use Rattle.lua_state.specs.LuaSlotsPoints.{Runs}
+use Rattle.lua_state.specs.LuaStackDeclaredFocusFocusTheVariants as focus
 use Rattle.lua_state.specs.Seen.{slots_of}
 use Rattle.lua_blocks.proofs.Changes.{on_changed, names_function_at}
 use Rattle.lua_blocks.proofs.functions.function_of_module.Goals as goal

@@ -1,6 +1,6 @@
-use Rattle.lua_store.proofs.Later.{later-then}
+use Rattle.lua_state.proofs.LuaStoreLater.{later-then}
 use Rattle.lua_code.specs.Seen.{place_seen}
-use Rattle.lua_stack.proofs.Stay.{registers_later, registers_as, captured_stay}
+use Rattle.lua_state.proofs.LuaStackStay.{registers_later, registers_as, captured_stay}
 use Rattle.lua_blocks.proofs.Changes.{closure_later, closure_written}
 use Rattle.lua_blocks.proofs.functions.name_function.Goals as goal
 

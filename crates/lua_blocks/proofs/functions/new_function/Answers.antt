@@ -1,7 +1,7 @@
 use Rattle.std.proofs.Common.{◌∙◌, ap}
 use Rattle.std.specs.Prelude.{ℕ, List}
-use Rattle.lua_heap.specs.Heap as heap
-use Rattle.lua_store.specs.Seen.{StoreView, text_at}
+use Rattle.lua_code.specs.LuaHeapHeap as heap
+use Rattle.lua_state.specs.LuaStoreSeen.{StoreView, text_at}
 use Rattle.lua_blocks.proofs.functions.new_function.Goals as goal
 
 pub returns-clause-of : goal.returns-clause-of

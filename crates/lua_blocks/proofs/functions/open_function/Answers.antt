@@ -1,6 +1,6 @@
-use Rattle.lua_store.proofs.Later.{later-then, text_of-later}
+use Rattle.lua_state.proofs.LuaStoreLater.{later-then, text_of-later}
 use Rattle.lua_blocks.proofs.Changes.{closure_later, function_opened}
-use Rattle.lua_stack.proofs.Stay.{captured_stay}
+use Rattle.lua_state.proofs.LuaStackStay.{captured_stay}
 use Rattle.lua_code.specs.Seen.{place_seen}
 use Rattle.std.specs.Prelude.{map}
 use Rattle.lua_blocks.proofs.functions.open_function.Goals as goal

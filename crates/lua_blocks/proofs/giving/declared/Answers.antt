@@ -1,10 +1,10 @@
 use Rattle.std.proofs.Common.{refl, subst, sym}
 use Rattle.lua_code.specs.Seen.{block_seen}
-use Rattle.lua_slots.specs.Points.{Runs}
-use Rattle.lua_slots.specs.Slots.{all_opened}
-use Rattle.lua_stack.specs.Of.{ValuesOf}
-use Rattle.lua_stack.specs.Seen.{values_seen}
-use Rattle.lua_stack.specs.declared.focus.Focus.TheVariants as focus
+use Rattle.lua_state.specs.LuaSlotsPoints.{Runs}
+use Rattle.lua_state.specs.LuaSlotsSlots.{all_opened}
+use Rattle.lua_state.specs.LuaStackOf.{ValuesOf}
+use Rattle.lua_state.specs.LuaStackSeen.{values_seen}
+use Rattle.lua_state.specs.LuaStackDeclaredFocusFocusTheVariants as focus
 use Rattle.lua_state.specs.Seen.{slots_of}
 use Rattle.lua_blocks.proofs.Changes.{on_changed}
 use Rattle.lua_blocks.proofs.giving.declared.Goals as goal

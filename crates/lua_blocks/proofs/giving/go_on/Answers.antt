@@ -1,5 +1,5 @@
-use Rattle.lua_stack.specs.declared.focus.Focus.TheVariants as focus
-use Rattle.lua_stack.specs.declared.focus.Jump.TheVariants as jump
+use Rattle.lua_state.specs.LuaStackDeclaredFocusFocusTheVariants as focus
+use Rattle.lua_state.specs.LuaStackDeclaredFocusJumpTheVariants as jump
 use Rattle.lua_blocks.proofs.Parts.{on}
 use Rattle.lua_blocks.proofs.Pairs.{seen_first}
 use Rattle.lua_blocks.proofs.giving.go_on.Goals as goal

@@ -1,9 +1,9 @@
 use Rattle.std.proofs.lemmas.Result.{IfOk-weaker}
-use Rattle.lua_store.specs.Seen.{seen}
-use Rattle.lua_slots.specs.Statements.{sets_one}
-use Rattle.lua_stack.specs.declared.frame.Frame.TheVariants as frame
-use Rattle.lua_stack.specs.declared.frame.InAssignment.TheVariants as in_assignment
-use Rattle.lua_stack.specs.Seen.{found_seen}
+use Rattle.lua_state.specs.LuaStoreSeen.{seen}
+use Rattle.lua_code.specs.LuaSlotsStatements.{sets_one}
+use Rattle.lua_state.specs.LuaStackDeclaredFrameFrameTheVariants as frame
+use Rattle.lua_state.specs.LuaStackDeclaredFrameInAssignmentTheVariants as in_assignment
+use Rattle.lua_state.specs.LuaStackSeen.{found_seen}
 use Rattle.lua_blocks.proofs.Parts.{above}
 use Rattle.lua_blocks.proofs.setting.set.Goals as goal
 

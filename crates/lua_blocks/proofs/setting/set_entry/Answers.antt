@@ -1,6 +1,6 @@
 use Rattle.std.specs.Prelude.{Some}
-use Rattle.lua_slots.specs.Index.{set_index}
-use Rattle.lua_store.specs.Seen.{seen}
+use Rattle.lua_code.specs.LuaSlotsIndex.{set_index}
+use Rattle.lua_state.specs.LuaStoreSeen.{seen}
 use Rattle.lua_state.proofs.Staying.{state_later}
 use Rattle.lua_blocks.proofs.Parts.{paid_arm}
 use Rattle.lua_blocks.proofs.setting.set_entry.Goals as goal

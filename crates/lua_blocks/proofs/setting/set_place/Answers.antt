@@ -1,11 +1,11 @@
 use Rattle.std.proofs.Common.{refl}
 use Rattle.std.specs.Prelude.{[]}
 use Rattle.page_run.specs.Outcome.{Goes}
-use Rattle.lua_slots.specs.Points.{Gives}
+use Rattle.lua_state.specs.LuaSlotsPoints.{Gives}
 use Rattle.lua_code.specs.Seen.{place_seen}
-use Rattle.lua_store.specs.Seen.{seen}
-use Rattle.lua_stack.specs.declared.focus.Focus.TheVariants as focus
-use Rattle.lua_stack.specs.declared.values.Given.TheVariants as given
+use Rattle.lua_state.specs.LuaStoreSeen.{seen}
+use Rattle.lua_state.specs.LuaStackDeclaredFocusFocusTheVariants as focus
+use Rattle.lua_state.specs.LuaStackDeclaredValuesGivenTheVariants as given
 use Rattle.lua_state.specs.Seen.{slots_of}
 use Rattle.lua_blocks.proofs.Changes.{on_changed, writes_at}
 use Rattle.lua_blocks.proofs.setting.set_place.Goals as goal

@@ -2,10 +2,10 @@ use Rattle.std.proofs.lemmas.Result.{IfOk-weaker}
 use Rattle.std.proofs.Common.{subst, List, [], ◌∷◌, map}
 use Rattle.std.specs.Prelude.{◌++◌}
 use Rattle.lua_code.specs.Seen.{target_seen, expressions_seen}
-use Rattle.lua_store.specs.Seen.{text_at}
-use Rattle.lua_slots.specs.Points.{STarget, GlobalS, Finds, Now}
-use Rattle.lua_stack.specs.Seen.{found_seen}
-use Rattle.lua_stack.proofs.Stay.{founds_later, founds_stay}
+use Rattle.lua_state.specs.LuaStoreSeen.{text_at}
+use Rattle.lua_state.specs.LuaSlotsPoints.{STarget, GlobalS, Finds, Now}
+use Rattle.lua_state.specs.LuaStackSeen.{found_seen}
+use Rattle.lua_state.proofs.LuaStackStay.{founds_later, founds_stay}
 use Rattle.lua_state.specs.Makes.{Makes}
 use Rattle.lua_state.specs.Seen.{slots_of, frames_of}
 use Rattle.lua_state.proofs.Looking.{over_constant}

@@ -2,11 +2,11 @@ use Rattle.std.proofs.Common.{◌∙◌, ap, subst, sym, List, [], ◌∷◌, ma
 use Rattle.std.specs.List.{AllByRecursion}
 use Rattle.std.proofs.lemmas.List.{map-append}
 use Rattle.lua_code.specs.Seen.{target_seen, expressions_seen}
-use Rattle.lua_store.proofs.Lists.{all-push}
-use Rattle.lua_slots.specs.Points.{STarget, Finds, Now}
-use Rattle.lua_stack.specs.declared.focus.Focus.TheVariants as focus
-use Rattle.lua_stack.specs.Of.{FoundOf}
-use Rattle.lua_stack.specs.Seen.{found_seen}
+use Rattle.lua_state.proofs.LuaStoreLists.{all-push}
+use Rattle.lua_state.specs.LuaSlotsPoints.{STarget, Finds, Now}
+use Rattle.lua_state.specs.LuaStackDeclaredFocusFocusTheVariants as focus
+use Rattle.lua_state.specs.LuaStackOf.{FoundOf}
+use Rattle.lua_state.specs.LuaStackSeen.{found_seen}
 use Rattle.lua_state.specs.declared.turn.Turn.TheVariants as turn
 use Rattle.lua_state.specs.Makes.{Makes}
 use Rattle.lua_state.specs.Seen.{slots_of, frames_of}

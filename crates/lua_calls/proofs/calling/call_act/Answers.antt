@@ -1,5 +1,5 @@
 use Rattle.std.proofs.lemmas.Result.{IfOk-weaker}
-use Rattle.lua_state.proofs.Making.{makes_late}
+use Rattle.lua_modules.proofs.LuaStateMaking.{makes_late}
 use Rattle.lua_calls.proofs.calling.call_act.Goals as goal
 
 pub returns-in-Answers : goal.returns-in-Answers

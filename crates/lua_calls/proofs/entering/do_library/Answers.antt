@@ -1,12 +1,12 @@
 use Rattle.std.proofs.lemmas.Result.{IfOk-weaker}
 use Rattle.std.proofs.Common.{◌∙◌, ap, sym, ◌∷◌, List}
-use Rattle.lua_slots.specs.Libraries.{page_alone, does}
-use Rattle.lua_slots.specs.Points.{LibraryEnd}
-use Rattle.lua_stack.specs.declared.frame.Frame.{Frame}
-use Rattle.lua_stack.specs.Seen.{values_seen, frames_seen}
+use Rattle.lua_code.specs.LuaSlotsLibraries.{page_alone, does}
+use Rattle.lua_modules.specs.LuaSlotsPoints.{LibraryEnd}
+use Rattle.lua_modules.specs.LuaStackDeclaredFrameFrame.{Frame}
+use Rattle.lua_modules.specs.LuaStackSeen.{values_seen, frames_seen}
 use Rattle.lua_acts.proofs.Parts.{with_frames_of}
-use Rattle.lua_state.specs.Seen.{slots_of, frames_of}
-use Rattle.lua_state.specs.Worlds.{world_seen}
+use Rattle.lua_modules.specs.LuaStateSeen.{slots_of, frames_of}
+use Rattle.lua_modules.specs.LuaStateWorlds.{world_seen}
 use Rattle.lua_calls.specs.Table.{act_seen}
 use Rattle.lua_calls.proofs.Enters.{late_above}
 use Rattle.lua_calls.proofs.entering.do_library.Goals as goal

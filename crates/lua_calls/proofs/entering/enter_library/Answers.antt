@@ -1,14 +1,14 @@
 use Rattle.std.proofs.lemmas.Result.{IfOk-weaker}
 use Rattle.std.proofs.Common.{refl, subst}
-use Rattle.lua_meaning.specs.Libraries.{form}
+use Rattle.lua_tables.specs.LuaMeaningLibraries.{form}
 use Rattle.std.specs.Prelude.{◌∷◌}
-use Rattle.lua_slots.specs.Libraries.{page_alone, does}
-use Rattle.lua_slots.specs.Points.{LibraryEnd}
-use Rattle.lua_stack.specs.Seen.{values_seen}
-use Rattle.lua_state.specs.Charges.{EntersCall}
-use Rattle.lua_state.specs.declared.state.State.{State}
-use Rattle.lua_state.specs.Seen.{slots_of, frames_of}
-use Rattle.lua_state.specs.Worlds.{world_seen}
+use Rattle.lua_code.specs.LuaSlotsLibraries.{page_alone, does}
+use Rattle.lua_modules.specs.LuaSlotsPoints.{LibraryEnd}
+use Rattle.lua_modules.specs.LuaStackSeen.{values_seen}
+use Rattle.lua_modules.specs.LuaStateCharges.{EntersCall}
+use Rattle.lua_modules.specs.LuaStateDeclaredStateState.{State}
+use Rattle.lua_modules.specs.LuaStateSeen.{slots_of, frames_of}
+use Rattle.lua_modules.specs.LuaStateWorlds.{world_seen}
 use Rattle.lua_calls.proofs.Enters.{calls_of, entered, no_call}
 use Rattle.lua_calls.proofs.entering.enter_library.Goals as goal
 

@@ -1,6 +1,6 @@
 use Rattle.std.proofs.Common.{◌∷◌}
-use Rattle.lua_stack.specs.declared.focus.Focus.TheVariants as focus
-use Rattle.lua_stack.specs.declared.frame.Frame.TheVariants as frame
+use Rattle.lua_modules.specs.LuaStackDeclaredFocusFocusTheVariants as focus
+use Rattle.lua_modules.specs.LuaStackDeclaredFrameFrameTheVariants as frame
 use Rattle.lua_calls.proofs.Enters.{on_above}
 use Rattle.lua_calls.proofs.framed.ask.Goals as goal
 

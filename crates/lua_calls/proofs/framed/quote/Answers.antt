@@ -1,7 +1,7 @@
 use Rattle.std.proofs.Common.{subst}
-use Rattle.lua_slots.specs.Errors.{fails_quoting}
-use Rattle.lua_state.specs.Makes.{Makes}
-use Rattle.lua_state.specs.Seen.{slots_of, frames_of}
+use Rattle.lua_modules.specs.LuaSlotsErrors.{fails_quoting}
+use Rattle.lua_modules.specs.LuaStateMakes.{Makes}
+use Rattle.lua_modules.specs.LuaStateSeen.{slots_of, frames_of}
 use Rattle.lua_calls.proofs.framed.quote.Goals as goal
 
 pub returns : goal.returns

@@ -1,22 +1,22 @@
 use Rattle.std.proofs.Common.{sym, subst, ◌∷◌, None, List}
 use Rattle.std.specs.Prelude.{IfOk}
-use Rattle.lua_heap.specs.Value.{Value as Plain, Table}
-use Rattle.lua_meaning.specs.Pending.{GsubWaits}
-use Rattle.lua_meaning.specs.Values.{first}
-use Rattle.lua_slots.specs.Calls.{call}
-use Rattle.lua_slots.specs.Gsub.{asks}
-use Rattle.lua_slots.specs.Index.{index}
-use Rattle.lua_slots.specs.Points.{Waits, Move}
-use Rattle.lua_store.specs.declared.value.Value.{Value}
-use Rattle.lua_store.specs.Seen.{seen}
-use Rattle.lua_stack.proofs.Openings.{first_of}
-use Rattle.lua_stack.specs.Seen.{values_seen}
-use Rattle.lua_state.specs.Makes.{Makes}
-use Rattle.lua_state.specs.Seen.{slots_of, frames_of}
+use Rattle.lua_code.specs.LuaHeapValue.{Value as Plain, Table}
+use Rattle.lua_modules.specs.LuaMeaningPending.{GsubWaits}
+use Rattle.lua_code.specs.LuaMeaningValues.{first}
+use Rattle.lua_modules.specs.LuaSlotsCalls.{call}
+use Rattle.lua_code.specs.LuaSlotsGsub.{asks}
+use Rattle.lua_code.specs.LuaSlotsIndex.{index}
+use Rattle.lua_modules.specs.LuaSlotsPoints.{Waits, Move}
+use Rattle.mw_htmls.specs.LuaStoreDeclaredValueValue.{Value}
+use Rattle.lua_tables.specs.LuaStoreSeen.{seen}
+use Rattle.lua_modules.proofs.LuaStackOpenings.{first_of}
+use Rattle.lua_modules.specs.LuaStackSeen.{values_seen}
+use Rattle.lua_modules.specs.LuaStateMakes.{Makes}
+use Rattle.lua_modules.specs.LuaStateSeen.{slots_of, frames_of}
 use Rattle.lua_acts.proofs.Lists.{with_first}
-use Rattle.lua_replacing.specs.declared.job.Replacer.{Replacer}
-use Rattle.lua_replacing.specs.declared.job.Replacing.{Replacing}
-use Rattle.lua_replacing.specs.Seen.{replacer_seen, replacing_seen}
+use Rattle.lua_gsubs.specs.LuaReplacingDeclaredJobReplacer.{Replacer}
+use Rattle.lua_gsubs.specs.LuaReplacingDeclaredJobReplacing.{Replacing}
+use Rattle.lua_gsubs.specs.LuaReplacingSeen.{replacer_seen, replacing_seen}
 use Rattle.lua_calls.proofs.Replaces.{each_made}
 use Rattle.lua_calls.proofs.gsubs.ask.Goals as goal
 

@@ -1,15 +1,15 @@
 use Rattle.std.proofs.Common.{◌≡◌, ◌∙◌, subst, rules, length, drop, List}
-use Rattle.lua_heap.specs.Value.{Value as Plain}
-use Rattle.lua_meaning.specs.Gsub.{made_values}
-use Rattle.lua_slots.specs.Slots.{Slots}
-use Rattle.lua_slots.specs.Points.{SFrame}
-use Rattle.lua_slots.specs.Errors.{gives}
-use Rattle.lua_stack.specs.Seen.{values_seen}
-use Rattle.lua_state.specs.Seen.{slots_of, frames_of}
-use Rattle.lua_state.specs.Makes.{Makes}
-use Rattle.lua_state.proofs.Staying.{state_later}
+use Rattle.lua_code.specs.LuaHeapValue.{Value as Plain}
+use Rattle.lua_gsubs.specs.LuaMeaningGsub.{made_values}
+use Rattle.lua_modules.specs.LuaSlotsSlots.{Slots}
+use Rattle.lua_modules.specs.LuaSlotsPoints.{SFrame}
+use Rattle.lua_modules.specs.LuaSlotsErrors.{gives}
+use Rattle.lua_modules.specs.LuaStackSeen.{values_seen}
+use Rattle.lua_modules.specs.LuaStateSeen.{slots_of, frames_of}
+use Rattle.lua_modules.specs.LuaStateMakes.{Makes}
+use Rattle.lua_modules.proofs.LuaStateStaying.{state_later}
 use Rattle.lua_acts.proofs.Parts.{over_text, costs, short}
-use Rattle.lua_replacing.specs.Seen.{job_seen, far_seen}
+use Rattle.lua_gsubs.specs.LuaReplacingSeen.{job_seen, far_seen}
 use Rattle.lua_calls.proofs.Replaces.{took_pays, lacked_pays}
 use Rattle.lua_calls.proofs.gsubs.end_job.Goals as goal
 

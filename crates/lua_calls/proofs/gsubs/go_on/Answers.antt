@@ -1,7 +1,7 @@
 use Rattle.std.proofs.Common.{◌≡◌, refl, rules}
-use Rattle.lua_meaning.specs.Gsub.{replacement_given}
-use Rattle.lua_store.specs.Seen.{seen}
-use Rattle.lua_replacing.specs.Seen.{replacing_seen}
+use Rattle.lua_gsubs.specs.LuaMeaningGsub.{replacement_given}
+use Rattle.lua_tables.specs.LuaStoreSeen.{seen}
+use Rattle.lua_gsubs.specs.LuaReplacingSeen.{replacing_seen}
 use Rattle.lua_calls.proofs.Replaces.{given_put, given_spent, given_refused}
 use Rattle.lua_calls.proofs.gsubs.go_on.Goals as goal
 

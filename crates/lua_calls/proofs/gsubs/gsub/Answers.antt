@@ -1,8 +1,8 @@
 use Rattle.std.proofs.Common.{◌∙◌}
-use Rattle.lua_meaning.specs.Gsub.{gsub_form}
-use Rattle.lua_state.proofs.Staying.{state_later}
+use Rattle.lua_gsubs.specs.LuaMeaningGsub.{gsub_form}
+use Rattle.lua_modules.proofs.LuaStateStaying.{state_later}
 use Rattle.lua_gsubs.specs.Table.{alphabet_of}
-use Rattle.lua_stack.specs.Seen.{values_seen}
+use Rattle.lua_modules.specs.LuaStackSeen.{values_seen}
 use Rattle.lua_calls.proofs.Beginning.{begun_makes}
 use Rattle.lua_calls.proofs.gsubs.gsub.Goals as goal
 

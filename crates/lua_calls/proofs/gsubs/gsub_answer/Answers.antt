@@ -1,16 +1,16 @@
-use Rattle.lua_heap.specs.Value.{Value as Plain}
-use Rattle.lua_meaning.specs.Gsub.{replacement_given}
-use Rattle.lua_meaning.specs.Values.{first}
-use Rattle.lua_slots.specs.Errors.{with_argument}
-use Rattle.lua_slots.specs.Gsub.{puts}
-use Rattle.lua_slots.specs.Points.{Move}
-use Rattle.lua_store.specs.Seen.{seen}
-use Rattle.lua_stack.specs.Lists.{given_values}
-use Rattle.lua_stack.specs.Seen.{values_seen}
-use Rattle.lua_stack.proofs.Openings.{first_of}
-use Rattle.lua_state.specs.Seen.{slots_of, frames_of}
+use Rattle.lua_code.specs.LuaHeapValue.{Value as Plain}
+use Rattle.lua_gsubs.specs.LuaMeaningGsub.{replacement_given}
+use Rattle.lua_code.specs.LuaMeaningValues.{first}
+use Rattle.lua_modules.specs.LuaSlotsErrors.{with_argument}
+use Rattle.lua_code.specs.LuaSlotsGsub.{puts}
+use Rattle.lua_modules.specs.LuaSlotsPoints.{Move}
+use Rattle.lua_tables.specs.LuaStoreSeen.{seen}
+use Rattle.lua_modules.specs.LuaStackLists.{given_values}
+use Rattle.lua_modules.specs.LuaStackSeen.{values_seen}
+use Rattle.lua_modules.proofs.LuaStackOpenings.{first_of}
+use Rattle.lua_modules.specs.LuaStateSeen.{slots_of, frames_of}
 use Rattle.lua_acts.proofs.Lists.{with_first}
-use Rattle.lua_replacing.specs.Seen.{replacing_seen}
+use Rattle.lua_gsubs.specs.LuaReplacingSeen.{replacing_seen}
 use Rattle.lua_calls.proofs.Replaces.{each_made}
 use Rattle.lua_calls.proofs.gsubs.gsub_answer.Goals as goal
 

@@ -1,18 +1,18 @@
 use Rattle.std.proofs.Common.{◌≡◌, ◌∙◌, ◌-◌, ap, sym, subst, arith, ℕ, suc}
 use Rattle.std.specs.Prelude.{IfOk}
-use Rattle.lua_string.specs.Walk.{span}
-use Rattle.lua_meaning.specs.Gsub.{search, Job as PlainJob, Replacing as PlainReplacing}
-use Rattle.lua_meaning.proofs.GsubLaws.{matches_go_on}
+use Rattle.lua_gsubs.specs.LuaStringWalk.{span}
+use Rattle.lua_gsubs.specs.LuaMeaningGsub.{search, Job as PlainJob, Replacing as PlainReplacing}
+use Rattle.lua_code.proofs.LuaMeaningGsubLaws.{matches_go_on}
 use Rattle.page_run.specs.declared.which.Which.TheVariants.{Steps}
-use Rattle.lua_slots.specs.Gsub.{finish, replaces}
-use Rattle.lua_store.specs.Seen.{text_at}
-use Rattle.lua_state.specs.declared.turn.Turn.TheVariants as turn
-use Rattle.lua_state.specs.Makes.{Makes}
-use Rattle.lua_state.specs.Seen.{slots_of, frames_of}
-use Rattle.lua_state.proofs.Staying.{state_later}
-use Rattle.lua_replacing.specs.declared.job.Replacing.{Replacing}
-use Rattle.lua_replacing.specs.Seen.{job_seen, far_seen, replacing_seen}
-use Rattle.lua_replacing.proofs.Stays.{replacing_later, replacing_stays}
+use Rattle.lua_code.specs.LuaSlotsGsub.{finish, replaces}
+use Rattle.lua_tables.specs.LuaStoreSeen.{text_at}
+use Rattle.lua_modules.specs.LuaStateDeclaredTurnTurnTheVariants as turn
+use Rattle.lua_modules.specs.LuaStateMakes.{Makes}
+use Rattle.lua_modules.specs.LuaStateSeen.{slots_of, frames_of}
+use Rattle.lua_modules.proofs.LuaStateStaying.{state_later}
+use Rattle.lua_gsubs.specs.LuaReplacingDeclaredJobReplacing.{Replacing}
+use Rattle.lua_gsubs.specs.LuaReplacingSeen.{job_seen, far_seen, replacing_seen}
+use Rattle.lua_gsubs.proofs.LuaReplacingStays.{replacing_later, replacing_stays}
 use Rattle.lua_calls.proofs.Replaces.{seek_spent, seek_none, seek_matched, waits_is}
 use Rattle.lua_calls.proofs.gsubs.replace.Goals as goal
 

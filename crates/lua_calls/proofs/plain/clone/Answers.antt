@@ -1,5 +1,5 @@
 use Rattle.std.proofs.Common.{◌∙◌}
-use Rattle.lua_state.proofs.Staying.{state_later}
+use Rattle.lua_modules.proofs.LuaStateStaying.{state_later}
 use Rattle.lua_calls.proofs.Paying.{paid_end}
 use Rattle.lua_calls.proofs.plain.clone.Goals as goal
 

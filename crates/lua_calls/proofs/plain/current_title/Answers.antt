@@ -1,4 +1,4 @@
-use Rattle.lua_state.proofs.Staying.{state_later}
+use Rattle.lua_modules.proofs.LuaStateStaying.{state_later}
 use Rattle.lua_calls.proofs.Paying.{paid_end}
 use Rattle.lua_calls.proofs.plain.current_title.Goals as goal
 

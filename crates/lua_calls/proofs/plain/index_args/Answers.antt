@@ -1,6 +1,6 @@
 use Rattle.std.proofs.Common.{◌∙◌}
-use Rattle.lua_basic.proofs.Found.{for_nothing}
-use Rattle.lua_state.proofs.Staying.{state_later}
+use Rattle.lua_tables.proofs.LuaBasicFound.{for_nothing}
+use Rattle.lua_modules.proofs.LuaStateStaying.{state_later}
 use Rattle.lua_calls.proofs.Paying.{paid_end}
 use Rattle.lua_calls.proofs.plain.index_args.Goals as goal
 

@@ -1,10 +1,10 @@
 use Rattle.std.proofs.Common.{◌∙◌, sym}
-use Rattle.lua_libs.proofs.Lines.{in-table as plain-line}
-use Rattle.lua_strings.proofs.Lines.{in-table as string-line}
+use Rattle.lua_acts.proofs.LuaLibsLines.{in-table as plain-line}
+use Rattle.mw_htmls.proofs.LuaStringsLines.{in-table as string-line}
 use Rattle.lua_tables.proofs.Lines.{in-table as table-line}
-use Rattle.mw_ustrings.proofs.Lines.{in-table as ustring-line}
+use Rattle.mw_texts.proofs.MwUstringsLines.{in-table as ustring-line}
 use Rattle.mw_texts.proofs.Lines.{in-table as text-line}
-use Rattle.lua_iterators.proofs.Lines.{in-table as iterator-line}
+use Rattle.lua_gsubs.proofs.LuaIteratorsLines.{in-table as iterator-line}
 use Rattle.mw_htmls.proofs.Lines.{in-table as html-line}
 use Rattle.lua_calls.proofs.table.at_once.Goals as goal
 

@@ -1,8 +1,8 @@
 use Rattle.std.proofs.Common.{◌∙◌, sym, subst}
-use Rattle.lua_store.specs.Seen.{text_at}
-use Rattle.lua_stack.specs.Lists.{given_values}
-use Rattle.lua_state.specs.Makes.{Makes}
-use Rattle.lua_state.specs.Seen.{slots_of, frames_of}
+use Rattle.lua_tables.specs.LuaStoreSeen.{text_at}
+use Rattle.lua_modules.specs.LuaStackLists.{given_values}
+use Rattle.lua_modules.specs.LuaStateMakes.{Makes}
+use Rattle.lua_modules.specs.LuaStateSeen.{slots_of, frames_of}
 use Rattle.lua_calls.proofs.Heard.{absent_template, present_template}
 use Rattle.lua_calls.proofs.waiting.template_given.Goals as goal
 

@@ -1,11 +1,11 @@
 use Rattle.std.proofs.Common.{◌∙◌, sym, subst}
 use Rattle.page_run.specs.Outcome.{Goes}
-use Rattle.lua_slots.specs.Libraries.{text_answer}
-use Rattle.lua_stack.specs.Lists.{given_values}
-use Rattle.lua_stack.specs.Of.{ValuesOf}
-use Rattle.lua_stack.specs.Seen.{values_seen}
-use Rattle.lua_state.specs.Makes.{Makes}
-use Rattle.lua_state.specs.Seen.{slots_of, frames_of}
+use Rattle.lua_code.specs.LuaSlotsLibraries.{text_answer}
+use Rattle.lua_modules.specs.LuaStackLists.{given_values}
+use Rattle.lua_modules.specs.LuaStackOf.{ValuesOf}
+use Rattle.lua_modules.specs.LuaStackSeen.{values_seen}
+use Rattle.lua_modules.specs.LuaStateMakes.{Makes}
+use Rattle.lua_modules.specs.LuaStateSeen.{slots_of, frames_of}
 use Rattle.lua_calls.proofs.Heard.{is_text, refused, refused_nothing}
 use Rattle.lua_calls.proofs.waiting.text_given.Goals as goal
 

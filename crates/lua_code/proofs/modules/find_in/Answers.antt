@@ -1,5 +1,5 @@
 use Rattle.std.proofs.Common.{◌∙◌, ap, refl}
-use Rattle.wk_base.specs.Titles.{title_text}
+use Rattle.lua_syntax.specs.WkBaseTitles.{title_text}
 use Rattle.lua_code.specs.Held.{modules_seen}
 use Rattle.lua_code.proofs.HeldLaws.{named, seen, lacking, text_of}
 use Rattle.lua_code.proofs.modules.find_in.Goals as goal

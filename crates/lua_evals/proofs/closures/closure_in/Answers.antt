@@ -1,5 +1,5 @@
 use Rattle.std.proofs.Common.{ap}
-use Rattle.lua_store.specs.Seen.{StoreView}
+use Rattle.lua_operators.specs.LuaStoreSeen.{StoreView}
 use Rattle.lua_evals.proofs.NewClosure.{made}
 use Rattle.lua_evals.proofs.closures.closure_in.Goals as goal
 

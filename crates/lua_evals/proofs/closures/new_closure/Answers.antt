@@ -3,9 +3,9 @@ use Rattle.std.proofs.Common.{◌∙◌, ap, sym}
 use Rattle.std.specs.Option.{option_copied}
 use Rattle.std.specs.Prelude.{◌∷◌, [], map}
 use Rattle.lua_code.specs.Seen.{place_seen}
-use Rattle.lua_slots.specs.Errors.{gives}
-use Rattle.lua_slots.specs.Slots.{Activation, next_closure, proc_of, with_closure}
-use Rattle.lua_store.specs.Seen.{StoreView}
+use Rattle.lua_operators.specs.LuaSlotsErrors.{gives}
+use Rattle.lua_operators.specs.LuaSlotsSlots.{Activation, next_closure, proc_of, with_closure}
+use Rattle.lua_operators.specs.LuaStoreSeen.{StoreView}
 use Rattle.lua_state.proofs.Newest.{found, found_of, absent}
 use Rattle.lua_state.proofs.Staying.{state_later}
 use Rattle.lua_evals.proofs.Ends.{over_text}

@@ -1,10 +1,10 @@
 use Rattle.std.proofs.Common.{◌∙◌, sym, ap, refl, ◌∷◌, List}
-use Rattle.lua_slots.specs.Slots.{with_heap}
-use Rattle.lua_stack.specs.declared.frame.Frame.{Frame}
-use Rattle.lua_stack.specs.declared.frame.Frame.TheVariants as frame
-use Rattle.lua_stack.specs.Seen.{frames_seen}
-use Rattle.lua_stack.proofs.Stay.{frames_later, frames_as}
-use Rattle.lua_arms.specs.Paid.{paid_seen}
+use Rattle.lua_operators.specs.LuaSlotsSlots.{with_heap}
+use Rattle.lua_state.specs.LuaStackDeclaredFrameFrame.{Frame}
+use Rattle.lua_operators.specs.LuaStackDeclaredFrameFrameTheVariants as frame
+use Rattle.lua_operators.specs.LuaStackSeen.{frames_seen}
+use Rattle.lua_operators.proofs.LuaStackStay.{frames_later, frames_as}
+use Rattle.lua_state.specs.LuaArmsPaid.{paid_seen}
 use Rattle.lua_state.specs.Seen.{slots_of, funds_of}
 use Rattle.lua_state.proofs.Staying.{state_later}
 use Rattle.lua_evals.proofs.Ends.{with_frames_of, paid_arm}

@@ -1,6 +1,6 @@
 use Rattle.std.proofs.lemmas.Result.{IfOk-weaker}
 use Rattle.std.proofs.Common.{subst, sym}
-use Rattle.lua_stack.specs.Lists.{given_values}
+use Rattle.lua_state.specs.LuaStackLists.{given_values}
 use Rattle.lua_state.specs.Seen.{slots_of, frames_of}
 use Rattle.lua_state.specs.Makes.{Makes}
 use Rattle.lua_evals.proofs.Items.{other_item}

@@ -1,7 +1,7 @@
 use Rattle.std.proofs.Common.{subst}
-use Rattle.lua_stack.specs.declared.focus.Focus.TheVariants as focus
-use Rattle.lua_stack.specs.declared.values.Given.TheVariants as given
-use Rattle.lua_slots.specs.Errors.{gives}
+use Rattle.lua_state.specs.LuaStackDeclaredFocusFocusTheVariants as focus
+use Rattle.lua_state.specs.LuaStackDeclaredValuesGivenTheVariants as given
+use Rattle.lua_operators.specs.LuaSlotsErrors.{gives}
 use Rattle.lua_state.specs.Seen.{slots_of, frames_of}
 use Rattle.lua_state.specs.Makes.{Makes}
 use Rattle.lua_state.specs.declared.turn.Turn.TheVariants as turn

@@ -1,9 +1,9 @@
 use Rattle.std.proofs.lemmas.Result.{IfOk-weaker}
 use Rattle.std.proofs.Common.{ℕ, subst}
 use Rattle.page_run.specs.declared.which.Which.TheVariants.{Steps}
-use Rattle.lua_slots.specs.Slots.{function_of}
-use Rattle.lua_slots.specs.Points.{Costs}
-use Rattle.lua_slots.specs.Errors.{gives}
+use Rattle.lua_operators.specs.LuaSlotsSlots.{function_of}
+use Rattle.lua_operators.specs.LuaSlotsPoints.{Costs}
+use Rattle.lua_operators.specs.LuaSlotsErrors.{gives}
 use Rattle.lua_state.specs.declared.turn.Turn.TheVariants as turn
 use Rattle.lua_state.specs.Seen.{slots_of, frames_of}
 use Rattle.lua_state.specs.Makes.{Makes}

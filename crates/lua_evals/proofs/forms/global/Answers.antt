@@ -1,8 +1,8 @@
 use Rattle.std.proofs.lemmas.Result.{IfOk-weaker}
 use Rattle.std.specs.Prelude.{◌∷◌, Some}
-use Rattle.lua_heap.specs.Value as kind
-use Rattle.lua_slots.specs.Points.{First}
-use Rattle.lua_slots.specs.Index.{index_table}
+use Rattle.lua_code.specs.LuaHeapValue as kind
+use Rattle.lua_operators.specs.LuaSlotsPoints.{First}
+use Rattle.lua_code.specs.LuaSlotsIndex.{index_table}
 use Rattle.lua_state.proofs.Looking.{over_constant}
 use Rattle.lua_evals.proofs.forms.global.Goals as goal
 

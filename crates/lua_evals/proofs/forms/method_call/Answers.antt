@@ -1,7 +1,7 @@
 use Rattle.std.proofs.lemmas.Result.{IfOk-weaker}
 use Rattle.std.specs.Prelude.{◌∷◌}
 use Rattle.lua_code.specs.Seen.{expression_seen, expressions_seen}
-use Rattle.lua_slots.specs.Points.{Evals, MethodNext, Now}
+use Rattle.lua_operators.specs.LuaSlotsPoints.{Evals, MethodNext, Now}
 use Rattle.lua_state.proofs.Looking.{over_constant}
 use Rattle.lua_evals.proofs.forms.method_call.Goals as goal
 

@@ -1,5 +1,5 @@
 use Rattle.std.proofs.Common.{ap}
-use Rattle.lua_store.specs.Seen.{StoreView}
+use Rattle.lua_operators.specs.LuaStoreSeen.{StoreView}
 use Rattle.lua_code.specs.Seen.{entries_seen}
 use Rattle.lua_evals.proofs.Tables.{made}
 use Rattle.lua_evals.proofs.forms.new_table.Goals as goal

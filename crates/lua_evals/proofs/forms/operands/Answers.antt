@@ -1,6 +1,6 @@
 use Rattle.std.proofs.lemmas.Result.{IfOk-weaker}
 use Rattle.std.proofs.Common.{ap}
-use Rattle.lua_arms.specs.Paid.{behind_node}
+use Rattle.lua_state.specs.LuaArmsPaid.{behind_node}
 use Rattle.lua_state.specs.Seen.{constants_in, slots_of}
 use Rattle.lua_evals.proofs.Ends.{with_frames_of, stepped}
 use Rattle.lua_evals.proofs.forms.operands.Goals as goal

@@ -1,6 +1,6 @@
 use Rattle.std.specs.Prelude.{◌∷◌, []}
-use Rattle.lua_heap.specs.Value as kind
-use Rattle.lua_slots.specs.Errors.{gives}
+use Rattle.lua_code.specs.LuaHeapValue as kind
+use Rattle.lua_operators.specs.LuaSlotsErrors.{gives}
 use Rattle.lua_state.proofs.Looking.{over_constant}
 use Rattle.lua_evals.proofs.forms.text.Goals as goal
 

@@ -1,7 +1,7 @@
 use Rattle.std.proofs.Common.{subst}
 use Rattle.std.specs.Prelude.{◌∷◌, []}
-use Rattle.lua_heap.specs.Value as kind
-use Rattle.lua_slots.specs.Errors.{gives}
+use Rattle.lua_code.specs.LuaHeapValue as kind
+use Rattle.lua_operators.specs.LuaSlotsErrors.{gives}
 use Rattle.lua_state.specs.Makes.{Makes}
 use Rattle.lua_state.specs.Seen.{slots_of, frames_of}
 use Rattle.lua_evals.proofs.giving.verdict.Goals as goal

@@ -1,9 +1,9 @@
 use Rattle.std.proofs.lemmas.Result.{IfOk-weaker}
 use Rattle.std.proofs.Common.{◌∙◌, refl, sym, ap}
-use Rattle.lua_store.specs.Seen.{seen}
+use Rattle.lua_operators.specs.LuaStoreSeen.{seen}
 use Rattle.std.specs.Prelude.{Some}
-use Rattle.lua_slots.specs.Calls.{call}
-use Rattle.lua_stack.specs.Seen.{values_seen}
+use Rattle.lua_state.specs.LuaSlotsCalls.{call}
+use Rattle.lua_operators.specs.LuaStackSeen.{values_seen}
 use Rattle.lua_state.specs.Seen.{slots_of, frames_of}
 use Rattle.lua_evals.proofs.Ends.{stepped}
 use Rattle.lua_evals.proofs.operands.call_with.Goals as goal

@@ -1,11 +1,11 @@
 use Rattle.std.proofs.lemmas.Result.{IfOk-weaker}
 use Rattle.std.proofs.Common.{◌∙◌, refl, sym, ap, ◌∷◌, List}
-use Rattle.lua_slots.specs.Points.{MethodNow}
+use Rattle.lua_operators.specs.LuaSlotsPoints.{MethodNow}
 use Rattle.lua_code.specs.Seen.{expressions_seen}
-use Rattle.lua_store.specs.Seen.{seen}
-use Rattle.lua_stack.specs.declared.frame.Frame.{Frame}
-use Rattle.lua_stack.specs.Seen.{frames_seen}
-use Rattle.lua_arms.specs.Steps.{step_seen}
+use Rattle.lua_operators.specs.LuaStoreSeen.{seen}
+use Rattle.lua_state.specs.LuaStackDeclaredFrameFrame.{Frame}
+use Rattle.lua_operators.specs.LuaStackSeen.{frames_seen}
+use Rattle.lua_state.specs.LuaArmsSteps.{step_seen}
 use Rattle.lua_state.specs.Seen.{slots_of, frames_of}
 use Rattle.lua_evals.proofs.Ends.{with_frames_of, stepped}
 use Rattle.lua_evals.proofs.operands.method.Goals as goal

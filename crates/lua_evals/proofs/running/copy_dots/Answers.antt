@@ -1,8 +1,8 @@
 use Rattle.std.proofs.Common.{◌∙◌, ap, sym, subst}
 use Rattle.std.specs.Option.{option_copied}
-use Rattle.lua_slots.specs.Slots.{Activation}
-use Rattle.lua_stack.specs.Of.{ValuesOf}
-use Rattle.lua_stack.specs.Seen.{values_seen}
+use Rattle.lua_operators.specs.LuaSlotsSlots.{Activation}
+use Rattle.lua_operators.specs.LuaStackOf.{ValuesOf}
+use Rattle.lua_operators.specs.LuaStackSeen.{values_seen}
 use Rattle.lua_state.proofs.Newest.{found, found_of, absent}
 use Rattle.lua_evals.proofs.running.copy_dots.Goals as goal
 

@@ -1,8 +1,8 @@
 use Rattle.std.proofs.Common.{◌∙◌, ap, sym, length}
 use Rattle.std.specs.Option.{option_copied}
 use Rattle.std.proofs.lemmas.List.{length-map}
-use Rattle.lua_store.specs.Seen.{seen}
-use Rattle.lua_slots.specs.Slots.{Activation}
+use Rattle.lua_operators.specs.LuaStoreSeen.{seen}
+use Rattle.lua_operators.specs.LuaSlotsSlots.{Activation}
 use Rattle.lua_state.proofs.Newest.{found, absent}
 use Rattle.lua_evals.proofs.running.count_dots.Goals as goal
 

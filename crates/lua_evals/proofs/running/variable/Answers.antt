@@ -1,7 +1,7 @@
 use Rattle.std.proofs.Common.{◌∙◌, ap}
 use Rattle.lua_code.specs.Seen.{place_seen}
-use Rattle.lua_stack.specs.Places.{value_at}
-use Rattle.lua_stack.specs.Seen.{registers_seen}
+use Rattle.lua_state.specs.LuaStackPlaces.{value_at}
+use Rattle.lua_operators.specs.LuaStackSeen.{registers_seen}
 use Rattle.lua_state.specs.Seen.{slots_of}
 use Rattle.lua_evals.proofs.Places.{reads}
 use Rattle.lua_evals.proofs.running.variable.Goals as goal

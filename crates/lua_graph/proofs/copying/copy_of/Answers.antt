@@ -1,5 +1,5 @@
 use Rattle.std.proofs.Common.{rules, ◌+◌, ap, sym, ◌∙◌}
-use Rattle.lua_heap.specs.Value.{Table}
+use Rattle.lua_walk.specs.LuaHeapValue.{Table}
 use Rattle.lua_walk.specs.Copy as walk
 use Rattle.lua_store.specs.Seen.{seen}
 use Rattle.lua_graph.specs.Taken.{places}

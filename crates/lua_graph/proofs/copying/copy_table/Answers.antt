@@ -1,8 +1,8 @@
 use Rattle.std.proofs.Common.{◌+◌, ◌∙◌, ap, drop, subst, sym}
 use Rattle.std.specs.List.{AllByRecursion, Contains}
-use Rattle.lua_table.specs.Entries.{Contents}
-use Rattle.lua_heap.specs.Value as heap
-use Rattle.lua_heap.specs.Heap.{table_at}
+use Rattle.lua_walk.specs.LuaTableEntries.{Contents}
+use Rattle.lua_walk.specs.LuaHeapValue as heap
+use Rattle.lua_walk.specs.LuaHeapHeap.{table_at}
 use Rattle.lua_walk.specs.Copy.{copy_of}
 use Rattle.lua_walk.specs.Laws.{links}
 use Rattle.lua_store.specs.Seen.{seen}

@@ -1,5 +1,5 @@
 use Rattle.std.proofs.Common.{◌≡◌, ℕ, drop}
-use Rattle.lua_heap.specs.Heap.{table_at}
+use Rattle.lua_walk.specs.LuaHeapHeap.{table_at}
 use Rattle.lua_store.specs.Parts.{IsLater}
 use Rattle.lua_graph.specs.Copied.{copied_entries}
 use Rattle.lua_graph.specs.Put.{filled, AreFrom}

@@ -2,8 +2,8 @@ use Rattle.std.proofs.Common.{rules, ◌+◌, ◌<◌, ◌≡◌, length, slice_
 use Rattle.std.specs.List.{AllByRecursion}
 use Rattle.std.proofs.lemmas.List.{length-map}
 use Rattle.std.proofs.lemmas.Option.{slice_get_within}
-use Rattle.lua_heap.specs.Heap.{Heap}
-use Rattle.lua_heap.specs.Proc.{Proc}
+use Rattle.lua_walk.specs.LuaHeapHeap.{Heap}
+use Rattle.lua_store.specs.LuaHeapProc.{Proc}
 use Rattle.lua_store.specs.Parts.{IsTableOf}
 use Rattle.lua_store.specs.declared.ids.TableId.{TableId}
 use Rattle.lua_store.proofs.Later.{later-then}

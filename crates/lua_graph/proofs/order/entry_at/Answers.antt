@@ -1,5 +1,5 @@
 use Rattle.std.proofs.Common.{sym}
-use Rattle.lua_heap.specs.Heap.{table_at}
+use Rattle.lua_walk.specs.LuaHeapHeap.{table_at}
 use Rattle.lua_graph.proofs.Places.{drop_at, drop_past}
 use Rattle.lua_graph.proofs.order.entry_at.Goals as goal
 

@@ -1,5 +1,5 @@
 use Rattle.std.proofs.Common.{◌+◌, drop, sym, ap, ◌∙◌}
-use Rattle.lua_heap.specs.Heap.{table_at}
+use Rattle.lua_walk.specs.LuaHeapHeap.{table_at}
 use Rattle.lua_walk.specs.Order.{with_value, with_entries}
 use Rattle.lua_graph.specs.Taken.{places}
 use Rattle.lua_graph.proofs.order.reach_links.Goals as goal

@@ -1,6 +1,6 @@
 use Rattle.std.proofs.Common.{◌≡◌, drop}
 use Rattle.std.specs.List.{AllByRecursion}
-use Rattle.lua_heap.specs.Heap.{table_at}
+use Rattle.lua_walk.specs.LuaHeapHeap.{table_at}
 use Rattle.lua_walk.specs.Order.{with_entries, with_links}
 use Rattle.lua_store.specs.Parts.{IsTableOf}
 use Rattle.lua_graph.specs.Taken.{places}

@@ -1,5 +1,5 @@
 use Rattle.std.proofs.Common.{◌*◌, length, drop}
-use Rattle.lua_heap.specs.Heap.{table_at}
+use Rattle.lua_walk.specs.LuaHeapHeap.{table_at}
 use Rattle.lua_walk.specs.Order.{live}
 use Rattle.lua_graph.specs.Copied.{table_cost}
 use Rattle.lua_graph.proofs.Costs.{Paid}

@@ -1,6 +1,6 @@
 use Rattle.std.proofs.Common.{rules, ◌≡◌, ◌+◌, length, map, slice_index_or, subst, ap, ◌∙◌, arith}
 use Rattle.std.specs.List.{AllByRecursion}
-use Rattle.lua_heap.specs.Graph.{shift_entries}
+use Rattle.lua_walk.specs.LuaHeapGraph.{shift_entries}
 use Rattle.lua_store.specs.Seen.{StoreView}
 use Rattle.lua_store.proofs.Later.{later-then}
 use Rattle.lua_graph.specs.Plain.{plain_entries, plain_nodes}

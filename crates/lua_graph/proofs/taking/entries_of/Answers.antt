@@ -1,4 +1,4 @@
-use Rattle.lua_heap.specs.Heap.{table_at}
+use Rattle.lua_walk.specs.LuaHeapHeap.{table_at}
 use Rattle.lua_store.specs.Seen.{seen}
 use Rattle.lua_graph.specs.Taken.{places}
 use Rattle.lua_graph.proofs.Checks.{entries_on}

@@ -1,5 +1,5 @@
 use Rattle.std.proofs.Common.{rules, ◌≡◌, ◌++◌, ◌∷◌, [], sym}
-use Rattle.lua_heap.specs.Heap.{table_at}
+use Rattle.lua_walk.specs.LuaHeapHeap.{table_at}
 use Rattle.lua_walk.specs.Data.{node_of}
 use Rattle.lua_graph.specs.Taken.{places}
 use Rattle.lua_graph.proofs.Places.{drop_at, drop_past}

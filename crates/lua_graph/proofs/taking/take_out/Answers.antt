@@ -1,5 +1,5 @@
 use Rattle.std.proofs.Common.{sym, subst}
-use Rattle.lua_heap.specs.Heap.{table_at}
+use Rattle.lua_walk.specs.LuaHeapHeap.{table_at}
 use Rattle.lua_walk.specs.Data.{all_ok, node_of, taken}
 use Rattle.lua_store.specs.Seen.{seen}
 use Rattle.lua_store.specs.Parts.{IsOf}

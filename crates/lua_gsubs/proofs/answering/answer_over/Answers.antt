@@ -1,5 +1,5 @@
 use Rattle.std.proofs.Common.{◌≡◌, rules, Some}
-use Rattle.lua_meaning.specs.Gsub.{replaced_from, at_head}
+use Rattle.lua_replacing.specs.LuaMeaningGsub.{replaced_from, at_head}
 use Rattle.lua_gsubs.proofs.Ends.{made_covers, halted_pays}
 use Rattle.lua_gsubs.proofs.answering.answer_over.Goals as goal
 

@@ -1,7 +1,7 @@
 use Rattle.std.proofs.Common.{◌∙◌, ap, sym, None}
 use Rattle.std.specs.Option.{option_map}
-use Rattle.lua_meaning.specs.Gsub.{by_text}
-use Rattle.lua_basic.specs.Seen.{values_seen}
+use Rattle.lua_replacing.specs.LuaMeaningGsub.{by_text}
+use Rattle.lua_iterators.specs.LuaBasicSeen.{values_seen}
 use Rattle.lua_replacing.specs.Seen.{replacer_seen}
 use Rattle.lua_gsubs.specs.Given.{or_text, replacer_in}
 use Rattle.lua_gsubs.specs.Table.{alphabet_of}

@@ -1,11 +1,11 @@
 use Rattle.std.proofs.Common.{◌≡◌, ◌∙◌, ap, sym, refl, rules, ℕ, Ok, Err, to_z, of_z, w64}
 use Rattle.std.specs.Prelude.{codes}
 use Rattle.std.proofs.lemmas.Result.{err_from_is_err_and}
-use Rattle.lua_meaning.specs.Values.{rest}
-use Rattle.lua_meaning.specs.Arguments.{Argument, number_or}
-use Rattle.lua_meaning.specs.Gsub.{Given, text_in_alphabet, a_replacement, all_of}
-use Rattle.lua_basic.specs.Arguments.{text_bytes}
-use Rattle.lua_basic.specs.Seen.{values_seen}
+use Rattle.lua_iterators.specs.LuaMeaningValues.{rest}
+use Rattle.lua_iterators.specs.LuaMeaningArguments.{Argument, number_or}
+use Rattle.lua_replacing.specs.LuaMeaningGsub.{Given, text_in_alphabet, a_replacement, all_of}
+use Rattle.lua_iterators.specs.LuaBasicArguments.{text_bytes}
+use Rattle.lua_iterators.specs.LuaBasicSeen.{values_seen}
 use Rattle.lua_gsubs.specs.Given.{by_seen}
 use Rattle.lua_gsubs.specs.Table.{alphabet_of}
 use Rattle.lua_gsubs.proofs.GivenArguments.{stops_here, stops_behind, found_then, refuses_as}

@@ -1,5 +1,5 @@
 use Rattle.std.proofs.Common.{refl, Some}
-use Rattle.lua_meaning.specs.Gsub.{letters, replaced_answer, replaced_from, at_head}
+use Rattle.lua_replacing.specs.LuaMeaningGsub.{letters, replaced_answer, replaced_from, at_head}
 use Rattle.lua_replacing.specs.Seen.{alphabet_in, anchored_in, items_in, slots_in}
 use Rattle.lua_gsubs.proofs.GivenArguments.{answers_error}
 use Rattle.lua_gsubs.proofs.beginning.begin_by.Goals as goal

@@ -1,9 +1,9 @@
 use Rattle.std.proofs.Common.{◌∙◌, ap, sym, subst, length, Err}
 use Rattle.std.proofs.lemmas.Result.{err_from_is_err_and}
 use Rattle.lua_pattern.specs.Read.{read_of, codes}
-use Rattle.lua_meaning.specs.Gsub.{letters, given_in, by_given}
-use Rattle.lua_basic.specs.Arguments.{text_bytes}
-use Rattle.lua_basic.specs.Seen.{values_seen}
+use Rattle.lua_replacing.specs.LuaMeaningGsub.{letters, given_in, by_given}
+use Rattle.lua_iterators.specs.LuaBasicArguments.{text_bytes}
+use Rattle.lua_iterators.specs.LuaBasicSeen.{values_seen}
 use Rattle.lua_gsubs.specs.Begun.{free_read, IsBegun}
 use Rattle.lua_gsubs.specs.Given.{given_seen}
 use Rattle.lua_gsubs.specs.Table.{alphabet_of}

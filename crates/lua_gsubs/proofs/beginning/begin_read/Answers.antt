@@ -1,6 +1,6 @@
 use Rattle.lua_pattern.specs.Read.{read_of, codes}
-use Rattle.lua_meaning.specs.Gsub.{letters}
-use Rattle.lua_basic.specs.Arguments.{text_bytes}
+use Rattle.lua_replacing.specs.LuaMeaningGsub.{letters}
+use Rattle.lua_iterators.specs.LuaBasicArguments.{text_bytes}
 use Rattle.lua_gsubs.specs.Given.{given_seen}
 use Rattle.lua_gsubs.specs.Table.{alphabet_of}
 use Rattle.lua_gsubs.proofs.GivenArguments.{begins_faulty}

@@ -1,7 +1,7 @@
 use Rattle.std.proofs.Common.{◌∙◌, ap, sym, subst, Err}
 use Rattle.std.proofs.lemmas.Result.{err_from_is_err_and}
-use Rattle.lua_meaning.specs.Gsub.{args_charge, given_in, by_given}
-use Rattle.lua_basic.specs.Seen.{values_seen}
+use Rattle.lua_replacing.specs.LuaMeaningGsub.{args_charge, given_in, by_given}
+use Rattle.lua_iterators.specs.LuaBasicSeen.{values_seen}
 use Rattle.lua_gsubs.specs.Begun.{IsBegun}
 use Rattle.lua_gsubs.specs.Table.{alphabet_of}
 use Rattle.lua_gsubs.proofs.GivenArguments.{begins, begins_unpaid, given_charged}

@@ -1,6 +1,6 @@
 use Rattle.std.proofs.Common.{◌≡◌, ◌∙◌, ap, sym, rules, [], ◌++◌, append-nil, map}
-use Rattle.lua_string.specs.Replacements.{text_of}
-use Rattle.lua_meaning.specs.Gsub.{capture_text}
+use Rattle.mw_text.specs.LuaStringReplacements.{text_of}
+use Rattle.lua_replacing.specs.LuaMeaningGsub.{capture_text}
 use Rattle.lua_replacing.specs.Seen.{stand_seen}
 use Rattle.lua_gsubs.proofs.Filled.{one_text}
 use Rattle.lua_gsubs.proofs.filling.capture_texts.Goals as goal

@@ -1,6 +1,6 @@
 use Rattle.std.proofs.Common.{◌∙◌, ap, Err}
 use Rattle.std.proofs.lemmas.Result.{err_from_is_err_and}
-use Rattle.lua_string.specs.Replacements.{replaced_of}
+use Rattle.mw_text.specs.LuaStringReplacements.{replaced_of}
 use Rattle.lua_gsubs.proofs.Filled.{filled_put, filled_spent, filled_none, filled_no_memory}
 use Rattle.lua_gsubs.proofs.filling.put_filled.Goals as goal
 

@@ -1,6 +1,6 @@
 use Rattle.std.proofs.Common.{◌≡◌, ℕ, List, Ok, length}
-use Rattle.lua_string.specs.declared.replacing.CaptureText.{CaptureText}
-use Rattle.lua_string.specs.Replacements.{replaced_of}
+use Rattle.mw_text.specs.LuaStringDeclaredReplacingCaptureText.{CaptureText}
+use Rattle.mw_text.specs.LuaStringReplacements.{replaced_of}
 use Rattle.lua_gsubs.proofs.filling.stands_for_itself.Given as goal
 
 abbrev pub StandsForItself : List ℕ → Type 0

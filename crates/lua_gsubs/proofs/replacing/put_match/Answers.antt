@@ -1,8 +1,8 @@
 use Rattle.std.proofs.Common.{◌∙◌, ap, refl, Err}
 use Rattle.std.proofs.lemmas.Result.{err_from_is_err_and}
-use Rattle.lua_string.specs.Walk.{span}
-use Rattle.lua_string.specs.Replacements.{replaced_of}
-use Rattle.lua_meaning.specs.Gsub.{filled_at, next_stand}
+use Rattle.lua_replacing.specs.LuaStringWalk.{span}
+use Rattle.mw_text.specs.LuaStringReplacements.{replaced_of}
+use Rattle.lua_replacing.specs.LuaMeaningGsub.{filled_at, next_stand}
 use Rattle.lua_replacing.specs.Seen.{stand_seen}
 use Rattle.lua_gsubs.proofs.Filled.{filled_at_is, match_replaced, match_halted, match_no_memory}
 use Rattle.lua_gsubs.proofs.replacing.put_match.Goals as goal

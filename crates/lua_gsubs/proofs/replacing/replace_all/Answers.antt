@@ -1,6 +1,6 @@
 use Rattle.std.proofs.Common.{◌∙◌, ap, refl, Some, Err}
 use Rattle.std.proofs.lemmas.Result.{err_from_is_err_and}
-use Rattle.lua_meaning.specs.Gsub.{replaced_from, at_head}
+use Rattle.lua_replacing.specs.LuaMeaningGsub.{replaced_from, at_head}
 use Rattle.lua_replacing.specs.declared.far.Far.{Far}
 use Rattle.lua_gsubs.proofs.Walked.{whole_made, whole_halted}
 use Rattle.lua_gsubs.proofs.replacing.replace_all.Goals as goal

@@ -1,6 +1,6 @@
 use Rattle.std.proofs.Common.{◌-◌, length, Some}
 use Rattle.std.specs.Option.{option_map}
-use Rattle.lua_meaning.specs.Gsub.{replaced_from, at_head}
+use Rattle.lua_replacing.specs.LuaMeaningGsub.{replaced_from, at_head}
 use Rattle.lua_replacing.specs.Seen.{stand_seen, StandWithin}
 use Rattle.lua_gsubs.specs.Parts.{IsPart}
 use Rattle.lua_gsubs.proofs.replacing.replace_matches.Given as goal

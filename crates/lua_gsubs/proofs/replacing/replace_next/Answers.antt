@@ -1,5 +1,5 @@
 use Rattle.std.proofs.Common.{refl, None}
-use Rattle.lua_string.specs.Walk.{walk}
+use Rattle.lua_replacing.specs.LuaStringWalk.{walk}
 use Rattle.lua_replacing.specs.declared.far.Far.{Far}
 use Rattle.lua_replacing.specs.Seen.{stand_seen}
 use Rattle.lua_gsubs.proofs.Walked.{step_meets, step_stops, step_halts}

@@ -1,6 +1,6 @@
 use Rattle.std.proofs.Common.{◌∙◌, ap, Err}
 use Rattle.std.proofs.lemmas.Result.{err_from_is_err_and}
-use Rattle.lua_string.specs.Walk.{walk}
+use Rattle.lua_replacing.specs.LuaStringWalk.{walk}
 use Rattle.lua_replacing.specs.Seen.{stand_seen}
 use Rattle.lua_gsubs.proofs.Sights.{walked_none, walked_error, walked_unpaid, walked_held}
 use Rattle.lua_gsubs.proofs.seeking.seek_from.Goals as goal

@@ -1,6 +1,6 @@
 use Rattle.std.proofs.Common.{◌≡◌, length}
 use Rattle.std.specs.List.{AllByRecursion}
-use Rattle.lua_store.specs.Parts.{IsLater}
+use Rattle.lua_graph.specs.LuaStoreParts.{IsLater}
 use Rattle.lua_graph.specs.Put.{filled}
 use Rattle.lua_home.specs.Fields.{fields_seen, IsFieldOf}
 use Rattle.lua_home.proofs.fields.fill.Given as goal

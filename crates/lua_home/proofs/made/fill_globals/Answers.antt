@@ -1,5 +1,5 @@
 use Rattle.std.proofs.Common.{◌++◌}
-use Rattle.lua_store.proofs.Later.{later-then}
+use Rattle.lua_graph.proofs.LuaStoreLater.{later-then}
 use Rattle.lua_home.specs.Entries.{first_globals, middle_globals, last_globals}
 use Rattle.lua_home.proofs.Whole.{two_fills, still_of}
 use Rattle.lua_home.proofs.made.fill_globals.Goals as goal

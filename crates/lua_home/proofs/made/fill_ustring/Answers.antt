@@ -1,4 +1,4 @@
-use Rattle.lua_store.proofs.Later.{later-then}
+use Rattle.lua_graph.proofs.LuaStoreLater.{later-then}
 use Rattle.lua_home.specs.Entries.{first_ustring, last_ustring}
 use Rattle.lua_home.proofs.Whole.{two_fills, still_of}
 use Rattle.lua_home.proofs.made.fill_ustring.Goals as goal

@@ -1,6 +1,6 @@
 use Rattle.std.proofs.Common.{◌+◌, length, refl, arith}
 use Rattle.lua_meaning.specs.Home.{home_tables}
-use Rattle.lua_store.proofs.Later.{later-then}
+use Rattle.lua_graph.proofs.LuaStoreLater.{later-then}
 use Rattle.lua_home.specs.Entries.{global_fields, string_fields, mw_fields, title_fields, table_fields, math_fields, ustring_fields, text_fields, html_fields}
 use Rattle.lua_home.proofs.Whole.{filled_all, filled_one, fills_join, globals_are, mw_is, still_of}
 use Rattle.lua_home.proofs.made.fresh.Goals as goal

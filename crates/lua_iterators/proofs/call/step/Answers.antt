@@ -1,4 +1,4 @@
-use Rattle.lua_store.proofs.Later.{later-itself}
+use Rattle.lua_strings.proofs.LuaStoreLater.{later-itself}
 use Rattle.lua_iterators.proofs.call.step.Goals as goal
 
 pub cells_of-requires : goal.cells_of-requires

@@ -1,7 +1,7 @@
 use Rattle.std.proofs.Common.{◌≡◌, ◌∙◌, ap, sym, rules, [], ◌++◌, append-nil, refl}
-use Rattle.lua_store.proofs.Later.{later-then, later-itself}
-use Rattle.lua_basic.specs.Seen.{values_seen}
-use Rattle.lua_meaning.specs.Iterators.{captures_given}
+use Rattle.lua_strings.proofs.LuaStoreLater.{later-then, later-itself}
+use Rattle.lua_strings.specs.LuaBasicSeen.{values_seen}
+use Rattle.lua_strings.specs.LuaMeaningIterators.{captures_given}
 use Rattle.mw_ustrings.proofs.Values.{one_more_of, one_more_seen}
 use Rattle.lua_iterators.proofs.captures.add_captures.Goals as goal
 

@@ -1,7 +1,7 @@
 use Rattle.std.proofs.Common.{◌≡◌, ◌++◌, length}
-use Rattle.lua_store.specs.Parts.{IsLater}
-use Rattle.lua_basic.specs.Seen.{values_seen, AllOf}
-use Rattle.lua_meaning.specs.Iterators.{captures_given}
+use Rattle.lua_strings.specs.LuaStoreParts.{IsLater}
+use Rattle.lua_strings.specs.LuaBasicSeen.{values_seen, AllOf}
+use Rattle.lua_strings.specs.LuaMeaningIterators.{captures_given}
 use Rattle.lua_iterators.proofs.captures.add_captures.Given as goal
 
 -- what was added and what is still to add are all

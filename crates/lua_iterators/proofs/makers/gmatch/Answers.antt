@@ -1,10 +1,10 @@
 use Rattle.std.proofs.Common.{◌∙◌, ap, refl, Err}
 use Rattle.std.specs.Prelude.{codes}
 use Rattle.std.proofs.lemmas.Result.{err_from_is_err_and}
-use Rattle.lua_meaning.specs.Values.{rest}
-use Rattle.lua_meaning.specs.Arguments.{a_text}
-use Rattle.lua_basic.specs.Arguments.{text_bytes}
-use Rattle.lua_basic.specs.Seen.{values_seen}
+use Rattle.lua_strings.specs.LuaMeaningValues.{rest}
+use Rattle.lua_strings.specs.LuaMeaningArguments.{a_text}
+use Rattle.lua_strings.specs.LuaBasicArguments.{text_bytes}
+use Rattle.lua_strings.specs.LuaBasicSeen.{values_seen}
 use Rattle.mw_ustrings.proofs.ReadArguments.{behind_one, handed_on, turned_down}
 use Rattle.lua_iterators.proofs.Made.{first_text, text_found}
 use Rattle.lua_iterators.proofs.makers.gmatch.Goals as goal

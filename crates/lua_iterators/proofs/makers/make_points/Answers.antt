@@ -1,8 +1,8 @@
 use Rattle.std.proofs.Common.{subst, w64}
 use Rattle.std.proofs.lemmas.Int.{to_z-of_z}
-use Rattle.mw_ustring.proofs.Offsets.{spelled}
-use Rattle.lua_basic.specs.Seen.{Paid}
-use Rattle.lua_meaning.specs.Iterators.{make_gcodepoint}
+use Rattle.mw_text.proofs.MwUstringOffsets.{spelled}
+use Rattle.lua_strings.specs.LuaBasicSeen.{Paid}
+use Rattle.lua_strings.specs.LuaMeaningIterators.{make_gcodepoint}
 use Rattle.lua_iterators.proofs.makers.make_points.Goals as goal
 
 pub returns-clause-answer : goal.returns-clause-answer

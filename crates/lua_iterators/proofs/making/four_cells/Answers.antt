@@ -1,6 +1,6 @@
 use Rattle.std.proofs.Common.{refl, [], ◌∷◌}
-use Rattle.lua_store.specs.Seen.{seen}
-use Rattle.lua_store.proofs.Later.{later-then}
+use Rattle.lua_strings.specs.LuaStoreSeen.{seen}
+use Rattle.lua_strings.proofs.LuaStoreLater.{later-then}
 use Rattle.lua_iterators.proofs.making.four_cells.Goals as goal
 
 pub returns-clause-made : goal.returns-clause-made

@@ -1,7 +1,7 @@
 use Rattle.std.proofs.Common.{pos, ◌∷◌, []}
-use Rattle.lua_heap.specs.Value.{Number}
-use Rattle.lua_store.specs.Seen.{seen}
-use Rattle.lua_store.proofs.Later.{later-then}
+use Rattle.lua_strings.specs.LuaHeapValue.{Number}
+use Rattle.lua_strings.specs.LuaStoreSeen.{seen}
+use Rattle.lua_strings.proofs.LuaStoreLater.{later-then}
 use Rattle.lua_iterators.proofs.Made.{iterator_heap, iterator_end}
 use Rattle.lua_iterators.proofs.making.give_iterator.Goals as goal
 

@@ -1,7 +1,7 @@
 use Rattle.std.proofs.Common.{◌∙◌, ap, arith, Err}
 use Rattle.std.proofs.lemmas.Result.{err_from_is_err_and}
-use Rattle.lua_store.proofs.Later.{later-then, of-later, seen-later}
-use Rattle.mw_frame_texts.proofs.Charged.{lacked}
+use Rattle.lua_strings.proofs.LuaStoreLater.{later-then, of-later, seen-later}
+use Rattle.mw_ustrings.proofs.MwFrameTextsCharged.{lacked}
 use Rattle.lua_iterators.proofs.Made.{iterator_covers, still_text}
 use Rattle.lua_iterators.proofs.making.make_by_pattern.Goals as goal
 

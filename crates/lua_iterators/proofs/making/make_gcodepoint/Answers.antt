@@ -1,8 +1,8 @@
 use Rattle.std.proofs.Common.{◌∙◌, ap, arith, Err}
 use Rattle.std.proofs.lemmas.Result.{err_from_is_err_and}
-use Rattle.lua_store.specs.Seen.{StoreView}
-use Rattle.lua_store.proofs.Later.{later-then}
-use Rattle.mw_frame_texts.proofs.Charged.{lacked}
+use Rattle.lua_strings.specs.LuaStoreSeen.{StoreView}
+use Rattle.lua_strings.proofs.LuaStoreLater.{later-then}
+use Rattle.mw_ustrings.proofs.MwFrameTextsCharged.{lacked}
 use Rattle.lua_iterators.proofs.Made.{iterator_covers}
 use Rattle.lua_iterators.proofs.making.make_gcodepoint.Goals as goal
 

@@ -1,13 +1,13 @@
 use Rattle.std.proofs.Common.{◌∙◌, ap, arith, Err, refl, length, ◌∷◌, []}
 use Rattle.std.proofs.lemmas.Result.{err_from_is_err_and}
-use Rattle.lua_heap.specs.Value.{Text}
-use Rattle.lua_heap.specs.Heap.{Heap, set_cell_in}
-use Rattle.lua_heap.specs.Proc.{Proc}
-use Rattle.lua_store.specs.Seen.{StoreView}
-use Rattle.lua_meaning.specs.Iterators.{place_or_nil}
+use Rattle.lua_strings.specs.LuaHeapValue.{Text}
+use Rattle.lua_strings.specs.LuaHeapHeap.{Heap, set_cell_in}
+use Rattle.lua_strings.specs.LuaHeapProc.{Proc}
+use Rattle.lua_strings.specs.LuaStoreSeen.{StoreView}
+use Rattle.lua_strings.specs.LuaMeaningIterators.{place_or_nil}
 use Rattle.mw_text.specs.Split.{slice}
-use Rattle.mw_frames.proofs.Sums.{took_then}
-use Rattle.mw_frame_texts.proofs.Charged.{lacked}
+use Rattle.mw_ustrings.proofs.MwFramesSums.{took_then}
+use Rattle.mw_ustrings.proofs.MwFrameTextsCharged.{lacked}
 use Rattle.mw_ustrings.proofs.Costs.{values_cover, lacked_second}
 use Rattle.lua_iterators.proofs.parting.give_part.Goals as goal
 

@@ -1,8 +1,8 @@
 use Rattle.std.proofs.Common.{subst, sym}
 use Rattle.mw_text.specs.Split.{sought_of, found_from}
 use Rattle.mw_text.specs.declared.splitting.Part.{Part}
-use Rattle.lua_basic.specs.Seen.{Paid}
-use Rattle.lua_meaning.specs.Iterators.{part_given}
+use Rattle.lua_strings.specs.LuaBasicSeen.{Paid}
+use Rattle.lua_strings.specs.LuaMeaningIterators.{part_given}
 use Rattle.mw_ustrings.proofs.Costs.{exceeded}
 use Rattle.lua_iterators.specs.Held.{cells_seen}
 use Rattle.lua_iterators.proofs.Parted.{cut_found, cut_none, cut_spent}

@@ -1,10 +1,10 @@
 use Rattle.std.proofs.Common.{◌≡◌, ◌∙◌, ap, Err}
 use Rattle.std.proofs.lemmas.Result.{err_from_is_err_and}
-use Rattle.lua_heap.specs.Value.{is_true}
-use Rattle.lua_heap.specs.Heap.{cell_at}
-use Rattle.lua_meaning.specs.Iterators.{held_text}
-use Rattle.lua_meaning.specs.Texts.{pattern_charge}
-use Rattle.mw_frame_texts.proofs.Charged.{charged, not_charged}
+use Rattle.lua_strings.specs.LuaHeapValue.{is_true}
+use Rattle.lua_strings.specs.LuaHeapHeap.{cell_at}
+use Rattle.lua_strings.specs.LuaMeaningIterators.{held_text}
+use Rattle.lua_strings.specs.LuaMeaningTexts.{pattern_charge}
+use Rattle.mw_ustrings.proofs.MwFrameTextsCharged.{charged, not_charged}
 use Rattle.lua_iterators.proofs.parting.part_step.Goals as goal
 
 pub returns-in_err-pay-clause-answer : goal.returns-in_err-pay-clause-answer

@@ -1,7 +1,7 @@
 use Rattle.std.proofs.Common.{◌∙◌, ap, refl, pos, ◌∷◌, []}
-use Rattle.lua_heap.specs.Value.{Number}
-use Rattle.lua_heap.specs.Heap.{set_cell_in}
-use Rattle.lua_store.specs.Seen.{StoreView}
+use Rattle.lua_strings.specs.LuaHeapValue.{Number}
+use Rattle.lua_strings.specs.LuaHeapHeap.{set_cell_in}
+use Rattle.lua_strings.specs.LuaStoreSeen.{StoreView}
 use Rattle.lua_iterators.proofs.Changed.{gives_free}
 use Rattle.lua_iterators.proofs.pointing.give_point.Goals as goal
 

@@ -1,5 +1,5 @@
-use Rattle.lua_store.proofs.Later.{later-itself}
-use Rattle.lua_basic.proofs.Found.{for_nothing}
+use Rattle.lua_strings.proofs.LuaStoreLater.{later-itself}
+use Rattle.lua_strings.proofs.LuaBasicFound.{for_nothing}
 use Rattle.lua_iterators.proofs.pointing.point_at.Goals as goal
 
 pub returns-in-None-clause-answer : goal.returns-in-None-clause-answer

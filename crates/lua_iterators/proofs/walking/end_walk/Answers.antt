@@ -1,9 +1,9 @@
 use Rattle.std.proofs.Common.{◌∙◌, ap, arith, Err, ◌∷◌, [], refl}
 use Rattle.std.proofs.lemmas.Result.{err_from_is_err_and}
-use Rattle.lua_heap.specs.Value.{Nil}
-use Rattle.lua_heap.specs.Heap.{set_cell_in}
-use Rattle.lua_store.specs.Seen.{StoreView}
-use Rattle.mw_frame_texts.proofs.Charged.{lacked}
+use Rattle.lua_strings.specs.LuaHeapValue.{Nil}
+use Rattle.lua_strings.specs.LuaHeapHeap.{set_cell_in}
+use Rattle.lua_strings.specs.LuaStoreSeen.{StoreView}
+use Rattle.mw_ustrings.proofs.MwFrameTextsCharged.{lacked}
 use Rattle.mw_ustrings.proofs.Costs.{values_cover}
 use Rattle.lua_iterators.proofs.walking.end_walk.Goals as goal
 

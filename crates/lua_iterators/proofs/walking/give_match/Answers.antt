@@ -1,11 +1,11 @@
 use Rattle.std.proofs.Common.{◌∙◌, ap, arith, Err}
 use Rattle.std.proofs.lemmas.Result.{err_from_is_err_and}
-use Rattle.lua_pattern.specs.Sizes.{match_bytes}
-use Rattle.lua_store.proofs.Later.{later-then}
-use Rattle.lua_basic.specs.Seen.{values_seen}
-use Rattle.lua_meaning.specs.Iterators.{goes_on}
-use Rattle.mw_frames.proofs.Sums.{took_then}
-use Rattle.mw_frame_texts.proofs.Charged.{lacked}
+use Rattle.lua_string.specs.LuaPatternSizes.{match_bytes}
+use Rattle.lua_strings.proofs.LuaStoreLater.{later-then}
+use Rattle.lua_strings.specs.LuaBasicSeen.{values_seen}
+use Rattle.lua_strings.specs.LuaMeaningIterators.{goes_on}
+use Rattle.mw_ustrings.proofs.MwFramesSums.{took_then}
+use Rattle.mw_ustrings.proofs.MwFrameTextsCharged.{lacked}
 use Rattle.mw_ustrings.proofs.Costs.{values_cover, lacked_second}
 use Rattle.mw_ustrings.proofs.Values.{all_of_later}
 use Rattle.lua_iterators.specs.Held.{cells_seen}

@@ -1,8 +1,8 @@
 use Rattle.std.proofs.Common.{◌∙◌, ap, Err, length}
 use Rattle.std.proofs.lemmas.Result.{err_from_is_err_and}
-use Rattle.lua_heap.specs.Heap.{cell_at}
-use Rattle.lua_meaning.specs.Iterators.{held_text}
-use Rattle.mw_frame_texts.proofs.Charged.{charged, not_charged}
+use Rattle.lua_strings.specs.LuaHeapHeap.{cell_at}
+use Rattle.lua_strings.specs.LuaMeaningIterators.{held_text}
+use Rattle.mw_ustrings.proofs.MwFrameTextsCharged.{charged, not_charged}
 use Rattle.lua_iterators.proofs.walking.match_step.Goals as goal
 
 pub returns-in_err-pay-clause-answer : goal.returns-in_err-pay-clause-answer

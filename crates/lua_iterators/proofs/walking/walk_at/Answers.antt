@@ -1,6 +1,6 @@
 use Rattle.std.proofs.Common.{subst, sym}
-use Rattle.lua_pattern.specs.Way.{first}
-use Rattle.lua_basic.specs.Seen.{Paid}
+use Rattle.lua_string.specs.LuaPatternWay.{first}
+use Rattle.lua_strings.specs.LuaBasicSeen.{Paid}
 use Rattle.mw_ustrings.proofs.Costs.{exceeded}
 use Rattle.lua_iterators.specs.Held.{cells_seen}
 use Rattle.lua_iterators.proofs.Walks.{walk_found, walk_none, walk_spent}

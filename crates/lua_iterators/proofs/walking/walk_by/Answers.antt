@@ -1,8 +1,8 @@
 use Rattle.std.proofs.Common.{Err, length}
-use Rattle.lua_pattern.specs.Read.{read_unanchored, codes}
-use Rattle.lua_heap.specs.Heap.{cell_at}
-use Rattle.lua_basic.proofs.Found.{for_nothing}
-use Rattle.lua_meaning.specs.Iterators.{held_place, walks_by}
+use Rattle.lua_string.specs.LuaPatternRead.{read_unanchored, codes}
+use Rattle.lua_strings.specs.LuaHeapHeap.{cell_at}
+use Rattle.lua_strings.proofs.LuaBasicFound.{for_nothing}
+use Rattle.lua_strings.specs.LuaMeaningIterators.{held_place, walks_by}
 use Rattle.lua_iterators.specs.Held.{cells_seen}
 use Rattle.lua_iterators.proofs.Walks.{walk_fault}
 use Rattle.lua_iterators.proofs.walking.walk_by.Goals as goal

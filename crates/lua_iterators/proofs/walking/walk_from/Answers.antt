@@ -1,5 +1,5 @@
 use Rattle.std.proofs.Common.{sym}
-use Rattle.lua_store.proofs.Later.{later-itself}
+use Rattle.lua_strings.proofs.LuaStoreLater.{later-itself}
 use Rattle.lua_iterators.proofs.walking.walk_from.Goals as goal
 
 pub returns-in-None-clause-answer : goal.returns-in-None-clause-answer

@@ -1,6 +1,6 @@
 use Rattle.std.proofs.Common.{◌≡◌, ◌∙◌, ap, sym, true, false}
 use Rattle.std.specs.Prelude.{Ok}
-use Rattle.wk_base.specs.Space.{is_white}
+use Rattle.lua_syntax.specs.WkBaseSpace.{is_white}
 use Rattle.lua_lexer.specs.Lexis.{at, is_letter, is_numeral, is_quote, opens_long, comment_of}
 use Rattle.lua_lexer.proofs.PieceLemmas.{first_is, at_space, at_letter, at_numeral, at_quote, at_bracket, at_comment, at_mark, same_piece}
 use Rattle.lua_lexer.proofs.pieces.piece.Goals as goal

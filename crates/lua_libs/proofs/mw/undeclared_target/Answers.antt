@@ -1,5 +1,5 @@
 use Rattle.std.proofs.Common.{◌∙◌, ap}
-use Rattle.lua_meaning.specs.Messages.{undeclared_target}
+use Rattle.lua_basic.specs.LuaMeaningMessages.{undeclared_target}
 use Rattle.lua_libs.proofs.mw.undeclared_target.Goals as goal
 
 pub returns : goal.returns

@@ -1,5 +1,5 @@
 use Rattle.std.proofs.Common.{◌∙◌, ap}
-use Rattle.lua_meaning.specs.Messages.{undeclared_variable}
+use Rattle.lua_basic.specs.LuaMeaningMessages.{undeclared_variable}
 use Rattle.lua_libs.proofs.mw.undeclared_variable.Goals as goal
 
 pub returns : goal.returns

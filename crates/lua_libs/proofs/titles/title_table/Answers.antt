@@ -1,7 +1,7 @@
 use Rattle.std.proofs.Common.{refl, ap, ◌∙◌, codes}
-use Rattle.lua_heap.specs.Heap.{set_in}
-use Rattle.lua_heap.specs.Value.{Text}
-use Rattle.lua_store.specs.Seen.{StoreView}
+use Rattle.lua_graph.specs.LuaHeapHeap.{set_in}
+use Rattle.lua_basic.specs.LuaHeapValue.{Text}
+use Rattle.lua_graph.specs.LuaStoreSeen.{StoreView}
 use Rattle.lua_libs.proofs.NewTables.{three-set}
 use Rattle.lua_libs.proofs.titles.title_table.Goals as goal
 

@@ -1,8 +1,8 @@
 use Rattle.std.proofs.Common.{refl}
 use Rattle.lua_code.specs.Seen.{block_seen, proto_seen}
-use Rattle.lua_slots.specs.Points.{BodyEnd}
-use Rattle.lua_stack.specs.declared.frame.Ending.TheVariants as ending
-use Rattle.lua_stack.specs.Levels.{levels_from}
+use Rattle.lua_state.specs.LuaSlotsPoints.{BodyEnd}
+use Rattle.lua_state.specs.LuaStackDeclaredFrameEndingTheVariants as ending
+use Rattle.lua_state.specs.LuaStackLevels.{levels_from}
 use Rattle.lua_loops.proofs.Beginning.{begun}
 use Rattle.lua_loops.proofs.Entering.{functions_of, body_slots}
 use Rattle.lua_loops.proofs.bodies.begin_body.Goals as goal

@@ -1,9 +1,9 @@
 use Rattle.std.proofs.lemmas.Result.{IfOk-weaker}
 use Rattle.std.proofs.Common.{◌∙◌, sym, ap, refl, Option}
-use Rattle.lua_slots.specs.Code.{CProto}
-use Rattle.lua_slots.specs.Calls.{body_of}
-use Rattle.lua_slots.specs.Points.{Point, Now}
-use Rattle.lua_stack.specs.Seen.{callee_seen, values_seen}
+use Rattle.lua_code.specs.LuaSlotsCode.{CProto}
+use Rattle.lua_state.specs.LuaSlotsCalls.{body_of}
+use Rattle.lua_state.specs.LuaSlotsPoints.{Point, Now}
+use Rattle.lua_state.specs.LuaStackSeen.{callee_seen, values_seen}
 use Rattle.lua_state.specs.Seen.{slots_of, frames_of}
 use Rattle.lua_state.proofs.Making.{counts_none}
 use Rattle.lua_loops.proofs.Entering.{with_codes, with_codes_of, found}

@@ -2,9 +2,9 @@ use Rattle.std.proofs.lemmas.Result.{IfOk-weaker}
 use Rattle.std.proofs.Common.{subst}
 use Rattle.std.specs.Prelude.{◌∷◌}
 use Rattle.lua_code.specs.Seen.{block_seen, proto_seen}
-use Rattle.lua_slots.specs.Calls.{slots_in_body}
-use Rattle.lua_slots.specs.Points.{BodyEnd, Runs, Now}
-use Rattle.lua_stack.specs.Seen.{callee_seen, values_seen}
+use Rattle.lua_state.specs.LuaSlotsCalls.{slots_in_body}
+use Rattle.lua_state.specs.LuaSlotsPoints.{BodyEnd, Runs, Now}
+use Rattle.lua_state.specs.LuaStackSeen.{callee_seen, values_seen}
 use Rattle.lua_state.specs.Charges.{EntersCall}
 use Rattle.lua_loops.proofs.Entering.{called_of, enters, no_call}
 use Rattle.lua_loops.proofs.bodies.enter_found.Goals as goal

@@ -1,5 +1,5 @@
 use Rattle.std.proofs.Common.{subst}
-use Rattle.lua_stack.specs.Of.{GivenOf}
+use Rattle.lua_state.specs.LuaStackOf.{GivenOf}
 use Rattle.lua_loops.proofs.Parts.{taken_of}
 use Rattle.lua_loops.proofs.bounds.first_three.Goals as goal
 

@@ -1,6 +1,6 @@
 use Rattle.std.proofs.Common.{ap}
-use Rattle.lua_slots.specs.Points.{Point, Now}
-use Rattle.lua_slots.specs.Slots.{cut}
+use Rattle.lua_state.specs.LuaSlotsPoints.{Point, Now}
+use Rattle.lua_state.specs.LuaSlotsSlots.{cut}
 use Rattle.lua_state.specs.Seen.{slots_of, frames_of}
 use Rattle.lua_loops.proofs.Parts.{same_move}
 use Rattle.lua_loops.proofs.endings.end_block.Goals as goal

@@ -1,6 +1,6 @@
 use Rattle.std.proofs.lemmas.Result.{IfOk-weaker}
 use Rattle.lua_code.specs.Seen.{block_seen}
-use Rattle.lua_slots.specs.Loops.{count_next}
+use Rattle.lua_code.specs.LuaSlotsLoops.{count_next}
 use Rattle.lua_state.specs.Seen.{frames_of}
 use Rattle.lua_loops.proofs.Left.{with_regs_of, after_cut}
 use Rattle.lua_loops.proofs.endings.end_count.Goals as goal

@@ -1,7 +1,7 @@
 use Rattle.std.proofs.lemmas.Result.{IfOk-weaker}
 use Rattle.lua_code.specs.Seen.{block_seen}
-use Rattle.lua_slots.specs.Loops.{each_from}
-use Rattle.lua_store.specs.Seen.{seen}
+use Rattle.lua_code.specs.LuaSlotsLoops.{each_from}
+use Rattle.lua_state.specs.LuaStoreSeen.{seen}
 use Rattle.lua_state.specs.Seen.{frames_of}
 use Rattle.lua_loops.proofs.Left.{with_regs_of, after_cut}
 use Rattle.lua_loops.proofs.endings.end_each.Goals as goal

@@ -1,7 +1,7 @@
 use Rattle.std.proofs.lemmas.Result.{IfOk-weaker}
 use Rattle.std.proofs.Common.{ap}
-use Rattle.lua_slots.specs.Points.{Point, Exits, Now}
-use Rattle.lua_slots.specs.Calls.{left_function}
+use Rattle.lua_state.specs.LuaSlotsPoints.{Point, Exits, Now}
+use Rattle.lua_state.specs.LuaSlotsCalls.{left_function}
 use Rattle.lua_state.specs.Seen.{slots_of, frames_of}
 use Rattle.lua_loops.proofs.Parts.{same_move}
 use Rattle.lua_loops.proofs.endings.end_function.Goals as goal

@@ -1,7 +1,7 @@
 use Rattle.std.proofs.lemmas.Result.{IfOk-weaker}
 use Rattle.lua_code.specs.Seen.{expression_seen, block_seen}
-use Rattle.lua_slots.specs.Loops.{repeat_next}
-use Rattle.lua_store.specs.Seen.{seen}
+use Rattle.lua_code.specs.LuaSlotsLoops.{repeat_next}
+use Rattle.lua_state.specs.LuaStoreSeen.{seen}
 use Rattle.lua_state.specs.Seen.{frames_of}
 use Rattle.lua_loops.proofs.Left.{with_regs_of, after_cut}
 use Rattle.lua_loops.proofs.endings.end_repeat.Goals as goal

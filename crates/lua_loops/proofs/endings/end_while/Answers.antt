@@ -1,7 +1,7 @@
 use Rattle.std.proofs.lemmas.Result.{IfOk-weaker}
 use Rattle.std.specs.Prelude.{◌∷◌}
 use Rattle.lua_code.specs.Seen.{expression_seen, block_seen}
-use Rattle.lua_slots.specs.Points.{WhileTest, Evals, Now}
+use Rattle.lua_state.specs.LuaSlotsPoints.{WhileTest, Evals, Now}
 use Rattle.lua_state.specs.Seen.{frames_of}
 use Rattle.lua_loops.proofs.Left.{with_regs_of, after_cut}
 use Rattle.lua_loops.proofs.endings.end_while.Goals as goal

@@ -1,11 +1,11 @@
 use Rattle.std.proofs.lemmas.Result.{IfOk-weaker}
 use Rattle.std.proofs.Common.{◌∙◌, ap}
-use Rattle.lua_heap.specs.Value.{Value as Plain}
+use Rattle.lua_code.specs.LuaHeapValue.{Value as Plain}
 use Rattle.lua_code.specs.Seen.{block_seen}
-use Rattle.lua_meaning.specs.Values as plain
-use Rattle.lua_slots.specs.Loops.{each_from}
-use Rattle.lua_store.specs.Seen.{seen}
-use Rattle.lua_stack.specs.Seen.{given_seen}
+use Rattle.lua_code.specs.LuaMeaningValues as plain
+use Rattle.lua_code.specs.LuaSlotsLoops.{each_from}
+use Rattle.lua_state.specs.LuaStoreSeen.{seen}
+use Rattle.lua_state.specs.LuaStackSeen.{given_seen}
 use Rattle.lua_state.specs.Seen.{slots_of, frames_of}
 use Rattle.lua_loops.proofs.Parts.{same_move}
 use Rattle.lua_loops.proofs.giving.begin_each.Goals as goal

@@ -1,5 +1,5 @@
-use Rattle.lua_stack.specs.Lists.{given_values}
-use Rattle.lua_stack.proofs.Openings.{first_of}
+use Rattle.lua_state.specs.LuaStackLists.{given_values}
+use Rattle.lua_state.proofs.LuaStackOpenings.{first_of}
 use Rattle.lua_loops.proofs.Worlds.{for_each}
 use Rattle.lua_loops.proofs.giving.give_loop.Goals as goal
 

@@ -1,5 +1,5 @@
-use Rattle.lua_slots.specs.Points.{Now}
-use Rattle.lua_stack.specs.Seen.{focus_seen}
+use Rattle.lua_state.specs.LuaSlotsPoints.{Now}
+use Rattle.lua_state.specs.LuaStackSeen.{focus_seen}
 use Rattle.lua_state.specs.Seen.{frames_of}
 use Rattle.lua_loops.proofs.Parts.{on}
 use Rattle.lua_loops.proofs.Left.{with_regs, with_regs_of, after_cut}

@@ -1,6 +1,6 @@
 use Rattle.std.proofs.lemmas.Result.{IfOk-weaker}
-use Rattle.lua_slots.specs.Points.{Exits, Now}
-use Rattle.lua_stack.specs.Seen.{focus_seen}
+use Rattle.lua_state.specs.LuaSlotsPoints.{Exits, Now}
+use Rattle.lua_state.specs.LuaStackSeen.{focus_seen}
 use Rattle.lua_state.specs.Seen.{frames_of}
 use Rattle.lua_loops.proofs.Left.{without_newest_of, after_function}
 use Rattle.lua_loops.proofs.leaving.leave_body_for.Goals as goal

@@ -1,6 +1,6 @@
 use Rattle.std.proofs.Common.{◌∙◌, ap, ℕ}
-use Rattle.lua_slots.specs.Slots.{cut_to}
-use Rattle.lua_stack.specs.Seen.{registers_seen}
+use Rattle.lua_state.specs.LuaSlotsSlots.{cut_to}
+use Rattle.lua_state.specs.LuaStackSeen.{registers_seen}
 use Rattle.lua_loops.proofs.leaving.leave_function.Goals as goal
 
 pub returns-clause-cuts : goal.returns-clause-cuts

@@ -1,7 +1,7 @@
 use Rattle.std.proofs.lemmas.Result.{IfOk-weaker}
 use Rattle.std.proofs.Common.{sym, ap}
-use Rattle.lua_slots.specs.Points.{Exits}
-use Rattle.lua_slots.specs.Calls.{left_function}
+use Rattle.lua_state.specs.LuaSlotsPoints.{Exits}
+use Rattle.lua_state.specs.LuaSlotsCalls.{left_function}
 use Rattle.lua_state.specs.Seen.{slots_of, frames_of}
 use Rattle.lua_loops.proofs.Parts.{same_move}
 use Rattle.lua_loops.proofs.passing.pass_body.Goals as goal

@@ -1,5 +1,5 @@
 use Rattle.std.proofs.Common.{sym}
-use Rattle.lua_slots.specs.Slots.{cut}
+use Rattle.lua_state.specs.LuaSlotsSlots.{cut}
 use Rattle.lua_state.specs.Seen.{slots_of, frames_of}
 use Rattle.lua_loops.proofs.Parts.{same_move}
 use Rattle.lua_loops.proofs.passing.pass_turn.Goals as goal

@@ -2,8 +2,8 @@ use Rattle.std.proofs.Common.{rules, w64, to_z, of_z}
 use Rattle.std.proofs.lemmas.Int.{to_z-of_z}
 use mir.Val.{SFits}
 use Rattle.lua_code.specs.Seen.{block_seen}
-use Rattle.lua_stack.specs.declared.frame.Ending.TheVariants as ending
-use Rattle.lua_stack.specs.Seen.{registers_seen}
+use Rattle.lua_state.specs.LuaStackDeclaredFrameEndingTheVariants as ending
+use Rattle.lua_state.specs.LuaStackSeen.{registers_seen}
 use Rattle.lua_loops.proofs.Parts.{counted, counts_at_end}
 use Rattle.lua_loops.proofs.Beginning.{begun, opened_slots, opened_number, functions_stay}
 use Rattle.lua_loops.proofs.turns.count_turn.Goals as goal

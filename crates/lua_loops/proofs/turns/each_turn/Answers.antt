@@ -1,15 +1,15 @@
 use Rattle.std.proofs.Common.{◌∙◌, sym, ap, subst, ℕ, List, length}
-use Rattle.lua_heap.specs.Value.{Value as Plain}
+use Rattle.lua_code.specs.LuaHeapValue.{Value as Plain}
 use Rattle.lua_code.specs.Seen.{block_seen}
-use Rattle.lua_slots.specs.Points as point
-use Rattle.lua_slots.specs.Slots.{with_all}
-use Rattle.lua_store.specs.Seen.{seen}
-use Rattle.lua_store.proofs.Later.{of-later}
-use Rattle.lua_stack.specs.declared.frame.Ending.TheVariants as ending
-use Rattle.lua_stack.specs.Lists.{given_values}
-use Rattle.lua_stack.specs.Of.{ValuesOf}
-use Rattle.lua_stack.specs.Seen.{values_seen, registers_seen, ending_seen}
-use Rattle.lua_stack.proofs.Openings.{first_of}
+use Rattle.lua_state.specs.LuaSlotsPoints as point
+use Rattle.lua_state.specs.LuaSlotsSlots.{with_all}
+use Rattle.lua_state.specs.LuaStoreSeen.{seen}
+use Rattle.lua_state.proofs.LuaStoreLater.{of-later}
+use Rattle.lua_state.specs.LuaStackDeclaredFrameEndingTheVariants as ending
+use Rattle.lua_state.specs.LuaStackLists.{given_values}
+use Rattle.lua_state.specs.LuaStackOf.{ValuesOf}
+use Rattle.lua_state.specs.LuaStackSeen.{values_seen, registers_seen, ending_seen}
+use Rattle.lua_state.proofs.LuaStackOpenings.{first_of}
 use Rattle.lua_loops.proofs.Parts.{counted, seen_first}
 use Rattle.lua_loops.proofs.Beginning.{begun, opened_slots, functions_stay}
 use Rattle.lua_loops.proofs.turns.each_turn.Goals as goal

@@ -1,8 +1,8 @@
 use Rattle.std.proofs.Common.{refl, ap, ℕ}
 use Rattle.lua_code.specs.Seen.{expression_seen, block_seen}
-use Rattle.lua_slots.specs.Points as point
-use Rattle.lua_store.proofs.Later.{later-itself}
-use Rattle.lua_stack.specs.declared.frame.Ending.TheVariants as ending
+use Rattle.lua_state.specs.LuaSlotsPoints as point
+use Rattle.lua_state.proofs.LuaStoreLater.{later-itself}
+use Rattle.lua_state.specs.LuaStackDeclaredFrameEndingTheVariants as ending
 use Rattle.lua_state.specs.Seen.{slots_of}
 use Rattle.lua_loops.proofs.Parts.{counted}
 use Rattle.lua_loops.proofs.Beginning.{begun}

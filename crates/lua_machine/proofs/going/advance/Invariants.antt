@@ -1,5 +1,5 @@
 use Rattle.std.proofs.Common.{◌≡◌}
-use Rattle.lua_goes.specs.Weight.{weight}
+use Rattle.lua_home_laws.specs.LuaGoesWeight.{weight}
 use Rattle.lua_machine.specs.Moved.{point_of}
 use Rattle.lua_machine.specs.Going.{LeadsTo}
 use Rattle.lua_machine.proofs.going.advance.Given as goal

@@ -1,5 +1,5 @@
 use Rattle.std.proofs.lemmas.Result.{IfOk-weaker}
-use Rattle.lua_strides.specs.Next.{focus_of}
+use Rattle.lua_rows.specs.LuaStridesNext.{focus_of}
 use Rattle.lua_machine.proofs.Loops.{row_behind}
 use Rattle.lua_machine.proofs.going.go_behind.Goals as goal
 

@@ -1,7 +1,7 @@
 use Rattle.std.proofs.lemmas.Result.{IfOk-weaker}
 use Rattle.std.proofs.Common.{ap, arith}
-use Rattle.wk_base.specs.declared.left.Left.{Left}
-use Rattle.lua_state.specs.declared.state.State.{State}
+use Rattle.page_run.specs.WkBaseDeclaredLeftLeft.{Left}
+use Rattle.lua_rows.specs.LuaStateDeclaredStateState.{State}
 use Rattle.lua_machine.proofs.Loops.{row_goes}
 use Rattle.lua_machine.proofs.going.go_on.Goals as goal
 

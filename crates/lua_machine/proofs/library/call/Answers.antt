@@ -1,8 +1,8 @@
 use Rattle.std.proofs.lemmas.Result.{IfOk-weaker}
 use Rattle.std.proofs.Common.{rules, ◌<◌, refl}
 use Rattle.lua_store.specs.declared.value.Value.TheVariants as own
-use Rattle.lua_stack.specs.declared.frame.Frame.TheVariants as frame
-use Rattle.lua_stack.specs.declared.frame.InExpression.TheVariants as in_expression
+use Rattle.lua_rows.specs.LuaStackDeclaredFrameFrameTheVariants as frame
+use Rattle.lua_rows.specs.LuaStackDeclaredFrameInExpressionTheVariants as in_expression
 use Rattle.lua_machine.proofs.Called.{called_of, library_called, library_spent}
 use Rattle.lua_machine.proofs.library.call.Goals as goal
 

@@ -1,10 +1,10 @@
 use Rattle.std.proofs.Common.{refl}
 use Rattle.page_run.specs.Outcome.{Goes}
-use Rattle.lua_stack.specs.declared.focus.Focus.TheVariants as focus
-use Rattle.lua_stack.specs.declared.frame.Ending.TheVariants as ending
-use Rattle.lua_stack.specs.declared.frame.Frame.TheVariants as frame
-use Rattle.lua_stack.specs.Seen.{given_seen}
-use Rattle.lua_turns.proofs.Freely.{left_library}
+use Rattle.lua_environment.specs.LuaStackDeclaredFocusFocusTheVariants as focus
+use Rattle.lua_rows.specs.LuaStackDeclaredFrameEndingTheVariants as ending
+use Rattle.lua_rows.specs.LuaStackDeclaredFrameFrameTheVariants as frame
+use Rattle.lua_blocks.specs.LuaStackSeen.{given_seen}
+use Rattle.lua_rows.proofs.LuaTurnsFreely.{left_library}
 use Rattle.lua_machine.proofs.Loops.{goes_behind}
 use Rattle.lua_machine.proofs.library.end_call.Goals as goal
 

@@ -1,5 +1,5 @@
 use Rattle.std.proofs.lemmas.Result.{IfOk-weaker}
-use Rattle.lua_stack.specs.declared.focus.Focus.TheVariants as focus
+use Rattle.lua_environment.specs.LuaStackDeclaredFocusFocusTheVariants as focus
 use Rattle.lua_machine.proofs.Loops.{move_goes}
 use Rattle.lua_machine.proofs.library.give.Goals as goal
 

@@ -1,9 +1,9 @@
 use Rattle.std.proofs.Common.{◌∙◌}
 use Rattle.lua_home_laws.proofs.Homes.{made_is_home, made_starts}
-use Rattle.lua_slots.specs.Code.{CWorld}
+use Rattle.lua_code.specs.LuaSlotsCode.{CWorld}
 use Rattle.lua_store.proofs.Later.{later-then}
-use Rattle.lua_stack.proofs.Stay.{environment_later}
-use Rattle.lua_state.specs.Worlds.{world_seen}
+use Rattle.lua_environment.proofs.LuaStackStay.{environment_later}
+use Rattle.lua_runs.specs.LuaStateWorlds.{world_seen}
 use Rattle.lua_machine.proofs.machine.fresh_state.Goals as goal
 
 pub returns-clause-of : goal.returns-clause-of

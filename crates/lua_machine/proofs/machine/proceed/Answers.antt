@@ -1,7 +1,7 @@
 use Rattle.std.proofs.Common.{refl, ◌∙◌, arith}
-use Rattle.lua_points.proofs.Clauses.{clauses_of_go}
-use Rattle.lua_state.specs.Seen.{slots_of}
-use Rattle.lua_state.specs.Worlds.{world_seen}
+use Rattle.lua_home_laws.proofs.LuaPointsClauses.{clauses_of_go}
+use Rattle.lua_blocks.specs.LuaStateSeen.{slots_of}
+use Rattle.lua_runs.specs.LuaStateWorlds.{world_seen}
 use Rattle.lua_machine.specs.Moved.{point_of}
 use Rattle.lua_machine.specs.Events.{stop_seen, funds_after}
 use Rattle.lua_machine.proofs.Events.{comes, paid_for, takes_its_own, calls_back, settled_of, settled_world, calls_at}

@@ -1,7 +1,7 @@
 use Rattle.std.proofs.lemmas.Result.{IfOk-weaker}
 use Rattle.std.proofs.Common.{rules, refl, sym}
 use Rattle.lua_code.specs.Seen.{expression_seen}
-use Rattle.lua_state.specs.Seen.{slots_of, frames_of, constants_in}
+use Rattle.lua_blocks.specs.LuaStateSeen.{slots_of, frames_of, constants_in}
 use Rattle.lua_store.proofs.Later.{later-itself}
 use Rattle.lua_machine.proofs.Moves.{as_move, begins_with_node, step_paid, mark_counted}
 use Rattle.lua_machine.proofs.moving.begin_expression.Goals as goal

@@ -1,7 +1,7 @@
 use Rattle.std.proofs.lemmas.Result.{IfOk-weaker}
-use Rattle.lua_stack.specs.declared.focus.Focus.TheVariants as focus
-use Rattle.lua_state.specs.Seen.{slots_of}
-use Rattle.lua_state.specs.Worlds.{world_seen}
+use Rattle.lua_environment.specs.LuaStackDeclaredFocusFocusTheVariants as focus
+use Rattle.lua_blocks.specs.LuaStateSeen.{slots_of}
+use Rattle.lua_runs.specs.LuaStateWorlds.{world_seen}
 use Rattle.lua_machine.proofs.Moves.{values_given, at_end, end_stays}
 use Rattle.lua_machine.proofs.moving.give.Goals as goal
 

@@ -1,7 +1,7 @@
 use Rattle.std.proofs.lemmas.Result.{IfOk-weaker}
 use Rattle.std.proofs.Common.{refl}
-use Rattle.lua_stack.specs.declared.focus.Focus.TheVariants as focus
-use Rattle.lua_state.proofs.Making.{counts_late, late_counts_none}
+use Rattle.lua_environment.specs.LuaStackDeclaredFocusFocusTheVariants as focus
+use Rattle.lua_blocks.proofs.LuaStateMaking.{counts_late, late_counts_none}
 use Rattle.lua_machine.proofs.Moves.{counted_late, stays}
 use Rattle.lua_machine.proofs.moving.turn.Goals as goal
 

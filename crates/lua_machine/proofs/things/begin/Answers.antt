@@ -1,6 +1,6 @@
 use Rattle.std.proofs.lemmas.Result.{IfOk-weaker}
 use Rattle.std.proofs.Common.{◌≡◌, rules, w64, to_z, of_z}
-use Rattle.lua_state.proofs.Making.{counts_late}
+use Rattle.lua_blocks.proofs.LuaStateMaking.{counts_late}
 use Rattle.lua_machine.proofs.Moves.{counted_late}
 use Rattle.lua_machine.proofs.things.begin.Goals as goal
 

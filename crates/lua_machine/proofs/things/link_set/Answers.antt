@@ -1,7 +1,7 @@
 use Rattle.std.proofs.Common.{refl, ◌∙◌}
-use Rattle.lua_state.specs.Seen.{slots_of, frames_of, funds_of}
-use Rattle.lua_state.proofs.Staying.{state_later}
-use Rattle.lua_state.proofs.Making.{from_paid, seen_later}
+use Rattle.lua_blocks.specs.LuaStateSeen.{slots_of, frames_of, funds_of}
+use Rattle.lua_blocks.proofs.LuaStateStaying.{state_later}
+use Rattle.lua_blocks.proofs.LuaStateMaking.{from_paid, seen_later}
 use Rattle.lua_machine.proofs.Moves.{unless_on}
 use Rattle.lua_machine.proofs.things.link_set.Goals as goal
 

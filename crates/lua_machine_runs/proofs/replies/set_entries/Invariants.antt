@@ -1,4 +1,4 @@
-use Rattle.lua_store.specs.Parts.{IsTableOf, IsLater}
+use Rattle.lua_machine.specs.LuaStoreParts.{IsTableOf, IsLater}
 use Rattle.lua_machine_runs.proofs.replies.set_entries.Given as goal
 
 -- the table is there, and the store is a later one

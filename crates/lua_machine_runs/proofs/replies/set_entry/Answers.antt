@@ -1,4 +1,4 @@
-use Rattle.lua_store.proofs.Later.{later-then}
+use Rattle.lua_resolve.proofs.LuaStoreLater.{later-then}
 use Rattle.lua_machine_runs.proofs.replies.set_entry.Goals as goal
 
 -- a key, a value, and the entry: three steps, one after another

@@ -1,5 +1,5 @@
 use Rattle.std.proofs.Common.{◌≡◌, ap, arith}
-use Rattle.lua_state.specs.declared.state.State.{State}
+use Rattle.lua_machine.specs.LuaStateDeclaredStateState.{State}
 use Rattle.lua_machine_runs.proofs.runs.reply_to.Goals as goal
 
 pub returns-clause-calls : goal.returns-clause-calls

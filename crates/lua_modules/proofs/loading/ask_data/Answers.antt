@@ -1,7 +1,7 @@
 use Rattle.std.proofs.Common.{◌∷◌}
 use Rattle.mw_frame.specs.declared.question.Ask.TheVariants as ask
-use Rattle.lua_meaning.specs.Questions.{DataAsked}
-use Rattle.lua_slots.specs.Points.{Now, Asking, Hears}
+use Rattle.lua_code.specs.LuaMeaningQuestions.{DataAsked}
+use Rattle.lua_state.specs.LuaSlotsPoints.{Now, Asking, Hears}
 use Rattle.lua_state.proofs.Staying.{state_later}
 use Rattle.lua_modules.proofs.Parts.{named}
 use Rattle.lua_modules.proofs.loading.ask_data.Goals as goal

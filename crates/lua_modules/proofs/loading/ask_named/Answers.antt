@@ -1,8 +1,8 @@
 use Rattle.std.proofs.Common.{◌∙◌, ap, sym, List}
 use Rattle.mw_frame.specs.declared.question.Ask.{Ask}
 use Rattle.mw_frame.specs.declared.question.Ask.TheVariants as ask
-use Rattle.lua_slots.specs.Points.{SFrame, Now, Asking}
-use Rattle.lua_stack.specs.declared.focus.Focus.TheVariants as focus
+use Rattle.lua_state.specs.LuaSlotsPoints.{SFrame, Now, Asking}
+use Rattle.lua_state.specs.LuaStackDeclaredFocusFocusTheVariants as focus
 use Rattle.lua_state.specs.declared.state.State.{State}
 use Rattle.lua_state.specs.Seen.{slots_of, frames_of}
 use Rattle.lua_modules.proofs.Parts.{on_with}

@@ -1,13 +1,13 @@
 use Rattle.std.proofs.Common.{◌∙◌, ap, sym, subst}
-use Rattle.lua_slots.specs.Points.{Move}
-use Rattle.lua_store.specs.Seen.{text_at}
-use Rattle.lua_stack.specs.Lists.{given_values}
+use Rattle.lua_state.specs.LuaSlotsPoints.{Move}
+use Rattle.lua_state.specs.LuaStoreSeen.{text_at}
+use Rattle.lua_state.specs.LuaStackLists.{given_values}
 use Rattle.lua_state.specs.Makes.{Makes}
 use Rattle.lua_state.specs.Of.{OutcomeOf}
 use Rattle.lua_state.specs.Seen.{slots_of, frames_of}
 use Rattle.lua_modules.specs.declared.loading.DataAnswer.{DataAnswer}
 use Rattle.lua_modules.specs.Answers.{data_move, DataAnswerOf}
-use Rattle.lua_modules.proofs.Given.{answer_of_values, answer_move}
+use Rattle.lua_modules.proofs.GivenModules.{answer_of_values, answer_move}
 use Rattle.lua_modules.proofs.loading.data_answer.Goals as goal
 
 pub data_given-requires-clause-answer : goal.data_given-requires-clause-answer

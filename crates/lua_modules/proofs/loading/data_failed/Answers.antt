@@ -1,11 +1,11 @@
 use Rattle.std.proofs.Common.{◌∙◌, sym, subst}
-use Rattle.lua_slots.specs.Points.{Move}
-use Rattle.lua_stack.specs.declared.focus.Focus.TheVariants as focus
-use Rattle.lua_stack.specs.declared.focus.Jump.TheVariants as jump
+use Rattle.lua_state.specs.LuaSlotsPoints.{Move}
+use Rattle.lua_state.specs.LuaStackDeclaredFocusFocusTheVariants as focus
+use Rattle.lua_state.specs.LuaStackDeclaredFocusJumpTheVariants as jump
 use Rattle.lua_state.specs.declared.turn.Turn.TheVariants as turn
 use Rattle.lua_state.specs.Makes.{Makes}
 use Rattle.lua_state.specs.Seen.{slots_of, frames_of}
-use Rattle.lua_modules.proofs.Given.{raised_of, raised_move, other_move}
+use Rattle.lua_modules.proofs.GivenModules.{raised_of, raised_move, other_move}
 use Rattle.lua_modules.proofs.Parts.{on}
 use Rattle.lua_modules.proofs.loading.data_failed.Goals as goal
 

@@ -1,6 +1,6 @@
 use Rattle.std.proofs.Common.{subst}
-use Rattle.lua_meaning.specs.Messages.{no_data_module}
-use Rattle.lua_slots.specs.Errors.{fails_quoting}
+use Rattle.lua_state.specs.LuaMeaningMessages.{no_data_module}
+use Rattle.lua_state.specs.LuaSlotsErrors.{fails_quoting}
 use Rattle.lua_state.specs.Makes.{Makes}
 use Rattle.lua_state.specs.Seen.{slots_of, frames_of}
 use Rattle.lua_modules.specs.Answers.{DataAnswerOf}

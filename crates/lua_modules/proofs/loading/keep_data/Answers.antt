@@ -1,10 +1,10 @@
 use Rattle.std.proofs.Common.{refl, ap, sym, [], ◌∷◌}
-use Rattle.lua_heap.specs.Value.{Table}
-use Rattle.lua_slots.specs.Errors.{gives}
-use Rattle.lua_slots.specs.Slots.{Slots}
-use Rattle.lua_store.specs.declared.value.Value.TheVariants as own
-use Rattle.lua_stack.specs.declared.focus.Focus.TheVariants as focus
-use Rattle.lua_stack.specs.declared.values.Given.TheVariants as given
+use Rattle.lua_code.specs.LuaHeapValue.{Table}
+use Rattle.lua_state.specs.LuaSlotsErrors.{gives}
+use Rattle.lua_state.specs.LuaSlotsSlots.{Slots}
+use Rattle.lua_state.specs.LuaStoreDeclaredValueValueTheVariants as own
+use Rattle.lua_state.specs.LuaStackDeclaredFocusFocusTheVariants as focus
+use Rattle.lua_state.specs.LuaStackDeclaredValuesGivenTheVariants as given
 use Rattle.lua_state.specs.Seen.{frames_of}
 use Rattle.lua_modules.proofs.Kept.{with_loaded, data_put_of, data_put}
 use Rattle.lua_modules.proofs.Parts.{on_with}

@@ -1,6 +1,6 @@
 use Rattle.std.proofs.Common.{◌∙◌, ap, sym}
 use Rattle.lua_modules.specs.Answers.{one_answer_in}
-use Rattle.lua_modules.proofs.Given.{nothing, single, several}
+use Rattle.lua_modules.proofs.GivenModules.{nothing, single, several}
 use Rattle.lua_modules.proofs.loading.list_answer.Goals as goal
 
 pub returns-then-count-eq0 : goal.returns-then-count-eq0

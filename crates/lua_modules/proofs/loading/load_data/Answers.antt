@@ -1,19 +1,19 @@
 use Rattle.std.proofs.Common.{◌∙◌, ap, subst, sym, codes, Option, option_map, List}
-use Rattle.lua_meaning.specs.Arguments.{Argument, some_text}
-use Rattle.lua_meaning.specs.Messages.{bad_argument, expected}
-use Rattle.lua_meaning.specs.Scope.{Bytes}
-use Rattle.lua_basic.specs.declared.texts.TextIn.{TextIn}
-use Rattle.lua_basic.specs.Arguments.{text_bytes}
-use Rattle.lua_slots.specs.Errors.{fails, with_argument}
-use Rattle.wk_base.specs.declared.title.Namespace.TheVariants.{Main}
-use Rattle.wk_base.specs.Titles.{title_of}
-use Rattle.lua_slots.specs.Modules.{load_titled}
-use Rattle.lua_store.specs.declared.value.Value.{Value}
-use Rattle.lua_stack.specs.Seen.{values_seen}
-use Rattle.lua_stack.proofs.Openings.{first_of}
+use Rattle.lua_code.specs.LuaMeaningArguments.{Argument, some_text}
+use Rattle.lua_state.specs.LuaMeaningMessages.{bad_argument, expected}
+use Rattle.lua_code.specs.LuaMeaningScope.{Bytes}
+use Rattle.lua_state.specs.LuaBasicDeclaredTextsTextIn.{TextIn}
+use Rattle.lua_state.specs.LuaBasicArguments.{text_bytes}
+use Rattle.lua_state.specs.LuaSlotsErrors.{fails, with_argument}
+use Rattle.lua_code.specs.WkBaseDeclaredTitleNamespaceTheVariants.{Main}
+use Rattle.lua_code.specs.WkBaseTitles.{title_of}
+use Rattle.lua_code.specs.LuaSlotsModules.{load_titled}
+use Rattle.lua_state.specs.LuaStoreDeclaredValueValue.{Value}
+use Rattle.lua_state.specs.LuaStackSeen.{values_seen}
+use Rattle.lua_state.proofs.LuaStackOpenings.{first_of}
 use Rattle.lua_state.specs.Makes.{Makes}
 use Rattle.lua_state.specs.Seen.{slots_of, frames_of}
-use Rattle.lua_modules.proofs.Given.{argued}
+use Rattle.lua_modules.proofs.GivenModules.{argued}
 use Rattle.lua_modules.proofs.loading.load_data.Goals as goal
 
 pub text_in-requires : goal.text_in-requires

@@ -1,11 +1,11 @@
 use Rattle.std.proofs.Common.{◌∙◌, ap, sym, subst, ◌∷◌, List}
-use Rattle.wk_base.specs.declared.title.Title.{Title}
-use Rattle.lua_meaning.specs.Questions.{DataAsked}
-use Rattle.lua_slots.specs.Points.{Hears}
-use Rattle.lua_store.specs.Seen.{text_at}
-use Rattle.lua_stack.specs.declared.frame.Frame.{Frame}
-use Rattle.lua_stack.specs.Of.{FramesOf}
-use Rattle.lua_stack.specs.Seen.{frames_seen}
+use Rattle.lua_code.specs.WkBaseDeclaredTitleTitle.{Title}
+use Rattle.lua_code.specs.LuaMeaningQuestions.{DataAsked}
+use Rattle.lua_state.specs.LuaSlotsPoints.{Hears}
+use Rattle.lua_state.specs.LuaStoreSeen.{text_at}
+use Rattle.lua_state.specs.LuaStackDeclaredFrameFrame.{Frame}
+use Rattle.lua_state.specs.LuaStackOf.{FramesOf}
+use Rattle.lua_state.specs.LuaStackSeen.{frames_seen}
 use Rattle.lua_state.specs.Seen.{frames_of}
 use Rattle.lua_modules.proofs.Parts.{with_frames_of}
 use Rattle.lua_modules.proofs.loading.wait_for.Goals as goal

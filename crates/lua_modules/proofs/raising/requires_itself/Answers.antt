@@ -1,5 +1,5 @@
 use Rattle.std.proofs.Common.{◌∙◌, subst}
-use Rattle.lua_slots.specs.Errors.{fails_quoting}
+use Rattle.lua_state.specs.LuaSlotsErrors.{fails_quoting}
 use Rattle.lua_state.specs.Seen.{slots_of, frames_of}
 use Rattle.lua_state.specs.Makes.{Makes}
 use Rattle.lua_modules.proofs.raising.requires_itself.Goals as goal

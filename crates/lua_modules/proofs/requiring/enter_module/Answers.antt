@@ -1,12 +1,12 @@
 use Rattle.std.proofs.Common.{◌∙◌, ap, sym, subst, ◌∷◌, List}
-use Rattle.wk_base.specs.declared.title.Title.{Title}
-use Rattle.lua_meaning.specs.Acts.{Running}
-use Rattle.lua_meaning.specs.Pending.{ModuleWaits}
-use Rattle.lua_slots.specs.Modules.{with_module}
-use Rattle.lua_slots.specs.Points.{Waits}
-use Rattle.lua_stack.specs.declared.frame.Frame.{Frame}
-use Rattle.lua_stack.specs.Seen.{frames_seen}
-use Rattle.lua_stack.specs.Of.{FramesOf}
+use Rattle.lua_code.specs.WkBaseDeclaredTitleTitle.{Title}
+use Rattle.lua_code.specs.LuaMeaningActs.{Running}
+use Rattle.lua_code.specs.LuaMeaningPending.{ModuleWaits}
+use Rattle.lua_code.specs.LuaSlotsModules.{with_module}
+use Rattle.lua_state.specs.LuaSlotsPoints.{Waits}
+use Rattle.lua_state.specs.LuaStackDeclaredFrameFrame.{Frame}
+use Rattle.lua_state.specs.LuaStackSeen.{frames_seen}
+use Rattle.lua_state.specs.LuaStackOf.{FramesOf}
 use Rattle.lua_state.specs.declared.state.State.{State}
 use Rattle.lua_state.specs.Seen.{slots_of, frames_of}
 use Rattle.lua_modules.proofs.Parts.{with_frames_of}

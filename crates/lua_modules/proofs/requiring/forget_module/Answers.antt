@@ -1,8 +1,8 @@
 use Rattle.std.proofs.Common.{refl, ap, sym}
-use Rattle.lua_slots.specs.Errors.{jumps}
-use Rattle.lua_slots.specs.Slots.{Slots}
-use Rattle.lua_stack.specs.declared.focus.Focus.TheVariants as focus
-use Rattle.lua_stack.specs.Seen.{jump_seen}
+use Rattle.lua_state.specs.LuaSlotsErrors.{jumps}
+use Rattle.lua_state.specs.LuaSlotsSlots.{Slots}
+use Rattle.lua_state.specs.LuaStackDeclaredFocusFocusTheVariants as focus
+use Rattle.lua_state.specs.LuaStackSeen.{jump_seen}
 use Rattle.lua_state.specs.Seen.{frames_of}
 use Rattle.lua_modules.proofs.Kept.{with_modules, module_out_of, module_out}
 use Rattle.lua_modules.proofs.Parts.{on_with}

@@ -1,11 +1,11 @@
 use Rattle.std.proofs.Common.{◌∙◌, ap, sym, [], ◌∷◌}
-use Rattle.lua_meaning.specs.Acts.{Finished}
-use Rattle.lua_slots.specs.Errors.{gives}
-use Rattle.lua_slots.specs.Modules.{with_module}
-use Rattle.lua_slots.specs.Slots.{Slots}
-use Rattle.lua_store.specs.Seen.{seen}
-use Rattle.lua_stack.specs.declared.focus.Focus.TheVariants as focus
-use Rattle.lua_stack.specs.declared.values.Given.TheVariants as given
+use Rattle.lua_code.specs.LuaMeaningActs.{Finished}
+use Rattle.lua_state.specs.LuaSlotsErrors.{gives}
+use Rattle.lua_code.specs.LuaSlotsModules.{with_module}
+use Rattle.lua_state.specs.LuaSlotsSlots.{Slots}
+use Rattle.lua_state.specs.LuaStoreSeen.{seen}
+use Rattle.lua_state.specs.LuaStackDeclaredFocusFocusTheVariants as focus
+use Rattle.lua_state.specs.LuaStackDeclaredValuesGivenTheVariants as given
 use Rattle.lua_state.specs.declared.state.State.{State}
 use Rattle.lua_state.specs.Seen.{slots_of, frames_of}
 use Rattle.lua_modules.proofs.Parts.{on_with}

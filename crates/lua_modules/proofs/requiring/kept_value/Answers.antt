@@ -1,6 +1,6 @@
 use Rattle.std.proofs.Common.{ap, Bool, true, if◌then◌else◌}
-use Rattle.lua_heap.specs.Value.{Truth}
-use Rattle.lua_store.specs.Seen.{seen}
+use Rattle.lua_code.specs.LuaHeapValue.{Truth}
+use Rattle.lua_state.specs.LuaStoreSeen.{seen}
 use Rattle.lua_modules.proofs.requiring.kept_value.Goals as goal
 
 pub returns-then-is_nil-clause-seen : goal.returns-then-is_nil-clause-seen

@@ -1,12 +1,12 @@
 use Rattle.std.proofs.Common.{◌∙◌, ap, subst, [], ◌∷◌}
-use Rattle.lua_heap.specs.Value.{Value}
-use Rattle.lua_meaning.specs.Acts.{Finished}
-use Rattle.lua_meaning.specs.Modules.{value_or_true}
-use Rattle.lua_slots.specs.Errors.{gives}
-use Rattle.lua_slots.specs.Modules.{with_module}
-use Rattle.lua_store.specs.Seen.{seen}
-use Rattle.lua_stack.specs.Lists.{given_values}
-use Rattle.lua_stack.proofs.Openings.{first_of, first_seen}
+use Rattle.lua_code.specs.LuaHeapValue.{Value}
+use Rattle.lua_code.specs.LuaMeaningActs.{Finished}
+use Rattle.lua_code.specs.LuaMeaningModules.{value_or_true}
+use Rattle.lua_state.specs.LuaSlotsErrors.{gives}
+use Rattle.lua_code.specs.LuaSlotsModules.{with_module}
+use Rattle.lua_state.specs.LuaStoreSeen.{seen}
+use Rattle.lua_state.specs.LuaStackLists.{given_values}
+use Rattle.lua_state.proofs.LuaStackOpenings.{first_of, first_seen}
 use Rattle.lua_state.specs.Makes.{Makes}
 use Rattle.lua_state.specs.Of.{OutcomeOf}
 use Rattle.lua_state.specs.Seen.{slots_of, frames_of}

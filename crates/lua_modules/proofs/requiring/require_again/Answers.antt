@@ -1,6 +1,6 @@
 use Rattle.std.proofs.Common.{subst}
-use Rattle.lua_stack.specs.declared.focus.Focus.TheVariants as focus
-use Rattle.lua_stack.specs.declared.values.Given.TheVariants as given
+use Rattle.lua_state.specs.LuaStackDeclaredFocusFocusTheVariants as focus
+use Rattle.lua_state.specs.LuaStackDeclaredValuesGivenTheVariants as given
 use Rattle.lua_state.specs.Of.{ProgressOf}
 use Rattle.lua_modules.proofs.Parts.{on}
 use Rattle.lua_modules.proofs.requiring.require_again.Goals as goal

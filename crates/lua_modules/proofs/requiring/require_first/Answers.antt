@@ -1,7 +1,7 @@
 use Rattle.std.proofs.Common.{◌∙◌, ap, subst, None, Option}
 use Rattle.lua_code.specs.Held.{modules_seen}
-use Rattle.lua_slots.specs.Code.{CModule}
-use Rattle.lua_slots.specs.Modules.{require_as}
+use Rattle.lua_code.specs.LuaSlotsCode.{CModule}
+use Rattle.lua_code.specs.LuaSlotsModules.{require_as}
 use Rattle.lua_state.specs.Makes.{Makes}
 use Rattle.lua_state.specs.Seen.{slots_of, frames_of}
 use Rattle.lua_modules.proofs.requiring.require_first.Goals as goal

@@ -1,5 +1,5 @@
 use Rattle.std.proofs.Common.{Some, None}
-use Rattle.wk_base.specs.Titles.{title_text}
+use Rattle.lua_code.specs.WkBaseTitles.{title_text}
 use Rattle.lua_state.specs.Of.{ProgressOf}
 use Rattle.lua_state.specs.Worlds.{world_seen}
 use Rattle.lua_modules.proofs.Held.{item_all}

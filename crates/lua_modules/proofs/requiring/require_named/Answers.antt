@@ -1,11 +1,11 @@
 use Rattle.std.proofs.Common.{subst, Result}
-use Rattle.wk_base.specs.declared.title.Title.{Title}
-use Rattle.wk_base.specs.declared.title_read.TitleFault.{TitleFault}
-use Rattle.lua_slots.specs.Modules.{require_titled}
+use Rattle.lua_code.specs.WkBaseDeclaredTitleTitle.{Title}
+use Rattle.page_run.specs.WkBaseDeclaredTitleReadTitleFault.{TitleFault}
+use Rattle.lua_code.specs.LuaSlotsModules.{require_titled}
 use Rattle.lua_state.specs.Makes.{Makes}
 use Rattle.lua_state.specs.Seen.{slots_of, frames_of}
 use Rattle.lua_state.specs.Worlds.{world_seen}
-use Rattle.lua_modules.proofs.Given.{read_title, read_none}
+use Rattle.lua_modules.proofs.GivenModules.{read_title, read_none}
 use Rattle.lua_modules.proofs.requiring.require_named.Goals as goal
 
 pub returns-in_ok-turn-in-Some : goal.returns-in_ok-turn-in-Some

@@ -1,10 +1,10 @@
 use Rattle.std.specs.Prelude.{[], ◌∷◌, true, bytes_eq, codes}
-use Rattle.wk_base.specs.declared.title.Namespace.TheVariants.{Main}
-use Rattle.wk_base.specs.Titles.{title_of}
-use Rattle.lua_heap.specs.Value.{Truth}
-use Rattle.lua_slots.specs.Errors.{gives}
-use Rattle.lua_slots.specs.Modules.{with_strict, require_titled}
-use Rattle.lua_slots.specs.Points.{Costs}
+use Rattle.lua_code.specs.WkBaseDeclaredTitleNamespaceTheVariants.{Main}
+use Rattle.lua_code.specs.WkBaseTitles.{title_of}
+use Rattle.lua_code.specs.LuaHeapValue.{Truth}
+use Rattle.lua_state.specs.LuaSlotsErrors.{gives}
+use Rattle.lua_code.specs.LuaSlotsModules.{with_strict, require_titled}
+use Rattle.lua_state.specs.LuaSlotsPoints.{Costs}
 use Rattle.lua_state.specs.Seen.{slots_of, frames_of}
 use Rattle.lua_state.specs.Worlds.{world_seen}
 use Rattle.lua_modules.proofs.Parts.{chosen, other}

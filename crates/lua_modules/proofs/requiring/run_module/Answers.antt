@@ -1,6 +1,6 @@
 use Rattle.std.proofs.Common.{ap}
 use Rattle.lua_code.specs.Held.{module_seen}
-use Rattle.lua_slots.specs.Modules.{runs_text}
+use Rattle.lua_code.specs.LuaSlotsModules.{runs_text}
 use Rattle.lua_state.specs.declared.state.State.{State}
 use Rattle.lua_modules.proofs.Parts.{from_changed}
 use Rattle.lua_modules.proofs.requiring.run_module.Goals as goal

@@ -1,9 +1,9 @@
 use Rattle.std.proofs.Common.{◌∙◌}
 use Rattle.std.specs.Prelude.{None, []}
-use Rattle.lua_slots.specs.Calls.{text_of_module}
-use Rattle.lua_slots.specs.Points.{Now, Starts, BodyS}
+use Rattle.lua_state.specs.LuaSlotsCalls.{text_of_module}
+use Rattle.lua_state.specs.LuaSlotsPoints.{Now, Starts, BodyS}
 use Rattle.lua_modules.proofs.Parts.{named}
-use Rattle.lua_modules.proofs.Given.{text_begins}
+use Rattle.lua_modules.proofs.GivenModules.{text_begins}
 use Rattle.lua_modules.proofs.running.begin_text.Goals as goal
 
 pub returns : goal.returns

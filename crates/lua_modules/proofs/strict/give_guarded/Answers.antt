@@ -1,7 +1,7 @@
 use Rattle.std.proofs.Common.{true}
-use Rattle.lua_stack.specs.declared.focus.Focus.TheVariants as focus
-use Rattle.lua_stack.specs.declared.values.Given.TheVariants as given
-use Rattle.lua_store.specs.declared.value.Value.TheVariants as own
+use Rattle.lua_state.specs.LuaStackDeclaredFocusFocusTheVariants as focus
+use Rattle.lua_state.specs.LuaStackDeclaredValuesGivenTheVariants as given
+use Rattle.lua_state.specs.LuaStoreDeclaredValueValueTheVariants as own
 use Rattle.lua_modules.proofs.Parts.{on_changed}
 use Rattle.lua_modules.proofs.strict.give_guarded.Goals as goal
 

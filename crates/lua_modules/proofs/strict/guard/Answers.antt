@@ -1,7 +1,7 @@
 use Rattle.std.proofs.Common.{ap}
-use Rattle.lua_store.specs.Seen.{StoreView}
+use Rattle.lua_state.specs.LuaStoreSeen.{StoreView}
 use Rattle.lua_modules.proofs.Guarded.{guarded}
-use Rattle.lua_store.proofs.Later.{later-then}
+use Rattle.lua_state.proofs.LuaStoreLater.{later-then}
 use Rattle.lua_modules.proofs.strict.guard.Goals as goal
 
 pub returns-clause-made : goal.returns-clause-made

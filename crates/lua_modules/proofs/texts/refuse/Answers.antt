@@ -1,6 +1,6 @@
 use Rattle.std.proofs.Common.{◌∙◌, ap, subst}
-use Rattle.lua_meaning.specs.Messages.{bad_argument}
-use Rattle.lua_slots.specs.Errors.{fails}
+use Rattle.lua_state.specs.LuaMeaningMessages.{bad_argument}
+use Rattle.lua_state.specs.LuaSlotsErrors.{fails}
 use Rattle.lua_state.specs.Seen.{slots_of, frames_of}
 use Rattle.lua_state.specs.Makes.{Makes}
 use Rattle.lua_modules.proofs.texts.refuse.Goals as goal

@@ -1,9 +1,9 @@
 use Rattle.std.proofs.Common.{◌∙◌, ap}
 use Rattle.std.specs.Prelude.{codes}
-use Rattle.lua_meaning.specs.Metatables.{common_handler}
-use Rattle.lua_store.specs.Seen.{seen}
-use Rattle.lua_slots.specs.Operators as machine
-use Rattle.lua_stack.specs.Seen.{frames_seen}
+use Rattle.lua_code.specs.LuaMeaningMetatables.{common_handler}
+use Rattle.lua_arms.specs.LuaStoreSeen.{seen}
+use Rattle.lua_code.specs.LuaSlotsOperators as machine
+use Rattle.lua_arms.specs.LuaStackSeen.{frames_seen}
 use Rattle.lua_operators.proofs.Orders.{handler_as}
 use Rattle.lua_operators.proofs.comparison.at_most_by_handler.Goals as goal
 

@@ -1,11 +1,11 @@
 use Rattle.std.proofs.Common.{◌∙◌, ap, sym}
 use Rattle.std.specs.Prelude.{codes}
-use Rattle.lua_heap.specs.Proc.{Proc}
-use Rattle.lua_heap.specs.Heap.{Heap}
-use Rattle.lua_meaning.specs.Metatables.{common_handler}
-use Rattle.lua_store.specs.Seen.{seen}
-use Rattle.lua_slots.specs.Operators as machine
-use Rattle.lua_stack.specs.Seen.{frames_seen}
+use Rattle.lua_code.specs.LuaHeapProc.{Proc}
+use Rattle.lua_code.specs.LuaHeapHeap.{Heap}
+use Rattle.lua_code.specs.LuaMeaningMetatables.{common_handler}
+use Rattle.lua_arms.specs.LuaStoreSeen.{seen}
+use Rattle.lua_code.specs.LuaSlotsOperators as machine
+use Rattle.lua_arms.specs.LuaStackSeen.{frames_seen}
 use Rattle.lua_arms.proofs.Choices.{second}
 use Rattle.lua_operators.proofs.comparison.equals.Goals as goal
 

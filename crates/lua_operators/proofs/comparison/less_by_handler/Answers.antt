@@ -1,7 +1,7 @@
 use Rattle.std.proofs.Common.{◌∙◌, ap}
-use Rattle.lua_store.specs.Seen.{seen}
-use Rattle.lua_slots.specs.Operators as machine
-use Rattle.lua_stack.specs.Seen.{frames_seen}
+use Rattle.lua_arms.specs.LuaStoreSeen.{seen}
+use Rattle.lua_code.specs.LuaSlotsOperators as machine
+use Rattle.lua_arms.specs.LuaStackSeen.{frames_seen}
 use Rattle.lua_operators.proofs.Orders.{handler_as}
 use Rattle.lua_operators.proofs.comparison.less_by_handler.Goals as goal
 

@@ -1,4 +1,4 @@
-use Rattle.lua_stack.proofs.Stay.{frames_later, frames_as}
+use Rattle.lua_arms.proofs.LuaStackStay.{frames_later, frames_as}
 use Rattle.lua_operators.proofs.Joins.{text_is, joined_at}
 use Rattle.lua_operators.proofs.concatenation.concatenate.Goals as goal
 

@@ -1,8 +1,8 @@
 use Rattle.std.proofs.Common.{ap}
-use Rattle.lua_slots.specs.Points.{Move}
-use Rattle.lua_slots.specs.Slots.{Slots}
-use Rattle.lua_slots.specs.Enact.{enact}
-use Rattle.lua_stack.specs.Seen.{frames_seen}
+use Rattle.lua_arms.specs.LuaSlotsPoints.{Move}
+use Rattle.lua_arms.specs.LuaSlotsSlots.{Slots}
+use Rattle.lua_code.specs.LuaSlotsEnact.{enact}
+use Rattle.lua_arms.specs.LuaStackSeen.{frames_seen}
 use Rattle.lua_arms.specs.Steps.{step_seen}
 use Rattle.lua_operators.proofs.Charges.{at_heap}
 use Rattle.lua_operators.proofs.dispatch.apply.Goals as goal

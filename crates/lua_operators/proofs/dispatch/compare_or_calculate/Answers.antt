@@ -1,6 +1,6 @@
 use Rattle.std.proofs.Common.{ap}
-use Rattle.lua_slots.specs.Points.{Move}
-use Rattle.lua_slots.specs.Enact.{enact}
+use Rattle.lua_arms.specs.LuaSlotsPoints.{Move}
+use Rattle.lua_code.specs.LuaSlotsEnact.{enact}
 use Rattle.lua_operators.proofs.dispatch.compare_or_calculate.Goals as goal
 
 pub returns-in_ok-paid-in-Less-clause-move_ : goal.returns-in_ok-paid-in-Less-clause-move_

@@ -1,6 +1,6 @@
 use Rattle.std.proofs.Common.{refl}
-use Rattle.lua_slots.specs.Slots.{Slots}
-use Rattle.lua_stack.specs.Seen.{frames_seen}
+use Rattle.lua_arms.specs.LuaSlotsSlots.{Slots}
+use Rattle.lua_arms.specs.LuaStackSeen.{frames_seen}
 use Rattle.lua_arms.specs.Paid.{paid_seen}
 use Rattle.lua_operators.proofs.Charges.{at_heap, if_spent}
 use Rattle.lua_operators.proofs.dispatch.operate.Goals as goal

@@ -1,6 +1,6 @@
 use Rattle.std.proofs.Common.{◌≡◌, ap, rules, w64, to_z, of_z}
-use Rattle.lua_slots.specs.Points.{Move}
-use Rattle.lua_slots.specs.Enact.{enact}
+use Rattle.lua_arms.specs.LuaSlotsPoints.{Move}
+use Rattle.lua_code.specs.LuaSlotsEnact.{enact}
 use Rattle.lua_operators.proofs.Orders.{at_most_as, at_most_numbers}
 use Rattle.lua_operators.proofs.ordering.at_most.Goals as goal
 

@@ -1,5 +1,5 @@
 use Rattle.std.proofs.Common.{◌≡◌, length}
-use Rattle.lua_meaning.specs.Operators.{text_less}
+use Rattle.lua_code.specs.LuaMeaningOperators.{text_less}
 use Rattle.lua_operators.proofs.ordering.text_less.Given as goal
 
 abbrev pub invariant-bytes : goal.invariant-bytes

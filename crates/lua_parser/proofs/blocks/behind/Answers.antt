@@ -1,5 +1,5 @@
 use Rattle.std.proofs.Common.{refl}
-use Rattle.lua_grammar.specs.declared.TokenClass.TheVariants.{Semicolon}
+use Rattle.lua_reading.specs.LuaGrammarDeclaredTokenClassTheVariants.{Semicolon}
 use Rattle.lua_reading.proofs.statements.Begins.{behind_word}
 use Rattle.lua_reading.proofs.statements.PlainExits.{read_is}
 use Rattle.lua_parser.proofs.blocks.behind.Goals as goal

@@ -4,7 +4,7 @@ use Rattle.std.specs.Prelude.{ℤ}
 use Rattle.std.proofs.Common.{rules, sym, ◌∙◌, ap, ◌≡◌, ℕ, Some}
 use Rattle.std.proofs.lemmas.Int.{to_z-of_z}
 use Rattle.lua_number.specs.Numerals.{read_numeral_of}
-use Rattle.lua_grammar.specs.Tokens.{bytes_of, tok_at}
+use Rattle.lua_reading.specs.LuaGrammarTokens.{bytes_of, tok_at}
 use Rattle.lua_syntax.specs.View.{expr_view}
 use Rattle.lua_syntax.specs.Tree.{NumberE}
 use Rattle.lua_reading.proofs.expressions.Exits.{is_class, one_token_read, literal_unexpected, text_same, nil_not_eof, true_not_eof, false_not_eof, text_not_eof, number_not_eof, dots_not_eof}

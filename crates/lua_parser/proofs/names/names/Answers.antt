@@ -1,5 +1,5 @@
 use Rattle.std.proofs.Common.{refl}
-use Rattle.lua_grammar.specs.declared.TokenClass.TheVariants.{Comma}
+use Rattle.lua_reading.specs.LuaGrammarDeclaredTokenClassTheVariants.{Comma}
 use Rattle.lua_reading.proofs.statements.Begins.{behind_word}
 use Rattle.lua_reading.proofs.statements.PlainExits.{read_is, read_not}
 use Rattle.lua_reading.proofs.lists.Names.{names_first, names_next, names_done, names_fail}

@@ -1,4 +1,4 @@
-use Rattle.std.proofs.Common.{◌≡◌, ◌≤◌, drop}
+use Rattle.std.proofs.Common.{◌≤◌, drop}
 use Rattle.std.specs.Prelude.{None}
 use Rattle.lua_print.specs.Layout.{laid_from}
 use Rattle.lua_print.proofs.LayLemmas.{Lays}

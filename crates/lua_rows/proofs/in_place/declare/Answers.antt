@@ -2,10 +2,10 @@ use Rattle.std.proofs.Common.{rules, ◌∙◌, ◌+◌, ◌∷◌, List, [], ap
 use Rattle.std.specs.Borrow.{Bor}
 use Rattle.lua_code.specs.declared.expression.Expression.{Expression}
 use Rattle.lua_code.specs.Seen.{block_seen}
-use Rattle.lua_slots.specs.Code.{DeclareC, MoreC, NoC}
-use Rattle.lua_slots.specs.Points.{Runs}
-use Rattle.lua_stack.specs.declared.frame.Frame.{Frame}
-use Rattle.lua_state.specs.Seen.{frames_of}
+use Rattle.lua_code.specs.LuaSlotsCode.{DeclareC, MoreC, NoC}
+use Rattle.lua_turns.specs.LuaSlotsPoints.{Runs}
+use Rattle.lua_turns.specs.LuaStackDeclaredFrameFrame.{Frame}
+use Rattle.lua_turns.specs.LuaStateSeen.{frames_of}
 use Rattle.lua_rows.specs.Declaring.{declaring}
 use Rattle.lua_rows.proofs.Ended.{begun_turns, declared, frames_same, turned_goes}
 use Rattle.lua_rows.proofs.Leading.{declaration_leads}

@@ -1,9 +1,9 @@
 use Rattle.std.proofs.Common.{rules, ◌∷◌, [], refl}
-use Rattle.lua_stack.specs.declared.focus.Focus.TheVariants as focus
-use Rattle.lua_stack.specs.declared.values.Given.TheVariants as given
-use Rattle.lua_slots.specs.Points.{Evals}
-use Rattle.lua_state.specs.Seen.{frames_of}
-use Rattle.lua_strides.specs.Next.{focus_of}
+use Rattle.lua_turns.specs.LuaStackDeclaredFocusFocusTheVariants as focus
+use Rattle.lua_turns.specs.LuaStackDeclaredValuesGivenTheVariants as given
+use Rattle.lua_turns.specs.LuaSlotsPoints.{Evals}
+use Rattle.lua_turns.specs.LuaStateSeen.{frames_of}
+use Rattle.lua_turns.specs.LuaStridesNext.{focus_of}
 use Rattle.lua_rows.proofs.Ended.{begun_turns, frames_same, handed, turned_goes}
 use Rattle.lua_rows.proofs.Leading.{expression_leads}
 use Rattle.lua_rows.proofs.in_place.give.Goals as goal

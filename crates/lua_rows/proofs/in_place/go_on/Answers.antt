@@ -1,11 +1,11 @@
 use Rattle.std.proofs.Common.{rules, ◌∙◌, ◌+◌, ◌∷◌, [], List, ap}
 use Rattle.lua_code.specs.Seen.{block_seen}
-use Rattle.lua_slots.specs.Code.{CallStatC, ThenC}
-use Rattle.lua_slots.specs.Points.{Runs}
-use Rattle.lua_stack.specs.declared.frame.Frame.{Frame}
-use Rattle.lua_stack.specs.declared.frame.Frame.TheVariants as frame
-use Rattle.lua_stack.specs.declared.frame.InStatement.TheVariants as in_statement
-use Rattle.lua_state.specs.Seen.{frames_of}
+use Rattle.lua_code.specs.LuaSlotsCode.{CallStatC, ThenC}
+use Rattle.lua_turns.specs.LuaSlotsPoints.{Runs}
+use Rattle.lua_turns.specs.LuaStackDeclaredFrameFrame.{Frame}
+use Rattle.lua_turns.specs.LuaStackDeclaredFrameFrameTheVariants as frame
+use Rattle.lua_turns.specs.LuaStackDeclaredFrameInStatementTheVariants as in_statement
+use Rattle.lua_turns.specs.LuaStateSeen.{frames_of}
 use Rattle.lua_rows.proofs.Ended.{begun_turns, frames_same, passed, turned_goes}
 use Rattle.lua_rows.proofs.Leading.{statement_leads}
 use Rattle.lua_rows.proofs.in_place.go_on.Goals as goal

@@ -1,7 +1,7 @@
 use Rattle.std.proofs.Common.{◌-◌, refl, subst, arith}
-use Rattle.lua_state.specs.Charges.{EntersCall}
-use Rattle.lua_state.specs.Seen.{slots_of}
-use Rattle.lua_strides.proofs.Paths.{unpaid}
+use Rattle.lua_turns.specs.LuaStateCharges.{EntersCall}
+use Rattle.lua_turns.specs.LuaStateSeen.{slots_of}
+use Rattle.lua_turns.proofs.LuaStridesPaths.{unpaid}
 use Rattle.lua_calls.proofs.Enters.{calls_of}
 use Rattle.lua_rows.specs.Begins.{begun_of}
 use Rattle.lua_rows.proofs.Calling.{call_left, call_made}

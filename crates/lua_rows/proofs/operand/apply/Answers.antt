@@ -1,13 +1,13 @@
 use Rattle.std.proofs.Common.{rules, ◌∙◌, ◌+◌, ◌∷◌, [], List, ap, refl}
-use Rattle.lua_slots.specs.Code.{UnaryC}
-use Rattle.lua_slots.specs.Points.{Evals}
-use Rattle.lua_stack.specs.declared.focus.Focus.TheVariants as focus
-use Rattle.lua_stack.specs.declared.frame.Frame.{Frame}
-use Rattle.lua_stack.specs.declared.frame.Frame.TheVariants as frame
-use Rattle.lua_stack.specs.declared.frame.InExpression.TheVariants as in_expression
-use Rattle.lua_stack.specs.declared.values.Given.TheVariants as given
-use Rattle.lua_state.specs.Seen.{frames_of}
-use Rattle.lua_strides.specs.Next.{focus_of}
+use Rattle.lua_code.specs.LuaSlotsCode.{UnaryC}
+use Rattle.lua_turns.specs.LuaSlotsPoints.{Evals}
+use Rattle.lua_turns.specs.LuaStackDeclaredFocusFocusTheVariants as focus
+use Rattle.lua_turns.specs.LuaStackDeclaredFrameFrame.{Frame}
+use Rattle.lua_turns.specs.LuaStackDeclaredFrameFrameTheVariants as frame
+use Rattle.lua_turns.specs.LuaStackDeclaredFrameInExpressionTheVariants as in_expression
+use Rattle.lua_turns.specs.LuaStackDeclaredValuesGivenTheVariants as given
+use Rattle.lua_turns.specs.LuaStateSeen.{frames_of}
+use Rattle.lua_turns.specs.LuaStridesNext.{focus_of}
 use Rattle.lua_rows.proofs.Ended.{begun_turns, frames_same, handed_above, operated, turned_goes}
 use Rattle.lua_rows.proofs.Leading.{operand_leads}
 use Rattle.lua_rows.proofs.operand.apply.Goals as goal

@@ -1,6 +1,6 @@
 use Rattle.std.proofs.Common.{◌∙◌, ◌++◌, ◌∷◌, [], List, ap}
 use Rattle.lua_code.specs.Seen.{expression_seen, expressions_seen}
-use Rattle.lua_store.specs.declared.value.Value.{Value}
+use Rattle.lua_turns.specs.LuaStoreDeclaredValueValue.{Value}
 use Rattle.lua_rows.proofs.Methods.{method_ready}
 use Rattle.lua_rows.proofs.ready.ready_method.Goals as goal
 

@@ -1,5 +1,5 @@
 use Rattle.lua_rows.specs.Ready.{IsCallee, IsMethodOf}
-use Rattle.lua_strides.proofs.Found.{some_to}
+use Rattle.lua_turns.proofs.LuaStridesReadings.{some_to}
 use Rattle.lua_rows.proofs.Methods.{method_of_text}
 use Rattle.lua_rows.proofs.ready.text_method.Goals as goal
 

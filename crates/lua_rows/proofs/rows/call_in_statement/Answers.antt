@@ -1,5 +1,5 @@
 use Rattle.lua_code.proofs.Views.{statement-Call, statement-Declare}
-use Rattle.lua_strides.proofs.Paths.{idle_here}
+use Rattle.lua_turns.proofs.LuaStridesPaths.{idle_here}
 use Rattle.lua_rows.proofs.rows.call_in_statement.Goals as goal
 
 pub returns-in-Call : goal.returns-in-Call

@@ -1,6 +1,6 @@
-use Rattle.lua_strides.specs.Next.{focus_of}
-use Rattle.lua_stack.specs.Seen.{focus_seen}
-use Rattle.lua_state.specs.Seen.{frames_of}
+use Rattle.lua_turns.specs.LuaStridesNext.{focus_of}
+use Rattle.lua_turns.specs.LuaStackSeen.{focus_seen}
+use Rattle.lua_turns.specs.LuaStateSeen.{frames_of}
 use Rattle.lua_rows.proofs.Turning.{goes_behind}
 use Rattle.lua_rows.proofs.rows.go_on.Goals as goal
 

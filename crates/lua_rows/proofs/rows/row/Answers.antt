@@ -1,10 +1,10 @@
-use Rattle.lua_strides.specs.Next.{focus_of}
-use Rattle.lua_stack.specs.Seen.{focus_seen}
-use Rattle.lua_state.specs.Seen.{frames_of}
+use Rattle.lua_turns.specs.LuaStridesNext.{focus_of}
+use Rattle.lua_turns.specs.LuaStackSeen.{focus_seen}
+use Rattle.lua_turns.specs.LuaStateSeen.{frames_of}
 use Rattle.lua_turns.proofs.Following.{follows_none, follows_then, follows_idle, strides_follow}
 use Rattle.lua_rows.proofs.Turning.{turns_behind}
-use Rattle.lua_strides.specs.Strides.{Idles}
-use Rattle.lua_strides.proofs.Paths.{idle_here}
+use Rattle.lua_turns.specs.LuaStridesStrides.{Idles}
+use Rattle.lua_turns.proofs.LuaStridesPaths.{idle_here}
 use Rattle.lua_rows.proofs.rows.row.Goals.{then-may_call+in_ok-called+in-None, else-may_call}
 use Rattle.lua_rows.proofs.rows.row.Goals as goal
 

@@ -1,4 +1,4 @@
-use Rattle.lua_strides.proofs.Paths.{idle_here}
+use Rattle.lua_turns.proofs.LuaStridesPaths.{idle_here}
 use Rattle.lua_rows.proofs.rows.strides.Goals as goal
 
 pub returns-in-Evaluates : goal.returns-in-Evaluates

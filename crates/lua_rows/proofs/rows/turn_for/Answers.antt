@@ -1,5 +1,5 @@
 use Rattle.std.proofs.Common.{ap}
-use Rattle.lua_state.specs.declared.turn.Turn.TheVariants as turn
+use Rattle.lua_turns.specs.LuaStateDeclaredTurnTurnTheVariants as turn
 use Rattle.lua_rows.proofs.rows.turn_for.Goals as goal
 
 pub returns-in_ok-focus-in-On : goal.returns-in_ok-focus-in-On

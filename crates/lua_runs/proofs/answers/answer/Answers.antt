@@ -1,4 +1,4 @@
-use Rattle.lua_stack.specs.Seen.{joined_seen}
+use Rattle.lua_modules.specs.LuaStackSeen.{joined_seen}
 use Rattle.std.proofs.Common.{length}
 use Rattle.lua_runs.proofs.Parts.{costs, short}
 use Rattle.lua_runs.proofs.answers.answer.Goals as goal

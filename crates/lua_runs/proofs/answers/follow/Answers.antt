@@ -1,6 +1,6 @@
 use Rattle.std.proofs.Common.{subst, sym}
-use Rattle.lua_stack.specs.declared.focus.Focus.TheVariants as focus
-use Rattle.lua_stack.specs.Of.{TextsOf}
+use Rattle.lua_modules.specs.LuaStackDeclaredFocusFocusTheVariants as focus
+use Rattle.lua_modules.specs.LuaStackOf.{TextsOf}
 use Rattle.lua_runs.proofs.Parts.{on}
 use Rattle.lua_runs.proofs.Behind.{joined_more, texts_more}
 use Rattle.lua_runs.proofs.answers.follow.Goals as goal

@@ -1,5 +1,5 @@
-use Rattle.lua_stack.proofs.Stay.{values_later}
-use Rattle.lua_state.proofs.Staying.{state_later}
+use Rattle.lua_modules.proofs.LuaStackStay.{values_later}
+use Rattle.lua_modules.proofs.LuaStateStaying.{state_later}
 use Rattle.lua_runs.proofs.Behind.{follows, texts_later}
 use Rattle.lua_runs.proofs.answers.follow_made.Goals as goal
 

@@ -1,10 +1,10 @@
 use Rattle.std.proofs.Common.{◌∙◌, sym, subst}
 use Rattle.std.specs.Prelude.{IfOk}
 use Rattle.lua_store.specs.Parts.{IsOf}
-use Rattle.lua_stack.specs.Seen.{values_seen, joined_seen}
-use Rattle.lua_state.specs.Makes.{Makes}
-use Rattle.lua_state.specs.Seen.{slots_of, frames_of}
-use Rattle.lua_basic.proofs.Markup.{object_is}
+use Rattle.lua_modules.specs.LuaStackSeen.{values_seen, joined_seen}
+use Rattle.lua_modules.specs.LuaStateMakes.{Makes}
+use Rattle.lua_modules.specs.LuaStateSeen.{slots_of, frames_of}
+use Rattle.mw_html_texts.proofs.LuaBasicMarkup.{object_is}
 use Rattle.lua_runs.proofs.Objects.{no_object}
 use Rattle.lua_runs.proofs.answers.next_text.Goals as goal
 

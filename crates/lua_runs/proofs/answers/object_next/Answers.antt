@@ -1,9 +1,9 @@
 use Rattle.std.proofs.Common.{◌++◌, List, ℕ, subst}
-use Rattle.mw_html.specs.Render.{render}
-use Rattle.lua_slots.specs.Points.{Texts, Now}
-use Rattle.lua_stack.specs.Seen.{values_seen, joined_seen}
-use Rattle.lua_state.specs.Makes.{Makes}
-use Rattle.lua_state.specs.Seen.{slots_of, frames_of}
+use Rattle.mw_html_texts.specs.MwHtmlRender.{render}
+use Rattle.lua_modules.specs.LuaSlotsPoints.{Texts, Now}
+use Rattle.lua_modules.specs.LuaStackSeen.{values_seen, joined_seen}
+use Rattle.lua_modules.specs.LuaStateMakes.{Makes}
+use Rattle.lua_modules.specs.LuaStateSeen.{slots_of, frames_of}
 use Rattle.lua_runs.proofs.Objects.{text_is_next, too_deep_is_raised, object_is_short}
 use Rattle.lua_runs.proofs.answers.object_next.Goals as goal
 

@@ -1,6 +1,6 @@
 use Rattle.std.proofs.Common.{length, refl}
 use Rattle.lua_store.specs.Seen.{text_at}
-use Rattle.lua_stack.specs.Seen.{joined_seen}
+use Rattle.lua_modules.specs.LuaStackSeen.{joined_seen}
 use Rattle.lua_runs.proofs.Behind.{first_text, length_first}
 use Rattle.lua_runs.proofs.Sums.{paid_more, paid_short, paid_all}
 use Rattle.lua_runs.proofs.answers.pay_texts.Goals as goal

@@ -1,6 +1,6 @@
 use Rattle.std.proofs.Common.{length}
-use Rattle.lua_stack.specs.Of.{TextsOf}
-use Rattle.lua_stack.specs.Seen.{joined_seen}
+use Rattle.lua_modules.specs.LuaStackOf.{TextsOf}
+use Rattle.lua_modules.specs.LuaStackSeen.{joined_seen}
 use Rattle.lua_runs.proofs.Sums.{PaidSoFar}
 use Rattle.lua_runs.proofs.answers.pay_texts.Given as goal
 

@@ -1,11 +1,11 @@
 use Rattle.std.specs.Prelude.{◌∷◌, [], ◌++◌, None}
-use Rattle.lua_heap.specs.Value.{is_nil}
-use Rattle.lua_meaning.specs.CallBacks.{text_of}
+use Rattle.lua_code.specs.LuaHeapValue.{is_nil}
+use Rattle.lua_code.specs.LuaMeaningCallBacks.{text_of}
 use Rattle.lua_store.specs.Seen.{seen}
-use Rattle.lua_slots.specs.Points.{Now, Texts, TextNow}
-use Rattle.lua_slots.specs.Calls.{call}
-use Rattle.lua_stack.specs.Seen.{values_seen, joined_seen}
-use Rattle.lua_state.specs.Seen.{slots_of, frames_of}
+use Rattle.lua_modules.specs.LuaSlotsPoints.{Now, Texts, TextNow}
+use Rattle.lua_modules.specs.LuaSlotsCalls.{call}
+use Rattle.lua_modules.specs.LuaStackSeen.{values_seen, joined_seen}
+use Rattle.lua_modules.specs.LuaStateSeen.{slots_of, frames_of}
 use Rattle.lua_runs.proofs.Behind.{by_handler}
 use Rattle.lua_runs.proofs.Parts.{chosen, other}
 use Rattle.lua_runs.proofs.answers.text_by.Goals as goal

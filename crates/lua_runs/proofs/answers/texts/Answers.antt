@@ -1,9 +1,9 @@
 use Rattle.std.proofs.Common.{◌∙◌, sym, subst}
-use Rattle.lua_slots.specs.Starts.{texts}
-use Rattle.lua_stack.specs.Seen.{joined_seen}
-use Rattle.lua_stack.proofs.Openings.{first_of}
-use Rattle.lua_state.specs.Seen.{slots_of, frames_of}
-use Rattle.lua_state.specs.Makes.{Makes}
+use Rattle.lua_code.specs.LuaSlotsStarts.{texts}
+use Rattle.lua_modules.specs.LuaStackSeen.{joined_seen}
+use Rattle.lua_modules.proofs.LuaStackOpenings.{first_of}
+use Rattle.lua_modules.specs.LuaStateSeen.{slots_of, frames_of}
+use Rattle.lua_modules.specs.LuaStateMakes.{Makes}
 use Rattle.lua_runs.proofs.Behind.{opened, rest_of}
 use Rattle.lua_runs.proofs.answers.texts.Goals as goal
 

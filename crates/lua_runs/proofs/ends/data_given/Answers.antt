@@ -1,6 +1,6 @@
 use Rattle.std.proofs.Common.{subst}
-use Rattle.lua_stack.specs.declared.focus.Focus.TheVariants as focus
-use Rattle.lua_stack.specs.declared.values.Given.TheVariants as given
+use Rattle.lua_modules.specs.LuaStackDeclaredFocusFocusTheVariants as focus
+use Rattle.lua_modules.specs.LuaStackDeclaredValuesGivenTheVariants as given
 use Rattle.lua_store.specs.declared.value.Value.TheVariants as own
 use Rattle.lua_store.specs.Parts.{IsOf}
 use Rattle.lua_runs.proofs.Parts.{on}

@@ -1,9 +1,9 @@
 use Rattle.std.proofs.Common.{◌∙◌, subst}
-use Rattle.lua_heap.specs.Value as kind
-use Rattle.lua_meaning.specs.Acts as act
-use Rattle.lua_slots.specs.Errors.{jumps}
-use Rattle.lua_state.specs.Seen.{slots_of, frames_of}
-use Rattle.lua_state.specs.Makes.{Makes}
+use Rattle.lua_code.specs.LuaHeapValue as kind
+use Rattle.lua_code.specs.LuaMeaningActs as act
+use Rattle.lua_modules.specs.LuaSlotsErrors.{jumps}
+use Rattle.lua_modules.specs.LuaStateSeen.{slots_of, frames_of}
+use Rattle.lua_modules.specs.LuaStateMakes.{Makes}
 use Rattle.lua_runs.proofs.ends.failed.Goals as goal
 
 pub returns : goal.returns

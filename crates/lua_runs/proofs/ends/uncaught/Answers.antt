@@ -1,7 +1,7 @@
 use Rattle.std.proofs.Common.{subst}
-use Rattle.lua_stack.specs.declared.focus.Focus.TheVariants as focus
-use Rattle.lua_stack.specs.declared.focus.Jump.TheVariants as jump
-use Rattle.lua_stack.specs.Of.{JumpOf}
+use Rattle.lua_modules.specs.LuaStackDeclaredFocusFocusTheVariants as focus
+use Rattle.lua_modules.specs.LuaStackDeclaredFocusJumpTheVariants as jump
+use Rattle.lua_modules.specs.LuaStackOf.{JumpOf}
 use Rattle.lua_runs.proofs.Parts.{on}
 use Rattle.lua_runs.proofs.ends.uncaught.Goals as goal
 

@@ -1,7 +1,7 @@
 use Rattle.std.specs.Prelude.{[]}
 use Rattle.std.proofs.Common.{subst, sym}
-use Rattle.lua_stack.specs.declared.focus.Focus.TheVariants as focus
-use Rattle.lua_stack.specs.Of.{ValuesOf}
+use Rattle.lua_modules.specs.LuaStackDeclaredFocusFocusTheVariants as focus
+use Rattle.lua_modules.specs.LuaStackOf.{ValuesOf}
 use Rattle.lua_runs.proofs.Parts.{on}
 use Rattle.lua_runs.proofs.frames.answer_now.Goals as goal
 

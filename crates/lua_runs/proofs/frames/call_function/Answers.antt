@@ -1,12 +1,12 @@
 use Rattle.std.proofs.Common.{◌∙◌, refl, sym, ap, ◌∷◌, List}
 use Rattle.std.specs.Prelude.{None}
-use Rattle.lua_slots.specs.Calls.{call}
-use Rattle.lua_slots.specs.Points.{AnswerNow}
+use Rattle.lua_modules.specs.LuaSlotsCalls.{call}
+use Rattle.lua_modules.specs.LuaSlotsPoints.{AnswerNow}
 use Rattle.lua_store.specs.Seen.{seen}
-use Rattle.lua_stack.specs.declared.frame.Frame.{Frame}
-use Rattle.lua_stack.specs.Seen.{frames_seen, values_seen}
-use Rattle.lua_arms.specs.Steps.{step_seen}
-use Rattle.lua_state.specs.Seen.{slots_of, frames_of}
+use Rattle.lua_modules.specs.LuaStackDeclaredFrameFrame.{Frame}
+use Rattle.lua_modules.specs.LuaStackSeen.{frames_seen, values_seen}
+use Rattle.lua_modules.specs.LuaArmsSteps.{step_seen}
+use Rattle.lua_modules.specs.LuaStateSeen.{slots_of, frames_of}
 use Rattle.lua_runs.proofs.Parts.{with_frames_of, stepped}
 use Rattle.lua_runs.proofs.frames.call_function.Goals as goal
 

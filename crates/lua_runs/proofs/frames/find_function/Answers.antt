@@ -1,13 +1,13 @@
 use Rattle.std.proofs.Common.{◌∙◌, subst, ◌∷◌}
 use Rattle.std.specs.Prelude.{None}
-use Rattle.lua_heap.specs.Value as kind
+use Rattle.lua_code.specs.LuaHeapValue as kind
 use Rattle.lua_store.specs.Seen.{seen, text_at}
 use Rattle.lua_store.proofs.Later.{seen-later}
-use Rattle.lua_slots.specs.Points.{FunctionFound}
-use Rattle.lua_slots.specs.Index.{index_table}
-use Rattle.lua_state.specs.Seen.{slots_of, frames_of}
-use Rattle.lua_state.specs.Makes.{Makes}
-use Rattle.lua_state.proofs.Staying.{state_later}
+use Rattle.lua_modules.specs.LuaSlotsPoints.{FunctionFound}
+use Rattle.lua_code.specs.LuaSlotsIndex.{index_table}
+use Rattle.lua_modules.specs.LuaStateSeen.{slots_of, frames_of}
+use Rattle.lua_modules.specs.LuaStateMakes.{Makes}
+use Rattle.lua_modules.proofs.LuaStateStaying.{state_later}
 use Rattle.lua_runs.proofs.Parts.{named}
 use Rattle.lua_runs.proofs.frames.find_function.Goals as goal
 

@@ -1,14 +1,14 @@
 use Rattle.std.proofs.Common.{subst}
 use Rattle.std.specs.Prelude.{◌∷◌, [], ◌++◌, None, codes}
 use Rattle.page_run.specs.Outcome.{Goes}
-use Rattle.lua_meaning.specs.Start.{Failed}
-use Rattle.lua_meaning.specs.Values.{is_function}
+use Rattle.lua_code.specs.LuaMeaningStart.{Failed}
+use Rattle.lua_code.specs.LuaMeaningValues.{is_function}
 use Rattle.lua_store.specs.Seen.{seen}
-use Rattle.lua_slots.specs.Points.{AnswerNow}
-use Rattle.lua_slots.specs.Calls.{call}
-use Rattle.lua_slots.specs.Starts.{invoke_ends}
-use Rattle.lua_state.specs.Seen.{slots_of, frames_of}
-use Rattle.lua_state.specs.Makes.{Makes}
+use Rattle.lua_modules.specs.LuaSlotsPoints.{AnswerNow}
+use Rattle.lua_modules.specs.LuaSlotsCalls.{call}
+use Rattle.lua_code.specs.LuaSlotsStarts.{invoke_ends}
+use Rattle.lua_modules.specs.LuaStateSeen.{slots_of, frames_of}
+use Rattle.lua_modules.specs.LuaStateMakes.{Makes}
 use Rattle.lua_runs.proofs.Parts.{chosen, other}
 use Rattle.lua_runs.proofs.frames.function_found.Goals as goal
 

@@ -1,5 +1,5 @@
-use Rattle.lua_stack.specs.Lists.{given_values}
-use Rattle.lua_stack.proofs.Openings.{first_of}
+use Rattle.lua_modules.specs.LuaStackLists.{given_values}
+use Rattle.lua_modules.proofs.LuaStackOpenings.{first_of}
 use Rattle.lua_runs.proofs.frames.give_run.Goals as goal
 
 pub give_first-requires-clause-first : goal.give_first-requires-clause-first

@@ -1,9 +1,9 @@
 use Rattle.std.proofs.Common.{◌∙◌, subst}
 use Rattle.page_run.specs.Outcome.{Goes}
-use Rattle.lua_meaning.specs.Start.{Failed}
-use Rattle.lua_slots.specs.Starts.{invoke_ends}
-use Rattle.lua_state.specs.Seen.{slots_of, frames_of}
-use Rattle.lua_state.specs.Makes.{Makes}
+use Rattle.lua_code.specs.LuaMeaningStart.{Failed}
+use Rattle.lua_code.specs.LuaSlotsStarts.{invoke_ends}
+use Rattle.lua_modules.specs.LuaStateSeen.{slots_of, frames_of}
+use Rattle.lua_modules.specs.LuaStateMakes.{Makes}
 use Rattle.lua_runs.proofs.frames.no_such_function.Goals as goal
 
 pub returns : goal.returns

@@ -1,10 +1,10 @@
 use Rattle.std.proofs.Common.{rules, ◌≡◌, ◌∙◌, ℕ, List, ◌++◌, subst}
 use Rattle.std.specs.Fmt.{signed_decimal}
 use Rattle.std.specs.Prelude.{IfOk}
-use Rattle.lua_slots.specs.Points as point
-use Rattle.lua_stack.specs.Seen.{values_seen, joined_seen}
-use Rattle.lua_state.specs.Seen.{slots_of, frames_of}
-use Rattle.lua_state.specs.Makes.{Makes}
+use Rattle.lua_modules.specs.LuaSlotsPoints as point
+use Rattle.lua_modules.specs.LuaStackSeen.{values_seen, joined_seen}
+use Rattle.lua_modules.specs.LuaStateSeen.{slots_of, frames_of}
+use Rattle.lua_modules.specs.LuaStateMakes.{Makes}
 use Rattle.lua_runs.proofs.frames.text_given.Goals as goal
 
 pub returns-in-Text : goal.returns-in-Text

@@ -1,6 +1,6 @@
 use Rattle.std.proofs.Common.{◌≡◌, ◌++◌, length}
 use Rattle.std.specs.Prelude.{flat_map}
-use Rattle.lua_meaning.specs.Start.{escape_byte}
+use Rattle.lua_code.specs.LuaMeaningStart.{escape_byte}
 use Rattle.lua_runs.proofs.html.escaped.Given as goal
 
 -- what is made, and what is left

@@ -1,6 +1,6 @@
 use Rattle.std.proofs.Common.{subst}
-use Rattle.lua_stack.specs.Of.{WorkOf}
-use Rattle.lua_state.proofs.Making.{makes_late}
+use Rattle.lua_modules.specs.LuaStackOf.{WorkOf}
+use Rattle.lua_modules.proofs.LuaStateMaking.{makes_late}
 use Rattle.lua_runs.proofs.starts.begin_work.Goals as goal
 
 pub invoke-requires-clause-names : goal.invoke-requires-clause-names

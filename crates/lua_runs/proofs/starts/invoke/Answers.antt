@@ -1,7 +1,7 @@
 use Rattle.std.proofs.Common.{subst, true, false}
-use Rattle.lua_meaning.specs.Frames.{args_charge}
-use Rattle.lua_state.specs.Charges.{Pays}
-use Rattle.lua_state.proofs.Making.{makes_late}
+use Rattle.lua_modules.specs.LuaMeaningFrames.{args_charge}
+use Rattle.lua_modules.specs.LuaStateCharges.{Pays}
+use Rattle.lua_modules.proofs.LuaStateMaking.{makes_late}
 use Rattle.lua_runs.proofs.Parts.{short, costs}
 use Rattle.lua_runs.proofs.Starting.{late_costs}
 use Rattle.lua_runs.proofs.starts.invoke.Goals as goal

@@ -1,9 +1,9 @@
 use Rattle.std.proofs.Common.{◌∙◌, ap, subst}
 use Rattle.std.specs.Prelude.{None}
-use Rattle.lua_meaning.specs.Messages.{no_data_module}
-use Rattle.lua_slots.specs.Errors.{fails}
-use Rattle.lua_state.specs.Makes.{Makes}
-use Rattle.lua_state.specs.Seen.{slots_of, frames_of}
+use Rattle.lua_modules.specs.LuaMeaningMessages.{no_data_module}
+use Rattle.lua_modules.specs.LuaSlotsErrors.{fails}
+use Rattle.lua_modules.specs.LuaStateMakes.{Makes}
+use Rattle.lua_modules.specs.LuaStateSeen.{slots_of, frames_of}
 use Rattle.lua_runs.proofs.starts.lacks_data.Goals as goal
 
 pub returns : goal.returns

@@ -1,7 +1,7 @@
 use Rattle.std.proofs.Common.{◌∙◌, refl}
 use Rattle.lua_store.proofs.Later.{later-then, of-later}
 use Rattle.lua_store.specs.declared.value.Value.TheVariants.{Table}
-use Rattle.lua_state.proofs.Staying.{state_later}
+use Rattle.lua_modules.proofs.LuaStateStaying.{state_later}
 use Rattle.lua_runs.proofs.Starting.{first_scenes, scenes_of, first_seen}
 use Rattle.lua_runs.proofs.starts.make_first.Goals as goal
 

@@ -1,4 +1,4 @@
-use Rattle.lua_meaning.specs.Frames.{args_charge}
+use Rattle.lua_modules.specs.LuaMeaningFrames.{args_charge}
 use Rattle.lua_runs.proofs.Starting.{took, unpaid}
 use Rattle.lua_runs.proofs.starts.pay_frame.Goals as goal
 

@@ -1,9 +1,9 @@
 use Rattle.std.proofs.Common.{◌∙◌, ap, subst, Option}
 use Rattle.lua_code.specs.Held.{modules_seen}
-use Rattle.lua_slots.specs.Code.{CModule}
-use Rattle.lua_slots.specs.Starts.{runs_data}
-use Rattle.lua_state.specs.Makes.{Makes}
-use Rattle.lua_state.specs.Seen.{slots_of, frames_of}
+use Rattle.lua_code.specs.LuaSlotsCode.{CModule}
+use Rattle.lua_code.specs.LuaSlotsStarts.{runs_data}
+use Rattle.lua_modules.specs.LuaStateMakes.{Makes}
+use Rattle.lua_modules.specs.LuaStateSeen.{slots_of, frames_of}
 use Rattle.lua_runs.proofs.starts.run_data.Goals as goal
 
 pub returns-in-Some : goal.returns-in-Some

@@ -1,7 +1,7 @@
 use Rattle.std.proofs.Common.{ap, sym, subst, List}
-use Rattle.lua_stack.specs.declared.frame.Frame.{Frame}
-use Rattle.lua_stack.specs.Of.{FramesOf}
-use Rattle.lua_stack.specs.Seen.{frames_seen}
+use Rattle.lua_modules.specs.LuaStackDeclaredFrameFrame.{Frame}
+use Rattle.lua_modules.specs.LuaStackOf.{FramesOf}
+use Rattle.lua_modules.specs.LuaStackSeen.{frames_seen}
 use Rattle.lua_runs.proofs.Parts.{with_frames_of}
 use Rattle.lua_runs.proofs.Starting.{only}
 use Rattle.lua_runs.proofs.starts.wait_for_module.Goals as goal

@@ -1,7 +1,7 @@
 use Rattle.std.proofs.Common.{◌≡◌, ◌++◌, length, map}
 use Rattle.lua_store.specs.Seen.{places_of}
 use Rattle.lua_store.specs.Parts.{AreCellsOf}
-use Rattle.lua_slots.specs.Slots.{cells_at}
+use Rattle.lua_code.specs.LuaSlotsSlots.{cells_at}
 use Rattle.lua_code.specs.Seen.{place_seen}
 use Rattle.lua_stack.specs.Seen.{registers_seen, captured_by}
 use Rattle.lua_stack.proofs.register.captures.Given as goal

@@ -1,5 +1,5 @@
 use Rattle.std.proofs.Common.{◌∙◌, ap}
-use Rattle.lua_slots.specs.Slots.{slot_value}
+use Rattle.lua_code.specs.LuaSlotsSlots.{slot_value}
 use Rattle.lua_stack.proofs.PlaceLemmas.{slot_at, slot_seen_at}
 use Rattle.lua_stack.proofs.register.read.Goals as goal
 

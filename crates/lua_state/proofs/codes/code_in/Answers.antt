@@ -1,4 +1,4 @@
-use Rattle.lua_state.proofs.Found.{code_found, code_faulty}
+use Rattle.lua_state.proofs.FoundCode.{code_found, code_faulty}
 use Rattle.lua_state.proofs.codes.code_in.Goals as goal
 
 pub returns-in-Ok : goal.returns-in-Ok

@@ -1,6 +1,6 @@
 use Rattle.std.proofs.Common.{ap, sym}
-use Rattle.lua_slots.specs.Code.{Protos}
-use Rattle.lua_state.proofs.Found.{constant_is}
+use Rattle.lua_code.specs.LuaSlotsCode.{Protos}
+use Rattle.lua_state.proofs.FoundCode.{constant_is}
 use Rattle.lua_state.proofs.codes.constant_in.Goals as goal
 
 pub returns-in-Some : goal.returns-in-Some

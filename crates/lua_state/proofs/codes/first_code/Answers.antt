@@ -1,6 +1,6 @@
 use Rattle.std.proofs.Common.{◌∙◌, ap, sym, subst, Option}
-use Rattle.lua_slots.specs.Code.{CModule}
-use Rattle.lua_slots.specs.Calls.{code_of}
+use Rattle.lua_code.specs.LuaSlotsCode.{CModule}
+use Rattle.lua_arms.specs.LuaSlotsCalls.{code_of}
 use Rattle.lua_code.specs.Held.{modules_seen}
 use Rattle.lua_state.specs.Worlds.{IsCode}
 use Rattle.lua_state.proofs.codes.first_code.Goals as goal

@@ -1,7 +1,7 @@
 use Rattle.std.proofs.Common.{◌∙◌, subst, sym}
 use Rattle.std.specs.Prelude.{IfSome}
 use Rattle.lua_state.specs.Worlds.{IsFound}
-use Rattle.lua_state.proofs.Found.{looked_up}
+use Rattle.lua_state.proofs.FoundCode.{looked_up}
 use Rattle.lua_state.proofs.codes.known_module.Goals as goal
 
 pub returns : goal.returns

@@ -1,6 +1,6 @@
 use Rattle.std.proofs.Common.{subst, sym}
 use Rattle.lua_state.specs.Worlds.{AreFound}
-use Rattle.lua_state.proofs.Found.{noted}
+use Rattle.lua_state.proofs.FoundCode.{noted}
 use Rattle.lua_state.proofs.codes.note.Goals as goal
 
 pub returns-in-Ok : goal.returns-in-Ok

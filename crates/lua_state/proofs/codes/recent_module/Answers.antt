@@ -1,5 +1,5 @@
 use Rattle.std.proofs.Common.{sym}
-use Rattle.lua_state.proofs.Found.{again}
+use Rattle.lua_state.proofs.FoundCode.{again}
 use Rattle.lua_state.proofs.codes.recent_module.Goals as goal
 
 pub returns-then-eq : goal.returns-then-eq

@@ -1,6 +1,6 @@
 use Rattle.std.proofs.Common.{◌∙◌, ap}
-use Rattle.lua_slots.specs.Calls.{code_of}
-use Rattle.lua_store.proofs.Later.{later-then}
+use Rattle.lua_arms.specs.LuaSlotsCalls.{code_of}
+use Rattle.mw_frames.proofs.LuaStoreLater.{later-then}
 use Rattle.lua_state.specs.Worlds.{world_seen}
 use Rattle.lua_state.proofs.Staying.{codes_later, state_later}
 use Rattle.lua_state.proofs.Looking.{with_codes_of}

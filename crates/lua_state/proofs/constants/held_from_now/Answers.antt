@@ -1,6 +1,6 @@
 use Rattle.std.proofs.Common.{◌∙◌}
 use Rattle.lua_state.specs.Worlds.{world_seen}
-use Rattle.lua_store.proofs.Later.{later-itself}
+use Rattle.mw_frames.proofs.LuaStoreLater.{later-itself}
 use Rattle.lua_state.proofs.Staying.{codes_later}
 use Rattle.lua_state.proofs.Holding.{just_found}
 use Rattle.lua_state.proofs.constants.held_from_now.Goals as goal

@@ -1,5 +1,5 @@
 use Rattle.std.proofs.Common.{◌∙◌, ap}
-use Rattle.lua_store.specs.Seen.{StoreView}
+use Rattle.mw_frames.specs.LuaStoreSeen.{StoreView}
 use Rattle.lua_state.proofs.constants.looked_up.Goals as goal
 
 pub returns-clause-text : goal.returns-clause-text

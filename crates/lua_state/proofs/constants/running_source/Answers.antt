@@ -1,8 +1,8 @@
 use Rattle.std.proofs.Common.{◌∙◌, ap, sym}
 use Rattle.std.specs.Option.{option_copied}
-use Rattle.lua_store.specs.Seen.{StoreView}
-use Rattle.lua_store.proofs.Later.{later-itself}
-use Rattle.lua_slots.specs.Slots.{Activation}
+use Rattle.mw_frames.specs.LuaStoreSeen.{StoreView}
+use Rattle.mw_frames.proofs.LuaStoreLater.{later-itself}
+use Rattle.lua_goes.specs.LuaSlotsSlots.{Activation}
 use Rattle.lua_state.proofs.Newest.{found, found_of, absent}
 use Rattle.lua_state.proofs.constants.running_source.Goals as goal
 

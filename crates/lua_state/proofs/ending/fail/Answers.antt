@@ -1,4 +1,4 @@
-use Rattle.lua_stack.specs.declared.raising.Raising.TheVariants as raising
+use Rattle.lua_arms.specs.LuaStackDeclaredRaisingRaisingTheVariants as raising
 use Rattle.lua_state.proofs.Raised.{may_be, failed}
 use Rattle.lua_state.proofs.ending.fail.Goals as goal
 

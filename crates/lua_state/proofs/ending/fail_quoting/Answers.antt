@@ -1,4 +1,4 @@
-use Rattle.lua_stack.specs.declared.raising.Raising.TheVariants as raising
+use Rattle.lua_arms.specs.LuaStackDeclaredRaisingRaisingTheVariants as raising
 use Rattle.lua_state.proofs.Raised.{may_be, failed_quoting}
 use Rattle.lua_state.proofs.ending.fail_quoting.Goals as goal
 

@@ -1,5 +1,5 @@
 use Rattle.std.proofs.Common.{refl, ap}
-use Rattle.lua_store.proofs.Later.{later-itself}
+use Rattle.mw_frames.proofs.LuaStoreLater.{later-itself}
 use Rattle.lua_arms.specs.Steps.{step_seen}
 use Rattle.lua_state.specs.Seen.{slots_of, frames_of}
 use Rattle.lua_state.proofs.Making.{stands}

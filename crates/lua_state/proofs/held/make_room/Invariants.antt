@@ -1,5 +1,5 @@
-use Rattle.lua_slots.specs.Code.{CWorld}
-use Rattle.lua_store.specs.Seen.{StoreView}
+use Rattle.lua_code.specs.LuaSlotsCode.{CWorld}
+use Rattle.mw_frames.specs.LuaStoreSeen.{StoreView}
 use Rattle.lua_state.specs.Worlds.{AreHeld}
 use Rattle.lua_state.proofs.held.make_room.Given as goal
 

@@ -1,15 +1,15 @@
 use Rattle.std.proofs.Common.{◌+◌, refl, ◌∷◌, arith}
-use Rattle.page_run.specs.Outcome.{Goes}
+use Rattle.lua_in_place.specs.PageRunOutcome.{Goes}
 use Rattle.lua_code.specs.Seen.{expression_seen, expressions_seen}
-use Rattle.lua_slots.specs.Code.{CallC, CWorld}
-use Rattle.lua_slots.specs.Points.{CallNow, Evals, Gives}
+use Rattle.lua_code.specs.LuaSlotsCode.{CallC, CWorld}
+use Rattle.lua_state.specs.LuaSlotsPoints.{CallNow, Evals, Gives}
 use Rattle.lua_in_place.proofs.Statements.{called}
-use Rattle.lua_store.specs.Seen.{seen}
-use Rattle.lua_stack.specs.declared.focus.Focus.TheVariants as focus
-use Rattle.lua_stack.specs.declared.frame.Frame.TheVariants as frame
-use Rattle.lua_stack.specs.declared.frame.InExpression.TheVariants as in_expression
-use Rattle.lua_stack.specs.declared.values.Given.TheVariants as given
-use Rattle.lua_stack.specs.Seen.{values_seen}
+use Rattle.lua_state.specs.LuaStoreSeen.{seen}
+use Rattle.lua_state.specs.LuaStackDeclaredFocusFocusTheVariants as focus
+use Rattle.lua_state.specs.LuaStackDeclaredFrameFrameTheVariants as frame
+use Rattle.lua_state.specs.LuaStackDeclaredFrameInExpressionTheVariants as in_expression
+use Rattle.lua_state.specs.LuaStackDeclaredValuesGivenTheVariants as given
+use Rattle.lua_state.specs.LuaStackSeen.{values_seen}
 use Rattle.lua_state.specs.Seen.{slots_of, frames_of}
 use Rattle.lua_state.specs.Worlds.{world_seen}
 use Rattle.lua_strides.proofs.Paths.{ready, at_once, idle_here, unpaid}

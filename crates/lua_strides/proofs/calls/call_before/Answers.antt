@@ -1,16 +1,16 @@
 use Rattle.std.proofs.Common.{◌+◌, refl, ◌∷◌, arith}
-use Rattle.page_run.specs.Outcome.{Goes}
+use Rattle.lua_in_place.specs.PageRunOutcome.{Goes}
 use Rattle.lua_code.specs.Seen.{expression_seen, expressions_seen, block_seen}
-use Rattle.lua_slots.specs.Code.{CallC, CallStatC, ThenC, CWorld}
-use Rattle.lua_slots.specs.Points.{CallNow, StatsNext, Gives, Runs}
+use Rattle.lua_code.specs.LuaSlotsCode.{CallC, CallStatC, ThenC, CWorld}
+use Rattle.lua_state.specs.LuaSlotsPoints.{CallNow, StatsNext, Gives, Runs}
 use Rattle.lua_in_place.proofs.Statements.{call_stated}
-use Rattle.lua_store.specs.Seen.{seen}
-use Rattle.lua_stack.specs.declared.focus.Focus.TheVariants as focus
-use Rattle.lua_stack.specs.declared.frame.Frame.TheVariants as frame
-use Rattle.lua_stack.specs.declared.frame.InExpression.TheVariants as in_expression
-use Rattle.lua_stack.specs.declared.frame.InStatement.TheVariants as in_statement
-use Rattle.lua_stack.specs.declared.values.Given.TheVariants as given
-use Rattle.lua_stack.specs.Seen.{values_seen}
+use Rattle.lua_state.specs.LuaStoreSeen.{seen}
+use Rattle.lua_state.specs.LuaStackDeclaredFocusFocusTheVariants as focus
+use Rattle.lua_state.specs.LuaStackDeclaredFrameFrameTheVariants as frame
+use Rattle.lua_state.specs.LuaStackDeclaredFrameInExpressionTheVariants as in_expression
+use Rattle.lua_state.specs.LuaStackDeclaredFrameInStatementTheVariants as in_statement
+use Rattle.lua_state.specs.LuaStackDeclaredValuesGivenTheVariants as given
+use Rattle.lua_state.specs.LuaStackSeen.{values_seen}
 use Rattle.lua_state.specs.Seen.{slots_of, frames_of}
 use Rattle.lua_state.specs.Worlds.{world_seen}
 use Rattle.lua_strides.proofs.Paths.{ready, at_once, idle_here, unpaid}

@@ -2,13 +2,13 @@ use Rattle.std.proofs.Common.{◌+◌, ℕ, refl, ap, sym, subst, List, ◌∷�
 use Rattle.std.specs.Prelude.{option_map}
 use Rattle.lua_code.specs.declared.statement.Statement.{Statement}
 use Rattle.lua_code.specs.Seen.{expression_seen, block_seen, branches_seen}
-use Rattle.lua_slots.specs.Code.{ArmC, ThenC, CWorld}
-use Rattle.lua_slots.specs.Points.{BlockEnd, StatsNext, Runs}
-use Rattle.lua_store.specs.Seen.{seen}
-use Rattle.lua_stack.specs.declared.focus.Focus.TheVariants as focus
-use Rattle.lua_stack.specs.declared.frame.Frame.TheVariants as frame
-use Rattle.lua_stack.specs.declared.frame.Ending.TheVariants as ending
-use Rattle.lua_stack.specs.declared.frame.InStatement.TheVariants as in_statement
+use Rattle.lua_code.specs.LuaSlotsCode.{ArmC, ThenC, CWorld}
+use Rattle.lua_state.specs.LuaSlotsPoints.{BlockEnd, StatsNext, Runs}
+use Rattle.lua_state.specs.LuaStoreSeen.{seen}
+use Rattle.lua_state.specs.LuaStackDeclaredFocusFocusTheVariants as focus
+use Rattle.lua_state.specs.LuaStackDeclaredFrameFrameTheVariants as frame
+use Rattle.lua_state.specs.LuaStackDeclaredFrameEndingTheVariants as ending
+use Rattle.lua_state.specs.LuaStackDeclaredFrameInStatementTheVariants as in_statement
 use Rattle.lua_state.specs.Seen.{slots_of, frames_of}
 use Rattle.lua_state.specs.Worlds.{world_seen}
 use Rattle.lua_strides.specs.Conditions.{if_seen}

@@ -1,7 +1,7 @@
 use Rattle.std.proofs.Common.{◌≡◌, refl, sym, ap, rules, w64, to_z, of_z, Some}
 use Rattle.std.specs.Prelude.{ℤ}
-use Rattle.lua_heap.specs.Value.{Value as Plain, Nil, Truth, Number}
-use Rattle.lua_slots.specs.Slots.{read_place}
+use Rattle.lua_code.specs.LuaHeapValue.{Value as Plain, Nil, Truth, Number}
+use Rattle.lua_state.specs.LuaSlotsSlots.{read_place}
 use Rattle.lua_code.specs.Seen.{expression_seen, place_seen}
 use Rattle.lua_code.proofs.Views.{expression-Nil, expression-Truth, expression-Number, expression-Text, expression-Local, expression-Global, expression-Index, expression-Operate}
 use Rattle.lua_in_place.specs.InPlace.{in_place}

@@ -1,6 +1,6 @@
 use Rattle.std.proofs.Common.{refl, ap, arith}
 use Rattle.lua_code.specs.Seen.{expressions_seen}
-use Rattle.lua_strides.proofs.Found.{gathers_none, gathers_more, gathers_all}
+use Rattle.lua_strides.proofs.Readings.{gathers_none, gathers_more, gathers_all}
 use Rattle.lua_strides.proofs.reading.read_all.Goals as goal
 
 pub items-init : goal.items-init

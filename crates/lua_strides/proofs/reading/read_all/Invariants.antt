@@ -1,6 +1,6 @@
 use Rattle.std.proofs.Common.{length}
 use Rattle.lua_code.specs.Seen.{expressions_seen}
-use Rattle.lua_strides.proofs.Found.{Gathers}
+use Rattle.lua_strides.proofs.Readings.{Gathers}
 use Rattle.lua_strides.proofs.reading.read_all.Given as goal
 
 -- what is left goes behind the values that were read

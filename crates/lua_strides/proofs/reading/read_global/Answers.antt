@@ -1,11 +1,11 @@
 use Rattle.std.proofs.Common.{◌∙◌, ap, sym}
 use Rattle.std.specs.Prelude.{ℕ, List}
-use Rattle.lua_heap.specs.Value.{Text}
+use Rattle.lua_code.specs.LuaHeapValue.{Text}
 use Rattle.lua_in_place.specs.InPlace.{entry}
-use Rattle.lua_store.specs.declared.value.Value.{Value}
-use Rattle.lua_store.specs.Parts.{IsOf}
+use Rattle.lua_state.specs.LuaStoreDeclaredValueValue.{Value}
+use Rattle.lua_state.specs.LuaStoreParts.{IsOf}
 use Rattle.lua_state.specs.Seen.{constants_in}
-use Rattle.lua_strides.proofs.Found.{some_both, some_to}
+use Rattle.lua_strides.proofs.Readings.{some_both, some_to}
 use Rattle.lua_strides.proofs.reading.read_global.Goals as goal
 
 pub entry-value-requires-clause-key : goal.entry-value-requires-clause-key

@@ -1,8 +1,8 @@
 use Rattle.lua_code.specs.Seen.{operator_seen}
 use Rattle.lua_in_place.specs.InPlace.{operated}
-use Rattle.lua_store.specs.Seen.{seen}
-use Rattle.lua_store.specs.Parts.{IsOf}
-use Rattle.lua_strides.proofs.Found.{some_both}
+use Rattle.lua_state.specs.LuaStoreSeen.{seen}
+use Rattle.lua_state.specs.LuaStoreParts.{IsOf}
+use Rattle.lua_strides.proofs.Readings.{some_both}
 use Rattle.lua_strides.proofs.reading.read_operator.Goals as goal
 
 pub returns-in-Some : goal.returns-in-Some

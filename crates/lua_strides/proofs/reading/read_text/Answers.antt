@@ -1,5 +1,5 @@
 use Rattle.std.proofs.Common.{ap, sym, Some}
-use Rattle.lua_heap.specs.Value.{Text}
+use Rattle.lua_code.specs.LuaHeapValue.{Text}
 use Rattle.lua_state.specs.Seen.{constants_in}
 use Rattle.lua_strides.proofs.reading.read_text.Goals as goal
 

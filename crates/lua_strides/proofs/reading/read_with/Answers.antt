@@ -1,6 +1,6 @@
 use Rattle.std.proofs.Common.{ap, arith}
 use Rattle.std.specs.Prelude.{Option}
-use Rattle.lua_heap.specs.Value.{Value as Plain}
+use Rattle.lua_code.specs.LuaHeapValue.{Value as Plain}
 use Rattle.lua_in_place.specs.InPlace.{with_nodes}
 use Rattle.lua_strides.proofs.reading.read_with.Goals as goal
 

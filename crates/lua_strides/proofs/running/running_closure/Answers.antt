@@ -1,6 +1,6 @@
 use Rattle.std.proofs.Common.{◌∙◌, ap, sym}
 use Rattle.std.specs.Option.{option_copied}
-use Rattle.lua_slots.specs.Slots.{Activation}
+use Rattle.lua_state.specs.LuaSlotsSlots.{Activation}
 use Rattle.lua_state.proofs.Newest.{found, found_of, absent}
 use Rattle.lua_strides.proofs.running.running_closure.Goals as goal
 

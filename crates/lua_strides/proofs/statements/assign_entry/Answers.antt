@@ -1,14 +1,14 @@
 use Rattle.std.proofs.Common.{◌+◌, refl, [], ◌∷◌, arith}
 use Rattle.lua_code.specs.Seen.{expression_seen, block_seen}
-use Rattle.lua_slots.specs.Code.{AssignC, EntryC, MoreC, NoC, ThenC, CWorld}
-use Rattle.lua_slots.specs.Points.{EntryS, StatsNext, Runs, Sets}
+use Rattle.lua_code.specs.LuaSlotsCode.{AssignC, EntryC, MoreC, NoC, ThenC, CWorld}
+use Rattle.lua_state.specs.LuaSlotsPoints.{EntryS, StatsNext, Runs, Sets}
 use Rattle.lua_in_place.proofs.Statements.{entry_found}
-use Rattle.lua_store.specs.Seen.{seen}
-use Rattle.lua_stack.specs.declared.focus.Focus.TheVariants as focus
-use Rattle.lua_stack.specs.declared.frame.Frame.TheVariants as frame
-use Rattle.lua_stack.specs.declared.frame.Found.TheVariants as found
-use Rattle.lua_stack.specs.declared.frame.Setting.{Setting}
-use Rattle.lua_stack.specs.declared.frame.InStatement.TheVariants as in_statement
+use Rattle.lua_state.specs.LuaStoreSeen.{seen}
+use Rattle.lua_state.specs.LuaStackDeclaredFocusFocusTheVariants as focus
+use Rattle.lua_state.specs.LuaStackDeclaredFrameFrameTheVariants as frame
+use Rattle.lua_state.specs.LuaStackDeclaredFrameFoundTheVariants as found
+use Rattle.lua_state.specs.LuaStackDeclaredFrameSetting.{Setting}
+use Rattle.lua_state.specs.LuaStackDeclaredFrameInStatementTheVariants as in_statement
 use Rattle.lua_state.specs.Seen.{slots_of, frames_of}
 use Rattle.lua_state.specs.Worlds.{world_seen}
 use Rattle.lua_strides.proofs.Paths.{ready, at_once, idle_here, unpaid}

@@ -1,11 +1,11 @@
 use Rattle.std.proofs.Common.{◌+◌, refl, arith}
 use Rattle.lua_code.specs.Seen.{expression_seen, block_seen}
-use Rattle.lua_slots.specs.Code.{CWorld}
-use Rattle.lua_slots.specs.Slots.{opened}
-use Rattle.lua_slots.specs.Points.{Runs}
+use Rattle.lua_code.specs.LuaSlotsCode.{CWorld}
+use Rattle.lua_state.specs.LuaSlotsSlots.{opened}
+use Rattle.lua_state.specs.LuaSlotsPoints.{Runs}
 use Rattle.lua_in_place.proofs.Statements.{declared}
-use Rattle.lua_store.specs.Seen.{seen}
-use Rattle.lua_stack.specs.declared.focus.Focus.TheVariants as focus
+use Rattle.lua_state.specs.LuaStoreSeen.{seen}
+use Rattle.lua_state.specs.LuaStackDeclaredFocusFocusTheVariants as focus
 use Rattle.lua_state.specs.Seen.{slots_of, frames_of}
 use Rattle.lua_state.specs.Worlds.{world_seen}
 use Rattle.lua_strides.proofs.Paths.{at_once, idle_here, unpaid}

@@ -1,14 +1,14 @@
 use Rattle.std.proofs.Common.{◌+◌, refl, [], ◌∷◌, arith}
-use Rattle.page_run.specs.Outcome.{Jumps}
-use Rattle.lua_meaning.specs.Acts.{Returned}
+use Rattle.lua_in_place.specs.PageRunOutcome.{Jumps}
+use Rattle.lua_code.specs.LuaMeaningActs.{Returned}
 use Rattle.lua_code.specs.Seen.{expression_seen, block_seen}
-use Rattle.lua_slots.specs.Code.{ReturnC, MoreC, NoC, ThenC, CWorld}
-use Rattle.lua_slots.specs.Points.{Gives, Runs}
+use Rattle.lua_code.specs.LuaSlotsCode.{ReturnC, MoreC, NoC, ThenC, CWorld}
+use Rattle.lua_state.specs.LuaSlotsPoints.{Gives, Runs}
 use Rattle.lua_in_place.proofs.Statements.{returned}
-use Rattle.lua_store.specs.Seen.{seen}
-use Rattle.lua_stack.specs.declared.focus.Focus.TheVariants as focus
-use Rattle.lua_stack.specs.declared.focus.Jump.TheVariants as jump
-use Rattle.lua_stack.specs.declared.values.Given.TheVariants as given
+use Rattle.lua_state.specs.LuaStoreSeen.{seen}
+use Rattle.lua_state.specs.LuaStackDeclaredFocusFocusTheVariants as focus
+use Rattle.lua_state.specs.LuaStackDeclaredFocusJumpTheVariants as jump
+use Rattle.lua_state.specs.LuaStackDeclaredValuesGivenTheVariants as given
 use Rattle.lua_state.specs.Seen.{slots_of, frames_of}
 use Rattle.lua_state.specs.Worlds.{world_seen}
 use Rattle.lua_strides.proofs.Paths.{ready, at_once, idle_here, strode, unpaid}

@@ -1,13 +1,13 @@
 use Rattle.std.proofs.Common.{refl, [], ◌∷◌}
-use Rattle.page_run.specs.Outcome.{Goes}
+use Rattle.lua_in_place.specs.PageRunOutcome.{Goes}
 use Rattle.lua_code.specs.Seen.{expression_seen}
-use Rattle.lua_slots.specs.Code.{CWorld}
-use Rattle.lua_slots.specs.Points.{Evals, Gives}
+use Rattle.lua_code.specs.LuaSlotsCode.{CWorld}
+use Rattle.lua_state.specs.LuaSlotsPoints.{Evals, Gives}
 use Rattle.lua_in_place.proofs.Nodes.{nodes_are_some}
 use Rattle.lua_in_place.proofs.Reading.{read_in_place}
-use Rattle.lua_store.specs.Seen.{seen}
-use Rattle.lua_stack.specs.declared.focus.Focus.TheVariants as focus
-use Rattle.lua_stack.specs.declared.values.Given.TheVariants as given
+use Rattle.lua_state.specs.LuaStoreSeen.{seen}
+use Rattle.lua_state.specs.LuaStackDeclaredFocusFocusTheVariants as focus
+use Rattle.lua_state.specs.LuaStackDeclaredValuesGivenTheVariants as given
 use Rattle.lua_state.specs.Seen.{slots_of, frames_of, constants_in}
 use Rattle.lua_state.specs.Worlds.{world_seen}
 use Rattle.lua_strides.proofs.Paths.{ready, idle_here, strode, unpaid}

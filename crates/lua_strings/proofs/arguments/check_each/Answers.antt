@@ -1,6 +1,6 @@
 use Rattle.std.proofs.Common.{◌≡◌, ◌∙◌, subst, sym, true, rules, w64, to_z, of_z}
 use Rattle.lua_string.specs.Texts.{is_code}
-use Rattle.lua_store.specs.Seen.{seen}
+use Rattle.lua_basic.specs.LuaStoreSeen.{seen}
 use Rattle.lua_basic.specs.Seen.{values_seen, AllOf}
 use Rattle.lua_strings.proofs.Numbered.{CheckedTo, none_checked, one_checked}
 use Rattle.lua_strings.proofs.arguments.check_each.Goals as goal

@@ -1,7 +1,7 @@
 use Rattle.std.proofs.Common.{◌≡◌, ◌∙◌, ap, subst, sym, rules, w64, to_z, of_z}
-use Rattle.lua_store.specs.Seen.{seen}
+use Rattle.lua_basic.specs.LuaStoreSeen.{seen}
 use Rattle.lua_basic.specs.Seen.{values_seen, AllOf}
-use Rattle.lua_meaning.specs.Checks.{numbers_from}
+use Rattle.lua_basic.specs.LuaMeaningChecks.{numbers_from}
 use Rattle.lua_strings.proofs.Numbered.{behind, all-read, number-read, number-missing}
 use Rattle.lua_strings.proofs.arguments.read_numbers.Goals as goal
 

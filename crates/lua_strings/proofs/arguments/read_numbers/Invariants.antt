@@ -1,7 +1,7 @@
 use Rattle.std.proofs.Common.{◌≡◌, length}
-use Rattle.lua_meaning.specs.Scope.{Bytes}
+use Rattle.lua_basic.specs.LuaMeaningScope.{Bytes}
 use Rattle.lua_basic.specs.Seen.{values_seen, AllOf}
-use Rattle.lua_meaning.specs.Checks.{numbers_from}
+use Rattle.lua_basic.specs.LuaMeaningChecks.{numbers_from}
 use Rattle.lua_strings.proofs.Numbered.{behind}
 use Rattle.lua_strings.proofs.arguments.read_numbers.Given as goal
 

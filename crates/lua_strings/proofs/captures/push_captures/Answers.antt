@@ -1,8 +1,8 @@
 use Rattle.std.proofs.Common.{◌≡◌, ◌++◌, ◌∙◌, sym, subst}
-use Rattle.lua_store.proofs.Later.{later-then}
+use Rattle.lua_basic.proofs.LuaStoreLater.{later-then}
 use Rattle.lua_basic.specs.Seen.{values_seen, AllOf}
 use Rattle.lua_basic.proofs.Lists.{all-with}
-use Rattle.lua_meaning.specs.Searches.{captures_given, capture_value}
+use Rattle.lua_basic.specs.LuaMeaningSearches.{captures_given, capture_value}
 use Rattle.lua_strings.proofs.Given.{values_stay, one_more}
 use Rattle.lua_strings.proofs.captures.push_captures.Goals as goal
 

@@ -1,7 +1,7 @@
 use Rattle.std.proofs.Common.{◌≡◌, ◌++◌, length}
-use Rattle.lua_store.specs.Parts.{IsLater}
+use Rattle.lua_basic.specs.LuaStoreParts.{IsLater}
 use Rattle.lua_basic.specs.Seen.{values_seen, AllOf}
-use Rattle.lua_meaning.specs.Searches.{captures_given}
+use Rattle.lua_basic.specs.LuaMeaningSearches.{captures_given}
 use Rattle.lua_strings.proofs.captures.push_captures.Given as goal
 
 abbrev pub invariant-captures : goal.invariant-captures

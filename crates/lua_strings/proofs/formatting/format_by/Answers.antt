@@ -1,7 +1,7 @@
 use Rattle.std.proofs.Common.{◌∙◌, subst}
 use Rattle.lua_format.specs.Format.{formatted}
 use Rattle.lua_basic.specs.Seen.{values_seen, Paid}
-use Rattle.lua_meaning.specs.Formats.{laid_out}
+use Rattle.lua_basic.specs.LuaMeaningFormats.{laid_out}
 use Rattle.lua_strings.proofs.formatting.format_by.Goals as goal
 
 pub returns-in-Ok-clause-answer : goal.returns-in-Ok-clause-answer

@@ -1,7 +1,7 @@
 use Rattle.std.proofs.Common.{◌++◌, ◌∷◌, [], ◌∙◌, List, ap, sym, subst, append_assoc, map}
 use Rattle.lua_format.specs.declared.value.FormatValue.{FormatValue}
 use Rattle.lua_basic.specs.Seen.{values_seen, AllOf}
-use Rattle.lua_meaning.specs.Formats.{format_value}
+use Rattle.lua_basic.specs.LuaMeaningFormats.{format_value}
 use Rattle.lua_strings.proofs.formatting.format_values.Goals as goal
 
 pub format_value-requires : goal.format_value-requires

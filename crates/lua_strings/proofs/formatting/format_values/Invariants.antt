@@ -1,6 +1,6 @@
 use Rattle.std.proofs.Common.{◌≡◌, ◌++◌, length, map}
 use Rattle.lua_basic.specs.Seen.{values_seen, AllOf}
-use Rattle.lua_meaning.specs.Formats.{format_value}
+use Rattle.lua_basic.specs.LuaMeaningFormats.{format_value}
 use Rattle.lua_strings.proofs.formatting.format_values.Given as goal
 
 abbrev pub invariant-values : goal.invariant-values

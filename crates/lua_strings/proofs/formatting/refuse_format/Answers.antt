@@ -1,10 +1,10 @@
 use Rattle.std.proofs.Common.{◌∙◌, ap, sym, subst, ◌+◌, codes}
 use Rattle.std.proofs.lemmas.List.{drop-map}
-use Rattle.lua_store.specs.Seen.{seen}
+use Rattle.lua_basic.specs.LuaStoreSeen.{seen}
 use Rattle.lua_basic.specs.Seen.{values_seen, Stops}
-use Rattle.lua_meaning.specs.Messages.{bad_argument, expected}
-use Rattle.lua_meaning.specs.Arguments.{fails}
-use Rattle.lua_meaning.specs.Formats.{wanted_kind}
+use Rattle.lua_basic.specs.LuaMeaningMessages.{bad_argument, expected}
+use Rattle.lua_basic.specs.LuaMeaningArguments.{fails}
+use Rattle.lua_basic.specs.LuaMeaningFormats.{wanted_kind}
 use Rattle.lua_strings.proofs.formatting.refuse_format.Goals as goal
 
 pub returns-in-WrongKind-clause-raises : goal.returns-in-WrongKind-clause-raises

@@ -1,6 +1,6 @@
 use Rattle.std.proofs.Common.{◌∙◌, subst}
-use Rattle.lua_meaning.specs.Messages.{bad_argument}
-use Rattle.lua_meaning.specs.Arguments.{fails}
+use Rattle.lua_basic.specs.LuaMeaningMessages.{bad_argument}
+use Rattle.lua_basic.specs.LuaMeaningArguments.{fails}
 use Rattle.lua_basic.specs.Seen.{Stops}
 use Rattle.lua_strings.proofs.messages.refuse_kind.Goals as goal
 

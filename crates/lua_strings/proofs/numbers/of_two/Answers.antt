@@ -1,6 +1,6 @@
 use Rattle.std.proofs.Common.{◌≡◌, ◌∙◌, ap, refl, Err, rules, w64, to_z, of_z}
 use Rattle.std.proofs.lemmas.Result.{err_from_is_err_and}
-use Rattle.lua_meaning.specs.Arguments.{a_number}
+use Rattle.lua_basic.specs.LuaMeaningArguments.{a_number}
 use Rattle.lua_basic.proofs.Found.{stopped}
 use Rattle.lua_strings.proofs.Given.{past_free}
 use Rattle.lua_strings.specs.Found.{two_of}

@@ -1,7 +1,7 @@
 use Rattle.std.proofs.Common.{◌∙◌, ◌∷◌, [], ap, refl, arith, length, Err}
 use Rattle.std.proofs.lemmas.Result.{err_from_is_err_and}
-use Rattle.lua_store.specs.declared.value.Value.TheVariants as value
-use Rattle.lua_store.specs.Seen.{StoreView}
+use Rattle.lua_basic.specs.LuaStoreDeclaredValueValueTheVariants as value
+use Rattle.lua_basic.specs.LuaStoreSeen.{StoreView}
 use Rattle.lua_strings.specs.Alone.{alone}
 use Rattle.lua_strings.proofs.Taken.{values_paid, not_paid}
 use Rattle.lua_strings.proofs.paying.give_one_text.Goals as goal

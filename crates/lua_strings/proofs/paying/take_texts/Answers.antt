@@ -1,5 +1,5 @@
 use Rattle.std.proofs.Common.{◌∙◌, ap, subst}
-use Rattle.lua_meaning.specs.Arguments.{text_charge}
+use Rattle.lua_basic.specs.LuaMeaningArguments.{text_charge}
 use Rattle.lua_basic.specs.Seen.{values_seen, AllOf}
 use Rattle.lua_strings.proofs.Taken.{taken_more}
 use Rattle.lua_strings.proofs.paying.take_texts.Goals as goal

@@ -1,5 +1,5 @@
 use Rattle.std.proofs.Common.{length}
-use Rattle.lua_meaning.specs.Arguments.{text_charge}
+use Rattle.lua_basic.specs.LuaMeaningArguments.{text_charge}
 use Rattle.lua_basic.specs.Seen.{values_seen, AllOf}
 use Rattle.lua_strings.specs.Costs.{TakenOf}
 use Rattle.lua_strings.proofs.paying.take_texts.Given as goal

@@ -1,5 +1,5 @@
 use Rattle.std.proofs.Common.{refl, ap}
-use Rattle.lua_store.specs.Seen.{StoreView}
+use Rattle.lua_basic.specs.LuaStoreSeen.{StoreView}
 use Rattle.lua_strings.proofs.paying.text_value.Goals as goal
 
 pub returns-clause-value : goal.returns-clause-value

@@ -1,9 +1,9 @@
 use Rattle.std.proofs.Common.{◌++◌, ◌∷◌, [], ◌∙◌, ap, sym, subst, append_assoc, append-nil}
-use Rattle.lua_store.specs.Seen.{seen}
-use Rattle.lua_store.specs.Parts.{IsOf}
+use Rattle.lua_basic.specs.LuaStoreSeen.{seen}
+use Rattle.lua_basic.specs.LuaStoreParts.{IsOf}
 use Rattle.lua_basic.specs.Seen.{values_seen, AllOf}
 use Rattle.lua_basic.proofs.Lists.{all-with, seen-with}
-use Rattle.lua_meaning.specs.Strings.{code_values}
+use Rattle.lua_basic.specs.LuaMeaningStrings.{code_values}
 use Rattle.lua_strings.proofs.places.code_values.Goals as goal
 
 pub bytes-preserved : goal.bytes-preserved

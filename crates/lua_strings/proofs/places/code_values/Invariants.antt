@@ -1,7 +1,7 @@
 use Rattle.std.proofs.Common.{◌≡◌, ◌++◌, ℕ, List, length}
-use Rattle.lua_store.specs.Seen.{StoreView}
+use Rattle.lua_basic.specs.LuaStoreSeen.{StoreView}
 use Rattle.lua_basic.specs.Seen.{values_seen, AllOf}
-use Rattle.lua_meaning.specs.Strings.{code_values}
+use Rattle.lua_basic.specs.LuaMeaningStrings.{code_values}
 use Rattle.lua_strings.proofs.places.code_values.Given as goal
 
 abbrev pub invariant-bytes : goal.invariant-bytes

@@ -1,12 +1,12 @@
 use Rattle.std.proofs.Common.{◌≡◌, ◌∙◌, ap, refl, Err, pos, codes, rules, w64, to_z, of_z}
 use Rattle.std.proofs.lemmas.Result.{err_from_is_err_and}
-use Rattle.lua_meaning.specs.Values as meaning
-use Rattle.lua_meaning.specs.Arguments.{a_text, number_or}
+use Rattle.lua_basic.specs.LuaMeaningValues as meaning
+use Rattle.lua_basic.specs.LuaMeaningArguments.{a_text, number_or}
 use Rattle.lua_basic.specs.Arguments.{text_bytes}
 use Rattle.lua_strings.proofs.Given.{past, ended}
-use Rattle.lua_heap.specs.Value.{is_true}
+use Rattle.lua_basic.specs.LuaHeapValue.{is_true}
 use Rattle.lua_basic.specs.Seen.{values_seen}
-use Rattle.lua_meaning.specs.Checks.{fourth}
+use Rattle.lua_basic.specs.LuaMeaningChecks.{fourth}
 use Rattle.lua_strings.proofs.searching.find.Goals as goal
 
 pub a_text-requires-2 : goal.a_text-requires-2

@@ -1,7 +1,7 @@
 use Rattle.std.proofs.Common.{◌≡◌, ◌∙◌, ap, refl, Err, pos, codes, rules, w64, to_z, of_z}
 use Rattle.std.proofs.lemmas.Result.{err_from_is_err_and}
-use Rattle.lua_meaning.specs.Values as meaning
-use Rattle.lua_meaning.specs.Arguments.{a_text, number_or}
+use Rattle.lua_basic.specs.LuaMeaningValues as meaning
+use Rattle.lua_basic.specs.LuaMeaningArguments.{a_text, number_or}
 use Rattle.lua_basic.specs.Arguments.{text_bytes}
 use Rattle.lua_strings.proofs.Given.{past, ended}
 use Rattle.lua_strings.proofs.searching.match_from.Goals as goal

@@ -1,6 +1,6 @@
 use Rattle.std.proofs.Common.{codes, true, false}
-use Rattle.lua_heap.specs.Value.{is_nil}
-use Rattle.lua_meaning.specs.Messages.{bad_argument, expected}
+use Rattle.lua_basic.specs.LuaHeapValue.{is_nil}
+use Rattle.lua_basic.specs.LuaMeaningMessages.{bad_argument, expected}
 use Rattle.lua_basic.specs.Seen.{values_seen}
 use Rattle.lua_basic.proofs.Lists.{tested}
 use Rattle.lua_basic.proofs.Found.{refused}

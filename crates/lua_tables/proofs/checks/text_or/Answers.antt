@@ -1,6 +1,6 @@
 use Rattle.std.proofs.Common.{sym, true, false, subst}
 use Rattle.std.specs.Result.{IfErr}
-use Rattle.lua_heap.specs.Value.{is_nil}
+use Rattle.lua_basic.specs.LuaHeapValue.{is_nil}
 use Rattle.lua_basic.specs.Seen.{values_seen, Refuses}
 use Rattle.lua_basic.proofs.Lists.{tested}
 use Rattle.lua_tables.proofs.Checked.{left_out, not_left_out}

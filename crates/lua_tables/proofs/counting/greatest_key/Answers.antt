@@ -1,6 +1,6 @@
 use Rattle.std.proofs.Common.{◌≡◌, ◌∙◌, sym, rules, w64, to_z, of_z}
-use Rattle.lua_store.specs.Seen.{seen}
-use Rattle.lua_heap.specs.Heap.{table_at}
+use Rattle.lua_basic.specs.LuaStoreSeen.{seen}
+use Rattle.lua_basic.specs.LuaHeapHeap.{table_at}
 use Rattle.lua_tables.proofs.Reading.{counting-on, counting-all}
 use Rattle.lua_tables.proofs.counting.greatest_key.Goals as goal
 

@@ -1,4 +1,4 @@
-use Rattle.lua_heap.specs.Heap.{table_at}
+use Rattle.lua_basic.specs.LuaHeapHeap.{table_at}
 use Rattle.lua_tables.proofs.Reading.{Counting}
 use Rattle.lua_tables.proofs.counting.greatest_key.Given as goal
 

@@ -1,12 +1,12 @@
 use Rattle.std.proofs.Common.{◌≡◌, ◌∙◌, ap, refl, Ok, Err, subst, sym, length, pos, [], ◌∷◌, rules, w64, to_z, of_z}
 use Rattle.std.proofs.lemmas.Result.{err_from_is_err_and}
-use Rattle.lua_heap.specs.Value as kind
-use Rattle.lua_heap.specs.Heap.{table_at}
-use Rattle.lua_meaning.specs.Arguments.{costs}
-use Rattle.lua_store.specs.Seen.{StoreView}
+use Rattle.lua_basic.specs.LuaHeapValue as kind
+use Rattle.lua_basic.specs.LuaHeapHeap.{table_at}
+use Rattle.lua_basic.specs.LuaMeaningArguments.{costs}
+use Rattle.lua_basic.specs.LuaStoreSeen.{StoreView}
 use Rattle.lua_basic.specs.Seen.{values_seen, Paid}
 use Rattle.lua_basic.proofs.Found.{stopped, found, for_nothing}
-use Rattle.lua_meaning.specs.TableLibrary.{greatest_key, maxn}
+use Rattle.lua_basic.specs.LuaMeaningTableLibrary.{greatest_key, maxn}
 use Rattle.lua_tables.proofs.Taken.{paid-values}
 use Rattle.lua_tables.proofs.Moved.{put-gives}
 use Rattle.lua_tables.proofs.Reading.{paid-counted}

@@ -1,12 +1,12 @@
 use Rattle.std.proofs.Common.{◌≡◌, ◌<◌, ◌≤◌, ◌∙◌, ap, refl, Err, subst, sym, codes, rules, arith, length, w64, to_z, of_z}
 use Rattle.std.proofs.lemmas.Result.{err_from_is_err_and}
 use Rattle.std.proofs.lemmas.List.{length-map}
-use Rattle.lua_meaning.specs.Arguments.{a_number}
-use Rattle.lua_meaning.specs.Values as meaning
-use Rattle.lua_store.specs.Seen.{StoreView, seen}
+use Rattle.lua_basic.specs.LuaMeaningArguments.{a_number}
+use Rattle.lua_basic.specs.LuaMeaningValues as meaning
+use Rattle.lua_basic.specs.LuaStoreSeen.{StoreView, seen}
 use Rattle.lua_basic.specs.Seen.{values_seen, Free, Paid}
 use Rattle.lua_basic.proofs.Found.{stopped, found, for_nothing}
-use Rattle.lua_meaning.specs.TableLibrary.{insert_at}
+use Rattle.lua_basic.specs.LuaMeaningTableLibrary.{insert_at}
 use Rattle.lua_tables.proofs.Moved.{insert_form, two-arguments, three-arguments}
 use Rattle.lua_tables.proofs.inserting.insert.Goals as goal
 

@@ -1,11 +1,11 @@
 use Rattle.std.proofs.Common.{◌≡◌, ◌+◌, ◌∙◌, ap, sym, ◌∷◌, [], arith, rules, Err, w64, to_z, of_z}
 use Rattle.std.proofs.lemmas.Int.{to_z-of_z}
 use Rattle.std.proofs.lemmas.Result.{err_from_is_err_and}
-use Rattle.lua_heap.specs.Heap.{table_at}
-use Rattle.lua_meaning.specs.Basic.{entries_from}
-use Rattle.lua_store.specs.Seen.{StoreView, seen}
+use Rattle.lua_basic.specs.LuaHeapHeap.{table_at}
+use Rattle.lua_basic.specs.LuaMeaningBasic.{entries_from}
+use Rattle.lua_basic.specs.LuaStoreSeen.{StoreView, seen}
 use Rattle.lua_basic.specs.Seen.{values_seen}
-use Rattle.lua_meaning.specs.TableLibrary.{put_charge, insert_fitting}
+use Rattle.lua_basic.specs.LuaMeaningTableLibrary.{put_charge, insert_fitting}
 use Rattle.lua_tables.proofs.Taken.{paid-short, paid-values}
 use Rattle.lua_tables.proofs.Moved.{insert-charge, put-gives}
 use Rattle.lua_tables.proofs.inserting.insert_fitting.Goals as goal

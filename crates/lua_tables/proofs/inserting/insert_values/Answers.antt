@@ -1,10 +1,10 @@
 use Rattle.std.proofs.Common.{sym, subst, w64, pos, ◌+ℤ◌, Err}
 use Rattle.std.proofs.lemmas.Int.{to_z-of_z}
 use Rattle.lua_number.proofs.Operations.{does_fit, not_fits}
-use Rattle.lua_store.specs.Seen.{seen}
+use Rattle.lua_basic.specs.LuaStoreSeen.{seen}
 use Rattle.lua_basic.specs.Seen.{Free, Paid}
 use Rattle.lua_basic.proofs.Found.{for_nothing}
-use Rattle.lua_meaning.specs.TableLibrary.{insert_values}
+use Rattle.lua_basic.specs.LuaMeaningTableLibrary.{insert_values}
 use Rattle.lua_tables.proofs.Moved.{insert-fits, insert-far}
 use Rattle.lua_tables.proofs.inserting.insert_values.Goals as goal
 

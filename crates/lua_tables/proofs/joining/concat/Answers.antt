@@ -1,14 +1,14 @@
 use Rattle.std.proofs.Common.{◌≡◌, ◌∙◌, ap, refl, Err, subst, sym, pos, codes, rules, w64, to_z, of_z}
 use Rattle.std.proofs.lemmas.Result.{err_from_is_err_and}
-use Rattle.lua_heap.specs.Heap.{table_at}
-use Rattle.lua_heap.specs.Table.{border}
-use Rattle.lua_meaning.specs.Values as meaning
-use Rattle.lua_meaning.specs.Arguments.{number_or}
+use Rattle.lua_basic.specs.LuaHeapHeap.{table_at}
+use Rattle.lua_basic.specs.LuaHeapTable.{border}
+use Rattle.lua_basic.specs.LuaMeaningValues as meaning
+use Rattle.lua_basic.specs.LuaMeaningArguments.{number_or}
 use Rattle.lua_basic.specs.Seen.{values_seen, Free, Paid}
 use Rattle.lua_basic.specs.Arguments.{text_bytes}
 use Rattle.lua_basic.proofs.Found.{stopped, found, for_nothing}
-use Rattle.lua_meaning.specs.Checks.{text_or}
-use Rattle.lua_meaning.specs.TableLibrary.{concat_between}
+use Rattle.lua_basic.specs.LuaMeaningChecks.{text_or}
+use Rattle.lua_basic.specs.LuaMeaningTableLibrary.{concat_between}
 use Rattle.lua_tables.proofs.joining.concat.Goals as goal
 
 pub text_or-requires : goal.text_or-requires

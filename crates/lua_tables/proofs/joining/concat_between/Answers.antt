@@ -1,12 +1,12 @@
 use Rattle.std.proofs.Common.{◌≡◌, ◌<◌, ◌≤◌, ◌∙◌, ap, sym, subst, suc, length, arith, rules, pos, ◌+ℤ◌, Err, w64, to_z, of_z}
 use Rattle.std.proofs.lemmas.Int.{to_z-of_z, ints}
 use Rattle.std.proofs.lemmas.Result.{err_from_is_err_and}
-use Rattle.lua_heap.specs.Heap.{table_at}
-use Rattle.lua_meaning.specs.Arguments.{fails, gives_text}
-use Rattle.lua_meaning.specs.Basic.{count_between, entries_from}
+use Rattle.lua_basic.specs.LuaHeapHeap.{table_at}
+use Rattle.lua_basic.specs.LuaMeaningArguments.{fails, gives_text}
+use Rattle.lua_basic.specs.LuaMeaningBasic.{count_between, entries_from}
 use Rattle.lua_basic.specs.Seen.{values_seen, AllOf, Stops, Paid}
 use Rattle.lua_basic.proofs.Found.{for_nothing}
-use Rattle.lua_meaning.specs.TableLibrary.{PassedAll, walk, is_part, joined, invalid_item, concat_between}
+use Rattle.lua_basic.specs.LuaMeaningTableLibrary.{PassedAll, walk, is_part, joined, invalid_item, concat_between}
 use Rattle.lua_tables.specs.Walked.{walk_charge}
 use Rattle.lua_tables.specs.Paying.{IsTaken}
 use Rattle.lua_tables.proofs.Put.{in_count, length-entries}

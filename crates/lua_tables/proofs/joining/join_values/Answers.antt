@@ -1,10 +1,10 @@
 use Rattle.std.proofs.Common.{◌∙◌, ap, refl, [], ◌∷◌, arith, length, Err}
 use Rattle.std.proofs.lemmas.Result.{err_from_is_err_and}
-use Rattle.lua_heap.specs.Value as kind
-use Rattle.lua_meaning.specs.Arguments.{gives_text}
-use Rattle.lua_store.specs.Seen.{StoreView}
+use Rattle.lua_basic.specs.LuaHeapValue as kind
+use Rattle.lua_basic.specs.LuaMeaningArguments.{gives_text}
+use Rattle.lua_basic.specs.LuaStoreSeen.{StoreView}
 use Rattle.lua_basic.specs.Seen.{values_seen}
-use Rattle.lua_meaning.specs.TableLibrary.{joined}
+use Rattle.lua_basic.specs.LuaMeaningTableLibrary.{joined}
 use Rattle.lua_tables.proofs.Taken.{paid-short, paid-values}
 use Rattle.lua_tables.proofs.Moved.{put-gives}
 use Rattle.lua_tables.proofs.joining.join_values.Goals as goal

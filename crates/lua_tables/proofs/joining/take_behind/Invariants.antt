@@ -1,6 +1,6 @@
 use Rattle.std.proofs.Common.{length}
 use Rattle.lua_basic.specs.Seen.{values_seen, AllOf}
-use Rattle.lua_meaning.specs.TableLibrary.{behind_parts}
+use Rattle.lua_basic.specs.LuaMeaningTableLibrary.{behind_parts}
 use Rattle.lua_tables.proofs.Taken.{Paying}
 use Rattle.lua_tables.proofs.joining.take_behind.Given as goal
 

@@ -1,8 +1,8 @@
 use Rattle.std.proofs.Common.{◌∙◌, ap, length, Err}
 use Rattle.std.proofs.lemmas.Result.{err_from_is_err_and}
-use Rattle.lua_store.specs.Seen.{seen}
+use Rattle.lua_basic.specs.LuaStoreSeen.{seen}
 use Rattle.lua_basic.specs.Seen.{values_seen}
-use Rattle.lua_meaning.specs.TableLibrary.{part, behind_parts}
+use Rattle.lua_basic.specs.LuaMeaningTableLibrary.{part, behind_parts}
 use Rattle.lua_tables.proofs.Taken.{both, first_short}
 use Rattle.lua_tables.proofs.joining.take_parts.Goals as goal
 

@@ -1,10 +1,10 @@
 use Rattle.std.proofs.Common.{◌<◌, ◌∙◌, ap, sym, true, false, arith, rules, length}
 use Rattle.std.proofs.lemmas.List.{length-map}
-use Rattle.lua_meaning.specs.Values.{first}
-use Rattle.lua_store.specs.Seen.{seen}
+use Rattle.lua_basic.specs.LuaMeaningValues.{first}
+use Rattle.lua_basic.specs.LuaStoreSeen.{seen}
 use Rattle.lua_basic.specs.Seen.{values_seen}
 use Rattle.lua_basic.proofs.Lists.{tested}
-use Rattle.lua_meaning.specs.TableLibrary.{walk, may_stand, is_number}
+use Rattle.lua_basic.specs.LuaMeaningTableLibrary.{walk, may_stand, is_number}
 use Rattle.lua_tables.proofs.Orders.{number_list, text_list}
 use Rattle.lua_tables.proofs.ordering.in_order.Goals as goal
 

@@ -1,5 +1,5 @@
 use Rattle.std.proofs.Common.{◌≡◌, refl, sym, subst, map, rules, w64, to_z, of_z}
-use Rattle.lua_heap.specs.Value.{Number}
+use Rattle.lua_basic.specs.LuaHeapValue.{Number}
 use Rattle.lua_basic.specs.Seen.{values_seen, AllOf}
 use Rattle.lua_basic.proofs.Lists.{all-with}
 use Rattle.lua_tables.proofs.Listed.{none-left, number-on}

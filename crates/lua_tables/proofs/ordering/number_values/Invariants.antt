@@ -1,6 +1,6 @@
 use Rattle.std.proofs.Common.{◌≡◌, ◌++◌, ℕ, List, length, map}
-use Rattle.lua_heap.specs.Value.{Number}
-use Rattle.lua_store.specs.Seen.{StoreView}
+use Rattle.lua_basic.specs.LuaHeapValue.{Number}
+use Rattle.lua_basic.specs.LuaStoreSeen.{StoreView}
 use Rattle.lua_basic.specs.Seen.{values_seen, AllOf}
 use Rattle.lua_tables.proofs.ordering.number_values.Given as goal
 

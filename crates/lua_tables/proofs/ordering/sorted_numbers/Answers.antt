@@ -1,7 +1,7 @@
 use Rattle.std.proofs.Common.{◌∙◌, ap, map}
 use Rattle.std.specs.Ordering.{int_cmp}
-use Rattle.lua_heap.specs.Value.{Number}
-use Rattle.lua_meaning.specs.TableLibrary.{in_order}
+use Rattle.lua_basic.specs.LuaHeapValue.{Number}
+use Rattle.lua_basic.specs.LuaMeaningTableLibrary.{in_order}
 use Rattle.lua_tables.proofs.Orders.{numbers_sorted}
 use Rattle.lua_tables.proofs.ordering.sorted_numbers.Goals as goal
 

@@ -2,8 +2,8 @@ use Rattle.std.proofs.Common.{◌∙◌, ap, map, ℕ, List}
 use Rattle.std.specs.Borrow.{Bor}
 use Rattle.std.specs.Ordering.{nat_cmp}
 use Rattle.std.specs.Cmp.Lexicographic.{slice_cmp}
-use Rattle.lua_heap.specs.Value.{Text}
-use Rattle.lua_meaning.specs.TableLibrary.{in_order}
+use Rattle.lua_basic.specs.LuaHeapValue.{Text}
+use Rattle.lua_basic.specs.LuaMeaningTableLibrary.{in_order}
 use Rattle.lua_tables.proofs.Orders.{texts_sorted}
 use Rattle.lua_tables.proofs.ordering.sorted_texts.Goals as goal
 

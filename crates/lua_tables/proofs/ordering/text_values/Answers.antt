@@ -1,5 +1,5 @@
 use Rattle.std.proofs.Common.{◌<◌, length, rules, sym, subst}
-use Rattle.lua_store.proofs.Later.{later-then}
+use Rattle.lua_basic.proofs.LuaStoreLater.{later-then}
 use Rattle.lua_basic.specs.Seen.{AllOf}
 use Rattle.lua_basic.proofs.Lists.{all-with}
 use Rattle.lua_tables.proofs.Put.{all-later}

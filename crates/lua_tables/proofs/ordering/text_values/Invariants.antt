@@ -1,7 +1,7 @@
 use Rattle.std.proofs.Common.{◌≡◌, ◌++◌, ℕ, List, map, drop}
 use Rattle.std.specs.Borrow.{Bor}
-use Rattle.lua_heap.specs.Value.{Text}
-use Rattle.lua_store.specs.Parts.{IsLater}
+use Rattle.lua_basic.specs.LuaHeapValue.{Text}
+use Rattle.lua_basic.specs.LuaStoreParts.{IsLater}
 use Rattle.lua_basic.specs.Seen.{values_seen, AllOf}
 use Rattle.lua_tables.proofs.ordering.text_values.Given as goal
 

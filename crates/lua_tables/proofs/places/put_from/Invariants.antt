@@ -1,8 +1,8 @@
 use Rattle.std.proofs.Common.{◌≡◌, ◌+◌, ◌+ℤ◌, pos, false, length}
-use Rattle.lua_heap.specs.Heap.{table_at}
-use Rattle.lua_store.specs.Parts.{IsLater}
+use Rattle.lua_basic.specs.LuaHeapHeap.{table_at}
+use Rattle.lua_basic.specs.LuaStoreParts.{IsLater}
 use Rattle.lua_basic.specs.Seen.{values_seen, AllOf}
-use Rattle.lua_meaning.specs.TableLibrary.{put_from}
+use Rattle.lua_basic.specs.LuaMeaningTableLibrary.{put_from}
 use Rattle.lua_tables.proofs.places.put_from.Given as goal
 
 -- putting what is left puts all

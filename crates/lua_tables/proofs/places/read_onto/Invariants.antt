@@ -1,6 +1,6 @@
 use Rattle.std.proofs.Common.{◌≡◌, ◌++◌, ◌-◌, ◌+ℤ◌, pos}
-use Rattle.lua_heap.specs.Heap.{table_at}
-use Rattle.lua_meaning.specs.Basic.{entries_from}
+use Rattle.lua_basic.specs.LuaHeapHeap.{table_at}
+use Rattle.lua_basic.specs.LuaMeaningBasic.{entries_from}
 use Rattle.lua_basic.specs.Seen.{values_seen, AllOf}
 use Rattle.lua_tables.proofs.places.read_onto.Given as goal
 

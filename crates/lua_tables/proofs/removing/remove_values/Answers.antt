@@ -1,13 +1,13 @@
 use Rattle.std.proofs.Common.{◌≡◌, ◌∙◌, ◌++◌, ◌+◌, ap, sym, subst, [], ◌∷◌, arith, Err, w64}
 use Rattle.std.proofs.lemmas.Int.{to_z-of_z, ints}
 use Rattle.std.proofs.lemmas.Result.{err_from_is_err_and}
-use Rattle.lua_heap.specs.Heap.{table_at}
-use Rattle.lua_meaning.specs.Values.{first}
-use Rattle.lua_meaning.specs.Basic.{entries_from}
-use Rattle.lua_store.specs.Seen.{StoreView, seen}
+use Rattle.lua_basic.specs.LuaHeapHeap.{table_at}
+use Rattle.lua_basic.specs.LuaMeaningValues.{first}
+use Rattle.lua_basic.specs.LuaMeaningBasic.{entries_from}
+use Rattle.lua_basic.specs.LuaStoreSeen.{StoreView, seen}
 use Rattle.lua_basic.specs.Seen.{values_seen, AllOf}
 use Rattle.lua_basic.proofs.Lists.{all-with}
-use Rattle.lua_meaning.specs.TableLibrary.{remove_values}
+use Rattle.lua_basic.specs.LuaMeaningTableLibrary.{remove_values}
 use Rattle.lua_tables.proofs.Taken.{paid-short, paid-values}
 use Rattle.lua_tables.proofs.Moved.{put-gives, remove-charge, moved-seen, moved-length, first-read}
 use Rattle.lua_tables.proofs.removing.remove_values.Goals as goal

@@ -1,10 +1,10 @@
 use Rattle.std.proofs.Common.{◌∙◌, ap, refl, Err, subst, sym, codes}
 use Rattle.std.proofs.lemmas.Result.{err_from_is_err_and}
-use Rattle.lua_heap.specs.Value as kind
+use Rattle.lua_basic.specs.LuaHeapValue as kind
 use Rattle.lua_basic.specs.Seen.{Free, Paid}
 use Rattle.lua_basic.proofs.Found.{stopped, found, for_nothing}
-use Rattle.lua_meaning.specs.Checks.{a_nil}
-use Rattle.lua_meaning.specs.TableLibrary.{sort_table}
+use Rattle.lua_basic.specs.LuaMeaningChecks.{a_nil}
+use Rattle.lua_basic.specs.LuaMeaningTableLibrary.{sort_table}
 use Rattle.lua_tables.proofs.sorting.sort.Goals as goal
 
 pub a_nil-requires : goal.a_nil-requires

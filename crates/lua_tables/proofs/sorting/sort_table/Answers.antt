@@ -2,16 +2,16 @@ use Rattle.std.proofs.Common.{◌≡◌, ◌∙◌, ap, sym, subst, pos, suc, le
 use Rattle.std.specs.Prelude.{codes}
 use Rattle.std.proofs.lemmas.Result.{err_from_is_err_and}
 use Rattle.std.proofs.lemmas.List.{length-map}
-use Rattle.lua_heap.specs.Heap.{table_at}
-use Rattle.lua_heap.specs.Table.{border, get}
-use Rattle.lua_heap.specs.Value.{Number}
-use Rattle.lua_meaning.specs.Basic.{count_between, entries_from}
-use Rattle.lua_meaning.specs.Messages.{bad_argument, expected}
-use Rattle.lua_meaning.specs.Arguments.{fails}
-use Rattle.lua_store.specs.Seen.{seen}
+use Rattle.lua_basic.specs.LuaHeapHeap.{table_at}
+use Rattle.lua_basic.specs.LuaHeapTable.{border, get}
+use Rattle.lua_basic.specs.LuaHeapValue.{Number}
+use Rattle.lua_basic.specs.LuaMeaningBasic.{count_between, entries_from}
+use Rattle.lua_basic.specs.LuaMeaningMessages.{bad_argument, expected}
+use Rattle.lua_basic.specs.LuaMeaningArguments.{fails}
+use Rattle.lua_basic.specs.LuaStoreSeen.{seen}
 use Rattle.lua_basic.specs.Seen.{values_seen, AllOf, Stops, Paid}
 use Rattle.lua_basic.proofs.Found.{for_nothing}
-use Rattle.lua_meaning.specs.TableLibrary.{walk, may_stand, wanted_kind, sort_values, sort_table}
+use Rattle.lua_basic.specs.LuaMeaningTableLibrary.{walk, may_stand, wanted_kind, sort_values, sort_table}
 use Rattle.lua_tables.specs.Walked.{walk_charge}
 use Rattle.lua_tables.specs.Paying.{IsTaken}
 use Rattle.lua_tables.proofs.Put.{count_from_one}

@@ -1,10 +1,10 @@
 use Rattle.std.proofs.Common.{◌≡◌, ◌∙◌, ◌+◌, ap, sym, subst, false, [], arith, rules, length, Ok, Err, pos}
 use Rattle.std.proofs.lemmas.Result.{err_from_is_err_and}
 use Rattle.std.proofs.lemmas.List.{length-map}
-use Rattle.lua_heap.specs.Heap.{table_at}
-use Rattle.lua_store.specs.Seen.{StoreView, seen}
+use Rattle.lua_basic.specs.LuaHeapHeap.{table_at}
+use Rattle.lua_basic.specs.LuaStoreSeen.{StoreView, seen}
 use Rattle.lua_basic.specs.Seen.{values_seen, Paid}
-use Rattle.lua_meaning.specs.TableLibrary.{order_charge, put_from, put_charge, in_order, value_cmp}
+use Rattle.lua_basic.specs.LuaMeaningTableLibrary.{order_charge, put_from, put_charge, in_order, value_cmp}
 use Rattle.lua_tables.proofs.Taken.{paid-short, paid-values}
 use Rattle.lua_tables.proofs.Moved.{put-gives, sort-charge, sort-writable}
 use Rattle.lua_tables.proofs.sorting.sort_values.Goals as goal

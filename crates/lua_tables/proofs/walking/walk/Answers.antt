@@ -1,10 +1,10 @@
 use Rattle.std.proofs.Common.{◌≡◌, ◌∙◌, ap, sym, subst, Err, rules, w64, to_z, of_z}
 use Rattle.std.proofs.lemmas.Int.{to_z-of_z}
 use Rattle.std.proofs.lemmas.Result.{err_from_is_err_and}
-use Rattle.lua_heap.specs.Heap.{table_at}
-use Rattle.lua_heap.specs.Table.{get}
-use Rattle.lua_heap.specs.Value.{Number}
-use Rattle.lua_meaning.specs.Basic.{count_between}
+use Rattle.lua_basic.specs.LuaHeapHeap.{table_at}
+use Rattle.lua_basic.specs.LuaHeapTable.{get}
+use Rattle.lua_basic.specs.LuaHeapValue.{Number}
+use Rattle.lua_basic.specs.LuaMeaningBasic.{count_between}
 use Rattle.lua_tables.specs.Walked.{test_of}
 use Rattle.lua_tables.proofs.Reading.{Walking, walking-start, walking-on, walking-refused, walking-all, walking-short}
 use Rattle.lua_tables.proofs.walking.walk.Goals as goal

@@ -1,5 +1,5 @@
-use Rattle.lua_heap.specs.Heap.{table_at}
-use Rattle.lua_meaning.specs.Basic.{count_between}
+use Rattle.lua_basic.specs.LuaHeapHeap.{table_at}
+use Rattle.lua_basic.specs.LuaMeaningBasic.{count_between}
 use Rattle.lua_tables.specs.Walked.{test_of}
 use Rattle.lua_tables.proofs.Reading.{Walking}
 use Rattle.lua_tables.proofs.walking.walk.Given as goal

@@ -1,8 +1,8 @@
 use Rattle.lua_code.specs.Seen.{expression_seen}
-use Rattle.lua_slots.specs.Points.{Evals}
-use Rattle.lua_stack.specs.declared.focus.Focus.TheVariants as focus
-use Rattle.lua_stack.specs.declared.values.Given.TheVariants as given
-use Rattle.lua_state.specs.Seen.{frames_of}
+use Rattle.lua_operators.specs.LuaSlotsPoints.{Evals}
+use Rattle.lua_strides.specs.LuaStackDeclaredFocusFocusTheVariants as focus
+use Rattle.lua_strides.specs.LuaStackDeclaredValuesGivenTheVariants as given
+use Rattle.lua_loops.specs.LuaStateSeen.{frames_of}
 use Rattle.lua_turns.proofs.Following.{follows_none, follows_unpaid, strides_follow}
 use Rattle.lua_turns.proofs.ReadFirst.{value_given}
 use Rattle.lua_turns.proofs.at_hand.next_of.Goals as goal

@@ -1,10 +1,10 @@
 use Rattle.lua_code.specs.Seen.{expression_seen}
-use Rattle.lua_slots.specs.Points.{Evals}
-use Rattle.lua_stack.specs.declared.focus.Focus.TheVariants as focus
-use Rattle.lua_stack.specs.declared.frame.Frame.TheVariants as frame
-use Rattle.lua_stack.specs.declared.frame.InExpression.TheVariants as in_expression
-use Rattle.lua_state.specs.Seen.{slots_of, frames_of}
-use Rattle.lua_state.specs.Worlds.{world_seen}
+use Rattle.lua_operators.specs.LuaSlotsPoints.{Evals}
+use Rattle.lua_strides.specs.LuaStackDeclaredFocusFocusTheVariants as focus
+use Rattle.lua_operators.specs.LuaStackDeclaredFrameFrameTheVariants as frame
+use Rattle.lua_operators.specs.LuaStackDeclaredFrameInExpressionTheVariants as in_expression
+use Rattle.lua_loops.specs.LuaStateSeen.{slots_of, frames_of}
+use Rattle.lua_loops.specs.LuaStateWorlds.{world_seen}
 use Rattle.lua_strides.proofs.Paths.{unpaid}
 use Rattle.lua_turns.specs.Deciding.{deciding_with}
 use Rattle.lua_turns.proofs.Begun.{begun, decides_begins}

@@ -1,12 +1,12 @@
 use Rattle.std.proofs.Common.{sym, ap, ◌∷◌, List, ℕ}
 use Rattle.lua_code.specs.Seen.{expression_seen, expressions_seen}
-use Rattle.lua_slots.specs.Code.{MethodC}
-use Rattle.lua_slots.specs.Errors.{node}
-use Rattle.lua_slots.specs.Points.{MethodNext, Evals, Now}
-use Rattle.lua_stack.specs.declared.focus.Focus.TheVariants as focus
-use Rattle.lua_stack.specs.declared.frame.Frame.TheVariants as frame
-use Rattle.lua_stack.specs.declared.frame.InExpression.TheVariants as in_expression
-use Rattle.lua_state.specs.Seen.{slots_of, frames_of}
+use Rattle.lua_code.specs.LuaSlotsCode.{MethodC}
+use Rattle.lua_operators.specs.LuaSlotsErrors.{node}
+use Rattle.lua_operators.specs.LuaSlotsPoints.{MethodNext, Evals, Now}
+use Rattle.lua_strides.specs.LuaStackDeclaredFocusFocusTheVariants as focus
+use Rattle.lua_operators.specs.LuaStackDeclaredFrameFrameTheVariants as frame
+use Rattle.lua_operators.specs.LuaStackDeclaredFrameInExpressionTheVariants as in_expression
+use Rattle.lua_loops.specs.LuaStateSeen.{slots_of, frames_of}
 use Rattle.lua_strides.proofs.Paths.{unpaid}
 use Rattle.lua_turns.proofs.Begun.{begun}
 use Rattle.lua_turns.proofs.beginning.begin_method.Goals as goal

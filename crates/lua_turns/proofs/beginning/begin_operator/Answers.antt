@@ -1,13 +1,13 @@
 use Rattle.std.proofs.Common.{◌∷◌, refl, arith}
 use Rattle.lua_code.specs.Seen.{expression_seen, operator_seen}
-use Rattle.lua_slots.specs.Code.{OperateC}
-use Rattle.lua_slots.specs.Points.{OperandNext, Evals}
-use Rattle.lua_in_place.proofs.Reading.{node_move}
-use Rattle.lua_stack.specs.declared.focus.Focus.TheVariants as focus
-use Rattle.lua_stack.specs.declared.frame.Frame.TheVariants as frame
-use Rattle.lua_stack.specs.declared.frame.InExpression.TheVariants as in_expression
-use Rattle.lua_state.specs.Seen.{slots_of, frames_of}
-use Rattle.lua_state.specs.Worlds.{world_seen}
+use Rattle.lua_code.specs.LuaSlotsCode.{OperateC}
+use Rattle.lua_operators.specs.LuaSlotsPoints.{OperandNext, Evals}
+use Rattle.lua_strides.proofs.LuaInPlaceReading.{node_move}
+use Rattle.lua_strides.specs.LuaStackDeclaredFocusFocusTheVariants as focus
+use Rattle.lua_operators.specs.LuaStackDeclaredFrameFrameTheVariants as frame
+use Rattle.lua_operators.specs.LuaStackDeclaredFrameInExpressionTheVariants as in_expression
+use Rattle.lua_loops.specs.LuaStateSeen.{slots_of, frames_of}
+use Rattle.lua_loops.specs.LuaStateWorlds.{world_seen}
 use Rattle.lua_strides.proofs.Paths.{ready, at_once, unpaid}
 use Rattle.lua_turns.proofs.beginning.begin_operator.Goals as goal
 

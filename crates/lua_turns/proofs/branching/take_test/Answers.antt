@@ -1,19 +1,19 @@
 use Rattle.std.proofs.Common.{◌∙◌, ◌∷◌, [], ℕ, refl, sym, ap, subst, length, List}
-use Rattle.page_run.specs.Outcome.{Goes}
+use Rattle.lua_loops.specs.PageRunOutcome.{Goes}
 use Rattle.lua_code.specs.declared.statement.Statement.{Statement}
 use Rattle.lua_code.specs.Seen.{block_seen, expression_seen}
-use Rattle.lua_slots.specs.Errors.{gives}
-use Rattle.lua_slots.specs.Points.{WhileEnd, WhileTurnS, SFrame, Gives, Runs, Starts, Now}
-use Rattle.lua_store.proofs.Later.{later-itself}
-use Rattle.lua_store.specs.Seen.{seen}
-use Rattle.lua_stack.specs.declared.focus.Focus.TheVariants as focus
-use Rattle.lua_stack.specs.declared.frame.Frame.{Frame}
-use Rattle.lua_stack.specs.declared.frame.Frame.TheVariants as frame
-use Rattle.lua_stack.specs.declared.frame.Ending.TheVariants as ending
-use Rattle.lua_stack.specs.declared.frame.InLoop.TheVariants as in_loop
-use Rattle.lua_stack.specs.declared.values.Given.TheVariants as given
-use Rattle.lua_stack.specs.Seen.{frames_seen}
-use Rattle.lua_state.specs.Seen.{slots_of, frames_of}
+use Rattle.lua_operators.specs.LuaSlotsErrors.{gives}
+use Rattle.lua_operators.specs.LuaSlotsPoints.{WhileEnd, WhileTurnS, SFrame, Gives, Runs, Starts, Now}
+use Rattle.lua_operators.proofs.LuaStoreLater.{later-itself}
+use Rattle.lua_operators.specs.LuaStoreSeen.{seen}
+use Rattle.lua_strides.specs.LuaStackDeclaredFocusFocusTheVariants as focus
+use Rattle.lua_strides.specs.LuaStackDeclaredFrameFrame.{Frame}
+use Rattle.lua_operators.specs.LuaStackDeclaredFrameFrameTheVariants as frame
+use Rattle.lua_operators.specs.LuaStackDeclaredFrameEndingTheVariants as ending
+use Rattle.lua_operators.specs.LuaStackDeclaredFrameInLoopTheVariants as in_loop
+use Rattle.lua_strides.specs.LuaStackDeclaredValuesGivenTheVariants as given
+use Rattle.lua_operators.specs.LuaStackSeen.{frames_seen}
+use Rattle.lua_loops.specs.LuaStateSeen.{slots_of, frames_of}
 use Rattle.lua_strides.specs.Strides.{LeadsAt}
 use Rattle.lua_strides.proofs.Paths.{unpaid}
 use Rattle.lua_turns.proofs.Chosen.{not_held, turned}

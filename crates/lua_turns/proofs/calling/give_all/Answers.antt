@@ -1,9 +1,9 @@
 use Rattle.std.proofs.Common.{Some}
-use Rattle.lua_stack.specs.declared.focus.Focus.TheVariants as focus
-use Rattle.lua_stack.specs.declared.frame.Frame.TheVariants as frame
-use Rattle.lua_stack.specs.declared.frame.InExpression.TheVariants as in_expression
-use Rattle.lua_stack.specs.declared.values.Given.TheVariants as given
-use Rattle.lua_stack.specs.Seen.{values_seen}
+use Rattle.lua_strides.specs.LuaStackDeclaredFocusFocusTheVariants as focus
+use Rattle.lua_operators.specs.LuaStackDeclaredFrameFrameTheVariants as frame
+use Rattle.lua_operators.specs.LuaStackDeclaredFrameInExpressionTheVariants as in_expression
+use Rattle.lua_strides.specs.LuaStackDeclaredValuesGivenTheVariants as given
+use Rattle.lua_operators.specs.LuaStackSeen.{values_seen}
 use Rattle.lua_turns.proofs.Following.{follows_none}
 use Rattle.lua_turns.proofs.Freely.{newest_of}
 use Rattle.lua_turns.proofs.calling.give_all.Goals as goal

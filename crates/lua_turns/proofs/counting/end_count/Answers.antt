@@ -1,20 +1,20 @@
 use Rattle.std.proofs.Common.{refl, sym, ap, List, [], rules, w64}
 use Rattle.std.proofs.lemmas.Int.{to_z-of_z}
 use mir.Val.{SFits}
-use Rattle.page_run.specs.Outcome.{Goes}
+use Rattle.lua_loops.specs.PageRunOutcome.{Goes}
 use Rattle.lua_code.specs.declared.statement.Statement.{Statement}
 use Rattle.lua_code.specs.Seen.{block_seen}
-use Rattle.lua_slots.specs.Points.{Runs}
-use Rattle.lua_slots.specs.Slots.{cut}
-use Rattle.lua_stack.specs.declared.focus.Focus.TheVariants as focus
-use Rattle.lua_stack.specs.declared.frame.Frame.TheVariants as frame
-use Rattle.lua_stack.specs.declared.frame.Ending.TheVariants as ending
-use Rattle.lua_stack.specs.declared.values.Given.TheVariants as given
-use Rattle.lua_stack.specs.Seen.{registers_seen}
+use Rattle.lua_operators.specs.LuaSlotsPoints.{Runs}
+use Rattle.lua_operators.specs.LuaSlotsSlots.{cut}
+use Rattle.lua_strides.specs.LuaStackDeclaredFocusFocusTheVariants as focus
+use Rattle.lua_operators.specs.LuaStackDeclaredFrameFrameTheVariants as frame
+use Rattle.lua_operators.specs.LuaStackDeclaredFrameEndingTheVariants as ending
+use Rattle.lua_strides.specs.LuaStackDeclaredValuesGivenTheVariants as given
+use Rattle.lua_operators.specs.LuaStackSeen.{registers_seen}
 use Rattle.lua_loops.proofs.Beginning.{opened_number}
 use Rattle.lua_loops.proofs.Left.{cut_slots}
 use Rattle.lua_loops.proofs.Parts.{counts_at_end}
-use Rattle.lua_state.specs.Seen.{slots_of}
+use Rattle.lua_loops.specs.LuaStateSeen.{slots_of}
 use Rattle.lua_strides.proofs.Paths.{unpaid}
 use Rattle.lua_turns.proofs.Freely.{popped_here}
 use Rattle.lua_turns.proofs.Turning.{turn_follows}

@@ -1,9 +1,9 @@
 use Rattle.std.proofs.Common.{◌≡◌, ◌∙◌, refl, ap, rules, w64, to_z, of_z}
 use Rattle.std.proofs.lemmas.Int.{to_z-of_z}
 use Rattle.std.specs.Prelude.{ℤ}
-use Rattle.lua_slots.specs.Loops as machine
+use Rattle.lua_loops.specs.LuaSlotsLoops as machine
 use Rattle.lua_turns.specs.Counting.{next_move}
-use Rattle.lua_arms.proofs.Counts.{counted, over_count}
+use Rattle.lua_operators.proofs.LuaArmsCounts.{counted, over_count}
 use Rattle.lua_turns.proofs.counting.next_index.Goals as goal
 
 pub returns-in-Ok : goal.returns-in-Ok

@@ -1,12 +1,12 @@
 use Rattle.std.proofs.Common.{refl, [], ◌∷◌, Some}
-use Rattle.page_run.specs.Outcome.{Goes}
-use Rattle.lua_in_place.proofs.Plain.{applied_is}
-use Rattle.lua_store.specs.Seen.{seen}
-use Rattle.lua_stack.specs.declared.focus.Focus.TheVariants as focus
-use Rattle.lua_stack.specs.declared.frame.Frame.TheVariants as frame
-use Rattle.lua_stack.specs.declared.frame.InExpression.TheVariants as in_expression
-use Rattle.lua_stack.specs.declared.values.Given.TheVariants as given
-use Rattle.lua_state.specs.Seen.{slots_of}
+use Rattle.lua_loops.specs.PageRunOutcome.{Goes}
+use Rattle.lua_strides.proofs.LuaInPlacePlain.{applied_is}
+use Rattle.lua_operators.specs.LuaStoreSeen.{seen}
+use Rattle.lua_strides.specs.LuaStackDeclaredFocusFocusTheVariants as focus
+use Rattle.lua_operators.specs.LuaStackDeclaredFrameFrameTheVariants as frame
+use Rattle.lua_operators.specs.LuaStackDeclaredFrameInExpressionTheVariants as in_expression
+use Rattle.lua_strides.specs.LuaStackDeclaredValuesGivenTheVariants as given
+use Rattle.lua_loops.specs.LuaStateSeen.{slots_of}
 use Rattle.lua_strides.proofs.Paths.{idle_here}
 use Rattle.lua_turns.proofs.Freely.{popped_here}
 use Rattle.lua_turns.proofs.deciding.apply.Goals as goal

@@ -1,15 +1,15 @@
 use Rattle.std.proofs.Common.{◌∙◌, true, false, refl, sym, [], ◌∷◌}
-use Rattle.page_run.specs.Outcome.{Goes}
-use Rattle.lua_heap.specs.Value.{is_true}
+use Rattle.lua_loops.specs.PageRunOutcome.{Goes}
+use Rattle.lua_code.specs.LuaHeapValue.{is_true}
 use Rattle.lua_code.specs.Seen.{expression_seen}
-use Rattle.lua_slots.specs.Errors.{gives}
-use Rattle.lua_slots.specs.Points.{First, Evals, Now}
-use Rattle.lua_store.specs.Seen.{seen}
-use Rattle.lua_stack.specs.declared.focus.Focus.TheVariants as focus
-use Rattle.lua_stack.specs.declared.frame.Frame.TheVariants as frame
-use Rattle.lua_stack.specs.declared.frame.InExpression.TheVariants as in_expression
-use Rattle.lua_stack.specs.declared.values.Given.TheVariants as given
-use Rattle.lua_state.specs.Seen.{slots_of}
+use Rattle.lua_operators.specs.LuaSlotsErrors.{gives}
+use Rattle.lua_operators.specs.LuaSlotsPoints.{First, Evals, Now}
+use Rattle.lua_operators.specs.LuaStoreSeen.{seen}
+use Rattle.lua_strides.specs.LuaStackDeclaredFocusFocusTheVariants as focus
+use Rattle.lua_operators.specs.LuaStackDeclaredFrameFrameTheVariants as frame
+use Rattle.lua_operators.specs.LuaStackDeclaredFrameInExpressionTheVariants as in_expression
+use Rattle.lua_strides.specs.LuaStackDeclaredValuesGivenTheVariants as given
+use Rattle.lua_loops.specs.LuaStateSeen.{slots_of}
 use Rattle.lua_turns.proofs.Chosen.{decided}
 use Rattle.lua_turns.proofs.Freely.{popped_here, swapped}
 use Rattle.lua_turns.proofs.deciding.decide.Goals as goal

@@ -1,12 +1,12 @@
 use Rattle.std.proofs.Common.{refl, sym, []}
-use Rattle.page_run.specs.Outcome.{Goes}
-use Rattle.lua_slots.specs.Slots.{cut}
-use Rattle.lua_stack.specs.declared.focus.Focus.TheVariants as focus
-use Rattle.lua_stack.specs.declared.frame.Frame.TheVariants as frame
-use Rattle.lua_stack.specs.declared.frame.Ending.TheVariants as ending
-use Rattle.lua_stack.specs.declared.values.Given.TheVariants as given
+use Rattle.lua_loops.specs.PageRunOutcome.{Goes}
+use Rattle.lua_operators.specs.LuaSlotsSlots.{cut}
+use Rattle.lua_strides.specs.LuaStackDeclaredFocusFocusTheVariants as focus
+use Rattle.lua_operators.specs.LuaStackDeclaredFrameFrameTheVariants as frame
+use Rattle.lua_operators.specs.LuaStackDeclaredFrameEndingTheVariants as ending
+use Rattle.lua_strides.specs.LuaStackDeclaredValuesGivenTheVariants as given
 use Rattle.lua_loops.proofs.Left.{cut_slots}
-use Rattle.lua_state.specs.Seen.{slots_of}
+use Rattle.lua_loops.specs.LuaStateSeen.{slots_of}
 use Rattle.lua_turns.proofs.Freely.{popped_here}
 use Rattle.lua_turns.proofs.ending.end_block.Goals as goal
 

@@ -1,19 +1,19 @@
 use Rattle.std.proofs.Common.{◌≡◌, ◌∙◌, ◌∷◌, ◌-◌, refl, sym, ap, subst, length, List, Some}
-use Rattle.page_run.specs.Outcome.{Goes}
+use Rattle.lua_loops.specs.PageRunOutcome.{Goes}
 use Rattle.lua_code.specs.Seen.{block_seen, proto_seen}
 use Rattle.lua_code.specs.declared.statement.Statement.{Statement}
-use Rattle.lua_slots.specs.Points.{Gives, Runs}
-use Rattle.lua_slots.specs.Slots.{with_all}
-use Rattle.lua_stack.specs.declared.activation.Activation.{Activation}
-use Rattle.lua_stack.specs.declared.focus.Focus.TheVariants as focus
-use Rattle.lua_stack.specs.declared.frame.Frame.TheVariants as frame
-use Rattle.lua_stack.specs.declared.frame.InExpression.TheVariants as in_expression
-use Rattle.lua_stack.specs.declared.register.Slot.{Slot}
-use Rattle.lua_stack.specs.Levels.{levels_from}
-use Rattle.lua_stack.specs.Seen.{registers_seen, values_seen}
-use Rattle.lua_state.specs.declared.state.State.{State}
-use Rattle.lua_state.specs.Charges.{EntersCall}
-use Rattle.lua_state.specs.Seen.{slots_of, frames_of}
+use Rattle.lua_operators.specs.LuaSlotsPoints.{Gives, Runs}
+use Rattle.lua_operators.specs.LuaSlotsSlots.{with_all}
+use Rattle.lua_operators.specs.LuaStackDeclaredActivationActivation.{Activation}
+use Rattle.lua_strides.specs.LuaStackDeclaredFocusFocusTheVariants as focus
+use Rattle.lua_operators.specs.LuaStackDeclaredFrameFrameTheVariants as frame
+use Rattle.lua_operators.specs.LuaStackDeclaredFrameInExpressionTheVariants as in_expression
+use Rattle.lua_operators.specs.LuaStackDeclaredRegisterSlot.{Slot}
+use Rattle.lua_loops.specs.LuaStackLevels.{levels_from}
+use Rattle.lua_operators.specs.LuaStackSeen.{registers_seen, values_seen}
+use Rattle.lua_strides.specs.LuaStateDeclaredStateState.{State}
+use Rattle.lua_loops.specs.LuaStateCharges.{EntersCall}
+use Rattle.lua_loops.specs.LuaStateSeen.{slots_of, frames_of}
 use Rattle.lua_loops.proofs.Entering.{entered, with_codes, with_codes_of, called_of}
 use Rattle.lua_turns.specs.Rows.{Follows}
 use Rattle.lua_turns.proofs.Entered.{never_short, no_body, body_follows}

@@ -1,5 +1,5 @@
 use Rattle.std.proofs.Common.{◌∙◌, ap, Bool, List, length, drop}
-use Rattle.lua_stack.specs.Levels.{levels_from}
+use Rattle.lua_loops.specs.LuaStackLevels.{levels_from}
 use Rattle.lua_loops.proofs.Entering.{opened_functions}
 use Rattle.lua_turns.proofs.entering.open_function.Goals as goal
 

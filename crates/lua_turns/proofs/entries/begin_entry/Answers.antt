@@ -1,17 +1,17 @@
 use Rattle.std.proofs.Common.{◌+◌, ap, sym, [], ◌∷◌, List, arith}
 use Rattle.lua_code.specs.declared.expression.Expression.{Expression}
 use Rattle.lua_code.specs.Seen.{expression_seen, expressions_seen, block_seen}
-use Rattle.lua_slots.specs.Code.{AssignC, EntryC, MoreC, NoC, ThenC, CWorld}
-use Rattle.lua_slots.specs.Points.{EntryS, MoreNext, AssignNow, StatsNext, Evals, Runs}
-use Rattle.lua_store.specs.Seen.{seen}
-use Rattle.lua_stack.specs.declared.focus.Focus.TheVariants as focus
-use Rattle.lua_stack.specs.declared.frame.Frame.TheVariants as frame
-use Rattle.lua_stack.specs.declared.frame.Found.TheVariants as found
-use Rattle.lua_stack.specs.declared.frame.InAssignment.TheVariants as in_assignment
-use Rattle.lua_stack.specs.declared.frame.InExpression.TheVariants as in_expression
-use Rattle.lua_stack.specs.declared.frame.InStatement.TheVariants as in_statement
-use Rattle.lua_state.specs.Seen.{slots_of, frames_of}
-use Rattle.lua_state.specs.Worlds.{world_seen}
+use Rattle.lua_code.specs.LuaSlotsCode.{AssignC, EntryC, MoreC, NoC, ThenC, CWorld}
+use Rattle.lua_operators.specs.LuaSlotsPoints.{EntryS, MoreNext, AssignNow, StatsNext, Evals, Runs}
+use Rattle.lua_operators.specs.LuaStoreSeen.{seen}
+use Rattle.lua_strides.specs.LuaStackDeclaredFocusFocusTheVariants as focus
+use Rattle.lua_operators.specs.LuaStackDeclaredFrameFrameTheVariants as frame
+use Rattle.lua_operators.specs.LuaStackDeclaredFrameFoundTheVariants as found
+use Rattle.lua_operators.specs.LuaStackDeclaredFrameInAssignmentTheVariants as in_assignment
+use Rattle.lua_operators.specs.LuaStackDeclaredFrameInExpressionTheVariants as in_expression
+use Rattle.lua_operators.specs.LuaStackDeclaredFrameInStatementTheVariants as in_statement
+use Rattle.lua_loops.specs.LuaStateSeen.{slots_of, frames_of}
+use Rattle.lua_loops.specs.LuaStateWorlds.{world_seen}
 use Rattle.lua_strides.proofs.Paths.{ready, at_once, idle_here, strode, unpaid}
 use Rattle.lua_turns.proofs.EntryBegun.{entry_begun}
 use Rattle.lua_turns.proofs.entries.begin_entry.Goals as goal

@@ -1,11 +1,11 @@
 use Rattle.std.proofs.Common.{refl, [], ◌∷◌}
-use Rattle.page_run.specs.Outcome.{Goes}
-use Rattle.lua_store.specs.Seen.{seen}
-use Rattle.lua_stack.specs.declared.focus.Focus.TheVariants as focus
-use Rattle.lua_stack.specs.declared.frame.Setting.{Setting}
-use Rattle.lua_stack.specs.declared.frame.Frame.TheVariants as frame
-use Rattle.lua_stack.specs.declared.frame.InAssignment.TheVariants as in_assignment
-use Rattle.lua_state.specs.Seen.{slots_of}
+use Rattle.lua_loops.specs.PageRunOutcome.{Goes}
+use Rattle.lua_operators.specs.LuaStoreSeen.{seen}
+use Rattle.lua_strides.specs.LuaStackDeclaredFocusFocusTheVariants as focus
+use Rattle.lua_operators.specs.LuaStackDeclaredFrameSetting.{Setting}
+use Rattle.lua_operators.specs.LuaStackDeclaredFrameFrameTheVariants as frame
+use Rattle.lua_operators.specs.LuaStackDeclaredFrameInAssignmentTheVariants as in_assignment
+use Rattle.lua_loops.specs.LuaStateSeen.{slots_of}
 use Rattle.lua_turns.proofs.Freely.{newest_of, popped_here}
 use Rattle.lua_turns.proofs.giving.assign.Goals as goal
 

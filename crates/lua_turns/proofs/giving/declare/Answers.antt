@@ -1,16 +1,16 @@
 use Rattle.std.proofs.Common.{sym, ap, [], ◌∷◌, Bool, List}
-use Rattle.page_run.specs.Outcome.{Goes}
+use Rattle.lua_loops.specs.PageRunOutcome.{Goes}
 use Rattle.lua_code.specs.Seen.{block_seen}
-use Rattle.lua_slots.specs.Moves.{moves}
-use Rattle.lua_slots.specs.Points.{DeclareNow, Gives}
-use Rattle.lua_slots.specs.Slots.{opened}
-use Rattle.lua_store.specs.Seen.{seen}
-use Rattle.lua_stack.specs.declared.focus.Focus.TheVariants as focus
-use Rattle.lua_stack.specs.declared.frame.Frame.TheVariants as frame
-use Rattle.lua_stack.specs.declared.frame.InStatement.TheVariants as in_statement
-use Rattle.lua_stack.proofs.Stay.{frames_later}
+use Rattle.lua_loops.specs.LuaSlotsMoves.{moves}
+use Rattle.lua_operators.specs.LuaSlotsPoints.{DeclareNow, Gives}
+use Rattle.lua_operators.specs.LuaSlotsSlots.{opened}
+use Rattle.lua_operators.specs.LuaStoreSeen.{seen}
+use Rattle.lua_strides.specs.LuaStackDeclaredFocusFocusTheVariants as focus
+use Rattle.lua_operators.specs.LuaStackDeclaredFrameFrameTheVariants as frame
+use Rattle.lua_operators.specs.LuaStackDeclaredFrameInStatementTheVariants as in_statement
+use Rattle.lua_operators.proofs.LuaStackStay.{frames_later}
 use Rattle.lua_loops.proofs.Beginning.{functions_stay, opened_slots}
-use Rattle.lua_state.specs.Seen.{slots_of}
+use Rattle.lua_loops.specs.LuaStateSeen.{slots_of}
 use Rattle.lua_strides.proofs.Paths.{idle_here}
 use Rattle.lua_turns.proofs.Freely.{popped}
 use Rattle.lua_turns.proofs.giving.declare.Goals as goal

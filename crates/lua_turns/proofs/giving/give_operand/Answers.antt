@@ -1,11 +1,11 @@
 use Rattle.std.proofs.Common.{[], ◌∷◌}
-use Rattle.page_run.specs.Outcome.{Goes}
+use Rattle.lua_loops.specs.PageRunOutcome.{Goes}
 use Rattle.lua_code.specs.declared.operator.Operator.TheVariants as operator
-use Rattle.lua_slots.specs.Points.{Gives}
-use Rattle.lua_store.specs.Seen.{seen}
-use Rattle.lua_stack.specs.declared.frame.Frame.TheVariants as frame
-use Rattle.lua_stack.specs.declared.frame.InExpression.TheVariants as in_expression
-use Rattle.lua_state.specs.Seen.{frames_of}
+use Rattle.lua_operators.specs.LuaSlotsPoints.{Gives}
+use Rattle.lua_operators.specs.LuaStoreSeen.{seen}
+use Rattle.lua_operators.specs.LuaStackDeclaredFrameFrameTheVariants as frame
+use Rattle.lua_operators.specs.LuaStackDeclaredFrameInExpressionTheVariants as in_expression
+use Rattle.lua_loops.specs.LuaStateSeen.{frames_of}
 use Rattle.lua_strides.proofs.Paths.{idle_here}
 use Rattle.lua_turns.proofs.Following.{must_may}
 use Rattle.lua_turns.proofs.Freely.{newest_of}

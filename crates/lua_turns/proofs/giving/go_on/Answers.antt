@@ -1,9 +1,9 @@
 use Rattle.std.proofs.Common.{refl}
-use Rattle.page_run.specs.Outcome.{Goes}
-use Rattle.lua_stack.specs.declared.focus.Focus.TheVariants as focus
-use Rattle.lua_stack.specs.declared.frame.Frame.TheVariants as frame
-use Rattle.lua_stack.specs.declared.frame.InStatement.TheVariants as in_statement
-use Rattle.lua_state.specs.Seen.{slots_of}
+use Rattle.lua_loops.specs.PageRunOutcome.{Goes}
+use Rattle.lua_strides.specs.LuaStackDeclaredFocusFocusTheVariants as focus
+use Rattle.lua_operators.specs.LuaStackDeclaredFrameFrameTheVariants as frame
+use Rattle.lua_operators.specs.LuaStackDeclaredFrameInStatementTheVariants as in_statement
+use Rattle.lua_loops.specs.LuaStateSeen.{slots_of}
 use Rattle.lua_turns.proofs.Freely.{popped_here}
 use Rattle.lua_turns.proofs.giving.go_on.Goals as goal
 

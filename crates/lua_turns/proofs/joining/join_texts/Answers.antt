@@ -1,16 +1,16 @@
 use Rattle.std.proofs.Common.{◌≡◌, ◌∙◌, ◌∷◌, ◌++◌, ◌+◌, [], refl, sym, ap, Some, length, ℕ, arith}
 use Rattle.std.proofs.lemmas.List.{length-append}
-use Rattle.lua_heap.specs.Value.{Text}
-use Rattle.lua_slots.specs.Errors.{gives}
-use Rattle.lua_slots.specs.Points.{Costs}
-use Rattle.lua_store.specs.declared.value.Value.TheVariants as value
-use Rattle.lua_store.specs.Seen.{StoreView, seen}
+use Rattle.lua_code.specs.LuaHeapValue.{Text}
+use Rattle.lua_operators.specs.LuaSlotsErrors.{gives}
+use Rattle.lua_operators.specs.LuaSlotsPoints.{Costs}
+use Rattle.lua_operators.specs.LuaStoreDeclaredValueValueTheVariants as value
+use Rattle.lua_operators.specs.LuaStoreSeen.{StoreView, seen}
 use Rattle.lua_code.specs.declared.operator.Operator.TheVariants as operator
-use Rattle.lua_stack.specs.declared.focus.Focus.TheVariants as focus
-use Rattle.lua_stack.specs.declared.frame.Frame.TheVariants as frame
-use Rattle.lua_stack.specs.declared.frame.InExpression.TheVariants as in_expression
-use Rattle.lua_stack.specs.declared.values.Given.TheVariants as given
-use Rattle.lua_state.specs.Seen.{slots_of}
+use Rattle.lua_strides.specs.LuaStackDeclaredFocusFocusTheVariants as focus
+use Rattle.lua_operators.specs.LuaStackDeclaredFrameFrameTheVariants as frame
+use Rattle.lua_operators.specs.LuaStackDeclaredFrameInExpressionTheVariants as in_expression
+use Rattle.lua_strides.specs.LuaStackDeclaredValuesGivenTheVariants as given
+use Rattle.lua_loops.specs.LuaStateSeen.{slots_of}
 use Rattle.lua_strides.proofs.Paths.{idle_here}
 use Rattle.lua_turns.proofs.Joins.{joins, popped_at_cost}
 use Rattle.lua_turns.proofs.joining.join_texts.Goals as goal

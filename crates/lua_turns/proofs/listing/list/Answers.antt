@@ -1,9 +1,9 @@
 use Rattle.lua_code.specs.Seen.{expressions_seen}
-use Rattle.lua_slots.specs.Points.{Lists}
-use Rattle.lua_stack.specs.declared.focus.Focus.TheVariants as focus
-use Rattle.lua_stack.specs.declared.values.Given.TheVariants as given
-use Rattle.lua_stack.specs.Seen.{values_seen}
-use Rattle.lua_state.specs.Seen.{frames_of}
+use Rattle.lua_operators.specs.LuaSlotsPoints.{Lists}
+use Rattle.lua_strides.specs.LuaStackDeclaredFocusFocusTheVariants as focus
+use Rattle.lua_strides.specs.LuaStackDeclaredValuesGivenTheVariants as given
+use Rattle.lua_operators.specs.LuaStackSeen.{values_seen}
+use Rattle.lua_loops.specs.LuaStateSeen.{frames_of}
 use Rattle.lua_turns.proofs.Following.{then_must}
 use Rattle.lua_turns.proofs.listing.list.Goals as goal
 

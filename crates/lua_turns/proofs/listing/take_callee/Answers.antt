@@ -1,12 +1,12 @@
 use Rattle.std.proofs.Common.{[], ◌∷◌, sym, subst}
-use Rattle.page_run.specs.Outcome.{Goes}
-use Rattle.lua_slots.specs.Points.{Gives}
-use Rattle.lua_store.specs.Seen.{seen}
-use Rattle.lua_stack.specs.declared.focus.Focus.TheVariants as focus
-use Rattle.lua_stack.specs.declared.frame.Frame.TheVariants as frame
-use Rattle.lua_stack.specs.declared.frame.InExpression.TheVariants as in_expression
-use Rattle.lua_stack.specs.Of.{ValuesOf}
-use Rattle.lua_state.specs.Seen.{frames_of}
+use Rattle.lua_loops.specs.PageRunOutcome.{Goes}
+use Rattle.lua_operators.specs.LuaSlotsPoints.{Gives}
+use Rattle.lua_operators.specs.LuaStoreSeen.{seen}
+use Rattle.lua_strides.specs.LuaStackDeclaredFocusFocusTheVariants as focus
+use Rattle.lua_operators.specs.LuaStackDeclaredFrameFrameTheVariants as frame
+use Rattle.lua_operators.specs.LuaStackDeclaredFrameInExpressionTheVariants as in_expression
+use Rattle.lua_operators.specs.LuaStackOf.{ValuesOf}
+use Rattle.lua_loops.specs.LuaStateSeen.{frames_of}
 use Rattle.lua_loops.proofs.Beginning.{with_parts}
 use Rattle.lua_turns.proofs.Following.{then_must}
 use Rattle.lua_turns.proofs.Listed.{callee_taken}

@@ -1,17 +1,17 @@
 use Rattle.std.proofs.Common.{◌∷◌, refl, ap, List}
-use Rattle.page_run.specs.Outcome.{Goes}
+use Rattle.lua_loops.specs.PageRunOutcome.{Goes}
 use Rattle.lua_code.specs.declared.expression.Expression.{Expression}
 use Rattle.lua_code.specs.Seen.{expression_seen, expressions_seen}
-use Rattle.lua_slots.specs.Moves.{moves}
-use Rattle.lua_slots.specs.Points.{MoreNext, Evals, Gives, Lists}
-use Rattle.lua_in_place.proofs.Statements.{free}
-use Rattle.lua_store.proofs.Later.{later-itself}
-use Rattle.lua_stack.specs.declared.focus.Focus.TheVariants as focus
-use Rattle.lua_stack.specs.declared.frame.Frame.TheVariants as frame
-use Rattle.lua_stack.specs.declared.frame.InExpression.TheVariants as in_expression
-use Rattle.lua_stack.specs.declared.values.Given.TheVariants as given
-use Rattle.lua_stack.specs.Seen.{values_seen}
-use Rattle.lua_state.specs.Seen.{slots_of, frames_of}
+use Rattle.lua_loops.specs.LuaSlotsMoves.{moves}
+use Rattle.lua_operators.specs.LuaSlotsPoints.{MoreNext, Evals, Gives, Lists}
+use Rattle.lua_strides.proofs.LuaInPlaceStatements.{free}
+use Rattle.lua_operators.proofs.LuaStoreLater.{later-itself}
+use Rattle.lua_strides.specs.LuaStackDeclaredFocusFocusTheVariants as focus
+use Rattle.lua_operators.specs.LuaStackDeclaredFrameFrameTheVariants as frame
+use Rattle.lua_operators.specs.LuaStackDeclaredFrameInExpressionTheVariants as in_expression
+use Rattle.lua_strides.specs.LuaStackDeclaredValuesGivenTheVariants as given
+use Rattle.lua_operators.specs.LuaStackSeen.{values_seen}
+use Rattle.lua_loops.specs.LuaStateSeen.{slots_of, frames_of}
 use Rattle.lua_turns.proofs.Following.{follows_free, then_must}
 use Rattle.lua_turns.proofs.listing.wait_for_item.Goals as goal
 

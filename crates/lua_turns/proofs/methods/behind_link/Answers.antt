@@ -1,7 +1,7 @@
 use Rattle.std.proofs.Common.{◌∙◌, sym, ap}
-use Rattle.lua_heap.specs.Value.{Table}
-use Rattle.lua_meaning.specs.Metatables.{handler}
-use Rattle.lua_store.specs.Seen.{seen}
+use Rattle.lua_code.specs.LuaHeapValue.{Table}
+use Rattle.lua_operators.specs.LuaMeaningMetatables.{handler}
+use Rattle.lua_operators.specs.LuaStoreSeen.{seen}
 use Rattle.lua_turns.proofs.Named.{found_behind}
 use Rattle.lua_turns.proofs.methods.behind_link.Goals as goal
 

@@ -1,4 +1,4 @@
-use Rattle.lua_store.specs.Seen.{seen}
+use Rattle.lua_operators.specs.LuaStoreSeen.{seen}
 use Rattle.lua_turns.proofs.Named.{found_at_once}
 use Rattle.lua_turns.proofs.methods.entry_of.Goals as goal
 

@@ -1,6 +1,6 @@
 use Rattle.std.proofs.Common.{◌∙◌, sym, ap}
-use Rattle.lua_heap.specs.Value.{is_nil}
-use Rattle.lua_store.specs.Seen.{seen}
+use Rattle.lua_code.specs.LuaHeapValue.{is_nil}
+use Rattle.lua_operators.specs.LuaStoreSeen.{seen}
 use Rattle.lua_turns.proofs.Named.{found_here}
 use Rattle.lua_turns.proofs.methods.method_in.Goals as goal
 

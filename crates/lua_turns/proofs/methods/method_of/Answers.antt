@@ -1,4 +1,4 @@
-use Rattle.lua_store.specs.Seen.{seen}
+use Rattle.lua_operators.specs.LuaStoreSeen.{seen}
 use Rattle.lua_turns.proofs.Named.{method_of_strings}
 use Rattle.lua_turns.proofs.methods.method_of.Goals as goal
 

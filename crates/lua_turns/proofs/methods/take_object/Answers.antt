@@ -1,16 +1,16 @@
 use Rattle.std.proofs.Common.{◌≡◌, ◌∙◌, ◌∷◌, ◌++◌, [], refl, sym, ap, subst, List, Some}
-use Rattle.page_run.specs.Outcome.{Goes}
+use Rattle.lua_loops.specs.PageRunOutcome.{Goes}
 use Rattle.lua_code.specs.declared.expression.Expression.{Expression}
 use Rattle.lua_code.specs.Seen.{expressions_seen}
-use Rattle.lua_slots.specs.Points.{Gives, Lists}
-use Rattle.lua_store.specs.declared.value.Value.{Value}
-use Rattle.lua_store.specs.Seen.{seen, text_at}
-use Rattle.lua_stack.specs.declared.focus.Focus.TheVariants as focus
-use Rattle.lua_stack.specs.declared.frame.Frame.TheVariants as frame
-use Rattle.lua_stack.specs.declared.frame.InExpression.TheVariants as in_expression
-use Rattle.lua_stack.specs.Of.{ValuesOf}
-use Rattle.lua_stack.specs.Seen.{values_seen}
-use Rattle.lua_state.specs.Seen.{slots_of, frames_of}
+use Rattle.lua_operators.specs.LuaSlotsPoints.{Gives, Lists}
+use Rattle.lua_operators.specs.LuaStoreDeclaredValueValue.{Value}
+use Rattle.lua_operators.specs.LuaStoreSeen.{seen, text_at}
+use Rattle.lua_strides.specs.LuaStackDeclaredFocusFocusTheVariants as focus
+use Rattle.lua_operators.specs.LuaStackDeclaredFrameFrameTheVariants as frame
+use Rattle.lua_operators.specs.LuaStackDeclaredFrameInExpressionTheVariants as in_expression
+use Rattle.lua_operators.specs.LuaStackOf.{ValuesOf}
+use Rattle.lua_operators.specs.LuaStackSeen.{values_seen}
+use Rattle.lua_loops.specs.LuaStateSeen.{slots_of, frames_of}
 use Rattle.lua_strides.proofs.Paths.{idle_here, with_frames}
 use Rattle.lua_turns.proofs.Following.{must_may, then_must}
 use Rattle.lua_turns.proofs.Freely.{newest_of}

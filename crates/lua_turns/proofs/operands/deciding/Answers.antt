@@ -1,13 +1,13 @@
 use Rattle.std.proofs.Common.{◌+◌, ◌∙◌, ◌∷◌, [], true, false, refl, sym, arith}
-use Rattle.lua_heap.specs.Value.{is_true}
+use Rattle.lua_code.specs.LuaHeapValue.{is_true}
 use Rattle.lua_code.specs.Seen.{expression_seen}
-use Rattle.lua_slots.specs.Errors.{gives}
-use Rattle.lua_slots.specs.Points.{First, DecideNext, Evals, Now}
-use Rattle.lua_store.specs.Seen.{seen}
-use Rattle.lua_stack.specs.declared.focus.Focus.TheVariants as focus
-use Rattle.lua_stack.specs.declared.values.Given.TheVariants as given
-use Rattle.lua_state.specs.Seen.{slots_of, frames_of}
-use Rattle.lua_state.specs.Worlds.{world_seen}
+use Rattle.lua_operators.specs.LuaSlotsErrors.{gives}
+use Rattle.lua_operators.specs.LuaSlotsPoints.{First, DecideNext, Evals, Now}
+use Rattle.lua_operators.specs.LuaStoreSeen.{seen}
+use Rattle.lua_strides.specs.LuaStackDeclaredFocusFocusTheVariants as focus
+use Rattle.lua_strides.specs.LuaStackDeclaredValuesGivenTheVariants as given
+use Rattle.lua_loops.specs.LuaStateSeen.{slots_of, frames_of}
+use Rattle.lua_loops.specs.LuaStateWorlds.{world_seen}
 use Rattle.lua_strides.proofs.Paths.{unpaid}
 use Rattle.lua_turns.specs.Deciding.{deciding_with}
 use Rattle.lua_turns.proofs.Begun.{decides_begins}

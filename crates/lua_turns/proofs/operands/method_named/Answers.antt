@@ -1,10 +1,10 @@
 use Rattle.std.proofs.Common.{◌+◌, refl, sym, ap, List, ℕ}
 use Rattle.lua_code.specs.Seen.{expression_seen, expressions_seen}
-use Rattle.lua_slots.specs.Code.{MethodC}
-use Rattle.lua_slots.specs.Points.{Evals, MethodNext}
-use Rattle.lua_stack.specs.declared.frame.Frame.TheVariants as frame
-use Rattle.lua_stack.specs.declared.frame.InExpression.TheVariants as in_expression
-use Rattle.lua_state.specs.Seen.{frames_of, constants_in}
+use Rattle.lua_code.specs.LuaSlotsCode.{MethodC}
+use Rattle.lua_operators.specs.LuaSlotsPoints.{Evals, MethodNext}
+use Rattle.lua_operators.specs.LuaStackDeclaredFrameFrameTheVariants as frame
+use Rattle.lua_operators.specs.LuaStackDeclaredFrameInExpressionTheVariants as in_expression
+use Rattle.lua_loops.specs.LuaStateSeen.{frames_of, constants_in}
 use Rattle.lua_strides.proofs.Paths.{unpaid}
 use Rattle.lua_turns.proofs.ReadFirst.{given_first}
 use Rattle.lua_turns.proofs.operands.method_named.Goals as goal

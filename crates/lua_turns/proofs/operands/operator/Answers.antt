@@ -1,11 +1,11 @@
 use Rattle.std.proofs.Common.{◌+◌, ◌∷◌, refl}
 use Rattle.lua_code.specs.Seen.{expression_seen, operator_seen}
-use Rattle.lua_slots.specs.Code.{OperateC}
-use Rattle.lua_slots.specs.Points.{Evals, OperandNext}
-use Rattle.lua_stack.specs.declared.focus.Focus.TheVariants as focus
-use Rattle.lua_stack.specs.declared.frame.Frame.TheVariants as frame
-use Rattle.lua_stack.specs.declared.frame.InExpression.TheVariants as in_expression
-use Rattle.lua_state.specs.Seen.{frames_of}
+use Rattle.lua_code.specs.LuaSlotsCode.{OperateC}
+use Rattle.lua_operators.specs.LuaSlotsPoints.{Evals, OperandNext}
+use Rattle.lua_strides.specs.LuaStackDeclaredFocusFocusTheVariants as focus
+use Rattle.lua_operators.specs.LuaStackDeclaredFrameFrameTheVariants as frame
+use Rattle.lua_operators.specs.LuaStackDeclaredFrameInExpressionTheVariants as in_expression
+use Rattle.lua_loops.specs.LuaStateSeen.{frames_of}
 use Rattle.lua_strides.specs.Next.{focus_of}
 use Rattle.lua_strides.proofs.Paths.{with_frames, unpaid}
 use Rattle.lua_turns.proofs.Following.{strides_then}

@@ -1,7 +1,7 @@
 use Rattle.std.proofs.Common.{◌+◌}
 use Rattle.lua_code.specs.Seen.{expression_seen}
-use Rattle.lua_stack.specs.declared.focus.Focus.TheVariants as focus
-use Rattle.lua_stack.specs.declared.values.Given.TheVariants as given
+use Rattle.lua_strides.specs.LuaStackDeclaredFocusFocusTheVariants as focus
+use Rattle.lua_strides.specs.LuaStackDeclaredValuesGivenTheVariants as given
 use Rattle.lua_strides.proofs.Paths.{strode, unpaid}
 use Rattle.lua_turns.proofs.ReadFirst.{second_read, second_waits}
 use Rattle.lua_turns.proofs.operands.second.Goals as goal

@@ -1,12 +1,12 @@
 use Rattle.std.proofs.Common.{◌+◌, refl, Some}
 use Rattle.lua_code.specs.Seen.{expression_seen}
-use Rattle.lua_slots.specs.Code.{UnaryC}
-use Rattle.lua_slots.specs.Points.{UnaryNow}
-use Rattle.lua_in_place.proofs.Plain.{applied_is}
-use Rattle.lua_store.specs.Seen.{seen}
-use Rattle.lua_stack.specs.declared.focus.Focus.TheVariants as focus
-use Rattle.lua_stack.specs.declared.values.Given.TheVariants as given
-use Rattle.lua_state.specs.Seen.{frames_of, slots_of}
+use Rattle.lua_code.specs.LuaSlotsCode.{UnaryC}
+use Rattle.lua_operators.specs.LuaSlotsPoints.{UnaryNow}
+use Rattle.lua_strides.proofs.LuaInPlacePlain.{applied_is}
+use Rattle.lua_operators.specs.LuaStoreSeen.{seen}
+use Rattle.lua_strides.specs.LuaStackDeclaredFocusFocusTheVariants as focus
+use Rattle.lua_strides.specs.LuaStackDeclaredValuesGivenTheVariants as given
+use Rattle.lua_loops.specs.LuaStateSeen.{frames_of, slots_of}
 use Rattle.lua_strides.proofs.Paths.{idle_here, unpaid}
 use Rattle.lua_turns.proofs.ReadFirst.{strode_first}
 use Rattle.lua_turns.proofs.operands.unary.Goals as goal

@@ -1,15 +1,15 @@
 use Rattle.std.proofs.Common.{refl, sym, [], ◌∷◌}
-use Rattle.page_run.specs.Outcome.{Jumps}
-use Rattle.lua_meaning.specs.Acts.{Returned}
-use Rattle.lua_slots.specs.Slots.{cut}
-use Rattle.lua_store.specs.Seen.{seen}
-use Rattle.lua_stack.specs.declared.focus.Focus.TheVariants as focus
-use Rattle.lua_stack.specs.declared.focus.Jump.TheVariants as jump
-use Rattle.lua_stack.specs.declared.frame.Frame.TheVariants as frame
-use Rattle.lua_stack.specs.declared.frame.Ending.TheVariants as ending
-use Rattle.lua_stack.specs.declared.values.Given.TheVariants as given
+use Rattle.lua_loops.specs.PageRunOutcome.{Jumps}
+use Rattle.lua_code.specs.LuaMeaningActs.{Returned}
+use Rattle.lua_operators.specs.LuaSlotsSlots.{cut}
+use Rattle.lua_operators.specs.LuaStoreSeen.{seen}
+use Rattle.lua_strides.specs.LuaStackDeclaredFocusFocusTheVariants as focus
+use Rattle.lua_strides.specs.LuaStackDeclaredFocusJumpTheVariants as jump
+use Rattle.lua_operators.specs.LuaStackDeclaredFrameFrameTheVariants as frame
+use Rattle.lua_operators.specs.LuaStackDeclaredFrameEndingTheVariants as ending
+use Rattle.lua_strides.specs.LuaStackDeclaredValuesGivenTheVariants as given
 use Rattle.lua_loops.proofs.Left.{cut_slots}
-use Rattle.lua_state.specs.Seen.{slots_of}
+use Rattle.lua_loops.specs.LuaStateSeen.{slots_of}
 use Rattle.lua_turns.proofs.Freely.{popped_here}
 use Rattle.lua_turns.proofs.passing.pass_block.Goals as goal
 

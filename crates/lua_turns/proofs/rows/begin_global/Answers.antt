@@ -1,6 +1,6 @@
 use Rattle.std.proofs.Common.{◌∷◌, [], List, ℕ, ap, sym}
-use Rattle.lua_slots.specs.Code.{GlobalTargetC}
-use Rattle.lua_slots.specs.Points.{GlobalS, Finds, Now}
+use Rattle.lua_code.specs.LuaSlotsCode.{GlobalTargetC}
+use Rattle.lua_operators.specs.LuaSlotsPoints.{GlobalS, Finds, Now}
 use Rattle.lua_strides.proofs.Paths.{idle_here}
 use Rattle.lua_turns.proofs.rows.begin_global.Goals as goal
 

@@ -1,6 +1,6 @@
 use Rattle.std.proofs.Common.{refl}
 use Rattle.lua_code.specs.Seen.{place_seen}
-use Rattle.lua_slots.specs.Code.{PlaceC}
+use Rattle.lua_code.specs.LuaSlotsCode.{PlaceC}
 use Rattle.lua_strides.proofs.Paths.{idle_here}
 use Rattle.lua_turns.proofs.rows.begin_set.Goals as goal
 

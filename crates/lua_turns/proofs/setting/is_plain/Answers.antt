@@ -1,11 +1,11 @@
 use Rattle.std.proofs.Common.{◌∙◌, sym, ap}
 use Rattle.std.specs.Prelude.{codes}
-use Rattle.lua_heap.specs.Proc.{Proc}
-use Rattle.lua_heap.specs.Heap.{Heap, table_at}
-use Rattle.lua_heap.specs.Table.{get}
-use Rattle.lua_heap.specs.Value.{Table, is_nil}
-use Rattle.lua_meaning.specs.Metatables.{handler}
-use Rattle.lua_store.specs.Seen.{seen}
+use Rattle.lua_code.specs.LuaHeapProc.{Proc}
+use Rattle.lua_code.specs.LuaHeapHeap.{Heap, table_at}
+use Rattle.lua_code.specs.LuaHeapTable.{get}
+use Rattle.lua_code.specs.LuaHeapValue.{Table, is_nil}
+use Rattle.lua_operators.specs.LuaMeaningMetatables.{handler}
+use Rattle.lua_operators.specs.LuaStoreSeen.{seen}
 use Rattle.lua_turns.proofs.EntrySet.{there_plain, absent_plain}
 use Rattle.lua_turns.proofs.setting.is_plain.Goals as goal
 

@@ -1,6 +1,6 @@
 use Rattle.std.proofs.Common.{◌∙◌, sym, ap, refl, arith}
 use Rattle.std.specs.Prelude.{not}
-use Rattle.lua_store.specs.Seen.{StoreView, seen}
+use Rattle.lua_operators.specs.LuaStoreSeen.{StoreView, seen}
 use Rattle.lua_turns.proofs.EntrySet.{puts_old, puts_new}
 use Rattle.lua_turns.proofs.setting.put_paid.Goals as goal
 

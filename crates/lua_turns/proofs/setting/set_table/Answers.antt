@@ -1,6 +1,6 @@
 use Rattle.std.proofs.Common.{subst}
 use Rattle.std.specs.Prelude.{Some, Bool}
-use Rattle.lua_store.specs.Seen.{seen}
+use Rattle.lua_operators.specs.LuaStoreSeen.{seen}
 use Rattle.lua_strides.proofs.Paths.{idle_here}
 use Rattle.lua_turns.specs.Setting.{Puts}
 use Rattle.lua_turns.proofs.EntrySet.{set_follows, not_put}

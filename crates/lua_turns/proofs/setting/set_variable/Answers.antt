@@ -1,16 +1,16 @@
 use Rattle.std.proofs.Common.{◌∙◌, ◌∷◌, [], refl, sym, ap}
-use Rattle.page_run.specs.Outcome.{Goes}
+use Rattle.lua_loops.specs.PageRunOutcome.{Goes}
 use Rattle.lua_code.specs.Seen.{place_seen}
-use Rattle.lua_slots.specs.Points.{PlaceS, SetsNext, Gives, Sets}
-use Rattle.lua_slots.specs.Slots.{write_place}
-use Rattle.lua_in_place.proofs.Statements.{free, free_then}
-use Rattle.lua_store.specs.Seen.{seen}
-use Rattle.lua_stack.specs.declared.focus.Focus.TheVariants as focus
-use Rattle.lua_stack.specs.declared.values.Given.TheVariants as given
-use Rattle.lua_stack.proofs.Stay.{frames_later}
+use Rattle.lua_operators.specs.LuaSlotsPoints.{PlaceS, SetsNext, Gives, Sets}
+use Rattle.lua_operators.specs.LuaSlotsSlots.{write_place}
+use Rattle.lua_strides.proofs.LuaInPlaceStatements.{free, free_then}
+use Rattle.lua_operators.specs.LuaStoreSeen.{seen}
+use Rattle.lua_strides.specs.LuaStackDeclaredFocusFocusTheVariants as focus
+use Rattle.lua_strides.specs.LuaStackDeclaredValuesGivenTheVariants as given
+use Rattle.lua_operators.proofs.LuaStackStay.{frames_later}
 use Rattle.lua_loops.proofs.Beginning.{functions_stay, opened_slots}
-use Rattle.lua_state.specs.Seen.{slots_of, frames_of}
-use Rattle.lua_state.proofs.Staying.{frames_stay}
+use Rattle.lua_loops.specs.LuaStateSeen.{slots_of, frames_of}
+use Rattle.lua_loops.proofs.LuaStateStaying.{frames_stay}
 use Rattle.lua_strides.proofs.Written.{writes_at}
 use Rattle.lua_turns.proofs.Following.{follows_free}
 use Rattle.lua_turns.proofs.setting.set_variable.Goals as goal

@@ -1,16 +1,16 @@
 use Rattle.std.proofs.Common.{◌∷◌, [], refl, ap, sym, List}
 use Rattle.lua_code.specs.declared.expression.Expression.{Expression}
 use Rattle.lua_code.specs.Seen.{block_seen, expression_seen, expressions_seen}
-use Rattle.lua_slots.specs.Code.{AssignC, MoreC, NoC, ThenC}
-use Rattle.lua_slots.specs.Points.{AssignNow, Evals, Finds, MoreNext, Runs, StatsNext}
-use Rattle.lua_stack.specs.declared.focus.Focus.TheVariants as focus
-use Rattle.lua_stack.specs.declared.frame.Frame.TheVariants as frame
-use Rattle.lua_stack.specs.declared.frame.InAssignment.TheVariants as in_assignment
-use Rattle.lua_stack.specs.declared.frame.InExpression.TheVariants as in_expression
-use Rattle.lua_stack.specs.declared.frame.InStatement.TheVariants as in_statement
-use Rattle.lua_stack.specs.Seen.{found_seen}
-use Rattle.lua_state.specs.Seen.{frames_of, slots_of}
-use Rattle.lua_state.specs.Worlds.{world_seen}
+use Rattle.lua_code.specs.LuaSlotsCode.{AssignC, MoreC, NoC, ThenC}
+use Rattle.lua_operators.specs.LuaSlotsPoints.{AssignNow, Evals, Finds, MoreNext, Runs, StatsNext}
+use Rattle.lua_strides.specs.LuaStackDeclaredFocusFocusTheVariants as focus
+use Rattle.lua_operators.specs.LuaStackDeclaredFrameFrameTheVariants as frame
+use Rattle.lua_operators.specs.LuaStackDeclaredFrameInAssignmentTheVariants as in_assignment
+use Rattle.lua_operators.specs.LuaStackDeclaredFrameInExpressionTheVariants as in_expression
+use Rattle.lua_operators.specs.LuaStackDeclaredFrameInStatementTheVariants as in_statement
+use Rattle.lua_operators.specs.LuaStackSeen.{found_seen}
+use Rattle.lua_loops.specs.LuaStateSeen.{frames_of, slots_of}
+use Rattle.lua_loops.specs.LuaStateWorlds.{world_seen}
 use Rattle.lua_strides.proofs.Paths.{unpaid}
 use Rattle.lua_turns.proofs.Begun.{assigning, strode_begun}
 use Rattle.lua_turns.proofs.statements.begin_assign.Goals as goal

@@ -1,12 +1,12 @@
 use Rattle.std.specs.Prelude.{option_map}
 use Rattle.lua_code.specs.Seen.{block_seen, branches_seen, expression_seen}
-use Rattle.lua_slots.specs.Code.{ArmC, ThenC}
-use Rattle.lua_slots.specs.Points.{Runs}
-use Rattle.lua_stack.specs.declared.focus.Focus.TheVariants as focus
-use Rattle.lua_stack.specs.declared.frame.Frame.TheVariants as frame
-use Rattle.lua_stack.specs.declared.frame.InStatement.TheVariants as in_statement
-use Rattle.lua_state.specs.Seen.{frames_of, slots_of}
-use Rattle.lua_state.specs.Worlds.{world_seen}
+use Rattle.lua_code.specs.LuaSlotsCode.{ArmC, ThenC}
+use Rattle.lua_operators.specs.LuaSlotsPoints.{Runs}
+use Rattle.lua_strides.specs.LuaStackDeclaredFocusFocusTheVariants as focus
+use Rattle.lua_operators.specs.LuaStackDeclaredFrameFrameTheVariants as frame
+use Rattle.lua_operators.specs.LuaStackDeclaredFrameInStatementTheVariants as in_statement
+use Rattle.lua_loops.specs.LuaStateSeen.{frames_of, slots_of}
+use Rattle.lua_loops.specs.LuaStateWorlds.{world_seen}
 use Rattle.lua_strides.specs.Conditions.{if_seen}
 use Rattle.lua_strides.proofs.Paths.{unpaid}
 use Rattle.lua_turns.proofs.Begun.{begun_within}

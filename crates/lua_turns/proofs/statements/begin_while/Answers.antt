@@ -1,12 +1,12 @@
 use Rattle.std.proofs.Common.{refl}
 use Rattle.lua_code.specs.Seen.{block_seen, expression_seen}
-use Rattle.lua_slots.specs.Code.{ThenC, WhileC}
-use Rattle.lua_slots.specs.Points.{Runs}
-use Rattle.lua_stack.specs.declared.focus.Focus.TheVariants as focus
-use Rattle.lua_stack.specs.declared.frame.Frame.TheVariants as frame
-use Rattle.lua_stack.specs.declared.frame.InLoop.TheVariants as in_loop
-use Rattle.lua_stack.specs.declared.frame.InStatement.TheVariants as in_statement
-use Rattle.lua_state.specs.Seen.{frames_of}
+use Rattle.lua_code.specs.LuaSlotsCode.{ThenC, WhileC}
+use Rattle.lua_operators.specs.LuaSlotsPoints.{Runs}
+use Rattle.lua_strides.specs.LuaStackDeclaredFocusFocusTheVariants as focus
+use Rattle.lua_operators.specs.LuaStackDeclaredFrameFrameTheVariants as frame
+use Rattle.lua_operators.specs.LuaStackDeclaredFrameInLoopTheVariants as in_loop
+use Rattle.lua_operators.specs.LuaStackDeclaredFrameInStatementTheVariants as in_statement
+use Rattle.lua_loops.specs.LuaStateSeen.{frames_of}
 use Rattle.lua_strides.proofs.Paths.{unpaid}
 use Rattle.lua_turns.proofs.Begun.{begun_within}
 use Rattle.lua_turns.proofs.statements.begin_while.Goals as goal

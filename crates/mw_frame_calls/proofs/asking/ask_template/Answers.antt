@@ -1,13 +1,13 @@
 use Rattle.std.proofs.Common.{◌∙◌, ◌+◌, ap, refl, arith, List, length, Err}
 use Rattle.std.proofs.lemmas.Result.{err_from_is_err_and}
-use Rattle.wk_base.specs.Titles.{title_text}
-use Rattle.lua_meaning.specs.Frames.{bytes_of}
+use Rattle.mw_frame.specs.WkBaseTitles.{title_text}
+use Rattle.mw_frame_texts.specs.LuaMeaningFrames.{bytes_of}
 use Rattle.mw_frame.specs.declared.scene.Arg.{Arg}
 use Rattle.mw_frame.specs.declared.question.Ask.TheVariants.{Template}
-use Rattle.lua_meaning.specs.Questions.{TemplateAsked}
-use Rattle.lua_store.specs.Seen.{StoreView}
-use Rattle.mw_frames.specs.Reading.{args_seen}
-use Rattle.mw_frames.proofs.Sums.{took_then, unpaid_then}
+use Rattle.mw_frame_texts.specs.LuaMeaningQuestions.{TemplateAsked}
+use Rattle.mw_frame_texts.specs.LuaStoreSeen.{StoreView}
+use Rattle.mw_frame_texts.specs.MwFramesReading.{args_seen}
+use Rattle.mw_frame_texts.proofs.MwFramesSums.{took_then, unpaid_then}
 use Rattle.mw_frame_calls.specs.Seen.{scenes_seen}
 use Rattle.mw_frame_calls.proofs.Found.{took_covers, lacked}
 use Rattle.mw_frame_calls.proofs.Values.{asked_given}

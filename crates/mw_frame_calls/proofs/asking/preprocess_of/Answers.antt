@@ -1,14 +1,14 @@
 use Rattle.std.proofs.Common.{◌≡◌, ◌∙◌, ap, arith, length, Err, codes}
 use Rattle.std.proofs.lemmas.Result.{err_from_is_err_and}
-use Rattle.lua_meaning.specs.Arguments.{a_text}
-use Rattle.lua_heap.specs.Proc.{Proc}
-use Rattle.lua_meaning.specs.FrameMethods.{Framed, asks, text_or_field}
-use Rattle.lua_meaning.specs.Questions.{TextAsked}
-use Rattle.lua_basic.specs.Arguments.{text_bytes}
-use Rattle.lua_basic.specs.Seen.{values_seen}
+use Rattle.mw_frame_texts.specs.LuaMeaningArguments.{a_text}
+use Rattle.mw_frame_texts.specs.LuaHeapProc.{Proc}
+use Rattle.mw_frame_texts.specs.LuaMeaningFrameMethods.{Framed, asks, text_or_field}
+use Rattle.mw_frame_texts.specs.LuaMeaningQuestions.{TextAsked}
+use Rattle.mw_frame_texts.specs.LuaBasicArguments.{text_bytes}
+use Rattle.mw_frame_texts.specs.LuaBasicSeen.{values_seen}
 use Rattle.mw_frame.specs.declared.question.Ask.TheVariants.{Preprocess}
 use Rattle.mw_frame_calls.specs.Parts.{preprocess_in}
-use Rattle.lua_store.specs.Seen.{text_at}
+use Rattle.mw_frame_texts.specs.LuaStoreSeen.{text_at}
 use Rattle.mw_frame_calls.specs.Seen.{scenes_seen}
 use Rattle.mw_frame_calls.proofs.Found.{stopped, found, for_nothing, took_covers, lacked}
 use Rattle.mw_frame_calls.proofs.asking.preprocess_of.Goals as goal

@@ -1,9 +1,9 @@
 use Rattle.std.proofs.Common.{ap, subst, sym}
-use Rattle.lua_meaning.specs.Arguments.{some_value}
-use Rattle.lua_meaning.specs.Messages.{bad_template_arguments}
-use Rattle.lua_meaning.specs.FrameMethods.{a_title_text}
-use Rattle.lua_basic.specs.Arguments.{text_bytes}
-use Rattle.lua_basic.specs.Seen.{values_seen}
+use Rattle.mw_frame_texts.specs.LuaMeaningArguments.{some_value}
+use Rattle.mw_frame_texts.specs.LuaMeaningMessages.{bad_template_arguments}
+use Rattle.mw_frame_texts.specs.LuaMeaningFrameMethods.{a_title_text}
+use Rattle.mw_frame_texts.specs.LuaBasicArguments.{text_bytes}
+use Rattle.mw_frame_texts.specs.LuaBasicSeen.{values_seen}
 use Rattle.mw_frame_calls.specs.Seen.{scenes_seen, Paid}
 use Rattle.mw_frame_calls.specs.Parts.{template_titled}
 use Rattle.mw_frame_calls.proofs.Found.{raised}

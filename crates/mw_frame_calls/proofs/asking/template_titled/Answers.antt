@@ -1,6 +1,6 @@
 use Rattle.std.proofs.Common.{subst, sym}
-use Rattle.wk_base.specs.declared.title.Namespace.TheVariants.{Template as TemplateSpace}
-use Rattle.lua_meaning.specs.FrameMethods.{read_title}
+use Rattle.mw_frame.specs.WkBaseDeclaredTitleNamespaceTheVariants.{Template as TemplateSpace}
+use Rattle.mw_frame_texts.specs.LuaMeaningFrameMethods.{read_title}
 use Rattle.mw_frame_calls.specs.Seen.{scenes_seen, Paid}
 use Rattle.mw_frame_calls.proofs.Found.{titled, quoted}
 use Rattle.mw_frame_calls.proofs.asking.template_titled.Goals as goal

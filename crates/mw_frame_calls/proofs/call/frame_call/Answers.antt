@@ -1,4 +1,4 @@
-use Rattle.mw_frames.proofs.StayLaws.{scenes_later}
+use Rattle.mw_frame_texts.proofs.MwFramesStayLaws.{scenes_later}
 use Rattle.mw_frame_calls.specs.Seen.{scenes_seen}
 use Rattle.mw_frame_calls.proofs.Found.{for_nothing}
 use Rattle.mw_frame_calls.proofs.call.frame_call.Goals as goal

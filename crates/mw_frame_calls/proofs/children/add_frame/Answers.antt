@@ -1,7 +1,7 @@
 use Rattle.std.proofs.Common.{sym, subst}
-use Rattle.mw_frames.specs.Scenes.{made, FramesOf, NamesOf}
-use Rattle.mw_frames.proofs.Kept.{frames-push}
-use Rattle.mw_frames.proofs.StayLaws.{scenes_later}
+use Rattle.mw_frame_texts.specs.MwFramesScenes.{made, FramesOf, NamesOf}
+use Rattle.mw_frame_texts.proofs.MwFramesKept.{frames-push}
+use Rattle.mw_frame_texts.proofs.MwFramesStayLaws.{scenes_later}
 use Rattle.mw_frame_calls.proofs.children.add_frame.Goals as goal
 
 pub returns-clause-scenes : goal.returns-clause-scenes

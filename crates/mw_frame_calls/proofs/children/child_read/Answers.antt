@@ -1,9 +1,9 @@
 use Rattle.std.proofs.Common.{◌∙◌, ap, refl, subst, sym, Err}
 use Rattle.std.proofs.lemmas.Result.{err_from_is_err_and}
-use Rattle.lua_meaning.specs.Arguments.{passed}
-use Rattle.lua_meaning.specs.FrameMethods.{entry_arg}
-use Rattle.lua_meaning.specs.Messages.{bad_template_arguments}
-use Rattle.mw_frames.specs.Reading.{args_seen}
+use Rattle.mw_frame_texts.specs.LuaMeaningArguments.{passed}
+use Rattle.mw_frame_texts.specs.LuaMeaningFrameMethods.{entry_arg}
+use Rattle.mw_frame_texts.specs.LuaMeaningMessages.{bad_template_arguments}
+use Rattle.mw_frame_texts.specs.MwFramesReading.{args_seen}
 use Rattle.mw_frame_calls.specs.Parts.{entries_in}
 use Rattle.mw_frame_calls.specs.Seen.{scenes_seen, Paid}
 use Rattle.mw_frame_calls.proofs.Found.{found, not_found, raised, charged, not_charged}

@@ -1,8 +1,8 @@
 use Rattle.std.proofs.Common.{◌∙◌, ap, subst, sym}
 use Rattle.std.specs.Option.{option_map}
-use Rattle.lua_meaning.specs.FrameMethods.{child_title}
-use Rattle.lua_basic.specs.Arguments.{text_bytes}
-use Rattle.mw_frames.specs.Scenes.{made}
+use Rattle.mw_frame_texts.specs.LuaMeaningFrameMethods.{child_title}
+use Rattle.mw_frame_texts.specs.LuaBasicArguments.{text_bytes}
+use Rattle.mw_frame_texts.specs.MwFramesScenes.{made}
 use Rattle.mw_frame_calls.specs.Seen.{scenes_seen, Paid}
 use Rattle.mw_frame_calls.proofs.Found.{titled, quoted}
 use Rattle.mw_frame_calls.proofs.Frames.{same_frame}

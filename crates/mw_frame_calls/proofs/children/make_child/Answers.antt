@@ -1,12 +1,12 @@
 use Rattle.std.proofs.Common.{◌∙◌, ◌+◌, ap, refl, sym, arith, length, Err}
 use Rattle.std.proofs.lemmas.Result.{err_from_is_err_and}
-use Rattle.lua_heap.specs.Value.{Table}
-use Rattle.lua_meaning.specs.Frames.{args_charge, make_frame}
-use Rattle.lua_store.specs.declared.value.Value.TheVariants as own
-use Rattle.mw_frames.specs.Reading.{args_seen}
-use Rattle.mw_frames.specs.Scenes.{made}
-use Rattle.mw_frames.proofs.Kept.{seen-length}
-use Rattle.mw_frames.proofs.Sums.{took_then, unpaid_then}
+use Rattle.mw_frame_texts.specs.LuaHeapValue.{Table}
+use Rattle.mw_frame_texts.specs.LuaMeaningFrames.{args_charge, make_frame}
+use Rattle.mw_frame_texts.specs.LuaStoreDeclaredValueValueTheVariants as own
+use Rattle.mw_frame_texts.specs.MwFramesReading.{args_seen}
+use Rattle.mw_frame_texts.specs.MwFramesScenes.{made}
+use Rattle.mw_frame_texts.proofs.MwFramesKept.{seen-length}
+use Rattle.mw_frame_texts.proofs.MwFramesSums.{took_then, unpaid_then}
 use Rattle.mw_frame_calls.specs.Seen.{scenes_seen}
 use Rattle.mw_frame_calls.specs.Parts.{child_scene}
 use Rattle.mw_frame_calls.proofs.Found.{took_covers, lacked}

@@ -1,8 +1,8 @@
 use Rattle.std.proofs.Common.{codes}
-use Rattle.lua_meaning.specs.Messages.{bad_argument, expected}
-use Rattle.lua_meaning.specs.FrameMethods.{a_frame}
-use Rattle.lua_basic.specs.Seen.{values_seen}
-use Rattle.lua_basic.proofs.Found.{refused}
+use Rattle.mw_frame_texts.specs.LuaMeaningMessages.{bad_argument, expected}
+use Rattle.mw_frame_texts.specs.LuaMeaningFrameMethods.{a_frame}
+use Rattle.mw_frame_texts.specs.LuaBasicSeen.{values_seen}
+use Rattle.mw_frame_texts.proofs.LuaBasicFound.{refused}
 use Rattle.mw_frame_calls.specs.Seen.{scenes_seen}
 use Rattle.mw_frame_calls.specs.Parts.{numbered}
 use Rattle.mw_frame_calls.proofs.Values.{frame_told, none_told}

@@ -1,10 +1,10 @@
 use Rattle.std.proofs.Common.{◌≡◌, ◌∙◌, ap, sym, subst, List, [], ◌∷◌, Ok}
-use Rattle.lua_meaning.specs.Acts.{Frame}
-use Rattle.lua_meaning.specs.Arguments.{a_text}
-use Rattle.lua_meaning.specs.FrameMethods.{text_or_field}
-use Rattle.lua_store.specs.Seen.{text_at}
-use Rattle.lua_basic.specs.Arguments.{text_bytes}
-use Rattle.lua_basic.specs.Seen.{values_seen, Refuses}
+use Rattle.mw_frame_texts.specs.LuaMeaningActs.{Frame}
+use Rattle.mw_frame_texts.specs.LuaMeaningArguments.{a_text}
+use Rattle.mw_frame_texts.specs.LuaMeaningFrameMethods.{text_or_field}
+use Rattle.mw_frame_texts.specs.LuaStoreSeen.{text_at}
+use Rattle.mw_frame_texts.specs.LuaBasicArguments.{text_bytes}
+use Rattle.mw_frame_texts.specs.LuaBasicSeen.{values_seen, Refuses}
 use Rattle.mw_frame_calls.proofs.Values.{if_ok, if_err}
 use Rattle.mw_frame_calls.proofs.finding.a_text_or_field.Goals as goal
 

@@ -1,8 +1,8 @@
 use Rattle.std.proofs.Common.{◌∙◌, ap, refl, subst, sym, Err}
 use Rattle.std.proofs.lemmas.Result.{err_from_is_err_and}
-use Rattle.mw_frames.specs.Scenes.{made}
-use Rattle.mw_frames.proofs.Kept.{there-is}
-use Rattle.mw_frames.proofs.StayLaws.{scenes_later}
+use Rattle.mw_frame_texts.specs.MwFramesScenes.{made}
+use Rattle.mw_frame_texts.proofs.MwFramesKept.{there-is}
+use Rattle.mw_frame_texts.proofs.MwFramesStayLaws.{scenes_later}
 use Rattle.mw_frame_calls.specs.Seen.{scenes_seen, Paid}
 use Rattle.mw_frame_calls.specs.Parts.{numbered}
 use Rattle.mw_frame_calls.proofs.Found.{stopped, found, for_nothing}

@@ -1,15 +1,15 @@
 use Rattle.std.proofs.Common.{◌≡◌, ◌∙◌, ◌+◌, ap, refl, subst, sym, Ok}
-use Rattle.lua_heap.specs.Proc.{Proc}
-use Rattle.lua_heap.specs.Value.{Table, Nil}
-use Rattle.lua_meaning.specs.Frames.{args_charge, make_frame}
-use Rattle.lua_meaning.specs.FrameMethods as meaning
-use Rattle.lua_meaning.specs.FrameMethods.{Framed}
-use Rattle.lua_store.specs.declared.value.Value.TheVariants as own
-use Rattle.mw_frames.specs.Scenes.{made, parent_seen, NamesOf}
-use Rattle.mw_frames.specs.declared.scenes.Parent.{Parent}
-use Rattle.mw_frames.specs.declared.scenes.Parent.TheVariants as kin
-use Rattle.mw_frames.proofs.Kept.{seen-length}
-use Rattle.mw_frames.proofs.StayLaws.{scenes_later}
+use Rattle.mw_frame_texts.specs.LuaHeapProc.{Proc}
+use Rattle.mw_frame_texts.specs.LuaHeapValue.{Table, Nil}
+use Rattle.mw_frame_texts.specs.LuaMeaningFrames.{args_charge, make_frame}
+use Rattle.mw_frame_texts.specs.LuaMeaningFrameMethods as meaning
+use Rattle.mw_frame_texts.specs.LuaMeaningFrameMethods.{Framed}
+use Rattle.mw_frame_texts.specs.LuaStoreDeclaredValueValueTheVariants as own
+use Rattle.mw_frame_texts.specs.MwFramesScenes.{made, parent_seen, NamesOf}
+use Rattle.mw_frame_texts.specs.MwFramesDeclaredScenesParent.{Parent}
+use Rattle.mw_frame_texts.specs.MwFramesDeclaredScenesParentTheVariants as kin
+use Rattle.mw_frame_texts.proofs.MwFramesKept.{seen-length}
+use Rattle.mw_frame_texts.proofs.MwFramesStayLaws.{scenes_later}
 use Rattle.mw_frame_calls.specs.Seen.{scenes_seen}
 use Rattle.mw_frame_calls.specs.Parts.{numbered}
 use Rattle.mw_frame_calls.proofs.Found.{took_covers, for_nothing}

@@ -1,5 +1,5 @@
 use Rattle.std.proofs.Common.{◌≡◌, length}
-use Rattle.lua_meaning.specs.Frames.{arg_named}
+use Rattle.mw_frame_texts.specs.LuaMeaningFrames.{arg_named}
 use Rattle.mw_frame_calls.proofs.reading.arg_named.Given as goal
 
 abbrev pub invariant-each : goal.invariant-each

@@ -1,11 +1,11 @@
 use Rattle.std.proofs.Common.{◌≡◌, ◌∙◌, ap, refl, subst, sym, Ok, Err, codes}
 use Rattle.std.proofs.lemmas.Result.{err_from_is_err_and}
-use Rattle.lua_heap.specs.Value.{Nil}
-use Rattle.lua_meaning.specs.Arguments.{a_text}
-use Rattle.lua_meaning.specs.FrameMethods.{text_or_field, argument_table}
-use Rattle.lua_basic.specs.Seen.{values_seen}
-use Rattle.lua_store.specs.Seen.{text_at}
-use Rattle.lua_store.specs.declared.value.Value.TheVariants as own
+use Rattle.mw_frame_texts.specs.LuaHeapValue.{Nil}
+use Rattle.mw_frame_texts.specs.LuaMeaningArguments.{a_text}
+use Rattle.mw_frame_texts.specs.LuaMeaningFrameMethods.{text_or_field, argument_table}
+use Rattle.mw_frame_texts.specs.LuaBasicSeen.{values_seen}
+use Rattle.mw_frame_texts.specs.LuaStoreSeen.{text_at}
+use Rattle.mw_frame_texts.specs.LuaStoreDeclaredValueValueTheVariants as own
 use Rattle.mw_frame_calls.specs.Seen.{scenes_seen, Paid}
 use Rattle.mw_frame_calls.proofs.Found.{stopped, found, for_nothing}
 use Rattle.mw_frame_calls.proofs.Values.{one_given}

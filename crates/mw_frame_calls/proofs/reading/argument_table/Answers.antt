@@ -1,9 +1,9 @@
 use Rattle.std.proofs.Common.{◌∙◌, ap, refl, codes}
-use Rattle.lua_heap.specs.Heap.{set_in}
-use Rattle.lua_heap.specs.Value.{Text}
-use Rattle.lua_store.specs.Seen.{StoreView}
+use Rattle.mw_frame_texts.specs.LuaHeapHeap.{set_in}
+use Rattle.mw_frame_texts.specs.LuaHeapValue.{Text}
+use Rattle.mw_frame_texts.specs.LuaStoreSeen.{StoreView}
 use Rattle.mw_frame_calls.proofs.Tables.{two_set}
-use Rattle.lua_store.proofs.Later.{later-then}
+use Rattle.mw_frame_texts.proofs.LuaStoreLater.{later-then}
 use Rattle.mw_frame_calls.proofs.reading.argument_table.Goals as goal
 
 pub returns-clause-made : goal.returns-clause-made

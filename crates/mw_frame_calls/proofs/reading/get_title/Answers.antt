@@ -1,9 +1,9 @@
 use Rattle.std.proofs.Common.{◌∙◌, ap, refl, Err}
 use Rattle.std.proofs.lemmas.Result.{err_from_is_err_and}
-use Rattle.lua_heap.specs.Value.{Text}
-use Rattle.lua_store.specs.Seen.{StoreView}
-use Rattle.lua_store.specs.declared.value.Value.TheVariants as own
-use Rattle.wk_base.specs.Titles.{title_text}
+use Rattle.mw_frame_texts.specs.LuaHeapValue.{Text}
+use Rattle.mw_frame_texts.specs.LuaStoreSeen.{StoreView}
+use Rattle.mw_frame_texts.specs.LuaStoreDeclaredValueValueTheVariants as own
+use Rattle.mw_frame.specs.WkBaseTitles.{title_text}
 use Rattle.mw_frame_calls.specs.Seen.{scenes_seen}
 use Rattle.mw_frame_calls.specs.Parts.{numbered}
 use Rattle.mw_frame_calls.proofs.Found.{stopped, found}

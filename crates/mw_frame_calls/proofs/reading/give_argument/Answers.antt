@@ -1,7 +1,7 @@
 use Rattle.std.proofs.Common.{◌∙◌, ap, refl, arith, Err, length}
 use Rattle.std.proofs.lemmas.Result.{err_from_is_err_and}
-use Rattle.lua_heap.specs.Value.{Table}
-use Rattle.lua_store.specs.declared.value.Value.TheVariants as own
+use Rattle.mw_frame_texts.specs.LuaHeapValue.{Table}
+use Rattle.mw_frame_texts.specs.LuaStoreDeclaredValueValueTheVariants as own
 use Rattle.mw_frame_calls.specs.Seen.{scenes_seen}
 use Rattle.mw_frame_calls.proofs.Found.{took_covers, lacked}
 use Rattle.mw_frame_calls.proofs.Values.{one_given}

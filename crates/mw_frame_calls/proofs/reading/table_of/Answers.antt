@@ -1,6 +1,6 @@
 use Rattle.std.proofs.Common.{sym}
-use Rattle.mw_frames.specs.Scenes.{made}
-use Rattle.mw_frames.proofs.Kept.{frame-there}
+use Rattle.mw_frame_texts.specs.MwFramesScenes.{made}
+use Rattle.mw_frame_texts.proofs.MwFramesKept.{frame-there}
 use Rattle.mw_frame_calls.proofs.Values.{table_there, no_table}
 use Rattle.mw_frame_calls.proofs.reading.table_of.Goals as goal
 

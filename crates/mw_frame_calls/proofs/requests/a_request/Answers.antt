@@ -1,7 +1,7 @@
 use Rattle.std.proofs.Common.{◌≡◌, ◌∙◌, ap, codes}
-use Rattle.lua_heap.specs.Value.{Table}
-use Rattle.lua_meaning.specs.Metatables.{field}
-use Rattle.lua_store.specs.Seen.{text_at}
+use Rattle.mw_frame_texts.specs.LuaHeapValue.{Table}
+use Rattle.mw_frame_texts.specs.LuaMeaningMetatables.{field}
+use Rattle.mw_frame_texts.specs.LuaStoreSeen.{text_at}
 use Rattle.mw_frame_calls.proofs.requests.a_request.Goals as goal
 
 pub returns-in-Some-clause-found : goal.returns-in-Some-clause-found

@@ -1,12 +1,12 @@
 use Rattle.std.proofs.Common.{◌∙◌, ap, refl, subst, sym, Ok, Err}
 use Rattle.std.proofs.lemmas.Result.{err_from_is_err_and}
-use Rattle.lua_meaning.specs.Tag.{extension_tag}
-use Rattle.lua_meaning.specs.Values.{rest}
-use Rattle.lua_basic.specs.Seen as plain
-use Rattle.lua_basic.specs.Seen.{values_seen}
-use Rattle.lua_store.specs.Seen.{StoreView}
-use Rattle.mw_frames.specs.Scenes.{made}
-use Rattle.mw_frames.proofs.Kept.{there-is}
+use Rattle.mw_frame_texts.specs.LuaMeaningTag.{extension_tag}
+use Rattle.mw_frame_texts.specs.LuaMeaningValues.{rest}
+use Rattle.mw_frame_texts.specs.LuaBasicSeen as plain
+use Rattle.mw_frame_texts.specs.LuaBasicSeen.{values_seen}
+use Rattle.mw_frame_texts.specs.LuaStoreSeen.{StoreView}
+use Rattle.mw_frame_texts.specs.MwFramesScenes.{made}
+use Rattle.mw_frame_texts.proofs.MwFramesKept.{there-is}
 use Rattle.mw_frame_calls.specs.declared.answer.FrameAnswer.TheVariants as answer
 use Rattle.mw_frame_calls.specs.Seen.{scenes_seen, Paid}
 use Rattle.mw_frame_calls.specs.Parts.{numbered}

@@ -1,6 +1,6 @@
 use Rattle.std.proofs.Common.{sym}
-use Rattle.lua_store.specs.Seen.{seen_entry}
-use Rattle.lua_basic.specs.Arguments.{text_bytes}
+use Rattle.mw_frames.specs.LuaStoreSeen.{seen_entry}
+use Rattle.mw_frames.specs.LuaBasicArguments.{text_bytes}
 use Rattle.mw_frame_texts.specs.declared.attributes.AttrValue.TheVariants as value
 use Rattle.mw_frame_texts.proofs.Reading.{passed, named, no_name, taken, left_out, refused}
 use Rattle.mw_frame_texts.proofs.attributes.read_attribute.Goals as goal

@@ -1,6 +1,6 @@
 use Rattle.std.proofs.Common.{◌∙◌, sym, drop}
-use Rattle.lua_heap.specs.Heap.{table_at}
-use Rattle.lua_meaning.specs.Tag.{attributes}
+use Rattle.mw_frames.specs.LuaHeapHeap.{table_at}
+use Rattle.mw_frames.specs.LuaMeaningTag.{attributes}
 use Rattle.mw_frame_texts.proofs.Reading.{nothing-before, all-read}
 use Rattle.mw_frame_texts.proofs.attributes.read_attributes.Goals as goal
 

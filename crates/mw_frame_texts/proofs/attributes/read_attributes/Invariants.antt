@@ -1,6 +1,6 @@
 use Rattle.std.proofs.Common.{◌≡◌, drop, Ok}
-use Rattle.lua_heap.specs.Heap.{table_at}
-use Rattle.lua_meaning.specs.Tag.{and_then, attributes}
+use Rattle.mw_frames.specs.LuaHeapHeap.{table_at}
+use Rattle.mw_frames.specs.LuaMeaningTag.{and_then, attributes}
 use Rattle.mw_frame_texts.specs.Written.{attrs_written}
 use Rattle.mw_frame_texts.proofs.attributes.read_attributes.Given as goal
 

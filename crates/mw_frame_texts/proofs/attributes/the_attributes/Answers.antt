@@ -1,8 +1,8 @@
 use Rattle.std.proofs.Common.{◌∙◌, ◌∷◌, [], codes}
-use Rattle.lua_meaning.specs.Messages.{bad_argument, expected}
-use Rattle.lua_meaning.specs.Tag.{attributes_in}
-use Rattle.lua_basic.proofs.Found.{refused}
-use Rattle.lua_store.specs.Seen.{seen}
+use Rattle.mw_frames.specs.LuaMeaningMessages.{bad_argument, expected}
+use Rattle.mw_frames.specs.LuaMeaningTag.{attributes_in}
+use Rattle.mw_frames.proofs.LuaBasicFound.{refused}
+use Rattle.mw_frames.specs.LuaStoreSeen.{seen}
 use Rattle.mw_frame_texts.proofs.attributes.the_attributes.Goals as goal
 
 pub returns-in_default-clause-refused : goal.returns-in_default-clause-refused

@@ -1,6 +1,6 @@
 use Rattle.std.proofs.Common.{◌∙◌, ap, subst}
-use Rattle.lua_meaning.specs.Arguments.{text_charge}
-use Rattle.lua_basic.specs.Seen.{values_seen, AllOf}
+use Rattle.mw_frames.specs.LuaMeaningArguments.{text_charge}
+use Rattle.mw_frames.specs.LuaBasicSeen.{values_seen, AllOf}
 use Rattle.mw_frames.proofs.Sums.{took-more}
 use Rattle.mw_frame_texts.proofs.costs.pay_given.Goals as goal
 

@@ -1,6 +1,6 @@
 use Rattle.std.proofs.Common.{length}
-use Rattle.lua_meaning.specs.Arguments.{text_charge}
-use Rattle.lua_basic.specs.Seen.{values_seen, AllOf}
+use Rattle.mw_frames.specs.LuaMeaningArguments.{text_charge}
+use Rattle.mw_frames.specs.LuaBasicSeen.{values_seen, AllOf}
 use Rattle.mw_frames.specs.Costs.{SoFar}
 use Rattle.mw_frame_texts.proofs.costs.pay_given.Given as goal
 

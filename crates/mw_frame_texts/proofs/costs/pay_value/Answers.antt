@@ -1,5 +1,5 @@
 use Rattle.std.proofs.Common.{◌∙◌, ap, length, length-append}
-use Rattle.lua_meaning.specs.Tag.{encode, encode_behind, encode_byte}
+use Rattle.mw_frames.specs.LuaMeaningTag.{encode, encode_behind, encode_byte}
 use Rattle.mw_frames.proofs.Sums.{took-more}
 use Rattle.mw_frame_texts.proofs.costs.pay_value.Goals as goal
 

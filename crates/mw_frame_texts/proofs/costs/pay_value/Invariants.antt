@@ -1,5 +1,5 @@
 use Rattle.std.proofs.Common.{length}
-use Rattle.lua_meaning.specs.Tag.{encode, encode_behind}
+use Rattle.mw_frames.specs.LuaMeaningTag.{encode, encode_behind}
 use Rattle.mw_frames.specs.Costs.{SoFar}
 use Rattle.mw_frame_texts.proofs.costs.pay_value.Given as goal
 

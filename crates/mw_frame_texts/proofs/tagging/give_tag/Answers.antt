@@ -1,6 +1,6 @@
 use Rattle.std.proofs.Common.{◌∙◌, ap, arith, length, Err}
 use Rattle.std.proofs.lemmas.Result.{err_from_is_err_and}
-use Rattle.lua_store.specs.Seen.{StoreView}
+use Rattle.mw_frames.specs.LuaStoreSeen.{StoreView}
 use Rattle.mw_frame_texts.specs.Written.{tag_written}
 use Rattle.mw_frame_texts.proofs.Charged.{lacked, text_covers}
 use Rattle.mw_frame_texts.proofs.tagging.give_tag.Goals as goal

@@ -1,8 +1,8 @@
 use Rattle.std.proofs.Common.{◌∙◌, ap, sym, subst}
-use Rattle.lua_heap.specs.Value.{Table}
-use Rattle.lua_meaning.specs.Metatables.{field}
-use Rattle.lua_meaning.specs.Tag.{TagParts, tag_of}
-use Rattle.lua_basic.specs.Seen.{Paid}
+use Rattle.mw_frames.specs.LuaHeapValue.{Table}
+use Rattle.mw_frames.specs.LuaMeaningMetatables.{field}
+use Rattle.mw_frames.specs.LuaMeaningTag.{TagParts, tag_of}
+use Rattle.mw_frames.specs.LuaBasicSeen.{Paid}
 use Rattle.mw_frame_texts.proofs.tagging.tag_given.Goals as goal
 
 pub returns-in-Some-clause-answer : goal.returns-in-Some-clause-answer

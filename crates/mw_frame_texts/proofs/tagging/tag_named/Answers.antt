@@ -1,11 +1,11 @@
 use Rattle.std.proofs.Common.{◌∙◌, ap, refl, sym, subst, ◌∷◌, [], ◌++◌, Ok, Err, codes}
 use Rattle.std.proofs.lemmas.Result.{err_from_is_err_and}
-use Rattle.lua_meaning.specs.Arguments.{with_argument, gives_text}
-use Rattle.lua_meaning.specs.Messages.{bad_argument, expected}
-use Rattle.lua_meaning.specs.Tag.{and_then, closed_by}
-use Rattle.lua_basic.specs.Seen.{Stops, Paid}
-use Rattle.lua_basic.proofs.Found.{stopped, for_nothing}
-use Rattle.lua_store.specs.Seen.{seen}
+use Rattle.mw_frames.specs.LuaMeaningArguments.{with_argument, gives_text}
+use Rattle.mw_frames.specs.LuaMeaningMessages.{bad_argument, expected}
+use Rattle.mw_frames.specs.LuaMeaningTag.{and_then, closed_by}
+use Rattle.mw_frames.specs.LuaBasicSeen.{Stops, Paid}
+use Rattle.mw_frames.proofs.LuaBasicFound.{stopped, for_nothing}
+use Rattle.mw_frames.specs.LuaStoreSeen.{seen}
 use Rattle.mw_frame_texts.specs.Written.{attrs_written}
 use Rattle.mw_frame_texts.proofs.Charged.{refuses_first}
 use Rattle.mw_frame_texts.proofs.tagging.tag_named.Goals as goal

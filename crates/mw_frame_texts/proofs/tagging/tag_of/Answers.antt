@@ -1,10 +1,10 @@
 use Rattle.std.proofs.Common.{◌∙◌, ap, refl, sym, subst, Err}
 use Rattle.std.proofs.lemmas.Result.{err_from_is_err_and}
-use Rattle.lua_meaning.specs.Tag.{passed_in}
-use Rattle.lua_basic.specs.Arguments.{text_bytes}
-use Rattle.lua_basic.specs.Seen.{Paid}
-use Rattle.lua_basic.proofs.Found.{stopped, found, for_nothing}
-use Rattle.lua_store.specs.Seen.{StoreView, seen}
+use Rattle.mw_frames.specs.LuaMeaningTag.{passed_in}
+use Rattle.mw_frames.specs.LuaBasicArguments.{text_bytes}
+use Rattle.mw_frames.specs.LuaBasicSeen.{Paid}
+use Rattle.mw_frames.proofs.LuaBasicFound.{stopped, found, for_nothing}
+use Rattle.mw_frames.specs.LuaStoreSeen.{StoreView, seen}
 use Rattle.mw_frames.specs.Costs.{MayPay}
 use Rattle.mw_frame_texts.proofs.Charged.{charged, not_charged_or}
 use Rattle.mw_frame_texts.proofs.tagging.tag_of.Goals as goal

@@ -1,8 +1,8 @@
 use Rattle.std.proofs.Common.{◌≡◌, ◌∙◌, ap, sym, pos, rules, w64, to_z, of_z}
-use Rattle.lua_heap.specs.Value.{Number}
-use Rattle.lua_heap.specs.Table.{get}
-use Rattle.lua_heap.specs.Heap.{table_at}
-use Rattle.lua_store.specs.Seen.{seen}
+use Rattle.lua_basic.specs.LuaHeapValue.{Number}
+use Rattle.lua_basic.specs.LuaHeapTable.{get}
+use Rattle.lua_basic.specs.LuaHeapHeap.{table_at}
+use Rattle.lua_basic.specs.LuaStoreSeen.{seen}
 use Rattle.mw_frames.proofs.Digits.{by-place, by-no-place}
 use Rattle.mw_frames.proofs.index.at_place.Goals as goal
 

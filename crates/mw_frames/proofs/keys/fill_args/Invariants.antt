@@ -1,6 +1,6 @@
 use Rattle.std.proofs.Common.{◌≡◌, length, map}
-use Rattle.lua_store.specs.Parts.{IsLater}
-use Rattle.lua_graph.specs.Put.{filled}
+use Rattle.lua_basic.specs.LuaStoreParts.{IsLater}
+use Rattle.lua_home.specs.LuaGraphPut.{filled}
 use Rattle.mw_frames.specs.Making.{arg_entry}
 use Rattle.mw_frames.proofs.keys.fill_args.Given as goal
 

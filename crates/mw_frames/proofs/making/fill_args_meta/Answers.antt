@@ -1,8 +1,8 @@
 use Rattle.std.proofs.Common.{◌∙◌, ap, codes}
-use Rattle.lua_heap.specs.Proc.{Proc}
-use Rattle.lua_heap.specs.Value.{Text, Builtin}
-use Rattle.lua_heap.specs.Heap.{Heap, set_in}
-use Rattle.lua_heap.specs.declared.library.Library.TheVariants.{ArgsIndex}
+use Rattle.lua_basic.specs.LuaHeapProc.{Proc}
+use Rattle.lua_basic.specs.LuaHeapValue.{Text, Builtin}
+use Rattle.lua_basic.specs.LuaHeapHeap.{Heap, set_in}
+use Rattle.lua_home.specs.LuaHeapDeclaredLibraryLibraryTheVariants.{ArgsIndex}
 use Rattle.mw_frames.proofs.making.fill_args_meta.Goals as goal
 
 pub returns-clause-put : goal.returns-clause-put

@@ -1,8 +1,8 @@
 use Rattle.std.proofs.Common.{◌≡◌, ◌∙◌, ap, codes, false, pos, arith, w64, to_z}
 use Rattle.std.proofs.lemmas.Int.{to_z_pos}
-use Rattle.lua_heap.specs.Proc.{Proc}
-use Rattle.lua_heap.specs.Value.{Text, Truth, Number}
-use Rattle.lua_heap.specs.Heap.{Heap, set_in}
+use Rattle.lua_basic.specs.LuaHeapProc.{Proc}
+use Rattle.lua_basic.specs.LuaHeapValue.{Text, Truth, Number}
+use Rattle.lua_basic.specs.LuaHeapHeap.{Heap, set_in}
 use Rattle.mw_frames.proofs.making.fill_frame_meta.Goals as goal
 
 pub returns-clause-put : goal.returns-clause-put

@@ -1,8 +1,8 @@
 use Rattle.std.proofs.Common.{◌∙◌, ap, arith, map}
-use Rattle.lua_heap.specs.Heap.{Heap}
-use Rattle.lua_meaning.specs.Frames.{args_meta, frame_entries, frame_meta}
-use Rattle.lua_graph.specs.Put.{filled}
-use Rattle.lua_store.proofs.Later.{later-then}
+use Rattle.lua_basic.specs.LuaHeapHeap.{Heap}
+use Rattle.lua_home.specs.LuaMeaningFrames.{args_meta, frame_entries, frame_meta}
+use Rattle.lua_home.specs.LuaGraphPut.{filled}
+use Rattle.lua_basic.proofs.LuaStoreLater.{later-then}
 use Rattle.mw_frames.specs.Making.{arg_entry, with_pair}
 use Rattle.mw_frames.proofs.Tables.{frame_made, pair_longer}
 use Rattle.mw_frames.proofs.making.make_frame.Goals as goal

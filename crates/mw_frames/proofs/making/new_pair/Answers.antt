@@ -1,6 +1,6 @@
 use Rattle.std.proofs.Common.{◌∙◌, ap}
-use Rattle.lua_store.specs.Seen.{StoreView}
-use Rattle.lua_graph.proofs.Steps.{one_longer}
+use Rattle.lua_basic.specs.LuaStoreSeen.{StoreView}
+use Rattle.lua_home.proofs.LuaGraphSteps.{one_longer}
 use Rattle.mw_frames.proofs.Tables.{paired}
 use Rattle.mw_frames.proofs.making.new_pair.Goals as goal
 

@@ -1,6 +1,6 @@
 use Rattle.std.proofs.Common.{◌≡◌, ◌∙◌, ap, sym, subst}
 use Rattle.mw_frame.specs.Scenes.{NamesDiffer}
-use Rattle.lua_meaning.specs.Frames.{put_arg}
+use Rattle.lua_home.specs.LuaMeaningFrames.{put_arg}
 use Rattle.mw_frames.specs.Merging.{args_in}
 use Rattle.mw_frames.proofs.Merged.{put-is, differ-put}
 use Rattle.mw_frames.proofs.merging.insert.Goals as goal

@@ -1,6 +1,6 @@
 use Rattle.std.proofs.Common.{◌≡◌, drop}
 use Rattle.mw_frame.specs.Scenes.{NamesDiffer}
-use Rattle.lua_meaning.specs.Frames.{merge_args}
+use Rattle.lua_home.specs.LuaMeaningFrames.{merge_args}
 use Rattle.mw_frames.specs.Reading.{args_seen}
 use Rattle.mw_frames.specs.Merging.{args_in}
 use Rattle.mw_frames.proofs.merging.insert_all.Given as goal

@@ -1,5 +1,5 @@
 use Rattle.std.proofs.Common.{◌+◌, ap, length}
-use Rattle.lua_meaning.specs.Frames.{args_charge}
+use Rattle.lua_home.specs.LuaMeaningFrames.{args_charge}
 use Rattle.mw_frames.proofs.Sums.{took-more}
 use Rattle.mw_frames.proofs.paying.pay_args.Goals as goal
 

@@ -1,5 +1,5 @@
 use Rattle.std.proofs.Common.{length}
-use Rattle.lua_meaning.specs.Frames.{args_charge}
+use Rattle.lua_home.specs.LuaMeaningFrames.{args_charge}
 use Rattle.mw_frames.specs.Costs.{SoFar}
 use Rattle.mw_frames.proofs.paying.pay_args.Given as goal
 

@@ -1,6 +1,6 @@
 use Rattle.std.proofs.Common.{sym}
-use Rattle.lua_heap.specs.Heap.{table_at}
-use Rattle.lua_graph.proofs.Places.{drop_at, drop_past}
+use Rattle.lua_basic.specs.LuaHeapHeap.{table_at}
+use Rattle.lua_home.proofs.LuaGraphPlaces.{drop_at, drop_past}
 use Rattle.mw_frames.proofs.reading.entry_at.Goals as goal
 
 pub returns-in-Some-clause-entry : goal.returns-in-Some-clause-entry

@@ -1,6 +1,6 @@
 use Rattle.std.proofs.Common.{◌∙◌, ap, sym, Err}
 use Rattle.std.proofs.lemmas.Result.{err_from_is_err_and}
-use Rattle.lua_store.specs.Seen.{seen_entry}
+use Rattle.lua_basic.specs.LuaStoreSeen.{seen_entry}
 use Rattle.mw_frames.proofs.ReadLemmas.{passed-over, passed-short, named-or-not}
 use Rattle.mw_frames.proofs.reading.pass_entry.Goals as goal
 

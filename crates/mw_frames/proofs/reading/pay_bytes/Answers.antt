@@ -1,5 +1,5 @@
 use Rattle.std.proofs.Common.{◌+◌, length, drop}
-use Rattle.lua_meaning.specs.Frames.{bytes_of}
+use Rattle.lua_home.specs.LuaMeaningFrames.{bytes_of}
 use Rattle.lua_basic.specs.Arguments.{text_bytes}
 use Rattle.mw_frames.specs.Reading.{args_seen}
 use Rattle.mw_frames.proofs.Sums.{took-more, one-more}

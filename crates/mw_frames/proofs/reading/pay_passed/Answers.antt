@@ -1,9 +1,9 @@
 use Rattle.std.proofs.Common.{◌∙◌, ap, subst, arith, drop, Err}
 use Rattle.std.proofs.lemmas.Result.{err_from_is_err_and}
-use Rattle.lua_heap.specs.Heap.{table_at}
-use Rattle.lua_meaning.specs.Arguments.{passed}
-use Rattle.lua_meaning.specs.FrameMethods.{entry_arg}
-use Rattle.lua_store.specs.Seen.{seen_entry}
+use Rattle.lua_basic.specs.LuaHeapHeap.{table_at}
+use Rattle.lua_basic.specs.LuaMeaningArguments.{passed}
+use Rattle.lua_basic.specs.LuaMeaningFrameMethods.{entry_arg}
+use Rattle.lua_basic.specs.LuaStoreSeen.{seen_entry}
 use Rattle.mw_frames.specs.Costs.{Took, MayPay}
 use Rattle.mw_frames.proofs.Sums.{took_none}
 use Rattle.mw_frames.proofs.ReadLemmas.{passed-one, passed-last, passed-end, passed-stop, passed-alike}

@@ -1,7 +1,7 @@
 use Rattle.std.proofs.Common.{drop}
-use Rattle.lua_heap.specs.Heap.{table_at}
-use Rattle.lua_meaning.specs.Arguments.{passed}
-use Rattle.lua_meaning.specs.FrameMethods.{entry_arg}
+use Rattle.lua_basic.specs.LuaHeapHeap.{table_at}
+use Rattle.lua_basic.specs.LuaMeaningArguments.{passed}
+use Rattle.lua_basic.specs.LuaMeaningFrameMethods.{entry_arg}
 use Rattle.mw_frames.specs.Costs.{SoFar}
 use Rattle.mw_frames.proofs.reading.pay_passed.Given as goal
 

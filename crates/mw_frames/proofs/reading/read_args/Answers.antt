@@ -1,7 +1,7 @@
 use Rattle.std.proofs.Common.{◌∙◌, sym, drop}
-use Rattle.lua_heap.specs.Heap.{table_at}
+use Rattle.lua_basic.specs.LuaHeapHeap.{table_at}
 use Rattle.mw_frames.specs.Reading.{args_seen}
-use Rattle.lua_meaning.specs.FrameMethods.{read_args}
+use Rattle.lua_basic.specs.LuaMeaningFrameMethods.{read_args}
 use Rattle.mw_frames.proofs.ReadLemmas.{nothing-before, all-read}
 use Rattle.mw_frames.proofs.reading.read_args.Goals as goal
 

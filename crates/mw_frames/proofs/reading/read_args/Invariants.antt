@@ -1,6 +1,6 @@
 use Rattle.std.proofs.Common.{◌≡◌, drop}
-use Rattle.lua_heap.specs.Heap.{table_at}
-use Rattle.lua_meaning.specs.FrameMethods.{read_args}
+use Rattle.lua_basic.specs.LuaHeapHeap.{table_at}
+use Rattle.lua_basic.specs.LuaMeaningFrameMethods.{read_args}
 use Rattle.mw_frames.specs.Reading.{args_seen, behind}
 use Rattle.mw_frames.proofs.reading.read_args.Given as goal
 

@@ -1,6 +1,6 @@
 use Rattle.std.proofs.Common.{◌∙◌, ap, sym}
-use Rattle.lua_store.specs.Seen.{seen_entry}
-use Rattle.lua_meaning.specs.Messages.{bad_template_arguments}
+use Rattle.lua_basic.specs.LuaStoreSeen.{seen_entry}
+use Rattle.lua_basic.specs.LuaMeaningMessages.{bad_template_arguments}
 use Rattle.mw_frames.specs.Reading.{args_seen, found_arg}
 use Rattle.mw_frames.proofs.ReadLemmas.{passed, taken, refused}
 use Rattle.mw_frames.proofs.reading.read_entry.Goals as goal

@@ -1,5 +1,5 @@
 use Rattle.std.proofs.Common.{refl, ap}
-use Rattle.lua_store.specs.Seen.{StoreView}
+use Rattle.lua_strings.specs.LuaStoreSeen.{StoreView}
 use Rattle.mw_html_texts.proofs.giving.give_kept.Goals as goal
 
 pub returns-clause-value : goal.returns-clause-value

@@ -1,5 +1,5 @@
 use Rattle.std.proofs.Common.{◌∙◌, ap, ◌∷◌, []}
-use Rattle.lua_heap.specs.Value.{Text}
+use Rattle.lua_strings.specs.LuaHeapValue.{Text}
 use Rattle.mw_html.specs.Render.{render}
 use Rattle.mw_html_texts.proofs.Covered.{text_given, too_deep_raised, not_covered}
 use Rattle.mw_html_texts.proofs.giving.give_object_text.Goals as goal

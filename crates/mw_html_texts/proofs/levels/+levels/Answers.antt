@@ -2,8 +2,8 @@ use Rattle.std.proofs.Common.{rules, sym, subst, map}
 use Rattle.std.specs.List.{AllByRecursion}
 use Rattle.mw_html.specs.Render as spec
 use Rattle.mw_html.specs.Sheet.{Leads}
-use Rattle.lua_store.specs.Seen.{seen_child, seen_node}
-use Rattle.lua_store.specs.Parts.{IsChildOf}
+use Rattle.lua_strings.specs.LuaStoreSeen.{seen_child, seen_node}
+use Rattle.lua_strings.specs.LuaStoreParts.{IsChildOf}
 use Rattle.mw_html_texts.proofs.Pieces.{leads_on, node_on}
 use Rattle.mw_html_texts.proofs.levels.+levels.Goals as goal
 

@@ -3,8 +3,8 @@ use Rattle.std.specs.List.{AllByRecursion}
 use Rattle.mw_html.specs.declared.sheet.Sheet.{Sheet}
 use Rattle.mw_html.specs.Render as spec
 use Rattle.mw_html.specs.Sheet.{Leads}
-use Rattle.lua_store.specs.Seen.{seen_child}
-use Rattle.lua_store.specs.Parts.{IsChildOf}
+use Rattle.lua_strings.specs.LuaStoreSeen.{seen_child}
+use Rattle.lua_strings.specs.LuaStoreParts.{IsChildOf}
 use Rattle.mw_html_texts.proofs.levels.+levels.Given as goal
 
 abbrev pub invariant-children-loop-next : goal.invariant-children-loop-next

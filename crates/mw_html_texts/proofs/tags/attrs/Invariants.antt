@@ -4,8 +4,8 @@ use Rattle.mw_html.specs.declared.sheet.Sheet.{Sheet}
 use Rattle.mw_html.specs.Render as spec
 use Rattle.mw_html.specs.Render.{given}
 use Rattle.mw_html.specs.Sheet.{Leads}
-use Rattle.lua_store.specs.Seen.{seen_pair}
-use Rattle.lua_store.specs.Parts.{IsPairOf}
+use Rattle.lua_strings.specs.LuaStoreSeen.{seen_pair}
+use Rattle.lua_strings.specs.LuaStoreParts.{IsPairOf}
 use Rattle.mw_html_texts.proofs.tags.attrs.Given as goal
 
 abbrev pub invariant-loop-rest : goal.invariant-loop-rest

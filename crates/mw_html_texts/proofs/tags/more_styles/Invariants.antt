@@ -4,8 +4,8 @@ use Rattle.mw_html.specs.declared.sheet.Sheet.{Sheet}
 use Rattle.mw_html.specs.Render as spec
 use Rattle.mw_html.specs.Render.{given}
 use Rattle.mw_html.specs.Sheet.{Leads}
-use Rattle.lua_store.specs.Seen.{seen_style}
-use Rattle.lua_store.specs.Parts.{IsStyleOf}
+use Rattle.lua_strings.specs.LuaStoreSeen.{seen_style}
+use Rattle.lua_strings.specs.LuaStoreParts.{IsStyleOf}
 use Rattle.mw_html_texts.proofs.tags.more_styles.Given as goal
 
 abbrev pub invariant-loop-rest : goal.invariant-loop-rest

@@ -1,5 +1,5 @@
 use Rattle.std.proofs.Common.{ap}
-use Rattle.lua_meaning.specs.Html.{found_or}
+use Rattle.lua_strings.specs.LuaMeaningHtml.{found_or}
 use Rattle.mw_htmls.proofs.above.above.Goals as goal
 
 pub returns-in-Some-clause-above : goal.returns-in-Some-clause-above

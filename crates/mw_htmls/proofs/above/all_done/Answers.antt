@@ -1,5 +1,5 @@
 use Rattle.std.proofs.Common.{refl, sym, ap}
-use Rattle.lua_meaning.specs.Html.{found_or}
+use Rattle.lua_strings.specs.LuaMeaningHtml.{found_or}
 use Rattle.mw_htmls.proofs.Changed.{object_given}
 use Rattle.mw_htmls.proofs.above.all_done.Goals as goal
 

@@ -1,4 +1,4 @@
-use Rattle.lua_store.specs.Parts.{IsMarkupOf}
+use Rattle.lua_strings.specs.LuaStoreParts.{IsMarkupOf}
 use Rattle.mw_htmls.proofs.Climbs.{IsAbove}
 use Rattle.mw_htmls.proofs.above.root.Given as goal
 

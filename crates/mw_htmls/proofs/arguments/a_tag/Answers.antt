@@ -1,7 +1,7 @@
 use Rattle.std.proofs.Common.{◌∙◌, ap, sym}
-use Rattle.lua_meaning.specs.Html.{is_tag}
-use Rattle.lua_basic.specs.Arguments.{text_bytes}
-use Rattle.lua_basic.proofs.Found.{refused}
+use Rattle.lua_strings.specs.LuaMeaningHtml.{is_tag}
+use Rattle.lua_strings.specs.LuaBasicArguments.{text_bytes}
+use Rattle.lua_strings.proofs.LuaBasicFound.{refused}
 use Rattle.mw_htmls.proofs.Given.{is_taken, is_bad}
 use Rattle.mw_htmls.proofs.arguments.a_tag.Goals as goal
 

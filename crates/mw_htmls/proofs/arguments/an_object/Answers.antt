@@ -1,7 +1,7 @@
 use Rattle.std.proofs.Common.{codes}
-use Rattle.lua_meaning.specs.Messages.{bad_argument, expected}
-use Rattle.lua_basic.specs.Seen.{values_seen}
-use Rattle.lua_basic.proofs.Found.{refused}
+use Rattle.lua_strings.specs.LuaMeaningMessages.{bad_argument, expected}
+use Rattle.lua_strings.specs.LuaBasicSeen.{values_seen}
+use Rattle.lua_strings.proofs.LuaBasicFound.{refused}
 use Rattle.mw_htmls.proofs.arguments.an_object.Goals as goal
 
 pub returns-in-Some-clause-found : goal.returns-in-Some-clause-found

@@ -1,9 +1,9 @@
 use Rattle.std.proofs.Common.{◌∙◌, ap, sym, true, false, Ok, codes}
-use Rattle.lua_heap.specs.Value.{is_nil, is_true}
-use Rattle.lua_meaning.specs.Messages.{bad_argument, expected}
-use Rattle.lua_basic.specs.Seen.{values_seen}
-use Rattle.lua_basic.proofs.Lists.{tested}
-use Rattle.lua_basic.proofs.Found.{refused}
+use Rattle.lua_strings.specs.LuaHeapValue.{is_nil, is_true}
+use Rattle.lua_strings.specs.LuaMeaningMessages.{bad_argument, expected}
+use Rattle.lua_strings.specs.LuaBasicSeen.{values_seen}
+use Rattle.lua_strings.proofs.LuaBasicLists.{tested}
+use Rattle.lua_strings.proofs.LuaBasicFound.{refused}
 use Rattle.mw_htmls.proofs.Given.{no_options, options, bad_options}
 use Rattle.mw_htmls.proofs.arguments.closing_option.Goals as goal
 

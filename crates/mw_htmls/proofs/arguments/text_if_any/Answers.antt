@@ -1,8 +1,8 @@
 use Rattle.std.proofs.Common.{◌∙◌, ap, true, false}
-use Rattle.lua_heap.specs.Value.{is_nil}
-use Rattle.lua_basic.specs.Seen.{values_seen}
-use Rattle.lua_basic.proofs.Lists.{tested}
-use Rattle.lua_meaning.specs.TextArguments.{as_some}
+use Rattle.lua_strings.specs.LuaHeapValue.{is_nil}
+use Rattle.lua_strings.specs.LuaBasicSeen.{values_seen}
+use Rattle.lua_strings.proofs.LuaBasicLists.{tested}
+use Rattle.lua_strings.specs.LuaMeaningTextArguments.{as_some}
 use Rattle.mw_htmls.proofs.Given.{none_given, some_given, some_refused}
 use Rattle.mw_htmls.proofs.arguments.text_if_any.Goals as goal
 

@@ -1,6 +1,6 @@
 use Rattle.std.proofs.Common.{subst, sym}
-use Rattle.lua_basic.specs.Seen.{values_seen, Paid}
-use Rattle.lua_basic.proofs.Found.{for_nothing}
+use Rattle.lua_strings.specs.LuaBasicSeen.{values_seen, Paid}
+use Rattle.lua_strings.proofs.LuaBasicFound.{for_nothing}
 use Rattle.mw_htmls.specs.Table.{answer_of}
 use Rattle.mw_htmls.proofs.call.html_call.Goals as goal
 

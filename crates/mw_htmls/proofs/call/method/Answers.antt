@@ -1,7 +1,7 @@
 use Rattle.std.proofs.Common.{◌∙◌, ap, refl, Err}
 use Rattle.std.proofs.lemmas.Result.{err_from_is_err_and}
-use Rattle.lua_meaning.specs.Html.{an_object}
-use Rattle.lua_basic.specs.Seen.{values_seen}
+use Rattle.lua_strings.specs.LuaMeaningHtml.{an_object}
+use Rattle.lua_strings.specs.LuaBasicSeen.{values_seen}
 use Rattle.lua_strings.proofs.Given.{past, ended}
 use Rattle.mw_htmls.specs.Table.{name_of}
 use Rattle.mw_htmls.proofs.call.method.Goals as goal

@@ -1,7 +1,7 @@
 use Rattle.std.proofs.Common.{◌∙◌, ap, arith, Err}
 use Rattle.std.proofs.lemmas.Result.{err_from_is_err_and}
-use Rattle.lua_meaning.specs.Arguments.{text_charge}
-use Rattle.lua_basic.specs.Seen.{values_seen}
+use Rattle.lua_strings.specs.LuaMeaningArguments.{text_charge}
+use Rattle.lua_strings.specs.LuaBasicSeen.{values_seen}
 use Rattle.lua_strings.proofs.Taken.{not_paid, charged}
 use Rattle.mw_htmls.proofs.call.method_call.Goals as goal
 

@@ -1,6 +1,6 @@
 use Rattle.std.proofs.Common.{subst, sym}
-use Rattle.lua_basic.specs.Seen.{values_seen, Paid}
-use Rattle.lua_basic.proofs.Found.{for_nothing}
+use Rattle.lua_strings.specs.LuaBasicSeen.{values_seen, Paid}
+use Rattle.lua_strings.proofs.LuaBasicFound.{for_nothing}
 use Rattle.mw_htmls.specs.Table.{method_on}
 use Rattle.mw_htmls.proofs.call.method_on.Goals as goal
 

@@ -1,8 +1,8 @@
 use Rattle.std.proofs.Common.{sym, subst, true, false, []}
 use Rattle.std.specs.Result.{IfErr}
-use Rattle.lua_heap.specs.Value.{is_nil}
-use Rattle.lua_basic.specs.Seen.{values_seen, Refuses}
-use Rattle.lua_basic.proofs.Lists.{tested}
+use Rattle.lua_strings.specs.LuaHeapValue.{is_nil}
+use Rattle.lua_strings.specs.LuaBasicSeen.{values_seen, Refuses}
+use Rattle.lua_strings.proofs.LuaBasicLists.{tested}
 use Rattle.mw_htmls.proofs.Given.{no_child, object_child, text_child}
 use Rattle.mw_htmls.proofs.children.a_child.Goals as goal
 

@@ -1,5 +1,5 @@
 use Rattle.std.proofs.Common.{ap, refl}
-use Rattle.lua_meaning.specs.Html.{as_child}
+use Rattle.lua_strings.specs.LuaMeaningHtml.{as_child}
 use Rattle.mw_htmls.proofs.Given.{refuses_through}
 use Rattle.mw_htmls.proofs.children.a_text_child.Goals as goal
 

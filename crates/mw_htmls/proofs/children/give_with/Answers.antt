@@ -1,8 +1,8 @@
 use Rattle.std.proofs.Common.{ap, refl, arith, map}
-use Rattle.lua_heap.specs.Heap.{markup_at, set_markup_in}
-use Rattle.lua_heap.specs.Value.{Markup}
-use Rattle.lua_meaning.specs.HtmlNodes.{add_children}
-use Rattle.lua_store.specs.Seen.{StoreView, seen_child}
+use Rattle.mw_html.specs.LuaHeapHeap.{markup_at, set_markup_in}
+use Rattle.lua_strings.specs.LuaHeapValue.{Markup}
+use Rattle.lua_strings.specs.LuaMeaningHtmlNodes.{add_children}
+use Rattle.lua_strings.specs.LuaStoreSeen.{StoreView, seen_child}
 use Rattle.mw_htmls.proofs.Changed.{object_given}
 use Rattle.mw_htmls.proofs.children.give_with.Goals as goal
 

@@ -1,5 +1,5 @@
 use Rattle.std.proofs.Common.{◌≡◌, ap, arith}
-use Rattle.lua_store.specs.Seen.{StoreView}
+use Rattle.lua_strings.specs.LuaStoreSeen.{StoreView}
 use Rattle.mw_htmls.proofs.children.give_with_text.Goals as goal
 
 pub give_with-requires-clause-id : goal.give_with-requires-clause-id

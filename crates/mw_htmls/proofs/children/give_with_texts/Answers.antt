@@ -1,5 +1,5 @@
 use Rattle.std.proofs.Common.{◌∙◌, ap, arith, map}
-use Rattle.lua_store.specs.Seen.{seen_child}
+use Rattle.lua_strings.specs.LuaStoreSeen.{seen_child}
 use Rattle.mw_htmls.proofs.children.give_with_texts.Goals as goal
 
 pub give_with-requires-clause-id : goal.give_with-requires-clause-id

@@ -1,8 +1,8 @@
 use Rattle.std.proofs.Common.{◌∙◌, ap, refl, Err}
 use Rattle.std.proofs.lemmas.Result.{err_from_is_err_and}
-use Rattle.lua_meaning.specs.Html.{a_child}
-use Rattle.lua_basic.specs.Seen.{values_seen}
-use Rattle.lua_basic.proofs.Found.{stopped}
+use Rattle.lua_strings.specs.LuaMeaningHtml.{a_child}
+use Rattle.lua_strings.specs.LuaBasicSeen.{values_seen}
+use Rattle.lua_strings.proofs.LuaBasicFound.{stopped}
 use Rattle.lua_strings.proofs.Given.{past_free}
 use Rattle.mw_htmls.specs.Found.{child_found}
 use Rattle.mw_htmls.proofs.children.node.Goals as goal

@@ -1,8 +1,8 @@
 use Rattle.std.proofs.Common.{◌≡◌, ap, subst, sym, rules, [], map}
-use Rattle.lua_meaning.specs.Html.{texts_from}
-use Rattle.lua_store.specs.Seen.{seen}
-use Rattle.lua_basic.specs.Arguments.{text_bytes}
-use Rattle.lua_basic.specs.Seen.{values_seen, AllOf}
+use Rattle.lua_strings.specs.LuaMeaningHtml.{texts_from}
+use Rattle.lua_strings.specs.LuaStoreSeen.{seen}
+use Rattle.lua_strings.specs.LuaBasicArguments.{text_bytes}
+use Rattle.lua_strings.specs.LuaBasicSeen.{values_seen, AllOf}
 use Rattle.lua_strings.proofs.Numbered.{behind, behind-none, all-read}
 use Rattle.mw_htmls.proofs.Texts.{text_ends, text_read, text_missing}
 use Rattle.mw_htmls.proofs.children.read_texts.Goals as goal

@@ -1,7 +1,7 @@
 use Rattle.std.proofs.Common.{◌≡◌, length, map}
-use Rattle.lua_meaning.specs.Html.{texts_from}
-use Rattle.lua_basic.specs.Arguments.{text_bytes}
-use Rattle.lua_basic.specs.Seen.{values_seen, AllOf}
+use Rattle.lua_strings.specs.LuaMeaningHtml.{texts_from}
+use Rattle.lua_strings.specs.LuaBasicArguments.{text_bytes}
+use Rattle.lua_strings.specs.LuaBasicSeen.{values_seen, AllOf}
 use Rattle.lua_strings.proofs.Numbered.{behind}
 use Rattle.mw_htmls.proofs.children.read_texts.Given as goal
 

@@ -1,9 +1,9 @@
 use Rattle.std.proofs.Common.{◌∙◌, ◌++◌, ◌∷◌, [], ap, sym, refl, map, take}
 use Rattle.std.proofs.lemmas.List.{map-append, take_more}
-use Rattle.lua_heap.specs.Heap.{ChildText}
-use Rattle.lua_store.specs.Seen.{StoreView}
-use Rattle.lua_store.proofs.Later.{later-itself, later-then}
-use Rattle.lua_basic.specs.Arguments.{text_bytes}
+use Rattle.mw_html.specs.LuaHeapHeap.{ChildText}
+use Rattle.lua_strings.specs.LuaStoreSeen.{StoreView}
+use Rattle.lua_strings.proofs.LuaStoreLater.{later-itself, later-then}
+use Rattle.lua_strings.specs.LuaBasicArguments.{text_bytes}
 use Rattle.mw_htmls.proofs.Changed.{text_added}
 use Rattle.mw_htmls.proofs.children.text_children.Goals as goal
 

@@ -1,9 +1,9 @@
 use Rattle.std.proofs.Common.{◌≡◌, map, take}
 use Rattle.std.specs.List.{AllByRecursion}
-use Rattle.lua_heap.specs.Heap.{ChildText}
-use Rattle.lua_store.specs.Seen.{seen_child}
-use Rattle.lua_store.specs.Parts.{IsChildOf, IsLater}
-use Rattle.lua_basic.specs.Arguments.{text_bytes}
+use Rattle.mw_html.specs.LuaHeapHeap.{ChildText}
+use Rattle.lua_strings.specs.LuaStoreSeen.{seen_child}
+use Rattle.lua_strings.specs.LuaStoreParts.{IsChildOf, IsLater}
+use Rattle.lua_strings.specs.LuaBasicArguments.{text_bytes}
 use Rattle.mw_htmls.proofs.children.text_children.Given as goal
 
 abbrev pub invariant-each : goal.invariant-each

@@ -1,8 +1,8 @@
 use Rattle.std.proofs.Common.{refl, map}
-use Rattle.lua_meaning.specs.Html.{texts_from}
-use Rattle.lua_basic.specs.Arguments.{text_bytes}
-use Rattle.lua_basic.specs.Seen.{values_seen}
-use Rattle.lua_basic.proofs.Found.{stopped, refused}
+use Rattle.lua_strings.specs.LuaMeaningHtml.{texts_from}
+use Rattle.lua_strings.specs.LuaBasicArguments.{text_bytes}
+use Rattle.lua_strings.specs.LuaBasicSeen.{values_seen}
+use Rattle.lua_strings.proofs.LuaBasicFound.{stopped, refused}
 use Rattle.lua_strings.proofs.Given.{past_free}
 use Rattle.mw_htmls.proofs.children.wikitext.Goals as goal
 

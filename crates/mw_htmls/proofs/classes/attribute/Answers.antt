@@ -1,7 +1,7 @@
 use Rattle.std.proofs.Common.{◌∙◌, ap, map}
-use Rattle.lua_heap.specs.Heap.{MarkupNode}
-use Rattle.lua_meaning.specs.HtmlNodes as nodes
-use Rattle.lua_store.specs.Seen.{seen_pair}
+use Rattle.mw_html.specs.LuaHeapHeap.{MarkupNode}
+use Rattle.lua_strings.specs.LuaMeaningHtmlNodes as nodes
+use Rattle.lua_strings.specs.LuaStoreSeen.{seen_pair}
 use Rattle.mw_htmls.proofs.classes.attribute.Goals as goal
 
 pub value_of-requires : goal.value_of-requires

@@ -1,10 +1,10 @@
 use Rattle.std.proofs.Common.{◌∙◌, ap, refl, Err, Some, None}
 use Rattle.std.specs.Prelude.{codes}
 use Rattle.std.proofs.lemmas.Result.{err_from_is_err_and}
-use Rattle.lua_meaning.specs.Html.{text_if_any}
-use Rattle.lua_basic.specs.Arguments.{text_bytes}
-use Rattle.lua_basic.specs.Seen.{values_seen}
-use Rattle.lua_basic.proofs.Found.{stopped}
+use Rattle.lua_strings.specs.LuaMeaningHtml.{text_if_any}
+use Rattle.lua_strings.specs.LuaBasicArguments.{text_bytes}
+use Rattle.lua_strings.specs.LuaBasicSeen.{values_seen}
+use Rattle.lua_strings.proofs.LuaBasicFound.{stopped}
 use Rattle.lua_strings.proofs.Given.{past_free}
 use Rattle.mw_htmls.proofs.classes.css_text.Goals as goal
 

@@ -1,9 +1,9 @@
 use Rattle.std.proofs.Common.{◌∙◌, ap, refl, Err}
 use Rattle.std.specs.Prelude.{codes}
 use Rattle.std.proofs.lemmas.Result.{err_from_is_err_and}
-use Rattle.lua_meaning.specs.Arguments.{a_text}
-use Rattle.lua_basic.specs.Arguments.{text_bytes}
-use Rattle.lua_basic.specs.Seen.{values_seen}
+use Rattle.lua_strings.specs.LuaMeaningArguments.{a_text}
+use Rattle.lua_strings.specs.LuaBasicArguments.{text_bytes}
+use Rattle.lua_strings.specs.LuaBasicSeen.{values_seen}
 use Rattle.lua_strings.proofs.Given.{past, ended}
 use Rattle.mw_htmls.proofs.classes.get_attr.Goals as goal
 

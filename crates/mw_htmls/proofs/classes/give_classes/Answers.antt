@@ -2,11 +2,11 @@ use Rattle.std.proofs.Common.{◌≡◌, ◌∙◌, ap, refl, arith, length, Som
 use Rattle.std.specs.Prelude.{codes}
 use Rattle.std.proofs.lemmas.Result.{err_from_is_err_and}
 use Rattle.mw_html.specs.Names.{with_class}
-use Rattle.lua_heap.specs.Heap.{markup_at, set_markup_in}
-use Rattle.lua_heap.specs.Value.{Markup}
-use Rattle.lua_meaning.specs.HtmlNodes.{attrs_with, set_classes, classes_with}
-use Rattle.lua_meaning.specs.Html.{changes}
-use Rattle.lua_basic.proofs.Found.{for_nothing}
+use Rattle.mw_html.specs.LuaHeapHeap.{markup_at, set_markup_in}
+use Rattle.lua_strings.specs.LuaHeapValue.{Markup}
+use Rattle.lua_strings.specs.LuaMeaningHtmlNodes.{attrs_with, set_classes, classes_with}
+use Rattle.lua_strings.specs.LuaMeaningHtml.{changes}
+use Rattle.lua_strings.proofs.LuaBasicFound.{for_nothing}
 use Rattle.lua_strings.proofs.Taken.{not_paid, charged}
 use Rattle.mw_htmls.specs.Nodes.{attrs_set}
 use Rattle.mw_htmls.proofs.Changed.{object_given}

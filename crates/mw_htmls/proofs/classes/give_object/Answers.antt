@@ -1,5 +1,5 @@
 use Rattle.std.proofs.Common.{refl}
-use Rattle.lua_heap.specs.Value.{Markup}
+use Rattle.lua_strings.specs.LuaHeapValue.{Markup}
 use Rattle.mw_htmls.proofs.Changed.{object_given}
 use Rattle.mw_htmls.proofs.classes.give_object.Goals as goal
 

@@ -1,7 +1,7 @@
 use Rattle.std.proofs.Common.{refl, arith}
-use Rattle.lua_heap.specs.Heap.{markup_at, set_markup_in}
-use Rattle.lua_heap.specs.Value.{Markup}
-use Rattle.lua_meaning.specs.HtmlNodes.{add_style_text}
+use Rattle.mw_html.specs.LuaHeapHeap.{markup_at, set_markup_in}
+use Rattle.lua_strings.specs.LuaHeapValue.{Markup}
+use Rattle.lua_strings.specs.LuaMeaningHtmlNodes.{add_style_text}
 use Rattle.mw_htmls.proofs.Changed.{object_given}
 use Rattle.mw_htmls.proofs.classes.give_styled.Goals as goal
 

@@ -1,9 +1,9 @@
 use Rattle.std.proofs.Common.{◌≡◌, ◌∙◌, ap, sym, subst, refl, [], ◌∷◌, Some, None, Ok}
-use Rattle.lua_heap.specs.Heap.{markup_at}
-use Rattle.lua_heap.specs.Value.{Nil}
-use Rattle.lua_meaning.specs.Html.{gives_value}
-use Rattle.lua_meaning.specs.HtmlNodes as nodes
-use Rattle.lua_basic.specs.Seen.{Paid}
+use Rattle.mw_html.specs.LuaHeapHeap.{markup_at}
+use Rattle.lua_strings.specs.LuaHeapValue.{Nil}
+use Rattle.lua_strings.specs.LuaMeaningHtml.{gives_value}
+use Rattle.lua_strings.specs.LuaMeaningHtmlNodes as nodes
+use Rattle.lua_strings.specs.LuaBasicSeen.{Paid}
 use Rattle.lua_strings.proofs.Taken.{takes_none, values_paid}
 use Rattle.mw_htmls.specs.Nodes.{bytes_in}
 use Rattle.mw_htmls.proofs.classes.give_value.Goals as goal

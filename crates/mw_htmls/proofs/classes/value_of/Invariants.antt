@@ -1,8 +1,8 @@
 use Rattle.std.proofs.Common.{◌≡◌, length, map}
 use Rattle.std.specs.List.{AllByRecursion}
-use Rattle.lua_meaning.specs.HtmlNodes as nodes
-use Rattle.lua_store.specs.Seen.{seen_pair}
-use Rattle.lua_store.specs.Parts.{IsPairOf}
+use Rattle.lua_strings.specs.LuaMeaningHtmlNodes as nodes
+use Rattle.lua_strings.specs.LuaStoreSeen.{seen_pair}
+use Rattle.lua_strings.specs.LuaStoreParts.{IsPairOf}
 use Rattle.mw_htmls.proofs.classes.value_of.Given as goal
 
 abbrev pub invariant-each : goal.invariant-each

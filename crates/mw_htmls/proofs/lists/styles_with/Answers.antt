@@ -1,8 +1,8 @@
 use Rattle.std.proofs.Common.{◌≡◌, ◌∷◌, [], sym, refl, subst, rules}
 use Rattle.std.specs.List.{AllByRecursion}
-use Rattle.lua_meaning.specs.HtmlNodes.{is_item, item_of}
-use Rattle.lua_store.specs.Seen.{text_at, seen_style}
-use Rattle.lua_store.specs.Parts.{IsStyleOf}
+use Rattle.lua_strings.specs.LuaMeaningHtmlNodes.{is_item, item_of}
+use Rattle.lua_strings.specs.LuaStoreSeen.{text_at, seen_style}
+use Rattle.lua_strings.specs.LuaStoreParts.{IsStyleOf}
 use Rattle.mw_htmls.specs.Nodes.{text_seen, style_of}
 use Rattle.mw_htmls.proofs.Changed.{all_then}
 use Rattle.mw_htmls.proofs.Settled.{passed, replaced, put_last, style_seen, style_of_is}

@@ -1,8 +1,8 @@
 use Rattle.std.proofs.Common.{◌≡◌, ◌++◌, length, map}
 use Rattle.std.specs.List.{AllByRecursion}
-use Rattle.lua_meaning.specs.HtmlNodes as meaning
-use Rattle.lua_store.specs.Seen.{text_at, seen_style}
-use Rattle.lua_store.specs.Parts.{IsStyleOf}
+use Rattle.lua_strings.specs.LuaMeaningHtmlNodes as meaning
+use Rattle.lua_strings.specs.LuaStoreSeen.{text_at, seen_style}
+use Rattle.lua_strings.specs.LuaStoreParts.{IsStyleOf}
 use Rattle.mw_htmls.specs.Nodes.{text_seen}
 use Rattle.mw_htmls.proofs.lists.styles_with.Given as goal
 

@@ -1,12 +1,12 @@
 use Rattle.std.proofs.Common.{◌≡◌, ◌∙◌, ap, refl, Err}
 use Rattle.std.specs.Prelude.{codes}
 use Rattle.std.proofs.lemmas.Result.{err_from_is_err_and}
-use Rattle.lua_meaning.specs.Values.{rest}
-use Rattle.lua_meaning.specs.Html.{a_tag_name, closing_option}
-use Rattle.lua_store.specs.Seen.{StoreView}
-use Rattle.lua_basic.specs.Arguments.{text_bytes}
-use Rattle.lua_basic.specs.Seen.{values_seen}
-use Rattle.lua_basic.proofs.Found.{stopped}
+use Rattle.lua_strings.specs.LuaMeaningValues.{rest}
+use Rattle.lua_strings.specs.LuaMeaningHtml.{a_tag_name, closing_option}
+use Rattle.lua_strings.specs.LuaStoreSeen.{StoreView}
+use Rattle.lua_strings.specs.LuaBasicArguments.{text_bytes}
+use Rattle.lua_strings.specs.LuaBasicSeen.{values_seen}
+use Rattle.lua_strings.proofs.LuaBasicFound.{stopped}
 use Rattle.lua_strings.proofs.Given.{past_free}
 use Rattle.mw_htmls.proofs.making.create.Goals as goal
 

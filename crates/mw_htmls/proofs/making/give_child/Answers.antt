@@ -1,8 +1,8 @@
 use Rattle.std.proofs.Common.{◌∷◌, [], ap, arith, Some}
-use Rattle.lua_heap.specs.Heap.{new_markup, markup_at, set_markup_in, ChildNode}
-use Rattle.lua_heap.specs.Value.{Markup}
-use Rattle.lua_meaning.specs.HtmlNodes.{new_node, add_children}
-use Rattle.lua_store.specs.Seen.{StoreView}
+use Rattle.mw_html.specs.LuaHeapHeap.{new_markup, markup_at, set_markup_in, ChildNode}
+use Rattle.lua_strings.specs.LuaHeapValue.{Markup}
+use Rattle.lua_strings.specs.LuaMeaningHtmlNodes.{new_node, add_children}
+use Rattle.lua_strings.specs.LuaStoreSeen.{StoreView}
 use Rattle.mw_htmls.proofs.Changed.{object_given, child_heap}
 use Rattle.mw_htmls.proofs.making.give_child.Goals as goal
 

@@ -1,7 +1,7 @@
 use Rattle.std.proofs.Common.{ap, None}
-use Rattle.lua_heap.specs.Heap.{new_markup}
-use Rattle.lua_heap.specs.Value.{Markup}
-use Rattle.lua_meaning.specs.HtmlNodes.{new_node}
+use Rattle.mw_html.specs.LuaHeapHeap.{new_markup}
+use Rattle.lua_strings.specs.LuaHeapValue.{Markup}
+use Rattle.lua_strings.specs.LuaMeaningHtmlNodes.{new_node}
 use Rattle.mw_htmls.proofs.Changed.{object_given}
 use Rattle.mw_htmls.proofs.making.give_new.Goals as goal
 

@@ -1,8 +1,8 @@
 use Rattle.std.proofs.Common.{◌≡◌, ◌∙◌, ap, length}
-use Rattle.lua_heap.specs.Proc.{Proc}
-use Rattle.lua_heap.specs.Heap.{Heap, MarkupNode, new_markup}
-use Rattle.lua_meaning.specs.HtmlNodes.{new_node}
-use Rattle.lua_store.specs.Seen.{StoreView, seen_node}
+use Rattle.lua_strings.specs.LuaHeapProc.{Proc}
+use Rattle.mw_html.specs.LuaHeapHeap.{Heap, MarkupNode, new_markup}
+use Rattle.lua_strings.specs.LuaMeaningHtmlNodes.{new_node}
+use Rattle.lua_strings.specs.LuaStoreSeen.{StoreView, seen_node}
 use Rattle.mw_htmls.specs.Nodes.{parent_seen}
 use Rattle.mw_htmls.proofs.nodes.make.Goals as goal
 

@@ -1,5 +1,5 @@
 use Rattle.std.proofs.Common.{arith}
-use Rattle.lua_store.specs.Seen.{seen_node}
+use Rattle.lua_strings.specs.LuaStoreSeen.{seen_node}
 use Rattle.mw_htmls.proofs.nodes.take.Goals as goal
 
 pub swap_markup-requires-clause-node : goal.swap_markup-requires-clause-node

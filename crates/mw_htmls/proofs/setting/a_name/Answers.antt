@@ -1,8 +1,8 @@
 use Rattle.std.proofs.Common.{◌≡◌, sym, subst, refl, Ok}
 use Rattle.std.specs.Result.{IfOk, IfErr}
-use Rattle.lua_meaning.specs.Html.{tested_name}
-use Rattle.lua_basic.specs.Arguments.{text_bytes}
-use Rattle.lua_basic.specs.Seen.{Refuses}
+use Rattle.lua_strings.specs.LuaMeaningHtml.{tested_name}
+use Rattle.lua_strings.specs.LuaBasicArguments.{text_bytes}
+use Rattle.lua_strings.specs.LuaBasicSeen.{Refuses}
 use Rattle.mw_htmls.specs.Setters.{setter_of}
 use Rattle.mw_htmls.proofs.Given.{refuses_through}
 use Rattle.mw_htmls.proofs.setting.a_name.Goals as goal

@@ -1,8 +1,8 @@
 use Rattle.std.proofs.Common.{◌≡◌, sym, subst, Ok}
 use Rattle.std.specs.Result.{IfOk, IfErr}
-use Rattle.lua_meaning.specs.Values.{rest}
-use Rattle.lua_meaning.specs.Html.{set_read, text_if_any}
-use Rattle.lua_basic.specs.Seen.{values_seen, Refuses}
+use Rattle.lua_strings.specs.LuaMeaningValues.{rest}
+use Rattle.lua_strings.specs.LuaMeaningHtml.{set_read, text_if_any}
+use Rattle.lua_strings.specs.LuaBasicSeen.{values_seen, Refuses}
 use Rattle.mw_htmls.specs.Setters.{setter_of, set_by}
 use Rattle.mw_htmls.proofs.Given.{name_refused}
 use Rattle.mw_htmls.proofs.setting.a_setting.Goals as goal

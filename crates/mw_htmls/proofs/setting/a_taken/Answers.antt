@@ -1,6 +1,6 @@
 use Rattle.std.proofs.Common.{◌∙◌, ap, sym}
-use Rattle.lua_basic.specs.Arguments.{text_bytes}
-use Rattle.lua_basic.proofs.Found.{refused}
+use Rattle.lua_strings.specs.LuaBasicArguments.{text_bytes}
+use Rattle.lua_strings.proofs.LuaBasicFound.{refused}
 use Rattle.mw_htmls.specs.Setters.{setter_of}
 use Rattle.mw_htmls.proofs.Given.{is_taken, is_bad}
 use Rattle.mw_htmls.proofs.setting.a_taken.Goals as goal

@@ -1,6 +1,6 @@
 use Rattle.std.proofs.Common.{ap}
 use Rattle.std.specs.Option.{option_map}
-use Rattle.lua_basic.specs.Arguments.{text_bytes}
+use Rattle.lua_strings.specs.LuaBasicArguments.{text_bytes}
 use Rattle.mw_htmls.proofs.setting.apply.Goals as goal
 
 pub returns-in-Some-clause-set : goal.returns-in-Some-clause-set

@@ -1,6 +1,6 @@
 use Rattle.std.proofs.Common.{refl, arith}
-use Rattle.lua_heap.specs.Heap.{markup_at, set_markup_in}
-use Rattle.lua_heap.specs.Value.{Markup}
+use Rattle.mw_html.specs.LuaHeapHeap.{markup_at, set_markup_in}
+use Rattle.lua_strings.specs.LuaHeapValue.{Markup}
 use Rattle.mw_htmls.specs.Setters.{set_by}
 use Rattle.mw_htmls.proofs.Changed.{object_given}
 use Rattle.mw_htmls.proofs.setting.give_set.Goals as goal

@@ -1,9 +1,9 @@
 use Rattle.std.proofs.Common.{◌∙◌, ap, refl, Err}
 use Rattle.std.proofs.lemmas.Result.{err_from_is_err_and}
-use Rattle.lua_heap.specs.Heap.{markup_at}
-use Rattle.lua_meaning.specs.Html as html
-use Rattle.lua_basic.specs.Seen.{values_seen}
-use Rattle.lua_basic.proofs.Found.{stopped}
+use Rattle.mw_html.specs.LuaHeapHeap.{markup_at}
+use Rattle.lua_strings.specs.LuaMeaningHtml as html
+use Rattle.lua_strings.specs.LuaBasicSeen.{values_seen}
+use Rattle.lua_strings.proofs.LuaBasicFound.{stopped}
 use Rattle.lua_strings.proofs.Given.{past_free}
 use Rattle.mw_htmls.specs.Setters.{setter_of, set_by}
 use Rattle.mw_htmls.proofs.setting.set_one.Goals as goal

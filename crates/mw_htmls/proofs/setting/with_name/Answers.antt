@@ -1,6 +1,6 @@
 use Rattle.std.proofs.Common.{ap, refl, Ok}
-use Rattle.lua_meaning.specs.Html.{set_read}
-use Rattle.lua_basic.specs.Arguments.{text_bytes}
+use Rattle.lua_strings.specs.LuaMeaningHtml.{set_read}
+use Rattle.lua_strings.specs.LuaBasicArguments.{text_bytes}
 use Rattle.mw_htmls.specs.Setters.{setter_of}
 use Rattle.mw_htmls.proofs.Given.{refuses_through}
 use Rattle.mw_htmls.proofs.setting.with_name.Goals as goal

@@ -1,5 +1,5 @@
 use Rattle.std.proofs.Common.{ap, arith}
-use Rattle.lua_store.specs.Seen.{StoreView}
+use Rattle.lua_strings.specs.LuaStoreSeen.{StoreView}
 use Rattle.mw_htmls.proofs.Changed.{style_pushed, style_text_put}
 use Rattle.mw_htmls.proofs.settings.add_style_text.Goals as goal
 

@@ -1,8 +1,8 @@
 use Rattle.std.proofs.Common.{◌∙◌, ap, arith, map}
-use Rattle.lua_heap.specs.Proc.{Proc}
-use Rattle.lua_heap.specs.Heap.{Heap, markup_at, set_markup_in}
-use Rattle.lua_meaning.specs.HtmlNodes.{styles_of}
-use Rattle.lua_store.specs.Seen.{StoreView, seen_style}
+use Rattle.lua_strings.specs.LuaHeapProc.{Proc}
+use Rattle.mw_html.specs.LuaHeapHeap.{Heap, markup_at, set_markup_in}
+use Rattle.lua_strings.specs.LuaMeaningHtmlNodes.{styles_of}
+use Rattle.lua_strings.specs.LuaStoreSeen.{StoreView, seen_style}
 use Rattle.mw_htmls.specs.Nodes.{bytes_in, styles_set}
 use Rattle.mw_htmls.proofs.Settled.{one_text_seen, one_text_is}
 use Rattle.mw_htmls.proofs.settings.set_all_styles.Goals as goal

@@ -1,7 +1,7 @@
 use Rattle.std.proofs.Common.{◌≡◌, ◌∙◌, ap, arith, map}
-use Rattle.lua_heap.specs.Heap.{MarkupNode, markup_at}
-use Rattle.lua_meaning.specs.HtmlNodes.{attrs_with}
-use Rattle.lua_store.specs.Seen.{StoreView, text_at, seen_pair}
+use Rattle.mw_html.specs.LuaHeapHeap.{MarkupNode, markup_at}
+use Rattle.lua_strings.specs.LuaMeaningHtmlNodes.{attrs_with}
+use Rattle.lua_strings.specs.LuaStoreSeen.{StoreView, text_at, seen_pair}
 use Rattle.mw_htmls.specs.Nodes.{bytes_in, text_seen}
 use Rattle.mw_htmls.proofs.Changed.{set_there_attrs}
 use Rattle.mw_htmls.proofs.settings.set_attr.Goals as goal

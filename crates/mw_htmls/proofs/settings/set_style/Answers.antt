@@ -1,7 +1,7 @@
 use Rattle.std.proofs.Common.{◌≡◌, ◌∙◌, ap, arith, map}
-use Rattle.lua_heap.specs.Heap.{MarkupNode, markup_at}
-use Rattle.lua_meaning.specs.HtmlNodes.{styles_with}
-use Rattle.lua_store.specs.Seen.{StoreView, text_at, seen_style}
+use Rattle.mw_html.specs.LuaHeapHeap.{MarkupNode, markup_at}
+use Rattle.lua_strings.specs.LuaMeaningHtmlNodes.{styles_with}
+use Rattle.lua_strings.specs.LuaStoreSeen.{StoreView, text_at, seen_style}
 use Rattle.mw_htmls.specs.Nodes.{bytes_in, text_seen}
 use Rattle.mw_htmls.proofs.Changed.{set_there_styles}
 use Rattle.mw_htmls.proofs.settings.set_style.Goals as goal

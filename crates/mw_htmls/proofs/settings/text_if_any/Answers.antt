@@ -1,5 +1,5 @@
 use Rattle.std.proofs.Common.{◌∙◌, ap, sym, Some}
-use Rattle.lua_store.specs.Seen.{StoreView}
+use Rattle.lua_strings.specs.LuaStoreSeen.{StoreView}
 use Rattle.mw_htmls.specs.Nodes.{bytes_in}
 use Rattle.mw_htmls.proofs.settings.text_if_any.Goals as goal
 

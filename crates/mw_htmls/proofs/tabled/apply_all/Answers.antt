@@ -1,7 +1,7 @@
 use Rattle.std.proofs.Common.{◌∙◌, ◌++◌, ◌∷◌, [], ap, sym, arith, take}
 use Rattle.std.proofs.lemmas.List.{take_more}
-use Rattle.lua_heap.specs.Heap.{markup_at, set_markup_in}
-use Rattle.lua_store.proofs.Later.{later-itself, later-then}
+use Rattle.mw_html.specs.LuaHeapHeap.{markup_at, set_markup_in}
+use Rattle.lua_strings.proofs.LuaStoreLater.{later-itself, later-then}
 use Rattle.mw_htmls.specs.Setters.{all_set}
 use Rattle.mw_htmls.proofs.Tables.{set_none, set_more}
 use Rattle.mw_htmls.proofs.tabled.apply_all.Goals as goal

@@ -1,6 +1,6 @@
 use Rattle.std.proofs.Common.{◌≡◌, take}
-use Rattle.lua_heap.specs.Heap.{markup_at, set_markup_in}
-use Rattle.lua_store.specs.Parts.{IsMarkupOf, IsLater}
+use Rattle.mw_html.specs.LuaHeapHeap.{markup_at, set_markup_in}
+use Rattle.lua_strings.specs.LuaStoreParts.{IsMarkupOf, IsLater}
 use Rattle.mw_htmls.specs.Setters.{all_set}
 use Rattle.mw_htmls.proofs.tabled.apply_all.Given as goal
 

@@ -1,5 +1,5 @@
 use Rattle.std.proofs.Common.{sym}
-use Rattle.lua_heap.specs.Heap.{table_at}
+use Rattle.mw_html.specs.LuaHeapHeap.{table_at}
 use Rattle.mw_htmls.proofs.Tables.{drop_at, drop_past}
 use Rattle.mw_htmls.proofs.tabled.entry_at.Goals as goal
 

@@ -1,5 +1,5 @@
 use Rattle.std.proofs.Common.{◌∙◌, ap, arith}
-use Rattle.lua_heap.specs.Heap.{markup_at, set_markup_in}
+use Rattle.mw_html.specs.LuaHeapHeap.{markup_at, set_markup_in}
 use Rattle.mw_htmls.specs.Setters.{all_set}
 use Rattle.mw_htmls.proofs.Tables.{ended_read, ended_of}
 use Rattle.mw_htmls.proofs.tabled.give_read.Goals as goal

@@ -1,7 +1,7 @@
 use Rattle.std.proofs.Common.{◌≡◌, ◌∙◌, ap, refl, rules, subst, drop, ◌+◌, Ok, Err, w64, to_z, of_z}
 use Rattle.std.proofs.lemmas.Result.{err_from_is_err_and}
-use Rattle.lua_heap.specs.Heap.{table_at}
-use Rattle.lua_store.specs.Seen.{seen_entry}
+use Rattle.mw_html.specs.LuaHeapHeap.{table_at}
+use Rattle.lua_strings.specs.LuaStoreSeen.{seen_entry}
 use Rattle.lua_strings.proofs.Taken.{takes_none}
 use Rattle.mw_htmls.specs.Tabled.{EntryIs}
 use Rattle.mw_htmls.proofs.Tables.{none_read, goes_passed, goes_named, ends_wrong, ends_lacking, entry_among}

@@ -1,5 +1,5 @@
 use Rattle.std.proofs.Common.{◌≡◌, ℕ, drop}
-use Rattle.lua_heap.specs.Heap.{table_at}
+use Rattle.mw_html.specs.LuaHeapHeap.{table_at}
 use Rattle.lua_strings.specs.Costs.{Takes}
 use Rattle.mw_htmls.proofs.Tables.{IsReadSoFar}
 use Rattle.mw_htmls.proofs.tabled.read_entries.Given as goal

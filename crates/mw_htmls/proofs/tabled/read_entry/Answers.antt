@@ -1,6 +1,6 @@
 use Rattle.std.proofs.Common.{◌∙◌, ap, refl, sym, Err}
 use Rattle.std.proofs.lemmas.Result.{err_from_is_err_and}
-use Rattle.lua_store.specs.Seen.{seen_entry}
+use Rattle.lua_strings.specs.LuaStoreSeen.{seen_entry}
 use Rattle.mw_htmls.proofs.Tables.{nil_lacks, live_lacks, entry_live}
 use Rattle.mw_htmls.proofs.tabled.read_entry.Goals as goal
 

@@ -1,5 +1,5 @@
 use Rattle.std.proofs.Common.{◌∷◌, []}
-use Rattle.lua_store.specs.Seen.{seen}
+use Rattle.lua_strings.specs.LuaStoreSeen.{seen}
 use Rattle.mw_htmls.proofs.tabled.read_live.Goals as goal
 
 pub a_setting-requires : goal.a_setting-requires

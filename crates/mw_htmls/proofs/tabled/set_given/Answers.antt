@@ -1,6 +1,6 @@
 use Rattle.std.proofs.Common.{sym, subst, []}
-use Rattle.lua_basic.specs.Seen.{values_seen, Paid}
-use Rattle.lua_basic.proofs.Found.{for_nothing}
+use Rattle.lua_strings.specs.LuaBasicSeen.{values_seen, Paid}
+use Rattle.lua_strings.proofs.LuaBasicFound.{for_nothing}
 use Rattle.mw_htmls.specs.Setters.{setter_of}
 use Rattle.mw_htmls.proofs.Given.{given_table, given_one}
 use Rattle.mw_htmls.proofs.tabled.set_given.Goals as goal

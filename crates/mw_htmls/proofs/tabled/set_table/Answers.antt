@@ -1,5 +1,5 @@
 use Rattle.std.proofs.Common.{arith}
-use Rattle.lua_heap.specs.Heap.{table_at}
+use Rattle.mw_html.specs.LuaHeapHeap.{table_at}
 use Rattle.mw_htmls.proofs.Tables.{table_ends, read_heap}
 use Rattle.mw_htmls.proofs.tabled.set_table.Goals as goal
 

@@ -1,7 +1,7 @@
 use Rattle.std.proofs.Common.{◌≡◌, rules, subst, w64, to_z, of_z}
-use Rattle.lua_heap.specs.Heap.{no_markup}
-use Rattle.lua_meaning.specs.Html.{set_one}
-use Rattle.lua_basic.specs.Seen.{Refuses, StopOf}
+use Rattle.mw_html.specs.LuaHeapHeap.{no_markup}
+use Rattle.lua_strings.specs.LuaMeaningHtml.{set_one}
+use Rattle.lua_strings.specs.LuaBasicSeen.{Refuses, StopOf}
 use Rattle.mw_htmls.specs.Setters.{setter_of}
 use Rattle.mw_htmls.proofs.Tables.{refused_with, never_spent}
 use Rattle.mw_htmls.proofs.tabled.wrong.Goals as goal

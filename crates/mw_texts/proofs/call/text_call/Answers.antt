@@ -1,8 +1,8 @@
 use Rattle.std.proofs.Common.{◌∙◌, ap, Err}
 use Rattle.std.proofs.lemmas.Result.{err_from_is_err_and}
-use Rattle.lua_meaning.specs.Arguments.{text_charge}
-use Rattle.lua_basic.specs.Seen.{values_seen}
-use Rattle.mw_frame_texts.proofs.Charged.{charged, not_charged}
+use Rattle.mw_ustrings.specs.LuaMeaningArguments.{text_charge}
+use Rattle.mw_ustrings.specs.LuaBasicSeen.{values_seen}
+use Rattle.mw_ustrings.proofs.MwFrameTextsCharged.{charged, not_charged}
 use Rattle.mw_texts.proofs.call.text_call.Goals as goal
 
 pub returns-in_err-pay_given-clause-answer : goal.returns-in_err-pay_given-clause-answer

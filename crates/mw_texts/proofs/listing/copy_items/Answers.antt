@@ -1,6 +1,6 @@
 use Rattle.std.proofs.Common.{◌∙◌, ◌++◌, ap, sym, take, map, ◌∷◌, []}
 use Rattle.std.proofs.lemmas.List.{take_more, map-append}
-use Rattle.lua_basic.specs.Arguments.{text_bytes}
+use Rattle.mw_ustrings.specs.LuaBasicArguments.{text_bytes}
 use Rattle.mw_texts.proofs.listing.copy_items.Goals as goal
 
 pub each-preserved : goal.each-preserved

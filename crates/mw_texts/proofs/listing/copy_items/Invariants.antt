@@ -1,5 +1,5 @@
 use Rattle.std.proofs.Common.{◌≡◌, take, map}
-use Rattle.lua_basic.specs.Arguments.{text_bytes}
+use Rattle.mw_ustrings.specs.LuaBasicArguments.{text_bytes}
 use Rattle.mw_texts.proofs.listing.copy_items.Given as goal
 
 abbrev pub invariant-each : goal.invariant-each

@@ -2,10 +2,10 @@ use Rattle.std.proofs.Common.{◌∙◌, ap, arith, sym, [], ◌∷◌, Err, len
 use Rattle.std.proofs.lemmas.Result.{err_from_is_err_and}
 use Rattle.mw_text.specs.Answers.{total}
 use Rattle.mw_text.specs.Joined.{joined}
-use Rattle.lua_basic.specs.Arguments.{text_bytes}
-use Rattle.lua_heap.specs.Value as kind
-use Rattle.mw_frames.proofs.Sums.{took_then}
-use Rattle.mw_frame_texts.proofs.Charged.{lacked}
+use Rattle.mw_ustrings.specs.LuaBasicArguments.{text_bytes}
+use Rattle.mw_ustrings.specs.LuaHeapValue as kind
+use Rattle.mw_ustrings.proofs.MwFramesSums.{took_then}
+use Rattle.mw_ustrings.proofs.MwFrameTextsCharged.{lacked}
 use Rattle.mw_ustrings.proofs.Costs.{values_cover, lacked_second}
 use Rattle.mw_texts.specs.Costs.{glue_charge}
 use Rattle.mw_texts.proofs.ItemLists.{joined_size}

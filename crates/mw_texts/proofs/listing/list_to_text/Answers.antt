@@ -1,14 +1,14 @@
 use Rattle.std.proofs.Common.{◌≡◌, ◌∙◌, ap, refl, Err}
 use Rattle.std.specs.Prelude.{codes}
 use Rattle.std.proofs.lemmas.Result.{err_from_is_err_and}
-use Rattle.lua_meaning.specs.Values.{rest}
-use Rattle.lua_meaning.specs.Arguments.{a_table}
-use Rattle.lua_store.specs.Seen.{StoreView}
-use Rattle.lua_basic.specs.Arguments.{text_bytes}
-use Rattle.lua_basic.specs.Seen.{values_seen}
-use Rattle.lua_meaning.specs.Checks.{text_or}
-use Rattle.lua_meaning.specs.Texts.{items_of, list_values}
-use Rattle.lua_heap.specs.Heap.{table_at}
+use Rattle.mw_ustrings.specs.LuaMeaningValues.{rest}
+use Rattle.mw_ustrings.specs.LuaMeaningArguments.{a_table}
+use Rattle.mw_ustrings.specs.LuaStoreSeen.{StoreView}
+use Rattle.mw_ustrings.specs.LuaBasicArguments.{text_bytes}
+use Rattle.mw_ustrings.specs.LuaBasicSeen.{values_seen}
+use Rattle.mw_ustrings.specs.LuaMeaningChecks.{text_or}
+use Rattle.mw_ustrings.specs.LuaMeaningTexts.{items_of, list_values}
+use Rattle.mw_ustrings.specs.LuaHeapHeap.{table_at}
 use Rattle.mw_ustrings.proofs.ReadArguments.{behind_one, behind_two, handed_on, turned_down}
 use Rattle.std.proofs.Common.{map}
 use Rattle.mw_texts.proofs.listing.list_to_text.Goals as goal

@@ -1,6 +1,6 @@
 use Rattle.std.proofs.Common.{◌≡◌, ◌∙◌, ap, rules, arith, ◌+◌, ◌*◌, ◌<◌, Err}
 use Rattle.std.proofs.lemmas.Result.{err_from_is_err_and}
-use Rattle.mw_frames.proofs.Sums.{took_none}
+use Rattle.mw_ustrings.proofs.MwFramesSums.{took_none}
 use Rattle.mw_texts.proofs.ItemLists.{glue_few, glue_many}
 use Rattle.mw_texts.proofs.PaidParts.{pays_then, pays_less}
 use Rattle.mw_texts.proofs.listing.pay_glue.Goals as goal

@@ -1,7 +1,7 @@
 use Rattle.std.proofs.Common.{length, map, drop, ◌+◌}
 use Rattle.mw_text.specs.Answers.{total}
-use Rattle.lua_basic.specs.Arguments.{text_bytes}
-use Rattle.mw_frames.proofs.Sums.{took-more}
+use Rattle.mw_ustrings.specs.LuaBasicArguments.{text_bytes}
+use Rattle.mw_ustrings.proofs.MwFramesSums.{took-more}
 use Rattle.mw_texts.proofs.ItemLists.{items_total}
 use Rattle.mw_texts.proofs.listing.pay_items.Goals as goal
 

@@ -1,7 +1,7 @@
 use Rattle.std.proofs.Common.{drop, map}
 use Rattle.mw_text.specs.Answers.{total}
-use Rattle.lua_basic.specs.Arguments.{text_bytes}
-use Rattle.mw_frames.specs.Costs.{SoFar}
+use Rattle.mw_ustrings.specs.LuaBasicArguments.{text_bytes}
+use Rattle.mw_ustrings.specs.MwFramesCosts.{SoFar}
 use Rattle.mw_texts.proofs.listing.pay_items.Given as goal
 
 abbrev pub invariant-each : goal.invariant-each

@@ -1,11 +1,11 @@
 use Rattle.std.proofs.Common.{◌≡◌, ◌∙◌, ap, sym, refl, rules, subst, [], ◌∷◌, map, Ok, append-nil}
 use Rattle.std.specs.Prelude.{codes}
-use Rattle.lua_meaning.specs.Arguments.{a_text}
-use Rattle.lua_store.specs.Seen.{seen}
-use Rattle.lua_store.proofs.Later.{later-itself}
-use Rattle.lua_basic.specs.Arguments.{text_bytes}
-use Rattle.lua_basic.specs.Seen.{values_seen, AllOf}
-use Rattle.lua_meaning.specs.Texts.{items_of}
+use Rattle.mw_ustrings.specs.LuaMeaningArguments.{a_text}
+use Rattle.mw_ustrings.specs.LuaStoreSeen.{seen}
+use Rattle.mw_ustrings.proofs.LuaStoreLater.{later-itself}
+use Rattle.mw_ustrings.specs.LuaBasicArguments.{text_bytes}
+use Rattle.mw_ustrings.specs.LuaBasicSeen.{values_seen, AllOf}
+use Rattle.mw_ustrings.specs.LuaMeaningTexts.{items_of}
 use Rattle.mw_texts.proofs.ItemLists.{onto, none_yet, item_read, item_refused}
 use Rattle.mw_texts.proofs.listing.the_items.Goals as goal
 

@@ -1,7 +1,7 @@
 use Rattle.std.proofs.Common.{◌≡◌, length, map}
-use Rattle.lua_basic.specs.Arguments.{text_bytes}
-use Rattle.lua_basic.specs.Seen.{values_seen, AllOf}
-use Rattle.lua_meaning.specs.Texts.{items_of}
+use Rattle.mw_ustrings.specs.LuaBasicArguments.{text_bytes}
+use Rattle.mw_ustrings.specs.LuaBasicSeen.{values_seen, AllOf}
+use Rattle.mw_ustrings.specs.LuaMeaningTexts.{items_of}
 use Rattle.mw_texts.proofs.ItemLists.{onto}
 use Rattle.mw_texts.proofs.listing.the_items.Given as goal
 

@@ -1,6 +1,6 @@
 use Rattle.std.proofs.Common.{◌∙◌, ap}
-use Rattle.lua_heap.specs.Heap.{table_at}
-use Rattle.lua_heap.specs.Table.{get}
+use Rattle.mw_ustrings.specs.LuaHeapHeap.{table_at}
+use Rattle.mw_ustrings.specs.LuaHeapTable.{get}
 use Rattle.mw_texts.proofs.listing.value_at.Goals as goal
 
 pub get-requires-clause-key : goal.get-requires-clause-key

@@ -1,11 +1,11 @@
 use Rattle.std.proofs.Common.{◌<◌, ◌∙◌, ap, sym, subst, rules}
 use Rattle.std.specs.Prelude.{pos}
-use Rattle.lua_heap.specs.Heap.{table_at}
-use Rattle.lua_meaning.specs.Basic.{entries_from}
-use Rattle.lua_store.specs.Seen.{seen}
-use Rattle.lua_basic.specs.Seen.{values_seen, AllOf}
-use Rattle.lua_basic.proofs.Lists.{all-with, seen-with}
-use Rattle.lua_basic.proofs.Counts.{entry-read}
+use Rattle.mw_ustrings.specs.LuaHeapHeap.{table_at}
+use Rattle.mw_ustrings.specs.LuaMeaningBasic.{entries_from}
+use Rattle.mw_ustrings.specs.LuaStoreSeen.{seen}
+use Rattle.mw_ustrings.specs.LuaBasicSeen.{values_seen, AllOf}
+use Rattle.mw_ustrings.proofs.LuaBasicLists.{all-with, seen-with}
+use Rattle.mw_ustrings.proofs.LuaBasicCounts.{entry-read}
 use Rattle.mw_texts.proofs.listing.values_to.Goals as goal
 
 pub numbers-preserved : goal.numbers-preserved

@@ -1,8 +1,8 @@
 use Rattle.std.proofs.Common.{◌≡◌, ◌++◌, ◌-◌, ◌+ℤ◌}
 use Rattle.std.specs.Prelude.{pos}
-use Rattle.lua_heap.specs.Heap.{table_at}
-use Rattle.lua_meaning.specs.Basic.{entries_from}
-use Rattle.lua_basic.specs.Seen.{values_seen, AllOf}
+use Rattle.mw_ustrings.specs.LuaHeapHeap.{table_at}
+use Rattle.mw_ustrings.specs.LuaMeaningBasic.{entries_from}
+use Rattle.mw_ustrings.specs.LuaBasicSeen.{values_seen, AllOf}
 use Rattle.mw_texts.proofs.listing.values_to.Given as goal
 
 -- what is read and what is still to read are all

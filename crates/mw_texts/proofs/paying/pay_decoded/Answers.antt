@@ -1,6 +1,6 @@
 use Rattle.std.proofs.Common.{length}
 use Rattle.mw_text.specs.Decode.{head, decoded}
-use Rattle.mw_frames.proofs.Sums.{took-more}
+use Rattle.mw_ustrings.proofs.MwFramesSums.{took-more}
 use Rattle.mw_texts.proofs.Lengths.{decoded_on}
 use Rattle.mw_texts.proofs.paying.pay_decoded.Goals as goal
 

@@ -1,6 +1,6 @@
 use Rattle.std.proofs.Common.{length}
 use Rattle.mw_text.specs.Decode.{decoded}
-use Rattle.mw_frames.specs.Costs.{SoFar}
+use Rattle.mw_ustrings.specs.MwFramesCosts.{SoFar}
 use Rattle.mw_texts.proofs.paying.pay_decoded.Given as goal
 
 abbrev pub invariant-bytes : goal.invariant-bytes

@@ -1,6 +1,6 @@
 use Rattle.std.proofs.Common.{length}
 use Rattle.mw_text.specs.References.{nowiki_byte, nowiki_of}
-use Rattle.mw_frames.proofs.Sums.{took-more}
+use Rattle.mw_ustrings.proofs.MwFramesSums.{took-more}
 use Rattle.mw_texts.proofs.Lengths.{nowiki_on}
 use Rattle.mw_texts.proofs.paying.pay_nowiki.Goals as goal
 

@@ -1,8 +1,8 @@
 use Rattle.std.proofs.Common.{◌∙◌, ap, arith, length, [], ◌∷◌, Err}
 use Rattle.std.proofs.lemmas.Result.{err_from_is_err_and}
 use Rattle.mw_text.specs.References.{nowiki_of}
-use Rattle.lua_heap.specs.Value as kind
-use Rattle.mw_frame_texts.proofs.Charged.{lacked}
+use Rattle.mw_ustrings.specs.LuaHeapValue as kind
+use Rattle.mw_ustrings.proofs.MwFrameTextsCharged.{lacked}
 use Rattle.mw_ustrings.proofs.Costs.{values_cover}
 use Rattle.mw_texts.proofs.plain.give_nowiki.Goals as goal
 

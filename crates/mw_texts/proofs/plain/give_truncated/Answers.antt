@@ -3,8 +3,8 @@ use Rattle.std.proofs.lemmas.Int.{to_z-of_z}
 use Rattle.std.proofs.lemmas.Result.{err_from_is_err_and}
 use Rattle.std.specs.Prelude.{chars, encode_utf8_all}
 use Rattle.mw_text.specs.Joined.{truncated}
-use Rattle.lua_heap.specs.Value as kind
-use Rattle.mw_frame_texts.proofs.Charged.{lacked}
+use Rattle.mw_ustrings.specs.LuaHeapValue as kind
+use Rattle.mw_ustrings.proofs.MwFrameTextsCharged.{lacked}
 use Rattle.mw_ustrings.proofs.Costs.{values_cover}
 use Rattle.mw_texts.proofs.plain.give_truncated.Goals as goal
 

@@ -1,9 +1,9 @@
 use Rattle.std.proofs.Common.{◌∙◌, ap, refl, Err}
 use Rattle.std.specs.Prelude.{codes}
 use Rattle.std.proofs.lemmas.Result.{err_from_is_err_and}
-use Rattle.lua_meaning.specs.Arguments.{a_text}
-use Rattle.lua_basic.specs.Arguments.{text_bytes}
-use Rattle.lua_basic.specs.Seen.{values_seen}
+use Rattle.mw_ustrings.specs.LuaMeaningArguments.{a_text}
+use Rattle.mw_ustrings.specs.LuaBasicArguments.{text_bytes}
+use Rattle.mw_ustrings.specs.LuaBasicSeen.{values_seen}
 use Rattle.mw_ustrings.proofs.ReadArguments.{handed_on, turned_down}
 use Rattle.mw_texts.proofs.plain.nowiki.Goals as goal
 

@@ -1,12 +1,12 @@
 use Rattle.std.proofs.Common.{◌≡◌, ◌∙◌, ap, refl, Err, w64, to_z, of_z, rules}
 use Rattle.std.specs.Prelude.{codes}
 use Rattle.std.proofs.lemmas.Result.{err_from_is_err_and}
-use Rattle.lua_meaning.specs.Values.{rest, third}
-use Rattle.lua_meaning.specs.Arguments.{a_number}
-use Rattle.lua_heap.specs.Value.{is_true}
-use Rattle.lua_basic.specs.Arguments.{text_bytes}
-use Rattle.lua_basic.specs.Seen.{values_seen}
-use Rattle.lua_meaning.specs.TextArguments.{utf8_text, utf8_text_or}
+use Rattle.mw_ustrings.specs.LuaMeaningValues.{rest, third}
+use Rattle.mw_ustrings.specs.LuaMeaningArguments.{a_number}
+use Rattle.mw_ustrings.specs.LuaHeapValue.{is_true}
+use Rattle.mw_ustrings.specs.LuaBasicArguments.{text_bytes}
+use Rattle.mw_ustrings.specs.LuaBasicSeen.{values_seen}
+use Rattle.mw_ustrings.specs.LuaMeaningTextArguments.{utf8_text, utf8_text_or}
 use Rattle.mw_ustrings.proofs.ReadArguments.{behind_one, behind_two, handed_on, turned_down}
 use Rattle.mw_texts.proofs.plain.truncate.Goals as goal
 

@@ -1,8 +1,8 @@
 use Rattle.std.proofs.Common.{Err}
 use Rattle.std.specs.Option.{option_map}
 use Rattle.mw_text.specs.Sets.{chosen_set}
-use Rattle.lua_basic.proofs.Found.{for_nothing}
-use Rattle.lua_meaning.specs.Texts.{by_set, encodes}
+use Rattle.mw_ustrings.proofs.LuaBasicFound.{for_nothing}
+use Rattle.mw_ustrings.specs.LuaMeaningTexts.{by_set, encodes}
 use Rattle.mw_texts.proofs.SetAnswers.{encode_answered, set_fault}
 use Rattle.mw_texts.proofs.sets.encode_by.Goals as goal
 

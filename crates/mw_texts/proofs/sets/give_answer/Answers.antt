@@ -1,10 +1,10 @@
 use Rattle.std.proofs.Common.{◌∙◌, ap, arith, subst, Err}
 use Rattle.std.proofs.lemmas.Result.{err_from_is_err_and}
-use Rattle.lua_meaning.specs.Arguments.{gives_text}
-use Rattle.lua_basic.specs.Seen.{Paid}
-use Rattle.mw_frame_texts.proofs.Charged.{charged, lacked}
+use Rattle.mw_ustrings.specs.LuaMeaningArguments.{gives_text}
+use Rattle.mw_ustrings.specs.LuaBasicSeen.{Paid}
+use Rattle.mw_ustrings.proofs.MwFrameTextsCharged.{charged, lacked}
 use Rattle.mw_ustrings.proofs.Costs.{exceeded}
-use Rattle.lua_meaning.specs.Texts.{gives_tried}
+use Rattle.mw_ustrings.specs.LuaMeaningTexts.{gives_tried}
 use Rattle.mw_texts.proofs.sets.give_answer.Goals as goal
 
 pub returns-in-Spent-clause-answer : goal.returns-in-Spent-clause-answer

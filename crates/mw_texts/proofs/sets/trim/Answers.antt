@@ -1,10 +1,10 @@
 use Rattle.std.proofs.Common.{◌∙◌, ap, refl, Err}
 use Rattle.std.specs.Prelude.{codes}
 use Rattle.std.proofs.lemmas.Result.{err_from_is_err_and}
-use Rattle.lua_meaning.specs.Values.{rest}
-use Rattle.lua_basic.specs.Arguments.{text_bytes}
-use Rattle.lua_basic.specs.Seen.{values_seen}
-use Rattle.lua_meaning.specs.TextArguments.{utf8_text, utf8_text_if_any}
+use Rattle.mw_ustrings.specs.LuaMeaningValues.{rest}
+use Rattle.mw_ustrings.specs.LuaBasicArguments.{text_bytes}
+use Rattle.mw_ustrings.specs.LuaBasicSeen.{values_seen}
+use Rattle.mw_ustrings.specs.LuaMeaningTextArguments.{utf8_text, utf8_text_if_any}
 use Rattle.std.specs.Option.{option_map}
 use Rattle.mw_ustrings.proofs.ReadArguments.{behind_one, handed_on, turned_down}
 use Rattle.mw_texts.proofs.sets.trim.Goals as goal

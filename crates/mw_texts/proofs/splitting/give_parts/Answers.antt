@@ -1,9 +1,9 @@
 use Rattle.std.proofs.Common.{◌∙◌, ap, arith, Err, ◌+◌}
 use Rattle.std.proofs.lemmas.Result.{err_from_is_err_and}
-use Rattle.mw_frames.proofs.Sums.{took_then}
-use Rattle.mw_frame_texts.proofs.Charged.{lacked}
+use Rattle.mw_ustrings.proofs.MwFramesSums.{took_then}
+use Rattle.mw_ustrings.proofs.MwFrameTextsCharged.{lacked}
 use Rattle.mw_ustrings.proofs.Costs.{lacked_second}
-use Rattle.lua_meaning.specs.Texts.{parts_charge}
+use Rattle.mw_ustrings.specs.LuaMeaningTexts.{parts_charge}
 use Rattle.mw_texts.proofs.NewTables.{table_covers}
 use Rattle.mw_texts.proofs.splitting.give_parts.Goals as goal
 

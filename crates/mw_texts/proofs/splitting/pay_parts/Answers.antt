@@ -1,6 +1,6 @@
 use Rattle.std.proofs.Common.{ap, length, ◌+◌}
-use Rattle.mw_frames.proofs.Sums.{took-more}
-use Rattle.lua_meaning.specs.Texts.{parts_charge}
+use Rattle.mw_ustrings.proofs.MwFramesSums.{took-more}
+use Rattle.mw_ustrings.specs.LuaMeaningTexts.{parts_charge}
 use Rattle.mw_texts.proofs.splitting.pay_parts.Goals as goal
 
 pub each-preserved : goal.each-preserved

@@ -1,6 +1,6 @@
 use Rattle.std.proofs.Common.{length}
-use Rattle.mw_frames.specs.Costs.{SoFar}
-use Rattle.lua_meaning.specs.Texts.{parts_charge}
+use Rattle.mw_ustrings.specs.MwFramesCosts.{SoFar}
+use Rattle.mw_ustrings.specs.LuaMeaningTexts.{parts_charge}
 use Rattle.mw_texts.proofs.splitting.pay_parts.Given as goal
 
 abbrev pub invariant-each : goal.invariant-each

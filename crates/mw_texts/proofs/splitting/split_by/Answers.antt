@@ -1,6 +1,6 @@
 use Rattle.std.proofs.Common.{◌∙◌, ap, Err}
 use Rattle.std.proofs.lemmas.Result.{err_from_is_err_and}
-use Rattle.mw_frame_texts.proofs.Charged.{charged, not_charged}
+use Rattle.mw_ustrings.proofs.MwFrameTextsCharged.{charged, not_charged}
 use Rattle.mw_texts.proofs.splitting.split_by.Goals as goal
 
 pub returns-in_err-pay-clause-answer : goal.returns-in_err-pay-clause-answer

@@ -1,9 +1,9 @@
 use Rattle.std.proofs.Common.{sym, subst, Err}
 use Rattle.mw_text.specs.Split.{sought_by}
-use Rattle.lua_basic.specs.Seen.{Paid}
-use Rattle.lua_basic.proofs.Found.{for_nothing}
+use Rattle.mw_ustrings.specs.LuaBasicSeen.{Paid}
+use Rattle.mw_ustrings.proofs.LuaBasicFound.{for_nothing}
 use Rattle.mw_ustrings.proofs.Costs.{exceeded}
-use Rattle.lua_meaning.specs.Texts.{splits}
+use Rattle.mw_ustrings.specs.LuaMeaningTexts.{splits}
 use Rattle.mw_texts.proofs.SplitAnswers.{split_found, split_spent, split_fault}
 use Rattle.mw_texts.proofs.splitting.split_paid.Goals as goal
 

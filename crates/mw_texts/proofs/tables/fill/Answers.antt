@@ -1,10 +1,10 @@
 use Rattle.std.proofs.Common.{◌∙◌, ap, sym, refl, arith, suc}
 use Rattle.std.specs.Prelude.{pos}
-use Rattle.lua_heap.specs.Heap.{set_in}
-use Rattle.lua_heap.specs.Value.{Number, Text}
-use Rattle.lua_graph.specs.Put.{filled}
-use Rattle.lua_store.proofs.Later.{later-then, later-itself}
-use Rattle.lua_meaning.specs.Texts.{text_entries}
+use Rattle.mw_ustrings.specs.LuaHeapHeap.{set_in}
+use Rattle.mw_ustrings.specs.LuaHeapValue.{Number, Text}
+use Rattle.mw_ustrings.specs.LuaGraphPut.{filled}
+use Rattle.mw_ustrings.proofs.LuaStoreLater.{later-then, later-itself}
+use Rattle.mw_ustrings.specs.LuaMeaningTexts.{text_entries}
 use Rattle.mw_texts.proofs.tables.fill.Goals as goal
 
 pub each-init : goal.each-init

@@ -1,7 +1,7 @@
 use Rattle.std.proofs.Common.{◌≡◌, length}
-use Rattle.lua_graph.specs.Put.{filled}
-use Rattle.lua_store.specs.Parts.{IsTableOf, IsLater}
-use Rattle.lua_meaning.specs.Texts.{text_entries}
+use Rattle.mw_ustrings.specs.LuaGraphPut.{filled}
+use Rattle.mw_ustrings.specs.LuaStoreParts.{IsTableOf, IsLater}
+use Rattle.mw_ustrings.specs.LuaMeaningTexts.{text_entries}
 use Rattle.mw_texts.proofs.tables.fill.Given as goal
 
 -- what was set and what is still to set are all

@@ -1,8 +1,8 @@
 use Rattle.std.proofs.Common.{◌∙◌, ap}
-use Rattle.lua_heap.specs.Heap.{new_table}
-use Rattle.lua_graph.specs.Put.{filled}
-use Rattle.lua_store.specs.Seen.{StoreView}
-use Rattle.lua_meaning.specs.Texts.{text_entries}
+use Rattle.mw_ustrings.specs.LuaHeapHeap.{new_table}
+use Rattle.mw_ustrings.specs.LuaGraphPut.{filled}
+use Rattle.mw_ustrings.specs.LuaStoreSeen.{StoreView}
+use Rattle.mw_ustrings.specs.LuaMeaningTexts.{text_entries}
 use Rattle.mw_texts.proofs.TextTables.{texts_put}
 use Rattle.mw_texts.proofs.tables.text_table.Goals as goal
 

@@ -1,8 +1,8 @@
 use Rattle.std.proofs.Common.{◌∙◌, ap, sym, subst}
-use Rattle.lua_heap.specs.Value.{Table}
-use Rattle.lua_meaning.specs.Metatables.{field}
-use Rattle.lua_meaning.specs.Tag.{TagParts, tag_of}
-use Rattle.lua_basic.specs.Seen.{Paid}
+use Rattle.mw_ustrings.specs.LuaHeapValue.{Table}
+use Rattle.mw_ustrings.specs.LuaMeaningMetatables.{field}
+use Rattle.mw_ustrings.specs.LuaMeaningTag.{TagParts, tag_of}
+use Rattle.mw_ustrings.specs.LuaBasicSeen.{Paid}
 use Rattle.mw_texts.proofs.tagging.tag.Goals as goal
 
 pub returns-in-Some-clause-answer : goal.returns-in-Some-clause-answer

@@ -1,8 +1,8 @@
 use Rattle.std.proofs.Common.{◌∙◌, ap, sym}
 use Rattle.std.specs.Str.{is_utf8}
 use Rattle.std.proofs.lemmas.Str.{IsUtf8-from_is_utf8}
-use Rattle.lua_basic.specs.Arguments.{text_bytes}
-use Rattle.lua_basic.proofs.Found.{refused}
+use Rattle.mw_frame_texts.specs.LuaBasicArguments.{text_bytes}
+use Rattle.mw_frame_texts.proofs.LuaBasicFound.{refused}
 use Rattle.mw_ustrings.proofs.ReadArguments.{is_in_utf8, not_in_utf8}
 use Rattle.mw_ustrings.proofs.arguments.in_utf8.Goals as goal
 

@@ -1,7 +1,7 @@
 use Rattle.std.proofs.Common.{◌∙◌, subst}
-use Rattle.lua_meaning.specs.Messages.{bad_argument}
-use Rattle.lua_meaning.specs.Arguments.{fails}
-use Rattle.lua_basic.specs.Seen.{Stops}
+use Rattle.mw_frame_texts.specs.LuaMeaningMessages.{bad_argument}
+use Rattle.mw_frame_texts.specs.LuaMeaningArguments.{fails}
+use Rattle.mw_frame_texts.specs.LuaBasicSeen.{Stops}
 use Rattle.mw_ustrings.proofs.arguments.refuse_kind_at.Goals as goal
 
 pub returns-in-Ok-clause-raises : goal.returns-in-Ok-clause-raises

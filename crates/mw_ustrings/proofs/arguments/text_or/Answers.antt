@@ -1,8 +1,8 @@
 use Rattle.std.proofs.Common.{sym, true, false, subst}
 use Rattle.std.specs.Result.{IfErr}
-use Rattle.lua_heap.specs.Value.{is_nil}
-use Rattle.lua_basic.specs.Seen.{values_seen, Refuses}
-use Rattle.lua_basic.proofs.Lists.{tested}
+use Rattle.mw_frame_texts.specs.LuaHeapValue.{is_nil}
+use Rattle.mw_frame_texts.specs.LuaBasicSeen.{values_seen, Refuses}
+use Rattle.mw_frame_texts.proofs.LuaBasicLists.{tested}
 use Rattle.mw_ustrings.proofs.ReadArguments.{left_out, not_left_out}
 use Rattle.mw_ustrings.proofs.arguments.text_or.Goals as goal
 

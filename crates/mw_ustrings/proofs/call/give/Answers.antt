@@ -1,4 +1,4 @@
-use Rattle.lua_basic.proofs.Found.{for_nothing}
+use Rattle.mw_frame_texts.proofs.LuaBasicFound.{for_nothing}
 use Rattle.mw_ustrings.proofs.call.give.Goals as goal
 
 pub returns-in-Byteoffset-clause-answer : goal.returns-in-Byteoffset-clause-answer

@@ -1,7 +1,7 @@
 use Rattle.std.proofs.Common.{◌∙◌, ap, Err}
 use Rattle.std.proofs.lemmas.Result.{err_from_is_err_and}
-use Rattle.lua_meaning.specs.Arguments.{text_charge}
-use Rattle.lua_basic.specs.Seen.{values_seen}
+use Rattle.mw_frame_texts.specs.LuaMeaningArguments.{text_charge}
+use Rattle.mw_frame_texts.specs.LuaBasicSeen.{values_seen}
 use Rattle.mw_frame_texts.proofs.Charged.{charged, not_charged}
 use Rattle.mw_ustrings.proofs.call.ustring_call.Goals as goal
 

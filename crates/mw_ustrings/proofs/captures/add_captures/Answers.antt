@@ -1,9 +1,9 @@
 use Rattle.std.proofs.Common.{◌≡◌, ◌∙◌, ap, sym, subst, rules, [], ◌++◌, append-nil, map, IsCharBoundary, refl}
 use Rattle.std.specs.List.{AllByRecursion}
 use Rattle.lua_pattern.specs.Places.{IsCaptureAt}
-use Rattle.lua_store.proofs.Later.{later-then, later-itself}
-use Rattle.lua_basic.specs.Seen.{values_seen}
-use Rattle.lua_meaning.specs.Ustring.{capture_value}
+use Rattle.mw_frame_texts.proofs.LuaStoreLater.{later-then, later-itself}
+use Rattle.mw_frame_texts.specs.LuaBasicSeen.{values_seen}
+use Rattle.mw_frame_texts.specs.LuaMeaningUstring.{capture_value}
 use Rattle.mw_ustrings.proofs.Values.{one_more_of, one_more_seen}
 use Rattle.mw_ustrings.proofs.captures.add_captures.Goals as goal
 

@@ -1,9 +1,9 @@
 use Rattle.std.proofs.Common.{◌≡◌, ◌++◌, length, map, IsCharBoundary}
 use Rattle.std.specs.List.{AllByRecursion}
 use Rattle.lua_pattern.specs.Places.{IsCaptureAt}
-use Rattle.lua_store.specs.Parts.{IsLater}
-use Rattle.lua_basic.specs.Seen.{values_seen, AllOf}
-use Rattle.lua_meaning.specs.Ustring.{capture_value}
+use Rattle.mw_frame_texts.specs.LuaStoreParts.{IsLater}
+use Rattle.mw_frame_texts.specs.LuaBasicSeen.{values_seen, AllOf}
+use Rattle.mw_frame_texts.specs.LuaMeaningUstring.{capture_value}
 use Rattle.mw_ustrings.proofs.captures.add_captures.Given as goal
 
 -- what was added and what is still to add are all

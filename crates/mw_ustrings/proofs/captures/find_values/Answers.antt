@@ -1,5 +1,5 @@
 use Rattle.std.proofs.Common.{◌∙◌, ap, ◌∷◌, ◌++◌, map}
-use Rattle.lua_meaning.specs.Ustring.{place_value, last_value, capture_value}
+use Rattle.mw_frame_texts.specs.LuaMeaningUstring.{place_value, last_value, capture_value}
 use Rattle.mw_ustrings.proofs.captures.find_values.Goals as goal
 
 pub add_captures-requires-clause-of : goal.add_captures-requires-clause-of

@@ -1,6 +1,6 @@
 use Rattle.std.proofs.Common.{ap}
 use Rattle.lua_pattern.specs.Sizes.{capture_bytes, captures_bytes}
-use Rattle.mw_frames.proofs.Sums.{took-more}
+use Rattle.mw_frame_texts.proofs.MwFramesSums.{took-more}
 use Rattle.mw_ustrings.proofs.captures.pay_captures.Goals as goal
 
 pub each-preserved : goal.each-preserved

@@ -1,6 +1,6 @@
 use Rattle.std.proofs.Common.{length}
 use Rattle.lua_pattern.specs.Sizes.{captures_bytes}
-use Rattle.mw_frames.specs.Costs.{SoFar}
+use Rattle.mw_frame_texts.specs.MwFramesCosts.{SoFar}
 use Rattle.mw_ustrings.proofs.captures.pay_captures.Given as goal
 
 abbrev pub invariant-each : goal.invariant-each

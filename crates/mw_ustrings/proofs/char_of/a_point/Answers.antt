@@ -1,11 +1,11 @@
 use Rattle.std.proofs.Common.{◌≡◌, ◌∙◌, ap, sym, rules, w64, to_z, of_z}
 use Rattle.std.specs.Prelude.{codes}
-use Rattle.lua_meaning.specs.Messages.{bad_argument}
-use Rattle.lua_meaning.specs.Values.{number_in}
-use Rattle.lua_meaning.specs.Arguments.{some_number, some_value}
-use Rattle.lua_basic.specs.Seen.{values_seen}
-use Rattle.lua_basic.proofs.Found.{refused}
-use Rattle.lua_meaning.specs.Ustring.{point_text}
+use Rattle.mw_frame_texts.specs.LuaMeaningMessages.{bad_argument}
+use Rattle.mw_frame_texts.specs.LuaMeaningValues.{number_in}
+use Rattle.mw_frame_texts.specs.LuaMeaningArguments.{some_number, some_value}
+use Rattle.mw_frame_texts.specs.LuaBasicSeen.{values_seen}
+use Rattle.mw_frame_texts.proofs.LuaBasicFound.{refused}
+use Rattle.mw_frame_texts.specs.LuaMeaningUstring.{point_text}
 use Rattle.mw_ustrings.proofs.char_of.a_point.Goals as goal
 
 pub number_in-requires : goal.number_in-requires

@@ -1,9 +1,9 @@
 use Rattle.std.proofs.Common.{◌∙◌, ap, refl, Err}
 use Rattle.std.proofs.lemmas.Result.{err_from_is_err_and}
-use Rattle.lua_basic.specs.Seen.{values_seen}
+use Rattle.mw_frame_texts.specs.LuaBasicSeen.{values_seen}
 use Rattle.mw_ustrings.specs.CodePoints.{points_bytes}
 use Rattle.mw_ustrings.proofs.ReadArguments.{handed_on, turned_down}
-use Rattle.lua_meaning.specs.Ustring.{points_text}
+use Rattle.mw_frame_texts.specs.LuaMeaningUstring.{points_text}
 use Rattle.mw_ustrings.proofs.char_of.char.Goals as goal
 
 pub returns-in_err-check_points-clause-answer : goal.returns-in_err-check_points-clause-answer

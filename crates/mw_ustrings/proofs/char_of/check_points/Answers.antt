@@ -1,9 +1,9 @@
 use Rattle.std.proofs.Common.{◌≡◌, ◌<◌, ◌∙◌, ap, sym, refl, rules, arith, length}
 use Rattle.std.proofs.lemmas.List.{drop-map, length-map}
-use Rattle.lua_store.specs.Seen.{seen}
-use Rattle.lua_store.proofs.Later.{later-itself}
-use Rattle.lua_basic.specs.Seen.{values_seen}
-use Rattle.lua_meaning.specs.Ustring.{points_text}
+use Rattle.mw_frame_texts.specs.LuaStoreSeen.{seen}
+use Rattle.mw_frame_texts.proofs.LuaStoreLater.{later-itself}
+use Rattle.mw_frame_texts.specs.LuaBasicSeen.{values_seen}
+use Rattle.mw_frame_texts.specs.LuaMeaningUstring.{points_text}
 use Rattle.mw_ustrings.proofs.Values.{all_drop}
 use Rattle.mw_ustrings.proofs.Points.{none_checked, one_checked, one_refused, all_checked}
 use Rattle.mw_ustrings.proofs.char_of.check_points.Goals as goal

@@ -1,6 +1,6 @@
 use Rattle.std.proofs.Common.{◌≡◌}
-use Rattle.lua_basic.specs.Seen.{values_seen}
-use Rattle.lua_meaning.specs.Ustring.{points_text}
+use Rattle.mw_frame_texts.specs.LuaBasicSeen.{values_seen}
+use Rattle.mw_frame_texts.specs.LuaMeaningUstring.{points_text}
 use Rattle.mw_ustrings.proofs.Points.{CheckedTo}
 use Rattle.mw_ustrings.proofs.char_of.check_points.Given as goal
 

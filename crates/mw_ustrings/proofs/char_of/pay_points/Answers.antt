@@ -1,7 +1,7 @@
 use Rattle.std.proofs.Common.{◌∙◌, ap, subst, length, length-append}
-use Rattle.lua_store.specs.Seen.{seen}
-use Rattle.lua_basic.specs.Seen.{values_seen, AllOf}
-use Rattle.mw_frames.proofs.Sums.{took-more}
+use Rattle.mw_frame_texts.specs.LuaStoreSeen.{seen}
+use Rattle.mw_frame_texts.specs.LuaBasicSeen.{values_seen, AllOf}
+use Rattle.mw_frame_texts.proofs.MwFramesSums.{took-more}
 use Rattle.mw_ustrings.specs.CodePoints.{point_bytes, points_bytes}
 use Rattle.mw_ustrings.proofs.char_of.pay_points.Goals as goal
 

@@ -1,6 +1,6 @@
 use Rattle.std.proofs.Common.{length}
-use Rattle.lua_basic.specs.Seen.{values_seen, AllOf}
-use Rattle.mw_frames.specs.Costs.{SoFar}
+use Rattle.mw_frame_texts.specs.LuaBasicSeen.{values_seen, AllOf}
+use Rattle.mw_frame_texts.specs.MwFramesCosts.{SoFar}
 use Rattle.mw_ustrings.specs.CodePoints.{points_bytes}
 use Rattle.mw_ustrings.proofs.char_of.pay_points.Given as goal
 

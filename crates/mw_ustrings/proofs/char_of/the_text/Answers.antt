@@ -1,6 +1,6 @@
 use Rattle.std.proofs.Common.{◌∙◌, ◌++◌, ap, subst, sym, append_assoc}
-use Rattle.lua_store.specs.Seen.{seen}
-use Rattle.lua_basic.specs.Seen.{values_seen, AllOf}
+use Rattle.mw_frame_texts.specs.LuaStoreSeen.{seen}
+use Rattle.mw_frame_texts.specs.LuaBasicSeen.{values_seen, AllOf}
 use Rattle.mw_ustrings.specs.CodePoints.{point_bytes, points_bytes}
 use Rattle.mw_ustrings.proofs.char_of.the_text.Goals as goal
 

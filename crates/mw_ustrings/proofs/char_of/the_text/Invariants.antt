@@ -1,5 +1,5 @@
 use Rattle.std.proofs.Common.{◌≡◌, ◌++◌, length}
-use Rattle.lua_basic.specs.Seen.{values_seen, AllOf}
+use Rattle.mw_frame_texts.specs.LuaBasicSeen.{values_seen, AllOf}
 use Rattle.mw_ustrings.specs.CodePoints.{points_bytes}
 use Rattle.mw_ustrings.proofs.char_of.the_text.Given as goal
 

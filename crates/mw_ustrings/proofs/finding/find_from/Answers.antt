@@ -1,7 +1,7 @@
 use Rattle.std.proofs.Common.{◌∙◌, ap, Err, w64}
 use Rattle.std.proofs.lemmas.Result.{err_from_is_err_and}
 use Rattle.std.proofs.lemmas.Int.{to_z-of_z}
-use Rattle.lua_store.proofs.Later.{later-itself}
+use Rattle.mw_frame_texts.proofs.LuaStoreLater.{later-itself}
 use Rattle.mw_frame_texts.proofs.Charged.{charged, not_charged}
 use Rattle.mw_ustrings.proofs.finding.find_from.Goals as goal
 

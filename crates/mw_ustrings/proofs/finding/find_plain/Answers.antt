@@ -1,6 +1,6 @@
 use Rattle.std.proofs.Common.{◌≡◌, ◌∙◌, ap, arith, sym, refl, Err, length, drop, length-drop}
 use Rattle.std.proofs.lemmas.Result.{err_from_is_err_and}
-use Rattle.mw_frames.proofs.Sums.{took_then}
+use Rattle.mw_frame_texts.proofs.MwFramesSums.{took_then}
 use Rattle.mw_frame_texts.proofs.Charged.{lacked}
 use Rattle.mw_ustrings.proofs.Costs.{values_cover, lacked_second}
 use Rattle.mw_ustrings.proofs.Searches.{plain_found, plain_none, never_spent}

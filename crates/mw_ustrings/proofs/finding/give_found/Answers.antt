@@ -2,7 +2,7 @@ use Rattle.std.proofs.Common.{◌∙◌, ap, arith, Err}
 use Rattle.std.proofs.lemmas.Result.{err_from_is_err_and}
 use Rattle.std.proofs.lemmas.List.Elements.{recursion_from_All}
 use Rattle.lua_pattern.specs.Sizes.{find_bytes}
-use Rattle.mw_frames.proofs.Sums.{took_then}
+use Rattle.mw_frame_texts.proofs.MwFramesSums.{took_then}
 use Rattle.mw_frame_texts.proofs.Charged.{lacked}
 use Rattle.mw_ustrings.proofs.Costs.{values_cover, lacked_second}
 use Rattle.mw_ustrings.proofs.finding.give_found.Goals as goal

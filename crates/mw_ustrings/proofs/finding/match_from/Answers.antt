@@ -1,11 +1,11 @@
 use Rattle.std.proofs.Common.{◌≡◌, ◌∙◌, ap, refl, Err, pos, w64, to_z, of_z, rules}
 use Rattle.std.specs.Prelude.{codes}
 use Rattle.std.proofs.lemmas.Result.{err_from_is_err_and}
-use Rattle.lua_meaning.specs.Values.{rest}
-use Rattle.lua_meaning.specs.Arguments.{number_or}
-use Rattle.lua_basic.specs.Arguments.{text_bytes}
-use Rattle.lua_basic.specs.Seen.{values_seen}
-use Rattle.lua_meaning.specs.TextArguments.{utf8_text}
+use Rattle.mw_frame_texts.specs.LuaMeaningValues.{rest}
+use Rattle.mw_frame_texts.specs.LuaMeaningArguments.{number_or}
+use Rattle.mw_frame_texts.specs.LuaBasicArguments.{text_bytes}
+use Rattle.mw_frame_texts.specs.LuaBasicSeen.{values_seen}
+use Rattle.mw_frame_texts.specs.LuaMeaningTextArguments.{utf8_text}
 use Rattle.mw_ustrings.proofs.ReadArguments.{behind_one, behind_two, handed_on, turned_down}
 use Rattle.mw_ustrings.proofs.finding.match_from.Goals as goal
 

@@ -3,11 +3,11 @@ use Rattle.std.proofs.lemmas.Int.{to_z-of_z}
 use Rattle.lua_pattern.specs.Read.{read_of, codes}
 use Rattle.lua_pattern.specs.Sizes.{match_bytes}
 use Rattle.lua_pattern.specs.Texts.{points}
-use Rattle.lua_store.proofs.Later.{later-itself}
-use Rattle.lua_basic.specs.Seen.{Paid}
-use Rattle.lua_basic.proofs.Found.{for_nothing}
-use Rattle.mw_ustring.specs.Finds.{start_of}
-use Rattle.lua_meaning.specs.Ustring.{match_values, searches}
+use Rattle.mw_frame_texts.proofs.LuaStoreLater.{later-itself}
+use Rattle.mw_frame_texts.specs.LuaBasicSeen.{Paid}
+use Rattle.mw_frame_texts.proofs.LuaBasicFound.{for_nothing}
+use Rattle.mw_text.specs.MwUstringFinds.{start_of}
+use Rattle.mw_frame_texts.specs.LuaMeaningUstring.{match_values, searches}
 use Rattle.mw_ustrings.proofs.Costs.{exceeded}
 use Rattle.mw_ustrings.proofs.Searches.{search_found, search_none, search_spent, search_fault}
 use Rattle.mw_ustrings.proofs.finding.match_pattern.Goals as goal

@@ -1,6 +1,6 @@
 use Rattle.std.proofs.Common.{◌∙◌, ap, subst, sym, arith, length, Err, encode_utf8_all}
 use Rattle.std.proofs.lemmas.Result.{err_from_is_err_and}
-use Rattle.mw_frames.proofs.Sums.{took_none}
+use Rattle.mw_frame_texts.proofs.MwFramesSums.{took_none}
 use Rattle.mw_ustrings.specs.Charges.{PaysInMemory}
 use Rattle.mw_ustrings.proofs.Costs.{unpaid_in_memory}
 use Rattle.mw_ustrings.proofs.Iterated.{gives_next, gives_end, point_taken, point_unpaid, all_taken}

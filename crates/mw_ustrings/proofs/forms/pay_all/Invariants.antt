@@ -1,6 +1,6 @@
 use Rattle.std.proofs.Common.{ℕ, List, length, encode_utf8_all}
 use Rattle.std.specs.Iterator.{IsFinite, size}
-use Rattle.mw_frames.specs.Costs.{SoFar}
+use Rattle.mw_frame_texts.specs.MwFramesCosts.{SoFar}
 use Rattle.mw_ustrings.specs.CodePoints.{GivesPoints}
 use Rattle.mw_ustrings.proofs.forms.pay_all.Given as goal
 

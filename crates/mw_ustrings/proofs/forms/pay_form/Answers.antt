@@ -1,6 +1,6 @@
 use Rattle.std.proofs.Common.{sym, subst}
-use Rattle.mw_frames.specs.Costs.{Took}
-use Rattle.mw_frames.proofs.Sums.{took_none}
+use Rattle.mw_frame_texts.specs.MwFramesCosts.{Took}
+use Rattle.mw_frame_texts.proofs.MwFramesSums.{took_none}
 use Rattle.mw_ustrings.specs.Charges.{PaysInMemory}
 use Rattle.mw_ustrings.proofs.Normalized.{charge_there, charge_none}
 use Rattle.mw_ustrings.proofs.forms.pay_form.Goals as goal

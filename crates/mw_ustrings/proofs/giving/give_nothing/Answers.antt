@@ -1,6 +1,6 @@
 use Rattle.std.proofs.Common.{◌∙◌, ap, arith, refl, Err, ◌∷◌, []}
 use Rattle.std.proofs.lemmas.Result.{err_from_is_err_and}
-use Rattle.lua_heap.specs.Value.{Nil}
+use Rattle.mw_frame_texts.specs.LuaHeapValue.{Nil}
 use Rattle.mw_frame_texts.proofs.Charged.{lacked}
 use Rattle.mw_ustrings.proofs.Costs.{values_cover}
 use Rattle.mw_ustrings.proofs.giving.give_nothing.Goals as goal

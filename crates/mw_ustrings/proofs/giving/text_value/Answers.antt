@@ -1,5 +1,5 @@
 use Rattle.std.proofs.Common.{refl, ap}
-use Rattle.lua_store.specs.Seen.{StoreView}
+use Rattle.mw_frame_texts.specs.LuaStoreSeen.{StoreView}
 use Rattle.mw_ustrings.proofs.giving.text_value.Goals as goal
 
 pub returns-clause-value : goal.returns-clause-value

@@ -1,16 +1,16 @@
 use Rattle.std.proofs.Common.{◌≡◌, ◌∙◌, ap, refl, Ok, Err, pos, w64, to_z, of_z, rules, [], ◌∷◌}
 use Rattle.std.specs.Prelude.{codes}
 use Rattle.std.proofs.lemmas.Result.{err_from_is_err_and}
-use Rattle.lua_meaning.specs.Values.{rest}
-use Rattle.lua_meaning.specs.Arguments.{number_or}
-use Rattle.lua_basic.specs.Arguments.{text_bytes}
-use Rattle.lua_basic.specs.Seen.{values_seen}
-use Rattle.lua_meaning.specs.TextArguments.{utf8_text}
+use Rattle.mw_frame_texts.specs.LuaMeaningValues.{rest}
+use Rattle.mw_frame_texts.specs.LuaMeaningArguments.{number_or}
+use Rattle.mw_frame_texts.specs.LuaBasicArguments.{text_bytes}
+use Rattle.mw_frame_texts.specs.LuaBasicSeen.{values_seen}
+use Rattle.mw_frame_texts.specs.LuaMeaningTextArguments.{utf8_text}
 use Rattle.mw_ustrings.proofs.ReadArguments.{behind_one, behind_two, handed_on_free, turned_down_free}
-use Rattle.lua_meaning.specs.Arguments.{gives}
-use Rattle.mw_ustring.specs.Texts.{byteoffset_of}
-use Rattle.lua_basic.specs.Seen.{Free}
-use Rattle.lua_meaning.specs.Ustring.{place_or_nil}
+use Rattle.mw_frame_texts.specs.LuaMeaningArguments.{gives}
+use Rattle.mw_text.specs.MwUstringTexts.{byteoffset_of}
+use Rattle.mw_frame_texts.specs.LuaBasicSeen.{Free}
+use Rattle.mw_frame_texts.specs.LuaMeaningUstring.{place_or_nil}
 use Rattle.mw_ustrings.proofs.parts.byteoffset.Goals as goal
 
 pub returns-in_err-text-clause-answer : goal.returns-in_err-text-clause-answer

@@ -1,8 +1,8 @@
 use Rattle.std.proofs.Common.{subst, w64}
 use Rattle.std.proofs.lemmas.Int.{to_z-of_z}
-use Rattle.mw_ustring.proofs.Offsets.{spelled}
-use Rattle.lua_meaning.specs.Arguments.{gives_text}
-use Rattle.lua_basic.specs.Seen.{Paid}
+use Rattle.mw_text.proofs.MwUstringOffsets.{spelled}
+use Rattle.mw_frame_texts.specs.LuaMeaningArguments.{gives_text}
+use Rattle.mw_frame_texts.specs.LuaBasicSeen.{Paid}
 use Rattle.mw_ustrings.proofs.parts.give_part.Goals as goal
 
 pub returns-clause-answer : goal.returns-clause-answer

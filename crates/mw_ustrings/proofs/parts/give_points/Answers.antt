@@ -1,9 +1,9 @@
 use Rattle.std.proofs.Common.{◌≡◌, ◌∙◌, ap, arith, refl, Err, length, w64}
 use Rattle.std.proofs.lemmas.Result.{err_from_is_err_and}
 use Rattle.std.proofs.lemmas.Int.{to_z-of_z}
-use Rattle.mw_ustring.specs.Texts.{points_of}
+use Rattle.mw_text.specs.MwUstringTexts.{points_of}
 use Rattle.mw_frame_texts.proofs.Charged.{lacked}
-use Rattle.lua_meaning.specs.Ustring.{point_values}
+use Rattle.mw_frame_texts.specs.LuaMeaningUstring.{point_values}
 use Rattle.mw_ustrings.proofs.Costs.{values_cover}
 use Rattle.mw_ustrings.proofs.parts.give_points.Goals as goal
 

@@ -1,7 +1,7 @@
 use Rattle.std.proofs.Common.{◌≡◌, ◌∙◌, ap, sym, refl, rules, [], ◌++◌, append-nil}
-use Rattle.lua_basic.specs.Seen.{values_seen}
-use Rattle.lua_store.proofs.Later.{later-itself}
-use Rattle.lua_meaning.specs.Ustring.{point_values}
+use Rattle.mw_frame_texts.specs.LuaBasicSeen.{values_seen}
+use Rattle.mw_frame_texts.proofs.LuaStoreLater.{later-itself}
+use Rattle.mw_frame_texts.specs.LuaMeaningUstring.{point_values}
 use Rattle.mw_ustrings.proofs.Values.{one_more_of, one_more_now}
 use Rattle.mw_ustrings.proofs.parts.point_values.Goals as goal
 

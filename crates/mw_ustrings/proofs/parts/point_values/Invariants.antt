@@ -1,7 +1,7 @@
 use Rattle.std.proofs.Common.{◌≡◌, ◌++◌, ℕ, List, length}
-use Rattle.lua_store.specs.Seen.{StoreView}
-use Rattle.lua_basic.specs.Seen.{values_seen, AllOf}
-use Rattle.lua_meaning.specs.Ustring.{point_values}
+use Rattle.mw_frame_texts.specs.LuaStoreSeen.{StoreView}
+use Rattle.mw_frame_texts.specs.LuaBasicSeen.{values_seen, AllOf}
+use Rattle.mw_frame_texts.specs.LuaMeaningUstring.{point_values}
 use Rattle.mw_ustrings.proofs.parts.point_values.Given as goal
 
 -- what is made and what is still to make are all

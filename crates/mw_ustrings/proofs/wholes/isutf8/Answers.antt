@@ -1,13 +1,13 @@
 use Rattle.std.proofs.Common.{◌∙◌, ap, refl, Ok, Err, [], ◌∷◌}
 use Rattle.std.specs.Prelude.{codes}
 use Rattle.std.proofs.lemmas.Result.{err_from_is_err_and}
-use Rattle.lua_basic.specs.Arguments.{text_bytes}
-use Rattle.lua_basic.specs.Seen.{values_seen}
+use Rattle.mw_frame_texts.specs.LuaBasicArguments.{text_bytes}
+use Rattle.mw_frame_texts.specs.LuaBasicSeen.{values_seen}
 use Rattle.mw_ustrings.proofs.ReadArguments.{handed_on_free, turned_down_free}
 use Rattle.std.specs.Str.{is_utf8}
-use Rattle.lua_heap.specs.Value.{Truth}
-use Rattle.lua_meaning.specs.Arguments.{a_text, gives}
-use Rattle.lua_basic.specs.Seen.{Free}
+use Rattle.mw_frame_texts.specs.LuaHeapValue.{Truth}
+use Rattle.mw_frame_texts.specs.LuaMeaningArguments.{a_text, gives}
+use Rattle.mw_frame_texts.specs.LuaBasicSeen.{Free}
 use Rattle.mw_ustrings.proofs.wholes.isutf8.Goals as goal
 
 pub returns-in_err-text-clause-answer : goal.returns-in_err-text-clause-answer

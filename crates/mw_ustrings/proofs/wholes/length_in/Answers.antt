@@ -1,6 +1,6 @@
 use Rattle.std.proofs.Common.{◌≡◌, sym, subst, ℕ, List}
 use Rattle.std.specs.Result.{IfOk}
-use Rattle.lua_store.specs.Seen.{seen}
+use Rattle.mw_frame_texts.specs.LuaStoreSeen.{seen}
 use Rattle.mw_ustrings.proofs.Utf8.{length_some, length_none}
 use Rattle.mw_ustrings.proofs.wholes.length_in.Goals as goal
 

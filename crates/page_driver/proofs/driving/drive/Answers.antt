@@ -1,6 +1,6 @@
-use Rattle.page_ground.specs.Ground.{ground_of}
-use Rattle.page_replies.proofs.Steps.{starts_on}
-use Rattle.page_replies.proofs.Drives.{starting_fits, started, start_then}
+use Rattle.page_tasks.specs.PageGroundGround.{ground_of}
+use Rattle.page_driver.proofs.MoveSteps.{starts_on}
+use Rattle.page_driver.proofs.Drives.{starting_fits, started, start_then}
 use Rattle.page_driver.proofs.driving.drive.Goals as goal
 
 pub go_on-requires-clause-of : goal.go_on-requires-clause-of

@@ -1,7 +1,7 @@
-use Rattle.page_replies.specs.declared.tower.Next.TheVariants.{On}
-use Rattle.page_ground.specs.Ground.{ground_of}
-use Rattle.page_replies.specs.Driven.{StartsOn}
-use Rattle.page_replies.specs.Moving.{steps_at}
+use Rattle.page_driver.specs.declared.tower.Next.TheVariants.{On}
+use Rattle.page_tasks.specs.PageGroundGround.{ground_of}
+use Rattle.page_driver.specs.Driven.{StartsOn}
+use Rattle.page_driver.specs.Moving.{steps_at}
 use Rattle.page_driver.proofs.driving.drive.Given as goal
 
 -- moves have led here

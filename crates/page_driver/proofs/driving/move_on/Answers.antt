@@ -1,8 +1,8 @@
 use Rattle.std.proofs.Common.{subst}
 use Rattle.page_tasks.specs.declared.task.Halt.{Halt}
 use Rattle.page_tasks.specs.declared.task.Halted.{Halted}
-use Rattle.page_ground.specs.Ground.{ground_of}
-use Rattle.page_replies.specs.Driven.{InProgress}
+use Rattle.page_tasks.specs.PageGroundGround.{ground_of}
+use Rattle.page_driver.specs.Driven.{InProgress}
 use Rattle.page_driver.proofs.driving.move_on.Goals as goal
 
 pub hand_over-requires : goal.hand_over-requires

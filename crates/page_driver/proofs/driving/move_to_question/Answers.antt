@@ -1,7 +1,7 @@
-use Rattle.page_ground.specs.Ground.{ground_of}
-use Rattle.page_replies.proofs.Drives.{in_progress, one_after_another, same_fits, no_more}
-use Rattle.page_replies.specs.Moving.{steps_at}
-use Rattle.page_replies.proofs.Sinking.{not_asked}
+use Rattle.page_tasks.specs.PageGroundGround.{ground_of}
+use Rattle.page_driver.proofs.Drives.{in_progress, one_after_another, same_fits, no_more}
+use Rattle.page_driver.specs.Moving.{steps_at}
+use Rattle.page_driver.proofs.Sinking.{not_asked}
 use Rattle.page_driver.proofs.driving.move_to_question.Goals as goal
 
 pub moves-init : goal.moves-init

@@ -1,8 +1,8 @@
 use Rattle.std.proofs.Common.{◌≤◌}
-use Rattle.page_replies.specs.declared.tower.Next.TheVariants.{On}
-use Rattle.page_ground.specs.Ground.{ground_of}
-use Rattle.page_replies.specs.Driven.{MovesOn}
-use Rattle.page_replies.specs.Moving.{steps_at, weight_of}
+use Rattle.page_driver.specs.declared.tower.Next.TheVariants.{On}
+use Rattle.page_tasks.specs.PageGroundGround.{ground_of}
+use Rattle.page_driver.specs.Driven.{MovesOn}
+use Rattle.page_driver.specs.Moving.{steps_at, weight_of}
 use Rattle.page_driver.proofs.driving.move_to_question.Given as goal
 
 -- moves have led here, and took no step

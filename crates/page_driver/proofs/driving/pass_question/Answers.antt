@@ -1,9 +1,9 @@
-use Rattle.page_ground.specs.Ground.{ground_of}
+use Rattle.page_tasks.specs.PageGroundGround.{ground_of}
 use Rattle.page_tasks.proofs.Passing.{if_ok}
-use Rattle.page_replies.specs.Driven.{MovesOn}
-use Rattle.page_replies.specs.Moving.{Sinks, TakesSteps}
-use Rattle.page_replies.proofs.Drives.{in_progress, one_after_another}
-use Rattle.page_replies.proofs.Sinking.{asked_then}
+use Rattle.page_driver.specs.Driven.{MovesOn}
+use Rattle.page_driver.specs.Moving.{Sinks, TakesSteps}
+use Rattle.page_driver.proofs.Drives.{in_progress, one_after_another}
+use Rattle.page_driver.proofs.Sinking.{asked_then}
 use Rattle.page_driver.proofs.driving.pass_question.Goals as goal
 
 pub move_on-requires : goal.move_on-requires

@@ -1,9 +1,9 @@
-use Rattle.lua_meaning.specs.Start.{Invoke}
+use Rattle.page_meaning.specs.LuaMeaningStart.{Invoke}
 use Rattle.page_meaning.specs.Tasks.{Running}
-use Rattle.page_ground.specs.Ground.{ground_of}
+use Rattle.page_tasks.specs.PageGroundGround.{ground_of}
 use Rattle.page_tasks.proofs.Passing.{if_ok}
-use Rattle.page_replies.specs.declared.tower.Tower.{Tower}
-use Rattle.page_replies.specs.Driven.{Expanded, ComesTo}
+use Rattle.page_driver.specs.declared.tower.Tower.{Tower}
+use Rattle.page_driver.specs.Driven.{Expanded, ComesTo}
 use Rattle.page_driver.proofs.Whole.{first_number, starting_job, job_expanded}
 use Rattle.page_driver.proofs.job.come_to_end.Goals as goal
 

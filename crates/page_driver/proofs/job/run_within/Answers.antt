@@ -1,5 +1,5 @@
 use Rattle.std.proofs.Common.{◌∙◌}
-use Rattle.page_ground.specs.Ground.{ground_of}
+use Rattle.page_tasks.specs.PageGroundGround.{ground_of}
 use Rattle.page_driver.specs.Page.{full_of}
 use Rattle.page_driver.proofs.Whole.{job_ends, job_rises, job_paid}
 use Rattle.page_driver.proofs.job.run_within.Goals as goal

@@ -1,10 +1,10 @@
 use Rattle.std.proofs.Common.{ap, ◌∙◌}
-use Rattle.wk_base.specs.declared.left.Left.{Left}
-use Rattle.wiki_expand.specs.Pages.{direct_of, direct_in, find_page}
-use Rattle.page_ground.specs.Ground.{ground_of, page_of}
+use Rattle.page_meaning.specs.WkBaseDeclaredLeftLeft.{Left}
+use Rattle.page_tasks.specs.WikiExpandPages.{direct_of, direct_in, find_page}
+use Rattle.page_tasks.specs.PageGroundGround.{ground_of, page_of}
 use Rattle.page_driver.specs.Page.{full_of}
 use Rattle.page_driver.proofs.Whole.{numbers_none, starting_held, page_held, turns_held, paid_within}
-use Rattle.page_replies.proofs.Drives.{held_has_trees}
+use Rattle.page_driver.proofs.Drives.{held_has_trees}
 use Rattle.page_driver.proofs.page.come_from.Goals as goal
 
 pub drive-requires : goal.drive-requires

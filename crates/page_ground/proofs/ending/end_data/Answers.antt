@@ -1,12 +1,12 @@
 use Rattle.std.proofs.Common.{◌∙◌, ap, sym, subst, Option}
 use Rattle.std.specs.Prelude.{IfSome}
-use Rattle.lua_meaning.specs.Questions.{LoadFailed}
-use Rattle.lua_walk.specs.Data.{taken}
-use Rattle.lua_store.specs.declared.ids.TextId.{TextId}
-use Rattle.lua_store.specs.declared.value.Value.{Value}
-use Rattle.lua_store.specs.Parts.{IsOf, IsTextOf}
-use Rattle.lua_store.specs.Seen.{seen}
-use Rattle.lua_stack.specs.Lists.{given_values}
+use Rattle.page_meaning.specs.LuaMeaningQuestions.{LoadFailed}
+use Rattle.lua_graph.specs.LuaWalkData.{taken}
+use Rattle.lua_graph.specs.LuaStoreDeclaredIdsTextId.{TextId}
+use Rattle.lua_graph.specs.LuaStoreDeclaredValueValue.{Value}
+use Rattle.lua_graph.specs.LuaStoreParts.{IsOf, IsTextOf}
+use Rattle.lua_graph.specs.LuaStoreSeen.{seen}
+use Rattle.lua_state.specs.LuaStackLists.{given_values}
 use Rattle.lua_state.specs.Of.{OutcomeOf}
 use Rattle.page_meaning.specs.Told.{graph_answer}
 use Rattle.page_points.specs.Machines.{data_told}

@@ -1,8 +1,8 @@
 use Rattle.std.proofs.Common.{◌∙◌, ap, sym, subst, Option, List, ℕ}
 use Rattle.std.specs.Prelude.{IfSome}
-use Rattle.lua_store.specs.declared.ids.TextId.{TextId}
-use Rattle.lua_store.specs.Parts.{IsTextOf}
-use Rattle.lua_stack.specs.Lists.{given_values}
+use Rattle.lua_graph.specs.LuaStoreDeclaredIdsTextId.{TextId}
+use Rattle.lua_graph.specs.LuaStoreParts.{IsTextOf}
+use Rattle.lua_state.specs.LuaStackLists.{given_values}
 use Rattle.lua_state.specs.Of.{OutcomeOf}
 use Rattle.page_meaning.specs.declared.outcome.JobOutcome.TheVariants as ending
 use Rattle.page_meaning.specs.Outcomes.{end_outcome}

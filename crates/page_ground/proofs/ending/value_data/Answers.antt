@@ -1,7 +1,7 @@
 use Rattle.std.proofs.Common.{◌∙◌, ap, sym}
-use Rattle.lua_meaning.specs.Questions.{LoadFailed}
-use Rattle.lua_walk.specs.Data.{taken}
-use Rattle.lua_store.specs.Seen.{seen}
+use Rattle.page_meaning.specs.LuaMeaningQuestions.{LoadFailed}
+use Rattle.lua_graph.specs.LuaWalkData.{taken}
+use Rattle.lua_graph.specs.LuaStoreSeen.{seen}
 use Rattle.page_meaning.specs.Told.{graph_answer}
 use Rattle.page_ground.proofs.ending.value_data.Goals as goal
 

@@ -2,8 +2,8 @@ use Rattle.std.proofs.Common.{◌∙◌, ap}
 use Rattle.wiki_markup.specs.declared.marked.Mode.TheVariants.{Direct}
 use Rattle.wiki_markup.specs.Shown.{shown_of}
 use Rattle.wiki_markup.specs.Trees.{pairing}
-use Rattle.expand_meaning.specs.Places.{trees_at}
-use Rattle.expand_meaning.proofs.ReadLaws.{pairing_back}
+use Rattle.wiki_expand.specs.ExpandMeaningPlaces.{trees_at}
+use Rattle.expand_texts.proofs.ExpandMeaningReadLaws.{pairing_back}
 use Rattle.page_ground.proofs.scenes.read_text.Goals as goal
 
 pub returns : goal.returns

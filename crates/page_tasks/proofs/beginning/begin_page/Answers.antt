@@ -1,6 +1,6 @@
 use Rattle.std.proofs.Common.{sym, subst}
 use Rattle.std.specs.Prelude.{IsSome}
-use Rattle.wk_base.specs.declared.title.Title.{Title}
+use Rattle.wiki_expand.specs.WkBaseDeclaredTitleTitle.{Title}
 use Rattle.wiki_expand.specs.Pages.{find_page}
 use Rattle.page_ground.specs.Ground.{ground_of}
 use Rattle.page_tasks.proofs.Beginnings.{page_begins_with}

@@ -1,5 +1,5 @@
 use Rattle.std.proofs.Common.{ap}
-use Rattle.page_meaning.specs.declared.outcome.JobOutcome.{JobOutcome}
+use Rattle.page_ground.specs.PageMeaningDeclaredOutcomeJobOutcome.{JobOutcome}
 use Rattle.page_tasks.specs.declared.task.Halt.TheVariants as halt
 use Rattle.page_tasks.specs.declared.task.Reply.TheVariants as reply
 use Rattle.page_tasks.proofs.going.over_halt.Goals as goal

@@ -1,11 +1,11 @@
 use Rattle.std.proofs.Common.{refl, subst, sym, List, ℕ}
-use Rattle.lua_store.proofs.Later.{later-itself}
+use Rattle.page_ground.proofs.LuaStoreLater.{later-itself}
 use Rattle.page_ground.specs.Seen.{CanBePut}
 use Rattle.page_tasks.specs.Going.{PutsAnswer}
 use Rattle.page_run.specs.Outcome.{Jumps}
-use Rattle.lua_heap.specs.Value.{Text}
-use Rattle.lua_meaning.specs.Acts.{Raised}
-use Rattle.lua_meaning.specs.Questions.{LoadFailed}
+use Rattle.lua_code.specs.LuaHeapValue.{Text}
+use Rattle.lua_machine.specs.LuaMeaningActs.{Raised}
+use Rattle.page_ground.specs.LuaMeaningQuestions.{LoadFailed}
 use Rattle.page_tasks.proofs.DataPut.{tables_put, message_put}
 use Rattle.page_tasks.proofs.telling.put_data.Goals as goal
 

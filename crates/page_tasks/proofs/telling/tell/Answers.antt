@@ -1,7 +1,7 @@
 use Rattle.std.proofs.Common.{◌≡◌, ℕ, ◌+◌, List, subst}
 use Rattle.std.specs.Prelude.{IfOk}
-use Rattle.lua_meaning.specs.Questions.{Answer}
-use Rattle.page_meaning.specs.Tasks.{text_of}
+use Rattle.page_ground.specs.LuaMeaningQuestions.{Answer}
+use Rattle.page_ground.specs.PageMeaningTasks.{text_of}
 use Rattle.page_tasks.specs.declared.task.Halted.{Halted}
 use Rattle.page_tasks.specs.Going.{ToldFrom}
 use Rattle.lua_machine.specs.Events.{answer_outcome}

@@ -1,6 +1,6 @@
 use Rattle.std.proofs.Common.{◌≡◌, ℕ, ◌+◌}
-use Rattle.lua_meaning.specs.Questions.{Answer}
-use Rattle.page_meaning.specs.Tasks.{text_of}
+use Rattle.page_ground.specs.LuaMeaningQuestions.{Answer}
+use Rattle.page_ground.specs.PageMeaningTasks.{text_of}
 use Rattle.page_tasks.specs.declared.task.Task.TheVariants as task
 use Rattle.page_tasks.specs.Going.{Halts, GoesOn, ToldFrom}
 use Rattle.page_tasks.specs.Falling.{Falls}

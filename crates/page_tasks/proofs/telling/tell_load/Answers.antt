@@ -1,5 +1,5 @@
 use Rattle.std.proofs.Common.{◌≡◌, ℕ, ◌+◌}
-use Rattle.lua_meaning.specs.Questions.{Answer}
+use Rattle.page_ground.specs.LuaMeaningQuestions.{Answer}
 use Rattle.lua_machine.specs.Events.{answer_outcome}
 use Rattle.page_tasks.specs.declared.task.Task.TheVariants as task
 use Rattle.page_tasks.specs.Going.{Halts, GoesOn, ToldFrom}

@@ -1,8 +1,8 @@
 use Rattle.std.proofs.Common.{refl, []}
 use Rattle.page_run.specs.Outcome.{Goes}
-use Rattle.lua_heap.specs.Reach.{nowhere}
-use Rattle.lua_meaning.specs.Questions.{NoPage}
-use Rattle.lua_points.specs.Told.{as_none}
+use Rattle.lua_machine.specs.LuaHeapReach.{nowhere}
+use Rattle.page_ground.specs.LuaMeaningQuestions.{NoPage}
+use Rattle.page_ground.specs.LuaPointsTold.{as_none}
 use Rattle.page_tasks.proofs.Answering.{at_once, no_calls_fit}
 use Rattle.page_tasks.proofs.telling.tell_none.Goals as goal
 

@@ -2,10 +2,10 @@ use Rattle.std.proofs.Common.{◌≡◌, List, ℕ, ◌+◌, refl, subst, [], �
 use Rattle.std.specs.Prelude.{IfOk}
 use Rattle.page_run.specs.Outcome.{Goes}
 use Rattle.page_run.specs.State.{Gives}
-use Rattle.lua_heap.specs.Reach.{nowhere}
-use Rattle.lua_heap.specs.Value.{Text}
-use Rattle.lua_meaning.specs.Questions.{Expanded}
-use Rattle.lua_points.specs.Told.{as_text}
+use Rattle.lua_machine.specs.LuaHeapReach.{nowhere}
+use Rattle.lua_code.specs.LuaHeapValue.{Text}
+use Rattle.page_ground.specs.LuaMeaningQuestions.{Expanded}
+use Rattle.page_ground.specs.LuaPointsTold.{as_text}
 use Rattle.page_tasks.specs.Going.{GoesOnWith}
 use Rattle.page_tasks.proofs.Answering.{at_once, no_calls_fit}
 use Rattle.page_tasks.proofs.telling.tell_text.Goals as goal

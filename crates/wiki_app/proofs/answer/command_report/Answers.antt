@@ -1,8 +1,8 @@
 use Rattle.std.proofs.Common.{◌≡◌, ◌∙◌, List, ap, sym, subst, rules}
 use Rattle.wk_base.specs.declared.title.Title.{Title}
 use Rattle.wiki_output.specs.declared.made.Form.{Form}
-use Rattle.wiki_texts.specs.declared.raw.RawPage.{RawPage}
-use Rattle.wiki_texts.specs.Modules.{AreMeantBy}
+use Rattle.wiki_batch.specs.WikiTextsDeclaredRawRawPage.{RawPage}
+use Rattle.wiki_batch.specs.WikiTextsModules.{AreMeantBy}
 use Rattle.wiki_app.specs.Pages.{raw_pages, titles_of, form_of}
 use Rattle.wiki_app.specs.Report.{wiki_report}
 use Rattle.wiki_app.proofs.answer.command_report.Goals as goal

@@ -1,5 +1,5 @@
 use Rattle.std.proofs.Common.{◌≡◌, ◌∙◌, List, ap, map, rules}
-use Rattle.page_driver.specs.declared.wiki.Page.{Page}
+use Rattle.wiki_batch.specs.PageDriverDeclaredWikiPage.{Page}
 use Rattle.wiki_output.specs.declared.made.Made.{Made}
 use Rattle.wiki_output.specs.Report.{done_report}
 use Rattle.wiki_app.specs.Pages.{made_page, made_pages}

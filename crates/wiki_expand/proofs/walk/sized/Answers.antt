@@ -1,5 +1,5 @@
 use Rattle.std.proofs.Common.{◌∙◌, cond, length, ap, sym}
-use Rattle.expand_meaning.specs.Texts.{size_text}
+use Rattle.expand_texts.specs.ExpandMeaningTexts.{size_text}
 use Rattle.wiki_expand.proofs.Moves.{bytes_taken, bytes_short, leads_on, stays}
 use Rattle.wiki_expand.proofs.walk.sized.Goals as goal
 

@@ -1,6 +1,6 @@
 use Rattle.std.proofs.Common.{ap}
 use Rattle.wiki_expand.specs.Forests.{trees_in}
-use Rattle.expand_meaning.specs.Expand.{onward}
+use Rattle.expand_texts.specs.ExpandMeaningExpand.{onward}
 use Rattle.wiki_expand.proofs.walk.walk.Goals as goal
 
 pub returns-clause-starts : goal.returns-clause-starts

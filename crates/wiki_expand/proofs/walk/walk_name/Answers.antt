@@ -1,7 +1,7 @@
 use Rattle.std.proofs.Common.{ap}
 use Rattle.wiki_expand.specs.Forests.{trees_in}
-use Rattle.expand_meaning.specs.Places.{name_in}
-use Rattle.expand_meaning.specs.Expand.{onward}
+use Rattle.expand_texts.specs.ExpandMeaningPlaces.{name_in}
+use Rattle.expand_texts.specs.ExpandMeaningExpand.{onward}
 use Rattle.wiki_expand.proofs.walk.walk_name.Goals as goal
 
 pub returns-clause-starts : goal.returns-clause-starts

@@ -1,4 +1,4 @@
-use Rattle.lua_syntax.specs.View.{chunk_view}
+use Rattle.lua_parser.specs.LuaSyntaxView.{chunk_view}
 use Rattle.wiki_texts.proofs.modules.code_of.Goals as goal
 
 pub returns-in_ok-protos-in-Ok : goal.returns-in_ok-protos-in-Ok

@@ -1,6 +1,6 @@
 use Rattle.std.proofs.Common.{◌∙◌, ap}
 use Rattle.lua_code.specs.Held.{modules_seen}
-use Rattle.wk_base.specs.Titles.{title_text}
+use Rattle.lua_syntax.specs.WkBaseTitles.{title_text}
 use Rattle.lua_code.proofs.HeldLaws.{seen}
 use Rattle.lua_code.proofs.modules.Modules.get.Goals as goal
 

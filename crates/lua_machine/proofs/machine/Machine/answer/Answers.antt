@@ -1,10 +1,10 @@
 use Rattle.std.proofs.Common.{◌∙◌, ap}
-use Rattle.lua_heap.specs.Proc.{Proc}
-use Rattle.lua_heap.specs.Heap.{Heap}
-use Rattle.lua_slots.specs.Slots.{with_heap}
-use Rattle.lua_points.proofs.Clauses.{clause_of_answer}
-use Rattle.lua_state.specs.Seen.{slots_of, frames_of}
-use Rattle.lua_state.proofs.Staying.{state_later, slots_stay}
+use Rattle.lua_code.specs.LuaHeapProc.{Proc}
+use Rattle.lua_code.specs.LuaHeapHeap.{Heap}
+use Rattle.lua_blocks.specs.LuaSlotsSlots.{with_heap}
+use Rattle.lua_home_laws.proofs.LuaPointsClauses.{clause_of_answer}
+use Rattle.lua_blocks.specs.LuaStateSeen.{slots_of, frames_of}
+use Rattle.lua_blocks.proofs.LuaStateStaying.{state_later, slots_stay}
 use Rattle.lua_machine.specs.Events.{answer_outcome}
 use Rattle.lua_machine.proofs.machine.Machine.answer.Goals as goal
 

@@ -1,7 +1,7 @@
 use Rattle.std.proofs.Common.{ap}
-use Rattle.lua_slots.specs.Points.{Works}
-use Rattle.lua_stack.specs.declared.focus.Work.{Work}
-use Rattle.lua_stack.specs.Seen.{work_seen}
+use Rattle.lua_blocks.specs.LuaSlotsPoints.{Works}
+use Rattle.lua_environment.specs.LuaStackDeclaredFocusWork.{Work}
+use Rattle.lua_blocks.specs.LuaStackSeen.{work_seen}
 use Rattle.lua_machine.proofs.machine.Machine.start.Goals as goal
 
 pub returns-clause-starts : goal.returns-clause-starts

@@ -3,10 +3,10 @@ use mir.Val.{SFits}
 use mir.Syntax.{w64}
 use Rattle.std.proofs.lemmas.Int.{to_z-of_z}
 use Rattle.std.proofs.lemmas.List.{drop_all}
-use Rattle.lua_heap.specs.Value.{Number}
-use Rattle.lua_slots.specs.Code.{ConstantC}
+use Rattle.lua_code.specs.LuaHeapValue.{Number}
+use Rattle.lua_code.specs.LuaSlotsCode.{ConstantC}
 use Rattle.lua_code.specs.declared.statement.Statement.TheVariants as codes
-use Rattle.lua_slots.specs.IsCode.{any_sight, IsClosure, IsExp, IsFun, IsBlock}
+use Rattle.lua_code.specs.LuaSlotsIsCode.{any_sight, IsClosure, IsExp, IsFun, IsBlock}
 use Rattle.lua_syntax.specs.View.{kind_view, stat_kind_view, expr_view, exprs_view, field_view, fields_view, stats_view, arm_view, arms_view}
 use Rattle.lua_syntax.proofs.Views.{views, expr_opens, block_opens, function_opens, stat_opens, arm_opens, kind-Nil, kind-True, kind-False, kind-Number, kind-Text, kind-Dots, kind-Function, kind-Name, kind-Index, kind-Call, kind-Method, kind-Table, kind-Binary, kind-Unary, kind-Paren, field-Item, field-Pair, stat-Assign, stat-Call, stat-Do, stat-While, stat-Repeat, stat-Each, stat-LocalFunction, stat-Local, stat-Return, stat-Break}
 use Rattle.lua_code.specs.Seen.{place_seen, expression_seen, statement_seen, block_seen}

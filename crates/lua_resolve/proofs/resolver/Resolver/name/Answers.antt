@@ -1,6 +1,6 @@
 use Rattle.std.proofs.Common.{refl, sym, subst, option_map}
 use Rattle.lua_syntax.specs.Tree.{NameE}
-use Rattle.lua_slots.specs.IsCode.{IsExp}
+use Rattle.lua_code.specs.LuaSlotsIsCode.{IsExp}
 use Rattle.lua_code.specs.Seen.{place_seen}
 use Rattle.lua_code.proofs.Views.{expression-Local, expression-Global}
 use Rattle.lua_scopes.specs.Scopes.{IsSighted}

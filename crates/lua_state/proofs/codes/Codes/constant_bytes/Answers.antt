@@ -1,4 +1,4 @@
-use Rattle.lua_state.proofs.Found.{constant_is}
+use Rattle.lua_state.proofs.FoundCode.{constant_is}
 use Rattle.lua_state.proofs.codes.Codes.constant_bytes.Goals as goal
 
 pub returns-in-Some : goal.returns-in-Some

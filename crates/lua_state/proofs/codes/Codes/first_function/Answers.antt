@@ -1,6 +1,6 @@
 use Rattle.std.proofs.Common.{ap, sym}
-use Rattle.lua_slots.specs.Code.{Protos}
-use Rattle.lua_state.proofs.Found.{function_is}
+use Rattle.lua_code.specs.LuaSlotsCode.{Protos}
+use Rattle.lua_state.proofs.FoundCode.{function_is}
 use Rattle.lua_state.proofs.codes.Codes.first_function.Goals as goal
 
 pub returns-in_ok-learn-in-Some-clause-codes : goal.returns-in_ok-learn-in-Some-clause-codes

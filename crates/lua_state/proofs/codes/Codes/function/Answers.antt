@@ -1,4 +1,4 @@
-use Rattle.lua_state.proofs.Found.{function_is}
+use Rattle.lua_state.proofs.FoundCode.{function_is}
 use Rattle.lua_state.proofs.codes.Codes.function.Goals as goal
 
 pub returns-in-Some-clause-codes : goal.returns-in-Some-clause-codes

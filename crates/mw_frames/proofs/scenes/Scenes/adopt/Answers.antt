@@ -1,5 +1,5 @@
 use Rattle.std.proofs.Common.{◌≡◌, ◌∙◌, ap, sym, subst, ℕ, List, length, slice_set, [], ◌∷◌, ◌++◌}
-use Rattle.lua_store.proofs.Changes.{on_ok, on_err, of_both}
+use Rattle.lua_basic.proofs.LuaStoreChanges.{on_ok, on_err, of_both}
 use Rattle.mw_frames.specs.Scenes.{made, FramesOf}
 use Rattle.mw_frames.specs.declared.scenes.Parent.TheVariants as kin
 use Rattle.mw_frames.specs.declared.scenes.SceneFrame.{SceneFrame}

@@ -1,4 +1,4 @@
-use Rattle.std.proofs.Common.{◌≡◌, ◌∙◌, [], sym}
+use Rattle.std.proofs.Common.{◌∙◌, [], sym}
 use Rattle.wiki_expand.specs.Pages.{setting_in}
 use Rattle.wiki_expand.specs.Forests.{trees_in}
 use Rattle.wiki_expand.specs.Standing.{work_of, work_from, doing_point}
@@ -7,7 +7,6 @@ use Rattle.wiki_expand.proofs.expander.Expander.start.Goals as goal
 
 pub returns-clause-at : goal.returns-clause-at
 returns-clause-at c =
-    let args : c.in_ok-args.args ≡ c.args.scene.args = c.in_ok-args.ensures ∙ c.as_slice-2.ensures in
     start_is (setting_in c.args.pages.now c.in_ok-page.page) (work_of c.args.pages.now c.args.source c.args.scene) (work_from (trees_in c.in_ok-trees.trees) c.in_ok-trees.template c.args.scene) _ (c.in_ok-trees.ensures c.args.scene)
-    ((λ i. doing_point c.in_ok-doing.doing (setting_in c.args.pages.now c.in_ok-page.page) (c.new.ensures i) (record { title = c.args.scene.title; args = args i; chain = (c.of_vec.ensures ∙ c.into_vec.ensures) i }))
+    ((λ i. doing_point c.in_ok-doing.doing (setting_in c.args.pages.now c.in_ok-page.page) (c.new.ensures i) (c.in_ok-scene.ensures i))
     ∙ c.in_ok-doing.ensures.begins (setting_in c.args.pages.now c.in_ok-page.page) [] c.args.scene (sym c.as_slice.ensures))

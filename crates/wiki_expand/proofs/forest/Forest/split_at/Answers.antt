@@ -1,7 +1,7 @@
 use Rattle.std.proofs.Common.{◌∙◌, ap, sym}
 use Rattle.wiki_markup.specs.Trees.{text}
 use Rattle.wiki_markup.specs.Views.{kind_seen, node_seen}
-use Rattle.expand_meaning.specs.Places.{planted}
+use Rattle.expand_texts.specs.ExpandMeaningPlaces.{planted}
 use Rattle.wiki_expand.specs.Forests.{trees_in, text_in}
 use Rattle.wiki_expand.proofs.ForestLaws.{first_is}
 use Rattle.wiki_expand.proofs.forest.Forest.split_at.Goals as goal

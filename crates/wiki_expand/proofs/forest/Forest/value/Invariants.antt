@@ -1,5 +1,5 @@
 use Rattle.std.proofs.Common.{◌≡◌, ◌≤◌}
-use Rattle.expand_meaning.specs.Places.{value_in}
+use Rattle.expand_texts.specs.ExpandMeaningPlaces.{value_in}
 use Rattle.wiki_expand.specs.Forests.{trees_in, size}
 use Rattle.wiki_expand.proofs.forest.Forest.value.Given as goal
 

@@ -1,8 +1,9 @@
-use Rattle.std.proofs.Common.{◌∙◌, arith}
-use Rattle.wk_base.specs.Space.{trim}
-use Rattle.wk_base.specs.declared.title.Namespace.TheVariants.{Module}
-use Rattle.expand_meaning.specs.Kind.{title_named}
-use Rattle.expand_meaning.specs.Expand.{module_titled}
+use Rattle.std.proofs.Common.{arith}
+use Rattle.std.proofs.lemmas.Result.{IfOk-weaker}
+use Rattle.wiki_markup.specs.WkBaseSpace.{trim}
+use Rattle.mw_frame.specs.WkBaseDeclaredTitleNamespaceTheVariants.{Module}
+use Rattle.expand_texts.specs.ExpandMeaningKind.{title_named}
+use Rattle.expand_texts.specs.ExpandMeaningExpand.{module_titled}
 use Rattle.wiki_expand.specs.Forests.{parts}
 use Rattle.wiki_expand.specs.Points.{wiki_setting, scene_in, waiting}
 use Rattle.wiki_expand.proofs.Moves.{stays}
@@ -12,6 +13,6 @@ use Rattle.wiki_expand.proofs.frame.Machine.function.Goals as goal
 
 pub returns : goal.returns
 returns c =
-    step_from c.args.wiki.now _ _ c.args.left.now _ _ _ _ _ _ _ _
-    (stays (wiki_setting c.args.wiki.now) _ _ c.args.left.now (function_starts (wiki_setting c.args.wiki.now) (module_titled (wiki_setting c.args.wiki.now) (title_named c.args.name Module)) c.args.name (parts c.args.rest) (scene_in c.args.self.now.scene) (waiting c.args.wiki.now c.args.self.now) c.new.result c.of_vec.result (trim c.args.text) c.new.ensures (c.of_vec.ensures ∙ c.in_ok-function.ensures ∙ c.in_ok-text.ensures)))
-    (omega arith) (omega arith) c.in_ok-progress.ensures
+    IfOk-weaker _ _ _ (λ r. step_from c.args.wiki.now _ _ c.args.left.now _ _ _ _ _ _ r _
+    (stays (wiki_setting c.args.wiki.now) _ _ c.args.left.now (function_starts (wiki_setting c.args.wiki.now) (module_titled (wiki_setting c.args.wiki.now) (title_named c.args.name Module)) c.args.name (parts c.args.rest) (scene_in c.args.self.now.scene) (waiting c.args.wiki.now c.args.self.now) c.new.result c.in_ok-function.function (trim c.args.text) c.new.ensures c.in_ok-function.ensures))
+    (omega arith) (omega arith)) c.arguments.ensures

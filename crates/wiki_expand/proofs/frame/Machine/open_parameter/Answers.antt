@@ -1,5 +1,5 @@
 use Rattle.std.proofs.Common.{refl, arith}
-use Rattle.expand_meaning.specs.Expand.{AParameter, parameter}
+use Rattle.expand_texts.specs.ExpandMeaningExpand.{AParameter, parameter}
 use Rattle.wiki_expand.specs.Forests.{parts}
 use Rattle.wiki_expand.specs.Points.{wiki_setting, scene_in, waiting}
 use Rattle.wiki_expand.proofs.Moves.{leads_on, stays}

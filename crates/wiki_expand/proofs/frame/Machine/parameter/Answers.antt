@@ -1,7 +1,7 @@
 use Rattle.std.proofs.Common.{◌≡◌, ◌≤◌, ◌∙◌, ap, sym, arith}
-use Rattle.wk_base.specs.Space.{trim}
-use Rattle.expand_meaning.specs.Expand.{found}
-use Rattle.expand_meaning.specs.Places.{part_in}
+use Rattle.wiki_markup.specs.WkBaseSpace.{trim}
+use Rattle.expand_texts.specs.ExpandMeaningExpand.{found}
+use Rattle.expand_texts.specs.ExpandMeaningPlaces.{part_in}
 use Rattle.wiki_expand.specs.Forests.{trees_in, parts, size, option_trees}
 use Rattle.wiki_expand.specs.Points.{wiki_setting, scene_in, waiting}
 use Rattle.wiki_expand.proofs.CallLaws.{parameter_found, parameter_default}

@@ -1,0 +1,13 @@
+pub use Rattle.lua_code.specs.LuaSlotsLoops as LuaSlotsLoops
+pub use Rattle.lua_code.specs.LuaSlotsMoves as LuaSlotsMoves
+pub use Rattle.lua_state.specs.Charges as LuaStateCharges
+pub use Rattle.lua_state.specs.LuaSlotsCalls as LuaSlotsCalls
+pub use Rattle.lua_state.specs.LuaStackLevels as LuaStackLevels
+pub use Rattle.lua_state.specs.Of as LuaStateOf
+pub use Rattle.lua_state.specs.Seen as LuaStateSeen
+pub use Rattle.lua_state.specs.Worlds as LuaStateWorlds
+pub use Rattle.lua_state.specs.declared.codes.Codes as LuaStateDeclaredCodesCodes
+pub use Rattle.lua_state.specs.declared.codes.World as LuaStateDeclaredCodesWorld
+pub use Rattle.lua_state.specs.declared.turn.Turn.TheVariants as LuaStateDeclaredTurnTurnTheVariants
+pub use Rattle.page_run.specs.Outcome as PageRunOutcome
+pub use Rattle.page_run.specs.WkBaseDeclaredLeftLeft as WkBaseDeclaredLeftLeft
