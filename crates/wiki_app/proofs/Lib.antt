@@ -1,3 +1,2 @@
 pub mod PageLemmas
-pub mod PutLemmas
 pub mod RunLemmas

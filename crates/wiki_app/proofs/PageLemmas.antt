@@ -5,10 +5,10 @@ use Rattle.std.proofs.lemmas.List.Elements.{All-nil, All-cons}
 use Rattle.wk_base.specs.declared.title.Title.{Title}
 use Rattle.wiki_expand.specs.Entries.{Entry}
 use Rattle.wiki_expand.specs.Pages.{Pages, find_page}
-use Rattle.wiki_output.specs.declared.report.Report.{Report}
-use Rattle.wiki_output.specs.Report.{missing_report}
+use Rattle.wk_tool.specs.declared.report.Report.{Report}
+use Rattle.wk_tool.specs.Report.{missing_report}
 use Rattle.wiki_app.specs.Pages.{first_missing}
-use Rattle.wiki_app.specs.Report.{unless_missing}
+use Rattle.wiki_app.specs.Report.{tool, unless_missing}
 
 first_held : (map : Pages) (title : Title) (titles : List Title) (o : Option Entry) → find_page map title ≡ o → (if is_some o then first_missing map titles else Some title) ≡ None → IsSome (find_page map title) × (first_missing map titles ≡ None)
 first_held map title titles None s e = absurd cc
@@ -22,7 +22,7 @@ all_held map (title ∷ titles) e =
     All-cons (λ title. IsSome (find_page map title)) title titles both.0 (all_held map titles both.1)
 
 -- a title that is missing
-pub missing_case : (report other : Report) (missing : Option Title) (title : Title) → report ≡ missing_report title → missing ≡ Some title → report ≡ unless_missing missing other
+pub missing_case : (report other : Report) (missing : Option Title) (title : Title) → report ≡ missing_report tool title → missing ≡ Some title → report ≡ unless_missing missing other
 missing_case report other missing title r e = r ∙ ap (λ (o : Option Title). unless_missing o other) (sym e)
 
 -- none is

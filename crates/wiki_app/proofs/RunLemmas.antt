@@ -1,43 +1,50 @@
--- What a run leaves, whatever modules the texts mean.
-use Rattle.std.proofs.Common.{◌≡◌, ◌∙◌, ℕ, ◌==◌, Bool, true, false, ◌⊎◌, inl, inr, List, [], refl, sym, ap, subst, append-nil, true≢false, arith}
-use Rattle.std.specs.Prelude.{Option, Some, None, IfSome, option_map, Result, Ok, Err, OnOk, OnErr, is_ok, if◌then◌else◌}
-use Rattle.wk_shelf.specs.declared.folder.FolderPage.{FolderPage}
-use Rattle.wk_shelf.specs.Files.{StoredFile}
-use Rattle.wk_shelf.specs.Put.{Puts, PutsSome}
+-- Whatever modules the texts mean, one report is due at most.
+use Rattle.std.proofs.Common.{◌≡◌, ◌∙◌, ℕ, true, false, List, ◌∷◌, refl, sym, ap, subst}
+use Rattle.std.specs.Prelude.{Option, Some, None, IfSome, IfOk, is_some, option_map, Result, Ok, Err}
+use Rattle.wk_tool.specs.WkShelfDeclaredFolderFolderPage.{FolderPage}
+use Rattle.wk_tool.specs.WkShelfFiles.{StoredFile}
+use Rattle.wk_tool.specs.declared.report.Report.{Report}
+use Rattle.wk_tool.specs.declared.report.Status.{Status}
+use Rattle.wk_tool.specs.declared.report.Status.TheVariants.{Done, NoSuchPage, SourceFault}
+use Rattle.wk_tool.specs.declared.ending.Unread.{Unread}
+use Rattle.wk_tool.specs.declared.ending.Unread.TheVariants.{Failed, NoMemory}
+use Rattle.wk_tool.specs.Report.{status_code, usage_report, source_report}
+use Rattle.wk_tool.specs.Ending.{is_among, is_cut, Prepares}
 use Rattle.wiki_words.specs.declared.command.Command.{Command}
 use Rattle.wiki_words.specs.Command.{command_of}
-use Rattle.wiki_output.specs.declared.report.Report.{Report}
-use Rattle.wiki_output.specs.declared.report.Status.{Status}
-use Rattle.wiki_output.specs.declared.report.Status.TheVariants.{Done, NoSuchPage, SourceFault}
-use Rattle.wiki_output.specs.Report.{status_code, read_line, usage_line, usage_report, fault_report}
 use Rattle.wiki_batch.specs.LuaMeaningWorld.{Modules}
 use Rattle.wiki_batch.specs.WikiTextsModules.{AreMeantBy}
 use Rattle.wiki_app.specs.Pages.{wiki_for, raw_pages}
-use Rattle.wiki_app.specs.Report.{report_of, expected, expected_for, AreMeantIn, AreMeantFor, AreMeant, IfExpected}
-use Rattle.wiki_app.specs.Outcome.{is_answer, Answers, Begins, Completes, IsOfFolder, IsWork, ReadsFolder}
+use Rattle.wiki_app.specs.Report.{tool, usage, statuses, is_command, report_of, expected_for, AreMeantIn, AreMeantFor, HasModules, IsDue, IsOfFolder, IsWork, ReadsFolder, ReadFailed}
 
--- ---- the report that is due
+-- ---- what words come to, by the command that they are
 
--- where something is due, it is this report
-abbrev pub IsDue : List (List ℕ) → Option (List StoredFile) → Report → Type 0
-IsDue words files report = IfExpected words files (λ due. due ≡ report)
+some_back : {A : Type 0} {x y : A} → Some x ≡ Some y → x ≡ y
+some_back e = cc
 
-pub for_due : (words : List (List ℕ)) (files : Option (List StoredFile)) (report : Report) (P : Report → Type 0) → IsDue words files report → P report → IfExpected words files P
-for_due words files report P due p modules mean = go (expected modules words files) (due modules mean)
-  where
-    go : (o : Option Report) → IfSome o (λ due. due ≡ report) → IfSome o P
-    go None h = tt
-    go (Some r) h = subst P (sym h) p
+abbrev IsDueFor : Option Command → Option (List StoredFile) → Report → Type 0
+IsDueFor command files report = (modules : Modules) × AreMeantFor command files modules × (expected_for modules command files ≡ Some report)
 
-pub for_any : (words : List (List ℕ)) (files : Option (List StoredFile)) (P : Report → Type 0) → ((report : Report) → P report) → IfExpected words files P
-for_any words files P p modules mean = go (expected modules words files)
-  where
-    go : (o : Option Report) → IfSome o P
-    go None = tt
-    go (Some r) = p r
+abbrev Prepared : Result Report Unread → Option Command → Option (List StoredFile) → Type 0 → Type 0
+Prepared work command files rose = Prepares work (is_some command) statuses (IsDueFor command files) (ReadsFolder command × rose)
 
-pub usage_due : (words : List (List ℕ)) (files : Option (List StoredFile)) → None ≡ command_of words → IsDue words files usage_report
-usage_due words files e = subst (λ (o : Option Command). (modules : Modules) → AreMeantFor o files modules → IfSome (expected_for modules o files) (λ due. due ≡ usage_report)) e (λ modules mean. refl)
+-- ---- no command
+
+no_modules : Modules
+no_modules title = None
+
+only_usage : (files : Option (List StoredFile)) (due : Report) → IsDueFor None files due → due ≡ usage_report usage
+only_usage files due (modules, mean, is) = sym (some_back is)
+
+-- (whatever a failed read is)
+pub usage_prepared : (words : List (List ℕ)) (files : Option (List StoredFile)) → None ≡ command_of words → Prepares (Ok (usage_report usage)) (is_command words) statuses (IsDue words files) (Unit {0})
+usage_prepared words files e =
+    subst (λ (o : Option Command). Prepared (Ok (usage_report usage)) o files (Unit {0})) e (only_usage files, refl, refl, (λ h. refl), (λ h. refl))
+
+pub usage_meant : (words : List (List ℕ)) (files : Option (List StoredFile)) → None ≡ command_of words → HasModules words files
+usage_meant words files e = (no_modules, subst (λ (o : Option Command). AreMeantFor o files no_modules) e tt)
+
+-- ---- a command
 
 -- the pages of a wiki, or a fault
 abbrev pub Found : Type 0
@@ -47,117 +54,58 @@ Found = Result (List FolderPage) (List ℕ)
 abbrev pub IsReportOf : Command → Report → Found → Type 0
 IsReportOf c report wiki = (modules : Modules) → AreMeantIn wiki modules → report ≡ report_of modules c wiki
 
-pub command_due : (words : List (List ℕ)) (files : Option (List StoredFile)) (c : Command) (report : Report) → Some c ≡ command_of words → IfSome (wiki_for c.work files) (IsReportOf c report) → IsDue words files report
-command_due words files c report e h = subst (λ (o : Option Command). (modules : Modules) → AreMeantFor o files modules → IfSome (expected_for modules o files) (λ due. due ≡ report)) e (go (wiki_for c.work files) h)
-  where
-    go : (wiki : Option Found) → IfSome wiki (IsReportOf c report) → (modules : Modules) → IfSome wiki (λ w. AreMeantIn w modules) → IfSome (option_map (report_of modules c) wiki) (λ due. due ≡ report)
-    go None h modules mean = tt
-    go (Some w) h modules mean = sym (h modules mean)
-
--- the words read a folder
-pub reads_folder : (words : List (List ℕ)) (c : Command) → Some c ≡ command_of words → IsOfFolder c.work → ReadsFolder (command_of words)
-reads_folder words c e h = subst (λ (o : Option Command). ReadsFolder o) e h
-
--- ---- there are such modules
-
-no_modules : Modules
-no_modules title = None
-
-pub usage_meant : (words : List (List ℕ)) (files : Option (List StoredFile)) → None ≡ command_of words → (modules : Modules) × AreMeant words files modules
-usage_meant words files e = (no_modules, subst (λ (o : Option Command). AreMeantFor o files no_modules) e tt)
-
 abbrev pub AreThere : Found → Type 0
 AreThere wiki = (modules : Modules) × AreMeantIn wiki modules
 
-pub command_meant : (words : List (List ℕ)) (files : Option (List StoredFile)) (c : Command) → Some c ≡ command_of words → IfSome (wiki_for c.work files) AreThere → (modules : Modules) × AreMeant words files modules
-command_meant words files c e h = let found = go (wiki_for c.work files) h in (found.0, subst (λ (o : Option Command). AreMeantFor o files found.0) e found.1)
+only_due : (command : Command) (files : Option (List StoredFile)) (report : Report) → IfSome (wiki_for command.work files) (IsReportOf command report) → (due : Report) → IsDueFor (Some command) files due → due ≡ report
+only_due command files report h due (modules, mean, is) = go (wiki_for command.work files) h mean is
   where
-    go : (wiki : Option Found) → IfSome wiki AreThere → (modules : Modules) × IfSome wiki (λ w. AreMeantIn w modules)
-    go None h = (no_modules, tt)
-    go (Some w) h = h
+    go : (wiki : Option Found) → IfSome wiki (IsReportOf command report) → IfSome wiki (λ w. AreMeantIn w modules) → option_map (report_of modules command) wiki ≡ Some due → due ≡ report
+    go None h mean is = absurd cc
+    go (Some w) h mean is = sym (some_back is) ∙ sym (h modules mean)
 
--- ---- statuses
+among : (status : Status) → IsWork status → is_among (status_code status) (0 ∷ statuses) ≡ true
+among Done h = refl
+among NoSuchPage h = refl
+among SourceFault h = refl
+among _ h = absurd h
 
--- one that is no answer
-pub no_answer : {A : Type 0} (status code : ℕ) → status ≡ code → is_answer code ≡ false → is_answer status ≡ true → A
-no_answer status code e n h = absurd (true≢false (sym h ∙ ap is_answer e ∙ n))
+uncut : (status : Status) → IsWork status → is_cut (status_code status) ≡ false
+uncut Done h = refl
+uncut NoSuchPage h = refl
+uncut SourceFault h = refl
+uncut _ h = absurd h
 
--- the status behind a put
-abbrev pub IsBehind : Bool → ℕ → ℕ → Type 0
-IsBehind put code status = status ≡ (if put then code else 5)
+no_usage : {A : Type 0} (status : Status) → IsWork status → status_code status ≡ 2 → A
+no_usage Done h e = absurd cc
+no_usage NoSuchPage h e = absurd cc
+no_usage SourceFault h e = absurd cc
+no_usage _ h e = absurd h
 
--- where neither is an answer
-pub never : {A : Type 0} (put : Bool) (code status : ℕ) → IsBehind put code status → is_answer code ≡ false → is_answer status ≡ true → A
-never true code status e n h = no_answer status code e n h
-never false code status e n h = no_answer status 5 e refl h
+module _ (words : List (List ℕ)) (files : Option (List StoredFile)) (command : Command) (work : Result Report Unread) (is : Some command ≡ command_of words) where
+  -- what the work on a command came to
+  pub work_prepared : (rose : Type 0) → IfOk work (λ report. IfSome (wiki_for command.work files) (IsReportOf command report)) → IfOk work (λ report. IsWork report.status) → (work ≡ Err Failed → IsOfFolder command.work × rose) → Prepares work (is_command words) statuses (IsDue words files) (ReadFailed words rose)
+  work_prepared rose h ends cause = subst (λ (o : Option Command). Prepared work o files rose) is (go work h ends cause)
+    where
+      go : (work : Result Report Unread) → IfOk work (λ report. IfSome (wiki_for command.work files) (IsReportOf command report)) → IfOk work (λ report. IsWork report.status) → (work ≡ Err Failed → IsOfFolder command.work × rose) → Prepared work (Some command) files rose
+      go (Ok report) h ends cause = (only_due command files report h, among report.status ends, uncut report.status ends, (λ e. no_usage report.status ends e), (λ no. absurd cc))
+      go (Err Failed) h ends cause = (refl, cause refl)
+      go (Err NoMemory) h ends cause = tt
 
--- want of memory is no fault of a put
-pub no_write_fault : {A : Type 0} (status : ℕ) → status ≡ 6 → status ≡ 5 → A
-no_write_fault status e h = let wrong : 6 ≡ 5 = sym e ∙ h in absurd (omega (arith, wrong))
+  -- there are modules that the texts mean
+  pub work_meant : IfOk work (λ _. IfSome (wiki_for command.work files) AreThere) → IfOk work (λ _. HasModules words files)
+  work_meant h = go work h
+    where
+      there : (wiki : Option Found) → IfSome wiki AreThere → (modules : Modules) × IfSome wiki (λ w. AreMeantIn w modules)
+      there None h = (no_modules, tt)
+      there (Some w) h = h
 
--- it comes behind no put
-pub never_memory : {A : Type 0} (put : Bool) (code status : ℕ) → IsBehind put code status → (code == 6) ≡ false → status ≡ 6 → A
-never_memory true code status e n h = absurd (true≢false (sym (ap (λ (k : ℕ). k == 6) (sym e ∙ h)) ∙ n))
-never_memory false code status e n h = let wrong : 5 ≡ 6 = sym e ∙ h in absurd (omega (arith, wrong))
+      found : IfSome (wiki_for command.work files) AreThere → HasModules words files
+      found h = let m = there (wiki_for command.work files) h in (m.0, subst (λ (o : Option Command). AreMeantFor o files m.0) is m.1)
 
--- the work on a command never ends with it
-pub work_status : (status : Status) → IsWork status → (status_code status == 6) ≡ false
-work_status Done w = refl
-work_status NoSuchPage w = refl
-work_status SourceFault w = refl
-work_status other w = absurd w
-
--- the put before status 4 was taken
-pub put_was : {T E : Type 0} (put : Result T E) (status : ℕ) (P : Type 0) → IsBehind (is_ok put) 4 status → status ≡ 4 → OnOk put P → P
-put_was (Ok x) status P e n h = h
-put_was (Err x) status P e n h = let wrong : 5 ≡ 4 = sym e ∙ n in absurd (omega (arith, wrong))
-
--- ---- puts
-
--- nothing is a prefix of any piece
-pub nothing : (old : Option (List ℕ)) (piece : List ℕ) → PutsSome old old piece
-nothing None piece = (0, refl)
-nothing (Some old) piece = (0, sym (append-nil old))
-
-pub puts_nothing : (old : Option (List ℕ)) → Puts old old []
-puts_nothing None = refl
-puts_nothing (Some old) = sym (append-nil old)
-
--- a report that was put
-pub answers : {T E : Type 0} (put : Result T E) (status : ℕ) (report : Report) (page message : List ℕ) (out out' err err' : Option (List ℕ)) → IsBehind (is_ok put) (status_code report.status) status → page ≡ report.out → message ≡ report.err → OnOk put (Puts out out' page) → OnOk put (Puts err err' message) → is_answer status ≡ true → Answers status out out' err err' report
-answers (Ok x) status report page message out out' err err' e p m a b h = record { status_is = e; out_is = subst (Puts out out') p a; err_is = subst (Puts err err') m b }
-answers (Err x) status report page message out out' err err' e p m a b h = no_answer status 5 e refl h
-
--- the line of usage that was put
-pub usage_answers : {T E : Type 0} (put : Result T E) (status : ℕ) (message : List ℕ) (out err err' : Option (List ℕ)) → IsBehind (is_ok put) 2 status → message ≡ usage_line → OnOk put (Puts err err' message) → is_answer status ≡ true → Answers status out out err err' usage_report
-usage_answers put status message out err err' e m b h = answers put status usage_report [] message out out err err' e refl m (any put) b h
-  where
-    any : {T E : Type 0} (put : Result T E) → OnOk put (Puts out out [])
-    any (Ok x) = puts_nothing out
-    any (Err x) = tt
-
--- some of a report that was put
-pub begins : (failed : Type 0) (report : Report) (page message : List ℕ) (out out' err err' : Option (List ℕ)) → page ≡ report.out → message ≡ report.err → PutsSome out out' page → PutsSome err err' message → Begins failed out out' err err' report
-begins failed report page message out out' err err' p m a b = record { out_begins = subst (PutsSome out out') p a; err_begins = inl (subst (PutsSome err err') m b) }
-
--- none of it
-pub begins_nothing : (failed : Type 0) (out err : Option (List ℕ)) (report : Report) → Begins failed out out err err report
-begins_nothing failed out err report = record { out_begins = nothing out report.out; err_begins = inl (nothing err report.err) }
-
--- the line that a read failed, or some of it
-pub begins_with_read_line : (failed : Type 0) (out err err' : Option (List ℕ)) → failed → PutsSome err err' read_line → (report : Report) → Begins failed out out err err' report
-begins_with_read_line failed out err err' h some report = record { out_begins = nothing out report.out; err_begins = inr (h, some) }
-
--- ---- where no count rose, the status is that of the report
-
--- a put that fails has a count that rose
-pub completes : {T E : Type 0} (put : Result T E) (status : ℕ) (report : Report) (rose : Type 0) → IsBehind (is_ok put) (status_code report.status) status → OnErr put rose → (rose → ⊥) → Completes status report
-completes (Ok x) status report rose e h no_fault = inl e
-completes (Err x) status report rose e h no_fault = absurd (no_fault h)
-
-pub neither : (a b : Type 0) → (a → ⊥) → (b → ⊥) → a ⊎ b → ⊥
-neither a b x y (inl h) = x h
-neither a b x y (inr h) = y h
+      go : (work : Result Report Unread) → IfOk work (λ _. IfSome (wiki_for command.work files) AreThere) → IfOk work (λ _. HasModules words files)
+      go (Ok report) h = found h
+      go (Err e) h = tt
 
 -- ---- a command's report, from what the folder gave
 
@@ -176,7 +124,7 @@ module _ (wiki : Option Found) (command : Command) (report : Report) where
       go None is = tt
       go (Some w) is = (h.0, subst (λ (r : Found). AreMeantIn r h.0) (sym is) h.1)
 
-  pub of_fault : (line : List ℕ) → IfSome wiki (λ w. w ≡ Err line) → report ≡ fault_report line → IfSome wiki (IsReportOf command report)
+  pub of_fault : (line : List ℕ) → IfSome wiki (λ w. w ≡ Err line) → report ≡ source_report tool line → IfSome wiki (IsReportOf command report)
   of_fault line is e = go wiki is
     where
       go : (wiki : Option Found) → IfSome wiki (λ w. w ≡ Err line) → IfSome wiki (IsReportOf command report)

@@ -3,9 +3,9 @@ use Rattle.std.specs.Prelude.{ℕ, ◌-◌, if◌then◌else◌, is_some, List, 
 use Rattle.wk_base.specs.declared.left.Left.{Left}
 use Rattle.wk_base.specs.declared.left.Limits.{Limits}
 use Rattle.wk_base.specs.declared.title.Title.{Title}
-use Rattle.wk_shelf.specs.declared.folder.FolderPage.{FolderPage}
-use Rattle.wk_shelf.specs.Files.{StoredFile}
-use Rattle.wk_shelf.specs.Folder.{files_of, wiki_of}
+use Rattle.wk_tool.specs.WkShelfDeclaredFolderFolderPage.{FolderPage}
+use Rattle.wk_tool.specs.WkShelfFiles.{StoredFile}
+use Rattle.wk_tool.specs.WkShelfFolder.{files_of, wiki_of}
 use Rattle.wiki_words.specs.declared.command.Asked.{Asked}
 use Rattle.wiki_words.specs.declared.command.Asked.TheVariants.{Titles, AllPages}
 use Rattle.wiki_words.specs.declared.command.Work.{Work}

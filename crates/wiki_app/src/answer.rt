@@ -7,8 +7,7 @@ ghost use Rattle.wiki_expand.specs.Pages.{find_page};
 ghost use Rattle.wiki_batch.specs.Batch.{AreOf, pages_of};
 ghost use Rattle.wiki_output.specs.Report.{done_report};
 ghost use Rattle.wiki_app.specs.Pages.{raw_pages, made_pages};
-ghost use Rattle.wiki_app.specs.Report.{titles_report, wiki_report, report_of};
-ghost use Rattle.wiki_app.specs.Outcome.{IsWork};
+ghost use Rattle.wiki_app.specs.Report.{titles_report, wiki_report, report_of, IsWork};
 
 use crate::pages::{first_missing, form_of, made_pages, raw_pages, titles_of};
 use std::alloc::Global;
@@ -16,10 +15,13 @@ use std::hash::RandomState;
 use std::mem;
 use std::thread::Threads;
 use wiki_batch::{Gate, RawPage, Wiki, expand_all, load};
-use wiki_output::{Form, Report, done_report, missing_report};
+use wiki_output::{Form, done_report};
 use wiki_words::{Command, Settings};
 use wk_base::{List, NoMemory, Title};
-use wk_shelf::FolderPage;
+use wk_tool::{FolderPage, Report, missing_report};
+
+/// The name that stands before the colon in a line on standard error.
+pub const TOOL: &[u8] = b"wikiexpand";
 
 /// What held titles give on a wiki: their pages in this form.
 fn expanded_report<R: Threads + Sync, G: Gate + Sync>(
@@ -63,7 +65,7 @@ fn titles_report<R: Threads + Sync, G: Gate + Sync>(
 {
     match first_missing(&wiki.pages, titles) {
         Some(title) => {
-            let report = missing_report(alloc, title)?;
+            let report = missing_report(alloc, TOOL, title)?;
             Ok(report)
         }
         None => {

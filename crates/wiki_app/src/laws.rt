@@ -1,6 +1,6 @@
 //! What is written hangs on the folder, the pages and their limits alone.
 ghost use Rattle.std.specs.Prelude.{◌≡◌, ℕ, List, Result};
-ghost use Rattle.wk_shelf.specs.declared.folder.FolderPage.{FolderPage};
+ghost use Rattle.wk_tool.specs.WkShelfDeclaredFolderFolderPage.{FolderPage};
 ghost use Rattle.wiki_words.specs.declared.command.Work.{Work};
 ghost use Rattle.wiki_words.specs.declared.settings.Settings.{Settings};
 ghost use Rattle.wiki_batch.specs.LuaMeaningWorld.{Modules};

@@ -1,9 +1,9 @@
 //! The pages that a command is about, and what is told of those that are expanded.
 ghost use Rattle.std.specs.Prelude.{◌≡◌, map, option_map, Ok, Err, IfOk, IfErr, IfSome};
-ghost use Rattle.wk_shelf.specs.Causes.{Rose};
-ghost use Rattle.wk_shelf.specs.FolderFaults.{source_line};
-ghost use Rattle.wiki_app.specs.Outcome.{IsOfFolder};
+ghost use Rattle.wk_tool.specs.WkShelfCauses.{Rose};
+ghost use Rattle.wk_tool.specs.WkShelfFolderFaults.{source_line};
 ghost use Rattle.wiki_app.specs.Pages.{wiki_for, titles_of, form_asked, form_of, raw_page, first_missing, used_of, made_page};
+ghost use Rattle.wiki_app.specs.Report.{IsOfFolder};
 
 use std::alloc::Global;
 use std::hash::RandomState;
@@ -12,7 +12,7 @@ use wiki_expand::PageMap;
 use wiki_output::{Form, Made, Used, demo_pages, in_text_order, shown_titles};
 use wiki_words::{Asked, Work};
 use wk_base::{Left, Limits, List, NoMemory, Title};
-use wk_shelf::{FolderFault, FolderPage, Shelf, read_folder};
+use wk_tool::{FolderFault, FolderPage, Shelf, read_folder};
 
 /// The pages of the wiki: those of a folder, or those that the program makes.
 pub fn pages_for<S: Shelf>(

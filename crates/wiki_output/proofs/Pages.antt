@@ -1,7 +1,7 @@
 -- Pages and titles one behind another.
 use Rattle.std.proofs.Common.{◌≡◌, ℕ, ◌+◌, ◌++◌, List, [], ◌∷◌, refl, add-one}
 use Rattle.std.specs.BTreeSet.{insert_key}
-use Rattle.wk_shelf.specs.WkBaseDeclaredTitleTitle.{Title}
+use Rattle.wk_tool.specs.WkBaseDeclaredTitleTitle.{Title}
 use Rattle.wiki_output.specs.declared.choice.Titled.{Titled}
 use Rattle.wiki_output.specs.Choice.{by_text, titled, with_titles}
 use Rattle.wiki_output.specs.Demo.{demo_page, first_pages}

@@ -4,11 +4,11 @@ use Rattle.std.specs.declared.cmp.Ordering.{Ordering}
 use Rattle.std.specs.Ordering.{nat_cmp}
 use Rattle.std.specs.Cmp.Lexicographic.{slice_cmp}
 use Rattle.std.specs.BTreeSet.{insert_key}
-use Rattle.wk_shelf.specs.WkBaseDeclaredTitleNamespace.{Namespace}
-use Rattle.wk_shelf.specs.WkBaseDeclaredTitleNamespaceTheVariants.{Template, Module}
-use Rattle.wk_shelf.specs.WkBaseDeclaredTitleTitle.{Title}
-use Rattle.wk_shelf.specs.WkBaseTitles.{title_text}
-use Rattle.wk_shelf.specs.declared.folder.FolderPage.{FolderPage}
+use Rattle.wk_tool.specs.WkBaseDeclaredTitleNamespace.{Namespace}
+use Rattle.wk_tool.specs.WkBaseDeclaredTitleNamespaceTheVariants.{Template, Module}
+use Rattle.wk_tool.specs.WkBaseDeclaredTitleTitle.{Title}
+use Rattle.wk_tool.specs.WkBaseTitles.{title_text}
+use Rattle.wk_tool.specs.WkShelfDeclaredFolderFolderPage.{FolderPage}
 use Rattle.wiki_output.specs.declared.choice.Titled.{Titled}
 
 -- templates and modules are there for other pages

@@ -1,8 +1,8 @@
 -- A wiki that the program makes itself: so many pages, with a template and a module.
 use Rattle.std.specs.Prelude.{ℕ, zero, suc, List, [], ◌∷◌, ◌++◌, codes}
 use Rattle.std.specs.Fmt.{decimal}
-use Rattle.wk_shelf.specs.WkBaseDeclaredTitleNamespaceTheVariants.{Main, Template, Module}
-use Rattle.wk_shelf.specs.declared.folder.FolderPage.{FolderPage}
+use Rattle.wk_tool.specs.WkBaseDeclaredTitleNamespaceTheVariants.{Main, Template, Module}
+use Rattle.wk_tool.specs.WkShelfDeclaredFolderFolderPage.{FolderPage}
 
 abbrev pub demo_text : ℕ → List ℕ
 demo_text k = codes "{{Row|" ++ decimal k ++ codes "|n={{#invoke:Sum|add|" ++ decimal k ++ codes "|7}}}}"

@@ -1,7 +1,7 @@
 -- What is written of pages that were expanded.
 use Rattle.std.specs.Prelude.{ℕ, ◌+◌, Bool, true, false, List, [], ◌∷◌, ◌++◌, length, codes}
 use Rattle.std.specs.Fmt.{decimal}
-use Rattle.wk_shelf.specs.WkBaseTitles.{title_text}
+use Rattle.wk_tool.specs.WkBaseTitles.{title_text}
 use Rattle.wiki_output.specs.declared.made.Made.{Made}
 use Rattle.wiki_output.specs.declared.made.Used.{Used}
 use Rattle.wiki_output.specs.declared.made.Form.{Form}

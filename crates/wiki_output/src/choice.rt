@@ -6,7 +6,7 @@ ghost use Rattle.wiki_output.specs.Choice.{is_part, by_text, titled, shown_title
 use std::alloc::Global;
 use std::cmp::Ordering;
 use std::collections::BTreeSet;
-use wk_shelf::{Bytes, FolderPage, List, Namespace, NoMemory, Title};
+use wk_tool::{Bytes, FolderPage, List, Namespace, NoMemory, Title};
 
 /// A title and its text, in the order of texts.
 #[derive(Drop)]

@@ -2,9 +2,9 @@
 ghost use Rattle.std.specs.Prelude.{◌≡◌, IfOk};
 ghost use Rattle.wiki_output.specs.Demo.{demo_text, demo_page, first_pages, demo_pages};
 
-use crate::putting::{put, put_number};
+use crate::putting::put_number;
 use std::alloc::Global;
-use wk_shelf::{Bytes, FolderPage, List, Namespace, NoMemory, Title};
+use wk_tool::{Bytes, FolderPage, List, Namespace, NoMemory, Title, put_bytes};
 
 fn page(alloc: Global, ns: Namespace, name: &[u8], text: &[u8]) -> Result<FolderPage, NoMemory>
     ensures { IfOk result (λ page. page ≡ record { title = record { ns = ns; name = name.now }; bytes = text.now }) }
@@ -22,11 +22,11 @@ fn demo_text(alloc: Global, number: u64) -> Result<Vec<u8>, NoMemory>
     ensures { IfOk result (λ text. text.items ≡ demo_text number) }
 {
     let mut text = Vec::new(alloc);
-    put(&mut text, b"{{Row|")?;
+    put_bytes(&mut text, b"{{Row|")?;
     put_number(&mut text, number)?;
-    put(&mut text, b"|n={{#invoke:Sum|add|")?;
+    put_bytes(&mut text, b"|n={{#invoke:Sum|add|")?;
     put_number(&mut text, number)?;
-    put(&mut text, b"|7}}}}")?;
+    put_bytes(&mut text, b"|7}}}}")?;
     Ok(text)
 }
 
@@ -35,7 +35,7 @@ fn demo_page(alloc: Global, number: u64) -> Result<FolderPage, NoMemory>
     ensures { IfOk result (λ page. page ≡ demo_page number) }
 {
     let mut name = Vec::new(alloc);
-    put(&mut name, b"Page ")?;
+    put_bytes(&mut name, b"Page ")?;
     put_number(&mut name, number)?;
     let text = demo_text(alloc, number)?;
     Ok(FolderPage {

@@ -1,5 +1,5 @@
 //! A page that was expanded.
-use wk_shelf::{Bytes, Title};
+use wk_tool::{Bytes, Title};
 
 /// What a page used of its allowances.
 #[derive(Clone, Copy, Debug, PartialEq, Eq)]

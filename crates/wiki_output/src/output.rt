@@ -3,9 +3,9 @@ ghost use Rattle.std.specs.Prelude.{◌≡◌, ◌++◌, IfOk, OnOk};
 ghost use Rattle.wiki_output.specs.Output.{alone, block, blocks, total, summary, text_in, used_text, stats_line, stats_if};
 
 use crate::made::{Form, Made, Used};
-use crate::putting::{put, put_number, put_title};
+use crate::putting::{put_number, put_title};
 use std::alloc::Global;
-use wk_shelf::{Bytes, NoMemory};
+use wk_tool::{Bytes, NoMemory, put_bytes};
 
 /// The text of the first page.
 fn alone(alloc: Global, pages: &[Made]) -> Result<Bytes, NoMemory>
@@ -22,13 +22,13 @@ fn put_block(made: &mut Vec<u8>, page: &Made) -> Result<(), NoMemory>
     ensures { OnOk result (made.new.items ≡ made.old.items ++ block page.now) }
 {
     let text = page.text.as_slice();
-    put(made, b"page ")?;
+    put_bytes(made, b"page ")?;
     put_title(made, &page.title)?;
-    put(made, b" ")?;
+    put_bytes(made, b" ")?;
     put_number(made, text.len() as u64)?;
-    put(made, b"\n")?;
-    put(made, text)?;
-    put(made, b"\n")
+    put_bytes(made, b"\n")?;
+    put_bytes(made, text)?;
+    put_bytes(made, b"\n")
 }
 
 fn blocks(alloc: Global, pages: &[Made]) -> Result<Bytes, NoMemory>
@@ -60,11 +60,11 @@ fn summary(alloc: Global, pages: &[Made]) -> Result<Bytes, NoMemory>
 {
     let bytes = total(pages)?;
     let mut made = Vec::new(alloc);
-    put(&mut made, b"pages ")?;
+    put_bytes(&mut made, b"pages ")?;
     put_number(&mut made, pages.len() as u64)?;
-    put(&mut made, b" bytes ")?;
+    put_bytes(&mut made, b" bytes ")?;
     put_number(&mut made, bytes)?;
-    put(&mut made, b"\n")?;
+    put_bytes(&mut made, b"\n")?;
     Ok(Bytes::of_vec(made))
 }
 
@@ -83,13 +83,13 @@ pub fn text_in(alloc: Global, form: Form, pages: &[Made]) -> Result<Bytes, NoMem
 fn put_used(made: &mut Vec<u8>, used: &Used) -> Result<(), NoMemory>
     ensures { OnOk result (made.new.items ≡ made.old.items ++ used_text used.now) }
 {
-    put(made, b" steps ")?;
+    put_bytes(made, b" steps ")?;
     put_number(made, used.steps)?;
-    put(made, b" nodes ")?;
+    put_bytes(made, b" nodes ")?;
     put_number(made, used.nodes)?;
-    put(made, b" bytes ")?;
+    put_bytes(made, b" bytes ")?;
     put_number(made, used.bytes)?;
-    put(made, b"\n")
+    put_bytes(made, b"\n")
 }
 
 fn put_stats(made: &mut Vec<u8>, page: &Made) -> Result<(), NoMemory>

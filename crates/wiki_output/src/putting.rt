@@ -1,27 +1,17 @@
 //! Pieces of text, put behind what is there.
 ghost use Rattle.std.specs.Prelude.{◌≡◌, ◌++◌, OnOk};
 ghost use Rattle.std.specs.Fmt.{decimal};
-ghost use Rattle.wk_shelf.specs.WkBaseTitles.{title_text};
+ghost use Rattle.wk_tool.specs.WkBaseTitles.{title_text};
 
 use itoa::Buffer;
-use wk_shelf::{NoMemory, Title};
-
-/// Adds bytes.
-pub fn put(made: &mut Vec<u8>, bytes: &[u8]) -> Result<(), NoMemory>
-    ensures { OnOk result (made.new.items ≡ made.old.items ++ bytes.now) }
-{
-    match made.extend_from_slice(bytes) {
-        Ok(_) => Ok(()),
-        Err(_) => Err(NoMemory),
-    }
-}
+use wk_tool::{NoMemory, Title, put_bytes};
 
 /// Adds a number in decimal digits.
 pub fn put_number(made: &mut Vec<u8>, number: u64) -> Result<(), NoMemory>
     ensures { OnOk result (made.new.items ≡ made.old.items ++ decimal number) }
 {
     let mut buffer = Buffer::new();
-    put(made, buffer.format(number).as_bytes())
+    put_bytes(made, buffer.format(number).as_bytes())
 }
 
 /// Adds a title as it is written.
@@ -29,5 +19,5 @@ pub fn put_title(made: &mut Vec<u8>, title: &Title) -> Result<(), NoMemory>
     ensures { OnOk result (made.new.items ≡ made.old.items ++ title_text title.now) }
 {
     let text = title.text()?;
-    put(made, text.as_slice())
+    put_bytes(made, text.as_slice())
 }

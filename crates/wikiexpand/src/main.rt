@@ -1,15 +1,14 @@
 //! Renders pages of a folder of wiki files.
 //!
-//! What is printed, and with which status, stands in `wiki_app` (`specs/Report.antt`, `specs/Outcome.antt`): its `run` is called here over
-//! the real folder and the real streams.
+//! What is printed, and with which status, stands in `wiki_app` (`specs/Report.antt`): its `run` is called here over the real folder and the
+//! real streams.
 #![tactic(auto)]
 
 use std::hash::RandomState;
 use std::process::ExitCode;
 use std::{env, io};
-use wiki_app::{CANNOT_READ, OpenGate, after_put, put_piece, run};
-use wiki_output::Status;
-use wk_shelf::{FolderShelf, StreamSink};
+use wiki_app::{CANNOT_READ, OpenGate, run};
+use wk_tool::{FolderShelf, Status, StreamSink, after_put, put_piece};
 
 /// The words after the program's name.
 fn words(rt: &HostRuntime) -> io::Result<Vec<String>> {

@@ -1,5 +1,5 @@
 use Rattle.std.proofs.Common.{◌≡◌, ◌∙◌, ◌++◌, List, [], ◌∷◌, ap, append_assoc, rules}
-use Rattle.wk_shelf.specs.declared.folder.FolderPage.{FolderPage}
+use Rattle.wk_tool.specs.WkShelfDeclaredFolderFolderPage.{FolderPage}
 use Rattle.wiki_output.specs.Demo.{first_pages, row_page, sum_page}
 use Rattle.wiki_output.proofs.demo.demo_pages.Goals as goal
 

@@ -1,5 +1,5 @@
 use Rattle.std.proofs.Common.{◌∙◌, ◌++◌, List, [], ◌∷◌, ap}
-use Rattle.wk_shelf.specs.declared.folder.FolderPage.{FolderPage}
+use Rattle.wk_tool.specs.WkShelfDeclaredFolderFolderPage.{FolderPage}
 use Rattle.wiki_output.specs.Demo.{first_pages}
 use Rattle.wiki_output.proofs.Pages.{none, one_more}
 use Rattle.wiki_output.proofs.demo.first_pages.Goals as goal
