@@ -418,7 +418,7 @@ class Maker:
         sets = "no_more"
         for n, part in reversed(parts):
             sets = f"(one_set {{from = {free + n}}} {part} {sets})"
-        return f"(assign_many {said} {values} {sets})"
+        return f"(assign_many {said} (omega arith) {values} {sets})"
 
     def inside(self, body, locals_, free, end):
         self.away.append(end)

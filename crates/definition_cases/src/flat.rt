@@ -34,5 +34,9 @@ fn laws_of_flat_code(_rt: HostRuntime) -> Result<(), Fail> {
     lua_flat_laws::laws::turns_are_moves();
     lua_flat_laws::laws::blocks_are_moves();
     lua_flat_laws::laws::returns_are_moves();
+    lua_flat_laws::laws::operations_are_moves();
+    lua_flat_laws::laws::operations_come();
+    lua_flat_laws::laws::questions_are_asked();
+    lua_flat_laws::laws::ends_are_ends();
     Ok(())
 }

@@ -91,7 +91,7 @@ module _ (g : FlatFunction) where
       assign_entry : {away : Option ℕ} {locals : List Local} {free c pc line c1 pc1 free1 c2 pc2 free2 c3 pc3 free3 : ℕ} {of key e : CExp} {a b o : Operand} → IsOperand g locals false free of (c + 1 + 1) a pc c1 pc1 free1 → IsOperand g locals false free1 key c1 b pc1 c2 pc2 free2
           → IsOperand g locals false free2 e c2 o pc2 c3 pc3 free3 → HasAt g pc3 c3 line (SetIndexF a b o) → IsStat away locals free (AssignC (EntryC of key line ∷ []) (MoreC e NoC)) c pc 0 (pc3 + 1)
       -- several: the values stand in a row, and each target is set from the last to the first
-      assign_many : {away : Option ℕ} {locals : List Local} {free c pc c1 pc1 free1 c2 pc2 c' pc' : ℕ} {targets : List CTarget} {ts : List FlatTarget} {es : CExps} → IsTargets locals free targets (c + 1) ts pc c1 pc1 free1 → IsExact g locals free1 es (length targets) c1 pc1 c2 pc2
+      assign_many : {away : Option ℕ} {locals : List Local} {free c pc c1 pc1 free1 c2 pc2 c' pc' : ℕ} {targets : List CTarget} {ts : List FlatTarget} {es : CExps} → IsTargets locals free targets (c + 1) ts pc c1 pc1 free1 → free1 + length targets ≤ g.registers → IsExact g locals free1 es (length targets) c1 pc1 c2 pc2
           → IsSets (reverse ts) (free1 + length targets) c2 pc2 c' pc' → IsStat away locals free (AssignC targets es) c pc c' pc'
       assign_refused : {away : Option ℕ} {locals : List Local} {free c pc pc' : ℕ} {targets : List CTarget} {es : CExps} → IsRefused locals free targets (c + 1) pc pc' → IsStat away locals free (AssignC targets es) c pc 0 pc'
       call_alone : {away : Option ℕ} {locals : List Local} {free c pc pc' : ℕ} {e : CExp} → IsMany g locals free e (c + 1) free (Exactly 0) pc pc' → IsStat away locals free (CallStatC e) c pc 0 pc'

@@ -1,5 +1,5 @@
 -- WHAT IS RELIED ON while code goes on: registers of variables, and values that frames of the machine over trees hold.
-use Rattle.std.specs.Prelude.{◌≡◌, ◌<◌, ◌≢◌, ℕ, ◌+◌, List, [], ◌∷◌, Some, slice_get}
+use Rattle.std.specs.Prelude.{◌≡◌, ◌≤◌, ◌<◌, ◌≢◌, ℕ, ◌+◌, List, [], ◌∷◌, Some, slice_get}
 use Rattle.lua_slots.specs.LuaHeapValue.{Value}
 use Rattle.lua_slots.specs.Code.{Constants}
 use Rattle.lua_slots.specs.Slots.{Slot, Plain, Boxed, slot_cell}
@@ -31,6 +31,15 @@ IsBelow low o = Unit {0}
 abbrev pub AllBelow : ℕ → Keeps → Type 0
 AllBelow low [] = Unit {0}
 AllBelow low (k ∷ keeps) = IsBelow low k.0 × AllBelow low keeps
+
+-- AT OR ABOVE A REGISTER: what stands there stays where one below it is written
+abbrev pub IsAbove : ℕ → Operand → Type 0
+IsAbove low (RegisterO r) = low ≤ r
+IsAbove low o = Unit {0}
+
+abbrev pub AllAbove : ℕ → Keeps → Type 0
+AllAbove low [] = Unit {0}
+AllAbove low (k ∷ keeps) = IsAbove low k.0 × AllAbove low keeps
 
 abbrev pub LocalsBelow : ℕ → List Local → Type 0
 LocalsBelow low [] = Unit {0}

@@ -12,6 +12,7 @@ pub use Rattle.lua_slots.specs.LuaPatternTexts as LuaPatternTexts
 pub use Rattle.lua_slots.specs.LuaSyntaxDeclaredUnaryOpTheVariants as LuaSyntaxDeclaredUnaryOpTheVariants
 pub use Rattle.lua_slots.specs.PageRunDeclaredWhichWhichTheVariants as PageRunDeclaredWhichWhichTheVariants
 pub use Rattle.lua_slots.specs.PageRunPerform as PageRunPerform
+pub use Rattle.lua_slots.specs.PageRunState as PageRunState
 pub use Rattle.lua_slots.specs.Trial as LuaSlotsTrial
 pub use Rattle.lua_slots.specs.WkBaseTitles as WkBaseTitles
 pub mod Operations

@@ -15,8 +15,8 @@ use Rattle.lua_slots.specs.Slots.{Slot, Plain, Boxed, Slots, with_cell, with_one
 use Rattle.lua_slots.specs.Points.{SFrame, Point, Gives, Starts, BodyS, Move, Costs, Marks, Enters, Exits, Now}
 use Rattle.lua_slots.specs.Calls.{constants_of, rest_of}
 use Rattle.lua_slots.specs.Moves.{moves}
-use Rattle.lua_slots.specs.Enact.{Funds, all_given_back, marked, called, back}
-use Rattle.lua_flat.specs.Operations.{Origin, Op, PayF, OpenF, NamedF, MethodF, ReturnF, Step, FlatFunction, Codes, no_function}
+use Rattle.lua_slots.specs.Enact.{Funds, all_given_back, Enacted, Stands, Short, marked, called, back}
+use Rattle.lua_flat.specs.Operations.{Origin, Op, PayF, OpenF, NamedF, MethodF, CallF, ReturnF, Step, FlatFunction, Codes, no_function}
 use Rattle.lua_flat.specs.Registers.{put, operand, values_at, put_slots}
 use Rattle.lua_flat.specs.Flat.{Act, FlatPoint, AtPlace, Away, Flat, FlatMove, FNodes, FCosts, FMarks, FEnters, FExits, FNow}
 use Rattle.lua_flat.specs.Does.{Landing, captures, values_to, move_of, becomes}
@@ -35,6 +35,15 @@ op_or_pay None = PayF
 
 abbrev pub op_at : FlatFunction → ℕ → Op
 op_at g pc = op_or_pay (slice_get g.steps pc)
+
+-- where the registers of a function begin that is called: behind the function, or behind all registers of the one that waits
+abbrev pub room_behind : FlatFunction → Op → ℕ → ℕ
+room_behind g (CallF to b arguments results) base = base + b + 1
+room_behind g op base = base + g.registers
+
+abbrev pub room_in : Codes → List Act → Flat → ℕ
+room_in codes [] f = 0
+room_in codes (a ∷ acts) f = let g = code_of codes f.slots a in room_behind g (op_at g a.pc) a.base
 
 -- AN OUTCOME COMES BACK to the operation at which the newest function waits: it puts the values where it wants them, and goes on. An error
 -- leaves the function, and goes on to the frames that wait for its outcome.
@@ -190,3 +199,8 @@ flat_enact (FCosts n mv) f = flat_paid (less n f.left.steps) f (flat_enact mv)
 flat_enact (FMarks mv) f = flat_enact mv (marked f)
 flat_enact (FEnters mv) f = flat_calling (less 1 f.left.calls) f (flat_enact mv)
 flat_enact (FExits mv) f = flat_enact mv (back f.in_progress f)
+
+-- A REPLY to the question at which it stands leads where it leads in the machine over trees
+abbrev pub replied_in : Flat → Enacted → FlatEnacted
+replied_in f (Stands p s g) = FStands (record f { point = Away p; slots = s }) g
+replied_in f (Short which g) = FShort which g

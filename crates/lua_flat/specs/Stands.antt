@@ -23,7 +23,7 @@ use Rattle.lua_flat.specs.Flat.{Act, AtPlace, Away, Flat}
 use Rattle.lua_flat.specs.IsExpression.{Has, HasAt, one_more, IsOperand, IsValue, IsMany, IsRow, IsTest}
 use Rattle.lua_flat.specs.IsStatement.{writes_last, IsBlock}
 use Rattle.lua_flat.specs.Keeps.{Keeps, AreKept, AreVariables, Bounded, Tidy}
-use Rattle.lua_flat.specs.WaitsStatement.{IsWhile, IsRepeat, IsCount, IsEach, Resumes, Finishes, StatExact}
+use Rattle.lua_flat.specs.WaitsStatement.{Leaves, IsWhile, IsRepeat, IsCount, IsEach, Resumes, Finishes, StatExact}
 use Rattle.lua_flat.specs.WaitsExpression.{IsFork, Waits, Lands, LandsMany, RowWaits, Takes, FieldWaits}
 
 -- WHAT A FLAT MACHINE HOLDS of what a machine over trees holds: all but the registers, and where each function's begin
@@ -104,7 +104,7 @@ pub data Awaits (cs : Constants) (g : FlatFunction) (under : ℕ) (beneath : Lis
       → Awaits cs g under beneath locals low keeps pc (h ∷ []) (h ∷ fs)
   await_compare : {when : Bool} {locals : List Local} {low : ℕ} {keeps : Keeps} {pc c target hit miss : ℕ} {op : Operator} {a b : Operand} {h : SFrame} {fs : List SFrame} → IsOneFrame h → Has g pc c (CompareF op a b when target) → IsFork when (pc + 1) target hit miss
       → Takes cs g under beneath locals low keeps hit 0 miss 0 fs → Awaits cs g under beneath locals low keeps pc (h ∷ []) (h ∷ fs)
-  await_call : {locals : List Local} {low : ℕ} {keeps : Keeps} {pc c to q : ℕ} {arguments wanted : Wanted} {fs : List SFrame} → Has g pc c (CallF to q arguments wanted) → LandsMany cs g under beneath wanted locals low keeps (pc + 1) to fs → Awaits cs g under beneath locals low keeps pc [] fs
+  await_call : {locals : List Local} {low : ℕ} {keeps : Keeps} {pc c to q : ℕ} {arguments wanted : Wanted} {fs : List SFrame} → low ≤ q → Has g pc c (CallF to q arguments wanted) → LandsMany cs g under beneath wanted locals low keeps (pc + 1) to fs → Awaits cs g under beneath locals low keeps pc [] fs
   await_method : {locals : List Local} {low low' : ℕ} {keeps : Keeps} {pc c q x line c' pc' to : ℕ} {object : Value} {a : Operand} {es : CExps} {arguments wanted : Wanted} {fs : List SFrame} → Has g pc c (MethodF q a x) → low' ≤ q → q + 1 < low → q + 1 < g.registers → Bounded low' locals keeps
       → IsRow g locals (q + 2) es 0 (pc + 1) c' pc' arguments → HasAt g pc' c' line (CallF to q (one_more arguments) wanted) → LandsMany cs g under beneath wanted locals low' keeps (pc' + 1) to fs
       → Awaits cs g under beneath locals low ((RegisterO (q + 1), object) ∷ keeps) pc [] (MethodNow object es line ∷ fs)
@@ -188,7 +188,7 @@ module _ (world : CWorld) (codes : Codes) where
         → StandsFor (in_code a acts regs top (in_tree (mine ++ theirs) (fn ∷ fns) s)) (Gives (Goes vs) fs) (in_tree (mine ++ theirs) (fn ∷ fns) s)
     -- between statements, and at the end of a block
     at_block : {a : Act} {acts : List Act} {fn : Activation} {fns : List Activation} {g : FlatFunction} {mine theirs regs : List Slot} {beneath fs : List SFrame} {locals inner : List Local} {low c' pc' free' top : ℕ} {keeps : Keeps} {away : Option ℕ} {b : CBlock} (s : Slots)
-        → Within world codes regs a acts fn fns g mine theirs beneath locals low keeps → Tidy low locals keeps → IsBlock g away locals low b 0 a.pc c' pc' inner free' → Finishes (constants_in world fn.source) g (length theirs) beneath away inner free' keeps pc' c' fs
+        → Within world codes regs a acts fn fns g mine theirs beneath locals low keeps → Tidy low locals keeps → Leaves (length locals + length theirs) fs → IsBlock g away locals low b 0 a.pc c' pc' inner free' → Finishes (constants_in world fn.source) g (length theirs) beneath away inner free' keeps pc' c' fs
         → StandsFor (in_code a acts regs top (in_tree (mine ++ theirs) (fn ∷ fns) s)) (Runs b fs) (in_tree (mine ++ theirs) (fn ∷ fns) s)
     at_end_of_statement : {a : Act} {acts : List Act} {fn : Activation} {fns : List Activation} {g : FlatFunction} {mine theirs regs : List Slot} {beneath fs : List SFrame} {locals : List Local} {low top : ℕ} {keeps : Keeps} {away : Option ℕ} {vs : List Value} (s : Slots)
         → Within world codes regs a acts fn fns g mine theirs beneath locals low keeps → Resumes (constants_in world fn.source) g (length theirs) beneath away locals low keeps a.pc 0 fs

@@ -1,5 +1,5 @@
 -- SMALL RUNS of a flat machine for worked examples, seen as those of a machine over trees are: how a run ends, and the steps that are left.
-use Rattle.std.specs.Prelude.{ℕ, zero, suc, ◌+◌, List, [], ◌∷◌, Option, Some, slice_get}
+use Rattle.std.specs.Prelude.{ℕ, zero, suc, List, [], ◌∷◌, Option, Some, slice_get}
 use Rattle.lua_slots.specs.MwFrameDeclaredSceneArg.{Arg}
 use Rattle.lua_slots.specs.MwFrameDeclaredQuestionAsk.{Ask}
 use Rattle.lua_slots.specs.PageRunOutcome.{Outcome}
@@ -14,25 +14,11 @@ use Rattle.lua_slots.specs.LuaMeaningTrial.{Seen, page, job, allowance}
 use Rattle.lua_slots.specs.Code.{CModule, CWorld, Protos}
 use Rattle.lua_slots.specs.Slots.{no_slots}
 use Rattle.lua_slots.specs.Points.{SFrame, Gives, Asking, Works}
-use Rattle.lua_slots.specs.Enact.{Funds, funds, Enacted, Stands, Short, takes_reply}
+use Rattle.lua_slots.specs.Enact.{Funds, funds, takes_reply}
 use Rattle.lua_slots.specs.Trial.{seen_end, module_of}
-use Rattle.lua_flat.specs.Operations.{Op, CallF, FlatFunction, Codes}
+use Rattle.lua_flat.specs.Operations.{FlatFunction, Codes}
 use Rattle.lua_flat.specs.Flat.{Act, FlatPoint, Away, Flat}
-use Rattle.lua_flat.specs.Moves.{code_of, op_at, flat_moves, FlatEnacted, FStands, FShort, flat_enact}
-
--- where the registers of a function begin that is called: behind the function, or behind all registers of the one that waits
-abbrev pub room_behind : FlatFunction → Op → ℕ → ℕ
-room_behind g (CallF to b arguments results) base = base + b + 1
-room_behind g op base = base + g.registers
-
-abbrev pub room_in : Codes → List Act → Flat → ℕ
-room_in codes [] f = 0
-room_in codes (a ∷ acts) f = let g = code_of codes f.slots a in room_behind g (op_at g a.pc) a.base
-
--- what a reply leads to
-abbrev pub replied_in : Flat → Enacted → FlatEnacted
-replied_in f (Stands p s g) = FStands (record f { point = Away p; slots = s }) g
-replied_in f (Short which g) = FShort which g
+use Rattle.lua_flat.specs.Moves.{room_in, flat_moves, FlatEnacted, FStands, FShort, flat_enact, replied_in}
 
 -- whether it stops: at its end, or at a question
 pub data Halt : Type 0 where

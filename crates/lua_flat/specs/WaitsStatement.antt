@@ -8,8 +8,17 @@ use Rattle.lua_flat.specs.Locals.{Local, PlainL, CellL, local_of, with_row}
 use Rattle.lua_flat.specs.Operations.{Operand, RegisterO, ConstantO, Wanted, Exactly, FlatFunction}
 use Rattle.lua_flat.specs.Operations.{LoadF, SetIndexF, JumpF, CountBeginsF, CountGoesOnF, EachCallsF, EachTestsF, ReturnF}
 use Rattle.lua_flat.specs.IsExpression.{Has, HasAt, IsOperand, IsValue, IsExact, IsTest}
-use Rattle.lua_flat.specs.IsStatement.{FlatTarget, RegisterT, CellT, CapturedT, GlobalT, EntryT, IsJoin, IsOpening, IsTargets, IsSets, IsBlock, IsArms}
-use Rattle.lua_flat.specs.Keeps.{Keeps, IsBelow, Tidy}
+use Rattle.lua_flat.specs.IsStatement.{FlatTarget, RegisterT, CellT, CapturedT, GlobalT, EntryT, IsJoin, IsOpening, IsTargets, IsRefused, IsSets, IsBlock, IsArms}
+use Rattle.lua_flat.specs.Keeps.{Keeps, IsBelow, AllAbove, Tidy}
+
+-- THE VARIABLES that are left where a block ends are among so many
+abbrev pub Leaves : ℕ → List SFrame → Type 0
+Leaves n (BlockEnd d ∷ fs) = d ≤ n
+Leaves n (WhileEnd d test body ∷ fs) = d ≤ n
+Leaves n (TestNext test d body ∷ fs) = d ≤ n
+Leaves n (CountEnd d boxed index limit step body ∷ fs) = d ≤ n
+Leaves n (EachEnd d flags f state before body line ∷ fs) = d ≤ n
+Leaves n fs = Unit {0}
 
 module _ (cs : Constants) (g : FlatFunction) where
   -- TARGETS that were found, with the tables and keys that are kept for them
@@ -38,6 +47,7 @@ module _ (cs : Constants) (g : FlatFunction) where
     pub place : ℕ
     pub row : ℕ
     pub finds : IsTargets g locals free more c targets pc owed place row
+    pub room : row + length (found ++ targets) ≤ g.registers
     pub owed_then : ℕ
     pub place_then : ℕ
     pub lists : IsExact g locals row values (length (found ++ targets)) owed place owed_then place_then
@@ -100,9 +110,9 @@ module _ (cs : Constants) (g : FlatFunction) where
       -- A STATEMENT'S END: what it gives does not matter
       pub data Resumes : (away : Option ℕ) (locals : List Local) (low : ℕ) (keeps : Keeps) (pc c : ℕ) (fs : List SFrame) → Type 0 where
         resume_jump : {away : Option ℕ} {locals : List Local} {low : ℕ} {keeps : Keeps} {pc c end : ℕ} {fs : List SFrame} → IsJoin g c pc end → Resumes away locals low keeps end 0 fs → Resumes away locals low keeps pc c fs
-        resume_stats : {away : Option ℕ} {locals inner : List Local} {low : ℕ} {keeps : Keeps} {pc c c' pc' free' : ℕ} {b : CBlock} {fs : List SFrame} → Tidy low locals keeps → IsBlock g away locals low b c pc c' pc' inner free'
+        resume_stats : {away : Option ℕ} {locals inner : List Local} {low : ℕ} {keeps : Keeps} {pc c c' pc' free' : ℕ} {b : CBlock} {fs : List SFrame} → Tidy low locals keeps → Leaves (length locals + under) fs → IsBlock g away locals low b c pc c' pc' inner free'
             → Finishes away inner free' keeps pc' c' fs → Resumes away locals low keeps pc c (StatsNext b ∷ fs)
-        resume_sets : {away : Option ℕ} {locals : List Local} {low low' r : ℕ} {k keeps : Keeps} {pc c c' pc' : ℕ} {ps : List (STarget × Value)} {us : List FlatTarget} {fs : List SFrame} → low' ≤ low → Tidy low' locals keeps → AreSet locals r ps us k
+        resume_sets : {away : Option ℕ} {locals : List Local} {low low' r : ℕ} {k keeps : Keeps} {pc c c' pc' : ℕ} {ps : List (STarget × Value)} {us : List FlatTarget} {fs : List SFrame} → low' ≤ low → Tidy low' locals keeps → AllAbove low' k → AreSet locals r ps us k
             → IsSets g us (r + length us) c pc c' pc' → Resumes away locals low' keeps pc' c' fs → Resumes away locals low (k ++ keeps) pc c (SetsNext ps ∷ fs)
 
       -- A BLOCK'S END, with these variables
@@ -142,12 +152,19 @@ module _ (cs : Constants) (g : FlatFunction) where
       wait_only_value : {away : Option ℕ} {locals : List Local} {low low' : ℕ} {keeps : Keeps} {pc c free line c2 pc2 free2 : ℕ} {e : CExp} {a b o : Operand} {of : Value} {fs : List SFrame} → low' ≤ low → Tidy low' locals keeps → low ≤ free → IsBelow free b
           → IsOperand g locals false free e c o pc c2 pc2 free2 → HasAt g pc2 c2 line (SetIndexF a b o) → Resumes away locals low' keeps (pc2 + 1) 0 fs → StatWaits locals low ((a, of) ∷ keeps) pc c b (TargetNow of line [] [] (MoreC e NoC) ∷ fs)
       -- one of several targets
-      wait_target_key : {away : Option ℕ} {locals : List Local} {low low' : ℕ} {k keeps : Keeps} {pc q line pc1 c' pc' : ℕ} {key : CExp} {before : List STarget} {us : List FlatTarget} {more : List CTarget} {values : CExps} {fs : List SFrame} → low' ≤ low → low ≤ q → q + 1 < g.registers → Tidy low' locals keeps → AreFound locals before us k
+      wait_target_key : {away : Option ℕ} {locals : List Local} {low low' : ℕ} {k keeps : Keeps} {pc q line pc1 c' pc' : ℕ} {key : CExp} {before : List STarget} {us : List FlatTarget} {more : List CTarget} {values : CExps} {fs : List SFrame} → low' ≤ low → low ≤ q → q + 1 < g.registers → Tidy low' locals keeps → AllAbove low' k → AreFound locals before us k
           → IsValue g locals false (q + 2) key 0 (q + 1) pc pc1 → IsAssigning locals (q + 2) (us ++ EntryT (RegisterO q) (RegisterO (q + 1)) line ∷ []) more values 0 pc1 c' pc' → Resumes away locals low' keeps pc' c' fs
           → StatWaits locals low (k ++ keeps) pc 0 (RegisterO q) (TargetKey key line more before values ∷ fs)
-      wait_target_now : {away : Option ℕ} {locals : List Local} {low low' : ℕ} {k keeps : Keeps} {pc q line c' pc' : ℕ} {of : Value} {before : List STarget} {us : List FlatTarget} {more : List CTarget} {values : CExps} {fs : List SFrame} → low' ≤ q → q < low → Tidy low' locals keeps → AreFound locals before us k
+      wait_target_now : {away : Option ℕ} {locals : List Local} {low low' : ℕ} {k keeps : Keeps} {pc q line c' pc' : ℕ} {of : Value} {before : List STarget} {us : List FlatTarget} {more : List CTarget} {values : CExps} {fs : List SFrame} → low' ≤ q → q < low → low ≤ q + 1 → q + 1 < g.registers → Tidy low' locals keeps → AllAbove low' k → AreFound locals before us k
           → IsAssigning locals (q + 2) (us ++ EntryT (RegisterO q) (RegisterO (q + 1)) line ∷ []) more values 0 pc c' pc' → Resumes away locals low' keeps pc' c' fs
           → StatWaits locals low ((RegisterO q, of) ∷ k ++ keeps) pc 0 (RegisterO (q + 1)) (TargetNow of line more before values ∷ fs)
+      -- one in front of a target that can't be assigned to
+      wait_refused_key : {away : Option ℕ} {locals there : List Local} {low low' : ℕ} {keeps kept : Keeps} {pc q line pc1 c' pc' : ℕ} {key : CExp} {before : List STarget} {more : List CTarget} {values : CExps} {fs : List SFrame} → low ≤ q → q + 1 < g.registers → IsValue g locals false (q + 2) key 0 (q + 1) pc pc1
+          → IsRefused g locals (q + 2) more 0 pc1 pc' → Resumes away there low' kept pc' c' fs → StatWaits locals low keeps pc 0 (RegisterO q) (TargetKey key line more before values ∷ fs)
+      wait_refused_now : {away : Option ℕ} {locals there : List Local} {low low' : ℕ} {keeps kept : Keeps} {pc line c' pc' : ℕ} {of : Value} {before : List STarget} {more : List CTarget} {values : CExps} {fs : List SFrame} (q : ℕ) → low ≤ q + 2
+          → IsRefused g locals (q + 2) more 0 pc pc' → Resumes away there low' kept pc' c' fs → StatWaits locals low keeps pc 0 (RegisterO (q + 1)) (TargetNow of line more before values ∷ fs)
+      -- an expression alone, whose value does not matter
+      wait_alone : {away : Option ℕ} {locals : List Local} {low : ℕ} {keeps : Keeps} {pc c : ℕ} {o : Operand} {fs : List SFrame} → Resumes away locals low keeps pc c fs → StatWaits locals low keeps pc c o fs
       -- the numbers of a counting loop
       wait_count_from : {away : Option ℕ} {locals : List Local} {low : ℕ} {keeps : Keeps} {pc base pc1 line end : ℕ} {to : CExp} {boxed : Bool} {by : Option CExp} {body : CBlock} {fs : List SFrame} → low ≤ base → Tidy low locals keeps → IsValue g locals false (base + 2) to 0 (base + 1) pc pc1
           → IsCounting locals base boxed by body line pc1 end → Resumes away locals low keeps end 0 fs → StatWaits locals low keeps pc 0 (RegisterO base) (CountFrom boxed to by body line ∷ fs)
@@ -166,9 +183,9 @@ module _ (cs : Constants) (g : FlatFunction) where
 
     -- A LIST that a statement takes adjusted to n values, in registers from r on
     pub data StatExact : (locals : List Local) (low : ℕ) (keeps : Keeps) (pc c r n : ℕ) (fs : List SFrame) → Type 0 where
-      exact_declare : {away : Option ℕ} {locals inner : List Local} {low : ℕ} {keeps : Keeps} {pc c r c1 pc1 c' pc' free' : ℕ} {flags : List Bool} {b : CBlock} {fs : List SFrame} → low ≤ r → Tidy low locals keeps → IsOpening g flags r c pc c1 pc1
+      exact_declare : {away : Option ℕ} {locals inner : List Local} {low : ℕ} {keeps : Keeps} {pc c r c1 pc1 c' pc' free' : ℕ} {flags : List Bool} {b : CBlock} {fs : List SFrame} → low ≤ r → r + length flags ≤ g.registers → Tidy low locals keeps → Leaves (length locals + under) fs → IsOpening g flags r c pc c1 pc1
           → IsBlock g away (with_row r flags locals) (r + length flags) b c1 pc1 c' pc' inner free' → Finishes away inner free' keeps pc' c' fs → StatExact locals low keeps pc c r (length flags) (DeclareNow flags b ∷ fs)
-      exact_assign : {away : Option ℕ} {locals : List Local} {low low' : ℕ} {k keeps : Keeps} {pc c r c' pc' : ℕ} {ts : List STarget} {us : List FlatTarget} {fs : List SFrame} → low' ≤ low → low ≤ r → Tidy low' locals keeps → AreFound locals ts us k
+      exact_assign : {away : Option ℕ} {locals : List Local} {low low' : ℕ} {k keeps : Keeps} {pc c r c' pc' : ℕ} {ts : List STarget} {us : List FlatTarget} {fs : List SFrame} → low' ≤ low → low ≤ r → r + length us ≤ g.registers → Tidy low' locals keeps → AllAbove low' k → AreFound locals ts us k
           → IsSets g (reverse us) (r + length us) c pc c' pc' → Resumes away locals low' keeps pc' c' fs → StatExact locals low (k ++ keeps) pc c r (length us) (AssignNow ts ∷ fs)
       exact_each : {away : Option ℕ} {locals : List Local} {low : ℕ} {keeps : Keeps} {pc c base line top end : ℕ} {flags : List Bool} {body : CBlock} {fs : List SFrame} → low ≤ base → Tidy low locals keeps → IsJoin g c pc top → IsEach locals base flags body line top end
           → Resumes away locals low keeps end 0 fs → StatExact locals low keeps pc c base 3 (EachValues flags body line ∷ fs)

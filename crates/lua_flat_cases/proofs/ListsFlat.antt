@@ -138,11 +138,11 @@ swap_is_flat = (
     free = 4;
     body =
         (block_declares (omega arith) (exact_more {n = 1} (omega arith) (loaded there_constant refl) (exact_one (omega arith) (loaded there_constant refl))) (no_cells refl)
-        (block_then (assign_many (to_variable (plain_variable refl) (to_variable (plain_variable refl) no_target)) (exact_more {n = 1} (omega arith) (loaded (there_local refl) refl) (exact_one (omega arith) (loaded (there_local refl) refl))) (one_set {from = 3} (set_register refl) (one_set {from = 2} (set_register refl) no_more)))
+        (block_then (assign_many (to_variable (plain_variable refl) (to_variable (plain_variable refl) no_target)) (omega arith) (exact_more {n = 1} (omega arith) (loaded (there_local refl) refl) (exact_one (omega arith) (loaded (there_local refl) refl))) (one_set {from = 3} (set_register refl) (one_set {from = 2} (set_register refl) no_more)))
         (block_declares (omega arith) (exact_one (omega arith) (table_of (omega arith) (omega arith) refl (field_item (in_place there_constant) (refl, refl) (field_item (in_place there_constant) (refl, refl) fields_end)))) (no_cells refl)
         (block_declares (omega arith) (exact_one (omega arith) (loaded there_constant refl)) (no_cells refl)
-        (block_then (assign_many (to_variable (plain_variable refl) (to_entry (omega arith) (loaded (there_local refl) refl) (loaded (there_local refl) refl) no_target)) (exact_more {n = 1} (omega arith) (loaded there_constant refl) (exact_one (omega arith) (loaded there_constant refl))) (one_set {from = 7} (set_entry (refl, refl)) (one_set {from = 6} (set_register refl) no_more)))
-        (block_then (assign_many (to_entry (omega arith) (loaded (there_local refl) refl) (loaded there_constant refl) (to_entry (omega arith) (loaded (there_local refl) refl) (loaded there_constant refl) (to_variable (plain_variable refl) no_target))) (exact_more {n = 2} (omega arith) (index_of (in_place (there_local refl)) (in_place there_constant) (refl, refl)) (exact_one_nils {n = 1} (omega arith) (index_of (in_place (there_local refl)) (in_place there_constant) (refl, refl)) refl)) (one_set {from = 10} (set_register refl) (one_set {from = 9} (set_entry (refl, refl)) (one_set {from = 8} (set_entry (refl, refl)) no_more))))
+        (block_then (assign_many (to_variable (plain_variable refl) (to_entry (omega arith) (loaded (there_local refl) refl) (loaded (there_local refl) refl) no_target)) (omega arith) (exact_more {n = 1} (omega arith) (loaded there_constant refl) (exact_one (omega arith) (loaded there_constant refl))) (one_set {from = 7} (set_entry (refl, refl)) (one_set {from = 6} (set_register refl) no_more)))
+        (block_then (assign_many (to_entry (omega arith) (loaded (there_local refl) refl) (loaded there_constant refl) (to_entry (omega arith) (loaded (there_local refl) refl) (loaded there_constant refl) (to_variable (plain_variable refl) no_target))) (omega arith) (exact_more {n = 2} (omega arith) (index_of (in_place (there_local refl)) (in_place there_constant) (refl, refl)) (exact_one_nils {n = 1} (omega arith) (index_of (in_place (there_local refl)) (in_place there_constant) (refl, refl)) refl)) (one_set {from = 10} (set_register refl) (one_set {from = 9} (set_entry (refl, refl)) (one_set {from = 8} (set_entry (refl, refl)) no_more))))
         (block_then (return_row (row_more {count = Every} (omega arith) (loaded (there_local refl) refl) (row_more {count = Every} (omega arith) (loaded (there_local refl) refl) (row_more {count = Every} (omega arith) (index_of (in_place (there_local refl)) (in_place there_constant) (refl, refl)) (row_more {count = Every} (omega arith) (index_of (in_place (there_local refl)) (in_place there_constant) (refl, refl)) (row_many (omega arith) (call_of (omega arith) (global_of (refl, refl)) (row_one (omega arith) (loaded (there_local refl) refl)) (refl, refl))))))) refl)
         block_end)))))));
     returns = refl;

@@ -116,7 +116,7 @@ module _ (world : CWorld) (codes : Codes) (room : ℕ) (index pc base : ℕ) (fr
       onward w c (IndexF to a b) has vs (First ∷ fs) s (follow_free (Gives (Goes vs) (First ∷ fs)) (tree s) (acts_of.lands_value world codes room index pc base frames acts fn fns g mine theirs beneath regs top w lands (first vs) s))
   back (await_global {c} {to} {x} {fs} has lands) w vs s =
       onward w c (GetGlobalF to x) has vs (First ∷ fs) s (follow_free (Gives (Goes vs) (First ∷ fs)) (tree s) (acts_of.lands_value world codes room index pc base frames acts fn fns g mine theirs beneath regs top w lands (first vs) s))
-  back (await_call {c} {to} {q} {arguments} {wanted} {fs} has k) w vs s = onward w c (CallF to q arguments wanted) has vs fs s (many_come k w vs s)
+  back (await_call {c} {to} {q} {arguments} {wanted} {fs} l has k) w vs s = onward w c (CallF to q arguments wanted) has vs fs s (many_come k w vs s)
   back (await_method {c} {q} {x} {line} {object} {a} {es} {fs} has l1 l2 l3 b row h k) w vs s =
       onward w c (MethodF q a x) has vs (MethodNow object es line ∷ fs) s (follow_stands (at_given {single = false} s (name_put (first vs) l1 b w) (sym (put_value (base + q) (first vs) regs)) (wait_method l1 l2 l3 b row h k)))
   back (await_set {c} {a} {b} {o} {fs} has r) w vs s = onward w c (SetIndexF a b o) has vs fs s (follow_stands (at_end_of_statement s (moved world codes (pc + 1) w) r))
@@ -143,7 +143,7 @@ module _ (world : CWorld) (codes : Codes) (room : ℕ) (index pc base : ℕ) (fr
   pub leaves : {locals : List Local} {low : ℕ} {keeps : Keeps} {fs : List SFrame} → Awaits cs g (length theirs) beneath locals low keeps pc [] fs → Here locals low keeps → (v : Value) (s : Slots) → Leaves v fs s
   leaves (await_index {fs} has lands) w v s = follow_free (Gives (Jumps (Raised v)) fs) (tree s) (leaves_lands w lands v s)
   leaves (await_global {fs} has lands) w v s = follow_free (Gives (Jumps (Raised v)) fs) (tree s) (leaves_lands w lands v s)
-  leaves (await_call has k) w v s = unwind_many world codes cs g top theirs fn s v (depth_there world codes w) (callers_there world codes w) k mine
+  leaves (await_call l has k) w v s = unwind_many world codes cs g top theirs fn s v (depth_there world codes w) (callers_there world codes w) k mine
   leaves (await_method {fs} has l1 l2 l3 b x h k) w v s = follow_free (Gives (Jumps (Raised v)) fs) (tree s) (unwind_many world codes cs g top theirs fn s v (depth_there world codes w) (callers_there world codes w) k mine)
   leaves (await_set has r) w v s = unwind_resumes world codes cs g top theirs fn s v (depth_there world codes w) (callers_there world codes w) r mine
   leaves (await_set_global has r) w v s = unwind_resumes world codes cs g top theirs fn s v (depth_there world codes w) (callers_there world codes w) r mine

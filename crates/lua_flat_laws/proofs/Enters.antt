@@ -120,7 +120,7 @@ module _ (world : CWorld) (codes : Codes) where
         (subst (λ (fl : List Bool). Follows world codes (FNow now) (Now (Runs c.body frames) (in_body fl f.dots))) isf.flags
         (subst (λ (x : Heap Proc × List Slot). Follows world codes (FNow now) (Now (Runs c.body frames) (record tree { heap = x.0; regs = x.1; functions = begun f.flags f.dots ∷ fns }))) (sym eq)
         (follow_stands (at_block {a = record { index = p.index; pc = 0; base = room; frames = hs }} {acts = acts} {fn = begun f.flags f.dots} {fns = fns} {g = f} {mine = made} {theirs = others} {regs = put_slots room o.1 regs} {beneath = fs} {fs = frames} {locals = with_row 0 f.flags []} {low = length f.flags} {keeps = []} (with_heap o.0 s)
-        (within e refl vs tt tidy.bounded isf.room (called o.1)) tidy isf.body (finish_body isf.returns)))))))
+        (within e refl vs tt tidy.bounded isf.room (called o.1)) tidy tt isf.body (finish_body isf.returns)))))))
 
     pub enters_it : IsFlat world codes → Follows world codes (flat_moves world codes room flat) (moves world (Starts (BodyS p args line) fs) tree)
     enters_it is = follow_costs (enters_by ((code_of (world.modules p.title)).function p.index) (codes p.title p.index) refl (is p.title p.index))

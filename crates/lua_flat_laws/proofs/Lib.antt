@@ -16,7 +16,6 @@ pub mod Settings
 pub mod Counting
 pub mod StatGiven
 pub mod Exacts
-pub mod Given
 pub mod LikewiseLibrary
 pub mod Away
 pub mod Arrives
@@ -24,4 +23,10 @@ pub mod Enters
 pub mod Turns
 pub mod Alone
 pub mod Openings
+pub mod Targets
+pub mod Breaks
+pub mod Named
 pub mod Blocks
+pub mod Given
+pub mod Replies
+pub mod Whole

@@ -78,7 +78,7 @@ module _ (world : CWorld) (codes : Codes) (room : ℕ) (index pc base : ℕ) (fr
       let r : low' ≤ g.registers = let n = room_there world codes w in omega (arith, l1, l2, n) in
       let place_is : base + q + 1 ≡ base + (q + 1) = omega arith in
       by_operation world codes room flat c (Gives (Goes vs) (CallNow f line ∷ fs)) tree (does codes cs (slice_get g.lines pc) (CallF to q count wanted) act acts flat) (next_is w c (CallF to q count wanted) h.0)
-      (operations_of.call_acts world codes room index pc base frames acts fn fns g mine theirs beneath regs top (with_keeps world codes (kept_there world codes w).1 b r w) k h f vs (kept_there world codes w).0 (ap (λ (n : ℕ). values_to count regs n top) place_is ∙ e) s)
+      (operations_of.call_acts world codes room index pc base frames acts fn fns g mine theirs beneath regs top (with_keeps world codes (kept_there world codes w).1 b r w) k h l1 f vs (kept_there world codes w).0 (ap (λ (n : ℕ). values_to count regs n top) place_is ∙ e) s)
   row_given {c} vs (row_items {t} {table} {n} {line} {from} {fs} l0 l b h k) w e =
       by_operation world codes room flat c (Gives (Goes vs) (ItemNow t n NoFieldC line ∷ fs)) tree (does codes cs (slice_get g.lines pc) (SetItemsF table n from) act acts flat) (next_is w c (SetItemsF table n from) h.0)
       (operations_of.items_acts world codes room index pc base frames acts fn fns g mine theirs beneath regs top w l0 l b h k vs e s)

@@ -1,5 +1,5 @@
 -- NEW VARIABLES in registers whose values are there: by an operation where some have cells, and else by none.
-use Rattle.std.proofs.Common.{◌≡◌, ℕ, ◌+◌, ◌≤◌, Bool, true, false, List, [], ◌∷◌, refl, ap, subst, arith}
+use Rattle.std.proofs.Common.{◌≡◌, ℕ, suc, ◌+◌, ◌≤◌, Bool, true, false, List, [], ◌∷◌, refl, ap, subst, arith}
 use Rattle.std.specs.Prelude.{length}
 use Rattle.lua_goes.specs.LuaHeapProc.{Proc}
 use Rattle.lua_goes.specs.LuaHeapHeap.{Heap, new_cell}
@@ -7,7 +7,7 @@ use Rattle.lua_goes.specs.LuaHeapValue.{Value}
 use Rattle.lua_goes.specs.LuaMeaningValues.{first, rest}
 use Rattle.lua_goes.specs.LuaSlotsSlots.{Slot, Plain, Boxed, Activation}
 use Rattle.lua_goes.specs.LuaSlotsCode.{CWorld}
-use Rattle.lua_goes.specs.LuaSlotsPoints.{SFrame}
+use Rattle.lua_goes.specs.LuaSlotsPoints.{SFrame, BlockEnd, WhileEnd, TestNext, CountEnd, EachEnd}
 use Rattle.lua_flat.specs.Locals.{Local, PlainL, local_of, register_of, with_row}
 use Rattle.lua_flat.specs.Operations.{Operand, RegisterO, ConstantO, TextO, FlatFunction, Codes}
 use Rattle.lua_flat.specs.Registers.{values_at, adjusted, put_slots}
@@ -15,6 +15,7 @@ use Rattle.lua_flat.specs.Flat.{Act}
 use Rattle.lua_flat.specs.Moves.{in_order, in_front}
 use Rattle.lua_flat.specs.IsStatement.{is_any}
 use Rattle.lua_flat.specs.Keeps.{Keeps, AreVariables, AllBelow, IsBelow, IsOther, IsApart, AreApart, LocalsBelow, Tidy}
+use Rattle.lua_flat.specs.WaitsStatement.{Leaves}
 use Rattle.lua_flat.specs.Stands.{Within, within}
 use Rattle.lua_flat_laws.proofs.Kept.{locals_below_more, all_below_more, code_there, depth_there, variables_there, kept_there, callers_there}
 use Rattle.lua_flat_laws.proofs.Enters.{rev_onto, opens_all, row_below, row_falling, keep_slots}
@@ -69,6 +70,44 @@ row_tidy low r flags locals keeps l tidy =
       bounded = record { locals_below = row_below r flags locals below; keeps_below = all_below_more low (r + length flags) keeps (omega (arith, l)) tidy.bounded.keeps_below };
       falling = row_falling r flags locals below tidy.falling;
       apart = row_apart low r flags locals keeps l tidy.bounded.keeps_below tidy.apart;
+    }
+
+-- the variables that are left at a block's end are there with more variables too
+pub leaves_more : (m n : ℕ) (fs : List SFrame) → m ≤ n → Leaves m fs → Leaves n fs
+leaves_more m n [] l h = tt
+leaves_more m n (BlockEnd d ∷ fs) l h = omega (arith, l, h)
+leaves_more m n (WhileEnd d test body ∷ fs) l h = omega (arith, l, h)
+leaves_more m n (TestNext test d body ∷ fs) l h = omega (arith, l, h)
+leaves_more m n (CountEnd d boxed index limit step body ∷ fs) l h = omega (arith, l, h)
+leaves_more m n (EachEnd d flags f state before body line ∷ fs) l h = omega (arith, l, h)
+leaves_more m n (f ∷ fs) l h = tt
+
+pub row_length : (r : ℕ) (flags : List Bool) (locals : List Local) → length (with_row r flags locals) ≡ length flags + length locals
+row_length r [] locals = omega arith
+row_length r (b ∷ flags) locals =
+    let e : length (with_row (r + 1) flags (local_of b r ∷ locals)) ≡ length flags + suc (length locals) = row_length (r + 1) flags (local_of b r ∷ locals) in
+    omega (arith, e)
+
+pub leaves_row : (r under : ℕ) (flags : List Bool) (locals : List Local) (fs : List SFrame) → Leaves (length locals + under) fs → Leaves (length (with_row r flags locals) + under) fs
+leaves_row r under flags locals fs h = let e = row_length r flags locals in leaves_more (length locals + under) (length (with_row r flags locals) + under) fs (omega (arith, e)) h
+
+-- a value that is kept in a register above the variables is apart from them
+apart_more : (low r : ℕ) (v : Value) (locals : List Local) (keeps : Keeps) → LocalsBelow low locals → low ≤ r → AreApart locals keeps → AreApart locals ((RegisterO r, v) ∷ keeps)
+apart_more low r v [] keeps b l h = tt
+apart_more low r v (x ∷ locals) keeps b l h = ((λ (e : register_of x ≡ r). let m = b.0 in omega (arith, m, l, e), h.0), apart_more low r v locals keeps b.1 l h.1)
+
+-- a loop keeps three values behind the variables
+pub keep_three : (low q : ℕ) (u v x : Value) (locals : List Local) (keeps : Keeps) → low ≤ q → Tidy low locals keeps → Tidy (q + 3) locals ((RegisterO q, u) ∷ (RegisterO (q + 1), v) ∷ (RegisterO (q + 2), x) ∷ keeps)
+keep_three low q u v x locals keeps l tidy =
+    let below : LocalsBelow low locals = tidy.bounded.locals_below in
+    record {
+      bounded = record {
+        locals_below = locals_below_more low (q + 3) locals (omega (arith, l)) below;
+        keeps_below = (omega arith, (omega arith, (omega arith, all_below_more low (q + 3) keeps (omega (arith, l)) tidy.bounded.keeps_below)));
+      };
+      falling = tidy.falling;
+      apart = apart_more low q u locals ((RegisterO (q + 1), v) ∷ (RegisterO (q + 2), x) ∷ keeps) below l
+          (apart_more low (q + 1) v locals ((RegisterO (q + 2), x) ∷ keeps) below (omega (arith, l)) (apart_more low (q + 2) x locals keeps below (omega (arith, l)) tidy.apart));
     }
 
 module _ (world : CWorld) (codes : Codes) {regs : List Slot} {a : Act} {acts : List Act} {fn : Activation} {fns : List Activation} {g : FlatFunction} {mine theirs : List Slot} {beneath : List SFrame} {locals : List Local} {low : ℕ} {keeps : Keeps} where

@@ -68,13 +68,13 @@ module _ (world : CWorld) (codes : Codes) (room : ℕ) (index pc base : ℕ) (fr
 
   -- A CALL
   pub call_acts : {wanted : Wanted} {locals : List Local} {low to c line q : ℕ} {arguments : Wanted} {keeps : Keeps} {fs : List SFrame} → Here locals low keeps → LandsMany cs g (length theirs) beneath wanted locals low keeps (pc + 1) to fs → HasAt g pc c line (CallF to q arguments wanted)
-      → (f : Value) (args : List Value) → read regs (base + q) ≡ f → values_to arguments regs (base + q + 1) top ≡ args → (s : Slots) → Acts (CallF to q arguments wanted) (calls.call f args (Some line) fs (tree s)) s
-  call_acts {line} {q} {arguments} {fs} w k h f args ef ea s =
+      → low ≤ q → (f : Value) (args : List Value) → read regs (base + q) ≡ f → values_to arguments regs (base + q + 1) top ≡ args → (s : Slots) → Acts (CallF to q arguments wanted) (calls.call f args (Some line) fs (tree s)) s
+  call_acts {line} {q} {arguments} {fs} w k h l f args ef ea s =
       let goal : Move = calls.call f args (Some line) fs (tree s) in
-      subst (λ (l : Option ℕ). Follows world codes (settled codes (calls.call (read regs (base + q)) (values_to arguments regs (base + q + 1) top) l [] (erased (tree s))) (flat s)) goal) (sym h.1)
+      subst (λ (n : Option ℕ). Follows world codes (settled codes (calls.call (read regs (base + q)) (values_to arguments regs (base + q + 1) top) n [] (erased (tree s))) (flat s)) goal) (sym h.1)
       (subst (λ (x : Value). Follows world codes (settled codes (calls.call x (values_to arguments regs (base + q + 1) top) (Some line) [] (erased (tree s))) (flat s)) goal) (sym ef)
       (subst (λ (xs : List Value). Follows world codes (settled codes (calls.call f xs (Some line) [] (erased (tree s))) (flat s)) goal) (sym ea)
-      (comes_of.acts_by world codes room index pc base frames acts fn fns g mine theirs beneath regs top (await_call h.0 k) w (like.call [] fs [] tt f args (Some line) (tree s)) s)))
+      (comes_of.acts_by world codes room index pc base frames acts fn fns g mine theirs beneath regs top (await_call l h.0 k) w (like.call [] fs [] tt f args (Some line) (tree s)) s)))
 
   -- AN ASSIGNMENT to an entry, and to a global variable
   pub set_acts : {away : Option ℕ} {locals : List Local} {low c line : ℕ} {a b o : Operand} {keeps : Keeps} {fs : List SFrame} → Here locals low keeps → Resumes cs g (length theirs) beneath away locals low keeps (pc + 1) 0 fs → HasAt g pc c line (SetIndexF a b o)

@@ -55,8 +55,8 @@ module _ (world : CWorld) (codes : Codes) where
     mutual
       pub return_resumes : {away : Option ℕ} {locals : List Local} {low : ℕ} {keeps : Keeps} {pc c : ℕ} {fs : List SFrame} → Resumes cs g (length theirs) beneath away locals low keeps pc c fs → Returning fs
       return_resumes (resume_jump j r) = return_resumes r
-      return_resumes (resume_stats {fs} ti b f) = λ xs. follow_free (returned fs) (tree xs) (return_finishes f xs)
-      return_resumes (resume_sets {fs} l ti a s r) = λ xs. follow_free (returned fs) (tree xs) (return_resumes r xs)
+      return_resumes (resume_stats {fs} ti lv b f) = λ xs. follow_free (returned fs) (tree xs) (return_finishes f xs)
+      return_resumes (resume_sets {fs} l ti ab a s r) = λ xs. follow_free (returned fs) (tree xs) (return_resumes r xs)
 
       pub return_finishes : {away : Option ℕ} {locals : List Local} {low : ℕ} {keeps : Keeps} {pc c : ℕ} {fs : List SFrame} → Finishes cs g (length theirs) beneath away locals low keeps pc c fs → Returning fs
       return_finishes (finish_block inner {d} e l ti r) = λ xs. cutting d (omega (arith, e)) (return_resumes r) xs

@@ -15,17 +15,24 @@ use Rattle.lua_flat.specs.Moves.{does, flat_moves}
 use Rattle.lua_flat.specs.IsExpression.{Has, HasAt, IsOperand, in_place, made}
 use Rattle.lua_flat.specs.IsStatement.{set_entry}
 use Rattle.lua_flat.specs.Keeps.{Keeps, AreKept, IsBelow, Bounded, Tidy}
-use Rattle.lua_flat.specs.WaitsStatement.{found_entry, IsCount, IsCounting, by_one, by_step, Resumes, StatWaits, wait_only_key, wait_only_value, wait_target_key, wait_target_now, wait_count_from, wait_count_to, wait_count_loaded, wait_count_by}
+use Rattle.lua_flat.specs.WaitsStatement.{found_entry, IsCount, IsCounting, by_one, by_step, Resumes, StatWaits, wait_only_key, wait_only_value, wait_target_key, wait_target_now, wait_refused_key, wait_refused_now, wait_alone, wait_count_from, wait_count_to, wait_count_loaded, wait_count_by}
 use Rattle.lua_flat.specs.WaitsExpression.{in_register, wait_assign, wait_stat}
 use Rattle.lua_flat.specs.Stands.{in_tree, in_code, constants_in, Within, at_given}
 use Rattle.lua_flat_laws.specs.Follows.{Follows, follow_stands}
-use Rattle.lua_flat_laws.specs.Laws.{IsPromptStat}
 use Rattle.lua_flat_laws.proofs.Kept.{put_value, put_reads, keep_within, moved, with_keeps, code_there, kept_there, bounded_there, room_there, bounded_more, below_more}
 use Rattle.lua_flat_laws.proofs.Meets.{Meets, by_free, by_operation, by_standing}
 use Rattle.lua_flat_laws.proofs.Acts as acts_of
 use Rattle.lua_flat_laws.proofs.Values as values_of
 use Rattle.lua_flat_laws.proofs.Settings as settings_of
 use Rattle.lua_flat_laws.proofs.Counting as counting_of
+
+-- FRAMES OF STATEMENTS at which an operation is next: all but a target behind which others are found or a list is evaluated, and a value that
+-- does not matter
+abbrev pub IsPromptStat : {cs : Constants} {g : FlatFunction} {under : ℕ} {beneath : List SFrame} {locals : List Local} {low : ℕ} {keeps : Keeps} {pc c : ℕ} {o : Operand} {fs : List SFrame} → StatWaits cs g under beneath locals low keeps pc c o fs → Type 0
+IsPromptStat (wait_target_now l1 l2 l3 r tidy above found more resumes) = ⊥
+IsPromptStat (wait_refused_now q l refusal resumes) = ⊥
+IsPromptStat (wait_alone resumes) = ⊥
+IsPromptStat k = Unit {0}
 
 module _ (world : CWorld) (codes : Codes) (room : ℕ) (index pc base : ℕ) (frames : List SFrame) (acts : List Act) (fn : Activation) (fns : List Activation) (g : FlatFunction) (mine theirs : List Slot) (beneath : List SFrame) (regs : List Slot) (top : ℕ) (s : Slots) where
   abbrev act : Act
@@ -78,7 +85,7 @@ module _ (world : CWorld) (codes : Codes) (room : ℕ) (index pc base : ℕ) (fr
       (values_of.reads world codes room index pc base frames acts fn fns g mine theirs beneath regs top s c w th (MoreNext NoC [] ∷ AssignNow (set ∷ []) ∷ fs)
       (by_free world codes room flat (c + 1) (Gives (Goes (read_of o ∷ [])) (MoreNext NoC [] ∷ AssignNow (set ∷ []) ∷ fs)) tree (Gives (Goes (read_of o ∷ [])) (AssignNow (set ∷ []) ∷ fs)) tree refl
       (by_free world codes room flat (c + 1) (Gives (Goes (read_of o ∷ [])) (AssignNow (set ∷ []) ∷ fs)) tree (Sets ((set, read_of o) ∷ []) fs) tree refl
-      (settings_of.sets_target world codes room index pc base frames acts fn fns g mine theirs beneath regs top s w (eb, (ea, kept_there world codes w)) tidy found_entry (set_entry h) resumes (read_of o ∷ []) refl))))))
+      (settings_of.sets_target world codes room index pc base frames acts fn fns g mine theirs beneath regs top s w (eb, (ea, kept_there world codes w)) tidy.falling tidy.apart found_entry (set_entry h) (settings_of.resumes_none tidy resumes) (read_of o) refl))))))
 
   -- A COUNTING LOOP'S registers are there
   counting_room : {locals : List Local} {b line q end : ℕ} {boxed : Bool} {by : Option CExp} {body : CBlock} → IsCounting cs g locals b boxed by body line q end → b + 3 < g.registers
@@ -124,11 +131,16 @@ module _ (world : CWorld) (codes : Codes) (room : ℕ) (index pc base : ℕ) (fr
       (only_value w tidy l ea ua (values_of.there_below world codes room index pc base frames acts fn fns g mine theirs beneath regs top s w l th) oe h resumes (read_of b ∷ []) refl))
   stat_given {low} vs (wait_only_value {low'} {free} {a} l tidy lf ub oe h resumes) w eb i =
       only_value (without w (kept_there world codes w).1 tidy l) tidy (omega (arith, l, lf)) (kept_there world codes w).0 (below_more low free a lf (bounded_there world codes w).keeps_below.0) ub oe h resumes vs eb
-  stat_given vs (wait_target_key {q} {line} {key} {before} {more} {values} {fs} l1 l2 r tidy found v assigning resumes) w ea i =
+  stat_given vs (wait_target_key {q} {line} {key} {before} {more} {values} {fs} l1 l2 r tidy above found v assigning resumes) w ea i =
       by_free world codes room flat 0 (Gives (Goes vs) (TargetKey key line more before values ∷ fs)) tree (Evals key (TargetNow (first vs) line more before values ∷ fs)) tree refl
       (values_of.value_meets world codes room index pc base frames acts fn fns g mine theirs beneath regs top s (keeping {free = q + 1} (RegisterO q) (first vs) ea (omega arith) (omega (arith, l2)) (omega (arith, r)) w) (omega arith) v
-      (in_register (omega arith) (wait_stat (wait_target_now (omega (arith, l1, l2)) (omega arith) tidy found assigning resumes))))
-  stat_given vs (wait_target_now l1 l2 tidy found assigning resumes) w ea i = absurd i
+      (in_register (omega arith) (wait_stat (wait_target_now (omega (arith, l1, l2)) (omega arith) (omega arith) r tidy above found assigning resumes))))
+  stat_given vs (wait_target_now l1 l2 l3 r tidy above found assigning resumes) w ea i = absurd i
+  stat_given {low} vs (wait_refused_key {q} {line} {key} {before} {more} {values} {fs} l r v refusal resumes) w ea i =
+      by_free world codes room flat 0 (Gives (Goes vs) (TargetKey key line more before values ∷ fs)) tree (Evals key (TargetNow (first vs) line more before values ∷ fs)) tree refl
+      (values_of.value_meets world codes room index pc base frames acts fn fns g mine theirs beneath regs top s w (omega (arith, l)) v (in_register (omega (arith, l)) (wait_stat (wait_refused_now q (omega (arith, l)) refusal resumes))))
+  stat_given vs (wait_refused_now q l refusal resumes) w ea i = absurd i
+  stat_given vs (wait_alone resumes) w ea i = absurd i
   stat_given vs (wait_count_from {base = b} {line} {to} {boxed} {by} {body = block} {fs} l tidy v counting resumes) w ea i =
       let n = counting_room counting in
       by_free world codes room flat 0 (Gives (Goes vs) (CountFrom boxed to by block line ∷ fs)) tree (Evals to (CountTo boxed (first vs) by block line ∷ fs)) tree refl

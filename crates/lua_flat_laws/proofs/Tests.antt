@@ -27,14 +27,22 @@ use Rattle.lua_flat.specs.WaitsStatement.{Resumes, resume_jump, Finishes, finish
 use Rattle.lua_flat.specs.WaitsExpression.{IsFork, to_miss, to_hit, wait_compared, wait_compare, wait_test, in_register, Takes, take_first, take_not, take_and, take_or, take_stat}
 use Rattle.lua_flat.specs.Stands.{erased, in_tree, in_code, constants_in, Within, await_compare, at_test, at_block, at_end_of_statement, at_while, at_repeat}
 use Rattle.lua_flat_laws.specs.Follows.{Follows, follow_free, follow_stands}
-use Rattle.lua_flat_laws.specs.Laws.{IsPlainTest, in_test, TestsAreMoves}
 use Rattle.lua_flat_laws.proofs.Kept.{moved, code_there, depth_there, variables_there, bounded_there, callers_there}
 use Rattle.lua_flat_laws.proofs.Likewise as like
 use Rattle.lua_flat_laws.proofs.Unwinds.{unwind_takes}
 use Rattle.lua_flat_laws.proofs.Cuts.{variables_length, cuts}
-use Rattle.lua_flat_laws.proofs.Meets.{Meets, by_free, by_node, by_operation, whole}
+use Rattle.lua_flat_laws.proofs.Meets.{Meets, by_free, by_node, by_operation}
 use Rattle.lua_flat_laws.proofs.Acts as acts_of
 use Rattle.lua_flat_laws.proofs.Values as values_of
+
+-- TESTS, but for a constant that is always true, which needs no operation
+abbrev pub IsPlainTest : {g : FlatFunction} {locals : List Local} {free : ℕ} {e : CExp} {c pc hit ch miss cm : ℕ} → IsTest g locals free e c pc hit ch miss cm → Type 0
+IsPlainTest (test_true t) = ⊥
+IsPlainTest (test_and x y) = IsPlainTest x × IsPlainTest y
+IsPlainTest (test_or x y) = IsPlainTest x × IsPlainTest y
+IsPlainTest (test_not x) = IsPlainTest x
+IsPlainTest (test_paren x) = IsPlainTest x
+IsPlainTest test = Unit {0}
 
 -- the free registers behind a block are above those before
 pub block_rises : {g : FlatFunction} {away : Option ℕ} {locals inner : List Local} {free free' c pc c' pc' : ℕ} {b : CBlock} → IsBlock g away locals free b c pc c' pc' inner free' → free ≤ free'
@@ -45,7 +53,7 @@ block_rises (block_names {free} {free'} l o h k) = let n : free + 1 ≤ free' = 
 block_rises (block_then s k) = block_rises k
 
 -- A BLOCK leaves the variables that were there
-row_extends : (r : ℕ) (flags : List Bool) (locals : List Local) → (news : List Local) × (with_row r flags locals ≡ news ++ locals)
+pub row_extends : (r : ℕ) (flags : List Bool) (locals : List Local) → (news : List Local) × (with_row r flags locals ≡ news ++ locals)
 row_extends r [] locals = ([], refl)
 row_extends r (b ∷ flags) locals = let k = row_extends (r + 1) flags (local_of b r ∷ locals) in (k.0 ++ local_of b r ∷ [], k.1 ∙ sym (append_assoc k.0 (local_of b r ∷ []) locals))
 
@@ -87,7 +95,8 @@ module _ (world : CWorld) (codes : Codes) (room : ℕ) (index base : ℕ) (frame
       let d : length (mine ++ theirs) ≡ length locals + length theirs = length-append mine theirs ∙ ap (λ (n : ℕ). n + length theirs) (variables_length regs base locals mine (variables_there world codes w)) in
       let f : Finishes cs g (length theirs) beneath away inner free' keeps pc' c' (BlockEnd (length (mine ++ theirs)) ∷ fs) =
       subst (λ (zs : List Local). Finishes cs g (length theirs) beneath away zs free' keeps pc' c' (BlockEnd (length (mine ++ theirs)) ∷ fs)) (sym x.1) (finish_block x.0 d (block_rises code) tidy (resume_jump join r)) in
-      follow_stands (at_block s w tidy code f)
+      let left : length (mine ++ theirs) ≤ length locals + length theirs = omega (arith, d) in
+      follow_stands (at_block s w tidy left code f)
 
   -- the branches that are left
   enters_arms : {away : Option ℕ} {locals : List Local} {low pc end : ℕ} {keeps : Keeps} {arms : CArms} {other : Option CBlock} {fs : List SFrame} → There pc locals low keeps → Tidy low locals keeps → IsArms g away locals low arms other 0 pc end
@@ -240,11 +249,3 @@ module _ (world : CWorld) (codes : Codes) (room : ℕ) (index pc base : ℕ) (fr
       by_node world codes room here c (Evals (UnaryC sign.Not x line) fs) (trees s) (Evals x (UnaryNow sign.Not line ∷ fs)) (trees s) refl (test_meets w l tx plain (take_not k))
   test_meets {c} {fs} w l (test_paren {x} tx) plain k =
       by_node world codes room here c (Evals (ParenC x) fs) (trees s) (Evals x (First ∷ fs)) (trees s) refl (test_meets w l tx plain (take_first k))
-
-  pub tested : {locals : List Local} {free hit ch miss cm low : ℕ} {e : CExp} {keeps : Keeps} {fs : List SFrame} → Here locals low keeps → low ≤ free → (test : IsTest g locals free e 0 pc hit ch miss cm) → IsPlainTest test → Takes csts g (length theirs) beneath locals low keeps hit ch miss cm fs
-      → Follows world codes (flat_moves world codes room here) (Now (Evals e fs) (trees s))
-  tested {e} {fs} w l test plain k = whole world codes room here (Evals e fs) (trees s) (test_meets w l test plain k)
-
-pub tests_are_moves : TestsAreMoves
-tests_are_moves world codes room f p s (in_test {a} {acts} {fn} {fns} {g} {mine} {theirs} {regs} {beneath} {top} t w l test plain k) =
-    tested world codes room a.index a.pc a.base a.frames acts fn fns g mine theirs beneath regs top t w l test plain k

@@ -224,8 +224,8 @@ module _ (world : CWorld) (codes : Codes) (room : ℕ) (index pc base : ℕ) (fr
       (calls_iterator mine here (omega arith) h (exact_next l (omega arith) tidy each (ap (λ (q : ℕ). q + 1) here_is) r) f state before e0 e1 (ap (λ (n : ℕ). read regs n) (sym third_place) ∙ e2))
 
   pub results_given : {locals : List Local} {low c r n : ℕ} {keeps : Keeps} {fs : List SFrame} (vs : List Value) → (k : StatExact cs g (length theirs) beneath locals low keeps pc c r n fs) → Here locals low keeps → values_at regs (base + r) n ≡ adjusted n vs → IsEachList k → Met c (Gives (Goes vs) fs)
-  results_given vs (exact_declare l tidy opening code f) w ev i = absurd i
-  results_given vs (exact_assign l l2 tidy found sets r) w ev i = absurd i
+  results_given vs (exact_declare l l2 tidy left opening code f) w ev i = absurd i
+  results_given vs (exact_assign l l2 l3 tidy above found sets r) w ev i = absurd i
   results_given vs (exact_each {line} {top = place} {flags} {body} {fs} l tidy join each r) w ev i =
       joins (Gives (Goes vs) (EachValues flags body line ∷ fs)) w join (λ e z. subst (λ (m : ℕ). Met m (Gives (Goes vs) (EachValues flags body line ∷ fs))) (sym z) (called_first vs w tidy l ev each r e)) (at_exact s (moved world codes place w) ev (exact_each l tidy joined each r))
   results_given vs (exact_next {locals} {low'} {keeps} {base = b} {line} {end} {f} {state} {flags} {body} {fs} l1 l2 tidy each pe r) w ev i =

@@ -13,7 +13,7 @@ use Rattle.lua_flat.specs.Operations.{Operand, Wanted, FlatFunction, Codes}
 use Rattle.lua_flat.specs.Flat.{Act, FlatMove, FExits, FNow}
 use Rattle.lua_flat.specs.Keeps.{Keeps}
 use Rattle.lua_flat.specs.WaitsStatement.{Resumes, resume_jump, resume_stats, resume_sets, Finishes, finish_block, finish_body, finish_while, finish_repeat, finish_count, finish_each, finish_each_top, StatTakes, take_branch, take_while, take_repeat}
-use Rattle.lua_flat.specs.WaitsStatement.{StatWaits, wait_only_key, wait_only_value, wait_target_key, wait_target_now, wait_count_from, wait_count_to, wait_count_loaded, wait_count_by, StatRow, row_return, StatExact, exact_declare, exact_assign, exact_each, exact_next}
+use Rattle.lua_flat.specs.WaitsStatement.{StatWaits, wait_only_key, wait_only_value, wait_target_key, wait_target_now, wait_refused_key, wait_refused_now, wait_alone, wait_count_from, wait_count_to, wait_count_loaded, wait_count_by, StatRow, row_return, StatExact, exact_declare, exact_assign, exact_each, exact_next}
 use Rattle.lua_flat.specs.WaitsExpression.{Waits, wait_first, wait_key, wait_index, wait_operand, wait_operate, wait_unary, wait_and, wait_or, wait_compared, wait_compare, wait_test, wait_arguments, wait_object, wait_method, wait_more, wait_last, exact_goes_on, exact_ends, exact_adds, exact_drops, exact_drops_last, wait_item, wait_pair_key, wait_pair, wait_assign, wait_stat}
 use Rattle.lua_flat.specs.WaitsExpression.{Lands, in_register, in_variable, LandsMany, land_first, land_nothing, land_row, land_exact, land_dropped, land_all, RowWaits, row_call, row_items, row_stat, Takes, take_first, take_not, take_and, take_or, take_stat, FieldWaits, field_next, field_last}
 use Rattle.lua_flat.specs.Stands.{in_tree, from_code, IsAwayOutcome, Callers, nobody, caller, StandsFor, is_away, is_alone}
@@ -76,8 +76,8 @@ module _ (world : CWorld) (codes : Codes) where
     mutual
       pub unwind_resumes : {away : Option ℕ} {locals : List Local} {low : ℕ} {keeps : Keeps} {pc c : ℕ} {fs : List SFrame} → Resumes cs g (length theirs) beneath away locals low keeps pc c fs → Unwinds fs
       unwind_resumes (resume_jump j r) = unwind_resumes r
-      unwind_resumes (resume_stats {fs} ti b f) = λ xs. follow_free (raised fs) (tree xs) (unwind_finishes f xs)
-      unwind_resumes (resume_sets {fs} l ti a s r) = λ xs. follow_free (raised fs) (tree xs) (unwind_resumes r xs)
+      unwind_resumes (resume_stats {fs} ti lv b f) = λ xs. follow_free (raised fs) (tree xs) (unwind_finishes f xs)
+      unwind_resumes (resume_sets {fs} l ti ab a s r) = λ xs. follow_free (raised fs) (tree xs) (unwind_resumes r xs)
 
       pub unwind_finishes : {away : Option ℕ} {locals : List Local} {low : ℕ} {keeps : Keeps} {pc c : ℕ} {fs : List SFrame} → Finishes cs g (length theirs) beneath away locals low keeps pc c fs → Unwinds fs
       unwind_finishes (finish_block inner {d} e l ti r) = λ xs. cutting d (omega (arith, e)) (unwind_resumes r) xs
@@ -97,8 +97,11 @@ module _ (world : CWorld) (codes : Codes) where
     unwind_stat_waits : {locals : List Local} {low : ℕ} {keeps : Keeps} {pc c : ℕ} {o : Operand} {fs : List SFrame} → StatWaits cs g (length theirs) beneath locals low keeps pc c o fs → Unwinds fs
     unwind_stat_waits (wait_only_key {fs} ti l b x y h r) = λ xs. follow_free (raised fs) (tree xs) (unwind_resumes r xs)
     unwind_stat_waits (wait_only_value {fs} l ti l2 b x h r) = λ xs. follow_free (raised fs) (tree xs) (unwind_resumes r xs)
-    unwind_stat_waits (wait_target_key {fs} l l2 l3 ti a x y r) = λ xs. follow_free (raised fs) (tree xs) (unwind_resumes r xs)
-    unwind_stat_waits (wait_target_now {fs} l l2 ti a y r) = λ xs. follow_free (raised fs) (tree xs) (unwind_resumes r xs)
+    unwind_stat_waits (wait_target_key {fs} l l2 l3 ti ab a x y r) = λ xs. follow_free (raised fs) (tree xs) (unwind_resumes r xs)
+    unwind_stat_waits (wait_target_now {fs} l l2 l3 l4 ti ab a y r) = λ xs. follow_free (raised fs) (tree xs) (unwind_resumes r xs)
+    unwind_stat_waits (wait_refused_key {fs} l l2 x y r) = λ xs. follow_free (raised fs) (tree xs) (unwind_resumes r xs)
+    unwind_stat_waits (wait_refused_now {fs} q l y r) = λ xs. follow_free (raised fs) (tree xs) (unwind_resumes r xs)
+    unwind_stat_waits (wait_alone r) = unwind_resumes r
     unwind_stat_waits (wait_count_from {fs} l ti x y r) = λ xs. follow_free (raised fs) (tree xs) (unwind_resumes r xs)
     unwind_stat_waits (wait_count_to {fs} l l2 ti y r) = λ xs. follow_free (raised fs) (tree xs) (unwind_resumes r xs)
     unwind_stat_waits (wait_count_loaded {fs} l l2 ti h y r) = λ xs. follow_free (raised fs) (tree xs) (unwind_resumes r xs)
@@ -108,8 +111,8 @@ module _ (world : CWorld) (codes : Codes) where
     unwind_stat_row (row_return {fs} h r) = λ xs. follow_free (raised fs) (tree xs) (unwind_resumes r xs)
 
     pub unwind_stat_exact : {locals : List Local} {low : ℕ} {keeps : Keeps} {pc c r n : ℕ} {fs : List SFrame} → StatExact cs g (length theirs) beneath locals low keeps pc c r n fs → Unwinds fs
-    unwind_stat_exact (exact_declare {fs} l ti o b f) = λ xs. follow_free (raised fs) (tree xs) (unwind_finishes f xs)
-    unwind_stat_exact (exact_assign {fs} l l2 ti a s r) = λ xs. follow_free (raised fs) (tree xs) (unwind_resumes r xs)
+    unwind_stat_exact (exact_declare {fs} l l2 ti lv o b f) = λ xs. follow_free (raised fs) (tree xs) (unwind_finishes f xs)
+    unwind_stat_exact (exact_assign {fs} l l2 l3 ti ab a s r) = λ xs. follow_free (raised fs) (tree xs) (unwind_resumes r xs)
     unwind_stat_exact (exact_each {fs} l ti j w r) = λ xs. follow_free (raised fs) (tree xs) (unwind_resumes r xs)
     unwind_stat_exact (exact_next {fs} l l2 ti w e r) = λ xs. follow_free (raised fs) (tree xs) (unwind_resumes r xs)
 

@@ -1,30 +1,33 @@
 -- LAWS of a flat machine.
-use Rattle.std.specs.Prelude.{◌≡◌, ◌≤◌, ℕ, ◌+◌, Bool, List, [], ◌∷◌, ◌++◌, length, Option}
+use Rattle.std.specs.Prelude.{◌≡◌, ◌≤◌, ℕ, ◌+◌, ℤ, Bool, List, [], ◌∷◌, ◌++◌, length, Option}
 use Rattle.lua_goes.specs.PageRunDeclaredWhichWhich.{Which}
+use Rattle.lua_goes.specs.MwFrameDeclaredQuestionAsk.{Ask}
 use Rattle.lua_goes.specs.PageRunOutcome.{Outcome, Goes, Jumps}
+use Rattle.lua_flat.specs.PageRunState.{Reply}
 use Rattle.lua_goes.specs.LuaHeapProc.{Proc}
-use Rattle.lua_goes.specs.LuaHeapValue.{Value}
+use Rattle.lua_goes.specs.LuaHeapValue.{Value, Number}
+use Rattle.lua_goes.specs.LuaMeaningValues.{first}
 use Rattle.lua_goes.specs.LuaMeaningActs.{Jump, Raised}
+use Rattle.lua_flat.specs.LuaMeaningQuestions.{Answer}
 use Rattle.lua_flat.specs.LuaMeaningStart.{Work}
 use Rattle.lua_goes.specs.LuaSlotsCode.{Constants, CExp, CBlock, CWorld}
 use Rattle.lua_goes.specs.LuaSlotsSlots.{Slot, Activation, Slots}
-use Rattle.lua_goes.specs.LuaSlotsPoints.{BodyS, SFrame, BodyEnd, ReturnNow, Point, WhileTurnS, RepeatTurnS, Gives, Evals, Runs, Starts, Works, Now}
+use Rattle.lua_goes.specs.LuaSlotsPoints.{BodyS, SFrame, BodyEnd, ReturnNow, Point, WhileTurnS, RepeatTurnS, CountTurnS, EachTurnS, Gives, Evals, Runs, Starts, Asking, Works, Now}
 use Rattle.lua_goes.specs.LuaSlotsMoves.{moves}
-use Rattle.lua_goes.specs.LuaSlotsEnact.{Funds, Short, enact}
+use Rattle.lua_goes.specs.LuaSlotsEnact.{Funds, Enacted, Stands, Short, enact, takes_reply}
 use Rattle.lua_goes.specs.Going.{Reaches}
 use Rattle.lua_flat.specs.Locals.{Local}
-use Rattle.lua_flat.specs.Operations.{Operand, Wanted, Exactly, ReturnF, FlatFunction, Codes}
+use Rattle.lua_flat.specs.Operations.{Operand, RegisterO, Wanted, Exactly, ReturnF, FlatFunction, Codes}
 use Rattle.lua_flat.specs.Registers.{operand, values_at, adjusted}
-use Rattle.lua_flat.specs.Flat.{Act, Flat, FlatMove}
-use Rattle.lua_flat.specs.Moves.{flat_moves, FStands, FShort, flat_enact}
-use Rattle.lua_flat.specs.IsExpression.{Has, IsOperand, IsValue, IsMany, IsTest, test_true, test_and, test_or, test_not, test_paren}
+use Rattle.lua_flat.specs.Flat.{Act, Away, Flat, FlatMove}
+use Rattle.lua_flat.specs.Moves.{room_in, flat_moves, FlatEnacted, FStands, FShort, flat_enact, replied_in}
+use Rattle.lua_flat.specs.IsExpression.{Has, IsOperand, IsValue, IsMany, IsTest}
 use Rattle.lua_flat.specs.IsStatement.{writes_last, IsBlock, IsFlat}
 use Rattle.lua_flat.specs.Keeps.{Keeps, Tidy}
-use Rattle.lua_flat.specs.WaitsExpression.{Waits, wait_first, exact_ends, exact_drops_last, wait_stat, Lands, LandsMany, RowWaits, Takes, FieldWaits, field_next, field_last}
-use Rattle.lua_flat.specs.WaitsStatement.{IsWhile, IsRepeat, Resumes, StatWaits, wait_target_now, Finishes, finish_block, finish_repeat, StatExact, exact_declare, exact_assign}
+use Rattle.lua_flat.specs.WaitsExpression.{Waits, Lands, LandsMany, RowWaits, Takes, FieldWaits}
+use Rattle.lua_flat.specs.WaitsStatement.{Leaves, IsWhile, IsRepeat, IsCount, IsEach, Resumes, Finishes, finish_block, finish_repeat, StatExact, exact_declare, exact_assign}
 use Rattle.lua_flat.specs.Stands.{constants_in, in_tree, in_code, from_code, IsGiven, IsRowed, AllAway, IsAwayOutcome, IsAwayPoint, below, Within, Awaits, Arrives, StandsFor}
 use Rattle.lua_flat_laws.specs.Follows.{Follows}
-use Rattle.lua_flat_laws.specs.Plain.{IsPlainBlock, IsPlainResume, IsPlainFinish}
 
 -- WHAT FOLLOWS COMES THERE TOO: where a flat move leads, with what is left then, moves of the machine over trees lead, and there both stand
 -- together; and where an allowance is spent, they come to a move that spends it.
@@ -48,29 +51,6 @@ pub record Comes (world : CWorld) (codes : Codes) (m : FlatMove) (p : Point) (s 
 abbrev pub WhatFollowsComes : Type 0
 WhatFollowsComes = (world : CWorld) (codes : Codes) (m : FlatMove) (p : Point) (s : Slots) (f : Funds) → Follows world codes m (Now p s) → Comes world codes m p s f
 
--- A LIST that a generic loop takes
-abbrev pub IsEachList : {cs : Constants} {g : FlatFunction} {under : ℕ} {beneath : List SFrame} {locals : List Local} {low : ℕ} {keeps : Keeps} {pc c r n : ℕ} {fs : List SFrame} → StatExact cs g under beneath locals low keeps pc c r n fs → Type 0
-IsEachList (exact_declare l tidy opening code f) = ⊥
-IsEachList (exact_assign l l2 tidy found sets r) = ⊥
-IsEachList k = Unit {0}
-
--- FRAMES OF STATEMENTS at which an operation is next: all but a target behind which others are found, or a list is evaluated
-abbrev pub IsPromptStat : {cs : Constants} {g : FlatFunction} {under : ℕ} {beneath : List SFrame} {locals : List Local} {low : ℕ} {keeps : Keeps} {pc c : ℕ} {o : Operand} {fs : List SFrame} → StatWaits cs g under beneath locals low keeps pc c o fs → Type 0
-IsPromptStat (wait_target_now l1 l2 tidy found more r) = ⊥
-IsPromptStat k = Unit {0}
-
--- FRAMES OF EXPRESSIONS, and of statements behind them, but for the last value of a list that a declaration or an assignment takes
-abbrev pub IsInner : {cs : Constants} {g : FlatFunction} {under : ℕ} {beneath : List SFrame} {single : Bool} {locals : List Local} {low : ℕ} {keeps : Keeps} {pc c : ℕ} {o : Operand} {fs : List SFrame} → Waits cs g under beneath single locals low keeps pc c o fs → Type 0
-IsInner (wait_first w) = IsInner w
-IsInner (exact_ends l1 l2 b k) = IsEachList k
-IsInner (exact_drops_last l1 l2 l3 b k) = IsEachList k
-IsInner (wait_stat k) = IsPromptStat k
-IsInner w = Unit {0}
-
-abbrev pub IsInnerField : {cs : Constants} {g : FlatFunction} {under : ℕ} {beneath : List SFrame} {locals : List Local} {low : ℕ} {keeps : Keeps} {pc : ℕ} {fs : List SFrame} → FieldWaits cs g under beneath locals low keeps pc fs → Type 0
-IsInnerField (field_next l0 l1 l2 b code w) = IsInner w
-IsInnerField (field_last l0 l1 b w) = IsInner w
-
 -- BOTH STAND TOGETHER AT AN EXPRESSION: one begins, for its first value or for several; an operand does; a value is given to a frame of one; a list
 -- stands in its registers, and a field of a constructor was set
 pub data InExpression (world : CWorld) (codes : Codes) : Flat → Point → Slots → Type 0 where
@@ -81,16 +61,16 @@ pub data InExpression (world : CWorld) (codes : Codes) : Flat → Point → Slot
       → Within world codes regs a acts fn fns g mine theirs beneath locals low keeps → low ≤ free → IsMany g locals free e 0 to wanted a.pc end → LandsMany (constants_in world fn.source) g (length theirs) beneath wanted locals low keeps end to fs
       → InExpression world codes (in_code a acts regs top (in_tree (mine ++ theirs) (fn ∷ fns) s)) (Evals e fs) (in_tree (mine ++ theirs) (fn ∷ fns) s)
   begins_operand : {a : Act} {acts : List Act} {fn : Activation} {fns : List Activation} {g : FlatFunction} {mine theirs regs : List Slot} {beneath fs : List SFrame} {locals : List Local} {low free c' pc' free' top : ℕ} {keeps : Keeps} {single : Bool} {e : CExp} {o : Operand} (s : Slots)
-      → Within world codes regs a acts fn fns g mine theirs beneath locals low keeps → low ≤ free → IsOperand g locals single free e 0 o a.pc c' pc' free' → (w : Waits (constants_in world fn.source) g (length theirs) beneath single locals low keeps pc' c' o fs) → IsInner w
+      → Within world codes regs a acts fn fns g mine theirs beneath locals low keeps → low ≤ free → IsOperand g locals single free e 0 o a.pc c' pc' free' → Waits (constants_in world fn.source) g (length theirs) beneath single locals low keeps pc' c' o fs
       → InExpression world codes (in_code a acts regs top (in_tree (mine ++ theirs) (fn ∷ fns) s)) (Evals e fs) (in_tree (mine ++ theirs) (fn ∷ fns) s)
   is_given_it : {a : Act} {acts : List Act} {fn : Activation} {fns : List Activation} {g : FlatFunction} {mine theirs regs : List Slot} {beneath fs : List SFrame} {locals : List Local} {low top : ℕ} {keeps : Keeps} {single : Bool} {o : Operand} {vs : List Value} (s : Slots)
-      → Within world codes regs a acts fn fns g mine theirs beneath locals low keeps → IsGiven single vs (operand (constants_in world fn.source) regs a.base o) → (w : Waits (constants_in world fn.source) g (length theirs) beneath single locals low keeps a.pc 0 o fs) → IsInner w
+      → Within world codes regs a acts fn fns g mine theirs beneath locals low keeps → IsGiven single vs (operand (constants_in world fn.source) regs a.base o) → Waits (constants_in world fn.source) g (length theirs) beneath single locals low keeps a.pc 0 o fs
       → InExpression world codes (in_code a acts regs top (in_tree (mine ++ theirs) (fn ∷ fns) s)) (Gives (Goes vs) fs) (in_tree (mine ++ theirs) (fn ∷ fns) s)
   has_list : {a : Act} {acts : List Act} {fn : Activation} {fns : List Activation} {g : FlatFunction} {mine theirs regs : List Slot} {beneath fs : List SFrame} {locals : List Local} {low r top : ℕ} {keeps : Keeps} {count : Wanted} {vs : List Value} (s : Slots)
       → Within world codes regs a acts fn fns g mine theirs beneath locals low keeps → IsRowed regs top (a.base + r) count vs → RowWaits (constants_in world fn.source) g (length theirs) beneath locals low keeps a.pc 0 r count fs
       → InExpression world codes (in_code a acts regs top (in_tree (mine ++ theirs) (fn ∷ fns) s)) (Gives (Goes vs) fs) (in_tree (mine ++ theirs) (fn ∷ fns) s)
   has_field : {a : Act} {acts : List Act} {fn : Activation} {fns : List Activation} {g : FlatFunction} {mine theirs regs : List Slot} {beneath fs : List SFrame} {locals : List Local} {low top : ℕ} {keeps : Keeps} {vs : List Value} (s : Slots)
-      → Within world codes regs a acts fn fns g mine theirs beneath locals low keeps → (k : FieldWaits (constants_in world fn.source) g (length theirs) beneath locals low keeps a.pc fs) → IsInnerField k
+      → Within world codes regs a acts fn fns g mine theirs beneath locals low keeps → FieldWaits (constants_in world fn.source) g (length theirs) beneath locals low keeps a.pc fs
       → InExpression world codes (in_code a acts regs top (in_tree (mine ++ theirs) (fn ∷ fns) s)) (Gives (Goes vs) fs) (in_tree (mine ++ theirs) (fn ∷ fns) s)
 
 -- THE LAW BY EXPRESSIONS: the next operation is moves of the machine over trees, to where both stand together again
@@ -131,18 +111,10 @@ pub data Alone (world : CWorld) (codes : Codes) : Flat → Point → Slots → T
 abbrev pub RunsAreMoves : Type 0
 RunsAreMoves = (world : CWorld) (codes : Codes) (room : ℕ) → IsFlat world codes → (f : Flat) (p : Point) (s : Slots) → Alone world codes f p s → Follows world codes (flat_moves world codes room f) (Now p s)
 
--- TESTS, but for a constant that is always true, which needs no operation
-abbrev pub IsPlainTest : {g : FlatFunction} {locals : List Local} {free : ℕ} {e : CExp} {c pc hit ch miss cm : ℕ} → IsTest g locals free e c pc hit ch miss cm → Type 0
-IsPlainTest (test_true t) = ⊥
-IsPlainTest (test_and x y) = IsPlainTest x × IsPlainTest y
-IsPlainTest (test_or x y) = IsPlainTest x × IsPlainTest y
-IsPlainTest (test_not x) = IsPlainTest x
-IsPlainTest (test_paren x) = IsPlainTest x
-IsPlainTest test = Unit {0}
-
+-- TESTS
 pub data InTest (world : CWorld) (codes : Codes) : Flat → Point → Slots → Type 0 where
   in_test : {a : Act} {acts : List Act} {fn : Activation} {fns : List Activation} {g : FlatFunction} {mine theirs regs : List Slot} {beneath fs : List SFrame} {locals : List Local} {low free hit ch miss cm top : ℕ} {keeps : Keeps} {e : CExp} (s : Slots)
-      → Within world codes regs a acts fn fns g mine theirs beneath locals low keeps → low ≤ free → (test : IsTest g locals free e 0 a.pc hit ch miss cm) → IsPlainTest test
+      → Within world codes regs a acts fn fns g mine theirs beneath locals low keeps → low ≤ free → IsTest g locals free e 0 a.pc hit ch miss cm
       → Takes (constants_in world fn.source) g (length theirs) beneath locals low keeps hit ch miss cm fs
       → InTest world codes (in_code a acts regs top (in_tree (mine ++ theirs) (fn ∷ fns) s)) (Evals e fs) (in_tree (mine ++ theirs) (fn ∷ fns) s)
 
@@ -169,6 +141,12 @@ pub data ComingBack (world : CWorld) (codes : Codes) : Flat → Point → Slots 
 abbrev pub OutcomesComeBack : Type 0
 OutcomesComeBack = (world : CWorld) (codes : Codes) (room : ℕ) (f : Flat) (p : Point) (s : Slots) → ComingBack world codes f p s → Follows world codes (flat_moves world codes room f) (Now p s)
 
+-- A LIST that a generic loop takes
+abbrev pub IsEachList : {cs : Constants} {g : FlatFunction} {under : ℕ} {beneath : List SFrame} {locals : List Local} {low : ℕ} {keeps : Keeps} {pc c r n : ℕ} {fs : List SFrame} → StatExact cs g under beneath locals low keeps pc c r n fs → Type 0
+IsEachList (exact_declare l l2 tidy left opening code f) = ⊥
+IsEachList (exact_assign l l2 l3 tidy above found sets r) = ⊥
+IsEachList k = Unit {0}
+
 -- THE END OF A TURN of a loop, and of a function's body
 abbrev pub IsTurnEnd : {cs : Constants} {g : FlatFunction} {under : ℕ} {beneath : List SFrame} {away : Option ℕ} {locals : List Local} {low : ℕ} {keeps : Keeps} {pc c : ℕ} {fs : List SFrame} → Finishes cs g under beneath away locals low keeps pc c fs → Type 0
 IsTurnEnd (finish_block inner e l tidy r) = ⊥
@@ -187,23 +165,35 @@ pub data InTurn (world : CWorld) (codes : Codes) : Flat → Point → Slots → 
 abbrev pub TurnsAreMoves : Type 0
 TurnsAreMoves = (world : CWorld) (codes : Codes) (room : ℕ) (f : Flat) (p : Point) (s : Slots) → InTurn world codes f p s → Follows world codes (flat_moves world codes room f) (Now p s)
 
--- STATEMENTS that follow one another: a block, the end of a statement and of a block, and a turn of `while` and of `repeat` that begins
+-- STATEMENTS that follow one another: a block, the end of a statement and of a block, a list that stands in its registers for a statement, and a
+-- turn of a loop that begins
 pub data InBlock (world : CWorld) (codes : Codes) : Flat → Point → Slots → Type 0 where
   in_block : {a : Act} {acts : List Act} {fn : Activation} {fns : List Activation} {g : FlatFunction} {mine theirs regs : List Slot} {beneath fs : List SFrame} {locals inner : List Local} {low c' pc' free' top : ℕ} {keeps : Keeps} {away : Option ℕ} {b : CBlock} (s : Slots)
-      → Within world codes regs a acts fn fns g mine theirs beneath locals low keeps → Tidy low locals keeps → (code : IsBlock g away locals low b 0 a.pc c' pc' inner free') → IsPlainBlock code → (k : Finishes (constants_in world fn.source) g (length theirs) beneath away inner free' keeps pc' c' fs) → IsPlainFinish k
+      → Within world codes regs a acts fn fns g mine theirs beneath locals low keeps → Tidy low locals keeps → Leaves (length locals + length theirs) fs → IsBlock g away locals low b 0 a.pc c' pc' inner free' → Finishes (constants_in world fn.source) g (length theirs) beneath away inner free' keeps pc' c' fs
       → InBlock world codes (in_code a acts regs top (in_tree (mine ++ theirs) (fn ∷ fns) s)) (Runs b fs) (in_tree (mine ++ theirs) (fn ∷ fns) s)
   behind_statement : {a : Act} {acts : List Act} {fn : Activation} {fns : List Activation} {g : FlatFunction} {mine theirs regs : List Slot} {beneath fs : List SFrame} {locals : List Local} {low top : ℕ} {keeps : Keeps} {away : Option ℕ} {vs : List Value} (s : Slots)
-      → Within world codes regs a acts fn fns g mine theirs beneath locals low keeps → (r : Resumes (constants_in world fn.source) g (length theirs) beneath away locals low keeps a.pc 0 fs) → IsPlainResume r
+      → Within world codes regs a acts fn fns g mine theirs beneath locals low keeps → Resumes (constants_in world fn.source) g (length theirs) beneath away locals low keeps a.pc 0 fs
       → InBlock world codes (in_code a acts regs top (in_tree (mine ++ theirs) (fn ∷ fns) s)) (Gives (Goes vs) fs) (in_tree (mine ++ theirs) (fn ∷ fns) s)
   behind_block : {a : Act} {acts : List Act} {fn : Activation} {fns : List Activation} {g : FlatFunction} {mine theirs regs : List Slot} {beneath fs : List SFrame} {locals : List Local} {low top : ℕ} {keeps : Keeps} {away : Option ℕ} {vs : List Value} (s : Slots)
-      → Within world codes regs a acts fn fns g mine theirs beneath locals low keeps → (k : Finishes (constants_in world fn.source) g (length theirs) beneath away locals low keeps a.pc 0 fs) → IsPlainFinish k
+      → Within world codes regs a acts fn fns g mine theirs beneath locals low keeps → Finishes (constants_in world fn.source) g (length theirs) beneath away locals low keeps a.pc 0 fs
+      → InBlock world codes (in_code a acts regs top (in_tree (mine ++ theirs) (fn ∷ fns) s)) (Gives (Goes vs) fs) (in_tree (mine ++ theirs) (fn ∷ fns) s)
+  has_values : {a : Act} {acts : List Act} {fn : Activation} {fns : List Activation} {g : FlatFunction} {mine theirs regs : List Slot} {beneath fs : List SFrame} {locals : List Local} {low r n top : ℕ} {keeps : Keeps} {vs : List Value} (s : Slots)
+      → Within world codes regs a acts fn fns g mine theirs beneath locals low keeps → values_at regs (a.base + r) n ≡ adjusted n vs → StatExact (constants_in world fn.source) g (length theirs) beneath locals low keeps a.pc 0 r n fs
       → InBlock world codes (in_code a acts regs top (in_tree (mine ++ theirs) (fn ∷ fns) s)) (Gives (Goes vs) fs) (in_tree (mine ++ theirs) (fn ∷ fns) s)
   begins_while : {a : Act} {acts : List Act} {fn : Activation} {fns : List Activation} {g : FlatFunction} {mine theirs regs : List Slot} {beneath fs : List SFrame} {locals : List Local} {low first_place end top : ℕ} {keeps : Keeps} {away : Option ℕ} {test : CExp} {body : CBlock} (s : Slots)
-      → Within world codes regs a acts fn fns g mine theirs beneath locals low keeps → Tidy low locals keeps → (loop : IsWhile (constants_in world fn.source) g locals low test body first_place a.pc 0 end) → IsPlainBlock loop.inside → Resumes (constants_in world fn.source) g (length theirs) beneath away locals low keeps end 0 fs
+      → Within world codes regs a acts fn fns g mine theirs beneath locals low keeps → Tidy low locals keeps → IsWhile (constants_in world fn.source) g locals low test body first_place a.pc 0 end → Resumes (constants_in world fn.source) g (length theirs) beneath away locals low keeps end 0 fs
       → InBlock world codes (in_code a acts regs top (in_tree (mine ++ theirs) (fn ∷ fns) s)) (Starts (WhileTurnS test body) fs) (in_tree (mine ++ theirs) (fn ∷ fns) s)
   begins_repeat : {a : Act} {acts : List Act} {fn : Activation} {fns : List Activation} {g : FlatFunction} {mine theirs regs : List Slot} {beneath fs : List SFrame} {locals : List Local} {low end top : ℕ} {keeps : Keeps} {away : Option ℕ} {test : CExp} {body : CBlock} (s : Slots)
-      → Within world codes regs a acts fn fns g mine theirs beneath locals low keeps → Tidy low locals keeps → (loop : IsRepeat (constants_in world fn.source) g locals low body test a.pc end) → IsPlainBlock loop.inside → (r : Resumes (constants_in world fn.source) g (length theirs) beneath away locals low keeps end 0 fs) → IsPlainResume r
+      → Within world codes regs a acts fn fns g mine theirs beneath locals low keeps → Tidy low locals keeps → IsRepeat (constants_in world fn.source) g locals low body test a.pc end → Resumes (constants_in world fn.source) g (length theirs) beneath away locals low keeps end 0 fs
       → InBlock world codes (in_code a acts regs top (in_tree (mine ++ theirs) (fn ∷ fns) s)) (Starts (RepeatTurnS body test) fs) (in_tree (mine ++ theirs) (fn ∷ fns) s)
+  begins_count : {a : Act} {acts : List Act} {fn : Activation} {fns : List Activation} {g : FlatFunction} {mine theirs regs : List Slot} {beneath fs : List SFrame} {locals : List Local} {low base end top : ℕ} {keeps : Keeps} {away : Option ℕ} {boxed : Bool} {index limit step : ℤ} {body : CBlock} (s : Slots)
+      → Within world codes regs a acts fn fns g mine theirs beneath locals (base + 4) ((RegisterO (base + 3), Number index) ∷ (RegisterO base, Number index) ∷ (RegisterO (base + 1), Number limit) ∷ (RegisterO (base + 2), Number step) ∷ keeps) → low ≤ base → Tidy low locals keeps
+      → IsCount (constants_in world fn.source) g locals base boxed body a.pc end → Resumes (constants_in world fn.source) g (length theirs) beneath away locals low keeps end 0 fs
+      → InBlock world codes (in_code a acts regs top (in_tree (mine ++ theirs) (fn ∷ fns) s)) (Starts (CountTurnS boxed index limit step body) fs) (in_tree (mine ++ theirs) (fn ∷ fns) s)
+  begins_each : {a : Act} {acts : List Act} {fn : Activation} {fns : List Activation} {g : FlatFunction} {mine theirs regs : List Slot} {beneath fs : List SFrame} {locals : List Local} {low base line first_place end top : ℕ} {keeps : Keeps} {away : Option ℕ} {flags : List Bool} {f state : Value} {results : List Value} {body : CBlock} (s : Slots)
+      → Within world codes regs a acts fn fns g mine theirs beneath locals (base + 3) ((RegisterO base, f) ∷ (RegisterO (base + 1), state) ∷ (RegisterO (base + 2), first results) ∷ keeps) → values_at regs (a.base + base + 3) (length flags) ≡ adjusted (length flags) results → low ≤ base → Tidy low locals keeps
+      → a.pc ≡ first_place + 2 → IsEach (constants_in world fn.source) g locals base flags body line first_place end → Resumes (constants_in world fn.source) g (length theirs) beneath away locals low keeps end 0 fs
+      → InBlock world codes (in_code a acts regs top (in_tree (mine ++ theirs) (fn ∷ fns) s)) (Starts (EachTurnS flags f state results body line) fs) (in_tree (mine ++ theirs) (fn ∷ fns) s)
 
 -- THE LAW OF BLOCKS
 abbrev pub BlocksAreMoves : Type 0
@@ -220,3 +210,32 @@ pub data Returning (world : CWorld) (codes : Codes) : Flat → Point → Slots �
 
 abbrev pub ReturnsAreMoves : Type 0
 ReturnsAreMoves = (world : CWorld) (codes : Codes) (room : ℕ) (f : Flat) (p : Point) (s : Slots) → Returning world codes f p s → Follows world codes (flat_moves world codes room f) (Now p s)
+
+-- THE LAW OF OPERATIONS: wherever both stand together, the next operation, or the next move away from code, is moves of the machine over trees at
+-- the same steps, up to where both stand together again. The registers of a function that is called begin behind those that are relied on.
+abbrev pub OperationsAreMoves : Type 0
+OperationsAreMoves = (world : CWorld) (codes : Codes) (room : ℕ) → IsFlat world codes → (f : Flat) (p : Point) (s : Slots) → StandsFor world codes f p s → room_in codes f.acts f ≤ room → Follows world codes (flat_moves world codes room f) (Now p s)
+
+-- and with what is left of the allowances
+abbrev pub OperationsCome : Type 0
+OperationsCome = (world : CWorld) (codes : Codes) (room : ℕ) → IsFlat world codes → (f : Flat) (p : Point) (s : Slots) (left : Funds) → StandsFor world codes f p s → room_in codes f.acts f ≤ room → Comes world codes (flat_moves world codes room f) p s left
+
+-- A REPLY: with it both stand together, with the same left of the allowances; or the same allowance is spent
+abbrev pub AreReplied : CWorld → Codes → FlatEnacted → Enacted → Type 0
+AreReplied world codes (FStands to g) (Stands p s h) = StandsFor world codes to p s × (g ≡ h)
+AreReplied world codes (FShort which g) (Short which' h) = (which ≡ which') × (g ≡ h)
+AreReplied world codes x y = ⊥
+
+-- the same question is asked
+pub record AsksToo (world : CWorld) (codes : Codes) (f : Flat) (q : Ask) (fs : List SFrame) (s : Slots) : Type 0 where
+  pub frames : List SFrame
+  pub asks : f.point ≡ Away (Asking q frames)
+  pub replied : (r : Reply Answer) (left : Funds) → AreReplied world codes (replied_in f (takes_reply r frames f.slots left)) (takes_reply r fs s left)
+
+-- THE LAW OF QUESTIONS: a flat machine that stands for one that asks does so too, and behind the reply both stand together again
+abbrev pub QuestionsAreAsked : Type 0
+QuestionsAreAsked = (world : CWorld) (codes : Codes) (f : Flat) (q : Ask) (fs : List SFrame) (s : Slots) → StandsFor world codes f (Asking q fs) s → AsksToo world codes f q fs s
+
+-- THE LAW OF ENDS: where no function of Lua is in progress both stand at the same point, so also at their ends
+abbrev pub EndsAreEnds : Type 0
+EndsAreEnds = (world : CWorld) (codes : Codes) (f : Flat) (p : Point) (s : Slots) → StandsFor world codes f p s → f.acts ≡ [] → f.point ≡ Away p

@@ -1,5 +1,5 @@
 //! The laws of a flat machine: `specs/Laws.antt` says them. Each is the contract of a function that does nothing.
-ghost use Rattle.lua_flat_laws.specs.Laws.{BlocksAreMoves, EnteringIsMoves, ExpressionsAreMoves, LibraryIsMoves, OutcomesComeBack, ReturnsAreMoves, RunsAreMoves, TestsAreMoves, TurnsAreMoves, WhatFollowsComes};
+ghost use Rattle.lua_flat_laws.specs.Laws.{BlocksAreMoves, EndsAreEnds, EnteringIsMoves, ExpressionsAreMoves, LibraryIsMoves, OperationsAreMoves, OperationsCome, OutcomesComeBack, QuestionsAreAsked, ReturnsAreMoves, RunsAreMoves, TestsAreMoves, TurnsAreMoves, WhatFollowsComes};
 
 /// Where a flat move follows a move of the machine over trees, both come to the same with what is left.
 pub fn what_follows_comes()
@@ -49,4 +49,24 @@ pub fn runs_are_moves()
 /// Statements follow one another, down to the next operation.
 pub fn blocks_are_moves()
     ensures { BlocksAreMoves }
+{}
+
+/// Wherever both machines stand together, the next operation is moves of the machine over trees, at the same steps.
+pub fn operations_are_moves()
+    ensures { OperationsAreMoves }
+{}
+
+/// And it leads where these moves lead, with what is left of the allowances, or spends the same one.
+pub fn operations_come()
+    ensures { OperationsCome }
+{}
+
+/// A flat machine that stands for one that asks does so too, and with the reply both stand together again.
+pub fn questions_are_asked()
+    ensures { QuestionsAreAsked }
+{}
+
+/// Where no function of Lua is in progress both stand at the same point, so also at their ends.
+pub fn ends_are_ends()
+    ensures { EndsAreEnds }
 {}

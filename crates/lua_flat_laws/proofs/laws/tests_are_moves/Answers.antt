@@ -1,4 +1,4 @@
-use Rattle.lua_flat_laws.proofs.Tests.{tests_are_moves}
+use Rattle.lua_flat_laws.proofs.Blocks.{tests_are_moves}
 use Rattle.lua_flat_laws.proofs.laws.tests_are_moves.Goals as goal
 
 pub returns : goal.returns
