@@ -242,12 +242,14 @@ def unescaped(text):
 
 
 def each_case(table):
-    """for each case: its line's number, its words, its files, and its output"""
-    words, files = [b"expand", b"d", b"P"], {}
+    """for each case: its line's number, its words, its files, and what it leaves on both streams"""
+    words, err, files = [b"expand", b"d", b"P"], b"", {}
     for number, line in enumerate(table.split(b"\n"), 1):
         if line.startswith(b">"):
-            yield number, words, files, unescaped(line[1:])
-            words = [b"expand", b"d", b"P"]
+            yield number, words, files, (unescaped(line[1:]), err)
+            words, err = [b"expand", b"d", b"P"], b""
+        elif line.startswith(b"!"):
+            err = unescaped(line[1:])
         elif line.startswith(b"$"):
             words = line[1:].split(b" ")
         elif not line:
@@ -258,16 +260,21 @@ def each_case(table):
 
 
 def run_case(words, files):
-    nodes, size, values, words = 1000000, 2097152, [], list(words)
+    """What a case leaves on both streams: a page's text, and with `--stats` what it used. No page here takes a step."""
+    nodes, size, values, words, stats = 1000000, 2097152, [], list(words), False
     while words:
         name, given, number = words.pop(0).partition(b"=")
         if name == b"--nodes":
             nodes = int(number if given else words.pop(0))
         elif name == b"--bytes":
             size = int(number if given else words.pop(0))
+        elif name == b"--stats":
+            stats = True
         else:
             values.append(name + given + number)
-    return Wiki(files, title_of(values[2], ""), Left(nodes, size)).text()
+    page, left = title_of(values[2], ""), Left(nodes, size)
+    text = Wiki(files, page, left).text()
+    return text, b"%s steps 0 nodes %d bytes %d\n" % (title_text(page), nodes - left.nodes, size - left.size) if stats else b""
 
 
 def table_in(path):
@@ -282,7 +289,8 @@ def check(path):
         got = run_case(words, files)
         if got != wanted:
             wrong += 1
-            print(f"line {number}: wanted {wanted[:300]!r}\n{'':10}got    {got[:300]!r}")
+            for one, other in zip(wanted, got):
+                print(f"line {number}: wanted {one[:300]!r}\n{'':10}got    {other[:300]!r}")
     print(f"{count} cases, {wrong} differ")
     return wrong == 0
 

@@ -90,9 +90,9 @@ def main():
         if wanted is None:
             wanted = reference.run_case(words, files)
         got = printed(program, words, files)
-        if got != (0, wanted, b""):
+        if got != (0, *wanted):
             wrong += 1
-            print(f"{words}\n{files}\n  wanted {wanted[:500]!r}\n  got    {got}")
+            print(f"{words}\n{files}\n  wanted {[it[:500] for it in wanted]}\n  got    {got}")
     print(f"{len(cases)} cases, {wrong} differ")
     sys.stdout.flush()
     os._exit(1 if wrong else 0)
