@@ -39,6 +39,13 @@ fn laws_of_lua_meaning_laws(_rt: HostRuntime) -> Result<(), Fail> {
 }
 
 #[test]
+fn laws_of_lua_uses(_rt: HostRuntime) -> Result<(), Fail> {
+    lua_uses::rows_hold();
+    lua_lint_laws::none_is_missed();
+    Ok(())
+}
+
+#[test]
 fn laws_of_lua_slots(_rt: HostRuntime) -> Result<(), Fail> {
     lua_slots::laws::code_stays();
     lua_slots::laws::marks_are_paid();

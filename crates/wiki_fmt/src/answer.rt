@@ -1,24 +1,20 @@
 //! What a module of a folder gives.
-ghost use Rattle.std.specs.Prelude.{◌≡◌, ◌≤◌, IfOk, IfErr, IfSome, Err, option_map};
+ghost use Rattle.std.specs.Prelude.{◌≡◌, IfOk, IfErr, IfSome, Err, option_map};
 ghost use Rattle.wk_tool.specs.WkShelfCauses.{Rose};
 ghost use Rattle.wk_tool.specs.WkShelfFolder.{files_of, wiki_of};
 ghost use Rattle.wk_tool.specs.Report.{source_report};
-ghost use Rattle.wiki_fmt.specs.Due.{tool, text_of, printed, refused, IsTextReport, IsPageReport, IsWikiReport, IsAnswer};
+ghost use Rattle.wiki_lint.specs.Told.{tool};
+ghost use Rattle.wiki_fmt.specs.Due.{text_of, refused, IsTextReport, IsPageReport, IsGlobalsReport, IsLintReport, IsAsked, IsWikiReport, IsAnswer};
 
-use crate::command::Command;
+use crate::command::{Command, Verb};
 use lua_print::{FaultAt, SyntaxFault, fault_message, layout};
 use std::alloc::Global;
 use std::hash::RandomState;
+use wiki_lint::{FolderPage, List, TEXT_LIMIT, TOOL, lint, printed};
 use wk_tool::{
-    Bytes, FolderFault, FolderPage, List, NoMemory, Report, Shelf, Status, Title, Unread,
-    missing_report, read_folder, refusal, source_report,
+    Bytes, FolderFault, NoMemory, Report, Shelf, Status, Title, Unread, missing_report,
+    read_folder, refusal, source_report,
 };
-
-/// The name that stands before the colon in a line on standard error.
-const TOOL: &[u8] = b"wikifmt";
-
-/// A text of Lua has fewer bytes than this, so that 32 bits number its lines. No folder that is read holds a longer one.
-const TEXT_LIMIT: usize = 4_000_000_000;
 
 /// The text of the page of a title.
 fn text_of<'p>(title: &Title, pages: &'p [FolderPage]) -> Option<&'p [u8]>
@@ -32,18 +28,7 @@ fn text_of<'p>(title: &Title, pages: &'p [FolderPage]) -> Option<&'p [u8]>
     None
 }
 
-/// What a layout gives.
-fn printed(alloc: Global, bytes: Bytes) -> Report
-    ensures { result ≡ printed bytes }
-{
-    Report {
-        status: Status::Done,
-        out: bytes,
-        err: Bytes::of_vec(Vec::new(alloc)),
-    }
-}
-
-/// What a fault gives.
+/// What a fault of a text gives.
 fn refused(alloc: Global, title: &Title, fault: &FaultAt) -> Result<Report, NoMemory>
     ensures { IfOk result (λ report. report ≡ refused title.now fault.now) }
 {
@@ -80,13 +65,70 @@ fn pages_report(alloc: Global, title: &Title, pages: &[FolderPage]) -> Result<Re
     }
 }
 
-/// What a module gives on the pages of a folder.
-fn on_pages(alloc: Global, title: &Title, pages: &List<FolderPage>) -> Result<Report, Unread>
-    ensures report { IfOk result (λ report. IsPageReport title.now (text_of title.now pages.now) report) }
+/// What is told of the globals that a module with this text uses.
+fn globals_report(
+    alloc: Global,
+    seed: RandomState,
+    title: &Title,
+    text: &[u8],
+    pages: &[FolderPage],
+) -> Result<Report, NoMemory>
+    ensures report { IfOk result (λ report. IsGlobalsReport title.now pages.now text.now report) }
+    ensures answer { IfOk result (λ report. IsAnswer report.status) }
+{
+    match lint(alloc, seed, title, text, pages) {
+        Ok(report) => Ok(report),
+        Err(SyntaxFault::NoMemory) => Err(NoMemory),
+        Err(SyntaxFault::At(fault)) => refused(alloc, title, &fault),
+    }
+}
+
+/// What is told of the globals that a module on these pages uses.
+fn lint_pages(
+    alloc: Global,
+    seed: RandomState,
+    title: &Title,
+    pages: &[FolderPage],
+) -> Result<Report, NoMemory>
+    ensures report { IfOk result (λ report. IsLintReport title.now pages.now (text_of title.now pages.now) report) }
+    ensures answer { IfOk result (λ report. IsAnswer report.status) }
+{
+    match text_of(title, pages) {
+        None => missing_report(alloc, TOOL, title),
+        Some(text) => globals_report(alloc, seed, title, text, pages),
+    }
+}
+
+/// What is asked of a module on these pages.
+fn asked(
+    alloc: Global,
+    seed: RandomState,
+    verb: Verb,
+    title: &Title,
+    pages: &[FolderPage],
+) -> Result<Report, NoMemory>
+    ensures report { IfOk result (λ report. IsAsked verb title.now pages.now report) }
+    ensures answer { IfOk result (λ report. IsAnswer report.status) }
+{
+    match verb {
+        Verb::Print => pages_report(alloc, title, pages),
+        Verb::Lint => lint_pages(alloc, seed, title, pages),
+    }
+}
+
+/// What is asked of a module on the pages of a folder.
+fn on_pages(
+    alloc: Global,
+    seed: RandomState,
+    verb: Verb,
+    title: &Title,
+    pages: &List<FolderPage>,
+) -> Result<Report, Unread>
+    ensures report { IfOk result (λ report. IsAsked verb title.now pages.now report) }
     ensures answer { IfOk result (λ report. IsAnswer report.status) }
     ensures memory { IfErr result (λ e. e ≡ Unread.NoMemory) }
 {
-    match pages_report(alloc, title, pages.as_slice()) {
+    match asked(alloc, seed, verb, title, pages.as_slice()) {
         Ok(report) => Ok(report),
         Err(NoMemory) => Err(Unread::NoMemory),
     }
@@ -111,12 +153,12 @@ pub fn command_report<S: Shelf>(
     command: &Command<'_>,
     shelf: &mut S,
 ) -> Result<Report, Unread>
-    ensures report { IfOk result (λ report. IfSome (S.files shelf.old) (λ files. IsWikiReport command.now.title (wiki_of (files_of command.now.folder files)) report)) }
+    ensures report { IfOk result (λ report. IfSome (S.files shelf.old) (λ files. IsWikiReport command.now.verb command.now.title (wiki_of (files_of command.now.folder files)) report)) }
     ensures answer { IfOk result (λ report. IsAnswer report.status) }
     ensures cause { result ≡ Err Unread.Failed → Rose (S.faults shelf.old) (S.faults shelf.new) }
 {
     match read_folder(alloc, seed, shelf, command.folder) {
-        Ok(pages) => on_pages(alloc, &command.title, &pages),
+        Ok(pages) => on_pages(alloc, seed, command.verb, &command.title, &pages),
         Err(FolderFault::Source(fault)) => on_fault(alloc, &fault),
         Err(FolderFault::Read) => Err(Unread::Failed),
         Err(FolderFault::NoMemory) => Err(Unread::NoMemory),

@@ -1,4 +1,4 @@
-//! What `wikifmt` does with its words: the text of a module, laid out.
+//! What `wikifmt` does with its words: the text of a module, laid out; or the globals that it uses.
 //!
 //! Read `specs/Command.antt` first (the command that words are), then `specs/Due.antt`: what a run is to answer and to write.
 //!

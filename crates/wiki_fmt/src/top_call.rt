@@ -1,5 +1,5 @@
 //! The top call: what the program does with its words, over any shelf and any two sinks.
-ghost use Rattle.std.specs.Prelude.{◌≡◌, ◌≤◌, ◌⊎◌, false, IfOk, IfErr, map, string_bytes};
+ghost use Rattle.std.specs.Prelude.{◌≡◌, ◌⊎◌, false, IfOk, IfErr, map, string_bytes};
 ghost use Rattle.wk_tool.specs.WkShelfCauses.{Rose};
 ghost use Rattle.wk_tool.specs.Ending.{Prepares, KeepsDue, is_cut};
 ghost use Rattle.wiki_fmt.specs.Command.{is_command};
@@ -12,7 +12,7 @@ use std::alloc::Global;
 use std::hash::RandomState;
 use wk_tool::{NoMemory, Report, Shelf, Sink, Unread, finish, usage_report};
 
-const USAGE: &[u8] = b"usage: wikifmt print DIR MODULE\n";
+const USAGE: &[u8] = b"usage: wikifmt print DIR MODULE | lint DIR MODULE\n";
 
 /// What standard error gets where something can not be read.
 pub const CANNOT_READ: &[u8] = b"wikifmt: cannot read\n";

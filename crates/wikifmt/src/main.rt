@@ -1,4 +1,4 @@
-//! Prints the text of a module of a folder of wiki files, with its white space in order.
+//! Prints the text of a module of a folder of wiki files, with its white space in order; or the globals that it uses.
 //!
 //! What is printed, and with which status, stands in `wiki_fmt` (`specs/Due.antt`): its `run_fmt` is called here over the real folder and
 //! the real streams.

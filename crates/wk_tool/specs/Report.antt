@@ -3,7 +3,7 @@ use Rattle.std.specs.Prelude.{ℕ, List, [], ◌∷◌, ◌++◌, codes}
 use Rattle.wk_shelf.specs.WkBaseDeclaredTitleTitle.{Title}
 use Rattle.wk_shelf.specs.WkBaseTitles.{title_text}
 use Rattle.wk_tool.specs.declared.report.Status.{Status}
-use Rattle.wk_tool.specs.declared.report.Status.TheVariants.{Done, NoSuchPage, Usage, SourceFault, ReadFault, WriteFault, NoMemory, SyntaxFault, CaseFailed}
+use Rattle.wk_tool.specs.declared.report.Status.TheVariants.{Done, NoSuchPage, Usage, SourceFault, ReadFault, WriteFault, NoMemory, SyntaxFault, CaseFailed, CannotTell}
 use Rattle.wk_tool.specs.declared.report.Report.{Report}
 
 -- the exit status
@@ -17,6 +17,7 @@ status_code WriteFault = 5
 status_code NoMemory = 6
 status_code SyntaxFault = 8
 status_code CaseFailed = 9
+status_code CannotTell = 10
 
 -- a line on standard error, with the tool's name in front
 abbrev pub line : List ℕ → List ℕ → List ℕ

@@ -25,6 +25,8 @@ pub enum Status {
     SyntaxFault,
     /// A case of a test module failed.
     CaseFailed,
+    /// What was asked for can't be told.
+    CannotTell,
 }
 
 /// The status, what goes to standard output, and what goes to standard error.
@@ -50,6 +52,7 @@ impl Status {
             Status::NoMemory => 6,
             Status::SyntaxFault => 8,
             Status::CaseFailed => 9,
+            Status::CannotTell => 10,
         }
     }
 }

@@ -1,5 +1,5 @@
 use Rattle.wk_tool.specs.Report.{missing_report}
-use Rattle.wiki_fmt.specs.Due.{tool}
+use Rattle.wiki_lint.specs.Told.{tool}
 use Rattle.wiki_fmt.proofs.DueLemmas.{missing_page, held_page, status_of}
 use Rattle.wiki_fmt.proofs.answer.pages_report.Goals as goal
 

@@ -1,0 +1,3 @@
+mod ScopeLemmas
+mod PlaceLemmas
+pub mod ReadingLemmas

@@ -1,0 +1,17 @@
+mod Told
+mod Heaps
+mod Calls
+mod Operators
+mod Expressions
+mod Statements
+mod Loops
+mod Tree
+mod Answers
+mod Kept
+mod KeptForms
+mod CallBacks
+mod Replacing
+mod Modules
+mod Things
+mod Runs
+mod Missed
