@@ -1,10 +1,30 @@
-//! Runs cases of the machine of Lua from a table on standard input, and prints how each ended. `lua_machine_runs` says what a line of
-//! the table may be (`take_line`), `bench/machine_rows.py` writes it, and `bench/machine.py` has the program timed.
+//! Runs cases of the machine of Lua from a table on standard input, and prints how each ended. `bench/machine_rows.py` writes the
+//! table, and `bench/machine.py` has the program timed. Begin with `take_line` in `lines`, which says what a line may be.
 //!
-//! There are no definitions here.
+//! There are no definitions here: nothing is claimed of what a run comes to, but that it ends and never panics; `lua_machine` says what
+//! the machine does.
+//!
+//! - `case`: modules, and what is to be done with one of them
+//! - `replies`: answers to questions, written by hand
+//! - `runs`: one run of a case
+//! - `every`: many runs of a case, with each number of steps or of calls
+//! - `starts`: machines that are only started
+//! - `lines`: the lines of a table of cases
+//! - `words`: how a run ended, in words
+//! - `shown`: titles, texts and questions in words
 #![tactic(auto)]
 
-use lua_machine_runs::{Case, take_line};
+mod case;
+mod every;
+mod lines;
+mod replies;
+mod runs;
+mod shown;
+mod starts;
+mod words;
+
+use crate::case::Case;
+use crate::lines::take_line;
 use std::hash::RandomState;
 use std::io;
 

@@ -7,7 +7,8 @@ use std::alloc::Global;
 use std::hash::RandomState;
 use std::thread::Threads;
 use wiki_app::run;
-use wk_shelf::{NoMemory, Shelf};
+use wk_base::NoMemory;
+use wk_shelf::Shelf;
 
 /// Whether the streams have the texts that are said of them.
 fn has_texts(alloc: Global, streams: &Streams, out: &str, err: &[u8]) -> Result<bool, NoMemory> {

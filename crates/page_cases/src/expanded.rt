@@ -1,20 +1,20 @@
 //! A page with allowances of its own.
 ghost use Rattle.std.specs.Prelude.{◌≡◌};
-ghost use Rattle.page_driver.specs.WkBaseAllowances.{IsCountable};
+ghost use Rattle.wk_base.specs.Allowances.{IsCountable};
 
 use crate::fields::{is_number, is_text, text_of};
 use crate::rows::Rows;
 use crate::wikis::{limits_of, title_of, wiki_of};
 use bumpalo::Bump;
 use lua_store::Store;
-use page_driver::{Limits, Page, Steps, Wiki, expand_page_in};
 use std::alloc::Global;
 use std::hash::RandomState;
 use std::marker::Brand;
 use std::mem;
 use std::sync::ledger::{Blank, Ledger};
 use std::thread::Threads;
-use wk_shelf::{NoMemory, Title};
+use wiki_app::{Page, Wiki, expand_page_in};
+use wk_base::{Limits, NoMemory, Steps, Title};
 
 /// Whether the store has functions of the runs from 0 on: for each a `1`, or a `0`.
 fn has_runs(store: &Store, runs: &[u8]) -> bool {

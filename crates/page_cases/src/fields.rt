@@ -1,7 +1,7 @@
 //! Numbers and texts of a row.
 use case_text::unescaped;
 use std::alloc::Global;
-use wk_shelf::NoMemory;
+use wk_base::NoMemory;
 
 /// The number of no call.
 pub const NONE: u64 = u64::MAX;

@@ -1,13 +1,12 @@
 //! An invocation by itself.
 ghost use Rattle.std.specs.Prelude.{◌≡◌, IfOk};
 ghost use Rattle.mw_frame.specs.Scenes.{NamesDiffer, HaveNames};
-ghost use Rattle.page_driver.specs.WkBaseAllowances.{IsCountable};
+ghost use Rattle.wk_base.specs.Allowances.{IsCountable};
 
 use crate::fields::{field, is_number, is_text, text_of};
 use crate::rows::Rows;
 use crate::wikis::{limits_of, title_of, wiki_of};
 use mw_frame::{Arg, Job, Scene};
-use page_driver::{JobEnd, Limits, Steps, Wiki, run_job};
 use page_meaning::JobOutcome;
 use page_run::Which;
 use std::alloc::Global;
@@ -16,7 +15,8 @@ use std::marker::Brand;
 use std::mem;
 use std::sync::ledger::{Blank, Ledger};
 use std::thread::Threads;
-use wk_shelf::{Bytes, List, Namespace, NoMemory, Title};
+use wiki_app::{JobEnd, Wiki, run_job};
+use wk_base::{Bytes, Limits, List, Namespace, NoMemory, Steps, Title};
 
 /// The first argument of a frame, which has no other.
 fn one_arg(alloc: Global, value: &[u8]) -> Result<List<Arg>, NoMemory>

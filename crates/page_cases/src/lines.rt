@@ -8,7 +8,7 @@ use case_text::unescaped;
 use std::alloc::{AllocError, Global};
 use std::hash::RandomState;
 use std::thread::Threads;
-use wk_shelf::NoMemory;
+use wk_base::NoMemory;
 
 /// A word of a command line.
 fn word_of(alloc: Global, word: &str) -> Result<String, AllocError> {

@@ -28,7 +28,7 @@ use std::alloc::{AllocError, Global};
 use std::hash::RandomState;
 use std::io;
 use std::thread::Threads;
-use wk_shelf::NoMemory;
+use wk_base::NoMemory;
 
 /// Tells a line that is wrong, and what it came to.
 fn tell(alloc: Global, rows: &mut Rows<'_>, line: &str) -> Result<(), AllocError> {

@@ -7,9 +7,8 @@ use std::alloc::{AllocError, Global};
 use std::hint::spin_loop;
 use std::sync::atomic::{AtomicU64, Ordering};
 use wiki_app::Gate;
-use wk_shelf::{
-    Bytes, List, MemoryFile, MemoryShelf, MemorySink, NoMemory, Shelf, ShelfFault, can_hold,
-};
+use wk_base::{Bytes, List, NoMemory};
+use wk_shelf::{MemoryFile, MemoryShelf, MemorySink, Shelf, ShelfFault, can_hold};
 
 /// The name of a file: that of a page's title, in which a slash is written as an escape, or what stands behind an `@`.
 fn file_name(alloc: Global, name: &[u8]) -> Result<Vec<u8>, AllocError> {

@@ -1,15 +1,14 @@
 //! A wiki from the pages of the folder, and how much is allowed on it.
-ghost use Rattle.page_driver.specs.WkBaseAllowances.{IsCountable};
+ghost use Rattle.wk_base.specs.Allowances.{IsCountable};
 
 use crate::fields::number_or;
 use crate::rows::File;
 use case_text::unescaped;
-use page_driver::{Limits, Wiki};
 use std::alloc::Global;
 use std::hash::RandomState;
 use std::thread::Threads;
-use wiki_app::{RawPage, load};
-use wk_shelf::{Bytes, List, Namespace, NoMemory, Title};
+use wiki_app::{RawPage, Wiki, load};
+use wk_base::{Bytes, Limits, List, Namespace, NoMemory, Title};
 
 /// The title that a text is. One that is none counts as want of memory.
 pub fn title_of(alloc: Global, text: &[u8]) -> Result<Title, NoMemory> {

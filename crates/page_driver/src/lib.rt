@@ -27,7 +27,5 @@ pub mod tower;
 pub mod wiki;
 
 pub use job::{JobEnd, run_job};
-pub use mw_frame::Limits;
 pub use page::{expand_page, expand_page_in};
-pub use page_tasks::Steps;
 pub use wiki::{Page, Wiki};

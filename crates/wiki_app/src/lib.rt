@@ -16,4 +16,4 @@ mod top_call;
 
 pub use laws::jobs_change_nothing;
 pub use top_call::{CANNOT_READ, run};
-pub use wiki_batch::{Gate, OpenGate, RawPage, load};
+pub use wiki_batch::{Gate, JobEnd, OpenGate, Page, RawPage, Wiki, expand_page_in, load, run_job};

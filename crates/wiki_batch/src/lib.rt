@@ -17,5 +17,5 @@ mod sharing;
 pub use expanding::expand_all;
 pub use gate::{Gate, OpenGate};
 pub use loading::load;
-pub use page_driver::{Page, Wiki};
+pub use page_driver::{JobEnd, Page, Wiki, expand_page_in, run_job};
 pub use wiki_texts::RawPage;

@@ -1,0 +1,72 @@
+//! The top call: what the program does with its words, over any shelf and any two sinks.
+ghost use Rattle.std.specs.Prelude.{◌≡◌, ◌≤◌, ◌⊎◌, false, IfOk, IfErr, map, string_bytes};
+ghost use Rattle.wk_shelf.specs.Causes.{Rose};
+ghost use Rattle.wk_tool.specs.Ending.{Prepares, KeepsDue, is_cut};
+ghost use Rattle.wiki_tests.specs.Command.{is_command};
+ghost use Rattle.wk_tool.specs.Report.{usage_report};
+ghost use Rattle.wiki_tests.specs.Due.{IsDue, HasDue, usage, statuses, cannot_read};
+
+use crate::answer::command_report;
+use crate::command::read_command;
+use std::alloc::Global;
+use std::hash::RandomState;
+use std::thread::Threads;
+use wk_base::NoMemory;
+use wk_shelf::{Shelf, Sink};
+use wk_tool::{Report, Unread, finish, usage_report};
+
+const USAGE: &[u8] = b"usage: wikitest DIR\n";
+
+/// What standard error gets where something can not be read.
+pub const CANNOT_READ: &[u8] = b"wikitest: cannot read\n";
+
+/// What words give that are no command.
+fn usage(alloc: Global) -> Result<Report, Unread>
+    ensures report { IfOk result (λ report. report ≡ usage_report usage) }
+    ensures memory { IfErr result (λ e. e ≡ Unread.NoMemory) }
+{
+    match usage_report(alloc, USAGE) {
+        Ok(report) => Ok(report),
+        Err(NoMemory) => Err(Unread::NoMemory),
+    }
+}
+
+/// What the words give.
+fn prepare<R: Threads + Sync, S: Shelf>(
+    rt: &R,
+    alloc: Global,
+    seed: RandomState,
+    words: &[String],
+    shelf: &mut S,
+) -> Result<Report, Unread>
+    ensures prepares { Prepares result (is_command (map string_bytes words.now)) statuses (IsDue (map string_bytes words.now) (S.files shelf.old)) (Rose (S.faults shelf.old) (S.faults shelf.new)) }
+    ensures has_due { IfOk result (λ report. HasDue (map string_bytes words.now) (S.files shelf.old)) }
+{
+    match read_command(words) {
+        None => usage(alloc),
+        Some(command) => command_report(rt, alloc, seed, &command, shelf),
+    }
+}
+
+/// Runs the test modules of a folder, over a shelf, with `out` and `err` for the two streams. The answer is the exit status: 9 where a case
+/// failed.
+///
+/// The seed is drawn anew for each run of the program: who does not know it can't choose titles that collide. Nothing that is answered or
+/// put depends on it, nor on the number of jobs that the words name.
+pub fn run_tests<R: Threads + Sync, S: Shelf, O: Sink, E: Sink>(
+    rt: &R,
+    alloc: Global,
+    seed: RandomState,
+    words: &[String],
+    shelf: &mut S,
+    out: &mut O,
+    err: &mut E,
+) -> u8
+    ensures keeps { KeepsDue (is_command (map string_bytes words.now)) statuses cannot_read (IsDue (map string_bytes words.now) (S.files shelf.old)) (Rose (S.faults shelf.old) (S.faults shelf.new)) (out.new ≡ out.old) (err.new ≡ err.old) (Rose (O.faults out.old) (O.faults out.new)) (Rose (E.faults err.old) (E.faults err.new)) (O.contents out.old) (O.contents out.new) (E.contents err.old) (E.contents err.new) result }
+    ensures has_due { is_cut result ≡ false → HasDue (map string_bytes words.now) (S.files shelf.old) }
+    // After status 5 what was cut off is due, or it is the line of a read that failed.
+    ensures cut_due { result ≡ 5 → HasDue (map string_bytes words.now) (S.files shelf.old) ⊎ Rose (S.faults shelf.old) (S.faults shelf.new) }
+{
+    let work = prepare(rt, alloc, seed, words, shelf);
+    finish(work, CANNOT_READ, out, err)
+}

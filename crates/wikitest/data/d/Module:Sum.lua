@@ -1,0 +1,1 @@
+return {add=function(frame) return frame.args[1]+frame.args[2] end}
