@@ -3,11 +3,11 @@ use std::test::Fail;
 
 #[test]
 fn laws_of_layouts(_rt: HostRuntime) -> Result<(), Fail> {
-    lua_piece_laws::pieces_fit();
-    lua_piece_laws::pieces_stay();
-    lua_piece_laws::closed_pieces_stay();
-    lua_neighbours::neighbours_fit();
-    lua_twins::twins_spell();
+    lua_token_laws::pieces_fit();
+    lua_token_laws::pieces_stay();
+    lua_token_laws::closed_pieces_stay();
+    lua_token_laws::neighbours_fit();
+    lua_token_laws::twins_spell();
     lua_print::rows_hold();
     Ok(())
 }

@@ -11,8 +11,8 @@ use Rattle.lua_lexer.specs.WkBaseSpace.{is_white}
 use Rattle.lua_lexer.specs.Lexis.{at, is_letter, is_numeral, is_quote, is_name_byte, is_keyword, is_equals, same, equals_behind, opens_long, before_closing, Body, Closed, Open, string_body, mark_size, no_token, token_piece, long_piece, long_comment, long_string, comment_of, string_of, mark_of, piece_of}
 use Rattle.lua_reading.specs.LuaGrammarDeclaredTokenClass.{TokenClass}
 use Rattle.lua_reading.specs.LuaGrammarDeclaredTokenClassTheVariants.{Name as NameClass, Number as NumberClass, Text as TextClass, Hash, LeftParen, RightParen, LeftBrace, RightBrace, LeftBracket, RightBracket, Semicolon, Colon, Comma, Dot, Other}
-use Rattle.lua_neighbours.specs.Neighbours.{NoEquals}
-use Rattle.lua_piece_laws.proofs.FirstBytes.{kind_at}
+use Rattle.lua_token_laws.specs.Neighbours.{NoEquals}
+use Rattle.lua_token_laws.proofs.FirstBytes.{kind_at}
 use Rattle.lua_reading.specs.LuaGrammarTokens.{Entry, look_up, early_words, middle_words, late_words, operators, comparisons, brackets, points, word_class, mark_class, kind_class}
 
 -- The byte of which a mark of this class consists, for some of one byte.

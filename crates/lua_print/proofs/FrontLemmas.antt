@@ -14,7 +14,7 @@ use Rattle.lua_reading.specs.LuaGrammarDeclaredTokenClass.{TokenClass}
 use Rattle.lua_reading.specs.LuaGrammarTokens.{kind_class, class_of}
 use Rattle.lua_print.specs.declared.items.Front.TheVariants.{Space, Shown}
 use Rattle.lua_print.specs.Answers.{IsKind, IsNext, IsFront}
-use Rattle.lua_piece_laws.proofs.SizeLemmas.{inside, found_fits}
+use Rattle.lua_token_laws.proofs.SizeLemmas.{inside, found_fits}
 
 -- ---- the next token
 

@@ -14,7 +14,7 @@ use Rattle.lua_print.specs.declared.items.Gap.TheVariants.{First, Beside}
 use Rattle.lua_print.specs.declared.items.Front.TheVariants.{Space, Shown}
 use Rattle.lua_print.specs.Items.{Item, item, behind_space, each_piece, pieces_by, items_from, items_of}
 use Rattle.lua_print.specs.Answers.{IsNext, IsFront, tokens_in}
-use Rattle.lua_piece_laws.proofs.SizeLemmas.{found_fits}
+use Rattle.lua_token_laws.proofs.SizeLemmas.{found_fits}
 use Rattle.lua_print.proofs.FrontLemmas.{next_piece}
 
 -- ---- the pieces of a text

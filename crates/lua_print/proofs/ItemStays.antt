@@ -14,12 +14,12 @@ use Rattle.lua_reading.specs.LuaGrammarDeclaredTokenClassTheVariants.{Name as Na
 use Rattle.lua_reading.specs.LuaGrammarTokens.{kind_class}
 use Rattle.lua_print.specs.Items.{Item}
 use Rattle.lua_print.specs.Layout.{is_tight, hugs_left, hugs_right, can_be_called, calls_or_indexes, is_left_bracket, is_left_brace, is_right_brace}
-use Rattle.lua_piece_laws.proofs.SizeLemmas.{found_fits}
-use Rattle.lua_piece_laws.specs.Pieces.{Ends, Stays}
-use Rattle.lua_piece_laws.proofs.PieceStays.{paren_ends, comma_ends, colon_ends, semicolon_ends, bracket_ends, none_run, piece_stays}
-use Rattle.lua_piece_laws.proofs.LooseStays.{name_stays, text_stays, comment_stays, hash_stays, left_paren_stays, right_paren_stays, colon_stays, right_bracket_stays, left_brace_stays, right_brace_stays, dot_stays}
-use Rattle.lua_piece_laws.proofs.StayLemmas.{at_hyphens, marked}
-use Rattle.lua_piece_laws.proofs.FirstBytes.{comment_first, name_first, letter_plain}
+use Rattle.lua_token_laws.proofs.SizeLemmas.{found_fits}
+use Rattle.lua_token_laws.specs.Pieces.{Ends, Stays}
+use Rattle.lua_token_laws.proofs.PieceStays.{paren_ends, comma_ends, colon_ends, semicolon_ends, bracket_ends, none_run, piece_stays}
+use Rattle.lua_token_laws.proofs.LooseStays.{name_stays, text_stays, comment_stays, hash_stays, left_paren_stays, right_paren_stays, colon_stays, right_bracket_stays, left_brace_stays, right_brace_stays, dot_stays}
+use Rattle.lua_token_laws.proofs.StayLemmas.{at_hyphens, marked}
+use Rattle.lua_token_laws.proofs.FirstBytes.{comment_first, name_first, letter_plain}
 use Rattle.lua_print.proofs.ClassLemmas.{shape, kind_shaped, shaped_bytes, kind_named, kind_text}
 use Rattle.lua_print.proofs.Readings.{class_of_kind}
 

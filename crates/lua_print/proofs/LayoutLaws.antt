@@ -12,8 +12,8 @@ use Rattle.lua_lexer.specs.Lexis.{tokens_of, end_token, line_behind, Spells, Lex
 use Rattle.lua_lexer.proofs.Lists.{one_list, no_list_with_fault}
 use Rattle.lua_reading.specs.LuaGrammarGrammar.{IsChunk}
 use Rattle.lua_parser.specs.Chunks.{IsParsed}
-use Rattle.lua_twins.specs.Twins.{relined}
-use Rattle.lua_twins.proofs.Carried.{twins_spell}
+use Rattle.lua_token_laws.specs.Twins.{relined}
+use Rattle.lua_token_laws.proofs.Carried.{twins_spell}
 use Rattle.lua_print.specs.declared.items.Gap.TheVariants.{First}
 use Rattle.lua_print.specs.Items.{items_from, items_of}
 use Rattle.lua_print.specs.Layout.{laid, layout_of}

@@ -6,7 +6,7 @@ use Rattle.lua_lexer.specs.WkBaseSpace.{is_white}
 use Rattle.lua_lexer.specs.Lexis.{at, is_equals, piece_of}
 use Rattle.lua_reading.specs.LuaGrammarDeclaredTokenClass.{TokenClass}
 use Rattle.lua_reading.specs.LuaGrammarDeclaredTokenClassTheVariants.{LeftBracket, Dot}
-use Rattle.lua_piece_laws.proofs.PieceStays.{lf_ends, space_ends}
+use Rattle.lua_token_laws.proofs.PieceStays.{lf_ends, space_ends}
 use Rattle.lua_print.specs.declared.items.Gap.{Gap}
 use Rattle.lua_print.specs.declared.items.Gap.TheVariants.{First, Beside, Below, Apart}
 use Rattle.lua_print.specs.Items.{Item, item, items_from, items_of}

@@ -16,8 +16,8 @@ use Rattle.lua_print.specs.declared.items.Gap.{Gap}
 use Rattle.lua_print.specs.declared.items.Gap.TheVariants.{First, Beside, Below, Apart}
 use Rattle.lua_print.specs.Items.{Item, item, behind_space, each_piece, pieces_by, items_from, items_of}
 use Rattle.lua_print.specs.Layout.{indent}
-use Rattle.lua_piece_laws.proofs.SizeLemmas.{found_fits}
-use Rattle.lua_piece_laws.proofs.PieceStays.{none_run}
+use Rattle.lua_token_laws.proofs.SizeLemmas.{found_fits}
+use Rattle.lua_token_laws.proofs.PieceStays.{none_run}
 
 -- The text is these pieces in turn.
 abbrev pub ArePieces : List ℕ → List Piece → Type 0

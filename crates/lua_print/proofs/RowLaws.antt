@@ -13,10 +13,10 @@ use Rattle.lua_reading.specs.LuaGrammarDeclaredTokenClass.{TokenClass}
 use Rattle.lua_reading.specs.LuaGrammarDeclaredTokenClassTheVariants.{Name as NameClass, Text as TextClass, RightParen, RightBrace, LeftBracket, RightBracket, Dot}
 use Rattle.lua_reading.specs.LuaGrammarTokens.{kind_class, class_of, tok_at}
 use Rattle.lua_reading.specs.LuaGrammarGrammar.{IsChunk}
-use Rattle.lua_neighbours.specs.Neighbours.{Indexed, Fits, AreNeighbours}
-use Rattle.lua_neighbours.proofs.Chunks.{neighbours_fit}
-use Rattle.lua_piece_laws.proofs.SizeLemmas.{found_fits}
-use Rattle.lua_piece_laws.proofs.FirstBytes.{comment_first, line_end, token_dark, break_white, dark_behind, some_breaks}
+use Rattle.lua_token_laws.specs.Neighbours.{Indexed, Fits, AreNeighbours}
+use Rattle.lua_token_laws.proofs.Chunks.{neighbours_fit}
+use Rattle.lua_token_laws.proofs.SizeLemmas.{found_fits}
+use Rattle.lua_token_laws.proofs.FirstBytes.{comment_first, line_end, token_dark, break_white, dark_behind, some_breaks}
 use Rattle.lua_print.specs.declared.items.Gap.{Gap}
 use Rattle.lua_print.specs.declared.items.Gap.TheVariants.{First, Beside, Below, Apart}
 use Rattle.lua_print.specs.Items.{Item, item, gap_of, behind_space, with_piece, items_from, items_of}

@@ -5,7 +5,7 @@ use Rattle.std.proofs.lemmas.Bool.{cond-true, cond-false, eq-eqb, eqb-true}
 use Rattle.lua_lexer.specs.declared.token.Token.{Token}
 use Rattle.lua_reading.specs.LuaGrammarDeclaredTokenClassTheVariants.{Eof}
 use Rattle.lua_reading.specs.LuaGrammarTokens.{kind_class, class_at, tok_at}
-use Rattle.lua_twins.specs.Twins.{AreTwins}
+use Rattle.lua_token_laws.specs.Twins.{AreTwins}
 
 -- A token and its twin, behind the lines where the tokens before them end.
 pub record Steps (a b : ℕ) (t u : Token) : Type 0 where

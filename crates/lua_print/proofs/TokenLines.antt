@@ -10,8 +10,8 @@ use Rattle.lua_lexer.specs.WkBaseSpace.{is_white}
 use Rattle.lua_lexer.specs.Lexis.{at, breaks, no_token, token_piece, piece_of, tokens_of, end_token, Spells}
 use Rattle.lua_reading.specs.LuaGrammarDeclaredTokenClass.{TokenClass}
 use Rattle.lua_reading.specs.LuaGrammarTokens.{kind_class}
-use Rattle.lua_piece_laws.specs.Pieces.{Ends}
-use Rattle.lua_piece_laws.proofs.FirstBytes.{kind_at, dark_behind}
+use Rattle.lua_token_laws.specs.Pieces.{Ends}
+use Rattle.lua_token_laws.proofs.FirstBytes.{kind_at, dark_behind}
 use Rattle.lua_print.specs.declared.items.Gap.{Gap}
 use Rattle.lua_print.specs.declared.items.Gap.TheVariants.{First, Beside, Below, Apart}
 use Rattle.lua_print.specs.Items.{Item, item, gap_of, behind_space, with_piece, items_from}

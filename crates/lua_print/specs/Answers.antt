@@ -14,7 +14,7 @@ use Rattle.lua_parser.specs.Chunks.{IsParsed}
 use Rattle.lua_print.specs.declared.items.Front.{Front}
 use Rattle.lua_print.specs.declared.items.Front.TheVariants.{Space, Shown}
 use Rattle.lua_syntax.specs.View.{chunk_view}
-use Rattle.lua_twins.specs.Twins.{relined}
+use Rattle.lua_token_laws.specs.Twins.{relined}
 use Rattle.lua_print.specs.Layout.{layout_of}
 
 -- `parse` gives a chunk of the text.

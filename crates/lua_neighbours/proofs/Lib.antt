@@ -1,3 +1,0 @@
-pub mod Calms
-pub mod Walks
-pub mod Chunks

@@ -1,0 +1,11 @@
+pub mod SizeLemmas
+pub mod RunLemmas
+pub mod LongBrackets
+pub mod StayLemmas
+pub mod PieceStays
+pub mod LooseStays
+pub mod FirstBytes
+pub mod Calms
+pub mod Walks
+pub mod Chunks
+pub mod Carried
