@@ -1,0 +1,13 @@
+mod CallLaws
+mod ChoiceLaws
+mod FunctionLaws
+mod Handed
+mod ListLaws
+mod LoopLaws
+mod MakingLaws
+mod OriginLaws
+mod StatementLaws
+mod TargetLaws
+mod TestLaws
+mod ValueLaws
+mod ViewLaws

@@ -1,0 +1,5 @@
+pub mod Seen
+pub mod Making
+pub mod Parts
+pub mod Targets
+pub mod Whole
