@@ -1,5 +1,5 @@
 -- A task asks: another one begins that answers it, or it is to be told the answer at once.
-use Rattle.std.proofs.Common.{◌≡◌, ℕ, ◌+◌, ◌-◌, ◌≤◌, ◌∷◌, Some, sym, ap, ◌∙◌, subst, arith}
+use Rattle.std.proofs.Common.{◌≡◌, ℕ, ◌+◌, ◌≤◌, ◌∷◌, Some, sym, ap, ◌∙◌, subst, arith}
 use Rattle.std.specs.Prelude.{map}
 use Rattle.std.specs.List.{AllByRecursion}
 use Rattle.page_meaning.specs.WkBaseDeclaredLeftLeft.{Left}
@@ -32,7 +32,7 @@ pub record AsksFor (g : Ground) (s : StoreView) (left : Left) (t : Task) (h : Ha
   pub waits : CanBeTold t
   pub asks : (modules : Modules) (p : Place) → HasHalted g modules s left t p h → (next_of (wiki_of g modules) (page_of g) p ≡ Wants q left) × Waits g modules s t p
 
--- the answer to it is known, and costs this
+-- the answer to it is known, leaves this, and counts so much for data that was kept
 pub record IsAnswered (g : Ground) (modules : Modules) (left : Left) (q : Question) (t : Task) (now : WalkState) (left' : Left) (charge : ℕ) (says : Response Answer) (high : ℕ) : Type 0 where
   pub reply : PlainReply Answer
   pub is : answer_to (wiki_of g modules) (page_of g) q left ≡ reply
@@ -90,7 +90,7 @@ module _ (g : Ground) (root : PlainTask) (first : Left) (k₀ : ℕ) (s : StoreV
     }
 
   -- IT IS TOLD the answer at once
-  module _ (left' : Left) (charge : ℕ) (says : Response Answer) (high : ℕ) (e : tower'.stack ≡ tower.stack) (e' : tower'.keep ≡ tower.keep) (e'' : tower'.repeat_charges ≡ tower.repeat_charges + charge) (e''' : tower'.numbers ≡ tower.numbers) (f : left' ≡ record left { steps = left.steps - charge }) (c : charge ≤ left.steps) where
+  module _ (left' : Left) (charge : ℕ) (says : Response Answer) (high : ℕ) (e : tower'.stack ≡ tower.stack) (e' : tower'.keep ≡ tower.keep) (e'' : tower'.repeat_charges ≡ tower.repeat_charges + charge) (e''' : tower'.numbers ≡ tower.numbers) (f : left' ≡ record left { steps = left'.steps }) (c : left'.steps + charge ≤ left.steps) where
     is_told : (modules : Modules) → (x : IsHalted g modules root first k₀ s left k tower (record { task = t; halt = h })) → IsAnswered g modules left q t x.now left' charge says high → IsTold g modules root first k₀ s left' k tower' t says high
     is_told modules x i =
         let st = x.standing in
@@ -128,7 +128,7 @@ module _ (g : Ground) (root : PlainTask) (first : Left) (k₀ : ℕ) (s : StoreV
         depth_is = omega (arith, d.accounts.depth_is, a.counts (depth_of t), ap (sum_of depth_of) e, ap (λ (l : Left). l.depth) f);
         templates_are = omega (arith, d.accounts.templates_are, a.counts (templates_of t), ap (sum_of templates_of) e, ap (λ (l : Left). l.templates) f);
         rises = d.accounts.rises;
-        paid = omega (arith, d.accounts.paid, e'', ap (λ (l : Left). l.steps) f, c);
+        paid = omega (arith, d.accounts.paid, e'', c);
       };
       placed = λ modules agree. let x = d.placed modules agree in is_told modules x (i modules agree x.now x.standing.keeps);
     }

@@ -91,6 +91,9 @@ taken_fits a b = omega arith
 pub same_fits : (n : ℕ) → n ≤ n
 same_fits n = omega arith
 
+pub too_few : (n l : ℕ) → n ≤ l → l < n → ⊥
+too_few n l a b = omega (arith, a, b)
+
 pub no_more : (a b n : ℕ) → a ≤ b → b ≤ n → a ≤ n
 no_more a b n x y = omega (arith, x, y)
 

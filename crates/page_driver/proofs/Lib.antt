@@ -5,6 +5,7 @@ pub mod Goings
 pub mod Hands
 pub mod Nexts
 pub mod Sinking
+pub mod Refusals
 pub mod MoveSteps
 pub mod Renumbering
 pub mod Whole

@@ -1,5 +1,5 @@
 -- THE MOVES OF A PAGE, as the functions make them.
-use Rattle.std.proofs.Common.{◌≡◌, ◌⊎◌, inl, inr, ℕ, ◌+◌, ◌-◌, ◌≤◌, true, false, List, ◌∷◌, Option, Some, None, IsTrue, refl, sym, ap, ◌∙◌, subst, arith}
+use Rattle.std.proofs.Common.{◌≡◌, ◌⊎◌, inl, inr, ℕ, ◌+◌, ◌-◌, ◌<◌, ◌≤◌, true, false, List, ◌∷◌, Option, Some, None, IsTrue, refl, sym, ap, ◌∙◌, subst, arith}
 use Rattle.std.specs.Prelude.{min, is_some}
 use Rattle.page_meaning.specs.WkBaseDeclaredLeftLeft.{Left}
 use Rattle.lua_code.specs.WkBaseDeclaredTitleTitle.{Title}
@@ -50,6 +50,8 @@ use Rattle.page_tasks.specs.Going.{HeightTold, IsToldWell, Halts, GoesOn, GoesOn
 use Rattle.page_tasks.specs.Beginning.{Begins, BeginsWith}
 use Rattle.page_tasks.specs.PageGroundKept.{kept_for, keep_with, KeepOf, IsEntry, Keeps, IsShort}
 use Rattle.page_driver.specs.Driven.{IsHalted, Driven, Starting, Telling, MovesOn, StartsOn}
+use Rattle.page_tasks.specs.Refusing.{start_charge, none_left, refusal}
+use Rattle.page_driver.proofs.Refusals.{refused_reply, is_refused, reply_leaves}
 use Rattle.page_driver.proofs.Goings.{driven_goes, driven_told}
 use Rattle.page_driver.proofs.Hands.{driven_hands, no_data_keeps, text_height, spent_height}
 use Rattle.page_driver.proofs.Asks.{AsksFor, driven_begins, driven_answers}
@@ -169,8 +171,7 @@ module _ (g : Ground) (s : StoreView) (left : Left) (k : ℕ) (tower : Tower) (t
       → Driven g root first k₀ s left k tower (record { task = t; halt = halt.Asks q }) → Telling g root first k₀ s left k tower t (Gives NoPage) 0
   none_told q bare root first k₀ d =
       let kept : tower.repeat_charges ≡ tower.repeat_charges + 0 = omega arith in
-      let steps : left.steps ≡ left.steps - 0 = omega arith in
-      driven_answers g root first k₀ s left k tower tower t (halt.Asks q) (OfLua q) (asks_lua q root first k₀ d) d left 0 (Gives NoPage) 0 refl refl kept refl (ap (λ n. record left { steps = n }) steps) (omega arith)
+      driven_answers g root first k₀ s left k tower tower t (halt.Asks q) (OfLua q) (asks_lua q root first k₀ d) d left 0 (Gives NoPage) 0 refl refl kept refl refl (omega arith)
       (λ modules agree now keeps. record { reply = absent left; is = bare modules agree; says_so = refl; leaves = refl; invokes = refl; walks = no_charge now; well = well_none t })
 
   pub none_moves : (q : Ask) → ((modules : Modules) → AreModulesOf g modules → answer_to (wiki_of g modules) (page_of g) (OfLua q) left ≡ absent left) → (s' : StoreView) (left' : Left) (k' : ℕ) (x : Halted) → Halts s left k t s' left' k' x → ((n : ℕ) → k' ≡ k + n → GoesOnWith s left t (Gives NoPage) 0 s' left' n x)
@@ -220,6 +221,26 @@ module _ (g : Ground) (s : StoreView) (left : Left) (k : ℕ) (tower : Tower) (t
   well_kept (task.Invocation m) r a high says h = tt
   well_kept (task.Load b m) r a high says h = subst (λ v. HeightTold v r.tally.height high) (sym says) h
 
+  -- AN INVOCATION THAT CAN'T BE PAID is told so
+  refused_told : (job : Job) → left.steps < start_charge → (root : PlainTask) (first : Left) (k₀ : ℕ) → Driven g root first k₀ s left k tower (record { task = t; halt = halt.Invokes job }) → Telling g root first k₀ s (none_left left) k tower t (Gives refusal) 0
+  refused_told job h root first k₀ d =
+      let same : tower.repeat_charges ≡ tower.repeat_charges + 0 = omega arith in
+      driven_answers g root first k₀ s left k tower tower t (halt.Invokes job) (OfPage job) (asks_job job root first k₀ d) d (none_left left) 0 (Gives refusal) 0 refl refl same refl refl (omega arith)
+      (λ modules agree now keeps. record {
+        reply = refused_reply job left;
+        is = is_refused (wiki_of g modules) (page_of g) job left h;
+        says_so = refl;
+        leaves = reply_leaves job left;
+        invokes = refl;
+        walks = no_charge now;
+        well = well_kept t (refused_reply job left) refusal 0 refl refl;
+      })
+
+  pub refused_moves : (job : Job) → left.steps < start_charge → (s' : StoreView) (left' : Left) (k' : ℕ) (x : Halted) → Halts s (none_left left) k t s' left' k' x → ((n : ℕ) → k' ≡ k + n → GoesOnWith s (none_left left) t (Gives refusal) 0 s' left' n x)
+      → MovesOn g s left k tower (record { task = t; halt = halt.Invokes job }) s' left' k' tower (next.On x)
+  refused_moves job h s' left' k' x halts goes root first k₀ fits d =
+      driven_told g root first k₀ s (none_left left) k tower s' left' k' x t (Gives refusal) 0 (refused_told job h root first k₀ d) halts goes
+
   module _ (title : Title) (kept : Kept) (named : is_module title.ns ≡ true) (there : IsTrue (is_some (modules_seen g.world.modules.now (title_text title)))) (found : kept_for tower.keep title ≡ Some kept) (paid : kept.charge ≤ left.steps) (covered : kept.height ≤ left.calls) where
     abbrev left_after : Left
     left_after = record left { steps = left.steps - kept.charge }
@@ -229,7 +250,7 @@ module _ (g : Ground) (s : StoreView) (left : Left) (k : ℕ) (tower : Tower) (t
 
     kept_told : (root : PlainTask) (first : Left) (k₀ : ℕ) → Driven g root first k₀ s left k tower (record { task = t; halt = halt.Asks (Data title) }) → Telling g root first k₀ s left_after k tower_after t (Gives (data_seen kept.given)) kept.height
     kept_told root first k₀ d =
-        driven_answers g root first k₀ s left k tower tower_after t (halt.Asks (Data title)) (OfLua (Data title)) (asks_lua (Data title) root first k₀ d) d left_after kept.charge (Gives (data_seen kept.given)) kept.height refl refl refl refl refl paid
+        driven_answers g root first k₀ s left k tower tower_after t (halt.Asks (Data title)) (OfLua (Data title)) (asks_lua (Data title) root first k₀ d) d left_after kept.charge (Gives (data_seen kept.given)) kept.height refl refl refl refl refl (omega (arith, paid))
         (λ modules agree now keeps.
         let m = module_held title modules agree there in
         let entry = entry_is g modules tower.keep now title kept named d.accounts.keep keeps found in

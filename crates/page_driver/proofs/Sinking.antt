@@ -15,6 +15,7 @@ use Rattle.page_driver.specs.declared.tower.Next.TheVariants as next
 use Rattle.page_driver.specs.Driven.{sum_of}
 use Rattle.page_tasks.specs.Falling.{chances_of, allowed_with, FallsAt, Falls}
 use Rattle.page_driver.specs.Moving.{comes_with, invokes_with, asks_with, tower_with, steps_at, invoked, SinksFrom, Sinks, GoesDown, IsQuestion, TakesSteps}
+use Rattle.page_tasks.specs.Refusing.{none_left}
 
 -- a task that goes on: its question counts for the step that it took, and its invocation for what its nodes allowed
 fallen_at : (h : Halt) (l l' : Left) (a a' : ℕ) → FallsAt h l.steps a l'.steps a' → (steps_at l' h ≤ l.steps) × (2 * a' + invoked h ≤ 2 * a)
@@ -43,6 +44,10 @@ invoked_sinks l t job inner tower tower' l' x none e f =
 pub invoked_on : (l : Left) (t : Task) (job : Job) (inner : Task) (tower tower' : Tower) (l' : Left) (n : Next) → chances_of inner ≡ 0 → tower' ≡ tower_with t tower → GoesDown l inner l' n → Sinks l tower (invokes_with t job) l' tower' n
 invoked_on l t job inner tower tower' l' (next.Over r) none e f = absurd f
 invoked_on l t job inner tower tower' l' (next.On x) none e f = invoked_sinks l t job inner tower tower' l' x none e f
+
+-- or it can't be paid, and the expansion is told so
+pub refused_sinks : (l : Left) (t : Task) (job : Job) (tower : Tower) (l' : Left) (x : Halted) → Falls (none_left l) t l' x → Sinks l tower (invokes_with t job) l' tower (next.On x)
+refused_sinks l t job tower l' x f = let k = fallen (none_left l) t l' x f in (omega (arith, k.0), omega (arith, k.1))
 
 -- A QUESTION is answered at once, with no more steps left than there were, or a task begins that answers it
 pub answered_sinks : (l l₁ : Left) (t : Task) (q : Ask) (inner : Task) (tower tower' : Tower) (l' : Left) (x : Halted) → l₁.steps ≤ l.steps → Falls l₁ inner l' x → Sinks l tower (asks_with t q) l' tower' (next.On x)

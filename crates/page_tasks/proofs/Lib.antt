@@ -13,4 +13,5 @@ pub mod Halting
 pub mod Starts
 pub mod Waiting
 pub mod Passing
+pub mod Spending
 pub mod Renumbered

@@ -21,3 +21,4 @@ pub mod Going
 pub mod Falling
 pub mod Calls
 pub mod Beginning
+pub mod Refusing

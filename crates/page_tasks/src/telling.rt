@@ -18,6 +18,7 @@ ghost use Rattle.page_tasks.specs.Tasks.{TaskIn, CanBeTold};
 ghost use Rattle.page_tasks.specs.Going.{Halts, GoesOnWith, ToldFrom, PutsAnswer};
 ghost use Rattle.page_tasks.specs.Calls.{ExpanderIsTold, MachineIsTold};
 ghost use Rattle.page_tasks.specs.Falling.{CanGiveBack, Falls};
+ghost use Rattle.page_tasks.specs.Refusing.{none_left, refusal};
 
 use crate::boxed::Boxed;
 use crate::going::{go_expansion, go_invocation, go_load};
@@ -218,6 +219,27 @@ pub fn tell_text<'w, L: Ledger>(
             Err(NoMemory)
         }
     }
+}
+
+/// A task is told that the invocation for which it asked can't be paid: the steps that are left go, and nothing is made for it (Extension:Scribunto,
+/// "Script error").
+pub fn tell_unpaid<'w, L: Ledger>(
+    alloc: Global,
+    store: &mut Store,
+    left: &mut Left,
+    task: Task<'w>,
+    turns: &mut Steps<L>,
+) -> Result<Halted<'w>, NoMemory>
+    requires of { TaskIn store.old task }
+    requires waits { CanBeTold task }
+    requires back { CanGiveBack left.old task }
+    ensures halts { IfOk result (λ x. Halts store.old (none_left left.old) turns.old task.entry store.new left.new turns.new x) }
+    ensures goes { IfOk result (λ x. (n : ℕ) → turns.new ≡ turns.old + n → GoesOnWith store.old (none_left left.old) task.entry (Gives refusal) 0 store.new left.new n x) }
+    ensures falls { IfOk result (λ x. Falls (none_left left.old) task.entry left.new x) }
+{
+    left.steps = 0;
+    let spent = JobOutcome::Spent(Which::Steps);
+    tell_text(alloc, store, left, task, spent, turns)
 }
 
 /// A task is told that there is no such page or module.
