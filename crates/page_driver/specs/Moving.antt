@@ -1,5 +1,5 @@
 -- A PAGE MOVES ON, from a task that has halted to the next that halts or to its end; and why it comes to an end.
-use Rattle.std.specs.Prelude.{ℕ, ◌+◌, ◌*◌, ◌<◌, ◌≤◌, Bool, true, false, ◌∷◌, length, Result, Ok, Err}
+use Rattle.std.specs.Prelude.{ℕ, ◌+◌, ◌-◌, ◌*◌, ◌<◌, ◌≤◌, Bool, true, false, ◌∷◌, length, Result, Ok, Err}
 use Rattle.page_meaning.specs.WkBaseDeclaredLeftLeft.{Left}
 use Rattle.mw_frame.specs.declared.question.Ask.{Ask}
 use Rattle.mw_frame.specs.declared.scene.Job.{Job}
@@ -30,6 +30,10 @@ invokes_with t job = record { task = t; halt = halt.Invokes job }
 
 abbrev pub asks_with : Task → Ask → Halted
 asks_with t q = record { task = t; halt = halt.Asks q }
+
+-- what is left once these steps are taken
+abbrev pub less_steps : Left → ℕ → Left
+less_steps l steps = record l { steps = l.steps - steps }
 
 -- a load that has come to data
 abbrev pub loads_with : Begun → Machine → Data → Halted

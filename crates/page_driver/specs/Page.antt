@@ -3,10 +3,17 @@ use Rattle.std.specs.Prelude.{◌≡◌, ℕ, ◌+◌, ◌≤◌, Option, Some, 
 use Rattle.page_meaning.specs.WkBaseDeclaredLeftLeft.{Left}
 use Rattle.mw_frame.specs.WkBaseDeclaredLeftLimits.{Limits}
 use Rattle.lua_code.specs.WkBaseDeclaredTitleTitle.{Title}
+use Rattle.lua_code.specs.LuaMeaningWorld.{Modules}
 use Rattle.page_meaning.specs.WikiMarkupTrees.{Trees}
 use Rattle.page_meaning.specs.Wiki.{Wiki}
 use Rattle.page_meaning.specs.Page.{page}
+use Rattle.page_meaning.specs.Tasks.{given_text}
+use Rattle.page_tasks.specs.WikiExpandPages.{direct_in}
+use Rattle.page_tasks.specs.PageGroundGround.{Ground, page_of, wiki_in, wiki_of, AreModulesIn, AreModulesOf}
+use Rattle.page_tasks.specs.declared.task.Reply.{Reply}
+use Rattle.page_tasks.specs.Seen.{reply_seen}
 use Rattle.page_driver.specs.declared.wiki.Page.{Page}
+use Rattle.page_driver.specs.declared.wiki.Wiki.{Wiki as HeldWiki}
 
 -- all that a page may use
 abbrev pub full_of : Limits → Left
@@ -25,3 +32,16 @@ pub record IsPage (wiki : Wiki) (title : Title) (trees : Trees) (full : Left) (k
 abbrev pub IsHeldPage : Wiki → Title → Option Trees → Left → ℕ → ℕ → Page → Type 0
 IsHeldPage wiki title (Some trees) full k k' p = IsPage wiki title trees full k k' p
 IsHeldPage wiki title None full k k' p = ⊥
+
+-- FOR ALL MODULES whose code is held it is the page of the wiki that has them: of this title,
+abbrev pub IsPageOf : HeldWiki → Title → Limits → ℕ → ℕ → Page → Type 0
+IsPageOf wiki title limits k k' p = (modules : Modules) → AreModulesIn title wiki.modules modules → IsHeldPage (wiki_in wiki.pages modules) title (direct_in wiki.pages title) (full_of limits) k k' p
+
+-- or the one that is expanded
+abbrev pub IsPageOn : Ground → Limits → ℕ → ℕ → Page → Type 0
+IsPageOn g limits k k' p = (modules : Modules) → AreModulesOf g modules → IsHeldPage (wiki_of g modules) (page_of g) (direct_in g.pages (page_of g)) (full_of limits) k k' p
+
+-- and so is the one that is made of what its expansion came to
+abbrev pub ComesToPage : Ground → Limits → ℕ → ℕ → Reply → Left → ℕ → Type 0
+ComesToPage g limits k k' reply left repeat_charges =
+    (p : Page) → p.title ≡ page_of g → p.text ≡ given_text (reply_seen reply) → p.left ≡ left → p.repeat_charges ≡ repeat_charges → IsPageOn g limits k k' p

@@ -1,6 +1,6 @@
 //! A run of Lua asks for a template, for the expansion of a text, or for data (Scribunto, `frame:expandTemplate`, `frame:preprocess` and
 //! `mw.loadData`).
-ghost use Rattle.std.specs.Prelude.{◌≡◌, ◌-◌, ◌+◌, ◌≤◌, ℕ, true, IfOk, OnOk};
+ghost use Rattle.std.specs.Prelude.{◌≡◌, ◌≤◌, true, IfOk, OnOk};
 ghost use Rattle.page_meaning.specs.PageRunState.{Gives};
 ghost use Rattle.mw_frame.specs.declared.question.Ask.TheVariants as question_kind;
 ghost use Rattle.page_tasks.specs.PageGroundGround.{ground_of, TellsHeld};
@@ -8,10 +8,10 @@ ghost use Rattle.page_tasks.specs.PageGroundKept.{kept_for, IsShort};
 ghost use Rattle.page_tasks.specs.PageGroundNumbered.{after_start};
 ghost use Rattle.page_tasks.specs.PageGroundSeen.{data_seen, CanBePut};
 ghost use Rattle.page_tasks.specs.Tasks.{TaskIn, CanBeTold};
-ghost use Rattle.page_tasks.specs.Going.{Halts, GoesOnWith};
+ghost use Rattle.page_tasks.specs.Going.{Halts, GoesOnWithCounting};
 ghost use Rattle.page_tasks.specs.Falling.{CanGiveBack, Falls};
 ghost use Rattle.page_driver.specs.Driven.{InProgress, MovesOn};
-ghost use Rattle.page_driver.specs.Moving.{asks_with, Sinks};
+ghost use Rattle.page_driver.specs.Moving.{asks_with, less_steps, Sinks};
 
 use crate::stacking::{go_above, push_run, push_task};
 use crate::tower::{Next, Tower, on};
@@ -36,9 +36,15 @@ fn ask_template<'w, L: Ledger>(
     args: List<Arg>,
     turns: &mut Steps<L>,
 ) -> Result<Next<'w>, NoMemory>
-    requires { InProgress (ground_of around.now) store.old left.old turns.old tower.old (asks_with task (question_kind.Template scene title args)) }
-    ensures moves { IfOk result (λ n. MovesOn (ground_of around.now) store.old left.old turns.old tower.old (asks_with task.entry (question_kind.Template scene title args)) store.new left.new turns.new tower.new n) }
-    ensures sinks { IfOk result (λ n. Sinks left.old tower.old (asks_with task.entry (question_kind.Template scene title args)) left.new tower.new n) }
+    requires { InProgress (ground_of around.now) store.old left.old turns.old tower.old
+        (asks_with task (question_kind.Template scene title args)) }
+    ensures moves { IfOk result (λ n.
+        MovesOn (ground_of around.now) store.old left.old turns.old tower.old
+        (asks_with task.entry (question_kind.Template scene title args))
+        store.new left.new turns.new tower.new n) }
+    ensures sinks { IfOk result (λ n.
+        Sinks left.old tower.old (asks_with task.entry (question_kind.Template scene title args))
+        left.new tower.new n) }
 {
     let held = around.pages.holds(&title);
     if held {
@@ -60,9 +66,15 @@ fn ask_text<'w, L: Ledger>(
     text: Bytes,
     turns: &mut Steps<L>,
 ) -> Result<Next<'w>, NoMemory>
-    requires { InProgress (ground_of around.now) store.old left.old turns.old tower.old (asks_with task (question_kind.Preprocess scene text)) }
-    ensures moves { IfOk result (λ n. MovesOn (ground_of around.now) store.old left.old turns.old tower.old (asks_with task.entry (question_kind.Preprocess scene text)) store.new left.new turns.new tower.new n) }
-    ensures sinks { IfOk result (λ n. Sinks left.old tower.old (asks_with task.entry (question_kind.Preprocess scene text)) left.new tower.new n) }
+    requires { InProgress (ground_of around.now) store.old left.old turns.old tower.old
+        (asks_with task (question_kind.Preprocess scene text)) }
+    ensures moves { IfOk result (λ n.
+        MovesOn (ground_of around.now) store.old left.old turns.old tower.old
+        (asks_with task.entry (question_kind.Preprocess scene text))
+        store.new left.new turns.new tower.new n) }
+    ensures sinks { IfOk result (λ n.
+        Sinks left.old tower.old (asks_with task.entry (question_kind.Preprocess scene text))
+        left.new tower.new n) }
 {
     push_task(tower, task)?;
     let inner = begin_text(around, scene, &text)?;
@@ -84,9 +96,14 @@ fn serve_kept<'w, L: Ledger>(
     requires data { CanBePut kept.now.given }
     requires charge { kept.now.charge ≤ left.old.steps }
     requires height { kept.now.height ≤ left.old.calls }
-    ensures halts { IfOk result (λ x. Halts store.old (record left.old { steps = left.old.steps - kept.now.charge }) turns.old task.entry store.new left.new turns.new x) }
-    ensures goes { IfOk result (λ x. (n : ℕ) → turns.new ≡ turns.old + n → GoesOnWith store.old (record left.old { steps = left.old.steps - kept.now.charge }) task.entry (Gives (data_seen kept.now.given)) kept.now.height store.new left.new n x) }
-    ensures falls { IfOk result (λ x. Falls (record left.old { steps = left.old.steps - kept.now.charge }) task.entry left.new x) }
+    ensures halts { IfOk result (λ x.
+        Halts store.old (less_steps left.old kept.now.charge) turns.old task.entry
+        store.new left.new turns.new x) }
+    ensures goes { IfOk result (λ x.
+        GoesOnWithCounting store.old (less_steps left.old kept.now.charge) turns.old task.entry
+        (Gives (data_seen kept.now.given)) kept.now.height store.new left.new turns.new x) }
+    ensures falls { IfOk result (λ x.
+        Falls (less_steps left.old kept.now.charge) task.entry left.new x) }
 {
     left.steps -= kept.charge;
     tell_data(alloc, store, left, task, &kept.given, kept.height, turns)
@@ -104,9 +121,15 @@ fn ask_load<'w, L: Ledger>(
 ) -> Result<Next<'w>, NoMemory>
     requires held { TellsHeld around.now.world.modules.now title true }
     requires short { IsShort (kept_for tower.old.keep title) left.old }
-    requires progress { InProgress (ground_of around.now) store.old left.old turns.old tower.old (asks_with task (question_kind.Data title)) }
-    ensures moves { IfOk result (λ n. MovesOn (ground_of around.now) store.old left.old turns.old tower.old (asks_with task.entry (question_kind.Data title)) store.new left.new turns.new tower.new n) }
-    ensures sinks { IfOk result (λ n. Sinks left.old tower.old (asks_with task.entry (question_kind.Data title)) left.new tower.new n) }
+    requires progress { InProgress (ground_of around.now) store.old left.old turns.old tower.old
+        (asks_with task (question_kind.Data title)) }
+    ensures moves { IfOk result (λ n.
+        MovesOn (ground_of around.now) store.old left.old turns.old tower.old
+        (asks_with task.entry (question_kind.Data title))
+        store.new left.new turns.new tower.new n) }
+    ensures sinks { IfOk result (λ n.
+        Sinks left.old tower.old (asks_with task.entry (question_kind.Data title))
+        left.new tower.new n) }
     ensures numbers { OnOk result (tower.new.numbers ≡ after_start tower.old.numbers) }
 {
     push_run(store, tower, task)?;
@@ -125,9 +148,15 @@ fn ask_held_data<'w, L: Ledger>(
     turns: &mut Steps<L>,
 ) -> Result<Next<'w>, NoMemory>
     requires held { TellsHeld around.now.world.modules.now title true }
-    requires progress { InProgress (ground_of around.now) store.old left.old turns.old tower.old (asks_with task (question_kind.Data title)) }
-    ensures moves { IfOk result (λ n. MovesOn (ground_of around.now) store.old left.old turns.old tower.old (asks_with task.entry (question_kind.Data title)) store.new left.new turns.new tower.new n) }
-    ensures sinks { IfOk result (λ n. Sinks left.old tower.old (asks_with task.entry (question_kind.Data title)) left.new tower.new n) }
+    requires progress { InProgress (ground_of around.now) store.old left.old turns.old tower.old
+        (asks_with task (question_kind.Data title)) }
+    ensures moves { IfOk result (λ n.
+        MovesOn (ground_of around.now) store.old left.old turns.old tower.old
+        (asks_with task.entry (question_kind.Data title))
+        store.new left.new turns.new tower.new n) }
+    ensures sinks { IfOk result (λ n.
+        Sinks left.old tower.old (asks_with task.entry (question_kind.Data title))
+        left.new tower.new n) }
 {
     match find_covered(&tower.keep, &title, left) {
         Some(kept) => {
@@ -152,9 +181,15 @@ fn ask_known_data<'w, L: Ledger>(
     turns: &mut Steps<L>,
 ) -> Result<Next<'w>, NoMemory>
     requires held { TellsHeld around.now.world.modules.now title held }
-    requires progress { InProgress (ground_of around.now) store.old left.old turns.old tower.old (asks_with task (question_kind.Data title)) }
-    ensures moves { IfOk result (λ n. MovesOn (ground_of around.now) store.old left.old turns.old tower.old (asks_with task.entry (question_kind.Data title)) store.new left.new turns.new tower.new n) }
-    ensures sinks { IfOk result (λ n. Sinks left.old tower.old (asks_with task.entry (question_kind.Data title)) left.new tower.new n) }
+    requires progress { InProgress (ground_of around.now) store.old left.old turns.old tower.old
+        (asks_with task (question_kind.Data title)) }
+    ensures moves { IfOk result (λ n.
+        MovesOn (ground_of around.now) store.old left.old turns.old tower.old
+        (asks_with task.entry (question_kind.Data title))
+        store.new left.new turns.new tower.new n) }
+    ensures sinks { IfOk result (λ n.
+        Sinks left.old tower.old (asks_with task.entry (question_kind.Data title))
+        left.new tower.new n) }
 {
     if held {
         return ask_held_data(around, store, left, tower, task, title, turns);
@@ -172,9 +207,15 @@ fn ask_data<'w, L: Ledger>(
     title: Title,
     turns: &mut Steps<L>,
 ) -> Result<Next<'w>, NoMemory>
-    requires { InProgress (ground_of around.now) store.old left.old turns.old tower.old (asks_with task (question_kind.Data title)) }
-    ensures moves { IfOk result (λ n. MovesOn (ground_of around.now) store.old left.old turns.old tower.old (asks_with task.entry (question_kind.Data title)) store.new left.new turns.new tower.new n) }
-    ensures sinks { IfOk result (λ n. Sinks left.old tower.old (asks_with task.entry (question_kind.Data title)) left.new tower.new n) }
+    requires { InProgress (ground_of around.now) store.old left.old turns.old tower.old
+        (asks_with task (question_kind.Data title)) }
+    ensures moves { IfOk result (λ n.
+        MovesOn (ground_of around.now) store.old left.old turns.old tower.old
+        (asks_with task.entry (question_kind.Data title))
+        store.new left.new turns.new tower.new n) }
+    ensures sinks { IfOk result (λ n.
+        Sinks left.old tower.old (asks_with task.entry (question_kind.Data title))
+        left.new tower.new n) }
 {
     match is_held(around.world.modules, &title) {
         Some(held) => ask_known_data(around, store, left, tower, task, title, held, turns),
@@ -195,9 +236,13 @@ pub(crate) fn answer_question<'w, L: Ledger>(
     question: Ask,
     turns: &mut Steps<L>,
 ) -> Result<Next<'w>, NoMemory>
-    requires { InProgress (ground_of around.now) store.old left.old turns.old tower.old (asks_with task question) }
-    ensures moves { IfOk result (λ n. MovesOn (ground_of around.now) store.old left.old turns.old tower.old (asks_with task.entry question) store.new left.new turns.new tower.new n) }
-    ensures sinks { IfOk result (λ n. Sinks left.old tower.old (asks_with task.entry question) left.new tower.new n) }
+    requires { InProgress (ground_of around.now) store.old left.old turns.old tower.old
+        (asks_with task question) }
+    ensures moves { IfOk result (λ n.
+        MovesOn (ground_of around.now) store.old left.old turns.old tower.old
+        (asks_with task.entry question) store.new left.new turns.new tower.new n) }
+    ensures sinks { IfOk result (λ n.
+        Sinks left.old tower.old (asks_with task.entry question) left.new tower.new n) }
 {
     match question {
         Ask::Template(scene, title, args) => {

@@ -24,7 +24,9 @@ pub fn move_on<'w, L: Ledger>(
     turns: &mut Steps<L>,
 ) -> Result<Next<'w>, NoMemory>
     requires { InProgress (ground_of around.now) store.old left.old turns.old tower.old halted }
-    ensures moves { IfOk result (λ n. MovesOn (ground_of around.now) store.old left.old turns.old tower.old halted.entry store.new left.new turns.new tower.new n) }
+    ensures moves { IfOk result (λ n.
+        MovesOn (ground_of around.now) store.old left.old turns.old tower.old halted.entry
+        store.new left.new turns.new tower.new n) }
     ensures sinks { IfOk result (λ n. Sinks left.old tower.old halted.entry left.new tower.new n) }
 {
     let Halted { task, halt } = halted;
@@ -59,7 +61,9 @@ fn move_to_question<'w, L: Ledger>(
     turns: &mut Steps<L>,
 ) -> Result<Next<'w>, NoMemory>
     requires { InProgress (ground_of around.now) store.old left.old turns.old tower.old halted }
-    ensures moves { IfOk result (λ n. MovesOn (ground_of around.now) store.old left.old turns.old tower.old halted.entry store.new left.new turns.new tower.new n) }
+    ensures moves { IfOk result (λ n.
+        MovesOn (ground_of around.now) store.old left.old turns.old tower.old halted.entry
+        store.new left.new turns.new tower.new n) }
     ensures sinks { IfOk result (λ n. SinksToQuestion left.old halted.entry left.new n) }
 {
     let mut now = halted;
@@ -85,7 +89,9 @@ fn pass_question<'w, L: Ledger>(
     turns: &mut Steps<L>,
 ) -> Result<Next<'w>, NoMemory>
     requires { InProgress (ground_of around.now) store.old left.old turns.old tower.old halted }
-    ensures moves { IfOk result (λ n. MovesOn (ground_of around.now) store.old left.old turns.old tower.old halted.entry store.new left.new turns.new tower.new n) }
+    ensures moves { IfOk result (λ n.
+        MovesOn (ground_of around.now) store.old left.old turns.old tower.old halted.entry
+        store.new left.new turns.new tower.new n) }
     ensures takes { IfOk result (λ n. TakesSteps left.old halted.entry left.new n) }
 {
     let reached = move_to_question(around, store, left, tower, halted, turns)?;
@@ -105,7 +111,9 @@ pub fn drive<'w, L: Ledger>(
     turns: &mut Steps<L>,
 ) -> Result<Reply, NoMemory>
     requires { IsStarting (ground_of around.now) store.old left.old turns.old tower.old task }
-    ensures { IfOk result (λ r. ComesTo (ground_of around.now) store.old left.old turns.old tower.old task.entry store.new left.new turns.new tower.new r) }
+    ensures { IfOk result (λ r.
+        ComesTo (ground_of around.now) store.old left.old turns.old tower.old task.entry
+        store.new left.new turns.new tower.new r) }
 {
     let mut halted = go_on(around.alloc, store, left, task, turns)?;
     'questions: loop {

@@ -1,10 +1,10 @@
 //! A task has come to its reply, which the one below it is told.
-ghost use Rattle.std.specs.Prelude.{◌≡◌, ◌-◌, ◌+◌, ◌≤◌, ℕ, IfOk, OnOk, min};
+ghost use Rattle.std.specs.Prelude.{◌≡◌, ◌-◌, ◌≤◌, IfOk, OnOk, min};
 ghost use Rattle.page_meaning.specs.PageRunState.{Gives};
 ghost use Rattle.page_tasks.specs.PageGroundGround.{ground_of};
 ghost use Rattle.page_tasks.specs.PageGroundSeen.{data_seen, CanBePut};
 ghost use Rattle.page_tasks.specs.Tasks.{TaskIn, CanBeTold};
-ghost use Rattle.page_tasks.specs.Going.{Halts, GoesOnWith};
+ghost use Rattle.page_tasks.specs.Going.{Halts, GoesOnWithCounting};
 ghost use Rattle.page_tasks.specs.Falling.{CanGiveBack, Falls};
 ghost use Rattle.page_tasks.specs.PageGroundKept.{keep_with};
 ghost use Rattle.page_tasks.specs.PageGroundNumbered.{Renumbers};
@@ -52,8 +52,11 @@ fn tell_kept<'w, L: Ledger>(
     requires back { CanGiveBack left.old waiting }
     requires given { CanBePut kept.given }
     requires height { kept.height ≤ left.old.calls }
-    ensures halts { IfOk result (λ x. Halts store.old left.old turns.old waiting.entry store.new left.new turns.new x) }
-    ensures goes { IfOk result (λ x. (n : ℕ) → turns.new ≡ turns.old + n → GoesOnWith store.old left.old waiting.entry (Gives (data_seen kept.given)) kept.height store.new left.new n x) }
+    ensures halts { IfOk result (λ x.
+        Halts store.old left.old turns.old waiting.entry store.new left.new turns.new x) }
+    ensures goes { IfOk result (λ x.
+        GoesOnWithCounting store.old left.old turns.old waiting.entry (Gives (data_seen kept.given))
+        kept.height store.new left.new turns.new x) }
     ensures falls { IfOk result (λ x. Falls left.old waiting.entry left.new x) }
     ensures keep { OnOk result (keep.new ≡ keep_with keep.old title kept) }
 {
@@ -79,9 +82,15 @@ fn hand_loaded<'w, L: Ledger>(
     waiting: Task<'w>,
     turns: &mut Steps<L>,
 ) -> Result<Next<'w>, NoMemory>
-    requires { InProgress (ground_of around.now) store.old left.old turns.old (tower_with waiting tower.old) (loads_with begun machine given) }
-    ensures moves { IfOk result (λ n. MovesOn (ground_of around.now) store.old left.old turns.old (tower_with waiting.entry tower.old) (loads_with begun machine.entry given) store.new left.new turns.new tower.new n) }
-    ensures sinks { IfOk result (λ n. Sinks left.old (tower_with waiting.entry tower.old) (loads_with begun machine.entry given) left.new tower.new n) }
+    requires { InProgress (ground_of around.now) store.old left.old turns.old
+        (tower_with waiting tower.old) (loads_with begun machine given) }
+    ensures moves { IfOk result (λ n.
+        MovesOn (ground_of around.now) store.old left.old turns.old
+        (tower_with waiting.entry tower.old) (loads_with begun machine.entry given)
+        store.new left.new turns.new tower.new n) }
+    ensures sinks { IfOk result (λ n.
+        Sinks left.old (tower_with waiting.entry tower.old) (loads_with begun machine.entry given)
+        left.new tower.new n) }
     ensures numbers { OnOk result (tower.new.numbers ≡ tower.old.numbers) }
 {
     let charge = charge_of(&begun, left);
@@ -115,9 +124,15 @@ fn hand_data<'w, L: Ledger>(
     waiting: Task<'w>,
     turns: &mut Steps<L>,
 ) -> Result<Next<'w>, NoMemory>
-    requires { InProgress (ground_of around.now) store.old left.old turns.old (tower_with waiting tower.old) (comes_with task (reply_kind.Data given)) }
-    ensures moves { IfOk result (λ n. MovesOn (ground_of around.now) store.old left.old turns.old (tower_with waiting.entry tower.old) (comes_with task.entry (reply_kind.Data given)) store.new left.new turns.new tower.new n) }
-    ensures sinks { IfOk result (λ n. Sinks left.old (tower_with waiting.entry tower.old) (comes_with task.entry (reply_kind.Data given)) left.new tower.new n) }
+    requires { InProgress (ground_of around.now) store.old left.old turns.old
+        (tower_with waiting tower.old) (comes_with task (reply_kind.Data given)) }
+    ensures moves { IfOk result (λ n.
+        MovesOn (ground_of around.now) store.old left.old turns.old
+        (tower_with waiting.entry tower.old) (comes_with task.entry (reply_kind.Data given))
+        store.new left.new turns.new tower.new n) }
+    ensures sinks { IfOk result (λ n.
+        Sinks left.old (tower_with waiting.entry tower.old)
+        (comes_with task.entry (reply_kind.Data given)) left.new tower.new n) }
     ensures numbers { OnOk result (tower.new.numbers ≡ tower.old.numbers) }
 {
     match task {
@@ -140,9 +155,15 @@ fn hand_down<'w, L: Ledger>(
     waiting: Task<'w>,
     turns: &mut Steps<L>,
 ) -> Result<Next<'w>, NoMemory>
-    requires { InProgress (ground_of around.now) store.old left.old turns.old (tower_with waiting tower.old) (comes_with task reply) }
-    ensures moves { IfOk result (λ n. MovesOn (ground_of around.now) store.old left.old turns.old (tower_with waiting.entry tower.old) (comes_with task.entry reply) store.new left.new turns.new tower.new n) }
-    ensures sinks { IfOk result (λ n. Sinks left.old (tower_with waiting.entry tower.old) (comes_with task.entry reply) left.new tower.new n) }
+    requires { InProgress (ground_of around.now) store.old left.old turns.old
+        (tower_with waiting tower.old) (comes_with task reply) }
+    ensures moves { IfOk result (λ n.
+        MovesOn (ground_of around.now) store.old left.old turns.old
+        (tower_with waiting.entry tower.old) (comes_with task.entry reply)
+        store.new left.new turns.new tower.new n) }
+    ensures sinks { IfOk result (λ n.
+        Sinks left.old (tower_with waiting.entry tower.old) (comes_with task.entry reply)
+        left.new tower.new n) }
     ensures numbers { OnOk result (tower.new.numbers ≡ tower.old.numbers) }
 {
     match reply {
@@ -180,9 +201,13 @@ pub(crate) fn hand_over<'w, L: Ledger>(
     reply: Reply,
     turns: &mut Steps<L>,
 ) -> Result<Next<'w>, NoMemory>
-    requires { InProgress (ground_of around.now) store.old left.old turns.old tower.old (comes_with task reply) }
-    ensures moves { IfOk result (λ n. MovesOn (ground_of around.now) store.old left.old turns.old tower.old (comes_with task.entry reply) store.new left.new turns.new tower.new n) }
-    ensures sinks { IfOk result (λ n. Sinks left.old tower.old (comes_with task.entry reply) left.new tower.new n) }
+    requires { InProgress (ground_of around.now) store.old left.old turns.old tower.old
+        (comes_with task reply) }
+    ensures moves { IfOk result (λ n.
+        MovesOn (ground_of around.now) store.old left.old turns.old tower.old
+        (comes_with task.entry reply) store.new left.new turns.new tower.new n) }
+    ensures sinks { IfOk result (λ n.
+        Sinks left.old tower.old (comes_with task.entry reply) left.new tower.new n) }
     ensures numbers { OnOk result (tower.new.numbers ≡ after_task task.entry tower.old.numbers) }
 {
     leave_run(store, &mut tower.numbers, &task);

@@ -2,16 +2,14 @@
 ghost use Rattle.std.specs.Prelude.{◌≡◌, ◌+◌, ◌≤◌, [], IfOk, OnOk};
 ghost use Rattle.mw_frame.specs.WkBaseAllowances.{IsCountable};
 ghost use Rattle.mw_frame.specs.Scenes.{HaveNames};
-ghost use Rattle.lua_code.specs.LuaMeaningWorld.{Modules as PlainModules};
 ghost use Rattle.page_meaning.specs.LuaMeaningStart.{Invoke};
 ghost use Rattle.page_tasks.specs.LuaStoreParts.{nothing};
-ghost use Rattle.page_tasks.specs.PageGroundGround.{AreModulesIn, AreModulesOf, ground_of, page_of, wiki_in, wiki_of};
+ghost use Rattle.page_tasks.specs.PageGroundGround.{ground_of};
 ghost use Rattle.page_tasks.specs.PageGroundNumbered.{none_started};
 ghost use Rattle.page_meaning.specs.Tasks.{Running};
 ghost use Rattle.page_tasks.specs.Seen.{outcome_of};
 ghost use Rattle.page_driver.specs.Driven.{Fits, Expanded};
-ghost use Rattle.page_driver.specs.Page.{full_of};
-ghost use Rattle.page_driver.specs.Job.{IsJob, IsEndOf};
+ghost use Rattle.page_driver.specs.Job.{IsJobOf, IsJobOn, IsEndOf};
 
 use crate::begin::{empty_tower, full_left};
 use crate::driving::drive;
@@ -75,7 +73,9 @@ fn come_to_end<'w, L: Ledger>(
     requires charges { tower.old.repeat_charges ≡ 0 }
     requires numbers { tower.old.numbers ≡ none_started }
     requires fits { Fits left.old }
-    ensures { IfOk result (λ r. Expanded (ground_of around.now) (Running (Invoke job)) left.old turns.old store.new left.new turns.new tower.new r) }
+    ensures { IfOk result (λ r.
+        Expanded (ground_of around.now) (Running (Invoke job)) left.old turns.old
+        store.new left.new turns.new tower.new r) }
 {
     tower.numbers.start(store)?;
     let root = begin_invocation(around, store, job)?;
@@ -93,7 +93,8 @@ fn run_within<L: Ledger>(
     requires fresh { store.old ≡ nothing }
     requires names { HaveNames job }
     requires countable { IsCountable limits.now }
-    ensures ends { IfOk result (λ e. (modules : PlainModules) → AreModulesOf (ground_of around.now) modules → IsJob (wiki_of (ground_of around.now) modules) (page_of (ground_of around.now)) job (full_of limits.now) turns.old turns.new e) }
+    ensures ends { IfOk result (λ e.
+        IsJobOn (ground_of around.now) job limits.now turns.old turns.new e) }
     ensures rises { OnOk result (turns.old ≤ turns.new) }
     ensures paid { IfOk result (λ e. turns.new + e.left.steps ≤ turns.old + limits.now.steps) }
 {
@@ -118,7 +119,8 @@ fn run_in<L: Ledger>(
     requires fresh { store.old ≡ nothing }
     requires names { HaveNames job }
     requires countable { IsCountable limits.now }
-    ensures ends { IfOk result (λ e. (modules : PlainModules) → AreModulesIn page.now wiki.now.modules modules → IsJob (wiki_in wiki.now.pages modules) page.now job (full_of limits.now) turns.old turns.new e) }
+    ensures ends { IfOk result (λ e.
+        IsJobOf wiki.now page.now job limits.now turns.old turns.new e) }
     ensures rises { OnOk result (turns.old ≤ turns.new) }
     ensures paid { IfOk result (λ e. turns.new + e.left.steps ≤ turns.old + limits.now.steps) }
 {
@@ -151,7 +153,8 @@ pub fn run_job<L: Ledger>(
     requires names { HaveNames job }
     requires countable { IsCountable limits.now }
     // For all modules whose code is held, it is the run of the wiki that has them.
-    ensures ends { IfOk result (λ e. (modules : PlainModules) → AreModulesIn page.now wiki.now.modules modules → IsJob (wiki_in wiki.now.pages modules) page.now job (full_of limits.now) turns.old turns.new e) }
+    ensures ends { IfOk result (λ e.
+        IsJobOf wiki.now page.now job limits.now turns.old turns.new e) }
     ensures rises { OnOk result (turns.old ≤ turns.new) }
     ensures paid { IfOk result (λ e. turns.new + e.left.steps ≤ turns.old + limits.now.steps) }
 {

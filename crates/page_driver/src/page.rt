@@ -1,17 +1,13 @@
 //! The expansion of a page.
-ghost use Rattle.std.specs.Prelude.{◌≡◌, ◌+◌, ◌≤◌, [], IsSome, IfSome, IfOk, OnOk};
+ghost use Rattle.std.specs.Prelude.{◌≡◌, ◌+◌, ◌≤◌, [], IsSome, IfOk, OnOk};
 ghost use Rattle.mw_frame.specs.WkBaseAllowances.{IsCountable};
-ghost use Rattle.page_tasks.specs.WikiExpandPages.{find_page, direct_in};
-ghost use Rattle.lua_code.specs.LuaMeaningWorld.{Modules as PlainModules};
-ghost use Rattle.page_meaning.specs.ExpandMeaningOutcome.{Reading, page_scene};
-ghost use Rattle.page_tasks.specs.LuaStoreSeen.{StoreView};
+ghost use Rattle.page_tasks.specs.WikiExpandPages.{find_page};
 ghost use Rattle.page_tasks.specs.LuaStoreParts.{nothing};
-ghost use Rattle.page_meaning.specs.Tasks.{Expanding, given_text};
-ghost use Rattle.page_driver.specs.declared.wiki.Page.{Page as PageValue};
-ghost use Rattle.page_tasks.specs.Beginning.{Begins};
-ghost use Rattle.page_tasks.specs.PageGroundGround.{AreModulesIn, AreModulesOf, ground_of, page_of, wiki_in, wiki_of};
+ghost use Rattle.page_meaning.specs.Tasks.{given_text};
+ghost use Rattle.page_tasks.specs.Beginning.{BeginsPage, HasPage};
+ghost use Rattle.page_tasks.specs.PageGroundGround.{ground_of};
 ghost use Rattle.page_tasks.specs.Seen.{reply_seen};
-ghost use Rattle.page_driver.specs.Page.{full_of, IsHeldPage};
+ghost use Rattle.page_driver.specs.Page.{ComesToPage, IsPageOf, IsPageOn};
 
 use crate::begin::{empty_tower, full_left};
 use crate::driving::drive;
@@ -61,12 +57,15 @@ fn come_from<'w, L: Ledger>(
     turns: &mut Steps<L>,
 ) -> Result<Came, NoMemory>
     requires fresh { store.old ≡ nothing }
-    requires held { IsSome (find_page (ground_of around.now).pages (page_of (ground_of around.now))) }
+    requires held { HasPage (ground_of around.now) }
     requires countable { IsCountable limits.now }
-    requires root { IfSome (direct_in (ground_of around.now).pages (page_of (ground_of around.now))) (λ trees. (s : StoreView) → Begins (ground_of around.now) (Expanding (Reading trees (page_scene (page_of (ground_of around.now))))) s s root) }
-    ensures page { IfOk result (λ x. (p : PageValue) → p.title ≡ page_of (ground_of around.now) → p.text ≡ given_text (reply_seen x.reply) → p.left ≡ x.left → p.repeat_charges ≡ x.repeat_charges → (modules : PlainModules) → AreModulesOf (ground_of around.now) modules → IsHeldPage (wiki_of (ground_of around.now) modules) (page_of (ground_of around.now)) (direct_in (ground_of around.now).pages (page_of (ground_of around.now))) (full_of limits.now) turns.old turns.new p) }
+    requires root { BeginsPage (ground_of around.now) root }
+    ensures page { IfOk result (λ x.
+        ComesToPage (ground_of around.now) limits.now turns.old turns.new x.reply x.left
+        x.repeat_charges) }
     ensures rises { OnOk result (turns.old ≤ turns.new) }
-    ensures paid { IfOk result (λ x. turns.new + x.left.steps + x.repeat_charges ≤ turns.old + limits.now.steps) }
+    ensures paid { IfOk result (λ x.
+        turns.new + x.left.steps + x.repeat_charges ≤ turns.old + limits.now.steps) }
 {
     let mut left = full_left(limits);
     let numbers = Numbers::new(around.alloc);
@@ -87,11 +86,13 @@ fn expand_within<L: Ledger>(
     turns: &mut Steps<L>,
 ) -> Result<Page, NoMemory>
     requires fresh { store.old ≡ nothing }
-    requires held { IsSome (find_page (ground_of around.now).pages (page_of (ground_of around.now))) }
+    requires held { HasPage (ground_of around.now) }
     requires countable { IsCountable limits.now }
-    ensures page { IfOk result (λ p. (modules : PlainModules) → AreModulesOf (ground_of around.now) modules → IsHeldPage (wiki_of (ground_of around.now) modules) (page_of (ground_of around.now)) (direct_in (ground_of around.now).pages (page_of (ground_of around.now))) (full_of limits.now) turns.old turns.new p) }
+    ensures page { IfOk result (λ p.
+        IsPageOn (ground_of around.now) limits.now turns.old turns.new p) }
     ensures rises { OnOk result (turns.old ≤ turns.new) }
-    ensures paid { IfOk result (λ p. turns.new + p.left.steps + p.repeat_charges ≤ turns.old + limits.now.steps) }
+    ensures paid { IfOk result (λ p.
+        turns.new + p.left.steps + p.repeat_charges ≤ turns.old + limits.now.steps) }
 {
     let root = begin_page(around)?;
     let came = come_from(around, store, limits, root, turns)?;
@@ -125,9 +126,10 @@ pub fn expand_page_in<L: Ledger>(
     requires held { IsSome (find_page wiki.now.pages title.now) }
     requires countable { IsCountable limits.now }
     // For all modules whose code is held, it is the page of the wiki that has them.
-    ensures page { IfOk result (λ p. (modules : PlainModules) → AreModulesIn title.now wiki.now.modules modules → IsHeldPage (wiki_in wiki.now.pages modules) title.now (direct_in wiki.now.pages title.now) (full_of limits.now) turns.old turns.new p) }
+    ensures page { IfOk result (λ p. IsPageOf wiki.now title.now limits.now turns.old turns.new p) }
     ensures rises { OnOk result (turns.old ≤ turns.new) }
-    ensures paid { IfOk result (λ p. turns.new + p.left.steps + p.repeat_charges ≤ turns.old + limits.now.steps) }
+    ensures paid { IfOk result (λ p.
+        turns.new + p.left.steps + p.repeat_charges ≤ turns.old + limits.now.steps) }
 {
     let world = World {
         page: title,
@@ -156,9 +158,10 @@ pub fn expand_page<L: Ledger>(
     requires held { IsSome (find_page wiki.now.pages title.now) }
     requires countable { IsCountable limits.now }
     // For all modules whose code is held, it is the page of the wiki that has them.
-    ensures page { IfOk result (λ p. (modules : PlainModules) → AreModulesIn title.now wiki.now.modules modules → IsHeldPage (wiki_in wiki.now.pages modules) title.now (direct_in wiki.now.pages title.now) (full_of limits.now) turns.old turns.new p) }
+    ensures page { IfOk result (λ p. IsPageOf wiki.now title.now limits.now turns.old turns.new p) }
     ensures rises { OnOk result (turns.old ≤ turns.new) }
-    ensures paid { IfOk result (λ p. turns.new + p.left.steps + p.repeat_charges ≤ turns.old + limits.now.steps) }
+    ensures paid { IfOk result (λ p.
+        turns.new + p.left.steps + p.repeat_charges ≤ turns.old + limits.now.steps) }
 {
     let arena = Bump::new(alloc);
     let mut store = Store::new(alloc, &arena, seed);

@@ -30,7 +30,8 @@ pub(crate) fn push_run<'w>(
     tower: &mut Tower<'w>,
     task: Task<'w>,
 ) -> Result<(), NoMemory>
-    ensures tower { OnOk result (tower.new ≡ tower_with task.entry (record tower.old { numbers = after_start tower.old.numbers })) }
+    ensures tower { OnOk result (tower.new
+        ≡ tower_with task.entry (record tower.old { numbers = after_start tower.old.numbers })) }
     ensures store { OnOk result (store.new ≡ record store.old { env = tower.old.numbers.started }) }
 {
     push_task(tower, task)?;
@@ -47,7 +48,9 @@ pub(crate) fn go_above<'w, L: Ledger>(
     turns: &mut Steps<L>,
 ) -> Result<Next<'w>, NoMemory>
     requires { IsStarting (ground_of around.now) store.old left.old turns.old tower.now inner }
-    ensures on { IfOk result (λ n. StartsOn (ground_of around.now) store.old left.old turns.old tower.now inner.entry store.new left.new turns.new tower.now n) }
+    ensures on { IfOk result (λ n.
+        StartsOn (ground_of around.now) store.old left.old turns.old tower.now inner.entry
+        store.new left.new turns.new tower.now n) }
     ensures falls { IfOk result (λ n. GoesDown left.old inner.entry left.new n) }
 {
     let _ = tower;
@@ -64,9 +67,13 @@ fn start_invocation<'w, L: Ledger>(
     job: Boxed<Job>,
     turns: &mut Steps<L>,
 ) -> Result<Next<'w>, NoMemory>
-    requires { InProgress (ground_of around.now) store.old left.old turns.old tower.old (invokes_with task job) }
-    ensures moves { IfOk result (λ n. MovesOn (ground_of around.now) store.old left.old turns.old tower.old (invokes_with task.entry job) store.new left.new turns.new tower.new n) }
-    ensures sinks { IfOk result (λ n. Sinks left.old tower.old (invokes_with task.entry job) left.new tower.new n) }
+    requires { InProgress (ground_of around.now) store.old left.old turns.old tower.old
+        (invokes_with task job) }
+    ensures moves { IfOk result (λ n.
+        MovesOn (ground_of around.now) store.old left.old turns.old tower.old
+        (invokes_with task.entry job) store.new left.new turns.new tower.new n) }
+    ensures sinks { IfOk result (λ n.
+        Sinks left.old tower.old (invokes_with task.entry job) left.new tower.new n) }
     ensures numbers { OnOk result (tower.new.numbers ≡ after_start tower.old.numbers) }
 {
     push_run(store, tower, task)?;

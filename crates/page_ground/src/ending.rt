@@ -92,7 +92,8 @@ fn copied_text(alloc: Global, store: &Store, text: Option<TextId>) -> Result<Byt
 /// which is written without marks of HTML already.
 pub fn end_outcome(alloc: Global, store: &Store, outcome: &Outcome) -> Result<JobOutcome, NoMemory>
     requires { OutcomeOf store.now outcome.now }
-    ensures { IfOk result (λ so. so ≡ end_outcome (end_of (outcome_seen store.now.texts outcome.now))) }
+    ensures { IfOk result (λ so.
+        so ≡ end_outcome (end_of (outcome_seen store.now.texts outcome.now))) }
 {
     match outcome {
         Outcome::Goes(given) => {
@@ -150,7 +151,8 @@ pub fn outcome_text(alloc: Global, outcome: JobOutcome) -> Result<Bytes, NoMemor
 
 /// Why a value is no data, as the message of the load (Scribunto, `mw.loadData`); want of memory has none.
 fn fault_message(fault: DataFault) -> Option<&'static [u8]>
-    ensures { IfSome result (λ message. (r : Checked PlainGraph) → IsFault r fault → graph_answer r ≡ LoadFailed message.now) }
+    ensures { IfSome result (λ message.
+        (r : Checked PlainGraph) → IsFault r fault → graph_answer r ≡ LoadFailed message.now) }
 {
     match fault {
         DataFault::NotATable => Some(b"data module returned no table"),
@@ -164,7 +166,8 @@ fn fault_message(fault: DataFault) -> Option<&'static [u8]>
 /// The data of a value, or why it has none.
 fn value_data(alloc: Global, store: &Store, value: Value) -> Result<Data, NoMemory>
     requires { IsOf store.now value }
-    ensures data { IfOk result (λ d. data_seen d ≡ graph_answer (taken store.now.heap (seen store.now.texts value))) }
+    ensures data { IfOk result (λ d.
+        data_seen d ≡ graph_answer (taken store.now.heap (seen store.now.texts value))) }
     ensures put { IfOk result CanBePut }
 {
     match take_out(alloc, store, value) {
@@ -182,7 +185,9 @@ fn value_data(alloc: Global, store: &Store, value: Value) -> Result<Data, NoMemo
 /// What the load of a data module gave that is over (Scribunto, `mw.loadData`): the tables of its value, or why there are none.
 pub fn end_data(alloc: Global, store: &Store, outcome: &Outcome) -> Result<Data, NoMemory>
     requires { OutcomeOf store.now outcome.now }
-    ensures data { IfOk result (λ d. data_seen d ≡ data_told store.now.heap (end_of (outcome_seen store.now.texts outcome.now))) }
+    ensures data { IfOk result (λ d.
+        data_seen d
+        ≡ data_told store.now.heap (end_of (outcome_seen store.now.texts outcome.now))) }
     ensures put { IfOk result CanBePut }
 {
     match outcome {

@@ -24,6 +24,7 @@ use Rattle.lua_machine.specs.declared.event.Event.TheVariants as event
 use Rattle.lua_machine.specs.Events.{MachineOf, EventOf, GoesFrom, BackAt, stop_seen, funds_after}
 use Rattle.page_ground.specs.PageMeaningDeclaredOutcomeJobOutcomeTheVariants as ending
 use Rattle.page_ground.specs.PageMeaningOutcomes.{end_outcome}
+use Rattle.page_ground.specs.PageMeaningTasks.{text_of}
 use Rattle.page_ground.specs.PagePointsPlaces.{Place, replied}
 use Rattle.page_ground.specs.PagePointsMachines.{gone, data_told}
 use Rattle.page_ground.specs.PagePointsApart.{LeavesAlone}
@@ -66,6 +67,21 @@ GoesOnWith s left t says high s' left' n x = (g : Ground) → OnGround g t → (
 abbrev pub ToldFrom : StoreView → Left → Task → Answer → Outcome (List Value) Jump → ℕ → StoreView → Left → ℕ → Halted → Type 0
 ToldFrom s left t a o high s' left' n x = (g : Ground) → OnGround g t → (modules : Modules) → AreModulesOf g modules → (p : Place) → Waits g modules s t p → (K : Set) → IsToldAs K p.within s.heap a o
     → (r : PlainReply Answer) → r.response ≡ Gives a → r.left ≡ left → IsToldWell t r high → (S : Set) × HaltsAt g modules s s' left' x p (record (replied p r) { nodes = p.nodes + n; within = S })
+
+-- BETWEEN TWO COUNTS: what was counted is by how much k rose to k'
+abbrev pub GoesOnCounting : StoreView → Left → ℕ → Task → StoreView → Left → ℕ → Halted → Type 0
+GoesOnCounting s left k t s' left' k' x = (n : ℕ) → k' ≡ k + n → GoesOn s left t s' left' n x
+
+abbrev pub GoesOnWithCounting : StoreView → Left → ℕ → Task → Response Answer → ℕ → StoreView → Left → ℕ → Halted → Type 0
+GoesOnWithCounting s left k t says high s' left' k' x = (n : ℕ) → k' ≡ k + n → GoesOnWith s left t says high s' left' n x
+
+-- the task is told whatever answer this one of the store is told for
+abbrev pub ToldCounting : StoreView → Left → ℕ → Task → Outcome (List Value) Jump → ℕ → StoreView → Left → ℕ → Halted → Type 0
+ToldCounting s left k t o high s' left' k' x = (n : ℕ) → k' ≡ k + n → (a : Answer) → ToldFrom s left t a o high s' left' n x
+
+-- and of these one with this text
+abbrev pub TextToldCounting : StoreView → Left → ℕ → Task → List ℕ → Outcome (List Value) Jump → ℕ → StoreView → Left → ℕ → Halted → Type 0
+TextToldCounting s left k t text o high s' left' k' x = (n : ℕ) → k' ≡ k + n → (a : Answer) → text ≡ text_of a → ToldFrom s left t a o high s' left' n x
 
 -- an answer is put into the store: it is told to whoever is there, and nothing that was there changes
 pub record PutsAnswer (s t : Heap Proc) (a : Answer) (o : Outcome (List Value) Jump) : Type 0 where

@@ -2,18 +2,17 @@
 ghost use Rattle.std.specs.Prelude.{◌≡◌, true, IsSome, IfSome, IfOk};
 ghost use Rattle.mw_frame.specs.Scenes.{HaveNames, NamesDiffer};
 ghost use Rattle.lua_code.specs.WkBaseTitles.{is_module};
-ghost use Rattle.wiki_expand.specs.ExpandMeaningOutcome.{Reading, Including, page_scene};
-ghost use Rattle.wiki_expand.specs.Pages.{find_page, direct_in, included_in};
+ghost use Rattle.wiki_expand.specs.ExpandMeaningOutcome.{Reading};
+ghost use Rattle.wiki_expand.specs.Pages.{find_page};
 ghost use Rattle.wiki_expand.specs.Standing.{IsHeldSource, work_of};
 ghost use Rattle.page_ground.specs.LuaMeaningStart.{Invoke, DataOf};
 ghost use Rattle.lua_machine.specs.LuaStackOf.{WorkOf};
 ghost use Rattle.lua_machine.specs.LuaStackSeen.{work_seen};
-ghost use Rattle.lua_machine.specs.LuaStoreSeen.{StoreView};
 ghost use Rattle.page_ground.specs.PageMeaningWiki.{read};
-ghost use Rattle.page_ground.specs.PageMeaningTasks.{Running, Expanding};
-ghost use Rattle.page_ground.specs.Ground.{ground_of, page_of};
+ghost use Rattle.page_ground.specs.PageMeaningTasks.{Running};
+ghost use Rattle.page_ground.specs.Ground.{ground_of};
 ghost use Rattle.page_tasks.specs.Falling.{chances_of};
-ghost use Rattle.page_tasks.specs.Beginning.{MachineBegins, Begins, BeginsWith};
+ghost use Rattle.page_tasks.specs.Beginning.{MachineBegins, Begins, BeginsWith, BeginsExpanding, BeginsTemplate, BeginsPage, HasPage};
 
 use crate::boxed::Boxed;
 use crate::task::{Begun, Task};
@@ -31,7 +30,8 @@ fn begin_run<'w>(
     work: Work,
 ) -> Result<Boxed<Machine<'w>>, NoMemory>
     requires { WorkOf work }
-    ensures { IfOk result (λ m. MachineBegins (ground_of around.now) (work_seen work) store.old store.new m) }
+    ensures { IfOk result (λ m.
+        MachineBegins (ground_of around.now) (work_seen work) store.old store.new m) }
 {
     let started = Machine::start(around.alloc, store, around.seed, around.world, work);
     Boxed::of(around.alloc, started)
@@ -44,7 +44,8 @@ pub fn begin_invocation<'w>(
     job: Job,
 ) -> Result<Task<'w>, NoMemory>
     requires { HaveNames job }
-    ensures begins { IfOk result (λ t. Begins (ground_of around.now) (Running (Invoke job)) store.old store.new t) }
+    ensures begins { IfOk result (λ t.
+        Begins (ground_of around.now) (Running (Invoke job)) store.old store.new t) }
     ensures chances { IfOk result (λ t. chances_of t ≡ 0) }
 {
     let machine = begin_run(around, store, Work::Invoke(job))?;
@@ -59,7 +60,8 @@ pub fn begin_load<'w>(
     steps: u64,
 ) -> Result<Task<'w>, NoMemory>
     requires { is_module title.ns ≡ true }
-    ensures { IfOk result (λ t. BeginsWith (ground_of around.now) (Running (DataOf title)) steps store.old store.new t) }
+    ensures { IfOk result (λ t.
+        BeginsWith (ground_of around.now) (Running (DataOf title)) steps store.old store.new t) }
 {
     let module = title.copy()?;
     let machine = begin_run(around, store, Work::Data(title))?;
@@ -78,7 +80,9 @@ fn begin_expansion<'w>(
 ) -> Result<Task<'w>, NoMemory>
     requires names { NamesDiffer scene.args }
     requires held { IsHeldSource (ground_of around.now).pages source }
-    ensures { IfOk result (λ t. IfSome (work_of (ground_of around.now).pages source scene) (λ work. (s : StoreView) → Begins (ground_of around.now) (Expanding work) s s t)) }
+    ensures { IfOk result (λ t.
+        IfSome (work_of (ground_of around.now).pages source scene) (λ work.
+        BeginsExpanding (ground_of around.now) work t)) }
 {
     let started = Expander::start(around.alloc, around.pages, around.world.page, source, scene);
     let expander = Boxed::of(around.alloc, started)?;
@@ -91,7 +95,8 @@ pub fn begin_text<'w>(
     scene: Scene,
     text: &Bytes,
 ) -> Result<Task<'w>, NoMemory>
-    ensures { IfOk result (λ t. (s : StoreView) → Begins (ground_of around.now) (Expanding (Reading (read text.now) scene)) s s t) }
+    ensures { IfOk result (λ t.
+        BeginsExpanding (ground_of around.now) (Reading (read text.now) scene) t) }
 {
     check_names(around, scene.args.as_slice())?;
     let marked = read_text(around.alloc, text)?;
@@ -107,7 +112,8 @@ pub fn begin_template<'w>(
     args: List<Arg>,
 ) -> Result<Task<'w>, NoMemory>
     requires { IsSome (find_page (ground_of around.now).pages title) }
-    ensures { IfOk result (λ t. IfSome (included_in (ground_of around.now).pages title) (λ trees. (s : StoreView) → Begins (ground_of around.now) (Expanding (Including trees title record scene { args = args })) s s t)) }
+    ensures { IfOk result (λ t.
+        BeginsTemplate (ground_of around.now) title (record scene { args = args }) t) }
 {
     check_names(around, args.as_slice())?;
     let Scene {
@@ -125,8 +131,8 @@ pub fn begin_template<'w>(
 
 /// The expansion of the page itself begins.
 pub fn begin_page<'w>(around: &Context<'w>) -> Result<Task<'w>, NoMemory>
-    requires { IsSome (find_page (ground_of around.now).pages (page_of (ground_of around.now))) }
-    ensures { IfOk result (λ t. IfSome (direct_in (ground_of around.now).pages (page_of (ground_of around.now))) (λ trees. (s : StoreView) → Begins (ground_of around.now) (Expanding (Reading trees (page_scene (page_of (ground_of around.now))))) s s t)) }
+    requires { HasPage (ground_of around.now) }
+    ensures { IfOk result (λ t. BeginsPage (ground_of around.now) t) }
 {
     let page = around.world.page;
     let title = page.copy()?;

@@ -7,7 +7,7 @@ ghost use Rattle.lua_machine.specs.Events.{MachineOf, EventOf};
 ghost use Rattle.page_tasks.specs.declared.task.Task.TheVariants as task_kind;
 ghost use Rattle.page_tasks.specs.Tasks.{TaskIn, CanGo};
 ghost use Rattle.page_tasks.specs.declared.task.Halt.TheVariants as halt_kind;
-ghost use Rattle.page_tasks.specs.Going.{Halts, GoesOn, MachineGoes, IsInvocationHalt, IsLoadHalt, halt_of};
+ghost use Rattle.page_tasks.specs.Going.{Halts, GoesOnCounting, MachineGoes, IsInvocationHalt, IsLoadHalt, halt_of};
 ghost use Rattle.page_tasks.specs.Calls.{ExpanderGoes, ExpandsTo, RunsTo};
 ghost use Rattle.page_tasks.specs.Falling.{CanGiveBack, StepsFall, Falls};
 
@@ -73,9 +73,14 @@ pub(crate) fn go_expansion<'w>(
 ) -> Result<Halted<'w>, NoMemory>
     requires can { IsReady expander }
     requires back { CanGiveBack left.old (task_kind.Expansion expander) }
-    ensures halts { (s : StoreView) (k : ℕ) → IfOk result (λ x. Halts s left.old k (task_kind.Expansion expander.entry) s left.new k x) }
-    ensures goes { (s : StoreView) (k k' : ℕ) → IfOk result (λ x. (n : ℕ) → k' ≡ k + n → GoesOn s left.old (task_kind.Expansion expander.entry) s left.new n x) }
-    ensures falls { IfOk result (λ x. Falls left.old (task_kind.Expansion expander.entry) left.new x) }
+    ensures halts { (s : StoreView) (k : ℕ)
+        → IfOk result (λ x.
+        Halts s left.old k (task_kind.Expansion expander.entry) s left.new k x) }
+    ensures goes { (s : StoreView) (k k' : ℕ)
+        → IfOk result (λ x.
+        GoesOnCounting s left.old k (task_kind.Expansion expander.entry) s left.new k' x) }
+    ensures falls { IfOk result (λ x.
+        Falls left.old (task_kind.Expansion expander.entry) left.new x) }
 {
     let mut expander = expander;
     match run_expansion(alloc, left, &mut expander) {
@@ -121,7 +126,9 @@ fn go_machine<'w, L: Ledger>(
 ) -> Result<Event, NoMemory>
     requires of { MachineOf store.old machine.old }
     requires calls { left.old.calls + machine.old.state.calls < 2 ^ 64 }
-    ensures went { IfOk result (λ e. MachineGoes store.old left.old turns.old machine.old store.new left.new turns.new machine.new e) }
+    ensures went { IfOk result (λ e.
+        MachineGoes store.old left.old turns.old machine.old
+        store.new left.new turns.new machine.new e) }
     ensures falls { IfOk result (λ e. StepsFall e left.old.steps left.new.steps) }
 {
     let before = left.steps;
@@ -190,7 +197,9 @@ fn run_invocation<'w, L: Ledger>(
 ) -> Result<Halt, NoMemory>
     requires of { MachineOf store.old machine.old }
     requires calls { left.old.calls + machine.old.state.calls < 2 ^ 64 }
-    ensures { IfOk result (λ h. RunsTo IsInvocationHalt store.old left.old turns.old machine.old store.new left.new turns.new machine.new h) }
+    ensures { IfOk result (λ h.
+        RunsTo IsInvocationHalt store.old left.old turns.old machine.old
+        store.new left.new turns.new machine.new h) }
 {
     let event = go_machine(store, left, machine, turns)?;
     invocation_halt(alloc, store, event)
@@ -206,7 +215,9 @@ fn run_load<'w, L: Ledger>(
 ) -> Result<Halt, NoMemory>
     requires of { MachineOf store.old machine.old }
     requires calls { left.old.calls + machine.old.state.calls < 2 ^ 64 }
-    ensures { IfOk result (λ h. RunsTo IsLoadHalt store.old left.old turns.old machine.old store.new left.new turns.new machine.new h) }
+    ensures { IfOk result (λ h.
+        RunsTo IsLoadHalt store.old left.old turns.old machine.old
+        store.new left.new turns.new machine.new h) }
 {
     let event = go_machine(store, left, machine, turns)?;
     load_halt(alloc, store, event)
@@ -222,9 +233,14 @@ pub(crate) fn go_invocation<'w, L: Ledger>(
 ) -> Result<Halted<'w>, NoMemory>
     requires of { MachineOf store.old machine }
     requires back { CanGiveBack left.old (task_kind.Invocation machine) }
-    ensures halts { IfOk result (λ x. Halts store.old left.old turns.old (task_kind.Invocation machine.entry) store.new left.new turns.new x) }
-    ensures goes { IfOk result (λ x. (n : ℕ) → turns.new ≡ turns.old + n → GoesOn store.old left.old (task_kind.Invocation machine.entry) store.new left.new n x) }
-    ensures falls { IfOk result (λ x. Falls left.old (task_kind.Invocation machine.entry) left.new x) }
+    ensures halts { IfOk result (λ x.
+        Halts store.old left.old turns.old (task_kind.Invocation machine.entry)
+        store.new left.new turns.new x) }
+    ensures goes { IfOk result (λ x.
+        GoesOnCounting store.old left.old turns.old (task_kind.Invocation machine.entry)
+        store.new left.new turns.new x) }
+    ensures falls { IfOk result (λ x.
+        Falls left.old (task_kind.Invocation machine.entry) left.new x) }
 {
     let mut machine = machine;
     match run_invocation(alloc, store, left, &mut machine, turns) {
@@ -250,9 +266,14 @@ pub(crate) fn go_load<'w, L: Ledger>(
 ) -> Result<Halted<'w>, NoMemory>
     requires of { TaskIn store.old (task_kind.Load begun machine) }
     requires back { CanGiveBack left.old (task_kind.Load begun machine) }
-    ensures halts { IfOk result (λ x. Halts store.old left.old turns.old (task_kind.Load begun machine.entry) store.new left.new turns.new x) }
-    ensures goes { IfOk result (λ x. (n : ℕ) → turns.new ≡ turns.old + n → GoesOn store.old left.old (task_kind.Load begun machine.entry) store.new left.new n x) }
-    ensures falls { IfOk result (λ x. Falls left.old (task_kind.Load begun machine.entry) left.new x) }
+    ensures halts { IfOk result (λ x.
+        Halts store.old left.old turns.old (task_kind.Load begun machine.entry)
+        store.new left.new turns.new x) }
+    ensures goes { IfOk result (λ x.
+        GoesOnCounting store.old left.old turns.old (task_kind.Load begun machine.entry)
+        store.new left.new turns.new x) }
+    ensures falls { IfOk result (λ x.
+        Falls left.old (task_kind.Load begun machine.entry) left.new x) }
 {
     let mut machine = machine;
     match run_load(alloc, store, left, &mut machine, turns) {
@@ -280,8 +301,10 @@ pub fn go_on<'w, L: Ledger>(
     requires of { TaskIn store.old task }
     requires can { CanGo task }
     requires back { CanGiveBack left.old task }
-    ensures halts { IfOk result (λ x. Halts store.old left.old turns.old task.entry store.new left.new turns.new x) }
-    ensures goes { IfOk result (λ x. (n : ℕ) → turns.new ≡ turns.old + n → GoesOn store.old left.old task.entry store.new left.new n x) }
+    ensures halts { IfOk result (λ x.
+        Halts store.old left.old turns.old task.entry store.new left.new turns.new x) }
+    ensures goes { IfOk result (λ x.
+        GoesOnCounting store.old left.old turns.old task.entry store.new left.new turns.new x) }
     ensures falls { IfOk result (λ x. Falls left.old task.entry left.new x) }
 {
     match task {

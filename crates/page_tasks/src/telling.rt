@@ -4,18 +4,17 @@ ghost use Rattle.page_run.specs.Outcome.{Outcome as PlainOutcome};
 ghost use Rattle.page_run.specs.State.{Gives, Exhausts};
 ghost use Rattle.lua_code.specs.LuaHeapValue.{Value as PlainValue};
 ghost use Rattle.lua_machine.specs.LuaMeaningActs.{Jump};
-ghost use Rattle.page_ground.specs.LuaMeaningQuestions.{Answer as PlainAnswer, Expanded, NoPage};
+ghost use Rattle.page_ground.specs.LuaMeaningQuestions.{Expanded, NoPage};
 ghost use Rattle.lua_machine.specs.LuaStoreSeen.{StoreView};
 ghost use Rattle.lua_machine.specs.LuaStoreParts.{IsLater};
 ghost use Rattle.lua_machine.specs.Events.{MachineOf, AnswerOf, answer_outcome};
 ghost use Rattle.wiki_expand.specs.Standing.{IsReady, IsWaiting};
 ghost use Rattle.page_ground.specs.PageMeaningOutcomes.{outcome_text};
-ghost use Rattle.page_ground.specs.PageMeaningTasks.{text_of};
 ghost use Rattle.page_tasks.specs.declared.task.Task.TheVariants as task_kind;
 ghost use Rattle.page_ground.specs.Seen.{data_seen, CanBePut};
 ghost use Rattle.page_tasks.specs.Seen.{answered_text};
 ghost use Rattle.page_tasks.specs.Tasks.{TaskIn, CanBeTold};
-ghost use Rattle.page_tasks.specs.Going.{Halts, GoesOnWith, ToldFrom, PutsAnswer};
+ghost use Rattle.page_tasks.specs.Going.{Halts, GoesOnWith, GoesOnWithCounting, ToldCounting, TextToldCounting, PutsAnswer};
 ghost use Rattle.page_tasks.specs.Calls.{ExpanderIsTold, MachineIsTold};
 ghost use Rattle.page_tasks.specs.Falling.{CanGiveBack, Falls};
 ghost use Rattle.page_tasks.specs.Refusing.{none_left, refusal};
@@ -60,7 +59,8 @@ fn answer_expander<'w>(
     text: Bytes,
 ) -> Result<(), NoMemory>
     requires { IsWaiting expander.old }
-    ensures answers { OnOk result (ExpanderIsTold expander.old left.old text expander.new left.new) }
+    ensures answers { OnOk result (ExpanderIsTold expander.old left.old text expander.new
+        left.new) }
     ensures can { OnOk result (IsReady expander.new) }
 {
     expander.get_mut().answer(left, text)
@@ -75,9 +75,15 @@ fn tell_expansion<'w>(
 ) -> Result<Halted<'w>, NoMemory>
     requires waits { IsWaiting expander }
     requires back { CanGiveBack left.old (task_kind.Expansion expander) }
-    ensures halts { (s : StoreView) (k : ℕ) → IfOk result (λ x. Halts s left.old k (task_kind.Expansion expander.entry) s left.new k x) }
-    ensures goes { (s : StoreView) (k k' high : ℕ) (o : PlainOutcome (List PlainValue) Jump) → IfOk result (λ x. (n : ℕ) → k' ≡ k + n → (a : PlainAnswer) → text ≡ text_of a → ToldFrom s left.old (task_kind.Expansion expander.entry) a o high s left.new n x) }
-    ensures falls { IfOk result (λ x. Falls left.old (task_kind.Expansion expander.entry) left.new x) }
+    ensures halts { (s : StoreView) (k : ℕ)
+        → IfOk result (λ x.
+        Halts s left.old k (task_kind.Expansion expander.entry) s left.new k x) }
+    ensures goes { (s : StoreView) (k k' high : ℕ) (o : PlainOutcome (List PlainValue) Jump)
+        → IfOk result (λ x.
+        TextToldCounting s left.old k (task_kind.Expansion expander.entry) text o high s
+        left.new k' x) }
+    ensures falls { IfOk result (λ x.
+        Falls left.old (task_kind.Expansion expander.entry) left.new x) }
 {
     let mut expander = expander;
     match answer_expander(left, &mut expander, text) {
@@ -99,7 +105,8 @@ fn answer_machine<'w>(
     requires of { MachineOf store.old machine.old }
     requires answer { AnswerOf store.old answer }
     requires height { machine.old.state.calls + height < 2 ^ 64 }
-    ensures answers { OnOk result (MachineIsTold store.old machine.old (answer_outcome store.old.texts answer) height store.new machine.new) }
+    ensures answers { OnOk result (MachineIsTold store.old machine.old
+        (answer_outcome store.old.texts answer) height store.new machine.new) }
     ensures of { OnOk result (MachineOf store.new machine.new) }
 {
     machine.get_mut().answer(store, answer, height)
@@ -119,9 +126,14 @@ fn tell_invocation<'w, L: Ledger>(
     requires back { CanGiveBack left.old (task_kind.Invocation machine) }
     requires answer { AnswerOf store.old answer }
     requires height { height ≤ left.old.calls }
-    ensures halts { IfOk result (λ x. Halts store.old left.old turns.old (task_kind.Invocation machine.entry) store.new left.new turns.new x) }
-    ensures goes { IfOk result (λ x. (n : ℕ) → turns.new ≡ turns.old + n → (a : PlainAnswer) → ToldFrom store.old left.old (task_kind.Invocation machine.entry) a (answer_outcome store.old.texts answer) height store.new left.new n x) }
-    ensures falls { IfOk result (λ x. Falls left.old (task_kind.Invocation machine.entry) left.new x) }
+    ensures halts { IfOk result (λ x.
+        Halts store.old left.old turns.old (task_kind.Invocation machine.entry)
+        store.new left.new turns.new x) }
+    ensures goes { IfOk result (λ x.
+        ToldCounting store.old left.old turns.old (task_kind.Invocation machine.entry)
+        (answer_outcome store.old.texts answer) height store.new left.new turns.new x) }
+    ensures falls { IfOk result (λ x.
+        Falls left.old (task_kind.Invocation machine.entry) left.new x) }
 {
     let mut machine = machine;
     match answer_machine(store, &mut machine, answer, height) {
@@ -148,9 +160,14 @@ fn tell_load<'w, L: Ledger>(
     requires back { CanGiveBack left.old (task_kind.Load begun machine) }
     requires answer { AnswerOf store.old answer }
     requires height { height ≤ left.old.calls }
-    ensures halts { IfOk result (λ x. Halts store.old left.old turns.old (task_kind.Load begun machine.entry) store.new left.new turns.new x) }
-    ensures goes { IfOk result (λ x. (n : ℕ) → turns.new ≡ turns.old + n → (a : PlainAnswer) → ToldFrom store.old left.old (task_kind.Load begun machine.entry) a (answer_outcome store.old.texts answer) height store.new left.new n x) }
-    ensures falls { IfOk result (λ x. Falls left.old (task_kind.Load begun machine.entry) left.new x) }
+    ensures halts { IfOk result (λ x.
+        Halts store.old left.old turns.old (task_kind.Load begun machine.entry)
+        store.new left.new turns.new x) }
+    ensures goes { IfOk result (λ x.
+        ToldCounting store.old left.old turns.old (task_kind.Load begun machine.entry)
+        (answer_outcome store.old.texts answer) height store.new left.new turns.new x) }
+    ensures falls { IfOk result (λ x.
+        Falls left.old (task_kind.Load begun machine.entry) left.new x) }
 {
     let mut machine = machine;
     match answer_machine(store, &mut machine, answer, height) {
@@ -178,8 +195,11 @@ fn tell<'w, L: Ledger>(
     requires back { CanGiveBack left.old task }
     requires answer { AnswerOf store.old answer }
     requires height { height ≤ left.old.calls }
-    ensures halts { IfOk result (λ x. Halts store.old left.old turns.old task.entry store.new left.new turns.new x) }
-    ensures goes { IfOk result (λ x. (n : ℕ) → turns.new ≡ turns.old + n → (a : PlainAnswer) → answered_text answer ≡ text_of a → ToldFrom store.old left.old task.entry a (answer_outcome store.old.texts answer) height store.new left.new n x) }
+    ensures halts { IfOk result (λ x.
+        Halts store.old left.old turns.old task.entry store.new left.new turns.new x) }
+    ensures goes { IfOk result (λ x.
+        TextToldCounting store.old left.old turns.old task.entry (answered_text answer)
+        (answer_outcome store.old.texts answer) height store.new left.new turns.new x) }
     ensures falls { IfOk result (λ x. Falls left.old task.entry left.new x) }
 {
     match task {
@@ -208,8 +228,11 @@ pub fn tell_text<'w, L: Ledger>(
     requires of { TaskIn store.old task }
     requires waits { CanBeTold task }
     requires back { CanGiveBack left.old task }
-    ensures halts { IfOk result (λ x. Halts store.old left.old turns.old task.entry store.new left.new turns.new x) }
-    ensures goes { IfOk result (λ x. (n : ℕ) → turns.new ≡ turns.old + n → GoesOnWith store.old left.old task.entry (Gives (Expanded (outcome_text so))) 0 store.new left.new n x) }
+    ensures halts { IfOk result (λ x.
+        Halts store.old left.old turns.old task.entry store.new left.new turns.new x) }
+    ensures goes { IfOk result (λ x.
+        GoesOnWithCounting store.old left.old turns.old task.entry
+        (Gives (Expanded (outcome_text so))) 0 store.new left.new turns.new x) }
     ensures falls { IfOk result (λ x. Falls left.old task.entry left.new x) }
 {
     match outcome_text(alloc, so) {
@@ -253,8 +276,11 @@ pub fn tell_none<'w, L: Ledger>(
     requires of { TaskIn store.old task }
     requires waits { CanBeTold task }
     requires back { CanGiveBack left.old task }
-    ensures halts { IfOk result (λ x. Halts store.old left.old turns.old task.entry store.new left.new turns.new x) }
-    ensures goes { IfOk result (λ x. (n : ℕ) → turns.new ≡ turns.old + n → GoesOnWith store.old left.old task.entry (Gives NoPage) 0 store.new left.new n x) }
+    ensures halts { IfOk result (λ x.
+        Halts store.old left.old turns.old task.entry store.new left.new turns.new x) }
+    ensures goes { IfOk result (λ x.
+        GoesOnWithCounting store.old left.old turns.old task.entry (Gives NoPage) 0
+        store.new left.new turns.new x) }
     ensures falls { IfOk result (λ x. Falls left.old task.entry left.new x) }
 {
     tell(alloc, store, left, task, Answer::NoPage, 0, turns)
@@ -265,7 +291,9 @@ fn put_data(alloc: Global, store: &mut Store, given: &Data) -> Result<Answer, No
     requires { CanBePut given.now }
     ensures of { IfOk result (AnswerOf store.new) }
     ensures later { OnOk result (IsLater store.old store.new) }
-    ensures puts { IfOk result (λ a. PutsAnswer store.old.heap store.new.heap (data_seen given.now) (answer_outcome store.new.texts a)) }
+    ensures puts { IfOk result (λ a.
+        PutsAnswer store.old.heap store.new.heap (data_seen given.now)
+        (answer_outcome store.new.texts a)) }
     ensures text { IfOk result (λ a. answered_text a ≡ []) }
 {
     match given {
@@ -296,8 +324,11 @@ pub fn tell_data<'w, L: Ledger>(
     requires back { CanGiveBack left.old task }
     requires data { CanBePut given.now }
     requires height { height ≤ left.old.calls }
-    ensures halts { IfOk result (λ x. Halts store.old left.old turns.old task.entry store.new left.new turns.new x) }
-    ensures goes { IfOk result (λ x. (n : ℕ) → turns.new ≡ turns.old + n → GoesOnWith store.old left.old task.entry (Gives (data_seen given.now)) height store.new left.new n x) }
+    ensures halts { IfOk result (λ x.
+        Halts store.old left.old turns.old task.entry store.new left.new turns.new x) }
+    ensures goes { IfOk result (λ x.
+        GoesOnWithCounting store.old left.old turns.old task.entry (Gives (data_seen given.now))
+        height store.new left.new turns.new x) }
     ensures falls { IfOk result (λ x. Falls left.old task.entry left.new x) }
 {
     match put_data(alloc, store, given) {
@@ -321,8 +352,11 @@ fn give_back<'w>(left: &mut Left, machine: &Boxed<Machine<'w>>)
 /// An invocation is told that an allowance is spent: it gives back its calls, and ends so.
 fn spend_invocation<'w>(left: &mut Left, machine: Boxed<Machine<'w>>, which: Which) -> Halted<'w>
     requires back { CanGiveBack left.old (task_kind.Invocation machine) }
-    ensures halts { (s : StoreView) (k : ℕ) → MachineOf s machine.entry → Halts s left.old k (task_kind.Invocation machine.entry) s left.new k result }
-    ensures goes { (s : StoreView) (high : ℕ) → GoesOnWith s left.old (task_kind.Invocation machine.entry) (Exhausts which) high s left.new 0 result }
+    ensures halts { (s : StoreView) (k : ℕ) → MachineOf s machine.entry
+        → Halts s left.old k (task_kind.Invocation machine.entry) s left.new k result }
+    ensures goes { (s : StoreView) (high : ℕ)
+        → GoesOnWith s left.old (task_kind.Invocation machine.entry) (Exhausts which) high s
+        left.new 0 result }
     ensures falls { Falls left.old (task_kind.Invocation machine.entry) left.new result }
 {
     give_back(left, &machine);
@@ -340,8 +374,11 @@ fn spend_load<'w>(
     which: Which,
 ) -> Halted<'w>
     requires back { CanGiveBack left.old (task_kind.Load begun machine) }
-    ensures halts { (s : StoreView) (k : ℕ) → TaskIn s (task_kind.Load begun machine.entry) → Halts s left.old k (task_kind.Load begun machine.entry) s left.new k result }
-    ensures goes { (s : StoreView) (high : ℕ) → GoesOnWith s left.old (task_kind.Load begun machine.entry) (Exhausts which) high s left.new 0 result }
+    ensures halts { (s : StoreView) (k : ℕ) → TaskIn s (task_kind.Load begun machine.entry)
+        → Halts s left.old k (task_kind.Load begun machine.entry) s left.new k result }
+    ensures goes { (s : StoreView) (high : ℕ)
+        → GoesOnWith s left.old (task_kind.Load begun machine.entry) (Exhausts which) high s
+        left.new 0 result }
     ensures falls { Falls left.old (task_kind.Load begun machine.entry) left.new result }
 {
     give_back(left, &machine);
@@ -361,8 +398,12 @@ pub fn tell_spent<'w>(
 ) -> Result<Halted<'w>, NoMemory>
     requires waits { CanBeTold task }
     requires back { CanGiveBack left.old task }
-    ensures halts { IfOk result (λ x. (s : StoreView) (k : ℕ) → TaskIn s task.entry → Halts s left.old k task.entry s left.new k x) }
-    ensures goes { IfOk result (λ x. (s : StoreView) (high : ℕ) → GoesOnWith s left.old task.entry (Exhausts which) high s left.new 0 x) }
+    ensures halts { IfOk result (λ x.
+        (s : StoreView) (k : ℕ) → TaskIn s task.entry
+        → Halts s left.old k task.entry s left.new k x) }
+    ensures goes { IfOk result (λ x.
+        (s : StoreView) (high : ℕ)
+        → GoesOnWith s left.old task.entry (Exhausts which) high s left.new 0 x) }
     ensures falls { IfOk result (λ x. Falls left.old task.entry left.new x) }
 {
     match task {

@@ -15,7 +15,7 @@ use Rattle.wiki_words.specs.Command.{command_of}
 use Rattle.wiki_batch.specs.LuaMeaningWorld.{Modules}
 use Rattle.wiki_batch.specs.WikiTextsModules.{AreMeantBy}
 use Rattle.wiki_app.specs.Pages.{wiki_for, raw_pages}
-use Rattle.wiki_app.specs.Report.{tool, usage, statuses, is_command, report_of, expected_for, AreMeantIn, AreMeantFor, HasModules, IsDue, IsOfFolder, IsWork, ReadsFolder, ReadFailed}
+use Rattle.wiki_app.specs.Report.{tool, usage, statuses, is_command, report_of, expected_for, AreMeantIn, IsReportOf, AreThere, AreMeantFor, HasModules, IsDue, IsOfFolder, IsWork, ReadsFolder, ReadFailed}
 
 -- ---- what words come to, by the command that they are
 
@@ -49,13 +49,6 @@ usage_meant words files e = (no_modules, subst (λ (o : Option Command). AreMean
 -- the pages of a wiki, or a fault
 abbrev pub Found : Type 0
 Found = Result (List FolderPage) (List ℕ)
-
--- what is known of a command's report
-abbrev pub IsReportOf : Command → Report → Found → Type 0
-IsReportOf c report wiki = (modules : Modules) → AreMeantIn wiki modules → report ≡ report_of modules c wiki
-
-abbrev pub AreThere : Found → Type 0
-AreThere wiki = (modules : Modules) × AreMeantIn wiki modules
 
 only_due : (command : Command) (files : Option (List StoredFile)) (report : Report) → IfSome (wiki_for command.work files) (IsReportOf command report) → (due : Report) → IsDueFor (Some command) files due → due ≡ report
 only_due command files report h due (modules, mean, is) = go (wiki_for command.work files) h mean is

@@ -1,12 +1,14 @@
 -- What a run is to answer and to write.
-use Rattle.std.specs.Prelude.{◌≡◌, ℕ, Bool, is_some, List, [], ◌∷◌, ◌++◌, Option, Some, None, IfSome, option_map, Result, Ok, Err, codes}
+use Rattle.std.specs.Prelude.{◌≡◌, ◌⊎◌, ℕ, Bool, is_some, List, [], ◌∷◌, ◌++◌, Option, Some, None, IfSome, option_map, Result, Ok, Err, codes}
 use Rattle.wk_base.specs.declared.title.Title.{Title}
 use Rattle.wk_tool.specs.WkShelfDeclaredFolderFolderPage.{FolderPage}
 use Rattle.wk_tool.specs.WkShelfFiles.{StoredFile}
 use Rattle.wk_tool.specs.declared.report.Report.{Report}
 use Rattle.wk_tool.specs.declared.report.Status.{Status}
 use Rattle.wk_tool.specs.declared.report.Status.TheVariants.{Done, NoSuchPage, SourceFault}
+use Rattle.wk_tool.specs.WkShelfPut.{PutsSome}
 use Rattle.wk_tool.specs.Report.{read_line, usage_report, source_report, missing_report}
+use Rattle.wk_tool.specs.Ending.{Stream}
 use Rattle.wiki_words.specs.declared.command.Command.{Command}
 use Rattle.wiki_words.specs.declared.command.Work.{Work}
 use Rattle.wiki_words.specs.declared.command.Work.TheVariants.{Folder, Made}
@@ -41,11 +43,15 @@ abbrev pub unless_missing : Option Title → Report → Report
 unless_missing None report = report
 unless_missing (Some title) report = missing_report tool title
 
+-- the pages of titles that are held, in a form
+abbrev pub pages_report : Modules → Pages → Settings → Form → List Title → Report
+pages_report modules map settings form titles = done_report form settings.stats (made_pages settings.limits (pages_of modules map settings.limits titles))
+
 -- THE PAGES OF THESE TITLES on a wiki, each expanded by itself with all of its limits left, where each invocation gives what these modules mean
 -- by it; or the first title that no page has
 abbrev pub titles_report : Modules → Pages → Settings → Form → List Title → Report
 titles_report modules map settings form titles =
-    unless_missing (first_missing map titles) (done_report form settings.stats (made_pages settings.limits (pages_of modules map settings.limits titles)))
+    unless_missing (first_missing map titles) (pages_report modules map settings form titles)
 
 abbrev pub wiki_report : Modules → Settings → Form → List Title → List RawPage → Report
 wiki_report modules settings form titles pages = titles_report modules (page_map pages) settings form titles
@@ -74,6 +80,13 @@ expected modules words files = expected_for modules (command_of words) files
 abbrev pub AreMeantIn : Result (List FolderPage) (List ℕ) → Modules → Type 0
 AreMeantIn (Err fault) modules = Unit {0}
 AreMeantIn (Ok pages) modules = AreMeantBy (raw_pages pages) modules
+
+-- what is known of a command's report: it is that by whatever modules are meant; and there are such modules
+abbrev pub IsReportOf : Command → Report → Result (List FolderPage) (List ℕ) → Type 0
+IsReportOf command report wiki = (modules : Modules) → AreMeantIn wiki modules → report ≡ report_of modules command wiki
+
+abbrev pub AreThere : Result (List FolderPage) (List ℕ) → Type 0
+AreThere wiki = (modules : Modules) × AreMeantIn wiki modules
 
 abbrev pub AreMeantFor : Option Command → Option (List StoredFile) → Modules → Type 0
 AreMeantFor None files modules = Unit {0}
@@ -110,3 +123,7 @@ ReadsFolder (Some command) = IsOfFolder command.work
 -- a read failed: only a command that reads a folder reads, and the shelf counts the fault
 abbrev pub ReadFailed : List (List ℕ) → Type 0 → Type 0
 ReadFailed words shelf_rose = ReadsFolder (command_of words) × shelf_rose
+
+-- what a put that failed cut off is a report of modules that there are, or it is the line of a read that failed
+abbrev pub CutMeant : List (List ℕ) → Option (List StoredFile) → Type 0 → Stream → Stream → Type 0
+CutMeant words files shelf_rose out err = HasModules words files ⊎ (ReadFailed words shelf_rose × out.same × PutsSome err.old err.new cannot_read)

@@ -4,10 +4,8 @@ ghost use Rattle.wk_base.specs.Allowances.{IsCountable};
 ghost use Rattle.wiki_batch.specs.LuaMeaningWorld.{Modules as PlainModules};
 ghost use Rattle.wiki_batch.specs.WikiTextsModules.{AreMeantBy};
 ghost use Rattle.wiki_expand.specs.Pages.{find_page};
-ghost use Rattle.wiki_batch.specs.Batch.{AreOf, pages_of};
-ghost use Rattle.wiki_output.specs.Report.{done_report};
-ghost use Rattle.wiki_app.specs.Pages.{raw_pages, made_pages};
-ghost use Rattle.wiki_app.specs.Report.{titles_report, wiki_report, report_of, IsWork};
+ghost use Rattle.wiki_batch.specs.Batch.{AreOf};
+ghost use Rattle.wiki_app.specs.Report.{pages_report, titles_report, wiki_report, AreThere, IsReportOf, IsWork};
 
 use crate::pages::{first_missing, form_of, made_pages, raw_pages, titles_of};
 use std::alloc::Global;
@@ -37,7 +35,9 @@ fn expanded_report<R: Threads + Sync, G: Gate + Sync>(
     requires held { All (λ title. IsSome (find_page wiki.now.pages title)) titles.now }
     requires countable { IsCountable settings.now.limits }
     requires jobs { 1 ≤ settings.now.jobs }
-    ensures report { IfOk result (λ report. (modules : PlainModules) → AreOf wiki.now modules → report ≡ done_report form settings.now.stats (made_pages settings.now.limits (pages_of modules wiki.now.pages settings.now.limits titles.now))) }
+    ensures report { IfOk result (λ report.
+        (modules : PlainModules) → AreOf wiki.now modules
+        → report ≡ pages_report modules wiki.now.pages settings.now form titles.now) }
     ensures work { IfOk result (λ report. IsWork report.status) }
 {
     let jobs = settings.jobs as usize;
@@ -60,7 +60,9 @@ fn titles_report<R: Threads + Sync, G: Gate + Sync>(
 ) -> Result<Report, NoMemory>
     requires countable { IsCountable settings.now.limits }
     requires jobs { 1 ≤ settings.now.jobs }
-    ensures report { IfOk result (λ report. (modules : PlainModules) → AreOf wiki.now modules → report ≡ titles_report modules wiki.now.pages settings.now form titles.now) }
+    ensures report { IfOk result (λ report.
+        (modules : PlainModules) → AreOf wiki.now modules
+        → report ≡ titles_report modules wiki.now.pages settings.now form titles.now) }
     ensures work { IfOk result (λ report. IsWork report.status) }
 {
     match first_missing(&wiki.pages, titles) {
@@ -88,7 +90,9 @@ fn wiki_report<R: Threads + Sync, G: Gate + Sync>(
 ) -> Result<Report, NoMemory>
     requires countable { IsCountable settings.now.limits }
     requires jobs { 1 ≤ settings.now.jobs }
-    ensures report { IfOk result (λ report. (modules : PlainModules) → AreMeantBy pages modules → report ≡ wiki_report modules settings.now form titles.now pages) }
+    ensures report { IfOk result (λ report.
+        (modules : PlainModules) → AreMeantBy pages modules
+        → report ≡ wiki_report modules settings.now form titles.now pages) }
     ensures has_modules { IfOk result (λ _. (modules : PlainModules) × AreMeantBy pages modules) }
     ensures work { IfOk result (λ report. IsWork report.status) }
 {
@@ -110,8 +114,8 @@ pub fn command_report<R: Threads + Sync, G: Gate + Sync>(
 ) -> Result<Report, NoMemory>
     requires countable { IsCountable command.now.settings.limits }
     requires jobs { 1 ≤ command.now.settings.jobs }
-    ensures report { IfOk result (λ report. (modules : PlainModules) → AreMeantBy (raw_pages pages) modules → report ≡ report_of modules command.now (Ok pages)) }
-    ensures has_modules { IfOk result (λ _. (modules : PlainModules) × AreMeantBy (raw_pages pages) modules) }
+    ensures report { IfOk result (λ report. IsReportOf command.now report (Ok pages)) }
+    ensures has_modules { IfOk result (λ _. AreThere (Ok pages)) }
     ensures work { IfOk result (λ report. IsWork report.status) }
 {
     let titles = titles_of(alloc, &command.work, pages.as_slice())?;

@@ -8,5 +8,9 @@ ghost use Rattle.wiki_app.specs.Report.{report_of};
 
 /// Two commands that differ in the number of jobs alone give the same.
 pub fn jobs_change_nothing()
-    ensures { (modules : Modules) (work : Work) (settings : Settings) (jobs : ℕ) (wiki : Result (List FolderPage) (List ℕ)) → report_of modules (record { work = work; settings = record settings { jobs = jobs } }) wiki ≡ report_of modules (record { work = work; settings = settings }) wiki }
+    ensures { (modules : Modules) (work : Work) (settings : Settings) (jobs : ℕ)
+        (wiki : Result (List FolderPage) (List ℕ))
+        → report_of modules (record { work = work; settings = record settings { jobs = jobs } })
+        wiki
+        ≡ report_of modules (record { work = work; settings = settings }) wiki }
 {}

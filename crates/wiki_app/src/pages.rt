@@ -21,9 +21,13 @@ pub fn pages_for<S: Shelf>(
     work: &Work<'_>,
     shelf: &mut S,
 ) -> Result<List<FolderPage>, FolderFault>
-    ensures pages { IfOk result (λ pages. IfSome (wiki_for work.now (S.files shelf.old)) (λ wiki. wiki ≡ Ok pages)) }
-    ensures fault { IfErr result (λ fault. IfSome (source_line fault) (λ line. IfSome (wiki_for work.now (S.files shelf.old)) (λ wiki. wiki ≡ Err line))) }
-    ensures cause { result ≡ Err FolderFault.Read → IsOfFolder work.now × Rose (S.faults shelf.old) (S.faults shelf.new) }
+    ensures pages { IfOk result (λ pages.
+        IfSome (wiki_for work.now (S.files shelf.old)) (λ wiki. wiki ≡ Ok pages)) }
+    ensures fault { IfErr result (λ fault.
+        IfSome (source_line fault) (λ line.
+        IfSome (wiki_for work.now (S.files shelf.old)) (λ wiki. wiki ≡ Err line))) }
+    ensures cause { result ≡ Err FolderFault.Read
+        → IsOfFolder work.now × Rose (S.faults shelf.old) (S.faults shelf.new) }
 {
     match work {
         Work::Folder(pages) => read_folder(alloc, seed, shelf, pages.folder),

@@ -2,12 +2,10 @@
 ghost use Rattle.std.specs.Prelude.{◌≡◌, ◌≤◌, ◌⊎◌, false, Err, IfOk, IfSome, map, string_bytes};
 ghost use Rattle.wk_base.specs.Allowances.{IsCountable};
 ghost use Rattle.wk_tool.specs.WkShelfCauses.{Rose};
-ghost use Rattle.wk_tool.specs.WkShelfPut.{PutsSome};
-ghost use Rattle.wk_tool.specs.Ending.{KeepsDue, is_cut};
-ghost use Rattle.wiki_batch.specs.LuaMeaningWorld.{Modules as PlainModules};
+ghost use Rattle.wk_tool.specs.Ending.{KeepsDueOn, is_cut, stream};
 ghost use Rattle.wiki_words.specs.Command.{begins_command};
 ghost use Rattle.wiki_app.specs.Pages.{wiki_for};
-ghost use Rattle.wiki_app.specs.Report.{cannot_read, statuses, is_command, report_of, AreMeantIn, HasModules, IsDue, IsOfFolder, IsWork, ReadFailed};
+ghost use Rattle.wiki_app.specs.Report.{cannot_read, statuses, is_command, AreThere, CutMeant, HasModules, IsDue, IsOfFolder, IsReportOf, IsWork, ReadFailed};
 
 use crate::answer::{TOOL, command_report};
 use crate::pages::pages_for;
@@ -37,10 +35,13 @@ fn prepare<R: Threads + Sync, S: Shelf, G: Gate + Sync>(
 ) -> Result<Report, Unread>
     requires countable { IsCountable command.now.settings.limits }
     requires jobs { 1 ≤ command.now.settings.jobs }
-    ensures report { IfOk result (λ report. IfSome (wiki_for command.now.work (S.files shelf.old)) (λ wiki. (modules : PlainModules) → AreMeantIn wiki modules → report ≡ report_of modules command.now wiki)) }
-    ensures has_modules { IfOk result (λ _. IfSome (wiki_for command.now.work (S.files shelf.old)) (λ wiki. (modules : PlainModules) × AreMeantIn wiki modules)) }
+    ensures report { IfOk result (λ report.
+        IfSome (wiki_for command.now.work (S.files shelf.old)) (IsReportOf command.now report)) }
+    ensures has_modules { IfOk result (λ _.
+        IfSome (wiki_for command.now.work (S.files shelf.old)) AreThere) }
     ensures work { IfOk result (λ report. IsWork report.status) }
-    ensures cause { result ≡ Err Unread.Failed → IsOfFolder command.now.work × Rose (S.faults shelf.old) (S.faults shelf.new) }
+    ensures cause { result ≡ Err Unread.Failed
+        → IsOfFolder command.now.work × Rose (S.faults shelf.old) (S.faults shelf.new) }
 {
     match pages_for(alloc, seed, &command.work, shelf) {
         Ok(pages) => {
@@ -70,11 +71,21 @@ pub fn run<R: Threads + Sync, S: Shelf, O: Sink, E: Sink, G: Gate + Sync>(
     err: &mut E,
     gate: &G,
 ) -> u8
-    ensures keeps { KeepsDue (is_command (map string_bytes words.now)) statuses cannot_read (IsDue (map string_bytes words.now) (S.files shelf.old)) (ReadFailed (map string_bytes words.now) (Rose (S.faults shelf.old) (S.faults shelf.new))) (out.new ≡ out.old) (err.new ≡ err.old) (Rose (O.faults out.old) (O.faults out.new)) (Rose (E.faults err.old) (E.faults err.new)) (O.contents out.old) (O.contents out.new) (E.contents err.old) (E.contents err.new) result }
-    ensures has_modules { is_cut result ≡ false → HasModules (map string_bytes words.now) (S.files shelf.old) }
+    ensures keeps { KeepsDueOn (is_command (map string_bytes words.now)) statuses cannot_read
+        (IsDue (map string_bytes words.now) (S.files shelf.old))
+        (ReadFailed (map string_bytes words.now) (Rose (S.faults shelf.old) (S.faults shelf.new)))
+        (stream O.contents O.faults out.old out.new) (stream E.contents E.faults err.old err.new)
+        result }
+    ensures has_modules { is_cut result ≡ false
+        → HasModules (map string_bytes words.now) (S.files shelf.old) }
     // After status 5 the report that was cut off is one of modules that there are, or it is the line of a read that failed.
-    ensures cut_meant { result ≡ 5 → HasModules (map string_bytes words.now) (S.files shelf.old) ⊎ (ReadFailed (map string_bytes words.now) (Rose (S.faults shelf.old) (S.faults shelf.new)) × (out.new ≡ out.old) × PutsSome (E.contents err.old) (E.contents err.new) cannot_read) }
-    ensures other_word { begins_command (map string_bytes words.now) ≡ false → (result ≡ 2) ⊎ (result ≡ 5) }
+    ensures cut_meant { result ≡ 5
+        → CutMeant (map string_bytes words.now) (S.files shelf.old)
+        (Rose (S.faults shelf.old) (S.faults shelf.new))
+        (stream O.contents O.faults out.old out.new)
+        (stream E.contents E.faults err.old err.new) }
+    ensures other_word { begins_command (map string_bytes words.now) ≡ false
+        → (result ≡ 2) ⊎ (result ≡ 5) }
 {
     match read_command(alloc, words) {
         Ok(Some(command)) => {

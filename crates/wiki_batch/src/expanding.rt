@@ -1,8 +1,9 @@
 //! Many pages of a wiki, each expanded by itself.
-ghost use Rattle.std.specs.Prelude.{◌≡◌, ℕ, ◌≤◌, ◌<◌, ◌*◌, All, IfOk, IsSome, length, slice_index_or, drop, take};
+ghost use Rattle.std.specs.Prelude.{◌≡◌, ℕ, ◌≤◌, ◌<◌, ◌*◌, All, IfOk, IsSome, length};
 ghost use Rattle.wk_base.specs.Allowances.{IsCountable};
 ghost use Rattle.wiki_texts.specs.WikiExpandPages.{find_page};
 ghost use Rattle.wiki_batch.specs.Batch.{IsPage, ArePages};
+ghost use Rattle.wiki_batch.specs.Shares.{share_at, AreShares};
 
 use crate::gate::Gate;
 use crate::sharing::{gathered, share_count, share_of, share_size};
@@ -90,7 +91,8 @@ fn expand_numbered<G: Gate>(
     requires held { All (λ title. IsSome (find_page wiki.now.pages title)) titles.now }
     requires countable { IsCountable limits.now }
     requires within { j * size ≤ length titles.now }
-    ensures { IfOk result (λ pages. ArePages wiki.now limits.now (take size (drop (j * size) titles.now)) pages) }
+    ensures { IfOk result (λ pages.
+        ArePages wiki.now limits.now (share_at size j titles.now) pages) }
 {
     let share = share_of(titles, size, j);
     expand_share(alloc, seed, wiki, share, j * size, limits, gate)
@@ -112,7 +114,8 @@ fn expand_shares<R: Threads + Sync, G: Gate + Sync>(
     requires held { All (λ title. IsSome (find_page wiki.now.pages title)) titles.now }
     requires countable { IsCountable limits.now }
     requires within { (j : ℕ) → j < shares → j * size ≤ length titles.now }
-    ensures { IfOk result (λ parts. (length parts.items ≡ shares) × ((j : ℕ) (d : _) → j < shares → IfOk (slice_index_or parts.items j d) (λ pages. ArePages wiki.now limits.now (take size (drop (j * size) titles.now)) pages))) }
+    ensures { IfOk result (λ parts.
+        AreShares (ArePages wiki.now limits.now) size shares titles.now parts.items) }
 {
     let parts = map_by_workers(
         rt,

@@ -1,11 +1,11 @@
 //! A wiki from the texts of its pages.
-ghost use Rattle.std.specs.Prelude.{◌≡◌, ℕ, ◌≤◌, ◌<◌, ◌*◌, IfOk, length, slice_index_or, drop, take};
-ghost use Rattle.wk_base.specs.declared.title.Title.{Title as PlainTitle};
+ghost use Rattle.std.specs.Prelude.{◌≡◌, ℕ, ◌≤◌, ◌<◌, ◌*◌, IfOk, length};
 ghost use Rattle.wiki_texts.specs.LuaMeaningWorld.{Modules as PlainModules};
-ghost use Rattle.page_driver.specs.Ground.{AreModulesIn};
 ghost use Rattle.wiki_texts.specs.Pages.{page_map};
 ghost use Rattle.wiki_texts.specs.Modules.{AreMeantBy};
 ghost use Rattle.wiki_texts.specs.Prepared.{ArePrepared};
+ghost use Rattle.wiki_batch.specs.Batch.{AreOf};
+ghost use Rattle.wiki_batch.specs.Shares.{share_at, AreShares};
 ghost use Rattle.wiki_batch.specs.Wikis.{HoldsModules};
 
 use crate::sharing::{gathered, share_count, share_of, share_size};
@@ -26,7 +26,7 @@ fn prepare_numbered(
     j: usize,
 ) -> Result<List<Prepared>, NoMemory>
     requires within { j * size ≤ length pages.now }
-    ensures { IfOk result (λ prepared. ArePrepared (take size (drop (j * size) pages.now)) prepared) }
+    ensures { IfOk result (λ prepared. ArePrepared (share_at size j pages.now) prepared) }
 {
     let share = share_of(pages, size, j);
     prepare_all(alloc, seed, share)
@@ -43,7 +43,7 @@ fn prepare_shares<R: Threads + Sync>(
     jobs: usize,
 ) -> Result<Vec<Result<List<Prepared>, NoMemory>>, NoMemory>
     requires within { (j : ℕ) → j < shares → j * size ≤ length pages.now }
-    ensures { IfOk result (λ parts. (length parts.items ≡ shares) × ((j : ℕ) (d : _) → j < shares → IfOk (slice_index_or parts.items j d) (λ prepared. ArePrepared (take size (drop (j * size) pages.now)) prepared))) }
+    ensures { IfOk result (λ parts. AreShares ArePrepared size shares pages.now parts.items) }
 {
     let parts = map_by_workers(
         rt,
@@ -86,7 +86,8 @@ pub fn load<R: Threads + Sync>(
     ensures pages { IfOk result (λ wiki. wiki.pages ≡ page_map pages) }
     ensures has_each_module { IfOk result (λ wiki. HoldsModules wiki.pages wiki.modules) }
     // Whatever modules the texts mean, the code is theirs; and there are such modules.
-    ensures code { IfOk result (λ wiki. (modules : PlainModules) → AreMeantBy pages modules → (page : PlainTitle) → AreModulesIn page wiki.modules modules) }
+    ensures code { IfOk result (λ wiki.
+        (modules : PlainModules) → AreMeantBy pages modules → AreOf wiki modules) }
     ensures has_modules { IfOk result (λ _. (modules : PlainModules) × AreMeantBy pages modules) }
 {
     let texts = pages.as_slice();

@@ -56,7 +56,8 @@ fn text_report(alloc: Global, title: &Title, text: &[u8]) -> Result<Report, NoMe
 
 /// What a module gives on these pages.
 fn pages_report(alloc: Global, title: &Title, pages: &[FolderPage]) -> Result<Report, NoMemory>
-    ensures report { IfOk result (λ report. IsPageReport title.now (text_of title.now pages.now) report) }
+    ensures report { IfOk result (λ report.
+        IsPageReport title.now (text_of title.now pages.now) report) }
     ensures answer { IfOk result (λ report. IsAnswer report.status) }
 {
     match text_of(title, pages) {
@@ -90,7 +91,8 @@ fn lint_pages(
     title: &Title,
     pages: &[FolderPage],
 ) -> Result<Report, NoMemory>
-    ensures report { IfOk result (λ report. IsLintReport title.now pages.now (text_of title.now pages.now) report) }
+    ensures report { IfOk result (λ report.
+        IsLintReport title.now pages.now (text_of title.now pages.now) report) }
     ensures answer { IfOk result (λ report. IsAnswer report.status) }
 {
     match text_of(title, pages) {
@@ -153,7 +155,10 @@ pub fn command_report<S: Shelf>(
     command: &Command<'_>,
     shelf: &mut S,
 ) -> Result<Report, Unread>
-    ensures report { IfOk result (λ report. IfSome (S.files shelf.old) (λ files. IsWikiReport command.now.verb command.now.title (wiki_of (files_of command.now.folder files)) report)) }
+    ensures report { IfOk result (λ report.
+        IfSome (S.files shelf.old) (λ files.
+        IsWikiReport command.now.verb command.now.title
+        (wiki_of (files_of command.now.folder files)) report)) }
     ensures answer { IfOk result (λ report. IsAnswer report.status) }
     ensures cause { result ≡ Err Unread.Failed → Rose (S.faults shelf.old) (S.faults shelf.new) }
 {

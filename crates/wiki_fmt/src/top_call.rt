@@ -1,7 +1,7 @@
 //! The top call: what the program does with its words, over any shelf and any two sinks.
 ghost use Rattle.std.specs.Prelude.{◌≡◌, ◌⊎◌, false, IfOk, IfErr, map, string_bytes};
 ghost use Rattle.wk_tool.specs.WkShelfCauses.{Rose};
-ghost use Rattle.wk_tool.specs.Ending.{Prepares, KeepsDue, is_cut};
+ghost use Rattle.wk_tool.specs.Ending.{Prepares, KeepsDueOn, is_cut, stream};
 ghost use Rattle.wiki_fmt.specs.Command.{is_command};
 ghost use Rattle.wk_tool.specs.Report.{usage_report};
 ghost use Rattle.wiki_fmt.specs.Due.{IsDue, HasDue, usage, statuses, cannot_read};
@@ -35,8 +35,11 @@ fn prepare<S: Shelf>(
     words: &[String],
     shelf: &mut S,
 ) -> Result<Report, Unread>
-    ensures prepares { Prepares result (is_command (map string_bytes words.now)) statuses (IsDue (map string_bytes words.now) (S.files shelf.old)) (Rose (S.faults shelf.old) (S.faults shelf.new)) }
-    ensures has_due { IfOk result (λ report. HasDue (map string_bytes words.now) (S.files shelf.old)) }
+    ensures prepares { Prepares result (is_command (map string_bytes words.now)) statuses
+        (IsDue (map string_bytes words.now) (S.files shelf.old))
+        (Rose (S.faults shelf.old) (S.faults shelf.new)) }
+    ensures has_due { IfOk result (λ report.
+        HasDue (map string_bytes words.now) (S.files shelf.old)) }
 {
     match read_command(alloc, words) {
         Ok(None) => usage(alloc),
@@ -57,10 +60,17 @@ pub fn run_fmt<S: Shelf, O: Sink, E: Sink>(
     out: &mut O,
     err: &mut E,
 ) -> u8
-    ensures keeps { KeepsDue (is_command (map string_bytes words.now)) statuses cannot_read (IsDue (map string_bytes words.now) (S.files shelf.old)) (Rose (S.faults shelf.old) (S.faults shelf.new)) (out.new ≡ out.old) (err.new ≡ err.old) (Rose (O.faults out.old) (O.faults out.new)) (Rose (E.faults err.old) (E.faults err.new)) (O.contents out.old) (O.contents out.new) (E.contents err.old) (E.contents err.new) result }
-    ensures has_due { is_cut result ≡ false → HasDue (map string_bytes words.now) (S.files shelf.old) }
+    ensures keeps { KeepsDueOn (is_command (map string_bytes words.now)) statuses cannot_read
+        (IsDue (map string_bytes words.now) (S.files shelf.old))
+        (Rose (S.faults shelf.old) (S.faults shelf.new))
+        (stream O.contents O.faults out.old out.new) (stream E.contents E.faults err.old err.new)
+        result }
+    ensures has_due { is_cut result ≡ false
+        → HasDue (map string_bytes words.now) (S.files shelf.old) }
     // After status 5 what was cut off is due, or it is the line of a read that failed.
-    ensures cut_due { result ≡ 5 → HasDue (map string_bytes words.now) (S.files shelf.old) ⊎ Rose (S.faults shelf.old) (S.faults shelf.new) }
+    ensures cut_due { result ≡ 5
+        → HasDue (map string_bytes words.now) (S.files shelf.old)
+        ⊎ Rose (S.faults shelf.old) (S.faults shelf.new) }
 {
     let work = prepare(alloc, seed, words, shelf);
     finish(work, CANNOT_READ, out, err)

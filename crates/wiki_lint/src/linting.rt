@@ -28,7 +28,8 @@ fn tree_of(alloc: Global, text: &[u8]) -> Result<Chunk, SyntaxFault>
 
 /// A module more.
 fn add(modules: &mut List<Named>, title: &Title, chunk: Chunk) -> Result<(), NoMemory>
-    ensures { OnOk result (modules_seen modules.new ≡ modules_seen modules.old ++ record { title = title.now; chunk = chunk_view chunk } ∷ []) }
+    ensures { OnOk result (modules_seen modules.new
+        ≡ modules_seen modules.old ++ record { title = title.now; chunk = chunk_view chunk } ∷ []) }
 {
     let title = title.copy()?;
     modules.push(Named { title, chunk })
@@ -95,7 +96,8 @@ fn title_at(alloc: Global, modules: &[Named], place: usize) -> Result<Bytes, NoM
 
 /// What is told where the globals can't be.
 fn cannot_tell(alloc: Global, modules: &[Named], at: UnknownAt) -> Result<Report, NoMemory>
-    ensures { IfOk result (λ report. report ≡ cannot_tell (modules_seen modules.now) (unknown_seen at)) }
+    ensures { IfOk result (λ report.
+        report ≡ cannot_tell (modules_seen modules.now) (unknown_seen at)) }
 {
     let title = title_at(alloc, modules, at.module)?;
     let line = place_line(alloc, title.as_slice(), at.line)?;
@@ -120,7 +122,8 @@ fn place_line(alloc: Global, title: &[u8], line: u32) -> Result<Bytes, NoMemory>
 
 /// What is told of the globals that a module uses.
 fn told(alloc: Global, modules: &[Named], answer: &GlobalUses) -> Result<Report, NoMemory>
-    ensures { IfOk result (λ report. report ≡ told (modules_seen modules.now) (answer_seen answer.now)) }
+    ensures { IfOk result (λ report.
+        report ≡ told (modules_seen modules.now) (answer_seen answer.now)) }
 {
     match answer {
         GlobalUses::Names(names) => Ok(printed(alloc, lines(alloc, names.as_slice())?)),

@@ -7,7 +7,8 @@ use std::alloc::Global;
 use wk_tool::{Bytes, FolderPage, List, Namespace, NoMemory, Title, put_bytes};
 
 fn page(alloc: Global, ns: Namespace, name: &[u8], text: &[u8]) -> Result<FolderPage, NoMemory>
-    ensures { IfOk result (λ page. page ≡ record { title = record { ns = ns; name = name.now }; bytes = text.now }) }
+    ensures { IfOk result (λ page.
+        page ≡ record { title = record { ns = ns; name = name.now }; bytes = text.now }) }
 {
     let name = Bytes::of(alloc, name)?;
     let bytes = Bytes::of(alloc, text)?;

@@ -1,7 +1,8 @@
 -- THE REPORT of test modules: the lines of their cases, and how many passed and failed.
-use Rattle.std.specs.Prelude.{◌≡◌, ℕ, Bool, ◌==◌, List, [], ◌∷◌, ◌++◌, filter, flat_map, length, map, slice_index_or, codes}
+use Rattle.std.specs.Prelude.{◌≡◌, ℕ, ◌<◌, Bool, ◌==◌, List, [], ◌∷◌, ◌++◌, filter, flat_map, length, map, slice_index_or, Result, IfOk, codes}
 use Rattle.std.specs.List.{starts_with}
 use Rattle.std.specs.Fmt.{decimal}
+use Rattle.wk_base.specs.declared.NoMemory.{NoMemory}
 use Rattle.wk_base.specs.declared.left.Limits.{Limits}
 use Rattle.wk_base.specs.declared.title.Title.{Title}
 use Rattle.lua_meaning.specs.World.{Modules}
@@ -49,6 +50,11 @@ IsLine wiki limits subject line = (modules : Modules) → AreOf wiki modules →
 -- the line about the thing with the number i
 abbrev pub IsLineAt : Wiki → Limits → List Subject → ℕ → List ℕ → Type 0
 IsLineAt wiki limits about i line = (d : Subject) → IsLine wiki limits (slice_index_or about i d) line
+
+-- each part that was made is the line about the thing of its number
+abbrev pub AreLineParts : Wiki → Limits → List Subject → List (Result (List ℕ) NoMemory) → Type 0
+AreLineParts wiki limits about parts =
+    (length parts ≡ length about) × ((j : ℕ) (e : Result (List ℕ) NoMemory) → j < length about → IfOk (slice_index_or parts j e) (λ line. IsLineAt wiki limits about j line))
 
 abbrev pub AreLines : Wiki → Limits → List Subject → List (List ℕ) → Type 0
 AreLines wiki limits about lines = (modules : Modules) → AreOf wiki modules → lines ≡ map (line_of modules wiki.pages limits) about

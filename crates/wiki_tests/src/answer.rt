@@ -48,7 +48,9 @@ fn folder_report<R: Threads + Sync>(
 ) -> Result<TestReport, NoMemory>
     requires countable { IsCountable limits.now }
     requires jobs { 1 ≤ jobs }
-    ensures report { IfOk result (λ report. (modules : PlainModules) → AreMeantBy pages modules → report ≡ folder_report modules limits.now pages) }
+    ensures report { IfOk result (λ report.
+        (modules : PlainModules) → AreMeantBy pages modules
+        → report ≡ folder_report modules limits.now pages) }
     ensures has_modules { IfOk result (λ _. (modules : PlainModules) × AreMeantBy pages modules) }
 {
     let tests = test_modules(alloc, seed, pages.as_slice())?;
@@ -143,7 +145,9 @@ pub fn command_report<R: Threads + Sync, S: Shelf>(
 ) -> Result<Report, Unread>
     requires countable { IsCountable command.now.limits }
     requires jobs { 1 ≤ command.now.jobs }
-    ensures report { IfOk result (λ report. IfSome (S.files shelf.old) (λ files. IsOnlyReport command.now.limits (wiki_of (files_of command.now.folder files)) report)) }
+    ensures report { IfOk result (λ report.
+        IfSome (S.files shelf.old) (λ files.
+        IsOnlyReport command.now.limits (wiki_of (files_of command.now.folder files)) report)) }
     ensures answer { IfOk result (λ report. IsAnswer report.status) }
     ensures cause { result ≡ Err Unread.Failed → Rose (S.faults shelf.old) (S.faults shelf.new) }
 {

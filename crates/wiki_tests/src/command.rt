@@ -143,7 +143,9 @@ fn settled(settings: Option<Settings>) -> Option<Reading>
 fn after_option(settings: Settings, word: &str) -> Option<Reading>
     requires within { AreWithin settings }
     ensures within { IfSome result (λ r. AreWithin r.settings) }
-    ensures reading { result ≡ option_and_then (after_option settings word.now) (option_named (before_first is_equals word.now)) }
+    ensures reading { result
+        ≡ option_and_then (after_option settings word.now)
+        (option_named (before_first is_equals word.now)) }
 {
     match word.split_once('=') {
         Some((name, text)) => settled(with_text(option_named(name)?, text, settings)),

@@ -1,7 +1,7 @@
 //! The lines of all cases, by threads that share them.
-ghost use Rattle.std.specs.Prelude.{◌≡◌, ℕ, ◌<◌, IfOk, Ok, length, map, slice_index_or};
+ghost use Rattle.std.specs.Prelude.{◌≡◌, ◌<◌, IfOk, Ok, length, map};
 ghost use Rattle.wk_base.specs.Allowances.{IsCountable};
-ghost use Rattle.wiki_tests.specs.Report.{IsLineAt, AreLines};
+ghost use Rattle.wiki_tests.specs.Report.{IsLineAt, AreLineParts, AreLines};
 
 use crate::lines::line_of;
 use crate::subjects::Subject;
@@ -39,7 +39,7 @@ fn line_parts<R: Threads + Sync>(
     jobs: usize,
 ) -> Result<Vec<Result<Bytes, NoMemory>>, NoMemory>
     requires countable { IsCountable limits.now }
-    ensures { IfOk result (λ parts. (length parts.items ≡ length subjects.now) × ((j : ℕ) (e : _) → j < length subjects.now → IfOk (slice_index_or parts.items j e) (λ line. IsLineAt wiki.now limits.now subjects.now j line))) }
+    ensures { IfOk result (λ parts. AreLineParts wiki.now limits.now subjects.now parts.items) }
 {
     let parts = map_by_workers(
         rt,

@@ -158,7 +158,8 @@ fn text_in<'p>(
     texts: &IndexMap<Bytes, &'p Bytes, RandomState>,
     title: &Title,
 ) -> Result<Option<&'p Bytes>, NoMemory>
-    ensures { IfOk result (λ text. option_map (λ t. t.now) text ≡ text_in texts.now.entries title.now) }
+    ensures { IfOk result (λ text.
+        option_map (λ t. t.now) text ≡ text_in texts.now.entries title.now) }
 {
     let name = title.text()?;
     Ok(texts.get(&name).copied())

@@ -7,5 +7,6 @@ ghost use Rattle.wiki_texts.specs.Modules.{AreMeantBy};
 
 /// The texts of a wiki mean one module of each title at most.
 pub fn meant_once()
-    ensures { (pages : List RawPage) (some other : Modules) → AreMeantBy pages some → AreMeantBy pages other → (title : Title) → some title ≡ other title }
+    ensures { (pages : List RawPage) (some other : Modules) → AreMeantBy pages some
+        → AreMeantBy pages other → (title : Title) → some title ≡ other title }
 {}

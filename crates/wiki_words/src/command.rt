@@ -58,7 +58,8 @@ enum Verb {
 
 /// The values among the items, in order.
 fn values<'w>(alloc: Global, items: &[Item<'w>]) -> Result<Vec<&'w str>, NoMemory>
-    ensures { IfOk result (λ values. map (λ text. text.now) values.items ≡ texts_for None items.now) }
+    ensures { IfOk result (λ values.
+        map (λ text. text.now) values.items ≡ texts_for None items.now) }
 {
     let mut values = Vec::new(alloc);
     for item in items {
@@ -157,7 +158,8 @@ fn command_from<'w>(
     items: &[Item<'w>],
 ) -> Result<Option<Command<'w>>, NoMemory>
     ensures command { IfOk result (λ command. command ≡ command_from verb items.now) }
-    ensures countable { IfOk result (λ command. IfSome command (λ c. IsCountable c.settings.limits)) }
+    ensures countable { IfOk result (λ command.
+        IfSome command (λ c. IsCountable c.settings.limits)) }
     ensures jobs { IfOk result (λ command. IfSome command (λ c. 1 ≤ c.settings.jobs)) }
 {
     let Some(settings) = settings_of(items) else {
@@ -183,10 +185,13 @@ fn verb_of(word: &str) -> Option<Verb>
 #[tactic(auto, unfolding(crate::specs::Command::command_of))]
 pub fn read_command<'w>(alloc: Global, words: &'w [String]) -> Result<Option<Command<'w>>, NoMemory>
     ensures command { IfOk result (λ command. command ≡ command_of (map string_bytes words.now)) }
-    ensures countable { IfOk result (λ command. IfSome command (λ c. IsCountable c.settings.limits)) }
+    ensures countable { IfOk result (λ command.
+        IfSome command (λ c. IsCountable c.settings.limits)) }
     ensures jobs { IfOk result (λ command. IfSome command (λ c. 1 ≤ c.settings.jobs)) }
-    ensures some { IfOk result (λ command. IfSome command (λ _. IsSome (command_of (map string_bytes words.now)))) }
-    ensures begins { IfOk result (λ command. IfSome command (λ _. begins_command (map string_bytes words.now) ≡ true)) }
+    ensures some { IfOk result (λ command.
+        IfSome command (λ _. IsSome (command_of (map string_bytes words.now)))) }
+    ensures begins { IfOk result (λ command.
+        IfSome command (λ _. begins_command (map string_bytes words.now) ≡ true)) }
     ensures other_word { begins_command (map string_bytes words.now) ≡ false → IsOk result }
 {
     let [word, words @ ..] = words else {

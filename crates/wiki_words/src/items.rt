@@ -128,7 +128,9 @@ fn alone<'w>(name: OptionName) -> (Option<Item<'w>>, Reading)
 
 /// What an option's word says: its text stands behind its first `=` or is the next word, or it is a flag.
 fn option_meaning<'w>(word: &'w str) -> Option<(Option<Item<'w>>, Reading)>
-    ensures { option_map (λ s. record { item = s.0; next = s.1 }) result ≡ option_and_then (option_meaning word.now) (option_named (before_first is_equals word.now)) }
+    ensures { option_map (λ s. record { item = s.0; next = s.1 }) result
+        ≡ option_and_then (option_meaning word.now)
+        (option_named (before_first is_equals word.now)) }
 {
     match word.split_once('=') {
         Some((name, text)) => with_text(option_named(name)?, text),
@@ -138,7 +140,8 @@ fn option_meaning<'w>(word: &'w str) -> Option<(Option<Item<'w>>, Reading)>
 
 /// What a word says: the text that it adds, if it adds one, and what the next word is. None where it is no option that there is.
 fn meaning_of<'w>(reading: Reading, word: &'w str) -> Option<(Option<Item<'w>>, Reading)>
-    ensures { option_map (λ s. record { item = s.0; next = s.1 }) result ≡ meaning_of reading word.now }
+    ensures { option_map (λ s. record { item = s.0; next = s.1 }) result
+        ≡ meaning_of reading word.now }
 {
     match reading {
         Reading::TextOf(name) => Some((Some(Item::given(name, word)), Reading::Any)),
@@ -170,7 +173,8 @@ fn put_item<'w>(items: &mut Vec<Item<'w>>, item: Option<Item<'w>>) -> Result<(),
 
 /// The texts of the words: None where an option is unknown or a flag has a text, or where the last option lacks its text.
 pub fn items_of<'w>(alloc: Global, words: &'w [String]) -> Result<Option<Vec<Item<'w>>>, NoMemory>
-    ensures { IfOk result (λ items. option_map (λ v. v.items) items ≡ items_of (map string_bytes words.now)) }
+    ensures { IfOk result (λ items.
+        option_map (λ v. v.items) items ≡ items_of (map string_bytes words.now)) }
 {
     let mut items = Vec::new(alloc);
     let mut reading = Reading::Any;

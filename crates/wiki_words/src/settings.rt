@@ -63,7 +63,8 @@ pub fn same_option(a: Option<OptionName>, b: Option<OptionName>) -> bool
 
 /// The first text that is given for an option, and the items behind it.
 fn next_text<'i, 'w>(name: OptionName, items: &'i [Item<'w>]) -> Option<(&'w str, &'i [Item<'w>])>
-    ensures { MatchOption result (texts_for (Some name) items.now ≡ []) (λ x. texts_for (Some name) items.now ≡ x.0.now ∷ texts_for (Some name) x.1.now) }
+    ensures { MatchOption result (texts_for (Some name) items.now ≡ []) (λ x.
+        texts_for (Some name) items.now ≡ x.0.now ∷ texts_for (Some name) x.1.now) }
 {
     let mut rest = items;
     while let [item, tail @ ..] = rest {

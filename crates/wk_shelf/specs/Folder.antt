@@ -47,6 +47,17 @@ is_page name = is_some (stem_of name)
 abbrev pub title_of_file : List ℕ → Option Title
 title_of_file name = option_and_then (λ stem. result_ok (title_of (percent_decode stem) Main)) (stem_of name)
 
+-- ---- what a folder may hold: how many pages, and how many bytes in a file and in all of them
+
+abbrev pub most_pages : ℕ
+most_pages = 100000
+
+abbrev pub most_file_bytes : ℕ
+most_file_bytes = 2097152
+
+abbrev pub most_folder_bytes : ℕ
+most_folder_bytes = 67108864
+
 -- ---- source faults
 
 -- the first fault that one of them has, each tested with those before it
@@ -70,11 +81,11 @@ title_fault earlier name = title_fault_of earlier name (title_of_file name)
 abbrev pub size_of : File → ℕ
 size_of file = length file.bytes
 
--- a file of more than 2,097,152 bytes, or one with which all so far have more than 67,108,864
+-- a file that is too long, or one with which all so far have too many bytes
 abbrev pub size_fault_after : ℕ → File → Option (List ℕ)
 size_fault_after total file =
-    if nat_lt 2097152 (size_of file) then Some (file.name ++ codes ": too long")
-    else if nat_lt 67108864 (total + size_of file) then Some (codes "too many bytes")
+    if nat_lt most_file_bytes (size_of file) then Some (file.name ++ codes ": too long")
+    else if nat_lt most_folder_bytes (total + size_of file) then Some (codes "too many bytes")
     else None
 
 abbrev pub size_fault : List File → File → Option (List ℕ)
@@ -95,7 +106,7 @@ unless_fault (Some line) pages = Err line
 
 abbrev pub pages_of : List File → Result (List FolderPage) (List ℕ)
 pages_of files =
-    if nat_lt 100000 (length files) then Err (codes "too many files")
+    if nat_lt most_pages (length files) then Err (codes "too many files")
     else unless_fault (first_fault title_fault [] (map (λ file. file.name) files))
     (unless_fault (first_fault size_fault [] files) (Ok (filter_map page_of files)))
 

@@ -7,7 +7,7 @@ ghost use Rattle.std.specs.Option.{option_copied};
 ghost use Rattle.wk_shelf.specs.Causes.{Rose};
 ghost use Rattle.wk_shelf.specs.Files.{names_in};
 ghost use Rattle.wk_shelf.specs.Order.{in_byte_order};
-ghost use Rattle.wk_shelf.specs.Folder.{files_of, file_at, stem_of, is_page, title_of_file, first_fault, title_fault, size_fault, size_fault_after, wiki_of, IsRead, AreRead};
+ghost use Rattle.wk_shelf.specs.Folder.{files_of, file_at, stem_of, is_page, title_of_file, most_folder_bytes, first_fault, title_fault, size_fault, size_fault_after, wiki_of, IsRead, AreRead};
 ghost use Rattle.wk_shelf.specs.FolderFaults.{source_line};
 
 use crate::{Shelf, ShelfFault, sorted_names};
@@ -109,7 +109,8 @@ fn keep_pages(names: &mut Vec<String>)
 
 /// A source fault: what it says, and of which name.
 fn fault_line(alloc: Global, name: &[u8], saying: &[u8]) -> FolderFault
-    ensures { MatchOption (source_line result) (result ≡ FolderFault.NoMemory) (λ line. line ≡ name.now ++ saying.now) }
+    ensures { MatchOption (source_line result) (result ≡ FolderFault.NoMemory) (λ line.
+        line ≡ name.now ++ saying.now) }
 {
     let Ok(mut line) = name.to_vec(alloc) else {
         return FolderFault::NoMemory;
@@ -123,7 +124,9 @@ fn fault_line(alloc: Global, name: &[u8], saying: &[u8]) -> FolderFault
 /// Tests that each name has a title, and none has an earlier one's. Titles are hashed from the seed.
 fn check_titles(alloc: Global, seed: RandomState, names: &[String]) -> Result<(), FolderFault>
     ensures ok { OnOk result (first_fault title_fault [] (map string_bytes names.now) ≡ None) }
-    ensures fault { IfErr result (λ fault. MatchOption (source_line fault) (fault ≡ FolderFault.NoMemory) (λ line. first_fault title_fault [] (map string_bytes names.now) ≡ Some line)) }
+    ensures fault { IfErr result (λ fault.
+        MatchOption (source_line fault) (fault ≡ FolderFault.NoMemory) (λ line.
+        first_fault title_fault [] (map string_bytes names.now) ≡ Some line)) }
 {
     let mut taken = IndexSet::with_hasher(alloc, seed);
     for name in names {
@@ -147,13 +150,18 @@ fn read_page<S: Shelf>(
     name: &str,
     total: usize,
 ) -> Result<Bytes, FolderFault>
-    requires { total ≤ 67108864 }
+    requires { total ≤ most_folder_bytes }
     ensures same { S.files shelf.new ≡ S.files shelf.old }
     ensures later { S.faults shelf.old ≤ S.faults shelf.new }
     ensures cause { result ≡ Err FolderFault.Read → Rose (S.faults shelf.old) (S.faults shelf.new) }
-    ensures fits { IfOk result (λ bytes. total + length bytes ≤ 67108864) }
-    ensures bytes { IfOk result (λ bytes. IfSome (S.files shelf.old) (λ files. IsRead total (file_at folder.now files name.now) bytes)) }
-    ensures fault { IfErr result (λ fault. IfSome (source_line fault) (λ line. IfSome (S.files shelf.old) (λ files. size_fault_after total (file_at folder.now files name.now) ≡ Some line))) }
+    ensures fits { IfOk result (λ bytes. total + length bytes ≤ most_folder_bytes) }
+    ensures bytes { IfOk result (λ bytes.
+        IfSome (S.files shelf.old) (λ files.
+        IsRead total (file_at folder.now files name.now) bytes)) }
+    ensures fault { IfErr result (λ fault.
+        IfSome (source_line fault) (λ line.
+        IfSome (S.files shelf.old) (λ files.
+        size_fault_after total (file_at folder.now files name.now) ≡ Some line))) }
 {
     let bytes = shelf.read(alloc, folder, name, MOST_FILE_BYTES + 1)?;
     let size = bytes.as_slice().len();
@@ -177,8 +185,15 @@ fn read_pages<S: Shelf>(
     ensures same { S.files shelf.new ≡ S.files shelf.old }
     ensures later { S.faults shelf.old ≤ S.faults shelf.new }
     ensures cause { result ≡ Err FolderFault.Read → Rose (S.faults shelf.old) (S.faults shelf.new) }
-    ensures pages { IfOk result (λ pages. IfSome (S.files shelf.old) (λ files. AreRead (map (file_at folder.now files) (map string_bytes names.now)) pages)) }
-    ensures fault { IfErr result (λ fault. IfSome (source_line fault) (λ line. IfSome (S.files shelf.old) (λ files. first_fault size_fault [] (map (file_at folder.now files) (map string_bytes names.now)) ≡ Some line))) }
+    ensures pages { IfOk result (λ pages.
+        IfSome (S.files shelf.old) (λ files.
+        AreRead (map (file_at folder.now files) (map string_bytes names.now)) pages)) }
+    ensures fault { IfErr result (λ fault.
+        IfSome (source_line fault) (λ line.
+        IfSome (S.files shelf.old) (λ files.
+        first_fault size_fault []
+        (map (file_at folder.now files) (map string_bytes names.now))
+        ≡ Some line))) }
 {
     let mut pages = List::new(alloc);
     let mut total = 0;
@@ -207,8 +222,11 @@ pub fn read_folder<S: Shelf>(
     ensures same { S.files shelf.new ≡ S.files shelf.old }
     ensures later { S.faults shelf.old ≤ S.faults shelf.new }
     ensures cause { result ≡ Err FolderFault.Read → Rose (S.faults shelf.old) (S.faults shelf.new) }
-    ensures pages { IfOk result (λ pages. IfSome (S.files shelf.old) (λ files. wiki_of (files_of folder.now files) ≡ Ok pages)) }
-    ensures fault { IfErr result (λ fault. IfSome (source_line fault) (λ line. IfSome (S.files shelf.old) (λ files. wiki_of (files_of folder.now files) ≡ Err line))) }
+    ensures pages { IfOk result (λ pages.
+        IfSome (S.files shelf.old) (λ files. wiki_of (files_of folder.now files) ≡ Ok pages)) }
+    ensures fault { IfErr result (λ fault.
+        IfSome (source_line fault) (λ line.
+        IfSome (S.files shelf.old) (λ files. wiki_of (files_of folder.now files) ≡ Err line))) }
 {
     let mut names = sorted_names(alloc, shelf, folder)?;
     keep_pages(&mut names);

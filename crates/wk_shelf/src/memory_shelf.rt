@@ -52,7 +52,9 @@ fn is_among(file: &MemoryFile, others: &[MemoryFile]) -> bool
 
 /// Whether a name is text, and its file is none of those that follow.
 fn is_new(file: &MemoryFile, others: &[MemoryFile]) -> bool
-    ensures { result ≡ (is_utf8 file.now.name && not (list_any (same_place (file_of file.now)) (map file_of others.now))) }
+    ensures { result
+        ≡ (is_utf8 file.now.name
+        && not (list_any (same_place (file_of file.now)) (map file_of others.now))) }
 {
     is_text(file.name.as_slice()) && !is_among(file, others)
 }
@@ -95,7 +97,8 @@ impl MemoryShelf {
     /// A shelf that holds just these files (`can_hold` tests them).
     pub fn new(alloc: Global, files: List<MemoryFile>, fail: List<u64>) -> MemoryShelf
         requires { are_files (map file_of files) ≡ true }
-        ensures { result ≡ record { files = map file_of files; fail = fail; calls = 0; faults = 0 } }
+        ensures { result
+            ≡ record { files = map file_of files; fail = fail; calls = 0; faults = 0 } }
     {
         MemoryShelf {
             files,
@@ -122,7 +125,8 @@ impl MemoryShelf {
 }
 
 fn find_file<'f>(files: &'f [MemoryFile], folder: &[u8], name: &[u8]) -> Option<&'f Bytes>
-    ensures { unwrap_or (option_copied result) [] ≡ bytes_at folder.now name.now (map file_of files.now) }
+    ensures { unwrap_or (option_copied result) []
+        ≡ bytes_at folder.now name.now (map file_of files.now) }
 {
     for file in files {
         if folder == file.folder.as_slice() && name == file.name.as_slice() {
@@ -135,7 +139,8 @@ fn find_file<'f>(files: &'f [MemoryFile], folder: &[u8], name: &[u8]) -> Option<
 /// The names of the files of a folder.
 fn names_of(alloc: Global, files: &[MemoryFile], folder: &[u8]) -> Result<Vec<String>, ShelfFault>
     requires { are_files (map file_of files.now) ≡ true }
-    ensures names { IfOk result (λ names. map string_bytes names.items ≡ names_in folder.now (map file_of files.now)) }
+    ensures names { IfOk result (λ names.
+        map string_bytes names.items ≡ names_in folder.now (map file_of files.now)) }
     ensures memory { OnErr result (result ≡ Err ShelfFault.NoMemory) }
 {
     let mut names = Vec::new(alloc);
@@ -163,7 +168,8 @@ fn first_bytes(
     name: &[u8],
     most: usize,
 ) -> Result<Bytes, ShelfFault>
-    ensures bytes { IfOk result (λ bytes. bytes ≡ take most (bytes_at folder.now name.now (map file_of files.now))) }
+    ensures bytes { IfOk result (λ bytes.
+        bytes ≡ take most (bytes_at folder.now name.now (map file_of files.now))) }
     ensures memory { OnErr result (result ≡ Err ShelfFault.NoMemory) }
 {
     match find_file(files, folder, name) {
@@ -186,12 +192,15 @@ impl Shelf for MemoryShelf {
     /// A folder without files lists nothing.
     fn list(&mut self, alloc: Global, folder: &str) -> Result<Vec<String>, ShelfFault>
         ensures state { self.new ≡ counted self.old }
-        ensures fails { (result ≡ Err ShelfFault.Failed) ↔ (is_listed self.old.fail self.old.calls ≡ true) }
-        ensures exact { IfOk result (λ names. map string_bytes names.items ≡ names_in folder.now self.old.files) }
+        ensures fails { (result ≡ Err ShelfFault.Failed)
+            ↔ (is_listed self.old.fail self.old.calls ≡ true) }
+        ensures exact { IfOk result (λ names.
+            map string_bytes names.items ≡ names_in folder.now self.old.files) }
         ensures same { Some self.new.files ≡ Some self.old.files }
         ensures later { self.old.faults ≤ self.new.faults }
         ensures cause { result ≡ Err ShelfFault.Failed → Rose self.old.faults self.new.faults }
-        ensures names { IfOk result (λ names. Lists (Some self.old.files) folder.now (map string_bytes names.items)) }
+        ensures names { IfOk result (λ names.
+            Lists (Some self.old.files) folder.now (map string_bytes names.items)) }
     {
         if self.counts() {
             return Err(ShelfFault::Failed);
@@ -208,11 +217,13 @@ impl Shelf for MemoryShelf {
         most: usize,
     ) -> Result<Bytes, ShelfFault>
         ensures state { self.new ≡ counted self.old }
-        ensures fails { (result ≡ Err ShelfFault.Failed) ↔ (is_listed self.old.fail self.old.calls ≡ true) }
+        ensures fails { (result ≡ Err ShelfFault.Failed)
+            ↔ (is_listed self.old.fail self.old.calls ≡ true) }
         ensures same { Some self.new.files ≡ Some self.old.files }
         ensures later { self.old.faults ≤ self.new.faults }
         ensures cause { result ≡ Err ShelfFault.Failed → Rose self.old.faults self.new.faults }
-        ensures bytes { IfOk result (λ bytes. Reads (Some self.old.files) folder.now name.now most bytes) }
+        ensures bytes { IfOk result (λ bytes.
+            Reads (Some self.old.files) folder.now name.now most bytes) }
     {
         if self.counts() {
             return Err(ShelfFault::Failed);

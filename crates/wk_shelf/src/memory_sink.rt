@@ -40,7 +40,8 @@ pub(crate) fn is_in(list: &[u64], n: u64) -> bool
 impl MemorySink {
     /// A sink for at most `room` bytes. It takes the memory for all of them now.
     pub fn new(alloc: Global, fail: List<u64>, room: usize) -> Result<MemorySink, NoMemory>
-        ensures { IfOk result (λ s. s ≡ record { bytes = []; fail = fail; calls = 0; faults = 0; room = room }) }
+        ensures { IfOk result (λ s.
+            s ≡ record { bytes = []; fail = fail; calls = 0; faults = 0; room = room }) }
     {
         match Vec::with_capacity(alloc, room) {
             Ok(bytes) => Ok(MemorySink {
@@ -70,10 +71,17 @@ impl Sink for MemorySink {
     /// A call that fails appends nothing.
     fn put(&mut self, bytes: &[u8]) -> Result<(), SinkFailed>
         ensures fails { IsOk result ↔ (put_fails self.old bytes.now ≡ false) }
-        ensures done { OnOk result (self.new ≡ record self.old { bytes = self.old.bytes ++ bytes.now; calls = next_count self.old.calls }) }
-        ensures counted { OnErr result (self.new ≡ record self.old { calls = next_count self.old.calls; faults = next_count self.old.faults }) }
+        ensures done { OnOk result (self.new ≡ record self.old {
+          bytes = self.old.bytes ++ bytes.now;
+          calls = next_count self.old.calls;
+        }) }
+        ensures counted { OnErr result (self.new ≡ record self.old {
+          calls = next_count self.old.calls;
+          faults = next_count self.old.faults;
+        }) }
         ensures ok { OnOk result (Puts (Some self.old.bytes) (Some self.new.bytes) bytes.now) }
-        ensures err { OnErr result (PutsSome (Some self.old.bytes) (Some self.new.bytes) bytes.now) }
+        ensures err { OnErr result (PutsSome (Some self.old.bytes) (Some self.new.bytes)
+            bytes.now) }
         ensures later { self.old.faults ≤ self.new.faults }
         ensures cause { OnErr result (Rose self.old.faults self.new.faults) }
     {

@@ -30,7 +30,8 @@ pub trait Shelf {
         ensures same { files self.new ≡ files self.old }
         ensures later { faults self.old ≤ faults self.new }
         ensures cause { result ≡ Err ShelfFault.Failed → Rose (faults self.old) (faults self.new) }
-        ensures names { IfOk result (λ names. Lists (files self.old) folder.now (map string_bytes names.items)) };
+        ensures names { IfOk result (λ names.
+            Lists (files self.old) folder.now (map string_bytes names.items)) };
 
     /// The first `most` bytes of a file, or all where it has fewer.
     fn read(
@@ -43,5 +44,6 @@ pub trait Shelf {
         ensures same { files self.new ≡ files self.old }
         ensures later { faults self.old ≤ faults self.new }
         ensures cause { result ≡ Err ShelfFault.Failed → Rose (faults self.old) (faults self.new) }
-        ensures bytes { IfOk result (λ bytes. Reads (files self.old) folder.now name.now most bytes) };
+        ensures bytes { IfOk result (λ bytes.
+            Reads (files self.old) folder.now name.now most bytes) };
 }

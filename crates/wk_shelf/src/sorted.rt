@@ -15,8 +15,11 @@ pub fn sorted_names<S: Shelf>(
 ) -> Result<Vec<String>, ShelfFault>
     ensures same { S.files shelf.new ≡ S.files shelf.old }
     ensures later { S.faults shelf.old ≤ S.faults shelf.new }
-    ensures cause { result ≡ Err ShelfFault.Failed → Rose (S.faults shelf.old) (S.faults shelf.new) }
-    ensures names { IfOk result (λ names. IfSome (S.files shelf.old) (λ files. map string_bytes names.items ≡ in_byte_order (names_in folder.now files))) }
+    ensures cause { result ≡ Err ShelfFault.Failed
+        → Rose (S.faults shelf.old) (S.faults shelf.new) }
+    ensures names { IfOk result (λ names.
+        IfSome (S.files shelf.old) (λ files.
+        map string_bytes names.items ≡ in_byte_order (names_in folder.now files))) }
 {
     let mut names = shelf.list(alloc, folder)?;
     names.sort_unstable();

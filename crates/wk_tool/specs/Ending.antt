@@ -1,6 +1,7 @@
 -- WHAT A RUN LEAVES on the two streams, and what a tool promises of it. A stream's bytes are known where its sink tells them.
 use Rattle.std.specs.Prelude.{◌≡◌, ℕ, Bool, true, false, ◌==◌, List, [], ◌∷◌, Option, Result, Ok, Err, ◌⊎◌}
 use Rattle.std.specs.List.{list_any}
+use Rattle.wk_shelf.specs.Causes.{Rose}
 use Rattle.wk_shelf.specs.Put.{Puts, PutsSome}
 use Rattle.wk_tool.specs.declared.report.Report.{Report}
 use Rattle.wk_tool.specs.declared.ending.Unread.{Unread}
@@ -84,3 +85,19 @@ pub record KeepsDue (is_command : Bool) (statuses : List ℕ) (read_line : List 
   pub no_command : is_command ≡ false → (status ≡ 2) ⊎ ((status ≡ 5) ⊎ (status ≡ 6))
   -- where no count of faults rose, the status is what is due, or 6
   pub complete : (read_rose → ⊥) → (out_rose → ⊥) → (err_rose → ⊥) → (due : Report) → Due due → Completes status due
+
+-- ---- the same, of two streams
+
+-- A STREAM from before a run until after it: whether its sink is as it was, whether it counted a fault, and its bytes, where they are known.
+pub record Stream : Type 1 where
+  pub same : Type 0
+  pub rose : Type 0
+  pub old : Option (List ℕ)
+  pub new : Option (List ℕ)
+
+abbrev pub stream : {S : Type 0} → (S → Option (List ℕ)) → (S → ℕ) → S → S → Stream
+stream contents faults s t = record { same = t ≡ s; rose = Rose (faults s) (faults t); old = contents s; new = contents t }
+
+abbrev pub KeepsDueOn : Bool → List ℕ → List ℕ → (Report → Type 0) → Type 0 → Stream → Stream → ℕ → Type 0
+KeepsDueOn is_command statuses read_line Due read_rose out err status =
+    KeepsDue is_command statuses read_line Due read_rose out.same err.same out.rose err.rose out.old out.new err.old err.new status

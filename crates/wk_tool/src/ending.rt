@@ -29,7 +29,9 @@ impl From<NoMemory> for Unread {
 
 /// Puts the line that something can't be read, where that is so.
 fn put_unread<E: Sink>(unread: Unread, cannot_read: &[u8], err: &mut E) -> u8
-    ensures { EndsUnread unread cannot_read.now (err.new ≡ err.old) (Rose (E.faults err.old) (E.faults err.new)) (E.contents err.old) (E.contents err.new) result }
+    ensures { EndsUnread unread cannot_read.now (err.new ≡ err.old)
+        (Rose (E.faults err.old) (E.faults err.new)) (E.contents err.old) (E.contents err.new)
+        result }
 {
     match unread {
         Unread::Failed => after_put(put_piece(err, cannot_read), Status::ReadFault),
@@ -44,7 +46,9 @@ pub fn finish<O: Sink, E: Sink>(
     out: &mut O,
     err: &mut E,
 ) -> u8
-    ensures { Finished work cannot_read.now (out.new ≡ out.old) (err.new ≡ err.old) (Rose (O.faults out.old) (O.faults out.new)) (Rose (E.faults err.old) (E.faults err.new)) (O.contents out.old) (O.contents out.new) (E.contents err.old) (E.contents err.new) result }
+    ensures { Finished work cannot_read.now (out.new ≡ out.old) (err.new ≡ err.old)
+        (Rose (O.faults out.old) (O.faults out.new)) (Rose (E.faults err.old) (E.faults err.new))
+        (O.contents out.old) (O.contents out.new) (E.contents err.old) (E.contents err.new) result }
 {
     match work {
         Ok(report) => after_put(
@@ -57,7 +61,9 @@ pub fn finish<O: Sink, E: Sink>(
 
 /// Puts the line that says which words are a command, where they are none. It takes no memory. The answer is the exit status.
 pub fn finish_usage<O: Sink, E: Sink>(usage: &[u8], out: &mut O, err: &mut E) -> u8
-    ensures ends { PutsReport (Rose (O.faults out.old) (O.faults out.new)) (Rose (E.faults err.old) (E.faults err.new)) (O.contents out.old) (O.contents out.new) (E.contents err.old) (E.contents err.new) result (usage_report usage.now) }
+    ensures ends { PutsReport (Rose (O.faults out.old) (O.faults out.new))
+        (Rose (E.faults err.old) (E.faults err.new)) (O.contents out.old) (O.contents out.new)
+        (E.contents err.old) (E.contents err.new) result (usage_report usage.now) }
     ensures status { (result ≡ 2) ⊎ (result ≡ 5) }
 {
     after_put(put_both(out, b"", err, usage), Status::Usage)

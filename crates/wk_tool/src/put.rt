@@ -30,7 +30,8 @@ pub fn put_both<O: Sink, E: Sink>(
     ensures err_ok { OnOk result (Puts (E.contents err.old) (E.contents err.new) message.now) }
     ensures out_some { PutsSome (O.contents out.old) (O.contents out.new) page.now }
     ensures err_some { PutsSome (E.contents err.old) (E.contents err.new) message.now }
-    ensures cause { OnErr result (Rose (O.faults out.old) (O.faults out.new) ⊎ Rose (E.faults err.old) (E.faults err.new)) }
+    ensures cause { OnErr result (Rose (O.faults out.old) (O.faults out.new)
+        ⊎ Rose (E.faults err.old) (E.faults err.new)) }
 {
     put_piece(out, page)?;
     put_piece(err, message)

@@ -1,7 +1,7 @@
 use Rattle.std.proofs.Common.{◌≡◌, ◌+◌, ◌≤◌, [], List, ℕ, rules, ap, sym, subst, ◌∙◌, length, string_bytes, None, Some, IfSome}
 use Rattle.std.specs.Prelude.{Option}
 use Rattle.wk_shelf.specs.Files.{StoredFile}
-use Rattle.wk_shelf.specs.Folder.{title_of_file, first_fault, size_fault, size_fault_after, file_at, IsRead}
+use Rattle.wk_shelf.specs.Folder.{most_folder_bytes, title_of_file, first_fault, size_fault, size_fault_after, file_at, IsRead}
 use Rattle.wk_shelf.specs.FolderFaults.{source_line}
 use Rattle.wk_shelf.specs.declared.folder.FolderFault.{FolderFault}
 use Rattle.wk_shelf.specs.declared.folder.FolderPage.{FolderPage}
@@ -36,10 +36,10 @@ loop-name-preserved g c =
     let more = one_more files c.args.folder.now c.args.names.now c.loop-name.name-index c.loop-name.pages c.loop-name.total c.name-item.result c.in_ok-bytes.bytes c.in-Some.title c.loop-name-test.true c.name-item.is some c.loop-name.invariant.known read in
     let Known = λ (pages : List FolderPage) (total : ℕ). IfSome files (λ held. ReadSoFar (named_files c.args.folder.now held c.args.names.now) (c.loop-name.name-index + 1) pages total) in
     let pushed : Known c.push.new.self (c.loop-name.total + length c.in_ok-bytes.bytes) = subst (λ pages. Known pages (c.loop-name.total + length c.in_ok-bytes.bytes)) (sym c.in_ok-push.ensures.ok) more in
-    let fits : c.loop-name.total + length c.in_ok-bytes.bytes ≤ 67108864 = c.in_ok-bytes.ensures.fits in
+    let fits : c.loop-name.total + length c.in_ok-bytes.bytes ≤ most_folder_bytes = c.in_ok-bytes.ensures.fits in
     record {
       same = search rules;
       later = search rules;
-      small = subst (λ k. c.loop-name.total + k ≤ 67108864) (sym n) fits;
+      small = subst (λ k. c.loop-name.total + k ≤ most_folder_bytes) (sym n) fits;
       known = subst (λ k. Known c.push.new.self (c.loop-name.total + k)) (sym n) pushed;
     }
