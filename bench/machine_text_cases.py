@@ -121,6 +121,7 @@ body("insert_and_remove", "Places that move.", "local t={1,2,3}\ntable.insert(t,
 body("remove_nothing", "Of an empty table, and of a place that isn't there.", SAY + "local t={1}\nreturn say(table.remove({}),select('#',table.remove(t,5)),#t)", "nil 0 1", profile=True)
 body("sort_numbers", "Numbers in order.", "local t={3,10,-2,3,0}\ntable.sort(t)\nreturn table.concat(t,' ')", "-2 0 3 3 10")
 body("sort_texts", "Texts by their bytes.", "local t={'b','B','a','','ab'}\ntable.sort(t)\nreturn table.concat(t,' ')", " B a ab b")
+body("sort_equal_texts", "Texts that stand there more than once.", "local t={'b','a','b','','a','bb','a',''}\ntable.sort(t)\nreturn table.concat(t,'.')", "..a.a.a.b.b.bb")
 body("sort_one", "A single entry may be anything.", "local t={{}}\ntable.sort(t)\nreturn #t", "1")
 body("sort_refuses", "Entries of two kinds, and a comparing function, leave the table as it was.", TRY + "local t={3,'a',1}\nreturn try(table.sort,t),try(table.sort,{{},1}),try(table.sort,{1,2},function() end),table.concat(t,' ')",
      "bad argument #1 to 'sort' (number expected, got string);bad argument #1 to 'sort' (string expected, got table);bad argument #2 to 'sort' (nil expected, got function);3 a 1", profile=True)

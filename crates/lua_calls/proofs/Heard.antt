@@ -6,9 +6,9 @@ use Rattle.lua_code.specs.LuaHeapValue as kind
 use Rattle.lua_code.specs.LuaMeaningScope.{Bytes}
 use Rattle.lua_code.specs.LuaMeaningActs.{Raised}
 use Rattle.lua_modules.specs.LuaMeaningMessages.{wrong_answer}
-use Rattle.mw_htmls.specs.LuaStoreDeclaredValueValue.{Value}
-use Rattle.mw_htmls.specs.LuaStoreDeclaredValueValueTheVariants as value
-use Rattle.mw_htmls.specs.LuaStoreDeclaredIdsTextId.{TextId}
+use Rattle.lua_tables.specs.LuaStoreDeclaredValueValue.{Value}
+use Rattle.lua_tables.specs.LuaStoreDeclaredValueValueTheVariants as value
+use Rattle.lua_tables.specs.LuaStoreDeclaredIdsTextId.{TextId}
 use Rattle.lua_modules.specs.LuaSlotsSlots.{Slots}
 use Rattle.lua_modules.specs.LuaSlotsPoints.{SFrame}
 use Rattle.lua_modules.specs.LuaSlotsErrors.{jumps}

@@ -5,7 +5,7 @@ use Rattle.page_run.specs.WkBaseDeclaredLeftLeft.{Left}
 use Rattle.page_run.specs.declared.which.Which.TheVariants.{Steps}
 use Rattle.lua_code.specs.LuaHeapProc.{Proc}
 use Rattle.lua_tables.specs.LuaMeaningArguments.{Plain, PlainEnd, Gives, Fails}
-use Rattle.mw_htmls.specs.LuaStoreDeclaredValueValue.{Value}
+use Rattle.lua_tables.specs.LuaStoreDeclaredValueValue.{Value}
 use Rattle.lua_tables.specs.LuaStoreSeen.{StoreView, seen}
 use Rattle.lua_tables.specs.LuaStoreParts.{IsLater}
 use Rattle.lua_tables.proofs.LuaStoreLater.{later-itself}

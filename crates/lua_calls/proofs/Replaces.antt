@@ -9,7 +9,7 @@ use Rattle.lua_gsubs.specs.LuaMeaningGsub.{Job, Replacing, Search, NoMatch, Matc
 use Rattle.lua_gsubs.specs.LuaMeaningGsub as meaning
 use Rattle.lua_tables.specs.LuaMeaningArguments.{Argument}
 use Rattle.lua_modules.specs.LuaMeaningPending.{GsubWaits}
-use Rattle.mw_htmls.specs.LuaStoreDeclaredValueValue.{Value}
+use Rattle.lua_tables.specs.LuaStoreDeclaredValueValue.{Value}
 use Rattle.lua_tables.specs.LuaStoreSeen.{StoreView}
 use Rattle.lua_tables.specs.LuaStoreParts.{IsLater}
 use Rattle.lua_tables.specs.LuaBasicDeclaredStopStopTheVariants as stop

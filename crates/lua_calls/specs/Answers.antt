@@ -1,7 +1,7 @@
 -- WHAT AN ANSWER IS to a function that waits for a text: a single text, nothing, or what doesn't belong to its question.
 use Rattle.std.specs.Prelude.{List, [], ◌∷◌}
-use Rattle.mw_htmls.specs.LuaStoreDeclaredValueValue.{Value}
-use Rattle.mw_htmls.specs.LuaStoreDeclaredValueValueTheVariants as value
+use Rattle.lua_tables.specs.LuaStoreDeclaredValueValue.{Value}
+use Rattle.lua_tables.specs.LuaStoreDeclaredValueValueTheVariants as value
 use Rattle.lua_calls.specs.declared.waiting.TextAnswer.{TextAnswer}
 use Rattle.lua_calls.specs.declared.waiting.TextAnswer.TheVariants as answer
 

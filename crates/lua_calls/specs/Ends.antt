@@ -2,7 +2,7 @@
 use Rattle.std.specs.Prelude.{◌≡◌, ℕ, List, Option, Result, Ok, Err}
 use Rattle.page_run.specs.WkBaseDeclaredLeftLeft.{Left}
 use Rattle.lua_tables.specs.LuaMeaningArguments.{Gives}
-use Rattle.mw_htmls.specs.LuaStoreDeclaredValueValue.{Value}
+use Rattle.lua_tables.specs.LuaStoreDeclaredValueValue.{Value}
 use Rattle.lua_tables.specs.LuaStoreSeen.{StoreView}
 use Rattle.lua_modules.specs.LuaSlotsErrors.{ends}
 use Rattle.lua_code.specs.LuaSlotsLibraries.{framed_end}

@@ -10,7 +10,7 @@ pub use Rattle.lua_tables.specs.LuaBasicDeclaredStopStop as LuaBasicDeclaredStop
 pub use Rattle.lua_tables.specs.LuaBasicSeen as LuaBasicSeen
 pub use Rattle.lua_tables.specs.LuaHeapDeclaredLibraryLibrary as LuaHeapDeclaredLibraryLibrary
 pub use Rattle.lua_tables.specs.LuaMeaningLibraries as LuaMeaningLibraries
-pub use Rattle.mw_htmls.specs.LuaStoreDeclaredValueValueTheVariants as LuaStoreDeclaredValueValueTheVariants
+pub use Rattle.lua_tables.specs.LuaStoreDeclaredValueValueTheVariants as LuaStoreDeclaredValueValueTheVariants
 pub mod Table
 pub mod Ends
 pub mod Answers

@@ -19,10 +19,9 @@ use lua_acts::exits::{give_all, one};
 use lua_acts::{pairs, refuse};
 use lua_code::NoMemory;
 use lua_modules::{Asked, Focus, Frame, State, Turn, Values, boxed, fail_quoting};
-use lua_tables::{Left, Stop, Store};
+use lua_tables::{Left, Stop, Store, TextId};
 use mw_frame::Ask;
 use mw_frame_calls::{Awaited, FrameAnswer, FrameFunction, frame_call};
-use mw_htmls::TextId;
 use std::alloc::Global;
 
 /// What waits for the answer of a question, as a frame of the machine holds it.

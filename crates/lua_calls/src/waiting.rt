@@ -26,8 +26,7 @@ use lua_code::NoMemory;
 use lua_modules::{
     Asked, Given, Outcome, Pending, State, Turn, Values, data_answer, fail_quoting, module_answer,
 };
-use lua_tables::{Left, Store, Value};
-use mw_htmls::TextId;
+use lua_tables::{Left, Store, TextId, Value};
 use std::alloc::Global;
 
 /// What an answer is to a function that waits for a text.

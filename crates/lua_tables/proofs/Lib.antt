@@ -10,3 +10,4 @@ pub mod Orders
 pub mod Listed
 pub mod Moved
 pub mod Examples
+pub mod Repeats

@@ -1,4 +1,4 @@
--- Lists of numbers and of texts as values, one after another.
+-- Lists of numbers as values, one after another.
 use Rattle.std.proofs.Common.{◌≡◌, ◌∙◌, ap, sym, refl, arith, ℕ, zero, suc, ◌+◌, ◌<◌, ℤ, List, [], ◌∷◌, ◌++◌, append_assoc, append-nil, length, drop, map, slice_index_or}
 use Rattle.std.specs.Borrow.{Bor}
 use Rattle.lua_basic.specs.LuaHeapValue as kind
@@ -30,23 +30,3 @@ numbers-on texts ns after v rest more all is pushed e =
     let tail = numbers_in (values_seen texts more) in
     ap (λ xs. xs ++ tail) pushed ∙ append_assoc ns (numbers_in (seen texts v ∷ [])) tail
     ∙ sym (ap (λ xs. ns ++ xs) (numbers-more (seen texts v) (values_seen texts more))) ∙ sym (ap (λ vs. ns ++ numbers_in (values_seen texts vs)) is) ∙ e
-
-pub drop_index : {A : Type 0} (xs : List A) (k : ℕ) (d : A) → k < length xs → drop k xs ≡ slice_index_or xs k d ∷ drop (k + 1) xs
-drop_index [] k d lt = absurd (omega (arith, lt))
-drop_index (x ∷ xs) zero d lt = refl
-drop_index (x ∷ xs) (suc k) d lt = let more : suc (k + 1) ≡ suc k + 1 = omega arith in drop_index xs k d (omega (arith, lt)) ∙ ap (λ n. slice_index_or xs k d ∷ drop n (x ∷ xs)) more
-
--- a text behind others, in a later store
-pub text-on : (s t : StoreView) (vs after : List Value) (id : TextId) (x : Bor Bytes) (rest more all : List (Bor Bytes)) → IsLater s t → AllOf s vs → after ≡ vs ++ Text id ∷ [] → text_at t.texts id.at ≡ x.now → rest ≡ x ∷ more
-    → values_seen s.texts vs ++ map kind.Text (map (λ (b : Bor Bytes). b.now) rest) ≡ map kind.Text (map (λ (b : Bor Bytes). b.now) all)
-    → values_seen t.texts after ++ map kind.Text (map (λ (b : Bor Bytes). b.now) more) ≡ map kind.Text (map (λ (b : Bor Bytes). b.now) all)
-text-on s t vs after id x rest more all later of_ pushed there is e =
-    let tail = map kind.Text (map (λ (b : Bor Bytes). b.now) more) in
-    ap (λ xs. xs ++ tail) (ap (values_seen t.texts) pushed ∙ seen-with t.texts vs (Text id)) ∙ append_assoc (values_seen t.texts vs) (kind.Text (text_at t.texts id.at) ∷ []) tail
-    ∙ ap (λ xs. xs ++ kind.Text (text_at t.texts id.at) ∷ tail) (values-later s t vs later of_) ∙ ap (λ b. values_seen s.texts vs ++ kind.Text b ∷ tail) there
-    ∙ sym (ap (λ xs. values_seen s.texts vs ++ map kind.Text (map (λ (b : Bor Bytes). b.now) xs)) is) ∙ e
-
--- a store that has more texts than another one, and nothing else
-pub more_texts : (s t u : StoreView) (texts : List Bytes) → t ≡ record s { texts = t.texts } → u ≡ record t { texts = texts } → u ≡ record s { texts = u.texts }
-more_texts s t u texts e f =
-    f ∙ ap (λ (x : StoreView). let y : StoreView = record x { texts = texts } in y) e ∙ ap (λ ts. let y : StoreView = record s { texts = ts } in y) (sym (ap (λ (x : StoreView). x.texts) f))

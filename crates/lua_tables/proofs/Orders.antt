@@ -1,5 +1,5 @@
 -- Values in order: two lists that rise by a total order and hold the same are the same, so a sort gives what an insertion sort gives.
-use Rattle.std.proofs.Common.{◌≡◌, ◌∙◌, ap, sym, subst, refl, arith, rules, ℕ, suc, ◌+◌, ◌≤◌, ◌<◌, Bool, true, false, cond, if◌then◌else◌, ◌||◌, nat_le, ℤ, List, [], ◌∷◌, ◌++◌, length, map, get_or, sum_by}
+use Rattle.std.proofs.Common.{◌≡◌, ◌∙◌, ap, sym, subst, refl, arith, rules, ℕ, zero, suc, ◌+◌, ◌≤◌, ◌<◌, Bool, true, false, cond, if◌then◌else◌, ◌||◌, nat_le, ℤ, List, [], ◌∷◌, ◌++◌, length, map, get_or, sum_by, replicate}
 use Rattle.std.specs.List.{AllByRecursion}
 use Rattle.std.specs.List.Sorted.{IsPermutation, IsSorted}
 use Rattle.std.specs.declared.cmp.Ordering.{Ordering}
@@ -7,7 +7,6 @@ use Rattle.std.specs.declared.cmp.Ordering.TheVariants.{Less, Equal, Greater}
 use Rattle.std.specs.Ordering.{nat_cmp, int_cmp, is_le, is_gt, is_lt, is_eq, ordering_reverse}
 use Rattle.std.specs.Cmp.{IsTotalOrder, upto, tied_itself, int_cmp_total, int_ranked}
 use Rattle.std.specs.Cmp.Lexicographic.{slice_cmp, nat_list_cmp_total, texts_ties, same_text}
-use Rattle.std.specs.Borrow.{Bor}
 use Rattle.std.proofs.lemmas.List.Sums.{sum_by-cons}
 use Rattle.std.proofs.lemmas.List.Sorted.{IsPermutation-map, sum_by-IsPermutation}
 use Rattle.lua_basic.specs.LuaHeapValue.{Value, Number, Text}
@@ -15,6 +14,7 @@ use Rattle.lua_basic.specs.LuaMeaningScope.{Bytes}
 use Rattle.lua_basic.specs.LuaMeaningValues.{first}
 use Rattle.lua_basic.specs.LuaMeaningTableLibrary.{Walk, PassedAll, Refused, one_passed, walk, is_number, is_string, goes_with, may_stand, value_cmp, put_in_order, in_order}
 use Rattle.lua_tables.specs.Kinds.{numbers_in, texts_in}
+use Rattle.lua_tables.specs.Repeated.{repeated}
 
 not_greater : (r : Ordering) → is_le r ≡ true → is_gt r ≡ false
 not_greater Less h = refl
@@ -189,6 +189,47 @@ module _ {K : Type 0} (cmp : K → K → Ordering) (o : IsTotalOrder cmp) (ties 
         unique (map shown after) (in_order cmp (map shown before)) (rises-sorted after sorted) (rises-in_order (map shown before)) (λ t.
         times-moved t _ _ (IsPermutation-map shown before after moved) ∙ sym (times-in_order t (map shown before)))
 
+  -- ITEMS THAT STAND SO OFTEN, one after another
+  all-times : (x y : K) (n : ℕ) (zs : List K) → le x y ≡ true → AllFrom x zs → AllFrom x (replicate n y ++ zs)
+  all-times x y zero zs h all = all
+  all-times x y (suc n) zs h all = (h, all-times x y n zs h all)
+
+  rises-times : (y : K) (n : ℕ) (zs : List K) → AllFrom y zs → Rises zs → Rises (replicate n y ++ zs)
+  rises-times y zero zs all h = h
+  rises-times y (suc n) zs all h = (all-times y y n zs (le_refl y) all, rises-times y n zs all h)
+
+  times-append : (t : K) (xs ys : List K) → times t (xs ++ ys) ≡ times t xs + times t ys
+  times-append t [] ys = omega arith
+  times-append t (x ∷ xs) ys = let rest : times t (xs ++ ys) ≡ times t xs + times t ys = times-append t xs ys in omega (arith, rest)
+
+  abbrev times_in : K → K × ℕ → ℕ
+  times_in t e = times t (replicate e.1 e.0)
+
+  times-repeated : (t : K) (es : List (K × ℕ)) → times t (repeated es) ≡ sum_by (times_in t) es
+  times-repeated t [] = refl
+  times-repeated t (e ∷ es) =
+      times-append t (replicate e.1 e.0) (repeated es) ∙ ap (λ n. times_in t e + n) (times-repeated t es) ∙ sym (sum_by-cons (times_in t) e es)
+
+  times-shuffled : (t : K) (es fs : List (K × ℕ)) → IsPermutation es fs → times t (repeated fs) ≡ times t (repeated es)
+  times-shuffled t es fs h = times-repeated t fs ∙ sum_by-IsPermutation (times_in t) es fs h ∙ sym (times-repeated t es)
+
+  module _ {Y : Type 0} (counted : Y → K × ℕ) where
+    all-repeated : (x : K) (ys : List Y) → AllFrom x (map (λ y. (counted y).0) ys) → AllFrom x (repeated (map counted ys))
+    all-repeated x [] h = tt
+    all-repeated x (y ∷ ys) h = all-times x (counted y).0 (counted y).1 (repeated (map counted ys)) h.0 (all-repeated x ys h.1)
+
+    rises-repeated : (ys : List Y) → Rises (map (λ y. (counted y).0) ys) → Rises (repeated (map counted ys))
+    rises-repeated [] h = tt
+    rises-repeated (y ∷ ys) h =
+        rises-times (counted y).0 (counted y).1 (repeated (map counted ys)) (all-repeated (counted y).0 ys h.0) (rises-repeated ys h.1)
+
+    -- each item once is sorted, with how often it stands in a list: so the list is in order
+    pub repeated_is_in_order : (xs : List K) (before after : List Y) → IsPermutation xs (repeated (map counted before)) → IsPermutation before after
+        → IsSorted (λ a b. cmp (counted a).0 (counted b).0) after → repeated (map counted after) ≡ in_order cmp xs
+    repeated_is_in_order xs before after there moved sorted =
+        unique (repeated (map counted after)) (in_order cmp xs) (rises-repeated after (rises-sorted (λ y. (counted y).0) after sorted)) (rises-in_order xs) (λ t.
+        times-shuffled t _ _ (IsPermutation-map counted before after moved) ∙ times-moved t xs _ there ∙ sym (times-in_order t xs))
+
 -- NUMBERS, and strings by their bytes
 int_ties_at : (x y : ℤ) (r : Ordering) → r ≡ int_cmp x y → r ≡ Equal → x ≡ y
 int_ties_at x y Less e h = absurd cc
@@ -209,9 +250,9 @@ pub numbers_sorted : (before after : List ℤ) → IsPermutation before after �
 numbers_sorted before after moved sorted =
     sym (map-itself after) ∙ sorted_is_in_order int_cmp int_cmp_total int_ties (λ x. x) before after moved sorted ∙ ap (in_order int_cmp) (map-itself before)
 
-pub texts_sorted : (before after : List (Bor Bytes)) → IsPermutation before after → IsSorted (λ a b. slice_cmp nat_cmp a.now b.now) after
-    → map (λ (b : Bor Bytes). b.now) after ≡ in_order (slice_cmp nat_cmp) (map (λ (b : Bor Bytes). b.now) before)
-texts_sorted before after moved sorted = sorted_is_in_order (slice_cmp nat_cmp) nat_list_cmp_total text_ties (λ (b : Bor Bytes). b.now) before after moved sorted
+pub texts_repeated : {Y : Type 0} (counted : Y → Bytes × ℕ) (xs : List Bytes) (before after : List Y) → IsPermutation xs (repeated (map counted before)) → IsPermutation before after
+    → IsSorted (λ a b. slice_cmp nat_cmp (counted a).0 (counted b).0) after → repeated (map counted after) ≡ in_order (slice_cmp nat_cmp) xs
+texts_repeated counted xs before after = repeated_is_in_order (slice_cmp nat_cmp) nat_list_cmp_total text_ties counted xs before after
 
 -- THE ORDER OF VALUES of one kind is that of what they hold
 number-put : (n : ℤ) (ns : List ℤ) → put_in_order value_cmp (Number n) (map Number ns) ≡ map Number (put_in_order int_cmp n ns)

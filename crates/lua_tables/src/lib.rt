@@ -10,6 +10,7 @@
 //! - `inserting`: `insert`
 //! - `counting`: `maxn`
 //! - `removing`: `remove`
+//! - `distinct`: strings, each once with how often it stands among values
 //! - `ordering`: values are put in order
 //! - `sorting`: `sort`
 //! - `table`: which functions they are
@@ -19,6 +20,7 @@
 pub mod call;
 pub mod checks;
 pub mod counting;
+pub mod distinct;
 pub mod inserting;
 pub mod joining;
 pub mod ordering;
@@ -30,5 +32,5 @@ pub mod table;
 pub mod walking;
 
 pub use call::table_call;
-pub use lua_basic::{Left, Library, Stop, Store, TableId, Value};
+pub use lua_basic::{Left, Library, Stop, Store, TableId, TextId, Value};
 pub use table::{TableFunction, table_function};

@@ -2,15 +2,14 @@
 ghost use Rattle.std.specs.Prelude.{◌≡◌, ◌++◌, ◌∷◌, [], ℕ, List as Items, map, length, IfOk, OnOk};
 ghost use Rattle.std.specs.Ordering.{nat_cmp, int_cmp};
 ghost use Rattle.std.specs.Cmp.Lexicographic.{slice_cmp};
-ghost use Rattle.std.specs.Borrow.{Bor};
 ghost use Rattle.lua_basic.specs.LuaHeapValue as kind;
 ghost use Rattle.lua_basic.specs.LuaMeaningValues.{first};
-ghost use Rattle.lua_basic.specs.LuaStoreParts.{IsOf, IsLater};
 ghost use Rattle.lua_basic.specs.LuaStoreSeen.{StoreView, seen};
 ghost use Rattle.lua_basic.specs.Seen.{values_seen, AllOf};
 ghost use Rattle.lua_tables.specs.Kinds as kinds;
 ghost use Rattle.lua_basic.specs.LuaMeaningTableLibrary as meaning;
 
+use crate::distinct::{counted, named_texts, spread_out};
 use crate::places::split;
 use crate::walking::is_number;
 use lua_basic::values::{copy, first};
@@ -72,82 +71,29 @@ fn sorted_numbers(alloc: Global, values: &[Value]) -> Result<List<Value>, NoMemo
     Ok(sorted)
 }
 
-/// A value behind texts, if it is one.
-fn add_text<'b>(store: &Store<'b>, texts: &mut List<&'b [u8]>, value: Value) -> Result<(), NoMemory>
-    requires { IsOf store.now value }
-    ensures { OnOk result (map (λ (b : Bor (Items ℕ)). b.now) texts.new ≡ map (λ (b : Bor (Items ℕ)). b.now) texts.old ++ kinds.texts_in (seen store.now.texts value ∷ [])) }
-{
-    match value {
-        Value::Text(text) => texts.push(store.bytes(text)),
-        Value::Number(_) => Ok(()),
-        Value::Nil => Ok(()),
-        Value::Bool(_) => Ok(()),
-        Value::Table(_) => Ok(()),
-        Value::Closure(_) => Ok(()),
-        Value::Builtin(_) => Ok(()),
-        Value::Markup(_) => Ok(()),
-    }
-}
-
-/// The bytes of the strings among values.
-fn texts_in<'b>(
-    alloc: Global,
-    store: &Store<'b>,
-    values: &[Value],
-) -> Result<List<&'b [u8]>, NoMemory>
+/// The strings among values, in order of their bytes. No two of one text are compared.
+fn sorted_texts(alloc: Global, store: &Store, values: &[Value]) -> Result<List<Value>, NoMemory>
     requires { AllOf store.now values.now }
-    ensures { IfOk result (λ texts. map (λ (b : Bor (Items ℕ)). b.now) texts ≡ kinds.texts_in (values_seen store.now.texts values.now)) }
+    ensures values { IfOk result (λ sorted. values_seen store.now.texts sorted ≡ map kind.Text (meaning.in_order (slice_cmp nat_cmp) (kinds.texts_in (values_seen store.now.texts values.now)))) }
+    ensures of { IfOk result (AllOf store.now) }
 {
-    let mut texts = List::new(alloc);
-    let mut rest = values;
-    'values: while let Some((value, more)) = split(rest) {
-        add_text(store, &mut texts, value)?;
-        rest = more;
-    }
-    Ok(texts)
-}
-
-/// Strings as values.
-fn text_values(alloc: Global, store: &mut Store, texts: &[&[u8]]) -> Result<List<Value>, NoMemory>
-    ensures values { IfOk result (λ values. values_seen store.new.texts values ≡ map kind.Text (map (λ (b : Bor (Items ℕ)). b.now) texts.now)) }
-    ensures of { IfOk result (AllOf store.new) }
-    ensures same { OnOk result (store.new ≡ record store.old { texts = store.new.texts }) }
-    ensures later { IsLater store.old store.new }
-{
-    let mut values = List::new(alloc);
-    'texts: for at in 0..texts.len() {
-        let id = store.text(texts[at])?;
-        values.push(Value::Text(id))?;
-    }
-    Ok(values)
-}
-
-/// The strings among values, in order of their bytes.
-fn sorted_texts(alloc: Global, store: &mut Store, values: &[Value]) -> Result<List<Value>, NoMemory>
-    requires { AllOf store.old values.now }
-    ensures values { IfOk result (λ sorted. values_seen store.new.texts sorted ≡ map kind.Text (meaning.in_order (slice_cmp nat_cmp) (kinds.texts_in (values_seen store.old.texts values.now)))) }
-    ensures of { IfOk result (AllOf store.new) }
-    ensures same { OnOk result (store.new ≡ record store.old { texts = store.new.texts }) }
-    ensures later { IsLater store.old store.new }
-{
-    let mut texts = texts_in(alloc, store, values)?.into_vec();
-    texts.sort_unstable();
-    let sorted = text_values(alloc, store, texts.as_slice())?;
+    let counts = counted(alloc, values)?;
+    let mut named = named_texts(alloc, store, &counts)?;
+    named.sort_unstable_by(|a, b| a.bytes.cmp(b.bytes));
+    let sorted = spread_out(alloc, named.as_slice())?;
     Ok(sorted)
 }
 
 /// Values in order, which are numbers alone or strings alone, where there are two or more.
 pub(crate) fn in_order(
     alloc: Global,
-    store: &mut Store,
+    store: &Store,
     values: &[Value],
 ) -> Result<List<Value>, NoMemory>
-    requires of { AllOf store.old values.now }
-    requires kinds { meaning.walk (meaning.may_stand (length values.now) (first (values_seen store.old.texts values.now))) (values_seen store.old.texts values.now) ≡ meaning.PassedAll }
-    ensures values { IfOk result (λ sorted. values_seen store.new.texts sorted ≡ meaning.in_order meaning.value_cmp (values_seen store.old.texts values.now)) }
-    ensures of { IfOk result (AllOf store.new) }
-    ensures same { OnOk result (store.new ≡ record store.old { texts = store.new.texts }) }
-    ensures later { IsLater store.old store.new }
+    requires of { AllOf store.now values.now }
+    requires kinds { meaning.walk (meaning.may_stand (length values.now) (first (values_seen store.now.texts values.now))) (values_seen store.now.texts values.now) ≡ meaning.PassedAll }
+    ensures values { IfOk result (λ sorted. values_seen store.now.texts sorted ≡ meaning.in_order meaning.value_cmp (values_seen store.now.texts values.now)) }
+    ensures of { IfOk result (AllOf store.now) }
 {
     if values.len() <= 1 {
         return copy(alloc, values);

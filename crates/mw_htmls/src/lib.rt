@@ -31,5 +31,5 @@ pub mod tabled;
 
 pub use call::html_call;
 pub use lua_strings::places::sub;
-pub use lua_strings::{StringFunction, TextId, string_call, string_function};
+pub use lua_strings::{StringFunction, string_call, string_function};
 pub use table::{HtmlFunction, Method, html_function};

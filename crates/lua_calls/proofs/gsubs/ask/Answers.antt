@@ -7,7 +7,7 @@ use Rattle.lua_modules.specs.LuaSlotsCalls.{call}
 use Rattle.lua_code.specs.LuaSlotsGsub.{asks}
 use Rattle.lua_code.specs.LuaSlotsIndex.{index}
 use Rattle.lua_modules.specs.LuaSlotsPoints.{Waits, Move}
-use Rattle.mw_htmls.specs.LuaStoreDeclaredValueValue.{Value}
+use Rattle.lua_tables.specs.LuaStoreDeclaredValueValue.{Value}
 use Rattle.lua_tables.specs.LuaStoreSeen.{seen}
 use Rattle.lua_modules.proofs.LuaStackOpenings.{first_of}
 use Rattle.lua_modules.specs.LuaStackSeen.{values_seen}

@@ -25,16 +25,13 @@ returns-in_err-take_sort-clause-answer c =
     (paid-short (order_charge (length c.args.values.now) + length c.args.values.now) _ c.args.store.now c.args.left.now c.take_sort.new.left _ c.from_residual.result (omega (arith, cost)) c.in_err-take_sort.ensures (p.1 ∙ ap Err p.2))
 
 pub put_from-requires-clause-writable : goal.put_from-requires-clause-writable
-put_from-requires-clause-writable c =
-    let writable : (table_at c.args.store.now.heap c.args.table.at).frozen ≡ false = search rules in
-    ap (λ (s : StoreView). (table_at s.heap c.args.table.at).frozen) c.in_ok-sorted.ensures.same ∙ writable
+put_from-requires-clause-writable c = search rules
 
 pub returns-clause-answer : goal.returns-clause-answer
 returns-clause-answer c =
     let texts = c.args.store.now.texts in
     let h = c.args.store.now.heap in
     let t = c.put_from.new.store in
-    let mid = c.in_order.new.store in
     let vs = values_seen texts c.args.values.now in
     let writable : (table_at h c.args.table.at).frozen ≡ false = search rules in
     let size = length-map c.args.values.now (seen texts) in
@@ -42,9 +39,8 @@ returns-clause-answer c =
     let put = sort-charge (table_at h c.args.table.at).entries vs c.requires.read in
     let cost : order_charge (length vs) + put_charge (pos 1) (in_order value_cmp vs) (table_at h c.args.table.at).entries ≡ order_charge (length c.args.values.now) + length c.args.values.now =
     ap (λ n. order_charge (length vs) + n) put ∙ ap (λ n. order_charge n + n) size in
-    let same : mid.heap ≡ h = ap (λ (s : StoreView). s.heap) c.in_ok-sorted.ensures.same in
-    let values = ap (values_seen mid.texts) c.as_slice.ensures ∙ c.in_ok-sorted.ensures.values in
-    let heap = ap (λ (s : StoreView). s.heap) c.in_ok-put_from.ensures.put ∙ ap (λ xs. put_from (pos 1) xs c.args.table.at mid.heap) values ∙ ap (put_from (pos 1) (in_order value_cmp vs) c.args.table.at) same in
+    let values = ap (values_seen texts) c.as_slice.ensures ∙ c.in_ok-sorted.ensures.values in
+    let heap = ap (λ (s : StoreView). s.heap) c.in_ok-put_from.ensures.put ∙ ap (λ xs. put_from (pos 1) xs c.args.table.at h) values in
     subst (λ q. Paid q c.args.store.now c.args.left.now t c.take_sort.new.left (Ok c.new-2.result)) (sym whole)
     (paid-values (order_charge (length c.args.values.now) + length c.args.values.now) _ c.args.store.now c.args.left.now t c.take_sort.new.left c.new-2.result c.in_ok-take_sort.ensures
     (put-gives _ _ _ t [] c.new-2.result cost heap (ap (values_seen t.texts) c.new-2.ensures)))
