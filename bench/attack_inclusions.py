@@ -1,9 +1,9 @@
 #!/usr/bin/env python3
-"""Times pages that include long texts again and again, of which few bytes can be paid, by the built program.
+"""Times pages that include long texts again and again, of which few bytes can be paid, and switches of many names, by the built program.
 
   bench/attack_inclusions.py crates/wikiexpand/out/wikiexpand
 
-Each row is a small wiki whose page calls a template of two million bytes very often. The least processor time of three runs is
+Each row is a small wiki whose page calls a template of one or two million bytes very often. The least processor time of three runs is
 told (the program has one thread, so on an idle machine that is the time it takes), and the printed text is compared with
 one that this script makes by itself.
 """
@@ -34,6 +34,22 @@ def rows():
     yield ("a default of 2 MB, 300,000 times", {"T": "{{{a|" + text + "}}}", "P": "{{T}}" * 300_000}, few, SIZE * 300_000)
     yield ("an argument of 1 MB, 200,000 times in a template", {"T": "{{{1}}}" * 200_000, "P": "{{T|" + half + "}}"}, few, SIZE)
     yield ("as written, 2 MB, 300,000 times", {"T": "{{subst:|" + text + "}}", "P": "{{T}}" * 300_000}, few, SIZE * 300_000)
+    yield from switches("".join(f"|n{n}={n}" for n in range(100_000)))
+
+
+def switches(names):
+    """the same of switches"""
+    switch = "{{#switch:{{{1|}}}"
+    called = range(5, 100_000, 10)
+    yield ("a switch of 100,000 names, 10,000 times", {"T": switch + names + "}}", "P": "".join("{{T|n%d}}" % n for n in called)}, [],
+           "".join(str(n) for n in called))
+    yield "the same, a name that it hasn't", {"T": switch + names + "}}", "P": "{{T|n}}" * 10_000}, [], ""
+    yield ("the same, behind 100,000 names without a value",
+           {"T": switch + names.replace("=", "|") + "|end=z}}", "P": "{{T|n0}}" * 10_000}, [], "z" * 10_000)
+    half = names[:names.index("|n50000=")]
+    yield ("690,000 parts of one name, 400,000 times", {"T": "{{#switch:x" + "|ab" * 690_000 + "}}", "P": "{{T}}" * 400_000}, [], "ab" * 400_000)
+    yield ("50,000, a part with a construct, and 50,000, 10,000 times",
+           {"T": switch + half + "|{{{2|}}}=y" + half.replace("n", "m") + "}}", "P": "{{T|m49999}}" * 10_000}, [], "49999" * 10_000)
 
 
 def main():

@@ -1,9 +1,11 @@
 #!/usr/bin/env python3
 """Compares the built program with `expand_reference.py`, which follows the same rules by itself.
 
-  bench/expansion_compare.py PROGRAM                    the cases of the table, and 1,500 folders of random pages
+  bench/expansion_compare.py PROGRAM                    the cases of the table, 1,500 folders of random pages, and 20,000 switches
   bench/expansion_compare.py PROGRAM table              the pages without modules of crates/page_cases/stdin, as folders on disk
   bench/expansion_compare.py PROGRAM random COUNT SEED  that many folders of random pages
+  bench/expansion_compare.py PROGRAM switches COUNT SEED
+                                                        that many templates with a `#switch` of many parts, each asked for some values
 
 PROGRAM is crates/wikiexpand/out/wikiexpand. Each difference is printed with the folder's pages.
 """
@@ -58,6 +60,66 @@ def random_folder(pick):
     return words, {name: text.encode() for name, text in files.items()}
 
 
+# what parts of a `#switch` are called, and what one is asked for: in any case and spacing, numbers, the default's name
+PLAIN = ["a", "A", "b", "B", "ab", "Ab", "a b", "a  b", "c", "d", "e", "f", "é", "x", "", "0", "1", "2", "7", "10", "#default"]
+LIKE = ["-0", "+0", "00", "01", "+1", "-1", "1.0", "+07", "007", "-7", "1" * 18, "0" * 17 + "1", "1" * 19, "0" * 18 + "1", "+" + "1" * 18, "#Default",
+        "#DEFAULT", "# default", "default", "A B", "a\nb"]
+SPACE = ["", "", "", " ", "\n", "  ", " \n", "\t"]
+VARIED = ["{{{2|a}}}", "{{{2}}}", "{{{3|#default}}}", "{{{3|}}}", "{{U}}", "{{U|1}}", "a{{{2|}}}", "{{{2|}}}b", "{{#if:{{{2|}}}|a|b}}", "[[a]]", "a<!-- c -->b",
+          "<nowiki>a</nowiki>", "<!-- c -->a", "{{!}}", "a{{=}}b"]
+SWITCHES = ["#switch:", "#switch:", "#switch:", "#SWITCH:", " #Switch: ", "safesubst:#switch:", "{{{h|#switch:}}}", "#{{{h|switch}}}:", "{{V}}itch:", "#switch :"]
+
+
+def spaced(pick, name):
+    return pick.choice(SPACE) + name + pick.choice(SPACE)
+
+
+def case_name(pick, names):
+    kind = pick.randrange(40)
+    if kind == 0:
+        return pick.choice(VARIED)
+    return spaced(pick, pick.choice(names) if kind < 30 else pick.choice(LIKE if kind < 36 else PLAIN))
+
+
+def case_value(pick, depth, names):
+    kind = pick.randrange(12)
+    if kind == 0 and depth:
+        return a_switch(pick, depth - 1, names, pick.randrange(40))
+    if kind == 1:
+        return pick.choice(VARIED)
+    return spaced(pick, pick.choice(["", "v", "=", "v=w"]) + str(pick.randrange(1000)))
+
+
+def a_switch(pick, depth, names, count):
+    """with that many parts: some fall through, defaults stand anywhere"""
+    few_values = pick.randrange(3)
+    parts = []
+    for _ in range(count):
+        name = case_name(pick, names)
+        parts.append(name if pick.randrange(4) < few_values else name + "=" + case_value(pick, depth, names))
+    head = pick.choice(SWITCHES) + pick.choice(["{{{1|}}}", " {{{1|}}} ", "{{{1}}}", "{{{1|}}}{{{2|}}}"])
+    return "{{" + "|".join([head, *parts]) + "}}"
+
+
+def switch_folder(pick, count):
+    """that many templates with a switch each, and a page that asks each for some values"""
+    files, page = {b"Template:U": "b", b"Template:V": "#sw"}, []
+    for at in range(count):
+        names = [pick.choice(PLAIN + LIKE) if pick.randrange(3) else f"n{pick.randrange(60)}" for _ in range(pick.randrange(1, 40))]
+        body = a_switch(pick, 2, names, pick.randrange(1, 60))
+        files[b"Template:S%d" % at] = body + (a_switch(pick, 1, names, pick.randrange(30)) if pick.randrange(8) == 0 else "")
+        for _ in range(8):
+            more = pick.choice(["", "", "|", "|a", "|b", "|a|#default", "|2=1|3=x", "|h=switch", "|h=#if:"])
+            page.append("{{S%d|%s%s}}" % (at, case_name(pick, names), more))
+    files[b"P"] = ",".join(page)
+    return [b"expand", b"d", b"P"], {name: text.encode() for name, text in files.items()}
+
+
+def switch_cases(count, seed):
+    pick = random.Random(seed)
+    return [(*switch_folder(pick, min(40, count - at)), None) for at in range(0, count, 40)]
+
+
 def printed(program, words, files):
     folder = tempfile.mkdtemp()
     for name, page in files.items():
@@ -83,8 +145,10 @@ def main():
     program, words = os.path.abspath(sys.argv[1]), sys.argv[2:]
     if words[:1] == ["random"]:
         cases = random_cases(int(words[1]), int(words[2]))
+    elif words[:1] == ["switches"]:
+        cases = switch_cases(int(words[1]), int(words[2]))
     else:
-        cases = cases_of_table() + ([] if words == ["table"] else random_cases(1500, 42))
+        cases = cases_of_table() + ([] if words == ["table"] else random_cases(1500, 42) + switch_cases(20_000, 42))
     wrong = 0
     for words, files, wanted in cases:
         if wanted is None:

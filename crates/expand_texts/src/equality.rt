@@ -58,7 +58,7 @@ fn signed(minus: bool, size: u64) -> (bool, u64)
 
 /// The number that a text writes, as its sign and its size.
 #[tactic(auto, unfolding(expand_meaning::specs::Texts::number_of))]
-fn number_of(text: &[u8]) -> Option<(bool, u64)>
+pub fn number_of(text: &[u8]) -> Option<(bool, u64)>
     ensures { result ≡ number_of text.now }
 {
     let digits = behind_sign(text);

@@ -3,8 +3,8 @@ use Rattle.std.proofs.Common.{◌≡◌, ℕ, ◌+◌, ◌-◌, ◌<◌, ◌≤�
 use Rattle.std.specs.Prelude.{min, IsSome, IfSome, is_some, option_map}
 use Rattle.page_meaning.specs.WkBaseDeclaredLeftLeft.{Left}
 use Rattle.lua_code.specs.WkBaseDeclaredTitleTitle.{Title}
-use Rattle.page_tasks.specs.WikiExpandPages.{Pages, find_page, included_of, included_in}
-use Rattle.page_tasks.specs.WikiExpandEntries.{Entry}
+use Rattle.page_tasks.specs.WikiPagesPages.{Pages, find_page, included_of, included_in}
+use Rattle.page_tasks.specs.WikiPagesEntries.{Entry}
 use Rattle.page_tasks.specs.LuaStoreSeen.{StoreView}
 use Rattle.page_meaning.specs.PageRunState.{Gives}
 use Rattle.page_tasks.specs.LuaMachineDeclaredMachineMachine.{Machine}

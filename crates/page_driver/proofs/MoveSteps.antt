@@ -14,7 +14,7 @@ use Rattle.mw_frame.specs.declared.question.Ask.{Ask}
 use Rattle.mw_frame.specs.declared.question.Ask.TheVariants.{Template, Preprocess, Data}
 use Rattle.page_meaning.specs.WikiMarkupTrees.{Trees}
 use Rattle.page_meaning.specs.ExpandMeaningOutcome.{Reading, Including}
-use Rattle.page_tasks.specs.WikiExpandPages.{included_in}
+use Rattle.page_tasks.specs.WikiPagesPages.{included_in}
 use Rattle.lua_code.specs.LuaMeaningWorld.{Module, Modules}
 use Rattle.page_meaning.specs.LuaMeaningQuestions.{Answer, Expanded, NoPage}
 use Rattle.page_meaning.specs.LuaMeaningStart.{Invoke, DataOf}

@@ -8,7 +8,7 @@ use Rattle.page_meaning.specs.WikiMarkupTrees.{Trees}
 use Rattle.page_meaning.specs.Wiki.{Wiki}
 use Rattle.page_meaning.specs.Page.{page}
 use Rattle.page_meaning.specs.Tasks.{given_text}
-use Rattle.page_tasks.specs.WikiExpandPages.{direct_in}
+use Rattle.page_tasks.specs.WikiPagesPages.{direct_in}
 use Rattle.page_tasks.specs.PageGroundGround.{Ground, page_of, wiki_in, wiki_of, AreModulesIn, AreModulesOf}
 use Rattle.page_tasks.specs.declared.task.Reply.{Reply}
 use Rattle.page_tasks.specs.Seen.{reply_seen}

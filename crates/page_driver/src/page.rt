@@ -1,7 +1,7 @@
 //! The expansion of a page.
 ghost use Rattle.std.specs.Prelude.{◌≡◌, ◌+◌, ◌≤◌, [], IsSome, IfOk, OnOk};
 ghost use Rattle.mw_frame.specs.WkBaseAllowances.{IsCountable};
-ghost use Rattle.page_tasks.specs.WikiExpandPages.{find_page};
+ghost use Rattle.page_tasks.specs.WikiPagesPages.{find_page};
 ghost use Rattle.page_tasks.specs.LuaStoreParts.{nothing};
 ghost use Rattle.page_meaning.specs.Tasks.{given_text};
 ghost use Rattle.page_tasks.specs.Beginning.{BeginsPage, HasPage};

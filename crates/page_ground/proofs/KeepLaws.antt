@@ -3,15 +3,15 @@ use Rattle.std.proofs.Common.{◌≡◌, ◌⊎◌, inr, ℕ, ◌∙◌, Bool, t
 use Rattle.std.specs.Prelude.{◌<◌, ◌||◌, bytes_eq, cond, is_some, option_map}
 use Rattle.std.specs.List.{AllByRecursion}
 use Rattle.std.proofs.lemmas.Slice.Eq.{bytes_eq-Decides}
-use Rattle.wiki_markup.specs.WkBaseDeclaredTitleNamespace.{Namespace}
-use Rattle.wiki_expand.specs.WkBaseDeclaredTitleNamespaceTheVariants.{Module as ModuleNs}
-use Rattle.wiki_expand.specs.WkBaseDeclaredTitleTitle.{Title}
-use Rattle.wiki_expand.specs.WkBaseContractsTitleTitlePartialEqTheImpl as titles
-use Rattle.lua_code.specs.WkBaseTitles.{is_module, title_text, prefix_of}
+use Rattle.wk_base.specs.declared.title.Namespace.{Namespace}
+use Rattle.wk_base.specs.declared.title.Namespace.TheVariants.{Module as ModuleNs}
+use Rattle.wk_base.specs.declared.title.Title.{Title}
+use Rattle.wk_base.specs.contracts.title.TitlePartialEq.TheImpl as titles
+use Rattle.wk_base.specs.Titles.{is_module, title_text, prefix_of}
 use Rattle.page_run.specs.Walk.{WalkState, is_in}
 use Rattle.lua_code.specs.LuaMeaningWorld.{Modules}
 use Rattle.page_ground.specs.declared.keep.Kept.{Kept}
-use Rattle.page_run.specs.WkBaseDeclaredLeftLeft.{Left}
+use Rattle.wk_base.specs.declared.left.Left.{Left}
 use Rattle.lua_code.specs.Held.{TitledModules, modules_seen}
 use Rattle.page_ground.specs.Ground.{Ground, TellsHeld}
 use Rattle.page_ground.specs.Kept.{kept_for, kept_beside, keep_with, EntryOf, KeepOf, IsShort, IsEntry, Keeps}

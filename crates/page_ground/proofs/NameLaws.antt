@@ -2,7 +2,7 @@
 use Rattle.std.proofs.Common.{◌≡◌, ℕ, Bool, true, false, cond, List, [], ◌∷◌, ◌++◌, Option, Some, None, refl, sym, ap, ◌∙◌, ◌≢◌}
 use Rattle.std.specs.Prelude.{option_map, bytes_eq, is_some}
 use Rattle.mw_frame.specs.declared.scene.Arg.{Arg}
-use Rattle.wiki_expand.specs.ExpandMeaningExpand.{put, found}
+use Rattle.expand_texts.specs.ExpandMeaningExpand.{put, found}
 use Rattle.std.specs.Borrow.{Bor}
 use Rattle.std.proofs.lemmas.Slice.Eq.{bytes_eq-Decides}
 use Rattle.mw_frame.specs.Scenes.{Lacks, NamesDiffer}

@@ -1,9 +1,9 @@
 -- WHAT NOTHING ON A PAGE CHANGES: its title, the pages and the modules of the wiki.
 use Rattle.std.specs.Prelude.{◌≡◌, ◌⊎◌, ℕ, ◌==◌, Bool, true, false, IsTrue, List, None, is_some, codes}
 use Rattle.std.specs.List.{starts_with}
-use Rattle.lua_code.specs.WkBaseTitles.{is_module, title_text}
-use Rattle.wiki_expand.specs.WkBaseDeclaredTitleTitle.{Title}
-use Rattle.wiki_expand.specs.Pages.{Pages, included_in}
+use Rattle.wk_base.specs.Titles.{is_module, title_text}
+use Rattle.wk_base.specs.declared.title.Title.{Title}
+use Rattle.wiki_pages.specs.Pages.{Pages, included_in}
 use Rattle.lua_code.specs.LuaMeaningWorld.{Modules}
 use Rattle.lua_code.specs.LuaSlotsIsCode.{Agrees}
 use Rattle.lua_state.specs.declared.codes.World.{World}

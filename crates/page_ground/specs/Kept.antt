@@ -3,10 +3,10 @@ use Rattle.std.specs.Prelude.{◌≡◌, ◌⊎◌, ◌<◌, ◌≤◌, true, Li
 use Rattle.std.specs.Borrow.{Bor}
 use Rattle.std.specs.Map.{lookup}
 use Rattle.std.specs.List.{AllByRecursion}
-use Rattle.page_run.specs.WkBaseDeclaredLeftLeft.{Left}
-use Rattle.wiki_expand.specs.WkBaseDeclaredTitleTitle.{Title}
-use Rattle.wiki_expand.specs.WkBaseContractsTitleTitlePartialEqTheImpl as titles
-use Rattle.lua_code.specs.WkBaseTitles.{is_module, title_text}
+use Rattle.wk_base.specs.declared.left.Left.{Left}
+use Rattle.wk_base.specs.declared.title.Title.{Title}
+use Rattle.wk_base.specs.contracts.title.TitlePartialEq.TheImpl as titles
+use Rattle.wk_base.specs.Titles.{is_module, title_text}
 use Rattle.page_run.specs.Walk.{WalkState, is_in}
 use Rattle.lua_code.specs.LuaMeaningWorld.{Modules}
 use Rattle.page_meaning.specs.Laws.{IsKept}

@@ -2,7 +2,7 @@
 use lua_state::World;
 use std::alloc::Global;
 use std::hash::RandomState;
-use wiki_expand::PageMap;
+use wiki_pages::PageMap;
 
 /// What nothing on a page changes.
 #[derive(Drop)]

@@ -1,6 +1,6 @@
 //! What the load of a data module gave.
 use lua_graph::Graph;
-use mw_frame::Bytes;
+use wk_base::Bytes;
 
 /// What the load of a data module gave: its tables, or why there are none.
 #[derive(Drop)]

@@ -20,11 +20,10 @@ use crate::data::Data;
 use expand_texts::texts::joined;
 use lua_graph::{DataFault, Store, TextId, Value, take_out};
 use lua_state::{Given, Jump, Outcome, Values};
-use mw_frame::Bytes;
 use page_meaning::JobOutcome;
 use page_run::Which;
 use std::alloc::Global;
-use wiki_markup::NoMemory;
+use wk_base::{Bytes, NoMemory};
 
 /// The text that a value is.
 fn text_in(value: Value) -> Option<TextId>

@@ -3,7 +3,7 @@ ghost use Rattle.std.specs.Prelude.{IfSome};
 ghost use Rattle.page_ground.specs.Ground.{TellsHeld};
 
 use lua_code::Modules;
-use mw_frame::Title;
+use wk_base::Title;
 
 /// Whether the module of this title is held. `None` is for want of memory, and for a title that only looks like a module's: that is never asked
 /// for, but no clause of a machine says so.

@@ -5,12 +5,10 @@ ghost use Rattle.page_ground.specs.Kept.{kept_for, FindsKept, keep_with};
 
 use crate::data::Data;
 use indexmap::IndexMap;
-use mw_frame::{List, Title};
 use std::alloc::Global;
 use std::hash::RandomState;
 use std::marker::Model;
-use wiki_expand::Left;
-use wiki_markup::NoMemory;
+use wk_base::{Left, List, NoMemory, Title};
 
 /// What the load of one data module gave, and what it cost.
 #[derive(Drop)]
@@ -30,10 +28,10 @@ pub struct Keep {
 
 impl Model for Keep {
     ghost use Rattle.std.specs.Prelude.{List};
-    ghost use Rattle.wiki_expand.specs.WkBaseDeclaredTitleTitle.{Title as TitleValue};
+    ghost use Rattle.wk_base.specs.declared.title.Title.{Title as TitleValue};
     ghost use Rattle.page_ground.specs.declared.keep.Kept.{Kept as KeptValue};
     ghost use Rattle.std.specs.Coded.{coded_list, coded×};
-    ghost use Rattle.wiki_expand.specs.WkBaseContractsTitleTitle as title;
+    ghost use Rattle.wk_base.specs.contracts.title.Title as title;
     ghost use Rattle.page_ground.specs.contracts.keep.Kept as kept;
 
     ghost Value = { List (TitleValue × KeptValue) };

@@ -5,7 +5,7 @@ ghost use Rattle.page_ground.specs.Numbered.{at_work, none_started, after_start,
 use lua_graph::Store;
 use lua_state::Stack;
 use std::alloc::Global;
-use wiki_markup::NoMemory;
+use wk_base::NoMemory;
 
 /// The runs of a page, invocations and loads of data, are numbered from 0 in the order in which they start. Each closure that a run makes has its
 /// number: the innermost run in progress is the one at work in the store.

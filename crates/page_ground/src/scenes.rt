@@ -1,16 +1,17 @@
 //! Texts and scenes from which expansions begin.
 ghost use Rattle.std.specs.Prelude.{◌≡◌, [], ◌∷◌, ◌++◌, None, IfOk, OnOk};
 ghost use Rattle.mw_frame.specs.Scenes.{NamesDiffer};
-ghost use Rattle.wiki_expand.specs.ExpandMeaningPlaces.{trees_at};
-ghost use Rattle.wiki_expand.specs.ExpandMeaningExpand.{found};
-ghost use Rattle.wiki_expand.specs.ExpandMeaningOutcome.{page_scene};
+ghost use Rattle.wiki_pages.specs.ExpandMeaningPlaces.{trees_at};
+ghost use Rattle.expand_texts.specs.ExpandMeaningExpand.{found};
+ghost use Rattle.page_meaning.specs.ExpandMeaningOutcome.{page_scene};
 ghost use Rattle.page_meaning.specs.Wiki.{read};
 
 use crate::context::Context;
 use expand_texts::arguments::Arguments;
-use mw_frame::{Arg, Bytes, List, Scene, Title};
+use mw_frame::{Arg, Scene};
 use std::alloc::Global;
-use wiki_markup::{Marked, Mode, NoMemory, markup, shown};
+use wiki_markup::{Marked, Mode, markup, shown};
+use wk_base::{Bytes, List, NoMemory, Title};
 
 /// One more argument, whose name is not among those before. No question of a machine has two arguments of one name, but no clause of a
 /// machine says so: where one had, the answer would be that memory was wanting.

@@ -2,7 +2,7 @@
 use Rattle.std.proofs.Common.{◌≡◌, [], Result, Ok, Err, subst}
 use Rattle.std.specs.Prelude.{IfSome, IfOk}
 use Rattle.page_run.specs.WkBaseDeclaredLeftLeft.{Left}
-use Rattle.wiki_expand.specs.WkBaseDeclaredTitleTitle.{Title}
+use Rattle.lua_code.specs.WkBaseDeclaredTitleTitle.{Title}
 use Rattle.wiki_expand.specs.WikiMarkupTrees.{Trees}
 use Rattle.wiki_expand.specs.WikiMarkupDeclaredMarkedMarked.{Marked}
 use Rattle.mw_frame.specs.declared.scene.Scene.{Scene}
@@ -11,7 +11,7 @@ use Rattle.wiki_expand.specs.ExpandMeaningOutcome.{Work as PageWork, Reading, In
 use Rattle.wiki_expand.specs.declared.expander.Expander.{Expander}
 use Rattle.wiki_expand.specs.declared.expander.Source.{Source}
 use Rattle.wiki_expand.specs.declared.expander.Source.TheVariants.{Page as OfPage, Template as OfTemplate, Text as OfText}
-use Rattle.wiki_expand.specs.Pages.{direct_in, included_in, setting_in}
+use Rattle.wiki_expand.specs.WikiPagesPages.{direct_in, included_in, setting_in}
 use Rattle.wiki_expand.specs.Standing.{At, IsReady, setting_of, depth_in, templates_in, work_of, reading, including}
 use Rattle.lua_machine.specs.LuaStoreSeen.{StoreView}
 use Rattle.page_ground.specs.PageMeaningTasks.{Expanding}

@@ -19,7 +19,7 @@ use Rattle.page_ground.proofs.LuaStoreLater.{later-itself}
 use Rattle.wiki_expand.specs.declared.expander.Expander.{Expander}
 use Rattle.wiki_expand.specs.declared.expander.Move.{Move}
 use Rattle.wiki_expand.specs.declared.expander.Move.TheVariants.{Text as Came, Invoke as Invokes}
-use Rattle.wiki_expand.specs.Pages.{Pages}
+use Rattle.wiki_expand.specs.WikiPagesPages.{Pages}
 use Rattle.wiki_expand.specs.Standing.{At, Waits, IsMove, MoveAsks, MoveFalls, IsAfter, setting_of, depth_in, templates_in, allowed_in}
 use Rattle.page_ground.specs.PageMeaningWiki.{setting}
 use Rattle.page_ground.specs.PageMeaningTasks.{Expanding, as_text, text_of, text_response}

@@ -2,13 +2,13 @@
 use Rattle.std.proofs.Common.{◌≡◌, ℕ, true, [], Option, Some, None, Result, Ok, Err, refl, sym, ap, ◌∙◌, subst}
 use Rattle.std.specs.Prelude.{IfSome, IfOk, OnOk, option_map}
 use Rattle.page_run.specs.WkBaseDeclaredLeftLeft.{Left}
-use Rattle.wiki_expand.specs.WkBaseDeclaredTitleTitle.{Title}
+use Rattle.lua_code.specs.WkBaseDeclaredTitleTitle.{Title}
 use Rattle.lua_code.specs.WkBaseTitles.{is_module}
 use Rattle.mw_frame.specs.declared.scene.Job.{Job}
 use Rattle.lua_machine.specs.LuaHeapReach.{nowhere, with_new, Frame}
 use Rattle.wiki_expand.specs.ExpandMeaningOutcome.{Work as PageWork}
 use Rattle.wiki_expand.specs.declared.expander.Expander.{Expander}
-use Rattle.wiki_expand.specs.Pages.{setting_in}
+use Rattle.wiki_expand.specs.WikiPagesPages.{setting_in}
 use Rattle.wiki_expand.specs.Standing.{At, IsReady, setting_of, depth_in, templates_in}
 use Rattle.page_ground.specs.LuaMeaningStart.{Invoke, DataOf}
 use Rattle.lua_code.specs.LuaSlotsCode.{CWorld}

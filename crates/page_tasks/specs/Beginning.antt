@@ -15,9 +15,9 @@ use Rattle.page_ground.specs.PagePointsApart.{LeavesAlone}
 use Rattle.page_tasks.specs.declared.task.Task.{Task}
 use Rattle.page_ground.specs.Ground.{Ground, AreModulesOf, page_of}
 use Rattle.wiki_expand.specs.ExpandMeaningOutcome.{Work as Expansion, Reading, Including, page_scene}
-use Rattle.wiki_expand.specs.WkBaseDeclaredTitleTitle.{Title}
+use Rattle.lua_code.specs.WkBaseDeclaredTitleTitle.{Title}
 use Rattle.mw_frame.specs.declared.scene.Scene.{Scene}
-use Rattle.wiki_expand.specs.Pages.{find_page, direct_in, included_in}
+use Rattle.wiki_expand.specs.WikiPagesPages.{find_page, direct_in, included_in}
 use Rattle.page_tasks.specs.Tasks.{TaskIn, OnGround, CanGo, calls_in, depth_of, templates_of, MachineReady, Ready}
 
 -- it stands at its start, whatever is left, in a set of its own

@@ -20,7 +20,7 @@ use Rattle.lua_machine.specs.Moved.{point_of}
 use Rattle.page_tasks.specs.declared.task.Halt.{Halt}
 use Rattle.page_tasks.specs.Going.{MachineGoes, halt_of}
 use Rattle.page_tasks.specs.Falling.{StepsFall}
-use Rattle.wiki_expand.specs.Pages.{Pages}
+use Rattle.wiki_expand.specs.WikiPagesPages.{Pages}
 use Rattle.wiki_expand.specs.declared.expander.Expander.{Expander}
 use Rattle.wiki_expand.specs.declared.expander.Move.{Move}
 use Rattle.wiki_expand.specs.Standing.{At, Waits, IsMove, MoveAsks, MoveFalls, IsAfter, setting_of, depth_in, templates_in, allowed_in}

@@ -13,8 +13,8 @@ pub use Rattle.page_ground.specs.Seen as PageGroundSeen
 pub use Rattle.page_ground.specs.declared.data.Data as PageGroundDeclaredDataData
 pub use Rattle.page_ground.specs.declared.keep.Kept as PageGroundDeclaredKeepKept
 pub use Rattle.page_ground.specs.declared.numbers.Numbers as PageGroundDeclaredNumbersNumbers
-pub use Rattle.wiki_expand.specs.Entries as WikiExpandEntries
-pub use Rattle.wiki_expand.specs.Pages as WikiExpandPages
+pub use Rattle.wiki_expand.specs.WikiPagesEntries as WikiPagesEntries
+pub use Rattle.wiki_expand.specs.WikiPagesPages as WikiPagesPages
 pub mod Seen
 pub mod Tasks
 pub mod Going

@@ -8,7 +8,7 @@ use Rattle.mw_frame.specs.declared.question.Ask.{Ask}
 use Rattle.mw_frame.specs.declared.scene.Job.{Job}
 use Rattle.wiki_expand.specs.ExpandMeaningOutcome.{Work as PageWork}
 use Rattle.wiki_expand.specs.declared.expander.Expander.{Expander}
-use Rattle.wiki_expand.specs.Pages.{setting_in}
+use Rattle.wiki_expand.specs.WikiPagesPages.{setting_in}
 use Rattle.wiki_expand.specs.Standing.{At, Waits as ExpanderWaits, IsReady, IsWaiting, setting_of, depth_in, templates_in}
 use Rattle.lua_code.specs.LuaMeaningWorld.{Modules}
 use Rattle.page_ground.specs.LuaMeaningQuestions.{Answer}

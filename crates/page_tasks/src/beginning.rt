@@ -3,7 +3,7 @@ ghost use Rattle.std.specs.Prelude.{◌≡◌, true, IsSome, IfSome, IfOk};
 ghost use Rattle.mw_frame.specs.Scenes.{HaveNames, NamesDiffer};
 ghost use Rattle.lua_code.specs.WkBaseTitles.{is_module};
 ghost use Rattle.wiki_expand.specs.ExpandMeaningOutcome.{Reading};
-ghost use Rattle.wiki_expand.specs.Pages.{find_page};
+ghost use Rattle.wiki_expand.specs.WikiPagesPages.{find_page};
 ghost use Rattle.wiki_expand.specs.Standing.{IsHeldSource, work_of};
 ghost use Rattle.page_ground.specs.LuaMeaningStart.{Invoke, DataOf};
 ghost use Rattle.lua_machine.specs.LuaStackOf.{WorkOf};

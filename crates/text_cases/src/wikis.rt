@@ -10,7 +10,7 @@
 //! are read in each text by itself, so a tab in one is written `\t`.
 ghost use Rattle.std.specs.Prelude.{◌≡◌, ◌+◌, ◌<◌, ◌^◌, IfOk, OnOk, None};
 ghost use Rattle.wiki_markup.specs.Formed.{IsMarked};
-ghost use Rattle.wiki_expand.specs.Pages.{find_page};
+ghost use Rattle.wiki_pages.specs.Pages.{find_page};
 ghost use Rattle.wiki_expand.specs.Standing.{IsHeldSource, IsReady, IsWaiting, IsAfter, depth_in, templates_in};
 
 use crate::expansion::titled;
@@ -21,8 +21,9 @@ use case_text::unescaped;
 use expand_texts::Namespace;
 use mw_frame::{Bytes, List, Scene, Title};
 use std::alloc::Global;
-use wiki_expand::{Entry, Expander, Left, Move, PageMap, Source, laws};
+use wiki_expand::{Expander, Left, Move, Source, laws};
 use wiki_markup::{Marked, Mode, NoMemory, markup, shown};
+use wiki_pages::{Entry, PageMap};
 
 /// What a row `wiki` comes to.
 pub(crate) fn answer(alloc: Global, text: &str) -> Result<Vec<u8>, NoMemory> {

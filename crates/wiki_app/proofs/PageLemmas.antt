@@ -3,8 +3,8 @@ use Rattle.std.proofs.Common.{◌≡◌, ◌∙◌, List, [], ◌∷◌, refl, s
 use Rattle.std.specs.Prelude.{Option, Some, None, All, IsSome}
 use Rattle.std.proofs.lemmas.List.Elements.{All-nil, All-cons}
 use Rattle.wk_base.specs.declared.title.Title.{Title}
-use Rattle.wiki_expand.specs.Entries.{Entry}
-use Rattle.wiki_expand.specs.Pages.{Pages, find_page}
+use Rattle.wiki_pages.specs.Entries.{Entry}
+use Rattle.wiki_pages.specs.Pages.{Pages, find_page}
 use Rattle.wk_tool.specs.declared.report.Report.{Report}
 use Rattle.wk_tool.specs.Report.{missing_report}
 use Rattle.wiki_app.specs.Pages.{first_missing}

@@ -16,7 +16,7 @@ use Rattle.wiki_output.specs.declared.made.Form.{Form}
 use Rattle.wiki_output.specs.declared.made.Form.TheVariants.{Alone, Blocks, Summary}
 use Rattle.wiki_output.specs.Choice.{shown_titles, all_titles}
 use Rattle.wiki_output.specs.Demo.{demo_pages}
-use Rattle.wiki_expand.specs.Pages.{Pages, find_page}
+use Rattle.wiki_pages.specs.Pages.{Pages, find_page}
 use Rattle.wiki_batch.specs.PageDriverDeclaredWikiPage.{Page}
 use Rattle.wiki_batch.specs.WikiTextsDeclaredRawRawPage.{RawPage}
 

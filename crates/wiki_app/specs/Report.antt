@@ -16,7 +16,7 @@ use Rattle.wiki_words.specs.declared.settings.Settings.{Settings}
 use Rattle.wiki_words.specs.Command.{command_of}
 use Rattle.wiki_output.specs.declared.made.Form.{Form}
 use Rattle.wiki_output.specs.Report.{done_report}
-use Rattle.wiki_expand.specs.Pages.{Pages}
+use Rattle.wiki_pages.specs.Pages.{Pages}
 use Rattle.wiki_batch.specs.LuaMeaningWorld.{Modules}
 use Rattle.wiki_batch.specs.WikiTextsDeclaredRawRawPage.{RawPage}
 use Rattle.wiki_batch.specs.WikiTextsPages.{page_map}

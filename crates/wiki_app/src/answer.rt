@@ -3,7 +3,7 @@ ghost use Rattle.std.specs.Prelude.{◌≡◌, ◌≤◌, All, Ok, IfOk, IsSome}
 ghost use Rattle.wk_base.specs.Allowances.{IsCountable};
 ghost use Rattle.wiki_batch.specs.LuaMeaningWorld.{Modules as PlainModules};
 ghost use Rattle.wiki_batch.specs.WikiTextsModules.{AreMeantBy};
-ghost use Rattle.wiki_expand.specs.Pages.{find_page};
+ghost use Rattle.wiki_pages.specs.Pages.{find_page};
 ghost use Rattle.wiki_batch.specs.Batch.{AreOf};
 ghost use Rattle.wiki_app.specs.Report.{pages_report, titles_report, wiki_report, AreThere, IsReportOf, IsWork};
 

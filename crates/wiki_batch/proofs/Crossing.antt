@@ -15,8 +15,7 @@ use Rattle.lua_code.specs.contracts.proto.Proto as Proto
 use Rattle.lua_code.specs.contracts.proto.Protos as Protos
 use Rattle.lua_code.specs.contracts.modules.Module as Module
 use Rattle.lua_code.specs.contracts.modules.Modules as Modules
-use Rattle.wiki_texts.specs.WikiExpandContractsPagesEntry as Entry
-use Rattle.wiki_texts.specs.WikiExpandContractsPagesPageMap as PageMap
+use Rattle.wiki_texts.proofs.WikiPagesCrossing.{PageMap-sync}
 use Rattle.wiki_texts.specs.contracts.prepared.Prepared as Prepared
 use Rattle.page_driver.specs.contracts.wiki.Wiki as Wiki
 
@@ -61,16 +60,7 @@ Module-sync = let f = Module-field in search sendable
 pub Modules-sync : IsSync Modules.the_row
 Modules-sync = let e = Module-field in let r = Module-sync in search (crosses, sendable) depth 60 fits 20000
 
--- ---- pages
-
-pub Entry-field : IsSync (Entry.the_field).row
-Entry-field = search (crosses, sendable) depth 60 fits 20000
-
-pub Entry-sync : IsSync Entry.the_row
-Entry-sync = let f = Entry-field in search sendable
-
-pub PageMap-sync : IsSync PageMap.the_row
-PageMap-sync = let e = Entry-field in let r = Entry-sync in search (crosses, sendable) depth 60 fits 20000
+-- ---- a wiki
 
 pub Wiki-sync : IsSync Wiki.the_row
 Wiki-sync = let p = PageMap-sync in let m = Modules-sync in search sendable depth 60 fits 20000

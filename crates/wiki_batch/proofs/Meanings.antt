@@ -2,7 +2,7 @@
 use Rattle.std.proofs.Common.{◌≡◌, ◌∙◌, refl, sym, ap, List, is_some}
 use Rattle.wk_base.specs.declared.title.Title.{Title}
 use Rattle.wk_base.specs.Titles.{title_text}
-use Rattle.wiki_texts.specs.WikiExpandPages.{Pages, find_page}
+use Rattle.wiki_texts.specs.WikiPagesPages.{Pages, find_page}
 use Rattle.wiki_texts.specs.LuaMeaningWorld.{Modules}
 use Rattle.lua_code.specs.Held.{TitledModules, modules_seen}
 use Rattle.page_driver.specs.Ground.{AreModulesIn}

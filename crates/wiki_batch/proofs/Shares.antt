@@ -7,7 +7,7 @@ use Rattle.wk_base.specs.declared.left.Left.{Left}
 use Rattle.wk_base.specs.declared.left.Limits.{Limits}
 use Rattle.wk_base.specs.declared.title.Title.{Title}
 use Rattle.wiki_texts.specs.WikiMarkupTrees.{Trees}
-use Rattle.wiki_texts.specs.WikiExpandPages.{Pages, direct_in}
+use Rattle.wiki_texts.specs.WikiPagesPages.{Pages, direct_in}
 use Rattle.wiki_texts.specs.LuaMeaningWorld.{Modules}
 use Rattle.page_driver.specs.Ground.{wiki_in}
 use Rattle.page_driver.specs.Page.{full_of, IsHeldPage}

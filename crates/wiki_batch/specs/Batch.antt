@@ -4,7 +4,7 @@ use Rattle.std.specs.List.{filter_map}
 use Rattle.wk_base.specs.declared.left.Limits.{Limits}
 use Rattle.wk_base.specs.declared.title.Title.{Title}
 use Rattle.wiki_texts.specs.WikiMarkupTrees.{Trees}
-use Rattle.wiki_texts.specs.WikiExpandPages.{Pages, direct_in}
+use Rattle.wiki_texts.specs.WikiPagesPages.{Pages, direct_in}
 use Rattle.wiki_texts.specs.LuaMeaningWorld.{Modules}
 use Rattle.page_driver.specs.PageMeaningPage.{page}
 use Rattle.page_driver.specs.declared.wiki.Page.{Page}

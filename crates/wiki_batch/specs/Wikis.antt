@@ -2,7 +2,7 @@
 use Rattle.std.specs.Prelude.{◌≡◌, true, is_some}
 use Rattle.wk_base.specs.declared.title.Title.{Title}
 use Rattle.wk_base.specs.Titles.{is_module}
-use Rattle.wiki_texts.specs.WikiExpandPages.{Pages, find_page}
+use Rattle.wiki_texts.specs.WikiPagesPages.{Pages, find_page}
 use Rattle.lua_code.specs.Held.{TitledModules, find_module}
 
 -- the modules that are held are the pages of namespace Module that are

@@ -1,7 +1,7 @@
 //! Many pages of a wiki, each expanded by itself.
 ghost use Rattle.std.specs.Prelude.{◌≡◌, ℕ, ◌≤◌, ◌<◌, ◌*◌, All, IfOk, IsSome, length};
 ghost use Rattle.wk_base.specs.Allowances.{IsCountable};
-ghost use Rattle.wiki_texts.specs.WikiExpandPages.{find_page};
+ghost use Rattle.wiki_texts.specs.WikiPagesPages.{find_page};
 ghost use Rattle.wiki_batch.specs.Batch.{IsPage, ArePages};
 ghost use Rattle.wiki_batch.specs.Shares.{share_at, AreShares};
 

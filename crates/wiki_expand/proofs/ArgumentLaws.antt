@@ -4,7 +4,7 @@ use Rattle.wiki_markup.specs.WkBaseSpace.{trim}
 use Rattle.mw_frame.specs.declared.scene.Scene.{Scene}
 use Rattle.wiki_markup.specs.Trees.{Trees}
 use Rattle.expand_texts.specs.ExpandMeaningExpand.{Setting, expand}
-use Rattle.wiki_expand.specs.Forests.{size}
+use Rattle.wiki_pages.specs.Forests.{size}
 use Rattle.wiki_expand.specs.Points.{plug, point, calling, with_name}
 use Rattle.wiki_expand.specs.Weights.{levels, bodies, chances, weights}
 use Rattle.wiki_expand.specs.Steps.{Puts}

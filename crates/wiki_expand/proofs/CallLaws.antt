@@ -1,7 +1,7 @@
 -- The points of arguments, templates and bodies.
 use Rattle.std.proofs.Common.{◌≡◌, ℕ, ◌-◌, ◌<◌, Bool, true, false, List, [], ◌∷◌, Option, Some, None, refl, sym, ap, ◌∙◌}
 use Rattle.page_run.specs.WkBaseDeclaredLeftLeft.{Left}
-use Rattle.mw_frame.specs.WkBaseDeclaredTitleTitle.{Title}
+use Rattle.wiki_pages.specs.WkBaseDeclaredTitleTitle.{Title}
 use Rattle.wiki_markup.specs.Trees.{Trees}
 use Rattle.mw_frame.specs.declared.scene.Arg.{Arg}
 use Rattle.mw_frame.specs.declared.scene.Scene.{Scene}
@@ -9,9 +9,9 @@ use Rattle.page_run.specs.Run.{HasTemplate, Uses}
 use Rattle.page_run.specs.Part.{give}
 use Rattle.page_run.specs.Perform.{perform, wait}
 use Rattle.expand_texts.specs.ExpandMeaningTexts.{depth_text}
-use Rattle.expand_texts.specs.ExpandMeaningPlaces.{value_in}
+use Rattle.wiki_pages.specs.ExpandMeaningPlaces.{value_in}
 use Rattle.expand_texts.specs.ExpandMeaningExpand.{Setting, Page, Doing, choice, expand, onward, argument, arguments, none_given, invocation, is_in, template_body, template, value_or, thing_text}
-use Rattle.wiki_expand.specs.Forests.{parts}
+use Rattle.wiki_pages.specs.Forests.{parts}
 use Rattle.wiki_expand.specs.Points.{ahead, leaving, plug, finish, given_in, state, Leads}
 use Rattle.wiki_expand.specs.declared.frame.Walk.{Walk}
 use Rattle.wiki_expand.specs.declared.frame.Call.{Call}

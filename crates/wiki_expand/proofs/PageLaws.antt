@@ -2,13 +2,13 @@
 use Rattle.std.proofs.Common.{◌≡◌, Bool, true, false, cond, List, [], ◌∷◌, ◌++◌, Option, Some, None, option_map, refl, ap, ◌∙◌, rules}
 use Rattle.std.specs.Cmp.Rules.{comparing}
 use Rattle.std.specs.Map.{lookup}
-use Rattle.mw_frame.specs.WkBaseDeclaredTitleTitle.{Title}
-use Rattle.page_run.specs.WkBaseContractsTitleTitlePartialEqTheImpl as titles
+use Rattle.wiki_pages.specs.WkBaseDeclaredTitleTitle.{Title}
+use Rattle.wiki_pages.specs.WkBaseContractsTitleTitlePartialEqTheImpl as titles
 use Rattle.wiki_markup.specs.declared.marked.ShownText.{ShownText}
 use Rattle.wiki_markup.specs.Trees.{pairing, marked_of}
-use Rattle.wiki_expand.specs.Entries.{Entry}
-use Rattle.expand_texts.specs.ExpandMeaningPlaces.{trees_at}
-use Rattle.wiki_expand.specs.Pages.{Pages, find_page, direct_of, included_of, direct_in, included_in}
+use Rattle.wiki_pages.specs.Entries.{Entry}
+use Rattle.wiki_pages.specs.ExpandMeaningPlaces.{trees_at}
+use Rattle.wiki_pages.specs.Pages.{Pages, find_page, direct_of, included_of, direct_in, included_in}
 use Rattle.expand_texts.proofs.ExpandMeaningReadLaws.{pairing_back}
 
 title_itself : (t : Title) → titles.ghosts.eq t t ≡ true

@@ -7,11 +7,11 @@ use Rattle.wiki_markup.specs.Nodes.{Construct as ConstructKind, Parameter as Par
 use Rattle.expand_texts.specs.ExpandMeaningTexts.{node_text}
 use Rattle.mw_frame.specs.declared.scene.Scene.{Scene}
 use Rattle.expand_texts.specs.ExpandMeaningKind.{kind_of}
-use Rattle.expand_texts.specs.ExpandMeaningPlaces.{parts_in, part_in, first_in, others_in, no_part, name_in}
+use Rattle.wiki_pages.specs.ExpandMeaningPlaces.{parts_in, part_in, first_in, others_in, no_part, name_in}
 use Rattle.expand_texts.specs.ExpandMeaningExpand.{Setting, AConstruct, AParameter, Page, onward, expand, found, value_or, by_kind, construct, parameter}
-use Rattle.wiki_expand.specs.Forests.{trees_in, parts}
+use Rattle.wiki_pages.specs.Forests.{trees_in, parts}
 use Rattle.wiki_expand.specs.Points.{ahead, plug, leaving}
-use Rattle.wiki_expand.specs.declared.forest.Forest.{Forest}
+use Rattle.wiki_pages.specs.declared.forest.Forest.{Forest}
 use Rattle.wiki_expand.specs.declared.frame.Walk.{Walk}
 use Rattle.wiki_expand.specs.declared.frame.Frame.{Frame}
 use Rattle.wiki_expand.specs.declared.frame.Frame.TheVariants.{Level, Parameter, First}

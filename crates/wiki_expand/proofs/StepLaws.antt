@@ -1,15 +1,15 @@
 -- Steps after one another, and steps that open a construct or a parameter.
 use Rattle.std.proofs.Common.{◌≡◌, ℕ, ◌+◌, ◌*◌, ◌<◌, ◌≤◌, List, ◌∷◌, refl, ap, arith}
 use Rattle.page_run.specs.WkBaseDeclaredLeftLeft.{Left}
-use Rattle.mw_frame.specs.WkBaseDeclaredTitleTitle.{Title}
+use Rattle.wiki_pages.specs.WkBaseDeclaredTitleTitle.{Title}
 use Rattle.mw_frame.specs.declared.scene.Arg.{Arg}
 use Rattle.mw_frame.specs.declared.scene.Scene.{Scene}
 use Rattle.expand_texts.specs.ExpandMeaningExpand.{Setting, Page}
-use Rattle.wiki_expand.specs.Forests.{size}
+use Rattle.wiki_pages.specs.Forests.{size}
 use Rattle.wiki_expand.specs.Points.{wiki_setting, plug, point, scene_in, waiting, run_at, Leads, Takes_of}
 use Rattle.wiki_expand.specs.Weights.{level, levels, body_count, bodies, chances, weights, allowed, point_weight, Keeps, Falls, Calm}
 use Rattle.wiki_expand.specs.Steps.{StepIs, Puts}
-use Rattle.wiki_expand.specs.declared.forest.Forest.{Forest}
+use Rattle.wiki_pages.specs.declared.forest.Forest.{Forest}
 use Rattle.wiki_expand.specs.declared.frame.Wiki.{Wiki}
 use Rattle.wiki_expand.specs.declared.frame.Machine.{Machine}
 use Rattle.wiki_expand.specs.declared.frame.Walk.{Walk}

@@ -3,7 +3,7 @@ use Rattle.std.specs.Prelude.{◌≡◌, IsSome}
 use Rattle.mw_frame.specs.WkBaseDeclaredTitleNamespaceTheVariants.{Module}
 use Rattle.mw_frame.specs.declared.scene.Job.{Job}
 use Rattle.mw_frame.specs.Scenes.{HaveNames}
-use Rattle.wiki_expand.specs.Pages.{Pages, find_page}
+use Rattle.wiki_pages.specs.Pages.{Pages, find_page}
 use Rattle.wiki_expand.specs.declared.frame.Progress.{Progress}
 use Rattle.wiki_expand.specs.declared.frame.Progress.TheVariants.{On, Deeper, Asks}
 

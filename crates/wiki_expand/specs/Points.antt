@@ -2,7 +2,7 @@
 use Rattle.std.specs.Prelude.{◌≡◌, ℕ, ◌+◌, cond, List, [], ◌∷◌, ◌++◌, length, codes, decimal}
 use Rattle.wiki_markup.specs.WkBaseSpace.{trim}
 use Rattle.page_run.specs.WkBaseDeclaredLeftLeft.{Left}
-use Rattle.mw_frame.specs.WkBaseDeclaredTitleTitle.{Title}
+use Rattle.wiki_pages.specs.WkBaseDeclaredTitleTitle.{Title}
 use Rattle.mw_frame.specs.WkBaseDeclaredTitleNamespaceTheVariants.{Module}
 use Rattle.wiki_markup.specs.Trees.{Trees}
 use Rattle.mw_frame.specs.declared.scene.Arg.{Arg}
@@ -13,10 +13,10 @@ use Rattle.page_run.specs.State.{Tally, Reply, State}
 use Rattle.page_run.specs.Perform.{perform, wait}
 use Rattle.expand_texts.specs.ExpandMeaningTexts.{node_text, size_text, are_equal}
 use Rattle.expand_texts.specs.ExpandMeaningKind.{kind_of, title_named}
-use Rattle.expand_texts.specs.ExpandMeaningPlaces.{part_in, no_part, name_in}
+use Rattle.wiki_pages.specs.ExpandMeaningPlaces.{part_in, no_part, name_in}
 use Rattle.expand_texts.specs.ExpandMeaningExpand.{Setting, Thing, Page, Doing, Given, Looking, onward, expand, all_parts, put, found, arguments, value_or, either, by_name, valueless, after_turn, switch, module_titled, invocation, template_body, by_kind, thing_text}
-use Rattle.wiki_expand.specs.Forests.{trees_in, parts}
-use Rattle.wiki_expand.specs.Pages.{setting_in}
+use Rattle.wiki_pages.specs.Forests.{trees_in, parts}
+use Rattle.wiki_pages.specs.Pages.{setting_in}
 use Rattle.wiki_expand.specs.declared.frame.Wiki.{Wiki}
 use Rattle.wiki_expand.specs.declared.frame.Machine.{Machine}
 use Rattle.wiki_expand.specs.declared.frame.Inner.{Inner}

@@ -1,18 +1,18 @@
 -- An expander at a point of a run.
 use Rattle.std.specs.Prelude.{◌≡◌, ℕ, ◌<◌, ◌≤◌, List, [], ◌∷◌, ◌++◌, Option, Some, None, IsSome, option_map}
 use Rattle.page_run.specs.WkBaseDeclaredLeftLeft.{Left}
-use Rattle.mw_frame.specs.WkBaseDeclaredTitleTitle.{Title}
+use Rattle.wiki_pages.specs.WkBaseDeclaredTitleTitle.{Title}
 use Rattle.mw_frame.specs.declared.scene.Scene.{Scene}
 use Rattle.mw_frame.specs.Scenes.{HaveNames}
 use Rattle.wiki_markup.specs.Trees.{Trees}
 use Rattle.page_run.specs.Run.{Run, Ends}
 use Rattle.page_run.specs.State.{Tally, Gives, Reply}
 use Rattle.page_run.specs.Perform.{perform, wait}
-use Rattle.expand_texts.specs.ExpandMeaningPlaces.{trees_at}
+use Rattle.wiki_pages.specs.ExpandMeaningPlaces.{trees_at}
 use Rattle.expand_texts.specs.ExpandMeaningExpand.{Setting, Page, expand, template_body, thing_text}
 use Rattle.expand_texts.specs.ExpandMeaningOutcome.{Work, Reading, Including, next_event, Comes, Asks}
-use Rattle.wiki_expand.specs.Pages.{Pages, find_page, direct_in, included_in}
-use Rattle.wiki_expand.specs.Forests.{trees_in}
+use Rattle.wiki_pages.specs.Pages.{Pages, find_page, direct_in, included_in}
+use Rattle.wiki_pages.specs.Forests.{trees_in}
 use Rattle.wiki_expand.specs.Points.{wiki_setting, plug, point, run_at, waiting as waiting_in, scene_in, state, Leads}
 use Rattle.wiki_expand.specs.declared.frame.Wiki.{Wiki}
 use Rattle.wiki_expand.specs.declared.frame.Machine.{Machine}

@@ -1,7 +1,7 @@
 -- What a stack has in progress, and why an expander comes to an end.
 use Rattle.std.specs.Prelude.{◌≡◌, ℕ, ◌+◌, ◌*◌, ◌<◌, ◌≤◌, List, [], ◌∷◌}
 use Rattle.page_run.specs.WkBaseDeclaredLeftLeft.{Left}
-use Rattle.wiki_expand.specs.Forests.{size}
+use Rattle.wiki_pages.specs.Forests.{size}
 use Rattle.wiki_expand.specs.declared.frame.Frame.{Frame}
 use Rattle.wiki_expand.specs.declared.frame.Frame.TheVariants.{Walk as Walking, Level, Trim, Parameter, First, Written, Compare, Case, Valueless, Function, Unnamed, Name, Value, Body}
 use Rattle.wiki_expand.specs.declared.frame.Focus.{Focus}

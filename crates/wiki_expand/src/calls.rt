@@ -3,22 +3,20 @@ ghost use Rattle.std.specs.Prelude.{◌≡◌, ◌+◌, ◌*◌, ◌≤◌, ◌�
 ghost use Rattle.mw_frame.specs.declared.scene.Scene.{Scene as SceneValue};
 ghost use Rattle.mw_frame.specs.Scenes.{HaveNames, NamesDiffer};
 ghost use Rattle.page_run.specs.WkBaseDeclaredLeftLeft.{Left as LeftOver};
-ghost use Rattle.mw_frame.specs.WkBaseDeclaredTitleTitle.{Title as TitleValue};
+ghost use Rattle.wiki_pages.specs.WkBaseDeclaredTitleTitle.{Title as TitleValue};
 ghost use Rattle.wiki_markup.specs.WkBaseSpace.{trim};
 ghost use Rattle.expand_texts.specs.ExpandMeaningKind.{title_named as title_at};
 ghost use Rattle.expand_texts.specs.ExpandMeaningTexts.{loop_text as text_of_loop, missing_text as text_of_missing, no_function_text as text_of_no_function, no_module_text as text_of_no_module};
 ghost use Rattle.expand_texts.specs.ExpandMeaningExpand.{Setting, Page, Given, none_given, put, expand, arguments as arguments_of, invocation as invocation_of, invoke as invoke_of, job_of as job_with, module_titled, template_body as body_of, template as template_of};
 ghost use Rattle.wiki_expand.specs.declared.frame.Frame.{Frame as Waiting};
-ghost use Rattle.wiki_expand.specs.Forests.{trees_in, parts, size, option_trees};
-ghost use Rattle.wiki_expand.specs.Pages.{Pages, find_page, included_in, setting_in};
+ghost use Rattle.wiki_pages.specs.Forests.{trees_in, parts, size, option_trees};
+ghost use Rattle.wiki_pages.specs.Pages.{Pages, find_page, included_in, setting_in};
 ghost use Rattle.wiki_expand.specs.Points.{plug, waiting, run_at, scene_in, wiki_setting, finish as finish_of, calling, given_in, unnamed as unnamed_of, with_name, Leads};
 ghost use Rattle.wiki_expand.specs.Weights.{allowed, weights, Keeps};
 ghost use Rattle.wiki_expand.specs.Steps.{StepIs, Puts};
 
 use crate::allowances::{enter_body, has_template};
-use crate::forest::{Forest, Nodes};
 use crate::frame::{Call, Focus, Frame, Inner, Machine, Progress, Purpose, Wiki};
-use crate::pages::PageMap;
 use crate::walk::{fixed, walk, walk_name};
 use expand_texts::Namespace;
 use expand_texts::arguments::Arguments;
@@ -32,6 +30,7 @@ use mw_frame::{Bytes, Job, Left, Scene, Title};
 use std::alloc::Global;
 use std::mem::replace;
 use wiki_markup::NoMemory;
+use wiki_pages::{Forest, PageMap};
 
 /// A text that was made here.
 pub fn made<'w>(alloc: Global, text: Vec<u8>) -> Result<Rope<'w>, NoMemory>
@@ -308,7 +307,7 @@ fn included<'w>(pages: &'w PageMap, title: &Title) -> Option<Forest<'w>>
     ensures { option_trees result ≡ included_in pages.now title.now }
 {
     match pages.get(title) {
-        Some(entry) => Some(Forest::all(Nodes::Held(entry.transcluded()))),
+        Some(entry) => Some(entry.included()),
         None => None,
     }
 }

@@ -6,17 +6,15 @@ ghost use Rattle.wiki_expand.specs.declared.frame.Frame.{Frame as Waiting};
 ghost use Rattle.expand_texts.specs.ExpandMeaningExpand.{Setting};
 ghost use Rattle.page_run.specs.WkBaseDeclaredLeftLeft.{Left as LeftOver};
 ghost use Rattle.page_run.specs.State.{Reply, Gives};
-ghost use Rattle.wiki_expand.specs.Pages.{setting_in, direct_in};
+ghost use Rattle.wiki_pages.specs.Pages.{setting_in, direct_in};
 ghost use Rattle.wiki_expand.specs.Points.{wiki_setting, plug, run_at, scene_in};
 ghost use Rattle.wiki_expand.specs.Weights.{levels, bodies, allowed, Keeps};
 ghost use Rattle.expand_texts.specs.ExpandMeaningOutcome.{Work};
-ghost use Rattle.wiki_expand.specs.Forests.{trees_in};
+ghost use Rattle.wiki_pages.specs.Forests.{trees_in};
 ghost use Rattle.wiki_expand.specs.Standing.{ready, LeadsIf, IsDoing, doing_point, work_from, work_page, IsHeldSource, Moves, Pauses, PauseFalls, PauseAsks, At, Waits, IsMove, MoveAsks, MoveFalls, IsReady, IsWaiting, IsAfter, setting_of, work_of, depth_in, templates_in, allowed_in};
 
 use crate::calls::made;
-use crate::forest::{Forest, Nodes};
 use crate::frame::{Focus, Inner, Machine, Pause, Progress, Wiki};
-use crate::pages::PageMap;
 use crate::walk::walk;
 use expand_texts::arguments::Arguments;
 use expand_texts::stack::Stack;
@@ -24,8 +22,8 @@ use mw_frame::{Arg, Bytes, Job, Left, Scene, Title};
 use std::alloc::Global;
 use std::hash::RandomState;
 use std::mem::replace;
-use std::rc::Rc;
 use wiki_markup::{Marked, NoMemory};
+use wiki_pages::{Forest, PageMap};
 
 /// What is expanded: the text of a page, the text of a page as it is included, or a text of its own.
 #[derive(Drop)]
@@ -167,22 +165,16 @@ fn read_source<'w>(
     match source {
         Source::Page(title) => match pages.get(&title) {
             None => unreachable!(),
-            Some(entry) => {
-                let nodes = Nodes::Held(entry.direct());
-                Ok((Forest::all(nodes), None))
-            }
+            Some(entry) => Ok((entry.direct(), None)),
         },
         Source::Template(title) => match pages.get(&title) {
             None => unreachable!(),
-            Some(entry) => {
-                let nodes = Nodes::Held(entry.transcluded());
-                Ok((Forest::all(nodes), Some(title)))
-            }
+            Some(entry) => Ok((entry.included(), Some(title))),
         },
-        Source::Text(text) => match Rc::new(alloc, text) {
-            Ok(text) => Ok((Forest::all(Nodes::Own(text)), None)),
-            Err(_) => Err(NoMemory),
-        },
+        Source::Text(text) => {
+            let trees = Forest::own(alloc, text)?;
+            Ok((trees, None))
+        }
     }
 }
 

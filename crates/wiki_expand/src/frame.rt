@@ -1,11 +1,10 @@
 //! What the expander does next, and what waits for a text.
-use crate::forest::Forest;
-use crate::pages::PageMap;
 use expand_texts::arguments::Arguments;
 use expand_texts::rope::Rope;
 use expand_texts::stack::Stack;
 use mw_frame::{Bytes, Job, Title};
 use std::alloc::Global;
+use wiki_pages::{Forest, PageMap};
 
 /// What stays while a page is expanded: the pages, and the title of the one that is expanded.
 #[derive(Drop)]

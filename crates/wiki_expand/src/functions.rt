@@ -1,16 +1,17 @@
 //! The parser functions `#if`, `#ifeq` and `#switch`, and constructs that stand as they are written.
-ghost use Rattle.std.specs.Prelude.{◌≡◌, ◌+◌, ◌*◌, ◌≤◌, ◌∷◌, ◌++◌, false, cond, codes, IfOk};
+ghost use Rattle.std.specs.Prelude.{◌≡◌, ◌+◌, ◌*◌, ◌≤◌, ◌∷◌, ◌++◌, false, cond, codes, IfOk, OnOk};
 ghost use Rattle.wiki_markup.specs.WkBaseSpace.{trim};
 ghost use Rattle.expand_texts.specs.ExpandMeaningTexts.{are_equal as are_equal_to};
 ghost use Rattle.expand_texts.specs.ExpandMeaningExpand.{expand, trimmed, either as either_of, is_text as is_text_of, if_equal as if_equal_of, is_default as is_default_of, by_name, after_turn, valueless as valueless_of, switch as switch_of, nothing_seen, all_parts};
-ghost use Rattle.expand_texts.specs.ExpandMeaningPlaces.{no_part};
+ghost use Rattle.wiki_pages.specs.ExpandMeaningPlaces.{no_part};
 ghost use Rattle.expand_texts.specs.Ropes.{bytes_of};
-ghost use Rattle.wiki_expand.specs.Forests.{trees_in, parts, size};
+ghost use Rattle.wiki_pages.specs.Forests.{trees_in, parts, size, option_size};
+ghost use Rattle.wiki_pages.specs.Furthers.{default_or, LeadsTo};
 ghost use Rattle.wiki_expand.specs.Points.{seen_in};
 ghost use Rattle.wiki_expand.specs.Weights.{weights};
+ghost use Rattle.wiki_expand.specs.Skips.{SkipsTo};
 ghost use Rattle.wiki_expand.specs.Steps.{Puts};
 
-use crate::forest::Forest;
 use crate::frame::{Focus, Frame, Seen, Switch, Walk};
 use crate::walk::{fixed, walk, walk_name};
 use expand_texts::equality::are_equal;
@@ -20,6 +21,7 @@ use expand_texts::stack::Stack;
 use expand_texts::trim;
 use std::alloc::Global;
 use wiki_markup::NoMemory;
+use wiki_pages::{Forest, Further, go_further, is_default};
 
 /// A part whose ends are trimmed.
 fn trimmed_part<'w>(
@@ -86,8 +88,69 @@ pub fn compare<'w>(
     either(alloc, stack, first, branches)
 }
 
-/// A `#switch` looks at its next part.
+/// A default that was set on the way takes the place of the one before.
+fn set_default<'w>(held: &mut Forest<'w>, default: Option<Forest<'w>>)
+    ensures trees { trees_in held.new ≡ default_or default.entry (trees_in held.old) }
+    ensures size { size held.new ≤ option_size default.entry + size held.old }
+{
+    match default {
+        Some(default) => {
+            *held = default;
+        }
+        None => {}
+    }
+}
+
+/// A `#switch` goes on there.
+fn skip_to<'w>(state: &mut Switch<'w>, further: Further<'w>)
+    requires unmet { state.old.seen.met ≡ false }
+    requires calm { state.old.seen.waits ≡ false }
+    requires leads { LeadsTo state.old.value.items state.old.rest further }
+    ensures { SkipsTo state.old state.new }
+{
+    let Further {
+        rest,
+        met,
+        waits,
+        default,
+    } = further;
+    state.rest = rest;
+    state.seen.met = met;
+    state.seen.waits = waits;
+    set_default(&mut state.seen.default, default);
+}
+
+/// A `#switch` goes on behind the parts that cannot decide, where it is known which these are.
+fn skip(state: &mut Switch<'_>) -> Result<(), NoMemory>
+    ensures { OnOk result (SkipsTo state.old state.new) }
+{
+    if state.seen.met || state.seen.waits {
+        return Ok(());
+    }
+    match go_further(&state.rest, &state.value)? {
+        Some(further) => {
+            skip_to(state, further);
+            Ok(())
+        }
+        None => Ok(()),
+    }
+}
+
+/// A `#switch` goes on with the parts to come.
 pub fn switch<'w>(
+    alloc: Global,
+    stack: &mut Stack<Frame<'w>>,
+    state: Switch<'w>,
+) -> Result<Focus<'w>, NoMemory>
+    ensures { IfOk result (λ f. Puts (λ w sc k. switch_of state.entry.value.items (parts state.entry.rest) sc (seen_in state.entry.seen) k) 0 (16 * size state.entry.rest + 8 * size state.entry.seen.default + 16 + weights stack.old) stack.old f stack.new) }
+{
+    let mut state = state;
+    skip(&mut state)?;
+    next_part(alloc, stack, state)
+}
+
+/// A `#switch` looks at its next part.
+fn next_part<'w>(
     alloc: Global,
     stack: &mut Stack<Frame<'w>>,
     state: Switch<'w>,
@@ -126,12 +189,6 @@ fn look_at<'w>(
             Ok(Focus::Walk(walk_name(alloc, part)))
         }
     }
-}
-
-fn is_default(name: &[u8]) -> bool
-    ensures { result ≡ is_default_of name.now }
-{
-    name == b"#default".as_slice()
 }
 
 /// A `#switch` goes on, with a default that may be new.

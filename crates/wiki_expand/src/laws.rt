@@ -1,10 +1,10 @@
 //! What holds of the definitions themselves: each function has an empty body, and its contract is the law.
 ghost use Rattle.std.specs.Prelude.{◌≡◌, [], ◌∷◌, ◌++◌, Some, None};
-ghost use Rattle.mw_frame.specs.WkBaseDeclaredTitleTitle.{Title};
+ghost use Rattle.wiki_pages.specs.WkBaseDeclaredTitleTitle.{Title};
 ghost use Rattle.wiki_markup.specs.declared.marked.ShownText.{ShownText};
 ghost use Rattle.wiki_markup.specs.Trees.{pairing, marked_of};
-ghost use Rattle.wiki_expand.specs.Entries.{Entry};
-ghost use Rattle.wiki_expand.specs.Pages.{Pages, find_page, direct_in, included_in};
+ghost use Rattle.wiki_pages.specs.Entries.{Entry};
+ghost use Rattle.wiki_pages.specs.Pages.{Pages, find_page, direct_in, included_in};
 
 /// A page that is added with the nodes of two shown texts is read, for itself and where it is included, as their pairings.
 pub fn pages_read_back()

@@ -3,14 +3,13 @@ ghost use Rattle.std.specs.Prelude.{◌≡◌, ◌+◌, ◌*◌, ◌<◌, ◌^�
 ghost use Rattle.expand_texts.specs.ExpandMeaningExpand.{Setting, Page, by_kind as kind_part};
 ghost use Rattle.expand_texts.specs.Kinds.{kind_in};
 ghost use Rattle.expand_texts.specs.Ropes.{bytes_of};
-ghost use Rattle.wiki_expand.specs.Forests.{parts, size};
+ghost use Rattle.wiki_pages.specs.Forests.{parts, size};
 ghost use Rattle.wiki_expand.specs.Points.{wiki_setting, scene_in, behind_first, leaving, waiting, resumed, Leads};
 ghost use Rattle.wiki_expand.specs.Weights.{level, body_count, chance, chances, allowed, weight, weights};
 ghost use Rattle.wiki_expand.specs.declared.frame.Frame.{Frame as Waiting};
 ghost use Rattle.wiki_expand.specs.Steps.{StepIs};
 
 use crate::calls::{invoke, made, name};
-use crate::forest::Forest;
 use crate::frame::{Focus, Frame, Inner, Machine, Progress, Wiki};
 use crate::functions::{
     begin_switch, begin_written, case, compare, either, if_equal, is_text, valueless, written,
@@ -24,6 +23,7 @@ use expand_texts::trim;
 use mw_frame::{Bytes, Left, Title};
 use std::alloc::Global;
 use wiki_markup::NoMemory;
+use wiki_pages::Forest;
 
 /// A construct or a parameter ends: its level is given back, and its bytes are taken.
 fn leave<'w>(alloc: Global, left: &mut Left, text: Rope<'w>) -> Result<Rope<'w>, NoMemory>

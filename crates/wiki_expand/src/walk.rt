@@ -4,21 +4,21 @@ ghost use Rattle.mw_frame.specs.declared.scene.Scene.{Scene};
 ghost use Rattle.page_run.specs.Run.{TakeBytes, Uses};
 ghost use Rattle.page_run.specs.Part.{open_or};
 ghost use Rattle.expand_texts.specs.ExpandMeaningTexts.{node_text as no_node, size_text as no_bytes};
-ghost use Rattle.expand_texts.specs.ExpandMeaningPlaces.{name_in};
+ghost use Rattle.wiki_pages.specs.ExpandMeaningPlaces.{name_in};
 ghost use Rattle.expand_texts.specs.ExpandMeaningExpand.{Setting, Thing, AConstruct, AParameter, Page, Doing, expand, onward, sized as sized_part, deeper, thing_text};
-ghost use Rattle.wiki_expand.specs.Forests.{trees_in, parts, size};
+ghost use Rattle.wiki_pages.specs.Forests.{trees_in, parts, size};
 ghost use Rattle.wiki_expand.specs.Points.{Leads, Opens_to, Takes_of, waiting, scene_in, ahead};
 ghost use Rattle.wiki_expand.specs.Steps.{StepIs};
 ghost use Rattle.wiki_expand.specs.Weights.{allowed, weights};
 
 use crate::allowances::{enter_level, take_bytes, take_node};
-use crate::forest::{Forest, Split};
 use crate::frame::{Entry, Focus, Frame, Machine, Progress, Walk, Wiki};
 use expand_texts::rope::{Piece, Rope};
 use expand_texts::texts::{depth_text, node_text, size_text};
 use mw_frame::Left;
 use std::alloc::Global;
 use wiki_markup::NoMemory;
+use wiki_pages::{Forest, Split};
 
 /// A text that is fixed.
 pub fn fixed<'w>(alloc: Global, text: &'w [u8]) -> Result<Rope<'w>, NoMemory>

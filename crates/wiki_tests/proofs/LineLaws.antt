@@ -10,7 +10,7 @@ use Rattle.page_run.specs.declared.which.Which.TheVariants.{Steps, Calls}
 use Rattle.wk_tool.specs.declared.report.Status.TheVariants.{Done as Printed, CaseFailed}
 use Rattle.wk_tool.specs.Report.{status_code}
 use Rattle.lua_meaning.specs.World.{Modules}
-use Rattle.wiki_expand.specs.Pages.{Pages}
+use Rattle.wiki_pages.specs.Pages.{Pages}
 use Rattle.expand_meaning.specs.Texts.{error_text, escape_byte}
 use Rattle.page_meaning.specs.declared.outcome.JobOutcome.{JobOutcome}
 use Rattle.page_meaning.specs.declared.outcome.JobOutcome.TheVariants.{Done, Failed, Spent}

@@ -9,7 +9,7 @@ use Rattle.mw_frame.specs.Scenes.{HaveNames}
 use Rattle.lua_syntax.specs.declared.fault.FaultAt.{FaultAt}
 use Rattle.lua_meaning.specs.World.{Modules}
 use Rattle.lua_meaning.specs.Start.{Invoke}
-use Rattle.wiki_expand.specs.Pages.{Pages}
+use Rattle.wiki_pages.specs.Pages.{Pages}
 use Rattle.page_meaning.specs.declared.outcome.JobOutcome.{JobOutcome}
 use Rattle.page_meaning.specs.Outcomes.{job_outcome}
 use Rattle.page_meaning.specs.Drive.{drive}

@@ -5,7 +5,7 @@ use Rattle.wk_base.specs.declared.left.Limits.{Limits}
 use Rattle.page_run.specs.declared.which.Which.{Which}
 use Rattle.wk_tool.specs.Report.{status_code}
 use Rattle.lua_meaning.specs.World.{Modules}
-use Rattle.wiki_expand.specs.Pages.{Pages}
+use Rattle.wiki_pages.specs.Pages.{Pages}
 use Rattle.page_meaning.specs.Told.{failure_text, spent_text}
 use Rattle.wiki_tests.specs.declared.tested.TestModule.{TestModule}
 use Rattle.wiki_tests.specs.Lines.{spent_message, lines_of}

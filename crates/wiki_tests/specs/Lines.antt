@@ -11,7 +11,7 @@ use Rattle.lua_syntax.specs.declared.fault.FaultAt.{FaultAt}
 use Rattle.lua_syntax.specs.FaultTexts.{fault_message}
 use Rattle.lua_meaning.specs.Start.{Invoke, escape_byte}
 use Rattle.lua_meaning.specs.World.{Modules}
-use Rattle.wiki_expand.specs.Pages.{Pages}
+use Rattle.wiki_pages.specs.Pages.{Pages}
 use Rattle.page_meaning.specs.declared.outcome.JobOutcome.{JobOutcome}
 use Rattle.page_meaning.specs.declared.outcome.JobOutcome.TheVariants.{Done, Failed, Spent}
 use Rattle.page_meaning.specs.Outcomes.{job_outcome}

@@ -6,7 +6,7 @@ use Rattle.wk_base.specs.declared.NoMemory.{NoMemory}
 use Rattle.wk_base.specs.declared.left.Limits.{Limits}
 use Rattle.wk_base.specs.declared.title.Title.{Title}
 use Rattle.lua_meaning.specs.World.{Modules}
-use Rattle.wiki_expand.specs.Pages.{Pages}
+use Rattle.wiki_pages.specs.Pages.{Pages}
 use Rattle.page_meaning.specs.declared.outcome.JobOutcome.{JobOutcome}
 use Rattle.wiki_batch.specs.PageDriverDeclaredWikiWiki.{Wiki}
 use Rattle.wiki_batch.specs.Batch.{AreOf}

@@ -5,7 +5,7 @@ use Rattle.wiki_markup.specs.declared.marked.ShownText.{ShownText}
 use Rattle.wiki_markup.specs.declared.marked.Mode.TheVariants.{Direct, Transcluded}
 use Rattle.wiki_markup.specs.Shown.{shown_of}
 use Rattle.wiki_markup.specs.Trees.{marked_of}
-use Rattle.wiki_expand.specs.Entries.{Entry}
+use Rattle.wiki_pages.specs.Entries.{Entry}
 use Rattle.wiki_texts.specs.Pages.{entry_of}
 
 abbrev pub held : List Node → List Node → Entry

@@ -5,8 +5,8 @@ use Rattle.std.specs.List.{starts_with}
 use Rattle.std.specs.Str.{bytes_eq}
 use Rattle.std.proofs.lemmas.Slice.Eq.{bytes_eq-Decides}
 use Rattle.wiki_markup.specs.WkBaseDeclaredTitleNamespace.{Namespace}
-use Rattle.wiki_expand.specs.WkBaseDeclaredTitleNamespaceTheVariants.{Module as ModuleNs}
-use Rattle.wiki_expand.specs.WkBaseDeclaredTitleTitle.{Title}
+use Rattle.lua_code.specs.WkBaseDeclaredTitleNamespaceTheVariants.{Module as ModuleNs}
+use Rattle.wiki_pages.specs.WkBaseDeclaredTitleTitle.{Title}
 use Rattle.lua_code.specs.WkBaseTitles.{is_module, title_text, prefix_of}
 use Rattle.lua_parser.specs.LuaSyntaxDeclaredFaultFaultAt.{FaultAt}
 use Rattle.lua_grammar_laws.specs.LuaSyntaxTree.{Block}

@@ -5,8 +5,8 @@ use Rattle.std.specs.Map.{lookup}
 use Rattle.std.specs.Option.{option_copied}
 use Rattle.std.specs.Str.{bytes_eq}
 use Rattle.std.proofs.lemmas.Slice.Eq.{bytes_eq-Decides}
-use Rattle.wiki_expand.specs.WkBaseDeclaredTitleTitle.{Title}
-use Rattle.wiki_expand.specs.WkBaseContractsTitleTitlePartialEqTheImpl as titles
+use Rattle.wiki_pages.specs.WkBaseDeclaredTitleTitle.{Title}
+use Rattle.wiki_pages.specs.WkBaseContractsTitleTitlePartialEqTheImpl as titles
 use Rattle.lua_code.specs.WkBaseTitles.{is_module, title_text}
 use Rattle.wiki_markup.proofs.WkBaseTitleLaws.{same_title}
 use Rattle.lua_code.specs.LuaSlotsCode.{CModule}

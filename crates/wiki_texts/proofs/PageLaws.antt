@@ -4,11 +4,11 @@ use Rattle.std.specs.Prelude.{Some, None, if◌then◌else◌}
 use Rattle.std.specs.Map.{lookup}
 use Rattle.std.proofs.Math.Bool.{or_assoc}
 use Rattle.std.proofs.lemmas.List.Folds.{list_any-append}
-use Rattle.wiki_expand.specs.WkBaseDeclaredTitleTitle.{Title}
-use Rattle.wiki_expand.specs.WkBaseContractsTitleTitlePartialEqTheImpl as titles
+use Rattle.wiki_pages.specs.WkBaseDeclaredTitleTitle.{Title}
+use Rattle.wiki_pages.specs.WkBaseContractsTitleTitlePartialEqTheImpl as titles
 use Rattle.lua_code.specs.WkBaseTitles.{is_module}
 use Rattle.wiki_markup.proofs.WkBaseTitleLaws.{same_title}
-use Rattle.wiki_expand.specs.Pages.{Pages, find_page}
+use Rattle.wiki_pages.specs.Pages.{Pages, find_page}
 use Rattle.wiki_texts.specs.declared.raw.RawPage.{RawPage}
 use Rattle.wiki_texts.specs.Pages.{is_held, entry_of, with_page, with_pages, page_map}
 

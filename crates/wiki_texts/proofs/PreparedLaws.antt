@@ -7,7 +7,7 @@ use Rattle.wiki_markup.specs.Nodes.{Marked}
 use Rattle.wiki_markup.specs.declared.marked.Mode.{Mode}
 use Rattle.wiki_markup.specs.Formed.{IsMarked}
 use Rattle.wiki_markup.proofs.Shapes.{letters_marked}
-use Rattle.wiki_expand.specs.Pages.{Pages}
+use Rattle.wiki_pages.specs.Pages.{Pages}
 use Rattle.lua_code.specs.declared.proto.Protos.{Protos}
 use Rattle.lua_code.specs.Held.{TitledModules, code_seen}
 use Rattle.wiki_texts.specs.declared.raw.RawPage.{RawPage}

@@ -1,6 +1,6 @@
 -- CODE OF THE MODULES that the texts of a wiki mean.
 use Rattle.std.specs.Prelude.{◌≡◌, ℕ, true, List, [], ◌∷◌, ◌++◌, length, Option, Some, None, is_some, Result, Ok, Err}
-use Rattle.wiki_expand.specs.WkBaseDeclaredTitleTitle.{Title}
+use Rattle.wiki_pages.specs.WkBaseDeclaredTitleTitle.{Title}
 use Rattle.lua_code.specs.WkBaseTitles.{is_module}
 use Rattle.lua_parser.specs.LuaSyntaxDeclaredFaultFaultAt.{FaultAt}
 use Rattle.lua_grammar_laws.specs.LuaSyntaxTree.{Block}

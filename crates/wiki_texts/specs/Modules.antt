@@ -2,7 +2,7 @@
 -- text's first fault (Lua, manual 8).
 use Rattle.std.specs.Prelude.{◌≡◌, ℕ, ◌&&◌, if◌then◌else◌, List, [], ◌∷◌, length, Option, Some, None, Result, Ok, Err}
 use Rattle.std.specs.Str.{bytes_eq}
-use Rattle.wiki_expand.specs.WkBaseDeclaredTitleTitle.{Title}
+use Rattle.wiki_pages.specs.WkBaseDeclaredTitleTitle.{Title}
 use Rattle.lua_code.specs.WkBaseTitles.{is_module, title_text}
 use Rattle.lua_parser.specs.LuaSyntaxDeclaredFaultFaultAt.{FaultAt}
 use Rattle.lua_parser.specs.LuaSyntaxDeclaredFaultSyntaxFaultTheVariants.{At}

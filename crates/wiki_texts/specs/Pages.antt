@@ -1,15 +1,15 @@
 -- THE PAGES of a wiki: of each title its text, cut and paired (MediaWiki, Help:Templates).
 use Rattle.std.specs.Prelude.{ℕ, Bool, if◌then◌else◌, is_some, List, [], ◌∷◌, ◌++◌}
 use Rattle.std.specs.List.{list_any}
-use Rattle.wiki_expand.specs.WkBaseDeclaredTitleTitle.{Title}
-use Rattle.wiki_expand.specs.WkBaseContractsTitleTitlePartialEqTheImpl as titles
+use Rattle.wiki_pages.specs.WkBaseDeclaredTitleTitle.{Title}
+use Rattle.wiki_pages.specs.WkBaseContractsTitleTitlePartialEqTheImpl as titles
 use Rattle.wiki_markup.specs.Nodes.{Marked}
 use Rattle.wiki_markup.specs.declared.marked.Mode.{Mode}
 use Rattle.wiki_markup.specs.declared.marked.Mode.TheVariants.{Direct, Transcluded}
 use Rattle.wiki_markup.specs.Shown.{shown_of}
 use Rattle.wiki_markup.specs.Trees.{marked_of}
-use Rattle.wiki_expand.specs.Entries.{Entry}
-use Rattle.wiki_expand.specs.Pages.{Pages, find_page}
+use Rattle.wiki_pages.specs.Entries.{Entry}
+use Rattle.wiki_pages.specs.Pages.{Pages, find_page}
 use Rattle.wiki_texts.specs.declared.raw.RawPage.{RawPage}
 
 -- whether a page of this title is among these

@@ -1,6 +1,6 @@
 //! What the texts of a wiki mean is settled by the texts.
 ghost use Rattle.std.specs.Prelude.{◌≡◌, List};
-ghost use Rattle.wiki_expand.specs.WkBaseDeclaredTitleTitle.{Title};
+ghost use Rattle.wiki_pages.specs.WkBaseDeclaredTitleTitle.{Title};
 ghost use Rattle.lua_code.specs.LuaMeaningWorld.{Modules};
 ghost use Rattle.wiki_texts.specs.declared.raw.RawPage.{RawPage};
 ghost use Rattle.wiki_texts.specs.Modules.{AreMeantBy};

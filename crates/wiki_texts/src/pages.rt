@@ -4,8 +4,8 @@ ghost use Rattle.wiki_texts.specs.Pages.{entry_of, with_page};
 
 use crate::raw::RawPage;
 use std::alloc::Global;
-use wiki_expand::{Entry, PageMap};
 use wiki_markup::{Mode, NoMemory, markup, shown};
+use wiki_pages::{Entry, PageMap};
 
 /// A page's text as it is shown in each mode, its braces paired: once where both modes show the same.
 pub(crate) fn paired(alloc: Global, text: &[u8]) -> Result<Entry, NoMemory>

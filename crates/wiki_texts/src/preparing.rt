@@ -11,8 +11,8 @@ use crate::raw::RawPage;
 use lua_code::{List, Modules};
 use std::alloc::Global;
 use std::hash::RandomState;
-use wiki_expand::PageMap;
 use wiki_markup::NoMemory;
+use wiki_pages::PageMap;
 
 /// A page, prepared.
 fn prepare(alloc: Global, seed: RandomState, page: &RawPage) -> Result<Prepared, NoMemory>

@@ -2,7 +2,7 @@ use Rattle.std.proofs.Common.{◌≡◌, ℕ, ◌+◌, ◌∙◌, refl, sym}
 use Rattle.page_tasks.specs.LuaStoreSeen.{StoreView}
 use Rattle.mw_frame.specs.declared.question.Ask.TheVariants.{Template}
 use Rattle.page_meaning.specs.WikiMarkupTrees.{Trees}
-use Rattle.page_tasks.specs.WikiExpandPages.{included_of, included_in, find_page}
+use Rattle.page_tasks.specs.WikiPagesPages.{included_of, included_in, find_page}
 use Rattle.page_meaning.specs.ExpandMeaningOutcome.{Including}
 use Rattle.page_meaning.specs.Tasks.{Expanding}
 use Rattle.page_tasks.specs.PageGroundGround.{ground_of}

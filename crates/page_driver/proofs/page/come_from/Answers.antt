@@ -1,6 +1,6 @@
 use Rattle.std.proofs.Common.{ap, ◌∙◌}
 use Rattle.page_meaning.specs.WkBaseDeclaredLeftLeft.{Left}
-use Rattle.page_tasks.specs.WikiExpandPages.{direct_of, direct_in, find_page}
+use Rattle.page_tasks.specs.WikiPagesPages.{direct_of, direct_in, find_page}
 use Rattle.page_tasks.specs.PageGroundGround.{ground_of, page_of}
 use Rattle.page_driver.specs.Page.{full_of}
 use Rattle.page_driver.proofs.Whole.{numbers_none, starting_held, page_held, turns_held, paid_within}

@@ -1,6 +1,6 @@
 use Rattle.std.proofs.Common.{◌∙◌, ap, sym}
 use Rattle.mw_frame.specs.declared.scene.Arg.{Arg}
-use Rattle.wiki_expand.specs.ExpandMeaningExpand.{put}
+use Rattle.expand_texts.specs.ExpandMeaningExpand.{put}
 use Rattle.page_ground.proofs.NameLaws.{put_new, unfound}
 use Rattle.page_ground.proofs.scenes.add_named.Goals as goal
 

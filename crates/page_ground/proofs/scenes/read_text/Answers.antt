@@ -2,7 +2,7 @@ use Rattle.std.proofs.Common.{◌∙◌, ap}
 use Rattle.wiki_markup.specs.declared.marked.Mode.TheVariants.{Direct}
 use Rattle.wiki_markup.specs.Shown.{shown_of}
 use Rattle.wiki_markup.specs.Trees.{pairing}
-use Rattle.wiki_expand.specs.ExpandMeaningPlaces.{trees_at}
+use Rattle.wiki_pages.specs.ExpandMeaningPlaces.{trees_at}
 use Rattle.expand_texts.proofs.ExpandMeaningReadLaws.{pairing_back}
 use Rattle.page_ground.proofs.scenes.read_text.Goals as goal
 

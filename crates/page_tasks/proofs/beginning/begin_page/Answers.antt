@@ -1,7 +1,7 @@
 use Rattle.std.proofs.Common.{sym, subst}
 use Rattle.std.specs.Prelude.{IsSome}
-use Rattle.wiki_expand.specs.WkBaseDeclaredTitleTitle.{Title}
-use Rattle.wiki_expand.specs.Pages.{find_page}
+use Rattle.lua_code.specs.WkBaseDeclaredTitleTitle.{Title}
+use Rattle.wiki_expand.specs.WikiPagesPages.{find_page}
 use Rattle.page_ground.specs.Ground.{ground_of}
 use Rattle.page_tasks.proofs.Beginnings.{page_begins_with}
 use Rattle.page_tasks.proofs.beginning.begin_page.Goals as goal

@@ -1,5 +1,5 @@
 use Rattle.std.proofs.Common.{◌∙◌, ap}
-use Rattle.wiki_expand.specs.Pages.{Pages}
+use Rattle.wiki_pages.specs.Pages.{Pages}
 use Rattle.wiki_app.specs.Report.{titles_report}
 use Rattle.wiki_app.proofs.answer.wiki_report.Goals as goal
 

@@ -2,7 +2,7 @@ use Rattle.std.proofs.Common.{◌*◌, List, sym, subst, rules}
 use Rattle.std.specs.Prelude.{All, IsSome}
 use Rattle.std.proofs.lemmas.List.Elements.{All-take, All-drop}
 use Rattle.wk_base.specs.declared.title.Title.{Title}
-use Rattle.wiki_texts.specs.WikiExpandPages.{find_page}
+use Rattle.wiki_texts.specs.WikiPagesPages.{find_page}
 use Rattle.wiki_batch.proofs.expanding.expand_numbered.Goals as goal
 
 pub expand_share-requires : goal.expand_share-requires

@@ -1,5 +1,5 @@
 use Rattle.std.proofs.Common.{arith}
-use Rattle.wiki_expand.specs.Forests.{trees_in}
+use Rattle.wiki_pages.specs.Forests.{trees_in}
 use Rattle.wiki_expand.proofs.CallLaws.{argument_none}
 use Rattle.wiki_expand.proofs.StepLaws.{unnamed_put}
 use Rattle.wiki_expand.proofs.calls.begin_argument.Goals as goal

@@ -1,5 +1,5 @@
 use Rattle.wiki_markup.specs.WkBaseSpace.{trim}
-use Rattle.wiki_expand.specs.Forests.{trees_in, size}
+use Rattle.wiki_pages.specs.Forests.{trees_in, size}
 use Rattle.wiki_expand.proofs.ArgumentLaws.{value_put}
 use Rattle.wiki_expand.proofs.calls.name.Goals as goal
 

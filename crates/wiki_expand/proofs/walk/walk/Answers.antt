@@ -1,5 +1,5 @@
 use Rattle.std.proofs.Common.{ap}
-use Rattle.wiki_expand.specs.Forests.{trees_in}
+use Rattle.wiki_pages.specs.Forests.{trees_in}
 use Rattle.expand_texts.specs.ExpandMeaningExpand.{onward}
 use Rattle.wiki_expand.proofs.walk.walk.Goals as goal
 

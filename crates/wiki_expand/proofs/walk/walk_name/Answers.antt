@@ -1,6 +1,6 @@
 use Rattle.std.proofs.Common.{ap}
-use Rattle.wiki_expand.specs.Forests.{trees_in}
-use Rattle.expand_texts.specs.ExpandMeaningPlaces.{name_in}
+use Rattle.wiki_pages.specs.Forests.{trees_in}
+use Rattle.wiki_pages.specs.ExpandMeaningPlaces.{name_in}
 use Rattle.expand_texts.specs.ExpandMeaningExpand.{onward}
 use Rattle.wiki_expand.proofs.walk.walk_name.Goals as goal
 

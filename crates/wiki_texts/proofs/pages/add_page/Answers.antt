@@ -1,6 +1,6 @@
 use Rattle.std.proofs.Common.{ap}
 use Rattle.wiki_markup.specs.declared.marked.Mode.TheVariants.{Direct, Transcluded}
-use Rattle.wiki_expand.specs.Entries.{Entry}
+use Rattle.wiki_pages.specs.Entries.{Entry}
 use Rattle.wiki_texts.proofs.PreparedLaws.{is_formed}
 use Rattle.wiki_texts.proofs.pages.add_page.Goals as goal
 

@@ -2,7 +2,7 @@ use Rattle.std.proofs.Common.{◌≡◌, ◌∙◌, refl, sym, ap, ℕ, ◌+◌,
 use Rattle.std.proofs.lemmas.List.{length_push}
 use Rattle.std.proofs.lemmas.Iterator.Adapters.{YieldsList-from_vec}
 use Rattle.std.proofs.lemmas.Iterator.Consumers.{YieldsList-turn, YieldsList-end}
-use Rattle.wiki_expand.specs.Pages.{Pages}
+use Rattle.wiki_pages.specs.Pages.{Pages}
 use Rattle.wiki_texts.specs.declared.prepared.Prepared.{Prepared}
 use Rattle.wiki_texts.proofs.PreparedLaws.{nothing_held, one_held, all_held, AreHeld, inside, this_one, at_end}
 use Rattle.wiki_texts.proofs.preparing.by_title.Goals as goal

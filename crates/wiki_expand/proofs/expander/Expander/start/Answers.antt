@@ -1,6 +1,6 @@
 use Rattle.std.proofs.Common.{◌∙◌, [], sym}
-use Rattle.wiki_expand.specs.Pages.{setting_in}
-use Rattle.wiki_expand.specs.Forests.{trees_in}
+use Rattle.wiki_pages.specs.Pages.{setting_in}
+use Rattle.wiki_pages.specs.Forests.{trees_in}
 use Rattle.wiki_expand.specs.Standing.{work_of, work_from, doing_point}
 use Rattle.wiki_expand.proofs.StandingLaws.{start_is}
 use Rattle.wiki_expand.proofs.expander.Expander.start.Goals as goal

@@ -1,5 +1,5 @@
 use Rattle.std.proofs.Common.{◌∷◌, ◌∙◌, sym}
-use Rattle.wiki_expand.specs.Forests.{trees_in}
+use Rattle.wiki_pages.specs.Forests.{trees_in}
 use Rattle.wiki_expand.specs.Points.{wiki_setting, scene_in, waiting}
 use Rattle.wiki_expand.specs.declared.frame.Frame.TheVariants.{Body}
 use Rattle.wiki_expand.proofs.CallLaws.{body_depth, body_begins}

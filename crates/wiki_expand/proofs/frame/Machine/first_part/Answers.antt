@@ -2,11 +2,11 @@ use Rattle.std.proofs.Common.{◌≡◌, ◌∙◌, ap, sym, arith}
 use Rattle.std.proofs.lemmas.Result.{IfOk-weaker}
 use Rattle.wiki_markup.specs.WkBaseSpace.{trim}
 use Rattle.expand_texts.specs.ExpandMeaningKind.{kind_of}
-use Rattle.expand_texts.specs.ExpandMeaningPlaces.{no_part}
+use Rattle.wiki_pages.specs.ExpandMeaningPlaces.{no_part}
 use Rattle.expand_texts.specs.ExpandMeaningExpand.{by_kind}
 use Rattle.expand_texts.specs.Kinds.{kind_in}
 use Rattle.expand_texts.specs.Ropes.{bytes_of}
-use Rattle.wiki_expand.specs.Forests.{parts}
+use Rattle.wiki_pages.specs.Forests.{parts}
 use Rattle.wiki_expand.specs.Points.{wiki_setting, scene_in, waiting}
 use Rattle.wiki_expand.proofs.Moves.{stays}
 use Rattle.wiki_expand.proofs.StepLaws.{step_from}

@@ -4,7 +4,7 @@ use Rattle.wiki_markup.specs.WkBaseSpace.{trim}
 use Rattle.mw_frame.specs.WkBaseDeclaredTitleNamespaceTheVariants.{Module}
 use Rattle.expand_texts.specs.ExpandMeaningKind.{title_named}
 use Rattle.expand_texts.specs.ExpandMeaningExpand.{module_titled}
-use Rattle.wiki_expand.specs.Forests.{parts}
+use Rattle.wiki_pages.specs.Forests.{parts}
 use Rattle.wiki_expand.specs.Points.{wiki_setting, scene_in, waiting}
 use Rattle.wiki_expand.proofs.Moves.{stays}
 use Rattle.wiki_expand.proofs.CallLaws.{function_starts}

@@ -1,6 +1,6 @@
 use Rattle.std.proofs.Common.{refl, arith}
 use Rattle.expand_texts.specs.ExpandMeaningExpand.{AParameter, parameter}
-use Rattle.wiki_expand.specs.Forests.{parts}
+use Rattle.wiki_pages.specs.Forests.{parts}
 use Rattle.wiki_expand.specs.Points.{wiki_setting, scene_in, waiting}
 use Rattle.wiki_expand.proofs.Moves.{leads_on, stays}
 use Rattle.wiki_expand.proofs.StepLaws.{text_stands, no_level, parameter_entered}

@@ -1,8 +1,8 @@
 use Rattle.std.proofs.Common.{◌≡◌, ◌≤◌, ◌∙◌, ap, sym, arith}
 use Rattle.wiki_markup.specs.WkBaseSpace.{trim}
 use Rattle.expand_texts.specs.ExpandMeaningExpand.{found}
-use Rattle.expand_texts.specs.ExpandMeaningPlaces.{part_in}
-use Rattle.wiki_expand.specs.Forests.{trees_in, parts, size, option_trees}
+use Rattle.wiki_pages.specs.ExpandMeaningPlaces.{part_in}
+use Rattle.wiki_pages.specs.Forests.{trees_in, parts, size, option_trees}
 use Rattle.wiki_expand.specs.Points.{wiki_setting, scene_in, waiting}
 use Rattle.wiki_expand.proofs.CallLaws.{parameter_found, parameter_default}
 use Rattle.wiki_expand.proofs.StepLaws.{value_stands, default_stands}

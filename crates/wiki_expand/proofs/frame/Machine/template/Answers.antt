@@ -1,6 +1,6 @@
 use Rattle.std.proofs.Common.{◌∙◌, refl, ap, sym, arith}
 use Rattle.std.proofs.lemmas.Result.{IfOk-weaker}
-use Rattle.wiki_expand.specs.Forests.{trees_in, parts, option_trees}
+use Rattle.wiki_pages.specs.Forests.{trees_in, parts, option_trees}
 use Rattle.wiki_expand.specs.Points.{wiki_setting, scene_in, waiting}
 use Rattle.wiki_expand.proofs.StepLaws.{text_stands, step_from}
 use Rattle.wiki_expand.proofs.CallLaws.{template_depth, template_starts}

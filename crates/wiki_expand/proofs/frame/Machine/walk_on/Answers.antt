@@ -1,6 +1,6 @@
 use Rattle.std.proofs.Common.{◌+◌, ◌<◌, refl, arith}
 use Rattle.std.proofs.lemmas.Result.{IfOk-weaker}
-use Rattle.wiki_expand.specs.Forests.{size}
+use Rattle.wiki_pages.specs.Forests.{size}
 use Rattle.wiki_expand.specs.Points.{scene_in, waiting}
 use Rattle.wiki_expand.proofs.StepLaws.{step_inside}
 use Rattle.wiki_expand.proofs.PointLaws.{walk_construct, walk_parameter}
