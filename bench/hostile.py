@@ -37,7 +37,7 @@ def lua(root, name, unit, body, sizes, count, options=()):
 def honest():
     """What a plain page takes, with which the others are compared."""
     yield from lua("-", "plain loop", "step", "while true do end", [STEPS], STEPS)
-    yield Row("-", "plain node", "node", 900_000, 900_000, {"P": "{{!}}" * 900_000}, [])
+    yield Row("-", "plain node", "node", 400_000, 400_000, {"P": "{{!}}" * 400_000}, [])
     for size in (1, 1000):
         yield Row("-", "trivial #invoke", "invocation", size, size, {"P": "{{#invoke:M|f}}" * size, "Module:M": FRAME % "return ''"}, [])
 
