@@ -10,10 +10,11 @@
 
 ghost use Rattle.std.specs.Prelude.{IsUtf8};
 
+use crate::out::Out;
 use crate::patterns::search_text;
 use crate::words::{
-    budget, bytes, copied, fault, number, numbers, place, place_or_none, shown, text_or_none,
-    truth, word, written,
+    between, budget, bytes, copied, fault, number, numbers, place, place_or_none, shown,
+    text_or_none, truth, word,
 };
 use mw_frame::List;
 use mw_text::{
@@ -22,7 +23,7 @@ use mw_text::{
     mw_ustring_match_from as match_from, mw_ustring_part as part, mw_ustring_sub as sub, offset,
     plain_find, point_place, points_behind, start, text_of, to_nfc, to_nfd, to_nfkc, to_nfkd,
 };
-use std::alloc::{AllocError, Global};
+use std::alloc::Global;
 use wiki_markup::NoMemory;
 
 /// What a call gives.
@@ -78,30 +79,28 @@ fn of_points(alloc: Global, s: &[u8], text: &str) -> Result<Vec<u8>, NoMemory>
         "count_points" => shown(alloc, count_points(s) as u64),
         "offset" => shown(alloc, offset(s, place(text, 2)) as u64),
         "start" => shown(alloc, start(s, number(text, 2)) as u64),
-        "codepoint" => written(codes(alloc, s, text)),
+        "codepoint" => codes(alloc, s, text),
         _ => with_pattern(alloc, s, text),
     }
 }
 
 /// The numbers of code points, with blanks between.
-fn codes(alloc: Global, s: &[u8], text: &str) -> Result<String, AllocError>
+fn codes(alloc: Global, s: &[u8], text: &str) -> Result<Vec<u8>, NoMemory>
     requires text { IsUtf8 s.now }
 {
     match codepoint(alloc, s, number(text, 2), number(text, 3)) {
         Ok(codes) => joined(alloc, codes.as_slice()),
-        Err(_) => Err(AllocError),
+        Err(_) => Err(NoMemory),
     }
 }
 
-fn joined(alloc: Global, codes: &[u32]) -> Result<String, AllocError> {
-    let mut text = String::new(alloc);
+fn joined(alloc: Global, codes: &[u32]) -> Result<Vec<u8>, NoMemory> {
+    let mut out = Out::new(alloc);
     for code in codes {
-        if !text.is_empty() {
-            text.push(' ')?;
-        }
-        write!(text, "{code}")?;
+        out.put_gap();
+        out.put_sum(u64::from(*code));
     }
-    Ok(text)
+    out.given()
 }
 
 fn with_pattern(alloc: Global, s: &[u8], text: &str) -> Result<Vec<u8>, NoMemory>
@@ -146,23 +145,17 @@ fn found(alloc: Global, s: &[u8], pattern: &[u8], text: &str) -> Result<Vec<u8>,
     let plain = word(text, 4) == "plain";
     match find(alloc, s, pattern, number(text, 3), plain, budget(text, 5)) {
         Ok(Search::Found(it, tries)) => {
-            let (first, last) = (point_place(s, it.start), point_place(s, it.end));
-            places_text(alloc, first, last, tries)
+            let (before, last) = (point_place(s, it.start), point_place(s, it.end));
+            between(alloc, before, last, tries)
         }
         Ok(other) => search_text(alloc, &other),
         Err(it) => fault(alloc, it),
     }
 }
 
-/// Where a match is, as Lua counts.
-fn places_text(alloc: Global, before: usize, last: usize, tries: u64) -> Result<Vec<u8>, NoMemory> {
-    let first = before.saturating_add(1);
-    written(format!(in alloc; "{first} {last}, {tries} tries"))
-}
-
 fn forms_of_codes(alloc: Global, codes: &str) -> Result<Vec<u8>, NoMemory> {
     let text = spelled(alloc, codes)?;
-    written(forms_text(alloc, &text))
+    forms_text(alloc, &text)
 }
 
 /// The text of code points in hexadecimal, with blanks between them.
@@ -180,19 +173,19 @@ fn hexadecimals(alloc: Global, codes: &str) -> Result<List<i64>, NoMemory> {
 }
 
 /// The normal forms, each with its name in front, as code points in hexadecimal.
-fn forms_text(alloc: Global, text: &[u8]) -> Result<String, AllocError> {
-    let mut forms = String::new(alloc);
+fn forms_text(alloc: Global, text: &[u8]) -> Result<Vec<u8>, NoMemory> {
+    let mut out = Out::new(alloc);
     for name in ["C", " D", " KC", " KD"] {
-        put_form(alloc, &mut forms, name, text)?;
+        put_form(&mut out, name, text);
     }
-    Ok(forms)
+    out.given()
 }
 
-fn put_form(alloc: Global, forms: &mut String, name: &str, text: &[u8]) -> Result<(), AllocError> {
-    forms.push_str(name)?;
-    match form(alloc, name, text) {
-        Ok(Some(made)) => put_codes(forms, &made),
-        _ => Err(AllocError),
+fn put_form(out: &mut Out, name: &str, text: &[u8]) {
+    out.put(name.as_bytes());
+    match form(out.alloc, name, text) {
+        Ok(Some(made)) => put_codes(out, &made),
+        _ => out.lack(),
     }
 }
 
@@ -205,9 +198,15 @@ fn form(alloc: Global, name: &str, text: &[u8]) -> Result<Option<Vec<u8>>, NoMem
     }
 }
 
-fn put_codes(forms: &mut String, text: &[u8]) -> Result<(), AllocError> {
+fn put_codes(out: &mut Out, text: &[u8]) {
     for point in std::str::from_utf8(text).unwrap_or("").chars() {
-        write!(forms, " {:04X}", point as u32)?;
+        put_code(out, point as u32);
     }
-    Ok(())
+}
+
+fn put_code(out: &mut Out, code: u32) {
+    match format!(in out.alloc; " {code:04X}") {
+        Ok(digits) => out.put(digits.as_bytes()),
+        Err(_) => out.lack(),
+    }
 }

@@ -12,8 +12,8 @@
 //!
 //! There are no escapes in these texts.
 use crate::out::Out;
-use crate::parts::part;
 use crate::seed::fixed_seed;
+use crate::words::word;
 use expand_texts::arguments::Arguments;
 use expand_texts::equality::are_equal;
 use expand_texts::kind::{Kind, kind_of, title_named};
@@ -25,13 +25,6 @@ use mw_frame::{Arg, Bytes, Title};
 use std::alloc::Global;
 use wiki_markup::NoMemory;
 
-/// What a row `expansion` comes to.
-pub(crate) fn answer(alloc: Global, text: &str) -> Result<Vec<u8>, NoMemory> {
-    let mut out = Out::new(alloc);
-    put_named(&mut out, part(text, 0), text);
-    out.given()
-}
-
 /// The title of a name, which isn't read.
 pub(crate) fn titled(alloc: Global, ns: Namespace, name: &[u8]) -> Result<Title, NoMemory> {
     match Bytes::of(alloc, name) {
@@ -40,16 +33,17 @@ pub(crate) fn titled(alloc: Global, ns: Namespace, name: &[u8]) -> Result<Title,
     }
 }
 
-fn put_named(out: &mut Out, name: &str, text: &str) {
-    match name {
-        "refused" => put_refused(out, part(text, 1)),
-        "trimmed" => put_trimmed(out, part(text, 1).as_bytes()),
-        "equal" => put_truth(out, is_equal(part(text, 1), part(text, 2))),
+/// What a row `expansion` comes to.
+pub(crate) fn put_of_row(out: &mut Out, text: &str) {
+    match word(text, 0) {
+        "refused" => put_refused(out, word(text, 1)),
+        "trimmed" => put_trimmed(out, word(text, 1).as_bytes()),
+        "equal" => put_truth(out, is_equal(word(text, 1), word(text, 2))),
         "rope" => put_rope_of(out, text),
-        "stack" => put_stack_of(out, part(text, 1)),
+        "stack" => put_stack_of(out, word(text, 1)),
         "arguments" => put_arguments_of(out, text),
-        "word" => put_word_of(out, part(text, 1)),
-        _ => put_title(out, part(text, 1)),
+        "word" => put_word_of(out, word(text, 1)),
+        _ => put_title(out, word(text, 1)),
     }
 }
 
@@ -108,9 +102,9 @@ fn is_equal(left: &str, right: &str) -> bool {
 /// A piece that is pushed, one that is appended as a rope of its own, and one that was made.
 fn put_rope_of(out: &mut Out, text: &str) {
     let mut rope = Rope::new(out.alloc);
-    push_piece(out, &mut rope, Piece::Borrowed(part(text, 1).as_bytes()));
-    append_copy(out, &mut rope, part(text, 2));
-    push_made(out, &mut rope, part(text, 3));
+    push_piece(out, &mut rope, Piece::Borrowed(word(text, 1).as_bytes()));
+    append_copy(out, &mut rope, word(text, 2));
+    push_made(out, &mut rope, word(text, 3));
     put_trimmed_rope(out, rope);
 }
 

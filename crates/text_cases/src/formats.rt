@@ -4,7 +4,7 @@
 //! The answer is the text, or the fault: `bad option`, or with the value's number from 0 on `0 is missing, a number` (or `a text`), `0 is no number`,
 //! `0 is no text`, `0 is out of range`. The text's length has to be what was said before.
 
-use crate::words::{bytes, copied, escaped, written};
+use crate::words::{bytes, copied, escaped, numbered};
 use lua_format::{FormatFault, FormatValue, Want, format, format_length};
 use mw_frame::{Bytes, List};
 use std::alloc::Global;
@@ -62,20 +62,23 @@ fn as_long(alloc: Global, made: Vec<u8>, length: u64) -> Result<Vec<u8>, NoMemor
 fn fault_text(alloc: Global, fault: FormatFault) -> Result<Vec<u8>, NoMemory> {
     match fault {
         FormatFault::BadOption => copied(alloc, b"bad option"),
-        FormatFault::Missing(at, want) => {
-            written(format!(in alloc; "{at} is missing, a {}", kind(want)))
-        }
-        FormatFault::WrongKind(at, want) => {
-            written(format!(in alloc; "{at} is no {}", kind(want)))
-        }
-        FormatFault::OutOfRange(at) => written(format!(in alloc; "{at} is out of range")),
+        FormatFault::Missing(at, want) => numbered(alloc, b"", at as u64, missing(want)),
+        FormatFault::WrongKind(at, want) => numbered(alloc, b"", at as u64, wrong(want)),
+        FormatFault::OutOfRange(at) => numbered(alloc, b"", at as u64, b" is out of range"),
         FormatFault::NoMemory => Err(NoMemory),
     }
 }
 
-fn kind(want: Want) -> &'static str {
+fn missing(want: Want) -> &'static [u8] {
     match want {
-        Want::Number => "number",
-        Want::Text => "text",
+        Want::Number => b" is missing, a number",
+        Want::Text => b" is missing, a text",
+    }
+}
+
+fn wrong(want: Want) -> &'static [u8] {
+    match want {
+        Want::Number => b" is no number",
+        Want::Text => b" is no text",
     }
 }

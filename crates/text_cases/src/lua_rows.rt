@@ -5,18 +5,9 @@ use crate::out::Out;
 use crate::tokens::{self, put_lexed};
 use crate::trees::{self, put_beginnings, put_parsed, put_pieces, put_repeated};
 use case_text::unescaped;
-use std::alloc::Global;
-use wiki_markup::NoMemory;
 
-/// What a text of a kind comes to, as `tokens`, `numbers`, `trees` and `laws` say.
-pub(crate) fn answer(alloc: Global, kind: &str, text: &str) -> Result<Vec<u8>, NoMemory> {
-    let mut out = Out::new(alloc);
-    put_of_row(&mut out, kind, text);
-    out.given()
-}
-
-/// Of the row as it stands, where it has parts.
-fn put_of_row(out: &mut Out, kind: &str, row: &str) {
+/// What a text of a kind comes to, as `tokens`, `numbers`, `trees` and `laws` say: of the row as it stands, where it has parts.
+pub(crate) fn put_of_row(out: &mut Out, kind: &str, row: &str) {
     match kind {
         "operations" => put_operations(out, row),
         "negated" => put_negated(out, row),

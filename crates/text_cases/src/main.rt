@@ -7,9 +7,9 @@
 //! - `markup`: what is shown of a page, and how it pairs
 //! - `wikis`, `expansion`: small wikis, and the texts of an expansion
 //! - `patterns`, and `small_patterns` beside a plain program, `plain_patterns`
-//! - `strings`, `formats`, `code_points`, `wikitexts`: plain functions of the libraries, whose words `words` reads; `times` runs one again and
-//!   again
-//! - `out`, `parts`, `seed`: what is written of a row, the parts of its text, the seed of every map
+//! - `strings`, `formats`, `code_points`, `wikitexts`: plain functions of the libraries; `times` runs one again and again
+//! - `words`: the words of a row's text, and answers that several modules have
+//! - `out`, `seed`: what is written of a row, the seed of every map
 //!
 //! There are no definitions here.
 #![tactic(auto)]
@@ -22,7 +22,6 @@ mod lua_rows;
 mod markup;
 mod numbers;
 mod out;
-mod parts;
 mod patterns;
 mod plain_patterns;
 mod seed;
@@ -36,17 +35,31 @@ mod wikitexts;
 mod words;
 mod written;
 
+use crate::out::Out;
 use case_text::unescaped;
 use std::alloc::Global;
 use std::io;
 use wiki_markup::NoMemory;
 
+fn put_of_kind(out: &mut Out, kind: &str, text: &str) {
+    match kind {
+        "markup" => markup::put_of_row(out, text),
+        "wiki" => wikis::put_of_row(out, text),
+        "expansion" => expansion::put_of_row(out, text),
+        _ => lua_rows::put_of_row(out, kind, text),
+    }
+}
+
+/// What a text comes to that is written piece by piece.
+fn gathered(alloc: Global, kind: &str, text: &str) -> Result<Vec<u8>, NoMemory> {
+    let mut out = Out::new(alloc);
+    put_of_kind(&mut out, kind, text);
+    out.given()
+}
+
 /// What a text of a kind comes to, as its rows write it.
 fn answer(alloc: Global, kind: &str, text: &str) -> Result<Vec<u8>, NoMemory> {
     match kind {
-        "markup" => markup::answer(alloc, text),
-        "wiki" => wikis::answer(alloc, text),
-        "expansion" => expansion::answer(alloc, text),
         "format" => formats::answer(alloc, text),
         "pattern" => patterns::answer(alloc, text),
         "small patterns" => small_patterns::answer(alloc),
@@ -54,7 +67,7 @@ fn answer(alloc: Global, kind: &str, text: &str) -> Result<Vec<u8>, NoMemory> {
         "text" => wikitexts::answer(alloc, text),
         "times" => times::answer(alloc, text),
         "ustring" => code_points::answer(alloc, text),
-        _ => lua_rows::answer(alloc, kind, text),
+        _ => gathered(alloc, kind, text),
     }
 }
 
@@ -83,14 +96,27 @@ fn is_right(rt: &HostRuntime, row: &str) -> io::Result<bool> {
     }
 }
 
-fn main(rt: HostRuntime) -> io::Result<()> {
+/// Whether a line is a row that is right.
+fn is_right_row(rt: &HostRuntime, line: &str) -> io::Result<bool> {
+    if line.is_empty() || line.starts_with('#') {
+        return Ok(false);
+    }
+    is_right(rt, line)
+}
+
+/// How many rows are right.
+fn count_right(rt: &HostRuntime) -> io::Result<u64> {
     let mut right: u64 = 0;
     for line in rt.lines(rt.alloc()) {
         let line = line?;
-        let row = line.as_str();
-        if !row.is_empty() && !row.starts_with('#') && is_right(&rt, row)? {
+        if is_right_row(rt, line.as_str())? {
             right = right.wrapping_add(1);
         }
     }
+    Ok(right)
+}
+
+fn main(rt: HostRuntime) -> io::Result<()> {
+    let right = count_right(&rt)?;
     println!(rt; "{right} rows are right")
 }

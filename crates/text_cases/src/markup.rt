@@ -16,7 +16,7 @@ ghost use Rattle.std.specs.Prelude.{◌<◌, length};
 ghost use Rattle.wiki_markup.specs.Order.{Ordered, Rising};
 
 use crate::out::Out;
-use crate::parts::part;
+use crate::words::word;
 use case_text::unescaped;
 use mw_frame::{Bytes, List};
 use std::alloc::Global;
@@ -37,20 +37,14 @@ enum Summed {
 }
 
 /// What a row `markup` comes to.
-pub(crate) fn answer(alloc: Global, text: &str) -> Result<Vec<u8>, NoMemory> {
-    let mut out = Out::new(alloc);
-    put_named(&mut out, part(text, 0), text);
-    out.given()
-}
-
-fn put_named(out: &mut Out, name: &str, text: &str) {
-    match name {
-        "D" => put_trees_of(out, Mode::Direct, part(text, 1)),
-        "T" => put_trees_of(out, Mode::Transcluded, part(text, 1)),
+pub(crate) fn put_of_row(out: &mut Out, text: &str) {
+    match word(text, 0) {
+        "D" => put_trees_of(out, Mode::Direct, word(text, 1)),
+        "T" => put_trees_of(out, Mode::Transcluded, word(text, 1)),
         "pairings" => put_sum_of(out, Summed::Trees, text),
         "shown" => put_sum_of(out, Summed::Shown, text),
-        "counts" => put_counts_of(out, part(text, 1)),
-        _ => put_length(out, part(text, 1)),
+        "counts" => put_counts_of(out, word(text, 1)),
+        _ => put_length(out, word(text, 1)),
     }
 }
 
@@ -169,7 +163,7 @@ fn put_length(out: &mut Out, text: &str) {
 
 fn put_sum_of(out: &mut Out, summed: Summed, text: &str) {
     match pieces(out.alloc, text) {
-        Ok(pieces) => put_sum(out, summed, pieces.as_slice(), part(text, 1)),
+        Ok(pieces) => put_sum(out, summed, pieces.as_slice(), word(text, 1)),
         Err(_) => out.lack(),
     }
 }

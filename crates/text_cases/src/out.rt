@@ -8,7 +8,7 @@ use wiki_markup::NoMemory;
 pub(crate) struct Out {
     pub(crate) alloc: Global,
     pub(crate) text: Vec<u8>,
-    is_lacking: bool,
+    pub(crate) is_lacking: bool,
 }
 
 impl Out {

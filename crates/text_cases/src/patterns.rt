@@ -9,13 +9,14 @@
 //! - `symbol bytes` or `symbol points`, then a subject and a place: the symbol that stands there, and its bytes
 //! - `text from`, then a subject and a place: what stands there and behind
 
-use crate::words::{bytes, copied, fault, place, truth, word, written};
+use crate::out::Out;
+use crate::words::{bytes, copied, fault, numbered, place, put_tries, truth, word};
 use mw_frame::List;
 use mw_text::{
     Alphabet, Capture, Class, LuaPatternItemPart as Part, Match, OneByte, OnePoint, Pattern,
     PatternFault, PreparedSet, Search, Set, read_set, symbol_at, text_from,
 };
-use std::alloc::{AllocError, Global};
+use std::alloc::Global;
 use wiki_markup::NoMemory;
 
 /// What a case comes to.
@@ -73,8 +74,15 @@ fn has_capital(alloc: Global) -> bool {
 
 fn symbol<A: Alphabet>(alloc: Global, subject: &[u8], at: usize) -> Result<Vec<u8>, NoMemory> {
     match symbol_at::<A>(subject, at) {
-        Some((symbol, size)) => written(format!(in alloc; "{symbol} {size}")),
+        Some((symbol, size)) => sized(alloc, symbol, size),
         None => copied(alloc, b"none"),
+    }
+}
+
+fn sized(alloc: Global, symbol: char, size: usize) -> Result<Vec<u8>, NoMemory> {
+    match format!(in alloc; "{symbol} {size}") {
+        Ok(text) => Ok(text.into_bytes()),
+        Err(_) => Err(NoMemory),
     }
 }
 
@@ -191,29 +199,42 @@ fn judged(alloc: Global, found: &Search, exact: bool) -> Result<Vec<u8>, NoMemor
 /// What a search found, as the head of this file says.
 pub(crate) fn search_text(alloc: Global, found: &Search) -> Result<Vec<u8>, NoMemory> {
     match found {
-        Search::Found(it, tries) => written(match_text(alloc, it, *tries)),
-        Search::NotFound(tries) => written(format!(in alloc; "none, {tries} tries")),
+        Search::Found(it, tries) => match_text(alloc, it, *tries),
+        Search::NotFound(tries) => numbered(alloc, b"none, ", *tries, b" tries"),
         Search::Spent => copied(alloc, b"spent"),
     }
 }
 
-fn match_text(alloc: Global, found: &Match, tries: u64) -> Result<String, AllocError> {
-    let mut text = String::new(alloc);
-    put_match(&mut text, found, tries)?;
-    Ok(text)
+fn match_text(alloc: Global, found: &Match, tries: u64) -> Result<Vec<u8>, NoMemory> {
+    let mut out = Out::new(alloc);
+    put_places(&mut out, b"", found.start, b" ", found.end);
+    put_captures(&mut out, found.captures.as_slice());
+    put_tries(&mut out, tries);
+    out.given()
 }
 
-fn put_match(text: &mut String, found: &Match, tries: u64) -> Result<(), AllocError> {
-    write!(text, "{} {}", found.start, found.end)?;
-    for capture in found.captures.as_slice() {
-        put_capture(text, *capture)?;
+fn put_captures(out: &mut Out, captures: &[Capture]) {
+    for capture in captures {
+        put_capture(out, *capture);
     }
-    write!(text, ", {tries} tries")
 }
 
-fn put_capture(text: &mut String, capture: Capture) -> Result<(), AllocError> {
+fn put_capture(out: &mut Out, capture: Capture) {
     match capture {
-        Capture::Span(from, to) => write!(text, " {from}-{to}"),
-        Capture::Place(at) => write!(text, " @{at}"),
+        Capture::Span(from, to) => put_places(out, b" ", from, b"-", to),
+        Capture::Place(at) => put_place(out, at),
     }
+}
+
+/// Two places, each with a text before it.
+fn put_places(out: &mut Out, first: &[u8], from: usize, second: &[u8], to: usize) {
+    out.put(first);
+    out.put_count(from);
+    out.put(second);
+    out.put_count(to);
+}
+
+fn put_place(out: &mut Out, at: usize) {
+    out.put(b" @");
+    out.put_count(at);
 }

@@ -1,43 +1,38 @@
 //! The kind `small patterns`: all patterns of up to four items over a small alphabet against all subjects of up to five bytes, by
 //! the search and by the definition as a plain program. The answer is how many there are, and in how many the two differ.
 
+use crate::out::Out;
 use crate::plain_patterns::{Marks, Plain, first};
-use crate::words::written;
-use mw_text::{Capture, OneByte, Pattern, Search, Slot};
-use std::alloc::{AllocError, Global};
+use mw_text::{Capture, OneByte, Pattern, PatternFault, Search, Slot};
+use std::alloc::Global;
 use wiki_markup::NoMemory;
 
 const ITEMS: [&[u8]; 13] = [
     b"a", b"b*", b"a-", b".?", b".+", b"[^a]*", b"(", b")", b"()", b"%1", b"%bab", b"%f[b]", b"$",
 ];
 
-/// What is counted over all pairs of a pattern and a subject.
+/// What is counted over all pairs of a pattern and a subject, and whether memory ran out.
 #[derive(Clone, Copy)]
 struct Totals {
     patterns: u64,
     found: u64,
     tries: u64,
     differ: u64,
+    is_lacking: bool,
 }
 
 /// Puts a number in a base: `length` digits, each of which is a word.
-fn spell(
-    text: &mut Vec<u8>,
-    words: &[&[u8]],
-    number: usize,
-    length: usize,
-) -> Result<(), AllocError> {
+fn put_spelled(out: &mut Out, words: &[&[u8]], number: usize, length: usize) {
     let mut left = number;
     for _ in 0..length {
         if words.is_empty() {
-            return Ok(());
+            return;
         }
         if let Some(word) = words.get(left % words.len()) {
-            text.extend_from_slice(word)?;
+            out.put(word);
         }
         left /= words.len();
     }
-    Ok(())
 }
 
 fn is_kept(slot: Slot, marks: &Marks, capture: Capture) -> bool {
@@ -100,62 +95,64 @@ fn against(
     number: usize,
     length: usize,
     totals: &mut Totals,
-) -> Result<(), AllocError> {
-    let mut subject = Vec::new(alloc);
-    spell(&mut subject, &[b"a", b"b"], number, length)?;
-    compare(alloc, pattern, &subject, totals);
-    Ok(())
+) {
+    let mut subject = Out::new(alloc);
+    put_spelled(&mut subject, &[b"a", b"b"], number, length);
+    totals.is_lacking |= subject.is_lacking;
+    compare(alloc, pattern, &subject.text, totals);
 }
 
-fn against_all(
-    alloc: Global,
-    pattern: &Pattern<OneByte>,
-    totals: &mut Totals,
-) -> Result<(), AllocError> {
+fn against_all(alloc: Global, pattern: &Pattern<OneByte>, totals: &mut Totals) {
     let mut count: usize = 1;
     for length in 0..6 {
         for number in 0..count {
-            against(alloc, pattern, number, length, totals)?;
+            against(alloc, pattern, number, length, totals);
         }
         count = count.saturating_mul(2);
     }
-    Ok(())
+}
+
+fn count_read(alloc: Global, read: &Result<Pattern<OneByte>, PatternFault>, totals: &mut Totals) {
+    match read {
+        Ok(pattern) => {
+            totals.patterns = totals.patterns.saturating_add(1);
+            against_all(alloc, pattern, totals)
+        }
+        Err(_) => {}
+    }
 }
 
 /// Compares over the pattern with this number among those of so many items, where it is one.
-fn pattern_against_all(
-    alloc: Global,
-    number: usize,
-    length: usize,
-    totals: &mut Totals,
-) -> Result<(), AllocError> {
-    let mut text = Vec::new(alloc);
-    spell(&mut text, &ITEMS, number, length)?;
-    match Pattern::read(alloc, &text) {
-        Ok(pattern) => {
-            totals.patterns = totals.patterns.saturating_add(1);
-            against_all(alloc, &pattern, totals)
-        }
-        Err(_) => Ok(()),
-    }
+fn pattern_against_all(alloc: Global, number: usize, length: usize, totals: &mut Totals) {
+    let mut text = Out::new(alloc);
+    put_spelled(&mut text, &ITEMS, number, length);
+    totals.is_lacking |= text.is_lacking;
+    count_read(alloc, &Pattern::read(alloc, &text.text), totals);
 }
 
-fn count_all(alloc: Global, totals: &mut Totals) -> Result<(), AllocError> {
+fn count_all(alloc: Global, totals: &mut Totals) {
     let mut count: usize = 1;
     for length in 0..5 {
         for number in 0..count {
-            pattern_against_all(alloc, number, length, totals)?;
+            pattern_against_all(alloc, number, length, totals);
         }
         count = count.saturating_mul(ITEMS.len());
     }
-    Ok(())
 }
 
-fn text_of(alloc: Global, totals: Totals) -> Result<Vec<u8>, NoMemory> {
-    written(format!(in alloc;
-        "{} patterns, {} found, {} tries, {} differ",
-        totals.patterns, totals.found, totals.tries, totals.differ
-    ))
+fn put_counted(out: &mut Out, number: u64, what: &[u8]) {
+    out.put_sum(number);
+    out.put(what);
+}
+
+fn text_of(alloc: Global, totals: &Totals) -> Result<Vec<u8>, NoMemory> {
+    let mut out = Out::new(alloc);
+    put_counted(&mut out, totals.patterns, b" patterns, ");
+    put_counted(&mut out, totals.found, b" found, ");
+    put_counted(&mut out, totals.tries, b" tries, ");
+    put_counted(&mut out, totals.differ, b" differ");
+    out.is_lacking |= totals.is_lacking;
+    out.given()
 }
 
 /// The totals, as a text.
@@ -165,9 +162,8 @@ pub(crate) fn answer(alloc: Global) -> Result<Vec<u8>, NoMemory> {
         found: 0,
         tries: 0,
         differ: 0,
+        is_lacking: false,
     };
-    match count_all(alloc, &mut totals) {
-        Ok(()) => text_of(alloc, totals),
-        Err(_) => Err(NoMemory),
-    }
+    count_all(alloc, &mut totals);
+    text_of(alloc, &totals)
 }

@@ -9,7 +9,7 @@
 //! - `fmod`, `pow`, `abs`: a number, `by zero`, `out of range` or `not whole`
 
 use crate::words::{
-    budget, bytes, copied, fault, number, numbers, shown, text_or_none, word, written,
+    between, budget, bytes, copied, fault, number, numbered, numbers, shown, text_or_none, word,
 };
 use lua_number::NumberFault;
 use mw_text::{
@@ -130,11 +130,8 @@ fn found(alloc: Global, s: &[u8], pattern: &[u8], text: &str) -> Result<Search, 
 /// Where a match starts and ends, as Lua counts.
 fn places(alloc: Global, found: &Result<Search, PatternFault>) -> Result<Vec<u8>, NoMemory> {
     match found {
-        Ok(Search::Found(it, tries)) => {
-            let first = it.start.saturating_add(1);
-            written(format!(in alloc; "{first} {}, {tries} tries", it.end))
-        }
-        Ok(Search::NotFound(tries)) => written(format!(in alloc; "none, {tries} tries")),
+        Ok(Search::Found(it, tries)) => between(alloc, it.start, it.end, *tries),
+        Ok(Search::NotFound(tries)) => numbered(alloc, b"none, ", *tries, b" tries"),
         Ok(Search::Spent) => copied(alloc, b"spent"),
         Err(it) => fault(alloc, *it),
     }

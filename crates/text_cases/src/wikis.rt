@@ -15,8 +15,8 @@ ghost use Rattle.wiki_expand.specs.Standing.{IsHeldSource, IsReady, IsWaiting, I
 
 use crate::expansion::titled;
 use crate::out::Out;
-use crate::parts::part;
 use crate::seed::fixed_seed;
+use crate::words::word;
 use case_text::unescaped;
 use expand_texts::Namespace;
 use mw_frame::{Bytes, List, Scene, Title};
@@ -26,22 +26,16 @@ use wiki_markup::{Marked, Mode, NoMemory, markup, shown};
 use wiki_pages::{Entry, PageMap};
 
 /// What a row `wiki` comes to.
-pub(crate) fn answer(alloc: Global, text: &str) -> Result<Vec<u8>, NoMemory> {
-    let mut out = Out::new(alloc);
-    put_of_row(&mut out, text);
-    out.given()
-}
-
-fn put_of_row(out: &mut Out, text: &str) {
-    match unescaped(out.alloc, part(text, 1).as_bytes()) {
+pub(crate) fn put_of_row(out: &mut Out, text: &str) {
+    match unescaped(out.alloc, word(text, 1).as_bytes()) {
         Ok(template) => put_beside(out, text, template.as_slice()),
         Err(_) => out.lack(),
     }
 }
 
 fn put_beside(out: &mut Out, text: &str, template: &[u8]) {
-    match unescaped(out.alloc, part(text, 2).as_bytes()) {
-        Ok(page) => put_in_wiki(out, part(text, 0), template, page.as_slice()),
+    match unescaped(out.alloc, word(text, 2).as_bytes()) {
+        Ok(page) => put_in_wiki(out, word(text, 0), template, page.as_slice()),
         Err(_) => out.lack(),
     }
 }
@@ -109,66 +103,68 @@ fn paired(alloc: Global, text: &[u8], mode: Mode) -> Result<Marked, NoMemory>
 }
 
 fn put_asked(out: &mut Out, pages: &PageMap, name: &str, text: &[u8]) {
-    match name {
-        "page" => put_page(out, pages),
-        "template" => put_template(out, pages),
-        _ => put_own_text(out, pages, text),
+    match titled(out.alloc, Namespace::Main, b"P") {
+        Ok(page) => put_on_page(out, pages, &page, name, text),
+        Err(_) => out.lack(),
     }
 }
 
-fn put_page(out: &mut Out, pages: &PageMap) {
-    match titled(out.alloc, Namespace::Main, b"P") {
-        Ok(title) if pages.holds(&title) => put_source(out, pages, Source::Page(title)),
+fn put_on_page(out: &mut Out, pages: &PageMap, page: &Title, name: &str, text: &[u8]) {
+    match name {
+        "page" => put_page(out, pages, page),
+        "template" => put_template(out, pages, page),
+        _ => put_own_text(out, pages, page, text),
+    }
+}
+
+fn put_page(out: &mut Out, pages: &PageMap, page: &Title) {
+    match page.copy() {
+        Ok(title) if pages.holds(&title) => put_source(out, pages, page, Source::Page(title)),
         _ => out.lack(),
     }
 }
 
-fn put_template(out: &mut Out, pages: &PageMap) {
+fn put_template(out: &mut Out, pages: &PageMap, page: &Title) {
     laws::pages_read_back();
     match titled(out.alloc, Namespace::Template, b"T") {
-        Ok(title) if pages.holds(&title) => put_source(out, pages, Source::Template(title)),
+        Ok(title) if pages.holds(&title) => put_source(out, pages, page, Source::Template(title)),
         _ => out.lack(),
     }
 }
 
-fn put_own_text(out: &mut Out, pages: &PageMap, text: &[u8]) {
+fn put_own_text(out: &mut Out, pages: &PageMap, page: &Title, text: &[u8]) {
     match paired(out.alloc, text, Mode::Direct) {
-        Ok(text) => put_source(out, pages, Source::Text(text)),
+        Ok(text) => put_source(out, pages, page, Source::Text(text)),
         Err(_) => out.lack(),
     }
 }
 
-/// The text of a source, in a scene of the page `P` without arguments.
-fn put_source(out: &mut Out, pages: &PageMap, source: Source)
+/// The text of a source, in a scene of the page without arguments.
+fn put_source(out: &mut Out, pages: &PageMap, page: &Title, source: Source)
     requires { IsHeldSource pages.now source }
 {
-    match titled(out.alloc, Namespace::Main, b"P") {
-        Ok(page) => put_expansion(out, pages, &page, source),
-        Err(_) => out.lack(),
-    }
-}
-
-fn put_expansion(out: &mut Out, pages: &PageMap, page: &Title, source: Source)
-    requires { IsHeldSource pages.now source }
-{
-    match page.copy() {
-        Ok(title) => put_in_scene(out, pages, page, title, source),
-        Err(_) => out.lack(),
-    }
-}
-
-fn put_in_scene(out: &mut Out, pages: &PageMap, page: &Title, title: Title, source: Source)
-    requires { IsHeldSource pages.now source }
-{
-    let scene = Scene {
-        title,
-        args: List::new(out.alloc),
-        chain: List::new(out.alloc),
-    };
-    match Expander::start(out.alloc, pages, page, source, scene) {
+    match expander(out.alloc, pages, page, source) {
         Ok(mut expander) => put_expanded(out, &mut expander, &mut allowances()),
         Err(_) => out.lack(),
     }
+}
+
+fn expander<'w>(
+    alloc: Global,
+    pages: &'w PageMap,
+    page: &Title,
+    source: Source,
+) -> Result<Expander<'w>, NoMemory>
+    requires { IsHeldSource pages.now source }
+    ensures ready { IfOk result IsReady }
+    ensures rests { IfOk result (λ e. (depth_in e ≡ 0) × (templates_in e ≡ 0)) }
+{
+    let scene = Scene {
+        title: page.copy()?,
+        args: List::new(alloc),
+        chain: List::new(alloc),
+    };
+    Expander::start(alloc, pages, page, source, scene)
 }
 
 fn allowances() -> Left
@@ -220,11 +216,19 @@ fn put_answered(out: &mut Out, expander: &mut Expander<'_>, left: &mut Left, ans
 {
     match answer.copy() {
         Ok(answer) => match expander.answer(left, answer) {
-            Ok(()) => put_last(out, &expander.go(left)),
+            Ok(()) => go_to_last(out, expander, left),
             Err(_) => out.lack(),
         },
         Err(_) => out.lack(),
     }
+}
+
+fn go_to_last(out: &mut Out, expander: &mut Expander<'_>, left: &mut Left)
+    requires ready { IsReady expander.old }
+    requires depth { left.old.depth + depth_in expander.old < 2 ^ 64 }
+    requires templates { left.old.templates + templates_in expander.old < 2 ^ 64 }
+{
+    put_last(out, &expander.go(left));
 }
 
 /// The text, or the name of the function.

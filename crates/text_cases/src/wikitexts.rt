@@ -12,11 +12,12 @@
 
 ghost use Rattle.std.specs.Prelude.{IsUtf8};
 
-use crate::words::{budget, bytes, copied, escaped, fault, number, place, word, written};
+use crate::out::Out;
+use crate::words::{budget, bytes, copied, escaped, fault, number, place, put_tries, word};
 use mw_frame::{Bytes, List};
 use mw_text::{
     PartAnswer, PartsAnswer, PatternFault, TagAttr, TagContent, TagValue, TextAnswer, decode,
-    encode, isutf8, list_to_text, next_part, nowiki, offset, push_all, split, tag, trim, truncate,
+    encode, isutf8, list_to_text, next_part, nowiki, offset, split, tag, trim, truncate,
     value_is_encoded,
 };
 use std::alloc::Global;
@@ -73,9 +74,11 @@ fn told(alloc: Global, given: &Result<TextAnswer, PatternFault>) -> Result<Vec<u
 }
 
 fn tries_and_text(alloc: Global, tries: u64, text: &[u8]) -> Result<Vec<u8>, NoMemory> {
-    let mut told = written(format!(in alloc; "{tries} tries: "))?;
-    push_all(&mut told, text)?;
-    Ok(told)
+    let mut out = Out::new(alloc);
+    out.put_sum(tries);
+    out.put(b" tries: ");
+    out.put(text);
+    out.given()
 }
 
 fn with_ellipsis(alloc: Global, s: &[u8], text: &str) -> Result<Vec<u8>, NoMemory>
@@ -128,20 +131,17 @@ fn parts(alloc: Global, given: &Result<PartsAnswer, PatternFault>) -> Result<Vec
 }
 
 fn with_bars(alloc: Global, parts: &[Bytes]) -> Result<Vec<u8>, NoMemory> {
-    let mut shown = Vec::new(alloc);
+    let mut out = Out::new(alloc);
     for part in parts {
-        push_all(&mut shown, part.as_slice())?;
-        push_all(&mut shown, b"|")?;
+        out.put(part.as_slice());
+        out.put(b"|");
     }
-    Ok(shown)
+    out.given()
 }
 
 fn tries(alloc: Global, given: &Result<PartsAnswer, PatternFault>) -> Result<Vec<u8>, NoMemory> {
     match given {
-        Ok(PartsAnswer::Parts(parts, tries)) => {
-            let count = parts.as_slice().len();
-            written(format!(in alloc; "{count} parts, {tries} tries"))
-        }
+        Ok(PartsAnswer::Parts(parts, tries)) => counts(alloc, parts.as_slice().len(), *tries),
         Ok(PartsAnswer::Spent) => copied(alloc, b"spent"),
         Err(it) => fault(alloc, *it),
     }
@@ -149,14 +149,40 @@ fn tries(alloc: Global, given: &Result<PartsAnswer, PatternFault>) -> Result<Vec
 
 fn part(alloc: Global, given: &Result<PartAnswer, PatternFault>) -> Result<Vec<u8>, NoMemory> {
     match given {
-        Ok(PartAnswer::Part(part)) => match part.next {
-            Some(next) => {
-                written(format!(in alloc; "{}, next {next}, {} tries", part.stop, part.tries))
-            }
-            None => written(format!(in alloc; "{}, {} tries", part.stop, part.tries)),
-        },
+        Ok(PartAnswer::Part(it)) => one_part(alloc, it.stop, it.next, it.tries),
         Ok(PartAnswer::Spent) => copied(alloc, b"spent"),
         Err(it) => fault(alloc, *it),
+    }
+}
+
+fn counts(alloc: Global, parts: usize, tries: u64) -> Result<Vec<u8>, NoMemory> {
+    let mut out = Out::new(alloc);
+    out.put_count(parts);
+    out.put(b" parts");
+    put_tries(&mut out, tries);
+    out.given()
+}
+
+fn one_part(
+    alloc: Global,
+    stop: usize,
+    next: Option<usize>,
+    tries: u64,
+) -> Result<Vec<u8>, NoMemory> {
+    let mut out = Out::new(alloc);
+    out.put_count(stop);
+    put_next(&mut out, next);
+    put_tries(&mut out, tries);
+    out.given()
+}
+
+fn put_next(out: &mut Out, next: Option<usize>) {
+    match next {
+        Some(next) => {
+            out.put(b", next ");
+            out.put_count(next);
+        }
+        None => {}
     }
 }
 

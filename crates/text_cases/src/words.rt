@@ -1,10 +1,11 @@
 //! What the modules of calls have in common: the words of a row's text, which have tabs between, and answers that are no texts by
 //! themselves.
 
+use crate::out::Out;
 use case_text::unescaped;
 use mw_frame::List;
 use mw_text::PatternFault;
-use std::alloc::{AllocError, Global};
+use std::alloc::Global;
 use wiki_markup::NoMemory;
 
 /// The word with this number, from 0 on; nothing where there are fewer.
@@ -48,18 +49,46 @@ pub(crate) fn copied(alloc: Global, bytes: &[u8]) -> Result<Vec<u8>, NoMemory> {
     }
 }
 
-/// A text that was written as an answer.
-pub(crate) fn written(text: Result<String, AllocError>) -> Result<Vec<u8>, NoMemory> {
-    match text {
-        Ok(text) => Ok(text.into_bytes()),
-        Err(_) => Err(NoMemory),
-    }
+/// A number between two texts as an answer.
+pub(crate) fn numbered(
+    alloc: Global,
+    before: &[u8],
+    number: u64,
+    behind: &[u8],
+) -> Result<Vec<u8>, NoMemory> {
+    let mut out = Out::new(alloc);
+    out.put(before);
+    out.put_sum(number);
+    out.put(behind);
+    out.given()
+}
+
+/// Where a match is, as Lua counts, and its tries.
+pub(crate) fn between(
+    alloc: Global,
+    before: usize,
+    last: usize,
+    tries: u64,
+) -> Result<Vec<u8>, NoMemory> {
+    let mut out = Out::new(alloc);
+    out.put_count(before.saturating_add(1));
+    out.put(b" ");
+    out.put_count(last);
+    put_tries(&mut out, tries);
+    out.given()
+}
+
+/// The tries behind what was found.
+pub(crate) fn put_tries(out: &mut Out, tries: u64) {
+    out.put(b", ");
+    out.put_sum(tries);
+    out.put(b" tries");
 }
 
 /// A fault of a pattern as an answer.
 pub(crate) fn fault(alloc: Global, fault: PatternFault) -> Result<Vec<u8>, NoMemory> {
     match fault {
-        PatternFault::At(number) => written(format!(in alloc; "fault {number}")),
+        PatternFault::At(number) => numbered(alloc, b"fault ", u64::from(number), b""),
         PatternFault::NoMemory => Err(NoMemory),
     }
 }
@@ -84,7 +113,7 @@ pub(crate) fn truth(alloc: Global, holds: bool) -> Result<Vec<u8>, NoMemory> {
 
 /// A number as an answer.
 pub(crate) fn shown(alloc: Global, number: u64) -> Result<Vec<u8>, NoMemory> {
-    written(number.to_string(alloc))
+    numbered(alloc, b"", number, b"")
 }
 
 /// A place as an answer; `none` where there is none.
