@@ -3,7 +3,7 @@ ghost use Rattle.std.specs.Prelude.{◌≡◌, true, false, None, IfOk};
 ghost use Rattle.lua_code.specs.WkBaseTitles.{is_module};
 ghost use Rattle.lua_code.specs.Held.{find_module};
 ghost use Rattle.lua_machine.specs.LuaStackOf.{WorkOf};
-ghost use Rattle.mw_frame.specs.Scenes.{NamesDiffer};
+ghost use Rattle.mw_frame.specs.Scenes.{NamesDiffer, HaveNames};
 
 use crate::replies::{Entry, Reply};
 use lua_code::{Bytes, List, Modules, Namespace, NoMemory, Protos, Title};
@@ -54,6 +54,15 @@ fn module_title(alloc: Global, name: &[u8]) -> Result<Title, NoMemory>
     })
 }
 
+/// The title of the page.
+fn page_title(alloc: Global) -> Result<Title, NoMemory> {
+    let name = Bytes::of(alloc, b"P")?;
+    Ok(Title {
+        ns: Namespace::Main,
+        name,
+    })
+}
+
 /// The code of a text, or its first fault.
 fn code_of(
     alloc: Global,
@@ -64,12 +73,16 @@ fn code_of(
         return Err(NoMemory);
     }
     match parse(alloc, text) {
-        Ok(chunk) => {
-            let protos = resolve(alloc, seed, &chunk)?;
-            Ok(Ok(protos))
-        }
+        Ok(chunk) => without_fault(resolve(alloc, seed, &chunk)),
         Err(SyntaxFault::At(fault)) => Ok(Err(fault)),
         Err(SyntaxFault::NoMemory) => Err(NoMemory),
+    }
+}
+
+fn without_fault(code: Result<Protos, NoMemory>) -> Result<Result<Protos, FaultAt>, NoMemory> {
+    match code {
+        Ok(protos) => Ok(Ok(protos)),
+        Err(NoMemory) => Err(NoMemory),
     }
 }
 
@@ -81,6 +94,38 @@ fn is_held(modules: &Modules, title: &Title) -> bool
         Some(_) => true,
         None => false,
     }
+}
+
+/// A module of that title, which isn't held, is held.
+fn hold(
+    alloc: Global,
+    seed: RandomState,
+    modules: &mut Modules,
+    title: Title,
+    text: &[u8],
+) -> Result<(), NoMemory>
+    requires namespace { is_module title.ns ≡ true }
+    requires fresh { find_module modules.old title ≡ None }
+{
+    match code_of(alloc, seed, text) {
+        Ok(code) => modules.add(title, text.len() as u64, code),
+        Err(NoMemory) => Err(NoMemory),
+    }
+}
+
+/// A module with this text is held, unless one of its title is.
+pub fn add_module(
+    alloc: Global,
+    seed: RandomState,
+    modules: &mut Modules,
+    name: &[u8],
+    text: &[u8],
+) -> Result<(), NoMemory> {
+    let title = module_title(alloc, name)?;
+    if is_held(modules, &title) {
+        return Ok(());
+    }
+    hold(alloc, seed, modules, title, text)
 }
 
 /// An argument of a frame.
@@ -101,57 +146,48 @@ fn scene(
 ) -> Result<Scene, NoMemory>
     ensures { IfOk result (λ s. NamesDiffer s.args) }
 {
-    let args = merge_args(alloc, seed, args)?;
-    Ok(Scene { title, args, chain })
+    match merge_args(alloc, seed, args) {
+        Ok(args) => Ok(Scene { title, args, chain }),
+        Err(NoMemory) => Err(NoMemory),
+    }
+}
+
+/// A list of a copy of a title.
+fn listed(alloc: Global, title: &Title) -> Result<List<Title>, NoMemory> {
+    let mut titles = List::new(alloc);
+    titles.push(title.copy()?)?;
+    Ok(titles)
+}
+
+/// A case of that name on a page, with nothing in it.
+fn empty(alloc: Global, seed: RandomState, name: Vec<u8>, page: Title) -> Case {
+    Case {
+        name,
+        page,
+        modules: Modules::new(alloc, seed),
+        aim: Aim::Load(Vec::new(alloc)),
+        args: List::new(alloc),
+        parent: None,
+        parent_args: List::new(alloc),
+        entries: List::new(alloc),
+        replies: List::new(alloc),
+    }
 }
 
 impl Case {
     /// A case with nothing in it, on a page `P`.
     pub fn new(alloc: Global, seed: RandomState, name: &[u8]) -> Result<Case, NoMemory> {
-        let mut own = Vec::new(alloc);
-        own.extend_from_slice(name)?;
-        let page = Bytes::of(alloc, b"P")?;
-        Ok(Case {
-            name: own,
-            page: Title {
-                ns: Namespace::Main,
-                name: page,
-            },
-            modules: Modules::new(alloc, seed),
-            aim: Aim::Load(Vec::new(alloc)),
-            args: List::new(alloc),
-            parent: None,
-            parent_args: List::new(alloc),
-            entries: List::new(alloc),
-            replies: List::new(alloc),
-        })
-    }
-
-    /// A module with this text is held, unless one of its title is.
-    pub fn add_module(
-        &mut self,
-        alloc: Global,
-        seed: RandomState,
-        name: &[u8],
-        text: &[u8],
-    ) -> Result<(), NoMemory> {
-        let title = module_title(alloc, name)?;
-        let code = code_of(alloc, seed, text)?;
-        let size = text.len() as u64;
-        if is_held(&self.modules, &title) {
-            return Ok(());
-        }
-        self.modules.add(title, size, code)
+        let name = Vec::from_slice(alloc, name)?;
+        let page = page_title(alloc)?;
+        Ok(empty(alloc, seed, name, page))
     }
 
     /// The titles of the templates that are being expanded.
     fn chain(&self, alloc: Global) -> Result<List<Title>, NoMemory> {
-        let mut chain = List::new(alloc);
-        if let Some(title) = &self.parent {
-            let title = title.copy()?;
-            chain.push(title)?;
+        match &self.parent {
+            Some(title) => listed(alloc, title),
+            None => Ok(List::new(alloc)),
         }
-        Ok(chain)
     }
 
     /// The title of the page or template around the invocation.
@@ -162,8 +198,46 @@ impl Case {
         }
     }
 
+    /// The scene of a module's frame.
+    fn own_scene(&self, alloc: Global, seed: RandomState, name: &[u8]) -> Result<Scene, NoMemory>
+        ensures { IfOk result (λ s. NamesDiffer s.args) }
+    {
+        let chain = self.chain(alloc)?;
+        let title = module_title(alloc, name)?;
+        scene(alloc, seed, title, self.args.as_slice(), chain)
+    }
+
+    /// The scene around the invocation.
+    fn parent_scene(&self, alloc: Global, seed: RandomState) -> Result<Scene, NoMemory>
+        ensures { IfOk result (λ s. NamesDiffer s.args) }
+    {
+        let chain = self.chain(alloc)?;
+        let title = self.around()?;
+        scene(alloc, seed, title, self.parent_args.as_slice(), chain)
+    }
+
     /// The invocation of a function of a module.
     fn job(
+        &self,
+        alloc: Global,
+        seed: RandomState,
+        name: &[u8],
+        function: Bytes,
+    ) -> Result<Job, NoMemory>
+        ensures { IfOk result HaveNames }
+    {
+        let module = module_title(alloc, name)?;
+        let scene = self.own_scene(alloc, seed, name)?;
+        let parent = self.parent_scene(alloc, seed)?;
+        Ok(Job {
+            module,
+            function,
+            scene,
+            parent,
+        })
+    }
+
+    fn invocation(
         &self,
         alloc: Global,
         seed: RandomState,
@@ -172,21 +246,9 @@ impl Case {
     ) -> Result<Work, NoMemory>
         ensures { IfOk result WorkOf }
     {
-        let module = module_title(alloc, name)?;
-        let title = module.copy()?;
         let function = Bytes::of(alloc, function)?;
-        let chain = self.chain(alloc)?;
-        let own = scene(alloc, seed, title, self.args.as_slice(), chain)?;
-        let around = self.around()?;
-        let parent_chain = self.chain(alloc)?;
-        let args = self.parent_args.as_slice();
-        let parent = scene(alloc, seed, around, args, parent_chain)?;
-        Ok(Work::Invoke(Job {
-            module,
-            function,
-            scene: own,
-            parent,
-        }))
+        let job = self.job(alloc, seed, name, function)?;
+        Ok(Work::Invoke(job))
     }
 
     /// What is to be done, for one run.
@@ -195,13 +257,17 @@ impl Case {
     {
         match &self.aim {
             Aim::Invoke(name, function) => {
-                let work = self.job(alloc, seed, name.as_slice(), function.as_slice())?;
-                Ok(work)
+                self.invocation(alloc, seed, name.as_slice(), function.as_slice())
             }
-            Aim::Load(name) => {
-                let title = module_title(alloc, name.as_slice())?;
-                Ok(Work::Data(title))
-            }
+            Aim::Load(name) => load(alloc, name.as_slice()),
         }
     }
+}
+
+/// The load of a module.
+fn load(alloc: Global, name: &[u8]) -> Result<Work, NoMemory>
+    ensures { IfOk result WorkOf }
+{
+    let title = module_title(alloc, name)?;
+    Ok(Work::Data(title))
 }

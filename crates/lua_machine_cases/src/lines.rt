@@ -1,16 +1,13 @@
 //! The lines of a table of cases, in bytes: a word and texts, with tabs between. The texts have the escapes of `case_text`.
-use crate::case::{Aim, Case, argument};
+use crate::case::Case;
 use crate::every::{Found, START, every_step, least_calls};
-use crate::replies::{Change, Entry, Reply, Told};
-use crate::runs::{Allowed, end_of};
-use crate::shown::{add_bytes, add_number, add_words};
+use crate::parts::{number, take_part};
+use crate::runs::{Allowed, Ended, end_of};
+use crate::shown::{Out, put_bytes};
 use crate::starts::{start_apart, start_together};
-use case_text::unescaped;
-use lua_code::{List, Namespace, NoMemory, Title};
-use mw_frame::TitleFault;
+use lua_code::{List, NoMemory};
 use std::alloc::Global;
 use std::hash::RandomState;
-use std::mem::replace;
 
 /// What a line has run, and what it wants to see.
 #[derive(Clone, Copy)]
@@ -58,198 +55,118 @@ fn cut(line: &[u8]) -> (&[u8], &[u8]) {
     (line, b"")
 }
 
-/// A text of the table.
-fn plain(alloc: Global, text: &[u8]) -> Result<Vec<u8>, NoMemory> {
-    let bytes = unescaped(alloc, text)?;
-    Ok(bytes)
+/// A number behind words.
+fn put_counted(out: &mut Out, before: &str, n: u64, behind: &str) {
+    out.put(before);
+    out.put_number(n);
+    out.put(behind);
 }
 
-/// The number that digits write; other bytes are passed over.
-fn number(text: &[u8]) -> u64 {
-    let mut value = 0u64;
-    for byte in text.iter().copied() {
-        if byte.is_ascii_digit() {
-            value = value
-                .saturating_mul(10)
-                .saturating_add(u64::from(byte - b'0'));
+/// How a run ended, and what it took or left where that is wanted.
+fn put_ended(out: &mut Out, run: Run, allowed: Allowed, end: &Ended) {
+    out.put(end.said.text.as_str());
+    match run {
+        Run::Exact => put_counted(out, ", ", end.steps, " left"),
+        Run::Took => {
+            let taken = allowed.steps.saturating_sub(end.steps);
+            put_counted(out, ", ", taken, " taken")
         }
-    }
-    value
-}
-
-/// What becomes of the steps: a number that are left, or behind a `-` that are taken.
-fn change(text: &[u8]) -> Change {
-    match text {
-        [b'-', taken @ ..] => Change::Takes(number(taken)),
-        _ => Change::Leaves(number(text)),
+        _ => {}
     }
 }
 
-/// The title of a template around the invocation.
-fn template(alloc: Global, text: &[u8]) -> Result<Option<Title>, NoMemory> {
-    match Title::read(alloc, text, Namespace::Template) {
-        Ok(title) => Ok(Some(title)),
-        Err(TitleFault::NoMemory) => Err(NoMemory),
-        Err(_) => Ok(None),
-    }
-}
-
-/// An answer more to the questions of the next run.
-fn add_reply(case: &mut Case, told: Told, left: &[u8]) -> Result<(), NoMemory> {
-    let change = change(left);
-    case.replies.push(Reply { told, change })
-}
-
-/// A line with an answer; false where it is none.
-fn take_answer(
-    alloc: Global,
-    case: &mut Case,
-    word: &[u8],
-    first: &[u8],
-    second: &[u8],
-) -> Result<bool, NoMemory> {
-    match word {
-        b"text" => {
-            let text = plain(alloc, first)?;
-            add_reply(case, Told::Text(text), second)?;
-        }
-        b"none" => add_reply(case, Told::NoPage, first)?,
-        b"failed" => {
-            let message = plain(alloc, first)?;
-            add_reply(case, Told::Failed(message), second)?;
-        }
-        b"entry" => {
-            let key = plain(alloc, first)?;
-            let value = plain(alloc, second)?;
-            case.entries.push(Entry { key, value })?;
-        }
-        b"table" => {
-            let entries = replace(&mut case.entries, List::new(alloc));
-            add_reply(case, Told::Table(entries), first)?;
-        }
-        _ => return Ok(false),
-    }
-    Ok(true)
-}
-
-/// A line with modules or what is to be done with them; false where it is none.
-fn take_part(
+/// One run.
+fn put_run(
     alloc: Global,
     seed: RandomState,
-    case: &mut Case,
-    word: &[u8],
-    first: &[u8],
-    second: &[u8],
-) -> Result<bool, NoMemory> {
-    match word {
-        b"case" => *case = Case::new(alloc, seed, first)?,
-        b"module" => {
-            let name = plain(alloc, first)?;
-            let text = plain(alloc, second)?;
-            case.add_module(alloc, seed, name.as_slice(), text.as_slice())?;
-        }
-        b"invoke" => case.aim = Aim::Invoke(plain(alloc, first)?, plain(alloc, second)?),
-        b"load" => case.aim = Aim::Load(plain(alloc, first)?),
-        b"arg" => {
-            let arg = argument(plain(alloc, first)?, plain(alloc, second)?);
-            case.args.push(arg)?;
-        }
-        b"parent" => case.parent = template(alloc, first)?,
-        b"of" => {
-            let arg = argument(plain(alloc, first)?, plain(alloc, second)?);
-            case.parent_args.push(arg)?;
-        }
-        _ => return Ok(false),
-    }
-    Ok(true)
-}
-
-/// One run: its end, and what it took or left where that is wanted.
-fn add_end(
-    alloc: Global,
-    seed: RandomState,
-    out: &mut String,
+    out: &mut Out,
     case: &Case,
     run: Run,
     allowed: Allowed,
 ) -> Result<(), NoMemory> {
     let end = end_of(alloc, seed, case, allowed)?;
-    add_words(out, end.text.as_str())?;
-    match run {
-        Run::Exact => {
-            add_words(out, ", ")?;
-            add_number(out, end.steps)?;
-            add_words(out, " left")
-        }
-        Run::Took => {
-            add_words(out, ", ")?;
-            add_number(out, allowed.steps.saturating_sub(end.steps))?;
-            add_words(out, " taken")
-        }
-        _ => Ok(()),
+    put_ended(out, run, allowed, &end);
+    Ok(())
+}
+
+fn put_found(out: &mut Out, found: Found) {
+    match found {
+        Found::From(from) => put_counted(out, ": from ", from, " on"),
+        Found::Differs(at) => put_counted(out, ": differs at ", at, ""),
+        Found::Endless => out.put(": endless"),
     }
 }
 
 /// What many runs come to.
-fn add_found(out: &mut String, word: &str, found: Found) -> Result<(), NoMemory> {
-    add_words(out, word)?;
+fn put_many(out: &mut Out, word: &str, found: Result<Found, NoMemory>) -> Result<(), NoMemory> {
+    out.put(word);
     match found {
-        Found::From(from) => {
-            add_words(out, ": from ")?;
-            add_number(out, from)?;
-            add_words(out, " on")
+        Ok(found) => {
+            put_found(out, found);
+            Ok(())
         }
-        Found::Differs(at) => {
-            add_words(out, ": differs at ")?;
-            add_number(out, at)
-        }
-        Found::Endless => add_words(out, ": endless"),
+        Err(NoMemory) => Err(NoMemory),
     }
+}
+
+fn put_started(out: &mut Out, started: Result<(), NoMemory>) -> Result<(), NoMemory> {
+    out.put("started");
+    started
 }
 
 /// What a line that has a case run wants to see, behind the case's name.
-fn said_of(
+fn put_said(
     alloc: Global,
     seed: RandomState,
+    out: &mut Out,
     case: &Case,
     run: Run,
     allowed: Allowed,
-) -> Result<String, NoMemory> {
-    let mut out = String::new(alloc);
-    add_bytes(&mut out, case.name.as_slice())?;
-    add_words(&mut out, ": ")?;
+) -> Result<(), NoMemory> {
+    put_bytes(out, case.name.as_slice());
+    out.put(": ");
     match run {
-        Run::All => {
-            let found = every_step(alloc, seed, case, allowed, 0)?;
-            add_found(&mut out, "all", found)?;
-        }
-        Run::Every => {
-            let found = every_step(alloc, seed, case, allowed, START)?;
-            add_found(&mut out, "every", found)?;
-        }
-        Run::Levels => {
-            let found = least_calls(alloc, seed, case, allowed)?;
-            add_found(&mut out, "levels", found)?;
-        }
-        Run::Starts => {
-            start_together(alloc, seed, case, allowed.steps)?;
-            add_words(&mut out, "started")?;
-        }
-        Run::Stores => {
-            start_apart(alloc, seed, case, allowed.steps)?;
-            add_words(&mut out, "started")?;
-        }
-        _ => add_end(alloc, seed, &mut out, case, run, allowed)?,
+        Run::All => put_many(out, "all", every_step(alloc, seed, case, allowed, 0)),
+        Run::Every => put_many(out, "every", every_step(alloc, seed, case, allowed, START)),
+        Run::Levels => put_many(out, "levels", least_calls(alloc, seed, case, allowed)),
+        Run::Starts => put_started(out, start_together(alloc, seed, case, allowed.steps)),
+        Run::Stores => put_started(out, start_apart(alloc, seed, case, allowed.steps)),
+        _ => put_run(alloc, seed, out, case, run, allowed),
     }
-    Ok(out)
 }
 
-/// A line that is none of the table.
-fn complaint(alloc: Global, word: &[u8]) -> Result<String, NoMemory> {
-    let mut out = String::new(alloc);
-    add_words(&mut out, "no such word: ")?;
-    add_bytes(&mut out, word)?;
-    Ok(out)
+/// A line that has a case run, with the answers before it.
+fn take_run(
+    alloc: Global,
+    seed: RandomState,
+    case: &mut Case,
+    said: &mut Out,
+    run: Run,
+    allowed: Allowed,
+) -> Result<(), NoMemory> {
+    let ran = put_said(alloc, seed, said, case, run, allowed);
+    case.replies = List::new(alloc);
+    ran
+}
+
+/// A line that says something.
+fn take_words(
+    alloc: Global,
+    seed: RandomState,
+    case: &mut Case,
+    said: &mut Out,
+    line: &[u8],
+) -> Result<(), NoMemory> {
+    let (word, rest) = cut(line);
+    let (first, second) = cut(rest);
+    let allowed = Allowed {
+        steps: number(first),
+        calls: number(second),
+    };
+    match run_named(word) {
+        Some(run) => take_run(alloc, seed, case, said, run, allowed),
+        None => take_part(alloc, seed, case, said, word, first, second),
+    }
 }
 
 /// Takes a line of a table: a part of the case, or a word that has it run, of which it tells what it came to. A line that begins with `#`,
@@ -273,28 +190,11 @@ pub fn take_line(
     alloc: Global,
     seed: RandomState,
     case: &mut Case,
+    said: &mut Out,
     line: &[u8],
-) -> Result<Option<String>, NoMemory> {
-    if matches!(line, [] | [b'#', ..]) {
-        return Ok(None);
+) -> Result<(), NoMemory> {
+    match line {
+        [] | [b'#', ..] => Ok(()),
+        _ => take_words(alloc, seed, case, said, line),
     }
-    let (word, rest) = cut(line);
-    let (first, second) = cut(rest);
-    if let Some(run) = run_named(word) {
-        let allowed = Allowed {
-            steps: number(first),
-            calls: number(second),
-        };
-        let said = said_of(alloc, seed, case, run, allowed)?;
-        case.replies = List::new(alloc);
-        return Ok(Some(said));
-    }
-    if take_part(alloc, seed, case, word, first, second)? {
-        return Ok(None);
-    }
-    if take_answer(alloc, case, word, first, second)? {
-        return Ok(None);
-    }
-    let said = complaint(alloc, word)?;
-    Ok(Some(said))
 }

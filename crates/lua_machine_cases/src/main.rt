@@ -9,7 +9,8 @@
 //! - `runs`: one run of a case
 //! - `every`: many runs of a case, with each number of steps or of calls
 //! - `starts`: machines that are only started
-//! - `lines`: the lines of a table of cases
+//! - `parts`: the lines of a table that make a case
+//! - `lines`: all lines, and what those say that have it run
 //! - `words`: how a run ended, in words
 //! - `shown`: titles, texts and questions in words
 #![tactic(auto)]
@@ -17,6 +18,7 @@
 mod case;
 mod every;
 mod lines;
+mod parts;
 mod replies;
 mod runs;
 mod shown;
@@ -25,24 +27,51 @@ mod words;
 
 use crate::case::Case;
 use crate::lines::take_line;
+use crate::shown::Out;
 use std::hash::RandomState;
 use std::io;
 
-fn main(rt: HostRuntime) -> io::Result<()> {
-    let seed = RandomState::new(&rt)?;
-    let Ok(mut case) = Case::new(rt.alloc(), seed, b"") else {
-        return println!(rt; "no memory");
-    };
+/// Prints what a line came to, if it says anything.
+fn print_said(rt: &HostRuntime, said: &str) -> io::Result<()> {
+    if said.is_empty() {
+        return Ok(());
+    }
+    println!(rt; "{said}")
+}
+
+/// Takes a line, and prints what it came to.
+fn take(
+    rt: &HostRuntime,
+    seed: RandomState,
+    case: &mut Case,
+    said: &mut Out,
+    line: &str,
+) -> io::Result<()> {
+    said.clear();
+    match take_line(rt.alloc(), seed, case, said, line.as_bytes()) {
+        Ok(()) if !said.is_lacking => print_said(rt, said.text.as_str()),
+        _ => println!(rt; "no memory"),
+    }
+}
+
+fn take_all(rt: &HostRuntime, seed: RandomState, case: &mut Case) -> io::Result<()> {
+    let mut said = Out::new(rt.alloc());
     for line in rt.lines(rt.alloc()) {
         let line = line?;
-        match take_line(rt.alloc(), seed, &mut case, line.as_bytes()) {
-            Ok(Some(said)) => {
-                let said = said.as_str();
-                println!(rt; "{said}")?;
-            }
-            Ok(None) => {}
-            Err(_) => println!(rt; "no memory")?,
-        }
+        take(rt, seed, case, &mut said, line.as_str())?;
     }
     Ok(())
+}
+
+/// Takes each line, beginning with a case that has nothing in it.
+fn take_from_nothing(rt: &HostRuntime, seed: RandomState) -> io::Result<()> {
+    match Case::new(rt.alloc(), seed, b"") {
+        Ok(mut case) => take_all(rt, seed, &mut case),
+        Err(_) => println!(rt; "no memory"),
+    }
+}
+
+fn main(rt: HostRuntime) -> io::Result<()> {
+    let seed = RandomState::new(&rt)?;
+    take_from_nothing(&rt, seed)
 }

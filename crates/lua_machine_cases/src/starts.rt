@@ -14,6 +14,19 @@ fn start(alloc: Global, store: &mut Store, seed: RandomState, case: &Case) -> Re
     Ok(())
 }
 
+fn start_each(
+    alloc: Global,
+    store: &mut Store,
+    seed: RandomState,
+    case: &Case,
+    count: u64,
+) -> Result<(), NoMemory> {
+    for _ in 0..count {
+        start(alloc, store, seed, case)?;
+    }
+    Ok(())
+}
+
 /// Starts so many machines in one store.
 pub fn start_together(
     alloc: Global,
@@ -23,17 +36,7 @@ pub fn start_together(
 ) -> Result<(), NoMemory> {
     let arena = Bump::new(alloc);
     let mut store = Store::new(alloc, &arena, seed);
-    for _ in 0..count {
-        start(alloc, &mut store, seed, case)?;
-    }
-    Ok(())
-}
-
-/// Starts a machine in a store of its own.
-fn start_once(alloc: Global, seed: RandomState, case: &Case) -> Result<(), NoMemory> {
-    let arena = Bump::new(alloc);
-    let mut store = Store::new(alloc, &arena, seed);
-    start(alloc, &mut store, seed, case)
+    start_each(alloc, &mut store, seed, case, count)
 }
 
 /// Starts so many machines, each in a store of its own.
@@ -44,7 +47,7 @@ pub fn start_apart(
     count: u64,
 ) -> Result<(), NoMemory> {
     for _ in 0..count {
-        start_once(alloc, seed, case)?;
+        start_together(alloc, seed, case, 1)?;
     }
     Ok(())
 }

@@ -1,4 +1,4 @@
-use Rattle.lua_machine_cases.proofs.runs.end_in.Given as goal
+use Rattle.lua_machine_cases.proofs.runs.run_in.Given as goal
 
 -- the counter of turns has the ledger of its blank
 abbrev pub ghosts-run_started : goal.ghosts-run_started
