@@ -517,6 +517,19 @@ math.pow(-1, -3) => -1
 """)
 
 
+rows("rows_of_many_items", "Patterns of many items that match nothing without a try: in the middle of a text, at its end, and both.", r"""
+string.find('a', ('.-'):rep(40)..'b') => nil
+string.find('aab', ('.-'):rep(40)..'b') => 1 3
+string.find('ab', ('.-'):rep(20)..'%f[%z]()'..('.-'):rep(20)..'$') => 1 2 3
+string.find('', ('a*'):rep(40)..'$') => 1 0
+string.find('aa', ('a?'):rep(17)..'b', -1) => nil
+string.match('aab', '(.-)'..('a-'):rep(40)..'(b)') => '' 'b'
+string.match('(a)', ('.-'):rep(20)..'%b()'..('.-'):rep(20)..'()$') => 4
+string.gsub('xxx', ('.-'):rep(40)..'x', 'y') => 'yyy' 3
+string.gsub('ab', ('.-'):rep(40), '-') => '-a-b-' 3
+string.gsub('aabab', '(a-)'..('a-'):rep(40)..'%1b', '<%1>') => '<><>' 2
+""")
+
 # ---- by the rules alone
 rows("rows_of_texts_in_the_profile", "Places at both ends of the numbers, codes, malformed patterns, and directives that are none.", r"""
 string.byte('abc', least, most) => 97 98 99

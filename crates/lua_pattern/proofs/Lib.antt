@@ -2,9 +2,11 @@ pub mod Laws
 pub mod Closing
 pub mod Places
 pub mod TrailLemmas
+pub mod RunLemmas
 pub mod StepLemmas
 pub mod Loads
 pub mod Ends
+pub mod Skips
 pub mod Starts
 pub mod Inside
 pub mod Tells

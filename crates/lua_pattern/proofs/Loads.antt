@@ -3,7 +3,8 @@ use Rattle.std.proofs.Common.{◌≡◌, ℕ, zero, suc, ◌+◌, ◌-◌, ◌*�
 use Rattle.std.proofs.Math.Nat.{mul-le-mul_right}
 use Rattle.lua_pattern.specs.declared.passes.Now.{Now}
 use Rattle.lua_pattern.specs.declared.passes.Now.TheVariants.{At}
-use Rattle.lua_pattern.specs.declared.trail.Choice.TheVariants.{Down}
+use Rattle.lua_pattern.specs.declared.trail.Choice.{Choice}
+use Rattle.lua_pattern.specs.declared.trail.Choice.TheVariants.{Down, Up}
 use Rattle.lua_pattern.specs.Trail.{TrailState}
 use Rattle.lua_pattern.specs.Search.{Lighter, load, weight, heavy, unit, price}
 
@@ -40,14 +41,35 @@ plus_load count size next left middle now left_now state state_now le h =
     let g : middle * price count size ≤ left * price count size = mul-le-mul_right (price count size) le in
     omega (arith, h, g)
 
-pub one_more_load : (count size index left middle : ℕ) (now : Now) (left_now : ℕ) (state state_now : TrailState) → 1 ≤ left → middle ≡ left - 1 →
-    Lighter count size (index + 1) state middle now left_now state_now →
-    load count size now left_now state_now < 1 + heavy count state.choices + left * price count size
-one_more_load count size index left middle now left_now state state_now le em h =
+pub minus_load : (count size index next at left : ℕ) (state state_now : TrailState) → index < next → next ≤ count →
+    state_now ≡ record { choices = Up index next at (length state.marks) ∷ state.choices; marks = state.marks } →
+    Lighter count size (index + 1) state left (At next at) left state_now
+minus_load count size index next at left state state_now lt le ek =
+    let b : heavy count state_now.choices ≡ next - 1 - index + 1 + heavy count state.choices = ap (λ k. heavy count k.choices) ek in
+    omega (arith, lt, le, b)
+
+pub one_more_load : (count size index to left middle : ℕ) (state : TrailState) → 1 ≤ left → middle ≡ left - 1 →
+    load count size (At index to) middle state < 1 + heavy count state.choices + left * price count size
+one_more_load count size index to left middle state le em =
     let more : middle + 1 ≤ left = omega (arith, le, em) in
     let s : (middle + 1) * price count size ≤ left * price count size = mul-le-mul_right (price count size) more in
     let p : 0 * unit count + unit count ≤ price count size = price_pays count size 0 (omega arith) in
-    omega (arith, h, s, p)
+    omega (arith, s, p)
+
+pub last_load : (count first behind last at : ℕ) (state state_now : TrailState) → last ≡ behind - 1 → first < last →
+    state_now ≡ record { choices = Up first last at (length state.marks) ∷ state.choices; marks = state.marks } →
+    1 + heavy count state_now.choices ≤ behind - 1 - first + 1 + heavy count state.choices
+last_load count first behind last at state state_now el lt ek =
+    let b : heavy count state_now.choices ≡ last - 1 - first + 1 + heavy count state.choices = ap (λ k. heavy count k.choices) ek in
+    omega (arith, el, lt, b)
+
+pub again_load : (count size first behind at marks left : ℕ) (choice : Choice) (state middle : TrailState) (load_now : ℕ) → choice ≡ Up first behind at marks →
+    ((n : ℕ) → 1 + heavy n middle.choices ≤ behind - 1 - first + 1 + heavy n state.choices) →
+    load_now < 1 + heavy count middle.choices + left * price count size → load_now < heavy count (choice ∷ state.choices) + left * price count size
+again_load count size first behind at marks left choice state middle load_now e le lt =
+    let h : heavy count (choice ∷ state.choices) ≡ behind - 1 - first + 1 + heavy count state.choices = ap (λ c. heavy count (c ∷ state.choices)) e in
+    let l : 1 + heavy count middle.choices ≤ behind - 1 - first + 1 + heavy count state.choices = le count in
+    omega (arith, h, l, lt)
 
 pub descend_load : (count item low high place : ℕ) (state state_now : TrailState) → low < place → place ≤ high →
     state_now ≡ record { choices = Down item low (place - 1) (length state.marks) ∷ state.choices; marks = state.marks } →

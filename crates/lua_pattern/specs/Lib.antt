@@ -8,6 +8,7 @@ pub mod Prepared
 pub mod Way
 pub mod Trail
 pub mod Search
+pub mod Runs
 pub mod Places
 pub mod Keeps
 pub mod Found

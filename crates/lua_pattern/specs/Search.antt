@@ -49,7 +49,7 @@ unit count = 2 * count + 3
 abbrev pub heavy : ℕ → List Choice → ℕ
 heavy count [] = 0
 heavy count (Down item low high marks ∷ cs) = (high - low + 1) * unit count + heavy count cs
-heavy count (Up item at marks ∷ cs) = 1 + heavy count cs
+heavy count (Up first behind at marks ∷ cs) = behind - 1 - first + 1 + heavy count cs
 
 abbrev pub weight : ℕ → Now → ℕ
 weight count (At i at) = 2 * (count - i) + 1

@@ -16,7 +16,7 @@ pub record TrailState : Type 0 where
 -- the marks that had been passed when the choice was made
 abbrev pub marks_of : Choice → ℕ
 marks_of (Down item low high count) = count
-marks_of (Up item at count) = count
+marks_of (Up first behind at count) = count
 
 -- Each choice was made when no more marks had been passed than at the one above it.
 abbrev pub Ordered : List Choice → ℕ → Type 0
@@ -40,9 +40,15 @@ again a [] subject at marks = Miss 0
 again a (Minus x ∷ items) subject at marks = one_more a x (a.symbols (drop at subject)) (way a items subject) at marks
 again a (_ ∷ items) subject at marks = Miss 0
 
+-- the same of an item that stands n behind a first one, or of the one before it, and so on down to the first
+abbrev pub backwards : Letters → List Item → List ℕ → ℕ → ℕ → ℕ → List ℕ → Outcome
+backwards a items subject first zero at marks = again a (drop first items) subject at marks
+backwards a items subject first (suc n) at marks =
+    or_else (again a (drop (first + suc n) items) subject at marks) (backwards a items subject first n at marks)
+
 abbrev pub chosen : Letters → List Item → List ℕ → Choice → List ℕ → Outcome
 chosen a items subject (Down item low high count) marks = downwards a subject (high - low) (way a (drop item items) subject) low marks
-chosen a items subject (Up item at count) marks = again a (drop item items) subject at marks
+chosen a items subject (Up first behind at count) marks = backwards a items subject first (behind - 1 - first) at marks
 
 -- what the choices give, the last one first
 abbrev pub tried : Letters → List Item → List ℕ → List Choice → List ℕ → Outcome

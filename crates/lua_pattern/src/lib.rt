@@ -1,7 +1,7 @@
 //! Lua patterns over bytes and over code points: reading, and the first match with an exact count of tries.
 //!
 //! - `alphabet`: what the symbols of a text are, and which of them a class holds
-//! - `item`: the items of a pattern
+//! - `item`, `items`: the items of a pattern, and where each leads at a subject's end
 //! - `byte_table`: a bit for each byte
 //! - `prepared`: sets whose tests cost a bounded time
 //! - `slots`: the marks of the captures
@@ -18,6 +18,7 @@ pub mod alphabet;
 mod byte_table;
 pub mod fits;
 pub mod item;
+pub mod items;
 mod passes;
 pub mod pattern;
 pub mod prepared;

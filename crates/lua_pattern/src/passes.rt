@@ -1,12 +1,16 @@
 //! One turn of a search: an item is passed, or a choice is taken up again.
-ghost use Rattle.std.specs.Prelude.{◌≡◌, ℕ, ◌+◌, ◌-◌, ◌*◌, ◌<◌, ◌≤◌, ◌∷◌, length, drop, slice_index, true, false, IfOk, MatchOption, []};
+ghost use Rattle.std.specs.Prelude.{◌≡◌, ℕ, List, ◌+◌, ◌-◌, ◌*◌, ◌<◌, ◌≤◌, ◌∷◌, length, drop, slice_index, true, false, IfOk, MatchOption, []};
 ghost use Rattle.lua_pattern.specs.Way.{one, star, least_first, maybe, same_again, balanced, test_way, item_way, between_marks, way, or_else};
-ghost use Rattle.lua_pattern.specs.Trail.{tried, chosen, one_more, downwards};
+ghost use Rattle.lua_pattern.specs.Trail.{tried, again, backwards, chosen, one_more, downwards};
+ghost use Rattle.lua_pattern.specs.Runs.{IsNoted};
+ghost use Rattle.lua_pattern.specs.Letters.{Letters};
+ghost use Rattle.lua_pattern.specs.declared.item.Item.{Item as AnItem};
 ghost use Rattle.lua_pattern.specs.Search.{from_here, Follows, Lighter, load, heavy, weight, unit, price};
 
 use crate::alphabet::Alphabet;
 use crate::fits::fit;
 use crate::item::{Item, Single};
+use crate::items::{Run, behind_few};
 use crate::steps::{close, compare, count_run, is_at_frontier, settle, symbol_at, text_from};
 use crate::trail::{Choice, Trail};
 use wk_base::NoMemory;
@@ -256,11 +260,11 @@ fn pass_mark<A: Alphabet>(
     Ok(Now::At(next, at))
 }
 
-/// `-`
-#[tactic(auto, using(crate::proofs::StepLemmas::minus_step, crate::proofs::Laws::costs_zero))]
+/// `-`, with those that stand behind it: none takes a symbol at first, and one more of one of them is a choice.
 fn pass_minus<A: Alphabet>(
     single: &Single,
     items: &[Item],
+    few: &[usize],
     subject: &[u8],
     index: usize,
     at: usize,
@@ -269,11 +273,13 @@ fn pass_minus<A: Alphabet>(
 ) -> Result<Now, NoMemory>
     requires inside { index < length items.now }
     requires item { drop index items.now ≡ Item.Minus single.now ∷ drop (index + 1) items.now }
+    requires few { IsNoted Run.Few items.now few.now }
     ensures follows { IfOk result (λ now. Follows A.letters items.now subject.now (or_else (least_first A.letters single.now (A.letters.symbols (drop at subject.now)) (way A.letters (drop (index + 1) items.now) subject.now) at trail.old.marks) (tried A.letters items.now subject.now trail.old.choices trail.old.marks)) left.old now left.new trail.new) }
     ensures lighter { IfOk result (λ now. Lighter (length items.now) (length subject.now) (index + 1) trail.old left.old now left.new trail.new) }
 {
-    trail.up(index, at)?;
-    Ok(Now::At(index + 1, at))
+    let next = behind_few(few, index, index + 1);
+    trail.up(index, next, at)?;
+    Ok(Now::At(next, at))
 }
 
 /// The text between two marks.
@@ -323,6 +329,7 @@ fn items_from(items: &[Item], index: usize) -> &[Item]
 pub fn pass<A: Alphabet>(
     item: &Item,
     items: &[Item],
+    few: &[usize],
     subject: &[u8],
     index: usize,
     at: usize,
@@ -331,6 +338,7 @@ pub fn pass<A: Alphabet>(
 ) -> Result<Now, NoMemory>
     requires inside { index < length items.now }
     requires item { drop index items.now ≡ item.now ∷ drop (index + 1) items.now }
+    requires few { IsNoted Run.Few items.now few.now }
     ensures follows { IfOk result (λ now. Follows A.letters items.now subject.now (from_here A.letters items.now subject.now (Now.At index at) trail.old) left.old now left.new trail.new) }
     ensures lighter { IfOk result (λ now. load (length items.now) (length subject.now) now left.new trail.new < load (length items.now) (length subject.now) (Now.At index at) left.old trail.old) }
 {
@@ -339,7 +347,7 @@ pub fn pass<A: Alphabet>(
         Item::One(single) => Ok(pass_one::<A>(single, items, subject, next, at, left, trail)),
         Item::Star(single) => pass_star::<A>(single, items, subject, next, at, left, trail),
         Item::Plus(single) => pass_plus::<A>(single, items, subject, next, at, left, trail),
-        Item::Minus(single) => pass_minus::<A>(single, items, subject, index, at, left, trail),
+        Item::Minus(single) => pass_minus::<A>(single, items, few, subject, index, at, left, trail),
         Item::Maybe(single) => pass_maybe::<A>(single, items, subject, next, at, left, trail),
         Item::Back(first, last) => {
             let word = word_between(subject, trail.marks(), *first, *last);
@@ -361,7 +369,7 @@ pub fn pass<A: Alphabet>(
 }
 
 /// Goes on with one symbol more of an item that takes as few as it can.
-#[tactic(auto, using(crate::proofs::Loads::one_more_load))]
+#[tactic(auto, using(crate::proofs::StepLemmas::one_more_step, crate::proofs::Loads::one_more_load))]
 fn take_one_more<A: Alphabet>(
     single: &Single,
     items: &[Item],
@@ -369,27 +377,60 @@ fn take_one_more<A: Alphabet>(
     index: usize,
     at: usize,
     left: &mut u64,
-    trail: &mut Trail,
-) -> Result<Now, NoMemory>
+    trail: &Trail,
+) -> Now
     requires inside { index < length items.now }
     requires item { drop index items.now ≡ Item.Minus single.now ∷ drop (index + 1) items.now }
-    ensures follows { IfOk result (λ now. Follows A.letters items.now subject.now (or_else (one_more A.letters single.now (A.letters.symbols (drop at subject.now)) (way A.letters (drop (index + 1) items.now) subject.now) at trail.old.marks) (tried A.letters items.now subject.now trail.old.choices trail.old.marks)) left.old now left.new trail.new) }
-    ensures lighter { IfOk result (λ now. load (length items.now) (length subject.now) now left.new trail.new < 1 + heavy (length items.now) trail.old.choices + left.old * price (length items.now) (length subject.now)) }
+    ensures follows { Follows A.letters items.now subject.now (or_else (one_more A.letters single.now (A.letters.symbols (drop at subject.now)) (way A.letters (drop (index + 1) items.now) subject.now) at trail.now.marks) (tried A.letters items.now subject.now trail.now.choices trail.now.marks)) left.old result left.new trail.now }
+    ensures lighter { load (length items.now) (length subject.now) result left.new trail.now < 1 + heavy (length items.now) trail.now.choices + left.old * price (length items.now) (length subject.now) }
 {
     let Some((symbol, size)) = symbol_at::<A>(subject, at) else {
-        return Ok(Now::Back);
+        return Now::Back;
     };
     if !spend(left, 1) {
-        Ok(Now::Spent)
+        Now::Spent
     } else if fit::<A>(single, symbol) {
-        let now = pass_minus::<A>(single, items, subject, index, at + size, left, trail)?;
-        Ok(now)
+        Now::At(index, at + size)
     } else {
-        Ok(Now::Back)
+        Now::Back
     }
 }
 
+/// The last item of those whose one symbol more is a choice: those from one on, up to another. The rest stays a choice.
+#[tactic(auto, using(crate::proofs::StepLemmas::last_step, crate::proofs::StepLemmas::only_step, crate::proofs::Loads::last_load))]
+fn last_of(first: usize, behind: usize, at: usize, trail: &mut Trail) -> Result<usize, NoMemory>
+    ensures same { IfOk result (λ index. (a : Letters) (items : List AnItem) (subject : List ℕ) → or_else (backwards a items subject first (behind - 1 - first) at trail.old.marks) (tried a items subject trail.old.choices trail.old.marks) ≡ or_else (again a (drop index items) subject at trail.new.marks) (tried a items subject trail.new.choices trail.new.marks)) }
+    ensures lighter { IfOk result (λ index. (count : ℕ) → 1 + heavy count trail.new.choices ≤ behind - 1 - first + 1 + heavy count trail.old.choices) }
+{
+    let last = behind.saturating_sub(1);
+    if first < last {
+        trail.up(first, last, at)?;
+        Ok(last)
+    } else {
+        Ok(first)
+    }
+}
+
+/// One symbol more of the item at an index, if it takes as few as it can.
+fn go_again<A: Alphabet>(
+    items: &[Item],
+    subject: &[u8],
+    index: usize,
+    at: usize,
+    left: &mut u64,
+    trail: &Trail,
+) -> Now
+    ensures follows { Follows A.letters items.now subject.now (or_else (again A.letters (drop index items.now) subject.now at trail.now.marks) (tried A.letters items.now subject.now trail.now.choices trail.now.marks)) left.old result left.new trail.now }
+    ensures lighter { load (length items.now) (length subject.now) result left.new trail.now < 1 + heavy (length items.now) trail.now.choices + left.old * price (length items.now) (length subject.now) }
+{
+    let Some(Item::Minus(single)) = item_at(items, index) else {
+        return Now::Back;
+    };
+    take_one_more::<A>(single, items, subject, index, at, left, trail)
+}
+
 /// Takes a choice up again.
+#[tactic(auto, using(crate::proofs::StepLemmas::again_step, crate::proofs::Loads::again_load))]
 pub fn resume<A: Alphabet>(
     choice: Choice,
     items: &[Item],
@@ -409,11 +450,9 @@ pub fn resume<A: Alphabet>(
                 Ok(Now::At(item, low))
             }
         }
-        Choice::Up(index, at, _) => {
-            let Some(Item::Minus(single)) = item_at(items, index) else {
-                return Ok(Now::Back);
-            };
-            take_one_more::<A>(single, items, subject, index, at, left, trail)
+        Choice::Up(first, behind, at, _) => {
+            let index = last_of(first, behind, at, trail)?;
+            Ok(go_again::<A>(items, subject, index, at, left, trail))
         }
     }
 }

@@ -5,7 +5,7 @@ ghost use Rattle.lua_pattern.specs.Found.{IsSearch, capture_of};
 ghost use Rattle.lua_pattern.specs.Places.{HasPlaces};
 
 use crate::alphabet::Alphabet;
-use crate::item::Item;
+use crate::items::Items;
 use crate::passes::mark_at;
 use crate::search::{Met, first_met};
 use crate::slots::Slot;
@@ -26,7 +26,7 @@ pub enum Capture {
 pub struct Pattern<A: Alphabet> {
     /// It begins with `^`: only the first place of a search is looked at.
     pub anchored: bool,
-    pub items: List<Item>,
+    pub items: Items,
     /// The marks of each capture.
     pub slots: List<Slot>,
     pub alphabet: PhantomData<A>,
@@ -84,8 +84,17 @@ impl<A: Alphabet> Pattern<A> {
     {
         let mut left = budget;
         let mut trail = Trail::new(alloc);
-        let items = self.items.as_slice();
-        let met = first_met::<A>(self.anchored, items, subject, from, &mut left, &mut trail)?;
+        let (items, idle, few) = self.items.parts();
+        let met = first_met::<A>(
+            self.anchored,
+            items,
+            idle,
+            few,
+            subject,
+            from,
+            &mut left,
+            &mut trail,
+        )?;
         match met {
             Met::Hit(start, end) => {
                 let captures = captured(alloc, self.slots.as_slice(), trail.marks())?;

@@ -8,6 +8,7 @@ ghost use Rattle.lua_pattern.specs.Reads.{IsFault, IsReadFault, IsOpenAt, IsBack
 
 use crate::alphabet::Alphabet;
 use crate::item::{Class, Item, Part, Set, Single};
+use crate::items::Items;
 use crate::pattern::Pattern;
 use crate::prepared::PreparedSet;
 use crate::slots::{Slot, Slots};
@@ -477,12 +478,15 @@ fn read_items<A: Alphabet>(
     }
     match find_open(reading.slots.as_slice()) {
         Some(_) => Err(PatternFault::At(4)),
-        None => Ok(Pattern {
-            anchored,
-            items: reading.items,
-            slots: reading.slots.into_list(),
-            alphabet: PhantomData,
-        }),
+        None => match Items::new(alloc, reading.items) {
+            Err(_) => Err(PatternFault::NoMemory),
+            Ok(items) => Ok(Pattern {
+                anchored,
+                items,
+                slots: reading.slots.into_list(),
+                alphabet: PhantomData,
+            }),
+        },
     }
 }
 
@@ -515,7 +519,7 @@ impl<A: Alphabet> Pattern<A> {
 fn only_set<A: Alphabet>(pattern: Pattern<A>) -> Option<PreparedSet>
     ensures { MatchOption result (only_item pattern.items ≡ Err 2) (λ set. only_item pattern.items ≡ Ok set) }
 {
-    let mut items = pattern.items.into_vec();
+    let mut items = pattern.items.into_list().into_vec();
     if items.len() != 1 {
         return None;
     }

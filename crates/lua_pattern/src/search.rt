@@ -1,11 +1,13 @@
 //! The search: a stack of choices, and a budget of tries.
 ghost use Rattle.std.specs.Prelude.{◌≡◌, ◌-◌, ◌≤◌, [], length, drop, IfOk};
 ghost use Rattle.lua_pattern.specs.Way.{way, costs, starting, first_of, first};
+ghost use Rattle.lua_pattern.specs.Runs.{IsNoted};
 ghost use Rattle.lua_pattern.specs.Trail.{TrailState};
 ghost use Rattle.lua_pattern.specs.Search.{Gives, Meets};
 
 use crate::alphabet::Alphabet;
 use crate::item::Item;
+use crate::items::{Run, go_on_from};
 use crate::passes::{Now, item_at, pass, resume, spend};
 use crate::steps::symbol_at;
 use crate::trail::Trail;
@@ -20,14 +22,18 @@ pub enum Tried {
 }
 
 /// Matches the items at one place.
-#[tactic(auto, using(crate::proofs::StepLemmas::chain, crate::proofs::Ends::hit_ends, crate::proofs::Ends::miss_ends))]
+#[tactic(auto, using(crate::proofs::StepLemmas::chain, crate::proofs::Skips::skip_hits, crate::proofs::Skips::skip_turns, crate::proofs::Skips::skip_lighter, crate::proofs::Ends::miss_ends))]
 fn attempt<A: Alphabet>(
     items: &[Item],
+    idle: &[usize],
+    few: &[usize],
     subject: &[u8],
     from: usize,
     left: &mut u64,
     trail: &mut Trail,
 ) -> Result<Tried, NoMemory>
+    requires idle { IsNoted Run.Idle items.now idle.now }
+    requires few { IsNoted Run.Few items.now few.now }
     requires fresh { trail.old ≡ record { choices = []; marks = [] } }
     ensures { IfOk result (λ r. Gives (way A.letters items.now subject.now from []) left.old r left.new trail.new.marks) }
 {
@@ -35,10 +41,11 @@ fn attempt<A: Alphabet>(
     'turns: loop {
         match now {
             Now::At(index, at) => {
+                let index = go_on_from::<A>(idle, subject, index, at);
                 let Some(item) = item_at(items, index) else {
                     return Ok(Tried::Hit(at));
                 };
-                now = pass::<A>(item, items, subject, index, at, left, trail)?;
+                now = pass::<A>(item, items, few, subject, index, at, left, trail)?;
             }
             Now::Back => {
                 let Some(choice) = trail.pop() else {
@@ -63,18 +70,22 @@ pub enum Met {
 #[tactic(auto, using(crate::proofs::Starts::start_hits, crate::proofs::Starts::start_ends, crate::proofs::Starts::start_spends))]
 fn first_start<A: Alphabet>(
     items: &[Item],
+    idle: &[usize],
+    few: &[usize],
     subject: &[u8],
     from: usize,
     left: &mut u64,
     trail: &mut Trail,
 ) -> Result<Met, NoMemory>
+    requires idle { IsNoted Run.Idle items.now idle.now }
+    requires few { IsNoted Run.Few items.now few.now }
     requires inside { from ≤ length subject.now }
     ensures { IfOk result (λ r. Meets (first_of A.letters items.now subject.now (A.letters.symbols (drop from subject.now)) from) left.old r left.new trail.new.marks) }
 {
     let mut start = from;
     'starts: loop {
         trail.clear();
-        match attempt::<A>(items, subject, start, left, trail)? {
+        match attempt::<A>(items, idle, few, subject, start, left, trail)? {
             Tried::Hit(end) => return Ok(Met::Hit(start, end)),
             Tried::Spent => return Ok(Met::Spent),
             Tried::Miss => {
@@ -90,18 +101,22 @@ fn first_start<A: Alphabet>(
 /// A match under `^`, at its only start.
 fn only_start<A: Alphabet>(
     items: &[Item],
+    idle: &[usize],
+    few: &[usize],
     subject: &[u8],
     from: usize,
     left: &mut u64,
     trail: &mut Trail,
 ) -> Result<Met, NoMemory>
+    requires idle { IsNoted Run.Idle items.now idle.now }
+    requires few { IsNoted Run.Few items.now few.now }
     ensures { IfOk result (λ r. Meets (starting from (costs 1 (way A.letters items.now subject.now from []))) left.old r left.new trail.new.marks) }
 {
     trail.clear();
     if !spend(left, 1) {
         return Ok(Met::Spent);
     }
-    match attempt::<A>(items, subject, from, left, trail)? {
+    match attempt::<A>(items, idle, few, subject, from, left, trail)? {
         Tried::Hit(end) => Ok(Met::Hit(from, end)),
         Tried::Spent => Ok(Met::Spent),
         Tried::Miss => Ok(Met::Nowhere),
@@ -112,17 +127,21 @@ fn only_start<A: Alphabet>(
 pub fn first_met<A: Alphabet>(
     anchored: bool,
     items: &[Item],
+    idle: &[usize],
+    few: &[usize],
     subject: &[u8],
     from: usize,
     left: &mut u64,
     trail: &mut Trail,
 ) -> Result<Met, NoMemory>
+    requires idle { IsNoted Run.Idle items.now idle.now }
+    requires few { IsNoted Run.Few items.now few.now }
     requires inside { from ≤ length subject.now }
     ensures { IfOk result (λ r. Meets (first A.letters anchored items.now subject.now from) left.old r left.new trail.new.marks) }
 {
     if anchored {
-        only_start::<A>(items, subject, from, left, trail)
+        only_start::<A>(items, idle, few, subject, from, left, trail)
     } else {
-        first_start::<A>(items, subject, from, left, trail)
+        first_start::<A>(items, idle, few, subject, from, left, trail)
     }
 }

@@ -12,8 +12,9 @@ pub enum Choice {
     /// The items from one on, at the places from the third number down to the second. The last number is how many
     /// marks had been passed.
     Down(usize, usize, usize, usize),
-    /// One symbol more of an item that takes as few as it can, at a place. The last number is that of the marks.
-    Up(usize, usize, usize),
+    /// One symbol more of an item that takes as few as it can, at a place: of those from the first number on, up to the
+    /// second, the last one first. The last number is that of the marks.
+    Up(usize, usize, usize, usize),
 }
 
 #[derive(Drop)]
@@ -68,11 +69,11 @@ impl Trail {
         }
     }
 
-    pub fn up(&mut self, item: usize, at: usize) -> Result<(), NoMemory>
-        ensures { OnOk result (self.new ≡ record self.old { choices = Choice.Up item at (length self.old.marks) ∷ self.old.choices }) }
+    pub fn up(&mut self, first: usize, behind: usize, at: usize) -> Result<(), NoMemory>
+        ensures { OnOk result (self.new ≡ record self.old { choices = Choice.Up first behind at (length self.old.marks) ∷ self.old.choices }) }
     {
         let count = self.marks.len();
-        match self.choices.push(Choice::Up(item, at, count)) {
+        match self.choices.push(Choice::Up(first, behind, at, count)) {
             Ok(_) => Ok(()),
             Err(_) => Err(NoMemory),
         }
@@ -99,7 +100,7 @@ impl Trail {
         };
         let count = match choice {
             Choice::Down(_, _, _, count) => count,
-            Choice::Up(_, _, count) => count,
+            Choice::Up(_, _, _, count) => count,
         };
         self.marks.truncate(count);
         Some(choice)
